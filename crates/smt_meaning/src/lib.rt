@@ -3,10 +3,12 @@
 
 mod replies;
 mod seq;
+mod terms;
 mod tokens;
 mod values;
 
 pub use replies::{Command, ConstantLiteral, Entry, Kept, Reply};
 pub use seq::{Bytes, Seq};
+pub use terms::{Head, Operator, TermId};
 pub use tokens::{FaultKind, SExpr, Token, Word};
 pub use values::{Interp, Row, Sort, SymId, Table, Value};

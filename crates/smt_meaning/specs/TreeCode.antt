@@ -1,0 +1,151 @@
+-- A tree as a list of numbers: how a proof stores one. No definition speaks of it.
+use Rattle.std.specs.Prelude.{◌≡◌, ℕ, zero, suc, List, [], ◌∷◌, ◌++◌, ℤ, pos, negsuc, refl}
+use Rattle.std.specs.Coded.{Coded, code_by, coded×, coded_ℕ, coded_ℤ, coded_list}
+use Rattle.std.proofs.Common.{ap, ◌∙◌, append_assoc, append-nil, sym}
+use Rattle.smt_meaning.specs.declared.terms.Operator.{Operator}
+use Rattle.smt_meaning.specs.declared.terms.Operator.TheVariants.{True, False, Not, And, Or, Xor, Implies, Equal, Distinct, Ite, Add, Subtract, Multiply, AtMost, Less, AtLeast, Greater}
+use Rattle.smt_meaning.specs.declared.terms.Head.{Head}
+use Rattle.smt_meaning.specs.declared.terms.Head.TheVariants.{Numeral, Theory, Symbol, Place}
+use Rattle.smt_meaning.specs.Term.{Tree, Trees, node, none, more}
+
+abbrev op_code : Operator → ℕ
+op_code True = 0
+op_code False = 1
+op_code Not = 2
+op_code And = 3
+op_code Or = 4
+op_code Xor = 5
+op_code Implies = 6
+op_code Equal = 7
+op_code Distinct = 8
+op_code Ite = 9
+op_code Add = 10
+op_code Subtract = 11
+op_code Multiply = 12
+op_code AtMost = 13
+op_code Less = 14
+op_code AtLeast = 15
+op_code Greater = 16
+
+abbrev nth_op : ℕ → List Operator → Operator
+nth_op k [] = True
+nth_op zero (o ∷ os) = o
+nth_op (suc k) (o ∷ os) = nth_op k os
+
+abbrev all_ops : List Operator
+all_ops = True ∷ False ∷ Not ∷ And ∷ Or ∷ Xor ∷ Implies ∷ Equal ∷ Distinct ∷ Ite ∷ Add ∷ Subtract ∷ Multiply ∷ AtMost ∷ Less ∷ AtLeast ∷ Greater ∷ []
+
+abbrev number_in : ℤ → ℕ
+number_in (pos n) = n
+number_in (negsuc n) = n
+
+abbrev head_code : Head → ℕ × ℤ
+head_code (Numeral n) = (0, n)
+head_code (Theory o) = (1, pos (op_code o))
+head_code (Symbol f) = (2, pos f)
+head_code (Place k) = (3, pos k)
+
+abbrev head_at : ℕ → ℤ → Head
+head_at zero n = Numeral n
+head_at (suc zero) n = Theory (nth_op (number_in n) all_ops)
+head_at (suc (suc zero)) n = Symbol (number_in n)
+head_at (suc (suc (suc k))) n = Place (number_in n)
+
+abbrev head_back : ℕ × ℤ → Head
+head_back p = head_at p.0 p.1
+
+op_back : (o : Operator) → nth_op (op_code o) all_ops ≡ o
+op_back True = refl
+op_back False = refl
+op_back Not = refl
+op_back And = refl
+op_back Or = refl
+op_back Xor = refl
+op_back Implies = refl
+op_back Equal = refl
+op_back Distinct = refl
+op_back Ite = refl
+op_back Add = refl
+op_back Subtract = refl
+op_back Multiply = refl
+op_back AtMost = refl
+op_back Less = refl
+op_back AtLeast = refl
+op_back Greater = refl
+
+pub head_code_back : (h : Head) → head_back (head_code h) ≡ h
+head_code_back (Numeral n) = refl
+head_code_back (Theory o) = ap Theory (op_back o)
+head_code_back (Symbol f) = refl
+head_code_back (Place k) = refl
+
+abbrev pub coded_head : Coded Head
+coded_head = code_by (ℕ × ℤ) (coded× coded_ℕ coded_ℤ) head_code head_back head_code_back
+
+-- ---- a tree in prefix order, each head with the number of its arguments
+
+abbrev count : Trees → ℕ
+count none = 0
+count (more t ts) = suc (count ts)
+
+abbrev mutual
+  flat : Tree → List (Head × ℕ)
+  flat (node h ts) = (h, count ts) ∷ flat_all ts
+
+  flat_all : Trees → List (Head × ℕ)
+  flat_all none = []
+  flat_all (more t ts) = flat t ++ flat_all ts
+
+abbrev first : ℕ → Trees → Trees
+first zero ts = none
+first (suc n) none = none
+first (suc n) (more t ts) = more t (first n ts)
+
+abbrev after_first : ℕ → Trees → Trees
+after_first zero ts = ts
+after_first (suc n) none = none
+after_first (suc n) (more t ts) = after_first n ts
+
+abbrev built : List (Head × ℕ) → Trees
+built [] = none
+built (p ∷ ps) = more (node p.0 (first p.1 (built ps))) (after_first p.1 (built ps))
+
+abbrev joined : Trees → Trees → Trees
+joined none us = us
+joined (more t ts) us = more t (joined ts us)
+
+abbrev top : Trees → Tree
+top none = node (Theory True) none
+top (more t ts) = t
+
+first_joined : (ts us : Trees) → first (count ts) (joined ts us) ≡ ts
+first_joined none us = refl
+first_joined (more t ts) us = ap (more t) (first_joined ts us)
+
+after_joined : (ts us : Trees) → after_first (count ts) (joined ts us) ≡ us
+after_joined none us = refl
+after_joined (more t ts) us = after_joined ts us
+
+mutual
+  built_flat : (t : Tree) (ps : List (Head × ℕ)) → built (flat t ++ ps) ≡ more t (built ps)
+  built_flat (node h ts) ps =
+      ap (λ us. more (node h (first (count ts) us)) (after_first (count ts) us)) (built_flat_all ts ps)
+      ∙ ap (λ us. more (node h us) (after_first (count ts) (joined ts (built ps)))) (first_joined ts (built ps))
+      ∙ ap (λ us. more (node h ts) us) (after_joined ts (built ps))
+
+  built_flat_all : (ts : Trees) (ps : List (Head × ℕ)) → built (flat_all ts ++ ps) ≡ joined ts (built ps)
+  built_flat_all none ps = refl
+  built_flat_all (more t ts) ps =
+      ap built (append_assoc (flat t) (flat_all ts) ps) ∙ built_flat t (flat_all ts ++ ps) ∙ ap (more t) (built_flat_all ts ps)
+
+abbrev back : List (Head × ℕ) → Tree
+back ps = top (built ps)
+
+pub flat_back : (t : Tree) → back (flat t) ≡ t
+flat_back t = ap back (sym (append-nil (flat t))) ∙ ap top (built_flat t [])
+
+abbrev pub coded_tree : Coded Tree
+coded_tree = code_by (List (Head × ℕ)) (coded_list (coded× coded_head coded_ℕ)) flat back flat_back
+
+abbrev pub coded_trees : Coded (List Tree)
+coded_trees = coded_list coded_tree
