@@ -1,7 +1,7 @@
 -- Sources and sinks in memory: what callers see of one, and what each call answers and leaves.
 use Rattle.std.specs.Prelude.{◌≡◌, ◌==◌, ℕ, ◌+◌, ◌-◌, min, nat_le, Bool, if◌then◌else◌, List, [], ◌++◌, length, take, drop}
 use Rattle.std.specs.List.{list_any}
-use Rattle.ports.specs.Flow.{raised}
+use Rattle.ports.specs.Flow.{raised, more_faults, put_faults}
 use Rattle.ports.specs.declared.More.{More}
 use Rattle.ports.specs.declared.More.TheVariants.{Got, End, Failed as MoreFailed}
 use Rattle.ports.specs.declared.Put.{Put}
@@ -38,12 +38,6 @@ moved (Got n) = n
 moved End = 0
 moved MoreFailed = 0
 
--- A count of faults after an answer of a source.
-abbrev pub more_faults : More → ℕ → ℕ
-more_faults (Got n) faults = faults
-more_faults End faults = faults
-more_faults MoreFailed faults = raised faults
-
 -- The source after it gave this answer.
 abbrev pub source_after : SourceState → More → SourceState
 source_after s answer =
@@ -57,11 +51,6 @@ sink_takes s size = if fails_next s.fails s.calls then 0 else min size (s.room -
 abbrev pub sink_answer : SinkState → ℕ → Put
 sink_answer s size =
     if fails_next s.fails s.calls then PutFailed else (if nat_le size (s.room - length s.written) then PutOk else PutFailed)
-
--- A count of faults after an answer of a sink.
-abbrev pub put_faults : Put → ℕ → ℕ
-put_faults PutOk faults = faults
-put_faults PutFailed faults = raised faults
 
 -- The sink after it was given these bytes.
 abbrev pub sink_after : SinkState → List ℕ → SinkState
