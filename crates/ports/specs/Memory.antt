@@ -1,5 +1,5 @@
 -- Sources and sinks in memory: what callers see of one, and what each call answers and leaves.
-use Rattle.std.specs.Prelude.{◌≡◌, ◌==◌, ℕ, ◌+◌, ◌-◌, min, nat_le, Bool, if◌then◌else◌, List, [], ◌++◌, length, take, drop}
+use Rattle.std.specs.Prelude.{◌==◌, ℕ, ◌-◌, min, nat_le, Bool, if◌then◌else◌, List, ◌++◌, length, take, drop}
 use Rattle.std.specs.List.{list_any}
 use Rattle.ports.specs.Flow.{raised, more_faults, put_faults}
 use Rattle.ports.specs.declared.More.{More}

@@ -97,7 +97,10 @@ fn reads_short_and_goes_on_after_a_fault(rt: HostRuntime) -> Result<(), Fail> {
         (Some(5), 1, b"!a|b|c|d|"),
         (None, 0, b"|||||"),
     ] {
-        let mut source = ReadSource::new(Halting { bytes: b"abcde", cut });
+        let mut source = ReadSource::new(Halting {
+            bytes: b"abcde",
+            cut,
+        });
         let log = five_calls(rt.alloc(), &mut source, size)?;
         assert_eq!(rt; log.as_slice(), want);
     }
