@@ -7,7 +7,8 @@ use Rattle.ports.specs.declared.More.TheVariants.{Got, End, Failed as MoreFailed
 use Rattle.ports.specs.declared.Put.{Put}
 use Rattle.ports.specs.declared.Put.TheVariants.{Ok as PutOk, Failed as PutFailed}
 
--- A source: the bytes still to come, the most that a call gives, the calls that fail by their numbers from 1, and how many calls there were and how many failed.
+-- A source: the bytes still to come, the most that a call gives, the calls that fail by their
+-- numbers from 1, and how many calls there were and how many failed. Both counts are of 64 bits.
 pub record SourceState : Type 0 where
   pub left : List ℕ
   pub piece : ℕ
@@ -23,14 +24,16 @@ pub record SinkState : Type 0 where
   pub calls : ℕ
   pub faults : ℕ
 
--- Whether the call after this many is one that fails. Past 2 ^ 64 - 1 each call has that number.
+-- Whether the call after this many is one that fails. The count of calls stands still at its end,
+-- so each call from the one numbered 2 ^ 64 - 1 on has that number.
 abbrev pub fails_next : List ℕ → ℕ → Bool
 fails_next fails calls = list_any (λ call. call == raised calls) fails
 
 -- What the next call answers, for a buffer of this length.
 abbrev pub source_answer : SourceState → ℕ → More
 source_answer s room =
-    if fails_next s.fails s.calls then MoreFailed else (if length s.left == 0 then End else Got (min (min s.piece (length s.left)) room))
+    if fails_next s.fails s.calls then MoreFailed
+    else (if length s.left == 0 then End else Got (min (min s.piece (length s.left)) room))
 
 -- How many bytes an answer moved.
 abbrev pub moved : More → ℕ
@@ -50,7 +53,8 @@ sink_takes s size = if fails_next s.fails s.calls then 0 else min size (s.room -
 -- What the next call answers to this many bytes.
 abbrev pub sink_answer : SinkState → ℕ → Put
 sink_answer s size =
-    if fails_next s.fails s.calls then PutFailed else (if nat_le size (s.room - length s.written) then PutOk else PutFailed)
+    if fails_next s.fails s.calls then PutFailed
+    else (if nat_le size (s.room - length s.written) then PutOk else PutFailed)
 
 -- The sink after it was given these bytes.
 abbrev pub sink_after : SinkState → List ℕ → SinkState
