@@ -1,5 +1,5 @@
 -- S-expressions as trees, and the list of tokens that stands for one.
-use Rattle.std.specs.Prelude.{◌≡◌, List, [], ◌∷◌, ◌++◌}
+use Rattle.std.specs.Prelude.{◌≡◌, Bool, true, false, not, ◌&&◌, List, [], ◌∷◌, ◌++◌}
 use Rattle.smt_meaning.specs.declared.tokens.Token.{Token}
 use Rattle.smt_meaning.specs.declared.tokens.Token.TheVariants.{Enter, Leave}
 
@@ -47,3 +47,19 @@ sexp ts = first_of_all (open_lists_of ts)
 -- a list of tokens is one s-expression
 abbrev pub IsSexp : List Token → Type 0
 IsSexp ts = open_lists_of ts ≡ (sexp ts ▸ end) ∷ []
+
+-- ---- no word of an s-expression is a parenthesis
+
+abbrev pub is_parenthesis : Token → Bool
+is_parenthesis Enter = true
+is_parenthesis Leave = true
+is_parenthesis _ = false
+
+abbrev mutual
+  pub is_proper : Sexp → Bool
+  is_proper (word t) = not (is_parenthesis t)
+  is_proper (group ss) = are_proper ss
+
+  pub are_proper : Sexps → Bool
+  are_proper end = true
+  are_proper (s ▸ ss) = is_proper s && are_proper ss

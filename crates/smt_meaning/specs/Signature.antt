@@ -1,5 +1,5 @@
 -- The signature: the declared and defined sorts and functions, and the ranks of the theories' functions (SMT-LIB 2.6, sections 3.7 and 5.2; theories Core and Ints).
-use Rattle.std.specs.Prelude.{ℕ, Bool, true, false, not, ◌&&◌, nat_eq, nat_le, List, [], ◌∷◌, ◌++◌, map, length, if◌then◌else◌, Option, Some, None, bytes_eq, codes}
+use Rattle.std.specs.Prelude.{ℕ, Bool, true, false, not, ◌&&◌, nat_eq, nat_le, List, [], ◌∷◌, ◌++◌, map, length, if◌then◌else◌, Option, Some, None, bytes_eq, codes, All, ◌≢◌}
 use Rattle.smt_meaning.specs.declared.values.Sort.{Sort}
 use Rattle.smt_meaning.specs.declared.values.Sort.TheVariants.{Bool as Truths, Int as Ints, Free}
 use Rattle.smt_meaning.specs.declared.terms.Operator.{Operator}
@@ -41,6 +41,11 @@ function_with_id f (d ∷ ds) = if nat_eq f d.id && not d.is_sort then Some d el
 -- a declared function, which has no body; a definition has one
 abbrev pub is_symbol : Declaration → Bool
 is_symbol d = not d.is_sort && not (is_some d.body)
+
+-- no id stands twice
+abbrev pub HasNoIdTwice : List Declaration → Type 0
+HasNoIdTwice [] = Unit {0}
+HasNoIdTwice (d ∷ ds) = All (λ (e : Declaration). d.id ≢ e.id) ds × HasNoIdTwice ds
 
 -- ---- the theories' functions
 
