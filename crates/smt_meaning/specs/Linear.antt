@@ -1,5 +1,5 @@
 -- Linear forms of Int terms.
-use Rattle.std.specs.Prelude.{ℕ, zero, ◌^◌, Bool, true, false, ◌&&◌, nat_eq, nat_lt, List, [], ◌∷◌, map, ℤ, pos, negsuc, ◌+ℤ◌, ◌*ℤ◌, unsigned_abs, if◌then◌else◌}
+use Rattle.std.specs.Prelude.{ℕ, zero, ◌^◌, Bool, true, false, ◌&&◌, nat_eq, nat_lt, List, [], ◌∷◌, ◌++◌, map, ℤ, pos, negsuc, ◌+ℤ◌, ◌*ℤ◌, unsigned_abs, if◌then◌else◌}
 use Rattle.smt_meaning.specs.declared.terms.Operator.TheVariants.{Add, Subtract, Multiply}
 use Rattle.smt_meaning.specs.declared.terms.Head.{Head}
 use Rattle.smt_meaning.specs.declared.terms.Head.TheVariants.{Numeral, Theory}
@@ -98,6 +98,24 @@ abbrev mutual
   pub linear_forms : List Tree → Trees → List Form
   linear_forms ts none = []
   linear_forms ts (more u us) = linear_form ts u ∷ linear_forms ts us
+
+-- ---- leaves
+
+abbrev pub leaves_at : Head → Tree → List Tree → List Tree
+leaves_at (Numeral n) t inner = []
+leaves_at (Theory Add) t inner = inner
+leaves_at (Theory Subtract) t inner = inner
+leaves_at (Theory Multiply) t inner = inner
+leaves_at _ t inner = t ∷ []
+
+abbrev mutual
+  -- the leaves of an Int term
+  pub leaves : Tree → List Tree
+  leaves (node h us) = leaves_at h (node h us) (leaves_of us)
+
+  pub leaves_of : Trees → List Tree
+  leaves_of none = []
+  leaves_of (more u us) = leaves u ++ leaves_of us
 
 -- ---- whether the folding stays within the range
 
