@@ -5,3 +5,4 @@ pub mod Resolution
 pub mod MoreTrees
 pub mod SameTree
 pub mod LinearLaw
+pub mod BoundLaw

@@ -294,7 +294,7 @@ mutual
 
   pub have_values : (ts : List Tree) (I : Interpretation) (us : Trees) → are_linear us ≡ true → AreAmong ts (leaves_of us) → Lawful ts I us
   have_values ts I none e a = tt
-  have_values ts I (more u us) e a =
-      ( has_value ts I u (and_left (is_linear u) (are_linear us) e) (All-included (λ x. IsTrue (is_among x ts)) _ _ (included_left (leaves u) (leaves_of us)) a)
-      , have_values ts I us (and_right (is_linear u) (are_linear us) e) (All-included (λ x. IsTrue (is_among x ts)) _ _ (included_right (leaves u) (leaves_of us)) a)
-      )
+  have_values ts I (more u us) e a = (
+    has_value ts I u (and_left (is_linear u) (are_linear us) e) (All-included (λ x. IsTrue (is_among x ts)) _ _ (included_left (leaves u) (leaves_of us)) a),
+    have_values ts I us (and_right (is_linear u) (are_linear us) e) (All-included (λ x. IsTrue (is_among x ts)) _ _ (included_right (leaves u) (leaves_of us)) a),
+  )

@@ -49,7 +49,7 @@ places_without : (xs : List Literal) (l : Literal) (ys : List Literal) → Inclu
 places_without xs l ys =
     subst (λ is. Included is (places (xs ++ l ∷ ys))) (sym (places-append xs ys))
     (subst (λ is. Included (places xs ++ places ys) is) (sym (places-append xs (l ∷ ys)))
-        (included_append (places xs) (places xs) (places ys) (places (l ∷ ys)) (included_same (places xs)) (included_right (atom_places l.atom) (places ys))))
+    (included_append (places xs) (places xs) (places ys) (places (l ∷ ys)) (included_same (places xs)) (included_right (atom_places l.atom) (places ys))))
 
 one_of : (t b a b' a' : Bool) → (b || (t || a)) ≡ true → (b' || (not t || a')) ≡ true → ((b || a) || (b' || a')) ≡ true
 one_of t true a b' a' h k = refl
@@ -78,9 +78,9 @@ resolvent_places : (c d r : Clause) → IsResolvent c d r → (P : List ℕ → 
 resolvent_places c d r h P part join pc pd =
     subst (λ ls. P (places ls)) (sym h.rest)
     (subst P (sym (places-append (h.before ++ h.after) (h.before' ++ h.after')))
-        (join _ _
-            (part _ _ (places_without h.before (record { atom = h.atom; positive = true }) h.after) (subst (λ ls. P (places ls)) h.first pc))
-            (part _ _ (places_without h.before' (record { atom = h.atom; positive = false }) h.after') (subst (λ ls. P (places ls)) h.second pd))))
+    (join _ _
+    (part _ _ (places_without h.before (record { atom = h.atom; positive = true }) h.after) (subst (λ ls. P (places ls)) h.first pc))
+    (part _ _ (places_without h.before' (record { atom = h.atom; positive = false }) h.after') (subst (λ ls. P (places ls)) h.second pd))))
 
 symbols_at-append : (ts : List Tree) (is js : List ℕ) → symbols_at ts (is ++ js) ≡ symbols_at ts is ++ symbols_at ts js
 symbols_at-append ts [] js = refl
