@@ -33,7 +33,7 @@ DividesEach g (p ∷ ps) = (g ∣ unsigned_abs p.coefficient) × DividesEach g p
 
 weaker : (g h : ℕ) (ps : List Summand) → g ∣ h → DividesEach h ps → DividesEach g ps
 weaker g h [] d e = tt
-weaker g h (p ∷ ps) d e = (dvd_trans g h (unsigned_abs p.coefficient) d e.0, weaker g h ps d e.1)
+weaker g h (p ∷ ps) d e = (dvd_trans g d e.0, weaker g h ps d e.1)
 
 sum_gcd-divides : (ps : List Summand) → DividesEach (sum_gcd ps) ps
 sum_gcd-divides [] = tt
