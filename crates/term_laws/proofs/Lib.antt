@@ -3,3 +3,5 @@ pub mod SortLaw
 pub mod Tables
 pub mod ValueLaw
 pub mod SexpLaw
+pub mod JudgeLaw
+pub mod BodyLaw

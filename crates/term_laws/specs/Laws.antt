@@ -1,5 +1,5 @@
 -- Laws of the definitions of terms.
-use Rattle.std.specs.Prelude.{◌≡◌, ℕ, List, Some, IsTrue, Contains}
+use Rattle.std.specs.Prelude.{◌≡◌, ℕ, List, [], map, Some, IsTrue, Contains}
 use Rattle.smt_meaning.specs.declared.values.Sort.{Sort}
 use Rattle.smt_meaning.specs.declared.values.Value.{Value}
 use Rattle.smt_meaning.specs.declared.values.Table.{Table}
@@ -7,6 +7,8 @@ use Rattle.smt_meaning.specs.declared.declarations.Declaration.{Declaration}
 use Rattle.smt_meaning.specs.Term.{Tree, Interpretation, value}
 use Rattle.smt_meaning.specs.Sexp.{Sexp, tokens, sexp, IsSexp, is_proper}
 use Rattle.smt_meaning.specs.Signature.{tree_sort, HasNoIdTwice}
+use Rattle.smt_meaning.specs.Sorts.{Scope, done, Typed, Variable, Rules, judge}
+use Rattle.smt_meaning.specs.Environment.{Binding, Environment, body_value, term_value}
 use Rattle.smt_meaning.specs.Interpretation.{Interprets, has_sort, meaning, AreTablesFor}
 use Rattle.smt_meaning.specs.Clause.{symbols}
 
@@ -30,3 +32,18 @@ ValueDependsOnSymbols = (I J : Interpretation) (t : Tree) → AgreeOn I J (symbo
 -- the tokens of an s-expression read back as it, and as nothing else
 abbrev pub TokensReadBack : Type 0
 TokensReadBack = (s : Sexp) → IsTrue (is_proper s) → IsSexp (tokens s) × (sexp (tokens s) ≡ s)
+
+-- the values of variables, where parameters have these values
+abbrev pub environment_of : Interpretation → List Value → List Variable → Environment
+environment_of I parameters vs = map (λ (v : Variable). record { name = v.name; value = body_value I parameters v.term.tree }) vs
+
+-- the tree of an accepted term has the value of the term
+abbrev pub TreeHasTheTermsValue : Type 0
+TreeHasTheTermsValue =
+    (r : Rules) (x : Sexp) (s t : Scope) (a : Typed) (I : Interpretation) → judge r [] x s ≡ done a t → value I a.tree ≡ term_value t.signature I [] x
+
+-- so has the tree of a definition's body, whatever values its parameters have
+abbrev pub BodyHasTheTermsValue : Type 0
+BodyHasTheTermsValue =
+    (r : Rules) (vs : List Variable) (x : Sexp) (s t : Scope) (a : Typed) (I : Interpretation) (parameters : List Value)
+    → judge r vs x s ≡ done a t → body_value I parameters a.tree ≡ term_value t.signature I (environment_of I parameters vs) x
