@@ -1,15 +1,15 @@
 -- What follows from frames follows from more of them, and is read alike by more trees.
-use Rattle.std.proofs.Common.{◌≡◌, ℕ, zero, suc, ◌+◌, ◌-◌, ◌<◌, ◌≤◌, List, [], ◌∷◌, ◌++◌, map, take, drop, length, All, Contains, subst, ap, arith, refl, sym, ◌∙◌}
+use Rattle.std.proofs.Common.{ℕ, zero, suc, ◌+◌, ◌-◌, ◌<◌, ◌≤◌, List, [], ◌∷◌, ◌++◌, take, length, arith}
 use Rattle.std.specs.Prelude.{flat_map, replicate}
-use Rattle.std.proofs.lemmas.List.{take-append-le, length-append, take-take}
-use Rattle.std.proofs.lemmas.List.Elements.{All-weaker, All-head, All-tail}
+use Rattle.std.proofs.lemmas.List.{take-append-le, take-take}
+use Rattle.std.proofs.lemmas.List.Elements.{All-weaker}
 use Rattle.smt_meaning.specs.declared.declarations.Declaration.{Declaration}
 use Rattle.smt_meaning.specs.declared.clauses.Clause.{Clause}
-use Rattle.smt_meaning.specs.Term.{Tree, Interpretation, tree_at}
+use Rattle.smt_meaning.specs.Term.{Tree}
 use Rattle.smt_meaning.specs.Interpretation.{IsFunctionFor}
 use Rattle.smt_meaning.specs.Stack.{Frame, Assertion, Satisfies, signature_of, assertions_of, terms_of, on_top, pushed, popped, empty_frame}
-use Rattle.smt_meaning.specs.Clause.{places, clause_symbols}
-use Rattle.smt_meaning.specs.Follows.{FollowsFrom, Follows, declared_ids}
+use Rattle.smt_meaning.specs.Clause.{clause_symbols}
+use Rattle.smt_meaning.specs.Follows.{FollowsFrom, Follows}
 use Rattle.clause_laws.proofs.Included.{Included, All-included, included_same, included_left, included_append, included_map}
 
 -- each declaration and assertion of fs is one of gs

@@ -1,5 +1,5 @@
 -- The linear form of an Int term has the term's value.
-use Rattle.std.proofs.Common.{◌≡◌, ℕ, zero, suc, List, [], ◌∷◌, ◌++◌, All, map, ap, sym, ◌∙◌, refl, arith, Bool, true, false, ◌&&◌, nat_eq, nat_lt, subst, ◌⊎◌, inl, inr}
+use Rattle.std.proofs.Common.{◌≡◌, ℕ, zero, suc, List, [], ◌∷◌, All, ap, sym, ◌∙◌, refl, arith, Bool, true, false, nat_eq, nat_lt, ◌⊎◌, inl, inr}
 use Rattle.std.specs.Prelude.{ℤ, pos, negsuc, ◌+ℤ◌, ◌-ℤ◌, ◌*ℤ◌, neg_ℤ, IsTrue, if◌then◌else◌}
 use Rattle.std.proofs.lemmas.Int.{ints}
 use Rattle.std.proofs.lemmas.Bool.{eqb-true}
@@ -7,14 +7,13 @@ use Rattle.std.proofs.lemmas.List.Elements.{All-head}
 use Rattle.std.proofs.Math.IntN.{zero-*ℤ, *ℤ-zero, *ℤ_comm}
 use Rattle.smt_meaning.specs.declared.values.Value.{Value}
 use Rattle.smt_meaning.specs.declared.clauses.Summand.{Summand}
-use Rattle.smt_meaning.specs.declared.terms.Operator.{Operator}
-use Rattle.smt_meaning.specs.declared.terms.Operator.TheVariants.{True, False, Not, And, Or, Xor, Implies, Equal, Distinct, Ite, Add, Subtract, Multiply, AtMost, Less, AtLeast, Greater}
+use Rattle.smt_meaning.specs.declared.terms.Operator.TheVariants.{Add, Subtract, Multiply}
 use Rattle.smt_meaning.specs.declared.terms.Head.{Head}
 use Rattle.smt_meaning.specs.declared.terms.Head.TheVariants.{Numeral, Theory, Symbol, Place}
 use Rattle.smt_meaning.specs.Term.{Tree, Trees, node, none, more, tree_at, Interpretation, value, values, number_of, on_numbers, fold_left}
 use Rattle.smt_meaning.specs.TreeShape.{place_of, is_among, is_constant_head, is_constant, are_constant, at_most_one_varies, is_linear_at, is_linear, are_linear}
 use Rattle.smt_meaning.specs.Clause.{sum_value, value_at}
-use Rattle.smt_meaning.specs.Linear.{Form, form_value, summand, unless_zero, placed, with_term, sums_added, each_times, sum_times, form_times, form_plus, form_minus, form_product, number_form, fold_forms, folded, difference_form, leaf_form, linear_form, linear_forms, leaves, leaves_of}
+use Rattle.smt_meaning.specs.Linear.{Form, form_value, unless_zero, placed, with_term, sums_added, each_times, sum_times, form_times, form_plus, form_minus, form_product, fold_forms, folded, difference_form, leaf_form, linear_form, linear_forms, leaves, leaves_of}
 use Rattle.clause_laws.proofs.Ring.{sum-times, times-sum, times_assoc}
 use Rattle.clause_laws.proofs.Included.{All-included, included_left, included_right}
 use Rattle.clause_laws.proofs.SameTree.{found_again, and_left, and_right}

@@ -1,5 +1,5 @@
 -- A list of trees that goes on reads a clause as its prefix does.
-use Rattle.std.proofs.Common.{◌≡◌, ℕ, ◌<◌, List, [], ◌∷◌, ◌++◌, Contains, All, subst, sym, ◌∙◌, ap, refl, length, true, ◌||◌}
+use Rattle.std.proofs.Common.{◌≡◌, ℕ, ◌<◌, List, [], ◌∷◌, ◌++◌, Contains, All, subst, sym, ◌∙◌, ap, refl, length, ◌||◌}
 use Rattle.std.specs.Prelude.{◌+ℤ◌, ◌*ℤ◌, int_le}
 use Rattle.std.proofs.Math.ListN.{get_or-append}
 use Rattle.std.proofs.lemmas.List.{length-append}

@@ -6,11 +6,11 @@ use Rattle.smt_meaning.specs.declared.clauses.Atom.{Atom}
 use Rattle.smt_meaning.specs.declared.clauses.Clause.{Clause}
 use Rattle.smt_meaning.specs.Term.{Tree, Interpretation, tree_at}
 use Rattle.smt_meaning.specs.Interpretation.{IsFunctionFor}
-use Rattle.smt_meaning.specs.Stack.{Frame, Satisfies, HasNoModel, signature_of, assertions_of, up_to}
-use Rattle.smt_meaning.specs.Clause.{signed, literal_true, some_true, atom_true, places, atom_places, symbols, symbols_at, clause_symbols}
+use Rattle.smt_meaning.specs.Stack.{Frame, Satisfies, HasNoModel, up_to}
+use Rattle.smt_meaning.specs.Clause.{signed, literal_true, some_true, atom_true, places, atom_places, symbols, symbols_at}
 use Rattle.smt_meaning.specs.Follows.{FollowsFrom, Follows, declared_ids}
 use Rattle.clause_laws.specs.Laws.{IsResolvent}
-use Rattle.clause_laws.proofs.Included.{Included, All-included, included_left, included_right, included_same, included_both, included_append}
+use Rattle.clause_laws.proofs.Included.{Included, All-included, included_left, included_right, included_same, included_append}
 use Rattle.clause_laws.proofs.FollowsLaw.{Extends, take_extends_all, above}
 
 some_true-append : (ts : List Tree) (I : Interpretation) (xs ys : List Literal) → some_true ts I (xs ++ ys) ≡ (some_true ts I xs || some_true ts I ys)

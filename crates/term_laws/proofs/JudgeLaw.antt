@@ -1,14 +1,11 @@
 -- Judging only adds to the signature.
-use Rattle.std.proofs.Common.{◌≡◌, ℕ, ◌+◌, List, [], ◌∷◌, ◌++◌, sym, ap, ◌∙◌, refl, Bool, true, false, Option, Some, None, nat_lt, append_assoc, append-nil}
+use Rattle.std.proofs.Common.{◌≡◌, ℕ, List, [], ◌∷◌, ◌++◌, sym, ap, ◌∙◌, refl, Bool, true, false, Option, Some, None, nat_lt, append_assoc, append-nil}
 use Rattle.std.specs.Prelude.{codes, bytes_eq}
-use Rattle.smt_meaning.specs.declared.terms.Operator.TheVariants.{True, False}
-use Rattle.smt_meaning.specs.declared.tokens.Token.{Token}
-use Rattle.smt_meaning.specs.declared.tokens.Token.TheVariants.{Numeral, Symbol, Reserved, Keyword}
-use Rattle.smt_meaning.specs.declared.tokens.Word.TheVariants.{Exclamation, Let}
+use Rattle.smt_meaning.specs.declared.tokens.Token.TheVariants.{Symbol, Keyword}
 use Rattle.smt_meaning.specs.declared.declarations.Declaration.{Declaration}
 use Rattle.smt_meaning.specs.declared.refusals.Refusal.{Refusal}
 use Rattle.smt_meaning.specs.Term.{Tree}
-use Rattle.smt_meaning.specs.Sexp.{Sexp, Sexps, word, group, end, ◌▸◌}
+use Rattle.smt_meaning.specs.Sexp.{Sexps, word, end, ◌▸◌}
 use Rattle.smt_meaning.specs.Sorts.{Scope, Outcome, done, refused, Judging, go_on, ◌>>=◌, ◌>>◌, return, refuse, require, required, the_scope, note, declare, declare_in, most_symbols, Typed, Rules, name_by, judge_attributes, either}
 
 -- the signature after has the one before as its beginning

@@ -5,3 +5,4 @@ pub mod ValueLaw
 pub mod SexpLaw
 pub mod JudgeLaw
 pub mod BodyLaw
+pub mod EnvironmentLaw

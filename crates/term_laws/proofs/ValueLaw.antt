@@ -1,5 +1,5 @@
 -- The value of a term depends on its symbols alone.
-use Rattle.std.proofs.Common.{◌≡◌, List, ◌++◌, Contains, ap, ◌∙◌, arith, refl}
+use Rattle.std.proofs.Common.{◌≡◌, List, ◌++◌, ap, ◌∙◌, arith, refl}
 use Rattle.std.proofs.lemmas.List.Elements.{Contains-append_left, Contains-append_right}
 use Rattle.std.specs.Prelude.{ℕ}
 use Rattle.smt_meaning.specs.declared.values.Value.{Value}

@@ -8,7 +8,7 @@ use Rattle.smt_meaning.specs.Term.{Tree, Interpretation, value}
 use Rattle.smt_meaning.specs.Sexp.{Sexp, tokens, sexp, IsSexp, is_proper}
 use Rattle.smt_meaning.specs.Signature.{tree_sort, HasNoIdTwice}
 use Rattle.smt_meaning.specs.Sorts.{Scope, done, Typed, Variable, Rules, judge}
-use Rattle.smt_meaning.specs.Environment.{Binding, Environment, body_value, term_value}
+use Rattle.smt_meaning.specs.Environment.{Environment, body_value, term_value}
 use Rattle.smt_meaning.specs.Interpretation.{Interprets, has_sort, meaning, AreTablesFor}
 use Rattle.smt_meaning.specs.Clause.{symbols}
 

@@ -1,7 +1,7 @@
 //! Laws of the definitions of terms, each as the contract of a function that does nothing.
 #![tactic(auto)]
 
-ghost use Rattle.term_laws.specs.Laws.{TablesInterpret, TokensReadBack, ValueDependsOnSymbols, ValueHasItsSort};
+ghost use Rattle.term_laws.specs.Laws.{BodyHasTheTermsValue, TablesInterpret, TokensReadBack, TreeHasTheTermsValue, ValueDependsOnSymbols, ValueHasItsSort};
 
 /// A term that has a sort has a value of that sort, under each interpretation of the signature.
 pub fn value_has_its_sort()
@@ -21,4 +21,14 @@ pub fn value_depends_on_symbols()
 /// An s-expression has tokens that read back as it.
 pub fn tokens_read_back()
     ensures { TokensReadBack }
+{}
+
+/// The value of an accepted term, by cases on how it is written, is the value of its tree.
+pub fn tree_has_the_terms_value()
+    ensures { TreeHasTheTermsValue }
+{}
+
+/// The value of a definition's body, by cases on how it is written, is the value of its tree, whatever values its parameters have.
+pub fn body_has_the_terms_value()
+    ensures { BodyHasTheTermsValue }
 {}
