@@ -6,3 +6,5 @@ pub mod SexpLaw
 pub mod JudgeLaw
 pub mod BodyLaw
 pub mod EnvironmentLaw
+mod Written
+mod Examples
