@@ -6,3 +6,5 @@ pub mod MoreTrees
 pub mod SameTree
 pub mod LinearLaw
 pub mod BoundLaw
+mod Examples
+mod Propagation
