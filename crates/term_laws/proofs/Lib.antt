@@ -8,3 +8,4 @@ pub mod BodyLaw
 pub mod EnvironmentLaw
 mod Written
 mod Examples
+pub mod FreshLaw

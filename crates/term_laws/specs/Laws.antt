@@ -8,6 +8,8 @@ use Rattle.smt_meaning.specs.Term.{Tree, Interpretation, value}
 use Rattle.smt_meaning.specs.Sexp.{Sexp, tokens, sexp, IsSexp, is_proper}
 use Rattle.smt_meaning.specs.Signature.{tree_sort, HasNoIdTwice}
 use Rattle.smt_meaning.specs.Sorts.{Scope, done, Typed, Variable, Rules, judge}
+use Rattle.smt_meaning.specs.Stack.{signature_of}
+use Rattle.smt_meaning.specs.StackCommand.{start, after_all}
 use Rattle.smt_meaning.specs.Environment.{Environment, body_value, term_value}
 use Rattle.smt_meaning.specs.Interpretation.{Interprets, has_sort, meaning, AreTablesFor}
 use Rattle.smt_meaning.specs.Clause.{symbols}
@@ -47,3 +49,7 @@ abbrev pub BodyHasTheTermsValue : Type 0
 BodyHasTheTermsValue =
     (r : Rules) (vs : List Variable) (x : Sexp) (s t : Scope) (a : Typed) (I : Interpretation) (parameters : List Value)
     → judge r vs x s ≡ done a t → body_value I parameters a.tree ≡ term_value t.signature I (environment_of I parameters vs) x
+
+-- whatever commands come, no id stands twice in the signature of the stack
+abbrev pub NoIdTwice : Type 0
+NoIdTwice = (xs : List Sexp) → HasNoIdTwice (signature_of (after_all start xs).frames)

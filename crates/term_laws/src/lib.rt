@@ -1,7 +1,7 @@
 //! Laws of the definitions of terms, each as the contract of a function that does nothing.
 #![tactic(auto)]
 
-ghost use Rattle.term_laws.specs.Laws.{BodyHasTheTermsValue, TablesInterpret, TokensReadBack, TreeHasTheTermsValue, ValueDependsOnSymbols, ValueHasItsSort};
+ghost use Rattle.term_laws.specs.Laws.{BodyHasTheTermsValue, NoIdTwice, TablesInterpret, TokensReadBack, TreeHasTheTermsValue, ValueDependsOnSymbols, ValueHasItsSort};
 
 /// A term that has a sort has a value of that sort, under each interpretation of the signature.
 pub fn value_has_its_sort()
@@ -31,4 +31,9 @@ pub fn tree_has_the_terms_value()
 /// The value of a definition's body, by cases on how it is written, is the value of its tree, whatever values its parameters have.
 pub fn body_has_the_terms_value()
     ensures { BodyHasTheTermsValue }
+{}
+
+/// No id stands twice in the signature of a stack, whatever commands made it.
+pub fn no_id_twice()
+    ensures { NoIdTwice }
 {}
