@@ -1,0 +1,10 @@
+pub mod Included
+pub mod Ring
+pub mod FollowsLaw
+pub mod Resolution
+pub mod MoreTrees
+pub mod SameTree
+pub mod LinearLaw
+pub mod BoundLaw
+mod Examples
+mod Propagation

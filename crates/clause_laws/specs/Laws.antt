@@ -1,0 +1,77 @@
+-- Laws of what follows from a stack, of linear forms and of normal bounds.
+use Rattle.std.specs.Prelude.{◌≡◌, ℕ, ◌+◌, ◌<◌, ◌≤◌, max, List, [], ◌∷◌, ◌++◌, length, ℤ, int_le, IsTrue, All, true, false}
+use Rattle.smt_meaning.specs.declared.declarations.Declaration.{Declaration}
+use Rattle.smt_meaning.specs.declared.clauses.Summand.{Summand}
+use Rattle.smt_meaning.specs.declared.clauses.Atom.{Atom}
+use Rattle.smt_meaning.specs.declared.clauses.Literal.{Literal}
+use Rattle.smt_meaning.specs.declared.clauses.Clause.{Clause}
+use Rattle.smt_meaning.specs.Term.{Tree, Interpretation, value, number_of}
+use Rattle.smt_meaning.specs.TreeShape.{is_linear, is_among}
+use Rattle.smt_meaning.specs.Stack.{Frame, Assertion, HasNoModel, on_top, pushed, popped}
+use Rattle.smt_meaning.specs.Clause.{atom_true, sum_value}
+use Rattle.smt_meaning.specs.Follows.{Follows}
+use Rattle.smt_meaning.specs.Linear.{form_value, linear_form, leaves}
+use Rattle.smt_meaning.specs.Atoms.{normal_bound}
+
+-- ---- a clause that follows still follows
+
+-- after pushes
+abbrev pub StillFollowsAfterPush : Type 0
+StillFollowsAfterPush =
+    (ts : List Tree) (frames : List Frame) (l n : ℕ) (c : Clause) → l < length frames → Follows ts frames l c → Follows ts (pushed n frames) l c
+
+-- after declarations and assertions
+abbrev pub StillFollowsAfterMore : Type 0
+StillFollowsAfterMore =
+    (ts : List Tree) (frames : List Frame) (l : ℕ) (c : Clause) (ds : List Declaration) (xs : List Assertion) → Follows ts frames l c → Follows ts (on_top ds xs frames) l c
+
+-- after a pop that leaves its level
+abbrev pub StillFollowsAfterPop : Type 0
+StillFollowsAfterPop =
+    (ts : List Tree) (frames : List Frame) (l n : ℕ) (c : Clause) → l + n < length frames → Follows ts frames l c → Follows ts (popped n frames) l c
+
+-- at a greater level
+abbrev pub StillFollowsAbove : Type 0
+StillFollowsAbove =
+    (ts : List Tree) (frames : List Frame) (l m : ℕ) (c : Clause) → l ≤ m → Follows ts frames l c → Follows ts frames m c
+
+-- with more trees behind those that it is read by
+abbrev pub StillFollowsWithTrees : Type 0
+StillFollowsWithTrees =
+    (ts us : List Tree) (frames : List Frame) (l : ℕ) (c : Clause) → Follows ts frames l c → Follows (ts ++ us) frames l c
+
+-- ---- resolution
+
+-- the literals of two clauses without an atom that stands positive in one and negative in the other
+pub record IsResolvent (c d r : Clause) : Type 0 where
+  pub atom : Atom
+  pub before : List Literal
+  pub after : List Literal
+  pub before' : List Literal
+  pub after' : List Literal
+  pub first : c.literals ≡ before ++ record { atom = atom; positive = true } ∷ after
+  pub second : d.literals ≡ before' ++ record { atom = atom; positive = false } ∷ after'
+  pub rest : r.literals ≡ (before ++ after) ++ (before' ++ after')
+
+-- a resolvent follows at the greater of the two levels
+abbrev pub ResolventFollows : Type 0
+ResolventFollows =
+    (ts : List Tree) (frames : List Frame) (l m : ℕ) (c d r : Clause) → IsResolvent c d r → Follows ts frames l c → Follows ts frames m d → Follows ts frames (max l m) r
+
+-- an empty clause that follows shows that there is no model
+abbrev pub EmptyClauseShowsNoModel : Type 0
+EmptyClauseShowsNoModel =
+    (ts : List Tree) (frames : List Frame) (l : ℕ) (c : Clause) → c.literals ≡ [] → Follows ts frames l c → HasNoModel frames
+
+-- ---- linear forms
+
+-- a linear term, with its leaves among the trees, has the value of its linear form
+abbrev pub LinearFormHasValue : Type 0
+LinearFormHasValue =
+    (ts : List Tree) (I : Interpretation) (t : Tree) → IsTrue (is_linear t) → All (λ u. IsTrue (is_among u ts)) (leaves t)
+    → number_of (value I t) ≡ form_value ts I (linear_form ts t)
+
+-- a normal bound is true where the bound is
+abbrev pub NormalBoundHasValue : Type 0
+NormalBoundHasValue =
+    (ts : List Tree) (I : Interpretation) (ps : List Summand) (k : ℤ) → atom_true ts I (normal_bound ps k) ≡ int_le (sum_value ts I ps) k

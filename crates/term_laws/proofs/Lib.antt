@@ -1,0 +1,11 @@
+pub mod Both
+pub mod SortLaw
+pub mod Tables
+pub mod ValueLaw
+pub mod SexpLaw
+pub mod JudgeLaw
+pub mod BodyLaw
+pub mod EnvironmentLaw
+mod Written
+mod Examples
+pub mod FreshLaw

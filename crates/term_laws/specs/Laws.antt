@@ -1,0 +1,55 @@
+-- Laws of the definitions of terms.
+use Rattle.std.specs.Prelude.{◌≡◌, ℕ, List, [], map, Some, IsTrue, Contains}
+use Rattle.smt_meaning.specs.declared.values.Sort.{Sort}
+use Rattle.smt_meaning.specs.declared.values.Value.{Value}
+use Rattle.smt_meaning.specs.declared.values.Table.{Table}
+use Rattle.smt_meaning.specs.declared.declarations.Declaration.{Declaration}
+use Rattle.smt_meaning.specs.Term.{Tree, Interpretation, value}
+use Rattle.smt_meaning.specs.Sexp.{Sexp, tokens, sexp, IsSexp, is_proper}
+use Rattle.smt_meaning.specs.Signature.{tree_sort, HasNoIdTwice}
+use Rattle.smt_meaning.specs.Sorts.{Scope, done, Typed, Variable, Rules, judge}
+use Rattle.smt_meaning.specs.Stack.{signature_of}
+use Rattle.smt_meaning.specs.StackCommand.{start, after_all}
+use Rattle.smt_meaning.specs.Environment.{Environment, body_value, term_value}
+use Rattle.smt_meaning.specs.Interpretation.{Interprets, has_sort, meaning, AreTablesFor}
+use Rattle.smt_meaning.specs.Clause.{symbols}
+
+-- a term that has a sort has a value of that sort
+abbrev pub ValueHasItsSort : Type 0
+ValueHasItsSort =
+    (ds : List Declaration) (I : Interpretation) (t : Tree) (s : Sort) → Interprets ds I → tree_sort ds t ≡ Some s → IsTrue (has_sort (value I t) s)
+
+-- the tables for a signature interpret it
+abbrev pub TablesInterpret : Type 0
+TablesInterpret = (ds : List Declaration) (ts : List Table) → HasNoIdTwice ds → AreTablesFor ds ts → Interprets ds (meaning ts)
+
+-- two interpretations agree on these symbols
+abbrev pub AgreeOn : Interpretation → Interpretation → List ℕ → Type 0
+AgreeOn I J fs = (f : ℕ) → Contains fs f → (vs : List Value) → I f vs ≡ J f vs
+
+-- the value of a term depends on its symbols alone
+abbrev pub ValueDependsOnSymbols : Type 0
+ValueDependsOnSymbols = (I J : Interpretation) (t : Tree) → AgreeOn I J (symbols t) → value I t ≡ value J t
+
+-- the tokens of an s-expression read back as it, and as nothing else
+abbrev pub TokensReadBack : Type 0
+TokensReadBack = (s : Sexp) → IsTrue (is_proper s) → IsSexp (tokens s) × (sexp (tokens s) ≡ s)
+
+-- the values of variables, where parameters have these values
+abbrev pub environment_of : Interpretation → List Value → List Variable → Environment
+environment_of I parameters vs = map (λ (v : Variable). record { name = v.name; value = body_value I parameters v.term.tree }) vs
+
+-- the tree of an accepted term has the value of the term
+abbrev pub TreeHasTheTermsValue : Type 0
+TreeHasTheTermsValue =
+    (r : Rules) (x : Sexp) (s t : Scope) (a : Typed) (I : Interpretation) → judge r [] x s ≡ done a t → value I a.tree ≡ term_value t.signature I [] x
+
+-- so has the tree of a definition's body, whatever values its parameters have
+abbrev pub BodyHasTheTermsValue : Type 0
+BodyHasTheTermsValue =
+    (r : Rules) (vs : List Variable) (x : Sexp) (s t : Scope) (a : Typed) (I : Interpretation) (parameters : List Value)
+    → judge r vs x s ≡ done a t → body_value I parameters a.tree ≡ term_value t.signature I (environment_of I parameters vs) x
+
+-- whatever commands come, no id stands twice in the signature of the stack
+abbrev pub NoIdTwice : Type 0
+NoIdTwice = (xs : List Sexp) → HasNoIdTwice (signature_of (after_all start xs).frames)
