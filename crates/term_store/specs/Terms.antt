@@ -1,0 +1,48 @@
+-- A list of different trees, of at most so many, and one tree more. A term's number is its place in the list.
+use Rattle.std.specs.Prelude.{◌≡◌, ◌≢◌, ◌⊎◌, ℕ, ◌<◌, ◌≤◌, List, [], ◌∷◌, ◌++◌, length, refl}
+use Rattle.std.specs.Coded.{Coded, code_by, coded×, coded_ℕ}
+use Rattle.smt_meaning.specs.declared.terms.Head.{Head}
+use Rattle.smt_meaning.specs.Term.{Tree, Trees, node, none, more, tree_at}
+use Rattle.smt_meaning.specs.TreeCode.{coded_trees}
+
+-- what a store of terms is seen as
+pub record Terms : Type 0 where
+  pub limit : ℕ
+  pub trees : List Tree
+
+abbrev pub terms_code : Coded Terms
+terms_code = code_by (ℕ × List Tree) (coded× coded_ℕ coded_trees) (λ t. (t.limit, t.trees)) (λ p. record { limit = p.0; trees = p.1 }) (λ _. refl)
+
+-- the trees at these places
+abbrev pub pick : List Tree → List ℕ → Trees
+pick ts [] = none
+pick ts (i ∷ is) = more (tree_at ts i) (pick ts is)
+
+-- the tree with this head and, as its arguments, the trees at these places
+abbrev pub tree_of : List Tree → Head → List ℕ → Tree
+tree_of ts h is = node h (pick ts is)
+
+-- the tree is at this place
+abbrev pub IsPlace : List Tree → ℕ → Tree → Type 0
+IsPlace ts i t = (i < length ts) × (tree_at ts i ≡ t)
+
+-- the tree is at no place
+abbrev pub IsNew : List Tree → Tree → Type 0
+IsNew ts t = (i : ℕ) → i < length ts → tree_at ts i ≢ t
+
+-- no tree stands at two places
+abbrev pub AreDifferent : List Tree → Type 0
+AreDifferent ts = (j k : ℕ) → j < k → k < length ts → tree_at ts j ≢ tree_at ts k
+
+-- with one tree more
+abbrev pub with_tree : Terms → Tree → Terms
+with_tree s t = record { limit = s.limit; trees = s.trees ++ t ∷ [] }
+
+-- A tree gets its number: the place that it has, and nothing changes, or else the place after the last.
+abbrev pub Interned : Terms → Tree → ℕ → Terms → Type 0
+Interned before t i after =
+    (IsPlace before.trees i t × (after ≡ before)) ⊎ (IsNew before.trees t × (i ≡ length before.trees) × (after ≡ with_tree before t))
+
+-- there is no room for the tree
+abbrev pub IsFullFor : Terms → Tree → Type 0
+IsFullFor s t = (length s.trees ≡ s.limit) × IsNew s.trees t
