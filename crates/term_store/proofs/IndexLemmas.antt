@@ -1,7 +1,7 @@
 -- An index of hashes: a walk along a chain, one place more, and one place less.
-use Rattle.std.proofs.Common.{◌≡◌, ◌≢◌, ℕ, zero, suc, ◌+◌, ◌-◌, ◌^◌, ◌<◌, ◌≤◌, List, [], ◌∷◌, ◌++◌, length, map, get_or, set, replicate, take, refl, sym, ap, ◌∙◌, subst, inl, inr, arith, bit_and, add-one, lit<}
+use Rattle.std.proofs.Common.{◌≡◌, ◌≢◌, ℕ, zero, suc, ◌+◌, ◌-◌, ◌^◌, ◌<◌, ◌≤◌, List, [], ◌∷◌, ◌++◌, length, get_or, set, replicate, take, refl, sym, ap, ◌∙◌, subst, inl, inr, arith, add-one, lit<}
 use Rattle.std.proofs.lemmas.Bool.{cases_eq, cases_lt}
-use Rattle.std.proofs.lemmas.List.{length-append, length-set, length-map, length-replicate, get_or_append_left, get_or_push, get_or-set_same, get_or-set_other, get_or-replicate, length_push, length-take-le, take_more_set}
+use Rattle.std.proofs.lemmas.List.{length-set, length-replicate, get_or_append_left, get_or_push, get_or-set_same, get_or-set_other, get_or-replicate, length_push, length-take-le, take_more_set}
 use Rattle.std.proofs.lemmas.Nat.{and_le_r}
 use Rattle.term_store.specs.declared.index.Link.{Link}
 use Rattle.term_store.specs.Latest.{latest, last_place, hashes_of, bucket_of, bucket_at, AreLinked, IsIndex, IsOnChain}

@@ -1,2 +1,4 @@
 pub mod LatestLemmas
 pub mod IndexLemmas
+pub mod NodeLemmas
+pub mod StoreLemmas

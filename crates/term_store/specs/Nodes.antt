@@ -1,7 +1,7 @@
 -- How a store keeps its trees: a list of nodes, each of which names earlier ones as its arguments, with all arguments in one list.
 use Rattle.std.specs.Prelude.{◌≡◌, ◌≢◌, ℕ, ◌<◌, ◌≤◌, ◌^◌, List, [], ◌∷◌, ◌++◌, length, map, All, slice_index_or, slice_range}
 use Rattle.smt_meaning.specs.declared.terms.Head.{Head}
-use Rattle.smt_meaning.specs.Term.{Tree, tree_at}
+use Rattle.smt_meaning.specs.Term.{Tree}
 use Rattle.term_store.specs.declared.store.Entry.{Entry}
 use Rattle.term_store.specs.Terms.{tree_of, AreDifferent}
 use Rattle.term_store.specs.Hash.{node_hash}

@@ -184,7 +184,14 @@ impl TermStore {
         ensures some { IfSome result (λ i. IsPlace self.now.trees i (tree_of self.now.trees head arguments.now)) }
         ensures none { IfNone result (IsNew self.now.trees (tree_of self.now.trees head arguments.now)) }
     {
-        find(&self.entries, &self.arguments, &self.index, hash, head, arguments)
+        find(
+            &self.entries,
+            &self.arguments,
+            &self.index,
+            hash,
+            head,
+            arguments,
+        )
     }
 
     /// Adds a term at the end. An `Err`, for want of memory, changes nothing.

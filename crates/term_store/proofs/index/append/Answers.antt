@@ -1,4 +1,4 @@
-use Rattle.std.proofs.Common.{◌≡◌, ◌+◌, length, arith}
+use Rattle.std.proofs.Common.{arith}
 use Rattle.term_store.proofs.IndexLemmas.{IsIndex-push}
 use Rattle.term_store.proofs.index.append.Goals as goal
 

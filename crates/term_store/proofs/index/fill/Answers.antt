@@ -1,4 +1,4 @@
-use Rattle.std.proofs.Common.{◌≡◌, ◌+◌, ◌<◌, ◌≤◌, length, get_or, arith, ◌∙◌, refl}
+use Rattle.std.proofs.Common.{◌<◌, length, get_or, arith, ◌∙◌, refl}
 use Rattle.term_store.specs.declared.index.Link.{Link}
 use Rattle.term_store.proofs.IndexLemmas.{IsIndex-fill, hashes-set}
 use Rattle.term_store.proofs.index.fill.Goals as goal

@@ -1,4 +1,4 @@
-use Rattle.std.proofs.Common.{◌≡◌, length, take}
+use Rattle.std.proofs.Common.{◌≡◌, take}
 use Rattle.term_store.specs.Latest.{hashes_of, IsIndex}
 use Rattle.term_store.proofs.index.fill.Given as goal
 

@@ -1,5 +1,4 @@
-use Rattle.std.proofs.Common.{◌≡◌, ◌≢◌, suc, ◌+◌, ◌-◌, sym, ◌∙◌, arith}
-use Rattle.term_store.specs.declared.index.Link.{Link}
+use Rattle.std.proofs.Common.{◌≡◌, suc, ◌-◌, sym, ◌∙◌, arith}
 use Rattle.term_store.proofs.IndexLemmas.{follow_stops, follow_goes}
 use Rattle.term_store.proofs.index.follow.Goals as goal
 

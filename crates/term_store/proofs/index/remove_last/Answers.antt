@@ -1,4 +1,4 @@
-use Rattle.std.proofs.Common.{◌≡◌, ◌+◌, ◌∷◌, [], ◌++◌, length, arith, subst}
+use Rattle.std.proofs.Common.{subst}
 use Rattle.term_store.specs.Latest.{IsIndex}
 use Rattle.term_store.proofs.IndexLemmas.{IsIndex-pop}
 use Rattle.term_store.proofs.index.remove_last.Goals as goal

@@ -1,4 +1,4 @@
-use Rattle.std.proofs.Common.{◌≡◌, ◌≤◌, length, take, vec_len}
+use Rattle.std.proofs.Common.{◌≡◌, take, vec_len}
 use Rattle.term_store.specs.Latest.{hashes_of, IsIndex}
 use Rattle.term_store.proofs.index.shorten.Given as goal
 

@@ -1,7 +1,6 @@
-use Rattle.std.proofs.Common.{◌≡◌, ◌<◌, length, get_or, arith, ◌∙◌}
+use Rattle.std.proofs.Common.{◌<◌, length, arith, ◌∙◌}
 use Rattle.std.proofs.lemmas.List.{get_or_read}
-use Rattle.term_store.specs.Latest.{bucket_of}
-use Rattle.term_store.proofs.IndexLemmas.{Starts, starts_last, length-hashes}
+use Rattle.term_store.proofs.IndexLemmas.{starts_last, length-hashes}
 use Rattle.term_store.proofs.index.HashIndex.last.Goals as goal
 
 pub follow-requires : goal.follow-requires
