@@ -1,0 +1,121 @@
+-- Normal bounds, and the atoms of a stack.
+use Rattle.std.specs.Prelude.{ℕ, zero, suc, ◌%◌, List, [], ◌∷◌, ◌++◌, map, flat_map, ℤ, pos, ◌-ℤ◌, neg_ℤ, unsigned_abs, if◌then◌else◌}
+use Rattle.std.specs.Int.{int_div_euclid}
+use Rattle.smt_meaning.specs.declared.terms.Operator.TheVariants.{Equal, Distinct, Ite, AtMost as IsAtMost, Less, AtLeast, Greater}
+use Rattle.smt_meaning.specs.declared.terms.Head.{Head}
+use Rattle.smt_meaning.specs.declared.terms.Head.TheVariants.{Theory}
+use Rattle.smt_meaning.specs.declared.declarations.Declaration.{Declaration}
+use Rattle.smt_meaning.specs.declared.clauses.Summand.{Summand}
+use Rattle.smt_meaning.specs.declared.clauses.Atom.{Atom}
+use Rattle.smt_meaning.specs.declared.clauses.Atom.TheVariants.{Truth, AtMost, Same}
+use Rattle.smt_meaning.specs.Term.{Tree, Trees, node, none, more}
+use Rattle.smt_meaning.specs.TreeShape.{place_of}
+use Rattle.smt_meaning.specs.Signature.{tree_sort, is_int, is_bool}
+use Rattle.smt_meaning.specs.Stack.{Frame, signature_of, assertions_of}
+use Rattle.smt_meaning.specs.Linear.{Form, summand, form_minus, linear_form}
+
+-- ---- normal bounds
+
+-- Euclid's algorithm; the first argument bounds its steps
+abbrev pub gcd_within : ℕ → ℕ → ℕ → ℕ
+gcd_within zero a b = a
+gcd_within (suc n) a zero = a
+gcd_within (suc n) a (suc b) = gcd_within n (suc b) (a % suc b)
+
+-- the greatest common divisor
+abbrev pub gcd : ℕ → ℕ → ℕ
+gcd a b = gcd_within (suc b) a b
+
+abbrev pub sum_gcd : List Summand → ℕ
+sum_gcd [] = 0
+sum_gcd (p ∷ ps) = gcd (unsigned_abs p.coefficient) (sum_gcd ps)
+
+-- the quotient, rounded down
+abbrev pub divided : ℤ → ℤ → ℤ
+divided a b = int_div_euclid a b
+
+abbrev pub each_divided : ℤ → List Summand → List Summand
+each_divided g ps = map (λ (p : Summand). summand p.term (divided p.coefficient g)) ps
+
+-- sum <= k, divided by the greatest common divisor of the coefficients; an empty sum stays as it is
+abbrev pub normal_bound : List Summand → ℤ → Atom
+normal_bound [] k = AtMost [] k
+normal_bound (p ∷ ps) k =
+    let g : ℤ = pos (sum_gcd (p ∷ ps)) in AtMost (each_divided g (p ∷ ps)) (divided k g)
+
+-- form <= 0
+abbrev pub not_above_zero : Form → Atom
+not_above_zero f = normal_bound f.sum (neg_ℤ f.constant)
+
+-- form < 0
+abbrev pub below_zero : Form → Atom
+below_zero f = normal_bound f.sum (neg_ℤ f.constant -ℤ pos 1)
+
+abbrev pub difference_of : List Tree → Tree → Tree → Form
+difference_of ts s t = form_minus (linear_form ts s) (linear_form ts t)
+
+-- s <= t
+abbrev pub at_most_atom : List Tree → Tree → Tree → Atom
+at_most_atom ts s t = not_above_zero (difference_of ts s t)
+
+-- s < t
+abbrev pub below_atom : List Tree → Tree → Tree → Atom
+below_atom ts s t = below_zero (difference_of ts s t)
+
+-- ---- the atoms of a stack
+
+-- the equality of two terms and, for Int, both bounds on their difference
+abbrev pub pair_atoms : List Tree → List Declaration → Tree → Tree → List Atom
+pair_atoms ts ds s t =
+    Same (place_of s ts) (place_of t ts)
+    ∷ (if is_int (tree_sort ds s) then at_most_atom ts s t ∷ at_most_atom ts t s ∷ [] else [])
+
+-- the atoms of each two neighbours
+abbrev pub of_neighbours_from : (Tree → Tree → List Atom) → Tree → Trees → List Atom
+of_neighbours_from f t none = []
+of_neighbours_from f t (more u us) = f t u ++ of_neighbours_from f u us
+
+abbrev pub of_neighbours : (Tree → Tree → List Atom) → Trees → List Atom
+of_neighbours f none = []
+of_neighbours f (more t ts) = of_neighbours_from f t ts
+
+abbrev pub of_first_with : (Tree → Tree → List Atom) → Tree → Trees → List Atom
+of_first_with f t none = []
+of_first_with f t (more u us) = f t u ++ of_first_with f t us
+
+-- the atoms of each two
+abbrev pub of_pairs : (Tree → Tree → List Atom) → Trees → List Atom
+of_pairs f none = []
+of_pairs f (more t ts) = of_first_with f t ts ++ of_pairs f ts
+
+-- the atoms of an `ite` with each branch
+abbrev pub of_branches : (Tree → Tree → List Atom) → Tree → Trees → List Atom
+of_branches f t (more c (more u (more v none))) = f t u ++ f t v
+of_branches f t us = []
+
+-- the atoms that compare the arguments of a sub-term
+abbrev pub comparison_atoms : List Tree → List Declaration → Head → Trees → List Atom
+comparison_atoms ts ds (Theory Equal) us = of_neighbours (pair_atoms ts ds) us
+comparison_atoms ts ds (Theory Distinct) us = of_pairs (pair_atoms ts ds) us
+comparison_atoms ts ds (Theory Ite) us = of_branches (pair_atoms ts ds) (node (Theory Ite) us) us
+comparison_atoms ts ds (Theory IsAtMost) us = of_neighbours (λ s t. at_most_atom ts s t ∷ []) us
+comparison_atoms ts ds (Theory Less) us = of_neighbours (λ s t. below_atom ts s t ∷ []) us
+comparison_atoms ts ds (Theory AtLeast) us = of_neighbours (λ s t. at_most_atom ts t s ∷ []) us
+comparison_atoms ts ds (Theory Greater) us = of_neighbours (λ s t. below_atom ts t s ∷ []) us
+comparison_atoms ts ds h us = []
+
+abbrev pub truth_atom : List Tree → List Declaration → Tree → List Atom
+truth_atom ts ds t = if is_bool (tree_sort ds t) then Truth (place_of t ts) ∷ [] else []
+
+abbrev mutual
+  -- the atoms of a term's sub-terms
+  pub atoms_of : List Tree → List Declaration → Tree → List Atom
+  atoms_of ts ds (node h us) = atoms_of_all ts ds us ++ (truth_atom ts ds (node h us) ++ comparison_atoms ts ds h us)
+
+  pub atoms_of_all : List Tree → List Declaration → Trees → List Atom
+  atoms_of_all ts ds none = []
+  atoms_of_all ts ds (more u us) = atoms_of ts ds u ++ atoms_of_all ts ds us
+
+-- the atoms of the assertions
+abbrev pub stack_atoms : List Tree → List Frame → List Atom
+stack_atoms ts frames = flat_map (atoms_of ts (signature_of frames)) (assertions_of frames)

@@ -1,0 +1,66 @@
+-- The stack of levels, and what it says (SMT-LIB 2.6, sections 4.1.4 and 5.3).
+use Rattle.std.specs.Prelude.{ℕ, ◌+◌, ◌-◌, List, [], ◌∷◌, ◌++◌, map, take, length, flat_map, replicate, IsTrue, All}
+use Rattle.smt_meaning.specs.declared.declarations.Declaration.{Declaration}
+use Rattle.smt_meaning.specs.Term.{Tree, Interpretation, value, truth_of}
+use Rattle.smt_meaning.specs.Sexp.{Sexp}
+use Rattle.smt_meaning.specs.Interpretation.{Interprets}
+
+pub record Assertion : Type 0 where
+  -- the term as written
+  pub text : Sexp
+  pub term : Tree
+
+-- a level: its declarations, definitions and names, and its assertions
+pub record Frame : Type 0 where
+  pub declared : List Declaration
+  pub asserted : List Assertion
+
+abbrev pub signature_of : List Frame → List Declaration
+signature_of frames = flat_map (λ (f : Frame). f.declared) frames
+
+abbrev pub terms_of : Frame → List Tree
+terms_of f = map (λ (a : Assertion). a.term) f.asserted
+
+abbrev pub assertions_of : List Frame → List Tree
+assertions_of frames = flat_map terms_of frames
+
+-- ---- models
+
+abbrev pub Satisfies : Interpretation → Tree → Type 0
+Satisfies I t = IsTrue (truth_of (value I t))
+
+-- every assertion is true
+abbrev pub Holds : Interpretation → List Frame → Type 0
+Holds I frames = All (Satisfies I) (assertions_of frames)
+
+-- no interpretation makes every assertion true
+abbrev pub HasNoModel : List Frame → Type 0
+HasNoModel frames = (I : Interpretation) → Interprets (signature_of frames) I → Holds I frames → ⊥
+
+-- ---- levels, the first of which is level 0
+
+abbrev pub empty_frame : Frame
+empty_frame = record { declared = []; asserted = [] }
+
+abbrev pub start_frames : List Frame
+start_frames = empty_frame ∷ []
+
+-- how many levels stand above level 0
+abbrev pub depth : List Frame → ℕ
+depth frames = length frames - 1
+
+-- the newest level gains declarations and assertions
+abbrev pub on_top : List Declaration → List Assertion → List Frame → List Frame
+on_top ds xs [] = []
+on_top ds xs (f ∷ []) = record { declared = f.declared ++ ds; asserted = f.asserted ++ xs } ∷ []
+on_top ds xs (f ∷ g ∷ frames) = f ∷ on_top ds xs (g ∷ frames)
+
+abbrev pub pushed : ℕ → List Frame → List Frame
+pushed n frames = frames ++ replicate n empty_frame
+
+abbrev pub popped : ℕ → List Frame → List Frame
+popped n frames = take (length frames - n) frames
+
+-- the levels from 0 to l
+abbrev pub up_to : ℕ → List Frame → List Frame
+up_to l frames = take (l + 1) frames

@@ -1,0 +1,43 @@
+use crate::seq::Seq;
+use crate::terms::TermId;
+
+/// The number of an atom, in the order in which atoms were numbered, from 0.
+pub type AtomId = u64;
+
+/// The number of a clause that is kept.
+pub type ClauseId = u64;
+
+/// A coefficient and the Int term that it multiplies.
+#[derive(Clone, Copy, PartialEq, Eq, Debug, Drop)]
+pub struct Summand {
+    pub coefficient: i128,
+    pub term: TermId,
+}
+
+/// A sum of coefficients times terms.
+pub type Sum = Seq<Summand>;
+
+/// An atom over the places of a list of terms.
+#[derive(Debug, Drop)]
+pub enum Atom {
+    /// The value of a Bool term.
+    Truth(TermId),
+    /// The sum is at most the number.
+    AtMost(Sum, i128),
+    /// The two terms have the same value.
+    Same(TermId, TermId),
+}
+
+/// An atom, or its negation.
+#[derive(Debug, Drop)]
+pub struct Literal {
+    pub atom: Atom,
+    pub positive: bool,
+}
+
+/// A disjunction of literals, with the level of the stack from which it follows.
+#[derive(Debug, Drop)]
+pub struct Clause {
+    pub literals: Seq<Literal>,
+    pub level: u16,
+}

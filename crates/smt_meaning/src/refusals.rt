@@ -1,0 +1,32 @@
+use crate::seq::Bytes;
+
+/// Why a term, or a command that works on the stack, is refused.
+#[derive(Debug, Drop)]
+pub enum Refusal {
+    /// E5: a numeral past 128 bits.
+    NumeralTooLarge,
+    /// E8: the arguments of the command haven't the form that it asks for.
+    WrongArguments,
+    /// E12: the name is already declared, or bound twice.
+    AlreadyDeclared(Bytes),
+    /// E13: no symbol of this name is known, or the token is none of this profile.
+    UnknownSymbol(Bytes),
+    /// E14: the head has another number of arguments.
+    ArgumentCount(Bytes),
+    /// E15: the arguments' sorts aren't the head's.
+    SortsDiffer(Bytes),
+    /// E16: a product of two terms that both vary.
+    NotLinear,
+    /// E17: the term isn't of sort Bool.
+    NotBool,
+    /// E18: fewer levels are there than are to go.
+    PopPastLevelZero,
+    /// E19: more than 65,535 levels above 0.
+    TooManyLevels,
+    /// E24: a name of the theories.
+    ReservedName(Bytes),
+    /// E25: more than 4,294,967,295 different terms.
+    TooManyTerms,
+    /// E25: more than 4,294,967,295 symbols.
+    TooManySymbols,
+}

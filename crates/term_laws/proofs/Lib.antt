@@ -1,0 +1,5 @@
+pub mod Both
+pub mod SortLaw
+pub mod Tables
+pub mod ValueLaw
+pub mod SexpLaw
