@@ -7,13 +7,14 @@ use Rattle.std.proofs.lemmas.Bool.{cases_lt}
 use Rattle.smt_meaning.specs.declared.terms.Head.TheVariants.{Theory}
 use Rattle.smt_meaning.specs.declared.terms.Operator.TheVariants.{False}
 use Rattle.smt_meaning.specs.Term.{Tree, node, none, tree_at}
-use Rattle.term_store.specs.Terms.{pick, tree_of, IsPlace, IsNew, AreDifferent}
+use Rattle.smt_meaning.specs.Nodes.{pick}
+use Rattle.term_store.specs.Terms.{tree_with, IsPlace, IsNew, AreDifferent}
 use Rattle.term_store.specs.Nodes.{Plain, trees_from, trees_of, AreNodes, HasNode, HasNoNode}
 
 pub length-trees_from : (ts : List Tree) (ns : List Plain) → length (trees_from ts ns) ≡ length ts + length ns
 length-trees_from ts [] = omega arith
 length-trees_from ts (n ∷ ns) =
-    let t : Tree = tree_of ts n.head n.arguments in
+    let t : Tree = tree_with ts n.head n.arguments in
     omega (arith, length-trees_from (ts ++ t ∷ []) ns, length_push ts t)
 
 pub length-trees_of : (ns : List Plain) → length (trees_of ns) ≡ length ns
@@ -21,22 +22,22 @@ length-trees_of ns = omega (arith, length-trees_from [] ns)
 
 pub trees_from-append : (ts : List Tree) (ns ms : List Plain) → trees_from ts (ns ++ ms) ≡ trees_from (trees_from ts ns) ms
 trees_from-append ts [] ms = refl
-trees_from-append ts (n ∷ ns) ms = trees_from-append (ts ++ tree_of ts n.head n.arguments ∷ []) ns ms
+trees_from-append ts (n ∷ ns) ms = trees_from-append (ts ++ tree_with ts n.head n.arguments ∷ []) ns ms
 
-pub trees_of-push : (ns : List Plain) (n : Plain) → trees_of (ns ++ n ∷ []) ≡ trees_of ns ++ tree_of (trees_of ns) n.head n.arguments ∷ []
+pub trees_of-push : (ns : List Plain) (n : Plain) → trees_of (ns ++ n ∷ []) ≡ trees_of ns ++ tree_with (trees_of ns) n.head n.arguments ∷ []
 trees_of-push ns n = trees_from-append [] ns (n ∷ [])
 
 -- earlier places keep their trees
 pub trees_from-keeps : (ts : List Tree) (ns : List Plain) (k : ℕ) (d : Tree) → k < length ts → get_or (trees_from ts ns) k d ≡ get_or ts k d
 trees_from-keeps ts [] k d h = refl
 trees_from-keeps ts (n ∷ ns) k d h =
-    let t : Tree = tree_of ts n.head n.arguments in
+    let t : Tree = tree_with ts n.head n.arguments in
     trees_from-keeps (ts ++ t ∷ []) ns k d (omega (arith, length_push ts t)) ∙ get_or_append_left ts (t ∷ []) d k h
 
 take_trees_from : (ts : List Tree) (ns : List Plain) → take (length ts) (trees_from ts ns) ≡ ts
 take_trees_from ts [] = take_all (length ts) ts (omega arith)
 take_trees_from ts (n ∷ ns) =
-    let t : Tree = tree_of ts n.head n.arguments in
+    let t : Tree = tree_with ts n.head n.arguments in
     let us : List Tree = ts ++ t ∷ [] in
     sym (take-take (length ts) (length us) (trees_from us ns) (omega (arith, length_push ts t)))
     ∙ ap (take (length ts)) (take_trees_from us ns) ∙ take_at ts (t ∷ []) (length ts) refl
@@ -55,10 +56,10 @@ pick-agree ts us (i ∷ is) m same all =
     cc (same i (All-head (λ j. j < m) i is all), pick-agree ts us is m same (All-tail (λ j. j < m) i is all))
 
 pub tree_at-from : (ts : List Tree) (ns : List Plain) (k : ℕ) (d : Plain) → k < length ns → All (λ i. i < length ts + k) (get_or ns k d).arguments
-    → tree_at (trees_from ts ns) (length ts + k) ≡ tree_of (trees_from ts ns) (get_or ns k d).head (get_or ns k d).arguments
+    → tree_at (trees_from ts ns) (length ts + k) ≡ tree_with (trees_from ts ns) (get_or ns k d).head (get_or ns k d).arguments
 tree_at-from ts [] k d h all = absurd (omega arith)
 tree_at-from ts (n ∷ ns) zero d h all =
-    let t : Tree = tree_of ts n.head n.arguments in
+    let t : Tree = tree_with ts n.head n.arguments in
     let us : List Tree = ts ++ t ∷ [] in
     rw (add-zero (length ts))
     (trees_from-keeps us ns (length ts) _ (omega (arith, length_push ts t))
@@ -67,17 +68,17 @@ tree_at-from ts (n ∷ ns) zero d h all =
     (λ i below. trees_from-keeps us ns i _ (omega (arith, length_push ts t)) ∙ get_or_append_left ts (t ∷ []) _ i below)
     (rw add-zero at all))))
 tree_at-from ts (n ∷ ns) (suc k) d h all =
-    let t : Tree = tree_of ts n.head n.arguments in
+    let t : Tree = tree_with ts n.head n.arguments in
     let us : List Tree = ts ++ t ∷ [] in
     let same : length us + k ≡ length ts + suc k = omega (arith, length_push ts t) in
-    subst (λ j. tree_at (trees_from us ns) j ≡ tree_of (trees_from us ns) (get_or ns k d).head (get_or ns k d).arguments) same
+    subst (λ j. tree_at (trees_from us ns) j ≡ tree_with (trees_from us ns) (get_or ns k d).head (get_or ns k d).arguments) same
     (tree_at-from us ns k d (omega arith) (subst (λ j. All (λ i. i < j) (get_or ns k d).arguments) (sym same) all))
 
 pub tree_at-nodes : (ns : List Plain) (k : ℕ) (d : Plain) → AreNodes ns → k < length ns
-    → tree_at (trees_of ns) k ≡ tree_of (trees_of ns) (get_or ns k d).head (get_or ns k d).arguments
+    → tree_at (trees_of ns) k ≡ tree_with (trees_of ns) (get_or ns k d).head (get_or ns k d).arguments
 tree_at-nodes ns k d nodes h =
     let zero_k : 0 + k ≡ k = omega arith in
-    subst (λ j. tree_at (trees_of ns) j ≡ tree_of (trees_of ns) (get_or ns k d).head (get_or ns k d).arguments) zero_k
+    subst (λ j. tree_at (trees_of ns) j ≡ tree_with (trees_of ns) (get_or ns k d).head (get_or ns k d).arguments) zero_k
     (tree_at-from [] ns k d h (subst (λ j. All (λ i. i < j) (get_or ns k d).arguments) (sym zero_k) (nodes k d h)))
 
 pub AreNodes-push : (ns : List Plain) (n : Plain) → AreNodes ns → All (λ i. i < length ns) n.arguments → AreNodes (ns ++ n ∷ [])
@@ -123,7 +124,7 @@ same_plain n m h a =
     heads ∙ ap (λ is. record { head = m.head; arguments = is }) a
 
 pub IsNew-nodes : (ns : List Plain) (n : Plain) → AreNodes ns → AreDifferent (trees_of ns) → All (λ i. i < length (trees_of ns)) n.arguments → HasNoNode ns n
-    → IsNew (trees_of ns) (tree_of (trees_of ns) n.head n.arguments)
+    → IsNew (trees_of ns) (tree_with (trees_of ns) n.head n.arguments)
 IsNew-nodes ns n nodes different below absent i short e =
     let within : i < length ns = omega (arith, length-trees_of ns) in
     let m : Plain = get_or ns i n in
@@ -133,10 +134,10 @@ IsNew-nodes ns n nodes different below absent i short e =
     let earlier : All (λ j. j < length (trees_of ns)) m.arguments = λ k d h. (let less = nodes i n within k d h in omega arith) in
     absent.nowhere i n within (same_plain m n heads (pick_injective (trees_of ns) m.arguments n.arguments different earlier below picks))
 
-pub IsPlace-nodes : (ns : List Plain) (i : ℕ) (n : Plain) → AreNodes ns → HasNode ns i n → IsPlace (trees_of ns) i (tree_of (trees_of ns) n.head n.arguments)
+pub IsPlace-nodes : (ns : List Plain) (i : ℕ) (n : Plain) → AreNodes ns → HasNode ns i n → IsPlace (trees_of ns) i (tree_with (trees_of ns) n.head n.arguments)
 IsPlace-nodes ns i n nodes has =
     let within : i < length ns = has.within in
-    (omega (arith, length-trees_of ns), tree_at-nodes ns i n nodes within ∙ ap (λ (m : Plain). tree_of (trees_of ns) m.head m.arguments) (has.here n))
+    (omega (arith, length-trees_of ns), tree_at-nodes ns i n nodes within ∙ ap (λ (m : Plain). tree_with (trees_of ns) m.head m.arguments) (has.here n))
 
 pub AreDifferent-push : (ts : List Tree) (t : Tree) → AreDifferent ts → IsNew ts t → AreDifferent (ts ++ t ∷ [])
 AreDifferent-push ts t different new j k less short e =

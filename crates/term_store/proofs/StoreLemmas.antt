@@ -6,7 +6,7 @@ use Rattle.std.proofs.lemmas.List.{length-append, get_or_append_left, length_pus
 use Rattle.std.proofs.lemmas.Bool.{cases_lt}
 use Rattle.smt_meaning.specs.Term.{Tree}
 use Rattle.term_store.specs.declared.store.Entry.{Entry}
-use Rattle.term_store.specs.Terms.{tree_of, IsNew, AreDifferent}
+use Rattle.term_store.specs.Terms.{tree_with, IsNew, AreDifferent}
 use Rattle.term_store.specs.Nodes.{Plain, plain, nodes_of, trees_of, AreNodes, AreLaid, plain_hash, IsStore, HasNoNode}
 use Rattle.term_store.specs.Latest.{latest, last_place}
 use Rattle.term_store.specs.Hash.{node_hash}
@@ -97,14 +97,14 @@ pub record Added (limit : ℕ) (trees : List Tree) (t : Tree) (es : List Entry) 
   pub view : trees_of (nodes_of arguments es) ≡ trees ++ t ∷ []
 
 pub IsStore-push : (limit : ℕ) (es : List Entry) (arguments hashes more' : List ℕ) (e : Entry) (hash : ℕ) → IsStore limit es arguments hashes → length es < limit
-    → All (λ i. i < length (trees_of (nodes_of arguments es))) more' → IsNew (trees_of (nodes_of arguments es)) (tree_of (trees_of (nodes_of arguments es)) e.head more')
+    → All (λ i. i < length (trees_of (nodes_of arguments es))) more' → IsNew (trees_of (nodes_of arguments es)) (tree_with (trees_of (nodes_of arguments es)) e.head more')
     → hash ≡ node_hash e.head more' → e.start ≡ length arguments → e.end ≡ length (arguments ++ more')
-    → Added limit (trees_of (nodes_of arguments es)) (tree_of (trees_of (nodes_of arguments es)) e.head more') (es ++ e ∷ []) (arguments ++ more') (hashes ++ hash ∷ [])
+    → Added limit (trees_of (nodes_of arguments es)) (tree_with (trees_of (nodes_of arguments es)) e.head more') (es ++ e ∷ []) (arguments ++ more') (hashes ++ hash ∷ [])
 IsStore-push limit es arguments hashes more' e hash s room below new hashed start end =
     let ns : List Plain = nodes_of arguments es in
     let n : Plain = record { head = e.head; arguments = more' } in
     let nodes : nodes_of (arguments ++ more') (es ++ e ∷ []) ≡ ns ++ n ∷ [] = nodes_push arguments more' es e s.laid start end in
-    let view : trees_of (ns ++ n ∷ []) ≡ trees_of ns ++ tree_of (trees_of ns) e.head more' ∷ [] = trees_of-push ns n in
+    let view : trees_of (ns ++ n ∷ []) ≡ trees_of ns ++ tree_with (trees_of ns) e.head more' ∷ [] = trees_of-push ns n in
     let count : length (trees_of ns) ≡ length ns = length-trees_of ns in
     record {
       store = record {
@@ -112,7 +112,7 @@ IsStore-push limit es arguments hashes more' e hash s room below new hashed star
         bounded = s.bounded;
         laid = laid_push (length arguments) (length (arguments ++ more')) es e s.laid start end (omega (arith, length-append arguments more'));
         earlier = subst AreNodes (sym nodes) (AreNodes-push ns n s.earlier (subst (λ m. All (λ i. i < m) more') count below));
-        different = subst (λ ms. AreDifferent (trees_of ms)) (sym nodes) (subst AreDifferent (sym view) (AreDifferent-push (trees_of ns) (tree_of (trees_of ns) e.head more') s.different new));
+        different = subst (λ ms. AreDifferent (trees_of ms)) (sym nodes) (subst AreDifferent (sym view) (AreDifferent-push (trees_of ns) (tree_with (trees_of ns) e.head more') s.different new));
         hashed = ap (λ hs. hs ++ hash ∷ []) s.hashed ∙ ap (λ h. map plain_hash ns ++ h ∷ []) hashed ∙ sym (map-append plain_hash ns (n ∷ [])) ∙ ap (map plain_hash) (sym nodes);
       };
       view = ap trees_of nodes ∙ view;

@@ -3,7 +3,7 @@ use Rattle.std.specs.Prelude.{◌≡◌, ◌≢◌, ℕ, ◌<◌, ◌≤◌, ◌
 use Rattle.smt_meaning.specs.declared.terms.Head.{Head}
 use Rattle.smt_meaning.specs.Term.{Tree}
 use Rattle.term_store.specs.declared.store.Entry.{Entry}
-use Rattle.term_store.specs.Terms.{tree_of, AreDifferent}
+use Rattle.term_store.specs.Terms.{tree_with, AreDifferent}
 use Rattle.term_store.specs.Hash.{node_hash}
 
 pub record Plain : Type 0 where
@@ -18,7 +18,7 @@ nodes_of arguments es = map (plain arguments) es
 
 abbrev pub trees_from : List Tree → List Plain → List Tree
 trees_from ts [] = ts
-trees_from ts (n ∷ ns) = trees_from (ts ++ tree_of ts n.head n.arguments ∷ []) ns
+trees_from ts (n ∷ ns) = trees_from (ts ++ tree_with ts n.head n.arguments ∷ []) ns
 
 -- the tree at each place
 abbrev pub trees_of : List Plain → List Tree

@@ -2,7 +2,8 @@
 use Rattle.std.specs.Prelude.{◌≡◌, ◌≢◌, ◌⊎◌, ℕ, ◌<◌, List, [], ◌∷◌, ◌++◌, length, refl}
 use Rattle.std.specs.Coded.{Coded, code_by, coded×, coded_ℕ}
 use Rattle.smt_meaning.specs.declared.terms.Head.{Head}
-use Rattle.smt_meaning.specs.Term.{Tree, Trees, node, none, more, tree_at}
+use Rattle.smt_meaning.specs.Term.{Tree, node, tree_at}
+use Rattle.smt_meaning.specs.Nodes.{pick}
 use Rattle.smt_meaning.specs.TreeCode.{coded_trees}
 
 -- what a store of terms is seen as
@@ -13,14 +14,9 @@ pub record Terms : Type 0 where
 abbrev pub terms_code : Coded Terms
 terms_code = code_by (ℕ × List Tree) (coded× coded_ℕ coded_trees) (λ t. (t.limit, t.trees)) (λ p. record { limit = p.0; trees = p.1 }) (λ _. refl)
 
--- the trees at these places
-abbrev pub pick : List Tree → List ℕ → Trees
-pick ts [] = none
-pick ts (i ∷ is) = more (tree_at ts i) (pick ts is)
-
 -- the tree with this head and, as its arguments, the trees at these places
-abbrev pub tree_of : List Tree → Head → List ℕ → Tree
-tree_of ts h is = node h (pick ts is)
+abbrev pub tree_with : List Tree → Head → List ℕ → Tree
+tree_with ts h is = node h (pick ts is)
 
 -- the tree is at this place
 abbrev pub IsPlace : List Tree → ℕ → Tree → Type 0

@@ -4,5 +4,7 @@
 mod hash;
 mod index;
 mod store;
+#[cfg(test)]
+mod tests;
 
 pub use store::{InternError, Node, TermStore};

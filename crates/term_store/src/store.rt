@@ -134,7 +134,7 @@ fn append(
 
 impl TermStore {
     ghost use Rattle.smt_meaning.specs.Term.{tree_at};
-    ghost use Rattle.term_store.specs.Terms.{tree_of, with_tree, Interned, IsFullFor, IsPlace, IsNew, AreDifferent};
+    ghost use Rattle.term_store.specs.Terms.{tree_with, with_tree, Interned, IsFullFor, IsPlace, IsNew, AreDifferent};
 
     /// No term, where there may be this many. It takes no memory.
     pub fn new(alloc: Global, limit: u32) -> Self
@@ -167,7 +167,7 @@ impl TermStore {
     /// The node of a term.
     pub fn node(&self, id: TermId) -> Node<'_>
         requires { id < length self.now.trees }
-        ensures tree { tree_at self.now.trees id ≡ tree_of self.now.trees result.head result.arguments.now }
+        ensures tree { tree_at self.now.trees id ≡ tree_with self.now.trees result.head result.arguments.now }
         ensures earlier { All (λ i. i < id) result.arguments.now }
     {
         let entry = &self.entries[id as usize];
@@ -181,8 +181,8 @@ impl TermStore {
     fn place(&self, hash: u32, head: Head, arguments: &[TermId]) -> Option<TermId>
         requires below { All (λ i. i < length self.now.trees) arguments.now }
         requires hash { hash ≡ node_hash head arguments.now }
-        ensures some { IfSome result (λ i. IsPlace self.now.trees i (tree_of self.now.trees head arguments.now)) }
-        ensures none { IfNone result (IsNew self.now.trees (tree_of self.now.trees head arguments.now)) }
+        ensures some { IfSome result (λ i. IsPlace self.now.trees i (tree_with self.now.trees head arguments.now)) }
+        ensures none { IfNone result (IsNew self.now.trees (tree_with self.now.trees head arguments.now)) }
     {
         find(
             &self.entries,
@@ -198,9 +198,9 @@ impl TermStore {
     fn add(&mut self, hash: u32, head: Head, arguments: &[TermId]) -> Result<(), AllocError>
         requires below { All (λ i. i < length self.old.trees) arguments.now }
         requires hash { hash ≡ node_hash head arguments.now }
-        requires new { IsNew self.old.trees (tree_of self.old.trees head arguments.now) }
+        requires new { IsNew self.old.trees (tree_with self.old.trees head arguments.now) }
         requires room { length self.old.trees < self.old.limit }
-        ensures ok { OnOk result (self.new ≡ with_tree self.old (tree_of self.old.trees head arguments.now)) }
+        ensures ok { OnOk result (self.new ≡ with_tree self.old (tree_with self.old.trees head arguments.now)) }
         ensures err { OnErr result (self.new ≡ self.old) }
     {
         let count = self.entries.len();
@@ -216,8 +216,9 @@ impl TermStore {
     /// there may be are stored and this one is not. An `Err` changes nothing.
     pub fn intern(&mut self, head: Head, arguments: &[TermId]) -> Result<TermId, InternError>
         requires { All (λ i. i < length self.old.trees) arguments.now }
-        ensures ok { IfOk result (λ i. Interned self.old (tree_of self.old.trees head arguments.now) i self.new) }
-        ensures full { (result ≡ Err InternError.Full) ↔ IsFullFor self.old (tree_of self.old.trees head arguments.now) }
+        ensures place { IfOk result (λ i. IsPlace self.new.trees i (tree_with self.old.trees head arguments.now)) }
+        ensures ok { IfOk result (λ i. Interned self.old (tree_with self.old.trees head arguments.now) i self.new) }
+        ensures full { (result ≡ Err InternError.Full) ↔ IsFullFor self.old (tree_with self.old.trees head arguments.now) }
         ensures err { OnErr result (self.new ≡ self.old) }
     {
         let hash = hash::of_node(head, arguments);

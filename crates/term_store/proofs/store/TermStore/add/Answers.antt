@@ -1,7 +1,7 @@
 use Rattle.std.proofs.Common.{◌≡◌, ◌<◌, ◌∷◌, [], ◌++◌, length, false, is_err, All, arith, sym, ap, ◌∙◌, subst, refl}
 use Rattle.std.proofs.lemmas.List.{length-map}
 use Rattle.term_store.specs.declared.store.Entry.{Entry}
-use Rattle.term_store.specs.Terms.{Terms, tree_of, IsNew}
+use Rattle.term_store.specs.Terms.{Terms, tree_with, IsNew}
 use Rattle.term_store.specs.Nodes.{nodes_of, plain_hash}
 use Rattle.term_store.proofs.NodeLemmas.{length-trees_of}
 use Rattle.term_store.proofs.StoreLemmas.{length-nodes, IsStore-push, at_ok, on_ok}
@@ -25,7 +25,7 @@ invariant_of-self-else-is_err c =
     at_ok c.append-appended.result _ ok' c.append-appended.ensures.entries in
     let room = subst (λ (s : Terms). length s.trees < s.limit) (sym c.self.view_is) c.requires.room in
     let below = subst (λ (s : Terms). All (λ i. i < length s.trees) c.args.arguments.now) (sym c.self.view_is) c.requires.below in
-    let new = subst (λ (s : Terms). IsNew s.trees (tree_of s.trees c.args.head c.args.arguments.now)) (sym c.self.view_is) c.requires.new in
+    let new = subst (λ (s : Terms). IsNew s.trees (tree_with s.trees c.args.head c.args.arguments.now)) (sym c.self.view_is) c.requires.new in
     let few : length es < c.self.inside.limit = omega (arith, length-trees_of (nodes_of all es), length-nodes all es) in
     rw (entries, arguments, c.in_ok-push.ensures.ok)
     (IsStore-push c.self.inside.limit es all c.self.inside.index c.args.arguments.now e c.args.hash c.self.invariant few below new c.requires.hash refl refl).store
@@ -41,7 +41,7 @@ returns-else-is_err-clause-ok c =
     at_ok c.append-appended.result _ ok' c.append-appended.ensures.entries in
     let room = subst (λ (s : Terms). length s.trees < s.limit) (sym c.self.view_is) c.requires.room in
     let below = subst (λ (s : Terms). All (λ i. i < length s.trees) c.args.arguments.now) (sym c.self.view_is) c.requires.below in
-    let new = subst (λ (s : Terms). IsNew s.trees (tree_of s.trees c.args.head c.args.arguments.now)) (sym c.self.view_is) c.requires.new in
+    let new = subst (λ (s : Terms). IsNew s.trees (tree_with s.trees c.args.head c.args.arguments.now)) (sym c.self.view_is) c.requires.new in
     let few : length es < c.self.inside.limit = omega (arith, length-trees_of (nodes_of all es), length-nodes all es) in
     let view = (IsStore-push c.self.inside.limit es all c.self.inside.index c.args.arguments.now e c.args.hash c.self.invariant few below new c.requires.hash refl refl).view in
     on_ok c.append-appended.result _

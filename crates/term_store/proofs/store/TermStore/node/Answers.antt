@@ -1,6 +1,6 @@
 use Rattle.std.proofs.Common.{◌≡◌, ◌<◌, ◌≤◌, length, get_or, All, arith, sym, ap, ◌∙◌, subst}
 use Rattle.term_store.specs.declared.store.Entry.{Entry}
-use Rattle.term_store.specs.Terms.{Terms, tree_of}
+use Rattle.term_store.specs.Terms.{Terms, tree_with}
 use Rattle.term_store.specs.Nodes.{Plain, plain, nodes_of, trees_of}
 use Rattle.term_store.proofs.NodeLemmas.{length-trees_of, tree_at-nodes}
 use Rattle.term_store.proofs.StoreLemmas.{length-nodes, node_at}
@@ -47,7 +47,7 @@ returns-clause-tree c =
     let here : get_or (nodes_of all es) c.args.id (plain all e) ≡ plain all e = node_at all es c.args.id (plain all e) e short ∙ ap (plain all) (sym c.index-entry.ensures) in
     let tree = tree_at-nodes (nodes_of all es) c.args.id (plain all e) c.self.invariant.earlier (omega (arith, length-nodes all es)) in
     let part : c.part.result.now ≡ (plain all e).arguments = rw c.deref.ensures.value at c.part.ensures in
-    rw (← c.self.view_is, part) (tree ∙ ap (λ (n : Plain). tree_of (trees_of (nodes_of all es)) n.head n.arguments) here)
+    rw (← c.self.view_is, part) (tree ∙ ap (λ (n : Plain). tree_with (trees_of (nodes_of all es)) n.head n.arguments) here)
 
 pub returns-clause-earlier : goal.returns-clause-earlier
 returns-clause-earlier c =
