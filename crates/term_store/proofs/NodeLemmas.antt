@@ -100,7 +100,7 @@ AreNodes-take ns m short nodes k d h =
 blank : Tree
 blank = node (Theory False) none
 
-places_same : (ts : List Tree) (i j : ℕ) → AreDifferent ts → i < length ts → j < length ts → tree_at ts i ≡ tree_at ts j → i ≡ j
+pub places_same : (ts : List Tree) (i j : ℕ) → AreDifferent ts → i < length ts → j < length ts → tree_at ts i ≡ tree_at ts j → i ≡ j
 places_same ts i j different h k e =
     elim (cases_lt i j) [
       | inl less ↦ absurd (different i j less k e)

@@ -1,9 +1,10 @@
 -- A list of different trees, of at most so many, and one tree more. A term's number is its place in the list.
-use Rattle.std.specs.Prelude.{◌≡◌, ◌≢◌, ◌⊎◌, ℕ, ◌<◌, List, [], ◌∷◌, ◌++◌, length, refl}
+use Rattle.std.specs.Prelude.{◌≡◌, ◌≢◌, ℕ, ◌<◌, List, [], ◌∷◌, ◌++◌, length, IsFalse, refl}
 use Rattle.std.specs.Coded.{Coded, code_by, coded×, coded_ℕ}
 use Rattle.smt_meaning.specs.declared.terms.Head.{Head}
 use Rattle.smt_meaning.specs.Term.{Tree, node, tree_at}
 use Rattle.smt_meaning.specs.Nodes.{pick}
+use Rattle.smt_meaning.specs.TreeShape.{with_tree, is_among}
 use Rattle.smt_meaning.specs.TreeCode.{coded_trees}
 
 -- what a store of terms is seen as
@@ -30,15 +31,10 @@ IsNew ts t = (i : ℕ) → i < length ts → tree_at ts i ≢ t
 abbrev pub AreDifferent : List Tree → Type 0
 AreDifferent ts = (j k : ℕ) → j < k → k < length ts → tree_at ts j ≢ tree_at ts k
 
--- with one tree more
-abbrev pub with_tree : Terms → Tree → Terms
-with_tree s t = record { limit = s.limit; trees = s.trees ++ t ∷ [] }
-
--- A tree gets its number: the place that it has, and nothing changes, or else the place after the last.
-abbrev pub Interned : Terms → Tree → ℕ → Terms → Type 0
-Interned before t i after =
-    (IsPlace before.trees i t × (after ≡ before)) ⊎ (IsNew before.trees t × (i ≡ length before.trees) × (after ≡ with_tree before t))
+-- with a tree, after its arguments, that is added only where it isn't there
+abbrev pub interned : Terms → Tree → Terms
+interned s t = record { limit = s.limit; trees = with_tree s.trees t }
 
 -- there is no room for the tree
 abbrev pub IsFullFor : Terms → Tree → Type 0
-IsFullFor s t = (length s.trees ≡ s.limit) × IsNew s.trees t
+IsFullFor s t = (length s.trees ≡ s.limit) × IsFalse (is_among t s.trees)

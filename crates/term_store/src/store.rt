@@ -134,7 +134,8 @@ fn append(
 
 impl TermStore {
     ghost use Rattle.smt_meaning.specs.Term.{tree_at};
-    ghost use Rattle.term_store.specs.Terms.{tree_with, with_tree, Interned, IsFullFor, IsPlace, IsNew, AreDifferent};
+    ghost use Rattle.smt_meaning.specs.TreeShape.{place_of};
+    ghost use Rattle.term_store.specs.Terms.{tree_with, interned, IsFullFor, IsPlace, IsNew, AreDifferent};
 
     /// No term, where there may be this many. It takes no memory.
     pub fn new(alloc: Global, limit: u32) -> Self
@@ -183,6 +184,7 @@ impl TermStore {
         requires hash { hash ≡ node_hash head arguments.now }
         ensures some { IfSome result (λ i. IsPlace self.now.trees i (tree_with self.now.trees head arguments.now)) }
         ensures none { IfNone result (IsNew self.now.trees (tree_with self.now.trees head arguments.now)) }
+        ensures different { AreDifferent self.now.trees }
     {
         find(
             &self.entries,
@@ -200,7 +202,7 @@ impl TermStore {
         requires hash { hash ≡ node_hash head arguments.now }
         requires new { IsNew self.old.trees (tree_with self.old.trees head arguments.now) }
         requires room { length self.old.trees < self.old.limit }
-        ensures ok { OnOk result (self.new ≡ with_tree self.old (tree_with self.old.trees head arguments.now)) }
+        ensures ok { OnOk result (self.new ≡ record { limit = self.old.limit; trees = self.old.trees ++ tree_with self.old.trees head arguments.now ∷ [] }) }
         ensures err { OnErr result (self.new ≡ self.old) }
     {
         let count = self.entries.len();
@@ -216,8 +218,9 @@ impl TermStore {
     /// there may be are stored and this one is not. An `Err` changes nothing.
     pub fn intern(&mut self, head: Head, arguments: &[TermId]) -> Result<TermId, InternError>
         requires { All (λ i. i < length self.old.trees) arguments.now }
+        ensures ok { OnOk result (self.new ≡ interned self.old (tree_with self.old.trees head arguments.now)) }
+        ensures number { IfOk result (λ i. i ≡ place_of (tree_with self.old.trees head arguments.now) self.new.trees) }
         ensures place { IfOk result (λ i. IsPlace self.new.trees i (tree_with self.old.trees head arguments.now)) }
-        ensures ok { IfOk result (λ i. Interned self.old (tree_with self.old.trees head arguments.now) i self.new) }
         ensures full { (result ≡ Err InternError.Full) ↔ IsFullFor self.old (tree_with self.old.trees head arguments.now) }
         ensures err { OnErr result (self.new ≡ self.old) }
     {
