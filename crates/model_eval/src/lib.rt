@@ -10,6 +10,8 @@ mod evaluate;
 mod marks;
 mod operators;
 mod tables;
+#[cfg(test)]
+mod tests;
 
 use evaluate::{add, nothing};
 use marks::parts_of;

@@ -40,7 +40,7 @@ fn checked(a: Value) -> Option<Value>
     ensures { result ≡ some_if (in_range a) a }
 {
     match a {
-        Value::Whole(n) => { if n == i128::MIN { None } else { Some(a) } }
+        Value::Whole(n) if n == i128::MIN => None,
         _ => Some(a),
     }
 }
@@ -55,11 +55,11 @@ fn checked_number(n: Option<i128>) -> Option<Value>
 }
 
 /// One step of an operator that folds from the left.
-fn step(op: Operator, a: Value, b: Value) -> Option<Value>
-    requires { IsTrue (folds op) }
-    ensures { result ≡ some_if (in_range (binary op a b)) (binary op a b) }
+fn step(operator: Operator, a: Value, b: Value) -> Option<Value>
+    requires { IsTrue (folds operator) }
+    ensures { result ≡ some_if (in_range (binary operator a b)) (binary operator a b) }
 {
-    match op {
+    match operator {
         Operator::And => Some(Value::Truth(truth(a) && truth(b))),
         Operator::Or => Some(Value::Truth(truth(a) || truth(b))),
         Operator::Xor => Some(Value::Truth(truth(a) != truth(b))),
@@ -69,17 +69,17 @@ fn step(op: Operator, a: Value, b: Value) -> Option<Value>
     }
 }
 
-fn fold(op: Operator, args: &[Value]) -> Option<Value>
-    requires folds { IsTrue (folds op) }
-    requires ranges { IsTrue (all_in_range args.now) }
-    ensures { result ≡ fitted_fold op args.now }
+fn fold(operator: Operator, arguments: &[Value]) -> Option<Value>
+    requires folds { IsTrue (folds operator) }
+    requires ranges { IsTrue (all_in_range arguments.now) }
+    ensures { result ≡ fitted_fold operator arguments.now }
 {
-    if args.len() == 0 {
+    if arguments.is_empty() {
         return Some(Value::Truth(false));
     }
-    let mut sum = args[0];
-    for i in 1..args.len() {
-        match step(op, sum, args[i]) {
+    let mut sum = arguments[0];
+    for i in 1..arguments.len() {
+        match step(operator, sum, arguments[i]) {
             Some(next) => sum = next,
             None => return None,
         }
@@ -87,11 +87,11 @@ fn fold(op: Operator, args: &[Value]) -> Option<Value>
     Some(sum)
 }
 
-fn related(op: Operator, a: Value, b: Value) -> bool
-    requires { IsTrue (chains op) }
-    ensures { result ≡ relation op a b }
+fn related(operator: Operator, a: Value, b: Value) -> bool
+    requires { IsTrue (chains operator) }
+    ensures { result ≡ relation operator a b }
 {
-    match op {
+    match operator {
         Operator::Equal => same(a, b),
         Operator::AtMost => number(a) <= number(b),
         Operator::Less => number(a) < number(b),
@@ -100,19 +100,19 @@ fn related(op: Operator, a: Value, b: Value) -> bool
     }
 }
 
-fn chain(op: Operator, args: &[Value]) -> bool
-    requires { IsTrue (chains op) }
-    ensures { result ≡ chainable (relation op) args.now }
+fn chain(operator: Operator, arguments: &[Value]) -> bool
+    requires { IsTrue (chains operator) }
+    ensures { result ≡ chainable (relation operator) arguments.now }
 {
-    if args.len() == 0 {
+    if arguments.is_empty() {
         return true;
     }
-    let mut last = args[0];
-    for i in 1..args.len() {
-        if !related(op, last, args[i]) {
+    let mut last = arguments[0];
+    for k in 1..arguments.len() {
+        if !related(operator, last, arguments[k]) {
             return false;
         }
-        last = args[i];
+        last = arguments[k];
     }
     true
 }
@@ -128,89 +128,93 @@ fn differs_from_each(a: Value, rest: &[Value]) -> bool
     true
 }
 
-fn distinct(args: &[Value]) -> bool
-    ensures { result ≡ pairwise differ args.now }
+fn distinct(arguments: &[Value]) -> bool
+    ensures { result ≡ pairwise differ arguments.now }
 {
-    for i in 0..args.len() {
-        if !differs_from_each(args[i], &args[i + 1..]) {
+    for i in 0..arguments.len() {
+        if !differs_from_each(arguments[i], &arguments[i + 1..]) {
             return false;
         }
     }
     true
 }
 
-fn arrow(args: &[Value]) -> Value
-    ensures { result ≡ right_assoc (on_truths implies) args.now }
+fn imply(arguments: &[Value]) -> Value
+    ensures { result ≡ right_assoc (on_truths implies) arguments.now }
 {
-    if args.len() == 0 {
+    if arguments.is_empty() {
         return Value::Truth(false);
     }
-    let mut k = args.len() - 1;
-    let mut from = args[k];
+    let mut k = arguments.len() - 1;
+    let mut from = arguments[k];
     while k > 0 {
         k -= 1;
-        from = Value::Truth(!truth(args[k]) || truth(from));
+        from = Value::Truth(!truth(arguments[k]) || truth(from));
     }
     from
 }
 
-fn not_first(args: &[Value]) -> Value
-    ensures { result ≡ negation args.now }
+fn negate(arguments: &[Value]) -> Value
+    ensures { result ≡ negation arguments.now }
 {
-    if args.len() == 1 {
-        Value::Truth(!truth(args[0]))
+    if arguments.len() == 1 {
+        Value::Truth(!truth(arguments[0]))
     } else {
         Value::Truth(false)
     }
 }
 
-fn branch(args: &[Value]) -> Value
-    ensures { result ≡ choice args.now }
+fn choose(arguments: &[Value]) -> Value
+    ensures { result ≡ choice arguments.now }
 {
-    if args.len() != 3 {
+    if arguments.len() != 3 {
         return Value::Truth(false);
     }
-    if truth(args[0]) { args[1] } else { args[2] }
-}
-
-fn minus(args: &[Value]) -> Option<Value>
-    requires { IsTrue (all_in_range args.now) }
-    ensures { result ≡ fitted_op Operator.Subtract args.now }
-{
-    if args.len() == 1 {
-        checked_number(number(args[0]).checked_neg())
+    if truth(arguments[0]) {
+        arguments[1]
     } else {
-        fold(Operator::Subtract, args)
+        arguments[2]
     }
 }
 
-fn operate(op: Operator, args: &[Value]) -> Option<Value>
-    requires { IsTrue (all_in_range args.now) }
-    ensures { result ≡ fitted_op op args.now }
+fn subtract(arguments: &[Value]) -> Option<Value>
+    requires { IsTrue (all_in_range arguments.now) }
+    ensures { result ≡ fitted_op Operator.Subtract arguments.now }
 {
-    match op {
+    if arguments.len() == 1 {
+        checked_number(number(arguments[0]).checked_neg())
+    } else {
+        fold(Operator::Subtract, arguments)
+    }
+}
+
+fn operate(operator: Operator, arguments: &[Value]) -> Option<Value>
+    requires { IsTrue (all_in_range arguments.now) }
+    ensures { result ≡ fitted_op operator arguments.now }
+{
+    match operator {
         Operator::True => Some(Value::Truth(true)),
         Operator::False => Some(Value::Truth(false)),
-        Operator::Not => Some(not_first(args)),
-        Operator::Implies => Some(arrow(args)),
-        Operator::Distinct => Some(Value::Truth(distinct(args))),
-        Operator::Ite => Some(branch(args)),
-        Operator::Subtract => minus(args),
+        Operator::Not => Some(negate(arguments)),
+        Operator::Implies => Some(imply(arguments)),
+        Operator::Distinct => Some(Value::Truth(distinct(arguments))),
+        Operator::Ite => Some(choose(arguments)),
+        Operator::Subtract => subtract(arguments),
         Operator::And | Operator::Or | Operator::Xor | Operator::Add | Operator::Multiply => fold(
-            op, args,
+            operator, arguments,
         ),
-        _ => Some(Value::Truth(chain(op, args))),
+        _ => Some(Value::Truth(chain(operator, arguments))),
     }
 }
 
-pub(crate) fn apply_head(interp: &Interp, head: Head, args: &[Value]) -> Option<Value>
-    requires { IsTrue (all_in_range args.now) }
-    ensures { result ≡ fitted_head (meaning interp.now) head args.now }
+pub(crate) fn apply_head(interp: &Interp, head: Head, arguments: &[Value]) -> Option<Value>
+    requires { IsTrue (all_in_range arguments.now) }
+    ensures { result ≡ fitted_head (meaning interp.now) head arguments.now }
 {
     match head {
         Head::Numeral(n) => checked(Value::Whole(n)),
-        Head::Theory(op) => operate(op, args),
-        Head::Symbol(symbol) => checked(look_up(interp, symbol, args)),
+        Head::Theory(operator) => operate(operator, arguments),
+        Head::Symbol(symbol) => checked(look_up(interp, symbol, arguments)),
         Head::Place(_) => Some(Value::Truth(false)),
     }
 }

@@ -19,11 +19,11 @@ fn same_list(a: &[Value], b: &[Value]) -> bool
     true
 }
 
-fn look_in(rows: &[Row], default: Value, args: &[Value]) -> Value
-    ensures { result ≡ look rows.now default args.now }
+fn look_in(rows: &[Row], default: Value, arguments: &[Value]) -> Value
+    ensures { result ≡ look rows.now default arguments.now }
 {
     for row in rows {
-        if same_list(args, row.arguments.as_slice()) {
+        if same_list(arguments, row.arguments.as_slice()) {
             return row.value;
         }
     }
@@ -31,12 +31,12 @@ fn look_in(rows: &[Row], default: Value, args: &[Value]) -> Value
 }
 
 /// The value of a function symbol at these arguments.
-pub(crate) fn look_up(interp: &Interp, symbol: SymId, args: &[Value]) -> Value
-    ensures { result ≡ meaning interp.now symbol args.now }
+pub(crate) fn look_up(interp: &Interp, symbol: SymId, arguments: &[Value]) -> Value
+    ensures { result ≡ meaning interp.now symbol arguments.now }
 {
     for table in interp.as_slice() {
         if symbol == table.symbol {
-            return look_in(table.rows.as_slice(), table.default, args);
+            return look_in(table.rows.as_slice(), table.default, arguments);
         }
     }
     Value::Truth(false)

@@ -6,7 +6,7 @@ use Rattle.model_eval.proofs.operators.fold.Given as goal
 
 abbrev pub invariant-loop-i : goal.invariant-loop-i
 invariant-loop-i l = record {
-  sum : fold_left (binary l.op) l.sum (drop l.i l.args) ≡ left_assoc (binary l.op) l.args;
-  parts : all_in_range (partials_from (binary l.op) l.sum (drop l.i l.args)) ≡ all_in_range (partials_of (binary l.op) l.args);
+  sum : fold_left (binary l.operator) l.sum (drop l.i l.arguments) ≡ left_assoc (binary l.operator) l.arguments;
+  parts : all_in_range (partials_from (binary l.operator) l.sum (drop l.i l.arguments)) ≡ all_in_range (partials_of (binary l.operator) l.arguments);
   fits : IsTrue (in_range l.sum);
 }

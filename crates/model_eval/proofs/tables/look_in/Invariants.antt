@@ -3,4 +3,4 @@ use Rattle.smt_meaning.specs.Interpretation.{look}
 use Rattle.model_eval.proofs.tables.look_in.Given as goal
 
 abbrev pub invariant-loop-row : goal.invariant-loop-row
-invariant-loop-row l = look (drop l.row-index l.rows) l.default l.args ≡ look l.rows l.default l.args
+invariant-loop-row l = look (drop l.row-index l.rows) l.default l.arguments ≡ look l.rows l.default l.arguments
