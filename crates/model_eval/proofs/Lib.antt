@@ -1,0 +1,4 @@
+pub mod Looks
+pub mod Folds
+pub mod MarkLemmas
+pub mod KeepLemmas

@@ -1,0 +1,10 @@
+use Rattle.std.proofs.Common.{◌≡◌, length}
+use Rattle.smt_meaning.specs.Interpretation.{meaning}
+use Rattle.model_eval.specs.Walk.{AreKept}
+use Rattle.model_eval.proofs.value.Given as goal
+
+abbrev pub invariant-loop-id : goal.invariant-loop-id
+invariant-loop-id l = record {
+  next : length l.found.slots.items ≡ l.id;
+  kept : AreKept (meaning l.interp) l.store.trees l.marks.items l.found.slots.items l.found.values.items;
+}

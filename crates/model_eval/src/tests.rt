@@ -1,0 +1,203 @@
+use crate::{EvalError, value};
+use smt_meaning::Operator::*;
+use smt_meaning::Value::{Truth, Whole};
+use smt_meaning::{Head, Interp, Operator, Row, Seq, Table, TermId, Value};
+use std::alloc::Global;
+use std::process::Abort;
+use std::test::Fail;
+use term_store::TermStore;
+
+const MAX: i128 = i128::MAX;
+
+fn intern(
+    rt: &impl Abort,
+    store: &mut TermStore,
+    head: Head,
+    arguments: &[TermId],
+) -> Result<TermId, Fail> {
+    let count = store.len();
+    assert!(rt; arguments.iter().all(|i| *i < count));
+    Ok(store.intern(head, arguments)?)
+}
+
+fn evaluate(
+    rt: &impl Abort,
+    alloc: Global,
+    interp: &Interp,
+    store: &TermStore,
+    term: TermId,
+) -> Result<Value, EvalError> {
+    assert!(rt; term < store.len());
+    value(alloc, interp, store, term)
+}
+
+/// The value of an operator applied to constants.
+fn applied(
+    rt: &impl Abort,
+    alloc: Global,
+    operator: Operator,
+    arguments: &[Value],
+) -> Result<Value, Fail> {
+    let mut store = TermStore::new(alloc, u32::MAX);
+    let mut ids = Vec::new(alloc);
+    for argument in arguments {
+        let head = match *argument {
+            Truth(true) => Head::Theory(True),
+            Truth(false) => Head::Theory(False),
+            Whole(n) => Head::Numeral(n),
+            Value::Element(_) => Head::Place(0),
+        };
+        ids.push(intern(rt, &mut store, head, &[])?)?;
+    }
+    let term = intern(rt, &mut store, Head::Theory(operator), &ids)?;
+    Ok(evaluate(rt, alloc, &Seq::new(alloc), &store, term)?)
+}
+
+#[test]
+fn operators_have_their_values(rt: HostRuntime) -> Result<(), Fail> {
+    let (t, f) = (Truth(true), Truth(false));
+    let (one, two, five) = (Whole(1), Whole(2), Whole(5));
+    for (operator, arguments, want) in [
+        (True, [].as_slice(), t),
+        (False, [].as_slice(), f),
+        (Not, [t].as_slice(), f),
+        (And, [t, t, f].as_slice(), f),
+        (Or, [f, f, t].as_slice(), t),
+        (Xor, [t, t, t].as_slice(), t),
+        (Implies, [f, f, f].as_slice(), t),
+        (Implies, [t, f].as_slice(), f),
+        (Equal, [one, one, two].as_slice(), f),
+        (Equal, [two, two, two].as_slice(), t),
+        (Distinct, [one, two, one].as_slice(), f),
+        (Distinct, [one, two, five].as_slice(), t),
+        (Ite, [f, one, two].as_slice(), two),
+        (Ite, [t, one, two].as_slice(), one),
+        (Add, [one, two, five].as_slice(), Whole(8)),
+        (Subtract, [five, two, one].as_slice(), two),
+        (Subtract, [five].as_slice(), Whole(-5)),
+        (Multiply, [two, five, Whole(-3)].as_slice(), Whole(-30)),
+        (AtMost, [one, one, two].as_slice(), t),
+        (Less, [one, one, two].as_slice(), f),
+        (AtLeast, [five, two, two].as_slice(), t),
+        (Greater, [five, two, two].as_slice(), f),
+    ] {
+        assert_eq!(rt;
+            applied(&rt, rt.alloc(), operator, arguments)?,
+            want,
+            "{operator:?}"
+        );
+    }
+    Ok(())
+}
+
+#[test]
+fn the_first_part_past_the_range_is_named(rt: HostRuntime) -> Result<(), Fail> {
+    let mut store = TermStore::new(rt.alloc(), u32::MAX);
+    let interp = Seq::new(rt.alloc());
+    for (head, arguments, want) in [
+        (Head::Numeral(MAX), [].as_slice(), Ok(Whole(MAX))),
+        (Head::Numeral(1), [].as_slice(), Ok(Whole(1))),
+        (
+            Head::Theory(Add),
+            [0, 1].as_slice(),
+            Err(EvalError::Range(2)),
+        ),
+        (
+            Head::Theory(Multiply),
+            [0, 0].as_slice(),
+            Err(EvalError::Range(3)),
+        ),
+        (
+            Head::Theory(Equal),
+            [3, 2].as_slice(),
+            Err(EvalError::Range(2)),
+        ),
+        (Head::Theory(AtMost), [1, 0].as_slice(), Ok(Truth(true))),
+        (
+            Head::Theory(Ite),
+            [5, 1, 3].as_slice(),
+            Err(EvalError::Range(3)),
+        ),
+        (
+            Head::Theory(Subtract),
+            [2, 1].as_slice(),
+            Err(EvalError::Range(2)),
+        ),
+        (Head::Theory(Subtract), [1].as_slice(), Ok(Whole(-1))),
+        (
+            Head::Theory(Add),
+            [0, 1, 8].as_slice(),
+            Err(EvalError::Range(9)),
+        ),
+        (Head::Theory(Add), [0, 8, 1].as_slice(), Ok(Whole(MAX))),
+        (
+            Head::Theory(Subtract),
+            [8, 0].as_slice(),
+            Err(EvalError::Range(11)),
+        ),
+        (Head::Numeral(MAX - 1), [].as_slice(), Ok(Whole(MAX - 1))),
+        (Head::Theory(Subtract), [8, 12].as_slice(), Ok(Whole(-MAX))),
+    ] {
+        let term = intern(&rt, &mut store, head, arguments)?;
+        assert_eq!(rt;
+            evaluate(&rt, rt.alloc(), &interp, &store, term),
+            want,
+            "at {term}"
+        );
+    }
+    Ok(())
+}
+
+#[test]
+fn functions_have_their_rows(rt: HostRuntime) -> Result<(), Fail> {
+    let mut rows = Seq::new(rt.alloc());
+    let mut arguments = Seq::new(rt.alloc());
+    arguments.push(Whole(1))?;
+    rows.push(Row {
+        arguments,
+        value: Whole(5),
+    })?;
+    let mut interp = Seq::new(rt.alloc());
+    interp.push(Table {
+        symbol: 4,
+        rows,
+        default: Whole(7),
+    })?;
+    let mut store = TermStore::new(rt.alloc(), u32::MAX);
+    let one = intern(&rt, &mut store, Head::Numeral(1), &[])?;
+    let row = intern(&rt, &mut store, Head::Symbol(4), &[one])?;
+    let default = intern(&rt, &mut store, Head::Symbol(4), &[row])?;
+    assert_eq!(rt;
+        evaluate(&rt, rt.alloc(), &interp, &store, row),
+        Ok(Whole(5))
+    );
+    assert_eq!(rt;
+        evaluate(&rt, rt.alloc(), &interp, &store, default),
+        Ok(Whole(7))
+    );
+    Ok(())
+}
+
+#[test]
+fn deep_and_shared_terms(rt: HostRuntime) -> Result<(), Fail> {
+    let interp = Seq::new(rt.alloc());
+    let mut store = TermStore::new(rt.alloc(), u32::MAX);
+    let mut double = intern(&rt, &mut store, Head::Theory(True), &[])?;
+    let mut negation = double;
+    for _ in 0..500 {
+        double = intern(&rt, &mut store, Head::Theory(And), &[double, double])?;
+    }
+    assert_eq!(rt; store.len(), 501);
+    assert_eq!(rt;
+        evaluate(&rt, rt.alloc(), &interp, &store, double),
+        Ok(Truth(true))
+    );
+    for _ in 0..10_001 {
+        negation = intern(&rt, &mut store, Head::Theory(Not), &[negation])?;
+    }
+    assert_eq!(rt;
+        evaluate(&rt, rt.alloc(), &interp, &store, negation),
+        Ok(Truth(false))
+    );
+    Ok(())
+}

@@ -1,0 +1,5 @@
+pub mod LatestLemmas
+pub mod IndexLemmas
+pub mod NodeLemmas
+pub mod StoreLemmas
+pub mod SameTree

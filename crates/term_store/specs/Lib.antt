@@ -1,0 +1,4 @@
+pub mod Terms
+pub mod Nodes
+pub mod Hash
+pub mod Latest
