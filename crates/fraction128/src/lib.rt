@@ -1,0 +1,9 @@
+//! Exact arithmetic: whole numbers and fractions of 128 bits.
+//!
+//! A number lies in the range from -(2^127 - 1) to 2^127 - 1, which is closed under negation. A
+//! result outside the range is an answer, [`Range`], and never wraps. No call takes memory.
+#![tactic(auto)]
+
+mod whole;
+
+pub use whole::{Op, Range, add, floor_div, mul, sub};
