@@ -4,6 +4,8 @@
 //! result outside the range is an answer, [`Range`], and never wraps. No call takes memory.
 #![tactic(auto)]
 
+mod divisor;
 mod whole;
 
+pub use divisor::gcd;
 pub use whole::{Op, Range, add, floor_div, mul, sub};
