@@ -1,3 +1,5 @@
 pub mod Ring
 pub mod Divisors
 pub mod Halving
+pub mod Integers
+pub mod Rationals

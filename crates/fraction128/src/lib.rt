@@ -5,7 +5,10 @@
 #![tactic(auto)]
 
 mod divisor;
+mod ratio;
+mod sums;
 mod whole;
 
 pub use divisor::gcd;
+pub use ratio::Ratio;
 pub use whole::{Op, Range, add, floor_div, mul, sub};

@@ -1,0 +1,16 @@
+-- Fractions of whole numbers, and the rational numbers that they name.
+use Rattle.std.specs.Prelude.{◌≡◌, ℕ, ◌*◌, ◌<◌, ◌^◌, ℤ, pos, ◌*ℤ◌, unsigned_abs}
+use Rattle.fraction128.specs.declared.ratio.Ratio.{Ratio}
+use Rattle.fraction128.specs.Whole.{InRange}
+use Rattle.fraction128.specs.Gcd.{gcd_of}
+
+-- x in lowest terms, with a positive denominator, and both in the range
+pub record IsFraction (x : Ratio) : Type 0 where
+  pub positive : 0 < x.denominator
+  pub lowest : gcd_of (unsigned_abs x.numerator) x.denominator ≡ 1
+  pub numerator_in : InRange x.numerator
+  pub denominator_in : x.denominator < 2 ^ 127
+
+-- x is the rational number n / d
+abbrev pub Equals : Ratio → ℤ → ℕ → Type 0
+Equals x n d = x.numerator *ℤ pos d ≡ n *ℤ pos x.denominator

@@ -1,0 +1,101 @@
+//! Sums and products of fractions, as ratios in lowest terms.
+#![tactic(auto)]
+
+ghost use Rattle.std.specs.Prelude.{◌≡◌, ℕ, ◌*◌, ◌<◌, ◌≤◌, ◌^◌, pos, ◌*ℤ◌, unsigned_abs, IfOk, IfErr, Some, None};
+ghost use Rattle.std.specs.Int.RustNames.{int_div};
+ghost use Rattle.fraction128.specs.Whole.{InRange, first_outside};
+ghost use Rattle.fraction128.specs.Gcd.{gcd_of};
+ghost use Rattle.fraction128.specs.Ratio.{IsFraction};
+ghost use Rattle.fraction128.specs.Listed.{times, sum_of, sum_steps, product_of, product_steps};
+
+use crate::divisor::gcd_wide;
+use crate::ratio::Ratio;
+use crate::whole::{Range, add, mul};
+
+/// A number times a natural one.
+fn scale(a: i128, b: u128) -> Result<i128, Range>
+    requires a_in { InRange a }
+    requires b_in { b < 2 ^ 127 }
+    ensures ok { IfOk result (λ r. (r ≡ a *ℤ pos b) × InRange r) }
+    ensures range { IfErr result (λ e. (e ≡ times a (pos b)) × (InRange (a *ℤ pos b) → ⊥)) }
+{
+    mul(a, b as i128)
+}
+
+/// The product of two natural numbers.
+fn scale_natural(a: u128, b: u128) -> Result<u128, Range>
+    requires a_in { a < 2 ^ 127 }
+    requires b_in { b < 2 ^ 127 }
+    ensures ok { IfOk result (λ r. (r ≡ a * b) × (r < 2 ^ 127)) }
+    ensures range { IfErr result (λ e. (e ≡ times (pos a) (pos b)) × (a * b < 2 ^ 127 → ⊥)) }
+{
+    let product = scale(a as i128, b)?;
+    Ok(product.unsigned_abs())
+}
+
+/// A number over a positive one, rounded towards zero.
+fn quotient(a: i128, b: u128) -> i128
+    requires a_in { InRange a }
+    requires positive { 0 < b }
+    requires b_in { b < 2 ^ 127 }
+    ensures value { result ≡ int_div a (pos b) }
+    ensures bound { InRange result }
+{
+    a / b as i128
+}
+
+/// The greatest common divisor of a natural number and a positive one.
+fn divisor_of_natural(a: u128, b: u128) -> u128
+    requires { 0 < b }
+    ensures value { result ≡ gcd_of a b }
+    ensures positive { 0 < result }
+    ensures bound { result ≤ b }
+{
+    gcd_wide(a, b)
+}
+
+/// The greatest common divisor of a number and a positive one.
+fn divisor_of(a: i128, b: u128) -> u128
+    requires { 0 < b }
+    ensures value { result ≡ gcd_of (unsigned_abs a) b }
+    ensures positive { 0 < result }
+    ensures bound { result ≤ b }
+{
+    divisor_of_natural(a.unsigned_abs(), b)
+}
+
+/// The sum of two fractions, on 128 bits.
+pub fn sum_wide(x: Ratio, y: Ratio) -> Result<Ratio, Range>
+    requires x_is { IsFraction x }
+    requires y_is { IsFraction y }
+    ensures ok { IfOk result (λ r. (r ≡ sum_of x y) × (first_outside (sum_steps x y) ≡ None)) }
+    ensures range { IfErr result (λ e. first_outside (sum_steps x y) ≡ Some e) }
+{
+    let g = divisor_of_natural(x.denominator, y.denominator);
+    let left = scale(x.numerator, y.denominator / g)?;
+    let right = scale(y.numerator, x.denominator / g)?;
+    let sum = add(left, right)?;
+    let h = divisor_of(sum, g);
+    let denominator = scale_natural(x.denominator / g, y.denominator / h)?;
+    Ok(Ratio {
+        numerator: quotient(sum, h),
+        denominator,
+    })
+}
+
+/// The product of two fractions, on 128 bits.
+pub fn product_wide(x: Ratio, y: Ratio) -> Result<Ratio, Range>
+    requires x_is { IsFraction x }
+    requires y_is { IsFraction y }
+    ensures ok { IfOk result (λ r. (r ≡ product_of x y) × (first_outside (product_steps x y) ≡ None)) }
+    ensures range { IfErr result (λ e. first_outside (product_steps x y) ≡ Some e) }
+{
+    let u = divisor_of(x.numerator, y.denominator);
+    let v = divisor_of(y.numerator, x.denominator);
+    let numerator = mul(quotient(x.numerator, u), quotient(y.numerator, v))?;
+    let denominator = scale_natural(x.denominator / v, y.denominator / u)?;
+    Ok(Ratio {
+        numerator,
+        denominator,
+    })
+}
