@@ -13,7 +13,7 @@ use Rattle.std.proofs.lemmas.Bool.Decides.{nat_tests}
 use Rattle.fraction128.specs.declared.whole.Range.{Range}
 use Rattle.fraction128.specs.Whole.{InRange, is_in_range, value_of, first_outside}
 use Rattle.fraction128.specs.Gcd.{gcd_of}
-use Rattle.fraction128.specs.Ratio.{IsFraction, Equals}
+use Rattle.fraction128.specs.Ratio.{IsFraction, Equals, IsSum, IsProduct}
 use Rattle.fraction128.specs.declared.ratio.Ratio.{Ratio}
 use Rattle.fraction128.specs.Listed.{times, plus, sum_over, reduced_by, sum_of, sum_steps, product_of, product_steps}
 
@@ -381,3 +381,19 @@ product-inside x y u v a c n d eu ev ea ec en ed =
     ( ap₂ (λ i j. let r : Ratio = record { numerator = i; denominator = j } in r) n_is d_is
     , inside_next (over x y) (under x y ∷ []) (subst InRange n_is en.1) ∙ inside_next (under x y) [] (subst (λ m. m < 2 ^ 127) d_is ed.1)
     )
+
+pub sum-found : (x y r : Ratio) → IsFraction x → IsFraction y → (r ≡ sum_of x y) × (first_outside (sum_steps x y) ≡ None)
+  → IsSum x y r × IsFraction r × (first_outside (sum_steps x y) ≡ None)
+sum-found x y r fx fy h =
+    let found = sum-is x y fx fy h.1 in
+    (subst (IsSum x y) (sym h.0) found.1, subst IsFraction (sym h.0) found.0, h.1)
+
+pub product-found : (x y r : Ratio) → IsFraction x → IsFraction y → (r ≡ product_of x y) × (first_outside (product_steps x y) ≡ None)
+  → IsProduct x y r × IsFraction r × (first_outside (product_steps x y) ≡ None)
+product-found x y r fx fy h =
+    let found = product-is x y fx fy h.1 in
+    (subst (IsProduct x y) (sym h.0) found.1, subst IsFraction (sym h.0) found.0, h.1)
+
+pub IsFraction-whole : (n : ℤ) → InRange n → (let r : Ratio = record { numerator = n; denominator = 1 } in IsFraction r)
+IsFraction-whole n h =
+    record { positive = omega arith; lowest = gcd-Apart (unsigned_abs n) 1 (λ e p q. q); numerator_in = h; denominator_in = omega arith }

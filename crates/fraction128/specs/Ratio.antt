@@ -1,5 +1,5 @@
 -- Fractions of whole numbers, and the rational numbers that they name.
-use Rattle.std.specs.Prelude.{◌≡◌, ℕ, ◌*◌, ◌<◌, ◌^◌, ℤ, pos, ◌*ℤ◌, unsigned_abs}
+use Rattle.std.specs.Prelude.{◌≡◌, ℕ, ◌*◌, ◌<◌, ◌^◌, ℤ, pos, ◌+ℤ◌, ◌-ℤ◌, ◌*ℤ◌, unsigned_abs}
 use Rattle.fraction128.specs.declared.ratio.Ratio.{Ratio}
 use Rattle.fraction128.specs.Whole.{InRange}
 use Rattle.fraction128.specs.Gcd.{gcd_of}
@@ -14,3 +14,13 @@ pub record IsFraction (x : Ratio) : Type 0 where
 -- x is the rational number n / d
 abbrev pub Equals : Ratio → ℤ → ℕ → Type 0
 Equals x n d = x.numerator *ℤ pos d ≡ n *ℤ pos x.denominator
+
+-- r is the sum, the difference, the product of x and y
+abbrev pub IsSum : Ratio → Ratio → Ratio → Type 0
+IsSum x y r = Equals r (x.numerator *ℤ pos y.denominator +ℤ y.numerator *ℤ pos x.denominator) (x.denominator * y.denominator)
+
+abbrev pub IsDifference : Ratio → Ratio → Ratio → Type 0
+IsDifference x y r = Equals r (x.numerator *ℤ pos y.denominator -ℤ y.numerator *ℤ pos x.denominator) (x.denominator * y.denominator)
+
+abbrev pub IsProduct : Ratio → Ratio → Ratio → Type 0
+IsProduct x y r = Equals r (x.numerator *ℤ y.numerator) (x.denominator * y.denominator)

@@ -5,10 +5,12 @@
 #![tactic(auto)]
 
 mod divisor;
+mod fraction;
 mod ratio;
 mod sums;
 mod whole;
 
 pub use divisor::gcd;
+pub use fraction::Fraction;
 pub use ratio::Ratio;
 pub use whole::{Op, Range, add, floor_div, mul, sub};

@@ -5,8 +5,8 @@ ghost use Rattle.std.specs.Prelude.{◌≡◌, ℕ, ◌*◌, ◌<◌, ◌≤◌,
 ghost use Rattle.std.specs.Int.RustNames.{int_div};
 ghost use Rattle.fraction128.specs.Whole.{InRange, first_outside};
 ghost use Rattle.fraction128.specs.Gcd.{gcd_of};
-ghost use Rattle.fraction128.specs.Ratio.{IsFraction};
-ghost use Rattle.fraction128.specs.Listed.{times, sum_of, sum_steps, product_of, product_steps};
+ghost use Rattle.fraction128.specs.Ratio.{IsFraction, IsSum, IsProduct};
+ghost use Rattle.fraction128.specs.Listed.{times, sum_steps, product_steps};
 
 use crate::divisor::gcd_wide;
 use crate::ratio::Ratio;
@@ -68,7 +68,7 @@ fn divisor_of(a: i128, b: u128) -> u128
 pub fn sum_wide(x: Ratio, y: Ratio) -> Result<Ratio, Range>
     requires x_is { IsFraction x }
     requires y_is { IsFraction y }
-    ensures ok { IfOk result (λ r. (r ≡ sum_of x y) × (first_outside (sum_steps x y) ≡ None)) }
+    ensures ok { IfOk result (λ r. IsSum x y r × IsFraction r × (first_outside (sum_steps x y) ≡ None)) }
     ensures range { IfErr result (λ e. first_outside (sum_steps x y) ≡ Some e) }
 {
     let g = divisor_of_natural(x.denominator, y.denominator);
@@ -87,7 +87,7 @@ pub fn sum_wide(x: Ratio, y: Ratio) -> Result<Ratio, Range>
 pub fn product_wide(x: Ratio, y: Ratio) -> Result<Ratio, Range>
     requires x_is { IsFraction x }
     requires y_is { IsFraction y }
-    ensures ok { IfOk result (λ r. (r ≡ product_of x y) × (first_outside (product_steps x y) ≡ None)) }
+    ensures ok { IfOk result (λ r. IsProduct x y r × IsFraction r × (first_outside (product_steps x y) ≡ None)) }
     ensures range { IfErr result (λ e. first_outside (product_steps x y) ≡ Some e) }
 {
     let u = divisor_of(x.numerator, y.denominator);

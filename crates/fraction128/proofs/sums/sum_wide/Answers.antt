@@ -1,7 +1,7 @@
 use Rattle.std.proofs.Common.{◌≡◌, ◌∙◌}
 use Rattle.std.proofs.lemmas.Result.{err_from_is_err_and}
 use Rattle.fraction128.proofs.Integers.{same_bits}
-use Rattle.fraction128.proofs.Rationals.{sum-outside_one, sum-outside_two, sum-outside_three, sum-outside_four, sum-inside}
+use Rattle.fraction128.proofs.Rationals.{sum-outside_one, sum-outside_two, sum-outside_three, sum-outside_four, sum-inside, sum-found}
 use Rattle.fraction128.proofs.sums.sum_wide.Goals as goal
 
 pub returns-in_err-left-clause-range : goal.returns-in_err-left-clause-range
@@ -55,7 +55,7 @@ returns-clause-ok c =
     let right = same_bits c.in_ok-right.right c.in_ok-right.ensures.ok.1 in
     let of_s = same_bits c.in_ok-sum.sum c.in_ok-sum.ensures.ok.1 in
     rw (same_bits c.quotient.result c.quotient.ensures.bound)
-    (sum-inside c.args.x c.args.y c.divisor_of_natural-g.result c.in_ok-left.left c.in_ok-right.right c.in_ok-sum.sum c.divisor_of-h.result
+    (sum-found c.args.x c.args.y _ c.requires.x_is c.requires.y_is (sum-inside c.args.x c.args.y c.divisor_of_natural-g.result c.in_ok-left.left c.in_ok-right.right c.in_ok-sum.sum c.divisor_of-h.result
       c.quotient.result c.in_ok-denominator.denominator c.divisor_of_natural-g.ensures.value
       (rw of_x at c.in_ok-left.ensures.ok) (rw of_y at c.in_ok-right.ensures.ok) (rw (left, right) at c.in_ok-sum.ensures.ok)
-      (rw of_s at c.divisor_of-h.ensures.value) c.in_ok-denominator.ensures.ok (rw of_s at c.quotient.ensures.value))
+      (rw of_s at c.divisor_of-h.ensures.value) c.in_ok-denominator.ensures.ok (rw of_s at c.quotient.ensures.value)))
