@@ -3,3 +3,4 @@ pub mod Divisors
 pub mod Halving
 pub mod Integers
 pub mod Rationals
+pub mod Comparisons

@@ -95,7 +95,7 @@ pos_right : (m n : ℕ) → 0 < m * n → 0 < n
 pos_right m zero h = omega arith
 pos_right m (suc n) h = omega arith
 
-pos_times : (m n : ℕ) → 0 < m → 0 < n → 0 < m * n
+pub pos_times : (m n : ℕ) → 0 < m → 0 < n → 0 < m * n
 pos_times (suc m) (suc n) h k = omega arith
 pos_times zero n h k = absurd (omega arith)
 pos_times (suc m) zero h k = absurd (omega arith)

@@ -24,3 +24,7 @@ IsDifference x y r = Equals r (x.numerator *ℤ pos y.denominator -ℤ y.numerat
 
 abbrev pub IsProduct : Ratio → Ratio → Ratio → Type 0
 IsProduct x y r = Equals r (x.numerator *ℤ y.numerator) (x.denominator * y.denominator)
+
+-- r is 1 / x
+abbrev pub IsReciprocal : Ratio → Ratio → Type 0
+IsReciprocal x r = r.numerator *ℤ x.numerator ≡ pos (r.denominator * x.denominator)

@@ -6,6 +6,7 @@
 
 mod divisor;
 mod fraction;
+mod order;
 mod ratio;
 mod sums;
 mod whole;

@@ -1,12 +1,12 @@
 //! Sums and products of fractions, as ratios in lowest terms.
 #![tactic(auto)]
 
-ghost use Rattle.std.specs.Prelude.{◌≡◌, ℕ, ◌*◌, ◌<◌, ◌≤◌, ◌^◌, pos, ◌*ℤ◌, unsigned_abs, IfOk, IfErr, Some, None};
+ghost use Rattle.std.specs.Prelude.{◌≡◌, ℕ, ◌*◌, ◌<◌, ◌≤◌, ◌^◌, pos, ◌*ℤ◌, unsigned_abs, ◌≢◌, IfOk, IfErr, Some, None};
 ghost use Rattle.std.specs.Int.RustNames.{int_div};
 ghost use Rattle.fraction128.specs.Whole.{InRange, first_outside};
 ghost use Rattle.fraction128.specs.Gcd.{gcd_of};
-ghost use Rattle.fraction128.specs.Ratio.{IsFraction, IsSum, IsProduct};
-ghost use Rattle.fraction128.specs.Listed.{times, sum_steps, product_steps};
+ghost use Rattle.fraction128.specs.Ratio.{IsFraction, Equals, IsSum, IsDifference, IsProduct, IsReciprocal};
+ghost use Rattle.fraction128.specs.Listed.{times, negation_of, sum_steps, product_steps};
 
 use crate::divisor::gcd_wide;
 use crate::ratio::Ratio;
@@ -98,4 +98,55 @@ pub fn product_wide(x: Ratio, y: Ratio) -> Result<Ratio, Range>
         numerator,
         denominator,
     })
+}
+
+/// The difference of two fractions: the sum with the negation.
+pub fn difference(x: Ratio, y: Ratio) -> Result<Ratio, Range>
+    requires x_is { IsFraction x }
+    requires y_is { IsFraction y }
+    ensures ok { IfOk result (λ r. IsDifference x y r × IsFraction r × (first_outside (sum_steps x (negation_of y)) ≡ None)) }
+    ensures range { IfErr result (λ e. first_outside (sum_steps x (negation_of y)) ≡ Some e) }
+{
+    sum_wide(x, negation(y))
+}
+
+/// The negation of a fraction.
+pub fn negation(x: Ratio) -> Ratio
+    requires { IsFraction x }
+    ensures value { result ≡ negation_of x }
+    ensures lowest { IsFraction result }
+{
+    Ratio {
+        numerator: -x.numerator,
+        denominator: x.denominator,
+    }
+}
+
+/// A numerator over a positive denominator, reduced to lowest terms.
+pub fn reduced(numerator: i128, denominator: u128) -> Ratio
+    requires numerator_in { InRange numerator }
+    requires positive { 0 < denominator }
+    requires denominator_in { denominator < 2 ^ 127 }
+    ensures value { Equals result numerator denominator }
+    ensures lowest { IsFraction result }
+{
+    let g = divisor_of(numerator, denominator);
+    Ratio {
+        numerator: quotient(numerator, g),
+        denominator: denominator / g,
+    }
+}
+
+/// The reciprocal of a fraction other than 0.
+pub fn reciprocal(x: Ratio) -> Ratio
+    requires x_is { IsFraction x }
+    requires nonzero { x.numerator ≢ pos 0 }
+    ensures value { IsReciprocal x result }
+    ensures lowest { IsFraction result }
+{
+    let denominator = x.denominator as i128;
+    Ratio {
+        numerator: if x.numerator < 0 { -denominator } else { denominator },
+        denominator: x.numerator.unsigned_abs(),
+    }
 }
