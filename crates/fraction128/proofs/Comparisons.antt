@@ -1,14 +1,13 @@
 -- Division with remainder on whole numbers, and the order of fractions by it.
-use Rattle.std.proofs.Common.{◌≡◌, ◌≢◌, ◌⊎◌, inl, inr, ℕ, zero, suc, ◌+◌, ◌-◌, ◌*◌, ◌/◌, ◌%◌, ◌<◌, ◌≤◌, ℤ, pos, negsuc, ◌+ℤ◌, ◌-ℤ◌, ◌*ℤ◌, ◌≤ℤ◌, ◌<ℤ◌, neg_ℤ, unsigned_abs, Ordering, sym, refl, ap, ap₂, ◌∙◌, subst, arith}
+use Rattle.std.proofs.Common.{◌≡◌, ◌≢◌, ◌⊎◌, inl, inr, ℕ, zero, suc, ◌+◌, ◌-◌, ◌*◌, ◌/◌, ◌%◌, ◌<◌, ◌≤◌, ℤ, pos, negsuc, ◌+ℤ◌, ◌-ℤ◌, ◌*ℤ◌, ◌≤ℤ◌, ◌<ℤ◌, neg_ℤ, unsigned_abs, Ordering, sym, refl, ap, ap₂, ◌∙◌, arith}
 use Rattle.std.specs.Int.{int_div_euclid, int_rem_euclid}
 use Rattle.std.specs.Ordering.{nat_cmp, int_cmp}
 use Rattle.std.specs.declared.cmp.Ordering.TheVariants.{Less, Equal, Greater}
 use Rattle.std.specs.Cmp.{int_cmp_is, nat_cmp_is}
-use Rattle.std.proofs.Math.Nat.{div-add-mod', mod-lt, mul-le-mul_right, mul_comm, mul_assoc, one-mul}
+use Rattle.std.proofs.Math.Nat.{div-add-mod', mod-lt, mul-le-mul_right, mul_comm, one-mul}
 use Rattle.std.proofs.lemmas.Int.{ints}
 use Rattle.std.proofs.lemmas.Bool.{cases_lt}
-use Rattle.std.proofs.lemmas.Bool.Decides.{nat_tests}
-use Rattle.fraction128.proofs.Ring.{sum-times, times-sum, times_assoc}
+use Rattle.fraction128.proofs.Ring.{sum-times}
 use Rattle.fraction128.proofs.Integers.{times-pos}
 use Rattle.fraction128.proofs.Rationals.{pos_times}
 
@@ -44,7 +43,7 @@ cmp_shifted k m n = by_cases (cases_lt m n) (cases_lt n m)
 
 -- two numbers with one quotient compare as their remainders, and otherwise as their quotients
 pub same-quotient : (x y q : ℤ) (b d r s : ℕ) → x ≡ q *ℤ pos b +ℤ pos r → y ≡ q *ℤ pos d +ℤ pos s
-  → int_cmp (x *ℤ pos d) (y *ℤ pos b) ≡ nat_cmp (r * d) (s * b)
+    → int_cmp (x *ℤ pos d) (y *ℤ pos b) ≡ nat_cmp (r * d) (s * b)
 same-quotient x y q b d r s ex ey =
     ap₂ int_cmp (ap (λ z. z *ℤ pos d) ex ∙ scaled q b d r) (ap (λ z. z *ℤ pos b) ey ∙ scaled q d b s ∙ ap (λ n. q *ℤ pos n +ℤ pos (s * b)) (mul_comm d b))
     ∙ cmp_shifted (q *ℤ pos (b * d)) (r * d) (s * b)
@@ -58,7 +57,7 @@ less-quotient x y p q b d r s ex ey below some less =
     let left : x *ℤ pos d ≡ p *ℤ pos (b * d) +ℤ pos (r * d) = ap (λ z. z *ℤ pos d) ex ∙ scaled p b d r in
     let right : y *ℤ pos b ≡ q *ℤ pos (d * b) +ℤ pos (s * b) = ap (λ z. z *ℤ pos b) ey ∙ scaled q d b s in
     let apart : q *ℤ pos (d * b) ≡ p *ℤ pos (b * d) +ℤ pos (suc up.0 * (b * d)) =
-        ap₂ (λ z n. z *ℤ pos n) up.1 (mul_comm d b) ∙ sum-times p (pos (suc up.0)) (pos (b * d)) in
+    ap₂ (λ z n. z *ℤ pos n) up.1 (mul_comm d b) ∙ sum-times p (pos (suc up.0)) (pos (b * d)) in
     let bound : (r + 1) * d ≤ b * d = mul-le-mul_right d (omega arith) in
     let last : r * d < suc up.0 * (b * d) + s * b = omega (arith, bound) in
     shifted (x *ℤ pos d) (y *ℤ pos b) (q *ℤ pos (d * b)) (p *ℤ pos (b * d)) (r * d) (suc up.0 * (b * d)) (s * b) left right apart last
@@ -152,7 +151,7 @@ nat-quotients a b c d hb hd differ = by_cases (cases_lt (a / b) (c / d))
         sym (nat_cmp_is (a / b) (c / d) Greater more) ∙ nat_cmp_is (a * d) (c * b) Greater (nat-less-quotient c d a b hd hb more)
 
 pub int-quotients : (x y p q : ℤ) (b d r s : ℕ) → x ≡ p *ℤ pos b +ℤ pos r → y ≡ q *ℤ pos d +ℤ pos s → r < b → s < d → p ≢ q
-  → int_cmp p q ≡ int_cmp (x *ℤ pos d) (y *ℤ pos b)
+    → int_cmp p q ≡ int_cmp (x *ℤ pos d) (y *ℤ pos b)
 int-quotients x y p q b d r s ex ey r_below s_below differ = by_order (int_cmp p q) refl
   where
     by_order : (o : Ordering) → int_cmp p q ≡ o → o ≡ int_cmp (x *ℤ pos d) (y *ℤ pos b)
@@ -161,3 +160,9 @@ int-quotients x y p q b d r s ex ey r_below s_below differ = by_order (int_cmp p
     by_order Equal e = absurd (differ (grind (arith, ints)))
     by_order Greater e =
         int_cmp_is (x *ℤ pos d) (y *ℤ pos b) Greater (more-quotient x y p q b d r s ex ey s_below (omega arith) (grind (arith, ints)))
+
+pub floor_div-bounds : (a b q : ℤ) → pos 0 <ℤ b → q ≡ int_div_euclid a b → (q *ℤ b) ≤ℤ a × a <ℤ ((q +ℤ pos 1) *ℤ b)
+floor_div-bounds a (pos b) q h e =
+    let some : 0 < b = omega (arith, ints) in
+    rw e (floor-lower a b some, floor-upper a b some)
+floor_div-bounds a (negsuc b) q h e = absurd (omega (arith, ints))

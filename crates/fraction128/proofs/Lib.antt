@@ -4,3 +4,4 @@ pub mod Halving
 pub mod Integers
 pub mod Rationals
 pub mod Comparisons
+pub mod Smallness

@@ -7,13 +7,12 @@ ghost use Rattle.fraction128.specs.Whole.{InRange, first_outside};
 ghost use Rattle.fraction128.specs.Ratio.{IsFraction, Equals, IsSum, IsDifference, IsProduct, IsReciprocal};
 ghost use Rattle.fraction128.specs.Listed.{negation_of, sum_steps, product_steps};
 
-use std::cmp::Ordering;
-use std::marker::Model;
-
 use crate::order::order;
 use crate::ratio::Ratio;
-use crate::sums::{difference, product_wide, reciprocal, reduced, sum_wide};
+use crate::sums::{difference, product, reciprocal, reduced, sum};
 use crate::whole::{Range, floor_div};
+use std::cmp::Ordering;
+use std::marker::Model;
 
 /// A fraction in lowest terms with a positive denominator, both in the range.
 #[derive(Clone, Copy, PartialEq, Eq, Debug)]
@@ -118,7 +117,7 @@ impl Fraction {
         ensures fits { OnOk result (first_outside (sum_steps self other) ≡ None) }
         ensures range { IfErr result (λ e. first_outside (sum_steps self other) ≡ Some e) }
     {
-        let ratio = sum_wide(self.ratio, other.ratio)?;
+        let ratio = sum(self.ratio, other.ratio)?;
         Ok(Fraction { ratio })
     }
 
@@ -141,7 +140,7 @@ impl Fraction {
         ensures fits { OnOk result (first_outside (product_steps self other) ≡ None) }
         ensures range { IfErr result (λ e. first_outside (product_steps self other) ≡ Some e) }
     {
-        let ratio = product_wide(self.ratio, other.ratio)?;
+        let ratio = product(self.ratio, other.ratio)?;
         Ok(Fraction { ratio })
     }
 

@@ -8,6 +8,7 @@ mod divisor;
 mod fraction;
 mod order;
 mod ratio;
+mod small;
 mod sums;
 mod whole;
 
