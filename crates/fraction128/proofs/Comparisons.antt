@@ -8,8 +8,14 @@ use Rattle.std.proofs.Math.Nat.{div-add-mod', mod-lt, mul-le-mul_right, mul_comm
 use Rattle.std.proofs.lemmas.Int.{ints}
 use Rattle.std.proofs.lemmas.Bool.{cases_lt}
 use Rattle.fraction128.proofs.Ring.{sum-times}
-use Rattle.fraction128.proofs.Integers.{times-pos}
-use Rattle.fraction128.proofs.Rationals.{pos_times}
+use Rattle.std.specs.Int.{◌∣◌}
+use Rattle.std.proofs.lemmas.Nat.Gcd.{dvd_antisymm}
+use Rattle.std.proofs.Math.Nat.{dvd-mul_left}
+use Rattle.fraction128.specs.declared.ratio.Ratio.{Ratio}
+use Rattle.fraction128.specs.Ratio.{IsFraction, Equals}
+use Rattle.fraction128.proofs.Divisors.{dvd_of_dvd-times, Apart-swap}
+use Rattle.fraction128.proofs.Integers.{times-pos, abs-times}
+use Rattle.fraction128.proofs.Rationals.{pos_times, IsFraction-alone}
 
 -- a number is its quotient times the divisor, and the remainder
 pub euclid-parts : (z : ℤ) (b : ℕ) → 0 < b → int_div_euclid z (pos b) *ℤ pos b +ℤ int_rem_euclid z (pos b) ≡ z
@@ -166,3 +172,32 @@ floor_div-bounds a (pos b) q h e =
     let some : 0 < b = omega (arith, ints) in
     rw e (floor-lower a b some, floor-upper a b some)
 floor_div-bounds a (negsuc b) q h e = absurd (omega (arith, ints))
+
+-- a positive factor can be dropped
+pub times_cancel : (x y : ℤ) (d : ℕ) → 0 < d → x *ℤ pos d ≡ y *ℤ pos d → x ≡ y
+times_cancel x y d above e =
+    let back : (x -ℤ y) +ℤ y ≡ x = omega (arith, ints) in
+    let parts : x *ℤ pos d ≡ (x -ℤ y) *ℤ pos d +ℤ y *ℤ pos d = sym (sym (sum-times (x -ℤ y) y (pos d)) ∙ ap (λ z. z *ℤ pos d) back) in
+    let none : (x -ℤ y) *ℤ pos d ≡ pos 0 = omega (arith, ints, parts, e) in
+    let size : unsigned_abs (x -ℤ y) * d ≡ 0 = sym (abs-times (x -ℤ y) d) ∙ ap unsigned_abs none in
+    by_size (unsigned_abs (x -ℤ y)) refl size
+  where
+    by_size : (n : ℕ) → unsigned_abs (x -ℤ y) ≡ n → n * d ≡ 0 → x ≡ y
+    by_size zero is h = omega (arith, ints, is)
+    by_size (suc n) is h = absurd (omega (arith, h, above))
+
+-- two fractions in lowest terms that are one rational number are the same
+pub lowest-unique : (x y : Ratio) → IsFraction x → IsFraction y → Equals x y.numerator y.denominator → x ≡ y
+lowest-unique x y fx fy e =
+    let sizes : unsigned_abs x.numerator * y.denominator ≡ unsigned_abs y.numerator * x.denominator =
+        sym (abs-times x.numerator y.denominator) ∙ ap unsigned_abs e ∙ abs-times y.numerator x.denominator in
+    let x_part : x.denominator ∣ y.denominator =
+        dvd_of_dvd-times x.denominator (unsigned_abs x.numerator) y.denominator (Apart-swap (unsigned_abs x.numerator) x.denominator (IsFraction-alone x fx))
+        (subst (λ n. x.denominator ∣ n) (sym sizes) (dvd-mul_left x.denominator (unsigned_abs y.numerator))) in
+    let y_part : y.denominator ∣ x.denominator =
+        dvd_of_dvd-times y.denominator (unsigned_abs y.numerator) x.denominator (Apart-swap (unsigned_abs y.numerator) y.denominator (IsFraction-alone y fy))
+        (subst (λ n. y.denominator ∣ n) sizes (dvd-mul_left y.denominator (unsigned_abs x.numerator))) in
+    let below : x.denominator ≡ y.denominator = dvd_antisymm x_part y_part in
+    let over : x.numerator ≡ y.numerator =
+        times_cancel x.numerator y.numerator y.denominator fy.positive (e ∙ ap (λ n. y.numerator *ℤ pos n) below) in
+    ap₂ (λ i j. let w : Ratio = record { numerator = i; denominator = j } in w) over below

@@ -6,6 +6,7 @@
 
 mod divisor;
 mod fraction;
+pub mod laws;
 mod order;
 mod ratio;
 mod small;
@@ -16,3 +17,6 @@ pub use divisor::gcd;
 pub use fraction::Fraction;
 pub use ratio::Ratio;
 pub use whole::{Op, Range, add, floor_div, mul, sub};
+
+#[cfg(test)]
+mod tests;
