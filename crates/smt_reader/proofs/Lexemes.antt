@@ -1,6 +1,9 @@
 -- The lexeme of bytes, by their first byte, and with more bytes behind.
 use Rattle.std.proofs.Common.{◌≡◌, ◌<◌, ◌≤◌, ℕ, ◌+◌, Bool, true, false, ◌&&◌, not, List, [], ◌∷◌, ◌++◌, length, take, drop, suc, arith, refl, sym, ◌∙◌, ap, eqb, cond, length-drop}
-use Rattle.std.proofs.lemmas.List.{take-append-le, drop-append-le}
+use Rattle.std.proofs.lemmas.List.{take-append-le, drop-append-le, take_all}
+use Rattle.std.proofs.lemmas.List.Folds.{prefix_len-append}
+use Rattle.std.proofs.lemmas.List.Sums.{prefix_len-le-length}
+use Rattle.std.proofs.Math.Seq.{take-append-add, drop-append-add}
 use Rattle.std.proofs.lemmas.Grind.{common_steps}
 use Rattle.std.specs.List.{prefix_len, take_while}
 use Rattle.smt_meaning.specs.Reading.{is_blank, is_symbol_byte, is_digit, lexeme, Lexeme, token, wrong, nothing, Shape, opening, closing, single, shape}
@@ -43,15 +46,19 @@ both-left false y e = cc
 
 -- With more bytes behind
 
-prefix_len_step : (p : ℕ → Bool) (x : ℕ) (xs ys : List ℕ) (b : Bool) → p x ≡ b → prefix_len p (x ∷ xs) < length (x ∷ xs)
-    → (prefix_len p xs < length xs → prefix_len p (xs ++ ys) ≡ prefix_len p xs) → prefix_len p ((x ∷ xs) ++ ys) ≡ prefix_len p (x ∷ xs)
-prefix_len_step p x xs ys true e h again = grind (arith, e)
-prefix_len_step p x xs ys false e h again = grind (arith, e)
+same_number : (m n : ℕ) → m ≡ n → eqb m n ≡ true
+same_number m n e = grind (arith, common_steps)
+
+other_number : (m n : ℕ) → m < n → eqb m n ≡ false
+other_number m n l = grind (arith, common_steps)
 
 -- a front that ends before the bytes do is the same with more bytes behind
-pub prefix_len-append : (p : ℕ → Bool) (xs ys : List ℕ) → prefix_len p xs < length xs → prefix_len p (xs ++ ys) ≡ prefix_len p xs
-prefix_len-append p [] ys h = absurd (omega arith)
-prefix_len-append p (x ∷ xs) ys h = prefix_len_step p x xs ys (p x) refl h (prefix_len-append p xs ys)
+prefix_len-short : (p : ℕ → Bool) (xs ys : List ℕ) → prefix_len p xs < length xs → prefix_len p (xs ++ ys) ≡ prefix_len p xs
+prefix_len-short p xs ys l = prefix_len-append p xs ys ∙ rw (other_number (prefix_len p xs) (length xs) l) refl
+
+-- one that doesn't goes on
+prefix_len-full : (p : ℕ → Bool) (xs ys : List ℕ) → prefix_len p xs ≡ length xs → prefix_len p (xs ++ ys) ≡ length xs + prefix_len p ys
+prefix_len-full p xs ys e = prefix_len-append p xs ys ∙ rw (same_number (prefix_len p xs) (length xs) e) refl
 
 -- a lexeme with more bytes behind it
 abbrev pub extended : Lexeme → List ℕ → Lexeme
@@ -75,7 +82,7 @@ module _ (b : ℕ) (bs more : List ℕ) where
       → token ((b ∷ bs) ++ more) (Symbol (take_while is_symbol_byte ((b ∷ bs) ++ more))) (drop (prefix_len is_symbol_byte ((b ∷ bs) ++ more)) ((b ∷ bs) ++ more))
       ≡ extended (token (b ∷ bs) (Symbol (take_while is_symbol_byte (b ∷ bs))) (drop (prefix_len is_symbol_byte (b ∷ bs)) (b ∷ bs))) more
   word_append h =
-      let front = prefix_len-append is_symbol_byte (b ∷ bs) more h in
+      let front = prefix_len-short is_symbol_byte (b ∷ bs) more h in
       let le : prefix_len is_symbol_byte (b ∷ bs) ≤ length (b ∷ bs) = omega arith in
       let e1 = take-append-le (prefix_len is_symbol_byte (b ∷ bs)) (b ∷ bs) more le in
       let e2 = drop-append-le (prefix_len is_symbol_byte (b ∷ bs)) (b ∷ bs) more le in
@@ -141,7 +148,15 @@ module _ (b : ℕ) (bs more : List ℕ) where
   word_goes_on : drop (prefix_len is_symbol_byte (b ∷ bs)) (b ∷ bs) ≡ []
       → token ((b ∷ bs) ++ more) (Symbol (take_while is_symbol_byte ((b ∷ bs) ++ more))) (drop (prefix_len is_symbol_byte ((b ∷ bs) ++ more)) ((b ∷ bs) ++ more))
       ≡ token ((b ∷ bs) ++ more) (Symbol (take_while is_symbol_byte (b ∷ bs) ++ take_while is_symbol_byte more)) (drop (prefix_len is_symbol_byte more) more)
-  word_goes_on e = ?
+  word_goes_on e =
+      let xs = b ∷ bs in
+      let p = is_symbol_byte in
+      let full : prefix_len p xs ≡ length xs = omega (arith, prefix_len-le-length p xs, length-drop (prefix_len p xs) xs, ap length e) in
+      let name : take (prefix_len p xs) xs ≡ xs = take_all (prefix_len p xs) xs (omega arith) in
+      ap (λ n. token (xs ++ more) (Symbol (take n (xs ++ more))) (drop n (xs ++ more))) (prefix_len-full p xs more full)
+      ∙ ap (λ w. token (xs ++ more) (Symbol w) (drop (length xs + prefix_len p more) (xs ++ more))) (take-append-add xs more (prefix_len p more))
+      ∙ ap (λ d. token (xs ++ more) (Symbol (xs ++ take_while p more)) d) (drop-append-add xs more (prefix_len p more))
+      ∙ ap (λ w. token (xs ++ more) (Symbol (w ++ take_while p more)) (drop (prefix_len p more) more)) (sym name)
 
   goes_on_by_first : (u v w x : Bool) → is_blank b ≡ u → eqb b 40 ≡ v → eqb b 41 ≡ w → is_symbol_byte b && not (is_digit b) ≡ x
       → GoesOn (lexeme bs) more (lexeme (bs ++ more)) → GoesOn (lexeme (b ∷ bs)) more (lexeme ((b ∷ bs) ++ more))

@@ -1,1 +1,4 @@
 pub mod Lexemes
+pub mod Runs
+pub mod Answers
+pub mod Settled

@@ -1,11 +1,13 @@
 //! Reads s-expressions from bytes that come in pieces.
 #![tactic(auto)]
 
+mod law;
 mod lexeme;
 mod reader;
 mod scan;
 mod step;
 
+pub use law::reads_in_one_way;
 pub use reader::Reader;
 use smt_meaning::{FaultKind, SExpr};
 

@@ -51,6 +51,6 @@ pub returns-else-is_symbol_byte : goal.returns-else-is_symbol_byte
 returns-else-is_symbol_byte c =
     wrongs _ _ _ c.in-Some.ensures.cases.0 c.requires c.if-byte-eq40.false c.if-byte-eq41.false
     (elim c.else-is_symbol_byte.branch [
-    else-is_symbol_byte-via-then-is_symbol_byte+else-not-is_digit w ↦ grind (arith, common_steps)
-    | else-is_symbol_byte-via-else-is_symbol_byte w ↦ grind (arith, common_steps)
+      | else-is_symbol_byte-via-then-is_symbol_byte+else-not-is_digit w ↦ grind (arith, common_steps)
+      | else-is_symbol_byte-via-else-is_symbol_byte w ↦ grind (arith, common_steps)
     ])
