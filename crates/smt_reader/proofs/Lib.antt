@@ -2,3 +2,4 @@ pub mod Lexemes
 pub mod Runs
 pub mod Answers
 pub mod Settled
+pub mod Scans

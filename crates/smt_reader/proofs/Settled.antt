@@ -6,7 +6,7 @@ use Rattle.smt_meaning.specs.declared.tokens.Token.{Token}
 use Rattle.smt_meaning.specs.declared.tokens.Token.TheVariants.{Enter, Leave, Symbol}
 use Rattle.smt_meaning.specs.declared.tokens.FaultKind.TheVariants.{Character, Closing, Unfinished}
 use Rattle.smt_reader.specs.Scan.{IsWhole, FirstIs, IsStuck, IsUnsettled}
-use Rattle.smt_reader.proofs.Lexemes.{lexeme-append, lexeme-leave, lexeme-wrong, word_goes_on_at_end, extended, EndsWithin, IsEnded}
+use Rattle.smt_reader.proofs.Lexemes.{lexeme-append, lexeme-leave, lexeme-wrong, word_goes_on_at_end, extended, EndsWithin, IsEnded, Fits, lexeme_fits}
 use Rattle.smt_reader.proofs.Runs.{Lexes-push, Opens-push, Lexes-shorter, token_shorter}
 use Rattle.smt_reader.proofs.Answers.{one_answer}
 
@@ -58,3 +58,6 @@ wrong_stays left from more is = lexeme-append left more (subst EndsWithin (sym i
 
 pub nothing_behind : (left more : List ℕ) → lexeme left ≡ nothing → lexeme (left ++ more) ≡ lexeme more
 nothing_behind left more is = lexeme-append left more (subst EndsWithin (sym is) tt) ∙ ap (λ l. extended l more) is
+
+pub wrong_shorter : (left from : List ℕ) → lexeme left ≡ wrong from → length from ≤ length left
+wrong_shorter left from is = subst (Fits (length left)) is (lexeme_fits left)
