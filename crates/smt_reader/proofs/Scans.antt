@@ -50,7 +50,7 @@ stands_on bytes left after finished tokens t depth next s first o some = record 
   shorter = let one = token_shorter left first.start after t first.lexes in omega (arith, s.shorter)
 }
 
-abbrev IsReady : List ℕ → Bool → List Token → List ℕ → Type 0
+abbrev pub IsReady : List ℕ → Bool → List Token → List ℕ → Type 0
 IsReady bytes finished tokens after = IsSExpr tokens × ((more : List ℕ) → MayFollow finished more → Lexes (bytes ++ more) tokens (after ++ more)) × (length after < length bytes)
 
 -- the list's last parenthesis
@@ -145,10 +145,6 @@ record StopsShort (bytes : List ℕ) (depth : ℕ) : Type 0 where
   lexes_later : Lexes (bytes ++ 255 ∷ []) read later
   wrong_later : lexeme later ≡ wrong (255 ∷ [])
 
-no_symbol : is_symbol_byte 255 ≡ false
-unfolding is_symbol_byte
-no_symbol = refl
-
 byte_is_wrong : lexeme (255 ∷ []) ≡ wrong (255 ∷ [])
 unfolding is_symbol_byte
 byte_is_wrong = lexeme-wrong 255 [] refl refl refl refl
@@ -158,7 +154,8 @@ unfolding lexeme
 lexeme_none = refl
 
 word_then_wrong : (left start name : List ℕ) → lexeme left ≡ token start (Symbol name) [] → lexeme (left ++ 255 ∷ []) ≡ token (start ++ 255 ∷ []) (Symbol name) (255 ∷ [])
-word_then_wrong left start name is = ?
+unfolding is_symbol_byte
+word_then_wrong left start name is = word_goes_on_at_end left (255 ∷ []) start name is ∙ ap (λ n. token (start ++ 255 ∷ []) (Symbol n) (255 ∷ [])) (append-nil name)
 
 stops_short : (bytes left : List ℕ) (tokens : List Token) (depth : ℕ) → Stands bytes false tokens depth left → IsStuck false left → StopsShort bytes depth
 stops_short bytes left tokens depth s (inl none) = record {
@@ -188,7 +185,7 @@ stops_short bytes left tokens depth s (inr (going, start, name, is)) = record {
 pub list_unfinished : (bytes from after left : List ℕ) (finished : Bool) (tokens : List Token) (depth : ℕ) → finished ≡ true → lexeme bytes ≡ token from Enter after
     → Stands bytes finished tokens depth left → IsStuck finished left
     → ((more : List ℕ) → MayFollow finished more → HasUnfinished (bytes ++ more) (from ++ more)) × (length from ≤ length bytes)
-list_unfinished bytes from after left true tokens depth e is s (inr (going, x)) = absurd cc
+list_unfinished bytes from after left true tokens depth e is s (inr (going, start, name, word)) = absurd cc
 list_unfinished bytes from after left false tokens depth e is s x = absurd cc
 list_unfinished bytes from after left true tokens depth e is s (inl none) = (
     (λ more may.
@@ -230,7 +227,8 @@ blank_unsettled bytes false e none =
     (λ place same. cc)
 
 word_and_letter : (bytes start name : List ℕ) → lexeme bytes ≡ token start (Symbol name) [] → lexeme (bytes ++ 97 ∷ []) ≡ token (start ++ 97 ∷ []) (Symbol (name ++ 97 ∷ [])) []
-word_and_letter bytes start name is = ?
+unfolding is_symbol_byte
+word_and_letter bytes start name is = word_goes_on_at_end bytes (97 ∷ []) start name is
 
 longer : (name : List ℕ) → Symbol name ∷ [] ≡ Symbol (name ++ 97 ∷ []) ∷ [] → ⊥
 longer name same = let e : name ≡ name ++ 97 ∷ [] = cc in omega (arith, length-append name (97 ∷ []), ap length e)
