@@ -1,8 +1,7 @@
 -- An input has one first answer.
-use Rattle.std.proofs.Common.{◌≡◌, ◌<◌, ◌≤◌, ℕ, ◌+◌, ◌-◌, Bool, true, false, inl, inr, List, [], ◌∷◌, ◌++◌, length, arith, refl, sym, ◌∙◌, ap, subst, eqb, cond}
-use Rattle.smt_meaning.specs.Reading.{lexeme, Lexeme, token, wrong, nothing, Lexes, Shape, opening, closing, single, shape, shapes, Opens, Completes, IsSExpr, IsWrong, HasCharacter, HasClosing, HasUnfinished, HasFault, First, Answer, ready, fault, end}
+use Rattle.std.proofs.Common.{◌≡◌, ℕ, ◌+◌, ◌-◌, inl, inr, List, [], ◌∷◌, ◌++◌, length, arith, refl, sym, ◌∙◌, ap, subst, eqb, cond}
+use Rattle.smt_meaning.specs.Reading.{lexeme, Lexeme, token, wrong, nothing, Lexes, Shape, opening, closing, single, shape, shapes, Opens, Completes, IsSExpr, IsWrong, HasCharacter, HasClosing, HasUnfinished, First, Answer, ready, fault, end}
 use Rattle.smt_meaning.specs.declared.tokens.Token.{Token}
-use Rattle.smt_meaning.specs.declared.tokens.Token.TheVariants.{Enter, Leave}
 use Rattle.smt_meaning.specs.declared.tokens.FaultKind.TheVariants.{Character, Closing, Unfinished}
 use Rattle.smt_reader.proofs.Runs.{Stops, same_run}
 
@@ -87,7 +86,7 @@ ready_verdict total bytes rest ts (front, n, last, is, o, c) l =
       opens = subst (λ ss. Opens 0 ss n) (sym split.front_is) o;
       lexes = pop.lexes;
       stops = subst (Stops n) (sym pop.is) (completes_stops n (shape split.t) c');
-      is = ap ready split.all ∙ completes_ready total n split.read pop.start split.t (shape split.t) c' ∙ ap (verdict total bytes split.read n) (sym pop.is)
+      is = ap ready split.all ∙ completes_ready total n split.read pop.start split.t (shape split.t) c' ∙ ap (verdict total bytes split.read n) (sym pop.is);
     }
 
 place_is : (at total : ℕ) (from : List ℕ) → at + length from ≡ total → at ≡ total - length from
@@ -104,7 +103,7 @@ character_verdict at total bytes from h e = by_wrong h.is_wrong where
     opens = h.opens;
     lexes = h.lexes;
     stops = subst (Stops h.depth) (sym w) tt;
-    is = ap (fault Character) (place_is at total from e) ∙ ap (verdict total bytes h.read h.depth) (sym w)
+    is = ap (fault Character) (place_is at total from e) ∙ ap (verdict total bytes h.read h.depth) (sym w);
   }
   by_wrong (inr (two, after, is)) = record {
     read = h.read;
@@ -113,7 +112,7 @@ character_verdict at total bytes from h e = by_wrong h.is_wrong where
     opens = h.opens;
     lexes = h.lexes;
     stops = subst (Stops h.depth) (sym is) (λ k o. omega (arith, two, o.0));
-    is = ap (fault Character) (place_is at total from e) ∙ ap (verdict total bytes h.read h.depth) (sym is)
+    is = ap (fault Character) (place_is at total from e) ∙ ap (verdict total bytes h.read h.depth) (sym is);
   }
 
 closing_verdict : (at total : ℕ) (bytes from : List ℕ) → HasClosing bytes from → at + length from ≡ total → Verdict total bytes (fault Closing at)
@@ -125,7 +124,7 @@ closing_verdict at total bytes from h e = record {
   opens = refl;
   lexes = refl;
   stops = subst (Stops 0) (sym h.leave) (λ k o. omega (arith, o.0));
-  is = ap (fault Closing) (place_is at total from e) ∙ ap (verdict total bytes [] 0) (sym h.leave)
+  is = ap (fault Closing) (place_is at total from e) ∙ ap (verdict total bytes [] 0) (sym h.leave);
 }
 
 unfinished_verdict : (at total : ℕ) (bytes from : List ℕ) → HasUnfinished bytes from → at + length from ≡ total → Verdict total bytes (fault Unfinished at)
@@ -137,7 +136,7 @@ unfinished_verdict at total bytes from h e = record {
   opens = h.opens;
   lexes = (from, h.after, h.begins, h.lexes);
   stops = subst (Stops h.depth) (sym h.nothing_left) tt;
-  is = ap (fault Unfinished) (place_is at total from e) ∙ ap (at_end total) (sym h.begins) ∙ ap (verdict total bytes (h.first ∷ h.read) h.depth) (sym h.nothing_left)
+  is = ap (fault Unfinished) (place_is at total from e) ∙ ap (at_end total) (sym h.begins) ∙ ap (verdict total bytes (h.first ∷ h.read) h.depth) (sym h.nothing_left);
 }
 
 end_verdict : (total : ℕ) (bytes : List ℕ) → lexeme bytes ≡ nothing → Verdict total bytes end
@@ -149,7 +148,7 @@ end_verdict total bytes e = record {
   opens = refl;
   lexes = refl;
   stops = subst (Stops 0) (sym e) tt;
-  is = ap (at_end total) (sym e) ∙ ap (verdict total bytes [] 0) (sym e)
+  is = ap (at_end total) (sym e) ∙ ap (verdict total bytes [] 0) (sym e);
 }
 
 verdict_of : (place : ℕ) (bytes : List ℕ) (a : Answer) → First place bytes a → Verdict (place + length bytes) bytes a

@@ -1,6 +1,6 @@
 -- The lexeme of bytes, by their first byte, and with more bytes behind.
-use Rattle.std.proofs.Common.{◌≡◌, ◌<◌, ◌≤◌, ℕ, ◌+◌, Bool, true, false, ◌&&◌, not, List, [], ◌∷◌, ◌++◌, length, take, drop, suc, arith, refl, sym, ◌∙◌, ap, eqb, cond, length-drop}
-use Rattle.std.proofs.lemmas.List.{take-append-le, drop-append-le, take_all}
+use Rattle.std.proofs.Common.{◌≡◌, ◌<◌, ◌≤◌, ℕ, ◌+◌, Bool, true, false, ◌&&◌, not, List, [], ◌∷◌, ◌++◌, length, take, drop, suc, arith, refl, sym, ◌∙◌, ap, eqb, length-drop}
+use Rattle.std.proofs.lemmas.List.{take-append-le, drop-append-le, take_all, take-append-drop}
 use Rattle.std.proofs.lemmas.List.Folds.{prefix_len-append}
 use Rattle.std.proofs.lemmas.List.Sums.{prefix_len-le-length}
 use Rattle.std.proofs.Math.Seq.{take-append-add, drop-append-add}
@@ -137,6 +137,31 @@ pub lexeme_fits : (bytes : List ℕ) → Fits (length bytes) (lexeme bytes)
 unfolding lexeme
 lexeme_fits [] = tt
 lexeme_fits (b ∷ bs) = fits_by_first b bs (is_blank b) (eqb b 40) (eqb b 41) (is_symbol_byte b && not (is_digit b)) refl refl refl refl (lexeme_fits bs)
+
+-- what comes after a token is the end of the bytes
+abbrev pub IsBehind : List ℕ → Lexeme → Type 0
+IsBehind bytes (token start t after) = (front : List ℕ) × (bytes ≡ front ++ after)
+IsBehind bytes (wrong start) = ⊤
+IsBehind bytes nothing = ⊤
+
+IsBehind-cons : (b : ℕ) (bytes : List ℕ) (l : Lexeme) → IsBehind bytes l → IsBehind (b ∷ bytes) l
+IsBehind-cons b bytes (token start t after) (front, is) = (b ∷ front, ap (λ xs. b ∷ xs) is)
+IsBehind-cons b bytes (wrong start) h = tt
+IsBehind-cons b bytes nothing h = tt
+
+behind_by_first : (b : ℕ) (bs : List ℕ) (u v w x : Bool) → is_blank b ≡ u → eqb b 40 ≡ v → eqb b 41 ≡ w → is_symbol_byte b && not (is_digit b) ≡ x
+    → IsBehind bs (lexeme bs) → IsBehind (b ∷ bs) (lexeme (b ∷ bs))
+behind_by_first b bs true v w x eu ev ew ex again = rw (lexeme-blank b bs eu) (IsBehind-cons b bs (lexeme bs) again)
+behind_by_first b bs false true w x eu ev ew ex again = rw (lexeme-enter b bs eu ev) (b ∷ [], refl)
+behind_by_first b bs false false true x eu ev ew ex again = rw (lexeme-leave b bs eu ev ew) (b ∷ [], refl)
+behind_by_first b bs false false false true eu ev ew ex again =
+    rw (lexeme-word b bs eu ev ew ex) (take_while is_symbol_byte (b ∷ bs), sym (take-append-drop (prefix_len is_symbol_byte (b ∷ bs)) (b ∷ bs)))
+behind_by_first b bs false false false false eu ev ew ex again = rw (lexeme-wrong b bs eu ev ew ex) tt
+
+pub lexeme_behind : (bytes : List ℕ) → IsBehind bytes (lexeme bytes)
+unfolding lexeme
+lexeme_behind [] = tt
+lexeme_behind (b ∷ bs) = behind_by_first b bs (is_blank b) (eqb b 40) (eqb b 41) (is_symbol_byte b && not (is_digit b)) refl refl refl refl (lexeme_behind bs)
 
 -- A word to the end of the bytes
 

@@ -3,3 +3,4 @@ pub mod Runs
 pub mod Answers
 pub mod Settled
 pub mod Scans
+pub mod Unreads

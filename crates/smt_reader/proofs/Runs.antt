@@ -1,9 +1,9 @@
 -- Tokens one after another.
-use Rattle.std.proofs.Common.{◌≡◌, ◌<◌, ◌≤◌, ℕ, ◌+◌, ◌-◌, List, [], ◌∷◌, ◌++◌, length, arith, refl, sym, ◌∙◌, ap, subst}
+use Rattle.std.proofs.Common.{◌≡◌, ◌<◌, ◌≤◌, ℕ, ◌+◌, ◌-◌, List, [], ◌∷◌, ◌++◌, length, arith, refl, sym, ◌∙◌, ap, subst, append_assoc}
 use Rattle.std.specs.Prelude.{⊤}
-use Rattle.smt_meaning.specs.Reading.{lexeme, Lexeme, token, wrong, nothing, Lexes, Shape, opening, closing, single, shape, shapes, Opens, Completes}
+use Rattle.smt_meaning.specs.Reading.{lexeme, Lexeme, token, wrong, nothing, Lexes, Shape, opening, closing, single, shape, shapes, Opens}
 use Rattle.smt_meaning.specs.declared.tokens.Token.{Token}
-use Rattle.smt_reader.proofs.Lexemes.{Fits, lexeme_fits}
+use Rattle.smt_reader.proofs.Lexemes.{Fits, lexeme_fits, IsBehind, lexeme_behind}
 
 pub Lexes-push : (bytes mid start after : List ℕ) (ts : List Token) (t : Token) → Lexes bytes ts mid → lexeme mid ≡ token start t after → Lexes bytes (ts ++ t ∷ []) after
 Lexes-push bytes mid start after [] t l e = (start, after, rw l e, refl)
@@ -30,6 +30,14 @@ token_shorter bytes start after t e = subst (Fits (length bytes)) e (lexeme_fits
 pub Lexes-shorter : (bytes left : List ℕ) (ts : List Token) → Lexes bytes ts left → length left ≤ length bytes
 Lexes-shorter bytes left [] l = omega (arith, ap length l)
 Lexes-shorter bytes left (t ∷ ts) (start, after, is, l) = let one = token_shorter bytes start after t is in omega (arith, Lexes-shorter after left ts l)
+
+-- and it is the end of the bytes
+pub Lexes-behind : (bytes left : List ℕ) (ts : List Token) → Lexes bytes ts left → (front : List ℕ) × (bytes ≡ front ++ left)
+Lexes-behind bytes left [] l = ([], l)
+Lexes-behind bytes left (t ∷ ts) (start, after, is, l) =
+    let one = subst (IsBehind bytes) is (lexeme_behind bytes) in
+    let more = Lexes-behind after left ts l in
+    (one.0 ++ more.0, one.1 ∙ ap (λ xs. one.0 ++ xs) more.1 ∙ sym (append_assoc one.0 more.0 left))
 
 -- No token that l is goes on inside n open lists.
 abbrev pub Stops : ℕ → Lexeme → Type 0

@@ -1,14 +1,12 @@
 -- What has been read of a list, and what is found by it.
-use Rattle.std.specs.Prelude.{⊤}
-use Rattle.std.proofs.Common.{◌≡◌, ◌<◌, ◌≤◌, ℕ, ◌+◌, ◌-◌, Bool, true, false, inl, inr, List, [], ◌∷◌, ◌++◌, length, take, drop, arith, refl, sym, ◌∙◌, ap, subst, append-nil, cond, length-append}
-use Rattle.std.specs.List.{take_while, prefix_len}
-use Rattle.smt_meaning.specs.Reading.{lexeme, token, wrong, nothing, Lexes, Shape, opening, closing, single, shape, shapes, Opens, IsSExpr, IsWrong, HasCharacter, HasClosing, HasUnfinished, First, Answer, ready, fault, end, MayFollow, is_symbol_byte}
+use Rattle.std.proofs.Common.{◌≡◌, ◌<◌, ◌≤◌, ℕ, ◌+◌, ◌-◌, Bool, true, false, inl, inr, List, [], ◌∷◌, ◌++◌, length, arith, refl, ◌∙◌, ap, subst, append-nil, length-append}
+use Rattle.smt_meaning.specs.Reading.{lexeme, token, wrong, nothing, Lexes, Shape, opening, closing, single, shape, shapes, Opens, IsSExpr, IsWrong, HasCharacter, HasClosing, HasUnfinished, ready, fault, end, MayFollow, is_symbol_byte}
 use Rattle.smt_meaning.specs.declared.tokens.Token.{Token}
 use Rattle.smt_meaning.specs.declared.tokens.Token.TheVariants.{Enter, Leave, Symbol}
 use Rattle.smt_meaning.specs.declared.tokens.FaultKind.TheVariants.{Character, Closing, Unfinished}
-use Rattle.smt_reader.specs.Scan.{IsWhole, FirstIs, IsStuck, IsUnsettled}
+use Rattle.smt_reader.specs.Scan.{FirstIs, IsStuck, IsUnsettled}
 use Rattle.smt_reader.proofs.Lexemes.{lexeme-leave, lexeme-wrong, word_goes_on_at_end}
-use Rattle.smt_reader.proofs.Runs.{Lexes-push, Opens-push, shapes-push, Lexes-shorter, token_shorter}
+use Rattle.smt_reader.proofs.Runs.{Lexes-push, Opens-push, shapes-push, token_shorter}
 use Rattle.smt_reader.proofs.Settled.{unsettled, whole_token, wrong_stays, wrong_shorter, nothing_behind}
 
 -- The front of a list: these tokens, with so many lists open behind them, and then what is left.
@@ -25,7 +23,7 @@ stands_at_start bytes from after finished is = record {
   some = omega arith;
   bound = omega arith;
   lexes = λ more may. (from ++ more, after ++ more, whole_token finished Enter bytes from after more is tt may, refl);
-  shorter = let s = token_shorter bytes from after Enter is in omega arith
+  shorter = let s = token_shorter bytes from after Enter is in omega arith;
 }
 
 depth_bound : (m n : ℕ) (s : Shape) → m ≤ 2 → Opens m (s ∷ []) n → n ≤ 2
@@ -47,7 +45,7 @@ stands_on bytes left after finished tokens t depth next s first o some = record 
   some = some;
   bound = depth_bound depth next (shape t) s.bound o;
   lexes = lexes_more bytes left after finished tokens t s.lexes first;
-  shorter = let one = token_shorter left first.start after t first.lexes in omega (arith, s.shorter)
+  shorter = let one = token_shorter left first.start after t first.lexes in omega (arith, s.shorter);
 }
 
 abbrev pub IsReady : List ℕ → Bool → List Token → List ℕ → Type 0
@@ -57,17 +55,17 @@ IsReady bytes finished tokens after = IsSExpr tokens × ((more : List ℕ) → M
 pub list_ends : (bytes left after : List ℕ) (finished : Bool) (tokens : List Token) (depth : ℕ) → Stands bytes finished tokens depth left
     → FirstIs left finished Leave after → depth ≡ 1 → IsReady bytes finished (tokens ++ Leave ∷ []) after
 list_ends bytes left after finished tokens depth s first one = (
-    (shapes tokens, depth, closing, shapes-push tokens Leave, s.opens, one),
-    lexes_more bytes left after finished tokens Leave s.lexes first,
-    let shorter = token_shorter left first.start after Leave first.lexes in omega (arith, s.shorter)
+  (shapes tokens, depth, closing, shapes-push tokens Leave, s.opens, one),
+  lexes_more bytes left after finished tokens Leave s.lexes first,
+  let shorter = token_shorter left first.start after Leave first.lexes in omega (arith, s.shorter),
 )
 
 -- a word at top level
 pub word_ends : (bytes after name : List ℕ) (finished : Bool) → FirstIs bytes finished (Symbol name) after → IsReady bytes finished (Symbol name ∷ []) after
 word_ends bytes after name finished first = (
-    ([], 0, single, refl, refl, refl),
-    (λ more may. (first.start ++ more, after ++ more, whole_token finished (Symbol name) bytes first.start after more first.lexes first.whole may, refl)),
-    let shorter = token_shorter bytes first.start after (Symbol name) first.lexes in omega arith
+  ([], 0, single, refl, refl, refl),
+  (λ more may. (first.start ++ more, after ++ more, whole_token finished (Symbol name) bytes first.start after more first.lexes first.whole may, refl)),
+  let shorter = token_shorter bytes first.start after (Symbol name) first.lexes in omega arith,
 )
 
 wrong_more : (finished : Bool) (depth : ℕ) (left from more : List ℕ) → IsWrong depth left from → MayFollow finished more → IsWrong depth (left ++ more) (from ++ more)
@@ -84,35 +82,35 @@ IsMisplaced bytes finished from = ((more : List ℕ) → MayFollow finished more
 pub list_wrong : (bytes left from : List ℕ) (finished : Bool) (tokens : List Token) (depth : ℕ) → Stands bytes finished tokens depth left
     → IsWrong depth left from → IsMisplaced bytes finished from
 list_wrong bytes left from finished tokens depth s w = (
-    (λ more may. record {
-      read = tokens;
-      depth = depth;
-      rest = left ++ more;
-      opens = s.opens;
-      lexes = s.lexes more may;
-      is_wrong = wrong_more finished depth left from more w may
-    }),
-    let within = wrong_within depth left from w in omega (arith, s.shorter)
+  (λ more may. record {
+    read = tokens;
+    depth = depth;
+    rest = left ++ more;
+    opens = s.opens;
+    lexes = s.lexes more may;
+    is_wrong = wrong_more finished depth left from more w may;
+  }),
+  let within = wrong_within depth left from w in omega (arith, s.shorter),
 )
 
 pub top_wrong : (bytes from : List ℕ) (finished : Bool) → lexeme bytes ≡ wrong from → IsMisplaced bytes finished from
 top_wrong bytes from finished w = (
-    (λ more may. record {
-      read = [];
-      depth = 0;
-      rest = bytes ++ more;
-      opens = refl;
-      lexes = refl;
-      is_wrong = inl (wrong_stays bytes from more w)
-    }),
-    wrong_shorter bytes from w
+  (λ more may. record {
+    read = [];
+    depth = 0;
+    rest = bytes ++ more;
+    opens = refl;
+    lexes = refl;
+    is_wrong = inl (wrong_stays bytes from more w);
+  }),
+  wrong_shorter bytes from w,
 )
 
 pub top_closing : (bytes from after : List ℕ) (finished : Bool) → lexeme bytes ≡ token from Leave after
     → ((more : List ℕ) → MayFollow finished more → HasClosing (bytes ++ more) (from ++ more)) × (length from ≤ length bytes)
 top_closing bytes from after finished is = (
-    (λ more may. record { after = after ++ more; leave = whole_token finished Leave bytes from after more is tt may }),
-    (token_shorter bytes from after Leave is).1
+  (λ more may. record { after = after ++ more; leave = whole_token finished Leave bytes from after more is tt may }),
+  (token_shorter bytes from after Leave is).1,
 )
 
 -- The bytes end inside the list that begins at the front of from.
@@ -131,7 +129,7 @@ unfinished_from bytes from after left (t ∷ ts) depth is o some (start, behind,
       rest = left;
       opens = o;
       lexes = l;
-      nothing_left = none
+      nothing_left = none;
     }
 
 -- the same with the byte 255 behind, which begins no token
@@ -166,7 +164,7 @@ stops_short bytes left tokens depth s (inl none) = record {
   nothing_now = none;
   later = left ++ 255 ∷ [];
   lexes_later = s.lexes (255 ∷ []) tt;
-  wrong_later = nothing_behind left (255 ∷ []) none ∙ byte_is_wrong
+  wrong_later = nothing_behind left (255 ∷ []) none ∙ byte_is_wrong;
 }
 stops_short bytes left tokens depth s (inr (going, start, name, is)) = record {
   read = tokens ++ Symbol name ∷ [];
@@ -178,7 +176,7 @@ stops_short bytes left tokens depth s (inr (going, start, name, is)) = record {
   nothing_now = lexeme_none;
   later = 255 ∷ [];
   lexes_later = Lexes-push (bytes ++ 255 ∷ []) (left ++ 255 ∷ []) (start ++ 255 ∷ []) (255 ∷ []) tokens (Symbol name) (s.lexes (255 ∷ []) tt) (word_then_wrong left start name is);
-  wrong_later = byte_is_wrong
+  wrong_later = byte_is_wrong;
 }
 
 -- whatever bytes may follow: none do
@@ -188,11 +186,11 @@ pub list_unfinished : (bytes from after left : List ℕ) (finished : Bool) (toke
 list_unfinished bytes from after left true tokens depth e is s (inr (going, start, name, word)) = absurd cc
 list_unfinished bytes from after left false tokens depth e is s x = absurd cc
 list_unfinished bytes from after left true tokens depth e is s (inl none) = (
-    (λ more may.
-    let l = subst (λ b. Lexes b tokens left) (append-nil bytes) (subst (λ r. Lexes (bytes ++ []) tokens r) (append-nil left) (s.lexes [] refl)) in
-    let h = unfinished_from bytes from after left tokens depth is s.opens s.some l none in
-    rw (may, append-nil bytes, append-nil from) h),
-    (token_shorter bytes from after Enter is).1
+  (λ more may.
+      let l = subst (λ b. Lexes b tokens left) (append-nil bytes) (subst (λ r. Lexes (bytes ++ []) tokens r) (append-nil left) (s.lexes [] refl)) in
+      let h = unfinished_from bytes from after left tokens depth is s.opens s.some l none in
+      rw (may, append-nil bytes, append-nil from) h),
+  (token_shorter bytes from after Enter is).1,
 )
 
 -- No answer is settled inside a list that more bytes may close.
@@ -204,14 +202,18 @@ list_unsettled bytes from after left false tokens depth e is s stuck =
     let within = token_shorter bytes from after Enter is in
     unsettled bytes (255 ∷ []) (λ place. fault Unfinished (place + length bytes - length from)) (λ place. fault Character (place + length bytes))
     (λ place. (from, unfinished_from bytes from after short.now short.read depth is short.opens s.some short.lexes_now short.nothing_now, omega (arith, within.1)))
-    (λ place. (255 ∷ [], record {
-      read = short.read;
-      depth = depth;
-      rest = short.later;
-      opens = short.opens;
-      lexes = short.lexes_later;
-      is_wrong = inl short.wrong_later
-    }, omega (arith, length-append bytes (255 ∷ []))))
+    (λ place. (
+      255 ∷ [],
+      record {
+        read = short.read;
+        depth = depth;
+        rest = short.later;
+        opens = short.opens;
+        lexes = short.lexes_later;
+        is_wrong = inl short.wrong_later;
+      },
+      omega (arith, length-append bytes (255 ∷ [])),
+    ))
     (λ place same. cc)
 
 leave_is : lexeme (41 ∷ []) ≡ token (41 ∷ []) Leave []

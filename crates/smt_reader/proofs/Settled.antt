@@ -1,16 +1,12 @@
 -- What is settled, and what isn't.
-use Rattle.std.proofs.Common.{◌≡◌, ◌<◌, ◌≤◌, ℕ, ◌+◌, ◌-◌, Bool, true, false, inl, inr, List, [], ◌∷◌, ◌++◌, length, arith, refl, sym, ◌∙◌, ap, subst, append-nil, append_assoc, ◌≢◌}
-use Rattle.std.specs.List.{take_while, prefix_len}
-use Rattle.smt_meaning.specs.Reading.{lexeme, Lexeme, token, wrong, nothing, Lexes, Shape, opening, closing, single, shape, shapes, Opens, Completes, IsSExpr, IsWrong, HasCharacter, HasClosing, HasUnfinished, HasFault, First, Answer, ready, fault, end, Unread, MayFollow, IsSettled, is_symbol_byte}
+use Rattle.std.proofs.Common.{◌≡◌, ◌≤◌, ℕ, Bool, true, false, inl, inr, List, [], ◌++◌, length, refl, sym, ◌∙◌, ap, subst, append-nil}
+use Rattle.smt_meaning.specs.Reading.{lexeme, token, wrong, nothing, Shape, opening, closing, single, shape, First, Answer, Unread, MayFollow, IsSettled}
 use Rattle.smt_meaning.specs.declared.tokens.Token.{Token}
-use Rattle.smt_meaning.specs.declared.tokens.Token.TheVariants.{Enter, Leave, Symbol}
-use Rattle.smt_meaning.specs.declared.tokens.FaultKind.TheVariants.{Character, Closing, Unfinished}
-use Rattle.smt_reader.specs.Scan.{IsWhole, FirstIs, IsStuck, IsUnsettled}
-use Rattle.smt_reader.proofs.Lexemes.{lexeme-append, lexeme-leave, lexeme-wrong, word_goes_on_at_end, extended, EndsWithin, IsEnded, Fits, lexeme_fits}
-use Rattle.smt_reader.proofs.Runs.{Lexes-push, Opens-push, Lexes-shorter, token_shorter}
+use Rattle.smt_reader.specs.Scan.{IsWhole, IsUnsettled}
+use Rattle.smt_reader.proofs.Lexemes.{lexeme-append, extended, EndsWithin, IsEnded, Fits, lexeme_fits}
 use Rattle.smt_reader.proofs.Answers.{one_answer}
 
-nothing_may_follow : (finished : Bool) → MayFollow finished []
+pub nothing_may_follow : (finished : Bool) → MayFollow finished []
 nothing_may_follow true = refl
 nothing_may_follow false = tt
 

@@ -60,7 +60,7 @@ impl Reader {
         ensures err { OnErr result (self.new ≡ self.old) }
     {
         let len = self.bytes.len();
-        match scan(alloc, &self.bytes[self.at..], self.finished)? {
+        match scan(alloc, self.unread(), self.finished)? {
             Found::Ready(sexpr, after) => {
                 self.at = len - after.len();
                 Ok(Next::Ready(sexpr))
@@ -69,5 +69,12 @@ impl Reader {
             Found::NeedMore => Ok(Next::NeedMore),
             Found::End => Ok(Next::End),
         }
+    }
+
+    /// The bytes that aren't read.
+    fn unread(&self) -> &[u8]
+        ensures { result.now ≡ self.now.bytes }
+    {
+        &self.bytes[self.at..]
     }
 }

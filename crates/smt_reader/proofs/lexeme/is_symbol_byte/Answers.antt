@@ -1,4 +1,4 @@
-use Rattle.std.proofs.Common.{rules, arith}
+use Rattle.std.proofs.Common.{arith}
 use Rattle.std.proofs.lemmas.Grind.{common_steps}
 use Rattle.smt_meaning.specs.Reading.{is_symbol_byte}
 use Rattle.smt_reader.proofs.lexeme.is_symbol_byte.Goals as goal

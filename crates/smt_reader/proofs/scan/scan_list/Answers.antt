@@ -1,6 +1,5 @@
-use Rattle.std.proofs.Common.{rules, arith, ◌≡◌, ◌<◌, List, ◌∷◌, [], ◌++◌, length, subst, sym, ap, ◌∙◌}
-use Rattle.smt_reader.specs.Scan.{token_of}
-use Rattle.smt_meaning.specs.declared.tokens.Token.TheVariants.{Enter, Leave}
+use Rattle.std.proofs.Common.{arith, ◌∷◌, [], ◌++◌, subst, sym, ap, ◌∙◌}
+use Rattle.smt_meaning.specs.declared.tokens.Token.TheVariants.{Enter}
 use Rattle.smt_reader.proofs.Runs.{token_shorter}
 use Rattle.smt_reader.proofs.Scans.{Stands, IsReady, stands_at_start, stands_on, list_ends, list_wrong, list_unfinished, list_unsettled}
 use Rattle.smt_reader.proofs.scan.scan_list.Goals as goal

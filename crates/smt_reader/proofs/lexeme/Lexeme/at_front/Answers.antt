@@ -1,7 +1,7 @@
-use Rattle.std.proofs.Common.{rules, arith, ◌≡◌, ◌≢◌, ◌≤◌, ℕ, Bool, true, false, ◌&&◌, not, List, [], ◌∷◌, length, take, drop, get_or, eqb, refl, sym, ap, ◌∙◌, subst}
+use Rattle.std.proofs.Common.{arith, ◌≡◌, ℕ, true, false, ◌&&◌, not, List, ◌∷◌, drop, get_or, eqb, refl}
 use Rattle.std.proofs.lemmas.Grind.{common_steps}
 use Rattle.std.specs.List.{prefix_len, take_while}
-use Rattle.smt_meaning.specs.Reading.{is_symbol_byte, is_blank, is_digit, lexeme, token, wrong, nothing}
+use Rattle.smt_meaning.specs.Reading.{is_symbol_byte, is_blank, is_digit, lexeme, token, wrong}
 use Rattle.smt_meaning.specs.declared.tokens.Token.TheVariants.{Enter, Leave, Symbol}
 use Rattle.smt_reader.proofs.Lexemes.{lexeme-enter, lexeme-leave, lexeme-word, lexeme-wrong, empty_is_nothing}
 use Rattle.smt_reader.proofs.lexeme.Lexeme.at_front.Goals as goal

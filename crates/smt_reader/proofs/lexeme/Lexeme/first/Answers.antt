@@ -1,4 +1,4 @@
-use Rattle.std.proofs.Common.{rules, arith, ◌≡◌, ◌≤◌, ◌<◌, ℕ, ◌+◌, List, ◌∷◌, length, drop, get_or, drop-cons, add-one, ◌∙◌, sym, true, refl, suc, ap, drop_of_length-le}
+use Rattle.std.proofs.Common.{arith, ◌≡◌, ◌≤◌, ◌<◌, ℕ, ◌+◌, List, length, drop, get_or, drop-cons, add-one, ◌∙◌, sym, true, refl, suc, ap, drop_of_length-le}
 use Rattle.std.proofs.lemmas.Grind.{common_steps}
 use Rattle.smt_meaning.specs.Reading.{lexeme, is_blank, nothing}
 use Rattle.smt_reader.proofs.Lexemes.{lexeme-blank, lexeme-nil}

@@ -1,4 +1,4 @@
-use Rattle.std.proofs.Common.{◌≡◌, ◌+◌, drop}
+use Rattle.std.proofs.Common.{◌≡◌, drop}
 use Rattle.smt_meaning.specs.Reading.{lexeme}
 use Rattle.smt_reader.proofs.lexeme.Lexeme.first.Given as goal
 
