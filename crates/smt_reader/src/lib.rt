@@ -6,6 +6,8 @@ mod lexeme;
 mod reader;
 mod scan;
 mod step;
+#[cfg(test)]
+mod tests;
 
 pub use law::reads_in_one_way;
 pub use reader::Reader;
