@@ -48,6 +48,13 @@ stands_on bytes left after finished tokens t depth next s first o some = record 
   shorter = let one = token_shorter left first.start after t first.lexes in omega (arith, s.shorter);
 }
 
+-- a token pushed that is another
+pub pushed : (new old : List Token) (t u : Token) → new ≡ old ++ t ∷ [] → t ≡ u → old ++ u ∷ [] ≡ new
+pushed new old t u e is = cc
+
+pub pushed_first : (new old : List Token) (t : Token) → new ≡ old ++ t ∷ [] → old ≡ [] → t ∷ [] ≡ new
+pushed_first new old t e none = cc
+
 abbrev pub IsReady : List ℕ → Bool → List Token → List ℕ → Type 0
 IsReady bytes finished tokens after = IsSExpr tokens × ((more : List ℕ) → MayFollow finished more → Lexes (bytes ++ more) tokens (after ++ more)) × (length after < length bytes)
 

@@ -1,13 +1,12 @@
-use Rattle.std.proofs.Common.{arith, ◌∷◌, [], ◌++◌, subst, sym, ap, ◌∙◌}
-use Rattle.smt_meaning.specs.declared.tokens.Token.TheVariants.{Enter}
+use Rattle.std.proofs.Common.{arith, subst, sym, ◌∙◌}
 use Rattle.smt_reader.proofs.Runs.{token_shorter}
-use Rattle.smt_reader.proofs.Scans.{Stands, IsReady, stands_at_start, stands_on, list_ends, list_wrong, list_unfinished, list_unsettled}
+use Rattle.smt_reader.proofs.Scans.{Stands, IsReady, pushed, pushed_first, stands_at_start, stands_on, list_ends, list_wrong, list_unfinished, list_unsettled}
 use Rattle.smt_reader.proofs.scan.scan_list.Goals as goal
 
 pub loop-piece-init : goal.loop-piece-init
 loop-piece-init c =
     let start = stands_at_start c.args.bytes.now c.args.from.now c.args.after.now c.args.finished c.requires in
-    subst (λ ts. Stands c.args.bytes.now c.args.finished ts 1 c.args.after.now) (sym (c.in_ok-push.ensures.items ∙ ap (λ ts. ts ++ Enter ∷ []) c.new-tokens.ensures.items)) start
+    subst (λ ts. Stands c.args.bytes.now c.args.finished ts 1 c.args.after.now) (pushed_first _ _ _ c.in_ok-push.ensures.items c.new-tokens.ensures.items) start
 
 pub loop-piece-smaller : goal.loop-piece-smaller
 loop-piece-smaller c =
@@ -19,7 +18,7 @@ pub loop-piece-preserved : goal.loop-piece-preserved
 loop-piece-preserved c =
     let step = c.in-Goes.ensures in
     let on = stands_on _ _ _ _ _ _ _ _ c.loop-piece.invariant step.0 step.1 step.2 in
-    subst (λ ts. Stands c.args.bytes.now c.args.finished ts c.in-Goes.next_depth c.in-Goes.after.now) (sym (c.in_ok-push-in-Goes.ensures.items ∙ ap (λ t. c.loop-piece.tokens.items ++ t ∷ []) c.in_ok-to_token-in-Goes.ensures)) on
+    subst (λ ts. Stands c.args.bytes.now c.args.finished ts c.in-Goes.next_depth c.in-Goes.after.now) (pushed _ _ _ _ c.in_ok-push-in-Goes.ensures.items c.in_ok-to_token-in-Goes.ensures) on
 
 pub returns-in-Ends : goal.returns-in-Ends
 returns-in-Ends c =
