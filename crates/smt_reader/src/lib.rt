@@ -1,0 +1,27 @@
+//! Reads s-expressions from bytes that come in pieces.
+#![tactic(auto)]
+
+mod law;
+mod lexeme;
+mod reader;
+mod scan;
+mod step;
+#[cfg(test)]
+mod tests;
+
+pub use law::reads_in_one_way;
+pub use reader::Reader;
+use smt_meaning::{FaultKind, SExpr};
+
+/// What a reader finds next.
+#[derive(Debug, Drop)]
+pub enum Next {
+    /// An s-expression (SMT-LIB 2.6, section 3.2), which the reader has then read.
+    Ready(SExpr),
+    /// The bytes so far settle neither an s-expression nor a fault: more bytes, or the end of the input, must come first.
+    NeedMore,
+    /// The input has ended, and nothing but white space is left.
+    End,
+    /// The input can't be read on: why, and the place, counted in bytes from 0.
+    Fault(FaultKind, u64),
+}
