@@ -1,0 +1,5 @@
+pub mod Written
+pub mod Turns
+pub mod Runs
+pub mod Reached
+pub mod Models

@@ -1,0 +1,67 @@
+use Rattle.std.proofs.Common.{◌≡◌, arith, inl, inr, sym, ◌∙◌, subst, List, ℕ, refl, Bool, true, false, [], ◌∷◌, Result, Ok, Err, IfOk}
+use Rattle.std.specs.declared.alloc.AllocError.{AllocError}
+use Rattle.std.specs.Prelude.{codes}
+use Rattle.smt_meaning.specs.declared.replies.ConstantLiteral.{ConstantLiteral}
+use Rattle.smt_top.specs.declared.step.Done.{Done}
+use Rattle.smt_meaning.specs.declared.tokens.Token.TheVariants.{Enter, Leave, Symbol}
+use Rattle.smt_meaning.specs.declared.replies.Command.TheVariants.{DeclareConst, Assert, CheckSat, Exit}
+use Rattle.smt_meaning.specs.Commands.{State, command_tokens, IsAccepted}
+use Rattle.smt_meaning.specs.Journal.{Replies}
+use Rattle.smt_meaning.specs.declared.tokens.Token.{Token}
+use Rattle.smt_meaning.specs.declared.replies.Command.{Command}
+use Rattle.smt_meaning.specs.declared.replies.Reply.{Reply}
+use Rattle.smt_meaning.specs.declared.replies.Kept.{Kept}
+use Rattle.smt_top.specs.Decide.{CarriesOut}
+use Rattle.smt_top.proofs.step.step.Goals as goal
+
+-- no two commands have the same tokens
+one_literal : (n m : List ℕ) (p q : Bool) → command_tokens (Assert (record { name = n; positive = p })) ≡ command_tokens (Assert (record { name = m; positive = q }))
+    → Assert (record { name = n; positive = p }) ≡ Assert (record { name = m; positive = q })
+one_literal n m true true e = cc
+one_literal n m false false e = cc
+one_literal n m true false e = cc
+one_literal n m false true e = cc
+
+other_literal : (l : ConstantLiteral) (p : Bool) (n : List ℕ) → l.positive ≡ p → command_tokens (DeclareConst n) ≡ command_tokens (Assert l) → ⊥
+other_literal l true n h e = let e' = rw h at e in cc
+other_literal l false n h e = let e' = rw h at e in cc
+
+plain_literal : (l : ConstantLiteral) (p : Bool) (w : List ℕ) → l.positive ≡ p → Enter ∷ Symbol w ∷ Leave ∷ [] ≡ command_tokens (Assert l) → ⊥
+plain_literal l true n h e = let e' = rw h at e in cc
+plain_literal l false n h e = let e' = rw h at e in cc
+
+one_command : (c d : Command) → command_tokens c ≡ command_tokens d → c ≡ d
+one_command (DeclareConst a) (DeclareConst b) e = cc
+one_command (DeclareConst a) (Assert l) e = absurd (other_literal l l.positive a refl e)
+one_command (DeclareConst a) CheckSat e = cc
+one_command (DeclareConst a) Exit e = cc
+one_command (Assert l) (Assert m) e = one_literal l.name m.name l.positive m.positive e
+one_command (Assert l) (DeclareConst b) e = absurd (other_literal l l.positive b refl (sym e))
+one_command (Assert l) CheckSat e = absurd (plain_literal l l.positive (codes "check-sat") refl (sym e))
+one_command (Assert l) Exit e = absurd (plain_literal l l.positive (codes "exit") refl (sym e))
+one_command CheckSat CheckSat e = refl
+one_command CheckSat (DeclareConst b) e = cc
+one_command CheckSat (Assert l) e = absurd (plain_literal l l.positive (codes "check-sat") refl e)
+one_command CheckSat Exit e = cc
+one_command Exit Exit e = refl
+one_command Exit (DeclareConst b) e = cc
+one_command Exit (Assert l) e = absurd (plain_literal l l.positive (codes "exit") refl e)
+one_command Exit CheckSat e = cc
+
+replied : (old new : State) (ts : List Token) (c : Command) (reply : Reply) (kept : Kept) → ts ≡ command_tokens c → CarriesOut old c reply kept new → Replies old ts reply kept new
+replied old new ts c reply kept e (inl (accepted, may, to)) = inl (c, (e, accepted), may, to)
+replied old new ts c reply kept e (inr (refused, r, k, n)) =
+    inr (λ d isd. refused (subst (λ x. IsAccepted old x) (one_command d c (sym isd.0 ∙ e)) isd.1), r, k, n)
+
+replied_ok : (old new : State) (ts : List Token) (c : Command) (r : Result Done AllocError) → ts ≡ command_tokens c
+    → IfOk r (λ d. CarriesOut old c d.reply d.kept new) → IfOk r (λ d. Replies old ts d.reply d.kept new)
+replied_ok old new ts c (Ok d) e h = replied old new ts c d.reply d.kept e h
+replied_ok old new ts c (Err d) e h = h
+
+pub returns-in-Some-clause-reply : goal.returns-in-Some-clause-reply
+returns-in-Some-clause-reply c = replied_ok _ _ _ _ _ (rw c.in-Some.is at c.in_ok-command.ensures.some) c.carry_out.ensures.reply
+
+pub returns-in-None-clause-stop : goal.returns-in-None-clause-stop
+returns-in-None-clause-stop c =
+    let none = rw c.in-None.is at c.in_ok-command.ensures.none in
+    (λ stop. absurd (grind (arith, c.unsupported.ensures.stop)), λ is. absurd (none Exit is.0))

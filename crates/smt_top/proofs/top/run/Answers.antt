@@ -1,0 +1,7 @@
+use Rattle.smt_top.proofs.top.run.Goals as goal
+
+pub returns-clause-ran : goal.returns-clause-ran
+returns-clause-ran g c = c.run_within.ensures.ran
+
+pub returns-clause-untouched : goal.returns-clause-untouched
+returns-clause-untouched g c = c.run_within.ensures.untouched

@@ -1,0 +1,15 @@
+//! Runs a script: bytes come in, and replies go out.
+#![tactic(auto)]
+
+mod command;
+mod decide;
+mod serving;
+mod stack;
+mod step;
+mod text;
+mod top;
+
+pub use top::{Ended, Note, run, run_within};
+
+#[cfg(test)]
+mod tests;

@@ -1,0 +1,8 @@
+(declare-const p Bool)
+(declare-const q Bool)
+(assert p)
+(assert (not q))
+(check-sat)
+(assert q)
+(check-sat)
+(exit)
