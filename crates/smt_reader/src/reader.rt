@@ -6,7 +6,7 @@ use crate::scan::{Found, scan};
 use std::alloc::{AllocError, Global};
 use std::marker::Model;
 
-/// Reads s-expressions from bytes that come in pieces.
+/// Reads s-expressions (SMT-LIB 2.6, sections 3.1 and 3.2) from bytes that come in pieces. Contracts see it as the bytes that it hasn't read, the place of the first of them, and whether they are all.
 #[derive(Drop)]
 pub struct Reader {
     bytes: Vec<u8>,
@@ -26,6 +26,7 @@ impl Model for Reader {
 }
 
 impl Reader {
+    /// A reader at the beginning of its input. It takes no memory.
     pub fn new(alloc: Global) -> Self
         ensures { result ≡ record { place = 0; bytes = []; finished = false } }
     {
@@ -36,7 +37,7 @@ impl Reader {
         }
     }
 
-    /// Takes the next piece of the input. An `Err` changes nothing.
+    /// Takes the next piece of the input. An `Err`, for want of memory, changes nothing.
     pub fn feed(&mut self, piece: &[u8]) -> Result<(), AllocError>
         requires { self.old.finished ≡ false }
         ensures ok { OnOk result (self.new ≡ record self.old { bytes = self.old.bytes ++ piece.now }) }
@@ -53,7 +54,7 @@ impl Reader {
         self.finished = true;
     }
 
-    /// What comes next. An `Err` changes nothing.
+    /// What comes next. An s-expression that is given has then been read, and nothing else has. An `Err`, for want of memory, changes nothing.
     pub fn next(&mut self, alloc: Global) -> Result<Next, AllocError>
         ensures answer { IfOk result (λ next. AnswersRightly self.old next) }
         ensures left { IfOk result (λ next. Leaves self.old next self.new) }
