@@ -5,8 +5,9 @@ use Rattle.smt_meaning.specs.declared.clauses.Summand.{Summand}
 use Rattle.smt_meaning.specs.declared.clauses.Atom.{Atom}
 use Rattle.smt_meaning.specs.declared.clauses.Literal.{Literal}
 use Rattle.smt_meaning.specs.declared.clauses.Clause.{Clause}
-use Rattle.smt_meaning.specs.Term.{Tree, Interpretation, value, number_of}
-use Rattle.smt_meaning.specs.TreeShape.{is_linear, is_among}
+use Rattle.smt_meaning.specs.Term.{Tree, tree_at, Interpretation, value, number_of}
+use Rattle.smt_meaning.specs.TreeShape.{is_linear, is_among, place_of}
+use Rattle.smt_meaning.specs.Sorts.{body_term, body_of}
 use Rattle.smt_meaning.specs.Stack.{Frame, Assertion, HasNoModel, on_top, pushed, popped}
 use Rattle.smt_meaning.specs.Clause.{atom_true, sum_value}
 use Rattle.smt_meaning.specs.Follows.{Follows}
@@ -75,3 +76,13 @@ LinearFormHasValue =
 abbrev pub NormalBoundHasValue : Type 0
 NormalBoundHasValue =
     (ts : List Tree) (I : Interpretation) (ps : List Summand) (k : ℤ) → atom_true ts I (normal_bound ps k) ≡ int_le (sum_value ts I ps) k
+
+-- ---- places of trees
+
+-- a tree of a list stands at its place
+abbrev pub TreeIsFoundAgain : Type 0
+TreeIsFoundAgain = (t : Tree) (ts : List Tree) → IsTrue (is_among t ts) → tree_at ts (place_of t ts) ≡ t
+
+-- a name that is given to a term stands for the term
+abbrev pub NameStandsForTerm : Type 0
+NameStandsForTerm = (t : Tree) → body_term (body_of t) ≡ t

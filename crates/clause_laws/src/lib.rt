@@ -1,7 +1,7 @@
-//! Laws of what follows from a stack, of linear forms and of normal bounds, each as the contract of a function that does nothing.
+//! Laws of what follows from a stack, of linear forms, of normal bounds and of places in lists of trees, each as the contract of a function that does nothing.
 #![tactic(auto)]
 
-ghost use Rattle.clause_laws.specs.Laws.{EmptyClauseShowsNoModel, LinearFormHasValue, NormalBoundHasValue, ResolventFollows, StillFollowsAbove, StillFollowsAfterMore, StillFollowsAfterPop, StillFollowsAfterPush, StillFollowsWithTrees};
+ghost use Rattle.clause_laws.specs.Laws.{EmptyClauseShowsNoModel, LinearFormHasValue, NameStandsForTerm, NormalBoundHasValue, ResolventFollows, StillFollowsAbove, StillFollowsAfterMore, StillFollowsAfterPop, StillFollowsAfterPush, StillFollowsWithTrees, TreeIsFoundAgain};
 
 /// A clause that follows at a level still follows there after pushes.
 pub fn still_follows_after_push()
@@ -46,4 +46,14 @@ pub fn linear_form_has_value()
 /// Over whole numbers a normal bound has the value of the bound.
 pub fn normal_bound_has_value()
     ensures { NormalBoundHasValue }
+{}
+
+/// A tree of a list stands at its place in it.
+pub fn tree_is_found_again()
+    ensures { TreeIsFoundAgain }
+{}
+
+/// A name that `:named` gives to a term stands for the term.
+pub fn name_stands_for_term()
+    ensures { NameStandsForTerm }
 {}
