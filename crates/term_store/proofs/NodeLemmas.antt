@@ -9,32 +9,34 @@ use Rattle.smt_meaning.specs.declared.terms.Operator.TheVariants.{False}
 use Rattle.smt_meaning.specs.Term.{Tree, node, none, tree_at}
 use Rattle.smt_meaning.specs.Nodes.{pick}
 use Rattle.term_store.specs.Terms.{tree_with, IsPlace, IsNew, AreDifferent}
-use Rattle.term_store.specs.Nodes.{Plain, trees_from, trees_of, AreNodes, HasNode, HasNoNode}
+use Rattle.term_store.specs.Nodes.{HasNode, HasNoNode}
+use Rattle.smt_meaning.specs.Nodes.{trees_from, trees_of, AreNodes}
+use Rattle.smt_meaning.specs.declared.nodes.Node.{Node}
 
-pub length-trees_from : (ts : List Tree) (ns : List Plain) → length (trees_from ts ns) ≡ length ts + length ns
+pub length-trees_from : (ts : List Tree) (ns : List Node) → length (trees_from ts ns) ≡ length ts + length ns
 length-trees_from ts [] = omega arith
 length-trees_from ts (n ∷ ns) =
     let t : Tree = tree_with ts n.head n.arguments in
     omega (arith, length-trees_from (ts ++ t ∷ []) ns, length_push ts t)
 
-pub length-trees_of : (ns : List Plain) → length (trees_of ns) ≡ length ns
+pub length-trees_of : (ns : List Node) → length (trees_of ns) ≡ length ns
 length-trees_of ns = omega (arith, length-trees_from [] ns)
 
-pub trees_from-append : (ts : List Tree) (ns ms : List Plain) → trees_from ts (ns ++ ms) ≡ trees_from (trees_from ts ns) ms
+pub trees_from-append : (ts : List Tree) (ns ms : List Node) → trees_from ts (ns ++ ms) ≡ trees_from (trees_from ts ns) ms
 trees_from-append ts [] ms = refl
 trees_from-append ts (n ∷ ns) ms = trees_from-append (ts ++ tree_with ts n.head n.arguments ∷ []) ns ms
 
-pub trees_of-push : (ns : List Plain) (n : Plain) → trees_of (ns ++ n ∷ []) ≡ trees_of ns ++ tree_with (trees_of ns) n.head n.arguments ∷ []
+pub trees_of-push : (ns : List Node) (n : Node) → trees_of (ns ++ n ∷ []) ≡ trees_of ns ++ tree_with (trees_of ns) n.head n.arguments ∷ []
 trees_of-push ns n = trees_from-append [] ns (n ∷ [])
 
 -- earlier places keep their trees
-pub trees_from-keeps : (ts : List Tree) (ns : List Plain) (k : ℕ) (d : Tree) → k < length ts → get_or (trees_from ts ns) k d ≡ get_or ts k d
+pub trees_from-keeps : (ts : List Tree) (ns : List Node) (k : ℕ) (d : Tree) → k < length ts → get_or (trees_from ts ns) k d ≡ get_or ts k d
 trees_from-keeps ts [] k d h = refl
 trees_from-keeps ts (n ∷ ns) k d h =
     let t : Tree = tree_with ts n.head n.arguments in
     trees_from-keeps (ts ++ t ∷ []) ns k d (omega (arith, length_push ts t)) ∙ get_or_append_left ts (t ∷ []) d k h
 
-take_trees_from : (ts : List Tree) (ns : List Plain) → take (length ts) (trees_from ts ns) ≡ ts
+take_trees_from : (ts : List Tree) (ns : List Node) → take (length ts) (trees_from ts ns) ≡ ts
 take_trees_from ts [] = take_all (length ts) ts (omega arith)
 take_trees_from ts (n ∷ ns) =
     let t : Tree = tree_with ts n.head n.arguments in
@@ -42,9 +44,9 @@ take_trees_from ts (n ∷ ns) =
     sym (take-take (length ts) (length us) (trees_from us ns) (omega (arith, length_push ts t)))
     ∙ ap (take (length ts)) (take_trees_from us ns) ∙ take_at ts (t ∷ []) (length ts) refl
 
-pub trees_of-take : (k : ℕ) (ns : List Plain) → k ≤ length ns → trees_of (take k ns) ≡ take k (trees_of ns)
+pub trees_of-take : (k : ℕ) (ns : List Node) → k ≤ length ns → trees_of (take k ns) ≡ take k (trees_of ns)
 trees_of-take k ns h =
-    let first : List Plain = take k ns in
+    let first : List Node = take k ns in
     let size : length (trees_of first) ≡ k = length-trees_of first ∙ length-take-le k ns h in
     sym (take_trees_from (trees_of first) (drop k ns))
     ∙ ap (λ n. take n (trees_from (trees_of first) (drop k ns))) size
@@ -55,7 +57,7 @@ pick-agree ts us [] m same all = refl
 pick-agree ts us (i ∷ is) m same all =
     cc (same i (All-head (λ j. j < m) i is all), pick-agree ts us is m same (All-tail (λ j. j < m) i is all))
 
-pub tree_at-from : (ts : List Tree) (ns : List Plain) (k : ℕ) (d : Plain) → k < length ns → All (λ i. i < length ts + k) (get_or ns k d).arguments
+pub tree_at-from : (ts : List Tree) (ns : List Node) (k : ℕ) (d : Node) → k < length ns → All (λ i. i < length ts + k) (get_or ns k d).arguments
     → tree_at (trees_from ts ns) (length ts + k) ≡ tree_with (trees_from ts ns) (get_or ns k d).head (get_or ns k d).arguments
 tree_at-from ts [] k d h all = absurd (omega arith)
 tree_at-from ts (n ∷ ns) zero d h all =
@@ -74,14 +76,14 @@ tree_at-from ts (n ∷ ns) (suc k) d h all =
     subst (λ j. tree_at (trees_from us ns) j ≡ tree_with (trees_from us ns) (get_or ns k d).head (get_or ns k d).arguments) same
     (tree_at-from us ns k d (omega arith) (subst (λ j. All (λ i. i < j) (get_or ns k d).arguments) (sym same) all))
 
-pub tree_at-nodes : (ns : List Plain) (k : ℕ) (d : Plain) → AreNodes ns → k < length ns
+pub tree_at-nodes : (ns : List Node) (k : ℕ) (d : Node) → AreNodes ns → k < length ns
     → tree_at (trees_of ns) k ≡ tree_with (trees_of ns) (get_or ns k d).head (get_or ns k d).arguments
 tree_at-nodes ns k d nodes h =
     let zero_k : 0 + k ≡ k = omega arith in
     subst (λ j. tree_at (trees_of ns) j ≡ tree_with (trees_of ns) (get_or ns k d).head (get_or ns k d).arguments) zero_k
     (tree_at-from [] ns k d h (subst (λ j. All (λ i. i < j) (get_or ns k d).arguments) (sym zero_k) (nodes k d h)))
 
-pub AreNodes-push : (ns : List Plain) (n : Plain) → AreNodes ns → All (λ i. i < length ns) n.arguments → AreNodes (ns ++ n ∷ [])
+pub AreNodes-push : (ns : List Node) (n : Node) → AreNodes ns → All (λ i. i < length ns) n.arguments → AreNodes (ns ++ n ∷ [])
 AreNodes-push ns n nodes args k d h =
     elim (cases_lt k (length ns)) [
       | inl below ↦ rw (get_or_append_left ns (n ∷ []) d k below) (nodes k d below)
@@ -90,7 +92,7 @@ AreNodes-push ns n nodes args k d h =
           subst (λ j. All (λ i. i < j) (get_or (ns ++ n ∷ []) j d).arguments) at_end (rw (get_or-append_seam ns n [] d) args)
     ]
 
-pub AreNodes-take : (ns : List Plain) (m : ℕ) → m ≤ length ns → AreNodes ns → AreNodes (take m ns)
+pub AreNodes-take : (ns : List Node) (m : ℕ) → m ≤ length ns → AreNodes ns → AreNodes (take m ns)
 AreNodes-take ns m short nodes k d h =
     let size : length (take m ns) ≡ m = length-take-le m ns short in
     rw (get_or-take m ns k d (omega arith)) (nodes k d (omega arith))
@@ -118,26 +120,26 @@ pick_injective ts (i ∷ is) (j ∷ js) different a b e =
     let others : is ≡ js = pick_injective ts is js different (All-tail (λ k. k < length ts) i is a) (All-tail (λ k. k < length ts) j js b) rest in
     cc
 
-same_plain : (n m : Plain) → n.head ≡ m.head → n.arguments ≡ m.arguments → n ≡ m
+same_plain : (n m : Node) → n.head ≡ m.head → n.arguments ≡ m.arguments → n ≡ m
 same_plain n m h a =
     let heads : n ≡ record { head = m.head; arguments = n.arguments } = ap (λ k. record { head = k; arguments = n.arguments }) h in
     heads ∙ ap (λ is. record { head = m.head; arguments = is }) a
 
-pub IsNew-nodes : (ns : List Plain) (n : Plain) → AreNodes ns → AreDifferent (trees_of ns) → All (λ i. i < length (trees_of ns)) n.arguments → HasNoNode ns n
+pub IsNew-nodes : (ns : List Node) (n : Node) → AreNodes ns → AreDifferent (trees_of ns) → All (λ i. i < length (trees_of ns)) n.arguments → HasNoNode ns n
     → IsNew (trees_of ns) (tree_with (trees_of ns) n.head n.arguments)
 IsNew-nodes ns n nodes different below absent i short e =
     let within : i < length ns = omega (arith, length-trees_of ns) in
-    let m : Plain = get_or ns i n in
+    let m : Node = get_or ns i n in
     let here : node m.head (pick (trees_of ns) m.arguments) ≡ node n.head (pick (trees_of ns) n.arguments) = sym (tree_at-nodes ns i n nodes within) ∙ e in
     let heads : m.head ≡ n.head = cc in
     let picks : pick (trees_of ns) m.arguments ≡ pick (trees_of ns) n.arguments = cc in
     let earlier : All (λ j. j < length (trees_of ns)) m.arguments = λ k d h. (let less = nodes i n within k d h in omega arith) in
     absent.nowhere i n within (same_plain m n heads (pick_injective (trees_of ns) m.arguments n.arguments different earlier below picks))
 
-pub IsPlace-nodes : (ns : List Plain) (i : ℕ) (n : Plain) → AreNodes ns → HasNode ns i n → IsPlace (trees_of ns) i (tree_with (trees_of ns) n.head n.arguments)
+pub IsPlace-nodes : (ns : List Node) (i : ℕ) (n : Node) → AreNodes ns → HasNode ns i n → IsPlace (trees_of ns) i (tree_with (trees_of ns) n.head n.arguments)
 IsPlace-nodes ns i n nodes has =
     let within : i < length ns = has.within in
-    (omega (arith, length-trees_of ns), tree_at-nodes ns i n nodes within ∙ ap (λ (m : Plain). tree_with (trees_of ns) m.head m.arguments) (has.here n))
+    (omega (arith, length-trees_of ns), tree_at-nodes ns i n nodes within ∙ ap (λ (m : Node). tree_with (trees_of ns) m.head m.arguments) (has.here n))
 
 pub AreDifferent-push : (ts : List Tree) (t : Tree) → AreDifferent ts → IsNew ts t → AreDifferent (ts ++ t ∷ [])
 AreDifferent-push ts t different new j k less short e =

@@ -7,7 +7,9 @@ use Rattle.std.proofs.lemmas.Bool.{cases_lt}
 use Rattle.smt_meaning.specs.Term.{Tree}
 use Rattle.term_store.specs.declared.store.Entry.{Entry}
 use Rattle.term_store.specs.Terms.{tree_with, IsNew, AreDifferent}
-use Rattle.term_store.specs.Nodes.{Plain, plain, nodes_of, trees_of, AreNodes, AreLaid, plain_hash, IsStore, HasNoNode}
+use Rattle.term_store.specs.Nodes.{plain, nodes_of, AreLaid, plain_hash, IsStore, HasNoNode}
+use Rattle.smt_meaning.specs.Nodes.{trees_of, AreNodes}
+use Rattle.smt_meaning.specs.declared.nodes.Node.{Node}
 use Rattle.term_store.specs.Latest.{latest, last_place}
 use Rattle.term_store.specs.Hash.{node_hash}
 use Rattle.term_store.proofs.LatestLemmas.{latest_le, latest_finds, latest_sent, latest_again}
@@ -18,7 +20,7 @@ use Rattle.term_store.proofs.NodeLemmas.{length-trees_of, trees_of-push, trees_o
 pub length-nodes : (arguments : List ℕ) (es : List Entry) → length (nodes_of arguments es) ≡ length es
 length-nodes arguments es = length-map es (plain arguments)
 
-pub node_at : (arguments : List ℕ) (es : List Entry) (k : ℕ) (d : Plain) (e : Entry) → k < length es → get_or (nodes_of arguments es) k d ≡ plain arguments (get_or es k e)
+pub node_at : (arguments : List ℕ) (es : List Entry) (k : ℕ) (d : Node) (e : Entry) → k < length es → get_or (nodes_of arguments es) k d ≡ plain arguments (get_or es k e)
 node_at arguments [] k d e h = absurd (omega arith)
 node_at arguments (x ∷ es) zero d e h = refl
 node_at arguments (x ∷ es) (suc k) d e h = node_at arguments es k d e (omega arith)
@@ -101,8 +103,8 @@ pub IsStore-push : (limit : ℕ) (es : List Entry) (arguments hashes more' : Lis
     → hash ≡ node_hash e.head more' → e.start ≡ length arguments → e.end ≡ length (arguments ++ more')
     → Added limit (trees_of (nodes_of arguments es)) (tree_with (trees_of (nodes_of arguments es)) e.head more') (es ++ e ∷ []) (arguments ++ more') (hashes ++ hash ∷ [])
 IsStore-push limit es arguments hashes more' e hash s room below new hashed start end =
-    let ns : List Plain = nodes_of arguments es in
-    let n : Plain = record { head = e.head; arguments = more' } in
+    let ns : List Node = nodes_of arguments es in
+    let n : Node = record { head = e.head; arguments = more' } in
     let nodes : nodes_of (arguments ++ more') (es ++ e ∷ []) ≡ ns ++ n ∷ [] = nodes_push arguments more' es e s.laid start end in
     let view : trees_of (ns ++ n ∷ []) ≡ trees_of ns ++ tree_with (trees_of ns) e.head more' ∷ [] = trees_of-push ns n in
     let count : length (trees_of ns) ≡ length ns = length-trees_of ns in
@@ -126,7 +128,7 @@ pub IsStore-cut : (limit k : ℕ) (d : Entry) (es : List Entry) (arguments hashe
     → Cut limit (take k (trees_of (nodes_of arguments es))) (take k es) (take (get_or es k d).start arguments) (take k hashes)
 IsStore-cut limit k d es arguments hashes s short =
     let m : ℕ = (get_or es k d).start in
-    let ns : List Plain = nodes_of arguments es in
+    let ns : List Node = nodes_of arguments es in
     let starts : m ≤ (get_or es k d).end = s.laid.starts k d short in
     let ends : (get_or es k d).end ≤ length arguments = s.laid.ends k d short in
     let size : length (take m arguments) ≡ m = length-take-le m arguments (omega arith) in
@@ -149,20 +151,20 @@ IsStore-cut limit k d es arguments hashes s short =
 -- ---- the search for a node
 
 -- no place from the link on has the node
-pub record Seeks (ns : List Plain) (hashes : List ℕ) (hash : ℕ) (n : Plain) (link : ℕ) : Type 0 where
+pub record Seeks (ns : List Node) (hashes : List ℕ) (hash : ℕ) (n : Node) (link : ℕ) : Type 0 where
   pub within : link ≤ length ns
   pub from : link ≡ last_place hashes hash link
-  pub passed : (k : ℕ) (d : Plain) → link ≤ k → k < length ns → get_or ns k d ≢ n
+  pub passed : (k : ℕ) (d : Node) → link ≤ k → k < length ns → get_or ns k d ≢ n
 
-hash_of_node : (ns : List Plain) (hashes : List ℕ) (k : ℕ) (d : Plain) → hashes ≡ map plain_hash ns → k < length ns → get_or hashes k 0 ≡ plain_hash (get_or ns k d)
+hash_of_node : (ns : List Node) (hashes : List ℕ) (k : ℕ) (d : Node) → hashes ≡ map plain_hash ns → k < length ns → get_or hashes k 0 ≡ plain_hash (get_or ns k d)
 hash_of_node ns hashes k d e h = ap (λ hs. get_or hs k 0) e ∙ at ns k d h
   where
-    at : (ns : List Plain) (k : ℕ) (d : Plain) → k < length ns → get_or (map plain_hash ns) k 0 ≡ plain_hash (get_or ns k d)
+    at : (ns : List Node) (k : ℕ) (d : Node) → k < length ns → get_or (map plain_hash ns) k 0 ≡ plain_hash (get_or ns k d)
     at [] k d h = absurd (omega arith)
     at (n ∷ ns) zero d h = refl
     at (n ∷ ns) (suc k) d h = at ns k d (omega arith)
 
-pub seeks_start : (ns : List Plain) (hashes : List ℕ) (hash link : ℕ) (n : Plain) → hashes ≡ map plain_hash ns → hash ≡ plain_hash n → link ≡ last_place hashes hash (length hashes)
+pub seeks_start : (ns : List Node) (hashes : List ℕ) (hash link : ℕ) (n : Node) → hashes ≡ map plain_hash ns → hash ≡ plain_hash n → link ≡ last_place hashes hash (length hashes)
     → Seeks ns hashes hash n link
 seeks_start ns hashes hash link n hashed e last =
     let g : ℕ → ℕ = λ k. get_or hashes k 0 in
@@ -177,15 +179,15 @@ seeks_start ns hashes hash link n hashed e last =
           omega arith);
     }
 
-pub seeks_hash : (ns : List Plain) (hashes : List ℕ) (hash link j : ℕ) (n : Plain) → Seeks ns hashes hash n link → link ≡ suc j → get_or hashes j 0 ≡ hash
+pub seeks_hash : (ns : List Node) (hashes : List ℕ) (hash link j : ℕ) (n : Node) → Seeks ns hashes hash n link → link ≡ suc j → get_or hashes j 0 ≡ hash
 seeks_hash ns hashes hash link j n s e = latest_sent (λ k. get_or hashes k 0) hash link j (sym s.from ∙ e)
 
-pub record Next (ns : List Plain) (hashes : List ℕ) (hash : ℕ) (n : Plain) (link next : ℕ) : Type 0 where
+pub record Next (ns : List Node) (hashes : List ℕ) (hash : ℕ) (n : Node) (link next : ℕ) : Type 0 where
   pub less : next < link
   pub seeks : Seeks ns hashes hash n next
 
-pub seeks_next : (ns : List Plain) (hashes : List ℕ) (hash link next j : ℕ) (n : Plain) → hashes ≡ map plain_hash ns → hash ≡ plain_hash n → Seeks ns hashes hash n link → link ≡ suc j
-    → ((d : Plain) → get_or ns j d ≢ n) → next ≡ last_place hashes (get_or hashes j 0) j → Next ns hashes hash n link next
+pub seeks_next : (ns : List Node) (hashes : List ℕ) (hash link next j : ℕ) (n : Node) → hashes ≡ map plain_hash ns → hash ≡ plain_hash n → Seeks ns hashes hash n link → link ≡ suc j
+    → ((d : Node) → get_or ns j d ≢ n) → next ≡ last_place hashes (get_or hashes j 0) j → Next ns hashes hash n link next
 seeks_next ns hashes hash link next j n hashed e s at other last =
     let g : ℕ → ℕ = λ k. get_or hashes k 0 in
     let within : link ≤ length ns = s.within in
@@ -211,7 +213,7 @@ seeks_next ns hashes hash link next j n hashed e s at other last =
       };
     }
 
-pub seeks_end : (ns : List Plain) (hashes : List ℕ) (hash link : ℕ) (n : Plain) → Seeks ns hashes hash n link → link ≡ 0 → HasNoNode ns n
+pub seeks_end : (ns : List Node) (hashes : List ℕ) (hash link : ℕ) (n : Node) → Seeks ns hashes hash n link → link ≡ 0 → HasNoNode ns n
 seeks_end ns hashes hash link n s e = record { nowhere = λ i d h. s.passed i d (omega arith) h }
 
 -- ---- what a call's outcome says

@@ -1,32 +1,16 @@
 -- How a store keeps its trees: a list of nodes, each of which names earlier ones as its arguments, with all arguments in one list.
-use Rattle.std.specs.Prelude.{◌≡◌, ◌≢◌, ℕ, ◌<◌, ◌≤◌, ◌^◌, List, [], ◌∷◌, ◌++◌, length, map, All, slice_index_or, slice_range}
-use Rattle.smt_meaning.specs.declared.terms.Head.{Head}
-use Rattle.smt_meaning.specs.Term.{Tree}
+use Rattle.std.specs.Prelude.{◌≡◌, ◌≢◌, ℕ, ◌<◌, ◌≤◌, ◌^◌, List, length, map, slice_index_or, slice_range}
+use Rattle.smt_meaning.specs.declared.nodes.Node.{Node}
+use Rattle.smt_meaning.specs.Nodes.{trees_of, AreNodes}
 use Rattle.term_store.specs.declared.store.Entry.{Entry}
-use Rattle.term_store.specs.Terms.{tree_with, AreDifferent}
+use Rattle.term_store.specs.Terms.{AreDifferent}
 use Rattle.term_store.specs.Hash.{node_hash}
 
-pub record Plain : Type 0 where
-  pub head : Head
-  pub arguments : List ℕ
-
-abbrev pub plain : List ℕ → Entry → Plain
+abbrev pub plain : List ℕ → Entry → Node
 plain arguments e = record { head = e.head; arguments = slice_range arguments e.start e.end }
 
-abbrev pub nodes_of : List ℕ → List Entry → List Plain
+abbrev pub nodes_of : List ℕ → List Entry → List Node
 nodes_of arguments es = map (plain arguments) es
-
-abbrev pub trees_from : List Tree → List Plain → List Tree
-trees_from ts [] = ts
-trees_from ts (n ∷ ns) = trees_from (ts ++ tree_with ts n.head n.arguments ∷ []) ns
-
--- the tree at each place
-abbrev pub trees_of : List Plain → List Tree
-trees_of ns = trees_from [] ns
-
--- each argument is an earlier place
-abbrev pub AreNodes : List Plain → Type 0
-AreNodes ns = (k : ℕ) (d : Plain) → k < length ns → All (λ i. i < k) (slice_index_or ns k d).arguments
 
 -- each node's arguments are a part of the list, and the parts are in order
 pub record AreLaid (size : ℕ) (es : List Entry) : Type 0 where
@@ -34,7 +18,7 @@ pub record AreLaid (size : ℕ) (es : List Entry) : Type 0 where
   pub ends : (k : ℕ) (d : Entry) → k < length es → (slice_index_or es k d).end ≤ size
   pub order : (j k : ℕ) (d : Entry) → j < k → k < length es → (slice_index_or es j d).end ≤ (slice_index_or es k d).start
 
-abbrev pub plain_hash : Plain → ℕ
+abbrev pub plain_hash : Node → ℕ
 plain_hash n = node_hash n.head n.arguments
 
 pub record IsStore (limit : ℕ) (es : List Entry) (arguments hashes : List ℕ) : Type 0 where
@@ -46,10 +30,10 @@ pub record IsStore (limit : ℕ) (es : List Entry) (arguments hashes : List ℕ)
   pub hashed : hashes ≡ map plain_hash (nodes_of arguments es)
 
 -- the node is at this place
-pub record HasNode (ns : List Plain) (i : ℕ) (n : Plain) : Type 0 where
+pub record HasNode (ns : List Node) (i : ℕ) (n : Node) : Type 0 where
   pub within : i < length ns
-  pub here : (d : Plain) → slice_index_or ns i d ≡ n
+  pub here : (d : Node) → slice_index_or ns i d ≡ n
 
 -- the node is at no place
-pub record HasNoNode (ns : List Plain) (n : Plain) : Type 0 where
-  pub nowhere : (i : ℕ) (d : Plain) → i < length ns → slice_index_or ns i d ≢ n
+pub record HasNoNode (ns : List Node) (n : Node) : Type 0 where
+  pub nowhere : (i : ℕ) (d : Node) → i < length ns → slice_index_or ns i d ≢ n

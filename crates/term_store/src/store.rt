@@ -60,7 +60,8 @@ impl Model for TermStore {
 
     ghost coded = { terms_code };
 
-    ghost use Rattle.term_store.specs.Nodes.{nodes_of, trees_of, IsStore};
+    ghost use Rattle.term_store.specs.Nodes.{nodes_of, IsStore};
+    ghost use Rattle.smt_meaning.specs.Nodes.{trees_of};
 
     ghost view = { λ a. record { limit = a.limit; trees = trees_of (nodes_of a.arguments.items a.entries.items) } };
 

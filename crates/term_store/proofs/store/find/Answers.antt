@@ -1,5 +1,6 @@
 use Rattle.std.proofs.Common.{◌≡◌, suc, ◌-◌, ◌<◌, length, arith, sym, ◌∙◌}
-use Rattle.term_store.specs.Nodes.{Plain, nodes_of}
+use Rattle.term_store.specs.Nodes.{nodes_of}
+use Rattle.smt_meaning.specs.declared.nodes.Node.{Node}
 use Rattle.term_store.proofs.StoreLemmas.{seeks_start, seeks_next, node_at, length-nodes}
 use Rattle.term_store.proofs.store.find.Goals as goal
 
@@ -11,7 +12,7 @@ loop-link-init c =
 pub loop-link-smaller : goal.loop-link-smaller
 loop-link-smaller c =
     let e : c.loop-link.link ≡ suc (c.loop-link.link - 1) = omega arith in
-    let n : Plain = record { head = c.args.head; arguments = c.args.arguments.now } in
+    let n : Node = record { head = c.args.head; arguments = c.args.arguments.now } in
     let within = c.loop-link.invariant.within in
     let short : c.loop-link.link - 1 < length c.args.entries.now = omega (arith, length-nodes c.args.all.now c.args.entries.now) in
     (seeks_next (nodes_of c.args.all.now c.args.entries.now) c.args.index.now c.args.hash c.loop-link.link c.before-link.result (c.loop-link.link - 1) n
@@ -22,7 +23,7 @@ loop-link-smaller c =
 pub loop-link-preserved : goal.loop-link-preserved
 loop-link-preserved c =
     let e : c.loop-link.link ≡ suc (c.loop-link.link - 1) = omega arith in
-    let n : Plain = record { head = c.args.head; arguments = c.args.arguments.now } in
+    let n : Node = record { head = c.args.head; arguments = c.args.arguments.now } in
     let within = c.loop-link.invariant.within in
     let short : c.loop-link.link - 1 < length c.args.entries.now = omega (arith, length-nodes c.args.all.now c.args.entries.now) in
     (seeks_next (nodes_of c.args.all.now c.args.entries.now) c.args.index.now c.args.hash c.loop-link.link c.before-link.result (c.loop-link.link - 1) n

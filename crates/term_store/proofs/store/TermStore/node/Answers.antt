@@ -1,7 +1,9 @@
 use Rattle.std.proofs.Common.{◌≡◌, ◌<◌, ◌≤◌, length, get_or, All, arith, sym, ap, ◌∙◌, subst}
 use Rattle.term_store.specs.declared.store.Entry.{Entry}
 use Rattle.term_store.specs.Terms.{Terms, tree_with}
-use Rattle.term_store.specs.Nodes.{Plain, plain, nodes_of, trees_of}
+use Rattle.term_store.specs.Nodes.{plain, nodes_of}
+use Rattle.smt_meaning.specs.Nodes.{trees_of}
+use Rattle.smt_meaning.specs.declared.nodes.Node.{Node}
 use Rattle.term_store.proofs.NodeLemmas.{length-trees_of, tree_at-nodes}
 use Rattle.term_store.proofs.StoreLemmas.{length-nodes, node_at}
 use Rattle.term_store.proofs.store.TermStore.node.Goals as goal
@@ -47,7 +49,7 @@ returns-clause-tree c =
     let here : get_or (nodes_of all es) c.args.id (plain all e) ≡ plain all e = node_at all es c.args.id (plain all e) e short ∙ ap (plain all) (sym c.index-entry.ensures) in
     let tree = tree_at-nodes (nodes_of all es) c.args.id (plain all e) c.self.invariant.earlier (omega (arith, length-nodes all es)) in
     let part : c.part.result.now ≡ (plain all e).arguments = rw c.deref.ensures.value at c.part.ensures in
-    rw (← c.self.view_is, part) (tree ∙ ap (λ (n : Plain). tree_with (trees_of (nodes_of all es)) n.head n.arguments) here)
+    rw (← c.self.view_is, part) (tree ∙ ap (λ (n : Node). tree_with (trees_of (nodes_of all es)) n.head n.arguments) here)
 
 pub returns-clause-earlier : goal.returns-clause-earlier
 returns-clause-earlier c =
@@ -58,4 +60,4 @@ returns-clause-earlier c =
     let here : get_or (nodes_of all es) c.args.id (plain all e) ≡ plain all e = node_at all es c.args.id (plain all e) e short ∙ ap (plain all) (sym c.index-entry.ensures) in
     let part : c.part.result.now ≡ (plain all e).arguments = rw c.deref.ensures.value at c.part.ensures in
     subst (All (λ i. i < c.args.id)) (sym part)
-    (subst (λ (n : Plain). All (λ i. i < c.args.id) n.arguments) here (c.self.invariant.earlier c.args.id (plain all e) (omega (arith, length-nodes all es))))
+    (subst (λ (n : Node). All (λ i. i < c.args.id) n.arguments) here (c.self.invariant.earlier c.args.id (plain all e) (omega (arith, length-nodes all es))))

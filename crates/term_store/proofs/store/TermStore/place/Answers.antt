@@ -1,20 +1,21 @@
 use Rattle.std.proofs.Common.{◌<◌, length, All, sym, subst}
 use Rattle.term_store.specs.Terms.{Terms}
-use Rattle.term_store.specs.Nodes.{Plain, nodes_of}
+use Rattle.term_store.specs.Nodes.{nodes_of}
+use Rattle.smt_meaning.specs.declared.nodes.Node.{Node}
 use Rattle.term_store.proofs.NodeLemmas.{IsPlace-nodes, IsNew-nodes}
 use Rattle.term_store.proofs.StoreLemmas.{some_with, none_with}
 use Rattle.term_store.proofs.store.TermStore.place.Goals as goal
 
 pub returns-clause-some : goal.returns-clause-some
 returns-clause-some c =
-    let n : Plain = record { head = c.args.head; arguments = c.args.arguments.now } in
+    let n : Node = record { head = c.args.head; arguments = c.args.arguments.now } in
     let found = rw (c.deref.ensures.value, c.deref-2.ensures.value) at c.find.ensures.some in
     rw (← c.self.view_is)
     (some_with c.find.result _ _ (λ i has. IsPlace-nodes (nodes_of c.self.inside.arguments.items c.self.inside.entries.items) i n c.self.invariant.earlier has) found)
 
 pub returns-clause-none : goal.returns-clause-none
 returns-clause-none c =
-    let n : Plain = record { head = c.args.head; arguments = c.args.arguments.now } in
+    let n : Node = record { head = c.args.head; arguments = c.args.arguments.now } in
     let absent = rw (c.deref.ensures.value, c.deref-2.ensures.value) at c.find.ensures.none in
     let below = subst (λ (s : Terms). All (λ i. i < length s.trees) c.args.arguments.now) (sym c.self.view_is) c.requires.below in
     rw (← c.self.view_is)
