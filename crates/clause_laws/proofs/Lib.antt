@@ -1,5 +1,4 @@
 pub mod Included
-pub mod Ring
 pub mod FollowsLaw
 pub mod Resolution
 pub mod MoreTrees
