@@ -2,7 +2,7 @@ pub mod Included
 pub mod FollowsLaw
 pub mod Resolution
 pub mod MoreTrees
-pub mod SameTree
+pub mod PartsLaw
 pub mod LinearLaw
 pub mod BoundLaw
 mod Examples

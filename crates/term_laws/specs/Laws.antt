@@ -1,5 +1,5 @@
 -- Laws of the definitions of terms.
-use Rattle.std.specs.Prelude.{◌≡◌, ℕ, List, [], map, Some, IsTrue, Contains}
+use Rattle.std.specs.Prelude.{◌≡◌, ℕ, List, [], map, Some, IsTrue, Contains, true}
 use Rattle.smt_meaning.specs.declared.values.Sort.{Sort}
 use Rattle.smt_meaning.specs.declared.values.Value.{Value}
 use Rattle.smt_meaning.specs.declared.values.Table.{Table}
@@ -13,6 +13,7 @@ use Rattle.smt_meaning.specs.StackCommand.{start, after_all}
 use Rattle.smt_meaning.specs.Environment.{Environment, body_value, term_value}
 use Rattle.smt_meaning.specs.Interpretation.{Interprets, has_sort, meaning, AreTablesFor}
 use Rattle.smt_meaning.specs.Clause.{symbols}
+use Rattle.smt_meaning.specs.TreeShape.{tree_eq}
 
 -- a term that has a sort has a value of that sort
 abbrev pub ValueHasItsSort : Type 0
@@ -53,3 +54,7 @@ BodyHasTheTermsValue =
 -- whatever commands come, no id stands twice in the signature of the stack
 abbrev pub NoIdTwice : Type 0
 NoIdTwice = (xs : List Sexp) → HasNoIdTwice (signature_of (after_all start xs).frames)
+
+-- the test for equal trees is true exactly where they are one tree
+abbrev pub TreeEqualityDecides : Type 0
+TreeEqualityDecides = (t u : Tree) → (tree_eq t u ≡ true → t ≡ u) × (t ≡ u → tree_eq t u ≡ true)

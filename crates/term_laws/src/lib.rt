@@ -1,7 +1,7 @@
 //! Laws of the definitions of terms, each as the contract of a function that does nothing.
 #![tactic(auto)]
 
-ghost use Rattle.term_laws.specs.Laws.{BodyHasTheTermsValue, NoIdTwice, TablesInterpret, TokensReadBack, TreeHasTheTermsValue, ValueDependsOnSymbols, ValueHasItsSort};
+ghost use Rattle.term_laws.specs.Laws.{BodyHasTheTermsValue, NoIdTwice, TablesInterpret, TokensReadBack, TreeEqualityDecides, TreeHasTheTermsValue, ValueDependsOnSymbols, ValueHasItsSort};
 
 /// A term that has a sort has a value of that sort, under each interpretation of the signature.
 pub fn value_has_its_sort()
@@ -36,4 +36,9 @@ pub fn body_has_the_terms_value()
 /// No id stands twice in the signature of a stack, whatever commands made it.
 pub fn no_id_twice()
     ensures { NoIdTwice }
+{}
+
+/// The test for equal trees is true exactly where they are one tree.
+pub fn tree_equality_decides()
+    ensures { TreeEqualityDecides }
 {}

@@ -2,4 +2,4 @@ pub mod LatestLemmas
 pub mod IndexLemmas
 pub mod NodeLemmas
 pub mod StoreLemmas
-pub mod SameTree
+pub mod PlaceLemmas

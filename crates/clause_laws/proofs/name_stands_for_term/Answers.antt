@@ -1,4 +1,4 @@
-use Rattle.clause_laws.proofs.SameTree.{named_term}
+use Rattle.clause_laws.proofs.PartsLaw.{named_term}
 use Rattle.clause_laws.proofs.name_stands_for_term.Goals as goal
 
 pub returns : goal.returns

@@ -2,7 +2,7 @@ use Rattle.std.proofs.Common.{arith, sym, ap, ◌∙◌, refl}
 use Rattle.smt_meaning.specs.Term.{Tree}
 use Rattle.smt_meaning.specs.TreeShape.{place_of}
 use Rattle.term_store.specs.Terms.{Terms, tree_with}
-use Rattle.term_store.proofs.SameTree.{among_at, new_not_among, with_tree_old, with_tree_new, place_of-is, place_of-new}
+use Rattle.term_store.proofs.PlaceLemmas.{among_at, new_not_among, with_tree_old, with_tree_new, place_of-is, place_of-new}
 use Rattle.term_store.proofs.store.TermStore.intern.Goals as goal
 
 pub returns-in-Some-clause-ok : goal.returns-in-Some-clause-ok

@@ -1,5 +1,5 @@
 -- The test for equal trees, and the place where a tree is found again.
-use Rattle.std.proofs.Common.{◌≡◌, ℕ, zero, suc, List, [], ◌∷◌, ap, sym, ◌∙◌, refl, Bool, true, false, ◌&&◌, ◌||◌, nat_eq, eq-eqb, ◌++◌}
+use Rattle.std.proofs.Common.{◌≡◌, ℕ, zero, suc, eq-eqb, List, [], ◌∷◌, ap, sym, subst, ◌∙◌, refl, Bool, true, false, ◌&&◌, ◌||◌, nat_eq}
 use Rattle.std.specs.Prelude.{ℤ, pos, negsuc, if◌then◌else◌}
 use Rattle.std.proofs.lemmas.Bool.{eqb-true}
 use Rattle.smt_meaning.specs.declared.terms.Operator.{Operator}
@@ -7,8 +7,8 @@ use Rattle.smt_meaning.specs.declared.terms.Operator.TheVariants.{True, False, N
 use Rattle.smt_meaning.specs.declared.terms.Head.{Head}
 use Rattle.smt_meaning.specs.declared.terms.Head.TheVariants.{Numeral, Theory, Symbol, Place}
 use Rattle.smt_meaning.specs.Term.{Tree, Trees, node, none, more, int_eq, tree_at}
-use Rattle.smt_meaning.specs.TreeShape.{operator_number, head_eq, tree_eq, trees_eq, is_among, place_of, with_parts, with_all_parts}
-use Rattle.smt_meaning.specs.Sorts.{body_term, body_of}
+use Rattle.smt_meaning.specs.TreeShape.{operator_number, head_eq, tree_eq, trees_eq, is_among, place_of}
+use Rattle.term_laws.specs.Laws.{TreeEqualityDecides}
 
 pub and_left : (a b : Bool) → (a && b) ≡ true → a ≡ true
 and_left true b h = refl
@@ -94,8 +94,6 @@ pub found_again : (t : Tree) (ts : List Tree) → is_among t ts ≡ true → tre
 found_again t [] h = cc
 found_again t (u ∷ us) h = at_first t u us (tree_eq t u) refl (found_again t us) h
 
--- ---- a tree stands in the list of its parts
-
 int_eq-self : (n : ℤ) → int_eq n n ≡ true
 int_eq-self (pos n) = eq-eqb n n refl
 int_eq-self (negsuc n) = eq-eqb n n refl
@@ -106,31 +104,17 @@ head_eq-self (Theory o) = eq-eqb (operator_number o) (operator_number o) refl
 head_eq-self (Symbol f) = eq-eqb f f refl
 head_eq-self (Place k) = eq-eqb k k refl
 
-and_both : (a b : Bool) → a ≡ true → b ≡ true → (a && b) ≡ true
-and_both a b p q = rw (p, q)
+both : (a b : Bool) → a ≡ true → b ≡ true → (a && b) ≡ true
+both true b p q = q
+both false b p q = p
 
 mutual
-  tree_eq-self : (t : Tree) → tree_eq t t ≡ true
-  tree_eq-self (node h ts) = and_both (head_eq h h) (trees_eq ts ts) (head_eq-self h) (trees_eq-self ts)
+  pub tree_eq-self : (t : Tree) → tree_eq t t ≡ true
+  tree_eq-self (node h ts) = both (head_eq h h) (trees_eq ts ts) (head_eq-self h) (trees_eq-self ts)
 
   trees_eq-self : (ts : Trees) → trees_eq ts ts ≡ true
   trees_eq-self none = refl
-  trees_eq-self (more t ts) = and_both (tree_eq t t) (trees_eq ts ts) (tree_eq-self t) (trees_eq-self ts)
+  trees_eq-self (more t ts) = both (tree_eq t t) (trees_eq ts ts) (tree_eq-self t) (trees_eq-self ts)
 
-among_last : (t : Tree) (us : List Tree) → is_among t (us ++ t ∷ []) ≡ true
-among_last t [] = ap (λ b. b || false) (tree_eq-self t)
-among_last t (u ∷ us) = ap (λ b. tree_eq t u || b) (among_last t us) ∙ or_true (tree_eq t u)
-  where
-    or_true : (b : Bool) → (b || true) ≡ true
-    or_true true = refl
-    or_true false = refl
-
-among_after : (t : Tree) (us : List Tree) (b : Bool) → is_among t us ≡ b → is_among t (if b then us else us ++ t ∷ []) ≡ true
-among_after t us true e = e
-among_after t us false e = among_last t us
-
-among_parts : (t : Tree) (us : List Tree) → is_among t (with_parts us t) ≡ true
-among_parts (node h ts) us = among_after (node h ts) (with_all_parts us ts) (is_among (node h ts) (with_all_parts us ts)) refl
-
-pub named_term : (t : Tree) → body_term (body_of t) ≡ t
-named_term t = found_again t (with_parts [] t) (among_parts t [])
+pub equality_decides : TreeEqualityDecides
+equality_decides t u = (tree_eq-true t u, λ e. subst (λ x. tree_eq t x ≡ true) e (tree_eq-self t))
