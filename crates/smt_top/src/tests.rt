@@ -1,6 +1,6 @@
 use crate::{Note, run, run_within};
 use ports::{MemSink, MemSource, OpenGate};
-use smt_meaning::Kept;
+use smt_meaning::{Bytes, Kept};
 use std::alloc::{AllocError, Global};
 use std::test::Fail;
 
@@ -195,5 +195,13 @@ fn keeps_a_model(rt: HostRuntime) -> Result<(), Fail> {
         }
     }
     assert_eq!(rt; models, 1);
+    Ok(())
+}
+
+#[test]
+fn a_list_gives_its_vec_back(rt: HostRuntime) -> Result<(), Fail> {
+    let bytes = Bytes::from_vec(b"abc".to_vec(rt.alloc())?);
+    assert_eq!(rt; bytes.len(), 3);
+    assert_eq!(rt; bytes.into_vec().as_slice(), b"abc".as_slice());
     Ok(())
 }

@@ -1,4 +1,4 @@
-mod Among
+pub mod Among
 mod PlacesLaw
 mod Signatures
 mod Judgements
