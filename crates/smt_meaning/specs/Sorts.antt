@@ -7,8 +7,7 @@ use Rattle.smt_meaning.specs.declared.terms.Operator.TheVariants.{True, False}
 use Rattle.smt_meaning.specs.declared.terms.Head.TheVariants.{Numeral as Number, Theory, Symbol as Function}
 use Rattle.smt_meaning.specs.declared.tokens.Token.{Token}
 use Rattle.smt_meaning.specs.declared.tokens.Token.TheVariants.{Numeral, Decimal, Hex, Binary, Text, Symbol, Reserved, Keyword}
-use Rattle.smt_meaning.specs.declared.tokens.Word.{Word}
-use Rattle.smt_meaning.specs.declared.tokens.Word.TheVariants.{Exclamation, Underscore, As, Let, Exists, Forall, Match, Par}
+use Rattle.smt_meaning.specs.declared.tokens.Word.TheVariants.{Exclamation, Let}
 use Rattle.smt_meaning.specs.declared.declarations.Declaration.{Declaration}
 use Rattle.smt_meaning.specs.declared.declarations.Body.{Body}
 use Rattle.smt_meaning.specs.declared.refusals.Refusal.{Refusal}
@@ -16,6 +15,7 @@ use Rattle.smt_meaning.specs.declared.refusals.Refusal.TheVariants.{NumeralTooLa
 use Rattle.smt_meaning.specs.Term.{Tree, Trees, node, none, more, tree_at}
 use Rattle.smt_meaning.specs.Sexp.{Sexp, Sexps, word, group, end, ◌▸◌}
 use Rattle.smt_meaning.specs.TreeShape.{is_linear, is_linear_at, put, place_of, with_parts}
+use Rattle.smt_meaning.specs.Reading.{spelling}
 use Rattle.smt_meaning.specs.Signature.{look_up, is_one_of, is_some, find_function, operators, reserved_functions, takes, operator_sort, sorts_eq}
 
 -- ---- judging: what it starts from, what it goes through and how it ends
@@ -230,16 +230,6 @@ judge_token r vs (Binary cs) = refuse (UnknownSymbol cs)
 judge_token r vs (Text cs) = refuse (UnknownSymbol (literal_of cs))
 judge_token r vs _ = refuse WrongArguments
 
-abbrev pub word_name : Word → List ℕ
-word_name Exclamation = codes "!"
-word_name Underscore = codes "_"
-word_name As = codes "as"
-word_name Let = codes "let"
-word_name Exists = codes "exists"
-word_name Forall = codes "forall"
-word_name Match = codes "match"
-word_name Par = codes "par"
-
 -- ---- `let`
 
 abbrev pub cons_name : List ℕ → Option (List (List ℕ)) → Option (List (List ℕ))
@@ -360,7 +350,7 @@ abbrev mutual
     judge_attributes r (has_free (variable_names vs) t) a rest
     return a
   judge r vs (group (word (Reserved Exclamation) ▸ end)) = refuse WrongArguments
-  judge r vs (group (word (Reserved w) ▸ _)) = refuse (UnknownSymbol (word_name w))
+  judge r vs (group (word (Reserved w) ▸ _)) = refuse (UnknownSymbol (spelling w))
   judge r vs (group (word (Symbol n) ▸ ss)) = do
     s ← the_scope
     can_be_applied n (known vs n s)

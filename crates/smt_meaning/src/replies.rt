@@ -12,6 +12,10 @@ pub struct ConstantLiteral {
 /// A command (SMT-LIB 2.6, section 4.2).
 #[derive(Debug, Drop)]
 pub enum Command {
+    /// `(set-logic n)`
+    SetLogic(Bytes),
+    /// `(set-option :print-success b)`
+    SetPrintSuccess(bool),
     /// `(declare-const n Bool)`
     DeclareConst(Bytes),
     /// `(assert n)` or `(assert (not n))`
@@ -25,7 +29,10 @@ pub enum Command {
 /// A reply (SMT-LIB 2.6, section 4.1).
 #[derive(Clone, Copy, Debug, Drop)]
 pub enum Reply {
+    /// The command was carried out, and `:print-success` is on after it.
     Success,
+    /// The command was carried out, and `:print-success` is off after it, so nothing is written.
+    Silent,
     Sat,
     Unsat,
     Unsupported,

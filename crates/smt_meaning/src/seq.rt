@@ -79,4 +79,13 @@ impl Seq<u8> {
         let items = bytes.to_vec(alloc)?;
         Ok(Seq { items })
     }
+
+    /// Adds bytes at the end, in order. An `Err`, for want of memory, changes nothing.
+    pub fn append(&mut self, bytes: &[u8]) -> Result<(), AllocError>
+        ensures ok { OnOk result (self.new ≡ self.old ++ bytes.now) }
+        ensures err { OnErr result (self.new ≡ self.old) }
+    {
+        self.items.extend_from_slice(bytes)?;
+        Ok(())
+    }
 }

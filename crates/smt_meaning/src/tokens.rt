@@ -96,4 +96,6 @@ pub enum FaultKind {
     Closing,
     /// The input ends inside an s-expression.
     Unfinished,
+    /// An opening parenthesis that opens one list too many.
+    Nesting,
 }

@@ -1,0 +1,12 @@
+/// What the words of the command line set for a run.
+#[derive(Clone, Copy, Debug, PartialEq, Eq, Drop)]
+pub struct Settings {
+    /// How many workers race at a check: 1 to 16.
+    pub workers: u8,
+    /// The limit of a check in units, where 0 stands for none: 0 to 2^127 - 1.
+    pub units: i128,
+    /// The most literals of a learnt clause that is shared: 0 to 64.
+    pub share: u8,
+    /// Where the workers' choices start.
+    pub seed: u64,
+}
