@@ -1,9 +1,10 @@
--- Sources and sinks in memory: what callers see of one, and what each call answers and leaves.
+-- Sources and sinks in memory that may fail: what callers see of one, and what each call answers and leaves.
 use Rattle.std.specs.Prelude.{◌==◌, ℕ, ◌-◌, min, nat_le, Bool, if◌then◌else◌, List, ◌++◌, length, take, drop}
 use Rattle.std.specs.List.{list_any}
 use Rattle.ports.specs.Flow.{raised, more_faults, put_faults}
+use Rattle.ports.specs.Calm.{calm_answer, moved}
 use Rattle.ports.specs.declared.More.{More}
-use Rattle.ports.specs.declared.More.TheVariants.{Got, End, Failed as MoreFailed}
+use Rattle.ports.specs.declared.More.TheVariants.{Failed as MoreFailed}
 use Rattle.ports.specs.declared.Put.{Put}
 use Rattle.ports.specs.declared.Put.TheVariants.{Ok as PutOk, Failed as PutFailed}
 
@@ -33,13 +34,7 @@ fails_next fails calls = list_any (λ call. call == raised calls) fails
 abbrev pub source_answer : SourceState → ℕ → More
 source_answer s room =
     if fails_next s.fails s.calls then MoreFailed
-    else (if length s.left == 0 then End else Got (min (min s.piece (length s.left)) room))
-
--- How many bytes an answer moved.
-abbrev pub moved : More → ℕ
-moved (Got n) = n
-moved End = 0
-moved MoreFailed = 0
+    else calm_answer (record { left = s.left; piece = s.piece }) room
 
 -- The source after it gave this answer.
 abbrev pub source_after : SourceState → More → SourceState

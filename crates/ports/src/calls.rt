@@ -1,4 +1,4 @@
-ghost use Rattle.std.specs.Prelude.{◌≡◌};
+ghost use Rattle.std.specs.Prelude.{◌≡◌, ◌≤◌};
 ghost use Rattle.ports.specs.Flow.{raised};
 ghost use Rattle.ports.specs.Memory.{fails_next};
 
@@ -33,7 +33,8 @@ impl Calls {
 
     /// Counts one more call that failed.
     pub(crate) fn fault(&mut self)
-        ensures { self.new ≡ record self.old { faults = raised self.old.faults } }
+        ensures after { self.new ≡ record self.old { faults = raised self.old.faults } }
+        ensures never_falls { self.old.faults ≤ self.new.faults }
     {
         self.faults = self.faults.saturating_add(1);
     }

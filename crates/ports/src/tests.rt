@@ -1,4 +1,7 @@
-use crate::{Gate, MemSink, MemSource, More, OpenGate, Put, ReadSource, Sink, Source, WriteSink};
+use crate::{
+    CalmSink, CalmSource, Gate, MemSink, MemSource, More, OpenGate, Put, ReadSource, Sink, Source,
+    WriteSink,
+};
 use std::alloc::{AllocError, Global};
 use std::io;
 use std::io::{Read, Write};
@@ -164,6 +167,24 @@ fn a_sink_in_memory_takes_what_fits(rt: HostRuntime) -> Result<(), Fail> {
         assert_eq!(rt; log.as_slice(), want);
         assert_eq!(rt; sink.written(), written);
     }
+    Ok(())
+}
+
+#[test]
+fn calm_ends_give_and_take_all(rt: HostRuntime) -> Result<(), Fail> {
+    for (piece, size, want, left) in [
+        (2, 8, b"ab|cd|e|..".as_slice(), b"".as_slice()),
+        (0, 8, b"a|b|c|d|e|", b""),
+        (17, 3, b"abc|de|...", b""),
+        (9, 0, b"|||||", b"abcde"),
+    ] {
+        let mut source = CalmSource::new(b"abcde".to_vec(rt.alloc())?, piece);
+        let log = five_calls(rt.alloc(), &mut source, size)?;
+        assert_eq!(rt; log.as_slice(), want);
+        assert_eq!(rt; source.left(), left);
+    }
+    let log = four_puts(rt.alloc(), &mut CalmSink)?;
+    assert_eq!(rt; log.as_slice(), b"....".as_slice());
     Ok(())
 }
 
