@@ -1,0 +1,3 @@
+mod FaultsTake
+mod Numbers
+mod Options

@@ -1,0 +1,37 @@
+//! The command as `clap` sees it.
+ghost use Rattle.std.specs.Prelude.{◌≡◌, false, IfOk};
+ghost use Rattle.clap.specs.Words.{app_of, rule_of};
+ghost use Rattle.smt_words.specs.Words.{option, program};
+
+use clap::builder::ValueParser;
+use clap::{Arg, ArgAction, Command, value_parser};
+use std::alloc::{AllocError, Global};
+
+/// The program's command, without help and version.
+pub(crate) fn command<'a>(alloc: Global) -> Result<Command<'a>, AllocError>
+    ensures { IfOk result (λ c. app_of c ≡ program) }
+{
+    let workers = option(alloc, "workers", "4", value_parser!(u8).range(1..=16));
+    let units = option(alloc, "units", "0", value_parser!(u64));
+    let share = option(alloc, "share", "8", value_parser!(u8).range(0..=64));
+    let seed = option(alloc, "seed", "0", value_parser!(u64));
+    Command::new(alloc, "smt_cli")
+        .disable_help_flag(true)
+        .disable_version_flag(true)
+        .arg(workers)?
+        .arg(units)?
+        .arg(share)?
+        .arg(seed)
+}
+
+/// The option `--name`, with one value.
+fn option<'a>(alloc: Global, name: &'a str, default: &'a str, parser: ValueParser<'a>) -> Arg<'a>
+    ensures rule { rule_of result ≡ option name.entry.now default.entry.now parser.entry }
+    ensures local { result.global ≡ false }
+{
+    Arg::new(alloc, name)
+        .long(name)
+        .action(ArgAction::Set)
+        .value_parser(parser)
+        .default_value(default)
+}
