@@ -1,24 +1,26 @@
 -- An input has one first answer.
 use Rattle.std.proofs.Common.{◌≡◌, ℕ, ◌+◌, ◌-◌, inl, inr, List, [], ◌∷◌, ◌++◌, length, arith, refl, sym, ◌∙◌, ap, subst, eqb, cond}
-use Rattle.smt_meaning.specs.Reading.{lexeme, Lexeme, token, wrong, nothing, Lexes, Shape, opening, closing, single, shape, shapes, Opens, Completes, IsSExpr, IsWrong, HasCharacter, HasClosing, HasUnfinished, First, Answer, ready, fault, end}
+use Rattle.smt_meaning.specs.Reading.{lexeme, Lexeme, token, wrong, unended, nothing, Lexes, Shape, opening, closing, single, shape, shapes, Opens, Completes, IsSExpr, IsCut, HasCharacter, HasClosing, HasNesting, HasUnfinished, most_open, First, Answer, ready, fault, end}
 use Rattle.smt_meaning.specs.declared.tokens.Token.{Token}
-use Rattle.smt_meaning.specs.declared.tokens.FaultKind.TheVariants.{Character, Closing, Unfinished}
+use Rattle.smt_meaning.specs.declared.tokens.FaultKind.TheVariants.{Character, Closing, Unfinished, Nesting}
 use Rattle.smt_reader.proofs.Runs.{Stops, same_run}
 
 -- the answer where bytes, read as far as they go on, come to l inside so many open lists; a place is counted from the end of so many bytes
 by_shape : ℕ → List Token → ℕ → List ℕ → Token → Shape → Answer
-by_shape total read depth from t opening = fault Character (total - length from)
+by_shape total read depth from t opening = fault Nesting (total - length from)
 by_shape total read depth from t closing = cond (eqb depth 0) (fault Closing (total - length from)) (ready (read ++ t ∷ []))
 by_shape total read depth from t single = ready (read ++ t ∷ [])
 
 at_end : ℕ → Lexeme → Answer
 at_end total (token start t after) = fault Unfinished (total - length start)
-at_end total (wrong start) = end
+at_end total (wrong from) = end
+at_end total (unended start) = fault Unfinished (total - length start)
 at_end total nothing = end
 
 verdict : ℕ → List ℕ → List Token → ℕ → Lexeme → Answer
 verdict total bytes read depth (token from t after) = by_shape total read depth from t (shape t)
 verdict total bytes read depth (wrong from) = fault Character (total - length from)
+verdict total bytes read depth (unended start) = at_end total (lexeme bytes)
 verdict total bytes read depth nothing = at_end total (lexeme bytes)
 
 record Verdict (total : ℕ) (bytes : List ℕ) (a : Answer) : Type 0 where
@@ -93,27 +95,28 @@ place_is : (at total : ℕ) (from : List ℕ) → at + length from ≡ total →
 place_is at total from e = omega arith
 
 character_verdict : (at total : ℕ) (bytes from : List ℕ) → HasCharacter bytes from → at + length from ≡ total → Verdict total bytes (fault Character at)
+unfolding verdict
+character_verdict at total bytes from h e = record {
+  read = h.read;
+  depth = h.depth;
+  rest = h.rest;
+  opens = h.opens;
+  lexes = h.lexes;
+  stops = subst (Stops h.depth) (sym h.is_wrong) tt;
+  is = ap (fault Character) (place_is at total from e) ∙ ap (verdict total bytes h.read h.depth) (sym h.is_wrong);
+}
+
+nesting_verdict : (at total : ℕ) (bytes from : List ℕ) → HasNesting bytes from → at + length from ≡ total → Verdict total bytes (fault Nesting at)
 unfolding verdict by_shape
-character_verdict at total bytes from h e = by_wrong h.is_wrong where
-  by_wrong : IsWrong h.depth h.rest from → Verdict total bytes (fault Character at)
-  by_wrong (inl w) = record {
-    read = h.read;
-    depth = h.depth;
-    rest = h.rest;
-    opens = h.opens;
-    lexes = h.lexes;
-    stops = subst (Stops h.depth) (sym w) tt;
-    is = ap (fault Character) (place_is at total from e) ∙ ap (verdict total bytes h.read h.depth) (sym w);
-  }
-  by_wrong (inr (two, after, is)) = record {
-    read = h.read;
-    depth = h.depth;
-    rest = h.rest;
-    opens = h.opens;
-    lexes = h.lexes;
-    stops = subst (Stops h.depth) (sym is) (λ k o. omega (arith, two, o.0));
-    is = ap (fault Character) (place_is at total from e) ∙ ap (verdict total bytes h.read h.depth) (sym is);
-  }
+nesting_verdict at total bytes from h e = record {
+  read = h.read;
+  depth = most_open;
+  rest = h.rest;
+  opens = h.opens;
+  lexes = h.lexes;
+  stops = subst (Stops most_open) (sym h.enter) (λ k o. omega (arith, o.0));
+  is = ap (fault Nesting) (place_is at total from e) ∙ ap (verdict total bytes h.read most_open) (sym h.enter);
+}
 
 closing_verdict : (at total : ℕ) (bytes from : List ℕ) → HasClosing bytes from → at + length from ≡ total → Verdict total bytes (fault Closing at)
 unfolding verdict by_shape
@@ -127,16 +130,38 @@ closing_verdict at total bytes from h e = record {
   is = ap (fault Closing) (place_is at total from e) ∙ ap (verdict total bytes [] 0) (sym h.leave);
 }
 
+cut_stops : (n : ℕ) (l : Lexeme) → IsCut l → Stops n l
+cut_stops n (token start t after) h = absurd h
+cut_stops n (wrong from) h = absurd h
+cut_stops n (unended start) h = tt
+cut_stops n nothing h = tt
+
+cut_verdict : (total depth : ℕ) (bytes : List ℕ) (read : List Token) (l : Lexeme) → IsCut l → at_end total (lexeme bytes) ≡ verdict total bytes read depth l
+unfolding verdict
+cut_verdict total depth bytes read (token start t after) h = absurd h
+cut_verdict total depth bytes read (wrong from) h = absurd h
+cut_verdict total depth bytes read (unended start) h = refl
+cut_verdict total depth bytes read nothing h = refl
+
 unfinished_verdict : (at total : ℕ) (bytes from : List ℕ) → HasUnfinished bytes from → at + length from ≡ total → Verdict total bytes (fault Unfinished at)
 unfolding verdict at_end
-unfinished_verdict at total bytes from h e = record {
+unfinished_verdict at total bytes from (inl h) e = record {
   read = h.first ∷ h.read;
   depth = h.depth;
   rest = h.rest;
   opens = h.opens;
   lexes = (from, h.after, h.begins, h.lexes);
-  stops = subst (Stops h.depth) (sym h.nothing_left) tt;
-  is = ap (fault Unfinished) (place_is at total from e) ∙ ap (at_end total) (sym h.begins) ∙ ap (verdict total bytes (h.first ∷ h.read) h.depth) (sym h.nothing_left);
+  stops = cut_stops h.depth (lexeme h.rest) h.is_cut;
+  is = ap (fault Unfinished) (place_is at total from e) ∙ ap (at_end total) (sym h.begins) ∙ cut_verdict total h.depth bytes (h.first ∷ h.read) (lexeme h.rest) h.is_cut;
+}
+unfinished_verdict at total bytes from (inr h) e = record {
+  read = [];
+  depth = 0;
+  rest = bytes;
+  opens = refl;
+  lexes = refl;
+  stops = subst (Stops 0) (sym h) tt;
+  is = ap (fault Unfinished) (place_is at total from e) ∙ ap (at_end total) (sym h) ∙ ap (verdict total bytes [] 0) (sym h);
 }
 
 end_verdict : (total : ℕ) (bytes : List ℕ) → lexeme bytes ≡ nothing → Verdict total bytes end
@@ -156,6 +181,7 @@ verdict_of place bytes (ready ts) (s, rest, l) = ready_verdict (place + length b
 verdict_of place bytes (fault Character at) (from, h, e) = character_verdict at (place + length bytes) bytes from h e
 verdict_of place bytes (fault Closing at) (from, h, e) = closing_verdict at (place + length bytes) bytes from h e
 verdict_of place bytes (fault Unfinished at) (from, h, e) = unfinished_verdict at (place + length bytes) bytes from h e
+verdict_of place bytes (fault Nesting at) (from, h, e) = nesting_verdict at (place + length bytes) bytes from h e
 verdict_of place bytes end e = end_verdict (place + length bytes) bytes e
 
 -- what comes first is determined

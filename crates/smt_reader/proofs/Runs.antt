@@ -1,9 +1,9 @@
 -- Tokens one after another.
-use Rattle.std.proofs.Common.{◌≡◌, ◌<◌, ◌≤◌, ℕ, ◌+◌, ◌-◌, List, [], ◌∷◌, ◌++◌, length, arith, refl, sym, ◌∙◌, ap, subst, append_assoc}
+use Rattle.std.proofs.Common.{◌≡◌, ◌<◌, ◌≤◌, ℕ, ◌+◌, ◌-◌, List, [], ◌∷◌, ◌++◌, length, arith, refl, sym, ◌∙◌, ap, subst}
 use Rattle.std.specs.Prelude.{⊤}
-use Rattle.smt_meaning.specs.Reading.{lexeme, Lexeme, token, wrong, nothing, Lexes, Shape, opening, closing, single, shape, shapes, Opens}
+use Rattle.smt_meaning.specs.Reading.{lexeme, Lexeme, token, wrong, unended, nothing, Lexes, Shape, opening, closing, single, shape, shapes, Opens, most_open}
 use Rattle.smt_meaning.specs.declared.tokens.Token.{Token}
-use Rattle.smt_reader.proofs.Lexemes.{Fits, lexeme_fits, IsBehind, lexeme_behind}
+use Rattle.smt_reader.proofs.Shorter.{token_shorter}
 
 pub Lexes-push : (bytes mid start after : List ℕ) (ts : List Token) (t : Token) → Lexes bytes ts mid → lexeme mid ≡ token start t after → Lexes bytes (ts ++ t ∷ []) after
 Lexes-push bytes mid start after [] t l e = (start, after, rw l e, refl)
@@ -22,27 +22,35 @@ Opens-append m n k (single ∷ ss) s o p = (o.0, Opens-append m n k ss s o.1 p)
 pub Opens-push : (m n k : ℕ) (ts : List Token) (t : Token) → Opens m (shapes ts) n → Opens n (shape t ∷ []) k → Opens m (shapes (ts ++ t ∷ [])) k
 Opens-push m n k ts t o p = subst (λ ss. Opens m ss k) (sym (shapes-push ts t)) (Opens-append m n k (shapes ts) (shape t) o p)
 
--- one token takes bytes
-pub token_shorter : (bytes start after : List ℕ) (t : Token) → lexeme bytes ≡ token start t after → (length after < length start) × (length start ≤ length bytes)
-token_shorter bytes start after t e = subst (Fits (length bytes)) e (lexeme_fits bytes)
+-- inside a list, some list stays open
+some_open : (m n : ℕ) (ss : List Shape) → Opens m ss n → 0 < m → 0 < n
+some_open m n [] o h = omega arith
+some_open m n (opening ∷ ss) o h = some_open (m + 1) n ss o.1 (omega arith)
+some_open m n (closing ∷ ss) o h = some_open (m - 1) n ss o.1 (omega (arith, o.0))
+some_open m n (single ∷ ss) o h = some_open m n ss o.1 h
 
--- what is left is no longer
-pub Lexes-shorter : (bytes left : List ℕ) (ts : List Token) → Lexes bytes ts left → length left ≤ length bytes
+-- and so behind the first token
+pub begun_open : (n : ℕ) (s : Shape) (ss : List Shape) → Opens 0 (s ∷ ss) n → 0 < n
+begun_open n opening ss o = some_open 1 n ss o.1 (omega arith)
+begun_open n closing ss o = absurd (omega (arith, o.0))
+begun_open n single ss o = absurd (omega (arith, o.0))
+
+pub at_most_open : (m n : ℕ) (ss : List Shape) → Opens m ss n → m ≤ most_open → n ≤ most_open
+at_most_open m n [] o h = omega arith
+at_most_open m n (opening ∷ ss) o h = at_most_open (m + 1) n ss o.1 (omega (arith, o.0))
+at_most_open m n (closing ∷ ss) o h = at_most_open (m - 1) n ss o.1 (omega arith)
+at_most_open m n (single ∷ ss) o h = at_most_open m n ss o.1 h
+
+-- each token takes a byte
+pub Lexes-shorter : (bytes left : List ℕ) (ts : List Token) → Lexes bytes ts left → length ts + length left ≤ length bytes
 Lexes-shorter bytes left [] l = omega (arith, ap length l)
-Lexes-shorter bytes left (t ∷ ts) (start, after, is, l) = let one = token_shorter bytes start after t is in omega (arith, Lexes-shorter after left ts l)
-
--- and it is the end of the bytes
-pub Lexes-behind : (bytes left : List ℕ) (ts : List Token) → Lexes bytes ts left → (front : List ℕ) × (bytes ≡ front ++ left)
-Lexes-behind bytes left [] l = ([], l)
-Lexes-behind bytes left (t ∷ ts) (start, after, is, l) =
-    let one = subst (IsBehind bytes) is (lexeme_behind bytes) in
-    let more = Lexes-behind after left ts l in
-    (one.0 ++ more.0, one.1 ∙ ap (λ xs. one.0 ++ xs) more.1 ∙ sym (append_assoc one.0 more.0 left))
+Lexes-shorter bytes left (t ∷ ts) (start, after, is, l) = omega (arith, token_shorter bytes start after t is, Lexes-shorter after left ts l)
 
 -- No token that l is goes on inside n open lists.
 abbrev pub Stops : ℕ → Lexeme → Type 0
 Stops n (token start t after) = (k : ℕ) → Opens n (shape t ∷ []) k → ⊥
-Stops n (wrong start) = ⊤
+Stops n (wrong from) = ⊤
+Stops n (unended start) = ⊤
 Stops n nothing = ⊤
 
 opens_first : (n k : ℕ) (s : Shape) (ss : List Shape) → Opens n (s ∷ ss) k → (j : ℕ) × Opens n (s ∷ []) j

@@ -1,253 +1,243 @@
--- What has been read of a list, and what is found by it.
-use Rattle.std.proofs.Common.{◌≡◌, ◌<◌, ◌≤◌, ℕ, ◌+◌, ◌-◌, Bool, true, false, inl, inr, List, [], ◌∷◌, ◌++◌, length, arith, refl, ◌∙◌, ap, subst, append-nil, length-append}
-use Rattle.smt_meaning.specs.Reading.{lexeme, token, wrong, nothing, Lexes, Shape, opening, closing, single, shape, shapes, Opens, IsSExpr, IsWrong, HasCharacter, HasClosing, HasUnfinished, ready, fault, end, MayFollow, is_symbol_byte}
+-- What was scanned of bytes, and what it comes to.
+use Rattle.std.proofs.Common.{◌≡◌, ◌<◌, ◌≤◌, ℕ, ◌+◌, List, [], ◌∷◌, ◌++◌, length, take, drop, Option, Some, None, arith, refl, sym, ◌∙◌, ap, subst, append_assoc, length-append}
+use Rattle.std.specs.Prelude.{⊤}
+use Rattle.smt_meaning.specs.Reading.{Lexeme, lexeme, token, wrong, unended, nothing, Lexes, single, shape, shapes, symbol_token, reserved_word, Opens, most_open, Completes, IsSExpr, IsCut, HasCharacter, HasClosing, HasNesting, HasOpenList}
+use Rattle.smt_meaning.specs.declared.tokens.Word.{Word}
 use Rattle.smt_meaning.specs.declared.tokens.Token.{Token}
-use Rattle.smt_meaning.specs.declared.tokens.Token.TheVariants.{Enter, Leave, Symbol}
-use Rattle.smt_meaning.specs.declared.tokens.FaultKind.TheVariants.{Character, Closing, Unfinished}
-use Rattle.smt_reader.specs.Scan.{FirstIs, IsStuck, IsUnsettled}
-use Rattle.smt_reader.proofs.Lexemes.{lexeme-leave, lexeme-wrong, word_goes_on_at_end}
-use Rattle.smt_reader.proofs.Runs.{Lexes-push, Opens-push, shapes-push, token_shorter}
-use Rattle.smt_reader.proofs.Settled.{unsettled, whole_token, wrong_stays, wrong_shorter, nothing_behind}
+use Rattle.smt_meaning.specs.declared.tokens.Token.TheVariants.{Enter, Leave, Numeral, Decimal, Hex, Binary, Text, Symbol, Keyword}
+use Rattle.smt_reader.specs.declared.form.Form.{Form}
+use Rattle.smt_reader.specs.declared.form.Form.TheVariants.{Simple, Zero, Digits, Point, Places, Hash, HexMark, HexDigits, BinaryMark, BinaryDigits, Colon, Named}
+use Rattle.smt_reader.specs.declared.part.Part.{Part}
+use Rattle.smt_reader.specs.declared.part.Part.TheVariants.{Blank, Comment, Word as InWord, Text as InText, Mark, Quoted}
+use Rattle.smt_reader.specs.declared.part.Turn.TheVariants.{Begins, Adds}
+use Rattle.smt_reader.specs.Parts.{goes_on, part_token, form_token, Passes, Turns}
+use Rattle.smt_reader.specs.Scan.{BeginsAt, Stands}
+use Rattle.smt_reader.proofs.Runs.{Lexes-push, Opens-push, shapes-push, begun_open, at_most_open}
 
--- The front of a list: these tokens, with so many lists open behind them, and then what is left.
-pub record Stands (bytes : List ℕ) (finished : Bool) (tokens : List Token) (depth : ℕ) (left : List ℕ) : Type 0 where
-  pub opens : Opens 0 (shapes tokens) depth
-  pub some : 0 < depth
-  pub bound : depth ≤ 2
-  pub lexes : (more : List ℕ) → MayFollow finished more → Lexes (bytes ++ more) tokens (left ++ more)
-  pub shorter : length left < length bytes
-
-pub stands_at_start : (bytes from after : List ℕ) (finished : Bool) → lexeme bytes ≡ token from Enter after → Stands bytes finished (Enter ∷ []) 1 after
-stands_at_start bytes from after finished is = record {
-  opens = (omega arith, refl);
-  some = omega arith;
-  bound = omega arith;
-  lexes = λ more may. (from ++ more, after ++ more, whole_token finished Enter bytes from after more is tt may, refl);
-  shorter = let s = token_shorter bytes from after Enter is in omega arith;
+-- where nothing was looked at
+pub stands_anew : (unread start content : List ℕ) (from : ℕ) → Stands unread [] 0 from Blank start content unread
+unfolding goes_on
+stands_anew unread start content from = record {
+  opens = refl;
+  begins = tt;
+  tail = unread;
+  lexes = λ more. refl;
+  goes = λ more. refl;
+  is_part = tt;
 }
 
-depth_bound : (m n : ℕ) (s : Shape) → m ≤ 2 → Opens m (s ∷ []) n → n ≤ 2
-depth_bound m n opening b o = omega (arith, o.0, o.1)
-depth_bound m n closing b o = omega (arith, o.0, o.1)
-depth_bound m n single b o = omega (arith, o.1)
+begins_fed : (bytes piece : List ℕ) (tokens : List Token) (from : ℕ) → BeginsAt bytes tokens from → BeginsAt (bytes ++ piece) tokens from
+begins_fed bytes piece [] from b = tt
+begins_fed bytes piece (t ∷ ts) from (top, after, place, is) = (
+  top ++ piece,
+  after ++ piece,
+  omega (arith, place, length-append top piece, length-append bytes piece),
+  λ more. rw (append_assoc bytes piece more, append_assoc top piece more, append_assoc after piece more) (is (piece ++ more)),
+)
 
-pub lexes_more : (bytes left after : List ℕ) (finished : Bool) (tokens : List Token) (t : Token)
-    → ((more : List ℕ) → MayFollow finished more → Lexes (bytes ++ more) tokens (left ++ more)) → FirstIs left finished t after
-    → (more : List ℕ) → MayFollow finished more → Lexes (bytes ++ more) (tokens ++ t ∷ []) (after ++ more)
-lexes_more bytes left after finished tokens t l first more may =
-    Lexes-push (bytes ++ more) (left ++ more) (first.start ++ more) (after ++ more) tokens t (l more may) (whole_token finished t left first.start after more first.lexes first.whole may)
-
--- one token more
-pub stands_on : (bytes left after : List ℕ) (finished : Bool) (tokens : List Token) (t : Token) (depth next : ℕ) → Stands bytes finished tokens depth left
-    → FirstIs left finished t after → Opens depth (shape t ∷ []) next → 0 < next → Stands bytes finished (tokens ++ t ∷ []) next after
-stands_on bytes left after finished tokens t depth next s first o some = record {
-  opens = Opens-push 0 depth next tokens t s.opens o;
-  some = some;
-  bound = depth_bound depth next (shape t) s.bound o;
-  lexes = lexes_more bytes left after finished tokens t s.lexes first;
-  shorter = let one = token_shorter left first.start after t first.lexes in omega (arith, s.shorter);
+-- more bytes are there
+pub stands_fed : (bytes piece : List ℕ) (tokens : List Token) (depth from : ℕ) (part : Part) (start content left : List ℕ) → Stands bytes tokens depth from part start content left
+    → Stands (bytes ++ piece) tokens depth from part start content (left ++ piece)
+stands_fed bytes piece tokens depth from part start content left s = record {
+  opens = s.opens;
+  begins = begins_fed bytes piece tokens from s.begins;
+  tail = s.tail ++ piece;
+  lexes = λ more. rw (append_assoc bytes piece more, append_assoc s.tail piece more) (s.lexes (piece ++ more));
+  goes = λ more. rw (append_assoc s.tail piece more, append_assoc left piece more) (s.goes (piece ++ more));
+  is_part = s.is_part;
 }
 
--- a token pushed that is another
-pub pushed : (new old : List Token) (t u : Token) → new ≡ old ++ t ∷ [] → t ≡ u → old ++ u ∷ [] ≡ new
-pushed new old t u e is = cc
+-- bytes are passed over
+pub stands_passed : (bytes : List ℕ) (tokens : List Token) (depth from : ℕ) (old later : Part) (start content left : List ℕ) (passed : ℕ)
+    → Stands bytes tokens depth from old start content left → Passes old later left passed
+    → Stands bytes tokens depth from later (start ++ take passed left) content (drop passed left)
+stands_passed bytes tokens depth from old later start content left passed s p = record {
+  opens = s.opens;
+  begins = s.begins;
+  tail = s.tail;
+  lexes = s.lexes;
+  goes = λ more. s.goes more ∙ p.rest start content more;
+  is_part = p.part start s.is_part;
+}
 
-pub pushed_first : (new old : List Token) (t : Token) → new ≡ old ++ t ∷ [] → old ≡ [] → t ∷ [] ≡ new
-pushed_first new old t e none = cc
+-- the next byte begins a token
+pub stands_begun : (bytes : List ℕ) (tokens : List Token) (depth from : ℕ) (old later : Part) (start content : List ℕ) (b : ℕ) (rest : List ℕ)
+    → Stands bytes tokens depth from old start content (b ∷ rest) → Turns old b (Begins later) → Stands bytes tokens depth from later (b ∷ []) [] rest
+stands_begun bytes tokens depth from old later start content b rest s t = record {
+  opens = s.opens;
+  begins = s.begins;
+  tail = s.tail;
+  lexes = s.lexes;
+  goes = λ more. s.goes more ∙ t.1 start content (rest ++ more);
+  is_part = t.0;
+}
 
-abbrev pub IsReady : List ℕ → Bool → List Token → List ℕ → Type 0
-IsReady bytes finished tokens after = IsSExpr tokens × ((more : List ℕ) → MayFollow finished more → Lexes (bytes ++ more) tokens (after ++ more)) × (length after < length bytes)
+-- or it stands in one
+pub stands_added : (bytes : List ℕ) (tokens : List Token) (depth from : ℕ) (old later : Part) (start content : List ℕ) (b : ℕ) (rest : List ℕ)
+    → Stands bytes tokens depth from old start content (b ∷ rest) → Turns old b (Adds later)
+    → Stands bytes tokens depth from later (start ++ b ∷ []) (content ++ b ∷ []) rest
+stands_added bytes tokens depth from old later start content b rest s t = record {
+  opens = s.opens;
+  begins = s.begins;
+  tail = s.tail;
+  lexes = s.lexes;
+  goes = λ more. s.goes more ∙ t.1 start content (rest ++ more);
+  is_part = t.0 start s.is_part;
+}
 
--- the list's last parenthesis
-pub list_ends : (bytes left after : List ℕ) (finished : Bool) (tokens : List Token) (depth : ℕ) → Stands bytes finished tokens depth left
-    → FirstIs left finished Leave after → depth ≡ 1 → IsReady bytes finished (tokens ++ Leave ∷ []) after
-list_ends bytes left after finished tokens depth s first one = (
-  (shapes tokens, depth, closing, shapes-push tokens Leave, s.opens, one),
-  lexes_more bytes left after finished tokens Leave s.lexes first,
-  let shorter = token_shorter left first.start after Leave first.lexes in omega (arith, s.shorter),
-)
+begins_push : (bytes first after : List ℕ) (ts : List Token) (t : Token) (depth from new : ℕ) → Opens 0 (shapes ts) depth → BeginsAt bytes ts from
+    → (depth ≡ 0 → new + length first ≡ length bytes) → (0 < depth → new ≡ from)
+    → (ts ≡ [] → (more : List ℕ) → lexeme (bytes ++ more) ≡ token (first ++ more) t (after ++ more)) → BeginsAt bytes (ts ++ t ∷ []) new
+begins_push bytes first after [] t depth from new o b top inner is = (first, after, top (sym o), is refl)
+begins_push bytes first after (x ∷ ts) t depth from new o b top inner is = subst (BeginsAt bytes (x ∷ ts)) (sym (inner (begun_open depth (shape x) (shapes ts) o))) b
 
--- a word at top level
-pub word_ends : (bytes after name : List ℕ) (finished : Bool) → FirstIs bytes finished (Symbol name) after → IsReady bytes finished (Symbol name ∷ []) after
-word_ends bytes after name finished first = (
-  ([], 0, single, refl, refl, refl),
-  (λ more may. (first.start ++ more, after ++ more, whole_token finished (Symbol name) bytes first.start after more first.lexes first.whole may, refl)),
-  let shorter = token_shorter bytes first.start after (Symbol name) first.lexes in omega arith,
-)
+module _ (bytes : List ℕ) (tokens : List Token) (depth from : ℕ) (part : Part) (start content left : List ℕ) (s : Stands bytes tokens depth from part start content left) where
+  -- at top level
+  pub top_lexeme : depth ≡ 0 → (more : List ℕ) → lexeme (bytes ++ more) ≡ goes_on part start content (left ++ more)
+  top_lexeme none more = by_tokens tokens s.opens (s.lexes more) where
+    by_tokens : (ts : List Token) → Opens 0 (shapes ts) depth → Lexes (bytes ++ more) ts (s.tail ++ more) → lexeme (bytes ++ more) ≡ goes_on part start content (left ++ more)
+    by_tokens [] o l = ap lexeme l ∙ s.goes more
+    by_tokens (x ∷ ts) o l = absurd (omega (arith, begun_open depth (shape x) (shapes ts) o))
 
-wrong_more : (finished : Bool) (depth : ℕ) (left from more : List ℕ) → IsWrong depth left from → MayFollow finished more → IsWrong depth (left ++ more) (from ++ more)
-wrong_more finished depth left from more (inl w) may = inl (wrong_stays left from more w)
-wrong_more finished depth left from more (inr (two, after, is)) may = inr (two, after ++ more, whole_token finished Enter left from after more is tt may)
+  -- the token ends
+  module _ (t : Token) (first after : List ℕ) (is : (more : List ℕ) → goes_on part start content (left ++ more) ≡ token (first ++ more) t (after ++ more)) where
+    pushed_lexes : (more : List ℕ) → Lexes (bytes ++ more) (tokens ++ t ∷ []) (after ++ more)
+    pushed_lexes more = Lexes-push (bytes ++ more) (s.tail ++ more) (first ++ more) (after ++ more) tokens t (s.lexes more) (s.goes more ∙ is more)
 
-wrong_within : (depth : ℕ) (left from : List ℕ) → IsWrong depth left from → length from ≤ length left
-wrong_within depth left from (inl w) = wrong_shorter left from w
-wrong_within depth left from (inr (two, after, is)) = (token_shorter left from after Enter is).1
-
-abbrev IsMisplaced : List ℕ → Bool → List ℕ → Type 0
-IsMisplaced bytes finished from = ((more : List ℕ) → MayFollow finished more → HasCharacter (bytes ++ more) (from ++ more)) × (length from ≤ length bytes)
-
-pub list_wrong : (bytes left from : List ℕ) (finished : Bool) (tokens : List Token) (depth : ℕ) → Stands bytes finished tokens depth left
-    → IsWrong depth left from → IsMisplaced bytes finished from
-list_wrong bytes left from finished tokens depth s w = (
-  (λ more may. record {
-    read = tokens;
-    depth = depth;
-    rest = left ++ more;
-    opens = s.opens;
-    lexes = s.lexes more may;
-    is_wrong = wrong_more finished depth left from more w may;
-  }),
-  let within = wrong_within depth left from w in omega (arith, s.shorter),
-)
-
-pub top_wrong : (bytes from : List ℕ) (finished : Bool) → lexeme bytes ≡ wrong from → IsMisplaced bytes finished from
-top_wrong bytes from finished w = (
-  (λ more may. record {
-    read = [];
-    depth = 0;
-    rest = bytes ++ more;
-    opens = refl;
-    lexes = refl;
-    is_wrong = inl (wrong_stays bytes from more w);
-  }),
-  wrong_shorter bytes from w,
-)
-
-pub top_closing : (bytes from after : List ℕ) (finished : Bool) → lexeme bytes ≡ token from Leave after
-    → ((more : List ℕ) → MayFollow finished more → HasClosing (bytes ++ more) (from ++ more)) × (length from ≤ length bytes)
-top_closing bytes from after finished is = (
-  (λ more may. record { after = after ++ more; leave = whole_token finished Leave bytes from after more is tt may }),
-  (token_shorter bytes from after Leave is).1,
-)
-
--- The bytes end inside the list that begins at the front of from.
-
-unfinished_from : (bytes from after left : List ℕ) (tokens : List Token) (depth : ℕ) → lexeme bytes ≡ token from Enter after
-    → Opens 0 (shapes tokens) depth → 0 < depth → Lexes bytes tokens left → lexeme left ≡ nothing → HasUnfinished bytes from
-unfinished_from bytes from after left [] depth is o some l none = absurd (omega (arith, o))
-unfinished_from bytes from after left (t ∷ ts) depth is o some (start, behind, is', l) none =
-    let same : start ≡ from = cc in
-    record {
-      first = t;
-      after = behind;
-      begins = subst (λ x. lexeme bytes ≡ token x t behind) same is';
-      read = ts;
-      depth = depth;
-      rest = left;
-      opens = o;
-      lexes = l;
-      nothing_left = none;
+    -- and the list goes on
+    pub stands_on : (next new : ℕ) (begun old : List ℕ) → Opens depth (shape t ∷ []) next → (depth ≡ 0 → new + length first ≡ length bytes) → (0 < depth → new ≡ from)
+        → Stands bytes (tokens ++ t ∷ []) next new Blank begun old after
+    unfolding goes_on
+    stands_on next new begun old o top inner = record {
+      opens = Opens-push 0 depth next tokens t s.opens o;
+      begins = begins_push bytes first after tokens t depth from new s.opens s.begins top inner
+          (λ none more. ap lexeme (subst (λ ts. Lexes (bytes ++ more) ts (s.tail ++ more)) none (s.lexes more)) ∙ s.goes more ∙ is more);
+      tail = after;
+      lexes = pushed_lexes;
+      goes = λ more. refl;
+      is_part = tt;
     }
 
--- the same with the byte 255 behind, which begins no token
-record StopsShort (bytes : List ℕ) (depth : ℕ) : Type 0 where
-  read : List Token
-  opens : Opens 0 (shapes read) depth
-  now : List ℕ
-  lexes_now : Lexes bytes read now
-  nothing_now : lexeme now ≡ nothing
-  later : List ℕ
-  lexes_later : Lexes (bytes ++ 255 ∷ []) read later
-  wrong_later : lexeme later ≡ wrong (255 ∷ [])
+    -- and so does the s-expression
+    pub completes : Completes depth (shape t) → IsSExpr (tokens ++ t ∷ []) × ((more : List ℕ) → Lexes (bytes ++ more) (tokens ++ t ∷ []) (after ++ more))
+    completes c = ((shapes tokens, depth, shape t, shapes-push tokens t, s.opens, c), pushed_lexes)
 
-byte_is_wrong : lexeme (255 ∷ []) ≡ wrong (255 ∷ [])
-unfolding is_symbol_byte
-byte_is_wrong = lexeme-wrong 255 [] refl refl refl refl
+  -- a byte or word that is no part of a token
+  pub has_character : (more at : List ℕ) → goes_on part start content (left ++ more) ≡ wrong at → HasCharacter (bytes ++ more) at
+  has_character more at w = record {
+    read = tokens;
+    depth = depth;
+    rest = s.tail ++ more;
+    opens = s.opens;
+    lexes = s.lexes more;
+    is_wrong = s.goes more ∙ w;
+  }
 
-lexeme_none : lexeme [] ≡ nothing
-unfolding lexeme
-lexeme_none = refl
+  pub has_closing : (more at after : List ℕ) → depth ≡ 0 → goes_on part start content (left ++ more) ≡ token at Leave after → HasClosing (bytes ++ more) at
+  has_closing more at after none is = record { after = after; leave = top_lexeme none more ∙ is }
 
-word_then_wrong : (left start name : List ℕ) → lexeme left ≡ token start (Symbol name) [] → lexeme (left ++ 255 ∷ []) ≡ token (start ++ 255 ∷ []) (Symbol name) (255 ∷ [])
-unfolding is_symbol_byte
-word_then_wrong left start name is = word_goes_on_at_end left (255 ∷ []) start name is ∙ ap (λ n. token (start ++ 255 ∷ []) (Symbol n) (255 ∷ [])) (append-nil name)
-
-stops_short : (bytes left : List ℕ) (tokens : List Token) (depth : ℕ) → Stands bytes false tokens depth left → IsStuck false left → StopsShort bytes depth
-stops_short bytes left tokens depth s (inl none) = record {
-  read = tokens;
-  opens = s.opens;
-  now = left;
-  lexes_now = subst (λ b. Lexes b tokens left) (append-nil bytes) (subst (λ r. Lexes (bytes ++ []) tokens r) (append-nil left) (s.lexes [] tt));
-  nothing_now = none;
-  later = left ++ 255 ∷ [];
-  lexes_later = s.lexes (255 ∷ []) tt;
-  wrong_later = nothing_behind left (255 ∷ []) none ∙ byte_is_wrong;
-}
-stops_short bytes left tokens depth s (inr (going, start, name, is)) = record {
-  read = tokens ++ Symbol name ∷ [];
-  opens = Opens-push 0 depth depth tokens (Symbol name) s.opens (s.some, refl);
-  now = [];
-  lexes_now =
-      let l = subst (λ b. Lexes b tokens left) (append-nil bytes) (subst (λ r. Lexes (bytes ++ []) tokens r) (append-nil left) (s.lexes [] tt)) in
-      Lexes-push bytes left start [] tokens (Symbol name) l is;
-  nothing_now = lexeme_none;
-  later = 255 ∷ [];
-  lexes_later = Lexes-push (bytes ++ 255 ∷ []) (left ++ 255 ∷ []) (start ++ 255 ∷ []) (255 ∷ []) tokens (Symbol name) (s.lexes (255 ∷ []) tt) (word_then_wrong left start name is);
-  wrong_later = byte_is_wrong;
-}
-
--- whatever bytes may follow: none do
-pub list_unfinished : (bytes from after left : List ℕ) (finished : Bool) (tokens : List Token) (depth : ℕ) → finished ≡ true → lexeme bytes ≡ token from Enter after
-    → Stands bytes finished tokens depth left → IsStuck finished left
-    → ((more : List ℕ) → MayFollow finished more → HasUnfinished (bytes ++ more) (from ++ more)) × (length from ≤ length bytes)
-list_unfinished bytes from after left true tokens depth e is s (inr (going, start, name, word)) = absurd cc
-list_unfinished bytes from after left false tokens depth e is s x = absurd cc
-list_unfinished bytes from after left true tokens depth e is s (inl none) = (
-  (λ more may.
-      let l = subst (λ b. Lexes b tokens left) (append-nil bytes) (subst (λ r. Lexes (bytes ++ []) tokens r) (append-nil left) (s.lexes [] refl)) in
-      let h = unfinished_from bytes from after left tokens depth is s.opens s.some l none in
-      rw (may, append-nil bytes, append-nil from) h),
-  (token_shorter bytes from after Enter is).1,
-)
-
--- No answer is settled inside a list that more bytes may close.
-pub list_unsettled : (bytes from after left : List ℕ) (finished : Bool) (tokens : List Token) (depth : ℕ) → finished ≡ false → lexeme bytes ≡ token from Enter after
-    → Stands bytes finished tokens depth left → IsStuck finished left → IsUnsettled bytes finished
-list_unsettled bytes from after left true tokens depth e is s stuck = absurd cc
-list_unsettled bytes from after left false tokens depth e is s stuck =
-    let short = stops_short bytes left tokens depth s stuck in
-    let within = token_shorter bytes from after Enter is in
-    unsettled bytes (255 ∷ []) (λ place. fault Unfinished (place + length bytes - length from)) (λ place. fault Character (place + length bytes))
-    (λ place. (from, unfinished_from bytes from after short.now short.read depth is short.opens s.some short.lexes_now short.nothing_now, omega (arith, within.1)))
-    (λ place. (
-      255 ∷ [],
+  pub has_nesting : (more at after : List ℕ) → most_open ≤ depth → goes_on part start content (left ++ more) ≡ token at Enter after → HasNesting (bytes ++ more) at
+  has_nesting more at after full is =
+      let most : depth ≡ most_open = omega (arith, at_most_open 0 depth (shapes tokens) s.opens (omega arith)) in
       record {
-        read = short.read;
-        depth = depth;
-        rest = short.later;
-        opens = short.opens;
-        lexes = short.lexes_later;
-        is_wrong = inl short.wrong_later;
-      },
-      omega (arith, length-append bytes (255 ∷ [])),
-    ))
-    (λ place same. cc)
+        read = tokens;
+        rest = s.tail ++ more;
+        after = after;
+        opens = subst (Opens 0 (shapes tokens)) most s.opens;
+        lexes = s.lexes more;
+        enter = s.goes more ∙ is;
+      }
 
-leave_is : lexeme (41 ∷ []) ≡ token (41 ∷ []) Leave []
-leave_is = lexeme-leave 41 [] refl refl refl
+-- Nothing whole is left, or a token that goes to the end of the bytes.
+abbrev pub IsCutShort : Lexeme → Type 0
+IsCutShort (token start t after) = (shape t ≡ single) × (after ≡ [])
+IsCutShort (wrong from) = ⊥
+IsCutShort (unended start) = ⊤
+IsCutShort nothing = ⊤
 
--- nor where nothing but blanks is there
-pub blank_unsettled : (bytes : List ℕ) (finished : Bool) → finished ≡ false → lexeme bytes ≡ nothing → IsUnsettled bytes finished
-blank_unsettled bytes true e none = absurd cc
-blank_unsettled bytes false e none =
-    unsettled bytes (41 ∷ []) (λ place. end) (λ place. fault Closing (place + length bytes))
-    (λ place. none)
-    (λ place. (41 ∷ [], record { after = []; leave = nothing_behind bytes (41 ∷ []) none ∙ leave_is }, omega (arith, length-append bytes (41 ∷ []))))
-    (λ place same. cc)
+nothing_is_cut : IsCut (lexeme [])
+unfolding lexeme
+nothing_is_cut = tt
 
-word_and_letter : (bytes start name : List ℕ) → lexeme bytes ≡ token start (Symbol name) [] → lexeme (bytes ++ 97 ∷ []) ≡ token (start ++ 97 ∷ []) (Symbol (name ++ 97 ∷ [])) []
-unfolding is_symbol_byte
-word_and_letter bytes start name is = word_goes_on_at_end bytes (97 ∷ []) start name is
+module _ (bytes top : List ℕ) (t : Token) (ts : List Token) (depth : ℕ) (o : Opens 0 (shapes (t ∷ ts)) depth) (some : 0 < depth) (after tail : List ℕ)
+    (begins : lexeme bytes ≡ token top t after) (l : Lexes after ts tail) where
+  list_cut : (x : Lexeme) → lexeme tail ≡ x → IsCutShort x → HasOpenList bytes top
+  list_cut (token start u end) e (one, ends) = record {
+    first = t;
+    after = after;
+    begins = begins;
+    read = ts ++ u ∷ [];
+    depth = depth;
+    rest = [];
+    opens = Opens-push 0 depth depth (t ∷ ts) u o (subst (λ s. Opens depth (s ∷ []) depth) (sym one) (some, refl));
+    lexes = Lexes-push after tail start [] ts u l (subst (λ r. lexeme tail ≡ token start u r) ends e);
+    is_cut = nothing_is_cut;
+  }
+  list_cut (wrong from) e h = absurd h
+  list_cut (unended start) e h = record {
+    first = t;
+    after = after;
+    begins = begins;
+    read = ts;
+    depth = depth;
+    rest = tail;
+    opens = o;
+    lexes = l;
+    is_cut = subst IsCut (sym e) tt;
+  }
+  list_cut nothing e h = record {
+    first = t;
+    after = after;
+    begins = begins;
+    read = ts;
+    depth = depth;
+    rest = tail;
+    opens = o;
+    lexes = l;
+    is_cut = subst IsCut (sym e) tt;
+  }
 
-longer : (name : List ℕ) → Symbol name ∷ [] ≡ Symbol (name ++ 97 ∷ []) ∷ [] → ⊥
-longer name same = let e : name ≡ name ++ 97 ∷ [] = cc in omega (arith, length-append name (97 ∷ []), ap length e)
+-- the bytes end inside a list
+pub list_is_open : (bytes : List ℕ) (tokens : List Token) (depth from : ℕ) (part : Part) (start content left more : List ℕ) → Stands bytes tokens depth from part start content left
+    → 0 < depth → IsCutShort (goes_on part start content (left ++ more)) → (top : List ℕ) × (from + length top ≡ length bytes) × HasOpenList (bytes ++ more) (top ++ more)
+list_is_open bytes [] depth from part start content left more s some cut = absurd (omega (arith, s.opens))
+list_is_open bytes (t ∷ ts) depth from part start content left more s some cut =
+    let b = s.begins in
+    let l = s.lexes more in
+    let first = b.3 more in
+    let first' = l.2 in
+    let behind : l.1 ≡ b.1 ++ more = cc in (
+      b.0,
+      b.2,
+      list_cut (bytes ++ more) (b.0 ++ more) t ts depth s.opens some (b.1 ++ more) (s.tail ++ more) first
+          (subst (λ a. Lexes a ts (s.tail ++ more)) behind l.3) _ (s.goes more) cut,
+    )
 
--- nor where a word may go on
-pub word_unsettled : (bytes start name after : List ℕ) (finished : Bool) → finished ≡ false → lexeme bytes ≡ token start (Symbol name) after → after ≡ [] → IsUnsettled bytes finished
-word_unsettled bytes start name after true e is none = absurd cc
-word_unsettled bytes start name after false e is none =
-    let is' = subst (λ a. lexeme bytes ≡ token start (Symbol name) a) none is in
-    unsettled bytes (97 ∷ []) (λ place. ready (Symbol name ∷ [])) (λ place. ready (Symbol (name ++ 97 ∷ []) ∷ []))
-    (λ place. (([], 0, single, refl, refl, refl), [], (start, [], is', refl)))
-    (λ place. (([], 0, single, refl, refl, refl), [], (start ++ 97 ∷ [], [], word_and_letter bytes start name is', refl)))
-    (λ place same. longer name cc)
+-- Tokens that end in a part
+
+word_single : (r : Option Word) (w : List ℕ) → shape (symbol_token r w) ≡ single
+word_single (Some r) w = refl
+word_single None w = refl
+
+form_single : (form : Form) (w : List ℕ) (t : Token) → form_token form w ≡ Some t → shape t ≡ single
+form_single Simple w t e = let same : symbol_token (reserved_word w) w ≡ t = cc in subst (λ x. shape x ≡ single) same (word_single (reserved_word w) w)
+form_single Zero w t e = let same : Numeral w ≡ t = cc in subst (λ x. shape x ≡ single) same refl
+form_single Digits w t e = let same : Numeral w ≡ t = cc in subst (λ x. shape x ≡ single) same refl
+form_single Point w t e = absurd cc
+form_single Places w t e = let same : Decimal w ≡ t = cc in subst (λ x. shape x ≡ single) same refl
+form_single Hash w t e = absurd cc
+form_single HexMark w t e = absurd cc
+form_single HexDigits w t e = let same : Hex w ≡ t = cc in subst (λ x. shape x ≡ single) same refl
+form_single BinaryMark w t e = absurd cc
+form_single BinaryDigits w t e = let same : Binary w ≡ t = cc in subst (λ x. shape x ≡ single) same refl
+form_single Colon w t e = absurd cc
+form_single Named w t e = let same : Keyword (drop 1 w) ≡ t = cc in subst (λ x. shape x ≡ single) same refl
+
+-- such a token is no parenthesis
+pub part_single : (part : Part) (start content : List ℕ) (t : Token) → part_token part start content ≡ Some t → shape t ≡ single
+part_single Blank start content t e = absurd cc
+part_single Comment start content t e = absurd cc
+part_single (InWord form) start content t e = form_single form start t e
+part_single InText start content t e = absurd cc
+part_single Mark start content t e = let same : Text content ≡ t = cc in subst (λ x. shape x ≡ single) same refl
+part_single Quoted start content t e = let same : Symbol content ≡ t = cc in subst (λ x. shape x ≡ single) same refl

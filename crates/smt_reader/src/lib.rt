@@ -1,11 +1,12 @@
-//! Reads s-expressions from bytes that come in pieces.
+//! Reads s-expressions (SMT-LIB 2.6, sections 3.1 and 3.2) from bytes that come in pieces.
 #![tactic(auto)]
 
+mod byte;
+mod form;
 mod law;
-mod lexeme;
+mod part;
 mod reader;
 mod scan;
-mod step;
 #[cfg(test)]
 mod tests;
 
@@ -20,8 +21,8 @@ pub enum Next {
     Ready(SExpr),
     /// The bytes so far settle neither an s-expression nor a fault: more bytes, or the end of the input, must come first.
     NeedMore,
-    /// The input has ended, and nothing but white space is left.
+    /// The input has ended, and nothing but white space and comments is left.
     End,
-    /// The input can't be read on: why, and the place, counted in bytes from 0.
+    /// The input can't be read on: why, and the place, counted in bytes from 0. It is found again at each further call.
     Fault(FaultKind, u64),
 }

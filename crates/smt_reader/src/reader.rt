@@ -1,28 +1,37 @@
-ghost use Rattle.std.specs.Prelude.{◌≡◌, ◌++◌, [], OnOk, OnErr, IfOk, false, true};
+ghost use Rattle.std.specs.Prelude.{◌≡◌, ◌≤◌, ◌<◌, ◌+◌, ◌^◌, ◌++◌, [], length, drop, vec_len, OnOk, OnErr, IfOk, false, true};
 ghost use Rattle.smt_reader.specs.Reader.{AnswersRightly, Leaves};
 
 use crate::Next;
-use crate::scan::{Found, scan};
+use crate::scan::{Found, Scan};
 use std::alloc::{AllocError, Global};
 use std::marker::Model;
 
 /// Reads s-expressions (SMT-LIB 2.6, sections 3.1 and 3.2) from bytes that come in pieces. Contracts see it as the bytes that it hasn't read, the place of the first of them, and whether they are all.
+///
+/// No byte is looked at twice, but for the one that ends a word.
 #[derive(Drop)]
 pub struct Reader {
+    /// The bytes that are kept: those that aren't read, and some before them.
     bytes: Vec<u8>,
+    /// The place of the first of them in the input.
+    base: u64,
+    /// How many of them are read.
     at: usize,
+    scan: Scan,
     finished: bool,
 }
 
 impl Model for Reader {
-    ghost use Rattle.std.specs.Prelude.{◌≤◌, length, drop};
+    ghost use Rattle.std.specs.Prelude.{◌+◌, drop};
     ghost use Rattle.smt_meaning.specs.Reading.{Unread};
 
     ghost Value = { Unread };
 
-    ghost view = { λ r. record { place = r.at; bytes = drop r.at r.bytes.items; finished = r.finished } };
+    ghost use Rattle.smt_reader.specs.Scan.{IsReading};
 
-    ghost invariant = { λ r. r.at ≤ length r.bytes.items };
+    ghost view = { λ r. record { place = r.base + r.at; bytes = drop r.at r.bytes.items; finished = r.finished } };
+
+    ghost invariant = { λ r. IsReading r.bytes.items r.base r.at r.scan };
 }
 
 impl Reader {
@@ -32,17 +41,21 @@ impl Reader {
     {
         Reader {
             bytes: Vec::new(alloc),
+            base: 0,
             at: 0,
+            scan: Scan::new(alloc),
             finished: false,
         }
     }
 
     /// Takes the next piece of the input. An `Err`, for want of memory, changes nothing.
     pub fn feed(&mut self, piece: &[u8]) -> Result<(), AllocError>
-        requires { self.old.finished ≡ false }
+        requires going { self.old.finished ≡ false }
+        requires room { self.old.place + length self.old.bytes + length piece.now < 2 ^ 64 }
         ensures ok { OnOk result (self.new ≡ record self.old { bytes = self.old.bytes ++ piece.now }) }
         ensures err { OnErr result (self.new ≡ self.old) }
     {
+        self.forget();
         self.bytes.extend_from_slice(piece)?;
         Ok(())
     }
@@ -60,22 +73,40 @@ impl Reader {
         ensures left { IfOk result (λ next. Leaves self.old next self.new) }
         ensures err { OnErr result (self.new ≡ self.old) }
     {
-        let len = self.bytes.len();
-        match scan(alloc, self.unread(), self.finished)? {
-            Found::Ready(sexpr, after) => {
-                self.at = len - after.len();
+        match self
+            .scan
+            .find(alloc, &self.bytes[self.at..], self.finished)?
+        {
+            Found::Ready(sexpr, used) => {
+                self.at += used;
                 Ok(Next::Ready(sexpr))
             }
-            Found::Fault(kind, from) => Ok(Next::Fault(kind, (len - from.len()) as u64)),
+            Found::Fault(kind, place) => {
+                Ok(Next::Fault(kind, self.base + (self.at + place) as u64))
+            }
             Found::NeedMore => Ok(Next::NeedMore),
             Found::End => Ok(Next::End),
         }
     }
 
-    /// The bytes that aren't read.
-    fn unread(&self) -> &[u8]
-        ensures { result.now ≡ self.now.bytes }
+    /// Lets the read bytes go once they are as many as the others, so that no more bytes are moved than are let go.
+    fn forget(&mut self)
+        ensures { self.new ≡ self.old }
     {
-        &self.bytes[self.at..]
+        if self.at >= self.bytes.len() - self.at {
+            drop_front(&mut self.bytes, self.at);
+            self.base += self.at as u64;
+            self.at = 0;
+        }
     }
+}
+
+/// Drops the first `count` bytes. It takes no memory.
+fn drop_front(bytes: &mut Vec<u8>, count: usize)
+    requires { count ≤ vec_len bytes.old }
+    ensures { bytes.new.items ≡ drop count bytes.old.items }
+{
+    let left = bytes.len() - count;
+    bytes.copy_within(count.., 0);
+    bytes.truncate(left);
 }

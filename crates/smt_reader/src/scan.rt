@@ -1,78 +1,281 @@
-ghost use Rattle.std.specs.Prelude.{◌≡◌, IfOk};
-ghost use Rattle.smt_meaning.specs.Reading.{lexeme as lexeme_of, token};
-ghost use Rattle.smt_meaning.specs.declared.tokens.Token.TheVariants.{Enter as EnterToken};
-ghost use Rattle.smt_reader.specs.Scan.{Finds};
+ghost use Rattle.std.specs.Prelude.{◌≡◌, ◌≤◌, ◌+◌, ◌++◌, ◌∷◌, [], List, ℕ, length, ◌<◌, true, Some, OnErr, IfOk, IsSome, if◌then◌else◌};
+ghost use Rattle.std.specs.Result.{is_ok};
+ghost use Rattle.smt_meaning.specs.Reading.{IsSExpr, Opens, shapes};
+ghost use Rattle.smt_reader.specs.Parts.{StopsAt, part_token};
+ghost use Rattle.smt_reader.specs.Scan.{IsScan, start_of, EndsAt, Finds, Keeps, Comes};
 
-use crate::lexeme::{Lexeme, Piece};
-use crate::step::{Step, next_step};
-use smt_meaning::{FaultKind, SExpr, Seq, Token};
+use crate::part::{Ending, Part, Turn};
+use smt_meaning::{FaultKind, SExpr, Token};
 use std::alloc::{AllocError, Global};
+use std::mem;
 
-/// What stands first in bytes.
+/// The most lists that are open at a time.
+const MOST_OPEN: usize = 10_000;
+
+/// The tokens for which a list takes room as it opens: more than most commands have.
+const USUAL_TOKENS: usize = 32;
+
+/// How far the unread bytes of an input were scanned.
 #[derive(Drop)]
-pub enum Found<'a> {
-    /// An s-expression, and the bytes after it.
-    Ready(SExpr, &'a [u8]),
-    /// A fault, and the bytes from its place on.
-    Fault(FaultKind, &'a [u8]),
-    /// Nothing whole, and more bytes may follow.
+pub struct Scan {
+    /// How many of them were looked at.
+    pub looked: usize,
+    /// Where in the token that follows the whole ones they end.
+    pub part: Part,
+    /// Where that token begins.
+    pub start: usize,
+    /// What was read of a text or a quoted symbol.
+    pub content: Vec<u8>,
+    /// The whole tokens of the list that is open.
+    pub tokens: Vec<Token>,
+    /// How many lists are open.
+    pub depth: usize,
+    /// Where the outermost list begins.
+    pub from: usize,
+}
+
+/// What stands first in the unread bytes. Places are counted from the first of them.
+#[derive(Drop)]
+pub enum Found {
+    /// An s-expression, and how many bytes it takes.
+    Ready(SExpr, usize),
+    /// A fault at a place.
+    Fault(FaultKind, usize),
+    /// Nothing that is settled: more bytes may follow.
     NeedMore,
-    /// Nothing but blanks, and no more bytes follow.
+    /// Nothing but blanks and comments, and no more bytes follow.
     End,
 }
 
-/// Reads the first s-expression.
-pub fn scan(alloc: Global, bytes: &[u8], finished: bool) -> Result<Found<'_>, AllocError>
-    ensures { IfOk result (Finds bytes.now finished) }
-{
-    match Lexeme::first(bytes) {
-        Lexeme::Nothing if finished => Ok(Found::End),
-        Lexeme::Nothing => Ok(Found::NeedMore),
-        Lexeme::Wrong(from) => Ok(Found::Fault(FaultKind::Character, from)),
-        Lexeme::Token(from, Piece::Leave, _) => Ok(Found::Fault(FaultKind::Closing, from)),
-        Lexeme::Token(from, Piece::Enter, after) => {
-            scan_list(alloc, bytes, from, after, finished)
+impl Scan {
+    /// The scan of which nothing was looked at.
+    pub fn new(alloc: Global) -> Self
+        ensures { (unread : List ℕ) → IsScan unread result }
+    {
+        Scan {
+            looked: 0,
+            part: Part::Blank,
+            start: 0,
+            content: Vec::new(alloc),
+            tokens: Vec::new(alloc),
+            depth: 0,
+            from: 0,
         }
-        Lexeme::Token(_, Piece::Word(name), after) => {
-            if after.is_empty() && !finished {
-                return Ok(Found::NeedMore);
+    }
+
+    /// Finds what stands first, going on where the scan stopped. An `Err`, for want of memory, loses nothing.
+    pub fn find(&mut self, alloc: Global, bytes: &[u8], finished: bool) -> Result<Found, AllocError>
+        requires { IsScan bytes.now self.old }
+        ensures finds { IfOk result (Finds bytes.now finished) }
+        ensures keeps { IfOk result (λ found. Keeps bytes.now found self.new) }
+        ensures err { OnErr result (IsScan bytes.now self.new) }
+    {
+        loop {
+            let Some(turn) = self.pass(bytes) else {
+                return self.at_end(alloc, bytes, finished);
+            };
+            if let Some(found) = self.turn(alloc, bytes, turn)? {
+                return Ok(found);
             }
-            let mut tokens = Vec::new(alloc);
-            tokens.push(Token::Symbol(Seq::copy(alloc, name)?))?;
-            Ok(Found::Ready(SExpr::from_tokens(tokens), after))
+        }
+    }
+
+    /// Passes over the bytes that only go on, and says what the next one does.
+    fn pass(&mut self, bytes: &[u8]) -> Option<Turn>
+        requires { IsScan bytes.now self.old }
+        ensures scan { IsScan bytes.now self.new }
+        ensures stops { StopsAt self.new.part bytes.now self.new.looked result }
+        ensures onward { self.old.looked ≤ self.new.looked }
+        ensures tokens { self.new.tokens ≡ self.old.tokens }
+    {
+        let run = self.part.run(&bytes[self.looked..]);
+        self.looked += run.passed;
+        self.part = run.part;
+        run.turn
+    }
+
+    /// Does what the next byte does.
+    fn turn(&mut self, alloc: Global, bytes: &[u8], turn: Turn) -> Result<Option<Found>, AllocError>
+        requires scan { IsScan bytes.now self.old }
+        requires stops { StopsAt self.old.part bytes.now self.old.looked (Some turn) }
+        ensures ok { IfOk result (λ found. Comes bytes.now self.old found self.new) }
+        ensures err { OnErr result (IsScan bytes.now self.new) }
+    {
+        match turn {
+            Turn::Enters => self.enter(),
+            Turn::Leaves => self.leave(alloc),
+            Turn::Begins(part) => {
+                self.content.clear();
+                self.part = part;
+                self.start = self.looked;
+                self.looked += 1;
+                Ok(None)
+            }
+            Turn::Adds(part) => {
+                self.content.push(bytes[self.looked])?;
+                self.part = part;
+                self.looked += 1;
+                Ok(None)
+            }
+            Turn::Ends => self.end_token(alloc, bytes, self.looked),
+            Turn::Closes => self.end_token(alloc, bytes, self.looked + 1),
+            Turn::Wrong => Ok(Some(Found::Fault(FaultKind::Character, self.looked))),
+            Turn::Malformed => Ok(Some(Found::Fault(FaultKind::Character, self.start))),
+        }
+    }
+
+    /// Opens a list at the next byte.
+    fn enter(&mut self) -> Result<Option<Found>, AllocError>
+        requires { self.old.looked < usize.MAX }
+        ensures ok { (bytes : List ℕ) → IsScan bytes self.old → StopsAt self.old.part bytes self.old.looked (Some Turn.Enters)
+            → IfOk result (λ found. Comes bytes self.old found self.new) }
+        ensures err { (bytes : List ℕ) → IsScan bytes self.old → OnErr result (IsScan bytes self.new) }
+    {
+        if self.depth >= MOST_OPEN {
+            return Ok(Some(Found::Fault(FaultKind::Nesting, self.looked)));
+        }
+        push_first(&mut self.tokens, Token::Enter)?;
+        self.from = self.outermost();
+        self.depth += 1;
+        self.go_on(self.looked + 1);
+        Ok(None)
+    }
+
+    /// Closes a list at the next byte.
+    fn leave(&mut self, alloc: Global) -> Result<Option<Found>, AllocError>
+        requires room { self.old.looked < usize.MAX }
+        requires opens { Opens 0 (shapes self.old.tokens.items) self.old.depth }
+        ensures ok { (bytes : List ℕ) → IsScan bytes self.old → StopsAt self.old.part bytes self.old.looked (Some Turn.Leaves)
+            → IfOk result (λ found. Comes bytes self.old found self.new) }
+        ensures err { (bytes : List ℕ) → IsScan bytes self.old → OnErr result (IsScan bytes self.new) }
+    {
+        if self.depth == 0 {
+            return Ok(Some(Found::Fault(FaultKind::Closing, self.looked)));
+        }
+        self.tokens.push(Token::Leave)?;
+        let next = self.looked + 1;
+        if self.depth == 1 {
+            return Ok(Some(self.ready(alloc, next)));
+        }
+        self.depth -= 1;
+        self.go_on(next);
+        Ok(None)
+    }
+
+    /// Ends the token, behind which the bytes go on from `next`.
+    fn end_token(
+        &mut self,
+        alloc: Global,
+        bytes: &[u8],
+        next: usize,
+    ) -> Result<Option<Found>, AllocError>
+        requires scan { IsScan bytes.now self.old }
+        requires ends { EndsAt bytes.now self.old next }
+        ensures ok { IfOk result (λ found. Comes bytes.now self.old found self.new) }
+        ensures err { OnErr result (IsScan bytes.now self.new) }
+    {
+        let token = self.token(alloc, bytes)?;
+        self.tokens.push(token)?;
+        if self.depth == 0 {
+            return Ok(Some(self.ready(alloc, next)));
+        }
+        self.go_on(next);
+        Ok(None)
+    }
+
+    /// What is found where all bytes were looked at.
+    fn at_end(&mut self, alloc: Global, bytes: &[u8], finished: bool) -> Result<Found, AllocError>
+        requires scan { IsScan bytes.now self.old }
+        requires all { self.old.looked ≡ length bytes.now }
+        ensures finds { IfOk result (Finds bytes.now finished) }
+        ensures keeps { IfOk result (λ found. Keeps bytes.now found self.new) }
+        ensures err { OnErr result (IsScan bytes.now self.new) }
+    {
+        if !finished {
+            return Ok(Found::NeedMore);
+        }
+        if self.depth > 0 {
+            return Ok(self.list_at_end());
+        }
+        match self.part.ending() {
+            Ending::Bare => Ok(Found::End),
+            Ending::Whole => {
+                let token = self.token(alloc, bytes)?;
+                self.tokens.push(token)?;
+                Ok(self.ready(alloc, self.looked))
+            }
+            Ending::Halted => Ok(Found::Fault(FaultKind::Unfinished, self.start)),
+            Ending::Formless => Ok(Found::Fault(FaultKind::Character, self.start)),
+        }
+    }
+
+    /// What is found where the input ends inside a list.
+    fn list_at_end(&self) -> Found
+        requires { 0 < self.now.depth }
+        ensures { (bytes : List ℕ) → IsScan bytes self.now → self.now.looked ≡ length bytes
+            → Finds bytes true result × Keeps bytes result self.now }
+    {
+        match self.part.ending() {
+            Ending::Formless => Found::Fault(FaultKind::Character, self.start),
+            _ => Found::Fault(FaultKind::Unfinished, self.from),
+        }
+    }
+
+    /// The token that the bytes looked at end.
+    fn token(&self, alloc: Global, bytes: &[u8]) -> Result<Token, AllocError>
+        requires within { self.now.looked ≤ length bytes.now }
+        requires begun { self.now.start ≤ self.now.looked }
+        requires ends { IsSome (part_token self.now.part (start_of bytes.now self.now) self.now.content.items) }
+        ensures { IfOk result (λ t. part_token self.now.part (start_of bytes.now self.now) self.now.content.items ≡ Some t) }
+    {
+        let start = &bytes[self.start..self.looked];
+        let Some(token) = self.part.token(alloc, start, self.content.as_slice())? else {
+            unreachable!()
+        };
+        Ok(token)
+    }
+
+    /// The tokens are an s-expression. The scan begins anew behind it.
+    fn ready(&mut self, alloc: Global, used: usize) -> Found
+        requires { IsSExpr self.old.tokens.items }
+        ensures ready { result ≡ Found.Ready self.old.tokens.items used }
+        ensures anew { (unread : List ℕ) → IsScan unread self.new }
+    {
+        let tokens = mem::replace(&mut self.tokens, Vec::new(alloc));
+        self.depth = 0;
+        self.go_on(0);
+        Found::Ready(SExpr::from_tokens(tokens), used)
+    }
+
+    /// Goes on from a place, between tokens.
+    fn go_on(&mut self, next: usize)
+        ensures { self.new ≡ record self.old { looked = next; part = Part.Blank; start = next } }
+    {
+        self.looked = next;
+        self.part = Part::Blank;
+        self.start = next;
+    }
+
+    /// Where the outermost list begins, if one opens at the next byte.
+    fn outermost(&self) -> usize
+        ensures first { self.now.depth ≡ 0 → result ≡ self.now.looked }
+        ensures inner { 0 < self.now.depth → result ≡ self.now.from }
+    {
+        if self.depth == 0 {
+            self.looked
+        } else {
+            self.from
         }
     }
 }
 
-/// Reads the list that begins at the front of `from`, which is the first token of the bytes.
-fn scan_list<'a>(
-    alloc: Global,
-    bytes: &'a [u8],
-    from: &'a [u8],
-    after: &'a [u8],
-    finished: bool,
-) -> Result<Found<'a>, AllocError>
-    requires { lexeme_of bytes.now ≡ token from.now EnterToken after.now }
-    ensures { IfOk result (Finds bytes.now finished) }
+/// Adds a token, and takes room for others behind the first. An `Err`, for want of memory, adds none.
+fn push_first(tokens: &mut Vec<Token>, token: Token) -> Result<(), AllocError>
+    ensures items { tokens.new.items ≡ (if is_ok result then tokens.old.items ++ token ∷ [] else tokens.old.items) }
 {
-    let mut tokens = Vec::new(alloc);
-    tokens.push(Token::Enter)?;
-    let mut depth = 1;
-    let mut left = after;
-    loop {
-        match next_step(left, depth, finished) {
-            Step::Goes(piece, next_depth, after) => {
-                tokens.push(piece.to_token(alloc)?)?;
-                depth = next_depth;
-                left = after;
-            }
-            Step::Ends(after) => {
-                tokens.push(Token::Leave)?;
-                return Ok(Found::Ready(SExpr::from_tokens(tokens), after));
-            }
-            Step::Wrong(from) => return Ok(Found::Fault(FaultKind::Character, from)),
-            Step::Stuck if finished => return Ok(Found::Fault(FaultKind::Unfinished, from)),
-            Step::Stuck => return Ok(Found::NeedMore),
-        }
+    if tokens.is_empty() {
+        tokens.reserve(USUAL_TOKENS)?;
     }
+    tokens.push(token)?;
+    Ok(())
 }

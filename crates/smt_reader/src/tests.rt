@@ -1,37 +1,62 @@
-ghost use Rattle.std.specs.Prelude.{◌≡◌, ◌<◌, OnOk};
+ghost use Rattle.std.specs.Prelude.{◌≡◌, ◌+◌, ◌<◌, length, OnOk};
 
 use crate::{Next, Reader, reads_in_one_way};
-use smt_meaning::{FaultKind, Token};
+use smt_meaning::{FaultKind, Token, Word};
 use std::alloc::{AllocError, Global};
 use std::test::Fail;
 
 type Fault = Option<(FaultKind, u64)>;
 
-// Parentheses as they are, and a blank behind each word.
+fn spelling(word: Word) -> &'static [u8] {
+    match word {
+        Word::Exclamation => b"!",
+        Word::Underscore => b"_",
+        Word::As => b"as",
+        Word::Let => b"let",
+        Word::Exists => b"exists",
+        Word::Forall => b"forall",
+        Word::Match => b"match",
+        Word::Par => b"par",
+    }
+}
+
+// A token's kind by a letter, its bytes, and a comma. Parentheses stand as they are.
+fn write_token(token: &Token, text: &mut Vec<u8>) -> Result<(), AllocError> {
+    let (kind, bytes) = match token {
+        Token::Enter => return Ok(text.push(b'(')?),
+        Token::Leave => return Ok(text.push(b')')?),
+        Token::Numeral(digits) => (b'N', digits.as_slice()),
+        Token::Decimal(digits) => (b'D', digits.as_slice()),
+        Token::Hex(digits) => (b'X', digits.as_slice()),
+        Token::Binary(digits) => (b'B', digits.as_slice()),
+        Token::Text(bytes) => (b'T', bytes.as_slice()),
+        Token::Symbol(name) => (b'S', name.as_slice()),
+        Token::Reserved(word) => (b'R', spelling(*word)),
+        Token::Keyword(name) => (b'K', name.as_slice()),
+    };
+    text.push(kind)?;
+    text.extend_from_slice(bytes)?;
+    text.push(b',')?;
+    Ok(())
+}
+
 fn write(tokens: &[Token], text: &mut Vec<u8>) -> Result<(), AllocError> {
     for token in tokens {
-        match token {
-            Token::Enter => text.push(b'(')?,
-            Token::Leave => text.push(b')')?,
-            Token::Symbol(name) => {
-                text.extend_from_slice(name.as_slice())?;
-                text.push(b' ')?;
-            }
-            _ => text.push(b'?')?,
-        }
+        write_token(token, text)?;
     }
     Ok(())
 }
 
-// What can be read now: a `;` behind each s-expression, and a `.` for the end.
+// What can be read now: a blank behind each s-expression, and a `.` for the end.
 fn read_on(alloc: Global, reader: &mut Reader, text: &mut Vec<u8>) -> Result<Fault, AllocError>
-    ensures { OnOk result (reader.new.finished ≡ reader.old.finished) }
+    ensures finished { OnOk result (reader.new.finished ≡ reader.old.finished) }
+    ensures fed { OnOk result (reader.new.place + length reader.new.bytes ≡ reader.old.place + length reader.old.bytes) }
 {
-    for _ in 0..100 {
+    for _ in 0..1000 {
         match reader.next(alloc)? {
             Next::Ready(sexpr) => {
                 write(sexpr.tokens(), text)?;
-                text.push(b';')?;
+                text.push(b' ')?;
             }
             Next::NeedMore => return Ok(None),
             Next::End => {
@@ -44,58 +69,100 @@ fn read_on(alloc: Global, reader: &mut Reader, text: &mut Vec<u8>) -> Result<Fau
     Ok(None)
 }
 
-// All that a script reads as, fed in pieces of so many bytes.
-fn read_all(alloc: Global, script: &[u8], step: usize) -> Result<(Vec<u8>, Fault), AllocError>
+// What can be read of a script that is fed in pieces of so many bytes, and that may go on or not. A `!` says that a fault isn't found again.
+fn read(
+    alloc: Global,
+    script: &[u8],
+    step: usize,
+    finished: bool,
+) -> Result<(Vec<u8>, Fault), AllocError>
     requires { 0 < step }
 {
     let mut reader = Reader::new(alloc);
     let mut text = Vec::new(alloc);
-    for piece in script.chunks(step) {
-        reader.feed(piece)?;
+    let mut fed = 0;
+    while fed < script.len() {
+        let next = fed + step.min(script.len() - fed);
+        reader.feed(&script[fed..next])?;
         if let Some(fault) = read_on(alloc, &mut reader, &mut text)? {
+            let again = read_on(alloc, &mut reader, &mut text)?;
+            if again != Some(fault) {
+                text.push(b'!')?;
+            }
             return Ok((text, Some(fault)));
         }
+        fed = next;
     }
-    reader.finish();
+    if finished {
+        reader.finish();
+    }
     let fault = read_on(alloc, &mut reader, &mut text)?;
     Ok((text, fault))
 }
 
+// The lexicon of SMT-LIB 2.6, section 3.1, and the faults.
 #[test]
 fn reads_however_cut(rt: HostRuntime) -> Result<(), Fail> {
     reads_in_one_way();
     for (script, want, fault) in [
         (b"".as_slice(), b".".as_slice(), None),
         (b" \t\r\n", b".", None),
-        (b"a b", b"a ;b ;.", None),
-        (b"()", b"();.", None),
-        (b"(a (b c) d)e", b"(a (b c )d );e ;.", None),
+        (b"0 5 1234567890", b"N0, N5, N1234567890, .", None),
+        (b"0.0 1.50 12.007", b"D0.0, D1.50, D12.007, .", None),
+        (b"#x0 #xaAfF09", b"X#x0, X#xaAfF09, .", None),
+        (b"#b0 #b0101", b"B#b0, B#b0101, .", None),
+        (b"\"\" \"a b\"", b"T, Ta b, .", None),
+        (b"\"\"\"\" \"a\"\"b\"", b"T\", Ta\"b, .", None),
+        (b"\"(;|\\\n\" \"\xc3\xa9\"", b"T(;|\\\n, T\xc3\xa9, .", None),
         (
             b"Zz09 ~!@$%^&*_-+=<>.?/",
-            b"Zz09 ;~!@$%^&*_-+=<>.?/ ;.",
+            b"SZz09, S~!@$%^&*_-+=<>.?/, .",
             None,
         ),
+        (b"|a b| || |\"(;\n|", b"Sa b, S, S\"(;\n, .", None),
+        (b"let |let|", b"Rlet, Slet, .", None),
+        (
+            b"! _ as exists forall match par",
+            b"R!, R_, Ras, Rexists, Rforall, Rmatch, Rpar, .",
+            None,
+        ),
+        (
+            b"BINARY DECIMAL HEXADECIMAL NUMERAL STRING",
+            b"SBINARY, SDECIMAL, SHEXADECIMAL, SNUMERAL, SSTRING, .",
+            None,
+        ),
+        (b"assert lets Let", b"Sassert, Slets, SLet, .", None),
+        (
+            b":a :print-success :let :4x",
+            b"Ka, Kprint-success, Klet, K4x, .",
+            None,
+        ),
+        (b"()", b"() .", None),
+        (b"(a (b c) d)e", b"(Sa,(Sb,Sc,)Sd,) Se, .", None),
+        (b"(a\"b\"|c|1(#b1):d)", b"(Sa,Tb,Sc,N1,(B#b1,)Kd,) .", None),
+        (b"a;b)\nc;d(\re", b"Sa, Sc, Se, .", None),
+        (b"(a ;b)\n ;\r)", b"(Sa,) .", None),
+        (b"a ;b", b"Sa, .", None),
+        (b";\"", b".", None),
         (b")", b"", Some((FaultKind::Closing, 0))),
-        (
-            b"(check-sat))",
-            b"(check-sat );",
-            Some((FaultKind::Closing, 11)),
-        ),
-        (
-            b"(check-sat)(push 1)",
-            b"(check-sat );",
-            Some((FaultKind::Character, 17)),
-        ),
-        (b" 1a", b"", Some((FaultKind::Character, 1))),
-        (b"a;", b"a ;", Some((FaultKind::Character, 1))),
-        (b"(a \"b\")", b"", Some((FaultKind::Character, 3))),
-        (b"(a\xff)", b"", Some((FaultKind::Character, 2))),
-        (b"(((", b"", Some((FaultKind::Character, 2))),
+        (b"(a))", b"(Sa,) ", Some((FaultKind::Closing, 3))),
+        (b"a ;)\n)", b"Sa, ", Some((FaultKind::Closing, 5))),
         (b"(a", b"", Some((FaultKind::Unfinished, 0))),
-        (b" (a) (b (c)", b"(a );", Some((FaultKind::Unfinished, 5))),
+        (b" (a) (b (c)", b"(Sa,) ", Some((FaultKind::Unfinished, 5))),
+        (b"a (b ;c)", b"Sa, ", Some((FaultKind::Unfinished, 2))),
+        (b" \"a", b"", Some((FaultKind::Unfinished, 1))),
+        (b"\"a\"\"", b"", Some((FaultKind::Unfinished, 0))),
+        (b" |a", b"", Some((FaultKind::Unfinished, 1))),
+        (b" (a |b", b"", Some((FaultKind::Unfinished, 1))),
+        (b"(\"a\"", b"", Some((FaultKind::Unfinished, 0))),
+        (b"a\x01", b"Sa, ", Some((FaultKind::Character, 1))),
+        (b"(a \xff)", b"", Some((FaultKind::Character, 3))),
+        (b"\"a\x7f\"", b"", Some((FaultKind::Character, 2))),
+        (b"(|a\\|)", b"", Some((FaultKind::Character, 3))),
+        (b"\\", b"", Some((FaultKind::Character, 0))),
     ] {
         for step in [1, 2, 100] {
-            let (text, got) = read_all(rt.alloc(), script, step)?;
+            let (text, got) = read(rt.alloc(), script, step, true)?;
             assert_eq!(rt; text.as_slice(), want, "in pieces of {step}");
             assert!(rt; got == fault, "in pieces of {step}");
         }
@@ -103,18 +170,189 @@ fn reads_however_cut(rt: HostRuntime) -> Result<(), Fail> {
     Ok(())
 }
 
+// A word that is no token is a fault at its first byte, wherever it stands.
+#[test]
+fn words_of_no_form(rt: HostRuntime) -> Result<(), Fail> {
+    for word in [
+        b"00".as_slice(),
+        b"01",
+        b"1a",
+        b"1.",
+        b"1.a",
+        b"1.5.",
+        b"0x1",
+        b"#",
+        b"#a",
+        b"#x",
+        b"#xg",
+        b"#b",
+        b"#b2",
+        b":",
+        b"::",
+        b"a:b",
+        b"a#b",
+        b"1#",
+    ] {
+        for (before, after, want) in [
+            (b"".as_slice(), b"".as_slice(), b"".as_slice()),
+            (b"a ", b" b", b"Sa, "),
+            (b"() (a (b ", b")", b"() "),
+        ] {
+            let mut script = before.to_vec(rt.alloc())?;
+            script.extend_from_slice(word)?;
+            script.extend_from_slice(after)?;
+            for step in [1, 2, 100] {
+                let (text, got) = read(rt.alloc(), &script, step, true)?;
+                assert_eq!(rt; text.as_slice(), want, "in pieces of {step}");
+                assert!(rt; got == Some((FaultKind::Character, before.len() as u64)));
+            }
+        }
+    }
+    Ok(())
+}
+
+// What a byte is between blanks: the letter of the token that it is alone, or a fault, or neither.
+fn alone(byte: u8) -> (Option<u8>, Fault) {
+    match byte {
+        9 | 10 | 13 | 32 | b';' => (None, None),
+        b'(' | b'"' | b'|' => (None, Some((FaultKind::Unfinished, 1))),
+        b')' => (None, Some((FaultKind::Closing, 1))),
+        b'0'..=b'9' => (Some(b'N'), None),
+        b'A'..=b'Z' | b'a'..=b'z' => (Some(b'S'), None),
+        b'!' | b'_' => (Some(b'R'), None),
+        _ if b"~@$%^&*-+=<>.?/".contains(&byte) => (Some(b'S'), None),
+        _ => (None, Some((FaultKind::Character, 1))),
+    }
+}
+
+#[test]
+fn every_byte_alone(rt: HostRuntime) -> Result<(), Fail> {
+    let alloc = rt.alloc();
+    for byte in 0..=255 {
+        let (kind, fault) = alone(byte);
+        let mut want = Vec::new(alloc);
+        if let Some(kind) = kind {
+            want.extend_from_slice(&[kind, byte, b',', b' '])?;
+        }
+        if fault.is_none() {
+            want.push(b'.')?;
+        }
+        let (text, got) = read(alloc, &[b' ', byte, b' '], 1, true)?;
+        assert_eq!(rt; text.as_slice(), want.as_slice(), "at {byte}");
+        assert!(rt; got == fault, "at {byte}");
+    }
+    Ok(())
+}
+
+#[test]
+fn every_byte_in_quotes(rt: HostRuntime) -> Result<(), Fail> {
+    let alloc = rt.alloc();
+    for (mark, kind, twice) in [(b'"', b'T', (b"".as_slice(), 0)), (b'|', b'S', (b"S, ", 2))] {
+        for byte in 0..=255 {
+            let mut want = Vec::new(alloc);
+            let mut fault = None;
+            if byte == mark {
+                want.extend_from_slice(twice.0)?;
+                fault = Some((FaultKind::Unfinished, twice.1));
+            } else if byte == 127
+                || (byte < 32 && byte != 9 && byte != 10 && byte != 13)
+                || (mark == b'|' && byte == b'\\')
+            {
+                fault = Some((FaultKind::Character, 1));
+            } else {
+                want.extend_from_slice(&[kind, byte, b',', b' ', b'.'])?;
+            }
+            let (text, got) = read(alloc, &[mark, byte, mark], 1, true)?;
+            assert_eq!(rt; text.as_slice(), want.as_slice(), "at {byte}");
+            assert!(rt; got == fault, "at {byte}");
+        }
+    }
+    Ok(())
+}
+
+// What is read while more bytes may follow.
 #[test]
 fn answers_as_soon_as_settled(rt: HostRuntime) -> Result<(), Fail> {
+    for (script, want, fault) in [
+        (b"".as_slice(), b"".as_slice(), None),
+        (b" ;)", b"", None),
+        (b"a", b"", None),
+        (b"a ", b"Sa, ", None),
+        (b"a;", b"Sa, ", None),
+        (b"a(", b"Sa, ", None),
+        (b"1)", b"N1, ", Some((FaultKind::Closing, 1))),
+        (b"1", b"", None),
+        (b"1a", b"", Some((FaultKind::Character, 0))),
+        (b"00", b"", Some((FaultKind::Character, 0))),
+        (b"(1a", b"", Some((FaultKind::Character, 1))),
+        (b"1.", b"", None),
+        (b"#", b"", None),
+        (b"#xg", b"", Some((FaultKind::Character, 0))),
+        (b":", b"", None),
+        (b": ", b"", Some((FaultKind::Character, 0))),
+        (b"\"a\"", b"", None),
+        (b"\"a\" ", b"Ta, ", None),
+        (b"\"a\x01", b"", Some((FaultKind::Character, 2))),
+        (b"|a|", b"Sa, ", None),
+        (b"(a)", b"(Sa,) ", None),
+        (b"((a)", b"", None),
+        (b"(\"a\"", b"", None),
+        (b")", b"", Some((FaultKind::Closing, 0))),
+    ] {
+        for step in [1, 100] {
+            let (text, got) = read(rt.alloc(), script, step, false)?;
+            assert_eq!(rt; text.as_slice(), want, "in pieces of {step}");
+            assert!(rt; got == fault, "in pieces of {step}");
+        }
+    }
+    Ok(())
+}
+
+// At most 10,000 lists are open at a time.
+#[test]
+fn nests_so_deep(rt: HostRuntime) -> Result<(), Fail> {
     let alloc = rt.alloc();
-    let mut reader = Reader::new(alloc);
-    reader.feed(b"(a")?;
-    assert!(rt; matches!(reader.next(alloc)?, Next::NeedMore));
-    reader.feed(b" b)c")?;
-    assert!(rt; matches!(reader.next(alloc)?, Next::Ready(_)));
-    assert!(rt; matches!(reader.next(alloc)?, Next::NeedMore));
-    reader.feed(b")")?;
-    assert!(rt; matches!(reader.next(alloc)?, Next::Ready(_)));
-    assert!(rt; matches!(reader.next(alloc)?, Next::Fault(FaultKind::Closing, 6)));
-    assert!(rt; matches!(reader.next(alloc)?, Next::Fault(FaultKind::Closing, 6)));
+    for (opened, closed, finished, fault) in [
+        (10_000, 0, true, Some((FaultKind::Unfinished, 0))),
+        (10_000, 0, false, None),
+        (10_001, 0, false, Some((FaultKind::Nesting, 10_000))),
+        (10_001, 10_001, true, Some((FaultKind::Nesting, 10_000))),
+        (10_000, 9_999, true, Some((FaultKind::Unfinished, 0))),
+    ] {
+        let mut script = vec![in alloc; b'('; opened]?;
+        script.extend_from_slice(&vec![in alloc; b')'; closed]?)?;
+        let (text, got) = read(alloc, &script, 4096, finished)?;
+        assert!(rt; text.is_empty());
+        assert!(rt; got == fault, "with {opened} and {closed}");
+    }
+    let mut script = vec![in alloc; b'('; 10_000]?;
+    script.extend_from_slice(&vec![in alloc; b')'; 10_000]?)?;
+    let (text, got) = read(alloc, &script, 4096, true)?;
+    script.extend_from_slice(b" .")?;
+    assert!(rt; text == script);
+    assert!(rt; got.is_none());
+    Ok(())
+}
+
+// Places are counted from the beginning of the input, however much of it was read and let go.
+#[test]
+fn places_of_later_pieces(rt: HostRuntime) -> Result<(), Fail> {
+    let alloc = rt.alloc();
+    let mut script = Vec::new(alloc);
+    let mut want = Vec::new(alloc);
+    for _ in 0..100 {
+        script.extend_from_slice(b"(a) ")?;
+        want.extend_from_slice(b"(Sa,) ")?;
+    }
+    script.extend_from_slice(b"(b ) )")?;
+    want.extend_from_slice(b"(Sb,) ")?;
+    for step in [1, 3, 4, 5, 1000] {
+        let (text, got) = read(alloc, &script, step, true)?;
+        assert!(rt; text == want, "in pieces of {step}");
+        assert!(rt;
+            got == Some((FaultKind::Closing, 405)),
+            "in pieces of {step}"
+        );
+    }
     Ok(())
 }

@@ -1,20 +1,31 @@
-use Rattle.std.proofs.Common.{arith, ◌-◌, length, subst, sym, ap, ◌∙◌}
-use Rattle.smt_meaning.specs.Reading.{Takes}
-use Rattle.smt_reader.proofs.Scans.{IsReady}
-use Rattle.smt_reader.proofs.Unreads.{takes, needs_more}
+use Rattle.std.proofs.Common.{ap}
+use Rattle.smt_reader.proofs.Unreads.{found_in, answers_ready, answers_fault, answers_need_more, takes}
 use Rattle.smt_reader.proofs.reader.Reader.next.Goals as goal
+
+pub returns-in-Ready-clause-answer : goal.returns-in-Ready-clause-answer
+returns-in-Ready-clause-answer c =
+    let r = c.self.inside in
+    let items = r.bytes.items in
+    let found = found_in _ items r.at _ _ _ _ c.deref.ensures.value (ap (λ u. u.finished) c.self.view_is) c.in-Ready.is c.in_ok-sexpr.ensures.finds in
+    answers_ready c.args.self.now items r.base r.at (ap (λ u. u.bytes) c.self.view_is) (ap (λ u. u.place) c.self.view_is) c.self.invariant.within c.in-Ready.sexpr c.in-Ready.used found
 
 pub returns-in-Ready-clause-left : goal.returns-in-Ready-clause-left
 returns-in-Ready-clause-left c =
-    let found = rw c.in-Ready.is at c.in_ok-sexpr.ensures in
-    let inside = c.self.inside in
-    let bytes_are = c.unread.ensures ∙ ap (λ u. u.bytes) (sym c.self.view_is) in
-    let ready = subst (λ bytes. IsReady bytes inside.finished c.in-Ready.sexpr c.in-Ready.after.now) bytes_are found in
-    let new = Rattle.smt_reader.specs.contracts.reader.Reader.the_view (record inside { at = c.len-len.result - length c.in-Ready.after.now }) in
-    subst (λ old. Takes old c.in-Ready.sexpr new) c.self.view_is
-    (takes inside.bytes.items c.in-Ready.after.now inside.at c.len-len.result inside.finished c.in-Ready.sexpr c.self.invariant (omega arith) ready)
+    let r = c.self.inside in
+    let items = r.bytes.items in
+    let found = found_in _ items r.at _ _ _ _ c.deref.ensures.value (ap (λ u. u.finished) c.self.view_is) c.in-Ready.is c.in_ok-sexpr.ensures.finds in
+    takes c.args.self.now items r.base r.at (ap (λ u. u.bytes) c.self.view_is) (ap (λ u. u.place) c.self.view_is) c.self.invariant.within c.in-Ready.sexpr c.in-Ready.used r.finished (ap (λ u. u.finished) c.self.view_is) found
+
+pub returns-in-Fault-clause-answer : goal.returns-in-Fault-clause-answer
+returns-in-Fault-clause-answer c =
+    let r = c.self.inside in
+    let items = r.bytes.items in
+    let found = found_in _ items r.at _ _ _ _ c.deref.ensures.value (ap (λ u. u.finished) c.self.view_is) c.in-Fault.is c.in_ok-sexpr.ensures.finds in
+    answers_fault c.args.self.now items r.base r.at (ap (λ u. u.bytes) c.self.view_is) (ap (λ u. u.place) c.self.view_is) c.self.invariant.within c.in-Fault.kind c.in-Fault.place found
 
 pub returns-in-NeedMore-clause-answer : goal.returns-in-NeedMore-clause-answer
 returns-in-NeedMore-clause-answer c =
-    let found = rw c.in-NeedMore.is at c.in_ok-sexpr.ensures in
-    needs_more c.args.self.now _ _ c.unread.ensures (ap (λ u. u.finished) c.self.view_is) found
+    let r = c.self.inside in
+    let items = r.bytes.items in
+    let found = found_in _ items r.at _ _ _ _ c.deref.ensures.value (ap (λ u. u.finished) c.self.view_is) c.in-NeedMore.is c.in_ok-sexpr.ensures.finds in
+    answers_need_more c.args.self.now items r.base r.at (ap (λ u. u.bytes) c.self.view_is) (ap (λ u. u.place) c.self.view_is) c.self.invariant.within found

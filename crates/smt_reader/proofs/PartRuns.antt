@@ -1,0 +1,52 @@
+-- Bytes that are passed over, one after another.
+use Rattle.std.proofs.Common.{◌≡◌, ◌<◌, ◌≤◌, ℕ, ◌+◌, Bool, true, false, not, ◌||◌, List, [], ◌∷◌, ◌++◌, length, take, drop, get_or, suc, inl, inr, cond, arith, refl, sym, ◌∙◌, ap, subst, append_assoc, length-drop, eqb}
+use Rattle.std.specs.List.{prefix_len}
+use Rattle.std.proofs.lemmas.List.{append-nil, drop-drop, drop_more}
+use Rattle.std.proofs.Math.Seq.{take-add}
+use Rattle.smt_reader.specs.declared.part.Part.{Part}
+use Rattle.smt_reader.specs.Parts.{goes_on, GoesOnTo, IsPart, Passes}
+
+-- no byte is passed over
+pub passes_none : (part : Part) (bytes : List ℕ) → Passes part part bytes 0
+passes_none part bytes = record {
+  within = omega arith;
+  part = λ start is. subst (IsPart part) (sym (append-nil start)) is;
+  rest = λ start content more. ap (λ s. goes_on part s content (bytes ++ more)) (sym (append-nil start));
+}
+
+-- a byte is passed over
+pub passes_one : (old later : Part) (b : ℕ) (bytes : List ℕ) → GoesOnTo old b later → Passes old later (b ∷ bytes) 1
+passes_one old later b bytes goes = record {
+  within = omega arith;
+  part = goes.is_part;
+  rest = λ start content more. goes.rest start content (bytes ++ more);
+}
+
+-- further bytes are passed over
+pub passes_more : (old mid later : Part) (bytes : List ℕ) (passed more : ℕ) → Passes old mid bytes passed → Passes mid later (drop passed bytes) more → Passes old later bytes (passed + more)
+passes_more old mid later bytes passed more p q =
+    let taken : (start : List ℕ) → (start ++ take passed bytes) ++ take more (drop passed bytes) ≡ start ++ take (passed + more) bytes
+    = λ start. append_assoc start (take passed bytes) (take more (drop passed bytes)) ∙ ap (λ xs. start ++ xs) (sym (take-add passed more bytes)) in
+    record {
+      within = omega (arith, p.within, q.within, length-drop passed bytes);
+      part = λ start is. subst (IsPart later) (taken start) (q.part (start ++ take passed bytes) (p.part start is));
+      rest = λ start content after.
+          p.rest start content after
+          ∙ q.rest (start ++ take passed bytes) content after
+          ∙ ap (λ s. goes_on later s content (drop more (drop passed bytes) ++ after)) (taken start)
+          ∙ ap (λ xs. goes_on later (start ++ take (passed + more) bytes) content (xs ++ after)) (drop-drop more passed bytes);
+    }
+
+-- and one more
+pub passes_next : (old mid later : Part) (bytes : List ℕ) (passed : ℕ) → passed < length bytes → Passes old mid bytes passed → GoesOnTo mid (get_or bytes passed 0) later → Passes old later bytes (passed + 1)
+passes_next old mid later bytes passed lt p goes =
+    passes_more old mid later bytes passed 1 p
+    (subst (λ left. Passes mid later left 1) (sym (drop_more bytes passed 0 lt)) (passes_one mid later (get_or bytes passed 0) (drop (passed + 1) bytes) goes))
+
+-- bytes of a kind are passed over
+pub passes_while : (part : Part) (is : ℕ → Bool) → ((b : ℕ) → is b ≡ true → GoesOnTo part b part) → (bytes : List ℕ) → Passes part part bytes (prefix_len is bytes)
+passes_while part is goes [] = passes_none part []
+passes_while part is goes (b ∷ bytes) = by_test (is b) refl (passes_while part is goes bytes) where
+  by_test : (t : Bool) → is b ≡ t → Passes part part bytes (prefix_len is bytes) → Passes part part (b ∷ bytes) (cond t (1 + prefix_len is bytes) 0)
+  by_test true e again = passes_more part part part (b ∷ bytes) 1 (prefix_len is bytes) (passes_one part part b bytes (goes b e)) again
+  by_test false e again = passes_none part (b ∷ bytes)
