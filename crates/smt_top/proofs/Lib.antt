@@ -1,3 +1,4 @@
+pub mod Logics
 pub mod Written
 pub mod Turns
 pub mod Runs

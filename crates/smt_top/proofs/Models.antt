@@ -68,7 +68,7 @@ tables_more ls names ts i name t l are same is =
     let front : take (i + 1) names ≡ take i names ++ name ∷ [] = take_more names i name l ∙ ap (λ n. take i names ++ n ∷ []) (sym same) in
     rw front (tables_push ls 0 (take i names) ts name t are (rw e is))
 
-module _ (s : State) (ts : List Table) (reached : IsReached s) (clear : Clash s.asserted → ⊥) (are : AreTables s.asserted 0 s.declared ts) where
+module _ (s : State) (ts : List Table) (reached : IsReached s.declared s.asserted) (clear : Clash s.asserted → ⊥) (are : AreTables s.asserted 0 s.declared ts) where
   literal_true : (name : List ℕ) (positive : Bool) → HasValue s.asserted s.declared ts name → Contains s.asserted (record { name = name; positive = positive })
       → term_value s ts (record { name = name; positive = positive }) ≡ true
   literal_true name true (b, is, both) c = is ∙ both.1 c

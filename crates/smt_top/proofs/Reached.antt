@@ -5,15 +5,15 @@ use Rattle.std.specs.List.{Contains}
 use Rattle.smt_meaning.specs.declared.replies.ConstantLiteral.{ConstantLiteral}
 use Rattle.smt_top.specs.Decide.{IsReached}
 
-pub asserted : (ds : List (List ℕ)) (ls : List ConstantLiteral) (l : ConstantLiteral) → IsReached (record { declared = ds; asserted = ls }) → Contains ds l.name
-    → IsReached (record { declared = ds; asserted = ls ++ l ∷ [] })
+pub asserted : (ds : List (List ℕ)) (ls : List ConstantLiteral) (l : ConstantLiteral) → IsReached ds ls → Contains ds l.name
+    → IsReached ds (ls ++ l ∷ [])
 asserted ds ls l h c = record {
   known = All-push (λ (x : ConstantLiteral). Contains ds x.name) ls l h.known c;
   few = h.few;
 }
 
-pub declared : (ds : List (List ℕ)) (ls : List ConstantLiteral) (name : List ℕ) → IsReached (record { declared = ds; asserted = ls }) → length ds < 4294967295
-    → IsReached (record { declared = ds ++ name ∷ []; asserted = ls })
+pub declared : (ds : List (List ℕ)) (ls : List ConstantLiteral) (name : List ℕ) → IsReached ds ls → length ds < 4294967295
+    → IsReached (ds ++ name ∷ []) ls
 declared ds ls name h l = record {
   known = All-weaker (λ (x : ConstantLiteral). Contains ds x.name) (λ (x : ConstantLiteral). Contains (ds ++ name ∷ []) x.name)
       (λ x c. Contains-append_left ds (name ∷ []) x.name c) ls h.known;

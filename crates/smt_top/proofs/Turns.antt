@@ -1,10 +1,11 @@
 -- What a turn does to a run.
-use Rattle.std.proofs.Common.{◌≡◌, ℕ, ◌+◌, ◌<◌, List, [], ◌∷◌, ◌++◌, length, append_assoc, refl, sym, ap, subst, ◌∙◌, inl, inr, arith, length-append, append-nil, Bool, true, false, IsTrue, ◌↔◌, MatchOption, Option, Some, None, IfSome, Ok, Err, ◌≤◌}
+use Rattle.std.proofs.Common.{◌≡◌, ◌⊎◌, ℕ, ◌+◌, ◌<◌, List, [], ◌∷◌, ◌++◌, length, append_assoc, refl, sym, ap, subst, ◌∙◌, inl, inr, arith, length-append, append-nil, Bool, true, false, IsTrue, ◌↔◌, MatchOption, Option, Some, None, IfSome, IfErr, Result, Ok, Err, ◌≤◌}
 use Rattle.std.specs.Io.KnownBytes.{Appends, Consumes, Keeps, IsAtEnd}
 use Rattle.std.specs.Bool.{then_some}
-use Rattle.smt_meaning.specs.Reading.{Unread, MayFollow, IsSettled, Takes, ready, fault, end}
+use Rattle.smt_meaning.specs.Reading.{Unread, Answer, MayFollow, IsSettled, Takes, ready, fault, end}
+use Rattle.smt_meaning.specs.declared.settings.Settings.{Settings}
 use Rattle.smt_meaning.specs.Commands.{start}
-use Rattle.smt_meaning.specs.Journal.{Moment, beginning, Answers, Replies, IsCommand, GoesOn, Answered, IsLegal, journal_text}
+use Rattle.smt_meaning.specs.Journal.{Moment, beginning, Answers, Replies, IsCommand, GoesOn, IsLast, Answered, Runs, IsLegal, IsLegalSoFar, IsStopped, AnswersSettled, journal_text}
 use Rattle.smt_meaning.specs.declared.tokens.Token.{Token}
 use Rattle.smt_meaning.specs.declared.replies.Entry.{Entry}
 use Rattle.smt_meaning.specs.declared.replies.Reply.{Reply}
@@ -13,16 +14,16 @@ use Rattle.smt_meaning.specs.declared.replies.Kept.{Kept}
 use Rattle.smt_meaning.specs.declared.replies.Kept.TheVariants.{Nothing}
 use Rattle.smt_meaning.specs.declared.tokens.FaultKind.{FaultKind}
 use Rattle.smt_meaning.specs.declared.replies.Command.TheVariants.{Exit}
-use Rattle.smt_top.specs.Progress.{Runs, moment, HasAnswered, IsComplete, Comes, SoFar, Ends, Stands, at_source, at_sink}
+use Rattle.smt_top.specs.Progress.{moment, HasAnswered, IsComplete, IsFront, IsOver, NoneSettled, HasEntryAt, Comes, SoFar, Ends, Stands, at_source, at_sink}
 use Rattle.smt_top.specs.declared.serving.Stage.{Stage}
 use Rattle.smt_top.specs.declared.serving.Stage.TheVariants.{Asks, Complete}
 use Rattle.smt_top.specs.declared.serving.Run.{Run}
-use Rattle.smt_top.specs.Progress.{CutOff, WrittenAfter, WriteCause}
+use Rattle.smt_top.specs.Progress.{CutOff, WrittenAfter, WriteCause, WrittenAtHalt, IsWritten}
 use Rattle.smt_top.specs.Ended.{HaltOf}
 use Rattle.smt_top.specs.declared.serving.Stop.{Stop}
 use Rattle.smt_top.specs.declared.serving.Stop.TheVariants.{Memory as StopMemory, WriteFault as StopWriteFault}
 use Rattle.smt_top.specs.declared.top.Halt.{Halt}
-use Rattle.smt_top.specs.declared.top.Halt.TheVariants.{Memory, ReadFault}
+use Rattle.smt_top.specs.declared.top.Halt.TheVariants.{Memory, ReadFault, WriteFault}
 use Rattle.ports.specs.Flow.{Rose}
 use Rattle.std.proofs.lemmas.Grind.{common_steps}
 use Rattle.std.proofs.Common.{take}
@@ -44,7 +45,31 @@ not_true e = cc
 abbrev pub entry_of : List Entry → Reply → Kept → Entry
 entry_of j reply kept = record { number = length j; reply = reply; kept = kept }
 
-module _ (old new : Run) (ts : List Token) (reply : Reply) (kept : Kept)
+nothing_follows : (b : Bool) → MayFollow b []
+nothing_follows true = refl
+nothing_follows false = tt
+
+-- what holds holds at an error too
+pub at_err : {T E : Type 0} (r : Result T E) (P : Type 0) → P → IfErr r (λ _. P)
+at_err (Ok x) P p = tt
+at_err (Err e) P p = p
+
+-- What answers to the front of an input
+
+pub had_front : (s : Settings) (input : List ℕ) (old : Run) → HasAnswered s input old → IsFront s input old.reader.finished old.journal
+unfolding HasAnswered IsFront IsLegalSoFar
+had_front s input old had more may = inl (moment old more, had more may)
+
+-- the journal at hand is legal for the bytes so far, and those so far alone
+pub front_now : (s : Settings) (input : List ℕ) (finished : Bool) (journal : List Entry) → IsFront s input finished journal → IsLegalSoFar s input journal
+unfolding IsFront
+front_now s input finished journal front = subst (λ bytes. IsLegalSoFar s bytes journal) (append-nil input) (front [] (nothing_follows finished))
+
+legal_front : (s : Settings) (input : List ℕ) (r : Run) → IsComplete s input r → IsFront s input r.reader.finished r.journal
+unfolding IsComplete IsFront IsLegalSoFar
+legal_front s input r complete more may = inr (complete more may)
+
+module _ (s : Settings) (old new : Run) (ts : List Token) (reply : Reply) (kept : Kept)
     (settled : IsSettled old.reader (ready ts)) (takes : Takes old.reader ts new.reader)
     (replies : Replies old.stack ts reply kept new.stack)
     (pushed : new.journal ≡ old.journal ++ entry_of old.journal reply kept ∷ []) where
@@ -60,71 +85,148 @@ module _ (old new : Run) (ts : List Token) (reply : Reply) (kept : Kept)
     reply = replies;
   }
 
-  pub goes_on : (IsCommand old.stack ts Exit → ⊥) → (input : List ℕ) → HasAnswered input old → HasAnswered input new
-  unfolding HasAnswered IsComplete
-  goes_on other input had more may =
-      let may' : MayFollow old.reader.finished more = subst (λ b. MayFollow b more) takes.finished may in
-      subst (λ j. Runs (beginning (input ++ more)) j (moment new more)) (sym pushed)
-      (Runs-push (beginning (input ++ more)) (moment old more) (moment new more) old.journal _ (had more may') (ts, other, answers more may'))
+  before : (more : List ℕ) → MayFollow new.reader.finished more → MayFollow old.reader.finished more
+  before more may = subst (λ b. MayFollow b more) takes.finished may
 
-  pub exits : IsCommand old.stack ts Exit → (input : List ℕ) → HasAnswered input old → IsComplete input new
-  unfolding HasAnswered IsComplete
+  pub goes_on : (IsCommand old.stack ts Exit → ⊥) → (input : List ℕ) → HasAnswered s input old → HasAnswered s input new
+  unfolding HasAnswered
+  goes_on other input had more may =
+      subst (λ j. Runs (beginning s (input ++ more)) j (moment new more)) (sym pushed)
+      (Runs-push (beginning s (input ++ more)) (moment old more) (moment new more) old.journal _ (had more (before more may)) (ts, other, answers more (before more may)))
+
+  pub exits : IsCommand old.stack ts Exit → (input : List ℕ) → HasAnswered s input old → IsComplete s input new
+  unfolding HasAnswered IsComplete IsLegal
   exits last input had more may =
-      let may' : MayFollow old.reader.finished more = subst (λ b. MayFollow b more) takes.finished may in
-      subst (λ j. Answered (beginning (input ++ more)) j) (sym pushed)
-      (Runs-Answered (beginning (input ++ more)) (moment old more) old.journal _ (had more may') (inl (inl (ts, moment new more, last, answers more may'), refl)))
+      subst (λ j. Answered (beginning s (input ++ more)) j) (sym pushed)
+      (Runs-Answered (beginning s (input ++ more)) (moment old more) old.journal _ (had more (before more may)) (inl (inl (ts, moment new more, last, answers more (before more may)), refl)))
+
+  stops : IsCommand old.stack ts Exit → (input : List ℕ) → HasAnswered s input old → IsStopped s input new.journal
+  unfolding HasAnswered IsStopped
+  stops last input had =
+      let may = nothing_follows old.reader.finished in
+      let ran : Runs (beginning s input) old.journal (moment old []) = subst (λ bytes. Runs (beginning s bytes) old.journal (moment old [])) (append-nil input) (had [] may) in
+      (old.journal, entry_of old.journal reply kept, moment old [], pushed, ran, inl (ts, moment new [], last, answers [] may))
 
   -- what stands after the reply, whether it ends the run or not
-  pub next : (stop : Bool) → (IsTrue stop ↔ IsCommand old.stack ts Exit) → (input : List ℕ) → HasAnswered input old
-      → MatchOption (then_some stop Complete) (HasAnswered input new) (λ stage. Comes stage input new)
-  next true both input had = exits (both.0 refl) input had
+  pub next : (stop : Bool) → (IsTrue stop ↔ IsCommand old.stack ts Exit) → (input : List ℕ) → HasAnswered s input old
+      → MatchOption (then_some stop Complete) (HasAnswered s input new) (λ stage. Comes s stage input new)
+  next true both input had = (exits (both.0 refl) input had, inr (stops (both.0 refl) input had))
   next false both input had = goes_on (λ last. not_true (both.1 last)) input had
 
--- a fault ends the run
-pub faults : (old new : Run) (kind : FaultKind) (at : ℕ) → IsSettled old.reader (fault kind at) → new.reader ≡ old.reader
-    → new.journal ≡ old.journal ++ entry_of old.journal (Fault kind at) Nothing ∷ [] → (input : List ℕ) → HasAnswered input old → IsComplete input new
-unfolding HasAnswered IsComplete
-faults old new kind at settled same pushed input had more may =
-    let may' : MayFollow old.reader.finished more = subst (λ (u : Unread). MayFollow u.finished more) same may in
-    subst (λ j. Answered (beginning (input ++ more)) j) (sym pushed)
-    (Runs-Answered (beginning (input ++ more)) (moment old more) old.journal _ (had more may') (inl (inr (kind, at, settled more may', refl, refl, refl), refl)))
+  front_by : (stop : Bool) → (IsTrue stop ↔ IsCommand old.stack ts Exit) → (input : List ℕ) → HasAnswered s input old → IsFront s input new.reader.finished new.journal
+  front_by true both input had = legal_front s input new (exits (both.0 refl) input had)
+  front_by false both input had = had_front s input new (goes_on (λ last. not_true (both.1 last)) input had)
+
+-- where the reply's text wasn't taken, or memory was wanting for it
+pub reply_cut : (s : Settings) (old new : Run) (ts : List Token) (reply : Reply) (kept : Kept) (stop : Bool) (why : Stop)
+    → IsSettled old.reader (ready ts) → Takes old.reader ts new.reader → Replies old.stack ts reply kept new.stack → (IsTrue stop ↔ IsCommand old.stack ts Exit)
+    → HasEntryAt why old.journal (entry_of old.journal reply kept) new.journal → (input : List ℕ) → HasAnswered s input old → IsFront s input new.reader.finished new.journal
+reply_cut s old new ts reply kept stop StopWriteFault settled takes replies both entry input had = front_by s old new ts reply kept settled takes replies entry stop both input had
+reply_cut s old new ts reply kept stop StopMemory settled takes replies both entry input had =
+    let front = had_front s input old had in
+    subst (λ j. IsFront s input new.reader.finished j) (sym entry) (subst (λ b. IsFront s input b old.journal) (sym takes.finished) front)
+
+module _ (s : Settings) (old new : Run) (kind : FaultKind) (at : ℕ) (settled : IsSettled old.reader (fault kind at)) (same : new.reader ≡ old.reader)
+    (pushed : new.journal ≡ old.journal ++ entry_of old.journal (Fault kind at) Nothing ∷ []) where
+  last_of : (more : List ℕ) → MayFollow old.reader.finished more → IsLast (moment old more) (entry_of old.journal (Fault kind at) Nothing)
+  last_of more may = inr (kind, at, settled more may, refl, refl, refl)
+
+  fault_completes : (input : List ℕ) → HasAnswered s input old → IsComplete s input new
+  unfolding HasAnswered IsComplete IsLegal
+  fault_completes input had more may =
+      let may' : MayFollow old.reader.finished more = subst (λ (u : Unread). MayFollow u.finished more) same may in
+      subst (λ j. Answered (beginning s (input ++ more)) j) (sym pushed)
+      (Runs-Answered (beginning s (input ++ more)) (moment old more) old.journal _ (had more may') (inl (last_of more may', refl)))
+
+  fault_stops : (input : List ℕ) → HasAnswered s input old → IsStopped s input new.journal
+  unfolding HasAnswered IsStopped
+  fault_stops input had =
+      let may = nothing_follows old.reader.finished in
+      let ran : Runs (beginning s input) old.journal (moment old []) = subst (λ bytes. Runs (beginning s bytes) old.journal (moment old [])) (append-nil input) (had [] may) in
+      (old.journal, entry_of old.journal (Fault kind at) Nothing, moment old [], pushed, ran, last_of [] may)
+
+  -- a fault ends the run
+  pub faults : (input : List ℕ) → HasAnswered s input old → IsComplete s input new × IsOver s input new
+  faults input had = (fault_completes input had, inr (fault_stops input had))
+
+-- where the fault's text wasn't taken, or memory was wanting for it
+pub fault_cut : (s : Settings) (old new : Run) (kind : FaultKind) (at : ℕ) (why : Stop) → IsSettled old.reader (fault kind at) → new.reader ≡ old.reader
+    → HasEntryAt why old.journal (entry_of old.journal (Fault kind at) Nothing) new.journal → (input : List ℕ) → HasAnswered s input old → IsFront s input new.reader.finished new.journal
+fault_cut s old new kind at StopWriteFault settled same entry input had = legal_front s input new (fault_completes s old new kind at settled same entry input had)
+fault_cut s old new kind at StopMemory settled same entry input had =
+    let front = had_front s input old had in
+    subst (λ j. IsFront s input new.reader.finished j) (sym entry) (subst (λ b. IsFront s input b old.journal) (sym (ap (λ (u : Unread). u.finished) same)) front)
+
+-- where nothing was done
+pub idle_cut : (s : Settings) (old new : Run) → new.reader.finished ≡ old.reader.finished → new.journal ≡ old.journal → (input : List ℕ) → HasAnswered s input old → IsFront s input new.reader.finished new.journal
+idle_cut s old new same kept input had =
+    let front = had_front s input old had in
+    subst (λ j. IsFront s input new.reader.finished j) (sym kept) (subst (λ b. IsFront s input b old.journal) (sym same) front)
 
 -- the end of the input ends the run
-pub ends : (old new : Run) → IsSettled old.reader end → new.reader ≡ old.reader → new.journal ≡ old.journal
-    → (input : List ℕ) → HasAnswered input old → IsComplete input new
-unfolding HasAnswered IsComplete
-ends old new settled same kept input had more may =
-    let may' : MayFollow old.reader.finished more = subst (λ (u : Unread). MayFollow u.finished more) same may in
-    subst (λ j. Answered (beginning (input ++ more)) j) (append-nil old.journal ∙ sym kept)
-    (Runs-Answered (beginning (input ++ more)) (moment old more) old.journal [] (had more may') (settled more may'))
+pub ends : (s : Settings) (old new : Run) → IsSettled old.reader end → old.reader.finished ≡ true → new.reader ≡ old.reader → new.journal ≡ old.journal
+    → (input : List ℕ) → HasAnswered s input old → IsComplete s input new × IsOver s input new
+unfolding HasAnswered IsComplete IsLegal
+ends s old new settled over same kept input had = (
+  (λ more may.
+      let may' : MayFollow old.reader.finished more = subst (λ (u : Unread). MayFollow u.finished more) same may in
+      subst (λ j. Answered (beginning s (input ++ more)) j) (append-nil old.journal ∙ sym kept)
+      (Runs-Answered (beginning s (input ++ more)) (moment old more) old.journal [] (had more may') (settled more may'))),
+  inl (ap (λ (u : Unread). u.finished) same ∙ over),
+)
+
+-- more is asked for
+pub asks : (s : Settings) (old new : Run) → new.reader ≡ old.reader → new.stack ≡ old.stack → new.journal ≡ old.journal → old.reader.finished ≡ false → ((a : Answer) → IsSettled old.reader a → ⊥)
+    → (input : List ℕ) → HasAnswered s input old → HasAnswered s input new × (new.reader.finished ≡ false) × NoneSettled new
+unfolding HasAnswered
+asks s old new same state kept going none input had = (
+  (λ more may.
+      let may' : MayFollow old.reader.finished more = subst (λ (u : Unread). MayFollow u.finished more) same may in
+      let is : moment old more ≡ moment new more = rw (same, state, kept) refl in
+      subst (λ m. Runs (beginning s (input ++ more)) new.journal m) is (rw kept (had more may'))),
+  ap (λ (u : Unread). u.finished) same ∙ going,
+  (λ a settled. none a (subst (λ (u : Unread). IsSettled u a) same settled)),
+)
 
 -- a run that has just begun
-pub begins : (r : Run) → r.reader ≡ record { place = 0; bytes = []; finished = false } → r.stack ≡ start → r.journal ≡ [] → HasAnswered [] r
+pub begins : (s : Settings) (r : Run) → r.reader ≡ record { place = 0; bytes = []; finished = false } → r.stack ≡ start s → r.journal ≡ [] → HasAnswered s [] r
 unfolding HasAnswered
-begins r e f h more may = subst (λ j. Runs (beginning more) j (moment r more)) (sym h) (rw (e, f, h) refl)
+begins s r e f h more may = subst (λ j. Runs (beginning s more) j (moment r more)) (sym h) (rw (e, f, h) refl)
 
 -- more input
-pub feeds : (old new : Run) (input bytes : List ℕ) → old.reader.finished ≡ false → new.reader ≡ record old.reader { bytes = old.reader.bytes ++ bytes } → new.stack ≡ old.stack → new.journal ≡ old.journal
-    → HasAnswered input old → HasAnswered (input ++ bytes) new
+pub feeds : (s : Settings) (old new : Run) (input bytes : List ℕ) → old.reader.finished ≡ false → new.reader ≡ record old.reader { bytes = old.reader.bytes ++ bytes } → new.stack ≡ old.stack → new.journal ≡ old.journal
+    → HasAnswered s input old → HasAnswered s (input ++ bytes) new
 unfolding HasAnswered
-feeds old new input bytes going e f h had more may =
+feeds s old new input bytes going e f h had more may =
     let same : moment old (bytes ++ more) ≡ moment new more = rw (e, f, h, append_assoc) refl in
     let run = had (bytes ++ more) (subst (λ b. MayFollow b (bytes ++ more)) (sym going) tt) in
-    subst (λ m. Runs (beginning ((input ++ bytes) ++ more)) new.journal m) same (rw (append_assoc, h) run)
-
-nothing_follows : (b : Bool) → MayFollow b []
-nothing_follows true = refl
-nothing_follows false = tt
+    subst (λ m. Runs (beginning s ((input ++ bytes) ++ more)) new.journal m) same (rw (append_assoc, h) run)
 
 -- no more input
-pub finishes : (old new : Run) (input : List ℕ) → new.reader ≡ record old.reader { finished = true } → new.stack ≡ old.stack → new.journal ≡ old.journal
-    → HasAnswered input old → HasAnswered input new
+pub finishes : (s : Settings) (old new : Run) (input : List ℕ) → new.reader ≡ record old.reader { finished = true } → new.stack ≡ old.stack → new.journal ≡ old.journal
+    → HasAnswered s input old → HasAnswered s input new
 unfolding HasAnswered
-finishes old new input e f h had more may =
+finishes s old new input e f h had more may =
     let none : more ≡ [] = subst (λ (u : Unread). MayFollow u.finished more) e may in
     let same : moment old more ≡ moment new more = rw (e, f, h) refl in
     let run = had more (subst (λ m. MayFollow old.reader.finished m) (sym none) (nothing_follows old.reader.finished)) in
-    subst (λ m. Runs (beginning (input ++ more)) new.journal m) same (rw h run)
+    subst (λ m. Runs (beginning s (input ++ more)) new.journal m) same (rw h run)
+
+-- bytes that were taken but not fed follow the input
+unfed : (s : Settings) (input bytes : List ℕ) (journal : List Entry) → IsFront s input false journal → IsFront s (input ++ bytes) false journal
+unfolding IsFront
+unfed s input bytes journal front more may = subst (λ b. IsLegalSoFar s b journal) (sym (append_assoc input bytes more)) (front (bytes ++ more) tt)
+
+-- the entries answer all that is settled
+pub answered_settled : (s : Settings) (input : List ℕ) (r : Run) → HasAnswered s input r → r.reader.finished ≡ false → NoneSettled r → AnswersSettled s input r.journal
+unfolding HasAnswered
+answered_settled s input r had going none = record {
+  place = r.reader.place;
+  rest = r.reader.bytes;
+  state = r.stack;
+  runs = λ more. had more (subst (λ b. MayFollow b more) (sym going) tt);
+  none_settled = λ a settled. none a (subst (λ b. IsSettled (record { place = r.reader.place; bytes = r.reader.bytes; finished = b }) a) (sym going) settled);
+}
 
 Consumes-twice : (a b c : Option (List ℕ)) (xs ys : List ℕ) → Consumes a b xs → Consumes b c ys → Consumes a c (xs ++ ys)
 Consumes-twice None b c xs ys p q = tt
@@ -138,67 +240,88 @@ Consumes-Keeps (Some a) None c xs p q = absurd p
 Consumes-Keeps (Some a) (Some b) None xs p q = absurd q
 Consumes-Keeps (Some a) (Some b) (Some c) xs p q = rw q p
 
-complete_is : (input : List ℕ) (r : Run) → IsComplete input r → (more : List ℕ) → MayFollow r.reader.finished more → IsLegal (input ++ more) r.journal
-unfolding IsComplete IsLegal
-complete_is input r h = h
+-- what holds of the bytes so far and whatever follows holds of all that the source has
+pub for_all : (P : List ℕ → Type 0) (left now : Option (List ℕ)) (finished : Bool) (input : List ℕ) → Consumes left now input → (finished ≡ true → IsAtEnd now)
+    → ((more : List ℕ) → MayFollow finished more → P (input ++ more)) → IfSome left P
+for_all P None now finished input taken ended holds = tt
+for_all P (Some all) None finished input taken ended holds = absurd taken
+for_all P (Some all) (Some rest) true input taken ended holds = subst P (sym taken) (holds rest (ended refl))
+for_all P (Some all) (Some rest) false input taken ended holds = subst P (sym taken) (holds rest tt)
 
--- what was taken and what is left are the input
-legal : (left now : Option (List ℕ)) (finished : Bool) (input : List ℕ) (r : Run) → Consumes left now input → (finished ≡ true → IsAtEnd now)
-    → ((more : List ℕ) → MayFollow finished more → IsLegal (input ++ more) r.journal) → IfSome left (λ all. IsLegal all r.journal)
-legal None now finished input r taken ended complete = tt
-legal (Some all) None finished input r taken ended complete = absurd taken
-legal (Some all) (Some rest) true input r taken ended complete = subst (λ x. IsLegal x r.journal) (sym taken) (complete rest (ended refl))
-legal (Some all) (Some rest) false input r taken ended complete = subst (λ x. IsLegal x r.journal) (sym taken) (complete rest tt)
+complete_is : (s : Settings) (input : List ℕ) (r : Run) → IsComplete s input r → (more : List ℕ) → MayFollow r.reader.finished more → IsLegal s (input ++ more) r.journal
+unfolding IsComplete
+complete_is s input r h = h
+
+pub front_is : (s : Settings) (input : List ℕ) (finished : Bool) (journal : List Entry) → IsFront s input finished journal → (more : List ℕ) → MayFollow finished more → IsLegalSoFar s (input ++ more) journal
+unfolding IsFront
+front_is s input finished journal h = h
 
 -- the source gave bytes, and the reader has them
-pub fed : (e : Ends) (count : ℕ) (old new : Run) (bytes : List ℕ) (next : Option (List ℕ)) (faults : ℕ) → old.reader.finished ≡ false
-    → Consumes e.now next bytes → 0 < length bytes → e.read_faults_now ≤ faults
+pub fed : (t : Settings) (e : Ends) (count : ℕ) (old new : Run) (bytes : List ℕ) (next : Option (List ℕ)) (faults : ℕ) → old.reader.finished ≡ false
+    → Consumes e.now next bytes → 0 < length bytes → length bytes ≤ 65536 → e.read_faults_now ≤ faults
     → new.reader ≡ record old.reader { bytes = old.reader.bytes ++ bytes } → new.stack ≡ old.stack → new.journal ≡ old.journal
-    → SoFar e count old → SoFar (at_source e next faults) (count + 1) new
-fed e count old new bytes next faults going gave some later er es ej s = record {
+    → SoFar t e count old → SoFar t (at_source e next faults) (count + 1) new
+fed t e count old new bytes next faults going gave some most later er es ej s = record {
   input = s.input ++ bytes;
   taken = Consumes-twice e.left e.now next s.input bytes s.taken gave;
   many = λ _. omega (arith, s.many going, length-append s.input bytes);
+  few = rw er (omega (arith, s.few, length-append old.reader.bytes bytes));
   ended = λ over. absurd (not_true (sym going ∙ sym (ap (λ (u : Unread). u.finished) er) ∙ over));
-  answered = feeds old new s.input bytes going er es ej s.answered;
+  answered = feeds t old new s.input bytes going er es ej s.answered;
   whole = rw ej s.whole;
   later = record { read = omega (arith, s.later.read); write = s.later.write };
 }
 
 -- the source is at its end, and the reader knows
-pub closed : (e : Ends) (count : ℕ) (old new : Run) (next : Option (List ℕ)) (faults : ℕ) → Keeps e.now next → IsAtEnd next → e.read_faults_now ≤ faults
+pub closed : (t : Settings) (e : Ends) (count : ℕ) (old new : Run) (next : Option (List ℕ)) (faults : ℕ) → Keeps e.now next → IsAtEnd next → e.read_faults_now ≤ faults
     → new.reader ≡ record old.reader { finished = true } → new.stack ≡ old.stack → new.journal ≡ old.journal
-    → SoFar e count old → SoFar (at_source e next faults) (count + 1) new
-closed e count old new next faults kept over later er es ej s = record {
+    → SoFar t e count old → SoFar t (at_source e next faults) (count + 1) new
+closed t e count old new next faults kept over later er es ej s = record {
   input = s.input;
   taken = Consumes-Keeps e.left e.now next s.input s.taken kept;
   many = λ going. absurd (not_true (sym going ∙ ap (λ (u : Unread). u.finished) er));
+  few = rw er (omega (arith, s.few));
   ended = λ _. over;
-  answered = finishes old new s.input er es ej s.answered;
+  answered = finishes t old new s.input er es ej s.answered;
   whole = rw ej s.whole;
   later = record { read = omega (arith, s.later.read); write = s.later.write };
 }
 
+over_by : (s : Settings) (e : Ends) (input : List ℕ) (r : Run) (finished : Bool) → r.reader.finished ≡ finished → (finished ≡ true → IsAtEnd e.now) → IsOver s input r → IsAtEnd e.now ⊎ IsStopped s input r.journal
+over_by s e input r finished same ended (inl is) = inl (ended (sym same ∙ is))
+over_by s e input r finished same ended (inr is) = inr is
+
+complete_now : (s : Settings) (input : List ℕ) (r : Run) → IsComplete s input r → IsLegal s input r.journal
+complete_now s input r complete = subst (λ bytes. IsLegal s bytes r.journal) (append-nil input) (complete_is s input r complete [] (nothing_follows r.reader.finished))
+
 -- what an advance of the run comes to
-pub advanced : (e : Ends) (count : ℕ) (old new : Run) (stage : Stage) (next : Option (List ℕ)) (faults : ℕ) (s : SoFar e count old)
-    → new.reader.finished ≡ old.reader.finished → Comes stage s.input new → Appends e.before next (journal_text new.journal) → e.write_faults_now ≤ faults
-    → Stands (Ok stage) (at_sink e next faults) count new
-advanced e count old new Complete next faults s same comes whole later = record {
-  legal = legal e.left e.now old.reader.finished s.input new s.taken s.ended (subst (λ b. (more : List ℕ) → MayFollow b more → IsLegal (s.input ++ more) new.journal) same (complete_is s.input new comes));
+pub advanced : (t : Settings) (e : Ends) (count : ℕ) (old new : Run) (stage : Stage) (next : Option (List ℕ)) (faults : ℕ) (s : SoFar t e count old)
+    → new.reader.finished ≡ old.reader.finished → new.reader.place + length new.reader.bytes ≡ old.reader.place + length old.reader.bytes
+    → Comes t stage s.input new → Appends e.before next (journal_text new.journal) → e.write_faults_now ≤ faults
+    → Stands t (Ok stage) (at_sink e next faults) count new
+advanced t e count old new Complete next faults s same size comes whole later = record {
+  input = s.input;
+  taken = s.taken;
+  legal = complete_now t s.input new comes.0;
+  legal_for_all = for_all (λ all. IsLegal t all new.journal) e.left e.now old.reader.finished s.input s.taken s.ended
+      (subst (λ b. (more : List ℕ) → MayFollow b more → IsLegal t (s.input ++ more) new.journal) same (complete_is t s.input new comes.0));
+  over = over_by t e s.input new old.reader.finished same s.ended comes.1;
   whole = whole;
   later = record { read = s.later.read; write = omega (arith, s.later.write) };
 }
-advanced e count old new Asks next faults s same comes whole later = (
+advanced t e count old new Asks next faults s same size comes whole later = (
   record {
     input = s.input;
     taken = s.taken;
     many = λ going. s.many (sym same ∙ going);
+    few = omega (arith, s.few);
     ended = λ over. s.ended (sym same ∙ over);
     answered = comes.0;
     whole = whole;
     later = record { read = s.later.read; write = omega (arith, s.later.write) };
   },
   comes.1,
+  comes.2,
 )
 
 pub Consumes-none : (a b : Option (List ℕ)) → Consumes a b [] → Keeps a b
@@ -206,45 +329,94 @@ Consumes-none None b p = tt
 Consumes-none (Some a) None p = absurd p
 Consumes-none (Some a) (Some b) p = sym p
 
-take_whole : (xs : List ℕ) → take (length xs) xs ≡ xs
-take_whole xs = grind (arith, common_steps)
-
-pub all_of : (before written : Option (List ℕ)) (xs : List ℕ) → Appends before written xs → (n : ℕ) × Appends before written (take n xs)
-all_of before written xs h = (length xs, subst (λ ys. Appends before written ys) (sym (take_whole xs)) h)
-
 Rose-later : (a b c : ℕ) → a ≤ b → Rose b c → Rose a c
 Rose-later a b c l r = omega (arith, r)
 
--- a fault of the sink, or want of memory, cuts the run off
-pub cut_off : (e : Ends) (count : ℕ) (old new : Run) (stop : Stop) (halt : Halt) (next : Option (List ℕ)) (faults : ℕ) → HaltOf stop halt → SoFar e count old
-    → WrittenAfter {T = Stage} (Err stop) e.before next new.journal → WriteCause {T = Stage} (Err stop) e.write_faults_now faults → CutOff halt (at_sink e next faults) new
-cut_off e count old new StopMemory halt next faults is s written cause = record {
-  part = all_of e.before next (journal_text new.journal) written;
-  later = record { read = s.later.read; write = omega (arith, s.later.write, cause) };
-  read = λ h. absurd (cc (is, h));
-  write = λ h. absurd (cc (is, h));
-}
-cut_off e count old new StopWriteFault halt next faults is s written cause = record {
-  part = written;
-  later = record { read = s.later.read; write = omega (arith, s.later.write, cause.0) };
-  read = λ h. absurd (cc (is, h));
-  write = λ _. Rose-later e.write_faults e.write_faults_now faults s.later.write cause.1;
-}
+module _ (t : Settings) (e : Ends) (count : ℕ) (old new : Run) (s : SoFar t e count old) (next : Option (List ℕ)) (faults : ℕ)
+    (same : new.reader.finished ≡ old.reader.finished) (front : IsFront t s.input new.reader.finished new.journal) where
+  front_all : IfSome e.left (λ all. IsLegalSoFar t all new.journal)
+  front_all = for_all (λ all. IsLegalSoFar t all new.journal) e.left e.now old.reader.finished s.input s.taken s.ended
+      (subst (λ b. (more : List ℕ) → MayFollow b more → IsLegalSoFar t (s.input ++ more) new.journal) same (front_is t s.input new.reader.finished new.journal front))
 
--- want of memory cuts a run off as it stands
-pub cut_short : (e : Ends) (count : ℕ) (r new : Run) (next : Option (List ℕ)) (faults : ℕ) → e.read_faults_now ≤ faults → new.journal ≡ r.journal → SoFar e count r → CutOff Memory (at_source e next faults) new
-cut_short e count r new next faults l ej s = record {
-  part = rw ej (all_of e.before e.written (journal_text r.journal) s.whole);
-  later = record { read = omega (arith, s.later.read); write = s.later.write };
+  -- a fault of the sink, or want of memory, cuts the run off
+  pub cut_off : (stop : Stop) (halt : Halt) → HaltOf stop halt → WrittenAfter {T = Stage} (Err stop) e.before next new.journal → WriteCause {T = Stage} (Err stop) e.write_faults_now faults
+      → CutOff t halt (at_sink e next faults) new
+  cut_off StopMemory Memory is written cause = record {
+    input = s.input;
+    taken = s.taken;
+    legal = front_now t s.input new.reader.finished new.journal front;
+    legal_for_all = front_all;
+    settled = λ h. absurd (cc h);
+    written = written;
+    later = record { read = s.later.read; write = omega (arith, s.later.write, cause) };
+    read = λ h. absurd (cc h);
+    write = λ h. absurd (cc h);
+  }
+  cut_off StopMemory ReadFault is written cause = absurd (cc is)
+  cut_off StopMemory WriteFault is written cause = absurd (cc is)
+  cut_off StopWriteFault WriteFault is written cause = record {
+    input = s.input;
+    taken = s.taken;
+    legal = front_now t s.input new.reader.finished new.journal front;
+    legal_for_all = front_all;
+    settled = λ h. absurd (cc h);
+    written = written;
+    later = record { read = s.later.read; write = omega (arith, s.later.write, cause.0) };
+    read = λ h. absurd (cc h);
+    write = λ _. Rose-later e.write_faults e.write_faults_now faults s.later.write cause.1;
+  }
+  cut_off StopWriteFault Memory is written cause = absurd (cc is)
+  cut_off StopWriteFault ReadFault is written cause = absurd (cc is)
+
+-- want of memory cuts a run off before it has taken anything
+pub cut_at_start : (t : Settings) (e : Ends) (count : ℕ) (r : Run) → SoFar t e count r → CutOff t Memory e r
+cut_at_start t e count r s = record {
+  input = s.input;
+  taken = s.taken;
+  legal = front_now t s.input r.reader.finished r.journal (had_front t s.input r s.answered);
+  legal_for_all = for_all (λ all. IsLegalSoFar t all r.journal) e.left e.now r.reader.finished s.input s.taken s.ended
+      (front_is t s.input r.reader.finished r.journal (had_front t s.input r s.answered));
+  settled = λ h. absurd (cc h);
+  written = s.whole;
+  later = s.later;
   read = λ h. absurd (cc h);
   write = λ h. absurd (cc h);
 }
 
+-- want of memory for bytes that were taken cuts a run off as it stands
+pub cut_short : (t : Settings) (e : Ends) (count : ℕ) (r new : Run) (bytes : List ℕ) (next : Option (List ℕ)) (faults : ℕ) → r.reader.finished ≡ false → Consumes e.now next bytes → e.read_faults_now ≤ faults
+    → new.journal ≡ r.journal → SoFar t e count r → CutOff t Memory (at_source e next faults) new
+cut_short t e count r new bytes next faults going gave l ej s =
+    let before : IsFront t s.input false r.journal = subst (λ b. IsFront t s.input b r.journal) going (had_front t s.input r s.answered) in
+    let front = unfed t s.input bytes r.journal before in
+    let taken = Consumes-twice e.left e.now next s.input bytes s.taken gave in
+    rw ej (record {
+      input = s.input ++ bytes;
+      taken = taken;
+      legal = front_now t (s.input ++ bytes) false r.journal front;
+      legal_for_all = for_all (λ all. IsLegalSoFar t all r.journal) e.left next false (s.input ++ bytes) taken (λ over. absurd (not_true over))
+          (front_is t (s.input ++ bytes) false r.journal front);
+      settled = λ h. absurd (cc h);
+      written = s.whole;
+      later = record { read = omega (arith, s.later.read); write = s.later.write };
+      read = λ h. absurd (cc h);
+      write = λ h. absurd (cc h);
+    })
+
 -- a fault of the source cuts a run off
-pub read_fault : (e : Ends) (count : ℕ) (r : Run) (next : Option (List ℕ)) (faults : ℕ) → e.read_faults_now ≤ faults → Rose e.read_faults_now faults → SoFar e count r → CutOff ReadFault (at_source e next faults) r
-read_fault e count r next faults l rose s = record {
-  part = all_of e.before e.written (journal_text r.journal) s.whole;
-  later = record { read = omega (arith, s.later.read); write = s.later.write };
-  read = λ _. Rose-later e.read_faults e.read_faults_now faults s.later.read rose;
-  write = λ h. absurd (cc h);
-}
+pub read_fault : (t : Settings) (e : Ends) (count : ℕ) (r : Run) (next : Option (List ℕ)) (faults : ℕ) → r.reader.finished ≡ false → NoneSettled r → Keeps e.now next → e.read_faults_now ≤ faults → Rose e.read_faults_now faults
+    → SoFar t e count r → CutOff t ReadFault (at_source e next faults) r
+read_fault t e count r next faults going none kept l rose s =
+    let front : IsFront t s.input false r.journal = subst (λ b. IsFront t s.input b r.journal) going (had_front t s.input r s.answered) in
+    let taken = Consumes-Keeps e.left e.now next s.input s.taken kept in
+    record {
+      input = s.input;
+      taken = taken;
+      legal = front_now t s.input false r.journal front;
+      legal_for_all = for_all (λ all. IsLegalSoFar t all r.journal) e.left next false s.input taken (λ over. absurd (not_true over)) (front_is t s.input false r.journal front);
+      settled = λ _. answered_settled t s.input r s.answered going none;
+      written = s.whole;
+      later = record { read = omega (arith, s.later.read); write = s.later.write };
+      read = λ _. Rose-later e.read_faults e.read_faults_now faults s.later.read rose;
+      write = λ h. absurd (cc h);
+    }

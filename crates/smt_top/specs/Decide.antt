@@ -15,9 +15,9 @@ abbrev pub Clash : List ConstantLiteral → Type 0
 Clash ls = (name : List ℕ) × Contains ls (record { name = name; positive = true }) × Contains ls (record { name = name; positive = false })
 
 -- What holds of every state that accepted commands lead to: each asserted constant is declared, and there are not too many.
-pub record IsReached (s : State) : Type 0 where
-  pub known : All (λ (l : ConstantLiteral). Contains s.declared l.name) s.asserted
-  pub few : length s.declared ≤ 4294967295
+pub record IsReached (declared : List (List ℕ)) (asserted : List ConstantLiteral) : Type 0 where
+  pub known : All (λ (l : ConstantLiteral). Contains declared l.name) asserted
+  pub few : length declared ≤ 4294967295
 
 -- The table of the constant with this number: its value is whether it is asserted.
 pub record IsTableOf (ls : List ConstantLiteral) (number : ℕ) (name : List ℕ) (t : Table) : Type 0 where

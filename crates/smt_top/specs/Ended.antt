@@ -1,9 +1,9 @@
 -- How a run ends.
-use Rattle.std.specs.Prelude.{◌≡◌, ℕ, ◌≤◌, ◌<◌, Any, ⊤, List, Result, Ok, Err, take, length, IfSome, ◌↔◌}
-use Rattle.std.specs.Io.KnownBytes.{Appends, Consumes}
+use Rattle.std.specs.Prelude.{◌≡◌, ℕ, ◌≤◌, ◌<◌, ◌⊎◌, Any, ⊤, false, List, Result, Ok, Err, length, IfSome, ◌↔◌}
+use Rattle.std.specs.Io.KnownBytes.{Consumes, IsAtEnd}
 use Rattle.smt_meaning.specs.declared.replies.Entry.{Entry}
 use Rattle.smt_meaning.specs.declared.replies.Reply.{Reply}
-use Rattle.smt_meaning.specs.declared.replies.Reply.TheVariants.{Fault, Success, Sat, Unsat, Unsupported}
+use Rattle.smt_meaning.specs.declared.replies.Reply.TheVariants.{Fault, Success, Silent, Sat, Unsat, Unsupported}
 use Rattle.smt_top.specs.declared.serving.Stop.{Stop}
 use Rattle.smt_top.specs.declared.serving.Stop.TheVariants.{Memory as StopMemory, WriteFault as StopWriteFault}
 use Rattle.smt_top.specs.declared.serving.Stage.{Stage}
@@ -13,8 +13,11 @@ use Rattle.smt_top.specs.declared.top.Halt.TheVariants.{Memory, ReadFault, Write
 use Rattle.smt_top.specs.declared.top.Note.{Note}
 use Rattle.smt_top.specs.declared.top.Note.TheVariants.{Fine, Words, ReadFault as ReadNote, WriteFault as WriteNote, NoMemory, TooLong as LongNote}
 use Rattle.ports.specs.Flow.{Rose}
-use Rattle.smt_meaning.specs.Journal.{IsLegal, journal_text}
-use Rattle.smt_top.specs.Progress.{Ends}
+use Rattle.smt_meaning.specs.Journal.{IsLegal, IsLegalSoFar, IsStopped, AnswersSettled}
+use Rattle.smt_words.specs.Words.{are_taken, settings_of}
+use Rattle.smt_words.specs.declared.error.WordsError.{WordsError}
+use Rattle.smt_words.specs.declared.error.WordsError.TheVariants.{Refused, Memory as WordsMemory}
+use Rattle.smt_top.specs.Progress.{Ends, IsWritten, IsTorn}
 use Rattle.smt_top.specs.declared.top.Ended.{Ended}
 
 abbrev pub HaltOf : Stop → Halt → Type 0
@@ -25,6 +28,7 @@ HaltOf StopWriteFault h = h ≡ WriteFault
 abbrev pub IsError : Reply → Type 0
 IsError (Fault kind at) = ⊤
 IsError Success = ⊥
+IsError Silent = ⊥
 IsError Sat = ⊥
 IsError Unsat = ⊥
 IsError Unsupported = ⊥
@@ -39,6 +43,11 @@ StatusOf (Err ReadFault) status = status ≡ 3
 StatusOf (Err WriteFault) status = status ≡ 4
 StatusOf (Err Memory) status = status ≡ 5
 
+-- The status of a run whose words gave no settings.
+abbrev pub IsUnbegun : WordsError → ℕ → Type 0
+IsUnbegun Refused status = status ≡ 2
+IsUnbegun WordsMemory status = status ≡ 5
+
 -- The note says why, as the status does.
 abbrev pub MatchesStatus : Note → ℕ → Type 0
 MatchesStatus Fine status = status < 2
@@ -48,17 +57,28 @@ MatchesStatus WriteNote status = status ≡ 4
 MatchesStatus NoMemory status = status ≡ 5
 MatchesStatus LongNote status = status ≡ 6
 
--- What a run comes to, between the ends of its source and its sink.
-pub record Ran (budget words : ℕ) (e : Ends) (ended : Ended) : Type 0 where
-  -- Where it is done, its journal is legal for all the input, and its text is written.
-  pub legal : ended.status < 2 → IfSome e.left (λ input. IsLegal input ended.journal)
-  pub whole : ended.status < 2 → Appends e.before e.written (journal_text ended.journal)
+-- What a run comes to, between the ends of its source and its sink, where it took these words of the command line.
+pub record Ran (budget : ℕ) (words : List (List ℕ)) (e : Ends) (ended : Ended) : Type 0 where
+  -- The bytes that the source gave.
+  pub input : List ℕ
+  pub taken : Consumes e.left e.now input
+  -- At the statuses 0 and 1 the journal is legal for them, and for all that the source has. They are all, unless an exit or a fault ended the run.
+  pub legal : ended.status < 2 → IsLegal (settings_of words) input ended.journal
+  pub legal_for_all : ended.status < 2 → IfSome e.left (λ all. IsLegal (settings_of words) all ended.journal)
+  pub over : ended.status < 2 → IsAtEnd e.now ⊎ IsStopped (settings_of words) input ended.journal
   pub error : ended.status < 2 → ((ended.status ≡ 1) ↔ IsFaulty ended.journal)
-  -- A front of the text is written in any case.
-  pub part : (n : ℕ) × Appends e.before e.written (take n (journal_text ended.journal))
-  -- When each other status comes.
+  -- At each status the journal is legal as far as it goes.
+  pub legal_so_far : IsLegalSoFar (settings_of words) input ended.journal
+  pub legal_so_far_for_all : IfSome e.left (λ all. IsLegalSoFar (settings_of words) all ended.journal)
+  -- At 3 and 6 it answers exactly what the bytes settle.
+  pub settled : (ended.status ≡ 3) ⊎ (ended.status ≡ 6) → AnswersSettled (settings_of words) input ended.journal
+  -- Its text is written, but for the last entry's at 4, of which a front is.
+  pub whole : (ended.status ≡ 4 → ⊥) → IsWritten e.before e.written ended.journal
+  pub torn : ended.status ≡ 4 → IsTorn e.before e.written ended.journal
+  -- When each status comes.
   pub note : MatchesStatus ended.note ended.status
-  pub words_refused : (ended.status ≡ 2) ↔ (1 < words)
+  pub words_refused : ended.status ≡ 2 → are_taken words ≡ false
+  pub words_untaken : are_taken words ≡ false → (ended.status ≡ 2) ⊎ (ended.status ≡ 5)
   pub read : ended.status ≡ 3 → Rose e.read_faults e.read_faults_now
   pub write : ended.status ≡ 4 → Rose e.write_faults e.write_faults_now
-  pub long : ended.status ≡ 6 → (bytes : List ℕ) × Consumes e.left e.now bytes × (budget ≤ length bytes)
+  pub long : ended.status ≡ 6 → budget ≤ length input

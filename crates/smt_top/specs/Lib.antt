@@ -1,5 +1,5 @@
+pub mod Logics
 pub mod Decide
 pub mod Spelled
-pub mod Texts
 pub mod Progress
 pub mod Ended

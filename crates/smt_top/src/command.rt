@@ -1,8 +1,8 @@
-ghost use Rattle.std.specs.Prelude.{◌≡◌, ◌++◌, ◌∷◌, [], ℕ, List, IfOk, IfSome, IfNone, true, false, codes};
+ghost use Rattle.std.specs.Prelude.{◌≡◌, ◌++◌, ◌∷◌, [], ℕ, List, Bool, IfOk, IfSome, IfNone, true, false, codes};
 ghost use Rattle.smt_meaning.specs.declared.tokens.Token.{Token as TokenValue};
-ghost use Rattle.smt_meaning.specs.declared.tokens.Token.TheVariants.{Enter, Leave, Symbol};
+ghost use Rattle.smt_meaning.specs.declared.tokens.Token.TheVariants.{Enter, Leave, Symbol, Keyword};
 ghost use Rattle.smt_meaning.specs.declared.replies.ConstantLiteral.{ConstantLiteral as LiteralValue};
-ghost use Rattle.smt_meaning.specs.Commands.{command_tokens, term_tokens};
+ghost use Rattle.smt_meaning.specs.Commands.{command_tokens, term_tokens, truth_name};
 ghost use Rattle.smt_meaning.specs.declared.replies.Command.{Command as CommandValue};
 ghost use Rattle.smt_top.specs.Spelled.{command_of, literal_of};
 
@@ -19,6 +19,8 @@ pub struct SpelledLiteral<'a> {
 /// A command, as it stands in the tokens.
 #[derive(Clone, Copy, Drop)]
 pub enum Spelled<'a> {
+    SetLogic(&'a [u8]),
+    SetPrintSuccess(bool),
     DeclareConst(&'a [u8]),
     Assert(SpelledLiteral<'a>),
     CheckSat,
@@ -41,6 +43,8 @@ fn owned(alloc: Global, spelled: Spelled<'_>) -> Result<Command, AllocError>
     ensures { IfOk result (λ c. c ≡ command_of spelled.entry) }
 {
     match spelled {
+        Spelled::SetLogic(name) => Ok(Command::SetLogic(Seq::copy(alloc, name)?)),
+        Spelled::SetPrintSuccess(on) => Ok(Command::SetPrintSuccess(on)),
         Spelled::DeclareConst(name) => Ok(Command::DeclareConst(Seq::copy(alloc, name)?)),
         Spelled::Assert(literal) => Ok(Command::Assert(ConstantLiteral {
             name: Seq::copy(alloc, literal.name)?,
@@ -81,6 +85,28 @@ fn with_arguments<'a>(word: &'a [u8], arguments: &'a [Token]) -> Option<Spelled<
             None => None,
         }
     } else {
+        setting(word, arguments)
+    }
+}
+
+/// The command that sets something, or one without arguments.
+fn setting<'a>(word: &'a [u8], arguments: &'a [Token]) -> Option<Spelled<'a>>
+    requires declare { word.now ≡ codes "declare-const" → ⊥ }
+    requires assert { word.now ≡ codes "assert" → ⊥ }
+    ensures some { IfSome result (λ s. Enter ∷ Symbol word.now ∷ arguments.now ≡ command_tokens (command_of s)) }
+    ensures none { IfNone result ((c : CommandValue) → Enter ∷ Symbol word.now ∷ arguments.now ≡ command_tokens c → ⊥) }
+{
+    if word == b"set-logic".as_slice() {
+        match only_symbol(arguments) {
+            Some(name) => Some(Spelled::SetLogic(name)),
+            None => None,
+        }
+    } else if word == b"set-option".as_slice() {
+        match print_success(arguments) {
+            Some(on) => Some(Spelled::SetPrintSuccess(on)),
+            None => None,
+        }
+    } else {
         bare(word, arguments)
     }
 }
@@ -89,6 +115,8 @@ fn with_arguments<'a>(word: &'a [u8], arguments: &'a [Token]) -> Option<Spelled<
 fn bare<'a>(word: &'a [u8], arguments: &'a [Token]) -> Option<Spelled<'a>>
     requires declare { word.now ≡ codes "declare-const" → ⊥ }
     requires assert { word.now ≡ codes "assert" → ⊥ }
+    requires logic { word.now ≡ codes "set-logic" → ⊥ }
+    requires option { word.now ≡ codes "set-option" → ⊥ }
     ensures some { IfSome result (λ s. Enter ∷ Symbol word.now ∷ arguments.now ≡ command_tokens (command_of s)) }
     ensures none { IfNone result ((c : CommandValue) → Enter ∷ Symbol word.now ∷ arguments.now ≡ command_tokens c → ⊥) }
 {
@@ -102,6 +130,51 @@ fn bare<'a>(word: &'a [u8], arguments: &'a [Token]) -> Option<Spelled<'a>>
         return Some(Spelled::Exit);
     }
     None
+}
+
+/// The name where it is the only argument.
+fn only_symbol(arguments: &[Token]) -> Option<&[u8]>
+    ensures some { IfSome result (λ name. arguments.now ≡ Symbol name.now ∷ Leave ∷ []) }
+    ensures none { IfNone result ((name : List ℕ) → arguments.now ≡ Symbol name ∷ Leave ∷ [] → ⊥) }
+{
+    let Some((name, rest)) = symbol(arguments) else {
+        return None;
+    };
+    if !is_leave(rest) {
+        return None;
+    }
+    Some(name)
+}
+
+/// The truth value in the arguments that set whether success is printed.
+fn print_success(arguments: &[Token]) -> Option<bool>
+    ensures some { IfSome result (λ b. arguments.now ≡ Keyword (codes "print-success") ∷ Symbol (truth_name b) ∷ Leave ∷ []) }
+    ensures none { IfNone result ((b : Bool) → arguments.now ≡ Keyword (codes "print-success") ∷ Symbol (truth_name b) ∷ Leave ∷ [] → ⊥) }
+{
+    let Some((option, rest)) = keyword(arguments) else {
+        return None;
+    };
+    if option != b"print-success".as_slice() {
+        return None;
+    }
+    let Some(value) = only_symbol(rest) else {
+        return None;
+    };
+    truth(value)
+}
+
+/// The truth value that has this name.
+fn truth(name: &[u8]) -> Option<bool>
+    ensures some { IfSome result (λ b. name.now ≡ truth_name b) }
+    ensures none { IfNone result ((b : Bool) → name.now ≡ truth_name b → ⊥) }
+{
+    if name == b"true".as_slice() {
+        Some(true)
+    } else if name == b"false".as_slice() {
+        Some(false)
+    } else {
+        None
+    }
 }
 
 /// The name in the arguments of a declaration of a Boolean constant.
@@ -202,6 +275,17 @@ fn symbol(tokens: &[Token]) -> Option<(&[u8], &[Token])>
 {
     match tokens.split_first() {
         Some((Token::Symbol(name), rest)) => Some((name.as_slice(), rest)),
+        _ => None,
+    }
+}
+
+/// The first token, where it is a keyword, is taken off.
+fn keyword(tokens: &[Token]) -> Option<(&[u8], &[Token])>
+    ensures some { IfSome result (λ r. tokens.now ≡ Keyword r.0.now ∷ r.1.now) }
+    ensures none { IfNone result ((name : List ℕ) (rest : List TokenValue) → tokens.now ≡ Keyword name ∷ rest → ⊥) }
+{
+    match tokens.split_first() {
+        Some((Token::Keyword(name), rest)) => Some((name.as_slice(), rest)),
         _ => None,
     }
 }

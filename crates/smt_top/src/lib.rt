@@ -3,10 +3,10 @@
 
 mod command;
 mod decide;
+mod logic;
 mod serving;
 mod stack;
 mod step;
-mod text;
 mod top;
 
 pub use top::{Ended, Note, run, run_within};

@@ -1,30 +1,39 @@
-ghost use Rattle.std.specs.Prelude.{◌≡◌, ◌≤◌, ◌<◌, ◌↔◌, ◌^◌, ◌+◌, [], List, Option, ℕ, length, take, IfSome, IsOk, IsTrue, IfErr, OnOk, false, vec_len};
-ghost use Rattle.std.specs.Io.KnownBytes.{Appends};
-ghost use Rattle.ports.specs.Flow.{Rose};
-ghost use Rattle.smt_meaning.specs.Journal.{IsLegal, journal_text};
-ghost use Rattle.smt_top.specs.Progress.{CutOff, Ends, IsAtSink, IsAtSource, SoFar, Stands, at_sink, at_source, between};
-ghost use Rattle.smt_top.specs.Ended.{IsFaulty, Ran, MatchesStatus, StatusOf};
+ghost use Rattle.std.specs.Prelude.{◌≡◌, ◌≤◌, ◌<◌, ◌↔◌, ◌^◌, ◌+◌, [], ℕ, length, map, IsTrue, IfErr, OnOk, false, string_bytes};
+ghost use Rattle.smt_meaning.specs.declared.settings.Settings.{Settings as SettingsValue};
+ghost use Rattle.smt_meaning.specs.Journal.{journal_text};
+ghost use Rattle.smt_words.specs.Words.{are_taken};
+ghost use Rattle.smt_top.specs.Progress.{CutOff, Ends, IsAtSink, IsAtSource, NoneSettled, SoFar, Stands, at_sink, at_source, between};
+ghost use Rattle.smt_top.specs.Ended.{IsFaulty, IsUnbegun, MatchesStatus, Ran, StatusOf};
 
 use crate::serving::{Run, Stage, Stop};
 use ports::{Gate, More, Sink, Source};
 use smt_meaning::{Entry, Reply, Seq};
+use smt_words::{WordsError, settings};
 use std::alloc::{AllocError, Global};
 
 /// Why a run ended.
 #[derive(Clone, Copy, Debug, PartialEq, Eq, Drop)]
 pub enum Note {
+    /// The input was answered to its end, to an exit or to a fault.
     Fine,
+    /// The words of the command line were refused.
     Words,
+    /// The source failed.
     ReadFault,
+    /// The sink failed.
     WriteFault,
+    /// Memory was wanting.
     NoMemory,
+    /// The input is longer than the budget of calls that ask for it.
     TooLong,
 }
 
 /// A run that has ended.
 #[derive(Drop)]
 pub struct Ended {
+    /// What the program exits with: 0 where all is well, 1 where an error was replied, 2 where the words were refused, 3 and 4 where the source or the sink failed, 5 where memory was wanting, 6 where the input was too long.
     pub status: u8,
+    /// What was answered, in order.
     pub journal: Seq<Entry>,
     pub note: Note,
 }
@@ -70,10 +79,12 @@ fn drive<S: Source, K: Sink>(
     sink: &mut K,
     run: &mut Run,
 ) -> Result<Stage, Halt>
-    requires { SoFar (between (S.left source.old) (S.faults source.old) (K.written sink.old) (K.faults sink.old)
+    requires budget { budget ≤ 2 ^ 40 }
+    requires begun { SoFar run.old.stack.settings (between (S.left source.old) (S.faults source.old) (K.written sink.old) (K.faults sink.old)
         (S.left source.old) (S.faults source.old) (K.written sink.old) (K.faults sink.old)) 0 run.old }
-    ensures { Stands result (between (S.left source.old) (S.faults source.old) (K.written sink.old) (K.faults sink.old)
+    ensures stands { Stands run.old.stack.settings result (between (S.left source.old) (S.faults source.old) (K.written sink.old) (K.faults sink.old)
         (S.left source.new) (S.faults source.new) (K.written sink.new) (K.faults sink.new)) budget run.new }
+    ensures silent { journal_text run.new.journal ≡ [] → sink.new ≡ sink.old }
 {
     let mut buf = vec![in alloc; 0u8; 65536]?;
     let mut stage = advance(alloc, sink, run)?;
@@ -89,8 +100,9 @@ fn drive<S: Source, K: Sink>(
 
 /// Answers all that is ready.
 fn advance<K: Sink>(alloc: Global, sink: &mut K, run: &mut Run) -> Result<Stage, Halt>
-    ensures { (e : Ends) (count : ℕ) → SoFar e count run.old → IsAtSink e (K.written sink.old) (K.faults sink.old)
-        → Stands result (at_sink e (K.written sink.new) (K.faults sink.new)) count run.new }
+    ensures stands { (s : SettingsValue) (e : Ends) (count : ℕ) → SoFar s e count run.old → IsAtSink e (K.written sink.old) (K.faults sink.old)
+        → Stands s result (at_sink e (K.written sink.new) (K.faults sink.new)) count run.new }
+    ensures silent { journal_text run.new.journal ≡ [] → (journal_text run.old.journal ≡ []) × (sink.new ≡ sink.old) }
 {
     let stage = run.serve(alloc, sink)?;
     Ok(stage)
@@ -99,11 +111,14 @@ fn advance<K: Sink>(alloc: Global, sink: &mut K, run: &mut Run) -> Result<Stage,
 /// Asks the source for more bytes, and feeds them.
 fn take_more<S: Source>(source: &mut S, buf: &mut [u8], run: &mut Run) -> Result<(), Halt>
     requires going { run.old.reader.finished ≡ false }
-    requires room { 0 < length buf.old }
-    ensures ok { OnOk result ((e : Ends) (count : ℕ) → SoFar e count run.old → IsAtSource e (S.left source.old) (S.faults source.old)
-        → SoFar (at_source e (S.left source.new) (S.faults source.new)) (count + 1) run.new) }
-    ensures err { IfErr result (λ halt. (e : Ends) (count : ℕ) → SoFar e count run.old → IsAtSource e (S.left source.old) (S.faults source.old)
-        → CutOff halt (at_source e (S.left source.new) (S.faults source.new)) run.new) }
+    requires settled { NoneSettled run.old }
+    requires buffer { length buf.old ≡ 65536 }
+    requires room { run.old.reader.place + length run.old.reader.bytes + 65536 < 2 ^ 64 }
+    ensures ok { OnOk result ((s : SettingsValue) (e : Ends) (count : ℕ) → SoFar s e count run.old → IsAtSource e (S.left source.old) (S.faults source.old)
+        → SoFar s (at_source e (S.left source.new) (S.faults source.new)) (count + 1) run.new) }
+    ensures err { IfErr result (λ halt. (s : SettingsValue) (e : Ends) (count : ℕ) → SoFar s e count run.old → IsAtSource e (S.left source.old) (S.faults source.old)
+        → CutOff s halt (at_source e (S.left source.new) (S.faults source.new)) run.new) }
+    ensures journal { run.new.journal ≡ run.old.journal }
 {
     match source.more(buf) {
         More::Got(0) => run.reader.finish(),
@@ -114,7 +129,7 @@ fn take_more<S: Source>(source: &mut S, buf: &mut [u8], run: &mut Run) -> Result
     Ok(())
 }
 
-/// Runs the script that the source gives, and writes the replies to the sink.
+/// Runs the script that the source gives, and writes the replies to the sink: what a run comes to is said by `Ran`. The words are those of the command line, of which the first is the program's name; where they are refused, nothing is read or written.
 pub fn run<S: Source, K: Sink, G: Gate>(
     alloc: Global,
     words: &Vec<String>,
@@ -122,14 +137,15 @@ pub fn run<S: Source, K: Sink, G: Gate>(
     sink: &mut K,
     gate: &G,
 ) -> Ended
-    ensures ran { Ran (2 ^ 40) (vec_len words.now) (between (S.left source.old) (S.faults source.old) (K.written sink.old) (K.faults sink.old)
+    ensures ran { Ran (2 ^ 40) (map string_bytes words.now.items) (between (S.left source.old) (S.faults source.old) (K.written sink.old) (K.faults sink.old)
         (S.left source.new) (S.faults source.new) (K.written sink.new) (K.faults sink.new)) result }
-    ensures untouched { result.status ≡ 2 → (source.new ≡ source.old) × (sink.new ≡ sink.old) × (result.journal ≡ []) }
+    ensures untouched { are_taken (map string_bytes words.now.items) ≡ false → (source.new ≡ source.old) × (sink.new ≡ sink.old) × (result.journal ≡ []) }
+    ensures silent { journal_text result.journal ≡ [] → sink.new ≡ sink.old }
 {
     run_within(alloc, 1 << 40, words, source, sink, gate)
 }
 
-/// `run` with another budget of calls that ask for more input.
+/// `run` with another budget of calls that ask for more input, where `run` has 2^40.
 #[tactic(none)]
 pub fn run_within<S: Source, K: Sink, G: Gate>(
     alloc: Global,
@@ -140,21 +156,37 @@ pub fn run_within<S: Source, K: Sink, G: Gate>(
     gate: &G,
 ) -> Ended
     requires { budget ≤ 2 ^ 40 }
-    ensures ran { Ran budget (vec_len words.now) (between (S.left source.old) (S.faults source.old) (K.written sink.old) (K.faults sink.old)
+    ensures ran { Ran budget (map string_bytes words.now.items) (between (S.left source.old) (S.faults source.old) (K.written sink.old) (K.faults sink.old)
         (S.left source.new) (S.faults source.new) (K.written sink.new) (K.faults sink.new)) result }
-    ensures untouched { result.status ≡ 2 → (source.new ≡ source.old) × (sink.new ≡ sink.old) × (result.journal ≡ []) }
+    ensures untouched { are_taken (map string_bytes words.now.items) ≡ false → (source.new ≡ source.old) × (sink.new ≡ sink.old) × (result.journal ≡ []) }
+    ensures silent { journal_text result.journal ≡ [] → sink.new ≡ sink.old }
 {
     let _ = gate;
-    if words.len() > 1 {
-        return Ended {
-            status: 2,
-            journal: Seq::new(alloc),
-            note: Note::Words,
-        };
+    match settings(alloc, words) {
+        Ok(settings) => {
+            let mut run = Run::new(alloc, settings);
+            let outcome = drive(alloc, budget, source, sink, &mut run);
+            finish(outcome, run)
+        }
+        Err(error) => unbegun(alloc, error),
     }
-    let mut run = Run::new(alloc);
-    let outcome = drive(alloc, budget, source, sink, &mut run);
-    finish(outcome, run)
+}
+
+/// A run that has ended before it began.
+fn unbegun(alloc: Global, error: WordsError) -> Ended
+    ensures journal { result.journal ≡ [] }
+    ensures status { IsUnbegun error result.status }
+    ensures note { MatchesStatus result.note result.status }
+{
+    let (status, note) = match error {
+        WordsError::Refused => (2, Note::Words),
+        WordsError::Memory => (5, Note::NoMemory),
+    };
+    Ended {
+        status,
+        journal: Seq::new(alloc),
+        note,
+    }
 }
 
 /// The status of a run that is over, and why it is.

@@ -1,9 +1,10 @@
-use Rattle.std.proofs.Common.{arith, ◌≡◌, inr, Bool, true, false, refl}
 use Rattle.smt_top.proofs.step.carry_out.Goals as goal
 
-not_true : ◌≡◌ {A = Bool} false true → ⊥
-not_true e = cc
+pub returns-in-SetLogic-clause-reply : goal.returns-in-SetLogic-clause-reply
+returns-in-SetLogic-clause-reply c = rw c.in-SetLogic.is c.set_logic.ensures.reply
 
-pub returns-then-not-is_accepted-clause-reply : goal.returns-then-not-is_accepted-clause-reply
-returns-then-not-is_accepted-clause-reply c =
-    inr (λ accepted. absurd (grind (arith, c.is_accepted.ensures.1 accepted)), c.unsupported.ensures.reply, c.unsupported.ensures.kept, refl)
+pub returns-in-DeclareConst-clause-reply : goal.returns-in-DeclareConst-clause-reply
+returns-in-DeclareConst-clause-reply c = rw c.in-DeclareConst.is c.declare.ensures.reply
+
+pub returns-in-Assert-clause-reply : goal.returns-in-Assert-clause-reply
+returns-in-Assert-clause-reply c = rw c.in-Assert.is c.assert.ensures.reply

@@ -4,7 +4,7 @@ use Rattle.std.specs.Prelude.{codes}
 use Rattle.smt_meaning.specs.declared.replies.ConstantLiteral.{ConstantLiteral}
 use Rattle.smt_top.specs.declared.step.Done.{Done}
 use Rattle.smt_meaning.specs.declared.tokens.Token.TheVariants.{Enter, Leave, Symbol}
-use Rattle.smt_meaning.specs.declared.replies.Command.TheVariants.{DeclareConst, Assert, CheckSat, Exit}
+use Rattle.smt_meaning.specs.declared.replies.Command.TheVariants.{SetLogic, SetPrintSuccess, DeclareConst, Assert, CheckSat, Exit}
 use Rattle.smt_meaning.specs.Commands.{State, command_tokens, IsAccepted}
 use Rattle.smt_meaning.specs.Journal.{Replies}
 use Rattle.smt_meaning.specs.declared.tokens.Token.{Token}
@@ -22,31 +22,56 @@ one_literal n m false false e = cc
 one_literal n m true false e = cc
 one_literal n m false true e = cc
 
-other_literal : (l : ConstantLiteral) (p : Bool) (n : List ℕ) → l.positive ≡ p → command_tokens (DeclareConst n) ≡ command_tokens (Assert l) → ⊥
-other_literal l true n h e = let e' = rw h at e in cc
-other_literal l false n h e = let e' = rw h at e in cc
+assert_word : (l : ConstantLiteral) (p : Bool) (w : List ℕ) (rest : List Token) → l.positive ≡ p → Enter ∷ Symbol w ∷ rest ≡ command_tokens (Assert l) → w ≡ codes "assert"
+assert_word l true w rest h e = let e' = rw h at e in cc
+assert_word l false w rest h e = let e' = rw h at e in cc
 
-plain_literal : (l : ConstantLiteral) (p : Bool) (w : List ℕ) → l.positive ≡ p → Enter ∷ Symbol w ∷ Leave ∷ [] ≡ command_tokens (Assert l) → ⊥
-plain_literal l true n h e = let e' = rw h at e in cc
-plain_literal l false n h e = let e' = rw h at e in cc
+other_word : (l : ConstantLiteral) (p : Bool) (w : List ℕ) (rest : List Token) → l.positive ≡ p → (w ≡ codes "assert" → ⊥) → Enter ∷ Symbol w ∷ rest ≡ command_tokens (Assert l) → ⊥
+other_word l p w rest h other e = other (assert_word l p w rest h e)
+
+one_truth : (a b : Bool) → command_tokens (SetPrintSuccess a) ≡ command_tokens (SetPrintSuccess b) → SetPrintSuccess a ≡ SetPrintSuccess b
+one_truth true true e = refl
+one_truth false false e = refl
+one_truth true false e = cc
+one_truth false true e = cc
 
 one_command : (c d : Command) → command_tokens c ≡ command_tokens d → c ≡ d
+one_command (SetLogic a) (SetLogic b) e = cc
+one_command (SetLogic a) (SetPrintSuccess b) e = cc
+one_command (SetLogic a) (DeclareConst b) e = cc
+one_command (SetLogic a) (Assert m) e = absurd (other_word m m.positive (codes "set-logic") _ refl (λ h. absurd cc) e)
+one_command (SetLogic a) CheckSat e = cc
+one_command (SetLogic a) Exit e = cc
+one_command (SetPrintSuccess a) (SetLogic b) e = cc
+one_command (SetPrintSuccess a) (SetPrintSuccess b) e = one_truth a b e
+one_command (SetPrintSuccess a) (DeclareConst b) e = cc
+one_command (SetPrintSuccess a) (Assert m) e = absurd (other_word m m.positive (codes "set-option") _ refl (λ h. absurd cc) e)
+one_command (SetPrintSuccess a) CheckSat e = cc
+one_command (SetPrintSuccess a) Exit e = cc
+one_command (DeclareConst a) (SetLogic b) e = cc
+one_command (DeclareConst a) (SetPrintSuccess b) e = cc
 one_command (DeclareConst a) (DeclareConst b) e = cc
-one_command (DeclareConst a) (Assert l) e = absurd (other_literal l l.positive a refl e)
+one_command (DeclareConst a) (Assert m) e = absurd (other_word m m.positive (codes "declare-const") _ refl (λ h. absurd cc) e)
 one_command (DeclareConst a) CheckSat e = cc
 one_command (DeclareConst a) Exit e = cc
+one_command (Assert l) (SetLogic b) e = absurd (other_word l l.positive (codes "set-logic") _ refl (λ h. absurd cc) (sym e))
+one_command (Assert l) (SetPrintSuccess b) e = absurd (other_word l l.positive (codes "set-option") _ refl (λ h. absurd cc) (sym e))
+one_command (Assert l) (DeclareConst b) e = absurd (other_word l l.positive (codes "declare-const") _ refl (λ h. absurd cc) (sym e))
 one_command (Assert l) (Assert m) e = one_literal l.name m.name l.positive m.positive e
-one_command (Assert l) (DeclareConst b) e = absurd (other_literal l l.positive b refl (sym e))
-one_command (Assert l) CheckSat e = absurd (plain_literal l l.positive (codes "check-sat") refl (sym e))
-one_command (Assert l) Exit e = absurd (plain_literal l l.positive (codes "exit") refl (sym e))
-one_command CheckSat CheckSat e = refl
+one_command (Assert l) CheckSat e = absurd (other_word l l.positive (codes "check-sat") _ refl (λ h. absurd cc) (sym e))
+one_command (Assert l) Exit e = absurd (other_word l l.positive (codes "exit") _ refl (λ h. absurd cc) (sym e))
+one_command CheckSat (SetLogic b) e = cc
+one_command CheckSat (SetPrintSuccess b) e = cc
 one_command CheckSat (DeclareConst b) e = cc
-one_command CheckSat (Assert l) e = absurd (plain_literal l l.positive (codes "check-sat") refl e)
+one_command CheckSat (Assert m) e = absurd (other_word m m.positive (codes "check-sat") _ refl (λ h. absurd cc) e)
+one_command CheckSat CheckSat e = refl
 one_command CheckSat Exit e = cc
-one_command Exit Exit e = refl
+one_command Exit (SetLogic b) e = cc
+one_command Exit (SetPrintSuccess b) e = cc
 one_command Exit (DeclareConst b) e = cc
-one_command Exit (Assert l) e = absurd (plain_literal l l.positive (codes "exit") refl e)
+one_command Exit (Assert m) e = absurd (other_word m m.positive (codes "exit") _ refl (λ h. absurd cc) e)
 one_command Exit CheckSat e = cc
+one_command Exit Exit e = refl
 
 replied : (old new : State) (ts : List Token) (c : Command) (reply : Reply) (kept : Kept) → ts ≡ command_tokens c → CarriesOut old c reply kept new → Replies old ts reply kept new
 replied old new ts c reply kept e (inl (accepted, may, to)) = inl (c, (e, accepted), may, to)

@@ -5,3 +5,6 @@ returns-clause-ran g c = c.run_within.ensures.ran
 
 pub returns-clause-untouched : goal.returns-clause-untouched
 returns-clause-untouched g c = c.run_within.ensures.untouched
+
+pub returns-clause-silent : goal.returns-clause-silent
+returns-clause-silent g c = c.run_within.ensures.silent

@@ -1,20 +1,45 @@
-use Rattle.std.proofs.Common.{arith, refl}
-use Rattle.smt_top.proofs.Runs.{ran, refused, begun, not_two}
+use Rattle.std.proofs.Common.{◌≡◌, Bool, true, false, arith, refl, ap, sym, ◌∙◌, subst, map, string_bytes}
+use Rattle.smt_meaning.specs.Commands.{State}
+use Rattle.smt_meaning.specs.Journal.{journal_text}
+use Rattle.smt_words.specs.Words.{are_taken, settings_of}
+use Rattle.smt_top.specs.Progress.{Stands, between}
+use Rattle.smt_top.proofs.Turns.{not_true}
+use Rattle.smt_top.proofs.Runs.{ran, unbegun, begun}
 use Rattle.smt_top.proofs.top.run_within.Goals as goal
 
-pub returns-then-len-gt1-clause-ran : goal.returns-then-len-gt1-clause-ran
-returns-then-len-gt1-clause-ran g c = refused c.args.budget _ _ _ _ _ _ refl refl (omega arith)
+pub drive-outcome-requires-clause-budget : goal.drive-outcome-requires-clause-budget
+drive-outcome-requires-clause-budget g c = c.requires
 
-pub returns-then-len-gt1-clause-untouched : goal.returns-then-len-gt1-clause-untouched
-returns-then-len-gt1-clause-untouched g c = λ _. (refl, refl, c.new.ensures)
+pub drive-outcome-requires-clause-begun : goal.drive-outcome-requires-clause-begun
+drive-outcome-requires-clause-begun g c = begun c.in-Ok.settings _ _ _ _ _ c.new-run.ensures.reader c.new-run.ensures.stack c.new-run.ensures.journal
 
-pub drive-outcome-requires : goal.drive-outcome-requires
-drive-outcome-requires g c = begun _ _ _ _ _ c.new-run.ensures.reader c.new-run.ensures.stack c.new-run.ensures.journal
-
-pub returns-clause-ran : goal.returns-clause-ran
-returns-clause-ran g c =
-    ran c.args.budget _ _ c.drive-outcome.new.run c.finish.result (omega arith) c.finish.ensures.journal c.finish.ensures.note c.drive-outcome.result c.drive-outcome.ensures c.finish.ensures.status
+pub returns-in-Ok-clause-ran : goal.returns-in-Ok-clause-ran
+returns-in-Ok-clause-ran g c =
+    let words = map string_bytes c.args.words.now.items in
+    let taken : are_taken words ≡ true = c.in-Ok.ensures.taken in
+    let exact : c.in-Ok.settings ≡ settings_of words = c.in-Ok.ensures.exact in
+    let of_run = ap (λ (s : State). s.settings) c.new-run.ensures.stack ∙ exact in
+    let e = between (g.S.Source.left c.args.source.now) (g.S.Source.faults c.args.source.now) (g.K.Sink.written c.args.sink.now) (g.K.Sink.faults c.args.sink.now)
+    (g.S.Source.left c.drive-outcome.new.source) (g.S.Source.faults c.drive-outcome.new.source) (g.K.Sink.written c.drive-outcome.new.sink) (g.K.Sink.faults c.drive-outcome.new.sink) in
+    ran c.args.budget words e c.drive-outcome.new.run c.finish.result taken c.finish.ensures.journal c.finish.ensures.note c.drive-outcome.result
+    (subst (λ t. Stands t c.drive-outcome.result e c.args.budget c.drive-outcome.new.run) of_run c.drive-outcome.ensures.stands) c.finish.ensures.status
     (rw c.finish.ensures.journal c.finish.ensures.error)
 
-pub returns-clause-untouched : goal.returns-clause-untouched
-returns-clause-untouched g c = λ two. absurd (not_two c.drive-outcome.result c.finish.result.status c.finish.ensures.status two)
+pub returns-in-Ok-clause-untouched : goal.returns-in-Ok-clause-untouched
+returns-in-Ok-clause-untouched g c no' =
+    let words = map string_bytes c.args.words.now.items in
+    let taken : are_taken words ≡ true = c.in-Ok.ensures.taken in
+    absurd (not_true (sym no' ∙ taken))
+
+pub returns-in-Err-clause-ran : goal.returns-in-Err-clause-ran
+returns-in-Err-clause-ran g c =
+    unbegun c.args.budget (map string_bytes c.args.words.now.items) _ _ _ _ c.unbegun.result c.in-Err.error c.unbegun.ensures.status c.in-Err.ensures.cause c.unbegun.ensures.note c.unbegun.ensures.journal
+
+pub returns-in-Err-clause-untouched : goal.returns-in-Err-clause-untouched
+returns-in-Err-clause-untouched g c no' = (refl, refl, c.unbegun.ensures.journal)
+
+pub returns-in-Ok-clause-silent : goal.returns-in-Ok-clause-silent
+returns-in-Ok-clause-silent g c none = c.drive-outcome.ensures.silent (sym (ap journal_text c.finish.ensures.journal) ∙ none)
+
+pub returns-in-Err-clause-silent : goal.returns-in-Err-clause-silent
+returns-in-Err-clause-silent g c none = refl

@@ -8,25 +8,29 @@ use Rattle.smt_top.proofs.top.take_more.Goals as goal
 some : (n : ℕ) (xs : List ℕ) → (n ≡ 0 → ⊥) → n ≤ length xs → 0 < length (take n xs)
 some n xs h l = grind (arith, common_steps)
 
+most : (n m : ℕ) (xs : List ℕ) → n ≤ length xs → length xs ≡ m → length (take n xs) ≤ m
+most n m xs l e = grind (arith, common_steps)
+
 pub returns-in-Got-eq0-clause-ok : goal.returns-in-Got-eq0-clause-ok
-returns-in-Got-eq0-clause-ok g c e count s at =
+returns-in-Got-eq0-clause-ok g c t e count s at =
     let gave = rw c.in-Got-eq0.field-0-test at c.in-Got-eq0.ensures.bytes in
-    closed e count c.args.run.now _ _ _ (rw at.0 (Consumes-none _ _ gave.0)) (gave.1 refl (omega (arith, c.requires.room))) (rw at.1 c.in-Got-eq0.ensures.cause) c.finish.ensures refl refl s
+    closed t e count c.args.run.now _ _ _ (rw at.0 (Consumes-none _ _ gave.0)) (gave.1 refl (omega (arith, c.requires.buffer))) (rw at.1 c.in-Got-eq0.ensures.cause) c.finish.ensures refl refl s
 
 pub returns-in_ok-feed-in-Got-clause-ok : goal.returns-in_ok-feed-in-Got-clause-ok
-returns-in_ok-feed-in-Got-clause-ok g c e count s at =
-    fed e count c.args.run.now _ (take c.in-Got.count c.more.new.buf) _ _ c.requires.going (rw at.0 c.in-Got.ensures.bytes.0)
-    (some c.in-Got.count c.more.new.buf c.in-Got.count-test.1 c.in-Got.ensures.bound) (rw at.1 c.in-Got.ensures.cause) c.in_ok-feed-in-Got.ensures.ok refl refl s
+returns-in_ok-feed-in-Got-clause-ok g c t e count s at =
+    fed t e count c.args.run.now _ (take c.in-Got.count c.more.new.buf) _ _ c.requires.going (rw at.0 c.in-Got.ensures.bytes.0)
+    (some c.in-Got.count c.more.new.buf c.in-Got.count-test.1 c.in-Got.ensures.bound) (most c.in-Got.count 65536 c.more.new.buf c.in-Got.ensures.bound (omega (arith, c.more.auto.buf, c.requires.buffer)))
+    (rw at.1 c.in-Got.ensures.cause) c.in_ok-feed-in-Got.ensures.ok refl refl s
 
 pub returns-in-End-clause-ok : goal.returns-in-End-clause-ok
-returns-in-End-clause-ok g c e count s at =
-    closed e count c.args.run.now _ _ _ (rw at.0 c.in-End.ensures.bytes.0) c.in-End.ensures.bytes.1 (rw at.1 c.in-End.ensures.cause) c.finish-in-End.ensures refl refl s
+returns-in-End-clause-ok g c t e count s at =
+    closed t e count c.args.run.now _ _ _ (rw at.0 c.in-End.ensures.bytes.0) c.in-End.ensures.bytes.1 (rw at.1 c.in-End.ensures.cause) c.finish-in-End.ensures refl refl s
 
 pub returns-in_err-feed-in-Got-clause-err : goal.returns-in_err-feed-in-Got-clause-err
 returns-in_err-feed-in-Got-clause-err g c =
     let p = err_from_is_err_and c.from_residual.result c.from_residual.ensures.1 in
-    rw (p.1, p.2) (λ e count s at. cut_short e count c.args.run.now _ _ _ (rw at.1 c.in-Got.ensures.cause) refl s)
+    rw (p.1, p.2) (λ t e count s at. cut_short t e count c.args.run.now _ (take c.in-Got.count c.more.new.buf) _ _ c.requires.going (rw at.0 c.in-Got.ensures.bytes.0) (rw at.1 c.in-Got.ensures.cause) refl s)
 
 pub returns-in-Failed-clause-err : goal.returns-in-Failed-clause-err
-returns-in-Failed-clause-err g c e count s at =
-    read_fault e count c.args.run.now _ _ (rw at.1 c.in-Failed.ensures.cause.0) (rw at.1 c.in-Failed.ensures.cause.1) s
+returns-in-Failed-clause-err g c t e count s at =
+    read_fault t e count c.args.run.now _ _ c.requires.going c.requires.settled (rw at.0 c.in-Failed.ensures.bytes) (rw at.1 c.in-Failed.ensures.cause.0) (rw at.1 c.in-Failed.ensures.cause.1) s

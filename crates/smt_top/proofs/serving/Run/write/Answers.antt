@@ -1,7 +1,13 @@
-use Rattle.smt_top.proofs.Written.{written_part}
+use Rattle.std.proofs.Common.{◌∙◌}
+use Rattle.smt_top.proofs.Written.{written_after, silent_parts}
 use Rattle.smt_top.proofs.serving.Run.write.Goals as goal
 
 pub returns-clause-written : goal.returns-clause-written
 returns-clause-written g c before had =
-    let text = rw (c.as_bytes.ensures, c.in_ok-text.ensures.bytes) at c.in-Failed.ensures.bytes in
-    rw c.in_ok-push.ensures.ok (written_part before _ _ _ _ text.0 had text.1)
+    let made = rw c.new-made.ensures at c.in_ok-text.ensures.ok in
+    rw c.in_ok-push-2.ensures.ok (written_after c.put-2.result before _ _ _ _ _ (c.as_slice.ensures ∙ made) had c.put-2.ensures.written)
+
+pub returns-in-Some-clause-silent : goal.returns-in-Some-clause-silent
+returns-in-Some-clause-silent g c none =
+    let parts = silent_parts _ _ _ c.in_ok-push.ensures.ok none in
+    (parts.0, c.put.ensures.silent (c.in-Some.ensures.some ∙ parts.1))
