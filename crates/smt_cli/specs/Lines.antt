@@ -10,7 +10,7 @@ Says (Some line) text = line.now ≡ text
 
 abbrev pub IsLine : Note → Option (Bor (List ℕ)) → Type 0
 IsLine Fine line = line ≡ None
-IsLine Words line = Says line (codes "usage: smt_cli, with the script on standard input")
+IsLine Words line = Says line (codes "usage: smt_cli [--workers 1..16] [--units U] [--share 0..64] [--seed K]")
 IsLine ReadFault line = Says line (codes "read failed")
 IsLine WriteFault line = Says line (codes "write failed")
 IsLine NoMemory line = Says line (codes "out of memory")
