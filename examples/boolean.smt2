@@ -1,8 +1,10 @@
+(set-logic QF_UF)
 (declare-const p Bool)
 (declare-const q Bool)
 (assert p)
-(assert (not q))
+(assert (not q)) ; not both
 (check-sat)
+(set-option :print-success false)
 (assert q)
 (check-sat)
 (exit)
