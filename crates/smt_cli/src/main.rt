@@ -14,7 +14,9 @@ fn line(note: Note) -> Option<&'static str>
 {
     match note {
         Note::Fine => None,
-        Note::Words => Some("usage: smt_cli [--workers 1..16] [--units U] [--share 0..64] [--seed K]"),
+        Note::Words => Some(
+            "usage: smt_cli [--workers 1..16] [--units U] [--share 0..64] [--seed K]",
+        ),
         Note::ReadFault => Some("read failed"),
         Note::WriteFault => Some("write failed"),
         Note::NoMemory => Some("out of memory"),

@@ -2,7 +2,7 @@ ghost use Rattle.std.specs.Prelude.{◌≡◌, IfSome, IfNone, Contains};
 ghost use Rattle.smt_meaning.specs.Commands.{logics};
 ghost use Rattle.smt_top.specs.Logics.{logic_name};
 
-/// A logic that scripts may set (SMT-LIB 2.6, section 4.1.1). All are treated alike.
+/// A logic that scripts may set (SMT-LIB 2.6, section 4.2.1). All are treated alike.
 #[derive(Clone, Copy, Debug, PartialEq, Eq, Drop)]
 pub enum Logic {
     /// `QF_UFLIA`
