@@ -1,10 +1,11 @@
 -- Bytes that are passed over, one after another.
-use Rattle.std.proofs.Common.{◌≡◌, ◌<◌, ◌≤◌, ℕ, ◌+◌, Bool, true, false, not, ◌||◌, List, [], ◌∷◌, ◌++◌, length, take, drop, get_or, suc, inl, inr, cond, arith, refl, sym, ◌∙◌, ap, subst, append_assoc, length-drop, eqb}
+use Rattle.std.proofs.Common.{◌≡◌, ◌<◌, ℕ, ◌+◌, Bool, true, false, List, [], ◌∷◌, ◌++◌, length, take, drop, get_or, cond, arith, refl, sym, ◌∙◌, ap, subst, append_assoc, length-drop}
 use Rattle.std.specs.List.{prefix_len}
 use Rattle.std.proofs.lemmas.List.{append-nil, drop-drop, drop_more}
 use Rattle.std.proofs.Math.Seq.{take-add}
 use Rattle.smt_reader.specs.declared.part.Part.{Part}
-use Rattle.smt_reader.specs.Parts.{goes_on, GoesOnTo, IsPart, Passes}
+use Rattle.smt_reader.specs.declared.part.Turn.TheVariants.{Adds}
+use Rattle.smt_reader.specs.Parts.{goes_on, GoesOnTo, IsPart, Turns, Passes, Extends}
 
 -- no byte is passed over
 pub passes_none : (part : Part) (bytes : List ℕ) → Passes part part bytes 0
@@ -50,3 +51,49 @@ passes_while part is goes (b ∷ bytes) = by_test (is b) refl (passes_while part
   by_test : (t : Bool) → is b ≡ t → Passes part part bytes (prefix_len is bytes) → Passes part part (b ∷ bytes) (cond t (1 + prefix_len is bytes) 0)
   by_test true e again = passes_more part part part (b ∷ bytes) 1 (prefix_len is bytes) (passes_one part part b bytes (goes b e)) again
   by_test false e again = passes_none part (b ∷ bytes)
+
+-- no byte is added
+pub extends_none : (part : Part) (bytes : List ℕ) → Extends part part bytes 0
+extends_none part bytes = record {
+  within = omega arith;
+  part = λ start is. subst (IsPart part) (sym (append-nil start)) is;
+  rest = λ start content more.
+      ap (λ s. goes_on part s content (bytes ++ more)) (sym (append-nil start))
+      ∙ ap (λ c. goes_on part (start ++ []) c (bytes ++ more)) (sym (append-nil content));
+}
+
+-- a byte is added
+pub extends_one : (old later : Part) (b : ℕ) (bytes : List ℕ) → Turns old b (Adds later) → Extends old later (b ∷ bytes) 1
+extends_one old later b bytes adds = record {
+  within = omega arith;
+  part = adds.0;
+  rest = λ start content more. adds.1 start content (bytes ++ more);
+}
+
+-- further bytes are added
+pub extends_more : (old mid later : Part) (bytes : List ℕ) (added more : ℕ) → Extends old mid bytes added → Extends mid later (drop added bytes) more → Extends old later bytes (added + more)
+extends_more old mid later bytes added more p q =
+    let taken : (front : List ℕ) → (front ++ take added bytes) ++ take more (drop added bytes) ≡ front ++ take (added + more) bytes
+    = λ front. append_assoc front (take added bytes) (take more (drop added bytes)) ∙ ap (λ xs. front ++ xs) (sym (take-add added more bytes)) in
+    record {
+      within = omega (arith, p.within, q.within, length-drop added bytes);
+      part = λ start is. subst (IsPart later) (taken start) (q.part (start ++ take added bytes) (p.part start is));
+      rest = λ start content after.
+          p.rest start content after
+          ∙ q.rest (start ++ take added bytes) (content ++ take added bytes) after
+          ∙ ap (λ s. goes_on later s ((content ++ take added bytes) ++ take more (drop added bytes)) (drop more (drop added bytes) ++ after)) (taken start)
+          ∙ ap (λ c. goes_on later (start ++ take (added + more) bytes) c (drop more (drop added bytes) ++ after)) (taken content)
+          ∙ ap (λ xs. goes_on later (start ++ take (added + more) bytes) (content ++ take (added + more) bytes) (xs ++ after)) (drop-drop more added bytes);
+    }
+
+-- bytes of a kind are added
+pub extends_while : (part : Part) (is : ℕ → Bool) → ((b : ℕ) → is b ≡ true → Turns part b (Adds part)) → (bytes : List ℕ) → Extends part part bytes (prefix_len is bytes)
+extends_while part is adds [] = extends_none part []
+extends_while part is adds (b ∷ bytes) = by_test (is b) refl (extends_while part is adds bytes) where
+  by_test : (t : Bool) → is b ≡ t → Extends part part bytes (prefix_len is bytes) → Extends part part (b ∷ bytes) (cond t (1 + prefix_len is bytes) 0)
+  by_test true e again = extends_more part part part (b ∷ bytes) 1 (prefix_len is bytes) (extends_one part part b bytes (adds b e)) again
+  by_test false e again = extends_none part (b ∷ bytes)
+
+-- a byte, and those of a kind behind it
+pub extends_on : (old later : Part) (b : ℕ) (rest : List ℕ) (more : ℕ) → Turns old b (Adds later) → Extends later later rest more → Extends old later (b ∷ rest) (1 + more)
+extends_on old later b rest more adds on = extends_more old later later (b ∷ rest) 1 more (extends_one old later b rest adds) on

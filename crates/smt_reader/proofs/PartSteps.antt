@@ -5,18 +5,17 @@ use Rattle.std.specs.Option.{is_some}
 use Rattle.std.specs.List.{take_while, prefix_len}
 use Rattle.std.proofs.lemmas.Grind.{common_steps}
 use Rattle.std.proofs.lemmas.List.{append-nil}
-use Rattle.smt_meaning.specs.Reading.{is_blank, is_printable, is_symbol_byte, is_word_byte, token, wrong, lexeme, comment_rest, word_lexeme, word_token, Quotation, closed, broken, unclosed, with_byte, text_rest, mark_rest, quoted_rest}
+use Rattle.smt_meaning.specs.Reading.{is_blank, is_printable, is_word_byte, token, wrong, lexeme, comment_rest, word_lexeme, word_token, Quotation, closed, broken, unclosed, with_byte, text_rest, mark_rest, quoted_rest}
 use Rattle.smt_meaning.specs.declared.tokens.Token.{Token}
 use Rattle.smt_meaning.specs.declared.tokens.Token.TheVariants.{Text, Symbol}
 use Rattle.smt_reader.specs.declared.form.Form.{Form}
-use Rattle.smt_reader.specs.declared.form.Form.TheVariants.{Simple}
 use Rattle.smt_reader.specs.Forms.{BeginsAs, GoesTo}
 use Rattle.smt_reader.specs.declared.part.Part.TheVariants.{Blank, Comment, Word, Text as InText, Mark, Quoted}
 use Rattle.smt_reader.specs.declared.part.Turn.TheVariants.{Enters, Leaves, Begins, Adds, Ends, Closes, Wrong, Malformed}
 use Rattle.smt_reader.specs.declared.part.Ending.TheVariants.{Bare, Whole, Halted, Formless}
 use Rattle.smt_reader.specs.Parts.{form_token, goes_on, with_bytes, GoesOnTo, Turns, EndsSo}
 use Rattle.smt_reader.proofs.WordBytes.{word_is_inner}
-use Rattle.smt_reader.proofs.WordForms.{word_is, simple_off}
+use Rattle.smt_reader.proofs.WordForms.{word_is}
 
 other : (m n : ℕ) → (m ≡ n → ⊥) → eqb m n ≡ false
 other m n e = grind (arith, common_steps)
@@ -134,15 +133,6 @@ module _ (form : Form) (b : ℕ) where
     by_token : (o : Option Token) → false ≡ is_some o → word_lexeme (start ++ b ∷ rest) o (b ∷ rest) ≡ wrong (start ++ b ∷ rest)
     by_token None no_token = refl
     by_token (Some t) is_token = cc
-
-pub symbol_breaks : (b : ℕ) → is_symbol_byte b ≡ false → (b ≡ 58) ⊎ ((b ≡ 58 → ⊥) × (b ≡ 35)) → Turns (Word Simple) b Malformed
-unfolding is_word_byte is_symbol_byte
-symbol_breaks b h (inl e) = word_breaks Simple b (rw e refl) (simple_off b h)
-symbol_breaks b h (inr (n, e)) = word_breaks Simple b (rw e refl) (simple_off b h)
-
-pub symbol_ends : (b : ℕ) → is_symbol_byte b ≡ false → (b ≡ 58 → ⊥) × (b ≡ 35 → ⊥) → Turns (Word Simple) b Ends
-unfolding is_word_byte
-symbol_ends b h (n, k) = word_ends Simple b (rw (h, other b 58 n, other b 35 k) refl) (λ w. refl)
 
 -- Texts
 

@@ -1,6 +1,6 @@
 -- A scan by its places: how it goes on, and what it finds.
-use Rattle.std.proofs.Common.{◌≡◌, ◌<◌, ◌≤◌, ℕ, ◌+◌, ◌-◌, Bool, true, inl, inr, List, [], ◌∷◌, ◌++◌, length, get_or, take, drop, slice_range, zero, suc, Some, arith, refl, sym, ◌∙◌, ap, subst, append-nil, append_assoc, length-append, length-drop}
-use Rattle.std.proofs.lemmas.List.{drop-drop, drop_all, get_or-drop, drop-append-le, take-append-le}
+use Rattle.std.proofs.Common.{◌≡◌, ◌<◌, ◌≤◌, ℕ, ◌+◌, ◌-◌, Bool, true, inl, inr, List, [], ◌∷◌, ◌++◌, length, take, drop, slice_range, zero, suc, Some, arith, refl, sym, ◌∙◌, ap, subst, append-nil, append_assoc, length-append, length-drop}
+use Rattle.std.proofs.lemmas.List.{drop-drop, drop_all, drop-append-le, take-append-le}
 use Rattle.std.proofs.lemmas.List.Folds.{drop_split}
 use Rattle.std.proofs.Math.Seq.{take-add}
 use Rattle.smt_meaning.specs.Reading.{lexeme, token, nothing, shape, shapes, Opens, most_open, Completes}
@@ -16,11 +16,12 @@ use Rattle.smt_reader.specs.declared.part.Ending.TheVariants.{Bare, Whole, Halte
 use Rattle.smt_reader.specs.declared.scan.Scan.{Scan}
 use Rattle.smt_reader.specs.declared.scan.Found.{Found}
 use Rattle.smt_reader.specs.declared.scan.Found.TheVariants.{Ready, Fault, End}
-use Rattle.smt_reader.specs.Parts.{goes_on, part_token, Passes, StopsAt, EndsSo}
+use Rattle.smt_reader.specs.Parts.{goes_on, part_token, Passes, Extends, StopsAt, EndsSo}
 use Rattle.smt_reader.specs.Scan.{Stands, start_of, IsScan, EndsAt, IsUnsettled, Finds, Keeps, Goes}
 use Rattle.smt_reader.proofs.Unsettled.{top_unsettled, list_unsettled}
 use Rattle.smt_reader.proofs.Runs.{Lexes-push, shapes-push, Lexes-shorter}
-use Rattle.smt_reader.proofs.Scans.{stands_anew, stands_fed, stands_passed, stands_begun, stands_added, stands_on, completes, has_character, has_closing, has_nesting, top_lexeme, part_single, IsCutShort, list_is_open}
+use Rattle.smt_reader.proofs.PartRuns.{extends_on}
+use Rattle.smt_reader.proofs.Scans.{stands_anew, stands_fed, stands_passed, stands_begun, stands_extended, stands_on, completes, has_character, has_closing, has_nesting, top_lexeme, part_single, IsCutShort, list_is_open}
 
 -- Places
 
@@ -38,11 +39,6 @@ one_byte bytes rest i b e =
     let n : (i + 1) - i ≡ 1 = omega arith in
     ap (λ k. take k (drop i bytes)) n ∙ ap (take 1) e
 
-pub read_byte : (bytes rest : List ℕ) (i b : ℕ) → drop i bytes ≡ b ∷ rest → get_or bytes i 0 ≡ b
-read_byte bytes rest i b e =
-    let n : i ≡ i + 0 = omega arith in
-    ap (λ k. get_or bytes k 0) n ∙ sym (get_or-drop i bytes 0 0) ∙ ap (λ xs. get_or xs 0 0) e
-
 slice_on : (bytes : List ℕ) (start looked passed : ℕ) → start ≤ looked → slice_range bytes start looked ++ take passed (drop looked bytes) ≡ slice_range bytes start (looked + passed)
 slice_on bytes start looked passed le =
     let n : (looked + passed) - start ≡ (looked - start) + passed = omega arith in
@@ -52,9 +48,6 @@ slice_on bytes start looked passed le =
     ∙ take-add (looked - start) passed (drop start bytes)
     ∙ ap (λ xs. slice_range bytes start looked ++ take passed xs) (drop-drop (looked - start) start bytes ∙ ap (λ k. drop k bytes) m)
     )
-
-slice_byte : (bytes rest : List ℕ) (start looked b : ℕ) → start ≤ looked → drop looked bytes ≡ b ∷ rest → slice_range bytes start looked ++ b ∷ [] ≡ slice_range bytes start (looked + 1)
-slice_byte bytes rest start looked b le e = ap (λ xs. slice_range bytes start looked ++ take 1 xs) (sym e) ∙ slice_on bytes start looked 1 le
 
 start_place : (bytes : List ℕ) (start looked : ℕ) → start ≤ looked → looked ≤ length bytes → start + length (slice_range bytes start looked ++ drop looked bytes) ≡ length bytes
 start_place bytes start looked le within = omega (arith, ap length (drop_split bytes start looked le), length-drop start bytes)
@@ -134,19 +127,22 @@ scan_begun bytes old new part s (b, rest, e, turns) l st p c t d f =
     }
 
 -- in a token
-pub scan_added : (bytes : List ℕ) (old new : Scan) (part : Part) (byte : ℕ) → IsScan bytes old → StopsAt old.part bytes old.looked (Some (Adds part))
-    → ((b : ℕ) → (rest : List ℕ) → drop old.looked bytes ≡ b ∷ rest → byte ≡ b)
-    → new.looked ≡ old.looked + 1 → new.start ≡ old.start → new.part ≡ part → new.content.items ≡ old.content.items ++ byte ∷ [] → new.tokens.items ≡ old.tokens.items → new.depth ≡ old.depth → new.from ≡ old.from
-    → Goes bytes old new
-scan_added bytes old new part byte s (b, rest, e, turns) read l st p c t d f =
-    let left = subst (Stands bytes old.tokens.items old.depth old.from old.part (start_of bytes old) old.content.items) e s.stands in
-    let on = stands_added bytes old.tokens.items old.depth old.from old.part part (start_of bytes old) old.content.items b rest left turns in
-    let here = subst (λ start. Stands bytes old.tokens.items old.depth old.from part start (old.content.items ++ b ∷ []) rest) (slice_byte bytes rest old.start old.looked b s.begun e) on in
-    let now = subst (Stands bytes old.tokens.items old.depth old.from part (slice_range bytes old.start (old.looked + 1)) (old.content.items ++ b ∷ [])) (sym (next_drop bytes rest old.looked b e)) here in
-    let content : new.content.items ≡ old.content.items ++ b ∷ [] = c ∙ ap (λ x. old.content.items ++ x ∷ []) (read b rest e) in
+pub scan_extended : (bytes : List ℕ) (old new : Scan) (part : Part) (more : ℕ) → IsScan bytes old → StopsAt old.part bytes old.looked (Some (Adds part))
+    → Extends part part (drop (old.looked + 1) bytes) more
+    → new.looked ≡ old.looked + (1 + more) → new.start ≡ old.start → new.part ≡ part → new.content.items ≡ old.content.items ++ slice_range bytes old.looked (old.looked + (1 + more))
+    → new.tokens.items ≡ old.tokens.items → new.depth ≡ old.depth → new.from ≡ old.from → Goes bytes old new
+scan_extended bytes old new part more s (b, rest, e, turns) behind l st p c t d f =
+    let added = 1 + more in
+    let first = extends_on old.part part b rest more turns (subst (λ xs. Extends part part xs more) (next_drop bytes rest old.looked b e) behind) in
+    let x = subst (λ xs. Extends old.part part xs added) (sym e) first in
+    let on = stands_extended bytes old.tokens.items old.depth old.from old.part part (start_of bytes old) old.content.items (drop old.looked bytes) added s.stands x in
+    let n : (old.looked + added) - old.looked ≡ added = omega arith in
+    let content : new.content.items ≡ old.content.items ++ take added (drop old.looked bytes) = c ∙ ap (λ k. old.content.items ++ take k (drop old.looked bytes)) n in
+    let now = subst (λ start. Stands bytes old.tokens.items old.depth old.from part start (old.content.items ++ take added (drop old.looked bytes)) (drop (old.looked + added) bytes)) (slice_on bytes old.start old.looked added s.begun)
+    (subst (Stands bytes old.tokens.items old.depth old.from part (start_of bytes old ++ take added (drop old.looked bytes)) (old.content.items ++ take added (drop old.looked bytes))) (drop-drop added old.looked bytes) on) in
     record {
       scan = record {
-        within = omega (arith, within_byte bytes rest old.looked b e);
+        within = omega (arith, x.within, s.within, length-drop old.looked bytes);
         begun = omega (arith, s.begun);
         stands = rw (l, st, p, content, t, d, f) now;
       };

@@ -9,8 +9,8 @@ use Rattle.smt_reader.specs.declared.form.Form.{Form}
 use Rattle.smt_reader.specs.declared.form.Form.TheVariants.{Simple, Zero, Digits, Point, Places, Hash, HexMark, HexDigits, BinaryMark, BinaryDigits, Colon, Named}
 use Rattle.smt_reader.specs.declared.part.Part.{Part}
 use Rattle.smt_reader.specs.declared.part.Part.TheVariants.{Blank, Comment, Word as InWord, Text as InText, Mark, Quoted}
-use Rattle.smt_reader.specs.declared.part.Turn.TheVariants.{Begins, Adds}
-use Rattle.smt_reader.specs.Parts.{goes_on, part_token, form_token, Passes, Turns}
+use Rattle.smt_reader.specs.declared.part.Turn.TheVariants.{Begins}
+use Rattle.smt_reader.specs.Parts.{goes_on, part_token, form_token, Passes, Extends, Turns}
 use Rattle.smt_reader.specs.Scan.{BeginsAt, Stands}
 use Rattle.smt_reader.proofs.Runs.{Lexes-push, Opens-push, shapes-push, begun_open, at_most_open}
 
@@ -72,17 +72,17 @@ stands_begun bytes tokens depth from old later start content b rest s t = record
   is_part = t.0;
 }
 
--- or it stands in one
-pub stands_added : (bytes : List ℕ) (tokens : List Token) (depth from : ℕ) (old later : Part) (start content : List ℕ) (b : ℕ) (rest : List ℕ)
-    → Stands bytes tokens depth from old start content (b ∷ rest) → Turns old b (Adds later)
-    → Stands bytes tokens depth from later (start ++ b ∷ []) (content ++ b ∷ []) rest
-stands_added bytes tokens depth from old later start content b rest s t = record {
+-- or bytes stand in one
+pub stands_extended : (bytes : List ℕ) (tokens : List Token) (depth from : ℕ) (old later : Part) (start content left : List ℕ) (added : ℕ)
+    → Stands bytes tokens depth from old start content left → Extends old later left added
+    → Stands bytes tokens depth from later (start ++ take added left) (content ++ take added left) (drop added left)
+stands_extended bytes tokens depth from old later start content left added s x = record {
   opens = s.opens;
   begins = s.begins;
   tail = s.tail;
   lexes = s.lexes;
-  goes = λ more. s.goes more ∙ t.1 start content (rest ++ more);
-  is_part = t.0 start s.is_part;
+  goes = λ more. s.goes more ∙ x.rest start content more;
+  is_part = x.part start s.is_part;
 }
 
 begins_push : (bytes first after : List ℕ) (ts : List Token) (t : Token) (depth from new : ℕ) → Opens 0 (shapes ts) depth → BeginsAt bytes ts from

@@ -103,6 +103,12 @@ pub record Passes (old next : Part) (bytes : List ℕ) (passed : ℕ) : Type 0 w
   pub part : (start : List ℕ) → IsPart old start → IsPart next (start ++ take passed bytes)
   pub rest : (start content more : List ℕ) → goes_on old start content (bytes ++ more) ≡ goes_on next (start ++ take passed bytes) content (drop passed bytes ++ more)
 
+-- What was added at the front of the bytes to the content of a text or a quoted symbol: they were read from one part on to another.
+pub record Extends (old next : Part) (bytes : List ℕ) (added : ℕ) : Type 0 where
+  pub within : added ≤ length bytes
+  pub part : (start : List ℕ) → IsPart old start → IsPart next (start ++ take added bytes)
+  pub rest : (start content more : List ℕ) → goes_on old start content (bytes ++ more) ≡ goes_on next (start ++ take added bytes) (content ++ take added bytes) (drop added bytes ++ more)
+
 -- The byte after those that were passed over does something.
 abbrev pub StopsAt : Part → List ℕ → ℕ → Option Turn → Type 0
 StopsAt part bytes passed None = passed ≡ length bytes

@@ -1,5 +1,5 @@
 //! The kinds of bytes (SMT-LIB 2.6, section 3.1).
-ghost use Rattle.std.specs.Prelude.{◌≡◌, ◌||◌, ◌==◌, not};
+ghost use Rattle.std.specs.Prelude.{◌≡◌, ◌&&◌, ◌||◌, ◌==◌, not};
 ghost use Rattle.std.specs.List.{prefix_len};
 ghost use Rattle.smt_meaning.specs.Reading.{is_blank as is_blank_byte, is_digit as is_digit_byte, is_symbol_byte as is_symbol, is_word_byte as is_word, is_hex_digit as is_hex, is_binary_digit as is_binary, is_printable as is_printable_byte};
 
@@ -96,5 +96,25 @@ pub fn first_line(bytes: &[u8]) -> usize
     bytes
         .iter()
         .take_while(|byte| **byte != b'\n' && **byte != b'\r')
+        .count()
+}
+
+/// How many bytes at the front may stand in a text as they are.
+pub fn leading_text(bytes: &[u8]) -> usize
+    ensures { result ≡ prefix_len (λ b. not (b == 34) && is_printable_byte b) bytes.now }
+{
+    bytes
+        .iter()
+        .take_while(|byte| **byte != b'"' && is_printable(**byte))
+        .count()
+}
+
+/// How many bytes at the front may stand in a quoted symbol.
+pub fn leading_quoted(bytes: &[u8]) -> usize
+    ensures { result ≡ prefix_len (λ b. not (b == 124) && not (b == 92) && is_printable_byte b) bytes.now }
+{
+    bytes
+        .iter()
+        .take_while(|byte| **byte != b'|' && **byte != b'\\' && is_printable(**byte))
         .count()
 }

@@ -1,13 +1,12 @@
-ghost use Rattle.std.specs.Prelude.{◌≡◌, IfOk, Some, None, false, if◌then◌else◌};
+ghost use Rattle.std.specs.Prelude.{◌≡◌, IfOk, Some, None, if◌then◌else◌};
 ghost use Rattle.std.specs.Str.{bytes_eq};
-ghost use Rattle.smt_meaning.specs.Reading.{is_symbol_byte, symbol_token, reserved_word};
-ghost use Rattle.smt_reader.specs.Parts.{EndsSo, Passes, StepsSo, StopsAt, Turns, form_token, part_token};
-ghost use Rattle.smt_reader.specs.declared.form.Form.TheVariants.{Simple};
+ghost use Rattle.smt_meaning.specs.Reading.{symbol_token, reserved_word};
+ghost use Rattle.smt_reader.specs.Parts.{EndsSo, Extends, Passes, StepsSo, StopsAt, form_token, part_token};
 ghost use Rattle.smt_reader.specs.declared.part.Part.TheVariants.{Blank, Comment, Word as InWord, Text as InText, Mark, Quoted};
 
 use crate::byte::{
     first_line, is_blank, is_printable, is_word_byte, leading_blanks, leading_digits,
-    leading_symbol_bytes,
+    leading_quoted, leading_symbol_bytes, leading_text,
 };
 use crate::form::Form;
 use smt_meaning::{Seq, Token, Word};
@@ -90,18 +89,6 @@ impl Part {
         ensures passes { Passes self result.part bytes.now result.passed }
         ensures stops { StopsAt result.part bytes.now result.passed result.turn }
     {
-        match self {
-            Part::Blank => run_blank(bytes),
-            Part::Word(Form::Simple) => run_symbol(bytes),
-            _ => self.run_on(bytes),
-        }
-    }
-
-    /// The same, from any part.
-    fn run_on(self, bytes: &[u8]) -> Run
-        ensures passes { Passes self result.part bytes.now result.passed }
-        ensures stops { StopsAt result.part bytes.now result.passed result.turn }
-    {
         let mut part = self;
         let mut passed = 0;
         loop {
@@ -141,6 +128,17 @@ impl Part {
         }
     }
 
+    /// How many bytes at the front only add to the content of a text or a quoted symbol.
+    pub fn extends(self, bytes: &[u8]) -> usize
+        ensures { Extends self self bytes.now result }
+    {
+        match self {
+            Part::Text => leading_text(bytes),
+            Part::Quoted => leading_quoted(bytes),
+            _ => 0,
+        }
+    }
+
     /// What this byte does.
     fn step(self, byte: u8) -> Step
         ensures { StepsSo self byte result }
@@ -174,6 +172,7 @@ impl Part {
     }
 
     /// The token that ends here: `start` has its bytes, and `content` what was read of a text or a quoted symbol.
+    #[inline(always)]
     pub fn token(
         self,
         alloc: Global,
@@ -188,58 +187,6 @@ impl Part {
             Part::Mark => Ok(Some(Token::Text(Seq::copy(alloc, content)?))),
             Part::Quoted => Ok(Some(Token::Symbol(Seq::copy(alloc, content)?))),
         }
-    }
-}
-
-/// Passes over bytes from between tokens on.
-fn run_blank(bytes: &[u8]) -> Run
-    ensures passes { Passes Blank result.part bytes.now result.passed }
-    ensures stops { StopsAt result.part bytes.now result.passed result.turn }
-{
-    let passed = leading_blanks(bytes);
-    let Some(byte) = bytes.get(passed) else {
-        return Run {
-            passed,
-            part: Part::Blank,
-            turn: None,
-        };
-    };
-    match blank_step(*byte) {
-        Step::Turns(turn) => Run {
-            passed,
-            part: Part::Blank,
-            turn: Some(turn),
-        },
-        Step::Stays(_) => Part::Blank.run_on(bytes),
-    }
-}
-
-/// Passes over bytes from inside a simple symbol on.
-fn run_symbol(bytes: &[u8]) -> Run
-    ensures passes { Passes (InWord Simple) result.part bytes.now result.passed }
-    ensures stops { StopsAt result.part bytes.now result.passed result.turn }
-{
-    let passed = leading_symbol_bytes(bytes);
-    let turn = match bytes.get(passed) {
-        Some(byte) => Some(symbol_end(*byte)),
-        None => None,
-    };
-    Run {
-        passed,
-        part: Part::Word(Form::Simple),
-        turn,
-    }
-}
-
-/// What a byte that can't stand in a simple symbol does in one.
-fn symbol_end(byte: u8) -> Turn
-    requires { is_symbol_byte byte ≡ false }
-    ensures { Turns (InWord Simple) byte result }
-{
-    if byte == b':' || byte == b'#' {
-        Turn::Malformed
-    } else {
-        Turn::Ends
     }
 }
 
@@ -343,6 +290,7 @@ fn quoted_step(byte: u8) -> Step
 }
 
 /// The token that a word of this form is.
+#[inline(always)]
 fn word_token(alloc: Global, form: Form, word: &[u8]) -> Result<Option<Token>, AllocError>
     ensures { IfOk result (λ t. t ≡ form_token form word.now) }
 {
@@ -361,6 +309,7 @@ fn word_token(alloc: Global, form: Form, word: &[u8]) -> Result<Option<Token>, A
 }
 
 /// The token that a simple symbol or a reserved word is.
+#[inline(always)]
 fn symbol(alloc: Global, word: &[u8]) -> Result<Token, AllocError>
     ensures { IfOk result (λ t. t ≡ symbol_token (reserved_word word.now) word.now) }
 {
@@ -371,6 +320,7 @@ fn symbol(alloc: Global, word: &[u8]) -> Result<Token, AllocError>
 }
 
 /// The reserved word that is spelled so. No two of them begin with the same byte.
+#[inline(always)]
 fn reserved(word: &[u8]) -> Option<Word>
     ensures { result ≡ reserved_word word.now }
 {

@@ -8,7 +8,7 @@ use std::marker::Model;
 
 /// Reads s-expressions (SMT-LIB 2.6, sections 3.1 and 3.2) from bytes that come in pieces. Contracts see it as the bytes that it hasn't read, the place of the first of them, and whether they are all.
 ///
-/// No byte is looked at twice, but for the one that ends a word.
+/// Each byte is looked at once, and once more where it ends a run of bytes of one kind, however the input is cut into pieces.
 #[derive(Drop)]
 pub struct Reader {
     /// The bytes that are kept: those that aren't read, and some before them.

@@ -2,7 +2,7 @@ ghost use Rattle.std.specs.Prelude.{◌≡◌, ◌≤◌, ◌+◌, ◌++◌, ◌
 ghost use Rattle.std.specs.Result.{is_ok};
 ghost use Rattle.smt_meaning.specs.Reading.{IsSExpr, Opens, shapes};
 ghost use Rattle.smt_reader.specs.Parts.{StopsAt, part_token};
-ghost use Rattle.smt_reader.specs.Scan.{IsScan, start_of, EndsAt, Finds, Keeps, Comes};
+ghost use Rattle.smt_reader.specs.Scan.{IsScan, start_of, EndsAt, Finds, Goes, Keeps, Comes};
 
 use crate::part::{Ending, Part, Turn};
 use smt_meaning::{FaultKind, SExpr, Token};
@@ -94,6 +94,18 @@ impl Scan {
         run.turn
     }
 
+    /// Begins a token at the next byte.
+    fn begin(&mut self, part: Part)
+        requires { self.old.looked < usize.MAX }
+        ensures { (bytes : List ℕ) → IsScan bytes self.old → StopsAt self.old.part bytes self.old.looked (Some (Turn.Begins part))
+            → Goes bytes self.old self.new }
+    {
+        self.content.clear();
+        self.part = part;
+        self.start = self.looked;
+        self.looked += 1;
+    }
+
     /// Does what the next byte does.
     fn turn(&mut self, alloc: Global, bytes: &[u8], turn: Turn) -> Result<Option<Found>, AllocError>
         requires scan { IsScan bytes.now self.old }
@@ -105,16 +117,15 @@ impl Scan {
             Turn::Enters => self.enter(),
             Turn::Leaves => self.leave(alloc),
             Turn::Begins(part) => {
-                self.content.clear();
-                self.part = part;
-                self.start = self.looked;
-                self.looked += 1;
+                self.begin(part);
                 Ok(None)
             }
             Turn::Adds(part) => {
-                self.content.push(bytes[self.looked])?;
+                let next = self.looked + 1;
+                let next = next + part.extends(&bytes[next..]);
+                self.content.extend_from_slice(&bytes[self.looked..next])?;
                 self.part = part;
-                self.looked += 1;
+                self.looked = next;
                 Ok(None)
             }
             Turn::Ends => self.end_token(alloc, bytes, self.looked),
@@ -163,6 +174,7 @@ impl Scan {
     }
 
     /// Ends the token, behind which the bytes go on from `next`.
+    #[inline(always)]
     fn end_token(
         &mut self,
         alloc: Global,
@@ -222,6 +234,7 @@ impl Scan {
     }
 
     /// The token that the bytes looked at end.
+    #[inline(always)]
     fn token(&self, alloc: Global, bytes: &[u8]) -> Result<Token, AllocError>
         requires within { self.now.looked ≤ length bytes.now }
         requires begun { self.now.start ≤ self.now.looked }

@@ -1,6 +1,5 @@
-use Rattle.std.proofs.Common.{inl, inr, sym, subst}
+use Rattle.std.proofs.Common.{inl, inr}
 use Rattle.smt_meaning.specs.Reading.{is_digit, is_symbol_byte}
-use Rattle.smt_reader.specs.Parts.{Passes}
 use Rattle.smt_reader.specs.declared.form.Form.TheVariants.{Simple, Digits, Places, Named}
 use Rattle.smt_reader.specs.declared.part.Part.TheVariants.{Word}
 use Rattle.smt_reader.proofs.WordForms.{simple_on, digits_on, places_on, named_on}

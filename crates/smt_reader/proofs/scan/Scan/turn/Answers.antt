@@ -1,5 +1,7 @@
-use Rattle.std.proofs.Common.{refl, get_or}
-use Rattle.smt_reader.proofs.Scanned.{read_byte, scan_begun, scan_added, ends_at, closes_at, found_wrong, found_malformed}
+use Rattle.std.proofs.Common.{◌≡◌, ◌+◌, ◌++◌, slice_range, arith, refl, ap, ◌∙◌, subst}
+use Rattle.std.proofs.lemmas.List.{take_rest}
+use Rattle.smt_reader.specs.Parts.{Extends}
+use Rattle.smt_reader.proofs.Scanned.{scan_extended, ends_at, closes_at, found_wrong, found_malformed}
 use Rattle.smt_reader.proofs.scan.Scan.turn.Goals as goal
 
 pub returns-in-Wrong-clause-ok : goal.returns-in-Wrong-clause-ok
@@ -27,12 +29,15 @@ pub returns-in-Leaves-clause-err : goal.returns-in-Leaves-clause-err
 returns-in-Leaves-clause-err c = c.leave.ensures.err c.args.bytes.now c.requires.scan
 
 pub returns-in-Begins-clause-ok : goal.returns-in-Begins-clause-ok
-returns-in-Begins-clause-ok c =
-    scan_begun c.args.bytes.now c.args.self.now _ c.in-Begins.part c.requires.scan (rw c.in-Begins.is at c.requires.stops) refl refl refl c.clear.ensures.items refl refl refl
+returns-in-Begins-clause-ok c = c.begin.ensures c.args.bytes.now c.requires.scan (rw c.in-Begins.is at c.requires.stops)
 
-pub returns-in_ok-push-in-Adds-clause-ok : goal.returns-in_ok-push-in-Adds-clause-ok
-returns-in_ok-push-in-Adds-clause-ok c =
+pub returns-in_ok-extend_from_slice-in-Adds-clause-ok : goal.returns-in_ok-extend_from_slice-in-Adds-clause-ok
+returns-in_ok-extend_from_slice-in-Adds-clause-ok c =
     let bytes = c.args.bytes.now in
     let s = c.args.self.now in
-    scan_added bytes s _ c.in-Adds.part (get_or bytes s.looked 0) c.requires.scan (rw c.in-Adds.is at c.requires.stops) (λ b rest e. read_byte bytes rest s.looked b e)
-    refl refl refl c.in_ok-push-in-Adds.ensures.items refl refl refl
+    let part = c.in-Adds.part in
+    let more = c.extends.result in
+    let n : (s.looked + 1) + more ≡ s.looked + (1 + more) = omega arith in
+    scan_extended bytes s _ part more c.requires.scan (rw c.in-Adds.is at c.requires.stops)
+    (subst (λ left. Extends part part left more) (take_rest bytes (s.looked + 1)) c.extends.ensures)
+    n refl refl (c.in_ok-extend_from_slice-in-Adds.ensures.items ∙ ap (λ to. s.content.items ++ slice_range bytes s.looked to) n) refl refl refl

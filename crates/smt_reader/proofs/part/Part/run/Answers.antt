@@ -3,7 +3,7 @@ use Rattle.std.proofs.lemmas.Grind.{common_steps}
 use Rattle.std.proofs.lemmas.List.{take_rest}
 use Rattle.smt_reader.specs.Parts.{GoesOnTo, Passes}
 use Rattle.smt_reader.proofs.PartRuns.{passes_more, passes_next}
-use Rattle.smt_reader.proofs.part.Part.run_on.Goals as goal
+use Rattle.smt_reader.proofs.part.Part.run.Goals as goal
 
 pub loop-byte-preserved : goal.loop-byte-preserved
 loop-byte-preserved c =

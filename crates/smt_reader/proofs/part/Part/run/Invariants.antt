@@ -1,6 +1,6 @@
 use Rattle.std.proofs.Common.{◌-◌, length}
 use Rattle.smt_reader.specs.Parts.{Passes}
-use Rattle.smt_reader.proofs.part.Part.run_on.Given as goal
+use Rattle.smt_reader.proofs.part.Part.run.Given as goal
 
 abbrev pub invariant-loop-byte : goal.invariant-loop-byte
 invariant-loop-byte l = Passes l.fn.self l.part l.bytes l.passed
