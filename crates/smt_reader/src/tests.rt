@@ -108,7 +108,7 @@ fn reads_however_cut(rt: HostRuntime) -> Result<(), Fail> {
         (b"".as_slice(), b".".as_slice(), None),
         (b" \t\r\n", b".", None),
         (b"0 5 1234567890", b"N0, N5, N1234567890, .", None),
-        (b"0.0 1.50 12.007", b"D0.0, D1.50, D12.007, .", None),
+        (b"0.0 1.50 120.007", b"D0.0, D1.50, D120.007, .", None),
         (b"#x0 #xaAfF09", b"X#x0, X#xaAfF09, .", None),
         (b"#b0 #b0101", b"B#b0, B#b0101, .", None),
         (b"\"\" \"a b\"", b"T, Ta b, .", None),
@@ -131,7 +131,12 @@ fn reads_however_cut(rt: HostRuntime) -> Result<(), Fail> {
             b"SBINARY, SDECIMAL, SHEXADECIMAL, SNUMERAL, SSTRING, .",
             None,
         ),
-        (b"assert lets Let", b"Sassert, Slets, SLet, .", None),
+        (
+            b"assert check-sat declare-fun set-option exit",
+            b"Sassert, Scheck-sat, Sdeclare-fun, Sset-option, Sexit, .",
+            None,
+        ),
+        (b"lets Let", b"Slets, SLet, .", None),
         (
             b":a :print-success :let :4x",
             b"Ka, Kprint-success, Klet, K4x, .",
