@@ -3,12 +3,12 @@ mod WordForms
 mod WordExamples
 mod PartSteps
 mod PartRuns
-pub mod PartLaws
-pub mod Shorter
-pub mod Runs
-pub mod Answers
-pub mod Settled
-pub mod Scans
-pub mod Unsettled
-pub mod Scanned
-pub mod Unreads
+mod PartLaws
+mod Shorter
+mod Runs
+mod Answers
+mod Settled
+mod Scans
+mod Unsettled
+mod Scanned
+mod Unreads

@@ -8,7 +8,7 @@ use std::marker::Model;
 
 /// Reads s-expressions (SMT-LIB 2.6, sections 3.1 and 3.2) from bytes that come in pieces. Contracts see it as the bytes that it hasn't read, the place of the first of them, and whether they are all.
 ///
-/// Each byte is looked at once, and once more where it ends a run of bytes of one kind, however the input is cut into pieces.
+/// A call goes on from the byte at which the one before stopped, and scans none before it again.
 #[derive(Drop)]
 pub struct Reader {
     /// The bytes that are kept: those that aren't read, and some before them.
@@ -89,7 +89,7 @@ impl Reader {
         }
     }
 
-    /// Lets the read bytes go once they are as many as the others, so that no more bytes are moved than are let go.
+    /// Lets the read bytes go once they are as many as the others, so that in all no more bytes are moved than are read.
     fn forget(&mut self)
         ensures { self.new ≡ self.old }
     {

@@ -1,6 +1,6 @@
-pub mod Logics
-pub mod Written
-pub mod Turns
-pub mod Runs
-pub mod Reached
-pub mod Models
+mod Logics
+mod Written
+mod Turns
+mod Runs
+mod Reached
+mod Models
