@@ -11,7 +11,7 @@ use Rattle.smt_meaning.specs.Term.{Tree, node, none}
 use Rattle.smt_meaning.specs.Sexp.{Sexp, Sexps, word, group, end, ◌▸◌}
 use Rattle.smt_meaning.specs.TreeShape.{place_of}
 use Rattle.smt_meaning.specs.Signature.{look_up, is_one_of, is_some, find_function, find_sort, reserved_functions, reserved_sorts, sort_eq}
-use Rattle.smt_meaning.specs.Sorts.{Scope, Outcome, done, refused, Judging, ◌>>=◌, ◌>>◌, return, refuse, require, required, the_scope, declare, Typed, Variable, Rules, judge, judge_all, is_small, decimal}
+use Rattle.smt_meaning.specs.Sorts.{Scope, Outcome, done, refused, Judging, ◌>>=◌, ◌>>◌, return, refuse, require, required, the_scope, declare, Typed, Variable, Rules, not_before, judge, judge_all, is_small, decimal}
 use Rattle.smt_meaning.specs.Stack.{Assertion, Frame, signature_of, start_frames, depth, on_top, pushed, popped}
 
 -- the frames by levels, how many ids were given, and the different trees that were judged, both since the start or the last `reset`
@@ -67,8 +67,8 @@ have_sort_form (s ▸ ss) = has_sort_form s && have_sort_form ss
 abbrev pub judge_sort : Sexp → Judging Sort
 judge_sort (word (Symbol n)) = do
   s ← the_scope
-  required (sort_named n s.signature) (UnknownSymbol n)
-judge_sort (group (word (Symbol n) ▸ ss)) = refuse (UnknownSymbol n)
+  required (sort_named n s.signature) (UnknownSymbol (Symbol n))
+judge_sort (group (word (Symbol n) ▸ ss)) = refuse (UnknownSymbol (Symbol n))
 judge_sort _ = refuse WrongArguments
 
 abbrev pub judge_sorts : Sexps → Judging (List Sort)
@@ -174,7 +174,7 @@ parameters (_ ▸ rest) = None
 abbrev pub judge_parameters : ℕ → List (List ℕ) → List Parameter → Judging (List Variable)
 judge_parameters k before [] = return []
 judge_parameters k before (p ∷ ps) = do
-  require (not (is_one_of p.name before)) (AlreadyDeclared p.name)
+  not_before before p.name
   s ← judge_sort p.sort
   vs ← judge_parameters (k + 1) (p.name ∷ before) ps
   return (record { name = p.name; term = record { tree = node (Place k) none; sort = s } } ∷ vs)

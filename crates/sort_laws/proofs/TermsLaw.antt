@@ -163,14 +163,14 @@ can_be_applied_gives b s n (variable a) = refuse_gives b s _ _
 can_be_applied_gives b s n unknown = refuse_gives b s _ _
 can_be_applied_gives b s n _ = return_gives b s tt Nothing tt
 
-none_twice_gives : (b : Bool) (s : Scope) (ns : List (List ℕ)) → Gives b s (none_twice ns) Nothing
-none_twice_gives b s [] = return_gives b s tt Nothing tt
-none_twice_gives b s (n ∷ ns) = next_gives b s _ _ _ Nothing (require_gives b s _ _) (λ c t g e k. none_twice_gives b t ns)
+none_twice_gives : (b : Bool) (s : Scope) (before ns : List (List ℕ)) → Gives b s (none_twice before ns) Nothing
+none_twice_gives b s before [] = return_gives b s tt Nothing tt
+none_twice_gives b s before (n ∷ ns) = next_gives b s _ _ _ Nothing (require_gives b s _ _) (λ c t g e k. none_twice_gives b t (n ∷ before) ns)
 
 bindings_gives : (b : Bool) (s : Scope) (o : Option (List (List ℕ))) → Gives b s (check_bindings o) Nothing
 bindings_gives b s None = refuse_gives b s _ _
 bindings_gives b s (Some []) = refuse_gives b s _ _
-bindings_gives b s (Some (n ∷ ns)) = none_twice_gives b s (n ∷ ns)
+bindings_gives b s (Some (n ∷ ns)) = none_twice_gives b s [] (n ∷ ns)
 
 -- ---- names
 

@@ -237,14 +237,14 @@ from_growing {A} s m h = record { gives = go (m s) (h.grows s) }
     go (done a t) g = g
     go (refused r) g = tt
 
-none_twice_gives : (s : Scope) (ns : List (List ℕ)) → Gives s (none_twice ns) (Same s)
-none_twice_gives s [] = return_gives s tt (Same s) refl
-none_twice_gives s (n ∷ ns) = next_gives s _ _ (Same s) (Same s) (require_gives s _ _) (λ a t e. from_same s t _ (Same s) e (none_twice_gives s ns))
+none_twice_gives : (s : Scope) (before ns : List (List ℕ)) → Gives s (none_twice before ns) (Same s)
+none_twice_gives s before [] = return_gives s tt (Same s) refl
+none_twice_gives s before (n ∷ ns) = next_gives s _ _ (Same s) (Same s) (require_gives s _ _) (λ a t e. from_same s t _ (Same s) e (none_twice_gives s (n ∷ before) ns))
 
 bindings_gives : (s : Scope) (o : Option (List (List ℕ))) → Gives s (check_bindings o) (Same s)
 bindings_gives s None = refuse_gives s _ _
 bindings_gives s (Some []) = refuse_gives s _ _
-bindings_gives s (Some (n ∷ ns)) = none_twice_gives s (n ∷ ns)
+bindings_gives s (Some (n ∷ ns)) = none_twice_gives s [] (n ∷ ns)
 
 symbol_means : (s : Scope) (r : Rules) (vs : List Variable) (n : List ℕ) → Gives s (judge_bare r n (known vs n s)) (Means s vs (word (Symbol n)))
 symbol_means s r vs n =

@@ -7,7 +7,7 @@ use Rattle.smt_meaning.specs.declared.values.Sort.{Sort}
 use Rattle.smt_meaning.specs.declared.values.Sort.TheVariants.{Bool as Truths, Int as Ints, Free}
 use Rattle.smt_meaning.specs.declared.terms.Operator.TheVariants.{True, Add, Subtract, Multiply, Equal, Ite}
 use Rattle.smt_meaning.specs.declared.terms.Head.TheVariants.{Numeral as Number, Theory, Symbol as Function, Place}
-use Rattle.smt_meaning.specs.declared.tokens.Token.TheVariants.{Decimal, Hex, Binary, Reserved}
+use Rattle.smt_meaning.specs.declared.tokens.Token.TheVariants.{Decimal, Hex, Binary, Text, Symbol as Name, Reserved}
 use Rattle.smt_meaning.specs.declared.tokens.Word.TheVariants.{Let, Exclamation, Underscore, As, Exists, Forall, Match, Par}
 use Rattle.smt_meaning.specs.declared.declarations.Declaration.{Declaration}
 use Rattle.smt_meaning.specs.declared.refusals.Refusal.{Refusal}
@@ -89,17 +89,24 @@ past = numeral (codes "170141183460469231731687303715884105728")
 
 tokens : asserted (symbol (codes "true") ∷ symbol (codes "false") ∷ greatest ∷ past ∷ word (Decimal (codes "1.5")) ∷ word (Hex (codes "#x1F")) ∷ word (Binary (codes "#b01"))
     ∷ text (codes "ab") ∷ text (34 ∷ []) ∷ keyword (codes "k") ∷ word (Reserved Let) ∷ word (Reserved Par) ∷ x ∷ a ∷ symbol (codes "nope") ∷ symbol (codes "f") ∷ symbol (codes "not") ∷ symbol (codes "div") ∷ [])
-    ≡ sorted Truths ∷ sorted Truths ∷ sorted Ints ∷ denied NumeralTooLarge ∷ denied (UnknownSymbol (codes "1.5")) ∷ denied (UnknownSymbol (codes "#x1F")) ∷ denied (UnknownSymbol (codes "#b01"))
-    ∷ denied (UnknownSymbol (34 ∷ 97 ∷ 98 ∷ 34 ∷ [])) ∷ denied (UnknownSymbol (34 ∷ 34 ∷ 34 ∷ 34 ∷ [])) ∷ denied WrongArguments ∷ denied WrongArguments ∷ denied WrongArguments ∷ sorted Ints ∷ sorted (Free 0)
-    ∷ denied (UnknownSymbol (codes "nope")) ∷ denied (ArgumentCount (codes "f")) ∷ denied (ArgumentCount (codes "not")) ∷ denied (UnknownSymbol (codes "div")) ∷ []
+    ≡ sorted Truths ∷ sorted Truths ∷ sorted Ints ∷ denied NumeralTooLarge ∷ denied (UnknownSymbol (Decimal (codes "1.5"))) ∷ denied (UnknownSymbol (Hex (codes "#x1F"))) ∷ denied (UnknownSymbol (Binary (codes "#b01")))
+    ∷ denied (UnknownSymbol (Text (codes "ab"))) ∷ denied (UnknownSymbol (Text (34 ∷ []))) ∷ denied WrongArguments ∷ denied WrongArguments ∷ denied WrongArguments ∷ sorted Ints ∷ sorted (Free 0)
+    ∷ denied (UnknownSymbol (Name (codes "nope"))) ∷ denied (ArgumentCount (codes "f")) ∷ denied (ArgumentCount (codes "not")) ∷ denied (UnknownSymbol (Name (codes "div"))) ∷ []
 unfolding ◌>>=◌ ◌>>◌ return refuse require required the_scope note found declare
 tokens = refl
+
+-- `1.5` and `|1.5|`, `(forall 1)` and `(|forall| 1)`, `"a"` and `|"a"|`: tokens whose bytes are alike are told apart
+apart : asserted (word (Decimal (codes "1.5")) ∷ symbol (codes "1.5") ∷ list (word (Reserved Forall) ∷ one ∷ []) ∷ call (codes "forall") (one ∷ []) ∷ text (codes "a") ∷ symbol (34 ∷ 97 ∷ 34 ∷ []) ∷ [])
+    ≡ denied (UnknownSymbol (Decimal (codes "1.5"))) ∷ denied (UnknownSymbol (Name (codes "1.5"))) ∷ denied (UnknownSymbol (Reserved Forall)) ∷ denied (UnknownSymbol (Name (codes "forall")))
+    ∷ denied (UnknownSymbol (Text (codes "a"))) ∷ denied (UnknownSymbol (Name (34 ∷ 97 ∷ 34 ∷ []))) ∷ []
+unfolding ◌>>=◌ ◌>>◌ return refuse require required the_scope note found declare
+apart = refl
 
 -- (), (1 2), ((f x) x), and the heads that are left out
 lists : asserted (list [] ∷ list (one ∷ two ∷ []) ∷ list (call (codes "f") (x ∷ []) ∷ x ∷ []) ∷ list (word (Reserved Exists) ∷ x ∷ []) ∷ list (word (Reserved Forall) ∷ []) ∷ list (word (Reserved Match) ∷ [])
     ∷ list (word (Reserved As) ∷ []) ∷ list (word (Reserved Par) ∷ []) ∷ list (word (Reserved Underscore) ∷ symbol (codes "bv1") ∷ []) ∷ [])
-    ≡ denied WrongArguments ∷ denied WrongArguments ∷ denied WrongArguments ∷ denied (UnknownSymbol (codes "exists")) ∷ denied (UnknownSymbol (codes "forall")) ∷ denied (UnknownSymbol (codes "match"))
-    ∷ denied (UnknownSymbol (codes "as")) ∷ denied (UnknownSymbol (codes "par")) ∷ denied (UnknownSymbol (codes "_")) ∷ []
+    ≡ denied WrongArguments ∷ denied WrongArguments ∷ denied WrongArguments ∷ denied (UnknownSymbol (Reserved Exists)) ∷ denied (UnknownSymbol (Reserved Forall)) ∷ denied (UnknownSymbol (Reserved Match))
+    ∷ denied (UnknownSymbol (Reserved As)) ∷ denied (UnknownSymbol (Reserved Par)) ∷ denied (UnknownSymbol (Reserved Underscore)) ∷ []
 unfolding ◌>>=◌ ◌>>◌ return refuse require required the_scope note found declare
 lists = refl
 
@@ -133,7 +140,7 @@ sorts = refl
 -- the head before the arguments, the arguments from the left before their number, the sorts before linearity; and products
 orders : asserted (call (codes "nope") (list [] ∷ []) ∷ call (codes "f") (symbol (codes "u") ∷ list [] ∷ []) ∷ call (codes "*") (x ∷ y ∷ p ∷ []) ∷ call (codes "*") (x ∷ y ∷ []) ∷ call (codes "*") (two ∷ call (codes "+") (one ∷ three ∷ []) ∷ x ∷ [])
     ∷ call (codes "*") (call (codes "f") (one ∷ []) ∷ x ∷ []) ∷ call (codes "square") (x ∷ []) ∷ call (codes "square") (call (codes "-") (three ∷ []) ∷ []) ∷ call (codes "d") (call (codes "*") (x ∷ x ∷ []) ∷ []) ∷ [])
-    ≡ denied (UnknownSymbol (codes "nope")) ∷ denied (UnknownSymbol (codes "u")) ∷ denied (SortsDiffer (codes "*")) ∷ denied NotLinear ∷ sorted Ints
+    ≡ denied (UnknownSymbol (Name (codes "nope"))) ∷ denied (UnknownSymbol (Name (codes "u"))) ∷ denied (SortsDiffer (codes "*")) ∷ denied NotLinear ∷ sorted Ints
     ∷ denied NotLinear ∷ denied NotLinear ∷ sorted Ints ∷ denied NotLinear ∷ []
 unfolding ◌>>=◌ ◌>>◌ return refuse require required the_scope note found declare
 orders = refl
@@ -144,10 +151,16 @@ lets : asserted (letting [] x ∷ letting (list (x ∷ []) ∷ []) x ∷ letting
     ∷ letting (binding (codes "z") one ∷ binding (codes "z") (symbol (codes "nope")) ∷ []) x ∷ letting (binding (codes "z") one ∷ binding (codes "u") z ∷ []) x ∷ letting (binding (codes "z") p ∷ []) z ∷ letting (binding (codes "z") one ∷ []) (call (codes "z") (one ∷ []))
     ∷ letting (binding (codes "+") p ∷ []) (symbol (codes "+")) ∷ letting (binding (codes "f") x ∷ []) (call (codes "f") (x ∷ [])) ∷ letting (binding (codes "z") x ∷ []) (call (codes "*") (z ∷ z ∷ [])) ∷ letting (binding (codes "z") two ∷ []) (call (codes "*") (z ∷ x ∷ [])) ∷ [])
     ≡ denied WrongArguments ∷ denied WrongArguments ∷ denied WrongArguments ∷ denied WrongArguments ∷ denied WrongArguments
-    ∷ denied (AlreadyDeclared (codes "z")) ∷ denied (UnknownSymbol (codes "z")) ∷ sorted Truths ∷ denied (ArgumentCount (codes "z"))
+    ∷ denied (AlreadyDeclared (codes "z")) ∷ denied (UnknownSymbol (Name (codes "z"))) ∷ sorted Truths ∷ denied (ArgumentCount (codes "z"))
     ∷ sorted Truths ∷ denied (ArgumentCount (codes "f")) ∷ denied NotLinear ∷ sorted Ints ∷ []
 unfolding ◌>>=◌ ◌>>◌ return refuse require required the_scope note found declare
 lets = refl
+
+-- of names that stand twice, the first that stood before
+twice : asserted (letting (binding (codes "x") one ∷ binding (codes "y") one ∷ binding (codes "y") one ∷ binding (codes "x") one ∷ []) x ∷ letting (binding (codes "x") one ∷ binding (codes "y") one ∷ binding (codes "x") one ∷ binding (codes "y") one ∷ []) x ∷ [])
+    ≡ denied (AlreadyDeclared (codes "y")) ∷ denied (AlreadyDeclared (codes "x")) ∷ []
+unfolding ◌>>=◌ ◌>>◌ return refuse require required the_scope note found declare
+twice = refl
 
 -- ---- `!`
 
@@ -161,10 +174,10 @@ annotations : asserted (list (word (Reserved Exclamation) ∷ []) ∷ annotated 
     ∷ annotated x (keyword (codes "named") ∷ []) ∷ named x one ∷ named x (symbol (codes "+")) ∷ named x (symbol (codes "div")) ∷ named x p ∷ named x n
     ∷ letting (binding (codes "z") one ∷ []) (named z n) ∷ letting (binding (codes "z") one ∷ []) (named (letting (binding (codes "z") two ∷ []) z) n) ∷ letting (binding (codes "z") one ∷ []) (named (letting (binding (codes "z") z ∷ []) z) n)
     ∷ call (codes "and") (named p n ∷ n ∷ []) ∷ call (codes "and") (n ∷ named p n ∷ []) ∷ call (codes "and") (named p n ∷ named q n ∷ []) ∷ annotated p (keyword (codes "named") ∷ n ∷ keyword (codes "named") ∷ symbol (codes "m") ∷ []) ∷ [])
-    ≡ denied WrongArguments ∷ denied WrongArguments ∷ denied WrongArguments ∷ denied WrongArguments ∷ sorted Ints ∷ denied (UnknownSymbol (codes "nope"))
+    ≡ denied WrongArguments ∷ denied WrongArguments ∷ denied WrongArguments ∷ denied WrongArguments ∷ sorted Ints ∷ denied (UnknownSymbol (Name (codes "nope")))
     ∷ denied WrongArguments ∷ denied WrongArguments ∷ denied (ReservedName (codes "+")) ∷ denied (ReservedName (codes "div")) ∷ denied (AlreadyDeclared (codes "p")) ∷ sorted Ints
     ∷ denied WrongArguments ∷ sorted Ints ∷ denied WrongArguments
-    ∷ sorted Truths ∷ denied (UnknownSymbol (codes "n")) ∷ denied (AlreadyDeclared (codes "n")) ∷ sorted Truths ∷ []
+    ∷ sorted Truths ∷ denied (UnknownSymbol (Name (codes "n"))) ∷ denied (AlreadyDeclared (codes "n")) ∷ sorted Truths ∷ []
 unfolding ◌>>=◌ ◌>>◌ return refuse require required the_scope note found declare
 annotations = refl
 
@@ -280,10 +293,10 @@ declarations : answers (call (codes "declare-const") (x ∷ bool ∷ []) ∷ cal
     ∷ call (codes "declare-const") (z ∷ one ∷ []) ∷ call (codes "declare-const") (z ∷ []) ∷ call (codes "declare-const") (sort_s ∷ int ∷ []) ∷ call (codes "declare-fun") (z ∷ list (int ∷ symbol (codes "T") ∷ []) ∷ symbol (codes "U") ∷ []) ∷ call (codes "declare-fun") (z ∷ list [] ∷ sort_s ∷ [])
     ∷ call (codes "declare-sort") (sort_s ∷ zero ∷ []) ∷ call (codes "declare-sort") (bool ∷ zero ∷ []) ∷ call (codes "declare-sort") (x ∷ zero ∷ []) ∷ call (codes "declare-sort") (z ∷ past ∷ []) ∷ call (codes "declare-sort") (z ∷ one ∷ [])
     ∷ call (codes "define-sort") (z ∷ list [] ∷ int ∷ []) ∷ call (codes "define-sort") (int ∷ list [] ∷ int ∷ []) ∷ call (codes "define-sort") (sort_s ∷ list [] ∷ z ∷ []) ∷ call (codes "define-sort") (z ∷ list [] ∷ z ∷ []) ∷ [])
-    ≡ denies (AlreadyDeclared (codes "x")) ∷ denies (ReservedName (codes "+")) ∷ denies (UnknownSymbol (codes "T")) ∷ denies (UnknownSymbol (codes "Array"))
-    ∷ denies WrongArguments ∷ denies WrongArguments ∷ taken ∷ denies (UnknownSymbol (codes "T")) ∷ taken
+    ≡ denies (AlreadyDeclared (codes "x")) ∷ denies (ReservedName (codes "+")) ∷ denies (UnknownSymbol (Name (codes "T"))) ∷ denies (UnknownSymbol (Name (codes "Array")))
+    ∷ denies WrongArguments ∷ denies WrongArguments ∷ taken ∷ denies (UnknownSymbol (Name (codes "T"))) ∷ taken
     ∷ denies (AlreadyDeclared (codes "S")) ∷ denies (ReservedName (codes "Bool")) ∷ taken ∷ denies NumeralTooLarge ∷ taken
-    ∷ taken ∷ denies (ReservedName (codes "Int")) ∷ denies (AlreadyDeclared (codes "S")) ∷ denies (UnknownSymbol (codes "z")) ∷ []
+    ∷ taken ∷ denies (ReservedName (codes "Int")) ∷ denies (AlreadyDeclared (codes "S")) ∷ denies (UnknownSymbol (Name (codes "z"))) ∷ []
 unfolding ◌>>=◌ ◌>>◌ return refuse require required the_scope note found declare judge_body
 declarations = refl
 
@@ -295,10 +308,16 @@ parameter n s = list (n ∷ s ∷ [])
 
 definitions : answers (defining x [] (symbol (codes "T")) one ∷ defining (symbol (codes "and")) [] int one ∷ defining z (parameter x int ∷ parameter x (symbol (codes "T")) ∷ []) int x ∷ defining z (parameter x (symbol (codes "T")) ∷ []) (symbol (codes "U")) (symbol (codes "nope")) ∷ defining z [] (symbol (codes "U")) (symbol (codes "nope"))
     ∷ defining z [] int (symbol (codes "nope")) ∷ defining z [] int p ∷ defining z (parameter y bool ∷ []) bool y ∷ defining z (parameter y int ∷ []) int (call (codes "*") (y ∷ y ∷ [])) ∷ defining z [] int (named x n) ∷ defining z [] int z ∷ defining z (x ∷ []) int one ∷ defining z [] one one ∷ [])
-    ≡ denies (AlreadyDeclared (codes "x")) ∷ denies (ReservedName (codes "and")) ∷ denies (AlreadyDeclared (codes "x")) ∷ denies (UnknownSymbol (codes "T")) ∷ denies (UnknownSymbol (codes "U"))
-    ∷ denies (UnknownSymbol (codes "nope")) ∷ denies (SortsDiffer (codes "z")) ∷ taken ∷ taken ∷ denies WrongArguments ∷ denies (UnknownSymbol (codes "z")) ∷ denies WrongArguments ∷ denies WrongArguments ∷ []
+    ≡ denies (AlreadyDeclared (codes "x")) ∷ denies (ReservedName (codes "and")) ∷ denies (AlreadyDeclared (codes "x")) ∷ denies (UnknownSymbol (Name (codes "T"))) ∷ denies (UnknownSymbol (Name (codes "U")))
+    ∷ denies (UnknownSymbol (Name (codes "nope"))) ∷ denies (SortsDiffer (codes "z")) ∷ taken ∷ taken ∷ denies WrongArguments ∷ denies (UnknownSymbol (Name (codes "z"))) ∷ denies WrongArguments ∷ denies WrongArguments ∷ []
 unfolding ◌>>=◌ ◌>>◌ return refuse require required the_scope note found declare judge_body
 definitions = refl
+
+-- of parameters that stand twice, the first that stood before
+parameters_twice : answers (defining z (parameter x int ∷ parameter y int ∷ parameter y int ∷ parameter x int ∷ []) int x ∷ defining z (parameter x int ∷ parameter y int ∷ parameter x int ∷ parameter y int ∷ []) int x ∷ [])
+    ≡ denies (AlreadyDeclared (codes "y")) ∷ denies (AlreadyDeclared (codes "x")) ∷ []
+unfolding ◌>>=◌ ◌>>◌ return refuse require required the_scope note found declare judge_body
+parameters_twice = refl
 
 stack_moves : answers (call (codes "assert") (p ∷ []) ∷ call (codes "assert") (x ∷ []) ∷ call (codes "assert") [] ∷ call (codes "assert") (p ∷ p ∷ []) ∷ call (codes "push") [] ∷ call (codes "push") (numeral (codes "65535") ∷ []) ∷ call (codes "push") (numeral (codes "65536") ∷ []) ∷ call (codes "push") (past ∷ []) ∷ call (codes "push") (x ∷ [])
     ∷ call (codes "pop") (zero ∷ []) ∷ call (codes "pop") [] ∷ call (codes "pop") (past ∷ []) ∷ call (codes "reset") (one ∷ []) ∷ call (codes "reset-assertions") [] ∷ call (codes "check-sat") [] ∷ x ∷ [])

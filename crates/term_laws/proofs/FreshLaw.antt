@@ -155,14 +155,14 @@ token_keeping r vs (Symbol n) = bind_keeping scope_keeping (λ s. bare_keeping r
 token_keeping r vs (Numeral cs) = next_keeping (require_keeping _ _) (next_keeping (note_keeping _) (found_keeping _ _))
 token_keeping r vs _ = refuse_keeping _ _
 
-none_twice_keeping : (ns : List (List ℕ)) → Keeping (none_twice ns)
-none_twice_keeping [] = return_keeping tt
-none_twice_keeping (n ∷ ns) = next_keeping (require_keeping _ _) (none_twice_keeping ns)
+none_twice_keeping : (before ns : List (List ℕ)) → Keeping (none_twice before ns)
+none_twice_keeping before [] = return_keeping tt
+none_twice_keeping before (n ∷ ns) = next_keeping (require_keeping _ _) (none_twice_keeping (n ∷ before) ns)
 
 bindings_keeping : (o : Option (List (List ℕ))) → Keeping (check_bindings o)
 bindings_keeping None = refuse_keeping _ _
 bindings_keeping (Some []) = refuse_keeping _ _
-bindings_keeping (Some (n ∷ ns)) = none_twice_keeping (n ∷ ns)
+bindings_keeping (Some (n ∷ ns)) = none_twice_keeping [] (n ∷ ns)
 
 name_keeping : (r : Rules) (open_term : Bool) (t : Typed) (ss : Sexps) → Keeping (name_by r open_term t ss)
 name_keeping r open_term t (word (Symbol n) ▸ rest) =
