@@ -1,5 +1,5 @@
 -- What an s-expression is as a command, or why it is none (SMT-LIB 2.6, section 4.2).
-use Rattle.std.specs.Prelude.{ℕ, ℤ, pos, Bool, true, false, List, [], ◌∷◌, Option, Some, None, Result, Ok, Err, bytes_eq, codes, if◌then◌else◌}
+use Rattle.std.specs.Prelude.{ℕ, ℤ, pos, Bool, true, false, List, [], ◌∷◌, map, Option, Some, None, Result, Ok, Err, bytes_eq, codes, if◌then◌else◌}
 use Rattle.smt_meaning.specs.declared.tokens.Token.{Token}
 use Rattle.smt_meaning.specs.declared.tokens.Token.TheVariants.{Numeral, Text, Symbol, Keyword}
 use Rattle.smt_meaning.specs.declared.refusals.Refusal.{Refusal}
@@ -69,13 +69,24 @@ with_numeral c cs = if is_small (decimal cs) then Ok (c (pos (decimal cs))) else
 
 -- ---- options and information
 
+abbrev pub option_word : OptionName → List ℕ
+option_word Named.PrintSuccess = codes "print-success"
+option_word Named.RegularOutputChannel = codes "regular-output-channel"
+option_word Named.DiagnosticOutputChannel = codes "diagnostic-output-channel"
+option_word Named.Verbosity = codes "verbosity"
+option_word Named.ReproducibleResourceLimit = codes "reproducible-resource-limit"
+option_word Named.RandomSeed = codes "random-seed"
+option_word Named.ProduceModels = codes "produce-models"
+option_word Named.ProduceAssertions = codes "produce-assertions"
+option_word Named.InteractiveMode = codes "interactive-mode"
+
+abbrev pub with_word : OptionName → List ℕ × OptionName
+with_word o = (option_word o, o)
+
 abbrev pub option_names : List (List ℕ × OptionName)
 option_names =
-    (codes "print-success", Named.PrintSuccess) ∷ (codes "regular-output-channel", Named.RegularOutputChannel)
-    ∷ (codes "diagnostic-output-channel", Named.DiagnosticOutputChannel) ∷ (codes "verbosity", Named.Verbosity)
-    ∷ (codes "reproducible-resource-limit", Named.ReproducibleResourceLimit) ∷ (codes "random-seed", Named.RandomSeed)
-    ∷ (codes "produce-models", Named.ProduceModels) ∷ (codes "produce-assertions", Named.ProduceAssertions)
-    ∷ (codes "interactive-mode", Named.InteractiveMode) ∷ []
+    map with_word (Named.PrintSuccess ∷ Named.RegularOutputChannel ∷ Named.DiagnosticOutputChannel ∷ Named.Verbosity
+    ∷ Named.ReproducibleResourceLimit ∷ Named.RandomSeed ∷ Named.ProduceModels ∷ Named.ProduceAssertions ∷ Named.InteractiveMode ∷ [])
 
 -- the symbol true or false
 abbrev pub truth_setting : (Bool → OptionSetting) → Sexp → Result Command Refusal

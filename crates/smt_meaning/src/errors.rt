@@ -1,3 +1,4 @@
+use crate::options::OptionName;
 use crate::refusals::Refusal;
 use crate::seq::Bytes;
 use crate::tokens::FaultKind;
@@ -15,12 +16,12 @@ pub enum Error {
     NoUnknownAnswer,
     /// E10: a logic is set already.
     LogicAlreadySet,
-    /// E11: an option of this name, as written, is set at the start alone.
-    OptionTooLate(Bytes),
+    /// E11: this option is set at the start alone.
+    OptionTooLate(OptionName),
     /// E20: no model is kept.
     NoModel,
     /// E21: this option would have to be on.
-    OptionIsOff(Bytes),
+    OptionIsOff(OptionName),
     /// E22: a value past 128 bits.
     ValueTooLarge,
     /// E23: the last answer to a check wasn't `unsat`.
