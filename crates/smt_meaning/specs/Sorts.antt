@@ -8,13 +8,12 @@ use Rattle.smt_meaning.specs.declared.terms.Head.TheVariants.{Numeral as Number,
 use Rattle.smt_meaning.specs.declared.tokens.Token.{Token}
 use Rattle.smt_meaning.specs.declared.tokens.Token.TheVariants.{Numeral, Decimal, Hex, Binary, Text, Symbol, Reserved, Keyword}
 use Rattle.smt_meaning.specs.declared.tokens.Word.TheVariants.{Exclamation, Let}
-use Rattle.smt_meaning.specs.declared.declarations.Declaration.{Declaration}
-use Rattle.smt_meaning.specs.declared.declarations.Body.{Body}
+use Rattle.smt_meaning.specs.Declaration.{Declaration, Body}
 use Rattle.smt_meaning.specs.declared.refusals.Refusal.{Refusal}
 use Rattle.smt_meaning.specs.declared.refusals.Refusal.TheVariants.{NumeralTooLarge, WrongArguments, AlreadyDeclared, UnknownSymbol, ArgumentCount, SortsDiffer, NotLinear, ReservedName, TooManySymbols}
-use Rattle.smt_meaning.specs.Term.{Tree, Trees, node, none, more, tree_at}
+use Rattle.smt_meaning.specs.Term.{Tree, Trees, node, none, more}
 use Rattle.smt_meaning.specs.Sexp.{Sexp, Sexps, word, group, end, ◌▸◌}
-use Rattle.smt_meaning.specs.TreeShape.{is_linear, is_linear_at, put, place_of, with_parts}
+use Rattle.smt_meaning.specs.TreeShape.{is_linear, is_linear_at, put, with_parts}
 use Rattle.smt_meaning.specs.Signature.{look_up, is_one_of, is_some, find_function, operators, reserved_functions, takes, operator_sort, sorts_eq}
 
 -- ---- judging: what it starts from, what it goes through and how it ends
@@ -95,8 +94,6 @@ pub record Variable : Type 0 where
 pub record Rules : Type 0 where
   -- `:named` is allowed: in `assert` alone
   pub naming : Bool
-  -- the level of the names that it gives
-  pub level : ℕ
   -- it has no parameters, so products are judged
   pub closed : Bool
 
@@ -130,12 +127,9 @@ known vs n s = known_name (find_variable n vs) (known_symbol (look_up n operator
 
 -- ---- the body of a definition
 
-abbrev pub body_term : Body → Tree
-body_term b = tree_at b.terms b.root
-
 -- a declared function applied, or the body of a definition with the arguments put in
 abbrev pub applied : Declaration → Trees → Tree
-applied d ts = elim d.body [ None ↦ node (Function d.id) ts | Some b ↦ put ts (body_term b) ]
+applied d ts = elim d.body [ None ↦ node (Function d.id) ts | Some b ↦ put ts b.term ]
 
 -- the trees that an application judges: itself, or each tree of the definition's body with the arguments put in
 abbrev pub applied_trees : Declaration → Trees → List Tree
@@ -290,12 +284,12 @@ abbrev mutual
 
 -- a tree as the body of a definition
 abbrev pub body_of : Tree → Body
-body_of t = record { terms = with_parts [] t; root = place_of t (with_parts [] t) }
+body_of t = record { terms = with_parts [] t; term = t }
 
 -- a definition without parameters
-abbrev pub name_declaration : ℕ → List ℕ → Typed → ℕ → Declaration
-name_declaration id n t level =
-    record { id = id; name = n; rank = record { arguments = []; result = t.sort }; level = level; body = Some (body_of t.tree); is_sort = false }
+abbrev pub name_declaration : ℕ → List ℕ → Typed → Declaration
+name_declaration id n t =
+    record { id = id; name = n; rank = record { arguments = []; result = t.sort }; body = Some (body_of t.tree); is_sort = false }
 
 -- how many ids there are
 abbrev pub most_symbols : ℕ
@@ -315,7 +309,7 @@ name_term r open_term t n = do
   require (r.naming && not open_term) WrongArguments
   require (not (is_one_of n reserved_functions)) (ReservedName n)
   require (not (is_some (find_function n s.signature))) (AlreadyDeclared n)
-  declare (λ id. name_declaration id n t r.level)
+  declare (λ id. name_declaration id n t)
 
 abbrev pub name_by : Rules → Bool → Typed → Sexps → Judging (Unit {0})
 name_by r open_term t (word (Symbol n) ▸ rest) = name_term r open_term t n

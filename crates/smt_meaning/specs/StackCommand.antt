@@ -4,12 +4,10 @@ use Rattle.smt_meaning.specs.declared.values.Sort.{Sort}
 use Rattle.smt_meaning.specs.declared.values.Sort.TheVariants.{Bool as Truths, Int as Ints, Free}
 use Rattle.smt_meaning.specs.declared.terms.Head.TheVariants.{Place}
 use Rattle.smt_meaning.specs.declared.tokens.Token.TheVariants.{Numeral, Symbol}
-use Rattle.smt_meaning.specs.declared.declarations.Declaration.{Declaration}
-use Rattle.smt_meaning.specs.declared.declarations.Body.{Body}
+use Rattle.smt_meaning.specs.Declaration.{Declaration, Body}
 use Rattle.smt_meaning.specs.declared.refusals.Refusal.TheVariants.{NumeralTooLarge, WrongArguments, AlreadyDeclared, UnknownSymbol, SortsDiffer, NotBool, PopPastLevelZero, TooManyLevels, ReservedName, TooManyTerms}
 use Rattle.smt_meaning.specs.Term.{Tree, node, none}
 use Rattle.smt_meaning.specs.Sexp.{Sexp, Sexps, word, group, end, ◌▸◌}
-use Rattle.smt_meaning.specs.TreeShape.{place_of}
 use Rattle.smt_meaning.specs.Signature.{look_up, is_one_of, is_some, find_function, find_sort, reserved_functions, reserved_sorts, sort_eq}
 use Rattle.smt_meaning.specs.Sorts.{Scope, Outcome, done, refused, Judging, ◌>>=◌, ◌>>◌, return, refuse, require, required, the_scope, declare, Typed, Variable, Rules, not_before, judge, judge_all, is_small, decimal}
 use Rattle.smt_meaning.specs.Stack.{Assertion, Frame, signature_of, start_frames, depth, on_top, pushed, popped}
@@ -92,25 +90,25 @@ new_function_name n = do
   s ← the_scope
   require (not (is_some (find_function n s.signature))) (AlreadyDeclared n)
 
-abbrev pub sort_declaration : ℕ → List ℕ → Sort → ℕ → Declaration
-sort_declaration id n s level =
-    record { id = id; name = n; rank = record { arguments = []; result = s }; level = level; body = None; is_sort = true }
+abbrev pub sort_declaration : ℕ → List ℕ → Sort → Declaration
+sort_declaration id n s =
+    record { id = id; name = n; rank = record { arguments = []; result = s }; body = None; is_sort = true }
 
-abbrev pub function_declaration : ℕ → List ℕ → List Sort → Sort → Option Body → ℕ → Declaration
-function_declaration id n ss s body level =
-    record { id = id; name = n; rank = record { arguments = ss; result = s }; level = level; body = body; is_sort = false }
+abbrev pub function_declaration : ℕ → List ℕ → List Sort → Sort → Option Body → Declaration
+function_declaration id n ss s body =
+    record { id = id; name = n; rank = record { arguments = ss; result = s }; body = body; is_sort = false }
 
-abbrev pub declare_new_sort : ℕ → List ℕ → Judging Change
-declare_new_sort level n = do
+abbrev pub declare_new_sort : List ℕ → Judging Change
+declare_new_sort n = do
   new_sort_name n
-  declare (λ id. sort_declaration id n (Free id) level)
+  declare (λ id. sort_declaration id n (Free id))
   return declares
 
 -- (declare-sort symbol numeral)
 abbrev pub declare_sort : Command
 declare_sort level (word (Symbol n) ▸ word (Numeral cs) ▸ end) = do
   require (is_small (decimal cs)) NumeralTooLarge
-  if nat_eq (decimal cs) 0 then declare_new_sort level n else return is_unsupported
+  if nat_eq (decimal cs) 0 then declare_new_sort n else return is_unsupported
 declare_sort level _ = refuse WrongArguments
 
 abbrev pub are_symbols : Sexps → Bool
@@ -118,40 +116,40 @@ are_symbols end = true
 are_symbols (word (Symbol n) ▸ ss) = are_symbols ss
 are_symbols _ = false
 
-abbrev pub define_new_sort : ℕ → List ℕ → Sexp → Judging Change
-define_new_sort level n s = do
+abbrev pub define_new_sort : List ℕ → Sexp → Judging Change
+define_new_sort n s = do
   new_sort_name n
   r ← judge_sort s
-  declare (λ id. sort_declaration id n r level)
+  declare (λ id. sort_declaration id n r)
   return declares
 
 -- (define-sort symbol (symbol ..) sort)
 abbrev pub define_sort : Command
 define_sort level (word (Symbol n) ▸ group end ▸ s ▸ end) = do
   require (has_sort_form s) WrongArguments
-  define_new_sort level n s
+  define_new_sort n s
 define_sort level (word (Symbol n) ▸ group ss ▸ s ▸ end) = do
   require (are_symbols ss && has_sort_form s) WrongArguments
   return is_unsupported
 define_sort level _ = refuse WrongArguments
 
-abbrev pub declare_function : ℕ → List ℕ → Sexps → Sexp → Judging Change
-declare_function level n ss s = do
+abbrev pub declare_function : List ℕ → Sexps → Sexp → Judging Change
+declare_function n ss s = do
   require (have_sort_form ss && has_sort_form s) WrongArguments
   new_function_name n
   rs ← judge_sorts ss
   r ← judge_sort s
-  declare (λ id. function_declaration id n rs r None level)
+  declare (λ id. function_declaration id n rs r None)
   return declares
 
 -- (declare-const symbol sort)
 abbrev pub declare_const : Command
-declare_const level (word (Symbol n) ▸ s ▸ end) = declare_function level n end s
+declare_const level (word (Symbol n) ▸ s ▸ end) = declare_function n end s
 declare_const level _ = refuse WrongArguments
 
 -- (declare-fun symbol (sort ..) sort)
 abbrev pub declare_fun : Command
-declare_fun level (word (Symbol n) ▸ group ss ▸ s ▸ end) = declare_function level n ss s
+declare_fun level (word (Symbol n) ▸ group ss ▸ s ▸ end) = declare_function n ss s
 declare_fun level _ = refuse WrongArguments
 
 -- ---- definitions
@@ -185,7 +183,7 @@ pub record Bodied : Type 0 where
   pub sort : Sort
 
 abbrev pub bodied : Typed → List Tree → Bodied
-bodied t ts = record { body = record { terms = ts; root = place_of t.tree ts }; sort = t.sort }
+bodied t ts = record { body = record { terms = ts; term = t.tree }; sort = t.sort }
 
 -- what was judged apart leaves the scope as it was
 abbrev pub apart : Scope → Outcome Typed → Outcome Bodied
@@ -193,7 +191,7 @@ apart s (done t c) = done (bodied t c.trees) s
 apart s (refused r) = refused r
 
 abbrev pub in_body : Rules
-in_body = record { naming = false; level = 0; closed = false }
+in_body = record { naming = false; closed = false }
 
 -- a body is judged apart, its parameters first
 unfoldable pub judge_body : List Variable → Sexp → Judging Bodied
@@ -202,24 +200,24 @@ judge_body vs t = λ s. apart s (judge in_body vs t (record s { trees = map (λ 
 abbrev pub sorts_of_variables : List Variable → List Sort
 sorts_of_variables vs = map (λ (v : Variable). v.term.sort) vs
 
-abbrev pub define_function : ℕ → List ℕ → List Parameter → Sexp → Sexp → Judging Change
-define_function level n ps s t = do
+abbrev pub define_function : List ℕ → List Parameter → Sexp → Sexp → Judging Change
+define_function n ps s t = do
   require (has_sort_form s) WrongArguments
   new_function_name n
   vs ← judge_parameters 0 [] ps
   r ← judge_sort s
   b ← judge_body vs t
   require (sort_eq b.sort r) (SortsDiffer n)
-  declare (λ id. function_declaration id n (sorts_of_variables vs) r (Some b.body) level)
+  declare (λ id. function_declaration id n (sorts_of_variables vs) r (Some b.body))
   return declares
 
-abbrev pub define_with : ℕ → List ℕ → Option (List Parameter) → Sexp → Sexp → Judging Change
-define_with level n None s t = refuse WrongArguments
-define_with level n (Some ps) s t = define_function level n ps s t
+abbrev pub define_with : List ℕ → Option (List Parameter) → Sexp → Sexp → Judging Change
+define_with n None s t = refuse WrongArguments
+define_with n (Some ps) s t = define_function n ps s t
 
 -- (define-fun symbol ((symbol sort) ..) sort term)
 abbrev pub define_fun : Command
-define_fun level (word (Symbol n) ▸ group ps ▸ s ▸ t ▸ end) = define_with level n (parameters ps) s t
+define_fun level (word (Symbol n) ▸ group ps ▸ s ▸ t ▸ end) = define_with n (parameters ps) s t
 define_fun level _ = refuse WrongArguments
 
 -- ---- assertions
@@ -228,13 +226,13 @@ define_fun level _ = refuse WrongArguments
 abbrev pub most_terms : ℕ
 most_terms = 4294967295
 
-abbrev pub in_assert : ℕ → Rules
-in_assert level = record { naming = true; level = level; closed = true }
+abbrev pub in_assert : Rules
+in_assert = record { naming = true; closed = true }
 
 -- (assert term)
 abbrev pub assert_term : Command
 assert_term level (t ▸ end) = do
-  a ← judge (in_assert level) [] t
+  a ← judge in_assert [] t
   require (sort_eq a.sort Truths) NotBool
   s ← the_scope
   require (nat_le (length s.trees) most_terms) TooManyTerms
@@ -242,7 +240,7 @@ assert_term level (t ▸ end) = do
 assert_term level _ = refuse WrongArguments
 
 abbrev pub in_question : Rules
-in_question = record { naming = false; level = 0; closed = true }
+in_question = record { naming = false; closed = true }
 
 -- the terms of a command that asks for values: their trees join the list too
 abbrev pub judge_questions : Sexps → Judging (List Typed)

@@ -6,13 +6,12 @@ use Rattle.smt_meaning.specs.declared.values.Sort.{Sort}
 use Rattle.smt_meaning.specs.declared.values.Sort.TheVariants.{Bool as Truths, Free}
 use Rattle.smt_meaning.specs.declared.terms.Head.TheVariants.{Place}
 use Rattle.smt_meaning.specs.declared.tokens.Token.TheVariants.{Numeral, Symbol}
-use Rattle.smt_meaning.specs.declared.declarations.Declaration.{Declaration}
+use Rattle.smt_meaning.specs.Declaration.{Declaration}
 use Rattle.smt_meaning.specs.Term.{Tree, node, none}
 use Rattle.smt_meaning.specs.Sexp.{Sexp, Sexps, word, group, end, ◌▸◌}
 use Rattle.smt_meaning.specs.Signature.{look_up}
-use Rattle.smt_meaning.specs.Sorts.{Scope, Outcome, done, refused, Judging, ◌>>◌, return, declare, Typed, Variable, judge, body_term}
-use Rattle.smt_meaning.specs.StackCommand.{Change, declares, asserts, pushes, pops, clears, begins_again, is_unsupported, Command, judge_sort, judge_sorts, new_sort_name, new_function_name, sort_declaration, declare_new_sort, declare_sort, define_new_sort, define_sort, declare_function, declare_const, declare_fun, Parameter, parameters, judge_parameters, Bodied, bodied, apart, in_body, judge_body, sorts_of_variables, define_function, define_with, define_fun, assert_term, in_assert, judge_levels, push_levels, pop_levels, without_arguments, stack_commands}
-use Rattle.term_laws.proofs.SameTree.{found_again}
+use Rattle.smt_meaning.specs.Sorts.{Scope, Outcome, done, refused, Judging, ◌>>◌, return, declare, Typed, Variable, judge}
+use Rattle.smt_meaning.specs.StackCommand.{Change, declares, asserts, pushes, pops, clears, begins_again, is_unsupported, Command, judge_sort, judge_sorts, new_sort_name, new_function_name, sort_declaration, declare_new_sort, declare_sort, define_new_sort, define_sort, declare_function, declare_const, declare_fun, Parameter, parameters, judge_parameters, Bodied, apart, in_body, judge_body, sorts_of_variables, define_function, define_with, define_fun, assert_term, in_assert, judge_levels, push_levels, pop_levels, without_arguments, stack_commands}
 use Rattle.sort_laws.proofs.Among.{Among, among_first, among_rest}
 use Rattle.sort_laws.proofs.PlacesLaw.{place_sort, HasSort, sort_later}
 use Rattle.sort_laws.proofs.Signatures.{sort_eq-sound, Usable, Good, symbol_usable, defined_usable}
@@ -52,8 +51,8 @@ declares_gives : (s : Scope) (d : ℕ → Declaration) → ((n : ℕ) → (d n).
     → ((n : ℕ) → All (λ (e : Declaration). e.id < n) s.signature → (d n).is_sort ≡ false → Usable (s.signature ++ d n ∷ []) (d n)) → Gives true s (declare d >> return declares) Does
 declares_gives s d own u = next_gives true s _ _ _ Does (declare_gives true s d refl own u) (λ a t f e k. return_gives true t declares Does tt)
 
-sort_declared : (s : Scope) (n : List ℕ) (x : ℕ → Sort) (level : ℕ) → Gives true s (declare (λ id. sort_declaration id n (x id) level) >> return declares) Does
-sort_declared s n x level = declares_gives s _ (λ id. refl) (λ id b e. absurd (no e))
+sort_declared : (s : Scope) (n : List ℕ) (x : ℕ → Sort) → Gives true s (declare (λ id. sort_declaration id n (x id)) >> return declares) Does
+sort_declared s n x = declares_gives s _ (λ id. refl) (λ id b e. absurd (no e))
   where
     no : true ≡ false → ⊥
     no e = cc
@@ -62,38 +61,38 @@ if_gives : {A : Type 0} (s : Scope) (c : Bool) (m n : Judging A) (P : A → Scop
 if_gives s true m n P h g = h
 if_gives s false m n P h g = g
 
-new_sort_gives : (level : ℕ) (n : List ℕ) (s : Scope) → Gives true s (declare_new_sort level n) Does
-new_sort_gives level n s = next_gives true s _ _ Nothing Does (sort_name_gives n s) (λ a t f e k. sort_declared t n (λ id. Free id) level)
+new_sort_gives : (n : List ℕ) (s : Scope) → Gives true s (declare_new_sort n) Does
+new_sort_gives n s = next_gives true s _ _ Nothing Does (sort_name_gives n s) (λ a t f e k. sort_declared t n (λ id. Free id))
 
 declare_sort_gives : (level : ℕ) (ss : Sexps) (s : Scope) → Gives true s (declare_sort level ss) Does
 declare_sort_gives level (word (Symbol n) ▸ word (Numeral cs) ▸ end) s =
-    next_gives true s _ _ _ Does (require_gives true s _ _) (λ a t f e k. if_gives t _ _ _ Does (new_sort_gives level n t) (return_gives true t is_unsupported Does tt))
+    next_gives true s _ _ _ Does (require_gives true s _ _) (λ a t f e k. if_gives t _ _ _ Does (new_sort_gives n t) (return_gives true t is_unsupported Does tt))
 declare_sort_gives level _ s = refuse_gives true s _ _
 
-defined_sort_gives : (level : ℕ) (n : List ℕ) (x : Sexp) (s : Scope) → Gives true s (define_new_sort level n x) Does
-defined_sort_gives level n x s =
-    next_gives true s _ _ Nothing Does (sort_name_gives n s) (λ a t f e k. bind_gives true t _ _ Nothing Does (sort_gives x t) (λ r u d m l. sort_declared u n (λ id. r) level))
+defined_sort_gives : (n : List ℕ) (x : Sexp) (s : Scope) → Gives true s (define_new_sort n x) Does
+defined_sort_gives n x s =
+    next_gives true s _ _ Nothing Does (sort_name_gives n s) (λ a t f e k. bind_gives true t _ _ Nothing Does (sort_gives x t) (λ r u d m l. sort_declared u n (λ id. r)))
 
 define_sort_gives : (level : ℕ) (ss : Sexps) (s : Scope) → Gives true s (define_sort level ss) Does
-define_sort_gives level (word (Symbol n) ▸ group end ▸ x ▸ end) s = next_gives true s _ _ _ Does (require_gives true s _ _) (λ a t f e k. defined_sort_gives level n x t)
+define_sort_gives level (word (Symbol n) ▸ group end ▸ x ▸ end) s = next_gives true s _ _ _ Does (require_gives true s _ _) (λ a t f e k. defined_sort_gives n x t)
 define_sort_gives level (word (Symbol n) ▸ group ss ▸ x ▸ end) s =
     next_gives true s _ _ _ Does (require_gives true s _ _) (λ a t f e k. return_gives true t is_unsupported Does tt)
 define_sort_gives level _ s = refuse_gives true s _ _
 
-declared_function_gives : (level : ℕ) (n : List ℕ) (ss : Sexps) (x : Sexp) (s : Scope) → Gives true s (declare_function level n ss x) Does
-declared_function_gives level n ss x s =
+declared_function_gives : (n : List ℕ) (ss : Sexps) (x : Sexp) (s : Scope) → Gives true s (declare_function n ss x) Does
+declared_function_gives n ss x s =
     next_gives true s _ _ _ Does (require_gives true s _ _)
     (λ a t f e k. next_gives true t _ _ Nothing Does (function_name_gives n t)
     (λ b u d m l. bind_gives true u _ _ Nothing Does (sorts_give ss u)
     (λ rs v g i p. bind_gives true v _ _ Nothing Does (sort_gives x v)
-    (λ r w h j q. declares_gives w _ (λ id. refl) (λ id below o. symbol_usable id n rs r level w.signature below)))))
+    (λ r w h j q. declares_gives w _ (λ id. refl) (λ id below o. symbol_usable id n rs r w.signature below)))))
 
 declare_const_gives : (level : ℕ) (ss : Sexps) (s : Scope) → Gives true s (declare_const level ss) Does
-declare_const_gives level (word (Symbol n) ▸ x ▸ end) s = declared_function_gives level n end x s
+declare_const_gives level (word (Symbol n) ▸ x ▸ end) s = declared_function_gives n end x s
 declare_const_gives level _ s = refuse_gives true s _ _
 
 declare_fun_gives : (level : ℕ) (ss : Sexps) (s : Scope) → Gives true s (declare_fun level ss) Does
-declare_fun_gives level (word (Symbol n) ▸ group ss ▸ x ▸ end) s = declared_function_gives level n ss x s
+declare_fun_gives level (word (Symbol n) ▸ group ss ▸ x ▸ end) s = declared_function_gives n ss x s
 declare_fun_gives level _ s = refuse_gives true s _ _
 
 -- ---- definitions
@@ -133,7 +132,7 @@ places_fine s us (v ∷ vs) h = (
 )
 
 abbrev BodyFine : List Sort → Bodied → Scope → Type 0
-BodyFine ps b t = HasSort t.signature ps (body_term b.body) b.sort × Among (body_term b.body) b.body.terms
+BodyFine ps b t = HasSort t.signature ps b.body.term b.sort × Among b.body.term b.body.terms
 
 body_gives : (s : Scope) (vs : List Variable) (x : Sexp) → ArePlaces 0 vs → Gives true s (judge_body vs x) (BodyFine (sorts_of_variables vs))
 unfolding judge_body
@@ -145,18 +144,11 @@ body_gives s vs x h = record {
     no e = absurd (cc)
 
     go : Good s.given s.signature → (o : Outcome Typed) → Ends false (with_trees s vs) (Fine (sorts_of_variables vs)) o → Ends true s (BodyFine (sorts_of_variables vs)) (apart s o)
-    go f (done a c) k =
-        let root : body_term (bodied a c.trees).body ≡ a.tree = found_again a.tree c.trees k.1.1 in (
-          (f, after_self true s),
-          (
-            subst (λ u. HasSort s.signature (sorts_of_variables vs) u a.sort) (sym root) (subst (λ ds. HasSort ds (sorts_of_variables vs) a.tree a.sort) (k.0.1.same refl) k.1.0),
-            subst (λ u. Among u c.trees) (sym root) k.1.1,
-          ),
-        )
+    go f (done a c) k = ((f, after_self true s), (subst (λ ds. HasSort ds (sorts_of_variables vs) a.tree a.sort) (k.0.1.same refl) k.1.0, k.1.1))
     go f (refused r) k = tt
 
-defined_gives : (level : ℕ) (n : List ℕ) (ps : List Parameter) (x y : Sexp) (s : Scope) → Gives true s (define_function level n ps x y) Does
-defined_gives level n ps x y s =
+defined_gives : (n : List ℕ) (ps : List Parameter) (x y : Sexp) (s : Scope) → Gives true s (define_function n ps x y) Does
+defined_gives n ps x y s =
     next_gives true s _ _ _ Does (require_gives true s _ _)
     (λ a t f e k. next_gives true t _ _ Nothing Does (function_name_gives n t)
     (λ b u d m l. bind_gives true u _ _ _ Does (parameters_give 0 [] ps u)
@@ -164,23 +156,23 @@ defined_gives level n ps x y s =
     (λ r w h j q. bind_gives true w _ _ _ Does (body_gives w vs y p)
     (λ body z c o fine. next_gives true z _ _ _ Does (require_gives true z _ _)
     (λ unit last good after same. declares_gives last _ (λ id. refl)
-    (λ id below no. defined_usable id n (sorts_of_variables vs) r level body.body last.signature
-    (subst (HasSort last.signature (sorts_of_variables vs) (body_term body.body)) (sort_eq-sound body.sort r same)
-    (sort_later z.signature last.signature (sorts_of_variables vs) (body_term body.body) body.sort after.later fine.0)) fine.1)))))))
+    (λ id below no. defined_usable id n (sorts_of_variables vs) r body.body last.signature
+    (subst (HasSort last.signature (sorts_of_variables vs) body.body.term) (sort_eq-sound body.sort r same)
+    (sort_later z.signature last.signature (sorts_of_variables vs) body.body.term body.sort after.later fine.0)) fine.1)))))))
 
-with_gives : (level : ℕ) (n : List ℕ) (o : Option (List Parameter)) (x y : Sexp) (s : Scope) → Gives true s (define_with level n o x y) Does
-with_gives level n None x y s = refuse_gives true s _ _
-with_gives level n (Some ps) x y s = defined_gives level n ps x y s
+with_gives : (n : List ℕ) (o : Option (List Parameter)) (x y : Sexp) (s : Scope) → Gives true s (define_with n o x y) Does
+with_gives n None x y s = refuse_gives true s _ _
+with_gives n (Some ps) x y s = defined_gives n ps x y s
 
 define_fun_gives : (level : ℕ) (ss : Sexps) (s : Scope) → Gives true s (define_fun level ss) Does
-define_fun_gives level (word (Symbol n) ▸ group ps ▸ x ▸ y ▸ end) s = with_gives level n (parameters ps) x y s
+define_fun_gives level (word (Symbol n) ▸ group ps ▸ x ▸ y ▸ end) s = with_gives n (parameters ps) x y s
 define_fun_gives level _ s = refuse_gives true s _ _
 
 -- ---- assertions and levels
 
 assert_gives : (level : ℕ) (ss : Sexps) (s : Scope) → Good s.given s.signature → Gives true s (assert_term level ss) Does
 assert_gives level (x ▸ end) s g =
-    bind_gives true s _ _ (Fine []) Does (judge_gives (in_assert level) [] (λ e. refl) [] x s g tt)
+    bind_gives true s _ _ (Fine []) Does (judge_gives in_assert [] (λ e. refl) [] x s g tt)
     (λ a t f e k. next_gives true t _ _ _ Does (require_gives true t _ _)
     (λ b u d m l. scope_then true u _ Does (next_gives true u _ _ _ Does (require_gives true u _ _)
     (λ c v h i p. return_gives true v _ Does

@@ -9,7 +9,7 @@ use Rattle.smt_meaning.specs.declared.terms.Operator.TheVariants.{True, Add, Sub
 use Rattle.smt_meaning.specs.declared.terms.Head.TheVariants.{Numeral as Number, Theory, Symbol as Function, Place}
 use Rattle.smt_meaning.specs.declared.tokens.Token.TheVariants.{Decimal, Hex, Binary, Text, Symbol as Name, Reserved}
 use Rattle.smt_meaning.specs.declared.tokens.Word.TheVariants.{Let, Exclamation, Underscore, As, Exists, Forall, Match, Par}
-use Rattle.smt_meaning.specs.declared.declarations.Declaration.{Declaration}
+use Rattle.smt_meaning.specs.Declaration.{Declaration}
 use Rattle.smt_meaning.specs.declared.refusals.Refusal.{Refusal}
 use Rattle.smt_meaning.specs.declared.refusals.Refusal.TheVariants.{NumeralTooLarge, WrongArguments, AlreadyDeclared, UnknownSymbol, ArgumentCount, SortsDiffer, NotLinear, NotBool, PopPastLevelZero, TooManyLevels, ReservedName, TooManySymbols}
 use Rattle.smt_meaning.specs.Term.{Tree, node, none, more, Interpretation, fits, number_of}
@@ -36,7 +36,7 @@ script =
     ∷ []
 
 abbrev declared : List ℕ → ℕ → List Sort → Sort → Declaration
-declared n id ss s = record { id = id; name = n; rank = record { arguments = ss; result = s }; level = 0; body = None; is_sort = false }
+declared n id ss s = record { id = id; name = n; rank = record { arguments = ss; result = s }; body = None; is_sort = false }
 
 abbrev place : Tree
 place = node (Place 0) none
@@ -53,11 +53,11 @@ times t u = node (Theory Multiply) (more t (more u none))
 -- the signature that it leaves
 abbrev signature : List Declaration
 signature =
-    record { id = 0; name = codes "S"; rank = record { arguments = []; result = Free 0 }; level = 0; body = None; is_sort = true }
+    record { id = 0; name = codes "S"; rank = record { arguments = []; result = Free 0 }; body = None; is_sort = true }
     ∷ declared (codes "x") 1 [] Ints ∷ declared (codes "y") 2 [] Ints ∷ declared (codes "p") 3 [] Truths ∷ declared (codes "q") 4 [] Truths
     ∷ declared (codes "a") 5 [] (Free 0) ∷ declared (codes "f") 6 (Ints ∷ []) Ints
-    ∷ record { id = 7; name = codes "d"; rank = record { arguments = Ints ∷ []; result = Ints }; level = 0; body = Some (record { terms = place ∷ number 1 ∷ plus place (number 1) ∷ []; root = 2 }); is_sort = false }
-    ∷ record { id = 8; name = codes "square"; rank = record { arguments = Ints ∷ []; result = Ints }; level = 0; body = Some (record { terms = place ∷ times place place ∷ []; root = 1 }); is_sort = false }
+    ∷ record { id = 7; name = codes "d"; rank = record { arguments = Ints ∷ []; result = Ints }; body = Some (record { terms = place ∷ number 1 ∷ plus place (number 1) ∷ []; term = plus place (number 1) }); is_sort = false }
+    ∷ record { id = 8; name = codes "square"; rank = record { arguments = Ints ∷ []; result = Ints }; body = Some (record { terms = place ∷ times place place ∷ []; term = times place place }); is_sort = false }
     ∷ []
 
 script_declares : signature_of (after_all start script).frames ≡ signature
@@ -78,7 +78,7 @@ verdict (done t s) = sorted t.sort
 verdict (refused r) = denied r
 
 abbrev asserted : List Sexp → List Verdict
-asserted ss = map (λ s. verdict (judge (in_assert 0) [] s scope)) ss
+asserted ss = map (λ s. verdict (judge in_assert [] s scope)) ss
 
 -- 170141183460469231731687303715884105727, and the number after it
 abbrev greatest : Sexp
@@ -182,7 +182,7 @@ unfolding ◌>>=◌ ◌>>◌ return refuse require required the_scope note found
 annotations = refl
 
 -- a name outside `assert`, and a name with no id left
-no_name : map verdict (judge in_question [] (named x n) scope ∷ judge (in_assert 0) [] (named x n) (record scope { given = 4294967295 }) ∷ judge (in_assert 0) [] (named x n) (record scope { given = 4294967294 }) ∷ [])
+no_name : map verdict (judge in_question [] (named x n) scope ∷ judge in_assert [] (named x n) (record scope { given = 4294967295 }) ∷ judge in_assert [] (named x n) (record scope { given = 4294967294 }) ∷ [])
     ≡ denied WrongArguments ∷ denied TooManySymbols ∷ sorted Ints ∷ []
 unfolding ◌>>=◌ ◌>>◌ return refuse require required the_scope note found declare
 no_name = refl
@@ -194,13 +194,13 @@ trees (done t s) = s.trees
 trees (refused r) = []
 
 -- the trees of (let ((x 1) (y x)) (= x y)): each after its parts
-let_trees : trees (judge (in_assert 0) [] (letting (binding (codes "x") one ∷ binding (codes "y") x ∷ []) (call (codes "=") (x ∷ y ∷ []))) scope)
+let_trees : trees (judge in_assert [] (letting (binding (codes "x") one ∷ binding (codes "y") x ∷ []) (call (codes "=") (x ∷ y ∷ []))) scope)
     ≡ number 1 ∷ node (Function 1) none ∷ node (Theory Equal) (more (number 1) (more (node (Function 1) none) none)) ∷ []
 unfolding ◌>>=◌ ◌>>◌ return refuse require required the_scope note found declare
 let_trees = refl
 
 -- the trees of (+ (d 2) (d 2)): the definition's body with 2 put in, once
-definition_trees : trees (judge (in_assert 0) [] (call (codes "+") (call (codes "d") (two ∷ []) ∷ call (codes "d") (two ∷ []) ∷ [])) scope)
+definition_trees : trees (judge in_assert [] (call (codes "+") (call (codes "d") (two ∷ []) ∷ call (codes "d") (two ∷ []) ∷ [])) scope)
     ≡ number 2 ∷ number 1 ∷ plus (number 2) (number 1) ∷ plus (plus (number 2) (number 1)) (plus (number 2) (number 1)) ∷ []
 unfolding ◌>>=◌ ◌>>◌ return refuse require required the_scope note found declare
 definition_trees = refl

@@ -11,7 +11,7 @@ use Rattle.smt_meaning.specs.declared.terms.Operator.TheVariants.{True, False}
 use Rattle.smt_meaning.specs.declared.tokens.Token.{Token}
 use Rattle.smt_meaning.specs.declared.tokens.Token.TheVariants.{Numeral, Symbol, Reserved, Keyword}
 use Rattle.smt_meaning.specs.declared.tokens.Word.TheVariants.{Exclamation, Let}
-use Rattle.smt_meaning.specs.declared.declarations.Declaration.{Declaration}
+use Rattle.smt_meaning.specs.Declaration.{Declaration}
 use Rattle.smt_meaning.specs.declared.refusals.Refusal.{Refusal}
 use Rattle.smt_meaning.specs.Term.{Tree, Trees}
 use Rattle.smt_meaning.specs.Sexp.{Sexp, Sexps, word, group, end, ◌▸◌}
@@ -227,35 +227,35 @@ if_keeping : {A : Type 0} (b : Bool) (m n : Judging A) → Keeping m → Keeping
 if_keeping true m n h g = h
 if_keeping false m n h g = g
 
-new_sort_keeping : (level : ℕ) (n : List ℕ) → Keeping (declare_new_sort level n)
-new_sort_keeping level n = next_keeping (sort_name_keeping n) (next_keeping (declare_keeping _ (λ k. refl)) (return_keeping declares))
+new_sort_keeping : (n : List ℕ) → Keeping (declare_new_sort n)
+new_sort_keeping n = next_keeping (sort_name_keeping n) (next_keeping (declare_keeping _ (λ k. refl)) (return_keeping declares))
 
 declare_sort_keeping : (level : ℕ) (ss : Sexps) → Keeping (declare_sort level ss)
 declare_sort_keeping level (word (Symbol n) ▸ word (Numeral cs) ▸ end) =
-    next_keeping (require_keeping _ _) (if_keeping _ _ _ (new_sort_keeping level n) (return_keeping is_unsupported))
+    next_keeping (require_keeping _ _) (if_keeping _ _ _ (new_sort_keeping n) (return_keeping is_unsupported))
 declare_sort_keeping level _ = refuse_keeping _ _
 
-defined_sort_keeping : (level : ℕ) (n : List ℕ) (s : Sexp) → Keeping (define_new_sort level n s)
-defined_sort_keeping level n s =
+defined_sort_keeping : (n : List ℕ) (s : Sexp) → Keeping (define_new_sort n s)
+defined_sort_keeping n s =
     next_keeping (sort_name_keeping n) (bind_keeping (sort_keeping s) (λ r. next_keeping (declare_keeping _ (λ k. refl)) (return_keeping declares)))
 
 define_sort_keeping : (level : ℕ) (ss : Sexps) → Keeping (define_sort level ss)
-define_sort_keeping level (word (Symbol n) ▸ group end ▸ s ▸ end) = next_keeping (require_keeping _ _) (defined_sort_keeping level n s)
+define_sort_keeping level (word (Symbol n) ▸ group end ▸ s ▸ end) = next_keeping (require_keeping _ _) (defined_sort_keeping n s)
 define_sort_keeping level (word (Symbol n) ▸ group ss ▸ s ▸ end) = next_keeping (require_keeping _ _) (return_keeping is_unsupported)
 define_sort_keeping level _ = refuse_keeping _ _
 
-declared_function_keeping : (level : ℕ) (n : List ℕ) (ss : Sexps) (s : Sexp) → Keeping (declare_function level n ss s)
-declared_function_keeping level n ss s =
+declared_function_keeping : (n : List ℕ) (ss : Sexps) (s : Sexp) → Keeping (declare_function n ss s)
+declared_function_keeping n ss s =
     next_keeping (require_keeping _ _)
     (next_keeping (function_name_keeping n)
     (bind_keeping (sorts_keeping ss) (λ rs. bind_keeping (sort_keeping s) (λ r. next_keeping (declare_keeping _ (λ k. refl)) (return_keeping declares)))))
 
 declare_const_keeping : (level : ℕ) (ss : Sexps) → Keeping (declare_const level ss)
-declare_const_keeping level (word (Symbol n) ▸ s ▸ end) = declared_function_keeping level n end s
+declare_const_keeping level (word (Symbol n) ▸ s ▸ end) = declared_function_keeping n end s
 declare_const_keeping level _ = refuse_keeping _ _
 
 declare_fun_keeping : (level : ℕ) (ss : Sexps) → Keeping (declare_fun level ss)
-declare_fun_keeping level (word (Symbol n) ▸ group ss ▸ s ▸ end) = declared_function_keeping level n ss s
+declare_fun_keeping level (word (Symbol n) ▸ group ss ▸ s ▸ end) = declared_function_keeping n ss s
 declare_fun_keeping level _ = refuse_keeping _ _
 
 parameters_keeping : (k : ℕ) (before : List (List ℕ)) (ps : List Parameter) → Keeping (judge_parameters k before ps)
@@ -271,24 +271,24 @@ body_keeping vs t = record { keeps = λ s f. go s f (judge in_body vs t (record 
     go s f (done a c) = (f, ([], sym (append-nil s.signature)))
     go s f (refused r) = tt
 
-defined_keeping : (level : ℕ) (n : List ℕ) (ps : List Parameter) (s t : Sexp) → Keeping (define_function level n ps s t)
-defined_keeping level n ps s t =
+defined_keeping : (n : List ℕ) (ps : List Parameter) (s t : Sexp) → Keeping (define_function n ps s t)
+defined_keeping n ps s t =
     next_keeping (require_keeping _ _)
     (next_keeping (function_name_keeping n)
     (bind_keeping (parameters_keeping 0 [] ps) (λ vs. bind_keeping (sort_keeping s) (λ r. bind_keeping (body_keeping vs t) (λ b.
     next_keeping (require_keeping _ _) (next_keeping (declare_keeping _ (λ k. refl)) (return_keeping declares)))))))
 
-with_keeping : (level : ℕ) (n : List ℕ) (o : Option (List Parameter)) (s t : Sexp) → Keeping (define_with level n o s t)
-with_keeping level n None s t = refuse_keeping _ _
-with_keeping level n (Some ps) s t = defined_keeping level n ps s t
+with_keeping : (n : List ℕ) (o : Option (List Parameter)) (s t : Sexp) → Keeping (define_with n o s t)
+with_keeping n None s t = refuse_keeping _ _
+with_keeping n (Some ps) s t = defined_keeping n ps s t
 
 define_fun_keeping : (level : ℕ) (ss : Sexps) → Keeping (define_fun level ss)
-define_fun_keeping level (word (Symbol n) ▸ group ps ▸ s ▸ t ▸ end) = with_keeping level n (parameters ps) s t
+define_fun_keeping level (word (Symbol n) ▸ group ps ▸ s ▸ t ▸ end) = with_keeping n (parameters ps) s t
 define_fun_keeping level _ = refuse_keeping _ _
 
 assert_keeping : (level : ℕ) (ss : Sexps) → Keeping (assert_term level ss)
 assert_keeping level (t ▸ end) =
-    bind_keeping (judge_keeping (in_assert level) [] t) (λ a. next_keeping (require_keeping _ _) (bind_keeping scope_keeping (λ s. next_keeping (require_keeping _ _) (return_keeping _))))
+    bind_keeping (judge_keeping in_assert [] t) (λ a. next_keeping (require_keeping _ _) (bind_keeping scope_keeping (λ s. next_keeping (require_keeping _ _) (return_keeping _))))
 assert_keeping level _ = refuse_keeping _ _
 
 levels_keeping : (ss : Sexps) → Keeping (judge_levels ss)
