@@ -34,31 +34,31 @@ judge_sorts (w ∷ ws) = do
 
 -- ---- declarations and definitions
 
-abbrev pub declare_new_sort : ℕ → List ℕ → Judging Change
-declare_new_sort level n = do
+abbrev pub declare_new_sort : List ℕ → Judging Change
+declare_new_sort n = do
   new_sort_name n
-  declare (λ id. sort_declaration id n (Free id) level)
+  declare (λ id. sort_declaration id n (Free id))
   return declares
 
 -- the arity is 0, or it is answered unsupported
-abbrev pub declare_sort : ℕ → List ℕ → ℤ → Judging Change
-declare_sort level n arity = if int_eq arity (pos 0) then declare_new_sort level n else return is_unsupported
+abbrev pub declare_sort : List ℕ → ℤ → Judging Change
+declare_sort n arity = if int_eq arity (pos 0) then declare_new_sort n else return is_unsupported
 
 -- without parameters, or it is answered unsupported
-abbrev pub define_sort : ℕ → List ℕ → List (List ℕ) → WrittenSort → Judging Change
-define_sort level n [] w = do
+abbrev pub define_sort : List ℕ → List (List ℕ) → WrittenSort → Judging Change
+define_sort n [] w = do
   new_sort_name n
   r ← judge_sort w
-  declare (λ id. sort_declaration id n r level)
+  declare (λ id. sort_declaration id n r)
   return declares
-define_sort level n (p ∷ ps) w = return is_unsupported
+define_sort n (p ∷ ps) w = return is_unsupported
 
-abbrev pub declare_function : ℕ → List ℕ → List WrittenSort → WrittenSort → Judging Change
-declare_function level n ws w = do
+abbrev pub declare_function : List ℕ → List WrittenSort → WrittenSort → Judging Change
+declare_function n ws w = do
   new_function_name n
   rs ← judge_sorts ws
   r ← judge_sort w
-  declare (λ id. function_declaration id n rs r None level)
+  declare (λ id. function_declaration id n rs r None)
   return declares
 
 -- the k-th parameter and those after it, where these names stood before
@@ -70,14 +70,14 @@ judge_parameters k before (p ∷ ps) = do
   vs ← judge_parameters (k + 1) (p.name ∷ before) ps
   return (record { name = p.name; term = record { tree = node (Place k) none; sort = s } } ∷ vs)
 
-abbrev pub define_function : ℕ → List ℕ → List Parameter → WrittenSort → List Token → Judging Change
-define_function level n ps w t = do
+abbrev pub define_function : List ℕ → List Parameter → WrittenSort → List Token → Judging Change
+define_function n ps w t = do
   new_function_name n
   vs ← judge_parameters 0 [] ps
   r ← judge_sort w
   b ← judge_body vs (sexp t)
   require (sort_eq b.sort r) (SortsDiffer n)
-  declare (λ id. function_declaration id n (sorts_of_variables vs) r (Some b.body) level)
+  declare (λ id. function_declaration id n (sorts_of_variables vs) r (Some b.body))
   return declares
 
 -- ---- terms
@@ -88,9 +88,9 @@ leave_room = do
   s ← the_scope
   require (nat_le (length s.trees) most_terms) TooManyTerms
 
-abbrev pub assert_term : ℕ → List Token → Judging Change
-assert_term level t = do
-  a ← judge (in_assert level) [] (sexp t)
+abbrev pub assert_term : List Token → Judging Change
+assert_term t = do
+  a ← judge in_assert [] (sexp t)
   require (sort_eq a.sort Truths) NotBool
   leave_room
   return (asserts (record { text = sexp t; term = a.tree }))
@@ -125,12 +125,12 @@ pop_levels level n = do
 
 -- what a command does to a stack of so many levels above 0; none where it is no command of the stack
 abbrev pub change : Command → Option (ℕ → Judging Change)
-change (DeclareSort n arity) = Some (λ level. declare_sort level n arity)
-change (DefineSort n ps w) = Some (λ level. define_sort level n ps w)
-change (DeclareConst n w) = Some (λ level. declare_function level n [] w)
-change (DeclareFun n ws w) = Some (λ level. declare_function level n ws w)
-change (DefineFun n ps w t) = Some (λ level. define_function level n ps w t)
-change (Assert t) = Some (λ level. assert_term level t)
+change (DeclareSort n arity) = Some (λ level. declare_sort n arity)
+change (DefineSort n ps w) = Some (λ level. define_sort n ps w)
+change (DeclareConst n w) = Some (λ level. declare_function n [] w)
+change (DeclareFun n ws w) = Some (λ level. declare_function n ws w)
+change (DefineFun n ps w t) = Some (λ level. define_function n ps w t)
+change (Assert t) = Some (λ level. assert_term t)
 change (Push n) = Some (λ level. push_levels level n)
 change (Pop n) = Some (λ level. pop_levels level n)
 change ResetAssertions = Some (λ level. return clears)

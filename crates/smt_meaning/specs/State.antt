@@ -8,7 +8,7 @@ use Rattle.smt_meaning.specs.declared.values.Row.{Row}
 use Rattle.smt_meaning.specs.declared.values.Table.{Table}
 use Rattle.smt_meaning.specs.declared.settings.Settings.{Settings}
 use Rattle.smt_meaning.specs.declared.tokens.Token.{Token}
-use Rattle.smt_meaning.specs.declared.declarations.Declaration.{Declaration}
+use Rattle.smt_meaning.specs.Declaration.{Declaration}
 use Rattle.smt_meaning.specs.declared.errors.Error.{Error}
 use Rattle.smt_meaning.specs.declared.errors.Error.TheVariants.{NoUnknownAnswer, LogicAlreadySet, OptionTooLate, NoModel, OptionIsOff, ValueTooLarge, Refused}
 use Rattle.smt_meaning.specs.declared.options.Channel.{Channel}
