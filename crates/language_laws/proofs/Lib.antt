@@ -1,0 +1,5 @@
+mod Script
+mod Refusals
+mod Orders
+mod Texts
+mod Modes
