@@ -3,3 +3,4 @@ mod Refusals
 mod Orders
 mod Texts
 mod Modes
+mod Lines
