@@ -1,6 +1,6 @@
 -- Rows of the table of heads, the refusals, and the rules of `let`, `!` and application, on examples whose answers were found by hand and, where it answers, by another solver.
-use Rattle.std.proofs.Common.{◌≡◌, ℕ, Bool, true, false, List, [], ◌∷◌, map, refl, Option, Some, None, length}
-use Rattle.std.specs.Prelude.{pos, negsuc, codes, ◌*ℤ◌, nat_eq, if◌then◌else◌}
+use Rattle.std.proofs.Common.{◌≡◌, ℕ, Bool, true, false, List, [], ◌∷◌, map, refl, Option, Some, None, length, ◌++◌}
+use Rattle.std.specs.Prelude.{Result, Ok, Err, pos, negsuc, codes, ◌*ℤ◌, nat_eq, if◌then◌else◌}
 use Rattle.smt_meaning.specs.declared.values.Value.{Value}
 use Rattle.smt_meaning.specs.declared.values.Value.TheVariants.{Truth, Whole, Element}
 use Rattle.smt_meaning.specs.declared.values.Sort.{Sort}
@@ -17,10 +17,23 @@ use Rattle.smt_meaning.specs.Sexp.{Sexp, word}
 use Rattle.smt_meaning.specs.Sorts.{Scope, Outcome, done, refused, Judging, ◌>>=◌, ◌>>◌, return, refuse, require, required, the_scope, note, found, declare, Typed, judge}
 use Rattle.smt_meaning.specs.Stack.{signature_of, depth, assertions_of}
 use Rattle.smt_meaning.specs.StackCommand.{Stack, Change, start, stack_command, judged, after_all, in_assert, in_question, judge_body}
+use Rattle.smt_meaning.specs.Command.{command}
+use Rattle.smt_meaning.specs.declared.commands.Command.{Command}
+use Rattle.smt_meaning.specs.declared.errors.Error.{Error}
+use Rattle.smt_meaning.specs.declared.errors.Error.TheVariants.{Refused}
 use Rattle.smt_meaning.specs.Environment.{term_value}
 use Rattle.term_laws.proofs.Written.{list, symbol, numeral, keyword, text, call, binding, letting, annotated, zero, one, two, three, x, y, z, p, q, a, int, bool}
 
 -- ---- the script that the examples go on from
+
+abbrev command_or : Result Command Error → List Command
+command_or (Ok c) = c ∷ []
+command_or (Err e) = []
+
+-- the commands that these s-expressions are
+abbrev commands : List Sexp → List Command
+commands [] = []
+commands (x ∷ xs) = command_or (command x) ++ commands xs
 
 -- (declare-sort S 0) (declare-const x Int) (declare-const y Int) (declare-const p Bool) (declare-const q Bool) (declare-const a S) (declare-fun f (Int) Int)
 -- (define-fun d ((x Int)) Int (+ x 1)) (define-fun square ((x Int)) Int (* x x))
@@ -60,7 +73,7 @@ signature =
     ∷ record { id = 8; name = codes "square"; rank = record { arguments = Ints ∷ []; result = Ints }; body = Some (record { terms = place ∷ times place place ∷ []; term = times place place }); is_sort = false }
     ∷ []
 
-script_declares : signature_of (after_all start script).frames ≡ signature
+script_declares : signature_of (after_all start (commands script)).frames ≡ signature
 unfolding ◌>>=◌ ◌>>◌ return refuse require required the_scope note found declare judge_body
 script_declares = refl
 
@@ -271,6 +284,7 @@ data Answer : Type 0 where
   taken : Answer
   denies : Refusal → Answer
   not_of_the_stack : Answer
+  no_command : Answer
 
 abbrev answer_of : Outcome Change → Answer
 answer_of (done c s) = taken
@@ -283,8 +297,13 @@ abbrev answered : Option (ℕ → Judging Change) → Answer
 answered None = not_of_the_stack
 answered (Some c) = answer_of (judged c after_script)
 
+abbrev read_and_answered : Result Command Error → Answer
+read_and_answered (Ok c) = answered (stack_command c)
+read_and_answered (Err (Refused n r)) = denies r
+read_and_answered (Err e) = no_command
+
 abbrev answers : List Sexp → List Answer
-answers ss = map (λ s. answered (stack_command s)) ss
+answers ss = map (λ s. read_and_answered (command s)) ss
 
 abbrev sort_s : Sexp
 sort_s = symbol (codes "S")
@@ -322,7 +341,7 @@ parameters_twice = refl
 stack_moves : answers (call (codes "assert") (p ∷ []) ∷ call (codes "assert") (x ∷ []) ∷ call (codes "assert") [] ∷ call (codes "assert") (p ∷ p ∷ []) ∷ call (codes "push") [] ∷ call (codes "push") (numeral (codes "65535") ∷ []) ∷ call (codes "push") (numeral (codes "65536") ∷ []) ∷ call (codes "push") (past ∷ []) ∷ call (codes "push") (x ∷ [])
     ∷ call (codes "pop") (zero ∷ []) ∷ call (codes "pop") [] ∷ call (codes "pop") (past ∷ []) ∷ call (codes "reset") (one ∷ []) ∷ call (codes "reset-assertions") [] ∷ call (codes "check-sat") [] ∷ x ∷ [])
     ≡ taken ∷ denies NotBool ∷ denies WrongArguments ∷ denies WrongArguments ∷ taken ∷ taken ∷ denies TooManyLevels ∷ denies NumeralTooLarge ∷ denies WrongArguments
-    ∷ taken ∷ denies PopPastLevelZero ∷ denies NumeralTooLarge ∷ denies WrongArguments ∷ taken ∷ not_of_the_stack ∷ not_of_the_stack ∷ []
+    ∷ taken ∷ denies PopPastLevelZero ∷ denies NumeralTooLarge ∷ denies WrongArguments ∷ taken ∷ not_of_the_stack ∷ no_command ∷ []
 unfolding ◌>>=◌ ◌>>◌ return refuse require required the_scope note found declare judge_body
 stack_moves = refl
 
@@ -334,11 +353,11 @@ abbrev assert_named : Sexp
 assert_named = call (codes "assert") (named p n ∷ [])
 
 -- a pop takes names and assertions away, ids are not given again before `reset`, and a refused term leaves no name
-folded : map counted (after_all after_script (call (codes "push") (two ∷ []) ∷ assert_named ∷ [])
-    ∷ after_all after_script (call (codes "push") (two ∷ []) ∷ assert_named ∷ call (codes "pop") [] ∷ assert_named ∷ [])
-    ∷ after_all after_script (call (codes "assert") (call (codes "and") (named p n ∷ symbol (codes "nope") ∷ []) ∷ []) ∷ [])
-    ∷ after_all after_script (call (codes "push") [] ∷ assert_named ∷ call (codes "reset-assertions") [] ∷ [])
-    ∷ after_all after_script (call (codes "push") [] ∷ assert_named ∷ call (codes "reset") [] ∷ []) ∷ [])
+folded : map counted (after_all after_script (commands (call (codes "push") (two ∷ []) ∷ assert_named ∷ []))
+    ∷ after_all after_script (commands (call (codes "push") (two ∷ []) ∷ assert_named ∷ call (codes "pop") [] ∷ assert_named ∷ []))
+    ∷ after_all after_script (commands (call (codes "assert") (call (codes "and") (named p n ∷ symbol (codes "nope") ∷ []) ∷ []) ∷ []))
+    ∷ after_all after_script (commands (call (codes "push") [] ∷ assert_named ∷ call (codes "reset-assertions") [] ∷ []))
+    ∷ after_all after_script (commands (call (codes "push") [] ∷ assert_named ∷ call (codes "reset") [] ∷ [])) ∷ [])
     ≡ (10 ∷ 1 ∷ 2 ∷ 10 ∷ []) ∷ (10 ∷ 1 ∷ 1 ∷ 11 ∷ []) ∷ (9 ∷ 0 ∷ 0 ∷ 9 ∷ []) ∷ (0 ∷ 0 ∷ 0 ∷ 10 ∷ []) ∷ (0 ∷ 0 ∷ 0 ∷ 0 ∷ []) ∷ []
 unfolding ◌>>=◌ ◌>>◌ return refuse require required the_scope note found declare judge_body
 folded = refl

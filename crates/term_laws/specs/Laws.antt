@@ -3,6 +3,7 @@ use Rattle.std.specs.Prelude.{◌≡◌, ℕ, List, [], map, Some, IsTrue, Conta
 use Rattle.smt_meaning.specs.declared.values.Sort.{Sort}
 use Rattle.smt_meaning.specs.declared.values.Value.{Value}
 use Rattle.smt_meaning.specs.declared.values.Table.{Table}
+use Rattle.smt_meaning.specs.declared.commands.Command.{Command}
 use Rattle.smt_meaning.specs.Declaration.{Declaration}
 use Rattle.smt_meaning.specs.Term.{Tree, Interpretation, value, value_with}
 use Rattle.smt_meaning.specs.Sexp.{Sexp, tokens, sexp, IsSexp, is_proper}
@@ -53,7 +54,7 @@ BodyHasTheTermsValue =
 
 -- whatever commands come, no id stands twice in the signature of the stack
 abbrev pub NoIdTwice : Type 0
-NoIdTwice = (xs : List Sexp) → HasNoIdTwice (signature_of (after_all start xs).frames)
+NoIdTwice = (cs : List Command) → HasNoIdTwice (signature_of (after_all start cs).frames)
 
 -- the test for equal trees is true exactly where they are one tree
 abbrev pub TreeEqualityDecides : Type 0
