@@ -35,14 +35,12 @@ use Rattle.smt_meaning.specs.declared.answers.PrintedFunction.{PrintedFunction}
 use Rattle.smt_meaning.specs.declared.answers.Reply.{Reply}
 use Rattle.smt_meaning.specs.declared.answers.Reply.TheVariants as Given
 use Rattle.smt_meaning.specs.Term.{Interpretation, value, fits}
-use Rattle.smt_meaning.specs.Sexp.{tokens}
 use Rattle.smt_meaning.specs.Signature.{is_one_of, is_symbol}
 use Rattle.smt_meaning.specs.Interpretation.{meaning}
-use Rattle.smt_meaning.specs.Sorts.{Scope, Outcome, done, refused, Judging, Typed}
+use Rattle.smt_meaning.specs.Sorts.{Outcome, done, refused, Judging, Typed}
 use Rattle.smt_meaning.specs.Stack.{Assertion, Frame, signature_of, depth}
-use Rattle.smt_meaning.specs.StackCommand.{Stack, Change, declares, asserts, pushes, pops, clears, begins_again, is_unsupported, scope_of, judged, changed}
+use Rattle.smt_meaning.specs.StackCommand.{Stack, Change, declares, asserts, pushes, pops, clears, begins_again, is_unsupported, asks, stack_command, judged, changed}
 use Rattle.smt_meaning.specs.StackCommand as Stacks
-use Rattle.smt_meaning.specs.Change.{change, judge_questions}
 
 -- the settings of the words, the logic once it is set, the mode with the model that is kept, the options and the stack
 pub record State : Type 0 where
@@ -170,7 +168,7 @@ all_fit I [] = true
 all_fit I (a ∷ rest) = fits I a.tree && all_fit I rest
 
 abbrev pub texts_of : Frame → List (List Token)
-texts_of f = map (λ (a : Assertion). tokens a.text) f.asserted
+texts_of f = map (λ (a : Assertion). a.text) f.asserted
 
 -- ---- what a command comes to
 
@@ -242,19 +240,25 @@ abbrev pub kept_model : Mode → Option (List Table)
 kept_model (In.Sat i) = Some i
 kept_model _ = None
 
--- the trees of the terms join the list
-abbrev pub with_trees : State → Scope → State
-with_trees s c = record s { stack = record s.stack { trees = c.trees } }
+abbrev pub terms_asked : Change → List Typed
+terms_asked (asks terms) = terms
+terms_asked _ = []
 
-abbrev pub valued : State → List Table → List (List Token) → Outcome (List Typed) → Effect
+-- the values of these terms under the kept model; their trees join the list
+abbrev pub valued : State → List Table → List (List Token) → Outcome Change → Effect
 valued s i ts (refused r) = denied (Refused (codes "get-value") r)
-valued s i ts (done terms c) =
-    provided (all_fit (meaning i) terms) ValueTooLarge
-    (answered (Given.Values (term_values (signature_of s.stack.frames) (meaning i) ts terms)) (with_trees s c))
+valued s i ts (done x c) =
+    provided (all_fit (meaning i) (terms_asked x)) ValueTooLarge
+    (answered (Given.Values (term_values (signature_of s.stack.frames) (meaning i) ts (terms_asked x))) (record s { stack = changed s.stack x c }))
+
+abbrev pub judged_values : State → List Table → List (List Token) → Option (ℕ → Judging Change) → Effect
+judged_values s i ts None = left_out
+judged_values s i ts (Some c) = valued s i ts (judged c s.stack)
 
 abbrev pub get_value : State → List (List Token) → Option (List Table) → Effect
 get_value s ts None = denied NoModel
-get_value s ts (Some i) = provided s.options.produce_models (OptionIsOff Named.ProduceModels) (valued s i ts (judge_questions ts (scope_of s.stack)))
+get_value s ts (Some i) =
+    provided s.options.produce_models (OptionIsOff Named.ProduceModels) (judged_values s i ts (stack_command (GetValue ts)))
 
 abbrev pub get_model : State → Option (List Table) → Effect
 get_model s None = denied NoModel
@@ -277,17 +281,17 @@ effect s SetInfo = accepted s
 effect s (GetInfo i) = get_info s i
 effect s (Echo t) = answered (Given.Echo t) s
 effect s Exit = accepted s
-effect s Reset = stack_effect s (codes "reset") (change Reset)
-effect s ResetAssertions = stack_effect s (codes "reset-assertions") (change ResetAssertions)
-effect s (DeclareSort n arity) = stack_effect s (codes "declare-sort") (change (DeclareSort n arity))
-effect s (DefineSort n ps w) = stack_effect s (codes "define-sort") (change (DefineSort n ps w))
-effect s (DeclareConst n w) = stack_effect s (codes "declare-const") (change (DeclareConst n w))
-effect s (DeclareFun n ws w) = stack_effect s (codes "declare-fun") (change (DeclareFun n ws w))
-effect s (DefineFun n ps w t) = stack_effect s (codes "define-fun") (change (DefineFun n ps w t))
-effect s (Assert t) = stack_effect s (codes "assert") (change (Assert t))
+effect s Reset = stack_effect s (codes "reset") (stack_command Reset)
+effect s ResetAssertions = stack_effect s (codes "reset-assertions") (stack_command ResetAssertions)
+effect s (DeclareSort n arity) = stack_effect s (codes "declare-sort") (stack_command (DeclareSort n arity))
+effect s (DefineSort n ps w) = stack_effect s (codes "define-sort") (stack_command (DefineSort n ps w))
+effect s (DeclareConst n w) = stack_effect s (codes "declare-const") (stack_command (DeclareConst n w))
+effect s (DeclareFun n ws w) = stack_effect s (codes "declare-fun") (stack_command (DeclareFun n ws w))
+effect s (DefineFun n ps w t) = stack_effect s (codes "define-fun") (stack_command (DefineFun n ps w t))
+effect s (Assert t) = stack_effect s (codes "assert") (stack_command (Assert t))
 effect s CheckSat = checked (with_logic s)
-effect s (Push n) = stack_effect s (codes "push") (change (Push n))
-effect s (Pop n) = stack_effect s (codes "pop") (change (Pop n))
+effect s (Push n) = stack_effect s (codes "push") (stack_command (Push n))
+effect s (Pop n) = stack_effect s (codes "pop") (stack_command (Pop n))
 effect s (GetValue ts) = get_value s ts (kept_model s.mode)
 effect s GetModel = get_model s (kept_model s.mode)
 effect s GetAssertions = get_assertions s
