@@ -4,3 +4,4 @@ mod Orders
 mod Texts
 mod Modes
 mod Lines
+mod Told

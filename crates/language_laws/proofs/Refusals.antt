@@ -4,11 +4,11 @@ use Rattle.smt_meaning.specs.Reading.{text_rest, mark_rest, quoted_rest, lexeme,
 use Rattle.smt_meaning.specs.Sorts.{◌>>=◌, ◌>>◌, return, refuse, require, required, the_scope, note, found, declare}
 use Rattle.smt_meaning.specs.StackCommand.{judge_body}
 use Rattle.std.specs.Fmt.{digits}
-use Rattle.language_laws.proofs.Script.{wrong_replies, Answered, says_so, finds, quiet, Found, a_model, no_model}
+use Rattle.language_laws.proofs.Script.{wrong_replies, says_so, finds, quiet, a_model, no_model}
 
 -- no list that begins with a symbol, and no command of the name
 not_commands : wrong_replies
-    ( says_so "foo" "(error \"E6 not a command\")\n"
+    (says_so "foo" "(error \"E6 not a command\")\n"
     ∷ says_so "()" "(error \"E6 not a command\")\n"
     ∷ says_so "(3)" "(error \"E6 not a command\")\n"
     ∷ says_so "((exit))" "(error \"E6 not a command\")\n"
@@ -24,7 +24,7 @@ not_commands = refl
 
 -- forms that a command has not
 wrong_arguments : wrong_replies
-    ( says_so "(set-logic)" "(error \"E8 wrong arguments: set-logic\")\n"
+    (says_so "(set-logic)" "(error \"E8 wrong arguments: set-logic\")\n"
     ∷ says_so "(set-logic 1)" "(error \"E8 wrong arguments: set-logic\")\n"
     ∷ says_so "(set-option :verbosity)" "(error \"E8 wrong arguments: set-option\")\n"
     ∷ says_so "(set-option :verbosity :k)" "(error \"E8 wrong arguments: set-option\")\n"
@@ -73,7 +73,7 @@ wrong_arguments = refl
 
 -- a numeral past 2^127 - 1
 numerals : wrong_replies
-    ( says_so "(set-option :verbosity 170141183460469231731687303715884105727)(set-option :verbosity 170141183460469231731687303715884105728)(get-option :verbosity)" "success\n(error \"E5 numeral past 128 bits\")\n170141183460469231731687303715884105727\n"
+    (says_so "(set-option :verbosity 170141183460469231731687303715884105727)(set-option :verbosity 170141183460469231731687303715884105728)(get-option :verbosity)" "success\n(error \"E5 numeral past 128 bits\")\n170141183460469231731687303715884105727\n"
     ∷ says_so "(set-option :random-seed 170141183460469231731687303715884105728)" "(error \"E5 numeral past 128 bits\")\n"
     ∷ says_so "(set-option :reproducible-resource-limit 170141183460469231731687303715884105728)" "(error \"E5 numeral past 128 bits\")\n"
     ∷ says_so "(declare-sort S 170141183460469231731687303715884105728)" "(error \"E5 numeral past 128 bits\")\n"
@@ -86,7 +86,7 @@ numerals = refl
 
 -- what the state refuses
 states : wrong_replies
-    ( says_so "(get-info :reason-unknown)" "(error \"E9 no unknown answer\")\n"
+    (says_so "(get-info :reason-unknown)" "(error \"E9 no unknown answer\")\n"
     ∷ says_so "(set-logic QF_UF)(set-logic QF_UF)" "success\n(error \"E10 logic already set\")\n"
     ∷ says_so "(push)(set-logic QF_UF)" "success\n(error \"E10 logic already set\")\n"
     ∷ says_so "(set-logic ALL)(set-option :produce-models true)" "success\n(error \"E11 option too late: :produce-models\")\n"
@@ -108,7 +108,7 @@ states = refl
 
 -- names that are declared already, that are the theories', and that nobody knows
 names : wrong_replies
-    ( quiet "(declare-const x Int)(declare-const x Bool)(declare-fun x (Int) Int)(define-fun x () Int 1)" "(error \"E12 name already declared: x\")\n(error \"E12 name already declared: x\")\n(error \"E12 name already declared: x\")\n"
+    (quiet "(declare-const x Int)(declare-const x Bool)(declare-fun x (Int) Int)(define-fun x () Int 1)" "(error \"E12 name already declared: x\")\n(error \"E12 name already declared: x\")\n(error \"E12 name already declared: x\")\n"
     ∷ quiet "(declare-sort S 0)(declare-sort S 0)(define-sort S () Int)(declare-const S S)" "(error \"E12 name already declared: S\")\n(error \"E12 name already declared: S\")\n"
     ∷ quiet "(define-fun f ((|a b| Int) (|a b| Int)) Int 1)" "(error \"E12 name already declared: |a b|\")\n"
     ∷ quiet "(assert (let ((x 1) (x 2)) true))" "(error \"E12 name already declared: x\")\n"
@@ -122,7 +122,7 @@ names = refl
 
 -- terms
 terms : wrong_replies
-    ( quiet "(declare-fun f (Int) Int)(declare-const |a b| Int)(assert (not true false))(assert (f 1 2))(assert (|a b|))(assert f)(assert (let ((y 1)) (y)))" "(error \"E14 number of arguments: not\")\n(error \"E14 number of arguments: f\")\n(error \"E14 number of arguments: |a b|\")\n(error \"E14 number of arguments: f\")\n(error \"E14 number of arguments: y\")\n"
+    (quiet "(declare-fun f (Int) Int)(declare-const |a b| Int)(assert (not true false))(assert (f 1 2))(assert (|a b|))(assert f)(assert (let ((y 1)) (y)))" "(error \"E14 number of arguments: not\")\n(error \"E14 number of arguments: f\")\n(error \"E14 number of arguments: |a b|\")\n(error \"E14 number of arguments: f\")\n(error \"E14 number of arguments: y\")\n"
     ∷ quiet "(declare-const x Int)(assert (+ x true))(assert (ite true 1 true))(define-fun |a b| () Bool 1)(assert (= (* x x) 0))(define-fun d () Int (* x x))(assert (= d 0))(assert x)" "(error \"E15 sorts differ: +\")\n(error \"E15 sorts differ: ite\")\n(error \"E15 sorts differ: |a b|\")\n(error \"E16 not linear\")\n(error \"E16 not linear\")\n(error \"E17 not Bool\")\n"
     ∷ quiet "(define-fun f () Bool (! true :named n))(assert (let ((x true)) (! x :named n)))(assert (! true))(assert (let () true))(assert (let ((x)) true))(assert ())(assert (1 2))" "(error \"E8 wrong arguments: define-fun\")\n(error \"E8 wrong arguments: assert\")\n(error \"E8 wrong arguments: assert\")\n(error \"E8 wrong arguments: assert\")\n(error \"E8 wrong arguments: assert\")\n(error \"E8 wrong arguments: assert\")\n(error \"E8 wrong arguments: assert\")\n" ∷ [])
     ≡ []

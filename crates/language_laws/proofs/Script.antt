@@ -9,8 +9,8 @@ use Rattle.smt_meaning.specs.declared.commands.Command.{Command}
 use Rattle.smt_meaning.specs.declared.answers.Mode.TheVariants as In
 use Rattle.smt_meaning.specs.declared.answers.Reply.{Reply}
 use Rattle.smt_meaning.specs.declared.answers.Reply.TheVariants as Given
-use Rattle.smt_meaning.specs.Reading.{Lexeme, token, wrong, unended, nothing, lexeme}
-use Rattle.smt_meaning.specs.Sexp.{Sexp, Sexps, end, ◌▸◌, open_lists_of}
+use Rattle.smt_meaning.specs.Reading.{Lexeme, token, lexeme}
+use Rattle.smt_meaning.specs.Sexp.{Sexps, end, ◌▸◌, open_lists_of}
 use Rattle.smt_meaning.specs.Command.{command}
 use Rattle.smt_meaning.specs.State.{State, Effect, denied, left_out, accepted, answered, checked, effect, start}
 use Rattle.smt_meaning.specs.MayReply.{success}
