@@ -5,10 +5,10 @@ use Rattle.std.specs.Fmt.{decimal, digits, digits_onto, digit_glyph}
 use Rattle.smt_meaning.specs.declared.options.OptionValue.{OptionValue}
 use Rattle.smt_meaning.specs.declared.options.OptionValue.TheVariants as Shown
 use Rattle.smt_meaning.specs.declared.options.Info.{Info}
-use Rattle.smt_meaning.specs.declared.options.Info.TheVariants.{Name, Version, Authors, ErrorBehavior, AssertionStackLevels}
+use Rattle.smt_meaning.specs.declared.options.Info.TheVariants.{Name, Version, Authors, ErrorBehavior, AssertionStackLevels, ReasonUnknown}
 use Rattle.smt_meaning.specs.declared.answers.Reply.{Reply}
 use Rattle.smt_meaning.specs.declared.answers.Reply.TheVariants as Given
-use Rattle.smt_meaning.specs.Text.{text, line, listed, spaced, literal, quotes_doubled, option_text, info_text, tokens_text, term_value_text, function_text, error_text}
+use Rattle.smt_meaning.specs.Text.{text, line, listed, spaced, literal, quotes_doubled, option_text, info_text, reason_text, tokens_text, term_value_text, function_text, error_text}
 use Rattle.language_laws.specs.Laws.{IsLine}
 
 -- ---- bytes that end in another byte than a line feed
@@ -81,13 +81,16 @@ info_ends Version = words (codes "(:version \"1.0\"") 41 (omega arith)
 info_ends Authors = words (codes "(:authors \"the smt_cli team\"") 41 (omega arith)
 info_ends ErrorBehavior = words (codes "(:error-behavior continued-execution") 41 (omega arith)
 info_ends (AssertionStackLevels n) = closed_list (codes ":assertion-stack-levels" ∷ decimal n ∷ [])
+info_ends (ReasonUnknown r) = closed_list (codes ":reason-unknown" ∷ reason_text r ∷ [])
 
 pub ends_in_one_line : (r : Reply) → ((r ≡ Given.Silent) × (text r ≡ [])) ⊎ IsLine (text r)
+unfolding text
 ends_in_one_line Given.Success = inr (as_line (codes "success") (words (codes "succes") 115 (omega arith)))
 ends_in_one_line Given.Silent = inl (refl, refl)
 ends_in_one_line Given.Unsupported = inr (as_line (codes "unsupported") (words (codes "unsupporte") 100 (omega arith)))
 ends_in_one_line Given.Sat = inr (as_line (codes "sat") (words (codes "sa") 116 (omega arith)))
 ends_in_one_line Given.Unsat = inr (as_line (codes "unsat") (words (codes "unsa") 116 (omega arith)))
+ends_in_one_line Given.Unknown = inr (as_line (codes "unknown") (words (codes "unknow") 110 (omega arith)))
 ends_in_one_line (Given.Echo t) = inr (as_line (literal t) (closed_literal t))
 ends_in_one_line (Given.Option v) = inr (as_line (option_text v) (option_ends v))
 ends_in_one_line (Given.Info i) = inr (as_line (info_text i) (info_ends i))

@@ -24,7 +24,7 @@ use Rattle.smt_meaning.specs.StackCommand.{Change, declares, asserts, pushes, po
 use Rattle.smt_meaning.specs.Command.{command}
 use Rattle.smt_meaning.specs.State
 use Rattle.smt_meaning.specs.State.{Effect, denied, left_out, accepted, answered, checked, effect, provided, set_logic, set_option_in, start_option, get_info, stack_effect, on_stack, get_value, judged_values, valued, get_model, get_assertions, kept_model, logics, is_start, asserting, with_logic, set, all_fit, terms_asked, term_values, printed_functions, texts_of}
-use Rattle.smt_meaning.specs.MayReply.{Decided, Is, MayCome, MayDecide, MayReplyTo, success}
+use Rattle.smt_meaning.specs.MayReply.{Decided, Is, MayCome, MayDecide, MayReply, MayReplyTo, Replies, success}
 use Rattle.language_laws.specs.Laws.{HasOneReply, ChangesNothing}
 
 -- a reply that tells something
@@ -109,6 +109,7 @@ get_model_told b s (Some i) =
     (answered (Given.Model (printed_functions (signature_of s.stack.frames) (signature_of s.stack.frames) i)) s) refl
 
 effect_told : (s : State.State) (c : Command) → is_told (is_check c) (effect s c) ≡ true
+unfolding effect
 effect_told s (SetLogic n) = set_logic_told false s n s.logic
 effect_told s (SetOption o) = set_option_told false s o (start_option o)
 effect_told s (GetOption o) = refl
@@ -161,6 +162,7 @@ one_of decided old (answered a t) h = record { reply = a; new = t; may = λ r ke
 one_of decided old (checked t) h = false_true h
 
 pub one : (decided : Decided) (old : State.State) (c : Command) → c ≢ CheckSat → HasOneReply decided old c
+unfolding MayReply
 one decided old c h =
     let o = one_of decided old (effect old c) (sym (ap (λ b. is_told b (effect old c)) (not_check c h)) ∙ effect_told old c) in
     record { reply = o.reply; new = o.new; may = o.may; only = o.only }
@@ -201,17 +203,20 @@ told old c = told_at_all (is_check c) (effect old c) (effect_told old c)
 
 after_error : (decided : Decided) (old : State.State) (c : Result Command Error) (e : Error) (kept : Kept) (new : State.State)
     → MayReplyTo decided old c (Given.Error e) kept new → new ≡ old
+unfolding MayReply
 after_error decided old (Ok c) e kept new i =
     changes_nothing decided old (effect old c) (told old c) (Given.Error e) refl refl (λ s k n j. j) kept new i
 after_error decided old (Err d) e kept new i = i.new_is
 
 after_unsupported : (decided : Decided) (old : State.State) (c : Result Command Error) (kept : Kept) (new : State.State)
     → MayReplyTo decided old c Given.Unsupported kept new → new ≡ old
+unfolding MayReply
 after_unsupported decided old (Ok c) kept new i =
     changes_nothing decided old (effect old c) (told old c) Given.Unsupported refl refl (λ s k n j. j) kept new i
 after_unsupported decided old (Err d) kept new i = i.new_is
 
 pub unchanged : (decided : Decided) (old : State.State) (ts : List Token) (kept : Kept) (new : State.State) → ChangesNothing decided old ts kept new
+unfolding Replies
 unchanged decided old ts kept new =
     record {
       after_error = λ e i. after_error decided old (command (sexp ts)) e kept new i;

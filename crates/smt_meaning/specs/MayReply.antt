@@ -54,7 +54,7 @@ MayCome decided old (checked s) reply kept new =
     MatchBool (decided s.stack.frames) (MayDecide s reply kept new) (Is Given.Unsupported old reply kept new)
 
 -- in the old state the command may be answered so, and leave the new state
-abbrev pub MayReply : Decided → State → Command → Reply → Kept → State → Type 0
+unfoldable pub MayReply : Decided → State → Command → Reply → Kept → State → Type 0
 MayReply decided old c reply kept new = MayCome decided old (effect old c) reply kept new
 
 abbrev pub MayReplyTo : Decided → State → Result Command Error → Reply → Kept → State → Type 0
@@ -62,5 +62,5 @@ MayReplyTo decided old (Ok c) reply kept new = MayReply decided old c reply kept
 MayReplyTo decided old (Err e) reply kept new = Is (Given.Error e) old reply kept new
 
 -- so may the s-expression of these tokens be answered
-abbrev pub Replies : Decided → State → List Token → Reply → Kept → State → Type 0
+unfoldable pub Replies : Decided → State → List Token → Reply → Kept → State → Type 0
 Replies decided old ts reply kept new = MayReplyTo decided old (command (sexp ts)) reply kept new

@@ -273,7 +273,7 @@ get_assertions s =
 
 -- ---- commands
 
-abbrev pub effect : State → Command → Effect
+unfoldable pub effect : State → Command → Effect
 effect s (SetLogic n) = set_logic s n s.logic
 effect s (SetOption o) = set_option_in s o (start_option o)
 effect s (GetOption o) = answered (Given.Option (option_value s.options o)) s
