@@ -5,3 +5,4 @@ mod Texts
 mod Modes
 mod Lines
 mod Told
+mod Kept
