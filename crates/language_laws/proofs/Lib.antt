@@ -1,0 +1,7 @@
+mod Script
+mod Refusals
+mod Orders
+mod Texts
+mod Modes
+mod Lines
+mod Told
