@@ -10,7 +10,7 @@ use Rattle.smt_meaning.specs.Declaration.{Declaration}
 use Rattle.smt_meaning.specs.Term.{Tree, node, none}
 use Rattle.smt_meaning.specs.Sexp.{sexp}
 use Rattle.smt_meaning.specs.Sorts.{Scope, Outcome, done, refused, Judging, ◌>>◌, return, declare, Typed, Variable, judge}
-use Rattle.smt_meaning.specs.StackCommand.{Change, declares, asserts, clears, begins_again, is_unsupported, judge_sort, judge_sorts, new_sort_name, new_function_name, sort_declaration, declare_new_sort, declare_sort, define_sort, declare_function, judge_parameters, Bodied, apart, in_body, judge_body, sorts_of_variables, define_function, require_room, in_assert, assert_term, in_question, judge_questions, ask_terms, stack_command}
+use Rattle.smt_meaning.specs.StackCommand.{Change, declares, asserts, clears, begins_again, is_unsupported, judge_sort, judge_sorts, new_sort_name, new_function_name, sort_declaration, declare_new_sort, declare_sort, define_sort, declare_function, judge_parameters, Bodied, apart, in_body, judge_body, sorts_of_variables, define_function, require_room, in_assert, assert_term, in_question, judge_terms, judge_questions, ask_terms, stack_command}
 use Rattle.smt_meaning.specs.declared.commands.WrittenSort.{WrittenSort}
 use Rattle.smt_meaning.specs.declared.commands.WrittenSort.TheVariants.{Name, Applied}
 use Rattle.smt_meaning.specs.declared.commands.Parameter.{Parameter}
@@ -166,16 +166,17 @@ unnamed s m P h = record { gives = λ g. go (m s) (h.gives g) }
     go (done a t) k = ((k.0.0, record { later = k.0.1.later; kept = k.0.1.kept; same = λ e. absurd (cc) }), tt)
     go (refused r) k = tt
 
-questions_give : (ts : List (List Token)) (s : Scope) → Good s.given s.signature → Gives true s (judge_questions ts) Nothing
-questions_give [] s g = return_gives true s [] Nothing tt
-questions_give (t ∷ ts) s g =
+terms_give : (ts : List (List Token)) (s : Scope) → Good s.given s.signature → Gives true s (judge_terms ts) Nothing
+terms_give [] s g = return_gives true s [] Nothing tt
+terms_give (t ∷ ts) s g =
     bind_gives true s _ _ Nothing Nothing (unnamed s _ (Fine []) (judge_gives in_question [] (λ e. refl) [] (sexp t) s g tt))
-    (λ a u f e k. bind_gives true u _ _ Nothing Nothing (questions_give ts u f) (λ bs v d m l. return_gives true v (a ∷ bs) Nothing tt))
+    (λ a u f e k. bind_gives true u _ _ Nothing Nothing (terms_give ts u f) (λ bs v d m l. return_gives true v (a ∷ bs) Nothing tt))
+
+questions_give : (ts : List (List Token)) (s : Scope) → Good s.given s.signature → Gives true s (judge_questions ts) Nothing
+questions_give ts s g = bind_gives true s _ _ Nothing Nothing (terms_give ts s g) (λ terms t f e k. next_gives true t _ _ _ Nothing (room_gives t) (λ c v h i p. return_gives true v terms Nothing tt))
 
 ask_gives : (ts : List (List Token)) (s : Scope) → Good s.given s.signature → Gives true s (ask_terms ts) Does
-ask_gives ts s g =
-    bind_gives true s _ _ Nothing Does (questions_give ts s g)
-    (λ as' t f e k. next_gives true t _ _ _ Does (room_gives t) (λ c v h i p. return_gives true v _ Does tt))
+ask_gives ts s g = bind_gives true s _ _ Nothing Does (questions_give ts s g) (λ terms t f e k. return_gives true t _ Does tt)
 
 -- ---- each command
 

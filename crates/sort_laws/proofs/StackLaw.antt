@@ -141,6 +141,7 @@ outcome_good s (done change c) f k = changed_good s change c f k.0.0 k.0.1.later
 outcome_good s (refused r) f k = f
 
 command_good : (s : Stack) (o : Option (ℕ → Judging Change)) → KeepsIfSome o → GoodStack s → GoodStack (after_command s o)
+unfolding judged
 command_good s None k f = f
 command_good s (Some m) k f = outcome_good s (judged m s) f ((k (depth s.frames) (scope_of s) f.good).gives f.good)
 

@@ -18,7 +18,7 @@ use Rattle.smt_meaning.specs.Sexp.{Sexp, Sexps, word, group, end, ◌▸◌, sex
 use Rattle.smt_meaning.specs.Signature.{HasNoIdTwice}
 use Rattle.smt_meaning.specs.Sorts.{Scope, Outcome, done, refused, Judging, go_on, ◌>>=◌, ◌>>◌, return, refuse, require, required, the_scope, note, found, declare, declare_in, most_symbols, Typed, Variable, Rules, Known, variable, operator, function, unknown, known, can_be_applied, judge_application, judge_bare, judge_symbol, judge_operator, judge_token, check_bindings, none_twice, bound_names, name_by, judge_attributes, either, judge, judge_all, judge_bindings}
 use Rattle.smt_meaning.specs.Stack.{Frame, Assertion, signature_of, depth, on_top, pushed, empty_frame}
-use Rattle.smt_meaning.specs.StackCommand.{Stack, start, Change, declares, asserts, pushes, pops, asks, clears, begins_again, is_unsupported, judge_sort, judge_sorts, new_sort_name, new_function_name, declare_new_sort, declare_sort, define_sort, declare_function, judge_parameters, apart, in_body, judge_body, define_function, require_room, in_assert, assert_term, in_question, judge_questions, stack_command, scope_of, judged, new_declarations, changed, after_outcome, after_command, after, after_all}
+use Rattle.smt_meaning.specs.StackCommand.{Stack, start, Change, declares, asserts, pushes, pops, asks, clears, begins_again, is_unsupported, judge_sort, judge_sorts, new_sort_name, new_function_name, declare_new_sort, declare_sort, define_sort, declare_function, judge_parameters, apart, in_body, judge_body, define_function, require_room, in_assert, assert_term, in_question, judge_terms, judge_questions, stack_command, scope_of, judged, new_declarations, changed, after_outcome, after_command, after, after_all}
 use Rattle.smt_meaning.specs.declared.commands.WrittenSort.{WrittenSort}
 use Rattle.smt_meaning.specs.declared.commands.WrittenSort.TheVariants.{Name, Applied}
 use Rattle.smt_meaning.specs.declared.commands.Parameter.{Parameter}
@@ -271,9 +271,12 @@ room_keeping = bind_keeping scope_keeping (λ s. require_keeping _ _)
 assert_keeping : (t : List Token) → Keeping (assert_term t)
 assert_keeping t = bind_keeping (judge_keeping in_assert [] (sexp t)) (λ a. next_keeping (require_keeping _ _) (next_keeping room_keeping (return_keeping _)))
 
+terms_keeping : (ts : List (List Token)) → Keeping (judge_terms ts)
+terms_keeping [] = return_keeping []
+terms_keeping (t ∷ ts) = bind_keeping (judge_keeping in_question [] (sexp t)) (λ a. bind_keeping (terms_keeping ts) (λ bs. return_keeping (a ∷ bs)))
+
 questions_keeping : (ts : List (List Token)) → Keeping (judge_questions ts)
-questions_keeping [] = return_keeping []
-questions_keeping (t ∷ ts) = bind_keeping (judge_keeping in_question [] (sexp t)) (λ a. bind_keeping (questions_keeping ts) (λ bs. return_keeping (a ∷ bs)))
+questions_keeping ts = bind_keeping (terms_keeping ts) (λ bs. next_keeping room_keeping (return_keeping bs))
 
 -- ---- the fold
 
@@ -288,7 +291,7 @@ command_keeps (DeclareConst n s) = λ level. function_keeping n [] s
 command_keeps (DeclareFun n ss s) = λ level. function_keeping n ss s
 command_keeps (DefineFun n ps s t) = λ level. defined_keeping n ps s t
 command_keeps (Assert t) = λ level. assert_keeping t
-command_keeps (GetValue ts) = λ level. bind_keeping (questions_keeping ts) (λ as'. next_keeping room_keeping (return_keeping _))
+command_keeps (GetValue ts) = λ level. bind_keeping (questions_keeping ts) (λ bs. return_keeping _)
 command_keeps (Push n) = λ level. next_keeping (require_keeping _ _) (return_keeping _)
 command_keeps (Pop n) = λ level. next_keeping (require_keeping _ _) (return_keeping _)
 command_keeps ResetAssertions = λ level. return_keeping clears
@@ -338,6 +341,7 @@ outcome_fresh s (done change c) f k = changed_fresh s change c f k.0 k.1.0 k.1.1
 outcome_fresh s (refused r) f k = f
 
 command_fresh : (s : Stack) (o : Option (ℕ → Judging Change)) → KeepsIfSome o → FreshStack s → FreshStack (after_command s o)
+unfolding judged
 command_fresh s None k f = f
 command_fresh s (Some m) k f = outcome_fresh s (judged m s) f ((k (depth s.frames)).keeps (scope_of s) f)
 
