@@ -6,3 +6,4 @@ mod Modes
 mod Lines
 mod Told
 mod Kept
+mod Journals

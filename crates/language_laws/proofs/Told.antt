@@ -152,7 +152,7 @@ abbrev only_false : Bool → Type 0
 only_false true = ⊥
 only_false false = Unit {0}
 
-false_true : {A : Type 0} → false ≡ true → A
+pub false_true : {A : Type 0} → false ≡ true → A
 false_true e = absurd (subst only_false e tt)
 
 record OneOf (decided : Decided) (old : State.State) (f : Effect) : Type 0 where
