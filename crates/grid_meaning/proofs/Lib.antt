@@ -1,0 +1,2 @@
+pub mod RowValue
+mod Examples
