@@ -168,8 +168,8 @@ pub fn run_within<S: Source, K: Sink, G: Gate>(
     }
 }
 
-/// A run that has ended before it began.
-fn unbegun(alloc: Global, error: WordsError) -> Ended
+/// A run that has ended before it began, since there are no settings for it.
+pub fn unbegun(alloc: Global, error: WordsError) -> Ended
     ensures journal { result.journal ≡ [] }
     ensures status { IsUnbegun error result.status }
     ensures note { MatchesStatus result.note result.status }
