@@ -8,9 +8,9 @@ use std::test::Fail;
 
 /// An environment with these words of the command line.
 #[derive(Clone, Copy)]
-struct Words(&'static [&'static [u8]]);
+struct CommandLine<'a>(&'a [&'a [u8]]);
 
-impl Env for Words {
+impl Env for CommandLine<'_> {
     fn arg(&self, i: usize, buf: &mut [u8]) -> Result<usize, FillError> {
         match self.0.get(i) {
             Some(word) if word.len() <= buf.len() => {
@@ -31,8 +31,8 @@ impl Env for Words {
     }
 }
 
-fn words(alloc: Global, words: &'static [&'static [u8]]) -> Result<Vec<String>, WordsError> {
-    words_of(alloc, env::args(&(Words(words), alloc)))
+fn words(alloc: Global, words: &[&[u8]]) -> Result<Vec<String>, WordsError> {
+    words_of(alloc, env::args(&(CommandLine(words), alloc)))
 }
 
 #[test]
@@ -57,7 +57,7 @@ fn refuses_a_word_that_is_not_utf_8(rt: HostRuntime) -> Result<(), Fail> {
 /// What the program exits with, what it wrote, and what it said.
 fn outcome(
     alloc: Global,
-    given: &'static [&'static [u8]],
+    given: &[&[u8]],
     script: &[u8],
 ) -> Result<(String, Vec<u8>, Vec<u8>), Fail> {
     let words = words(alloc, given);
