@@ -10,7 +10,7 @@ use Rattle.smt_meaning.specs.Term.{Tree, Trees, node, none, more, tree_at, Inter
 use Rattle.smt_meaning.specs.Nodes.{pick}
 use Rattle.term_store.specs.Terms.{tree_with, AreDifferent}
 use Rattle.model_eval.specs.Fitted.{some_if, fitted_head}
-use Rattle.model_eval.specs.Unfit.{IsPart, IsPartOfOne, fits_alone, IsFirstUnfit, IsCause}
+use Rattle.model_eval.specs.Unfit.{IsPart, IsPartOfOne, fits_alone, IsFirstUnfitOfAny, IsCause, IsCauseOfAny}
 use Rattle.model_eval.specs.Walk.{is_marked, HasMarkedArguments, AreMarked, value_at, IsKept, AreKept, IsUnfitAt}
 use Rattle.model_eval.specs.declared.EvalError.{EvalError}
 use Rattle.model_eval.specs.declared.EvalError.TheVariants.{Range, Memory}
@@ -190,19 +190,50 @@ kept_skip I trees marks slots vs slot id k size absent =
 
 -- ---- what is said in the end
 
-pub first_unfit : (I : Interpretation) (trees : List Tree) (m i : ℕ) (marks : List Bool) (slots : List ℕ) (vs : List Value) → AreMarked trees m 0 marks → AreDifferent trees → m < length trees
-    → AreKept I trees marks slots vs → length slots ≡ i → i < length trees → is_marked marks i ≡ true → fits_alone I (tree_at trees i) ≡ false → IsFirstUnfit I trees (tree_at trees m) i
-first_unfit I trees m i marks slots vs marked different root k size short here u = record {
-  place = short;
-  part = marked.parts i here;
-  unfit = u;
-  first = λ j less p.
-      fits_itself I (tree_at trees j) (k.kept j (omega arith) (part_is_marked trees m j marks marked different root (omega arith) p)).fits;
-}
+module _ (I : Interpretation) (trees : List Tree) (terms : List ℕ) (top : ℕ) (marks : List Bool) (slots : List ℕ) (vs : List Value) (marked : AreMarked trees terms top 0 marks) (different : AreDifferent trees)
+    (within : All (λ k. k < length trees) terms) (kept : AreKept I trees marks slots vs) where
+  first_unfit : (i : ℕ) → length slots ≡ i → i < length trees → is_marked marks i ≡ true → fits_alone I (tree_at trees i) ≡ false → IsFirstUnfitOfAny I trees terms i
+  first_unfit i size short here u = record {
+    place = short;
+    part = marked.parts i here;
+    unfit = u;
+    first = λ j less p.
+        fits_itself I (tree_at trees j) (kept.kept j (omega arith) (part_is_marked trees terms top j marks marked different within (omega arith) p)).fits;
+  }
 
-pub cause_of : (I : Interpretation) (trees : List Tree) (m i : ℕ) (marks : List Bool) (slots : List ℕ) (vs : List Value) (e : EvalError) → AreMarked trees m 0 marks → AreDifferent trees → m < length trees
-    → AreKept I trees marks slots vs → length slots ≡ i → i < length trees → IsUnfitAt I trees marks i e → IsCause I trees (tree_at trees m) e
-cause_of I trees m i marks slots vs (Range k) marked different root kept size short u =
-    let first : IsFirstUnfit I trees (tree_at trees m) i = first_unfit I trees m i marks slots vs marked different root kept size short u.1 u.2 in
-    (unfit_part I (tree_at trees i) (tree_at trees m) first.part first.unfit, subst (IsFirstUnfit I trees (tree_at trees m)) (sym u.0) first)
-cause_of I trees m i marks slots vs Memory marked different root kept size short u = tt
+  pub cause_of : (i : ℕ) (e : EvalError) → length slots ≡ i → i < length trees → IsUnfitAt I trees marks i e → IsCauseOfAny I trees terms e
+  cause_of i (Range k) size short u =
+      let first : IsFirstUnfitOfAny I trees terms i = first_unfit i size short u.1 u.2 in
+      let part = first.part in
+      ((part.0, part.1, unfit_part I (tree_at trees i) (tree_at trees (get_or terms part.0 0)) part.2 first.unfit), subst (IsFirstUnfitOfAny I trees terms) (sym u.0) first)
+  cause_of i Memory size short u = tt
+
+  -- the values of the terms are kept, once all places below the top have been passed
+  pub all_kept : length slots ≡ top → All (λ k. k < top) terms → All (IsKept I trees slots vs) terms
+  all_kept size below k d h = kept.kept (get_or terms k d) (let less = below k d h in omega arith) (marked.roots k d h)
+
+-- the values that are kept for terms are theirs
+pub values_of : (I : Interpretation) (trees : List Tree) (terms slots : List ℕ) (vs : List Value) → All (IsKept I trees slots vs) terms → map (value_at slots vs) terms ≡ map (λ t. value I (tree_at trees t)) terms
+values_of I trees [] slots vs kept = refl
+values_of I trees (t ∷ ts) slots vs kept =
+    ap (λ v. v ∷ map (value_at slots vs) ts) (All-head (IsKept I trees slots vs) t ts kept).value
+    ∙ ap (λ ws. value I (tree_at trees t) ∷ ws) (values_of I trees ts slots vs (All-tail (IsKept I trees slots vs) t ts kept))
+
+-- the cause for a list of one term is that for the term
+pub cause_of_one : (I : Interpretation) (trees : List Tree) (m : ℕ) (e : EvalError) → IsCauseOfAny I trees (m ∷ []) e → IsCause I trees (tree_at trees m) e
+cause_of_one I trees m (Range i) c =
+    let unfit = c.0 in
+    let first = c.1 in (
+      subst (λ k. fits I (tree_at trees k) ≡ false) (only unfit.0 unfit.1) unfit.2,
+      record {
+        place = first.place;
+        part = (let p = first.part in subst (λ k. IsPart (tree_at trees i) (tree_at trees k)) (only p.0 p.1) p.2);
+        unfit = first.unfit;
+        first = λ j less p. first.first j less (0, omega arith, p);
+      },
+    )
+  where
+    only : (k : ℕ) → k < length (m ∷ []) → get_or (m ∷ []) k 0 ≡ m
+    only zero h = refl
+    only (suc k) h = absurd (omega arith)
+cause_of_one I trees m Memory c = tt

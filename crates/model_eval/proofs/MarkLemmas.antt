@@ -1,12 +1,14 @@
 -- Places that are marked: one more, the arguments of one, and all parts in the end.
-use Rattle.std.proofs.Common.{◌≡◌, ◌≢◌, ℕ, zero, suc, ◌+◌, ◌<◌, ◌≤◌, List, [], ◌∷◌, ◌++◌, length, get_or, set, take, replicate, All, Bool, true, false, inl, inr, subst, sym, ap, ◌∙◌, arith, refl}
+use Rattle.std.proofs.Common.{◌≡◌, ℕ, zero, suc, ◌+◌, ◌<◌, ◌≤◌, List, [], ◌∷◌, ◌++◌, length, get_or, set, take, replicate, All, max, Bool, true, false, inl, inr, subst, sym, ap, ◌∙◌, arith, refl}
 use Rattle.std.proofs.lemmas.Bool.{cases_eq, cases_lt}
+use Rattle.std.proofs.lemmas.Grind.{common_steps}
+use Rattle.std.proofs.lemmas.List.Elements.{All-push, All-weaker}
 use Rattle.std.proofs.lemmas.List.{length-set, length_push, get_or_append_left, get_or_push, get_or-set_same, get_or-set_other, get_or_past, length-replicate, get_or-replicate, take_more, get_or_default}
 use Rattle.smt_meaning.specs.declared.terms.Head.{Head}
 use Rattle.smt_meaning.specs.Term.{Tree, Trees, node, none, more, tree_at}
 use Rattle.smt_meaning.specs.Nodes.{pick}
 use Rattle.term_store.specs.Terms.{tree_with, AreDifferent}
-use Rattle.model_eval.specs.Unfit.{IsPart, IsPartOfOne}
+use Rattle.model_eval.specs.Unfit.{IsPart, IsPartOfOne, IsPartOfAny}
 use Rattle.model_eval.specs.Walk.{IsOneOf, IsArgument, is_marked, IsMarkedPlace, HasMarkedArguments, AreMarked, AreAdded}
 
 -- ---- marks on a list of places
@@ -101,20 +103,28 @@ picks trees (p ∷ ps) (suc k) h = inr (picks trees ps k (omega arith))
 
 -- ---- the marks of a term's parts
 
-pub marked_start : (trees : List Tree) (m n : ℕ) → n ≡ m + 1 → AreMarked trees m n (set (replicate n false) m true)
-marked_start trees m n e =
-    let size : length (set (replicate n false) m true) ≡ n = length-set (replicate n false) m true ∙ length-replicate n false in
-    let short : m < length (replicate n false) = subst (λ k. m < k) (sym (length-replicate n false)) (omega arith) in
-    record {
-      size = size ∙ e;
-      root = get_or-set_same (replicate n false) m true false short;
-      parts = λ i h.
-          elim (cases_eq i m) [
-            | inl same ↦ subst (λ k. IsPart (tree_at trees k) (tree_at trees m)) (sym same) (part_self (tree_at trees m))
-            | inr other ↦ absurd (only m n i other h)
-          ];
-      closed = λ i above h. absurd (past (sym (get_or_past (set (replicate n false) m true) i false (omega arith)) ∙ h));
-    }
+-- the top of one more
+pub top_more : (top : ℕ) (xs : List ℕ) (i : ℕ) → i < length xs → All (λ k. k < top) (take i xs) → All (λ k. k < max top (get_or xs i 0 + 1)) (take (i + 1) xs)
+top_more top xs i short h =
+    rw (take_more xs i 0 short)
+    (All-push (λ k. k < max top (get_or xs i 0 + 1)) (take i xs) (get_or xs i 0)
+    (All-weaker (λ k. k < top) (λ k. k < max top (get_or xs i 0 + 1)) (λ x l. omega (arith, l)) (take i xs) h) (omega arith))
+
+-- the whole of a list has been passed
+pub take_past : (i : ℕ) (xs : List ℕ) → length xs ≤ i → take i xs ≡ xs
+take_past i xs l = grind (arith, common_steps)
+
+pub marked_start : (trees : List Tree) (terms : List ℕ) (top : ℕ) (marks : List Bool) → AreAdded terms (replicate top false) marks → AreMarked trees terms top top marks
+marked_start trees terms top marks added = record {
+  size = added.size ∙ length-replicate top false;
+  roots = added.added;
+  parts = λ i h.
+      elim (added.others i h) [
+        | inl before ↦ absurd (past (sym (unmarked top i) ∙ before))
+        | inr w ↦ (w.0, w.1, subst (λ k. IsPart (tree_at trees i) (tree_at trees k)) (sym w.2) (part_self (tree_at trees i)))
+      ];
+  closed = λ i above h. absurd (past (sym (get_or_past marks i false (subst (λ k. k ≤ i) (sym (added.size ∙ length-replicate top false)) above)) ∙ h));
+}
   where
     past : false ≡ true → ⊥
     past e = cc
@@ -122,26 +132,31 @@ marked_start trees m n e =
     unmarked : (n i : ℕ) → get_or (replicate n false) i false ≡ false
     unmarked n i = elim (cases_lt i n) [ inl less ↦ get_or-replicate n i false false less | inr more' ↦ get_or_past (replicate n false) i false (subst (λ k. k ≤ i) (sym (length-replicate n false)) more') ]
 
-    only : (m n i : ℕ) → i ≢ m → is_marked (set (replicate n false) m true) i ≡ true → ⊥
-    only m n i other h = past (sym (unmarked n i) ∙ sym (get_or-set_other (replicate n false) m i true false other) ∙ h)
+pub started : (trees : List Tree) (terms : List ℕ) (top : ℕ) (old mid new : List Bool) → old ≡ replicate top false → new ≡ mid → AreAdded terms old mid → AreMarked trees terms top top new
+started trees terms top old mid new e f a = marked_start trees terms top new (subst (λ x. AreAdded terms x new) e (subst (λ x. AreAdded terms old x) (sym f) a))
+
+-- marks below their own number
+pub by_size : (trees : List Tree) (terms : List ℕ) (top : ℕ) (marks : List Bool) → AreMarked trees terms top top marks → AreMarked trees terms (length marks) (length marks) marks
+by_size trees terms top marks m = subst (λ n. AreMarked trees terms n n marks) (sym m.size) m
 
 still : (trees : List Tree) (marks marks' : List Bool) (i : ℕ) → ((k : ℕ) → is_marked marks k ≡ true → is_marked marks' k ≡ true)
     → HasMarkedArguments trees marks i → HasMarkedArguments trees marks' i
 still trees marks marks' i kept h u a =
     (let w = h u a in (w.0, record { within = w.1.within; here = w.1.here; marked = kept w.0 w.1.marked }))
 
-pub marked_node : (trees : List Tree) (m i bound : ℕ) (marks marks' : List Bool) (head : Head) (ps : List ℕ) → AreMarked trees m bound marks → bound ≡ i + 1 → i < length trees
-    → is_marked marks i ≡ true → tree_at trees i ≡ tree_with trees head ps → All (λ k. k < i) ps → AreAdded ps marks marks' → AreMarked trees m i marks'
-marked_node trees m i bound marks marks' head ps a e short here tree below added = record {
+pub marked_node : (trees : List Tree) (terms : List ℕ) (top i bound : ℕ) (marks marks' : List Bool) (head : Head) (ps : List ℕ) → AreMarked trees terms top bound marks → bound ≡ i + 1 → i < length trees
+    → is_marked marks i ≡ true → tree_at trees i ≡ tree_with trees head ps → All (λ k. k < i) ps → AreAdded ps marks marks' → AreMarked trees terms top i marks'
+marked_node trees terms top i bound marks marks' head ps a e short here tree below added = record {
   size = added.size ∙ a.size;
-  root = added.kept m a.root;
+  roots = λ k d h. added.kept (get_or terms k d) (a.roots k d h);
   parts = λ j h.
       elim (added.others j h) [
         | inl before ↦ a.parts j before
         | inr w ↦
             (let argument : IsArgument (tree_at trees j) (tree_at trees i) =
             subst (IsArgument (tree_at trees j)) (sym tree) (subst (λ k. IsOneOf (tree_at trees k) (pick trees ps)) w.2 (picks trees ps w.0 w.1)) in
-            part_argument (tree_at trees j) (tree_at trees i) (tree_at trees m) argument (a.parts i here))
+            let part = a.parts i here in
+            (part.0, part.1, part_argument (tree_at trees j) (tree_at trees i) (tree_at trees (get_or terms part.0 0)) argument part.2))
       ];
   closed = λ j above h.
       elim (cases_eq j i) [
@@ -159,10 +174,10 @@ marked_node trees m i bound marks marks' head ps a e short here tree below added
       ];
 }
 
-pub unmarked_node : (trees : List Tree) (m i bound : ℕ) (marks : List Bool) → AreMarked trees m bound marks → bound ≡ i + 1 → is_marked marks i ≡ false → AreMarked trees m i marks
-unmarked_node trees m i bound marks a e absent = record {
+pub unmarked_node : (trees : List Tree) (terms : List ℕ) (top i bound : ℕ) (marks : List Bool) → AreMarked trees terms top bound marks → bound ≡ i + 1 → is_marked marks i ≡ false → AreMarked trees terms top i marks
+unmarked_node trees terms top i bound marks a e absent = record {
   size = a.size;
-  root = a.root;
+  roots = a.roots;
   parts = a.parts;
   closed = λ j above h.
       elim (cases_eq j i) [
@@ -203,10 +218,11 @@ mutual
         | inr later ↦ found_in_one trees marks ts j different closed (λ u one. at u (inr one)) short later
       ]
 
-pub part_is_marked : (trees : List Tree) (m j : ℕ) (marks : List Bool) → AreMarked trees m 0 marks → AreDifferent trees → m < length trees → j < length trees
-    → IsPart (tree_at trees j) (tree_at trees m) → is_marked marks j ≡ true
-part_is_marked trees m j marks a different root short p =
-    found trees marks (tree_at trees m) m j different (λ k h. a.closed k (omega arith) h) (record { within = root; here = refl; marked = a.root }) short p
+pub part_is_marked : (trees : List Tree) (terms : List ℕ) (top j : ℕ) (marks : List Bool) → AreMarked trees terms top 0 marks → AreDifferent trees → All (λ k. k < length trees) terms → j < length trees
+    → IsPartOfAny trees terms (tree_at trees j) → is_marked marks j ≡ true
+part_is_marked trees terms top j marks a different within short p =
+    let root = get_or terms p.0 0 in
+    found trees marks (tree_at trees root) root j different (λ k h. a.closed k (omega arith) h) (record { within = within p.0 0 p.1; here = refl; marked = a.roots p.0 0 p.1 }) short p.2
 
 -- the arguments of a marked place are marked
 pub arguments_marked : (trees : List Tree) (marks : List Bool) (i : ℕ) (head : Head) (ps : List ℕ) → AreDifferent trees → HasMarkedArguments trees marks i → i < length trees

@@ -1,9 +1,9 @@
 -- How a term's parts are found and evaluated, a place at a time.
-use Rattle.std.specs.Prelude.{◌≡◌, ◌⊎◌, ℕ, ◌+◌, ◌<◌, ◌≤◌, Bool, true, false, List, length, All, IsTrue, IsFalse, slice_index, slice_index_or}
+use Rattle.std.specs.Prelude.{◌≡◌, ◌⊎◌, ℕ, ◌<◌, ◌≤◌, Bool, true, false, List, length, All, IsTrue, IsFalse, slice_index, slice_index_or}
 use Rattle.smt_meaning.specs.declared.values.Value.{Value}
 use Rattle.smt_meaning.specs.declared.values.Value.TheVariants.{Truth}
 use Rattle.smt_meaning.specs.Term.{Tree, Trees, node, none, more, tree_at, Interpretation, value, fits}
-use Rattle.model_eval.specs.Unfit.{IsPart, fits_alone}
+use Rattle.model_eval.specs.Unfit.{IsPartOfAny, fits_alone}
 use Rattle.model_eval.specs.declared.EvalError.{EvalError}
 use Rattle.model_eval.specs.declared.EvalError.TheVariants.{Range, Memory}
 
@@ -28,11 +28,11 @@ pub record IsMarkedPlace (trees : List Tree) (marks : List Bool) (t : Tree) (i :
 abbrev pub HasMarkedArguments : List Tree → List Bool → ℕ → Type 0
 HasMarkedArguments trees marks i = (u : Tree) → IsArgument u (tree_at trees i) → (j : ℕ) × IsMarkedPlace trees marks u j
 
--- places are marked down to a bound: those of the term and of parts of it, with all arguments of those at the bound or above
-pub record AreMarked (trees : List Tree) (m bound : ℕ) (marks : List Bool) : Type 0 where
-  pub size : length marks ≡ m + 1
-  pub root : is_marked marks m ≡ true
-  pub parts : (i : ℕ) → is_marked marks i ≡ true → IsPart (tree_at trees i) (tree_at trees m)
+-- of the places below a top, some are marked down to a bound: those of the terms and of parts of them, with all arguments of those at the bound or above
+pub record AreMarked (trees : List Tree) (terms : List ℕ) (top bound : ℕ) (marks : List Bool) : Type 0 where
+  pub size : length marks ≡ top
+  pub roots : All (λ i. is_marked marks i ≡ true) terms
+  pub parts : (i : ℕ) → is_marked marks i ≡ true → IsPartOfAny trees terms (tree_at trees i)
   pub closed : (i : ℕ) → bound ≤ i → is_marked marks i ≡ true → HasMarkedArguments trees marks i
 
 -- marks, and these places besides

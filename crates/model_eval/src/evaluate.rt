@@ -33,7 +33,7 @@ pub(crate) fn nothing(alloc: Global) -> Found
 }
 
 /// Copies the values that are kept for these places.
-fn gather(
+pub(crate) fn gather(
     arguments: &mut Vec<Value>,
     places: &[TermId],
     slots: &[u32],

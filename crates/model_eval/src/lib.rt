@@ -1,10 +1,11 @@
 //! The value of a term under a finite interpretation, where no number on the way leaves the range.
 #![tactic(auto)]
 
-ghost use Rattle.std.specs.Prelude.{◌≡◌, ◌<◌, length, OnOk, IfOk, IfErr, IsTrue};
+ghost use Rattle.std.specs.Prelude.{◌≡◌, ◌<◌, length, map, All, OnOk, IfOk, IfErr, IsTrue};
 ghost use Rattle.smt_meaning.specs.Term.{tree_at, value, fits};
 ghost use Rattle.smt_meaning.specs.Interpretation.{meaning};
-ghost use Rattle.model_eval.specs.Unfit.{IsCause};
+ghost use Rattle.model_eval.specs.Unfit.{IsCause, IsCauseOfAny};
+ghost use Rattle.model_eval.specs.Walk.{IsKept};
 
 mod evaluate;
 mod marks;
@@ -13,9 +14,9 @@ mod tables;
 #[cfg(test)]
 mod tests;
 
-use evaluate::{add, nothing};
+use evaluate::{Found, add, gather, nothing};
 use marks::parts_of;
-use smt_meaning::{Interp, TermId, Value};
+use smt_meaning::{Interp, Seq, TermId, Value};
 use std::alloc::{AllocError, AllocFailed, Global};
 use term_store::TermStore;
 
@@ -50,8 +51,49 @@ impl<T: Drop> From<AllocFailed<T>> for EvalError {
     }
 }
 
-/// The value of a term under an interpretation. `Range` comes exactly where the value of a part of it, or a partial sum, difference or product from the left,
-/// is outside the range, in branches of `ite` that aren't taken too, and names the first such part in numbering.
+/// Evaluates the terms and their parts, each once.
+fn evaluated(
+    alloc: Global,
+    interp: &Interp,
+    store: &TermStore,
+    terms: &[TermId],
+) -> Result<Found, EvalError>
+    requires { All (λ t. t < length store.now.trees) terms.now }
+    ensures places { IfOk result (λ found. All (λ t. t < length found.slots.items) terms.now) }
+    ensures kept { IfOk result (λ found. All (IsKept (meaning interp.now) store.now.trees found.slots.items found.values.items) terms.now) }
+    ensures cause { IfErr result (IsCauseOfAny (meaning interp.now) store.now.trees terms.now) }
+{
+    let known = store.len() as usize;
+    let marks = parts_of(alloc, store, terms)?;
+    let fits = marks.len() <= known;
+    prove!(fits);
+    let mut found = nothing(alloc);
+    for id in 0..marks.len() {
+        add(&mut found, interp, store, &marks, id as u32)?;
+    }
+    Ok(found)
+}
+
+/// The values of terms under an interpretation, in one pass over their parts. `Range` comes exactly where the value of a part of one of them, or a partial sum,
+/// difference or product from the left, is outside the range, in branches of `ite` that aren't taken too, and names the first such part in numbering.
+pub fn values(
+    alloc: Global,
+    interp: &Interp,
+    store: &TermStore,
+    terms: &[TermId],
+) -> Result<Seq<Value>, EvalError>
+    requires { All (λ t. t < length store.now.trees) terms.now }
+    ensures fits { OnOk result (All (λ t. IsTrue (fits (meaning interp.now) (tree_at store.now.trees t))) terms.now) }
+    ensures values { IfOk result (λ vs. vs ≡ map (λ t. value (meaning interp.now) (tree_at store.now.trees t)) terms.now) }
+    ensures cause { IfErr result (IsCauseOfAny (meaning interp.now) store.now.trees terms.now) }
+{
+    let found = evaluated(alloc, interp, store, terms)?;
+    let mut values = Vec::new(alloc);
+    gather(&mut values, terms, &found.slots, &found.values)?;
+    Ok(Seq::from_vec(values))
+}
+
+/// The value of a term, as `values` gives those of many.
 pub fn value(
     alloc: Global,
     interp: &Interp,
@@ -63,13 +105,7 @@ pub fn value(
     ensures value { IfOk result (λ v. v ≡ value (meaning interp.now) (tree_at store.now.trees term)) }
     ensures cause { IfErr result (IsCause (meaning interp.now) store.now.trees (tree_at store.now.trees term)) }
 {
-    let known = term < store.len();
-    prove!(known);
-    let marks = parts_of(alloc, store, term)?;
-    let mut found = nothing(alloc);
-    for id in 0..marks.len() {
-        add(&mut found, interp, store, &marks, id as u32)?;
-    }
+    let found = evaluated(alloc, interp, store, &[term])?;
     let slot = found.slots[term as usize];
     Ok(found.values[slot as usize])
 }

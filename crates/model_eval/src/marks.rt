@@ -1,6 +1,5 @@
-//! Which terms of a store are parts of a term.
-ghost use Rattle.std.specs.Prelude.{◌+◌, ◌<◌, length, All, IfOk};
-ghost use Rattle.smt_meaning.specs.Term.{tree_at};
+//! Which terms of a store are parts of some terms.
+ghost use Rattle.std.specs.Prelude.{ℕ, ◌≡◌, ◌+◌, ◌≤◌, ◌<◌, length, max, replicate, false, All, IfOk};
 ghost use Rattle.model_eval.specs.Walk.{AreMarked, AreAdded};
 
 use smt_meaning::TermId;
@@ -17,12 +16,13 @@ fn mark_all(marks: &mut [bool], places: &[TermId])
     }
 }
 
-/// Where the term is marked, marks its parts too.
-fn mark_parts(marks: &mut [bool], store: &TermStore, term: TermId)
-    requires term { term < length store.now.trees }
-    requires start { AreMarked store.now.trees term (term + 1) marks.old }
-    ensures { AreMarked store.now.trees term 0 marks.new }
+/// Where the terms are marked, marks their parts too.
+fn mark_parts(marks: &mut [bool], store: &TermStore, terms: &[TermId])
+    requires within { length marks.old ≤ length store.now.trees }
+    requires start { AreMarked store.now.trees terms.now (length marks.old) (length marks.old) marks.old }
+    ensures { AreMarked store.now.trees terms.now (length marks.old) 0 marks.new }
 {
+    let _known = store.len();
     let mut bound = marks.len();
     while bound > 0 {
         bound -= 1;
@@ -32,19 +32,49 @@ fn mark_parts(marks: &mut [bool], store: &TermStore, term: TermId)
     }
 }
 
-/// The marks of the term and its parts, by their numbers.
+/// Marks the terms and their parts.
+fn mark(marks: &mut [bool], store: &TermStore, terms: &[TermId])
+    requires within { length marks.old ≤ length store.now.trees }
+    requires below { All (λ i. i < length marks.old) terms.now }
+    requires fresh { marks.old ≡ replicate (length marks.old) false }
+    ensures { AreMarked store.now.trees terms.now (length marks.old) 0 marks.new }
+{
+    mark_all(marks, terms);
+    mark_parts(marks, store, terms);
+}
+
+/// The top so far, and one more term.
+fn raised(top: usize, term: TermId) -> usize
+    ensures { result ≡ max top (term + 1) }
+{
+    top.max(term as usize + 1)
+}
+
+/// One more than the greatest of the numbers, 0 where there are none.
+fn top_of(terms: &[TermId]) -> usize
+    ensures below { All (λ i. i < result) terms.now }
+    ensures least { (n : ℕ) → All (λ i. i < n) terms.now → result ≤ n }
+{
+    let mut top = 0;
+    for term in terms {
+        top = raised(top, *term);
+    }
+    top
+}
+
+/// The marks of the terms and their parts, by their numbers.
 pub(crate) fn parts_of(
     alloc: Global,
     store: &TermStore,
-    term: TermId,
+    terms: &[TermId],
 ) -> Result<Vec<bool>, AllocError>
-    requires { term < length store.now.trees }
-    ensures { IfOk result (λ marks. AreMarked store.now.trees term 0 marks.items) }
+    requires { All (λ i. i < length store.now.trees) terms.now }
+    ensures marked { IfOk result (λ marks. AreMarked store.now.trees terms.now (length marks.items) 0 marks.items) }
+    ensures below { IfOk result (λ marks. All (λ i. i < length marks.items) terms.now) }
+    ensures within { IfOk result (λ marks. length marks.items ≤ length store.now.trees) }
 {
-    let place = term as usize;
     let mut marks = Vec::new(alloc);
-    marks.resize(place + 1, false)?;
-    marks[place] = true;
-    mark_parts(&mut marks, store, term);
+    marks.resize(top_of(terms), false)?;
+    mark(&mut marks, store, terms);
     Ok(marks)
 }

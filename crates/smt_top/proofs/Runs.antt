@@ -1,17 +1,18 @@
 -- What a run comes to.
-use Rattle.std.proofs.Common.{◌≡◌, ◌<◌, ◌≤◌, ◌⊎◌, inl, inr, ℕ, Bool, true, false, List, [], ◌++◌, arith, refl, sym, ◌∙◌, ap, subst, Ok, Err, Option, Some, None, Result, ◌↔◌, append-nil}
+use Rattle.std.proofs.Common.{◌≡◌, ◌<◌, ◌⊎◌, inl, inr, ℕ, true, false, List, [], arith, refl, sym, ◌∙◌, ap, subst, Ok, Err, Option, Some, None, Result, ◌↔◌}
 use Rattle.std.specs.Prelude.{IfSome}
-use Rattle.std.specs.Io.KnownBytes.{Appends, Consumes}
+use Rattle.std.specs.Io.KnownBytes.{Consumes}
 use Rattle.smt_meaning.specs.Reading.{Unread}
 use Rattle.smt_meaning.specs.Commands.{State, start}
-use Rattle.smt_meaning.specs.Journal.{journal_text, beginning, IsLegal, IsLegalSoFar, AnswersSettled}
+use Rattle.smt_meaning.specs.Journal.{beginning, IsLegal, IsLegalSoFar, AnswersSettled}
 use Rattle.smt_meaning.specs.declared.replies.Entry.{Entry}
 use Rattle.smt_meaning.specs.declared.settings.Settings.{Settings}
 use Rattle.smt_words.specs.Words.{are_taken, settings_of}
 use Rattle.smt_words.specs.Causes.{IsCause}
 use Rattle.smt_words.specs.declared.error.WordsError.{WordsError}
 use Rattle.smt_words.specs.declared.error.WordsError.TheVariants.{Refused, Memory as WordsMemory}
-use Rattle.smt_top.specs.Progress.{Ends, HasAnswered, Stands, SoFar, Over, CutOff, WrittenAtHalt, NoneSettled, IsWritten, between}
+use Rattle.ports.specs.Flow.{SourceTold, SinkTold}
+use Rattle.smt_top.specs.Progress.{Ends, Took, HasAnswered, Stands, SoFar, Over, CutOff, WrittenAtHalt, NoneSettled, IsWritten, between}
 use Rattle.smt_top.specs.Ended.{Ran, StatusOf, MatchesStatus, IsFaulty, IsUnbegun}
 use Rattle.smt_top.specs.declared.serving.Run.{Run}
 use Rattle.smt_top.specs.declared.serving.Stage.{Stage}
@@ -19,6 +20,7 @@ use Rattle.smt_top.specs.declared.serving.Stage.TheVariants.{Asks, Complete}
 use Rattle.smt_top.specs.declared.top.Halt.{Halt}
 use Rattle.smt_top.specs.declared.top.Halt.TheVariants.{Memory, ReadFault, WriteFault}
 use Rattle.smt_top.specs.declared.top.Ended.{Ended}
+use Rattle.smt_top.proofs.Written.{RoseBy-none, Writes-none}
 use Rattle.smt_top.proofs.Turns.{answered_settled, begins, had_front, front_is, front_now, for_all, not_true}
 
 complete_so_far : (s : Settings) (input : List ℕ) (journal : List Entry) → IsLegal s input journal → IsLegalSoFar s input journal
@@ -37,16 +39,18 @@ module _ (budget : ℕ) (words : List (List ℕ)) (e : Ends) (r : Run) (ended : 
   not_refused : are_taken words ≡ false → (ended.status ≡ 2) ⊎ (ended.status ≡ 5)
   not_refused no' = absurd (not_true (sym no' ∙ taken))
 
-  done : Over (settings_of words) e r → ended.status < 2 → ((ended.status ≡ 1) ↔ IsFaulty ended.journal) → Ran budget words e ended
+  done : Over (settings_of words) e budget r → ended.status < 2 → ((ended.status ≡ 1) ↔ IsFaulty ended.journal) → Ran budget words e ended
   done over status error = record {
     input = over.input;
-    taken = over.taken;
+    given = over.given;
+    took = over.took;
+    within = over.within;
     legal = λ _. rw same over.legal;
     legal_for_all = λ _. rw same over.legal_for_all;
     over = λ _. rw same over.over;
     error = λ _. error;
     legal_so_far = rw same (complete_so_far (settings_of words) over.input r.journal over.legal);
-    legal_so_far_for_all = rw same (complete_for_all (settings_of words) e.left r.journal over.legal_for_all);
+    legal_so_far_for_all = rw same (complete_for_all (settings_of words) e.source.left r.journal over.legal_for_all);
     settled = λ h. absurd (not_cut ended.status status h);
     whole = λ _. rw same over.whole;
     torn = λ h. absurd (omega arith);
@@ -61,13 +65,15 @@ module _ (budget : ℕ) (words : List (List ℕ)) (e : Ends) (r : Run) (ended : 
   asking : SoFar (settings_of words) e budget r → r.reader.finished ≡ false → NoneSettled r → ended.status ≡ 6 → Ran budget words e ended
   asking s going none status = record {
     input = s.input;
-    taken = s.taken;
+    given = s.given;
+    took = s.took;
+    within = omega (arith, s.each going);
     legal = λ h. absurd (omega arith);
     legal_for_all = λ h. absurd (omega arith);
     over = λ h. absurd (omega arith);
     error = λ h. absurd (omega arith);
     legal_so_far = rw same (front_now (settings_of words) s.input r.reader.finished r.journal (had_front (settings_of words) s.input r s.answered));
-    legal_so_far_for_all = rw same (for_all (λ all. IsLegalSoFar (settings_of words) all r.journal) e.left e.now r.reader.finished s.input s.taken s.ended
+    legal_so_far_for_all = rw same (for_all (λ all. IsLegalSoFar (settings_of words) all r.journal) e.source.left e.source_now.left r.reader.finished s.input s.took.bytes s.ended
         (front_is (settings_of words) s.input r.reader.finished r.journal (had_front (settings_of words) s.input r s.answered)));
     settled = λ _. rw same (answered_settled (settings_of words) s.input r s.answered going none);
     whole = λ _. rw same s.whole;
@@ -77,7 +83,7 @@ module _ (budget : ℕ) (words : List (List ℕ)) (e : Ends) (r : Run) (ended : 
     words_untaken = not_refused;
     read = λ h. absurd (omega arith);
     write = λ h. absurd (omega arith);
-    long = λ _. s.many going;
+    long = λ _. (s.each going, omega (arith, s.each going, s.many));
   }
 
   settled_at : (k : ℕ) (halt : Halt) (input : List ℕ) → ended.status ≡ k → k < 6 → (k ≡ 3 → halt ≡ ReadFault) → (halt ≡ ReadFault → AnswersSettled (settings_of words) input ended.journal)
@@ -85,15 +91,17 @@ module _ (budget : ℕ) (words : List (List ℕ)) (e : Ends) (r : Run) (ended : 
   settled_at k halt input status high is settled (inl h) = settled (is (sym status ∙ h))
   settled_at k halt input status high is settled (inr h) = absurd (omega arith)
 
-  whole_at : (halt : Halt) → (halt ≡ WriteFault → ⊥) → WrittenAtHalt halt e.before e.written r.journal → IsWritten e.before e.written r.journal
+  whole_at : (halt : Halt) → (halt ≡ WriteFault → ⊥) → WrittenAtHalt halt e.sink e.sink_now r.journal → IsWritten e.sink e.sink_now r.journal
   whole_at Memory other written = written
   whole_at ReadFault other written = written
   whole_at WriteFault other written = absurd (other refl)
 
-  cut : (halt : Halt) (k : ℕ) → CutOff (settings_of words) halt e r → ended.status ≡ k → 2 < k → k < 6 → (k ≡ 3 → halt ≡ ReadFault) → (k ≡ 4 → halt ≡ WriteFault) → (halt ≡ WriteFault → k ≡ 4) → Ran budget words e ended
+  cut : (halt : Halt) (k : ℕ) → CutOff (settings_of words) halt e budget r → ended.status ≡ k → 2 < k → k < 6 → (k ≡ 3 → halt ≡ ReadFault) → (k ≡ 4 → halt ≡ WriteFault) → (halt ≡ WriteFault → k ≡ 4) → Ran budget words e ended
   cut halt k off status low high is_read is_write write_is = record {
     input = off.input;
-    taken = off.taken;
+    given = off.given;
+    took = off.took;
+    within = off.within;
     legal = λ h. absurd (omega arith);
     legal_for_all = λ h. absurd (omega arith);
     over = λ h. absurd (omega arith);
@@ -102,7 +110,7 @@ module _ (budget : ℕ) (words : List (List ℕ)) (e : Ends) (r : Run) (ended : 
     legal_so_far_for_all = rw same off.legal_for_all;
     settled = settled_at k halt off.input status high is_read (λ h. rw same (off.settled h));
     whole = λ other. rw same (whole_at halt (λ h. other (status ∙ write_is h)) off.written);
-    torn = λ h. rw same (subst (λ x. WrittenAtHalt x e.before e.written r.journal) (is_write (sym status ∙ h)) off.written);
+    torn = λ h. rw same (subst (λ x. WrittenAtHalt x e.sink e.sink_now r.journal) (is_write (sym status ∙ h)) off.written);
     note = note;
     words_refused = λ h. absurd (omega arith);
     words_untaken = not_refused;
@@ -119,13 +127,12 @@ module _ (budget : ℕ) (words : List (List ℕ)) (e : Ends) (r : Run) (ended : 
   ran (Err ReadFault) stands status error = cut ReadFault 3 stands status (omega arith) (omega arith) (λ _. refl) (λ h. absurd (omega arith)) (λ h. absurd cc)
   ran (Err WriteFault) stands status error = cut WriteFault 4 stands status (omega arith) (omega arith) (λ h. absurd (omega arith)) (λ _. refl) (λ _. refl)
 
-Appends-none : (a : Option (List ℕ)) → Appends a a []
-Appends-none None = tt
-Appends-none (Some a) = sym (append-nil a)
-
 Consumes-none : (a : Option (List ℕ)) → Consumes a a []
 Consumes-none None = tt
 Consumes-none (Some a) = refl
+
+none_took : (source : SourceTold) (sink : SinkTold) → Took (between source sink source sink) [] 0
+none_took source sink = record { bytes = Consumes-none source.left; calls = RoseBy-none source.given }
 
 none_so_far : (s : Settings) (input : List ℕ) → IsLegalSoFar s input []
 unfolding IsLegalSoFar
@@ -136,19 +143,21 @@ none_for_all s None = tt
 none_for_all s (Some all) = none_so_far s all
 
 -- a run that has ended before it began
-pub unbegun : (budget : ℕ) (words : List (List ℕ)) (left : Option (List ℕ)) (reads : ℕ) (before : Option (List ℕ)) (writes : ℕ) (ended : Ended) (error : WordsError)
-    → IsUnbegun error ended.status → IsCause words error → MatchesStatus ended.note ended.status → ended.journal ≡ [] → Ran budget words (between left reads before writes left reads before writes) ended
-unbegun budget words left reads before writes ended error status cause note none = record {
+pub unbegun : (budget : ℕ) (words : List (List ℕ)) (source : SourceTold) (sink : SinkTold) (ended : Ended) (error : WordsError)
+    → IsUnbegun error ended.status → IsCause words error → MatchesStatus ended.note ended.status → ended.journal ≡ [] → Ran budget words (between source sink source sink) ended
+unbegun budget words source sink ended error status cause note none = record {
   input = [];
-  taken = Consumes-none left;
+  given = 0;
+  took = none_took source sink;
+  within = omega arith;
   legal = λ h. absurd (not_low error ended.status status h);
   legal_for_all = λ h. absurd (not_low error ended.status status h);
   over = λ h. absurd (not_low error ended.status status h);
   error = λ h. absurd (not_low error ended.status status h);
   legal_so_far = rw none (none_so_far (settings_of words) []);
-  legal_so_far_for_all = rw none (none_for_all (settings_of words) left);
+  legal_so_far_for_all = rw none (none_for_all (settings_of words) source.left);
   settled = λ h. absurd (not_fault error ended.status status h);
-  whole = λ _. rw none (Appends-none before);
+  whole = λ _. rw none (Writes-none sink);
   torn = λ h. absurd (not_four error ended.status status h);
   note = note;
   words_refused = λ h. refused_by error ended.status status cause h;
@@ -180,15 +189,18 @@ unbegun budget words left reads before writes ended error status cause note none
   either WordsMemory status is = inr is
 
 -- a run that begins
-pub begun : (settings : Settings) (left : Option (List ℕ)) (reads : ℕ) (before : Option (List ℕ)) (writes : ℕ) (r : Run) → r.reader ≡ record { place = 0; bytes = []; finished = false } → r.stack ≡ start settings → r.journal ≡ []
-    → SoFar r.stack.settings (between left reads before writes left reads before writes) 0 r
-begun settings left reads before writes r er es ej = record {
+pub begun : (settings : Settings) (source : SourceTold) (sink : SinkTold) (r : Run) → r.reader ≡ record { place = 0; bytes = []; finished = false } → r.stack ≡ start settings → r.journal ≡ []
+    → SoFar r.stack.settings (between source sink source sink) 0 r
+begun settings source sink r er es ej = record {
   input = [];
-  taken = Consumes-none left;
-  many = λ _. omega arith;
+  given = 0;
+  took = none_took source sink;
+  many = omega arith;
+  each = λ _. refl;
+  but_one = λ over. absurd (not_true (sym (ap (λ (u : Unread). u.finished) er) ∙ over));
   few = rw er (omega arith);
   ended = λ over. absurd (not_true (sym (ap (λ (u : Unread). u.finished) er) ∙ over));
   answered = subst (λ t. HasAnswered t [] r) (sym (ap (λ (s : State). s.settings) es)) (begins settings r er es ej);
-  whole = rw ej (Appends-none before);
+  whole = rw ej (Writes-none sink);
   later = record { read = omega arith; write = omega arith };
 }

@@ -1,11 +1,11 @@
 -- What a turn does to a run.
-use Rattle.std.proofs.Common.{◌≡◌, ◌⊎◌, ℕ, ◌+◌, ◌<◌, List, [], ◌∷◌, ◌++◌, length, append_assoc, refl, sym, ap, subst, ◌∙◌, inl, inr, arith, length-append, append-nil, Bool, true, false, IsTrue, ◌↔◌, MatchOption, Option, Some, None, IfSome, IfErr, Result, Ok, Err, ◌≤◌}
-use Rattle.std.specs.Io.KnownBytes.{Appends, Consumes, Keeps, IsAtEnd}
+use Rattle.std.proofs.Common.{◌≡◌, ℕ, ◌+◌, ◌<◌, List, [], ◌∷◌, ◌++◌, length, append_assoc, refl, sym, ap, subst, ◌∙◌, inl, inr, arith, length-append, append-nil, add-zero, Bool, true, false, IsTrue, ◌↔◌, MatchOption, Option, Some, None, IfSome, IfErr, Result, Ok, Err, ◌≤◌}
+use Rattle.std.specs.Io.KnownBytes.{Consumes, Keeps, IsAtEnd}
 use Rattle.std.specs.Bool.{then_some}
 use Rattle.smt_meaning.specs.Reading.{Unread, Answer, MayFollow, IsSettled, Takes, ready, fault, end}
 use Rattle.smt_meaning.specs.declared.settings.Settings.{Settings}
 use Rattle.smt_meaning.specs.Commands.{start}
-use Rattle.smt_meaning.specs.Journal.{Moment, beginning, Answers, Replies, IsCommand, GoesOn, IsLast, Answered, Runs, IsLegal, IsLegalSoFar, IsStopped, AnswersSettled, journal_text}
+use Rattle.smt_meaning.specs.Journal.{Moment, beginning, Answers, Replies, IsCommand, GoesOn, IsLast, Answered, Runs, IsLegal, IsLegalSoFar, IsStopped, AnswersSettled}
 use Rattle.smt_meaning.specs.declared.tokens.Token.{Token}
 use Rattle.smt_meaning.specs.declared.replies.Entry.{Entry}
 use Rattle.smt_meaning.specs.declared.replies.Reply.{Reply}
@@ -18,15 +18,14 @@ use Rattle.smt_top.specs.Progress.{moment, HasAnswered, IsComplete, IsFront, IsO
 use Rattle.smt_top.specs.declared.serving.Stage.{Stage}
 use Rattle.smt_top.specs.declared.serving.Stage.TheVariants.{Asks, Complete}
 use Rattle.smt_top.specs.declared.serving.Run.{Run}
-use Rattle.smt_top.specs.Progress.{CutOff, WrittenAfter, WriteCause, WrittenAtHalt, IsWritten}
+use Rattle.smt_top.specs.Progress.{CutOff, Over, Took, IsDone, WrittenAfter, WriteCause, IsWritten}
 use Rattle.smt_top.specs.Ended.{HaltOf}
 use Rattle.smt_top.specs.declared.serving.Stop.{Stop}
 use Rattle.smt_top.specs.declared.serving.Stop.TheVariants.{Memory as StopMemory, WriteFault as StopWriteFault}
 use Rattle.smt_top.specs.declared.top.Halt.{Halt}
 use Rattle.smt_top.specs.declared.top.Halt.TheVariants.{Memory, ReadFault, WriteFault}
-use Rattle.ports.specs.Flow.{Rose}
-use Rattle.std.proofs.lemmas.Grind.{common_steps}
-use Rattle.std.proofs.Common.{take}
+use Rattle.ports.specs.Flow.{SourceTold, SinkTold, Rose, RoseBy}
+use Rattle.smt_top.proofs.Written.{RoseBy-twice}
 
 -- a run, and one entry more
 pub Runs-push : (old mid new : Moment) (es : List Entry) (e : Entry) → Runs old es mid → GoesOn mid e new → Runs old (es ++ e ∷ []) new
@@ -256,15 +255,32 @@ pub front_is : (s : Settings) (input : List ℕ) (finished : Bool) (journal : Li
 unfolding IsFront
 front_is s input finished journal h = h
 
+-- a source that gave more took more
+Took-more : (e : Ends) (next : SourceTold) (xs ys : List ℕ) (j k : ℕ) → Took e xs j → Consumes e.source_now.left next.left ys → RoseBy k e.source_now.given next.given → Took (at_source e next) (xs ++ ys) (j + k)
+Took-more e next xs ys j k took gave counts = record {
+  bytes = Consumes-twice e.source.left e.source_now.left next.left xs ys took.bytes gave;
+  calls = RoseBy-twice j k e.source.given e.source_now.given next.given took.calls counts;
+}
+
+-- a source that kept its bytes took none
+Took-kept : (e : Ends) (next : SourceTold) (xs : List ℕ) (j : ℕ) → Took e xs j → Keeps e.source_now.left next.left → RoseBy 0 e.source_now.given next.given → Took (at_source e next) xs j
+Took-kept e next xs j took kept counts = record {
+  bytes = Consumes-Keeps e.source.left e.source_now.left next.left xs took.bytes kept;
+  calls = subst (λ n. RoseBy n e.source.given next.given) (add-zero j) (RoseBy-twice j 0 e.source.given e.source_now.given next.given took.calls counts);
+}
+
 -- the source gave bytes, and the reader has them
-pub fed : (t : Settings) (e : Ends) (count : ℕ) (old new : Run) (bytes : List ℕ) (next : Option (List ℕ)) (faults : ℕ) → old.reader.finished ≡ false
-    → Consumes e.now next bytes → 0 < length bytes → length bytes ≤ 65536 → e.read_faults_now ≤ faults
+pub fed : (t : Settings) (e : Ends) (count : ℕ) (old new : Run) (bytes : List ℕ) (next : SourceTold) → old.reader.finished ≡ false
+    → Consumes e.source_now.left next.left bytes → RoseBy 1 e.source_now.given next.given → 0 < length bytes → length bytes ≤ 65536 → e.source_now.faults ≤ next.faults
     → new.reader ≡ record old.reader { bytes = old.reader.bytes ++ bytes } → new.stack ≡ old.stack → new.journal ≡ old.journal
-    → SoFar t e count old → SoFar t (at_source e next faults) (count + 1) new
-fed t e count old new bytes next faults going gave some most later er es ej s = record {
+    → SoFar t e count old → SoFar t (at_source e next) (count + 1) new
+fed t e count old new bytes next going gave counts some most later er es ej s = record {
   input = s.input ++ bytes;
-  taken = Consumes-twice e.left e.now next s.input bytes s.taken gave;
-  many = λ _. omega (arith, s.many going, length-append s.input bytes);
+  given = s.given + 1;
+  took = Took-more e next s.input bytes s.given 1 s.took gave counts;
+  many = omega (arith, s.many, length-append s.input bytes);
+  each = λ _. omega (arith, s.each going);
+  but_one = λ over. absurd (not_true (sym going ∙ sym (ap (λ (u : Unread). u.finished) er) ∙ over));
   few = rw er (omega (arith, s.few, length-append old.reader.bytes bytes));
   ended = λ over. absurd (not_true (sym going ∙ sym (ap (λ (u : Unread). u.finished) er) ∙ over));
   answered = feeds t old new s.input bytes going er es ej s.answered;
@@ -273,13 +289,17 @@ fed t e count old new bytes next faults going gave some most later er es ej s = 
 }
 
 -- the source is at its end, and the reader knows
-pub closed : (t : Settings) (e : Ends) (count : ℕ) (old new : Run) (next : Option (List ℕ)) (faults : ℕ) → Keeps e.now next → IsAtEnd next → e.read_faults_now ≤ faults
+pub closed : (t : Settings) (e : Ends) (count : ℕ) (old new : Run) (next : SourceTold) → old.reader.finished ≡ false
+    → Keeps e.source_now.left next.left → RoseBy 0 e.source_now.given next.given → IsAtEnd next.left → e.source_now.faults ≤ next.faults
     → new.reader ≡ record old.reader { finished = true } → new.stack ≡ old.stack → new.journal ≡ old.journal
-    → SoFar t e count old → SoFar t (at_source e next faults) (count + 1) new
-closed t e count old new next faults kept over later er es ej s = record {
+    → SoFar t e count old → SoFar t (at_source e next) (count + 1) new
+closed t e count old new next going kept counts over later er es ej s = record {
   input = s.input;
-  taken = Consumes-Keeps e.left e.now next s.input s.taken kept;
-  many = λ going. absurd (not_true (sym going ∙ ap (λ (u : Unread). u.finished) er));
+  given = s.given;
+  took = Took-kept e next s.input s.given s.took kept counts;
+  many = s.many;
+  each = λ other. absurd (not_true (sym other ∙ ap (λ (u : Unread). u.finished) er));
+  but_one = λ _. omega (arith, s.each going);
   few = rw er (omega (arith, s.few));
   ended = λ _. over;
   answered = finishes t old new s.input er es ej s.answered;
@@ -287,33 +307,44 @@ closed t e count old new next faults kept over later er es ej s = record {
   later = record { read = omega (arith, s.later.read); write = s.later.write };
 }
 
-over_by : (s : Settings) (e : Ends) (input : List ℕ) (r : Run) (finished : Bool) → r.reader.finished ≡ finished → (finished ≡ true → IsAtEnd e.now) → IsOver s input r → IsAtEnd e.now ⊎ IsStopped s input r.journal
-over_by s e input r finished same ended (inl is) = inl (ended (sym same ∙ is))
-over_by s e input r finished same ended (inr is) = inr is
+-- as many calls gave bytes as there were, or fewer
+given_within : (t : Settings) (e : Ends) (count : ℕ) (r : Run) (finished : Bool) → r.reader.finished ≡ finished → (s : SoFar t e count r) → s.given ≤ count
+given_within t e count r true same s = omega (arith, s.but_one same)
+given_within t e count r false same s = omega (arith, s.each same)
+
+done_by : (s : Settings) (e : Ends) (count given : ℕ) (input : List ℕ) (r : Run) (finished : Bool) → r.reader.finished ≡ finished → (finished ≡ true → IsAtEnd e.source_now.left) → (finished ≡ true → given < count)
+    → IsOver s input r → IsDone s e count input given r.journal
+done_by s e count given input r finished same ended fewer (inl is) = inl (ended (sym same ∙ is), fewer (sym same ∙ is))
+done_by s e count given input r finished same ended fewer (inr is) = inr is
 
 complete_now : (s : Settings) (input : List ℕ) (r : Run) → IsComplete s input r → IsLegal s input r.journal
 complete_now s input r complete = subst (λ bytes. IsLegal s bytes r.journal) (append-nil input) (complete_is s input r complete [] (nothing_follows r.reader.finished))
 
 -- what an advance of the run comes to
-pub advanced : (t : Settings) (e : Ends) (count : ℕ) (old new : Run) (stage : Stage) (next : Option (List ℕ)) (faults : ℕ) (s : SoFar t e count old)
+pub advanced : (t : Settings) (e : Ends) (count : ℕ) (old new : Run) (stage : Stage) (next : SinkTold) (s : SoFar t e count old)
     → new.reader.finished ≡ old.reader.finished → new.reader.place + length new.reader.bytes ≡ old.reader.place + length old.reader.bytes
-    → Comes t stage s.input new → Appends e.before next (journal_text new.journal) → e.write_faults_now ≤ faults
-    → Stands t (Ok stage) (at_sink e next faults) count new
-advanced t e count old new Complete next faults s same size comes whole later = record {
+    → Comes t stage s.input new → IsWritten e.sink next new.journal → e.sink_now.faults ≤ next.faults
+    → Stands t (Ok stage) (at_sink e next) count new
+advanced t e count old new Complete next s same size comes whole later = record {
   input = s.input;
-  taken = s.taken;
+  given = s.given;
+  took = record { bytes = s.took.bytes; calls = s.took.calls };
+  within = given_within t e count old old.reader.finished refl s;
   legal = complete_now t s.input new comes.0;
-  legal_for_all = for_all (λ all. IsLegal t all new.journal) e.left e.now old.reader.finished s.input s.taken s.ended
+  legal_for_all = for_all (λ all. IsLegal t all new.journal) e.source.left e.source_now.left old.reader.finished s.input s.took.bytes s.ended
       (subst (λ b. (more : List ℕ) → MayFollow b more → IsLegal t (s.input ++ more) new.journal) same (complete_is t s.input new comes.0));
-  over = over_by t e s.input new old.reader.finished same s.ended comes.1;
+  over = done_by t e count s.given s.input new old.reader.finished same s.ended s.but_one comes.1;
   whole = whole;
   later = record { read = s.later.read; write = omega (arith, s.later.write) };
 }
-advanced t e count old new Asks next faults s same size comes whole later = (
+advanced t e count old new Asks next s same size comes whole later = (
   record {
     input = s.input;
-    taken = s.taken;
-    many = λ going. s.many (sym same ∙ going);
+    given = s.given;
+    took = record { bytes = s.took.bytes; calls = s.took.calls };
+    many = s.many;
+    each = λ going. s.each (sym same ∙ going);
+    but_one = λ over. s.but_one (sym same ∙ over);
     few = omega (arith, s.few);
     ended = λ over. s.ended (sym same ∙ over);
     answered = comes.0;
@@ -332,18 +363,20 @@ Consumes-none (Some a) (Some b) p = sym p
 Rose-later : (a b c : ℕ) → a ≤ b → Rose b c → Rose a c
 Rose-later a b c l r = omega (arith, r)
 
-module _ (t : Settings) (e : Ends) (count : ℕ) (old new : Run) (s : SoFar t e count old) (next : Option (List ℕ)) (faults : ℕ)
+module _ (t : Settings) (e : Ends) (count : ℕ) (old new : Run) (s : SoFar t e count old) (next : SinkTold)
     (same : new.reader.finished ≡ old.reader.finished) (front : IsFront t s.input new.reader.finished new.journal) where
-  front_all : IfSome e.left (λ all. IsLegalSoFar t all new.journal)
-  front_all = for_all (λ all. IsLegalSoFar t all new.journal) e.left e.now old.reader.finished s.input s.taken s.ended
+  front_all : IfSome e.source.left (λ all. IsLegalSoFar t all new.journal)
+  front_all = for_all (λ all. IsLegalSoFar t all new.journal) e.source.left e.source_now.left old.reader.finished s.input s.took.bytes s.ended
       (subst (λ b. (more : List ℕ) → MayFollow b more → IsLegalSoFar t (s.input ++ more) new.journal) same (front_is t s.input new.reader.finished new.journal front))
 
   -- a fault of the sink, or want of memory, cuts the run off
-  pub cut_off : (stop : Stop) (halt : Halt) → HaltOf stop halt → WrittenAfter {T = Stage} (Err stop) e.before next new.journal → WriteCause {T = Stage} (Err stop) e.write_faults_now faults
-      → CutOff t halt (at_sink e next faults) new
+  pub cut_off : (stop : Stop) (halt : Halt) → HaltOf stop halt → WrittenAfter {T = Stage} (Err stop) e.sink next new.journal → WriteCause {T = Stage} (Err stop) e.sink_now.faults next.faults
+      → CutOff t halt (at_sink e next) count new
   cut_off StopMemory Memory is written cause = record {
     input = s.input;
-    taken = s.taken;
+    given = s.given;
+    took = record { bytes = s.took.bytes; calls = s.took.calls };
+    within = given_within t e count old old.reader.finished refl s;
     legal = front_now t s.input new.reader.finished new.journal front;
     legal_for_all = front_all;
     settled = λ h. absurd (cc h);
@@ -356,25 +389,29 @@ module _ (t : Settings) (e : Ends) (count : ℕ) (old new : Run) (s : SoFar t e 
   cut_off StopMemory WriteFault is written cause = absurd (cc is)
   cut_off StopWriteFault WriteFault is written cause = record {
     input = s.input;
-    taken = s.taken;
+    given = s.given;
+    took = record { bytes = s.took.bytes; calls = s.took.calls };
+    within = given_within t e count old old.reader.finished refl s;
     legal = front_now t s.input new.reader.finished new.journal front;
     legal_for_all = front_all;
     settled = λ h. absurd (cc h);
     written = written;
     later = record { read = s.later.read; write = omega (arith, s.later.write, cause.0) };
     read = λ h. absurd (cc h);
-    write = λ _. Rose-later e.write_faults e.write_faults_now faults s.later.write cause.1;
+    write = λ _. Rose-later e.sink.faults e.sink_now.faults next.faults s.later.write cause.1;
   }
   cut_off StopWriteFault Memory is written cause = absurd (cc is)
   cut_off StopWriteFault ReadFault is written cause = absurd (cc is)
 
 -- want of memory cuts a run off before it has taken anything
-pub cut_at_start : (t : Settings) (e : Ends) (count : ℕ) (r : Run) → SoFar t e count r → CutOff t Memory e r
+pub cut_at_start : (t : Settings) (e : Ends) (count : ℕ) (r : Run) → SoFar t e count r → CutOff t Memory e count r
 cut_at_start t e count r s = record {
   input = s.input;
-  taken = s.taken;
+  given = s.given;
+  took = s.took;
+  within = given_within t e count r r.reader.finished refl s;
   legal = front_now t s.input r.reader.finished r.journal (had_front t s.input r s.answered);
-  legal_for_all = for_all (λ all. IsLegalSoFar t all r.journal) e.left e.now r.reader.finished s.input s.taken s.ended
+  legal_for_all = for_all (λ all. IsLegalSoFar t all r.journal) e.source.left e.source_now.left r.reader.finished s.input s.took.bytes s.ended
       (front_is t s.input r.reader.finished r.journal (had_front t s.input r s.answered));
   settled = λ h. absurd (cc h);
   written = s.whole;
@@ -384,17 +421,20 @@ cut_at_start t e count r s = record {
 }
 
 -- want of memory for bytes that were taken cuts a run off as it stands
-pub cut_short : (t : Settings) (e : Ends) (count : ℕ) (r new : Run) (bytes : List ℕ) (next : Option (List ℕ)) (faults : ℕ) → r.reader.finished ≡ false → Consumes e.now next bytes → e.read_faults_now ≤ faults
-    → new.journal ≡ r.journal → SoFar t e count r → CutOff t Memory (at_source e next faults) new
-cut_short t e count r new bytes next faults going gave l ej s =
+pub cut_short : (t : Settings) (e : Ends) (count : ℕ) (r new : Run) (bytes : List ℕ) (next : SourceTold) → r.reader.finished ≡ false
+    → Consumes e.source_now.left next.left bytes → RoseBy 1 e.source_now.given next.given → e.source_now.faults ≤ next.faults
+    → new.journal ≡ r.journal → SoFar t e count r → CutOff t Memory (at_source e next) (count + 1) new
+cut_short t e count r new bytes next going gave counts l ej s =
     let before : IsFront t s.input false r.journal = subst (λ b. IsFront t s.input b r.journal) going (had_front t s.input r s.answered) in
     let front = unfed t s.input bytes r.journal before in
-    let taken = Consumes-twice e.left e.now next s.input bytes s.taken gave in
+    let took : Took (at_source e next) (s.input ++ bytes) (s.given + 1) = Took-more e next s.input bytes s.given 1 s.took gave counts in
     rw ej (record {
       input = s.input ++ bytes;
-      taken = taken;
+      given = s.given + 1;
+      took = took;
+      within = omega (arith, s.each going);
       legal = front_now t (s.input ++ bytes) false r.journal front;
-      legal_for_all = for_all (λ all. IsLegalSoFar t all r.journal) e.left next false (s.input ++ bytes) taken (λ over. absurd (not_true over))
+      legal_for_all = for_all (λ all. IsLegalSoFar t all r.journal) e.source.left next.left false (s.input ++ bytes) took.bytes (λ over. absurd (not_true over))
           (front_is t (s.input ++ bytes) false r.journal front);
       settled = λ h. absurd (cc h);
       written = s.whole;
@@ -404,19 +444,56 @@ cut_short t e count r new bytes next faults going gave l ej s =
     })
 
 -- a fault of the source cuts a run off
-pub read_fault : (t : Settings) (e : Ends) (count : ℕ) (r : Run) (next : Option (List ℕ)) (faults : ℕ) → r.reader.finished ≡ false → NoneSettled r → Keeps e.now next → e.read_faults_now ≤ faults → Rose e.read_faults_now faults
-    → SoFar t e count r → CutOff t ReadFault (at_source e next faults) r
-read_fault t e count r next faults going none kept l rose s =
+pub read_fault : (t : Settings) (e : Ends) (count : ℕ) (r : Run) (next : SourceTold) → r.reader.finished ≡ false → NoneSettled r
+    → Keeps e.source_now.left next.left → RoseBy 0 e.source_now.given next.given → e.source_now.faults ≤ next.faults → Rose e.source_now.faults next.faults
+    → SoFar t e count r → CutOff t ReadFault (at_source e next) (count + 1) r
+read_fault t e count r next going none kept counts l rose s =
     let front : IsFront t s.input false r.journal = subst (λ b. IsFront t s.input b r.journal) going (had_front t s.input r s.answered) in
-    let taken = Consumes-Keeps e.left e.now next s.input s.taken kept in
+    let took : Took (at_source e next) s.input s.given = Took-kept e next s.input s.given s.took kept counts in
     record {
       input = s.input;
-      taken = taken;
+      given = s.given;
+      took = took;
+      within = omega (arith, s.each going);
       legal = front_now t s.input false r.journal front;
-      legal_for_all = for_all (λ all. IsLegalSoFar t all r.journal) e.left next false s.input taken (λ over. absurd (not_true over)) (front_is t s.input false r.journal front);
+      legal_for_all = for_all (λ all. IsLegalSoFar t all r.journal) e.source.left next.left false s.input took.bytes (λ over. absurd (not_true over)) (front_is t s.input false r.journal front);
       settled = λ _. answered_settled t s.input r s.answered going none;
       written = s.whole;
       later = record { read = omega (arith, s.later.read); write = s.later.write };
-      read = λ _. Rose-later e.read_faults e.read_faults_now faults s.later.read rose;
+      read = λ _. (Rose-later e.source.faults e.source_now.faults next.faults s.later.read rose, omega (arith, s.each going));
       write = λ h. absurd (cc h);
     }
+
+done_later : (s : Settings) (e : Ends) (j k : ℕ) (input : List ℕ) (given : ℕ) (journal : List Entry) → j ≤ k → IsDone s e j input given journal → IsDone s e k input given journal
+done_later s e j k input given journal l (inl is) = inl (is.0, omega (arith, l, is.1))
+done_later s e j k input given journal l (inr is) = inr is
+
+-- a run that is over within so many calls is over within more
+pub over_later : (s : Settings) (e : Ends) (j k : ℕ) (r : Run) → j ≤ k → Over s e j r → Over s e k r
+over_later s e j k r l o = record {
+  input = o.input;
+  given = o.given;
+  took = o.took;
+  within = omega (arith, l, o.within);
+  legal = o.legal;
+  legal_for_all = o.legal_for_all;
+  over = done_later s e j k o.input o.given r.journal l o.over;
+  whole = o.whole;
+  later = o.later;
+}
+
+-- so it is with one that was cut off
+pub cut_later : (s : Settings) (halt : Halt) (e : Ends) (j k : ℕ) (r : Run) → j ≤ k → CutOff s halt e j r → CutOff s halt e k r
+cut_later s halt e j k r l o = record {
+  input = o.input;
+  given = o.given;
+  took = o.took;
+  within = omega (arith, l, o.within);
+  legal = o.legal;
+  legal_for_all = o.legal_for_all;
+  settled = o.settled;
+  written = o.written;
+  later = o.later;
+  read = λ h. let p = o.read h in (p.0, omega (arith, l, p.1));
+  write = o.write;
+}

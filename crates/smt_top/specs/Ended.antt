@@ -1,6 +1,5 @@
 -- How a run ends.
 use Rattle.std.specs.Prelude.{◌≡◌, ℕ, ◌≤◌, ◌<◌, ◌⊎◌, Any, ⊤, false, List, Result, Ok, Err, length, IfSome, ◌↔◌}
-use Rattle.std.specs.Io.KnownBytes.{Consumes, IsAtEnd}
 use Rattle.smt_meaning.specs.declared.replies.Entry.{Entry}
 use Rattle.smt_meaning.specs.declared.replies.Reply.{Reply}
 use Rattle.smt_meaning.specs.declared.replies.Reply.TheVariants.{Fault, Success, Silent, Sat, Unsat, Unsupported}
@@ -13,11 +12,11 @@ use Rattle.smt_top.specs.declared.top.Halt.TheVariants.{Memory, ReadFault, Write
 use Rattle.smt_top.specs.declared.top.Note.{Note}
 use Rattle.smt_top.specs.declared.top.Note.TheVariants.{Fine, Words, ReadFault as ReadNote, WriteFault as WriteNote, NoMemory, TooLong as LongNote}
 use Rattle.ports.specs.Flow.{Rose}
-use Rattle.smt_meaning.specs.Journal.{IsLegal, IsLegalSoFar, IsStopped, AnswersSettled}
+use Rattle.smt_meaning.specs.Journal.{IsLegal, IsLegalSoFar, AnswersSettled}
 use Rattle.smt_words.specs.Words.{are_taken, settings_of}
 use Rattle.smt_words.specs.declared.error.WordsError.{WordsError}
 use Rattle.smt_words.specs.declared.error.WordsError.TheVariants.{Refused, Memory as WordsMemory}
-use Rattle.smt_top.specs.Progress.{Ends, IsWritten, IsTorn}
+use Rattle.smt_top.specs.Progress.{Ends, Took, IsDone, IsWritten, IsTorn}
 use Rattle.smt_top.specs.declared.top.Ended.{Ended}
 
 abbrev pub HaltOf : Stop → Halt → Type 0
@@ -59,26 +58,29 @@ MatchesStatus LongNote status = status ≡ 6
 
 -- What a run comes to, between the ends of its source and its sink, where it took these words of the command line.
 pub record Ran (budget : ℕ) (words : List (List ℕ)) (e : Ends) (ended : Ended) : Type 0 where
-  -- The bytes that the source gave.
+  -- The bytes that the source gave, in so many calls that gave a byte or more. There are no more of these calls than the budget.
   pub input : List ℕ
-  pub taken : Consumes e.left e.now input
-  -- At the statuses 0 and 1 the journal is legal for them, and for all that the source has. They are all, unless an exit or a fault ended the run.
+  pub given : ℕ
+  pub took : Took e input given
+  pub within : given ≤ budget
+  -- At the statuses 0 and 1 the journal is legal for them, and for all that the source has. They are all, found so by a further call within the budget, unless an exit or a fault ended the run.
   pub legal : ended.status < 2 → IsLegal (settings_of words) input ended.journal
-  pub legal_for_all : ended.status < 2 → IfSome e.left (λ all. IsLegal (settings_of words) all ended.journal)
-  pub over : ended.status < 2 → IsAtEnd e.now ⊎ IsStopped (settings_of words) input ended.journal
+  pub legal_for_all : ended.status < 2 → IfSome e.source.left (λ all. IsLegal (settings_of words) all ended.journal)
+  pub over : ended.status < 2 → IsDone (settings_of words) e budget input given ended.journal
   pub error : ended.status < 2 → ((ended.status ≡ 1) ↔ IsFaulty ended.journal)
   -- At each status the journal is legal as far as it goes.
   pub legal_so_far : IsLegalSoFar (settings_of words) input ended.journal
-  pub legal_so_far_for_all : IfSome e.left (λ all. IsLegalSoFar (settings_of words) all ended.journal)
+  pub legal_so_far_for_all : IfSome e.source.left (λ all. IsLegalSoFar (settings_of words) all ended.journal)
   -- At 3 and 6 it answers exactly what the bytes settle.
   pub settled : (ended.status ≡ 3) ⊎ (ended.status ≡ 6) → AnswersSettled (settings_of words) input ended.journal
-  -- Its text is written, but for the last entry's at 4, of which a front is.
-  pub whole : (ended.status ≡ 4 → ⊥) → IsWritten e.before e.written ended.journal
-  pub torn : ended.status ≡ 4 → IsTorn e.before e.written ended.journal
+  -- Its text is written, but for the last entry's at 4, of which a front is. At each status there was one call of the sink for each reply that has a text, and no other.
+  pub whole : (ended.status ≡ 4 → ⊥) → IsWritten e.sink e.sink_now ended.journal
+  pub torn : ended.status ≡ 4 → IsTorn e.sink e.sink_now ended.journal
   -- When each status comes.
   pub note : MatchesStatus ended.note ended.status
   pub words_refused : ended.status ≡ 2 → are_taken words ≡ false
   pub words_untaken : are_taken words ≡ false → (ended.status ≡ 2) ⊎ (ended.status ≡ 5)
-  pub read : ended.status ≡ 3 → Rose e.read_faults e.read_faults_now
-  pub write : ended.status ≡ 4 → Rose e.write_faults e.write_faults_now
-  pub long : ended.status ≡ 6 → budget ≤ length input
+  pub read : ended.status ≡ 3 → Rose e.source.faults e.source_now.faults × (given < budget)
+  pub write : ended.status ≡ 4 → Rose e.sink.faults e.sink_now.faults
+  -- Of the calls within the budget each gave a byte or more, and another would be made.
+  pub long : ended.status ≡ 6 → (given ≡ budget) × (budget ≤ length input)

@@ -1,8 +1,8 @@
 -- How far a run has come.
-use Rattle.std.specs.Prelude.{◌≡◌, ℕ, ◌+◌, ◌*◌, ◌≤◌, ◌⊎◌, Bool, true, false, List, [], ◌∷◌, ◌++◌, length, take, Option, IfSome, Result, Ok, Err}
+use Rattle.std.specs.Prelude.{◌≡◌, ℕ, ◌+◌, ◌*◌, ◌≤◌, ◌<◌, ◌⊎◌, Bool, true, false, List, [], ◌∷◌, ◌++◌, length, take, sum_by, IfSome, Result, Ok, Err}
 use Rattle.std.specs.Io.KnownBytes.{Appends, Consumes, IsAtEnd}
 use Rattle.smt_meaning.specs.Reading.{Answer, IsSettled, MayFollow}
-use Rattle.smt_meaning.specs.Journal.{Moment, beginning, Answered, Runs, IsLegal, IsLegalSoFar, IsStopped, AnswersSettled, journal_text, text}
+use Rattle.smt_meaning.specs.Journal.{Moment, beginning, Runs, IsLegal, IsLegalSoFar, IsStopped, AnswersSettled, journal_text, text}
 use Rattle.smt_meaning.specs.declared.settings.Settings.{Settings}
 use Rattle.smt_meaning.specs.declared.replies.Entry.{Entry}
 use Rattle.smt_top.specs.declared.serving.Run.{Run}
@@ -12,7 +12,7 @@ use Rattle.smt_top.specs.declared.top.Halt.{Halt}
 use Rattle.smt_top.specs.declared.top.Halt.TheVariants.{Memory, ReadFault, WriteFault}
 use Rattle.smt_top.specs.declared.serving.Stage.{Stage}
 use Rattle.smt_top.specs.declared.serving.Stage.TheVariants.{Asks, Complete}
-use Rattle.ports.specs.Flow.{Rose}
+use Rattle.ports.specs.Flow.{SourceTold, SinkTold, Rose, RoseBy}
 
 -- The journal
 
@@ -47,26 +47,44 @@ Comes s Complete input r = IsComplete s input r × IsOver s input r
 
 -- What is written
 
--- The whole journal is written.
-abbrev pub IsWritten : Option (List ℕ) → Option (List ℕ) → List Entry → Type 0
-IsWritten before now journal = Appends before now (journal_text journal)
+-- How many calls of the sink a text takes: none where there is nothing to write.
+abbrev pub calls_for : List ℕ → ℕ
+calls_for [] = 0
+calls_for (x ∷ xs) = 1
 
--- All entries but the last are written, and a front of the last one's text.
-abbrev pub IsTorn : Option (List ℕ) → Option (List ℕ) → List Entry → Type 0
-IsTorn before now journal = (front : List Entry) × (last : Entry) × (n : ℕ) × (journal ≡ front ++ last ∷ []) × Appends before now (journal_text front ++ take n (text last.reply))
+-- How many calls of the sink the replies take, one for each that has a text.
+abbrev pub journal_calls : List Entry → ℕ
+journal_calls entries = sum_by (λ e. calls_for (text e.reply)) entries
 
--- What a put of a text comes to: all of it is written, or a front of it.
-abbrev pub PutAfter : {T : Type 0} → Result T Stop → Option (List ℕ) → Option (List ℕ) → List ℕ → Type 0
-PutAfter (Ok x) before now bytes = Appends before now bytes
+-- These bytes are written, by so many calls.
+pub record Writes (old new : SinkTold) (bytes : List ℕ) (calls : ℕ) : Type 0 where
+  pub appended : Appends old.written new.written bytes
+  pub called : RoseBy calls old.calls new.calls
+
+-- The whole journal is written, by one call for each reply that has a text.
+abbrev pub IsWritten : SinkTold → SinkTold → List Entry → Type 0
+IsWritten before now journal = Writes before now (journal_text journal) (journal_calls journal)
+
+-- All entries but the last are written, and a front of the last one's text. There was no call after that for it.
+pub record IsTorn (before now : SinkTold) (journal : List Entry) : Type 0 where
+  pub front : List Entry
+  pub last : Entry
+  pub taken : ℕ
+  pub entries : journal ≡ front ++ last ∷ []
+  pub written : Writes before now (journal_text front ++ take taken (text last.reply)) (journal_calls journal)
+
+-- What a put of a text comes to: all of it is written, or a front of it, by one call.
+abbrev pub PutAfter : {T : Type 0} → Result T Stop → SinkTold → SinkTold → List ℕ → Type 0
+PutAfter (Ok x) before now bytes = Writes before now bytes (calls_for bytes)
 PutAfter (Err StopMemory) before now bytes = ⊥
-PutAfter (Err StopWriteFault) before now bytes = (n : ℕ) × Appends before now (take n bytes)
+PutAfter (Err StopWriteFault) before now bytes = (n : ℕ) × Writes before now (take n bytes) (calls_for bytes)
 
 -- The entry stands in the journal where its text wasn't taken, and doesn't where memory was wanting.
 abbrev pub HasEntryAt : Stop → List Entry → Entry → List Entry → Type 0
 HasEntryAt StopMemory old entry new = new ≡ old
 HasEntryAt StopWriteFault old entry new = new ≡ old ++ entry ∷ []
 
-abbrev pub WrittenAfter : {T : Type 0} → Result T Stop → Option (List ℕ) → Option (List ℕ) → List Entry → Type 0
+abbrev pub WrittenAfter : {T : Type 0} → Result T Stop → SinkTold → SinkTold → List Entry → Type 0
 WrittenAfter (Ok x) before now journal = IsWritten before now journal
 WrittenAfter (Err StopMemory) before now journal = IsWritten before now journal
 WrittenAfter (Err StopWriteFault) before now journal = IsTorn before now journal
@@ -79,90 +97,92 @@ WriteCause (Err StopWriteFault) before now = (before ≤ now) × Rose before now
 
 -- The two ends
 
--- The two ends of a run, at its start and now: the bytes left in the source, the bytes written to the sink, and how many of their calls failed.
+-- The two ends of a run, at its start and now: what the source tells, and what the sink tells.
 pub record Ends : Type 0 where
-  pub left : Option (List ℕ)
-  pub now : Option (List ℕ)
-  pub before : Option (List ℕ)
-  pub written : Option (List ℕ)
-  pub read_faults : ℕ
-  pub read_faults_now : ℕ
-  pub write_faults : ℕ
-  pub write_faults_now : ℕ
+  pub source : SourceTold
+  pub source_now : SourceTold
+  pub sink : SinkTold
+  pub sink_now : SinkTold
 
 -- The ends of a run that began with this source and sink, and is at these now.
-abbrev pub between : Option (List ℕ) → ℕ → Option (List ℕ) → ℕ → Option (List ℕ) → ℕ → Option (List ℕ) → ℕ → Ends
-between left reads before writes now reads_now written writes_now = record {
-  left = left;
-  now = now;
-  before = before;
-  written = written;
-  read_faults = reads;
-  read_faults_now = reads_now;
-  write_faults = writes;
-  write_faults_now = writes_now;
+abbrev pub between : SourceTold → SinkTold → SourceTold → SinkTold → Ends
+between source sink source_now sink_now = record {
+  source = source;
+  source_now = source_now;
+  sink = sink;
+  sink_now = sink_now;
 }
 
 -- The ends now, where the source or the sink is this.
-abbrev pub IsAtSource : Ends → Option (List ℕ) → ℕ → Type 0
-IsAtSource e now faults = (e.now ≡ now) × (e.read_faults_now ≡ faults)
+abbrev pub at_source : Ends → SourceTold → Ends
+at_source e now = record e { source_now = now }
 
-abbrev pub IsAtSink : Ends → Option (List ℕ) → ℕ → Type 0
-IsAtSink e written faults = (e.written ≡ written) × (e.write_faults_now ≡ faults)
-
-abbrev pub at_source : Ends → Option (List ℕ) → ℕ → Ends
-at_source e now faults = record e { now = now; read_faults_now = faults }
-
-abbrev pub at_sink : Ends → Option (List ℕ) → ℕ → Ends
-at_sink e written faults = record e { written = written; write_faults_now = faults }
+abbrev pub at_sink : Ends → SinkTold → Ends
+at_sink e now = record e { sink_now = now }
 
 -- No count of faults fell.
 pub record Later (e : Ends) : Type 0 where
-  pub read : e.read_faults ≤ e.read_faults_now
-  pub write : e.write_faults ≤ e.write_faults_now
+  pub read : e.source.faults ≤ e.source_now.faults
+  pub write : e.sink.faults ≤ e.sink_now.faults
+
+-- What a run took from its source: these bytes, in so many calls that gave a byte or more.
+pub record Took (e : Ends) (input : List ℕ) (given : ℕ) : Type 0 where
+  pub bytes : Consumes e.source.left e.source_now.left input
+  pub calls : RoseBy given e.source.given e.source_now.given
 
 -- How a run stands
 
--- A run that goes on: it took these bytes from the source, at least so many while more may come and at most 65536 times as many, and answered and wrote what was ready of them.
+-- A run that goes on after so many calls of the source: each gave a byte or more, at least one and at most 65536, unless one was the end; and what was ready of the bytes is answered and written.
 pub record SoFar (s : Settings) (e : Ends) (count : ℕ) (r : Run) : Type 0 where
   pub input : List ℕ
-  pub taken : Consumes e.left e.now input
-  pub many : r.reader.finished ≡ false → count ≤ length input
+  pub given : ℕ
+  pub took : Took e input given
+  pub many : given ≤ length input
+  pub each : r.reader.finished ≡ false → given ≡ count
+  pub but_one : r.reader.finished ≡ true → given < count
   pub few : r.reader.place + length r.reader.bytes ≤ 65536 * count
-  pub ended : r.reader.finished ≡ true → IsAtEnd e.now
+  pub ended : r.reader.finished ≡ true → IsAtEnd e.source_now.left
   pub answered : HasAnswered s input r
-  pub whole : IsWritten e.before e.written r.journal
+  pub whole : IsWritten e.sink e.sink_now r.journal
   pub later : Later e
+
+-- Why a run is over after at most so many calls of the source: one of them was at the end, or an exit or a fault was answered.
+abbrev pub IsDone : Settings → Ends → ℕ → List ℕ → ℕ → List Entry → Type 0
+IsDone s e count input given journal = (IsAtEnd e.source_now.left × (given < count)) ⊎ IsStopped s input journal
 
 -- A run that is over: its journal is legal for the bytes that it took and for all that the source has, and is written.
-pub record Over (s : Settings) (e : Ends) (r : Run) : Type 0 where
+pub record Over (s : Settings) (e : Ends) (count : ℕ) (r : Run) : Type 0 where
   pub input : List ℕ
-  pub taken : Consumes e.left e.now input
+  pub given : ℕ
+  pub took : Took e input given
+  pub within : given ≤ count
   pub legal : IsLegal s input r.journal
-  pub legal_for_all : IfSome e.left (λ all. IsLegal s all r.journal)
-  pub over : IsAtEnd e.now ⊎ IsStopped s input r.journal
-  pub whole : IsWritten e.before e.written r.journal
+  pub legal_for_all : IfSome e.source.left (λ all. IsLegal s all r.journal)
+  pub over : IsDone s e count input given r.journal
+  pub whole : IsWritten e.sink e.sink_now r.journal
   pub later : Later e
 
-abbrev pub WrittenAtHalt : Halt → Option (List ℕ) → Option (List ℕ) → List Entry → Type 0
+abbrev pub WrittenAtHalt : Halt → SinkTold → SinkTold → List Entry → Type 0
 WrittenAtHalt Memory before now journal = IsWritten before now journal
 WrittenAtHalt ReadFault before now journal = IsWritten before now journal
 WrittenAtHalt WriteFault before now journal = IsTorn before now journal
 
--- A run that was cut off, by a fault where its count rose: its journal is legal as far as it goes, and is written up to the entry whose text wasn't taken. Where the source failed it answers all that is settled.
-pub record CutOff (s : Settings) (halt : Halt) (e : Ends) (r : Run) : Type 0 where
+-- A run that was cut off after at most so many calls of the source, by a fault where its count rose: its journal is legal as far as it goes, and is written up to the entry whose text wasn't taken. Where the source failed it answers all that is settled.
+pub record CutOff (s : Settings) (halt : Halt) (e : Ends) (count : ℕ) (r : Run) : Type 0 where
   pub input : List ℕ
-  pub taken : Consumes e.left e.now input
+  pub given : ℕ
+  pub took : Took e input given
+  pub within : given ≤ count
   pub legal : IsLegalSoFar s input r.journal
-  pub legal_for_all : IfSome e.left (λ all. IsLegalSoFar s all r.journal)
+  pub legal_for_all : IfSome e.source.left (λ all. IsLegalSoFar s all r.journal)
   pub settled : halt ≡ ReadFault → AnswersSettled s input r.journal
-  pub written : WrittenAtHalt halt e.before e.written r.journal
+  pub written : WrittenAtHalt halt e.sink e.sink_now r.journal
   pub later : Later e
-  pub read : halt ≡ ReadFault → Rose e.read_faults e.read_faults_now
-  pub write : halt ≡ WriteFault → Rose e.write_faults e.write_faults_now
+  pub read : halt ≡ ReadFault → Rose e.source.faults e.source_now.faults × (given < count)
+  pub write : halt ≡ WriteFault → Rose e.sink.faults e.sink_now.faults
 
 -- How a run stands after a call.
 abbrev pub Stands : Settings → Result Stage Halt → Ends → ℕ → Run → Type 0
-Stands s (Ok Complete) e count r = Over s e r
+Stands s (Ok Complete) e count r = Over s e count r
 Stands s (Ok Asks) e count r = SoFar s e count r × (r.reader.finished ≡ false) × NoneSettled r
-Stands s (Err halt) e count r = CutOff s halt e r
+Stands s (Err halt) e count r = CutOff s halt e count r

@@ -9,7 +9,7 @@ mod stack;
 mod step;
 mod top;
 
-pub use top::{Ended, Note, run, run_within};
+pub use top::{Ended, Note, run, run_within, unbegun};
 
 #[cfg(test)]
 mod tests;

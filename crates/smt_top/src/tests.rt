@@ -1,7 +1,8 @@
 use crate::{Note, run, run_within};
-use ports::{CalmSink, CalmSource, MemSink, MemSource, OpenGate};
+use ports::{CalmSink, CalmSource, MemSink, MemSource, More, OpenGate, Put, Sink, Source};
 use smt_meaning::{Bytes, Kept};
 use std::alloc::{AllocError, Global};
+use std::cell::Cell;
 use std::test::Fail;
 
 /// The words of a line, cut at single spaces.
@@ -259,13 +260,97 @@ fn reads_words(rt: HostRuntime) -> Result<(), Fail> {
 fn stops_at_the_budget(rt: HostRuntime) -> Result<(), Fail> {
     let alloc = rt.alloc();
     let words = words_of(alloc, "smt_cli")?;
-    for (budget, status, note) in [(2, 6, Note::TooLong), (6, 0, Note::Fine)] {
-        let mut source = MemSource::new(b"(exit)".to_vec(alloc)?, 1, Vec::new(alloc));
+    let check = b"(check-sat)".as_slice();
+    let three = b"(check-sat)(check-sat)(check-sat)".as_slice();
+    // A call that finds the end is within the budget too.
+    for (script, piece, budget, status, note, want) in [
+        (b"(exit)".as_slice(), 1, 2, 6, Note::TooLong, b"".as_slice()),
+        (b"(exit)", 1, 6, 0, Note::Fine, b"success\n"),
+        (check, 11, 2, 0, Note::Fine, b"sat\n"),
+        (check, 11, 1, 6, Note::TooLong, b"sat\n"),
+        (three, 11, 2, 6, Note::TooLong, b"sat\nsat\n"),
+        (three, 11, 4, 0, Note::Fine, b"sat\nsat\nsat\n"),
+        (three, 99, 2, 0, Note::Fine, b"sat\nsat\nsat\n"),
+    ] {
+        let mut source = MemSource::new(script.to_vec(alloc)?, piece, Vec::new(alloc));
         let mut sink = MemSink::new(alloc, 20, Vec::new(alloc))?;
         let ended = run_within(alloc, budget, &words, &mut source, &mut sink, &OpenGate);
         assert_eq!(rt; ended.status, status);
         assert_eq!(rt; ended.note, note);
-        assert_eq!(rt; sink.written().is_empty(), status == 6);
+        assert_eq!(rt; sink.written(), want);
+    }
+    Ok(())
+}
+
+/// A source that notes at each call how many bytes have been written by then, and gives one byte a call.
+#[derive(Drop)]
+struct Watching<'a> {
+    source: CalmSource,
+    written: &'a Cell<usize>,
+    seen: Vec<usize>,
+}
+
+impl Source for Watching<'_> {
+    ghost use Rattle.std.specs.Prelude.{None};
+
+    ghost told = { λ _. record {
+      left = None;
+      given = None;
+      faults = 0;
+    } };
+
+    fn more(&mut self, buf: &mut [u8]) -> More {
+        let _ = self.seen.push(self.written.get());
+        self.source.more(buf)
+    }
+}
+
+/// A sink that counts the bytes written.
+#[derive(Drop)]
+struct Counting<'a> {
+    written: &'a Cell<usize>,
+}
+
+impl Sink for Counting<'_> {
+    ghost use Rattle.std.specs.Prelude.{None};
+
+    ghost told = { λ _. record {
+      written = None;
+      calls = None;
+      faults = 0;
+    } };
+
+    fn put(&mut self, bytes: &[u8]) -> Put {
+        let count = self.written.get();
+        self.written.set(count.saturating_add(bytes.len()));
+        Put::Ok
+    }
+}
+
+#[test]
+fn answers_what_is_whole_before_it_asks_again(rt: HostRuntime) -> Result<(), Fail> {
+    let alloc = rt.alloc();
+    let words = words_of(alloc, "smt_cli")?;
+    let script = b"(set-logic QF_UF)(check-sat)(exit)(check-sat)";
+    let written = Cell::new(0);
+    let mut source = Watching {
+        source: CalmSource::new(script.to_vec(alloc)?, 1),
+        written: &written,
+        seen: Vec::new(alloc),
+    };
+    let mut sink = Counting { written: &written };
+    let ended = run(alloc, &words, &mut source, &mut sink, &OpenGate);
+    assert_eq!(rt; ended.status, 0);
+    assert_eq!(rt; written.get(), 20);
+    // The commands end at the bytes 17, 28 and 34, and none is asked for after the last.
+    assert_eq!(rt; source.seen.len(), 34);
+    for (taken, seen) in source.seen.iter().enumerate() {
+        let want = match taken {
+            0..17 => 0,
+            17..28 => 8,
+            _ => 12,
+        };
+        assert_eq!(rt; *seen, want, "after {taken} bytes");
     }
     Ok(())
 }

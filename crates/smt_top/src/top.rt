@@ -2,7 +2,7 @@ ghost use Rattle.std.specs.Prelude.{◌≡◌, ◌≤◌, ◌<◌, ◌↔◌, �
 ghost use Rattle.smt_meaning.specs.declared.settings.Settings.{Settings as SettingsValue};
 ghost use Rattle.smt_meaning.specs.Journal.{journal_text};
 ghost use Rattle.smt_words.specs.Words.{are_taken};
-ghost use Rattle.smt_top.specs.Progress.{CutOff, Ends, IsAtSink, IsAtSource, NoneSettled, SoFar, Stands, at_sink, at_source, between};
+ghost use Rattle.smt_top.specs.Progress.{CutOff, Ends, NoneSettled, SoFar, Stands, at_sink, at_source, between};
 ghost use Rattle.smt_top.specs.Ended.{IsFaulty, IsUnbegun, MatchesStatus, Ran, StatusOf};
 
 use crate::serving::{Run, Stage, Stop};
@@ -80,10 +80,8 @@ fn drive<S: Source, K: Sink>(
     run: &mut Run,
 ) -> Result<Stage, Halt>
     requires budget { budget ≤ 2 ^ 40 }
-    requires begun { SoFar run.old.stack.settings (between (S.left source.old) (S.faults source.old) (K.written sink.old) (K.faults sink.old)
-        (S.left source.old) (S.faults source.old) (K.written sink.old) (K.faults sink.old)) 0 run.old }
-    ensures stands { Stands run.old.stack.settings result (between (S.left source.old) (S.faults source.old) (K.written sink.old) (K.faults sink.old)
-        (S.left source.new) (S.faults source.new) (K.written sink.new) (K.faults sink.new)) budget run.new }
+    requires begun { SoFar run.old.stack.settings (between (S.told source.old) (K.told sink.old) (S.told source.old) (K.told sink.old)) 0 run.old }
+    ensures stands { Stands run.old.stack.settings result (between (S.told source.old) (K.told sink.old) (S.told source.new) (K.told sink.new)) budget run.new }
     ensures silent { journal_text run.new.journal ≡ [] → sink.new ≡ sink.old }
 {
     let mut buf = vec![in alloc; 0u8; 65536]?;
@@ -100,8 +98,8 @@ fn drive<S: Source, K: Sink>(
 
 /// Answers all that is ready.
 fn advance<K: Sink>(alloc: Global, sink: &mut K, run: &mut Run) -> Result<Stage, Halt>
-    ensures stands { (s : SettingsValue) (e : Ends) (count : ℕ) → SoFar s e count run.old → IsAtSink e (K.written sink.old) (K.faults sink.old)
-        → Stands s result (at_sink e (K.written sink.new) (K.faults sink.new)) count run.new }
+    ensures stands { (s : SettingsValue) (e : Ends) (count : ℕ) → SoFar s e count run.old → e.sink_now ≡ K.told sink.old
+        → Stands s result (at_sink e (K.told sink.new)) count run.new }
     ensures silent { journal_text run.new.journal ≡ [] → (journal_text run.old.journal ≡ []) × (sink.new ≡ sink.old) }
 {
     let stage = run.serve(alloc, sink)?;
@@ -114,10 +112,10 @@ fn take_more<S: Source>(source: &mut S, buf: &mut [u8], run: &mut Run) -> Result
     requires settled { NoneSettled run.old }
     requires buffer { length buf.old ≡ 65536 }
     requires room { run.old.reader.place + length run.old.reader.bytes + 65536 < 2 ^ 64 }
-    ensures ok { OnOk result ((s : SettingsValue) (e : Ends) (count : ℕ) → SoFar s e count run.old → IsAtSource e (S.left source.old) (S.faults source.old)
-        → SoFar s (at_source e (S.left source.new) (S.faults source.new)) (count + 1) run.new) }
-    ensures err { IfErr result (λ halt. (s : SettingsValue) (e : Ends) (count : ℕ) → SoFar s e count run.old → IsAtSource e (S.left source.old) (S.faults source.old)
-        → CutOff s halt (at_source e (S.left source.new) (S.faults source.new)) run.new) }
+    ensures ok { OnOk result ((s : SettingsValue) (e : Ends) (count : ℕ) → SoFar s e count run.old → e.source_now ≡ S.told source.old
+        → SoFar s (at_source e (S.told source.new)) (count + 1) run.new) }
+    ensures err { IfErr result (λ halt. (s : SettingsValue) (e : Ends) (count : ℕ) → SoFar s e count run.old → e.source_now ≡ S.told source.old
+        → CutOff s halt (at_source e (S.told source.new)) (count + 1) run.new) }
     ensures journal { run.new.journal ≡ run.old.journal }
 {
     match source.more(buf) {
@@ -137,8 +135,7 @@ pub fn run<S: Source, K: Sink, G: Gate>(
     sink: &mut K,
     gate: &G,
 ) -> Ended
-    ensures ran { Ran (2 ^ 40) (map string_bytes words.now.items) (between (S.left source.old) (S.faults source.old) (K.written sink.old) (K.faults sink.old)
-        (S.left source.new) (S.faults source.new) (K.written sink.new) (K.faults sink.new)) result }
+    ensures ran { Ran (2 ^ 40) (map string_bytes words.now.items) (between (S.told source.old) (K.told sink.old) (S.told source.new) (K.told sink.new)) result }
     ensures untouched { are_taken (map string_bytes words.now.items) ≡ false → (source.new ≡ source.old) × (sink.new ≡ sink.old) × (result.journal ≡ []) }
     ensures silent { journal_text result.journal ≡ [] → sink.new ≡ sink.old }
 {
@@ -156,8 +153,7 @@ pub fn run_within<S: Source, K: Sink, G: Gate>(
     gate: &G,
 ) -> Ended
     requires { budget ≤ 2 ^ 40 }
-    ensures ran { Ran budget (map string_bytes words.now.items) (between (S.left source.old) (S.faults source.old) (K.written sink.old) (K.faults sink.old)
-        (S.left source.new) (S.faults source.new) (K.written sink.new) (K.faults sink.new)) result }
+    ensures ran { Ran budget (map string_bytes words.now.items) (between (S.told source.old) (K.told sink.old) (S.told source.new) (K.told sink.new)) result }
     ensures untouched { are_taken (map string_bytes words.now.items) ≡ false → (source.new ≡ source.old) × (sink.new ≡ sink.old) × (result.journal ≡ []) }
     ensures silent { journal_text result.journal ≡ [] → sink.new ≡ sink.old }
 {
@@ -172,8 +168,8 @@ pub fn run_within<S: Source, K: Sink, G: Gate>(
     }
 }
 
-/// A run that has ended before it began.
-fn unbegun(alloc: Global, error: WordsError) -> Ended
+/// A run that has ended before it began, since there are no settings for it.
+pub fn unbegun(alloc: Global, error: WordsError) -> Ended
     ensures journal { result.journal ≡ [] }
     ensures status { IsUnbegun error result.status }
     ensures note { MatchesStatus result.note result.status }

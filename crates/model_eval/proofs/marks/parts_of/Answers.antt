@@ -1,11 +1,25 @@
-use Rattle.std.proofs.Common.{◌≡◌, ◌+◌, set, replicate, true, false, sym, ap, ◌∙◌, subst, refl, arith}
+use Rattle.std.proofs.Common.{◌≡◌, ◌∙◌, length, replicate, false, sym, ap, arith}
+use Rattle.std.proofs.lemmas.List.{length-replicate}
 use Rattle.std.proofs.lemmas.Grind.{common_steps}
-use Rattle.model_eval.specs.Walk.{AreMarked}
-use Rattle.model_eval.proofs.MarkLemmas.{marked_start}
 use Rattle.model_eval.proofs.marks.parts_of.Goals as goal
 
-pub mark_parts-requires-clause-start : goal.mark_parts-requires-clause-start
-mark_parts-requires-clause-start c =
-    let e : c.resize.new.self.items ≡ replicate (c.args.term + 1) false = grind (arith, common_steps) in
-    subst (AreMarked c.args.store.now.trees c.args.term (c.args.term + 1)) (sym (c.deref_mut.ensures.value ∙ ap (λ ms. set ms c.args.term true) e))
-    (marked_start c.args.store.now.trees c.args.term (c.args.term + 1) refl)
+pub mark-requires-clause-fresh : goal.mark-requires-clause-fresh
+mark-requires-clause-fresh c =
+    let e : c.resize.new.self.items ≡ replicate c.top_of.result false = grind (arith, common_steps) in
+    let f : c.deref_mut.result.now ≡ replicate c.top_of.result false = c.deref_mut.ensures.value ∙ e in
+    f ∙ ap (λ n. replicate n false) (sym (ap length f ∙ length-replicate c.top_of.result false))
+
+pub mark-requires-clause-within : goal.mark-requires-clause-within
+mark-requires-clause-within c =
+    let e : c.resize.new.self.items ≡ replicate c.top_of.result false = grind (arith, common_steps) in
+    let size : length c.deref_mut.result.now ≡ c.top_of.result = ap length (c.deref_mut.ensures.value ∙ e) ∙ length-replicate c.top_of.result false in
+    let least = c.top_of.ensures.least (length c.args.store.now.trees) c.requires in
+    omega arith
+
+pub returns-clause-within : goal.returns-clause-within
+returns-clause-within c =
+    let e : c.resize.new.self.items ≡ replicate c.top_of.result false = grind (arith, common_steps) in
+    let size : length c.deref_mut.result.now ≡ c.top_of.result = ap length (c.deref_mut.ensures.value ∙ e) ∙ length-replicate c.top_of.result false in
+    let least = c.top_of.ensures.least (length c.args.store.now.trees) c.requires in
+    let marked = c.mark.ensures.size in
+    grind (arith, common_steps)

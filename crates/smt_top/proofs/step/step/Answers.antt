@@ -1,9 +1,9 @@
-use Rattle.std.proofs.Common.{◌≡◌, arith, inl, inr, sym, ◌∙◌, subst, List, ℕ, refl, Bool, true, false, [], ◌∷◌, Result, Ok, Err, IfOk}
+use Rattle.std.proofs.Common.{◌≡◌, arith, inl, inr, sym, ◌∙◌, subst, List, ℕ, refl, Bool, true, false, ◌∷◌, Result, Ok, Err, IfOk}
 use Rattle.std.specs.declared.alloc.AllocError.{AllocError}
 use Rattle.std.specs.Prelude.{codes}
 use Rattle.smt_meaning.specs.declared.replies.ConstantLiteral.{ConstantLiteral}
 use Rattle.smt_top.specs.declared.step.Done.{Done}
-use Rattle.smt_meaning.specs.declared.tokens.Token.TheVariants.{Enter, Leave, Symbol}
+use Rattle.smt_meaning.specs.declared.tokens.Token.TheVariants.{Enter, Symbol}
 use Rattle.smt_meaning.specs.declared.replies.Command.TheVariants.{SetLogic, SetPrintSuccess, DeclareConst, Assert, CheckSat, Exit}
 use Rattle.smt_meaning.specs.Commands.{State, command_tokens, IsAccepted}
 use Rattle.smt_meaning.specs.Journal.{Replies}

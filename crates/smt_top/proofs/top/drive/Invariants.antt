@@ -6,7 +6,7 @@ use Rattle.smt_top.proofs.top.drive.Given as goal
 abbrev pub invariant-loop-turn : goal.invariant-loop-turn
 invariant-loop-turn g l = record {
   buffer : vec_len l.buf ≡ 65536;
-  stands : Stands l.fn.run.stack.settings (Ok l.stage) (between (g.S.Source.left l.fn.source) (g.S.Source.faults l.fn.source) (g.K.Sink.written l.fn.sink) (g.K.Sink.faults l.fn.sink)
-      (g.S.Source.left l.source) (g.S.Source.faults l.source) (g.K.Sink.written l.sink) (g.K.Sink.faults l.sink)) l.turn l.run;
+  stands : Stands l.fn.run.stack.settings (Ok l.stage) (between (g.S.Source.told l.fn.source) (g.K.Sink.told l.fn.sink)
+      (g.S.Source.told l.source) (g.K.Sink.told l.sink)) l.turn l.run;
   silent : journal_text l.run.journal ≡ [] → l.sink ≡ l.fn.sink;
 }

@@ -1,4 +1,4 @@
-use Rattle.std.proofs.Common.{◌≡◌, refl, ap, sym, ◌∙◌}
+use Rattle.std.proofs.Common.{refl, ap}
 use Rattle.smt_meaning.specs.Reading.{Unread}
 use Rattle.smt_top.proofs.Turns.{at_err, next, faults, ends, asks, reply_cut, fault_cut, idle_cut}
 use Rattle.smt_top.proofs.serving.Run.serve_next.Goals as goal

@@ -1,7 +1,7 @@
 use Rattle.std.proofs.Common.{◌≡◌, length}
 use Rattle.smt_meaning.specs.Interpretation.{meaning}
 use Rattle.model_eval.specs.Walk.{AreKept}
-use Rattle.model_eval.proofs.value.Given as goal
+use Rattle.model_eval.proofs.evaluated.Given as goal
 
 abbrev pub invariant-loop-id : goal.invariant-loop-id
 invariant-loop-id l = record {

@@ -1,0 +1,88 @@
+//! What the program does round a run: it takes the words of its command line, runs between two
+//! ends, says on a third why the run ended, and gives the status to exit with.
+#![tactic(auto)]
+
+ghost use Rattle.std.specs.Prelude.{◌≡◌, [], length};
+ghost use Rattle.std.specs.Process.{exit_status};
+ghost use Rattle.smt_top.specs.Progress.{between};
+ghost use Rattle.smt_top.specs.declared.top.Ended.{Ended as EndedValue};
+ghost use Rattle.smt_program.specs.Program.{IsServed, IsSaid, line_of};
+
+mod line;
+#[cfg(test)]
+mod tests;
+mod words;
+
+use line::line;
+use ports::{Gate, OpenGate, ReadSource, Sink, Source, WriteSink};
+use smt_top::{Ended, run, unbegun};
+use smt_words::WordsError;
+use std::alloc::Global;
+use std::env;
+use std::process::ExitCode;
+pub use words::words_of;
+
+/// Runs the script that the source gives, where there are words of the command line.
+fn serve<S: Source, K: Sink>(
+    alloc: Global,
+    words: &Result<Vec<String>, WordsError>,
+    source: &mut S,
+    sink: &mut K,
+) -> Ended
+    ensures { IsServed words.now (between (S.told source.old) (K.told sink.old) (S.told source.new) (K.told sink.new)) result }
+{
+    match words {
+        Ok(words) => run(alloc, words, source, sink, &OpenGate),
+        Err(error) => unbegun(alloc, *error),
+    }
+}
+
+/// Puts a text into a sink, if there is any. Where the sink takes nothing, the program's status
+/// still tells.
+fn say<E: Sink>(errors: &mut E, text: &[u8])
+    ensures said { IsSaid text.now (E.told errors.old) (E.told errors.new) }
+    ensures silent { text.now ≡ [] → errors.new ≡ errors.old }
+{
+    if text.is_empty() {
+        return;
+    }
+    let _ = errors.put(text);
+}
+
+/// Says why a run ended, where the replies don't say all, and gives the status to exit with.
+fn conclude<E: Sink>(errors: &mut E, ended: &Ended) -> ExitCode
+    ensures status { exit_status result ≡ ended.now.status }
+    ensures said { IsSaid (line_of ended.now.note) (E.told errors.old) (E.told errors.new) }
+    ensures silent { line_of ended.now.note ≡ [] → errors.new ≡ errors.old }
+{
+    say(errors, line(ended.note).as_bytes());
+    ExitCode::from(ended.status)
+}
+
+/// The whole program between its ends: a run of the script that the source gives, under the words
+/// of the command line, with the replies in the sink and a line on why it ended among the errors.
+/// The code is the run's status.
+pub fn program<S: Source, K: Sink, E: Sink>(
+    alloc: Global,
+    words: &Result<Vec<String>, WordsError>,
+    source: &mut S,
+    sink: &mut K,
+    errors: &mut E,
+) -> ExitCode
+    ensures { (ended : EndedValue)
+        × IsServed words.now (between (S.told source.old) (K.told sink.old) (S.told source.new) (K.told sink.new)) ended
+        × (exit_status result ≡ ended.status)
+        × IsSaid (line_of ended.note) (E.told errors.old) (E.told errors.new) }
+{
+    let ended = serve(alloc, words, source, sink);
+    conclude(errors, &ended)
+}
+
+/// The program over the standard streams.
+pub fn start(rt: &HostRuntime) -> ExitCode {
+    let words = words_of(rt.alloc(), env::args(rt));
+    let mut source = ReadSource::new(rt.stdin());
+    let mut sink = WriteSink::new(rt.stdout());
+    let mut errors = WriteSink::new(rt.stderr());
+    program(rt.alloc(), &words, &mut source, &mut sink, &mut errors)
+}
