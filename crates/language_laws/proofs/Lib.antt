@@ -5,3 +5,5 @@ mod Texts
 mod Modes
 mod Lines
 mod Told
+mod Kept
+mod Journals

@@ -2,7 +2,7 @@
 use Rattle.std.proofs.Common.{◌≡◌, [], ◌∷◌, refl}
 use Rattle.smt_meaning.specs.Reading.{text_rest, mark_rest, quoted_rest, lexeme, comment_rest, is_word_byte, is_symbol_byte, is_printable, word_token}
 use Rattle.smt_meaning.specs.Sorts.{◌>>=◌, ◌>>◌, return, refuse, require, required, the_scope, note, found, declare}
-use Rattle.smt_meaning.specs.StackCommand.{judge_body}
+use Rattle.smt_meaning.specs.StackCommand.{judge_body, judged}
 use Rattle.std.specs.Fmt.{digits}
 use Rattle.smt_meaning.specs.Command.{command}
 use Rattle.smt_meaning.specs.State.{effect}
@@ -24,7 +24,7 @@ logics : wrong_replies
     ∷ says_so "(set-logic QF_UFIDL)" "success\n"
     ∷ says_so "(set-logic ALL)" "success\n" ∷ [])
     ≡ []
-unfolding text_rest mark_rest quoted_rest lexeme comment_rest is_word_byte is_symbol_byte is_printable word_token ◌>>=◌ ◌>>◌ return refuse require required the_scope note found declare judge_body digits command effect symbol_text text
+unfolding text_rest mark_rest quoted_rest lexeme comment_rest is_word_byte is_symbol_byte is_printable word_token ◌>>=◌ ◌>>◌ return refuse require required the_scope note found declare judge_body judged digits command effect symbol_text text
 logics = refl
 
 -- what goes, and what stays
@@ -34,7 +34,7 @@ resets : wrong_replies
     ∷ quiet "(set-logic QF_UF)(declare-const p Bool)(reset)(set-option :produce-models true)(set-logic QF_LIA)(declare-const p Bool)(get-option :produce-models)" "success\nsuccess\nsuccess\nsuccess\ntrue\n"
     ∷ quiet "(push)(declare-const p Bool)(declare-sort S 0)(define-fun f () Int 1)(assert (! true :named n))(pop)(declare-sort S 0)(declare-const p S)(define-fun n () Int 1)(declare-fun f () Bool)(assert f)(assert n)(assert p)" "(error \"E17 not Bool\")\n(error \"E17 not Bool\")\n" ∷ [])
     ≡ []
-unfolding text_rest mark_rest quoted_rest lexeme comment_rest is_word_byte is_symbol_byte is_printable word_token ◌>>=◌ ◌>>◌ return refuse require required the_scope note found declare judge_body digits command effect symbol_text text
+unfolding text_rest mark_rest quoted_rest lexeme comment_rest is_word_byte is_symbol_byte is_printable word_token ◌>>=◌ ◌>>◌ return refuse require required the_scope note found declare judge_body judged digits command effect symbol_text text
 resets = refl
 
 -- a model is kept while the mode is sat
@@ -47,7 +47,7 @@ models : wrong_replies
     ∷ quiet_finds (a_model [] ∷ []) "(check-sat)(reset-assertions)(get-model)" "sat\n(error \"E20 no model\")\n"
     ∷ quiet_finds (a_model [] ∷ no_model ∷ []) "(check-sat)(get-model)(check-sat)(get-model)" "sat\n()\nunsat\n(error \"E20 no model\")\n" ∷ [])
     ≡ []
-unfolding text_rest mark_rest quoted_rest lexeme comment_rest is_word_byte is_symbol_byte is_printable word_token ◌>>=◌ ◌>>◌ return refuse require required the_scope note found declare judge_body digits command effect symbol_text text
+unfolding text_rest mark_rest quoted_rest lexeme comment_rest is_word_byte is_symbol_byte is_printable word_token ◌>>=◌ ◌>>◌ return refuse require required the_scope note found declare judge_body judged digits command effect symbol_text text
 models = refl
 
 -- a refused command leaves nothing behind
@@ -55,7 +55,7 @@ refused : wrong_replies
     (quiet "(assert (and (! false :named n) y))(assert n)(declare-fun f (Int Nope) Int)(declare-const f Int)(define-fun g ((x Int)) Bool x)(declare-const g Bool)(assert (! 1 :named m))(declare-const m Bool)(assert m)(push 1)(pop 2)(pop)" "(error \"E13 unknown symbol: y\")\n(error \"E13 unknown symbol: n\")\n(error \"E13 unknown symbol: Nope\")\n(error \"E15 sorts differ: g\")\n(error \"E17 not Bool\")\n(error \"E18 pop past level 0\")\n"
     ∷ quiet "(set-option :produce-assertions true)(assert (+ 1 1))(assert (= 1 1))(get-assertions)" "(error \"E17 not Bool\")\n((= 1 1))\n" ∷ [])
     ≡ []
-unfolding text_rest mark_rest quoted_rest lexeme comment_rest is_word_byte is_symbol_byte is_printable word_token ◌>>=◌ ◌>>◌ return refuse require required the_scope note found declare judge_body digits command effect symbol_text text
+unfolding text_rest mark_rest quoted_rest lexeme comment_rest is_word_byte is_symbol_byte is_printable word_token ◌>>=◌ ◌>>◌ return refuse require required the_scope note found declare judge_body judged digits command effect symbol_text text
 refused = refl
 
 scripts : wrong_replies
@@ -68,5 +68,5 @@ scripts : wrong_replies
     ∷ quiet "foo(bar)(push x)(get-info :reason-unknown)(get-info :assertion-stack-levels)" "(error \"E6 not a command\")\n(error \"E7 unknown command: bar\")\n(error \"E8 wrong arguments: push\")\n(error \"E9 no unknown answer\")\n(:assertion-stack-levels 0)\n"
     ∷ quiet_finds (a_model [] ∷ []) "(declare-const x Int)(get-value (x))(pop 1)(check-sat)" "(error \"E20 no model\")\n(error \"E18 pop past level 0\")\nsat\n" ∷ [])
     ≡ []
-unfolding text_rest mark_rest quoted_rest lexeme comment_rest is_word_byte is_symbol_byte is_printable word_token ◌>>=◌ ◌>>◌ return refuse require required the_scope note found declare judge_body digits command effect symbol_text text
+unfolding text_rest mark_rest quoted_rest lexeme comment_rest is_word_byte is_symbol_byte is_printable word_token ◌>>=◌ ◌>>◌ return refuse require required the_scope note found declare judge_body judged digits command effect symbol_text text
 scripts = refl

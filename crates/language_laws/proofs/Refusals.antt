@@ -2,7 +2,7 @@
 use Rattle.std.proofs.Common.{◌≡◌, [], ◌∷◌, refl}
 use Rattle.smt_meaning.specs.Reading.{text_rest, mark_rest, quoted_rest, lexeme, comment_rest, is_word_byte, is_symbol_byte, is_printable, word_token}
 use Rattle.smt_meaning.specs.Sorts.{◌>>=◌, ◌>>◌, return, refuse, require, required, the_scope, note, found, declare}
-use Rattle.smt_meaning.specs.StackCommand.{judge_body}
+use Rattle.smt_meaning.specs.StackCommand.{judge_body, judged}
 use Rattle.std.specs.Fmt.{digits}
 use Rattle.smt_meaning.specs.Command.{command}
 use Rattle.smt_meaning.specs.State.{effect}
@@ -22,7 +22,7 @@ not_commands : wrong_replies
     ∷ says_so "(minimize x)" "(error \"E7 unknown command: minimize\")\n"
     ∷ says_so "(|check-sat| 1)" "(error \"E8 wrong arguments: check-sat\")\n" ∷ [])
     ≡ []
-unfolding text_rest mark_rest quoted_rest lexeme comment_rest is_word_byte is_symbol_byte is_printable word_token ◌>>=◌ ◌>>◌ return refuse require required the_scope note found declare judge_body digits command effect symbol_text text
+unfolding text_rest mark_rest quoted_rest lexeme comment_rest is_word_byte is_symbol_byte is_printable word_token ◌>>=◌ ◌>>◌ return refuse require required the_scope note found declare judge_body judged digits command effect symbol_text text
 not_commands = refl
 
 -- forms that a command has not
@@ -71,7 +71,7 @@ wrong_arguments : wrong_replies
     ∷ says_so "(get-model 1)" "(error \"E8 wrong arguments: get-model\")\n"
     ∷ says_so "(get-assertions 1)" "(error \"E8 wrong arguments: get-assertions\")\n" ∷ [])
     ≡ []
-unfolding text_rest mark_rest quoted_rest lexeme comment_rest is_word_byte is_symbol_byte is_printable word_token ◌>>=◌ ◌>>◌ return refuse require required the_scope note found declare judge_body digits command effect symbol_text text
+unfolding text_rest mark_rest quoted_rest lexeme comment_rest is_word_byte is_symbol_byte is_printable word_token ◌>>=◌ ◌>>◌ return refuse require required the_scope note found declare judge_body judged digits command effect symbol_text text
 wrong_arguments = refl
 
 -- a numeral past 2^127 - 1
@@ -84,7 +84,7 @@ numerals : wrong_replies
     ∷ says_so "(pop 170141183460469231731687303715884105728)" "(error \"E5 numeral past 128 bits\")\n"
     ∷ says_so "(assert (= 0 170141183460469231731687303715884105728))" "(error \"E5 numeral past 128 bits\")\n" ∷ [])
     ≡ []
-unfolding text_rest mark_rest quoted_rest lexeme comment_rest is_word_byte is_symbol_byte is_printable word_token ◌>>=◌ ◌>>◌ return refuse require required the_scope note found declare judge_body digits command effect symbol_text text
+unfolding text_rest mark_rest quoted_rest lexeme comment_rest is_word_byte is_symbol_byte is_printable word_token ◌>>=◌ ◌>>◌ return refuse require required the_scope note found declare judge_body judged digits command effect symbol_text text
 numerals = refl
 
 -- what the state refuses
@@ -106,7 +106,7 @@ states : wrong_replies
     ∷ finds (no_model ∷ []) "(check-sat)(get-value (1))(get-model)" "unsat\n(error \"E20 no model\")\n(error \"E20 no model\")\n"
     ∷ finds (a_model [] ∷ []) "(check-sat)(get-value (1))(get-model)(get-assertions)" "sat\n(error \"E21 option is off: :produce-models\")\n(error \"E21 option is off: :produce-models\")\n(error \"E21 option is off: :produce-assertions\")\n" ∷ [])
     ≡ []
-unfolding text_rest mark_rest quoted_rest lexeme comment_rest is_word_byte is_symbol_byte is_printable word_token ◌>>=◌ ◌>>◌ return refuse require required the_scope note found declare judge_body digits command effect symbol_text text
+unfolding text_rest mark_rest quoted_rest lexeme comment_rest is_word_byte is_symbol_byte is_printable word_token ◌>>=◌ ◌>>◌ return refuse require required the_scope note found declare judge_body judged digits command effect symbol_text text
 states = refl
 
 -- names that are declared already, that are the theories', and that nobody knows
@@ -120,7 +120,7 @@ names : wrong_replies
     ∷ quiet "(assert |a b|)(assert |let|)(assert 1.5)(assert |1.5|)(assert #x1F)(assert #b01)(assert \"a\")(assert |\"a\"|)(assert \"\")(assert (forall ((x Int)) true))(assert (|forall| 1))(assert (div 1 1))" "(error \"E13 unknown symbol: |a b|\")\n(error \"E13 unknown symbol: |let|\")\n(error \"E13 unknown symbol: 1.5\")\n(error \"E13 unknown symbol: |1.5|\")\n(error \"E13 unknown symbol: #x1F\")\n(error \"E13 unknown symbol: #b01\")\n(error \"E13 unknown symbol: \"\"a\"\"\")\n(error \"E13 unknown symbol: |\"\"a\"\"|\")\n(error \"E13 unknown symbol: \"\"\"\"\")\n(error \"E13 unknown symbol: forall\")\n(error \"E13 unknown symbol: |forall|\")\n(error \"E13 unknown symbol: div\")\n"
     ∷ quiet "(declare-sort Bool 0)(define-sort Int () Bool)(declare-const + Int)(declare-fun div () Int)(define-fun => () Int 1)(assert (! true :named true))(declare-const Bool Bool)(declare-sort + 0)" "(error \"E24 reserved name: Bool\")\n(error \"E24 reserved name: Int\")\n(error \"E24 reserved name: +\")\n(error \"E24 reserved name: div\")\n(error \"E24 reserved name: =>\")\n(error \"E24 reserved name: true\")\n" ∷ [])
     ≡ []
-unfolding text_rest mark_rest quoted_rest lexeme comment_rest is_word_byte is_symbol_byte is_printable word_token ◌>>=◌ ◌>>◌ return refuse require required the_scope note found declare judge_body digits command effect symbol_text text
+unfolding text_rest mark_rest quoted_rest lexeme comment_rest is_word_byte is_symbol_byte is_printable word_token ◌>>=◌ ◌>>◌ return refuse require required the_scope note found declare judge_body judged digits command effect symbol_text text
 names = refl
 
 -- terms
@@ -129,5 +129,5 @@ terms : wrong_replies
     ∷ quiet "(declare-const x Int)(assert (+ x true))(assert (ite true 1 true))(define-fun |a b| () Bool 1)(assert (= (* x x) 0))(define-fun d () Int (* x x))(assert (= d 0))(assert x)" "(error \"E15 sorts differ: +\")\n(error \"E15 sorts differ: ite\")\n(error \"E15 sorts differ: |a b|\")\n(error \"E16 not linear\")\n(error \"E16 not linear\")\n(error \"E17 not Bool\")\n"
     ∷ quiet "(define-fun f () Bool (! true :named n))(assert (let ((x true)) (! x :named n)))(assert (! true))(assert (let () true))(assert (let ((x)) true))(assert ())(assert (1 2))" "(error \"E8 wrong arguments: define-fun\")\n(error \"E8 wrong arguments: assert\")\n(error \"E8 wrong arguments: assert\")\n(error \"E8 wrong arguments: assert\")\n(error \"E8 wrong arguments: assert\")\n(error \"E8 wrong arguments: assert\")\n(error \"E8 wrong arguments: assert\")\n" ∷ [])
     ≡ []
-unfolding text_rest mark_rest quoted_rest lexeme comment_rest is_word_byte is_symbol_byte is_printable word_token ◌>>=◌ ◌>>◌ return refuse require required the_scope note found declare judge_body digits command effect symbol_text text
+unfolding text_rest mark_rest quoted_rest lexeme comment_rest is_word_byte is_symbol_byte is_printable word_token ◌>>=◌ ◌>>◌ return refuse require required the_scope note found declare judge_body judged digits command effect symbol_text text
 terms = refl

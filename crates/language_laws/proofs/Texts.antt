@@ -2,7 +2,7 @@
 use Rattle.std.proofs.Common.{◌≡◌, [], ◌∷◌, refl}
 use Rattle.smt_meaning.specs.Reading.{text_rest, mark_rest, quoted_rest, lexeme, comment_rest, is_word_byte, is_symbol_byte, is_printable, word_token}
 use Rattle.smt_meaning.specs.Sorts.{◌>>=◌, ◌>>◌, return, refuse, require, required, the_scope, note, found, declare}
-use Rattle.smt_meaning.specs.StackCommand.{judge_body}
+use Rattle.smt_meaning.specs.StackCommand.{judge_body, judged}
 use Rattle.std.specs.Fmt.{digits}
 use Rattle.std.specs.Prelude.{ℕ, ℤ, pos, negsuc, true, false}
 use Rattle.smt_meaning.specs.declared.values.Value.{Value}
@@ -50,7 +50,7 @@ option_values : wrong_replies
     ∷ quiet "(set-option :interactive-mode true)(set-option :produce-assertions false)(get-option :interactive-mode)" "false\n"
     ∷ quiet "(set-option :verbosity 12)(reset)(get-option :verbosity)" "success\n0\n" ∷ [])
     ≡ []
-unfolding text_rest mark_rest quoted_rest lexeme comment_rest is_word_byte is_symbol_byte is_printable word_token ◌>>=◌ ◌>>◌ return refuse require required the_scope note found declare judge_body digits command effect symbol_text text
+unfolding text_rest mark_rest quoted_rest lexeme comment_rest is_word_byte is_symbol_byte is_printable word_token ◌>>=◌ ◌>>◌ return refuse require required the_scope note found declare judge_body judged digits command effect symbol_text text
 option_values = refl
 
 information : wrong_replies
@@ -58,20 +58,20 @@ information : wrong_replies
     ∷ quiet "(push)(push 11)(get-info :assertion-stack-levels)(pop 2)(get-info :assertion-stack-levels)(reset-assertions)(get-info :assertion-stack-levels)" "(:assertion-stack-levels 12)\n(:assertion-stack-levels 10)\n(:assertion-stack-levels 0)\n"
     ∷ says_so "(set-info :status sat)(set-info :source |a b|)(set-info :nothing)(set-info :x (a \"b\" 1))(set-info :smt-lib-version 2.6)" "success\nsuccess\nsuccess\nsuccess\nsuccess\n" ∷ [])
     ≡ []
-unfolding text_rest mark_rest quoted_rest lexeme comment_rest is_word_byte is_symbol_byte is_printable word_token ◌>>=◌ ◌>>◌ return refuse require required the_scope note found declare judge_body digits command effect symbol_text text
+unfolding text_rest mark_rest quoted_rest lexeme comment_rest is_word_byte is_symbol_byte is_printable word_token ◌>>=◌ ◌>>◌ return refuse require required the_scope note found declare judge_body judged digits command effect symbol_text text
 information = refl
 
 echoes : wrong_replies
     (says_so "(echo \"a\"\"b\")(echo \"\")(echo \"a b; (\")" "\"a\"\"b\"\n\"\"\n\"a b; (\"\n" ∷ [])
     ≡ []
-unfolding text_rest mark_rest quoted_rest lexeme comment_rest is_word_byte is_symbol_byte is_printable word_token ◌>>=◌ ◌>>◌ return refuse require required the_scope note found declare judge_body digits command effect symbol_text text
+unfolding text_rest mark_rest quoted_rest lexeme comment_rest is_word_byte is_symbol_byte is_printable word_token ◌>>=◌ ◌>>◌ return refuse require required the_scope note found declare judge_body judged digits command effect symbol_text text
 echoes = refl
 
 -- what is answered unsupported whatever its arguments
 left_out : wrong_replies
     (says_so "(check-sat-assuming (p))(get-assignment)(get-proof)(get-unsat-core)(get-unsat-assumptions 1)(define-fun-rec f)(define-funs-rec)(declare-datatype)(declare-datatypes 1 2)(set-logic QF_UF)" "unsupported\nunsupported\nunsupported\nunsupported\nunsupported\nunsupported\nunsupported\nunsupported\nunsupported\nsuccess\n" ∷ [])
     ≡ []
-unfolding text_rest mark_rest quoted_rest lexeme comment_rest is_word_byte is_symbol_byte is_printable word_token ◌>>=◌ ◌>>◌ return refuse require required the_scope note found declare judge_body digits command effect symbol_text text
+unfolding text_rest mark_rest quoted_rest lexeme comment_rest is_word_byte is_symbol_byte is_printable word_token ◌>>=◌ ◌>>◌ return refuse require required the_scope note found declare judge_body judged digits command effect symbol_text text
 left_out = refl
 
 -- symbols are printed plainly or between bars
@@ -79,7 +79,7 @@ symbols : wrong_replies
     (finds (a_model (truth 0 ∷ truth 1 ∷ truth 2 ∷ truth 3 ∷ truth 4 ∷ truth 5 ∷ truth 6 ∷ truth 7 ∷ truth 8 ∷ []) ∷ []) "(set-option :print-success false)(set-option :produce-models true)(declare-const |x| Bool)(declare-const @a Bool)(declare-const .b Bool)(declare-const |a b| Bool)(declare-const |let| Bool)(declare-const |1a| Bool)(declare-const || Bool)(declare-const push Bool)(declare-const BINARY Bool)(check-sat)(get-value (x |@a| |.b| |a b| |let| |1a| || push |BINARY|))" "sat\n((x true) (@a true) (.b true) (|a b| true) (|let| true) (|1a| true) (|| true) (|push| true) (|BINARY| true))\n"
     ∷ says_so "(|assert| x)(|declare-const| minimize |Int|)(declare-const minimize Int)" "(error \"E13 unknown symbol: x\")\nsuccess\n(error \"E12 name already declared: minimize\")\n" ∷ [])
     ≡ []
-unfolding text_rest mark_rest quoted_rest lexeme comment_rest is_word_byte is_symbol_byte is_printable word_token ◌>>=◌ ◌>>◌ return refuse require required the_scope note found declare judge_body digits command effect symbol_text text
+unfolding text_rest mark_rest quoted_rest lexeme comment_rest is_word_byte is_symbol_byte is_printable word_token ◌>>=◌ ◌>>◌ return refuse require required the_scope note found declare judge_body judged digits command effect symbol_text text
 symbols = refl
 
 -- values, and models as in the formats
@@ -93,11 +93,11 @@ values : wrong_replies
     ∷ quiet_finds (a_model (element 1 0 ∷ element 2 1 ∷ element 3 2 ∷ []) ∷ []) "(declare-sort S 0)(declare-const a S)(declare-const b S)(declare-const c S)(assert (distinct a b c))(check-sat)(get-value (a b c))" "sat\n((a (as @S!0 S)) (b (as @S!1 S)) (c (as @S!2 S)))\n"
     ∷ quiet_finds (a_model (number 0 (pos 170141183460469231731687303715884105727) ∷ []) ∷ []) "(declare-const x Int)(assert (= x 170141183460469231731687303715884105728))(assert (= x 170141183460469231731687303715884105727))(check-sat)(get-value (x))(get-value ((+ x 1)))" "(error \"E5 numeral past 128 bits\")\nsat\n((x 170141183460469231731687303715884105727))\n(error \"E22 value past 128 bits\")\n" ∷ [])
     ≡ []
-unfolding text_rest mark_rest quoted_rest lexeme comment_rest is_word_byte is_symbol_byte is_printable word_token ◌>>=◌ ◌>>◌ return refuse require required the_scope note found declare judge_body digits command effect symbol_text text
+unfolding text_rest mark_rest quoted_rest lexeme comment_rest is_word_byte is_symbol_byte is_printable word_token ◌>>=◌ ◌>>◌ return refuse require required the_scope note found declare judge_body judged digits command effect symbol_text text
 values = refl
 
 assertions : wrong_replies
     (quiet "(set-option :produce-assertions true)(get-assertions)(assert true)(push)(assert  (! (=>   false false)  :named  |a b| :k (1 #x0A 1.50 \"x\"\"y\" |let| let)))(get-assertions)(pop)(get-assertions)" "()\n(true (! (=> false false) :named |a b| :k (1 #x0A 1.50 \"x\"\"y\" |let| let)))\n(true)\n" ∷ [])
     ≡ []
-unfolding text_rest mark_rest quoted_rest lexeme comment_rest is_word_byte is_symbol_byte is_printable word_token ◌>>=◌ ◌>>◌ return refuse require required the_scope note found declare judge_body digits command effect symbol_text text
+unfolding text_rest mark_rest quoted_rest lexeme comment_rest is_word_byte is_symbol_byte is_printable word_token ◌>>=◌ ◌>>◌ return refuse require required the_scope note found declare judge_body judged digits command effect symbol_text text
 assertions = refl

@@ -23,7 +23,7 @@ use Rattle.smt_meaning.specs.Sorts.{Outcome, done, refused, Judging}
 use Rattle.smt_meaning.specs.StackCommand.{Change, declares, asserts, pushes, pops, clears, begins_again, is_unsupported, asks, stack_command, judged, changed}
 use Rattle.smt_meaning.specs.Command.{command}
 use Rattle.smt_meaning.specs.State
-use Rattle.smt_meaning.specs.State.{Effect, denied, left_out, accepted, answered, checked, effect, provided, set_logic, set_option_in, start_option, get_info, stack_effect, on_stack, get_value, judged_values, valued, get_model, get_assertions, kept_model, logics, is_start, asserting, with_logic, set, all_fit, terms_asked, term_values, printed_functions, texts_of}
+use Rattle.smt_meaning.specs.State.{Effect, denied, left_out, accepted, answered, checked, effect, provided, set_logic, set_option_in, start_option, get_info, stack_effect, on_stack, get_value, judged_values, valued, get_model, get_assertions, kept_model, logics, is_start, asserting, with_logic, set, all_fit, term_values, printed_functions, texts_of}
 use Rattle.smt_meaning.specs.MayReply.{Decided, Is, MayCome, MayDecide, MayReply, MayReplyTo, Replies, success}
 use Rattle.language_laws.specs.Laws.{HasOneReply, ChangesNothing}
 
@@ -90,9 +90,16 @@ stack_told b s n (Some c) = on_stack_told b s n (judged c s.stack)
 
 valued_told : (b : Bool) (s : State.State) (i : List Table) (ts : List (List Token)) (o : Outcome Change) → is_told b (valued s i ts o) ≡ true
 valued_told b s i ts (refused r) = refl
-valued_told b s i ts (done x c) =
-    provided_told b (all_fit (meaning i) (terms_asked x)) ValueTooLarge
-    (answered (Given.Values (term_values (signature_of s.stack.frames) (meaning i) ts (terms_asked x))) (record s { stack = changed s.stack x c })) refl
+valued_told b s i ts (done (asks terms) c) =
+    provided_told b (all_fit (meaning i) terms) ValueTooLarge
+    (answered (Given.Values (term_values (signature_of s.stack.frames) (meaning i) ts terms)) (record s { stack = changed s.stack (asks terms) c })) refl
+valued_told b s i ts (done declares c) = refl
+valued_told b s i ts (done (asserts a) c) = refl
+valued_told b s i ts (done (pushes k) c) = refl
+valued_told b s i ts (done (pops k) c) = refl
+valued_told b s i ts (done clears c) = refl
+valued_told b s i ts (done begins_again c) = refl
+valued_told b s i ts (done is_unsupported c) = refl
 
 judged_values_told : (b : Bool) (s : State.State) (i : List Table) (ts : List (List Token)) (c : Option (ℕ → Judging Change)) → is_told b (judged_values s i ts c) ≡ true
 judged_values_told b s i ts None = refl
@@ -145,7 +152,7 @@ abbrev only_false : Bool → Type 0
 only_false true = ⊥
 only_false false = Unit {0}
 
-false_true : {A : Type 0} → false ≡ true → A
+pub false_true : {A : Type 0} → false ≡ true → A
 false_true e = absurd (subst only_false e tt)
 
 record OneOf (decided : Decided) (old : State.State) (f : Effect) : Type 0 where

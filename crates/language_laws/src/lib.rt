@@ -1,7 +1,7 @@
 //! Laws of the definitions of commands, replies and their texts, each as the contract of a function that does nothing.
 #![tactic(auto)]
 
-ghost use Rattle.language_laws.specs.Laws.{OneReply, RefusalChangesNothing, TextEndsInOneLine};
+ghost use Rattle.language_laws.specs.Laws.{ModeHolds, OneReply, RefusalChangesNothing, TextEndsInOneLine};
 
 /// Where a command is no check, exactly one reply may be given, and one state be left.
 pub fn one_reply()
@@ -16,4 +16,9 @@ pub fn refusal_changes_nothing()
 /// A reply is written as bytes that end in one line feed, but for a success that isn't printed, which has no bytes.
 pub fn text_ends_in_one_line()
     ensures { TextEndsInOneLine }
+{}
+
+/// In every state that a journal comes to, a logic is set exactly outside the start mode, and a model that is kept makes every assertion of the stack true.
+pub fn mode_holds()
+    ensures { ModeHolds }
 {}

@@ -240,16 +240,14 @@ abbrev pub kept_model : Mode → Option (List Table)
 kept_model (In.Sat i) = Some i
 kept_model _ = None
 
-abbrev pub terms_asked : Change → List Typed
-terms_asked (asks terms) = terms
-terms_asked _ = []
-
 -- the values of these terms under the kept model; their trees join the list
 abbrev pub valued : State → List Table → List (List Token) → Outcome Change → Effect
 valued s i ts (refused r) = denied (Refused (codes "get-value") r)
-valued s i ts (done x c) =
-    provided (all_fit (meaning i) (terms_asked x)) ValueTooLarge
-    (answered (Given.Values (term_values (signature_of s.stack.frames) (meaning i) ts (terms_asked x))) (record s { stack = changed s.stack x c }))
+valued s i ts (done (asks terms) c) =
+    provided (all_fit (meaning i) terms) ValueTooLarge
+    (answered (Given.Values (term_values (signature_of s.stack.frames) (meaning i) ts terms)) (record s { stack = changed s.stack (asks terms) c }))
+-- nothing else comes of a question
+valued s i ts (done _ c) = left_out
 
 abbrev pub judged_values : State → List Table → List (List Token) → Option (ℕ → Judging Change) → Effect
 judged_values s i ts None = left_out
