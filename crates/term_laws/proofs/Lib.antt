@@ -3,6 +3,7 @@ pub mod SortLaw
 pub mod Tables
 pub mod ValueLaw
 pub mod SexpLaw
+pub mod SExprLaw
 pub mod SameTree
 pub mod JudgeLaw
 pub mod BodyLaw
