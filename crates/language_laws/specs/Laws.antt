@@ -13,7 +13,7 @@ use Rattle.smt_meaning.specs.declared.answers.Reply.TheVariants.{Silent, Unsuppo
 use Rattle.smt_meaning.specs.declared.replies.Kept.{Kept}
 use Rattle.smt_meaning.specs.State.{State}
 use Rattle.smt_meaning.specs.Stack.{Frame}
-use Rattle.smt_meaning.specs.MayReply.{Decided, MayReply, Replies, Is, IsModel}
+use Rattle.smt_meaning.specs.MayReply.{Decided, MayReply, Replies, IsExactly, IsModel}
 use Rattle.smt_meaning.specs.LegalJournal.{Moment, beginning, Runs}
 use Rattle.smt_meaning.specs.Text.{text, line}
 
@@ -21,8 +21,8 @@ use Rattle.smt_meaning.specs.Text.{text, line}
 pub record HasOneReply (decided : Decided) (old : State) (c : Command) : Type 0 where
   pub reply : Reply
   pub new : State
-  pub may : (r : Reply) (kept : Kept) (s : State) → Is reply new r kept s → MayReply decided old c r kept s
-  pub only : (r : Reply) (kept : Kept) (s : State) → MayReply decided old c r kept s → Is reply new r kept s
+  pub may : (r : Reply) (kept : Kept) (s : State) → IsExactly reply new r kept s → MayReply decided old c r kept s
+  pub only : (r : Reply) (kept : Kept) (s : State) → MayReply decided old c r kept s → IsExactly reply new r kept s
 
 -- a command that is no check has one reply
 abbrev pub OneReply : Type 0
