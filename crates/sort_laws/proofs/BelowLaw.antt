@@ -1,10 +1,10 @@
 -- The sort of a term whose symbols are declared at a level is the same there and above.
-use Rattle.std.proofs.Common.{◌≡◌, ℕ, ◌+◌, zero, suc, List, [], ◌∷◌, ◌++◌, All, Contains, map, take, drop, ap, sym, subst, ◌∙◌, refl, Bool, true, false, ◌&&◌, not, Option, Some, None, nat_eq, eq-eqb, inl, inr, arith}
+use Rattle.std.proofs.Common.{◌≡◌, ℕ, ◌+◌, List, [], ◌∷◌, ◌++◌, All, Contains, map, take, drop, ap, sym, subst, ◌∙◌, refl, Bool, true, false, ◌&&◌, not, Option, Some, None, nat_eq, eq-eqb, inl, inr, arith}
 use Rattle.std.specs.Prelude.{◌≢◌, if◌then◌else◌}
 use Rattle.std.proofs.lemmas.Bool.{eqb-true}
 use Rattle.std.proofs.lemmas.Grind.{flat_map-append}
 use Rattle.std.proofs.lemmas.List.{take-append-drop}
-use Rattle.std.proofs.lemmas.List.Elements.{All-nil, All-cons, All-head, All-tail, All-contains, Contains-append_cases}
+use Rattle.std.proofs.lemmas.List.Elements.{All-nil, All-cons, All-head, All-tail, All-append, All-contains, Contains-append_cases, Contains-append_right}
 use Rattle.smt_meaning.specs.declared.values.Sort.{Sort}
 use Rattle.smt_meaning.specs.declared.terms.Head.{Head}
 use Rattle.smt_meaning.specs.declared.terms.Head.TheVariants.{Numeral, Theory, Symbol, Place}
@@ -13,8 +13,8 @@ use Rattle.smt_meaning.specs.Term.{Tree, Trees, node, none, more}
 use Rattle.smt_meaning.specs.Signature.{function_with_id, symbol_sort, head_sort, cons_sort, with_sorts, tree_sort, tree_sorts, HasNoIdTwice}
 use Rattle.smt_meaning.specs.Clause.{symbols, symbols_of, head_symbols}
 use Rattle.smt_meaning.specs.Stack.{Frame, signature_of, up_to}
-use Rattle.smt_meaning.specs.Follows.{declared_ids}
-use Rattle.sort_laws.specs.Laws.{SortsAreTheSameBelow}
+use Rattle.term_laws.proofs.Both.{and_left}
+use Rattle.sort_laws.specs.Laws.{SortsAreTheSameBelow, SymbolsAreDeclared}
 
 abbrev ids : List Declaration → List ℕ
 ids ds = map (λ (d : Declaration). d.id) ds
@@ -96,3 +96,44 @@ pub sorts_below : SortsAreTheSameBelow
 sorts_below frames l t u a =
     same_below (signature_of (up_to l frames)) (signature_of (drop (l + 1) frames)) t (subst HasNoIdTwice (levels_apart (l + 1) frames) u) a
     ∙ ap (λ ds. tree_sort ds t) (sym (levels_apart (l + 1) frames))
+
+-- ---- the symbols of a term that has a sort
+
+declared_symbol : (f : ℕ) (ds : List Declaration) (ss : List Sort) (s : Sort) → symbol_sort (function_with_id f ds) ss ≡ Some s → Contains (ids ds) f
+declared_symbol f [] ss s e = absurd (cc)
+declared_symbol f (d ∷ ds) ss s e = go (λ k. declared_symbol f ds ss s k) (nat_eq f d.id && not d.is_sort) refl e
+  where
+    go : (symbol_sort (function_with_id f ds) ss ≡ Some s → Contains (ids ds) f)
+        → (b : Bool) → (nat_eq f d.id && not d.is_sort) ≡ b → symbol_sort (if b then Some d else function_with_id f ds) ss ≡ Some s → Contains (ids (d ∷ ds)) f
+    go k true p q = let here : Contains (ids (d ∷ ds)) d.id = (0, omega arith, refl) in subst (Contains (ids (d ∷ ds))) (sym (eqb-true f d.id (and_left (nat_eq f d.id) (not d.is_sort) p))) here
+    go k false p q = Contains-append_right (d.id ∷ []) (ids ds) f (k q)
+
+head_declared : (ds : List Declaration) (h : Head) (ss : List Sort) (s : Sort) → head_sort ds h ss ≡ Some s → All (Contains (ids ds)) (head_symbols h)
+head_declared ds (Numeral n) ss s e = All-nil (Contains (ids ds))
+head_declared ds (Theory o) ss s e = All-nil (Contains (ids ds))
+head_declared ds (Symbol f) ss s e = All-cons (Contains (ids ds)) f [] (declared_symbol f ds ss s e) (All-nil (Contains (ids ds)))
+head_declared ds (Place k) ss s e = All-nil (Contains (ids ds))
+
+sorted_arguments : (ds : List Declaration) (h : Head) (o : Option (List Sort)) (s : Sort) → with_sorts ds h o ≡ Some s → (ss : List Sort) × (o ≡ Some ss) × (head_sort ds h ss ≡ Some s)
+sorted_arguments ds h None s e = absurd (cc)
+sorted_arguments ds h (Some ss) s e = (ss, refl, e)
+
+sorted_first : (o : Option Sort) (r : Option (List Sort)) (ss : List Sort) → cons_sort o r ≡ Some ss → (s : Sort) × (rs : List Sort) × (o ≡ Some s) × (r ≡ Some rs)
+sorted_first None r ss e = absurd (cc)
+sorted_first (Some s) None ss e = absurd (cc)
+sorted_first (Some s) (Some rs) ss e = (s, rs, refl, refl)
+
+mutual
+  symbols_declared : (ds : List Declaration) (t : Tree) (s : Sort) → tree_sort ds t ≡ Some s → All (Contains (ids ds)) (symbols t)
+  symbols_declared ds (node h us) s e =
+      let w : (ss : List Sort) × (tree_sorts ds us ≡ Some ss) × (head_sort ds h ss ≡ Some s) = sorted_arguments ds h (tree_sorts ds us) s e in
+      All-append (Contains (ids ds)) (head_symbols h) (symbols_of us) (head_declared ds h w.0 s w.2) (all_symbols_declared ds us w.0 w.1)
+
+  all_symbols_declared : (ds : List Declaration) (us : Trees) (ss : List Sort) → tree_sorts ds us ≡ Some ss → All (Contains (ids ds)) (symbols_of us)
+  all_symbols_declared ds none ss e = All-nil (Contains (ids ds))
+  all_symbols_declared ds (more t us) ss e =
+      let w : (s : Sort) × (rs : List Sort) × (tree_sort ds t ≡ Some s) × (tree_sorts ds us ≡ Some rs) = sorted_first (tree_sort ds t) (tree_sorts ds us) ss e in
+      All-append (Contains (ids ds)) (symbols t) (symbols_of us) (symbols_declared ds t w.0 w.2) (all_symbols_declared ds us w.1 w.3)
+
+pub symbols_are_declared : SymbolsAreDeclared
+symbols_are_declared = symbols_declared

@@ -1,10 +1,9 @@
 -- The trees of a stack are different, and each stands after its arguments.
-use Rattle.std.proofs.Common.{◌≡◌, ◌⊎◌, ℕ, zero, suc, ◌+◌, ◌<◌, ◌≤◌, List, [], ◌∷◌, ◌++◌, take, drop, length, ap, sym, subst, ◌∙◌, refl, Bool, true, false, ◌||◌, Option, Some, None, inl, inr, arith, append_assoc, append-nil}
-use Rattle.std.specs.Prelude.{IsTrue, if◌then◌else◌}
+use Rattle.std.proofs.Common.{◌≡◌, ℕ, zero, suc, ◌+◌, ◌<◌, ◌≤◌, List, [], ◌∷◌, ◌++◌, take, drop, length, ap, sym, subst, ◌∙◌, refl, Bool, true, false, ◌||◌, Option, Some, None, inl, inr, arith, append_assoc, append-nil}
+use Rattle.std.specs.Prelude.{if◌then◌else◌}
 use Rattle.std.proofs.Math.ListN.{get_or-append}
 use Rattle.std.proofs.lemmas.List.{take-append-drop, length-append}
 use Rattle.smt_meaning.specs.declared.commands.Command.{Command}
-use Rattle.smt_meaning.specs.Declaration.{Declaration}
 use Rattle.smt_meaning.specs.Term.{Tree, Trees, node, none, more, tree_at}
 use Rattle.smt_meaning.specs.TreeShape.{tree_eq, is_among, place_of, with_tree, with_parts, with_all_parts}
 use Rattle.smt_meaning.specs.Parts.{IsPart, IsPartOfOne, IsOneOf, IsArgument, StandsBelow, AreInOrder}
@@ -14,7 +13,7 @@ use Rattle.smt_meaning.specs.Stack.{depth}
 use Rattle.term_laws.proofs.Keeping.{Invariant, Kept, KeepsIfSome, command_keeps}
 use Rattle.term_laws.proofs.SameTree.{found_again, tree_eq-true}
 use Rattle.sort_laws.specs.Laws.{TreesAreInOrder}
-use Rattle.sort_laws.proofs.Among.{Among, among_first, among_rest, among_append, among_parts, kept_with_parts, kept_with_all_parts}
+use Rattle.sort_laws.proofs.Among.{Among, among_first, among_rest, among_append, among_parts, kept_with_all_parts}
 
 -- ---- by the trees before
 

@@ -1,5 +1,5 @@
 -- Whatever commands come: an accepted term has its sort, and each assertion has the sort Bool.
-use Rattle.std.proofs.Common.{◌≡◌, ℕ, zero, suc, ◌-◌, List, [], ◌∷◌, ◌++◌, All, map, take, drop, length, ap, sym, subst, ◌∙◌, refl, true, Option, Some, None, append_assoc, append-nil}
+use Rattle.std.proofs.Common.{◌≡◌, ℕ, zero, suc, ◌+◌, ◌-◌, List, [], ◌∷◌, ◌++◌, All, map, take, drop, length, ap, sym, subst, ◌∙◌, refl, true, Option, Some, None, append_assoc, append-nil}
 use Rattle.std.specs.Prelude.{IsTrue, replicate}
 use Rattle.std.proofs.lemmas.Grind.{flat_map-append}
 use Rattle.std.proofs.lemmas.List.{take-append-drop}
@@ -10,10 +10,10 @@ use Rattle.smt_meaning.specs.Declaration.{Declaration}
 use Rattle.smt_meaning.specs.Term.{Tree}
 use Rattle.smt_meaning.specs.Signature.{tree_sort}
 use Rattle.smt_meaning.specs.Sorts.{Scope, Outcome, done, refused, Judging, judge}
-use Rattle.smt_meaning.specs.Stack.{Frame, Assertion, signature_of, assertions_of, depth, on_top, pushed, popped, empty_frame}
+use Rattle.smt_meaning.specs.Stack.{Frame, Assertion, signature_of, assertions_of, depth, on_top, pushed, popped, up_to, empty_frame}
 use Rattle.smt_meaning.specs.StackCommand.{Stack, start, Change, declares, asserts, asks, pushes, pops, clears, begins_again, is_unsupported, stack_command, scope_of, judged, new_declarations, changed, after_outcome, after_command, after, after_all}
 use Rattle.smt_meaning.specs.declared.commands.Command.{Command}
-use Rattle.sort_laws.specs.Laws.{AcceptedTermHasItsSort, AssertionsAreTruths, PartsAreAmongTheTrees}
+use Rattle.sort_laws.specs.Laws.{AcceptedTermHasItsSort, AssertionsAreTruths, AssertionsAreTruthsAtTheirLevels, PartsAreAmongTheTrees}
 use Rattle.sort_laws.proofs.PlacesLaw.{HasSort, closed_sort, LaterThan, later_self, later_still, sort_later}
 use Rattle.sort_laws.proofs.Signatures.{Good, nothing_good, good_prefix}
 use Rattle.smt_meaning.specs.TreeShape.{is_among}
@@ -232,3 +232,10 @@ all_parts ts (f ∷ frames) o h =
 
 pub parts_among : PartsAreAmongTheTrees
 parts_among cs = all_parts (after_all start cs).trees (after_all start cs).frames (all_ordered start cs tt) (all_good start cs start_good).among
+
+-- ---- levels
+
+pub assertions_have_below : AssertionsAreTruthsAtTheirLevels
+assertions_have_below cs l =
+    all_truths [] (up_to l (after_all start cs).frames) (signature_of (up_to l (after_all start cs).frames)) (later_self (signature_of (up_to l (after_all start cs).frames)))
+    (fine_take [] (l + 1) (after_all start cs).frames (all_good start cs start_good).fine)

@@ -1,6 +1,8 @@
 -- Laws of the sorts that terms are judged to have.
-use Rattle.std.specs.Prelude.{◌≡◌, ℕ, List, [], Some, All, Contains, IsTrue}
+use Rattle.std.specs.Prelude.{◌≡◌, ℕ, List, [], Some, map, All, Contains, IsTrue}
+use Rattle.smt_meaning.specs.declared.values.Sort.{Sort}
 use Rattle.smt_meaning.specs.declared.values.Sort.TheVariants.{Bool as Truths}
+use Rattle.smt_meaning.specs.Declaration.{Declaration}
 use Rattle.smt_meaning.specs.declared.commands.Command.{Command}
 use Rattle.smt_meaning.specs.Term.{Tree}
 use Rattle.smt_meaning.specs.Sexp.{Sexp}
@@ -37,3 +39,14 @@ abbrev pub SortsAreTheSameBelow : Type 0
 SortsAreTheSameBelow =
     (frames : List Frame) (l : ℕ) (t : Tree) → HasNoIdTwice (signature_of frames) → All (Contains (declared_ids (up_to l frames))) (symbols t)
     → tree_sort (signature_of (up_to l frames)) t ≡ tree_sort (signature_of frames) t
+
+-- each symbol of a term that has a sort is declared
+abbrev pub SymbolsAreDeclared : Type 0
+SymbolsAreDeclared =
+    (ds : List Declaration) (t : Tree) (s : Sort) → tree_sort ds t ≡ Some s → All (Contains (map (λ (d : Declaration). d.id) ds)) (symbols t)
+
+-- whatever commands come, each assertion of the levels up to one has the sort Bool under what these levels declare
+abbrev pub AssertionsAreTruthsAtTheirLevels : Type 0
+AssertionsAreTruthsAtTheirLevels =
+    (cs : List Command) (l : ℕ)
+    → All (λ (t : Tree). tree_sort (signature_of (up_to l (after_all start cs).frames)) t ≡ Some Truths) (assertions_of (up_to l (after_all start cs).frames))

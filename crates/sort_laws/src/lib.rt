@@ -1,7 +1,7 @@
 //! Laws of the sorts of terms, each as the contract of a function that does nothing.
 #![tactic(auto)]
 
-ghost use Rattle.sort_laws.specs.Laws.{AcceptedTermHasItsSort, AssertionsAreTruths, PartsAreAmongTheTrees, SortsAreTheSameBelow, TreesAreInOrder};
+ghost use Rattle.sort_laws.specs.Laws.{AcceptedTermHasItsSort, AssertionsAreTruths, AssertionsAreTruthsAtTheirLevels, PartsAreAmongTheTrees, SortsAreTheSameBelow, SymbolsAreDeclared, TreesAreInOrder};
 
 /// Under any signature that commands give, the tree of an accepted term has the sort that the term was judged to have.
 pub fn accepted_term_has_its_sort()
@@ -26,4 +26,14 @@ pub fn parts_are_among_the_trees()
 /// A term whose symbols are declared at a level has there the sort that it has above.
 pub fn sorts_are_the_same_below()
     ensures { SortsAreTheSameBelow }
+{}
+
+/// Each symbol of a term that has a sort is declared.
+pub fn symbols_are_declared()
+    ensures { SymbolsAreDeclared }
+{}
+
+/// Each assertion of the levels up to one has the sort Bool under what these levels declare.
+pub fn assertions_are_truths_at_their_levels()
+    ensures { AssertionsAreTruthsAtTheirLevels }
 {}

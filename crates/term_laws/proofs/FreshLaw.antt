@@ -1,29 +1,16 @@
 -- No id stands twice in the signature of a stack.
-use Rattle.std.proofs.Common.{◌≡◌, ℕ, zero, suc, ◌+◌, ◌-◌, ◌<◌, List, [], ◌∷◌, ◌++◌, All, map, take, drop, length, sym, ap, ◌∙◌, refl, subst, arith, Bool, true, false, Option, Some, None, nat_lt, append_assoc, append-nil}
-use Rattle.std.specs.Prelude.{◌≢◌, ℤ, codes, bytes_eq, replicate, if◌then◌else◌}
+use Rattle.std.proofs.Common.{◌≡◌, ℕ, zero, suc, ◌+◌, ◌-◌, ◌<◌, List, [], ◌∷◌, ◌++◌, All, take, drop, length, sym, ap, ◌∙◌, refl, subst, arith, Option, Some, None, append_assoc, append-nil}
+use Rattle.std.specs.Prelude.{◌≢◌, replicate}
 use Rattle.std.proofs.lemmas.Grind.{flat_map-append}
 use Rattle.std.proofs.lemmas.List.{take-append-drop}
 use Rattle.std.proofs.Math.Seq.{drop-append_seam}
 use Rattle.std.proofs.lemmas.List.Elements.{All-nil, All-cons, All-head, All-tail, All-append, All-weaker}
-use Rattle.smt_meaning.specs.declared.values.Sort.{Sort}
-use Rattle.smt_meaning.specs.declared.terms.Operator.{Operator}
-use Rattle.smt_meaning.specs.declared.terms.Operator.TheVariants.{True, False}
-use Rattle.smt_meaning.specs.declared.tokens.Token.{Token}
-use Rattle.smt_meaning.specs.declared.tokens.Token.TheVariants.{Numeral, Symbol, Reserved, Keyword}
-use Rattle.smt_meaning.specs.declared.tokens.Word.TheVariants.{Exclamation, Let}
 use Rattle.smt_meaning.specs.Declaration.{Declaration}
-use Rattle.smt_meaning.specs.declared.refusals.Refusal.{Refusal}
-use Rattle.smt_meaning.specs.Term.{Tree, Trees}
-use Rattle.smt_meaning.specs.Sexp.{Sexp, Sexps, word, group, end, ◌▸◌, sexp}
 use Rattle.smt_meaning.specs.Signature.{HasNoIdTwice}
-use Rattle.smt_meaning.specs.Sorts.{Scope, Outcome, done, refused, Judging, go_on, ◌>>=◌, ◌>>◌, return, refuse, require, required, the_scope, note, found, declare, declare_in, most_symbols, Typed, Variable, Rules, Known, variable, operator, function, unknown, known, can_be_applied, judge_application, judge_bare, judge_symbol, judge_operator, judge_token, check_bindings, none_twice, bound_names, name_by, judge_attributes, either, judge, judge_all, judge_bindings}
+use Rattle.smt_meaning.specs.Sorts.{Scope, Outcome, done, refused, Judging}
 use Rattle.smt_meaning.specs.Stack.{Frame, Assertion, signature_of, depth, on_top, pushed, empty_frame}
-use Rattle.smt_meaning.specs.StackCommand.{Stack, start, Change, declares, asserts, pushes, pops, asks, clears, begins_again, is_unsupported, judge_sort, judge_sorts, new_sort_name, new_function_name, declare_new_sort, declare_sort, define_sort, declare_function, judge_parameters, apart, in_body, judge_body, define_function, require_room, in_assert, assert_term, in_question, judge_terms, judge_questions, stack_command, scope_of, judged, new_declarations, changed, after_outcome, after_command, after, after_all}
-use Rattle.smt_meaning.specs.declared.commands.WrittenSort.{WrittenSort}
-use Rattle.smt_meaning.specs.declared.commands.WrittenSort.TheVariants.{Name, Applied}
-use Rattle.smt_meaning.specs.declared.commands.Parameter.{Parameter}
+use Rattle.smt_meaning.specs.StackCommand.{Stack, start, Change, declares, asserts, pushes, pops, asks, clears, begins_again, is_unsupported, stack_command, scope_of, judged, new_declarations, changed, after_outcome, after_command, after, after_all}
 use Rattle.smt_meaning.specs.declared.commands.Command.{Command}
-use Rattle.smt_meaning.specs.declared.commands.Command.TheVariants.{DeclareSort, DefineSort, DeclareConst, DeclareFun, DefineFun, Assert, Push, Pop, GetValue, ResetAssertions, Reset}
 use Rattle.term_laws.specs.Laws.{NoIdTwice}
 use Rattle.term_laws.proofs.Keeping.{Invariant, Kept, KeepsIfSome, command_keeps}
 

@@ -1,10 +1,9 @@
 -- What the lexicon calls one s-expression, and what the trees of s-expressions say.
-use Rattle.std.proofs.Common.{◌≡◌, ℕ, zero, suc, ◌+◌, ◌-◌, ◌<◌, ◌≤◌, List, [], ◌∷◌, ◌++◌, map, sym, ap, subst, ◌∙◌, refl, arith, true, false, not, ◌&&◌, append_assoc, append-nil}
-use Rattle.std.specs.Prelude.{max}
+use Rattle.std.proofs.Common.{◌≡◌, ℕ, zero, suc, ◌+◌, ◌-◌, ◌≤◌, List, [], ◌∷◌, ◌++◌, sym, ap, subst, ◌∙◌, refl, arith, true, not, append_assoc, append-nil}
 use Rattle.std.proofs.lemmas.List.{map-append}
 use Rattle.smt_meaning.specs.declared.tokens.Token.{Token}
 use Rattle.smt_meaning.specs.declared.tokens.Token.TheVariants.{Enter, Leave, Numeral, Decimal, Hex, Binary, Text, Symbol, Reserved, Keyword}
-use Rattle.smt_meaning.specs.Reading.{Shape, opening, closing, single, shape, shapes, Opens, Completes, IsSExpr, most_open}
+use Rattle.smt_meaning.specs.Reading.{Shape, opening, closing, single, shape, shapes, Opens, Completes, most_open}
 use Rattle.smt_meaning.specs.Sexp.{Sexp, Sexps, word, group, end, ◌▸◌, tokens, tokens_of, before, open_lists_of, sexp, IsSexp, first_of_all, is_parenthesis, is_proper, are_proper, nested, deepest}
 use Rattle.term_laws.proofs.Both.{and_left, and_right, and_both}
 use Rattle.term_laws.specs.Laws.{SExprsReadBack, SexpsAreSExprs}

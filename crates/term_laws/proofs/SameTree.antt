@@ -1,5 +1,5 @@
 -- The test for equal trees, and the place where a tree is found again.
-use Rattle.std.proofs.Common.{◌≡◌, ℕ, zero, suc, eq-eqb, List, [], ◌∷◌, ap, sym, subst, ◌∙◌, refl, Bool, true, false, ◌&&◌, ◌||◌, nat_eq}
+use Rattle.std.proofs.Common.{◌≡◌, suc, eq-eqb, List, [], ◌∷◌, ap, sym, subst, ◌∙◌, refl, Bool, true, false, ◌&&◌, ◌||◌, nat_eq}
 use Rattle.std.specs.Prelude.{ℤ, pos, negsuc, if◌then◌else◌}
 use Rattle.std.proofs.lemmas.Bool.{eqb-true}
 use Rattle.smt_meaning.specs.declared.terms.Operator.{Operator}
