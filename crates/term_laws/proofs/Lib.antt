@@ -10,4 +10,5 @@ pub mod BodyLaw
 pub mod EnvironmentLaw
 mod Written
 mod Examples
+pub mod Keeping
 pub mod FreshLaw
