@@ -1,12 +1,10 @@
 -- Which replies to checks may be given, and journals that are legal.
-use Rattle.std.proofs.Common.{◌≡◌, ◌⊎◌, inl, inr, ℕ, Bool, true, false, List, [], ◌∷◌, ◌++◌, refl, ap, Option, Some, None, arith}
+use Rattle.std.proofs.Common.{◌≡◌, inl, inr, ℕ, Bool, true, false, List, [], ◌∷◌, ◌++◌, refl, ap, Some, None, arith}
 use Rattle.std.proofs.lemmas.List.Elements.{All-nil, All-cons, All-head}
-use Rattle.std.specs.Prelude.{codes, pos, Result, Ok, Err}
+use Rattle.std.specs.Prelude.{codes, Result, Ok, Err}
 use Rattle.std.specs.Fmt.{digits}
-use Rattle.smt_meaning.specs.declared.settings.Settings.{Settings}
 use Rattle.smt_meaning.specs.declared.values.Sort.TheVariants.{Bool as Truths}
 use Rattle.smt_meaning.specs.declared.values.Value.TheVariants.{Truth}
-use Rattle.smt_meaning.specs.declared.values.Row.{Row}
 use Rattle.smt_meaning.specs.declared.values.Table.{Table}
 use Rattle.smt_meaning.specs.declared.terms.Head.TheVariants.{Symbol as Function, Theory}
 use Rattle.smt_meaning.specs.declared.terms.Operator.TheVariants.{False}
@@ -19,27 +17,25 @@ use Rattle.smt_meaning.specs.declared.refusals.Refusal.TheVariants.{TooManyTerms
 use Rattle.smt_meaning.specs.declared.errors.Error.{Error as ErrorReply}
 use Rattle.smt_meaning.specs.declared.errors.Error.TheVariants.{Fault, NotCommand, NotUnsat, Refused}
 use Rattle.smt_meaning.specs.declared.commands.Command.{Command}
-use Rattle.smt_meaning.specs.declared.commands.Command.TheVariants.{CheckSat, DeclareConst, Exit}
+use Rattle.smt_meaning.specs.declared.commands.Command.TheVariants.{CheckSat, DeclareConst}
 use Rattle.smt_meaning.specs.declared.commands.WrittenSort.TheVariants.{Name}
-use Rattle.smt_meaning.specs.declared.answers.Entry.{Entry}
 use Rattle.smt_meaning.specs.declared.answers.Mode.TheVariants as In
-use Rattle.smt_meaning.specs.declared.answers.Reply.{Reply}
 use Rattle.smt_meaning.specs.declared.answers.Reply.TheVariants.{Success, Unsupported, Sat, Unsat, Unknown, Info, Error}
 use Rattle.smt_meaning.specs.declared.replies.Kept.TheVariants.{Nothing, Model}
 use Rattle.smt_meaning.specs.Declaration.{Declaration}
-use Rattle.smt_meaning.specs.Term.{Tree, node, none, Interpretation}
+use Rattle.smt_meaning.specs.Term.{Tree, node, none}
 use Rattle.smt_meaning.specs.Reading.{text_rest, mark_rest, quoted_rest, lexeme, comment_rest, is_word_byte, is_symbol_byte, is_printable, word_token, opening, closing, single}
 use Rattle.smt_meaning.specs.Interpretation.{meaning, Interprets, IsFunctionFor}
 use Rattle.smt_meaning.specs.Sorts.{◌>>=◌, ◌>>◌, return, refuse, require, required, the_scope, note, found, declare}
-use Rattle.smt_meaning.specs.Stack.{Assertion, Frame, Satisfies, HasNoModel, start_frames}
+use Rattle.smt_meaning.specs.Stack.{Satisfies, HasNoModel, start_frames}
 use Rattle.smt_meaning.specs.StackCommand.{judge_body, judged}
 use Rattle.smt_meaning.specs.Command.{command}
 use Rattle.smt_meaning.specs.State.{State, denied, effect, start}
 use Rattle.smt_meaning.specs.Text.{symbol_text, text}
 use Rattle.smt_meaning.specs.MayReply.{Decided, Fits, IsModel, MayReply, Replies}
-use Rattle.smt_meaning.specs.LegalJournal.{Moment, beginning, Reads, IsLegal}
+use Rattle.smt_meaning.specs.LegalJournal.{IsLegal}
 use Rattle.language_laws.proofs.Told.{false_true}
-use Rattle.language_laws.proofs.Script.{Run, runs, script, settings}
+use Rattle.language_laws.proofs.Script.{runs, script, settings}
 
 -- ---- texts that no script of a run meets, or only a large one
 
@@ -111,8 +107,11 @@ false_tree = node (Theory False) none
 
 abbrev asserting : List Declaration → ℕ → List Token → Tree → State
 asserting ds n ts t =
-    record (start settings) { logic = Some (codes "QF_UFLIA"); mode = In.Assert
-    ; stack = record { frames = record { declared = ds; asserted = record { text = ts; term = t } ∷ [] } ∷ []; given = n; trees = t ∷ [] } }
+    record (start settings) {
+      logic = Some (codes "QF_UFLIA");
+      mode = In.Assert;
+      stack = record { frames = record { declared = ds; asserted = record { text = ts; term = t } ∷ [] } ∷ []; given = n; trees = t ∷ [] };
+    }
 
 abbrev asserting_p : State
 asserting_p = asserting (p ∷ []) 1 (Symbol (codes "p") ∷ []) p_tree
@@ -136,14 +135,20 @@ script_asserts_false = refl
 
 p_true_is_a_model : IsModel asserting_p.stack.frames (p_is_true ∷ [])
 p_true_is_a_model =
-    record { tables =
-        ( record { symbol = refl
-          ; rows = All-nil _
-          ; default = refl
-          ; no_two = λ i j d k l. absurd (omega (arith, l))
-          ; constants = λ e. refl }, tt )
-    ; holds = All-cons (Satisfies (meaning (p_is_true ∷ []))) p_tree [] refl (All-nil (Satisfies (meaning (p_is_true ∷ []))))
-    ; fits = All-cons (Fits (meaning (p_is_true ∷ []))) p_tree [] refl (All-nil (Fits (meaning (p_is_true ∷ [])))) }
+    record {
+      tables = (
+        record {
+          symbol = refl;
+          rows = All-nil _;
+          default = refl;
+          no_two = λ i j d k l. absurd (omega (arith, l));
+          constants = λ e. refl;
+        },
+        tt,
+      );
+      holds = All-cons (Satisfies (meaning (p_is_true ∷ []))) p_tree [] refl (All-nil (Satisfies (meaning (p_is_true ∷ []))));
+      fits = All-cons (Fits (meaning (p_is_true ∷ []))) p_tree [] refl (All-nil (Fits (meaning (p_is_true ∷ []))));
+    }
 
 -- p is asserted, and a model makes it true
 sat_may_come : MayReply every asserting_p CheckSat Sat (Model (p_is_true ∷ [])) (record asserting_p { mode = In.Sat (p_is_true ∷ []) })
@@ -184,21 +189,34 @@ exit_bytes = codes "(exit)" ++ 255 ∷ 0 ∷ 40 ∷ []
 exit_is_legal : IsLegal every settings exit_bytes (record { number = 0; reply = Success; kept = Nothing } ∷ [])
 unfolding IsLegal Replies MayReply effect command text_rest mark_rest quoted_rest lexeme comment_rest is_word_byte is_symbol_byte is_printable word_token
 exit_is_legal =
-    inl
-    ( inl
-      ( Enter ∷ Symbol (codes "exit") ∷ Leave ∷ []
-      , record { place = 6; bytes = 255 ∷ 0 ∷ 40 ∷ []; state = start settings; number = 1 }
-      , refl
-      , record { reads =
-          record { sexpr = (opening ∷ single ∷ [], 1, closing, refl, (omega arith, (omega arith, refl)), refl)
-          ; lexes =
-              ( exit_bytes, codes "exit)" ++ 255 ∷ 0 ∷ 40 ∷ [], refl
-              , (codes "exit)" ++ 255 ∷ 0 ∷ 40 ∷ [], 41 ∷ 255 ∷ 0 ∷ 40 ∷ [], refl
-              , (41 ∷ 255 ∷ 0 ∷ 40 ∷ [], 255 ∷ 0 ∷ 40 ∷ [], refl, refl)) )
-          ; place = refl }
-        ; number = (refl, refl)
-        ; reply = record { reply_is = refl; kept_is = refl; new_is = refl } } )
-    , refl )
+    inl (
+      inl (
+        Enter ∷ Symbol (codes "exit") ∷ Leave ∷ [],
+        record { place = 6; bytes = 255 ∷ 0 ∷ 40 ∷ []; state = start settings; number = 1 },
+        refl,
+        record {
+          reads =
+              record {
+                sexpr = (opening ∷ single ∷ [], 1, closing, refl, (omega arith, (omega arith, refl)), refl);
+                lexes = (
+                  exit_bytes,
+                  codes "exit)" ++ 255 ∷ 0 ∷ 40 ∷ [],
+                  refl,
+                  (
+                    codes "exit)" ++ 255 ∷ 0 ∷ 40 ∷ [],
+                    41 ∷ 255 ∷ 0 ∷ 40 ∷ [],
+                    refl,
+                    (41 ∷ 255 ∷ 0 ∷ 40 ∷ [], 255 ∷ 0 ∷ 40 ∷ [], refl, refl),
+                  ),
+                );
+                place = refl;
+              };
+          number = (refl, refl);
+          reply = record { reply_is = refl; kept_is = refl; new_is = refl };
+        },
+      ),
+      refl,
+    )
 
 abbrev is_ok : Result Command ErrorReply → Bool
 is_ok (Ok c) = true
@@ -215,11 +233,16 @@ fault_is_legal : IsLegal every settings fault_bytes
     (record { number = 0; reply = Error NotCommand; kept = Nothing } ∷ record { number = 1; reply = Error (Fault Closing 4); kept = Nothing } ∷ [])
 unfolding IsLegal Replies MayReply effect command text_rest mark_rest quoted_rest lexeme comment_rest is_word_byte is_symbol_byte is_printable word_token
 fault_is_legal =
-    inr
-    ( record { place = 3; bytes = codes " )"; state = start settings; number = 1 }
-    , ( Symbol (codes "foo") ∷ []
-      , (λ e. err_is_no_ok e)
-      , record { reads = record { sexpr = ([], 0, single, refl, refl, refl); lexes = (fault_bytes, codes " )", refl, refl); place = refl }
-        ; number = (refl, refl)
-        ; reply = record { reply_is = refl; kept_is = refl; new_is = refl } } )
-    , inl (inr (Closing, 4, (codes ")", record { after = []; leave = refl }, refl), refl, refl, refl), refl) )
+    inr (
+      record { place = 3; bytes = codes " )"; state = start settings; number = 1 },
+      (
+        Symbol (codes "foo") ∷ [],
+        (λ e. err_is_no_ok e),
+        record {
+          reads = record { sexpr = ([], 0, single, refl, refl, refl); lexes = (fault_bytes, codes " )", refl, refl); place = refl };
+          number = (refl, refl);
+          reply = record { reply_is = refl; kept_is = refl; new_is = refl };
+        },
+      ),
+      inl (inr (Closing, 4, (codes ")", record { after = []; leave = refl }, refl), refl, refl, refl), refl),
+    )

@@ -28,7 +28,7 @@ use Rattle.smt_meaning.specs.Stack.{Frame, signature_of}
 use Rattle.smt_meaning.specs.StackCommand.{Stack, Change, declares, asserts, pushes, pops, clears, begins_again, is_unsupported, asks, stack_command, judged, changed}
 use Rattle.smt_meaning.specs.Command.{command}
 use Rattle.smt_meaning.specs.State.{State, Effect, denied, left_out, accepted, answered, checked, effect, provided, set_logic, set_option_in, start_option, get_info, stack_effect, on_stack, with_stack, get_value, judged_values, valued, get_model, kept_model, logics, is_start, asserting, with_logic, set, all_fit, term_values, printed_functions, texts_of}
-use Rattle.smt_meaning.specs.MayReply.{Decided, Is, IsModel, MayCome, MayDecide, MayReply, MayReplyTo, Replies}
+use Rattle.smt_meaning.specs.MayReply.{Decided, IsExactly, IsModel, MayCome, MayDecide, MayReply, MayReplyTo, Replies}
 use Rattle.smt_meaning.specs.LegalJournal.{Moment, beginning, Runs}
 use Rattle.language_laws.specs.Laws.{ModeFits}
 
@@ -203,7 +203,7 @@ decided_sound s (Given.Assertions ts) kept new h d = absurd d
 decided_sound s (Given.Error e) kept new h d = absurd d
 
 check_sound : (x : Bool) (old s : State) (r : Reply) (kept : Kept) (new : State) → Sound old → HasLogic s.logic
-    → MatchBool x (MayDecide s r kept new) (Is Given.Unsupported old r kept new) → Sound new
+    → MatchBool x (MayDecide s r kept new) (IsExactly Given.Unsupported old r kept new) → Sound new
 check_sound true old s r kept new h l d = decided_sound s r kept new l d
 check_sound false old s r kept new h l i = as_sound old new i.new_is h
 

@@ -7,3 +7,4 @@ mod Lines
 mod Told
 mod Kept
 mod Journals
+mod Numbers

@@ -24,7 +24,7 @@ use Rattle.smt_meaning.specs.StackCommand.{Change, declares, asserts, pushes, po
 use Rattle.smt_meaning.specs.Command.{command}
 use Rattle.smt_meaning.specs.State
 use Rattle.smt_meaning.specs.State.{Effect, denied, left_out, accepted, answered, checked, effect, provided, set_logic, set_option_in, start_option, get_info, stack_effect, on_stack, get_value, judged_values, valued, get_model, get_assertions, kept_model, logics, is_start, asserting, with_logic, set, all_fit, term_values, printed_functions, texts_of}
-use Rattle.smt_meaning.specs.MayReply.{Decided, Is, MayCome, MayDecide, MayReply, MayReplyTo, Replies, success}
+use Rattle.smt_meaning.specs.MayReply.{Decided, IsExactly, MayCome, MayDecide, MayReply, MayReplyTo, Replies, success}
 use Rattle.language_laws.specs.Laws.{HasOneReply, ChangesNothing}
 
 -- a reply that tells something
@@ -158,8 +158,8 @@ false_true e = absurd (subst only_false e tt)
 record OneOf (decided : Decided) (old : State.State) (f : Effect) : Type 0 where
   reply : Reply
   new : State.State
-  may : (r : Reply) (kept : Kept) (s : State.State) → Is reply new r kept s → MayCome decided old f r kept s
-  only : (r : Reply) (kept : Kept) (s : State.State) → MayCome decided old f r kept s → Is reply new r kept s
+  may : (r : Reply) (kept : Kept) (s : State.State) → IsExactly reply new r kept s → MayCome decided old f r kept s
+  only : (r : Reply) (kept : Kept) (s : State.State) → MayCome decided old f r kept s → IsExactly reply new r kept s
 
 one_of : (decided : Decided) (old : State.State) (f : Effect) → is_told false f ≡ true → OneOf decided old f
 one_of decided old (denied e) h = record { reply = Given.Error e; new = old; may = λ r kept s i. i; only = λ r kept s i. i }
@@ -201,7 +201,7 @@ changes_nothing decided old (accepted s) h r a b u kept new i = false_true (sym 
 changes_nothing decided old (answered t s) h r a b u kept new i = false_true (sym a ∙ ap is_answer i.reply_is ∙ h)
 changes_nothing decided old (checked s) h r a b u kept new i = in_check (decided s.stack.frames) i
   where
-    in_check : (x : Bool) → MatchBool x (MayDecide s r kept new) (Is Given.Unsupported old r kept new) → new ≡ old
+    in_check : (x : Bool) → MatchBool x (MayDecide s r kept new) (IsExactly Given.Unsupported old r kept new) → new ≡ old
     in_check true j = absurd (u s kept new j)
     in_check false j = j.new_is
 

@@ -1,9 +1,11 @@
 -- Laws of the definitions of commands and replies.
-use Rattle.std.specs.Prelude.{◌≡◌, ◌≢◌, ◌⊎◌, ℕ, List, [], ◌∷◌, ◌++◌, Option, Some, None}
+use Rattle.std.specs.Prelude.{◌≡◌, ◌≢◌, ◌⊎◌, ℕ, List, [], ◌∷◌, ◌++◌, ℤ, pos, IsTrue, Option, Some, None, Ok}
 use Rattle.smt_meaning.specs.declared.tokens.Token.{Token}
 use Rattle.smt_meaning.specs.declared.errors.Error.{Error as ErrorReply}
 use Rattle.smt_meaning.specs.declared.commands.Command.{Command}
-use Rattle.smt_meaning.specs.declared.commands.Command.TheVariants.{CheckSat}
+use Rattle.smt_meaning.specs.declared.options.OptionSetting.{OptionSetting}
+use Rattle.smt_meaning.specs.declared.options.OptionSetting.TheVariants.{Verbosity, ReproducibleResourceLimit, RandomSeed}
+use Rattle.smt_meaning.specs.declared.commands.Command.TheVariants.{SetOption, DeclareSort, CheckSat, Push, Pop}
 use Rattle.smt_meaning.specs.declared.settings.Settings.{Settings}
 use Rattle.smt_meaning.specs.declared.answers.Entry.{Entry}
 use Rattle.smt_meaning.specs.declared.answers.Mode.{Mode}
@@ -11,9 +13,12 @@ use Rattle.smt_meaning.specs.declared.answers.Mode.TheVariants as In
 use Rattle.smt_meaning.specs.declared.answers.Reply.{Reply}
 use Rattle.smt_meaning.specs.declared.answers.Reply.TheVariants.{Silent, Unsupported, Error}
 use Rattle.smt_meaning.specs.declared.replies.Kept.{Kept}
+use Rattle.smt_meaning.specs.Sexp.{Sexp}
+use Rattle.smt_meaning.specs.Sorts.{is_small}
+use Rattle.smt_meaning.specs.Command.{command}
 use Rattle.smt_meaning.specs.State.{State}
 use Rattle.smt_meaning.specs.Stack.{Frame}
-use Rattle.smt_meaning.specs.MayReply.{Decided, MayReply, Replies, Is, IsModel}
+use Rattle.smt_meaning.specs.MayReply.{Decided, MayReply, Replies, IsExactly, IsModel}
 use Rattle.smt_meaning.specs.LegalJournal.{Moment, beginning, Runs}
 use Rattle.smt_meaning.specs.Text.{text, line}
 
@@ -21,8 +26,8 @@ use Rattle.smt_meaning.specs.Text.{text, line}
 pub record HasOneReply (decided : Decided) (old : State) (c : Command) : Type 0 where
   pub reply : Reply
   pub new : State
-  pub may : (r : Reply) (kept : Kept) (s : State) → Is reply new r kept s → MayReply decided old c r kept s
-  pub only : (r : Reply) (kept : Kept) (s : State) → MayReply decided old c r kept s → Is reply new r kept s
+  pub may : (r : Reply) (kept : Kept) (s : State) → IsExactly reply new r kept s → MayReply decided old c r kept s
+  pub only : (r : Reply) (kept : Kept) (s : State) → MayReply decided old c r kept s → IsExactly reply new r kept s
 
 -- a command that is no check has one reply
 abbrev pub OneReply : Type 0
@@ -58,3 +63,24 @@ abbrev pub ModeHolds : Type 0
 ModeHolds =
     (decided : Decided) (settings : Settings) (input : List ℕ) (entries : List Entry) (m : Moment)
     → Runs decided (beginning settings input) entries m → ModeFits m.state.mode m.state.logic m.state.stack.frames
+
+-- a number that a script writes: at most 2^127 - 1, and not below 0
+abbrev pub IsWritten : ℤ → Type 0
+IsWritten n = (k : ℕ) × (n ≡ pos k) × IsTrue (is_small k)
+
+abbrev pub SetsWritten : OptionSetting → Type 0
+SetsWritten (Verbosity n) = IsWritten n
+SetsWritten (ReproducibleResourceLimit n) = IsWritten n
+SetsWritten (RandomSeed n) = IsWritten n
+SetsWritten _ = Unit {0}
+
+-- the numbers of a command are such
+abbrev pub HasWrittenNumbers : Command → Type 0
+HasWrittenNumbers (SetOption o) = SetsWritten o
+HasWrittenNumbers (DeclareSort n arity) = IsWritten arity
+HasWrittenNumbers (Push n) = IsWritten n
+HasWrittenNumbers (Pop n) = IsWritten n
+HasWrittenNumbers _ = Unit {0}
+
+abbrev pub NumbersAreWritten : Type 0
+NumbersAreWritten = (x : Sexp) (c : Command) → command x ≡ Ok c → HasWrittenNumbers c

@@ -36,7 +36,7 @@ MayDecide s Given.Unsat kept new = (kept ≡ Nothing) × HasNoModel s.stack.fram
 MayDecide s _ kept new = ⊥
 
 -- exactly this reply, and this state
-pub record Is (should : Reply) (state : State) (reply : Reply) (kept : Kept) (new : State) : Type 0 where
+pub record IsExactly (should : Reply) (state : State) (reply : Reply) (kept : Kept) (new : State) : Type 0 where
   pub reply_is : reply ≡ should
   pub kept_is : kept ≡ Nothing
   pub new_is : new ≡ state
@@ -46,12 +46,12 @@ abbrev pub success : State → Reply
 success new = if new.options.print_success then Given.Success else Given.Silent
 
 abbrev pub MayCome : Decided → State → Effect → Reply → Kept → State → Type 0
-MayCome decided old (denied e) reply kept new = Is (Given.Error e) old reply kept new
-MayCome decided old left_out reply kept new = Is Given.Unsupported old reply kept new
-MayCome decided old (accepted s) reply kept new = Is (success s) s reply kept new
-MayCome decided old (answered r s) reply kept new = Is r s reply kept new
+MayCome decided old (denied e) reply kept new = IsExactly (Given.Error e) old reply kept new
+MayCome decided old left_out reply kept new = IsExactly Given.Unsupported old reply kept new
+MayCome decided old (accepted s) reply kept new = IsExactly (success s) s reply kept new
+MayCome decided old (answered r s) reply kept new = IsExactly r s reply kept new
 MayCome decided old (checked s) reply kept new =
-    MatchBool (decided s.stack.frames) (MayDecide s reply kept new) (Is Given.Unsupported old reply kept new)
+    MatchBool (decided s.stack.frames) (MayDecide s reply kept new) (IsExactly Given.Unsupported old reply kept new)
 
 -- in the old state the command may be answered so, and leave the new state
 unfoldable pub MayReply : Decided → State → Command → Reply → Kept → State → Type 0
@@ -59,7 +59,7 @@ MayReply decided old c reply kept new = MayCome decided old (effect old c) reply
 
 abbrev pub MayReplyTo : Decided → State → Result Command Error → Reply → Kept → State → Type 0
 MayReplyTo decided old (Ok c) reply kept new = MayReply decided old c reply kept new
-MayReplyTo decided old (Err e) reply kept new = Is (Given.Error e) old reply kept new
+MayReplyTo decided old (Err e) reply kept new = IsExactly (Given.Error e) old reply kept new
 
 -- so may the s-expression of these tokens be answered
 unfoldable pub Replies : Decided → State → List Token → Reply → Kept → State → Type 0

@@ -22,9 +22,9 @@ use Rattle.sort_laws.proofs.Signatures.{sort_eq-sound, Usable, Good, symbol_usab
 use Rattle.sort_laws.proofs.Judgements.{after_self, Ends, Gives, Nothing, bind_gives, next_gives, return_gives, refuse_gives, require_gives, required_gives, scope_then, Fine, declare_gives, weaken}
 use Rattle.sort_laws.proofs.TermsLaw.{VariablesFine, judge_gives}
 
--- a new assertion has the sort Bool
+-- a new assertion has the sort Bool, and is among the trees
 abbrev pub Does : Change → Scope → Type 0
-Does (asserts a) t = HasSort t.signature [] a.term Truths
+Does (asserts a) t = HasSort t.signature [] a.term Truths × Among a.term t.trees
 Does _ t = Unit {0}
 
 -- ---- sorts and names
@@ -155,9 +155,11 @@ assert_gives x s g =
     bind_gives true s _ _ (Fine []) Does (judge_gives in_assert [] (λ e. refl) [] (sexp x) s g tt)
     (λ a t f e k. next_gives true t _ _ _ Does (require_gives true t _ _)
     (λ b u d m l. next_gives true u _ _ _ Does (room_gives u)
-    (λ c v h i p. return_gives true v _ Does
-    (sort_later u.signature v.signature [] a.tree Truths i.later
-    (sort_later t.signature u.signature [] a.tree Truths m.later (subst (HasSort t.signature [] a.tree) (sort_eq-sound a.sort Truths l) k.0))))))
+    (λ c v h i p. return_gives true v _ Does (
+      sort_later u.signature v.signature [] a.tree Truths i.later
+          (sort_later t.signature u.signature [] a.tree Truths m.later (subst (HasSort t.signature [] a.tree) (sort_eq-sound a.sort Truths l) k.0)),
+      i.kept a.tree (m.kept a.tree k.1),
+    ))))
 
 unnamed : {A : Type 0} (s : Scope) (m : Judging A) (P : A → Scope → Type 0) → Gives false s m P → Gives true s m Nothing
 unnamed s m P h = record { gives = λ g. go (m s) (h.gives g) }
