@@ -1,9 +1,0 @@
-pub mod RowLemmas
-pub mod Solutions
-pub mod PivotLemmas
-pub mod Shape
-pub mod Kept
-pub mod TableLemmas
-pub mod Absent
-pub mod Coefficients
-pub mod PivotedRows
