@@ -1,4 +1,5 @@
-mod Halving
-mod Steps
-mod FloorOrder
-mod Smallness
+pub mod Halving
+pub mod Steps
+pub mod FloorOrder
+pub mod Smallness
+pub mod DigitLemmas

@@ -1,0 +1,26 @@
+use Rattle.std.proofs.Common.{◌+◌, ◌^◌, ◌≤◌, unsigned_abs, ◌∙◌, arith}
+use Rattle.fraction128.proofs.DigitLemmas.{digit_size, fused_back, fused_bound, near_back, size_back}
+use Rattle.fraction128.proofs.exact_sum.first_place.Goals as goal
+
+pub with_times-requires-clause-near : goal.with_times-requires-clause-near
+with_times-requires-clause-near c =
+    let s0 : unsigned_abs c.args.sum ≤ 2 ^ 32 = digit_size c.args.sum c.requires.digit in
+    size_back c.args.sum (2 ^ 66) (omega arith) (omega (arith, s0))
+
+pub with_times-requires-clause-left : goal.with_times-requires-clause-left
+with_times-requires-clause-left c = size_back c.args.x.d0 (2 ^ 32) (omega arith) (digit_size c.args.x.d0 c.requires.left.first)
+
+pub with_times-requires-clause-right : goal.with_times-requires-clause-right
+with_times-requires-clause-right c = size_back c.args.y.d0 (2 ^ 32) (omega arith) (digit_size c.args.y.d0 c.requires.right.first)
+
+pub returns-clause-value : goal.returns-clause-value
+returns-clause-value c =
+    let s0 : unsigned_abs c.args.sum ≤ 2 ^ 32 = digit_size c.args.sum c.requires.digit in
+    let b0 : unsigned_abs c.with_times.result ≤ unsigned_abs c.args.sum + 2 ^ 64 = fused_bound c.with_times.result c.args.sum (omega (arith, s0)) c.with_times.ensures.bound in
+    near_back c.with_times.result (omega (arith, s0, b0)) ∙ fused_back c.with_times.result c.args.sum c.args.x.d0 c.args.y.d0 (omega (arith, s0)) (digit_size c.args.x.d0 c.requires.left.first) (digit_size c.args.y.d0 c.requires.right.first) c.with_times.ensures.value
+
+pub returns-clause-near : goal.returns-clause-near
+returns-clause-near c =
+    let s0 : unsigned_abs c.args.sum ≤ 2 ^ 32 = digit_size c.args.sum c.requires.digit in
+    let b0 : unsigned_abs c.with_times.result ≤ unsigned_abs c.args.sum + 2 ^ 64 = fused_bound c.with_times.result c.args.sum (omega (arith, s0)) c.with_times.ensures.bound in
+    size_back c.with_times.result (2 ^ 67) (omega arith) (omega (arith, s0, b0))

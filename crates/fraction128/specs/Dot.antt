@@ -1,0 +1,7 @@
+-- Sums of products of whole numbers, without bound.
+use Rattle.std.specs.Prelude.{ℕ, ◌^◌, List, [], ◌∷◌, ℤ, pos, ◌+ℤ◌, ◌*ℤ◌}
+
+-- k and the products of the pairs
+abbrev pub dot_of : ℤ → List (ℤ × ℤ) → ℤ
+dot_of k [] = k
+dot_of k (p ∷ ps) = p.0 *ℤ p.1 +ℤ dot_of k ps
