@@ -14,7 +14,7 @@ use Rattle.smt_meaning.specs.declared.terms.Operator.TheVariants.{True, False, N
 use Rattle.smt_meaning.specs.declared.terms.Head.{Head}
 use Rattle.smt_meaning.specs.declared.terms.Head.TheVariants.{Numeral, Theory, Symbol, Place}
 use Rattle.smt_meaning.specs.Term.{Tree, Trees, node, none, more, Interpretation, value, values, apply, operate, fold_left, fold_right, left_assoc, right_assoc, on_truths, on_numbers, truth_of, choice, difference, negation, implies, xor}
-use Rattle.smt_meaning.specs.declared.declarations.Declaration.{Declaration}
+use Rattle.smt_meaning.specs.Declaration.{Declaration}
 use Rattle.smt_meaning.specs.Signature.{sort_eq, sorts_eq, all_of, if_so, ite_sort, operator_sort, is_symbol, function_with_id, symbol_sort, stands_with, head_sort, cons_sort, with_sorts, tree_sort, tree_sorts}
 use Rattle.smt_meaning.specs.Interpretation.{has_sort, have_sorts, IsFunctionFor, Interprets}
 
@@ -169,6 +169,7 @@ step_decl I vs ss s d o g h j rec false p r = rec r
 
 in_signature : (I : Interpretation) (vs : List Value) (ss : List Sort) (s : Sort) → have_sorts vs ss ≡ true
     → (es : List Declaration) (g : ℕ) → Interprets es I → symbol_sort (function_with_id g es) ss ≡ Some s → Fits (I g vs) s
+unfolding Interprets
 in_signature I vs ss s h [] g j q = absurd (cc)
 in_signature I vs ss s h (d ∷ es) g j q =
     step_decl I vs ss s d (function_with_id g es) g h (All-head (IsFunctionFor I) d es j)

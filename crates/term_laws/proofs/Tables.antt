@@ -6,7 +6,7 @@ use Rattle.smt_meaning.specs.declared.values.Value.{Value}
 use Rattle.smt_meaning.specs.declared.values.Sort.{Sort}
 use Rattle.smt_meaning.specs.declared.values.Row.{Row}
 use Rattle.smt_meaning.specs.declared.values.Table.{Table}
-use Rattle.smt_meaning.specs.declared.declarations.Declaration.{Declaration}
+use Rattle.smt_meaning.specs.Declaration.{Declaration}
 use Rattle.smt_meaning.specs.Term.{Interpretation}
 use Rattle.smt_meaning.specs.Signature.{is_symbol, HasNoIdTwice}
 use Rattle.smt_meaning.specs.Interpretation.{has_sort, have_sorts, IsFunctionFor, Interprets, look, meaning, same_values, IsTableFor, AreTablesFor}
@@ -33,6 +33,7 @@ no_symbol : (I : Interpretation) (d : Declaration) → (IsTrue (is_symbol d) →
 no_symbol I d never is_sym = absurd (never is_sym)
 
 pub tables_interpret : (ds : List Declaration) (ts : List Table) → HasNoIdTwice ds → AreTablesFor ds ts → Interprets ds (meaning ts)
+unfolding Interprets
 tables_interpret [] [] fresh h = All-nil (IsFunctionFor (meaning []))
 tables_interpret [] (t ∷ ts) fresh h = absurd h
 tables_interpret (d ∷ ds) [] fresh h =
