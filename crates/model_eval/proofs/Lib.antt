@@ -2,3 +2,4 @@ pub mod Looks
 pub mod Folds
 pub mod MarkLemmas
 pub mod KeepLemmas
+pub mod TableLemmas

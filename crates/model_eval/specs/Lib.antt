@@ -1,3 +1,4 @@
 pub mod Unfit
 pub mod Fitted
 pub mod Walk
+pub mod Tables

@@ -8,7 +8,8 @@ ghost use Rattle.model_eval.specs.Walk.{value_at, AreKept, HasMarkedArguments, i
 
 use crate::EvalError;
 use crate::operators::apply_head;
-use smt_meaning::{Head, Interp, TermId, Value};
+use crate::tables::Tables;
+use smt_meaning::{Head, TermId, Value};
 use std::alloc::{AllocError, Global};
 use term_store::TermStore;
 
@@ -52,7 +53,7 @@ pub(crate) fn gather(
 
 /// The value of a node whose arguments have theirs.
 fn node_value(
-    interp: &Interp,
+    interp: &Tables<'_>,
     head: Head,
     places: &[TermId],
     found: &mut Found,
@@ -71,7 +72,7 @@ fn node_value(
 /// Evaluates the next term of the store, where it is a part.
 pub(crate) fn add(
     found: &mut Found,
-    interp: &Interp,
+    interp: &Tables<'_>,
     store: &TermStore,
     marks: &[bool],
     id: TermId,

@@ -18,6 +18,7 @@ use evaluate::{Found, add, gather, nothing};
 use marks::parts_of;
 use smt_meaning::{Interp, Seq, TermId, Value};
 use std::alloc::{AllocError, AllocFailed, Global};
+use tables::Tables;
 use term_store::TermStore;
 
 /// Why a term isn't evaluated.
@@ -67,9 +68,10 @@ fn evaluated(
     let marks = parts_of(alloc, store, terms)?;
     let fits = marks.len() <= known;
     prove!(fits);
+    let tables = Tables::new(alloc, interp)?;
     let mut found = nothing(alloc);
     for id in 0..marks.len() {
-        add(&mut found, interp, store, &marks, id as u32)?;
+        add(&mut found, &tables, store, &marks, id as u32)?;
     }
     Ok(found)
 }

@@ -4,8 +4,8 @@ ghost use Rattle.smt_meaning.specs.Term.{truth_of, number_of, same_value, in_ran
 ghost use Rattle.smt_meaning.specs.Interpretation.{meaning};
 ghost use Rattle.model_eval.specs.Fitted.{some_if, fitted_head, fitted_op, fitted_fold, binary, folds, relation, chains};
 
-use crate::tables::look_up;
-use smt_meaning::{Head, Interp, Operator, Value};
+use crate::tables::{Tables, look_up};
+use smt_meaning::{Head, Operator, Value};
 
 pub(crate) fn same(a: Value, b: Value) -> bool
     ensures { result ≡ same_value a b }
@@ -207,7 +207,7 @@ fn operate(operator: Operator, arguments: &[Value]) -> Option<Value>
     }
 }
 
-pub(crate) fn apply_head(interp: &Interp, head: Head, arguments: &[Value]) -> Option<Value>
+pub(crate) fn apply_head(interp: &Tables<'_>, head: Head, arguments: &[Value]) -> Option<Value>
     requires { IsTrue (all_in_range arguments.now) }
     ensures { result ≡ fitted_head (meaning interp.now) head arguments.now }
 {

@@ -1,4 +1,4 @@
-use crate::{EvalError, value};
+use crate::{EvalError, value, values};
 use smt_meaning::Operator::*;
 use smt_meaning::Value::{Truth, Whole};
 use smt_meaning::{Head, Interp, Operator, Row, Seq, Table, TermId, Value};
@@ -199,5 +199,54 @@ fn deep_and_shared_terms(rt: HostRuntime) -> Result<(), Fail> {
         evaluate(&rt, rt.alloc(), &interp, &store, negation),
         Ok(Truth(false))
     );
+    Ok(())
+}
+
+fn evaluate_all(
+    rt: &impl Abort,
+    alloc: Global,
+    interp: &Interp,
+    store: &TermStore,
+    terms: &[TermId],
+) -> Result<Seq<Value>, EvalError> {
+    let count = store.len();
+    assert!(rt; terms.iter().all(|t| *t < count));
+    values(alloc, interp, store, terms)
+}
+
+#[test]
+fn terms_are_evaluated_together(rt: HostRuntime) -> Result<(), Fail> {
+    let alloc = rt.alloc();
+    let mut interp = Seq::new(alloc);
+    for (symbol, default) in [(7, 5), (3, 1), (7, 9)] {
+        interp.push(Table {
+            symbol,
+            rows: Seq::new(alloc),
+            default: Whole(default),
+        })?;
+    }
+    let mut store = TermStore::new(alloc, u32::MAX);
+    for (head, arguments) in [
+        (Head::Symbol(3), [].as_slice()),
+        (Head::Symbol(7), &[]),
+        (Head::Theory(Add), &[0, 1]),
+        (Head::Numeral(MAX), &[]),
+        (Head::Theory(Add), &[3, 1]),
+        (Head::Theory(Subtract), &[4, 2]),
+        (Head::Theory(Multiply), &[3, 1]),
+    ] {
+        let _ = intern(&rt, &mut store, head, arguments)?;
+    }
+    let got = evaluate_all(&rt, alloc, &interp, &store, &[2, 0, 3, 2])?;
+    assert_eq!(rt;
+        got.as_slice(),
+        [Whole(6), Whole(1), Whole(MAX), Whole(6)].as_slice()
+    );
+    let none = evaluate_all(&rt, alloc, &interp, &store, &[])?;
+    assert_eq!(rt; none.len(), 0);
+    for (terms, first) in [([6, 0, 5], 4), ([2, 6, 6], 6), ([4, 6, 3], 4)] {
+        let got = evaluate_all(&rt, alloc, &interp, &store, &terms);
+        assert!(rt; matches!(&got, Err(EvalError::Range(i)) if *i == first));
+    }
     Ok(())
 }

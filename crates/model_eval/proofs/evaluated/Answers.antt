@@ -13,4 +13,4 @@ returns-in_err-add-clause-cause c =
     let short : c.loop-id.id < length c.args.store.now.trees = grind arith in
     rw (p.1, p.2)
     (cause_of (meaning c.args.interp.now) c.args.store.now.trees c.args.terms.now _ c.in_ok-marks.marks.items c.loop-id.found.slots.items c.loop-id.found.values.items
-    c.in_ok-marks.ensures.marked c.len-known.ensures.different c.requires c.loop-id.invariant.kept c.loop-id.id _ c.loop-id.invariant.next short (rw c.deref.ensures.value at c.in_err-add.ensures.err))
+    c.in_ok-marks.ensures.marked c.len-known.ensures.different c.requires c.loop-id.invariant.kept c.loop-id.id _ c.loop-id.invariant.next short (rw (c.deref.ensures.value, c.in_ok-tables.ensures) at c.in_err-add.ensures.err))
