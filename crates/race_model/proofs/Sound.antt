@@ -165,7 +165,7 @@ module _ (push : StillFollowsAfterPush) (more : StillFollowsAfterMore) (pop : St
   }
   step_keeps s (Push n) m h = in_more s _ (sound_after_push push s.base n) h
   step_keeps s (Pop n) m h = cut_keeps s (length s.base.frames - n) (omega arith) h
-  step_keeps s (Assert a) m h = in_more s _ (sound_after_more more s.base (a.declared ++ a.named) (asserted_by s a.formula)) h
+  step_keeps s (Assert a) m h = in_more s _ (sound_after_more more s.base (a.declared ++ a.named) (asserted_by s a)) h
 
 -- ---- races
 

@@ -1,5 +1,6 @@
 -- Levels whose terms are named by their places in a list of trees, read as the frames of a stack.
-use Rattle.std.specs.Prelude.{ℕ, List, map, []}
+use Rattle.std.specs.Prelude.{ℕ, List, [], ◌∷◌, ◌++◌, map}
+use Rattle.smt_meaning.specs.declared.declarations.Declaration.{Declaration}
 use Rattle.smt_meaning.specs.Term.{Tree, tree_at}
 use Rattle.smt_meaning.specs.Sexp.{sexp}
 use Rattle.smt_meaning.specs.Stack.{Assertion, Frame}
@@ -20,3 +21,8 @@ frame_of ts l = record { declared = l.declared; asserted = map (assertion_of ts)
 
 abbrev pub base_of : Levels → Base
 base_of l = record { trees = l.terms; frames = map (frame_of l.terms) l.levels.items }
+
+-- all that is declared at some level
+abbrev pub declared_in : List Level → List Declaration
+declared_in [] = []
+declared_in (l ∷ ls) = l.declared ++ declared_in ls

@@ -81,14 +81,14 @@ abbrev pub has_id : ℕ → List Declaration → Bool
 has_id i [] = false
 has_id i (d ∷ ds) = nat_eq i d.id || has_id i ds
 
--- each has an id that stands neither in the signature nor before it
+-- each has an id that stands neither in the signature, nor among the others, nor in what comes after it
 abbrev pub are_new : List Declaration → List Declaration → List Declaration → Bool
-are_new signature before [] = true
-are_new signature before (d ∷ ds) = not (has_id d.id signature || has_id d.id before) && are_new signature (before ++ d ∷ []) ds
+are_new signature others [] = true
+are_new signature others (d ∷ ds) = not (has_id d.id signature || has_id d.id others || has_id d.id ds) && are_new signature others ds
 
 -- the declarations and definitions of an addition, and the names that its term gives, are new
 abbrev pub is_new : List Declaration → Addition → Bool
-is_new signature a = are_new signature [] a.declared && are_new signature a.declared a.named
+is_new signature a = are_new signature a.named a.declared && are_new signature [] a.named
 
 -- the tokens are a Bool term over the declarations, with this tree, which gives these names at a level
 pub record IsBoolTerm (ds : List Declaration) (level : ℕ) (text : List Token) (t : Tree) (names : List Declaration) : Type 0 where
@@ -153,9 +153,13 @@ after_cut n s = record {
   winner = s.winner;
 }
 
-abbrev pub asserted_by : State → Option Formula → List Assertion
-asserted_by s None = []
-asserted_by s (Some f) = assertion_of s.base.trees f ∷ []
+-- a formula that is there or not, as a list
+abbrev pub formulas_of : Option Formula → List Formula
+formulas_of None = []
+formulas_of (Some f) = f ∷ []
+
+abbrev pub asserted_by : State → Addition → List Assertion
+asserted_by s a = map (assertion_of s.base.trees) (formulas_of a.formula)
 
 abbrev pub after : State → Event → State
 after s (Learn w ps c) = with_worker s w (record (worker_at s w) { own = (worker_at s w).own ++ c ∷ [] })
@@ -166,7 +170,7 @@ after s (Win w) = record s { winner = Some w }
 after s (End w) = with_worker s w (record (worker_at s w) { ended = true })
 after s (Push n) = with_frames s (pushed n s.base.frames)
 after s (Pop n) = after_cut (length s.base.frames - n) s
-after s (Assert a) = with_frames s (on_top (a.declared ++ a.named) (asserted_by s a.formula) s.base.frames)
+after s (Assert a) = with_frames s (on_top (a.declared ++ a.named) (asserted_by s a) s.base.frames)
 
 -- it was a step, or it is none and nothing changed
 abbrev pub StepTells : State → Event → Bool → State → Type 0

@@ -1,14 +1,14 @@
 use smt_meaning::{Clause, Declaration, SExpr, Seq, TermId};
 
 /// A clause that a worker shared.
-#[derive(Debug, Drop)]
+#[derive(Drop)]
 pub struct Entry {
     pub clause: Clause,
     pub worker: u8,
 }
 
 /// What a learnt clause rests on.
-#[derive(Debug, Drop)]
+#[derive(Drop)]
 pub enum Premise {
     /// A clause of the worker's own.
     Known(Clause),
@@ -17,14 +17,14 @@ pub enum Premise {
 }
 
 /// A term as written, and the place of its tree.
-#[derive(Debug, Drop)]
+#[derive(Drop)]
 pub struct Formula {
     pub text: SExpr,
     pub term: TermId,
 }
 
 /// What joins the newest level: declarations and definitions, and perhaps an assertion with the names that it gives.
-#[derive(Debug, Drop)]
+#[derive(Drop)]
 pub struct Addition {
     pub declared: Seq<Declaration>,
     pub formula: Option<Formula>,
@@ -32,7 +32,7 @@ pub struct Addition {
 }
 
 /// What happens in a race. The first number is the worker's.
-#[derive(Debug, Drop)]
+#[derive(Drop)]
 pub enum Event {
     /// The worker derives a clause from premises.
     Learn(u8, Seq<Premise>, Clause),

@@ -1,11 +1,13 @@
 //! The race of workers over one stack as a pure machine: its state, its events and their steps, and the law over every order of them.
 #![tactic(auto)]
 
+mod clause;
 mod event;
 mod laws;
 mod levels;
 mod state;
 
+pub use clause::{copy_clause, has_clause, is_same_clause};
 pub use event::{Addition, Entry, Event, Formula, Premise};
 pub use laws::{
     empty_own_clause_refutes, every_run_is_sound, first_state_is_sound, next_race_begins_sound,
