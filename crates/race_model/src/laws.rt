@@ -2,8 +2,8 @@
 ghost use Rattle.race_model.specs.Laws.{EmptyOwnClauseRefutes, EveryRunIsSound, FirstStateIsSound, NextRaceBeginsSound, RaceKeepsSound, StepKeepsSound};
 
 use clause_laws::{
-    empty_clause_shows_no_model, still_follows_above, still_follows_after_more, still_follows_after_pop,
-    still_follows_after_push, still_follows_with_trees,
+    empty_clause_shows_no_model, still_follows_above, still_follows_after_more,
+    still_follows_after_pop, still_follows_after_push, still_follows_with_trees,
 };
 
 /// The first state of a run is sound.

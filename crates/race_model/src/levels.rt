@@ -5,6 +5,7 @@ ghost use Rattle.race_model.specs.Race.{has_id, is_new, are_new, terms_at, formu
 ghost use Rattle.smt_meaning.specs.Stack.{depth, signature_of, pushed, on_top};
 
 use crate::event::{Addition, Formula};
+use crate::shelf::Framed;
 use smt_meaning::{Declaration, Seq, SymId, Terms};
 use std::alloc::{AllocError, Global};
 use std::mem;
@@ -163,4 +164,10 @@ impl Levels {
         let last = self.levels.len() - 1;
         self.levels[last].gain(alloc, addition)
     }
+}
+
+impl Framed for Levels {
+    ghost use Rattle.race_model.specs.Base.{base_of};
+
+    ghost base = { base_of };
 }

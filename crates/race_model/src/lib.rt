@@ -5,6 +5,7 @@ mod clause;
 mod event;
 mod laws;
 mod levels;
+mod shelf;
 mod state;
 
 pub use clause::{copy_clause, has_clause, is_same_clause};
@@ -14,4 +15,5 @@ pub use laws::{
     race_keeps_sound, step_keeps_sound,
 };
 pub use levels::{Level, Levels};
+pub use shelf::{Framed, Shelf, Told};
 pub use state::{RaceState, Worker};

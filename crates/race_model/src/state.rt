@@ -212,8 +212,14 @@ impl RaceState {
         }
         let kept = self.levels.len() - count;
         self.levels.cut(kept);
-        cut_workers(alloc, self.workers.as_mut_slice(), self.entries.as_slice(), kept);
-        self.entries.retain(|entry| (entry.clause.level as usize) < kept);
+        cut_workers(
+            alloc,
+            self.workers.as_mut_slice(),
+            self.entries.as_slice(),
+            kept,
+        );
+        self.entries
+            .retain(|entry| (entry.clause.level as usize) < kept);
         true
     }
 

@@ -23,8 +23,7 @@ returns c =
     let size = s.workers.ok.0 in
     let long : length c.cut_workers.new.workers ≡ s.workers.len = omega (arith, c.cut_workers.auto.workers, c.as_mut_slice.ensures.len) in
     let workers : (with_items s.workers c.cut_workers.new.workers).items ≡ map (cut_worker n s.entries.items) s.workers.items =
-    with_items_is s.workers c.cut_workers.new.workers long ∙ (c.cut_workers.ensures ∙ (λ i. map (cut_worker (kept i) (c.as_slice.ensures.value i)) (c.as_mut_slice.ensures.value i))) in
-    (
+    with_items_is s.workers c.cut_workers.new.workers long ∙ (c.cut_workers.ensures ∙ (λ i. map (cut_worker (kept i) (c.as_slice.ensures.value i)) (c.as_mut_slice.ensures.value i))) in (
       (few, tt),
       (λ i. record {
         base = record { trees = c.cut.ensures.terms i; frames = (c.cut.ensures.frames ∙ ap (λ k. take k fs) kept) i };
