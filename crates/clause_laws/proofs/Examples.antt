@@ -6,7 +6,7 @@ use Rattle.smt_meaning.specs.declared.values.Sort.TheVariants.{Bool as Truths, I
 use Rattle.smt_meaning.specs.declared.terms.Operator.{Operator}
 use Rattle.smt_meaning.specs.declared.terms.Operator.TheVariants.{Equal, Distinct, Ite, Add, Subtract, Multiply, Less, AtLeast}
 use Rattle.smt_meaning.specs.declared.terms.Head.TheVariants.{Numeral, Theory, Symbol}
-use Rattle.smt_meaning.specs.declared.declarations.Declaration.{Declaration}
+use Rattle.smt_meaning.specs.Declaration.{Declaration}
 use Rattle.smt_meaning.specs.declared.clauses.Atom.{Atom}
 use Rattle.smt_meaning.specs.declared.clauses.Atom.TheVariants.{Truth, AtMost as Bound, Same}
 use Rattle.smt_meaning.specs.Term.{Tree, Trees, node, none, more}
@@ -80,7 +80,7 @@ large = refl
 -- ---- the atoms of an assertion
 
 abbrev declared : ℕ → Sort → Declaration
-declared id s = record { id = id; name = []; rank = record { arguments = []; result = s }; level = 0; body = None; is_sort = false }
+declared id s = record { id = id; name = []; rank = record { arguments = []; result = s }; body = None; is_sort = false }
 
 abbrev signature : List Declaration
 signature = declared 0 Ints ∷ declared 1 Ints ∷ declared 2 Truths ∷ []

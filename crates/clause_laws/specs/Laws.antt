@@ -1,13 +1,14 @@
 -- Laws of what follows from a stack, of linear forms and of normal bounds.
-use Rattle.std.specs.Prelude.{◌≡◌, ℕ, ◌+◌, ◌<◌, ◌≤◌, max, List, [], ◌∷◌, ◌++◌, length, ℤ, int_le, IsTrue, All, true, false}
-use Rattle.smt_meaning.specs.declared.declarations.Declaration.{Declaration}
+use Rattle.std.specs.Prelude.{◌≡◌, ℕ, ◌+◌, ◌<◌, ◌≤◌, max, List, [], ◌∷◌, ◌++◌, length, ℤ, int_le, IsTrue, All, true, false, Some}
+use Rattle.smt_meaning.specs.Declaration.{Declaration}
 use Rattle.smt_meaning.specs.declared.clauses.Summand.{Summand}
 use Rattle.smt_meaning.specs.declared.clauses.Atom.{Atom}
 use Rattle.smt_meaning.specs.declared.clauses.Literal.{Literal}
 use Rattle.smt_meaning.specs.declared.clauses.Clause.{Clause}
-use Rattle.smt_meaning.specs.Term.{Tree, tree_at, Interpretation, value, number_of}
-use Rattle.smt_meaning.specs.TreeShape.{is_linear, is_among, place_of}
-use Rattle.smt_meaning.specs.Sorts.{body_term, body_of}
+use Rattle.smt_meaning.specs.Term.{Tree, none, tree_at, Interpretation, value, number_of}
+use Rattle.smt_meaning.specs.TreeShape.{is_linear, is_among, place_of, with_parts}
+use Rattle.smt_meaning.specs.Signature.{tree_sort}
+use Rattle.smt_meaning.specs.Sorts.{Typed, name_declaration, applied, applied_trees}
 use Rattle.smt_meaning.specs.Stack.{Frame, Assertion, HasNoModel, on_top, pushed, popped}
 use Rattle.smt_meaning.specs.Clause.{atom_true, sum_value}
 use Rattle.smt_meaning.specs.Follows.{Follows}
@@ -83,6 +84,8 @@ NormalBoundHasValue =
 abbrev pub TreeIsFoundAgain : Type 0
 TreeIsFoundAgain = (t : Tree) (ts : List Tree) → IsTrue (is_among t ts) → tree_at ts (place_of t ts) ≡ t
 
--- a name that is given to a term stands for the term
+-- a name that is given to a term stands for the term, and judges again what was judged in the term
 abbrev pub NameStandsForTerm : Type 0
-NameStandsForTerm = (t : Tree) → body_term (body_of t) ≡ t
+NameStandsForTerm =
+    (ds : List Declaration) (id : ℕ) (n : List ℕ) (a : Typed) → tree_sort ds a.tree ≡ Some a.sort
+    → (applied (name_declaration id n a) none ≡ a.tree) × (applied_trees (name_declaration id n a) none ≡ with_parts [] a.tree)

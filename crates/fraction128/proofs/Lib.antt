@@ -1,7 +1,4 @@
-pub mod Ring
-pub mod Divisors
-pub mod Halving
-pub mod Integers
-pub mod Rationals
-pub mod Comparisons
-pub mod Smallness
+mod Halving
+mod Steps
+mod FloorOrder
+mod Smallness

@@ -3,14 +3,14 @@
 
 ghost use Rattle.std.specs.Prelude.{◌≡◌, ℕ, ◌*◌, ◌<◌, ◌^◌, pos, ◌+ℤ◌, ◌-ℤ◌, ◌*ℤ◌, ◌<ℤ◌, ◌≤ℤ◌, unsigned_abs, IfOk, OnOk, IfErr, IsTrue, ◌↔◌, ◌≢◌, Some, None};
 ghost use Rattle.std.specs.Ordering.{int_cmp};
-ghost use Rattle.fraction128.specs.Whole.{InRange, first_outside};
-ghost use Rattle.fraction128.specs.Ratio.{IsFraction, Equals, IsSum, IsDifference, IsProduct, IsReciprocal};
-ghost use Rattle.fraction128.specs.Listed.{negation_of, sum_steps, product_steps};
+ghost use Rattle.number_meaning.specs.Whole.{InRange, first_outside};
+ghost use Rattle.number_meaning.specs.Ratio.{IsFraction, Equals, IsSum, IsDifference, IsProduct, IsReciprocal};
+ghost use Rattle.number_meaning.specs.Listed.{negation_of, reciprocal_of, sum_of, sum_steps, product_of, product_steps};
 
 use crate::order::order;
-use crate::ratio::Ratio;
 use crate::sums::{difference, product, reciprocal, reduced, sum};
-use crate::whole::{Range, floor_div};
+use crate::whole::floor_div;
+use number_meaning::{Range, Ratio};
 use std::cmp::Ordering;
 use std::marker::Model;
 
@@ -21,11 +21,11 @@ pub struct Fraction {
 }
 
 impl Model for Fraction {
-    ghost use Rattle.fraction128.specs.declared.ratio.Ratio.{Ratio};
+    ghost use Rattle.number_meaning.specs.declared.ratio.Ratio.{Ratio};
 
     ghost Value = { Ratio };
 
-    ghost use Rattle.fraction128.specs.Ratio.{IsFraction};
+    ghost use Rattle.number_meaning.specs.Ratio.{IsFraction};
 
     ghost view = { λ a. a.ratio };
 
@@ -113,6 +113,8 @@ impl Fraction {
     /// The sum, or the first of the listed steps that leaves the range.
     pub fn add(self, other: Fraction) -> Result<Fraction, Range>
         ensures value { IfOk result (IsSum self other) }
+        ensures exact { IfOk result (λ r. r ≡ sum_of self other) }
+        ensures operands { IsFraction self × IsFraction other }
         ensures lowest { IfOk result IsFraction }
         ensures fits { OnOk result (first_outside (sum_steps self other) ≡ None) }
         ensures range { IfErr result (λ e. first_outside (sum_steps self other) ≡ Some e) }
@@ -136,6 +138,8 @@ impl Fraction {
     /// The product, or the first of the listed steps that leaves the range.
     pub fn mul(self, other: Fraction) -> Result<Fraction, Range>
         ensures value { IfOk result (IsProduct self other) }
+        ensures exact { IfOk result (λ r. r ≡ product_of self other) }
+        ensures operands { IsFraction self × IsFraction other }
         ensures lowest { IfOk result IsFraction }
         ensures fits { OnOk result (first_outside (product_steps self other) ≡ None) }
         ensures range { IfErr result (λ e. first_outside (product_steps self other) ≡ Some e) }
@@ -148,6 +152,7 @@ impl Fraction {
     pub fn recip(self) -> Fraction
         requires { self.numerator ≢ pos 0 }
         ensures value { IsReciprocal self result }
+        ensures exact { result ≡ reciprocal_of self }
         ensures lowest { IsFraction result }
     {
         let ratio = reciprocal(self.ratio);
@@ -160,6 +165,9 @@ impl Fraction {
         ensures upper { self.numerator <ℤ ((result +ℤ pos 1) *ℤ pos self.denominator) }
         ensures in_range { InRange result }
     {
+        if self.ratio.denominator == 1 {
+            return self.ratio.numerator;
+        }
         floor_div(self.ratio.numerator, self.ratio.denominator as i128)
     }
 

@@ -1,32 +1,16 @@
 -- The value of a term by cases on how it is written, under an environment that `let` and parameters extend (SMT-LIB 2.6, section 5.3).
-use Rattle.std.specs.Prelude.{ℕ, false, List, [], ◌∷◌, ◌++◌, pos, if◌then◌else◌, Option, Some, None, bytes_eq, slice_index_or}
+use Rattle.std.specs.Prelude.{ℕ, false, List, [], ◌∷◌, ◌++◌, pos, if◌then◌else◌, Option, Some, None, bytes_eq}
 use Rattle.smt_meaning.specs.declared.values.Value.{Value}
 use Rattle.smt_meaning.specs.declared.values.Value.TheVariants.{Truth, Whole}
 use Rattle.smt_meaning.specs.declared.terms.Operator.{Operator}
-use Rattle.smt_meaning.specs.declared.terms.Head.{Head}
-use Rattle.smt_meaning.specs.declared.terms.Head.TheVariants.{Place}
 use Rattle.smt_meaning.specs.declared.tokens.Token.{Token}
 use Rattle.smt_meaning.specs.declared.tokens.Token.TheVariants.{Numeral, Symbol, Reserved}
 use Rattle.smt_meaning.specs.declared.tokens.Word.TheVariants.{Exclamation, Let}
-use Rattle.smt_meaning.specs.declared.declarations.Declaration.{Declaration}
-use Rattle.smt_meaning.specs.Term.{Tree, Trees, node, none, more, Interpretation, operate, apply}
+use Rattle.smt_meaning.specs.Declaration.{Declaration}
+use Rattle.smt_meaning.specs.Term.{Interpretation, operate, value_with}
 use Rattle.smt_meaning.specs.Sexp.{Sexp, Sexps, word, group, end, ◌▸◌}
 use Rattle.smt_meaning.specs.Signature.{look_up, find_function, operators}
-use Rattle.smt_meaning.specs.Sorts.{body_term, decimal}
-
--- ---- the value of a definition's body, where its parameters have these values
-
-abbrev pub apply_at : Interpretation → List Value → Head → List Value → Value
-apply_at I parameters (Place k) vs = slice_index_or parameters k (Truth false)
-apply_at I parameters h vs = apply I h vs
-
-abbrev mutual
-  pub body_value : Interpretation → List Value → Tree → Value
-  body_value I parameters (node h ts) = apply_at I parameters h (body_values I parameters ts)
-
-  pub body_values : Interpretation → List Value → Trees → List Value
-  body_values I parameters none = []
-  body_values I parameters (more t ts) = body_value I parameters t ∷ body_values I parameters ts
+use Rattle.smt_meaning.specs.Sorts.{decimal}
 
 -- ---- the value of a name
 
@@ -44,7 +28,7 @@ bound_value n (b ∷ bs) = if bytes_eq n b.name then Some b.value else bound_val
 
 -- what a declared or defined function makes of these arguments
 abbrev pub declaration_value : Interpretation → Declaration → List Value → Value
-declaration_value I d vs = elim d.body [ None ↦ I d.id vs | Some b ↦ body_value I vs (body_term b) ]
+declaration_value I d vs = elim d.body [ None ↦ I d.id vs | Some b ↦ value_with I vs b.term ]
 
 abbrev pub declared_value : Interpretation → Option Declaration → List Value → Value
 declared_value I None vs = Truth false

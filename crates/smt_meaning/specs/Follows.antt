@@ -1,6 +1,6 @@
 -- When a clause follows from the levels of a stack.
 use Rattle.std.specs.Prelude.{ℕ, ◌<◌, List, map, length, All, Contains}
-use Rattle.smt_meaning.specs.declared.declarations.Declaration.{Declaration}
+use Rattle.smt_meaning.specs.Declaration.{Declaration}
 use Rattle.smt_meaning.specs.declared.clauses.Clause.{Clause}
 use Rattle.smt_meaning.specs.Term.{Tree, Interpretation}
 use Rattle.smt_meaning.specs.Interpretation.{Interprets}

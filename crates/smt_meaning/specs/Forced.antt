@@ -4,7 +4,7 @@ use Rattle.smt_meaning.specs.declared.values.Value.TheVariants.{Truth}
 use Rattle.smt_meaning.specs.declared.terms.Operator.{Operator}
 use Rattle.smt_meaning.specs.declared.terms.Operator.TheVariants.{True, False, Not, And, Or, Xor, Implies, Equal, Distinct, Ite}
 use Rattle.smt_meaning.specs.declared.terms.Head.TheVariants.{Theory}
-use Rattle.smt_meaning.specs.declared.declarations.Declaration.{Declaration}
+use Rattle.smt_meaning.specs.Declaration.{Declaration}
 use Rattle.smt_meaning.specs.declared.clauses.Literal.{Literal}
 use Rattle.smt_meaning.specs.declared.clauses.Atom.TheVariants.{Truth as TruthAtom}
 use Rattle.smt_meaning.specs.Term.{Tree, Trees, node, none, more, operate, truth_of, bool_eq}

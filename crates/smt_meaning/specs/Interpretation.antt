@@ -6,7 +6,7 @@ use Rattle.smt_meaning.specs.declared.values.Sort.{Sort}
 use Rattle.smt_meaning.specs.declared.values.Sort.TheVariants.{Bool as Truths, Int as Ints, Free}
 use Rattle.smt_meaning.specs.declared.values.Row.{Row}
 use Rattle.smt_meaning.specs.declared.values.Table.{Table}
-use Rattle.smt_meaning.specs.declared.declarations.Declaration.{Declaration}
+use Rattle.smt_meaning.specs.Declaration.{Declaration}
 use Rattle.smt_meaning.specs.Term.{Interpretation, same_value}
 use Rattle.smt_meaning.specs.Signature.{is_symbol}
 

@@ -8,14 +8,12 @@ use Rattle.smt_meaning.specs.declared.terms.Head.TheVariants.{Numeral as Number,
 use Rattle.smt_meaning.specs.declared.tokens.Token.{Token}
 use Rattle.smt_meaning.specs.declared.tokens.Token.TheVariants.{Numeral, Decimal, Hex, Binary, Text, Symbol, Reserved, Keyword}
 use Rattle.smt_meaning.specs.declared.tokens.Word.TheVariants.{Exclamation, Let}
-use Rattle.smt_meaning.specs.declared.declarations.Declaration.{Declaration}
-use Rattle.smt_meaning.specs.declared.declarations.Body.{Body}
+use Rattle.smt_meaning.specs.Declaration.{Declaration, Body}
 use Rattle.smt_meaning.specs.declared.refusals.Refusal.{Refusal}
 use Rattle.smt_meaning.specs.declared.refusals.Refusal.TheVariants.{NumeralTooLarge, WrongArguments, AlreadyDeclared, UnknownSymbol, ArgumentCount, SortsDiffer, NotLinear, ReservedName, TooManySymbols}
-use Rattle.smt_meaning.specs.Term.{Tree, Trees, node, none, more, tree_at}
+use Rattle.smt_meaning.specs.Term.{Tree, Trees, node, none, more}
 use Rattle.smt_meaning.specs.Sexp.{Sexp, Sexps, word, group, end, ◌▸◌}
-use Rattle.smt_meaning.specs.TreeShape.{is_linear, is_linear_at, put, place_of, with_parts}
-use Rattle.smt_meaning.specs.Reading.{spelling}
+use Rattle.smt_meaning.specs.TreeShape.{is_linear, is_linear_at, put, with_parts}
 use Rattle.smt_meaning.specs.Signature.{look_up, is_one_of, is_some, find_function, operators, reserved_functions, takes, operator_sort, sorts_eq}
 
 -- ---- judging: what it starts from, what it goes through and how it ends
@@ -96,8 +94,6 @@ pub record Variable : Type 0 where
 pub record Rules : Type 0 where
   -- `:named` is allowed: in `assert` alone
   pub naming : Bool
-  -- the level of the names that it gives
-  pub level : ℕ
   -- it has no parameters, so products are judged
   pub closed : Bool
 
@@ -131,12 +127,9 @@ known vs n s = known_name (find_variable n vs) (known_symbol (look_up n operator
 
 -- ---- the body of a definition
 
-abbrev pub body_term : Body → Tree
-body_term b = tree_at b.terms b.root
-
 -- a declared function applied, or the body of a definition with the arguments put in
 abbrev pub applied : Declaration → Trees → Tree
-applied d ts = elim d.body [ None ↦ node (Function d.id) ts | Some b ↦ put ts (body_term b) ]
+applied d ts = elim d.body [ None ↦ node (Function d.id) ts | Some b ↦ put ts b.term ]
 
 -- the trees that an application judges: itself, or each tree of the definition's body with the arguments put in
 abbrev pub applied_trees : Declaration → Trees → List Tree
@@ -166,12 +159,12 @@ judge_operator r o ts s = do
 -- the head is judged before the arguments
 abbrev pub can_be_applied : List ℕ → Known → Judging (Unit {0})
 can_be_applied n (variable t) = refuse (ArgumentCount n)
-can_be_applied n unknown = refuse (UnknownSymbol n)
+can_be_applied n unknown = refuse (UnknownSymbol (Symbol n))
 can_be_applied n _ = return tt
 
 abbrev pub judge_application : Rules → List ℕ → Known → List Typed → Judging Typed
 judge_application r n (variable t) ts = refuse (ArgumentCount n)
-judge_application r n unknown ts = refuse (UnknownSymbol n)
+judge_application r n unknown ts = refuse (UnknownSymbol (Symbol n))
 judge_application r n (operator o) ts = do
   require (takes o (length ts)) (ArgumentCount n)
   s ← required (operator_sort o (sorts_of ts)) (SortsDiffer n)
@@ -183,7 +176,7 @@ judge_application r n (function d) ts = do
 
 abbrev pub judge_bare : Rules → List ℕ → Known → Judging Typed
 judge_bare r n (variable t) = return t
-judge_bare r n unknown = refuse (UnknownSymbol n)
+judge_bare r n unknown = refuse (UnknownSymbol (Symbol n))
 judge_bare r n (operator True) = judge_operator r True none Truths
 judge_bare r n (operator False) = judge_operator r False none Truths
 judge_bare r n (operator _) = refuse (ArgumentCount n)
@@ -211,23 +204,15 @@ judge_numeral n = do
   note (node (Number (pos n)) none ∷ [])
   found (node (Number (pos n)) none) Ints
 
--- a string literal as written: between quotes, with each quote inside doubled
-abbrev pub with_quotes_doubled : List ℕ → List ℕ
-with_quotes_doubled [] = []
-with_quotes_doubled (c ∷ cs) = if nat_eq c 34 then 34 ∷ 34 ∷ with_quotes_doubled cs else c ∷ with_quotes_doubled cs
-
-abbrev pub literal_of : List ℕ → List ℕ
-literal_of cs = 34 ∷ (with_quotes_doubled cs ++ 34 ∷ [])
-
 abbrev pub judge_token : Rules → List Variable → Token → Judging Typed
 judge_token r vs (Symbol n) = do
   s ← the_scope
   judge_bare r n (known vs n s)
 judge_token r vs (Numeral cs) = judge_numeral (decimal cs)
-judge_token r vs (Decimal cs) = refuse (UnknownSymbol cs)
-judge_token r vs (Hex cs) = refuse (UnknownSymbol cs)
-judge_token r vs (Binary cs) = refuse (UnknownSymbol cs)
-judge_token r vs (Text cs) = refuse (UnknownSymbol (literal_of cs))
+judge_token r vs (Decimal cs) = refuse (UnknownSymbol (Decimal cs))
+judge_token r vs (Hex cs) = refuse (UnknownSymbol (Hex cs))
+judge_token r vs (Binary cs) = refuse (UnknownSymbol (Binary cs))
+judge_token r vs (Text cs) = refuse (UnknownSymbol (Text cs))
 judge_token r vs _ = refuse WrongArguments
 
 -- ---- `let`
@@ -242,16 +227,21 @@ bound_names end = Some []
 bound_names (group (word (Symbol n) ▸ t ▸ end) ▸ rest) = cons_name n (bound_names rest)
 bound_names (_ ▸ rest) = None
 
-abbrev pub none_twice : List (List ℕ) → Judging (Unit {0})
-none_twice [] = return tt
-none_twice (n ∷ ns) = do
-  require (not (is_one_of n ns)) (AlreadyDeclared n)
-  none_twice ns
+-- a name that none of those before it is
+abbrev pub not_before : List (List ℕ) → List ℕ → Judging (Unit {0})
+not_before before n = require (not (is_one_of n before)) (AlreadyDeclared n)
+
+-- from the left, the first name that stood before is refused
+abbrev pub none_twice : List (List ℕ) → List (List ℕ) → Judging (Unit {0})
+none_twice before [] = return tt
+none_twice before (n ∷ ns) = do
+  not_before before n
+  none_twice (n ∷ before) ns
 
 abbrev pub check_bindings : Option (List (List ℕ)) → Judging (Unit {0})
 check_bindings None = refuse WrongArguments
 check_bindings (Some []) = refuse WrongArguments
-check_bindings (Some (n ∷ ns)) = none_twice (n ∷ ns)
+check_bindings (Some (n ∷ ns)) = none_twice [] (n ∷ ns)
 
 -- ---- `!`
 
@@ -294,12 +284,12 @@ abbrev mutual
 
 -- a tree as the body of a definition
 abbrev pub body_of : Tree → Body
-body_of t = record { terms = with_parts [] t; root = place_of t (with_parts [] t) }
+body_of t = record { terms = with_parts [] t; term = t }
 
 -- a definition without parameters
-abbrev pub name_declaration : ℕ → List ℕ → Typed → ℕ → Declaration
-name_declaration id n t level =
-    record { id = id; name = n; rank = record { arguments = []; result = t.sort }; level = level; body = Some (body_of t.tree); is_sort = false }
+abbrev pub name_declaration : ℕ → List ℕ → Typed → Declaration
+name_declaration id n t =
+    record { id = id; name = n; rank = record { arguments = []; result = t.sort }; body = Some (body_of t.tree); is_sort = false }
 
 -- how many ids there are
 abbrev pub most_symbols : ℕ
@@ -319,7 +309,7 @@ name_term r open_term t n = do
   require (r.naming && not open_term) WrongArguments
   require (not (is_one_of n reserved_functions)) (ReservedName n)
   require (not (is_some (find_function n s.signature))) (AlreadyDeclared n)
-  declare (λ id. name_declaration id n t r.level)
+  declare (λ id. name_declaration id n t)
 
 abbrev pub name_by : Rules → Bool → Typed → Sexps → Judging (Unit {0})
 name_by r open_term t (word (Symbol n) ▸ rest) = name_term r open_term t n
@@ -350,7 +340,7 @@ abbrev mutual
     judge_attributes r (has_free (variable_names vs) t) a rest
     return a
   judge r vs (group (word (Reserved Exclamation) ▸ end)) = refuse WrongArguments
-  judge r vs (group (word (Reserved w) ▸ _)) = refuse (UnknownSymbol (spelling w))
+  judge r vs (group (word (Reserved w) ▸ _)) = refuse (UnknownSymbol (Reserved w))
   judge r vs (group (word (Symbol n) ▸ ss)) = do
     s ← the_scope
     can_be_applied n (known vs n s)

@@ -1,13 +1,13 @@
 -- The stack of levels, and what it says (SMT-LIB 2.6, sections 4.1.4 and 5.3).
 use Rattle.std.specs.Prelude.{ℕ, ◌+◌, ◌-◌, List, [], ◌∷◌, ◌++◌, map, take, length, flat_map, replicate, IsTrue, All}
-use Rattle.smt_meaning.specs.declared.declarations.Declaration.{Declaration}
+use Rattle.smt_meaning.specs.declared.tokens.Token.{Token}
+use Rattle.smt_meaning.specs.Declaration.{Declaration}
 use Rattle.smt_meaning.specs.Term.{Tree, Interpretation, value, truth_of}
-use Rattle.smt_meaning.specs.Sexp.{Sexp}
 use Rattle.smt_meaning.specs.Interpretation.{Interprets}
 
 pub record Assertion : Type 0 where
   -- the term as written
-  pub text : Sexp
+  pub text : List Token
   pub term : Tree
 
 -- a level: its declarations, definitions and names, and its assertions

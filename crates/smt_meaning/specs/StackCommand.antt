@@ -1,17 +1,21 @@
 -- What a command does to the stack: the fold of the accepted commands (SMT-LIB 2.6, sections 4.2.2 to 4.2.4).
-use Rattle.std.specs.Prelude.{ℕ, ◌+◌, Bool, true, false, not, ◌&&◌, nat_eq, nat_le, List, [], ◌∷◌, map, length, drop, Option, Some, None, bytes_eq, codes, if◌then◌else◌}
+use Rattle.std.specs.Prelude.{ℕ, ◌+◌, true, false, not, nat_le, List, [], ◌∷◌, map, length, drop, ℤ, pos, unsigned_abs, Option, Some, None, bytes_eq, codes, if◌then◌else◌}
 use Rattle.smt_meaning.specs.declared.values.Sort.{Sort}
 use Rattle.smt_meaning.specs.declared.values.Sort.TheVariants.{Bool as Truths, Int as Ints, Free}
 use Rattle.smt_meaning.specs.declared.terms.Head.TheVariants.{Place}
-use Rattle.smt_meaning.specs.declared.tokens.Token.TheVariants.{Numeral, Symbol}
-use Rattle.smt_meaning.specs.declared.declarations.Declaration.{Declaration}
-use Rattle.smt_meaning.specs.declared.declarations.Body.{Body}
-use Rattle.smt_meaning.specs.declared.refusals.Refusal.TheVariants.{NumeralTooLarge, WrongArguments, AlreadyDeclared, UnknownSymbol, SortsDiffer, NotBool, PopPastLevelZero, TooManyLevels, ReservedName, TooManyTerms}
-use Rattle.smt_meaning.specs.Term.{Tree, node, none}
-use Rattle.smt_meaning.specs.Sexp.{Sexp, Sexps, word, group, end, ◌▸◌}
-use Rattle.smt_meaning.specs.TreeShape.{place_of}
-use Rattle.smt_meaning.specs.Signature.{look_up, is_one_of, is_some, find_function, find_sort, reserved_functions, reserved_sorts, sort_eq}
-use Rattle.smt_meaning.specs.Sorts.{Scope, Outcome, done, refused, Judging, ◌>>=◌, ◌>>◌, return, refuse, require, required, the_scope, declare, Typed, Variable, Rules, judge, judge_all, is_small, decimal}
+use Rattle.smt_meaning.specs.declared.tokens.Token.{Token}
+use Rattle.smt_meaning.specs.declared.tokens.Token.TheVariants.{Symbol}
+use Rattle.smt_meaning.specs.declared.refusals.Refusal.TheVariants.{AlreadyDeclared, UnknownSymbol, SortsDiffer, NotBool, PopPastLevelZero, TooManyLevels, ReservedName, TooManyTerms}
+use Rattle.smt_meaning.specs.declared.commands.WrittenSort.{WrittenSort}
+use Rattle.smt_meaning.specs.declared.commands.WrittenSort.TheVariants.{Name, Applied}
+use Rattle.smt_meaning.specs.declared.commands.Parameter.{Parameter}
+use Rattle.smt_meaning.specs.declared.commands.Command.{Command}
+use Rattle.smt_meaning.specs.declared.commands.Command.TheVariants.{DeclareSort, DefineSort, DeclareConst, DeclareFun, DefineFun, Assert, Push, Pop, GetValue, ResetAssertions, Reset}
+use Rattle.smt_meaning.specs.Declaration.{Declaration, Body}
+use Rattle.smt_meaning.specs.Term.{Tree, node, none, int_eq}
+use Rattle.smt_meaning.specs.Sexp.{sexp}
+use Rattle.smt_meaning.specs.Signature.{is_one_of, is_some, find_function, find_sort, reserved_functions, reserved_sorts, sort_eq}
+use Rattle.smt_meaning.specs.Sorts.{Scope, Outcome, done, refused, Judging, ◌>>=◌, ◌>>◌, return, refuse, require, required, the_scope, declare, Typed, Variable, Rules, not_before, judge}
 use Rattle.smt_meaning.specs.Stack.{Assertion, Frame, signature_of, start_frames, depth, on_top, pushed, popped}
 
 -- the frames by levels, how many ids were given, and the different trees that were judged, both since the start or the last `reset`
@@ -31,16 +35,14 @@ pub data Change : Type 0 where
   asserts : (assertion : Assertion) → Change
   pushes : (levels : ℕ) → Change
   pops : (levels : ℕ) → Change
+  -- the terms whose values are asked for
+  asks : (terms : List Typed) → Change
   -- `reset-assertions`
   clears : Change
   -- `reset`
   begins_again : Change
   -- it is answered `unsupported`
   is_unsupported : Change
-
--- a command's arguments, at a depth
-abbrev pub Command : Type 0
-Command = ℕ → Sexps → Judging Change
 
 -- ---- sorts
 
@@ -54,26 +56,15 @@ sort_named n ds =
     else if bytes_eq n (codes "Int") then Some Ints
     else declared_sort (find_sort n ds)
 
--- a symbol, or a list that begins with one
-abbrev pub has_sort_form : Sexp → Bool
-has_sort_form (word (Symbol n)) = true
-has_sort_form (group (word (Symbol n) ▸ ss)) = true
-has_sort_form _ = false
-
-abbrev pub have_sort_form : Sexps → Bool
-have_sort_form end = true
-have_sort_form (s ▸ ss) = has_sort_form s && have_sort_form ss
-
-abbrev pub judge_sort : Sexp → Judging Sort
-judge_sort (word (Symbol n)) = do
+abbrev pub judge_sort : WrittenSort → Judging Sort
+judge_sort (Name n) = do
   s ← the_scope
-  required (sort_named n s.signature) (UnknownSymbol n)
-judge_sort (group (word (Symbol n) ▸ ss)) = refuse (UnknownSymbol n)
-judge_sort _ = refuse WrongArguments
+  required (sort_named n s.signature) (UnknownSymbol (Symbol n))
+judge_sort (Applied n) = refuse (UnknownSymbol (Symbol n))
 
-abbrev pub judge_sorts : Sexps → Judging (List Sort)
-judge_sorts end = return []
-judge_sorts (s ▸ ss) = do
+abbrev pub judge_sorts : List WrittenSort → Judging (List Sort)
+judge_sorts [] = return []
+judge_sorts (s ∷ ss) = do
   a ← judge_sort s
   rs ← judge_sorts ss
   return (a ∷ rs)
@@ -92,89 +83,51 @@ new_function_name n = do
   s ← the_scope
   require (not (is_some (find_function n s.signature))) (AlreadyDeclared n)
 
-abbrev pub sort_declaration : ℕ → List ℕ → Sort → ℕ → Declaration
-sort_declaration id n s level =
-    record { id = id; name = n; rank = record { arguments = []; result = s }; level = level; body = None; is_sort = true }
+abbrev pub sort_declaration : ℕ → List ℕ → Sort → Declaration
+sort_declaration id n s =
+    record { id = id; name = n; rank = record { arguments = []; result = s }; body = None; is_sort = true }
 
-abbrev pub function_declaration : ℕ → List ℕ → List Sort → Sort → Option Body → ℕ → Declaration
-function_declaration id n ss s body level =
-    record { id = id; name = n; rank = record { arguments = ss; result = s }; level = level; body = body; is_sort = false }
+abbrev pub function_declaration : ℕ → List ℕ → List Sort → Sort → Option Body → Declaration
+function_declaration id n ss s body =
+    record { id = id; name = n; rank = record { arguments = ss; result = s }; body = body; is_sort = false }
 
-abbrev pub declare_new_sort : ℕ → List ℕ → Judging Change
-declare_new_sort level n = do
+abbrev pub declare_new_sort : List ℕ → Judging Change
+declare_new_sort n = do
   new_sort_name n
-  declare (λ id. sort_declaration id n (Free id) level)
+  declare (λ id. sort_declaration id n (Free id))
   return declares
 
--- (declare-sort symbol numeral)
-abbrev pub declare_sort : Command
-declare_sort level (word (Symbol n) ▸ word (Numeral cs) ▸ end) = do
-  require (is_small (decimal cs)) NumeralTooLarge
-  if nat_eq (decimal cs) 0 then declare_new_sort level n else return is_unsupported
-declare_sort level _ = refuse WrongArguments
+-- only sorts without arguments are declared
+abbrev pub declare_sort : List ℕ → ℤ → Judging Change
+declare_sort n arity = if int_eq arity (pos 0) then declare_new_sort n else return is_unsupported
 
-abbrev pub are_symbols : Sexps → Bool
-are_symbols end = true
-are_symbols (word (Symbol n) ▸ ss) = are_symbols ss
-are_symbols _ = false
-
-abbrev pub define_new_sort : ℕ → List ℕ → Sexp → Judging Change
-define_new_sort level n s = do
+abbrev pub define_new_sort : List ℕ → WrittenSort → Judging Change
+define_new_sort n s = do
   new_sort_name n
   r ← judge_sort s
-  declare (λ id. sort_declaration id n r level)
+  declare (λ id. sort_declaration id n r)
   return declares
 
--- (define-sort symbol (symbol ..) sort)
-abbrev pub define_sort : Command
-define_sort level (word (Symbol n) ▸ group end ▸ s ▸ end) = do
-  require (has_sort_form s) WrongArguments
-  define_new_sort level n s
-define_sort level (word (Symbol n) ▸ group ss ▸ s ▸ end) = do
-  require (are_symbols ss && has_sort_form s) WrongArguments
-  return is_unsupported
-define_sort level _ = refuse WrongArguments
+-- only sorts without parameters are defined
+abbrev pub define_sort : List ℕ → List (List ℕ) → WrittenSort → Judging Change
+define_sort n [] s = define_new_sort n s
+define_sort n (p ∷ ps) s = return is_unsupported
 
-abbrev pub declare_function : ℕ → List ℕ → Sexps → Sexp → Judging Change
-declare_function level n ss s = do
-  require (have_sort_form ss && has_sort_form s) WrongArguments
+abbrev pub declare_function : List ℕ → List WrittenSort → WrittenSort → Judging Change
+declare_function n ss s = do
   new_function_name n
   rs ← judge_sorts ss
   r ← judge_sort s
-  declare (λ id. function_declaration id n rs r None level)
+  declare (λ id. function_declaration id n rs r None)
   return declares
 
--- (declare-const symbol sort)
-abbrev pub declare_const : Command
-declare_const level (word (Symbol n) ▸ s ▸ end) = declare_function level n end s
-declare_const level _ = refuse WrongArguments
-
--- (declare-fun symbol (sort ..) sort)
-abbrev pub declare_fun : Command
-declare_fun level (word (Symbol n) ▸ group ss ▸ s ▸ end) = declare_function level n ss s
-declare_fun level _ = refuse WrongArguments
-
 -- ---- definitions
-
-pub record Parameter : Type 0 where
-  pub name : List ℕ
-  pub sort : Sexp
-
-abbrev pub cons_parameter : List ℕ → Sexp → Option (List Parameter) → Option (List Parameter)
-cons_parameter n s None = None
-cons_parameter n s (Some ps) = if has_sort_form s then Some (record { name = n; sort = s } ∷ ps) else None
-
--- the parameters of a list, or none where one hasn't the form (symbol sort)
-abbrev pub parameters : Sexps → Option (List Parameter)
-parameters end = Some []
-parameters (group (word (Symbol n) ▸ s ▸ end) ▸ rest) = cons_parameter n s (parameters rest)
-parameters (_ ▸ rest) = None
 
 -- the k-th parameter and those after it, where these names were before
 abbrev pub judge_parameters : ℕ → List (List ℕ) → List Parameter → Judging (List Variable)
 judge_parameters k before [] = return []
 judge_parameters k before (p ∷ ps) = do
-  require (not (is_one_of p.name before)) (AlreadyDeclared p.name)
+  not_before before p.name
   s ← judge_sort p.sort
   vs ← judge_parameters (k + 1) (p.name ∷ before) ps
   return (record { name = p.name; term = record { tree = node (Place k) none; sort = s } } ∷ vs)
@@ -185,7 +138,7 @@ pub record Bodied : Type 0 where
   pub sort : Sort
 
 abbrev pub bodied : Typed → List Tree → Bodied
-bodied t ts = record { body = record { terms = ts; root = place_of t.tree ts }; sort = t.sort }
+bodied t ts = record { body = record { terms = ts; term = t.tree }; sort = t.sort }
 
 -- what was judged apart leaves the scope as it was
 abbrev pub apart : Scope → Outcome Typed → Outcome Bodied
@@ -193,109 +146,94 @@ apart s (done t c) = done (bodied t c.trees) s
 apart s (refused r) = refused r
 
 abbrev pub in_body : Rules
-in_body = record { naming = false; level = 0; closed = false }
+in_body = record { naming = false; closed = false }
 
 -- a body is judged apart, its parameters first
-unfoldable pub judge_body : List Variable → Sexp → Judging Bodied
-judge_body vs t = λ s. apart s (judge in_body vs t (record s { trees = map (λ (v : Variable). v.term.tree) vs }))
+unfoldable pub judge_body : List Variable → List Token → Judging Bodied
+judge_body vs t = λ s. apart s (judge in_body vs (sexp t) (record s { trees = map (λ (v : Variable). v.term.tree) vs }))
 
 abbrev pub sorts_of_variables : List Variable → List Sort
 sorts_of_variables vs = map (λ (v : Variable). v.term.sort) vs
 
-abbrev pub define_function : ℕ → List ℕ → List Parameter → Sexp → Sexp → Judging Change
-define_function level n ps s t = do
-  require (has_sort_form s) WrongArguments
+abbrev pub define_function : List ℕ → List Parameter → WrittenSort → List Token → Judging Change
+define_function n ps s t = do
   new_function_name n
   vs ← judge_parameters 0 [] ps
   r ← judge_sort s
   b ← judge_body vs t
   require (sort_eq b.sort r) (SortsDiffer n)
-  declare (λ id. function_declaration id n (sorts_of_variables vs) r (Some b.body) level)
+  declare (λ id. function_declaration id n (sorts_of_variables vs) r (Some b.body))
   return declares
 
-abbrev pub define_with : ℕ → List ℕ → Option (List Parameter) → Sexp → Sexp → Judging Change
-define_with level n None s t = refuse WrongArguments
-define_with level n (Some ps) s t = define_function level n ps s t
-
--- (define-fun symbol ((symbol sort) ..) sort term)
-abbrev pub define_fun : Command
-define_fun level (word (Symbol n) ▸ group ps ▸ s ▸ t ▸ end) = define_with level n (parameters ps) s t
-define_fun level _ = refuse WrongArguments
-
--- ---- assertions
+-- ---- assertions and questions
 
 -- how many different trees there may be
 abbrev pub most_terms : ℕ
 most_terms = 4294967295
 
-abbrev pub in_assert : ℕ → Rules
-in_assert level = record { naming = true; level = level; closed = true }
-
--- (assert term)
-abbrev pub assert_term : Command
-assert_term level (t ▸ end) = do
-  a ← judge (in_assert level) [] t
-  require (sort_eq a.sort Truths) NotBool
+abbrev pub require_room : Judging (Unit {0})
+require_room = do
   s ← the_scope
   require (nat_le (length s.trees) most_terms) TooManyTerms
+
+abbrev pub in_assert : Rules
+in_assert = record { naming = true; closed = true }
+
+abbrev pub assert_term : List Token → Judging Change
+assert_term t = do
+  a ← judge in_assert [] (sexp t)
+  require (sort_eq a.sort Truths) NotBool
+  require_room
   return (asserts (record { text = t; term = a.tree }))
-assert_term level _ = refuse WrongArguments
 
 abbrev pub in_question : Rules
-in_question = record { naming = false; level = 0; closed = true }
+in_question = record { naming = false; closed = true }
 
--- the terms of a command that asks for values: their trees join the list too
-abbrev pub judge_questions : Sexps → Judging (List Typed)
-judge_questions ss = do
-  ts ← judge_all in_question [] ss
-  s ← the_scope
-  require (nat_le (length s.trees) most_terms) TooManyTerms
-  return ts
+abbrev pub judge_questions : List (List Token) → Judging (List Typed)
+judge_questions [] = return []
+judge_questions (t ∷ ts) = do
+  a ← judge in_question [] (sexp t)
+  bs ← judge_questions ts
+  return (a ∷ bs)
+
+-- the trees of terms whose values are asked for join the list too
+abbrev pub ask_terms : List (List Token) → Judging Change
+ask_terms ts = do
+  terms ← judge_questions ts
+  require_room
+  return (asks terms)
 
 -- ---- levels
 
 abbrev pub most_levels : ℕ
 most_levels = 65535
 
--- nothing, which means 1, or a numeral
-abbrev pub judge_levels : Sexps → Judging ℕ
-judge_levels end = return 1
-judge_levels (word (Numeral cs) ▸ end) = do
-  require (is_small (decimal cs)) NumeralTooLarge
-  return (decimal cs)
-judge_levels _ = refuse WrongArguments
-
--- (push n)
-abbrev pub push_levels : Command
-push_levels level ss = do
-  n ← judge_levels ss
+abbrev pub push_levels : ℕ → ℕ → Judging Change
+push_levels level n = do
   require (nat_le (level + n) most_levels) TooManyLevels
   return (pushes n)
 
--- (pop n)
-abbrev pub pop_levels : Command
-pop_levels level ss = do
-  n ← judge_levels ss
+abbrev pub pop_levels : ℕ → ℕ → Judging Change
+pop_levels level n = do
   require (nat_le n level) PopPastLevelZero
   return (pops n)
 
--- (reset-assertions) and (reset)
-abbrev pub without_arguments : Change → Command
-without_arguments change level end = return change
-without_arguments change level _ = refuse WrongArguments
-
 -- ---- the fold
 
-abbrev pub stack_commands : List (List ℕ × Command)
-stack_commands =
-    (codes "declare-sort", declare_sort) ∷ (codes "define-sort", define_sort) ∷ (codes "declare-const", declare_const)
-    ∷ (codes "declare-fun", declare_fun) ∷ (codes "define-fun", define_fun) ∷ (codes "assert", assert_term)
-    ∷ (codes "push", push_levels) ∷ (codes "pop", pop_levels)
-    ∷ (codes "reset-assertions", without_arguments clears) ∷ (codes "reset", without_arguments begins_again) ∷ []
-
--- the command of an s-expression with its arguments, where it is one of these
-abbrev pub stack_command : Sexp → Option (ℕ → Judging Change)
-stack_command (group (word (Symbol n) ▸ ss)) = elim (look_up n stack_commands) [ None ↦ None | Some c ↦ Some (λ level. c level ss) ]
+-- how a command is judged at a depth, where it is one of the stack's
+abbrev pub stack_command : Command → Option (ℕ → Judging Change)
+stack_command (DeclareSort n arity) = Some (λ level. declare_sort n arity)
+stack_command (DefineSort n ps s) = Some (λ level. define_sort n ps s)
+stack_command (DeclareConst n s) = Some (λ level. declare_function n [] s)
+stack_command (DeclareFun n ss s) = Some (λ level. declare_function n ss s)
+stack_command (DefineFun n ps s t) = Some (λ level. define_function n ps s t)
+stack_command (Assert t) = Some (λ level. assert_term t)
+stack_command (GetValue ts) = Some (λ level. ask_terms ts)
+-- the number of a command is never below 0
+stack_command (Push n) = Some (λ level. push_levels level (unsigned_abs n))
+stack_command (Pop n) = Some (λ level. pop_levels level (unsigned_abs n))
+stack_command ResetAssertions = Some (λ level. return clears)
+stack_command Reset = Some (λ level. return begins_again)
 stack_command _ = None
 
 abbrev pub scope_of : Stack → Scope
@@ -314,6 +252,7 @@ changed s declares c = record { frames = on_top (new_declarations s c) [] s.fram
 changed s (asserts a) c = record { frames = on_top (new_declarations s c) (a ∷ []) s.frames; given = c.given; trees = c.trees }
 changed s (pushes n) c = record s { frames = pushed n s.frames }
 changed s (pops n) c = record s { frames = popped n s.frames }
+changed s (asks terms) c = record s { trees = c.trees }
 changed s clears c = record s { frames = start_frames }
 changed s begins_again c = start
 changed s is_unsupported c = s
@@ -327,11 +266,11 @@ abbrev pub after_command : Stack → Option (ℕ → Judging Change) → Stack
 after_command s None = s
 after_command s (Some c) = after_outcome s (judged c s)
 
--- the stack after an s-expression
-abbrev pub after : Stack → Sexp → Stack
-after s x = after_command s (stack_command x)
+-- the stack after a command
+abbrev pub after : Stack → Command → Stack
+after s c = after_command s (stack_command c)
 
--- the stack after a list of s-expressions
-abbrev pub after_all : Stack → List Sexp → Stack
+-- the stack after a list of commands
+abbrev pub after_all : Stack → List Command → Stack
 after_all s [] = s
-after_all s (x ∷ xs) = after_all (after s x) xs
+after_all s (c ∷ cs) = after_all (after s c) cs

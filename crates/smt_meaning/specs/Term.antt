@@ -147,19 +147,31 @@ operate Greater vs = Truth (chainable (compare int_gt) vs)
 abbrev pub Interpretation : Type 0
 Interpretation = ℕ → List Value → Value
 
-abbrev pub apply : Interpretation → Head → List Value → Value
-apply I (Numeral n) vs = Whole n
-apply I (Theory o) vs = operate o vs
-apply I (Symbol f) vs = I f vs
-apply I (Place k) vs = Truth false
+-- what a head makes of the values of its arguments, where the parameters of a definition have these values
+abbrev pub apply_with : Interpretation → List Value → Head → List Value → Value
+apply_with I parameters (Numeral n) vs = Whole n
+apply_with I parameters (Theory o) vs = operate o vs
+apply_with I parameters (Symbol f) vs = I f vs
+apply_with I parameters (Place k) vs = slice_index_or parameters k (Truth false)
 
 abbrev mutual
-  pub value : Interpretation → Tree → Value
-  value I (node h ts) = apply I h (values I ts)
+  -- the value of a term whose parameters have these values
+  pub value_with : Interpretation → List Value → Tree → Value
+  value_with I parameters (node h ts) = apply_with I parameters h (values_with I parameters ts)
 
-  pub values : Interpretation → Trees → List Value
-  values I none = []
-  values I (more t ts) = value I t ∷ values I ts
+  pub values_with : Interpretation → List Value → Trees → List Value
+  values_with I parameters none = []
+  values_with I parameters (more t ts) = value_with I parameters t ∷ values_with I parameters ts
+
+-- of a term without parameters
+abbrev pub apply : Interpretation → Head → List Value → Value
+apply I h vs = apply_with I [] h vs
+
+abbrev pub value : Interpretation → Tree → Value
+value I t = value_with I [] t
+
+abbrev pub values : Interpretation → Trees → List Value
+values I ts = values_with I [] ts
 
 -- ---- whether it fits
 

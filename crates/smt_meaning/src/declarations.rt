@@ -1,7 +1,11 @@
+ghost use Rattle.std.specs.Prelude.{◌≡◌, ◌<◌, true, false, length};
+ghost use Rattle.smt_meaning.specs.Term.{tree_at};
+
 use crate::nodes::Terms;
 use crate::seq::{Bytes, Seq};
 use crate::terms::TermId;
 use crate::values::{Sort, SymId};
+use std::marker::Model;
 
 /// The rank of a function symbol (SMT-LIB 2.6, section 5.2): the sorts of its arguments and of its result.
 #[derive(Debug, Drop)]
@@ -10,24 +14,108 @@ pub struct Rank {
     pub result: Sort,
 }
 
-/// The body of a definition: all terms that were judged in it, and which of them it is. Its k-th parameter is the term with the head `Place(k)`.
+/// The body of a definition, with terms of its own.
 #[derive(Debug, Drop)]
 pub struct Body {
-    pub terms: Terms,
-    pub root: TermId,
+    terms: Terms,
+    place: TermId,
 }
 
-/// What is declared or defined under a name (SMT-LIB 2.6, section 4.2.3).
-///
-/// A declared function symbol has no body; a name that `:named` gives is a definition without parameters. The rank of a sort has no arguments, and its result is the sort that the name stands for.
+impl Model for Body {
+    ghost use Rattle.smt_meaning.specs.Term.{tree_at};
+    ghost use Rattle.smt_meaning.specs.Declaration.{Body as BodyValue};
+    ghost use Rattle.smt_meaning.specs.DeclarationCode.{coded_body};
+
+    ghost Value = { BodyValue };
+
+    ghost coded = { coded_body };
+
+    ghost view = { λ b. record { terms = b.terms; term = tree_at b.terms b.place } };
+}
+
+impl Body {
+    /// The body that stands at a place of the terms that were judged in it.
+    pub fn new(terms: Terms, place: TermId) -> Self
+        requires { place < length terms }
+        ensures { result ≡ record { terms = terms; term = tree_at terms place } }
+    {
+        Body { terms, place }
+    }
+}
+
+/// What is declared or defined under a name.
 #[derive(Debug, Drop)]
 pub struct Declaration {
-    pub id: SymId,
-    pub name: Bytes,
-    pub rank: Rank,
-    /// The level of the stack at which it was made, from 0.
-    pub level: u16,
-    pub body: Option<Body>,
-    /// Sorts and functions have separate tables of names.
-    pub is_sort: bool,
+    id: SymId,
+    name: Bytes,
+    rank: Rank,
+    body: Option<Body>,
+    is_sort: bool,
+}
+
+impl Model for Declaration {
+    ghost use Rattle.smt_meaning.specs.Declaration.{Declaration as DeclarationValue};
+    ghost use Rattle.smt_meaning.specs.DeclarationCode.{coded_declaration};
+
+    ghost Value = { DeclarationValue };
+
+    ghost coded = { coded_declaration };
+
+    ghost view = { λ d. record { id = d.id; name = d.name; rank = d.rank; body = d.body; is_sort = d.is_sort } };
+}
+
+impl Declaration {
+    /// A sort of this name, which stands for a sort.
+    pub fn sort(id: SymId, name: Bytes, rank: Rank) -> Self
+        ensures { result ≡ record { id = id; name = name; rank = rank; body = None; is_sort = true } }
+    {
+        Declaration {
+            id,
+            name,
+            rank,
+            body: None,
+            is_sort: true,
+        }
+    }
+
+    /// A function of this name and rank, defined where it has a body.
+    pub fn function(id: SymId, name: Bytes, rank: Rank, body: Option<Body>) -> Self
+        ensures { result ≡ record { id = id; name = name; rank = rank; body = body; is_sort = false } }
+    {
+        Declaration {
+            id,
+            name,
+            rank,
+            body,
+            is_sort: false,
+        }
+    }
+
+    /// The number of the symbol.
+    pub fn id(&self) -> SymId
+        ensures { result ≡ self.now.id }
+    {
+        self.id
+    }
+
+    /// The name.
+    pub fn name(&self) -> &Bytes
+        ensures { result.now ≡ self.now.name }
+    {
+        &self.name
+    }
+
+    /// The sorts of the arguments and of the result.
+    pub fn rank(&self) -> &Rank
+        ensures { result.now ≡ self.now.rank }
+    {
+        &self.rank
+    }
+
+    /// Whether the name is that of a sort.
+    pub fn is_sort(&self) -> bool
+        ensures { result ≡ self.now.is_sort }
+    {
+        self.is_sort
+    }
 }

@@ -1,9 +1,13 @@
 //! The plain types of the solver, and in `specs/` the definitions of what they mean. Every other crate reads these; nothing is computed here.
 #![tactic(auto)]
 
+mod answers;
 mod clauses;
+mod commands;
 mod declarations;
+mod errors;
 mod nodes;
+mod options;
 mod refusals;
 mod replies;
 mod seq;
@@ -22,3 +26,15 @@ pub use settings::Settings;
 pub use terms::{Head, Operator, TermId};
 pub use tokens::{FaultKind, SExpr, Token, Word};
 pub use values::{Interp, Row, Sort, SymId, Table, Value};
+
+/// The commands and replies of the whole language. Those beside this module speak of Boolean constants alone.
+pub mod language {
+    pub use crate::answers::{
+        Entry, Mode, PrintedFunction, PrintedRow, PrintedValue, Reply, TermValue,
+    };
+    pub use crate::commands::{Command, Parameter, WrittenSort};
+    pub use crate::errors::Error;
+    pub use crate::options::{
+        Channel, Info, InfoName, OptionName, OptionSetting, OptionValue, Options,
+    };
+}

@@ -1,4 +1,5 @@
 use crate::seq::Bytes;
+use crate::tokens::Token;
 
 /// Why a term, or a command that works on the stack, is refused.
 #[derive(Debug, Drop)]
@@ -9,8 +10,8 @@ pub enum Refusal {
     WrongArguments,
     /// E12: the name is already declared, or bound twice.
     AlreadyDeclared(Bytes),
-    /// E13: no symbol of this name is known, or the token is none of this profile.
-    UnknownSymbol(Bytes),
+    /// E13: a symbol that isn't known, or a token that this profile leaves out.
+    UnknownSymbol(Token),
     /// E14: the head has another number of arguments.
     ArgumentCount(Bytes),
     /// E15: the arguments' sorts aren't the head's.

@@ -6,12 +6,11 @@ use Rattle.std.proofs.lemmas.List.Elements.{All-nil, All-cons, All-head, All-tai
 use Rattle.smt_meaning.specs.declared.values.Sort.{Sort}
 use Rattle.smt_meaning.specs.declared.values.Sort.TheVariants.{Bool as Truths, Int as Ints, Free}
 use Rattle.smt_meaning.specs.declared.terms.Head.TheVariants.{Symbol}
-use Rattle.smt_meaning.specs.declared.declarations.Declaration.{Declaration}
-use Rattle.smt_meaning.specs.declared.declarations.Body.{Body}
+use Rattle.smt_meaning.specs.Declaration.{Declaration, Body}
 use Rattle.smt_meaning.specs.Term.{Trees, node}
 use Rattle.smt_meaning.specs.TreeShape.{put}
 use Rattle.smt_meaning.specs.Signature.{find_function, function_with_id, sort_eq, sorts_eq, symbol_sort}
-use Rattle.smt_meaning.specs.Sorts.{body_term, applied, applied_trees}
+use Rattle.smt_meaning.specs.Sorts.{applied, applied_trees}
 use Rattle.smt_meaning.specs.StackCommand.{function_declaration}
 use Rattle.term_laws.proofs.Both.{and_left, and_right, and_both}
 use Rattle.sort_laws.proofs.Among.{Among, among_one, among_map}
@@ -118,8 +117,8 @@ good_prefix n ds es g = record { below = below_prefix n ds es g.below; sound = s
 
 -- ---- a declared function
 
-abbrev symbol : ℕ → List ℕ → List Sort → Sort → ℕ → Declaration
-symbol id n ss s level = function_declaration id n ss s None level
+abbrev symbol : ℕ → List ℕ → List Sort → Sort → Declaration
+symbol id n ss s = function_declaration id n ss s None
 
 other_id : (f g : ℕ) → g < f → nat_eq f g ≡ false
 other_id f g l = go (nat_eq f g) refl
@@ -134,17 +133,17 @@ with_own_id d names (e ∷ ds) h b =
     ap (λ c. if c && not e.is_sort then Some e else function_with_id d.id (ds ++ d ∷ [] ++ names)) (other_id d.id e.id (All-head (λ (x : Declaration). x.id < d.id) e ds b))
     ∙ with_own_id d names ds h (All-tail (λ (x : Declaration). x.id < d.id) e ds b)
 
-own_sort : (id : ℕ) (n : List ℕ) (ss : List Sort) (s : Sort) (level : ℕ) → symbol_sort (Some (symbol id n ss s level)) ss ≡ Some s
-own_sort id n ss s level = ap (λ b. if b then Some s else None) (sorts_eq-self ss)
+own_sort : (id : ℕ) (n : List ℕ) (ss : List Sort) (s : Sort) → symbol_sort (Some (symbol id n ss s)) ss ≡ Some s
+own_sort id n ss s = ap (λ b. if b then Some s else None) (sorts_eq-self ss)
 
-pub symbol_usable : (id : ℕ) (n : List ℕ) (ss : List Sort) (s : Sort) (level : ℕ) (ds : List Declaration) → All (λ (e : Declaration). e.id < id) ds
-    → Usable (ds ++ symbol id n ss s level ∷ []) (symbol id n ss s level)
-symbol_usable id n ss s level ds b = λ es ps ts l w. (
+pub symbol_usable : (id : ℕ) (n : List ℕ) (ss : List Sort) (s : Sort) (ds : List Declaration) → All (λ (e : Declaration). e.id < id) ds
+    → Usable (ds ++ symbol id n ss s ∷ []) (symbol id n ss s)
+symbol_usable id n ss s ds b = λ es ps ts l w. (
   (
     ss,
     (
       w,
-      ap (λ fs. symbol_sort (function_with_id id fs) ss) l.1 ∙ ap (λ o. symbol_sort o ss) (with_own_id (symbol id n ss s level) l.0 ds refl b) ∙ own_sort id n ss s level,
+      ap (λ fs. symbol_sort (function_with_id id fs) ss) l.1 ∙ ap (λ o. symbol_sort o ss) (with_own_id (symbol id n ss s) l.0 ds refl b) ∙ own_sort id n ss s,
     ),
   ),
   among_one (node (Symbol id) ts),
@@ -152,11 +151,11 @@ symbol_usable id n ss s level ds b = λ es ps ts l w. (
 
 -- ---- a definition
 
-pub defined_usable : (id : ℕ) (n : List ℕ) (ss : List Sort) (s : Sort) (level : ℕ) (b : Body) (ds : List Declaration) → HasSort ds ss (body_term b) s → Among (body_term b) b.terms
-    → Usable (ds ++ function_declaration id n ss s (Some b) level ∷ []) (function_declaration id n ss s (Some b) level)
-defined_usable id n ss s level b ds h m = λ es ps ts l w. (
-  put_sort es ps ss ts (body_term b) s w
-      (sort_later ds es ss (body_term b) s
-      (later_still ds (ds ++ function_declaration id n ss s (Some b) level ∷ []) es (function_declaration id n ss s (Some b) level ∷ [], refl) l) h),
-  among_map (put ts) (body_term b) b.terms m,
+pub defined_usable : (id : ℕ) (n : List ℕ) (ss : List Sort) (s : Sort) (b : Body) (ds : List Declaration) → HasSort ds ss b.term s → Among b.term b.terms
+    → Usable (ds ++ function_declaration id n ss s (Some b) ∷ []) (function_declaration id n ss s (Some b))
+defined_usable id n ss s b ds h m = λ es ps ts l w. (
+  put_sort es ps ss ts b.term s w
+      (sort_later ds es ss b.term s
+      (later_still ds (ds ++ function_declaration id n ss s (Some b) ∷ []) es (function_declaration id n ss s (Some b) ∷ [], refl) l) h),
+  among_map (put ts) b.term b.terms m,
 )

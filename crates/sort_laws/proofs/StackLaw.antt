@@ -6,14 +6,13 @@ use Rattle.std.proofs.lemmas.List.{take-append-drop}
 use Rattle.std.proofs.Math.Seq.{drop-append_seam}
 use Rattle.std.proofs.lemmas.List.Elements.{All-nil, All-cons, All-append}
 use Rattle.smt_meaning.specs.declared.values.Sort.TheVariants.{Bool as Truths}
-use Rattle.smt_meaning.specs.declared.tokens.Token.TheVariants.{Symbol}
-use Rattle.smt_meaning.specs.declared.declarations.Declaration.{Declaration}
+use Rattle.smt_meaning.specs.Declaration.{Declaration}
 use Rattle.smt_meaning.specs.Term.{Tree}
-use Rattle.smt_meaning.specs.Sexp.{Sexp, Sexps, word, group, ◌▸◌}
-use Rattle.smt_meaning.specs.Signature.{look_up, tree_sort}
-use Rattle.smt_meaning.specs.Sorts.{Scope, Outcome, done, refused, judge}
+use Rattle.smt_meaning.specs.Signature.{tree_sort}
+use Rattle.smt_meaning.specs.Sorts.{Scope, Outcome, done, refused, Judging, judge}
 use Rattle.smt_meaning.specs.Stack.{Frame, Assertion, signature_of, assertions_of, depth, on_top, pushed, popped, empty_frame}
-use Rattle.smt_meaning.specs.StackCommand.{Stack, start, Change, declares, asserts, pushes, pops, clears, begins_again, is_unsupported, Command, stack_commands, scope_of, new_declarations, changed, after_outcome, after_command, after, after_all}
+use Rattle.smt_meaning.specs.StackCommand.{Stack, start, Change, declares, asserts, asks, pushes, pops, clears, begins_again, is_unsupported, stack_command, scope_of, judged, new_declarations, changed, after_outcome, after_command, after, after_all}
+use Rattle.smt_meaning.specs.declared.commands.Command.{Command}
 use Rattle.sort_laws.specs.Laws.{AcceptedTermHasItsSort, AssertionsAreTruths}
 use Rattle.sort_laws.proofs.PlacesLaw.{HasSort, closed_sort, LaterThan, later_self, later_still, sort_later}
 use Rattle.sort_laws.proofs.Signatures.{Good, nothing_good, good_prefix}
@@ -132,6 +131,7 @@ changed_good s (pops n) c f g l h = record {
       (subst (Good s.given) (popped_signature (length s.frames - n) s.frames) f.good);
   fine = fine_take [] (length s.frames - n) s.frames f.fine;
 }
+changed_good s (asks ts) c f g l h = record { good = f.good; fine = f.fine }
 changed_good s clears c f g l h = record { good = nothing_good s.given; fine = (tt, tt) }
 changed_good s begins_again c f g l h = record { good = nothing_good 0; fine = (tt, tt) }
 changed_good s is_unsupported c f g l h = f
@@ -140,17 +140,13 @@ outcome_good : (s : Stack) (o : Outcome Change) → GoodStack s → Ends true (s
 outcome_good s (done change c) f k = changed_good s change c f k.0.0 k.0.1.later k.1
 outcome_good s (refused r) f k = f
 
-command_good : (s : Stack) (ss : Sexps) (o : Option Command) → KeepsIfSome o → GoodStack s → GoodStack (after_command s (elim o [ None ↦ None | Some c ↦ Some (λ level. c level ss) ]))
-command_good s ss None k f = f
-command_good s ss (Some c) k f = outcome_good s (c (depth s.frames) ss (scope_of s)) f ((k (depth s.frames) ss (scope_of s) f.good).gives f.good)
+command_good : (s : Stack) (o : Option (ℕ → Judging Change)) → KeepsIfSome o → GoodStack s → GoodStack (after_command s o)
+command_good s None k f = f
+command_good s (Some m) k f = outcome_good s (judged m s) f ((k (depth s.frames) (scope_of s) f.good).gives f.good)
 
-after_good : (s : Stack) (x : Sexp) → GoodStack s → GoodStack (after s x)
-after_good s (group (word (Symbol n) ▸ ss)) f = command_good s ss (look_up n stack_commands) (command_keeps n) f
-after_good s _ f = f
-
-all_good : (s : Stack) (xs : List Sexp) → GoodStack s → GoodStack (after_all s xs)
+all_good : (s : Stack) (cs : List Command) → GoodStack s → GoodStack (after_all s cs)
 all_good s [] f = f
-all_good s (x ∷ xs) f = all_good (after s x) xs (after_good s x f)
+all_good s (c ∷ cs) f = all_good (after s c) cs (command_good s (stack_command c) (command_keeps c) f)
 
 start_good : GoodStack start
 start_good = record { good = nothing_good 0; fine = (tt, tt) }

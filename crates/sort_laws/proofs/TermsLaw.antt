@@ -11,18 +11,16 @@ use Rattle.smt_meaning.specs.declared.terms.Head.TheVariants.{Numeral as Number,
 use Rattle.smt_meaning.specs.declared.tokens.Token.{Token}
 use Rattle.smt_meaning.specs.declared.tokens.Token.TheVariants.{Numeral, Symbol, Reserved, Keyword}
 use Rattle.smt_meaning.specs.declared.tokens.Word.TheVariants.{Exclamation, Let}
-use Rattle.smt_meaning.specs.declared.declarations.Declaration.{Declaration}
-use Rattle.smt_meaning.specs.Term.{Tree, Trees, node, none}
-use Rattle.smt_meaning.specs.TreeShape.{with_parts}
+use Rattle.smt_meaning.specs.Declaration.{Declaration}
+use Rattle.smt_meaning.specs.Term.{Trees, node, none}
 use Rattle.smt_meaning.specs.Sexp.{Sexp, Sexps, word, group, end, ◌▸◌}
 use Rattle.smt_meaning.specs.Signature.{look_up, find_function, operators, takes, stands_with, operator_sort}
-use Rattle.smt_meaning.specs.Sorts.{Scope, Judging, body_term, Typed, Variable, Rules, trees_of, sorts_of, Known, variable, operator, function, unknown, known, find_variable, known_name, known_symbol, applied, applied_trees, judge_symbol, judge_operator, can_be_applied, judge_application, judge_bare, judge_numeral, decimal, judge_token, check_bindings, none_twice, bound_names, name_declaration, body_of, name_by, judge_attributes, either, judge, judge_all, judge_bindings, has_free, variable_names}
+use Rattle.smt_meaning.specs.Sorts.{Scope, Judging, Typed, Variable, Rules, trees_of, sorts_of, Known, variable, operator, function, unknown, known, find_variable, known_name, known_symbol, applied, applied_trees, judge_symbol, judge_operator, can_be_applied, judge_application, judge_bare, judge_numeral, decimal, judge_token, check_bindings, none_twice, bound_names, name_declaration, body_of, name_by, judge_attributes, either, judge, judge_all, judge_bindings, has_free, variable_names}
 use Rattle.term_laws.proofs.Both.{and_left}
 use Rattle.sort_laws.proofs.Among.{Among, among_one, among_parts}
 use Rattle.sort_laws.proofs.PlacesLaw.{HasSort, HaveSorts, sort_later, sorts_later}
 use Rattle.sort_laws.proofs.Signatures.{sorts_eq-sound, Usable, usable_later, Good, found_usable, defined_usable}
 use Rattle.sort_laws.proofs.Judgements.{After, Gives, Nothing, bind_gives, next_gives, return_gives, refuse_gives, require_gives, required_gives, scope_then, Fine, fine_after, note_found, declare_gives}
-use Rattle.term_laws.proofs.SameTree.{found_again}
 
 -- ---- lists of terms and of variables
 
@@ -163,24 +161,19 @@ can_be_applied_gives b s n (variable a) = refuse_gives b s _ _
 can_be_applied_gives b s n unknown = refuse_gives b s _ _
 can_be_applied_gives b s n _ = return_gives b s tt Nothing tt
 
-none_twice_gives : (b : Bool) (s : Scope) (ns : List (List ℕ)) → Gives b s (none_twice ns) Nothing
-none_twice_gives b s [] = return_gives b s tt Nothing tt
-none_twice_gives b s (n ∷ ns) = next_gives b s _ _ _ Nothing (require_gives b s _ _) (λ c t g e k. none_twice_gives b t ns)
+none_twice_gives : (b : Bool) (s : Scope) (before ns : List (List ℕ)) → Gives b s (none_twice before ns) Nothing
+none_twice_gives b s before [] = return_gives b s tt Nothing tt
+none_twice_gives b s before (n ∷ ns) = next_gives b s _ _ _ Nothing (require_gives b s _ _) (λ c t g e k. none_twice_gives b t (n ∷ before) ns)
 
 bindings_gives : (b : Bool) (s : Scope) (o : Option (List (List ℕ))) → Gives b s (check_bindings o) Nothing
 bindings_gives b s None = refuse_gives b s _ _
 bindings_gives b s (Some []) = refuse_gives b s _ _
-bindings_gives b s (Some (n ∷ ns)) = none_twice_gives b s (n ∷ ns)
+bindings_gives b s (Some (n ∷ ns)) = none_twice_gives b s [] (n ∷ ns)
 
 -- ---- names
 
-named_term : (t : Tree) → body_term (body_of t) ≡ t
-named_term t = found_again t (with_parts [] t) (among_parts t [])
-
-name_usable : (id : ℕ) (n : List ℕ) (a : Typed) (level : ℕ) (ds : List Declaration) → HasSort ds [] a.tree a.sort → Usable (ds ++ name_declaration id n a level ∷ []) (name_declaration id n a level)
-name_usable id n a level ds h =
-    defined_usable id n [] a.sort level (body_of a.tree) ds (subst (λ u. HasSort ds [] u a.sort) (sym (named_term a.tree)) h)
-    (subst (λ u. Among u (with_parts [] a.tree)) (sym (named_term a.tree)) (among_parts a.tree []))
+name_usable : (id : ℕ) (n : List ℕ) (a : Typed) (ds : List Declaration) → HasSort ds [] a.tree a.sort → Usable (ds ++ name_declaration id n a ∷ []) (name_declaration id n a)
+name_usable id n a ds h = defined_usable id n [] a.sort (body_of a.tree) ds h (among_parts a.tree [])
 
 -- a name stands for a term without parameters
 name_gives : (r : Rules) (s : Scope) (ps : List Sort) (open_term : Bool) (a : Typed) (ss : Sexps) → (r.naming ≡ true → ps ≡ []) → Fine ps a s → Gives r.naming s (name_by r open_term a ss) Nothing
@@ -190,7 +183,7 @@ name_gives r s ps open_term a (word (Symbol n) ▸ rest) c h =
     (λ x t g e k. next_gives r.naming t _ _ _ Nothing (require_gives r.naming t _ _)
     (λ y u f m l. next_gives r.naming u _ _ _ Nothing (require_gives r.naming u _ _)
     (λ z v i p q. declare_gives r.naming v _ (and_left r.naming (not open_term) k) (λ id. refl)
-    (λ id b o. name_usable id n a r.level v.signature
+    (λ id b o. name_usable id n a v.signature
     (subst (λ qs. HasSort v.signature qs a.tree a.sort) (c (and_left r.naming (not open_term) k))
     (fine_after r.naming ps a u v p (fine_after r.naming ps a t u m (fine_after r.naming ps a s t e h))).0))))))
 name_gives r s ps open_term a _ c h = refuse_gives r.naming s _ _

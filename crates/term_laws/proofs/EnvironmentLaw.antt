@@ -10,16 +10,16 @@ use Rattle.smt_meaning.specs.declared.terms.Head.TheVariants.{Theory}
 use Rattle.smt_meaning.specs.declared.tokens.Token.{Token}
 use Rattle.smt_meaning.specs.declared.tokens.Token.TheVariants.{Numeral, Symbol, Reserved}
 use Rattle.smt_meaning.specs.declared.tokens.Word.TheVariants.{Exclamation, Let}
-use Rattle.smt_meaning.specs.declared.declarations.Declaration.{Declaration}
+use Rattle.smt_meaning.specs.Declaration.{Declaration}
 use Rattle.smt_meaning.specs.declared.refusals.Refusal.{Refusal}
-use Rattle.smt_meaning.specs.Term.{Tree, Trees, node, none, Interpretation, value}
+use Rattle.smt_meaning.specs.Term.{Tree, Trees, node, none, Interpretation, value, value_with, values_with}
 use Rattle.smt_meaning.specs.Sexp.{Sexp, Sexps, word, group, end, ◌▸◌}
 use Rattle.smt_meaning.specs.Signature.{look_up, find_function, operators}
 use Rattle.smt_meaning.specs.Sorts.{Scope, Outcome, done, refused, Judging, go_on, ◌>>=◌, ◌>>◌, return, refuse, require, required, the_scope, note, found, Typed, Variable, Rules, trees_of, find_variable, known, known_name, known_symbol, applied, applied_trees, judge_symbol, judge_operator, can_be_applied, judge_application, judge_bare, judge_numeral, decimal, judge_token, check_bindings, none_twice, bound_names, judge, judge_all, judge_bindings, has_free, variable_names}
-use Rattle.smt_meaning.specs.Environment.{Environment, body_value, body_values, bound_value, declared_value, operator_or_declared, function_value, value_or, term_value, term_values, binding_values}
+use Rattle.smt_meaning.specs.Environment.{Environment, bound_value, declared_value, operator_or_declared, function_value, value_or, term_value, term_values, binding_values}
 use Rattle.term_laws.specs.Laws.{environment_of}
 use Rattle.term_laws.proofs.JudgeLaw.{Growing, Grows, attributes_growing}
-use Rattle.term_laws.proofs.BodyLaw.{applied_value, no_parameters}
+use Rattle.term_laws.proofs.BodyLaw.{applied_value}
 
 -- ---- what a judgement gives, where it isn't refused
 
@@ -137,10 +137,10 @@ weaken s m P Q f h = record { gives = go (m s) h.gives }
 
 abbrev variable_value : Interpretation → List Value → Option Typed → Option Value
 variable_value I ps None = None
-variable_value I ps (Some t) = Some (body_value I ps t.tree)
+variable_value I ps (Some t) = Some (value_with I ps t.tree)
 
 bound_step : (I : Interpretation) (ps : List Value) (v : Typed) (x : Option Value) (o : Option Typed) (b : Bool) → x ≡ variable_value I ps o
-    → (if b then Some (body_value I ps v.tree) else x) ≡ variable_value I ps (if b then Some v else o)
+    → (if b then Some (value_with I ps v.tree) else x) ≡ variable_value I ps (if b then Some v else o)
 bound_step I ps v x o true e = refl
 bound_step I ps v x o false e = e
 
@@ -149,23 +149,23 @@ bound_is I ps n [] = refl
 bound_is I ps n (v ∷ vs) = bound_step I ps v.term (bound_value n (environment_of I ps vs)) (find_variable n vs) (bytes_eq n v.name) (bound_is I ps n vs)
 
 declared_same : (I : Interpretation) (ps : List Value) (u : Tree) (d : Declaration) (ts : Trees) (p : Option Declaration) → Kept (Some d) p → u ≡ applied d ts
-    → body_value I ps u ≡ declared_value I p (body_values I ps ts)
+    → value_with I ps u ≡ declared_value I p (values_with I ps ts)
 declared_same I ps u d ts p k e =
-    ap (body_value I ps) e ∙ applied_value I ps d ts ∙ ap (λ q. declared_value I q (body_values I ps ts)) (sym (k d refl))
+    ap (value_with I ps) e ∙ applied_value I ps d ts ∙ ap (λ q. declared_value I q (values_with I ps ts)) (sym (k d refl))
 
 -- a bare symbol has the value of the variable, operator or declaration that it is
 abbrev Bare : Scope → Option Typed → Option Operator → Option Declaration → Typed → Scope → Type 0
 Bare s v o d a t =
     (t.signature ≡ s.signature)
-    × ((p : Option Declaration) → Kept d p → (I : Interpretation) (ps : List Value) → body_value I ps a.tree ≡ value_or (variable_value I ps v) (operator_or_declared I o p []))
+    × ((p : Option Declaration) → Kept d p → (I : Interpretation) (ps : List Value) → value_with I ps a.tree ≡ value_or (variable_value I ps v) (operator_or_declared I o p []))
 
 bare_gives : (s : Scope) (r : Rules) (n : List ℕ) (v : Option Typed) (o : Option Operator) (d : Option Declaration)
     → Gives s (judge_bare r n (known_name v (known_symbol o d))) (Bare s v o d)
 bare_gives s r n (Some v) o d = return_gives s v (Bare s (Some v) o d) (refl, λ p k I ps. refl)
 bare_gives s r n None (Some True) d =
-    weaken s _ (IsTree s (node (Theory True) none)) (Bare s None (Some True) d) (λ a t h. (h.0, λ p k I ps. ap (body_value I ps) h.1)) (operator_gives s r True none Truths)
+    weaken s _ (IsTree s (node (Theory True) none)) (Bare s None (Some True) d) (λ a t h. (h.0, λ p k I ps. ap (value_with I ps) h.1)) (operator_gives s r True none Truths)
 bare_gives s r n None (Some False) d =
-    weaken s _ (IsTree s (node (Theory False) none)) (Bare s None (Some False) d) (λ a t h. (h.0, λ p k I ps. ap (body_value I ps) h.1)) (operator_gives s r False none Truths)
+    weaken s _ (IsTree s (node (Theory False) none)) (Bare s None (Some False) d) (λ a t h. (h.0, λ p k I ps. ap (value_with I ps) h.1)) (operator_gives s r False none Truths)
 bare_gives s r n None (Some o) d = refuse_gives s _ _
 bare_gives s r n None None None = refuse_gives s _ _
 bare_gives s r n None None (Some d) =
@@ -177,7 +177,7 @@ bare_gives s r n None None (Some d) =
 abbrev Applied : Scope → Option Operator → Option Declaration → List Typed → Typed → Scope → Type 0
 Applied s o d ts a t =
     (t.signature ≡ s.signature)
-    × ((p : Option Declaration) → Kept d p → (I : Interpretation) (ps : List Value) → body_value I ps a.tree ≡ operator_or_declared I o p (body_values I ps (trees_of ts)))
+    × ((p : Option Declaration) → Kept d p → (I : Interpretation) (ps : List Value) → value_with I ps a.tree ≡ operator_or_declared I o p (values_with I ps (trees_of ts)))
 
 application_gives : (s : Scope) (r : Rules) (n : List ℕ) (v : Option Typed) (o : Option Operator) (d : Option Declaration) (ts : List Typed)
     → Gives s (judge_application r n (known_name v (known_symbol o d)) ts) (Applied s o d ts)
@@ -187,7 +187,7 @@ application_gives s r n None (Some o) d ts =
     (λ a t e. from_same s t _ (Applied s (Some o) d ts) e
     (bind_gives s _ _ (Same s) (Applied s (Some o) d ts) (required_gives s _ _)
     (λ x u f. from_same s u _ (Applied s (Some o) d ts) f
-    (weaken s _ (IsTree s (node (Theory o) (trees_of ts))) (Applied s (Some o) d ts) (λ b w h. (h.0, λ p k I ps. ap (body_value I ps) h.1)) (operator_gives s r o (trees_of ts) x)))))
+    (weaken s _ (IsTree s (node (Theory o) (trees_of ts))) (Applied s (Some o) d ts) (λ b w h. (h.0, λ p k I ps. ap (value_with I ps) h.1)) (operator_gives s r o (trees_of ts) x)))))
 application_gives s r n None None None ts = refuse_gives s _ _
 application_gives s r n None None (Some d) ts =
     next_gives s _ _ (Same s) (Applied s None (Some d) ts) (require_gives s _ _)
@@ -211,12 +211,12 @@ scope_then s k P h = record { gives = h.gives }
 abbrev Means : Scope → List Variable → Sexp → Typed → Scope → Type 0
 Means s vs x a t =
     Later s t.signature
-    × ((ds : List Declaration) → Later t ds → (I : Interpretation) (ps : List Value) → body_value I ps a.tree ≡ term_value ds I (environment_of I ps vs) x)
+    × ((ds : List Declaration) → Later t ds → (I : Interpretation) (ps : List Value) → value_with I ps a.tree ≡ term_value ds I (environment_of I ps vs) x)
 
 abbrev MeanAll : Scope → List Variable → Sexps → List Typed → Scope → Type 0
 MeanAll s vs xs ts t =
     Later s t.signature
-    × ((ds : List Declaration) → Later t ds → (I : Interpretation) (ps : List Value) → body_values I ps (trees_of ts) ≡ term_values ds I (environment_of I ps vs) xs)
+    × ((ds : List Declaration) → Later t ds → (I : Interpretation) (ps : List Value) → values_with I ps (trees_of ts) ≡ term_values ds I (environment_of I ps vs) xs)
 
 abbrev Binds : Scope → List Variable → Sexps → List Variable → Scope → Type 0
 Binds s vs bs xs t =
@@ -228,7 +228,7 @@ unchanged s t e = ([], e ∙ sym (append-nil s.signature))
 
 environment_append : (I : Interpretation) (ps : List Value) (xs vs : List Variable) → environment_of I ps (xs ++ vs) ≡ environment_of I ps xs ++ environment_of I ps vs
 environment_append I ps [] vs = refl
-environment_append I ps (x ∷ xs) vs = ap (λ bs. record { name = x.name; value = body_value I ps x.term.tree } ∷ bs) (environment_append I ps xs vs)
+environment_append I ps (x ∷ xs) vs = ap (λ bs. record { name = x.name; value = value_with I ps x.term.tree } ∷ bs) (environment_append I ps xs vs)
 
 from_growing : {A : Type 0} (s : Scope) (m : Judging A) → Growing m → Gives s m (λ a t. Later s t.signature)
 from_growing {A} s m h = record { gives = go (m s) (h.grows s) }
@@ -237,14 +237,14 @@ from_growing {A} s m h = record { gives = go (m s) (h.grows s) }
     go (done a t) g = g
     go (refused r) g = tt
 
-none_twice_gives : (s : Scope) (ns : List (List ℕ)) → Gives s (none_twice ns) (Same s)
-none_twice_gives s [] = return_gives s tt (Same s) refl
-none_twice_gives s (n ∷ ns) = next_gives s _ _ (Same s) (Same s) (require_gives s _ _) (λ a t e. from_same s t _ (Same s) e (none_twice_gives s ns))
+none_twice_gives : (s : Scope) (before ns : List (List ℕ)) → Gives s (none_twice before ns) (Same s)
+none_twice_gives s before [] = return_gives s tt (Same s) refl
+none_twice_gives s before (n ∷ ns) = next_gives s _ _ (Same s) (Same s) (require_gives s _ _) (λ a t e. from_same s t _ (Same s) e (none_twice_gives s (n ∷ before) ns))
 
 bindings_gives : (s : Scope) (o : Option (List (List ℕ))) → Gives s (check_bindings o) (Same s)
 bindings_gives s None = refuse_gives s _ _
 bindings_gives s (Some []) = refuse_gives s _ _
-bindings_gives s (Some (n ∷ ns)) = none_twice_gives s (n ∷ ns)
+bindings_gives s (Some (n ∷ ns)) = none_twice_gives s [] (n ∷ ns)
 
 symbol_means : (s : Scope) (r : Rules) (vs : List Variable) (n : List ℕ) → Gives s (judge_bare r n (known vs n s)) (Means s vs (word (Symbol n)))
 symbol_means s r vs n =
@@ -260,7 +260,7 @@ numeral_means : (s : Scope) (vs : List Variable) (cs : List ℕ) → Gives s (ju
 numeral_means s vs cs =
     next_gives s _ _ (Same s) (Means s vs (word (Numeral cs))) (require_gives s _ _)
     (λ a t e. from_same s t _ (Means s vs (word (Numeral cs))) e
-    (weaken s _ _ (Means s vs (word (Numeral cs))) (λ b u h. (unchanged s u h.0, λ ds k I ps. ap (body_value I ps) h.1)) (note_found s _ _ _)))
+    (weaken s _ _ (Means s vs (word (Numeral cs))) (λ b u h. (unchanged s u h.0, λ ds k I ps. ap (value_with I ps) h.1)) (note_found s _ _ _)))
 
 token_means : (s : Scope) (r : Rules) (vs : List Variable) (t : Token) → Gives s (judge_token r vs t) (Means s vs (word t))
 token_means s r vs (Symbol n) = scope_then s (λ u. judge_bare r n (known vs n u)) (Means s vs (word (Symbol n))) (symbol_means s r vs n)
@@ -337,8 +337,8 @@ ended : {A : Type 0} (P : A → Scope → Type 0) (x : Outcome A) (a : A) (t : S
 ended P x a t h e = subst (Ends P) e h
 
 pub body_has : (r : Rules) (vs : List Variable) (x : Sexp) (s t : Scope) (a : Typed) (I : Interpretation) (ps : List Value)
-    → judge r vs x s ≡ done a t → body_value I ps a.tree ≡ term_value t.signature I (environment_of I ps vs) x
+    → judge r vs x s ≡ done a t → value_with I ps a.tree ≡ term_value t.signature I (environment_of I ps vs) x
 body_has r vs x s t a I ps e = (ended (Means s vs x) (judge r vs x s) a t (judge_means r vs x s).gives e).1 t.signature (later_self t) I ps
 
 pub tree_has : (r : Rules) (x : Sexp) (s t : Scope) (a : Typed) (I : Interpretation) → judge r [] x s ≡ done a t → value I a.tree ≡ term_value t.signature I [] x
-tree_has r x s t a I e = sym (no_parameters I a.tree) ∙ body_has r [] x s t a I [] e
+tree_has r x s t a I e = body_has r [] x s t a I [] e

@@ -1,6 +1,6 @@
 -- No id stands twice in the signature of a stack.
 use Rattle.std.proofs.Common.{◌≡◌, ℕ, zero, suc, ◌+◌, ◌-◌, ◌<◌, List, [], ◌∷◌, ◌++◌, All, map, take, drop, length, sym, ap, ◌∙◌, refl, subst, arith, Bool, true, false, Option, Some, None, nat_lt, append_assoc, append-nil}
-use Rattle.std.specs.Prelude.{◌≢◌, codes, bytes_eq, replicate, if◌then◌else◌}
+use Rattle.std.specs.Prelude.{◌≢◌, ℤ, codes, bytes_eq, replicate, if◌then◌else◌}
 use Rattle.std.proofs.lemmas.Grind.{flat_map-append}
 use Rattle.std.proofs.lemmas.List.{take-append-drop}
 use Rattle.std.proofs.Math.Seq.{drop-append_seam}
@@ -11,15 +11,20 @@ use Rattle.smt_meaning.specs.declared.terms.Operator.TheVariants.{True, False}
 use Rattle.smt_meaning.specs.declared.tokens.Token.{Token}
 use Rattle.smt_meaning.specs.declared.tokens.Token.TheVariants.{Numeral, Symbol, Reserved, Keyword}
 use Rattle.smt_meaning.specs.declared.tokens.Word.TheVariants.{Exclamation, Let}
-use Rattle.smt_meaning.specs.declared.declarations.Declaration.{Declaration}
+use Rattle.smt_meaning.specs.Declaration.{Declaration}
 use Rattle.smt_meaning.specs.declared.refusals.Refusal.{Refusal}
 use Rattle.smt_meaning.specs.Term.{Tree, Trees}
-use Rattle.smt_meaning.specs.Sexp.{Sexp, Sexps, word, group, end, ◌▸◌}
+use Rattle.smt_meaning.specs.Sexp.{Sexp, Sexps, word, group, end, ◌▸◌, sexp}
 use Rattle.smt_meaning.specs.Signature.{HasNoIdTwice}
 use Rattle.smt_meaning.specs.Sorts.{Scope, Outcome, done, refused, Judging, go_on, ◌>>=◌, ◌>>◌, return, refuse, require, required, the_scope, note, found, declare, declare_in, most_symbols, Typed, Variable, Rules, Known, variable, operator, function, unknown, known, can_be_applied, judge_application, judge_bare, judge_symbol, judge_operator, judge_token, check_bindings, none_twice, bound_names, name_by, judge_attributes, either, judge, judge_all, judge_bindings}
 use Rattle.smt_meaning.specs.Stack.{Frame, Assertion, signature_of, depth, on_top, pushed, empty_frame}
-use Rattle.smt_meaning.specs.Signature.{look_up}
-use Rattle.smt_meaning.specs.StackCommand.{Stack, start, Change, declares, asserts, pushes, pops, clears, begins_again, is_unsupported, Command, judge_sort, judge_sorts, new_sort_name, new_function_name, declare_new_sort, declare_sort, define_new_sort, define_sort, declare_function, declare_const, declare_fun, Parameter, parameters, judge_parameters, apart, in_body, judge_body, define_function, define_with, define_fun, assert_term, in_assert, judge_levels, push_levels, pop_levels, without_arguments, stack_commands, scope_of, new_declarations, changed, after_outcome, after_command, after, after_all}
+use Rattle.smt_meaning.specs.StackCommand.{Stack, start, Change, declares, asserts, pushes, pops, asks, clears, begins_again, is_unsupported, judge_sort, judge_sorts, new_sort_name, new_function_name, declare_new_sort, declare_sort, define_sort, declare_function, judge_parameters, apart, in_body, judge_body, define_function, require_room, in_assert, assert_term, in_question, judge_questions, stack_command, scope_of, judged, new_declarations, changed, after_outcome, after_command, after, after_all}
+use Rattle.smt_meaning.specs.declared.commands.WrittenSort.{WrittenSort}
+use Rattle.smt_meaning.specs.declared.commands.WrittenSort.TheVariants.{Name, Applied}
+use Rattle.smt_meaning.specs.declared.commands.Parameter.{Parameter}
+use Rattle.smt_meaning.specs.declared.commands.Command.{Command}
+use Rattle.smt_meaning.specs.declared.commands.Command.TheVariants.{DeclareSort, DefineSort, DeclareConst, DeclareFun, DefineFun, Assert, Push, Pop, GetValue, ResetAssertions, Reset}
+use Rattle.term_laws.specs.Laws.{NoIdTwice}
 
 -- ---- ids below the next one, none twice
 
@@ -155,14 +160,14 @@ token_keeping r vs (Symbol n) = bind_keeping scope_keeping (λ s. bare_keeping r
 token_keeping r vs (Numeral cs) = next_keeping (require_keeping _ _) (next_keeping (note_keeping _) (found_keeping _ _))
 token_keeping r vs _ = refuse_keeping _ _
 
-none_twice_keeping : (ns : List (List ℕ)) → Keeping (none_twice ns)
-none_twice_keeping [] = return_keeping tt
-none_twice_keeping (n ∷ ns) = next_keeping (require_keeping _ _) (none_twice_keeping ns)
+none_twice_keeping : (before ns : List (List ℕ)) → Keeping (none_twice before ns)
+none_twice_keeping before [] = return_keeping tt
+none_twice_keeping before (n ∷ ns) = next_keeping (require_keeping _ _) (none_twice_keeping (n ∷ before) ns)
 
 bindings_keeping : (o : Option (List (List ℕ))) → Keeping (check_bindings o)
 bindings_keeping None = refuse_keeping _ _
 bindings_keeping (Some []) = refuse_keeping _ _
-bindings_keeping (Some (n ∷ ns)) = none_twice_keeping (n ∷ ns)
+bindings_keeping (Some (n ∷ ns)) = none_twice_keeping [] (n ∷ ns)
 
 name_keeping : (r : Rules) (open_term : Bool) (t : Typed) (ss : Sexps) → Keeping (name_by r open_term t ss)
 name_keeping r open_term t (word (Symbol n) ▸ rest) =
@@ -207,15 +212,13 @@ mutual
 
 -- ---- commands
 
-sort_keeping : (x : Sexp) → Keeping (judge_sort x)
-sort_keeping (word (Symbol n)) = bind_keeping scope_keeping (λ s. required_keeping _ _)
-sort_keeping (word _) = refuse_keeping _ _
-sort_keeping (group (word (Symbol n) ▸ ss)) = refuse_keeping _ _
-sort_keeping (group _) = refuse_keeping _ _
+sort_keeping : (x : WrittenSort) → Keeping (judge_sort x)
+sort_keeping (Name n) = bind_keeping scope_keeping (λ s. required_keeping _ _)
+sort_keeping (Applied n) = refuse_keeping _ _
 
-sorts_keeping : (ss : Sexps) → Keeping (judge_sorts ss)
-sorts_keeping end = return_keeping []
-sorts_keeping (s ▸ ss) = bind_keeping (sort_keeping s) (λ a. bind_keeping (sorts_keeping ss) (λ rs. return_keeping (a ∷ rs)))
+sorts_keeping : (xs : List WrittenSort) → Keeping (judge_sorts xs)
+sorts_keeping [] = return_keeping []
+sorts_keeping (x ∷ xs) = bind_keeping (sort_keeping x) (λ a. bind_keeping (sorts_keeping xs) (λ rs. return_keeping (a ∷ rs)))
 
 sort_name_keeping : (n : List ℕ) → Keeping (new_sort_name n)
 sort_name_keeping n = next_keeping (require_keeping _ _) (bind_keeping scope_keeping (λ s. require_keeping _ _))
@@ -227,106 +230,70 @@ if_keeping : {A : Type 0} (b : Bool) (m n : Judging A) → Keeping m → Keeping
 if_keeping true m n h g = h
 if_keeping false m n h g = g
 
-new_sort_keeping : (level : ℕ) (n : List ℕ) → Keeping (declare_new_sort level n)
-new_sort_keeping level n = next_keeping (sort_name_keeping n) (next_keeping (declare_keeping _ (λ k. refl)) (return_keeping declares))
+new_sort_keeping : (n : List ℕ) → Keeping (declare_new_sort n)
+new_sort_keeping n = next_keeping (sort_name_keeping n) (next_keeping (declare_keeping _ (λ k. refl)) (return_keeping declares))
 
-declare_sort_keeping : (level : ℕ) (ss : Sexps) → Keeping (declare_sort level ss)
-declare_sort_keeping level (word (Symbol n) ▸ word (Numeral cs) ▸ end) =
-    next_keeping (require_keeping _ _) (if_keeping _ _ _ (new_sort_keeping level n) (return_keeping is_unsupported))
-declare_sort_keeping level _ = refuse_keeping _ _
+declare_sort_keeping : (n : List ℕ) (arity : ℤ) → Keeping (declare_sort n arity)
+declare_sort_keeping n arity = if_keeping _ _ _ (new_sort_keeping n) (return_keeping is_unsupported)
 
-defined_sort_keeping : (level : ℕ) (n : List ℕ) (s : Sexp) → Keeping (define_new_sort level n s)
-defined_sort_keeping level n s =
+define_sort_keeping : (n : List ℕ) (ps : List (List ℕ)) (s : WrittenSort) → Keeping (define_sort n ps s)
+define_sort_keeping n [] s =
     next_keeping (sort_name_keeping n) (bind_keeping (sort_keeping s) (λ r. next_keeping (declare_keeping _ (λ k. refl)) (return_keeping declares)))
+define_sort_keeping n (p ∷ ps) s = return_keeping is_unsupported
 
-define_sort_keeping : (level : ℕ) (ss : Sexps) → Keeping (define_sort level ss)
-define_sort_keeping level (word (Symbol n) ▸ group end ▸ s ▸ end) = next_keeping (require_keeping _ _) (defined_sort_keeping level n s)
-define_sort_keeping level (word (Symbol n) ▸ group ss ▸ s ▸ end) = next_keeping (require_keeping _ _) (return_keeping is_unsupported)
-define_sort_keeping level _ = refuse_keeping _ _
-
-declared_function_keeping : (level : ℕ) (n : List ℕ) (ss : Sexps) (s : Sexp) → Keeping (declare_function level n ss s)
-declared_function_keeping level n ss s =
-    next_keeping (require_keeping _ _)
-    (next_keeping (function_name_keeping n)
-    (bind_keeping (sorts_keeping ss) (λ rs. bind_keeping (sort_keeping s) (λ r. next_keeping (declare_keeping _ (λ k. refl)) (return_keeping declares)))))
-
-declare_const_keeping : (level : ℕ) (ss : Sexps) → Keeping (declare_const level ss)
-declare_const_keeping level (word (Symbol n) ▸ s ▸ end) = declared_function_keeping level n end s
-declare_const_keeping level _ = refuse_keeping _ _
-
-declare_fun_keeping : (level : ℕ) (ss : Sexps) → Keeping (declare_fun level ss)
-declare_fun_keeping level (word (Symbol n) ▸ group ss ▸ s ▸ end) = declared_function_keeping level n ss s
-declare_fun_keeping level _ = refuse_keeping _ _
+function_keeping : (n : List ℕ) (ss : List WrittenSort) (s : WrittenSort) → Keeping (declare_function n ss s)
+function_keeping n ss s =
+    next_keeping (function_name_keeping n)
+    (bind_keeping (sorts_keeping ss) (λ rs. bind_keeping (sort_keeping s) (λ r. next_keeping (declare_keeping _ (λ k. refl)) (return_keeping declares))))
 
 parameters_keeping : (k : ℕ) (before : List (List ℕ)) (ps : List Parameter) → Keeping (judge_parameters k before ps)
 parameters_keeping k before [] = return_keeping []
 parameters_keeping k before (p ∷ ps) =
     next_keeping (require_keeping _ _) (bind_keeping (sort_keeping p.sort) (λ s. bind_keeping (parameters_keeping (k + 1) (p.name ∷ before) ps) (λ vs. return_keeping _)))
 
-body_keeping : (vs : List Variable) (t : Sexp) → Keeping (judge_body vs t)
+body_keeping : (vs : List Variable) (t : List Token) → Keeping (judge_body vs t)
 unfolding judge_body
-body_keeping vs t = record { keeps = λ s f. go s f (judge in_body vs t (record s { trees = map (λ (v : Variable). v.term.tree) vs })) }
+body_keeping vs t = record { keeps = λ s f. go s f (judge in_body vs (sexp t) (record s { trees = map (λ (v : Variable). v.term.tree) vs })) }
   where
     go : (s : Scope) → Fresh s.given s.signature → (o : Outcome Typed) → Kept s (apart s o)
     go s f (done a c) = (f, ([], sym (append-nil s.signature)))
     go s f (refused r) = tt
 
-defined_keeping : (level : ℕ) (n : List ℕ) (ps : List Parameter) (s t : Sexp) → Keeping (define_function level n ps s t)
-defined_keeping level n ps s t =
-    next_keeping (require_keeping _ _)
-    (next_keeping (function_name_keeping n)
+defined_keeping : (n : List ℕ) (ps : List Parameter) (s : WrittenSort) (t : List Token) → Keeping (define_function n ps s t)
+defined_keeping n ps s t =
+    next_keeping (function_name_keeping n)
     (bind_keeping (parameters_keeping 0 [] ps) (λ vs. bind_keeping (sort_keeping s) (λ r. bind_keeping (body_keeping vs t) (λ b.
-    next_keeping (require_keeping _ _) (next_keeping (declare_keeping _ (λ k. refl)) (return_keeping declares)))))))
+    next_keeping (require_keeping _ _) (next_keeping (declare_keeping _ (λ k. refl)) (return_keeping declares))))))
 
-with_keeping : (level : ℕ) (n : List ℕ) (o : Option (List Parameter)) (s t : Sexp) → Keeping (define_with level n o s t)
-with_keeping level n None s t = refuse_keeping _ _
-with_keeping level n (Some ps) s t = defined_keeping level n ps s t
+room_keeping : Keeping require_room
+room_keeping = bind_keeping scope_keeping (λ s. require_keeping _ _)
 
-define_fun_keeping : (level : ℕ) (ss : Sexps) → Keeping (define_fun level ss)
-define_fun_keeping level (word (Symbol n) ▸ group ps ▸ s ▸ t ▸ end) = with_keeping level n (parameters ps) s t
-define_fun_keeping level _ = refuse_keeping _ _
+assert_keeping : (t : List Token) → Keeping (assert_term t)
+assert_keeping t = bind_keeping (judge_keeping in_assert [] (sexp t)) (λ a. next_keeping (require_keeping _ _) (next_keeping room_keeping (return_keeping _)))
 
-assert_keeping : (level : ℕ) (ss : Sexps) → Keeping (assert_term level ss)
-assert_keeping level (t ▸ end) =
-    bind_keeping (judge_keeping (in_assert level) [] t) (λ a. next_keeping (require_keeping _ _) (bind_keeping scope_keeping (λ s. next_keeping (require_keeping _ _) (return_keeping _))))
-assert_keeping level _ = refuse_keeping _ _
-
-levels_keeping : (ss : Sexps) → Keeping (judge_levels ss)
-levels_keeping end = return_keeping 1
-levels_keeping (word (Numeral cs) ▸ end) = next_keeping (require_keeping _ _) (return_keeping _)
-levels_keeping _ = refuse_keeping _ _
-
-push_keeping : (level : ℕ) (ss : Sexps) → Keeping (push_levels level ss)
-push_keeping level ss = bind_keeping (levels_keeping ss) (λ n. next_keeping (require_keeping _ _) (return_keeping (pushes n)))
-
-pop_keeping : (level : ℕ) (ss : Sexps) → Keeping (pop_levels level ss)
-pop_keeping level ss = bind_keeping (levels_keeping ss) (λ n. next_keeping (require_keeping _ _) (return_keeping (pops n)))
-
-without_keeping : (change : Change) (level : ℕ) (ss : Sexps) → Keeping (without_arguments change level ss)
-without_keeping change level end = return_keeping change
-without_keeping change level _ = refuse_keeping _ _
+questions_keeping : (ts : List (List Token)) → Keeping (judge_questions ts)
+questions_keeping [] = return_keeping []
+questions_keeping (t ∷ ts) = bind_keeping (judge_keeping in_question [] (sexp t)) (λ a. bind_keeping (questions_keeping ts) (λ bs. return_keeping (a ∷ bs)))
 
 -- ---- the fold
 
-abbrev KeepsIfSome : Option Command → Type 0
+abbrev KeepsIfSome : Option (ℕ → Judging Change) → Type 0
 KeepsIfSome None = Unit {0}
-KeepsIfSome (Some c) = (level : ℕ) (ss : Sexps) → Keeping (c level ss)
+KeepsIfSome (Some m) = (level : ℕ) → Keeping (m level)
 
-abbrev AllKeep : List (List ℕ × Command) → Type 0
-AllKeep [] = Unit {0}
-AllKeep (p ∷ ps) = ((level : ℕ) (ss : Sexps) → Keeping (p.1 level ss)) × AllKeep ps
-
-look_step : (c : Command) (o : Option Command) (b : Bool) → ((level : ℕ) (ss : Sexps) → Keeping (c level ss)) → KeepsIfSome o → KeepsIfSome (if b then Some c else o)
-look_step c o true h g = h
-look_step c o false h g = g
-
-look_keeps : (n : List ℕ) (cs : List (List ℕ × Command)) → AllKeep cs → KeepsIfSome (look_up n cs)
-look_keeps n [] h = tt
-look_keeps n (p ∷ ps) h = look_step p.1 (look_up n ps) (bytes_eq n p.0) h.0 (look_keeps n ps h.1)
-
-commands_keep : AllKeep stack_commands
-commands_keep =
-    (declare_sort_keeping, (define_sort_keeping, (declare_const_keeping, (declare_fun_keeping, (define_fun_keeping, (assert_keeping, (push_keeping, (pop_keeping, (without_keeping clears, (without_keeping begins_again, tt))))))))))
+command_keeps : (c : Command) → KeepsIfSome (stack_command c)
+command_keeps (DeclareSort n arity) = λ level. declare_sort_keeping n arity
+command_keeps (DefineSort n ps s) = λ level. define_sort_keeping n ps s
+command_keeps (DeclareConst n s) = λ level. function_keeping n [] s
+command_keeps (DeclareFun n ss s) = λ level. function_keeping n ss s
+command_keeps (DefineFun n ps s t) = λ level. defined_keeping n ps s t
+command_keeps (Assert t) = λ level. assert_keeping t
+command_keeps (GetValue ts) = λ level. bind_keeping (questions_keeping ts) (λ as'. next_keeping room_keeping (return_keeping _))
+command_keeps (Push n) = λ level. next_keeping (require_keeping _ _) (return_keeping _)
+command_keeps (Pop n) = λ level. next_keeping (require_keeping _ _) (return_keeping _)
+command_keeps ResetAssertions = λ level. return_keeping clears
+command_keeps Reset = λ level. return_keeping begins_again
+command_keeps _ = tt
 
 abbrev FreshStack : Stack → Type 0
 FreshStack s = Fresh s.given (signature_of s.frames)
@@ -361,6 +328,7 @@ changed_fresh s (asserts a) c f g names e = fresh_on_top c.given (new_declaratio
 changed_fresh s (pushes n) c f g names e = subst (Fresh s.given) (sym (pushed_signature n s.frames)) f
 changed_fresh s (pops n) c f g names e =
     fresh_prefix s.given _ (signature_of (drop (length s.frames - n) s.frames)) (subst (Fresh s.given) (popped_signature (length s.frames - n) s.frames) f)
+changed_fresh s (asks ts) c f g names e = f
 changed_fresh s clears c f g names e = nothing_fresh s.given
 changed_fresh s begins_again c f g names e = nothing_fresh 0
 changed_fresh s is_unsupported c f g names e = f
@@ -369,17 +337,13 @@ outcome_fresh : (s : Stack) (o : Outcome Change) → FreshStack s → Kept (scop
 outcome_fresh s (done change c) f k = changed_fresh s change c f k.0 k.1.0 k.1.1
 outcome_fresh s (refused r) f k = f
 
-command_fresh : (s : Stack) (ss : Sexps) (o : Option Command) → KeepsIfSome o → FreshStack s → FreshStack (after_command s (elim o [ None ↦ None | Some c ↦ Some (λ level. c level ss) ]))
-command_fresh s ss None k f = f
-command_fresh s ss (Some c) k f = outcome_fresh s (c (depth s.frames) ss (scope_of s)) f ((k (depth s.frames) ss).keeps (scope_of s) f)
+command_fresh : (s : Stack) (o : Option (ℕ → Judging Change)) → KeepsIfSome o → FreshStack s → FreshStack (after_command s o)
+command_fresh s None k f = f
+command_fresh s (Some m) k f = outcome_fresh s (judged m s) f ((k (depth s.frames)).keeps (scope_of s) f)
 
-after_fresh : (s : Stack) (x : Sexp) → FreshStack s → FreshStack (after s x)
-after_fresh s (group (word (Symbol n) ▸ ss)) f = command_fresh s ss (look_up n stack_commands) (look_keeps n stack_commands commands_keep) f
-after_fresh s _ f = f
-
-all_fresh : (s : Stack) (xs : List Sexp) → FreshStack s → FreshStack (after_all s xs)
+all_fresh : (s : Stack) (cs : List Command) → FreshStack s → FreshStack (after_all s cs)
 all_fresh s [] f = f
-all_fresh s (x ∷ xs) f = all_fresh (after s x) xs (after_fresh s x f)
+all_fresh s (c ∷ cs) f = all_fresh (after s c) cs (command_fresh s (stack_command c) (command_keeps c) f)
 
-pub no_id_twice : (xs : List Sexp) → HasNoIdTwice (signature_of (after_all start xs).frames)
-no_id_twice xs = (all_fresh start xs (nothing_fresh 0)).distinct
+pub no_id_twice : NoIdTwice
+no_id_twice cs = (all_fresh start cs (nothing_fresh 0)).distinct

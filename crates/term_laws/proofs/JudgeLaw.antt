@@ -2,7 +2,7 @@
 use Rattle.std.proofs.Common.{◌≡◌, ℕ, List, [], ◌∷◌, ◌++◌, sym, ap, ◌∙◌, refl, Bool, true, false, Option, Some, None, nat_lt, append_assoc, append-nil}
 use Rattle.std.specs.Prelude.{codes, bytes_eq}
 use Rattle.smt_meaning.specs.declared.tokens.Token.TheVariants.{Symbol, Keyword}
-use Rattle.smt_meaning.specs.declared.declarations.Declaration.{Declaration}
+use Rattle.smt_meaning.specs.Declaration.{Declaration}
 use Rattle.smt_meaning.specs.declared.refusals.Refusal.{Refusal}
 use Rattle.smt_meaning.specs.Term.{Tree}
 use Rattle.smt_meaning.specs.Sexp.{Sexps, word, end, ◌▸◌}

@@ -14,7 +14,7 @@ use Rattle.smt_meaning.specs.declared.terms.Operator.TheVariants.{True, False, N
 use Rattle.smt_meaning.specs.declared.terms.Head.{Head}
 use Rattle.smt_meaning.specs.declared.terms.Head.TheVariants.{Numeral, Theory, Symbol, Place}
 use Rattle.smt_meaning.specs.Term.{Tree, Trees, node, none, more, Interpretation, value, values, apply, operate, fold_left, fold_right, left_assoc, right_assoc, on_truths, on_numbers, truth_of, choice, difference, negation, implies, xor}
-use Rattle.smt_meaning.specs.declared.declarations.Declaration.{Declaration}
+use Rattle.smt_meaning.specs.Declaration.{Declaration}
 use Rattle.smt_meaning.specs.Signature.{sort_eq, sorts_eq, all_of, if_so, ite_sort, operator_sort, is_symbol, function_with_id, symbol_sort, stands_with, head_sort, cons_sort, with_sorts, tree_sort, tree_sorts}
 use Rattle.smt_meaning.specs.Interpretation.{has_sort, have_sorts, IsFunctionFor, Interprets}
 

@@ -6,7 +6,7 @@ use Rattle.smt_meaning.specs.declared.values.Value.{Value}
 use Rattle.smt_meaning.specs.declared.values.Sort.{Sort}
 use Rattle.smt_meaning.specs.declared.values.Row.{Row}
 use Rattle.smt_meaning.specs.declared.values.Table.{Table}
-use Rattle.smt_meaning.specs.declared.declarations.Declaration.{Declaration}
+use Rattle.smt_meaning.specs.Declaration.{Declaration}
 use Rattle.smt_meaning.specs.Term.{Interpretation}
 use Rattle.smt_meaning.specs.Signature.{is_symbol, HasNoIdTwice}
 use Rattle.smt_meaning.specs.Interpretation.{has_sort, have_sorts, IsFunctionFor, Interprets, look, meaning, same_values, IsTableFor, AreTablesFor}

@@ -3,14 +3,15 @@ use Rattle.std.specs.Prelude.{◌≡◌, ℕ, List, [], map, Some, IsTrue, Conta
 use Rattle.smt_meaning.specs.declared.values.Sort.{Sort}
 use Rattle.smt_meaning.specs.declared.values.Value.{Value}
 use Rattle.smt_meaning.specs.declared.values.Table.{Table}
-use Rattle.smt_meaning.specs.declared.declarations.Declaration.{Declaration}
-use Rattle.smt_meaning.specs.Term.{Tree, Interpretation, value}
+use Rattle.smt_meaning.specs.declared.commands.Command.{Command}
+use Rattle.smt_meaning.specs.Declaration.{Declaration}
+use Rattle.smt_meaning.specs.Term.{Tree, Interpretation, value, value_with}
 use Rattle.smt_meaning.specs.Sexp.{Sexp, tokens, sexp, IsSexp, is_proper}
 use Rattle.smt_meaning.specs.Signature.{tree_sort, HasNoIdTwice}
 use Rattle.smt_meaning.specs.Sorts.{Scope, done, Typed, Variable, Rules, judge}
 use Rattle.smt_meaning.specs.Stack.{signature_of}
 use Rattle.smt_meaning.specs.StackCommand.{start, after_all}
-use Rattle.smt_meaning.specs.Environment.{Environment, body_value, term_value}
+use Rattle.smt_meaning.specs.Environment.{Environment, term_value}
 use Rattle.smt_meaning.specs.Interpretation.{Interprets, has_sort, meaning, AreTablesFor}
 use Rattle.smt_meaning.specs.Clause.{symbols}
 use Rattle.smt_meaning.specs.TreeShape.{tree_eq}
@@ -38,7 +39,7 @@ TokensReadBack = (s : Sexp) → IsTrue (is_proper s) → IsSexp (tokens s) × (s
 
 -- the values of variables, where parameters have these values
 abbrev pub environment_of : Interpretation → List Value → List Variable → Environment
-environment_of I parameters vs = map (λ (v : Variable). record { name = v.name; value = body_value I parameters v.term.tree }) vs
+environment_of I parameters vs = map (λ (v : Variable). record { name = v.name; value = value_with I parameters v.term.tree }) vs
 
 -- the tree of an accepted term has the value of the term
 abbrev pub TreeHasTheTermsValue : Type 0
@@ -49,11 +50,11 @@ TreeHasTheTermsValue =
 abbrev pub BodyHasTheTermsValue : Type 0
 BodyHasTheTermsValue =
     (r : Rules) (vs : List Variable) (x : Sexp) (s t : Scope) (a : Typed) (I : Interpretation) (parameters : List Value)
-    → judge r vs x s ≡ done a t → body_value I parameters a.tree ≡ term_value t.signature I (environment_of I parameters vs) x
+    → judge r vs x s ≡ done a t → value_with I parameters a.tree ≡ term_value t.signature I (environment_of I parameters vs) x
 
 -- whatever commands come, no id stands twice in the signature of the stack
 abbrev pub NoIdTwice : Type 0
-NoIdTwice = (xs : List Sexp) → HasNoIdTwice (signature_of (after_all start xs).frames)
+NoIdTwice = (cs : List Command) → HasNoIdTwice (signature_of (after_all start cs).frames)
 
 -- the test for equal trees is true exactly where they are one tree
 abbrev pub TreeEqualityDecides : Type 0

@@ -1,10 +1,10 @@
 -- The operations on whole numbers that each operation on fractions makes, in order, and the answer that they give.
-use Rattle.std.specs.Prelude.{ℕ, ◌*◌, ◌/◌, ℤ, pos, ◌+ℤ◌, ◌*ℤ◌, neg_ℤ, unsigned_abs, List, [], ◌∷◌}
+use Rattle.std.specs.Prelude.{ℕ, suc, ◌*◌, ◌/◌, ℤ, pos, negsuc, ◌+ℤ◌, ◌*ℤ◌, neg_ℤ, unsigned_abs, List, [], ◌∷◌}
 use Rattle.std.specs.Int.RustNames.{int_div}
-use Rattle.fraction128.specs.declared.whole.Op.TheVariants.{Add, Mul}
-use Rattle.fraction128.specs.declared.whole.Range.{Range}
-use Rattle.fraction128.specs.Gcd.{gcd_of}
-use Rattle.fraction128.specs.declared.ratio.Ratio.{Ratio}
+use Rattle.number_meaning.specs.declared.range.Op.TheVariants.{Add, Mul}
+use Rattle.number_meaning.specs.declared.range.Range.{Range}
+use Rattle.number_meaning.specs.Gcd.{gcd_of}
+use Rattle.number_meaning.specs.declared.ratio.Ratio.{Ratio}
 
 abbrev pub times : ℤ → ℤ → Range
 times a b = record { op = Mul; a = a; b = b }
@@ -62,3 +62,15 @@ product_of x y =
       numerator = int_div x.numerator (pos u) *ℤ int_div y.numerator (pos v);
       denominator = x.denominator / v * (y.denominator / u);
     }
+
+-- 1 / x, for x other than 0
+abbrev pub reciprocal_of : Ratio → Ratio
+reciprocal_of x = flipped x.numerator x.denominator
+  where
+    flipped : ℤ → ℕ → Ratio
+    flipped (pos n) d = record { numerator = pos d; denominator = n }
+    flipped (negsuc n) d = record { numerator = neg_ℤ (pos d); denominator = suc n }
+
+-- x + a * y by those steps
+abbrev pub fused : Ratio → Ratio → Ratio → Ratio
+fused x a y = sum_of x (product_of a y)

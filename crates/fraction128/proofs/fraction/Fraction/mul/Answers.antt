@@ -1,0 +1,10 @@
+use Rattle.std.proofs.Common.{◌≡◌, ap₂, subst}
+use Rattle.number_meaning.specs.Listed.{product_of}
+use Rattle.number_meaning.proofs.ListedAnswers.{product-exact}
+use Rattle.fraction128.proofs.fraction.Fraction.mul.Goals as goal
+
+pub returns-clause-exact : goal.returns-clause-exact
+returns-clause-exact c =
+    let h = c.in_ok-ratio.ensures.ok in
+    let e : product_of c.self.inside.ratio c.other.inside.ratio ≡ product_of c.args.self c.args.other = ap₂ product_of c.self.view_is c.other.view_is in
+    subst (λ x. c.in_ok-ratio.ratio ≡ x) e (product-exact c.self.inside.ratio c.other.inside.ratio c.in_ok-ratio.ratio c.self.invariant c.other.invariant h.0 h.1 h.2)

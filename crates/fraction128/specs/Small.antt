@@ -1,0 +1,8 @@
+-- Fractions whose sums and products stay within 64 bits.
+use Rattle.std.specs.Prelude.{◌<◌, ◌^◌, unsigned_abs}
+use Rattle.number_meaning.specs.declared.ratio.Ratio.{Ratio}
+
+-- both parts have 31 bits
+pub record IsSmall (x : Ratio) : Type 0 where
+  pub numerator_small : unsigned_abs x.numerator < 2 ^ 31
+  pub denominator_small : x.denominator < 2 ^ 31

@@ -1,0 +1,13 @@
+pub mod Ring
+pub mod RingEquations
+pub mod WholeNumbers
+pub mod Divisors
+pub mod Integers
+pub mod LowestTerms
+pub mod Comparisons
+pub mod RationalRing
+pub mod RationalOrder
+pub mod ListedAnswers
+pub mod ExactSteps
+pub mod FieldLaws
+mod Examples

@@ -1,0 +1,5 @@
+pub mod Whole
+pub mod Gcd
+pub mod Ratio
+pub mod Listed
+pub mod Number

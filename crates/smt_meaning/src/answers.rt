@@ -1,0 +1,77 @@
+use crate::errors::Error;
+use crate::options::{Info, OptionValue};
+use crate::replies::Kept;
+use crate::seq::{Bytes, Seq};
+use crate::tokens::SExpr;
+use crate::values::Interp;
+
+/// A value as it is printed.
+#[derive(Debug, Drop)]
+pub enum PrintedValue {
+    Truth(bool),
+    Whole(i128),
+    /// The element of this number, of the sort of this name.
+    Element(u64, Bytes),
+}
+
+/// A term as it was given, and its value.
+#[derive(Debug, Drop)]
+pub struct TermValue {
+    pub term: SExpr,
+    pub value: PrintedValue,
+}
+
+/// The value at a list of arguments, as it is printed.
+#[derive(Debug, Drop)]
+pub struct PrintedRow {
+    pub arguments: Seq<PrintedValue>,
+    pub value: PrintedValue,
+}
+
+/// A function of a model as it is printed: its name, the names of its sorts, its rows and its default.
+#[derive(Debug, Drop)]
+pub struct PrintedFunction {
+    pub name: Bytes,
+    pub arguments: Seq<Bytes>,
+    pub result: Bytes,
+    pub rows: Seq<PrintedRow>,
+    pub default: PrintedValue,
+}
+
+/// A reply (SMT-LIB 2.6, section 4.1), with all that its text prints.
+#[derive(Debug, Drop)]
+pub enum Reply {
+    /// The command was carried out, and `:print-success` is on after it.
+    Success,
+    /// The command was carried out, and `:print-success` is off after it, so nothing is written.
+    Silent,
+    Unsupported,
+    Sat,
+    Unsat,
+    Echo(Bytes),
+    Option(OptionValue),
+    Info(Info),
+    Values(Seq<TermValue>),
+    Model(Seq<PrintedFunction>),
+    Assertions(Seq<SExpr>),
+    Error(Error),
+}
+
+/// The modes (SMT-LIB 2.6, section 4.1.3).
+#[derive(Debug, Drop)]
+pub enum Mode {
+    Start,
+    Assert,
+    /// After `sat`, with the model that is kept.
+    Sat(Interp),
+    Unsat,
+}
+
+/// An entry of the journal: what was answered to one s-expression, or to a fault.
+#[derive(Debug, Drop)]
+pub struct Entry {
+    /// Counted from 0.
+    pub number: u64,
+    pub reply: Reply,
+    pub kept: Kept,
+}

@@ -1,0 +1,62 @@
+use crate::options::{InfoName, OptionName, OptionSetting};
+use crate::seq::{Bytes, Seq};
+use crate::tokens::SExpr;
+
+/// A sort as it is written.
+#[derive(Debug, Drop)]
+pub enum WrittenSort {
+    /// A symbol.
+    Name(Bytes),
+    /// A list that begins with this symbol.
+    Applied(Bytes),
+}
+
+/// A parameter of a definition, with its sort as it is written.
+#[derive(Debug, Drop)]
+pub struct Parameter {
+    pub name: Bytes,
+    pub sort: WrittenSort,
+}
+
+/// A command (SMT-LIB 2.6, section 4.2), judged from an s-expression alone. Its terms and sorts are as they are written, and its numbers are at most 2^127 - 1.
+#[derive(Debug, Drop)]
+pub enum Command {
+    /// `(set-logic name)`
+    SetLogic(Bytes),
+    /// `(set-option :option value)`
+    SetOption(OptionSetting),
+    /// `(get-option :option)`
+    GetOption(OptionName),
+    /// `(set-info :keyword value)`, which says nothing to the solver.
+    SetInfo,
+    /// `(get-info :keyword)`
+    GetInfo(InfoName),
+    /// `(echo text)`
+    Echo(Bytes),
+    Exit,
+    Reset,
+    ResetAssertions,
+    /// `(declare-sort name arity)`
+    DeclareSort(Bytes, i128),
+    /// `(define-sort name (parameter ..) sort)`
+    DefineSort(Bytes, Seq<Bytes>, WrittenSort),
+    /// `(declare-const name sort)`
+    DeclareConst(Bytes, WrittenSort),
+    /// `(declare-fun name (sort ..) sort)`
+    DeclareFun(Bytes, Seq<WrittenSort>, WrittenSort),
+    /// `(define-fun name ((parameter sort) ..) sort term)`
+    DefineFun(Bytes, Seq<Parameter>, WrittenSort, SExpr),
+    /// `(assert term)`
+    Assert(SExpr),
+    CheckSat,
+    /// `(push n)`, where n is 1 if it isn't written.
+    Push(i128),
+    /// `(pop n)`, where n is 1 if it isn't written.
+    Pop(i128),
+    /// `(get-value (term ..))`
+    GetValue(Seq<SExpr>),
+    GetModel,
+    GetAssertions,
+    /// A command of the standard, an option, an output channel or a piece of information that is left out: it is answered `unsupported`.
+    LeftOut,
+}

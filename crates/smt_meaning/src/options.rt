@@ -1,0 +1,84 @@
+use crate::seq::Bytes;
+
+/// A channel for output (SMT-LIB 2.6, section 4.1.7).
+#[derive(Clone, Copy, PartialEq, Eq, Debug, Drop)]
+pub enum Channel {
+    /// `"stdout"`
+    Stdout,
+    /// `"stderr"`
+    Stderr,
+}
+
+/// An option (SMT-LIB 2.6, section 4.1.7).
+#[derive(Clone, Copy, PartialEq, Eq, Debug, Drop)]
+pub enum OptionName {
+    PrintSuccess,
+    RegularOutputChannel,
+    DiagnosticOutputChannel,
+    Verbosity,
+    ReproducibleResourceLimit,
+    RandomSeed,
+    ProduceModels,
+    ProduceAssertions,
+    /// The older name of `:produce-assertions`.
+    InteractiveMode,
+}
+
+/// An option with the value that it is to have.
+#[derive(Clone, Copy, PartialEq, Eq, Debug, Drop)]
+pub enum OptionSetting {
+    PrintSuccess(bool),
+    /// The only regular channel is `"stdout"`.
+    RegularOutputChannel,
+    DiagnosticOutputChannel(Channel),
+    Verbosity(i128),
+    ReproducibleResourceLimit(i128),
+    RandomSeed(i128),
+    ProduceModels(bool),
+    ProduceAssertions(bool),
+    InteractiveMode(bool),
+}
+
+/// The options' values. The regular channel is always `"stdout"`.
+#[derive(Clone, Copy, PartialEq, Eq, Debug, Drop)]
+pub struct Options {
+    pub print_success: bool,
+    pub diagnostic_output_channel: Channel,
+    pub verbosity: i128,
+    pub reproducible_resource_limit: i128,
+    pub random_seed: i128,
+    pub produce_models: bool,
+    /// `:produce-assertions`, which `:interactive-mode` names too.
+    pub produce_assertions: bool,
+}
+
+/// What `get-option` answers.
+#[derive(Debug, Drop)]
+pub enum OptionValue {
+    Truth(bool),
+    Number(i128),
+    Text(Bytes),
+}
+
+/// A piece of information (SMT-LIB 2.6, section 4.1.8).
+#[derive(Clone, Copy, PartialEq, Eq, Debug, Drop)]
+pub enum InfoName {
+    Name,
+    Version,
+    Authors,
+    ErrorBehavior,
+    AssertionStackLevels,
+    ReasonUnknown,
+}
+
+/// What `get-info` answers.
+#[derive(Clone, Copy, PartialEq, Eq, Debug, Drop)]
+pub enum Info {
+    Name,
+    Version,
+    Authors,
+    /// A run goes on after an error.
+    ErrorBehavior,
+    /// So many levels stand above level 0.
+    AssertionStackLevels(u64),
+}
