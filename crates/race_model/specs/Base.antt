@@ -1,8 +1,7 @@
 -- Levels whose terms are named by their places in a list of trees, read as the frames of a stack.
 use Rattle.std.specs.Prelude.{ℕ, List, [], ◌∷◌, ◌++◌, map}
-use Rattle.smt_meaning.specs.declared.declarations.Declaration.{Declaration}
+use Rattle.smt_meaning.specs.Declaration.{Declaration}
 use Rattle.smt_meaning.specs.Term.{Tree, tree_at}
-use Rattle.smt_meaning.specs.Sexp.{sexp}
 use Rattle.smt_meaning.specs.Stack.{Assertion, Frame}
 use Rattle.race_model.specs.declared.event.Formula.{Formula}
 use Rattle.race_model.specs.declared.levels.Level.{Level}
@@ -14,7 +13,7 @@ pub record Base : Type 0 where
   pub frames : List Frame
 
 abbrev pub assertion_of : List Tree → Formula → Assertion
-assertion_of ts f = record { text = sexp f.text; term = tree_at ts f.term }
+assertion_of ts f = record { text = f.text; term = tree_at ts f.term }
 
 abbrev pub frame_of : List Tree → Level → Frame
 frame_of ts l = record { declared = l.declared; asserted = map (assertion_of ts) l.asserted }

@@ -1,7 +1,7 @@
 -- The race as a pure machine: its state, its events, and what each event does.
 use Rattle.std.specs.Prelude.{◌≡◌, ℕ, zero, suc, ◌+◌, ◌-◌, ◌<◌, ◌≤◌, Bool, true, false, not, ◌&&◌, ◌||◌, nat_eq, nat_lt, List, [], ◌∷◌, ◌++◌, map, length, take, drop, filter, slice_set, slice_index_or, slice_get, Option, Some, None, IfSome, IsTrue, All, Contains}
 use Rattle.std.specs.List.{AllZip}
-use Rattle.smt_meaning.specs.declared.declarations.Declaration.{Declaration}
+use Rattle.smt_meaning.specs.Declaration.{Declaration}
 use Rattle.smt_meaning.specs.declared.clauses.Clause.{Clause}
 use Rattle.smt_meaning.specs.declared.tokens.Token.{Token}
 use Rattle.smt_meaning.specs.declared.values.Sort.TheVariants.{Bool as Truths}
@@ -90,17 +90,17 @@ are_new signature others (d ∷ ds) = not (has_id d.id signature || has_id d.id 
 abbrev pub is_new : List Declaration → Addition → Bool
 is_new signature a = are_new signature a.named a.declared && are_new signature [] a.named
 
--- the tokens are a Bool term over the declarations, with this tree, which gives these names at a level
-pub record IsBoolTerm (ds : List Declaration) (level : ℕ) (text : List Token) (t : Tree) (names : List Declaration) : Type 0 where
+-- the tokens are a Bool term over the declarations, with this tree, which gives these names
+pub record IsBoolTerm (ds : List Declaration) (text : List Token) (t : Tree) (names : List Declaration) : Type 0 where
   -- how many ids were given before
   pub given : ℕ
   pub after : Scope
-  pub judged : judge (in_assert level) [] (sexp text) (record { signature = ds; given = given; trees = [] }) ≡ done (record { tree = t; sort = Truths }) after
+  pub judged : judge in_assert [] (sexp text) (record { signature = ds; given = given; trees = [] }) ≡ done (record { tree = t; sort = Truths }) after
   pub names_are : after.signature ≡ ds ++ names
 
 abbrev pub IsStated : State → Addition → Option Formula → Type 0
 IsStated s a None = a.named ≡ []
-IsStated s a (Some f) = IsBoolTerm (signature_of s.base.frames ++ a.declared) (depth s.base.frames) f.text (assertion_of s.base.trees f).term a.named
+IsStated s a (Some f) = IsBoolTerm (signature_of s.base.frames ++ a.declared) f.text (assertion_of s.base.trees f).term a.named
 
 -- ---- when an event is a step
 

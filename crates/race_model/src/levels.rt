@@ -29,7 +29,7 @@ fn has(declared: &[Declaration], id: SymId) -> bool
 {
     let mut rest = declared;
     while let Some((first, tail)) = rest.split_first() {
-        if first.id == id {
+        if first.id() == id {
             return true;
         }
         rest = tail;
@@ -86,7 +86,7 @@ fn each_is_new(levels: &[Level], others: &[Declaration], declared: &[Declaration
 {
     let mut rest = declared;
     while let Some((first, tail)) = rest.split_first() {
-        if has_in_levels(levels, first.id) || has(others, first.id) || has(tail, first.id) {
+        if has_in_levels(levels, first.id()) || has(others, first.id()) || has(tail, first.id()) {
             return false;
         }
         rest = tail;
