@@ -1,7 +1,9 @@
 -- A sound state, and that every run keeps states sound.
-use Rattle.std.specs.Prelude.{◌≡◌, ◌<◌, ◌≤◌, List, [], length, All}
+use Rattle.std.specs.Prelude.{◌≡◌, ℕ, ◌<◌, ◌≤◌, List, [], ◌++◌, length, take, All}
 use Rattle.smt_meaning.specs.declared.clauses.Clause.{Clause}
-use Rattle.smt_meaning.specs.Stack.{HasNoModel, up_to}
+use Rattle.smt_meaning.specs.Declaration.{Declaration}
+use Rattle.smt_meaning.specs.Term.{Tree}
+use Rattle.smt_meaning.specs.Stack.{Assertion, HasNoModel, up_to, on_top, pushed}
 use Rattle.smt_meaning.specs.Follows.{Follows}
 use Rattle.race_model.specs.declared.event.Entry.{Entry}
 use Rattle.race_model.specs.declared.event.Event.{Event}
@@ -21,6 +23,22 @@ pub record IsSoundState (s : State) : Type 0 where
   pub marks : All (λ (x : Worker). x.mark ≤ length s.entries) s.workers
 
 -- ---- laws
+
+-- a clause that follows at its level still does after a push,
+abbrev pub SoundAfterPush : Type 0
+SoundAfterPush = (b : Base) (n : ℕ) (c : Clause) → IsSound b c → IsSound (record b { frames = pushed n b.frames }) c
+
+-- after declarations and assertions,
+abbrev pub SoundAfterAssert : Type 0
+SoundAfterAssert = (b : Base) (ds : List Declaration) (xs : List Assertion) (c : Clause) → IsSound b c → IsSound (record b { frames = on_top ds xs b.frames }) c
+
+-- where the levels below n stay, and its own is one of them,
+abbrev pub SoundAfterCut : Type 0
+SoundAfterCut = (b : Base) (n : ℕ) (c : Clause) → c.level < n → n ≤ length b.frames → IsSound b c → IsSound (record b { frames = take n b.frames }) c
+
+-- and with more trees
+abbrev pub SoundWithTrees : Type 0
+SoundWithTrees = (b : Base) (us : List Tree) (c : Clause) → IsSound b c → IsSound (record b { trees = b.trees ++ us }) c
 
 abbrev pub FirstStateIsSound : Type 0
 FirstStateIsSound = (s : State) → IsStart s → IsSoundState s

@@ -39,6 +39,10 @@ Shares w c s t (Shared place) = Adds (record { clause = c; worker = w }) s t × 
 Shares w c s t (Full back) = IsSame s t × (most_entries ≤ length s.entries) × (back ≡ c)
 Shares w c s t (Memory back) = IsSame s t × (s.spare ≡ 0) × (back ≡ c)
 
+-- the clauses and what they follow from are the same
+abbrev pub KeepsClauses : ShelfState → ShelfState → Type 0
+KeepsClauses s t = (t.base ≡ s.base) × (t.entries ≡ s.entries)
+
 -- nobody has ended, and so many ends take no memory
 pub record Begins (n : ℕ) (s t : ShelfState) : Type 0 where
   pub base : t.base ≡ s.base

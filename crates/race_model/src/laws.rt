@@ -1,10 +1,38 @@
 //! Laws of races, each as the contract of a function that does nothing.
-ghost use Rattle.race_model.specs.Laws.{EmptyOwnClauseRefutes, EveryRunIsSound, FirstStateIsSound, NextRaceBeginsSound, RaceKeepsSound, StepKeepsSound};
+ghost use Rattle.race_model.specs.Laws.{EmptyOwnClauseRefutes, EveryRunIsSound, FirstStateIsSound, NextRaceBeginsSound, RaceKeepsSound, SoundAfterAssert, SoundAfterCut, SoundAfterPush, SoundWithTrees, StepKeepsSound};
 
 use clause_laws::{
     empty_clause_shows_no_model, still_follows_above, still_follows_after_more,
     still_follows_after_pop, still_follows_after_push, still_follows_with_trees,
 };
+
+/// A clause that follows at its level still does after a push.
+pub fn sound_after_push()
+    ensures { SoundAfterPush }
+{
+    still_follows_after_push();
+}
+
+/// A clause that follows at its level still does after declarations and assertions.
+pub fn sound_after_assert()
+    ensures { SoundAfterAssert }
+{
+    still_follows_after_more();
+}
+
+/// A clause that follows at its level still does where that level stays.
+pub fn sound_after_cut()
+    ensures { SoundAfterCut }
+{
+    still_follows_after_pop();
+}
+
+/// A clause that follows at its level still does where the list of trees goes on.
+pub fn sound_with_trees()
+    ensures { SoundWithTrees }
+{
+    still_follows_with_trees();
+}
 
 /// The first state of a run is sound.
 pub fn first_state_is_sound()
