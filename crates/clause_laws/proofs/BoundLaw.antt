@@ -1,30 +1,21 @@
 -- Over whole numbers a normal bound has the value of the bound.
-use Rattle.std.proofs.Common.{◌≡◌, ℕ, zero, suc, ◌+◌, ◌*◌, ◌/◌, ◌%◌, ◌<◌, ◌≤◌, List, [], ◌∷◌, ap, sym, ◌∙◌, refl, arith, Bool, true, false, leb}
+use Rattle.std.proofs.Common.{◌≡◌, ℕ, zero, suc, ◌+◌, ◌*◌, ◌/◌, ◌<◌, ◌≤◌, List, [], ◌∷◌, ap, sym, ◌∙◌, refl, arith, Bool, true, false, leb}
 use Rattle.std.specs.Prelude.{ℤ, pos, negsuc, ◌+ℤ◌, ◌*ℤ◌, neg_ℤ, int_le, unsigned_abs}
 use Rattle.std.specs.Int.{int_div_euclid, IsGcd, ◌∣◌}
 use Rattle.std.proofs.lemmas.Bool.{le-leb, leb-true, leb-false}
-use Rattle.std.proofs.lemmas.Nat.Gcd.{IsGcd-from_zero, IsGcd-from_mod, dvd_trans}
-use Rattle.std.proofs.Math.Nat.{le-div_iff_mul-le, div-mul_cancel, mod-lt, eq-zero_of_zero-dvd}
+use Rattle.std.proofs.lemmas.Nat.Gcd.{dvd_trans}
+use Rattle.std.proofs.Math.Nat.{le-div_iff_mul-le, div-mul_cancel, eq-zero_of_zero-dvd}
 use Rattle.std.proofs.lemmas.Nat.{div-mul-add}
 use Rattle.std.proofs.Math.Dec.{leb-zero}
 use Rattle.std.proofs.Math.IntN.{*ℤ-zero, zero-*ℤ}
 use Rattle.smt_meaning.specs.declared.clauses.Summand.{Summand}
 use Rattle.smt_meaning.specs.Term.{Tree, Interpretation, number_of}
 use Rattle.smt_meaning.specs.Clause.{sum_value, value_at, atom_true}
-use Rattle.smt_meaning.specs.Atoms.{gcd_within, gcd, sum_gcd, divided, each_divided, normal_bound}
-use Rattle.fraction128.proofs.Ring.{times-sum, times_assoc}
+use Rattle.smt_meaning.specs.Atoms.{sum_gcd, divided, each_divided, normal_bound}
+use Rattle.number_meaning.proofs.Divisors.{IsGcd-gcd_of}
+use Rattle.number_meaning.proofs.Ring.{times-sum, times_assoc}
 
 -- ---- the greatest common divisor
-
-gcd_within-is : (n a b : ℕ) → b < n → IsGcd a b (gcd_within n a b)
-gcd_within-is zero a b h = absurd (omega arith)
-gcd_within-is (suc n) a zero h = IsGcd-from_zero a 0 refl
-gcd_within-is (suc n) a (suc b) h =
-    let below : a % suc b < suc b = mod-lt a (omega arith) in
-    IsGcd-from_mod a (suc b) _ (gcd_within-is n (suc b) (a % suc b) (omega arith))
-
-pub gcd-is : (a b : ℕ) → IsGcd a b (gcd a b)
-gcd-is a b = gcd_within-is (suc b) a b (omega arith)
 
 abbrev DividesEach : ℕ → List Summand → Type 0
 DividesEach g [] = Unit {0}
@@ -37,7 +28,7 @@ weaker g h (p ∷ ps) d e = (dvd_trans g d e.0, weaker g h ps d e.1)
 sum_gcd-divides : (ps : List Summand) → DividesEach (sum_gcd ps) ps
 sum_gcd-divides [] = tt
 sum_gcd-divides (p ∷ ps) =
-    let both : IsGcd (unsigned_abs p.coefficient) (sum_gcd ps) (sum_gcd (p ∷ ps)) = gcd-is (unsigned_abs p.coefficient) (sum_gcd ps) in
+    let both : IsGcd (unsigned_abs p.coefficient) (sum_gcd ps) (sum_gcd (p ∷ ps)) = IsGcd-gcd_of (unsigned_abs p.coefficient) (sum_gcd ps) in
     (both.0, weaker (sum_gcd (p ∷ ps)) (sum_gcd ps) ps both.1 (sum_gcd-divides ps))
 
 -- ---- division

@@ -1,6 +1,7 @@
 -- Linear forms, normal bounds, the atoms of an assertion and the clauses of a node, on examples that were computed by hand.
-use Rattle.std.proofs.Common.{◌≡◌, ℕ, ◌^◌, ◌*◌, false, List, [], ◌∷◌, map, refl}
+use Rattle.std.proofs.Common.{◌≡◌, ℕ, ◌^◌, false, List, [], ◌∷◌, map, refl}
 use Rattle.std.specs.Prelude.{ℤ, pos, negsuc}
+use Rattle.number_meaning.specs.Gcd.{gcd_of}
 use Rattle.smt_meaning.specs.declared.values.Sort.{Sort}
 use Rattle.smt_meaning.specs.declared.values.Sort.TheVariants.{Bool as Truths, Int as Ints}
 use Rattle.smt_meaning.specs.declared.terms.Operator.{Operator}
@@ -12,7 +13,7 @@ use Rattle.smt_meaning.specs.declared.clauses.Atom.TheVariants.{Truth, AtMost as
 use Rattle.smt_meaning.specs.Term.{Tree, Trees, node, none, more}
 use Rattle.smt_meaning.specs.TreeShape.{with_parts}
 use Rattle.smt_meaning.specs.Linear.{summand, linear_form, folding_fits}
-use Rattle.smt_meaning.specs.Atoms.{gcd, normal_bound, at_most_atom, below_atom, atoms_of}
+use Rattle.smt_meaning.specs.Atoms.{normal_bound, at_most_atom, below_atom, atoms_of}
 use Rattle.std.specs.Prelude.{None}
 
 abbrev number : ℕ → Tree
@@ -56,26 +57,32 @@ past = refl
 
 -- 2 x <= 5 is x <= 2
 halves : at_most_atom (x ∷ y ∷ []) (apply Multiply (number 2 ∷ x ∷ [])) (number 5) ≡ Bound (summand 0 (pos 1) ∷ []) (pos 2)
+unfolding gcd_of
 halves = refl
 
 -- -2 x <= -5 is -x <= -3
 minus_halves : normal_bound (summand 0 (negsuc 1) ∷ []) (negsuc 4) ≡ Bound (summand 0 (negsuc 0) ∷ []) (negsuc 2)
+unfolding gcd_of
 minus_halves = refl
 
 -- 2 x - 2 y <= 1 is x - y <= 0
 both : normal_bound (summand 0 (pos 2) ∷ summand 1 (negsuc 1) ∷ []) (pos 1) ≡ Bound (summand 0 (pos 1) ∷ summand 1 (negsuc 0) ∷ []) (pos 0)
+unfolding gcd_of
 both = refl
 
 -- x < y is x - y <= -1
 strict : below_atom (x ∷ y ∷ []) x y ≡ Bound (summand 0 (pos 1) ∷ summand 1 (negsuc 0) ∷ []) (negsuc 0)
+unfolding gcd_of
 strict = refl
 
 -- 1 <= 0 keeps its empty sum
 empty : at_most_atom [] (number 1) (number 0) ≡ Bound [] (negsuc 0)
+unfolding gcd_of
 empty = refl
 
-large : gcd (2 ^ 126) (2 ^ 100 * 3) ≡ 2 ^ 100
-large = refl
+divisor : gcd_of 84 36 ≡ 12
+unfolding gcd_of
+divisor = refl
 
 -- ---- the atoms of an assertion
 
@@ -94,6 +101,7 @@ atoms t = atoms_of (with_parts [] t) signature t
 -- (= x y x): its truth, and the equality and both bounds of each neighbouring pair
 chain : atoms (apply Equal (x ∷ y ∷ x ∷ []))
     ≡ Truth 2 ∷ Same 0 1 ∷ bound (pos 1) (negsuc 0) (pos 0) ∷ bound (negsuc 0) (pos 1) (pos 0) ∷ Same 1 0 ∷ bound (negsuc 0) (pos 1) (pos 0) ∷ bound (pos 1) (negsuc 0) (pos 0) ∷ []
+unfolding gcd_of
 chain = refl
 
 -- (distinct p p p): its argument's truth and its own, and the equality of each pair
@@ -102,9 +110,11 @@ pairs = refl
 
 -- (< x y) is x - y <= -1, and (>= x y) is y - x <= 0
 comparisons : atoms (apply Less (x ∷ y ∷ [])) ≡ Truth 2 ∷ bound (pos 1) (negsuc 0) (negsuc 0) ∷ []
+unfolding gcd_of
 comparisons = refl
 
 turned : atoms (apply AtLeast (x ∷ y ∷ [])) ≡ Truth 2 ∷ bound (negsuc 0) (pos 1) (pos 0) ∷ []
+unfolding gcd_of
 turned = refl
 
 -- (ite p x y) of sort Int: the truth of p, and its equality and bounds with each branch
@@ -112,4 +122,5 @@ branches : atoms (apply Ite (p ∷ x ∷ y ∷ []))
     ≡ Truth 0
     ∷ Same 3 1 ∷ Bound (summand 1 (negsuc 0) ∷ summand 3 (pos 1) ∷ []) (pos 0) ∷ Bound (summand 1 (pos 1) ∷ summand 3 (negsuc 0) ∷ []) (pos 0)
     ∷ Same 3 2 ∷ Bound (summand 2 (negsuc 0) ∷ summand 3 (pos 1) ∷ []) (pos 0) ∷ Bound (summand 2 (pos 1) ∷ summand 3 (negsuc 0) ∷ []) (pos 0) ∷ []
+unfolding gcd_of
 branches = refl

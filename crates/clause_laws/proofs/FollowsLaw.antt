@@ -6,7 +6,7 @@ use Rattle.std.proofs.lemmas.List.Elements.{All-weaker}
 use Rattle.smt_meaning.specs.Declaration.{Declaration}
 use Rattle.smt_meaning.specs.declared.clauses.Clause.{Clause}
 use Rattle.smt_meaning.specs.Term.{Tree}
-use Rattle.smt_meaning.specs.Interpretation.{IsFunctionFor}
+use Rattle.smt_meaning.specs.Interpretation.{IsFunctionFor, Interprets}
 use Rattle.smt_meaning.specs.Stack.{Frame, Assertion, Satisfies, signature_of, assertions_of, terms_of, on_top, pushed, popped, empty_frame}
 use Rattle.smt_meaning.specs.Clause.{clause_symbols}
 use Rattle.smt_meaning.specs.Follows.{FollowsFrom, Follows}
@@ -18,6 +18,7 @@ pub record Extends (fs gs : List Frame) : Type 0 where
   pub assertions : Included (assertions_of fs) (assertions_of gs)
 
 pub follows_more : (ts : List Tree) (fs gs : List Frame) (c : Clause) → Extends fs gs → FollowsFrom ts fs c → FollowsFrom ts gs c
+unfolding Interprets
 follows_more ts fs gs c e f = record {
   true_wherever = λ I interprets holds.
       f.true_wherever I (All-included (IsFunctionFor I) (signature_of fs) (signature_of gs) e.signature interprets)
@@ -71,13 +72,17 @@ on_top_extends ds xs n frames = record {
 -- ---- after commands
 
 pub after_push : (ts : List Tree) (frames : List Frame) (l n : ℕ) (c : Clause) → l < length frames → Follows ts frames l c → Follows ts (pushed n frames) l c
+unfolding Follows
 after_push ts frames l n c h f = rw (take-append-le (l + 1) frames (replicate n empty_frame) (omega arith)) f
 
 pub after_more : (ts : List Tree) (frames : List Frame) (l : ℕ) (c : Clause) (ds : List Declaration) (xs : List Assertion) → Follows ts frames l c → Follows ts (on_top ds xs frames) l c
+unfolding Follows
 after_more ts frames l c ds xs f = follows_more ts _ _ c (on_top_extends ds xs (l + 1) frames) f
 
 pub after_pop : (ts : List Tree) (frames : List Frame) (l n : ℕ) (c : Clause) → l + n < length frames → Follows ts frames l c → Follows ts (popped n frames) l c
+unfolding Follows
 after_pop ts frames l n c h f = rw (take-take (l + 1) (length frames - n) frames (omega arith)) f
 
 pub above : (ts : List Tree) (frames : List Frame) (l m : ℕ) (c : Clause) → l ≤ m → Follows ts frames l c → Follows ts frames m c
+unfolding Follows
 above ts frames l m c h f = follows_more ts _ _ c (take_extends (l + 1) (m + 1) frames (omega arith)) f

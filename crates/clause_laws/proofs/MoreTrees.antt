@@ -12,7 +12,7 @@ use Rattle.smt_meaning.specs.declared.clauses.Clause.{Clause}
 use Rattle.smt_meaning.specs.Term.{Tree, Interpretation, tree_at, value, truth_of, number_of, same_value}
 use Rattle.smt_meaning.specs.Stack.{Frame, up_to}
 use Rattle.smt_meaning.specs.Clause.{value_at, sum_value, signed, literal_true, some_true, atom_true, places, atom_places, sum_places, symbols, symbols_at}
-use Rattle.smt_meaning.specs.Follows.{Follows, declared_ids}
+use Rattle.smt_meaning.specs.Follows.{FollowsFrom, Follows, declared_ids}
 use Rattle.clause_laws.proofs.Included.{All-included, included_left, included_right}
 use Rattle.std.proofs.Common.{arith}
 
@@ -56,9 +56,13 @@ same_symbols ts us (i ∷ is) h =
     ap (λ t. symbols t ++ symbols_at (ts ++ us) is) (same_tree ts us i (first_within ts i is h))
     ∙ ap (λ fs. symbols (tree_at ts i) ++ fs) (same_symbols ts us is (rest_within ts i is h))
 
-pub with_trees : (ts us : List Tree) (frames : List Frame) (l : ℕ) (c : Clause) → Follows ts frames l c → Follows (ts ++ us) frames l c
-with_trees ts us frames l c f = record {
+pub read_by_more : (ts us : List Tree) (frames : List Frame) (c : Clause) → FollowsFrom ts frames c → FollowsFrom (ts ++ us) frames c
+read_by_more ts us frames c f = record {
   true_wherever = λ I interprets holds. same_some ts us I c.literals f.within ∙ f.true_wherever I interprets holds;
-  declared = subst (All (Contains (declared_ids (up_to l frames)))) (sym (same_symbols ts us (places c.literals) f.within)) f.declared;
+  declared = subst (All (Contains (declared_ids frames))) (sym (same_symbols ts us (places c.literals) f.within)) f.declared;
   within = All-weaker (λ i. i < length ts) (λ i. i < length (ts ++ us)) (λ i h. omega (arith, length-append ts us)) (places c.literals) f.within;
 }
+
+pub with_trees : (ts us : List Tree) (frames : List Frame) (l : ℕ) (c : Clause) → Follows ts frames l c → Follows (ts ++ us) frames l c
+unfolding Follows
+with_trees ts us frames l c f = read_by_more ts us (up_to l frames) c f

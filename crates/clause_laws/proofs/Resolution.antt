@@ -5,7 +5,7 @@ use Rattle.smt_meaning.specs.declared.clauses.Literal.{Literal}
 use Rattle.smt_meaning.specs.declared.clauses.Atom.{Atom}
 use Rattle.smt_meaning.specs.declared.clauses.Clause.{Clause}
 use Rattle.smt_meaning.specs.Term.{Tree, Interpretation, tree_at}
-use Rattle.smt_meaning.specs.Interpretation.{IsFunctionFor}
+use Rattle.smt_meaning.specs.Interpretation.{IsFunctionFor, Interprets}
 use Rattle.smt_meaning.specs.Stack.{Frame, Satisfies, HasNoModel, up_to}
 use Rattle.smt_meaning.specs.Clause.{signed, literal_true, some_true, atom_true, places, atom_places, symbols, symbols_at}
 use Rattle.smt_meaning.specs.Follows.{FollowsFrom, Follows, declared_ids}
@@ -100,12 +100,14 @@ resolvent_from ts frames c d r h fc fd = record {
 }
 
 pub resolvent : (ts : List Tree) (frames : List Frame) (l m : ℕ) (c d r : Clause) → IsResolvent c d r → Follows ts frames l c → Follows ts frames m d → Follows ts frames (max l m) r
+unfolding Follows
 resolvent ts frames l m c d r h fc fd =
     resolvent_from ts (up_to (max l m) frames) c d r h (above ts frames l (max l m) c (omega arith) fc) (above ts frames m (max l m) d (omega arith) fd)
 
 -- ---- the empty clause
 
 pub empty_shows : (ts : List Tree) (frames : List Frame) (l : ℕ) (c : Clause) → c.literals ≡ [] → Follows ts frames l c → HasNoModel frames
+unfolding Follows Interprets HasNoModel
 empty_shows ts frames l c e f I interprets holds =
     let all : Extends (up_to l frames) frames = take_extends_all (l + 1) frames in
     let here : some_true ts I c.literals ≡ true =

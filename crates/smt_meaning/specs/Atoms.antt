@@ -1,6 +1,7 @@
 -- Normal bounds, and the atoms of a stack.
-use Rattle.std.specs.Prelude.{ℕ, zero, suc, ◌%◌, List, [], ◌∷◌, ◌++◌, map, flat_map, ℤ, pos, ◌-ℤ◌, neg_ℤ, unsigned_abs, if◌then◌else◌}
+use Rattle.std.specs.Prelude.{◌≡◌, refl, ℕ, List, [], ◌∷◌, ◌++◌, map, flat_map, ℤ, pos, ◌-ℤ◌, neg_ℤ, unsigned_abs, if◌then◌else◌}
 use Rattle.std.specs.Int.{int_div_euclid}
+use Rattle.number_meaning.specs.Gcd.{gcd_of}
 use Rattle.smt_meaning.specs.declared.terms.Operator.TheVariants.{Equal, Distinct, Ite, AtMost as IsAtMost, Less, AtLeast, Greater}
 use Rattle.smt_meaning.specs.declared.terms.Head.{Head}
 use Rattle.smt_meaning.specs.declared.terms.Head.TheVariants.{Theory}
@@ -16,19 +17,9 @@ use Rattle.smt_meaning.specs.Linear.{Form, summand, form_minus, linear_form}
 
 -- ---- normal bounds
 
--- Euclid's algorithm; the first argument bounds its steps
-abbrev pub gcd_within : ℕ → ℕ → ℕ → ℕ
-gcd_within zero a b = a
-gcd_within (suc n) a zero = a
-gcd_within (suc n) a (suc b) = gcd_within n (suc b) (a % suc b)
-
--- the greatest common divisor
-abbrev pub gcd : ℕ → ℕ → ℕ
-gcd a b = gcd_within (suc b) a b
-
 abbrev pub sum_gcd : List Summand → ℕ
 sum_gcd [] = 0
-sum_gcd (p ∷ ps) = gcd (unsigned_abs p.coefficient) (sum_gcd ps)
+sum_gcd (p ∷ ps) = gcd_of (unsigned_abs p.coefficient) (sum_gcd ps)
 
 -- the quotient, rounded down
 abbrev pub divided : ℤ → ℤ → ℤ
@@ -117,5 +108,9 @@ abbrev mutual
   atoms_of_all ts ds (more u us) = atoms_of ts ds u ++ atoms_of_all ts ds us
 
 -- the atoms of the assertions
-abbrev pub stack_atoms : List Tree → List Frame → List Atom
+unfoldable pub stack_atoms : List Tree → List Frame → List Atom
 stack_atoms ts frames = flat_map (atoms_of ts (signature_of frames)) (assertions_of frames)
+
+pub stack_atoms_are : (ts : List Tree) (frames : List Frame) → stack_atoms ts frames ≡ flat_map (atoms_of ts (signature_of frames)) (assertions_of frames)
+unfolding stack_atoms
+stack_atoms_are ts frames = refl

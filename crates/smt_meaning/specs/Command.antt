@@ -267,6 +267,6 @@ formed n None ss = Err (UnknownCommand n)
 formed n (Some f) ss = within n (f ss)
 
 -- the command that an s-expression is, or the error: it is no list that begins with a symbol, no command has the name, or the arguments haven't the command's form
-abbrev pub command : Sexp → Result Command Error
+unfoldable pub command : Sexp → Result Command Error
 command (group (word (Symbol n) ▸ ss)) = formed n (look_up n forms) ss
 command _ = Err NotCommand

@@ -20,5 +20,13 @@ pub record FollowsFrom (ts : List Tree) (frames : List Frame) (c : Clause) : Typ
   pub within : All (λ i. i < length ts) (places c.literals)
 
 -- it follows from the levels 0 to l
-abbrev pub Follows : List Tree → List Frame → ℕ → Clause → Type 0
+unfoldable pub Follows : List Tree → List Frame → ℕ → Clause → Type 0
 Follows ts frames l c = FollowsFrom ts (up_to l frames) c
+
+pub follows : (ts : List Tree) (frames : List Frame) (l : ℕ) (c : Clause) → FollowsFrom ts (up_to l frames) c → Follows ts frames l c
+unfolding Follows
+follows ts frames l c h = h
+
+pub follows_from : (ts : List Tree) (frames : List Frame) (l : ℕ) (c : Clause) → Follows ts frames l c → FollowsFrom ts (up_to l frames) c
+unfolding Follows
+follows_from ts frames l c h = h

@@ -26,8 +26,16 @@ abbrev pub IsFunctionFor : Interpretation → Declaration → Type 0
 IsFunctionFor I d =
     IsTrue (is_symbol d) → (vs : List Value) → IsTrue (have_sorts vs d.rank.arguments) → IsTrue (has_sort (I d.id vs) d.rank.result)
 
-abbrev pub Interprets : List Declaration → Interpretation → Type 0
+unfoldable pub Interprets : List Declaration → Interpretation → Type 0
 Interprets ds I = All (IsFunctionFor I) ds
+
+pub interprets : (ds : List Declaration) (I : Interpretation) → All (IsFunctionFor I) ds → Interprets ds I
+unfolding Interprets
+interprets ds I h = h
+
+pub interprets_each : (ds : List Declaration) (I : Interpretation) → Interprets ds I → All (IsFunctionFor I) ds
+unfolding Interprets
+interprets_each ds I h = h
 
 -- ---- tables
 

@@ -1,5 +1,6 @@
 -- Linear forms of Int terms.
-use Rattle.std.specs.Prelude.{ℕ, zero, ◌^◌, Bool, true, false, ◌&&◌, nat_eq, nat_lt, List, [], ◌∷◌, ◌++◌, map, ℤ, pos, negsuc, ◌+ℤ◌, ◌*ℤ◌, unsigned_abs, if◌then◌else◌}
+use Rattle.std.specs.Prelude.{ℕ, zero, Bool, true, false, ◌&&◌, nat_eq, nat_lt, List, [], ◌∷◌, ◌++◌, map, ℤ, pos, negsuc, ◌+ℤ◌, ◌*ℤ◌, if◌then◌else◌}
+use Rattle.number_meaning.specs.Whole.{is_in_range}
 use Rattle.smt_meaning.specs.declared.terms.Operator.TheVariants.{Add, Subtract, Multiply}
 use Rattle.smt_meaning.specs.declared.terms.Head.{Head}
 use Rattle.smt_meaning.specs.declared.terms.Head.TheVariants.{Numeral, Theory}
@@ -119,15 +120,12 @@ abbrev mutual
 
 -- ---- whether the folding stays within the range
 
-abbrev pub number_fits : ℤ → Bool
-number_fits n = nat_lt (unsigned_abs n) (2 ^ 127)
-
 abbrev pub sum_fits : List Summand → Bool
 sum_fits [] = true
-sum_fits (p ∷ ps) = number_fits p.coefficient && sum_fits ps
+sum_fits (p ∷ ps) = is_in_range p.coefficient && sum_fits ps
 
 abbrev pub form_fits : Form → Bool
-form_fits f = sum_fits f.sum && number_fits f.constant
+form_fits f = sum_fits f.sum && is_in_range f.constant
 
 abbrev pub folds_fit : (Form → Form → Form) → Form → List Form → Bool
 folds_fit op f [] = form_fits f

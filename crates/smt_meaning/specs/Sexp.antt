@@ -1,5 +1,5 @@
 -- S-expressions as trees, and the list of tokens that stands for one.
-use Rattle.std.specs.Prelude.{◌≡◌, Bool, true, false, not, ◌&&◌, List, [], ◌∷◌, ◌++◌}
+use Rattle.std.specs.Prelude.{◌≡◌, ℕ, suc, max, Bool, true, false, not, ◌&&◌, List, [], ◌∷◌, ◌++◌}
 use Rattle.smt_meaning.specs.declared.tokens.Token.{Token}
 use Rattle.smt_meaning.specs.declared.tokens.Token.TheVariants.{Enter, Leave}
 
@@ -63,3 +63,14 @@ abbrev mutual
   pub are_proper : Sexps → Bool
   are_proper end = true
   are_proper (s ▸ ss) = is_proper s && are_proper ss
+
+-- ---- how deep its lists are nested
+
+abbrev mutual
+  pub nested : Sexp → ℕ
+  nested (word t) = 0
+  nested (group ss) = suc (deepest ss)
+
+  pub deepest : Sexps → ℕ
+  deepest end = 0
+  deepest (s ▸ ss) = max (nested s) (deepest ss)

@@ -34,8 +34,16 @@ abbrev pub Holds : Interpretation → List Frame → Type 0
 Holds I frames = All (Satisfies I) (assertions_of frames)
 
 -- no interpretation makes every assertion true
-abbrev pub HasNoModel : List Frame → Type 0
+unfoldable pub HasNoModel : List Frame → Type 0
 HasNoModel frames = (I : Interpretation) → Interprets (signature_of frames) I → Holds I frames → ⊥
+
+pub no_model : (frames : List Frame) → ((I : Interpretation) → Interprets (signature_of frames) I → Holds I frames → ⊥) → HasNoModel frames
+unfolding HasNoModel
+no_model frames h = h
+
+pub no_model_is : (frames : List Frame) → HasNoModel frames → (I : Interpretation) → Interprets (signature_of frames) I → Holds I frames → ⊥
+unfolding HasNoModel
+no_model_is frames h = h
 
 -- ---- levels, the first of which is level 0
 

@@ -1,5 +1,5 @@
 -- What a command does to the stack: the fold of the accepted commands (SMT-LIB 2.6, sections 4.2.2 to 4.2.4).
-use Rattle.std.specs.Prelude.{ℕ, ◌+◌, true, false, not, nat_le, List, [], ◌∷◌, map, length, drop, ℤ, pos, unsigned_abs, Option, Some, None, bytes_eq, codes, if◌then◌else◌}
+use Rattle.std.specs.Prelude.{◌≡◌, refl, ℕ, ◌+◌, true, false, not, nat_le, List, [], ◌∷◌, map, length, drop, ℤ, pos, unsigned_abs, Option, Some, None, bytes_eq, codes, if◌then◌else◌}
 use Rattle.smt_meaning.specs.declared.values.Sort.{Sort}
 use Rattle.smt_meaning.specs.declared.values.Sort.TheVariants.{Bool as Truths, Int as Ints, Free}
 use Rattle.smt_meaning.specs.declared.terms.Head.TheVariants.{Place}
@@ -189,18 +189,23 @@ assert_term t = do
 abbrev pub in_question : Rules
 in_question = record { naming = false; closed = true }
 
-abbrev pub judge_questions : List (List Token) → Judging (List Typed)
-judge_questions [] = return []
-judge_questions (t ∷ ts) = do
+abbrev pub judge_terms : List (List Token) → Judging (List Typed)
+judge_terms [] = return []
+judge_terms (t ∷ ts) = do
   a ← judge in_question [] (sexp t)
-  bs ← judge_questions ts
-  return (a ∷ bs)
+  rest ← judge_terms ts
+  return (a ∷ rest)
 
--- the trees of terms whose values are asked for join the list too
+-- the terms whose values are asked for: their trees join the list too
+abbrev pub judge_questions : List (List Token) → Judging (List Typed)
+judge_questions ts = do
+  terms ← judge_terms ts
+  require_room
+  return terms
+
 abbrev pub ask_terms : List (List Token) → Judging Change
 ask_terms ts = do
   terms ← judge_questions ts
-  require_room
   return (asks terms)
 
 -- ---- levels
@@ -240,8 +245,12 @@ abbrev pub scope_of : Stack → Scope
 scope_of s = record { signature = signature_of s.frames; given = s.given; trees = s.trees }
 
 -- how such a command is judged on a stack: what it does, or its refusal
-abbrev pub judged : (ℕ → Judging Change) → Stack → Outcome Change
+unfoldable pub judged : (ℕ → Judging Change) → Stack → Outcome Change
 judged c s = c (depth s.frames) (scope_of s)
+
+pub judged_is : (c : ℕ → Judging Change) (s : Stack) → judged c s ≡ c (depth s.frames) (scope_of s)
+unfolding judged
+judged_is c s = refl
 
 -- what was declared on the way
 abbrev pub new_declarations : Stack → Scope → List Declaration

@@ -1,5 +1,6 @@
 -- Terms as trees, and the value that an interpretation gives them: Tarski's clauses.
-use Rattle.std.specs.Prelude.{ℕ, ◌^◌, Bool, true, false, not, ◌&&◌, ◌||◌, nat_eq, nat_lt, List, [], ◌∷◌, ℤ, pos, negsuc, ◌+ℤ◌, ◌-ℤ◌, ◌*ℤ◌, neg_ℤ, int_le, int_lt, unsigned_abs, if◌then◌else◌, slice_index_or}
+use Rattle.std.specs.Prelude.{ℕ, Bool, true, false, not, ◌&&◌, ◌||◌, nat_eq, List, [], ◌∷◌, ℤ, pos, negsuc, ◌+ℤ◌, ◌-ℤ◌, ◌*ℤ◌, neg_ℤ, int_le, int_lt, if◌then◌else◌, slice_index_or}
+use Rattle.number_meaning.specs.Whole.{is_in_range}
 use Rattle.smt_meaning.specs.declared.values.Value.{Value}
 use Rattle.smt_meaning.specs.declared.values.Value.TheVariants.{Truth, Whole, Element}
 use Rattle.smt_meaning.specs.declared.terms.Operator.{Operator}
@@ -175,9 +176,9 @@ values I ts = values_with I [] ts
 
 -- ---- whether it fits
 
--- -(2^127 - 1) .. 2^127 - 1, for a number
+-- a number is in the range
 abbrev pub in_range : Value → Bool
-in_range (Whole n) = nat_lt (unsigned_abs n) (2 ^ 127)
+in_range (Whole n) = is_in_range n
 in_range _ = true
 
 abbrev pub all_in_range : List Value → Bool

@@ -11,8 +11,10 @@ use Rattle.smt_meaning.specs.declared.errors.Error.{Error}
 use Rattle.smt_meaning.specs.declared.errors.Error.TheVariants.{Fault, NotCommand, UnknownCommand, NoUnknownAnswer, LogicAlreadySet, OptionTooLate, NoModel, OptionIsOff, ValueTooLarge, NotUnsat, Refused}
 use Rattle.smt_meaning.specs.declared.options.OptionValue.{OptionValue}
 use Rattle.smt_meaning.specs.declared.options.OptionValue.TheVariants as Shown
+use Rattle.smt_meaning.specs.declared.options.UnknownReason.{UnknownReason}
+use Rattle.smt_meaning.specs.declared.options.UnknownReason.TheVariants.{Memout, Incomplete}
 use Rattle.smt_meaning.specs.declared.options.Info.{Info}
-use Rattle.smt_meaning.specs.declared.options.Info.TheVariants.{Name, Version, Authors, ErrorBehavior, AssertionStackLevels}
+use Rattle.smt_meaning.specs.declared.options.Info.TheVariants.{Name, Version, Authors, ErrorBehavior, AssertionStackLevels, ReasonUnknown}
 use Rattle.smt_meaning.specs.declared.answers.PrintedValue.{PrintedValue}
 use Rattle.smt_meaning.specs.declared.answers.PrintedValue.TheVariants.{Truth, Whole, Element}
 use Rattle.smt_meaning.specs.declared.answers.TermValue.{TermValue}
@@ -47,7 +49,7 @@ abbrev pub is_plain : List ℕ → Bool
 is_plain n = is_simple_symbol n && not (is_some (reserved_word n)) && not (is_one_of n further_reserved_words)
 
 -- plainly, or between bars
-abbrev pub symbol_text : List ℕ → List ℕ
+unfoldable pub symbol_text : List ℕ → List ℕ
 symbol_text n = if is_plain n then n else 124 ∷ (n ++ 124 ∷ [])
 
 abbrev pub quotes_doubled : List ℕ → List ℕ
@@ -148,12 +150,17 @@ option_text (Shown.Truth b) = truth_text b
 option_text (Shown.Number n) = integer_text n
 option_text (Shown.Text t) = literal t
 
+abbrev pub reason_text : UnknownReason → List ℕ
+reason_text Memout = codes "memout"
+reason_text Incomplete = codes "incomplete"
+
 abbrev pub info_text : Info → List ℕ
 info_text Name = codes "(:name \"smt_cli\")"
 info_text Version = codes "(:version \"1.0\")"
 info_text Authors = codes "(:authors \"the smt_cli team\")"
 info_text ErrorBehavior = codes "(:error-behavior continued-execution)"
 info_text (AssertionStackLevels n) = listed (codes ":assertion-stack-levels" ∷ decimal n ∷ [])
+info_text (ReasonUnknown r) = listed (codes ":reason-unknown" ∷ reason_text r ∷ [])
 
 -- ---- errors
 
@@ -198,12 +205,13 @@ abbrev pub line : List ℕ → List ℕ
 line t = t ++ 10 ∷ []
 
 -- a reply ends with a line feed; a success that isn't printed has no bytes
-abbrev pub text : Reply → List ℕ
+unfoldable pub text : Reply → List ℕ
 text Given.Success = line (codes "success")
 text Given.Silent = []
 text Given.Unsupported = line (codes "unsupported")
 text Given.Sat = line (codes "sat")
 text Given.Unsat = line (codes "unsat")
+text Given.Unknown = line (codes "unknown")
 text (Given.Echo t) = line (literal t)
 text (Given.Option v) = line (option_text v)
 text (Given.Info i) = line (info_text i)

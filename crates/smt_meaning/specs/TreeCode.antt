@@ -7,33 +7,40 @@ use Rattle.smt_meaning.specs.declared.terms.Operator.TheVariants.{True, False, N
 use Rattle.smt_meaning.specs.declared.terms.Head.{Head}
 use Rattle.smt_meaning.specs.declared.terms.Head.TheVariants.{Numeral, Theory, Symbol, Place}
 use Rattle.smt_meaning.specs.Term.{Tree, Trees, node, none, more}
+use Rattle.smt_meaning.specs.TreeShape.{operator_number}
 
-abbrev op_code : Operator → ℕ
-op_code True = 0
-op_code False = 1
-op_code Not = 2
-op_code And = 3
-op_code Or = 4
-op_code Xor = 5
-op_code Implies = 6
-op_code Equal = 7
-op_code Distinct = 8
-op_code Ite = 9
-op_code Add = 10
-op_code Subtract = 11
-op_code Multiply = 12
-op_code AtMost = 13
-op_code Less = 14
-op_code AtLeast = 15
-op_code Greater = 16
+-- ---- operators by their numbers
 
-abbrev nth_op : ℕ → List Operator → Operator
-nth_op k [] = True
-nth_op zero (o ∷ os) = o
-nth_op (suc k) (o ∷ os) = nth_op k os
+abbrev operator_in : ℕ → List Operator → Operator
+operator_in k [] = True
+operator_in zero (o ∷ os) = o
+operator_in (suc k) (o ∷ os) = operator_in k os
 
-abbrev all_ops : List Operator
-all_ops = True ∷ False ∷ Not ∷ And ∷ Or ∷ Xor ∷ Implies ∷ Equal ∷ Distinct ∷ Ite ∷ Add ∷ Subtract ∷ Multiply ∷ AtMost ∷ Less ∷ AtLeast ∷ Greater ∷ []
+-- the operator that has this number
+abbrev pub operator_at : ℕ → Operator
+operator_at k =
+    operator_in k (True ∷ False ∷ Not ∷ And ∷ Or ∷ Xor ∷ Implies ∷ Equal ∷ Distinct ∷ Ite ∷ Add ∷ Subtract ∷ Multiply ∷ AtMost ∷ Less ∷ AtLeast ∷ Greater ∷ [])
+
+pub operator_back : (o : Operator) → operator_at (operator_number o) ≡ o
+operator_back True = refl
+operator_back False = refl
+operator_back Not = refl
+operator_back And = refl
+operator_back Or = refl
+operator_back Xor = refl
+operator_back Implies = refl
+operator_back Equal = refl
+operator_back Distinct = refl
+operator_back Ite = refl
+operator_back Add = refl
+operator_back Subtract = refl
+operator_back Multiply = refl
+operator_back AtMost = refl
+operator_back Less = refl
+operator_back AtLeast = refl
+operator_back Greater = refl
+
+-- ---- heads
 
 abbrev number_in : ℤ → ℕ
 number_in (pos n) = n
@@ -41,41 +48,22 @@ number_in (negsuc n) = n
 
 abbrev head_code : Head → ℕ × ℤ
 head_code (Numeral n) = (0, n)
-head_code (Theory o) = (1, pos (op_code o))
+head_code (Theory o) = (1, pos (operator_number o))
 head_code (Symbol f) = (2, pos f)
 head_code (Place k) = (3, pos k)
 
 abbrev head_at : ℕ → ℤ → Head
 head_at zero n = Numeral n
-head_at (suc zero) n = Theory (nth_op (number_in n) all_ops)
+head_at (suc zero) n = Theory (operator_at (number_in n))
 head_at (suc (suc zero)) n = Symbol (number_in n)
 head_at (suc (suc (suc k))) n = Place (number_in n)
 
 abbrev head_back : ℕ × ℤ → Head
 head_back p = head_at p.0 p.1
 
-op_back : (o : Operator) → nth_op (op_code o) all_ops ≡ o
-op_back True = refl
-op_back False = refl
-op_back Not = refl
-op_back And = refl
-op_back Or = refl
-op_back Xor = refl
-op_back Implies = refl
-op_back Equal = refl
-op_back Distinct = refl
-op_back Ite = refl
-op_back Add = refl
-op_back Subtract = refl
-op_back Multiply = refl
-op_back AtMost = refl
-op_back Less = refl
-op_back AtLeast = refl
-op_back Greater = refl
-
 pub head_code_back : (h : Head) → head_back (head_code h) ≡ h
 head_code_back (Numeral n) = refl
-head_code_back (Theory o) = ap Theory (op_back o)
+head_code_back (Theory o) = ap Theory (operator_back o)
 head_code_back (Symbol f) = refl
 head_code_back (Place k) = refl
 

@@ -48,6 +48,7 @@ pub enum Reply {
     Unsupported,
     Sat,
     Unsat,
+    Unknown,
     Echo(Bytes),
     Option(OptionValue),
     Info(Info),

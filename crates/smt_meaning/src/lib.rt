@@ -35,6 +35,6 @@ pub mod language {
     pub use crate::commands::{Command, Parameter, WrittenSort};
     pub use crate::errors::Error;
     pub use crate::options::{
-        Channel, Info, InfoName, OptionName, OptionSetting, OptionValue, Options,
+        Channel, Info, InfoName, OptionName, OptionSetting, OptionValue, Options, UnknownReason,
     };
 }

@@ -71,6 +71,14 @@ pub enum InfoName {
     ReasonUnknown,
 }
 
+/// Why a check was answered by `unknown` (SMT-LIB 2.6, section 4.1.8).
+#[derive(Clone, Copy, PartialEq, Eq, Debug, Drop)]
+pub enum UnknownReason {
+    /// Memory was wanting.
+    Memout,
+    Incomplete,
+}
+
 /// What `get-info` answers.
 #[derive(Clone, Copy, PartialEq, Eq, Debug, Drop)]
 pub enum Info {
@@ -81,4 +89,6 @@ pub enum Info {
     ErrorBehavior,
     /// So many levels stand above level 0.
     AssertionStackLevels(u64),
+    /// Of the last check.
+    ReasonUnknown(UnknownReason),
 }

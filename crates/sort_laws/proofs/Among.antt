@@ -46,10 +46,10 @@ kept_with_tree t ts u h = go (is_among u ts)
     go false = among_append t ts (u ∷ []) h
 
 mutual
-  kept_with_parts : (t : Tree) (ts : List Tree) (u : Tree) → Among t ts → Among t (with_parts ts u)
+  pub kept_with_parts : (t : Tree) (ts : List Tree) (u : Tree) → Among t ts → Among t (with_parts ts u)
   kept_with_parts t ts (node h us) k = kept_with_tree t (with_all_parts ts us) (node h us) (kept_with_all_parts t ts us k)
 
-  kept_with_all_parts : (t : Tree) (ts : List Tree) (us : Trees) → Among t ts → Among t (with_all_parts ts us)
+  pub kept_with_all_parts : (t : Tree) (ts : List Tree) (us : Trees) → Among t ts → Among t (with_all_parts ts us)
   kept_with_all_parts t ts none k = k
   kept_with_all_parts t ts (more u us) k = kept_with_all_parts t (with_parts ts u) us (kept_with_parts t ts u k)
 

@@ -10,7 +10,7 @@ use Rattle.smt_meaning.specs.Declaration.{Declaration}
 use Rattle.smt_meaning.specs.Term.{Tree, node, none}
 use Rattle.smt_meaning.specs.Sexp.{sexp}
 use Rattle.smt_meaning.specs.Sorts.{Scope, Outcome, done, refused, Judging, ◌>>◌, return, declare, Typed, Variable, judge}
-use Rattle.smt_meaning.specs.StackCommand.{Change, declares, asserts, clears, begins_again, is_unsupported, judge_sort, judge_sorts, new_sort_name, new_function_name, sort_declaration, declare_new_sort, declare_sort, define_sort, declare_function, judge_parameters, Bodied, apart, in_body, judge_body, sorts_of_variables, define_function, require_room, in_assert, assert_term, in_question, judge_questions, ask_terms, stack_command}
+use Rattle.smt_meaning.specs.StackCommand.{Change, declares, asserts, clears, begins_again, is_unsupported, judge_sort, judge_sorts, new_sort_name, new_function_name, sort_declaration, declare_new_sort, declare_sort, define_sort, declare_function, judge_parameters, Bodied, apart, in_body, judge_body, sorts_of_variables, define_function, require_room, in_assert, assert_term, in_question, judge_terms, judge_questions, ask_terms, stack_command}
 use Rattle.smt_meaning.specs.declared.commands.WrittenSort.{WrittenSort}
 use Rattle.smt_meaning.specs.declared.commands.WrittenSort.TheVariants.{Name, Applied}
 use Rattle.smt_meaning.specs.declared.commands.Parameter.{Parameter}
@@ -22,9 +22,9 @@ use Rattle.sort_laws.proofs.Signatures.{sort_eq-sound, Usable, Good, symbol_usab
 use Rattle.sort_laws.proofs.Judgements.{after_self, Ends, Gives, Nothing, bind_gives, next_gives, return_gives, refuse_gives, require_gives, required_gives, scope_then, Fine, declare_gives, weaken}
 use Rattle.sort_laws.proofs.TermsLaw.{VariablesFine, judge_gives}
 
--- a new assertion has the sort Bool
+-- a new assertion has the sort Bool, and is among the trees
 abbrev pub Does : Change → Scope → Type 0
-Does (asserts a) t = HasSort t.signature [] a.term Truths
+Does (asserts a) t = HasSort t.signature [] a.term Truths × Among a.term t.trees
 Does _ t = Unit {0}
 
 -- ---- sorts and names
@@ -155,9 +155,11 @@ assert_gives x s g =
     bind_gives true s _ _ (Fine []) Does (judge_gives in_assert [] (λ e. refl) [] (sexp x) s g tt)
     (λ a t f e k. next_gives true t _ _ _ Does (require_gives true t _ _)
     (λ b u d m l. next_gives true u _ _ _ Does (room_gives u)
-    (λ c v h i p. return_gives true v _ Does
-    (sort_later u.signature v.signature [] a.tree Truths i.later
-    (sort_later t.signature u.signature [] a.tree Truths m.later (subst (HasSort t.signature [] a.tree) (sort_eq-sound a.sort Truths l) k.0))))))
+    (λ c v h i p. return_gives true v _ Does (
+      sort_later u.signature v.signature [] a.tree Truths i.later
+          (sort_later t.signature u.signature [] a.tree Truths m.later (subst (HasSort t.signature [] a.tree) (sort_eq-sound a.sort Truths l) k.0)),
+      i.kept a.tree (m.kept a.tree k.1),
+    ))))
 
 unnamed : {A : Type 0} (s : Scope) (m : Judging A) (P : A → Scope → Type 0) → Gives false s m P → Gives true s m Nothing
 unnamed s m P h = record { gives = λ g. go (m s) (h.gives g) }
@@ -166,16 +168,17 @@ unnamed s m P h = record { gives = λ g. go (m s) (h.gives g) }
     go (done a t) k = ((k.0.0, record { later = k.0.1.later; kept = k.0.1.kept; same = λ e. absurd (cc) }), tt)
     go (refused r) k = tt
 
-questions_give : (ts : List (List Token)) (s : Scope) → Good s.given s.signature → Gives true s (judge_questions ts) Nothing
-questions_give [] s g = return_gives true s [] Nothing tt
-questions_give (t ∷ ts) s g =
+terms_give : (ts : List (List Token)) (s : Scope) → Good s.given s.signature → Gives true s (judge_terms ts) Nothing
+terms_give [] s g = return_gives true s [] Nothing tt
+terms_give (t ∷ ts) s g =
     bind_gives true s _ _ Nothing Nothing (unnamed s _ (Fine []) (judge_gives in_question [] (λ e. refl) [] (sexp t) s g tt))
-    (λ a u f e k. bind_gives true u _ _ Nothing Nothing (questions_give ts u f) (λ bs v d m l. return_gives true v (a ∷ bs) Nothing tt))
+    (λ a u f e k. bind_gives true u _ _ Nothing Nothing (terms_give ts u f) (λ bs v d m l. return_gives true v (a ∷ bs) Nothing tt))
+
+questions_give : (ts : List (List Token)) (s : Scope) → Good s.given s.signature → Gives true s (judge_questions ts) Nothing
+questions_give ts s g = bind_gives true s _ _ Nothing Nothing (terms_give ts s g) (λ terms t f e k. next_gives true t _ _ _ Nothing (room_gives t) (λ c v h i p. return_gives true v terms Nothing tt))
 
 ask_gives : (ts : List (List Token)) (s : Scope) → Good s.given s.signature → Gives true s (ask_terms ts) Does
-ask_gives ts s g =
-    bind_gives true s _ _ Nothing Does (questions_give ts s g)
-    (λ as' t f e k. next_gives true t _ _ _ Does (room_gives t) (λ c v h i p. return_gives true v _ Does tt))
+ask_gives ts s g = bind_gives true s _ _ Nothing Does (questions_give ts s g) (λ terms t f e k. return_gives true t _ Does tt)
 
 -- ---- each command
 

@@ -5,3 +5,5 @@ mod Judgements
 mod TermsLaw
 mod CommandsLaw
 mod StackLaw
+pub mod OrderLaw
+pub mod BelowLaw

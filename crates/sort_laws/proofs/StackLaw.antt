@@ -1,6 +1,6 @@
 -- Whatever commands come: an accepted term has its sort, and each assertion has the sort Bool.
 use Rattle.std.proofs.Common.{◌≡◌, ℕ, zero, suc, ◌-◌, List, [], ◌∷◌, ◌++◌, All, map, take, drop, length, ap, sym, subst, ◌∙◌, refl, true, Option, Some, None, append_assoc, append-nil}
-use Rattle.std.specs.Prelude.{replicate}
+use Rattle.std.specs.Prelude.{IsTrue, replicate}
 use Rattle.std.proofs.lemmas.Grind.{flat_map-append}
 use Rattle.std.proofs.lemmas.List.{take-append-drop}
 use Rattle.std.proofs.Math.Seq.{drop-append_seam}
@@ -13,10 +13,14 @@ use Rattle.smt_meaning.specs.Sorts.{Scope, Outcome, done, refused, Judging, judg
 use Rattle.smt_meaning.specs.Stack.{Frame, Assertion, signature_of, assertions_of, depth, on_top, pushed, popped, empty_frame}
 use Rattle.smt_meaning.specs.StackCommand.{Stack, start, Change, declares, asserts, asks, pushes, pops, clears, begins_again, is_unsupported, stack_command, scope_of, judged, new_declarations, changed, after_outcome, after_command, after, after_all}
 use Rattle.smt_meaning.specs.declared.commands.Command.{Command}
-use Rattle.sort_laws.specs.Laws.{AcceptedTermHasItsSort, AssertionsAreTruths}
+use Rattle.sort_laws.specs.Laws.{AcceptedTermHasItsSort, AssertionsAreTruths, PartsAreAmongTheTrees}
 use Rattle.sort_laws.proofs.PlacesLaw.{HasSort, closed_sort, LaterThan, later_self, later_still, sort_later}
 use Rattle.sort_laws.proofs.Signatures.{Good, nothing_good, good_prefix}
-use Rattle.sort_laws.proofs.Judgements.{Ends, Fine}
+use Rattle.smt_meaning.specs.TreeShape.{is_among}
+use Rattle.smt_meaning.specs.Parts.{IsPart}
+use Rattle.sort_laws.proofs.Among.{Among}
+use Rattle.sort_laws.proofs.OrderLaw.{Ordered, part_among, all_ordered}
+use Rattle.sort_laws.proofs.Judgements.{After, Ends, Fine}
 use Rattle.sort_laws.proofs.TermsLaw.{judge_gives}
 use Rattle.sort_laws.proofs.CommandsLaw.{Does, KeepsIfSome, command_keeps}
 
@@ -84,11 +88,52 @@ all_truths ys (f ∷ frames) es l h =
     (later_still (ys ++ f.declared) (ys ++ (f.declared ++ signature_of frames)) es (signature_of frames, sym (append_assoc ys f.declared (signature_of frames))) l) h.0)
     (all_truths (ys ++ f.declared) frames es (l.0, l.1 ∙ ap (λ zs. zs ++ l.0) (sym (append_assoc ys f.declared (signature_of frames)))) h.1)
 
+-- ---- the assertions of frames, among trees
+
+abbrev EachAmong : List Tree → List Assertion → Type 0
+EachAmong ts [] = Unit {0}
+EachAmong ts (a ∷ xs) = Among a.term ts × EachAmong ts xs
+
+abbrev AllAmongThem : List Tree → List Frame → Type 0
+AllAmongThem ts [] = Unit {0}
+AllAmongThem ts (f ∷ frames) = EachAmong ts f.asserted × AllAmongThem ts frames
+
+each_still : (ts us : List Tree) (xs : List Assertion) → ((t : Tree) → Among t ts → Among t us) → EachAmong ts xs → EachAmong us xs
+each_still ts us [] k h = tt
+each_still ts us (a ∷ xs) k h = (k a.term h.0, each_still ts us xs k h.1)
+
+all_still : (ts us : List Tree) (frames : List Frame) → ((t : Tree) → Among t ts → Among t us) → AllAmongThem ts frames → AllAmongThem us frames
+all_still ts us [] k h = tt
+all_still ts us (f ∷ frames) k h = (each_still ts us f.asserted k h.0, all_still ts us frames k h.1)
+
+each_append : (ts : List Tree) (xs zs : List Assertion) → EachAmong ts xs → EachAmong ts zs → EachAmong ts (xs ++ zs)
+each_append ts [] zs h k = k
+each_append ts (a ∷ xs) zs h k = (h.0, each_append ts xs zs h.1 k)
+
+among_on_top : (ts : List Tree) (ds : List Declaration) (xs : List Assertion) (frames : List Frame) → AllAmongThem ts frames → EachAmong ts xs → AllAmongThem ts (on_top ds xs frames)
+among_on_top ts ds xs [] h k = tt
+among_on_top ts ds xs (f ∷ []) h k = (each_append ts f.asserted xs h.0 k, tt)
+among_on_top ts ds xs (f ∷ g ∷ frames) h k = (h.0, among_on_top ts ds xs (g ∷ frames) h.1 k)
+
+among_take : (ts : List Tree) (k : ℕ) (frames : List Frame) → AllAmongThem ts frames → AllAmongThem ts (take k frames)
+among_take ts zero frames h = tt
+among_take ts (suc k) [] h = tt
+among_take ts (suc k) (f ∷ frames) h = (h.0, among_take ts k frames h.1)
+
+among_empty : (ts : List Tree) (n : ℕ) → AllAmongThem ts (replicate n empty_frame)
+among_empty ts zero = tt
+among_empty ts (suc n) = (tt, among_empty ts n)
+
+among_pushed : (ts : List Tree) (n : ℕ) (frames : List Frame) → AllAmongThem ts frames → AllAmongThem ts (pushed n frames)
+among_pushed ts n [] h = among_empty ts n
+among_pushed ts n (f ∷ frames) h = (h.0, among_pushed ts n frames h.1)
+
 -- ---- the stack after a command
 
 record GoodStack (s : Stack) : Type 0 where
   pub good : Good s.given (signature_of s.frames)
   pub fine : FramesFine [] s.frames
+  pub among : AllAmongThem s.trees s.frames
 
 on_top_signature : (ds : List Declaration) (xs : List Assertion) (f : Frame) (frames : List Frame) → signature_of (on_top ds xs (f ∷ frames)) ≡ signature_of (f ∷ frames) ++ ds
 on_top_signature ds xs f [] = append-nil (f.declared ++ ds) ∙ ap (λ es. es ++ ds) (sym (append-nil f.declared))
@@ -114,33 +159,40 @@ pushed_signature n frames =
 popped_signature : (k : ℕ) (frames : List Frame) → signature_of frames ≡ signature_of (take k frames) ++ signature_of (drop k frames)
 popped_signature k frames = ap signature_of (sym (take-append-drop k frames)) ∙ flat_map-append (λ (f : Frame). f.declared) (take k frames) (drop k frames)
 
-grown : (s : Stack) (c : Scope) (xs : List Assertion) → GoodStack s → Good c.given c.signature → LaterThan (signature_of s.frames) c.signature → AssertionsFine c.signature xs
+grown : (s : Stack) (c : Scope) (xs : List Assertion) → GoodStack s → Good c.given c.signature → After true (scope_of s) c → AssertionsFine c.signature xs → EachAmong c.trees xs
     → GoodStack (record { frames = on_top (new_declarations s c) xs s.frames; given = c.given; trees = c.trees })
-grown s c xs f g l h = record {
-  good = good_on_top c.given (new_declarations s c) xs s.frames (subst (Good c.given) (joined_again s c l) g);
-  fine = fine_on_top [] (new_declarations s c) xs s.frames f.fine (subst (λ ds. AssertionsFine ds xs) (joined_again s c l) h);
+grown s c xs f g l h m = record {
+  good = good_on_top c.given (new_declarations s c) xs s.frames (subst (Good c.given) (joined_again s c l.later) g);
+  fine = fine_on_top [] (new_declarations s c) xs s.frames f.fine (subst (λ ds. AssertionsFine ds xs) (joined_again s c l.later) h);
+  among = among_on_top c.trees (new_declarations s c) xs s.frames (all_still s.trees c.trees s.frames l.kept f.among) m;
 }
 
-changed_good : (s : Stack) (change : Change) (c : Scope) → GoodStack s → Good c.given c.signature → LaterThan (signature_of s.frames) c.signature → Does change c → GoodStack (changed s change c)
-changed_good s declares c f g l h = grown s c [] f g l tt
-changed_good s (asserts a) c f g l h = grown s c (a ∷ []) f g l (h, tt)
-changed_good s (pushes n) c f g l h = record { good = subst (Good s.given) (sym (pushed_signature n s.frames)) f.good; fine = fine_pushed [] n s.frames f.fine }
+changed_good : (s : Stack) (change : Change) (c : Scope) → GoodStack s → Good c.given c.signature → After true (scope_of s) c → Does change c → GoodStack (changed s change c)
+changed_good s declares c f g l h = grown s c [] f g l tt tt
+changed_good s (asserts a) c f g l h = grown s c (a ∷ []) f g l (h.0, tt) (h.1, tt)
+changed_good s (pushes n) c f g l h = record {
+  good = subst (Good s.given) (sym (pushed_signature n s.frames)) f.good;
+  fine = fine_pushed [] n s.frames f.fine;
+  among = among_pushed s.trees n s.frames f.among;
+}
 changed_good s (pops n) c f g l h = record {
   good =
       good_prefix s.given (signature_of (popped n s.frames)) (signature_of (drop (length s.frames - n) s.frames))
       (subst (Good s.given) (popped_signature (length s.frames - n) s.frames) f.good);
   fine = fine_take [] (length s.frames - n) s.frames f.fine;
+  among = among_take s.trees (length s.frames - n) s.frames f.among;
 }
-changed_good s (asks ts) c f g l h = record { good = f.good; fine = f.fine }
-changed_good s clears c f g l h = record { good = nothing_good s.given; fine = (tt, tt) }
-changed_good s begins_again c f g l h = record { good = nothing_good 0; fine = (tt, tt) }
+changed_good s (asks ts) c f g l h = record { good = f.good; fine = f.fine; among = all_still s.trees c.trees s.frames l.kept f.among }
+changed_good s clears c f g l h = record { good = nothing_good s.given; fine = (tt, tt); among = (tt, tt) }
+changed_good s begins_again c f g l h = record { good = nothing_good 0; fine = (tt, tt); among = (tt, tt) }
 changed_good s is_unsupported c f g l h = f
 
 outcome_good : (s : Stack) (o : Outcome Change) → GoodStack s → Ends true (scope_of s) Does o → GoodStack (after_outcome s o)
-outcome_good s (done change c) f k = changed_good s change c f k.0.0 k.0.1.later k.1
+outcome_good s (done change c) f k = changed_good s change c f k.0.0 k.0.1 k.1
 outcome_good s (refused r) f k = f
 
 command_good : (s : Stack) (o : Option (ℕ → Judging Change)) → KeepsIfSome o → GoodStack s → GoodStack (after_command s o)
+unfolding judged
 command_good s None k f = f
 command_good s (Some m) k f = outcome_good s (judged m s) f ((k (depth s.frames) (scope_of s) f.good).gives f.good)
 
@@ -149,7 +201,7 @@ all_good s [] f = f
 all_good s (c ∷ cs) f = all_good (after s c) cs (command_good s (stack_command c) (command_keeps c) f)
 
 start_good : GoodStack start
-start_good = record { good = nothing_good 0; fine = (tt, tt) }
+start_good = record { good = nothing_good 0; fine = (tt, tt); among = (tt, tt) }
 
 -- ---- the laws
 
@@ -162,3 +214,21 @@ accepted_has xs r x t a e =
 
 pub assertions_have : AssertionsAreTruths
 assertions_have xs = all_truths [] (after_all start xs).frames (signature_of (after_all start xs).frames) (later_self (signature_of (after_all start xs).frames)) (all_good start xs start_good).fine
+
+-- ---- parts
+
+abbrev HasPartsAmong : List Tree → Tree → Type 0
+HasPartsAmong ts t = (u : Tree) → IsPart u t → IsTrue (is_among u ts)
+
+each_part : (ts : List Tree) (xs : List Assertion) → Ordered [] ts → EachAmong ts xs → All (HasPartsAmong ts) (map (λ (a : Assertion). a.term) xs)
+each_part ts [] o h = All-nil (HasPartsAmong ts)
+each_part ts (a ∷ xs) o h =
+    All-cons (HasPartsAmong ts) a.term (map (λ (x : Assertion). x.term) xs) (λ u k. part_among ts a.term u o h.0 k) (each_part ts xs o h.1)
+
+all_parts : (ts : List Tree) (frames : List Frame) → Ordered [] ts → AllAmongThem ts frames → All (HasPartsAmong ts) (assertions_of frames)
+all_parts ts [] o h = All-nil (HasPartsAmong ts)
+all_parts ts (f ∷ frames) o h =
+    All-append (HasPartsAmong ts) (map (λ (x : Assertion). x.term) f.asserted) (assertions_of frames) (each_part ts f.asserted o h.0) (all_parts ts frames o h.1)
+
+pub parts_among : PartsAreAmongTheTrees
+parts_among cs = all_parts (after_all start cs).trees (after_all start cs).frames (all_ordered start cs tt) (all_good start cs start_good).among

@@ -1,7 +1,7 @@
 //! Laws of the sorts of terms, each as the contract of a function that does nothing.
 #![tactic(auto)]
 
-ghost use Rattle.sort_laws.specs.Laws.{AcceptedTermHasItsSort, AssertionsAreTruths};
+ghost use Rattle.sort_laws.specs.Laws.{AcceptedTermHasItsSort, AssertionsAreTruths, PartsAreAmongTheTrees, SortsAreTheSameBelow, TreesAreInOrder};
 
 /// Under any signature that commands give, the tree of an accepted term has the sort that the term was judged to have.
 pub fn accepted_term_has_its_sort()
@@ -11,4 +11,19 @@ pub fn accepted_term_has_its_sort()
 /// Each assertion on a stack that commands give has the sort Bool under the stack's signature.
 pub fn assertions_are_truths()
     ensures { AssertionsAreTruths }
+{}
+
+/// The trees that a stack keeps are different, and each stands after its arguments, whatever commands came.
+pub fn trees_are_in_order()
+    ensures { TreesAreInOrder }
+{}
+
+/// Each part of an assertion on a stack that commands give is among the stack's trees.
+pub fn parts_are_among_the_trees()
+    ensures { PartsAreAmongTheTrees }
+{}
+
+/// A term whose symbols are declared at a level has there the sort that it has above.
+pub fn sorts_are_the_same_below()
+    ensures { SortsAreTheSameBelow }
 {}

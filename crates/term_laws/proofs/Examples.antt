@@ -74,7 +74,7 @@ signature =
     ∷ []
 
 script_declares : signature_of (after_all start (commands script)).frames ≡ signature
-unfolding ◌>>=◌ ◌>>◌ return refuse require required the_scope note found declare judge_body
+unfolding ◌>>=◌ ◌>>◌ return refuse require required the_scope note found declare judge_body judged command
 script_declares = refl
 
 abbrev scope : Scope
@@ -316,7 +316,7 @@ declarations : answers (call (codes "declare-const") (x ∷ bool ∷ []) ∷ cal
     ∷ denies WrongArguments ∷ denies WrongArguments ∷ taken ∷ denies (UnknownSymbol (Name (codes "T"))) ∷ taken
     ∷ denies (AlreadyDeclared (codes "S")) ∷ denies (ReservedName (codes "Bool")) ∷ taken ∷ denies NumeralTooLarge ∷ taken
     ∷ taken ∷ denies (ReservedName (codes "Int")) ∷ denies (AlreadyDeclared (codes "S")) ∷ denies (UnknownSymbol (Name (codes "z"))) ∷ []
-unfolding ◌>>=◌ ◌>>◌ return refuse require required the_scope note found declare judge_body
+unfolding ◌>>=◌ ◌>>◌ return refuse require required the_scope note found declare judge_body judged command
 declarations = refl
 
 abbrev defining : Sexp → List Sexp → Sexp → Sexp → Sexp
@@ -329,20 +329,20 @@ definitions : answers (defining x [] (symbol (codes "T")) one ∷ defining (symb
     ∷ defining z [] int (symbol (codes "nope")) ∷ defining z [] int p ∷ defining z (parameter y bool ∷ []) bool y ∷ defining z (parameter y int ∷ []) int (call (codes "*") (y ∷ y ∷ [])) ∷ defining z [] int (named x n) ∷ defining z [] int z ∷ defining z (x ∷ []) int one ∷ defining z [] one one ∷ [])
     ≡ denies (AlreadyDeclared (codes "x")) ∷ denies (ReservedName (codes "and")) ∷ denies (AlreadyDeclared (codes "x")) ∷ denies (UnknownSymbol (Name (codes "T"))) ∷ denies (UnknownSymbol (Name (codes "U")))
     ∷ denies (UnknownSymbol (Name (codes "nope"))) ∷ denies (SortsDiffer (codes "z")) ∷ taken ∷ taken ∷ denies WrongArguments ∷ denies (UnknownSymbol (Name (codes "z"))) ∷ denies WrongArguments ∷ denies WrongArguments ∷ []
-unfolding ◌>>=◌ ◌>>◌ return refuse require required the_scope note found declare judge_body
+unfolding ◌>>=◌ ◌>>◌ return refuse require required the_scope note found declare judge_body judged command
 definitions = refl
 
 -- of parameters that stand twice, the first that stood before
 parameters_twice : answers (defining z (parameter x int ∷ parameter y int ∷ parameter y int ∷ parameter x int ∷ []) int x ∷ defining z (parameter x int ∷ parameter y int ∷ parameter x int ∷ parameter y int ∷ []) int x ∷ [])
     ≡ denies (AlreadyDeclared (codes "y")) ∷ denies (AlreadyDeclared (codes "x")) ∷ []
-unfolding ◌>>=◌ ◌>>◌ return refuse require required the_scope note found declare judge_body
+unfolding ◌>>=◌ ◌>>◌ return refuse require required the_scope note found declare judge_body judged command
 parameters_twice = refl
 
 stack_moves : answers (call (codes "assert") (p ∷ []) ∷ call (codes "assert") (x ∷ []) ∷ call (codes "assert") [] ∷ call (codes "assert") (p ∷ p ∷ []) ∷ call (codes "push") [] ∷ call (codes "push") (numeral (codes "65535") ∷ []) ∷ call (codes "push") (numeral (codes "65536") ∷ []) ∷ call (codes "push") (past ∷ []) ∷ call (codes "push") (x ∷ [])
     ∷ call (codes "pop") (zero ∷ []) ∷ call (codes "pop") [] ∷ call (codes "pop") (past ∷ []) ∷ call (codes "reset") (one ∷ []) ∷ call (codes "reset-assertions") [] ∷ call (codes "check-sat") [] ∷ x ∷ [])
     ≡ taken ∷ denies NotBool ∷ denies WrongArguments ∷ denies WrongArguments ∷ taken ∷ taken ∷ denies TooManyLevels ∷ denies NumeralTooLarge ∷ denies WrongArguments
     ∷ taken ∷ denies PopPastLevelZero ∷ denies NumeralTooLarge ∷ denies WrongArguments ∷ taken ∷ not_of_the_stack ∷ no_command ∷ []
-unfolding ◌>>=◌ ◌>>◌ return refuse require required the_scope note found declare judge_body
+unfolding ◌>>=◌ ◌>>◌ return refuse require required the_scope note found declare judge_body judged command
 stack_moves = refl
 
 -- how many declarations and assertions, levels above 0 and ids given there are
@@ -359,5 +359,5 @@ folded : map counted (after_all after_script (commands (call (codes "push") (two
     ∷ after_all after_script (commands (call (codes "push") [] ∷ assert_named ∷ call (codes "reset-assertions") [] ∷ []))
     ∷ after_all after_script (commands (call (codes "push") [] ∷ assert_named ∷ call (codes "reset") [] ∷ [])) ∷ [])
     ≡ (10 ∷ 1 ∷ 2 ∷ 10 ∷ []) ∷ (10 ∷ 1 ∷ 1 ∷ 11 ∷ []) ∷ (9 ∷ 0 ∷ 0 ∷ 9 ∷ []) ∷ (0 ∷ 0 ∷ 0 ∷ 10 ∷ []) ∷ (0 ∷ 0 ∷ 0 ∷ 0 ∷ []) ∷ []
-unfolding ◌>>=◌ ◌>>◌ return refuse require required the_scope note found declare judge_body
+unfolding ◌>>=◌ ◌>>◌ return refuse require required the_scope note found declare judge_body judged command
 folded = refl

@@ -3,10 +3,10 @@ use Rattle.std.proofs.Common.{◌≡◌, ℕ, zero, suc, eq-eqb, List, [], ◌�
 use Rattle.std.specs.Prelude.{ℤ, pos, negsuc, if◌then◌else◌}
 use Rattle.std.proofs.lemmas.Bool.{eqb-true}
 use Rattle.smt_meaning.specs.declared.terms.Operator.{Operator}
-use Rattle.smt_meaning.specs.declared.terms.Operator.TheVariants.{True, False, Not, And, Or, Xor, Implies, Equal, Distinct, Ite, Add, Subtract, Multiply, AtMost, Less, AtLeast, Greater}
 use Rattle.smt_meaning.specs.declared.terms.Head.{Head}
 use Rattle.smt_meaning.specs.declared.terms.Head.TheVariants.{Numeral, Theory, Symbol, Place}
 use Rattle.smt_meaning.specs.Term.{Tree, Trees, node, none, more, int_eq, tree_at}
+use Rattle.smt_meaning.specs.TreeCode.{operator_at, operator_back}
 use Rattle.smt_meaning.specs.TreeShape.{operator_number, head_eq, tree_eq, trees_eq, is_among, place_of}
 use Rattle.term_laws.specs.Laws.{TreeEqualityDecides}
 
@@ -24,35 +24,8 @@ int_eq-true (negsuc m) (negsuc n) h = ap negsuc (eqb-true m n h)
 int_eq-true (pos m) (negsuc n) h = cc
 int_eq-true (negsuc m) (pos n) h = cc
 
-abbrev operators : List Operator
-operators = True ∷ False ∷ Not ∷ And ∷ Or ∷ Xor ∷ Implies ∷ Equal ∷ Distinct ∷ Ite ∷ Add ∷ Subtract ∷ Multiply ∷ AtMost ∷ Less ∷ AtLeast ∷ Greater ∷ []
-
-abbrev operator_at : ℕ → List Operator → Operator
-operator_at k [] = True
-operator_at zero (o ∷ os) = o
-operator_at (suc k) (o ∷ os) = operator_at k os
-
-operator_back : (o : Operator) → operator_at (operator_number o) operators ≡ o
-operator_back True = refl
-operator_back False = refl
-operator_back Not = refl
-operator_back And = refl
-operator_back Or = refl
-operator_back Xor = refl
-operator_back Implies = refl
-operator_back Equal = refl
-operator_back Distinct = refl
-operator_back Ite = refl
-operator_back Add = refl
-operator_back Subtract = refl
-operator_back Multiply = refl
-operator_back AtMost = refl
-operator_back Less = refl
-operator_back AtLeast = refl
-operator_back Greater = refl
-
 operator-true : (o p : Operator) → nat_eq (operator_number o) (operator_number p) ≡ true → o ≡ p
-operator-true o p h = sym (operator_back o) ∙ ap (λ k. operator_at k operators) (eqb-true (operator_number o) (operator_number p) h) ∙ operator_back p
+operator-true o p h = sym (operator_back o) ∙ ap operator_at (eqb-true (operator_number o) (operator_number p) h) ∙ operator_back p
 
 head_eq-true : (h k : Head) → head_eq h k ≡ true → h ≡ k
 head_eq-true (Numeral m) (Numeral n) e = ap Numeral (int_eq-true m n e)

@@ -169,6 +169,7 @@ step_decl I vs ss s d o g h j rec false p r = rec r
 
 in_signature : (I : Interpretation) (vs : List Value) (ss : List Sort) (s : Sort) → have_sorts vs ss ≡ true
     → (es : List Declaration) (g : ℕ) → Interprets es I → symbol_sort (function_with_id g es) ss ≡ Some s → Fits (I g vs) s
+unfolding Interprets
 in_signature I vs ss s h [] g j q = absurd (cc)
 in_signature I vs ss s h (d ∷ es) g j q =
     step_decl I vs ss s d (function_with_id g es) g h (All-head (IsFunctionFor I) d es j)

@@ -33,6 +33,7 @@ no_symbol : (I : Interpretation) (d : Declaration) → (IsTrue (is_symbol d) →
 no_symbol I d never is_sym = absurd (never is_sym)
 
 pub tables_interpret : (ds : List Declaration) (ts : List Table) → HasNoIdTwice ds → AreTablesFor ds ts → Interprets ds (meaning ts)
+unfolding Interprets
 tables_interpret [] [] fresh h = All-nil (IsFunctionFor (meaning []))
 tables_interpret [] (t ∷ ts) fresh h = absurd h
 tables_interpret (d ∷ ds) [] fresh h =

@@ -1,12 +1,14 @@
 -- Laws of the definitions of terms.
-use Rattle.std.specs.Prelude.{◌≡◌, ℕ, List, [], map, Some, IsTrue, Contains, true}
+use Rattle.std.specs.Prelude.{◌≡◌, ℕ, ◌≤◌, List, [], map, Some, IsTrue, Contains, true}
 use Rattle.smt_meaning.specs.declared.values.Sort.{Sort}
 use Rattle.smt_meaning.specs.declared.values.Value.{Value}
 use Rattle.smt_meaning.specs.declared.values.Table.{Table}
 use Rattle.smt_meaning.specs.declared.commands.Command.{Command}
 use Rattle.smt_meaning.specs.Declaration.{Declaration}
 use Rattle.smt_meaning.specs.Term.{Tree, Interpretation, value, value_with}
-use Rattle.smt_meaning.specs.Sexp.{Sexp, tokens, sexp, IsSexp, is_proper}
+use Rattle.smt_meaning.specs.Sexp.{Sexp, tokens, sexp, IsSexp, is_proper, nested}
+use Rattle.smt_meaning.specs.declared.tokens.Token.{Token}
+use Rattle.smt_meaning.specs.Reading.{IsSExpr, most_open}
 use Rattle.smt_meaning.specs.Signature.{tree_sort, HasNoIdTwice}
 use Rattle.smt_meaning.specs.Sorts.{Scope, done, Typed, Variable, Rules, judge}
 use Rattle.smt_meaning.specs.Stack.{signature_of}
@@ -36,6 +38,15 @@ ValueDependsOnSymbols = (I J : Interpretation) (t : Tree) → AgreeOn I J (symbo
 -- the tokens of an s-expression read back as it, and as nothing else
 abbrev pub TokensReadBack : Type 0
 TokensReadBack = (s : Sexp) → IsTrue (is_proper s) → IsSexp (tokens s) × (sexp (tokens s) ≡ s)
+
+-- the tokens that the lexicon calls one s-expression are those of the tree that they read as; no word of it is a parenthesis, and it is nested no deeper than allowed
+abbrev pub SExprsReadBack : Type 0
+SExprsReadBack =
+    (ts : List Token) → IsSExpr ts → IsSexp ts × (tokens (sexp ts) ≡ ts) × IsTrue (is_proper (sexp ts)) × (nested (sexp ts) ≤ most_open)
+
+-- the tokens of each such tree are what the lexicon calls one s-expression
+abbrev pub SexpsAreSExprs : Type 0
+SexpsAreSExprs = (s : Sexp) → IsTrue (is_proper s) → nested s ≤ most_open → IsSExpr (tokens s)
 
 -- the values of variables, where parameters have these values
 abbrev pub environment_of : Interpretation → List Value → List Variable → Environment

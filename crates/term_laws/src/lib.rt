@@ -1,7 +1,7 @@
 //! Laws of the definitions of terms, each as the contract of a function that does nothing.
 #![tactic(auto)]
 
-ghost use Rattle.term_laws.specs.Laws.{BodyHasTheTermsValue, NoIdTwice, TablesInterpret, TokensReadBack, TreeEqualityDecides, TreeHasTheTermsValue, ValueDependsOnSymbols, ValueHasItsSort};
+ghost use Rattle.term_laws.specs.Laws.{BodyHasTheTermsValue, NoIdTwice, SExprsReadBack, SexpsAreSExprs, TablesInterpret, TokensReadBack, TreeEqualityDecides, TreeHasTheTermsValue, ValueDependsOnSymbols, ValueHasItsSort};
 
 /// A term that has a sort has a value of that sort, under each interpretation of the signature.
 pub fn value_has_its_sort()
@@ -21,6 +21,16 @@ pub fn value_depends_on_symbols()
 /// An s-expression has tokens that read back as it.
 pub fn tokens_read_back()
     ensures { TokensReadBack }
+{}
+
+/// What the lexicon calls an s-expression is the list of the tokens of the tree that it reads as.
+pub fn s_expressions_read_back()
+    ensures { SExprsReadBack }
+{}
+
+/// Each tree that is nested no deeper than allowed, with no parenthesis for a word, has the tokens of an s-expression.
+pub fn trees_are_s_expressions()
+    ensures { SexpsAreSExprs }
 {}
 
 /// The value of an accepted term, by cases on how it is written, is the value of its tree.

@@ -1,6 +1,7 @@
 //! A hash of a node: its head and its arguments.
 ghost use Rattle.std.specs.Prelude.{◌≡◌};
-ghost use Rattle.term_store.specs.Hash.{operator_word, mixed, head_state, words_state, node_hash};
+ghost use Rattle.smt_meaning.specs.TreeShape.{operator_number};
+ghost use Rattle.term_store.specs.Hash.{mixed, head_state, words_state, node_hash};
 
 use smt_meaning::{Head, Operator, TermId};
 
@@ -14,7 +15,7 @@ fn mix(state: u64, word: u64) -> u64
 }
 
 fn of_operator(operator: Operator) -> u64
-    ensures { result ≡ operator_word operator }
+    ensures { result ≡ operator_number operator }
 {
     operator as u64
 }

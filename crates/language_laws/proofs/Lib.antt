@@ -1,0 +1,9 @@
+mod Script
+mod Refusals
+mod Orders
+mod Texts
+mod Modes
+mod Lines
+mod Told
+mod Kept
+mod Journals

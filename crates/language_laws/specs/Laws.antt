@@ -1,0 +1,60 @@
+-- Laws of the definitions of commands and replies.
+use Rattle.std.specs.Prelude.{◌≡◌, ◌≢◌, ◌⊎◌, ℕ, List, [], ◌∷◌, ◌++◌, Option, Some, None}
+use Rattle.smt_meaning.specs.declared.tokens.Token.{Token}
+use Rattle.smt_meaning.specs.declared.errors.Error.{Error as ErrorReply}
+use Rattle.smt_meaning.specs.declared.commands.Command.{Command}
+use Rattle.smt_meaning.specs.declared.commands.Command.TheVariants.{CheckSat}
+use Rattle.smt_meaning.specs.declared.settings.Settings.{Settings}
+use Rattle.smt_meaning.specs.declared.answers.Entry.{Entry}
+use Rattle.smt_meaning.specs.declared.answers.Mode.{Mode}
+use Rattle.smt_meaning.specs.declared.answers.Mode.TheVariants as In
+use Rattle.smt_meaning.specs.declared.answers.Reply.{Reply}
+use Rattle.smt_meaning.specs.declared.answers.Reply.TheVariants.{Silent, Unsupported, Error}
+use Rattle.smt_meaning.specs.declared.replies.Kept.{Kept}
+use Rattle.smt_meaning.specs.State.{State}
+use Rattle.smt_meaning.specs.Stack.{Frame}
+use Rattle.smt_meaning.specs.MayReply.{Decided, MayReply, Replies, IsExactly, IsModel}
+use Rattle.smt_meaning.specs.LegalJournal.{Moment, beginning, Runs}
+use Rattle.smt_meaning.specs.Text.{text, line}
+
+-- in this state the command may be answered so, and in no other way
+pub record HasOneReply (decided : Decided) (old : State) (c : Command) : Type 0 where
+  pub reply : Reply
+  pub new : State
+  pub may : (r : Reply) (kept : Kept) (s : State) → IsExactly reply new r kept s → MayReply decided old c r kept s
+  pub only : (r : Reply) (kept : Kept) (s : State) → MayReply decided old c r kept s → IsExactly reply new r kept s
+
+-- a command that is no check has one reply
+abbrev pub OneReply : Type 0
+OneReply = (decided : Decided) (old : State) (c : Command) → c ≢ CheckSat → HasOneReply decided old c
+
+-- an error and `unsupported` change nothing
+pub record ChangesNothing (decided : Decided) (old : State) (ts : List Token) (kept : Kept) (new : State) : Type 0 where
+  pub after_error : (e : ErrorReply) → Replies decided old ts (Error e) kept new → new ≡ old
+  pub after_unsupported : Replies decided old ts Unsupported kept new → new ≡ old
+
+abbrev pub RefusalChangesNothing : Type 0
+RefusalChangesNothing = (decided : Decided) (old : State) (ts : List Token) (kept : Kept) (new : State) → ChangesNothing decided old ts kept new
+
+-- bytes that end in one line feed
+abbrev pub IsLine : List ℕ → Type 0
+IsLine bytes = (front : List ℕ) × (last : ℕ) × (bytes ≡ line (front ++ last ∷ [])) × (last ≢ 10)
+
+-- only a success that isn't printed has no text
+abbrev pub TextEndsInOneLine : Type 0
+TextEndsInOneLine = (r : Reply) → ((r ≡ Silent) × (text r ≡ [])) ⊎ IsLine (text r)
+
+-- outside the start mode a logic is set, and a model that is kept is one of the stack
+abbrev pub ModeFits : Mode → Option (List ℕ) → List Frame → Type 0
+ModeFits In.Start None frames = Unit {0}
+ModeFits In.Start (Some n) frames = ⊥
+ModeFits In.Assert (Some n) frames = Unit {0}
+ModeFits (In.Sat i) (Some n) frames = IsModel frames i
+ModeFits In.Unsat (Some n) frames = Unit {0}
+ModeFits _ None frames = ⊥
+
+-- so it is in every state that a journal comes to
+abbrev pub ModeHolds : Type 0
+ModeHolds =
+    (decided : Decided) (settings : Settings) (input : List ℕ) (entries : List Entry) (m : Moment)
+    → Runs decided (beginning settings input) entries m → ModeFits m.state.mode m.state.logic m.state.stack.frames

@@ -1,0 +1,266 @@
+-- What noting trees and declaring symbols keep, judging terms and commands keeps.
+use Rattle.std.proofs.Common.{◌≡◌, ℕ, zero, suc, ◌+◌, ◌-◌, ◌<◌, List, [], ◌∷◌, ◌++◌, All, map, take, drop, length, sym, ap, ◌∙◌, refl, subst, arith, Bool, true, false, Option, Some, None, nat_lt, append_assoc, append-nil}
+use Rattle.std.specs.Prelude.{◌≢◌, ℤ, codes, bytes_eq, replicate, if◌then◌else◌}
+use Rattle.std.proofs.lemmas.Grind.{flat_map-append}
+use Rattle.std.proofs.lemmas.List.{take-append-drop}
+use Rattle.std.proofs.Math.Seq.{drop-append_seam}
+use Rattle.std.proofs.lemmas.List.Elements.{All-nil, All-cons, All-head, All-tail, All-append, All-weaker}
+use Rattle.smt_meaning.specs.declared.values.Sort.{Sort}
+use Rattle.smt_meaning.specs.declared.terms.Operator.{Operator}
+use Rattle.smt_meaning.specs.declared.terms.Operator.TheVariants.{True, False}
+use Rattle.smt_meaning.specs.declared.tokens.Token.{Token}
+use Rattle.smt_meaning.specs.declared.tokens.Token.TheVariants.{Numeral, Symbol, Reserved, Keyword}
+use Rattle.smt_meaning.specs.declared.tokens.Word.TheVariants.{Exclamation, Let}
+use Rattle.smt_meaning.specs.Declaration.{Declaration}
+use Rattle.smt_meaning.specs.declared.refusals.Refusal.{Refusal}
+use Rattle.smt_meaning.specs.Term.{Tree, Trees}
+use Rattle.smt_meaning.specs.Sexp.{Sexp, Sexps, word, group, end, ◌▸◌, sexp}
+use Rattle.smt_meaning.specs.Signature.{HasNoIdTwice}
+use Rattle.smt_meaning.specs.Sorts.{Scope, Outcome, done, refused, Judging, go_on, ◌>>=◌, ◌>>◌, return, refuse, require, required, the_scope, with_all, note, found, declare, declare_in, most_symbols, Typed, Variable, Rules, Known, variable, operator, function, unknown, known, can_be_applied, judge_application, judge_bare, judge_symbol, judge_operator, judge_token, check_bindings, none_twice, bound_names, name_by, judge_attributes, either, judge, judge_all, judge_bindings}
+use Rattle.smt_meaning.specs.Stack.{Frame, Assertion, signature_of, depth, on_top, pushed, empty_frame}
+use Rattle.smt_meaning.specs.StackCommand.{Stack, start, Change, declares, asserts, pushes, pops, asks, clears, begins_again, is_unsupported, judge_sort, judge_sorts, new_sort_name, new_function_name, declare_new_sort, declare_sort, define_sort, declare_function, judge_parameters, apart, in_body, judge_body, define_function, require_room, in_assert, assert_term, in_question, judge_terms, judge_questions, stack_command, scope_of, judged, new_declarations, changed, after_outcome, after_command, after, after_all}
+use Rattle.smt_meaning.specs.declared.commands.WrittenSort.{WrittenSort}
+use Rattle.smt_meaning.specs.declared.commands.WrittenSort.TheVariants.{Name, Applied}
+use Rattle.smt_meaning.specs.declared.commands.Parameter.{Parameter}
+use Rattle.smt_meaning.specs.declared.commands.Command.{Command}
+use Rattle.smt_meaning.specs.declared.commands.Command.TheVariants.{DeclareSort, DefineSort, DeclareConst, DeclareFun, DefineFun, Assert, Push, Pop, GetValue, ResetAssertions, Reset}
+use Rattle.term_laws.specs.Laws.{NoIdTwice}
+
+-- ---- a property of scopes
+
+-- it stays where trees are noted, and where a declaration with the next id joins the signature
+pub record Invariant (P : Scope → Type 0) : Type 0 where
+  pub noted : (s : Scope) (us : List Tree) → P s → P (record s { trees = with_all s.trees us })
+  pub declared : (s : Scope) (e : Declaration) → e.id ≡ s.given → P s → P (record s { signature = s.signature ++ e ∷ []; given = s.given + 1 })
+
+abbrev pub Kept : {A : Type 0} → (Scope → Type 0) → Outcome A → Type 0
+Kept P (done a t) = P t
+Kept P (refused r) = Unit {0}
+
+-- a judgement keeps it
+pub record Keeping {A : Type 0} (P : Scope → Type 0) (m : Judging A) : Type 0 where
+  pub keeps : (s : Scope) → P s → Kept P (m s)
+
+module _ {P : Scope → Type 0} (i : Invariant P) where
+  after_go_on : {A B : Type 0} (x : Outcome A) (k : A → Judging B) → Kept P x → ((a : A) (t : Scope) → P t → Kept P (k a t)) → Kept P (go_on x k)
+  after_go_on (done a t) k h g = g a t h
+  after_go_on (refused r) k h g = tt
+
+  bind_keeping : {A B : Type 0} {m : Judging A} {k : A → Judging B} → Keeping P m → ((a : A) → Keeping P (k a)) → Keeping P (m >>= k)
+  unfolding ◌>>=◌
+  bind_keeping {m = m} {k = k} h g = record { keeps = λ s f. after_go_on (m s) k (h.keeps s f) (λ a t e. (g a).keeps t e) }
+
+  next_keeping : {A B : Type 0} {m : Judging A} {n : Judging B} → Keeping P m → Keeping P n → Keeping P (m >> n)
+  unfolding ◌>>◌
+  next_keeping {m = m} {n = n} h g = record { keeps = λ s f. after_go_on (m s) (λ a. n) (h.keeps s f) (λ a t e. g.keeps t e) }
+
+  return_keeping : {A : Type 0} (a : A) → Keeping P (return a)
+  unfolding return
+  return_keeping a = record { keeps = λ s f. f }
+
+  refuse_keeping : (A : Type 0) (r : Refusal) → Keeping {A = A} P (refuse r)
+  unfolding refuse
+  refuse_keeping A r = record { keeps = λ s f. tt }
+
+  require_keeping : (b : Bool) (r : Refusal) → Keeping P (require b r)
+  unfolding require return refuse
+  require_keeping b r = by_cases b
+    where
+      by_cases : (c : Bool) → Keeping P (require c r)
+      by_cases true = record { keeps = λ s f. f }
+      by_cases false = record { keeps = λ s f. tt }
+
+  required_keeping : {A : Type 0} (o : Option A) (r : Refusal) → Keeping P (required o r)
+  unfolding required
+  required_keeping None r = refuse_keeping _ r
+  required_keeping (Some a) r = return_keeping a
+
+  scope_keeping : Keeping P the_scope
+  unfolding the_scope
+  scope_keeping = record { keeps = λ s f. f }
+
+  note_keeping : (ts : List Tree) → Keeping P (note ts)
+  unfolding note
+  note_keeping ts = record { keeps = λ s f. i.noted s ts f }
+
+  found_keeping : (t : Tree) (x : Sort) → Keeping P (found t x)
+  unfolding found
+  found_keeping t x = record { keeps = λ s f. f }
+
+  declare_keeping : (d : ℕ → Declaration) → ((n : ℕ) → (d n).id ≡ n) → Keeping P (declare d)
+  unfolding declare
+  declare_keeping d own = record { keeps = λ s f. go (d s.given) s (own s.given) f (nat_lt s.given most_symbols) }
+    where
+      go : (e : Declaration) (s : Scope) → e.id ≡ s.given → P s → (b : Bool) → Kept P (declare_in e b s)
+      go e s same f true = i.declared s e same f
+      go e s same f false = tt
+
+  -- ---- terms
+
+  symbol_keeping : (r : Rules) (d : Declaration) (ts : Trees) → Keeping P (judge_symbol r d ts)
+  symbol_keeping r d ts = next_keeping (require_keeping _ _) (next_keeping (note_keeping _) (found_keeping _ _))
+
+  operator_keeping : (r : Rules) (o : Operator) (ts : Trees) (x : Sort) → Keeping P (judge_operator r o ts x)
+  operator_keeping r o ts x = next_keeping (require_keeping _ _) (next_keeping (note_keeping _) (found_keeping _ _))
+
+  bare_keeping : (r : Rules) (n : List ℕ) (k : Known) → Keeping P (judge_bare r n k)
+  bare_keeping r n (variable t) = return_keeping t
+  bare_keeping r n unknown = refuse_keeping _ _
+  bare_keeping r n (operator True) = operator_keeping r True _ _
+  bare_keeping r n (operator False) = operator_keeping r False _ _
+  bare_keeping r n (operator _) = refuse_keeping _ _
+  bare_keeping r n (function d) = next_keeping (require_keeping _ _) (symbol_keeping r d _)
+
+  application_keeping : (r : Rules) (n : List ℕ) (k : Known) (ts : List Typed) → Keeping P (judge_application r n k ts)
+  application_keeping r n (variable t) ts = refuse_keeping _ _
+  application_keeping r n unknown ts = refuse_keeping _ _
+  application_keeping r n (operator o) ts = next_keeping (require_keeping _ _) (bind_keeping (required_keeping _ _) (λ x. operator_keeping r o _ x))
+  application_keeping r n (function d) ts = next_keeping (require_keeping _ _) (next_keeping (require_keeping _ _) (symbol_keeping r d _))
+
+  applied_keeping : (n : List ℕ) (k : Known) → Keeping P (can_be_applied n k)
+  applied_keeping n (variable t) = refuse_keeping _ _
+  applied_keeping n unknown = refuse_keeping _ _
+  applied_keeping n _ = return_keeping tt
+
+  token_keeping : (r : Rules) (vs : List Variable) (t : Token) → Keeping P (judge_token r vs t)
+  token_keeping r vs (Symbol n) = bind_keeping scope_keeping (λ s. bare_keeping r n (known vs n s))
+  token_keeping r vs (Numeral cs) = next_keeping (require_keeping _ _) (next_keeping (note_keeping _) (found_keeping _ _))
+  token_keeping r vs _ = refuse_keeping _ _
+
+  none_twice_keeping : (before ns : List (List ℕ)) → Keeping P (none_twice before ns)
+  none_twice_keeping before [] = return_keeping tt
+  none_twice_keeping before (n ∷ ns) = next_keeping (require_keeping _ _) (none_twice_keeping (n ∷ before) ns)
+
+  bindings_keeping : (o : Option (List (List ℕ))) → Keeping P (check_bindings o)
+  bindings_keeping None = refuse_keeping _ _
+  bindings_keeping (Some []) = refuse_keeping _ _
+  bindings_keeping (Some (n ∷ ns)) = none_twice_keeping [] (n ∷ ns)
+
+  name_keeping : (r : Rules) (open_term : Bool) (t : Typed) (ss : Sexps) → Keeping P (name_by r open_term t ss)
+  name_keeping r open_term t (word (Symbol n) ▸ rest) =
+      bind_keeping scope_keeping (λ s. next_keeping (require_keeping _ _) (next_keeping (require_keeping _ _) (next_keeping (require_keeping _ _) (declare_keeping _ (λ n. refl)))))
+  name_keeping r open_term t _ = refuse_keeping _ _
+
+  either_keeping : {A : Type 0} (b : Bool) (m n : Judging A) → Keeping P m → Keeping P n → Keeping P (either b m n)
+  either_keeping true m n h g = h
+  either_keeping false m n h g = g
+
+  attributes_keeping : (r : Rules) (open_term : Bool) (t : Typed) (ss : Sexps) → Keeping P (judge_attributes r open_term t ss)
+  attributes_keeping r open_term t end = return_keeping tt
+  attributes_keeping r open_term t (word (Keyword k) ▸ rest) =
+      either_keeping (bytes_eq k (codes "named")) _ _ (next_keeping (name_keeping r open_term t rest) (attributes_keeping r open_term t rest)) (attributes_keeping r open_term t rest)
+  attributes_keeping r open_term t (_ ▸ rest) = attributes_keeping r open_term t rest
+
+  mutual
+    pub judge_keeping : (r : Rules) (vs : List Variable) (x : Sexp) → Keeping P (judge r vs x)
+    judge_keeping r vs (word t) = token_keeping r vs t
+    judge_keeping r vs (group (word (Reserved Let) ▸ group bs ▸ b ▸ end)) =
+        next_keeping (bindings_keeping (bound_names bs)) (bind_keeping (bound_keeping r vs bs) (λ xs. judge_keeping r (xs ++ vs) b))
+    judge_keeping r vs (group (word (Reserved Let) ▸ _)) = refuse_keeping _ _
+    judge_keeping r vs (group (word (Reserved Exclamation) ▸ t ▸ rest)) =
+        next_keeping (require_keeping _ _)
+        (bind_keeping (judge_keeping r vs t) (λ a. next_keeping (attributes_keeping r _ a rest) (return_keeping a)))
+    judge_keeping r vs (group (word (Reserved Exclamation) ▸ end)) = refuse_keeping _ _
+    judge_keeping r vs (group (word (Reserved w) ▸ _)) = refuse_keeping _ _
+    judge_keeping r vs (group (word (Symbol n) ▸ ss)) =
+        bind_keeping scope_keeping (λ s.
+        next_keeping (applied_keeping n (known vs n s)) (bind_keeping (all_keeping r vs ss) (application_keeping r n (known vs n s))))
+    judge_keeping r vs (group _) = refuse_keeping _ _
+
+    all_keeping : (r : Rules) (vs : List Variable) (ss : Sexps) → Keeping P (judge_all r vs ss)
+    all_keeping r vs end = return_keeping []
+    all_keeping r vs (x ▸ ss) = bind_keeping (judge_keeping r vs x) (λ a. bind_keeping (all_keeping r vs ss) (λ ts. return_keeping (a ∷ ts)))
+
+    bound_keeping : (r : Rules) (vs : List Variable) (ss : Sexps) → Keeping P (judge_bindings r vs ss)
+    bound_keeping r vs end = return_keeping []
+    bound_keeping r vs (group (word (Symbol n) ▸ t ▸ end) ▸ rest) =
+        bind_keeping (judge_keeping r vs t) (λ a. bind_keeping (bound_keeping r vs rest) (λ xs. return_keeping _))
+    bound_keeping r vs (_ ▸ rest) = refuse_keeping _ _
+
+  -- ---- commands
+
+  sort_keeping : (x : WrittenSort) → Keeping P (judge_sort x)
+  sort_keeping (Name n) = bind_keeping scope_keeping (λ s. required_keeping _ _)
+  sort_keeping (Applied n) = refuse_keeping _ _
+
+  sorts_keeping : (xs : List WrittenSort) → Keeping P (judge_sorts xs)
+  sorts_keeping [] = return_keeping []
+  sorts_keeping (x ∷ xs) = bind_keeping (sort_keeping x) (λ a. bind_keeping (sorts_keeping xs) (λ rs. return_keeping (a ∷ rs)))
+
+  sort_name_keeping : (n : List ℕ) → Keeping P (new_sort_name n)
+  sort_name_keeping n = next_keeping (require_keeping _ _) (bind_keeping scope_keeping (λ s. require_keeping _ _))
+
+  function_name_keeping : (n : List ℕ) → Keeping P (new_function_name n)
+  function_name_keeping n = next_keeping (require_keeping _ _) (bind_keeping scope_keeping (λ s. require_keeping _ _))
+
+  if_keeping : {A : Type 0} (b : Bool) (m n : Judging A) → Keeping P m → Keeping P n → Keeping P (if b then m else n)
+  if_keeping true m n h g = h
+  if_keeping false m n h g = g
+
+  new_sort_keeping : (n : List ℕ) → Keeping P (declare_new_sort n)
+  new_sort_keeping n = next_keeping (sort_name_keeping n) (next_keeping (declare_keeping _ (λ k. refl)) (return_keeping declares))
+
+  declare_sort_keeping : (n : List ℕ) (arity : ℤ) → Keeping P (declare_sort n arity)
+  declare_sort_keeping n arity = if_keeping _ _ _ (new_sort_keeping n) (return_keeping is_unsupported)
+
+  define_sort_keeping : (n : List ℕ) (ps : List (List ℕ)) (s : WrittenSort) → Keeping P (define_sort n ps s)
+  define_sort_keeping n [] s =
+      next_keeping (sort_name_keeping n) (bind_keeping (sort_keeping s) (λ r. next_keeping (declare_keeping _ (λ k. refl)) (return_keeping declares)))
+  define_sort_keeping n (p ∷ ps) s = return_keeping is_unsupported
+
+  function_keeping : (n : List ℕ) (ss : List WrittenSort) (s : WrittenSort) → Keeping P (declare_function n ss s)
+  function_keeping n ss s =
+      next_keeping (function_name_keeping n)
+      (bind_keeping (sorts_keeping ss) (λ rs. bind_keeping (sort_keeping s) (λ r. next_keeping (declare_keeping _ (λ k. refl)) (return_keeping declares))))
+
+  parameters_keeping : (k : ℕ) (before : List (List ℕ)) (ps : List Parameter) → Keeping P (judge_parameters k before ps)
+  parameters_keeping k before [] = return_keeping []
+  parameters_keeping k before (p ∷ ps) =
+      next_keeping (require_keeping _ _) (bind_keeping (sort_keeping p.sort) (λ s. bind_keeping (parameters_keeping (k + 1) (p.name ∷ before) ps) (λ vs. return_keeping _)))
+
+  body_keeping : (vs : List Variable) (t : List Token) → Keeping P (judge_body vs t)
+  unfolding judge_body
+  body_keeping vs t = record { keeps = λ s f. go s f (judge in_body vs (sexp t) (record s { trees = map (λ (v : Variable). v.term.tree) vs })) }
+    where
+      go : (s : Scope) → P s → (o : Outcome Typed) → Kept P (apart s o)
+      go s f (done a c) = f
+      go s f (refused r) = tt
+
+  defined_keeping : (n : List ℕ) (ps : List Parameter) (s : WrittenSort) (t : List Token) → Keeping P (define_function n ps s t)
+  defined_keeping n ps s t =
+      next_keeping (function_name_keeping n)
+      (bind_keeping (parameters_keeping 0 [] ps) (λ vs. bind_keeping (sort_keeping s) (λ r. bind_keeping (body_keeping vs t) (λ b.
+      next_keeping (require_keeping _ _) (next_keeping (declare_keeping _ (λ k. refl)) (return_keeping declares))))))
+
+  room_keeping : Keeping P require_room
+  room_keeping = bind_keeping scope_keeping (λ s. require_keeping _ _)
+
+  assert_keeping : (t : List Token) → Keeping P (assert_term t)
+  assert_keeping t = bind_keeping (judge_keeping in_assert [] (sexp t)) (λ a. next_keeping (require_keeping _ _) (next_keeping room_keeping (return_keeping _)))
+
+  terms_keeping : (ts : List (List Token)) → Keeping P (judge_terms ts)
+  terms_keeping [] = return_keeping []
+  terms_keeping (t ∷ ts) = bind_keeping (judge_keeping in_question [] (sexp t)) (λ a. bind_keeping (terms_keeping ts) (λ bs. return_keeping (a ∷ bs)))
+
+  questions_keeping : (ts : List (List Token)) → Keeping P (judge_questions ts)
+  questions_keeping ts = bind_keeping (terms_keeping ts) (λ bs. next_keeping room_keeping (return_keeping bs))
+
+  -- ---- the fold
+
+  abbrev pub KeepsIfSome : Option (ℕ → Judging Change) → Type 0
+  KeepsIfSome None = Unit {0}
+  KeepsIfSome (Some m) = (level : ℕ) → Keeping P (m level)
+
+  pub command_keeps : (c : Command) → KeepsIfSome (stack_command c)
+  command_keeps (DeclareSort n arity) = λ level. declare_sort_keeping n arity
+  command_keeps (DefineSort n ps s) = λ level. define_sort_keeping n ps s
+  command_keeps (DeclareConst n s) = λ level. function_keeping n [] s
+  command_keeps (DeclareFun n ss s) = λ level. function_keeping n ss s
+  command_keeps (DefineFun n ps s t) = λ level. defined_keeping n ps s t
+  command_keeps (Assert t) = λ level. assert_keeping t
+  command_keeps (GetValue ts) = λ level. bind_keeping (questions_keeping ts) (λ bs. return_keeping _)
+  command_keeps (Push n) = λ level. next_keeping (require_keeping _ _) (return_keeping _)
+  command_keeps (Pop n) = λ level. next_keeping (require_keeping _ _) (return_keeping _)
+  command_keeps ResetAssertions = λ level. return_keeping clears
+  command_keeps Reset = λ level. return_keeping begins_again
+  command_keeps _ = tt
