@@ -1,16 +1,19 @@
 -- What follows still does as a pool's levels come and go.
-use Rattle.std.proofs.Common.{◌≡◌, ℕ, zero, suc, ◌+◌, ◌-◌, ◌<◌, ◌≤◌, min, List, [], ◌∷◌, ◌++◌, take, length, All, Bool, true, subst, sym, ap, ◌∙◌, refl, arith}
-use Rattle.std.specs.Prelude.{filter, nat_lt}
+use Rattle.std.proofs.Common.{◌≡◌, ℕ, zero, suc, ◌+◌, ◌-◌, ◌<◌, ◌≤◌, min, List, [], ◌∷◌, ◌++◌, take, length, get_or, All, Contains, Bool, true, false, eq-eqb, subst, sym, ap, ◌∙◌, refl, arith}
+use Rattle.std.specs.Prelude.{filter, nat_lt, nat_eq, IsTrue}
+use Rattle.std.proofs.lemmas.Bool.{eqb-true}
 use Rattle.std.proofs.lemmas.Bool.Decides.{nat_tests}
 use Rattle.std.proofs.lemmas.List.{length-take-le, take-take}
 use Rattle.std.proofs.lemmas.List.Elements.{All-weaker, All-filter, filter_passes}
 use Rattle.smt_meaning.specs.declared.clauses.Clause.{Clause}
-use Rattle.smt_meaning.specs.Stack.{Frame}
+use Rattle.smt_meaning.specs.Stack.{Frame, up_to}
+use Rattle.smt_meaning.specs.Clause.{clause_symbols}
+use Rattle.smt_meaning.specs.Follows.{declared_ids, follows, follows_from}
 use Rattle.race_model.specs.declared.event.Entry.{Entry}
 use Rattle.race_model.specs.Base.{Base}
 use Rattle.race_model.specs.Race.{entries_below}
 use Rattle.race_model.specs.Laws.{IsSound, SoundAfterPush, SoundAfterAssert, SoundAfterCut, SoundWithTrees}
-use Rattle.lemma_pool.specs.Pools.{Growth, levels, members, grown, Grows, cut_base}
+use Rattle.lemma_pool.specs.Pools.{Growth, levels, members, grown, Grows, cut_base, is_one_of, IsKnown}
 
 module _ (push : SoundAfterPush) (more : SoundAfterAssert) (trees : SoundWithTrees) where
   sound_grown : (gs : List Growth) (b : Base) (c : Clause) → IsSound b c → IsSound (record b { frames = grown gs b.frames }) c
@@ -79,3 +82,51 @@ module _ (cut : SoundAfterCut) where
         where
           twice : (b : Base) (k n : ℕ) → k ≤ n → cut_base k b ≡ cut_base k (cut_base n b)
           twice b k n le = let e : min n k ≡ k = omega arith in ap (λ j. cut_base j b) (sym e) ∙ cut_cut b k n
+
+-- ---- the two ways to say that a clause follows
+
+is_one : (i : ℕ) (js : List ℕ) → Contains js i → IsTrue (is_one_of i js)
+is_one i [] h = absurd (let lt = h.1 in omega arith)
+is_one i (j ∷ js) h = go (nat_eq i j) refl
+  where
+    go : (b : Bool) → nat_eq i j ≡ b → IsTrue (is_one_of i (j ∷ js))
+    go true e = rw e refl
+    go false e = rw e (is_one i js (later h.0 h.1 h.2))
+      where
+        later : (k : ℕ) → k < length (j ∷ js) → get_or (j ∷ js) k i ≡ i → Contains js i
+        later zero lt at = absurd (let f : nat_eq i j ≡ true = eq-eqb i j (sym at) in cc)
+        later (suc k) lt at = (k, omega arith, at)
+
+contains : (i : ℕ) (js : List ℕ) → IsTrue (is_one_of i js) → Contains js i
+contains i [] h = absurd (cc)
+contains i (j ∷ js) h = go (nat_eq i j) refl
+  where
+    go : (b : Bool) → nat_eq i j ≡ b → Contains (j ∷ js) i
+    go true e = (0, omega arith, sym (eqb-true i j e))
+    go false e = let t = contains i js (rw e at h) in (suc t.0, (let lt = t.1 in omega arith), t.2)
+
+pub known_of : (b : Base) (c : Clause) → IsSound b c → IsKnown b c
+known_of b c h =
+    let f = follows_from b.trees b.frames c.level c h.follows in
+    record {
+      true_wherever = f.true_wherever;
+      declared = All-weaker _ (λ i. IsTrue (is_one_of i (declared_ids (up_to c.level b.frames)))) (λ i. is_one i (declared_ids (up_to c.level b.frames))) (clause_symbols b.trees c) f.declared;
+      places = f.within;
+      within = h.within;
+    }
+
+pub sound_of : (b : Base) (c : Clause) → IsKnown b c → IsSound b c
+sound_of b c h = record {
+  follows = follows b.trees b.frames c.level c record {
+    true_wherever = h.true_wherever;
+    declared = All-weaker (λ i. IsTrue (is_one_of i (declared_ids (up_to c.level b.frames)))) (Contains (declared_ids (up_to c.level b.frames))) (λ i. contains i (declared_ids (up_to c.level b.frames))) (clause_symbols b.trees c) h.declared;
+    within = h.places;
+  };
+  within = h.within;
+}
+
+pub all_known : (b : Base) (es : List Entry) → All (λ (e : Entry). IsSound b e.clause) es → All (λ (e : Entry). IsKnown b e.clause) es
+all_known b es h = All-weaker (λ (e : Entry). IsSound b e.clause) (λ (e : Entry). IsKnown b e.clause) (λ e. known_of b e.clause) es h
+
+pub all_sound : (b : Base) (es : List Entry) → All (λ (e : Entry). IsKnown b e.clause) es → All (λ (e : Entry). IsSound b e.clause) es
+all_sound b es h = All-weaker (λ (e : Entry). IsKnown b e.clause) (λ (e : Entry). IsSound b e.clause) (λ e. sound_of b e.clause) es h

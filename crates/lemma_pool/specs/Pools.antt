@@ -1,8 +1,12 @@
 -- What a pool stands on, and how that grows.
-use Rattle.std.specs.Prelude.{◌≡◌, ℕ, ◌+◌, List, [], ◌∷◌, ◌++◌, length, take, ℤ, pos, negsuc}
+use Rattle.std.specs.Prelude.{◌≡◌, ℕ, ◌+◌, ◌<◌, Bool, false, ◌||◌, nat_eq, List, [], ◌∷◌, ◌++◌, length, take, ℤ, pos, negsuc, All, IsTrue}
 use Rattle.smt_meaning.specs.Declaration.{Declaration}
-use Rattle.smt_meaning.specs.Term.{Tree}
-use Rattle.smt_meaning.specs.Stack.{Frame, Assertion, on_top, pushed}
+use Rattle.smt_meaning.specs.declared.clauses.Clause.{Clause}
+use Rattle.smt_meaning.specs.Term.{Tree, Interpretation}
+use Rattle.smt_meaning.specs.Interpretation.{Interprets}
+use Rattle.smt_meaning.specs.Stack.{Frame, Assertion, Holds, signature_of, up_to, on_top, pushed}
+use Rattle.smt_meaning.specs.Clause.{ClauseTrue, clause_symbols, places}
+use Rattle.smt_meaning.specs.Follows.{declared_ids}
 use Rattle.race_model.specs.Base.{Base}
 use Rattle.race_model.specs.Race.{entries_below}
 use Rattle.race_model.specs.Shelves.{ShelfState}
@@ -47,3 +51,16 @@ pub record IsCut (n : ℕ) (s t : ShelfState) : Type 0 where
 abbrev pub levels_up_to : ℤ → ℕ
 levels_up_to (pos l) = l + 1
 levels_up_to (negsuc n) = 0
+
+-- ---- what follows, as a proposition
+
+abbrev pub is_one_of : ℕ → List ℕ → Bool
+is_one_of i [] = false
+is_one_of i (j ∷ js) = nat_eq i j || is_one_of i js
+
+-- a clause that follows from the levels up to its own, which is one of the levels
+pub record IsKnown (b : Base) (c : Clause) : Type 0 where
+  pub true_wherever : (I : Interpretation) → Interprets (signature_of (up_to c.level b.frames)) I → Holds I (up_to c.level b.frames) → ClauseTrue b.trees I c
+  pub declared : All (λ i. IsTrue (is_one_of i (declared_ids (up_to c.level b.frames)))) (clause_symbols b.trees c)
+  pub places : All (λ i. i < length b.trees) (places c.literals)
+  pub within : c.level < length b.frames

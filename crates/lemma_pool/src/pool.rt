@@ -1,9 +1,9 @@
-ghost use Rattle.std.specs.Prelude.{◌≡◌, ℕ, ◌+◌, ◌-◌, ◌<◌, ◌≤◌, [], All, IfOk, OnOk, OnErr, length, take, vec_len, vec_capacity};
+ghost use Rattle.std.specs.Prelude.{◌≡◌, ◌+◌, ◌-◌, ◌≤◌, [], All, IfOk, OnOk, length, vec_len, vec_capacity};
 ghost use Rattle.smt_meaning.specs.Stack.{depth};
 ghost use Rattle.race_model.specs.declared.event.Entry.{Entry};
-ghost use Rattle.race_model.specs.Laws.{IsSound};
 ghost use Rattle.race_model.specs.Shelves.{IsSame};
-ghost use Rattle.lemma_pool.specs.Pools.{cut_base, Grows, IsCut, IsSameButBase, levels_up_to};
+ghost use Rattle.lemma_pool.specs.Pools.{cut_base, Grows, IsCut, IsKnown, IsSameButBase, levels_up_to};
+ghost use Rattle.std.proofs.Props.{props};
 
 use race_model::{
     Entry, Framed, Shelf, Told, copy_clause, sound_after_assert, sound_after_cut, sound_after_push, sound_with_trees,
@@ -28,7 +28,7 @@ pub struct Pool<K: Framed> {
     levels: u64,
     ghost roomy: { vec_len ended + room ≤ vec_capacity ended },
     ghost standing: { levels ≤ length (K.base stack.value).frames },
-    ghost sound: { All (λ (e : Entry). IsSound (cut_base levels (K.base stack.value)) e.clause) entries.items },
+    ghost known: { All (λ (e : Entry). IsKnown (cut_base levels (K.base stack.value)) e.clause) entries.items } by { Prim.hlevel props },
 }
 
 // Copies of entries, in order.

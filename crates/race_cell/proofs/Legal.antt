@@ -10,6 +10,7 @@ use Rattle.smt_meaning.specs.declared.clauses.Clause.{Clause}
 use Rattle.smt_meaning.specs.Term.{Tree, Interpretation}
 use Rattle.smt_meaning.specs.Interpretation.{Interprets}
 use Rattle.smt_meaning.specs.Stack.{Frame, Satisfies, Holds, terms_of, assertions_of, up_to}
+use Rattle.smt_meaning.specs.Follows.{follows_from}
 use Rattle.race_model.specs.declared.event.Entry.{Entry}
 use Rattle.race_model.specs.declared.event.Premise.{Premise}
 use Rattle.race_model.specs.declared.event.Premise.TheVariants.{Known, Asserted}
@@ -101,11 +102,13 @@ holds_up_to s l I h =
 
 -- a clause that follows at its level is shown by all assertions up to there
 shown : (s : State) (c : Clause) → IsSound s.base c → IsShown s (premises_of c.level s.base.frames) c
-shown s c sound = record {
-  true_wherever = λ I interprets h. sound.follows.true_wherever I interprets (holds_up_to s c.level I h);
-  declared = sound.follows.declared;
-  within = sound.follows.within;
-}
+shown s c sound =
+    let from = follows_from s.base.trees s.base.frames c.level c sound.follows in
+    record {
+      true_wherever = λ I interprets h. from.true_wherever I interprets (holds_up_to s c.level I h);
+      declared = from.declared;
+      within = from.within;
+    }
 
 -- ---- workers at work
 

@@ -33,7 +33,7 @@ impl<S: Shelf + Drop> Race<S> {
         requires all { (length seat.me.0.claims ≡ self.table.shared.key.workers) × (0 < length seat.me.0.claims) }
         ensures { AtEnd S.state (of.race_base S.state self) self.table.shared.key.workers seat.me.0.claims result }
     {
-        let Race { table } = self;
+        let Race { table, workers: _ } = self;
         let mut closed = table.close_with(seat);
         let shelf = closed.take(0);
         closed.free();
@@ -46,11 +46,11 @@ impl<S: Shelf + Drop> Race<S> {
         requires passes { All (of.IsPassOf self.table.shared.table_id) passes.items }
         ensures { Ended S.state (of.race_base S.state self) self.table.shared.key.workers (map of.claim_of passes.items) result }
     {
-        let workers = passes.len();
+        let workers = self.workers;
         let seat = self.gather(passes);
         let mut shelf = self.close(seat);
         for worker in 0..workers {
-            shelf.end(worker as u8);
+            shelf.end(worker);
         }
         shelf
     }

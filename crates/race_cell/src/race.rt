@@ -13,7 +13,9 @@ use std::alloc::Global;
 #[derive(Drop)]
 pub struct Race<S: Shelf> {
     pub table: Table<S, View<S>, Opening<S>, Law, Global>,
+    pub(crate) workers: u8,
     ghost counts: { (table.shared.table_id.words ≡ 3) × (table.shared.table_id.slots ≡ 1) },
+    ghost crew: { workers ≡ table.shared.key.workers },
 }
 
 pub type Place<S> = Seat<S, View<S>>;

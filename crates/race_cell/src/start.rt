@@ -40,7 +40,7 @@ impl<S: Shelf + Drop> Race<S> {
         };
         slots.push_reserved(shelf);
         match Table::new(alloc, &[0, 0, 0], slots, &about) {
-            Ok((table, seat)) => Ok((Race { table }, seat)),
+            Ok((table, seat)) => Ok((Race { table, workers }, seat)),
             Err(Refused { mut slots }) => match slots.pop() {
                 Some(shelf) => Err(shelf),
                 None => unreachable!(),

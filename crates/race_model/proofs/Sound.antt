@@ -11,7 +11,7 @@ use Rattle.smt_meaning.specs.declared.clauses.Clause.{Clause}
 use Rattle.smt_meaning.specs.Term.{Tree, Interpretation}
 use Rattle.smt_meaning.specs.Interpretation.{Interprets}
 use Rattle.smt_meaning.specs.Stack.{Frame, Assertion, Satisfies, Holds, HasNoModel, signature_of, assertions_of, terms_of, up_to, on_top, pushed, popped, empty_frame}
-use Rattle.smt_meaning.specs.Follows.{Follows, FollowsFrom}
+use Rattle.smt_meaning.specs.Follows.{Follows, FollowsFrom, follows, follows_from}
 use Rattle.clause_laws.specs.Laws.{StillFollowsAfterPush, StillFollowsAfterMore, StillFollowsAfterPop, StillFollowsAbove, StillFollowsWithTrees, EmptyClauseShowsNoModel}
 use Rattle.race_model.specs.declared.event.Entry.{Entry}
 use Rattle.race_model.specs.declared.event.Premise.{Premise}
@@ -104,12 +104,12 @@ module _ (above : StillFollowsAbove) where
   premise_true s w l I h r interprets holds (Known c) sup =
       let sound : IsSound s.base c = All-contains (IsSound s.base) (worker_at s w).own c (own_sound s w h r) sup.0 in
       let at_l : Follows s.base.trees s.base.frames l c = above s.base.trees s.base.frames c.level l c sup.1 sound.follows in
-      at_l.true_wherever I interprets holds
+      (follows_from s.base.trees s.base.frames l c at_l).true_wherever I interprets holds
   premise_true s w l I h r interprets holds (Asserted k i) sup = asserted_true I s.base.frames l k i sup.1 holds
 
   pub learnt_sound : (s : State) (w : ℕ) (ps : List Premise) (c : Clause) → IsSoundState s → IsRunning s w → c.level < length s.base.frames → All (Supports s w c.level) ps → IsShown s ps c → IsSound s.base c
   learnt_sound s w ps c h r level sup shown = record {
-    follows = record {
+    follows = follows s.base.trees s.base.frames c.level c record {
       true_wherever = λ I interprets holds.
           shown.true_wherever I interprets
           (All-weaker (Supports s w c.level) (PremiseTrue s I) (premise_true s w c.level I h r interprets holds) ps sup);
@@ -227,4 +227,5 @@ module _ (empty : EmptyClauseShowsNoModel) where
   empty_refutes s h =
       All-weaker (λ (x : Worker). All (IsSound s.base) x.own) (λ (x : Worker). All (λ (c : Clause). c.literals ≡ [] → HasNoModel (up_to c.level s.base.frames)) x.own)
       (λ x own. All-weaker (IsSound s.base) (λ (c : Clause). c.literals ≡ [] → HasNoModel (up_to c.level s.base.frames))
-      (λ c sound none. empty s.base.trees (up_to c.level s.base.frames) c.level c none (subst (λ fs. FollowsFrom s.base.trees fs c) (sym (take-take (c.level + 1) (c.level + 1) s.base.frames (omega arith))) sound.follows)) x.own own) s.workers h.own
+      (λ c sound none. empty s.base.trees (up_to c.level s.base.frames) c.level c none
+      (follows s.base.trees (up_to c.level s.base.frames) c.level c (subst (λ fs. FollowsFrom s.base.trees fs c) (sym (take-take (c.level + 1) (c.level + 1) s.base.frames (omega arith))) (follows_from s.base.trees s.base.frames c.level c sound.follows)))) x.own own) s.workers h.own

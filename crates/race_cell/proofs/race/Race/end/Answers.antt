@@ -20,6 +20,6 @@ returns g c =
     let st = g.S.Shelf.state in
     let n = c.args.self.table.shared.key.workers in
     let claims = ap (λ (z : Me g.row.S.Denot (View g.row.S.Denot)). z.0.claims) c.gather-seat.ensures.claims in
-    let all : c.loop-worker.worker ≡ n = search rules in
+    let all : c.loop-worker.worker ≡ n = let crew = c.args.self.crew in let done = c.loop-worker.auto.worker-end in omega arith in
     let last = subst (λ l. AtEnd st (of.race_base st c.args.self) n l c.close-shelf.result) claims c.close-shelf.ensures in
     ended st (of.race_base st c.args.self) n _ c.close-shelf.result c.loop-worker.shelf last c.loop-worker.invariant.same c.loop-worker.invariant.base (c.loop-worker.invariant.more ∙ ap (λ k. (st c.close-shelf.result).ended ++ numbers_from 0 k) all)
