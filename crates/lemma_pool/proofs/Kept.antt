@@ -15,6 +15,15 @@ use Rattle.race_model.specs.Race.{entries_below}
 use Rattle.race_model.specs.Laws.{IsSound, SoundAfterPush, SoundAfterAssert, SoundAfterCut, SoundWithTrees}
 use Rattle.lemma_pool.specs.Pools.{Growth, levels, members, grown, Grows, cut_base, is_one_of, IsKnown}
 
+take_all : (fs : List Frame) (n : ℕ) → n ≡ length fs → take n fs ≡ fs
+take_all [] zero e = refl
+take_all [] (suc n) e = absurd (omega arith)
+take_all (f ∷ fs) zero e = absurd (omega arith)
+take_all (f ∷ fs) (suc n) e = ap (λ gs. f ∷ gs) (take_all fs n (omega arith))
+
+pub whole : (b : Base) (n : ℕ) → n ≡ length b.frames → cut_base n b ≡ b
+whole b n e = λ i. record { trees = b.trees; frames = take_all b.frames n e i }
+
 module _ (push : SoundAfterPush) (more : SoundAfterAssert) (trees : SoundWithTrees) where
   sound_grown : (gs : List Growth) (b : Base) (c : Clause) → IsSound b c → IsSound (record b { frames = grown gs b.frames }) c
   sound_grown [] b c h = h
@@ -25,15 +34,6 @@ module _ (push : SoundAfterPush) (more : SoundAfterAssert) (trees : SoundWithTre
   sound_after b d g c h =
       subst (λ z. IsSound z c) (λ i. record { trees = sym g.trees i; frames = sym g.frames i })
       (trees (record b { frames = grown g.steps b.frames }) g.more c (sound_grown g.steps b c h))
-
-  take_all : (fs : List Frame) (n : ℕ) → n ≡ length fs → take n fs ≡ fs
-  take_all [] zero e = refl
-  take_all [] (suc n) e = absurd (omega arith)
-  take_all (f ∷ fs) zero e = absurd (omega arith)
-  take_all (f ∷ fs) (suc n) e = ap (λ gs. f ∷ gs) (take_all fs n (omega arith))
-
-  pub whole : (b : Base) (n : ℕ) → n ≡ length b.frames → cut_base n b ≡ b
-  whole b n e = λ i. record { trees = b.trees; frames = take_all b.frames n e i }
 
   -- all entries of a pool that follows a stack
   pub still_sound : (b d : Base) (n : ℕ) (es : List Entry) → Grows b d → n ≡ length d.frames → All (λ (e : Entry). IsSound b e.clause) es → All (λ (e : Entry). IsSound (cut_base n d) e.clause) es
@@ -130,3 +130,6 @@ all_known b es h = All-weaker (λ (e : Entry). IsSound b e.clause) (λ (e : Entr
 
 pub all_sound : (b : Base) (es : List Entry) → All (λ (e : Entry). IsKnown b e.clause) es → All (λ (e : Entry). IsSound b e.clause) es
 all_sound b es h = All-weaker (λ (e : Entry). IsKnown b e.clause) (λ (e : Entry). IsSound b e.clause) (λ e. sound_of b e.clause) es h
+
+pub levels_left : (n m k size : ℕ) → k ≡ min n m → n ≤ size → k ≤ size
+levels_left n m k size e le = omega arith

@@ -1,4 +1,4 @@
-ghost use Rattle.std.specs.Prelude.{◌≡◌, ◌+◌, ◌-◌, ◌≤◌, [], All, IfOk, OnOk, length, vec_len, vec_capacity};
+ghost use Rattle.std.specs.Prelude.{◌≡◌, ◌+◌, ◌-◌, ◌≤◌, [], All, IfOk, OnOk, length, min, vec_len, vec_capacity};
 ghost use Rattle.smt_meaning.specs.Stack.{depth};
 ghost use Rattle.race_model.specs.declared.event.Entry.{Entry};
 ghost use Rattle.race_model.specs.Shelves.{IsSame};
@@ -29,6 +29,19 @@ pub struct Pool<K: Framed> {
     ghost roomy: { vec_len ended + room ≤ vec_capacity ended },
     ghost standing: { levels ≤ length (K.base stack.value).frames },
     ghost known: { All (λ (e : Entry). IsKnown (cut_base levels (K.base stack.value)) e.clause) entries.items } by { Prim.hlevel props },
+}
+
+fn lesser(one: u64, other: u64) -> u64
+    ensures { result ≡ min one other }
+{
+    if one < other { one } else { other }
+}
+
+// The number of levels up to this one; at -1 there is none.
+fn levels_to(level: i32) -> u64
+    ensures { result ≡ levels_up_to level }
+{
+    if level < 0 { 0 } else { level as u64 + 1 }
 }
 
 // Copies of entries, in order.
@@ -90,7 +103,7 @@ impl<K: Framed> Pool<K> {
         ensures { IsCut count (state_of self.old) (state_of self.new) }
     {
         sound_after_cut();
-        self.levels = self.levels.min(count);
+        self.levels = lesser(self.levels, count);
         self.entries.retain(|entry| (entry.clause.level as u64) < count);
     }
 
@@ -99,15 +112,15 @@ impl<K: Framed> Pool<K> {
         requires { count ≤ depth (state_of self.old).base.frames }
         ensures { IsCut (length (state_of self.old).base.frames - count) (state_of self.old) (state_of self.new) }
     {
-        self.keep(self.levels - count as u64);
+        let kept = self.levels - count as u64;
+        self.keep(kept);
     }
 
     /// The levels up to this one stay, with their entries; at -1 none does. It takes no memory.
     pub fn cut_to(&mut self, level: i32)
         ensures { IsCut (levels_up_to level) (state_of self.old) (state_of self.new) }
     {
-        let count = if level < 0 { 0 } else { level as u64 + 1 };
-        self.keep(count);
+        self.keep(levels_to(level));
     }
 }
 

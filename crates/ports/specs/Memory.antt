@@ -1,7 +1,7 @@
 -- Sources and sinks in memory that may fail: what callers see of one, and what each call answers and leaves.
 use Rattle.std.specs.Prelude.{◌==◌, ℕ, ◌-◌, min, nat_le, Bool, if◌then◌else◌, List, ◌++◌, length, take, drop}
 use Rattle.std.specs.List.{list_any}
-use Rattle.ports.specs.Flow.{raised, more_faults, put_faults}
+use Rattle.ports.specs.Flow.{raised, raised_by, gifts, more_faults, put_faults}
 use Rattle.ports.specs.Calm.{calm_answer, moved}
 use Rattle.ports.specs.declared.More.{More}
 use Rattle.ports.specs.declared.More.TheVariants.{Failed as MoreFailed}
@@ -9,15 +9,16 @@ use Rattle.ports.specs.declared.Put.{Put}
 use Rattle.ports.specs.declared.Put.TheVariants.{Ok as PutOk, Failed as PutFailed}
 
 -- A source: the bytes still to come, the most that a call gives, the calls that fail by their
--- numbers from 1, and how many calls there were and how many failed. Both counts are of 64 bits.
+-- numbers from 1, and how many calls there were, gave a byte or more, and failed. The counts are of 64 bits.
 pub record SourceState : Type 0 where
   pub left : List ℕ
   pub piece : ℕ
   pub fails : List ℕ
   pub calls : ℕ
+  pub given : ℕ
   pub faults : ℕ
 
--- A sink: the bytes written, for how many there is room in all, and the rest as in a source.
+-- A sink: the bytes written, for how many there is room in all, and the rest as in a source, but for what a call gave.
 pub record SinkState : Type 0 where
   pub written : List ℕ
   pub room : ℕ
@@ -34,12 +35,12 @@ fails_next fails calls = list_any (λ call. call == raised calls) fails
 abbrev pub source_answer : SourceState → ℕ → More
 source_answer s room =
     if fails_next s.fails s.calls then MoreFailed
-    else calm_answer (record { left = s.left; piece = s.piece }) room
+    else calm_answer (record { left = s.left; piece = s.piece; given = s.given }) room
 
 -- The source after it gave this answer.
 abbrev pub source_after : SourceState → More → SourceState
 source_after s answer =
-    record s { left = drop (moved answer) s.left; calls = raised s.calls; faults = more_faults answer s.faults }
+    record s { left = drop (moved answer) s.left; calls = raised s.calls; given = raised_by (gifts answer) s.given; faults = more_faults answer s.faults }
 
 -- How many of this many bytes the next call takes.
 abbrev pub sink_takes : SinkState → ℕ → ℕ

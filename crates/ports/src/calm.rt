@@ -1,5 +1,5 @@
 ghost use Rattle.std.specs.Prelude.{◌≡◌, ◌≢◌, max, drop, length, take, ◌++◌, Some, None};
-ghost use Rattle.ports.specs.Flow.{Gives, GivesAtMost, MoreCause, PutCause, Takes};
+ghost use Rattle.ports.specs.Flow.{Gives, GivesAtMost, MoreCause, PutCause, RoseBy, Takes, gifts};
 ghost use Rattle.ports.specs.Calm.{calm_after, calm_answer, moved};
 
 use crate::{More, Put, Sink, Source};
@@ -11,6 +11,7 @@ pub struct CalmSource {
     bytes: Vec<u8>,
     at: usize,
     piece: usize,
+    given: u64,
 }
 
 impl Model for CalmSource {
@@ -22,6 +23,7 @@ impl Model for CalmSource {
     ghost view = { λ s. record {
       left = drop s.at s.bytes.items;
       piece = s.piece;
+      given = s.given;
     } };
 
     ghost invariant = { λ s. (s.at ≤ length s.bytes.items) × (0 < s.piece) };
@@ -33,12 +35,14 @@ impl CalmSource {
         ensures { result ≡ record {
           left = bytes.items;
           piece = max piece 1;
+          given = 0;
         } }
     {
         CalmSource {
             bytes,
             at: 0,
             piece: piece.max(1),
+            given: 0,
         }
     }
 
@@ -51,13 +55,18 @@ impl CalmSource {
 }
 
 impl Source for CalmSource {
-    ghost left = { λ s. Some s.left };
+    ghost use Rattle.std.specs.Prelude.{Some};
 
-    ghost faults = { λ _. 0 };
+    ghost told = { λ s. record {
+      left = Some s.left;
+      given = Some s.given;
+      faults = 0;
+    } };
 
     fn more(&mut self, buf: &mut [u8]) -> More
         ensures bound { GivesAtMost result (length buf.new) }
         ensures bytes { Gives (Some self.old.left) result buf.new (Some self.new.left) }
+        ensures given { RoseBy (gifts result) (Some self.old.given) (Some self.new.given) }
         ensures cause { MoreCause result 0 0 }
         ensures calm { result ≢ More.Failed }
         ensures answer { result ≡ calm_answer self.old (length buf.old) }
@@ -72,6 +81,7 @@ impl Source for CalmSource {
         let count = self.piece.min(left.len()).min(buf.len());
         buf[..count].copy_from_slice(&left[..count]);
         self.at += count;
+        self.given = self.given.saturating_add(count.min(1) as u64);
         More::Got(count)
     }
 }
@@ -81,12 +91,17 @@ impl Source for CalmSource {
 pub struct CalmSink;
 
 impl Sink for CalmSink {
-    ghost written = { λ _. None };
+    ghost use Rattle.std.specs.Prelude.{None};
 
-    ghost faults = { λ _. 0 };
+    ghost told = { λ _. record {
+      written = None;
+      calls = None;
+      faults = 0;
+    } };
 
     fn put(&mut self, _bytes: &[u8]) -> Put
         ensures bytes { Takes None result _bytes.now None }
+        ensures calls { RoseBy 1 None None }
         ensures cause { PutCause result 0 0 }
         ensures calm { result ≡ Put.Ok }
     {
