@@ -1,0 +1,4 @@
+pub mod Actions
+pub mod Rules
+pub mod Calls
+pub mod Passes

@@ -1,0 +1,4 @@
+pub mod Base
+pub mod Race
+pub mod Laws
+pub mod Shelves
