@@ -1,12 +1,12 @@
 -- What a trail says, as it grows and shrinks at its end.
 use Rattle.std.proofs.Common.{◌≡◌, ◌≢◌, ℕ, ◌+◌, ◌<◌, ◌≤◌, List, [], ◌∷◌, ◌++◌, length, get_or, set, map, Contains, subst, sym, ap, ◌∙◌, nat_le, cond, All, ◌-◌, arith, refl, inl, inr, ◌⊎◌, Bool, true, false, not}
 use Rattle.std.specs.List.{sum_by, count_by}
-use Rattle.std.proofs.lemmas.List.{map_push, length_push, get_or_push, length-set, get_or-set_same, get_or-set_other}
-use Rattle.std.proofs.lemmas.List.Elements.{Contains-append_left, Contains-push, Contains-push_cases, All-push, All-weaker, All-map, All-contains}
-use Rattle.std.proofs.lemmas.List.Sums.{sum_by-set}
+use Rattle.std.proofs.lemmas.List.{map_push, get_or-map, length-map, get_or_append_left, length_push, get_or_push, length-set, get_or-set_same, get_or-set_other}
+use Rattle.std.proofs.lemmas.List.Elements.{Contains-append_left, Contains-push, Contains-push_cases, All-push, All-weaker, All-map, All-contains, Contains-get_or}
+use Rattle.std.proofs.lemmas.List.Sums.{sum_by-set, sum_by_push}
 use Rattle.std.proofs.lemmas.List.Sorted.{IsNonDecreasingBy-push, IsNonDecreasingBy-take}
 use Rattle.std.proofs.Math.Seq.{take-append_seam}
-use Rattle.clause_store.specs.TrailInvariant.{is_unmarked, Agrees, IsFresh}
+use Rattle.clause_store.specs.TrailInvariant.{is_unmarked, Agrees, IsFresh, IsPlaced}
 use Rattle.clause_store.proofs.ListLaws.{filter_all, last_split, EachAfter-push, EachAfter-front, EachAfter-last, All-front}
 use Rattle.literals.specs.Signed.{Signed, opposite}
 use Rattle.std.specs.List.Sorted.{IsNonDecreasingBy}
@@ -16,6 +16,7 @@ use Rattle.std.proofs.lemmas.List.{append-nil}
 use Rattle.std.proofs.lemmas.List.Elements.{filter-append}
 use Rattle.clause_store.specs.Trail.{up_to, Step, Mark, Assigns, IsOpen, IsTrueOn, MarkOf, mark_by, mark_of, literals}
 use Rattle.clause_store.specs.declared.trail.Mark.TheVariants.{Open, Positive, Negative}
+use Rattle.std.proofs.Common.{None, Option}
 
 pub Assigns-push : (steps : List Step) (s : Step) (l : Signed) → Assigns steps l → Assigns (steps ++ s ∷ []) l
 Assigns-push steps s l h = rw (map_push (λ (s : Step). s.literal) steps s) (Contains-append_left (literals steps) (s.literal ∷ []) l h)
@@ -186,3 +187,91 @@ consistent steps marks depth h l p q =
     let within : All (λ (m : Signed). m.atom < length marks) (literals steps) = All-map (λ (m : Signed). m.atom < length marks) (λ (s : Step). s.literal) steps h.within in
     let lt : l.atom < length marks = All-contains (λ (m : Signed). m.atom < length marks) (literals steps) l within p in
     consistent_at steps l.atom l.positive (get_or marks l.atom Open) (h.agree l.atom Open lt) p q
+
+-- ---- more atoms
+
+none_past : (steps : List Step) (n : ℕ) (l : Signed) → All (λ (s : Step). s.literal.atom < n) steps → l.atom ≡ n → Assigns steps l → ⊥
+none_past steps n l within e h =
+    let lt : l.atom < n = All-contains (λ (m : Signed). m.atom < n) (literals steps) l (All-map (λ (m : Signed). m.atom < n) (λ (s : Step). s.literal) steps within) h in
+    absurd (omega arith)
+
+count_more : (marks : List Mark) → count_by is_unmarked (marks ++ Open ∷ []) ≡ count_by is_unmarked marks + 1
+count_more marks = sum_by_push (λ (m : Mark). cond (is_unmarked m) 1 0) marks Open
+
+below_or_last : (k n : ℕ) → k < n + 1 → (k < n) ⊎ (k ≡ n)
+below_or_last k n h = grind arith
+
+pub Agrees-more : (steps : List Step) (marks : List Mark) (depth : ℕ) → Agrees steps marks depth → Agrees steps (marks ++ Open ∷ []) depth
+Agrees-more steps marks depth h = record {
+  agree = λ a d in'. elim (below_or_last a (length marks) (omega (arith, length_push marks Open))) [
+    | inl lt ↦ rw (get_or_append_left marks (Open ∷ []) d a lt) (h.agree a d lt)
+    | inr e ↦ rw (get_or_push marks Open d a (sym e)) (none_past steps (length marks) _ h.within e, none_past steps (length marks) _ h.within e)
+  ];
+  count = omega (arith, h.count, count_more marks, length_push marks Open);
+  within = All-weaker (λ (s : Step). s.literal.atom < length marks) (λ (s : Step). s.literal.atom < length (marks ++ Open ∷ [])) (λ s lt. omega (arith, length_push marks Open)) steps h.within;
+  apart = h.apart;
+  in_order = h.in_order;
+  deepest = h.deepest;
+}
+
+pub IsPlaced-more : (steps : List Step) (places : List ℕ) (n : ℕ) → All (λ (s : Step). s.literal.atom < n) steps → IsPlaced steps places n → IsPlaced steps (places ++ 0 ∷ []) (n + 1)
+IsPlaced-more steps places n within h = record {
+  count = omega (arith, h.count, length_push places 0);
+  place = λ k d lt.
+      let low : (get_or steps k d).literal.atom < n = within k d lt in
+      rw (get_or_append_left places (0 ∷ []) 0 (get_or steps k d).literal.atom (omega (arith, h.count))) (h.place k d lt);
+}
+
+-- ---- where a step stands
+
+sign_or_other : (a b : Bool) → (a ≡ b) ⊎ (a ≡ not b)
+sign_or_other true true = inl refl
+sign_or_other true false = inr refl
+sign_or_other false true = inr refl
+sign_or_other false false = inl refl
+
+at_atom : (m l : Signed) → m.atom ≡ l.atom → (m ≡ l) ⊎ (m ≡ opposite l)
+at_atom m l e = elim (sign_or_other m.positive l.positive) [
+  | inl s ↦ inl (ap (λ (n : ℕ). let x : Signed = record { atom = n; positive = m.positive } in x) e ∙ ap (λ (b : Bool). let x : Signed = record { atom = l.atom; positive = b } in x) s)
+  | inr s ↦ inr (ap (λ (n : ℕ). let x : Signed = record { atom = n; positive = m.positive } in x) e ∙ ap (λ (b : Bool). let x : Signed = record { atom = l.atom; positive = b } in x) s)
+]
+
+step_on : (steps : List Step) (k : ℕ) (d : Step) → k < length steps → Assigns steps (get_or steps k d).literal
+step_on steps k d lt = subst (Contains (literals steps)) (get_or-map (λ (s : Step). s.literal) steps k d (get_or steps k d).literal lt) (Contains-get_or (literals steps) k (get_or steps k d).literal (omega (arith, length-map steps (λ (s : Step). s.literal))))
+
+-- the atom of an open literal is that of no step
+pub apart_where_open : (steps : List Step) (l : Signed) (k : ℕ) (d : Step) → IsOpen steps l → k < length steps → (get_or steps k d).literal.atom ≢ l.atom
+apart_where_open steps l k d o lt e =
+    elim (at_atom (get_or steps k d).literal l e) [
+      | inl s ↦ o.0 (subst (Assigns steps) s (step_on steps k d lt))
+      | inr s ↦ o.1 (subst (Assigns steps) s (step_on steps k d lt))
+    ]
+
+pub IsPlaced-push : (steps : List Step) (places : List ℕ) (n : ℕ) (s : Step) → IsOpen steps s.literal → s.literal.atom < n → IsPlaced steps places n → IsPlaced (steps ++ s ∷ []) (set places s.literal.atom (length steps)) n
+IsPlaced-push steps places n s o within h = record {
+  count = omega (arith, h.count, length-set places s.literal.atom (length steps));
+  place = λ k d in'. elim (below_or_last k (length steps) (omega (arith, length_push steps s))) [
+    | inl lt ↦ rw (get_or_append_left steps (s ∷ []) d k lt, get_or-set_other places s.literal.atom (get_or steps k d).literal.atom (length steps) 0 (apart_where_open steps s.literal k d o lt)) (h.place k d lt)
+    | inr e ↦ rw (get_or_push steps s d k (sym e), get_or-set_same places s.literal.atom (length steps) 0 (omega (arith, h.count))) (sym e)
+  ];
+}
+
+pub IsPlaced-pop : (steps : List Step) (places : List ℕ) (n : ℕ) (s : Step) → IsPlaced (steps ++ s ∷ []) places n → IsPlaced steps places n
+IsPlaced-pop steps places n s h = record {
+  count = h.count;
+  place = λ k d lt. rw (get_or_append_left steps (s ∷ []) d k lt) at (h.place k d (omega (arith, length_push steps s)));
+}
+
+-- a literal on the trail stands where its atom's place says
+pub record StandsAt (steps : List Step) (k : ℕ) (l : Signed) : Type 0 where
+  pub within : k < length steps
+  pub literal : (d : Step) → (get_or steps k d).literal ≡ l
+
+pub stands_at : (steps : List Step) (places : List ℕ) (n : ℕ) (l : Signed) → IsPlaced steps places n → Assigns steps l → StandsAt steps (get_or places l.atom 0) l
+stands_at steps places n l h on =
+    let k : ℕ = on.0 in
+    let lt : k < length steps = omega (arith, on.1, length-map steps (λ (s : Step). s.literal)) in
+    let is : (d : Step) → (get_or steps k d).literal ≡ l = λ d. sym (get_or-map (λ (s : Step). s.literal) steps k d l lt) ∙ on.2 in
+    let d : Step = record { literal = l; depth = 0; reason = None } in
+    let e : get_or places l.atom 0 ≡ k = subst (λ (m : Signed). get_or places m.atom 0 ≡ k) (is d) (h.place k d lt) in
+    subst (λ n. StandsAt steps n l) (sym e) (record { within = lt; literal = is })
