@@ -73,6 +73,24 @@ fn mark_of(literal: Literal) -> Mark
     }
 }
 
+fn status_by(mark: Mark, literal: Literal) -> Status
+    ensures { (steps : List Step) → MarkOf steps literal.atom mark → StatusOf steps literal result }
+{
+    match mark {
+        Mark::Open => Status::Open,
+        Mark::Positive => if literal.is_positive() {
+            Status::True
+        } else {
+            Status::False
+        },
+        Mark::Negative => if literal.is_positive() {
+            Status::False
+        } else {
+            Status::True
+        },
+    }
+}
+
 fn put_place(places: &mut Vec<u32>, atom: u32, place: usize)
     requires within { atom < vec_len places.old }
     requires small { place < 2 ^ 32 }
@@ -166,19 +184,7 @@ impl Trail {
         requires { literal.atom < self.now.atoms }
         ensures { StatusOf self.now.steps literal result }
     {
-        match self.marks[literal.atom() as usize] {
-            Mark::Open => Status::Open,
-            Mark::Positive => if literal.is_positive() {
-                Status::True
-            } else {
-                Status::False
-            },
-            Mark::Negative => if literal.is_positive() {
-                Status::False
-            } else {
-                Status::True
-            },
-        }
+        status_by(self.marks[literal.atom() as usize], literal)
     }
 
     pub fn atoms(&self) -> u32
