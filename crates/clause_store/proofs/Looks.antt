@@ -1,13 +1,14 @@
 -- What a look at a clause gives.
-use Rattle.std.proofs.Common.{◌≡◌, ℕ, List, All, Contains, ◌⊎◌, inl, inr, refl, subst, sym, ap, ◌∙◌}
+use Rattle.std.proofs.Common.{◌≡◌, ℕ, List, [], ◌∷◌, ◌++◌, Some, All, Contains, ◌⊎◌, inl, inr, refl, subst, sym, ap, ◌∙◌}
 use Rattle.std.proofs.lemmas.List.Elements.{All-weaker, Contains-get_or}
 use Rattle.std.proofs.lemmas.List.{get_or_default}
 use Rattle.std.proofs.Common.{get_or, length, ◌<◌, ◌≤◌, arith}
 use Rattle.literals.specs.Signed.{Signed}
 use Rattle.clause_store.specs.declared.trail.Step.{Step}
+use Rattle.clause_store.specs.Trail.{IsOpen}
 use Rattle.clause_store.specs.Stored.{IsFalseOn, AllFalse}
 use Rattle.clause_store.specs.Entries.{Entry, entry_at}
-use Rattle.clause_store.specs.Visits.{Parts, StepGives, Transfers, MovesTo, IsFoundAt, NoneBetween}
+use Rattle.clause_store.specs.Visits.{Parts, StepGives, Transfers, IsFoundAt, NoneBetween}
 use Rattle.clause_store.specs.declared.lists.Watch.{Watch}
 use Rattle.clause_store.specs.declared.sweep.Visit.{Visit}
 use Rattle.clause_store.specs.declared.sweep.Visit.TheVariants.{Keep, Gone, False, NoRoom}
@@ -34,8 +35,16 @@ pub none_at_all : (steps : List Step) (ls : List Signed) (o : Signed) (place : �
 none_at_all steps ls o place back front k d lt =
     rw (get_or_default ls k d o lt) (elim (below_or_past k place) [ inl below ↦ front.none k (omega arith) below | inr past ↦ back.none k past lt ])
 
-pub step-found : (k : ℕ) (o : Signed) (row depth : ℕ) (es es' : List Entry) (lists lists' : List (List Watch)) (steps : List Step) (v : Visit)
-    → IsFoundAt steps (entry_at es row).literals o k → MovesTo k o row es es' lists lists' v
-    → StepGives o row depth (record { entries = es; lists = lists; steps = steps }) (record { entries = es'; lists = lists'; steps = steps }) v
-step-found k o row depth es es' lists lists' steps v h t =
-    step-transfer (get_or (entry_at es row).literals k o) o row depth es es' lists lists' steps v (Contains-get_or (entry_at es row).literals k o h.within, h.apart, h.not_false) t
+pub step-implies : (o : Signed) (row depth : ℕ) (es es' : List Entry) (lists : List (List Watch)) (steps steps' : List Step) → es' ≡ es → IsOpen steps o
+    → All (λ m. (m ≡ o) ⊎ IsFalseOn steps m) (entry_at es row).literals → (let step : Step = record { literal = o; depth = depth; reason = Some row } in steps' ≡ steps ++ step ∷ [])
+    → StepGives o row depth (record { entries = es; lists = lists; steps = steps }) (record { entries = es'; lists = lists; steps = steps' }) (Keep o)
+step-implies o row depth es es' lists steps steps' e open' rest gains = (refl, inr (record { was_open = open'; rest = rest; entries = e; lists = refl; steps = gains }))
+
+pub step-false : (o : Signed) (row depth : ℕ) (es es' : List Entry) (lists : List (List Watch)) (steps : List Step) → es' ≡ es → IsFalseOn steps o → All (λ m. (m ≡ o) ⊎ IsFalseOn steps m) (entry_at es row).literals
+    → StepGives o row depth (record { entries = es; lists = lists; steps = steps }) (record { entries = es'; lists = lists; steps = steps }) False
+step-false o row depth es es' lists steps e f rest = record { same = parts_same es es' lists lists steps e refl; all_false = all_false steps o (entry_at es row).literals f rest }
+
+pub found_at : (steps : List Step) (ls : List Signed) (o : Signed) (k : ℕ) (l : Signed) → IsFoundAt steps ls o k → l ≡ get_or ls k l → Contains ls l × (l ≡ o → ⊥) × (IsFalseOn steps l → ⊥)
+found_at steps ls o k l h is =
+    let e : l ≡ get_or ls k o = is ∙ get_or_default ls k l o h.within in
+    ((k, h.within, sym is), λ same. h.apart (sym e ∙ same), λ f. h.not_false (subst (IsFalseOn steps) e f))

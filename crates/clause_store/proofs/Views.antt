@@ -1,5 +1,5 @@
 -- Entries as views of rows.
-use Rattle.std.proofs.Common.{◌≡◌, ℕ, ◌+◌, ◌<◌, ◌≤◌, List, [], ◌∷◌, ◌++◌, All, map, length, get_or, set, take, drop, ap, sym, ◌∙◌, refl, arith}
+use Rattle.std.proofs.Common.{◌≡◌, ℕ, ◌+◌, ◌<◌, ◌≤◌, List, [], ◌∷◌, ◌++◌, All, map, length, get_or, set, take, drop, ap, sym, ◌∙◌, refl, arith, false}
 use Rattle.std.proofs.lemmas.List.Elements.{All-head, All-tail, All-weaker}
 use Rattle.std.proofs.lemmas.List.{map-set, set-get_or, get_or-map, drop-append-le, take-append-le, length-drop, length-append, drop_at, take_all, map_push}
 use Rattle.literals.specs.Signed.{Signed}
@@ -14,6 +14,12 @@ pub watch-view : (ls : List Signed) (rows : List Row) (i : ℕ) (row : Row) (a b
 watch-view ls rows i row a b lt is =
     map-set (entry_of ls) rows i (record row { first = a; second = b })
     ∙ ap (λ (e : Entry). set (map (entry_of ls) rows) i (record e { first = a; second = b })) (sym (entry_at-view ls rows i row lt is))
+
+pub forget-view : (ls : List Signed) (rows : List Row) (i : ℕ) (row : Row) → i < length rows → row ≡ get_or rows i row
+    → map (entry_of ls) (set rows i (record row { live = false })) ≡ set (map (entry_of ls) rows) i (record (entry_at (map (entry_of ls) rows) i) { live = false })
+forget-view ls rows i row lt is =
+    map-set (entry_of ls) rows i (record row { live = false })
+    ∙ ap (λ (e : Entry). set (map (entry_of ls) rows) i (record e { live = false })) (sym (entry_at-view ls rows i row lt is))
 
 entry_more : (ls more : List Signed) (r : Row) → r.start + r.len ≤ length ls → entry_of (ls ++ more) r ≡ entry_of ls r
 entry_more ls more r le =

@@ -17,3 +17,4 @@ pub mod Scanning
 pub mod Rewinding
 pub mod Choosing
 pub mod Gaining
+pub mod Cutting

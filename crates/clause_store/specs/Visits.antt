@@ -67,9 +67,6 @@ pub record IsFoundAt (steps : List Step) (ls : List Signed) (o : Signed) (k : �
 pub record NoneBetween (steps : List Step) (ls : List Signed) (o : Signed) (start end' : ℕ) : Type 0 where
   pub none : (k : ℕ) → start ≤ k → k < end' → (slice_index_or ls k o ≡ o) ⊎ IsFalseOn steps (slice_index_or ls k o)
 
-abbrev pub MovesTo : ℕ → Signed → ℕ → List Entry → List Entry → List (List Watch) → List (List Watch) → Visit → Type 0
-MovesTo k o row es es' lists lists' v = Transfers (slice_index_or (entry_at es row).literals k o) o row es es' lists lists' v
-
 -- a visit of one watch of a false literal: its blocker is true, or the clause isn't watched by the literal, or a look at it
 abbrev pub IsBlocked : Watch → Parts → Parts → Visit → Type 0
 IsBlocked w old new (Keep b) = (b ≡ w.blocker) × Stays old new b

@@ -1,5 +1,5 @@
 // Which two literals of a new clause are watched.
-ghost use Rattle.std.specs.Prelude.{◌≡◌, ℕ, ◌+◌, ◌*◌, ◌^◌, ◌<◌, ◌≤◌, true, false, List, All, Contains, length, IfOk, IfSome, OnOk, OnErr};
+ghost use Rattle.std.specs.Prelude.{◌≡◌, ℕ, ◌+◌, ◌*◌, ◌^◌, ◌<◌, ◌≤◌, ◌⊎◌, true, false, List, All, Contains, length, IfOk, IfSome, OnOk, OnErr};
 ghost use Rattle.clause_store.specs.Gaining.{GainsEntry, KeepsUp};
 ghost use Rattle.literals.specs.Signed.{Signed, packed};
 ghost use Rattle.clause_store.specs.Stored.{IsFalseOn};
@@ -35,18 +35,48 @@ fn is_same(a: Literal, b: Literal) -> bool
     a == b
 }
 
-// A literal other than this one, where there is one.
-fn another(literals: &[Literal], first: Literal) -> Literal
-    requires { Contains literals.now first }
+#[derive(Clone, Copy)]
+pub struct Pick {
+    pub literal: Literal,
+    pub place: usize,
+}
+
+// The later of the best so far and this one; the first literal is the least of all.
+fn later(best: Pick, literal: Literal, first: Literal, trail: &Trail) -> Pick
+    requires known { literal.atom < trail.now.atoms }
+    requires rest { (literal ≡ first) ⊎ IsFalseOn trail.now.steps literal }
+    ensures of { (result.literal ≡ best.literal) ⊎ (result.literal ≡ literal) }
+    ensures single { first ≡ result.literal → (first ≡ best.literal) × (literal ≡ first) }
+{
+    if is_same(literal, first) {
+        return best;
+    }
+    let place = trail.place(literal.negated());
+    if is_same(best.literal, first) {
+        return Pick { literal, place };
+    }
+    if place > best.place {
+        return Pick { literal, place };
+    }
+    best
+}
+
+// A literal other than this one, where there is one: of these, which are false, the one that became so last.
+fn another(literals: &[Literal], first: Literal, trail: &Trail) -> Literal
+    requires contained { Contains literals.now first }
+    requires rest { All (λ (m : Signed). (m ≡ first) ⊎ IsFalseOn trail.now.steps m) literals.now }
+    requires known { All (λ (l : Signed). l.atom < trail.now.atoms) literals.now }
     ensures contained { Contains literals.now result }
     ensures single { first ≡ result → All (λ (m : Signed). m ≡ first) literals.now }
 {
+    let mut best = Pick {
+        literal: first,
+        place: 0,
+    };
     for literal in literals {
-        if !is_same(*literal, first) {
-            return *literal;
-        }
+        best = later(best, *literal, first, trail);
     }
-    first
+    best.literal
 }
 
 // A literal that isn't false, where there is one.
@@ -74,7 +104,7 @@ pub fn choose(literals: &[Literal], trail: &Trail) -> Choice
     match find(literals, first, trail) {
         None => Choice {
             first,
-            second: another(literals, first),
+            second: another(literals, first, trail),
             standing: Standing::Waits,
         },
         Some(second) => {

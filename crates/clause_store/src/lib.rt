@@ -2,6 +2,7 @@
 #![tactic(auto)]
 
 pub mod choose;
+pub mod cut;
 pub mod lists;
 pub mod rows;
 pub mod run;

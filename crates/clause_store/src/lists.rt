@@ -1,8 +1,11 @@
 // The watches of one literal.
-ghost use Rattle.std.specs.Prelude.{◌≡◌, ℕ, ◌<◌, List, [], ◌∷◌, ◌++◌, length, slice_index_or, slice_set, true, false, vec_len, vec_capacity};
+ghost use Rattle.std.specs.Prelude.{◌≡◌, ℕ, ◌<◌, ◌≤◌, ◌*◌, OnOk, List, [], ◌∷◌, ◌++◌, length, slice_index_or, slice_set, true, false, vec_len, vec_capacity};
 ghost use Rattle.std.specs.List.{swap_remove};
+ghost use Rattle.literals.specs.Signed.{Signed};
+ghost use Rattle.clause_store.specs.Entries.{watches_of};
 
 use literals::Literal;
+use std::alloc::{AllocError, Global};
 use std::marker::Model;
 
 // A clause, by its place, and one of its literals: where that is true the clause needs no look.
@@ -37,6 +40,15 @@ fn push_within(items: &mut Vec<Watch>, watch: Watch)
 }
 
 impl WatchList {
+    pub fn new(alloc: Global) -> WatchList
+        ensures { result ≡ [] }
+    {
+        WatchList {
+            items: Vec::new(alloc),
+            uses: 0,
+        }
+    }
+
     pub fn len(&self) -> usize
         ensures { result ≡ length self.now }
     {
@@ -88,4 +100,17 @@ impl WatchList {
             .reserve(uses.saturating_sub(self.items.len()))
             .is_ok()
     }
+}
+
+// Empty lists until there are two for each atom.
+pub fn make_lists(alloc: Global, lists: &mut Vec<WatchList>, atoms: u32) -> Result<(), AllocError>
+    ensures same { (l : Signed) → watches_of lists.new.items l ≡ watches_of lists.old.items l }
+    ensures more { vec_len lists.old ≤ vec_len lists.new }
+    ensures room { OnOk result (2 * atoms ≤ vec_len lists.new) }
+{
+    let wanted = 2 * atoms as usize;
+    while lists.len() < wanted {
+        lists.push(WatchList::new(alloc))?;
+    }
+    Ok(())
 }

@@ -3,7 +3,7 @@ ghost use Rattle.std.specs.Prelude.{◌≡◌, ℕ, ◌<◌, ◌^◌, List, [], 
 ghost use Rattle.literals.specs.Signed.{Signed};
 
 use literals::Literal;
-use std::alloc::AllocError;
+use std::alloc::{AllocError, Global};
 use std::marker::Model;
 
 #[derive(Clone, Copy)]
@@ -22,6 +22,27 @@ pub struct Row {
 pub struct Rows {
     literals: Vec<Literal>,
     rows: Vec<Row>,
+    // how often a clause was looked at
+    looks: u64,
+}
+
+// A clause that is looked at: its literals may be read.
+#[derive(Clone, Copy)]
+pub struct Looked {
+    row: u32,
+}
+
+impl Model for Looked {
+    ghost use Rattle.std.specs.Prelude.{ℕ};
+    ghost use Rattle.std.proofs.Common.{refl};
+
+    ghost Value = { ℕ };
+
+    ghost view = { λ l. l.row };
+
+    ghost inverse = { λ n. record { row = n } };
+
+    ghost inverse_ok = { λ a h. refl };
 }
 
 impl Model for Rows {
@@ -81,15 +102,64 @@ impl Rows {
         self.rows[i as usize].live
     }
 
-    // The literals of a clause.
-    pub fn literals(&self, i: u32) -> &[Literal]
+    pub fn level(&self, i: u32) -> u16
         requires { i < length self.now }
-        ensures { result.now ≡ (entry_at self.now i).literals }
+        ensures { result ≡ (entry_at self.now i).level }
     {
-        let row = self.rows[i as usize];
+        self.rows[i as usize].level
+    }
+
+    // How many literals a clause has.
+    pub fn size(&self, i: u32) -> usize
+        requires { i < length self.now }
+        ensures { result ≡ length (entry_at self.now i).literals }
+    {
+        self.rows[i as usize].len as usize
+    }
+
+    pub fn new(alloc: Global) -> Rows
+        ensures { result ≡ [] }
+    {
+        Rows {
+            literals: Vec::new(alloc),
+            rows: Vec::new(alloc),
+            looks: 0,
+        }
+    }
+
+    // How often a clause was looked at; it stands still at its greatest value.
+    pub fn looks(&self) -> u64 {
+        self.looks
+    }
+
+    // Looks at a clause, which is the one way to its literals.
+    pub fn look(&mut self, i: u32) -> Looked
+        requires { i < length self.old }
+        ensures same { self.new ≡ self.old }
+        ensures clause { result ≡ i }
+    {
+        self.looks = self.looks.saturating_add(1);
+        Looked { row: i }
+    }
+
+    // The literals of a clause that is looked at.
+    pub fn literals(&self, looked: Looked) -> &[Literal]
+        requires { looked < length self.now }
+        ensures { result.now ≡ (entry_at self.now looked).literals }
+    {
+        let row = self.rows[looked.row as usize];
         let start = row.start as usize;
         let end = start + row.len as usize;
         &self.literals[start..end]
+    }
+
+    // Keeps a clause no longer; its place stays.
+    pub fn forget(&mut self, i: u32)
+        requires { i < length self.old }
+        ensures { self.new ≡ slice_set self.old i (record (entry_at self.old i) { live = false }) }
+    {
+        let row = self.rows[i as usize];
+        self.rows[i as usize] = Row { live: false, ..row };
     }
 
     pub fn watch(&mut self, i: u32, first: Literal, second: Literal)

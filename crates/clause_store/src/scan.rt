@@ -48,16 +48,27 @@ fn look(literals: &[Literal], trail: &Trail) -> Found
     }
 }
 
+fn look_at(row: u32, rows: &mut Rows, trail: &Trail) -> Found
+    requires within { row < length rows.old }
+    requires known { All (λ (l : Signed). l.atom < trail.now.atoms) (entry_at rows.old row).literals }
+    ensures found { FoundIn trail.now.steps (entry_at rows.old row).literals result }
+    ensures same { rows.new ≡ rows.old }
+{
+    let looked = rows.look(row);
+    look(rows.literals(looked), trail)
+}
+
 // The first clause that is false, or has one literal open and the rest false.
-fn find(rows: &Rows, trail: &Trail) -> Among
-    requires known { (i : ℕ) → (entry_at rows.now i).live ≡ true → All (λ (l : Signed). l.atom < trail.now.atoms) (entry_at rows.now i).literals }
-    requires small { length rows.now < 2 ^ 32 }
-    ensures { ScanFinds trail.now.steps rows.now result }
+fn find(rows: &mut Rows, trail: &Trail) -> Among
+    requires known { (i : ℕ) → (entry_at rows.old i).live ≡ true → All (λ (l : Signed). l.atom < trail.now.atoms) (entry_at rows.old i).literals }
+    requires small { length rows.old < 2 ^ 32 }
+    ensures finds { ScanFinds trail.now.steps rows.old result }
+    ensures same { rows.new ≡ rows.old }
 {
     for i in 0..rows.len() {
         let row = i as u32;
         if rows.is_live(row) {
-            match look(rows.literals(row), trail) {
+            match look_at(row, rows, trail) {
                 Found::Quiet => {}
                 Found::Unit(literal) => return Among::Unit(literal, row),
                 Found::False => return Among::False(row),
@@ -67,12 +78,13 @@ fn find(rows: &Rows, trail: &Trail) -> Among
     Among::Quiet
 }
 
-pub fn scan(rows: &Rows, trail: &mut Trail) -> Outcome
-    requires known { (i : ℕ) → (entry_at rows.now i).live ≡ true → All (λ (l : Signed). l.atom < trail.old.atoms) (entry_at rows.now i).literals }
-    requires small { length rows.now < 2 ^ 32 }
-    ensures outcome { Outcomes trail.new.steps (kept_from 0 rows.now) result }
-    ensures grows { Grows (kept_from 0 rows.now) trail.old.depth trail.old.steps trail.new.steps }
+pub fn scan(rows: &mut Rows, trail: &mut Trail) -> Outcome
+    requires known { (i : ℕ) → (entry_at rows.old i).live ≡ true → All (λ (l : Signed). l.atom < trail.old.atoms) (entry_at rows.old i).literals }
+    requires small { length rows.old < 2 ^ 32 }
+    ensures outcome { Outcomes trail.new.steps (kept_from 0 rows.old) result }
+    ensures grows { Grows (kept_from 0 rows.old) trail.old.depth trail.old.steps trail.new.steps }
     ensures same { (trail.new.atoms ≡ trail.old.atoms) × (trail.new.depth ≡ trail.old.depth) }
+    ensures clauses { rows.new ≡ rows.old }
 {
     'scan: loop {
         match find(rows, trail) {

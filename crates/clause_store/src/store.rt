@@ -1,21 +1,23 @@
 // Kept clauses, and the literals that are decided or follow from them, by two watched literals a clause.
-ghost use Rattle.std.specs.Prelude.{◌≡◌, ℕ, ◌+◌, ◌^◌, ◌<◌, ◌≤◌, true, false, List, [], ◌∷◌, ◌++◌, All, IfSome, IfOk, OnErr, length};
-ghost use Rattle.clause_store.specs.Trail.{IsOpen, up_to};
-ghost use Rattle.clause_store.specs.declared.trail.Step.{Step};
-ghost use Rattle.literals.specs.Signed.{Signed};
-ghost use Rattle.clause_store.specs.Stored.{Kept, Propagated};
-ghost use Rattle.clause_store.specs.Found.{Outcomes};
+ghost use Rattle.std.specs.Prelude.{◌≡◌, ℕ, ◌+◌, ◌^◌, ◌<◌, ◌≤◌, true, false, List, [], ◌∷◌, ◌++◌, All, IfSome, IfOk, OnOk, OnErr, Some, length, max, slice_index_or};
+ghost use Rattle.clause_store.specs.Trail.{Assigns, IsOpen, StatusOf, up_to};
+ghost use Rattle.clause_store.specs.Each.{EachAfter};
+ghost use Rattle.clause_store.specs.TrailInvariant.{IsFresh};
+ghost use Rattle.literals.specs.Signed.{Signed, opposite};
+ghost use Rattle.clause_store.specs.Stored.{Kept, HaveOwnIds, IsJustified, Propagated, without, up_to_level};
+ghost use Rattle.clause_store.specs.Found.{HasKept, HasLevel, Outcomes};
 
 use crate::choose::{keep_up, make_room};
-use crate::lists::WatchList;
-use crate::rows::Rows;
+use crate::cut::cut_rows;
+use crate::lists::{WatchList, make_lists};
+use crate::rows::{Looked, Rows};
 use crate::run::{Reached, drive};
 use crate::scan::scan;
-use crate::trail::Trail;
-use crate::undo::rewind;
-use crate::waits::{Save, Wait};
+use crate::trail::{Status, Step, Trail};
+use crate::undo::{calm, rewind};
+use crate::waits::{Save, Wait, drop_of};
 use literals::Literal;
-use std::alloc::AllocError;
+use std::alloc::{AllocError, Global};
 use std::marker::Model;
 
 // What propagation ends with: nothing left to follow, or a kept clause, by its id, all of whose literals are false.
@@ -27,6 +29,7 @@ pub enum Outcome {
 
 #[derive(Drop)]
 pub struct Store {
+    alloc: Global,
     rows: Rows,
     lists: Vec<WatchList>,
     spare: WatchList,
@@ -96,7 +99,7 @@ impl Store {
         ensures reached { Propagated self.old self.new }
         ensures outcome { Outcomes self.new.trail.steps self.new.clauses result }
     {
-        scan(&self.rows, &mut self.trail)
+        scan(&mut self.rows, &mut self.trail)
     }
 
     pub fn propagate(&mut self) -> Outcome
@@ -218,5 +221,168 @@ impl Store {
             return self.add_loose(literals, level);
         }
         self.add_watched(literals, level)
+    }
+
+    pub fn new(alloc: Global) -> Store
+        ensures { result ≡ record { clauses = []; trail = record { steps = []; atoms = 0; depth = 0 } } }
+    {
+        Store {
+            alloc,
+            rows: Rows::new(alloc),
+            lists: Vec::new(alloc),
+            spare: WatchList::new(alloc),
+            trail: Trail::new(alloc),
+            head: 0,
+            saves: Vec::new(alloc),
+            waiting: Vec::new(alloc),
+            loose: false,
+        }
+    }
+
+    // Knows so many atoms; no other call takes memory but `add`.
+    pub fn reserve(&mut self, atoms: u32) -> Result<(), AllocError>
+        ensures reserved { OnOk result (self.new ≡ record self.old { trail = record { steps = self.old.trail.steps; atoms = max self.old.trail.atoms atoms; depth = self.old.trail.depth } }) }
+        ensures same { OnErr result (self.new ≡ self.old) }
+    {
+        make_lists(self.alloc, &mut self.lists, atoms)?;
+        self.saves
+            .reserve((atoms as usize).saturating_sub(self.saves.len()))?;
+        self.trail.reserve(atoms)
+    }
+
+    // How many atoms it knows.
+    pub fn atoms(&self) -> u32
+        ensures atoms { result ≡ self.now.trail.atoms }
+        ensures few { result ≤ 2 ^ 31 }
+    {
+        self.trail.atoms()
+    }
+
+    // The id that the next clause gets.
+    pub fn next_id(&self) -> u64
+        ensures { All (λ (c : Kept). c.id < result) self.now.clauses }
+    {
+        self.rows.len() as u64
+    }
+
+    // The number of decisions.
+    pub fn depth(&self) -> u32
+        ensures { result ≡ self.now.trail.depth }
+    {
+        self.trail.depth()
+    }
+
+    pub fn status(&self, literal: Literal) -> Status
+        requires { literal.atom < self.now.trail.atoms }
+        ensures { StatusOf self.now.trail.steps literal result }
+    {
+        self.trail.status(literal)
+    }
+
+    // How many steps more there is room for, where a literal is open.
+    pub fn room(&self, literal: Literal) -> usize
+        requires known { literal.atom < self.now.trail.atoms }
+        requires is_open { IsOpen self.now.trail.steps literal }
+        ensures steps { length self.now.trail.steps + result ≡ self.now.trail.atoms }
+        ensures room { 0 < result }
+    {
+        self.trail.room(literal)
+    }
+
+    // Where on the trail a literal stands.
+    pub fn place(&self, literal: Literal) -> usize
+        requires known { literal.atom < self.now.trail.atoms }
+        requires assigned { Assigns self.now.trail.steps literal }
+        ensures within { result < length self.now.trail.steps }
+        ensures literal { (d : Step) → (slice_index_or self.now.trail.steps result d).literal ≡ literal }
+    {
+        self.trail.place(literal)
+    }
+
+    pub fn steps(&self) -> &[Step]
+        ensures steps { result.now ≡ self.now.trail.steps }
+        ensures known { All (λ (s : Step). s.literal.atom < self.now.trail.atoms) self.now.trail.steps }
+        ensures room { length self.now.trail.steps ≤ self.now.trail.atoms }
+        ensures justified { EachAfter (IsJustified self.now.clauses) self.now.trail.steps }
+        ensures unique { HaveOwnIds self.now.clauses }
+        ensures fresh { EachAfter IsFresh self.now.trail.steps }
+        ensures consistent { (l : Signed) → Assigns self.now.trail.steps l → Assigns self.now.trail.steps (opposite l) → ⊥ }
+    {
+        self.trail.steps()
+    }
+
+    pub fn is_kept(&self, id: u64) -> bool
+        ensures yes { result ≡ true → HasKept self.now.clauses id (λ ls. Unit {0}) }
+        ensures no { result ≡ false → HasKept self.now.clauses id (λ ls. Unit {0}) → ⊥ }
+    {
+        if id >= self.rows.len() as u64 {
+            return false;
+        }
+        self.rows.is_live(id as u32)
+    }
+
+    pub fn level(&self, id: u64) -> u16
+        requires { HasKept self.now.clauses id (λ ls. Unit {0}) }
+        ensures { HasLevel self.now.clauses id result }
+    {
+        self.rows.level(id as u32)
+    }
+
+    // How many literals a kept clause has.
+    pub fn size(&self, id: u64) -> usize
+        requires { HasKept self.now.clauses id (λ ls. Unit {0}) }
+        ensures { HasKept self.now.clauses id (λ ls. result ≡ length ls) }
+    {
+        self.rows.size(id as u32)
+    }
+
+    // Looks at a kept clause, which is the one way to its literals.
+    pub fn look(&mut self, id: u64) -> Looked
+        requires { HasKept self.old.clauses id (λ ls. Unit {0}) }
+        ensures same { self.new ≡ self.old }
+        ensures clause { result ≡ id }
+    {
+        self.rows.look(id as u32)
+    }
+
+    // The literals of a kept clause that is looked at.
+    pub fn literals(&self, looked: Looked) -> &[Literal]
+        requires { HasKept self.now.clauses looked (λ ls. Unit {0}) }
+        ensures { HasKept self.now.clauses looked (λ ls. result.now ≡ ls) }
+    {
+        self.rows.literals(looked)
+    }
+
+    // How often a clause was looked at; it stands still at its greatest value.
+    pub fn looks(&self) -> u64 {
+        self.rows.looks()
+    }
+
+    // Keeps a clause no longer.
+    pub fn forget(&mut self, id: u64)
+        requires kept { HasKept self.old.clauses id (λ ls. Unit {0}) }
+        requires unused { All (λ (s : Step). s.reason ≡ Some id → ⊥) self.old.trail.steps }
+        ensures { self.new ≡ record self.old { clauses = without id self.old.clauses } }
+    {
+        let row = id as u32;
+        self.rows.forget(row);
+        drop_of(&mut self.waiting, row);
+    }
+
+    // Takes back all steps, and keeps the clauses up to this level.
+    pub fn cut_to(&mut self, level: i32)
+        ensures { self.new ≡ record { clauses = up_to_level level self.old.clauses; trail = record { steps = []; atoms = self.old.trail.atoms; depth = 0 } } }
+    {
+        self.trail.clear();
+        cut_rows(&mut self.rows, level);
+        self.saves.clear();
+        self.waiting.clear();
+        self.head = 0;
+        if self.loose {
+            return;
+        }
+        if calm(&self.rows, &self.trail, 0, &mut self.waiting).is_none() {
+            self.loose = true;
+        }
     }
 }

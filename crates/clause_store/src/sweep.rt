@@ -6,7 +6,7 @@ ghost use Rattle.clause_store.specs.Stored.{IsFalseOn};
 ghost use Rattle.clause_store.specs.Entries.{entry_at, IsKnown};
 ghost use Rattle.clause_store.specs.Watching.{IsWatching, Grows, kept_from};
 ghost use Rattle.clause_store.specs.Sweeps.{SweptGives};
-ghost use Rattle.clause_store.specs.Visits.{VisitGives, StepGives, Transfers, MovesTo, IsFoundAt, NoneBetween, Parts};
+ghost use Rattle.clause_store.specs.Visits.{VisitGives, StepGives, Transfers, IsFoundAt, NoneBetween, Parts};
 
 use crate::lists::{Watch, WatchList};
 use crate::rows::Rows;
@@ -106,6 +106,26 @@ fn seek_from(literals: &[Literal], place: usize, other: Literal, trail: &Trail) 
     }
 }
 
+// Looks at a clause for a literal that isn't false, and isn't this other one.
+fn look_for(row: u32, other: Literal, rows: &mut Rows, trail: &Trail) -> Option<Literal>
+    requires place { row < length rows.old }
+    requires known { All (λ (l : Signed). l.atom < trail.now.atoms) (entry_at rows.old row).literals }
+    ensures same { rows.new ≡ rows.old }
+    ensures some { IfSome result (λ l. Contains (entry_at rows.old row).literals l × (l ≡ other → ⊥) × (IsFalseOn trail.now.steps l → ⊥)) }
+    ensures none { IfNone result (All (λ m. (m ≡ other) ⊎ IsFalseOn trail.now.steps m) (entry_at rows.old row).literals) }
+{
+    let looked = rows.look(row);
+    let place = rows.place(row);
+    match seek_from(rows.literals(looked), place, other, trail) {
+        None => None,
+        Some(k) => {
+            let found = rows.literals(looked)[k];
+            rows.go_on(row, k);
+            Some(found)
+        }
+    }
+}
+
 // Looks at one watch of a literal that is false.
 fn look_at(
     f: Literal,
@@ -155,30 +175,18 @@ fn step(
 {
     match trail.status(other) {
         Status::True => Visit::Keep(other),
-        Status::Open => match seek_from(rows.literals(row), rows.place(row), other, trail) {
-            Some(k) => move_to(k, other, row, rows, lists),
+        Status::Open => match look_for(row, other, rows, trail) {
+            Some(found) => transfer(found, other, row, rows, lists),
             None => {
                 trail.assign(other, Some(row as u64));
                 Visit::Keep(other)
             }
         },
-        Status::False => match seek_from(rows.literals(row), rows.place(row), other, trail) {
-            Some(k) => move_to(k, other, row, rows, lists),
+        Status::False => match look_for(row, other, rows, trail) {
+            Some(found) => transfer(found, other, row, rows, lists),
             None => Visit::False,
         },
     }
-}
-
-// Watches the clause by its literal at this place and the other.
-fn move_to(k: usize, other: Literal, row: u32, rows: &mut Rows, lists: &mut [WatchList]) -> Visit
-    requires place { row < length rows.old }
-    requires at { k < length (entry_at rows.old row).literals }
-    requires list { All (λ (l : Signed). packed l < length lists.old) (entry_at rows.old row).literals }
-    ensures { MovesTo k other row rows.old rows.new lists.old lists.new result }
-{
-    let found = rows.literals(row)[k];
-    rows.go_on(row, k);
-    transfer(found, other, row, rows, lists)
 }
 
 // Watches the clause by two other literals.

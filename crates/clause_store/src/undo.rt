@@ -39,7 +39,7 @@ fn calm_one(rows: &Rows, trail: &Trail, i: u32, waiting: &mut Vec<Wait>) -> Opti
     Some(is_false(trail, second))
 }
 
-fn calm(rows: &Rows, trail: &Trail, start: u32, waiting: &mut Vec<Wait>) -> Option<bool>
+pub fn calm(rows: &Rows, trail: &Trail, start: u32, waiting: &mut Vec<Wait>) -> Option<bool>
     requires watching { (lists : List (List Watch)) × IsWatching trail.now.atoms rows.now lists }
     requires small { length rows.now < 2 ^ 32 }
     ensures { IfSome result (λ b. AllCalm rows.now trail.now.steps start (length rows.now) waiting.old.items waiting.new.items b) }

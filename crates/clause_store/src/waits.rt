@@ -72,6 +72,21 @@ pub fn drop_from(waiting: &mut Vec<Wait>, bound: u32)
     }
 }
 
+// Takes out those of a clause.
+pub fn drop_of(waiting: &mut Vec<Wait>, row: u32)
+    ensures keeps { (w : Wait) → Contains waiting.old.items w → (w.row ≡ row → ⊥) → Contains waiting.new.items w }
+    ensures only { (w : Wait) → Contains waiting.new.items w → Contains waiting.old.items w × (w.row ≡ row → ⊥) }
+{
+    let mut k = 0;
+    'waits: while k < waiting.len() {
+        if waiting[k].row == row {
+            waiting.swap_remove(k);
+        } else {
+            k += 1;
+        }
+    }
+}
+
 // Adds one where that takes no memory.
 pub fn wait_in_room(waiting: &mut Vec<Wait>, wait: Wait) -> bool
     ensures added { result ≡ true → waiting.new.items ≡ waiting.old.items ++ wait ∷ [] }

@@ -4,4 +4,7 @@ use Rattle.clause_store.specs.Entries.{entry_at}
 use Rattle.clause_store.proofs.scan.find.Given as goal
 
 abbrev pub invariant-loop-i : goal.invariant-loop-i
-invariant-loop-i l = (k : ℕ) → k < l.i → (entry_at l.rows k).live ≡ true → IsQuiet l.trail.steps (entry_at l.rows k).literals
+invariant-loop-i l = record {
+  same : l.rows ≡ l.initial.rows;
+  quiet : (k : ℕ) → k < l.i → (entry_at l.initial.rows k).live ≡ true → IsQuiet l.trail.steps (entry_at l.initial.rows k).literals;
+}

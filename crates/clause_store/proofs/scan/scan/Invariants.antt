@@ -4,9 +4,10 @@ use Rattle.clause_store.proofs.scan.scan.Given as goal
 
 abbrev pub invariant-scan : goal.invariant-scan
 invariant-scan l = record {
-  grows : Grows (kept_from 0 l.rows) l.initial.trail.depth l.initial.trail.steps l.trail.steps;
+  grows : Grows (kept_from 0 l.initial.rows) l.initial.trail.depth l.initial.trail.steps l.trail.steps;
   atoms : l.trail.atoms ≡ l.initial.trail.atoms;
   depth : l.trail.depth ≡ l.initial.trail.depth;
+  same : l.rows ≡ l.initial.rows;
 }
 
 abbrev pub decreases-scan : goal.decreases-scan

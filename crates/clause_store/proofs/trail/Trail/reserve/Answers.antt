@@ -13,8 +13,7 @@ invariant_of-self-2 c =
     let count : length i.marks.items ≡ vec_len c.reserve.new.self = omega (arith, i.marks.ok, c.in_ok-reserve.ensures.len) in
     let placed : IsPlaced i.steps.items c.reserve-2.new.self.items (vec_len c.reserve.new.self) =
     subst (λ ps. IsPlaced i.steps.items ps (vec_len c.reserve.new.self)) (sym places) (subst (λ n. IsPlaced i.steps.items i.places.items n) count c.self.invariant.3) in
-    let len : length o.new.marks.items ≡ c.args.atoms = omega (arith, o.ensures.count, o.new.marks.ok) in
-    (
+    let len : length o.new.marks.items ≡ c.args.atoms = omega (arith, o.ensures.count, o.new.marks.ok) in (
       subst (λ ss. Agrees ss o.new.marks.items i.depth) (sym steps) (o.ensures.agrees i.steps.items i.depth agrees),
       omega (arith, c.in_ok-reserve-3.ensures.ok, c.in_ok-reserve-3.ensures.len),
       omega arith,
