@@ -14,3 +14,4 @@ pub mod Depths
 pub mod Stores
 pub mod Undoing
 pub mod Adding
+pub mod Fewer

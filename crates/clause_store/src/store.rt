@@ -8,7 +8,7 @@ ghost use Rattle.clause_store.specs.Stored.{Kept, HaveOwnIds, IsJustified, Propa
 ghost use Rattle.clause_store.specs.Found.{HasKept, HasLevel, Outcomes};
 
 use crate::choose::{keep_up, make_room};
-use crate::cut::cut_rows;
+use crate::cut::cut_to;
 use crate::lists::{WatchList, make_lists};
 use crate::rows::{Looked, Rows};
 use crate::run::{Reached, drive};
@@ -374,7 +374,7 @@ impl Store {
         ensures { self.new ≡ record { clauses = up_to_level level self.old.clauses; trail = record { steps = []; atoms = self.old.trail.atoms; depth = 0 } } }
     {
         self.trail.clear();
-        cut_rows(&mut self.rows, level);
+        cut_to(&mut self.rows, level);
         self.saves.clear();
         self.waiting.clear();
         self.head = 0;
