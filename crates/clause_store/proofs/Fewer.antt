@@ -400,6 +400,15 @@ Rested-cut atoms es lists ws b w h = record {
   waiting_lower = λ d lt w c below. absurd (omega arith);
 }
 
+pub tight-cut : (es es' : List Entry) (lists : List (List Watch)) (t t' : Assigned) (ws : List Wait) (b : Bool) → IsFewer es es' → t'.steps ≡ [] → t'.atoms ≡ t.atoms → t'.depth ≡ 0 → AllCalm es' [] 0 (length es') [] ws b
+    → IsWatching t.atoms es lists → IsTight es' lists t' 0 [] ws
+tight-cut es es' lists t t' ws b f steps atoms depth calm w =
+    let watch : IsWatching t.atoms es' lists = IsWatching-fewer t.atoms es es' lists f w in
+    record {
+      watch = subst (λ n. IsWatching n es' lists) (sym atoms) watch;
+      rested = subst (λ ss. Rested es' ss t'.depth 0 [] ws) (sym steps) (subst (λ d. Rested es' [] d 0 [] ws) (sym depth) (Rested-cut t.atoms es' lists ws b watch calm));
+    }
+
 pub IsKept-cut : (es es' : List Entry) (lists : List (List Watch)) (t t' : Assigned) (head : ℕ) (saves : List Save) (ws ws' : List Wait) (loose loose' : Bool) → IsFewer es es' → t'.steps ≡ [] → t'.atoms ≡ t.atoms
     → (loose' ≡ false → IsTight es' lists t' 0 [] ws') → IsKept es lists t head saves ws loose → IsKept es' lists t' 0 [] ws' loose'
 IsKept-cut es es' lists t t' head saves ws ws' loose loose' f steps atoms tight h = record {

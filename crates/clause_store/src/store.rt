@@ -247,7 +247,8 @@ impl Store {
         make_lists(self.alloc, &mut self.lists, atoms)?;
         self.saves
             .reserve((atoms as usize).saturating_sub(self.saves.len()))?;
-        self.trail.reserve(atoms)
+        self.trail.reserve(atoms)?;
+        Ok(())
     }
 
     // How many atoms it knows.
@@ -358,13 +359,21 @@ impl Store {
         self.rows.looks()
     }
 
+    fn row_of(&self, id: u64) -> u32
+        requires { HasKept self.now.clauses id (λ ls. Unit {0}) }
+        ensures { result ≡ id }
+    {
+        let _rows = self.rows.len();
+        id as u32
+    }
+
     // Keeps a clause no longer.
     pub fn forget(&mut self, id: u64)
         requires kept { HasKept self.old.clauses id (λ ls. Unit {0}) }
         requires unused { All (λ (s : Step). s.reason ≡ Some id → ⊥) self.old.trail.steps }
         ensures { self.new ≡ record self.old { clauses = without id self.old.clauses } }
     {
-        let row = id as u32;
+        let row = self.row_of(id);
         self.rows.forget(row);
         drop_of(&mut self.waiting, row);
     }
@@ -381,8 +390,9 @@ impl Store {
         if self.loose {
             return;
         }
-        if calm(&self.rows, &self.trail, 0, &mut self.waiting).is_none() {
-            self.loose = true;
+        match calm(&self.rows, &self.trail, 0, &mut self.waiting) {
+            Some(_) => {}
+            None => self.loose = true,
         }
     }
 }

@@ -1,0 +1,20 @@
+use Rattle.std.proofs.Common.{◌≡◌, ◌<◌, ◌^◌, List, All, length, subst, sym, ap, ◌∙◌, true, false, arith}
+use Rattle.literals.specs.Signed.{Signed}
+use Rattle.clause_store.specs.Stored.{Kept, Stored}
+use Rattle.clause_store.specs.Found.{HasKept, HasLevel}
+use Rattle.clause_store.specs.Entries.{Entry, entry_at}
+use Rattle.clause_store.specs.Watching.{kept_from}
+use Rattle.clause_store.proofs.Fewer.{HasLive, has_live, live_kept}
+use Rattle.clause_store.proofs.store.Store.literals.Goals as goal
+
+pub literals-requires : goal.literals-requires
+literals-requires c =
+    let i = c.self.inside in
+    let h : HasLive i.rows c.args.looked (λ ls. Unit {0}) = has_live i.rows c.args.looked (λ ls. Unit {0}) (rw (← c.self.view_is) at c.requires) in
+    h.within
+
+pub returns : goal.returns
+returns c =
+    let i = c.self.inside in
+    let h : HasLive i.rows c.args.looked (λ ls. Unit {0}) = has_live i.rows c.args.looked (λ ls. Unit {0}) (rw (← c.self.view_is) at c.requires) in
+    rw (← c.self.view_is) (live_kept i.rows c.args.looked (λ ls. c.literals.result.now ≡ ls) h.live c.literals.ensures)
