@@ -9,6 +9,8 @@ pub mod run;
 pub mod scan;
 pub mod store;
 pub mod sweep;
+#[cfg(test)]
+mod tests;
 pub mod trail;
 pub mod undo;
 pub mod waits;
