@@ -1,17 +1,17 @@
 -- Fewer clauses, and clauses by their ids.
-use Rattle.std.proofs.Common.{◌≡◌, ◌≢◌, ℕ, ◌+◌, ◌*◌, ◌^◌, ◌<◌, ◌≤◌, ◌==◌, zero, suc, Bool, true, false, not, ◌&&◌, List, [], ◌∷◌, ◌++◌, All, Contains, length, get_or, set, take, filter, map, subst, sym, ap, ◌∙◌, refl, inl, inr, ◌⊎◌, arith, Some, None, zero-add, add-zero, eq-eqb, ℤ, pos, int_le, nat_lt}
+use Rattle.std.proofs.Common.{◌≡◌, ◌≢◌, ℕ, ◌+◌, ◌*◌, ◌^◌, ◌<◌, ◌≤◌, ◌==◌, zero, suc, Bool, true, false, not, ◌&&◌, List, [], ◌∷◌, ◌++◌, All, Contains, length, get_or, set, take, filter, subst, sym, ap, ◌∙◌, refl, inl, inr, ◌⊎◌, arith, Some, zero-add, add-zero, eq-eqb, ℤ, pos, int_le, nat_lt}
 use Rattle.std.proofs.lemmas.Bool.Decides.{nat_tests}
 use Rattle.std.proofs.lemmas.List.{length-set, get_or_default, get_or_past}
 use Rattle.std.proofs.lemmas.List.Elements.{All-contains, All-weaker, All-nil, Contains-append_cases, Contains-push_cases}
 use Rattle.literals.specs.Signed.{Signed, opposite, packed}
 use Rattle.clause_store.specs.Assigned.{Assigned}
 use Rattle.clause_store.specs.Each.{EachAfter}
-use Rattle.clause_store.specs.Trail.{Assigns, up_to}
+use Rattle.clause_store.specs.Trail.{up_to}
 use Rattle.clause_store.specs.declared.trail.Step.{Step}
-use Rattle.clause_store.specs.Stored.{Kept, Stored, IsFalseOn, IsForced, IsJustified, HaveOwnIds, without, up_to_level}
+use Rattle.clause_store.specs.Stored.{Kept, IsFalseOn, IsForced, IsJustified, HaveOwnIds, without, up_to_level}
 use Rattle.clause_store.specs.Found.{HasKept, HasLevel}
 use Rattle.clause_store.specs.Entries.{Entry, entry_at, no_entry, watches_of, IsKnown}
-use Rattle.clause_store.specs.Watching.{IsWatching, IsPair, IsListed, IsSound, IsAwake, IsSettled, kept_from, kept_of}
+use Rattle.clause_store.specs.Watching.{IsWatching, IsPair, IsListed, IsSound, IsSettled, kept_from, kept_of}
 use Rattle.clause_store.specs.Rested.{Rested, IsWaiting, Waits, OthersFalse, save_at}
 use Rattle.clause_store.specs.Rewinding.{AllCalm}
 use Rattle.clause_store.specs.Cutting.{IsCut, IsFewer, cut_entry}

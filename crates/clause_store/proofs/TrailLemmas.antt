@@ -1,5 +1,5 @@
 -- What a trail says, as it grows and shrinks at its end.
-use Rattle.std.proofs.Common.{◌≡◌, ◌≢◌, ℕ, ◌+◌, ◌<◌, ◌≤◌, List, [], ◌∷◌, ◌++◌, length, get_or, set, map, Contains, subst, sym, ap, ◌∙◌, nat_le, cond, All, ◌-◌, arith, refl, inl, inr, ◌⊎◌, Bool, true, false, not}
+use Rattle.std.proofs.Common.{◌≡◌, ◌≢◌, ℕ, ◌+◌, ◌<◌, ◌≤◌, List, [], ◌∷◌, ◌++◌, length, get_or, set, Contains, subst, sym, ap, ◌∙◌, nat_le, cond, All, ◌-◌, arith, refl, inl, inr, ◌⊎◌, Bool, true, false, not}
 use Rattle.std.specs.List.{sum_by, count_by}
 use Rattle.std.proofs.lemmas.List.{map_push, get_or-map, length-map, get_or_append_left, length_push, get_or_push, length-set, get_or-set_same, get_or-set_other}
 use Rattle.std.proofs.lemmas.List.Elements.{Contains-append_left, Contains-push, Contains-push_cases, All-push, All-weaker, All-map, All-contains, Contains-get_or}
@@ -16,7 +16,7 @@ use Rattle.std.proofs.lemmas.List.{append-nil}
 use Rattle.std.proofs.lemmas.List.Elements.{filter-append}
 use Rattle.clause_store.specs.Trail.{up_to, Step, Mark, Assigns, IsOpen, IsTrueOn, MarkOf, mark_by, mark_of, literals}
 use Rattle.clause_store.specs.declared.trail.Mark.TheVariants.{Open, Positive, Negative}
-use Rattle.std.proofs.Common.{None, Option}
+use Rattle.std.proofs.Common.{None}
 
 pub Assigns-push : (steps : List Step) (s : Step) (l : Signed) → Assigns steps l → Assigns (steps ++ s ∷ []) l
 Assigns-push steps s l h = rw (map_push (λ (s : Step). s.literal) steps s) (Contains-append_left (literals steps) (s.literal ∷ []) l h)

@@ -1,5 +1,5 @@
 -- What forgetting clauses leaves.
-use Rattle.std.specs.Prelude.{◌≡◌, ℕ, ◌<◌, ◌≤◌, nat_lt, Bool, true, ◌&&◌, List, length}
+use Rattle.std.specs.Prelude.{◌≡◌, ℕ, ◌<◌, ◌≤◌, nat_lt, true, ◌&&◌, List, length}
 use Rattle.clause_store.specs.Entries.{Entry, entry_at}
 
 -- the entry, live only where its level is below this

@@ -1,4 +1,4 @@
-use Rattle.std.proofs.Common.{◌≡◌, ◌⊎◌, All, Contains, subst, sym, arith, inl, inr}
+use Rattle.std.proofs.Common.{◌≡◌, All, Contains, subst, sym, arith, inl, inr}
 use Rattle.literals.specs.Signed.{Signed}
 use Rattle.clause_store.proofs.Loops.{take_whole, All-grown, item_in}
 use Rattle.clause_store.proofs.choose.another.Goals as goal

@@ -1,4 +1,4 @@
-use Rattle.std.proofs.Common.{◌≡◌, ℕ, nat_lt, int_le, pos, to_z, of_z, w32, subst}
+use Rattle.std.proofs.Common.{◌≡◌, ℕ, nat_lt, int_le, pos, w32}
 use Rattle.std.proofs.lemmas.Int.{to_z-of_z}
 use Rattle.clause_store.proofs.Fewer.{Fewer-cut, kept_from-cut}
 use Rattle.clause_store.proofs.cut.cut_to.Goals as goal

@@ -1,4 +1,4 @@
-use Rattle.std.proofs.Common.{◌≡◌, ◌<◌, List, true, false, length, subst, sym, ◌∙◌, ap, arith, inl, inr}
+use Rattle.std.proofs.Common.{◌≡◌, ◌<◌, List, true, false, length, subst, sym, ◌∙◌, arith, inl, inr}
 use Rattle.clause_store.specs.Stored.{IsQuiet, AllFalse}
 use Rattle.clause_store.specs.Found.{FoundIn}
 use Rattle.clause_store.specs.Entries.{Entry, entry_at}

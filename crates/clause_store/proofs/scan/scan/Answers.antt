@@ -1,8 +1,6 @@
-use Rattle.std.proofs.Common.{refl, ◌∙◌, subst}
+use Rattle.std.proofs.Common.{refl, ◌∙◌}
 use Rattle.clause_store.specs.Stored.{IsQuiet, AllFalse}
 use Rattle.clause_store.specs.Watching.{kept_from}
-use Rattle.clause_store.specs.Scanning.{ScanFinds}
-use Rattle.clause_store.specs.declared.scan.Among.TheVariants.{Quiet, Unit as UnitClause, False}
 use Rattle.clause_store.proofs.Kept.{All-kept, has_kept, Grows-push, forced_by}
 use Rattle.clause_store.proofs.scan.scan.Goals as goal
 

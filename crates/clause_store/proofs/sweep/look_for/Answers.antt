@@ -1,8 +1,4 @@
-use Rattle.std.proofs.Common.{◌≡◌, ◌<◌, ◌⊎◌, All, Contains, get_or, length, subst, sym, ap, ◌∙◌}
-use Rattle.std.specs.Prelude.{IfSome, IfNone}
-use Rattle.std.proofs.lemmas.List.{get_or_default}
-use Rattle.literals.specs.Signed.{Signed}
-use Rattle.clause_store.specs.Stored.{IsFalseOn}
+use Rattle.std.proofs.Common.{◌≡◌, get_or}
 use Rattle.clause_store.specs.Entries.{entry_at}
 use Rattle.clause_store.specs.Visits.{IsFoundAt}
 use Rattle.clause_store.proofs.Looks.{found_at}

@@ -1,11 +1,9 @@
-use Rattle.std.proofs.Common.{◌≡◌, ◌≤◌, ◌<◌, ◌^◌, ℕ, List, [], length, subst, sym, ap, ◌∙◌, refl, true, false, Bool, arith}
+use Rattle.std.proofs.Common.{◌≡◌, List, [], length, subst, sym, ap, refl, true, false, Bool, arith}
 use Rattle.clause_store.specs.Assigned.{Assigned}
 use Rattle.clause_store.specs.declared.trail.Step.{Step}
 use Rattle.clause_store.specs.Watching.{IsWatching}
 use Rattle.clause_store.specs.Rewinding.{AllCalm}
-use Rattle.clause_store.specs.Rested.{Rested}
-use Rattle.clause_store.specs.Keeping.{IsKept, IsTight}
-use Rattle.clause_store.specs.declared.waits.Save.{Save}
+use Rattle.clause_store.specs.Keeping.{IsKept}
 use Rattle.clause_store.specs.declared.waits.Wait.{Wait}
 use Rattle.clause_store.proofs.Fewer.{IsKept-cut, IsWatching-fewer, tight-cut}
 use Rattle.clause_store.proofs.store.Store.cut_to.Goals as goal

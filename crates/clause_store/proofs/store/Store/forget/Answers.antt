@@ -1,11 +1,7 @@
-use Rattle.std.proofs.Common.{◌≡◌, ◌<◌, ◌^◌, List, All, length, subst, sym, ap, ◌∙◌, true, false, arith}
-use Rattle.literals.specs.Signed.{Signed}
+use Rattle.std.proofs.Common.{◌≡◌, List, All, ap, ◌∙◌}
 use Rattle.clause_store.specs.Stored.{Kept, Stored, without}
-use Rattle.clause_store.specs.Found.{HasKept, HasLevel}
-use Rattle.clause_store.specs.Entries.{Entry, entry_at}
 use Rattle.clause_store.specs.Watching.{kept_from}
 use Rattle.clause_store.specs.declared.trail.Step.{Step}
-use Rattle.clause_store.specs.Keeping.{IsKept}
 use Rattle.clause_store.proofs.Fewer.{HasLive, has_live, IsKept-forgotten, kept_from-forgotten, forgotten}
 use Rattle.clause_store.proofs.store.Store.forget.Goals as goal
 use Rattle.std.proofs.Common.{Some, Contains}

@@ -1,8 +1,5 @@
-use Rattle.std.proofs.Common.{◌≡◌, ◌<◌, ◌^◌, List, All, length, subst, sym, ap, ◌∙◌, true, false, arith}
-use Rattle.literals.specs.Signed.{Signed}
-use Rattle.clause_store.specs.Stored.{Kept, Stored}
-use Rattle.clause_store.specs.Found.{HasKept, HasLevel}
-use Rattle.clause_store.specs.Entries.{Entry, entry_at}
+use Rattle.std.proofs.Common.{◌<◌, All, subst, sym}
+use Rattle.clause_store.specs.Stored.{Kept}
 use Rattle.clause_store.specs.Watching.{kept_from}
 use Rattle.clause_store.proofs.Fewer.{ids_within}
 use Rattle.clause_store.proofs.store.Store.next_id.Goals as goal

@@ -1,4 +1,4 @@
-use Rattle.std.proofs.Common.{◌≡◌, ◌≤◌, ◌*◌, ℕ, length, vec_len, max, subst, sym, ap, ◌∙◌, refl, false, arith}
+use Rattle.std.proofs.Common.{◌≡◌, ◌≤◌, ◌*◌, length, max, subst, sym, ap, false, arith}
 use Rattle.clause_store.specs.Assigned.{Assigned}
 use Rattle.clause_store.specs.Keeping.{IsKept}
 use Rattle.clause_store.proofs.Fewer.{IsKept-more}

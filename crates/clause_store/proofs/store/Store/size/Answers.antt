@@ -1,9 +1,4 @@
-use Rattle.std.proofs.Common.{◌≡◌, ◌<◌, ◌^◌, List, All, length, subst, sym, ap, ◌∙◌, true, false, arith}
-use Rattle.literals.specs.Signed.{Signed}
-use Rattle.clause_store.specs.Stored.{Kept, Stored}
-use Rattle.clause_store.specs.Found.{HasKept, HasLevel}
-use Rattle.clause_store.specs.Entries.{Entry, entry_at}
-use Rattle.clause_store.specs.Watching.{kept_from}
+use Rattle.std.proofs.Common.{◌≡◌, ◌<◌, length, arith}
 use Rattle.clause_store.proofs.Fewer.{HasLive, has_live, live_kept}
 use Rattle.clause_store.proofs.store.Store.size.Goals as goal
 

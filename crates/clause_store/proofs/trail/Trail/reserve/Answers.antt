@@ -1,4 +1,4 @@
-use Rattle.std.proofs.Common.{◌≡◌, ◌+◌, ◌≤◌, ◌^◌, length, vec_len, vec_capacity, subst, sym, ap, arith}
+use Rattle.std.proofs.Common.{◌≡◌, length, vec_len, subst, sym, arith}
 use Rattle.clause_store.specs.TrailInvariant.{Agrees, IsPlaced}
 use Rattle.clause_store.proofs.trail.Trail.reserve.Goals as goal
 

@@ -1,5 +1,5 @@
 use Rattle.std.proofs.Common.{◌≡◌, ◌<◌, length, get_or, subst, sym}
-use Rattle.clause_store.specs.Trail.{MarkOf, StatusOf}
+use Rattle.clause_store.specs.Trail.{MarkOf}
 use Rattle.clause_store.proofs.trail.Trail.status.Goals as goal
 
 pub returns : goal.returns

@@ -1,4 +1,3 @@
-use Rattle.std.proofs.Common.{◌≡◌, length}
 use Rattle.clause_store.proofs.TrailLemmas.{consistent}
 use Rattle.clause_store.proofs.trail.Trail.steps.Goals as goal
 
