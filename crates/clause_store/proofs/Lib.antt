@@ -1,0 +1,17 @@
+pub mod Views
+pub mod Loops
+pub mod ListLaws
+pub mod TrailLemmas
+pub mod StoreLemmas
+pub mod Looks
+pub mod Watches
+pub mod Sweeping
+pub mod Kept
+pub mod Rounds
+pub mod Turning
+pub mod Forces
+pub mod Depths
+pub mod Stores
+pub mod Undoing
+pub mod Adding
+pub mod Fewer
