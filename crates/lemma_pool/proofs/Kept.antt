@@ -1,6 +1,6 @@
 -- What follows still does as a pool's levels come and go.
 use Rattle.std.proofs.Common.{◌≡◌, ℕ, zero, suc, ◌+◌, ◌-◌, ◌<◌, ◌≤◌, min, List, [], ◌∷◌, ◌++◌, take, length, get_or, All, Contains, Bool, true, false, eq-eqb, subst, sym, ap, ◌∙◌, refl, arith}
-use Rattle.std.specs.Prelude.{filter, nat_lt, nat_eq, IsTrue}
+use Rattle.std.specs.Prelude.{filter, nat_lt, ◌==◌, ◌||◌, IsTrue}
 use Rattle.std.proofs.lemmas.Bool.{eqb-true}
 use Rattle.std.proofs.lemmas.Bool.Decides.{nat_tests}
 use Rattle.std.proofs.lemmas.List.{length-take-le, take-take}
@@ -60,50 +60,56 @@ cut_cut b m n = λ i. record { trees = b.trees; frames = sym (take_take m n b.fr
 pub levels_kept : (b : Base) (n : ℕ) → n ≤ length b.frames → length (cut_base n b).frames ≡ n
 levels_kept b n le = length-take-le n b.frames le
 
+-- fewer levels of those that were cut before
+cut_again : (b : Base) (k n : ℕ) → k ≤ n → cut_base k b ≡ cut_base k (cut_base n b)
+cut_again b k n le = let e : min n k ≡ k = omega arith in ap (λ j. cut_base j b) (sym e) ∙ cut_cut b k n
+
+filtered : {X : Type 0} (p : X → Bool) (P Q : X → Type 0) → ((x : X) → p x ≡ true → P x → Q x) → (xs : List X) → All P xs → All Q (filter p xs)
+filtered p P Q f xs all = λ k d h. f _ (filter_passes p xs k d h) (All-filter p P xs all k d h)
+
 module _ (cut : SoundAfterCut) where
+  one_cut : (b : Base) (m n : ℕ) (c : Clause) → n ≤ length b.frames → nat_lt c.level m ≡ true → IsSound (cut_base n b) c → IsSound (cut_base (min n m) b) c
+  one_cut b m n c le below h =
+      let size = levels_kept b n le in
+      let w : c.level < length (cut_base n b).frames = h.within in
+      let lt : c.level < m = grind (arith, nat_tests) in
+      let few : min n m ≤ length (cut_base n b).frames = omega arith in
+      let inside : c.level < min n m = omega arith in
+      let least : min n m ≤ n = omega arith in
+      subst (λ z. IsSound z c) (sym (cut_again b (min n m) n least)) (cut (cut_base n b) (min n m) c inside few h)
+
   -- the entries that a cut leaves
   pub cut_sound : (b : Base) (m n : ℕ) (es : List Entry) → n ≤ length b.frames → All (λ (e : Entry). IsSound (cut_base n b) e.clause) es
       → All (λ (e : Entry). IsSound (cut_base (min n m) b) e.clause) (entries_below m es)
   cut_sound b m n es le all =
-      let size = levels_kept b n le in
-      λ k d lt. (
-      let below : nat_lt _ m ≡ true = filter_passes (λ (e : Entry). nat_lt e.clause.level m) es k d lt in
-      let was = All-filter (λ (e : Entry). nat_lt e.clause.level m) (λ (e : Entry). IsSound (cut_base n b) e.clause) es all k d lt in
-      one _ below was)
-    where
-      one : (c : Clause) → nat_lt c.level m ≡ true → IsSound (cut_base n b) c → IsSound (cut_base (min n m) b) c
-      one c below h =
-          let size = levels_kept b n le in
-          let w : c.level < length (cut_base n b).frames = h.within in
-          let lt : c.level < m = grind (arith, nat_tests) in
-          let few : min n m ≤ length (cut_base n b).frames = omega arith in
-          let inside : c.level < min n m = omega arith in
-          subst (λ z. IsSound z c) (sym (twice b (min n m) n (omega arith))) (cut (cut_base n b) (min n m) c inside few h)
-        where
-          twice : (b : Base) (k n : ℕ) → k ≤ n → cut_base k b ≡ cut_base k (cut_base n b)
-          twice b k n le = let e : min n k ≡ k = omega arith in ap (λ j. cut_base j b) (sym e) ∙ cut_cut b k n
+      filtered (λ (e : Entry). nat_lt e.clause.level m) (λ (e : Entry). IsSound (cut_base n b) e.clause) (λ (e : Entry). IsSound (cut_base (min n m) b) e.clause)
+      (λ e below h. one_cut b m n e.clause le below h) es all
 
 -- ---- the two ways to say that a clause follows
 
+one_or : (b c : Bool) → (b ≡ false → IsTrue c) → IsTrue (b || c)
+one_or true c f = refl
+one_or false c f = f refl
+
+rest_true : (b c : Bool) → b ≡ false → IsTrue (b || c) → IsTrue c
+rest_true true c e h = absurd (cc)
+rest_true false c e h = h
+
+later : (i j : ℕ) (js : List ℕ) → (i == j) ≡ false → (k : ℕ) → k < length (j ∷ js) → get_or (j ∷ js) k i ≡ i → Contains js i
+later i j js ne zero lt at = let f : (i == j) ≡ true = eq-eqb i j (sym at) in absurd (cc)
+later i j js ne (suc k) lt at = (k, omega arith, at)
+
 is_one : (i : ℕ) (js : List ℕ) → Contains js i → IsTrue (is_one_of i js)
-is_one i [] h = absurd (let lt = h.1 in omega arith)
-is_one i (j ∷ js) h = go (nat_eq i j) refl
-  where
-    go : (b : Bool) → nat_eq i j ≡ b → IsTrue (is_one_of i (j ∷ js))
-    go true e = rw e refl
-    go false e = rw e (is_one i js (later h.0 h.1 h.2))
-      where
-        later : (k : ℕ) → k < length (j ∷ js) → get_or (j ∷ js) k i ≡ i → Contains js i
-        later zero lt at = absurd (let f : nat_eq i j ≡ true = eq-eqb i j (sym at) in cc)
-        later (suc k) lt at = (k, omega arith, at)
+is_one i [] h = let lt = h.1 in absurd (omega arith)
+is_one i (j ∷ js) h = one_or (i == j) (is_one_of i js) (λ ne. is_one i js (later i j js ne h.0 h.1 h.2))
+
+placed : (i j : ℕ) (js : List ℕ) (b : Bool) → (i == j) ≡ b → (b ≡ false → Contains js i) → Contains (j ∷ js) i
+placed i j js true e f = (0, omega arith, sym (eqb-true i j e))
+placed i j js false e f = let t = f refl in (suc t.0, (let lt = t.1 in omega arith), t.2)
 
 contains : (i : ℕ) (js : List ℕ) → IsTrue (is_one_of i js) → Contains js i
 contains i [] h = absurd (cc)
-contains i (j ∷ js) h = go (nat_eq i j) refl
-  where
-    go : (b : Bool) → nat_eq i j ≡ b → Contains (j ∷ js) i
-    go true e = (0, omega arith, sym (eqb-true i j e))
-    go false e = let t = contains i js (rw e at h) in (suc t.0, (let lt = t.1 in omega arith), t.2)
+contains i (j ∷ js) h = placed i j js (i == j) refl (λ ne. contains i js (rest_true (i == j) (is_one_of i js) ne h))
 
 pub known_of : (b : Base) (c : Clause) → IsSound b c → IsKnown b c
 known_of b c h =

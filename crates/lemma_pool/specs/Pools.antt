@@ -1,5 +1,5 @@
 -- What a pool stands on, and how that grows.
-use Rattle.std.specs.Prelude.{◌≡◌, ℕ, ◌+◌, ◌<◌, Bool, false, ◌||◌, nat_eq, List, [], ◌∷◌, ◌++◌, length, take, ℤ, pos, negsuc, All, IsTrue}
+use Rattle.std.specs.Prelude.{◌≡◌, ℕ, ◌+◌, ◌<◌, Bool, false, ◌||◌, ◌==◌, List, [], ◌∷◌, ◌++◌, length, take, ℤ, pos, negsuc, All, IsTrue}
 use Rattle.smt_meaning.specs.Declaration.{Declaration}
 use Rattle.smt_meaning.specs.declared.clauses.Clause.{Clause}
 use Rattle.smt_meaning.specs.Term.{Tree, Interpretation}
@@ -56,7 +56,7 @@ levels_up_to (negsuc n) = 0
 
 abbrev pub is_one_of : ℕ → List ℕ → Bool
 is_one_of i [] = false
-is_one_of i (j ∷ js) = nat_eq i j || is_one_of i js
+is_one_of i (j ∷ js) = (i == j) || is_one_of i js
 
 -- a clause that follows from the levels up to its own, which is one of the levels
 pub record IsKnown (b : Base) (c : Clause) : Type 0 where
