@@ -60,8 +60,8 @@ unfolding ◌>>=◌ ◌>>◌ return refuse require required the_scope note found
 is_denied = record { given = 1; after = record { signature = p ∷ []; given = 1; trees = p_tree ∷ not_p ∷ [] }; judged = refl; names_are = refl }
 
 both : (b : Bool) → IsTrue b → IsTrue (not b) → ⊥
-both true h k = absurd k
-both false h k = absurd h
+both true h k = cc
+both false h k = cc
 
 no_premise_holds : (I : Interpretation) → IsTrue (truth_of (value I p_tree)) → IsTrue (truth_of (value I not_p)) → ⊥
 no_premise_holds I h k = both (truth_of (value I p_tree)) h k
@@ -104,13 +104,16 @@ supports_both =
 is_race : IsRace first (states ∷ Push 1 ∷ denies ∷ derives ∷ Share 0 refutation ∷ TakeBatch 1 ∷ Pop 1 ∷ []) s7
 is_race = (
   ((omega arith, refl), is_stated),
-  (omega arith, tt),
-  ((omega arith, refl), is_denied),
-  (((omega arith, refl), omega arith, supports_both), is_shown),
-  (((omega arith, refl), omega arith, (0, omega arith, refl)), tt),
-  ((omega arith, refl), tt),
-  (omega arith, tt),
-  refl,
+  (
+    (omega arith, tt),
+    (
+      ((omega arith, refl), is_denied),
+      (
+        (((omega arith, refl), omega arith, supports_both), is_shown),
+        ((((omega arith, refl), omega arith, (0, omega arith, refl)), tt), (((omega arith, refl), tt), ((omega arith, tt), refl))),
+      ),
+    ),
+  ),
 )
 
 -- the entries are then empty, and the mark of worker 1 is 0
