@@ -1,0 +1,210 @@
+// The literals decided or reached, in order, and the truth value that each atom has by them.
+ghost use Rattle.std.specs.Prelude.{◌≡◌, ℕ, ◌+◌, ◌^◌, ◌<◌, ◌≤◌, List, [], ◌∷◌, ◌++◌, All, take, length, vec_len, vec_capacity, slice_index_or};
+ghost use Rattle.std.specs.List.Sorted.{IsNonDecreasingBy};
+ghost use Rattle.clause_store.specs.Trail.{Assigned, IsOpen, MarkOf, Assigns, StatusOf, up_to, mark_of};
+ghost use Rattle.clause_store.specs.Each.{EachAfter};
+ghost use Rattle.clause_store.specs.TrailInvariant.{IsFresh};
+
+use literals::Literal;
+use std::alloc::{AllocError, Global};
+use std::marker::Model;
+
+#[derive(Clone, Copy)]
+pub struct Step {
+    pub literal: Literal,
+    pub depth: u32,
+    pub reason: Option<u64>,
+}
+
+#[derive(Clone, Copy)]
+pub enum Mark {
+    Open,
+    Positive,
+    Negative,
+}
+
+#[derive(Clone, Copy)]
+pub enum Status {
+    Open,
+    True,
+    False,
+}
+
+#[derive(Drop)]
+pub struct Trail {
+    steps: Vec<Step>,
+    marks: Vec<Mark>,
+    depth: u32,
+}
+
+impl Model for Trail {
+    ghost use Rattle.clause_store.specs.Assigned.{Assigned};
+
+    ghost Value = { Assigned };
+
+    ghost use Rattle.std.specs.Prelude.{length};
+    ghost use Rattle.clause_store.specs.TrailInvariant.{IsKept};
+
+    ghost view = { λ t. record { steps = t.steps.items; atoms = length t.marks.items; depth = t.depth } };
+
+    ghost invariant = { IsKept };
+}
+
+// Puts a step at the end, where there is room for it.
+fn push_within(steps: &mut Vec<Step>, step: Step)
+    requires { vec_len steps.old < vec_capacity steps.old }
+    ensures items { steps.new.items ≡ steps.old.items ++ step ∷ [] }
+    ensures room { vec_capacity steps.old ≤ vec_capacity steps.new }
+{
+    let pushed = steps.push(step);
+    prove!(pushed.is_ok());
+}
+
+fn mark_of(literal: Literal) -> Mark
+    ensures { result ≡ mark_of literal }
+{
+    if literal.is_positive() {
+        Mark::Positive
+    } else {
+        Mark::Negative
+    }
+}
+
+impl Trail {
+    pub fn status(&self, literal: Literal) -> Status
+        requires { literal.atom < self.now.atoms }
+        ensures { StatusOf self.now.steps literal result }
+    {
+        match self.marks[literal.atom() as usize] {
+            Mark::Open => Status::Open,
+            Mark::Positive => if literal.is_positive() {
+                Status::True
+            } else {
+                Status::False
+            },
+            Mark::Negative => if literal.is_positive() {
+                Status::False
+            } else {
+                Status::True
+            },
+        }
+    }
+
+    pub fn atoms(&self) -> u32
+        ensures atoms { result ≡ self.now.atoms }
+        ensures few { result ≤ 2 ^ 31 }
+    {
+        self.marks.len() as u32
+    }
+
+    // The atom of an open literal leaves room for a step.
+    pub fn room(&self, literal: Literal) -> usize
+        requires known { literal.atom < self.now.atoms }
+        requires is_open { IsOpen self.now.steps literal }
+        ensures steps { length self.now.steps + result ≡ self.now.atoms }
+        ensures room { 0 < result }
+    {
+        let _mark = self.marks[literal.atom() as usize];
+        self.marks.len() - self.steps.len()
+    }
+
+    pub fn depth(&self) -> u32
+        ensures { result ≡ self.now.depth }
+    {
+        self.depth
+    }
+
+    pub fn steps(&self) -> &[Step]
+        ensures steps { result.now ≡ self.now.steps }
+        ensures known { All (λ (s : Step). s.literal.atom < self.now.atoms) self.now.steps }
+        ensures room { length self.now.steps ≤ self.now.atoms }
+        ensures fresh { EachAfter IsFresh self.now.steps }
+        ensures in_order { IsNonDecreasingBy (λ (s : Step). s.depth) self.now.steps }
+        ensures deepest { All (λ (s : Step). s.depth ≤ self.now.depth) self.now.steps }
+    {
+        &self.steps
+    }
+
+    // The place of the step with this literal.
+    pub fn place(&self, literal: Literal) -> usize
+        requires { Assigns self.now.steps literal }
+        ensures below { result < length self.now.steps }
+        ensures is { (d : Step) → (slice_index_or self.now.steps result d).literal ≡ literal }
+    {
+        for i in 0..self.steps.len() {
+            if self.steps[i].literal == literal {
+                return i;
+            }
+        }
+        0
+    }
+
+    pub fn assign(&mut self, literal: Literal, reason: Option<u64>)
+        requires known { literal.atom < self.old.atoms }
+        requires is_open { IsOpen self.old.steps literal }
+        ensures room { length self.old.steps < self.old.atoms }
+        ensures steps { let step : Step = record { literal = literal; depth = self.old.depth; reason = reason } in self.new ≡ record self.old { steps = self.old.steps ++ step ∷ [] } }
+    {
+        let mark = mark_of(literal);
+        push_within(
+            &mut self.steps,
+            Step {
+                literal,
+                depth: self.depth,
+                reason,
+            },
+        );
+        self.marks[literal.atom() as usize] = mark;
+    }
+
+    pub fn decide(&mut self, literal: Literal)
+        requires known { literal.atom < self.old.atoms }
+        requires is_open { IsOpen self.old.steps literal }
+        requires room { self.old.depth + 1 < 2 ^ 32 }
+        ensures { let step : Step = record { literal = literal; depth = self.old.depth + 1; reason = None } in self.new ≡ record { steps = self.old.steps ++ step ∷ []; atoms = self.old.atoms; depth = self.old.depth + 1 } }
+    {
+        let mark = mark_of(literal);
+        self.depth += 1;
+        push_within(
+            &mut self.steps,
+            Step {
+                literal,
+                depth: self.depth,
+                reason: None,
+            },
+        );
+        self.marks[literal.atom() as usize] = mark;
+    }
+
+    // Takes away the steps above this depth.
+    pub fn undo_to(&mut self, depth: u32)
+        requires { depth ≤ self.old.depth }
+        ensures undone { self.new ≡ record { steps = up_to depth self.old.steps; atoms = self.old.atoms; depth = depth } }
+        ensures front { (rest : List Step) × (self.old.steps ≡ self.new.steps ++ rest) }
+    {
+        while self.last_depth() > depth {
+            self.drop_last();
+        }
+        self.depth = depth;
+    }
+
+    fn last_depth(&self) -> u32
+        ensures none { self.now.steps ≡ [] → result ≡ 0 }
+        ensures last { (before : List Step) (s : Step) → self.now.steps ≡ before ++ s ∷ [] → result ≡ s.depth }
+    {
+        match self.steps.last() {
+            Some(s) => s.depth,
+            None => 0,
+        }
+    }
+
+    fn drop_last(&mut self)
+        requires { 0 < length self.old.steps }
+        ensures { (s : Step) × (self.old.steps ≡ self.new.steps ++ s ∷ []) × (self.new.atoms ≡ self.old.atoms) × (self.new.depth ≡ self.old.depth) }
+    {
+        let Some(step) = self.steps.pop() else {
+            return;
+        };
+        self.marks[step.literal.atom() as usize] = Mark::Open;
+    }
+}

@@ -1,0 +1,1 @@
+// Which literals a learnt clause can do without.
