@@ -169,3 +169,13 @@ descended clauses steps id left i s u new lt sound grounded at on more e res =
      resolved_down clauses steps s new i at b.0 b.1 here same r,
      omega arith,
      ap (λ (x : State). x.deepest) r.marked ∙ r.grew.deepest)
+
+-- where none is left to wait for, no step of the greatest depth waits
+pub none_waits : (steps : List Step) (s : State) (i : ℕ) → IsAt steps s i → s.count ≡ 0 → (k : ℕ) → is_waiting (mark_at s.marks k) ≡ true → (step_at steps k).depth ≡ s.deepest → ⊥
+none_waits steps s i at e k on deep = elim (below_or_past k i) [
+    inl lt ↦ pending-none s.deepest steps s.marks i (at.count ∙ e) k lt on deep
+  | inr le ↦ at.none_above k le on deep
+  ]
+  where
+    below_or_past : (k i : ℕ) → (k < i) ⊎ (i ≤ k)
+    below_or_past k i = grind arith

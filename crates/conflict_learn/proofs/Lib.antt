@@ -4,3 +4,8 @@ pub mod Places
 pub mod Sound
 pub mod Taking
 pub mod Descent
+pub mod Split
+pub mod Beginning
+pub mod Truth
+pub mod NotForced
+pub mod Concluding

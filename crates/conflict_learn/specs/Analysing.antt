@@ -1,11 +1,13 @@
 -- What an analysis of a false clause has found.
-use Rattle.std.specs.Prelude.{◌≡◌, ◌≢◌, ℕ, zero, suc, ◌+◌, ◌-◌, ◌<◌, ◌≤◌, ◌⊎◌, ◌==◌, ◌&&◌, nat_le, take, Bool, true, false, List, [], ◌∷◌, ◌++◌, All, Contains, Option, Some, None, length, set, slice_index_or, count_by, if◌then◌else◌}
+use Rattle.std.specs.Prelude.{◌≡◌, ◌≢◌, ℕ, zero, suc, ◌+◌, ◌-◌, ◌<◌, ◌≤◌, ◌⊎◌, ◌==◌, ◌&&◌, nat_le, take, Bool, true, false, List, [], ◌∷◌, ◌++◌, All, Contains, Option, Some, None, length, set, replicate, slice_index_or, count_by, if◌then◌else◌}
 use Rattle.literals.specs.Signed.{Signed, opposite}
 use Rattle.clause_store.specs.declared.trail.Step.{Step}
 use Rattle.clause_store.specs.Stored.{Kept}
 use Rattle.clause_store.specs.Found.{HasKept}
 use Rattle.conflict_learn.specs.declared.analysis.Mark.{Mark}
 use Rattle.conflict_learn.specs.declared.analysis.Mark.TheVariants.{Unseen, Waiting, Resolved}
+use Rattle.conflict_learn.specs.declared.minimize.Known.{Known}
+use Rattle.conflict_learn.specs.declared.minimize.Known.TheVariants.{Yes, No, By}
 
 pub record State : Type 0 where
   -- by a step's place
@@ -77,6 +79,10 @@ seen steps p s = seen_by (is_unseen (mark_at s.marks p)) ((step_at steps p).dept
 abbrev pub with_premise : ℕ → ℕ → State → State
 with_premise id level s = record { marks = s.marks; lower = s.lower; premises = s.premises ++ id ∷ []; deepest = s.deepest; count = s.count; level = level }
 
+-- nothing is seen of so many steps
+abbrev pub empty_state : ℕ → ℕ → State
+empty_state n deepest = record { marks = replicate n Unseen; lower = []; premises = []; deepest = deepest; count = 0; level = 0 }
+
 -- ---- what holds
 
 -- the literal is that of a step below this place that was seen
@@ -137,13 +143,6 @@ pub record Grew (steps : List Step) (below : ℕ) (old new : State) : Type 0 whe
   pub more_count : old.count ≤ new.count
   pub counted : pending old.deepest steps new.marks below + old.count ≡ pending old.deepest steps old.marks below + new.count
 
--- the literal is false by a step below this place, of at most this depth
-pub record IsFalseBelow (steps : List Step) (below depth : ℕ) (l : Signed) : Type 0 where
-  pub place : ℕ
-  pub within : place < below
-  pub literal : (step_at steps place).literal ≡ opposite l
-  pub shallow : (step_at steps place).depth ≤ depth
-
 -- the clause's literals, but for one, are seen below this place
 pub record TakesIn (clauses : List Kept) (steps : List Step) (id below : ℕ) (but : Option Signed) (old new : State) : Type 0 where
   pub sound : IsSound clauses steps new
@@ -156,10 +155,29 @@ pub record IsGrounded (clauses : List Kept) (steps : List Step) (id : ℕ) (s : 
   pub false_clause : HasKept clauses id (All (λ m. SeenAt steps s.marks (length steps) (opposite m)))
   pub among : Contains s.premises id
 
+-- the literal is false by a step below this place, of at most this depth
+pub record IsFalseBelow (steps : List Step) (below depth : ℕ) (l : Signed) : Type 0 where
+  pub place : ℕ
+  pub within : place < below
+  pub literal : (step_at steps place).literal ≡ opposite l
+  pub shallow : (step_at steps place).depth ≤ depth
+
+-- no literal is false by a deeper step, and, unless the depth is 0, one by a step of this depth
+pub record IsGreatest (steps : List Step) (ls : List Signed) (depth : ℕ) : Type 0 where
+  pub all : All (IsFalseBelow steps (length steps) depth) ls
+  pub some : 0 < depth → (m : Signed) × Contains ls m × (p : ℕ) × (p < length steps) × ((step_at steps p).literal ≡ opposite m) × ((step_at steps p).depth ≡ depth)
+
 -- so many steps of the greatest depth wait, all below this place
 pub record IsAt (steps : List Step) (s : State) (i : ℕ) : Type 0 where
   pub count : pending s.deepest steps s.marks i ≡ s.count
   pub none_above : (k : ℕ) → i ≤ k → is_waiting (mark_at s.marks k) ≡ true → (step_at steps k).depth ≡ s.deepest → ⊥
+
+pub record Begins (clauses : List Kept) (steps : List Step) (id : ℕ) (new : State) : Type 0 where
+  pub sound : IsSound clauses steps new
+  pub grounded : IsGrounded clauses steps id new
+  pub at : IsAt steps new (length steps)
+  pub greatest : HasKept clauses id (λ ms. IsGreatest steps ms new.deepest)
+  pub some : 0 < new.deepest → 0 < new.count
 
 -- the one step of the greatest depth that waits
 pub record IsOnly (steps : List Step) (s : State) (place : ℕ) : Type 0 where
@@ -191,10 +209,21 @@ pub record Comes (clauses : List Kept) (steps : List Step) (id left i : ℕ) (ol
 
 -- ---- the places whose literals stay
 
+-- the reason that is named is the step's
+abbrev pub KnownBy : List Step → ℕ → Known → Type 0
+KnownBy steps place Yes = Unit {0}
+KnownBy steps place No = Unit {0}
+KnownBy steps place (By reason) = (step_at steps place).reason ≡ Some reason
+
 -- one place more, with one of the deepest in front
 abbrev pub with_place : List Step → ℕ → List ℕ → List ℕ
 with_place steps p [] = p ∷ []
 with_place steps p (k ∷ ks) = if nat_le (step_at steps p).depth (step_at steps k).depth then (k ∷ ks ++ p ∷ []) else (p ∷ ks ++ k ∷ [])
+
+-- the depth of the first of these steps, 0 where there is none
+abbrev pub first_depth : List Step → List ℕ → ℕ
+first_depth steps [] = 0
+first_depth steps (k ∷ ks) = (step_at steps k).depth
 
 -- the first is one of the deepest
 abbrev pub IsHeaded : List Step → List ℕ → Type 0

@@ -1,9 +1,10 @@
 // Which steps of the trail a false clause comes from: each step seen either waits, to stay in the learnt clause, or is resolved by its reason, a premise.
-ghost use Rattle.std.specs.Prelude.{◌≡◌, ◌≢◌, ℕ, ◌+◌, ◌<◌, ◌≤◌, ◌⊎◌, ◌∷◌, ◌++◌, [], true, false, List, All, Contains, Option, Some, None, max, length, vec_len, count_by, IfOk, OnOk};
+ghost use Rattle.std.specs.Prelude.{◌≡◌, ◌≢◌, ℕ, ◌+◌, ◌<◌, ◌≤◌, ◌⊎◌, ◌∷◌, ◌++◌, [], true, false, List, All, Contains, Option, Some, None, max, length, vec_len, count_by, slice_index_or, replicate, IfOk, OnOk};
 ghost use Rattle.literals.specs.Signed.{Signed, opposite};
 ghost use Rattle.clause_store.specs.Stored.{Kept};
 ghost use Rattle.clause_store.specs.Found.{HasKept, HasLevel};
-ghost use Rattle.conflict_learn.specs.Analysing.{State, step_at, mark_at, is_unseen, is_seen, is_waiting, seen, with_less, with_mark, with_premise, IsSound, IsFalseBelow, TakesIn, SeenAt, IsAt, IsOnly, IsGrounded};
+ghost use Rattle.conflict_learn.specs.declared.analysis.Mark.TheVariants.{Unseen};
+ghost use Rattle.conflict_learn.specs.Analysing.{State, empty_state, step_at, mark_at, is_unseen, is_seen, is_waiting, seen, with_less, with_mark, with_premise, IsSound, IsFalseBelow, TakesIn, SeenAt, IsAt, IsOnly, IsGrounded};
 
 use crate::reasons::{place_of, reason_literals, step};
 use clause_store::store::Store;
@@ -57,6 +58,27 @@ pub fn is_waiting(mark: Mark) -> bool
     }
 }
 
+// As many marks as there are steps, all unseen.
+fn reset_marks(marks: &mut Vec<Mark>, count: usize) -> Result<(), AllocError>
+    ensures { OnOk result (marks.new.items ≡ replicate count Unseen) }
+{
+    marks.truncate(count);
+    hide(marks);
+    while marks.len() < count {
+        marks.push(Mark::Unseen)?;
+    }
+    Ok(())
+}
+
+// Makes each mark unseen.
+fn hide(marks: &mut [Mark])
+    ensures { marks.new ≡ replicate (length marks.old) Unseen }
+{
+    for mark in marks.iter_mut() {
+        *mark = Mark::Unseen;
+    }
+}
+
 fn is_it(but: &Option<Literal>, literal: Literal) -> bool
     ensures same { result ≡ true → but.now ≡ Some literal }
     ensures other { result ≡ false → but.now ≡ Some literal → ⊥ }
@@ -68,6 +90,32 @@ fn is_it(but: &Option<Literal>, literal: Literal) -> bool
 }
 
 impl Analysis {
+    pub fn new(alloc: Global) -> Analysis
+        ensures { result ≡ empty_state 0 0 }
+    {
+        Analysis {
+            marks: Vec::new(alloc),
+            lower: Vec::new(alloc),
+            premises: Vec::new(alloc),
+            deepest: 0,
+            count: 0,
+            level: 0,
+        }
+    }
+
+    // Nothing is seen of so many steps.
+    pub fn clear(&mut self, count: usize, deepest: u32) -> Result<(), AllocError>
+        ensures { OnOk result (self.new ≡ empty_state count deepest) }
+    {
+        reset_marks(&mut self.marks, count)?;
+        self.lower.clear();
+        self.premises.clear();
+        self.deepest = deepest;
+        self.count = 0;
+        self.level = 0;
+        Ok(())
+    }
+
     pub fn deepest(&self) -> u32
         ensures { result ≡ self.now.deepest }
     {
@@ -92,6 +140,37 @@ impl Analysis {
         ensures { result ≡ mark_at self.now.marks place }
     {
         self.marks[place]
+    }
+
+    pub fn is_seen_at(&self, place: usize) -> bool
+        requires { place < length self.now.marks }
+    {
+        !is_unseen(self.marks[place])
+    }
+
+    pub fn level(&self) -> u16
+        ensures { result ≡ self.now.level }
+    {
+        self.level
+    }
+
+    pub fn premises(&self) -> &[u64]
+        ensures { result.now ≡ self.now.premises }
+    {
+        &self.premises
+    }
+
+    pub fn lower_count(&self) -> usize
+        ensures { result ≡ length self.now.lower }
+    {
+        self.lower.len()
+    }
+
+    pub fn lower_at(&self, j: usize) -> usize
+        requires { j < length self.now.lower }
+        ensures { (d : ℕ) → slice_index_or self.now.lower j d ≡ result }
+    {
+        self.lower[j]
     }
 
     // Lets the step at this place wait, unless it was seen.

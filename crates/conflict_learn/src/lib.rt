@@ -2,6 +2,8 @@
 #![tactic(auto)]
 
 mod analysis;
+mod begin;
+mod kept;
 mod learn;
 mod minimize;
 mod reasons;

@@ -1,7 +1,7 @@
 // What the store says of the steps of its trail.
 ghost use Rattle.std.specs.Prelude.{◌≡◌, ℕ, ◌<◌, ◌≤◌, List, All, Contains, Option, Some, length, slice_index_or, ◌⊎◌};
 ghost use Rattle.literals.specs.Signed.{Signed, opposite};
-ghost use Rattle.clause_store.specs.Stored.{AllFalse};
+ghost use Rattle.clause_store.specs.Stored.{AllFalse, IsFalseOn};
 ghost use Rattle.clause_store.specs.Found.{HasKept};
 ghost use Rattle.conflict_learn.specs.Analysing.{step_at, IsFalseBelow};
 
@@ -62,4 +62,13 @@ pub fn false_literals<'a>(store: &'a Store, id: u64, looked: &Looked) -> &'a [Li
 {
     let _steps = store.steps();
     store.literals(looked)
+}
+
+// The place of the step by which a literal is false.
+pub fn false_place(store: &Store, literal: Literal) -> usize
+    requires { IsFalseOn store.now.trail.steps literal }
+    ensures within { result < length store.now.trail.steps }
+    ensures is { (step_at store.now.trail.steps result).literal ≡ opposite literal }
+{
+    store.place(literal.negated())
 }
