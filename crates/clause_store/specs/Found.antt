@@ -3,10 +3,8 @@ use Rattle.std.specs.Prelude.{◌≡◌, ℕ, List, All, Contains}
 use Rattle.literals.specs.Signed.{Signed}
 use Rattle.clause_store.specs.Trail.{Step, IsOpen}
 use Rattle.clause_store.specs.Stored.{Kept, AllFalse, IsUnit, IsQuiet}
-use Rattle.clause_store.specs.declared.store.Found.{Found}
-use Rattle.clause_store.specs.declared.store.Found.TheVariants.{Quiet, Unit as UnitLiteral, False}
-use Rattle.clause_store.specs.declared.store.Among.{Among}
-use Rattle.clause_store.specs.declared.store.Among.TheVariants.{Quiet as AllQuiet, Unit as UnitClause, False as FalseClause}
+use Rattle.clause_store.specs.declared.scan.Found.{Found}
+use Rattle.clause_store.specs.declared.scan.Found.TheVariants.{Quiet, Unit as UnitLiteral, False}
 use Rattle.clause_store.specs.declared.store.Outcome.{Outcome}
 use Rattle.clause_store.specs.declared.store.Outcome.TheVariants.{Fixpoint, False as Conflict}
 
@@ -19,15 +17,10 @@ FoundIn steps ls False = AllFalse steps ls
 abbrev pub HasKept : List Kept → ℕ → (List Signed → Type 0) → Type 0
 HasKept clauses id P = (c : Kept) × Contains clauses c × (c.id ≡ id) × P c.literals
 
-abbrev pub FoundAmong : List Step → List Kept → Among → Type 0
-FoundAmong steps clauses AllQuiet = All (λ (c : Kept). IsQuiet steps c.literals) clauses
-FoundAmong steps clauses (UnitClause l id) = IsOpen steps l × HasKept clauses id (λ ls. IsUnit steps ls l)
-FoundAmong steps clauses (FalseClause id) = HasKept clauses id (AllFalse steps)
+-- the kept clause of this id has this level
+abbrev pub HasLevel : List Kept → ℕ → ℕ → Type 0
+HasLevel clauses id level = (c : Kept) × Contains clauses c × (c.id ≡ id) × (c.level ≡ level)
 
 abbrev pub Outcomes : List Step → List Kept → Outcome → Type 0
 Outcomes steps clauses Fixpoint = All (λ (c : Kept). IsQuiet steps c.literals) clauses
 Outcomes steps clauses (Conflict id) = HasKept clauses id (AllFalse steps)
-
--- the kept clause of this id has this level
-abbrev pub HasLevel : List Kept → ℕ → ℕ → Type 0
-HasLevel clauses id level = (c : Kept) × Contains clauses c × (c.id ≡ id) × (c.level ≡ level)

@@ -1,52 +1,45 @@
-// Kept clauses, and the literals that are decided or follow from them.
-ghost use Rattle.std.specs.Prelude.{◌≡◌, ℕ, ◌+◌, ◌^◌, ◌<◌, ◌≤◌, List, [], ◌∷◌, ◌++◌, All, Contains, length, max, IfOk, OnOk, OnErr, slice_index_or};
+// Kept clauses, and the literals that are decided or follow from them, by two watched literals a clause.
 ghost use Rattle.std.specs.List.Sorted.{IsNonDecreasingBy};
-ghost use Rattle.literals.specs.Signed.{Signed};
+ghost use Rattle.std.specs.Prelude.{◌≡◌, ℕ, ◌+◌, ◌^◌, ◌<◌, ◌≤◌, true, false, List, [], ◌∷◌, ◌++◌, All, IfSome, IfOk, OnOk, OnErr, Some, length, max, slice_index_or};
 ghost use Rattle.clause_store.specs.Trail.{Assigns, IsOpen, StatusOf, up_to};
-ghost use Rattle.clause_store.specs.Assigned.{Assigned};
 ghost use Rattle.clause_store.specs.Each.{EachAfter};
 ghost use Rattle.clause_store.specs.TrailInvariant.{IsFresh};
-ghost use Rattle.clause_store.specs.Stored.{Kept, Stored, AllFalse, IsUnit, IsQuiet, IsForced, IsJustified, HaveOwnIds, Propagated};
-ghost use Rattle.clause_store.specs.Found.{FoundIn, FoundAmong, Outcomes, HasKept, HasLevel};
+ghost use Rattle.literals.specs.Signed.{Signed, opposite};
+ghost use Rattle.clause_store.specs.Stored.{Kept, HaveOwnIds, IsJustified, Propagated, without, up_to_level};
+ghost use Rattle.clause_store.specs.Found.{HasKept, HasLevel, Outcomes};
 
+use crate::choose::{keep_up, make_room};
+use crate::cut::cut_to;
+use crate::lists::{WatchList, make_lists};
+use crate::rows::{Looked, Rows};
+use crate::run::{Reached, drive};
+use crate::scan::scan;
 use crate::trail::{Status, Step, Trail};
+use crate::undo::{calm, rewind};
+use crate::waits::{Save, Wait, drop_of};
 use literals::Literal;
 use std::alloc::{AllocError, Global};
 use std::marker::Model;
 
-#[derive(Drop)]
-pub struct Row {
-    id: u64,
-    level: u16,
-    literals: Vec<Literal>,
-}
-
-impl Model for Row {
-    ghost use Rattle.clause_store.specs.Stored.{Kept};
-
-    ghost Value = { Kept };
-
-    ghost view = { λ r. record { id = r.id; literals = r.literals.items; level = r.level } };
-}
-
-#[derive(Drop)]
-pub struct Looked {
-    id: u64,
-}
-
-impl Model for Looked {
-    ghost use Rattle.std.specs.Prelude.{ℕ};
-
-    ghost Value = { ℕ };
-
-    ghost view = { λ l. l.id };
+// What propagation ends with: nothing left to follow, or a kept clause, by its id, all of whose literals are false.
+#[derive(Clone, Copy)]
+pub enum Outcome {
+    Fixpoint,
+    False(u64),
 }
 
 #[derive(Drop)]
 pub struct Store {
-    rows: Vec<Row>,
-    next: u64,
+    alloc: Global,
+    rows: Rows,
+    lists: Vec<WatchList>,
+    spare: WatchList,
     trail: Trail,
+    head: usize,
+    saves: Vec<Save>,
+    waiting: Vec<Wait>,
+    // whether the watches are no longer kept up: propagation then scans
+    loose: bool,
 }
 
 impl Model for Store {
@@ -54,131 +47,227 @@ impl Model for Store {
 
     ghost Value = { Stored };
 
-    ghost use Rattle.clause_store.specs.StoreInvariant.{IsSound};
+    ghost use Rattle.clause_store.specs.Watching.{kept_from};
+    ghost use Rattle.clause_store.specs.Keeping.{IsKept};
 
-    ghost view = { λ s. record { clauses = s.rows.items; trail = s.trail } };
+    ghost view = { λ s. record { clauses = kept_from 0 s.rows; trail = s.trail } };
 
-    ghost invariant = { λ s. IsSound s.rows.items s.next s.trail };
+    ghost invariant = { λ s. IsKept s.rows s.lists.items s.trail s.head s.saves.items s.waiting.items s.loose };
 }
 
-#[derive(Clone, Copy)]
-pub enum Found {
-    Quiet,
-    Unit(Literal),
-    False,
-}
-
-#[derive(Clone, Copy)]
-pub enum Among {
-    Quiet,
-    Unit(Literal, u64),
-    False(u64),
-}
-
-#[derive(Clone, Copy)]
-pub enum Outcome {
-    Fixpoint,
-    False(u64),
-}
-
-impl Row {
-    fn id(&self) -> u64
-        ensures { result ≡ self.now.id }
-    {
-        self.id
-    }
-
-    fn look(&self, trail: &Trail) -> Found
-        requires { All (λ (l : Signed). l.atom < trail.now.atoms) self.now.literals }
-        ensures { FoundIn trail.now.steps self.now.literals result }
-    {
-        look(&self.literals, trail)
-    }
-}
-
-fn look(literals: &[Literal], trail: &Trail) -> Found
-    requires { All (λ (l : Signed). l.atom < trail.now.atoms) literals.now }
-    ensures { FoundIn trail.now.steps literals.now result }
+// Saves one more where that takes no memory.
+fn save_in_room(saves: &mut Vec<Save>, save: Save) -> bool
+    ensures saved { result ≡ true → saves.new.items ≡ saves.old.items ++ save ∷ [] }
+    ensures full { result ≡ false → saves.new.items ≡ saves.old.items }
 {
-    let mut found = None;
-    for literal in literals {
-        match trail.status(*literal) {
-            Status::True => return Found::Quiet,
-            Status::False => {}
-            Status::Open => match found {
-                None => found = Some(*literal),
-                Some(other) => if other != *literal {
-                    return Found::Quiet;
-                },
-            },
-        }
+    if saves.len() >= saves.capacity() {
+        return false;
     }
-    match found {
-        None => Found::False,
-        Some(literal) => Found::Unit(literal),
-    }
-}
-
-// The first clause that is false, or has one literal open and the rest false.
-fn find(rows: &[Row], trail: &Trail) -> Among
-    requires { All (λ (c : Kept). All (λ (l : Signed). l.atom < trail.now.atoms) c.literals) rows.now }
-    ensures { FoundAmong trail.now.steps rows.now result }
-{
-    for row in rows {
-        match row.look(trail) {
-            Found::Quiet => {}
-            Found::Unit(literal) => return Among::Unit(literal, row.id()),
-            Found::False => return Among::False(row.id()),
-        }
-    }
-    Among::Quiet
+    let pushed = saves.push(save);
+    prove!(pushed.is_ok());
+    true
 }
 
 impl Store {
-    fn find(&self) -> Among
-        ensures { FoundAmong self.now.trail.steps self.now.clauses result }
+    // Propagates by watches, where these are kept up.
+    fn by_watches(&mut self) -> Option<Outcome>
+        ensures reached { Propagated self.old self.new }
+        ensures outcome { IfSome result (λ o. Outcomes self.new.trail.steps self.new.clauses o) }
     {
-        find(&self.rows, &self.trail)
+        if self.loose {
+            return None;
+        }
+        let (reached, head) = drive(
+            &mut self.rows,
+            &mut self.lists,
+            &mut self.spare,
+            &mut self.trail,
+            &self.waiting,
+            self.head,
+        );
+        self.head = head;
+        match reached {
+            Reached::Fixpoint => Some(Outcome::Fixpoint),
+            Reached::False(row) => Some(Outcome::False(row as u64)),
+            Reached::NoRoom => {
+                self.loose = true;
+                None
+            }
+        }
     }
 
-    // Puts a literal on the trail that this kept clause forces.
-    fn imply(&mut self, literal: Literal, id: u64)
-        requires { FoundAmong self.old.trail.steps self.old.clauses (Among.Unit literal id) }
-        ensures room { length self.old.trail.steps < self.old.trail.atoms }
-        ensures gains { let step : Step = record { literal = literal; depth = self.old.trail.depth; reason = Some id } in self.new ≡ record self.old { trail = record self.old.trail { steps = self.old.trail.steps ++ step ∷ [] } } }
+    fn by_scan(&mut self) -> Outcome
+        ensures reached { Propagated self.old self.new }
+        ensures outcome { Outcomes self.new.trail.steps self.new.clauses result }
     {
-        self.trail.assign(literal, Some(id));
+        scan(&mut self.rows, &mut self.trail)
     }
 
     pub fn propagate(&mut self) -> Outcome
         ensures reached { Propagated self.old self.new }
         ensures outcome { Outcomes self.new.trail.steps self.new.clauses result }
     {
-        loop {
-            match self.find() {
-                Among::Quiet => return Outcome::Fixpoint,
-                Among::False(id) => return Outcome::False(id),
-                Among::Unit(literal, id) => self.imply(literal, id),
+        match self.by_watches() {
+            Some(outcome) => outcome,
+            None => self.by_scan(),
+        }
+    }
+
+    pub fn decide(&mut self, literal: Literal)
+        requires known { literal.atom < self.old.trail.atoms }
+        requires is_open { IsOpen self.old.trail.steps literal }
+        requires room { self.old.trail.depth + 1 < 2 ^ 32 }
+        ensures { let step : Step = record { literal = literal; depth = self.old.trail.depth + 1; reason = None } in self.new ≡ record self.old { trail = record { steps = self.old.trail.steps ++ step ∷ []; atoms = self.old.trail.atoms; depth = self.old.trail.depth + 1 } } }
+    {
+        let rows = self.rows.len() as u32;
+        let saved = save_in_room(
+            &mut self.saves,
+            Save {
+                head: self.head,
+                rows,
+            },
+        );
+        self.loose = self.loose || !saved;
+        self.trail.decide(literal);
+    }
+
+    pub fn undo_to(&mut self, depth: u32)
+        requires { depth ≤ self.old.trail.depth }
+        ensures undone { self.new ≡ record self.old { trail = record { steps = up_to depth self.old.trail.steps; atoms = self.old.trail.atoms; depth = depth } } }
+        ensures front { (rest : List Step) × (self.old.trail.steps ≡ self.new.trail.steps ++ rest) }
+    {
+        self.trail.undo_to(depth);
+        if self.loose {
+            return;
+        }
+        let at = depth as usize;
+        if at >= self.saves.len() {
+            return;
+        }
+        match rewind(
+            &self.rows,
+            &self.trail,
+            &mut self.saves,
+            &mut self.waiting,
+            at,
+        ) {
+            Some(head) => self.head = head,
+            None => self.loose = true,
+        }
+    }
+
+    // Adds a clause whose watches aren't kept up.
+    fn add_loose(&mut self, literals: &[Literal], level: u16) -> Result<u64, AllocError>
+        requires known { All (λ (l : Signed). l.atom < self.old.trail.atoms) literals.now }
+        ensures added { IfOk result (λ id. let kept : Kept = record { id = id; literals = literals.now; level = level } in self.new ≡ record self.old { clauses = self.old.clauses ++ kept ∷ [] }) }
+        ensures same { OnErr result (self.new ≡ self.old) }
+    {
+        let row = self.rows.len();
+        if row + 1 >= 1 << 32 {
+            return Err(AllocError);
+        }
+        let zero = Literal::new(0, true);
+        match self.rows.push(literals, zero, zero, level) {
+            Err(_) => Err(AllocError),
+            Ok(()) => {
+                self.loose = true;
+                Ok(row as u64)
             }
         }
     }
 
-    pub fn add(&mut self, literals: Vec<Literal>, level: u16) -> Result<u64, AllocError>
-        requires known { All (λ (l : Signed). l.atom < self.old.trail.atoms) literals.items }
-        ensures added { IfOk result (λ id. let kept : Kept = record { id = id; literals = literals.items; level = level } in self.new ≡ record self.old { clauses = self.old.clauses ++ kept ∷ [] }) }
+    fn add_watched(&mut self, literals: &[Literal], level: u16) -> Result<u64, AllocError>
+        requires some { 0 < length literals.now }
+        requires known { All (λ (l : Signed). l.atom < self.old.trail.atoms) literals.now }
+        ensures added { IfOk result (λ id. let kept : Kept = record { id = id; literals = literals.now; level = level } in self.new ≡ record self.old { clauses = self.old.clauses ++ kept ∷ [] }) }
         ensures same { OnErr result (self.new ≡ self.old) }
     {
-        let id = self.next;
-        if id == u64::MAX {
+        if self.loose {
+            return self.add_loose(literals, level);
+        }
+        let row = self.rows.len();
+        if row + 1 >= 1 << 32 || self.waiting.reserve(1).is_err() {
             return Err(AllocError);
         }
-        self.rows.push(Row {
-            id,
-            level,
+        if !make_room(&mut self.lists, literals) {
+            return Err(AllocError);
+        }
+        match keep_up(
+            &mut self.rows,
+            &mut self.lists,
+            &self.trail,
+            &mut self.waiting,
             literals,
-        })?;
-        self.next = id + 1;
-        Ok(id)
+            level,
+            self.head,
+        ) {
+            Err(_) => Err(AllocError),
+            Ok(Some(head)) => {
+                self.head = head;
+                Ok(row as u64)
+            }
+            Ok(None) => {
+                self.loose = true;
+                Ok(row as u64)
+            }
+        }
+    }
+
+    pub fn add(&mut self, literals: &[Literal], level: u16) -> Result<u64, AllocError>
+        requires known { All (λ (l : Signed). l.atom < self.old.trail.atoms) literals.now }
+        ensures added { IfOk result (λ id. let kept : Kept = record { id = id; literals = literals.now; level = level } in self.new ≡ record self.old { clauses = self.old.clauses ++ kept ∷ [] }) }
+        ensures same { OnErr result (self.new ≡ self.old) }
+    {
+        if literals.is_empty() {
+            return self.add_loose(literals, level);
+        }
+        self.add_watched(literals, level)
+    }
+
+    pub fn new(alloc: Global) -> Store
+        ensures { result ≡ record { clauses = []; trail = record { steps = []; atoms = 0; depth = 0 } } }
+    {
+        Store {
+            alloc,
+            rows: Rows::new(alloc),
+            lists: Vec::new(alloc),
+            spare: WatchList::new(alloc),
+            trail: Trail::new(alloc),
+            head: 0,
+            saves: Vec::new(alloc),
+            waiting: Vec::new(alloc),
+            loose: false,
+        }
+    }
+
+    // One whose watches aren't kept up, so that it scans.
+    #[cfg(test)]
+    pub fn scanning(alloc: Global) -> Store
+        ensures { result ≡ record { clauses = []; trail = record { steps = []; atoms = 0; depth = 0 } } }
+    {
+        Store {
+            alloc,
+            rows: Rows::new(alloc),
+            lists: Vec::new(alloc),
+            spare: WatchList::new(alloc),
+            trail: Trail::new(alloc),
+            head: 0,
+            saves: Vec::new(alloc),
+            waiting: Vec::new(alloc),
+            loose: true,
+        }
+    }
+
+    // Knows so many atoms; no other call takes memory but `add`.
+    pub fn reserve(&mut self, atoms: u32) -> Result<(), AllocError>
+        ensures reserved { OnOk result (self.new ≡ record self.old { trail = record { steps = self.old.trail.steps; atoms = max self.old.trail.atoms atoms; depth = self.old.trail.depth } }) }
+        ensures same { OnErr result (self.new ≡ self.old) }
+    {
+        make_lists(self.alloc, &mut self.lists, atoms)?;
+        self.saves
+            .reserve((atoms as usize).saturating_sub(self.saves.len()))?;
+        self.trail.reserve(atoms)?;
+        Ok(())
     }
 
     // How many atoms it knows.
@@ -193,7 +282,7 @@ impl Store {
     pub fn next_id(&self) -> u64
         ensures { All (λ (c : Kept). c.id < result) self.now.clauses }
     {
-        self.next
+        self.rows.len() as u64
     }
 
     // The number of decisions.
@@ -220,15 +309,14 @@ impl Store {
         self.trail.room(literal)
     }
 
-    // Knows so many atoms. (A stub: the trail's marks grow.)
-    pub fn reserve(&mut self, atoms: u32) -> Result<(), AllocError>
-        ensures reserved { OnOk result (self.new ≡ record self.old { trail = record { steps = self.old.trail.steps; atoms = max self.old.trail.atoms atoms; depth = self.old.trail.depth } }) }
-        ensures same { OnErr result (self.new ≡ self.old) }
+    // Where on the trail a literal stands.
+    pub fn place(&self, literal: Literal) -> usize
+        requires known { literal.atom < self.now.trail.atoms }
+        requires assigned { Assigns self.now.trail.steps literal }
+        ensures within { result < length self.now.trail.steps }
+        ensures literal { (d : Step) → (slice_index_or self.now.trail.steps result d).literal ≡ literal }
     {
-        if atoms <= self.trail.atoms() {
-            return Ok(());
-        }
-        Err(AllocError)
+        self.trail.place(literal)
     }
 
     pub fn steps(&self) -> &[Step]
@@ -238,71 +326,94 @@ impl Store {
         ensures justified { EachAfter (IsJustified self.now.clauses) self.now.trail.steps }
         ensures unique { HaveOwnIds self.now.clauses }
         ensures fresh { EachAfter IsFresh self.now.trail.steps }
+        ensures consistent { (l : Signed) → Assigns self.now.trail.steps l → Assigns self.now.trail.steps (opposite l) → ⊥ }
         ensures in_order { IsNonDecreasingBy (λ (s : Step). s.depth) self.now.trail.steps }
         ensures deepest { All (λ (s : Step). s.depth ≤ self.now.trail.depth) self.now.trail.steps }
     {
         self.trail.steps()
     }
 
-    // The place of the step with this literal.
-    pub fn place(&self, literal: Literal) -> usize
-        requires { Assigns self.now.trail.steps literal }
-        ensures below { result < length self.now.trail.steps }
-        ensures is { (d : Step) → (slice_index_or self.now.trail.steps result d).literal ≡ literal }
+    pub fn is_kept(&self, id: u64) -> bool
+        ensures yes { result ≡ true → HasKept self.now.clauses id (λ ls. Unit {0}) }
+        ensures no { result ≡ false → HasKept self.now.clauses id (λ ls. Unit {0}) → ⊥ }
     {
-        self.trail.place(literal)
+        if id >= self.rows.len() as u64 {
+            return false;
+        }
+        self.rows.is_live(id as u32)
     }
 
-    // The level of the kept clause of this id.
     pub fn level(&self, id: u64) -> u16
         requires { HasKept self.now.clauses id (λ ls. Unit {0}) }
         ensures { HasLevel self.now.clauses id result }
     {
-        for row in &self.rows {
-            if row.id == id {
-                return row.level;
-            }
-        }
-        0
+        self.rows.level(id as u32)
     }
 
-    // A look at the kept clause of this id.
+    // How many literals a kept clause has.
+    pub fn size(&self, id: u64) -> usize
+        requires { HasKept self.now.clauses id (λ ls. Unit {0}) }
+        ensures { HasKept self.now.clauses id (λ ls. result ≡ length ls) }
+    {
+        self.rows.size(id as u32)
+    }
+
+    // Looks at a kept clause, which is the one way to its literals.
     pub fn look(&mut self, id: u64) -> Looked
         requires { HasKept self.old.clauses id (λ ls. Unit {0}) }
         ensures same { self.new ≡ self.old }
         ensures clause { result ≡ id }
     {
-        Looked { id }
+        self.rows.look(id as u32)
     }
 
-    // The literals of the kept clause that was looked at.
-    pub fn literals(&self, looked: &Looked) -> &[Literal]
-        requires { HasKept self.now.clauses looked.now (λ ls. Unit {0}) }
-        ensures { HasKept self.now.clauses looked.now (λ ls. result.now ≡ ls) }
+    // The literals of a kept clause that is looked at.
+    pub fn literals(&self, looked: Looked) -> &[Literal]
+        requires { HasKept self.now.clauses looked (λ ls. Unit {0}) }
+        ensures { HasKept self.now.clauses looked (λ ls. result.now ≡ ls) }
     {
-        let id = looked.id;
-        for row in &self.rows {
-            if row.id == id {
-                return &row.literals;
-            }
+        self.rows.literals(looked)
+    }
+
+    // How often a clause was looked at; it stands still at its greatest value.
+    pub fn looks(&self) -> u64 {
+        self.rows.looks()
+    }
+
+    fn row_of(&self, id: u64) -> u32
+        requires { HasKept self.now.clauses id (λ ls. Unit {0}) }
+        ensures { result ≡ id }
+    {
+        let _rows = self.rows.len();
+        id as u32
+    }
+
+    // Keeps a clause no longer.
+    pub fn forget(&mut self, id: u64)
+        requires kept { HasKept self.old.clauses id (λ ls. Unit {0}) }
+        requires unused { All (λ (s : Step). s.reason ≡ Some id → ⊥) self.old.trail.steps }
+        ensures { self.new ≡ record self.old { clauses = without id self.old.clauses } }
+    {
+        let row = self.row_of(id);
+        self.rows.forget(row);
+        drop_of(&mut self.waiting, row);
+    }
+
+    // Takes back all steps, and keeps the clauses up to this level.
+    pub fn cut_to(&mut self, level: i32)
+        ensures { self.new ≡ record { clauses = up_to_level level self.old.clauses; trail = record { steps = []; atoms = self.old.trail.atoms; depth = 0 } } }
+    {
+        self.trail.clear();
+        cut_to(&mut self.rows, level);
+        self.saves.clear();
+        self.waiting.clear();
+        self.head = 0;
+        if self.loose {
+            return;
         }
-        &[]
-    }
-
-    pub fn decide(&mut self, literal: Literal)
-        requires known { literal.atom < self.old.trail.atoms }
-        requires is_open { IsOpen self.old.trail.steps literal }
-        requires room { self.old.trail.depth + 1 < 2 ^ 32 }
-        ensures { let step : Step = record { literal = literal; depth = self.old.trail.depth + 1; reason = None } in self.new ≡ record self.old { trail = record { steps = self.old.trail.steps ++ step ∷ []; atoms = self.old.trail.atoms; depth = self.old.trail.depth + 1 } } }
-    {
-        self.trail.decide(literal);
-    }
-
-    pub fn undo_to(&mut self, depth: u32)
-        requires { depth ≤ self.old.trail.depth }
-        ensures undone { self.new ≡ record self.old { trail = record { steps = up_to depth self.old.trail.steps; atoms = self.old.trail.atoms; depth = depth } } }
-        ensures front { (rest : List Step) × (self.old.trail.steps ≡ self.new.trail.steps ++ rest) }
-    {
-        self.trail.undo_to(depth);
+        match calm(&self.rows, &self.trail, 0, &mut self.waiting) {
+            Some(_) => {}
+            None => self.loose = true,
+        }
     }
 }

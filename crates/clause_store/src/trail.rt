@@ -1,9 +1,10 @@
 // The literals decided or reached, in order, and the truth value that each atom has by them.
-ghost use Rattle.std.specs.Prelude.{◌≡◌, ℕ, ◌+◌, ◌^◌, ◌<◌, ◌≤◌, List, [], ◌∷◌, ◌++◌, All, take, length, vec_len, vec_capacity, slice_index_or};
-ghost use Rattle.std.specs.List.Sorted.{IsNonDecreasingBy};
+ghost use Rattle.std.specs.Prelude.{◌≡◌, ℕ, ◌+◌, ◌^◌, ◌<◌, ◌≤◌, List, [], ◌∷◌, ◌++◌, All, take, length, max, vec_len, vec_capacity, slice_set, slice_index_or, OnOk, OnErr};
 ghost use Rattle.clause_store.specs.Trail.{Assigned, IsOpen, MarkOf, Assigns, StatusOf, up_to, mark_of};
+ghost use Rattle.literals.specs.Signed.{Signed, opposite};
 ghost use Rattle.clause_store.specs.Each.{EachAfter};
-ghost use Rattle.clause_store.specs.TrailInvariant.{IsFresh};
+ghost use Rattle.clause_store.specs.TrailInvariant.{IsFresh, Agrees, IsPlaced};
+ghost use Rattle.std.specs.List.Sorted.{IsNonDecreasingBy};
 
 use literals::Literal;
 use std::alloc::{AllocError, Global};
@@ -33,7 +34,10 @@ pub enum Status {
 #[derive(Drop)]
 pub struct Trail {
     steps: Vec<Step>,
+    // the truth of each atom
     marks: Vec<Mark>,
+    // where its step stands, if it has one
+    places: Vec<u32>,
     depth: u32,
 }
 
@@ -70,24 +74,118 @@ fn mark_of(literal: Literal) -> Mark
     }
 }
 
+fn status_by(mark: Mark, literal: Literal) -> Status
+    ensures { (steps : List Step) → MarkOf steps literal.atom mark → StatusOf steps literal result }
+{
+    match mark {
+        Mark::Open => Status::Open,
+        Mark::Positive => if literal.is_positive() {
+            Status::True
+        } else {
+            Status::False
+        },
+        Mark::Negative => if literal.is_positive() {
+            Status::False
+        } else {
+            Status::True
+        },
+    }
+}
+
+fn put_place(places: &mut Vec<u32>, atom: u32, place: usize)
+    requires within { atom < vec_len places.old }
+    requires small { place < 2 ^ 32 }
+    ensures { places.new.items ≡ slice_set places.old.items atom place }
+{
+    places[atom as usize] = place as u32;
+}
+
+// One more atom, which is open, where there is room for it.
+fn push_open(marks: &mut Vec<Mark>, places: &mut Vec<u32>)
+    requires marks { vec_len marks.old < vec_capacity marks.old }
+    requires places { vec_len places.old < vec_capacity places.old }
+    ensures marks { marks.new.items ≡ marks.old.items ++ Mark.Open ∷ [] }
+    ensures places { places.new.items ≡ places.old.items ++ 0 ∷ [] }
+    ensures room { (vec_capacity marks.old ≤ vec_capacity marks.new) × (vec_capacity places.old ≤ vec_capacity places.new) }
+{
+    let marked = marks.push(Mark::Open);
+    prove!(marked.is_ok());
+    let placed = places.push(0);
+    prove!(placed.is_ok());
+}
+
+// Atoms up to this number, where there is room for them.
+fn open_up_to(marks: &mut Vec<Mark>, places: &mut Vec<u32>, atoms: usize)
+    requires few { vec_len marks.old ≤ atoms }
+    requires even { vec_len places.old ≡ vec_len marks.old }
+    requires marks { atoms ≤ vec_capacity marks.old }
+    requires places { atoms ≤ vec_capacity places.old }
+    ensures count { vec_len marks.new ≡ atoms }
+    ensures agrees { (steps : List Step) (depth : ℕ) → Agrees steps marks.old.items depth → Agrees steps marks.new.items depth }
+    ensures placed { (steps : List Step) (depth : ℕ) → Agrees steps marks.old.items depth → IsPlaced steps places.old.items (vec_len marks.old) → IsPlaced steps places.new.items atoms }
+{
+    while marks.len() < atoms {
+        push_open(marks, places);
+    }
+}
+
 impl Trail {
+    pub fn new(alloc: Global) -> Trail
+        ensures { result ≡ record { steps = []; atoms = 0; depth = 0 } }
+    {
+        Trail {
+            steps: Vec::new(alloc),
+            marks: Vec::new(alloc),
+            places: Vec::new(alloc),
+            depth: 0,
+        }
+    }
+
+    // Knows so many atoms, with room for a step of each.
+    pub fn reserve(&mut self, atoms: u32) -> Result<(), AllocError>
+        ensures reserved { OnOk result (self.new ≡ record { steps = self.old.steps; atoms = max self.old.atoms atoms; depth = self.old.depth }) }
+        ensures same { OnErr result (self.new ≡ self.old) }
+    {
+        let known = self.marks.len();
+        let wanted = atoms as usize;
+        if wanted <= known {
+            return Ok(());
+        }
+        if wanted > 1 << 31 {
+            return Err(AllocError);
+        }
+        self.marks.reserve(wanted - known)?;
+        self.places.reserve(wanted - known)?;
+        self.steps.reserve(wanted - self.steps.len())?;
+        open_up_to(&mut self.marks, &mut self.places, wanted);
+        Ok(())
+    }
+
+    // Where a literal stands.
+    pub fn place(&self, literal: Literal) -> usize
+        requires known { literal.atom < self.now.atoms }
+        requires assigned { Assigns self.now.steps literal }
+        ensures within { result < length self.now.steps }
+        ensures literal { (d : Step) → (slice_index_or self.now.steps result d).literal ≡ literal }
+    {
+        self.places[literal.atom() as usize] as usize
+    }
+
+    // Takes away all steps.
+    pub fn clear(&mut self)
+        ensures { self.new ≡ record { steps = []; atoms = self.old.atoms; depth = 0 } }
+    {
+        'clear: while self.steps.len() > 0 {
+            self.drop_last();
+        }
+        self.depth = 0;
+    }
+
     pub fn status(&self, literal: Literal) -> Status
         requires { literal.atom < self.now.atoms }
         ensures { StatusOf self.now.steps literal result }
     {
-        match self.marks[literal.atom() as usize] {
-            Mark::Open => Status::Open,
-            Mark::Positive => if literal.is_positive() {
-                Status::True
-            } else {
-                Status::False
-            },
-            Mark::Negative => if literal.is_positive() {
-                Status::False
-            } else {
-                Status::True
-            },
-        }
+        status_by(self.marks[literal.atom() as usize], literal)
     }
 
     pub fn atoms(&self) -> u32
@@ -119,24 +217,11 @@ impl Trail {
         ensures known { All (λ (s : Step). s.literal.atom < self.now.atoms) self.now.steps }
         ensures room { length self.now.steps ≤ self.now.atoms }
         ensures fresh { EachAfter IsFresh self.now.steps }
+        ensures consistent { (l : Signed) → Assigns self.now.steps l → Assigns self.now.steps (opposite l) → ⊥ }
         ensures in_order { IsNonDecreasingBy (λ (s : Step). s.depth) self.now.steps }
         ensures deepest { All (λ (s : Step). s.depth ≤ self.now.depth) self.now.steps }
     {
         &self.steps
-    }
-
-    // The place of the step with this literal.
-    pub fn place(&self, literal: Literal) -> usize
-        requires { Assigns self.now.steps literal }
-        ensures below { result < length self.now.steps }
-        ensures is { (d : Step) → (slice_index_or self.now.steps result d).literal ≡ literal }
-    {
-        for i in 0..self.steps.len() {
-            if self.steps[i].literal == literal {
-                return i;
-            }
-        }
-        0
     }
 
     pub fn assign(&mut self, literal: Literal, reason: Option<u64>)
@@ -146,6 +231,7 @@ impl Trail {
         ensures steps { let step : Step = record { literal = literal; depth = self.old.depth; reason = reason } in self.new ≡ record self.old { steps = self.old.steps ++ step ∷ [] } }
     {
         let mark = mark_of(literal);
+        put_place(&mut self.places, literal.atom(), self.steps.len());
         push_within(
             &mut self.steps,
             Step {
@@ -164,6 +250,7 @@ impl Trail {
         ensures { let step : Step = record { literal = literal; depth = self.old.depth + 1; reason = None } in self.new ≡ record { steps = self.old.steps ++ step ∷ []; atoms = self.old.atoms; depth = self.old.depth + 1 } }
     {
         let mark = mark_of(literal);
+        put_place(&mut self.places, literal.atom(), self.steps.len());
         self.depth += 1;
         push_within(
             &mut self.steps,

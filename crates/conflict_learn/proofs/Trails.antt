@@ -89,3 +89,9 @@ reason_others clauses steps k r ls own each ordered lt e h =
 
 pub as_kept : (clauses : List Kept) (id : ℕ) (P : List Signed → Type 0) → HasKept clauses id P → HasKept clauses id (λ ls. Unit {0})
 as_kept clauses id P h = (h.0, h.1, h.2, tt)
+
+-- what is on the trail has a known atom
+pub known_on : (steps : List Step) (n : ℕ) (l : Signed) → All (λ (s : Step). s.literal.atom < n) steps → Assigns steps l → l.atom < n
+known_on steps n l h on =
+    let p = place_at steps l on in
+    subst (λ (x : Signed). x.atom < n) p.2 (h p.0 no_step p.1)

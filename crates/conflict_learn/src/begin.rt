@@ -34,7 +34,7 @@ impl Analysis {
         ensures begins { OnOk result (Begins store.old.clauses store.old.trail.steps id self.new) }
     {
         let looked = store.look(id);
-        let literals = false_literals(store, id, &looked);
+        let literals = false_literals(store, id, looked);
         let count = store.steps().len();
         let depth = greatest_depth(store, literals);
         self.clear(count, depth)?;

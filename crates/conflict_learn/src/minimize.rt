@@ -4,7 +4,8 @@ ghost use Rattle.conflict_learn.specs.Analysing.{step_at, KnownBy};
 
 use crate::analysis::{Analysis, Mark};
 use crate::reasons::{look_at_reason, place_of, reason_literals, step};
-use clause_store::store::{Looked, Store};
+use clause_store::rows::Looked;
+use clause_store::store::Store;
 use std::alloc::{AllocError, Global};
 
 // What was found before of a step that wasn't seen.
@@ -33,10 +34,10 @@ pub fn reset_flags(flags: &mut Vec<Flag>, count: usize) -> Result<(), AllocError
 }
 
 // The place of the step by which a literal of the reason is false, unless it is the literal that follows.
-fn other_place(store: &Store, place: usize, reason: u64, looked: &Looked, k: usize) -> Option<usize>
+fn other_place(store: &Store, place: usize, reason: u64, looked: Looked, k: usize) -> Option<usize>
     requires within { place < length store.now.trail.steps }
     requires reason { (step_at store.now.trail.steps place).reason ≡ Some reason }
-    requires looked { looked.now ≡ reason }
+    requires looked { looked ≡ reason }
     ensures { IfSome result (λ below. below < place) }
 {
     let own = step(store, place);
@@ -97,9 +98,9 @@ fn all_follow(
     ensures flags { length flags.new ≡ length flags.old }
 {
     let looked = look_at_reason(store, place, reason);
-    let count = reason_literals(store, place, reason, &looked).len();
+    let count = reason_literals(store, place, reason, looked).len();
     for k in 0..count {
-        if let Some(below) = other_place(store, place, reason, &looked, k) {
+        if let Some(below) = other_place(store, place, reason, looked, k) {
             match recall(analysis, store, flags, below) {
                 Known::Yes => {}
                 Known::No => return false,

@@ -5,7 +5,8 @@ ghost use Rattle.clause_store.specs.Stored.{AllFalse, IsFalseOn};
 ghost use Rattle.clause_store.specs.Found.{HasKept};
 ghost use Rattle.conflict_learn.specs.Analysing.{step_at, IsFalseBelow};
 
-use clause_store::store::{Looked, Store};
+use clause_store::rows::Looked;
+use clause_store::store::Store;
 use clause_store::trail::Step;
 use literals::Literal;
 
@@ -42,10 +43,10 @@ pub fn look_at_reason(store: &mut Store, place: usize, reason: u64) -> Looked
 }
 
 // Its literals.
-pub fn reason_literals<'a>(store: &'a Store, place: usize, reason: u64, looked: &Looked) -> &'a [Literal]
+pub fn reason_literals<'a>(store: &'a Store, place: usize, reason: u64, looked: Looked) -> &'a [Literal]
     requires within { place < length store.now.trail.steps }
     requires reason { (step_at store.now.trail.steps place).reason ≡ Some reason }
-    requires looked { looked.now ≡ reason }
+    requires looked { looked ≡ reason }
     ensures kept { HasKept store.now.clauses reason (λ ls. result.now ≡ ls) }
     ensures others { All (λ m. (Some (step_at store.now.trail.steps place).literal ≡ Some m) ⊎ IsFalseBelow store.now.trail.steps place (step_at store.now.trail.steps place).depth m) result.now }
 {
@@ -54,9 +55,9 @@ pub fn reason_literals<'a>(store: &'a Store, place: usize, reason: u64, looked: 
 }
 
 // The literals of a kept clause that is false.
-pub fn false_literals<'a>(store: &'a Store, id: u64, looked: &Looked) -> &'a [Literal]
+pub fn false_literals<'a>(store: &'a Store, id: u64, looked: Looked) -> &'a [Literal]
     requires false_clause { HasKept store.now.clauses id (AllFalse store.now.trail.steps) }
-    requires looked { looked.now ≡ id }
+    requires looked { looked ≡ id }
     ensures kept { HasKept store.now.clauses id (λ ls. result.now ≡ ls) }
     ensures all_false { AllFalse store.now.trail.steps result.now }
 {
@@ -70,5 +71,6 @@ pub fn false_place(store: &Store, literal: Literal) -> usize
     ensures within { result < length store.now.trail.steps }
     ensures is { (step_at store.now.trail.steps result).literal ≡ opposite literal }
 {
+    let _steps = store.steps();
     store.place(literal.negated())
 }

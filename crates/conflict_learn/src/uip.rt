@@ -32,7 +32,7 @@ impl Analysis {
     {
         let looked = look_at_reason(store, place, reason);
         let literal = step(store, place).literal;
-        let literals = reason_literals(store, place, reason, &looked);
+        let literals = reason_literals(store, place, reason, looked);
         self.take_in(store, reason, literals, place, Some(literal))?;
         self.mark(place, Mark::Resolved);
         Ok(())

@@ -1,0 +1,222 @@
+-- One clause more.
+use Rattle.std.proofs.Common.{◌≡◌, ℕ, ◌+◌, ◌<◌, ◌≤◌, suc, Bool, true, false, List, [], ◌∷◌, ◌++◌, All, Contains, length, get_or, set, take, subst, sym, ap, ◌∙◌, refl, inl, inr, ◌⊎◌, arith, add-zero}
+use Rattle.std.proofs.lemmas.List.{get_or_append_left, get_or_push, length_push, length-set, take-take}
+use Rattle.std.proofs.lemmas.List.Elements.{All-weaker, All-push, All-contains, Contains-append_left, Contains-push, Contains-push_cases, Contains-get_or}
+use Rattle.literals.specs.Signed.{Signed, opposite, packed}
+use Rattle.clause_store.specs.Trail.{Assigns}
+use Rattle.clause_store.specs.declared.trail.Step.{Step}
+use Rattle.clause_store.specs.Stored.{Kept}
+use Rattle.clause_store.specs.Entries.{Entry, entry_at, no_entry, watches_of, IsKnown}
+use Rattle.clause_store.specs.Watching.{IsSettled, IsPair, IsListed, IsSound, IsWatching, kept_of, kept_from}
+use Rattle.clause_store.specs.Rested.{Rested, IsWaiting, Waits, save_at}
+use Rattle.clause_store.proofs.Watches.{below_or_at, IsListed-push, IsListed-new}
+use Rattle.clause_store.specs.Choosing.{IsChoice, Stands}
+use Rattle.clause_store.specs.Gaining.{KeepsUp}
+use Rattle.clause_store.specs.declared.choose.Choice.{Choice}
+use Rattle.clause_store.specs.declared.choose.Standing.TheVariants.{Awake, Waits as Waiting, Stirred}
+use Rattle.clause_store.proofs.Turning.{Assigns-front, code_within}
+use Rattle.clause_store.proofs.Sweeping.{live_within, equal_or_apart, watches_of-same, watches_of-other, IsKnown-contained}
+use Rattle.clause_store.specs.declared.lists.Watch.{Watch}
+use Rattle.clause_store.specs.declared.waits.Save.{Save}
+use Rattle.clause_store.specs.declared.waits.Wait.{Wait}
+
+pub entry_at-old : (es : List Entry) (e : Entry) (i : ℕ) → i < length es → entry_at (es ++ e ∷ []) i ≡ entry_at es i
+entry_at-old es e i lt = get_or_append_left es (e ∷ []) no_entry i lt
+
+pub entry_at-new : (es : List Entry) (e : Entry) (i : ℕ) → length es ≡ i → entry_at (es ++ e ∷ []) i ≡ e
+entry_at-new es e i is = get_or_push es e no_entry i is
+
+-- ---- the kept clauses
+
+by_live : (n : ℕ) (x : Entry) (es : List Entry) (e : Entry) (b : Bool) → x.live ≡ b → kept_from (n + 1) (es ++ e ∷ []) ≡ kept_from (n + 1) es ++ kept_of (n + 1 + length es) e ∷ []
+    → kept_from n (x ∷ (es ++ e ∷ [])) ≡ kept_from n (x ∷ es) ++ kept_of (n + 1 + length es) e ∷ []
+by_live n x es e true is h = rw is (ap (λ (cs : List Kept). kept_of n x ∷ cs) h)
+by_live n x es e false is h = rw is h
+
+count_more : (n m : ℕ) → n + 1 + m ≡ n + suc m
+count_more n m = omega arith
+
+pub kept_from-push : (n : ℕ) (es : List Entry) (e : Entry) → e.live ≡ true → kept_from n (es ++ e ∷ []) ≡ kept_from n es ++ kept_of (n + length es) e ∷ []
+kept_from-push n [] e live = rw (live, add-zero) refl
+kept_from-push n (x ∷ es) e live =
+    by_live n x es e x.live refl (kept_from-push (n + 1) es e live) ∙ ap (λ m. kept_from n (x ∷ es) ++ kept_of m e ∷ []) (count_more n (length es))
+
+-- ---- the watches
+
+abbrev pub add_watch : List (List Watch) → Signed → Watch → List (List Watch)
+add_watch lists l w = set lists (packed l) (watches_of lists l ++ w ∷ [])
+
+pub listed-add : (lists : List (List Watch)) (m l : Signed) (w : Watch) (i : ℕ) → packed m < length lists → IsListed (watches_of lists l) 0 i → IsListed (watches_of (add_watch lists m w) l) 0 i
+listed-add lists m l w i lt h = elim (equal_or_apart l m) [
+  | inl same ↦ subst (λ x. IsListed (watches_of (add_watch lists m w) x) 0 i) (sym same)
+      (rw (watches_of-same lists m (watches_of lists m ++ w ∷ []) lt) (IsListed-push (watches_of lists m) w 0 i (subst (λ x. IsListed (watches_of lists x) 0 i) same h)))
+  | inr apart ↦ rw (watches_of-other lists m l (watches_of lists m ++ w ∷ []) apart) h
+]
+
+pub sound-add : (P : Watch → Type 0) (lists : List (List Watch)) (m l : Signed) (w : Watch) → packed m < length lists → ((x : Signed) → All P (watches_of lists x)) → P w → All P (watches_of (add_watch lists m w) l)
+sound-add P lists m l w lt h p = elim (equal_or_apart l m) [
+  | inl same ↦ subst (λ x. All P (watches_of (add_watch lists m w) x)) (sym same) (rw (watches_of-same lists m (watches_of lists m ++ w ∷ []) lt) (All-push P (watches_of lists m) w (h m) p))
+  | inr apart ↦ rw (watches_of-other lists m l (watches_of lists m ++ w ∷ []) apart) (h l)
+]
+
+pub listed-here : (lists : List (List Watch)) (m : Signed) (w : Watch) → packed m < length lists → IsListed (watches_of (add_watch lists m w) m) 0 w.row
+listed-here lists m w lt = rw (watches_of-same lists m (watches_of lists m ++ w ∷ []) lt) (IsListed-new (watches_of lists m) w)
+
+-- a clause more, and a watch of it in the lists of its two watched literals
+pub IsWatching-add : (atoms : ℕ) (es : List Entry) (lists : List (List Watch)) (e : Entry) (v w : Watch) → IsWatching atoms es lists → IsKnown atoms e → IsPair e
+    → packed e.first < length lists → packed e.second < length lists → v.row ≡ length es → w.row ≡ length es → v.blocker ≡ e.second → w.blocker ≡ e.first
+    → IsWatching atoms (es ++ e ∷ []) (add_watch (add_watch lists e.first v) e.second w)
+IsWatching-add atoms es lists e v w h known pair f s rv rw' bv bw =
+    let es' : List Entry = es ++ e ∷ [] in
+    let mid : List (List Watch) = add_watch lists e.first v in
+    let lists' : List (List Watch) = add_watch mid e.second w in
+    let len : length es' ≡ length es + 1 = length_push es e in
+    let new : entry_at es' (length es) ≡ e = entry_at-new es e (length es) refl in
+    let s' : packed e.second < length mid = omega (arith, length-set lists (packed e.first) (watches_of lists e.first ++ v ∷ [])) in
+    let old : (x : Watch) → IsSound atoms es x → IsSound atoms es' x = λ x k.
+    let lt : x.row < length es = k.within in
+    record { within = omega arith; known = k.known; blocker = rw (entry_at-old es e x.row lt) k.blocker } in
+    let of_new : (x : Watch) → x.row ≡ length es → Contains e.literals x.blocker → IsSound atoms es' x = λ x r c.
+    record {
+      within = omega arith;
+      known = IsKnown-contained atoms e x.blocker known c;
+      blocker = λ l. subst (λ n. Contains (entry_at es' n).literals x.blocker) (sym r) (rw new c);
+    } in
+    let grown : (l : Signed) (i : ℕ) → IsListed (watches_of lists l) 0 i → IsListed (watches_of lists' l) 0 i = λ l i a. listed-add mid e.second l w i s' (listed-add lists e.first l v i f a) in
+    record {
+      known = λ i lt. elim (below_or_at i (length es) (omega arith)) [
+        | inl below ↦ rw (entry_at-old es e i below) (h.known i below)
+        | inr at ↦ subst (λ n. IsKnown atoms (entry_at es' n)) (sym at) (rw new known)
+      ];
+      pairs = λ i live. elim (below_or_at i (length es) (let lt : i < length es' = live_within es' i live in omega arith)) [
+        | inl below ↦ rw (entry_at-old es e i below) (h.pairs i (rw (entry_at-old es e i below) at live))
+        | inr at ↦ subst (λ n. IsPair (entry_at es' n)) (sym at) (rw new pair)
+      ];
+      sound = λ l. sound-add (IsSound atoms es') mid e.second l w s'
+          (λ x. sound-add (IsSound atoms es') lists e.first x v f (λ y. All-weaker (IsSound atoms es) (IsSound atoms es') old (watches_of lists y) (h.sound y)) (of_new v rv (subst (Contains e.literals) (sym bv) pair.second)))
+          (of_new w rw' (subst (Contains e.literals) (sym bw) pair.first));
+      listed = λ i live. elim (below_or_at i (length es) (let lt : i < length es' = live_within es' i live in omega arith)) [
+        | inl below ↦
+            let was : (entry_at es i).live ≡ true = rw (entry_at-old es e i below) at live in
+            rw (entry_at-old es e i below) (grown (entry_at es i).first i (h.listed i was).0, grown (entry_at es i).second i (h.listed i was).1)
+        | inr at ↦ subst (λ n. IsListed (watches_of lists' (entry_at es' n).first) 0 n × IsListed (watches_of lists' (entry_at es' n).second) 0 n) (sym at)
+            (rw new (listed-add mid e.second e.first w (length es) s' (subst (IsListed (watches_of mid e.first) 0) rv (listed-here lists e.first v f)), subst (IsListed (watches_of lists' e.second) 0) rw' (listed-here mid e.second w s')))
+      ];
+      room = omega (arith, length-set mid (packed e.second) (watches_of mid e.second ++ w ∷ []), length-set lists (packed e.first) (watches_of lists e.first ++ v ∷ []), h.room);
+    }
+
+-- ---- the depths
+
+All-from : {X : Type 0} (P : X → Type 0) (xs : List X) → ((x : X) → Contains xs x → P x) → All P xs
+All-from P xs h k d lt = h (get_or xs k d) (Contains-get_or xs k d lt)
+
+waits_in : (ws ws' : List Wait) (i : ℕ) → ((w : Wait) → Contains ws w → Contains ws' w) → Waits ws i → Waits ws' i
+waits_in ws ws' i keeps h = record { wait = h.wait; contained = keeps h.wait h.contained; row = h.row }
+
+less_seen : (seen seen' steps : List Step) (e : Entry) → ((l : Signed) → Assigns seen' l → Assigns seen l) → IsSettled seen steps e → IsSettled seen' steps e
+less_seen seen seen' steps e less (inl s) = inl s
+less_seen seen seen' steps e less (inr a) = inr (record { apart = a.apart; first = λ x. a.first (less (opposite e.first) x); second = λ x. a.second (less (opposite e.second) x) })
+
+pub Rested-add : (es : List Entry) (e : Entry) (steps : List Step) (depth head head' : ℕ) (saves : List Save) (ws ws' : List Wait) → Rested es steps depth head saves ws → head' ≤ head
+    → ((w : Wait) → Contains ws w → Contains ws' w) → ((w : Wait) → Contains ws' w → Contains ws w ⊎ (IsWaiting (es ++ e ∷ []) steps w × (length es ≤ w.row)))
+    → IsSettled (take head' steps) steps e ⊎ Waits ws' (length es) → Rested (es ++ e ∷ []) steps depth head' saves ws'
+Rested-add es e steps depth head head' saves ws ws' h le keeps only new =
+    let es' : List Entry = es ++ e ∷ [] in
+    let len : length es' ≡ length es + 1 = length_push es e in
+    let is_new : entry_at es' (length es) ≡ e = entry_at-new es e (length es) refl in
+    let within : head ≤ length steps = h.head_within in
+    let rows : (d : ℕ) → d < depth → (save_at saves d).rows ≤ length es = h.rows_within in
+    record {
+      count = h.count;
+      deepest = h.deepest;
+      head_within = omega arith;
+      ascending = h.ascending;
+      rows_within = λ d lt. let r : (save_at saves d).rows ≤ length es = rows d lt in omega arith;
+      heads_within = h.heads_within;
+      current = λ i live. elim (below_or_at i (length es) (let lt : i < length es' = live_within es' i live in omega arith)) [
+        | inl below ↦ rw (entry_at-old es e i below) (elim (h.current i (rw (entry_at-old es e i below) at live)) [
+          | inl done ↦ inl (less_seen (take head steps) (take head' steps) steps (entry_at es i)
+              (λ l a. Assigns-front head' (take head steps) l (subst (λ xs. Assigns xs l) (sym (take-take head' head steps le)) a)) done)
+          | inr waits ↦ inr (waits_in ws ws' i keeps waits)
+        ])
+        | inr at ↦ subst (λ n. IsSettled (take head' steps) steps (entry_at es' n) ⊎ Waits ws' n) (sym at) (rw is_new new)
+      ];
+      lower = λ d lt i below live.
+          let r : (save_at saves d).rows ≤ length es = rows d lt in
+          let old : i < length es = omega arith in
+          rw (entry_at-old es e i old) (elim (h.lower d lt i below (rw (entry_at-old es e i old) at live)) [ inl done ↦ inl done | inr waits ↦ inr (waits_in ws ws' i keeps waits) ]);
+      waiting = All-from (IsWaiting es' steps) ws' (λ w c. elim (only w c) [
+        | inl old ↦
+            let was : IsWaiting es steps w = All-contains (IsWaiting es steps) ws w h.waiting old in
+            let lt : w.row < length es = live_within es w.row was.live in
+            record { live = rw (entry_at-old es e w.row lt) was.live; contained = rw (entry_at-old es e w.row lt) was.contained; rest = rw (entry_at-old es e w.row lt) was.rest }
+        | inr k ↦ k.0
+      ]);
+      waiting_lower = λ d lt w c below.
+          let r : (save_at saves d).rows ≤ length es = rows d lt in
+          let old : w.row < length es = omega arith in
+          rw (entry_at-old es e w.row old) (elim (only w c) [
+            | inl was ↦ h.waiting_lower d lt w was below
+            | inr k ↦ absurd (let past : length es ≤ w.row = k.1 in omega arith)
+          ]);
+    }
+
+-- ---- the clause as it is chosen to be watched
+
+abbrev pub new_entry : List Signed → Signed → Signed → ℕ → Entry
+new_entry ls a b level = record { literals = ls; first = a; second = b; level = level; live = true }
+
+watching_added : (atoms : ℕ) (steps : List Step) (es : List Entry) (lists : List (List Watch)) (ls : List Signed) (level : ℕ) (c : Choice) (v w : Watch) → IsWatching atoms es lists → All (λ (l : Signed). l.atom < atoms) ls → IsChoice steps ls c
+    → v.row ≡ length es → w.row ≡ length es → v.blocker ≡ c.second → w.blocker ≡ c.first → IsWatching atoms (es ++ new_entry ls c.first c.second level ∷ []) (add_watch (add_watch lists c.first v) c.second w)
+watching_added atoms steps es lists ls level c v w h known ch rv rw' bv bw =
+    let a : c.first.atom < atoms = All-contains (λ (l : Signed). l.atom < atoms) ls c.first known ch.first in
+    let b : c.second.atom < atoms = All-contains (λ (l : Signed). l.atom < atoms) ls c.second known ch.second in
+    IsWatching-add atoms es lists (new_entry ls c.first c.second level) v w h (record { literals = known; first = a; second = b }) (record { first = ch.first; second = ch.second; single = ch.single })
+    (code_within c.first atoms (length lists) a h.room) (code_within c.second atoms (length lists) b h.room) rv rw' bv bw
+
+pub keeps-awake : (atoms : ℕ) (steps : List Step) (es : List Entry) (lists : List (List Watch)) (ls : List Signed) (level : ℕ) (c : Choice) (v w : Watch) (ws : List Wait) (head : ℕ) → All (λ (l : Signed). l.atom < atoms) ls → IsChoice steps ls c
+    → v.row ≡ length es → w.row ≡ length es → v.blocker ≡ c.second → w.blocker ≡ c.first → c.standing ≡ Awake
+    → KeepsUp atoms steps es (es ++ new_entry ls c.first c.second level ∷ []) lists (add_watch (add_watch lists c.first v) c.second w) ws ws head head
+keeps-awake atoms steps es lists ls level c v w ws head known ch rv rw' bv bw st = λ saves depth k.
+    let stands : Stands steps ls c.first c.second Awake = subst (Stands steps ls c.first c.second) st ch.stands in
+    record {
+      watch = watching_added atoms steps es lists ls level c v w k.watch known ch rv rw' bv bw;
+      rested = Rested-add es (new_entry ls c.first c.second level) steps depth head head saves ws ws k.rested (omega arith) (λ x m. m) (λ x m. inl m)
+          (inl (inr (record { apart = stands.0; first = λ x. stands.1 (Assigns-front head steps (opposite c.first) x); second = λ x. stands.2 (Assigns-front head steps (opposite c.second) x) })));
+    }
+
+none_seen : (steps : List Step) (l : Signed) → Assigns (take 0 steps) l → ⊥
+none_seen steps l h = omega (arith, h.1)
+
+pub keeps-stirred : (atoms : ℕ) (steps : List Step) (es : List Entry) (lists : List (List Watch)) (ls : List Signed) (level : ℕ) (c : Choice) (v w : Watch) (ws : List Wait) (head : ℕ) → All (λ (l : Signed). l.atom < atoms) ls → IsChoice steps ls c
+    → v.row ≡ length es → w.row ≡ length es → v.blocker ≡ c.second → w.blocker ≡ c.first → c.standing ≡ Stirred
+    → KeepsUp atoms steps es (es ++ new_entry ls c.first c.second level ∷ []) lists (add_watch (add_watch lists c.first v) c.second w) ws ws head 0
+keeps-stirred atoms steps es lists ls level c v w ws head known ch rv rw' bv bw st = λ saves depth k.
+    let stands : Stands steps ls c.first c.second Stirred = subst (Stands steps ls c.first c.second) st ch.stands in
+    record {
+      watch = watching_added atoms steps es lists ls level c v w k.watch known ch rv rw' bv bw;
+      rested = Rested-add es (new_entry ls c.first c.second level) steps depth head 0 saves ws ws k.rested (omega arith) (λ x m. m) (λ x m. inl m)
+          (inl (inr (record { apart = stands; first = λ x. none_seen steps (opposite c.first) x; second = λ x. none_seen steps (opposite c.second) x })));
+    }
+
+pub keeps-waits : (atoms : ℕ) (steps : List Step) (es : List Entry) (lists : List (List Watch)) (ls : List Signed) (level : ℕ) (c : Choice) (v w : Watch) (ws : List Wait) (x : Wait) (head : ℕ) → All (λ (l : Signed). l.atom < atoms) ls → IsChoice steps ls c
+    → v.row ≡ length es → w.row ≡ length es → v.blocker ≡ c.second → w.blocker ≡ c.first → c.standing ≡ Waiting → x.row ≡ length es → x.literal ≡ c.first
+    → KeepsUp atoms steps es (es ++ new_entry ls c.first c.second level ∷ []) lists (add_watch (add_watch lists c.first v) c.second w) ws (ws ++ x ∷ []) head head
+keeps-waits atoms steps es lists ls level c v w ws x head known ch rv rw' bv bw st xr xl = λ saves depth k.
+    let stands : Stands steps ls c.first c.second Waiting = subst (Stands steps ls c.first c.second) st ch.stands in
+    let e : Entry = new_entry ls c.first c.second level in
+    let here : entry_at (es ++ e ∷ []) x.row ≡ e = entry_at-new es e x.row (sym xr) in
+    let waits : IsWaiting (es ++ e ∷ []) steps x = record {
+      live = rw here refl;
+      contained = rw (here, xl) ch.first;
+      rest = rw (here, xl) stands;
+    } in
+    record {
+      watch = watching_added atoms steps es lists ls level c v w k.watch known ch rv rw' bv bw;
+      rested = Rested-add es e steps depth head head saves ws (ws ++ x ∷ []) k.rested (omega arith) (λ y m. Contains-append_left ws (x ∷ []) y m)
+          (λ y m. elim (Contains-push_cases ws x y m) [
+            | inl old ↦ inl old
+            | inr same ↦ inr (subst (IsWaiting (es ++ e ∷ []) steps) same waits, let r : y.row ≡ length es = sym (ap (λ (z : Wait). z.row) same) ∙ xr in omega arith)
+          ])
+          (inr (record { wait = x; contained = Contains-push ws x; row = xr }));
+    }

@@ -1,0 +1,50 @@
+-- What a look at a clause gives.
+use Rattle.std.proofs.Common.{◌≡◌, ℕ, List, [], ◌∷◌, ◌++◌, Some, All, Contains, ◌⊎◌, inl, inr, refl, subst, sym, ap, ◌∙◌}
+use Rattle.std.proofs.lemmas.List.Elements.{All-weaker}
+use Rattle.std.proofs.lemmas.List.{get_or_default}
+use Rattle.std.proofs.Common.{get_or, length, ◌<◌, ◌≤◌, arith}
+use Rattle.literals.specs.Signed.{Signed}
+use Rattle.clause_store.specs.declared.trail.Step.{Step}
+use Rattle.clause_store.specs.Trail.{IsOpen}
+use Rattle.clause_store.specs.Stored.{IsFalseOn, AllFalse}
+use Rattle.clause_store.specs.Entries.{Entry, entry_at}
+use Rattle.clause_store.specs.Visits.{Parts, StepGives, Transfers, IsFoundAt, NoneBetween}
+use Rattle.clause_store.specs.declared.lists.Watch.{Watch}
+use Rattle.clause_store.specs.declared.sweep.Visit.{Visit}
+use Rattle.clause_store.specs.declared.sweep.Visit.TheVariants.{Keep, Gone, False, NoRoom}
+
+parts_same : (es es' : List Entry) (lists lists' : List (List Watch)) (steps : List Step) → es' ≡ es → lists' ≡ lists
+    → let a : Parts = record { entries = es'; lists = lists'; steps = steps } in let b : Parts = record { entries = es; lists = lists; steps = steps } in a ≡ b
+parts_same es es' lists lists' steps e l = ap (λ (x : List Entry). let p : Parts = record { entries = x; lists = lists'; steps = steps } in p) e ∙ ap (λ (x : List (List Watch)). let p : Parts = record { entries = es; lists = x; steps = steps } in p) l
+
+pub step-transfer : (found o : Signed) (row depth : ℕ) (es es' : List Entry) (lists lists' : List (List Watch)) (steps : List Step) (v : Visit)
+    → Contains (entry_at es row).literals found × (found ≡ o → ⊥) × (IsFalseOn steps found → ⊥) → Transfers found o row es es' lists lists' v
+    → StepGives o row depth (record { entries = es; lists = lists; steps = steps }) (record { entries = es'; lists = lists'; steps = steps }) v
+step-transfer found o row depth es es' lists lists' steps (Keep b) h t = absurd t
+step-transfer found o row depth es es' lists lists' steps Gone h t = record { found = found; apart = h.1; contained = h.0; not_false = h.2; entries = t.0; lists = t.1; steps = refl }
+step-transfer found o row depth es es' lists lists' steps False h t = absurd t
+step-transfer found o row depth es es' lists lists' steps NoRoom h t = parts_same es es' lists lists' steps t.0 t.1
+
+pub all_false : (steps : List Step) (o : Signed) (ls : List Signed) → IsFalseOn steps o → All (λ m. (m ≡ o) ⊎ IsFalseOn steps m) ls → AllFalse steps ls
+all_false steps o ls f h = All-weaker (λ m. (m ≡ o) ⊎ IsFalseOn steps m) (IsFalseOn steps) (λ m p. elim p [ inl e ↦ subst (IsFalseOn steps) (sym e) f | inr g ↦ g ]) ls h
+
+below_or_past : (a b : ℕ) → (a < b) ⊎ (b ≤ a)
+below_or_past a b = grind arith
+
+pub none_at_all : (steps : List Step) (ls : List Signed) (o : Signed) (place : ℕ) → NoneBetween steps ls o place (length ls) → NoneBetween steps ls o 0 place → All (λ m. (m ≡ o) ⊎ IsFalseOn steps m) ls
+none_at_all steps ls o place back front k d lt =
+    rw (get_or_default ls k d o lt) (elim (below_or_past k place) [ inl below ↦ front.none k (omega arith) below | inr past ↦ back.none k past lt ])
+
+pub step-implies : (o : Signed) (row depth : ℕ) (es es' : List Entry) (lists : List (List Watch)) (steps steps' : List Step) → es' ≡ es → IsOpen steps o
+    → All (λ m. (m ≡ o) ⊎ IsFalseOn steps m) (entry_at es row).literals → (let step : Step = record { literal = o; depth = depth; reason = Some row } in steps' ≡ steps ++ step ∷ [])
+    → StepGives o row depth (record { entries = es; lists = lists; steps = steps }) (record { entries = es'; lists = lists; steps = steps' }) (Keep o)
+step-implies o row depth es es' lists steps steps' e open' rest gains = (refl, inr (record { was_open = open'; rest = rest; entries = e; lists = refl; steps = gains }))
+
+pub step-false : (o : Signed) (row depth : ℕ) (es es' : List Entry) (lists : List (List Watch)) (steps : List Step) → es' ≡ es → IsFalseOn steps o → All (λ m. (m ≡ o) ⊎ IsFalseOn steps m) (entry_at es row).literals
+    → StepGives o row depth (record { entries = es; lists = lists; steps = steps }) (record { entries = es'; lists = lists; steps = steps }) False
+step-false o row depth es es' lists steps e f rest = record { same = parts_same es es' lists lists steps e refl; all_false = all_false steps o (entry_at es row).literals f rest }
+
+pub found_at : (steps : List Step) (ls : List Signed) (o : Signed) (k : ℕ) (l : Signed) → IsFoundAt steps ls o k → l ≡ get_or ls k l → Contains ls l × (l ≡ o → ⊥) × (IsFalseOn steps l → ⊥)
+found_at steps ls o k l h is =
+    let e : l ≡ get_or ls k o = is ∙ get_or_default ls k l o h.within in
+    ((k, h.within, sym is), λ same. h.apart (sym e ∙ same), λ f. h.not_false (subst (IsFalseOn steps) e f))

@@ -1,0 +1,36 @@
+// Keeps the clauses up to a level, with nothing assigned.
+ghost use Rattle.std.specs.Prelude.{◌≡◌, ℕ, ◌<◌, ◌^◌, length, int_le, nat_lt, pos};
+ghost use Rattle.clause_store.specs.Stored.{up_to_level};
+ghost use Rattle.clause_store.specs.Watching.{kept_from};
+ghost use Rattle.clause_store.specs.Cutting.{IsCut, IsFewer};
+
+use crate::rows::Rows;
+
+// The least number above all levels up to this.
+fn bound(level: i32) -> u32
+    ensures { (n : ℕ) → nat_lt n result ≡ int_le (pos n) level }
+{
+    if level < 0 { 0 } else { level as u32 + 1 }
+}
+
+// Forgets the clauses of levels that aren't below the bound.
+fn cut_rows(rows: &mut Rows, bound: u32)
+    requires small { length rows.old < 2 ^ 32 }
+    ensures { IsCut bound rows.old rows.new (length rows.old) }
+{
+    for i in 0..rows.len() {
+        let row = i as u32;
+        if rows.level(row) as u32 >= bound {
+            rows.forget(row);
+        }
+    }
+}
+
+// Forgets the clauses of levels above this.
+pub fn cut_to(rows: &mut Rows, level: i32)
+    requires small { length rows.old < 2 ^ 32 }
+    ensures fewer { IsFewer rows.old rows.new }
+    ensures clauses { kept_from 0 rows.new ≡ up_to_level level (kept_from 0 rows.old) }
+{
+    cut_rows(rows, bound(level));
+}

@@ -1,0 +1,256 @@
+// One pass over the watches of a literal that became false.
+ghost use Rattle.std.specs.Prelude.{◌≡◌, ℕ, true, false, ◌*◌, ◌<◌, ◌≤◌, ◌⊎◌, List, [], ◌∷◌, ◌++◌, All, Contains, length, slice_set, IfSome, IfNone};
+ghost use Rattle.literals.specs.Signed.{Signed, packed};
+ghost use Rattle.clause_store.specs.Trail.{Assigns};
+ghost use Rattle.clause_store.specs.Stored.{IsFalseOn};
+ghost use Rattle.clause_store.specs.Entries.{entry_at, IsKnown};
+ghost use Rattle.clause_store.specs.Watching.{IsWatching, Grows, kept_from};
+ghost use Rattle.clause_store.specs.Sweeps.{SweptGives};
+ghost use Rattle.clause_store.specs.Visits.{VisitGives, StepGives, Transfers, IsFoundAt, NoneBetween, Parts};
+
+use crate::lists::{Watch, WatchList};
+use crate::rows::Rows;
+use crate::trail::{Status, Trail};
+use literals::Literal;
+
+#[derive(Clone, Copy)]
+pub enum Visit {
+    Keep(Literal),
+    Gone,
+    False,
+    NoRoom,
+}
+
+pub fn is_false(trail: &Trail, literal: Literal) -> bool
+    requires { literal.atom < trail.now.atoms }
+    ensures says_true { result ≡ true → IsFalseOn trail.now.steps literal }
+    ensures says_false { result ≡ false → IsFalseOn trail.now.steps literal → ⊥ }
+{
+    match trail.status(literal) {
+        Status::False => true,
+        _ => false,
+    }
+}
+
+fn is_true(trail: &Trail, literal: Literal) -> bool
+    requires { literal.atom < trail.now.atoms }
+    ensures says { result ≡ true → Assigns trail.now.steps literal }
+{
+    match trail.status(literal) {
+        Status::True => true,
+        _ => false,
+    }
+}
+
+// Whether a clause may be watched by this literal beside the other.
+fn passes(literal: Literal, other: Literal, trail: &Trail) -> bool
+    requires { literal.atom < trail.now.atoms }
+    ensures yes { result ≡ true → (literal ≡ other → ⊥) × (IsFalseOn trail.now.steps literal → ⊥) }
+    ensures no { result ≡ false → (literal ≡ other) ⊎ IsFalseOn trail.now.steps literal }
+{
+    if literal == other {
+        return false;
+    }
+    !is_false(trail, literal)
+}
+
+// A literal that isn't false, and isn't this other one.
+pub fn find(literals: &[Literal], other: Literal, trail: &Trail) -> Option<Literal>
+    requires { All (λ (l : Signed). l.atom < trail.now.atoms) literals.now }
+    ensures some { IfSome result (λ l. Contains literals.now l × (l ≡ other → ⊥) × (IsFalseOn trail.now.steps l → ⊥)) }
+    ensures none { IfNone result (All (λ m. (m ≡ other) ⊎ IsFalseOn trail.now.steps m) literals.now) }
+{
+    for literal in literals {
+        if passes(*literal, other, trail) {
+            return Some(*literal);
+        }
+    }
+    None
+}
+
+// The place of such a literal between two places.
+fn seek(
+    literals: &[Literal],
+    start: usize,
+    end: usize,
+    other: Literal,
+    trail: &Trail,
+) -> Option<usize>
+    requires known { All (λ (l : Signed). l.atom < trail.now.atoms) literals.now }
+    requires within { end ≤ length literals.now }
+    ensures some { IfSome result (IsFoundAt trail.now.steps literals.now other) }
+    ensures none { IfNone result (NoneBetween trail.now.steps literals.now other start end) }
+{
+    for k in start..end {
+        if passes(literals[k], other, trail) {
+            return Some(k);
+        }
+    }
+    None
+}
+
+// The same from a place on and then up to it.
+fn seek_from(literals: &[Literal], place: usize, other: Literal, trail: &Trail) -> Option<usize>
+    requires known { All (λ (l : Signed). l.atom < trail.now.atoms) literals.now }
+    ensures some { IfSome result (IsFoundAt trail.now.steps literals.now other) }
+    ensures none { IfNone result (All (λ m. (m ≡ other) ⊎ IsFalseOn trail.now.steps m) literals.now) }
+{
+    let len = literals.len();
+    let from = if place < len { place } else { 0 };
+    if let Some(k) = seek(literals, from, len, other, trail) {
+        return Some(k);
+    }
+    match seek(literals, 0, from, other, trail) {
+        Some(k) => Some(k),
+        None => None,
+    }
+}
+
+// Looks at a clause for a literal that isn't false, and isn't this other one.
+fn look_for(row: u32, other: Literal, rows: &mut Rows, trail: &Trail) -> Option<Literal>
+    requires place { row < length rows.old }
+    requires known { All (λ (l : Signed). l.atom < trail.now.atoms) (entry_at rows.old row).literals }
+    ensures same { rows.new ≡ rows.old }
+    ensures some { IfSome result (λ l. Contains (entry_at rows.old row).literals l × (l ≡ other → ⊥) × (IsFalseOn trail.now.steps l → ⊥)) }
+    ensures none { IfNone result (All (λ m. (m ≡ other) ⊎ IsFalseOn trail.now.steps m) (entry_at rows.old row).literals) }
+{
+    let looked = rows.look(row);
+    let place = rows.place(row);
+    match seek_from(rows.literals(looked), place, other, trail) {
+        None => None,
+        Some(k) => {
+            let found = rows.literals(looked)[k];
+            rows.go_on(row, k);
+            Some(found)
+        }
+    }
+}
+
+// Looks at one watch of a literal that is false.
+fn look_at(
+    f: Literal,
+    watch: Watch,
+    rows: &mut Rows,
+    lists: &mut [WatchList],
+    trail: &mut Trail,
+) -> Visit
+    requires place { watch.row < length rows.old }
+    requires blocker { watch.blocker.atom < trail.old.atoms }
+    requires known { IsKnown trail.old.atoms (entry_at rows.old watch.row) }
+    requires lists { 2 * trail.old.atoms ≤ length lists.old }
+    ensures gives { VisitGives f watch trail.old.depth (record { entries = rows.old; lists = lists.old; steps = trail.old.steps }) (record { entries = rows.new; lists = lists.new; steps = trail.new.steps }) result }
+    ensures same { (trail.new.atoms ≡ trail.old.atoms) × (trail.new.depth ≡ trail.old.depth) }
+{
+    if is_true(trail, watch.blocker) {
+        return Visit::Keep(watch.blocker);
+    }
+    if !rows.is_live(watch.row) {
+        return Visit::Gone;
+    }
+    let first = rows.first(watch.row);
+    let second = rows.second(watch.row);
+    if first == f {
+        return step(second, watch.row, rows, lists, trail);
+    }
+    if second == f {
+        return step(first, watch.row, rows, lists, trail);
+    }
+    Visit::Gone
+}
+
+// Looks at a clause whose one watched literal is false, and the other is this.
+fn step(
+    other: Literal,
+    row: u32,
+    rows: &mut Rows,
+    lists: &mut [WatchList],
+    trail: &mut Trail,
+) -> Visit
+    requires place { row < length rows.old }
+    requires other { other.atom < trail.old.atoms }
+    requires known { IsKnown trail.old.atoms (entry_at rows.old row) }
+    requires lists { 2 * trail.old.atoms ≤ length lists.old }
+    ensures gives { StepGives other row trail.old.depth (record { entries = rows.old; lists = lists.old; steps = trail.old.steps }) (record { entries = rows.new; lists = lists.new; steps = trail.new.steps }) result }
+    ensures same { (trail.new.atoms ≡ trail.old.atoms) × (trail.new.depth ≡ trail.old.depth) }
+{
+    match trail.status(other) {
+        Status::True => Visit::Keep(other),
+        Status::Open => match look_for(row, other, rows, trail) {
+            Some(found) => transfer(found, other, row, rows, lists),
+            None => {
+                trail.assign(other, Some(row as u64));
+                Visit::Keep(other)
+            }
+        },
+        Status::False => match look_for(row, other, rows, trail) {
+            Some(found) => transfer(found, other, row, rows, lists),
+            None => Visit::False,
+        },
+    }
+}
+
+// Watches the clause by two other literals.
+fn transfer(
+    found: Literal,
+    other: Literal,
+    row: u32,
+    rows: &mut Rows,
+    lists: &mut [WatchList],
+) -> Visit
+    requires place { row < length rows.old }
+    requires list { packed found < length lists.old }
+    ensures { Transfers found other row rows.old rows.new lists.old lists.new result }
+{
+    let list = &mut lists[found.code()];
+    if !list.push_in_room(Watch {
+        blocker: other,
+        row,
+    }) {
+        return Visit::NoRoom;
+    }
+    rows.watch(row, other, found);
+    Visit::Gone
+}
+
+#[derive(Clone, Copy)]
+pub enum Swept {
+    Whole,
+    False(u32),
+    NoRoom,
+}
+
+// Goes through the watches of a literal that became false.
+pub fn sweep(
+    f: Literal,
+    list: &mut WatchList,
+    rows: &mut Rows,
+    lists: &mut [WatchList],
+    trail: &mut Trail,
+) -> Swept
+    requires watching { IsWatching trail.old.atoms rows.old (slice_set lists.old (packed f) list.old) }
+    requires is_false { IsFalseOn trail.old.steps f }
+    requires place { packed f < length lists.old }
+    ensures gives { SweptGives trail.old.atoms trail.old.depth f (record { entries = rows.old; lists = lists.old; steps = trail.old.steps; list = list.old }) (record { entries = rows.new; lists = lists.new; steps = trail.new.steps; list = list.new }) result }
+    ensures grows { Grows (kept_from 0 rows.old) trail.old.depth trail.old.steps trail.new.steps }
+    ensures clauses { kept_from 0 rows.new ≡ kept_from 0 rows.old }
+    ensures count { length rows.new ≡ length rows.old }
+    ensures same { (trail.new.atoms ≡ trail.old.atoms) × (trail.new.depth ≡ trail.old.depth) }
+{
+    let mut k = 0;
+    'watches: while k < list.len() {
+        let watch = list.get(k);
+        let row = watch.row;
+        match look_at(f, watch, rows, lists, trail) {
+            Visit::Keep(blocker) => {
+                list.set(k, Watch { blocker, row });
+                k += 1;
+            }
+            Visit::Gone => {
+                list.take_out(k);
+            }
+            Visit::False => return Swept::False(row),
+            Visit::NoRoom => return Swept::NoRoom,
+        }
+    }
+    Swept::Whole
+}

@@ -1,0 +1,100 @@
+// Clauses that wait for their one literal to be forced, and what is saved at a decision.
+ghost use Rattle.std.specs.Prelude.{◌≡◌, ℕ, ◌<◌, true, List, [], ◌∷◌, ◌++◌, All, IfSome, IfNone, Contains};
+ghost use Rattle.literals.specs.Signed.{Signed};
+ghost use Rattle.clause_store.specs.Trail.{Assigns};
+ghost use Rattle.clause_store.specs.Entries.{Entry};
+ghost use Rattle.clause_store.specs.Watching.{Grows, kept_from};
+ghost use Rattle.clause_store.specs.Rested.{IsWaiting};
+ghost use Rattle.clause_store.specs.declared.waits.Wait.{Wait};
+ghost use Rattle.clause_store.specs.Forcing.{ForceGives, AllForced, IsFalseWait};
+
+use crate::trail::{Status, Trail};
+use literals::Literal;
+
+// How far the steps were gone through, and how many clauses there were.
+#[derive(Clone, Copy)]
+pub struct Save {
+    pub head: usize,
+    pub rows: u32,
+}
+
+// A clause, by its place, whose other literals are false.
+#[derive(Clone, Copy)]
+pub struct Wait {
+    pub row: u32,
+    pub literal: Literal,
+}
+
+fn force(wait: Wait, trail: &mut Trail) -> bool
+    requires { wait.literal.atom < trail.old.atoms }
+    ensures gives { ForceGives wait trail.old.depth trail.old.steps trail.new.steps result }
+    ensures same { (trail.new.atoms ≡ trail.old.atoms) × (trail.new.depth ≡ trail.old.depth) }
+{
+    match trail.status(wait.literal) {
+        Status::True => true,
+        Status::False => false,
+        Status::Open => {
+            trail.assign(wait.literal, Some(wait.row as u64));
+            true
+        }
+    }
+}
+
+// Puts the literals of waiting clauses on the trail; answers a clause whose literal is false.
+pub fn force_all(waiting: &[Wait], trail: &mut Trail) -> Option<Wait>
+    requires { All (λ (w : Wait). w.literal.atom < trail.old.atoms) waiting.now }
+    ensures grows { (es : List Entry) → All (IsWaiting es trail.old.steps) waiting.now → Grows (kept_from 0 es) trail.old.depth trail.old.steps trail.new.steps }
+    ensures more { (l : Signed) → Assigns trail.old.steps l → Assigns trail.new.steps l }
+    ensures none { IfNone result (AllForced trail.new.steps waiting.now) }
+    ensures some { IfSome result (λ w. Contains waiting.now w × IsFalseWait trail.new.steps w) }
+    ensures same { (trail.new.atoms ≡ trail.old.atoms) × (trail.new.depth ≡ trail.old.depth) }
+{
+    for wait in waiting {
+        if !force(*wait, trail) {
+            return Some(*wait);
+        }
+    }
+    None
+}
+
+// Takes out those of clauses from this place on.
+pub fn drop_from(waiting: &mut Vec<Wait>, bound: u32)
+    ensures keeps { (w : Wait) → Contains waiting.old.items w → w.row < bound → Contains waiting.new.items w }
+    ensures only { (w : Wait) → Contains waiting.new.items w → Contains waiting.old.items w × (w.row < bound) }
+{
+    let mut k = 0;
+    'waits: while k < waiting.len() {
+        if waiting[k].row >= bound {
+            waiting.swap_remove(k);
+        } else {
+            k += 1;
+        }
+    }
+}
+
+// Takes out those of a clause.
+pub fn drop_of(waiting: &mut Vec<Wait>, row: u32)
+    ensures keeps { (w : Wait) → Contains waiting.old.items w → (w.row ≡ row → ⊥) → Contains waiting.new.items w }
+    ensures only { (w : Wait) → Contains waiting.new.items w → Contains waiting.old.items w × (w.row ≡ row → ⊥) }
+{
+    let mut k = 0;
+    'waits: while k < waiting.len() {
+        if waiting[k].row == row {
+            waiting.swap_remove(k);
+        } else {
+            k += 1;
+        }
+    }
+}
+
+// Adds one where that takes no memory.
+pub fn wait_in_room(waiting: &mut Vec<Wait>, wait: Wait) -> bool
+    ensures added { result ≡ true → waiting.new.items ≡ waiting.old.items ++ wait ∷ [] }
+{
+    if waiting.len() >= waiting.capacity() {
+        return false;
+    }
+    let pushed = waiting.push(wait);
+    prove!(pushed.is_ok());
+    true
+}
