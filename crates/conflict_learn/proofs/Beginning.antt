@@ -18,9 +18,9 @@ use Rattle.conflict_learn.proofs.Marks.{unseen_or_seen, seen_where_waiting, seen
 
 unseen_at : (n k : ℕ) → mark_at (replicate n Unseen) k ≡ Unseen
 unseen_at n k = elim (below_or_past k n) [
-    inl lt ↦ get_or-replicate n k Unseen Unseen lt
+  | inl lt ↦ get_or-replicate n k Unseen Unseen lt
   | inr past ↦ get_or_past (replicate n Unseen) k Unseen (omega (arith, length-replicate n Unseen))
-  ]
+]
   where
     below_or_past : (k n : ℕ) → (k < n) ⊎ (n ≤ k)
     below_or_past k n = grind arith
@@ -62,8 +62,8 @@ begun clauses steps id first new depth ls e has greatest t own fresh =
     let deepest : new.deepest ≡ depth = t.grew.deepest ∙ ap (λ (s : State). s.deepest) e in
     let c = t.covers in
     let all : All (λ m. SeenAt steps new.marks (length steps) (opposite m)) (c.0).literals =
-        All-weaker (λ m. (None ≡ Some m) ⊎ SeenAt steps new.marks (length steps) (opposite m)) (λ m. SeenAt steps new.marks (length steps) (opposite m))
-        (λ m o. elim o [ inl none ↦ absurd (none_twice m none) | inr at ↦ at ]) (c.0).literals c.3 in
+    All-weaker (λ m. (None ≡ Some m) ⊎ SeenAt steps new.marks (length steps) (opposite m)) (λ m. SeenAt steps new.marks (length steps) (opposite m))
+    (λ m o. elim o [ inl none ↦ absurd (none_twice m none) | inr at ↦ at ]) (c.0).literals c.3 in
     let count : pending first.deepest steps new.marks (length steps) + first.count ≡ pending first.deepest steps first.marks (length steps) + new.count = t.grew.counted in
     let zero_count : first.count ≡ 0 = ap (λ (s : State). s.count) e in
     let zero_pending : pending first.deepest steps first.marks (length steps) ≡ 0 = ap (λ ms. pending first.deepest steps ms (length steps)) (ap (λ (s : State). s.marks) e) ∙ pending-empty first.deepest steps (length steps) (length steps) in
@@ -100,11 +100,11 @@ pub greatest-more : (steps : List Step) (ls : List Signed) (n p now new : ℕ) (
 greatest-more steps ls n p now new l lt is in' lit o h =
     let t : take (n + 1) ls ≡ take n ls ++ l ∷ [] = take_more ls n l lt ∙ ap (λ x. take n ls ++ x ∷ []) (sym is) in
     subst (λ xs. IsGreatest steps xs new) (sym t) (elim o [
-      inl (le, e) ↦ subst (IsGreatest steps (take n ls ++ l ∷ [])) (sym e) record {
+      | inl (le, e) ↦ subst (IsGreatest steps (take n ls ++ l ∷ [])) (sym e) record {
         all = All-push (IsFalseBelow steps (length steps) now) (take n ls) l h.all (record { place = p; within = in'; literal = lit; shallow = le });
         some = λ pos. let g = h.some pos in (g.0, Contains-append_left (take n ls) (l ∷ []) g.0 g.1, g.2, g.3, g.4, g.5);
       }
-    | inr (more, e) ↦ subst (IsGreatest steps (take n ls ++ l ∷ [])) (sym e) record {
+      | inr (more, e) ↦ subst (IsGreatest steps (take n ls ++ l ∷ [])) (sym e) record {
         all = All-push (IsFalseBelow steps (length steps) (step_at steps p).depth) (take n ls) l
             (All-weaker (IsFalseBelow steps (length steps) now) (IsFalseBelow steps (length steps) (step_at steps p).depth) (λ m f. deeper steps (length steps) now (step_at steps p).depth m (omega arith) f) (take n ls) h.all)
             (record { place = p; within = in'; literal = lit; shallow = omega arith });

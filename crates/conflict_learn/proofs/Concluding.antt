@@ -41,9 +41,9 @@ two_signs l m e = by_sign l.atom m.atom l.positive m.positive e
 
 before_atoms : (steps : List Step) (j k : ℕ) → EachAfter IsFresh steps → j < k → k < length steps → (step_at steps j).literal.atom ≡ (step_at steps k).literal.atom → ⊥
 before_atoms steps j k fresh lt in' e = elim (two_signs (step_at steps j).literal (step_at steps k).literal e) [
-    inl same ↦ (fresh k no_step in').0 (subst (Assigns (take k steps)) same (assigns_before steps j k lt in'))
+  | inl same ↦ (fresh k no_step in').0 (subst (Assigns (take k steps)) same (assigns_before steps j k lt in'))
   | inr other ↦ (fresh k no_step in').1 (subst (Assigns (take k steps)) other (assigns_before steps j k lt in'))
-  ]
+]
 
 order : (j k : ℕ) → (j < k) ⊎ ((k < j) ⊎ (j ≡ k))
 order j k = grind arith
@@ -51,9 +51,9 @@ order j k = grind arith
 -- an atom has one step
 pub same_atom : (steps : List Step) (j k : ℕ) → EachAfter IsFresh steps → j < length steps → k < length steps → (step_at steps j).literal.atom ≡ (step_at steps k).literal.atom → j ≡ k
 same_atom steps j k fresh lj lk e = elim (order j k) [
-    inl lt ↦ absurd (before_atoms steps j k fresh lt lk e)
+  | inl lt ↦ absurd (before_atoms steps j k fresh lt lk e)
   | inr o ↦ elim o [ inl gt ↦ absurd (before_atoms steps k j fresh gt lj (sym e)) | inr same ↦ same ]
-  ]
+]
 
 record IsStepUpTo (steps : List Step) (d : ℕ) (l : Signed) : Type 0 where
   place : ℕ
@@ -88,9 +88,9 @@ step_up_to steps d l on =
 kept_by : (p : Step → Bool) (steps : List Step) (s : Step) → Contains steps s → p s ≡ true → Contains (filter p steps) s
 kept_by p [] s c on = absurd (none_in s c)
 kept_by p (t ∷ ts) s c on = elim (in_cases t s ts c) [
-    inl e ↦ let now : p t ≡ true = ap p e ∙ on in rw now (subst (Contains (t ∷ filter p ts)) e (in_head t (filter p ts)))
+  | inl e ↦ let now : p t ≡ true = ap p e ∙ on in rw now (subst (Contains (t ∷ filter p ts)) e (in_head t (filter p ts)))
   | inr rest ↦ by_test (p t) (kept_by p ts s rest on)
-  ]
+]
   where
     by_test : (b : Bool) → Contains (filter p ts) s → Contains (cond b (t ∷ filter p ts) (filter p ts)) s
     by_test true h = in_tail t s (filter p ts) h
@@ -119,35 +119,36 @@ same_bool false false = inl refl
 
 same_literal : (l m : Signed) → (l ≡ m) ⊎ (l ≡ m → ⊥)
 same_literal l m = elim (same_or_apart l.atom m.atom) [
-    inl e ↦ elim (two_signs l m e) [ inl same ↦ inl same | inr other ↦ inr (λ same. not_opposite m (sym same ∙ other)) ]
+  | inl e ↦ elim (two_signs l m e) [ inl same ↦ inl same | inr other ↦ inr (λ same. not_opposite m (sym same ∙ other)) ]
   | inr ne ↦ inr (λ same. ne (ap (λ (x : Signed). x.atom) same))
-  ]
+]
 
 found : (ls : List Signed) (l : Signed) → Contains ls l ⊎ (Contains ls l → ⊥)
 found [] l = inr (none_in l)
 found (m ∷ ls) l = elim (same_literal m l) [
-    inl e ↦ inl (subst (Contains (m ∷ ls)) e (in_head m ls))
+  | inl e ↦ inl (subst (Contains (m ∷ ls)) e (in_head m ls))
   | inr ne ↦ elim (found ls l) [
-      inl c ↦ inl (in_tail m l ls c)
+    | inl c ↦ inl (in_tail m l ls c)
     | inr off ↦ inr (λ c. elim (in_cases m l ls c) [ inl e ↦ ne e | inr rest ↦ off rest ])
-    ]
   ]
+]
 
 pub decidable : (steps : List Step) → IsDecidable steps
 decidable steps l = elim (found (literals steps) l) [
-    inl on ↦ inl on
+  | inl on ↦ inl on
   | inr off ↦ elim (found (literals steps) (opposite l)) [ inl on ↦ inr (inl on) | inr out ↦ inr (inr (off, out)) ]
-  ]
+]
 
 -- the literal of a step that is deeper is open
 pub open_below : (steps : List Step) (d k : ℕ) → EachAfter IsFresh steps → k < length steps → d < (step_at steps k).depth → IsOpen (up_to d steps) (falsified steps k)
-open_below steps d k fresh lt deep =
-    (λ a. let p = step_up_to steps d (falsified steps k) a in
-          let same : p.place ≡ k = same_atom steps p.place k fresh p.within lt (ap (λ (x : Signed). x.atom) p.literal) in
-          let le : (step_at steps k).depth ≤ d = subst (λ j. (step_at steps j).depth ≤ d) same p.shallow in absurd (omega arith),
-     λ a. let p = step_up_to steps d (opposite (falsified steps k)) a in
-          let same : p.place ≡ k = same_atom steps p.place k fresh p.within lt (ap (λ (x : Signed). x.atom) p.literal) in
-          let le : (step_at steps k).depth ≤ d = subst (λ j. (step_at steps j).depth ≤ d) same p.shallow in absurd (omega arith))
+open_below steps d k fresh lt deep = (
+  λ a. let p = step_up_to steps d (falsified steps k) a in
+      let same : p.place ≡ k = same_atom steps p.place k fresh p.within lt (ap (λ (x : Signed). x.atom) p.literal) in
+      let le : (step_at steps k).depth ≤ d = subst (λ j. (step_at steps j).depth ≤ d) same p.shallow in absurd (omega arith),
+  λ a. let p = step_up_to steps d (opposite (falsified steps k)) a in
+      let same : p.place ≡ k = same_atom steps p.place k fresh p.within lt (ap (λ (x : Signed). x.atom) p.literal) in
+      let le : (step_at steps k).depth ≤ d = subst (λ j. (step_at steps j).depth ≤ d) same p.shallow in absurd (omega arith),
+)
 
 pub false_up_to : (steps : List Step) (d k : ℕ) → k < length steps → (step_at steps k).depth ≤ d → IsFalseOn (up_to d steps) (falsified steps k)
 false_up_to steps d k lt le = subst (Assigns (up_to d steps)) (sym (opposite_twice (step_at steps k).literal)) (on_up_to steps d k lt le)
@@ -166,28 +167,30 @@ map_all P steps (k ∷ ks) h = All-cons P (falsified steps k) (map (falsified st
 
 pub own_atoms : (steps : List Step) (ks : List ℕ) → EachAfter IsFresh steps → All (λ k. k < length steps) ks → AreApart ks → HaveOwnAtoms (map (falsified steps) ks)
 own_atoms steps [] fresh h apart = tt
-own_atoms steps (k ∷ ks) fresh h apart =
-    (map_all (λ m. m.atom ≢ (falsified steps k).atom) steps ks (λ j c e.
-        let lj : j < length steps = All-contains (λ k. k < length steps) ks j (All-tail (λ k. k < length steps) k ks h) c in
-        let same : j ≡ k = same_atom steps j k fresh lj (All-head (λ k. k < length steps) k ks h) e in
-        apart.0 (subst (Contains ks) same c)),
-     own_atoms steps ks fresh (All-tail (λ k. k < length steps) k ks h) apart.1)
+own_atoms steps (k ∷ ks) fresh h apart = (
+  map_all (λ m. m.atom ≢ (falsified steps k).atom) steps ks (λ j c e.
+      let lj : j < length steps = All-contains (λ k. k < length steps) ks j (All-tail (λ k. k < length steps) k ks h) c in
+      let same : j ≡ k = same_atom steps j k fresh lj (All-head (λ k. k < length steps) k ks h) e in
+      apart.0 (subst (Contains ks) same c)),
+  own_atoms steps ks fresh (All-tail (λ k. k < length steps) k ks h) apart.1,
+)
 
 pub greatest_of : (steps : List Step) (ks : List ℕ) → All (λ k. k < length steps) ks → IsHeaded steps ks → IsGreatestDepth steps (map (falsified steps) ks) (first_depth steps ks)
 greatest_of steps [] h headed = refl
-greatest_of steps (k ∷ ks) h headed =
-    (false_at steps k (step_at steps k).depth (All-head (λ k. k < length steps) k ks h) refl,
-     map_all (IsFalseUpTo steps (step_at steps k).depth) steps ks (λ j c.
-         false_most steps j (step_at steps k).depth (All-contains (λ k. k < length steps) ks j (All-tail (λ k. k < length steps) k ks h) c)
-         (All-contains (λ p. (step_at steps p).depth ≤ (step_at steps k).depth) ks j headed c)))
+greatest_of steps (k ∷ ks) h headed = (
+  false_at steps k (step_at steps k).depth (All-head (λ k. k < length steps) k ks h) refl,
+  map_all (IsFalseUpTo steps (step_at steps k).depth) steps ks (λ j c.
+      false_most steps j (step_at steps k).depth (All-contains (λ k. k < length steps) ks j (All-tail (λ k. k < length steps) k ks h) c)
+      (All-contains (λ p. (step_at steps p).depth ≤ (step_at steps k).depth) ks j headed c)),
+)
 
 -- ---- the whole
 
 reached_premise : (clauses : List Kept) (steps : List Step) (s : State) (id : ℕ) → IsSound clauses steps s → Contains s.premises id → HasPremiseAt clauses s.premises s.level
 reached_premise clauses steps s id h c = elim h.reached [
-    inl (none, e) ↦ absurd (none_in id (subst (λ ids. Contains ids id) none c))
+  | inl (none, e) ↦ absurd (none_in id (subst (λ ids. Contains ids id) none c))
   | inr (b, kept, among, e) ↦ record { premise = b; kept = kept; among = among; at_level = e }
-  ]
+]
 
 pub comes_from : (clauses : List Kept) (steps : List Step) (s : State) (id : ℕ) (places : List ℕ) → IsSound clauses steps s → IsGrounded clauses steps id s
     → ((k : ℕ) → is_waiting (mark_at s.marks k) ≡ true → Contains places k) → ComesFrom clauses s.premises s.level (map (falsified steps) places)
@@ -202,12 +205,12 @@ comes_from clauses steps s id places h g waits = record {
 waits_among : (clauses : List Kept) (steps : List Step) (s : State) (uip : ℕ) (kept : List ℕ) → IsSound clauses steps s → IsOnly steps s uip → IsSplit steps s (length s.lower) kept
     → (k : ℕ) → is_waiting (mark_at s.marks k) ≡ true → Contains (uip ∷ kept) k
 waits_among clauses steps s uip kept h only split k on = elim (h.sorted k on) [
-    inl deep ↦ subst (Contains (uip ∷ kept)) (sym (only.only k on deep)) (in_head uip kept)
+  | inl deep ↦ subst (Contains (uip ∷ kept)) (sym (only.only k on deep)) (in_head uip kept)
   | inr low ↦ elim (All-contains (λ k. (is_resolved (mark_at s.marks k) ≡ true) ⊎ Contains kept k) s.lower k (subst (All (λ k. (is_resolved (mark_at s.marks k) ≡ true) ⊎ Contains kept k)) (take_all (length s.lower) s.lower (omega arith)) split.settled) low) [
-      inl r ↦ absurd (not_waiting_and_resolved (mark_at s.marks k) on r)
+    | inl r ↦ absurd (not_waiting_and_resolved (mark_at s.marks k) on r)
     | inr c ↦ in_tail uip k kept c
-    ]
   ]
+]
 
 -- what is known of the kept places
 pub record AreLow (clauses : List Kept) (steps : List Step) (s : State) (k : ℕ) : Type 0 where
@@ -219,10 +222,10 @@ low_kept : (clauses : List Kept) (steps : List Step) (s : State) (kept : List �
 low_kept clauses steps s kept h split =
     let all : All (Contains s.lower) kept = subst (λ ks. All (Contains ks) kept) (take_all (length s.lower) s.lower (omega arith)) split.of_lower in
     All-weaker (Contains s.lower) (AreLow clauses steps s) (λ k c.
-        let l = All-contains (λ k. (is_seen (mark_at s.marks k) ≡ true) × ((step_at steps k).depth < s.deepest)) s.lower k h.low c in
-        let lt : k < length s.marks = seen_within s.marks k l.0 in
-        let r : length s.marks ≡ length steps = h.room in
-        record { within = omega arith; seen = l.0; low = l.1 }) kept all
+    let l = All-contains (λ k. (is_seen (mark_at s.marks k) ≡ true) × ((step_at steps k).depth < s.deepest)) s.lower k h.low c in
+    let lt : k < length s.marks = seen_within s.marks k l.0 in
+    let r : length s.marks ≡ length steps = h.room in
+    record { within = omega arith; seen = l.0; low = l.1 }) kept all
 
 as_deepest : (steps : List Step) (ls : List Signed) (d : ℕ) → 0 < d → IsGreatest steps ls d → IsDeepest steps ls d
 as_deepest steps ls d pos g =
@@ -250,12 +253,12 @@ concluded st id uip old s kept ls fresh pos greatest h e =
     let deep : (step_at steps uip).depth ≡ s.deepest = h.only.deep in
     let off : Contains kept uip → ⊥ = λ c. (let l : AreLow st.clauses steps s uip = All-contains (AreLow st.clauses steps s) kept uip low c in let x : (step_at steps uip).depth < s.deepest = l.low in omega arith) in
     let stands : (k : ℕ) → Contains (uip ∷ kept) k → IsDrawn st.clauses s.premises (falsified steps k) = λ k c.
-            (let on : is_seen (mark_at s.marks k) ≡ true = elim (in_cases uip k kept c) [
-                inl same ↦ subst (λ j. is_seen (mark_at s.marks j) ≡ true) same (seen_where_waiting (mark_at s.marks uip) h.only.waits)
-              | inr rest ↦ (All-contains (AreLow st.clauses steps s) kept k low rest).seen
-              ] in
-             let d : StandsIn st.clauses s.premises (falsified steps k) = h.sound.drawn k on in
-             record { premise = d.premise; kept = d.kept; among = d.among; has = d.has }) in
+    (let on : is_seen (mark_at s.marks k) ≡ true = elim (in_cases uip k kept c) [
+      | inl same ↦ subst (λ j. is_seen (mark_at s.marks j) ≡ true) same (seen_where_waiting (mark_at s.marks uip) h.only.waits)
+      | inr rest ↦ (All-contains (AreLow st.clauses steps s) kept k low rest).seen
+    ] in
+    let d : StandsIn st.clauses s.premises (falsified steps k) = h.sound.drawn k on in
+    record { premise = d.premise; kept = d.kept; among = d.among; has = d.has }) in
     subst (λ xs. IsLearnt st id s.premises xs s.level (first_depth steps kept)) (sym e) record {
       comes = comes_from st.clauses steps s id (uip ∷ kept) h.sound h.grounded (waits_among st.clauses steps s uip kept h.sound h.only h.split);
       drawn = map_all (IsDrawn st.clauses s.premises) steps (uip ∷ kept) stands;
@@ -273,8 +276,8 @@ concluded st id uip old s kept ls fresh pos greatest h e =
           not_forced (up_to (s.deepest - 1) steps) known [] (map (falsified steps) kept) (falsified steps uip) (consistent_up_to steps (s.deepest - 1) fresh) (decidable (up_to (s.deepest - 1) steps))
           (λ c k. All-contains (IsQuiet (up_to (s.deepest - 1) steps)) known c quiet k) (open_below steps (s.deepest - 1) uip fresh h.only.within (omega arith))
           (λ m c. All-contains (IsFalseOn (up_to (s.deepest - 1) steps)) (map (falsified steps) kept) m
-              (map_all (IsFalseOn (up_to (s.deepest - 1) steps)) steps kept (λ k i. (let l : AreLow st.clauses steps s k = All-contains (AreLow st.clauses steps s) kept k low i in
-                 let x : (step_at steps k).depth < s.deepest = l.low in false_up_to steps (s.deepest - 1) k l.within (omega arith)))) c)
+          (map_all (IsFalseOn (up_to (s.deepest - 1) steps)) steps kept (λ k i. (let l : AreLow st.clauses steps s k = All-contains (AreLow st.clauses steps s) kept k low i in
+          let x : (step_at steps k).depth < s.deepest = l.low in false_up_to steps (s.deepest - 1) k l.within (omega arith)))) c)
           forces;
     }
 

@@ -16,8 +16,16 @@ use Rattle.conflict_learn.proofs.Taking.{opposite_twice}
 
 pub sound-less : (clauses : List Kept) (steps : List Step) (s : State) → IsSound clauses steps s → IsSound clauses steps (with_less s)
 sound-less clauses steps s h = record {
-  room = h.room; are_kept = h.are_kept; within = h.within; reached = h.reached; resolved = h.resolved; drawn = h.drawn;
-  shallow = h.shallow; sorted = h.sorted; low = h.low; apart = h.apart;
+  room = h.room;
+  are_kept = h.are_kept;
+  within = h.within;
+  reached = h.reached;
+  resolved = h.resolved;
+  drawn = h.drawn;
+  shallow = h.shallow;
+  sorted = h.sorted;
+  low = h.low;
+  apart = h.apart;
   few = let f : length s.lower + s.count + _ ≤ length steps = h.few in omega (arith, f);
 }
 
@@ -37,12 +45,12 @@ pub resolves-taken : (clauses : List Kept) (steps : List Step) (reason place : �
 resolves-taken clauses steps reason place old mid new on t e =
     let now : is_seen (mark_at mid.marks place) ≡ true = grew_stays steps place old mid t.grew place on in
     let at : IsResolvedAt clauses steps mid.marks mid.premises place = record {
-          by = t.covers.0;
-          kept = t.covers.1;
-          among = subst (λ ids. Contains ids (t.covers.0).id) (sym t.premises) (subst (Contains (old.premises ++ reason ∷ [])) (sym t.covers.2) (last old.premises reason));
-          covers = All-weaker (λ m. (Some (step_at steps place).literal ≡ Some m) ⊎ SeenAt steps mid.marks place (opposite m)) (λ m. (m ≡ (step_at steps place).literal) ⊎ SeenAt steps mid.marks place (opposite m))
-              (λ m o. elim o [ inl same ↦ inl (sym (of_some _ _ same)) | inr s ↦ inr s ]) (t.covers.0).literals t.covers.3;
-        } in
+      by = t.covers.0;
+      kept = t.covers.1;
+      among = subst (λ ids. Contains ids (t.covers.0).id) (sym t.premises) (subst (Contains (old.premises ++ reason ∷ [])) (sym t.covers.2) (last old.premises reason));
+      covers = All-weaker (λ m. (Some (step_at steps place).literal ≡ Some m) ⊎ SeenAt steps mid.marks place (opposite m)) (λ m. (m ≡ (step_at steps place).literal) ⊎ SeenAt steps mid.marks place (opposite m))
+          (λ m o. elim o [ inl same ↦ inl (sym (of_some _ _ same)) | inr s ↦ inr s ]) (t.covers.0).literals t.covers.3;
+    } in
     subst (Resolves clauses steps place old) (sym e) record {
       sound = sound-resolved clauses steps mid place t.sound now at;
       between = mid;
@@ -53,6 +61,7 @@ resolves-taken clauses steps reason place old mid new on t e =
   where
     last : (ids : List ℕ) (id : ℕ) → Contains (ids ++ id ∷ []) id
     last ids id = Contains-push ids id
+
     of_some : (x y : Signed) → Some x ≡ Some y → x ≡ y
     of_some x y e = cc
 
@@ -70,8 +79,13 @@ pub grounded_stays : (clauses : List Kept) (steps : List Step) (id : ℕ) (old n
 grounded_stays clauses steps id old new stays more h =
     let f = h.false_clause in
     record {
-      false_clause = (f.0, f.1, f.2, All-weaker (λ m. SeenAt steps old.marks (length steps) (opposite m)) (λ m. SeenAt steps new.marks (length steps) (opposite m))
-          (λ m s. SeenAt-stays steps old.marks new.marks (length steps) (opposite m) stays s) (f.0).literals f.3);
+      false_clause = (
+        f.0,
+        f.1,
+        f.2,
+        All-weaker (λ m. SeenAt steps old.marks (length steps) (opposite m)) (λ m. SeenAt steps new.marks (length steps) (opposite m))
+            (λ m s. SeenAt-stays steps old.marks new.marks (length steps) (opposite m) stays s) (f.0).literals f.3,
+      );
       among = more id h.among;
     }
 
@@ -95,9 +109,9 @@ pub passed : (steps : List Step) (s : State) (i : ℕ) → IsAt steps s (i + 1) 
 passed steps s i h off = record {
   count = sym (pending-not_here s.deepest steps s.marks i off) ∙ h.count;
   none_above = λ k le on deep. elim (at_or_past k i le) [
-      inl e ↦ and_false _ _ off (subst (λ j. is_waiting (mark_at s.marks j) ≡ true) e on) (eq-eqb _ _ (subst (λ j. (step_at steps j).depth ≡ s.deepest) e deep))
+    | inl e ↦ and_false _ _ off (subst (λ j. is_waiting (mark_at s.marks j) ≡ true) e on) (eq-eqb _ _ (subst (λ j. (step_at steps j).depth ≡ s.deepest) e deep))
     | inr past ↦ h.none_above k past on deep
-    ];
+  ];
 }
 
 pub resolved_down : (clauses : List Kept) (steps : List Step) (s new : State) (i : ℕ) → IsAt steps s (i + 1) → is_waiting (mark_at s.marks i) ≡ true → (step_at steps i).depth ≡ s.deepest
@@ -119,12 +133,12 @@ resolved_down clauses steps s new i h on deep lt same r =
       none_above = λ k le waits at.
           let w : is_waiting (mark_at (set mid.marks i Resolved) k) ≡ true = subst (λ ms. is_waiting (mark_at ms k) ≡ true) e waits in
           elim (set_cases mid.marks i k Resolved near) [
-            inl (_, is) ↦ let off : false ≡ true = sym (ap is_waiting is) ∙ w in cc
-          | inr (ne, is) ↦
+            | inl (_, is) ↦ let off : false ≡ true = sym (ap is_waiting is) ∙ w in cc
+            | inr (ne, is) ↦
                 let m : is_waiting (mark_at mid.marks k) ≡ true = sym (ap is_waiting is) ∙ w in
                 elim (unseen_or_seen (mark_at s.marks k)) [
-                  inl unseen ↦ absurd (omega (arith, (r.grew.news k unseen (seen_where_waiting (mark_at mid.marks k) m)).0))
-                | inr seen ↦ h.none_above k (omega arith) (sym (ap is_waiting (r.grew.stays k seen)) ∙ m) (at ∙ depth)
+                  | inl unseen ↦ absurd (omega (arith, (r.grew.news k unseen (seen_where_waiting (mark_at mid.marks k) m)).0))
+                  | inr seen ↦ h.none_above k (omega arith) (sym (ap is_waiting (r.grew.stays k seen)) ∙ m) (at ∙ depth)
                 ]
           ];
     }
@@ -140,9 +154,9 @@ only_here steps s i lt h one on =
       waits = b.0;
       deep = b.1;
       only = λ k w d. elim (order k i) [
-          inl less ↦ absurd (pending-none s.deepest steps s.marks i none k less w d)
+        | inl less ↦ absurd (pending-none s.deepest steps s.marks i none k less w d)
         | inr o ↦ elim o [ inl more ↦ absurd (h.none_above k (omega arith) w d) | inr e ↦ e ]
-        ];
+      ];
     }
   where
     order : (k i : ℕ) → (k < i) ⊎ ((i < k) ⊎ (k ≡ i))
@@ -164,18 +178,19 @@ descended clauses steps id left i s u new lt sound grounded at on more e res =
     let stays : Stays s.marks new.marks = resolves_stays clauses steps i (with_less s) new here same r in
     let mid = r.between in
     let c : new.count ≡ mid.count = ap (λ (x : State). x.count) r.marked in
-    let m : s.count - 1 ≤ mid.count = r.grew.more_count in
-    (grounded_stays clauses steps id s new stays r.premises grounded,
-     resolved_down clauses steps s new i at b.0 b.1 here same r,
-     omega arith,
-     ap (λ (x : State). x.deepest) r.marked ∙ r.grew.deepest)
+    let m : s.count - 1 ≤ mid.count = r.grew.more_count in (
+      grounded_stays clauses steps id s new stays r.premises grounded,
+      resolved_down clauses steps s new i at b.0 b.1 here same r,
+      omega arith,
+      ap (λ (x : State). x.deepest) r.marked ∙ r.grew.deepest,
+    )
 
 -- where none is left to wait for, no step of the greatest depth waits
 pub none_waits : (steps : List Step) (s : State) (i : ℕ) → IsAt steps s i → s.count ≡ 0 → (k : ℕ) → is_waiting (mark_at s.marks k) ≡ true → (step_at steps k).depth ≡ s.deepest → ⊥
 none_waits steps s i at e k on deep = elim (below_or_past k i) [
-    inl lt ↦ pending-none s.deepest steps s.marks i (at.count ∙ e) k lt on deep
+  | inl lt ↦ pending-none s.deepest steps s.marks i (at.count ∙ e) k lt on deep
   | inr le ↦ at.none_above k le on deep
-  ]
+]
   where
     below_or_past : (k i : ℕ) → (k < i) ⊎ (i ≤ k)
     below_or_past k i = grind arith

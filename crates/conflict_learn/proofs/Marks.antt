@@ -14,16 +14,16 @@ same_or_apart a b = grind arith
 -- the mark after a change: the new one at its place, else the old
 pub set_cases : (marks : List Mark) (p k : ℕ) (m : Mark) → p < length marks → ((k ≡ p) × (mark_at (set marks p m) k ≡ m)) ⊎ ((k ≢ p) × (mark_at (set marks p m) k ≡ mark_at marks k))
 set_cases marks p k m lt = elim (same_or_apart k p) [
-    inl e ↦ inl (e, subst (λ j. mark_at (set marks p m) j ≡ m) (sym e) (get_or-set_same marks p m Unseen lt))
+  | inl e ↦ inl (e, subst (λ j. mark_at (set marks p m) j ≡ m) (sym e) (get_or-set_same marks p m Unseen lt))
   | inr ne ↦ inr (ne, get_or-set_other marks p k m Unseen ne)
-  ]
+]
 
 -- a seen mark is within the list
 pub seen_within : (marks : List Mark) (k : ℕ) → is_seen (mark_at marks k) ≡ true → k < length marks
 seen_within marks k on = elim (below_or_past k (length marks)) [
-    inl lt ↦ lt
+  | inl lt ↦ lt
   | inr past ↦ let e : is_seen (mark_at marks k) ≡ false = ap is_seen (get_or_past marks k Unseen past) in cc
-  ]
+]
   where
     below_or_past : (k n : ℕ) → (k < n) ⊎ (n ≤ k)
     below_or_past k n = grind arith
@@ -95,11 +95,11 @@ pub pending-other : (d : ℕ) (steps : List Step) (marks : List Mark) (p : ℕ) 
 unfolding pending
 pending-other d steps marks p m zero lt off = refl
 pending-other d steps marks p m (suc i) lt off = elim (same_or_apart i p) [
-    inl e ↦
-        let off' : eqb (step_at steps i).depth d ≡ false = subst (λ j. eqb (step_at steps j).depth d ≡ false) (sym e) off in
-        rw (off', pending-other d steps marks p m i lt off) (ap (λ n. n + pending d steps marks i) (no_one (is_waiting (mark_at (set marks p m) i)) (is_waiting (mark_at marks i))))
+  | inl e ↦
+      let off' : eqb (step_at steps i).depth d ≡ false = subst (λ j. eqb (step_at steps j).depth d ≡ false) (sym e) off in
+      rw (off', pending-other d steps marks p m i lt off) (ap (λ n. n + pending d steps marks i) (no_one (is_waiting (mark_at (set marks p m) i)) (is_waiting (mark_at marks i))))
   | inr ne ↦ rw (get_or-set_other marks p i m Unseen ne, pending-other d steps marks p m i lt off) refl
-  ]
+]
   where
     no_one : (b c : Bool) → ◌≡◌ {A = ℕ} (cond (b && false) 1 0) (cond (c && false) 1 0)
     no_one true true = refl
@@ -113,17 +113,17 @@ pub pending-seen : (d : ℕ) (steps : List Step) (marks : List Mark) (p i : ℕ)
 unfolding pending
 pending-seen d steps marks p zero lt in' off on = absurd (omega arith)
 pending-seen d steps marks p (suc i) lt in' off on = elim (below_or_at p i lt) [
-    inl less ↦
-        let ne : i ≢ p = omega arith in
-        let h : pending d steps (set marks p Waiting) i ≡ pending d steps marks i + 1 = pending-seen d steps marks p i less in' off on in
-        rw (get_or-set_other marks p i Waiting Unseen ne) (omega arith)
+  | inl less ↦
+      let ne : i ≢ p = omega arith in
+      let h : pending d steps (set marks p Waiting) i ≡ pending d steps marks i + 1 = pending-seen d steps marks p i less in' off on in
+      rw (get_or-set_other marks p i Waiting Unseen ne) (omega arith)
   | inr at ↦
-        let below : pending d steps (set marks p Waiting) i ≡ pending d steps marks i = pending-above d steps marks p Waiting i (omega arith) in
-        let new : mark_at (set marks p Waiting) i ≡ Waiting = subst (λ j. mark_at (set marks p Waiting) j ≡ Waiting) at (get_or-set_same marks p Waiting Unseen in') in
-        let old : is_waiting (mark_at marks i) ≡ false = idle (mark_at marks i) (subst (λ j. is_unseen (mark_at marks j) ≡ true) at off) in
-        let deep : eqb (step_at steps i).depth d ≡ true = subst (λ j. eqb (step_at steps j).depth d ≡ true) at on in
-        rw (new, old, deep) (omega arith)
-  ]
+      let below : pending d steps (set marks p Waiting) i ≡ pending d steps marks i = pending-above d steps marks p Waiting i (omega arith) in
+      let new : mark_at (set marks p Waiting) i ≡ Waiting = subst (λ j. mark_at (set marks p Waiting) j ≡ Waiting) at (get_or-set_same marks p Waiting Unseen in') in
+      let old : is_waiting (mark_at marks i) ≡ false = idle (mark_at marks i) (subst (λ j. is_unseen (mark_at marks j) ≡ true) at off) in
+      let deep : eqb (step_at steps i).depth d ≡ true = subst (λ j. eqb (step_at steps j).depth d ≡ true) at on in
+      rw (new, old, deep) (omega arith)
+]
   where
     idle : (m : Mark) → is_unseen m ≡ true → is_waiting m ≡ false
     idle Unseen h = refl
@@ -135,13 +135,13 @@ pub pending-none : (d : ℕ) (steps : List Step) (marks : List Mark) (i : ℕ) �
 unfolding pending
 pending-none d steps marks zero e k lt on deep = omega arith
 pending-none d steps marks (suc i) e k lt on deep = elim (below_or_at k i lt) [
-    inl less ↦ pending-none d steps marks i (omega arith) k less on deep
+  | inl less ↦ pending-none d steps marks i (omega arith) k less on deep
   | inr at ↦
-        let here : is_waiting (mark_at marks i) ≡ true = subst (λ j. is_waiting (mark_at marks j) ≡ true) at on in
-        let level : eqb (step_at steps i).depth d ≡ true = eq-eqb (step_at steps i).depth d (subst (λ j. (step_at steps j).depth ≡ d) at deep) in
-        let e' = rw (here, level) at e in
-        absurd (omega (arith, e'))
-  ]
+      let here : is_waiting (mark_at marks i) ≡ true = subst (λ j. is_waiting (mark_at marks j) ≡ true) at on in
+      let level : eqb (step_at steps i).depth d ≡ true = eq-eqb (step_at steps i).depth d (subst (λ j. (step_at steps j).depth ≡ d) at deep) in
+      let e' = rw (here, level) at e in
+      absurd (omega (arith, e'))
+]
 
 -- the last one counts where it waits at that depth, and else doesn't
 pub pending-here : (d : ℕ) (steps : List Step) (marks : List Mark) (i : ℕ) → is_waiting (mark_at marks i) ≡ true → (step_at steps i).depth ≡ d → pending d steps marks (i + 1) ≡ pending d steps marks i + 1

@@ -27,15 +27,16 @@ one_of : {X : Type 0} (l m : X) → Contains (l ∷ []) m → l ≡ m
 one_of l m h = elim (Contains-push_cases [] l m h) [ inl none ↦ absurd (omega (arith, none.1)) | inr e ↦ e ]
 
 unit_at : (steps : List Step) (before after : List Signed) (l : Signed) → ((m : Signed) → Contains (before ++ after) m → IsFalseOn steps m) → IsUnit steps (before ++ l ∷ after) l
-unit_at steps before after l h =
-    (Contains-append_right before (l ∷ after) l (Contains-append_left (l ∷ []) after l (Contains-push [] l)),
-     all_of (λ m. (m ≡ l) ⊎ IsFalseOn steps m) (before ++ l ∷ after) (λ m c. elim (Contains-append_cases before (l ∷ after) m c) [
-         inl b ↦ inr (h m (Contains-append_left before after m b))
-       | inr a ↦ elim (Contains-append_cases (l ∷ []) after m a) [
-             inl here ↦ inl (sym (one_of l m here))
-           | inr later ↦ inr (h m (Contains-append_right before after m later))
-           ]
-       ]))
+unit_at steps before after l h = (
+  Contains-append_right before (l ∷ after) l (Contains-append_left (l ∷ []) after l (Contains-push [] l)),
+  all_of (λ m. (m ≡ l) ⊎ IsFalseOn steps m) (before ++ l ∷ after) (λ m c. elim (Contains-append_cases before (l ∷ after) m c) [
+    | inl b ↦ inr (h m (Contains-append_left before after m b))
+    | inr a ↦ elim (Contains-append_cases (l ∷ []) after m a) [
+      | inl here ↦ inl (sym (one_of l m here))
+      | inr later ↦ inr (h m (Contains-append_right before after m later))
+    ]
+  ]),
+)
 
 from_map : (steps : List Step) (ls : List Signed) (m : Signed) → ((x : Signed) → Contains ls x → IsFalseOn steps x) → Contains (map opposite ls) m → Assigns steps m
 from_map steps ls m rest h =
@@ -51,11 +52,11 @@ reached_on steps clauses given con dec quiet on l (unit before after c others) =
     let u : IsUnit steps (before ++ l ∷ after) l = unit_at steps before after l false_rest in
     let q : IsQuiet steps (before ++ l ∷ after) = quiet (before ++ l ∷ after) c in
     elim (dec l) [
-      inl t ↦ t
-    | inr r ↦ elim r [
-          inl f ↦ absurd (q.not_false (λ k d lt. elim (u.1 k d lt) [ inl e ↦ subst (IsFalseOn steps) (sym e) f | inr g ↦ g ]))
+      | inl t ↦ t
+      | inr r ↦ elim r [
+        | inl f ↦ absurd (q.not_false (λ k d lt. elim (u.1 k d lt) [ inl e ↦ subst (IsFalseOn steps) (sym e) f | inr g ↦ g ]))
         | inr o ↦ absurd (q.not_unit l o u)
-        ]
+      ]
     ]
 
 -- the lemma: one literal of the clause is open, the others are false on the trail
@@ -64,6 +65,6 @@ pub not_forced : (steps : List Step) (clauses : List (List Signed)) (before afte
 not_forced steps clauses before after l con dec quiet o rest forces =
     let on : (m : Signed) → Contains (map opposite (before ++ after)) m → Assigns steps m = λ m h. from_map steps (before ++ after) m rest h in
     elim (forces before after l refl) [
-      inl r ↦ o.0 (reached_on steps clauses (map opposite (before ++ after)) con dec quiet on l r)
-    | inr k ↦ (quiet k.clause k.kept).not_false (all_of (IsFalseOn steps) k.clause (λ m h. reached_on steps clauses (map opposite (before ++ after)) con dec quiet on (opposite m) (k.all_false m h)))
+      | inl r ↦ o.0 (reached_on steps clauses (map opposite (before ++ after)) con dec quiet on l r)
+      | inr k ↦ (quiet k.clause k.kept).not_false (all_of (IsFalseOn steps) k.clause (λ m h. reached_on steps clauses (map opposite (before ++ after)) con dec quiet on (opposite m) (k.all_false m h)))
     ]

@@ -32,9 +32,9 @@ IsResolvedAt-stays clauses steps old new ids k stays h = record {
 
 pub Stays-set : (marks : List Mark) (p : ℕ) (m : Mark) → p < length marks → is_seen m ≡ true → Stays marks (set marks p m)
 Stays-set marks p m lt on k old = elim (set_cases marks p k m lt) [
-    inl (e, is) ↦ ap is_seen is ∙ on
+  | inl (e, is) ↦ ap is_seen is ∙ on
   | inr (ne, is) ↦ ap is_seen is ∙ old
-  ]
+]
 
 -- ---- a step is seen
 
@@ -46,23 +46,23 @@ resolved_each : (clauses : List Kept) (steps : List Step) (marks : List Mark) (i
     → ((k : ℕ) → is_resolved (mark_at marks k) ≡ true → IsResolvedAt clauses steps marks ids k)
     → (k : ℕ) → is_resolved (mark_at (set marks p Waiting) k) ≡ true → IsResolvedAt clauses steps (set marks p Waiting) ids k
 resolved_each clauses steps marks ids p lt h k on = elim (set_cases marks p k Waiting lt) [
-    inl (e, is) ↦ let off : false ≡ true = sym (ap is_resolved is) ∙ on in cc
+  | inl (e, is) ↦ let off : false ≡ true = sym (ap is_resolved is) ∙ on in cc
   | inr (ne, is) ↦ IsResolvedAt-stays clauses steps marks (set marks p Waiting) ids k (Stays-set marks p Waiting lt refl) (h k (sym (ap is_resolved is) ∙ on))
-  ]
+]
 
 seen_each : (P : ℕ → Type 0) (marks : List Mark) (p : ℕ) → p < length marks → ((k : ℕ) → is_seen (mark_at marks k) ≡ true → P k) → P p
     → (k : ℕ) → is_seen (mark_at (set marks p Waiting) k) ≡ true → P k
 seen_each P marks p lt h here k on = elim (set_cases marks p k Waiting lt) [
-    inl (e, is) ↦ subst P (sym e) here
+  | inl (e, is) ↦ subst P (sym e) here
   | inr (ne, is) ↦ h k (sym (ap is_seen is) ∙ on)
-  ]
+]
 
 waiting_each : (P : ℕ → Type 0) (marks : List Mark) (p : ℕ) → p < length marks → ((k : ℕ) → is_waiting (mark_at marks k) ≡ true → P k) → P p
     → (k : ℕ) → is_waiting (mark_at (set marks p Waiting) k) ≡ true → P k
 waiting_each P marks p lt h here k on = elim (set_cases marks p k Waiting lt) [
-    inl (e, is) ↦ subst P (sym e) here
+  | inl (e, is) ↦ subst P (sym e) here
   | inr (ne, is) ↦ h k (sym (ap is_waiting is) ∙ on)
-  ]
+]
 
 below_where_ne : (a b : ℕ) → a ≤ b → eqb a b ≡ false → a < b
 below_where_ne a b le ne = grind (arith, nat_tests)
@@ -100,7 +100,7 @@ sound-seen_by clauses steps s p true false h lt le drawn off at =
           (λ k on. elim (h.sorted k on) [ inl e ↦ inl e | inr c ↦ inr (Contains-append_left s.lower (p ∷ []) k c) ]) (inr (Contains-push s.lower p));
       low = All-push (λ k. (is_seen (mark_at (set s.marks p Waiting) k) ≡ true) × ((step_at steps k).depth < s.deepest)) s.lower p
           (All-weaker (λ k. (is_seen (mark_at s.marks k) ≡ true) × ((step_at steps k).depth < s.deepest)) (λ k. (is_seen (mark_at (set s.marks p Waiting) k) ≡ true) × ((step_at steps k).depth < s.deepest))
-           (λ k b. (Stays-set s.marks p Waiting in' refl k b.0, b.1)) s.lower h.low)
+          (λ k b. (Stays-set s.marks p Waiting in' refl k b.0, b.1)) s.lower h.low)
           (elim (set_cases s.marks p p Waiting in') [ inl (e, is) ↦ ap is_seen is | inr (ne, is) ↦ absurd (ne refl) ], below_where_ne _ _ le at);
       apart = AreApart-push s.lower p h.apart (λ c. not_both (mark_at s.marks p) off (All-contains (λ k. (is_seen (mark_at s.marks k) ≡ true) × ((step_at steps k).depth < s.deepest)) s.lower p h.low c).0);
       few = let f : length s.lower + s.count + _ ≤ length steps = h.few in omega (arith, unseen-seen s.marks p in' off, length_push s.lower p, f);
@@ -137,16 +137,16 @@ Grew-premise steps below id level s = record {
 
 stays_set : (marks : List Mark) (p : ℕ) → p < length marks → is_unseen (mark_at marks p) ≡ true → (k : ℕ) → is_seen (mark_at marks k) ≡ true → mark_at (set marks p Waiting) k ≡ mark_at marks k
 stays_set marks p lt off k on = elim (set_cases marks p k Waiting lt) [
-    inl (e, is) ↦ absurd (not_both (mark_at marks p) off (subst (λ j. is_seen (mark_at marks j) ≡ true) e on))
+  | inl (e, is) ↦ absurd (not_both (mark_at marks p) off (subst (λ j. is_seen (mark_at marks j) ≡ true) e on))
   | inr (ne, is) ↦ is
-  ]
+]
 
 news_set : (marks : List Mark) (p below : ℕ) → p < length marks → p < below → (k : ℕ) → is_unseen (mark_at marks k) ≡ true → is_seen (mark_at (set marks p Waiting) k) ≡ true
     → (k < below) × (is_waiting (mark_at (set marks p Waiting) k) ≡ true)
 news_set marks p below lt in' k off on = elim (set_cases marks p k Waiting lt) [
-    inl (e, is) ↦ (subst (λ j. j < below) (sym e) in', ap is_waiting is)
+  | inl (e, is) ↦ (subst (λ j. j < below) (sym e) in', ap is_waiting is)
   | inr (ne, is) ↦ absurd (not_both (mark_at marks k) off (sym (ap is_seen is) ∙ on))
-  ]
+]
 
 pub grew-seen_by : (steps : List Step) (below : ℕ) (s : State) (p : ℕ) (u deep : Bool) → p < length s.marks → p < below → is_unseen (mark_at s.marks p) ≡ u → eqb (step_at steps p).depth s.deepest ≡ deep → Grew steps below s (seen_by u deep p s)
 grew-seen_by steps below s p false deep lt in' off at = Grew-none steps below s
@@ -177,9 +177,9 @@ Grew-both steps below a b c g h = record {
   deepest = h.deepest ∙ g.deepest;
   stays = λ k on. h.stays k (ap is_seen (g.stays k on) ∙ on) ∙ g.stays k on;
   news = λ k off on. elim (unseen_or_seen (mark_at b.marks k)) [
-      inl still ↦ h.news k still on
+    | inl still ↦ h.news k still on
     | inr now ↦ let n = g.news k off now in (n.0, ap is_waiting (h.stays k now) ∙ n.1)
-    ];
+  ];
   more = g.more ++ h.more;
   lower = h.lower ∙ (ap (λ xs. xs ++ h.more) g.lower ∙ append_assoc a.lower g.more h.more);
   more_count = omega (arith, g.more_count, h.more_count);
@@ -197,6 +197,7 @@ at_seen steps s p lt = by_case (is_unseen (mark_at s.marks p)) (eqb (step_at ste
   where
     here : is_seen (mark_at (set s.marks p Waiting) p) ≡ true
     here = elim (set_cases s.marks p p Waiting lt) [ inl (e, is) ↦ ap is_seen is | inr (ne, is) ↦ absurd (ne refl) ]
+
     by_case : (u deep : Bool) → is_unseen (mark_at s.marks p) ≡ u → is_seen (mark_at (seen_by u deep p s).marks p) ≡ true
     by_case false deep off = not_unseen (mark_at s.marks p) off
     by_case true true off = here
@@ -222,16 +223,16 @@ sound-premise clauses steps s id level own h (c, kept, is_id, at) = record {
   room = h.room;
   are_kept = All-push (λ i. HasKept clauses i (λ ls. Unit {0})) s.premises id h.are_kept (c, kept, is_id, tt);
   within = λ b kb ib. elim (Contains-push_cases s.premises id b.id ib) [
-      inl old ↦ let le : b.level ≤ s.level = h.within b kb old in let m = le_max s.level level in omega (arith, m.0)
+    | inl old ↦ let le : b.level ≤ s.level = h.within b kb old in let m = le_max s.level level in omega (arith, m.0)
     | inr new ↦ let same : c ≡ b = own c b kept kb (is_id ∙ new) in let lv : b.level ≡ level = sym (ap (λ (k : Kept). k.level) same) ∙ at in let m = le_max s.level level in omega (arith, m.1)
-    ];
+  ];
   reached = elim (max_cases s.level level) [
-      inl e ↦ elim h.reached [
-          inl (none, zero') ↦ inr (c, kept, subst (Contains (s.premises ++ id ∷ [])) (sym is_id) (Contains-push s.premises id), (let m = le_max s.level level in omega (arith, m.1)))
-        | inr (b, kb, ib, lb) ↦ inr (b, kb, Contains-append_left s.premises (id ∷ []) b.id ib, lb ∙ sym e)
-        ]
+    | inl e ↦ elim h.reached [
+      | inl (none, zero') ↦ inr (c, kept, subst (Contains (s.premises ++ id ∷ [])) (sym is_id) (Contains-push s.premises id), (let m = le_max s.level level in omega (arith, m.1)))
+      | inr (b, kb, ib, lb) ↦ inr (b, kb, Contains-append_left s.premises (id ∷ []) b.id ib, lb ∙ sym e)
+    ]
     | inr (e, lt) ↦ inr (c, kept, subst (Contains (s.premises ++ id ∷ [])) (sym is_id) (Contains-push s.premises id), at ∙ sym e)
-    ];
+  ];
   resolved = λ k on. resolved-more clauses steps s.marks s.premises id k (h.resolved k on);
   drawn = λ k on. stands-more clauses s.premises id (falsified steps k) (h.drawn k on);
   shallow = h.shallow;
@@ -249,22 +250,22 @@ sound-resolved clauses steps s p h on at =
     let lt : p < length s.marks = seen_within s.marks p on in
     let stays : Stays s.marks (set s.marks p Resolved) = Stays-set s.marks p Resolved lt refl in
     let was : (k : ℕ) → is_seen (mark_at (set s.marks p Resolved) k) ≡ true → is_seen (mark_at s.marks k) ≡ true =
-        λ k now. elim (set_cases s.marks p k Resolved lt) [ inl (e, is) ↦ subst (λ j. is_seen (mark_at s.marks j) ≡ true) (sym e) on | inr (ne, is) ↦ sym (ap is_seen is) ∙ now ] in
+    λ k now. elim (set_cases s.marks p k Resolved lt) [ inl (e, is) ↦ subst (λ j. is_seen (mark_at s.marks j) ≡ true) (sym e) on | inr (ne, is) ↦ sym (ap is_seen is) ∙ now ] in
     record {
       room = length-set s.marks p Resolved ∙ h.room;
       are_kept = h.are_kept;
       within = h.within;
       reached = h.reached;
       resolved = λ k now. elim (set_cases s.marks p k Resolved lt) [
-          inl (e, is) ↦ subst (IsResolvedAt clauses steps (set s.marks p Resolved) s.premises) (sym e) (IsResolvedAt-stays clauses steps s.marks (set s.marks p Resolved) s.premises p stays at)
+        | inl (e, is) ↦ subst (IsResolvedAt clauses steps (set s.marks p Resolved) s.premises) (sym e) (IsResolvedAt-stays clauses steps s.marks (set s.marks p Resolved) s.premises p stays at)
         | inr (ne, is) ↦ IsResolvedAt-stays clauses steps s.marks (set s.marks p Resolved) s.premises k stays (h.resolved k (sym (ap is_resolved is) ∙ now))
-        ];
+      ];
       drawn = λ k now. h.drawn k (was k now);
       shallow = λ k now. h.shallow k (was k now);
       sorted = λ k now. elim (set_cases s.marks p k Resolved lt) [
-          inl (e, is) ↦ let off : false ≡ true = sym (ap is_waiting is) ∙ now in cc
+        | inl (e, is) ↦ let off : false ≡ true = sym (ap is_waiting is) ∙ now in cc
         | inr (ne, is) ↦ h.sorted k (sym (ap is_waiting is) ∙ now)
-        ];
+      ];
       low = All-weaker (λ k. (is_seen (mark_at s.marks k) ≡ true) × ((step_at steps k).depth < s.deepest)) (λ k. (is_seen (mark_at (set s.marks p Resolved) k) ≡ true) × ((step_at steps k).depth < s.deepest))
           (λ k b. (stays k b.0, b.1)) s.lower h.low;
       apart = h.apart;

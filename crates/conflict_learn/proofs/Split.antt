@@ -28,9 +28,9 @@ place_cases steps p (k ∷ ks) q c = by_test (nat_le (step_at steps p).depth (st
     by_test : (b : Bool) → Contains (cond b (k ∷ ks ++ p ∷ []) (p ∷ ks ++ k ∷ [])) q → (q ≡ p) ⊎ Contains (k ∷ ks) q
     by_test true c = elim (Contains-push_cases (k ∷ ks) p q c) [ inl old ↦ inr old | inr e ↦ inl (sym e) ]
     by_test false c = elim (in_cases p q (ks ++ k ∷ []) c) [
-        inl e ↦ inl (sym e)
+      | inl e ↦ inl (sym e)
       | inr rest ↦ elim (Contains-push_cases ks k q rest) [ inl old ↦ inr (in_tail k q ks old) | inr e ↦ inr (subst (Contains (k ∷ ks)) e (in_head k ks)) ]
-      ]
+    ]
 
 pub place_new : (steps : List Step) (p : ℕ) (ks : List ℕ) → Contains (with_place steps p ks) p
 place_new steps p [] = in_head p []
@@ -47,9 +47,9 @@ place_old steps p (k ∷ ks) q c = by_test (nat_le (step_at steps p).depth (step
     by_test : (b : Bool) → Contains (cond b (k ∷ ks ++ p ∷ []) (p ∷ ks ++ k ∷ [])) q
     by_test true = Contains-append_left (k ∷ ks) (p ∷ []) q c
     by_test false = elim (in_cases k q ks c) [
-        inl e ↦ subst (Contains (p ∷ ks ++ k ∷ [])) e (in_tail p k (ks ++ k ∷ []) (Contains-push ks k))
+      | inl e ↦ subst (Contains (p ∷ ks ++ k ∷ [])) e (in_tail p k (ks ++ k ∷ []) (Contains-push ks k))
       | inr rest ↦ in_tail p q (ks ++ k ∷ []) (Contains-append_left ks (k ∷ []) q rest)
-      ]
+    ]
 
 place_apart : (steps : List Step) (p : ℕ) (ks : List ℕ) → AreApart ks → (Contains ks p → ⊥) → AreApart (with_place steps p ks)
 place_apart steps p [] h off = (none_in p, tt)
@@ -57,9 +57,10 @@ place_apart steps p (k ∷ ks) h off = by_test (nat_le (step_at steps p).depth (
   where
     by_test : (b : Bool) → AreApart (cond b (k ∷ ks ++ p ∷ []) (p ∷ ks ++ k ∷ []))
     by_test true = AreApart-push (k ∷ ks) p h off
-    by_test false =
-        ((λ c. elim (Contains-push_cases ks k p c) [ inl old ↦ off (in_tail k p ks old) | inr e ↦ off (subst (Contains (k ∷ ks)) e (in_head k ks)) ]),
-         AreApart-push ks k h.1 h.0)
+    by_test false = (
+      (λ c. elim (Contains-push_cases ks k p c) [ inl old ↦ off (in_tail k p ks old) | inr e ↦ off (subst (Contains (k ∷ ks)) e (in_head k ks)) ]),
+      AreApart-push ks k h.1 h.0,
+    )
 
 place_headed : (steps : List Step) (p : ℕ) (ks : List ℕ) → IsHeaded steps ks → IsHeaded steps (with_place steps p ks)
 place_headed steps p [] h = λ j d lt. absurd (omega (arith, lt))
@@ -79,9 +80,9 @@ next_apart : (ks : List ℕ) (j d : ℕ) → AreApart ks → j < length ks → C
 next_apart [] j d h lt c = absurd (omega arith)
 next_apart (k ∷ ks) zero d h lt c = none_in _ c
 next_apart (k ∷ ks) (suc j) d h lt c = elim (in_cases k (get_or ks j d) (take j ks) c) [
-    inl e ↦ h.0 (subst (Contains ks) (sym e) (Contains-get_or ks j d (omega arith)))
+  | inl e ↦ h.0 (subst (Contains ks) (sym e) (Contains-get_or ks j d (omega arith)))
   | inr rest ↦ next_apart ks j d h.1 (omega arith) rest
-  ]
+]
 
 take_step : (ks : List ℕ) (j p : ℕ) → j < length ks → ((d : ℕ) → get_or ks j d ≡ p) → take (j + 1) ks ≡ take j ks ++ p ∷ []
 take_step ks j p lt is = take_more ks j 0 lt ∙ ap (λ x. take j ks ++ x ∷ []) (is 0)
@@ -101,13 +102,13 @@ split-kept steps s j p kept new apart lt is e h =
     subst (IsSplit steps s (j + 1)) (sym e) record {
       apart = place_apart steps p kept h.apart kept_off;
       of_lower = rw t (λ k d in'. elim (place_cases steps p kept (get_or (with_place steps p kept) k d) (Contains-get_or (with_place steps p kept) k d in')) [
-          inl same ↦ subst (Contains (take j s.lower ++ p ∷ [])) (sym same) (Contains-push (take j s.lower) p)
+        | inl same ↦ subst (Contains (take j s.lower ++ p ∷ [])) (sym same) (Contains-push (take j s.lower) p)
         | inr old ↦ Contains-append_left (take j s.lower) (p ∷ []) _ (All-contains (Contains (take j s.lower)) kept _ h.of_lower old)
-        ]);
+      ]);
       headed = place_headed steps p kept h.headed;
       settled = rw t (All-push (λ k. (is_resolved (mark_at s.marks k) ≡ true) ⊎ Contains (with_place steps p kept) k) (take j s.lower) p
           (All-weaker (λ k. (is_resolved (mark_at s.marks k) ≡ true) ⊎ Contains kept k) (λ k. (is_resolved (mark_at s.marks k) ≡ true) ⊎ Contains (with_place steps p kept) k)
-           (λ k o. elim o [ inl r ↦ inl r | inr c ↦ inr (place_old steps p kept k c) ]) (take j s.lower) h.settled)
+          (λ k o. elim o [ inl r ↦ inl r | inr c ↦ inr (place_old steps p kept k c) ]) (take j s.lower) h.settled)
           (inr (place_new steps p kept)));
     }
 
@@ -119,16 +120,16 @@ marks_after clauses steps p k s new r lt =
     let e : new.marks ≡ set (r.between).marks p Resolved = ap (λ (x : State). x.marks) r.marked in
     let near : p < length (r.between).marks = omega (arith, ap length e, length-set (r.between).marks p Resolved) in
     elim (set_cases (r.between).marks p k Resolved near) [
-      inl (same, is) ↦ inl (same, ap (λ ms. mark_at ms k) e ∙ is)
-    | inr (ne, is) ↦ inr (ne, ap (λ ms. mark_at ms k) e ∙ is)
+      | inl (same, is) ↦ inl (same, ap (λ ms. mark_at ms k) e ∙ is)
+      | inr (ne, is) ↦ inr (ne, ap (λ ms. mark_at ms k) e ∙ is)
     ]
 
 -- what was resolved stays so
 resolved_stays : (clauses : List Kept) (steps : List Step) (p k : ℕ) (s new : State) (r : Resolves clauses steps p s new) → p < length new.marks → is_resolved (mark_at s.marks k) ≡ true → is_resolved (mark_at new.marks k) ≡ true
 resolved_stays clauses steps p k s new r lt on = elim (marks_after clauses steps p k s new r lt) [
-    inl (same, is) ↦ ap is_resolved is
+  | inl (same, is) ↦ ap is_resolved is
   | inr (ne, is) ↦ ap is_resolved is ∙ (ap is_resolved (r.grew.stays k (seen_where_resolved (mark_at s.marks k) on)) ∙ on)
-  ]
+]
 
 pub split-resolved : (clauses : List Kept) (steps : List Step) (s new : State) (j p : ℕ) (kept : List ℕ) → p < length new.marks → j < length s.lower → ((d : ℕ) → get_or s.lower j d ≡ p) → Resolves clauses steps p s new
     → IsSplit steps s j kept → IsSplit steps new (j + 1) kept
@@ -141,9 +142,9 @@ split-resolved clauses steps s new j p kept in' lt is r h =
       headed = h.headed;
       settled = subst (λ qs. All (λ k. (is_resolved (mark_at new.marks k) ≡ true) ⊎ Contains kept k) qs) (sym t)
           (All-push (λ k. (is_resolved (mark_at new.marks k) ≡ true) ⊎ Contains kept k) (take j s.lower) p
-           (All-weaker (λ k. (is_resolved (mark_at s.marks k) ≡ true) ⊎ Contains kept k) (λ k. (is_resolved (mark_at new.marks k) ≡ true) ⊎ Contains kept k)
-            (λ k o. elim o [ inl on ↦ inl (resolved_stays clauses steps p k s new r in' on) | inr c ↦ inr c ]) (take j s.lower) h.settled)
-           (inl (elim (marks_after clauses steps p p s new r in') [ inl (same, on) ↦ ap is_resolved on | inr (ne, on) ↦ absurd (ne refl) ])));
+          (All-weaker (λ k. (is_resolved (mark_at s.marks k) ≡ true) ⊎ Contains kept k) (λ k. (is_resolved (mark_at new.marks k) ≡ true) ⊎ Contains kept k)
+          (λ k o. elim o [ inl on ↦ inl (resolved_stays clauses steps p k s new r in' on) | inr c ↦ inr c ]) (take j s.lower) h.settled)
+          (inl (elim (marks_after clauses steps p p s new r in') [ inl (same, on) ↦ ap is_resolved on | inr (ne, on) ↦ absurd (ne refl) ])));
     }
 
 pub only-resolved : (clauses : List Kept) (steps : List Step) (s new : State) (p uip : ℕ) → IsNonDecreasingBy (λ (x : Step). x.depth) steps → p < length steps → p < length new.marks → (step_at steps p).depth < s.deepest → Resolves clauses steps p s new
@@ -153,22 +154,22 @@ only-resolved clauses steps s new p uip ordered lt in' low r h =
     record {
       within = h.within;
       waits = elim (marks_after clauses steps p uip s new r in') [
-          inl (same, is) ↦ let d : (step_at steps p).depth ≡ s.deepest = subst (λ k. (step_at steps k).depth ≡ s.deepest) same h.deep in absurd (omega arith)
+        | inl (same, is) ↦ let d : (step_at steps p).depth ≡ s.deepest = subst (λ k. (step_at steps k).depth ≡ s.deepest) same h.deep in absurd (omega arith)
         | inr (ne, is) ↦ ap is_waiting is ∙ (ap is_waiting (r.grew.stays uip (seen_where_waiting (mark_at s.marks uip) h.waits)) ∙ h.waits)
-        ];
+      ];
       deep = h.deep ∙ sym depth;
       only = λ k w d. elim (marks_after clauses steps p k s new r in') [
-          inl (same, is) ↦ let off : false ≡ true = sym (ap is_waiting is) ∙ w in cc
+        | inl (same, is) ↦ let off : false ≡ true = sym (ap is_waiting is) ∙ w in cc
         | inr (ne, is) ↦
-              let m : is_waiting (mark_at (r.between).marks k) ≡ true = sym (ap is_waiting is) ∙ w in
-              elim (unseen_or_seen (mark_at s.marks k)) [
-                inl unseen ↦
-                    let news = r.grew.news k unseen (seen_where_waiting (mark_at (r.between).marks k) m) in
-                    let le : (step_at steps k).depth ≤ (step_at steps p).depth = shallower steps k p ordered (omega (arith, news.0)) lt in
-                    absurd (omega (arith, le, d, depth))
+            let m : is_waiting (mark_at (r.between).marks k) ≡ true = sym (ap is_waiting is) ∙ w in
+            elim (unseen_or_seen (mark_at s.marks k)) [
+              | inl unseen ↦
+                  let news = r.grew.news k unseen (seen_where_waiting (mark_at (r.between).marks k) m) in
+                  let le : (step_at steps k).depth ≤ (step_at steps p).depth = shallower steps k p ordered (omega (arith, news.0)) lt in
+                  absurd (omega (arith, le, d, depth))
               | inr seen ↦ h.only k (sym (ap is_waiting (r.grew.stays k seen)) ∙ m) (d ∙ depth)
-              ]
-        ];
+            ]
+      ];
     }
 
 -- ---- the whole
@@ -183,8 +184,8 @@ pub kept_within : (clauses : List Kept) (steps : List Step) (s : State) (j : ℕ
 kept_within clauses steps s j kept h split =
     All-weaker (Contains (take j s.lower)) (λ k. k < length steps)
     (λ k c.
-        let low = All-contains (λ k. (is_seen (mark_at s.marks k) ≡ true) × ((step_at steps k).depth < s.deepest)) (take j s.lower) k (All-take (λ k. (is_seen (mark_at s.marks k) ≡ true) × ((step_at steps k).depth < s.deepest)) j s.lower h.low) c in
-        let lt' : k < length s.marks = seen_within s.marks k low.0 in let r : length s.marks ≡ length steps = h.room in omega arith)
+    let low = All-contains (λ k. (is_seen (mark_at s.marks k) ≡ true) × ((step_at steps k).depth < s.deepest)) (take j s.lower) k (All-take (λ k. (is_seen (mark_at s.marks k) ≡ true) × ((step_at steps k).depth < s.deepest)) j s.lower h.low) c in
+    let lt' : k < length s.marks = seen_within s.marks k low.0 in let r : length s.marks ≡ length steps = h.room in omega arith)
     kept split.of_lower
 
 -- what the loop keeps
@@ -198,7 +199,10 @@ pub record Shrinking (clauses : List Kept) (steps : List Step) (id uip : ℕ) (o
 pub shrinking-kept : (clauses : List Kept) (steps : List Step) (id uip : ℕ) (old now : State) (j p : ℕ) (kept new : List ℕ) → j < length now.lower → ((d : ℕ) → get_or now.lower j d ≡ p) → new ≡ with_place steps p kept
     → Shrinking clauses steps id uip old now j kept → Shrinking clauses steps id uip old now (j + 1) new
 shrinking-kept clauses steps id uip old now j p kept new lt is e h = record {
-  sound = h.sound; grounded = h.grounded; only = h.only; deepest = h.deepest;
+  sound = h.sound;
+  grounded = h.grounded;
+  only = h.only;
+  deepest = h.deepest;
   split = split-kept steps now j p kept new (h.sound).apart lt is e h.split;
 }
 

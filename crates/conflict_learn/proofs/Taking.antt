@@ -59,11 +59,11 @@ taking-more clauses steps id below n but ls old now new l p lt is le has in' lit
     let here : p < length now.marks = omega arith in
     let mine : falsified steps p ≡ l = ap opposite lit ∙ opposite_twice l in
     let stands : StandsIn clauses now.premises (falsified steps p) = record {
-          premise = has.0;
-          kept = has.1;
-          among = subst (λ ids. Contains ids (has.0).id) (sym h.premises) (subst (Contains (old.premises ++ id ∷ [])) (sym has.2) (Contains-push old.premises id));
-          has = subst (Contains (has.0).literals) (sym mine) (subst (λ ms. Contains ms l) has.3 (subst (Contains ls) (sym is) (Contains-get_or ls n l lt)));
-        } in
+      premise = has.0;
+      kept = has.1;
+      among = subst (λ ids. Contains ids (has.0).id) (sym h.premises) (subst (Contains (old.premises ++ id ∷ [])) (sym has.2) (Contains-push old.premises id));
+      has = subst (Contains (has.0).literals) (sym mine) (subst (λ ms. Contains ms l) has.3 (subst (Contains ls) (sym is) (Contains-get_or ls n l lt)));
+    } in
     let grew : Grew steps below now (seen steps p now) = grew-seen steps below now p here in' in
     subst (Taking clauses steps id below (n + 1) but ls old) (sym e) record {
       sound = sound-seen clauses steps now p h.sound (omega arith) shallow stands;

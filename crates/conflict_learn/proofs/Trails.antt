@@ -43,9 +43,9 @@ order j k = grind arith
 
 pub same_place : (steps : List Step) (j k : ℕ) → EachAfter IsFresh steps → j < length steps → k < length steps → (step_at steps j).literal ≡ (step_at steps k).literal → j ≡ k
 same_place steps j k fresh lj lk e = elim (order j k) [
-    inl lt ↦ absurd (before_apart steps j k fresh lt lk e)
+  | inl lt ↦ absurd (before_apart steps j k fresh lt lk e)
   | inr o ↦ elim o [ inl gt ↦ absurd (before_apart steps k j fresh gt lj (sym e)) | inr same ↦ same ]
-  ]
+]
 
 -- the steps before a place are no deeper than the step there
 pub shallower : (steps : List Step) (j k : ℕ) → IsNonDecreasingBy (λ (s : Step). s.depth) steps → j ≤ k → k < length steps → (step_at steps j).depth ≤ (step_at steps k).depth
@@ -83,7 +83,7 @@ pub reason_others : (clauses : List Kept) (steps : List Step) (k r : ℕ) (ls : 
 reason_others clauses steps k r ls own each ordered lt e h =
     let f : IsForced clauses (take k steps) (step_at steps k) = forced_at clauses steps k r each lt e in
     let unit : All (λ m. (m ≡ (step_at steps k).literal) ⊎ IsFalseOn (take k steps) m) ls =
-        by_id clauses r ls (All (λ m. (m ≡ (step_at steps k).literal) ⊎ IsFalseOn (take k steps) m)) own (f.by, f.kept, same_some f.by.id r (sym f.reason ∙ e), f.unit.1) h in
+    by_id clauses r ls (All (λ m. (m ≡ (step_at steps k).literal) ⊎ IsFalseOn (take k steps) m)) own (f.by, f.kept, same_some f.by.id r (sym f.reason ∙ e), f.unit.1) h in
     All-weaker (λ m. (m ≡ (step_at steps k).literal) ⊎ IsFalseOn (take k steps) m) (λ m. (Some (step_at steps k).literal ≡ Some m) ⊎ IsFalseBelow steps k (step_at steps k).depth m)
     (λ m o. elim o [ inl same ↦ inl (ap (λ x. Some x) (sym same)) | inr on ↦ inr (false_below steps k m ordered lt on) ]) ls unit
 

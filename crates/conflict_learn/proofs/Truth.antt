@@ -56,8 +56,8 @@ one_true : (values : ℕ → Bool) (ls : List Signed) (l : Signed) → some_true
 one_true values [] l t h = cc
 one_true values (m ∷ ls) l t h =
     elim (All-head (λ (x : Signed). (x ≡ l) ⊎ (literal_true values x ≡ false)) m ls h) [
-      inl e ↦ or_cases (literal_true values m) (some_true values ls) t (λ p. ap (literal_true values) (sym e) ∙ p) (λ q. one_true values ls l q (All-tail (λ (x : Signed). (x ≡ l) ⊎ (literal_true values x ≡ false)) m ls h))
-    | inr f ↦ or_cases (literal_true values m) (some_true values ls) t (λ p. absurd (true_false _ p f)) (λ q. one_true values ls l q (All-tail (λ (x : Signed). (x ≡ l) ⊎ (literal_true values x ≡ false)) m ls h))
+      | inl e ↦ or_cases (literal_true values m) (some_true values ls) t (λ p. ap (literal_true values) (sym e) ∙ p) (λ q. one_true values ls l q (All-tail (λ (x : Signed). (x ≡ l) ⊎ (literal_true values x ≡ false)) m ls h))
+      | inr f ↦ or_cases (literal_true values m) (some_true values ls) t (λ p. absurd (true_false _ p f)) (λ q. one_true values ls l q (All-tail (λ (x : Signed). (x ≡ l) ⊎ (literal_true values x ≡ false)) m ls h))
     ]
 
 -- the steps that wait are true, so that all that were seen are, from the oldest on
@@ -77,24 +77,24 @@ all_true values clauses steps s (suc n) h premises waiting =
     let below : AllTrue values steps s.marks n = all_true values clauses steps s n h premises waiting in
     record {
       seen = λ k lt on. elim (at_most k n lt) [
-          inl less ↦ below.seen k less on
+        | inl less ↦ below.seen k less on
         | inr e ↦ subst (λ j. literal_true values (step_at steps j).literal ≡ true) (sym e)
             (elim (waiting_or_resolved (mark_at s.marks n) (subst (λ j. is_seen (mark_at s.marks j) ≡ true) e on)) [
-              inl w ↦ waiting n w
-            | inr r ↦
-                let at : IsResolvedAt clauses steps s.marks s.premises n = h.resolved n r in
-                one_true values (at.by).literals (step_at steps n).literal (premises at.by at.kept at.among)
-                (λ j d in'. elim (at.covers j d in') [ inl same ↦ inl same | inr see ↦ inr (false_by values steps s.marks n _ below see) ])
+              | inl w ↦ waiting n w
+              | inr r ↦
+                  let at : IsResolvedAt clauses steps s.marks s.premises n = h.resolved n r in
+                  one_true values (at.by).literals (step_at steps n).literal (premises at.by at.kept at.among)
+                  (λ j d in'. elim (at.covers j d in') [ inl same ↦ inl same | inr see ↦ inr (false_by values steps s.marks n _ below see) ])
             ])
-        ];
+      ];
     }
 
 in_map : (steps : List Step) (ks : List ℕ) (k : ℕ) → Contains ks k → Contains (map (falsified steps) ks) (falsified steps k)
 in_map steps [] k c = absurd (none_in k c)
 in_map steps (j ∷ ks) k c = elim (in_cases j k ks c) [
-    inl e ↦ subst (λ i. Contains (falsified steps j ∷ map (falsified steps) ks) (falsified steps i)) e (in_head (falsified steps j) (map (falsified steps) ks))
+  | inl e ↦ subst (λ i. Contains (falsified steps j ∷ map (falsified steps) ks) (falsified steps i)) e (in_head (falsified steps j) (map (falsified steps) ks))
   | inr rest ↦ in_tail (falsified steps j) (falsified steps k) (map (falsified steps) ks) (in_map steps ks k rest)
-  ]
+]
 
 pub true_wherever : (clauses : List Kept) (steps : List Step) (s : State) (id : ℕ) (places : List ℕ) → IsSound clauses steps s → IsGrounded clauses steps id s
     → ((k : ℕ) → is_waiting (mark_at s.marks k) ≡ true → Contains places k)
@@ -105,8 +105,8 @@ true_wherever clauses steps s id places h g waits values premises = by_value (so
     by_value true e = e
     by_value false e =
         let all : AllTrue values steps s.marks (length steps) = all_true values clauses steps s (length steps) h premises
-                (λ k on. opposite_false values (step_at steps k).literal
-                 (All-contains (λ (x : Signed). literal_true values x ≡ false) (map (falsified steps) places) (falsified steps k) (all_false values (map (falsified steps) places) e) (in_map steps places k (waits k on)))) in
+        (λ k on. opposite_false values (step_at steps k).literal
+        (All-contains (λ (x : Signed). literal_true values x ≡ false) (map (falsified steps) places) (falsified steps k) (all_false values (map (falsified steps) places) e) (in_map steps places k (waits k on)))) in
         let f = g.false_clause in
         absurd (true_false _ (premises f.0 f.1 (subst (Contains s.premises) (sym f.2) g.among))
-                (none_true values (f.0).literals (λ j d lt. false_by values steps s.marks (length steps) _ all (f.3 j d lt))))
+        (none_true values (f.0).literals (λ j d lt. false_by values steps s.marks (length steps) _ all (f.3 j d lt))))

@@ -7,6 +7,8 @@ mod kept;
 mod learn;
 mod minimize;
 mod reasons;
+#[cfg(test)]
+mod tests;
 mod uip;
 
 pub use learn::{Learner, Learnt};

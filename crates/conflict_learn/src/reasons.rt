@@ -43,7 +43,12 @@ pub fn look_at_reason(store: &mut Store, place: usize, reason: u64) -> Looked
 }
 
 // Its literals.
-pub fn reason_literals<'a>(store: &'a Store, place: usize, reason: u64, looked: Looked) -> &'a [Literal]
+pub fn reason_literals<'a>(
+    store: &'a Store,
+    place: usize,
+    reason: u64,
+    looked: Looked,
+) -> &'a [Literal]
     requires within { place < length store.now.trail.steps }
     requires reason { (step_at store.now.trail.steps place).reason ≡ Some reason }
     requires looked { looked ≡ reason }

@@ -22,7 +22,12 @@ impl Analysis {
     }
 
     // Lets the step at this place follow from the other literals of its reason.
-    pub fn resolve(&mut self, store: &mut Store, place: usize, reason: u64) -> Result<(), AllocError>
+    pub fn resolve(
+        &mut self,
+        store: &mut Store,
+        place: usize,
+        reason: u64,
+    ) -> Result<(), AllocError>
         requires sound { IsSound store.old.clauses store.old.trail.steps self.old }
         requires within { place < length store.old.trail.steps }
         requires was_seen { is_seen (mark_at self.old.marks place) ≡ true }

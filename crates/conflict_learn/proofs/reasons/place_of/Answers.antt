@@ -17,13 +17,13 @@ place-requires-clause-known c =
 pub returns-clause-below : goal.returns-clause-below
 returns-clause-below c =
     let same : c.requires.is_false.place ≡ c.place.result =
-        same_place c.args.store.now.trail.steps c.requires.is_false.place c.place.result c.steps-steps.ensures.fresh (omega arith) c.place.ensures.within
-        (c.requires.is_false.literal ∙ sym (c.place.ensures.literal no_step ∙ c.negated.ensures)) in
+    same_place c.args.store.now.trail.steps c.requires.is_false.place c.place.result c.steps-steps.ensures.fresh (omega arith) c.place.ensures.within
+    (c.requires.is_false.literal ∙ sym (c.place.ensures.literal no_step ∙ c.negated.ensures)) in
     omega arith
 
 pub returns-clause-shallow : goal.returns-clause-shallow
 returns-clause-shallow c =
     let same : c.requires.is_false.place ≡ c.place.result =
-        same_place c.args.store.now.trail.steps c.requires.is_false.place c.place.result c.steps-steps.ensures.fresh (omega arith) c.place.ensures.within
-        (c.requires.is_false.literal ∙ sym (c.place.ensures.literal no_step ∙ c.negated.ensures)) in
+    same_place c.args.store.now.trail.steps c.requires.is_false.place c.place.result c.steps-steps.ensures.fresh (omega arith) c.place.ensures.within
+    (c.requires.is_false.literal ∙ sym (c.place.ensures.literal no_step ∙ c.negated.ensures)) in
     subst (λ k. (step_at c.args.store.now.trail.steps k).depth ≤ c.args.depth) same c.requires.is_false.shallow

@@ -7,7 +7,7 @@ pub literals-requires : goal.literals-requires
 literals-requires c =
     subst (λ n. HasKept c.args.store.now.clauses n (λ ls. Unit {0})) (sym c.requires.looked)
     (has_reason c.args.store.now.clauses _ _ c.args.reason c.requires.reason
-     (forced_at c.args.store.now.clauses c.args.store.now.trail.steps c.args.place c.args.reason c.steps-steps.ensures.justified c.requires.within c.requires.reason))
+    (forced_at c.args.store.now.clauses c.args.store.now.trail.steps c.args.place c.args.reason c.steps-steps.ensures.justified c.requires.within c.requires.reason))
 
 pub returns-clause-others : goal.returns-clause-others
 returns-clause-others c =

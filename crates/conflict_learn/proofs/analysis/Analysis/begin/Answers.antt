@@ -16,12 +16,12 @@ returns-clause-begins c =
     let same = c.look-looked.ensures.same in
     let steps : c.steps-count.result.now ≡ c.args.store.now.trail.steps = c.steps-count.ensures.steps ∙ ap (λ (st : Stored). st.trail.steps) same in
     let greatest : IsGreatest c.args.store.now.trail.steps c.false_literals-literals.result.now c.greatest_depth-depth.result =
-        subst (λ (st : Stored). IsGreatest st.trail.steps c.false_literals-literals.result.now c.greatest_depth-depth.result) same c.greatest_depth-depth.ensures in
+    subst (λ (st : Stored). IsGreatest st.trail.steps c.false_literals-literals.result.now c.greatest_depth-depth.result) same c.greatest_depth-depth.ensures in
     let kept : HasKept c.args.store.now.clauses c.args.id (λ ms. c.false_literals-literals.result.now ≡ ms) =
-        subst (λ (st : Stored). HasKept st.clauses c.args.id (λ ms. c.false_literals-literals.result.now ≡ ms)) same c.false_literals-literals.ensures.kept in
+    subst (λ (st : Stored). HasKept st.clauses c.args.id (λ ms. c.false_literals-literals.result.now ≡ ms)) same c.false_literals-literals.ensures.kept in
     let taken : TakesIn c.args.store.now.clauses c.args.store.now.trail.steps c.args.id (length c.args.store.now.trail.steps) None c.clear.new.self c.take_in.new.self =
-        subst (λ n. TakesIn c.args.store.now.clauses c.args.store.now.trail.steps c.args.id n None c.clear.new.self c.take_in.new.self) (ap length steps)
-        (subst (λ (st : Stored). TakesIn st.clauses st.trail.steps c.args.id (length c.steps-count.result.now) None c.clear.new.self c.take_in.new.self) same c.in_ok-take_in.ensures) in
+    subst (λ n. TakesIn c.args.store.now.clauses c.args.store.now.trail.steps c.args.id n None c.clear.new.self c.take_in.new.self) (ap length steps)
+    (subst (λ (st : Stored). TakesIn st.clauses st.trail.steps c.args.id (length c.steps-count.result.now) None c.clear.new.self c.take_in.new.self) same c.in_ok-take_in.ensures) in
     begun c.args.store.now.clauses c.args.store.now.trail.steps c.args.id c.clear.new.self c.take_in.new.self c.greatest_depth-depth.result c.false_literals-literals.result.now
     (c.in_ok-clear.ensures ∙ ap (λ n. empty_state n c.greatest_depth-depth.result) (ap length steps)) kept greatest taken
     (subst (λ (st : Stored). HaveOwnIds st.clauses) same c.steps-count.ensures.unique)

@@ -25,9 +25,9 @@ loop-i-preserved-in-Continue-1 c =
     let e : c.loop-i.i ≡ c.loop-i.i - 1 + 1 = omega arith in
     let at : IsAt c.args.store.now.trail.steps c.loop-i.self (c.loop-i.i - 1 + 1) = subst (IsAt c.args.store.now.trail.steps c.loop-i.self) e c.loop-i.invariant.at in
     let r : Resolves c.args.store.now.clauses c.args.store.now.trail.steps (c.loop-i.i - 1) c.uncount.new.self c.resolve.new.self =
-        subst (λ (st : Stored). Resolves st.clauses st.trail.steps (c.loop-i.i - 1) c.uncount.new.self c.resolve.new.self) c.loop-i.invariant.same c.in_ok-resolve.ensures.resolves in
+    subst (λ (st : Stored). Resolves st.clauses st.trail.steps (c.loop-i.i - 1) c.uncount.new.self c.resolve.new.self) c.loop-i.invariant.same c.in_ok-resolve.ensures.resolves in
     let w : (is_waiting (mark_at c.loop-i.self.marks (c.loop-i.i - 1)) && eqb (step_at c.args.store.now.trail.steps (c.loop-i.i - 1)).depth c.loop-i.self.deepest) ≡ true =
-        subst (λ (st : Stored). (is_waiting (mark_at c.loop-i.self.marks (c.loop-i.i - 1)) && eqb (step_at st.trail.steps (c.loop-i.i - 1)).depth c.loop-i.self.deepest) ≡ true) c.loop-i.invariant.same (sym c.waits_deep.ensures ∙ c.if-waits_deep.true) in
+    subst (λ (st : Stored). (is_waiting (mark_at c.loop-i.self.marks (c.loop-i.i - 1)) && eqb (step_at st.trail.steps (c.loop-i.i - 1)).depth c.loop-i.self.deepest) ≡ true) c.loop-i.invariant.same (sym c.waits_deep.ensures ∙ c.if-waits_deep.true) in
     let d = descended c.args.store.now.clauses c.args.store.now.trail.steps c.args._id c.args.left (c.loop-i.i - 1) c.loop-i.self c.uncount.new.self c.resolve.new.self (omega arith) c.loop-i.invariant.sound c.loop-i.invariant.grounded at w (omega arith) c.uncount.ensures r in
     record {
       same = c.resolve.ensures.same ∙ c.loop-i.invariant.same;
@@ -45,7 +45,7 @@ loop-i-preserved c =
     let e : c.loop-i.i ≡ c.loop-i.i - 1 + 1 = omega arith in
     let at : IsAt c.args.store.now.trail.steps c.loop-i.self (c.loop-i.i - 1 + 1) = subst (IsAt c.args.store.now.trail.steps c.loop-i.self) e c.loop-i.invariant.at in
     let w : (is_waiting (mark_at c.loop-i.self.marks (c.loop-i.i - 1)) && eqb (step_at c.args.store.now.trail.steps (c.loop-i.i - 1)).depth c.loop-i.self.deepest) ≡ false =
-        subst (λ (st : Stored). (is_waiting (mark_at c.loop-i.self.marks (c.loop-i.i - 1)) && eqb (step_at st.trail.steps (c.loop-i.i - 1)).depth c.loop-i.self.deepest) ≡ false) c.loop-i.invariant.same (sym c.waits_deep.ensures ∙ c.if-waits_deep.false) in
+    subst (λ (st : Stored). (is_waiting (mark_at c.loop-i.self.marks (c.loop-i.i - 1)) && eqb (step_at st.trail.steps (c.loop-i.i - 1)).depth c.loop-i.self.deepest) ≡ false) c.loop-i.invariant.same (sym c.waits_deep.ensures ∙ c.if-waits_deep.false) in
     record {
       same = c.loop-i.invariant.same;
       sound = c.loop-i.invariant.sound;

@@ -25,29 +25,29 @@ keep-requires-clause-all_within c =
 
 pub loop-j-preserved : goal.loop-j-preserved
 loop-j-preserved c = elim c.match-dispensable.branch [
-    in-Some+in_ok-resolve-in-Some w ↦
-        let same = c.dispensable.ensures.same ∙ c.loop-j.invariant.same in
-        let r : Resolves c.args.store.now.clauses c.args.store.now.trail.steps c.lower_at-place.result c.loop-j.self c.match-dispensable.self =
-            subst (Resolves c.args.store.now.clauses c.args.store.now.trail.steps c.lower_at-place.result c.loop-j.self) (sym w.self-is)
-            (subst (λ (st : Stored). Resolves st.clauses st.trail.steps c.lower_at-place.result c.loop-j.self w.resolve.new.self) same w.in_ok-resolve-in-Some.ensures.resolves) in
-        record {
-          same = w.store-is ∙ (w.resolve.ensures.same ∙ same);
-          shrinking = subst (Shrinking c.args.store.now.clauses c.args.store.now.trail.steps c.args._id c.args._uip c.args.self.now c.match-dispensable.self (c.loop-j.j + 1)) (sym (ap (λ v. v.items) w.kept-is))
-              (shrinking-resolved c.args.store.now.clauses c.args.store.now.trail.steps c.args._id c.args._uip c.args.self.now c.loop-j.self c.match-dispensable.self c.loop-j.j c.lower_at-place.result c.loop-j.kept.items
-               c.steps-steps.ensures.in_order (omega arith) c.lower_at-place.ensures r c.loop-j.invariant.shrinking);
-          flags = c.dispensable.ensures.flags ∙ c.loop-j.invariant.flags;
-        }
+  | in-Some+in_ok-resolve-in-Some w ↦
+      let same = c.dispensable.ensures.same ∙ c.loop-j.invariant.same in
+      let r : Resolves c.args.store.now.clauses c.args.store.now.trail.steps c.lower_at-place.result c.loop-j.self c.match-dispensable.self =
+      subst (Resolves c.args.store.now.clauses c.args.store.now.trail.steps c.lower_at-place.result c.loop-j.self) (sym w.self-is)
+      (subst (λ (st : Stored). Resolves st.clauses st.trail.steps c.lower_at-place.result c.loop-j.self w.resolve.new.self) same w.in_ok-resolve-in-Some.ensures.resolves) in
+      record {
+        same = w.store-is ∙ (w.resolve.ensures.same ∙ same);
+        shrinking = subst (Shrinking c.args.store.now.clauses c.args.store.now.trail.steps c.args._id c.args._uip c.args.self.now c.match-dispensable.self (c.loop-j.j + 1)) (sym (ap (λ v. v.items) w.kept-is))
+            (shrinking-resolved c.args.store.now.clauses c.args.store.now.trail.steps c.args._id c.args._uip c.args.self.now c.loop-j.self c.match-dispensable.self c.loop-j.j c.lower_at-place.result c.loop-j.kept.items
+            c.steps-steps.ensures.in_order (omega arith) c.lower_at-place.ensures r c.loop-j.invariant.shrinking);
+        flags = c.dispensable.ensures.flags ∙ c.loop-j.invariant.flags;
+      }
   | in-None+in_ok-keep-in-None w ↦
-        let same = c.dispensable.ensures.same ∙ c.loop-j.invariant.same in
-        let placed : c.match-dispensable.kept.items ≡ with_place c.args.store.now.trail.steps c.lower_at-place.result c.loop-j.kept.items =
-            ap (λ v. v.items) w.kept-is ∙ subst (λ (st : Stored). w.keep.new.kept.items ≡ with_place st.trail.steps c.lower_at-place.result c.loop-j.kept.items) same w.in_ok-keep-in-None.ensures in
-        record {
-          same = w.store-is ∙ same;
-          shrinking = subst (λ s. Shrinking c.args.store.now.clauses c.args.store.now.trail.steps c.args._id c.args._uip c.args.self.now s (c.loop-j.j + 1) c.match-dispensable.kept.items) (sym w.self-is)
-              (shrinking-kept c.args.store.now.clauses c.args.store.now.trail.steps c.args._id c.args._uip c.args.self.now c.loop-j.self c.loop-j.j c.lower_at-place.result c.loop-j.kept.items c.match-dispensable.kept.items (omega arith) c.lower_at-place.ensures placed c.loop-j.invariant.shrinking);
-          flags = c.dispensable.ensures.flags ∙ c.loop-j.invariant.flags;
-        }
-  ]
+      let same = c.dispensable.ensures.same ∙ c.loop-j.invariant.same in
+      let placed : c.match-dispensable.kept.items ≡ with_place c.args.store.now.trail.steps c.lower_at-place.result c.loop-j.kept.items =
+      ap (λ v. v.items) w.kept-is ∙ subst (λ (st : Stored). w.keep.new.kept.items ≡ with_place st.trail.steps c.lower_at-place.result c.loop-j.kept.items) same w.in_ok-keep-in-None.ensures in
+      record {
+        same = w.store-is ∙ same;
+        shrinking = subst (λ s. Shrinking c.args.store.now.clauses c.args.store.now.trail.steps c.args._id c.args._uip c.args.self.now s (c.loop-j.j + 1) c.match-dispensable.kept.items) (sym w.self-is)
+            (shrinking-kept c.args.store.now.clauses c.args.store.now.trail.steps c.args._id c.args._uip c.args.self.now c.loop-j.self c.loop-j.j c.lower_at-place.result c.loop-j.kept.items c.match-dispensable.kept.items (omega arith) c.lower_at-place.ensures placed c.loop-j.invariant.shrinking);
+        flags = c.dispensable.ensures.flags ∙ c.loop-j.invariant.flags;
+      }
+]
 
 pub returns-clause-shrinks : goal.returns-clause-shrinks
 returns-clause-shrinks c =
