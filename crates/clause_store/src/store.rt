@@ -1,4 +1,5 @@
 // Kept clauses, and the literals that are decided or follow from them, by two watched literals a clause.
+ghost use Rattle.std.specs.List.Sorted.{IsNonDecreasingBy};
 ghost use Rattle.std.specs.Prelude.{◌≡◌, ℕ, ◌+◌, ◌^◌, ◌<◌, ◌≤◌, true, false, List, [], ◌∷◌, ◌++◌, All, IfSome, IfOk, OnOk, OnErr, Some, length, max, slice_index_or};
 ghost use Rattle.clause_store.specs.Trail.{Assigns, IsOpen, StatusOf, up_to};
 ghost use Rattle.clause_store.specs.Each.{EachAfter};
@@ -326,6 +327,8 @@ impl Store {
         ensures unique { HaveOwnIds self.now.clauses }
         ensures fresh { EachAfter IsFresh self.now.trail.steps }
         ensures consistent { (l : Signed) → Assigns self.now.trail.steps l → Assigns self.now.trail.steps (opposite l) → ⊥ }
+        ensures in_order { IsNonDecreasingBy (λ (s : Step). s.depth) self.now.trail.steps }
+        ensures deepest { All (λ (s : Step). s.depth ≤ self.now.trail.depth) self.now.trail.steps }
     {
         self.trail.steps()
     }

@@ -4,6 +4,7 @@ ghost use Rattle.clause_store.specs.Trail.{Assigned, IsOpen, MarkOf, Assigns, St
 ghost use Rattle.literals.specs.Signed.{Signed, opposite};
 ghost use Rattle.clause_store.specs.Each.{EachAfter};
 ghost use Rattle.clause_store.specs.TrailInvariant.{IsFresh, Agrees, IsPlaced};
+ghost use Rattle.std.specs.List.Sorted.{IsNonDecreasingBy};
 
 use literals::Literal;
 use std::alloc::{AllocError, Global};
@@ -217,6 +218,8 @@ impl Trail {
         ensures room { length self.now.steps ≤ self.now.atoms }
         ensures fresh { EachAfter IsFresh self.now.steps }
         ensures consistent { (l : Signed) → Assigns self.now.steps l → Assigns self.now.steps (opposite l) → ⊥ }
+        ensures in_order { IsNonDecreasingBy (λ (s : Step). s.depth) self.now.steps }
+        ensures deepest { All (λ (s : Step). s.depth ≤ self.now.depth) self.now.steps }
     {
         &self.steps
     }

@@ -1,0 +1,11 @@
+pub mod Trails
+pub mod Marks
+pub mod Places
+pub mod Sound
+pub mod Taking
+pub mod Descent
+pub mod Split
+pub mod Beginning
+pub mod Truth
+pub mod NotForced
+pub mod Concluding
