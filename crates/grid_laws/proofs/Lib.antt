@@ -1,0 +1,7 @@
+pub mod Bland
+pub mod Counting
+pub mod Moments
+pub mod NextStep
+pub mod Pivots
+pub mod Short
+pub mod Spans

@@ -1,0 +1,49 @@
+-- Runs of next steps of a grid, and how many pivots they have.
+use Rattle.std.specs.Prelude.{◌≡◌, ℕ, suc, ◌+◌, ◌^◌, ◌<◌, ◌≤◌, true, false, List, [], ◌∷◌, length, slice_index_or, Some, None}
+use Rattle.number_meaning.specs.Number.{is_zero}
+use Rattle.grid_meaning.specs.declared.Entry.{Entry}
+use Rattle.grid_meaning.specs.declared.TableRow.{TableRow}
+use Rattle.grid_meaning.specs.declared.Grid.{Grid}
+use Rattle.grid_meaning.specs.Grid.{Step, take, move, pivot, coefficient, value_at, any_crossed, next_step, after, MeetsRows}
+
+abbrev pub no_row : TableRow
+no_row = record { basic = 0; entries = [] }
+
+abbrev pub row_at : List TableRow → ℕ → TableRow
+row_at rows k = slice_index_or rows k no_row
+
+-- the variables of the entries ascend, from i on and below n
+abbrev pub AreFrom : ℕ → ℕ → List Entry → Type 0
+AreFrom i n [] = Unit {0}
+AreFrom i n (e ∷ es) = (i ≤ e.variable) × (e.variable < n) × AreFrom (e.variable + 1) n es
+
+-- the entries have positive denominators
+abbrev pub ArePositive : List Entry → Type 0
+ArePositive [] = Unit {0}
+ArePositive (e ∷ es) = (0 < e.coefficient.denominator) × ArePositive es
+
+-- no variable is basic twice, no basic variable has an entry, and all are variables of the grid
+pub record IsGrid (g : Grid) : Type 0 where
+  pub distinct : (j k : ℕ) → j < length g.rows → k < length g.rows → (row_at g.rows j).basic ≡ (row_at g.rows k).basic → j ≡ k
+  pub basics : (k : ℕ) → k < length g.rows → (row_at g.rows k).basic < length g.columns
+  pub entries : (k : ℕ) → k < length g.rows → AreFrom 0 (length g.columns) (row_at g.rows k).entries
+  pub positive : (k : ℕ) → k < length g.rows → ArePositive (row_at g.rows k).entries
+  pub separate : (j k : ℕ) → j < length g.rows → k < length g.rows → is_zero (coefficient (row_at g.rows k).entries (row_at g.rows j).basic) ≡ true
+  pub values : (i : ℕ) → 0 < (value_at g i).denominator
+
+-- each step is the next one of the grid that those before it make, whether or not its numbers fit
+abbrev pub Runs : Grid → List Step → Grid → Type 0
+Runs g [] h = g ≡ h
+Runs g (s ∷ ss) h = (next_step g ≡ Some s) × Runs (after g s) ss h
+
+-- how many pivots there are among the steps
+abbrev pub pivots : List Step → ℕ
+pivots [] = 0
+pivots (take p ∷ ss) = pivots ss
+pivots (move i k ∷ ss) = pivots ss
+pivots (pivot b k c ∷ ss) = suc (pivots ss)
+
+-- with nothing pending, values that meet the rows and bounds that don't cross, a run of n variables has fewer than 3^n pivots
+abbrev pub RunsAreShort : Type 0
+RunsAreShort =
+    (g h : Grid) (ss : List Step) → IsGrid g → g.pending ≡ None → MeetsRows g.rows (value_at g) → any_crossed g.columns ≡ false → Runs g ss h → pivots ss < 3 ^ length g.columns
