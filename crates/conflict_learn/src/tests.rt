@@ -6,14 +6,33 @@ use literals::Literal;
 use std::alloc::AllocError;
 use std::test::Fail;
 
-// A clause over known atoms, none twice.
-fn add(store: &mut Store, literals: &[Literal], level: u16) -> Result<u64, AllocError> {
-    for literal in literals {
-        if literal.atom() >= store.atoms() {
-            return Err(AllocError);
-        }
+fn add_one(store: &mut Store, a: Literal, level: u16) -> Result<u64, AllocError> {
+    if a.atom() >= store.atoms() {
+        return Err(AllocError);
     }
-    store.add(literals, level)
+    store.add(&[a], level)
+}
+
+fn add_two(store: &mut Store, a: Literal, b: Literal, level: u16) -> Result<u64, AllocError> {
+    let atoms = store.atoms();
+    if a.atom() >= atoms || b.atom() >= atoms {
+        return Err(AllocError);
+    }
+    store.add(&[a, b], level)
+}
+
+fn add_three(
+    store: &mut Store,
+    a: Literal,
+    b: Literal,
+    c: Literal,
+    level: u16,
+) -> Result<u64, AllocError> {
+    let atoms = store.atoms();
+    if a.atom() >= atoms || b.atom() >= atoms || c.atom() >= atoms {
+        return Err(AllocError);
+    }
+    store.add(&[a, b, c], level)
 }
 
 // Decides a literal, if it is open.
@@ -58,16 +77,12 @@ fn no(atom: u32) -> Literal {
     Literal::new(atom % 16, false)
 }
 
-fn has(literals: &[Literal], wanted: &[Literal]) -> bool {
-    if literals.len() != wanted.len() {
-        return false;
-    }
-    for k in 0..literals.len() {
-        if literals[k] != wanted[k] {
-            return false;
-        }
-    }
-    true
+fn is_one(literals: &[Literal], a: Literal) -> bool {
+    literals.len() == 1 && literals[0] == a
+}
+
+fn is_two(literals: &[Literal], a: Literal, b: Literal) -> bool {
+    literals.len() == 2 && literals[0] == a && literals[1] == b
 }
 
 #[test]
@@ -75,13 +90,13 @@ fn the_decision_is_learnt(rt: HostRuntime) -> Result<(), Fail> {
     let mut store = Store::new(rt.alloc());
     let mut learner = Learner::new(rt.alloc());
     store.reserve(4)?;
-    add(&mut store, &[no(0), yes(1)], 0)?;
-    add(&mut store, &[no(0), yes(2)], 3)?;
-    add(&mut store, &[no(1), no(2)], 1)?;
+    add_two(&mut store, no(0), yes(1), 0)?;
+    add_two(&mut store, no(0), yes(2), 3)?;
+    add_two(&mut store, no(1), no(2), 1)?;
     assert!(rt; decide(&mut store, yes(0)));
     let learnt = conflict(&mut learner, &mut store)?;
     assert_eq!(rt; told(learnt), (3, 0));
-    assert!(rt; has(learner.literals(), &[no(0)]));
+    assert!(rt; is_one(learner.literals(), no(0)));
     assert_eq!(rt; learner.premises().len(), 3);
     Ok(())
 }
@@ -91,9 +106,9 @@ fn the_first_point_is_learnt(rt: HostRuntime) -> Result<(), Fail> {
     let mut store = Store::new(rt.alloc());
     let mut learner = Learner::new(rt.alloc());
     store.reserve(8)?;
-    add(&mut store, &[no(1), yes(2)], 9)?;
-    add(&mut store, &[no(0), no(2), yes(3)], 0)?;
-    add(&mut store, &[no(2), no(3)], 2)?;
+    add_two(&mut store, no(1), yes(2), 9)?;
+    add_three(&mut store, no(0), no(2), yes(3), 0)?;
+    add_two(&mut store, no(2), no(3), 2)?;
     assert!(rt; decide(&mut store, yes(4)));
     assert_eq!(rt; told(conflict(&mut learner, &mut store)?), (1000, 1000));
     assert!(rt; decide(&mut store, yes(0)));
@@ -101,7 +116,7 @@ fn the_first_point_is_learnt(rt: HostRuntime) -> Result<(), Fail> {
     assert!(rt; decide(&mut store, yes(1)));
     let learnt = conflict(&mut learner, &mut store)?;
     assert_eq!(rt; told(learnt), (2, 2));
-    assert!(rt; has(learner.literals(), &[no(2), no(0)]));
+    assert!(rt; is_two(learner.literals(), no(2), no(0)));
     assert_eq!(rt; learner.premises().len(), 2);
     Ok(())
 }
@@ -112,18 +127,18 @@ fn implied_literals_are_left_out(rt: HostRuntime) -> Result<(), Fail> {
     let mut learner = Learner::new(rt.alloc());
     store.reserve(8)?;
     // 0 forces 5; then 1 forces 2, by both, and 3
-    add(&mut store, &[no(0), yes(5)], 4)?;
-    add(&mut store, &[no(0), no(1), yes(2)], 0)?;
-    add(&mut store, &[no(5), no(1), yes(3)], 0)?;
-    add(&mut store, &[no(2), no(3)], 1)?;
-    add(&mut store, &[yes(6)], 7)?;
+    add_two(&mut store, no(0), yes(5), 4)?;
+    add_three(&mut store, no(0), no(1), yes(2), 0)?;
+    add_three(&mut store, no(5), no(1), yes(3), 0)?;
+    add_two(&mut store, no(2), no(3), 1)?;
+    add_one(&mut store, yes(6), 7)?;
     assert_eq!(rt; told(conflict(&mut learner, &mut store)?), (1000, 1000));
     assert!(rt; decide(&mut store, yes(0)));
     assert_eq!(rt; told(conflict(&mut learner, &mut store)?), (1000, 1000));
     assert!(rt; decide(&mut store, yes(1)));
     let learnt = conflict(&mut learner, &mut store)?;
     assert_eq!(rt; told(learnt), (4, 1));
-    assert!(rt; has(learner.literals(), &[no(1), no(0)]));
+    assert!(rt; is_two(learner.literals(), no(1), no(0)));
     Ok(())
 }
 
@@ -132,16 +147,16 @@ fn what_no_decision_made_is_resolved(rt: HostRuntime) -> Result<(), Fail> {
     let mut store = Store::new(rt.alloc());
     let mut learner = Learner::new(rt.alloc());
     store.reserve(4)?;
-    add(&mut store, &[yes(3)], 5)?;
-    add(&mut store, &[no(3), no(0), yes(1)], 0)?;
-    add(&mut store, &[no(0), no(1)], 1)?;
+    add_one(&mut store, yes(3), 5)?;
+    add_three(&mut store, no(3), no(0), yes(1), 0)?;
+    add_two(&mut store, no(0), no(1), 1)?;
     assert_eq!(rt; told(conflict(&mut learner, &mut store)?), (1000, 1000));
     assert!(rt; decide(&mut store, yes(0)));
     let learnt = conflict(&mut learner, &mut store)?;
     assert_eq!(rt; told(learnt), (5, 0));
-    assert!(rt; has(learner.literals(), &[no(0)]));
+    assert!(rt; is_one(learner.literals(), no(0)));
     store.undo_to(0);
-    add(&mut store, &[yes(0)], 2)?;
+    add_one(&mut store, yes(0), 2)?;
     let empty = conflict(&mut learner, &mut store)?;
     assert_eq!(rt; told(empty), (5, 1000));
     assert!(rt; learner.literals().is_empty());
