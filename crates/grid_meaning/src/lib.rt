@@ -2,8 +2,10 @@
 //! numbers; and in `specs/` what the next step of a grid is, when it fits, and what it makes.
 #![tactic(auto)]
 
+mod seq;
+
 use fraction128::Fraction;
-use number_meaning::Seq;
+pub use seq::Seq;
 
 /// A coefficient and the Int term that it multiplies, by the term's place.
 #[derive(Clone, Copy, PartialEq, Eq, Debug, Drop)]

@@ -1,5 +1,5 @@
 //! What numbers, fractions and their range are: the types and definitions that the crates above
-//! cite, with the list type that crosses their borders, and in [`laws`] what holds of numbers.
+//! cite, and in [`laws`] what holds of them.
 //!
 //! A number lies in the range from -(2^127 - 1) to 2^127 - 1, which is closed under negation.
 #![tactic(auto)]
@@ -7,8 +7,6 @@
 pub mod laws;
 mod range;
 mod ratio;
-mod seq;
 
 pub use range::{Op, Range};
 pub use ratio::Ratio;
-pub use seq::{Bytes, Seq};

@@ -1,5 +1,5 @@
 //! Lists that cross the borders of crates.
-ghost use Rattle.std.specs.Prelude.{◌≡◌, ◌++◌, ◌∷◌, [], length, OnOk, OnErr, IfOk};
+ghost use Rattle.std.specs.Prelude.{◌≡◌, ◌++◌, ◌∷◌, [], length, OnOk, OnErr};
 
 use std::alloc::{AllocError, Global};
 use std::marker::Model;
@@ -9,9 +9,6 @@ use std::marker::Model;
 pub struct Seq<T> {
     items: Vec<T>,
 }
-
-/// A list of bytes: a name or a text.
-pub type Bytes = Seq<u8>;
 
 impl<T> Model for Seq<T> {
     ghost use Rattle.std.specs.Prelude.{List};
@@ -68,25 +65,6 @@ impl<T: Drop> Seq<T> {
         ensures err { OnErr result (self.new ≡ self.old) }
     {
         self.items.push(value)?;
-        Ok(())
-    }
-}
-
-impl Seq<u8> {
-    /// A list of its own with these bytes.
-    pub fn copy(alloc: Global, bytes: &[u8]) -> Result<Self, AllocError>
-        ensures { IfOk result (λ s. s ≡ bytes.now) }
-    {
-        let items = bytes.to_vec(alloc)?;
-        Ok(Seq { items })
-    }
-
-    /// Adds bytes at the end, in order. An `Err`, for want of memory, changes nothing.
-    pub fn append(&mut self, bytes: &[u8]) -> Result<(), AllocError>
-        ensures ok { OnOk result (self.new ≡ self.old ++ bytes.now) }
-        ensures err { OnErr result (self.new ≡ self.old) }
-    {
-        self.items.extend_from_slice(bytes)?;
         Ok(())
     }
 }
