@@ -1,13 +1,13 @@
 -- A row that is found by the hash of its arguments.
-use Rattle.std.proofs.Common.{◌≡◌, ◌≢◌, ℕ, zero, suc, ◌+◌, ◌-◌, ◌<◌, ◌≤◌, ℤ, pos, negsuc, Bool, true, false, List, [], ◌∷◌, ◌++◌, length, drop, get_or, refl, sym, ap, subst, ◌∙◌, inl, inr, arith}
-use Rattle.std.specs.Prelude.{◌&&◌, slice_index, slice_get, map, Option, Some, IfSome, if◌then◌else◌}
+use Rattle.std.proofs.Common.{◌≡◌, ◌≢◌, ℕ, zero, suc, ◌-◌, ◌<◌, ◌≤◌, ℤ, pos, negsuc, Bool, true, false, List, [], ◌∷◌, ◌++◌, length, drop, get_or, refl, sym, ap, subst, ◌∙◌, inl, inr, arith}
+use Rattle.std.specs.Prelude.{◌&&◌, slice_get, map, Option, Some, IfSome}
 use Rattle.std.proofs.lemmas.Bool.{cases_eq, cases_lt, eqb-true}
-use Rattle.std.proofs.lemmas.List.{get_or_append_left, get_or_push, length_push, drop_all}
+use Rattle.std.proofs.lemmas.List.{get_or_append_left, get_or_push, length_push}
 use Rattle.smt_meaning.specs.declared.values.Row.{Row}
 use Rattle.smt_meaning.specs.declared.values.Table.{Table}
 use Rattle.smt_meaning.specs.declared.values.Value.{Value}
 use Rattle.smt_meaning.specs.declared.values.Value.TheVariants.{Truth, Whole, Element}
-use Rattle.smt_meaning.specs.Term.{same_value, bool_eq, int_eq}
+use Rattle.smt_meaning.specs.Term.{same_value, int_eq}
 use Rattle.smt_meaning.specs.Interpretation.{same_values, look}
 use Rattle.term_store.specs.Latest.{latest, last_place}
 use Rattle.term_store.proofs.LatestLemmas.{latest_here, latest_skips, latest_le, latest_sent, latest_again}
@@ -144,22 +144,16 @@ pub record Next (rs : List Row) (default : Value) (vs : List Value) (link next :
   pub less : next < link
   pub seeks : Seeks rs default vs next
 
--- the row that the link names
-pub record IsNamed (rs : List Row) (default : Value) (vs : List Value) (link : ℕ) (r : Row) : Type 0 where
-  pub found : same_values vs r.arguments ≡ true → r.value ≡ look rs default vs
-  pub next : (next : ℕ) → same_values vs r.arguments ≡ false → next ≡ last_place (row_hashes rs) (get_or (row_hashes rs) (link - 1) 0) (link - 1) → Next rs default vs link next
-
-found_by : (r : Row) (rs : List Row) (default : Value) (vs : List Value) → same_values vs r.arguments ≡ true → look (r ∷ rs) default vs ≡ r.value
-found_by r rs default vs h = rw h refl
-
 drop_head : (rs : List Row) (i : ℕ) (r d : Row) (xs : List Row) → drop i rs ≡ r ∷ xs → get_or rs i d ≡ r
 drop_head [] zero r d xs e = absurd cc
 drop_head [] (suc i) r d xs e = absurd cc
 drop_head (x ∷ rs) zero r d xs e = cc
 drop_head (x ∷ rs) (suc i) r d xs e = drop_head rs i r d xs e
 
-pub named : (rs : List Row) (default : Value) (vs : List Value) (link : ℕ) (r : Row) → Seeks rs default vs link → 0 < link → r ≡ get_or rs (length rs - link) r → IsNamed rs default vs link r
-named rs default vs link r s some e =
+-- a row with other arguments is passed over, and the rows with other hashes before the next
+pub seeks_next : (rs : List Row) (default : Value) (vs : List Value) (link next : ℕ) (r : Row) → Seeks rs default vs link → 0 < link → r ≡ get_or rs (length rs - link) r
+    → same_values vs r.arguments ≡ false → next ≡ last_place (row_hashes rs) (get_or (row_hashes rs) (link - 1) 0) (link - 1) → Next rs default vs link next
+seeks_next rs default vs link next r s some e h last =
     let j : ℕ = link - 1 in
     let up : link ≡ suc j = omega arith in
     let within : link ≤ length rs = s.within in
@@ -170,22 +164,12 @@ named rs default vs link r s some e =
     let rest : look (at.row ∷ drop (length rs - j) rs) default vs ≡ look rs default vs = ap (λ (xs : List Row). look xs default vs) (sym here) ∙ s.same in
     let g : ℕ → ℕ = λ k. get_or (row_hashes rs) k 0 in
     let hash : g j ≡ values_hash vs = latest_sent g (values_hash vs) link j (sym s.from ∙ up) in
+    let last' : next ≡ last_place (row_hashes rs) (values_hash vs) j = last ∙ ap (λ n. last_place (row_hashes rs) n j) hash in
+    let below : latest g (values_hash vs) j ≤ j = latest_le g (values_hash vs) j in
     record {
-      found = λ h. ap (λ (x : Row). x.value) is ∙ sym (found_by at.row (drop (length rs - j) rs) default vs (ap (λ (x : Row). same_values vs x.arguments) (sym is) ∙ h)) ∙ rest;
-      next = λ next h last.
-          (let last' : next ≡ last_place (row_hashes rs) (values_hash vs) j = last ∙ ap (λ n. last_place (row_hashes rs) n j) hash in
-          let below : latest g (values_hash vs) j ≤ j = latest_le g (values_hash vs) j in
-          record {
-            less = omega arith;
-            seeks = seeks_from rs default vs j next (omega arith) last' (sym (look_past at.row (drop (length rs - j) rs) default vs (ap (λ (x : Row). same_values vs x.arguments) (sym is) ∙ h)) ∙ rest);
-          });
+      less = omega arith;
+      seeks = seeks_from rs default vs j next (omega arith) last' (sym (look_past at.row (drop (length rs - j) rs) default vs (ap (λ (x : Row). same_values vs x.arguments) (sym is) ∙ h)) ∙ rest);
     }
-
--- the search ends at the default
-pub seeks_end : (rs : List Row) (default : Value) (vs : List Value) (link : ℕ) → Seeks rs default vs link → link ≡ 0 → default ≡ look rs default vs
-seeks_end rs default vs link s e =
-    let all : drop (length rs - link) rs ≡ [] = drop_all (length rs - link) rs (omega arith) in
-    ap (λ (xs : List Row). look xs default vs) (sym all) ∙ s.same
 
 -- ---- the indexes of tables
 

@@ -1,9 +1,8 @@
 //! The value that a function of an interpretation has at some arguments.
-ghost use Rattle.std.specs.Prelude.{◌≡◌, ◌<◌, ℕ, Some, Option, List, length, map, nat_eq, slice_get, IfOk, OnOk};
+ghost use Rattle.std.specs.Prelude.{◌≡◌, ◌<◌, ℕ, Some, length, nat_eq, slice_get, IfOk, OnOk};
 ghost use Rattle.std.specs.HashMap.{get};
 ghost use Rattle.model_eval.specs.Tables.{first_place, place_with};
 ghost use Rattle.smt_meaning.specs.Interpretation.{meaning};
-ghost use Rattle.model_eval.specs.Rows.{row_index};
 
 use crate::rows::{indexes_of, value_in};
 use smt_meaning::{Interp, SymId, Table, Value};
@@ -21,10 +20,10 @@ pub(crate) struct Tables<'a> {
 }
 
 impl<'a> Model for Tables<'a> {
-    ghost use Rattle.std.specs.Prelude.{◌≡◌, List, map, nat_eq, ℕ};
+    ghost use Rattle.std.specs.Prelude.{List, nat_eq};
     ghost use Rattle.std.specs.HashMap.{get};
     ghost use Rattle.smt_meaning.specs.declared.values.Table.{Table as TableValue};
-    ghost use Rattle.model_eval.specs.Tables.{first_place, IsFiled};
+    ghost use Rattle.model_eval.specs.Tables.{IsFiled};
 
     ghost Value = { List TableValue };
 

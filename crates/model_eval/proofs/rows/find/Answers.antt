@@ -1,8 +1,7 @@
-use Rattle.std.proofs.Common.{◌≡◌, ◌-◌, ◌<◌, length, get_or, arith, sym, ap, ◌∙◌, subst}
-use Rattle.std.specs.Prelude.{slice_index}
+use Rattle.std.proofs.Common.{◌-◌, length, get_or, arith, ap, ◌∙◌}
 use Rattle.term_store.specs.Latest.{last_place}
-use Rattle.model_eval.specs.Rows.{row_hashes, values_hash}
-use Rattle.model_eval.proofs.RowLemmas.{seeks_start, named, length-row_hashes}
+use Rattle.model_eval.specs.Rows.{row_hashes}
+use Rattle.model_eval.proofs.RowLemmas.{seeks_start, seeks_next, length-row_hashes}
 use Rattle.model_eval.proofs.rows.find.Goals as goal
 
 pub loop-link-init : goal.loop-link-init
@@ -17,12 +16,12 @@ before-link-requires c =
 
 pub loop-link-smaller : goal.loop-link-smaller
 loop-link-smaller c =
-    ((named c.args.rows.now c.args.default c.args.arguments.now c.loop-link.link c.index-rows-rows.result c.loop-link.invariant (omega arith) c.index-rows-rows.is).next
-    c.before-link.result (grind arith)
+    (seeks_next c.args.rows.now c.args.default c.args.arguments.now c.loop-link.link c.before-link.result c.index-rows-rows.result c.loop-link.invariant (omega arith) c.index-rows-rows.is
+    (grind arith)
     (c.before-link.ensures ∙ ap (λ hs. last_place hs (get_or hs (c.loop-link.link - 1) 0) (c.loop-link.link - 1)) c.requires)).less
 
 pub loop-link-preserved : goal.loop-link-preserved
 loop-link-preserved c =
-    ((named c.args.rows.now c.args.default c.args.arguments.now c.loop-link.link c.index-rows-rows.result c.loop-link.invariant (omega arith) c.index-rows-rows.is).next
-    c.before-link.result (grind arith)
+    (seeks_next c.args.rows.now c.args.default c.args.arguments.now c.loop-link.link c.before-link.result c.index-rows-rows.result c.loop-link.invariant (omega arith) c.index-rows-rows.is
+    (grind arith)
     (c.before-link.ensures ∙ ap (λ hs. last_place hs (get_or hs (c.loop-link.link - 1) 0) (c.loop-link.link - 1)) c.requires)).seeks
