@@ -3,3 +3,4 @@ pub mod Folds
 pub mod MarkLemmas
 pub mod KeepLemmas
 pub mod TableLemmas
+pub mod RowLemmas

@@ -2,3 +2,4 @@ pub mod Unfit
 pub mod Fitted
 pub mod Walk
 pub mod Tables
+pub mod Rows

@@ -1,6 +1,7 @@
 -- Where the table of a symbol stands.
-use Rattle.std.specs.Prelude.{ℕ, suc, Bool, true, false, List, [], ◌∷◌, Option, Some, None, nat_eq}
+use Rattle.std.specs.Prelude.{◌≡◌, ℕ, suc, Bool, true, false, List, [], ◌∷◌, Option, Some, None, map, nat_eq}
 use Rattle.smt_meaning.specs.declared.values.Table.{Table}
+use Rattle.model_eval.specs.Rows.{row_index}
 
 -- here, or one place further than in the rest
 abbrev pub here_or_later : Bool → Option ℕ → Option ℕ
@@ -18,3 +19,8 @@ abbrev pub place_with : Option ℕ → Bool → ℕ → Option ℕ
 place_with (Some i) same place = Some i
 place_with None true place = Some place
 place_with None false place = None
+
+-- each symbol has the place of its first table, and each table the index of its rows
+pub record IsFiled (tables : List Table) (places : ℕ → Option ℕ) (indexes : List (Option (List ℕ))) : Type 0 where
+  pub placed : (symbol : ℕ) → places symbol ≡ first_place tables symbol
+  pub indexed : indexes ≡ map row_index tables

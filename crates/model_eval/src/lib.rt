@@ -10,6 +10,7 @@ ghost use Rattle.model_eval.specs.Walk.{IsKept};
 mod evaluate;
 mod marks;
 mod operators;
+mod rows;
 mod tables;
 #[cfg(test)]
 mod tests;

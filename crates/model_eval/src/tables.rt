@@ -2,58 +2,34 @@
 ghost use Rattle.std.specs.Prelude.{◌≡◌, ◌<◌, ℕ, Some, length, nat_eq, slice_get, IfOk, OnOk};
 ghost use Rattle.std.specs.HashMap.{get};
 ghost use Rattle.model_eval.specs.Tables.{first_place, place_with};
-ghost use Rattle.smt_meaning.specs.Interpretation.{meaning, same_values, look};
+ghost use Rattle.smt_meaning.specs.Interpretation.{meaning};
 
-use crate::operators::same;
-use smt_meaning::{Interp, Row, SymId, Table, Value};
+use crate::rows::{indexes_of, value_in};
+use smt_meaning::{Interp, SymId, Table, Value};
 use std::alloc::{AllocError, Global};
 use std::collections::HashMap;
 use std::marker::Model;
+use term_store::HashIndex;
 
-fn same_list(a: &[Value], b: &[Value]) -> bool
-    ensures { result ≡ same_values a.now b.now }
-{
-    if a.len() != b.len() {
-        return false;
-    }
-    for i in 0..a.len() {
-        if !same(a[i], b[i]) {
-            return false;
-        }
-    }
-    true
-}
-
-fn look_in(rows: &[Row], default: Value, arguments: &[Value]) -> Value
-    ensures { result ≡ look rows.now default arguments.now }
-{
-    for row in rows {
-        if same_list(arguments, row.arguments.as_slice()) {
-            return row.value;
-        }
-    }
-    default
-}
-
-/// The tables of an interpretation, each found by its symbol.
+/// The tables of an interpretation, each found by its symbol, and the indexes of their rows.
 #[derive(Drop)]
 pub(crate) struct Tables<'a> {
     tables: &'a [Table],
     places: HashMap<SymId, usize>,
+    indexes: Vec<Option<HashIndex>>,
 }
 
 impl<'a> Model for Tables<'a> {
-    ghost use Rattle.std.specs.Prelude.{◌≡◌, List, nat_eq, ℕ};
+    ghost use Rattle.std.specs.Prelude.{List, nat_eq};
     ghost use Rattle.std.specs.HashMap.{get};
     ghost use Rattle.smt_meaning.specs.declared.values.Table.{Table as TableValue};
-    ghost use Rattle.model_eval.specs.Tables.{first_place};
+    ghost use Rattle.model_eval.specs.Tables.{IsFiled};
 
     ghost Value = { List TableValue };
 
     ghost view = { λ s. s.tables.now };
 
-    ghost invariant = { λ s. (symbol : ℕ) →
-        get nat_eq s.places symbol ≡ first_place s.tables.now symbol };
+    ghost invariant = { λ s. IsFiled s.tables.now (get nat_eq s.places) s.indexes.items };
 }
 
 impl<'a> Tables<'a> {
@@ -62,7 +38,12 @@ impl<'a> Tables<'a> {
     {
         let tables = interp.as_slice();
         let places = places_of(alloc, tables)?;
-        Ok(Tables { tables, places })
+        let indexes = indexes_of(alloc, tables)?;
+        Ok(Tables {
+            tables,
+            places,
+            indexes,
+        })
     }
 }
 
@@ -98,6 +79,13 @@ fn table_at(tables: &[Table], place: usize) -> &Table
     &tables[place]
 }
 
+fn index_at(indexes: &[Option<HashIndex>], place: usize) -> &Option<HashIndex>
+    requires { place < length indexes.now }
+    ensures { slice_get indexes.now place ≡ Some result.now }
+{
+    &indexes[place]
+}
+
 /// The value of a function symbol at these arguments.
 pub(crate) fn look_up(tables: &Tables<'_>, symbol: SymId, arguments: &[Value]) -> Value
     ensures { result ≡ meaning tables.now symbol arguments.now }
@@ -105,7 +93,7 @@ pub(crate) fn look_up(tables: &Tables<'_>, symbol: SymId, arguments: &[Value]) -
     match tables.places.get(&symbol) {
         Some(place) => {
             let table = table_at(tables.tables, *place);
-            look_in(table.rows.as_slice(), table.default, arguments)
+            value_in(table, index_at(&tables.indexes, *place), arguments)
         }
         None => Value::Truth(false),
     }

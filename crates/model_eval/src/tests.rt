@@ -178,6 +178,51 @@ fn functions_have_their_rows(rt: HostRuntime) -> Result<(), Fail> {
     Ok(())
 }
 
+/// Puts a row for one number at the end.
+fn add_row(
+    alloc: Global,
+    rows: &mut Seq<Row>,
+    argument: i128,
+    value: i128,
+) -> Result<(), EvalError> {
+    let mut arguments = Seq::new(alloc);
+    arguments.push(Whole(argument))?;
+    rows.push(Row {
+        arguments,
+        value: Whole(value),
+    })?;
+    Ok(())
+}
+
+#[test]
+fn the_first_of_many_rows_counts(rt: HostRuntime) -> Result<(), Fail> {
+    let alloc = rt.alloc();
+    let mut rows = Seq::new(alloc);
+    for i in -20..20 {
+        add_row(alloc, &mut rows, i, 100 + i)?;
+    }
+    for i in 0..8 {
+        add_row(alloc, &mut rows, i, 0)?;
+    }
+    let mut interp = Seq::new(alloc);
+    interp.push(Table {
+        symbol: 4,
+        rows,
+        default: Whole(7),
+    })?;
+    let mut store = TermStore::new(alloc, u32::MAX);
+    for (argument, want) in [(-20, 80), (-3, 97), (3, 103), (19, 119), (20, 7)] {
+        let number = intern(&rt, &mut store, Head::Numeral(argument), &[])?;
+        let term = intern(&rt, &mut store, Head::Symbol(4), &[number])?;
+        assert_eq!(rt;
+            evaluate(&rt, alloc, &interp, &store, term),
+            Ok(Whole(want)),
+            "at {argument}"
+        );
+    }
+    Ok(())
+}
+
 #[test]
 fn deep_and_shared_terms(rt: HostRuntime) -> Result<(), Fail> {
     let interp = Seq::new(rt.alloc());

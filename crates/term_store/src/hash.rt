@@ -8,7 +8,8 @@ use smt_meaning::{Head, Operator, TermId};
 /// An odd number whose bits look random: 2^64 divided by the golden ratio (Knuth, The Art of Computer Programming, volume 3, section 6.4).
 const MULTIPLIER: u64 = 0x9e37_79b9_7f4a_7c15;
 
-fn mix(state: u64, word: u64) -> u64
+/// The state of a hash after one more word.
+pub fn mix(state: u64, word: u64) -> u64
     ensures { result ≡ mixed state word }
 {
     (state ^ word).wrapping_mul(MULTIPLIER)

@@ -1,5 +1,5 @@
 //! Places by their hashes.
-ghost use Rattle.std.specs.Prelude.{◌≡◌, ◌+◌, ◌-◌, ◌^◌, ◌<◌, ◌≤◌, [], ◌∷◌, ◌++◌, length, take, replicate, OnOk, OnErr};
+ghost use Rattle.std.specs.Prelude.{◌≡◌, ◌+◌, ◌-◌, ◌*◌, ◌^◌, ◌<◌, ◌≤◌, [], ◌∷◌, ◌++◌, length, max, take, replicate, OnOk, OnErr};
 ghost use Rattle.term_store.specs.Latest.{last_place, hashes_of, bucket_of, IsIndex, IsOnChain};
 
 use std::alloc::{AllocError, Global};
@@ -14,7 +14,7 @@ pub(crate) struct Link {
 
 /// A list of hashes, with a table that finds the places of a hash.
 #[derive(Drop)]
-pub(crate) struct HashIndex {
+pub struct HashIndex {
     links: Vec<Link>,
     buckets: Vec<u32>,
 }
@@ -83,10 +83,10 @@ fn remove_last(links: &mut Vec<Link>, buckets: &mut [u32])
     }
 }
 
-/// A larger number of buckets.
+/// Twice as many buckets, and 16 at least.
 fn more_buckets(count: usize) -> usize
     requires { count < 2 ^ 32 }
-    ensures { count < result }
+    ensures { result ≡ max 16 (2 * count) }
 {
     if count < 8 { 16 } else { 2 * count }
 }
@@ -110,11 +110,13 @@ fn fill(links: &mut [Link], buckets: &mut [u32])
     }
 }
 
-/// Makes room for a link. An `Err` changes nothing.
+/// Makes room for a link: the buckets stay while they are more than the links, and at least double then. An `Err` keeps the hashes.
 fn make_room(links: &mut Vec<Link>, buckets: &mut Vec<u32>) -> Result<(), AllocError>
     requires { IsIndex links.old.items buckets.old.items }
     ensures index { IsIndex links.new.items buckets.new.items }
     ensures room { OnOk result (length links.new.items < length buckets.new.items) }
+    ensures kept { OnOk result (length links.old.items < length buckets.old.items → buckets.new.items ≡ buckets.old.items) }
+    ensures doubled { OnOk result (length buckets.old.items ≤ length links.old.items → length buckets.new.items ≡ max 16 (2 * length buckets.old.items)) }
     ensures same { hashes_of links.new.items ≡ hashes_of links.old.items }
 {
     if links.len() < buckets.len() {
@@ -143,7 +145,7 @@ impl HashIndex {
     ghost use Rattle.term_store.specs.Latest.{last_place};
 
     /// No hash. It takes no memory.
-    pub(crate) fn new(alloc: Global) -> Self
+    pub fn new(alloc: Global) -> Self
         ensures { result ≡ [] }
     {
         HashIndex {
@@ -153,7 +155,7 @@ impl HashIndex {
     }
 
     /// Adds a hash at the end. An `Err`, for want of memory, changes nothing.
-    pub(crate) fn push(&mut self, hash: u32) -> Result<(), AllocError>
+    pub fn push(&mut self, hash: u32) -> Result<(), AllocError>
         requires { length self.old + 1 < 2 ^ 32 }
         ensures ok { OnOk result (self.new ≡ self.old ++ hash ∷ []) }
         ensures err { OnErr result (self.new ≡ self.old) }
@@ -163,14 +165,14 @@ impl HashIndex {
     }
 
     /// Takes the hashes from this place on away. It takes no memory.
-    pub(crate) fn truncate(&mut self, len: usize)
+    pub fn truncate(&mut self, len: usize)
         ensures { self.new ≡ take len self.old }
     {
         shorten(&mut self.links, &mut self.buckets, len);
     }
 
     /// One more than the last place with this hash, or 0.
-    pub(crate) fn last(&self, hash: u32) -> u32
+    pub fn last(&self, hash: u32) -> u32
         ensures { result ≡ last_place self.now hash (length self.now) }
     {
         if self.buckets.is_empty() {
@@ -181,7 +183,7 @@ impl HashIndex {
     }
 
     /// One more than the last place before this one with the same hash, or 0.
-    pub(crate) fn before(&self, place: usize) -> u32
+    pub fn before(&self, place: usize) -> u32
         requires { place < length self.now }
         ensures { result ≡ last_place self.now (slice_index self.now place) place }
     {

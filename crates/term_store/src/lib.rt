@@ -7,4 +7,6 @@ mod store;
 #[cfg(test)]
 mod tests;
 
+pub use hash::mix;
+pub use index::HashIndex;
 pub use store::{InternError, Node, TermStore};

@@ -1,0 +1,160 @@
+//! The rows of a table, found by a hash of their arguments.
+ghost use Rattle.std.specs.Prelude.{◌≡◌, ◌+◌, ◌<◌, ◌^◌, length, map, slice_get, Some, IfOk, IfSome};
+ghost use Rattle.smt_meaning.specs.Interpretation.{same_values, look};
+ghost use Rattle.model_eval.specs.Rows.{truth_word, number_state, value_state, values_state, values_hash, row_hashes, is_scanned, row_index};
+
+use crate::operators::same;
+use smt_meaning::{Row, Table, Value};
+use std::alloc::{AllocError, Global};
+use term_store::{HashIndex, mix};
+
+fn same_list(a: &[Value], b: &[Value]) -> bool
+    ensures { result ≡ same_values a.now b.now }
+{
+    if a.len() != b.len() {
+        return false;
+    }
+    for i in 0..a.len() {
+        if !same(a[i], b[i]) {
+            return false;
+        }
+    }
+    true
+}
+
+fn word_of(truth: bool) -> u64
+    ensures { result ≡ truth_word truth }
+{
+    if truth { 1 } else { 0 }
+}
+
+fn with_number(state: u64, number: i128) -> u64
+    ensures { result ≡ number_state state number }
+{
+    let size = number.unsigned_abs();
+    let low = (size % (1 << 64)) as u64;
+    let high = (size / (1 << 64)) as u64;
+    mix(mix(mix(state, word_of(number < 0)), low), high)
+}
+
+fn with_value(state: u64, value: Value) -> u64
+    ensures { result ≡ value_state state value }
+{
+    match value {
+        Value::Truth(truth) => mix(state, word_of(truth)),
+        Value::Whole(number) => with_number(state, number),
+        Value::Element(element) => mix(state, element),
+    }
+}
+
+fn with_values(start: u64, values: &[Value]) -> u64
+    ensures { result ≡ values_state start values.now }
+{
+    let mut state = start;
+    for value in values {
+        state = with_value(state, *value);
+    }
+    state
+}
+
+/// The hash of a list of values. Equal lists have equal hashes.
+fn hash_of(values: &[Value]) -> u32
+    ensures { result ≡ values_hash values.now }
+{
+    (with_values(1, values) >> 32) as u32
+}
+
+/// The hash of a row's arguments.
+fn hash_at(rows: &[Row], place: usize) -> u32
+    requires { place < length rows.now }
+    ensures { IfSome (slice_get rows.now place) (λ r. result ≡ values_hash r.arguments) }
+{
+    hash_of(rows[place].arguments.as_slice())
+}
+
+/// The hashes of the rows, the last row's first, so that of equal rows the first is found.
+fn hashed(alloc: Global, rows: &[Row]) -> Result<HashIndex, AllocError>
+    requires { length rows.now + 1 < 2 ^ 32 }
+    ensures { IfOk result (λ hashes. hashes ≡ row_hashes rows.now) }
+{
+    let mut index = HashIndex::new(alloc);
+    let mut left = rows.len();
+    while left > 0 {
+        left -= 1;
+        index.push(hash_at(rows, left))?;
+    }
+    Ok(index)
+}
+
+/// Whether rows of this number are scanned.
+fn scanned(count: usize) -> bool
+    ensures { result ≡ is_scanned count }
+{
+    count < 8 || count > 0xffff_fffe
+}
+
+/// The index of a table's rows, unless they are scanned.
+fn indexed(alloc: Global, table: &Table) -> Result<Option<HashIndex>, AllocError>
+    ensures { IfOk result (λ index. index ≡ row_index table.now) }
+{
+    let rows = table.rows.as_slice();
+    if scanned(rows.len()) {
+        return Ok(None);
+    }
+    Ok(Some(hashed(alloc, rows)?))
+}
+
+/// The index of each table's rows.
+pub(crate) fn indexes_of(
+    alloc: Global,
+    tables: &[Table],
+) -> Result<Vec<Option<HashIndex>>, AllocError>
+    ensures { IfOk result (λ indexes. indexes.items ≡ map row_index tables.now) }
+{
+    let mut indexes = Vec::new(alloc);
+    for table in tables {
+        let index = indexed(alloc, table)?;
+        indexes.push(index)?;
+    }
+    Ok(indexes)
+}
+
+/// The value of the first row with these arguments, by a scan.
+fn scan(rows: &[Row], default: Value, arguments: &[Value]) -> Value
+    ensures { result ≡ look rows.now default arguments.now }
+{
+    for row in rows {
+        if same_list(arguments, row.arguments.as_slice()) {
+            return row.value;
+        }
+    }
+    default
+}
+
+/// The value of the first row with these arguments, by their hash.
+fn find(rows: &[Row], index: &HashIndex, default: Value, arguments: &[Value]) -> Value
+    requires { index.now ≡ row_hashes rows.now }
+    ensures { result ≡ look rows.now default arguments.now }
+{
+    let mut link = index.last(hash_of(arguments));
+    while link > 0 {
+        let row = &rows[rows.len() - link as usize];
+        if same_list(arguments, row.arguments.as_slice()) {
+            return row.value;
+        }
+        link = index.before((link - 1) as usize);
+    }
+    default
+}
+
+/// The value of a function at these arguments.
+pub(crate) fn value_in(table: &Table, index: &Option<HashIndex>, arguments: &[Value]) -> Value
+    requires { index.now ≡ row_index table.now }
+    ensures { result ≡ look table.now.rows table.now.default arguments.now }
+{
+    let rows = table.rows.as_slice();
+    match index {
+        Some(index) => find(rows, index, table.default, arguments),
+        None => scan(rows, table.default, arguments),
+    }
+}
