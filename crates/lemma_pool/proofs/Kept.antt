@@ -1,19 +1,23 @@
 -- What follows still does as a pool's levels come and go.
 use Rattle.std.proofs.Common.{◌≡◌, ℕ, zero, suc, ◌+◌, ◌-◌, ◌<◌, ◌≤◌, min, List, [], ◌∷◌, ◌++◌, take, length, get_or, All, Contains, Bool, true, false, eq-eqb, subst, sym, ap, ◌∙◌, refl, arith}
-use Rattle.std.specs.Prelude.{filter, nat_lt, ◌==◌, ◌||◌, IsTrue}
+use Rattle.std.specs.Prelude.{filter, replicate, nat_lt, ◌==◌, ◌||◌, IsTrue}
 use Rattle.std.proofs.lemmas.Bool.{eqb-true}
 use Rattle.std.proofs.lemmas.Bool.Decides.{nat_tests}
-use Rattle.std.proofs.lemmas.List.{length-take-le, take-take}
+use Rattle.std.proofs.lemmas.List.{length-take-le, length-append, length-replicate, append-nil}
 use Rattle.std.proofs.lemmas.List.Elements.{All-weaker, All-filter, filter_passes}
 use Rattle.smt_meaning.specs.declared.clauses.Clause.{Clause}
-use Rattle.smt_meaning.specs.Stack.{Frame, up_to}
+use Rattle.smt_meaning.specs.Declaration.{Declaration}
+use Rattle.smt_meaning.specs.Stack.{Frame, Assertion, depth, up_to, on_top, pushed, empty_frame}
 use Rattle.smt_meaning.specs.Clause.{clause_symbols}
 use Rattle.smt_meaning.specs.Follows.{declared_ids, follows, follows_from}
 use Rattle.race_model.specs.declared.event.Entry.{Entry}
 use Rattle.race_model.specs.Base.{Base}
-use Rattle.race_model.specs.Race.{entries_below}
+use Rattle.race_model.specs.declared.event.Addition.{Addition}
+use Rattle.race_model.specs.declared.event.Event.TheVariants.{Push, Pop, Assert}
+use Rattle.race_model.specs.Race.{entries_below, asserted_by}
+use Rattle.race_model.specs.Shelves.{ShelfState, racing}
 use Rattle.race_model.specs.Laws.{IsSound, SoundAfterPush, SoundAfterAssert, SoundAfterCut, SoundWithTrees}
-use Rattle.lemma_pool.specs.Pools.{Growth, levels, members, grown, Grows, cut_base, is_one_of, IsKnown}
+use Rattle.lemma_pool.specs.Pools.{Growth, levels, members, grown, Grows, cut_base, is_one_of, IsKnown, IsCut, IsStep, IsSameButBase, on_base, with_more}
 
 take_all : (fs : List Frame) (n : ℕ) → n ≡ length fs → take n fs ≡ fs
 take_all [] zero e = refl
@@ -139,3 +143,51 @@ all_sound b es h = All-weaker (λ (e : Entry). IsKnown b e.clause) (λ (e : Entr
 
 pub levels_left : (n m k size : ℕ) → k ≡ min n m → n ≤ size → k ≤ size
 levels_left n m k size e le = omega arith
+
+-- ---- pushes, pops and assertions as events
+
+pub push_grows : (s : ShelfState) (n : ℕ) (d : Base) → IsStep (Push n) s (on_base d s) → Grows s.base d
+push_grows s n d h = record {
+  steps = levels n ∷ [];
+  frames = ap (λ (b : Base). b.frames) h.base;
+  more = h.more;
+  trees = ap (λ (b : Base). b.trees) h.base;
+}
+
+pub assert_grows : (s : ShelfState) (a : Addition) (d : Base) → IsStep (Assert a) s (on_base d s) → Grows s.base d
+assert_grows s a d h = record {
+  steps = members (a.declared ++ a.named) (asserted_by (racing 0 (with_more h.more s)) a) ∷ [];
+  frames = ap (λ (b : Base). b.frames) h.base;
+  more = h.more;
+  trees = ap (λ (b : Base). b.trees) h.base;
+}
+
+length_pushed : (n : ℕ) (fs : List Frame) → length (pushed n fs) ≡ length fs + n
+length_pushed n fs = length-append fs (replicate n empty_frame) ∙ ap (λ k. length fs + k) (length-replicate n empty_frame)
+
+length_on_top : (ds : List Declaration) (xs : List Assertion) (fs : List Frame) → length (on_top ds xs fs) ≡ length fs
+length_on_top ds xs [] = refl
+length_on_top ds xs (f ∷ []) = refl
+length_on_top ds xs (f ∷ g ∷ fs) = let t = length_on_top ds xs (g ∷ fs) in omega arith
+
+pub push_levels : (s : ShelfState) (n : ℕ) (d : Base) → IsStep (Push n) s (on_base d s) → length d.frames ≡ length s.base.frames + n
+push_levels s n d h = ap (λ (b : Base). length b.frames) h.base ∙ length_pushed n s.base.frames
+
+pub assert_levels : (s : ShelfState) (a : Addition) (d : Base) → IsStep (Assert a) s (on_base d s) → length d.frames ≡ length s.base.frames
+assert_levels s a d h = ap (λ (b : Base). length b.frames) h.base ∙ length_on_top (a.declared ++ a.named) (asserted_by (racing 0 (with_more h.more s)) a) s.base.frames
+
+pub push_step : (s t : ShelfState) (n : ℕ) (d : Base) → IsStep (Push n) s (on_base d s) → t.base ≡ d → IsSameButBase s t → IsStep (Push n) s t
+push_step s t n d h e same = record { more = h.more; allowed = h.allowed; base = e ∙ h.base; entries = same.entries; ended = same.ended; room = same.room }
+
+pub assert_step : (s t : ShelfState) (a : Addition) (d : Base) → IsStep (Assert a) s (on_base d s) → t.base ≡ d → IsSameButBase s t → IsStep (Assert a) s t
+assert_step s t a d h e same = record { more = h.more; allowed = h.allowed; base = e ∙ h.base; entries = same.entries; ended = same.ended; room = same.room }
+
+pub pop_step : (s t : ShelfState) (n : ℕ) → n ≤ depth s.base.frames → IsCut (length s.base.frames - n) s t → IsStep (Pop n) s t
+pop_step s t n le h = record {
+  more = [];
+  allowed = (le, tt);
+  base = h.base ∙ (λ i. record { trees = sym (append-nil s.base.trees) i; frames = (cut_base (length s.base.frames - n) s.base).frames });
+  entries = h.entries;
+  ended = h.ended;
+  room = h.room;
+}

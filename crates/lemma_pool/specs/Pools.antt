@@ -7,9 +7,12 @@ use Rattle.smt_meaning.specs.Interpretation.{Interprets}
 use Rattle.smt_meaning.specs.Stack.{Frame, Assertion, Holds, signature_of, up_to, on_top, pushed}
 use Rattle.smt_meaning.specs.Clause.{ClauseTrue, clause_symbols, places}
 use Rattle.smt_meaning.specs.Follows.{declared_ids}
+use Rattle.race_model.specs.declared.event.Addition.{Addition}
+use Rattle.race_model.specs.declared.event.Event.{Event}
+use Rattle.race_model.specs.declared.event.Event.TheVariants.{Assert}
 use Rattle.race_model.specs.Base.{Base}
-use Rattle.race_model.specs.Race.{entries_below}
-use Rattle.race_model.specs.Shelves.{ShelfState}
+use Rattle.race_model.specs.Race.{Allowed, after, entries_below}
+use Rattle.race_model.specs.Shelves.{ShelfState, racing}
 
 -- the first n levels
 abbrev pub cut_base : ℕ → Base → Base
@@ -46,6 +49,27 @@ pub record IsCut (n : ℕ) (s t : ShelfState) : Type 0 where
   pub entries : t.entries ≡ entries_below n s.entries
   pub ended : t.ended ≡ s.ended
   pub room : t.room ≡ s.room
+
+-- the same pool on another base
+abbrev pub on_base : Base → ShelfState → ShelfState
+on_base b s = record s { base = b }
+
+-- more trees at the end of the list
+abbrev pub with_more : List Tree → ShelfState → ShelfState
+with_more ts s = on_base (record s.base { trees = s.base.trees ++ ts }) s
+
+-- the event of a race may happen, perhaps after the list of trees has gone on, and this is what it does
+pub record IsStep (e : Event) (s t : ShelfState) : Type 0 where
+  pub more : List Tree
+  pub allowed : Allowed (racing 0 (with_more more s)) e
+  pub base : t.base ≡ (after (racing 0 (with_more more s)) e).base
+  pub entries : t.entries ≡ (after (racing 0 (with_more more s)) e).entries
+  pub ended : t.ended ≡ s.ended
+  pub room : t.room ≡ s.room
+
+-- the newest level gains declarations, definitions and names, and perhaps an assertion
+abbrev pub IsAsserted : ShelfState → ShelfState → Type 0
+IsAsserted s t = (a : Addition) × IsStep (Assert a) s t
 
 -- how many levels are those up to a level, of which -1 says that there are none
 abbrev pub levels_up_to : ℤ → ℕ

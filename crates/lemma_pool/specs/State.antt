@@ -1,5 +1,5 @@
 -- What a pool stands for.
-use Rattle.std.specs.Prelude.{ℕ, ◌-◌, vec_len, vec_capacity}
+use Rattle.std.specs.Prelude.{◌-◌, vec_len, vec_capacity}
 use Rattle.race_model.specs.declared.shelf.Framed.{Ghosts}
 use Rattle.race_model.specs.Shelves.{ShelfState}
 use Rattle.lemma_pool.specs.declared.pool.Pool.{Pool}

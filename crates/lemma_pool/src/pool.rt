@@ -2,7 +2,8 @@ ghost use Rattle.std.specs.Prelude.{◌≡◌, ◌+◌, ◌-◌, ◌≤◌, [], 
 ghost use Rattle.smt_meaning.specs.Stack.{depth};
 ghost use Rattle.race_model.specs.declared.event.Entry.{Entry};
 ghost use Rattle.race_model.specs.Shelves.{IsSame};
-ghost use Rattle.lemma_pool.specs.Pools.{cut_base, Grows, IsCut, IsKnown, IsSameButBase, levels_up_to};
+ghost use Rattle.race_model.specs.declared.event.Event.TheVariants.{Push, Pop};
+ghost use Rattle.lemma_pool.specs.Pools.{cut_base, Grows, IsAsserted, IsCut, IsKnown, IsSameButBase, IsStep, levels_up_to, on_base};
 ghost use Rattle.std.proofs.Props.{props};
 
 use race_model::{
@@ -99,6 +100,28 @@ impl<K: Framed> Pool<K> {
         self.levels = levels;
     }
 
+    /// The stack has gained so many empty levels, and is this one. It takes no memory.
+    pub fn push(&mut self, stack: &K, count: u16)
+        requires { IsStep (Push count) (state_of self.old) (on_base (K.base stack.now) (state_of self.old)) }
+        ensures step { IsStep (Push count) (state_of self.old) (state_of self.new) }
+        ensures base { (state_of self.new).base ≡ K.base stack.now }
+        ensures spare { (state_of self.new).spare ≡ (state_of self.old).spare }
+    {
+        let levels = self.levels + count as u64;
+        self.follow(stack, levels);
+    }
+
+    /// The newest level has gained declarations, definitions and names, and perhaps an assertion, and the stack is this one. It takes no memory.
+    pub fn assert(&mut self, stack: &K)
+        requires { IsAsserted (state_of self.old) (on_base (K.base stack.now) (state_of self.old)) }
+        ensures step { IsAsserted (state_of self.old) (state_of self.new) }
+        ensures base { (state_of self.new).base ≡ K.base stack.now }
+        ensures spare { (state_of self.new).spare ≡ (state_of self.old).spare }
+    {
+        let levels = self.levels;
+        self.follow(stack, levels);
+    }
+
     // The levels below `count` stay, with their entries.
     fn keep(&mut self, count: u64)
         ensures { IsCut count (state_of self.old) (state_of self.new) }
@@ -112,7 +135,8 @@ impl<K: Framed> Pool<K> {
     /// So many of the newest levels go, with the entries above those that stay. It takes no memory.
     pub fn pop(&mut self, count: u16)
         requires { count ≤ depth (state_of self.old).base.frames }
-        ensures { IsCut (length (state_of self.old).base.frames - count) (state_of self.old) (state_of self.new) }
+        ensures cut { IsCut (length (state_of self.old).base.frames - count) (state_of self.old) (state_of self.new) }
+        ensures step { IsStep (Pop count) (state_of self.old) (state_of self.new) }
     {
         let kept = self.levels - count as u64;
         self.keep(kept);

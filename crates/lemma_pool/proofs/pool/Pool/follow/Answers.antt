@@ -1,6 +1,5 @@
-use Rattle.std.proofs.Common.{◌≡◌, ◌≤◌, length, All, subst, sym, ap, ◌∙◌, arith}
+use Rattle.std.proofs.Common.{◌≤◌, length, All, subst, sym, ap, ◌∙◌, arith}
 use Rattle.race_model.specs.declared.event.Entry.{Entry}
-use Rattle.race_model.specs.Base.{Base}
 use Rattle.lemma_pool.specs.Pools.{cut_base, IsKnown}
 use Rattle.lemma_pool.proofs.Kept.{whole, still_sound, all_known, all_sound}
 use Rattle.lemma_pool.proofs.pool.Pool.follow.Goals as goal

@@ -1,8 +1,7 @@
-use Rattle.std.proofs.Common.{rules, ◌≡◌, ◌≤◌, min, length, All, subst, sym, ap, ◌∙◌, refl, arith}
+use Rattle.std.proofs.Common.{rules, ◌≡◌, min, length, All, subst, sym, ap, ◌∙◌, refl}
 use Rattle.std.specs.Prelude.{nat_lt}
 use Rattle.std.proofs.lemmas.Fn.{filter_same}
 use Rattle.race_model.specs.declared.event.Entry.{Entry}
-use Rattle.race_model.specs.Base.{Base}
 use Rattle.race_model.specs.Race.{entries_below}
 use Rattle.race_model.specs.Laws.{IsSound}
 use Rattle.lemma_pool.specs.Pools.{cut_base, IsKnown}
