@@ -111,8 +111,10 @@ onto a x xs fa hx ih n (z ∷ zs) hz j =
     third : x.variable ≡ z.variable → (x.variable ≡ j) ⊎ (x.variable ≢ j) → (v : Bool) → is_zero (fused x.coefficient a z.coefficient) ≡ v
         → Agrees (coefficient (cond v (merged a xs zs) (sum ∷ merged a xs zs)) j) (fused (coefficient (x ∷ xs) j) a (coefficient (z ∷ zs) j))
     third same (inl p) true e =
-        inr (ap is_zero (coefficient_below (x.variable + 1) (merged a xs zs) j (from_merged a xs (x.variable + 1) zs hx (from_weaker (x.variable + 1) (z.variable + 1) zs (omega (arith, same)) hz.1)) (omega (arith, p))),
-        ap is_zero (ap₂ (λ c d. fused c a d) (coefficient_head x xs j p) (coefficient_head z zs j (sym same ∙ p))) ∙ e)
+        inr (
+          ap is_zero (coefficient_below (x.variable + 1) (merged a xs zs) j (from_merged a xs (x.variable + 1) zs hx (from_weaker (x.variable + 1) (z.variable + 1) zs (omega (arith, same)) hz.1)) (omega (arith, p))),
+          ap is_zero (ap₂ (λ c d. fused c a d) (coefficient_head x xs j p) (coefficient_head z zs j (sym same ∙ p))) ∙ e,
+        )
     third same (inl p) false e =
         inl (coefficient_head sum (merged a xs zs) j p ∙ sym (ap₂ (λ c d. fused c a d) (coefficient_head x xs j p) (coefficient_head z zs j (sym same ∙ p))))
     third same (inr q) v e =
@@ -134,7 +136,6 @@ coefficient_merged a [] n zs fa hx hz j = inl (coefficient_multiplied a zs j fa 
 coefficient_merged a (x ∷ xs) n zs fa hx hz j = onto a x xs fa hx.1 (λ m ws p q i. coefficient_merged a xs m ws fa p q i) n zs hz j
 
 -- ---- forms
-
 
 zero_form_start : (b : ℕ) (es : List Entry) (j : ℕ) → coefficient (entry b (whole (negsuc 0)) ∷ es) j ≡ cond (eqb j b) (whole (negsuc 0)) (coefficient es j)
 zero_form_start b es j = by_test (eqb b j) refl (eqb j b) refl

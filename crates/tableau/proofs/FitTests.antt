@@ -13,7 +13,7 @@ use Rattle.grid_meaning.specs.Grid.{coefficient, row_of, entries_of, factor, for
 use Rattle.tableau.specs.declared.rows.Row.{Row}
 use Rattle.tableau.specs.Fitting.{scaled_fits, multiplied_fits, onto_fits, merged_fits}
 use Rattle.tableau.specs.Rows.{IsAscending, scaled, zero_form, variable_at, coefficient_at}
-use Rattle.tableau.specs.Staged.{Lacks, IsForm, IsFormRefused, IsRowRefused, IsOtherRefused, IsRefused, RowFits, IsFitting, IsPivoted, IsTriedPivot, IsSameRow}
+use Rattle.tableau.specs.Staged.{Lacks, IsForm, IsRefused, RowFits, IsFitting, IsPivoted, IsTriedPivot, IsSameRow}
 use Rattle.tableau.specs.Table.{IsTableau, AreNonzero, AreFractions, plain}
 use Rattle.tableau.proofs.Absent.{fused_absent_fits, fused_none_fits, absent_fused_fits, none_product_in}
 use Rattle.tableau.proofs.Fractions.{fraction_at, fraction_coefficient}

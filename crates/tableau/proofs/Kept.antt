@@ -3,7 +3,7 @@ use Rattle.std.proofs.Common.{◌≡◌, ◌≢◌, ℕ, zero, suc, ◌+◌, ◌
 use Rattle.std.proofs.lemmas.Int.{ints}
 use Rattle.std.proofs.lemmas.Bool.{cases_lt}
 use Rattle.number_meaning.specs.declared.ratio.Ratio.{Ratio}
-use Rattle.number_meaning.specs.Ratio.{IsReciprocal, IsFraction}
+use Rattle.number_meaning.specs.Ratio.{IsReciprocal}
 use Rattle.number_meaning.specs.Listed.{product_of, negation_of}
 use Rattle.number_meaning.proofs.LowestTerms.{pos_times}
 use Rattle.grid_meaning.specs.declared.Entry.{Entry}

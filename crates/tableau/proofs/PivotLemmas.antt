@@ -122,9 +122,12 @@ pub refused_other : (before : List Row) (c place q : ℕ) (form form' entries : 
     → entries ≡ (get_or before place r').entries.items → form' ≡ form → IsForm (get_or before place r).basic c entries form q
     → IsOtherRefused (get_or before place r).basic c form' before d → IsRefused c place before d
 refused_other before c place q form form' entries r r' d lt entries_is form_is is_form o =
-    inr
-    (form, q, form_here before c place q form entries r r' d lt entries_is is_form,
-    subst (λ (x : Row). IsOtherRefused x.basic c form before d) (get_or_default before place r d lt) (subst (λ es. IsOtherRefused (get_or before place r).basic c es before d) form_is o))
+    inr (
+      form,
+      q,
+      form_here before c place q form entries r r' d lt entries_is is_form,
+      subst (λ (x : Row). IsOtherRefused x.basic c form before d) (get_or_default before place r d lt) (subst (λ es. IsOtherRefused (get_or before place r).basic c es before d) form_is o),
+    )
 
 -- all rows through a pivot
 pub pivoted_is : (before mid now : List Row) (c place : ℕ) (d : Row) → place < length before

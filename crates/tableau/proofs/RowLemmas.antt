@@ -1,15 +1,15 @@
 -- Steps of the loops over rows.
-use Rattle.std.proofs.Common.{Result, Ok, Err, IfErr, IsErrAnd, Bool, true, false, ◌&&◌, nat_lt, Some, None, ap₂, negsuc, ◌≤◌, ◌-◌, ◌⊎◌, inl, inr, ◌≡◌, ℕ, suc, ◌+◌, ◌<◌, List, [], ◌∷◌, ◌++◌, length, get_or, take, drop, refl, sym, ap, ◌∙◌, append_assoc, add-one, arith, drop-cons}
+use Rattle.std.proofs.Common.{Result, Ok, Err, IfErr, IsErrAnd, Bool, true, false, ◌&&◌, Some, None, ap₂, negsuc, ◌≤◌, ◌-◌, ◌⊎◌, inl, inr, ◌≡◌, ℕ, suc, ◌+◌, ◌<◌, List, [], ◌∷◌, ◌++◌, length, get_or, take, drop, refl, sym, ap, ◌∙◌, append_assoc, add-one, arith, drop-cons}
 use Rattle.std.proofs.lemmas.List.{append-nil, drop_all, take_all, length-drop}
 use Rattle.number_meaning.specs.declared.ratio.Ratio.{Ratio}
-use Rattle.number_meaning.specs.Listed.{product_of, product_steps, sum_steps}
+use Rattle.number_meaning.specs.Listed.{product_of, product_steps}
 use Rattle.grid_meaning.specs.declared.Entry.{Entry}
 use Rattle.number_meaning.specs.Number.{whole}
 use Rattle.number_meaning.specs.Whole.{first_outside}
 use Rattle.number_meaning.specs.declared.range.Range.{Range}
 use Rattle.tableau.proofs.Absent.{fit_by_none, fit_false}
-use Rattle.grid_meaning.specs.Grid.{fit, fused_fits}
-use Rattle.tableau.specs.Fitting.{scaled_fits, multiplied_fits, merged_fits, onto_fits}
+use Rattle.grid_meaning.specs.Grid.{fit}
+use Rattle.tableau.specs.Fitting.{scaled_fits, multiplied_fits, merged_fits}
 use Rattle.tableau.specs.Rows.{entry, zero_form, scaled, multiplied, merged}
 
 drop_here : (es : List Entry) (i : ℕ) (x : Entry) → i < length es → x ≡ get_or es i x → drop i es ≡ x ∷ drop (i + 1) es

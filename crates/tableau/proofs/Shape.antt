@@ -14,7 +14,9 @@ use Rattle.number_meaning.proofs.WholeNumbers.{wholes}
 use Rattle.number_meaning.proofs.RationalRing.{Rational, number, number_back, rational_sum, rational_product, rational_zero, rational_zero-is, rational_one, rationals}
 use Rattle.number_meaning.proofs.ExactSteps.{product_positive, number_product, fused_positive, number_reciprocal, none_number}
 use Rattle.grid_meaning.proofs.RowValue.{ArePositive, dot}
-use Rattle.tableau.specs.Table.{IsNonzero, AreNonzero}
+use Rattle.number_meaning.specs.Ratio.{IsFraction}
+use Rattle.tableau.specs.Staged.{HasEntry}
+use Rattle.tableau.specs.Table.{IsNonzero, AreNonzero, Table, IsOpenRow, row_at}
 use Rattle.tableau.specs.Rows.{entry, scaled, multiplied, merged, merged_onto, unless_none, variable_at, coefficient_at, IsAscending}
 
 -- ---- ascending lists, from n on
@@ -263,3 +265,34 @@ found_nonzero es i d h lt =
 
 pub lacking_zero : (es : List Entry) (c : ℕ) → ((k : ℕ) → k < length es → variable_at es k ≢ c) → is_zero (coefficient es c) ≡ true
 lacking_zero es c h = ap is_zero (coefficient_free c es (places_free c es h))
+
+-- a coefficient that isn't 0 has an entry
+pub has_entry : (c : ℕ) (es : List Entry) → is_zero (coefficient es c) ≡ false → HasEntry c es
+has_entry c [] e = absurd (let f : true ≡ false = e in cc)
+has_entry c (x ∷ es) e = by_test (eqb x.variable c) refl (has_entry c es) e
+  where
+    by_test : (t : Bool) → eqb x.variable c ≡ t → (is_zero (coefficient es c) ≡ false → HasEntry c es) → is_zero (cond t x.coefficient (coefficient es c)) ≡ false → HasEntry c (x ∷ es)
+    by_test true is more w =
+        record {
+          place = zero;
+          in_row = omega arith;
+          is = eqb-true x.variable c is;
+          nonzero = λ z. let f : true ≡ false = sym (eq-eqb (unsigned_abs x.coefficient.numerator) 0 (ap unsigned_abs z)) ∙ w in absurd (cc);
+        }
+    by_test false is more w = let h = more w in record { place = suc h.place; in_row = omega (arith, h.in_row); is = h.is; nonzero = h.nonzero }
+
+-- the entries of a new row, told place by place
+pub open_row : (t : Table) (es : List Entry) → ((k : ℕ) → k < length es → IsFraction (coefficient_at es k)) → ((i j : ℕ) → i < j → j < length es → variable_at es i < variable_at es j)
+    → ((k : ℕ) → k < length es → (coefficient_at es k).numerator ≢ pos 0) → ((k : ℕ) → k < length es → variable_at es k < t.count)
+    → ((k i : ℕ) → k < length es → i < length t.rows → (row_at t.rows i).basic ≢ variable_at es k) → IsOpenRow t es
+open_row t es fractions ascends nonzero known separate =
+    record {
+      ascending = record { ascends = ascends };
+      nonzero = all_nonzero es fractions nonzero;
+      known = λ j le k lt e. let b = known k lt in absurd (omega (arith, le, b, e));
+      separate = λ i h k lt e. separate k i lt h (sym e);
+    }
+  where
+    all_nonzero : (xs : List Entry) → ((k : ℕ) → k < length xs → IsFraction (coefficient_at xs k)) → ((k : ℕ) → k < length xs → (coefficient_at xs k).numerator ≢ pos 0) → AreNonzero xs
+    all_nonzero [] f g = tt
+    all_nonzero (x ∷ xs) f g = (((f zero (omega arith)).positive, g zero (omega arith)), all_nonzero xs (λ k lt. f (suc k) (omega arith)) (λ k lt. g (suc k) (omega arith)))

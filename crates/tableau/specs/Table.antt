@@ -51,3 +51,10 @@ pub record IsTable (t : Table) : Type 0 where
   pub separate : (j k : ℕ) → j < length t.rows → k < length t.rows → Lacks (row_at t.rows j).basic (row_at t.rows k).entries
   pub known : (j k : ℕ) → t.count ≤ j → k < length t.rows → Lacks j (row_at t.rows k).entries
   pub basics : (k : ℕ) → k < length t.rows → (row_at t.rows k).basic < t.count
+
+-- entries that a new row may have
+pub record IsOpenRow (t : Table) (es : List Entry) : Type 0 where
+  pub ascending : IsAscending es
+  pub nonzero : AreNonzero es
+  pub known : (j : ℕ) → t.count ≤ j → Lacks j es
+  pub separate : (k : ℕ) → k < length t.rows → Lacks (row_at t.rows k).basic es

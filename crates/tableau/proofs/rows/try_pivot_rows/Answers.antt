@@ -1,6 +1,6 @@
 use Rattle.std.proofs.Common.{ap, length, arith}
 use Rattle.std.proofs.lemmas.Result.{on_ok_weaker}
-use Rattle.tableau.proofs.PivotLemmas.{place_in_form, tried_is, refused_form, refused_other}
+use Rattle.tableau.proofs.PivotLemmas.{place_in_form, tried_is, refused_other}
 use Rattle.tableau.proofs.RowLemmas.{if_err_then}
 use Rattle.tableau.proofs.rows.try_pivot_rows.Goals as goal
 
