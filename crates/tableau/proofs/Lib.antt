@@ -1,0 +1,11 @@
+pub mod RowLemmas
+pub mod Solutions
+pub mod PivotLemmas
+pub mod Shape
+pub mod Fractions
+pub mod Kept
+pub mod TableLemmas
+pub mod Absent
+pub mod Coefficients
+pub mod PivotedRows
+pub mod FitTests

@@ -1,0 +1,26 @@
+use Rattle.std.proofs.Common.{◌∙◌, ap}
+use Rattle.tableau.specs.Table.{Table, no_row}
+use Rattle.tableau.proofs.FitTests.{tried_fits_so, refused_so}
+use Rattle.tableau.proofs.TableLemmas.{tried_kept, tried_same}
+use Rattle.tableau.proofs.table.Tableau.try_pivot.Goals as goal
+
+pub invariant_of-self : goal.invariant_of-self
+invariant_of-self c =
+    tried_kept c.self.inside.rows.len c.self.inside.count c.self.inside.rows.items c.deref_mut.result.now c.try_pivot_rows.new.rows
+    c.self.invariant c.deref_mut.ensures.value c.self.inside.rows.ok.0 c.try_pivot_rows.auto.rows c.try_pivot_rows.ensures.same
+
+pub returns-clause-same : goal.returns-clause-same
+returns-clause-same c =
+    ap (λ rs. let t : Table = record { count = c.self.inside.count; rows = rs } in t)
+    (tried_same c.self.inside.rows.len c.self.inside.rows.items c.deref_mut.result.now c.try_pivot_rows.new.rows c.deref_mut.ensures.value c.self.inside.rows.ok.0 c.try_pivot_rows.auto.rows c.try_pivot_rows.ensures.same)
+    ∙ c.self.view_is
+
+pub returns-clause-fits : goal.returns-clause-fits
+returns-clause-fits c =
+    tried_fits_so c.try_pivot_rows.result c.self.inside.rows.items c.deref_mut.result.now c.try_pivot_rows.new.rows c.args.self.now.rows no_row c.self.inside.count c.args.self.now.count c.args.entering c.args.place
+    c.self.invariant (ap (λ (t : Table). t.rows) c.self.view_is) (ap (λ (t : Table). t.count) c.self.view_is) c.requires.place c.deref_mut.ensures.value c.try_pivot_rows.ensures.same c.try_pivot_rows.ensures.ok
+
+pub returns-clause-range : goal.returns-clause-range
+returns-clause-range c =
+    refused_so c.try_pivot_rows.result c.self.inside.rows.items c.deref_mut.result.now c.args.self.now.rows no_row c.self.inside.count c.args.self.now.count c.args.entering c.args.place
+    c.self.invariant (ap (λ (t : Table). t.rows) c.self.view_is) (ap (λ (t : Table). t.count) c.self.view_is) c.requires.place c.deref_mut.ensures.value c.try_pivot_rows.ensures.range

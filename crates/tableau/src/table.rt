@@ -1,0 +1,181 @@
+//! The tableau.
+ghost use Rattle.std.specs.Prelude.{◌≡◌, ◌≢◌, ◌↔◌, ℕ, ◌+◌, ◌-◌, ◌^◌, ◌<◌, ◌≤◌, pos, true, false, [], ◌∷◌, ◌++◌, length, OnOk, OnErr, IfOk, IfErr, IfSome, IfNone};
+ghost use Rattle.number_meaning.specs.declared.ratio.Ratio.{Ratio};
+ghost use Rattle.number_meaning.specs.Number.{is_zero};
+ghost use Rattle.grid_meaning.specs.Grid.{MeetsRows, coefficient, pivoted_rows, pivot_fits};
+ghost use Rattle.tableau.specs.Failing.{IsRange};
+ghost use Rattle.tableau.specs.Rows.{IsAscending, variable_at, coefficient_at};
+ghost use Rattle.tableau.specs.Staged.{Lacks, HasEntry};
+
+use crate::failure::Failure;
+use crate::rows::{Row, check_fractions, pivot_rows, try_pivot_rows};
+use crate::search::coefficient_in;
+use fraction128::Fraction;
+use grid_meaning::Entry;
+use std::alloc::Global;
+use std::marker::Model;
+
+/// Variables by number, some of which are basic: each of these is the sum of the entries of its row, which are of variables that aren't.
+#[derive(Drop)]
+pub struct Tableau {
+    rows: Vec<Row>,
+    form: Vec<Entry>,
+    count: u32,
+}
+
+impl Model for Tableau {
+    ghost use Rattle.tableau.specs.Table.{Table};
+
+    ghost Value = { Table };
+
+    ghost use Rattle.std.specs.Prelude.{map};
+    ghost use Rattle.tableau.specs.Table.{plain, IsTableau};
+
+    ghost view = { λ t. record { count = t.count; rows = map plain t.rows.items } };
+
+    ghost invariant = { λ t. IsTableau t.count t.rows.items };
+}
+
+impl Tableau {
+    ghost use Rattle.tableau.specs.Table.{Table, IsTable, row_at, AreNonzero};
+
+    /// No variable. It takes no memory.
+    pub fn new(alloc: Global) -> Self
+        ensures { result ≡ record { count = 0; rows = [] } }
+    {
+        Tableau {
+            rows: Vec::new(alloc),
+            form: Vec::new(alloc),
+            count: 0,
+        }
+    }
+
+    /// How many variables there are.
+    pub fn count(&self) -> u32
+        ensures { result ≡ self.now.count }
+    {
+        self.count
+    }
+
+    /// How many rows there are.
+    pub fn len(&self) -> usize
+        ensures { result ≡ length self.now.rows }
+    {
+        self.rows.len()
+    }
+
+    /// A new variable, which isn't basic.
+    pub fn add_variable(&mut self) -> u32
+        requires { self.old.count < 2 ^ 32 - 1 }
+        ensures number { result ≡ self.old.count }
+        ensures new { self.new ≡ record { count = self.old.count + 1; rows = self.old.rows } }
+    {
+        let number = self.count;
+        self.count += 1;
+        number
+    }
+
+    /// Adds a row, whose basic variable is new. An `Err`, for want of memory, changes nothing.
+    pub fn append_row(&mut self, alloc: Global, entries: Vec<Entry>) -> Result<u32, Failure>
+        requires ascending { IsAscending entries.items }
+        requires nonzero { AreNonzero entries.items }
+        requires known { (j : ℕ) → self.old.count ≤ j → Lacks j entries.items }
+        requires open { (k : ℕ) → k < length self.old.rows → Lacks (row_at self.old.rows k).basic entries.items }
+        requires room { self.old.count < 2 ^ 32 - 1 }
+        ensures number { IfOk result (λ i. i ≡ self.old.count) }
+        ensures ok { OnOk result (self.new ≡ record { count = self.old.count + 1; rows = self.old.rows ++ record { basic = self.old.count; entries = entries.items } ∷ [] }) }
+        ensures err { OnErr result (self.new ≡ self.old) }
+    {
+        let basic = self.count;
+        check_fractions(&entries);
+        self.rows.push(Row {
+            basic,
+            entries,
+            next_basic: basic,
+            next: Vec::new(alloc),
+            changes: false,
+        })?;
+        self.count += 1;
+        Ok(basic)
+    }
+
+    /// Tells what holds of each tableau.
+    pub fn facts(&self)
+        ensures { IsTable self.now }
+    {
+        let _rows = &self.rows;
+    }
+
+    /// The basic variable of a row.
+    pub fn basic(&self, place: usize) -> u32
+        requires { place < length self.now.rows }
+        ensures value { result ≡ (row_at self.now.rows place).basic }
+        ensures known { result < self.now.count }
+    {
+        self.rows[place].basic
+    }
+
+    /// The entries of a row.
+    pub fn entries(&self, place: usize) -> &[Entry]
+        requires { place < length self.now.rows }
+        ensures value { result.now ≡ (row_at self.now.rows place).entries }
+        ensures ascending { IsAscending result.now }
+        ensures nonzero { AreNonzero result.now }
+        ensures known { (j : ℕ) → self.now.count ≤ j → Lacks j result.now }
+        ensures separate { (k : ℕ) → k < length self.now.rows → Lacks (row_at self.now.rows k).basic result.now }
+    {
+        &self.rows[place].entries
+    }
+
+    /// The coefficient of a variable in a row, where it isn't 0.
+    pub fn coefficient(&self, place: usize, variable: u32) -> Option<Fraction>
+        requires { place < length self.now.rows }
+        ensures some { IfSome result (λ x. x ≡ coefficient (row_at self.now.rows place).entries variable) }
+        ensures nonzero { IfSome result (λ x. is_zero x ≡ false) }
+        ensures zero { IfNone result (is_zero (coefficient (row_at self.now.rows place).entries variable) ≡ true) }
+        ensures none { IfNone result (Lacks variable (row_at self.now.rows place).entries) }
+    {
+        coefficient_in(self.entries(place), variable)
+    }
+
+    /// Whether a variable is basic.
+    pub fn is_basic(&self, variable: u32) -> bool
+        ensures yes { result ≡ true → (k : ℕ) × (k < length self.now.rows) × ((row_at self.now.rows k).basic ≡ variable) }
+        ensures no { result ≡ false → (k : ℕ) → k < length self.now.rows → (row_at self.now.rows k).basic ≢ variable }
+    {
+        for place in 0..self.len() {
+            if self.basic(place) == variable {
+                return true;
+            }
+        }
+        false
+    }
+
+    /// Makes the entering variable basic in place of that of the row. The solutions of the rows stay; an `Err` changes nothing.
+    pub fn pivot(&mut self, place: usize, entering: u32) -> Result<(), Failure>
+        requires place { place < length self.old.rows }
+        requires entry { HasEntry entering (row_at self.old.rows place).entries }
+        ensures keeps { OnOk result ((v : ℕ → Ratio) → ((i : ℕ) → 0 < (v i).denominator) → (MeetsRows self.new.rows v ↔ MeetsRows self.old.rows v)) }
+        ensures exact { OnOk result (self.new.rows ≡ pivoted_rows self.old.count self.old.rows (row_at self.old.rows place).basic entering) }
+        ensures count { self.new.count ≡ self.old.count }
+        ensures len { length self.new.rows ≡ length self.old.rows }
+        ensures entered { OnOk result ((row_at self.new.rows place).basic ≡ entering) }
+        ensures others { OnOk result ((k : ℕ) → k < length self.old.rows → k ≢ place → (row_at self.new.rows k).basic ≡ (row_at self.old.rows k).basic) }
+        ensures fits { OnOk result (pivot_fits self.old.count self.old.rows (row_at self.old.rows place).basic entering ≡ true) }
+        ensures range { IfErr result (λ e. IsRange e → pivot_fits self.old.count self.old.rows (row_at self.old.rows place).basic entering ≡ false) }
+        ensures err { OnErr result (self.new ≡ self.old) }
+    {
+        pivot_rows(&mut self.rows, &mut self.form, place, entering)
+    }
+
+    /// Tries a pivot, and leaves the rows as they are.
+    pub fn try_pivot(&mut self, place: usize, entering: u32) -> Result<(), Failure>
+        requires place { place < length self.old.rows }
+        requires entry { HasEntry entering (row_at self.old.rows place).entries }
+        ensures same { self.new ≡ self.old }
+        ensures fits { OnOk result (pivot_fits self.old.count self.old.rows (row_at self.old.rows place).basic entering ≡ true) }
+        ensures range { IfErr result (λ e. IsRange e → pivot_fits self.old.count self.old.rows (row_at self.old.rows place).basic entering ≡ false) }
+    {
+        try_pivot_rows(&mut self.rows, &mut self.form, place, entering)
+    }
+}
