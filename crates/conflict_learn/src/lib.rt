@@ -7,8 +7,6 @@ mod kept;
 mod learn;
 mod minimize;
 mod reasons;
-#[cfg(test)]
-mod tests;
 mod uip;
 
 pub use learn::{Learner, Learnt};
