@@ -198,11 +198,20 @@ fn add_row(
 fn the_first_of_many_rows_counts(rt: HostRuntime) -> Result<(), Fail> {
     let alloc = rt.alloc();
     let mut rows = Seq::new(alloc);
-    for i in -20..20 {
-        add_row(alloc, &mut rows, i, 100 + i)?;
-    }
-    for i in 0..8 {
-        add_row(alloc, &mut rows, i, 0)?;
+    for (argument, value) in [
+        (-20, 80),
+        (-3, 97),
+        (-1, 99),
+        (0, 100),
+        (1, 101),
+        (2, 102),
+        (3, 103),
+        (19, 119),
+        (19, 0),
+        (3, 0),
+        (-20, 0),
+    ] {
+        add_row(alloc, &mut rows, argument, value)?;
     }
     let mut interp = Seq::new(alloc);
     interp.push(Table {
