@@ -7,34 +7,12 @@ use Rattle.smt_meaning.specs.Term.{Tree, Trees, node, none, more}
 use Rattle.smt_meaning.specs.TreeShape.{tree_eq, is_among, with_tree, with_parts, with_all_parts, put, put_at, put_all, argument}
 use Rattle.smt_meaning.specs.Sorts.{with_all}
 use Rattle.term_walk.specs.Again.{HasNoPlace, HaveNoPlace, NotedOnce, PutLeaves, Stored, AllStored, IsReady, AreReady, EachReady, RootsNoteAll}
-use Rattle.sort_laws.proofs.Among.{Among, among_one, among_rest, among_append}
+use Rattle.sort_laws.proofs.Among.{Among, among_append, among_parts, kept_with_parts}
 use Rattle.term_laws.proofs.SameTree.{tree_eq-true}
 
--- it is the first, or among the others
-among_cases : (P : Tree → Type 0) (t u : Tree) (us : List Tree) → P u → (Among t us → P t) → Among t (u ∷ us) → P t
-among_cases P t u us h k e = go (tree_eq t u) refl e
-  where
-    go : (b : Bool) → tree_eq t u ≡ b → (b || is_among t us) ≡ true → P t
-    go true p q = subst P (sym (tree_eq-true t u p)) h
-    go false p q = k q
-
-kept_with_tree : (t : Tree) (ts : List Tree) (u : Tree) → Among t ts → Among t (with_tree ts u)
-kept_with_tree t ts u h = go (is_among u ts)
-  where
-    go : (b : Bool) → Among t (if b then ts else ts ++ u ∷ [])
-    go true = h
-    go false = among_append t ts (u ∷ []) h
-
-among_last : (t : Tree) (us : List Tree) → Among t (us ++ t ∷ [])
-among_last t [] = among_one t
-among_last t (u ∷ us) = among_rest t u (us ++ t ∷ []) (among_last t us)
-
-among_with_tree : (t : Tree) (us : List Tree) → Among t (with_tree us t)
-among_with_tree t us = go (is_among t us) refl
-  where
-    go : (b : Bool) → is_among t us ≡ b → Among t (if b then us else us ++ t ∷ [])
-    go true e = e
-    go false e = among_last t us
+either_way : (b c : Bool) (P : Type 0) → (b ≡ true → P) → (c ≡ true → P) → (b || c) ≡ true → P
+either_way true c P f g e = f refl
+either_way false c P f g e = g e
 
 mutual
   parts_again : (ts : List Tree) (u : Tree) → Stored u ts → with_parts ts u ≡ ts
@@ -53,24 +31,27 @@ mutual
   all_whole_longer (more u us) ts more' w = (whole_longer u ts more' w.0, all_whole_longer us ts more' w.1)
 
 mutual
-  whole_kept : (u t : Tree) (ts : List Tree) → Stored u ts → Stored u (with_tree ts t)
-  whole_kept (node h us) t ts w = (kept_with_tree (node h us) ts t w.0, all_whole_kept us t ts w.1)
-
-  all_whole_kept : (us : Trees) (t : Tree) (ts : List Tree) → AllStored us ts → AllStored us (with_tree ts t)
-  all_whole_kept none t ts w = tt
-  all_whole_kept (more u us) t ts w = (whole_kept u t ts w.0, all_whole_kept us t ts w.1)
-
-mutual
   whole_still : (u v : Tree) (ts : List Tree) → Stored u ts → Stored u (with_parts ts v)
-  whole_still u (node h vs) ts w = whole_kept u (node h vs) (with_all_parts ts vs) (whole_all_still u vs ts w)
+  whole_still (node h us) v ts w = (kept_with_parts (node h us) ts v w.0, all_whole_still us v ts w.1)
 
-  whole_all_still : (u : Tree) (vs : Trees) (ts : List Tree) → Stored u ts → Stored u (with_all_parts ts vs)
-  whole_all_still u none ts w = w
-  whole_all_still u (more v vs) ts w = whole_all_still u vs (with_parts ts v) (whole_still u v ts w)
+  all_whole_still : (us : Trees) (v : Tree) (ts : List Tree) → AllStored us ts → AllStored us (with_parts ts v)
+  all_whole_still none v ts w = tt
+  all_whole_still (more u us) v ts w = (whole_still u v ts w.0, all_whole_still us v ts w.1)
+
+whole_all_still : (u : Tree) (vs : Trees) (ts : List Tree) → Stored u ts → Stored u (with_all_parts ts vs)
+whole_all_still u none ts w = w
+whole_all_still u (more v vs) ts w = whole_all_still u vs (with_parts ts v) (whole_still u v ts w)
+
+all_whole_kept : (us : Trees) (t : Tree) (ts : List Tree) → AllStored us ts → AllStored us (with_tree ts t)
+all_whole_kept us t ts w = go (is_among t ts)
+  where
+    go : (b : Bool) → AllStored us (if b then ts else (ts ++ t ∷ []))
+    go true = w
+    go false = all_whole_longer us ts (t ∷ []) w
 
 mutual
   whole_after : (ts : List Tree) (u : Tree) → Stored u (with_parts ts u)
-  whole_after ts (node h us) = (among_with_tree (node h us) (with_all_parts ts us), all_whole_kept us (node h us) (with_all_parts ts us) (all_whole_after ts us))
+  whole_after ts (node h us) = (among_parts (node h us) ts, all_whole_kept us (node h us) (with_all_parts ts us) (all_whole_after ts us))
 
   all_whole_after : (ts : List Tree) (us : Trees) → AllStored us (with_all_parts ts us)
   all_whole_after ts none = tt
@@ -121,7 +102,8 @@ noted_more xs ts (u ∷ l) r = noted_more xs (with_parts ts (put xs u)) l r
 
 member : (xs : Trees) (ts l : List Tree) (r : Tree) → EachWhole (map (put xs) l) ts → Among r l → Stored (put xs r) ts
 member xs ts [] r w h = absurd (cc)
-member xs ts (u ∷ l) r w h = among_cases (λ y. Stored (put xs y) ts) r u l w.0 (λ k. member xs ts l r w.1 k) h
+member xs ts (u ∷ l) r w h =
+    either_way (tree_eq r u) (is_among r l) _ (λ p. subst (λ y. Stored (put xs y) ts) (sym (tree_eq-true r u p)) w.0) (λ k. member xs ts l r w.1 k) h
 
 -- one root, where its parts are noted before it
 root_last : (xs : Trees) (ts l : List Tree) (r : Tree) (all : List Tree) → all ≡ with_all ts (map (put xs) l) → with_parts all (put xs r) ≡ with_tree all (put xs r) → with_all ts (map (put xs) (with_tree l r)) ≡ with_tree all (put xs r)
