@@ -1,11 +1,11 @@
 -- How `push` and `pop` are judged.
-use Rattle.std.proofs.Common.{◌≡◌, ◌∙◌, refl, ℕ, ◌+◌, ◌<◌, ◌≤◌, Bool, true, false, nat_le, length, arith}
+use Rattle.std.proofs.Common.{◌≡◌, ◌∙◌, refl, ℕ, ◌+◌, ◌<◌, ◌≤◌, Bool, true, false, nat_le, arith}
 use Rattle.std.proofs.lemmas.Bool.{le-leb}
 use Rattle.std.proofs.lemmas.Bool.Decides.{leb_tells}
 use Rattle.smt_meaning.specs.declared.refusals.Refusal.{Refusal}
 use Rattle.smt_meaning.specs.declared.refusals.Refusal.TheVariants.{PopPastLevelZero, TooManyLevels}
 use Rattle.smt_meaning.specs.Stack.{depth}
-use Rattle.smt_meaning.specs.Sorts.{Scope, Outcome, done, refused, Judging, ◌>>◌, return, refuse, require}
+use Rattle.smt_meaning.specs.Sorts.{Scope, done, refused, ◌>>◌, return, refuse, require}
 use Rattle.smt_meaning.specs.StackCommand.{Stack, Change, pushes, pops, most_levels, push_levels, pop_levels, scope_of, judged, judged_is}
 
 -- what is required before an answer

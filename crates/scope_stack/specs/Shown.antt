@@ -1,6 +1,5 @@
 -- What a stack shows of itself: its assertions, each by its text and the place of its term, and what is true of every stack.
-use Rattle.std.specs.Prelude.{◌≡◌, ℕ, ◌<◌, List, map, flat_map, length, All, IsTrue, Some}
-use Rattle.smt_meaning.specs.declared.tokens.Token.{Token}
+use Rattle.std.specs.Prelude.{◌≡◌, ◌<◌, List, map, flat_map, length, All, IsTrue, Some}
 use Rattle.smt_meaning.specs.declared.values.Sort.TheVariants.{Bool as Truths}
 use Rattle.smt_meaning.specs.Term.{Tree, tree_at}
 use Rattle.smt_meaning.specs.TreeShape.{is_among}

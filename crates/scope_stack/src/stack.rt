@@ -4,7 +4,7 @@ ghost use Rattle.std.specs.Prelude.{◌≡◌, unsigned_abs};
 use crate::answers::{Asked, Assertion, Carried, StackError};
 use smt_meaning::language::{Parameter, WrittenSort};
 use smt_meaning::{Bytes, Declaration, Refusal, SExpr, Seq};
-use std::alloc::{AllocError, Global};
+use std::alloc::Global;
 use std::marker::Model;
 use term_store::TermStore;
 
@@ -40,21 +40,21 @@ fn size_of(count: i128) -> u128
 }
 
 impl Stack {
-    ghost use Rattle.std.specs.Prelude.{◌≡◌, ◌≤◌, ◌≢◌, [], unsigned_abs, IfOk};
+    ghost use Rattle.std.specs.Prelude.{◌≡◌, ◌≤◌, ◌≢◌, [], unsigned_abs};
     ghost use Rattle.smt_meaning.specs.Stack.{depth, signature_of, start_frames};
     ghost use Rattle.smt_meaning.specs.StackCommand.{start, declare_sort, define_sort, declare_function, define_function, assert_term, push_levels, pop_levels};
     ghost use Rattle.scope_stack.specs.Carries.{Carries, Answers};
     ghost use Rattle.scope_stack.specs.Shown.{AreAsserted, IsLawful};
 
-    /// Level 0 alone, with nothing in it.
-    pub fn new(alloc: Global) -> Result<Self, AllocError>
-        ensures { IfOk result (λ s. s ≡ start) }
+    /// Level 0 alone, with nothing in it. It takes no memory.
+    pub fn new(alloc: Global) -> Self
+        ensures { result ≡ start }
     {
-        Ok(Stack {
+        Stack {
             terms: TermStore::new(alloc, MOST_TERMS),
             declared: Vec::new(alloc),
             asserted: Vec::new(alloc),
-        })
+        }
     }
 
     /// How many levels stand above level 0.

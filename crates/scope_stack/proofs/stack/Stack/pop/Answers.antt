@@ -1,7 +1,6 @@
-use Rattle.std.proofs.Common.{rules, ◌≡◌, ◌≤◌, ◌<◌, unsigned_abs, ◌∙◌, sym, ap, subst, refl, arith, ℤ, pos, ℕ}
+use Rattle.std.proofs.Common.{◌≡◌, ◌<◌, unsigned_abs, ◌∙◌, sym, refl, arith}
 use Rattle.std.specs.Int.{w128}
 use Rattle.std.proofs.lemmas.Int.{to_z-of_z}
-use Rattle.smt_meaning.specs.Stack.{depth}
 use Rattle.smt_meaning.specs.StackCommand.{start, pops, scope_of}
 use Rattle.scope_stack.proofs.LevelCommands.{pop_done, pop_refused}
 use Rattle.scope_stack.proofs.stack.Stack.pop.Goals as goal
