@@ -56,7 +56,6 @@ is_linear_here _ vs = true
 
 -- ---- what calls come to
 
-
 -- the value is the term with this head and these arguments, which joined the trees unless it was there
 pub record IsNode (h : Head) (s : Sort) (vs : List Value) (ts us : List Tree) (v : Value) : Type 0 where
   pub trees : us ≡ with_parts ts (node h (trees_of (map (typed ts) vs)))

@@ -1,5 +1,5 @@
 //! Terms that are read, with what the judgement of the terms around them asks for.
-ghost use Rattle.std.specs.Prelude.{◌≡◌, map, IfOk, OnErr};
+ghost use Rattle.std.specs.Prelude.{◌≡◌, ◌&&◌, map, IfOk, OnErr};
 ghost use Rattle.smt_meaning.specs.TreeShape.{is_constant_head};
 ghost use Rattle.elaborate.specs.Values.{AreValues, IsNode, IsLonger, id_of, all_constant, all_linear, one_varies, is_linear_here};
 
@@ -102,6 +102,18 @@ pub(crate) fn is_linear_here(head: Head, arguments: &[Value]) -> bool
     }
 }
 
+fn is_constant(head: Head, arguments: &[Value]) -> bool
+    ensures { result ≡ (is_constant_head head && all_constant arguments.now) }
+{
+    is_constant_head(head) && are_constant(arguments)
+}
+
+fn is_linear(head: Head, arguments: &[Value]) -> bool
+    ensures { result ≡ (is_linear_here head arguments.now && all_linear arguments.now) }
+{
+    is_linear_here(head, arguments) && are_linear(arguments)
+}
+
 /// Stores a term, unless it was before.
 pub(crate) fn stored(
     alloc: Global,
@@ -120,7 +132,7 @@ pub(crate) fn stored(
     Ok(Value {
         id,
         sort,
-        constant: is_constant_head(head) && are_constant(arguments),
-        linear: is_linear_here(head, arguments) && are_linear(arguments),
+        constant: is_constant(head, arguments),
+        linear: is_linear(head, arguments),
     })
 }
