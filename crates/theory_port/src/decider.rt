@@ -22,9 +22,9 @@ pub trait Decider {
 
     ghost decides: { List Frame → Bool };
 
-    /// Whether it takes the stack. This takes no memory.
-    fn takes(&self, stack: &Stack) -> bool
-        ensures { result ≡ decides stack.now.frames };
+    /// Whether it takes the stack. An `Err` is for want of memory.
+    fn takes(&self, alloc: Global, stack: &Stack) -> Result<bool, AllocError>
+        ensures { IfOk result (λ taken. taken ≡ decides stack.now.frames) };
 
     /// Decides a check. An `Err` is for want of memory.
     fn decide(
