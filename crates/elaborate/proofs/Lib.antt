@@ -1,2 +1,4 @@
 pub mod Flags
 pub mod Stored
+pub mod Applied
+pub mod Stacks

@@ -68,3 +68,8 @@ abbrev pub Comes : Judging Typed → Scope → List Tree → Result Value JudgeE
 Comes m s us (Ok v) = (m s ≡ done (typed us v) (record s { trees = us })) × IsValue us v
 Comes m s us (Err (Refused r)) = m s ≡ refused r
 Comes m s us (Err Memory) = Unit {0}
+
+-- the error tells this refusal, or want of memory
+abbrev pub IsErrorOf : Refusal → JudgeError → Type 0
+IsErrorOf r (Refused x) = x ≡ r
+IsErrorOf r Memory = Unit {0}

@@ -10,8 +10,10 @@ ghost use Rattle.smt_sorts.specs.Names.{Names, HasGained};
 ghost use Rattle.elaborate.specs.Judged.{scope_of, term_rules, typed_term, IsCauseOf, variables_of, bodied_of};
 ghost use Rattle.elaborate.specs.Values.{IsLonger};
 
+mod apply;
 mod error;
 mod operators;
+mod stack;
 mod value;
 
 pub use error::JudgeError;

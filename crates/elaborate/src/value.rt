@@ -35,7 +35,7 @@ fn are_constant(values: &[Value]) -> bool
     true
 }
 
-fn are_linear(values: &[Value]) -> bool
+pub(crate) fn are_linear(values: &[Value]) -> bool
     ensures { result ≡ all_linear values.now }
 {
     for value in values {
