@@ -2,3 +2,7 @@ pub mod Flags
 pub mod Stored
 pub mod Applied
 pub mod Stacks
+pub mod Numerals
+pub mod Grow
+pub mod Names
+pub mod Giving

@@ -12,9 +12,14 @@ ghost use Rattle.elaborate.specs.Values.{IsLonger};
 
 mod apply;
 mod error;
+mod frame;
+mod numeral;
 mod operators;
 mod stack;
+mod steps;
+mod token;
 mod value;
+mod walk;
 
 pub use error::JudgeError;
 use smt_meaning::{Body, Bytes, SExpr, Sort, TermId};

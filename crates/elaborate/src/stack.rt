@@ -1,5 +1,5 @@
 //! A list that is read, grown and cut at its newest end.
-ghost use Rattle.std.specs.Prelude.{◌≡◌, ◌∷◌, [], drop, length, reverse, OnOk, OnErr, IfSome, IfNone};
+ghost use Rattle.std.specs.Prelude.{◌≡◌, ◌∷◌, [], List, drop, length, reverse, OnOk, OnErr, IfSome, IfNone};
 
 use std::alloc::{AllocError, Global};
 use std::marker::Model;
@@ -56,6 +56,14 @@ impl<T: Drop> Stack<T> {
     {
         let kept = self.items.len().saturating_sub(count);
         self.items.truncate(kept);
+    }
+
+    /// The newest item.
+    pub fn newest(&self) -> Option<&T>
+        ensures some { IfSome result (λ x. (rest : List T) × (self.now ≡ x.now ∷ rest)) }
+        ensures none { IfNone result (self.now ≡ []) }
+    {
+        self.items.last()
     }
 
     /// The items, the oldest first.
