@@ -42,14 +42,13 @@ whole_walk tokens s None bs [] v e f = refl
 whole_walk tokens s None bs (x ∷ fs) v e f = absurd (cc)
 whole_walk tokens s (Some x) bs fs v e f = absurd (cc)
 
-pub give_whole : (w w' : Walk) (v : Value) → w.answer ≡ None → w.frames ≡ [] → w'.answer ≡ Some v → w'.bindings ≡ w.bindings → w'.frames ≡ w.frames → Given w v w'
+pub give_whole : (w w' : Walk) (v : Value) → w.answer ≡ None → w.frames ≡ [] → w'.answer ≡ Some v → w'.bindings ≡ w.bindings → w'.frames ≡ [] → Given w v w'
 give_whole w w' v e f a b g = record {
   walk = λ tokens s.
-      ap (λ o. stack_of tokens s o w'.bindings w'.frames) a ∙ ap (λ bs. stack_of tokens s (Some v) bs w'.frames) b ∙ ap (λ fs. stack_of tokens s (Some v) w.bindings fs) g
-      ∙ whole_walk tokens s w.answer w.bindings w.frames v e f;
+      ap (λ o. stack_of tokens s o w'.bindings w'.frames) a ∙ whole_walk tokens s w.answer w.bindings w.frames v e f;
   stands = λ s h k. record {
     answer = subst (AnswerHolds s) (sym a) k;
-    frames = subst (AllHold s) (sym g) h.frames;
+    frames = subst (AllHold s) (sym g) tt;
     bindings = subst (AreBound s.trees) (sym b) h.bindings;
   };
 }

@@ -6,3 +6,4 @@ pub mod Numerals
 pub mod Grow
 pub mod Names
 pub mod Giving
+pub mod Moves

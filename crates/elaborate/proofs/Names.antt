@@ -2,12 +2,13 @@
 use Rattle.std.proofs.Common.{◌≡◌, ℕ, List, [], ◌∷◌, map, ap, sym, subst, ◌∙◌, refl, Bool, true, false, Option, Some, None}
 use Rattle.std.specs.Prelude.{if◌then◌else◌, bytes_eq, ℤ, pos, Result, Ok, Err, IfOk, OnErr}
 use Rattle.smt_meaning.specs.declared.tokens.Token.{Token}
-use Rattle.smt_meaning.specs.declared.tokens.Token.TheVariants.{Symbol, Numeral}
+use Rattle.smt_meaning.specs.declared.tokens.Token.TheVariants.{Enter, Leave, Symbol, Numeral, Decimal, Hex, Binary, Text, Reserved, Keyword}
+use Rattle.smt_meaning.specs.declared.tokens.Word.{Word}
 use Rattle.smt_meaning.specs.declared.terms.Operator.{Operator}
 use Rattle.smt_meaning.specs.declared.terms.Head.{Head}
 use Rattle.smt_meaning.specs.declared.terms.Head.TheVariants.{Numeral as Number}
 use Rattle.smt_meaning.specs.declared.values.Sort.TheVariants.{Int as Ints}
-use Rattle.smt_meaning.specs.declared.refusals.Refusal.TheVariants.{NumeralTooLarge, UnknownSymbol, ArgumentCount}
+use Rattle.smt_meaning.specs.declared.refusals.Refusal.TheVariants.{NumeralTooLarge, UnknownSymbol, ArgumentCount, WrongArguments}
 use Rattle.smt_meaning.specs.Declaration.{Declaration}
 use Rattle.smt_meaning.specs.Term.{Tree, node, none}
 use Rattle.smt_meaning.specs.Signature.{look_up, operators, find_function}
@@ -124,3 +125,35 @@ free_comes r n bs s us y e h = known_comes r n bs (known_symbol (look_up n opera
 
 pub left_out : (r : Rules) (vs : List Variable) (t : Token) (s : Scope) (us : List Tree) (e : JudgeError) → judge_token r vs t s ≡ refused (UnknownSymbol t) → IsErrorOf (UnknownSymbol t) e → Comes (judge_token r vs t) s us (Err e)
 left_out r vs t s us e h k = comes_err (judge_token r vs t) s us (UnknownSymbol t) e h k
+
+pub out_decimal : (r : Rules) (vs : List Variable) (t : Token) (s : Scope) (cs : List ℕ) → t ≡ Decimal cs → judge_token r vs t s ≡ refused (UnknownSymbol t)
+unfolding refuse
+out_decimal r vs t s cs e = subst (λ x. judge_token r vs x s ≡ refused (UnknownSymbol x)) (sym e) refl
+
+pub out_hex : (r : Rules) (vs : List Variable) (t : Token) (s : Scope) (cs : List ℕ) → t ≡ Hex cs → judge_token r vs t s ≡ refused (UnknownSymbol t)
+unfolding refuse
+out_hex r vs t s cs e = subst (λ x. judge_token r vs x s ≡ refused (UnknownSymbol x)) (sym e) refl
+
+pub out_binary : (r : Rules) (vs : List Variable) (t : Token) (s : Scope) (cs : List ℕ) → t ≡ Binary cs → judge_token r vs t s ≡ refused (UnknownSymbol t)
+unfolding refuse
+out_binary r vs t s cs e = subst (λ x. judge_token r vs x s ≡ refused (UnknownSymbol x)) (sym e) refl
+
+pub out_text : (r : Rules) (vs : List Variable) (t : Token) (s : Scope) (cs : List ℕ) → t ≡ Text cs → judge_token r vs t s ≡ refused (UnknownSymbol t)
+unfolding refuse
+out_text r vs t s cs e = subst (λ x. judge_token r vs x s ≡ refused (UnknownSymbol x)) (sym e) refl
+
+pub no_enter : (r : Rules) (vs : List Variable) (t : Token) (s : Scope) → t ≡ Enter → judge_token r vs t s ≡ refused WrongArguments
+unfolding refuse
+no_enter r vs t s e = subst (λ x. judge_token r vs x s ≡ refused WrongArguments) (sym e) refl
+
+pub no_leave : (r : Rules) (vs : List Variable) (t : Token) (s : Scope) → t ≡ Leave → judge_token r vs t s ≡ refused WrongArguments
+unfolding refuse
+no_leave r vs t s e = subst (λ x. judge_token r vs x s ≡ refused WrongArguments) (sym e) refl
+
+pub no_reserved : (r : Rules) (vs : List Variable) (t : Token) (s : Scope) (w : Word) → t ≡ Reserved w → judge_token r vs t s ≡ refused WrongArguments
+unfolding refuse
+no_reserved r vs t s w e = subst (λ x. judge_token r vs x s ≡ refused WrongArguments) (sym e) refl
+
+pub no_keyword : (r : Rules) (vs : List Variable) (t : Token) (s : Scope) (w : List ℕ) → t ≡ Keyword w → judge_token r vs t s ≡ refused WrongArguments
+unfolding refuse
+no_keyword r vs t s w e = subst (λ x. judge_token r vs x s ≡ refused WrongArguments) (sym e) refl

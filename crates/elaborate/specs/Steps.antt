@@ -48,6 +48,48 @@ awaits_term Argument = true
 awaits_term Term = true
 awaits_term _ = false
 
+abbrev pub is_answered : Kind → Bool
+is_answered Answered = true
+is_answered _ = false
+
+-- the token is passed over
+abbrev pub is_past : Kind → Bool
+is_past Answered = true
+is_past AttributeValue = true
+is_past _ = false
+
+abbrev pub is_argument : Kind → Bool
+is_argument Argument = true
+is_argument _ = false
+
+abbrev pub is_head : Kind → Bool
+is_head Head = true
+is_head _ = false
+
+-- a list that is no term may come next
+abbrev pub takes_list : Kind → Bool
+takes_list LetList = true
+takes_list Binding = true
+takes_list Attribute = true
+takes_list AttributeValue = true
+takes_list _ = false
+
+-- a token that is no term may come next
+abbrev pub takes_word : Kind → Bool
+takes_word BoundName = true
+takes_word Attribute = true
+takes_word Name = true
+takes_word _ = false
+
+-- a list that is no application may end
+abbrev pub may_end : Kind → Bool
+may_end Binding = true
+may_end BindingEnd = true
+may_end LetEnd = true
+may_end Attribute = true
+may_end AttributeValue = true
+may_end _ = false
+
 abbrev pub class_of : Token → Class
 class_of Enter = Opening
 class_of Leave = Closing
@@ -69,3 +111,14 @@ abbrev pub StepComes : Judging (List Meant) → Scope → List Token → Scope �
 StepComes m s tokens u w (Ok a) = (m s ≡ done (walk_of tokens u w) u) × Stands u w
 StepComes m s tokens u w (Err (Refused r)) = m s ≡ refused r
 StepComes m s tokens u w (Err Memory) = Unit {0}
+
+-- a judgement gives this frame
+pub record IsFrame (m : Judging Meant) (s : Scope) (tokens : List Token) (bs : List Pair) (g : Frame) : Type 0 where
+  pub judged : m s ≡ done (frame_of tokens s bs g) s
+  pub outer : outside bs g ≡ bs
+  pub holds : Holds s g
+
+abbrev pub FrameComes : Judging Meant → Scope → List Token → List Pair → Result Frame JudgeError → Type 0
+FrameComes m s tokens bs (Ok g) = IsFrame m s tokens bs g
+FrameComes m s tokens bs (Err (Refused r)) = m s ≡ refused r
+FrameComes m s tokens bs (Err Memory) = Unit {0}

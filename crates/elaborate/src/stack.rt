@@ -45,7 +45,7 @@ impl<T: Drop> Stack<T> {
     /// Takes the newest item off.
     pub fn pop(&mut self) -> Option<T>
         ensures some { IfSome result (λ x. self.old ≡ x ∷ self.new) }
-        ensures none { IfNone result (self.old ≡ []) }
+        ensures none { IfNone result ((self.old ≡ []) × (self.new ≡ [])) }
     {
         self.items.pop()
     }

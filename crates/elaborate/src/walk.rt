@@ -1,9 +1,10 @@
 //! Terms are given to the terms around them.
-ghost use Rattle.std.specs.Prelude.{◌≡◌, List, None, drop, IfOk, OnOk};
+ghost use Rattle.std.specs.Prelude.{◌≡◌, ◌∷◌, List, None, drop, IfOk, OnOk, OnErr};
 ghost use Rattle.elaborate.specs.declared.frame.Binding.{Binding as BindingValue};
 ghost use Rattle.elaborate.specs.Frames.{outside};
-ghost use Rattle.elaborate.specs.Steps.{kind_of, kind_of_frame, attribute_kind, IsGiven, Given};
+ghost use Rattle.elaborate.specs.Steps.{kind_of, kind_of_frame, attribute_kind, is_answered, is_past, awaits_term, is_argument, is_head, takes_list, takes_word, may_end, IsGiven, Given};
 
+use crate::error::JudgeError;
 use crate::frame::{Frame, Walk};
 use crate::value::Value;
 use std::alloc::AllocError;
@@ -69,7 +70,7 @@ fn attribute_kind(depth: usize) -> Kind
 }
 
 /// What may come next in a walk.
-pub(crate) fn kind(walk: &Walk) -> Kind
+pub(crate) fn what_comes(walk: &Walk) -> Kind
     ensures { result ≡ kind_of walk.now.answer walk.now.frames }
 {
     match walk.answer {
@@ -117,6 +118,17 @@ fn given(frame: Frame, value: Value) -> Result<Frame, AllocError>
     }
 }
 
+/// A frame on top. An `Err` is want of memory.
+pub(crate) fn push(walk: &mut Walk, frame: Frame) -> Result<(), JudgeError>
+    ensures ok { OnOk result (walk.new ≡ record { answer = walk.old.answer; frames = frame ∷ walk.old.frames; bindings = walk.old.bindings }) }
+    ensures memory { OnErr result (result ≡ Err JudgeError.Memory) }
+{
+    match walk.frames.push(frame) {
+        Ok(()) => Ok(()),
+        Err(_) => Err(JudgeError::Memory),
+    }
+}
+
 /// A term is given to the innermost open term, or is the whole one.
 pub(crate) fn give(walk: &mut Walk, value: Value) -> Result<(), AllocError>
     requires { walk.old.answer ≡ None }
@@ -132,4 +144,172 @@ pub(crate) fn give(walk: &mut Walk, value: Value) -> Result<(), AllocError>
         }
     }
     Ok(())
+}
+
+/// All is read.
+pub(crate) fn is_answered(kind: Kind) -> bool
+    ensures { result ≡ is_answered kind }
+{
+    match kind {
+        Kind::Answered => true,
+        Kind::Whole => false,
+        Kind::Argument => false,
+        Kind::Term => false,
+        Kind::Head => false,
+        Kind::LetList => false,
+        Kind::Binding => false,
+        Kind::BoundName => false,
+        Kind::BindingEnd => false,
+        Kind::LetEnd => false,
+        Kind::Attribute => false,
+        Kind::AttributeValue => false,
+        Kind::Name => false,
+    }
+}
+
+/// The token is passed over.
+pub(crate) fn is_past(kind: Kind) -> bool
+    ensures { result ≡ is_past kind }
+{
+    match kind {
+        Kind::Answered => true,
+        Kind::Whole => false,
+        Kind::Argument => false,
+        Kind::Term => false,
+        Kind::Head => false,
+        Kind::LetList => false,
+        Kind::Binding => false,
+        Kind::BoundName => false,
+        Kind::BindingEnd => false,
+        Kind::LetEnd => false,
+        Kind::Attribute => false,
+        Kind::AttributeValue => true,
+        Kind::Name => false,
+    }
+}
+
+/// A term may come next.
+pub(crate) fn awaits_term(kind: Kind) -> bool
+    ensures { result ≡ awaits_term kind }
+{
+    match kind {
+        Kind::Answered => false,
+        Kind::Whole => true,
+        Kind::Argument => true,
+        Kind::Term => true,
+        Kind::Head => false,
+        Kind::LetList => false,
+        Kind::Binding => false,
+        Kind::BoundName => false,
+        Kind::BindingEnd => false,
+        Kind::LetEnd => false,
+        Kind::Attribute => false,
+        Kind::AttributeValue => false,
+        Kind::Name => false,
+    }
+}
+
+/// An argument may come next.
+pub(crate) fn is_argument(kind: Kind) -> bool
+    ensures { result ≡ is_argument kind }
+{
+    match kind {
+        Kind::Answered => false,
+        Kind::Whole => false,
+        Kind::Argument => true,
+        Kind::Term => false,
+        Kind::Head => false,
+        Kind::LetList => false,
+        Kind::Binding => false,
+        Kind::BoundName => false,
+        Kind::BindingEnd => false,
+        Kind::LetEnd => false,
+        Kind::Attribute => false,
+        Kind::AttributeValue => false,
+        Kind::Name => false,
+    }
+}
+
+/// The head of a list comes next.
+pub(crate) fn is_head(kind: Kind) -> bool
+    ensures { result ≡ is_head kind }
+{
+    match kind {
+        Kind::Answered => false,
+        Kind::Whole => false,
+        Kind::Argument => false,
+        Kind::Term => false,
+        Kind::Head => true,
+        Kind::LetList => false,
+        Kind::Binding => false,
+        Kind::BoundName => false,
+        Kind::BindingEnd => false,
+        Kind::LetEnd => false,
+        Kind::Attribute => false,
+        Kind::AttributeValue => false,
+        Kind::Name => false,
+    }
+}
+
+/// A list that is no term may come next.
+pub(crate) fn takes_list(kind: Kind) -> bool
+    ensures { result ≡ takes_list kind }
+{
+    match kind {
+        Kind::Answered => false,
+        Kind::Whole => false,
+        Kind::Argument => false,
+        Kind::Term => false,
+        Kind::Head => false,
+        Kind::LetList => true,
+        Kind::Binding => true,
+        Kind::BoundName => false,
+        Kind::BindingEnd => false,
+        Kind::LetEnd => false,
+        Kind::Attribute => true,
+        Kind::AttributeValue => true,
+        Kind::Name => false,
+    }
+}
+
+/// A token that is no term may come next.
+pub(crate) fn takes_word(kind: Kind) -> bool
+    ensures { result ≡ takes_word kind }
+{
+    match kind {
+        Kind::Answered => false,
+        Kind::Whole => false,
+        Kind::Argument => false,
+        Kind::Term => false,
+        Kind::Head => false,
+        Kind::LetList => false,
+        Kind::Binding => false,
+        Kind::BoundName => true,
+        Kind::BindingEnd => false,
+        Kind::LetEnd => false,
+        Kind::Attribute => true,
+        Kind::AttributeValue => false,
+        Kind::Name => true,
+    }
+}
+
+/// A list that is no application may end.
+pub(crate) fn may_end(kind: Kind) -> bool
+    ensures { result ≡ may_end kind }
+{
+    match kind {
+        Kind::Answered => false,
+        Kind::Whole => false,
+        Kind::Argument => false,
+        Kind::Term => false,
+        Kind::Head => false,
+        Kind::LetList => false,
+        Kind::Binding => true,
+        Kind::BoundName => false,
+        Kind::BindingEnd => true,
+        Kind::LetEnd => true,
+        Kind::Attribute => true,
+        Kind::AttributeValue => true,
+        Kind::Name => false,
+    }
 }
