@@ -1,4 +1,4 @@
-use crate::{fixed, text};
+use crate::first::{fixed, text};
 use smt_meaning::{Bytes, FaultKind, Reply};
 use std::test::Fail;
 
