@@ -24,7 +24,7 @@ pub use replies::{Command, ConstantLiteral, Entry, Kept, Reply};
 pub use seq::{Bytes, Seq};
 pub use settings::Settings;
 pub use terms::{Head, Operator, TermId};
-pub use tokens::{FaultKind, SExpr, Token, Word};
+pub use tokens::{FaultKind, SExpr, Token, TokenView, Tokens, Word};
 pub use values::{Interp, Row, Sort, SymId, Table, Value};
 
 /// The commands and replies of the whole language. Those beside this module speak of Boolean constants alone.

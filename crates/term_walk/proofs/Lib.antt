@@ -1,0 +1,6 @@
+mod Monad
+mod Steps
+mod Shape
+mod Run
+mod UseLemmas
+mod AgainLemmas

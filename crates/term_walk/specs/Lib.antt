@@ -1,0 +1,4 @@
+pub mod Walk
+pub mod Laws
+pub mod Uses
+pub mod Again
