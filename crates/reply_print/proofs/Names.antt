@@ -7,7 +7,7 @@ use Rattle.smt_meaning.specs.declared.tokens.Word.TheVariants.{Exclamation, Unde
 use Rattle.smt_meaning.specs.Reading.{is_digit, is_symbol_byte, is_simple_symbol, spelling, spelled_in, reserved_word}
 use Rattle.smt_meaning.specs.Signature.{is_one_of, is_some}
 use Rattle.smt_meaning.specs.Text.{is_plain, further_reserved_words}
-use Rattle.reply_print.specs.Pieces.{term_words}
+use Rattle.reply_print.specs.Pieces.{term_words, constant_words, solver_words, stack_words, left_out_words}
 
 -- a name is a simple symbol where it begins with no digit and has symbol bytes alone
 pub simple_is : (name : List ℕ) → 0 < length name
@@ -34,3 +34,18 @@ both false b c = refl
 pub plain_is : (n : List ℕ)
     → is_plain n ≡ is_simple_symbol n && not (is_one_of n term_words) && not (is_one_of n further_reserved_words)
 plain_is n = ap (λ b. is_simple_symbol n && not b && not (is_one_of n further_reserved_words)) (reserved_is n)
+
+among_append : (n : List ℕ) (xs ys : List (List ℕ)) → is_one_of n (xs ++ ys) ≡ (is_one_of n xs || is_one_of n ys)
+among_append n [] ys = refl
+among_append n (x ∷ xs) ys =
+    elim (bytes_eq n x) as (λ b. (if b then true else is_one_of n (xs ++ ys)) ≡ ((if b then true else is_one_of n xs) || is_one_of n ys))
+    [ true ↦ refl | false ↦ among_append n xs ys ]
+
+-- the further reserved words, by groups
+pub further_is : (n : List ℕ)
+    → is_one_of n further_reserved_words
+    ≡ (is_one_of n constant_words || (is_one_of n solver_words || (is_one_of n stack_words || is_one_of n left_out_words)))
+further_is n =
+    among_append n constant_words (solver_words ++ (stack_words ++ left_out_words))
+    ∙ ap (λ b. is_one_of n constant_words || b) (among_append n solver_words (stack_words ++ left_out_words)
+    ∙ ap (λ b. is_one_of n solver_words || b) (among_append n stack_words left_out_words))

@@ -1,2 +1,3 @@
-pub mod Texts
+pub mod First
 pub mod Pieces
+pub mod Texts

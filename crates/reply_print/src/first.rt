@@ -1,7 +1,7 @@
 //! The texts of the first replies, which speak of Boolean constants alone.
 ghost use Rattle.std.specs.Prelude.{◌≡◌, ◌↔◌, ◌++◌, IsSome, IfSome, IfOk, OnOk, OnErr};
 ghost use Rattle.smt_meaning.specs.Journal.{text as text_of, fault_text};
-ghost use Rattle.reply_print.specs.Texts.{IsFixed};
+ghost use Rattle.reply_print.specs.First.{IsFixed};
 
 use itoa::Buffer;
 use smt_meaning::{Bytes, FaultKind, Reply};

@@ -4,7 +4,7 @@ ghost use Rattle.std.specs.List.{list_all};
 ghost use Rattle.smt_meaning.specs.Reading.{is_digit as is_digit_byte, is_letter as is_letter_byte, is_sign as is_sign_byte, is_symbol_byte as is_symbol, is_simple_symbol};
 ghost use Rattle.smt_meaning.specs.Signature.{is_one_of as is_among};
 ghost use Rattle.smt_meaning.specs.Text.{symbol_text, literal as literal_text, keyword_text, quotes_doubled, is_plain as is_plain_name, further_reserved_words};
-ghost use Rattle.reply_print.specs.Pieces.{term_words};
+ghost use Rattle.reply_print.specs.Pieces.{term_words, constant_words, solver_words, stack_words, left_out_words};
 
 use smt_meaning::Bytes;
 use std::alloc::AllocError;
@@ -122,9 +122,17 @@ fn is_reserved(name: &[u8]) -> bool
     )
 }
 
-/// Whether it is one of the further reserved words: five of the standard's notation, and the names of commands.
+/// Whether it is one of the further reserved words: the standard's words for constants, and the names of commands.
+#[tactic(auto, using(crate::proofs::Names::further_is))]
 fn is_further_reserved(name: &[u8]) -> bool
     ensures { result ≡ is_among name.now further_reserved_words }
+{
+    names_constants(name) || is_solver_command(name) || is_stack_command(name) || is_left_out(name)
+}
+
+/// Whether it is a word for a kind of constants.
+fn names_constants(name: &[u8]) -> bool
+    ensures { result ≡ is_among name.now constant_words }
 {
     is_one_of(
         name,
@@ -134,7 +142,18 @@ fn is_further_reserved(name: &[u8]) -> bool
             b"HEXADECIMAL",
             b"NUMERAL",
             b"STRING",
-            b"set-logic",
+        ],
+    )
+}
+
+/// Whether it names a command for the solver as a whole.
+fn is_solver_command(name: &[u8]) -> bool
+    ensures { result ≡ is_among name.now solver_words }
+{
+    is_one_of(
+        name,
+        &[
+            b"set-logic".as_slice(),
             b"set-option",
             b"get-option",
             b"set-info",
@@ -143,7 +162,18 @@ fn is_further_reserved(name: &[u8]) -> bool
             b"exit",
             b"reset",
             b"reset-assertions",
-            b"declare-sort",
+        ],
+    )
+}
+
+/// Whether it names a command for the stack and its models.
+fn is_stack_command(name: &[u8]) -> bool
+    ensures { result ≡ is_among name.now stack_words }
+{
+    is_one_of(
+        name,
+        &[
+            b"declare-sort".as_slice(),
             b"define-sort",
             b"declare-const",
             b"declare-fun",
@@ -155,7 +185,18 @@ fn is_further_reserved(name: &[u8]) -> bool
             b"get-value",
             b"get-model",
             b"get-assertions",
-            b"check-sat-assuming",
+        ],
+    )
+}
+
+/// Whether it names a command that is left out.
+fn is_left_out(name: &[u8]) -> bool
+    ensures { result ≡ is_among name.now left_out_words }
+{
+    is_one_of(
+        name,
+        &[
+            b"check-sat-assuming".as_slice(),
             b"get-assignment",
             b"get-proof",
             b"get-unsat-core",
