@@ -2,4 +2,5 @@
 #![tactic(auto)]
 
 mod known;
+mod search;
 mod truths;
