@@ -1,8 +1,10 @@
 -- Decisions that are refuted, flipped and taken back.
 use Rattle.std.proofs.Common.{◌≡◌, ◌⊎◌, inl, inr, ℕ, ◌<◌, Bool, true, false, not, List, [], ◌∷◌, ◌++◌, map, length, reverse, Some, All, Option, slice_index_or, get_or, subst, sym, ap, ◌∙◌, arith, refl}
+use Rattle.std.specs.Prelude.{Result, Ok, Err, IfOk}
+use Rattle.std.specs.declared.alloc.AllocError.{AllocError}
 use Rattle.std.proofs.lemmas.List.{reverse-append, length-map}
 use Rattle.std.proofs.Math.ListN.{get_or-map}
-use Rattle.std.proofs.lemmas.List.Elements.{All-cons, All-nil, All-same}
+use Rattle.std.proofs.lemmas.List.Elements.{All-cons, All-nil, All-same, All-push, All-head, All-tail, All-weaker}
 use Rattle.smt_meaning.specs.declared.values.Value.{Value}
 use Rattle.smt_meaning.specs.declared.values.Value.TheVariants.{Truth}
 use Rattle.smt_meaning.specs.Term.{Tree, tree_at, Interpretation, value, truth_of}
@@ -14,7 +16,8 @@ use Rattle.scope_stack.specs.Shown.{AreAsserted}
 use Rattle.plain_decider.specs.declared.truths.Decision.{Decision}
 use Rattle.plain_decider.specs.Truths.{AreTruths, AreFound, Keeps}
 use Rattle.plain_decider.specs.Known.{Is}
-use Rattle.plain_decider.specs.Search.{KeepsAll, Refuted, other, IsTruthPlace, AreTried, IsTrail, IsRefuted}
+use Rattle.plain_decider.specs.Search.{KeepsAll, Refuted, other, IsTruthPlace, AreTried, IsTrail, IsRefuted, Turned}
+use Rattle.plain_decider.specs.declared.search.Turn.{Turn}
 use Rattle.plain_decider.proofs.Finding.{known_at}
 
 -- ---- all decisions of a trail
@@ -35,6 +38,26 @@ all_kept I trees (d ∷ ds) k = All-cons (λ (x : Decision). value I (tree_at tr
 
 pub keeps : (I : Interpretation) (trees : List Tree) (trail : List Decision) → KeepsAll I trees (reverse trail) → Keeps I trees trail
 keeps I trees trail k = all_kept I trees trail (kept_reversed I trees trail k)
+
+reversed_back : (ds : List Decision) → reverse (reverse ds) ≡ ds
+reversed_back [] = refl
+reversed_back (d ∷ ds) = ap reverse (reverse-append (d ∷ []) ds) ∙ reverse-append (reverse ds) (d ∷ []) ∙ ap (λ es. d ∷ es) (reversed_back ds)
+
+all_back : (P : Decision → Type 0) (ds : List Decision) → All P ds → All P (reverse ds)
+all_back P [] h = h
+all_back P (d ∷ ds) h = subst (All P) (sym (reverse-append (d ∷ []) ds)) (All-push P (reverse ds) d (all_back P ds (All-tail P d ds h)) (All-head P d ds h))
+
+tried_places : (frames : List Frame) (trees : List Tree) (ds : List Decision) → AreTried frames trees ds → All (λ (d : Decision). d.place < length trees) ds
+tried_places frames trees [] t = All-nil _
+tried_places frames trees (d ∷ ds) t = All-cons (λ (x : Decision). x.place < length trees) d ds t.0.0.within (tried_places frames trees ds t.1)
+
+pub places : (frames : List Frame) (trees : List Tree) (trail : List Decision) → IsTrail frames trees trail → All (λ (d : Decision). d.place < length trees) trail
+places frames trees trail t =
+    subst (All (λ (d : Decision). d.place < length trees)) (reversed_back trail)
+    (all_back (λ (d : Decision). d.place < length trees) (reverse trail) (tried_places frames trees (reverse trail) t))
+
+pub truth_places : (frames : List Frame) (trees : List Tree) (constants : List ℕ) → All (IsTruthPlace frames trees) constants → All (λ p. p < length trees) constants
+truth_places frames trees constants h = All-weaker (IsTruthPlace frames trees) (λ p. p < length trees) (λ p t. t.within) constants h
 
 -- ---- an assertion that is known to be false
 
@@ -102,3 +125,9 @@ pub decided_trail : (frames : List Frame) (trees : List Tree) (front : List Deci
     → IsTrail frames trees front → IsTrail frames trees (front ++ d ∷ [])
 decided_trail frames trees front d f p t =
     subst (AreTried frames trees) (sym (newest front d)) ((p, λ f'. absurd (differ d.flipped f f')), t)
+
+pub turned : (r : Result Turn AllocError) (frames : List Frame) (trees : List Tree) (old new : List Decision)
+    → IfOk r (λ turn. (fs : List Frame) (ts : List Tree) → IsTrail fs ts old → IsRefuted fs ts old → Turned fs ts new turn)
+    → IsTrail frames trees old → IsRefuted frames trees old → IfOk r (Turned frames trees new)
+turned (Ok turn) frames trees old new h t r = h frames trees t r
+turned (Err e) frames trees old new h t r = h

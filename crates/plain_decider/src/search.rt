@@ -121,4 +121,52 @@ impl Search {
         })?;
         Ok(Turn::GoesOn)
     }
+
+    /// Evaluates the terms, and flips, makes or stops at a decision.
+    fn turn(
+        &mut self,
+        stack: &Stack,
+        marks: &[bool],
+        constants: &[TermId],
+    ) -> Result<Turn, AllocError>
+        requires marks { length marks.now ≡ length stack.now.trees }
+        requires constants { All (IsTruthPlace stack.now.frames stack.now.trees) constants.now }
+        requires trail { IsTrail stack.now.frames stack.now.trees self.old.trail.items }
+        ensures { IfOk result (Turned stack.now.frames stack.now.trees self.new.trail.items) }
+    {
+        evaluate(
+            stack.terms(),
+            marks,
+            &self.trail,
+            &mut self.known,
+            &mut self.arguments,
+        )?;
+        match judge(stack.assertions(), &self.known) {
+            Some(true) => Ok(Turn::Satisfied),
+            Some(false) => self.flip(),
+            None => self.decide(constants),
+        }
+    }
+
+    /// Searches from no decision on, and says whether all assertions are known to be true at the end. False where they have no model.
+    pub fn run(
+        &mut self,
+        stack: &Stack,
+        marks: &[bool],
+        constants: &[TermId],
+    ) -> Result<bool, AllocError>
+        requires start { self.old.trail.items ≡ [] }
+        requires marks { length marks.now ≡ length stack.now.trees }
+        requires constants { All (IsTruthPlace stack.now.frames stack.now.trees) constants.now }
+        ensures { IfOk result (λ satisfied. satisfied ≡ false → HasNoModel stack.now.frames) }
+    {
+        for _ in 0..u64::MAX {
+            match self.turn(stack, marks, constants)? {
+                Turn::GoesOn => {}
+                Turn::Satisfied => return Ok(true),
+                Turn::Exhausted => return Ok(false),
+            }
+        }
+        Err(AllocError)
+    }
 }
