@@ -1,3 +1,6 @@
-mod LevelLemmas
 mod CutLemmas
+mod FindLemmas
+mod ListedLemmas
+mod LevelLemmas
+mod TableLemmas
 mod EmptyLemmas

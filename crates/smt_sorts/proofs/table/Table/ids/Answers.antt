@@ -1,6 +1,6 @@
 use Rattle.std.proofs.Common.{refl, arith}
 use Rattle.smt_sorts.proofs.EmptyLemmas.{IsTable-none}
-use Rattle.smt_sorts.proofs.LevelLemmas.{HasGained-none}
+use Rattle.smt_sorts.proofs.TableLemmas.{HasGained-none}
 use Rattle.smt_sorts.proofs.table.Table.ids.Goals as goal
 
 pub returns-clause-table : goal.returns-clause-table
