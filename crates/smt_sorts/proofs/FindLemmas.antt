@@ -1,7 +1,7 @@
 -- The first declaration that passes a test, and the walk along the places of a hash that finds it.
-use Rattle.std.proofs.Common.{◌≡◌, ℕ, zero, suc, ◌<◌, ◌≤◌, Bool, true, false, not, ◌&&◌, List, [], ◌∷◌, ◌++◌, length, get_or, map, All, Option, Some, None, refl, sym, ap, ◌∙◌, inl, inr, arith}
+use Rattle.std.proofs.Common.{◌≡◌, ℕ, zero, suc, ◌<◌, ◌≤◌, Bool, true, false, not, List, [], ◌∷◌, length, get_or, map, All, Some, None, refl, sym, ap, ◌∙◌, inl, inr, arith}
 use Rattle.std.specs.Prelude.{if◌then◌else◌, bytes_eq, AllPairs}
-use Rattle.std.proofs.lemmas.List.{get_or-map, length-map, length_push, get_or_append_left, get_or_push}
+use Rattle.std.proofs.lemmas.List.{get_or-map, length-map}
 use Rattle.std.proofs.lemmas.List.Elements.{All-head, All-tail}
 use Rattle.std.proofs.lemmas.Bool.{cases_lt, and_parts, and_from, false_from_ne_true, not-true}
 use Rattle.std.proofs.lemmas.Slice.Eq.{bytes_eq-Decides}
@@ -59,7 +59,7 @@ kind_of_own d false e = ap not e
 pub apart_unnamed : (d e : Declaration) → is_named (kind_of e.is_sort) e.name d ≡ false → AreApart d e
 apart_unnamed d e unnamed names kinds =
     let named : is_named (kind_of e.is_sort) e.name d ≡ true =
-        and_from (bytes_eq e.name d.name) (is_of_kind (kind_of e.is_sort) d) ((bytes_eq-Decides e.name d.name).1 (sym names)) (kind_of_own d e.is_sort kinds) in
+    and_from (bytes_eq e.name d.name) (is_of_kind (kind_of e.is_sort) d) ((bytes_eq-Decides e.name d.name).1 (sym names)) (kind_of_own d e.is_sort kinds) in
     cc
 
 -- ---- the walk
@@ -82,8 +82,8 @@ behind_last : (ds : List Declaration) (hashes : List ℕ) (k : Kind) (n : List �
 behind_last ds hashes k n m i d hashed short below behind =
     false_from_ne_true (is_named k n (get_or ds i d))
     (λ named.
-        let found : i < latest (λ j. get_or hashes j 0) (name_hash n) m = latest_finds (λ j. get_or hashes j 0) (name_hash n) m i below (hash_at ds hashes i d hashed short ∙ named_hash k n (get_or ds i d) named) in
-        omega arith)
+    let found : i < latest (λ j. get_or hashes j 0) (name_hash n) m = latest_finds (λ j. get_or hashes j 0) (name_hash n) m i below (hash_at ds hashes i d hashed short ∙ named_hash k n (get_or ds i d) named) in
+    omega arith)
 
 pub seeks_start : (ds : List Declaration) (hashes : List ℕ) (k : Kind) (n : List ℕ) (hash link : ℕ) → hashes ≡ map hash_of ds → hash ≡ name_hash n → link ≡ last_place hashes hash (length hashes)
     → Seeks ds hashes k n link

@@ -1,8 +1,8 @@
 -- Lists of levels: what the newest gains, and the levels of a list of declarations.
-use Rattle.std.proofs.Common.{◌≡◌, ◌≢◌, ℕ, zero, suc, ◌+◌, ◌-◌, ◌<◌, ◌≤◌, min, Bool, true, false, cond, List, [], ◌∷◌, ◌++◌, length, map, take, drop, replicate, All, refl, ap, sym, ◌∙◌, subst, inl, inr, arith, append_assoc, append-nil, add-one}
-use Rattle.std.specs.Prelude.{filter, nat_eq, nat_lt, AllPairs, flat_map}
-use Rattle.std.proofs.lemmas.Bool.{cases_lt, cases_order, lt-ltb, le-ltb, eq-eqb, ne_eqb}
-use Rattle.std.proofs.lemmas.List.{length-take, length_push, length-append, take-append-drop, take-append-le, take_all, replicate_more, map-append}
+use Rattle.std.proofs.Common.{◌≡◌, ◌≢◌, ℕ, zero, suc, ◌+◌, ◌<◌, ◌≤◌, Bool, true, false, List, [], ◌∷◌, ◌++◌, length, map, take, drop, replicate, All, refl, ap, sym, ◌∙◌, subst, inl, inr, arith, append_assoc, append-nil, add-one}
+use Rattle.std.specs.Prelude.{filter, nat_eq, nat_lt, AllPairs}
+use Rattle.std.proofs.lemmas.Bool.{cases_lt, lt-ltb, le-ltb, eq-eqb, ne_eqb}
+use Rattle.std.proofs.lemmas.List.{length-take, length_push, take-append-drop, take-append-le, take_all, replicate_more, map-append}
 use Rattle.std.proofs.lemmas.List.Concat.{flat_map-append}
 use Rattle.std.proofs.lemmas.List.Elements.{All-head, All-tail, All-nil, All-cons, All-weaker, filter-append}
 use Rattle.smt_meaning.specs.Declaration.{Declaration}

@@ -3,4 +3,4 @@ mod FindLemmas
 mod ListedLemmas
 mod LevelLemmas
 mod TableLemmas
-mod EmptyLemmas
+mod PlaceLemmas

@@ -1,11 +1,11 @@
 -- A list of declarations with levels: one more, and the first of them.
-use Rattle.std.proofs.Common.{◌≡◌, ℕ, ◌+◌, ◌<◌, ◌≤◌, min, Bool, false, List, [], ◌∷◌, ◌++◌, length, get_or, map, take, Option, None, refl, sym, ap, ◌∙◌, arith}
+use Rattle.std.proofs.Common.{◌≡◌, ℕ, min, List, [], ◌∷◌, ◌++◌, length, get_or, map, take, None, sym, ap, ◌∙◌, arith}
 use Rattle.std.specs.Prelude.{AllPairs}
 use Rattle.std.proofs.lemmas.List.{length-take, get_or-take, length_push, map-append, take-map}
 use Rattle.std.proofs.lemmas.List.Quantifiers.{all_pairs_push}
 use Rattle.smt_meaning.specs.Declaration.{Declaration}
 use Rattle.smt_sorts.specs.Names.{AreApart}
-use Rattle.smt_sorts.specs.Listed.{is_named, kind_of, first_that, name_hash, hash_of, IsListed}
+use Rattle.smt_sorts.specs.Listed.{is_named, kind_of, first_that, hash_of, IsListed}
 use Rattle.smt_sorts.proofs.FindLemmas.{none_passes, apart_unnamed}
 
 pub AllPairs-take : {X : Type 0} (R : X → X → Type 0) (n : ℕ) (xs : List X) → AllPairs R xs → AllPairs R (take n xs)

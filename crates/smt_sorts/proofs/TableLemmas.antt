@@ -1,13 +1,13 @@
 -- A table's declarations with their levels: what is true of each table, and what each call leaves.
-use Rattle.std.proofs.Common.{◌≡◌, ◌≢◌, ℕ, zero, suc, ◌+◌, ◌-◌, ◌^◌, ◌<◌, ◌≤◌, min, Bool, true, false, List, [], ◌∷◌, ◌++◌, length, get_or, map, take, drop, replicate, All, Option, Some, None, refl, ap, sym, ◌∙◌, subst, arith, append_assoc, append-nil, lit<, lit≤}
+use Rattle.std.proofs.Common.{◌≡◌, ℕ, zero, suc, ◌+◌, ◌^◌, ◌<◌, ◌≤◌, List, [], ◌∷◌, ◌++◌, length, get_or, map, take, drop, replicate, All, None, refl, ap, sym, ◌∙◌, subst, arith, append_assoc, append-nil, lit<}
 use Rattle.std.specs.Prelude.{AllPairs, filter}
 use Rattle.std.proofs.lemmas.List.{length-take, length_push}
-use Rattle.std.proofs.lemmas.List.Elements.{All-nil, All-push, All-take, All-weaker, All-append}
+use Rattle.std.proofs.lemmas.List.Elements.{All-nil, All-push, All-weaker}
 use Rattle.std.proofs.lemmas.List.Quantifiers.{all_pairs_push}
 use Rattle.smt_meaning.specs.Declaration.{Declaration}
 use Rattle.smt_meaning.specs.Signature.{HasNoIdTwice}
 use Rattle.smt_meaning.specs.Sorts.{most_symbols}
-use Rattle.smt_sorts.specs.Names.{Names, all_of_levels, signature, on_newest, with_declaration, with_levels, without_levels, has_id_below, cut_to, AreApart, IsTable, HasGained}
+use Rattle.smt_sorts.specs.Names.{Names, all_of_levels, signature, on_newest, with_declaration, has_id_below, AreApart, IsTable, HasGained}
 use Rattle.smt_sorts.specs.Listed.{Listed, first_listed, is_named, kind_of, first_that}
 use Rattle.smt_sorts.specs.Leveled.{levels_of, IsLeveled}
 use Rattle.smt_sorts.proofs.FindLemmas.{none_passes, apart_unnamed}

@@ -1,5 +1,5 @@
 -- How declarations are kept: in order, each with its level, and found by the hashes of their names.
-use Rattle.std.specs.Prelude.{◌≡◌, refl, ℕ, ◌/◌, ◌^◌, ◌&&◌, Bool, not, List, [], ◌∷◌, map, take, length, Option, Some, None, bytes_eq, if◌then◌else◌, AllPairs}
+use Rattle.std.specs.Prelude.{◌≡◌, refl, ℕ, ◌/◌, ◌^◌, ◌&&◌, Bool, not, List, [], ◌∷◌, map, take, length, Option, Some, None, bytes_eq, nat_eq, if◌then◌else◌, AllPairs}
 use Rattle.std.specs.Coded.{Coded, code_by, coded×, coded_ℕ, coded_list}
 use Rattle.term_store.specs.Hash.{words_state}
 use Rattle.smt_meaning.specs.Declaration.{Declaration}
@@ -37,6 +37,12 @@ kind_of is_sort = if is_sort then Sort else Function
 abbrev pub first_that : (Declaration → Bool) → List Declaration → Option Declaration
 first_that p [] = None
 first_that p (d ∷ ds) = if p d then Some d else first_that p ds
+
+abbrev pub has_id : ℕ → Declaration → Bool
+has_id id d = nat_eq id d.id
+
+abbrev pub name_if_sort : Declaration → List ℕ
+name_if_sort d = if d.is_sort then d.name else []
 
 -- the upper half of the last state
 unfoldable pub name_hash : List ℕ → ℕ

@@ -53,7 +53,7 @@ has_id_below ids d = nat_lt d.id ids
 
 -- without the declarations whose ids are these and later ones
 abbrev pub cut_to : ℕ → Names → Names
-cut_to ids t = record { levels = map (λ (ds : List Declaration). filter (has_id_below ids) ds) t.levels; given = min ids t.given }
+cut_to ids t = record { levels = map (λ (ds : List Declaration). filter (has_id_below ids) ds) t.levels; given = min t.given ids }
 
 -- without any declaration; the ids that were given stay given
 abbrev pub cleared : Names → Names

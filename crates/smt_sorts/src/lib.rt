@@ -3,6 +3,7 @@
 
 mod entries;
 mod errors;
+mod places;
 mod reserved;
 mod table;
 

@@ -1,4 +1,4 @@
-use Rattle.std.proofs.Common.{◌≡◌, suc, ◌-◌, ◌<◌, ◌≤◌, length, arith, sym, ◌∙◌, ap}
+use Rattle.std.proofs.Common.{◌-◌, ◌≤◌, length, arith, sym, ◌∙◌, ap}
 use Rattle.std.proofs.lemmas.List.{get_or_read}
 use Rattle.smt_sorts.specs.Listed.{is_named}
 use Rattle.smt_sorts.proofs.FindLemmas.{seeks_start, seeks_next, seeks_end, first_named}
