@@ -1,12 +1,13 @@
 ghost use Rattle.std.specs.Prelude.{◌≡◌, ◌++◌, ◌∷◌, [], ℕ, List, Bool, IfOk, IfSome, IfNone, true, false, codes};
 ghost use Rattle.smt_meaning.specs.declared.tokens.Token.{Token as TokenValue};
 ghost use Rattle.smt_meaning.specs.declared.tokens.Token.TheVariants.{Enter, Leave, Symbol, Keyword};
-ghost use Rattle.smt_meaning.specs.declared.replies.ConstantLiteral.{ConstantLiteral as LiteralValue};
-ghost use Rattle.smt_meaning.specs.Commands.{command_tokens, term_tokens, truth_name};
-ghost use Rattle.smt_meaning.specs.declared.replies.Command.{Command as CommandValue};
+ghost use Rattle.first_path.specs.declared.replies.ConstantLiteral.{ConstantLiteral as LiteralValue};
+ghost use Rattle.first_path.specs.Commands.{command_tokens, term_tokens, truth_name};
+ghost use Rattle.first_path.specs.declared.replies.Command.{Command as CommandValue};
 ghost use Rattle.smt_top.specs.Spelled.{command_of, literal_of};
 
-use smt_meaning::{Command, ConstantLiteral, SExpr, Seq, Token};
+use first_path::{Command, ConstantLiteral};
+use smt_meaning::{SExpr, Seq, Token};
 use std::alloc::{AllocError, Global};
 
 /// A constant or its negation, as it stands in the tokens.
