@@ -1,4 +1,5 @@
-ghost use Rattle.std.specs.Prelude.{◌≡◌, ◌<◌, true, false, length};
+ghost use Rattle.std.specs.Prelude.{◌≡◌, ◌<◌, true, false, length, None, Some, IfSome, IfNone};
+ghost use Rattle.smt_meaning.specs.Signature.{is_symbol};
 ghost use Rattle.smt_meaning.specs.Term.{tree_at};
 
 use crate::nodes::Terms;
@@ -31,6 +32,10 @@ impl Model for Body {
     ghost coded = { coded_body };
 
     ghost view = { λ b. record { terms = b.terms; term = tree_at b.terms b.place } };
+
+    ghost use Rattle.std.specs.Prelude.{◌<◌, length};
+
+    ghost invariant = { λ b. b.place < length b.terms };
 }
 
 impl Body {
@@ -40,6 +45,21 @@ impl Body {
         ensures { result ≡ record { terms = terms; term = tree_at terms place } }
     {
         Body { terms, place }
+    }
+
+    /// The different terms that were judged in it, each after its parts.
+    pub fn terms(&self) -> &Terms
+        ensures { result.now ≡ self.now.terms }
+    {
+        &self.terms
+    }
+
+    /// The place of its term among them.
+    pub fn place(&self) -> TermId
+        ensures within { result < length self.now.terms }
+        ensures tree { tree_at self.now.terms result ≡ self.now.term }
+    {
+        self.place
     }
 }
 
@@ -110,6 +130,21 @@ impl Declaration {
         ensures { result.now ≡ self.now.rank }
     {
         &self.rank
+    }
+
+    /// The body, where it is a definition of a function.
+    pub fn body(&self) -> Option<&Body>
+        ensures some { IfSome result (λ b. self.now.body ≡ Some b.now) }
+        ensures none { IfNone result (self.now.body ≡ None) }
+    {
+        self.body.as_ref()
+    }
+
+    /// Whether it is a declared function, which has no body.
+    pub fn is_symbol(&self) -> bool
+        ensures { result ≡ is_symbol self.now }
+    {
+        !self.is_sort && self.body.is_none()
     }
 
     /// Whether the name is that of a sort.
