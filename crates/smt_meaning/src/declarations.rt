@@ -1,6 +1,6 @@
-ghost use Rattle.std.specs.Prelude.{◌≡◌, ◌<◌, true, false, length, None, Some, IfSome, IfNone};
-ghost use Rattle.smt_meaning.specs.Signature.{is_symbol};
+ghost use Rattle.std.specs.Prelude.{◌≡◌, ◌<◌, true, false, length, Some, None, IfSome, IfNone};
 ghost use Rattle.smt_meaning.specs.Term.{tree_at};
+ghost use Rattle.smt_meaning.specs.Signature.{is_symbol};
 
 use crate::nodes::Terms;
 use crate::seq::{Bytes, Seq};
@@ -47,17 +47,17 @@ impl Body {
         Body { terms, place }
     }
 
-    /// The different terms that were judged in it, each after its parts.
+    /// The terms that were judged in it.
     pub fn terms(&self) -> &Terms
         ensures { result.now ≡ self.now.terms }
     {
         &self.terms
     }
 
-    /// The place of its term among them.
+    /// Its place among them.
     pub fn place(&self) -> TermId
         ensures within { result < length self.now.terms }
-        ensures tree { tree_at self.now.terms result ≡ self.now.term }
+        ensures value { tree_at self.now.terms result ≡ self.now.term }
     {
         self.place
     }
@@ -132,19 +132,15 @@ impl Declaration {
         &self.rank
     }
 
-    /// The body, where it is a definition of a function.
+    /// The body of a definition.
     pub fn body(&self) -> Option<&Body>
         ensures some { IfSome result (λ b. self.now.body ≡ Some b.now) }
         ensures none { IfNone result (self.now.body ≡ None) }
     {
-        self.body.as_ref()
-    }
-
-    /// Whether it is a declared function, which has no body.
-    pub fn is_symbol(&self) -> bool
-        ensures { result ≡ is_symbol self.now }
-    {
-        !self.is_sort && self.body.is_none()
+        match &self.body {
+            Some(body) => Some(body),
+            None => None,
+        }
     }
 
     /// Whether the name is that of a sort.
@@ -152,5 +148,12 @@ impl Declaration {
         ensures { result ≡ self.now.is_sort }
     {
         self.is_sort
+    }
+
+    /// Whether it is a declared function, which has no body.
+    pub fn is_symbol(&self) -> bool
+        ensures { result ≡ is_symbol self.now }
+    {
+        !self.is_sort && self.body.is_none()
     }
 }
