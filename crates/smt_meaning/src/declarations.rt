@@ -1,5 +1,6 @@
 ghost use Rattle.std.specs.Prelude.{◌≡◌, ◌<◌, true, false, length, Some, None, IfSome, IfNone};
 ghost use Rattle.smt_meaning.specs.Term.{tree_at};
+ghost use Rattle.smt_meaning.specs.Signature.{is_symbol};
 
 use crate::nodes::Terms;
 use crate::seq::{Bytes, Seq};
@@ -147,5 +148,12 @@ impl Declaration {
         ensures { result ≡ self.now.is_sort }
     {
         self.is_sort
+    }
+
+    /// Whether it is a declared function, which has no body.
+    pub fn is_symbol(&self) -> bool
+        ensures { result ≡ is_symbol self.now }
+    {
+        !self.is_sort && self.body.is_none()
     }
 }
