@@ -7,3 +7,5 @@ pub mod Grow
 pub mod Names
 pub mod Giving
 pub mod Moves
+pub mod Heads
+pub mod Runs

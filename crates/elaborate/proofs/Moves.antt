@@ -1,6 +1,7 @@
 -- What a token does, by what may come next.
-use Rattle.std.proofs.Common.{◌≡◌, ℕ, zero, suc, List, [], ◌∷◌, ◌++◌, take, drop, map, append-nil, ap, sym, subst, ◌∙◌, refl, Bool, true, false, Option, Some, None}
+use Rattle.std.proofs.Common.{◌≡◌, ℕ, zero, suc, List, [], ◌∷◌, ◌++◌, take, drop, map, append-nil, arith, ap, sym, subst, ◌∙◌, refl, Bool, true, false, Option, Some, None}
 use Rattle.std.specs.Prelude.{Result, Ok, Err, OnOk, OnErr, nat_eq, if◌then◌else◌}
+use Rattle.std.proofs.lemmas.Bool.Decides.{nat_tests}
 use Rattle.std.proofs.lemmas.List.{map-append, take-append-drop}
 use Rattle.smt_meaning.specs.declared.tokens.Token.{Token}
 use Rattle.smt_meaning.specs.declared.refusals.Refusal.{Refusal}
@@ -62,6 +63,9 @@ none_takes_word (Some v) fs e = absurd (cc)
 pub none_may_end : (o : Option Value) (fs : List Frame) → may_end (kind_of o fs) ≡ true → o ≡ None
 none_may_end None fs e = refl
 none_may_end (Some v) fs e = absurd (cc)
+
+not_zero : (d : ℕ) → nat_eq (suc d) 0 ≡ false
+not_zero d = grind (arith, nat_tests)
 
 no : false ≡ true → ⊥
 no e = cc
@@ -384,13 +388,14 @@ word_wrong r tokens s None bs (Body k ∷ fs) t ahead e f g h = absurd (cc)
 word_wrong r tokens s None bs (Done v ∷ fs) t ahead e f g h = refl
 word_wrong r tokens s None bs (Annotation p ∷ fs) t ahead e f g h = absurd (cc)
 word_wrong r tokens s None bs (Attributes v p zero ∷ fs) t ahead e f g h = absurd (cc)
-word_wrong r tokens s None bs (Attributes v p (suc d) ∷ fs) t ahead e f g h = absurd (cc)
+word_wrong r tokens s None bs (Attributes v p (suc d) ∷ fs) t ahead e f g h =
+    absurd (no (sym e ∙ ap (λ b. is_past (if b then Rattle.elaborate.specs.declared.walk.Kind.TheVariants.Attribute else Rattle.elaborate.specs.declared.walk.Kind.TheVariants.AttributeValue)) (not_zero d)))
 word_wrong r tokens s None bs (Naming v p ∷ fs) t ahead e f g h = absurd (cc)
 
 -- ---- the head of a list
 
-head_frame : (w : Walk) → is_head (kind_of w.answer w.frames) ≡ true → (rest : List Frame) × (w.frames ≡ Opened ∷ rest)
-head_frame w e = go w.answer w.frames e
+pub head_rest : (w : Walk) → is_head (kind_of w.answer w.frames) ≡ true → (rest : List Frame) × (w.frames ≡ Opened ∷ rest)
+head_rest w e = go w.answer w.frames e
   where
     go : (o : Option Value) (fs : List Frame) → is_head (kind_of o fs) ≡ true → (rest : List Frame) × (fs ≡ Opened ∷ rest)
     go (Some v) fs e = absurd (cc)
@@ -410,7 +415,7 @@ head_frame w e = go w.answer w.frames e
 
 pub opened_top : (w : Walk) (f : Frame) (rest : List Frame) → is_head (kind_of w.answer w.frames) ≡ true → w.frames ≡ f ∷ rest → w.frames ≡ Opened ∷ rest
 opened_top w f rest e h =
-    let k : (more' : List Frame) × (w.frames ≡ Opened ∷ more') = head_frame w e in
+    let k : (more' : List Frame) × (w.frames ≡ Opened ∷ more') = head_rest w e in
     let same : Opened ∷ k.0 ≡ f ∷ rest = sym k.1 ∙ h in
     let tail : k.0 ≡ rest = cc in
     k.1 ∙ ap (λ fs. Opened ∷ fs) tail
@@ -439,3 +444,6 @@ pub head_not : (r : Rules) (tokens : List Token) (s : Scope) (w w' : Walk) (rest
 head_not r tokens s w w' rest t ahead (Refused x) e h k =
     ap (λ fs. on_words r fs t ahead s) (shown_is tokens s w (Opened ∷ rest) e h) ∙ head_words r tokens s w.bindings rest t ahead (refused x) k
 head_not r tokens s w w' rest t ahead Memory e h k = tt
+
+pub top_values : (s : Scope) (w : Walk) (n : List ℕ) (q : Option Operator) (vs : List Value) (rest : List Frame) → w.frames ≡ Application n q vs ∷ rest → Stands s w → AreValues s.trees vs
+top_values s w n q vs rest e st = let holds : AllHold s (Application n q vs ∷ rest) = subst (AllHold s) e st.frames in holds.0.1

@@ -12,7 +12,7 @@ use Rattle.smt_meaning.specs.declared.refusals.Refusal.TheVariants.{NumeralTooLa
 use Rattle.smt_meaning.specs.Declaration.{Declaration}
 use Rattle.smt_meaning.specs.Term.{Tree, node, none}
 use Rattle.smt_meaning.specs.Signature.{look_up, operators, find_function}
-use Rattle.smt_meaning.specs.Sorts.{Scope, done, refused, Judging, ◌>>=◌, ◌>>◌, return, refuse, require, note, found, the_scope, Typed, Variable, Rules, Known, variable, operator, function, unknown, find_variable, known, known_name, known_symbol, decimal, is_small, judge_bare, judge_numeral, judge_token}
+use Rattle.smt_meaning.specs.Sorts.{Scope, done, refused, Judging, ◌>>=◌, ◌>>◌, return, refuse, require, note, found, the_scope, Typed, Variable, Rules, Known, variable, operator, function, unknown, find_variable, known, known_name, known_symbol, decimal, is_small, judge_bare, judge_application, judge_numeral, judge_token}
 use Rattle.elaborate.specs.declared.value.Value.{Value}
 use Rattle.elaborate.specs.declared.frame.Binding.{Binding}
 use Rattle.elaborate.specs.declared.error.JudgeError.{JudgeError}
@@ -157,3 +157,29 @@ no_reserved r vs t s w e = subst (λ x. judge_token r vs x s ≡ refused WrongAr
 pub no_keyword : (r : Rules) (vs : List Variable) (t : Token) (s : Scope) (w : List ℕ) → t ≡ Keyword w → judge_token r vs t s ≡ refused WrongArguments
 unfolding refuse
 no_keyword r vs t s w e = subst (λ x. judge_token r vs x s ≡ refused WrongArguments) (sym e) refl
+
+-- ---- applications of names
+
+pub applied_operator : (r : Rules) (n m : List ℕ) (q : Option Operator) (o : Operator) (vs ws : List Value) (s : Scope) (us : List Tree) (y : Result Value JudgeError) → m ≡ n → ws ≡ vs → q ≡ Some o
+    → Comes (judge_application r m (operator o) (map (typed s.trees) ws)) s us y → Comes (judge_application r n (known_symbol q (find_function n s.signature)) (map (typed s.trees) vs)) s us y
+applied_operator r n m q o vs ws s us y e f g h =
+    subst (λ x. Comes (judge_application r n (known_symbol x (find_function n s.signature)) (map (typed s.trees) vs)) s us y) (sym g)
+    (subst (λ xs. Comes (judge_application r n (operator o) (map (typed s.trees) xs)) s us y) f (subst (λ k. Comes (judge_application r k (operator o) (map (typed s.trees) ws)) s us y) e h))
+
+pub applied_function : (r : Rules) (n m : List ℕ) (q : Option Operator) (d : Declaration) (vs ws : List Value) (s : Scope) (us : List Tree) (y : Result Value JudgeError) → m ≡ n → ws ≡ vs → q ≡ None → find_function m s.signature ≡ Some d
+    → Comes (judge_application r m (function d) (map (typed s.trees) ws)) s us y → Comes (judge_application r n (known_symbol q (find_function n s.signature)) (map (typed s.trees) vs)) s us y
+applied_function r n m q d vs ws s us y e f g i h =
+    subst (λ x. Comes (judge_application r n (known_symbol x (find_function n s.signature)) (map (typed s.trees) vs)) s us y) (sym g)
+    (subst (λ x. Comes (judge_application r n (known_symbol None x) (map (typed s.trees) vs)) s us y) (sym (ap (λ k. find_function k s.signature) (sym e) ∙ i))
+    (subst (λ xs. Comes (judge_application r n (function d) (map (typed s.trees) xs)) s us y) f (subst (λ k. Comes (judge_application r k (function d) (map (typed s.trees) ws)) s us y) e h)))
+
+unknown_applied : (r : Rules) (n : List ℕ) (ts : List Typed) (s : Scope) → judge_application r n unknown ts s ≡ refused (UnknownSymbol (Symbol n))
+unfolding refuse
+unknown_applied r n ts s = refl
+
+pub applied_unknown : (r : Rules) (n m : List ℕ) (q : Option Operator) (vs : List Value) (s : Scope) (us : List Tree) (x : JudgeError) → m ≡ n → q ≡ None → find_function m s.signature ≡ None → IsErrorOf (UnknownSymbol (Symbol m)) x
+    → Comes (judge_application r n (known_symbol q (find_function n s.signature)) (map (typed s.trees) vs)) s us (Err x)
+applied_unknown r n m q vs s us x e g i k =
+    subst (λ z. Comes (judge_application r n (known_symbol z (find_function n s.signature)) (map (typed s.trees) vs)) s us (Err x)) (sym g)
+    (subst (λ z. Comes (judge_application r n (known_symbol None z) (map (typed s.trees) vs)) s us (Err x)) (sym (ap (λ y. find_function y s.signature) (sym e) ∙ i))
+    (comes_err (judge_application r n unknown (map (typed s.trees) vs)) s us (UnknownSymbol (Symbol n)) x (unknown_applied r n (map (typed s.trees) vs) s) (subst (λ y. IsErrorOf (UnknownSymbol (Symbol y)) x) e k)))

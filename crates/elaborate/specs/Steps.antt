@@ -2,8 +2,9 @@
 use Rattle.std.specs.Prelude.{◌≡◌, ℕ, zero, suc, Bool, true, false, List, [], ◌∷◌, Option, Some, None, nat_eq, if◌then◌else◌, Result, Ok, Err}
 use Rattle.smt_meaning.specs.declared.tokens.Token.{Token}
 use Rattle.smt_meaning.specs.declared.tokens.Token.TheVariants.{Enter, Leave}
+use Rattle.smt_meaning.specs.Sexp.{Sexps}
 use Rattle.smt_meaning.specs.Sorts.{Scope, done, refused, Judging}
-use Rattle.term_walk.specs.Walk.{Frame as Meant, given as given_to, give as given_all}
+use Rattle.term_walk.specs.Walk.{Frame as Meant, given as given_to, give as given_all, check_let, check_annotation}
 use Rattle.elaborate.specs.declared.value.Value.{Value}
 use Rattle.elaborate.specs.declared.frame.Binding.{Binding as Pair}
 use Rattle.elaborate.specs.declared.frame.Frame.{Frame}
@@ -122,3 +123,15 @@ abbrev pub FrameComes : Judging Meant → Scope → List Token → List Pair →
 FrameComes m s tokens bs (Ok g) = IsFrame m s tokens bs g
 FrameComes m s tokens bs (Err (Refused r)) = m s ≡ refused r
 FrameComes m s tokens bs (Err Memory) = Unit {0}
+
+-- what is ahead of `let` is looked at
+abbrev pub IsLetHead : Sexps → Result Frame JudgeError → Type 0
+IsLetHead l (Ok g) = (g ≡ LetOpen) × ((s : Scope) → check_let l s ≡ done tt s)
+IsLetHead l (Err (Refused r)) = (s : Scope) → check_let l s ≡ refused r
+IsLetHead l (Err Memory) = Unit {0}
+
+-- what is ahead of `!`
+abbrev pub IsAnnotationHead : Sexps → ℕ → Result Frame JudgeError → Type 0
+IsAnnotationHead l p (Ok g) = (g ≡ Annotation p) × ((s : Scope) → check_annotation l s ≡ done tt s)
+IsAnnotationHead l p (Err (Refused r)) = (s : Scope) → check_annotation l s ≡ refused r
+IsAnnotationHead l p (Err Memory) = Unit {0}

@@ -8,6 +8,7 @@ use Rattle.smt_meaning.specs.declared.refusals.Refusal.{Refusal}
 use Rattle.smt_meaning.specs.Term.{Tree, node, tree_at}
 use Rattle.smt_meaning.specs.TreeShape.{is_constant, is_linear, with_parts}
 use Rattle.smt_meaning.specs.Sorts.{Scope, Judging, done, refused, Typed, trees_of}
+use Rattle.term_store.specs.Terms.{Terms}
 use Rattle.elaborate.specs.declared.value.Value.{Value}
 use Rattle.elaborate.specs.declared.error.JudgeError.{JudgeError}
 use Rattle.elaborate.specs.declared.error.JudgeError.TheVariants.{Refused, Memory}
@@ -35,6 +36,10 @@ AreValues ts (v ∷ vs) = IsValue ts v × AreValues ts vs
 
 abbrev pub IsLonger : List Tree → List Tree → Type 0
 IsLonger ts us = (more' : List Tree) × (us ≡ ts ++ more')
+
+-- trees joined the list
+abbrev pub HasGrown : Terms → Terms → Type 0
+HasGrown s t = IsLonger s.trees t.trees × (t.limit ≡ s.limit)
 
 -- ---- flags
 

@@ -1,15 +1,16 @@
 //! Applications of operators and of declared functions.
 ghost use Rattle.std.specs.Prelude.{◌≡◌, ◌||◌, ◌&&◌, map, not, length, nat_eq, nat_le, None};
 ghost use Rattle.smt_meaning.specs.Seen.{seen};
-ghost use Rattle.smt_meaning.specs.Signature.{sorts_eq};
-ghost use Rattle.smt_meaning.specs.Sorts.{judge_application, judge_bare, judge_symbol, trees_of, operator as theory, function};
+ghost use Rattle.smt_meaning.specs.Signature.{sorts_eq, find_function};
+ghost use Rattle.smt_sorts.specs.Names.{signature};
+ghost use Rattle.smt_meaning.specs.Sorts.{judge_application, judge_bare, judge_symbol, known_symbol, trees_of, operator as theory, function};
 ghost use Rattle.elaborate.specs.Judged.{scope_of, rules_of};
-ghost use Rattle.elaborate.specs.Values.{AreValues, Comes, IsErrorOf, IsLonger, sort_of, typed};
+ghost use Rattle.elaborate.specs.Values.{AreValues, Comes, IsErrorOf, HasGrown, sort_of, typed};
 
 use crate::error::JudgeError;
 use crate::operators::{operator_sort, same_sort, stands_bare, takes};
 use crate::value::{Value, are_linear, is_linear_here, stored};
-use smt_meaning::{Bytes, Declaration, Head, Operator, Refusal, Sort, TokenView};
+use smt_meaning::{Bytes, Declaration, Head, Operator, Refusal, Seq, Sort, TokenView};
 use smt_sorts::Table;
 use std::alloc::Global;
 use term_store::TermStore;
@@ -63,7 +64,7 @@ pub(crate) fn apply_operator(
 ) -> Result<Value, JudgeError>
     requires { AreValues store.old.trees arguments.now }
     ensures comes { Comes (judge_application (rules_of rules) name.now (theory operator) (map (typed store.old.trees) arguments.now)) (scope_of table.now store.old.trees) store.new.trees result }
-    ensures longer { IsLonger store.old.trees store.new.trees }
+    ensures longer { HasGrown store.old store.new }
 {
     let _ = table.ids();
     if !takes(operator, arguments.len()) {
@@ -96,7 +97,7 @@ pub(crate) fn bare_operator(
     store: &mut TermStore,
 ) -> Result<Value, JudgeError>
     ensures comes { Comes (judge_bare (rules_of rules) name.now (theory operator)) (scope_of table.now store.old.trees) store.new.trees result }
-    ensures longer { IsLonger store.old.trees store.new.trees }
+    ensures longer { HasGrown store.old store.new }
 {
     let _ = (table.ids(), rules.closed);
     if !stands_bare(operator) {
@@ -129,7 +130,7 @@ pub(crate) fn apply_symbol(
 ) -> Result<Value, JudgeError>
     requires { AreValues store.old.trees arguments.now }
     ensures comes { Comes (judge_symbol (rules_of rules) declaration.now (trees_of (map (typed store.old.trees) arguments.now))) (scope_of table.now store.old.trees) store.new.trees result }
-    ensures longer { IsLonger store.old.trees store.new.trees }
+    ensures longer { HasGrown store.old store.new }
 {
     match declaration.body() {
         Some(_) => Err(JudgeError::Memory),
@@ -149,7 +150,7 @@ fn apply_declared(
     requires values { AreValues store.old.trees arguments.now }
     requires declared { declaration.now.body ≡ None }
     ensures comes { Comes (judge_symbol (rules_of rules) declaration.now (trees_of (map (typed store.old.trees) arguments.now))) (scope_of table.now store.old.trees) store.new.trees result }
-    ensures longer { IsLonger store.old.trees store.new.trees }
+    ensures longer { HasGrown store.old store.new }
 {
     let _ = table.ids();
     if !may_stand(rules, are_linear(arguments)) {
@@ -185,7 +186,7 @@ pub(crate) fn apply_function(
 ) -> Result<Value, JudgeError>
     requires { AreValues store.old.trees arguments.now }
     ensures comes { Comes (judge_application (rules_of rules) name.now (function declaration.now) (map (typed store.old.trees) arguments.now)) (scope_of table.now store.old.trees) store.new.trees result }
-    ensures longer { IsLonger store.old.trees store.new.trees }
+    ensures longer { HasGrown store.old store.new }
 {
     let rank = declaration.rank();
     let sorts = rank.arguments.as_slice();
@@ -208,7 +209,7 @@ pub(crate) fn bare_function(
     store: &mut TermStore,
 ) -> Result<Value, JudgeError>
     ensures comes { Comes (judge_bare (rules_of rules) name.now (function declaration.now)) (scope_of table.now store.old.trees) store.new.trees result }
-    ensures longer { IsLonger store.old.trees store.new.trees }
+    ensures longer { HasGrown store.old store.new }
 {
     let rank = declaration.rank();
     let count = rank.arguments.len();
@@ -216,4 +217,31 @@ pub(crate) fn bare_function(
         return Err(wrong_count(alloc, name));
     }
     apply_symbol(alloc, rules, declaration, &[], table, store)
+}
+
+/// A name with its arguments: an operator, or a declared function.
+pub(crate) fn apply_name(
+    alloc: Global,
+    rules: Rules,
+    name: &Bytes,
+    operator: Option<Operator>,
+    arguments: &Seq<Value>,
+    table: &Table,
+    store: &mut TermStore,
+) -> Result<Value, JudgeError>
+    requires { AreValues store.old.trees arguments.now }
+    ensures comes { Comes (judge_application (rules_of rules) name.now (known_symbol operator (find_function name.now (signature table.now))) (map (typed store.old.trees) arguments.now)) (scope_of table.now store.old.trees) store.new.trees result }
+    ensures longer { HasGrown store.old store.new }
+{
+    let name = name.as_slice();
+    let given = arguments.as_slice();
+    match operator {
+        Some(known) => apply_operator(alloc, rules, name, known, given, table, store),
+        None => match table.lookup(name) {
+            Some(declaration) => {
+                apply_function(alloc, rules, name, declaration, given, table, store)
+            }
+            None => Err(unknown(alloc, TokenView::Symbol(name))),
+        },
+    }
 }

@@ -6,7 +6,7 @@ ghost use Rattle.smt_meaning.specs.Sorts.{judge_token, judge_bare, judge_numeral
 ghost use Rattle.smt_meaning.specs.Signature.{look_up, operators, find_function};
 ghost use Rattle.smt_sorts.specs.Names.{signature};
 ghost use Rattle.elaborate.specs.Judged.{scope_of, rules_of};
-ghost use Rattle.elaborate.specs.Values.{Comes, IsLonger};
+ghost use Rattle.elaborate.specs.Values.{Comes, HasGrown};
 ghost use Rattle.elaborate.specs.Frames.{AreBound, variable_at};
 
 use crate::apply::{Rules, bare_function, bare_operator, unknown};
@@ -29,7 +29,7 @@ fn judge_numeral(
     store: &mut TermStore,
 ) -> Result<Value, JudgeError>
     ensures comes { Comes (judge_numeral (decimal digits.now)) (scope_of table.now store.old.trees) store.new.trees result }
-    ensures longer { IsLonger store.old.trees store.new.trees }
+    ensures longer { HasGrown store.old store.new }
 {
     let _ = table.ids();
     match numeral(digits) {
@@ -49,7 +49,7 @@ fn judge_name(
 ) -> Result<Value, JudgeError>
     requires { AreBound store.old.trees bindings.now }
     ensures comes { Comes (judge_token (rules_of rules) (map (variable_at store.old.trees) bindings.now) (Token.Symbol name.now)) (scope_of table.now store.old.trees) store.new.trees result }
-    ensures longer { IsLonger store.old.trees store.new.trees }
+    ensures longer { HasGrown store.old store.new }
 {
     match find(bindings.oldest_first(), name) {
         Some(value) => Ok(value),
@@ -66,7 +66,7 @@ fn judge_free(
     store: &mut TermStore,
 ) -> Result<Value, JudgeError>
     ensures comes { Comes (judge_bare (rules_of rules) name.now (known_symbol (look_up name.now operators) (find_function name.now (signature table.now)))) (scope_of table.now store.old.trees) store.new.trees result }
-    ensures longer { IsLonger store.old.trees store.new.trees }
+    ensures longer { HasGrown store.old store.new }
 {
     match operator_named(name) {
         Some(operator) => bare_operator(alloc, rules, name, operator, table, store),
@@ -88,7 +88,7 @@ pub(crate) fn judge_token(
 ) -> Result<Value, JudgeError>
     requires { AreBound store.old.trees bindings.now }
     ensures comes { Comes (judge_token (rules_of rules) (map (variable_at store.old.trees) bindings.now) (seen token.entry)) (scope_of table.now store.old.trees) store.new.trees result }
-    ensures longer { IsLonger store.old.trees store.new.trees }
+    ensures longer { HasGrown store.old store.new }
 {
     match token {
         TokenView::Symbol(name) => judge_name(alloc, rules, name, bindings, table, store),

@@ -8,7 +8,7 @@ give-requires c = none_awaits_term c.args.walk.now.answer c.args.walk.now.frames
 
 pub returns-in-Ok-give-clause-comes : goal.returns-in-Ok-give-clause-comes
 returns-in-Ok-give-clause-comes c = λ tokens ahead.
-    word_given (rules_of c.args.rules) tokens c.args.walk.now c.give.new.walk c.in-Ok.value (seen c.args.token) ahead (scope_of c.args.table.now c.args.store.now.trees) c.judge_token.new.store.trees c.judge_token.ensures.longer c.requires.stands c.requires.kind c.in-Ok.ensures.comes c.in-Ok-give.ensures
+    word_given (rules_of c.args.rules) tokens c.args.walk.now c.give.new.walk c.in-Ok.value (seen c.args.token) ahead (scope_of c.args.table.now c.args.store.now.trees) c.judge_token.new.store.trees c.judge_token.ensures.longer.0 c.requires.stands c.requires.kind c.in-Ok.ensures.comes c.in-Ok-give.ensures
 
 pub returns-in-Err-clause-comes : goal.returns-in-Err-clause-comes
 returns-in-Err-clause-comes c = λ tokens ahead.
