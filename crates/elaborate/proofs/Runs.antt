@@ -105,7 +105,9 @@ taken_at tokens i h = go tokens i h
     go : (xs : List Token) (k : ℕ) → k < length xs → (t : Token) × (drop k xs ≡ t ∷ drop (k + 1) xs)
     go [] k h = absurd (omega arith)
     go (x ∷ xs) zero h = (x, refl)
-    go (x ∷ xs) (suc k) h = let rest : (t : Token) × (drop k xs ≡ t ∷ drop (k + 1) xs) = go xs k (omega arith) in (rest.0, rest.1 ∙ ap (λ j. rest.0 ∷ drop j (x ∷ xs)) (omega arith))
+    go (x ∷ xs) (suc k) h = let rest : (t : Token) × (drop k xs ≡ t ∷ drop (k + 1) xs) = go xs k (omega arith) in
+        let e : suc (k + 1) ≡ suc k + 1 = omega arith in
+        (rest.0, rest.1 ∙ ap (λ j. rest.0 ∷ drop j (x ∷ xs)) e)
 
 run_step : (r : Rules) (t : Token) (ts : List Token) (fs : List Meant) (s : Scope) (x : Outcome (List Meant)) → step r fs t (open_lists_of ts) s ≡ x → run r (t ∷ ts) fs s ≡ go_on x (run r ts)
 unfolding ◌>>=◌

@@ -89,6 +89,34 @@ fn annotation_head(term: &SExpr, ends: &[usize], place: usize) -> Result<Frame, 
     }
 }
 
+/// A reserved word as the head of a list, before a place.
+fn word_head(
+    alloc: Global,
+    rules: Rules,
+    term: &SExpr,
+    ends: &[usize],
+    place: usize,
+    word: Word,
+    bindings: &Stack<Binding>,
+    table: &Table,
+) -> Result<Frame, JudgeError>
+    requires ends { AreEnds term.now ends.now }
+    requires within { place ≤ length term.now }
+    ensures { (ts : List Tree) → FrameComes (on_head (rules_of rules) (map (variable_at ts) bindings.now) (TokenValue.Reserved word) (ahead term.now place)) (scope_of table.now ts) term.now bindings.now result }
+{
+    let _ = (rules.closed, bindings.len(), table.ids());
+    match word {
+        Word::Let => let_head(alloc, term, ends, place),
+        Word::Exclamation => annotation_head(term, ends, place),
+        Word::Underscore => Err(unknown(alloc, TokenView::Reserved(word))),
+        Word::As => Err(unknown(alloc, TokenView::Reserved(word))),
+        Word::Exists => Err(unknown(alloc, TokenView::Reserved(word))),
+        Word::Forall => Err(unknown(alloc, TokenView::Reserved(word))),
+        Word::Match => Err(unknown(alloc, TokenView::Reserved(word))),
+        Word::Par => Err(unknown(alloc, TokenView::Reserved(word))),
+    }
+}
+
 /// A token as the head of a list, before a place.
 pub(crate) fn list_head(
     alloc: Global,
@@ -106,14 +134,9 @@ pub(crate) fn list_head(
 {
     match token {
         TokenView::Symbol(name) => name_head(alloc, rules, name, bindings, table),
-        TokenView::Reserved(Word::Let) => let_head(alloc, term, ends, place),
-        TokenView::Reserved(Word::Exclamation) => annotation_head(term, ends, place),
-        TokenView::Reserved(Word::Underscore) => Err(unknown(alloc, token)),
-        TokenView::Reserved(Word::As) => Err(unknown(alloc, token)),
-        TokenView::Reserved(Word::Exists) => Err(unknown(alloc, token)),
-        TokenView::Reserved(Word::Forall) => Err(unknown(alloc, token)),
-        TokenView::Reserved(Word::Match) => Err(unknown(alloc, token)),
-        TokenView::Reserved(Word::Par) => Err(unknown(alloc, token)),
+        TokenView::Reserved(word) => {
+            word_head(alloc, rules, term, ends, place, word, bindings, table)
+        }
         TokenView::Enter => Err(JudgeError::Refused(Refusal::WrongArguments)),
         TokenView::Leave => Err(JudgeError::Refused(Refusal::WrongArguments)),
         TokenView::Numeral(_) => Err(JudgeError::Refused(Refusal::WrongArguments)),

@@ -12,10 +12,10 @@ pub returns-in-Some-clause-comes : goal.returns-in-Some-clause-comes
 returns-in-Some-clause-comes c =
     judged_answer c.walk_gives_the_judgement.ensures (rules_of c.args.rules) c.args.term.now (scope_of c.args.table.now c.args.store.now.trees) (record { answer = None; frames = c.new.result; bindings = c.args.bindings }) c.read.new.walk c.read.new.store.trees c.in-Some.value tt (read_back c.args.term.now c.len.ensures.matched).0 refl c.new.ensures c.in-Ok.ensures.comes c.in-Some.is
 
-pub returns-in-None-clause-comes : goal.returns-in-None-clause-comes
-returns-in-None-clause-comes c =
+pub returns-in-Ok-clause-comes : goal.returns-in-Ok-clause-comes
+returns-in-Ok-clause-comes c =
     judged_unfinished c.walk_gives_the_judgement.ensures (rules_of c.args.rules) c.args.term.now (scope_of c.args.table.now c.args.store.now.trees) (record { answer = None; frames = c.new.result; bindings = c.args.bindings }) c.read.new.walk c.read.new.store.trees tt (read_back c.args.term.now c.len.ensures.matched).0 refl c.new.ensures c.in-Ok.ensures.comes c.in-None.is
 
-pub returns-in-Err-clause-comes : goal.returns-in-Err-clause-comes
-returns-in-Err-clause-comes c =
+pub returns-clause-comes : goal.returns-clause-comes
+returns-clause-comes c =
     judged_refused c.walk_gives_the_judgement.ensures (rules_of c.args.rules) c.args.term.now (scope_of c.args.table.now c.args.store.now.trees) (scope_of c.args.table.now c.read.new.store.trees) (record { answer = None; frames = c.new.result; bindings = c.args.bindings }) c.read.new.walk c.read.new.store.trees c.in-Err.error (read_back c.args.term.now c.len.ensures.matched).0 refl c.new.ensures c.in-Err.ensures.comes

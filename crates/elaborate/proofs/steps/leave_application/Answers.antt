@@ -1,7 +1,7 @@
 use Rattle.std.proofs.Common.{ap, ◌∙◌}
 use Rattle.elaborate.specs.declared.frame.Frame.TheVariants.{Application}
 use Rattle.elaborate.specs.Judged.{scope_of, rules_of}
-use Rattle.elaborate.proofs.Moves.{top_is, top_values, none_is_argument, leave_given, leave_not}
+use Rattle.elaborate.proofs.Moves.{popped, top_is, top_values, none_is_argument, leave_given, leave_not}
 use Rattle.elaborate.proofs.steps.leave_application.Goals as goal
 
 pub apply_name-requires : goal.apply_name-requires
@@ -21,7 +21,7 @@ returns-in-Ok-give-clause-comes c = λ tokens.
 
 pub returns-in-Some-Application-clause-comes : goal.returns-in-Some-Application-clause-comes
 returns-in-Some-Application-clause-comes c = λ tokens.
-    leave_not (rules_of c.args.rules) tokens c.args.walk.now _ c.in-Some-Application.name c.in-Some-Application.operator c.in-Some-Application.arguments c.pop.new.self (scope_of c.args.table.now c.args.store.now.trees) c.apply_name.new.store.trees (scope_of c.args.table.now c.apply_name.new.store.trees) c.in-Err.error
+    leave_not (rules_of c.args.rules) tokens c.args.walk.now (popped c.args.walk.now c.pop.new.self) c.in-Some-Application.name c.in-Some-Application.operator c.in-Some-Application.arguments c.pop.new.self (scope_of c.args.table.now c.args.store.now.trees) c.apply_name.new.store.trees (scope_of c.args.table.now c.apply_name.new.store.trees) c.in-Err.error
     (none_is_argument c.args.walk.now.answer c.args.walk.now.frames c.requires.kind)
     (top_is c.args.walk.now c.in-Some-Application.field-0 (Application c.in-Some-Application.name c.in-Some-Application.operator c.in-Some-Application.arguments) c.pop.new.self c.in-Some-Application.ensures.some c.in-Some-Application.field-0-is)
     c.in-Err.ensures.comes
