@@ -87,7 +87,7 @@ head_function r n ahead s tokens bs d y f g h i k =
     (record {
       judged =
           known_head r (map (variable_at s.trees) bs) n ahead (function d) s (known_function n s.trees bs d s f g h) ∙ function_applied n d s
-              ∙ ap (λ q. done (application n (known_symbol None q) []) s) (sym h);
+          ∙ ap (λ q. done (application n (known_symbol None q) []) s) (sym h);
       outer = refl;
       holds = (subst (IsHead None) (sym h) tt, tt);
     })

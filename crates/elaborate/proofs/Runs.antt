@@ -31,7 +31,6 @@ same_step m n s tokens u w y e h = subst (λ k. StepComes k s tokens u w y) (sym
 the_same : (t u : Token) (ts us : List Token) (xs : List Token) → xs ≡ t ∷ ts → xs ≡ u ∷ us → t ≡ u
 the_same t u ts us xs e f = let k : t ∷ ts ≡ u ∷ us = sym e ∙ f in cc
 
-
 is_enter : (r : Rules) (fs : List Meant) (t : Token) (lists : List Sexps) → class_of t ≡ Opening → step r fs t lists ≡ on_enter fs
 is_enter r fs Enter lists e = refl
 is_enter r fs Leave lists e = absurd (cc)
@@ -119,7 +118,7 @@ goes r tokens s fs i w w' ts us t x here e h = record {
   stands = h.1;
   rest =
       here.rest ∙ ap (λ xs. run r xs (walk_of tokens (at s ts) w) (at s ts)) e
-          ∙ run_step r t (drop (i + 1) tokens) (walk_of tokens (at s ts) w) (at s ts) (done (walk_of tokens (at s us) w') (at s us)) h.0;
+      ∙ run_step r t (drop (i + 1) tokens) (walk_of tokens (at s ts) w) (at s ts) (done (walk_of tokens (at s us) w') (at s us)) h.0;
 }
 
 pub stops : (r : Rules) (tokens : List Token) (s : Scope) (fs : List Meant) (i : ℕ) (w : Walk) (w' : Walk) (ts : List Tree) (u v : Scope) (t : Token) (e : JudgeError) → IsAt r tokens s fs i w ts → drop i tokens ≡ t ∷ drop (i + 1) tokens

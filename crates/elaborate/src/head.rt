@@ -21,11 +21,7 @@ use smt_sorts::Table;
 use std::alloc::Global;
 
 /// An application of a name before its arguments. An `Err` is want of memory.
-fn application(
-    alloc: Global,
-    name: &[u8],
-    operator: Option<Operator>,
-) -> Result<Frame, JudgeError>
+fn application(alloc: Global, name: &[u8], operator: Option<Operator>) -> Result<Frame, JudgeError>
     ensures ok { IfOk result (λ g. g ≡ Frame.Application name.now operator []) }
     ensures memory { OnErr result (result ≡ Err JudgeError.Memory) }
 {
@@ -59,12 +55,7 @@ fn name_head(
 }
 
 /// `let`, whose form is looked at first.
-fn let_head(
-    alloc: Global,
-    term: &SExpr,
-    ends: &[usize],
-    place: usize,
-) -> Result<Frame, JudgeError>
+fn let_head(alloc: Global, term: &SExpr, ends: &[usize], place: usize) -> Result<Frame, JudgeError>
     requires ends { AreEnds term.now ends.now }
     requires within { place ≤ length term.now }
     ensures { IsLetHead (ahead term.now place) result }

@@ -23,14 +23,14 @@ mod token;
 mod value;
 mod walk;
 
-pub use error::JudgeError;
 use apply::Rules;
+pub use error::JudgeError;
 use look_ahead::ends;
 use read::judge_term;
 use smt_meaning::{Body, Bytes, SExpr, Sort, TermId};
 use smt_sorts::Table;
-use std::alloc::Global;
 use stack::Stack;
+use std::alloc::Global;
 use term_store::TermStore;
 use value::Value;
 
