@@ -1,2 +1,3 @@
 pub mod Logics
 pub mod StateCode
+pub mod Effects

@@ -1,7 +1,9 @@
 //! A run's state, and what each command does to it (SMT-LIB 2.6, sections 4.1 and 4.2).
 #![tactic(auto)]
 
+mod carry;
 mod logic;
+mod options;
 mod state;
 
 pub use state::{Done, Session};
