@@ -6,8 +6,10 @@ ghost use Rattle.smt_meaning.specs.Sorts.{Scope, Variable, done, variable_names}
 ghost use Rattle.term_walk.specs.Walk.{check_let, check_annotation, has_free_first};
 ghost use Rattle.look_ahead.specs.Ahead.{ahead, AreEnds, checked, IsWhyNoLet};
 
+mod marks;
 mod parts;
 
+pub use marks::ends;
 use smt_meaning::{Refusal, SExpr};
 use std::alloc::{AllocError, Global};
 
@@ -30,15 +32,6 @@ pub trait Names {
     /// Whether a name is bound.
     fn binds(&self, name: &[u8]) -> bool
         ensures { result ≡ is_one_of name.now (names self.now) };
-}
-
-/// For each `(` of a term the place of its `)`.
-pub fn ends(alloc: Global, term: &SExpr) -> Result<Vec<usize>, AllocError>
-    ensures { IfOk result (λ v. AreEnds term.now v.items) }
-{
-    let _ = term;
-    let _ = alloc;
-    Err(AllocError)
 }
 
 /// Whether a `let`, whose word stands before a place, has its form and binds no name twice (SMT-LIB 2.6, section 3.6.1).
