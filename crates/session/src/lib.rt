@@ -4,6 +4,7 @@
 mod carry;
 mod logic;
 mod options;
+mod printed;
 mod state;
 
 pub use state::{Done, Session};

@@ -5,11 +5,12 @@ ghost use Rattle.smt_meaning.specs.State.{is_start as is_start_mode};
 use crate::carry::{carry, word};
 use crate::logic::Logic;
 use crate::options::{option_value, options_at_start, start_option, with_setting};
+use crate::printed::{printed_functions, texts_of};
 use scope_stack::{Carried, Stack, StackError};
 use smt_meaning::language::{
     Command, Error, Info, InfoName, Mode, OptionName, OptionSetting, Options, Reply,
 };
-use smt_meaning::{Bytes, Kept, Refusal, Settings};
+use smt_meaning::{Bytes, Kept, Refusal, SExpr, Settings};
 use std::alloc::{AllocError, Global};
 use std::marker::Model;
 use theory_port::{Decider, Verdict};
@@ -47,13 +48,13 @@ pub struct Done {
 }
 
 impl Session {
-    ghost use Rattle.std.specs.Prelude.{◌≡◌, ◌↔◌, IfOk, OnErr, IsTrue};
+    ghost use Rattle.std.specs.Prelude.{◌≡◌, ◌≢◌, ◌↔◌, IfOk, OnErr, IsTrue};
     ghost use Rattle.std.specs.Prelude.{codes};
-    ghost use Rattle.smt_meaning.specs.State.{start, with_logic, asserting, set_logic, set_option_in, start_option, option_value, get_info, stack_effect, checked};
+    ghost use Rattle.smt_meaning.specs.State.{start, with_logic, asserting, set_logic, set_option_in, start_option, option_value, get_info, stack_effect, checked, effect, kept_model, get_value, get_model, get_assertions};
     ghost use Rattle.smt_meaning.specs.StackCommand.{stack_command};
     ghost use Rattle.session.specs.Effects.{Comes, is_carried, word_of};
     ghost use Rattle.smt_meaning.specs.MayReply.{MayReply, MayCome, success};
-    ghost use Rattle.smt_meaning.specs.declared.commands.Command.TheVariants.{Exit, Reset, ResetAssertions};
+    ghost use Rattle.smt_meaning.specs.declared.commands.Command.TheVariants.{Exit, Reset, ResetAssertions, CheckSat};
 
     /// The state at the start of a run. It takes no memory.
     pub fn new(alloc: Global, settings: &Settings) -> Self
@@ -79,7 +80,95 @@ impl Session {
         ensures stop { IfOk result (λ done. IsTrue done.stop ↔ (command.now ≡ Exit)) }
         ensures err { OnErr result (self.new ≡ self.old) }
     {
+        let (reply, kept) = self.respond(alloc, command, decider)?;
+        let stop = matches!(command, Command::Exit);
+        Ok(Done { reply, kept, stop })
+    }
+
+    /// Answers a command.
+    #[tactic(auto, using(crate::proofs::Replies::answered_so, crate::proofs::Replies::checked_so))]
+    fn respond<D: Decider>(
+        &mut self,
+        alloc: Global,
+        command: &Command,
+        decider: &mut D,
+    ) -> Result<(Reply, Kept), AllocError>
+        ensures ok { IfOk result (λ answer. MayReply D.decides self.old command.now answer.0 answer.1 self.new) }
+        ensures err { OnErr result (self.new ≡ self.old) }
+    {
+        match command {
+            Command::CheckSat => self.check(alloc, decider),
+            _ => {
+                let reply = self.answer(alloc, command)?;
+                Ok((reply, Kept::Nothing))
+            }
+        }
+    }
+
+    /// Answers a command that is no check.
+    #[tactic(auto, unfolding(smt_meaning::specs::State::effect))]
+    fn answer(&mut self, alloc: Global, command: &Command) -> Result<Reply, AllocError>
+        requires { command.now ≢ CheckSat }
+        ensures ok { IfOk result (λ r. Comes (effect self.old command.now) self.old r self.new) }
+        ensures err { OnErr result (self.new ≡ self.old) }
+    {
+        match command {
+            Command::SetLogic(name) => Ok(self.set_logic(name.as_slice())),
+            Command::SetOption(setting) => Ok(self.set_option(*setting)),
+            Command::GetOption(option) => self.get_option(alloc, *option),
+            Command::SetInfo | Command::Exit => Ok(self.success()),
+            Command::GetInfo(info) => Ok(self.get_info(*info)),
+            Command::Echo(text) => Ok(Reply::Echo(Bytes::copy(alloc, text.as_slice())?)),
+            Command::Reset => Ok(self.reset()),
+            Command::ResetAssertions => Ok(self.reset_assertions()),
+            Command::GetValue(terms) => self.get_value(alloc, terms.as_slice()),
+            Command::GetModel => self.get_model(alloc),
+            Command::GetAssertions => self.get_assertions(alloc),
+            Command::LeftOut => Ok(Reply::Unsupported),
+            Command::CheckSat => unreachable!(),
+            _ => self.on_stack(alloc, command),
+        }
+    }
+
+    /// `(get-value (term ..))`
+    fn get_value(&mut self, alloc: Global, terms: &[SExpr]) -> Result<Reply, AllocError>
+        ensures ok { IfOk result (λ r. Comes (get_value self.old terms.now (kept_model self.old.mode)) self.old r self.new) }
+        ensures err { OnErr result (self.new ≡ self.old) }
+    {
+        let Mode::Sat(model) = &self.mode else {
+            return Ok(Reply::Error(Error::NoModel));
+        };
+        if !self.options.produce_models {
+            return Ok(Reply::Error(Error::OptionIsOff(OptionName::ProduceModels)));
+        }
         Err(AllocError)
+    }
+
+    /// `(get-model)`
+    fn get_model(&self, alloc: Global) -> Result<Reply, AllocError>
+        ensures { IfOk result (λ r. Comes (get_model self.now (kept_model self.now.mode)) self.now r self.now) }
+    {
+        let Mode::Sat(model) = &self.mode else {
+            return Ok(Reply::Error(Error::NoModel));
+        };
+        if !self.options.produce_models {
+            return Ok(Reply::Error(Error::OptionIsOff(OptionName::ProduceModels)));
+        }
+        let functions = printed_functions(alloc, &self.stack, model.as_slice())?;
+        Ok(Reply::Model(functions))
+    }
+
+    /// `(get-assertions)`
+    fn get_assertions(&mut self, alloc: Global) -> Result<Reply, AllocError>
+        ensures ok { IfOk result (λ r. Comes (get_assertions self.old) self.old r self.new) }
+        ensures err { OnErr result (self.new ≡ self.old) }
+    {
+        if !self.options.produce_assertions {
+            return Ok(Reply::Error(Error::OptionIsOff(OptionName::ProduceAssertions)));
+        }
+        let texts = texts_of(alloc, self.stack.assertions())?;
+        self.need_logic();
+        Ok(Reply::Assertions(texts))
     }
 
     /// The reply to a command that is carried out.
