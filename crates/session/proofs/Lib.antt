@@ -1,3 +1,4 @@
 pub mod Stacks
 pub mod Prints
 pub mod Replies
+pub mod Values
