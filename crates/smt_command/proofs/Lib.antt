@@ -1,0 +1,2 @@
+pub mod OpenLists
+pub mod Left

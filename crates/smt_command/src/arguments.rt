@@ -1,0 +1,119 @@
+ghost use Rattle.std.specs.Prelude.{◌≡◌, ◌+◌, ◌^◌, ◌∷◌, ◌<◌, ◌≤◌, Some, drop, length, slice_range, IfOk, OnOk, OnSome, IfNone, IsTrue};
+ghost use Rattle.std.specs.Option.{option_map, option_copied};
+ghost use Rattle.smt_meaning.specs.Reading.{IsSExpr};
+ghost use Rattle.smt_meaning.specs.Seen.{seen};
+ghost use Rattle.smt_meaning.specs.Sexp.{end, ◌▸◌, sexp, open_lists_of};
+ghost use Rattle.smt_meaning.specs.Command.{symbol};
+ghost use Rattle.smt_command.specs.Arguments.{open_lists, left, is_end, rest_of, depth_behind, first_by, token_in, keyword, numeral, text, parts, term};
+
+use smt_meaning::{SExpr, TokenView};
+use std::alloc::{AllocError, Global};
+
+/// What is left to read of a list: the s-expressions from a place on, to the list's end. Past the end there is nothing.
+#[derive(Clone, Copy, Drop)]
+pub struct Arguments<'a> {
+    sexpr: &'a SExpr,
+    place: usize,
+}
+
+impl<'a> Arguments<'a> {
+    /// The whole s-expression.
+    pub fn whole(sexpr: &'a SExpr) -> Self
+        ensures { left result ≡ sexp sexpr.now ▸ end }
+    {
+        let _ = sexpr.len();
+        Arguments { sexpr, place: 0 }
+    }
+
+    /// The next token, where it is no parenthesis.
+    pub fn peek(&self) -> Option<TokenView<'a>>
+        ensures { option_map seen result ≡ first_by token_in (left self.now) }
+    {
+        if self.place >= self.sexpr.len() {
+            return None;
+        }
+        match self.sexpr.token(self.place) {
+            TokenView::Enter | TokenView::Leave => None,
+            token => Some(token),
+        }
+    }
+
+    /// Whether nothing is left.
+    pub fn is_end(&self) -> bool
+        ensures { result ≡ is_end (left self.now) }
+    {
+        if self.place >= self.sexpr.len() {
+            return true;
+        }
+        match self.sexpr.token(self.place) {
+            TokenView::Leave => true,
+            _ => false,
+        }
+    }
+
+    /// What stands in the next s-expression, where it is a list.
+    pub fn enter(&self) -> Option<Arguments<'a>>
+        ensures { option_map left result ≡ first_by parts (left self.now) }
+    {
+        if self.place >= self.sexpr.len() {
+            return None;
+        }
+        match self.sexpr.token(self.place) {
+            TokenView::Enter => Some(Arguments {
+                sexpr: self.sexpr,
+                place: self.place + 1,
+            }),
+            _ => None,
+        }
+    }
+
+    /// Leaves the next s-expression out.
+    pub fn skip(&mut self)
+        ensures rest { left self.new ≡ rest_of (left self.old) }
+        ensures lists { open_lists self.new ≡ rest_of (left self.old) ∷ drop 1 (open_lists self.old) }
+        ensures same { self.new.sexpr.now ≡ self.old.sexpr.now }
+        ensures order { self.old.place ≤ self.new.place }
+        ensures within { self.old.place ≤ length self.old.sexpr.now → self.new.place ≤ length self.old.sexpr.now }
+        ensures matched { IsSExpr self.old.sexpr.now }
+    {
+        if self.place >= self.sexpr.len() {
+            return;
+        }
+        match self.sexpr.token(self.place) {
+            TokenView::Enter => self.place = end_of_list(self.sexpr, self.place + 1),
+            TokenView::Leave => {}
+            _ => self.place += 1,
+        }
+    }
+}
+
+/// The place after the list that is the innermost one at a place.
+fn end_of_list(sexpr: &SExpr, from: usize) -> usize
+    requires inside { 0 < from }
+    requires within { from ≤ length sexpr.now }
+    requires open { 2 ≤ length (open_lists_of (drop from sexpr.now)) }
+    ensures after { open_lists_of (drop result sexpr.now) ≡ drop 1 (open_lists_of (drop from sexpr.now)) }
+    ensures order { from ≤ result }
+    ensures within { result ≤ length sexpr.now }
+{
+    let mut place = from;
+    let mut depth = 1;
+    while depth > 0 && place < sexpr.len() {
+        depth = depth_behind(sexpr.token(place), depth);
+        place += 1;
+    }
+    place
+}
+
+/// How many lists are open behind a token, where so many are open before it.
+fn depth_behind(token: TokenView<'_>, depth: usize) -> usize
+    requires some { 0 < depth }
+    requires room { depth + 1 < 2 ^ 64 }
+    ensures { result ≡ depth_behind (seen token.entry) depth }
+{
+    match token {
+        TokenView::Enter => depth + 1,
+        TokenView::Leave => depth - 1,
+        _ => depth,
+    }
+}
