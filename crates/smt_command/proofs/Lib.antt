@@ -1,2 +1,3 @@
 pub mod OpenLists
 pub mod Left
+pub mod Parts

@@ -22,7 +22,7 @@ pub record Fine (lists : List Sexps) : Type 0 where
   pub some : IsSome lists
   pub all : AllFine lists
 
-some_before : (t : Token) (lists : List Sexps) → IsSome (before t lists) → IsSome lists
+pub some_before : (t : Token) (lists : List Sexps) → IsSome (before t lists) → IsSome lists
 some_before t [] h = h
 some_before t (x ∷ rest) h = tt
 

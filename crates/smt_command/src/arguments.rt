@@ -87,6 +87,89 @@ impl<'a> Arguments<'a> {
     }
 }
 
+impl<'a> Arguments<'a> {
+    /// The name of a symbol, which is read where it is next.
+    pub fn symbol(&mut self) -> Option<&'a [u8]>
+        ensures name { option_copied result ≡ first_by symbol (left self.old) }
+        ensures read { OnSome result (left self.new ≡ rest_of (left self.old)) }
+        ensures kept { IfNone result (left self.new ≡ left self.old) }
+    {
+        match self.peek() {
+            Some(TokenView::Symbol(name)) => {
+                self.skip();
+                Some(name)
+            }
+            _ => None,
+        }
+    }
+
+    /// A keyword, which is read where it is next.
+    pub fn keyword(&mut self) -> Option<&'a [u8]>
+        ensures name { option_copied result ≡ first_by keyword (left self.old) }
+        ensures read { OnSome result (left self.new ≡ rest_of (left self.old)) }
+    {
+        match self.peek() {
+            Some(TokenView::Keyword(name)) => {
+                self.skip();
+                Some(name)
+            }
+            _ => None,
+        }
+    }
+
+    /// The digits of a numeral, which is read where it is next.
+    pub fn numeral(&mut self) -> Option<&'a [u8]>
+        ensures digits { option_copied result ≡ first_by numeral (left self.old) }
+        ensures read { OnSome result (left self.new ≡ rest_of (left self.old)) }
+    {
+        match self.peek() {
+            Some(TokenView::Numeral(digits)) => {
+                self.skip();
+                Some(digits)
+            }
+            _ => None,
+        }
+    }
+
+    /// The bytes of a string literal, which is read where it is next.
+    pub fn text(&mut self) -> Option<&'a [u8]>
+        ensures bytes { option_copied result ≡ first_by text (left self.old) }
+        ensures read { OnSome result (left self.new ≡ rest_of (left self.old)) }
+    {
+        match self.peek() {
+            Some(TokenView::Text(bytes)) => {
+                self.skip();
+                Some(bytes)
+            }
+            _ => None,
+        }
+    }
+
+    /// What stands in a list, which is read where it is next.
+    pub fn list(&mut self) -> Option<Arguments<'a>>
+        ensures parts { option_map left result ≡ first_by parts (left self.old) }
+        ensures read { left self.new ≡ rest_of (left self.old) }
+    {
+        let inside = self.enter();
+        self.skip();
+        inside
+    }
+
+    /// The next s-expression as one of its own, which is read. An `Err` is want of memory.
+    pub fn term(&mut self, alloc: Global) -> Result<Option<SExpr>, AllocError>
+        ensures term { IfOk result (λ r. r ≡ first_by term (left self.old)) }
+        ensures read { OnOk result (left self.new ≡ rest_of (left self.old)) }
+    {
+        if self.is_end() {
+            return Ok(None);
+        }
+        let from = self.place;
+        self.skip();
+        let term = self.sexpr.part(alloc, from, self.place)?;
+        Ok(Some(term))
+    }
+}
+
 /// The place after the list that is the innermost one at a place.
 fn end_of_list(sexpr: &SExpr, from: usize) -> usize
     requires inside { 0 < from }
