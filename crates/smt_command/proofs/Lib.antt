@@ -1,3 +1,4 @@
 pub mod OpenLists
 pub mod Left
 pub mod Parts
+pub mod ReadAll

@@ -3,10 +3,11 @@ ghost use Rattle.std.specs.Option.{option_map, option_copied};
 ghost use Rattle.smt_meaning.specs.Reading.{IsSExpr};
 ghost use Rattle.smt_meaning.specs.Seen.{seen};
 ghost use Rattle.smt_meaning.specs.Sexp.{end, ◌▸◌, sexp, open_lists_of};
-ghost use Rattle.smt_meaning.specs.Command.{symbol};
+ghost use Rattle.smt_meaning.specs.Command.{symbol, written_sort, parameter};
 ghost use Rattle.smt_command.specs.Arguments.{open_lists, left, is_end, rest_of, depth_behind, first_by, token_in, keyword, numeral, text, parts, term};
 
-use smt_meaning::{SExpr, TokenView};
+use smt_meaning::language::{Parameter, WrittenSort};
+use smt_meaning::{SExpr, Seq, TokenView};
 use std::alloc::{AllocError, Global};
 
 /// What is left to read of a list: the s-expressions from a place on, to the list's end. Past the end there is nothing.
@@ -167,6 +168,46 @@ impl<'a> Arguments<'a> {
         self.skip();
         let term = self.sexpr.part(alloc, from, self.place)?;
         Ok(Some(term))
+    }
+}
+
+impl<'a> Arguments<'a> {
+    /// A sort as it is written, which is read where it is next. An `Err` is want of memory.
+    pub fn sort(&mut self, alloc: Global) -> Result<Option<WrittenSort>, AllocError>
+        ensures sort { IfOk result (λ r. r ≡ first_by written_sort (left self.old)) }
+        ensures read { IfOk result (λ r. OnSome r (left self.new ≡ rest_of (left self.old))) }
+    {
+        if let Some(name) = self.symbol() {
+            return Ok(Some(WrittenSort::Name(Seq::copy(alloc, name)?)));
+        }
+        let Some(mut inside) = self.list() else {
+            return Ok(None);
+        };
+        let Some(name) = inside.symbol() else {
+            return Ok(None);
+        };
+        Ok(Some(WrittenSort::Applied(Seq::copy(alloc, name)?)))
+    }
+
+    /// A parameter with its sort, which is read where it is next. An `Err` is want of memory.
+    pub fn parameter(&mut self, alloc: Global) -> Result<Option<Parameter>, AllocError>
+        ensures parameter { IfOk result (λ r. r ≡ first_by parameter (left self.old)) }
+        ensures read { IfOk result (λ r. OnSome r (left self.new ≡ rest_of (left self.old))) }
+    {
+        let Some(mut inside) = self.list() else {
+            return Ok(None);
+        };
+        let Some(name) = inside.symbol() else {
+            return Ok(None);
+        };
+        let Some(sort) = inside.sort(alloc)? else {
+            return Ok(None);
+        };
+        if !inside.is_end() {
+            return Ok(None);
+        }
+        let name = Seq::copy(alloc, name)?;
+        Ok(Some(Parameter { name, sort }))
     }
 }
 

@@ -3,5 +3,6 @@
 
 mod arguments;
 mod judge;
+mod lists;
 
 pub use judge::command;
