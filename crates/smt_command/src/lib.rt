@@ -4,5 +4,7 @@
 mod arguments;
 mod judge;
 mod lists;
+mod names;
+mod number;
 
 pub use judge::command;
