@@ -2,3 +2,4 @@ pub mod OpenLists
 pub mod Left
 pub mod Parts
 pub mod ReadAll
+pub mod LookUps

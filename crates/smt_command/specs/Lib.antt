@@ -1,3 +1,3 @@
 pub mod Arguments
-pub mod Numbers
+pub mod Values
 pub mod Names

@@ -6,5 +6,6 @@ mod judge;
 mod lists;
 mod names;
 mod number;
+mod settings;
 
 pub use judge::command;

@@ -1,5 +1,5 @@
 ghost use Rattle.std.specs.Prelude.{◌≡◌, ◌+◌, ◌-◌, ◌*◌, ◌^◌, ◌<◌, ◌≤◌, MatchOption};
-ghost use Rattle.smt_command.specs.Numbers.{small_number};
+ghost use Rattle.smt_command.specs.Values.{small_number};
 
 use smt_meaning::Refusal;
 

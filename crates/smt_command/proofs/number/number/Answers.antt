@@ -6,7 +6,7 @@ use Rattle.std.proofs.Math.Seq.{drop-cons}
 use Rattle.std.proofs.Math.ListN.{drop_of_length-le}
 use Rattle.smt_meaning.specs.declared.refusals.Refusal.TheVariants.{NumeralTooLarge}
 use Rattle.smt_meaning.specs.Sorts.{decimal, decimal_from}
-use Rattle.smt_command.specs.Numbers.{small_number}
+use Rattle.smt_command.specs.Values.{small_number}
 use Rattle.smt_command.proofs.number.number.Goals as goal
 
 -- more digits write no smaller number
