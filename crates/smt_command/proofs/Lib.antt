@@ -3,3 +3,4 @@ pub mod Left
 pub mod Parts
 pub mod ReadAll
 pub mod LookUps
+pub mod OptionForms

@@ -2,6 +2,7 @@
 #![tactic(auto)]
 
 mod arguments;
+mod forms;
 mod judge;
 mod lists;
 mod names;

@@ -1,5 +1,6 @@
-ghost use Rattle.std.specs.Prelude.{◌≡◌};
+ghost use Rattle.std.specs.Prelude.{◌≡◌, Ok};
 ghost use Rattle.std.specs.Option.{option_map};
+ghost use Rattle.smt_meaning.specs.declared.commands.Command.TheVariants.{SetOption};
 ghost use Rattle.smt_meaning.specs.Seen.{seen};
 ghost use Rattle.smt_meaning.specs.Command.{set_option, get_option, set_info, get_info, setting, regular_channel, diagnostic_channel};
 ghost use Rattle.smt_command.specs.Arguments.{left};
@@ -12,6 +13,7 @@ use smt_meaning::language::{Channel, Command, OptionName, OptionSetting};
 use smt_meaning::{Refusal, TokenView};
 
 /// The command `set-option` with these arguments: a keyword and a value.
+#[tactic(auto, using(crate::proofs::OptionForms::set_option_known))]
 pub fn set_option(mut arguments: Arguments<'_>) -> Result<Command, Refusal>
     ensures { result ≡ set_option (left arguments.entry) }
 {
@@ -85,22 +87,28 @@ fn only_value(mut arguments: Arguments<'_>) -> Option<Option<TokenView<'_>>>
 }
 
 /// An option with its value: a token, or `None` for a list.
+#[tactic(auto, using(crate::proofs::OptionForms::numerals))]
 fn setting(name: OptionName, value: Option<TokenView<'_>>) -> Result<Command, Refusal>
     ensures { result ≡ setting name (value_sexp (option_map seen value.entry)) }
 {
-    let setting = match name {
-        OptionName::RegularOutputChannel => return regular_channel(value),
-        OptionName::DiagnosticOutputChannel => return diagnostic_channel(value),
-        OptionName::PrintSuccess => OptionSetting::PrintSuccess(truth(value)?),
-        OptionName::Verbosity => OptionSetting::Verbosity(numeral(value)?),
+    match name {
+        OptionName::PrintSuccess => set(OptionSetting::PrintSuccess(truth(value)?)),
+        OptionName::RegularOutputChannel => regular_channel(value),
+        OptionName::DiagnosticOutputChannel => diagnostic_channel(value),
+        OptionName::Verbosity => set(OptionSetting::Verbosity(numeral(value)?)),
         OptionName::ReproducibleResourceLimit => {
-            OptionSetting::ReproducibleResourceLimit(numeral(value)?)
+            set(OptionSetting::ReproducibleResourceLimit(numeral(value)?))
         }
-        OptionName::RandomSeed => OptionSetting::RandomSeed(numeral(value)?),
-        OptionName::ProduceModels => OptionSetting::ProduceModels(truth(value)?),
-        OptionName::ProduceAssertions => OptionSetting::ProduceAssertions(truth(value)?),
-        OptionName::InteractiveMode => OptionSetting::InteractiveMode(truth(value)?),
-    };
+        OptionName::RandomSeed => set(OptionSetting::RandomSeed(numeral(value)?)),
+        OptionName::ProduceModels => set(OptionSetting::ProduceModels(truth(value)?)),
+        OptionName::ProduceAssertions => set(OptionSetting::ProduceAssertions(truth(value)?)),
+        OptionName::InteractiveMode => set(OptionSetting::InteractiveMode(truth(value)?)),
+    }
+}
+
+fn set(setting: OptionSetting) -> Result<Command, Refusal>
+    ensures { result ≡ Ok (SetOption setting) }
+{
     Ok(Command::SetOption(setting))
 }
 

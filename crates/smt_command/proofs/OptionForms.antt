@@ -1,0 +1,80 @@
+-- The forms of options, from how their parts are read.
+use Rattle.std.proofs.Common.{◌≡◌, ℕ, ℤ, pos, List, [], Bool, true, false, cond, Option, Some, None, Result, Ok, Err, refl, ap, sym, ◌∙◌}
+use Rattle.smt_meaning.specs.declared.tokens.Token.{Token}
+use Rattle.smt_meaning.specs.declared.tokens.Token.TheVariants.{Numeral, Keyword}
+use Rattle.smt_meaning.specs.declared.refusals.Refusal.{Refusal}
+use Rattle.smt_meaning.specs.declared.refusals.Refusal.TheVariants.{NumeralTooLarge, WrongArguments}
+use Rattle.smt_meaning.specs.declared.options.OptionSetting.{OptionSetting}
+use Rattle.smt_meaning.specs.declared.options.OptionName.{OptionName}
+use Rattle.smt_meaning.specs.declared.options.OptionName.TheVariants as Named
+use Rattle.smt_meaning.specs.declared.commands.Command.{Command}
+use Rattle.smt_meaning.specs.declared.commands.Command.TheVariants.{SetOption}
+use Rattle.smt_meaning.specs.Sexp.{Sexp, Sexps, word, group, end, ◌▸◌}
+use Rattle.smt_meaning.specs.Signature.{look_up}
+use Rattle.smt_meaning.specs.Sorts.{decimal, is_small}
+use Rattle.smt_meaning.specs.Command.{with_numeral, numeral_setting, setting, setting_of, option_names, set_option}
+use Rattle.smt_command.specs.Arguments.{first_by, keyword, rest_of}
+use Rattle.smt_command.specs.Values.{small_number, only_value, value_sexp, number_in}
+
+-- ---- numerals
+
+abbrev pub map_ok : {A B : Type 0} → (A → B) → Result A Refusal → Result B Refusal
+map_ok f (Ok a) = Ok (f a)
+map_ok f (Err r) = Err r
+
+chosen : {A B : Type 0} (f : A → B) (b : Bool) (a : A) → cond b (Ok (f a)) (Err NumeralTooLarge) ≡ map_ok f (cond b (Ok a) (Err NumeralTooLarge))
+chosen f true a = refl
+chosen f false a = refl
+
+pub with_numeral_is : (c : ℤ → Command) (cs : List ℕ) → with_numeral c cs ≡ map_ok c (small_number cs)
+unfolding small_number
+with_numeral_is c cs = chosen c (is_small (decimal cs)) (pos (decimal cs))
+
+numeral_setting_is : (o : ℤ → OptionSetting) (v : Option Token) → numeral_setting o (value_sexp v) ≡ map_ok (λ n. SetOption (o n)) (number_in v)
+numeral_setting_is o None = refl
+numeral_setting_is o (Some (Numeral cs)) = with_numeral_is (λ n. SetOption (o n)) cs
+numeral_setting_is o (Some _) = refl
+
+pub numeral_ok : (o : ℤ → OptionSetting) (v : Option Token) (n : ℤ) → Ok n ≡ number_in v → numeral_setting o (value_sexp v) ≡ Ok (SetOption (o n))
+numeral_ok o v n h = numeral_setting_is o v ∙ ap (map_ok (λ n. SetOption (o n))) (sym h)
+
+pub numeral_err : (o : ℤ → OptionSetting) (v : Option Token) (r : Refusal) → Err r ≡ number_in v → numeral_setting o (value_sexp v) ≡ Err r
+numeral_err o v r h = numeral_setting_is o v ∙ ap (map_ok (λ n. SetOption (o n))) (sym h)
+
+pub ruleset numerals = (numeral_ok, numeral_err)
+
+-- ---- lists as values
+
+list_is_wrong : (o : OptionName) (ss : Sexps) → setting o (group ss) ≡ setting o (group end)
+list_is_wrong Named.PrintSuccess ss = refl
+list_is_wrong Named.RegularOutputChannel ss = refl
+list_is_wrong Named.DiagnosticOutputChannel ss = refl
+list_is_wrong Named.Verbosity ss = refl
+list_is_wrong Named.ReproducibleResourceLimit ss = refl
+list_is_wrong Named.RandomSeed ss = refl
+list_is_wrong Named.ProduceModels ss = refl
+list_is_wrong Named.ProduceAssertions ss = refl
+list_is_wrong Named.InteractiveMode ss = refl
+
+abbrev inside : Option (Option Token) → Option Token
+inside (Some w) = w
+inside None = None
+
+abbrev name_in : Option (List ℕ) → List ℕ
+name_in (Some n) = n
+name_in None = []
+
+with_value : (k : List ℕ) (rest : Sexps) (v : Option Token) (o : OptionName) → Some v ≡ only_value rest → Some o ≡ look_up k option_names
+    → set_option (word (Keyword k) ▸ rest) ≡ setting o (value_sexp v)
+with_value k end v o h e = cc
+with_value k (word (Keyword w) ▸ end) v o h e = cc
+with_value k (group ss ▸ end) v o h e =
+    ap (λ m. setting_of m (group ss)) (sym e) ∙ list_is_wrong o ss ∙ ap (λ m. setting o (value_sexp (inside m))) (sym h)
+with_value k (word t ▸ end) v o h e = ap (λ m. setting_of m (word t)) (sym e) ∙ ap (λ m. setting o (value_sexp (inside m))) (sym h)
+with_value k _ v o h e = cc
+
+pub set_option_known : (ss : Sexps) (k : List ℕ) (v : Option Token) (o : OptionName) → Some k ≡ first_by keyword ss → Some v ≡ only_value (rest_of ss) → Some o ≡ look_up k option_names
+    → set_option ss ≡ setting o (value_sexp v)
+set_option_known end k v o g h e = cc
+set_option_known (word (Keyword w) ▸ rest) k v o g h e = with_value w rest v o h (e ∙ ap (λ m. look_up (name_in m) option_names) g)
+set_option_known _ k v o g h e = cc
