@@ -12,9 +12,9 @@ use Rattle.smt_meaning.specs.declared.commands.Command.TheVariants.{SetOption}
 use Rattle.smt_meaning.specs.Sexp.{Sexp, Sexps, word, group, end, ◌▸◌}
 use Rattle.smt_meaning.specs.Signature.{look_up}
 use Rattle.smt_meaning.specs.Sorts.{decimal, is_small}
-use Rattle.smt_meaning.specs.Command.{with_numeral, numeral_setting, setting, setting_of, option_names, set_option}
+use Rattle.smt_meaning.specs.Command.{with_numeral, levels, numeral_setting, setting, setting_of, option_names, set_option}
 use Rattle.smt_command.specs.Arguments.{first_by, keyword, rest_of}
-use Rattle.smt_command.specs.Values.{small_number, only_value, value_sexp, number_in}
+use Rattle.smt_command.specs.Values.{small_number, level_count, only_value, value_sexp, number_in}
 
 -- ---- numerals
 
@@ -30,6 +30,25 @@ pub with_numeral_is : (c : ℤ → Command) (cs : List ℕ) → with_numeral c c
 unfolding small_number
 with_numeral_is c cs = chosen c (is_small (decimal cs)) (pos (decimal cs))
 
+pub with_numeral_ok : (c : ℤ → Command) (cs : List ℕ) (n : ℤ) → Ok n ≡ small_number cs → with_numeral c cs ≡ Ok (c n)
+with_numeral_ok c cs n h = with_numeral_is c cs ∙ ap (map_ok c) (sym h)
+
+pub with_numeral_err : (c : ℤ → Command) (cs : List ℕ) (r : Refusal) → Err r ≡ small_number cs → with_numeral c cs ≡ Err r
+with_numeral_err c cs r h = with_numeral_is c cs ∙ ap (map_ok c) (sym h)
+
+levels_is : (c : ℤ → Command) (ss : Sexps) → levels c ss ≡ map_ok c (level_count ss)
+levels_is c end = refl
+levels_is c (word (Numeral cs) ▸ end) = with_numeral_is c cs
+levels_is c _ = refl
+
+pub levels_ok : (c : ℤ → Command) (ss : Sexps) (n : ℤ) → Ok n ≡ level_count ss → levels c ss ≡ Ok (c n)
+levels_ok c ss n h = levels_is c ss ∙ ap (map_ok c) (sym h)
+
+pub levels_err : (c : ℤ → Command) (ss : Sexps) (r : Refusal) → Err r ≡ level_count ss → levels c ss ≡ Err r
+levels_err c ss r h = levels_is c ss ∙ ap (map_ok c) (sym h)
+
+pub ruleset level_rules = (levels_ok, levels_err)
+
 numeral_setting_is : (o : ℤ → OptionSetting) (v : Option Token) → numeral_setting o (value_sexp v) ≡ map_ok (λ n. SetOption (o n)) (number_in v)
 numeral_setting_is o None = refl
 numeral_setting_is o (Some (Numeral cs)) = with_numeral_is (λ n. SetOption (o n)) cs
@@ -41,7 +60,7 @@ numeral_ok o v n h = numeral_setting_is o v ∙ ap (map_ok (λ n. SetOption (o n
 pub numeral_err : (o : ℤ → OptionSetting) (v : Option Token) (r : Refusal) → Err r ≡ number_in v → numeral_setting o (value_sexp v) ≡ Err r
 numeral_err o v r h = numeral_setting_is o v ∙ ap (map_ok (λ n. SetOption (o n))) (sym h)
 
-pub ruleset numerals = (numeral_ok, numeral_err)
+pub ruleset numerals = (with_numeral_ok, with_numeral_err, numeral_ok, numeral_err)
 
 -- ---- lists as values
 

@@ -1,3 +1,4 @@
 pub mod Arguments
 pub mod Values
 pub mod Names
+pub mod FormOf

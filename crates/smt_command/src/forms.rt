@@ -1,5 +1,6 @@
 ghost use Rattle.std.specs.Prelude.{◌≡◌, IfOk};
-ghost use Rattle.smt_meaning.specs.Command.{bare, set_logic, echo, declare_sort, define_sort, declare_const, declare_fun, define_fun, assert_form, get_value};
+ghost use Rattle.smt_meaning.specs.declared.commands.Command.TheVariants.{DeclareSort, Push, Pop};
+ghost use Rattle.smt_meaning.specs.Command.{bare, levels, with_numeral, set_logic, echo, declare_sort, define_sort, declare_const, declare_fun, define_fun, assert_form, get_value};
 ghost use Rattle.smt_command.specs.Arguments.{left};
 ghost use Rattle.smt_command.specs.Values.{level_count};
 
@@ -7,7 +8,7 @@ use crate::arguments::Arguments;
 use crate::lists;
 use crate::number::number;
 use smt_meaning::language::Command;
-use smt_meaning::{Refusal, Seq};
+use smt_meaning::{Bytes, Refusal, Seq};
 use std::alloc::{AllocError, Global};
 
 /// A command without arguments.
@@ -22,7 +23,7 @@ pub fn bare(command: Command, arguments: &Arguments<'_>) -> Result<Command, Refu
 }
 
 /// A number of levels: 1 without arguments, or a numeral.
-pub fn level_count(mut arguments: Arguments<'_>) -> Result<i128, Refusal>
+fn level_count(mut arguments: Arguments<'_>) -> Result<i128, Refusal>
     ensures { result ≡ level_count (left arguments.entry) }
 {
     if arguments.is_end() {
@@ -35,6 +36,22 @@ pub fn level_count(mut arguments: Arguments<'_>) -> Result<i128, Refusal>
         return Err(Refusal::WrongArguments);
     }
     number(digits)
+}
+
+/// The command `push` with these arguments: nothing, or a numeral.
+#[tactic(auto, using(crate::proofs::OptionForms::level_rules))]
+pub fn push(arguments: Arguments<'_>) -> Result<Command, Refusal>
+    ensures { result ≡ levels Push (left arguments.entry) }
+{
+    Ok(Command::Push(level_count(arguments)?))
+}
+
+/// The command `pop` with these arguments: nothing, or a numeral.
+#[tactic(auto, using(crate::proofs::OptionForms::level_rules))]
+pub fn pop(arguments: Arguments<'_>) -> Result<Command, Refusal>
+    ensures { result ≡ levels Pop (left arguments.entry) }
+{
+    Ok(Command::Pop(level_count(arguments)?))
 }
 
 /// The command `set-logic` with these arguments: a symbol.
@@ -76,10 +93,15 @@ pub fn declare_sort(alloc: Global, mut arguments: Arguments<'_>) -> Result<Resul
     if !arguments.is_end() {
         return Ok(Err(Refusal::WrongArguments));
     }
-    match number(digits) {
-        Ok(arity) => Ok(Ok(Command::DeclareSort(Seq::copy(alloc, name)?, arity))),
-        Err(refusal) => Ok(Err(refusal)),
-    }
+    Ok(sort_declaration(Seq::copy(alloc, name)?, digits))
+}
+
+/// The command `declare-sort` with a name and the digits of an arity.
+#[tactic(auto, using(crate::proofs::OptionForms::numerals))]
+fn sort_declaration(name: Bytes, digits: &[u8]) -> Result<Command, Refusal>
+    ensures { result ≡ with_numeral (DeclareSort name) digits.now }
+{
+    Ok(Command::DeclareSort(name, number(digits)?))
 }
 
 /// The command `define-sort` with these arguments: a symbol, a list of symbols and a sort.

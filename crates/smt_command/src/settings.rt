@@ -13,7 +13,6 @@ use smt_meaning::language::{Channel, Command, OptionName, OptionSetting};
 use smt_meaning::{Refusal, TokenView};
 
 /// The command `set-option` with these arguments: a keyword and a value.
-#[tactic(auto, using(crate::proofs::OptionForms::set_option_known))]
 pub fn set_option(mut arguments: Arguments<'_>) -> Result<Command, Refusal>
     ensures { result ≡ set_option (left arguments.entry) }
 {
