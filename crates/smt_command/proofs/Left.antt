@@ -1,17 +1,17 @@
 -- What is left of the innermost list, from its next token.
-use Rattle.std.proofs.Common.{◌≡◌, ◌⊎◌, inl, inr, ⊎_elim, ℕ, zero, suc, ◌+◌, ◌-◌, ◌≤◌, ◌<◌, List, [], ◌∷◌, drop, take, length, sym, ap, subst, ◌∙◌, refl, arith, true, false, Some, None, Option, Bool}
+use Rattle.std.proofs.Common.{◌≡◌, ◌⊎◌, inl, inr, ⊎_elim, ◌+◌, ◌≤◌, List, [], ◌∷◌, drop, length, sym, ap, subst, ◌∙◌, refl, arith, false, None}
 use Rattle.std.proofs.Math.ListN.{drop_of_length-le}
 use Rattle.smt_meaning.specs.declared.tokens.Token.{Token}
 use Rattle.smt_meaning.specs.declared.tokens.Token.TheVariants.{Enter, Leave}
 use Rattle.smt_meaning.specs.declared.tokens.TokenView.{TokenView}
-use Rattle.smt_meaning.specs.declared.tokens.TokenView.TheVariants.{Enter as EnterSeen, Leave as LeaveSeen, Numeral as NumeralSeen, Decimal as DecimalSeen, Hex as HexSeen, Binary as BinarySeen, Text as TextSeen, Symbol as SymbolSeen, Reserved as ReservedSeen, Keyword as KeywordSeen}
+use Rattle.smt_meaning.specs.declared.tokens.TokenView.TheVariants.{Enter as EnterSeen, Leave as LeaveSeen}
 use Rattle.smt_meaning.specs.Seen.{seen}
 use Rattle.smt_meaning.specs.Reading.{IsSExpr}
-use Rattle.smt_meaning.specs.Sexp.{Sexp, Sexps, word, group, end, ◌▸◌, before, open_lists_of, sexp, is_parenthesis}
+use Rattle.smt_meaning.specs.Sexp.{Sexps, word, group, end, ◌▸◌, before, open_lists_of, sexp, is_parenthesis}
 use Rattle.term_laws.proofs.SExprLaw.{read_back}
 use Rattle.smt_command.specs.declared.arguments.Arguments.{Arguments}
 use Rattle.smt_command.specs.Arguments.{left, innermost, open_lists, is_end, rest_of, first_by, parts, token_in}
-use Rattle.smt_command.proofs.OpenLists.{Fine, IsSome, fine_at, before_word, before_leave, before_enter}
+use Rattle.smt_command.proofs.OpenLists.{IsSome, fine_at, before_word, before_leave, before_enter}
 
 -- behind the next token
 abbrev pub next : Arguments → Arguments
@@ -118,6 +118,7 @@ behind_word a t h e p q =
     first_is : (lists : List Sexps) → IsSome lists → lists ≡ innermost lists ∷ drop 1 lists
     first_is [] s = absurd s
     first_is (x ∷ rest) s = refl
+
     some_is : (b : Arguments) → IsSome (open_lists b) → open_lists b ≡ left b ∷ drop 1 (open_lists b)
     some_is b s = first_is (open_lists b) s ∙ ap (λ x. x ∷ drop 1 (open_lists b)) (sym (left_lists b))
 

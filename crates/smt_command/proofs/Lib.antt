@@ -4,3 +4,4 @@ pub mod Parts
 pub mod ReadAll
 pub mod LookUps
 pub mod OptionForms
+pub mod Judged

@@ -1,11 +1,11 @@
 -- The lists that are open at a place of an s-expression's tokens.
-use Rattle.std.proofs.Common.{◌≡◌, ◌≢◌, ℕ, zero, suc, ◌+◌, ◌-◌, ◌≤◌, ◌<◌, List, [], ◌∷◌, ◌++◌, drop, take, length, sym, ap, subst, ◌∙◌, refl, arith, true, false, not, append_assoc, Some, None, Option, Bool}
+use Rattle.std.proofs.Common.{◌≡◌, ℕ, zero, suc, ◌+◌, ◌-◌, ◌≤◌, ◌<◌, List, [], ◌∷◌, drop, length, sym, ap, subst, refl, arith, true, false, not}
 use Rattle.smt_meaning.specs.declared.tokens.Token.{Token}
 use Rattle.smt_meaning.specs.declared.tokens.Token.TheVariants.{Enter, Leave, Numeral, Decimal, Hex, Binary, Text, Symbol, Reserved, Keyword}
 use Rattle.smt_meaning.specs.Reading.{IsSExpr, most_open}
-use Rattle.smt_meaning.specs.Sexp.{Sexp, Sexps, word, group, end, ◌▸◌, tokens, tokens_of, before, open_lists_of, sexp, IsSexp, is_parenthesis, is_proper, are_proper, nested, deepest}
+use Rattle.smt_meaning.specs.Sexp.{Sexps, word, group, end, ◌▸◌, before, open_lists_of, sexp, is_parenthesis, is_proper, are_proper, deepest}
 use Rattle.term_laws.proofs.Both.{and_left, and_right, and_both}
-use Rattle.term_laws.proofs.SExprLaw.{read_back, are_sexprs}
+use Rattle.term_laws.proofs.SExprLaw.{read_back}
 use Rattle.smt_command.specs.Arguments.{innermost, depth_behind}
 
 -- ---- each open list may stand in an s-expression

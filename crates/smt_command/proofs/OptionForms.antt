@@ -3,13 +3,13 @@ use Rattle.std.proofs.Common.{◌≡◌, ℕ, ℤ, pos, List, [], Bool, true, fa
 use Rattle.smt_meaning.specs.declared.tokens.Token.{Token}
 use Rattle.smt_meaning.specs.declared.tokens.Token.TheVariants.{Numeral, Keyword}
 use Rattle.smt_meaning.specs.declared.refusals.Refusal.{Refusal}
-use Rattle.smt_meaning.specs.declared.refusals.Refusal.TheVariants.{NumeralTooLarge, WrongArguments}
+use Rattle.smt_meaning.specs.declared.refusals.Refusal.TheVariants.{NumeralTooLarge}
 use Rattle.smt_meaning.specs.declared.options.OptionSetting.{OptionSetting}
 use Rattle.smt_meaning.specs.declared.options.OptionName.{OptionName}
 use Rattle.smt_meaning.specs.declared.options.OptionName.TheVariants as Named
 use Rattle.smt_meaning.specs.declared.commands.Command.{Command}
-use Rattle.smt_meaning.specs.declared.commands.Command.TheVariants.{SetOption}
-use Rattle.smt_meaning.specs.Sexp.{Sexp, Sexps, word, group, end, ◌▸◌}
+use Rattle.smt_meaning.specs.declared.commands.Command.TheVariants.{SetOption, DeclareSort}
+use Rattle.smt_meaning.specs.Sexp.{Sexps, word, group, end, ◌▸◌}
 use Rattle.smt_meaning.specs.Signature.{look_up}
 use Rattle.smt_meaning.specs.Sorts.{decimal, is_small}
 use Rattle.smt_meaning.specs.Command.{with_numeral, levels, numeral_setting, setting, setting_of, option_names, set_option}
@@ -26,15 +26,23 @@ chosen : {A B : Type 0} (f : A → B) (b : Bool) (a : A) → cond b (Ok (f a)) (
 chosen f true a = refl
 chosen f false a = refl
 
-pub with_numeral_is : (c : ℤ → Command) (cs : List ℕ) → with_numeral c cs ≡ map_ok c (small_number cs)
+with_numeral_is : (c : ℤ → Command) (cs : List ℕ) → with_numeral c cs ≡ map_ok c (small_number cs)
 unfolding small_number
 with_numeral_is c cs = chosen c (is_small (decimal cs)) (pos (decimal cs))
 
-pub with_numeral_ok : (c : ℤ → Command) (cs : List ℕ) (n : ℤ) → Ok n ≡ small_number cs → with_numeral c cs ≡ Ok (c n)
+with_numeral_ok : (c : ℤ → Command) (cs : List ℕ) (n : ℤ) → Ok n ≡ small_number cs → with_numeral c cs ≡ Ok (c n)
 with_numeral_ok c cs n h = with_numeral_is c cs ∙ ap (map_ok c) (sym h)
 
-pub with_numeral_err : (c : ℤ → Command) (cs : List ℕ) (r : Refusal) → Err r ≡ small_number cs → with_numeral c cs ≡ Err r
+with_numeral_err : (c : ℤ → Command) (cs : List ℕ) (r : Refusal) → Err r ≡ small_number cs → with_numeral c cs ≡ Err r
 with_numeral_err c cs r h = with_numeral_is c cs ∙ ap (map_ok c) (sym h)
+
+pub sort_declared : (n : List ℕ) (cs : List ℕ) (z : ℤ) → Ok z ≡ small_number cs → with_numeral (DeclareSort n) cs ≡ Ok (DeclareSort n z)
+sort_declared n cs z h = with_numeral_ok (DeclareSort n) cs z h
+
+pub sort_refused : (n : List ℕ) (cs : List ℕ) (r : Refusal) → Err r ≡ small_number cs → with_numeral (DeclareSort n) cs ≡ Err r
+sort_refused n cs r h = with_numeral_err (DeclareSort n) cs r h
+
+pub ruleset sort_rules = (sort_declared, sort_refused)
 
 levels_is : (c : ℤ → Command) (ss : Sexps) → levels c ss ≡ map_ok c (level_count ss)
 levels_is c end = refl
@@ -60,7 +68,7 @@ numeral_ok o v n h = numeral_setting_is o v ∙ ap (map_ok (λ n. SetOption (o n
 pub numeral_err : (o : ℤ → OptionSetting) (v : Option Token) (r : Refusal) → Err r ≡ number_in v → numeral_setting o (value_sexp v) ≡ Err r
 numeral_err o v r h = numeral_setting_is o v ∙ ap (map_ok (λ n. SetOption (o n))) (sym h)
 
-pub ruleset numerals = (with_numeral_ok, with_numeral_err, numeral_ok, numeral_err)
+pub ruleset numerals = (numeral_ok, numeral_err)
 
 -- ---- lists as values
 

@@ -1,12 +1,12 @@
 -- The tokens of the next s-expression.
-use Rattle.std.proofs.Common.{◌≡◌, ◌⊎◌, ⊎_elim, ℕ, ◌+◌, ◌-◌, ◌≤◌, ◌<◌, List, [], ◌∷◌, ◌++◌, drop, take, length, length-append, length-drop, sym, ap, subst, ◌∙◌, refl, arith, true, false, Some, None, Bool, append_assoc}
+use Rattle.std.proofs.Common.{◌≡◌, ⊎_elim, ℕ, ◌-◌, ◌≤◌, ◌<◌, List, [], ◌∷◌, ◌++◌, drop, take, length, length-append, length-drop, sym, ap, subst, ◌∙◌, refl, arith, true, false, Some, append_assoc}
 use Rattle.std.proofs.lemmas.Bool.{cases_lt}
 use Rattle.std.proofs.Math.Seq.{take-append_seam}
 use Rattle.std.specs.List.{slice_range}
 use Rattle.smt_meaning.specs.declared.tokens.Token.{Token}
 use Rattle.smt_meaning.specs.declared.tokens.Token.TheVariants.{Enter, Leave, Numeral, Decimal, Hex, Binary, Text, Symbol, Reserved, Keyword}
-use Rattle.smt_meaning.specs.Reading.{IsSExpr, most_open}
-use Rattle.smt_meaning.specs.Sexp.{Sexp, Sexps, word, group, end, ◌▸◌, tokens, tokens_of, before, open_lists_of, is_proper, are_proper, nested, deepest}
+use Rattle.smt_meaning.specs.Reading.{IsSExpr}
+use Rattle.smt_meaning.specs.Sexp.{Sexp, Sexps, word, group, end, ◌▸◌, tokens, tokens_of, before, open_lists_of, is_proper, are_proper}
 use Rattle.term_laws.proofs.Both.{and_left}
 use Rattle.term_laws.proofs.SExprLaw.{are_sexprs}
 use Rattle.smt_command.specs.declared.arguments.Arguments.{Arguments}
@@ -88,11 +88,11 @@ part_of a b ts p q m e h o w =
     let fb = fine_at ts m b.place in
     let e' : false ≡ is_end (innermost (open_lists_of (drop a.place ts))) = e ∙ ap is_end (left_lists a) ∙ ap (λ l. is_end (innermost l)) la in
     let h' : open_lists_of (drop b.place ts) ≡ rest_of (innermost (open_lists_of (drop a.place ts))) ∷ drop 1 (open_lists_of (drop a.place ts)) =
-      sym lb ∙ h ∙ ap (λ x. rest_of x ∷ drop 1 (open_lists a)) (left_lists a) ∙ ap (λ l. rest_of (innermost l) ∷ drop 1 l) la in
+    sym lb ∙ h ∙ ap (λ x. rest_of x ∷ drop 1 (open_lists a)) (left_lists a) ∙ ap (λ l. rest_of (innermost l) ∷ drop 1 l) la in
     let s : Splits (open_lists_of (drop a.place ts)) (drop a.place ts) (drop b.place ts) =
-      splits (open_lists_of (drop a.place ts)) (open_lists_of (drop b.place ts)) (drop a.place ts) (drop b.place ts) (written_back (drop a.place ts) fa.some) (written_back (drop b.place ts) fb.some) fa e' h' in
+    splits (open_lists_of (drop a.place ts)) (open_lists_of (drop b.place ts)) (drop a.place ts) (drop b.place ts) (written_back (drop a.place ts) fa.some) (written_back (drop b.place ts) fb.some) fa e' h' in
     let sizes : b.place - a.place ≡ length (tokens s.tree) =
-      omega (arith, ap length s.split, length-append (tokens s.tree) (drop b.place ts), length-drop a.place ts, length-drop b.place ts) in
+    omega (arith, ap length s.split, length-append (tokens s.tree) (drop b.place ts), length-drop a.place ts, length-drop b.place ts) in
     let same : take (b.place - a.place) (drop a.place ts) ≡ tokens s.tree = same_part (tokens s.tree) (drop b.place ts) (drop a.place ts) (b.place - a.place) s.split sizes in
     let whole : slice_range b.sexpr.now a.place b.place ≡ tokens s.tree = ap (λ us. take (b.place - a.place) (drop a.place us)) q ∙ same in
     record {

@@ -1,7 +1,7 @@
 -- The s-expressions that are left to read of a list.
 use Rattle.std.specs.Prelude.{ℕ, ◌+◌, ◌-◌, List, [], ◌∷◌, drop, Bool, true, false, Option, Some, None}
 use Rattle.smt_meaning.specs.declared.tokens.Token.{Token}
-use Rattle.smt_meaning.specs.declared.tokens.Token.TheVariants.{Enter, Leave, Numeral, Text, Symbol, Keyword}
+use Rattle.smt_meaning.specs.declared.tokens.Token.TheVariants.{Enter, Leave, Numeral, Text, Keyword}
 use Rattle.smt_meaning.specs.Sexp.{Sexp, Sexps, word, group, end, ◌▸◌, open_lists_of, tokens}
 use Rattle.smt_command.specs.declared.arguments.Arguments.{Arguments}
 

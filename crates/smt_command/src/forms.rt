@@ -55,7 +55,10 @@ pub fn pop(arguments: Arguments<'_>) -> Result<Command, Refusal>
 }
 
 /// The command `set-logic` with these arguments: a symbol.
-pub fn set_logic(alloc: Global, mut arguments: Arguments<'_>) -> Result<Result<Command, Refusal>, AllocError>
+pub fn set_logic(
+    alloc: Global,
+    mut arguments: Arguments<'_>,
+) -> Result<Result<Command, Refusal>, AllocError>
     ensures { IfOk result (λ r. r ≡ set_logic (left arguments.entry)) }
 {
     let Some(name) = arguments.symbol() else {
@@ -68,7 +71,10 @@ pub fn set_logic(alloc: Global, mut arguments: Arguments<'_>) -> Result<Result<C
 }
 
 /// The command `echo` with these arguments: a string literal.
-pub fn echo(alloc: Global, mut arguments: Arguments<'_>) -> Result<Result<Command, Refusal>, AllocError>
+pub fn echo(
+    alloc: Global,
+    mut arguments: Arguments<'_>,
+) -> Result<Result<Command, Refusal>, AllocError>
     ensures { IfOk result (λ r. r ≡ echo (left arguments.entry)) }
 {
     let Some(text) = arguments.text() else {
@@ -81,7 +87,10 @@ pub fn echo(alloc: Global, mut arguments: Arguments<'_>) -> Result<Result<Comman
 }
 
 /// The command `declare-sort` with these arguments: a symbol and a numeral.
-pub fn declare_sort(alloc: Global, mut arguments: Arguments<'_>) -> Result<Result<Command, Refusal>, AllocError>
+pub fn declare_sort(
+    alloc: Global,
+    mut arguments: Arguments<'_>,
+) -> Result<Result<Command, Refusal>, AllocError>
     ensures { IfOk result (λ r. r ≡ declare_sort (left arguments.entry)) }
 {
     let Some(name) = arguments.symbol() else {
@@ -97,7 +106,7 @@ pub fn declare_sort(alloc: Global, mut arguments: Arguments<'_>) -> Result<Resul
 }
 
 /// The command `declare-sort` with a name and the digits of an arity.
-#[tactic(auto, using(crate::proofs::OptionForms::numerals))]
+#[tactic(auto, using(crate::proofs::OptionForms::sort_rules))]
 fn sort_declaration(name: Bytes, digits: &[u8]) -> Result<Command, Refusal>
     ensures { result ≡ with_numeral (DeclareSort name) digits.now }
 {
@@ -105,7 +114,10 @@ fn sort_declaration(name: Bytes, digits: &[u8]) -> Result<Command, Refusal>
 }
 
 /// The command `define-sort` with these arguments: a symbol, a list of symbols and a sort.
-pub fn define_sort(alloc: Global, mut arguments: Arguments<'_>) -> Result<Result<Command, Refusal>, AllocError>
+pub fn define_sort(
+    alloc: Global,
+    mut arguments: Arguments<'_>,
+) -> Result<Result<Command, Refusal>, AllocError>
     ensures { IfOk result (λ r. r ≡ define_sort (left arguments.entry)) }
 {
     let Some(name) = arguments.symbol() else {
@@ -127,7 +139,10 @@ pub fn define_sort(alloc: Global, mut arguments: Arguments<'_>) -> Result<Result
 }
 
 /// The command `declare-const` with these arguments: a symbol and a sort.
-pub fn declare_const(alloc: Global, mut arguments: Arguments<'_>) -> Result<Result<Command, Refusal>, AllocError>
+pub fn declare_const(
+    alloc: Global,
+    mut arguments: Arguments<'_>,
+) -> Result<Result<Command, Refusal>, AllocError>
     ensures { IfOk result (λ r. r ≡ declare_const (left arguments.entry)) }
 {
     let Some(name) = arguments.symbol() else {
@@ -143,7 +158,10 @@ pub fn declare_const(alloc: Global, mut arguments: Arguments<'_>) -> Result<Resu
 }
 
 /// The command `declare-fun` with these arguments: a symbol, a list of sorts and a sort.
-pub fn declare_fun(alloc: Global, mut arguments: Arguments<'_>) -> Result<Result<Command, Refusal>, AllocError>
+pub fn declare_fun(
+    alloc: Global,
+    mut arguments: Arguments<'_>,
+) -> Result<Result<Command, Refusal>, AllocError>
     ensures { IfOk result (λ r. r ≡ declare_fun (left arguments.entry)) }
 {
     let Some(name) = arguments.symbol() else {
@@ -165,7 +183,10 @@ pub fn declare_fun(alloc: Global, mut arguments: Arguments<'_>) -> Result<Result
 }
 
 /// The command `define-fun` with these arguments: a symbol, a list of symbols with their sorts, a sort and a term.
-pub fn define_fun(alloc: Global, mut arguments: Arguments<'_>) -> Result<Result<Command, Refusal>, AllocError>
+pub fn define_fun(
+    alloc: Global,
+    mut arguments: Arguments<'_>,
+) -> Result<Result<Command, Refusal>, AllocError>
     ensures { IfOk result (λ r. r ≡ define_fun (left arguments.entry)) }
 {
     let Some(name) = arguments.symbol() else {
@@ -190,7 +211,10 @@ pub fn define_fun(alloc: Global, mut arguments: Arguments<'_>) -> Result<Result<
 }
 
 /// The command `assert` with these arguments: a term.
-pub fn assert_form(alloc: Global, mut arguments: Arguments<'_>) -> Result<Result<Command, Refusal>, AllocError>
+pub fn assert_form(
+    alloc: Global,
+    mut arguments: Arguments<'_>,
+) -> Result<Result<Command, Refusal>, AllocError>
     ensures { IfOk result (λ r. r ≡ assert_form (left arguments.entry)) }
 {
     let Some(term) = arguments.term(alloc)? else {
@@ -203,7 +227,10 @@ pub fn assert_form(alloc: Global, mut arguments: Arguments<'_>) -> Result<Result
 }
 
 /// The command `get-value` with these arguments: a list of terms, of which there is one at least.
-pub fn get_value(alloc: Global, mut arguments: Arguments<'_>) -> Result<Result<Command, Refusal>, AllocError>
+pub fn get_value(
+    alloc: Global,
+    mut arguments: Arguments<'_>,
+) -> Result<Result<Command, Refusal>, AllocError>
     ensures { IfOk result (λ r. r ≡ get_value (left arguments.entry)) }
 {
     let Some(inside) = arguments.list() else {

@@ -5,9 +5,8 @@ ghost use Rattle.smt_command.specs.Arguments.{left};
 ghost use Rattle.smt_command.specs.FormOf.{form_of};
 
 use crate::arguments::Arguments;
-use crate::forms;
 use crate::names::{CommandName, command_name};
-use crate::settings;
+use crate::{forms, settings};
 use smt_meaning::language::{Command, Error};
 use smt_meaning::{Refusal, SExpr, Seq};
 use std::alloc::{AllocError, Global};
@@ -32,7 +31,11 @@ pub fn command(alloc: Global, sexpr: &SExpr) -> Result<Result<Command, Error>, A
 }
 
 /// The command of this name with these arguments.
-fn formed(alloc: Global, name: CommandName, arguments: Arguments<'_>) -> Result<Result<Command, Refusal>, AllocError>
+fn formed(
+    alloc: Global,
+    name: CommandName,
+    arguments: Arguments<'_>,
+) -> Result<Result<Command, Refusal>, AllocError>
     ensures { IfOk result (λ r. r ≡ form_of name (left arguments.entry)) }
 {
     match name {

@@ -22,7 +22,10 @@ pub fn symbols(alloc: Global, mut inside: Arguments<'_>) -> Result<Option<Seq<By
 }
 
 /// The sorts in a list of sorts.
-pub fn sorts(alloc: Global, mut inside: Arguments<'_>) -> Result<Option<Seq<WrittenSort>>, AllocError>
+pub fn sorts(
+    alloc: Global,
+    mut inside: Arguments<'_>,
+) -> Result<Option<Seq<WrittenSort>>, AllocError>
     ensures { IfOk result (λ r. r ≡ each written_sort (left inside.entry)) }
 {
     let mut sorts = Seq::new(alloc);
@@ -36,7 +39,10 @@ pub fn sorts(alloc: Global, mut inside: Arguments<'_>) -> Result<Option<Seq<Writ
 }
 
 /// The parameters in a list of symbols with their sorts.
-pub fn parameters(alloc: Global, mut inside: Arguments<'_>) -> Result<Option<Seq<Parameter>>, AllocError>
+pub fn parameters(
+    alloc: Global,
+    mut inside: Arguments<'_>,
+) -> Result<Option<Seq<Parameter>>, AllocError>
     ensures { IfOk result (λ r. r ≡ each parameter (left inside.entry)) }
 {
     let mut parameters = Seq::new(alloc);

@@ -82,7 +82,11 @@ fn only_value(mut arguments: Arguments<'_>) -> Option<Option<TokenView<'_>>>
         return None;
     }
     arguments.skip();
-    if arguments.is_end() { Some(value) } else { None }
+    if arguments.is_end() {
+        Some(value)
+    } else {
+        None
+    }
 }
 
 /// An option with its value: a token, or `None` for a list.

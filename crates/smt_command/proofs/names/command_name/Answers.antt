@@ -1,5 +1,4 @@
-use Rattle.std.proofs.Common.{◌∙◌, ◌++◌, List, ℕ, map, None, Some, ◌≡◌, refl}
-use Rattle.smt_meaning.specs.Signature.{look_up}
+use Rattle.std.proofs.Common.{◌∙◌, ◌++◌, List, ℕ, map, refl}
 use Rattle.smt_command.specs.declared.names.CommandName.{CommandName}
 use Rattle.smt_command.specs.declared.names.CommandName.TheVariants.{LeftOut}
 use Rattle.smt_command.specs.Names.{command_names, setting_names, session_names, declaration_names, stack_names, answer_names, left_out_names, left_out}

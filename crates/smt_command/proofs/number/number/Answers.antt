@@ -1,4 +1,4 @@
-use Rattle.std.proofs.Common.{◌≡◌, ℕ, ◌+◌, ◌-◌, ◌*◌, ◌^◌, ◌<◌, ◌≤◌, ltb, suc, List, [], ◌∷◌, get_or, drop, length, true, false, cond, Ok, Err, pos, sym, ap, ◌∙◌, refl, arith, add-one}
+use Rattle.std.proofs.Common.{◌≡◌, ℕ, ◌+◌, ◌-◌, ◌*◌, ◌^◌, ◌<◌, ◌≤◌, suc, List, [], ◌∷◌, get_or, drop, length, cond, Ok, Err, pos, sym, ap, ◌∙◌, arith}
 use mir.Syntax.{w128}
 use Rattle.std.proofs.lemmas.Bool.{le-ltb, lt-ltb}
 use Rattle.std.proofs.lemmas.Int.{to_z_pos}
