@@ -1,7 +1,7 @@
 -- The logics that the program knows.
 use Rattle.std.proofs.Common.{◌≡◌, ℕ, List, refl, arith, Option, Some, None, true, false, is_some}
 use Rattle.std.specs.List.{Contains}
-use Rattle.smt_meaning.specs.Commands.{logics}
+use Rattle.first_path.specs.Commands.{logics}
 use Rattle.smt_top.specs.Logics.{logic_name}
 use Rattle.smt_top.specs.declared.logic.Logic.{Logic}
 use Rattle.smt_top.specs.declared.logic.Logic.TheVariants.{UninterpretedLinear, Uninterpreted, Linear, Difference, UninterpretedDifference, All}

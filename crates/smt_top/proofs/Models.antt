@@ -7,8 +7,8 @@ use Rattle.std.proofs.lemmas.Bool.Decides.{not_from_Decides}
 use Rattle.std.proofs.lemmas.Slice.Eq.{bytes_eq-Decides}
 use Rattle.std.specs.List.{All, Contains, range_with_len}
 use Rattle.std.specs.Str.{bytes_eq}
-use Rattle.smt_meaning.specs.Commands.{State, IsConstant, value_of, term_value, Holds}
-use Rattle.smt_meaning.specs.declared.replies.ConstantLiteral.{ConstantLiteral}
+use Rattle.first_path.specs.Commands.{State, IsConstant, value_of, term_value, Holds}
+use Rattle.first_path.specs.declared.replies.ConstantLiteral.{ConstantLiteral}
 use Rattle.smt_meaning.specs.declared.values.Table.{Table}
 use Rattle.smt_top.specs.Decide.{IsReached, IsTableOf, AreTables, Clash}
 

@@ -2,7 +2,7 @@
 use Rattle.std.proofs.Common.{ℕ, ◌<◌, List, [], ◌∷◌, ◌++◌, length, arith, length-append}
 use Rattle.std.proofs.lemmas.List.Elements.{Contains-append_left, All-push, All-weaker}
 use Rattle.std.specs.List.{Contains}
-use Rattle.smt_meaning.specs.declared.replies.ConstantLiteral.{ConstantLiteral}
+use Rattle.first_path.specs.declared.replies.ConstantLiteral.{ConstantLiteral}
 use Rattle.smt_top.specs.Decide.{IsReached}
 
 pub asserted : (ds : List (List ℕ)) (ls : List ConstantLiteral) (l : ConstantLiteral) → IsReached ds ls → Contains ds l.name

@@ -3,9 +3,9 @@ use Rattle.std.proofs.Common.{◌≡◌, ◌<◌, ◌⊎◌, inl, inr, ℕ, true
 use Rattle.std.specs.Prelude.{IfSome}
 use Rattle.std.specs.Io.KnownBytes.{Consumes}
 use Rattle.smt_meaning.specs.Reading.{Unread}
-use Rattle.smt_meaning.specs.Commands.{State, start}
-use Rattle.smt_meaning.specs.Journal.{beginning, IsLegal, IsLegalSoFar, AnswersSettled}
-use Rattle.smt_meaning.specs.declared.replies.Entry.{Entry}
+use Rattle.first_path.specs.Commands.{State, start}
+use Rattle.first_path.specs.Journal.{beginning, IsLegal, IsLegalSoFar, AnswersSettled}
+use Rattle.first_path.specs.declared.replies.Entry.{Entry}
 use Rattle.smt_meaning.specs.declared.settings.Settings.{Settings}
 use Rattle.smt_words.specs.Words.{are_taken, settings_of}
 use Rattle.smt_words.specs.Causes.{IsCause}

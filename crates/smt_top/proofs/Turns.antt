@@ -4,16 +4,16 @@ use Rattle.std.specs.Io.KnownBytes.{Consumes, Keeps, IsAtEnd}
 use Rattle.std.specs.Bool.{then_some}
 use Rattle.smt_meaning.specs.Reading.{Unread, Answer, MayFollow, IsSettled, Takes, ready, fault, end}
 use Rattle.smt_meaning.specs.declared.settings.Settings.{Settings}
-use Rattle.smt_meaning.specs.Commands.{start}
-use Rattle.smt_meaning.specs.Journal.{Moment, beginning, Answers, Replies, IsCommand, GoesOn, IsLast, Answered, Runs, IsLegal, IsLegalSoFar, IsStopped, AnswersSettled}
+use Rattle.first_path.specs.Commands.{start}
+use Rattle.first_path.specs.Journal.{Moment, beginning, Answers, Replies, IsCommand, GoesOn, IsLast, Answered, Runs, IsLegal, IsLegalSoFar, IsStopped, AnswersSettled}
 use Rattle.smt_meaning.specs.declared.tokens.Token.{Token}
-use Rattle.smt_meaning.specs.declared.replies.Entry.{Entry}
-use Rattle.smt_meaning.specs.declared.replies.Reply.{Reply}
-use Rattle.smt_meaning.specs.declared.replies.Reply.TheVariants.{Fault}
+use Rattle.first_path.specs.declared.replies.Entry.{Entry}
+use Rattle.first_path.specs.declared.replies.Reply.{Reply}
+use Rattle.first_path.specs.declared.replies.Reply.TheVariants.{Fault}
 use Rattle.smt_meaning.specs.declared.replies.Kept.{Kept}
 use Rattle.smt_meaning.specs.declared.replies.Kept.TheVariants.{Nothing}
 use Rattle.smt_meaning.specs.declared.tokens.FaultKind.{FaultKind}
-use Rattle.smt_meaning.specs.declared.replies.Command.TheVariants.{Exit}
+use Rattle.first_path.specs.declared.replies.Command.TheVariants.{Exit}
 use Rattle.smt_top.specs.Progress.{moment, HasAnswered, IsComplete, IsFront, IsOver, NoneSettled, HasEntryAt, Comes, SoFar, Ends, Stands, at_source, at_sink}
 use Rattle.smt_top.specs.declared.serving.Stage.{Stage}
 use Rattle.smt_top.specs.declared.serving.Stage.TheVariants.{Asks, Complete}

@@ -1,14 +1,14 @@
 use Rattle.std.specs.Prelude.{◌≡◌, ◌⊎◌, ◌≤◌, ◌↔◌, ℕ, ◌+◌, List, [], ◌∷◌, Bool, true, false, Contains, All, length, IsTrue, ⊤}
 use Rattle.smt_meaning.specs.declared.values.Table.{Table}
 use Rattle.smt_meaning.specs.declared.values.Value.TheVariants.{Truth}
-use Rattle.smt_meaning.specs.declared.replies.ConstantLiteral.{ConstantLiteral}
-use Rattle.smt_meaning.specs.declared.replies.Command.{Command}
-use Rattle.smt_meaning.specs.declared.replies.Reply.{Reply}
-use Rattle.smt_meaning.specs.declared.replies.Reply.TheVariants.{Unsupported}
+use Rattle.first_path.specs.declared.replies.ConstantLiteral.{ConstantLiteral}
+use Rattle.first_path.specs.declared.replies.Command.{Command}
+use Rattle.first_path.specs.declared.replies.Reply.{Reply}
+use Rattle.first_path.specs.declared.replies.Reply.TheVariants.{Unsupported}
 use Rattle.smt_meaning.specs.declared.replies.Kept.{Kept}
 use Rattle.smt_meaning.specs.declared.replies.Kept.TheVariants.{Nothing}
-use Rattle.smt_meaning.specs.Commands.{State, IsAccepted, after}
-use Rattle.smt_meaning.specs.Journal.{MayReply}
+use Rattle.first_path.specs.Commands.{State, IsAccepted, after}
+use Rattle.first_path.specs.Journal.{MayReply}
 
 -- A constant and its negation are among the literals.
 abbrev pub Clash : List ConstantLiteral → Type 0

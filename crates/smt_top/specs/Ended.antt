@@ -1,8 +1,8 @@
 -- How a run ends.
 use Rattle.std.specs.Prelude.{◌≡◌, ℕ, ◌≤◌, ◌<◌, ◌⊎◌, Any, ⊤, false, List, Result, Ok, Err, length, IfSome, ◌↔◌}
-use Rattle.smt_meaning.specs.declared.replies.Entry.{Entry}
-use Rattle.smt_meaning.specs.declared.replies.Reply.{Reply}
-use Rattle.smt_meaning.specs.declared.replies.Reply.TheVariants.{Fault, Success, Silent, Sat, Unsat, Unsupported}
+use Rattle.first_path.specs.declared.replies.Entry.{Entry}
+use Rattle.first_path.specs.declared.replies.Reply.{Reply}
+use Rattle.first_path.specs.declared.replies.Reply.TheVariants.{Fault, Success, Silent, Sat, Unsat, Unsupported}
 use Rattle.smt_top.specs.declared.serving.Stop.{Stop}
 use Rattle.smt_top.specs.declared.serving.Stop.TheVariants.{Memory as StopMemory, WriteFault as StopWriteFault}
 use Rattle.smt_top.specs.declared.serving.Stage.{Stage}
@@ -12,7 +12,7 @@ use Rattle.smt_top.specs.declared.top.Halt.TheVariants.{Memory, ReadFault, Write
 use Rattle.smt_top.specs.declared.top.Note.{Note}
 use Rattle.smt_top.specs.declared.top.Note.TheVariants.{Fine, Words, ReadFault as ReadNote, WriteFault as WriteNote, NoMemory, TooLong as LongNote}
 use Rattle.ports.specs.Flow.{Rose}
-use Rattle.smt_meaning.specs.Journal.{IsLegal, IsLegalSoFar, AnswersSettled}
+use Rattle.first_path.specs.Journal.{IsLegal, IsLegalSoFar, AnswersSettled}
 use Rattle.smt_words.specs.Words.{are_taken, settings_of}
 use Rattle.smt_words.specs.declared.error.WordsError.{WordsError}
 use Rattle.smt_words.specs.declared.error.WordsError.TheVariants.{Refused, Memory as WordsMemory}

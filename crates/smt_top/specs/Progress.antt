@@ -2,9 +2,9 @@
 use Rattle.std.specs.Prelude.{◌≡◌, ℕ, ◌+◌, ◌*◌, ◌≤◌, ◌<◌, ◌⊎◌, Bool, true, false, List, [], ◌∷◌, ◌++◌, length, take, sum_by, IfSome, Result, Ok, Err}
 use Rattle.std.specs.Io.KnownBytes.{Appends, Consumes, IsAtEnd}
 use Rattle.smt_meaning.specs.Reading.{Answer, IsSettled, MayFollow}
-use Rattle.smt_meaning.specs.Journal.{Moment, beginning, Runs, IsLegal, IsLegalSoFar, IsStopped, AnswersSettled, journal_text, text}
+use Rattle.first_path.specs.Journal.{Moment, beginning, Runs, IsLegal, IsLegalSoFar, IsStopped, AnswersSettled, journal_text, text}
 use Rattle.smt_meaning.specs.declared.settings.Settings.{Settings}
-use Rattle.smt_meaning.specs.declared.replies.Entry.{Entry}
+use Rattle.first_path.specs.declared.replies.Entry.{Entry}
 use Rattle.smt_top.specs.declared.serving.Run.{Run}
 use Rattle.smt_top.specs.declared.serving.Stop.{Stop}
 use Rattle.smt_top.specs.declared.serving.Stop.TheVariants.{Memory as StopMemory, WriteFault as StopWriteFault}

@@ -1,7 +1,7 @@
 -- The command that stands in tokens.
-use Rattle.smt_meaning.specs.declared.replies.Command.{Command}
-use Rattle.smt_meaning.specs.declared.replies.Command.TheVariants.{SetLogic, SetPrintSuccess, DeclareConst, Assert, CheckSat, Exit}
-use Rattle.smt_meaning.specs.declared.replies.ConstantLiteral.{ConstantLiteral}
+use Rattle.first_path.specs.declared.replies.Command.{Command}
+use Rattle.first_path.specs.declared.replies.Command.TheVariants.{SetLogic, SetPrintSuccess, DeclareConst, Assert, CheckSat, Exit}
+use Rattle.first_path.specs.declared.replies.ConstantLiteral.{ConstantLiteral}
 use Rattle.smt_top.specs.declared.command.SpelledLiteral.{SpelledLiteral}
 use Rattle.smt_top.specs.declared.command.Spelled.{Spelled}
 use Rattle.smt_top.specs.declared.command.Spelled.TheVariants.{SetLogic as SpelledLogic, SetPrintSuccess as SpelledPrint, DeclareConst as SpelledConst, Assert as SpelledAssert, CheckSat as SpelledCheckSat, Exit as SpelledExit}

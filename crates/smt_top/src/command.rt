@@ -1,12 +1,13 @@
 ghost use Rattle.std.specs.Prelude.{◌≡◌, ◌++◌, ◌∷◌, [], ℕ, List, Bool, IfOk, IfSome, IfNone, true, false, codes};
 ghost use Rattle.smt_meaning.specs.declared.tokens.Token.{Token as TokenValue};
 ghost use Rattle.smt_meaning.specs.declared.tokens.Token.TheVariants.{Enter, Leave, Symbol, Keyword};
-ghost use Rattle.smt_meaning.specs.declared.replies.ConstantLiteral.{ConstantLiteral as LiteralValue};
-ghost use Rattle.smt_meaning.specs.Commands.{command_tokens, term_tokens, truth_name};
-ghost use Rattle.smt_meaning.specs.declared.replies.Command.{Command as CommandValue};
+ghost use Rattle.first_path.specs.declared.replies.ConstantLiteral.{ConstantLiteral as LiteralValue};
+ghost use Rattle.first_path.specs.Commands.{command_tokens, term_tokens, truth_name};
+ghost use Rattle.first_path.specs.declared.replies.Command.{Command as CommandValue};
 ghost use Rattle.smt_top.specs.Spelled.{command_of, literal_of};
 
-use smt_meaning::{Command, ConstantLiteral, SExpr, Seq, Token};
+use first_path::{Command, ConstantLiteral};
+use smt_meaning::{SExpr, Seq, Token};
 use std::alloc::{AllocError, Global};
 
 /// A constant or its negation, as it stands in the tokens.
@@ -32,10 +33,22 @@ pub fn parse(alloc: Global, sexpr: &SExpr) -> Result<Option<Command>, AllocError
     ensures some { IfOk result (λ r. IfSome r (λ c. sexpr.now ≡ command_tokens c)) }
     ensures none { IfOk result (λ r. IfNone r ((c : CommandValue) → sexpr.now ≡ command_tokens c → ⊥)) }
 {
-    match recognise(sexpr.tokens()) {
+    let tokens = own_tokens(alloc, sexpr)?;
+    match recognise(tokens.as_slice()) {
         Some(spelled) => Ok(Some(owned(alloc, spelled)?)),
         None => Ok(None),
     }
+}
+
+/// The tokens of the s-expression, with bytes of their own.
+fn own_tokens(alloc: Global, sexpr: &SExpr) -> Result<Vec<Token>, AllocError>
+    ensures { IfOk result (λ v. v.items ≡ sexpr.now) }
+{
+    let mut tokens = Vec::new(alloc);
+    for place in 0..sexpr.len() {
+        tokens.push(sexpr.token(place).to_token(alloc)?)?;
+    }
+    Ok(tokens)
 }
 
 /// The command with names of its own.

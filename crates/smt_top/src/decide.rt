@@ -1,10 +1,11 @@
 ghost use Rattle.std.specs.Prelude.{◌≡◌, IfOk, IsTrue, ◌↔◌, Contains, true, false};
-ghost use Rattle.smt_meaning.specs.Journal.{MayDecide};
-ghost use Rattle.smt_meaning.specs.Commands.{Holds, IsInterp};
+ghost use Rattle.first_path.specs.Journal.{MayDecide};
+ghost use Rattle.first_path.specs.Commands.{Holds, IsInterp};
 ghost use Rattle.smt_top.specs.Decide.{Clash};
 
 use crate::stack::Stack;
-use smt_meaning::{Interp, Kept, Reply, Seq, Table, Value};
+use first_path::Reply;
+use smt_meaning::{Interp, Kept, Seq, Table, Value};
 use std::alloc::{AllocError, Global};
 
 /// Whether a constant and its negation are asserted.

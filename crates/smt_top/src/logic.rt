@@ -1,5 +1,5 @@
 ghost use Rattle.std.specs.Prelude.{◌≡◌, IfSome, IfNone, Contains};
-ghost use Rattle.smt_meaning.specs.Commands.{logics};
+ghost use Rattle.first_path.specs.Commands.{logics};
 ghost use Rattle.smt_top.specs.Logics.{logic_name};
 
 /// A logic that scripts may set (SMT-LIB 2.6, section 4.2.1). All are treated alike.

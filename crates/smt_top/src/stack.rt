@@ -1,10 +1,11 @@
 ghost use Rattle.std.specs.Prelude.{◌≡◌, ◌↔◌, ◌<◌, Contains, IsTrue, OnOk, OnErr, length, is_some};
-ghost use Rattle.smt_meaning.specs.Commands.{start, after};
-ghost use Rattle.smt_meaning.specs.declared.replies.Command.TheVariants.{SetLogic, SetPrintSuccess, DeclareConst, Assert, CheckSat};
+ghost use Rattle.first_path.specs.Commands.{start, after};
+ghost use Rattle.first_path.specs.declared.replies.Command.TheVariants.{SetLogic, SetPrintSuccess, DeclareConst, Assert, CheckSat};
 ghost use Rattle.smt_top.specs.Logics.{logic_name};
 
 use crate::logic::Logic;
-use smt_meaning::{ConstantLiteral, Seq, Settings};
+use first_path::ConstantLiteral;
+use smt_meaning::{Seq, Settings};
 use std::alloc::{AllocError, Global};
 use std::marker::Model;
 
@@ -23,7 +24,7 @@ pub struct Stack {
 
 impl Model for Stack {
     ghost use Rattle.std.specs.Prelude.{option_map};
-    ghost use Rattle.smt_meaning.specs.Commands.{State};
+    ghost use Rattle.first_path.specs.Commands.{State};
     ghost use Rattle.smt_top.specs.Decide.{IsReached};
     ghost use Rattle.smt_top.specs.Logics.{logic_name};
 

@@ -1,14 +1,15 @@
 ghost use Rattle.std.specs.Prelude.{◌≡◌, ◌↔◌, false, Contains, map, IfOk, OnErr, IsTrue};
-ghost use Rattle.smt_meaning.specs.Journal.{Replies, IsCommand, success as success_of};
+ghost use Rattle.first_path.specs.Journal.{Replies, IsCommand, success as success_of};
 ghost use Rattle.smt_meaning.specs.Signature.{reserved_functions};
 ghost use Rattle.smt_top.specs.Decide.{CarriesOut};
-ghost use Rattle.smt_meaning.specs.declared.replies.Command.TheVariants.{SetLogic, SetPrintSuccess, DeclareConst, Assert, CheckSat, Exit};
+ghost use Rattle.first_path.specs.declared.replies.Command.TheVariants.{SetLogic, SetPrintSuccess, DeclareConst, Assert, CheckSat, Exit};
 
 use crate::command::parse;
 use crate::decide::decide;
 use crate::logic::Logic;
 use crate::stack::{MOST_SYMBOLS, Stack};
-use smt_meaning::{Command, ConstantLiteral, Kept, Reply, SExpr, Seq};
+use first_path::{Command, ConstantLiteral, Reply};
+use smt_meaning::{Kept, SExpr, Seq};
 use std::alloc::{AllocError, Global};
 
 /// What was done for an s-expression.

@@ -1,13 +1,14 @@
 ghost use Rattle.std.specs.Prelude.{◌≡◌, ◌≤◌, ◌<◌, ◌↔◌, ◌^◌, ◌+◌, [], ℕ, length, map, IsTrue, IfErr, OnOk, false, string_bytes};
 ghost use Rattle.smt_meaning.specs.declared.settings.Settings.{Settings as SettingsValue};
-ghost use Rattle.smt_meaning.specs.Journal.{journal_text};
+ghost use Rattle.first_path.specs.Journal.{journal_text};
 ghost use Rattle.smt_words.specs.Words.{are_taken};
 ghost use Rattle.smt_top.specs.Progress.{CutOff, Ends, NoneSettled, SoFar, Stands, at_sink, at_source, between};
 ghost use Rattle.smt_top.specs.Ended.{IsFaulty, IsUnbegun, MatchesStatus, Ran, StatusOf};
 
 use crate::serving::{Run, Stage, Stop};
 use ports::{Gate, More, Sink, Source};
-use smt_meaning::{Entry, Reply, Seq};
+use first_path::{Entry, Reply};
+use smt_meaning::Seq;
 use smt_words::{WordsError, settings};
 use std::alloc::{AllocError, Global};
 

@@ -4,3 +4,5 @@ mod Shape
 mod Run
 mod UseLemmas
 mod AgainLemmas
+mod FormLemmas
+mod TodoLemmas

@@ -1,8 +1,8 @@
 use Rattle.std.proofs.Common.{inl, sym, subst, ap, ◌∙◌}
 use Rattle.std.specs.List.{Contains}
-use Rattle.smt_meaning.specs.Commands.{logics, after}
-use Rattle.smt_meaning.specs.Journal.{success}
-use Rattle.smt_meaning.specs.declared.replies.Command.TheVariants.{SetLogic}
+use Rattle.first_path.specs.Commands.{logics, after}
+use Rattle.first_path.specs.Journal.{success}
+use Rattle.first_path.specs.declared.replies.Command.TheVariants.{SetLogic}
 use Rattle.smt_top.proofs.Logics.{is_logic, no_logic}
 use Rattle.smt_top.proofs.step.set_logic.Goals as goal
 

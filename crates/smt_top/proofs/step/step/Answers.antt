@@ -1,15 +1,15 @@
 use Rattle.std.proofs.Common.{◌≡◌, arith, inl, inr, sym, ◌∙◌, subst, List, ℕ, refl, Bool, true, false, ◌∷◌, Result, Ok, Err, IfOk}
 use Rattle.std.specs.declared.alloc.AllocError.{AllocError}
 use Rattle.std.specs.Prelude.{codes}
-use Rattle.smt_meaning.specs.declared.replies.ConstantLiteral.{ConstantLiteral}
+use Rattle.first_path.specs.declared.replies.ConstantLiteral.{ConstantLiteral}
 use Rattle.smt_top.specs.declared.step.Done.{Done}
 use Rattle.smt_meaning.specs.declared.tokens.Token.TheVariants.{Enter, Symbol}
-use Rattle.smt_meaning.specs.declared.replies.Command.TheVariants.{SetLogic, SetPrintSuccess, DeclareConst, Assert, CheckSat, Exit}
-use Rattle.smt_meaning.specs.Commands.{State, command_tokens, IsAccepted}
-use Rattle.smt_meaning.specs.Journal.{Replies}
+use Rattle.first_path.specs.declared.replies.Command.TheVariants.{SetLogic, SetPrintSuccess, DeclareConst, Assert, CheckSat, Exit}
+use Rattle.first_path.specs.Commands.{State, command_tokens, IsAccepted}
+use Rattle.first_path.specs.Journal.{Replies}
 use Rattle.smt_meaning.specs.declared.tokens.Token.{Token}
-use Rattle.smt_meaning.specs.declared.replies.Command.{Command}
-use Rattle.smt_meaning.specs.declared.replies.Reply.{Reply}
+use Rattle.first_path.specs.declared.replies.Command.{Command}
+use Rattle.first_path.specs.declared.replies.Reply.{Reply}
 use Rattle.smt_meaning.specs.declared.replies.Kept.{Kept}
 use Rattle.smt_top.specs.Decide.{CarriesOut}
 use Rattle.smt_top.proofs.step.step.Goals as goal

@@ -1,5 +1,5 @@
 use Rattle.std.proofs.Common.{arith, ◌+◌, ◌≡◌, ◌∙◌, ap, sym, refl}
-use Rattle.smt_meaning.specs.Journal.{journal_text}
+use Rattle.first_path.specs.Journal.{journal_text}
 use Rattle.std.proofs.lemmas.Result.{err_from_is_err_and}
 use Rattle.smt_top.proofs.Turns.{cut_at_start, cut_later, over_later}
 use Rattle.smt_top.proofs.top.drive.Goals as goal

@@ -1,5 +1,5 @@
 use Rattle.std.proofs.Common.{◌≡◌, [], vec_len, Ok}
-use Rattle.smt_meaning.specs.Journal.{journal_text}
+use Rattle.first_path.specs.Journal.{journal_text}
 use Rattle.smt_top.specs.Progress.{Stands, between}
 use Rattle.smt_top.proofs.top.drive.Given as goal
 

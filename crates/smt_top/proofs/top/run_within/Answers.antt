@@ -1,6 +1,6 @@
 use Rattle.std.proofs.Common.{◌≡◌, true, refl, ap, sym, ◌∙◌, subst, map, string_bytes}
-use Rattle.smt_meaning.specs.Commands.{State}
-use Rattle.smt_meaning.specs.Journal.{journal_text}
+use Rattle.first_path.specs.Commands.{State}
+use Rattle.first_path.specs.Journal.{journal_text}
 use Rattle.smt_words.specs.Words.{are_taken, settings_of}
 use Rattle.smt_top.specs.Progress.{Stands, between}
 use Rattle.smt_top.proofs.Turns.{not_true}

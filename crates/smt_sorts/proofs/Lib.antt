@@ -1,0 +1,6 @@
+mod CutLemmas
+mod FindLemmas
+mod ListedLemmas
+mod LevelLemmas
+mod TableLemmas
+mod PlaceLemmas
