@@ -5,3 +5,4 @@ pub mod ReadAll
 pub mod LookUps
 pub mod OptionForms
 pub mod Judged
+pub mod FunctionForm

@@ -1,9 +1,12 @@
--- The values of options, and numbers of levels.
+-- The values of options, numbers of levels, and definitions.
 use Rattle.std.specs.Prelude.{ℕ, ℤ, pos, List, Bool, true, false, Option, Some, None, Result, Ok, Err, bytes_eq, codes, if◌then◌else◌}
 use Rattle.smt_meaning.specs.declared.tokens.Token.{Token}
 use Rattle.smt_meaning.specs.declared.tokens.Token.TheVariants.{Numeral, Symbol, Keyword}
 use Rattle.smt_meaning.specs.declared.refusals.Refusal.{Refusal}
 use Rattle.smt_meaning.specs.declared.refusals.Refusal.TheVariants.{NumeralTooLarge, WrongArguments}
+use Rattle.smt_meaning.specs.declared.commands.Parameter.{Parameter}
+use Rattle.smt_meaning.specs.declared.commands.Command.{Command}
+use Rattle.smt_meaning.specs.Command.{written_sort, define_fun_of}
 use Rattle.smt_meaning.specs.Sexp.{Sexp, Sexps, word, group, end, ◌▸◌}
 use Rattle.smt_meaning.specs.Sorts.{decimal, is_small}
 use Rattle.smt_command.specs.Arguments.{token_in}
@@ -37,3 +40,8 @@ abbrev pub level_count : Sexps → Result ℤ Refusal
 level_count end = Ok (pos 1)
 level_count (word (Numeral cs) ▸ end) = small_number cs
 level_count _ = Err WrongArguments
+
+-- the sort and the body of a definition
+abbrev pub with_body : List ℕ → List Parameter → Sexps → Result Command Refusal
+with_body n ps (s ▸ t ▸ end) = define_fun_of n (Some ps) (written_sort s) t
+with_body n ps _ = Err WrongArguments

@@ -2,12 +2,12 @@ ghost use Rattle.std.specs.Prelude.{◌≡◌, IfOk};
 ghost use Rattle.smt_meaning.specs.declared.commands.Command.TheVariants.{DeclareSort, Push, Pop};
 ghost use Rattle.smt_meaning.specs.Command.{bare, levels, with_numeral, set_logic, echo, declare_sort, define_sort, declare_const, declare_fun, define_fun, assert_form, get_value};
 ghost use Rattle.smt_command.specs.Arguments.{left};
-ghost use Rattle.smt_command.specs.Values.{level_count};
+ghost use Rattle.smt_command.specs.Values.{level_count, with_body};
 
 use crate::arguments::Arguments;
 use crate::lists;
 use crate::number::number;
-use smt_meaning::language::Command;
+use smt_meaning::language::{Command, Parameter};
 use smt_meaning::{Bytes, Refusal, Seq};
 use std::alloc::{AllocError, Global};
 
@@ -198,6 +198,18 @@ pub fn define_fun(
     let Some(parameters) = lists::parameters(alloc, inside)? else {
         return Ok(Err(Refusal::WrongArguments));
     };
+    definition(alloc, name, parameters, arguments)
+}
+
+/// The command `define-fun` with a name and parameters, and with these further arguments: a sort and a term.
+fn definition(
+    alloc: Global,
+    name: &[u8],
+    parameters: Seq<Parameter>,
+    mut arguments: Arguments<'_>,
+) -> Result<Result<Command, Refusal>, AllocError>
+    ensures { IfOk result (λ r. r ≡ with_body name.now parameters (left arguments.entry)) }
+{
     let Some(sort) = arguments.sort(alloc)? else {
         return Ok(Err(Refusal::WrongArguments));
     };
