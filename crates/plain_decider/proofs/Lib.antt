@@ -1,3 +1,6 @@
 mod Sound
 mod Finding
 mod Trying
+mod Flagging
+mod Constants
+mod Tabled
