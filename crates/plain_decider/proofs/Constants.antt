@@ -1,12 +1,11 @@
 -- A Boolean constant is true or false.
-use Rattle.std.proofs.Common.{◌≡◌, ◌⊎◌, inl, inr, ℕ, ◌<◌, Bool, true, false, List, [], ◌∷◌, length, arith, Option, Some, None, subst, sym, ap, ◌∙◌, refl}
-use Rattle.std.specs.Prelude.{IsTrue}
+use Rattle.std.proofs.Common.{◌≡◌, ◌⊎◌, inl, inr, ℕ, ◌<◌, true, false, List, [], ◌∷◌, length, arith, Option, Some, None, subst, sym, ap, ◌∙◌, refl}
 use Rattle.smt_meaning.specs.declared.values.Sort.{Sort}
 use Rattle.smt_meaning.specs.declared.values.Sort.TheVariants.{Bool as Truths, Int as Ints, Free}
 use Rattle.smt_meaning.specs.declared.values.Value.{Value}
 use Rattle.smt_meaning.specs.declared.values.Value.TheVariants.{Truth, Whole, Element}
 use Rattle.smt_meaning.specs.declared.terms.Head.TheVariants.{Symbol}
-use Rattle.smt_meaning.specs.Term.{Tree, node, none, tree_at, Interpretation, value}
+use Rattle.smt_meaning.specs.Term.{Tree, node, none, tree_at, value}
 use Rattle.smt_meaning.specs.Signature.{function_with_id, symbol_sort, is_bool, tree_sort}
 use Rattle.smt_meaning.specs.Interpretation.{has_sort}
 use Rattle.smt_meaning.specs.Stack.{Frame, signature_of}
@@ -35,7 +34,7 @@ pub constant_is_truth : ValueHasItsSort → (frames : List Frame) (trees : List 
 constant_is_truth law frames trees id f ps e within t b =
     let tree : tree_at trees id ≡ node (Symbol f) none = t ∙ ap (λ qs. tree_with trees (Symbol f) qs) (empty ps e) in
     let sort : tree_sort (signature_of frames) (tree_at trees id) ≡ Some Truths =
-      subst (λ x. tree_sort (signature_of frames) x ≡ Some Truths) (sym tree) (is_the_sort (symbol_sort (function_with_id f (signature_of frames)) []) b) in
+    subst (λ x. tree_sort (signature_of frames) x ≡ Some Truths) (sym tree) (is_the_sort (symbol_sort (function_with_id f (signature_of frames)) []) b) in
     record {
       within = within;
       truth = λ I i. one_of_both (value I (tree_at trees id)) (law (signature_of frames) I (tree_at trees id) Truths i sort);

@@ -1,13 +1,13 @@
 -- Which trees are propositional, by flags at their places.
-use Rattle.std.proofs.Common.{◌≡◌, ℕ, zero, suc, ◌<◌, ◌≤◌, ◌+◌, Bool, true, false, ◌&&◌, List, [], ◌∷◌, map, take, length, All, slice_index_or, subst, sym, ap, ◌∙◌, arith, refl}
+use Rattle.std.proofs.Common.{◌≡◌, ℕ, zero, suc, ◌<◌, ◌≤◌, ◌+◌, Bool, false, ◌&&◌, List, [], ◌∷◌, map, take, length, All, slice_index_or, subst, sym, ap, ◌∙◌, arith, refl}
 use Rattle.std.specs.List.{list_all}
 use Rattle.std.proofs.lemmas.List.Elements.{All-head, All-tail}
 use Rattle.smt_meaning.specs.declared.terms.Head.{Head}
-use Rattle.smt_meaning.specs.Term.{Tree, Trees, node, none, more, tree_at}
+use Rattle.smt_meaning.specs.Term.{Tree, tree_at}
 use Rattle.smt_meaning.specs.Nodes.{pick}
 use Rattle.smt_meaning.specs.Declaration.{Declaration}
 use Rattle.smt_meaning.specs.Kinds.{count_trees, is_propositional_head, is_propositional_tree, are_propositional_trees, is_propositional}
-use Rattle.smt_meaning.specs.Stack.{signature_of, assertions_of}
+use Rattle.smt_meaning.specs.Stack.{signature_of}
 use Rattle.smt_meaning.specs.StackCommand.{Stack}
 use Rattle.term_store.specs.Terms.{tree_with}
 use Rattle.scope_stack.specs.declared.answers.Assertion.{Assertion}

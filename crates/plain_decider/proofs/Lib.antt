@@ -4,3 +4,4 @@ mod Trying
 mod Flagging
 mod Constants
 mod Tabled
+mod Confirming

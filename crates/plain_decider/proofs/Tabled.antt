@@ -1,5 +1,5 @@
 -- One table more for one declaration more.
-use Rattle.std.proofs.Common.{◌≡◌, Bool, true, false, List, [], ◌∷◌, ◌++◌, subst, sym, ap, refl}
+use Rattle.std.proofs.Common.{◌≡◌, Bool, true, false, List, [], ◌∷◌, ◌++◌, subst, sym, refl}
 use Rattle.std.specs.Prelude.{IsTrue, MatchBool}
 use Rattle.smt_meaning.specs.declared.values.Table.{Table}
 use Rattle.smt_meaning.specs.Declaration.{Declaration}

@@ -36,11 +36,8 @@ fn stands_with(operator: Operator, count: usize) -> bool
         Operator::True | Operator::False => count == 0,
         Operator::Not => count == 1,
         Operator::Ite => count == 3,
-        Operator::And
-        | Operator::Or
-        | Operator::Add
-        | Operator::Subtract
-        | Operator::Multiply => count >= 1,
+        Operator::And | Operator::Or | Operator::Add | Operator::Subtract | Operator::Multiply =>
+            count >= 1,
         _ => count >= 2,
     }
 }

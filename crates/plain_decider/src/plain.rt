@@ -1,6 +1,7 @@
-ghost use Rattle.std.specs.Prelude.{◌≡◌, IfOk, All, map, true};
+ghost use Rattle.std.specs.Prelude.{◌≡◌, IfOk, map, true};
 ghost use Rattle.plain_decider.specs.Confirmed.{Confirmed};
-ghost use Rattle.smt_meaning.specs.declared.values.Value.TheVariants as Value;
+ghost use Rattle.smt_meaning.specs.Term.{truth_of};
+ghost use Rattle.std.specs.List.{list_all};
 ghost use Rattle.theory_port.specs.Verdicts.{IsVerdict};
 
 use crate::model::tables;
@@ -46,12 +47,21 @@ fn places(alloc: Global, assertions: &[Assertion]) -> Result<Vec<TermId>, AllocE
     Ok(places)
 }
 
-/// Whether these are all the value true.
+fn is_true(value: Value) -> bool
+    ensures { result ≡ truth_of value }
+{
+    match value {
+        Value::Truth(truth) => truth,
+        _ => false,
+    }
+}
+
+/// Whether these values are all true.
 fn all_true(values: &[Value]) -> bool
-    ensures { result ≡ true → All (λ v. v ≡ Value.Truth true) values.now }
+    ensures { result ≡ list_all truth_of values.now }
 {
     for value in values {
-        if *value != Value::Truth(true) {
+        if !is_true(*value) {
             return false;
         }
     }

@@ -1,8 +1,5 @@
-use Rattle.std.proofs.Common.{◌≡◌, ◌++◌, ◌∷◌, [], List, Bool, true, false, subst, sym, ◌∙◌, rules}
-use Rattle.smt_meaning.specs.declared.values.Table.{Table}
-use Rattle.smt_meaning.specs.Declaration.{Declaration as DeclarationValue}
+use Rattle.std.proofs.Common.{◌≡◌, ◌++◌, ◌∷◌, [], subst, sym, ◌∙◌, rules}
 use Rattle.smt_meaning.specs.Interpretation.{AreTablesFor}
-use Rattle.smt_meaning.specs.Signature.{is_symbol}
 use Rattle.plain_decider.proofs.Tabled.{with_table, without_table}
 use Rattle.plain_decider.proofs.model.add.Goals as goal
 

@@ -1,4 +1,4 @@
-use Rattle.std.proofs.Common.{rules, ◌≡◌, map, subst, sym, ap, ◌∙◌, arith}
+use Rattle.std.proofs.Common.{rules, ◌≡◌, map, ◌∙◌}
 use Rattle.smt_meaning.specs.Kinds.{is_propositional_tree}
 use Rattle.smt_meaning.specs.Stack.{signature_of}
 use Rattle.plain_decider.proofs.Flagging.{assertions_flagged}
