@@ -64,10 +64,10 @@ pub none_may_end : (o : Option Value) (fs : List Frame) → may_end (kind_of o f
 none_may_end None fs e = refl
 none_may_end (Some v) fs e = absurd (cc)
 
-not_zero : (d : ℕ) → nat_eq (suc d) 0 ≡ false
+pub not_zero : (d : ℕ) → nat_eq (suc d) 0 ≡ false
 not_zero d = grind (arith, nat_tests)
 
-no : false ≡ true → ⊥
+pub no : false ≡ true → ⊥
 no e = cc
 
 -- an attribute's kind is none of these
@@ -93,11 +93,11 @@ grown_trees s us l = record { trees = l; added = []; signature = sym (append-nil
 
 -- ---- results
 
-step_memory : (m : Judging (List Meant)) (s : Scope) (tokens : List Token) (u : Scope) (w : Walk) (e : JudgeError) → e ≡ Memory → StepComes m s tokens u w (Err e)
+pub step_memory : (m : Judging (List Meant)) (s : Scope) (tokens : List Token) (u : Scope) (w : Walk) (e : JudgeError) → e ≡ Memory → StepComes m s tokens u w (Err e)
 step_memory m s tokens u w (Refused r) h = absurd (cc)
 step_memory m s tokens u w Memory h = tt
 
-error_is : (e : JudgeError) → (let x : Result (Unit {0}) JudgeError = Err e in x ≡ Err Memory) → e ≡ Memory
+pub error_is : (e : JudgeError) → (let x : Result (Unit {0}) JudgeError = Err e in x ≡ Err Memory) → e ≡ Memory
 error_is e h = cc
 
 pub settled : (m : Judging (List Meant)) (s : Scope) (tokens : List Token) (u : Scope) (w : Walk) (y : Result (Unit {0}) JudgeError) (P : Type 0) → OnOk y P → OnErr y (y ≡ Err Memory)
