@@ -1,14 +1,14 @@
 -- The frames of `let` and of annotations.
-use Rattle.std.proofs.Common.{◌≡◌, ℕ, zero, suc, ◌-◌, ◌≤◌, List, [], ◌∷◌, ◌++◌, length, take, drop, map, ap, sym, subst, ◌∙◌, refl, arith, Bool, true, false, Option, Some, None}
-use Rattle.std.specs.Prelude.{Result, Ok, Err, OnOk, OnErr, bytes_eq, codes, if◌then◌else◌}
+use Rattle.std.proofs.Common.{◌≡◌, ℕ, zero, suc, ◌-◌, ◌≤◌, List, [], ◌∷◌, ◌++◌, length, take, map, ap, sym, subst, ◌∙◌, refl, arith, Bool, true, false, None}
+use Rattle.std.specs.Prelude.{Result, Ok, Err, OnOk, OnErr, if◌then◌else◌}
 use Rattle.std.proofs.lemmas.List.{map-append, take_at, drop_at}
 use Rattle.smt_meaning.specs.declared.tokens.Token.{Token}
 use Rattle.smt_meaning.specs.declared.tokens.Token.TheVariants.{Enter, Leave, Numeral, Decimal, Hex, Binary, Text, Symbol, Reserved, Keyword}
 use Rattle.smt_meaning.specs.declared.refusals.Refusal.TheVariants.{WrongArguments}
 use Rattle.smt_meaning.specs.Term.{Tree}
 use Rattle.smt_meaning.specs.Sexp.{Sexps}
-use Rattle.smt_meaning.specs.Sorts.{Scope, done, refused, Judging, go_on, ◌>>=◌, return, refuse, Rules}
-use Rattle.term_walk.specs.Walk.{Frame as Meant, body, bindings, binding, attributes, naming, give as given_all, on_leave, on_words, on_attribute, after_keyword}
+use Rattle.smt_meaning.specs.Sorts.{Scope, done, refused, ◌>>=◌, return, refuse, Rules}
+use Rattle.term_walk.specs.Walk.{body, bindings, binding, give as given_all, on_leave, on_words, on_attribute, after_keyword}
 use Rattle.elaborate.specs.declared.value.Value.{Value}
 use Rattle.elaborate.specs.declared.frame.Binding.{Binding as Pair}
 use Rattle.elaborate.specs.declared.frame.Frame.{Frame}
@@ -17,9 +17,9 @@ use Rattle.elaborate.specs.declared.frame.Walk.{Walk}
 use Rattle.elaborate.specs.declared.error.JudgeError.{JudgeError}
 use Rattle.elaborate.specs.declared.error.JudgeError.TheVariants.{Refused, Memory}
 use Rattle.elaborate.specs.Values.{typed, IsValue}
-use Rattle.elaborate.specs.Frames.{variable_at, is_open_at, frame_of, outside, frames_of, walk_of, AreBound, Holds, AllHold, Stands}
+use Rattle.elaborate.specs.Frames.{variable_at, is_open_at, frames_of, walk_of, AreBound, Holds, AllHold, Stands}
 use Rattle.elaborate.specs.Steps.{kind_of, attribute_kind, takes_word, Given, StepComes, is_named, is_symbol, IsNoName}
-use Rattle.elaborate.proofs.Moves.{popped, shown_is, stands_so, error_is, step_memory, no, not_zero}
+use Rattle.elaborate.proofs.Moves.{popped, shown_is, error_is, step_memory, no, not_zero}
 
 -- ---- `)`
 

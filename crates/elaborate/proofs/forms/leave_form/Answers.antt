@@ -1,6 +1,6 @@
-use Rattle.std.proofs.Common.{refl, sym, subst}
+use Rattle.std.proofs.Common.{sym, subst}
 use Rattle.term_walk.specs.Walk.{on_leave}
-use Rattle.elaborate.specs.declared.frame.Frame.TheVariants.{Bindings, BoundTo, Body, Done, Attributes}
+use Rattle.elaborate.specs.declared.frame.Frame.TheVariants.{Bindings, BoundTo, Done, Attributes}
 use Rattle.elaborate.specs.Frames.{AreBound}
 use Rattle.elaborate.proofs.Moves.{top_is, replaced_push}
 use Rattle.elaborate.proofs.Lets.{bound_more, leave_binding, leave_bindings, given_on, leave_done, leave_attributes, leave_value, none_left, one_less}
