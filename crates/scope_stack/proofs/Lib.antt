@@ -1,1 +1,2 @@
 pub mod LevelCommands
+pub mod PieceLemmas

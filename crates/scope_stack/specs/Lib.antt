@@ -1,3 +1,4 @@
 pub mod StackCode
+pub mod Pieces
 pub mod Carries
 pub mod Shown

@@ -2,6 +2,7 @@
 #![tactic(auto)]
 
 mod answers;
+mod asserted;
 mod stack;
 
 pub use answers::{Asked, Assertion, Carried, StackError};
