@@ -4,3 +4,4 @@ mod Shape
 mod Run
 mod UseLemmas
 mod AgainLemmas
+mod FormLemmas

@@ -1,5 +1,5 @@
 -- One token of a walk.
-use Rattle.std.proofs.Common.{◌≡◌, ℕ, zero, suc, List, [], ◌∷◌, ◌++◌, Bool, true, false, Option, Some, None, ap, sym, subst, refl, append_assoc, append-nil}
+use Rattle.std.proofs.Common.{◌≡◌, ℕ, zero, suc, List, [], ◌∷◌, ◌++◌, Bool, true, false, Option, Some, None, ap, sym, refl, append_assoc, append-nil}
 use Rattle.std.specs.Prelude.{codes, bytes_eq}
 use Rattle.smt_meaning.specs.declared.tokens.Token.{Token}
 use Rattle.smt_meaning.specs.declared.tokens.Token.TheVariants.{Symbol, Reserved, Keyword}
@@ -9,14 +9,11 @@ use Rattle.smt_meaning.specs.declared.refusals.Refusal.TheVariants.{WrongArgumen
 use Rattle.smt_meaning.specs.Sexp.{Sexp, Sexps, word, group, end, ◌▸◌}
 use Rattle.smt_meaning.specs.Sorts.{Scope, Judging, ◌>>=◌, ◌>>◌, return, refuse, require, the_scope, Typed, Variable, Rules, Known, known, can_be_applied, judge_application, judge_attributes, judge, judge_all, judge_token, judge_bindings, bound_names, cons_name, check_bindings, are_attributes, either, name_by, name_term}
 use Rattle.term_walk.specs.Walk.{Frame, whole, answer, opened, application, let_open, bindings, binding_open, binding, bound_to, body, result, annotation, attributes, naming, variables, given, give, taken, one_binding, in_body, with_taken, with_binding, attributes_of, yields, below, resume, continue, on_enter, on_leave, on_head, on_words, on_attribute, after_keyword, on_name, on_bound_name, check_let, check_annotation, has_free_first}
-use Rattle.term_walk.proofs.Monad.{Same, self, other, both, bind_same, assoc, next_is, return_then, then_return, refuse_then}
+use Rattle.term_walk.proofs.Monad.{Same, self, equal, other, both, bind_same, assoc, next_is, return_then, then_return, refuse_then}
 
 -- what comes of a token: the frames after it, with what is left then
 abbrev pub After : Rules → Judging Typed → Judging (List Frame) → List Sexps → Type 0
 After r m gs lists = Same m (gs >>= (λ fs. continue r fs lists))
-
-equal : {A : Type 0} (m n : Judging A) → m ≡ n → Same m n
-equal m n e = subst (Same m) e (self m)
 
 -- ---- a term is judged, and the frame then goes on with it
 

@@ -2,3 +2,4 @@ pub mod Walk
 pub mod Laws
 pub mod Uses
 pub mod Again
+pub mod Form

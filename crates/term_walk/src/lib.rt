@@ -2,6 +2,7 @@
 #![tactic(auto)]
 
 ghost use Rattle.term_walk.specs.Again.{NotedOnce, PutLeaves, RootsNoteAll};
+ghost use Rattle.term_walk.specs.Form.{AnnotationFormIsRead, AnnotationFormStays, LetFormIsRead, LetFormStays};
 ghost use Rattle.term_walk.specs.Laws.{WalkGivesTheJudgement};
 ghost use Rattle.term_walk.specs.Uses.{FreeIsUsed};
 
@@ -28,4 +29,24 @@ pub fn closed_trees_stay()
 /// Noting the roots of a definition's body with arguments put in notes all of the body, in order.
 pub fn roots_note_all()
     ensures { RootsNoteAll }
+{}
+
+/// Whether a `let` has its form, and binds no name twice, is found in one pass over its tokens.
+pub fn let_form_is_read()
+    ensures { LetFormIsRead }
+{}
+
+/// Once a `let` is read, or hasn't the form, later tokens change nothing.
+pub fn let_form_stays()
+    ensures { LetFormStays }
+{}
+
+/// Whether an annotation has its form is found in one pass over its tokens.
+pub fn annotation_form_is_read()
+    ensures { AnnotationFormIsRead }
+{}
+
+/// Once an annotation is read, or hasn't the form, later tokens change nothing.
+pub fn annotation_form_stays()
+    ensures { AnnotationFormStays }
 {}
