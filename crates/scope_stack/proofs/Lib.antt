@@ -5,3 +5,6 @@ pub mod Steps
 pub mod Reach
 pub mod StackLemmas
 pub mod LawLemmas
+pub mod SortSteps
+pub mod DeclareSteps
+pub mod GainLemmas

@@ -3,6 +3,8 @@
 
 mod answers;
 mod asserted;
+mod declare;
+mod judge;
 mod stack;
 
 pub use answers::{Asked, Assertion, Carried, StackError};

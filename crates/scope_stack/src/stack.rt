@@ -3,6 +3,7 @@ ghost use Rattle.std.specs.Prelude.{◌≡◌, ◌≤◌, ◌<◌, unsigned_abs,
 
 use crate::answers::{Asked, Assertion, Carried, StackError};
 use crate::asserted::Asserted;
+use crate::declare;
 use smt_meaning::language::{Parameter, WrittenSort};
 use smt_meaning::{Bytes, Declaration, Refusal, SExpr, Seq};
 use smt_sorts::Table;
@@ -121,7 +122,7 @@ impl Stack {
     ) -> Result<Carried, StackError>
         ensures { Carries (λ level. declare_sort name.now arity) self.old result self.new }
     {
-        Err(StackError::Memory)
+        declare::declare_sort(alloc, &mut self.table, name, arity)
     }
 
     /// `(define-sort name (parameter ..) sort)` (section 4.2.3).
@@ -134,7 +135,7 @@ impl Stack {
     ) -> Result<Carried, StackError>
         ensures { Carries (λ level. define_sort name.now parameters.now sort.now) self.old result self.new }
     {
-        Err(StackError::Memory)
+        declare::define_sort(alloc, &mut self.table, name, parameters, sort)
     }
 
     /// `(declare-fun name (argument ..) sort)`, and `(declare-const name sort)`, where there is no argument (section 4.2.3).
@@ -147,7 +148,7 @@ impl Stack {
     ) -> Result<Carried, StackError>
         ensures { Carries (λ level. declare_function name.now arguments.now sort.now) self.old result self.new }
     {
-        Err(StackError::Memory)
+        declare::declare_function(alloc, &mut self.table, name, arguments, sort)
     }
 
     /// `(define-fun name (parameter ..) sort body)` (section 4.2.3).
