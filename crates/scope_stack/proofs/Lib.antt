@@ -8,3 +8,5 @@ pub mod LawLemmas
 pub mod SortSteps
 pub mod DeclareSteps
 pub mod GainLemmas
+pub mod TermSteps
+pub mod ParameterSteps

@@ -2,15 +2,17 @@
 ghost use Rattle.std.specs.Prelude.{◌≡◌, None, pos, OnOk, OnErr, IfErr};
 ghost use Rattle.smt_meaning.specs.Signature.{find_function, find_sort};
 ghost use Rattle.smt_meaning.specs.Sorts.{declare};
-ghost use Rattle.smt_meaning.specs.StackCommand.{declare_function, declare_new_sort, declare_sort, define_new_sort, define_sort, function_declaration, sort_declaration};
+ghost use Rattle.smt_meaning.specs.StackCommand.{declare_function, declare_new_sort, declare_sort, define_function, define_new_sort, define_sort, function_declaration, sort_declaration};
 ghost use Rattle.smt_meaning.specs.Term.{int_eq};
 ghost use Rattle.smt_sorts.specs.Names.{signature, sort_or_new, HasGained};
 ghost use Rattle.scope_stack.specs.Judged.{Adds, Causes, Declares, HasDeclared, IsFailed, IfTooMany};
 
 use crate::answers::{Carried, StackError};
-use crate::judge::{judge_sort, judge_sorts, new_function_name, new_sort_name};
-use smt_meaning::language::WrittenSort;
-use smt_meaning::{Body, Bytes, Rank, Refusal, Sort};
+use crate::judge::{
+    judge_body, judge_parameters, judge_sort, judge_sorts, new_function_name, new_sort_name, sorts_of,
+};
+use smt_meaning::language::{Parameter, WrittenSort};
+use smt_meaning::{Body, Bytes, Rank, Refusal, SExpr, Sort};
 use smt_sorts::{AddError, Table};
 use std::alloc::Global;
 
@@ -144,5 +146,25 @@ pub(crate) fn declare_function(
     let arguments = judge_sorts(alloc, arguments, table)?;
     let result = judge_sort(alloc, sort, table)?;
     add_function(alloc, table, name, Rank { arguments, result }, None)?;
+    Ok(Carried::Done)
+}
+
+/// `(define-fun name (parameter ..) sort body)`
+pub(crate) fn define_function(
+    alloc: Global,
+    table: &mut Table,
+    name: &[u8],
+    parameters: &[Parameter],
+    sort: &WrittenSort,
+    body: &SExpr,
+) -> Result<Carried, StackError>
+    ensures { Declares (define_function name.now parameters.now sort.now body.now) table.old result table.new }
+{
+    new_function_name(alloc, name, table)?;
+    let parameters = judge_parameters(alloc, parameters, table)?;
+    let result = judge_sort(alloc, sort, table)?;
+    let body = judge_body(alloc, name, parameters.as_slice(), result, body, table)?;
+    let arguments = sorts_of(alloc, parameters.as_slice())?;
+    add_function(alloc, table, name, Rank { arguments, result }, Some(body))?;
     Ok(Carried::Done)
 }

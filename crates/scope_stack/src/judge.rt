@@ -1,15 +1,18 @@
 //! Judging the names and the sorts of a declaration.
-ghost use Rattle.std.specs.Prelude.{◌≡◌, None, OnOk, IfOk, IfErr};
-ghost use Rattle.smt_meaning.specs.Signature.{find_function, find_sort};
-ghost use Rattle.smt_meaning.specs.StackCommand.{judge_sort, judge_sorts, new_function_name, new_sort_name};
+ghost use Rattle.elaborate.specs.Judged.{variables_of};
+ghost use Rattle.std.specs.Prelude.{◌≡◌, [], None, OnOk, IfOk, IfErr};
+ghost use Rattle.smt_meaning.specs.Signature.{find_function, find_sort, is_one_of, sort_eq};
+ghost use Rattle.smt_meaning.specs.StackCommand.{judge_parameters, judge_sort, judge_sorts, new_function_name, new_sort_name, sorts_of_variables};
 ghost use Rattle.smt_sorts.specs.Names.{signature};
-ghost use Rattle.scope_stack.specs.Judged.{Gives, Causes, IsError, name_refusal};
+ghost use Rattle.scope_stack.specs.Judged.{Gives, Causes, IsBody, IsError, IsParameter, body_of_sort, name_refusal, names_before, one_parameter};
 
 use crate::answers::StackError;
-use smt_meaning::language::WrittenSort;
-use smt_meaning::{Refusal, Seq, Sort, Token};
+use crate::term::judge_error;
+use elaborate::Parameter as Judged;
+use smt_meaning::language::{Parameter, WrittenSort};
+use smt_meaning::{Body, Refusal, SExpr, Seq, Sort, Token};
 use smt_sorts::{NameError, Table};
-use std::alloc::Global;
+use std::alloc::{AllocError, Global};
 
 fn name_error(alloc: Global, error: NameError, name: &[u8]) -> StackError
     ensures { IsError (name_refusal error name.now) result }
@@ -95,4 +98,127 @@ pub(crate) fn judge_sorts(
         rest = tail;
     }
     Ok(judged)
+}
+
+/// Whether a name is one of these.
+fn is_before(name: &[u8], before: &[Judged]) -> bool
+    ensures { result ≡ is_one_of name.now (names_before before.now) }
+{
+    let mut rest = before;
+    while let Some((last, others)) = rest.split_last() {
+        if name == last.name.as_slice() {
+            return true;
+        }
+        rest = others;
+    }
+    false
+}
+
+fn bound_twice(alloc: Global, name: &[u8]) -> StackError
+    ensures { IsError (Refusal.AlreadyDeclared name.now) result }
+{
+    match Seq::copy(alloc, name) {
+        Ok(name) => StackError::Refused(Refusal::AlreadyDeclared(name)),
+        Err(_) => StackError::Memory,
+    }
+}
+
+fn judge_parameter(
+    alloc: Global,
+    parameter: &Parameter,
+    before: &[Judged],
+    table: &Table,
+) -> Result<Judged, StackError>
+    ensures gives { IfOk result (IsParameter before.now parameter.now table.now) }
+    ensures causes { IfErr result (Causes (one_parameter before.now parameter.now) table.now) }
+{
+    let name = parameter.name.as_slice();
+    if is_before(name, before) {
+        return Err(bound_twice(alloc, name));
+    }
+    let sort = judge_sort(alloc, &parameter.sort, table)?;
+    let name = Seq::copy(alloc, name)?;
+    Ok(Judged { name, sort })
+}
+
+/// The parameters that are written so.
+pub(crate) fn judge_parameters(
+    alloc: Global,
+    parameters: &[Parameter],
+    table: &Table,
+) -> Result<Vec<Judged>, StackError>
+    ensures gives { IfOk result (λ v. Gives (judge_parameters 0 [] parameters.now) table.now (variables_of v.items)) }
+    ensures causes { IfErr result (Causes (judge_parameters 0 [] parameters.now) table.now) }
+{
+    let mut judged = Vec::new(alloc);
+    let mut rest = parameters;
+    while let Some((first, tail)) = rest.split_first() {
+        let parameter = judge_parameter(alloc, first, judged.as_slice(), table)?;
+        judged.push(parameter)?;
+        rest = tail;
+    }
+    Ok(judged)
+}
+
+fn differs(alloc: Global, name: &[u8]) -> StackError
+    ensures { IsError (Refusal.SortsDiffer name.now) result }
+{
+    match Seq::copy(alloc, name) {
+        Ok(name) => StackError::Refused(Refusal::SortsDiffer(name)),
+        Err(_) => StackError::Memory,
+    }
+}
+
+fn is_same(one: Sort, other: Sort) -> bool
+    ensures { result ≡ sort_eq one other }
+{
+    match one {
+        Sort::Bool => match other {
+            Sort::Bool => true,
+            Sort::Int | Sort::Free(_) => false,
+        },
+        Sort::Int => match other {
+            Sort::Int => true,
+            Sort::Bool | Sort::Free(_) => false,
+        },
+        Sort::Free(first) => match other {
+            Sort::Free(second) => first == second,
+            Sort::Bool | Sort::Int => false,
+        },
+    }
+}
+
+/// The body of the definition of a function of this name, which must have this sort.
+pub(crate) fn judge_body(
+    alloc: Global,
+    name: &[u8],
+    parameters: &[Judged],
+    sort: Sort,
+    term: &SExpr,
+    table: &Table,
+) -> Result<Body, StackError>
+    ensures gives { IfOk result (IsBody (variables_of parameters.now) term.now sort table.now) }
+    ensures causes { IfErr result (Causes (body_of_sort name.now (variables_of parameters.now) term.now sort) table.now) }
+{
+    match elaborate::body(alloc, parameters, term, table) {
+        Ok(judged) => {
+            if is_same(judged.sort, sort) {
+                Ok(judged.body)
+            } else {
+                Err(differs(alloc, name))
+            }
+        }
+        Err(error) => Err(judge_error(error)),
+    }
+}
+
+/// The sorts of parameters.
+pub(crate) fn sorts_of(alloc: Global, parameters: &[Judged]) -> Result<Seq<Sort>, AllocError>
+    ensures { IfOk result (λ s. s ≡ sorts_of_variables (variables_of parameters.now)) }
+{
+    let mut sorts = Seq::new(alloc);
+    for parameter in parameters {
+        sorts.push(parameter.sort)?;
+    }
+    Ok(sorts)
 }

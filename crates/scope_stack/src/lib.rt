@@ -6,6 +6,7 @@ mod asserted;
 mod declare;
 mod judge;
 mod stack;
+mod term;
 
 pub use answers::{Asked, Assertion, Carried, StackError};
 pub use stack::Stack;

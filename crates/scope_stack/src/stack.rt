@@ -4,6 +4,7 @@ ghost use Rattle.std.specs.Prelude.{◌≡◌, ◌≤◌, ◌<◌, unsigned_abs,
 use crate::answers::{Asked, Assertion, Carried, StackError};
 use crate::asserted::Asserted;
 use crate::declare;
+use crate::term::{judge_assertion, judge_questions};
 use smt_meaning::language::{Parameter, WrittenSort};
 use smt_meaning::{Bytes, Declaration, Refusal, SExpr, Seq};
 use smt_sorts::Table;
@@ -162,21 +163,33 @@ impl Stack {
     ) -> Result<Carried, StackError>
         ensures { Carries (λ level. define_function name.now parameters.now sort.now body.now) self.old result self.new }
     {
-        Err(StackError::Memory)
+        declare::define_function(alloc, &mut self.table, name, parameters, sort, body)
     }
 
     /// `(assert term)` (section 4.2.4).
     pub fn assert_term(&mut self, alloc: Global, term: &SExpr) -> Result<Carried, StackError>
         ensures { Carries (λ level. assert_term term.now) self.old result self.new }
     {
-        Err(StackError::Memory)
+        let text = term.copy(alloc)?;
+        let ids = self.table.ids();
+        let count = self.terms.len();
+        let term = judge_assertion(alloc, term, &mut self.table, &mut self.terms)?;
+        match self.asserted.add(Assertion { text, term }) {
+            Ok(()) => Ok(Carried::Done),
+            Err(_) => {
+                self.table.cut_ids(ids);
+                self.terms.cut(count);
+                Err(StackError::Memory)
+            }
+        }
     }
 
     /// The terms of `(get-value (term ..))` (section 4.2.6).
     pub fn ask(&mut self, alloc: Global, terms: &[SExpr]) -> Result<Seq<Asked>, StackError>
         ensures { Answers terms.now self.old result self.new }
     {
-        Err(StackError::Memory)
+        let asked = judge_questions(alloc, terms, &mut self.table, &mut self.terms)?;
+        Ok(asked)
     }
 
     /// `(push count)` (section 4.2.2).
