@@ -1,5 +1,5 @@
 -- Judging parameters and bodies.
-use Rattle.std.proofs.Common.{◌≡◌, ◌∙◌, sym, refl, ap, ap₂, subst, ℕ, ◌+◌, Bool, true, false, not, List, [], ◌∷◌, ◌++◌, map, length, arith, append_assoc, Some}
+use Rattle.std.proofs.Common.{◌≡◌, ◌∙◌, sym, refl, ap, ap₂, subst, ℕ, ◌+◌, Bool, true, false, not, List, [], ◌∷◌, ◌++◌, map, length, arith, append_assoc, Some, bytes_eq, if◌then◌else◌}
 use Rattle.std.proofs.lemmas.List.{append-nil, length_push}
 use Rattle.elaborate.specs.declared.Parameter.{Parameter}
 use Rattle.elaborate.specs.Judged.{parameters_from, variables_of}
@@ -18,7 +18,7 @@ use Rattle.smt_meaning.specs.StackCommand.{declares, Bodied, judge_sort, judge_p
 use Rattle.smt_sorts.specs.Names.{Names}
 use Rattle.scope_stack.specs.declared.answers.StackError.{StackError}
 use Rattle.scope_stack.specs.declared.answers.StackError.TheVariants.{Refused, Memory}
-use Rattle.scope_stack.specs.Judged.{scope_by, IsCause, IsError, Gives, Causes, Adds, names_onto, names_before, IsParameter, one_parameter, Continues, body_of_sort, IsBody}
+use Rattle.scope_stack.specs.Judged.{scope_by, IsCause, IsError, Gives, Causes, Adds, names_onto, names_before, IsParameter, one_parameter, Continues, body_of_sort, IsBody, sort_of}
 use Rattle.scope_stack.proofs.Steps.{bind_done, bind_refused, next_done, next_refused, return_done, require_done, require_refused, bind_cause, next_cause, bind_then, next_then}
 use Rattle.scope_stack.proofs.SortSteps.{error_cause}
 
@@ -30,6 +30,20 @@ names-push before (q ∷ ps) p = names-push (q.name ∷ before) ps p
 
 pub last_name : (n : List ℕ) (ps : List Parameter) (p : Parameter) → is_one_of n (names_before (ps ++ p ∷ [])) ≡ is_one_of n (p.name ∷ names_before ps)
 last_name n ps p = ap (is_one_of n) (names-push [] ps p)
+
+found_at : (n : List ℕ) (q : Parameter) (before : List (List ℕ)) (b : Bool) → b ≡ true → (if b then true else is_one_of n before) ≡ true
+found_at n q before b e = rw e refl
+
+not_at : (n : List ℕ) (before : List (List ℕ)) (b : Bool) → b ≡ false → (if b then true else is_one_of n before) ≡ is_one_of n before
+not_at n before b e = rw e refl
+
+pub found_before : (n : List ℕ) (all rest others : List Parameter) (q : Parameter) → is_one_of n (names_before all) ≡ is_one_of n (names_before rest) → rest ≡ others ++ q ∷ [] → bytes_eq n q.name ≡ true
+    → is_one_of n (names_before all) ≡ true
+found_before n all rest others q h e f = h ∙ ap (λ ps. is_one_of n (names_before ps)) e ∙ last_name n others q ∙ found_at n q (names_before others) (bytes_eq n q.name) f
+
+pub other_before : (n : List ℕ) (all rest others : List Parameter) (q : Parameter) → is_one_of n (names_before all) ≡ is_one_of n (names_before rest) → rest ≡ others ++ q ∷ [] → bytes_eq n q.name ≡ false
+    → is_one_of n (names_before all) ≡ is_one_of n (names_before others)
+other_before n all rest others q h e f = h ∙ ap (λ ps. is_one_of n (names_before ps)) e ∙ last_name n others q ∙ not_at n (names_before others) (bytes_eq n q.name) f
 
 -- ---- one parameter
 
@@ -112,6 +126,13 @@ pub continues_cause : (all ps : List WrittenParameter) (p : WrittenParameter) (t
 continues_cause all ps p t qs (Refused r) h g ts =
     h ts ∙ ap (λ o. go_on o (λ more'. return (variables_of qs ++ more'))) (refused_early (not_before (names_before qs) p.name) (judge_sort p.sort) _ (scope_by t ts) r (g ts))
 continues_cause all ps p t qs Memory h g ts = tt
+
+sorts_from : (k : ℕ) (ps : List Parameter) → sorts_of_variables (parameters_from k ps) ≡ map sort_of ps
+sorts_from k [] = refl
+sorts_from k (p ∷ ps) = ap (λ rs. p.sort ∷ rs) (sorts_from (k + 1) ps)
+
+pub sorts_same : (ps : List Parameter) → sorts_of_variables (variables_of ps) ≡ map sort_of ps
+sorts_same ps = sorts_from 0 ps
 
 -- ---- bodies
 

@@ -102,6 +102,9 @@ names_onto before (p ∷ ps) = names_onto (p.name ∷ before) ps
 abbrev pub names_before : List Parameter → List (List ℕ)
 names_before ps = names_onto [] ps
 
+abbrev pub sort_of : Parameter → Sort
+sort_of p = p.sort
+
 -- the parameter is judged where these were before
 pub record IsParameter (before : List Parameter) (written : WrittenParameter) (t : Names) (p : Parameter) : Type 0 where
   pub name : p.name ≡ written.name

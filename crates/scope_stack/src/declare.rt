@@ -12,7 +12,7 @@ use crate::judge::{
     judge_body, judge_parameters, judge_sort, judge_sorts, new_function_name, new_sort_name, sorts_of,
 };
 use smt_meaning::language::{Parameter, WrittenSort};
-use smt_meaning::{Body, Bytes, Rank, Refusal, SExpr, Sort};
+use smt_meaning::{Body, Bytes, Rank, Refusal, SExpr, Seq, Sort};
 use smt_sorts::{AddError, Table};
 use std::alloc::Global;
 
@@ -164,7 +164,7 @@ pub(crate) fn define_function(
     let parameters = judge_parameters(alloc, parameters, table)?;
     let result = judge_sort(alloc, sort, table)?;
     let body = judge_body(alloc, name, parameters.as_slice(), result, body, table)?;
-    let arguments = sorts_of(alloc, parameters.as_slice())?;
+    let arguments = Seq::from_vec(sorts_of(alloc, parameters.as_slice())?);
     add_function(alloc, table, name, Rank { arguments, result }, Some(body))?;
     Ok(Carried::Done)
 }

@@ -1,10 +1,10 @@
 //! Judging the names and the sorts of a declaration.
 ghost use Rattle.elaborate.specs.Judged.{variables_of};
-ghost use Rattle.std.specs.Prelude.{◌≡◌, [], None, OnOk, IfOk, IfErr};
+ghost use Rattle.std.specs.Prelude.{◌≡◌, [], bytes_eq, map, None, OnOk, IfOk, IfErr};
 ghost use Rattle.smt_meaning.specs.Signature.{find_function, find_sort, is_one_of, sort_eq};
-ghost use Rattle.smt_meaning.specs.StackCommand.{judge_parameters, judge_sort, judge_sorts, new_function_name, new_sort_name, sorts_of_variables};
+ghost use Rattle.smt_meaning.specs.StackCommand.{judge_parameters, judge_sort, judge_sorts, new_function_name, new_sort_name};
 ghost use Rattle.smt_sorts.specs.Names.{signature};
-ghost use Rattle.scope_stack.specs.Judged.{Gives, Causes, IsBody, IsError, IsParameter, body_of_sort, name_refusal, names_before, one_parameter};
+ghost use Rattle.scope_stack.specs.Judged.{Gives, Causes, IsBody, IsError, IsParameter, body_of_sort, name_refusal, names_before, one_parameter, sort_of};
 
 use crate::answers::StackError;
 use crate::term::judge_error;
@@ -100,13 +100,19 @@ pub(crate) fn judge_sorts(
     Ok(judged)
 }
 
-/// Whether a name is one of these.
+fn is_name(one: &[u8], other: &[u8]) -> bool
+    ensures { result ≡ bytes_eq one.now other.now }
+{
+    one == other
+}
+
+/// Whether a name is that of one of these.
 fn is_before(name: &[u8], before: &[Judged]) -> bool
     ensures { result ≡ is_one_of name.now (names_before before.now) }
 {
     let mut rest = before;
     while let Some((last, others)) = rest.split_last() {
-        if name == last.name.as_slice() {
+        if is_name(name, last.name.as_slice()) {
             return true;
         }
         rest = others;
@@ -213,12 +219,8 @@ pub(crate) fn judge_body(
 }
 
 /// The sorts of parameters.
-pub(crate) fn sorts_of(alloc: Global, parameters: &[Judged]) -> Result<Seq<Sort>, AllocError>
-    ensures { IfOk result (λ s. s ≡ sorts_of_variables (variables_of parameters.now)) }
+pub(crate) fn sorts_of(alloc: Global, parameters: &[Judged]) -> Result<Vec<Sort>, AllocError>
+    ensures { IfOk result (λ v. v.items ≡ map sort_of parameters.now) }
 {
-    let mut sorts = Seq::new(alloc);
-    for parameter in parameters {
-        sorts.push(parameter.sort)?;
-    }
-    Ok(sorts)
+    parameters.iter().map(|parameter| parameter.sort).collect(alloc)
 }
