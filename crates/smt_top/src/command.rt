@@ -33,10 +33,22 @@ pub fn parse(alloc: Global, sexpr: &SExpr) -> Result<Option<Command>, AllocError
     ensures some { IfOk result (λ r. IfSome r (λ c. sexpr.now ≡ command_tokens c)) }
     ensures none { IfOk result (λ r. IfNone r ((c : CommandValue) → sexpr.now ≡ command_tokens c → ⊥)) }
 {
-    match recognise(sexpr.tokens()) {
+    let tokens = own_tokens(alloc, sexpr)?;
+    match recognise(tokens.as_slice()) {
         Some(spelled) => Ok(Some(owned(alloc, spelled)?)),
         None => Ok(None),
     }
+}
+
+/// The tokens of the s-expression, with bytes of their own.
+fn own_tokens(alloc: Global, sexpr: &SExpr) -> Result<Vec<Token>, AllocError>
+    ensures { IfOk result (λ v. v.items ≡ sexpr.now) }
+{
+    let mut tokens = Vec::new(alloc);
+    for place in 0..sexpr.len() {
+        tokens.push(sexpr.token(place).to_token(alloc)?)?;
+    }
+    Ok(tokens)
 }
 
 /// The command with names of its own.

@@ -1,0 +1,3 @@
+mod PartLemmas
+mod MarkLemmas
+mod LetLemmas
