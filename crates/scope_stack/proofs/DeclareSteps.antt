@@ -114,7 +114,7 @@ pub function_add_cause : (n : List ℕ) (xs : List WrittenSort) (x : WrittenSort
     → Gives (judge_sort x) t r → Causes (declare (λ id. function_declaration id n rs r None)) t e → Causes (declare_function n xs x) t e
 function_add_cause n xs x t rs r e h j k g ts =
     next_then _ _ (scope_by t ts) (scope_by t ts) tt e (h ts)
-      (bind_then _ _ (scope_by t ts) (scope_by t ts) rs e (j ts) (bind_then _ _ (scope_by t ts) (scope_by t ts) r e (k ts) (next_cause _ _ (scope_by t ts) e (g ts))))
+    (bind_then _ _ (scope_by t ts) (scope_by t ts) rs e (j ts) (bind_then _ _ (scope_by t ts) (scope_by t ts) r e (k ts) (next_cause _ _ (scope_by t ts) e (g ts))))
 
 -- ---- what is left out
 

@@ -66,10 +66,10 @@ pub declared-stack : (t u : Names) (ts : List Tree) (xss : List (List Assertion)
     → stack_by u ts xss ≡ changed (stack_by t ts xss) declares (scope_by u ts)
 declared-stack t u ts xss g e h =
     ap (λ (fs : List Frame). record { frames = fs; given = u.given; trees = ts })
-      (ap (λ dss. frames_by ts dss xss) g.levels
-      ∙ ap (λ yss. frames_by ts (on_newest g.gained t.levels) yss) (sym (on_last_none xss))
-      ∙ frames-newest ts g.gained [] t.levels xss e
-      ∙ ap (λ ds. on_top ds [] (frames_by ts t.levels xss)) (sym (new-gained t u ts ts xss g)))
+    (ap (λ dss. frames_by ts dss xss) g.levels
+    ∙ ap (λ yss. frames_by ts (on_newest g.gained t.levels) yss) (sym (on_last_none xss))
+    ∙ frames-newest ts g.gained [] t.levels xss e
+    ∙ ap (λ ds. on_top ds [] (frames_by ts t.levels xss)) (sym (new-gained t u ts ts xss g)))
 
 -- ---- what comes of a declaration
 
@@ -104,7 +104,7 @@ declared_carries c t u store xss (Ok Unsupported) h d =
     }
 declared_carries c t u store xss (Err e) h d =
     subst (λ v. Carries (λ level. c) (stack_by t store.trees xss) (Err e) (stack_by v store.trees xss)) (sym d.same)
-      (cause_carries (λ level. c) (stack_by t store.trees xss) e (cause_at c t store.trees xss e (d.causes store.trees)))
+    (cause_carries (λ level. c) (stack_by t store.trees xss) e (cause_at c t store.trees xss e (d.causes store.trees)))
 
 pub declared_keeps : (command : Command) (c : Judging Change) → stack_command command ≡ Some (λ level. c) → (t u : Names) (store : Terms) (xss : List (List Assertion)) (r : Result Carried StackError)
     → IsStack t store xss → Declares c t r u → IsStack u store xss
@@ -117,7 +117,7 @@ declared_keeps command c e t u store xss (Ok Done) h d =
       few = omega (arith, n, h.few);
       within = h.within;
       reached = subst IsReached (sym (declared-stack t u store.trees xss d.gained h.as_many h.within))
-        (done_reached (stack_by t store.trees xss) command (λ level. c) declares (scope_by u store.trees) e (judged-by c t u store.trees xss (d.adds store.trees)) h.reached);
+          (done_reached (stack_by t store.trees xss) command (λ level. c) declares (scope_by u store.trees) e (judged-by c t u store.trees xss (d.adds store.trees)) h.reached);
     }
 declared_keeps command c e t u store xss (Ok Unsupported) h d = subst (λ v. IsStack v store xss) (sym d.same) h
 declared_keeps command c e t u store xss (Err f) h d = subst (λ v. IsStack v store xss) (sym d.same) h
@@ -135,16 +135,16 @@ keeps_at t u limit ts us a xss h g lt j =
       few = omega (arith, n, h.few);
       within = within-last (ts ++ us) (a ∷ []) xss (within-longer ts us (all_of xss) h.within) (All-cons (IsWithin (ts ++ us)) a [] lt (All-nil (IsWithin (ts ++ us))));
       reached = subst IsReached (sym (asserted-stack t u ts us a xss g h.as_many h.within))
-        (done_reached (stack_by t ts xss) (Assert a.text) (λ level. assert_term a.text) (asserts (asserted_by (ts ++ us) a)) (scope_by u (ts ++ us)) refl (judged-to (assert_term a.text) t u ts (ts ++ us) xss j) h.reached);
+          (done_reached (stack_by t ts xss) (Assert a.text) (λ level. assert_term a.text) (asserts (asserted_by (ts ++ us) a)) (scope_by u (ts ++ us)) refl (judged-to (assert_term a.text) t u ts (ts ++ us) xss j) h.reached);
     }
 
 pub asserted_keeps : (t u : Names) (old now : Terms) (a : Assertion) (xss : List (List Assertion)) → IsStack t old xss → HasGained t u → IsLonger old.trees now.trees → now.limit ≡ old.limit
     → a.term < length now.trees → assert_term a.text (scope_by t old.trees) ≡ done (asserts (asserted_by now.trees a)) (scope_by u now.trees) → IsStack u now (on_last (a ∷ []) xss)
 asserted_keeps t u old now a xss h g l e lt j =
     subst (λ n. IsStack u (record { limit = n; trees = now.trees }) (on_last (a ∷ []) xss)) (sym e)
-      (subst (λ us. IsStack u (record { limit = old.limit; trees = us }) (on_last (a ∷ []) xss)) (sym l.1)
-        (keeps_at t u old.limit old.trees l.0 a xss h g (subst (λ us. a.term < length us) l.1 lt)
-          (subst (λ us. assert_term a.text (scope_by t old.trees) ≡ done (asserts (asserted_by us a)) (scope_by u us)) l.1 j)))
+    (subst (λ us. IsStack u (record { limit = old.limit; trees = us }) (on_last (a ∷ []) xss)) (sym l.1)
+    (keeps_at t u old.limit old.trees l.0 a xss h g (subst (λ us. a.term < length us) l.1 lt)
+    (subst (λ us. assert_term a.text (scope_by t old.trees) ≡ done (asserts (asserted_by us a)) (scope_by u us)) l.1 j)))
 
 pub asserted_is : (t u : Names) (old now : Terms) (a : Assertion) (xss : List (List Assertion)) → IsStack t old xss → HasGained t u → IsLonger old.trees now.trees
     → assert_term a.text (scope_by t old.trees) ≡ done (asserts (asserted_by now.trees a)) (scope_by u now.trees)
@@ -156,7 +156,7 @@ asserted_is t u old now a xss h g l j =
       plain = refl;
       is_judged = judged-to (assert_term a.text) t u old.trees now.trees xss j;
       new_is =
-        subst (λ us. stack_by u us (on_last (a ∷ []) xss) ≡ changed (stack_by t old.trees xss) (asserts (asserted_by us a)) (scope_by u us)) (sym l.1)
+          subst (λ us. stack_by u us (on_last (a ∷ []) xss) ≡ changed (stack_by t old.trees xss) (asserts (asserted_by us a)) (scope_by u us)) (sym l.1)
           (asserted-stack t u old.trees l.0 a xss g h.as_many h.within);
     }
 
@@ -164,8 +164,8 @@ pub failed_carries : (c : Judging Change) (t u : Names) (old now : Terms) (xss :
     → Carries (λ level. c) (stack_by t old.trees xss) (Err e) (stack_by u now.trees xss)
 failed_carries c t u old now xss e h p q =
     subst (λ v. Carries (λ level. c) (stack_by t old.trees xss) (Err e) (stack_by v now.trees xss)) (sym p)
-      (subst (λ (s : Terms). Carries (λ level. c) (stack_by t old.trees xss) (Err e) (stack_by t s.trees xss)) (sym q)
-        (cause_carries (λ level. c) (stack_by t old.trees xss) e (cause_at c t old.trees xss e h)))
+    (subst (λ (s : Terms). Carries (λ level. c) (stack_by t old.trees xss) (Err e) (stack_by t s.trees xss)) (sym q)
+    (cause_carries (λ level. c) (stack_by t old.trees xss) e (cause_at c t old.trees xss e h)))
 
 -- ---- what comes of questions
 
@@ -184,16 +184,16 @@ pub asked_keeps : (texts : List (List Token)) (t v : Names) (old now : Terms) (x
     → IsLonger old.trees now.trees → now.limit ≡ old.limit → IsStack v now xss
 asked_keeps texts t v old now xss terms h j e l m =
     subst (λ w. IsStack w now xss) (sym e)
-      (record {
-        limit = m ∙ h.limit;
-        as_many = h.as_many;
-        some = h.some;
-        few = h.few;
-        within = still_within old.trees now.trees (all_of xss) l h.within;
-        reached = subst IsReached (sym (asked_stack t j.names old.trees now.trees (typed_by now.trees terms) xss l h.within))
+    (record {
+      limit = m ∙ h.limit;
+      as_many = h.as_many;
+      some = h.some;
+      few = h.few;
+      within = still_within old.trees now.trees (all_of xss) l h.within;
+      reached = subst IsReached (sym (asked_stack t j.names old.trees now.trees (typed_by now.trees terms) xss l h.within))
           (done_reached (stack_by t old.trees xss) (GetValue texts) (λ level. ask_terms texts) (asks (typed_by now.trees terms)) (scope_by j.names now.trees) refl
-            (judged-to (ask_terms texts) t j.names old.trees now.trees xss j.is_judged) h.reached);
-      })
+          (judged-to (ask_terms texts) t j.names old.trees now.trees xss j.is_judged) h.reached);
+    })
 
 pub asked_answers : (texts : List (List Token)) (t v : Names) (old now : Terms) (xss : List (List Assertion)) (terms : List Asked) → IsStack t old xss → AreJudged texts (scope_by t old.trees) terms now.trees → v ≡ t
     → IsLonger old.trees now.trees → IsAsked texts terms (stack_by t old.trees xss) (stack_by v now.trees xss)
@@ -213,5 +213,5 @@ pub failed_answers : (texts : List (List Token)) (t u : Names) (old now : Terms)
     → Answers texts (stack_by t old.trees xss) (Err e) (stack_by u now.trees xss)
 failed_answers texts t u old now xss e h p q =
     subst (λ v. Answers texts (stack_by t old.trees xss) (Err e) (stack_by v now.trees xss)) (sym p)
-      (subst (λ (s : Terms). Answers texts (stack_by t old.trees xss) (Err e) (stack_by t s.trees xss)) (sym q)
-        (asked_cause texts (stack_by t old.trees xss) e (cause_at (ask_terms texts) t old.trees xss e h)))
+    (subst (λ (s : Terms). Answers texts (stack_by t old.trees xss) (Err e) (stack_by t s.trees xss)) (sym q)
+    (asked_cause texts (stack_by t old.trees xss) e (cause_at (ask_terms texts) t old.trees xss e h)))

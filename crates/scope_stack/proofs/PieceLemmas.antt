@@ -79,7 +79,7 @@ pieces-take at xs (s ∷ ss) end (suc k) d h lt =
     let l : k < length ss = omega (arith, lt) in
     let q : s ≤ get_or ss k d = cut_after s end ss k d h.1 l in
     ap₂ (λ a b. a ∷ b) (take-take (s - at) (get_or ss k d - at) xs (omega (arith, q)))
-      (ap (λ zs. pieces s zs (take k ss)) (shorter at s (get_or ss k d) xs h.0 q) ∙ pieces-take s (drop (s - at) xs) ss end k d h.1 l)
+    (ap (λ zs. pieces s zs (take k ss)) (shorter at s (get_or ss k d) xs h.0 q) ∙ pieces-take s (drop (s - at) xs) ss end k d h.1 l)
 
 pub cuts-take : (at end : ℕ) (ss : List ℕ) (k d : ℕ) → AreCuts at end ss → k < length ss → AreCuts at (get_or ss k d) (take k ss)
 cuts-take at end [] k d h lt = absurd (omega (arith, lt))

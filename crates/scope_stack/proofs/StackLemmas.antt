@@ -62,16 +62,16 @@ push_keeps count t store xss h le =
       few = omega (arith, levels, le);
       within = within-pushed store.trees n xss h.within;
       reached = subst IsReached (sym (pushed-stack t store.trees xss n (scope_of (stack_by t store.trees xss)) h.as_many))
-        (done_reached (stack_by t store.trees xss) (Push count) (λ level. push_levels level n) (pushes n) (scope_of (stack_by t store.trees xss)) refl (may_push t store xss n le h.some) h.reached);
+          (done_reached (stack_by t store.trees xss) (Push count) (λ level. push_levels level n) (pushes n) (scope_of (stack_by t store.trees xss)) refl (may_push t store xss n le h.some) h.reached);
     }
 
 popped-stack : (t : Names) (ts : List Tree) (xss : List (List Assertion)) (n : ℕ) (c : Scope) → length xss ≡ length t.levels
     → stack_by (without_levels n t) ts (take (length xss - n) xss) ≡ changed (stack_by t ts xss) (pops n) c
 popped-stack t ts xss n c e =
     ap (λ (fs : List Frame). record { frames = fs; given = t.given; trees = ts })
-      (ap (λ m. frames_by ts (take (length t.levels - n) t.levels) (take (m - n) xss)) e
-      ∙ frames-taken ts (length t.levels - n) t.levels xss e
-      ∙ ap (λ m. take (m - n) (frames_by ts t.levels xss)) (sym (length-frames ts t.levels xss)))
+    (ap (λ m. frames_by ts (take (length t.levels - n) t.levels) (take (m - n) xss)) e
+    ∙ frames-taken ts (length t.levels - n) t.levels xss e
+    ∙ ap (λ m. take (m - n) (frames_by ts t.levels xss)) (sym (length-frames ts t.levels xss)))
 
 may_pop : (t : Names) (store : Terms) (xss : List (List Assertion)) (n : ℕ) → n < length t.levels
     → judged (λ level. pop_levels level n) (stack_by t store.trees xss) ≡ done (pops n) (scope_of (stack_by t store.trees xss))
@@ -101,7 +101,7 @@ pop_keeps count t store xss h lt =
       few = omega (arith, levels, h.few);
       within = within-taken store.trees (length xss - n) xss h.within;
       reached = subst IsReached (sym (popped-stack t store.trees xss n (scope_of (stack_by t store.trees xss)) h.as_many))
-        (done_reached (stack_by t store.trees xss) (Pop count) (λ level. pop_levels level n) (pops n) (scope_of (stack_by t store.trees xss)) refl (may_pop t store xss n lt) h.reached);
+          (done_reached (stack_by t store.trees xss) (Pop count) (λ level. pop_levels level n) (pops n) (scope_of (stack_by t store.trees xss)) refl (may_pop t store xss n lt) h.reached);
     }
 
 -- ---- clearing

@@ -73,7 +73,7 @@ typed-longer : (ts us : List Tree) (as' : List Asked) → All (λ (a : Asked). a
 typed-longer ts us [] h = refl
 typed-longer ts us (a ∷ rest) h =
     ap₂ (λ (t : Tree) r. record { tree = t; sort = a.sort } ∷ r) (tree_at-longer ts us a.term (All-head (λ (a : Asked). a.term < length ts) a rest h))
-      (typed-longer ts us rest (All-tail (λ (a : Asked). a.term < length ts) a rest h))
+    (typed-longer ts us rest (All-tail (λ (a : Asked). a.term < length ts) a rest h))
 
 typed-push : (ts : List Tree) (as' : List Asked) (a : Asked) → typed_by ts (as' ++ a ∷ []) ≡ typed_by ts as' ++ record { tree = tree_at ts a.term; sort = a.sort } ∷ []
 typed-push ts as' a = map-append (λ (b : Asked). record { tree = tree_at ts b.term; sort = b.sort }) as' (a ∷ [])
@@ -89,13 +89,13 @@ asking_next t ts all as' x xs u v us vs a h j lt g l =
     let le : length us ≤ length vs = (let n : length (us ++ l.0) ≡ length us + length l.0 = length-append us l.0 in let m : length vs ≡ length (us ++ l.0) = ap length l.1 in omega (arith, n, m)) in
     record {
       continues =
-        h.continues
-        ∙ ap (λ o. go_on o (λ more'. return (typed_by us as' ++ more'))) (first_question x xs (scope_by u us) (scope_by v vs) (record { tree = tree_at vs a.term; sort = a.sort }) j)
-        ∙ one_more (record { tree = tree_at vs a.term; sort = a.sort }) (typed_by us as') (judge_terms xs (scope_by v vs))
-        ∙ ap (λ zs. go_on (judge_terms xs (scope_by v vs)) (λ more'. return ((zs ++ record { tree = tree_at vs a.term; sort = a.sort } ∷ []) ++ more'))) (sym old)
-        ∙ ap (λ zs. go_on (judge_terms xs (scope_by v vs)) (λ more'. return (zs ++ more'))) (sym (typed-push vs as' a));
+          h.continues
+          ∙ ap (λ o. go_on o (λ more'. return (typed_by us as' ++ more'))) (first_question x xs (scope_by u us) (scope_by v vs) (record { tree = tree_at vs a.term; sort = a.sort }) j)
+          ∙ one_more (record { tree = tree_at vs a.term; sort = a.sort }) (typed_by us as') (judge_terms xs (scope_by v vs))
+          ∙ ap (λ zs. go_on (judge_terms xs (scope_by v vs)) (λ more'. return ((zs ++ record { tree = tree_at vs a.term; sort = a.sort } ∷ []) ++ more'))) (sym old)
+          ∙ ap (λ zs. go_on (judge_terms xs (scope_by v vs)) (λ more'. return (zs ++ more'))) (sym (typed-push vs as' a));
       within =
-        All-push (λ (b : Asked). b.term < length vs) as' a (All-weaker (λ (b : Asked). b.term < length us) (λ (b : Asked). b.term < length vs) (λ b p. omega (arith, p, le)) as' h.within) lt;
+          All-push (λ (b : Asked). b.term < length vs) as' a (All-weaker (λ (b : Asked). b.term < length us) (λ (b : Asked). b.term < length vs) (λ b p. omega (arith, p, le)) as' h.within) lt;
       gained = λ w p. g w (h.gained w p);
       longer = (h.longer.0 ++ l.0, l.1 ∙ ap (λ ws. ws ++ l.0) h.longer.1 ∙ append_assoc ts h.longer.0 l.0);
     }

@@ -9,7 +9,8 @@ ghost use Rattle.scope_stack.specs.Judged.{Adds, Causes, Declares, HasDeclared, 
 
 use crate::answers::{Carried, StackError};
 use crate::judge::{
-    judge_body, judge_parameters, judge_sort, judge_sorts, new_function_name, new_sort_name, sorts_of,
+    judge_body, judge_parameters, judge_sort, judge_sorts, new_function_name, new_sort_name,
+    sorts_of,
 };
 use smt_meaning::language::{Parameter, WrittenSort};
 use smt_meaning::{Body, Bytes, Rank, Refusal, SExpr, Seq, Sort};

@@ -39,11 +39,7 @@ pub(crate) fn new_sort_name(alloc: Global, name: &[u8], table: &Table) -> Result
 }
 
 /// Whether a function of this name may be declared.
-pub(crate) fn new_function_name(
-    alloc: Global,
-    name: &[u8],
-    table: &Table,
-) -> Result<(), StackError>
+pub(crate) fn new_function_name(alloc: Global, name: &[u8], table: &Table) -> Result<(), StackError>
     ensures gives { OnOk result (Gives (new_function_name name.now) table.now tt) }
     ensures new { OnOk result (find_function name.now (signature table.now) ≡ None) }
     ensures causes { IfErr result (Causes (new_function_name name.now) table.now) }
@@ -222,5 +218,8 @@ pub(crate) fn judge_body(
 pub(crate) fn sorts_of(alloc: Global, parameters: &[Judged]) -> Result<Vec<Sort>, AllocError>
     ensures { IfOk result (λ v. v.items ≡ map sort_of parameters.now) }
 {
-    parameters.iter().map(|parameter| parameter.sort).collect(alloc)
+    parameters
+        .iter()
+        .map(|parameter| parameter.sort)
+        .collect(alloc)
 }

@@ -193,7 +193,7 @@ impl Stack {
     }
 
     /// `(push count)` (section 4.2.2).
-    pub fn push(&mut self, count: i128) -> Result<Carried, StackError>
+    pub fn push(&mut self, _alloc: Global, count: i128) -> Result<Carried, StackError>
         ensures { Carries (λ level. push_levels level (unsigned_abs count)) self.old result self.new }
     {
         let room = MOST_LEVELS - self.depth();

@@ -10,7 +10,7 @@ returns-in-Ok-clause-adds c =
     let no : c.args.table.now.given ≡ most_symbols → ⊥ = λ e. no_error _ _ (c.in-Ok.ensures.full.1 e) in
     let lt : c.args.table.now.given < most_symbols = omega (arith, no, c.ids.ensures.table.few_ids) in
     declare_adds (λ id. sort_declaration id c.args.name.now (sort_or_new c.args.sort id)) c.args.table.now c.add_sort.new.self lt c.in-Ok.ensures.signature
-      (ap (λ t. t.given) c.in-Ok.ensures.ok)
+    (ap (λ t. t.given) c.in-Ok.ensures.ok)
 
 pub returns-in-Err-clause-causes : goal.returns-in-Err-clause-causes
 returns-in-Err-clause-causes c = λ ts.

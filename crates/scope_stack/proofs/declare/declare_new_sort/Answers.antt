@@ -12,7 +12,7 @@ pub returns-in_err-add_sort-clause-err : goal.returns-in_err-add_sort-clause-err
 returns-in_err-add_sort-clause-err c =
     let p = err_from_is_err_and c.from_residual-in_err-add_sort.result c.from_residual-in_err-add_sort.ensures.1 in
     rw (p.1, p.2)
-      (record { causes = new_sort_add_cause c.args.name.now c.args.table.now _ c.in_ok-new_sort_name.ensures.gives c.in_err-add_sort.ensures.causes; same = c.in_err-add_sort.ensures.err })
+    (record { causes = new_sort_add_cause c.args.name.now c.args.table.now _ c.in_ok-new_sort_name.ensures.gives c.in_err-add_sort.ensures.causes; same = c.in_err-add_sort.ensures.err })
 
 pub returns-clause-adds : goal.returns-clause-adds
 returns-clause-adds c =

@@ -10,11 +10,11 @@ returns-in-Some-clause-gives c = rw (c.in-Name.is, ← c.as_slice.ensures) (name
 pub returns-in-None-clause-causes : goal.returns-in-None-clause-causes
 returns-in-None-clause-causes c = λ ts.
     rw c.in-Name.is
-      (error_cause _ (UnknownSymbol (Symbol c.as_slice-in-None.result.now)) c.unknown.result
-        (rw c.as_slice-in-None.ensures (named_refused c.in-Name.name c.args.table.now ts (rw c.as_slice.ensures at (sym c.in-None.ensures))))
-        c.unknown.ensures)
+    (error_cause _ (UnknownSymbol (Symbol c.as_slice-in-None.result.now)) c.unknown.result
+    (rw c.as_slice-in-None.ensures (named_refused c.in-Name.name c.args.table.now ts (rw c.as_slice.ensures at (sym c.in-None.ensures))))
+    c.unknown.ensures)
 
 pub returns-in-Applied-clause-causes : goal.returns-in-Applied-clause-causes
 returns-in-Applied-clause-causes c = λ ts.
     rw (c.in-Applied.is, ← c.as_slice-in-Applied.ensures)
-      (error_cause _ (UnknownSymbol (Symbol c.as_slice-in-Applied.result.now)) c.unknown-in-Applied.result (applied_refused c.as_slice-in-Applied.result.now c.args.table.now ts) c.unknown-in-Applied.ensures)
+    (error_cause _ (UnknownSymbol (Symbol c.as_slice-in-Applied.result.now)) c.unknown-in-Applied.result (applied_refused c.as_slice-in-Applied.result.now c.args.table.now ts) c.unknown-in-Applied.ensures)

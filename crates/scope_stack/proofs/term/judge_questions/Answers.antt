@@ -11,7 +11,7 @@ returns-in-Ok-clause-gives c =
     record {
       names = c.judge_terms.new.table;
       is_judged = questions_done c.args.texts.now (scope_by c.args.table.now c.args.terms.now.trees) (scope_by c.judge_terms.new.table c.judge_terms.new.terms.trees)
-        (typed_by c.judge_terms.new.terms.trees c.in-Ok.asked) c.in-Ok.ensures.gives le;
+          (typed_by c.judge_terms.new.terms.trees c.in-Ok.asked) c.in-Ok.ensures.gives le;
       within = c.in-Ok.ensures.within;
     }
 

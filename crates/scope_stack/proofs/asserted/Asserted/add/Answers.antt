@@ -11,4 +11,4 @@ invariant_of-self-2 c =
 pub returns-clause-ok : goal.returns-clause-ok
 returns-clause-ok c =
     rw (c.in_ok-push.ensures.items, ← c.self.view_is)
-      (pieces-more 0 c.self.inside.items.items (c.args.assertion ∷ []) c.self.inside.starts.items _ (omega arith) c.self.invariant)
+    (pieces-more 0 c.self.inside.items.items (c.args.assertion ∷ []) c.self.inside.starts.items _ (omega arith) c.self.invariant)

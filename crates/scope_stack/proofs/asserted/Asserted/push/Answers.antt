@@ -11,4 +11,4 @@ pub returns-clause-ok : goal.returns-clause-ok
 returns-clause-ok c =
     let all : length c.self.inside.items.items ≡ c.len.result = omega (arith, c.len.ensures, c.self.inside.items.ok) in
     rw (c.in_ok-extend.ensures.ok, ← all, ← c.self.view_is)
-      (pieces-cut 0 c.self.inside.items.items c.self.inside.starts.items _ c.args.levels (omega arith) c.self.invariant)
+    (pieces-cut 0 c.self.inside.items.items c.self.inside.starts.items _ c.args.levels (omega arith) c.self.invariant)

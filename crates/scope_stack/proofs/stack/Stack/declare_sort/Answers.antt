@@ -11,10 +11,10 @@ pub invariant_of-self : goal.invariant_of-self
 invariant_of-self c =
     let d : Declares (declare_sort c.args.name.now c.args.arity) c.self.inside.table c.declare_sort.result c.declare_sort.new.table = rw (to_z-of_z w128 c.args.arity c.ranges.arity) at c.declare_sort.ensures in
     declared_keeps (DeclareSort c.args.name.now c.args.arity) (declare_sort c.args.name.now c.args.arity) refl c.self.inside.table c.declare_sort.new.table c.self.inside.terms c.self.inside.asserted
-      c.declare_sort.result c.self.invariant d
+    c.declare_sort.result c.self.invariant d
 
 pub returns : goal.returns
 returns c =
     let d : Declares (declare_sort c.args.name.now c.args.arity) c.self.inside.table c.declare_sort.result c.declare_sort.new.table = rw (to_z-of_z w128 c.args.arity c.ranges.arity) at c.declare_sort.ensures in
     rw (← c.self.view_is)
-      (declared_carries (declare_sort c.args.name.now c.args.arity) c.self.inside.table c.declare_sort.new.table c.self.inside.terms c.self.inside.asserted c.declare_sort.result c.self.invariant d)
+    (declared_carries (declare_sort c.args.name.now c.args.arity) c.self.inside.table c.declare_sort.new.table c.self.inside.terms c.self.inside.asserted c.declare_sort.result c.self.invariant d)
