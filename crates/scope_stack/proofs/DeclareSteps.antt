@@ -1,11 +1,11 @@
 -- Judging declarations and definitions.
-use Rattle.std.proofs.Common.{if◌then◌else◌, ◌≡◌, ◌∙◌, sym, refl, ap, ap₂, ℕ, ◌+◌, ◌<◌, Bool, true, false, nat_lt, List, [], ◌∷◌, ◌++◌, Option, Some, None, ℤ, pos, negsuc, unsigned_abs, nat_eq, arith, subst, Result, Ok, Err}
+use Rattle.std.proofs.Common.{if◌then◌else◌, ◌≡◌, ◌∙◌, sym, refl, ap, ap₂, ℕ, ◌+◌, ◌<◌, Bool, true, false, nat_lt, List, [], ◌∷◌, ◌++◌, None, ℤ, pos, negsuc, unsigned_abs, nat_eq, arith, subst, Result, Ok, Err}
 use Rattle.std.proofs.lemmas.Bool.Decides.{nat_tests}
 use Rattle.smt_meaning.specs.declared.values.Sort.{Sort}
 use Rattle.smt_meaning.specs.declared.values.Sort.TheVariants.{Free}
 use Rattle.smt_meaning.specs.declared.refusals.Refusal.TheVariants.{TooManySymbols}
 use Rattle.smt_meaning.specs.declared.commands.WrittenSort.{WrittenSort}
-use Rattle.smt_meaning.specs.Declaration.{Declaration, Body}
+use Rattle.smt_meaning.specs.Declaration.{Declaration}
 use Rattle.smt_meaning.specs.Term.{Tree, int_eq}
 use Rattle.smt_meaning.specs.Sorts.{Scope, done, refused, return, declare, declare_in, most_symbols}
 use Rattle.smt_meaning.specs.StackCommand.{declares, is_unsupported, declare_sort, define_sort, new_sort_name, new_function_name, judge_sort, judge_sorts, sort_declaration, function_declaration, declare_new_sort, define_new_sort, declare_function}

@@ -1,13 +1,13 @@
 -- What becomes of the frames as their parts change.
-use Rattle.std.proofs.Common.{◌≡◌, ◌∙◌, sym, refl, ap, ap₂, subst, ℕ, zero, suc, ◌+◌, ◌-◌, ◌<◌, ◌≤◌, List, [], ◌∷◌, ◌++◌, map, take, length, replicate, flat_map, arith, All}
+use Rattle.std.proofs.Common.{◌≡◌, ◌∙◌, refl, ap, ap₂, ℕ, zero, suc, ◌+◌, ◌<◌, List, [], ◌∷◌, ◌++◌, map, take, length, replicate, flat_map, arith, All}
 use Rattle.std.proofs.lemmas.List.{append-nil, map-append, length-append}
 use Rattle.std.proofs.lemmas.List.Elements.{All-nil, All-cons, All-head, All-tail, All-append, All-weaker}
 use Rattle.smt_meaning.specs.declared.tokens.Token.{Token}
 use Rattle.smt_meaning.specs.Declaration.{Declaration}
 use Rattle.smt_meaning.specs.Term.{Tree, tree_at}
-use Rattle.smt_meaning.specs.Stack.{Assertion as Asserted, Frame, signature_of, assertions_of, terms_of, on_top, empty_frame, depth}
+use Rattle.smt_meaning.specs.Stack.{Assertion as Asserted, signature_of, assertions_of, on_top, empty_frame}
 use Rattle.smt_meaning.specs.State.{texts_of}
-use Rattle.smt_sorts.specs.Names.{Names, all_of_levels, signature, on_newest}
+use Rattle.smt_sorts.specs.Names.{all_of_levels, on_newest}
 use Rattle.scope_stack.specs.declared.answers.Assertion.{Assertion}
 use Rattle.scope_stack.specs.Pieces.{all_of, on_last}
 use Rattle.scope_stack.specs.Inside.{asserted_by, frame_by, frames_by, IsWithin}

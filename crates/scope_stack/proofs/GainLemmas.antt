@@ -1,16 +1,16 @@
 -- A stack after declarations and assertions.
-use Rattle.std.proofs.Common.{◌≡◌, ◌∙◌, sym, refl, ap, ap₂, subst, ℕ, ◌+◌, ◌<◌, ◌≤◌, List, [], ◌∷◌, ◌++◌, map, drop, length, arith, All, Option, Some, Result, Ok, Err}
-use Rattle.std.proofs.lemmas.List.{drop_at, length-append}
+use Rattle.std.proofs.Common.{◌≡◌, ◌∙◌, sym, refl, ap, ap₂, subst, ℕ, ◌<◌, List, [], ◌∷◌, ◌++◌, map, drop, length, arith, All, Some, Result, Ok, Err}
+use Rattle.std.proofs.lemmas.List.{drop_at}
 use Rattle.std.proofs.lemmas.List.Elements.{All-nil, All-cons}
 use Rattle.elaborate.specs.Values.{IsLonger}
 use Rattle.smt_meaning.specs.declared.commands.Command.{Command}
 use Rattle.smt_meaning.specs.declared.commands.Command.TheVariants.{Assert, GetValue}
 use Rattle.smt_meaning.specs.declared.tokens.Token.{Token}
 use Rattle.smt_meaning.specs.Declaration.{Declaration}
-use Rattle.smt_meaning.specs.Term.{Tree, tree_at}
-use Rattle.smt_meaning.specs.Sorts.{Scope, done, refused, Judging, Typed}
-use Rattle.smt_meaning.specs.Stack.{Assertion as Asserted, Frame, on_top, signature_of}
-use Rattle.smt_meaning.specs.StackCommand.{Stack, Change, declares, asserts, asks, is_unsupported, stack_command, scope_of, judged, judged_is, changed, new_declarations, assert_term, ask_terms}
+use Rattle.smt_meaning.specs.Term.{Tree}
+use Rattle.smt_meaning.specs.Sorts.{done, Judging, Typed}
+use Rattle.smt_meaning.specs.Stack.{Assertion as Asserted, Frame, on_top}
+use Rattle.smt_meaning.specs.StackCommand.{Stack, Change, declares, asserts, asks, is_unsupported, stack_command, judged, judged_is, changed, new_declarations, assert_term, ask_terms}
 use Rattle.smt_sorts.specs.Names.{Names, signature, on_newest, HasGained}
 use Rattle.term_store.specs.Terms.{Terms}
 use Rattle.scope_stack.specs.declared.answers.Assertion.{Assertion}

@@ -1,5 +1,5 @@
 -- Judging parameters and bodies.
-use Rattle.std.proofs.Common.{◌≡◌, ◌∙◌, sym, refl, ap, ap₂, subst, ℕ, ◌+◌, Bool, true, false, not, List, [], ◌∷◌, ◌++◌, map, length, arith, append_assoc, Some, bytes_eq, if◌then◌else◌}
+use Rattle.std.proofs.Common.{◌≡◌, ◌∙◌, sym, refl, ap, ap₂, ℕ, ◌+◌, Bool, true, false, not, List, [], ◌∷◌, ◌++◌, map, length, arith, append_assoc, Some, bytes_eq, if◌then◌else◌}
 use Rattle.std.proofs.lemmas.List.{append-nil, length_push}
 use Rattle.elaborate.specs.declared.Parameter.{Parameter}
 use Rattle.elaborate.specs.Judged.{parameters_from, variables_of}
@@ -11,15 +11,15 @@ use Rattle.smt_meaning.specs.declared.refusals.Refusal.{Refusal}
 use Rattle.smt_meaning.specs.declared.refusals.Refusal.TheVariants.{AlreadyDeclared, SortsDiffer}
 use Rattle.smt_meaning.specs.declared.commands.WrittenSort.{WrittenSort}
 use Rattle.smt_meaning.specs.Declaration.{Body}
-use Rattle.smt_meaning.specs.Term.{Tree, node, none}
+use Rattle.smt_meaning.specs.Term.{node, none}
 use Rattle.smt_meaning.specs.Signature.{is_one_of, sort_eq}
 use Rattle.smt_meaning.specs.Sorts.{Scope, Outcome, done, refused, Judging, go_on, ◌>>=◌, ◌>>◌, return, require, Variable, not_before, declare}
 use Rattle.smt_meaning.specs.StackCommand.{declares, Bodied, judge_sort, judge_parameters, judge_body, new_function_name, function_declaration, define_function, sorts_of_variables}
 use Rattle.smt_sorts.specs.Names.{Names}
 use Rattle.scope_stack.specs.declared.answers.StackError.{StackError}
 use Rattle.scope_stack.specs.declared.answers.StackError.TheVariants.{Refused, Memory}
-use Rattle.scope_stack.specs.Judged.{scope_by, IsCause, IsError, Gives, Causes, Adds, names_onto, names_before, IsParameter, one_parameter, Continues, body_of_sort, IsBody, sort_of}
-use Rattle.scope_stack.proofs.Steps.{bind_done, bind_refused, next_done, next_refused, return_done, require_done, require_refused, bind_cause, next_cause, bind_then, next_then}
+use Rattle.scope_stack.specs.Judged.{scope_by, IsError, Gives, Causes, Adds, names_onto, names_before, IsParameter, one_parameter, Continues, body_of_sort, IsBody, sort_of}
+use Rattle.scope_stack.proofs.Steps.{bind_done, next_done, next_refused, return_done, require_done, require_refused, bind_cause, next_cause, bind_then, next_then}
 use Rattle.scope_stack.proofs.SortSteps.{error_cause}
 
 -- ---- names before

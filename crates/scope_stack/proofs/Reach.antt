@@ -1,5 +1,5 @@
 -- Each command leads from a stack that commands give to another.
-use Rattle.std.proofs.Common.{◌≡◌, ◌∙◌, sym, refl, ap, subst, ℕ, List, [], ◌∷◌, ◌++◌, Option, Some, None}
+use Rattle.std.proofs.Common.{◌≡◌, ◌∙◌, refl, ap, subst, ℕ, List, [], ◌∷◌, ◌++◌, Some}
 use Rattle.smt_meaning.specs.declared.commands.Command.{Command}
 use Rattle.smt_meaning.specs.Sorts.{Scope, done, Judging}
 use Rattle.smt_meaning.specs.StackCommand.{Stack, Change, start, stack_command, judged, changed, after_outcome, after_command, after, after_all}

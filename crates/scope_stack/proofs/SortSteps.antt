@@ -1,5 +1,5 @@
 -- Judging names and sorts.
-use Rattle.std.proofs.Common.{◌≡◌, ◌∙◌, sym, refl, ap, ℕ, Bool, true, false, not, Option, Some, None, List, [], ◌∷◌, ◌++◌, length, arith}
+use Rattle.std.proofs.Common.{◌≡◌, ◌∙◌, sym, refl, ap, ℕ, Bool, false, not, Option, Some, None, List, [], ◌∷◌, ◌++◌, length, arith}
 use Rattle.std.proofs.lemmas.List.{append-nil}
 use Rattle.std.proofs.Common.{append_assoc}
 use Rattle.smt_meaning.specs.declared.values.Sort.{Sort}
@@ -11,7 +11,7 @@ use Rattle.smt_meaning.specs.declared.commands.WrittenSort.TheVariants.{Name, Ap
 use Rattle.smt_meaning.specs.Declaration.{Declaration}
 use Rattle.smt_meaning.specs.Term.{Tree}
 use Rattle.smt_meaning.specs.Signature.{is_one_of, is_some, find_function, find_sort, reserved_functions, reserved_sorts}
-use Rattle.smt_meaning.specs.Sorts.{Scope, Outcome, done, refused, Judging, go_on, ◌>>=◌, ◌>>◌, return, require, the_scope}
+use Rattle.smt_meaning.specs.Sorts.{Scope, Outcome, done, refused, go_on, ◌>>=◌, return}
 use Rattle.smt_meaning.specs.StackCommand.{sort_named, judge_sort, judge_sorts, new_sort_name, new_function_name}
 use Rattle.smt_sorts.specs.declared.errors.NameError.{NameError}
 use Rattle.smt_sorts.specs.declared.errors.NameError.TheVariants.{Reserved, AlreadyDeclared}
@@ -20,7 +20,7 @@ use Rattle.smt_sorts.specs.Names as names
 use Rattle.scope_stack.specs.declared.answers.StackError.{StackError}
 use Rattle.scope_stack.specs.declared.answers.StackError.TheVariants.{Refused, Memory}
 use Rattle.scope_stack.specs.Judged.{scope_by, IsCause, IsError, Gives, Causes, Resumes, name_refusal}
-use Rattle.scope_stack.proofs.Steps.{bind_done, bind_refused, next_done, next_refused, scope_done, return_done, refuse_refused, require_done, require_refused, required_done, required_refused, bind_cause, bind_then}
+use Rattle.scope_stack.proofs.Steps.{bind_refused, next_done, next_refused, scope_done, return_done, refuse_refused, require_done, require_refused, required_done, required_refused}
 
 -- ---- names
 

@@ -1,17 +1,15 @@
 -- A stack after its parts have changed.
-use Rattle.std.proofs.Common.{◌≡◌, ◌∙◌, sym, refl, ap, subst, ℕ, suc, ◌+◌, ◌-◌, ◌<◌, ◌≤◌, min, ℤ, unsigned_abs, List, [], ◌∷◌, ◌++◌, take, length, replicate, arith, All, Option, Some}
+use Rattle.std.proofs.Common.{◌≡◌, ◌∙◌, sym, refl, ap, subst, ℕ, ◌+◌, ◌-◌, ◌<◌, ◌≤◌, ℤ, unsigned_abs, List, [], ◌∷◌, ◌++◌, take, length, replicate, arith}
 use Rattle.std.proofs.lemmas.List.{length-append, length-replicate, length-take-le}
 use Rattle.std.proofs.lemmas.List.Elements.{All-nil}
-use Rattle.smt_meaning.specs.declared.commands.Command.{Command}
-use Rattle.smt_meaning.specs.declared.commands.Command.TheVariants.{Push, Pop, ResetAssertions, Reset}
+use Rattle.smt_meaning.specs.declared.commands.Command.TheVariants.{Push, Pop, ResetAssertions}
 use Rattle.smt_meaning.specs.Term.{Tree}
-use Rattle.smt_meaning.specs.Sorts.{Scope, done, Judging, return}
-use Rattle.smt_meaning.specs.Stack.{depth, start_frames, signature_of, pushed, popped, Frame}
-use Rattle.smt_meaning.specs.StackCommand.{Stack, Change, pushes, pops, clears, begins_again, start, scope_of, judged, judged_is, changed, push_levels, pop_levels, most_levels}
+use Rattle.smt_meaning.specs.Sorts.{Scope, done, return}
+use Rattle.smt_meaning.specs.Stack.{depth, signature_of, Frame}
+use Rattle.smt_meaning.specs.StackCommand.{Stack, Change, pushes, pops, clears, scope_of, judged, judged_is, changed, push_levels, pop_levels, most_levels}
 use Rattle.smt_sorts.specs.Names.{Names, with_levels, without_levels, cleared, no_names, signature}
 use Rattle.term_store.specs.Terms.{Terms}
 use Rattle.scope_stack.specs.declared.answers.Assertion.{Assertion}
-use Rattle.scope_stack.specs.Pieces.{all_of}
 use Rattle.scope_stack.specs.Inside.{frames_by, stack_by, IsStack, IsReached, IsWithin}
 use Rattle.scope_stack.specs.Carries.{IsDone}
 use Rattle.scope_stack.specs.Judged.{scope_by}

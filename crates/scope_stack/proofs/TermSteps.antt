@@ -1,5 +1,5 @@
 -- Judging the terms of commands.
-use Rattle.std.proofs.Common.{◌≡◌, ◌∙◌, sym, refl, ap, ap₂, subst, ℕ, ◌+◌, ◌<◌, ◌≤◌, Bool, true, false, nat_le, List, [], ◌∷◌, ◌++◌, take, length, All, arith, append_assoc}
+use Rattle.std.proofs.Common.{◌≡◌, ◌∙◌, sym, refl, ap, ap₂, subst, ℕ, ◌+◌, ◌<◌, ◌≤◌, true, false, nat_le, List, [], ◌∷◌, ◌++◌, take, length, All, arith, append_assoc}
 use Rattle.std.proofs.lemmas.Bool.{le-leb}
 use Rattle.std.proofs.lemmas.List.{take_at, append-nil, map-append, length-append}
 use Rattle.std.proofs.lemmas.List.Elements.{All-nil, All-head, All-tail, All-push, All-weaker}
@@ -9,7 +9,6 @@ use Rattle.elaborate.specs.Judged.{IsCauseOf}
 use Rattle.elaborate.specs.Values.{IsLonger}
 use Rattle.smt_meaning.specs.declared.tokens.Token.{Token}
 use Rattle.smt_meaning.specs.declared.values.Sort.TheVariants.{Bool as Truths}
-use Rattle.smt_meaning.specs.declared.refusals.Refusal.{Refusal}
 use Rattle.smt_meaning.specs.declared.refusals.Refusal.TheVariants.{NotBool}
 use Rattle.smt_meaning.specs.Sexp.{sexp}
 use Rattle.smt_meaning.specs.Signature.{sort_eq}
@@ -22,7 +21,7 @@ use Rattle.scope_stack.specs.declared.answers.Asked.{Asked}
 use Rattle.scope_stack.specs.declared.answers.StackError.{StackError}
 use Rattle.scope_stack.specs.declared.answers.StackError.TheVariants.{Refused, Memory}
 use Rattle.scope_stack.specs.Carries.{typed_by}
-use Rattle.scope_stack.specs.Judged.{scope_by, IsCause, IsSameError, IsAsking, AreJudged}
+use Rattle.scope_stack.specs.Judged.{scope_by, IsCause, IsSameError, IsAsking}
 use Rattle.scope_stack.proofs.FrameLemmas.{tree_at-longer}
 use Rattle.scope_stack.proofs.Steps.{bind_cause, bind_done, bind_refused, next_done, next_refused, return_done, require_done, require_refused, scope_done}
 

@@ -1,4 +1,4 @@
-use Rattle.std.proofs.Common.{◌≡◌, refl, sym, ◌∙◌, false, pos}
+use Rattle.std.proofs.Common.{◌≡◌, refl, sym, ◌∙◌, pos}
 use Rattle.std.specs.Int.{w128}
 use Rattle.std.proofs.lemmas.Int.{to_z-of_z}
 use Rattle.smt_meaning.specs.Term.{int_eq}

@@ -1,4 +1,4 @@
-use Rattle.std.proofs.Common.{sym, ◌∙◌, ◌≡◌, true, false}
+use Rattle.std.proofs.Common.{sym, ◌∙◌, ◌≡◌}
 use Rattle.std.proofs.lemmas.Result.{err_from_is_err_and}
 use Rattle.smt_meaning.specs.declared.refusals.Refusal.TheVariants.{AlreadyDeclared}
 use Rattle.smt_meaning.specs.Signature.{is_one_of}

@@ -1,4 +1,4 @@
-use Rattle.std.proofs.Common.{◌≡◌, ◌≤◌, length, arith, sym, ◌∙◌}
+use Rattle.std.proofs.Common.{◌≤◌, length, arith, sym}
 use Rattle.smt_meaning.specs.StackCommand.{most_terms}
 use Rattle.scope_stack.specs.Judged.{scope_by}
 use Rattle.scope_stack.specs.Carries.{typed_by}

@@ -1,4 +1,4 @@
-use Rattle.std.proofs.Common.{◌≡◌, ◌+◌, ◌≤◌, ◌++◌, ◌∷◌, [], length, arith, ap}
+use Rattle.std.proofs.Common.{◌≡◌, ◌+◌, ◌++◌, ◌∷◌, [], length, arith}
 use Rattle.std.proofs.lemmas.List.{length_push}
 use Rattle.scope_stack.proofs.PieceLemmas.{pieces-more, cuts-more}
 use Rattle.scope_stack.proofs.asserted.Asserted.add.Goals as goal

@@ -1,4 +1,4 @@
-use Rattle.std.proofs.Common.{◌≡◌, ◌+◌, length, arith}
+use Rattle.std.proofs.Common.{◌≡◌, length, arith}
 use Rattle.scope_stack.proofs.PieceLemmas.{pieces-cut, cuts-cut}
 use Rattle.scope_stack.proofs.asserted.Asserted.push.Goals as goal
 

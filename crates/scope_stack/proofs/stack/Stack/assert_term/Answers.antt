@@ -1,4 +1,3 @@
-use Rattle.std.proofs.Common.{refl}
 use Rattle.std.proofs.lemmas.Result.{err_from_is_err_and}
 use Rattle.smt_meaning.specs.StackCommand.{assert_term}
 use Rattle.scope_stack.proofs.GainLemmas.{failed_carries, asserted_keeps, asserted_is}

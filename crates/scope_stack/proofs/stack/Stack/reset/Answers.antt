@@ -1,4 +1,3 @@
-use Rattle.std.proofs.Common.{refl}
 use Rattle.scope_stack.proofs.StackLemmas.{new_keeps}
 use Rattle.scope_stack.proofs.stack.Stack.reset.Goals as goal
 
