@@ -10,3 +10,4 @@ pub mod Moves
 pub mod Heads
 pub mod Runs
 pub mod Lets
+mod Puts

@@ -11,6 +11,7 @@ ghost use Rattle.elaborate.specs.Judged.{scope_of, rules_of, term_rules, typed_t
 ghost use Rattle.elaborate.specs.Values.{IsLonger, HasGrown, Comes};
 
 mod apply;
+mod definitions;
 mod error;
 mod forms;
 mod frame;
