@@ -1,5 +1,3 @@
-pub mod Logics
-pub mod Decide
-pub mod Spelled
 pub mod Progress
 pub mod Ended
+pub mod Kinds

@@ -2,14 +2,10 @@
 #![tactic(auto)]
 
 mod command;
-mod decide;
-mod logic;
+mod decider;
+mod print;
 mod serving;
-mod stack;
-mod step;
+mod session;
 mod top;
 
 pub use top::{Ended, Note, run, run_within, unbegun};
-
-#[cfg(test)]
-mod tests;
