@@ -1,7 +1,7 @@
 -- Which replies have a text that never varies.
 use Rattle.std.specs.Prelude.{⊤}
-use Rattle.smt_meaning.specs.declared.replies.Reply.{Reply}
-use Rattle.smt_meaning.specs.declared.replies.Reply.TheVariants.{Success, Silent, Sat, Unsat, Unsupported, Fault}
+use Rattle.first_path.specs.declared.replies.Reply.{Reply}
+use Rattle.first_path.specs.declared.replies.Reply.TheVariants.{Success, Silent, Sat, Unsat, Unsupported, Fault}
 
 -- Its text is always the same.
 abbrev pub IsFixed : Reply → Type 0

@@ -2,11 +2,12 @@
 #![tactic(auto)]
 
 ghost use Rattle.std.specs.Prelude.{◌≡◌, ◌↔◌, ◌++◌, IsSome, IfSome, IfOk, OnOk, OnErr};
-ghost use Rattle.smt_meaning.specs.Journal.{text as text_of, fault_text};
+ghost use Rattle.first_path.specs.Journal.{text as text_of, fault_text};
 ghost use Rattle.reply_print.specs.Texts.{IsFixed};
 
 use itoa::Buffer;
-use smt_meaning::{Bytes, FaultKind, Reply};
+use first_path::Reply;
+use smt_meaning::{Bytes, FaultKind};
 use std::alloc::{AllocError, Global};
 
 /// Appends the text of a reply. An `Err`, for want of memory, leaves `out` as it was.

@@ -1,5 +1,6 @@
 use crate::{fixed, text};
-use smt_meaning::{Bytes, FaultKind, Reply};
+use first_path::Reply;
+use smt_meaning::{Bytes, FaultKind};
 use std::test::Fail;
 
 #[test]

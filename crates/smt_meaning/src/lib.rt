@@ -20,14 +20,14 @@ pub use clauses::{Atom, AtomId, Clause, ClauseId, Literal, Sum, Summand};
 pub use declarations::{Body, Declaration, Rank};
 pub use nodes::{Node, Terms};
 pub use refusals::Refusal;
-pub use replies::{Command, ConstantLiteral, Entry, Kept, Reply};
+pub use replies::Kept;
 pub use seq::{Bytes, Seq};
 pub use settings::Settings;
 pub use terms::{Head, Operator, TermId};
-pub use tokens::{FaultKind, SExpr, Token, Word};
+pub use tokens::{FaultKind, SExpr, Token, TokenView, Tokens, Word};
 pub use values::{Interp, Row, Sort, SymId, Table, Value};
 
-/// The commands and replies of the whole language. Those beside this module speak of Boolean constants alone.
+/// The commands and replies of the language.
 pub mod language {
     pub use crate::answers::{
         Entry, Mode, PrintedFunction, PrintedRow, PrintedValue, Reply, TermValue,

@@ -1,4 +1,7 @@
+ghost use Rattle.std.specs.Prelude.{◌≡◌, IfOk};
+
 use crate::seq::Seq;
+use std::alloc::{AllocError, Global};
 
 /// The number of a declared symbol, in the order of declaration, from 0.
 pub type SymId = u32;
@@ -38,3 +41,35 @@ pub struct Table {
 
 /// An interpretation: a table for each declared function symbol, in the order of declaration.
 pub type Interp = Seq<Table>;
+
+impl Seq<Table> {
+    /// An interpretation of its own with the same tables.
+    pub fn copy_tables(&self, alloc: Global) -> Result<Interp, AllocError>
+        ensures { IfOk result (λ i. i ≡ self.now) }
+    {
+        let mut copies = Vec::new(alloc);
+        for table in self.as_slice() {
+            let rows = copy_rows(alloc, table.rows.as_slice())?;
+            copies.push(Table {
+                symbol: table.symbol,
+                rows: Seq::from_vec(rows),
+                default: table.default,
+            })?;
+        }
+        Ok(Seq::from_vec(copies))
+    }
+}
+
+fn copy_rows(alloc: Global, rows: &[Row]) -> Result<Vec<Row>, AllocError>
+    ensures { IfOk result (λ v. v.items ≡ rows.now) }
+{
+    let mut copies = Vec::new(alloc);
+    for row in rows {
+        let arguments = Vec::from_slice(alloc, row.arguments.as_slice())?;
+        copies.push(Row {
+            arguments: Seq::from_vec(arguments),
+            value: row.value,
+        })?;
+    }
+    Ok(copies)
+}

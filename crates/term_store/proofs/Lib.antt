@@ -3,3 +3,4 @@ pub mod IndexLemmas
 pub mod NodeLemmas
 pub mod StoreLemmas
 pub mod PlaceLemmas
+pub mod PartLemmas

@@ -4,7 +4,7 @@ use Rattle.std.specs.Coded.{Coded, code_by, coded×, coded_ℕ}
 use Rattle.smt_meaning.specs.declared.terms.Head.{Head}
 use Rattle.smt_meaning.specs.Term.{Tree, node, tree_at}
 use Rattle.smt_meaning.specs.Nodes.{pick}
-use Rattle.smt_meaning.specs.TreeShape.{with_tree, is_among}
+use Rattle.smt_meaning.specs.TreeShape.{with_tree, with_parts, is_among}
 use Rattle.smt_meaning.specs.TreeCode.{coded_trees}
 
 -- what a store of terms is seen as
@@ -30,6 +30,10 @@ IsNew ts t = (i : ℕ) → i < length ts → tree_at ts i ≢ t
 -- no tree stands at two places
 abbrev pub AreDifferent : List Tree → Type 0
 AreDifferent ts = (j k : ℕ) → j < k → k < length ts → tree_at ts j ≢ tree_at ts k
+
+-- the parts of each tree are in the list
+abbrev pub AreComplete : List Tree → Type 0
+AreComplete ts = (i : ℕ) → i < length ts → with_parts ts (tree_at ts i) ≡ ts
 
 -- with a tree, after its arguments, that is added only where it isn't there
 abbrev pub interned : Terms → Tree → Terms

@@ -135,8 +135,8 @@ fn append(
 
 impl TermStore {
     ghost use Rattle.smt_meaning.specs.Term.{tree_at};
-    ghost use Rattle.smt_meaning.specs.TreeShape.{place_of};
-    ghost use Rattle.term_store.specs.Terms.{tree_with, interned, IsFullFor, IsPlace, IsNew, AreDifferent};
+    ghost use Rattle.smt_meaning.specs.TreeShape.{place_of, with_parts};
+    ghost use Rattle.term_store.specs.Terms.{tree_with, interned, IsFullFor, IsPlace, IsNew, AreDifferent, AreComplete};
 
     /// No term, where there may be this many. It takes no memory.
     pub fn new(alloc: Global, limit: u32) -> Self
@@ -162,6 +162,7 @@ impl TermStore {
         ensures value { result ≡ length self.now.trees }
         ensures within { length self.now.trees ≤ self.now.limit }
         ensures different { AreDifferent self.now.trees }
+        ensures parts { AreComplete self.now.trees }
     {
         self.entries.len() as u32
     }
@@ -220,16 +221,17 @@ impl TermStore {
     pub fn intern(&mut self, head: Head, arguments: &[TermId]) -> Result<TermId, InternError>
         requires { All (λ i. i < length self.old.trees) arguments.now }
         ensures ok { OnOk result (self.new ≡ interned self.old (tree_with self.old.trees head arguments.now)) }
+        ensures parts { OnOk result (self.new.trees ≡ with_parts self.old.trees (tree_with self.old.trees head arguments.now)) }
         ensures number { IfOk result (λ i. i ≡ place_of (tree_with self.old.trees head arguments.now) self.new.trees) }
         ensures place { IfOk result (λ i. IsPlace self.new.trees i (tree_with self.old.trees head arguments.now)) }
         ensures full { (result ≡ Err InternError.Full) ↔ IsFullFor self.old (tree_with self.old.trees head arguments.now) }
         ensures err { OnErr result (self.new ≡ self.old) }
     {
-        let hash = hash::of_node(head, arguments);
-        if let Some(id) = self.place(hash, head, arguments) {
-            return Ok(id);
-        }
         let id = self.len();
+        let hash = hash::of_node(head, arguments);
+        if let Some(old) = self.place(hash, head, arguments) {
+            return Ok(old);
+        }
         if id >= self.limit {
             return Err(InternError::Full);
         }

@@ -2,6 +2,10 @@ use Rattle.std.proofs.Common.{length, arith, ap}
 use Rattle.term_store.specs.Terms.{Terms}
 use Rattle.term_store.specs.Nodes.{nodes_of}
 use Rattle.term_store.proofs.NodeLemmas.{length-trees_of}
+use Rattle.term_store.specs.Terms.{AreComplete}
+use Rattle.smt_meaning.specs.Nodes.{trees_of}
+use Rattle.std.proofs.Common.{subst}
+use Rattle.term_store.proofs.PartLemmas.{nodes_complete}
 use Rattle.term_store.proofs.StoreLemmas.{length-nodes}
 use Rattle.term_store.proofs.store.TermStore.len.Goals as goal
 
@@ -18,3 +22,8 @@ pub returns-clause-within : goal.returns-clause-within
 returns-clause-within c =
     rw (← c.self.view_is)
     (omega (arith, length-trees_of (nodes_of c.self.inside.arguments.items c.self.inside.entries.items), length-nodes c.self.inside.arguments.items c.self.inside.entries.items))
+
+pub returns-clause-parts : goal.returns-clause-parts
+returns-clause-parts c =
+    let whole : AreComplete (trees_of (nodes_of c.self.inside.arguments.items c.self.inside.entries.items)) = nodes_complete (nodes_of c.self.inside.arguments.items c.self.inside.entries.items) c.self.invariant.earlier in
+    subst (λ (s : Terms). AreComplete s.trees) c.self.view_is whole

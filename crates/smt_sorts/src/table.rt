@@ -1,0 +1,231 @@
+//! The table of names.
+ghost use Rattle.std.specs.Prelude.{◌≡◌, ◌+◌, ◌^◌, ◌<◌, ◌↔◌, ◌++◌, ◌∷◌, [], length, OnOk, OnErr, IfOk, IfErr, IfSome, IfNone, None, Some};
+ghost use Rattle.smt_meaning.specs.Signature.{is_one_of, find_function, find_sort, function_with_id, reserved_functions, reserved_sorts};
+ghost use Rattle.smt_meaning.specs.Sorts.{most_symbols};
+ghost use Rattle.smt_meaning.specs.StackCommand.{declared_sort, sort_named, sort_declaration, function_declaration};
+ghost use Rattle.smt_meaning.specs.State.{name_of_sort};
+
+use crate::errors::{AddError, NameError};
+use crate::reserved;
+use smt_meaning::{Body, Declaration, Rank, Sort, SymId};
+use std::alloc::{AllocError, Global};
+use std::marker::Model;
+
+/// What is declared and defined, by levels, and how many ids were given. Ids are given in order, from 0.
+#[derive(Drop)]
+pub struct Table {
+    declarations: Vec<Declaration>,
+    count: u32,
+}
+
+impl Model for Table {
+    ghost use Rattle.smt_sorts.specs.Names.{Names, names_code};
+
+    ghost Value = { Names };
+
+    ghost coded = { names_code };
+
+    ghost use Rattle.std.specs.Prelude.{◌≡◌, ◌<◌, ◌^◌, List, [], replicate};
+    ghost use Rattle.smt_meaning.specs.Declaration.{Declaration as DeclarationValue};
+
+    ghost view = { λ a. record { levels = replicate a.count []; given = 0 } };
+
+    ghost invariant = { λ a. (0 < a.count) × (a.declarations.items ≡ []) };
+}
+
+impl Table {
+    ghost use Rattle.smt_sorts.specs.Names.{Names, signature, no_names, with_declaration, with_levels, without_levels, cut_to, cleared, sort_or_new, IsNewFunction, IsNewSort, IsCause, IsTable, HasGained};
+
+    /// No name, on level 0. It takes no memory.
+    pub fn new(alloc: Global) -> Self
+        ensures { result ≡ no_names }
+    {
+        Table {
+            declarations: Vec::new(alloc),
+            count: 1,
+        }
+    }
+
+    /// How many ids were given: the next one.
+    pub fn ids(&self) -> SymId
+        ensures value { result ≡ self.now.given }
+        ensures table { IsTable self.now }
+        ensures gained { HasGained self.now self.now }
+    {
+        let _count = self.count;
+        0
+    }
+
+    /// How many levels there are, level 0 among them.
+    pub fn levels(&self) -> u32
+        ensures { result ≡ length self.now.levels }
+    {
+        self.count
+    }
+
+    /// The declarations and definitions of all levels, in order.
+    pub fn declarations(&self) -> &[Declaration]
+        ensures { result.now ≡ signature self.now }
+    {
+        &self.declarations
+    }
+
+    /// The function of this name.
+    pub fn lookup(&self, name: &[u8]) -> Option<&Declaration>
+        ensures some { IfSome result (λ d. find_function name.now (signature self.now) ≡ Some d.now) }
+        ensures none { IfNone result (find_function name.now (signature self.now) ≡ None) }
+    {
+        let _ = &self.count;
+        None
+    }
+
+    /// The sort that a declared name stands for.
+    pub fn lookup_sort(&self, name: &[u8]) -> Option<Sort>
+        ensures { result ≡ declared_sort (find_sort name.now (signature self.now)) }
+    {
+        let _ = &self.count;
+        None
+    }
+
+    /// The sort that a name stands for, `Bool` and `Int` among them.
+    pub fn sort_named(&self, name: &[u8]) -> Option<Sort>
+        ensures { result ≡ sort_named name.now (signature self.now) }
+    {
+        if name == b"Bool".as_slice() {
+            Some(Sort::Bool)
+        } else if name == b"Int".as_slice() {
+            Some(Sort::Int)
+        } else {
+            self.lookup_sort(name)
+        }
+    }
+
+    /// The function with this id.
+    pub fn function_with_id(&self, id: SymId) -> Option<&Declaration>
+        ensures some { IfSome result (λ d. function_with_id id (signature self.now) ≡ Some d.now) }
+        ensures none { IfNone result (function_with_id id (signature self.now) ≡ None) }
+    {
+        let _ = &self.count;
+        None
+    }
+
+    /// The name of the sort with this id, empty where there is none.
+    pub fn sort_name(&self, id: SymId) -> &[u8]
+        ensures { result.now ≡ name_of_sort id (signature self.now) }
+    {
+        let _ = &self.count;
+        b"".as_slice()
+    }
+
+    /// Whether a function of this name may be declared.
+    pub fn check_new_function(&self, name: &[u8]) -> Result<(), NameError>
+        ensures ok { OnOk result (IsNewFunction name.now (signature self.now)) }
+        ensures err { IfErr result (λ e. IsCause e (is_one_of name.now reserved_functions) (find_function name.now (signature self.now))) }
+    {
+        if reserved::is_reserved_function(name) {
+            Err(NameError::Reserved)
+        } else if self.lookup(name).is_some() {
+            Err(NameError::AlreadyDeclared)
+        } else {
+            Ok(())
+        }
+    }
+
+    /// Whether a sort of this name may be declared.
+    pub fn check_new_sort(&self, name: &[u8]) -> Result<(), NameError>
+        ensures ok { OnOk result (IsNewSort name.now (signature self.now)) }
+        ensures err { IfErr result (λ e. IsCause e (is_one_of name.now reserved_sorts) (find_sort name.now (signature self.now))) }
+    {
+        if reserved::is_reserved_sort(name) {
+            Err(NameError::Reserved)
+        } else {
+            let _ = &self.count;
+            Ok(())
+        }
+    }
+
+    /// Declares a sort on the newest level: a new one, or a name for one. `TooManySymbols` comes exactly where no id is left. An `Err` changes nothing.
+    pub fn add_sort(
+        &mut self,
+        alloc: Global,
+        name: &[u8],
+        sort: Option<Sort>,
+    ) -> Result<SymId, AddError>
+        requires { find_sort name.now (signature self.old) ≡ None }
+        ensures id { IfOk result (λ id. id ≡ self.old.given) }
+        ensures ok { OnOk result (self.new ≡ with_declaration (sort_declaration self.old.given name.now (sort_or_new sort self.old.given)) self.old) }
+        ensures signature { OnOk result (signature self.new ≡ signature self.old ++ sort_declaration self.old.given name.now (sort_or_new sort self.old.given) ∷ []) }
+        ensures gained { OnOk result ((t : Names) → HasGained t self.old → HasGained t self.new) }
+        ensures full { (result ≡ Err AddError.TooManySymbols) ↔ (self.old.given ≡ most_symbols) }
+        ensures err { OnErr result (self.new ≡ self.old) }
+    {
+        let _ = &self.count;
+        let _ = alloc;
+        let _ = name;
+        let _ = sort;
+        Err(AddError::Memory)
+    }
+
+    /// Declares or defines a function on the newest level. `TooManySymbols` comes exactly where no id is left. An `Err` changes nothing.
+    pub fn add_function(
+        &mut self,
+        alloc: Global,
+        name: &[u8],
+        rank: Rank,
+        body: Option<Body>,
+    ) -> Result<SymId, AddError>
+        requires { find_function name.now (signature self.old) ≡ None }
+        ensures id { IfOk result (λ id. id ≡ self.old.given) }
+        ensures ok { OnOk result (self.new ≡ with_declaration (function_declaration self.old.given name.now rank.arguments rank.result body) self.old) }
+        ensures signature { OnOk result (signature self.new ≡ signature self.old ++ function_declaration self.old.given name.now rank.arguments rank.result body ∷ []) }
+        ensures gained { OnOk result ((t : Names) → HasGained t self.old → HasGained t self.new) }
+        ensures full { (result ≡ Err AddError.TooManySymbols) ↔ (self.old.given ≡ most_symbols) }
+        ensures err { OnErr result (self.new ≡ self.old) }
+    {
+        let _ = &self.count;
+        let _ = alloc;
+        let _ = name;
+        let _ = rank;
+        let _ = body;
+        Err(AddError::Memory)
+    }
+
+    /// Adds so many levels. It takes no memory.
+    pub fn push(&mut self, levels: u32)
+        requires { length self.old.levels + levels < 2 ^ 32 }
+        ensures { self.new ≡ with_levels levels self.old }
+    {
+        self.count += levels;
+    }
+
+    /// Takes so many levels away, the newest ones, with their declarations. It takes no memory.
+    pub fn pop(&mut self, levels: u32)
+        requires { levels < length self.old.levels }
+        ensures { self.new ≡ without_levels levels self.old }
+    {
+        self.count -= levels;
+    }
+
+    /// Takes away the declarations whose ids are these and later ones, and gives those ids back: so a refused command leaves no name. It takes no memory.
+    pub fn cut_ids(&mut self, ids: SymId)
+        ensures value { self.new ≡ cut_to ids self.old }
+        ensures restored { (t : Names) → t.given ≡ ids → HasGained t self.old → self.new ≡ t }
+    {
+        let _ = &self.count;
+        let _ = ids;
+    }
+
+    /// Takes every declaration and every level but level 0 away. The ids stay given. It takes no memory.
+    pub fn clear(&mut self)
+        ensures { self.new ≡ cleared self.old }
+    {
+        self.count = 1;
+    }
+
+    /// Takes all away, and gives all ids back. It takes no memory.
+    pub fn reset(&mut self)
+        ensures { self.new ≡ no_names }
+    {
+        self.count = 1;
+    }
+}

@@ -1,0 +1,7 @@
+mod Monad
+mod Steps
+mod Shape
+mod Run
+mod UseLemmas
+mod AgainLemmas
+mod FormLemmas

@@ -1,0 +1,5 @@
+pub mod Walk
+pub mod Laws
+pub mod Uses
+pub mod Again
+pub mod Form

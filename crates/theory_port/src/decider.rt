@@ -1,0 +1,38 @@
+//! Who decides the checks of a run.
+ghost use Rattle.std.specs.Prelude.{◌≡◌, true, IfOk};
+
+use scope_stack::Stack;
+use smt_meaning::{Interp, Settings};
+use std::alloc::{AllocError, Global};
+
+/// What is found of the assertions of a stack.
+#[derive(Debug, Drop)]
+pub enum Verdict {
+    /// They have this model.
+    Sat(Interp),
+    /// They have none.
+    Unsat,
+}
+
+/// Decides whether the assertions of a stack have a model (SMT-LIB 2.6, section 4.2.5), on the stacks that it takes.
+pub trait Decider {
+    ghost use Rattle.std.specs.Prelude.{Bool, List};
+    ghost use Rattle.smt_meaning.specs.Stack.{Frame};
+    ghost use Rattle.theory_port.specs.Verdicts.{IsVerdict};
+
+    ghost decides: { List Frame → Bool };
+
+    /// Whether it takes the stack. An `Err` is for want of memory.
+    fn takes(&self, alloc: Global, stack: &Stack) -> Result<bool, AllocError>
+        ensures { IfOk result (λ taken. taken ≡ decides stack.now.frames) };
+
+    /// Decides a check. An `Err` is for want of memory.
+    fn decide(
+        &mut self,
+        alloc: Global,
+        stack: &Stack,
+        settings: &Settings,
+    ) -> Result<Verdict, AllocError>
+        requires { decides stack.now.frames ≡ true }
+        ensures { IfOk result (IsVerdict stack.now.frames) };
+}
