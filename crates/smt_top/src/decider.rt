@@ -1,11 +1,9 @@
-ghost use Rattle.smt_meaning.specs.MayReply.{Decided};
-ghost use Rattle.smt_top.specs.Kinds.{is_propositional};
+ghost use Rattle.smt_meaning.specs.Kinds.{is_propositional};
 
-pub trait Decider {
-    ghost decides: { Decided };
-
-    fn look(&self) -> bool;
-}
+use scope_stack::Stack;
+use smt_meaning::Settings;
+use std::alloc::{AllocError, Global};
+use theory_port::{Decider, Verdict};
 
 #[derive(Drop)]
 pub struct Plain;
@@ -13,7 +11,21 @@ pub struct Plain;
 impl Decider for Plain {
     ghost decides = { is_propositional };
 
-    fn look(&self) -> bool {
-        false
+    fn takes(&self, alloc: Global, stack: &Stack) -> Result<bool, AllocError> {
+        let _ = alloc;
+        let _ = stack;
+        Err(AllocError)
+    }
+
+    fn decide(
+        &mut self,
+        alloc: Global,
+        stack: &Stack,
+        settings: &Settings,
+    ) -> Result<Verdict, AllocError> {
+        let _ = alloc;
+        let _ = stack;
+        let _ = settings;
+        Err(AllocError)
     }
 }

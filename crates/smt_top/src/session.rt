@@ -3,7 +3,7 @@ ghost use Rattle.smt_meaning.specs.State.{start};
 ghost use Rattle.smt_meaning.specs.MayReply.{MayReply};
 ghost use Rattle.smt_meaning.specs.declared.commands.Command.TheVariants.{Exit};
 
-use crate::decider::Decider;
+use theory_port::Decider;
 use smt_meaning::language::{Command, Reply};
 use smt_meaning::{Kept, Settings};
 use std::alloc::{AllocError, Global};

@@ -3,17 +3,18 @@ ghost use Rattle.smt_meaning.specs.declared.settings.Settings.{Settings as Setti
 ghost use Rattle.smt_meaning.specs.LegalJournal.{journal_text};
 ghost use Rattle.smt_meaning.specs.MayReply.{Decided};
 ghost use Rattle.smt_words.specs.Words.{are_taken};
-ghost use Rattle.smt_top.specs.Kinds.{is_propositional};
+ghost use Rattle.smt_meaning.specs.Kinds.{is_propositional};
 ghost use Rattle.smt_top.specs.Progress.{CutOff, Ends, NoneSettled, SoFar, Stands, at_sink, at_source, between};
 ghost use Rattle.smt_top.specs.Ended.{IsFaulty, IsUnbegun, MatchesStatus, Ran, StatusOf};
 
-use crate::decider::{Decider, Plain};
+use crate::decider::Plain;
 use crate::serving::{Run, Stage, Stop};
 use ports::{Gate, More, Sink, Source};
 use smt_meaning::Seq;
 use smt_meaning::language::{Entry, Reply};
 use smt_words::{WordsError, settings};
 use std::alloc::{AllocError, Global};
+use theory_port::Decider;
 
 /// Why a run ended.
 #[derive(Clone, Copy, Debug, PartialEq, Eq, Drop)]

@@ -3,7 +3,7 @@ use Rattle.smt_meaning.specs.State.{State}
 use Rattle.smt_meaning.specs.LegalJournal.{journal_text}
 use Rattle.smt_words.specs.Words.{are_taken, settings_of}
 use Rattle.smt_words.specs.declared.error.WordsError.TheVariants.{Memory as WordsMemory}
-use Rattle.smt_top.specs.Kinds.{is_propositional}
+use Rattle.smt_meaning.specs.Kinds.{is_propositional}
 use Rattle.smt_top.specs.Progress.{Stands, between}
 use Rattle.smt_top.proofs.Turns.{not_true}
 use Rattle.smt_top.proofs.Runs.{ran, unbegun, begun}
