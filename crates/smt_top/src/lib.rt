@@ -8,3 +8,6 @@ mod session;
 mod top;
 
 pub use top::{Ended, Note, run, run_within, unbegun};
+
+#[cfg(test)]
+mod tests;

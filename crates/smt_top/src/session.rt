@@ -3,11 +3,11 @@ ghost use Rattle.smt_meaning.specs.State.{start};
 ghost use Rattle.smt_meaning.specs.MayReply.{MayReply};
 ghost use Rattle.smt_meaning.specs.declared.commands.Command.TheVariants.{Exit};
 
-use theory_port::Decider;
 use smt_meaning::language::{Command, Reply};
 use smt_meaning::{Kept, Settings};
 use std::alloc::{AllocError, Global};
 use std::marker::Model;
+use theory_port::Decider;
 
 /// What was done for a command.
 #[derive(Drop)]
@@ -24,7 +24,6 @@ pub struct Session {
 
 impl Model for Session {
     ghost use Rattle.smt_meaning.specs.State.{State, start};
-
     ghost use Rattle.std.specs.Coded.{codes};
     ghost use Rattle.smt_meaning.specs.TreeCode.{coded_tree};
     ghost use Rattle.smt_meaning.specs.DeclarationCode.{coded_declaration};

@@ -103,7 +103,12 @@ fn drive<S: Source, K: Sink, D: Decider>(
 }
 
 /// Answers all that is ready.
-fn advance<K: Sink, D: Decider>(alloc: Global, sink: &mut K, decider: &mut D, run: &mut Run) -> Result<Stage, Halt>
+fn advance<K: Sink, D: Decider>(
+    alloc: Global,
+    sink: &mut K,
+    decider: &mut D,
+    run: &mut Run,
+) -> Result<Stage, Halt>
     ensures stands { (s : SettingsValue) (e : Ends) (count : ℕ) → SoFar D.decides s e count run.old → e.sink_now ≡ K.told sink.old
         → Stands D.decides s result (at_sink e (K.told sink.new)) count run.new }
     ensures silent { journal_text run.new.journal ≡ [] → (journal_text run.old.journal ≡ []) × (sink.new ≡ sink.old) }
@@ -176,7 +181,7 @@ pub fn run_within<S: Source, K: Sink, G: Gate>(
     }
 }
 
-/// A run that has ended before it began, since there are no settings for it.
+/// A run that has ended before it began: there are no settings for it, or no memory.
 pub fn unbegun(alloc: Global, error: WordsError) -> Ended
     ensures journal { result.journal ≡ [] }
     ensures status { IsUnbegun error result.status }

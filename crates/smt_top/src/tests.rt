@@ -1,0 +1,91 @@
+use crate::{Note, run, run_within};
+use ports::{CalmSink, CalmSource, MemSink, MemSource, OpenGate};
+use std::alloc::{AllocError, Global};
+use std::test::Fail;
+
+/// The words of a line, cut at single spaces.
+fn words_of(alloc: Global, line: &str) -> Result<Vec<String>, AllocError> {
+    let mut words = Vec::new(alloc);
+    for word in line.split(' ') {
+        words.push(String::from_str(alloc, word)?)?;
+    }
+    Ok(words)
+}
+
+/// What becomes of a script that comes in pieces, where these calls of the source and of the sink
+/// fail. No call has the number 0.
+fn outcome(
+    alloc: Global,
+    script: &[u8],
+    piece: usize,
+    read_fails: u64,
+    write_fails: u64,
+) -> Result<(u8, Vec<u8>), AllocError> {
+    let words = words_of(alloc, "smt_cli")?;
+    let mut source = MemSource::new(script.to_vec(alloc)?, piece, vec![in alloc; read_fails]?);
+    let mut sink = MemSink::new(alloc, 200, vec![in alloc; write_fails]?)?;
+    let ended = run(alloc, &words, &mut source, &mut sink, &OpenGate);
+    Ok((ended.status, sink.written().to_vec(alloc)?))
+}
+
+#[test]
+fn answers_scripts(rt: HostRuntime) -> Result<(), Fail> {
+    for (script, status, want) in [
+        (b"".as_slice(), 0, b"".as_slice()),
+        (
+            b"(set-logic QF_UFLIA)(check-sat)(exit)",
+            0,
+            b"success\nsat\nsuccess\n",
+        ),
+        (
+            b"(check-sat)(assert",
+            1,
+            b"sat\n(error \"E3 end inside a command at byte 11\")\n",
+        ),
+        (b"(exit)\xff\x00\x28", 0, b"success\n"),
+    ] {
+        for piece in [1, 4096] {
+            let (ended, written) = outcome(rt.alloc(), script, piece, 0, 0)?;
+            assert_eq!(rt; ended, status);
+            assert_eq!(rt; written.as_slice(), want);
+        }
+    }
+    Ok(())
+}
+
+#[test]
+fn stops_at_faults(rt: HostRuntime) -> Result<(), Fail> {
+    let alloc = rt.alloc();
+    let script = b"(set-logic QF_UFLIA)(check-sat)(exit)";
+    let (ended, written) = outcome(alloc, script, 99, 0, 3)?;
+    assert_eq!(rt; ended, 4);
+    assert_eq!(rt; written.as_slice(), b"success\nsat\n".as_slice());
+    let (ended, written) = outcome(alloc, b"(set-logic QF_UF)(check-sat)", 17, 2, 0)?;
+    assert_eq!(rt; ended, 3);
+    assert_eq!(rt; written.as_slice(), b"success\n".as_slice());
+    Ok(())
+}
+
+#[test]
+fn stops_at_the_budget(rt: HostRuntime) -> Result<(), Fail> {
+    let alloc = rt.alloc();
+    let words = words_of(alloc, "smt_cli")?;
+    let mut source = MemSource::new(b"(exit)".to_vec(alloc)?, 1, Vec::new(alloc));
+    let mut sink = MemSink::new(alloc, 20, Vec::new(alloc))?;
+    let ended = run_within(alloc, 2, &words, &mut source, &mut sink, &OpenGate);
+    assert_eq!(rt; ended.status, 6);
+    assert_eq!(rt; ended.note, Note::TooLong);
+    assert!(rt; sink.written().is_empty());
+    Ok(())
+}
+
+#[test]
+fn keeps_the_journal(rt: HostRuntime) -> Result<(), Fail> {
+    let alloc = rt.alloc();
+    let words = words_of(alloc, "smt_cli --workers 2")?;
+    let mut source = CalmSource::new(b"(check-sat)(check-sat)x".to_vec(alloc)?, 3);
+    let ended = run(alloc, &words, &mut source, &mut CalmSink, &OpenGate);
+    assert_eq!(rt; ended.status, 1);
+    assert_eq!(rt; ended.journal.len(), 3);
+    Ok(())
+}
