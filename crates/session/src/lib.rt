@@ -1,0 +1,7 @@
+//! A run's state, and what each command does to it (SMT-LIB 2.6, sections 4.1 and 4.2).
+#![tactic(auto)]
+
+mod logic;
+mod state;
+
+pub use state::{Done, Session};
