@@ -10,7 +10,7 @@ use Rattle.smt_meaning.specs.Sexp.{sexp}
 use Rattle.smt_meaning.specs.Command.{command}
 use Rattle.smt_meaning.specs.State.{State}
 use Rattle.smt_meaning.specs.MayReply.{Decided, MayReply, MayReplyTo, Replies}
-use Rattle.smt_top.specs.declared.session.Done.{Done}
+use Rattle.session.specs.declared.state.Done.{Done}
 
 module _ (decided : Decided) (old : State) (ts : List Token) where
   -- by what the command comes to

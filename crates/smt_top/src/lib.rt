@@ -2,9 +2,7 @@
 #![tactic(auto)]
 
 mod decider;
-mod print;
 mod serving;
-mod session;
 mod top;
 
 pub use top::{Ended, Note, run, run_within, unbegun};

@@ -171,17 +171,15 @@ pub fn run_within<S: Source, K: Sink, G: Gate>(
     let _ = gate;
     match settings(alloc, words) {
         Ok(settings) => {
-            let Ok(mut run) = Run::new(alloc, &settings) else {
-                return unbegun(alloc, WordsError::Memory);
-            };
+            let mut run = Run::new(alloc, &settings);
             let outcome = drive(alloc, budget, source, sink, &mut Plain, &mut run);
-            finish(outcome, run)
+            finish(outcome, run.into_journal())
         }
         Err(error) => unbegun(alloc, error),
     }
 }
 
-/// A run that has ended before it began: there are no settings for it, or no memory.
+/// A run that has ended before it began, since there are no settings for it.
 pub fn unbegun(alloc: Global, error: WordsError) -> Ended
     ensures journal { result.journal ≡ [] }
     ensures status { IsUnbegun error result.status }
@@ -199,17 +197,12 @@ pub fn unbegun(alloc: Global, error: WordsError) -> Ended
 }
 
 /// The status of a run that is over, and why it is.
-fn finish(outcome: Result<Stage, Halt>, run: Run) -> Ended
-    ensures journal { result.journal ≡ run.journal }
-    ensures error { outcome ≡ Ok Stage.Complete → ((result.status ≡ 1) ↔ IsFaulty run.journal) }
+fn finish(outcome: Result<Stage, Halt>, journal: Seq<Entry>) -> Ended
+    ensures journal { result.journal ≡ journal }
+    ensures error { outcome ≡ Ok Stage.Complete → ((result.status ≡ 1) ↔ IsFaulty journal) }
     ensures status { StatusOf outcome result.status }
     ensures note { MatchesStatus result.note result.status }
 {
-    let Run {
-        reader: _,
-        session: _,
-        journal,
-    } = run;
     let (status, note) = match outcome {
         Ok(Stage::Complete) => (u8::from(is_faulty(journal.as_slice())), Note::Fine),
         Ok(Stage::Asks) => (6, Note::TooLong),

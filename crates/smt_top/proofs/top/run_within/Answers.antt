@@ -2,7 +2,6 @@ use Rattle.std.proofs.Common.{◌≡◌, true, refl, ap, sym, ◌∙◌, subst, 
 use Rattle.smt_meaning.specs.State.{State}
 use Rattle.smt_meaning.specs.LegalJournal.{journal_text}
 use Rattle.smt_words.specs.Words.{are_taken, settings_of}
-use Rattle.smt_words.specs.declared.error.WordsError.TheVariants.{Memory as WordsMemory}
 use Rattle.smt_meaning.specs.Kinds.{is_propositional}
 use Rattle.smt_top.specs.Progress.{Stands, between}
 use Rattle.smt_top.proofs.Turns.{not_true}
@@ -13,44 +12,34 @@ pub drive-outcome-requires-clause-budget : goal.drive-outcome-requires-clause-bu
 drive-outcome-requires-clause-budget g c = c.requires
 
 pub drive-outcome-requires-clause-begun : goal.drive-outcome-requires-clause-begun
-drive-outcome-requires-clause-begun g c = begun is_propositional c.in-Ok.settings _ _ _ c.in-Ok-new.ensures.reader c.in-Ok-new.ensures.session c.in-Ok-new.ensures.journal
+drive-outcome-requires-clause-begun g c = begun is_propositional c.in-Ok.settings _ _ _ c.new-run.ensures.reader c.new-run.ensures.session c.new-run.ensures.journal
 
-pub returns-in-Ok-new-clause-ran : goal.returns-in-Ok-new-clause-ran
-returns-in-Ok-new-clause-ran g c =
+pub returns-in-Ok-clause-ran : goal.returns-in-Ok-clause-ran
+returns-in-Ok-clause-ran g c =
     let words = map string_bytes c.args.words.now.items in
     let taken : are_taken words ≡ true = c.in-Ok.ensures.taken in
     let exact : c.in-Ok.settings ≡ settings_of words = c.in-Ok.ensures.exact in
-    let of_run = ap (λ (s : State). s.settings) c.in-Ok-new.ensures.session ∙ exact in
+    let of_run = ap (λ (s : State). s.settings) c.new-run.ensures.session ∙ exact in
     let e = between (g.S.Source.told c.args.source.now) (g.K.Sink.told c.args.sink.now) (g.S.Source.told c.drive-outcome.new.source) (g.K.Sink.told c.drive-outcome.new.sink) in
-    ran is_propositional c.args.budget words e c.drive-outcome.new.run c.finish.result taken c.finish.ensures.journal c.finish.ensures.note c.drive-outcome.result
+    ran is_propositional c.args.budget words e c.drive-outcome.new.run c.finish.result taken (c.finish.ensures.journal ∙ c.into_journal.ensures) c.finish.ensures.note c.drive-outcome.result
     (subst (λ t. Stands is_propositional t c.drive-outcome.result e c.args.budget c.drive-outcome.new.run) of_run c.drive-outcome.ensures.stands) c.finish.ensures.status
     (rw c.finish.ensures.journal c.finish.ensures.error)
 
-pub returns-in-Ok-new-clause-untouched : goal.returns-in-Ok-new-clause-untouched
-returns-in-Ok-new-clause-untouched g c no' =
+pub returns-in-Ok-clause-untouched : goal.returns-in-Ok-clause-untouched
+returns-in-Ok-clause-untouched g c no' =
     let words = map string_bytes c.args.words.now.items in
     let taken : are_taken words ≡ true = c.in-Ok.ensures.taken in
     absurd (not_true (sym no' ∙ taken))
 
 pub returns-in-Err-clause-ran : goal.returns-in-Err-clause-ran
 returns-in-Err-clause-ran g c =
-    unbegun is_propositional c.args.budget (map string_bytes c.args.words.now.items) _ _ c.unbegun-in-Err.result c.in-Err.error c.unbegun-in-Err.ensures.status c.in-Err.ensures.cause c.unbegun-in-Err.ensures.note c.unbegun-in-Err.ensures.journal
+    unbegun is_propositional c.args.budget (map string_bytes c.args.words.now.items) _ _ c.unbegun.result c.in-Err.error c.unbegun.ensures.status c.in-Err.ensures.cause c.unbegun.ensures.note c.unbegun.ensures.journal
 
 pub returns-in-Err-clause-untouched : goal.returns-in-Err-clause-untouched
-returns-in-Err-clause-untouched g c no' = (refl, refl, c.unbegun-in-Err.ensures.journal)
+returns-in-Err-clause-untouched g c no' = (refl, refl, c.unbegun.ensures.journal)
 
-pub returns-in-Ok-new-clause-silent : goal.returns-in-Ok-new-clause-silent
-returns-in-Ok-new-clause-silent g c none = c.drive-outcome.ensures.silent (sym (ap journal_text c.finish.ensures.journal) ∙ none)
+pub returns-in-Ok-clause-silent : goal.returns-in-Ok-clause-silent
+returns-in-Ok-clause-silent g c none = c.drive-outcome.ensures.silent (sym (ap journal_text (c.finish.ensures.journal ∙ c.into_journal.ensures)) ∙ none)
 
 pub returns-in-Err-clause-silent : goal.returns-in-Err-clause-silent
 returns-in-Err-clause-silent g c none = refl
-
-pub returns-in_default-clause-ran : goal.returns-in_default-clause-ran
-returns-in_default-clause-ran g c =
-    unbegun is_propositional c.args.budget (map string_bytes c.args.words.now.items) _ _ c.unbegun.result WordsMemory c.unbegun.ensures.status tt c.unbegun.ensures.note c.unbegun.ensures.journal
-
-pub returns-in_default-clause-untouched : goal.returns-in_default-clause-untouched
-returns-in_default-clause-untouched g c no' = (refl, refl, c.unbegun.ensures.journal)
-
-pub returns-in_default-clause-silent : goal.returns-in_default-clause-silent
-returns-in_default-clause-silent g c none = refl
