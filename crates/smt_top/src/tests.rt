@@ -1,6 +1,7 @@
 use crate::{Note, run, run_within};
-use ports::{CalmSink, CalmSource, MemSink, MemSource, OpenGate};
+use ports::{CalmSink, CalmSource, MemSink, MemSource, More, OpenGate, Put, Sink, Source};
 use std::alloc::{AllocError, Global};
+use std::cell::Cell;
 use std::test::Fail;
 
 /// The words of a line, cut at single spaces.
@@ -87,5 +88,67 @@ fn keeps_the_journal(rt: HostRuntime) -> Result<(), Fail> {
     let ended = run(alloc, &words, &mut source, &mut CalmSink, &OpenGate);
     assert_eq!(rt; ended.status, 1);
     assert_eq!(rt; ended.journal.len(), 3);
+    Ok(())
+}
+
+/// A source that notes at each call how many bytes have been written by then.
+#[derive(Drop)]
+struct Watching<'a> {
+    source: CalmSource,
+    written: &'a Cell<usize>,
+    seen: Vec<usize>,
+}
+
+impl Source for Watching<'_> {
+    ghost use Rattle.std.specs.Prelude.{None};
+
+    ghost told = { λ _. record {
+      left = None;
+      given = None;
+      faults = 0;
+    } };
+
+    fn more(&mut self, buf: &mut [u8]) -> More {
+        let _ = self.seen.push(self.written.get());
+        self.source.more(buf)
+    }
+}
+
+/// A sink that counts the bytes written.
+#[derive(Drop)]
+struct Counting<'a> {
+    written: &'a Cell<usize>,
+}
+
+impl Sink for Counting<'_> {
+    ghost use Rattle.std.specs.Prelude.{None};
+
+    ghost told = { λ _. record {
+      written = None;
+      calls = None;
+      faults = 0;
+    } };
+
+    fn put(&mut self, bytes: &[u8]) -> Put {
+        let count = self.written.get();
+        self.written.set(count.saturating_add(bytes.len()));
+        Put::Ok
+    }
+}
+
+#[test]
+fn answers_what_is_whole_before_it_asks_again(rt: HostRuntime) -> Result<(), Fail> {
+    let alloc = rt.alloc();
+    let words = words_of(alloc, "smt_cli")?;
+    let written = Cell::new(0);
+    let mut source = Watching {
+        source: CalmSource::new(b"(check-sat)(check-sat)".to_vec(alloc)?, 11),
+        written: &written,
+        seen: Vec::new(alloc),
+    };
+    let mut sink = Counting { written: &written };
+    let ended = run(alloc, &words, &mut source, &mut sink, &OpenGate);
+    assert_eq!(rt; ended.status, 0);
+    assert_eq!(rt; source.seen.as_slice(), [0, 4, 8].as_slice());
     Ok(())
 }
