@@ -8,3 +8,4 @@ mod Told
 mod Kept
 mod Journals
 mod Numbers
+mod Propositional

@@ -1,1 +1,3 @@
 mod PartLemmas
+mod MarkLemmas
+mod LetLemmas

@@ -6,8 +6,11 @@ ghost use Rattle.smt_meaning.specs.Sorts.{Scope, Variable, done, variable_names}
 ghost use Rattle.term_walk.specs.Walk.{check_let, check_annotation, has_free_first};
 ghost use Rattle.look_ahead.specs.Ahead.{ahead, AreEnds, checked, IsWhyNoLet};
 
+mod lets;
+mod marks;
 mod parts;
 
+pub use marks::ends;
 use smt_meaning::{Refusal, SExpr};
 use std::alloc::{AllocError, Global};
 
@@ -32,15 +35,6 @@ pub trait Names {
         ensures { result ≡ is_one_of name.now (names self.now) };
 }
 
-/// For each `(` of a term the place of its `)`.
-pub fn ends(alloc: Global, term: &SExpr) -> Result<Vec<usize>, AllocError>
-    ensures { IfOk result (λ v. AreEnds term.now v.items) }
-{
-    let _ = term;
-    let _ = alloc;
-    Err(AllocError)
-}
-
 /// Whether a `let`, whose word stands before a place, has its form and binds no name twice (SMT-LIB 2.6, section 3.6.1).
 pub fn check_let(alloc: Global, term: &SExpr, ends: &[usize], place: usize) -> Result<(), LookError>
     requires ends { AreEnds term.now ends.now }
@@ -48,11 +42,7 @@ pub fn check_let(alloc: Global, term: &SExpr, ends: &[usize], place: usize) -> R
     ensures ok { OnOk result ((s : Scope) → check_let (ahead term.now place) s ≡ done tt s) }
     ensures err { IfErr result (λ e. IsWhyNoLet (ahead term.now place) e) }
 {
-    let _ = alloc;
-    let _ = term;
-    let _ = ends;
-    let _ = place;
-    Err(LookError::Memory)
+    lets::check(alloc, term, ends, place)
 }
 
 /// Whether an annotation, whose `!` stands before a place, has its form (SMT-LIB 2.6, section 3.6.5).

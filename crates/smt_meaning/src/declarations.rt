@@ -1,5 +1,6 @@
-ghost use Rattle.std.specs.Prelude.{◌≡◌, ◌<◌, true, false, length};
+ghost use Rattle.std.specs.Prelude.{◌≡◌, ◌<◌, true, false, length, Some, None, IfSome, IfNone};
 ghost use Rattle.smt_meaning.specs.Term.{tree_at};
+ghost use Rattle.smt_meaning.specs.Signature.{is_symbol};
 
 use crate::nodes::Terms;
 use crate::seq::{Bytes, Seq};
@@ -31,6 +32,10 @@ impl Model for Body {
     ghost coded = { coded_body };
 
     ghost view = { λ b. record { terms = b.terms; term = tree_at b.terms b.place } };
+
+    ghost use Rattle.std.specs.Prelude.{◌<◌, length};
+
+    ghost invariant = { λ b. b.place < length b.terms };
 }
 
 impl Body {
@@ -40,6 +45,21 @@ impl Body {
         ensures { result ≡ record { terms = terms; term = tree_at terms place } }
     {
         Body { terms, place }
+    }
+
+    /// The terms that were judged in it.
+    pub fn terms(&self) -> &Terms
+        ensures { result.now ≡ self.now.terms }
+    {
+        &self.terms
+    }
+
+    /// Its place among them.
+    pub fn place(&self) -> TermId
+        ensures within { result < length self.now.terms }
+        ensures value { tree_at self.now.terms result ≡ self.now.term }
+    {
+        self.place
     }
 }
 
@@ -112,10 +132,28 @@ impl Declaration {
         &self.rank
     }
 
+    /// The body of a definition.
+    pub fn body(&self) -> Option<&Body>
+        ensures some { IfSome result (λ b. self.now.body ≡ Some b.now) }
+        ensures none { IfNone result (self.now.body ≡ None) }
+    {
+        match &self.body {
+            Some(body) => Some(body),
+            None => None,
+        }
+    }
+
     /// Whether the name is that of a sort.
     pub fn is_sort(&self) -> bool
         ensures { result ≡ self.now.is_sort }
     {
         self.is_sort
+    }
+
+    /// Whether it is a declared function, which has no body.
+    pub fn is_symbol(&self) -> bool
+        ensures { result ≡ is_symbol self.now }
+    {
+        !self.is_sort && self.body.is_none()
     }
 }

@@ -6,6 +6,7 @@ mod clauses;
 mod commands;
 mod declarations;
 mod errors;
+mod kinds;
 mod nodes;
 mod options;
 mod refusals;

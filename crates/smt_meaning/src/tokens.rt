@@ -1,8 +1,11 @@
-ghost use Rattle.std.specs.Prelude.{◌≡◌, ◌+◌, ◌<◌, ◌≤◌, [], ◌∷◌, ◌++◌, Some, drop, length, slice_get, slice_index_or, slice_range, OnOk, OnErr, IfOk};
+ghost use Rattle.std.specs.Prelude.{◌≡◌, ◌+◌, ◌<◌, ◌≤◌, [], ◌∷◌, ◌++◌, Some, drop, length, slice_get, slice_index_or, slice_range, vec_len, OnOk, OnErr, IfOk};
+ghost use Rattle.std.specs.Vec.{vec_capacity};
 ghost use Rattle.smt_meaning.specs.declared.tokens.Token.{Token};
 ghost use Rattle.smt_meaning.specs.Reading.{IsSExpr};
 ghost use Rattle.smt_meaning.specs.Seen.{seen};
+ghost use Rattle.smt_meaning.specs.Flat.{start_from};
 
+use crate::kinds::{self, Kind};
 use crate::seq::{Bytes, Seq};
 use std::alloc::{AllocError, Global};
 use std::marker::Model;
@@ -118,20 +121,26 @@ impl Token {
     }
 }
 
-/// A list of tokens in the making.
+/// A list of tokens in the making. Their bytes stand one after another, so that a token takes no memory of its own.
 #[derive(Debug, Drop)]
 pub struct Tokens {
-    tokens: Vec<Token>,
-    alloc: Global,
+    bytes: Vec<u8>,
+    kinds: Vec<Kind>,
+    /// Where the bytes of each token end.
+    ends: Vec<u32>,
 }
 
 impl Model for Tokens {
-    ghost use Rattle.std.specs.Prelude.{List};
+    ghost use Rattle.std.specs.Prelude.{List, length};
     ghost use Rattle.smt_meaning.specs.declared.tokens.Token.{Token};
 
     ghost Value = { List Token };
 
-    ghost view = { λ t. t.tokens.items };
+    ghost use Rattle.smt_meaning.specs.Flat.{tokens_from, AreEnds};
+
+    ghost view = { λ t. tokens_from 0 t.kinds.items t.ends.items t.bytes.items };
+
+    ghost invariant = { λ t. AreEnds 0 t.kinds.items t.ends.items (length t.bytes.items) };
 }
 
 impl Tokens {
@@ -140,16 +149,28 @@ impl Tokens {
         ensures { result ≡ [] }
     {
         Tokens {
-            tokens: Vec::new(alloc),
-            alloc,
+            bytes: Vec::new(alloc),
+            kinds: Vec::new(alloc),
+            ends: Vec::new(alloc),
         }
+    }
+
+    /// No tokens, with room for so many that have so many bytes.
+    fn with_capacity(alloc: Global, tokens: usize, bytes: usize) -> Result<Self, AllocError>
+        ensures { IfOk result (λ t. t ≡ []) }
+    {
+        Ok(Tokens {
+            bytes: Vec::with_capacity(alloc, bytes)?,
+            kinds: Vec::with_capacity(alloc, tokens)?,
+            ends: Vec::with_capacity(alloc, tokens)?,
+        })
     }
 
     /// The number of tokens.
     pub fn len(&self) -> usize
         ensures { result ≡ length self.now }
     {
-        self.tokens.len()
+        self.kinds.len()
     }
 
     /// The token at a place, counted from 0.
@@ -159,7 +180,9 @@ impl Tokens {
         ensures index { (other : Token) → slice_index_or self.now place other ≡ seen result }
         ensures rest { drop place self.now ≡ seen result ∷ drop (place + 1) self.now }
     {
-        self.tokens[place].view()
+        let start = start_at(self.ends.as_slice(), place);
+        let end = self.ends[place] as usize;
+        kinds::token(self.kinds[place], &self.bytes[start..end])
     }
 
     /// Adds a token at the end. An `Err`, for want of memory, changes nothing.
@@ -167,8 +190,16 @@ impl Tokens {
         ensures ok { OnOk result (self.new ≡ self.old ++ seen token.entry ∷ []) }
         ensures err { OnErr result (self.new ≡ self.old) }
     {
-        let token = token.to_token(self.alloc)?;
-        self.tokens.push(token)?;
+        let (kind, bytes) = kinds::kind_and_bytes(token);
+        let end = self.bytes.len() + bytes.len();
+        if end > u32::MAX as usize {
+            return Err(AllocError);
+        }
+        self.kinds.reserve(1)?;
+        self.ends.reserve(1)?;
+        self.bytes.extend_from_slice(bytes)?;
+        push_within(&mut self.kinds, kind);
+        push_within(&mut self.ends, end as u32);
         Ok(())
     }
 
@@ -176,7 +207,33 @@ impl Tokens {
     pub fn clear(&mut self)
         ensures { self.new ≡ [] }
     {
-        self.tokens.clear();
+        self.bytes.clear();
+        self.kinds.clear();
+        self.ends.clear();
+    }
+
+    /// A list of its own with the tokens from one place to another.
+    fn part(&self, alloc: Global, from: usize, to: usize) -> Result<Tokens, AllocError>
+        requires order { from ≤ to }
+        requires within { to ≤ length self.now }
+        ensures { IfOk result (λ t. t ≡ slice_range self.now from to) }
+    {
+        let mut part = self.room_for(alloc, from, to)?;
+        for place in from..to {
+            part.push(self.token(place))?;
+        }
+        Ok(part)
+    }
+
+    /// No tokens, with room for those from one place to another.
+    fn room_for(&self, alloc: Global, from: usize, to: usize) -> Result<Tokens, AllocError>
+        requires order { from ≤ to }
+        requires within { to ≤ length self.now }
+        ensures { IfOk result (λ t. t ≡ []) }
+    {
+        let ends = self.ends.as_slice();
+        let bytes = start_at(ends, to).saturating_sub(start_at(ends, from));
+        Tokens::with_capacity(alloc, to - from, bytes)
     }
 
     /// The s-expression of these tokens.
@@ -184,15 +241,36 @@ impl Tokens {
         requires { IsSExpr self }
         ensures { result ≡ self }
     {
-        let Tokens { tokens, .. } = self;
-        SExpr { tokens }
+        SExpr { tokens: self }
     }
+}
+
+/// Where the bytes of the token at a place begin.
+fn start_at(ends: &[u32], place: usize) -> usize
+    requires { place ≤ length ends.now }
+    ensures { result ≡ start_from 0 ends.now place }
+{
+    if place == 0 {
+        0
+    } else {
+        ends[place - 1] as usize
+    }
+}
+
+/// Adds a value for which there is room.
+fn push_within<T: Drop>(items: &mut Vec<T>, value: T)
+    requires { vec_len items.old < vec_capacity items.old }
+    ensures { items.new.items ≡ items.old.items ++ value ∷ [] }
+{
+    let Ok(()) = items.push(value) else {
+        unreachable!()
+    };
 }
 
 /// One s-expression (SMT-LIB 2.6, section 3.2): a list of tokens with matched parentheses.
 #[derive(Debug, Drop)]
 pub struct SExpr {
-    tokens: Vec<Token>,
+    tokens: Tokens,
 }
 
 impl Model for SExpr {
@@ -203,28 +281,12 @@ impl Model for SExpr {
 
     ghost use Rattle.smt_meaning.specs.Reading.{IsSExpr};
 
-    ghost view = { λ s. s.tokens.items };
+    ghost view = { λ s. s.tokens };
 
-    ghost invariant = { λ s. IsSExpr s.tokens.items };
+    ghost invariant = { λ s. IsSExpr s.tokens };
 }
 
 impl SExpr {
-    /// The s-expression of these tokens.
-    pub fn from_tokens(tokens: Vec<Token>) -> Self
-        requires { IsSExpr tokens.items }
-        ensures { result ≡ tokens.items }
-    {
-        SExpr { tokens }
-    }
-
-    /// Its tokens, from left to right.
-    pub fn tokens(&self) -> &[Token]
-        ensures tokens { result.now ≡ self.now }
-        ensures matched { IsSExpr self.now }
-    {
-        self.tokens.as_slice()
-    }
-
     /// The number of tokens.
     pub fn len(&self) -> usize
         ensures len { result ≡ length self.now }
@@ -240,7 +302,7 @@ impl SExpr {
         ensures index { (other : Token) → slice_index_or self.now place other ≡ seen result }
         ensures rest { drop place self.now ≡ seen result ∷ drop (place + 1) self.now }
     {
-        self.tokens[place].view()
+        self.tokens.token(place)
     }
 
     /// An s-expression of its own with the tokens from one place to another.
@@ -250,27 +312,16 @@ impl SExpr {
         requires matched { IsSExpr (slice_range self.now from to) }
         ensures { IfOk result (λ s. s ≡ slice_range self.now from to) }
     {
-        let tokens = copy_tokens(alloc, &self.tokens[from..to])?;
-        Ok(SExpr { tokens })
+        let tokens = self.tokens.part(alloc, from, to)?;
+        Ok(tokens.into_sexpr())
     }
 
     /// An s-expression of its own with the same tokens.
     pub fn copy(&self, alloc: Global) -> Result<SExpr, AllocError>
         ensures { IfOk result (λ s. s ≡ self.now) }
     {
-        let tokens = copy_tokens(alloc, self.tokens.as_slice())?;
-        Ok(SExpr { tokens })
+        self.part(alloc, 0, self.len())
     }
-}
-
-fn copy_tokens(alloc: Global, tokens: &[Token]) -> Result<Vec<Token>, AllocError>
-    ensures { IfOk result (λ v. v.items ≡ tokens.now) }
-{
-    let mut copies = Vec::new(alloc);
-    for token in tokens {
-        copies.push(token.view().to_token(alloc)?)?;
-    }
-    Ok(copies)
 }
 
 /// Why the input can't be read on.

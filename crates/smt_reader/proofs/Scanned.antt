@@ -59,16 +59,16 @@ anew_at : (unread : List ℕ) (tokens : List Token) (depth from looked : ℕ) (p
 anew_at unread tokens depth from looked part start content l p t d = rw (l, p, t, d) (stands_anew unread start content from)
 
 -- anew
-pub scan_anew : (unread : List ℕ) (s : Scan) → s.looked ≡ 0 → s.start ≡ 0 → s.part ≡ Blank → s.tokens.items ≡ [] → s.depth ≡ 0 → IsScan unread s
+pub scan_anew : (unread : List ℕ) (s : Scan) → s.looked ≡ 0 → s.start ≡ 0 → s.part ≡ Blank → s.tokens ≡ [] → s.depth ≡ 0 → IsScan unread s
 scan_anew unread s l b p t d = record {
   within = omega arith;
   begun = omega arith;
-  stands = anew_at unread s.tokens.items s.depth s.from s.looked s.part (start_of unread s) s.content.items l p t d;
+  stands = anew_at unread s.tokens s.depth s.from s.looked s.part (start_of unread s) s.content.items l p t d;
 }
 
 -- with the same tokens
 pub scan_same : (bytes : List ℕ) (old new : Scan) → new.looked ≡ old.looked → new.start ≡ old.start → new.part ≡ old.part → new.content.items ≡ old.content.items
-    → new.tokens.items ≡ old.tokens.items → new.depth ≡ old.depth → new.from ≡ old.from → IsScan bytes old → IsScan bytes new
+    → new.tokens ≡ old.tokens → new.depth ≡ old.depth → new.from ≡ old.from → IsScan bytes old → IsScan bytes new
 scan_same bytes old new l b p c t d f s = record {
   within = omega (arith, s.within);
   begun = omega (arith, s.begun);
@@ -84,39 +84,39 @@ slice_fed bytes piece start looked le within =
 -- where more bytes are there
 pub scan_fed : (bytes piece : List ℕ) (s : Scan) → IsScan bytes s → IsScan (bytes ++ piece) s
 scan_fed bytes piece s h =
-    let fed = stands_fed bytes piece s.tokens.items s.depth s.from s.part (start_of bytes s) s.content.items (drop s.looked bytes) h.stands in
-    let here = subst (λ start. Stands (bytes ++ piece) s.tokens.items s.depth s.from s.part start s.content.items (drop s.looked bytes ++ piece)) (slice_fed bytes piece s.start s.looked h.begun h.within) fed in
+    let fed = stands_fed bytes piece s.tokens s.depth s.from s.part (start_of bytes s) s.content.items (drop s.looked bytes) h.stands in
+    let here = subst (λ start. Stands (bytes ++ piece) s.tokens s.depth s.from s.part start s.content.items (drop s.looked bytes ++ piece)) (slice_fed bytes piece s.start s.looked h.begun h.within) fed in
     record {
       within = omega (arith, h.within, length-append bytes piece);
       begun = h.begun;
-      stands = subst (Stands (bytes ++ piece) s.tokens.items s.depth s.from s.part (start_of (bytes ++ piece) s) s.content.items) (sym (drop-append-le s.looked bytes piece h.within)) here;
+      stands = subst (Stands (bytes ++ piece) s.tokens s.depth s.from s.part (start_of (bytes ++ piece) s) s.content.items) (sym (drop-append-le s.looked bytes piece h.within)) here;
     }
 
 -- There are no more tokens than bytes.
-pub scan_tokens : (bytes : List ℕ) (s : Scan) → IsScan bytes s → length s.tokens.items ≤ length bytes
-scan_tokens bytes s h = omega (arith, Lexes-shorter (bytes ++ []) (h.stands.tail ++ []) s.tokens.items (h.stands.lexes []), length-append bytes [])
+pub scan_tokens : (bytes : List ℕ) (s : Scan) → IsScan bytes s → length s.tokens ≤ length bytes
+scan_tokens bytes s h = omega (arith, Lexes-shorter (bytes ++ []) (h.stands.tail ++ []) s.tokens (h.stands.lexes []), length-append bytes [])
 
 -- past some bytes
 pub scan_passed : (bytes : List ℕ) (s : Scan) (part : Part) (passed : ℕ) → IsScan bytes s → Passes s.part part (drop s.looked bytes) passed
     → IsScan bytes (record s { looked = s.looked + passed; part = part })
 scan_passed bytes s part passed h p =
-    let on = stands_passed bytes s.tokens.items s.depth s.from s.part part (start_of bytes s) s.content.items (drop s.looked bytes) passed h.stands p in
+    let on = stands_passed bytes s.tokens s.depth s.from s.part part (start_of bytes s) s.content.items (drop s.looked bytes) passed h.stands p in
     record {
       within = omega (arith, p.within, h.within, length-drop s.looked bytes);
       begun = omega (arith, h.begun);
-      stands = subst (λ start. Stands bytes s.tokens.items s.depth s.from part start s.content.items (drop (s.looked + passed) bytes)) (slice_on bytes s.start s.looked passed h.begun)
-          (subst (Stands bytes s.tokens.items s.depth s.from part (start_of bytes s ++ take passed (drop s.looked bytes)) s.content.items) (drop-drop passed s.looked bytes) on);
+      stands = subst (λ start. Stands bytes s.tokens s.depth s.from part start s.content.items (drop (s.looked + passed) bytes)) (slice_on bytes s.start s.looked passed h.begun)
+          (subst (Stands bytes s.tokens s.depth s.from part (start_of bytes s ++ take passed (drop s.looked bytes)) s.content.items) (drop-drop passed s.looked bytes) on);
     }
 
 -- into a token
 pub scan_begun : (bytes : List ℕ) (old new : Scan) (part : Part) → IsScan bytes old → StopsAt old.part bytes old.looked (Some (Begins part))
-    → new.looked ≡ old.looked + 1 → new.start ≡ old.looked → new.part ≡ part → new.content.items ≡ [] → new.tokens.items ≡ old.tokens.items → new.depth ≡ old.depth → new.from ≡ old.from
+    → new.looked ≡ old.looked + 1 → new.start ≡ old.looked → new.part ≡ part → new.content.items ≡ [] → new.tokens ≡ old.tokens → new.depth ≡ old.depth → new.from ≡ old.from
     → Goes bytes old new
 scan_begun bytes old new part s (b, rest, e, turns) l st p c t d f =
-    let left = subst (Stands bytes old.tokens.items old.depth old.from old.part (start_of bytes old) old.content.items) e s.stands in
-    let on = stands_begun bytes old.tokens.items old.depth old.from old.part part (start_of bytes old) old.content.items b rest left turns in
-    let here = subst (λ start. Stands bytes old.tokens.items old.depth old.from part start [] rest) (sym (one_byte bytes rest old.looked b e)) on in
-    let now = subst (Stands bytes old.tokens.items old.depth old.from part (slice_range bytes old.looked (old.looked + 1)) []) (sym (next_drop bytes rest old.looked b e)) here in
+    let left = subst (Stands bytes old.tokens old.depth old.from old.part (start_of bytes old) old.content.items) e s.stands in
+    let on = stands_begun bytes old.tokens old.depth old.from old.part part (start_of bytes old) old.content.items b rest left turns in
+    let here = subst (λ start. Stands bytes old.tokens old.depth old.from part start [] rest) (sym (one_byte bytes rest old.looked b e)) on in
+    let now = subst (Stands bytes old.tokens old.depth old.from part (slice_range bytes old.looked (old.looked + 1)) []) (sym (next_drop bytes rest old.looked b e)) here in
     record {
       scan = record {
         within = omega (arith, within_byte bytes rest old.looked b e);
@@ -130,16 +130,16 @@ scan_begun bytes old new part s (b, rest, e, turns) l st p c t d f =
 pub scan_extended : (bytes : List ℕ) (old new : Scan) (part : Part) (more : ℕ) → IsScan bytes old → StopsAt old.part bytes old.looked (Some (Adds part))
     → Extends part part (drop (old.looked + 1) bytes) more
     → new.looked ≡ old.looked + (1 + more) → new.start ≡ old.start → new.part ≡ part → new.content.items ≡ old.content.items ++ slice_range bytes old.looked (old.looked + (1 + more))
-    → new.tokens.items ≡ old.tokens.items → new.depth ≡ old.depth → new.from ≡ old.from → Goes bytes old new
+    → new.tokens ≡ old.tokens → new.depth ≡ old.depth → new.from ≡ old.from → Goes bytes old new
 scan_extended bytes old new part more s (b, rest, e, turns) behind l st p c t d f =
     let added = 1 + more in
     let first = extends_on old.part part b rest more turns (subst (λ xs. Extends part part xs more) (next_drop bytes rest old.looked b e) behind) in
     let x = subst (λ xs. Extends old.part part xs added) (sym e) first in
-    let on = stands_extended bytes old.tokens.items old.depth old.from old.part part (start_of bytes old) old.content.items (drop old.looked bytes) added s.stands x in
+    let on = stands_extended bytes old.tokens old.depth old.from old.part part (start_of bytes old) old.content.items (drop old.looked bytes) added s.stands x in
     let n : (old.looked + added) - old.looked ≡ added = omega arith in
     let content : new.content.items ≡ old.content.items ++ take added (drop old.looked bytes) = c ∙ ap (λ k. old.content.items ++ take k (drop old.looked bytes)) n in
-    let now = subst (λ start. Stands bytes old.tokens.items old.depth old.from part start (old.content.items ++ take added (drop old.looked bytes)) (drop (old.looked + added) bytes)) (slice_on bytes old.start old.looked added s.begun)
-    (subst (Stands bytes old.tokens.items old.depth old.from part (start_of bytes old ++ take added (drop old.looked bytes)) (old.content.items ++ take added (drop old.looked bytes))) (drop-drop added old.looked bytes) on) in
+    let now = subst (λ start. Stands bytes old.tokens old.depth old.from part start (old.content.items ++ take added (drop old.looked bytes)) (drop (old.looked + added) bytes)) (slice_on bytes old.start old.looked added s.begun)
+    (subst (Stands bytes old.tokens old.depth old.from part (start_of bytes old ++ take added (drop old.looked bytes)) (old.content.items ++ take added (drop old.looked bytes))) (drop-drop added old.looked bytes) on) in
     record {
       scan = record {
         within = omega (arith, x.within, s.within, length-drop old.looked bytes);
@@ -155,10 +155,10 @@ TokenAt bytes s t first after = (more : List ℕ) → goes_on s.part (start_of b
 
 -- past a token
 pub scan_on : (bytes : List ℕ) (old new : Scan) (t : Token) (first : List ℕ) (after : ℕ) → IsScan bytes old → TokenAt bytes old t first after → old.looked ≤ after → after ≤ length bytes
-    → new.looked ≡ after → new.start ≡ after → new.part ≡ Blank → new.tokens.items ≡ old.tokens.items ++ t ∷ [] → Opens old.depth (shape t ∷ []) new.depth
+    → new.looked ≡ after → new.start ≡ after → new.part ≡ Blank → new.tokens ≡ old.tokens ++ t ∷ [] → Opens old.depth (shape t ∷ []) new.depth
     → (old.depth ≡ 0 → new.from + length first ≡ length bytes) → (0 < old.depth → new.from ≡ old.from) → Goes bytes old new
 scan_on bytes old new t first after s is le within l st p ts o top inner =
-    let on = stands_on bytes old.tokens.items old.depth old.from old.part (start_of bytes old) old.content.items (drop old.looked bytes) s.stands
+    let on = stands_on bytes old.tokens old.depth old.from old.part (start_of bytes old) old.content.items (drop old.looked bytes) s.stands
     t first (drop after bytes) is new.depth new.from (slice_range bytes new.start after) new.content.items o top inner in
     record {
       scan = record {
@@ -166,19 +166,19 @@ scan_on bytes old new t first after s is le within l st p ts o top inner =
         begun = omega arith;
         stands = rw (l, p, ts) on;
       };
-      onward = omega (arith, ap length ts, length-append old.tokens.items (t ∷ []));
+      onward = omega (arith, ap length ts, length-append old.tokens (t ∷ []));
     }
 
 -- What a scan finds
 
 -- an s-expression
 pub found_ready : (bytes : List ℕ) (s : Scan) (t : Token) (first : List ℕ) (after : ℕ) → IsScan bytes s → TokenAt bytes s t first after → after ≤ length bytes → Completes s.depth (shape t)
-    → (finished : Bool) → Finds bytes finished (Ready (s.tokens.items ++ t ∷ []) after)
+    → (finished : Bool) → Finds bytes finished (Ready (s.tokens ++ t ∷ []) after)
 found_ready bytes s t first after h is within c finished =
-    let done = completes bytes s.tokens.items s.depth s.from s.part (start_of bytes s) s.content.items (drop s.looked bytes) h.stands t first (drop after bytes) is c in
-    let shorter = Lexes-shorter (bytes ++ []) (drop after bytes ++ []) (s.tokens.items ++ t ∷ []) (done.1 []) in (
+    let done = completes bytes s.tokens s.depth s.from s.part (start_of bytes s) s.content.items (drop s.looked bytes) h.stands t first (drop after bytes) is c in
+    let shorter = Lexes-shorter (bytes ++ []) (drop after bytes ++ []) (s.tokens ++ t ∷ []) (done.1 []) in (
       done.0,
-      omega (arith, shorter, length-append bytes [], length-append (drop after bytes) [], length-drop after bytes, length-append s.tokens.items (t ∷ [])),
+      omega (arith, shorter, length-append bytes [], length-append (drop after bytes) [], length-drop after bytes, length-append s.tokens (t ∷ [])),
       within,
       λ more may. done.1 more,
     )
@@ -232,7 +232,7 @@ module _ (bytes : List ℕ) (s : Scan) (h : IsScan bytes s) where
   found_wrong (b, rest, e, turns) finished = (
     drop s.looked bytes,
     left_place,
-    λ more may. has_character bytes s.tokens.items s.depth s.from s.part (start_of bytes s) s.content.items (drop s.looked bytes) h.stands more (drop s.looked bytes ++ more)
+    λ more may. has_character bytes s.tokens s.depth s.from s.part (start_of bytes s) s.content.items (drop s.looked bytes) h.stands more (drop s.looked bytes ++ more)
         (rw e (turns (start_of bytes s) s.content.items (rest ++ more))),
   )
 
@@ -241,7 +241,7 @@ module _ (bytes : List ℕ) (s : Scan) (h : IsScan bytes s) where
   found_malformed (b, rest, e, turns) finished = (
     start_of bytes s ++ drop s.looked bytes,
     start_place bytes s.start s.looked h.begun h.within,
-    λ more may. has_character bytes s.tokens.items s.depth s.from s.part (start_of bytes s) s.content.items (drop s.looked bytes) h.stands more ((start_of bytes s ++ drop s.looked bytes) ++ more)
+    λ more may. has_character bytes s.tokens s.depth s.from s.part (start_of bytes s) s.content.items (drop s.looked bytes) h.stands more ((start_of bytes s ++ drop s.looked bytes) ++ more)
         (rw (e, append_assoc (start_of bytes s) (b ∷ rest) more) (turns (start_of bytes s) s.content.items (rest ++ more) h.stands.is_part)),
   )
 
@@ -249,7 +249,7 @@ module _ (bytes : List ℕ) (s : Scan) (h : IsScan bytes s) where
   found_closing stops none finished = (
     drop s.looked bytes,
     left_place,
-    λ more may. has_closing bytes s.tokens.items s.depth s.from s.part (start_of bytes s) s.content.items (drop s.looked bytes) h.stands more (drop s.looked bytes ++ more) (drop (s.looked + 1) bytes ++ more) none
+    λ more may. has_closing bytes s.tokens s.depth s.from s.part (start_of bytes s) s.content.items (drop s.looked bytes) h.stands more (drop s.looked bytes ++ more) (drop (s.looked + 1) bytes ++ more) none
         (leaves_at stops more),
   )
 
@@ -257,7 +257,7 @@ module _ (bytes : List ℕ) (s : Scan) (h : IsScan bytes s) where
   found_nesting stops full finished = (
     drop s.looked bytes,
     left_place,
-    λ more may. has_nesting bytes s.tokens.items s.depth s.from s.part (start_of bytes s) s.content.items (drop s.looked bytes) h.stands more (drop s.looked bytes ++ more) (drop (s.looked + 1) bytes ++ more) full
+    λ more may. has_nesting bytes s.tokens s.depth s.from s.part (start_of bytes s) s.content.items (drop s.looked bytes) h.stands more (drop s.looked bytes ++ more) (drop (s.looked + 1) bytes ++ more) full
         (enters_at stops more),
   )
 
@@ -267,8 +267,8 @@ module _ (bytes : List ℕ) (s : Scan) (h : IsScan bytes s) where
     none_left : drop s.looked bytes ≡ []
     none_left = drop_all s.looked bytes (omega arith)
 
-    pub stands_at_end : Stands bytes s.tokens.items s.depth s.from s.part (start_of bytes s) s.content.items []
-    stands_at_end = subst (Stands bytes s.tokens.items s.depth s.from s.part (start_of bytes s) s.content.items) none_left h.stands
+    pub stands_at_end : Stands bytes s.tokens s.depth s.from s.part (start_of bytes s) s.content.items []
+    stands_at_end = subst (Stands bytes s.tokens s.depth s.from s.part (start_of bytes s) s.content.items) none_left h.stands
 
     whole_place : s.start + length (start_of bytes s) ≡ length bytes
     whole_place = omega (arith, start_place bytes s.start s.looked h.begun h.within, ap length none_left, length-append (start_of bytes s) (drop s.looked bytes))
@@ -277,15 +277,15 @@ module _ (bytes : List ℕ) (s : Scan) (h : IsScan bytes s) where
     pub scan_unsettled : IsUnsettled bytes
     scan_unsettled = by_depth s.depth refl where
       by_depth : (depth : ℕ) → s.depth ≡ depth → IsUnsettled bytes
-      by_depth zero none = top_unsettled bytes s.tokens.items s.depth s.from s.part (start_of bytes s) s.content.items stands_at_end none (omega (arith, whole_place))
-      by_depth (suc d) some = list_unsettled bytes s.tokens.items s.depth s.from s.part (start_of bytes s) s.content.items stands_at_end (omega arith)
+      by_depth zero none = top_unsettled bytes s.tokens s.depth s.from s.part (start_of bytes s) s.content.items stands_at_end none (omega (arith, whole_place))
+      by_depth (suc d) some = list_unsettled bytes s.tokens s.depth s.from s.part (start_of bytes s) s.content.items stands_at_end (omega arith)
 
     -- or none do
     pub found_end : s.depth ≡ 0 → EndsSo s.part Bare → Finds bytes true End
     found_end none ends = (
       refl,
       subst (λ b. lexeme b ≡ nothing) (append-nil bytes)
-          (top_lexeme bytes s.tokens.items s.depth s.from s.part (start_of bytes s) s.content.items [] stands_at_end none [] ∙ ends (start_of bytes s) s.content.items),
+          (top_lexeme bytes s.tokens s.depth s.from s.part (start_of bytes s) s.content.items [] stands_at_end none [] ∙ ends (start_of bytes s) s.content.items),
     )
 
     pub found_halted : s.depth ≡ 0 → EndsSo s.part Halted → Finds bytes true (Fault Unfinished s.start)
@@ -293,7 +293,7 @@ module _ (bytes : List ℕ) (s : Scan) (h : IsScan bytes s) where
       start_of bytes s,
       whole_place,
       λ more may. rw (may, append-nil (start_of bytes s))
-          (inr (top_lexeme bytes s.tokens.items s.depth s.from s.part (start_of bytes s) s.content.items [] stands_at_end none [] ∙ ends (start_of bytes s) s.content.items)),
+          (inr (top_lexeme bytes s.tokens s.depth s.from s.part (start_of bytes s) s.content.items [] stands_at_end none [] ∙ ends (start_of bytes s) s.content.items)),
     )
 
     pub found_formless : EndsSo s.part Formless → Finds bytes true (Fault Character s.start)
@@ -301,7 +301,7 @@ module _ (bytes : List ℕ) (s : Scan) (h : IsScan bytes s) where
       start_of bytes s,
       whole_place,
       λ more may. rw (may, append-nil (start_of bytes s))
-          (has_character bytes s.tokens.items s.depth s.from s.part (start_of bytes s) s.content.items [] stands_at_end [] (start_of bytes s) (ends (start_of bytes s) s.content.items h.stands.is_part)),
+          (has_character bytes s.tokens s.depth s.from s.part (start_of bytes s) s.content.items [] stands_at_end [] (start_of bytes s) (ends (start_of bytes s) s.content.items h.stands.is_part)),
     )
 
     ends_cut : (e : Ending) → (e ≡ Formless → ⊥) → EndsSo s.part e → IsCutShort (goes_on s.part (start_of bytes s) s.content.items [])
@@ -314,20 +314,20 @@ module _ (bytes : List ℕ) (s : Scan) (h : IsScan bytes s) where
 
     pub found_open : 0 < s.depth → (e : Ending) → (e ≡ Formless → ⊥) → EndsSo s.part e → Finds bytes true (Fault Unfinished s.from)
     found_open some e other ends =
-        let o = list_is_open bytes s.tokens.items s.depth s.from s.part (start_of bytes s) s.content.items [] [] stands_at_end some (ends_cut e other ends) in
+        let o = list_is_open bytes s.tokens s.depth s.from s.part (start_of bytes s) s.content.items [] [] stands_at_end some (ends_cut e other ends) in
         (o.0, o.1, λ more may. rw may (inl o.2))
 
     pub found_last : s.depth ≡ 0 → EndsSo s.part Whole → (t : Token) → part_token s.part (start_of bytes s) s.content.items ≡ Some t
-        → Finds bytes true (Ready (s.tokens.items ++ t ∷ []) s.looked)
+        → Finds bytes true (Ready (s.tokens ++ t ∷ []) s.looked)
     found_last none ends t is =
         let w = ends (start_of bytes s) s.content.items h.stands.is_part in
         let same : w.0 ≡ t = cc in
         let st = stands_at_end in
         let goes = subst (λ x. goes_on s.part (start_of bytes s) s.content.items [] ≡ token (start_of bytes s) x []) same w.2 in
-        let lexes = Lexes-push (bytes ++ []) (st.tail ++ []) (start_of bytes s) [] s.tokens.items t (st.lexes []) (st.goes [] ∙ goes) in
-        let shorter = Lexes-shorter (bytes ++ []) [] (s.tokens.items ++ t ∷ []) lexes in (
-          (shapes s.tokens.items, s.depth, shape t, shapes-push s.tokens.items t, st.opens, subst (Completes s.depth) (sym (part_single s.part (start_of bytes s) s.content.items t is)) none),
-          omega (arith, shorter, length-append bytes [], length-append s.tokens.items (t ∷ [])),
+        let lexes = Lexes-push (bytes ++ []) (st.tail ++ []) (start_of bytes s) [] s.tokens t (st.lexes []) (st.goes [] ∙ goes) in
+        let shorter = Lexes-shorter (bytes ++ []) [] (s.tokens ++ t ∷ []) lexes in (
+          (shapes s.tokens, s.depth, shape t, shapes-push s.tokens t, st.opens, subst (Completes s.depth) (sym (part_single s.part (start_of bytes s) s.content.items t is)) none),
+          omega (arith, shorter, length-append bytes [], length-append s.tokens (t ∷ [])),
           h.within,
           λ more may. rw (may, none_left) lexes,
         )

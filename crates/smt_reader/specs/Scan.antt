@@ -31,7 +31,7 @@ start_of bytes s = slice_range bytes s.start s.looked
 pub record IsScan (bytes : List ℕ) (s : Scan) : Type 0 where
   pub within : s.looked ≤ length bytes
   pub begun : s.start ≤ s.looked
-  pub stands : Stands bytes s.tokens.items s.depth s.from s.part (start_of bytes s) s.content.items (drop s.looked bytes)
+  pub stands : Stands bytes s.tokens s.depth s.from s.part (start_of bytes s) s.content.items (drop s.looked bytes)
 
 -- The token that was read in part ends, and the bytes go on from a place, whatever bytes may follow.
 pub record EndsAt (bytes : List ℕ) (s : Scan) (next : ℕ) : Type 0 where
@@ -65,7 +65,7 @@ Keeps bytes End new = IsScan bytes new
 -- A scan went on by a byte or a token.
 pub record Goes (bytes : List ℕ) (old new : Scan) : Type 0 where
   pub scan : IsScan bytes new
-  pub onward : old.looked + length old.tokens.items < new.looked + length new.tokens.items
+  pub onward : old.looked + length old.tokens < new.looked + length new.tokens
 
 -- What was found is so, whether more bytes may follow or not; or the scan went on.
 abbrev pub Comes : List ℕ → Scan → Option Found → Scan → Type 0

@@ -1,6 +1,8 @@
-ghost use Rattle.std.specs.Prelude.{◌≡◌, IfOk, Some, None, if◌then◌else◌};
+ghost use Rattle.std.specs.Prelude.{◌≡◌, Some, None, if◌then◌else◌};
+ghost use Rattle.std.specs.Option.{option_map};
 ghost use Rattle.std.specs.Str.{bytes_eq};
 ghost use Rattle.smt_meaning.specs.Reading.{symbol_token, reserved_word};
+ghost use Rattle.smt_meaning.specs.Seen.{seen};
 ghost use Rattle.smt_reader.specs.Parts.{EndsSo, Extends, Passes, StepsSo, StopsAt, form_token, part_token};
 ghost use Rattle.smt_reader.specs.declared.part.Part.TheVariants.{Blank, Comment, Word as InWord, Text as InText, Mark, Quoted};
 
@@ -9,8 +11,7 @@ use crate::byte::{
     leading_quoted, leading_symbol_bytes, leading_text,
 };
 use crate::form::Form;
-use smt_meaning::{Seq, Token, Word};
-use std::alloc::{AllocError, Global};
+use smt_meaning::{TokenView, Word};
 
 /// Where in the input's tokens the bytes so far end.
 #[derive(Clone, Copy, Debug, PartialEq, Eq, Drop)]
@@ -173,19 +174,14 @@ impl Part {
 
     /// The token that ends here: `start` has its bytes, and `content` what was read of a text or a quoted symbol.
     #[inline(always)]
-    pub fn token(
-        self,
-        alloc: Global,
-        start: &[u8],
-        content: &[u8],
-    ) -> Result<Option<Token>, AllocError>
-        ensures { IfOk result (λ t. t ≡ part_token self start.now content.now) }
+    pub fn token<'a>(self, start: &'a [u8], content: &'a [u8]) -> Option<TokenView<'a>>
+        ensures { option_map seen result ≡ part_token self start.now content.now }
     {
         match self {
-            Part::Blank | Part::Comment | Part::Text => Ok(None),
-            Part::Word(form) => word_token(alloc, form, start),
-            Part::Mark => Ok(Some(Token::Text(Seq::copy(alloc, content)?))),
-            Part::Quoted => Ok(Some(Token::Symbol(Seq::copy(alloc, content)?))),
+            Part::Blank | Part::Comment | Part::Text => None,
+            Part::Word(form) => word_token(form, start),
+            Part::Mark => Some(TokenView::Text(content)),
+            Part::Quoted => Some(TokenView::Symbol(content)),
         }
     }
 }
@@ -291,31 +287,31 @@ fn quoted_step(byte: u8) -> Step
 
 /// The token that a word of this form is.
 #[inline(always)]
-fn word_token(alloc: Global, form: Form, word: &[u8]) -> Result<Option<Token>, AllocError>
-    ensures { IfOk result (λ t. t ≡ form_token form word.now) }
+fn word_token(form: Form, word: &[u8]) -> Option<TokenView<'_>>
+    ensures { option_map seen result ≡ form_token form word.now }
 {
     match form {
-        Form::Simple => Ok(Some(symbol(alloc, word)?)),
-        Form::Zero | Form::Digits => Ok(Some(Token::Numeral(Seq::copy(alloc, word)?))),
-        Form::Places => Ok(Some(Token::Decimal(Seq::copy(alloc, word)?))),
-        Form::HexDigits => Ok(Some(Token::Hex(Seq::copy(alloc, word)?))),
-        Form::BinaryDigits => Ok(Some(Token::Binary(Seq::copy(alloc, word)?))),
+        Form::Simple => Some(symbol(word)),
+        Form::Zero | Form::Digits => Some(TokenView::Numeral(word)),
+        Form::Places => Some(TokenView::Decimal(word)),
+        Form::HexDigits => Some(TokenView::Hex(word)),
+        Form::BinaryDigits => Some(TokenView::Binary(word)),
         Form::Named => match word {
-            [] => Ok(Some(Token::Keyword(Seq::new(alloc)))),
-            [_, name @ ..] => Ok(Some(Token::Keyword(Seq::copy(alloc, name)?))),
+            [] => Some(TokenView::Keyword(word)),
+            [_, name @ ..] => Some(TokenView::Keyword(name)),
         },
-        Form::Point | Form::Hash | Form::HexMark | Form::BinaryMark | Form::Colon => Ok(None),
+        Form::Point | Form::Hash | Form::HexMark | Form::BinaryMark | Form::Colon => None,
     }
 }
 
 /// The token that a simple symbol or a reserved word is.
 #[inline(always)]
-fn symbol(alloc: Global, word: &[u8]) -> Result<Token, AllocError>
-    ensures { IfOk result (λ t. t ≡ symbol_token (reserved_word word.now) word.now) }
+fn symbol(word: &[u8]) -> TokenView<'_>
+    ensures { seen result ≡ symbol_token (reserved_word word.now) word.now }
 {
     match reserved(word) {
-        Some(reserved) => Ok(Token::Reserved(reserved)),
-        None => Ok(Token::Symbol(Seq::copy(alloc, word)?)),
+        Some(reserved) => TokenView::Reserved(reserved),
+        None => TokenView::Symbol(word),
     }
 }
 

@@ -1,19 +1,16 @@
-ghost use Rattle.std.specs.Prelude.{◌≡◌, ◌≤◌, ◌+◌, ◌++◌, ◌∷◌, [], List, ℕ, length, ◌<◌, true, Some, OnErr, IfOk, IsSome, if◌then◌else◌};
-ghost use Rattle.std.specs.Result.{is_ok};
+ghost use Rattle.std.specs.Prelude.{◌≡◌, ◌≤◌, ◌+◌, ◌++◌, ◌∷◌, [], List, ℕ, length, ◌<◌, true, Some, OnOk, OnErr, IfOk, IsSome};
+ghost use Rattle.smt_meaning.specs.declared.tokens.Token.{Token as TokenValue};
 ghost use Rattle.smt_meaning.specs.Reading.{IsSExpr, Opens, shapes};
 ghost use Rattle.smt_reader.specs.Parts.{StopsAt, part_token};
 ghost use Rattle.smt_reader.specs.Scan.{IsScan, start_of, EndsAt, Finds, Goes, Keeps, Comes};
 
 use crate::part::{Ending, Part, Turn};
-use smt_meaning::{FaultKind, SExpr, Token};
+use smt_meaning::{FaultKind, SExpr, TokenView, Tokens};
 use std::alloc::{AllocError, Global};
 use std::mem;
 
 /// The most lists that are open at a time.
 const MOST_OPEN: usize = 10_000;
-
-/// The tokens for which a list takes room as it opens: more than most commands have.
-const USUAL_TOKENS: usize = 32;
 
 /// How far the unread bytes of an input were scanned.
 #[derive(Drop)]
@@ -27,7 +24,7 @@ pub struct Scan {
     /// What was read of a text or a quoted symbol.
     pub content: Vec<u8>,
     /// The whole tokens of the list that is open.
-    pub tokens: Vec<Token>,
+    pub tokens: Tokens,
     /// How many lists are open.
     pub depth: usize,
     /// Where the outermost list begins.
@@ -57,7 +54,7 @@ impl Scan {
             part: Part::Blank,
             start: 0,
             content: Vec::new(alloc),
-            tokens: Vec::new(alloc),
+            tokens: Tokens::new(alloc),
             depth: 0,
             from: 0,
         }
@@ -145,7 +142,7 @@ impl Scan {
         if self.depth >= MOST_OPEN {
             return Ok(Some(Found::Fault(FaultKind::Nesting, self.looked)));
         }
-        push_first(&mut self.tokens, Token::Enter)?;
+        self.tokens.push(TokenView::Enter)?;
         self.from = self.outermost();
         self.depth += 1;
         self.go_on(self.looked + 1);
@@ -155,7 +152,7 @@ impl Scan {
     /// Closes a list at the next byte.
     fn leave(&mut self, alloc: Global) -> Result<Option<Found>, AllocError>
         requires room { self.old.looked < usize.MAX }
-        requires opens { Opens 0 (shapes self.old.tokens.items) self.old.depth }
+        requires opens { Opens 0 (shapes self.old.tokens) self.old.depth }
         ensures ok { (bytes : List ℕ) → IsScan bytes self.old → StopsAt self.old.part bytes self.old.looked (Some Turn.Leaves)
             → IfOk result (λ found. Comes bytes self.old found self.new) }
         ensures err { (bytes : List ℕ) → IsScan bytes self.old → OnErr result (IsScan bytes self.new) }
@@ -163,7 +160,7 @@ impl Scan {
         if self.depth == 0 {
             return Ok(Some(Found::Fault(FaultKind::Closing, self.looked)));
         }
-        self.tokens.push(Token::Leave)?;
+        self.tokens.push(TokenView::Leave)?;
         let next = self.looked + 1;
         if self.depth == 1 {
             return Ok(Some(self.ready(alloc, next)));
@@ -186,8 +183,7 @@ impl Scan {
         ensures ok { IfOk result (λ found. Comes bytes.now self.old found self.new) }
         ensures err { OnErr result (IsScan bytes.now self.new) }
     {
-        let token = self.token(alloc, bytes)?;
-        self.tokens.push(token)?;
+        self.push_token(bytes)?;
         if self.depth == 0 {
             return Ok(Some(self.ready(alloc, next)));
         }
@@ -212,8 +208,7 @@ impl Scan {
         match self.part.ending() {
             Ending::Bare => Ok(Found::End),
             Ending::Whole => {
-                let token = self.token(alloc, bytes)?;
-                self.tokens.push(token)?;
+                self.push_token(bytes)?;
                 Ok(self.ready(alloc, self.looked))
             }
             Ending::Halted => Ok(Found::Fault(FaultKind::Unfinished, self.start)),
@@ -233,31 +228,33 @@ impl Scan {
         }
     }
 
-    /// The token that the bytes looked at end.
+    /// Adds the token that the bytes looked at end. An `Err`, for want of memory, changes nothing.
     #[inline(always)]
-    fn token(&self, alloc: Global, bytes: &[u8]) -> Result<Token, AllocError>
-        requires within { self.now.looked ≤ length bytes.now }
-        requires begun { self.now.start ≤ self.now.looked }
-        requires ends { IsSome (part_token self.now.part (start_of bytes.now self.now) self.now.content.items) }
-        ensures { IfOk result (λ t. part_token self.now.part (start_of bytes.now self.now) self.now.content.items ≡ Some t) }
+    fn push_token(&mut self, bytes: &[u8]) -> Result<(), AllocError>
+        requires within { self.old.looked ≤ length bytes.now }
+        requires begun { self.old.start ≤ self.old.looked }
+        requires ends { IsSome (part_token self.old.part (start_of bytes.now self.old) self.old.content.items) }
+        ensures ok { OnOk result ((t : TokenValue) → part_token self.old.part (start_of bytes.now self.old) self.old.content.items ≡ Some t
+            → self.new ≡ record self.old { tokens = self.old.tokens ++ t ∷ [] }) }
+        ensures err { OnErr result (self.new ≡ self.old) }
     {
         let start = &bytes[self.start..self.looked];
-        let Some(token) = self.part.token(alloc, start, self.content.as_slice())? else {
+        let Some(token) = self.part.token(start, self.content.as_slice()) else {
             unreachable!()
         };
-        Ok(token)
+        self.tokens.push(token)
     }
 
     /// The tokens are an s-expression. The scan begins anew behind it.
     fn ready(&mut self, alloc: Global, used: usize) -> Found
-        requires { IsSExpr self.old.tokens.items }
-        ensures ready { result ≡ Found.Ready self.old.tokens.items used }
+        requires { IsSExpr self.old.tokens }
+        ensures ready { result ≡ Found.Ready self.old.tokens used }
         ensures anew { (unread : List ℕ) → IsScan unread self.new }
     {
-        let tokens = mem::replace(&mut self.tokens, Vec::new(alloc));
+        let tokens = mem::replace(&mut self.tokens, Tokens::new(alloc));
         self.depth = 0;
         self.go_on(0);
-        Found::Ready(SExpr::from_tokens(tokens), used)
+        Found::Ready(tokens.into_sexpr(), used)
     }
 
     /// Goes on from a place, between tokens.
@@ -280,15 +277,4 @@ impl Scan {
             self.from
         }
     }
-}
-
-/// Adds a token, and takes room for others behind the first. An `Err`, for want of memory, adds none.
-fn push_first(tokens: &mut Vec<Token>, token: Token) -> Result<(), AllocError>
-    ensures items { tokens.new.items ≡ (if is_ok result then tokens.old.items ++ token ∷ [] else tokens.old.items) }
-{
-    if tokens.is_empty() {
-        tokens.reserve(USUAL_TOKENS)?;
-    }
-    tokens.push(token)?;
-    Ok(())
 }

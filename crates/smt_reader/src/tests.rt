@@ -1,7 +1,7 @@
 ghost use Rattle.std.specs.Prelude.{◌≡◌, ◌+◌, ◌<◌, length, OnOk};
 
 use crate::{Next, Reader, reads_in_one_way};
-use smt_meaning::{FaultKind, Token, Word};
+use smt_meaning::{FaultKind, SExpr, TokenView, Word};
 use std::alloc::{AllocError, Global};
 use std::test::Fail;
 
@@ -21,18 +21,18 @@ fn spelling(word: Word) -> &'static [u8] {
 }
 
 // A token's kind by a letter, its bytes, and a comma. Parentheses stand as they are.
-fn write_token(token: &Token, text: &mut Vec<u8>) -> Result<(), AllocError> {
+fn write_token(token: TokenView<'_>, text: &mut Vec<u8>) -> Result<(), AllocError> {
     let (kind, bytes) = match token {
-        Token::Enter => return Ok(text.push(b'(')?),
-        Token::Leave => return Ok(text.push(b')')?),
-        Token::Numeral(digits) => (b'N', digits.as_slice()),
-        Token::Decimal(digits) => (b'P', digits.as_slice()),
-        Token::Hex(digits) => (b'X', digits.as_slice()),
-        Token::Binary(digits) => (b'B', digits.as_slice()),
-        Token::Text(bytes) => (b'T', bytes.as_slice()),
-        Token::Symbol(name) => (b'S', name.as_slice()),
-        Token::Reserved(word) => (b'R', spelling(*word)),
-        Token::Keyword(name) => (b'K', name.as_slice()),
+        TokenView::Enter => return Ok(text.push(b'(')?),
+        TokenView::Leave => return Ok(text.push(b')')?),
+        TokenView::Numeral(digits) => (b'N', digits),
+        TokenView::Decimal(digits) => (b'P', digits),
+        TokenView::Hex(digits) => (b'X', digits),
+        TokenView::Binary(digits) => (b'B', digits),
+        TokenView::Text(bytes) => (b'T', bytes),
+        TokenView::Symbol(name) => (b'S', name),
+        TokenView::Reserved(word) => (b'R', spelling(word)),
+        TokenView::Keyword(name) => (b'K', name),
     };
     text.push(kind)?;
     text.extend_from_slice(bytes)?;
@@ -40,9 +40,9 @@ fn write_token(token: &Token, text: &mut Vec<u8>) -> Result<(), AllocError> {
     Ok(())
 }
 
-fn write(tokens: &[Token], text: &mut Vec<u8>) -> Result<(), AllocError> {
-    for token in tokens {
-        write_token(token, text)?;
+fn write(sexpr: &SExpr, text: &mut Vec<u8>) -> Result<(), AllocError> {
+    for place in 0..sexpr.len() {
+        write_token(sexpr.token(place), text)?;
     }
     Ok(())
 }
@@ -55,7 +55,7 @@ fn read_on(alloc: Global, reader: &mut Reader, text: &mut Vec<u8>) -> Result<Fau
     for _ in 0..1000 {
         match reader.next(alloc)? {
             Next::Ready(sexpr) => {
-                write(sexpr.tokens(), text)?;
+                write(&sexpr, text)?;
                 text.push(b' ')?;
             }
             Next::NeedMore => return Ok(None),

@@ -49,7 +49,7 @@ cut-on_newest n es (ds ∷ fs ∷ rest) below later =
 pub cut_to-gained : (t now : Names) → HasGained t now → cut_to t.given now ≡ t
 cut_to-gained t now h =
     let given : t.given ≤ now.given = h.given in
-    let ids : min t.given now.given ≡ t.given = omega arith in
+    let ids : min now.given t.given ≡ t.given = omega arith in
     let levels : map (λ (ds : List Declaration). filter (has_id_below t.given) ds) now.levels ≡ t.levels =
     ap (map (λ (ds : List Declaration). filter (has_id_below t.given) ds)) h.levels ∙ cut-on_newest t.given h.gained t.levels h.table.ids_given h.later in
-    ap (λ dss. record { levels = dss; given = min t.given now.given }) levels ∙ ap (λ n. record { levels = t.levels; given = n }) ids
+    ap (λ dss. record { levels = dss; given = min now.given t.given }) levels ∙ ap (λ n. record { levels = t.levels; given = n }) ids

@@ -1,3 +1,6 @@
-mod LevelLemmas
 mod CutLemmas
-mod EmptyLemmas
+mod FindLemmas
+mod ListedLemmas
+mod LevelLemmas
+mod TableLemmas
+mod PlaceLemmas

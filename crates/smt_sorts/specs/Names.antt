@@ -1,5 +1,5 @@
 -- The table of names by levels: what is declared, what changes it, and what is true of every table.
-use Rattle.std.specs.Prelude.{◌≡◌, ◌≢◌, refl, ℕ, ◌+◌, ◌-◌, ◌^◌, ◌<◌, ◌≤◌, min, Bool, true, false, nat_lt, List, [], ◌∷◌, ◌++◌, map, take, length, replicate, filter, flat_map, slice_index_or, Option, Some, None, All, codes}
+use Rattle.std.specs.Prelude.{◌≡◌, ◌≢◌, refl, ℕ, ◌+◌, ◌-◌, ◌^◌, ◌<◌, ◌≤◌, min, Bool, true, false, nat_lt, List, [], ◌∷◌, ◌++◌, map, take, length, replicate, filter, flat_map, Option, Some, None, All, AllPairs, codes}
 use Rattle.std.specs.Coded.{Coded, code_by, coded×, coded_ℕ, coded_list}
 use Rattle.smt_meaning.specs.declared.values.Sort.{Sort}
 use Rattle.smt_meaning.specs.declared.values.Sort.TheVariants.{Free}
@@ -53,7 +53,7 @@ has_id_below ids d = nat_lt d.id ids
 
 -- without the declarations whose ids are these and later ones
 abbrev pub cut_to : ℕ → Names → Names
-cut_to ids t = record { levels = map (λ (ds : List Declaration). filter (has_id_below ids) ds) t.levels; given = min ids t.given }
+cut_to ids t = record { levels = map (λ (ds : List Declaration). filter (has_id_below ids) ds) t.levels; given = min t.given ids }
 
 -- without any declaration; the ids that were given stay given
 abbrev pub cleared : Names → Names
@@ -100,7 +100,7 @@ pub record IsTable (t : Names) : Type 0 where
   pub few_ids : t.given ≤ most_symbols
   pub ids_given : All (λ (d : Declaration). d.id < t.given) (signature t)
   pub ids_apart : HasNoIdTwice (signature t)
-  pub names_apart : (j k : ℕ) (d : Declaration) → j < k → k < length (signature t) → AreApart (slice_index_or (signature t) j d) (slice_index_or (signature t) k d)
+  pub names_apart : AllPairs AreApart (signature t)
 
 -- since it was a table t, it has gained declarations on its newest level
 pub record HasGained (t now : Names) : Type 0 where

@@ -1,21 +1,24 @@
 //! The table of names.
 ghost use Rattle.std.specs.Prelude.{◌≡◌, ◌+◌, ◌^◌, ◌<◌, ◌↔◌, ◌++◌, ◌∷◌, [], length, OnOk, OnErr, IfOk, IfErr, IfSome, IfNone, None, Some};
-ghost use Rattle.smt_meaning.specs.Signature.{is_one_of, find_function, find_sort, function_with_id, reserved_functions, reserved_sorts};
+ghost use Rattle.smt_meaning.specs.Signature.{is_one_of, find_function, find_sort, function_with_id, reserved_functions, reserved_sorts, HasNoIdTwice};
 ghost use Rattle.smt_meaning.specs.Sorts.{most_symbols};
 ghost use Rattle.smt_meaning.specs.StackCommand.{declared_sort, sort_named, sort_declaration, function_declaration};
 ghost use Rattle.smt_meaning.specs.State.{name_of_sort};
+ghost use Rattle.smt_sorts.specs.Listed.{is_named, kind_of, first_that, has_id, name_if_sort};
 
+use crate::entries::{Entries, Kind};
 use crate::errors::{AddError, NameError};
-use crate::reserved;
-use smt_meaning::{Body, Declaration, Rank, Sort, SymId};
+use crate::{places, reserved};
+use smt_meaning::{Body, Bytes, Declaration, Rank, Seq, Sort, SymId};
 use std::alloc::{AllocError, Global};
 use std::marker::Model;
 
 /// What is declared and defined, by levels, and how many ids were given. Ids are given in order, from 0.
 #[derive(Drop)]
 pub struct Table {
-    declarations: Vec<Declaration>,
+    entries: Entries,
     count: u32,
+    given: SymId,
 }
 
 impl Model for Table {
@@ -25,12 +28,22 @@ impl Model for Table {
 
     ghost coded = { names_code };
 
-    ghost use Rattle.std.specs.Prelude.{◌≡◌, ◌<◌, ◌^◌, List, [], replicate};
-    ghost use Rattle.smt_meaning.specs.Declaration.{Declaration as DeclarationValue};
+    ghost use Rattle.smt_sorts.specs.Leveled.{levels_of, IsLeveled};
 
-    ghost view = { λ a. record { levels = replicate a.count []; given = 0 } };
+    ghost view = { λ a. record { levels = levels_of a.count a.entries; given = a.given } };
 
-    ghost invariant = { λ a. (0 < a.count) × (a.declarations.items ≡ []) };
+    ghost invariant = { λ a. IsLeveled a.count a.given a.entries };
+}
+
+/// The name of a declaration, where it is that of a sort, else nothing.
+fn name_if_sort(declaration: &Declaration) -> &[u8]
+    ensures { result.now ≡ name_if_sort declaration.now }
+{
+    if declaration.is_sort() {
+        declaration.name().as_slice()
+    } else {
+        b"".as_slice()
+    }
 }
 
 impl Table {
@@ -41,8 +54,9 @@ impl Table {
         ensures { result ≡ no_names }
     {
         Table {
-            declarations: Vec::new(alloc),
+            entries: Entries::new(alloc),
             count: 1,
+            given: 0,
         }
     }
 
@@ -52,8 +66,7 @@ impl Table {
         ensures table { IsTable self.now }
         ensures gained { HasGained self.now self.now }
     {
-        let _count = self.count;
-        0
+        self.given
     }
 
     /// How many levels there are, level 0 among them.
@@ -67,7 +80,7 @@ impl Table {
     pub fn declarations(&self) -> &[Declaration]
         ensures { result.now ≡ signature self.now }
     {
-        &self.declarations
+        self.entries.declarations()
     }
 
     /// The function of this name.
@@ -75,16 +88,25 @@ impl Table {
         ensures some { IfSome result (λ d. find_function name.now (signature self.now) ≡ Some d.now) }
         ensures none { IfNone result (find_function name.now (signature self.now) ≡ None) }
     {
-        let _ = &self.count;
-        None
+        self.entries.find(Kind::Function, name)
+    }
+
+    /// The declaration of the sort of this name.
+    fn find_sort(&self, name: &[u8]) -> Option<&Declaration>
+        ensures some { IfSome result (λ d. find_sort name.now (signature self.now) ≡ Some d.now) }
+        ensures none { IfNone result (find_sort name.now (signature self.now) ≡ None) }
+    {
+        self.entries.find(Kind::Sort, name)
     }
 
     /// The sort that a declared name stands for.
     pub fn lookup_sort(&self, name: &[u8]) -> Option<Sort>
         ensures { result ≡ declared_sort (find_sort name.now (signature self.now)) }
     {
-        let _ = &self.count;
-        None
+        match self.find_sort(name) {
+            Some(declaration) => Some(declaration.rank().result),
+            None => None,
+        }
     }
 
     /// The sort that a name stands for, `Bool` and `Int` among them.
@@ -100,21 +122,36 @@ impl Table {
         }
     }
 
+    /// What has this id.
+    fn with_id(&self, id: SymId) -> Option<&Declaration>
+        ensures some { IfSome result (λ d. first_that (has_id id) (signature self.now) ≡ Some d.now) }
+        ensures none { IfNone result (first_that (has_id id) (signature self.now) ≡ None) }
+        ensures apart { HasNoIdTwice (signature self.now) }
+    {
+        places::with_id(self.entries.declarations(), id)
+    }
+
     /// The function with this id.
     pub fn function_with_id(&self, id: SymId) -> Option<&Declaration>
         ensures some { IfSome result (λ d. function_with_id id (signature self.now) ≡ Some d.now) }
         ensures none { IfNone result (function_with_id id (signature self.now) ≡ None) }
     {
-        let _ = &self.count;
-        None
+        let declaration = self.with_id(id)?;
+        if declaration.is_sort() {
+            None
+        } else {
+            Some(declaration)
+        }
     }
 
     /// The name of the sort with this id, empty where there is none.
     pub fn sort_name(&self, id: SymId) -> &[u8]
         ensures { result.now ≡ name_of_sort id (signature self.now) }
     {
-        let _ = &self.count;
-        b"".as_slice()
+        match self.with_id(id) {
+            Some(declaration) => name_if_sort(declaration),
+            None => b"".as_slice(),
+        }
     }
 
     /// Whether a function of this name may be declared.
@@ -138,10 +175,26 @@ impl Table {
     {
         if reserved::is_reserved_sort(name) {
             Err(NameError::Reserved)
+        } else if self.find_sort(name).is_some() {
+            Err(NameError::AlreadyDeclared)
         } else {
-            let _ = &self.count;
             Ok(())
         }
+    }
+
+    /// Adds a declaration with the next id on the newest level. An `Err`, for want of memory, changes nothing.
+    fn add(&mut self, declaration: Declaration) -> Result<(), AllocError>
+        requires id { declaration.id ≡ self.old.given }
+        requires room { self.old.given < most_symbols }
+        requires new { first_that (is_named (kind_of declaration.is_sort) declaration.name) (signature self.old) ≡ None }
+        ensures ok { OnOk result (self.new ≡ with_declaration declaration self.old) }
+        ensures signature { OnOk result (signature self.new ≡ signature self.old ++ declaration ∷ []) }
+        ensures err { OnErr result (self.new ≡ self.old) }
+    {
+        let given = self.given + 1;
+        self.entries.push(declaration, self.count - 1)?;
+        self.given = given;
+        Ok(())
     }
 
     /// Declares a sort on the newest level: a new one, or a name for one. `TooManySymbols` comes exactly where no id is left. An `Err` changes nothing.
@@ -159,11 +212,17 @@ impl Table {
         ensures full { (result ≡ Err AddError.TooManySymbols) ↔ (self.old.given ≡ most_symbols) }
         ensures err { OnErr result (self.new ≡ self.old) }
     {
-        let _ = &self.count;
-        let _ = alloc;
-        let _ = name;
-        let _ = sort;
-        Err(AddError::Memory)
+        let id = self.given;
+        if id == u32::MAX {
+            return Err(AddError::TooManySymbols);
+        }
+        let name = Bytes::copy(alloc, name)?;
+        let rank = Rank {
+            arguments: Seq::new(alloc),
+            result: sort.unwrap_or(Sort::Free(id)),
+        };
+        self.add(Declaration::sort(id, name, rank))?;
+        Ok(id)
     }
 
     /// Declares or defines a function on the newest level. `TooManySymbols` comes exactly where no id is left. An `Err` changes nothing.
@@ -182,12 +241,13 @@ impl Table {
         ensures full { (result ≡ Err AddError.TooManySymbols) ↔ (self.old.given ≡ most_symbols) }
         ensures err { OnErr result (self.new ≡ self.old) }
     {
-        let _ = &self.count;
-        let _ = alloc;
-        let _ = name;
-        let _ = rank;
-        let _ = body;
-        Err(AddError::Memory)
+        let id = self.given;
+        if id == u32::MAX {
+            return Err(AddError::TooManySymbols);
+        }
+        let name = Bytes::copy(alloc, name)?;
+        self.add(Declaration::function(id, name, rank, body))?;
+        Ok(id)
     }
 
     /// Adds so many levels. It takes no memory.
@@ -204,6 +264,8 @@ impl Table {
         ensures { self.new ≡ without_levels levels self.old }
     {
         self.count -= levels;
+        let len = places::below_level(self.entries.levels(), self.count);
+        self.entries.truncate(len);
     }
 
     /// Takes away the declarations whose ids are these and later ones, and gives those ids back: so a refused command leaves no name. It takes no memory.
@@ -211,14 +273,16 @@ impl Table {
         ensures value { self.new ≡ cut_to ids self.old }
         ensures restored { (t : Names) → t.given ≡ ids → HasGained t self.old → self.new ≡ t }
     {
-        let _ = &self.count;
-        let _ = ids;
+        let len = places::below_id(self.entries.declarations(), ids);
+        self.entries.truncate(len);
+        self.given = self.given.min(ids);
     }
 
     /// Takes every declaration and every level but level 0 away. The ids stay given. It takes no memory.
     pub fn clear(&mut self)
         ensures { self.new ≡ cleared self.old }
     {
+        self.entries.truncate(0);
         self.count = 1;
     }
 
@@ -226,6 +290,8 @@ impl Table {
     pub fn reset(&mut self)
         ensures { self.new ≡ no_names }
     {
+        self.entries.truncate(0);
         self.count = 1;
+        self.given = 0;
     }
 }

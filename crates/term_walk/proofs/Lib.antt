@@ -5,3 +5,4 @@ mod Run
 mod UseLemmas
 mod AgainLemmas
 mod FormLemmas
+mod TodoLemmas

@@ -9,7 +9,7 @@ use Rattle.smt_meaning.specs.declared.tokens.Word.TheVariants.{Exclamation, Let}
 use Rattle.smt_meaning.specs.Sexp.{Sexp, Sexps, word, group, end, ◌▸◌}
 use Rattle.smt_meaning.specs.Signature.{is_one_of}
 use Rattle.smt_meaning.specs.Sorts.{bound_names, names_or_none, without, has_free, some_has_free, binding_has_free}
-use Rattle.term_walk.specs.Uses.{is_outer, uses_outer, some_use_outer, bindings_use_outer, FreeIsUsed}
+use Rattle.term_walk.specs.Uses.{NothingIsFree, is_outer, uses_outer, some_use_outer, bindings_use_outer, FreeIsUsed}
 
 -- these names are those that stand for the first m variables
 record Marks (m : ℕ) (ns vs : List (List ℕ)) : Type 0 where
@@ -77,3 +77,20 @@ mutual
 
 pub free_is_used : FreeIsUsed
 free_is_used vs t = free_same (length vs) vs vs t (record { same = λ n. all_outer (length vs) vs n (omega arith); within = omega arith })
+
+mutual
+  pub nothing_free : NothingIsFree
+  nothing_free (word (Symbol n)) = refl
+  nothing_free (word _) = refl
+  nothing_free (group (word (Reserved Let) ▸ group bs ▸ b ▸ end)) = ap (λ x. x || has_free [] b) (no_binding_free bs) ∙ nothing_free b
+  nothing_free (group (word (Reserved Exclamation) ▸ t ▸ rest)) = nothing_free t
+  nothing_free (group ss) = none_free ss
+
+  none_free : (ss : Sexps) → some_has_free [] ss ≡ false
+  none_free end = refl
+  none_free (s ▸ ss) = ap (λ x. x || some_has_free [] ss) (nothing_free s) ∙ none_free ss
+
+  no_binding_free : (bs : Sexps) → binding_has_free [] bs ≡ false
+  no_binding_free end = refl
+  no_binding_free (group (x ▸ t ▸ end) ▸ rest) = ap (λ y. y || binding_has_free [] rest) (nothing_free t) ∙ no_binding_free rest
+  no_binding_free (_ ▸ rest) = no_binding_free rest

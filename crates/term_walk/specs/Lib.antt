@@ -3,3 +3,4 @@ pub mod Laws
 pub mod Uses
 pub mod Again
 pub mod Form
+pub mod Todo

@@ -4,7 +4,8 @@
 ghost use Rattle.term_walk.specs.Again.{NotedOnce, PutLeaves, RootsNoteAll};
 ghost use Rattle.term_walk.specs.Form.{AnnotationFormIsRead, AnnotationFormStays, LetFormIsRead, LetFormStays};
 ghost use Rattle.term_walk.specs.Laws.{WalkGivesTheJudgement};
-ghost use Rattle.term_walk.specs.Uses.{FreeIsUsed};
+ghost use Rattle.term_walk.specs.Todo.{StoredTreesStay, VisitsParts};
+ghost use Rattle.term_walk.specs.Uses.{FreeIsUsed, NothingIsFree};
 
 /// Reading the tokens of a term with a stack of frames gives what judging the term gives: the sort and the tree, or the one refusal.
 pub fn walk_gives_the_judgement()
@@ -49,4 +50,19 @@ pub fn annotation_form_is_read()
 /// Once an annotation is read, or hasn't the form, later tokens change nothing.
 pub fn annotation_form_stays()
     ensures { AnnotationFormStays }
+{}
+
+/// Without variables nothing is free in a term.
+pub fn nothing_is_free()
+    ensures { NothingIsFree }
+{}
+
+/// A tree's parts join a list by visiting its arguments from left to right, and then the tree.
+pub fn parts_are_visited()
+    ensures { VisitsParts }
+{}
+
+/// A list that has the parts of each of its trees stays as it is where one of them is visited.
+pub fn stored_trees_stay()
+    ensures { StoredTreesStay }
 {}

@@ -2,7 +2,7 @@ use Rattle.std.proofs.Common.{true, arith, subst, sym, ap, ◌∙◌}
 use Rattle.smt_meaning.specs.Reading.{IsSExpr}
 use Rattle.smt_reader.specs.declared.scan.Found.TheVariants.{Ready, Fault, End}
 use Rattle.smt_meaning.specs.declared.tokens.FaultKind.TheVariants.{Unfinished}
-use Rattle.smt_reader.specs.Scan.{Finds}
+use Rattle.smt_reader.specs.Scan.{Finds, start_of}
 use Rattle.smt_reader.proofs.Scanned.{scan_unsettled, found_end, found_halted, found_last}
 use Rattle.smt_reader.proofs.scan.Scan.at_end.Goals as goal
 
@@ -21,15 +21,22 @@ returns-in-Bare-clause-finds c =
 
 pub ready-requires : goal.ready-requires
 ready-requires c =
-    let found = found_last c.args.bytes.now c.args.self.now c.requires.scan c.requires.all (omega arith) c.in-Whole.ensures c.in_ok-token-in-Whole.token c.in_ok-token-in-Whole.ensures in
-    subst IsSExpr (sym c.in_ok-push-in-Whole.ensures.items) found.0
-
-pub returns-in_ok-push-in-Whole-clause-finds : goal.returns-in_ok-push-in-Whole-clause-finds
-returns-in_ok-push-in-Whole-clause-finds c =
     let s = c.args.self.now in
-    let found = found_last c.args.bytes.now s c.requires.scan c.requires.all (omega arith) c.in-Whole.ensures c.in_ok-token-in-Whole.token c.in_ok-token-in-Whole.ensures in
-    let is = c.ready.ensures.ready ∙ ap (λ ts. Ready ts s.looked) c.in_ok-push-in-Whole.ensures.items in
-    subst (λ f. Finds c.args.bytes.now f c.ready.result) (sym c.if-not-finished.false) (subst (Finds c.args.bytes.now true) (sym is) found)
+    let bytes = c.args.bytes.now in
+    let w = c.in-Whole.ensures (start_of bytes s) s.content.items c.requires.scan.stands.is_part in
+    let pushed = c.in_ok-push_token-in-Whole.ensures.ok w.0 w.1 in
+    let found = found_last bytes s c.requires.scan c.requires.all (omega arith) c.in-Whole.ensures w.0 w.1 in
+    subst IsSExpr (sym (ap (λ x. x.tokens) pushed)) found.0
+
+pub returns-in_ok-push_token-in-Whole-clause-finds : goal.returns-in_ok-push_token-in-Whole-clause-finds
+returns-in_ok-push_token-in-Whole-clause-finds c =
+    let s = c.args.self.now in
+    let bytes = c.args.bytes.now in
+    let w = c.in-Whole.ensures (start_of bytes s) s.content.items c.requires.scan.stands.is_part in
+    let pushed = c.in_ok-push_token-in-Whole.ensures.ok w.0 w.1 in
+    let found = found_last bytes s c.requires.scan c.requires.all (omega arith) c.in-Whole.ensures w.0 w.1 in
+    let is = c.ready.ensures.ready ∙ ap (λ x. Ready x.tokens x.looked) pushed in
+    subst (λ f. Finds bytes f c.ready.result) (sym c.if-not-finished.false) (subst (Finds bytes true) (sym is) found)
 
 pub returns-in-Halted-clause-finds : goal.returns-in-Halted-clause-finds
 returns-in-Halted-clause-finds c =

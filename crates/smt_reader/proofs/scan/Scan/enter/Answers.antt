@@ -14,5 +14,5 @@ returns-clause-ok c bytes scan stops =
     let from = c.outermost-self.ensures in
     subst (Goes bytes s) (sym c.go_on.ensures)
     (scan_on bytes s _ Enter (drop s.looked bytes) (s.looked + 1) scan (enters_at bytes s scan stops) (omega arith) (within_stop bytes s.part s.looked Enters stops)
-    refl refl refl c.in_ok-push_first.ensures.items (c.if-self-ge-MOST_OPEN.false, refl)
+    refl refl refl c.in_ok-push.ensures.ok (c.if-self-ge-MOST_OPEN.false, refl)
     (λ none. omega (arith, from.first none, scan.within, length-drop s.looked bytes)) (λ some. from.inner some))

@@ -8,4 +8,4 @@ returns-in-Some-2-clause-finds c = let comes = rw c.in-Some-2.is at c.in_ok-foun
 pub loop-turn-smaller : goal.loop-turn-smaller
 loop-turn-smaller c =
     let goes = rw c.in_default-2.is at c.in_ok-found.ensures.ok in
-    omega (arith, goes.onward, goes.scan.within, scan_tokens _ _ goes.scan, c.pass.ensures.onward, ap (λ tokens. length tokens.items) c.pass.ensures.tokens)
+    omega (arith, goes.onward, goes.scan.within, scan_tokens _ _ goes.scan, c.pass.ensures.onward, ap length c.pass.ensures.tokens)

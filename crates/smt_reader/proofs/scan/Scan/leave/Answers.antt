@@ -13,7 +13,7 @@ returns-then-self-eq0-clause-ok c bytes scan stops = (found_closing bytes c.args
 pub returns-then-self-eq1-clause-ok : goal.returns-then-self-eq1-clause-ok
 returns-then-self-eq1-clause-ok c bytes scan stops =
     let s = c.args.self.now in
-    comes_ready bytes _ _ _ (s.tokens.items ++ Leave ∷ []) (s.looked + 1) c.ready.ensures.ready c.in_ok-push.ensures.items
+    comes_ready bytes _ _ _ (s.tokens ++ Leave ∷ []) (s.looked + 1) c.ready.ensures.ready c.in_ok-push.ensures.ok
     (found_ready bytes s Leave (drop s.looked bytes) (s.looked + 1) scan (leaves_at bytes s scan stops) (within_stop bytes s.part s.looked Leaves stops) c.if-self-eq1.true)
     c.ready.ensures.anew
 
@@ -22,9 +22,9 @@ returns-clause-ok c bytes scan stops =
     let s = c.args.self.now in
     subst (Goes bytes s) (sym c.go_on.ensures)
     (scan_on bytes s _ Leave (drop s.looked bytes) (s.looked + 1) scan (leaves_at bytes s scan stops) (omega arith) (within_stop bytes s.part s.looked Leaves stops)
-    refl refl refl c.in_ok-push.ensures.items (omega arith, refl) (λ none. absurd (omega arith)) (λ some. refl))
+    refl refl refl c.in_ok-push.ensures.ok (omega arith, refl) (λ none. absurd (omega arith)) (λ some. refl))
 
 pub ready-requires : goal.ready-requires
 ready-requires c =
-    let tokens = c.args.self.now.tokens.items in
-    subst IsSExpr (sym c.in_ok-push.ensures.items) (shapes tokens, c.args.self.now.depth, closing, shapes-push tokens Leave, c.requires.opens, c.if-self-eq1.true)
+    let tokens = c.args.self.now.tokens in
+    subst IsSExpr (sym c.in_ok-push.ensures.ok) (shapes tokens, c.args.self.now.depth, closing, shapes-push tokens Leave, c.requires.opens, c.if-self-eq1.true)

@@ -1,14 +1,15 @@
-use Rattle.std.proofs.Common.{ℕ, [], min, replicate, arith, ◌≡◌, ◌∙◌, ap, sym}
-use Rattle.smt_sorts.proofs.EmptyLemmas.{cut-none}
-use Rattle.smt_sorts.proofs.CutLemmas.{cut_to-gained}
+use Rattle.std.proofs.Common.{min, sym, ap, ◌∙◌}
+use Rattle.smt_sorts.proofs.TableLemmas.{levels_of-cut}
 use Rattle.smt_sorts.specs.Names.{cut_to}
+use Rattle.smt_sorts.proofs.CutLemmas.{cut_to-gained}
 use Rattle.smt_sorts.proofs.table.Table.cut_ids.Goals as goal
 
-value : (ids n : ℕ) → cut_to ids (record { levels = replicate n []; given = 0 }) ≡ record { levels = replicate n []; given = 0 }
-value ids n = ap (λ dss. record { levels = dss; given = min ids 0 }) (cut-none ids n) ∙ ap (λ k. record { levels = replicate n []; given = k }) (omega arith)
-
 pub returns-clause-value : goal.returns-clause-value
-returns-clause-value c = rw (← c.self.view_is) (sym (value c.args.ids c.self.inside.count))
+returns-clause-value c =
+    let below = rw c.declarations.ensures.value at c.below_id-len.ensures.below in
+    let above = rw c.declarations.ensures.value at c.below_id-len.ensures.above in
+    rw (c.truncate.ensures, c.min-self-inside.ensures, ← c.self.view_is)
+    (ap (λ dss. record { levels = dss; given = min c.self.inside.given c.args.ids }) (levels_of-cut c.self.inside.count c.self.inside.given c.args.ids c.below_id-len.result c.self.inside.entries c.self.invariant below above))
 
 pub returns-clause-restored : goal.returns-clause-restored
 returns-clause-restored c = λ t e h. returns-clause-value c ∙ ap (λ n. cut_to n c.args.self.now) (sym e) ∙ cut_to-gained t c.args.self.now h

@@ -1,13 +1,33 @@
-use Rattle.std.proofs.Common.{ℕ, ◌≡◌, ◌-◌, length, take, arith, sym, ap, ◌∙◌, replicate, List, []}
-use Rattle.std.proofs.lemmas.List.{take-replicate, length-replicate}
-use Rattle.smt_sorts.specs.Names.{without_levels}
+use Rattle.std.proofs.Common.{◌≡◌, ◌-◌, ◌<◌, length, take, arith, ap, sym, subst, ◌∙◌}
+use Rattle.smt_sorts.proofs.TableLemmas.{length-levels_of, IsLeveled-first, levels_of-fewer}
+use Rattle.smt_sorts.specs.Names.{Names}
+use Rattle.std.proofs.lemmas.List.Elements.{All-take}
+use Rattle.smt_sorts.specs.Leveled.{levels_of}
 use Rattle.smt_meaning.specs.Declaration.{Declaration}
 use Rattle.smt_sorts.proofs.table.Table.pop.Goals as goal
 
-value : (n m : ℕ) → without_levels m (record { levels = replicate n []; given = 0 }) ≡ record { levels = replicate (n - m) []; given = 0 }
-value n m =
-    let size : length (replicate {A = List Declaration} n []) ≡ n = length-replicate n [] in
-    ap (λ k. record { levels = take (k - m) (replicate n []); given = 0 }) size ∙ ap (λ dss. record { levels = dss; given = 0 }) (take-replicate (n - m) n [] (omega arith))
+pub overflow_sub-self : goal.overflow_sub-self
+overflow_sub-self c =
+    let some = subst (λ (t : Names). c.args.levels < length t.levels) (sym c.self.view_is) c.requires in
+    let size : length (levels_of c.self.inside.count c.self.inside.entries) ≡ c.self.inside.count = length-levels_of c.self.inside.count c.self.inside.entries in
+    omega arith
+
+pub invariant_of-self : goal.invariant_of-self
+invariant_of-self c =
+    let some = subst (λ (t : Names). c.args.levels < length t.levels) (sym c.self.view_is) c.requires in
+    let size : length (levels_of c.self.inside.count c.self.inside.entries) ≡ c.self.inside.count = length-levels_of c.self.inside.count c.self.inside.entries in
+    let few = c.self.invariant.few_levels in
+    let below = rw c.levels.ensures.value at c.below_level-len.ensures.below in
+    rw c.truncate.ensures
+    (IsLeveled-first c.self.inside.count c.self.inside.given (c.self.inside.count - c.args.levels) c.self.inside.given c.below_level-len.result c.self.inside.entries c.self.invariant (omega arith) (omega arith) c.self.invariant.few_ids below
+    (All-take (λ (d : Declaration). d.id < c.self.inside.given) c.below_level-len.result c.self.inside.entries.declarations c.self.invariant.ids_given))
 
 pub returns : goal.returns
-returns c = rw (← c.self.view_is) (sym (value c.self.inside.count c.args.levels))
+returns c =
+    let some = subst (λ (t : Names). c.args.levels < length t.levels) (sym c.self.view_is) c.requires in
+    let size : length (levels_of c.self.inside.count c.self.inside.entries) ≡ c.self.inside.count = length-levels_of c.self.inside.count c.self.inside.entries in
+    let above = rw c.levels.ensures.value at c.below_level-len.ensures.above in
+    rw (c.truncate.ensures, ← c.self.view_is)
+    (ap (λ dss. record { levels = dss; given = c.self.inside.given })
+    (levels_of-fewer c.self.inside.count c.self.inside.given (c.self.inside.count - c.args.levels) c.below_level-len.result c.self.inside.entries c.self.invariant (omega arith) above
+    ∙ ap (λ n. take (n - c.args.levels) (levels_of c.self.inside.count c.self.inside.entries)) (sym size)))

@@ -1,0 +1,6 @@
+//! Decides the checks of stacks over Boolean constants, by trying truth values (Davis, Logemann and Loveland, CACM 1962).
+#![tactic(auto)]
+
+mod known;
+mod search;
+mod truths;

@@ -1,0 +1,7 @@
+use Rattle.std.proofs.Common.{refl}
+use Rattle.smt_sorts.specs.Leveled.{levels_of}
+use Rattle.smt_sorts.proofs.table.Table.reset.Goals as goal
+
+pub returns : goal.returns
+unfolding levels_of
+returns c = rw c.truncate.ensures refl
