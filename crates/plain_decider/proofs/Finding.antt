@@ -1,15 +1,13 @@
 -- What is known of a node's arguments, and of the node.
-use Rattle.std.proofs.Common.{◌≡◌, ℕ, zero, suc, ◌<◌, Bool, List, [], ◌∷◌, map, length, Option, None, slice_index_or, replicate, subst, sym, ap, ◌∙◌, arith, refl}
+use Rattle.std.proofs.Common.{◌≡◌, ℕ, zero, suc, Bool, List, [], ◌∷◌, map, length, Option, None, slice_index_or, replicate, subst, sym, ap, ◌∙◌, refl}
 use Rattle.std.proofs.lemmas.List.{length-replicate}
-use Rattle.smt_meaning.specs.declared.values.Value.{Value}
 use Rattle.smt_meaning.specs.declared.terms.Operator.{Operator}
-use Rattle.smt_meaning.specs.declared.terms.Head.{Head}
 use Rattle.smt_meaning.specs.declared.terms.Head.TheVariants.{Theory}
-use Rattle.smt_meaning.specs.Term.{Tree, Trees, node, none, more, tree_at, Interpretation, value, values, operate}
+use Rattle.smt_meaning.specs.Term.{Tree, tree_at, Interpretation, value, values}
 use Rattle.smt_meaning.specs.Nodes.{pick}
 use Rattle.term_store.specs.Terms.{tree_with}
 use Rattle.plain_decider.specs.Known.{Is, Are, operated}
-use Rattle.plain_decider.specs.Truths.{AreTruths, AreFound, Keeps}
+use Rattle.plain_decider.specs.Truths.{AreTruths}
 use Rattle.plain_decider.proofs.Sound.{operated_sound}
 
 abbrev pub known_at : List (Option Bool) → ℕ → Option Bool

@@ -1,11 +1,11 @@
 -- What is known of an operator's value is so.
-use Rattle.std.proofs.Common.{◌≡◌, Bool, true, false, not, ◌&&◌, ◌||◌, if◌then◌else◌, List, [], ◌∷◌, Option, Some, None, subst, sym, ap, ◌∙◌, arith, refl}
+use Rattle.std.proofs.Common.{◌≡◌, Bool, true, false, not, ◌&&◌, ◌||◌, if◌then◌else◌, List, [], ◌∷◌, Option, Some, None, subst, sym, ap, refl}
 use Rattle.smt_meaning.specs.declared.values.Value.{Value}
 use Rattle.smt_meaning.specs.declared.values.Value.TheVariants.{Truth}
 use Rattle.smt_meaning.specs.declared.terms.Operator.{Operator}
 use Rattle.smt_meaning.specs.declared.terms.Operator.TheVariants.{True, False, Not, And, Or, Xor, Implies, Equal, Distinct, Ite, Add, Subtract, Multiply, AtMost, Less, AtLeast, Greater}
 use Rattle.smt_meaning.specs.Term.{bool_eq, xor, implies, truth_of, on_truths, same_value, differ, fold_left, left_assoc, fold_right, right_assoc, chain_from, chainable, with_each, pairwise, operate}
-use Rattle.plain_decider.specs.Known.{Is, Are, not_one, and_two, or_two, same_two, xor_two, implies_two, fold, folded, implied, implied_from, chained_from, chained, apart_from, apart, both, chosen, operated}
+use Rattle.plain_decider.specs.Known.{Is, Are, not_one, and_two, or_two, same_two, xor_two, implies_two, fold, folded, implied, implied_from, chained_from, chained, apart_from, apart, chosen, operated}
 
 -- a truth value is as known
 abbrev IsSo : Bool → Option Bool → Type 0
@@ -122,7 +122,7 @@ chain_from_sound a so_far v k (w ∷ ws) [] r p q = absurd q
 chain_from_sound a so_far v k (w ∷ ws) (j ∷ js) r p q =
     subst (λ b. IsSo b (chained_from so_far k (j ∷ js))) (and_assoc a (same_value v w) (chain_from same_value w ws))
     (chain_from_sound (a && same_value v w) (and_two so_far (same_two k j)) w j ws js
-      (and_is_so a (same_value v w) so_far (same_two k j) r (same_is_so v w k j p q.0)) q.0 q.1)
+    (and_is_so a (same_value v w) so_far (same_two k j) r (same_is_so v w k j p q.0)) q.0 q.1)
 
 chain_sound : (vs : List Value) (ks : List (Option Bool)) → Are vs ks → IsSo (chainable same_value vs) (chained ks)
 chain_sound [] [] q = tt
@@ -138,7 +138,7 @@ apart_from_sound a so_far v k (w ∷ ws) [] r p q = absurd q
 apart_from_sound a so_far v k (w ∷ ws) (j ∷ js) r p q =
     subst (λ b. IsSo b (apart_from so_far k (j ∷ js))) (and_assoc a (differ v w) (with_each differ v ws))
     (apart_from_sound (a && differ v w) (and_two so_far (xor_two k j)) v k ws js
-      (and_is_so a (differ v w) so_far (xor_two k j) r (differ_is_so v w k j p q.0)) p q.1)
+    (and_is_so a (differ v w) so_far (xor_two k j) r (differ_is_so v w k j p q.0)) p q.1)
 
 apart_sound : (a : Bool) (so_far : Option Bool) (vs : List Value) (ks : List (Option Bool)) → IsSo a so_far → Are vs ks
     → IsSo (a && pairwise differ vs) (apart so_far ks)

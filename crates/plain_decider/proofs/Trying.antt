@@ -1,11 +1,10 @@
 -- Decisions that are refuted, flipped and taken back.
-use Rattle.std.proofs.Common.{◌≡◌, ◌⊎◌, inl, inr, ℕ, ◌<◌, Bool, true, false, not, List, [], ◌∷◌, ◌++◌, map, length, reverse, Some, All, Option, slice_index_or, get_or, subst, sym, ap, ◌∙◌, arith, refl}
+use Rattle.std.proofs.Common.{◌≡◌, ◌⊎◌, inl, inr, ℕ, ◌<◌, Bool, true, false, not, List, [], ◌∷◌, ◌++◌, map, length, reverse, Some, All, Option, get_or, subst, sym, ap, ◌∙◌, refl}
 use Rattle.std.specs.Prelude.{Result, Ok, Err, IfOk}
 use Rattle.std.specs.declared.alloc.AllocError.{AllocError}
 use Rattle.std.proofs.lemmas.List.{reverse-append, length-map}
 use Rattle.std.proofs.Math.ListN.{get_or-map}
 use Rattle.std.proofs.lemmas.List.Elements.{All-cons, All-nil, All-same, All-push, All-head, All-tail, All-weaker}
-use Rattle.smt_meaning.specs.declared.values.Value.{Value}
 use Rattle.smt_meaning.specs.declared.values.Value.TheVariants.{Truth}
 use Rattle.smt_meaning.specs.Term.{Tree, tree_at, Interpretation, value, truth_of}
 use Rattle.smt_meaning.specs.Interpretation.{Interprets}
@@ -14,7 +13,7 @@ use Rattle.smt_meaning.specs.StackCommand.{Stack}
 use Rattle.scope_stack.specs.declared.answers.Assertion.{Assertion}
 use Rattle.scope_stack.specs.Shown.{AreAsserted}
 use Rattle.plain_decider.specs.declared.truths.Decision.{Decision}
-use Rattle.plain_decider.specs.Truths.{AreTruths, AreFound, Keeps}
+use Rattle.plain_decider.specs.Truths.{AreFound, Keeps}
 use Rattle.plain_decider.specs.Known.{Is}
 use Rattle.plain_decider.specs.Search.{KeepsAll, Refuted, other, IsTruthPlace, AreTried, IsTrail, IsRefuted, Turned}
 use Rattle.plain_decider.specs.declared.search.Turn.{Turn}
@@ -70,9 +69,9 @@ false_refutes s trail xs known k d within f asserted found = λ I i kept holds.
     let tree : Assertion → Tree = λ a. tree_at s.trees a.term in
     let truths : All (Satisfies I) (map tree xs) = All-same (Satisfies I) (map tree xs) (assertions_of s.frames) asserted.terms holds in
     let here : Satisfies I (tree (get_or xs k d)) =
-      subst (Satisfies I) (get_or-map tree xs k d) (truths k (tree d) (subst (λ n. k < n) (sym (length-map xs tree)) within)) in
+    subst (Satisfies I) (get_or-map tree xs k d) (truths k (tree d) (subst (λ n. k < n) (sym (length-map xs tree)) within)) in
     let known_false : Is (value I (tree (get_or xs k d))) (Some false) =
-      subst (Is (value I (tree (get_or xs k d)))) f ((found I (keeps I s.trees trail kept)).each (get_or xs k d).term) in
+    subst (Is (value I (tree (get_or xs k d)))) f ((found I (keeps I s.trees trail kept)).each (get_or xs k d).term) in
     differ (truth_of (value I (tree (get_or xs k d)))) (ap truth_of known_false) here
 
 -- ---- taking back
@@ -103,12 +102,14 @@ pub both_refuted : (frames : List Frame) (trees : List Tree) (front : List Decis
     → IsTrail frames trees (front ++ d ∷ []) → IsRefuted frames trees (front ++ d ∷ []) → IsTrail frames trees front × IsRefuted frames trees front
 both_refuted frames trees front d f t r =
     let t' : AreTried frames trees (d ∷ reverse front) = subst (AreTried frames trees) (newest front d) t in
-    let r' : Refuted frames trees (d ∷ reverse front) = subst (Refuted frames trees) (newest front d) r in
-    (t'.1, λ I i k h.
-      elim (t'.0.0.truth I i) [
-        | inl p ↦ either_refutes frames trees d (reverse front) r' (t'.0.1 f) I i k h true p
-        | inr p ↦ either_refutes frames trees d (reverse front) r' (t'.0.1 f) I i k h false p
-      ])
+    let r' : Refuted frames trees (d ∷ reverse front) = subst (Refuted frames trees) (newest front d) r in (
+      t'.1,
+      λ I i k h.
+          elim (t'.0.0.truth I i) [
+            | inl p ↦ either_refutes frames trees d (reverse front) r' (t'.0.1 f) I i k h true p
+            | inr p ↦ either_refutes frames trees d (reverse front) r' (t'.0.1 f) I i k h false p
+          ],
+    )
 
 pub flipped_trail : (frames : List Frame) (trees : List Tree) (front : List Decision) (d : Decision)
     → IsTrail frames trees (front ++ d ∷ []) → IsRefuted frames trees (front ++ d ∷ []) → IsTrail frames trees (front ++ other d ∷ [])

@@ -1,10 +1,10 @@
 -- What is known of the truth of a term: nothing, or its value; and what the connectives make of what is known of their arguments (theory Core).
-use Rattle.std.specs.Prelude.{◌≡◌, Bool, true, false, not, ◌&&◌, ◌||◌, List, [], ◌∷◌, Option, Some, None}
+use Rattle.std.specs.Prelude.{◌≡◌, Bool, true, false, not, List, [], ◌∷◌, Option, Some, None}
 use Rattle.smt_meaning.specs.declared.values.Value.{Value}
 use Rattle.smt_meaning.specs.declared.values.Value.TheVariants.{Truth}
 use Rattle.smt_meaning.specs.declared.terms.Operator.{Operator}
 use Rattle.smt_meaning.specs.declared.terms.Operator.TheVariants.{True, False, Not, And, Or, Xor, Implies, Equal, Distinct, Ite}
-use Rattle.smt_meaning.specs.Term.{bool_eq, xor}
+use Rattle.smt_meaning.specs.Term.{bool_eq}
 
 -- the value is as known
 abbrev pub Is : Value → Option Bool → Type 0

@@ -1,3 +1,4 @@
 pub mod Known
 pub mod Truths
 pub mod Search
+pub mod Confirmed

@@ -1,5 +1,5 @@
 -- The decisions of a search, the newest first.
-use Rattle.std.specs.Prelude.{◌≡◌, ◌⊎◌, ℕ, ◌<◌, Bool, true, false, not, List, [], ◌∷◌, length, reverse, All}
+use Rattle.std.specs.Prelude.{◌≡◌, ◌⊎◌, ℕ, ◌<◌, true, false, not, List, [], ◌∷◌, length, reverse}
 use Rattle.smt_meaning.specs.declared.values.Value.TheVariants.{Truth}
 use Rattle.smt_meaning.specs.Term.{Tree, tree_at, Interpretation, value}
 use Rattle.smt_meaning.specs.Interpretation.{Interprets}

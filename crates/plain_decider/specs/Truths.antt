@@ -1,5 +1,5 @@
 -- What is known of the terms of a stack under decisions.
-use Rattle.std.specs.Prelude.{◌≡◌, ℕ, List, length, All, Option, Some, None, slice_index_or}
+use Rattle.std.specs.Prelude.{◌≡◌, ℕ, List, length, All, Option, None, slice_index_or}
 use Rattle.std.specs.Prelude.{Bool}
 use Rattle.smt_meaning.specs.declared.values.Value.TheVariants.{Truth}
 use Rattle.smt_meaning.specs.Term.{Tree, tree_at, Interpretation, value}

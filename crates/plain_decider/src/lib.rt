@@ -2,5 +2,10 @@
 #![tactic(auto)]
 
 mod known;
+mod model;
+mod places;
+mod plain;
 mod search;
 mod truths;
+
+pub use plain::Plain;

@@ -1,14 +1,16 @@
 //! Which terms of a stack are propositional, which are parts of its assertions, and which of these are Boolean constants.
-ghost use Rattle.std.specs.Prelude.{◌≡◌, ◌<◌, length, map, All, IfOk, OnOk, IsTrue, list_all, false};
+ghost use Rattle.std.specs.Prelude.{◌≡◌, ◌<◌, [], length, map, take, All, IfOk, IfSome, IfNone, None, Some, true, false, slice_index_or};
+ghost use Rattle.std.specs.List.{list_all};
 ghost use Rattle.smt_meaning.specs.Term.{tree_at};
 ghost use Rattle.smt_meaning.specs.Signature.{function_with_id, symbol_sort, is_bool, stands_with as may_stand};
-ghost use Rattle.smt_meaning.specs.Kinds.{is_connective as is_connective_of, is_propositional_head, is_propositional_tree, is_propositional};
+ghost use Rattle.smt_meaning.specs.Kinds.{is_connective as is_connective_of, is_propositional_head as may_head, is_propositional_tree, is_propositional as all_propositional};
 ghost use Rattle.smt_meaning.specs.Stack.{signature_of};
 ghost use Rattle.plain_decider.specs.Search.{IsTruthPlace};
 
 use scope_stack::{Assertion, Stack};
 use smt_meaning::{Declaration, Head, Operator, Sort, SymId, TermId};
 use std::alloc::{AllocError, Global};
+use term_laws::value_has_its_sort;
 
 /// Whether an operator is one of propositional logic.
 fn is_connective(operator: Operator) -> bool
@@ -34,20 +36,182 @@ fn stands_with(operator: Operator, count: usize) -> bool
         Operator::True | Operator::False => count == 0,
         Operator::Not => count == 1,
         Operator::Ite => count == 3,
-        Operator::And
-        | Operator::Or
-        | Operator::Add
-        | Operator::Subtract
-        | Operator::Multiply => count >= 1,
+        Operator::And | Operator::Or | Operator::Add | Operator::Subtract | Operator::Multiply =>
+            count >= 1,
         _ => count >= 2,
     }
 }
 
-/// Whether a declaration is that of a Boolean constant.
-fn declares_truth(declaration: &Declaration) -> bool
+/// The function with this number.
+fn declared(declarations: &[Declaration], symbol: SymId) -> Option<&Declaration>
+    ensures some { IfSome result (λ d. function_with_id symbol declarations.now ≡ Some d.now) }
+    ensures none { IfNone result (function_with_id symbol declarations.now ≡ None) }
 {
-    !declaration.is_sort()
-        && !declaration.is_defined()
-        && declaration.rank().arguments.len() == 0
-        && declaration.rank().result == Sort::Bool
+    for declaration in declarations {
+        if declaration.id() == symbol && !declaration.is_sort() {
+            return Some(declaration);
+        }
+    }
+    None
+}
+
+/// Whether a symbol is a Boolean constant.
+fn is_truth(declarations: &[Declaration], symbol: SymId) -> bool
+    ensures { result ≡ is_bool (symbol_sort (function_with_id symbol declarations.now) []) }
+{
+    match declared(declarations, symbol) {
+        Some(found) => {
+            found.is_symbol()
+                && found.rank().arguments.len() == 0
+                && found.rank().result == Sort::Bool
+        }
+        None => false,
+    }
+}
+
+/// Whether a head may stand over so many propositional arguments.
+fn is_propositional_head(declarations: &[Declaration], head: Head, count: usize) -> bool
+    ensures { result ≡ may_head declarations.now head count }
+{
+    match head {
+        Head::Theory(operator) => is_connective(operator) && stands_with(operator, count),
+        Head::Symbol(symbol) => count == 0 && is_truth(declarations, symbol),
+        _ => false,
+    }
+}
+
+/// Whether the terms at these places are all flagged.
+fn all_flagged(flags: &[bool], places: &[TermId]) -> bool
+    requires { All (λ p. p < length flags.now) places.now }
+    ensures { result ≡ list_all (λ p. slice_index_or flags.now p false) places.now }
+{
+    for place in places {
+        if !flags[*place as usize] {
+            return false;
+        }
+    }
+    true
+}
+
+/// Whether the term at a place is propositional, where it is known of those before it.
+fn is_propositional(stack: &Stack, flags: &[bool], id: TermId) -> bool
+    requires within { id < length stack.now.trees }
+    requires flags { flags.now ≡ map (is_propositional_tree (signature_of stack.now.frames)) (take id stack.now.trees) }
+    ensures { result ≡ is_propositional_tree (signature_of stack.now.frames) (tree_at stack.now.trees id) }
+{
+    let node = stack.terms().node(id);
+    is_propositional_head(stack.declarations(), node.head, node.arguments.len())
+        & all_flagged(flags, node.arguments)
+}
+
+/// Which terms are propositional, by their places.
+fn propositional(alloc: Global, stack: &Stack) -> Result<Vec<bool>, AllocError>
+    ensures { IfOk result (λ flags. flags.items ≡ map (is_propositional_tree (signature_of stack.now.frames)) stack.now.trees) }
+{
+    let mut flags = Vec::new(alloc);
+    for id in 0..stack.terms().len() {
+        let flag = is_propositional(stack, &flags, id);
+        flags.push(flag)?;
+    }
+    Ok(flags)
+}
+
+/// Whether the assertions are all flagged.
+fn are_flagged(flags: &[bool], assertions: &[Assertion]) -> bool
+    requires { All (λ (a : _). a.term < length flags.now) assertions.now }
+    ensures { result ≡ list_all (λ (a : _). slice_index_or flags.now a.term false) assertions.now }
+{
+    for assertion in assertions {
+        if !flags[assertion.term as usize] {
+            return false;
+        }
+    }
+    true
+}
+
+/// Whether every assertion is propositional.
+pub(crate) fn takes(alloc: Global, stack: &Stack) -> Result<bool, AllocError>
+    ensures { IfOk result (λ taken. taken ≡ all_propositional stack.now.frames) }
+{
+    let flags = propositional(alloc, stack)?;
+    Ok(are_flagged(&flags, stack.assertions()))
+}
+
+/// Marks the terms at these places.
+fn mark_all(marks: &mut Vec<bool>, places: &[TermId])
+    requires { All (λ p. p < length marks.old.items) places.now }
+    ensures { length marks.new.items ≡ length marks.old.items }
+{
+    for place in places {
+        marks[*place as usize] = true;
+    }
+}
+
+/// Marks the terms of the assertions.
+fn mark_assertions(marks: &mut Vec<bool>, assertions: &[Assertion])
+    requires { All (λ (a : _). a.term < length marks.old.items) assertions.now }
+    ensures { length marks.new.items ≡ length marks.old.items }
+{
+    for assertion in assertions {
+        marks[assertion.term as usize] = true;
+    }
+}
+
+/// Marks the arguments of a term that is marked.
+fn mark_arguments(marks: &mut Vec<bool>, stack: &Stack, id: TermId)
+    requires within { id < length stack.now.trees }
+    requires size { length marks.old.items ≡ length stack.now.trees }
+    ensures { length marks.new.items ≡ length stack.now.trees }
+{
+    if marks[id as usize] {
+        mark_all(marks, stack.terms().node(id).arguments);
+    }
+}
+
+/// Marks, by their places, the terms that are parts of the assertions.
+pub(crate) fn marks(alloc: Global, stack: &Stack) -> Result<Vec<bool>, AllocError>
+    ensures { IfOk result (λ marks. length marks.items ≡ length stack.now.trees) }
+{
+    let mut marks = Vec::new(alloc);
+    marks.resize(stack.terms().len() as usize, false)?;
+    mark_assertions(&mut marks, stack.assertions());
+    let mut id = stack.terms().len();
+    while id > 0 {
+        id -= 1;
+        mark_arguments(&mut marks, stack, id);
+    }
+    Ok(marks)
+}
+
+/// Whether the term at a place is a Boolean constant.
+fn is_constant(stack: &Stack, id: TermId) -> bool
+    requires { id < length stack.now.trees }
+    ensures { result ≡ true → IsTruthPlace stack.now.frames stack.now.trees id }
+{
+    value_has_its_sort();
+    let node = stack.terms().node(id);
+    match node.head {
+        Head::Symbol(symbol) => {
+            node.arguments.is_empty() && is_truth(stack.declarations(), symbol)
+        }
+        _ => false,
+    }
+}
+
+/// The Boolean constants among the marked terms.
+pub(crate) fn constants(
+    alloc: Global,
+    stack: &Stack,
+    marks: &[bool],
+) -> Result<Vec<TermId>, AllocError>
+    requires { length marks.now ≡ length stack.now.trees }
+    ensures { IfOk result (λ found. All (IsTruthPlace stack.now.frames stack.now.trees) found.items) }
+{
+    let mut found = Vec::new(alloc);
+    for id in 0..stack.terms().len() {
+        if marks[id as usize] && is_constant(stack, id) {
+            found.push(id)?;
+        }
+    }
+    Ok(found)
 }

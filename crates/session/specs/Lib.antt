@@ -1,2 +1,4 @@
 pub mod Logics
+pub mod Shown
 pub mod StateCode
+pub mod Effects

@@ -1,6 +1,12 @@
 //! Judges an s-expression as a command (SMT-LIB 2.6, section 4.2): which command it is, or why it is none.
 #![tactic(auto)]
 
+mod arguments;
+mod forms;
 mod judge;
+mod lists;
+mod names;
+mod number;
+mod settings;
 
 pub use judge::command;

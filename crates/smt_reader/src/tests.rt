@@ -55,7 +55,7 @@ fn read_on(alloc: Global, reader: &mut Reader, text: &mut Vec<u8>) -> Result<Fau
     for _ in 0..1000 {
         match reader.next(alloc)? {
             Next::Ready(sexpr) => {
-                write(&sexpr, text)?;
+                write(&sexpr.copy(alloc)?, text)?;
                 text.push(b' ')?;
             }
             Next::NeedMore => return Ok(None),

@@ -1,4 +1,4 @@
-use Rattle.std.proofs.Common.{arith, rules, ◌≡◌, Some, false, subst, sym, ap, get_or}
+use Rattle.std.proofs.Common.{rules, ◌≡◌, Some, false, get_or}
 use Rattle.plain_decider.proofs.Finding.{known_at}
 use Rattle.plain_decider.proofs.Trying.{false_refutes}
 use Rattle.plain_decider.proofs.search.judge.Goals as goal

@@ -1,6 +1,5 @@
-use Rattle.std.proofs.Common.{◌≡◌, [], List, arith, rules, subst, sym}
-use Rattle.plain_decider.specs.Search.{IsTrail, IsRefuted}
-use Rattle.plain_decider.specs.declared.truths.Decision.{Decision}
+use Rattle.std.proofs.Common.{◌≡◌, [], rules, subst}
+use Rattle.plain_decider.specs.Search.{IsRefuted}
 use Rattle.plain_decider.proofs.Trying.{none_left}
 use Rattle.plain_decider.proofs.search.take_back.Goals as goal
 

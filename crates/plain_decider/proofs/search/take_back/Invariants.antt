@@ -1,4 +1,4 @@
-use Rattle.std.proofs.Common.{◌≡◌, length, List}
+use Rattle.std.proofs.Common.{length, List}
 use Rattle.smt_meaning.specs.Term.{Tree}
 use Rattle.smt_meaning.specs.Stack.{Frame}
 use Rattle.plain_decider.specs.Search.{IsTrail, IsRefuted}

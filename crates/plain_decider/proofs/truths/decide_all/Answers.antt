@@ -1,4 +1,4 @@
-use Rattle.std.proofs.Common.{◌∙◌, arith}
+use Rattle.std.proofs.Common.{◌∙◌}
 use Rattle.plain_decider.proofs.truths.decide_all.Goals as goal
 
 pub loop-decision-preserved : goal.loop-decision-preserved

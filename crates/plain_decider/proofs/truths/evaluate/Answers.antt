@@ -1,4 +1,4 @@
-use Rattle.std.proofs.Common.{◌≡◌, ◌∙◌, ap, arith, length, None, replicate, rules}
+use Rattle.std.proofs.Common.{◌≡◌, ◌∙◌, ap, length, None, replicate, rules}
 use Rattle.std.proofs.lemmas.List.{length-replicate}
 use Rattle.plain_decider.proofs.Finding.{nothing_known}
 use Rattle.plain_decider.proofs.truths.evaluate.Goals as goal

@@ -1,4 +1,4 @@
-use Rattle.std.proofs.Common.{◌≡◌, arith, subst, sym, ap, ◌∙◌, map}
+use Rattle.std.proofs.Common.{◌≡◌, arith, subst, sym, map}
 use Rattle.plain_decider.specs.Known.{Is, operated}
 use Rattle.smt_meaning.specs.Term.{tree_at, value}
 use Rattle.smt_meaning.specs.declared.terms.Head.TheVariants.{Theory}
@@ -12,4 +12,4 @@ returns-in_ok-gather-clause-truths c =
     let made : c.operate-truth.result ≡ operated c.in-Theory.operator (map (known_at c.args.known.now.items) c.node-node.result.arguments.now) = grind arith in
     let tree : tree_at c.args.store.now.trees c.args.id ≡ tree_with c.args.store.now.trees (Theory c.in-Theory.operator) c.node-node.result.arguments.now = grind arith in
     c.note.ensures.truths I c.args.store.now.trees h (subst (λ k. Is (value I (tree_at c.args.store.now.trees c.args.id)) k) (sym made)
-      (node_known I c.args.store.now.trees c.args.known.now.items c.in-Theory.operator c.node-node.result.arguments.now _ h tree))
+    (node_known I c.args.store.now.trees c.args.known.now.items c.in-Theory.operator c.node-node.result.arguments.now _ h tree))

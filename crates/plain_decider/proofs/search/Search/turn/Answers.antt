@@ -1,7 +1,7 @@
-use Rattle.std.proofs.Common.{rules, ◌≡◌, ◌<◌, length, All, Some, false, List, subst, sym, ap, ◌∙◌, arith}
+use Rattle.std.proofs.Common.{rules, ◌<◌, length, All, Some, List, subst, sym, ap, ◌∙◌}
 use Rattle.smt_meaning.specs.Term.{Tree}
 use Rattle.plain_decider.specs.Truths.{AreFound}
-use Rattle.plain_decider.specs.Search.{IsTrail, IsRefuted, IsTruthPlace, Turned}
+use Rattle.plain_decider.specs.Search.{IsRefuted}
 use Rattle.plain_decider.specs.declared.truths.Decision.{Decision}
 use Rattle.plain_decider.proofs.Trying.{places, turned}
 use Rattle.plain_decider.proofs.search.Search.turn.Goals as goal

@@ -1,4 +1,4 @@
-use Rattle.std.proofs.Common.{refl, subst, sym, ap, ◌∙◌}
+use Rattle.std.proofs.Common.{refl, subst, sym, ◌∙◌}
 use Rattle.smt_reader.specs.Scan.{IsScan}
 use Rattle.smt_reader.proofs.Scanned.{scan_anew}
 use Rattle.smt_reader.proofs.scan.Scan.ready.Goals as goal

@@ -1,0 +1,4 @@
+pub mod Stacks
+pub mod Prints
+pub mod Replies
+pub mod Values

@@ -1,0 +1,47 @@
+-- What a command that is no check comes to: its reply and the state after it.
+use Rattle.std.specs.Prelude.{◌≡◌, ℕ, ℤ, Bool, true, false, List, codes, Result}
+use Rattle.smt_meaning.specs.declared.commands.Command.{Command}
+use Rattle.smt_meaning.specs.declared.commands.Command.TheVariants.{SetLogic, SetOption, GetOption, SetInfo, GetInfo, Echo, Exit, Reset, ResetAssertions, DeclareSort, DefineSort, DeclareConst, DeclareFun, DefineFun, Assert, CheckSat, Push, Pop, GetValue, GetModel, GetAssertions, LeftOut}
+use Rattle.smt_meaning.specs.declared.answers.Reply.{Reply}
+use Rattle.smt_meaning.specs.declared.answers.Reply.TheVariants as Given
+use Rattle.smt_meaning.specs.State.{State, Effect, denied, left_out, accepted, answered, checked}
+use Rattle.smt_meaning.specs.MayReply.{success}
+use Rattle.smt_meaning.specs.StackCommand.{Stack, declare_sort}
+use Rattle.scope_stack.specs.declared.answers.Carried.{Carried}
+use Rattle.scope_stack.specs.declared.answers.StackError.{StackError}
+use Rattle.scope_stack.specs.Carries.{Carries}
+
+abbrev pub Comes : Effect → State → Reply → State → Type 0
+Comes (denied e) old reply new = (reply ≡ Given.Error e) × (new ≡ old)
+Comes left_out old reply new = (reply ≡ Given.Unsupported) × (new ≡ old)
+Comes (accepted s) old reply new = (reply ≡ success s) × (new ≡ s)
+Comes (answered r s) old reply new = (reply ≡ r) × (new ≡ s)
+Comes (checked s) old reply new = ⊥
+
+-- the commands that the stack carries out or refuses
+abbrev pub is_carried : Command → Bool
+is_carried (DeclareSort n arity) = true
+is_carried (DefineSort n ps w) = true
+is_carried (DeclareConst n w) = true
+is_carried (DeclareFun n ws w) = true
+is_carried (DefineFun n ps w t) = true
+is_carried (Assert t) = true
+is_carried (Push n) = true
+is_carried (Pop n) = true
+is_carried _ = false
+
+-- their names
+abbrev pub word_of : Command → List ℕ
+word_of (DeclareSort n arity) = codes "declare-sort"
+word_of (DefineSort n ps w) = codes "define-sort"
+word_of (DeclareConst n w) = codes "declare-const"
+word_of (DeclareFun n ws w) = codes "declare-fun"
+word_of (DefineFun n ps w t) = codes "define-fun"
+word_of (Assert t) = codes "assert"
+word_of (Push n) = codes "push"
+word_of (Pop n) = codes "pop"
+word_of _ = codes ""
+
+-- a sort of this name and arity is declared
+unfoldable pub DeclaresSort : List ℕ → ℤ → Stack → Result Carried StackError → Stack → Type 0
+DeclaresSort n arity old r new = Carries (λ level. declare_sort n arity) old r new

@@ -1,0 +1,8 @@
+pub mod OpenLists
+pub mod Left
+pub mod Parts
+pub mod ReadAll
+pub mod LookUps
+pub mod OptionForms
+pub mod Judged
+pub mod FunctionForm

@@ -1,0 +1,35 @@
+-- The names of commands, in groups.
+use Rattle.std.specs.Prelude.{ℕ, List, [], ◌∷◌, ◌++◌, map, codes}
+use Rattle.smt_command.specs.declared.names.CommandName.{CommandName}
+use Rattle.smt_command.specs.declared.names.CommandName.TheVariants.{SetLogic, SetOption, GetOption, SetInfo, GetInfo, Echo, Exit, Reset, ResetAssertions, DeclareSort, DefineSort, DeclareConst, DeclareFun, DefineFun, Assert, CheckSat, Push, Pop, GetValue, GetModel, GetAssertions, LeftOut}
+
+abbrev pub setting_names : List (List ℕ × CommandName)
+setting_names =
+    (codes "set-logic", SetLogic) ∷ (codes "set-option", SetOption) ∷ (codes "get-option", GetOption) ∷ (codes "set-info", SetInfo) ∷ (codes "get-info", GetInfo) ∷ (codes "echo", Echo) ∷ []
+
+abbrev pub session_names : List (List ℕ × CommandName)
+session_names =
+    (codes "exit", Exit) ∷ (codes "reset", Reset) ∷ (codes "reset-assertions", ResetAssertions) ∷ []
+
+abbrev pub declaration_names : List (List ℕ × CommandName)
+declaration_names =
+    (codes "declare-sort", DeclareSort) ∷ (codes "define-sort", DefineSort) ∷ (codes "declare-const", DeclareConst) ∷ (codes "declare-fun", DeclareFun) ∷ (codes "define-fun", DefineFun) ∷ []
+
+abbrev pub stack_names : List (List ℕ × CommandName)
+stack_names =
+    (codes "assert", Assert) ∷ (codes "check-sat", CheckSat) ∷ (codes "push", Push) ∷ (codes "pop", Pop) ∷ []
+
+abbrev pub answer_names : List (List ℕ × CommandName)
+answer_names =
+    (codes "get-value", GetValue) ∷ (codes "get-model", GetModel) ∷ (codes "get-assertions", GetAssertions) ∷ []
+
+abbrev pub left_out_names : List (List ℕ)
+left_out_names =
+    codes "check-sat-assuming" ∷ codes "get-assignment" ∷ codes "get-proof" ∷ codes "get-unsat-core" ∷ codes "get-unsat-assumptions" ∷ codes "define-fun-rec" ∷ codes "define-funs-rec" ∷ codes "declare-datatype" ∷ codes "declare-datatypes" ∷ []
+
+abbrev pub left_out : List ℕ → List ℕ × CommandName
+left_out n = (n, LeftOut)
+
+-- every command with its name
+unfoldable pub command_names : List (List ℕ × CommandName)
+command_names = setting_names ++ (session_names ++ (declaration_names ++ (stack_names ++ (answer_names ++ map left_out left_out_names))))

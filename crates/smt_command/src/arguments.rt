@@ -1,0 +1,243 @@
+ghost use Rattle.std.specs.Prelude.{◌≡◌, ◌+◌, ◌^◌, ◌∷◌, ◌<◌, ◌≤◌, Some, drop, length, slice_range, IfOk, OnOk, OnSome, IfNone, IsTrue};
+ghost use Rattle.std.specs.Option.{option_map, option_copied};
+ghost use Rattle.smt_meaning.specs.Reading.{IsSExpr};
+ghost use Rattle.smt_meaning.specs.Seen.{seen};
+ghost use Rattle.smt_meaning.specs.Sexp.{end, ◌▸◌, sexp, open_lists_of};
+ghost use Rattle.smt_meaning.specs.Command.{symbol, written_sort, parameter};
+ghost use Rattle.smt_command.specs.Arguments.{open_lists, left, is_end, rest_of, depth_behind, first_by, token_in, keyword, numeral, text, parts, term};
+
+use smt_meaning::language::{Parameter, WrittenSort};
+use smt_meaning::{SExpr, Seq, TokenView};
+use std::alloc::{AllocError, Global};
+
+/// What is left to read of a list: the s-expressions from a place on, to the list's end. Past the end there is nothing.
+#[derive(Clone, Copy, Drop)]
+pub struct Arguments<'a> {
+    sexpr: &'a SExpr,
+    place: usize,
+}
+
+impl<'a> Arguments<'a> {
+    /// The whole s-expression.
+    pub fn whole(sexpr: &'a SExpr) -> Self
+        ensures { left result ≡ sexp sexpr.now ▸ end }
+    {
+        let _ = sexpr.len();
+        Arguments { sexpr, place: 0 }
+    }
+
+    /// The next token, where it is no parenthesis.
+    pub fn peek(&self) -> Option<TokenView<'a>>
+        ensures { option_map seen result ≡ first_by token_in (left self.now) }
+    {
+        if self.place >= self.sexpr.len() {
+            return None;
+        }
+        match self.sexpr.token(self.place) {
+            TokenView::Enter | TokenView::Leave => None,
+            token => Some(token),
+        }
+    }
+
+    /// Whether nothing is left.
+    pub fn is_end(&self) -> bool
+        ensures { result ≡ is_end (left self.now) }
+    {
+        if self.place >= self.sexpr.len() {
+            return true;
+        }
+        match self.sexpr.token(self.place) {
+            TokenView::Leave => true,
+            _ => false,
+        }
+    }
+
+    /// What stands in the next s-expression, where it is a list.
+    pub fn enter(&self) -> Option<Arguments<'a>>
+        ensures { option_map left result ≡ first_by parts (left self.now) }
+    {
+        if self.place >= self.sexpr.len() {
+            return None;
+        }
+        match self.sexpr.token(self.place) {
+            TokenView::Enter => Some(Arguments {
+                sexpr: self.sexpr,
+                place: self.place + 1,
+            }),
+            _ => None,
+        }
+    }
+
+    /// Leaves the next s-expression out.
+    pub fn skip(&mut self)
+        ensures rest { left self.new ≡ rest_of (left self.old) }
+        ensures lists { open_lists self.new ≡ rest_of (left self.old) ∷ drop 1 (open_lists self.old) }
+        ensures same { self.new.sexpr.now ≡ self.old.sexpr.now }
+        ensures order { self.old.place ≤ self.new.place }
+        ensures within { self.old.place ≤ length self.old.sexpr.now → self.new.place ≤ length self.old.sexpr.now }
+        ensures matched { IsSExpr self.old.sexpr.now }
+    {
+        if self.place >= self.sexpr.len() {
+            return;
+        }
+        match self.sexpr.token(self.place) {
+            TokenView::Enter => self.place = end_of_list(self.sexpr, self.place + 1),
+            TokenView::Leave => {}
+            _ => self.place += 1,
+        }
+    }
+}
+
+impl<'a> Arguments<'a> {
+    /// The name of a symbol, which is read where it is next.
+    pub fn symbol(&mut self) -> Option<&'a [u8]>
+        ensures name { option_copied result ≡ first_by symbol (left self.old) }
+        ensures read { OnSome result (left self.new ≡ rest_of (left self.old)) }
+        ensures kept { IfNone result (left self.new ≡ left self.old) }
+    {
+        match self.peek() {
+            Some(TokenView::Symbol(name)) => {
+                self.skip();
+                Some(name)
+            }
+            _ => None,
+        }
+    }
+
+    /// A keyword, which is read where it is next.
+    pub fn keyword(&mut self) -> Option<&'a [u8]>
+        ensures name { option_copied result ≡ first_by keyword (left self.old) }
+        ensures read { OnSome result (left self.new ≡ rest_of (left self.old)) }
+    {
+        match self.peek() {
+            Some(TokenView::Keyword(name)) => {
+                self.skip();
+                Some(name)
+            }
+            _ => None,
+        }
+    }
+
+    /// The digits of a numeral, which is read where it is next.
+    pub fn numeral(&mut self) -> Option<&'a [u8]>
+        ensures digits { option_copied result ≡ first_by numeral (left self.old) }
+        ensures read { OnSome result (left self.new ≡ rest_of (left self.old)) }
+    {
+        match self.peek() {
+            Some(TokenView::Numeral(digits)) => {
+                self.skip();
+                Some(digits)
+            }
+            _ => None,
+        }
+    }
+
+    /// The bytes of a string literal, which is read where it is next.
+    pub fn text(&mut self) -> Option<&'a [u8]>
+        ensures bytes { option_copied result ≡ first_by text (left self.old) }
+        ensures read { OnSome result (left self.new ≡ rest_of (left self.old)) }
+    {
+        match self.peek() {
+            Some(TokenView::Text(bytes)) => {
+                self.skip();
+                Some(bytes)
+            }
+            _ => None,
+        }
+    }
+
+    /// What stands in a list, which is read where it is next.
+    pub fn list(&mut self) -> Option<Arguments<'a>>
+        ensures parts { option_map left result ≡ first_by parts (left self.old) }
+        ensures read { left self.new ≡ rest_of (left self.old) }
+    {
+        let inside = self.enter();
+        self.skip();
+        inside
+    }
+
+    /// The next s-expression as one of its own, which is read. An `Err` is want of memory.
+    pub fn term(&mut self, alloc: Global) -> Result<Option<SExpr>, AllocError>
+        ensures term { IfOk result (λ r. r ≡ first_by term (left self.old)) }
+        ensures read { OnOk result (left self.new ≡ rest_of (left self.old)) }
+    {
+        if self.is_end() {
+            return Ok(None);
+        }
+        let from = self.place;
+        self.skip();
+        let term = self.sexpr.part(alloc, from, self.place)?;
+        Ok(Some(term))
+    }
+}
+
+impl<'a> Arguments<'a> {
+    /// A sort as it is written, which is read where it is next. An `Err` is want of memory.
+    pub fn sort(&mut self, alloc: Global) -> Result<Option<WrittenSort>, AllocError>
+        ensures sort { IfOk result (λ r. r ≡ first_by written_sort (left self.old)) }
+        ensures read { IfOk result (λ r. OnSome r (left self.new ≡ rest_of (left self.old))) }
+    {
+        if let Some(name) = self.symbol() {
+            return Ok(Some(WrittenSort::Name(Seq::copy(alloc, name)?)));
+        }
+        let Some(mut inside) = self.list() else {
+            return Ok(None);
+        };
+        let Some(name) = inside.symbol() else {
+            return Ok(None);
+        };
+        Ok(Some(WrittenSort::Applied(Seq::copy(alloc, name)?)))
+    }
+
+    /// A parameter with its sort, which is read where it is next. An `Err` is want of memory.
+    pub fn parameter(&mut self, alloc: Global) -> Result<Option<Parameter>, AllocError>
+        ensures parameter { IfOk result (λ r. r ≡ first_by parameter (left self.old)) }
+        ensures read { IfOk result (λ r. OnSome r (left self.new ≡ rest_of (left self.old))) }
+    {
+        let Some(mut inside) = self.list() else {
+            return Ok(None);
+        };
+        let Some(name) = inside.symbol() else {
+            return Ok(None);
+        };
+        let Some(sort) = inside.sort(alloc)? else {
+            return Ok(None);
+        };
+        if !inside.is_end() {
+            return Ok(None);
+        }
+        let name = Seq::copy(alloc, name)?;
+        Ok(Some(Parameter { name, sort }))
+    }
+}
+
+/// The place after the list that is the innermost one at a place.
+fn end_of_list(sexpr: &SExpr, from: usize) -> usize
+    requires inside { 0 < from }
+    requires within { from ≤ length sexpr.now }
+    requires open { 2 ≤ length (open_lists_of (drop from sexpr.now)) }
+    ensures after { open_lists_of (drop result sexpr.now) ≡ drop 1 (open_lists_of (drop from sexpr.now)) }
+    ensures order { from ≤ result }
+    ensures within { result ≤ length sexpr.now }
+{
+    let mut place = from;
+    let mut depth = 1;
+    while depth > 0 && place < sexpr.len() {
+        depth = depth_behind(sexpr.token(place), depth);
+        place += 1;
+    }
+    place
+}
+
+/// How many lists are open behind a token, where so many are open before it.
+fn depth_behind(token: TokenView<'_>, depth: usize) -> usize
+    requires some { 0 < depth }
+    requires room { depth + 1 < 2 ^ 64 }
+    ensures { result ≡ depth_behind (seen token.entry) depth }
+{
+    match token {
+        TokenView::Enter => depth + 1,
+        TokenView::Leave => depth - 1,
+        _ => depth,
+    }
+}
