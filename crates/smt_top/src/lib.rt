@@ -1,7 +1,6 @@
 //! Runs a script: bytes come in, and replies go out.
 #![tactic(auto)]
 
-mod decider;
 mod serving;
 mod top;
 

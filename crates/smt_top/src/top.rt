@@ -7,8 +7,8 @@ ghost use Rattle.smt_meaning.specs.Kinds.{is_propositional};
 ghost use Rattle.smt_top.specs.Progress.{CutOff, Ends, NoneSettled, SoFar, Stands, at_sink, at_source, between};
 ghost use Rattle.smt_top.specs.Ended.{IsFaulty, IsUnbegun, MatchesStatus, Ran, StatusOf};
 
-use crate::decider::Plain;
 use crate::serving::{Run, Stage, Stop};
+use plain_decider::Plain;
 use ports::{Gate, More, Sink, Source};
 use smt_meaning::Seq;
 use smt_meaning::language::{Entry, Reply};
