@@ -1,2 +1,11 @@
 pub mod Flags
 pub mod Stored
+pub mod Applied
+pub mod Stacks
+pub mod Numerals
+pub mod Grow
+pub mod Names
+pub mod Giving
+pub mod Moves
+pub mod Heads
+pub mod Runs

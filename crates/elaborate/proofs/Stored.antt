@@ -21,11 +21,11 @@ pub picked : (ts : List Tree) (vs : List Value) → pick ts (map id_of vs) ≡ t
 picked ts [] = refl
 picked ts (v ∷ vs) = ap (λ us. more (tree_at ts v.id) us) (picked ts vs)
 
-constants : (ts : List Tree) (vs : List Value) → AreValues ts vs → all_constant vs ≡ are_constant (trees_of (map (typed ts) vs))
+pub constants : (ts : List Tree) (vs : List Value) → AreValues ts vs → all_constant vs ≡ are_constant (trees_of (map (typed ts) vs))
 constants ts [] h = refl
 constants ts (v ∷ vs) h = ap (λ b. b && all_constant vs) h.0.constant ∙ ap (λ b. is_constant (tree_at ts v.id) && b) (constants ts vs h.1)
 
-linears : (ts : List Tree) (vs : List Value) → AreValues ts vs → all_linear vs ≡ are_linear (trees_of (map (typed ts) vs))
+pub linears : (ts : List Tree) (vs : List Value) → AreValues ts vs → all_linear vs ≡ are_linear (trees_of (map (typed ts) vs))
 linears ts [] h = refl
 linears ts (v ∷ vs) h = ap (λ b. b && all_linear vs) h.0.linear ∙ ap (λ b. is_linear (tree_at ts v.id) && b) (linears ts vs h.1)
 

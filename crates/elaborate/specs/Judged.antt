@@ -11,6 +11,7 @@ use Rattle.elaborate.specs.declared.error.JudgeError.TheVariants.{Refused, Memor
 use Rattle.elaborate.specs.declared.TypedTerm.{TypedTerm}
 use Rattle.elaborate.specs.declared.TypedBody.{TypedBody}
 use Rattle.elaborate.specs.declared.Parameter.{Parameter}
+use Rattle.elaborate.specs.declared.apply.Rules.{Rules as Allowed}
 
 -- where a term is judged
 abbrev pub scope_of : Names → List Tree → Scope
@@ -39,3 +40,6 @@ variables_of ps = parameters_from 0 ps
 
 abbrev pub bodied_of : TypedBody → Bodied
 bodied_of b = record { body = b.body; sort = b.sort }
+
+abbrev pub rules_of : Allowed → Rules
+rules_of r = record { naming = r.naming; closed = r.closed }

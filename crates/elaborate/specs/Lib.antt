@@ -1,2 +1,4 @@
 pub mod Values
 pub mod Judged
+pub mod Frames
+pub mod Steps

@@ -8,6 +8,7 @@ use Rattle.smt_meaning.specs.declared.refusals.Refusal.{Refusal}
 use Rattle.smt_meaning.specs.Term.{Tree, node, tree_at}
 use Rattle.smt_meaning.specs.TreeShape.{is_constant, is_linear, with_parts}
 use Rattle.smt_meaning.specs.Sorts.{Scope, Judging, done, refused, Typed, trees_of}
+use Rattle.term_store.specs.Terms.{Terms}
 use Rattle.elaborate.specs.declared.value.Value.{Value}
 use Rattle.elaborate.specs.declared.error.JudgeError.{JudgeError}
 use Rattle.elaborate.specs.declared.error.JudgeError.TheVariants.{Refused, Memory}
@@ -35,6 +36,10 @@ AreValues ts (v ∷ vs) = IsValue ts v × AreValues ts vs
 
 abbrev pub IsLonger : List Tree → List Tree → Type 0
 IsLonger ts us = (more' : List Tree) × (us ≡ ts ++ more')
+
+-- trees joined the list
+abbrev pub HasGrown : Terms → Terms → Type 0
+HasGrown s t = IsLonger s.trees t.trees × (t.limit ≡ s.limit)
 
 -- ---- flags
 
@@ -68,3 +73,8 @@ abbrev pub Comes : Judging Typed → Scope → List Tree → Result Value JudgeE
 Comes m s us (Ok v) = (m s ≡ done (typed us v) (record s { trees = us })) × IsValue us v
 Comes m s us (Err (Refused r)) = m s ≡ refused r
 Comes m s us (Err Memory) = Unit {0}
+
+-- the error tells this refusal, or want of memory
+abbrev pub IsErrorOf : Refusal → JudgeError → Type 0
+IsErrorOf r (Refused x) = x ≡ r
+IsErrorOf r Memory = Unit {0}

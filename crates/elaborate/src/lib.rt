@@ -7,18 +7,32 @@ ghost use Rattle.smt_meaning.specs.Term.{Tree};
 ghost use Rattle.smt_meaning.specs.Sorts.{judge, done};
 ghost use Rattle.smt_meaning.specs.StackCommand.{judge_body};
 ghost use Rattle.smt_sorts.specs.Names.{Names, HasGained};
-ghost use Rattle.elaborate.specs.Judged.{scope_of, term_rules, typed_term, IsCauseOf, variables_of, bodied_of};
-ghost use Rattle.elaborate.specs.Values.{IsLonger};
+ghost use Rattle.elaborate.specs.Judged.{scope_of, rules_of, term_rules, typed_term, IsCauseOf, variables_of, bodied_of};
+ghost use Rattle.elaborate.specs.Values.{IsLonger, HasGrown, Comes};
 
+mod apply;
 mod error;
+mod frame;
+mod head;
+mod numeral;
 mod operators;
+mod read;
+mod stack;
+mod steps;
+mod token;
 mod value;
+mod walk;
 
+use apply::Rules;
 pub use error::JudgeError;
+use look_ahead::ends;
+use read::judge_term;
 use smt_meaning::{Body, Bytes, SExpr, Sort, TermId};
 use smt_sorts::Table;
+use stack::Stack;
 use std::alloc::Global;
 use term_store::TermStore;
+use value::Value;
 
 /// A term that was judged: its place in the list of terms, and its sort.
 #[derive(Clone, Copy, PartialEq, Eq, Debug, Drop)]
@@ -58,9 +72,41 @@ pub fn term(
     ensures limit { store.new.limit ≡ store.old.limit }
     ensures err { OnErr result ((table.new ≡ table.old) × (store.new ≡ store.old)) }
 {
-    let _ = (alloc, naming);
-    let _ = (term.len(), table.ids(), store.len());
-    Err(JudgeError::Memory)
+    let count = store.len();
+    let rules = Rules {
+        naming,
+        closed: true,
+    };
+    match judged(alloc, rules, term, table, store) {
+        Ok(value) => Ok(TypedTerm {
+            id: value.id,
+            sort: value.sort,
+        }),
+        Err(error) => {
+            store.cut(count);
+            Err(error)
+        }
+    }
+}
+
+/// Judges a term without variables. An `Err` may leave parts of the term among the terms.
+fn judged(
+    alloc: Global,
+    rules: Rules,
+    term: &SExpr,
+    table: &Table,
+    store: &mut TermStore,
+) -> Result<Value, JudgeError>
+    ensures comes { Comes (judge (rules_of rules) [] (sexp term.now)) (scope_of table.now store.old.trees) store.new.trees result }
+    ensures longer { HasGrown store.old store.new }
+{
+    match ends(alloc, term) {
+        Ok(ends) => {
+            let none = Stack::new(alloc);
+            judge_term(alloc, rules, term, &ends, none, table, store)
+        }
+        Err(_) => Err(JudgeError::Memory),
+    }
 }
 
 /// Judges the body of a definition with these parameters, apart from the terms of the stack: its different terms, and its sort, or the one

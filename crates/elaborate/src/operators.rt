@@ -1,6 +1,6 @@
 //! The theories' functions: their names, and their ranks.
 ghost use Rattle.std.specs.Prelude.{◌≡◌, map};
-ghost use Rattle.smt_meaning.specs.Signature.{look_up, operators, takes, sort_eq, all_of, all_the_same, ite_sort, if_so, operator_sort};
+ghost use Rattle.smt_meaning.specs.Signature.{look_up, operators, takes, stands_with, sort_eq, all_of, all_the_same, ite_sort, if_so, operator_sort};
 ghost use Rattle.elaborate.specs.Values.{sort_of};
 
 use crate::value::Value;
@@ -83,6 +83,30 @@ pub(crate) fn takes(operator: Operator, count: usize) -> bool
         | Operator::Less
         | Operator::AtLeast
         | Operator::Greater => count >= 2,
+    }
+}
+
+/// Whether an operator stands without arguments.
+pub(crate) fn stands_bare(operator: Operator) -> bool
+    ensures { result ≡ stands_with operator 0 }
+{
+    match operator {
+        Operator::True | Operator::False => true,
+        Operator::Not
+        | Operator::And
+        | Operator::Or
+        | Operator::Xor
+        | Operator::Implies
+        | Operator::Equal
+        | Operator::Distinct
+        | Operator::Ite
+        | Operator::Add
+        | Operator::Subtract
+        | Operator::Multiply
+        | Operator::AtMost
+        | Operator::Less
+        | Operator::AtLeast
+        | Operator::Greater => false,
     }
 }
 

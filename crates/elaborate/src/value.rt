@@ -1,7 +1,7 @@
 //! Terms that are read, with what the judgement of the terms around them asks for.
 ghost use Rattle.std.specs.Prelude.{◌≡◌, ◌&&◌, map, IfOk, OnErr};
 ghost use Rattle.smt_meaning.specs.TreeShape.{is_constant_head};
-ghost use Rattle.elaborate.specs.Values.{AreValues, IsNode, IsLonger, id_of, all_constant, all_linear, one_varies, is_linear_here};
+ghost use Rattle.elaborate.specs.Values.{AreValues, IsNode, HasGrown, id_of, all_constant, all_linear, one_varies, is_linear_here};
 
 use crate::error::JudgeError;
 use smt_meaning::{Head, Operator, Sort, TermId};
@@ -35,7 +35,7 @@ fn are_constant(values: &[Value]) -> bool
     true
 }
 
-fn are_linear(values: &[Value]) -> bool
+pub(crate) fn are_linear(values: &[Value]) -> bool
     ensures { result ≡ all_linear values.now }
 {
     for value in values {
@@ -125,7 +125,7 @@ pub(crate) fn stored(
     requires { AreValues store.old.trees arguments.now }
     ensures ok { IfOk result (λ v. IsNode head sort arguments.now store.old.trees store.new.trees v) }
     ensures memory { OnErr result (result ≡ Err JudgeError.Memory) }
-    ensures longer { IsLonger store.old.trees store.new.trees }
+    ensures longer { HasGrown store.old store.new }
 {
     let ids = ids(alloc, arguments)?;
     let id = store.intern(head, &ids)?;

@@ -1,7 +1,7 @@
 -- The names of a `let`.
 use Rattle.std.proofs.Common.{◌≡◌, ℕ, zero, suc, ◌+◌, ◌<◌, List, [], ◌∷◌, ◌++◌, ap, sym, subst, ◌∙◌, refl, take, drop, length, arith, get_or, Bool, true, false, not, Option, Some, None, append_assoc}
 use Rattle.std.specs.Option.{MatchOption}
-use Rattle.std.specs.Prelude.{OnOk, IfErr, Result, Ok, Err}
+use Rattle.std.specs.Prelude.{OnOk, IfOk, IfErr, Result, Ok, Err}
 use Rattle.std.specs.Prelude.{if◌then◌else◌, bytes_eq}
 use Rattle.std.specs.Borrow.{Bor}
 use Rattle.std.proofs.Math.Seq.{drop-cons}
@@ -18,7 +18,7 @@ use Rattle.look_ahead.specs.Lets.{is_let, and_names, doubled, names_of, name_at,
 
 -- ---- lists of names
 
-names_append : (bs cs : List (Bor (List ℕ))) → names_of (bs ++ cs) ≡ names_of bs ++ names_of cs
+pub names_append : (bs cs : List (Bor (List ℕ))) → names_of (bs ++ cs) ≡ names_of bs ++ names_of cs
 names_append [] cs = refl
 names_append (b ∷ bs) cs = ap (λ ns. b.now ∷ ns) (names_append bs cs)
 
@@ -139,3 +139,7 @@ ok_then (Err e) P Q f h = h
 pub err_then : {T E : Type 0} (r : Result T E) (P Q : E → Type 0) → ((e : E) → P e → Q e) → IfErr r P → IfErr r Q
 err_then (Ok x) P Q f h = h
 err_then (Err e) P Q f h = f e h
+
+pub value_then : {T E : Type 0} (r : Result T E) (P Q : T → Type 0) → ((x : T) → P x → Q x) → IfOk r P → IfOk r Q
+value_then (Ok x) P Q f h = f x h
+value_then (Err e) P Q f h = h

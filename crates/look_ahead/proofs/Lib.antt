@@ -1,3 +1,4 @@
 mod PartLemmas
 mod MarkLemmas
 mod LetLemmas
+mod FreeLemmas

@@ -8,6 +8,7 @@ use Rattle.smt_meaning.specs.Signature.{is_one_of}
 use Rattle.smt_meaning.specs.Sorts.{Scope, refused, bound_names, cons_name, check_bindings}
 use Rattle.look_ahead.specs.declared.LookError.{LookError}
 use Rattle.look_ahead.specs.declared.LookError.TheVariants.{Refused, Memory}
+use Rattle.look_ahead.specs.declared.lets.LetPlaces.{LetPlaces}
 use Rattle.look_ahead.specs.declared.lets.Binding.{Binding}
 use Rattle.look_ahead.specs.declared.lets.Binding.TheVariants.{Last, Malformed, Named}
 use Rattle.look_ahead.specs.Ahead.{ahead}
@@ -17,10 +18,15 @@ abbrev pub is_let : Sexps → Bool
 is_let (group bs ▸ b ▸ end) = true
 is_let _ = false
 
--- where the bindings begin
-abbrev pub IsLetAt : List Token → ℕ → Option ℕ → Type 0
+-- a `let`, whose bindings and body begin at these places
+pub record HasLet (ts : List Token) (i : ℕ) (w : LetPlaces) : Type 0 where
+  pub body : Sexp
+  pub is : ahead ts i ≡ group (ahead ts w.bindings) ▸ body ▸ end
+  pub body_is : ahead ts w.body ≡ body ▸ end
+
+abbrev pub IsLetAt : List Token → ℕ → Option LetPlaces → Type 0
 IsLetAt ts i None = is_let (ahead ts i) ≡ false
-IsLetAt ts i (Some j) = (j ≤ length ts) × ((b : Sexp) × (ahead ts i ≡ group (ahead ts j) ▸ b ▸ end))
+IsLetAt ts i (Some w) = HasLet ts i w
 
 -- the name of a binding, from the inside of its list
 abbrev pub name_bound : Sexps → Option (List ℕ)

@@ -1,3 +1,4 @@
 pub mod Ahead
 pub mod Marks
 pub mod Lets
+pub mod Free

@@ -11,15 +11,25 @@ use crate::parts::{Part, part_at, skip};
 use smt_meaning::{Refusal, SExpr, Seq, TokenView};
 use std::alloc::{AllocError, Global};
 
-/// The place of the bindings of a `let`, whose word stands before a place.
-pub(crate) fn bindings_place(term: &SExpr, ends: &[usize], place: usize) -> Option<usize>
+/// Where the parts of a `let` begin.
+#[derive(Clone, Copy, Drop)]
+pub(crate) struct LetPlaces {
+    pub(crate) bindings: usize,
+    pub(crate) body: usize,
+}
+
+/// The parts of a `let`, whose word stands before a place.
+pub(crate) fn let_places(term: &SExpr, ends: &[usize], place: usize) -> Option<LetPlaces>
     requires { AreEnds term.now ends.now }
     ensures { IsLetAt term.now place result }
 {
     match part_at(term, ends, place) {
         Part::List(close) => match skip(term, ends, close + 1) {
             Some(after) => match part_at(term, ends, after) {
-                Part::End => Some(place + 1),
+                Part::End => Some(LetPlaces {
+                    bindings: place + 1,
+                    body: close + 1,
+                }),
                 _ => None,
             },
             None => None,
@@ -72,14 +82,13 @@ fn binding_at<'a>(term: &'a SExpr, ends: &[usize], place: usize) -> Binding<'a>
 }
 
 /// The names of bindings, or none where one hasn't the form.
-fn names_bound<'a>(
+pub(crate) fn names_bound<'a>(
     alloc: Global,
     term: &'a SExpr,
     ends: &[usize],
     place: usize,
 ) -> Result<Option<Vec<&'a [u8]>>, AllocError>
-    requires ends { AreEnds term.now ends.now }
-    requires within { place ≤ length term.now }
+    requires { AreEnds term.now ends.now }
     ensures { IfOk result (λ o. MatchOption o (bound_names (ahead term.now place) ≡ None) (λ v. bound_names (ahead term.now place) ≡ Some (names_of v.items))) }
 {
     let mut names = Vec::new(alloc);
@@ -98,7 +107,7 @@ fn names_bound<'a>(
 }
 
 /// Whether a name is one of these.
-fn is_one_of(name: &[u8], names: &[&[u8]]) -> bool
+pub(crate) fn is_one_of(name: &[u8], names: &[&[u8]]) -> bool
     ensures { result ≡ is_one_of name.now (names_of names.now) }
 {
     for other in names {
@@ -149,8 +158,8 @@ pub(crate) fn check(
     ensures ok { OnOk result ((s : Scope) → check_let (ahead term.now place) s ≡ done tt s) }
     ensures err { IfErr result (λ e. IsWhyNoLet (ahead term.now place) e) }
 {
-    let bindings = match bindings_place(term, ends, place) {
-        Some(bindings) => bindings,
+    let bindings = match let_places(term, ends, place) {
+        Some(places) => places.bindings,
         None => return Err(LookError::Refused(Refusal::WrongArguments)),
     };
     match names_bound(alloc, term, ends, bindings) {

@@ -6,6 +6,7 @@ ghost use Rattle.smt_meaning.specs.Sorts.{Scope, Variable, done, variable_names}
 ghost use Rattle.term_walk.specs.Walk.{check_let, check_annotation, has_free_first};
 ghost use Rattle.look_ahead.specs.Ahead.{ahead, AreEnds, checked, IsWhyNoLet};
 
+mod free;
 mod lets;
 mod marks;
 mod parts;
@@ -66,10 +67,5 @@ pub fn has_free_first<N: Names>(
     requires within { place ≤ length term.now }
     ensures { IfOk result (λ b. (vs : List Variable) → variable_names vs ≡ N.names names.now → has_free_first vs (ahead term.now place) ≡ b) }
 {
-    let _ = alloc;
-    let _ = names;
-    let _ = term;
-    let _ = ends;
-    let _ = place;
-    Err(AllocError)
+    free::first_has_free(alloc, names, term, ends, place)
 }

@@ -1,1 +1,12 @@
 pub mod LevelCommands
+pub mod PieceLemmas
+pub mod FrameLemmas
+pub mod Steps
+pub mod Reach
+pub mod StackLemmas
+pub mod LawLemmas
+pub mod SortSteps
+pub mod DeclareSteps
+pub mod GainLemmas
+pub mod TermSteps
+pub mod ParameterSteps

@@ -1,3 +1,6 @@
 pub mod StackCode
+pub mod Pieces
+pub mod Inside
+pub mod Judged
 pub mod Carries
 pub mod Shown

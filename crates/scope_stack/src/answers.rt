@@ -1,6 +1,6 @@
 //! What comes of a command that works on the stack.
 use smt_meaning::{Refusal, SExpr, Sort, TermId};
-use std::alloc::AllocError;
+use std::alloc::{AllocError, AllocFailed};
 
 /// A command that isn't refused.
 #[derive(Clone, Copy, PartialEq, Eq, Debug, Drop)]
@@ -27,6 +27,17 @@ impl From<AllocError> for StackError {
     ghost from_gives = { λ _ e. e ≡ Memory };
 
     fn from(_: AllocError) -> StackError {
+        StackError::Memory
+    }
+}
+
+impl<T: Drop> From<AllocFailed<T>> for StackError {
+    ghost use Rattle.std.specs.Prelude.{◌≡◌};
+    ghost use Rattle.scope_stack.specs.declared.answers.StackError.TheVariants.{Memory};
+
+    ghost from_gives = { λ _ e. e ≡ Memory };
+
+    fn from(_: AllocFailed<T>) -> StackError {
         StackError::Memory
     }
 }

@@ -2,7 +2,13 @@
 #![tactic(auto)]
 
 mod answers;
+mod asserted;
+mod declare;
+mod judge;
 mod stack;
+mod term;
+#[cfg(test)]
+mod tests;
 
 pub use answers::{Asked, Assertion, Carried, StackError};
 pub use stack::Stack;

@@ -1,42 +1,59 @@
 //! The levels of a run, its declarations, its assertions and its terms.
-ghost use Rattle.std.specs.Prelude.{◌≡◌, unsigned_abs};
+ghost use Rattle.std.specs.Prelude.{◌≡◌, ◌≤◌, ◌<◌, unsigned_abs, IfSome, IfNone};
 
 use crate::answers::{Asked, Assertion, Carried, StackError};
+use crate::asserted::Asserted;
+use crate::declare;
+use crate::term::{judge_assertion, judge_questions};
 use smt_meaning::language::{Parameter, WrittenSort};
 use smt_meaning::{Bytes, Declaration, Refusal, SExpr, Seq};
+use smt_sorts::Table;
+use sort_laws::{assertions_are_truths, parts_are_among_the_trees, trees_are_in_order};
 use std::alloc::Global;
 use std::marker::Model;
+use term_laws::no_id_twice;
 use term_store::TermStore;
 
 /// How many terms there may be.
 const MOST_TERMS: u32 = 4294967295;
 
+/// How many levels there may be above level 0.
+const MOST_LEVELS: u16 = u16::MAX;
+
 /// The stack of a run: its levels with their declarations and assertions, and the terms that were judged since the start or the last reset.
 #[derive(Drop)]
 pub struct Stack {
+    table: Table,
     terms: TermStore,
-    declared: Vec<Declaration>,
-    asserted: Vec<Assertion>,
+    asserted: Asserted,
 }
 
 impl Model for Stack {
-    ghost use Rattle.std.specs.Prelude.{◌≡◌, []};
-    ghost use Rattle.smt_meaning.specs.StackCommand.{Stack as StackValue, start};
+    ghost use Rattle.smt_meaning.specs.StackCommand.{Stack as StackValue};
     ghost use Rattle.scope_stack.specs.StackCode.{coded_stack};
 
     ghost Value = { StackValue };
 
     ghost coded = { coded_stack };
 
-    ghost view = { λ s. start };
+    ghost use Rattle.scope_stack.specs.Inside.{stack_by, IsStack};
 
-    ghost invariant = { λ s. (s.terms ≡ record { limit = 4294967295; trees = [] }) × (s.declared.items ≡ []) × (s.asserted.items ≡ []) };
+    ghost view = { λ s. stack_by s.table s.terms.trees s.asserted };
+
+    ghost invariant = { λ s. IsStack s.table s.terms s.asserted };
 }
 
-fn size_of(count: i128) -> u128
-    ensures { result ≡ unsigned_abs count }
+/// The size of a count that is at most so large.
+fn at_most(count: i128, most: u32) -> Option<u32>
+    ensures some { IfSome result (λ n. (n ≡ unsigned_abs count) × (n ≤ most)) }
+    ensures none { IfNone result (most < unsigned_abs count) }
 {
-    count.unsigned_abs()
+    let size = count.unsigned_abs();
+    if size <= most as u128 {
+        Some(size as u32)
+    } else {
+        None
+    }
 }
 
 impl Stack {
@@ -51,9 +68,9 @@ impl Stack {
         ensures { result ≡ start }
     {
         Stack {
+            table: Table::new(alloc),
             terms: TermStore::new(alloc, MOST_TERMS),
-            declared: Vec::new(alloc),
-            asserted: Vec::new(alloc),
+            asserted: Asserted::new(alloc),
         }
     }
 
@@ -61,8 +78,7 @@ impl Stack {
     pub fn depth(&self) -> u16
         ensures { result ≡ depth self.now.frames }
     {
-        let _ = &self.terms;
-        0
+        self.asserted.depth() as u16
     }
 
     /// The terms. Their list is the stack's.
@@ -77,14 +93,14 @@ impl Stack {
     pub fn declarations(&self) -> &[Declaration]
         ensures { result.now ≡ signature_of self.now.frames }
     {
-        self.declared.as_slice()
+        self.table.declarations()
     }
 
     /// The assertions of all levels, in order.
     pub fn assertions(&self) -> &[Assertion]
         ensures { AreAsserted self.now result.now }
     {
-        self.asserted.as_slice()
+        self.asserted.all()
     }
 
     /// What is true of every stack.
@@ -92,6 +108,10 @@ impl Stack {
         ensures { IsLawful self.now }
     {
         let _ = &self.terms;
+        no_id_twice();
+        assertions_are_truths();
+        trees_are_in_order();
+        parts_are_among_the_trees();
     }
 
     /// `(declare-sort name arity)` (section 4.2.3).
@@ -103,7 +123,7 @@ impl Stack {
     ) -> Result<Carried, StackError>
         ensures { Carries (λ level. declare_sort name.now arity) self.old result self.new }
     {
-        Err(StackError::Memory)
+        declare::declare_sort(alloc, &mut self.table, name, arity)
     }
 
     /// `(define-sort name (parameter ..) sort)` (section 4.2.3).
@@ -116,7 +136,7 @@ impl Stack {
     ) -> Result<Carried, StackError>
         ensures { Carries (λ level. define_sort name.now parameters.now sort.now) self.old result self.new }
     {
-        Err(StackError::Memory)
+        declare::define_sort(alloc, &mut self.table, name, parameters, sort)
     }
 
     /// `(declare-fun name (argument ..) sort)`, and `(declare-const name sort)`, where there is no argument (section 4.2.3).
@@ -129,7 +149,7 @@ impl Stack {
     ) -> Result<Carried, StackError>
         ensures { Carries (λ level. declare_function name.now arguments.now sort.now) self.old result self.new }
     {
-        Err(StackError::Memory)
+        declare::declare_function(alloc, &mut self.table, name, arguments, sort)
     }
 
     /// `(define-fun name (parameter ..) sort body)` (section 4.2.3).
@@ -143,28 +163,46 @@ impl Stack {
     ) -> Result<Carried, StackError>
         ensures { Carries (λ level. define_function name.now parameters.now sort.now body.now) self.old result self.new }
     {
-        Err(StackError::Memory)
+        declare::define_function(alloc, &mut self.table, name, parameters, sort, body)
     }
 
     /// `(assert term)` (section 4.2.4).
     pub fn assert_term(&mut self, alloc: Global, term: &SExpr) -> Result<Carried, StackError>
         ensures { Carries (λ level. assert_term term.now) self.old result self.new }
     {
-        Err(StackError::Memory)
+        let text = term.copy(alloc)?;
+        let ids = self.table.ids();
+        let count = self.terms.len();
+        let term = judge_assertion(alloc, term, &mut self.table, &mut self.terms)?;
+        match self.asserted.add(Assertion { text, term }) {
+            Ok(()) => Ok(Carried::Done),
+            Err(_) => {
+                self.table.cut_ids(ids);
+                self.terms.cut(count);
+                Err(StackError::Memory)
+            }
+        }
     }
 
     /// The terms of `(get-value (term ..))` (section 4.2.6).
     pub fn ask(&mut self, alloc: Global, terms: &[SExpr]) -> Result<Seq<Asked>, StackError>
         ensures { Answers terms.now self.old result self.new }
     {
-        Err(StackError::Memory)
+        let asked = judge_questions(alloc, terms, &mut self.table, &mut self.terms)?;
+        Ok(asked)
     }
 
     /// `(push count)` (section 4.2.2).
-    pub fn push(&mut self, alloc: Global, count: i128) -> Result<Carried, StackError>
+    pub fn push(&mut self, _alloc: Global, count: i128) -> Result<Carried, StackError>
         ensures { Carries (λ level. push_levels level (unsigned_abs count)) self.old result self.new }
     {
-        Err(StackError::Memory)
+        let room = MOST_LEVELS - self.depth();
+        let Some(levels) = at_most(count, room as u32) else {
+            return Err(StackError::Refused(Refusal::TooManyLevels));
+        };
+        self.asserted.push(levels as usize)?;
+        self.table.push(levels);
+        Ok(Carried::Done)
     }
 
     /// `(pop count)` (section 4.2.2). It takes no memory.
@@ -172,25 +210,29 @@ impl Stack {
         ensures carried { Carries (λ level. pop_levels level (unsigned_abs count)) self.old result self.new }
         ensures no_memory { result ≢ Err StackError.Memory }
     {
-        let _ = &self.terms;
-        let levels = size_of(count);
-        if levels == 0 {
-            return Ok(Carried::Done);
-        }
-        Err(StackError::Refused(Refusal::PopPastLevelZero))
+        let depth = self.depth();
+        let Some(levels) = at_most(count, depth as u32) else {
+            return Err(StackError::Refused(Refusal::PopPastLevelZero));
+        };
+        self.asserted.pop(levels as usize);
+        self.table.pop(levels);
+        Ok(Carried::Done)
     }
 
     /// `(reset-assertions)` (section 4.2.2). It takes no memory.
     pub fn reset_assertions(&mut self)
         ensures { self.new ≡ record self.old { frames = start_frames } }
     {
-        let _ = &self.terms;
+        self.table.clear();
+        self.asserted.clear();
     }
 
     /// `(reset)` (section 4.2.1). It takes no memory.
     pub fn reset(&mut self)
         ensures { self.new ≡ start }
     {
-        let _ = &self.terms;
+        self.table.reset();
+        self.terms.cut(0);
+        self.asserted.clear();
     }
 }

@@ -6,6 +6,8 @@ mod errors;
 mod places;
 mod reserved;
 mod table;
+#[cfg(test)]
+mod tests;
 
 pub use errors::{AddError, NameError};
 pub use table::Table;

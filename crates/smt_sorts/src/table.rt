@@ -182,6 +182,20 @@ impl Table {
         }
     }
 
+    /// The next id. `TooManySymbols` comes exactly where none is left.
+    fn next_id(&self) -> Result<SymId, AddError>
+        ensures id { IfOk result (λ id. id ≡ self.now.given) }
+        ensures left { OnOk result (self.now.given < most_symbols) }
+        ensures full { IfErr result (λ e. e ≡ AddError.TooManySymbols) }
+        ensures given { OnErr result (self.now.given ≡ most_symbols) }
+    {
+        if self.given < u32::MAX {
+            Ok(self.given)
+        } else {
+            Err(AddError::TooManySymbols)
+        }
+    }
+
     /// Adds a declaration with the next id on the newest level. An `Err`, for want of memory, changes nothing.
     fn add(&mut self, declaration: Declaration) -> Result<(), AllocError>
         requires id { declaration.id ≡ self.old.given }
@@ -212,10 +226,7 @@ impl Table {
         ensures full { (result ≡ Err AddError.TooManySymbols) ↔ (self.old.given ≡ most_symbols) }
         ensures err { OnErr result (self.new ≡ self.old) }
     {
-        let id = self.given;
-        if id == u32::MAX {
-            return Err(AddError::TooManySymbols);
-        }
+        let id = self.next_id()?;
         let name = Bytes::copy(alloc, name)?;
         let rank = Rank {
             arguments: Seq::new(alloc),
@@ -241,10 +252,7 @@ impl Table {
         ensures full { (result ≡ Err AddError.TooManySymbols) ↔ (self.old.given ≡ most_symbols) }
         ensures err { OnErr result (self.new ≡ self.old) }
     {
-        let id = self.given;
-        if id == u32::MAX {
-            return Err(AddError::TooManySymbols);
-        }
+        let id = self.next_id()?;
         let name = Bytes::copy(alloc, name)?;
         self.add(Declaration::function(id, name, rank, body))?;
         Ok(id)

@@ -9,7 +9,7 @@ use Rattle.smt_meaning.specs.declared.tokens.Word.TheVariants.{Exclamation, Let}
 use Rattle.smt_meaning.specs.Sexp.{Sexp, Sexps, word, group, end, ◌▸◌}
 use Rattle.smt_meaning.specs.Signature.{is_one_of}
 use Rattle.smt_meaning.specs.Sorts.{bound_names, names_or_none, without, has_free, some_has_free, binding_has_free}
-use Rattle.term_walk.specs.Uses.{NothingIsFree, is_outer, uses_outer, some_use_outer, bindings_use_outer, FreeIsUsed}
+use Rattle.term_walk.specs.Uses.{LeavesOut, NothingIsFree, is_outer, uses_outer, some_use_outer, bindings_use_outer, FreeIsUsed}
 
 -- these names are those that stand for the first m variables
 record Marks (m : ℕ) (ns vs : List (List ℕ)) : Type 0 where
@@ -94,3 +94,6 @@ mutual
   no_binding_free end = refl
   no_binding_free (group (x ▸ t ▸ end) ▸ rest) = ap (λ y. y || binding_has_free [] rest) (nothing_free t) ∙ no_binding_free rest
   no_binding_free (_ ▸ rest) = no_binding_free rest
+
+pub leaves_out : LeavesOut
+leaves_out n ms ns = left_out n ms ns

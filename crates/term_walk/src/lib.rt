@@ -5,7 +5,7 @@ ghost use Rattle.term_walk.specs.Again.{NotedOnce, PutLeaves, RootsNoteAll};
 ghost use Rattle.term_walk.specs.Form.{AnnotationFormIsRead, AnnotationFormStays, LetFormIsRead, LetFormStays};
 ghost use Rattle.term_walk.specs.Laws.{WalkGivesTheJudgement};
 ghost use Rattle.term_walk.specs.Todo.{StoredTreesStay, VisitsParts};
-ghost use Rattle.term_walk.specs.Uses.{FreeIsUsed, NothingIsFree};
+ghost use Rattle.term_walk.specs.Uses.{FreeIsUsed, LeavesOut, NothingIsFree};
 
 /// Reading the tokens of a term with a stack of frames gives what judging the term gives: the sort and the tree, or the one refusal.
 pub fn walk_gives_the_judgement()
@@ -65,4 +65,9 @@ pub fn parts_are_visited()
 /// A list that has the parts of each of its trees stays as it is where one of them is visited.
 pub fn stored_trees_stay()
     ensures { StoredTreesStay }
+{}
+
+/// Of names without others those are left that are none of the others.
+pub fn others_are_left_out()
+    ensures { LeavesOut }
 {}

@@ -1,17 +1,36 @@
-use Rattle.std.proofs.Common.{◌≡◌, ◌<◌, unsigned_abs, ◌∙◌, sym, refl, arith}
+use Rattle.std.proofs.Common.{◌≡◌, ◌∙◌, ◌-◌, ◌<◌, length, arith, unsigned_abs, refl, ap, sym}
 use Rattle.std.specs.Int.{w128}
 use Rattle.std.proofs.lemmas.Int.{to_z-of_z}
-use Rattle.smt_meaning.specs.StackCommand.{start, pops, scope_of}
-use Rattle.scope_stack.proofs.LevelCommands.{pop_done, pop_refused}
+use Rattle.smt_meaning.specs.Stack.{depth}
+use Rattle.scope_stack.proofs.LevelCommands.{pop_refused}
+use Rattle.scope_stack.proofs.StackLemmas.{depth-stack, pop_is, pop_keeps}
 use Rattle.scope_stack.proofs.stack.Stack.pop.Goals as goal
 
-pub returns-then-levels-eq0-clause-carried : goal.returns-then-levels-eq0-clause-carried
-returns-then-levels-eq0-clause-carried c =
-    let size : c.size_of-levels.result ≡ unsigned_abs c.args.count = rw (to_z-of_z w128 c.args.count c.ranges.count) at c.size_of-levels.ensures in
-    rw (← c.self.view_is, sym size ∙ c.if-levels-eq0.true) (record { change = pops 0; scope = scope_of start; plain = refl; is_judged = pop_done start 0 (omega arith); new_is = refl })
+pub returns-in_default-clause-carried : goal.returns-in_default-clause-carried
+returns-in_default-clause-carried c =
+    let large : c.depth-depth.result < unsigned_abs c.args.count = rw (to_z-of_z w128 c.args.count c.ranges.count) at c.in_default.ensures.none in
+    record { is_judged = pop_refused c.args.self.now (unsigned_abs c.args.count) (rw c.depth-depth.ensures at large); same = refl }
+
+pub pop-requires : goal.pop-requires
+pop-requires c =
+    let d : depth c.args.self.now.frames ≡ length c.self.inside.table.levels - 1 = ap (λ s. depth s.frames) (sym c.self.view_is) ∙ depth-stack c.self.inside.table c.self.inside.terms.trees c.self.inside.asserted in
+    omega (arith, d, c.depth-depth.ensures, c.in-Some.ensures.some.1, c.self.invariant.as_many, c.self.invariant.some)
+
+pub pop-requires-2 : goal.pop-requires-2
+pop-requires-2 c =
+    let d : depth c.args.self.now.frames ≡ length c.self.inside.table.levels - 1 = ap (λ s. depth s.frames) (sym c.self.view_is) ∙ depth-stack c.self.inside.table c.self.inside.terms.trees c.self.inside.asserted in
+    omega (arith, d, c.depth-depth.ensures, c.in-Some.ensures.some.1, c.self.invariant.some)
+
+pub invariant_of-self : goal.invariant_of-self
+invariant_of-self c =
+    let size : c.in-Some.levels ≡ unsigned_abs c.args.count = rw (to_z-of_z w128 c.args.count c.ranges.count) at c.in-Some.ensures.some.0 in
+    let d : depth c.args.self.now.frames ≡ length c.self.inside.table.levels - 1 = ap (λ s. depth s.frames) (sym c.self.view_is) ∙ depth-stack c.self.inside.table c.self.inside.terms.trees c.self.inside.asserted in
+    let lt : unsigned_abs c.args.count < length c.self.inside.table.levels = omega (arith, d, c.depth-depth.ensures, c.in-Some.ensures.some.1, c.self.invariant.some, size) in
+    rw (c.pop-2.ensures, c.pop.ensures, size) (pop_keeps c.args.count c.self.inside.table c.self.inside.terms c.self.inside.asserted c.self.invariant lt)
 
 pub returns-clause-carried : goal.returns-clause-carried
 returns-clause-carried c =
-    let size : c.size_of-levels.result ≡ unsigned_abs c.args.count = rw (to_z-of_z w128 c.args.count c.ranges.count) at c.size_of-levels.ensures in
-    let some : 0 < unsigned_abs c.args.count = rw (← size) (omega (arith, c.if-levels-eq0.false)) in
-    rw (← c.self.view_is) (record { is_judged = pop_refused start (unsigned_abs c.args.count) some; same = refl })
+    let size : c.in-Some.levels ≡ unsigned_abs c.args.count = rw (to_z-of_z w128 c.args.count c.ranges.count) at c.in-Some.ensures.some.0 in
+    let d : depth c.args.self.now.frames ≡ length c.self.inside.table.levels - 1 = ap (λ s. depth s.frames) (sym c.self.view_is) ∙ depth-stack c.self.inside.table c.self.inside.terms.trees c.self.inside.asserted in
+    let lt : unsigned_abs c.args.count < length c.self.inside.table.levels = omega (arith, d, c.depth-depth.ensures, c.in-Some.ensures.some.1, c.self.invariant.some, size) in
+    rw (c.pop-2.ensures, c.pop.ensures, size, ← c.self.view_is) (pop_is c.args.count c.self.inside.table c.self.inside.terms c.self.inside.asserted c.self.invariant lt)

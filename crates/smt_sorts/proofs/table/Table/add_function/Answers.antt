@@ -11,4 +11,4 @@ add-requires-clause-new c = rw (c.function.ensures, c.in_ok-name.ensures) (sym (
 pub returns-clause-gained : goal.returns-clause-gained
 returns-clause-gained c =
     λ t h. HasGained-declared t c.args.self.now c.add.new.self c.function.result h c.in_ok-add.ensures.ok c.in_ok-add.ensures.signature
-    (ap (λ (d : Declaration). d.id) c.function.ensures ∙ ap (λ (n : Names). n.given) c.self.view_is)
+    (ap (λ (d : Declaration). d.id) c.function.ensures ∙ c.in_ok-id.ensures.id)

@@ -1,0 +1,14 @@
+use Rattle.std.proofs.Common.{ap, sym, ◌∙◌}
+use Rattle.elaborate.specs.Judged.{scope_of, rules_of}
+use Rattle.elaborate.specs.Steps.{is_answered, is_argument, may_end}
+use Rattle.elaborate.proofs.Moves.{leave_answered, leave_refused}
+use Rattle.elaborate.proofs.steps.leave.Goals as goal
+
+pub returns-then-is_answered-clause-comes : goal.returns-then-is_answered-clause-comes
+returns-then-is_answered-clause-comes c = λ tokens. (leave_answered (rules_of c.args.rules) tokens (scope_of c.args.table.now c.args.store.now.trees) c.args.walk.now.answer c.args.walk.now.bindings c.args.walk.now.frames (ap is_answered (sym c.what_comes-kind.ensures) ∙ sym c.is_answered.ensures ∙ c.if-is_answered.true), c.requires.stands)
+
+pub leave_application-requires-clause-kind : goal.leave_application-requires-clause-kind
+leave_application-requires-clause-kind c = (ap is_argument (sym c.what_comes-kind.ensures) ∙ sym c.is_argument.ensures ∙ c.if-is_argument.true)
+
+pub returns-clause-comes : goal.returns-clause-comes
+returns-clause-comes c = λ tokens. leave_refused (rules_of c.args.rules) tokens (scope_of c.args.table.now c.args.store.now.trees) c.args.walk.now.answer c.args.walk.now.bindings c.args.walk.now.frames (ap is_answered (sym c.what_comes-kind.ensures) ∙ sym c.is_answered.ensures ∙ c.if-is_answered.false) (ap is_argument (sym c.what_comes-kind.ensures) ∙ sym c.is_argument.ensures ∙ c.if-is_argument.false) (ap may_end (sym c.what_comes-kind.ensures) ∙ sym c.may_end.ensures ∙ c.if-may_end.false)

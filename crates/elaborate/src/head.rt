@@ -1,0 +1,140 @@
+//! The head of a list.
+ghost use Rattle.std.specs.Prelude.{◌≡◌, ◌+◌, ◌≤◌, List, [], map, length, IfOk, OnErr};
+ghost use Rattle.smt_meaning.specs.declared.tokens.Token.{Token as TokenValue};
+ghost use Rattle.smt_meaning.specs.Seen.{seen};
+ghost use Rattle.smt_meaning.specs.Sexp.{Sexps};
+ghost use Rattle.smt_meaning.specs.Term.{Tree};
+ghost use Rattle.term_walk.specs.Walk.{on_head};
+ghost use Rattle.look_ahead.specs.Ahead.{ahead, AreEnds};
+ghost use Rattle.elaborate.specs.Judged.{scope_of, rules_of};
+ghost use Rattle.elaborate.specs.Frames.{variable_at};
+ghost use Rattle.elaborate.specs.Steps.{FrameComes, IsLetHead, IsAnnotationHead};
+
+use crate::apply::{Rules, unknown, wrong_count};
+use crate::error::JudgeError;
+use crate::frame::{Binding, Frame, find};
+use crate::operators::operator_named;
+use crate::stack::Stack;
+use look_ahead::{LookError, check_annotation, check_let};
+use smt_meaning::{Bytes, Operator, Refusal, SExpr, Seq, TokenView, Word};
+use smt_sorts::Table;
+use std::alloc::Global;
+
+/// An application of a name before its arguments. An `Err` is want of memory.
+fn application(alloc: Global, name: &[u8], operator: Option<Operator>) -> Result<Frame, JudgeError>
+    ensures ok { IfOk result (λ g. g ≡ Frame.Application name.now operator []) }
+    ensures memory { OnErr result (result ≡ Err JudgeError.Memory) }
+{
+    match Bytes::copy(alloc, name) {
+        Ok(name) => Ok(Frame::Application(name, operator, Seq::new(alloc))),
+        Err(_) => Err(JudgeError::Memory),
+    }
+}
+
+/// A name as the head of a list.
+fn name_head(
+    alloc: Global,
+    rules: Rules,
+    name: &[u8],
+    bindings: &Stack<Binding>,
+    table: &Table,
+) -> Result<Frame, JudgeError>
+    ensures { (tokens : List TokenValue) (ahead : Sexps) (ts : List Tree) → FrameComes (on_head (rules_of rules) (map (variable_at ts) bindings.now) (TokenValue.Symbol name.now) ahead) (scope_of table.now ts) tokens bindings.now result }
+{
+    let _ = rules.closed;
+    match find(bindings.oldest_first(), name) {
+        Some(_) => Err(wrong_count(alloc, name)),
+        None => match operator_named(name) {
+            Some(operator) => application(alloc, name, Some(operator)),
+            None => match table.lookup(name) {
+                Some(_) => application(alloc, name, None),
+                None => Err(unknown(alloc, TokenView::Symbol(name))),
+            },
+        },
+    }
+}
+
+/// `let`, whose form is looked at first.
+fn let_head(alloc: Global, term: &SExpr, ends: &[usize], place: usize) -> Result<Frame, JudgeError>
+    requires ends { AreEnds term.now ends.now }
+    requires within { place ≤ length term.now }
+    ensures { IsLetHead (ahead term.now place) result }
+{
+    match check_let(alloc, term, ends, place) {
+        Ok(()) => Ok(Frame::LetOpen),
+        Err(LookError::Refused(why)) => Err(JudgeError::Refused(why)),
+        Err(LookError::Memory) => Err(JudgeError::Memory),
+    }
+}
+
+/// `!`, whose form is looked at first.
+fn annotation_head(term: &SExpr, ends: &[usize], place: usize) -> Result<Frame, JudgeError>
+    requires ends { AreEnds term.now ends.now }
+    requires within { place ≤ length term.now }
+    ensures { IsAnnotationHead (ahead term.now place) place result }
+{
+    if check_annotation(term, ends, place) {
+        Ok(Frame::Annotation(place))
+    } else {
+        Err(JudgeError::Refused(Refusal::WrongArguments))
+    }
+}
+
+/// A reserved word as the head of a list, before a place.
+fn word_head(
+    alloc: Global,
+    rules: Rules,
+    term: &SExpr,
+    ends: &[usize],
+    place: usize,
+    word: Word,
+    bindings: &Stack<Binding>,
+    table: &Table,
+) -> Result<Frame, JudgeError>
+    requires ends { AreEnds term.now ends.now }
+    requires within { place ≤ length term.now }
+    ensures { (ts : List Tree) → FrameComes (on_head (rules_of rules) (map (variable_at ts) bindings.now) (TokenValue.Reserved word) (ahead term.now place)) (scope_of table.now ts) term.now bindings.now result }
+{
+    let _ = (rules.closed, bindings.len(), table.ids());
+    match word {
+        Word::Let => let_head(alloc, term, ends, place),
+        Word::Exclamation => annotation_head(term, ends, place),
+        Word::Underscore => Err(unknown(alloc, TokenView::Reserved(word))),
+        Word::As => Err(unknown(alloc, TokenView::Reserved(word))),
+        Word::Exists => Err(unknown(alloc, TokenView::Reserved(word))),
+        Word::Forall => Err(unknown(alloc, TokenView::Reserved(word))),
+        Word::Match => Err(unknown(alloc, TokenView::Reserved(word))),
+        Word::Par => Err(unknown(alloc, TokenView::Reserved(word))),
+    }
+}
+
+/// A token as the head of a list, before a place.
+pub(crate) fn list_head(
+    alloc: Global,
+    rules: Rules,
+    term: &SExpr,
+    ends: &[usize],
+    place: usize,
+    token: TokenView<'_>,
+    bindings: &Stack<Binding>,
+    table: &Table,
+) -> Result<Frame, JudgeError>
+    requires ends { AreEnds term.now ends.now }
+    requires within { place ≤ length term.now }
+    ensures { (ts : List Tree) → FrameComes (on_head (rules_of rules) (map (variable_at ts) bindings.now) (seen token.entry) (ahead term.now place)) (scope_of table.now ts) term.now bindings.now result }
+{
+    match token {
+        TokenView::Symbol(name) => name_head(alloc, rules, name, bindings, table),
+        TokenView::Reserved(word) => {
+            word_head(alloc, rules, term, ends, place, word, bindings, table)
+        }
+        TokenView::Enter => Err(JudgeError::Refused(Refusal::WrongArguments)),
+        TokenView::Leave => Err(JudgeError::Refused(Refusal::WrongArguments)),
+        TokenView::Numeral(_) => Err(JudgeError::Refused(Refusal::WrongArguments)),
+        TokenView::Decimal(_) => Err(JudgeError::Refused(Refusal::WrongArguments)),
+        TokenView::Hex(_) => Err(JudgeError::Refused(Refusal::WrongArguments)),
+        TokenView::Binary(_) => Err(JudgeError::Refused(Refusal::WrongArguments)),
+        TokenView::Text(_) => Err(JudgeError::Refused(Refusal::WrongArguments)),
+        TokenView::Keyword(_) => Err(JudgeError::Refused(Refusal::WrongArguments)),
+    }
+}

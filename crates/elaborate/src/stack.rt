@@ -1,0 +1,75 @@
+//! A list that is read, grown and cut at its newest end.
+ghost use Rattle.std.specs.Prelude.{◌≡◌, ◌∷◌, [], List, drop, length, reverse, OnOk, OnErr, IfSome, IfNone};
+
+use std::alloc::{AllocError, Global};
+use std::marker::Model;
+
+/// A stack, which contracts see as the list of its items, the newest first.
+#[derive(Drop)]
+pub(crate) struct Stack<T> {
+    items: Vec<T>,
+}
+
+impl<T> Model for Stack<T> {
+    ghost use Rattle.std.specs.Prelude.{List, reverse};
+
+    ghost Value = { List T };
+
+    ghost view = { λ s. reverse s.items.items };
+}
+
+impl<T: Drop> Stack<T> {
+    pub fn new(alloc: Global) -> Self
+        ensures { result ≡ [] }
+    {
+        Stack {
+            items: Vec::new(alloc),
+        }
+    }
+
+    pub fn len(&self) -> usize
+        ensures { result ≡ length self.now }
+    {
+        self.items.len()
+    }
+
+    /// Puts an item on top. An `Err`, for want of memory, changes nothing.
+    pub fn push(&mut self, item: T) -> Result<(), AllocError>
+        ensures ok { OnOk result (self.new ≡ item ∷ self.old) }
+        ensures err { OnErr result (self.new ≡ self.old) }
+    {
+        self.items.push(item)?;
+        Ok(())
+    }
+
+    /// Takes the newest item off.
+    pub fn pop(&mut self) -> Option<T>
+        ensures some { IfSome result (λ x. self.old ≡ x ∷ self.new) }
+        ensures none { IfNone result ((self.old ≡ []) × (self.new ≡ [])) }
+    {
+        self.items.pop()
+    }
+
+    /// Takes so many of the newest items off.
+    pub fn drop_newest(&mut self, count: usize)
+        ensures { self.new ≡ drop count self.old }
+    {
+        let kept = self.items.len().saturating_sub(count);
+        self.items.truncate(kept);
+    }
+
+    /// The newest item.
+    pub fn newest(&self) -> Option<&T>
+        ensures some { IfSome result (λ x. (rest : List T) × (self.now ≡ x.now ∷ rest)) }
+        ensures none { IfNone result (self.now ≡ []) }
+    {
+        self.items.last()
+    }
+
+    /// The items, the oldest first.
+    pub fn oldest_first(&self) -> &[T]
+        ensures { self.now ≡ reverse result.now }
+    {
+        &self.items
+    }
+}

@@ -1,0 +1,19 @@
+use Rattle.std.proofs.Common.{refl}
+use Rattle.std.proofs.lemmas.Result.{err_from_is_err_and}
+use Rattle.scope_stack.proofs.DeclareSteps.{new_sort_adds, new_sort_name_cause, new_sort_add_cause}
+use Rattle.scope_stack.proofs.declare.declare_new_sort.Goals as goal
+
+pub returns-in_err-new_sort_name-clause-err : goal.returns-in_err-new_sort_name-clause-err
+returns-in_err-new_sort_name-clause-err c =
+    let p = err_from_is_err_and c.from_residual.result c.from_residual.ensures.1 in
+    rw (p.1, p.2) (record { causes = new_sort_name_cause c.args.name.now c.args.table.now _ c.in_err-new_sort_name.ensures.causes; same = refl })
+
+pub returns-in_err-add_sort-clause-err : goal.returns-in_err-add_sort-clause-err
+returns-in_err-add_sort-clause-err c =
+    let p = err_from_is_err_and c.from_residual-in_err-add_sort.result c.from_residual-in_err-add_sort.ensures.1 in
+    rw (p.1, p.2)
+    (record { causes = new_sort_add_cause c.args.name.now c.args.table.now _ c.in_ok-new_sort_name.ensures.gives c.in_err-add_sort.ensures.causes; same = c.in_err-add_sort.ensures.err })
+
+pub returns-clause-adds : goal.returns-clause-adds
+returns-clause-adds c =
+    record { adds = new_sort_adds c.args.name.now c.args.table.now c.add_sort.new.table c.in_ok-new_sort_name.ensures.gives c.in_ok-add_sort.ensures.adds; gained = c.in_ok-add_sort.ensures.gained }

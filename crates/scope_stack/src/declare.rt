@@ -1,0 +1,171 @@
+//! Declarations and definitions of sorts and functions.
+ghost use Rattle.std.specs.Prelude.{◌≡◌, None, pos, OnOk, OnErr, IfErr};
+ghost use Rattle.smt_meaning.specs.Signature.{find_function, find_sort};
+ghost use Rattle.smt_meaning.specs.Sorts.{declare};
+ghost use Rattle.smt_meaning.specs.StackCommand.{declare_function, declare_new_sort, declare_sort, define_function, define_new_sort, define_sort, function_declaration, sort_declaration};
+ghost use Rattle.smt_meaning.specs.Term.{int_eq};
+ghost use Rattle.smt_sorts.specs.Names.{signature, sort_or_new, HasGained};
+ghost use Rattle.scope_stack.specs.Judged.{Adds, Causes, Declares, HasDeclared, IsFailed, IfTooMany};
+
+use crate::answers::{Carried, StackError};
+use crate::judge::{
+    judge_body, judge_parameters, judge_sort, judge_sorts, new_function_name, new_sort_name,
+    sorts_of,
+};
+use smt_meaning::language::{Parameter, WrittenSort};
+use smt_meaning::{Body, Bytes, Rank, Refusal, SExpr, Seq, Sort};
+use smt_sorts::{AddError, Table};
+use std::alloc::Global;
+
+fn add_error(error: AddError) -> StackError
+    ensures { IfTooMany error result }
+{
+    match error {
+        AddError::TooManySymbols => StackError::Refused(Refusal::TooManySymbols),
+        AddError::Memory => StackError::Memory,
+    }
+}
+
+/// The newest level gains a sort.
+fn add_sort(
+    alloc: Global,
+    table: &mut Table,
+    name: &[u8],
+    sort: Option<Sort>,
+) -> Result<(), StackError>
+    requires { find_sort name.now (signature table.old) ≡ None }
+    ensures adds { OnOk result (Adds (declare (λ id. sort_declaration id name.now (sort_or_new sort id))) table.old tt table.new) }
+    ensures gained { OnOk result (HasGained table.old table.new) }
+    ensures causes { IfErr result (Causes (declare (λ id. sort_declaration id name.now (sort_or_new sort id))) table.old) }
+    ensures err { OnErr result (table.new ≡ table.old) }
+{
+    let _ = table.ids();
+    match table.add_sort(alloc, name, sort) {
+        Ok(_) => Ok(()),
+        Err(error) => Err(add_error(error)),
+    }
+}
+
+/// The newest level gains a function.
+fn add_function(
+    alloc: Global,
+    table: &mut Table,
+    name: &[u8],
+    rank: Rank,
+    body: Option<Body>,
+) -> Result<(), StackError>
+    requires { find_function name.now (signature table.old) ≡ None }
+    ensures adds { OnOk result (Adds (declare (λ id. function_declaration id name.now rank.arguments rank.result body)) table.old tt table.new) }
+    ensures gained { OnOk result (HasGained table.old table.new) }
+    ensures causes { IfErr result (Causes (declare (λ id. function_declaration id name.now rank.arguments rank.result body)) table.old) }
+    ensures err { OnErr result (table.new ≡ table.old) }
+{
+    let _ = table.ids();
+    match table.add_function(alloc, name, rank, body) {
+        Ok(_) => Ok(()),
+        Err(error) => Err(add_error(error)),
+    }
+}
+
+fn is_zero(number: i128) -> bool
+    ensures { result ≡ int_eq number (pos 0) }
+{
+    number.unsigned_abs() == 0
+}
+
+fn declare_new_sort(alloc: Global, table: &mut Table, name: &[u8]) -> Result<(), StackError>
+    ensures adds { OnOk result (HasDeclared (declare_new_sort name.now) table.old table.new) }
+    ensures err { IfErr result (λ e. IsFailed (declare_new_sort name.now) e table.old table.new) }
+{
+    new_sort_name(alloc, name, table)?;
+    add_sort(alloc, table, name, None)?;
+    Ok(())
+}
+
+/// `(declare-sort name arity)`: only sorts without arguments are declared.
+pub(crate) fn declare_sort(
+    alloc: Global,
+    table: &mut Table,
+    name: &[u8],
+    arity: i128,
+) -> Result<Carried, StackError>
+    ensures { Declares (declare_sort name.now arity) table.old result table.new }
+{
+    if is_zero(arity) {
+        declare_new_sort(alloc, table, name)?;
+        Ok(Carried::Done)
+    } else {
+        Ok(Carried::Unsupported)
+    }
+}
+
+fn define_new_sort(
+    alloc: Global,
+    table: &mut Table,
+    name: &[u8],
+    sort: &WrittenSort,
+) -> Result<(), StackError>
+    ensures adds { OnOk result (HasDeclared (define_new_sort name.now sort.now) table.old table.new) }
+    ensures err { IfErr result (λ e. IsFailed (define_new_sort name.now sort.now) e table.old table.new) }
+{
+    new_sort_name(alloc, name, table)?;
+    let sort = judge_sort(alloc, sort, table)?;
+    add_sort(alloc, table, name, Some(sort))?;
+    Ok(())
+}
+
+/// `(define-sort name (parameter ..) sort)`: only sorts without parameters are defined.
+pub(crate) fn define_sort(
+    alloc: Global,
+    table: &mut Table,
+    name: &[u8],
+    parameters: &[Bytes],
+    sort: &WrittenSort,
+) -> Result<Carried, StackError>
+    ensures { Declares (define_sort name.now parameters.now sort.now) table.old result table.new }
+{
+    match parameters.split_first() {
+        Some(_) => Ok(Carried::Unsupported),
+        None => {
+            define_new_sort(alloc, table, name, sort)?;
+            Ok(Carried::Done)
+        }
+    }
+}
+
+/// `(declare-fun name (argument ..) sort)`
+pub(crate) fn declare_function(
+    alloc: Global,
+    table: &mut Table,
+    name: &[u8],
+    arguments: &[WrittenSort],
+    sort: &WrittenSort,
+) -> Result<Carried, StackError>
+    ensures { Declares (declare_function name.now arguments.now sort.now) table.old result table.new }
+{
+    new_function_name(alloc, name, table)?;
+    let arguments = judge_sorts(alloc, arguments, table)?;
+    let result = judge_sort(alloc, sort, table)?;
+    add_function(alloc, table, name, Rank { arguments, result }, None)?;
+    Ok(Carried::Done)
+}
+
+/// `(define-fun name (parameter ..) sort body)`
+pub(crate) fn define_function(
+    alloc: Global,
+    table: &mut Table,
+    name: &[u8],
+    parameters: &[Parameter],
+    sort: &WrittenSort,
+    body: &SExpr,
+) -> Result<Carried, StackError>
+    ensures { Declares (define_function name.now parameters.now sort.now body.now) table.old result table.new }
+{
+    new_function_name(alloc, name, table)?;
+    let parameters = judge_parameters(alloc, parameters, table)?;
+    let result = judge_sort(alloc, sort, table)?;
+    let body = judge_body(alloc, name, parameters.as_slice(), result, body, table)?;
+    let arguments = Seq::from_vec(sorts_of(alloc, parameters.as_slice())?);
+    add_function(alloc, table, name, Rank { arguments, result }, Some(body))?;
+    Ok(Carried::Done)
+}

@@ -1,0 +1,148 @@
+//! Judging the terms of commands.
+ghost use Rattle.std.specs.Prelude.{◌≡◌, ◌<◌, [], All, length, IfErr, IfOk, OnErr, OnOk};
+ghost use Rattle.elaborate.specs.Values.{IsLonger};
+ghost use Rattle.smt_meaning.specs.Sexp.{sexp};
+ghost use Rattle.smt_meaning.specs.Signature.{sort_eq};
+ghost use Rattle.smt_meaning.specs.Sorts.{done, judge};
+ghost use Rattle.smt_meaning.specs.StackCommand.{asserts, ask_terms, assert_term, in_question, judge_terms};
+ghost use Rattle.smt_meaning.specs.Term.{tree_at};
+ghost use Rattle.smt_sorts.specs.Names.{HasGained, Names};
+ghost use Rattle.scope_stack.specs.Judged.{AreJudged, IsCause, IsSameError, scope_by};
+ghost use Rattle.scope_stack.specs.Carries.{typed_by};
+ghost use Rattle.scope_stack.specs.declared.answers.Asked.{Asked};
+
+use crate::answers::{Asked, StackError};
+use elaborate::JudgeError;
+use smt_meaning::{Refusal, SExpr, Seq, Sort, TermId};
+use smt_sorts::Table;
+use std::alloc::Global;
+use term_store::TermStore;
+
+/// The error of a command whose term comes to this error.
+pub(crate) fn judge_error(error: JudgeError) -> StackError
+    ensures { IsSameError error result }
+{
+    match error {
+        JudgeError::Refused(refusal) => StackError::Refused(refusal),
+        JudgeError::Memory => StackError::Memory,
+    }
+}
+
+fn is_bool(sort: Sort) -> bool
+    ensures { result ≡ sort_eq sort Sort.Bool }
+{
+    match sort {
+        Sort::Bool => true,
+        Sort::Int | Sort::Free(_) => false,
+    }
+}
+
+/// Judges the term of `(assert term)`: its place among the terms. The newest level of the table gains the names that the term gives. An `Err`
+/// changes nothing.
+pub(crate) fn judge_assertion(
+    alloc: Global,
+    term: &SExpr,
+    table: &mut Table,
+    terms: &mut TermStore,
+) -> Result<TermId, StackError>
+    requires { terms.old.limit ≡ 4294967295 }
+    ensures gives { IfOk result (λ id. assert_term term.now (scope_by table.old terms.old.trees) ≡ done (asserts (record { text = term.now; term = tree_at terms.new.trees id })) (scope_by table.new terms.new.trees)) }
+    ensures place { IfOk result (λ id. id < length terms.new.trees) }
+    ensures gained { OnOk result (HasGained table.old table.new) }
+    ensures longer { OnOk result (IsLonger terms.old.trees terms.new.trees) }
+    ensures limit { terms.new.limit ≡ terms.old.limit }
+    ensures causes { IfErr result (λ e. IsCause e (assert_term term.now (scope_by table.old terms.old.trees))) }
+    ensures err { OnErr result ((table.new ≡ table.old) × (terms.new ≡ terms.old)) }
+{
+    let ids = table.ids();
+    let count = terms.len();
+    match elaborate::term(alloc, term, table, terms, true) {
+        Ok(judged) => {
+            let _ = terms.len();
+            if is_bool(judged.sort) {
+                return Ok(judged.id);
+            }
+            table.cut_ids(ids);
+            terms.cut(count);
+            Err(StackError::Refused(Refusal::NotBool))
+        }
+        Err(error) => Err(judge_error(error)),
+    }
+}
+
+/// Judges a term whose value is asked for. An `Err` changes nothing.
+fn judge_question(
+    alloc: Global,
+    text: &SExpr,
+    table: &mut Table,
+    terms: &mut TermStore,
+) -> Result<Asked, StackError>
+    ensures gives { IfOk result (λ a. judge in_question [] (sexp text.now) (scope_by table.old terms.old.trees) ≡ done (record { tree = tree_at terms.new.trees a.term; sort = a.sort }) (scope_by table.new terms.new.trees)) }
+    ensures place { IfOk result (λ a. a.term < length terms.new.trees) }
+    ensures gained { (t : Names) → HasGained t table.old → HasGained t table.new }
+    ensures longer { IsLonger terms.old.trees terms.new.trees }
+    ensures limit { terms.new.limit ≡ terms.old.limit }
+    ensures causes { IfErr result (λ e. IsCause e (judge in_question [] (sexp text.now) (scope_by table.old terms.old.trees))) }
+{
+    match elaborate::term(alloc, text, table, terms, false) {
+        Ok(judged) => Ok(Asked {
+            term: judged.id,
+            sort: judged.sort,
+        }),
+        Err(error) => Err(judge_error(error)),
+    }
+}
+
+fn judge_terms(
+    alloc: Global,
+    texts: &[SExpr],
+    table: &mut Table,
+    terms: &mut TermStore,
+) -> Result<Seq<Asked>, StackError>
+    ensures gives { IfOk result (λ a. judge_terms texts.now (scope_by table.old terms.old.trees) ≡ done (typed_by terms.new.trees a) (scope_by table.new terms.new.trees)) }
+    ensures within { IfOk result (All (λ (a : Asked). a.term < length terms.new.trees)) }
+    ensures gained { (t : Names) → HasGained t table.old → HasGained t table.new }
+    ensures longer { IsLonger terms.old.trees terms.new.trees }
+    ensures limit { terms.new.limit ≡ terms.old.limit }
+    ensures causes { IfErr result (λ e. IsCause e (judge_terms texts.now (scope_by table.old terms.old.trees))) }
+{
+    let mut asked = Seq::new(alloc);
+    let mut rest = texts;
+    while let Some((first, tail)) = rest.split_first() {
+        let question = judge_question(alloc, first, table, terms)?;
+        asked.push(question)?;
+        rest = tail;
+    }
+    Ok(asked)
+}
+
+/// Judges the terms whose values are asked for. Their trees stay among the terms. An `Err` changes nothing.
+pub(crate) fn judge_questions(
+    alloc: Global,
+    texts: &[SExpr],
+    table: &mut Table,
+    terms: &mut TermStore,
+) -> Result<Seq<Asked>, StackError>
+    requires { terms.old.limit ≡ 4294967295 }
+    ensures gives { IfOk result (λ a. AreJudged texts.now (scope_by table.old terms.old.trees) a terms.new.trees) }
+    ensures table { table.new ≡ table.old }
+    ensures longer { OnOk result (IsLonger terms.old.trees terms.new.trees) }
+    ensures limit { terms.new.limit ≡ terms.old.limit }
+    ensures causes { IfErr result (λ e. IsCause e (ask_terms texts.now (scope_by table.old terms.old.trees))) }
+    ensures err { OnErr result (terms.new ≡ terms.old) }
+{
+    let ids = table.ids();
+    let count = terms.len();
+    match judge_terms(alloc, texts, table, terms) {
+        Ok(asked) => {
+            let _ = terms.len();
+            table.cut_ids(ids);
+            Ok(asked)
+        }
+        Err(error) => {
+            table.cut_ids(ids);
+            terms.cut(count);
+            Err(error)
+        }
+    }
+}
