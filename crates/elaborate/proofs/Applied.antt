@@ -10,13 +10,13 @@ use Rattle.smt_meaning.specs.declared.refusals.Refusal.{Refusal}
 use Rattle.smt_meaning.specs.declared.refusals.Refusal.TheVariants.{ArgumentCount, SortsDiffer, NotLinear}
 use Rattle.smt_meaning.specs.Declaration.{Declaration, Body}
 use Rattle.smt_meaning.specs.Term.{Tree, Trees, node, none, tree_at}
-use Rattle.smt_meaning.specs.TreeShape.{is_linear, are_linear, is_linear_at, with_parts}
+use Rattle.smt_meaning.specs.TreeShape.{are_linear, is_linear_at, with_parts}
 use Rattle.smt_meaning.specs.Signature.{takes, stands_with, operator_sort, sorts_eq}
-use Rattle.smt_meaning.specs.Sorts.{Scope, Outcome, done, refused, Judging, go_on, ◌>>=◌, ◌>>◌, return, refuse, require, required, note, found, trees_of, sorts_of, Typed, Rules, operator, function, applied, applied_trees, all_are_linear, judge_symbol, judge_operator, judge_application, judge_bare}
+use Rattle.smt_meaning.specs.Sorts.{Scope, done, refused, Judging, ◌>>=◌, ◌>>◌, return, refuse, require, required, note, found, trees_of, sorts_of, Typed, Rules, operator, function, judge_symbol, judge_operator, judge_application, judge_bare}
 use Rattle.elaborate.specs.declared.value.Value.{Value}
 use Rattle.elaborate.specs.declared.error.JudgeError.{JudgeError}
 use Rattle.elaborate.specs.declared.error.JudgeError.TheVariants.{Refused, Memory}
-use Rattle.elaborate.specs.Values.{sort_of, typed, IsValue, AreValues, IsNode, Comes, IsErrorOf, is_linear_here, all_linear}
+use Rattle.elaborate.specs.Values.{sort_of, typed, AreValues, IsNode, Comes, IsErrorOf, is_linear_here, all_linear}
 use Rattle.elaborate.proofs.Stored.{linear_here, linears}
 
 abbrev at : Scope → List Tree → Scope

@@ -1,5 +1,5 @@
 -- Flags of the values of a list, met one after another.
-use Rattle.std.proofs.Common.{◌≡◌, ℕ, ◌+◌, ◌<◌, List, ◌∷◌, suc, length, get_or, drop, ap, sym, ◌∙◌, refl, add-one, Bool, true, false, ◌&&◌}
+use Rattle.std.proofs.Common.{◌≡◌, ℕ, ◌+◌, ◌<◌, List, ◌∷◌, suc, length, get_or, drop, ap, sym, ◌∙◌, add-one, Bool, true, false, ◌&&◌}
 use Rattle.std.proofs.Math.Seq.{drop-cons}
 
 pub drop_here : {X : Type 0} (xs : List X) (i : ℕ) (x : X) → i < length xs → get_or xs i x ≡ x → drop i xs ≡ x ∷ drop (i + 1) xs

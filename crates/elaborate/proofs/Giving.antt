@@ -1,5 +1,5 @@
 -- A term is given to the innermost open term.
-use Rattle.std.proofs.Common.{◌≡◌, ℕ, List, [], ◌∷◌, ◌++◌, take, drop, map, ap, sym, subst, ◌∙◌, refl, Option, Some, None}
+use Rattle.std.proofs.Common.{◌≡◌, ℕ, List, [], ◌∷◌, ◌++◌, map, ap, sym, subst, ◌∙◌, refl, Option, Some, None}
 use Rattle.std.proofs.lemmas.List.{map-append}
 use Rattle.smt_meaning.specs.declared.tokens.Token.{Token}
 use Rattle.smt_meaning.specs.declared.terms.Operator.{Operator}
@@ -13,7 +13,7 @@ use Rattle.elaborate.specs.declared.frame.Frame.{Frame}
 use Rattle.elaborate.specs.declared.frame.Frame.TheVariants.{Application, Bound, BoundTo, Body, Done, Annotation, Attributes}
 use Rattle.elaborate.specs.declared.frame.Walk.{Walk}
 use Rattle.elaborate.specs.Values.{typed, IsValue, AreValues}
-use Rattle.elaborate.specs.Frames.{frame_of, outside, frames_of, stack_of, walk_of, AreBound, Holds, AllHold, AnswerHolds, Stands}
+use Rattle.elaborate.specs.Frames.{frame_of, outside, frames_of, stack_of, AreBound, AllHold, AnswerHolds}
 use Rattle.elaborate.specs.Steps.{IsGiven, Given}
 use Rattle.elaborate.proofs.Grow.{bound_outside}
 

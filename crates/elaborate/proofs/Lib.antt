@@ -9,3 +9,4 @@ pub mod Giving
 pub mod Moves
 pub mod Heads
 pub mod Runs
+pub mod Lets

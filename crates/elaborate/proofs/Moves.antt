@@ -4,14 +4,13 @@ use Rattle.std.specs.Prelude.{Result, Ok, Err, OnOk, OnErr, nat_eq, if◌then◌
 use Rattle.std.proofs.lemmas.Bool.Decides.{nat_tests}
 use Rattle.std.proofs.lemmas.List.{map-append, take-append-drop}
 use Rattle.smt_meaning.specs.declared.tokens.Token.{Token}
-use Rattle.smt_meaning.specs.declared.refusals.Refusal.{Refusal}
 use Rattle.smt_meaning.specs.declared.refusals.Refusal.TheVariants.{WrongArguments}
 use Rattle.smt_meaning.specs.declared.terms.Operator.{Operator}
 use Rattle.smt_meaning.specs.Term.{Tree}
 use Rattle.smt_meaning.specs.Sexp.{Sexps}
 use Rattle.smt_meaning.specs.Signature.{find_function}
-use Rattle.smt_meaning.specs.Sorts.{Scope, Outcome, done, refused, Judging, go_on, ◌>>=◌, ◌>>◌, return, refuse, Typed, Variable, Rules, known_symbol, judge_token, judge_application}
-use Rattle.term_walk.specs.Walk.{Frame as Meant, whole, answer, opened, application, bindings, binding_open, body, result, attributes, variables, given as given_to, give as given_all, on_enter, on_leave, on_words, on_head}
+use Rattle.smt_meaning.specs.Sorts.{Scope, Outcome, done, refused, Judging, go_on, ◌>>=◌, return, refuse, Typed, Rules, known_symbol, judge_token, judge_application}
+use Rattle.term_walk.specs.Walk.{Frame as Meant, whole, opened, variables, given as given_to, give as given_all, on_enter, on_leave, on_words, on_head}
 use Rattle.elaborate.specs.declared.value.Value.{Value}
 use Rattle.elaborate.specs.declared.frame.Binding.{Binding as Pair}
 use Rattle.elaborate.specs.declared.frame.Frame.{Frame}
@@ -19,7 +18,7 @@ use Rattle.elaborate.specs.declared.frame.Frame.TheVariants.{Opened, Application
 use Rattle.elaborate.specs.declared.frame.Walk.{Walk}
 use Rattle.elaborate.specs.declared.error.JudgeError.{JudgeError}
 use Rattle.elaborate.specs.declared.error.JudgeError.TheVariants.{Refused, Memory}
-use Rattle.elaborate.specs.Values.{typed, IsValue, AreValues, IsLonger, Comes}
+use Rattle.elaborate.specs.Values.{typed, AreValues, IsLonger, Comes}
 use Rattle.elaborate.specs.Frames.{variable_at, frame_of, outside, frames_of, stack_of, walk_of, AreBound, Holds, AllHold, AnswerHolds, Stands}
 use Rattle.elaborate.specs.Steps.{kind_of, attribute_kind, is_answered, is_past, awaits_term, is_argument, is_head, takes_list, takes_word, may_end, Given, StepComes, IsFrame, FrameComes}
 use Rattle.elaborate.proofs.Grow.{Grown, walk_same, stands_grows}
@@ -64,10 +63,10 @@ pub none_may_end : (o : Option Value) (fs : List Frame) → may_end (kind_of o f
 none_may_end None fs e = refl
 none_may_end (Some v) fs e = absurd (cc)
 
-not_zero : (d : ℕ) → nat_eq (suc d) 0 ≡ false
+pub not_zero : (d : ℕ) → nat_eq (suc d) 0 ≡ false
 not_zero d = grind (arith, nat_tests)
 
-no : false ≡ true → ⊥
+pub no : false ≡ true → ⊥
 no e = cc
 
 -- an attribute's kind is none of these
@@ -93,11 +92,11 @@ grown_trees s us l = record { trees = l; added = []; signature = sym (append-nil
 
 -- ---- results
 
-step_memory : (m : Judging (List Meant)) (s : Scope) (tokens : List Token) (u : Scope) (w : Walk) (e : JudgeError) → e ≡ Memory → StepComes m s tokens u w (Err e)
+pub step_memory : (m : Judging (List Meant)) (s : Scope) (tokens : List Token) (u : Scope) (w : Walk) (e : JudgeError) → e ≡ Memory → StepComes m s tokens u w (Err e)
 step_memory m s tokens u w (Refused r) h = absurd (cc)
 step_memory m s tokens u w Memory h = tt
 
-error_is : (e : JudgeError) → (let x : Result (Unit {0}) JudgeError = Err e in x ≡ Err Memory) → e ≡ Memory
+pub error_is : (e : JudgeError) → (let x : Result (Unit {0}) JudgeError = Err e in x ≡ Err Memory) → e ≡ Memory
 error_is e h = cc
 
 pub settled : (m : Judging (List Meant)) (s : Scope) (tokens : List Token) (u : Scope) (w : Walk) (y : Result (Unit {0}) JudgeError) (P : Type 0) → OnOk y P → OnErr y (y ≡ Err Memory)

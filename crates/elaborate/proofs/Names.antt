@@ -1,22 +1,22 @@
 -- Terms of one token.
 use Rattle.std.proofs.Common.{◌≡◌, ℕ, List, [], ◌∷◌, map, ap, sym, subst, ◌∙◌, refl, Bool, true, false, Option, Some, None}
-use Rattle.std.specs.Prelude.{if◌then◌else◌, bytes_eq, ℤ, pos, Result, Ok, Err, IfOk, OnErr}
+use Rattle.std.specs.Prelude.{if◌then◌else◌, bytes_eq, pos, Result, Ok, Err, IfOk, OnErr}
 use Rattle.smt_meaning.specs.declared.tokens.Token.{Token}
-use Rattle.smt_meaning.specs.declared.tokens.Token.TheVariants.{Enter, Leave, Symbol, Numeral, Decimal, Hex, Binary, Text, Reserved, Keyword}
+use Rattle.smt_meaning.specs.declared.tokens.Token.TheVariants.{Enter, Leave, Symbol, Decimal, Hex, Binary, Text, Reserved, Keyword}
 use Rattle.smt_meaning.specs.declared.tokens.Word.{Word}
 use Rattle.smt_meaning.specs.declared.terms.Operator.{Operator}
 use Rattle.smt_meaning.specs.declared.terms.Head.{Head}
 use Rattle.smt_meaning.specs.declared.terms.Head.TheVariants.{Numeral as Number}
 use Rattle.smt_meaning.specs.declared.values.Sort.TheVariants.{Int as Ints}
-use Rattle.smt_meaning.specs.declared.refusals.Refusal.TheVariants.{NumeralTooLarge, UnknownSymbol, ArgumentCount, WrongArguments}
+use Rattle.smt_meaning.specs.declared.refusals.Refusal.TheVariants.{NumeralTooLarge, UnknownSymbol, WrongArguments}
 use Rattle.smt_meaning.specs.Declaration.{Declaration}
 use Rattle.smt_meaning.specs.Term.{Tree, node, none}
 use Rattle.smt_meaning.specs.Signature.{look_up, operators, find_function}
-use Rattle.smt_meaning.specs.Sorts.{Scope, done, refused, Judging, ◌>>=◌, ◌>>◌, return, refuse, require, note, found, the_scope, Typed, Variable, Rules, Known, variable, operator, function, unknown, find_variable, known, known_name, known_symbol, decimal, is_small, judge_bare, judge_application, judge_numeral, judge_token}
+use Rattle.smt_meaning.specs.Sorts.{Scope, done, refused, ◌>>=◌, ◌>>◌, return, refuse, require, note, found, the_scope, Typed, Variable, Rules, Known, variable, operator, function, unknown, find_variable, known, known_name, known_symbol, is_small, judge_bare, judge_application, judge_numeral, judge_token}
 use Rattle.elaborate.specs.declared.value.Value.{Value}
 use Rattle.elaborate.specs.declared.frame.Binding.{Binding}
 use Rattle.elaborate.specs.declared.error.JudgeError.{JudgeError}
-use Rattle.elaborate.specs.declared.error.JudgeError.TheVariants.{Refused, Memory}
+use Rattle.elaborate.specs.declared.error.JudgeError.TheVariants.{Memory}
 use Rattle.elaborate.specs.Values.{typed, IsValue, IsNode, Comes, IsErrorOf}
 use Rattle.elaborate.specs.Frames.{find_value, variable_at, AreBound}
 use Rattle.elaborate.proofs.Applied.{comes_err, comes_same, memory_err, error_is, node_is}

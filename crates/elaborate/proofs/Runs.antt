@@ -1,13 +1,12 @@
 -- All tokens of a term.
-use Rattle.std.proofs.Common.{◌≡◌, ℕ, ◌+◌, ◌<◌, ◌≤◌, List, [], ◌∷◌, ◌++◌, length, drop, map, zero, suc, take, append-nil, append_assoc, arith, ap, sym, subst, ◌∙◌, refl, Option, Some, None}
+use Rattle.std.proofs.Common.{◌≡◌, ℕ, ◌+◌, ◌<◌, List, [], ◌∷◌, ◌++◌, length, drop, map, zero, suc, take, append-nil, append_assoc, arith, ap, sym, subst, ◌∙◌, refl, Option, Some, None}
 use Rattle.std.specs.Prelude.{Result, Ok, Err}
 use Rattle.smt_meaning.specs.declared.tokens.Token.{Token}
 use Rattle.smt_meaning.specs.declared.tokens.Token.TheVariants.{Enter, Leave, Numeral, Decimal, Hex, Binary, Text, Symbol, Reserved, Keyword}
-use Rattle.smt_meaning.specs.declared.refusals.Refusal.{Refusal}
 use Rattle.smt_meaning.specs.declared.refusals.Refusal.TheVariants.{WrongArguments}
 use Rattle.smt_meaning.specs.Term.{Tree}
 use Rattle.smt_meaning.specs.Sexp.{Sexps, open_lists_of, sexp, IsSexp}
-use Rattle.smt_meaning.specs.Sorts.{Scope, Outcome, done, refused, Judging, go_on, ◌>>=◌, return, refuse, Typed, Variable, Rules, judge}
+use Rattle.smt_meaning.specs.Sorts.{Scope, Outcome, done, refused, Judging, go_on, ◌>>=◌, return, refuse, Typed, Rules, judge}
 use Rattle.term_walk.specs.Walk.{Frame as Meant, whole, on_enter, on_leave, on_words, first_list, step, run, finish}
 use Rattle.term_walk.specs.Laws.{WalkGivesTheJudgement}
 use Rattle.elaborate.specs.declared.value.Value.{Value}
@@ -21,8 +20,8 @@ use Rattle.elaborate.specs.declared.steps.Class.TheVariants.{Opening, Closing, W
 use Rattle.term_store.specs.Terms.{Terms}
 use Rattle.std.proofs.lemmas.List.{take_at}
 use Rattle.elaborate.specs.Judged.{IsCauseOf}
-use Rattle.elaborate.specs.Values.{typed, IsValue, IsLonger, HasGrown, Comes}
-use Rattle.elaborate.specs.Frames.{variable_at, frames_of, stack_of, walk_of, AreBound, AnswerHolds, AllHold, Stands}
+use Rattle.elaborate.specs.Values.{typed, HasGrown, Comes}
+use Rattle.elaborate.specs.Frames.{variable_at, frames_of, stack_of, walk_of, AnswerHolds, Stands}
 use Rattle.elaborate.specs.Steps.{class_of, StepComes}
 
 same_step : (m n : Judging (List Meant)) (s : Scope) (tokens : List Token) (u : Scope) (w : Walk) (y : Result (Unit {0}) JudgeError) → m ≡ n → StepComes n s tokens u w y → StepComes m s tokens u w y

@@ -1,17 +1,17 @@
 -- One term more.
-use Rattle.std.proofs.Common.{◌≡◌, ℕ, ◌+◌, ◌<◌, List, [], ◌∷◌, ◌++◌, length, get_or, ap, sym, subst, ◌∙◌, refl, Bool, true, false, ◌&&◌, All, map, append-nil, arith}
+use Rattle.std.proofs.Common.{◌≡◌, ℕ, ◌<◌, List, [], ◌∷◌, ◌++◌, length, ap, sym, ◌∙◌, refl, Bool, true, false, ◌&&◌, All, map, append-nil}
 use Rattle.std.specs.Prelude.{if◌then◌else◌}
 use Rattle.std.proofs.lemmas.List.Elements.{All-nil, All-cons}
 use Rattle.smt_meaning.specs.declared.values.Sort.{Sort}
 use Rattle.smt_meaning.specs.declared.terms.Head.{Head}
 use Rattle.smt_meaning.specs.declared.terms.Head.TheVariants.{Numeral, Theory, Symbol, Place}
 use Rattle.smt_meaning.specs.declared.terms.Operator.TheVariants.{True, False, Not, And, Or, Xor, Implies, Equal, Distinct, Ite, Add, Subtract, Multiply, AtMost, Less, AtLeast, Greater}
-use Rattle.smt_meaning.specs.Term.{Tree, Trees, node, none, more, tree_at}
+use Rattle.smt_meaning.specs.Term.{Tree, node, more, tree_at}
 use Rattle.smt_meaning.specs.TreeShape.{is_constant, are_constant, is_linear, are_linear, is_constant_head, is_linear_at, at_most_one_varies, is_among, with_tree, with_parts}
 use Rattle.smt_meaning.specs.Nodes.{pick}
 use Rattle.smt_meaning.specs.Sorts.{trees_of}
 use Rattle.elaborate.specs.declared.value.Value.{Value}
-use Rattle.elaborate.specs.Values.{id_of, typed, IsValue, AreValues, IsLonger, all_constant, all_linear, one_varies, is_linear_here, IsNode}
+use Rattle.elaborate.specs.Values.{id_of, typed, AreValues, IsLonger, all_constant, all_linear, one_varies, is_linear_here, IsNode}
 
 pub ids_below : (ts : List Tree) (vs : List Value) → AreValues ts vs → All (λ i. i < length ts) (map id_of vs)
 ids_below ts [] h = All-nil (λ i. i < length ts)

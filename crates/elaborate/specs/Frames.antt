@@ -1,13 +1,12 @@
 -- What the frames of the reading of a term stand for.
-use Rattle.std.specs.Prelude.{◌≡◌, ℕ, Bool, List, [], ◌∷◌, map, take, drop, Option, Some, None, if◌then◌else◌, bytes_eq}
+use Rattle.std.specs.Prelude.{ℕ, Bool, List, [], ◌∷◌, map, take, drop, Option, Some, None, if◌then◌else◌, bytes_eq}
 use Rattle.smt_meaning.specs.declared.tokens.Token.{Token}
-use Rattle.smt_meaning.specs.declared.refusals.Refusal.{Refusal}
 use Rattle.smt_meaning.specs.declared.terms.Operator.{Operator}
 use Rattle.smt_meaning.specs.Declaration.{Declaration}
 use Rattle.smt_meaning.specs.Term.{Tree}
 use Rattle.smt_meaning.specs.Sexp.{open_lists_of}
 use Rattle.smt_meaning.specs.Signature.{find_function}
-use Rattle.smt_meaning.specs.Sorts.{Scope, Outcome, done, refused, Judging, Typed, Variable, known_symbol}
+use Rattle.smt_meaning.specs.Sorts.{Scope, Variable, known_symbol}
 use Rattle.term_walk.specs.Walk.{Frame as Meant, whole, answer, opened, application, let_open, bindings, binding_open, binding, bound_to, body, result, annotation, attributes, naming, has_free_first, first_list}
 use Rattle.elaborate.specs.declared.value.Value.{Value}
 use Rattle.elaborate.specs.declared.frame.Binding.{Binding}

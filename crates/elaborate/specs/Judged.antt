@@ -1,6 +1,5 @@
 -- What judging a term comes to.
-use Rattle.std.specs.Prelude.{◌≡◌, ℕ, ◌+◌, true, false, Bool, List, [], ◌∷◌}
-use Rattle.smt_meaning.specs.declared.refusals.Refusal.{Refusal}
+use Rattle.std.specs.Prelude.{◌≡◌, ℕ, ◌+◌, true, Bool, List, [], ◌∷◌}
 use Rattle.smt_meaning.specs.declared.terms.Head.TheVariants.{Place}
 use Rattle.smt_meaning.specs.Term.{Tree, node, none, tree_at}
 use Rattle.smt_meaning.specs.Sorts.{Scope, Outcome, refused, Typed, Variable, Rules}

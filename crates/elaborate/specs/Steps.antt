@@ -1,7 +1,8 @@
 -- The steps of the reading of a term.
-use Rattle.std.specs.Prelude.{◌≡◌, ℕ, zero, suc, Bool, true, false, List, [], ◌∷◌, Option, Some, None, nat_eq, if◌then◌else◌, Result, Ok, Err}
+use Rattle.std.specs.Prelude.{◌≡◌, ℕ, Bool, true, false, List, [], ◌∷◌, Option, Some, None, nat_eq, if◌then◌else◌, bytes_eq, codes, Result, Ok, Err}
 use Rattle.smt_meaning.specs.declared.tokens.Token.{Token}
-use Rattle.smt_meaning.specs.declared.tokens.Token.TheVariants.{Enter, Leave}
+use Rattle.smt_meaning.specs.declared.tokens.Token.TheVariants.{Enter, Leave, Symbol, Keyword}
+use Rattle.smt_meaning.specs.declared.refusals.Refusal.TheVariants.{WrongArguments}
 use Rattle.smt_meaning.specs.Sexp.{Sexps}
 use Rattle.smt_meaning.specs.Sorts.{Scope, done, refused, Judging}
 use Rattle.term_walk.specs.Walk.{Frame as Meant, given as given_to, give as given_all, check_let, check_annotation}
@@ -135,3 +136,17 @@ abbrev pub IsAnnotationHead : Sexps → ℕ → Result Frame JudgeError → Type
 IsAnnotationHead l p (Ok g) = (g ≡ Annotation p) × ((s : Scope) → check_annotation l s ≡ done tt s)
 IsAnnotationHead l p (Err (Refused r)) = (s : Scope) → check_annotation l s ≡ refused r
 IsAnnotationHead l p (Err Memory) = Unit {0}
+
+-- a keyword that names a term
+abbrev pub is_named : Token → Bool
+is_named (Keyword k) = bytes_eq k (codes "named")
+is_named _ = false
+
+abbrev pub is_symbol : Token → Bool
+is_symbol (Symbol n) = true
+is_symbol _ = false
+
+-- the token is no name
+abbrev pub IsNoName : Token → JudgeError → Type 0
+IsNoName t (Refused r) = (is_symbol t ≡ false) × (r ≡ WrongArguments)
+IsNoName t Memory = Unit {0}

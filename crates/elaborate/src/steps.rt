@@ -14,6 +14,7 @@ ghost use Rattle.elaborate.specs.Steps.{class_of, kind_of, awaits_term, is_argum
 
 use crate::apply::{Rules, apply_name};
 use crate::error::JudgeError;
+use crate::forms::{leave_form, word_form};
 use crate::frame::{Frame, Walk};
 use crate::head::list_head;
 use crate::token::judge_token;
@@ -157,7 +158,7 @@ fn leave(
         return leave_application(alloc, rules, walk, table, store);
     }
     if may_end(kind) {
-        return Err(JudgeError::Memory);
+        return leave_form(walk);
     }
     Err(JudgeError::Refused(Refusal::WrongArguments))
 }
@@ -225,7 +226,7 @@ fn word(
         return head(alloc, rules, term, ends, place, token, walk, table);
     }
     if takes_word(kind) {
-        return Err(JudgeError::Memory);
+        return word_form(alloc, token, walk);
     }
     Err(JudgeError::Refused(Refusal::WrongArguments))
 }

@@ -99,10 +99,13 @@ pub fn declare_sort(
     let Some(digits) = arguments.numeral() else {
         return Ok(Err(Refusal::WrongArguments));
     };
-    if !arguments.is_end() {
-        return Ok(Err(Refusal::WrongArguments));
+    let declared = sort_declaration(Seq::copy(alloc, name)?, digits);
+    let whole = arguments.is_end();
+    if whole {
+        Ok(declared)
+    } else {
+        Ok(Err(Refusal::WrongArguments))
     }
-    Ok(sort_declaration(Seq::copy(alloc, name)?, digits))
 }
 
 /// The command `declare-sort` with a name and the digits of an arity.

@@ -82,11 +82,7 @@ fn only_value(mut arguments: Arguments<'_>) -> Option<Option<TokenView<'_>>>
         return None;
     }
     arguments.skip();
-    if arguments.is_end() {
-        Some(value)
-    } else {
-        None
-    }
+    arguments.is_end().then_some(value)
 }
 
 /// An option with its value: a token, or `None` for a list.

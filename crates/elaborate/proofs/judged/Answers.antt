@@ -1,4 +1,4 @@
-use Rattle.std.proofs.Common.{[], map, ap, sym, subst}
+use Rattle.std.proofs.Common.{map, sym, subst}
 use Rattle.smt_meaning.specs.Sexp.{sexp}
 use Rattle.smt_meaning.specs.Sorts.{judge}
 use Rattle.elaborate.specs.Judged.{scope_of, rules_of}

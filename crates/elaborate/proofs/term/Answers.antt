@@ -1,7 +1,7 @@
 use Rattle.elaborate.specs.Judged.{scope_of, rules_of}
 use Rattle.smt_meaning.specs.Sexp.{sexp}
 use Rattle.smt_meaning.specs.Sorts.{judge}
-use Rattle.std.proofs.Common.{[], refl, sym, true}
+use Rattle.std.proofs.Common.{[], refl, true}
 use Rattle.elaborate.proofs.Runs.{cut_back, cause_of}
 use Rattle.elaborate.proofs.term.Goals as goal
 

@@ -1,4 +1,4 @@
-use Rattle.std.proofs.Common.{◌≡◌, ◌∙◌, ◌&&◌, sym, ap, length, nat_eq, Bool, true, false, map, List}
+use Rattle.std.proofs.Common.{◌≡◌, ◌∙◌, ◌&&◌, sym, ap, length, nat_eq, true, false, map, List}
 use Rattle.std.specs.Prelude.{nat_le}
 use Rattle.smt_meaning.specs.declared.values.Sort.{Sort}
 use Rattle.smt_meaning.specs.declared.declarations.Rank.{Rank}

@@ -1,4 +1,4 @@
-use Rattle.std.proofs.Common.{◌≡◌, ◌∙◌, sym, ap, length, nat_eq, true, false}
+use Rattle.std.proofs.Common.{◌≡◌, ◌∙◌, sym, ap, length, nat_eq}
 use Rattle.smt_meaning.specs.declared.declarations.Rank.{Rank}
 use Rattle.elaborate.specs.Judged.{scope_of, rules_of}
 use Rattle.elaborate.proofs.Applied.{bare_count, bare_applied}

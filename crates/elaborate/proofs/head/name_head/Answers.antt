@@ -1,4 +1,4 @@
-use Rattle.std.proofs.Common.{◌≡◌, ◌∙◌, sym, ap, None}
+use Rattle.std.proofs.Common.{◌∙◌, sym, ap}
 use Rattle.elaborate.specs.Judged.{scope_of, rules_of}
 use Rattle.elaborate.specs.Frames.{find_value}
 use Rattle.elaborate.proofs.Heads.{head_variable, head_operator, head_function, head_unknown}

@@ -1,4 +1,4 @@
-use Rattle.std.proofs.Common.{refl, arith}
+use Rattle.std.proofs.Common.{arith}
 use Rattle.term_walk.specs.Walk.{on_enter}
 use Rattle.elaborate.specs.declared.frame.Frame.TheVariants.{LetOpen, Bindings, BindingOpen, Attributes}
 use Rattle.elaborate.proofs.Moves.{replaced_push, top_is, no_bindings, enter_let, enter_binding, enter_value}

@@ -1,4 +1,3 @@
-use Rattle.std.proofs.Common.{ap, sym, ◌∙◌}
 use Rattle.smt_meaning.specs.Seen.{seen}
 use Rattle.look_ahead.specs.Ahead.{ahead}
 use Rattle.elaborate.specs.Judged.{scope_of, rules_of}

@@ -1,7 +1,7 @@
 use Rattle.std.proofs.Common.{ap, sym, ◌∙◌}
 use Rattle.elaborate.specs.Judged.{scope_of, rules_of}
 use Rattle.elaborate.specs.Steps.{is_answered, is_argument, may_end}
-use Rattle.elaborate.proofs.Moves.{leave_answered, leave_refused}
+use Rattle.elaborate.proofs.Moves.{none_may_end, leave_answered, leave_refused}
 use Rattle.elaborate.proofs.steps.leave.Goals as goal
 
 pub returns-then-is_answered-clause-comes : goal.returns-then-is_answered-clause-comes
@@ -12,3 +12,9 @@ leave_application-requires-clause-kind c = (ap is_argument (sym c.what_comes-kin
 
 pub returns-clause-comes : goal.returns-clause-comes
 returns-clause-comes c = λ tokens. leave_refused (rules_of c.args.rules) tokens (scope_of c.args.table.now c.args.store.now.trees) c.args.walk.now.answer c.args.walk.now.bindings c.args.walk.now.frames (ap is_answered (sym c.what_comes-kind.ensures) ∙ sym c.is_answered.ensures ∙ c.if-is_answered.false) (ap is_argument (sym c.what_comes-kind.ensures) ∙ sym c.is_argument.ensures ∙ c.if-is_argument.false) (ap may_end (sym c.what_comes-kind.ensures) ∙ sym c.may_end.ensures ∙ c.if-may_end.false)
+
+pub leave_form-requires : goal.leave_form-requires
+leave_form-requires c = record { none = none_may_end c.args.walk.now.answer c.args.walk.now.frames (ap may_end (sym c.what_comes-kind.ensures) ∙ sym c.may_end.ensures ∙ c.if-may_end.true) }
+
+pub returns-then-may_end-clause-comes : goal.returns-then-may_end-clause-comes
+returns-then-may_end-clause-comes c = λ tokens. c.leave_form.ensures tokens (scope_of c.args.table.now c.args.store.now.trees) (rules_of c.args.rules) c.requires.stands

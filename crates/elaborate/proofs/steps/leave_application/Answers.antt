@@ -1,4 +1,3 @@
-use Rattle.std.proofs.Common.{ap, ◌∙◌}
 use Rattle.elaborate.specs.declared.frame.Frame.TheVariants.{Application}
 use Rattle.elaborate.specs.Judged.{scope_of, rules_of}
 use Rattle.elaborate.proofs.Moves.{popped, top_is, top_values, none_is_argument, leave_given, leave_not}

@@ -1,4 +1,4 @@
-use Rattle.std.proofs.Common.{ap, sym, ◌∙◌}
+use Rattle.std.proofs.Common.{sym}
 use Rattle.smt_meaning.specs.Sexp.{open_lists_of}
 use Rattle.smt_meaning.specs.Seen.{seen}
 use Rattle.std.proofs.Common.{drop, ◌+◌}

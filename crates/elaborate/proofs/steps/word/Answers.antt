@@ -3,7 +3,7 @@ use Rattle.smt_meaning.specs.Seen.{seen}
 use Rattle.look_ahead.specs.Ahead.{ahead}
 use Rattle.elaborate.specs.Judged.{scope_of, rules_of}
 use Rattle.elaborate.specs.Steps.{is_past, awaits_term, is_head, takes_word}
-use Rattle.elaborate.proofs.Moves.{word_past, word_wrong}
+use Rattle.elaborate.proofs.Moves.{none_takes_word, word_past, word_wrong}
 use Rattle.elaborate.proofs.steps.word.Goals as goal
 
 pub returns-then-is_past-clause-comes : goal.returns-then-is_past-clause-comes
@@ -24,3 +24,12 @@ returns-then-is_head-clause-comes c = c.head.ensures c.args.store.now.trees c.re
 pub returns-clause-comes : goal.returns-clause-comes
 returns-clause-comes c =
     word_wrong (rules_of c.args.rules) c.args.term.now (scope_of c.args.table.now c.args.store.now.trees) c.args.walk.now.answer c.args.walk.now.bindings c.args.walk.now.frames (seen c.args.token) (ahead c.args.term.now c.args.place) (ap is_past (sym c.what_comes-kind.ensures) ∙ sym c.is_past.ensures ∙ c.if-is_past.false) (ap awaits_term (sym c.what_comes-kind.ensures) ∙ sym c.awaits_term.ensures ∙ c.if-awaits_term.false) (ap is_head (sym c.what_comes-kind.ensures) ∙ sym c.is_head.ensures ∙ c.if-is_head.false) (ap takes_word (sym c.what_comes-kind.ensures) ∙ sym c.takes_word.ensures ∙ c.if-takes_word.false)
+
+pub word_form-requires-clause-kind : goal.word_form-requires-clause-kind
+word_form-requires-clause-kind c = (ap takes_word (sym c.what_comes-kind.ensures) ∙ sym c.takes_word.ensures ∙ c.if-takes_word.true)
+
+pub word_form-requires-clause-none : goal.word_form-requires-clause-none
+word_form-requires-clause-none c = none_takes_word c.args.walk.now.answer c.args.walk.now.frames (ap takes_word (sym c.what_comes-kind.ensures) ∙ sym c.takes_word.ensures ∙ c.if-takes_word.true)
+
+pub returns-then-takes_word-clause-comes : goal.returns-then-takes_word-clause-comes
+returns-then-takes_word-clause-comes c = c.word_form.ensures c.args.term.now (scope_of c.args.table.now c.args.store.now.trees) (rules_of c.args.rules) (ahead c.args.term.now c.args.place) c.requires.stands

@@ -1,4 +1,4 @@
-use Rattle.std.proofs.Common.{◌∙◌, sym, ap}
+use Rattle.std.proofs.Common.{sym}
 use Rattle.elaborate.specs.Judged.{scope_of, rules_of}
 use Rattle.elaborate.proofs.Names.{free_operator, free_function, free_unknown}
 use Rattle.elaborate.proofs.token.judge_free.Goals as goal

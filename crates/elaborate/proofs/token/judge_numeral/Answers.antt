@@ -1,4 +1,3 @@
-use Rattle.std.proofs.Common.{◌∙◌, sym}
 use Rattle.smt_meaning.specs.Sorts.{decimal}
 use Rattle.elaborate.specs.Judged.{scope_of}
 use Rattle.elaborate.proofs.Names.{numeral_large, numeral_result}

@@ -1,7 +1,5 @@
-use Rattle.std.proofs.Common.{◌<◌, length, All, ap, sym, subst, ◌∙◌, refl}
-use Rattle.smt_meaning.specs.Nodes.{pick}
-use Rattle.term_store.specs.Terms.{Terms}
-use Rattle.elaborate.proofs.Stored.{ids_below, node_done, longer_with, longer_self}
+use Rattle.std.proofs.Common.{◌<◌, length, All, sym, subst, ◌∙◌, refl}
+use Rattle.elaborate.proofs.Stored.{ids_below, node_done}
 use Rattle.elaborate.proofs.value.stored.Goals as goal
 
 pub intern-requires : goal.intern-requires

@@ -1,0 +1,137 @@
+//! The tokens of `let` and of annotations that begin and end no term.
+ghost use Rattle.std.specs.Prelude.{◌≡◌, ◌++◌, ◌∷◌, [], List, None, true, length, IfOk, IfErr};
+ghost use Rattle.smt_meaning.specs.declared.tokens.Token.{Token as TokenValue};
+ghost use Rattle.smt_meaning.specs.Seen.{seen};
+ghost use Rattle.smt_meaning.specs.Sexp.{Sexps};
+ghost use Rattle.smt_meaning.specs.Sorts.{Scope, Rules as RulesValue};
+ghost use Rattle.term_walk.specs.Walk.{on_leave, on_words};
+ghost use Rattle.elaborate.specs.Frames.{walk_of, Stands};
+ghost use Rattle.elaborate.specs.Steps.{kind_of, takes_word, is_named, IsNoName, StepComes};
+
+use crate::error::JudgeError;
+use crate::frame::{Binding, Frame, Walk};
+use crate::stack::Stack;
+use crate::value::Value;
+use crate::walk::{give, push};
+use smt_meaning::{Bytes, Refusal, Seq, TokenView};
+use std::alloc::{AllocError, Global};
+
+/// Puts bindings on top, the first of them topmost, and says how many.
+fn bind(bindings: &mut Stack<Binding>, bound: Seq<Binding>) -> Result<usize, AllocError>
+    ensures count { IfOk result (λ k. k ≡ length bound) }
+    ensures bound { IfOk result (λ k. bindings.new ≡ bound ++ bindings.old) }
+{
+    let count = bound.len();
+    let mut list = bound.into_vec();
+    while let Some(binding) = list.pop() {
+        bindings.push(binding)?;
+    }
+    Ok(count)
+}
+
+/// Bindings with one more at the end.
+fn with_binding(
+    mut bound: Seq<Binding>,
+    name: Bytes,
+    value: Value,
+) -> Result<Seq<Binding>, AllocError>
+    ensures { IfOk result (λ b. b ≡ bound ++ record { name = name; value = value } ∷ []) }
+{
+    bound.push(Binding { name, value })?;
+    Ok(bound)
+}
+
+/// `)` that ends no application.
+pub(crate) fn leave_form(walk: &mut Walk) -> Result<(), JudgeError>
+    requires none { walk.old.answer ≡ None }
+    ensures { (tokens : List TokenValue) (s : Scope) (r : RulesValue) → Stands s walk.old → StepComes (on_leave r (walk_of tokens s walk.old)) s tokens s walk.new result }
+{
+    match walk.frames.pop() {
+        Some(Frame::Bindings(bound)) => match bind(&mut walk.bindings, bound) {
+            Ok(count) => push(walk, Frame::Body(count)),
+            Err(_) => Err(JudgeError::Memory),
+        },
+        Some(Frame::BoundTo(bound, name, value)) => match with_binding(bound, name, value) {
+            Ok(longer) => push(walk, Frame::Bindings(longer)),
+            Err(_) => Err(JudgeError::Memory),
+        },
+        Some(Frame::Done(value)) => match give(walk, value) {
+            Ok(()) => Ok(()),
+            Err(_) => Err(JudgeError::Memory),
+        },
+        Some(Frame::Attributes(value, place, depth)) => match depth.checked_sub(1) {
+            Some(less) => push(walk, Frame::Attributes(value, place, less)),
+            None => match give(walk, value) {
+                Ok(()) => Ok(()),
+                Err(_) => Err(JudgeError::Memory),
+            },
+        },
+        _ => Err(JudgeError::Memory),
+    }
+}
+
+/// The name that a token is.
+fn bound_name(alloc: Global, token: TokenView<'_>) -> Result<Bytes, JudgeError>
+    ensures ok { IfOk result (λ n. seen token.entry ≡ TokenValue.Symbol n) }
+    ensures err { IfErr result (λ e. IsNoName (seen token.entry) e) }
+{
+    match token {
+        TokenView::Symbol(name) => match Bytes::copy(alloc, name) {
+            Ok(name) => Ok(name),
+            Err(_) => Err(JudgeError::Memory),
+        },
+        TokenView::Enter => Err(JudgeError::Refused(Refusal::WrongArguments)),
+        TokenView::Leave => Err(JudgeError::Refused(Refusal::WrongArguments)),
+        TokenView::Numeral(_) => Err(JudgeError::Refused(Refusal::WrongArguments)),
+        TokenView::Decimal(_) => Err(JudgeError::Refused(Refusal::WrongArguments)),
+        TokenView::Hex(_) => Err(JudgeError::Refused(Refusal::WrongArguments)),
+        TokenView::Binary(_) => Err(JudgeError::Refused(Refusal::WrongArguments)),
+        TokenView::Text(_) => Err(JudgeError::Refused(Refusal::WrongArguments)),
+        TokenView::Reserved(_) => Err(JudgeError::Refused(Refusal::WrongArguments)),
+        TokenView::Keyword(_) => Err(JudgeError::Refused(Refusal::WrongArguments)),
+    }
+}
+
+/// Whether a token is `:named`.
+fn is_named(token: TokenView<'_>) -> bool
+    ensures { result ≡ is_named (seen token.entry) }
+{
+    match token {
+        TokenView::Keyword(name) => name == b"named".as_slice(),
+        TokenView::Symbol(_) => false,
+        TokenView::Enter => false,
+        TokenView::Leave => false,
+        TokenView::Numeral(_) => false,
+        TokenView::Decimal(_) => false,
+        TokenView::Hex(_) => false,
+        TokenView::Binary(_) => false,
+        TokenView::Text(_) => false,
+        TokenView::Reserved(_) => false,
+    }
+}
+
+/// The name of a binding, or an attribute. The name that `:named` gives isn't read yet.
+pub(crate) fn word_form(
+    alloc: Global,
+    token: TokenView<'_>,
+    walk: &mut Walk,
+) -> Result<(), JudgeError>
+    requires kind { takes_word (kind_of walk.old.answer walk.old.frames) ≡ true }
+    requires none { walk.old.answer ≡ None }
+    ensures { (tokens : List TokenValue) (s : Scope) (r : RulesValue) (ahead : Sexps) → Stands s walk.old → StepComes (on_words r (walk_of tokens s walk.old) (seen token.entry) ahead) s tokens s walk.new result }
+{
+    match walk.frames.pop() {
+        Some(Frame::BindingOpen(bound)) => match bound_name(alloc, token) {
+            Ok(name) => push(walk, Frame::Bound(bound, name)),
+            Err(error) => Err(error),
+        },
+        Some(Frame::Attributes(value, place, _)) => {
+            if is_named(token) {
+                push(walk, Frame::Naming(value, place))
+            } else {
+                push(walk, Frame::Attributes(value, place, 0))
+            }
+        }
+        _ => Err(JudgeError::Memory),
+    }
+}
