@@ -3,8 +3,8 @@ ghost use Rattle.std.specs.Prelude.{◌≡◌, ◌↔◌, ◌++◌, IsSome, IfSo
 ghost use Rattle.first_path.specs.Journal.{text as text_of, fault_text};
 ghost use Rattle.reply_print.specs.First.{IsFixed};
 
-use itoa::Buffer;
 use first_path::Reply;
+use itoa::Buffer;
 use smt_meaning::{Bytes, FaultKind};
 use std::alloc::{AllocError, Global};
 

@@ -12,6 +12,8 @@ mod name;
 mod number;
 mod reply;
 mod s_expression;
+#[cfg(test)]
+mod tests;
 mod values;
 
 pub use reply::{fixed, text};
