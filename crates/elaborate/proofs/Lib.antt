@@ -10,3 +10,5 @@ pub mod Moves
 pub mod Heads
 pub mod Runs
 pub mod Lets
+pub mod Copies
+pub mod Bodied

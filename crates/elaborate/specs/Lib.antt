@@ -2,3 +2,4 @@ pub mod Values
 pub mod Judged
 pub mod Frames
 pub mod Steps
+pub mod Bodies
