@@ -2,9 +2,6 @@
 #![tactic(auto)]
 
 mod error;
-pub mod first;
-#[cfg(test)]
-mod first_tests;
 mod information;
 mod list;
 mod model;
@@ -12,6 +9,8 @@ mod name;
 mod number;
 mod reply;
 mod s_expression;
+#[cfg(test)]
+mod tests;
 mod values;
 
 pub use reply::{fixed, text};

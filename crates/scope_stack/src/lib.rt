@@ -7,8 +7,6 @@ mod declare;
 mod judge;
 mod stack;
 mod term;
-#[cfg(test)]
-mod tests;
 
 pub use answers::{Asked, Assertion, Carried, StackError};
 pub use stack::Stack;

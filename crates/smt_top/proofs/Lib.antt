@@ -1,6 +1,4 @@
-mod Logics
 mod Written
+mod Answering
 mod Turns
 mod Runs
-mod Reached
-mod Models

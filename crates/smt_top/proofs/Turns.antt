@@ -4,16 +4,17 @@ use Rattle.std.specs.Io.KnownBytes.{Consumes, Keeps, IsAtEnd}
 use Rattle.std.specs.Bool.{then_some}
 use Rattle.smt_meaning.specs.Reading.{Unread, Answer, MayFollow, IsSettled, Takes, ready, fault, end}
 use Rattle.smt_meaning.specs.declared.settings.Settings.{Settings}
-use Rattle.first_path.specs.Commands.{start}
-use Rattle.first_path.specs.Journal.{Moment, beginning, Answers, Replies, IsCommand, GoesOn, IsLast, Answered, Runs, IsLegal, IsLegalSoFar, IsStopped, AnswersSettled}
+use Rattle.smt_meaning.specs.State.{start}
+use Rattle.smt_meaning.specs.MayReply.{Decided, Replies}
+use Rattle.smt_meaning.specs.LegalJournal.{Moment, beginning, Answers, IsExit, GoesOn, IsLast, Answered, Runs, IsLegal, IsLegalSoFar, IsStopped, AnswersSettled}
 use Rattle.smt_meaning.specs.declared.tokens.Token.{Token}
-use Rattle.first_path.specs.declared.replies.Entry.{Entry}
-use Rattle.first_path.specs.declared.replies.Reply.{Reply}
-use Rattle.first_path.specs.declared.replies.Reply.TheVariants.{Fault}
+use Rattle.smt_meaning.specs.declared.answers.Entry.{Entry}
+use Rattle.smt_meaning.specs.declared.answers.Reply.{Reply}
+use Rattle.smt_meaning.specs.declared.answers.Reply.TheVariants.{Error}
+use Rattle.smt_meaning.specs.declared.errors.Error.TheVariants.{Fault}
 use Rattle.smt_meaning.specs.declared.replies.Kept.{Kept}
 use Rattle.smt_meaning.specs.declared.replies.Kept.TheVariants.{Nothing}
 use Rattle.smt_meaning.specs.declared.tokens.FaultKind.{FaultKind}
-use Rattle.first_path.specs.declared.replies.Command.TheVariants.{Exit}
 use Rattle.smt_top.specs.Progress.{moment, HasAnswered, IsComplete, IsFront, IsOver, NoneSettled, HasEntryAt, Comes, SoFar, Ends, Stands, at_source, at_sink}
 use Rattle.smt_top.specs.declared.serving.Stage.{Stage}
 use Rattle.smt_top.specs.declared.serving.Stage.TheVariants.{Asks, Complete}
@@ -26,16 +27,6 @@ use Rattle.smt_top.specs.declared.top.Halt.{Halt}
 use Rattle.smt_top.specs.declared.top.Halt.TheVariants.{Memory, ReadFault, WriteFault}
 use Rattle.ports.specs.Flow.{SourceTold, SinkTold, Rose, RoseBy}
 use Rattle.smt_top.proofs.Written.{RoseBy-twice}
-
--- a run, and one entry more
-pub Runs-push : (old mid new : Moment) (es : List Entry) (e : Entry) → Runs old es mid → GoesOn mid e new → Runs old (es ++ e ∷ []) new
-Runs-push old mid new [] e r g = (new, subst (λ m. GoesOn m e new) (sym r) g, refl)
-Runs-push old mid new (x ∷ es) e r g = (r.0, r.1, Runs-push r.0 mid new es e r.2 g)
-
--- a run, and the rest of the entries
-pub Runs-Answered : (old mid : Moment) (es rest : List Entry) → Runs old es mid → Answered mid rest → Answered old (es ++ rest)
-Runs-Answered old mid [] rest r a = subst (λ m. Answered m rest) (sym r) a
-Runs-Answered old mid (x ∷ es) rest r a = inr (r.0, r.1, Runs-Answered r.0 mid es rest r.2 a)
 
 pub not_true : ◌≡◌ {A = Bool} false true → ⊥
 not_true e = cc
@@ -52,180 +43,6 @@ nothing_follows false = tt
 pub at_err : {T E : Type 0} (r : Result T E) (P : Type 0) → P → IfErr r (λ _. P)
 at_err (Ok x) P p = tt
 at_err (Err e) P p = p
-
--- What answers to the front of an input
-
-pub had_front : (s : Settings) (input : List ℕ) (old : Run) → HasAnswered s input old → IsFront s input old.reader.finished old.journal
-unfolding HasAnswered IsFront IsLegalSoFar
-had_front s input old had more may = inl (moment old more, had more may)
-
--- the journal at hand is legal for the bytes so far, and those so far alone
-pub front_now : (s : Settings) (input : List ℕ) (finished : Bool) (journal : List Entry) → IsFront s input finished journal → IsLegalSoFar s input journal
-unfolding IsFront
-front_now s input finished journal front = subst (λ bytes. IsLegalSoFar s bytes journal) (append-nil input) (front [] (nothing_follows finished))
-
-legal_front : (s : Settings) (input : List ℕ) (r : Run) → IsComplete s input r → IsFront s input r.reader.finished r.journal
-unfolding IsComplete IsFront IsLegalSoFar
-legal_front s input r complete more may = inr (complete more may)
-
-module _ (s : Settings) (old new : Run) (ts : List Token) (reply : Reply) (kept : Kept)
-    (settled : IsSettled old.reader (ready ts)) (takes : Takes old.reader ts new.reader)
-    (replies : Replies old.stack ts reply kept new.stack)
-    (pushed : new.journal ≡ old.journal ++ entry_of old.journal reply kept ∷ []) where
-  -- the reply answers the s-expression
-  pub answers : (more : List ℕ) → MayFollow old.reader.finished more → Answers (moment old more) (entry_of old.journal reply kept) ts (moment new more)
-  answers more may = record {
-    reads = record {
-      sexpr = (settled more may).0;
-      lexes = takes.lexes more may;
-      place = omega (arith, takes.place, length-append old.reader.bytes more, length-append new.reader.bytes more);
-    };
-    number = (refl, ap length pushed ∙ length-append old.journal (entry_of old.journal reply kept ∷ []));
-    reply = replies;
-  }
-
-  before : (more : List ℕ) → MayFollow new.reader.finished more → MayFollow old.reader.finished more
-  before more may = subst (λ b. MayFollow b more) takes.finished may
-
-  pub goes_on : (IsCommand old.stack ts Exit → ⊥) → (input : List ℕ) → HasAnswered s input old → HasAnswered s input new
-  unfolding HasAnswered
-  goes_on other input had more may =
-      subst (λ j. Runs (beginning s (input ++ more)) j (moment new more)) (sym pushed)
-      (Runs-push (beginning s (input ++ more)) (moment old more) (moment new more) old.journal _ (had more (before more may)) (ts, other, answers more (before more may)))
-
-  pub exits : IsCommand old.stack ts Exit → (input : List ℕ) → HasAnswered s input old → IsComplete s input new
-  unfolding HasAnswered IsComplete IsLegal
-  exits last input had more may =
-      subst (λ j. Answered (beginning s (input ++ more)) j) (sym pushed)
-      (Runs-Answered (beginning s (input ++ more)) (moment old more) old.journal _ (had more (before more may)) (inl (inl (ts, moment new more, last, answers more (before more may)), refl)))
-
-  stops : IsCommand old.stack ts Exit → (input : List ℕ) → HasAnswered s input old → IsStopped s input new.journal
-  unfolding HasAnswered IsStopped
-  stops last input had =
-      let may = nothing_follows old.reader.finished in
-      let ran : Runs (beginning s input) old.journal (moment old []) = subst (λ bytes. Runs (beginning s bytes) old.journal (moment old [])) (append-nil input) (had [] may) in
-      (old.journal, entry_of old.journal reply kept, moment old [], pushed, ran, inl (ts, moment new [], last, answers [] may))
-
-  -- what stands after the reply, whether it ends the run or not
-  pub next : (stop : Bool) → (IsTrue stop ↔ IsCommand old.stack ts Exit) → (input : List ℕ) → HasAnswered s input old
-      → MatchOption (then_some stop Complete) (HasAnswered s input new) (λ stage. Comes s stage input new)
-  next true both input had = (exits (both.0 refl) input had, inr (stops (both.0 refl) input had))
-  next false both input had = goes_on (λ last. not_true (both.1 last)) input had
-
-  front_by : (stop : Bool) → (IsTrue stop ↔ IsCommand old.stack ts Exit) → (input : List ℕ) → HasAnswered s input old → IsFront s input new.reader.finished new.journal
-  front_by true both input had = legal_front s input new (exits (both.0 refl) input had)
-  front_by false both input had = had_front s input new (goes_on (λ last. not_true (both.1 last)) input had)
-
--- where the reply's text wasn't taken, or memory was wanting for it
-pub reply_cut : (s : Settings) (old new : Run) (ts : List Token) (reply : Reply) (kept : Kept) (stop : Bool) (why : Stop)
-    → IsSettled old.reader (ready ts) → Takes old.reader ts new.reader → Replies old.stack ts reply kept new.stack → (IsTrue stop ↔ IsCommand old.stack ts Exit)
-    → HasEntryAt why old.journal (entry_of old.journal reply kept) new.journal → (input : List ℕ) → HasAnswered s input old → IsFront s input new.reader.finished new.journal
-reply_cut s old new ts reply kept stop StopWriteFault settled takes replies both entry input had = front_by s old new ts reply kept settled takes replies entry stop both input had
-reply_cut s old new ts reply kept stop StopMemory settled takes replies both entry input had =
-    let front = had_front s input old had in
-    subst (λ j. IsFront s input new.reader.finished j) (sym entry) (subst (λ b. IsFront s input b old.journal) (sym takes.finished) front)
-
-module _ (s : Settings) (old new : Run) (kind : FaultKind) (at : ℕ) (settled : IsSettled old.reader (fault kind at)) (same : new.reader ≡ old.reader)
-    (pushed : new.journal ≡ old.journal ++ entry_of old.journal (Fault kind at) Nothing ∷ []) where
-  last_of : (more : List ℕ) → MayFollow old.reader.finished more → IsLast (moment old more) (entry_of old.journal (Fault kind at) Nothing)
-  last_of more may = inr (kind, at, settled more may, refl, refl, refl)
-
-  fault_completes : (input : List ℕ) → HasAnswered s input old → IsComplete s input new
-  unfolding HasAnswered IsComplete IsLegal
-  fault_completes input had more may =
-      let may' : MayFollow old.reader.finished more = subst (λ (u : Unread). MayFollow u.finished more) same may in
-      subst (λ j. Answered (beginning s (input ++ more)) j) (sym pushed)
-      (Runs-Answered (beginning s (input ++ more)) (moment old more) old.journal _ (had more may') (inl (last_of more may', refl)))
-
-  fault_stops : (input : List ℕ) → HasAnswered s input old → IsStopped s input new.journal
-  unfolding HasAnswered IsStopped
-  fault_stops input had =
-      let may = nothing_follows old.reader.finished in
-      let ran : Runs (beginning s input) old.journal (moment old []) = subst (λ bytes. Runs (beginning s bytes) old.journal (moment old [])) (append-nil input) (had [] may) in
-      (old.journal, entry_of old.journal (Fault kind at) Nothing, moment old [], pushed, ran, last_of [] may)
-
-  -- a fault ends the run
-  pub faults : (input : List ℕ) → HasAnswered s input old → IsComplete s input new × IsOver s input new
-  faults input had = (fault_completes input had, inr (fault_stops input had))
-
--- where the fault's text wasn't taken, or memory was wanting for it
-pub fault_cut : (s : Settings) (old new : Run) (kind : FaultKind) (at : ℕ) (why : Stop) → IsSettled old.reader (fault kind at) → new.reader ≡ old.reader
-    → HasEntryAt why old.journal (entry_of old.journal (Fault kind at) Nothing) new.journal → (input : List ℕ) → HasAnswered s input old → IsFront s input new.reader.finished new.journal
-fault_cut s old new kind at StopWriteFault settled same entry input had = legal_front s input new (fault_completes s old new kind at settled same entry input had)
-fault_cut s old new kind at StopMemory settled same entry input had =
-    let front = had_front s input old had in
-    subst (λ j. IsFront s input new.reader.finished j) (sym entry) (subst (λ b. IsFront s input b old.journal) (sym (ap (λ (u : Unread). u.finished) same)) front)
-
--- where nothing was done
-pub idle_cut : (s : Settings) (old new : Run) → new.reader.finished ≡ old.reader.finished → new.journal ≡ old.journal → (input : List ℕ) → HasAnswered s input old → IsFront s input new.reader.finished new.journal
-idle_cut s old new same kept input had =
-    let front = had_front s input old had in
-    subst (λ j. IsFront s input new.reader.finished j) (sym kept) (subst (λ b. IsFront s input b old.journal) (sym same) front)
-
--- the end of the input ends the run
-pub ends : (s : Settings) (old new : Run) → IsSettled old.reader end → old.reader.finished ≡ true → new.reader ≡ old.reader → new.journal ≡ old.journal
-    → (input : List ℕ) → HasAnswered s input old → IsComplete s input new × IsOver s input new
-unfolding HasAnswered IsComplete IsLegal
-ends s old new settled over same kept input had = (
-  (λ more may.
-      let may' : MayFollow old.reader.finished more = subst (λ (u : Unread). MayFollow u.finished more) same may in
-      subst (λ j. Answered (beginning s (input ++ more)) j) (append-nil old.journal ∙ sym kept)
-      (Runs-Answered (beginning s (input ++ more)) (moment old more) old.journal [] (had more may') (settled more may'))),
-  inl (ap (λ (u : Unread). u.finished) same ∙ over),
-)
-
--- more is asked for
-pub asks : (s : Settings) (old new : Run) → new.reader ≡ old.reader → new.stack ≡ old.stack → new.journal ≡ old.journal → old.reader.finished ≡ false → ((a : Answer) → IsSettled old.reader a → ⊥)
-    → (input : List ℕ) → HasAnswered s input old → HasAnswered s input new × (new.reader.finished ≡ false) × NoneSettled new
-unfolding HasAnswered
-asks s old new same state kept going none input had = (
-  (λ more may.
-      let may' : MayFollow old.reader.finished more = subst (λ (u : Unread). MayFollow u.finished more) same may in
-      let is : moment old more ≡ moment new more = rw (same, state, kept) refl in
-      subst (λ m. Runs (beginning s (input ++ more)) new.journal m) is (rw kept (had more may'))),
-  ap (λ (u : Unread). u.finished) same ∙ going,
-  (λ a settled. none a (subst (λ (u : Unread). IsSettled u a) same settled)),
-)
-
--- a run that has just begun
-pub begins : (s : Settings) (r : Run) → r.reader ≡ record { place = 0; bytes = []; finished = false } → r.stack ≡ start s → r.journal ≡ [] → HasAnswered s [] r
-unfolding HasAnswered
-begins s r e f h more may = subst (λ j. Runs (beginning s more) j (moment r more)) (sym h) (rw (e, f, h) refl)
-
--- more input
-pub feeds : (s : Settings) (old new : Run) (input bytes : List ℕ) → old.reader.finished ≡ false → new.reader ≡ record old.reader { bytes = old.reader.bytes ++ bytes } → new.stack ≡ old.stack → new.journal ≡ old.journal
-    → HasAnswered s input old → HasAnswered s (input ++ bytes) new
-unfolding HasAnswered
-feeds s old new input bytes going e f h had more may =
-    let same : moment old (bytes ++ more) ≡ moment new more = rw (e, f, h, append_assoc) refl in
-    let run = had (bytes ++ more) (subst (λ b. MayFollow b (bytes ++ more)) (sym going) tt) in
-    subst (λ m. Runs (beginning s ((input ++ bytes) ++ more)) new.journal m) same (rw (append_assoc, h) run)
-
--- no more input
-pub finishes : (s : Settings) (old new : Run) (input : List ℕ) → new.reader ≡ record old.reader { finished = true } → new.stack ≡ old.stack → new.journal ≡ old.journal
-    → HasAnswered s input old → HasAnswered s input new
-unfolding HasAnswered
-finishes s old new input e f h had more may =
-    let none : more ≡ [] = subst (λ (u : Unread). MayFollow u.finished more) e may in
-    let same : moment old more ≡ moment new more = rw (e, f, h) refl in
-    let run = had more (subst (λ m. MayFollow old.reader.finished m) (sym none) (nothing_follows old.reader.finished)) in
-    subst (λ m. Runs (beginning s (input ++ more)) new.journal m) same (rw h run)
-
--- bytes that were taken but not fed follow the input
-unfed : (s : Settings) (input bytes : List ℕ) (journal : List Entry) → IsFront s input false journal → IsFront s (input ++ bytes) false journal
-unfolding IsFront
-unfed s input bytes journal front more may = subst (λ b. IsLegalSoFar s b journal) (sym (append_assoc input bytes more)) (front (bytes ++ more) tt)
-
--- the entries answer all that is settled
-pub answered_settled : (s : Settings) (input : List ℕ) (r : Run) → HasAnswered s input r → r.reader.finished ≡ false → NoneSettled r → AnswersSettled s input r.journal
-unfolding HasAnswered
-answered_settled s input r had going none = record {
-  place = r.reader.place;
-  rest = r.reader.bytes;
-  state = r.stack;
-  runs = λ more. had more (subst (λ b. MayFollow b more) (sym going) tt);
-  none_settled = λ a settled. none a (subst (λ b. IsSettled (record { place = r.reader.place; bytes = r.reader.bytes; finished = b }) a) (sym going) settled);
-}
 
 Consumes-twice : (a b c : Option (List ℕ)) (xs ys : List ℕ) → Consumes a b xs → Consumes b c ys → Consumes a c (xs ++ ys)
 Consumes-twice None b c xs ys p q = tt
@@ -247,14 +64,6 @@ for_all P (Some all) None finished input taken ended holds = absurd taken
 for_all P (Some all) (Some rest) true input taken ended holds = subst P (sym taken) (holds rest (ended refl))
 for_all P (Some all) (Some rest) false input taken ended holds = subst P (sym taken) (holds rest tt)
 
-complete_is : (s : Settings) (input : List ℕ) (r : Run) → IsComplete s input r → (more : List ℕ) → MayFollow r.reader.finished more → IsLegal s (input ++ more) r.journal
-unfolding IsComplete
-complete_is s input r h = h
-
-pub front_is : (s : Settings) (input : List ℕ) (finished : Bool) (journal : List Entry) → IsFront s input finished journal → (more : List ℕ) → MayFollow finished more → IsLegalSoFar s (input ++ more) journal
-unfolding IsFront
-front_is s input finished journal h = h
-
 -- a source that gave more took more
 Took-more : (e : Ends) (next : SourceTold) (xs ys : List ℕ) (j k : ℕ) → Took e xs j → Consumes e.source_now.left next.left ys → RoseBy k e.source_now.given next.given → Took (at_source e next) (xs ++ ys) (j + k)
 Took-more e next xs ys j k took gave counts = record {
@@ -269,92 +78,6 @@ Took-kept e next xs j took kept counts = record {
   calls = subst (λ n. RoseBy n e.source.given next.given) (add-zero j) (RoseBy-twice j 0 e.source.given e.source_now.given next.given took.calls counts);
 }
 
--- the source gave bytes, and the reader has them
-pub fed : (t : Settings) (e : Ends) (count : ℕ) (old new : Run) (bytes : List ℕ) (next : SourceTold) → old.reader.finished ≡ false
-    → Consumes e.source_now.left next.left bytes → RoseBy 1 e.source_now.given next.given → 0 < length bytes → length bytes ≤ 65536 → e.source_now.faults ≤ next.faults
-    → new.reader ≡ record old.reader { bytes = old.reader.bytes ++ bytes } → new.stack ≡ old.stack → new.journal ≡ old.journal
-    → SoFar t e count old → SoFar t (at_source e next) (count + 1) new
-fed t e count old new bytes next going gave counts some most later er es ej s = record {
-  input = s.input ++ bytes;
-  given = s.given + 1;
-  took = Took-more e next s.input bytes s.given 1 s.took gave counts;
-  many = omega (arith, s.many, length-append s.input bytes);
-  each = λ _. omega (arith, s.each going);
-  but_one = λ over. absurd (not_true (sym going ∙ sym (ap (λ (u : Unread). u.finished) er) ∙ over));
-  few = rw er (omega (arith, s.few, length-append old.reader.bytes bytes));
-  ended = λ over. absurd (not_true (sym going ∙ sym (ap (λ (u : Unread). u.finished) er) ∙ over));
-  answered = feeds t old new s.input bytes going er es ej s.answered;
-  whole = rw ej s.whole;
-  later = record { read = omega (arith, s.later.read); write = s.later.write };
-}
-
--- the source is at its end, and the reader knows
-pub closed : (t : Settings) (e : Ends) (count : ℕ) (old new : Run) (next : SourceTold) → old.reader.finished ≡ false
-    → Keeps e.source_now.left next.left → RoseBy 0 e.source_now.given next.given → IsAtEnd next.left → e.source_now.faults ≤ next.faults
-    → new.reader ≡ record old.reader { finished = true } → new.stack ≡ old.stack → new.journal ≡ old.journal
-    → SoFar t e count old → SoFar t (at_source e next) (count + 1) new
-closed t e count old new next going kept counts over later er es ej s = record {
-  input = s.input;
-  given = s.given;
-  took = Took-kept e next s.input s.given s.took kept counts;
-  many = s.many;
-  each = λ other. absurd (not_true (sym other ∙ ap (λ (u : Unread). u.finished) er));
-  but_one = λ _. omega (arith, s.each going);
-  few = rw er (omega (arith, s.few));
-  ended = λ _. over;
-  answered = finishes t old new s.input er es ej s.answered;
-  whole = rw ej s.whole;
-  later = record { read = omega (arith, s.later.read); write = s.later.write };
-}
-
--- as many calls gave bytes as there were, or fewer
-given_within : (t : Settings) (e : Ends) (count : ℕ) (r : Run) (finished : Bool) → r.reader.finished ≡ finished → (s : SoFar t e count r) → s.given ≤ count
-given_within t e count r true same s = omega (arith, s.but_one same)
-given_within t e count r false same s = omega (arith, s.each same)
-
-done_by : (s : Settings) (e : Ends) (count given : ℕ) (input : List ℕ) (r : Run) (finished : Bool) → r.reader.finished ≡ finished → (finished ≡ true → IsAtEnd e.source_now.left) → (finished ≡ true → given < count)
-    → IsOver s input r → IsDone s e count input given r.journal
-done_by s e count given input r finished same ended fewer (inl is) = inl (ended (sym same ∙ is), fewer (sym same ∙ is))
-done_by s e count given input r finished same ended fewer (inr is) = inr is
-
-complete_now : (s : Settings) (input : List ℕ) (r : Run) → IsComplete s input r → IsLegal s input r.journal
-complete_now s input r complete = subst (λ bytes. IsLegal s bytes r.journal) (append-nil input) (complete_is s input r complete [] (nothing_follows r.reader.finished))
-
--- what an advance of the run comes to
-pub advanced : (t : Settings) (e : Ends) (count : ℕ) (old new : Run) (stage : Stage) (next : SinkTold) (s : SoFar t e count old)
-    → new.reader.finished ≡ old.reader.finished → new.reader.place + length new.reader.bytes ≡ old.reader.place + length old.reader.bytes
-    → Comes t stage s.input new → IsWritten e.sink next new.journal → e.sink_now.faults ≤ next.faults
-    → Stands t (Ok stage) (at_sink e next) count new
-advanced t e count old new Complete next s same size comes whole later = record {
-  input = s.input;
-  given = s.given;
-  took = record { bytes = s.took.bytes; calls = s.took.calls };
-  within = given_within t e count old old.reader.finished refl s;
-  legal = complete_now t s.input new comes.0;
-  legal_for_all = for_all (λ all. IsLegal t all new.journal) e.source.left e.source_now.left old.reader.finished s.input s.took.bytes s.ended
-      (subst (λ b. (more : List ℕ) → MayFollow b more → IsLegal t (s.input ++ more) new.journal) same (complete_is t s.input new comes.0));
-  over = done_by t e count s.given s.input new old.reader.finished same s.ended s.but_one comes.1;
-  whole = whole;
-  later = record { read = s.later.read; write = omega (arith, s.later.write) };
-}
-advanced t e count old new Asks next s same size comes whole later = (
-  record {
-    input = s.input;
-    given = s.given;
-    took = record { bytes = s.took.bytes; calls = s.took.calls };
-    many = s.many;
-    each = λ going. s.each (sym same ∙ going);
-    but_one = λ over. s.but_one (sym same ∙ over);
-    few = omega (arith, s.few);
-    ended = λ over. s.ended (sym same ∙ over);
-    answered = comes.0;
-    whole = whole;
-    later = record { read = s.later.read; write = omega (arith, s.later.write) };
-  },
-  comes.1,
-  comes.2,
-)
-
 pub Consumes-none : (a b : Option (List ℕ)) → Consumes a b [] → Keeps a b
 Consumes-none None b p = tt
 Consumes-none (Some a) None p = absurd p
@@ -363,137 +86,416 @@ Consumes-none (Some a) (Some b) p = sym p
 Rose-later : (a b c : ℕ) → a ≤ b → Rose b c → Rose a c
 Rose-later a b c l r = omega (arith, r)
 
-module _ (t : Settings) (e : Ends) (count : ℕ) (old new : Run) (s : SoFar t e count old) (next : SinkTold)
-    (same : new.reader.finished ≡ old.reader.finished) (front : IsFront t s.input new.reader.finished new.journal) where
-  front_all : IfSome e.source.left (λ all. IsLegalSoFar t all new.journal)
-  front_all = for_all (λ all. IsLegalSoFar t all new.journal) e.source.left e.source_now.left old.reader.finished s.input s.took.bytes s.ended
-      (subst (λ b. (more : List ℕ) → MayFollow b more → IsLegalSoFar t (s.input ++ more) new.journal) same (front_is t s.input new.reader.finished new.journal front))
+module _ (decided : Decided) where
+  -- a run, and one entry more
+  pub Runs-push : (old mid new : Moment) (es : List Entry) (e : Entry) → Runs decided old es mid → GoesOn decided mid e new → Runs decided old (es ++ e ∷ []) new
+  Runs-push old mid new [] e r g = (new, subst (λ m. GoesOn decided m e new) (sym r) g, refl)
+  Runs-push old mid new (x ∷ es) e r g = (r.0, r.1, Runs-push r.0 mid new es e r.2 g)
 
-  -- a fault of the sink, or want of memory, cuts the run off
-  pub cut_off : (stop : Stop) (halt : Halt) → HaltOf stop halt → WrittenAfter {T = Stage} (Err stop) e.sink next new.journal → WriteCause {T = Stage} (Err stop) e.sink_now.faults next.faults
-      → CutOff t halt (at_sink e next) count new
-  cut_off StopMemory Memory is written cause = record {
+  -- a run, and the rest of the entries
+  pub Runs-Answered : (old mid : Moment) (es rest : List Entry) → Runs decided old es mid → Answered decided mid rest → Answered decided old (es ++ rest)
+  Runs-Answered old mid [] rest r a = subst (λ m. Answered decided m rest) (sym r) a
+  Runs-Answered old mid (x ∷ es) rest r a = inr (r.0, r.1, Runs-Answered r.0 mid es rest r.2 a)
+
+  -- What answers to the front of an input
+
+  pub had_front : (s : Settings) (input : List ℕ) (old : Run) → HasAnswered decided s input old → IsFront decided s input old.reader.finished old.journal
+  unfolding HasAnswered IsFront IsLegalSoFar
+  had_front s input old had more may = inl (moment old more, had more may)
+
+  -- the journal at hand is legal for the bytes so far, and those so far alone
+  pub front_now : (s : Settings) (input : List ℕ) (finished : Bool) (journal : List Entry) → IsFront decided s input finished journal → IsLegalSoFar decided s input journal
+  unfolding IsFront
+  front_now s input finished journal front = subst (λ bytes. IsLegalSoFar decided s bytes journal) (append-nil input) (front [] (nothing_follows finished))
+
+  legal_front : (s : Settings) (input : List ℕ) (r : Run) → IsComplete decided s input r → IsFront decided s input r.reader.finished r.journal
+  unfolding IsComplete IsFront IsLegalSoFar
+  legal_front s input r complete more may = inr (complete more may)
+
+  module _ (s : Settings) (old new : Run) (ts : List Token) (reply : Reply) (kept : Kept)
+      (settled : IsSettled old.reader (ready ts)) (takes : Takes old.reader ts new.reader)
+      (replies : Replies decided old.session ts reply kept new.session)
+      (pushed : new.journal ≡ old.journal ++ entry_of old.journal reply kept ∷ []) where
+    -- the reply answers the s-expression
+    pub answers : (more : List ℕ) → MayFollow old.reader.finished more → Answers decided (moment old more) (entry_of old.journal reply kept) ts (moment new more)
+    answers more may = record {
+      reads = record {
+        sexpr = (settled more may).0;
+        lexes = takes.lexes more may;
+        place = omega (arith, takes.place, length-append old.reader.bytes more, length-append new.reader.bytes more);
+      };
+      number = (refl, ap length pushed ∙ length-append old.journal (entry_of old.journal reply kept ∷ []));
+      reply = replies;
+    }
+
+    before : (more : List ℕ) → MayFollow new.reader.finished more → MayFollow old.reader.finished more
+    before more may = subst (λ b. MayFollow b more) takes.finished may
+
+    pub goes_on : (IsExit ts → ⊥) → (input : List ℕ) → HasAnswered decided s input old → HasAnswered decided s input new
+    unfolding HasAnswered
+    goes_on other input had more may =
+        subst (λ j. Runs decided (beginning s (input ++ more)) j (moment new more)) (sym pushed)
+        (Runs-push (beginning s (input ++ more)) (moment old more) (moment new more) old.journal _ (had more (before more may)) (ts, other, answers more (before more may)))
+
+    pub exits : IsExit ts → (input : List ℕ) → HasAnswered decided s input old → IsComplete decided s input new
+    unfolding HasAnswered IsComplete IsLegal
+    exits last input had more may =
+        subst (λ j. Answered decided (beginning s (input ++ more)) j) (sym pushed)
+        (Runs-Answered (beginning s (input ++ more)) (moment old more) old.journal _ (had more (before more may)) (inl (inl (ts, moment new more, last, answers more (before more may)), refl)))
+
+    stops : IsExit ts → (input : List ℕ) → HasAnswered decided s input old → IsStopped decided s input new.journal
+    unfolding HasAnswered IsStopped
+    stops last input had =
+        let may = nothing_follows old.reader.finished in
+        let ran : Runs decided (beginning s input) old.journal (moment old []) = subst (λ bytes. Runs decided (beginning s bytes) old.journal (moment old [])) (append-nil input) (had [] may) in
+        (old.journal, entry_of old.journal reply kept, moment old [], pushed, ran, inl (ts, moment new [], last, answers [] may))
+
+    -- what stands after the reply, whether it ends the run or not
+    pub next : (stop : Bool) → (IsTrue stop ↔ IsExit ts) → (input : List ℕ) → HasAnswered decided s input old
+        → MatchOption (then_some stop Complete) (HasAnswered decided s input new) (λ stage. Comes decided s stage input new)
+    next true both input had = (exits (both.0 refl) input had, inr (stops (both.0 refl) input had))
+    next false both input had = goes_on (λ last. not_true (both.1 last)) input had
+
+    front_by : (stop : Bool) → (IsTrue stop ↔ IsExit ts) → (input : List ℕ) → HasAnswered decided s input old → IsFront decided s input new.reader.finished new.journal
+    front_by true both input had = legal_front s input new (exits (both.0 refl) input had)
+    front_by false both input had = had_front s input new (goes_on (λ last. not_true (both.1 last)) input had)
+
+  -- where the reply's text wasn't taken, or memory was wanting for it
+  pub reply_cut : (s : Settings) (old new : Run) (ts : List Token) (reply : Reply) (kept : Kept) (stop : Bool) (why : Stop)
+      → IsSettled old.reader (ready ts) → Takes old.reader ts new.reader → Replies decided old.session ts reply kept new.session → (IsTrue stop ↔ IsExit ts)
+      → HasEntryAt why old.journal (entry_of old.journal reply kept) new.journal → (input : List ℕ) → HasAnswered decided s input old → IsFront decided s input new.reader.finished new.journal
+  reply_cut s old new ts reply kept stop StopWriteFault settled takes replies both entry input had = front_by s old new ts reply kept settled takes replies entry stop both input had
+  reply_cut s old new ts reply kept stop StopMemory settled takes replies both entry input had =
+      let front = had_front s input old had in
+      subst (λ j. IsFront decided s input new.reader.finished j) (sym entry) (subst (λ b. IsFront decided s input b old.journal) (sym takes.finished) front)
+
+  module _ (s : Settings) (old new : Run) (kind : FaultKind) (at : ℕ) (settled : IsSettled old.reader (fault kind at)) (same : new.reader ≡ old.reader)
+      (pushed : new.journal ≡ old.journal ++ entry_of old.journal (Error (Fault kind at)) Nothing ∷ []) where
+    last_of : (more : List ℕ) → MayFollow old.reader.finished more → IsLast decided (moment old more) (entry_of old.journal (Error (Fault kind at)) Nothing)
+    last_of more may = inr (kind, at, settled more may, refl, refl, refl)
+
+    fault_completes : (input : List ℕ) → HasAnswered decided s input old → IsComplete decided s input new
+    unfolding HasAnswered IsComplete IsLegal
+    fault_completes input had more may =
+        let may' : MayFollow old.reader.finished more = subst (λ (u : Unread). MayFollow u.finished more) same may in
+        subst (λ j. Answered decided (beginning s (input ++ more)) j) (sym pushed)
+        (Runs-Answered (beginning s (input ++ more)) (moment old more) old.journal _ (had more may') (inl (last_of more may', refl)))
+
+    fault_stops : (input : List ℕ) → HasAnswered decided s input old → IsStopped decided s input new.journal
+    unfolding HasAnswered IsStopped
+    fault_stops input had =
+        let may = nothing_follows old.reader.finished in
+        let ran : Runs decided (beginning s input) old.journal (moment old []) = subst (λ bytes. Runs decided (beginning s bytes) old.journal (moment old [])) (append-nil input) (had [] may) in
+        (old.journal, entry_of old.journal (Error (Fault kind at)) Nothing, moment old [], pushed, ran, last_of [] may)
+
+    -- a fault ends the run
+    pub faults : (input : List ℕ) → HasAnswered decided s input old → IsComplete decided s input new × IsOver decided s input new
+    faults input had = (fault_completes input had, inr (fault_stops input had))
+
+  -- where the fault's text wasn't taken, or memory was wanting for it
+  pub fault_cut : (s : Settings) (old new : Run) (kind : FaultKind) (at : ℕ) (why : Stop) → IsSettled old.reader (fault kind at) → new.reader ≡ old.reader
+      → HasEntryAt why old.journal (entry_of old.journal (Error (Fault kind at)) Nothing) new.journal → (input : List ℕ) → HasAnswered decided s input old → IsFront decided s input new.reader.finished new.journal
+  fault_cut s old new kind at StopWriteFault settled same entry input had = legal_front s input new (fault_completes s old new kind at settled same entry input had)
+  fault_cut s old new kind at StopMemory settled same entry input had =
+      let front = had_front s input old had in
+      subst (λ j. IsFront decided s input new.reader.finished j) (sym entry) (subst (λ b. IsFront decided s input b old.journal) (sym (ap (λ (u : Unread). u.finished) same)) front)
+
+  -- where nothing was done
+  pub idle_cut : (s : Settings) (old new : Run) → new.reader.finished ≡ old.reader.finished → new.journal ≡ old.journal → (input : List ℕ) → HasAnswered decided s input old → IsFront decided s input new.reader.finished new.journal
+  idle_cut s old new same kept input had =
+      let front = had_front s input old had in
+      subst (λ j. IsFront decided s input new.reader.finished j) (sym kept) (subst (λ b. IsFront decided s input b old.journal) (sym same) front)
+
+  -- the end of the input ends the run
+  pub ends : (s : Settings) (old new : Run) → IsSettled old.reader end → old.reader.finished ≡ true → new.reader ≡ old.reader → new.journal ≡ old.journal
+      → (input : List ℕ) → HasAnswered decided s input old → IsComplete decided s input new × IsOver decided s input new
+  unfolding HasAnswered IsComplete IsLegal
+  ends s old new settled over same kept input had = (
+    (λ more may.
+        let may' : MayFollow old.reader.finished more = subst (λ (u : Unread). MayFollow u.finished more) same may in
+        subst (λ j. Answered decided (beginning s (input ++ more)) j) (append-nil old.journal ∙ sym kept)
+        (Runs-Answered (beginning s (input ++ more)) (moment old more) old.journal [] (had more may') (settled more may'))),
+    inl (ap (λ (u : Unread). u.finished) same ∙ over),
+  )
+
+  -- more is asked for
+  pub asks : (s : Settings) (old new : Run) → new.reader ≡ old.reader → new.session ≡ old.session → new.journal ≡ old.journal → old.reader.finished ≡ false → ((a : Answer) → IsSettled old.reader a → ⊥)
+      → (input : List ℕ) → HasAnswered decided s input old → HasAnswered decided s input new × (new.reader.finished ≡ false) × NoneSettled new
+  unfolding HasAnswered
+  asks s old new same state kept going none input had = (
+    (λ more may.
+        let may' : MayFollow old.reader.finished more = subst (λ (u : Unread). MayFollow u.finished more) same may in
+        let is : moment old more ≡ moment new more = rw (same, state, kept) refl in
+        subst (λ m. Runs decided (beginning s (input ++ more)) new.journal m) is (rw kept (had more may'))),
+    ap (λ (u : Unread). u.finished) same ∙ going,
+    (λ a settled. none a (subst (λ (u : Unread). IsSettled u a) same settled)),
+  )
+
+  -- a run that has just begun
+  pub begins : (s : Settings) (r : Run) → r.reader ≡ record { place = 0; bytes = []; finished = false } → r.session ≡ start s → r.journal ≡ [] → HasAnswered decided s [] r
+  unfolding HasAnswered
+  begins s r e f h more may = subst (λ j. Runs decided (beginning s more) j (moment r more)) (sym h) (rw (e, f, h) refl)
+
+  -- more input
+  pub feeds : (s : Settings) (old new : Run) (input bytes : List ℕ) → old.reader.finished ≡ false → new.reader ≡ record old.reader { bytes = old.reader.bytes ++ bytes } → new.session ≡ old.session → new.journal ≡ old.journal
+      → HasAnswered decided s input old → HasAnswered decided s (input ++ bytes) new
+  unfolding HasAnswered
+  feeds s old new input bytes going e f h had more may =
+      let same : moment old (bytes ++ more) ≡ moment new more = rw (e, f, h, append_assoc) refl in
+      let run = had (bytes ++ more) (subst (λ b. MayFollow b (bytes ++ more)) (sym going) tt) in
+      subst (λ m. Runs decided (beginning s ((input ++ bytes) ++ more)) new.journal m) same (rw (append_assoc, h) run)
+
+  -- no more input
+  pub finishes : (s : Settings) (old new : Run) (input : List ℕ) → new.reader ≡ record old.reader { finished = true } → new.session ≡ old.session → new.journal ≡ old.journal
+      → HasAnswered decided s input old → HasAnswered decided s input new
+  unfolding HasAnswered
+  finishes s old new input e f h had more may =
+      let none : more ≡ [] = subst (λ (u : Unread). MayFollow u.finished more) e may in
+      let same : moment old more ≡ moment new more = rw (e, f, h) refl in
+      let run = had more (subst (λ m. MayFollow old.reader.finished m) (sym none) (nothing_follows old.reader.finished)) in
+      subst (λ m. Runs decided (beginning s (input ++ more)) new.journal m) same (rw h run)
+
+  -- bytes that were taken but not fed follow the input
+  unfed : (s : Settings) (input bytes : List ℕ) (journal : List Entry) → IsFront decided s input false journal → IsFront decided s (input ++ bytes) false journal
+  unfolding IsFront
+  unfed s input bytes journal front more may = subst (λ b. IsLegalSoFar decided s b journal) (sym (append_assoc input bytes more)) (front (bytes ++ more) tt)
+
+  -- the entries answer all that is settled
+  pub answered_settled : (s : Settings) (input : List ℕ) (r : Run) → HasAnswered decided s input r → r.reader.finished ≡ false → NoneSettled r → AnswersSettled decided s input r.journal
+  unfolding HasAnswered
+  answered_settled s input r had going none = record {
+    place = r.reader.place;
+    rest = r.reader.bytes;
+    state = r.session;
+    runs = λ more. had more (subst (λ b. MayFollow b more) (sym going) tt);
+    none_settled = λ a settled. none a (subst (λ b. IsSettled (record { place = r.reader.place; bytes = r.reader.bytes; finished = b }) a) (sym going) settled);
+  }
+
+  complete_is : (s : Settings) (input : List ℕ) (r : Run) → IsComplete decided s input r → (more : List ℕ) → MayFollow r.reader.finished more → IsLegal decided s (input ++ more) r.journal
+  unfolding IsComplete
+  complete_is s input r h = h
+
+  pub front_is : (s : Settings) (input : List ℕ) (finished : Bool) (journal : List Entry) → IsFront decided s input finished journal → (more : List ℕ) → MayFollow finished more → IsLegalSoFar decided s (input ++ more) journal
+  unfolding IsFront
+  front_is s input finished journal h = h
+
+  -- the source gave bytes, and the reader has them
+  pub fed : (t : Settings) (e : Ends) (count : ℕ) (old new : Run) (bytes : List ℕ) (next : SourceTold) → old.reader.finished ≡ false
+      → Consumes e.source_now.left next.left bytes → RoseBy 1 e.source_now.given next.given → 0 < length bytes → length bytes ≤ 65536 → e.source_now.faults ≤ next.faults
+      → new.reader ≡ record old.reader { bytes = old.reader.bytes ++ bytes } → new.session ≡ old.session → new.journal ≡ old.journal
+      → SoFar decided t e count old → SoFar decided t (at_source e next) (count + 1) new
+  fed t e count old new bytes next going gave counts some most later er es ej s = record {
+    input = s.input ++ bytes;
+    given = s.given + 1;
+    took = Took-more e next s.input bytes s.given 1 s.took gave counts;
+    many = omega (arith, s.many, length-append s.input bytes);
+    each = λ _. omega (arith, s.each going);
+    but_one = λ over. absurd (not_true (sym going ∙ sym (ap (λ (u : Unread). u.finished) er) ∙ over));
+    few = rw er (omega (arith, s.few, length-append old.reader.bytes bytes));
+    ended = λ over. absurd (not_true (sym going ∙ sym (ap (λ (u : Unread). u.finished) er) ∙ over));
+    answered = feeds t old new s.input bytes going er es ej s.answered;
+    whole = rw ej s.whole;
+    later = record { read = omega (arith, s.later.read); write = s.later.write };
+  }
+
+  -- the source is at its end, and the reader knows
+  pub closed : (t : Settings) (e : Ends) (count : ℕ) (old new : Run) (next : SourceTold) → old.reader.finished ≡ false
+      → Keeps e.source_now.left next.left → RoseBy 0 e.source_now.given next.given → IsAtEnd next.left → e.source_now.faults ≤ next.faults
+      → new.reader ≡ record old.reader { finished = true } → new.session ≡ old.session → new.journal ≡ old.journal
+      → SoFar decided t e count old → SoFar decided t (at_source e next) (count + 1) new
+  closed t e count old new next going kept counts over later er es ej s = record {
+    input = s.input;
+    given = s.given;
+    took = Took-kept e next s.input s.given s.took kept counts;
+    many = s.many;
+    each = λ other. absurd (not_true (sym other ∙ ap (λ (u : Unread). u.finished) er));
+    but_one = λ _. omega (arith, s.each going);
+    few = rw er (omega (arith, s.few));
+    ended = λ _. over;
+    answered = finishes t old new s.input er es ej s.answered;
+    whole = rw ej s.whole;
+    later = record { read = omega (arith, s.later.read); write = s.later.write };
+  }
+
+  -- as many calls gave bytes as there were, or fewer
+  given_within : (t : Settings) (e : Ends) (count : ℕ) (r : Run) (finished : Bool) → r.reader.finished ≡ finished → (s : SoFar decided t e count r) → s.given ≤ count
+  given_within t e count r true same s = omega (arith, s.but_one same)
+  given_within t e count r false same s = omega (arith, s.each same)
+
+  done_by : (s : Settings) (e : Ends) (count given : ℕ) (input : List ℕ) (r : Run) (finished : Bool) → r.reader.finished ≡ finished → (finished ≡ true → IsAtEnd e.source_now.left) → (finished ≡ true → given < count)
+      → IsOver decided s input r → IsDone decided s e count input given r.journal
+  done_by s e count given input r finished same ended fewer (inl is) = inl (ended (sym same ∙ is), fewer (sym same ∙ is))
+  done_by s e count given input r finished same ended fewer (inr is) = inr is
+
+  complete_now : (s : Settings) (input : List ℕ) (r : Run) → IsComplete decided s input r → IsLegal decided s input r.journal
+  complete_now s input r complete = subst (λ bytes. IsLegal decided s bytes r.journal) (append-nil input) (complete_is s input r complete [] (nothing_follows r.reader.finished))
+
+  -- what an advance of the run comes to
+  pub advanced : (t : Settings) (e : Ends) (count : ℕ) (old new : Run) (stage : Stage) (next : SinkTold) (s : SoFar decided t e count old)
+      → new.reader.finished ≡ old.reader.finished → new.reader.place + length new.reader.bytes ≡ old.reader.place + length old.reader.bytes
+      → Comes decided t stage s.input new → IsWritten e.sink next new.journal → e.sink_now.faults ≤ next.faults
+      → Stands decided t (Ok stage) (at_sink e next) count new
+  advanced t e count old new Complete next s same size comes whole later = record {
     input = s.input;
     given = s.given;
     took = record { bytes = s.took.bytes; calls = s.took.calls };
     within = given_within t e count old old.reader.finished refl s;
-    legal = front_now t s.input new.reader.finished new.journal front;
-    legal_for_all = front_all;
-    settled = λ h. absurd (cc h);
-    written = written;
-    later = record { read = s.later.read; write = omega (arith, s.later.write, cause) };
-    read = λ h. absurd (cc h);
-    write = λ h. absurd (cc h);
+    legal = complete_now t s.input new comes.0;
+    legal_for_all = for_all (λ all. IsLegal decided t all new.journal) e.source.left e.source_now.left old.reader.finished s.input s.took.bytes s.ended
+        (subst (λ b. (more : List ℕ) → MayFollow b more → IsLegal decided t (s.input ++ more) new.journal) same (complete_is t s.input new comes.0));
+    over = done_by t e count s.given s.input new old.reader.finished same s.ended s.but_one comes.1;
+    whole = whole;
+    later = record { read = s.later.read; write = omega (arith, s.later.write) };
   }
-  cut_off StopMemory ReadFault is written cause = absurd (cc is)
-  cut_off StopMemory WriteFault is written cause = absurd (cc is)
-  cut_off StopWriteFault WriteFault is written cause = record {
-    input = s.input;
-    given = s.given;
-    took = record { bytes = s.took.bytes; calls = s.took.calls };
-    within = given_within t e count old old.reader.finished refl s;
-    legal = front_now t s.input new.reader.finished new.journal front;
-    legal_for_all = front_all;
-    settled = λ h. absurd (cc h);
-    written = written;
-    later = record { read = s.later.read; write = omega (arith, s.later.write, cause.0) };
-    read = λ h. absurd (cc h);
-    write = λ _. Rose-later e.sink.faults e.sink_now.faults next.faults s.later.write cause.1;
-  }
-  cut_off StopWriteFault Memory is written cause = absurd (cc is)
-  cut_off StopWriteFault ReadFault is written cause = absurd (cc is)
-
--- want of memory cuts a run off before it has taken anything
-pub cut_at_start : (t : Settings) (e : Ends) (count : ℕ) (r : Run) → SoFar t e count r → CutOff t Memory e count r
-cut_at_start t e count r s = record {
-  input = s.input;
-  given = s.given;
-  took = s.took;
-  within = given_within t e count r r.reader.finished refl s;
-  legal = front_now t s.input r.reader.finished r.journal (had_front t s.input r s.answered);
-  legal_for_all = for_all (λ all. IsLegalSoFar t all r.journal) e.source.left e.source_now.left r.reader.finished s.input s.took.bytes s.ended
-      (front_is t s.input r.reader.finished r.journal (had_front t s.input r s.answered));
-  settled = λ h. absurd (cc h);
-  written = s.whole;
-  later = s.later;
-  read = λ h. absurd (cc h);
-  write = λ h. absurd (cc h);
-}
-
--- want of memory for bytes that were taken cuts a run off as it stands
-pub cut_short : (t : Settings) (e : Ends) (count : ℕ) (r new : Run) (bytes : List ℕ) (next : SourceTold) → r.reader.finished ≡ false
-    → Consumes e.source_now.left next.left bytes → RoseBy 1 e.source_now.given next.given → e.source_now.faults ≤ next.faults
-    → new.journal ≡ r.journal → SoFar t e count r → CutOff t Memory (at_source e next) (count + 1) new
-cut_short t e count r new bytes next going gave counts l ej s =
-    let before : IsFront t s.input false r.journal = subst (λ b. IsFront t s.input b r.journal) going (had_front t s.input r s.answered) in
-    let front = unfed t s.input bytes r.journal before in
-    let took : Took (at_source e next) (s.input ++ bytes) (s.given + 1) = Took-more e next s.input bytes s.given 1 s.took gave counts in
-    rw ej (record {
-      input = s.input ++ bytes;
-      given = s.given + 1;
-      took = took;
-      within = omega (arith, s.each going);
-      legal = front_now t (s.input ++ bytes) false r.journal front;
-      legal_for_all = for_all (λ all. IsLegalSoFar t all r.journal) e.source.left next.left false (s.input ++ bytes) took.bytes (λ over. absurd (not_true over))
-          (front_is t (s.input ++ bytes) false r.journal front);
-      settled = λ h. absurd (cc h);
-      written = s.whole;
-      later = record { read = omega (arith, s.later.read); write = s.later.write };
-      read = λ h. absurd (cc h);
-      write = λ h. absurd (cc h);
-    })
-
--- a fault of the source cuts a run off
-pub read_fault : (t : Settings) (e : Ends) (count : ℕ) (r : Run) (next : SourceTold) → r.reader.finished ≡ false → NoneSettled r
-    → Keeps e.source_now.left next.left → RoseBy 0 e.source_now.given next.given → e.source_now.faults ≤ next.faults → Rose e.source_now.faults next.faults
-    → SoFar t e count r → CutOff t ReadFault (at_source e next) (count + 1) r
-read_fault t e count r next going none kept counts l rose s =
-    let front : IsFront t s.input false r.journal = subst (λ b. IsFront t s.input b r.journal) going (had_front t s.input r s.answered) in
-    let took : Took (at_source e next) s.input s.given = Took-kept e next s.input s.given s.took kept counts in
+  advanced t e count old new Asks next s same size comes whole later = (
     record {
       input = s.input;
       given = s.given;
-      took = took;
-      within = omega (arith, s.each going);
-      legal = front_now t s.input false r.journal front;
-      legal_for_all = for_all (λ all. IsLegalSoFar t all r.journal) e.source.left next.left false s.input took.bytes (λ over. absurd (not_true over)) (front_is t s.input false r.journal front);
-      settled = λ _. answered_settled t s.input r s.answered going none;
-      written = s.whole;
-      later = record { read = omega (arith, s.later.read); write = s.later.write };
-      read = λ _. (Rose-later e.source.faults e.source_now.faults next.faults s.later.read rose, omega (arith, s.each going));
+      took = record { bytes = s.took.bytes; calls = s.took.calls };
+      many = s.many;
+      each = λ going. s.each (sym same ∙ going);
+      but_one = λ over. s.but_one (sym same ∙ over);
+      few = omega (arith, s.few);
+      ended = λ over. s.ended (sym same ∙ over);
+      answered = comes.0;
+      whole = whole;
+      later = record { read = s.later.read; write = omega (arith, s.later.write) };
+    },
+    comes.1,
+    comes.2,
+  )
+
+  module _ (t : Settings) (e : Ends) (count : ℕ) (old new : Run) (s : SoFar decided t e count old) (next : SinkTold)
+      (same : new.reader.finished ≡ old.reader.finished) (front : IsFront decided t s.input new.reader.finished new.journal) where
+    front_all : IfSome e.source.left (λ all. IsLegalSoFar decided t all new.journal)
+    front_all = for_all (λ all. IsLegalSoFar decided t all new.journal) e.source.left e.source_now.left old.reader.finished s.input s.took.bytes s.ended
+        (subst (λ b. (more : List ℕ) → MayFollow b more → IsLegalSoFar decided t (s.input ++ more) new.journal) same (front_is t s.input new.reader.finished new.journal front))
+
+    -- a fault of the sink, or want of memory, cuts the run off
+    pub cut_off : (stop : Stop) (halt : Halt) → HaltOf stop halt → WrittenAfter {T = Stage} (Err stop) e.sink next new.journal → WriteCause {T = Stage} (Err stop) e.sink_now.faults next.faults
+        → CutOff decided t halt (at_sink e next) count new
+    cut_off StopMemory Memory is written cause = record {
+      input = s.input;
+      given = s.given;
+      took = record { bytes = s.took.bytes; calls = s.took.calls };
+      within = given_within t e count old old.reader.finished refl s;
+      legal = front_now t s.input new.reader.finished new.journal front;
+      legal_for_all = front_all;
+      settled = λ h. absurd (cc h);
+      written = written;
+      later = record { read = s.later.read; write = omega (arith, s.later.write, cause) };
+      read = λ h. absurd (cc h);
       write = λ h. absurd (cc h);
     }
+    cut_off StopMemory ReadFault is written cause = absurd (cc is)
+    cut_off StopMemory WriteFault is written cause = absurd (cc is)
+    cut_off StopWriteFault WriteFault is written cause = record {
+      input = s.input;
+      given = s.given;
+      took = record { bytes = s.took.bytes; calls = s.took.calls };
+      within = given_within t e count old old.reader.finished refl s;
+      legal = front_now t s.input new.reader.finished new.journal front;
+      legal_for_all = front_all;
+      settled = λ h. absurd (cc h);
+      written = written;
+      later = record { read = s.later.read; write = omega (arith, s.later.write, cause.0) };
+      read = λ h. absurd (cc h);
+      write = λ _. Rose-later e.sink.faults e.sink_now.faults next.faults s.later.write cause.1;
+    }
+    cut_off StopWriteFault Memory is written cause = absurd (cc is)
+    cut_off StopWriteFault ReadFault is written cause = absurd (cc is)
 
-done_later : (s : Settings) (e : Ends) (j k : ℕ) (input : List ℕ) (given : ℕ) (journal : List Entry) → j ≤ k → IsDone s e j input given journal → IsDone s e k input given journal
-done_later s e j k input given journal l (inl is) = inl (is.0, omega (arith, l, is.1))
-done_later s e j k input given journal l (inr is) = inr is
+  -- want of memory cuts a run off before it has taken anything
+  pub cut_at_start : (t : Settings) (e : Ends) (count : ℕ) (r : Run) → SoFar decided t e count r → CutOff decided t Memory e count r
+  cut_at_start t e count r s = record {
+    input = s.input;
+    given = s.given;
+    took = s.took;
+    within = given_within t e count r r.reader.finished refl s;
+    legal = front_now t s.input r.reader.finished r.journal (had_front t s.input r s.answered);
+    legal_for_all = for_all (λ all. IsLegalSoFar decided t all r.journal) e.source.left e.source_now.left r.reader.finished s.input s.took.bytes s.ended
+        (front_is t s.input r.reader.finished r.journal (had_front t s.input r s.answered));
+    settled = λ h. absurd (cc h);
+    written = s.whole;
+    later = s.later;
+    read = λ h. absurd (cc h);
+    write = λ h. absurd (cc h);
+  }
 
--- a run that is over within so many calls is over within more
-pub over_later : (s : Settings) (e : Ends) (j k : ℕ) (r : Run) → j ≤ k → Over s e j r → Over s e k r
-over_later s e j k r l o = record {
-  input = o.input;
-  given = o.given;
-  took = o.took;
-  within = omega (arith, l, o.within);
-  legal = o.legal;
-  legal_for_all = o.legal_for_all;
-  over = done_later s e j k o.input o.given r.journal l o.over;
-  whole = o.whole;
-  later = o.later;
-}
+  -- want of memory for bytes that were taken cuts a run off as it stands
+  pub cut_short : (t : Settings) (e : Ends) (count : ℕ) (r new : Run) (bytes : List ℕ) (next : SourceTold) → r.reader.finished ≡ false
+      → Consumes e.source_now.left next.left bytes → RoseBy 1 e.source_now.given next.given → e.source_now.faults ≤ next.faults
+      → new.journal ≡ r.journal → SoFar decided t e count r → CutOff decided t Memory (at_source e next) (count + 1) new
+  cut_short t e count r new bytes next going gave counts l ej s =
+      let before : IsFront decided t s.input false r.journal = subst (λ b. IsFront decided t s.input b r.journal) going (had_front t s.input r s.answered) in
+      let front = unfed t s.input bytes r.journal before in
+      let took : Took (at_source e next) (s.input ++ bytes) (s.given + 1) = Took-more e next s.input bytes s.given 1 s.took gave counts in
+      rw ej (record {
+        input = s.input ++ bytes;
+        given = s.given + 1;
+        took = took;
+        within = omega (arith, s.each going);
+        legal = front_now t (s.input ++ bytes) false r.journal front;
+        legal_for_all = for_all (λ all. IsLegalSoFar decided t all r.journal) e.source.left next.left false (s.input ++ bytes) took.bytes (λ over. absurd (not_true over))
+            (front_is t (s.input ++ bytes) false r.journal front);
+        settled = λ h. absurd (cc h);
+        written = s.whole;
+        later = record { read = omega (arith, s.later.read); write = s.later.write };
+        read = λ h. absurd (cc h);
+        write = λ h. absurd (cc h);
+      })
 
--- so it is with one that was cut off
-pub cut_later : (s : Settings) (halt : Halt) (e : Ends) (j k : ℕ) (r : Run) → j ≤ k → CutOff s halt e j r → CutOff s halt e k r
-cut_later s halt e j k r l o = record {
-  input = o.input;
-  given = o.given;
-  took = o.took;
-  within = omega (arith, l, o.within);
-  legal = o.legal;
-  legal_for_all = o.legal_for_all;
-  settled = o.settled;
-  written = o.written;
-  later = o.later;
-  read = λ h. let p = o.read h in (p.0, omega (arith, l, p.1));
-  write = o.write;
-}
+  -- a fault of the source cuts a run off
+  pub read_fault : (t : Settings) (e : Ends) (count : ℕ) (r : Run) (next : SourceTold) → r.reader.finished ≡ false → NoneSettled r
+      → Keeps e.source_now.left next.left → RoseBy 0 e.source_now.given next.given → e.source_now.faults ≤ next.faults → Rose e.source_now.faults next.faults
+      → SoFar decided t e count r → CutOff decided t ReadFault (at_source e next) (count + 1) r
+  read_fault t e count r next going none kept counts l rose s =
+      let front : IsFront decided t s.input false r.journal = subst (λ b. IsFront decided t s.input b r.journal) going (had_front t s.input r s.answered) in
+      let took : Took (at_source e next) s.input s.given = Took-kept e next s.input s.given s.took kept counts in
+      record {
+        input = s.input;
+        given = s.given;
+        took = took;
+        within = omega (arith, s.each going);
+        legal = front_now t s.input false r.journal front;
+        legal_for_all = for_all (λ all. IsLegalSoFar decided t all r.journal) e.source.left next.left false s.input took.bytes (λ over. absurd (not_true over)) (front_is t s.input false r.journal front);
+        settled = λ _. answered_settled t s.input r s.answered going none;
+        written = s.whole;
+        later = record { read = omega (arith, s.later.read); write = s.later.write };
+        read = λ _. (Rose-later e.source.faults e.source_now.faults next.faults s.later.read rose, omega (arith, s.each going));
+        write = λ h. absurd (cc h);
+      }
+
+  done_later : (s : Settings) (e : Ends) (j k : ℕ) (input : List ℕ) (given : ℕ) (journal : List Entry) → j ≤ k → IsDone decided s e j input given journal → IsDone decided s e k input given journal
+  done_later s e j k input given journal l (inl is) = inl (is.0, omega (arith, l, is.1))
+  done_later s e j k input given journal l (inr is) = inr is
+
+  -- a run that is over within so many calls is over within more
+  pub over_later : (s : Settings) (e : Ends) (j k : ℕ) (r : Run) → j ≤ k → Over decided s e j r → Over decided s e k r
+  over_later s e j k r l o = record {
+    input = o.input;
+    given = o.given;
+    took = o.took;
+    within = omega (arith, l, o.within);
+    legal = o.legal;
+    legal_for_all = o.legal_for_all;
+    over = done_later s e j k o.input o.given r.journal l o.over;
+    whole = o.whole;
+    later = o.later;
+  }
+
+  -- so it is with one that was cut off
+  pub cut_later : (s : Settings) (halt : Halt) (e : Ends) (j k : ℕ) (r : Run) → j ≤ k → CutOff decided s halt e j r → CutOff decided s halt e k r
+  cut_later s halt e j k r l o = record {
+    input = o.input;
+    given = o.given;
+    took = o.took;
+    within = omega (arith, l, o.within);
+    legal = o.legal;
+    legal_for_all = o.legal_for_all;
+    settled = o.settled;
+    written = o.written;
+    later = o.later;
+    read = λ h. let p = o.read h in (p.0, omega (arith, l, p.1));
+    write = o.write;
+  }

@@ -4,8 +4,9 @@ use Rattle.std.proofs.lemmas.Grind.{flat_map-append}
 use Rattle.std.proofs.lemmas.List.Sums.{sum_by-append}
 use Rattle.std.specs.Io.KnownBytes.{Appends}
 use Rattle.ports.specs.Flow.{SinkTold, RoseBy, raised_by}
-use Rattle.first_path.specs.Journal.{journal_text, text}
-use Rattle.first_path.specs.declared.replies.Entry.{Entry}
+use Rattle.smt_meaning.specs.LegalJournal.{journal_text}
+use Rattle.smt_meaning.specs.Text.{text}
+use Rattle.smt_meaning.specs.declared.answers.Entry.{Entry}
 use Rattle.smt_top.specs.Progress.{calls_for, journal_calls, Writes, IsWritten, IsTorn, PutAfter, WrittenAfter}
 use Rattle.smt_top.specs.declared.serving.Stop.{Stop}
 use Rattle.smt_top.specs.declared.serving.Stop.TheVariants.{Memory as StopMemory, WriteFault as StopWriteFault}

@@ -1,8 +1,8 @@
 -- How a run ends.
 use Rattle.std.specs.Prelude.{◌≡◌, ℕ, ◌≤◌, ◌<◌, ◌⊎◌, Any, ⊤, false, List, Result, Ok, Err, length, IfSome, ◌↔◌}
-use Rattle.first_path.specs.declared.replies.Entry.{Entry}
-use Rattle.first_path.specs.declared.replies.Reply.{Reply}
-use Rattle.first_path.specs.declared.replies.Reply.TheVariants.{Fault, Success, Silent, Sat, Unsat, Unsupported}
+use Rattle.smt_meaning.specs.declared.answers.Entry.{Entry}
+use Rattle.smt_meaning.specs.declared.answers.Reply.{Reply}
+use Rattle.smt_meaning.specs.declared.answers.Reply.TheVariants.{Error}
 use Rattle.smt_top.specs.declared.serving.Stop.{Stop}
 use Rattle.smt_top.specs.declared.serving.Stop.TheVariants.{Memory as StopMemory, WriteFault as StopWriteFault}
 use Rattle.smt_top.specs.declared.serving.Stage.{Stage}
@@ -12,7 +12,8 @@ use Rattle.smt_top.specs.declared.top.Halt.TheVariants.{Memory, ReadFault, Write
 use Rattle.smt_top.specs.declared.top.Note.{Note}
 use Rattle.smt_top.specs.declared.top.Note.TheVariants.{Fine, Words, ReadFault as ReadNote, WriteFault as WriteNote, NoMemory, TooLong as LongNote}
 use Rattle.ports.specs.Flow.{Rose}
-use Rattle.first_path.specs.Journal.{IsLegal, IsLegalSoFar, AnswersSettled}
+use Rattle.smt_meaning.specs.MayReply.{Decided}
+use Rattle.smt_meaning.specs.LegalJournal.{IsLegal, IsLegalSoFar, AnswersSettled}
 use Rattle.smt_words.specs.Words.{are_taken, settings_of}
 use Rattle.smt_words.specs.declared.error.WordsError.{WordsError}
 use Rattle.smt_words.specs.declared.error.WordsError.TheVariants.{Refused, Memory as WordsMemory}
@@ -25,12 +26,8 @@ HaltOf StopWriteFault h = h ≡ WriteFault
 
 -- An error was replied.
 abbrev pub IsError : Reply → Type 0
-IsError (Fault kind at) = ⊤
-IsError Success = ⊥
-IsError Silent = ⊥
-IsError Sat = ⊥
-IsError Unsat = ⊥
-IsError Unsupported = ⊥
+IsError (Error e) = ⊤
+IsError _ = ⊥
 
 abbrev pub IsFaulty : List Entry → Type 0
 IsFaulty entries = Any (λ e. IsError e.reply) entries
@@ -56,23 +53,23 @@ MatchesStatus WriteNote status = status ≡ 4
 MatchesStatus NoMemory status = status ≡ 5
 MatchesStatus LongNote status = status ≡ 6
 
--- What a run comes to, between the ends of its source and its sink, where it took these words of the command line.
-pub record Ran (budget : ℕ) (words : List (List ℕ)) (e : Ends) (ended : Ended) : Type 0 where
+-- What a run comes to, between the ends of its source and its sink, where it took these words of the command line, and decides these checks.
+pub record Ran (decided : Decided) (budget : ℕ) (words : List (List ℕ)) (e : Ends) (ended : Ended) : Type 0 where
   -- The bytes that the source gave, in so many calls that gave a byte or more. There are no more of these calls than the budget.
   pub input : List ℕ
   pub given : ℕ
   pub took : Took e input given
   pub within : given ≤ budget
   -- At the statuses 0 and 1 the journal is legal for them, and for all that the source has. They are all, found so by a further call within the budget, unless an exit or a fault ended the run.
-  pub legal : ended.status < 2 → IsLegal (settings_of words) input ended.journal
-  pub legal_for_all : ended.status < 2 → IfSome e.source.left (λ all. IsLegal (settings_of words) all ended.journal)
-  pub over : ended.status < 2 → IsDone (settings_of words) e budget input given ended.journal
+  pub legal : ended.status < 2 → IsLegal decided (settings_of words) input ended.journal
+  pub legal_for_all : ended.status < 2 → IfSome e.source.left (λ all. IsLegal decided (settings_of words) all ended.journal)
+  pub over : ended.status < 2 → IsDone decided (settings_of words) e budget input given ended.journal
   pub error : ended.status < 2 → ((ended.status ≡ 1) ↔ IsFaulty ended.journal)
   -- At each status the journal is legal as far as it goes.
-  pub legal_so_far : IsLegalSoFar (settings_of words) input ended.journal
-  pub legal_so_far_for_all : IfSome e.source.left (λ all. IsLegalSoFar (settings_of words) all ended.journal)
+  pub legal_so_far : IsLegalSoFar decided (settings_of words) input ended.journal
+  pub legal_so_far_for_all : IfSome e.source.left (λ all. IsLegalSoFar decided (settings_of words) all ended.journal)
   -- At 3 and 6 it answers exactly what the bytes settle.
-  pub settled : (ended.status ≡ 3) ⊎ (ended.status ≡ 6) → AnswersSettled (settings_of words) input ended.journal
+  pub settled : (ended.status ≡ 3) ⊎ (ended.status ≡ 6) → AnswersSettled decided (settings_of words) input ended.journal
   -- Its text is written, but for the last entry's at 4, of which a front is. At each status there was one call of the sink for each reply that has a text, and no other.
   pub whole : (ended.status ≡ 4 → ⊥) → IsWritten e.sink e.sink_now ended.journal
   pub torn : ended.status ≡ 4 → IsTorn e.sink e.sink_now ended.journal

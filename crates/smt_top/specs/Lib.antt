@@ -1,5 +1,2 @@
-pub mod Logics
-pub mod Decide
-pub mod Spelled
 pub mod Progress
 pub mod Ended

@@ -2,9 +2,11 @@
 use Rattle.std.specs.Prelude.{◌≡◌, ℕ, ◌+◌, ◌*◌, ◌≤◌, ◌<◌, ◌⊎◌, Bool, true, false, List, [], ◌∷◌, ◌++◌, length, take, sum_by, IfSome, Result, Ok, Err}
 use Rattle.std.specs.Io.KnownBytes.{Appends, Consumes, IsAtEnd}
 use Rattle.smt_meaning.specs.Reading.{Answer, IsSettled, MayFollow}
-use Rattle.first_path.specs.Journal.{Moment, beginning, Runs, IsLegal, IsLegalSoFar, IsStopped, AnswersSettled, journal_text, text}
+use Rattle.smt_meaning.specs.LegalJournal.{Moment, beginning, Runs, IsLegal, IsLegalSoFar, IsStopped, AnswersSettled, journal_text}
+use Rattle.smt_meaning.specs.MayReply.{Decided}
+use Rattle.smt_meaning.specs.Text.{text}
 use Rattle.smt_meaning.specs.declared.settings.Settings.{Settings}
-use Rattle.first_path.specs.declared.replies.Entry.{Entry}
+use Rattle.smt_meaning.specs.declared.answers.Entry.{Entry}
 use Rattle.smt_top.specs.declared.serving.Run.{Run}
 use Rattle.smt_top.specs.declared.serving.Stop.{Stop}
 use Rattle.smt_top.specs.declared.serving.Stop.TheVariants.{Memory as StopMemory, WriteFault as StopWriteFault}
@@ -18,32 +20,32 @@ use Rattle.ports.specs.Flow.{SourceTold, SinkTold, Rose, RoseBy}
 
 -- Where a run stands, if these bytes follow.
 abbrev pub moment : Run → List ℕ → Moment
-moment r more = record { place = r.reader.place; bytes = r.reader.bytes ++ more; state = r.stack; number = length r.journal }
+moment r more = record { place = r.reader.place; bytes = r.reader.bytes ++ more; state = r.session; number = length r.journal }
 
 -- The run has answered the front of the input, whatever follows.
-unfoldable pub HasAnswered : Settings → List ℕ → Run → Type 0
-HasAnswered s input r = (more : List ℕ) → MayFollow r.reader.finished more → Runs (beginning s (input ++ more)) r.journal (moment r more)
+unfoldable pub HasAnswered : Decided → Settings → List ℕ → Run → Type 0
+HasAnswered decided s input r = (more : List ℕ) → MayFollow r.reader.finished more → Runs decided (beginning s (input ++ more)) r.journal (moment r more)
 
 -- The run has answered the input, whatever follows.
-unfoldable pub IsComplete : Settings → List ℕ → Run → Type 0
-IsComplete s input r = (more : List ℕ) → MayFollow r.reader.finished more → IsLegal s (input ++ more) r.journal
+unfoldable pub IsComplete : Decided → Settings → List ℕ → Run → Type 0
+IsComplete decided s input r = (more : List ℕ) → MayFollow r.reader.finished more → IsLegal decided s (input ++ more) r.journal
 
 -- The journal is legal for the input as far as it goes, whatever follows.
-unfoldable pub IsFront : Settings → List ℕ → Bool → List Entry → Type 0
-IsFront s input finished journal = (more : List ℕ) → MayFollow finished more → IsLegalSoFar s (input ++ more) journal
+unfoldable pub IsFront : Decided → Settings → List ℕ → Bool → List Entry → Type 0
+IsFront decided s input finished journal = (more : List ℕ) → MayFollow finished more → IsLegalSoFar decided s (input ++ more) journal
 
 -- What isn't read settles nothing.
 abbrev pub NoneSettled : Run → Type 0
 NoneSettled r = (a : Answer) → IsSettled r.reader a → ⊥
 
 -- Why a run is over: its input is, or an exit or a fault was answered.
-abbrev pub IsOver : Settings → List ℕ → Run → Type 0
-IsOver s input r = (r.reader.finished ≡ true) ⊎ IsStopped s input r.journal
+abbrev pub IsOver : Decided → Settings → List ℕ → Run → Type 0
+IsOver decided s input r = (r.reader.finished ≡ true) ⊎ IsStopped decided s input r.journal
 
 -- What is so where a run stops.
-abbrev pub Comes : Settings → Stage → List ℕ → Run → Type 0
-Comes s Asks input r = HasAnswered s input r × (r.reader.finished ≡ false) × NoneSettled r
-Comes s Complete input r = IsComplete s input r × IsOver s input r
+abbrev pub Comes : Decided → Settings → Stage → List ℕ → Run → Type 0
+Comes decided s Asks input r = HasAnswered decided s input r × (r.reader.finished ≡ false) × NoneSettled r
+Comes decided s Complete input r = IsComplete decided s input r × IsOver decided s input r
 
 -- What is written
 
@@ -133,7 +135,7 @@ pub record Took (e : Ends) (input : List ℕ) (given : ℕ) : Type 0 where
 -- How a run stands
 
 -- A run that goes on after so many calls of the source: each gave a byte or more, at least one and at most 65536, unless one was the end; and what was ready of the bytes is answered and written.
-pub record SoFar (s : Settings) (e : Ends) (count : ℕ) (r : Run) : Type 0 where
+pub record SoFar (decided : Decided) (s : Settings) (e : Ends) (count : ℕ) (r : Run) : Type 0 where
   pub input : List ℕ
   pub given : ℕ
   pub took : Took e input given
@@ -142,23 +144,23 @@ pub record SoFar (s : Settings) (e : Ends) (count : ℕ) (r : Run) : Type 0 wher
   pub but_one : r.reader.finished ≡ true → given < count
   pub few : r.reader.place + length r.reader.bytes ≤ 65536 * count
   pub ended : r.reader.finished ≡ true → IsAtEnd e.source_now.left
-  pub answered : HasAnswered s input r
+  pub answered : HasAnswered decided s input r
   pub whole : IsWritten e.sink e.sink_now r.journal
   pub later : Later e
 
 -- Why a run is over after at most so many calls of the source: one of them was at the end, or an exit or a fault was answered.
-abbrev pub IsDone : Settings → Ends → ℕ → List ℕ → ℕ → List Entry → Type 0
-IsDone s e count input given journal = (IsAtEnd e.source_now.left × (given < count)) ⊎ IsStopped s input journal
+abbrev pub IsDone : Decided → Settings → Ends → ℕ → List ℕ → ℕ → List Entry → Type 0
+IsDone decided s e count input given journal = (IsAtEnd e.source_now.left × (given < count)) ⊎ IsStopped decided s input journal
 
 -- A run that is over: its journal is legal for the bytes that it took and for all that the source has, and is written.
-pub record Over (s : Settings) (e : Ends) (count : ℕ) (r : Run) : Type 0 where
+pub record Over (decided : Decided) (s : Settings) (e : Ends) (count : ℕ) (r : Run) : Type 0 where
   pub input : List ℕ
   pub given : ℕ
   pub took : Took e input given
   pub within : given ≤ count
-  pub legal : IsLegal s input r.journal
-  pub legal_for_all : IfSome e.source.left (λ all. IsLegal s all r.journal)
-  pub over : IsDone s e count input given r.journal
+  pub legal : IsLegal decided s input r.journal
+  pub legal_for_all : IfSome e.source.left (λ all. IsLegal decided s all r.journal)
+  pub over : IsDone decided s e count input given r.journal
   pub whole : IsWritten e.sink e.sink_now r.journal
   pub later : Later e
 
@@ -168,21 +170,21 @@ WrittenAtHalt ReadFault before now journal = IsWritten before now journal
 WrittenAtHalt WriteFault before now journal = IsTorn before now journal
 
 -- A run that was cut off after at most so many calls of the source, by a fault where its count rose: its journal is legal as far as it goes, and is written up to the entry whose text wasn't taken. Where the source failed it answers all that is settled.
-pub record CutOff (s : Settings) (halt : Halt) (e : Ends) (count : ℕ) (r : Run) : Type 0 where
+pub record CutOff (decided : Decided) (s : Settings) (halt : Halt) (e : Ends) (count : ℕ) (r : Run) : Type 0 where
   pub input : List ℕ
   pub given : ℕ
   pub took : Took e input given
   pub within : given ≤ count
-  pub legal : IsLegalSoFar s input r.journal
-  pub legal_for_all : IfSome e.source.left (λ all. IsLegalSoFar s all r.journal)
-  pub settled : halt ≡ ReadFault → AnswersSettled s input r.journal
+  pub legal : IsLegalSoFar decided s input r.journal
+  pub legal_for_all : IfSome e.source.left (λ all. IsLegalSoFar decided s all r.journal)
+  pub settled : halt ≡ ReadFault → AnswersSettled decided s input r.journal
   pub written : WrittenAtHalt halt e.sink e.sink_now r.journal
   pub later : Later e
   pub read : halt ≡ ReadFault → Rose e.source.faults e.source_now.faults × (given < count)
   pub write : halt ≡ WriteFault → Rose e.sink.faults e.sink_now.faults
 
 -- How a run stands after a call.
-abbrev pub Stands : Settings → Result Stage Halt → Ends → ℕ → Run → Type 0
-Stands s (Ok Complete) e count r = Over s e count r
-Stands s (Ok Asks) e count r = SoFar s e count r × (r.reader.finished ≡ false) × NoneSettled r
-Stands s (Err halt) e count r = CutOff s halt e count r
+abbrev pub Stands : Decided → Settings → Result Stage Halt → Ends → ℕ → Run → Type 0
+Stands decided s (Ok Complete) e count r = Over decided s e count r
+Stands decided s (Ok Asks) e count r = SoFar decided s e count r × (r.reader.finished ≡ false) × NoneSettled r
+Stands decided s (Err halt) e count r = CutOff decided s halt e count r

@@ -1,16 +1,20 @@
 ghost use Rattle.std.specs.Prelude.{◌≡◌, ◌≤◌, ◌<◌, ◌↔◌, ◌^◌, ◌+◌, [], ℕ, length, map, IsTrue, IfErr, OnOk, false, string_bytes};
 ghost use Rattle.smt_meaning.specs.declared.settings.Settings.{Settings as SettingsValue};
-ghost use Rattle.first_path.specs.Journal.{journal_text};
+ghost use Rattle.smt_meaning.specs.LegalJournal.{journal_text};
+ghost use Rattle.smt_meaning.specs.MayReply.{Decided};
 ghost use Rattle.smt_words.specs.Words.{are_taken};
+ghost use Rattle.smt_meaning.specs.Kinds.{is_propositional};
 ghost use Rattle.smt_top.specs.Progress.{CutOff, Ends, NoneSettled, SoFar, Stands, at_sink, at_source, between};
 ghost use Rattle.smt_top.specs.Ended.{IsFaulty, IsUnbegun, MatchesStatus, Ran, StatusOf};
 
 use crate::serving::{Run, Stage, Stop};
+use plain_decider::Plain;
 use ports::{Gate, More, Sink, Source};
-use first_path::{Entry, Reply};
 use smt_meaning::Seq;
+use smt_meaning::language::{Entry, Reply};
 use smt_words::{WordsError, settings};
 use std::alloc::{AllocError, Global};
+use theory_port::Decider;
 
 /// Why a run ended.
 #[derive(Clone, Copy, Debug, PartialEq, Eq, Drop)]
@@ -73,37 +77,43 @@ impl From<Stop> for Halt {
 
 /// Runs to the end of the input, to an exit or to a fault, or says that more of the input is needed past the budget.
 #[tactic(none)]
-fn drive<S: Source, K: Sink>(
+fn drive<S: Source, K: Sink, D: Decider>(
     alloc: Global,
     budget: u64,
     source: &mut S,
     sink: &mut K,
+    decider: &mut D,
     run: &mut Run,
 ) -> Result<Stage, Halt>
     requires budget { budget ≤ 2 ^ 40 }
-    requires begun { SoFar run.old.stack.settings (between (S.told source.old) (K.told sink.old) (S.told source.old) (K.told sink.old)) 0 run.old }
-    ensures stands { Stands run.old.stack.settings result (between (S.told source.old) (K.told sink.old) (S.told source.new) (K.told sink.new)) budget run.new }
+    requires begun { SoFar D.decides run.old.session.settings (between (S.told source.old) (K.told sink.old) (S.told source.old) (K.told sink.old)) 0 run.old }
+    ensures stands { Stands D.decides run.old.session.settings result (between (S.told source.old) (K.told sink.old) (S.told source.new) (K.told sink.new)) budget run.new }
     ensures silent { journal_text run.new.journal ≡ [] → sink.new ≡ sink.old }
 {
     let mut buf = vec![in alloc; 0u8; 65536]?;
-    let mut stage = advance(alloc, sink, run)?;
+    let mut stage = advance(alloc, sink, decider, run)?;
     for turn in 0..budget {
         match stage {
             Stage::Complete => break,
             Stage::Asks => take_more(source, buf.as_mut_slice(), run)?,
         }
-        stage = advance(alloc, sink, run)?;
+        stage = advance(alloc, sink, decider, run)?;
     }
     Ok(stage)
 }
 
 /// Answers all that is ready.
-fn advance<K: Sink>(alloc: Global, sink: &mut K, run: &mut Run) -> Result<Stage, Halt>
-    ensures stands { (s : SettingsValue) (e : Ends) (count : ℕ) → SoFar s e count run.old → e.sink_now ≡ K.told sink.old
-        → Stands s result (at_sink e (K.told sink.new)) count run.new }
+fn advance<K: Sink, D: Decider>(
+    alloc: Global,
+    sink: &mut K,
+    decider: &mut D,
+    run: &mut Run,
+) -> Result<Stage, Halt>
+    ensures stands { (s : SettingsValue) (e : Ends) (count : ℕ) → SoFar D.decides s e count run.old → e.sink_now ≡ K.told sink.old
+        → Stands D.decides s result (at_sink e (K.told sink.new)) count run.new }
     ensures silent { journal_text run.new.journal ≡ [] → (journal_text run.old.journal ≡ []) × (sink.new ≡ sink.old) }
 {
-    let stage = run.serve(alloc, sink)?;
+    let stage = run.serve(alloc, sink, decider)?;
     Ok(stage)
 }
 
@@ -113,10 +123,10 @@ fn take_more<S: Source>(source: &mut S, buf: &mut [u8], run: &mut Run) -> Result
     requires settled { NoneSettled run.old }
     requires buffer { length buf.old ≡ 65536 }
     requires room { run.old.reader.place + length run.old.reader.bytes + 65536 < 2 ^ 64 }
-    ensures ok { OnOk result ((s : SettingsValue) (e : Ends) (count : ℕ) → SoFar s e count run.old → e.source_now ≡ S.told source.old
-        → SoFar s (at_source e (S.told source.new)) (count + 1) run.new) }
-    ensures err { IfErr result (λ halt. (s : SettingsValue) (e : Ends) (count : ℕ) → SoFar s e count run.old → e.source_now ≡ S.told source.old
-        → CutOff s halt (at_source e (S.told source.new)) (count + 1) run.new) }
+    ensures ok { OnOk result ((decided : Decided) (s : SettingsValue) (e : Ends) (count : ℕ) → SoFar decided s e count run.old → e.source_now ≡ S.told source.old
+        → SoFar decided s (at_source e (S.told source.new)) (count + 1) run.new) }
+    ensures err { IfErr result (λ halt. (decided : Decided) (s : SettingsValue) (e : Ends) (count : ℕ) → SoFar decided s e count run.old → e.source_now ≡ S.told source.old
+        → CutOff decided s halt (at_source e (S.told source.new)) (count + 1) run.new) }
     ensures journal { run.new.journal ≡ run.old.journal }
 {
     match source.more(buf) {
@@ -136,7 +146,7 @@ pub fn run<S: Source, K: Sink, G: Gate>(
     sink: &mut K,
     gate: &G,
 ) -> Ended
-    ensures ran { Ran (2 ^ 40) (map string_bytes words.now.items) (between (S.told source.old) (K.told sink.old) (S.told source.new) (K.told sink.new)) result }
+    ensures ran { Ran is_propositional (2 ^ 40) (map string_bytes words.now.items) (between (S.told source.old) (K.told sink.old) (S.told source.new) (K.told sink.new)) result }
     ensures untouched { are_taken (map string_bytes words.now.items) ≡ false → (source.new ≡ source.old) × (sink.new ≡ sink.old) × (result.journal ≡ []) }
     ensures silent { journal_text result.journal ≡ [] → sink.new ≡ sink.old }
 {
@@ -154,16 +164,16 @@ pub fn run_within<S: Source, K: Sink, G: Gate>(
     gate: &G,
 ) -> Ended
     requires { budget ≤ 2 ^ 40 }
-    ensures ran { Ran budget (map string_bytes words.now.items) (between (S.told source.old) (K.told sink.old) (S.told source.new) (K.told sink.new)) result }
+    ensures ran { Ran is_propositional budget (map string_bytes words.now.items) (between (S.told source.old) (K.told sink.old) (S.told source.new) (K.told sink.new)) result }
     ensures untouched { are_taken (map string_bytes words.now.items) ≡ false → (source.new ≡ source.old) × (sink.new ≡ sink.old) × (result.journal ≡ []) }
     ensures silent { journal_text result.journal ≡ [] → sink.new ≡ sink.old }
 {
     let _ = gate;
     match settings(alloc, words) {
         Ok(settings) => {
-            let mut run = Run::new(alloc, settings);
-            let outcome = drive(alloc, budget, source, sink, &mut run);
-            finish(outcome, run)
+            let mut run = Run::new(alloc, &settings);
+            let outcome = drive(alloc, budget, source, sink, &mut Plain, &mut run);
+            finish(outcome, run.into_journal())
         }
         Err(error) => unbegun(alloc, error),
     }
@@ -187,17 +197,12 @@ pub fn unbegun(alloc: Global, error: WordsError) -> Ended
 }
 
 /// The status of a run that is over, and why it is.
-fn finish(outcome: Result<Stage, Halt>, run: Run) -> Ended
-    ensures journal { result.journal ≡ run.journal }
-    ensures error { outcome ≡ Ok Stage.Complete → ((result.status ≡ 1) ↔ IsFaulty run.journal) }
+fn finish(outcome: Result<Stage, Halt>, journal: Seq<Entry>) -> Ended
+    ensures journal { result.journal ≡ journal }
+    ensures error { outcome ≡ Ok Stage.Complete → ((result.status ≡ 1) ↔ IsFaulty journal) }
     ensures status { StatusOf outcome result.status }
     ensures note { MatchesStatus result.note result.status }
 {
-    let Run {
-        reader: _,
-        stack: _,
-        journal,
-    } = run;
     let (status, note) = match outcome {
         Ok(Stage::Complete) => (u8::from(is_faulty(journal.as_slice())), Note::Fine),
         Ok(Stage::Asks) => (6, Note::TooLong),
@@ -218,5 +223,5 @@ fn is_faulty(journal: &[Entry]) -> bool
 {
     journal
         .iter()
-        .any(|entry| matches!(entry.reply, Reply::Fault(..)))
+        .any(|entry| matches!(entry.reply, Reply::Error(_)))
 }
