@@ -1,11 +1,11 @@
 -- The judgement of a body from that of its term.
-use Rattle.std.proofs.Common.{◌≡◌, ℕ, List, length, map, ap, sym, subst, ◌∙◌, refl, arith}
+use Rattle.std.proofs.Common.{◌≡◌, ℕ, List, length, map, ap, sym, subst, ◌∙◌, arith}
 use Rattle.std.specs.Prelude.{Result, Ok, Err}
 use Rattle.smt_meaning.specs.declared.tokens.Token.{Token}
 use Rattle.smt_meaning.specs.Declaration.{Body}
 use Rattle.smt_meaning.specs.Term.{Tree, tree_at}
 use Rattle.smt_meaning.specs.Sexp.{Sexp, sexp}
-use Rattle.smt_meaning.specs.Sorts.{Outcome, done, refused, judge}
+use Rattle.smt_meaning.specs.Sorts.{done, judge}
 use Rattle.smt_meaning.specs.StackCommand.{apart, in_body, judge_body}
 use Rattle.smt_sorts.specs.Names.{Names}
 use Rattle.elaborate.specs.declared.Parameter.{Parameter}

@@ -1,6 +1,6 @@
 -- The parameters of a definition as places and as bindings, and the nodes of a list of terms.
-use Rattle.std.proofs.Common.{◌≡◌, ℕ, zero, suc, ◌+◌, ◌<◌, ◌≤◌, List, [], ◌∷◌, ◌++◌, length, get_or, take, drop, map, All, inl, inr, ap, sym, subst, ◌∙◌, refl, arith, Bool, true, false, ◌||◌, append-nil}
-use Rattle.std.proofs.lemmas.List.{get_or_append_left, length_push, length-take-le, get_or-take}
+use Rattle.std.proofs.Common.{◌≡◌, ℕ, zero, suc, ◌+◌, ◌<◌, ◌≤◌, List, [], ◌∷◌, ◌++◌, length, get_or, take, map, All, inl, inr, ap, sym, subst, ◌∙◌, refl, arith, false}
+use Rattle.std.proofs.lemmas.List.{get_or_append_left, length_push, get_or-take}
 use Rattle.std.proofs.lemmas.List.Elements.{All-head, All-tail}
 use Rattle.std.proofs.Math.Seq.{get_or-append_seam}
 use Rattle.std.proofs.lemmas.Bool.{cases_lt}
@@ -13,7 +13,6 @@ use Rattle.smt_meaning.specs.Nodes.{pick, tree_of, trees_from, trees_of, AreNode
 use Rattle.smt_meaning.specs.Sorts.{Variable}
 use Rattle.elaborate.specs.declared.Parameter.{Parameter}
 use Rattle.elaborate.specs.Judged.{parameters_from}
-use Rattle.elaborate.specs.Values.{IsValue}
 use Rattle.elaborate.specs.Frames.{variable_at, AreBound}
 use Rattle.elaborate.specs.Bodies.{places_from, bindings_from}
 

@@ -1,5 +1,5 @@
 //! The body of a definition, which is judged apart.
-ghost use Rattle.std.specs.Prelude.{◌≡◌, ◌<◌, ◌≤◌, [], List, All, length, IfOk, IfErr, OnOk};
+ghost use Rattle.std.specs.Prelude.{◌≡◌, ◌<◌, [], List, All, length, IfOk, IfErr, OnOk};
 ghost use Rattle.smt_meaning.specs.Sexp.{sexp};
 ghost use Rattle.smt_meaning.specs.Term.{Tree, tree_at};
 ghost use Rattle.smt_meaning.specs.Nodes.{tree_of};
@@ -34,11 +34,7 @@ fn add_places(count: u32, store: &mut TermStore) -> Result<(), InternError>
 }
 
 /// The binding of each parameter to its place, the first parameter on top.
-fn bind(
-    alloc: Global,
-    parameters: &[Parameter],
-    count: u32,
-) -> Result<Stack<Binding>, AllocError>
+fn bind(alloc: Global, parameters: &[Parameter], count: u32) -> Result<Stack<Binding>, AllocError>
     requires { count ≡ length parameters.now }
     ensures { IfOk result (λ bs. bs ≡ bindings_from 0 parameters.now) }
 {
