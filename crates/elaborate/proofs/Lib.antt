@@ -11,3 +11,5 @@ pub mod Heads
 pub mod Runs
 pub mod Lets
 mod Puts
+pub mod Copies
+pub mod Bodied

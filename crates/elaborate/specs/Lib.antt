@@ -3,3 +3,4 @@ pub mod Judged
 pub mod Frames
 pub mod Steps
 pub mod Putting
+pub mod Bodies
