@@ -19,6 +19,7 @@ mod frame;
 mod head;
 mod numeral;
 mod operators;
+mod parts;
 mod read;
 mod stack;
 mod steps;
