@@ -170,11 +170,7 @@ fn terms(alloc: Global, store: &TermStore) -> Result<Terms, AllocError>
 }
 
 /// A stored term as the body of a definition.
-pub(crate) fn named_body(
-    alloc: Global,
-    store: &TermStore,
-    id: TermId,
-) -> Result<Body, AllocError>
+pub(crate) fn named_body(alloc: Global, store: &TermStore, id: TermId) -> Result<Body, AllocError>
     requires { id < length store.now.trees }
     ensures { IfOk result (λ b. b ≡ body_of (tree_at store.now.trees id)) }
 {
