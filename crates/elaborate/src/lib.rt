@@ -11,6 +11,8 @@ ghost use Rattle.elaborate.specs.Judged.{scope_of, rules_of, term_rules, typed_t
 ghost use Rattle.elaborate.specs.Values.{IsLonger, HasGrown, Comes};
 
 mod apply;
+mod bodies;
+mod definitions;
 mod error;
 mod forms;
 mod frame;
@@ -25,6 +27,7 @@ mod value;
 mod walk;
 
 use apply::Rules;
+use bodies::typed_body;
 pub use error::JudgeError;
 use look_ahead::ends;
 use read::judge_term;
@@ -121,7 +124,5 @@ pub fn body(
     ensures ok { IfOk result (λ b. (ts : List Tree) → judge_body (variables_of parameters.now) term.now (scope_of table.now ts) ≡ done (bodied_of b) (scope_of table.now ts)) }
     ensures refused { IfErr result (λ e. (ts : List Tree) → IsCauseOf e (judge_body (variables_of parameters.now) term.now (scope_of table.now ts))) }
 {
-    let _ = alloc;
-    let _ = (parameters.len(), term.len(), table.ids());
-    Err(JudgeError::Memory)
+    typed_body(alloc, parameters, term, table)
 }

@@ -2,9 +2,6 @@
 #![tactic(auto)]
 
 mod error;
-pub mod first;
-#[cfg(test)]
-mod first_tests;
 mod information;
 mod list;
 mod model;
