@@ -10,5 +10,6 @@ pub mod Moves
 pub mod Heads
 pub mod Runs
 pub mod Lets
+mod Puts
 pub mod Copies
 pub mod Bodied

@@ -2,4 +2,5 @@ pub mod Values
 pub mod Judged
 pub mod Frames
 pub mod Steps
+pub mod Putting
 pub mod Bodies

@@ -7,6 +7,7 @@ ghost use Rattle.smt_meaning.specs.Sorts.{judge_application, judge_bare, judge_s
 ghost use Rattle.elaborate.specs.Judged.{scope_of, rules_of};
 ghost use Rattle.elaborate.specs.Values.{AreValues, Comes, IsErrorOf, HasGrown, sort_of, typed};
 
+use crate::definitions::apply_definition;
 use crate::error::JudgeError;
 use crate::operators::{operator_sort, same_sort, stands_bare, takes};
 use crate::value::{Value, are_linear, is_linear_here, stored};
@@ -81,7 +82,7 @@ pub(crate) fn apply_operator(
 }
 
 /// Products are judged only where there are no parameters.
-fn may_stand(rules: Rules, linear: bool) -> bool
+pub(crate) fn may_stand(rules: Rules, linear: bool) -> bool
     ensures { result ≡ (not rules.closed || linear) }
 {
     !rules.closed || linear
@@ -133,7 +134,7 @@ pub(crate) fn apply_symbol(
     ensures longer { HasGrown store.old store.new }
 {
     match declaration.body() {
-        Some(_) => Err(JudgeError::Memory),
+        Some(body) => { apply_definition(alloc, rules, declaration, body, arguments, table, store) }
         None => apply_declared(alloc, rules, declaration, arguments, table, store),
     }
 }

@@ -12,6 +12,7 @@ ghost use Rattle.elaborate.specs.Values.{IsLonger, HasGrown, Comes};
 
 mod apply;
 mod bodies;
+mod definitions;
 mod error;
 mod forms;
 mod frame;
