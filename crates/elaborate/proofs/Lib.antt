@@ -13,3 +13,4 @@ pub mod Lets
 mod Puts
 pub mod Copies
 pub mod Bodied
+pub mod Named

@@ -4,3 +4,4 @@ pub mod Frames
 pub mod Steps
 pub mod Putting
 pub mod Bodies
+pub mod Naming

@@ -71,7 +71,7 @@ pub(crate) fn leave_form(walk: &mut Walk) -> Result<(), JudgeError>
 }
 
 /// The name that a token is.
-fn bound_name(alloc: Global, token: TokenView<'_>) -> Result<Bytes, JudgeError>
+pub(crate) fn bound_name(alloc: Global, token: TokenView<'_>) -> Result<Bytes, JudgeError>
     ensures ok { IfOk result (λ n. seen token.entry ≡ TokenValue.Symbol n) }
     ensures err { IfErr result (λ e. IsNoName (seen token.entry) e) }
 {

@@ -17,6 +17,7 @@ mod error;
 mod forms;
 mod frame;
 mod head;
+mod naming;
 mod numeral;
 mod operators;
 mod read;
