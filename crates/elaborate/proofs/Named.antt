@@ -82,6 +82,9 @@ declared_in d b s e = rw e refl
 not_declared_in : (d : Declaration) (b : Bool) (s : Scope) → b ≡ false → declare_in d b s ≡ refused TooManySymbols
 not_declared_in d b s e = rw e refl
 
+abbrev pub failed : AddError → Result ℕ AddError
+failed e = Err e
+
 no_error : (i : ℕ) (e : AddError) → (let x : Result ℕ AddError = Ok i in x ≡ Err e) → ⊥
 no_error i e h = cc
 
@@ -197,9 +200,9 @@ name_move r tokens s w v p rest n t ahead x e h k m =
     ∙ ap (λ z. on_words r (frames_of tokens s w.bindings (Naming v p ∷ rest)) z ahead s) k
     ∙ named_at r tokens s w.bindings v p rest n ahead x m
 
-returned : (fs : List Meant) (u : Scope) → go_on (done tt u) (λ a. return fs) ≡ done fs u
+returned : (o : Unit {0}) (fs : List Meant) (u : Scope) → go_on (done o u) (λ a. return fs) ≡ done fs u
 unfolding return
-returned fs u = refl
+returned o fs u = refl
 
 no_longer : (s u : Scope) → u.trees ≡ s.trees → ((added : List Declaration) × (u.signature ≡ s.signature ++ added)) → Grown s u
 no_longer s u e k = record { trees = ([], e ∙ sym (append-nil s.trees)); added = k.0; signature = k.1 }
@@ -213,7 +216,7 @@ name_put r tokens s u w w' v p rest n t ahead (Ok x) o e h k same m st i j =
     let stands : Stands s made = record { answer = st.answer; frames = (holds.0, holds.1); bindings = st.bindings } in
     let g : Grown s u = no_longer s u same m.1 in (
       name_move r tokens s w v p rest n t ahead (done tt u) e h k m.0
-          ∙ returned (frames_of tokens s w.bindings (Attributes v p 0 ∷ rest)) u
+          ∙ returned tt (frames_of tokens s w.bindings (Attributes v p 0 ∷ rest)) u
           ∙ ap (λ fs. done fs u) (sym (walk_same tokens s u made g stands ∙ shown_is tokens s made (Attributes v p 0 ∷ rest) e refl))
           ∙ ap (λ z. done (walk_of tokens u z) u) (sym i),
       subst (Stands u) (sym i) (stands_grows s u made g stands),
@@ -243,6 +246,30 @@ pub no_name : (r : Rules) (tokens : List Token) (s u : Scope) (w w' : Walk) (v :
 no_name r tokens s u w w' v p rest t ahead (Refused x) a h k =
     ap (λ fs. on_words r fs t ahead s) (shown_is tokens s w (Naming v p ∷ rest) a h) ∙ no_symbol r tokens s w.bindings v p rest t ahead k.0 ∙ ap refused (sym k.1)
 no_name r tokens s u w w' v p rest t ahead Memory a h k = tt
+
+-- where no names are given
+pub no_naming : (r : Rules) (tokens : List Token) (s : Scope) (w : Walk) (v : Value) (p : ℕ) (rest : List Frame) (t : Token) (ahead : Sexps) → r.naming ≡ false → w.answer ≡ None → w.frames ≡ Naming v p ∷ rest
+    → on_words r (walk_of tokens s w) t ahead s ≡ refused WrongArguments
+no_naming r tokens s w v p rest (Symbol n) ahead f e h =
+    name_move r tokens s w v p rest n (Symbol n) ahead (refused WrongArguments) e h refl (naming_not r (is_open_at tokens s.trees w.bindings p) (typed s.trees v) n s f)
+no_naming r tokens s w v p rest Enter ahead f e h =
+    ap (λ fs. on_words r fs Enter ahead s) (shown_is tokens s w (Naming v p ∷ rest) e h) ∙ no_symbol r tokens s w.bindings v p rest Enter ahead refl
+no_naming r tokens s w v p rest Leave ahead f e h =
+    ap (λ fs. on_words r fs Leave ahead s) (shown_is tokens s w (Naming v p ∷ rest) e h) ∙ no_symbol r tokens s w.bindings v p rest Leave ahead refl
+no_naming r tokens s w v p rest (Numeral cs) ahead f e h =
+    ap (λ fs. on_words r fs (Numeral cs) ahead s) (shown_is tokens s w (Naming v p ∷ rest) e h) ∙ no_symbol r tokens s w.bindings v p rest (Numeral cs) ahead refl
+no_naming r tokens s w v p rest (Decimal cs) ahead f e h =
+    ap (λ fs. on_words r fs (Decimal cs) ahead s) (shown_is tokens s w (Naming v p ∷ rest) e h) ∙ no_symbol r tokens s w.bindings v p rest (Decimal cs) ahead refl
+no_naming r tokens s w v p rest (Hex cs) ahead f e h =
+    ap (λ fs. on_words r fs (Hex cs) ahead s) (shown_is tokens s w (Naming v p ∷ rest) e h) ∙ no_symbol r tokens s w.bindings v p rest (Hex cs) ahead refl
+no_naming r tokens s w v p rest (Binary cs) ahead f e h =
+    ap (λ fs. on_words r fs (Binary cs) ahead s) (shown_is tokens s w (Naming v p ∷ rest) e h) ∙ no_symbol r tokens s w.bindings v p rest (Binary cs) ahead refl
+no_naming r tokens s w v p rest (Text cs) ahead f e h =
+    ap (λ fs. on_words r fs (Text cs) ahead s) (shown_is tokens s w (Naming v p ∷ rest) e h) ∙ no_symbol r tokens s w.bindings v p rest (Text cs) ahead refl
+no_naming r tokens s w v p rest (Reserved cs) ahead f e h =
+    ap (λ fs. on_words r fs (Reserved cs) ahead s) (shown_is tokens s w (Naming v p ∷ rest) e h) ∙ no_symbol r tokens s w.bindings v p rest (Reserved cs) ahead refl
+no_naming r tokens s w v p rest (Keyword cs) ahead f e h =
+    ap (λ fs. on_words r fs (Keyword cs) ahead s) (shown_is tokens s w (Naming v p ∷ rest) e h) ∙ no_symbol r tokens s w.bindings v p rest (Keyword cs) ahead refl
 
 -- ---- all tokens
 

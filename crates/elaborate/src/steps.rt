@@ -237,7 +237,7 @@ fn word(
         return head(alloc, rules, term, ends, place, token, walk, table);
     }
     if takes_word(kind) {
-        return word_form(alloc, token, walk);
+        return word_form(alloc, rules, token, walk);
     }
     Err(JudgeError::Refused(Refusal::WrongArguments))
 }
