@@ -107,7 +107,7 @@ taken_at tokens i h = go tokens i h
         let e : suc (k + 1) ≡ suc k + 1 = omega arith in
         (rest.0, rest.1 ∙ ap (λ j. rest.0 ∷ drop j (x ∷ xs)) e)
 
-run_step : (r : Rules) (t : Token) (ts : List Token) (fs : List Meant) (s : Scope) (x : Outcome (List Meant)) → step r fs t (open_lists_of ts) s ≡ x → run r (t ∷ ts) fs s ≡ go_on x (run r ts)
+pub run_step : (r : Rules) (t : Token) (ts : List Token) (fs : List Meant) (s : Scope) (x : Outcome (List Meant)) → step r fs t (open_lists_of ts) s ≡ x → run r (t ∷ ts) fs s ≡ go_on x (run r ts)
 unfolding ◌>>=◌
 run_step r t ts fs s x e = ap (λ y. go_on y (run r ts)) e
 
@@ -126,7 +126,7 @@ stops r tokens s fs i w w' ts u v t (Refused why) here e h =
     here.rest ∙ ap (λ xs. run r xs (walk_of tokens (at s ts) w) (at s ts)) e ∙ run_step r t (drop (i + 1) tokens) (walk_of tokens (at s ts) w) (at s ts) (refused why) h
 stops r tokens s fs i w w' ts u v t Memory here e h = tt
 
-run_nothing : (r : Rules) (fs : List Meant) (s : Scope) → run r [] fs s ≡ done fs s
+pub run_nothing : (r : Rules) (fs : List Meant) (s : Scope) → run r [] fs s ≡ done fs s
 unfolding return
 run_nothing r fs s = refl
 
@@ -142,12 +142,12 @@ run_finish : (r : Rules) (tokens : List Token) (fs : List Meant) (s : Scope) (x 
 unfolding ◌>>=◌
 run_finish r tokens fs s x e = ap (λ y. go_on y finish) e
 
-finished_answer : (tokens : List Token) (u : Scope) (o : Option Value) (bs : List Binding) (fs : List Frame) (v : Value) → o ≡ Some v → finish (stack_of tokens u o bs fs) u ≡ done (typed u.trees v) u
+pub finished_answer : (tokens : List Token) (u : Scope) (o : Option Value) (bs : List Binding) (fs : List Frame) (v : Value) → o ≡ Some v → finish (stack_of tokens u o bs fs) u ≡ done (typed u.trees v) u
 unfolding return
 finished_answer tokens u None bs fs v e = absurd (cc)
 finished_answer tokens u (Some x) bs fs v e = let same : x ≡ v = cc in ap (λ y. done (typed u.trees y) u) same
 
-unfinished : (tokens : List Token) (u : Scope) (o : Option Value) (bs : List Binding) (fs : List Frame) → o ≡ None → finish (stack_of tokens u o bs fs) u ≡ refused WrongArguments
+pub unfinished : (tokens : List Token) (u : Scope) (o : Option Value) (bs : List Binding) (fs : List Frame) → o ≡ None → finish (stack_of tokens u o bs fs) u ≡ refused WrongArguments
 unfolding refuse
 unfinished tokens u (Some x) bs fs e = absurd (cc)
 unfinished tokens u None bs [] e = refl
@@ -164,7 +164,7 @@ unfinished tokens u None bs (Annotation p ∷ fs) e = refl
 unfinished tokens u None bs (Attributes v p d ∷ fs) e = refl
 unfinished tokens u None bs (Naming v p ∷ fs) e = refl
 
-judged_is : (law : WalkGivesTheJudgement) (r : Rules) (tokens : List Token) (s : Scope) (w : Walk) (x : Outcome (List Meant)) → IsSexp tokens → w.answer ≡ None → w.frames ≡ [] → run r tokens (walk_of tokens s w) s ≡ x
+pub judged_is : (law : WalkGivesTheJudgement) (r : Rules) (tokens : List Token) (s : Scope) (w : Walk) (x : Outcome (List Meant)) → IsSexp tokens → w.answer ≡ None → w.frames ≡ [] → run r tokens (walk_of tokens s w) s ≡ x
     → judge r (map (variable_at s.trees) w.bindings) (sexp tokens) s ≡ go_on x finish
 judged_is law r tokens s w x form a f e =
     let start : walk_of tokens s w ≡ whole (map (variable_at s.trees) w.bindings) ∷ [] = ap (λ o. stack_of tokens s o w.bindings w.frames) a ∙ ap (frames_of tokens s w.bindings) f in

@@ -5,9 +5,11 @@ ghost use Rattle.smt_meaning.specs.Seen.{seen};
 ghost use Rattle.smt_meaning.specs.Sexp.{Sexps};
 ghost use Rattle.smt_meaning.specs.Sorts.{Scope, Rules as RulesValue};
 ghost use Rattle.term_walk.specs.Walk.{on_leave, on_words};
+ghost use Rattle.elaborate.specs.Judged.{rules_of};
 ghost use Rattle.elaborate.specs.Frames.{walk_of, Stands};
 ghost use Rattle.elaborate.specs.Steps.{kind_of, takes_word, is_named, IsNoName, StepComes};
 
+use crate::apply::Rules;
 use crate::error::JudgeError;
 use crate::frame::{Binding, Frame, Walk};
 use crate::stack::Stack;
@@ -71,7 +73,7 @@ pub(crate) fn leave_form(walk: &mut Walk) -> Result<(), JudgeError>
 }
 
 /// The name that a token is.
-fn bound_name(alloc: Global, token: TokenView<'_>) -> Result<Bytes, JudgeError>
+pub(crate) fn bound_name(alloc: Global, token: TokenView<'_>) -> Result<Bytes, JudgeError>
     ensures ok { IfOk result (λ n. seen token.entry ≡ TokenValue.Symbol n) }
     ensures err { IfErr result (λ e. IsNoName (seen token.entry) e) }
 {
@@ -110,15 +112,16 @@ fn is_named(token: TokenView<'_>) -> bool
     }
 }
 
-/// The name of a binding, or an attribute. The name that `:named` gives isn't read yet.
+/// The name of a binding, or an attribute. Where `:named` is allowed, the name that it gives is read elsewhere.
 pub(crate) fn word_form(
     alloc: Global,
+    rules: Rules,
     token: TokenView<'_>,
     walk: &mut Walk,
 ) -> Result<(), JudgeError>
     requires kind { takes_word (kind_of walk.old.answer walk.old.frames) ≡ true }
     requires none { walk.old.answer ≡ None }
-    ensures { (tokens : List TokenValue) (s : Scope) (r : RulesValue) (ahead : Sexps) → Stands s walk.old → StepComes (on_words r (walk_of tokens s walk.old) (seen token.entry) ahead) s tokens s walk.new result }
+    ensures { (tokens : List TokenValue) (s : Scope) (ahead : Sexps) → Stands s walk.old → StepComes (on_words (rules_of rules) (walk_of tokens s walk.old) (seen token.entry) ahead) s tokens s walk.new result }
 {
     match walk.frames.pop() {
         Some(Frame::BindingOpen(bound)) => match bound_name(alloc, token) {
@@ -130,6 +133,13 @@ pub(crate) fn word_form(
                 push(walk, Frame::Naming(value, place))
             } else {
                 push(walk, Frame::Attributes(value, place, 0))
+            }
+        }
+        Some(Frame::Naming(_, _)) => {
+            if rules.naming {
+                Err(JudgeError::Memory)
+            } else {
+                Err(JudgeError::Refused(Refusal::WrongArguments))
             }
         }
         _ => Err(JudgeError::Memory),

@@ -8,7 +8,8 @@ ghost use Rattle.smt_meaning.specs.Sorts.{judge, done};
 ghost use Rattle.smt_meaning.specs.StackCommand.{judge_body};
 ghost use Rattle.smt_sorts.specs.Names.{Names, HasGained};
 ghost use Rattle.elaborate.specs.Judged.{scope_of, rules_of, term_rules, typed_term, IsCauseOf, variables_of, bodied_of};
-ghost use Rattle.elaborate.specs.Values.{IsLonger, HasGrown, Comes};
+ghost use Rattle.elaborate.specs.Values.{IsLonger, HasGrown};
+ghost use Rattle.elaborate.specs.Naming.{TermComes};
 
 mod apply;
 mod bodies;
@@ -17,6 +18,7 @@ mod error;
 mod forms;
 mod frame;
 mod head;
+mod naming;
 mod numeral;
 mod operators;
 mod parts;
@@ -31,10 +33,9 @@ use apply::Rules;
 use bodies::typed_body;
 pub use error::JudgeError;
 use look_ahead::ends;
-use read::judge_term;
+use naming::judge_named;
 use smt_meaning::{Body, Bytes, SExpr, Sort, TermId};
 use smt_sorts::Table;
-use stack::Stack;
 use std::alloc::Global;
 use term_store::TermStore;
 use value::Value;
@@ -77,6 +78,7 @@ pub fn term(
     ensures limit { store.new.limit ≡ store.old.limit }
     ensures err { OnErr result ((table.new ≡ table.old) × (store.new ≡ store.old)) }
 {
+    let ids = table.ids();
     let count = store.len();
     let rules = Rules {
         naming,
@@ -88,28 +90,27 @@ pub fn term(
             sort: value.sort,
         }),
         Err(error) => {
+            table.cut_ids(ids);
             store.cut(count);
             Err(error)
         }
     }
 }
 
-/// Judges a term without variables. An `Err` may leave parts of the term among the terms.
+/// Judges a term without variables. An `Err` may leave names and parts of the term.
 fn judged(
     alloc: Global,
     rules: Rules,
     term: &SExpr,
-    table: &Table,
+    table: &mut Table,
     store: &mut TermStore,
 ) -> Result<Value, JudgeError>
-    ensures comes { Comes (judge (rules_of rules) [] (sexp term.now)) (scope_of table.now store.old.trees) store.new.trees result }
+    ensures comes { TermComes (judge (rules_of rules) [] (sexp term.now)) (scope_of table.old store.old.trees) (scope_of table.new store.new.trees) result }
     ensures longer { HasGrown store.old store.new }
+    ensures gained { (t : Names) → HasGained t table.old → HasGained t table.new }
 {
     match ends(alloc, term) {
-        Ok(ends) => {
-            let none = Stack::new(alloc);
-            judge_term(alloc, rules, term, &ends, none, table, store)
-        }
+        Ok(ends) => judge_named(alloc, rules, term, &ends, table, store),
         Err(_) => Err(JudgeError::Memory),
     }
 }

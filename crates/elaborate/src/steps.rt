@@ -55,6 +55,17 @@ fn class_of(token: TokenView<'_>) -> Class
     }
 }
 
+/// Whether a token is no parenthesis.
+pub(crate) fn is_word(token: TokenView<'_>) -> bool
+    ensures { result ≡ true → class_of (seen token.entry) ≡ Class.Word }
+{
+    match class_of(token) {
+        Class::Word => true,
+        Class::Opening => false,
+        Class::Closing => false,
+    }
+}
+
 /// A token where a term may stand.
 fn word_term(
     alloc: Global,
@@ -226,7 +237,7 @@ fn word(
         return head(alloc, rules, term, ends, place, token, walk, table);
     }
     if takes_word(kind) {
-        return word_form(alloc, token, walk);
+        return word_form(alloc, rules, token, walk);
     }
     Err(JudgeError::Refused(Refusal::WrongArguments))
 }

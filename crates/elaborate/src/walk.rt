@@ -1,5 +1,5 @@
 //! Terms are given to the terms around them.
-ghost use Rattle.std.specs.Prelude.{◌≡◌, ◌∷◌, List, None, drop, IfOk, OnOk, OnErr};
+ghost use Rattle.std.specs.Prelude.{◌≡◌, ◌∷◌, List, None, true, drop, IfOk, OnOk, OnErr};
 ghost use Rattle.elaborate.specs.declared.frame.Binding.{Binding as BindingValue};
 ghost use Rattle.elaborate.specs.Frames.{outside};
 ghost use Rattle.elaborate.specs.Steps.{kind_of, kind_of_frame, attribute_kind, is_answered, is_past, awaits_term, is_argument, is_head, takes_list, takes_word, may_end, IsGiven, Given};
@@ -144,6 +144,19 @@ pub(crate) fn give(walk: &mut Walk, value: Value) -> Result<(), AllocError>
         }
     }
     Ok(())
+}
+
+/// The name of a term comes next.
+pub(crate) fn awaits_name(walk: &Walk) -> bool
+    ensures { result ≡ true → walk.now.answer ≡ None }
+{
+    match walk.answer {
+        Some(_) => false,
+        None => match walk.frames.newest() {
+            Some(Frame::Naming(_, _)) => true,
+            _ => false,
+        },
+    }
 }
 
 /// All is read.

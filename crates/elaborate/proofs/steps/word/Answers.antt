@@ -32,4 +32,4 @@ pub word_form-requires-clause-none : goal.word_form-requires-clause-none
 word_form-requires-clause-none c = none_takes_word c.args.walk.now.answer c.args.walk.now.frames (ap takes_word (sym c.what_comes-kind.ensures) ∙ sym c.takes_word.ensures ∙ c.if-takes_word.true)
 
 pub returns-then-takes_word-clause-comes : goal.returns-then-takes_word-clause-comes
-returns-then-takes_word-clause-comes c = c.word_form.ensures c.args.term.now (scope_of c.args.table.now c.args.store.now.trees) (rules_of c.args.rules) (ahead c.args.term.now c.args.place) c.requires.stands
+returns-then-takes_word-clause-comes c = c.word_form.ensures c.args.term.now (scope_of c.args.table.now c.args.store.now.trees) (ahead c.args.term.now c.args.place) c.requires.stands
