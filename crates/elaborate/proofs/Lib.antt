@@ -14,3 +14,4 @@ mod Puts
 pub mod Copies
 pub mod Bodied
 pub mod Named
+pub mod PartCopies

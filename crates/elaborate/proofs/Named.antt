@@ -26,7 +26,7 @@ use Rattle.elaborate.specs.declared.frame.Walk.{Walk}
 use Rattle.elaborate.specs.declared.error.JudgeError.{JudgeError}
 use Rattle.elaborate.specs.declared.error.JudgeError.TheVariants.{Refused, Memory}
 use Rattle.elaborate.specs.Judged.{scope_of, IsCauseOf}
-use Rattle.elaborate.specs.Values.{typed, IsValue}
+use Rattle.elaborate.specs.Values.{typed}
 use Rattle.elaborate.specs.Frames.{find_value, variable_at, is_open_at, frames_of, walk_of, AllHold, AnswerHolds, Stands}
 use Rattle.elaborate.specs.Steps.{StepComes, is_symbol, IsNoName}
 use Rattle.elaborate.specs.Naming.{names_bound, why_not_new, IsWhyNotNew, NameComes, TermComes}
@@ -161,6 +161,7 @@ naming_new r o a n s u y e h i j k = go y k
   where
     same : name_term r o a n s ≡ declare (λ id. name_declaration id n a) s
     same = named_so r o a n s true false None (may_name r.naming o e h) i j ∙ as_declared n a s
+
     go : (y : Result (Unit {0}) JudgeError) → NameComes (declare (λ id. name_declaration id n a)) s u y → NameComes (name_term r o a n) s u y
     go (Ok x) k = (same ∙ k.0, k.1)
     go (Err (Refused x)) k = same ∙ k

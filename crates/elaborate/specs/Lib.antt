@@ -5,3 +5,4 @@ pub mod Steps
 pub mod Putting
 pub mod Bodies
 pub mod Naming
+pub mod Parts

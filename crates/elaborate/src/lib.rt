@@ -21,6 +21,7 @@ mod head;
 mod naming;
 mod numeral;
 mod operators;
+mod parts;
 mod read;
 mod stack;
 mod steps;

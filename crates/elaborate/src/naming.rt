@@ -3,9 +3,9 @@ ghost use Rattle.std.specs.Prelude.{◌≡◌, ◌+◌, ◌<◌, ◌∷◌, [], 
 ghost use Rattle.smt_meaning.specs.declared.tokens.Token.{Token as TokenValue};
 ghost use Rattle.smt_meaning.specs.Seen.{seen};
 ghost use Rattle.smt_meaning.specs.Sexp.{Sexps, open_lists_of, sexp};
-ghost use Rattle.smt_meaning.specs.Term.{Tree, tree_at};
+ghost use Rattle.smt_meaning.specs.Term.{Tree};
 ghost use Rattle.smt_meaning.specs.Signature.{is_one_of, find_function, reserved_functions};
-ghost use Rattle.smt_meaning.specs.Sorts.{judge, declare, name_declaration, name_term, body_of};
+ghost use Rattle.smt_meaning.specs.Sorts.{judge, declare, name_declaration, name_term};
 ghost use Rattle.smt_sorts.specs.Names.{Names, signature, HasGained, IsNewFunction};
 ghost use Rattle.term_walk.specs.Walk.{step, run, on_words};
 ghost use Rattle.look_ahead.specs.Ahead.{AreEnds};
@@ -19,12 +19,13 @@ use crate::apply::Rules;
 use crate::error::JudgeError;
 use crate::forms::bound_name;
 use crate::frame::{Binding, Frame, Walk, find};
+use crate::parts::named_body;
 use crate::stack::Stack;
 use crate::steps::{is_word, step};
 use crate::value::Value;
 use crate::walk::{awaits_name, push};
 use look_ahead::has_free_first;
-use smt_meaning::{Body, Bytes, Rank, Refusal, SExpr, Seq, TermId, TokenView};
+use smt_meaning::{Bytes, Rank, Refusal, SExpr, Seq, TokenView};
 use smt_sorts::{AddError, NameError, Table};
 use std::alloc::{AllocError, Global};
 use term_store::TermStore;
@@ -86,14 +87,6 @@ fn check_new(alloc: Global, name: &[u8], table: &Table) -> Result<(), JudgeError
             Err(_) => Err(JudgeError::Memory),
         },
     }
-}
-
-/// A term as the body of a definition.
-fn named_body(alloc: Global, store: &TermStore, id: TermId) -> Result<Body, AllocError>
-    requires { id < length store.now.trees }
-    ensures { IfOk result (λ b. b ≡ body_of (tree_at store.now.trees id)) }
-{
-    Err(AllocError)
 }
 
 /// Defines a name that is new as a term.

@@ -1,5 +1,5 @@
 //! Which terms of a stack are propositional, which are parts of its assertions, and which of these are Boolean constants.
-ghost use Rattle.std.specs.Prelude.{◌≡◌, ◌<◌, [], length, map, take, All, IfOk, IfSome, IfNone, None, Some, true, false, slice_index_or};
+ghost use Rattle.std.specs.Prelude.{◌≡◌, ◌<◌, [], length, map, take, All, IfOk, true, false, slice_index_or};
 ghost use Rattle.std.specs.List.{list_all};
 ghost use Rattle.smt_meaning.specs.Term.{tree_at};
 ghost use Rattle.smt_meaning.specs.Signature.{function_with_id, symbol_sort, is_bool, stands_with as may_stand};
@@ -8,7 +8,7 @@ ghost use Rattle.smt_meaning.specs.Stack.{signature_of};
 ghost use Rattle.plain_decider.specs.Search.{IsTruthPlace};
 
 use scope_stack::{Assertion, Stack};
-use smt_meaning::{Declaration, Head, Operator, Sort, SymId, TermId};
+use smt_meaning::{Head, Operator, Sort, SymId, TermId};
 use std::alloc::{AllocError, Global};
 use term_laws::value_has_its_sort;
 
@@ -42,24 +42,11 @@ fn stands_with(operator: Operator, count: usize) -> bool
     }
 }
 
-/// The function with this number.
-fn declared(declarations: &[Declaration], symbol: SymId) -> Option<&Declaration>
-    ensures some { IfSome result (λ d. function_with_id symbol declarations.now ≡ Some d.now) }
-    ensures none { IfNone result (function_with_id symbol declarations.now ≡ None) }
-{
-    for declaration in declarations {
-        if declaration.id() == symbol && !declaration.is_sort() {
-            return Some(declaration);
-        }
-    }
-    None
-}
-
 /// Whether a symbol is a Boolean constant.
-fn is_truth(declarations: &[Declaration], symbol: SymId) -> bool
-    ensures { result ≡ is_bool (symbol_sort (function_with_id symbol declarations.now) []) }
+fn is_truth(stack: &Stack, symbol: SymId) -> bool
+    ensures { result ≡ is_bool (symbol_sort (function_with_id symbol (signature_of stack.now.frames)) []) }
 {
-    match declared(declarations, symbol) {
+    match stack.function_with_id(symbol) {
         Some(found) => {
             found.is_symbol()
                 && found.rank().arguments.len() == 0
@@ -70,12 +57,12 @@ fn is_truth(declarations: &[Declaration], symbol: SymId) -> bool
 }
 
 /// Whether a head may stand over so many propositional arguments.
-fn is_propositional_head(declarations: &[Declaration], head: Head, count: usize) -> bool
-    ensures { result ≡ may_head declarations.now head count }
+fn is_propositional_head(stack: &Stack, head: Head, count: usize) -> bool
+    ensures { result ≡ may_head (signature_of stack.now.frames) head count }
 {
     match head {
         Head::Theory(operator) => is_connective(operator) && stands_with(operator, count),
-        Head::Symbol(symbol) => count == 0 && is_truth(declarations, symbol),
+        Head::Symbol(symbol) => count == 0 && is_truth(stack, symbol),
         _ => false,
     }
 }
@@ -100,7 +87,7 @@ fn is_propositional(stack: &Stack, flags: &[bool], id: TermId) -> bool
     ensures { result ≡ is_propositional_tree (signature_of stack.now.frames) (tree_at stack.now.trees id) }
 {
     let node = stack.terms().node(id);
-    is_propositional_head(stack.declarations(), node.head, node.arguments.len())
+    is_propositional_head(stack, node.head, node.arguments.len())
         & all_flagged(flags, node.arguments)
 }
 
@@ -192,7 +179,7 @@ fn is_constant(stack: &Stack, id: TermId) -> bool
     let node = stack.terms().node(id);
     match node.head {
         Head::Symbol(symbol) => {
-            node.arguments.is_empty() && is_truth(stack.declarations(), symbol)
+            node.arguments.is_empty() && is_truth(stack, symbol)
         }
         _ => false,
     }

@@ -203,6 +203,8 @@ asked_answers texts t v old now xss terms h j e l =
       is_judged = judged-to (ask_terms texts) t j.names old.trees now.trees xss j.is_judged;
       within = j.within;
       new_is = ap (λ w. stack_by w now.trees xss) e ∙ asked_stack t j.names old.trees now.trees (typed_by now.trees terms) xss l h.within;
+      reached = h.reached;
+      longer = l;
     }
 
 asked_cause : (texts : List (List Token)) (s : Stack) (e : StackError) → IsCause e (judged (question texts) s) → Answers texts s (Err e) s

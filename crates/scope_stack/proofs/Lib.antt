@@ -10,3 +10,4 @@ pub mod DeclareSteps
 pub mod GainLemmas
 pub mod TermSteps
 pub mod ParameterSteps
+pub mod BackLemmas

@@ -4,12 +4,14 @@ use Rattle.smt_meaning.specs.declared.tokens.Token.{Token}
 use Rattle.smt_meaning.specs.declared.refusals.Refusal.{Refusal}
 use Rattle.smt_meaning.specs.Term.{Tree, tree_at}
 use Rattle.smt_meaning.specs.Sorts.{Scope, done, refused, Judging, Typed}
+use Rattle.elaborate.specs.Values.{IsLonger}
 use Rattle.smt_meaning.specs.StackCommand.{Stack, Change, declares, asserts, pushes, pops, asks, clears, begins_again, is_unsupported, scope_of, judged, changed, ask_terms}
 use Rattle.scope_stack.specs.declared.answers.Carried.{Carried}
 use Rattle.scope_stack.specs.declared.answers.Carried.TheVariants.{Done, Unsupported}
 use Rattle.scope_stack.specs.declared.answers.StackError.{StackError}
 use Rattle.scope_stack.specs.declared.answers.StackError.TheVariants.{Refused, Memory}
 use Rattle.scope_stack.specs.declared.answers.Asked.{Asked}
+use Rattle.scope_stack.specs.Inside.{IsReached}
 
 -- declarations, assertions, and levels that come or go
 abbrev pub is_plain : Change → Bool
@@ -60,6 +62,16 @@ pub record IsAsked (texts : List (List Token)) (terms : List Asked) (old new : S
   pub is_judged : judged (question texts) old ≡ done (asks (typed_by scope.trees terms)) scope
   pub within : All (λ (a : Asked). a.term < length scope.trees) terms
   pub new_is : new ≡ changed old (asks (typed_by scope.trees terms)) scope
+  pub reached : IsReached old
+  pub longer : IsLonger old.trees new.trees
+
+-- a question was answered by this stack, before which there were so many terms
+pub record IsAfterQuestion (terms : ℕ) (new : Stack) : Type 0 where
+  pub texts : List (List Token)
+  pub asked : List Asked
+  pub old : Stack
+  pub many : length old.trees ≡ terms
+  pub is_asked : IsAsked texts asked old new
 
 abbrev pub Answers : List (List Token) → Stack → Result (List Asked) StackError → Stack → Type 0
 Answers texts old (Ok terms) new = IsAsked texts terms old new

@@ -6,12 +6,12 @@ use crate::asserted::Asserted;
 use crate::declare;
 use crate::term::{judge_assertion, judge_questions};
 use smt_meaning::language::{Parameter, WrittenSort};
-use smt_meaning::{Bytes, Declaration, Refusal, SExpr, Seq};
+use smt_meaning::{Bytes, Declaration, Refusal, SExpr, Seq, SymId};
 use smt_sorts::Table;
 use sort_laws::{assertions_are_truths, parts_are_among_the_trees, trees_are_in_order};
 use std::alloc::Global;
 use std::marker::Model;
-use term_laws::no_id_twice;
+use term_laws::{no_id_twice, tree_equality_decides};
 use term_store::TermStore;
 
 /// How many terms there may be.
@@ -57,10 +57,14 @@ fn at_most(count: i128, most: u32) -> Option<u32>
 }
 
 impl Stack {
-    ghost use Rattle.std.specs.Prelude.{◌≡◌, ◌≤◌, ◌≢◌, [], unsigned_abs};
+    ghost use Rattle.std.specs.Prelude.{◌≡◌, ◌≤◌, ◌≢◌, [], unsigned_abs, length, List, IfSome, IfNone, Some, None};
+    ghost use Rattle.smt_meaning.specs.Signature.{function_with_id};
     ghost use Rattle.smt_meaning.specs.Stack.{depth, signature_of, start_frames};
-    ghost use Rattle.smt_meaning.specs.StackCommand.{start, declare_sort, define_sort, declare_function, define_function, assert_term, push_levels, pop_levels};
-    ghost use Rattle.scope_stack.specs.Carries.{Carries, Answers};
+    ghost use Rattle.smt_meaning.specs.State.{name_of_sort};
+    ghost use Rattle.smt_meaning.specs.declared.tokens.Token.{Token};
+    ghost use Rattle.scope_stack.specs.declared.answers.Asked.{Asked};
+    ghost use Rattle.smt_meaning.specs.StackCommand.{Stack as StackValue, start, declare_sort, define_sort, declare_function, define_function, assert_term, push_levels, pop_levels};
+    ghost use Rattle.scope_stack.specs.Carries.{Carries, Answers, IsAsked, IsAfterQuestion};
     ghost use Rattle.scope_stack.specs.Shown.{AreAsserted, IsLawful};
 
     /// Level 0 alone, with nothing in it. It takes no memory.
@@ -94,6 +98,21 @@ impl Stack {
         ensures { result.now ≡ signature_of self.now.frames }
     {
         self.table.declarations()
+    }
+
+    /// The function with this id.
+    pub fn function_with_id(&self, id: SymId) -> Option<&Declaration>
+        ensures some { IfSome result (λ d. function_with_id id (signature_of self.now.frames) ≡ Some d.now) }
+        ensures none { IfNone result (function_with_id id (signature_of self.now.frames) ≡ None) }
+    {
+        self.table.function_with_id(id)
+    }
+
+    /// The name of the sort with this id, empty where there is none.
+    pub fn sort_name(&self, id: SymId) -> &[u8]
+        ensures { result.now ≡ name_of_sort id (signature_of self.now.frames) }
+    {
+        self.table.sort_name(id)
     }
 
     /// The assertions of all levels, in order.
@@ -190,6 +209,17 @@ impl Stack {
     {
         let asked = judge_questions(alloc, terms, &mut self.table, &mut self.terms)?;
         Ok(asked)
+    }
+
+    /// Takes the terms of the question back that was asked last, before which there were so many. It takes no memory.
+    pub fn forget(&mut self, terms: u32)
+        requires { IsAfterQuestion terms self.old }
+        ensures { (texts : List (List Token)) (asked : List Asked) (t : StackValue) → length t.trees ≡ terms → IsAsked texts asked t self.old → self.new ≡ t }
+    {
+        tree_equality_decides();
+        trees_are_in_order();
+        parts_are_among_the_trees();
+        self.terms.cut(terms);
     }
 
     /// `(push count)` (section 4.2.2).

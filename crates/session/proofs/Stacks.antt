@@ -7,15 +7,15 @@ use Rattle.smt_meaning.specs.declared.answers.Reply.{Reply}
 use Rattle.smt_meaning.specs.declared.answers.Reply.TheVariants as Given
 use Rattle.smt_meaning.specs.declared.commands.Command.{Command}
 use Rattle.smt_meaning.specs.declared.commands.Command.TheVariants.{SetLogic, SetOption, GetOption, SetInfo, GetInfo, Echo, Exit, Reset, ResetAssertions, DeclareSort, DefineSort, DeclareConst, DeclareFun, DefineFun, Assert, CheckSat, Push, Pop, GetValue, GetModel, GetAssertions, LeftOut}
-use Rattle.smt_meaning.specs.Sorts.{Scope, done, refused, Judging, return}
-use Rattle.smt_meaning.specs.StackCommand.{Stack, Change, declares, asserts, pushes, pops, asks, clears, begins_again, is_unsupported, judged, changed, scope_of, start, stack_command}
+use Rattle.smt_meaning.specs.Sorts.{Scope, done, Judging, return}
+use Rattle.smt_meaning.specs.StackCommand.{Stack, Change, declares, asserts, pushes, pops, asks, clears, begins_again, is_unsupported, judged, changed, stack_command}
 use Rattle.smt_meaning.specs.Stack.{start_frames}
 use Rattle.smt_meaning.specs.State.{State, Effect, accepted, left_out, denied, with_logic, in_logic, asserting, on_stack, stack_effect}
 use Rattle.smt_meaning.specs.State as States
 use Rattle.smt_meaning.specs.MayReply.{success}
 use Rattle.scope_stack.specs.declared.answers.Carried.TheVariants.{Done, Unsupported}
-use Rattle.scope_stack.specs.declared.answers.StackError.TheVariants.{Refused, Memory}
-use Rattle.scope_stack.specs.Carries.{is_plain, IsDone, IsLeftOut, IsRefused, Carries}
+use Rattle.scope_stack.specs.declared.answers.StackError.TheVariants.{Refused}
+use Rattle.scope_stack.specs.Carries.{is_plain, Carries}
 use Rattle.session.specs.Effects.{Comes, is_carried}
 
 -- the state with this stack, in the mode of assertions

@@ -1,5 +1,5 @@
 -- Terms that are asked for, and their values.
-use Rattle.std.proofs.Common.{◌≡◌, ℕ, zero, suc, ◌+◌, ◌<◌, true, false, Bool, ◌&&◌, List, [], ◌∷◌, map, sym, ap, ◌∙◌, refl, subst, arith, length, get_or}
+use Rattle.std.proofs.Common.{◌≡◌, ℕ, zero, suc, ◌<◌, true, false, Bool, ◌&&◌, List, [], ◌∷◌, map, ap, ◌∙◌, refl, subst, arith, length, get_or}
 use Rattle.std.specs.Prelude.{IsTrue, IsFalse, All}
 use Rattle.std.proofs.lemmas.List.Elements.{All-head, All-tail, All-map, All-same}
 use Rattle.smt_meaning.specs.declared.tokens.Token.{Token}

@@ -1,15 +1,17 @@
 -- What a command that is no check comes to: its reply and the state after it.
 use Rattle.std.specs.Prelude.{◌≡◌, ℕ, ℤ, Bool, true, false, List, codes, Result}
 use Rattle.smt_meaning.specs.declared.commands.Command.{Command}
-use Rattle.smt_meaning.specs.declared.commands.Command.TheVariants.{SetLogic, SetOption, GetOption, SetInfo, GetInfo, Echo, Exit, Reset, ResetAssertions, DeclareSort, DefineSort, DeclareConst, DeclareFun, DefineFun, Assert, CheckSat, Push, Pop, GetValue, GetModel, GetAssertions, LeftOut}
+use Rattle.smt_meaning.specs.declared.commands.Command.TheVariants.{DeclareSort, DefineSort, DeclareConst, DeclareFun, DefineFun, Assert, Push, Pop}
 use Rattle.smt_meaning.specs.declared.answers.Reply.{Reply}
 use Rattle.smt_meaning.specs.declared.answers.Reply.TheVariants as Given
-use Rattle.smt_meaning.specs.State.{State, Effect, denied, left_out, accepted, answered, checked}
+use Rattle.smt_meaning.specs.declared.tokens.Token.{Token}
+use Rattle.smt_meaning.specs.declared.values.Table.{Table}
+use Rattle.smt_meaning.specs.State.{State, Effect, denied, left_out, accepted, answered, checked, valued}
 use Rattle.smt_meaning.specs.MayReply.{success}
-use Rattle.smt_meaning.specs.StackCommand.{Stack, declare_sort}
+use Rattle.smt_meaning.specs.StackCommand.{Stack, declare_sort, judged}
 use Rattle.scope_stack.specs.declared.answers.Carried.{Carried}
 use Rattle.scope_stack.specs.declared.answers.StackError.{StackError}
-use Rattle.scope_stack.specs.Carries.{Carries}
+use Rattle.scope_stack.specs.Carries.{Carries, question}
 
 abbrev pub Comes : Effect → State → Reply → State → Type 0
 Comes (denied e) old reply new = (reply ≡ Given.Error e) × (new ≡ old)
@@ -45,3 +47,8 @@ word_of _ = codes ""
 -- a sort of this name and arity is declared
 unfoldable pub DeclaresSort : List ℕ → ℤ → Stack → Result Carried StackError → Stack → Type 0
 DeclaresSort n arity old r new = Carries (λ level. declare_sort n arity) old r new
+
+-- this comes of the question of the terms' values under this model, in each state with this stack
+abbrev pub ComesOfQuestion : List Table → List (List Token) → Stack → Reply → Stack → Type 0
+ComesOfQuestion i ts old reply new =
+    (s : State) → s.stack ≡ old → Comes (valued s i ts (judged (question ts) s.stack)) s reply (record s { stack = new })

@@ -1,13 +1,13 @@
 //! The commands that the stack carries out or refuses (SMT-LIB 2.6, sections 4.2.2 to 4.2.4).
-ghost use Rattle.std.specs.Prelude.{◌≡◌, IfSome, IsTrue};
+ghost use Rattle.std.specs.Prelude.{◌≡◌, IfOk, IfSome, IsTrue};
 ghost use Rattle.smt_meaning.specs.StackCommand.{stack_command};
 ghost use Rattle.scope_stack.specs.Carries.{Carries};
 ghost use Rattle.session.specs.Effects.{is_carried, word_of, DeclaresSort};
 
 use scope_stack::{Carried, Stack, StackError};
-use smt_meaning::Bytes;
-use smt_meaning::language::Command;
-use std::alloc::Global;
+use smt_meaning::language::{Command, Error, Reply};
+use smt_meaning::{Bytes, Refusal};
+use std::alloc::{AllocError, Global};
 
 /// Carries a command of the stack out.
 pub fn carry(alloc: Global, command: &Command, stack: &mut Stack) -> Result<Carried, StackError>
@@ -63,4 +63,11 @@ pub fn word(command: &Command) -> &'static [u8]
         Command::Pop(_) => b"pop",
         _ => b"",
     }
+}
+
+/// A refusal of the command of this name.
+pub fn refused(alloc: Global, command: &[u8], why: Refusal) -> Result<Reply, AllocError>
+    ensures { IfOk result (λ r. r ≡ Reply.Error (Error.Refused command.now why)) }
+{
+    Ok(Reply::Error(Error::Refused(Bytes::copy(alloc, command)?, why)))
 }

@@ -1,25 +1,13 @@
 //! Values, terms and functions of a model as they are printed (SMT-LIB 2.6, section 4.2.6).
 ghost use Rattle.std.specs.Prelude.{◌≡◌, List, map, IfOk, length};
 ghost use Rattle.smt_meaning.specs.Stack.{signature_of};
-ghost use Rattle.smt_meaning.specs.State.{name_of_sort as name_of, sort_name as name_of_written, printed as shown, printed_all as all_shown, printed_row as shown_row, printed_function as shown_function, printed_functions as shown_functions};
+ghost use Rattle.smt_meaning.specs.State.{sort_name as name_of_written, printed as shown, printed_all as all_shown, printed_row as shown_row, printed_function as shown_function, printed_functions as shown_functions};
 ghost use Rattle.session.specs.Shown.{shown_terms};
 
 use scope_stack::{Asked, Assertion, Stack};
 use smt_meaning::language::{PrintedFunction, PrintedRow, PrintedValue, TermValue};
-use smt_meaning::{Bytes, Declaration, Row, SExpr, Seq, Sort, SymId, Table, Value};
+use smt_meaning::{Bytes, Declaration, Row, SExpr, Seq, Sort, Table, Value};
 use std::alloc::{AllocError, Global};
-
-/// The name of a declared sort.
-fn name_of_sort(declarations: &[Declaration], id: SymId) -> &[u8]
-    ensures { result.now ≡ name_of id declarations.now }
-{
-    for declaration in declarations {
-        if declaration.id() == id && declaration.is_sort() {
-            return declaration.name().as_slice();
-        }
-    }
-    b""
-}
 
 /// The name of a sort.
 fn sort_name(alloc: Global, stack: &Stack, sort: Sort) -> Result<Bytes, AllocError>
@@ -28,7 +16,7 @@ fn sort_name(alloc: Global, stack: &Stack, sort: Sort) -> Result<Bytes, AllocErr
     match sort {
         Sort::Bool => Bytes::copy(alloc, b"Bool"),
         Sort::Int => Bytes::copy(alloc, b"Int"),
-        Sort::Free(id) => Bytes::copy(alloc, name_of_sort(stack.declarations(), id)),
+        Sort::Free(id) => Bytes::copy(alloc, stack.sort_name(id)),
     }
 }
 

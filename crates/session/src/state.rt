@@ -1,8 +1,9 @@
 //! What a run has come to.
-ghost use Rattle.std.specs.Prelude.{◌≡◌, IfOk};
+ghost use Rattle.std.specs.Prelude.{◌≡◌};
 ghost use Rattle.smt_meaning.specs.State.{is_start as is_start_mode};
 
-use crate::carry::{carry, word};
+use crate::asked::values_of;
+use crate::carry::{carry, refused, word};
 use crate::logic::Logic;
 use crate::options::{option_value, options_at_start, start_option, with_setting};
 use crate::printed::{printed_functions, texts_of};
@@ -10,7 +11,7 @@ use scope_stack::{Carried, Stack, StackError};
 use smt_meaning::language::{
     Command, Error, Info, InfoName, Mode, OptionName, OptionSetting, Options, Reply,
 };
-use smt_meaning::{Bytes, Kept, Refusal, SExpr, Settings};
+use smt_meaning::{Bytes, Kept, SExpr, Settings};
 use std::alloc::{AllocError, Global};
 use std::marker::Model;
 use theory_port::{Decider, Verdict};
@@ -141,7 +142,7 @@ impl Session {
         if !self.options.produce_models {
             return Ok(Reply::Error(Error::OptionIsOff(OptionName::ProduceModels)));
         }
-        Err(AllocError)
+        values_of(alloc, model, &mut self.stack, terms)
     }
 
     /// `(get-model)`
@@ -319,13 +320,6 @@ impl Session {
             }
         }
     }
-}
-
-/// A refusal of the command of this name.
-fn refused(alloc: Global, command: &[u8], why: Refusal) -> Result<Reply, AllocError>
-    ensures { IfOk result (λ r. r ≡ Reply.Error (Error.Refused command.now why)) }
-{
-    Ok(Reply::Error(Error::Refused(Bytes::copy(alloc, command)?, why)))
 }
 
 fn is_start(mode: &Mode) -> bool

@@ -1,7 +1,6 @@
 use Rattle.std.proofs.Common.{◌≡◌, [], true, List, length, subst, sym, ap, ◌∙◌, arith}
 use Rattle.smt_meaning.specs.declared.terms.Head.{Head}
 use Rattle.smt_meaning.specs.declared.terms.Head.TheVariants.{Symbol}
-use Rattle.smt_meaning.specs.Declaration.{Declaration}
 use Rattle.smt_meaning.specs.Signature.{function_with_id, symbol_sort, is_bool}
 use Rattle.smt_meaning.specs.Term.{Tree, tree_at}
 use Rattle.smt_meaning.specs.Stack.{signature_of}
@@ -15,7 +14,7 @@ returns-then-is_empty c =
     let node = c.node-node.result in
     let none : length node.arguments.now ≡ 0 = grind arith in
     let truth : is_bool (symbol_sort (function_with_id c.in-Symbol.symbol (signature_of c.args.stack.now.frames)) []) ≡ true =
-    subst (λ (ds : List Declaration). is_bool (symbol_sort (function_with_id c.in-Symbol.symbol ds) []) ≡ true) c.declarations.ensures (sym c.is_truth.ensures ∙ b) in
+    sym c.is_truth.ensures ∙ b in
     let tree : tree_at c.args.stack.now.trees c.args.id ≡ tree_with c.args.stack.now.trees (Symbol c.in-Symbol.symbol) node.arguments.now =
     subst (λ (ts : List Tree). tree_at ts c.args.id ≡ tree_with ts (Symbol c.in-Symbol.symbol) node.arguments.now) c.terms.ensures.trees
     (c.node-node.ensures.tree ∙ ap (λ (h : Head). tree_with c.terms.result.now.trees h node.arguments.now) c.in-Symbol.is) in

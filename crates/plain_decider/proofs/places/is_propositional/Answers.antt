@@ -1,5 +1,4 @@
 use Rattle.std.proofs.Common.{◌≡◌, length, ◌&&◌, List, subst, ap, ◌∙◌, arith}
-use Rattle.smt_meaning.specs.Declaration.{Declaration}
 use Rattle.smt_meaning.specs.Kinds.{is_propositional_head}
 use Rattle.smt_meaning.specs.Term.{Tree, tree_at}
 use Rattle.smt_meaning.specs.Stack.{signature_of}
@@ -11,7 +10,7 @@ pub returns : goal.returns
 returns c =
     let node = c.node-node.result in
     let head : c.is_propositional_head.result ≡ is_propositional_head (signature_of c.args.stack.now.frames) node.head (length node.arguments.now) =
-    c.is_propositional_head.ensures ∙ ap (λ (ds : List Declaration). is_propositional_head ds node.head (length node.arguments.now)) c.declarations.ensures in
+    c.is_propositional_head.ensures in
     let tree : tree_at c.args.stack.now.trees c.args.id ≡ tree_with c.args.stack.now.trees node.head node.arguments.now =
     subst (λ (ts : List Tree). tree_at ts c.args.id ≡ tree_with ts node.head node.arguments.now) c.terms.ensures.trees c.node-node.ensures.tree in
     ap (λ b. b && c.all_flagged.result) head

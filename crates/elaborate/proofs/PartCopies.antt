@@ -1,0 +1,128 @@
+-- A stored term copied with its parts: one job after another.
+use Rattle.std.proofs.Common.{◌≡◌, ℕ, zero, suc, ◌<◌, List, [], ◌∷◌, ◌++◌, length, get_or, set, replicate, map, All, Option, Some, None, Bool, true, false, inl, inr, ap, sym, subst, ◌∙◌, refl, arith}
+use Rattle.std.specs.Prelude.{Result, Ok, Err, OnOk, if◌then◌else◌}
+use Rattle.std.proofs.lemmas.List.{get_or_append_left, length_push, get_or-set_same, get_or-set_other}
+use Rattle.std.proofs.lemmas.List.Elements.{All-head, All-tail}
+use Rattle.std.proofs.lemmas.Bool.{cases_eq}
+use Rattle.smt_meaning.specs.declared.terms.Head.{Head}
+use Rattle.smt_meaning.specs.Term.{Tree, node, more, tree_at}
+use Rattle.smt_meaning.specs.TreeShape.{is_among, with_tree, with_parts}
+use Rattle.smt_meaning.specs.Nodes.{pick}
+use Rattle.term_walk.specs.Todo.{Todo, visit, keep, after, visits, VisitsParts}
+use Rattle.term_store.specs.Terms.{IsPlace, AreComplete}
+use Rattle.elaborate.specs.declared.parts.Job.{Job}
+use Rattle.elaborate.specs.declared.parts.Job.TheVariants.{Visit, Keep}
+use Rattle.elaborate.specs.Parts.{copy_at, job_place, todo_at, outcome, visits_of, AreCopies}
+
+pub on_ok : {A E P Q : Type 0} (r : Result A E) → OnOk r P → (P → Q) → OnOk r Q
+on_ok (Ok a) h f = f h
+on_ok (Err e) h f = h
+
+some_is : (a b : ℕ) → Some a ≡ Some b → a ≡ b
+some_is a b e = cc
+
+-- ---- copies
+
+first_copy : (c : ℕ) (cs : List (Option ℕ)) (o : Option ℕ) (os : List (Option ℕ)) → Some c ∷ cs ≡ o ∷ os → o ≡ Some c
+first_copy c cs o os e = cc
+
+other_copies : (c : Option ℕ) (cs : List (Option ℕ)) (o : Option ℕ) (os : List (Option ℕ)) → c ∷ cs ≡ o ∷ os → cs ≡ os
+other_copies c cs o os e = cc
+
+pub picked : (ts out : List Tree) (copies : List (Option ℕ)) (is cs : List ℕ) → AreCopies ts out copies → map Some cs ≡ map (copy_at copies) is → pick out cs ≡ pick ts is
+picked ts out copies [] [] a e = refl
+picked ts out copies [] (c ∷ cs) a e = absurd cc
+picked ts out copies (i ∷ is) [] a e = absurd cc
+picked ts out copies (i ∷ is) (c ∷ cs) a e =
+    ap (λ t. more t (pick out cs)) (a i c (first_copy c (map Some cs) (copy_at copies i) (map (copy_at copies) is) e)).1
+    ∙ ap (more (tree_at ts i)) (picked ts out copies is cs a (other_copies (Some c) (map Some cs) (copy_at copies i) (map (copy_at copies) is) e))
+
+pub copies_within : (ts out : List Tree) (copies : List (Option ℕ)) (is cs : List ℕ) → AreCopies ts out copies → map Some cs ≡ map (copy_at copies) is → All (λ c. c < length out) cs
+copies_within ts out copies is [] a e k d h = absurd (omega arith)
+copies_within ts out copies [] (c ∷ cs) a e k d h = absurd cc
+copies_within ts out copies (i ∷ is) (c ∷ cs) a e zero d h = (a i c (first_copy c (map Some cs) (copy_at copies i) (map (copy_at copies) is) e)).0
+copies_within ts out copies (i ∷ is) (c ∷ cs) a e (suc k) d h =
+    copies_within ts out copies is cs a (other_copies (Some c) (map Some cs) (copy_at copies i) (map (copy_at copies) is) e) k d (omega arith)
+
+place_stays : (out : List Tree) (t u : Tree) (c : ℕ) → IsPlace out c u → IsPlace (with_tree out t) c u
+place_stays out t u c h = go (is_among t out)
+  where
+    go : (b : Bool) → IsPlace (if b then out else out ++ t ∷ []) c u
+    go true = h
+    go false = (omega (arith, length_push out t, h.0), get_or_append_left out (t ∷ []) _ c h.0 ∙ h.1)
+
+pub one_copied : (ts out us : List Tree) (copies : List (Option ℕ)) (t : Tree) (i c : ℕ) → AreCopies ts out copies → i < length copies → us ≡ with_tree out t → IsPlace us c (tree_at ts i) → AreCopies ts us (set copies i (Some c))
+one_copied ts out us copies t i c a h e p j d f =
+    elim (cases_eq j i) [
+      | inl same ↦
+          let here : get_or (set copies i (Some c)) j None ≡ Some c = ap (λ k. get_or (set copies i (Some c)) k None) same ∙ get_or-set_same copies i (Some c) None h in
+          let copy : c ≡ d = some_is c d (sym here ∙ f) in
+          subst (λ k. IsPlace us k (tree_at ts j)) copy (subst (λ k. IsPlace us c (tree_at ts k)) (sym same) p)
+      | inr other ↦
+          let there : copy_at copies j ≡ Some d = sym (get_or-set_other copies i j (Some c) None other) ∙ f in
+          subst (λ vs. IsPlace vs d (tree_at ts j)) (sym e) (place_stays out t (tree_at ts j) d (a j d there))
+    ]
+
+pub kept : (ts out : List Tree) (copies : List (Option ℕ)) (i : ℕ) (h : Head) (is cs : List ℕ) → AreCopies ts out copies → map Some cs ≡ map (copy_at copies) is → tree_at ts i ≡ node h (pick ts is) → node h (pick out cs) ≡ tree_at ts i
+kept ts out copies i h is cs a e n = ap (node h) (picked ts out copies is cs a e) ∙ sym n
+
+nothing_at : (n i : ℕ) → get_or (replicate {A = Option ℕ} n None) i None ≡ None
+nothing_at zero i = refl
+nothing_at (suc n) zero = refl
+nothing_at (suc n) (suc i) = nothing_at n i
+
+pub nothing_copied : (ts out : List Tree) (n : ℕ) → AreCopies ts out (replicate n None)
+nothing_copied ts out n i c e = absurd (go (sym (nothing_at n i) ∙ e))
+  where
+    go : None ≡ Some c → ⊥
+    go f = cc
+
+-- ---- jobs
+
+todos : (ts : List Tree) (is : List ℕ) (jobs : List Job) → map (todo_at ts) (visits_of is jobs) ≡ visits (pick ts is) (map (todo_at ts) jobs)
+todos ts [] jobs = refl
+todos ts (i ∷ is) jobs = ap (λ todo. visit (tree_at ts i) ∷ todo) (todos ts is jobs)
+
+pub arguments_first : (ts : List Tree) (i : ℕ) (h : Head) (is : List ℕ) (jobs new : List Job) → VisitsParts → tree_at ts i ≡ node h (pick ts is) → new ≡ visits_of is (Keep i ∷ jobs)
+    → (out : List Tree) → outcome ts new out ≡ outcome ts (Visit i ∷ jobs) out
+arguments_first ts i h is jobs new law n e out =
+    let todo : List Todo = map (todo_at ts) jobs in
+    ap (λ js. outcome ts js out) e
+    ∙ ap (λ xs. after xs out) (todos ts is (Keep i ∷ jobs))
+    ∙ ap (λ t. after (visits (pick ts is) (keep t ∷ todo)) out) n
+    ∙ sym (law h (pick ts is) todo out)
+    ∙ ap (λ t. after (visit t ∷ todo) out) (sym n)
+
+one_inside : (n : ℕ) (j : Job) (jobs : List Job) → job_place j < n → All (λ k. job_place k < n) jobs → All (λ k. job_place k < n) (j ∷ jobs)
+one_inside n j jobs h a zero d k = h
+one_inside n j jobs h a (suc m) d k = a m d (omega arith)
+
+pub visits_inside : (n m : ℕ) (is : List ℕ) (jobs : List Job) → m < n → All (λ i. i < m) is → All (λ j. job_place j < n) jobs → All (λ j. job_place j < n) (visits_of is jobs)
+visits_inside n m [] jobs h a b = b
+visits_inside n m (i ∷ is) jobs h a b =
+    one_inside n (Visit i) (visits_of is jobs) (omega (arith, All-head (λ k. k < m) i is a, h)) (visits_inside n m is jobs h (All-tail (λ k. k < m) i is a) b)
+
+pub jobs_inside : (n i : ℕ) (is : List ℕ) (jobs new : List Job) → i < n → All (λ k. k < i) is → All (λ j. job_place j < n) jobs → new ≡ visits_of is (Keep i ∷ jobs) → All (λ j. job_place j < n) new
+jobs_inside n i is jobs new h a b e = subst (All (λ j. job_place j < n)) (sym e) (visits_inside n i is (Keep i ∷ jobs) h a (one_inside n (Keep i) jobs h b))
+
+-- a term that is copied needs no visit
+pub visited_before : (ts out : List Tree) (i c : ℕ) (jobs : List Job) → AreComplete out → IsPlace out c (tree_at ts i) → outcome ts jobs out ≡ outcome ts (Visit i ∷ jobs) out
+visited_before ts out i c jobs complete h = ap (after (map (todo_at ts) jobs)) (sym (subst (λ u. with_parts out u ≡ out) h.1 (complete c h.0)))
+
+-- ---- all jobs
+
+-- these jobs make the copies a list of trees
+pub record IsUnderWay (ts goal' : List Tree) (jobs : List Job) (copies : List (Option ℕ)) (out : List Tree) : Type 0 where
+  pub count : length copies ≡ length ts
+  pub inside : All (λ j. job_place j < length ts) jobs
+  pub copied : AreCopies ts out copies
+  pub same : outcome ts jobs out ≡ goal'
+
+pub begun : (ts out : List Tree) (i : ℕ) (copies : List (Option ℕ)) (jobs : List Job) → i < length ts → out ≡ [] → copies ≡ replicate (length ts) None → length copies ≡ length ts → jobs ≡ Visit i ∷ []
+    → IsUnderWay ts (with_parts [] (tree_at ts i)) jobs copies out
+begun ts out i copies jobs h e c n j = record {
+  count = n;
+  inside = subst (All (λ k. job_place k < length ts)) (sym j) (one_inside (length ts) (Visit i) [] h (λ k d m. absurd (omega arith)));
+  copied = subst (AreCopies ts out) (sym c) (nothing_copied ts out (length ts));
+  same = ap (λ js. outcome ts js out) j ∙ ap (λ xs. with_parts xs (tree_at ts i)) e;
+}

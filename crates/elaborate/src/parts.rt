@@ -1,0 +1,182 @@
+//! The body of a name that `:named` gives (SMT-LIB 2.6, section 5.2): a stored term with its parts, as terms of its own.
+ghost use Rattle.std.specs.Prelude.{◌≡◌, ◌<◌, ◌++◌, ◌∷◌, [], List, All, length, map, replicate, Some, IfOk, OnOk, None};
+ghost use Rattle.smt_meaning.specs.Term.{Tree, tree_at};
+ghost use Rattle.smt_meaning.specs.TreeShape.{with_tree, with_parts};
+ghost use Rattle.smt_meaning.specs.Nodes.{tree_of};
+ghost use Rattle.smt_meaning.specs.Sorts.{body_of};
+ghost use Rattle.term_store.specs.Terms.{IsPlace};
+ghost use Rattle.elaborate.specs.Parts.{copy_at, job_place, outcome, visits_of, AreCopies};
+ghost use Rattle.elaborate.specs.declared.parts.Job.TheVariants as Job;
+
+use crate::stack::Stack;
+use smt_meaning::{Body, Node, Seq, TermId, Terms};
+use std::alloc::{AllocError, Global};
+use term_store::TermStore;
+use term_walk::parts_are_visited;
+
+/// What is still to do with a term of a store.
+#[derive(Clone, Copy, Drop)]
+enum Job {
+    /// It is copied after its parts.
+    Visit(TermId),
+    /// It is copied, whose arguments are.
+    Keep(TermId),
+}
+
+/// Where the copies of these terms stand.
+fn copied(
+    alloc: Global,
+    copies: &[Option<TermId>],
+    terms: &[TermId],
+) -> Result<Vec<TermId>, AllocError>
+    requires { All (λ i. i < length copies.now) terms.now }
+    ensures { IfOk result (λ v. map Some v.items ≡ map (copy_at copies.now) terms.now) }
+{
+    let mut places = Vec::new(alloc);
+    for term in terms {
+        let Some(place) = copies[*term as usize] else {
+            return Err(AllocError);
+        };
+        places.push(place)?;
+    }
+    Ok(places)
+}
+
+/// Copies a term whose arguments are copied.
+fn keep(
+    alloc: Global,
+    store: &TermStore,
+    id: TermId,
+    copies: &mut [Option<TermId>],
+    parts: &mut TermStore,
+) -> Result<(), AllocError>
+    requires within { id < length store.now.trees }
+    requires count { length copies.old ≡ length store.now.trees }
+    requires copies { AreCopies store.now.trees parts.old.trees copies.old }
+    ensures trees { OnOk result (parts.new.trees ≡ with_tree parts.old.trees (tree_at store.now.trees id)) }
+    ensures copies { OnOk result (AreCopies store.now.trees parts.new.trees copies.new) }
+    ensures count { length copies.new ≡ length store.now.trees }
+{
+    let node = store.node(id);
+    let arguments = copied(alloc, copies, node.arguments)?;
+    let Ok(place) = parts.intern(node.head, &arguments) else {
+        return Err(AllocError);
+    };
+    copies[id as usize] = Some(place);
+    Ok(())
+}
+
+/// The terms are visited from left to right, before the other jobs.
+fn push_visits(terms: &[TermId], jobs: &mut Stack<Job>) -> Result<(), AllocError>
+    ensures { OnOk result (jobs.new ≡ visits_of terms.now jobs.old) }
+{
+    let mut left = terms.len();
+    while left > 0 {
+        left -= 1;
+        jobs.push(Job::Visit(terms[left]))?;
+    }
+    Ok(())
+}
+
+/// A term is kept after its arguments are visited.
+fn visit(store: &TermStore, id: TermId, jobs: &mut Stack<Job>) -> Result<(), AllocError>
+    requires within { id < length store.now.trees }
+    requires inside { All (λ j. job_place j < length store.now.trees) jobs.old }
+    ensures same { OnOk result ((out : List Tree) → outcome store.now.trees jobs.new out ≡ outcome store.now.trees (Job.Visit id ∷ jobs.old) out) }
+    ensures inside { OnOk result (All (λ j. job_place j < length store.now.trees) jobs.new) }
+{
+    parts_are_visited();
+    jobs.push(Job::Keep(id))?;
+    push_visits(store.node(id).arguments, jobs)
+}
+
+/// Does one job.
+fn step(
+    alloc: Global,
+    store: &TermStore,
+    job: Job,
+    jobs: &mut Stack<Job>,
+    copies: &mut [Option<TermId>],
+    parts: &mut TermStore,
+) -> Result<(), AllocError>
+    requires within { job_place job < length store.now.trees }
+    requires inside { All (λ j. job_place j < length store.now.trees) jobs.old }
+    requires count { length copies.old ≡ length store.now.trees }
+    requires copies { AreCopies store.now.trees parts.old.trees copies.old }
+    ensures same { OnOk result (outcome store.now.trees jobs.new parts.new.trees ≡ outcome store.now.trees (job ∷ jobs.old) parts.old.trees) }
+    ensures inside { OnOk result (All (λ j. job_place j < length store.now.trees) jobs.new) }
+    ensures copies { OnOk result (AreCopies store.now.trees parts.new.trees copies.new) }
+    ensures count { length copies.new ≡ length store.now.trees }
+{
+    let _ = parts.len();
+    match job {
+        Job::Visit(id) => match copies[id as usize] {
+            Some(_) => Ok(()),
+            None => visit(store, id, jobs),
+        },
+        Job::Keep(id) => keep(alloc, store, id, copies, parts),
+    }
+}
+
+/// Copies a term with its parts, in order, and says where its copy stands.
+fn copy_parts(
+    alloc: Global,
+    store: &TermStore,
+    id: TermId,
+    copies: &mut [Option<TermId>],
+    parts: &mut TermStore,
+) -> Result<TermId, AllocError>
+    requires within { id < length store.now.trees }
+    requires copies { copies.old ≡ replicate (length store.now.trees) None }
+    requires none { parts.old.trees ≡ [] }
+    ensures parts { OnOk result (parts.new.trees ≡ with_parts [] (tree_at store.now.trees id)) }
+    ensures place { IfOk result (λ p. IsPlace parts.new.trees p (tree_at store.now.trees id)) }
+{
+    let mut jobs = Stack::new(alloc);
+    jobs.push(Job::Visit(id))?;
+    for _ in 0..u64::MAX {
+        let Some(job) = jobs.pop() else {
+            return copies[id as usize].ok_or(AllocError);
+        };
+        step(alloc, store, job, &mut jobs, copies, parts)?;
+    }
+    Err(AllocError)
+}
+
+/// A node of a term, with arguments of its own.
+fn node(alloc: Global, store: &TermStore, id: TermId) -> Result<Node, AllocError>
+    requires { id < length store.now.trees }
+    ensures tree { IfOk result (λ n. tree_at store.now.trees id ≡ tree_of store.now.trees n) }
+    ensures earlier { IfOk result (λ n. All (λ i. i < id) n.arguments) }
+{
+    let node = store.node(id);
+    let arguments = node.arguments.to_vec(alloc)?;
+    Ok(Node {
+        head: node.head,
+        arguments: Seq::from_vec(arguments),
+    })
+}
+
+/// The terms of a store.
+fn terms(alloc: Global, store: &TermStore) -> Result<Terms, AllocError>
+    ensures { IfOk result (λ ts. ts ≡ store.now.trees) }
+{
+    let mut nodes = Vec::new(alloc);
+    for id in 0..store.len() {
+        let node = node(alloc, store, id)?;
+        nodes.push(node)?;
+    }
+    Ok(Terms::from_nodes(nodes))
+}
+
+/// A stored term as the body of a definition.
+pub(crate) fn named_body(alloc: Global, store: &TermStore, id: TermId) -> Result<Body, AllocError>
+    requires { id < length store.now.trees }
+    ensures { IfOk result (λ b. b ≡ body_of (tree_at store.now.trees id)) }
+{
+    let mut copies = vec![in alloc; None; store.len() as usize]?;
+    let mut parts = TermStore::new(alloc, u32::MAX);
+    let place = copy_parts(alloc, store, id, &mut copies, &mut parts)?;
+    let terms = terms(alloc, &parts)?;
+    Ok(Body::new(terms, place))
+}
