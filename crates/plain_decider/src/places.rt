@@ -178,9 +178,7 @@ fn is_constant(stack: &Stack, id: TermId) -> bool
     value_has_its_sort();
     let node = stack.terms().node(id);
     match node.head {
-        Head::Symbol(symbol) => {
-            node.arguments.is_empty() && is_truth(stack, symbol)
-        }
+        Head::Symbol(symbol) => { node.arguments.is_empty() && is_truth(stack, symbol) }
         _ => false,
     }
 }
