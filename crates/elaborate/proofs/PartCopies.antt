@@ -1,7 +1,9 @@
 -- A stored term copied with its parts: one job after another.
-use Rattle.std.proofs.Common.{◌≡◌, ℕ, zero, suc, ◌<◌, List, [], ◌∷◌, ◌++◌, length, get_or, set, replicate, map, All, Option, Some, None, Bool, true, false, inl, inr, ap, sym, subst, ◌∙◌, refl, arith}
-use Rattle.std.specs.Prelude.{Result, Ok, Err, OnOk, if◌then◌else◌}
-use Rattle.std.proofs.lemmas.List.{get_or_append_left, length_push, get_or-set_same, get_or-set_other}
+use Rattle.std.proofs.Common.{◌≡◌, ℕ, zero, suc, ◌<◌, List, [], ◌∷◌, ◌++◌, length, map, All, Option, Some, None, Bool, true, false, inl, inr, ap, sym, subst, ◌∙◌, refl, arith}
+use Rattle.std.specs.Prelude.{Result, Ok, Err, OnOk, if◌then◌else◌, nat_eq}
+use Rattle.std.specs.Map.{update}
+use Rattle.std.proofs.lemmas.List.{get_or_append_left, length_push}
+use Rattle.std.proofs.lemmas.Map.{update_here, update_apart}
 use Rattle.std.proofs.lemmas.List.Elements.{All-head, All-tail}
 use Rattle.std.proofs.lemmas.Bool.{cases_eq}
 use Rattle.smt_meaning.specs.declared.terms.Head.{Head}
@@ -12,7 +14,7 @@ use Rattle.term_walk.specs.Todo.{Todo, visit, keep, after, visits, VisitsParts}
 use Rattle.term_store.specs.Terms.{IsPlace, AreComplete}
 use Rattle.elaborate.specs.declared.parts.Job.{Job}
 use Rattle.elaborate.specs.declared.parts.Job.TheVariants.{Visit, Keep}
-use Rattle.elaborate.specs.Parts.{copy_at, job_place, todo_at, outcome, visits_of, AreCopies}
+use Rattle.elaborate.specs.Parts.{job_place, todo_at, outcome, visits_of, AreCopies}
 
 pub on_ok : {A E P Q : Type 0} (r : Result A E) → OnOk r P → (P → Q) → OnOk r Q
 on_ok (Ok a) h f = f h
@@ -29,20 +31,20 @@ first_copy c cs o os e = cc
 other_copies : (c : Option ℕ) (cs : List (Option ℕ)) (o : Option ℕ) (os : List (Option ℕ)) → c ∷ cs ≡ o ∷ os → cs ≡ os
 other_copies c cs o os e = cc
 
-pub picked : (ts out : List Tree) (copies : List (Option ℕ)) (is cs : List ℕ) → AreCopies ts out copies → map Some cs ≡ map (copy_at copies) is → pick out cs ≡ pick ts is
+pub picked : (ts out : List Tree) (copies : ℕ → Option ℕ) (is cs : List ℕ) → AreCopies ts out copies → map Some cs ≡ map copies is → pick out cs ≡ pick ts is
 picked ts out copies [] [] a e = refl
 picked ts out copies [] (c ∷ cs) a e = absurd cc
 picked ts out copies (i ∷ is) [] a e = absurd cc
 picked ts out copies (i ∷ is) (c ∷ cs) a e =
-    ap (λ t. more t (pick out cs)) (a i c (first_copy c (map Some cs) (copy_at copies i) (map (copy_at copies) is) e)).1
-    ∙ ap (more (tree_at ts i)) (picked ts out copies is cs a (other_copies (Some c) (map Some cs) (copy_at copies i) (map (copy_at copies) is) e))
+    ap (λ t. more t (pick out cs)) (a i c (first_copy c (map Some cs) (copies i) (map copies is) e)).1
+    ∙ ap (more (tree_at ts i)) (picked ts out copies is cs a (other_copies (Some c) (map Some cs) (copies i) (map copies is) e))
 
-pub copies_within : (ts out : List Tree) (copies : List (Option ℕ)) (is cs : List ℕ) → AreCopies ts out copies → map Some cs ≡ map (copy_at copies) is → All (λ c. c < length out) cs
+pub copies_within : (ts out : List Tree) (copies : ℕ → Option ℕ) (is cs : List ℕ) → AreCopies ts out copies → map Some cs ≡ map copies is → All (λ c. c < length out) cs
 copies_within ts out copies is [] a e k d h = absurd (omega arith)
 copies_within ts out copies [] (c ∷ cs) a e k d h = absurd cc
-copies_within ts out copies (i ∷ is) (c ∷ cs) a e zero d h = (a i c (first_copy c (map Some cs) (copy_at copies i) (map (copy_at copies) is) e)).0
+copies_within ts out copies (i ∷ is) (c ∷ cs) a e zero d h = (a i c (first_copy c (map Some cs) (copies i) (map copies is) e)).0
 copies_within ts out copies (i ∷ is) (c ∷ cs) a e (suc k) d h =
-    copies_within ts out copies is cs a (other_copies (Some c) (map Some cs) (copy_at copies i) (map (copy_at copies) is) e) k d (omega arith)
+    copies_within ts out copies is cs a (other_copies (Some c) (map Some cs) (copies i) (map copies is) e) k d (omega arith)
 
 place_stays : (out : List Tree) (t u : Tree) (c : ℕ) → IsPlace out c u → IsPlace (with_tree out t) c u
 place_stays out t u c h = go (is_among t out)
@@ -51,28 +53,23 @@ place_stays out t u c h = go (is_among t out)
     go true = h
     go false = (omega (arith, length_push out t, h.0), get_or_append_left out (t ∷ []) _ c h.0 ∙ h.1)
 
-pub one_copied : (ts out us : List Tree) (copies : List (Option ℕ)) (t : Tree) (i c : ℕ) → AreCopies ts out copies → i < length copies → us ≡ with_tree out t → IsPlace us c (tree_at ts i) → AreCopies ts us (set copies i (Some c))
-one_copied ts out us copies t i c a h e p j d f =
+pub one_copied : (ts out us : List Tree) (copies noted : ℕ → Option ℕ) (t : Tree) (i c : ℕ) → AreCopies ts out copies → ((q : ℕ) → noted q ≡ update nat_eq copies i (Some c) q) → us ≡ with_tree out t → IsPlace us c (tree_at ts i) → AreCopies ts us noted
+one_copied ts out us copies noted t i c a h e p j d f =
     elim (cases_eq j i) [
       | inl same ↦
-          let here : get_or (set copies i (Some c)) j None ≡ Some c = ap (λ k. get_or (set copies i (Some c)) k None) same ∙ get_or-set_same copies i (Some c) None h in
+          let here : noted j ≡ Some c = ap noted same ∙ h i ∙ update_here copies i (Some c) in
           let copy : c ≡ d = some_is c d (sym here ∙ f) in
           subst (λ k. IsPlace us k (tree_at ts j)) copy (subst (λ k. IsPlace us c (tree_at ts k)) (sym same) p)
       | inr other ↦
-          let there : copy_at copies j ≡ Some d = sym (get_or-set_other copies i j (Some c) None other) ∙ f in
+          let there : copies j ≡ Some d = sym (update_apart copies i (Some c) j other) ∙ sym (h j) ∙ f in
           subst (λ vs. IsPlace vs d (tree_at ts j)) (sym e) (place_stays out t (tree_at ts j) d (a j d there))
     ]
 
-pub kept : (ts out : List Tree) (copies : List (Option ℕ)) (i : ℕ) (h : Head) (is cs : List ℕ) → AreCopies ts out copies → map Some cs ≡ map (copy_at copies) is → tree_at ts i ≡ node h (pick ts is) → node h (pick out cs) ≡ tree_at ts i
+pub kept : (ts out : List Tree) (copies : ℕ → Option ℕ) (i : ℕ) (h : Head) (is cs : List ℕ) → AreCopies ts out copies → map Some cs ≡ map copies is → tree_at ts i ≡ node h (pick ts is) → node h (pick out cs) ≡ tree_at ts i
 kept ts out copies i h is cs a e n = ap (node h) (picked ts out copies is cs a e) ∙ sym n
 
-nothing_at : (n i : ℕ) → get_or (replicate {A = Option ℕ} n None) i None ≡ None
-nothing_at zero i = refl
-nothing_at (suc n) zero = refl
-nothing_at (suc n) (suc i) = nothing_at n i
-
-pub nothing_copied : (ts out : List Tree) (n : ℕ) → AreCopies ts out (replicate n None)
-nothing_copied ts out n i c e = absurd (go (sym (nothing_at n i) ∙ e))
+pub nothing_copied : (ts out : List Tree) (copies : ℕ → Option ℕ) → ((i : ℕ) → copies i ≡ None) → AreCopies ts out copies
+nothing_copied ts out copies h i c e = absurd (go (sym (h i) ∙ e))
   where
     go : None ≡ Some c → ⊥
     go f = cc
@@ -112,17 +109,15 @@ visited_before ts out i c jobs complete h = ap (after (map (todo_at ts) jobs)) (
 -- ---- all jobs
 
 -- these jobs make the copies a list of trees
-pub record IsUnderWay (ts goal' : List Tree) (jobs : List Job) (copies : List (Option ℕ)) (out : List Tree) : Type 0 where
-  pub count : length copies ≡ length ts
+pub record IsUnderWay (ts goal' : List Tree) (jobs : List Job) (copies : ℕ → Option ℕ) (out : List Tree) : Type 0 where
   pub inside : All (λ j. job_place j < length ts) jobs
   pub copied : AreCopies ts out copies
   pub same : outcome ts jobs out ≡ goal'
 
-pub begun : (ts out : List Tree) (i : ℕ) (copies : List (Option ℕ)) (jobs : List Job) → i < length ts → out ≡ [] → copies ≡ replicate (length ts) None → length copies ≡ length ts → jobs ≡ Visit i ∷ []
+pub begun : (ts out : List Tree) (i : ℕ) (copies : ℕ → Option ℕ) (jobs : List Job) → i < length ts → out ≡ [] → ((k : ℕ) → copies k ≡ None) → jobs ≡ Visit i ∷ []
     → IsUnderWay ts (with_parts [] (tree_at ts i)) jobs copies out
-begun ts out i copies jobs h e c n j = record {
-  count = n;
+begun ts out i copies jobs h e c j = record {
   inside = subst (All (λ k. job_place k < length ts)) (sym j) (one_inside (length ts) (Visit i) [] h (λ k d m. absurd (omega arith)));
-  copied = subst (AreCopies ts out) (sym c) (nothing_copied ts out (length ts));
+  copied = nothing_copied ts out copies c;
   same = ap (λ js. outcome ts js out) j ∙ ap (λ xs. with_parts xs (tree_at ts i)) e;
 }

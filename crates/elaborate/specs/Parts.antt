@@ -1,18 +1,14 @@
 -- A stored term is copied with its parts: the jobs that are left, and where the copies stand.
-use Rattle.std.specs.Prelude.{◌≡◌, ℕ, List, [], ◌∷◌, map, Option, Some, None, slice_index_or}
+use Rattle.std.specs.Prelude.{◌≡◌, ℕ, List, [], ◌∷◌, map, Option, Some}
 use Rattle.smt_meaning.specs.Term.{Tree, tree_at}
 use Rattle.term_walk.specs.Todo.{Todo, visit, keep, after}
 use Rattle.term_store.specs.Terms.{IsPlace}
 use Rattle.elaborate.specs.declared.parts.Job.{Job}
 use Rattle.elaborate.specs.declared.parts.Job.TheVariants.{Visit, Keep}
 
--- the place of the copy of a term
-abbrev pub copy_at : List (Option ℕ) → ℕ → Option ℕ
-copy_at copies i = slice_index_or copies i None
-
 -- each copy is the term that was copied
-abbrev pub AreCopies : List Tree → List Tree → List (Option ℕ) → Type 0
-AreCopies ts out copies = (i c : ℕ) → copy_at copies i ≡ Some c → IsPlace out c (tree_at ts i)
+abbrev pub AreCopies : List Tree → List Tree → (ℕ → Option ℕ) → Type 0
+AreCopies ts out copies = (i c : ℕ) → copies i ≡ Some c → IsPlace out c (tree_at ts i)
 
 abbrev pub job_place : Job → ℕ
 job_place (Visit i) = i

@@ -29,7 +29,7 @@ use smt_meaning::{Bytes, Rank, Refusal, SExpr, Seq, TokenView};
 use smt_sorts::{AddError, NameError, Table};
 use std::alloc::{AllocError, Global};
 use term_store::TermStore;
-use term_walk::walk_gives_the_judgement;
+use term_walk::{nothing_is_free, walk_gives_the_judgement};
 
 /// The names that bindings bind.
 #[derive(Clone, Copy, Drop)]
@@ -51,7 +51,7 @@ impl<'a> look_ahead::Names for Bound<'a> {
     }
 }
 
-/// Whether the term at a place has a variable that is bound outside.
+/// Whether the term at a place has a variable that is bound outside. Where nothing is bound, the term isn't looked through.
 fn is_open(
     alloc: Global,
     term: &SExpr,
@@ -62,6 +62,10 @@ fn is_open(
     requires { AreEnds term.now ends.now }
     ensures { IfOk result (λ b. (ts : List Tree) → is_open_at term.now ts bindings.now place ≡ b) }
 {
+    if bindings.len() == 0 {
+        nothing_is_free();
+        return Ok(false);
+    }
     if place > term.len() {
         return Err(AllocError);
     }

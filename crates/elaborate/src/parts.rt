@@ -1,16 +1,19 @@
 //! The body of a name that `:named` gives (SMT-LIB 2.6, section 5.2): a stored term with its parts, as terms of its own.
-ghost use Rattle.std.specs.Prelude.{◌≡◌, ◌<◌, ◌++◌, ◌∷◌, [], List, All, length, map, replicate, Some, IfOk, OnOk, None};
+ghost use Rattle.std.specs.Prelude.{◌≡◌, ◌<◌, ◌∷◌, [], List, All, length, map, nat_eq, ℕ, Some, IfOk, OnOk, None};
+ghost use Rattle.std.specs.HashMap.{get};
+ghost use Rattle.std.specs.Map.{update};
 ghost use Rattle.smt_meaning.specs.Term.{Tree, tree_at};
 ghost use Rattle.smt_meaning.specs.TreeShape.{with_tree, with_parts};
 ghost use Rattle.smt_meaning.specs.Nodes.{tree_of};
 ghost use Rattle.smt_meaning.specs.Sorts.{body_of};
 ghost use Rattle.term_store.specs.Terms.{IsPlace};
-ghost use Rattle.elaborate.specs.Parts.{copy_at, job_place, outcome, visits_of, AreCopies};
+ghost use Rattle.elaborate.specs.Parts.{job_place, outcome, visits_of, AreCopies};
 ghost use Rattle.elaborate.specs.declared.parts.Job.TheVariants as Job;
 
 use crate::stack::Stack;
 use smt_meaning::{Body, Node, Seq, TermId, Terms};
 use std::alloc::{AllocError, Global};
+use std::collections::HashMap;
 use term_store::TermStore;
 use term_walk::parts_are_visited;
 
@@ -23,18 +26,27 @@ enum Job {
     Keep(TermId),
 }
 
+/// Where the copy of a term stands.
+fn copy_of(copies: &HashMap<TermId, TermId>, term: TermId) -> Option<TermId>
+    ensures { result ≡ get nat_eq copies.now term }
+{
+    match copies.get(&term) {
+        Some(place) => Some(*place),
+        None => None,
+    }
+}
+
 /// Where the copies of these terms stand.
 fn copied(
     alloc: Global,
-    copies: &[Option<TermId>],
+    copies: &HashMap<TermId, TermId>,
     terms: &[TermId],
 ) -> Result<Vec<TermId>, AllocError>
-    requires { All (λ i. i < length copies.now) terms.now }
-    ensures { IfOk result (λ v. map Some v.items ≡ map (copy_at copies.now) terms.now) }
+    ensures { IfOk result (λ v. map Some v.items ≡ map (get nat_eq copies.now) terms.now) }
 {
     let mut places = Vec::new(alloc);
     for term in terms {
-        let Some(place) = copies[*term as usize] else {
+        let Some(place) = copy_of(copies, *term) else {
             return Err(AllocError);
         };
         places.push(place)?;
@@ -42,28 +54,35 @@ fn copied(
     Ok(places)
 }
 
+/// Notes where the copy of a term stands.
+fn note(copies: &mut HashMap<TermId, TermId>, term: TermId, place: TermId) -> Result<(), AllocError>
+    ensures { OnOk result ((q : ℕ) → get nat_eq copies.new q ≡ update nat_eq (get nat_eq copies.old) term (Some place) q) }
+{
+    match copies.insert(term, place) {
+        Ok(_) => Ok(()),
+        Err(error) => Err(AllocError::from(error)),
+    }
+}
+
 /// Copies a term whose arguments are copied.
 fn keep(
     alloc: Global,
     store: &TermStore,
     id: TermId,
-    copies: &mut [Option<TermId>],
+    copies: &mut HashMap<TermId, TermId>,
     parts: &mut TermStore,
 ) -> Result<(), AllocError>
     requires within { id < length store.now.trees }
-    requires count { length copies.old ≡ length store.now.trees }
-    requires copies { AreCopies store.now.trees parts.old.trees copies.old }
+    requires copies { AreCopies store.now.trees parts.old.trees (get nat_eq copies.old) }
     ensures trees { OnOk result (parts.new.trees ≡ with_tree parts.old.trees (tree_at store.now.trees id)) }
-    ensures copies { OnOk result (AreCopies store.now.trees parts.new.trees copies.new) }
-    ensures count { length copies.new ≡ length store.now.trees }
+    ensures copies { OnOk result (AreCopies store.now.trees parts.new.trees (get nat_eq copies.new)) }
 {
     let node = store.node(id);
     let arguments = copied(alloc, copies, node.arguments)?;
     let Ok(place) = parts.intern(node.head, &arguments) else {
         return Err(AllocError);
     };
-    copies[id as usize] = Some(place);
-    Ok(())
+    note(copies, id, place)
 }
 
 /// The terms are visited from left to right, before the other jobs.
@@ -96,21 +115,19 @@ fn step(
     store: &TermStore,
     job: Job,
     jobs: &mut Stack<Job>,
-    copies: &mut [Option<TermId>],
+    copies: &mut HashMap<TermId, TermId>,
     parts: &mut TermStore,
 ) -> Result<(), AllocError>
     requires within { job_place job < length store.now.trees }
     requires inside { All (λ j. job_place j < length store.now.trees) jobs.old }
-    requires count { length copies.old ≡ length store.now.trees }
-    requires copies { AreCopies store.now.trees parts.old.trees copies.old }
+    requires copies { AreCopies store.now.trees parts.old.trees (get nat_eq copies.old) }
     ensures same { OnOk result (outcome store.now.trees jobs.new parts.new.trees ≡ outcome store.now.trees (job ∷ jobs.old) parts.old.trees) }
     ensures inside { OnOk result (All (λ j. job_place j < length store.now.trees) jobs.new) }
-    ensures copies { OnOk result (AreCopies store.now.trees parts.new.trees copies.new) }
-    ensures count { length copies.new ≡ length store.now.trees }
+    ensures copies { OnOk result (AreCopies store.now.trees parts.new.trees (get nat_eq copies.new)) }
 {
     let _ = parts.len();
     match job {
-        Job::Visit(id) => match copies[id as usize] {
+        Job::Visit(id) => match copy_of(copies, id) {
             Some(_) => Ok(()),
             None => visit(store, id, jobs),
         },
@@ -123,11 +140,11 @@ fn copy_parts(
     alloc: Global,
     store: &TermStore,
     id: TermId,
-    copies: &mut [Option<TermId>],
+    copies: &mut HashMap<TermId, TermId>,
     parts: &mut TermStore,
 ) -> Result<TermId, AllocError>
     requires within { id < length store.now.trees }
-    requires copies { copies.old ≡ replicate (length store.now.trees) None }
+    requires copies { (i : ℕ) → get nat_eq copies.old i ≡ None }
     requires none { parts.old.trees ≡ [] }
     ensures parts { OnOk result (parts.new.trees ≡ with_parts [] (tree_at store.now.trees id)) }
     ensures place { IfOk result (λ p. IsPlace parts.new.trees p (tree_at store.now.trees id)) }
@@ -136,7 +153,7 @@ fn copy_parts(
     jobs.push(Job::Visit(id))?;
     for _ in 0..u64::MAX {
         let Some(job) = jobs.pop() else {
-            return copies[id as usize].ok_or(AllocError);
+            return copy_of(copies, id).ok_or(AllocError);
         };
         step(alloc, store, job, &mut jobs, copies, parts)?;
     }
@@ -174,7 +191,7 @@ pub(crate) fn named_body(alloc: Global, store: &TermStore, id: TermId) -> Result
     requires { id < length store.now.trees }
     ensures { IfOk result (λ b. b ≡ body_of (tree_at store.now.trees id)) }
 {
-    let mut copies = vec![in alloc; None; store.len() as usize]?;
+    let mut copies = HashMap::new(alloc);
     let mut parts = TermStore::new(alloc, u32::MAX);
     let place = copy_parts(alloc, store, id, &mut copies, &mut parts)?;
     let terms = terms(alloc, &parts)?;

@@ -1,6 +1,7 @@
 use Rattle.std.proofs.Common.{◌≡◌, map, take, Some}
-use Rattle.elaborate.specs.Parts.{copy_at}
+use Rattle.std.specs.Prelude.{nat_eq}
+use Rattle.std.specs.HashMap.{get}
 use Rattle.elaborate.proofs.parts.copied.Given as goal
 
 abbrev pub invariant-loop-term : goal.invariant-loop-term
-invariant-loop-term l = map Some l.places.items ≡ map (copy_at l.copies) (take l.term-index l.terms)
+invariant-loop-term l = map Some l.places.items ≡ map (get nat_eq l.copies) (take l.term-index l.terms)

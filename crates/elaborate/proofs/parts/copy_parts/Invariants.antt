@@ -1,8 +1,10 @@
 use Rattle.std.proofs.Common.{[]}
 use Rattle.smt_meaning.specs.Term.{tree_at}
 use Rattle.smt_meaning.specs.TreeShape.{with_parts}
+use Rattle.std.specs.Prelude.{nat_eq}
+use Rattle.std.specs.HashMap.{get}
 use Rattle.elaborate.proofs.PartCopies.{IsUnderWay}
 use Rattle.elaborate.proofs.parts.copy_parts.Given as goal
 
 abbrev pub invariant-loop : goal.invariant-loop
-invariant-loop l = IsUnderWay l.store.trees (with_parts [] (tree_at l.store.trees l.id)) l.jobs l.copies l.parts.trees
+invariant-loop l = IsUnderWay l.store.trees (with_parts [] (tree_at l.store.trees l.id)) l.jobs (get nat_eq l.copies) l.parts.trees
