@@ -4,6 +4,7 @@
 mod answers;
 mod asserted;
 mod declare;
+mod framed;
 mod judge;
 mod stack;
 mod term;
