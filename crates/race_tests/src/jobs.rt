@@ -21,8 +21,8 @@ pub struct Counts {
     pub wins: AtomicU64,
 }
 
-// 1 where the clause stands in the pool now, and 0 where it doesn't.
-fn share_one(alloc: Global, race: &Race<Pool<Empty>>, pass: &mut Pass<Pool<Empty>>) -> u64
+/// Shares a true clause of level 0. 1 where it stands in the pool now, and 0 where it doesn't.
+pub fn share_one(alloc: Global, race: &Race<Pool<Empty>>, pass: &mut Pass<Pool<Empty>>) -> u64
     requires { IsReady race.now.table.shared.table_id pass.old }
     ensures ready { IsReady race.now.table.shared.table_id pass.new }
     ensures few { result ≤ 1 }
@@ -36,8 +36,8 @@ fn share_one(alloc: Global, race: &Race<Pool<Empty>>, pass: &mut Pass<Pool<Empty
     }
 }
 
-// The number of entries that were taken.
-fn take_some(race: &Race<Pool<Empty>>, pass: &mut Pass<Pool<Empty>>) -> u64
+/// Takes a batch. The number of its entries.
+pub fn take_some(race: &Race<Pool<Empty>>, pass: &mut Pass<Pool<Empty>>) -> u64
     requires { IsReady race.now.table.shared.table_id pass.old }
     ensures { IsReady race.now.table.shared.table_id pass.new }
 {

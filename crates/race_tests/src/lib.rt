@@ -6,5 +6,5 @@ mod stack;
 #[cfg(test)]
 mod tests;
 
-pub use jobs::{Counts, drive, race_of_four, work};
+pub use jobs::{Counts, drive, race_of_four, share_one, take_some, work};
 pub use stack::{Empty, pool_of_two, true_clause};
