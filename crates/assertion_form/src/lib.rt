@@ -1,0 +1,13 @@
+//! The clauses of an assertion: those of its parts, and that it is true.
+#![tactic(auto)]
+
+mod assertion;
+mod laws;
+mod numbering;
+mod part;
+#[cfg(test)]
+mod tests;
+mod writing;
+
+pub use assertion::{Space, form, form_new};
+pub use laws::{parts_force, term_clause_follows};

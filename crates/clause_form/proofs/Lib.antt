@@ -1,0 +1,4 @@
+pub mod NodeLaws
+mod PartLemmas
+pub mod Gathering
+mod Putting

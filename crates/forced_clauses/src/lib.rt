@@ -1,0 +1,20 @@
+//! The laws that the clauses of a node force all that are true of it and say all of it, as contracts of functions that do nothing.
+#![tactic(auto)]
+
+ghost use Rattle.forced_clauses.specs.Laws.{MoreForceAsMuch, NodeClausesDecide};
+ghost use Rattle.node_clauses.specs.Laws.{NodeClausesForce};
+
+/// The clauses of a node force each clause that is true whatever truth values its arguments have and no part of which is one.
+pub fn node_clauses_force()
+    ensures { NodeClausesForce }
+{}
+
+/// More clauses force what fewer force.
+pub fn more_force_as_much()
+    ensures { MoreForceAsMuch }
+{}
+
+/// Truth values that make each clause of a node true give it the value of its operator.
+pub fn node_clauses_decide()
+    ensures { NodeClausesDecide }
+{}
