@@ -1,0 +1,11 @@
+//! The free choices of a search: which atom is decided next and with which sign, when the decisions are taken back, and which learnt clauses are forgotten. No contract speaks of what is chosen.
+#![tactic(auto)]
+
+mod heap;
+mod order;
+mod phases;
+mod reduce;
+mod restart;
+mod scores;
+
+pub use order::Order;

@@ -1,0 +1,137 @@
+// The choices of one search.
+use crate::heap::Heap;
+use crate::phases::Phases;
+use crate::reduce::Uses;
+use crate::restart::Restarts;
+use crate::scores::Scores;
+use literals::Literal;
+use std::alloc::{AllocError, Global};
+
+/// What the choices are made from.
+#[derive(Drop)]
+pub struct Order {
+    scores: Scores,
+    heap: Heap,
+    phases: Phases,
+    // by atom: the conflict in which it was raised last
+    raised: Vec<u64>,
+    conflicts: u64,
+    restarts: Restarts,
+    uses: Uses,
+    // 0: atoms begin alike
+    seed: u64,
+}
+
+// The next word of Marsaglia's xorshift.
+fn next_word(word: u64) -> u64 {
+    let a = word ^ (word << 13);
+    let b = a ^ (a >> 7);
+    b ^ (b << 17)
+}
+
+impl Order {
+    /// Of no atoms. From another seed than 0 the first scores and signs are drawn; at 0 all begin alike, with the negative sign.
+    pub fn new(alloc: Global, seed: u64) -> Order {
+        Order {
+            scores: Scores::new(alloc),
+            heap: Heap::new(alloc),
+            phases: Phases::new(alloc),
+            raised: Vec::new(alloc),
+            conflicts: 0,
+            restarts: Restarts::new(),
+            uses: Uses::new(alloc),
+            seed,
+        }
+    }
+
+    // One atom more.
+    fn push(&mut self, atom: u32) -> Result<(), AllocError> {
+        self.seed = next_word(self.seed);
+        let word = self.seed;
+        self.phases.push(word >> 63 == 1)?;
+        self.raised.push(0)?;
+        self.heap.make_room()?;
+        self.scores.push(word >> 48)?;
+        self.heap.insert(&self.scores, atom);
+        Ok(())
+    }
+
+    /// Knows so many atoms, and has room for them.
+    pub fn grow(&mut self, atoms: u32) -> Result<(), AllocError> {
+        let known = self.scores.len();
+        if known >= atoms as usize {
+            return Ok(());
+        }
+        for atom in known as u32..atoms {
+            self.push(atom)?;
+        }
+        Ok(())
+    }
+
+    /// Lets every atom wait.
+    pub fn refill(&mut self) {
+        for atom in 0..self.raised.len() {
+            if atom < 1 << 31 {
+                self.heap.insert(&self.scores, atom as u32);
+            }
+        }
+    }
+
+    /// How many atoms wait for a decision at most.
+    pub fn waiting(&self) -> usize {
+        self.heap.len()
+    }
+
+    /// The atom to decide next, with the sign to try first. It waits no longer.
+    pub fn take(&mut self) -> Option<Literal> {
+        let atom = self.heap.take(&self.scores)?;
+        if atom >= 1 << 31 {
+            return None;
+        }
+        Some(Literal::new(atom, self.phases.of(atom)))
+    }
+
+    /// A literal is taken back: its atom waits again, with this sign first.
+    pub fn release(&mut self, literal: Literal) {
+        let atom = literal.atom();
+        self.phases.save(atom, literal.is_positive());
+        self.heap.insert(&self.scores, atom);
+    }
+
+    /// An atom of a clause that a conflict comes from.
+    pub fn raise(&mut self, atom: u32) {
+        let i = atom as usize;
+        if i >= self.raised.len() || self.raised[i] == self.conflicts {
+            return;
+        }
+        self.raised[i] = self.conflicts;
+        self.scores.raise(atom);
+        self.heap.raised(&self.scores, atom);
+    }
+
+    /// A clause that a conflict comes from, or a new one.
+    pub fn note_use(&mut self, id: u64) -> Result<(), AllocError> {
+        self.uses.note(id)
+    }
+
+    /// A conflict begins.
+    pub fn begin_conflict(&mut self) {
+        self.conflicts = self.conflicts.saturating_add(1);
+        self.scores.decay();
+    }
+
+    /// After a conflict: whether all decisions are to be taken back.
+    pub fn restarts(&mut self) -> bool {
+        self.restarts.is_due()
+    }
+
+    /// After a conflict: whether learnt clauses are to be forgotten.
+    pub fn forgets(&mut self) -> bool {
+        self.uses.is_due()
+    }
+
+    /// Whether the learnt clause of this id wasn't used since this was asked last.
+    pub fn is_idle(&mut self, id: u64) -> bool {
+        self.uses.is_idle(id)
+    }
+}

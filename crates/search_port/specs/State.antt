@@ -1,0 +1,84 @@
+-- What a theory is about, and what it was told.
+use Rattle.std.specs.Prelude.{◌≡◌, ℕ, ◌++◌, Bool, List, map, slice_index_or, Contains, All, ◌⊎◌, ◌<◌, length}
+use Rattle.literals.specs.Signed.{Signed, opposite}
+use Rattle.smt_meaning.specs.declared.clauses.Atom.{Atom}
+use Rattle.smt_meaning.specs.declared.clauses.Atom.TheVariants.{Truth}
+use Rattle.smt_meaning.specs.declared.clauses.Literal.{Literal}
+use Rattle.smt_meaning.specs.Term.{Tree, Interpretation}
+use Rattle.smt_meaning.specs.Stack.{Frame}
+use Rattle.smt_meaning.specs.Clause.{atom_true}
+
+-- by what a numbered literal is read: the list of trees, the levels of the stack, and the atom of each number
+pub record Reading : Type 0 where
+  pub trees : List Tree
+  pub frames : List Frame
+  pub table : List Atom
+
+pub record TheoryState : Type 0 where
+  pub reading : Reading
+  -- the literals asserted, oldest first
+  pub log : List Signed
+
+-- the atom of this number
+abbrev pub atom_at : List Atom → ℕ → Atom
+atom_at table n = slice_index_or table n (Truth 0)
+
+-- the truth of the terms at these places
+abbrev pub truth_atoms : List ℕ → List Atom
+truth_atoms places = map (λ (i : ℕ). Truth i) places
+
+-- where each number's atom is the truth of the term at its place
+abbrev pub truths_reading : List Tree → List Frame → List ℕ → Reading
+truths_reading trees frames places = record { trees = trees; frames = frames; table = truth_atoms places }
+
+-- the atom is the truth of a term
+abbrev pub IsTruth : Atom → Type 0
+IsTruth a = (i : ℕ) × (a ≡ Truth i)
+
+-- the truth of each number's atom under an interpretation
+abbrev pub truth : Reading → Interpretation → ℕ → Bool
+truth r I n = atom_true r.trees I (atom_at r.table n)
+
+-- the clause with its atoms written out
+abbrev pub written : Reading → List Signed → List Literal
+written r ls = map (λ (l : Signed). record { atom = atom_at r.table l.atom; positive = l.positive }) ls
+
+-- atoms are only added
+pub record IsGrown (old new : Reading) : Type 0 where
+  pub more : List Atom
+  pub is : new ≡ record { trees = old.trees; frames = old.frames; table = old.table ++ more }
+
+-- each numbered atom is asserted, with one sign or the other
+abbrev pub IsFull : Reading → List Signed → Type 0
+IsFull r log = (l : Signed) → l.atom < length r.table → Contains log l ⊎ Contains log (opposite l)
+
+-- no atom is asserted with both signs
+abbrev pub IsConsistent : List Signed → Type 0
+IsConsistent log = (l : Signed) → Contains log l → Contains log (opposite l) → ⊥
+
+-- ---- clauses under the literals asserted
+
+abbrev pub IsFalseIn : List Signed → Signed → Type 0
+IsFalseIn log l = Contains log (opposite l)
+
+-- each literal is false
+abbrev pub AllFalseIn : List Signed → List Signed → Type 0
+AllFalseIn log ls = All (IsFalseIn log) ls
+
+abbrev pub IsOpenIn : List Signed → Signed → Type 0
+IsOpenIn log l = (Contains log l → ⊥) × (Contains log (opposite l) → ⊥)
+
+-- one literal is open, and the others are false
+pub record HasOneOpen (log ls : List Signed) : Type 0 where
+  pub literal : Signed
+  pub is_open : IsOpenIn log literal
+  pub stands : Contains ls literal
+  pub others : All (λ m. (m ≡ literal) ⊎ IsFalseIn log m) ls
+
+-- all its literals but at most one are false, and none is true
+abbrev pub IsPressing : List Signed → List Signed → Type 0
+IsPressing log ls = AllFalseIn log ls ⊎ HasOneOpen log ls
+
+-- a literal of it is among those asserted
+abbrev pub IsMadeTrue : List Signed → List Signed → Type 0
+IsMadeTrue log ls = (l : Signed) × Contains ls l × Contains log l
