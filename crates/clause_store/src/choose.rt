@@ -192,8 +192,8 @@ pub fn keep_up(
     }
 }
 
-// Makes room in the lists of a clause's literals, so that its watches move without memory.
-pub fn make_room(lists: &mut [WatchList], literals: &[Literal]) -> bool
+// Makes room for a watch more in the list of each of these literals.
+fn make_room_in_each(lists: &mut [WatchList], literals: &[Literal]) -> bool
     requires { All (λ (l : Signed). packed l < length lists.old) literals.now }
     ensures { lists.new ≡ lists.old }
 {
@@ -204,4 +204,15 @@ pub fn make_room(lists: &mut [WatchList], literals: &[Literal]) -> bool
         }
     }
     true
+}
+
+// Makes room in the lists of a clause's literals, so that its watches move without memory. A clause of one literal is watched twice in its list.
+pub fn make_room(lists: &mut [WatchList], literals: &[Literal]) -> bool
+    requires { All (λ (l : Signed). packed l < length lists.old) literals.now }
+    ensures { lists.new ≡ lists.old }
+{
+    if literals.len() == 1 && !make_room_in_each(lists, literals) {
+        return false;
+    }
+    make_room_in_each(lists, literals)
 }
