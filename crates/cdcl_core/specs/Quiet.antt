@@ -1,0 +1,43 @@
+-- How long the literals of a clause aren't false, and from when on one is true.
+use Rattle.std.specs.Prelude.{◌≡◌, ℕ, ◌+◌, ◌^◌, ◌<◌, ◌≤◌, List, Contains}
+use Rattle.literals.specs.Signed.{Signed}
+use Rattle.clause_store.specs.declared.trail.Step.{Step}
+use Rattle.clause_store.specs.Trail.{Assigns, up_to}
+use Rattle.clause_store.specs.Stored.{IsFalseOn}
+use Rattle.cdcl_core.specs.declared.quiet.Span.{Span}
+use Rattle.cdcl_core.specs.declared.quiet.Latest.{Latest}
+
+-- the literal is on the trail from this depth on
+pub record IsFrom (steps : List Step) (l : Signed) (depth : ℕ) : Type 0 where
+  pub before : (d : ℕ) → d < depth → Assigns (up_to d steps) l → ⊥
+  pub after : (d : ℕ) → depth ≤ d → Assigns (up_to d steps) l
+
+-- it isn't false below this depth
+abbrev pub LastsTo : List Step → Signed → ℕ → Type 0
+LastsTo steps l depth = (d : ℕ) → d < depth → IsFalseOn (up_to d steps) l → ⊥
+
+pub record Lasts (steps : List Step) (l : Signed) (s : Span) : Type 0 where
+  pub until : LastsTo steps l s.until
+  pub from : (d : ℕ) → s.from ≤ d → d + 1 < 2 ^ 32 → Assigns (up_to d steps) l
+
+-- two of these literals aren't false
+pub record HasTwo (steps : List Step) (ls : List Signed) : Type 0 where
+  pub one : Signed
+  pub other : Signed
+  pub one_in : Contains ls one
+  pub other_in : Contains ls other
+  pub differ : one ≡ other → ⊥
+  pub one_lasts : IsFalseOn steps one → ⊥
+  pub other_lasts : IsFalseOn steps other → ⊥
+
+-- one of these literals is true
+pub record HasTrue (steps : List Step) (ls : List Signed) : Type 0 where
+  pub one : Signed
+  pub one_in : Contains ls one
+  pub is_true : Assigns steps one
+
+pub record IsLatest (steps : List Step) (ls : List Signed) (s : Latest) : Type 0 where
+  pub stands : Contains ls s.literal
+  pub until : LastsTo steps s.literal s.until
+  pub both : (d : ℕ) → d < s.both → HasTwo (up_to d steps) ls
+  pub from : (d : ℕ) → s.from ≤ d → d + 1 < 2 ^ 32 → HasTrue (up_to d steps) ls
