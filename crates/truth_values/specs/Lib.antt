@@ -1,0 +1,5 @@
+pub mod Places
+pub mod Operated
+pub mod Truths
+pub mod Tables
+pub mod Told
