@@ -5,3 +5,4 @@ pub mod NextStep
 pub mod Pivots
 pub mod Short
 pub mod Spans
+pub mod Keeping

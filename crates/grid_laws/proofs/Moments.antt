@@ -36,11 +36,11 @@ IsFree rows j = (k : ℕ) → k < length rows → basic_at rows k ≢ j
 
 -- ---- columns with other values
 
-length_with : (f : ℕ → Ratio) (i : ℕ) (cs : List Column) → length (with_values f i cs) ≡ length cs
+pub length_with : (f : ℕ → Ratio) (i : ℕ) (cs : List Column) → length (with_values f i cs) ≡ length cs
 length_with f i [] = refl
 length_with f i (c ∷ cs) = ap suc (length_with f (i + 1) cs)
 
-col_with : (f : ℕ → Ratio) (i : ℕ) (cs : List Column) (j n : ℕ) → n ≡ i + j → j < length cs
+pub col_with : (f : ℕ → Ratio) (i : ℕ) (cs : List Column) (j n : ℕ) → n ≡ i + j → j < length cs
     → col (with_values f i cs) j ≡ record { sum = (col cs j).sum; lower = (col cs j).lower; upper = (col cs j).upper; value = f n }
 col_with f i [] j n e lt = absurd (omega (arith, lt))
 col_with f i (c ∷ cs) zero n e lt =

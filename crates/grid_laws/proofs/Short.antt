@@ -28,7 +28,7 @@ abbrev Turns : Grid → List Turn → Grid → Type 0
 Turns g [] h = g ≡ h
 Turns g (t ∷ ts) h = (next_step g ≡ Some (pivot t.leaves t.number t.enters)) × Turns (after_pivot g t.leaves t.number t.enters) ts h
 
-pivot_facts : (n : ℕ) (g : Grid) (b : ℕ) (k : ℤ) (c : ℕ) → Good n g → next_step g ≡ Some (pivot b k c) → PivotFacts g b k c
+pub pivot_facts : (n : ℕ) (g : Grid) (b : ℕ) (k : ℤ) (c : ℕ) → Good n g → next_step g ≡ Some (pivot b k c) → PivotFacts g b k c
 pivot_facts n g b k c good h = step_facts g (pivot b k c) good.pending good.uncrossed h
 
 good_turn : (n : ℕ) (g : Grid) (b : ℕ) (k : ℤ) (c : ℕ) → Good n g → next_step g ≡ Some (pivot b k c) → Good n (after_pivot g b k c)
@@ -328,7 +328,7 @@ one : (n : ℕ) → 0 < 3 ^ n
 one zero = omega arith
 one (suc n) = let ih = one n in omega (arith, ih)
 
-within_bounds : (x : Ratio) (c : Column) (k : ℤ) → is_crossed c ≡ false → missed c ≡ Some k → missed (record { sum = c.sum; lower = c.lower; upper = c.upper; value = whole k }) ≡ None
+pub within_bounds : (x : Ratio) (c : Column) (k : ℤ) → is_crossed c ≡ false → missed c ≡ Some k → missed (record { sum = c.sum; lower = c.lower; upper = c.upper; value = whole k }) ≡ None
 within_bounds x c k crossed m = by_bounds c.lower c.upper c.value crossed m
   where
     whole_less : (a b : ℤ) → is_less (whole a) (whole b) ≡ int_lt a b
@@ -364,7 +364,7 @@ within_bounds x c k crossed m = by_bounds c.lower c.upper c.value crossed m
             both (whole_less k l ∙ ap (λ z. int_lt z l) (sym same) ∙ q) (whole_less u k ∙ ap (int_lt u) (sym same) ∙ int_same u)
         by_test false false e = absurd (cc)
 
-crossed_at : (cs : List Column) → any_crossed cs ≡ false → (j : ℕ) → j < length cs → is_crossed (col cs j) ≡ false
+pub crossed_at : (cs : List Column) → any_crossed cs ≡ false → (j : ℕ) → j < length cs → is_crossed (col cs j) ≡ false
 crossed_at [] h j lt = absurd (omega (arith, lt))
 crossed_at (c ∷ cs) h zero lt = first (is_crossed c) (any_crossed cs) h
   where
@@ -377,7 +377,7 @@ crossed_at (c ∷ cs) h (suc j) lt = crossed_at cs (second (is_crossed c) (any_c
     second true n q = absurd (cc)
     second false n q = q
 
-settled_after : (n : ℕ) (g : Grid) (b : ℕ) (k : ℤ) (c : ℕ) → Good n g → PivotFacts g b k c → Turning n g b c → Good n (after_pivot g b k c)
+pub settled_after : (n : ℕ) (g : Grid) (b : ℕ) (k : ℤ) (c : ℕ) → Good n g → PivotFacts g b k c → Turning n g b c → Good n (after_pivot g b k c)
     → (j : ℕ) → j < length (after_pivot g b k c).columns → is_basic (after_pivot g b k c).rows j ≡ false → missed (col (after_pivot g b k c).columns j) ≡ None
 settled_after n g b k c good f t good' j lt free = by_test (eqb j b) refl
   where
@@ -432,7 +432,7 @@ positive_row : (es : List Entry) → ArePositive es → RowValue.ArePositive es
 positive_row [] h = tt
 positive_row (e ∷ es) h = (h.0, positive_row es h.1)
 
-good_grid : (g : Grid) → IsGrid g → g.pending ≡ None → MeetsRows g.rows (value_at g) → any_crossed g.columns ≡ false → Good (length g.columns) g
+pub good_grid : (g : Grid) → IsGrid g → g.pending ≡ None → MeetsRows g.rows (value_at g) → any_crossed g.columns ≡ false → Good (length g.columns) g
 good_grid g is pending meets crossed =
     record {
       pending = pending;

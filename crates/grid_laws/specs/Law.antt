@@ -1,10 +1,10 @@
 -- Runs of next steps of a grid, and how many pivots they have.
-use Rattle.std.specs.Prelude.{◌≡◌, ℕ, suc, ◌+◌, ◌^◌, ◌<◌, ◌≤◌, true, false, List, [], ◌∷◌, length, slice_index_or, Some, None}
+use Rattle.std.specs.Prelude.{◌≡◌, ℕ, suc, ◌+◌, ◌^◌, ◌<◌, ◌≤◌, true, false, List, [], ◌∷◌, length, slice_index_or, ℤ, Some, None}
 use Rattle.number_meaning.specs.Number.{is_zero}
 use Rattle.grid_meaning.specs.declared.Entry.{Entry}
 use Rattle.grid_meaning.specs.declared.TableRow.{TableRow}
 use Rattle.grid_meaning.specs.declared.Grid.{Grid}
-use Rattle.grid_meaning.specs.Grid.{Step, take, move, pivot, coefficient, value_at, any_crossed, next_step, after, MeetsRows}
+use Rattle.grid_meaning.specs.Grid.{Step, take, move, pivot, coefficient, value_at, column_at, is_basic, missed, any_crossed, next_step, after, MeetsRows}
 
 abbrev pub no_row : TableRow
 no_row = record { basic = 0; entries = [] }
@@ -47,3 +47,26 @@ pivots (pivot b k c ∷ ss) = suc (pivots ss)
 abbrev pub RunsAreShort : Type 0
 RunsAreShort =
     (g h : Grid) (ss : List Step) → IsGrid g → g.pending ≡ None → MeetsRows g.rows (value_at g) → any_crossed g.columns ≡ false → Runs g ss h → pivots ss < 3 ^ length g.columns
+
+-- a grid with nothing pending, whose values meet the rows and whose bounds don't cross
+pub record IsLawful (g : Grid) : Type 0 where
+  pub grid : IsGrid g
+  pub pending : g.pending ≡ None
+  pub meets : MeetsRows g.rows (value_at g)
+  pub uncrossed : any_crossed g.columns ≡ false
+
+-- of the variables below n those that aren't basic are within their bounds
+abbrev pub IsSettledTo : Grid → ℕ → Type 0
+IsSettledTo g n = (j : ℕ) → j < n → j < length g.columns → is_basic g.rows j ≡ false → missed (column_at g j) ≡ None
+
+-- a next step leads to such a grid again
+abbrev pub StepsKeep : Type 0
+StepsKeep = (g : Grid) (s : Step) → IsLawful g → next_step g ≡ Some s → IsLawful (after g s)
+
+-- a move brings its variable within its bounds, and the others that aren't basic stay
+abbrev pub MovesSettle : Type 0
+MovesSettle = (g : Grid) (i : ℕ) (k : ℤ) → IsLawful g → next_step g ≡ Some (move i k) → IsSettledTo g i → IsSettledTo (after g (move i k)) (i + 1)
+
+-- after a pivot all that isn't basic is within its bounds
+abbrev pub PivotsSettle : Type 0
+PivotsSettle = (g : Grid) (b : ℕ) (k : ℤ) (c : ℕ) → IsLawful g → next_step g ≡ Some (pivot b k c) → IsSettledTo (after g (pivot b k c)) (length g.columns)

@@ -1,9 +1,16 @@
 //! The law that runs of next steps of a grid are short, as the contract of a function that does nothing.
 #![tactic(auto)]
 
-ghost use Rattle.grid_laws.specs.Law.{RunsAreShort};
+ghost use Rattle.grid_laws.specs.Law.{RunsAreShort, StepsKeep, MovesSettle, PivotsSettle};
 
 /// A run of next steps of n variables has fewer than 3^n pivots.
 pub fn runs_are_short()
     ensures { RunsAreShort }
+{}
+
+/// A next step keeps the shape of the rows, the values meet them again, and what isn't basic comes within its bounds and stays there.
+pub fn steps_keep()
+    ensures keep { StepsKeep }
+    ensures moves { MovesSettle }
+    ensures pivots { PivotsSettle }
 {}

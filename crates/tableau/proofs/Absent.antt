@@ -21,13 +21,13 @@ quot_one : (z : ℤ) → int_div z (pos 1) ≡ z
 quot_one (pos a) = ap pos (div-one a)
 quot_one (negsuc a) = ap (λ n. neg_ℤ (pos n)) (div-one (suc a))
 
-gcd_one : (a : ℕ) → gcd_of a 1 ≡ 1
+pub gcd_one : (a : ℕ) → gcd_of a 1 ≡ 1
 gcd_one a = gcd-Apart a 1 (λ e p q. q)
 
 one_gcd : (a : ℕ) → gcd_of 1 a ≡ 1
 one_gcd a = gcd-Apart 1 a (λ e p q. p)
 
-gcd_zero_left : (x : ℕ) → gcd_of 0 x ≡ x
+pub gcd_zero_left : (x : ℕ) → gcd_of 0 x ≡ x
 gcd_zero_left x = gcd_is 0 x x (IsGcd-swap x 0 x (IsGcd-from_zero x 0 refl))
 
 none_times : (z : ℤ) → pos 0 *ℤ z ≡ pos 0

@@ -33,7 +33,7 @@ abbrev pub all_entries : (ℕ → Ratio → Bool) → List Entry → Bool
 all_entries p [] = true
 all_entries p (e ∷ es) = p e.variable e.coefficient && all_entries p es
 
-every_same : (n : ℕ) (p q : ℕ → Bool) → ((j : ℕ) → j < n → p j ≡ q j) → every n p ≡ every n q
+pub every_same : (n : ℕ) (p q : ℕ → Bool) → ((j : ℕ) → j < n → p j ≡ q j) → every n p ≡ every n q
 every_same zero p q h = refl
 every_same (suc n) p q h = ap₂ ◌&&◌ (every_same n p q (λ j lt. h j (omega (arith, lt)))) (h n (omega arith))
 
@@ -129,7 +129,7 @@ merged_all : (a : Ratio) (xs : List Entry) (n : ℕ) (zs : List Entry) → IsFra
 merged_all a [] n zs fa hx hz fz = multiplied_all a zs fa fz
 merged_all a (x ∷ xs) n zs fa hx hz fz = onto_all a x xs fa hx.1 (λ m ws p q r. merged_all a xs m ws fa p q r) n zs hz fz
 
-merged_every : (n : ℕ) (a : Ratio) (xs zs : List Entry) → IsFraction a → AreFractions xs → AreFractions zs → From 0 xs → From 0 zs → Below n zs
+pub merged_every : (n : ℕ) (a : Ratio) (xs zs : List Entry) → IsFraction a → AreFractions xs → AreFractions zs → From 0 xs → From 0 zs → Below n zs
     → every n (λ j. fused_fits (coefficient xs j) a (coefficient zs j)) ≡ merged_fits a xs zs
 unfolding fused_at
 merged_every n a xs zs fa fx fz hx hz b =

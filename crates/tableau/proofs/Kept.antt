@@ -144,7 +144,7 @@ free_onto j a x rest ne ih (z ∷ zs) h = by_test (nat_lt x.variable z.variable)
     by_test false true more = (h.0, more)
     by_test false false more = free_unless j (entry x.variable (fused x.coefficient a z.coefficient)) (rest zs) ne (ih zs h.1)
 
-free_merged : (j : ℕ) (a : Ratio) (xs zs : List Entry) → Free j xs → Free j zs → Free j (merged a xs zs)
+pub free_merged : (j : ℕ) (a : Ratio) (xs zs : List Entry) → Free j xs → Free j zs → Free j (merged a xs zs)
 free_merged j a [] zs p q = free_multiplied j a zs q
 free_merged j a (x ∷ xs) zs p q = free_onto j a x (merged a xs) p.0 (λ ws r. free_merged j a xs ws p.1 r) zs q
 

@@ -9,3 +9,5 @@ pub mod Absent
 pub mod Coefficients
 pub mod PivotedRows
 pub mod FitTests
+pub mod Places
+pub mod Writing

@@ -126,6 +126,7 @@ facts_with first items t n h e = subst IsTable e
     (record {
       ascending = λ k lt. subst (λ (r : TableRow). IsAscending r.entries) (at k (inside lt)) (h.ascending k first (inside lt));
       nonzero = λ k lt. subst (λ (r : TableRow). AreNonzero r.entries) (at k (inside lt)) (h.nonzero k first (inside lt));
+      fractions = λ k lt. subst (λ (r : TableRow). AreFractions r.entries) (at k (inside lt)) (h.fractions k first (inside lt));
       distinct = λ j k lj lk same. h.distinct j k first (inside lj) (inside lk) (ap (λ (r : TableRow). r.basic) (at j (inside lj)) ∙ same ∙ sym (ap (λ (r : TableRow). r.basic) (at k (inside lk))));
       separate = λ j k lj lk. subst (λ (r : TableRow). Lacks r.basic (row_at (map plain items) k).entries) (at j (inside lj))
           (subst (λ (r : TableRow). Lacks (get_or items j first).basic r.entries) (at k (inside lk)) (h.separate j k first (inside lj) (inside lk)));
@@ -145,6 +146,7 @@ table_facts [] t n h e = subst IsTable e
     (record {
       ascending = λ k lt. absurd (omega arith);
       nonzero = λ k lt. absurd (omega arith);
+      fractions = λ k lt. absurd (omega arith);
       distinct = λ j k lj lk same. absurd (omega arith);
       separate = λ j k lj lk. absurd (omega arith);
       known = λ j k le lk. absurd (omega arith);

@@ -47,6 +47,7 @@ row_at rows k = slice_index_or rows k no_row
 pub record IsTable (t : Table) : Type 0 where
   pub ascending : (k : ℕ) → k < length t.rows → IsAscending (row_at t.rows k).entries
   pub nonzero : (k : ℕ) → k < length t.rows → AreNonzero (row_at t.rows k).entries
+  pub fractions : (k : ℕ) → k < length t.rows → AreFractions (row_at t.rows k).entries
   pub distinct : (j k : ℕ) → j < length t.rows → k < length t.rows → (row_at t.rows j).basic ≡ (row_at t.rows k).basic → j ≡ k
   pub separate : (j k : ℕ) → j < length t.rows → k < length t.rows → Lacks (row_at t.rows j).basic (row_at t.rows k).entries
   pub known : (j k : ℕ) → t.count ≤ j → k < length t.rows → Lacks j (row_at t.rows k).entries

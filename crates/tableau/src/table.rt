@@ -1,9 +1,10 @@
 //! The tableau.
-ghost use Rattle.std.specs.Prelude.{◌≡◌, ◌≢◌, ◌↔◌, ℕ, ◌+◌, ◌-◌, ◌^◌, ◌<◌, ◌≤◌, pos, true, false, [], ◌∷◌, ◌++◌, length, OnOk, OnErr, IfOk, IfErr, IfSome, IfNone};
+ghost use Rattle.std.specs.Prelude.{◌≡◌, ◌≢◌, ◌↔◌, ℕ, ◌+◌, ◌-◌, ◌^◌, ◌<◌, ◌≤◌, pos, true, false, [], ◌∷◌, ◌++◌, length, OnOk, OnErr, IfOk, IfErr, IfSome, IfNone, Some, None};
 ghost use Rattle.number_meaning.specs.declared.ratio.Ratio.{Ratio};
 ghost use Rattle.number_meaning.specs.Number.{is_zero};
-ghost use Rattle.grid_meaning.specs.Grid.{MeetsRows, coefficient, pivoted_rows, pivot_fits};
+ghost use Rattle.grid_meaning.specs.Grid.{MeetsRows, coefficient, row_of, pivoted_rows, pivot_fits};
 ghost use Rattle.tableau.specs.Failing.{IsRange};
+ghost use Rattle.tableau.specs.declared.failure.Failure.TheVariants.{Memory};
 ghost use Rattle.tableau.specs.Rows.{IsAscending, variable_at, coefficient_at};
 ghost use Rattle.tableau.specs.Staged.{Lacks, HasEntry};
 
@@ -84,6 +85,7 @@ impl Tableau {
         requires room { self.old.count < 2 ^ 32 - 1 }
         ensures number { IfOk result (λ i. i ≡ self.old.count) }
         ensures ok { OnOk result (self.new ≡ record { count = self.old.count + 1; rows = self.old.rows ++ record { basic = self.old.count; entries = entries.items } ∷ [] }) }
+        ensures memory { IfErr result (λ e. e ≡ Memory) }
         ensures err { OnErr result (self.new ≡ self.old) }
     {
         let basic = self.count;
@@ -136,6 +138,23 @@ impl Tableau {
         ensures none { IfNone result (Lacks variable (row_at self.now.rows place).entries) }
     {
         coefficient_in(self.entries(place), variable)
+    }
+
+    /// The place of the row of a basic variable.
+    #[tactic(auto, using(crate::proofs::Places::row_first, crate::proofs::Places::row_none))]
+    pub fn place_of(&self, variable: u32) -> Option<usize>
+        ensures some { IfSome result (λ k. k < length self.now.rows) }
+        ensures basic { IfSome result (λ k. (row_at self.now.rows k).basic ≡ variable) }
+        ensures row { IfSome result (λ k. row_of self.now.rows variable ≡ Some (row_at self.now.rows k)) }
+        ensures none { IfNone result ((k : ℕ) → k < length self.now.rows → (row_at self.now.rows k).basic ≢ variable) }
+        ensures lacks { IfNone result (row_of self.now.rows variable ≡ None) }
+    {
+        for place in 0..self.len() {
+            if self.basic(place) == variable {
+                return Some(place);
+            }
+        }
+        None
     }
 
     /// Whether a variable is basic.

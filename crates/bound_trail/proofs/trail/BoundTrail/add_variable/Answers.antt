@@ -1,0 +1,8 @@
+use Rattle.std.proofs.Common.{sym, subst}
+use Rattle.bound_trail.specs.Trail.{IsTrail}
+use Rattle.bound_trail.proofs.TrailLemmas.{trail_grown}
+use Rattle.bound_trail.proofs.trail.BoundTrail.add_variable.Goals as goal
+
+pub invariant_of-self-2 : goal.invariant_of-self-2
+invariant_of-self-2 c =
+    subst (λ hs. IsTrail hs c.self.inside.marks.items) (sym c.in_ok-push.ensures.items) (trail_grown c.self.inside.standing.items c.self.inside.marks.items c.self.invariant)

@@ -1,0 +1,8 @@
+//! The general simplex method: variables with bounds that are set and taken back, and values that are moved until they meet them.
+#![tactic(auto)]
+
+mod state;
+
+pub use bound_trail::Set;
+pub use simplex_steps::Outcome;
+pub use state::{Answer, Simplex, Verdict};

@@ -1,0 +1,332 @@
+//! The state, and the calls on it.
+ghost use Rattle.std.specs.Prelude.{◌≡◌, ℕ, ◌+◌, ◌-◌, ◌^◌, ◌<◌, ◌≤◌, pos, true, false, [], ◌∷◌, ◌++◌, map, take, length, slice_index_or, slice_set, OnOk, OnErr, IfOk, IfErr, Some, None};
+ghost use Rattle.number_meaning.specs.Number.{whole};
+ghost use Rattle.number_meaning.specs.Whole.{InRange};
+ghost use Rattle.bound_trail.specs.Trail.{tightest, number_of, set_at};
+ghost use Rattle.grid_meaning.specs.Grid.{entries_value, entries_value_fits, leaf};
+ghost use Rattle.tableau.specs.declared.failure.Failure.TheVariants.{Memory as NoMemory};
+ghost use Rattle.tableau.specs.Failing.{IsRange};
+ghost use Rattle.tableau.specs.Table.{IsOpenRow};
+ghost use Rattle.tableau.specs.Written.{AreParts, parts_row};
+ghost use Rattle.sum_laws.specs.Sums.{AreMatched};
+ghost use Rattle.simplex_steps.specs.State.{column_in, values};
+ghost use Rattle.simplex_steps.specs.Conflict.{KnownEntries};
+ghost use Rattle.simplex_steps.specs.Run.{IsRun};
+ghost use Rattle.simplex.specs.State.{IsState, KeepsValues, HasBounds, Judges, SpendsRoom, tag_in, tag_or, refreshed, KnownBounds, IsVerdict, new_column, with_row, row_value_of, row_fits};
+
+use bound_trail::{BoundTrail, Held, Set};
+use fraction128::{Fraction, Range};
+use grid_meaning::{Bound, Column, Entry, Seq, Side, Sum, Summand};
+use simplex_steps::{Checked, Moved, Outcome, check, moved_by};
+use std::alloc::{AllocError, Global};
+use std::marker::Model;
+use tableau::{Failure, Part, Tableau, write_parts};
+
+/// What a check finds.
+#[derive(Drop)]
+pub enum Verdict {
+    /// All variables are within their bounds.
+    Fits,
+    /// No solution of the rows meets the bounds with these tags.
+    Conflict(Vec<u32>),
+    /// This number of the next step leaves the range.
+    Range(Range),
+    /// There is no room for the pivot that is the next step.
+    UnitsSpent,
+    /// Memory is wanting.
+    Memory,
+}
+
+/// What a check finds, and how many pivots it made.
+#[derive(Drop)]
+pub struct Answer {
+    pub verdict: Verdict,
+    pub pivots: u64,
+}
+
+/// The number of a bound, where there is one.
+fn number_of(held: Option<Held>) -> Option<i128>
+    ensures { result ≡ number_of held }
+{
+    match held {
+        Some(held) => Some(held.number),
+        None => None,
+    }
+}
+
+/// Gives a variable bounds.
+fn bound(column: &mut Column, lower: Option<i128>, upper: Option<i128>)
+    ensures { column.new ≡ record { sum = column.old.sum; lower = lower; upper = upper; value = column.old.value } }
+{
+    column.lower = lower;
+    column.upper = upper;
+}
+
+/// Gives a variable the bounds that are the tightest of those set.
+fn refresh(columns: &mut Vec<Column>, trail: &BoundTrail, variable: u32)
+    requires known { variable < length columns.old.items }
+    requires count { length columns.old.items ≤ trail.now.count }
+    ensures { columns.new.items ≡ refreshed trail.now.bounds columns.old.items variable }
+{
+    let lower = number_of(trail.tightest(variable, Side::Lower));
+    let upper = number_of(trail.tightest(variable, Side::Upper));
+    bound(&mut columns[variable as usize], lower, upper);
+}
+
+/// The tags of bounds that stand.
+fn tags_of(alloc: Global, trail: &BoundTrail, bounds: &[Bound]) -> Result<Vec<u32>, AllocError>
+    requires { (k : ℕ) (d : Bound) → k < length bounds.now → (slice_index_or bounds.now k d).variable < trail.now.count }
+    ensures { IfOk result (λ ts. ts.items ≡ map (tag_in trail.now.bounds) bounds.now) }
+{
+    let mut tags = Vec::new(alloc);
+    for bound in bounds {
+        tags.push(tag_of(trail.tightest(bound.variable, bound.side)))?;
+    }
+    Ok(tags)
+}
+
+/// The tag of a bound, where there is one.
+fn tag_of(held: Option<Held>) -> u32
+    ensures { result ≡ tag_or held }
+{
+    match held {
+        Some(held) => held.tag,
+        None => 0,
+    }
+}
+
+/// A verdict in terms of tags.
+fn verdict_of(alloc: Global, trail: &BoundTrail, outcome: Outcome) -> Verdict
+    requires { KnownBounds trail.now.count outcome }
+    ensures { IsVerdict trail.now.bounds outcome result }
+{
+    match outcome {
+        Outcome::Fits => Verdict::Fits,
+        Outcome::Range(range) => Verdict::Range(range),
+        Outcome::UnitsSpent => Verdict::UnitsSpent,
+        Outcome::Memory => Verdict::Memory,
+        Outcome::Conflict(bounds) => match tags_of(alloc, trail, &bounds) {
+            Ok(tags) => Verdict::Conflict(tags),
+            Err(_) => Verdict::Memory,
+        },
+    }
+}
+
+/// The sum that is a term alone.
+fn sum_of_leaf(alloc: Global, term: u32) -> Result<Sum, AllocError>
+    ensures { IfOk result (λ s. s ≡ leaf term) }
+{
+    let mut sum = Seq::new(alloc);
+    sum.push(Summand {
+        coefficient: 1,
+        term,
+    })?;
+    Ok(sum)
+}
+
+/// The value of a sum of entries, added up in order.
+fn value_of(columns: &Vec<Column>, entries: &Vec<Entry>) -> Result<Fraction, Range>
+    requires { KnownEntries (length columns.now.items) entries.now.items }
+    ensures value { IfOk result (λ x. x ≡ entries_value (values columns.now.items) (whole (pos 0)) entries.now.items) }
+    ensures fits { OnOk result (entries_value_fits (values columns.now.items) (whole (pos 0)) entries.now.items ≡ true) }
+    ensures range { OnErr result (entries_value_fits (values columns.now.items) (whole (pos 0)) entries.now.items ≡ false) }
+{
+    let mut value = Fraction::from_whole(0);
+    for entry in entries {
+        value = moved_by(
+            value,
+            entry.coefficient,
+            columns[entry.variable as usize].value,
+        )?;
+    }
+    Ok(value)
+}
+
+/// Adds a column, and a row for it. An `Err`, for want of memory, changes nothing.
+fn append(
+    tableau: &mut Tableau,
+    columns: &mut Vec<Column>,
+    alloc: Global,
+    entries: Vec<Entry>,
+    column: Column,
+) -> Result<u32, Failure>
+    requires open { IsOpenRow tableau.old entries.items }
+    requires room { tableau.old.count < 2 ^ 32 - 1 }
+    ensures number { IfOk result (λ i. i ≡ tableau.old.count) }
+    ensures table { OnOk result (tableau.new ≡ with_row tableau.old (record { basic = tableau.old.count; entries = entries.items })) }
+    ensures columns { OnOk result (columns.new.items ≡ columns.old.items ++ column ∷ []) }
+    ensures memory { IfErr result (λ e. e ≡ NoMemory) }
+    ensures err { OnErr result ((tableau.new ≡ tableau.old) × (columns.new.items ≡ columns.old.items)) }
+{
+    columns.push(column)?;
+    match tableau.append_row(alloc, entries) {
+        Ok(number) => Ok(number),
+        Err(failure) => {
+            let _column = columns.pop();
+            Err(failure)
+        }
+    }
+}
+
+/// Variables with rows, values, and bounds that are set and taken back.
+#[derive(Drop)]
+pub struct Simplex {
+    tableau: Tableau,
+    columns: Vec<Column>,
+    moved: Vec<Moved>,
+    trail: BoundTrail,
+}
+
+impl Model for Simplex {
+    ghost use Rattle.simplex.specs.State.{State};
+
+    ghost Value = { State };
+
+    ghost use Rattle.std.specs.Prelude.{◌≡◌, length};
+    ghost use Rattle.simplex.specs.State.{IsCore};
+
+    ghost view = { λ s. record { table = s.tableau; columns = s.columns.items; bounds = s.trail.bounds } };
+
+    ghost invariant = { λ s. IsCore s.tableau s.columns.items s.trail };
+}
+
+impl Simplex {
+    ghost use Rattle.simplex.specs.State.{State};
+
+    /// No variable. It takes no memory.
+    pub fn new(alloc: Global) -> Self
+        ensures { result ≡ record { table = record { count = 0; rows = [] }; columns = []; bounds = [] } }
+    {
+        Simplex {
+            tableau: Tableau::new(alloc),
+            columns: Vec::new(alloc),
+            moved: Vec::new(alloc),
+            trail: BoundTrail::new(alloc),
+        }
+    }
+
+    /// A new variable for a term, which isn't basic: without bounds, its value 0. An `Err`, for want of memory, changes nothing.
+    pub fn add_leaf(&mut self, alloc: Global, term: u32) -> Result<u32, AllocError>
+        requires { self.old.table.count < 2 ^ 32 - 1 }
+        ensures number { IfOk result (λ i. i ≡ self.old.table.count) }
+        ensures table { OnOk result (self.new.table ≡ record { count = self.old.table.count + 1; rows = self.old.table.rows }) }
+        ensures columns { OnOk result (self.new.columns ≡ self.old.columns ++ new_column (leaf term) (whole (pos 0)) ∷ []) }
+        ensures bounds { self.new.bounds ≡ self.old.bounds }
+        ensures err { OnErr result (self.new ≡ self.old) }
+    {
+        self.tableau.facts();
+        let sum = sum_of_leaf(alloc, term)?;
+        self.trail.add_variable()?;
+        self.columns.push(Column {
+            sum,
+            lower: None,
+            upper: None,
+            value: Fraction::from_whole(0),
+        })?;
+        Ok(self.tableau.add_variable())
+    }
+
+    /// A new basic variable for a sum, whose parts are its summands in order with the variables of their terms; the row is the sum written by variables that aren't basic. Without bounds, its value the row's. An `Err` changes nothing.
+    pub fn add_row(&mut self, alloc: Global, sum: Sum, parts: &[Part]) -> Result<u32, Failure>
+        requires parts { AreParts self.old.table.count parts.now }
+        requires matched { AreMatched self.old.columns sum parts.now }
+        requires room { self.old.table.count < 2 ^ 32 - 1 }
+        ensures number { IfOk result (λ i. i ≡ self.old.table.count) }
+        ensures table { OnOk result (self.new.table ≡ with_row self.old.table (parts_row self.old.table.count self.old.table.rows parts.now)) }
+        ensures columns { OnOk result (self.new.columns ≡ self.old.columns ++ new_column sum (row_value_of self.old.columns (parts_row self.old.table.count self.old.table.rows parts.now)) ∷ []) }
+        ensures bounds { self.new.bounds ≡ self.old.bounds }
+        ensures fits { OnOk result (row_fits self.old parts.now ≡ true) }
+        ensures range { IfErr result (λ e. IsRange e → row_fits self.old parts.now ≡ false) }
+        ensures err { OnErr result (self.new ≡ self.old) }
+    {
+        self.tableau.facts();
+        let entries = write_parts(&self.tableau, alloc, parts)?;
+        let value = value_of(&self.columns, &entries)?;
+        self.trail.add_variable()?;
+        let column = Column {
+            sum,
+            lower: None,
+            upper: None,
+            value,
+        };
+        append(&mut self.tableau, &mut self.columns, alloc, entries, column)
+    }
+
+    /// Tells what holds of each state.
+    pub fn facts(&self)
+        ensures { IsState self.now }
+    {
+        let _columns = &self.columns;
+        self.tableau.facts();
+    }
+
+    /// How many bounds are set.
+    pub fn len(&self) -> usize
+        ensures { result ≡ length self.now.bounds }
+    {
+        self.trail.len()
+    }
+
+    /// A variable's sum, bounds and value.
+    pub fn column(&self, variable: u32) -> &Column
+        requires { variable < length self.now.columns }
+        ensures { result.now ≡ column_in self.now.columns variable }
+    {
+        &self.columns[variable as usize]
+    }
+
+    /// Sets a bound. Values stay; an `Err`, for want of memory, changes nothing.
+    pub fn set_bound(&mut self, set: Set) -> Result<(), AllocError>
+        requires known { set.variable < length self.old.columns }
+        requires number { InRange set.number }
+        ensures table { self.new.table ≡ self.old.table }
+        ensures values { KeepsValues self.old.columns self.new.columns }
+        ensures bounds { OnOk result (self.new.bounds ≡ self.old.bounds ++ set ∷ []) }
+        ensures err { OnErr result (self.new ≡ self.old) }
+    {
+        self.trail.set(set)?;
+        refresh(&mut self.columns, &self.trail, set.variable);
+        Ok(())
+    }
+
+    /// Takes back the newest bound, if there is one. Values stay.
+    fn undo(&mut self)
+        ensures table { self.new.table ≡ self.old.table }
+        ensures values { KeepsValues self.old.columns self.new.columns }
+        ensures bounds { self.new.bounds ≡ take (length self.old.bounds - 1) self.old.bounds }
+    {
+        if let Some(set) = self.trail.undo() {
+            refresh(&mut self.columns, &self.trail, set.variable);
+        }
+    }
+
+    /// Takes back all bounds but the first ones, so many as the count says. Values stay.
+    pub fn undo_to(&mut self, count: usize)
+        ensures table { self.new.table ≡ self.old.table }
+        ensures values { KeepsValues self.old.columns self.new.columns }
+        ensures bounds { self.new.bounds ≡ take count self.old.bounds }
+    {
+        while self.len() > count {
+            self.undo();
+        }
+    }
+
+    /// Moves values until all variables are within their bounds, or bounds are found that no solution of the rows meets, or the next step doesn't fit, or is a pivot past the room. The steps are the next ones of the grid; the bounds and the solutions of the rows stay.
+    pub fn check(&mut self, alloc: Global, room: u64) -> Answer
+        ensures run { IsRun self.old.table self.old.columns self.new.table self.new.columns result.pivots }
+        ensures bounds { self.new.bounds ≡ self.old.bounds }
+        ensures judges { Judges self.new result.verdict }
+        ensures room { SpendsRoom room result.pivots result.verdict }
+        ensures most { result.pivots ≤ room }
+    {
+        let Checked { outcome, pivots } = check(
+            alloc,
+            &mut self.tableau,
+            &mut self.columns,
+            &mut self.moved,
+            room,
+        );
+        let verdict = verdict_of(alloc, &self.trail, outcome);
+        Answer { verdict, pivots }
+    }
+}

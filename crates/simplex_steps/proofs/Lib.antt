@@ -1,0 +1,4 @@
+pub mod Columns
+pub mod Next
+pub mod ConflictLemmas
+pub mod Sound

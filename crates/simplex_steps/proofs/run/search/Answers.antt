@@ -1,0 +1,26 @@
+use Rattle.std.proofs.Common.{sym, subst}
+use Rattle.grid_meaning.specs.declared.Column.{Column}
+use Rattle.std.proofs.Common.{List}
+use Rattle.tableau.specs.Table.{Table}
+use Rattle.simplex_steps.specs.Run.{Ends}
+use Rattle.simplex_steps.proofs.Sound.{run_through}
+use Rattle.simplex_steps.proofs.run.search.Goals as goal
+
+pub advance-requires-clause-sound : goal.advance-requires-clause-sound
+advance-requires-clause-sound c = c.loop-pivots.invariant.1
+
+pub advance-requires-clause-settled : goal.advance-requires-clause-settled
+advance-requires-clause-settled c = c.loop-pivots.invariant.2
+
+pub returns-in-Ended-clause-ends : goal.returns-in-Ended-clause-ends
+returns-in-Ended-clause-ends c =
+    let r = c.in-Ended.ensures in
+    subst (λ (w : Table). Ends w c.advance.new.columns c.in-Ended.outcome) (sym r.0) (subst (λ (es : List Column). Ends c.loop-pivots.tableau es c.in-Ended.outcome) (sym r.1) r.2)
+
+pub loop-pivots-preserved : goal.loop-pivots-preserved
+loop-pivots-preserved c =
+    let r = c.in-Pivoted.ensures in (
+      run_through c.args.tableau.now c.args.columns.now c.loop-pivots.tableau c.loop-pivots.columns c.advance.new.tableau c.advance.new.columns c.loop-pivots.pivots 1 c.loop-pivots.invariant.0 r.run,
+      r.sound,
+      r.settled,
+    )

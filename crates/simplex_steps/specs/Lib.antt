@@ -1,0 +1,4 @@
+pub mod State
+pub mod Moved
+pub mod Conflict
+pub mod Run

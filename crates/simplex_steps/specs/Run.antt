@@ -1,0 +1,113 @@
+-- Runs of steps, and how they end.
+use Rattle.std.specs.Prelude.{◌≡◌, ℕ, ℤ, ◌<◌, ◌↔◌, true, false, List, length, Some, None}
+use Rattle.number_meaning.specs.declared.ratio.Ratio.{Ratio}
+use Rattle.number_meaning.specs.Whole.{InRange}
+use Rattle.grid_meaning.specs.declared.Column.{Column}
+use Rattle.grid_meaning.specs.declared.Grid.{Grid}
+use Rattle.grid_meaning.specs.Grid.{Step, pivot, next_step, step_fits, WithinBounds, MeetsRows}
+use Rattle.grid_laws.specs.Law.{Runs, pivots}
+use Rattle.tableau.specs.Table.{Table, row_at}
+use Rattle.tableau.specs.Staged.{HasEntry}
+use Rattle.simplex_steps.specs.declared.find.Turn.{Turn}
+use Rattle.simplex_steps.specs.declared.find.Found.{Found}
+use Rattle.simplex_steps.specs.declared.find.Found.TheVariants.{Fits, Conflict, Pivot}
+use Rattle.simplex_steps.specs.declared.run.Outcome.{Outcome}
+use Rattle.simplex_steps.specs.declared.run.Outcome.TheVariants.{Fits as AllFit, Conflict as Clash, Range, UnitsSpent, Memory}
+use Rattle.simplex_steps.specs.declared.run.Progress.{Progress}
+use Rattle.simplex_steps.specs.declared.run.Progress.TheVariants.{Pivoted, Ended}
+use Rattle.tableau.specs.declared.failure.Failure.{Failure}
+use Rattle.tableau.specs.declared.failure.Failure.TheVariants.{Range as NoFit, Memory as NoMemory}
+use Rattle.simplex_steps.specs.State.{grid_of, column_in, IsSolution, IsSound, IsSettled, KeepsBounds}
+use Rattle.simplex_steps.specs.Conflict.{IsRowConflict, IsConflict}
+
+-- all variables are within their bounds
+abbrev pub AreWithin : List Column → Type 0
+AreWithin cs = (i : ℕ) → i < length cs → WithinBounds (column_in cs i)
+
+-- next steps, n of them pivots, lead from g to h
+pub record Reaches (n : ℕ) (g h : Grid) : Type 0 where
+  pub steps : List Step
+  pub runs : Runs g steps h
+  pub count : pivots steps ≡ n
+
+-- the next step of the grid doesn't fit
+pub record NextFails (g : Grid) : Type 0 where
+  pub step : Step
+  pub next : next_step g ≡ Some step
+  pub fails : step_fits g step ≡ false
+
+-- the next step of the grid is a pivot that fits
+pub record NextPivotFits (g : Grid) : Type 0 where
+  pub leaves : ℕ
+  pub number : ℤ
+  pub enters : ℕ
+  pub next : next_step g ≡ Some (pivot leaves number enters)
+  pub fits : step_fits g (pivot leaves number enters) ≡ true
+
+-- the pivot of a turn
+abbrev pub step_of : Table → Turn → Step
+step_of t turn = pivot (row_at t.rows turn.place).basic turn.number turn.entering
+
+-- the turn is the next step
+pub record IsTurn (t : Table) (cs : List Column) (turn : Turn) : Type 0 where
+  pub in_rows : turn.place < length t.rows
+  pub known : turn.entering < t.count
+  pub entry : HasEntry turn.entering (row_at t.rows turn.place).entries
+  pub in_range : InRange turn.number
+  pub next : next_step (grid_of t cs) ≡ Some (step_of t turn)
+
+-- what the next step was found to be
+abbrev pub IsFound : Table → List Column → Found → Type 0
+IsFound t cs Fits = (next_step (grid_of t cs) ≡ None) × AreWithin cs
+IsFound t cs (Conflict bounds) = (next_step (grid_of t cs) ≡ None) × IsRowConflict t.rows cs bounds.items
+IsFound t cs (Pivot turn) = IsTurn t cs turn
+
+-- the rows have the same solutions
+abbrev pub SameSolutions : Table → Table → Type 0
+SameSolutions t u = (v : ℕ → Ratio) → ((i : ℕ) → 0 < (v i).denominator) → MeetsRows u.rows v ↔ MeetsRows t.rows v
+
+-- what an outcome says of the rows and columns at the end
+abbrev pub Ends : Table → List Column → Outcome → Type 0
+Ends t cs AllFit = (next_step (grid_of t cs) ≡ None) × AreWithin cs
+Ends t cs (Clash bounds) = (next_step (grid_of t cs) ≡ None) × IsConflict t.rows cs bounds.items
+Ends t cs (Range number) = NextFails (grid_of t cs)
+Ends t cs UnitsSpent = NextPivotFits (grid_of t cs)
+Ends t cs Memory = Unit {0}
+
+-- units are spent only where there is no room for another pivot
+abbrev pub SpendsRoom : ℕ → ℕ → Outcome → Type 0
+SpendsRoom room made UnitsSpent = made ≡ room
+SpendsRoom room made AllFit = Unit {0}
+SpendsRoom room made (Clash bounds) = Unit {0}
+SpendsRoom room made (Range number) = Unit {0}
+SpendsRoom room made Memory = Unit {0}
+
+-- an end that isn't for want of room
+abbrev pub IsUnspent : Outcome → Type 0
+IsUnspent UnitsSpent = ⊥
+IsUnspent AllFit = Unit {0}
+IsUnspent (Clash bounds) = Unit {0}
+IsUnspent (Range number) = Unit {0}
+IsUnspent Memory = Unit {0}
+
+-- why a step wasn't made, as an end
+abbrev pub IsFailed : Failure → Outcome → Type 0
+IsFailed (NoFit r) o = o ≡ Range r
+IsFailed NoMemory o = o ≡ Memory
+
+-- next steps, so many of them pivots, led from rows and columns to others: the solutions and the bounds stay
+pub record IsRun (t : Table) (cs : List Column) (u : Table) (ds : List Column) (pivots : ℕ) : Type 0 where
+  pub reaches : Reaches pivots (grid_of t cs) (grid_of u ds)
+  pub keeps : SameSolutions t u
+  pub solution : IsSolution u ds
+  pub bounds : KeepsBounds cs ds
+
+-- one step, which keeps all as it should be, or an end, which changes nothing
+pub record IsAdvanced (t : Table) (cs : List Column) (u : Table) (ds : List Column) : Type 0 where
+  pub run : IsRun t cs u ds 1
+  pub sound : IsSound u ds
+  pub settled : IsSettled u ds
+
+abbrev pub Advances : Table → List Column → Table → List Column → Progress → Type 0
+Advances t cs u ds Pivoted = IsAdvanced t cs u ds
+Advances t cs u ds (Ended o) = (u ≡ t) × (ds ≡ cs) × Ends t cs o × IsUnspent o

@@ -1,0 +1,175 @@
+//! The next step of the search.
+ghost use Rattle.std.specs.Prelude.{◌≡◌, ◌≢◌, ℕ, ◌+◌, ◌<◌, ◌≤◌, true, false, [], ◌∷◌, length, slice_index_or, IfOk, IfSome, IfNone, Some, None};
+ghost use Rattle.number_meaning.specs.Whole.{InRange};
+ghost use Rattle.number_meaning.specs.Number.{whole, is_less};
+ghost use Rattle.grid_meaning.specs.declared.Entry.{Entry};
+ghost use Rattle.grid_meaning.specs.Grid.{missed, is_crossed, any_crossed, helps, entering};
+ghost use Rattle.tableau.specs.Table.{row_at};
+ghost use Rattle.tableau.specs.Staged.{HasEntry};
+ghost use Rattle.simplex_steps.specs.State.{column_in, grid_of, IsSolution, AreRanged, IsRanged, IsSound, IsSettled, IsLeastBroken};
+ghost use Rattle.simplex_steps.specs.Conflict.{NoneHelps, KnownEntries, IsTarget};
+ghost use Rattle.simplex_steps.specs.Run.{IsFound};
+
+use crate::bounds::{helps, is_crossed, is_less_than, missed};
+use crate::conflict::explain_row;
+use grid_meaning::{Bound, Column, Entry};
+use std::alloc::{AllocError, Global};
+use tableau::Tableau;
+
+/// A pivot: the row whose basic variable leaves, the bound that this variable misses, and the variable that enters.
+#[derive(Clone, Copy, Drop)]
+pub struct Turn {
+    pub place: usize,
+    pub number: i128,
+    pub entering: u32,
+}
+
+/// What the next step is.
+#[derive(Drop)]
+pub enum Found {
+    /// There is none: all variables are within their bounds.
+    Fits,
+    /// There is none: no solution meets these bounds.
+    Conflict(Vec<Bound>),
+    /// A pivot.
+    Pivot(Turn),
+}
+
+/// The least variable whose bounds cross.
+pub fn first_crossed(tableau: &Tableau, columns: &[Column]) -> Option<u32>
+    requires { length columns.now ≡ tableau.now.count }
+    ensures some { IfSome result (λ i. (i < length columns.now) × (is_crossed (column_in columns.now i) ≡ true)) }
+    ensures first { IfSome result (λ i. (j : ℕ) → j < i → is_crossed (column_in columns.now j) ≡ false) }
+    ensures none { IfNone result (any_crossed columns.now ≡ false) }
+{
+    for variable in 0..tableau.count() {
+        if is_crossed(&columns[variable as usize]) {
+            return Some(variable);
+        }
+    }
+    None
+}
+
+/// The row found so far, or this one where its basic variable is outside its bounds and less.
+fn consider(
+    tableau: &Tableau,
+    columns: &[Column],
+    found: Option<usize>,
+    place: usize,
+) -> Option<usize>
+    requires count { length columns.now ≡ tableau.now.count }
+    requires place { place < length tableau.now.rows }
+    requires so_far { IsLeastBroken tableau.now.rows columns.now place found }
+    ensures { IsLeastBroken tableau.now.rows columns.now (place + 1) result }
+{
+    let basic = tableau.basic(place);
+    if missed(&columns[basic as usize]).is_none() {
+        return found;
+    }
+    match found {
+        Some(best) if tableau.basic(best) <= basic => found,
+        _ => Some(place),
+    }
+}
+
+/// The row of the least basic variable that is outside its bounds.
+fn first_broken(tableau: &Tableau, columns: &[Column]) -> Option<usize>
+    requires { length columns.now ≡ tableau.now.count }
+    ensures { IsLeastBroken tableau.now.rows columns.now (length tableau.now.rows) result }
+{
+    let mut found = None;
+    for place in 0..tableau.len() {
+        found = consider(tableau, columns, found, place);
+    }
+    found
+}
+
+/// The first entry of the row whose variable can move so that the basic variable rises, or falls.
+fn first_helping(columns: &[Column], entries: &[Entry], rises: bool) -> Option<usize>
+    requires { KnownEntries (length columns.now) entries.now }
+    ensures some { IfSome result (λ i. i < length entries.now) }
+    ensures helps { IfSome result (λ i. (d : Entry) → helps rises (slice_index_or entries.now i d).coefficient (column_in columns.now (slice_index_or entries.now i d).variable) ≡ true) }
+    ensures first { IfSome result (λ i. (k : ℕ) (d : Entry) → k < i → helps rises (slice_index_or entries.now k d).coefficient (column_in columns.now (slice_index_or entries.now k d).variable) ≡ false) }
+    ensures none { IfNone result (NoneHelps columns.now rises entries.now) }
+{
+    for (i, entry) in entries.iter().enumerate() {
+        if helps(&columns[entry.variable as usize], rises, entry.coefficient) {
+            return Some(i);
+        }
+    }
+    None
+}
+
+/// The least variable of the row that can move so that the basic variable rises, or falls.
+fn entering_variable(
+    tableau: &Tableau,
+    columns: &[Column],
+    place: usize,
+    rises: bool,
+) -> Option<u32>
+    requires count { length columns.now ≡ tableau.now.count }
+    requires place { place < length tableau.now.rows }
+    ensures known { IfSome result (λ c. c < tableau.now.count) }
+    ensures entry { IfSome result (λ c. HasEntry c (row_at tableau.now.rows place).entries) }
+    ensures some { IfSome result (λ c. entering (grid_of tableau.now columns.now) (row_at tableau.now.rows place).basic rises ≡ Some c) }
+    ensures none { IfNone result (entering (grid_of tableau.now columns.now) (row_at tableau.now.rows place).basic rises ≡ None) }
+    ensures stopped { IfNone result (NoneHelps columns.now rises (row_at tableau.now.rows place).entries) }
+{
+    tableau.facts();
+    let entries = tableau.entries(place);
+    match first_helping(columns, entries, rises) {
+        Some(i) => Some(entries[i].variable),
+        None => None,
+    }
+}
+
+/// The bound that a value is outside of, and whether it is the lower one.
+fn target(column: &Column) -> (i128, bool)
+    requires outside { missed column.now ≢ None }
+    requires lower { IsRanged column.now.lower }
+    requires upper { IsRanged column.now.upper }
+    ensures { IsTarget column.now result.0 result.1 }
+{
+    match column.lower {
+        Some(number) if is_less_than(column.value, number) => (number, true),
+        _ => (column.upper.unwrap(), false),
+    }
+}
+
+/// The pivot of the row at a place, whose basic variable is the least outside its bounds, or the bounds that show that there is none.
+fn find_turn(
+    alloc: Global,
+    tableau: &Tableau,
+    columns: &[Column],
+    place: usize,
+) -> Result<Found, AllocError>
+    requires sound { IsSound tableau.now columns.now }
+    requires settled { IsSettled tableau.now columns.now }
+    requires least { IsLeastBroken tableau.now.rows columns.now (length tableau.now.rows) (Some place) }
+    ensures { IfOk result (IsFound tableau.now columns.now) }
+{
+    tableau.facts();
+    let basic = tableau.basic(place);
+    let (number, rises) = target(&columns[basic as usize]);
+    match entering_variable(tableau, columns, place, rises) {
+        Some(entering) => Ok(Found::Pivot(Turn {
+            place,
+            number,
+            entering,
+        })),
+        None => Ok(Found::Conflict(explain_row(alloc, tableau, columns, place, number, rises)?)),
+    }
+}
+
+/// The next step, where all that isn't basic is within its bounds.
+pub fn find(alloc: Global, tableau: &Tableau, columns: &[Column]) -> Result<Found, AllocError>
+    requires sound { IsSound tableau.now columns.now }
+    requires settled { IsSettled tableau.now columns.now }
+    ensures { IfOk result (IsFound tableau.now columns.now) }
+{
+    tableau.facts();
+    match first_broken(tableau, columns) {
+        None => Ok(Found::Fits),
+        Some(place) => find_turn(alloc, tableau, columns, place),
+    }
+}

@@ -1,0 +1,188 @@
+//! The search for values within all bounds.
+ghost use Rattle.std.specs.Prelude.{◌≡◌, ℕ, ◌+◌, ◌<◌, ◌≤◌, true, false, length, OnOk, IfOk, Some, None};
+ghost use Rattle.grid_meaning.specs.Grid.{is_crossed};
+ghost use Rattle.tableau.specs.Table.{Table};
+ghost use Rattle.simplex_steps.specs.State.{column_in, grid_of, IsSolution, AreRanged, IsSound, IsSettled, KeepsBounds};
+ghost use Rattle.simplex_steps.specs.Run.{Reaches, SameSolutions, Ends, SpendsRoom, Advances, IsFailed, IsUnspent, IsRun};
+
+use crate::conflict::explain_crossed;
+use crate::find::{Found, find, first_crossed};
+use crate::moves::Moved;
+use crate::turn::{make_turn, settle, try_turn};
+use fraction128::Range;
+use grid_meaning::{Bound, Column};
+use std::alloc::Global;
+use tableau::{Failure, Tableau};
+
+/// How a search ends.
+#[derive(Drop)]
+pub enum Outcome {
+    /// All variables are within their bounds.
+    Fits,
+    /// No solution of the rows meets these bounds.
+    Conflict(Vec<Bound>),
+    /// This number of the next step leaves the range.
+    Range(Range),
+    /// There is no room for the pivot that is the next step.
+    UnitsSpent,
+    /// Memory is wanting.
+    Memory,
+}
+
+/// How a search ends, and how many pivots it made.
+#[derive(Drop)]
+pub struct Checked {
+    pub outcome: Outcome,
+    pub pivots: u64,
+}
+
+/// What the last look or a step leads to.
+#[derive(Drop)]
+enum Progress {
+    Pivoted,
+    Ended(Outcome),
+}
+
+/// Why a step wasn't made, as an end.
+fn failed(failure: Failure) -> Outcome
+    ensures { IsFailed failure result }
+{
+    match failure {
+        Failure::Range(range) => Outcome::Range(range),
+        Failure::Memory => Outcome::Memory,
+    }
+}
+
+/// Makes the next step, where all that isn't basic is within its bounds, or tells how the search ends.
+fn advance(
+    alloc: Global,
+    tableau: &mut Tableau,
+    columns: &mut [Column],
+    moved: &mut Vec<Moved>,
+) -> Progress
+    requires sound { IsSound tableau.old columns.old }
+    requires settled { IsSettled tableau.old columns.old }
+    ensures { Advances tableau.old columns.old tableau.new columns.new result }
+{
+    match find(alloc, tableau, columns) {
+        Err(_) => Progress::Ended(Outcome::Memory),
+        Ok(Found::Fits) => Progress::Ended(Outcome::Fits),
+        Ok(Found::Conflict(bounds)) => Progress::Ended(Outcome::Conflict(bounds)),
+        Ok(Found::Pivot(turn)) => match make_turn(tableau, columns, moved, turn) {
+            Ok(()) => Progress::Pivoted,
+            Err(failure) => Progress::Ended(failed(failure)),
+        },
+    }
+}
+
+/// How the search ends where there is no room for a pivot, and all that isn't basic is within its bounds.
+fn last_look(
+    alloc: Global,
+    tableau: &mut Tableau,
+    columns: &[Column],
+    moved: &mut Vec<Moved>,
+) -> Outcome
+    requires sound { IsSound tableau.old columns.now }
+    requires settled { IsSettled tableau.old columns.now }
+    ensures same { tableau.new ≡ tableau.old }
+    ensures ends { Ends tableau.old columns.now result }
+{
+    match find(alloc, tableau, columns) {
+        Err(_) => Outcome::Memory,
+        Ok(Found::Fits) => Outcome::Fits,
+        Ok(Found::Conflict(bounds)) => Outcome::Conflict(bounds),
+        Ok(Found::Pivot(turn)) => match try_turn(tableau, columns, moved, turn) {
+            Ok(()) => Outcome::UnitsSpent,
+            Err(failure) => failed(failure),
+        },
+    }
+}
+
+/// Pivots by Bland's rule, where all that isn't basic is within its bounds, until the search ends.
+fn search(
+    alloc: Global,
+    tableau: &mut Tableau,
+    columns: &mut [Column],
+    moved: &mut Vec<Moved>,
+    room: u64,
+) -> Checked
+    requires sound { IsSound tableau.old columns.old }
+    requires settled { IsSettled tableau.old columns.old }
+    ensures run { IsRun tableau.old columns.old tableau.new columns.new result.pivots }
+    ensures ends { Ends tableau.new columns.new result.outcome }
+    ensures room { SpendsRoom room result.pivots result.outcome }
+    ensures most { result.pivots ≤ room }
+{
+    for pivots in 0..room {
+        match advance(alloc, tableau, columns, moved) {
+            Progress::Pivoted => (),
+            Progress::Ended(outcome) => return Checked { outcome, pivots },
+        }
+    }
+    let outcome = last_look(alloc, tableau, columns, moved);
+    Checked {
+        outcome,
+        pivots: room,
+    }
+}
+
+/// Brings what isn't basic within its bounds, and then pivots by Bland's rule, where no bounds cross.
+fn check_uncrossed(
+    alloc: Global,
+    tableau: &mut Tableau,
+    columns: &mut [Column],
+    moved: &mut Vec<Moved>,
+    room: u64,
+) -> Checked
+    requires sound { IsSound tableau.old columns.old }
+    ensures run { IsRun tableau.old columns.old tableau.new columns.new result.pivots }
+    ensures ends { Ends tableau.new columns.new result.outcome }
+    ensures room { SpendsRoom room result.pivots result.outcome }
+    ensures most { result.pivots ≤ room }
+{
+    match settle(tableau, columns, moved) {
+        Ok(()) => search(alloc, tableau, columns, moved, room),
+        Err(failure) => Checked {
+            outcome: failed(failure),
+            pivots: 0,
+        },
+    }
+}
+
+/// The end by the bounds of the least variable whose bounds cross.
+fn crossing(alloc: Global, columns: &[Column], variable: u32) -> Outcome
+    requires known { variable < length columns.now }
+    requires crossed { is_crossed (column_in columns.now variable) ≡ true }
+    requires least { (j : ℕ) → j < variable → is_crossed (column_in columns.now j) ≡ false }
+    ensures ends { (t : Table) → Ends t columns.now result }
+    ensures unspent { IsUnspent result }
+{
+    match explain_crossed(alloc, columns, variable) {
+        Ok(bounds) => Outcome::Conflict(bounds),
+        Err(_) => Outcome::Memory,
+    }
+}
+
+/// Moves values by the general simplex method until all are within their bounds, or bounds are found that no solution of the rows meets, or the next step doesn't fit, or is a pivot past the room. The steps are the next ones of the grid; bounds and the solutions of the rows stay.
+pub fn check(
+    alloc: Global,
+    tableau: &mut Tableau,
+    columns: &mut [Column],
+    moved: &mut Vec<Moved>,
+    room: u64,
+) -> Checked
+    requires solution { IsSolution tableau.old columns.old }
+    requires ranged { AreRanged columns.old }
+    ensures run { IsRun tableau.old columns.old tableau.new columns.new result.pivots }
+    ensures ends { Ends tableau.new columns.new result.outcome }
+    ensures room { SpendsRoom room result.pivots result.outcome }
+    ensures most { result.pivots ≤ room }
+{
+    match first_crossed(tableau, columns) {
+        Some(variable) => Checked {
+            outcome: crossing(alloc, columns, variable),
+            pivots: 0,
+        },
+        None => check_uncrossed(alloc, tableau, columns, moved, room),
+    }
+}

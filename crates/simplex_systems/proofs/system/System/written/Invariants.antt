@@ -1,0 +1,6 @@
+use Rattle.tableau.specs.Written.{AreParts}
+use Rattle.sum_laws.specs.Sums.{AreMatched}
+use Rattle.simplex_systems.proofs.system.System.written.Given as goal
+
+abbrev pub invariant-loop-place : goal.invariant-loop-place
+invariant-loop-place l = AreParts l.self.table.count l.parts.items × AreMatched l.self.columns l.sum l.parts.items

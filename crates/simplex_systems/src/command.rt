@@ -1,0 +1,79 @@
+//! The commands, a line each.
+use crate::system::System;
+use anyhow::{Result, bail};
+use grid_meaning::Side;
+use std::alloc::Global;
+use std::str::SplitWhitespace;
+
+/// All numbers of the words, in order.
+fn numbers_of(alloc: Global, words: SplitWhitespace<'_>) -> Result<Vec<i128>> {
+    let mut numbers = Vec::new(alloc);
+    for word in words {
+        numbers.push(word.parse::<i128>()?)?;
+    }
+    Ok(numbers)
+}
+
+/// Refuses numbers that aren't so many.
+fn expect(numbers: &[i128], count: usize) -> Result<()> {
+    if numbers.len() == count {
+        Ok(())
+    } else {
+        bail!("not as many numbers as the command has")
+    }
+}
+
+/// The number in this place.
+fn number_at(numbers: &[i128], place: usize) -> Result<i128> {
+    match numbers.get(place) {
+        Some(number) => Ok(*number),
+        None => bail!("a number is missing"),
+    }
+}
+
+/// The variable in this place.
+fn variable_at(numbers: &[i128], place: usize) -> Result<u32> {
+    Ok(u32::try_from(number_at(numbers, place)?)?)
+}
+
+/// Sets the bound that the numbers tell.
+fn set_bound(system: &mut System, side: Side, numbers: &[i128]) -> Result<()> {
+    expect(numbers, 2)?;
+    system.set_bound(variable_at(numbers, 0)?, side, number_at(numbers, 1)?)
+}
+
+/// Does what a line says, and gives the line to print, if there is one.
+pub fn obey(system: &mut System, alloc: Global, line: &str) -> Result<Option<String>> {
+    let mut words = line.split_whitespace();
+    let Some(command) = words.next() else {
+        return Ok(None);
+    };
+    let numbers = numbers_of(alloc, words)?;
+    match command {
+        "system" => {
+            expect(&numbers, 1)?;
+            system.begin(alloc, variable_at(&numbers, 0)?)?;
+            Ok(None)
+        }
+        "row" => system.add_row(alloc, &numbers),
+        "lower" => {
+            set_bound(system, Side::Lower, &numbers)?;
+            Ok(None)
+        }
+        "upper" => {
+            set_bound(system, Side::Upper, &numbers)?;
+            Ok(None)
+        }
+        "undo" => {
+            expect(&numbers, 1)?;
+            system.undo_to(usize::try_from(number_at(&numbers, 0)?)?);
+            Ok(None)
+        }
+        "check" => {
+            expect(&numbers, 1)?;
+            let room = u64::try_from(number_at(&numbers, 0)?)?;
+            Ok(Some(system.check(alloc, room)?))
+        }
+        _ => bail!("no such command"),
+    }
+}

@@ -1,0 +1,3 @@
+pub mod SumValues
+pub mod WrittenSums
+pub mod Meaning
