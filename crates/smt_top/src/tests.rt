@@ -43,6 +43,16 @@ fn answers_scripts(rt: HostRuntime) -> Result<(), Fail> {
             1,
             b"sat\n(error \"E3 end inside a command at byte 11\")\n",
         ),
+        (
+            b"(set-logic QF_UF))(check-sat)",
+            1,
+            b"success\n(error \"E2 closing parenthesis at byte 17\")\n",
+        ),
+        (
+            b"(check-sat)(push 01)",
+            1,
+            b"sat\n(error \"E1 character at byte 17\")\n",
+        ),
         (b"(exit)\xff\x00\x28", 0, b"success\n"),
     ] {
         for piece in [1, 4096] {

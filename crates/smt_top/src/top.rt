@@ -8,7 +8,7 @@ ghost use Rattle.smt_top.specs.Progress.{CutOff, Ends, NoneSettled, SoFar, Stand
 ghost use Rattle.smt_top.specs.Ended.{IsFaulty, IsUnbegun, MatchesStatus, Ran, StatusOf};
 
 use crate::serving::{Run, Stage, Stop};
-use plain_decider::Plain;
+use alone_decider::Alone;
 use ports::{Gate, More, Sink, Source};
 use smt_meaning::Seq;
 use smt_meaning::language::{Entry, Reply};
@@ -172,7 +172,7 @@ pub fn run_within<S: Source, K: Sink, G: Gate>(
     match settings(alloc, words) {
         Ok(settings) => {
             let mut run = Run::new(alloc, &settings);
-            let outcome = drive(alloc, budget, source, sink, &mut Plain, &mut run);
+            let outcome = drive(alloc, budget, source, sink, &mut Alone, &mut run);
             finish(outcome, run.into_journal())
         }
         Err(error) => unbegun(alloc, error),

@@ -1,0 +1,4 @@
+pub mod Marking
+pub mod Listing
+pub mod Following
+pub mod Keeping

@@ -1,0 +1,203 @@
+-- Marking places, one after another.
+use Rattle.std.proofs.Common.{◌≡◌, ◌⊎◌, inl, inr, ℕ, zero, suc, ◌<◌, ◌≤◌, ◌+◌, Bool, true, false, ◌&&◌, List, [], ◌∷◌, ◌++◌, map, length, take, set, get_or, All, Contains, slice_index_or, subst, sym, ap, ◌∙◌, arith, refl, replicate}
+use Rattle.std.specs.List.{list_all}
+use Rattle.std.proofs.lemmas.List.{take_more, length-set, get_or-set_same, length-replicate, map-append}
+use Rattle.std.proofs.lemmas.List.Elements.{All-head, All-tail, All-nil, All-cons, All-push, All-contains, All-weaker, All-map, All-same, Contains-push, Contains-append_left}
+use Rattle.smt_meaning.specs.declared.terms.Head.{Head}
+use Rattle.smt_meaning.specs.Term.{Tree, Trees, node, none, more, tree_at}
+use Rattle.smt_meaning.specs.Nodes.{pick}
+use Rattle.smt_meaning.specs.Parts.{AreInOrder}
+use Rattle.smt_meaning.specs.Kinds.{is_propositional_tree, is_propositional}
+use Rattle.smt_meaning.specs.Stack.{signature_of, assertions_of}
+use Rattle.smt_meaning.specs.StackCommand.{Stack}
+use Rattle.term_store.specs.Terms.{tree_with}
+use Rattle.scope_stack.specs.declared.answers.Assertion.{Assertion}
+use Rattle.scope_stack.specs.Shown.{AreAsserted}
+use Rattle.propositional_laws.specs.Laws.{ArgumentsArePropositional}
+use Rattle.first_clauses.specs.Marks.{IsMarked, MarksAlso, ArePartsFrom}
+
+apart : (b : Bool) → b ≡ true → b ≡ false → ⊥
+apart b p q = cc
+
+-- ---- one place more
+
+mark_here : (marks : List Bool) (p : ℕ) → p < length marks → IsMarked (set marks p true) p
+mark_here marks p h = get_or-set_same marks p true false h
+
+mark_stays : (marks : List Bool) (p q : ℕ) → p < length marks → IsMarked marks q → IsMarked (set marks p true) q
+mark_stays [] p q h m = absurd (omega arith)
+mark_stays (b ∷ marks) zero zero h m = refl
+mark_stays (b ∷ marks) zero (suc q) h m = m
+mark_stays (b ∷ marks) (suc p) zero h m = m
+mark_stays (b ∷ marks) (suc p) (suc q) h m = mark_stays marks p q (omega arith) m
+
+mark_only : (marks : List Bool) (p q : ℕ) → p < length marks → IsMarked (set marks p true) q → IsMarked marks q ⊎ (p ≡ q)
+mark_only [] p q h m = absurd (omega arith)
+mark_only (b ∷ marks) zero zero h m = inr refl
+mark_only (b ∷ marks) zero (suc q) h m = inl m
+mark_only (b ∷ marks) (suc p) zero h m = inl m
+mark_only (b ∷ marks) (suc p) (suc q) h m = elim (mark_only marks p q (omega arith) m) [ inl r ↦ inl r | inr r ↦ inr (ap suc r) ]
+
+pub none_also : (marks : List Bool) → MarksAlso marks [] marks
+none_also marks = record { size = refl; these = All-nil (IsMarked marks); stay = λ p m. m; only = λ p m. inl m }
+
+also_only : (old new : List Bool) (places : List ℕ) (p q : ℕ) → MarksAlso old places new → p < length new → IsMarked (set new p true) q → IsMarked old q ⊎ Contains (places ++ p ∷ []) q
+also_only old new places p q m h k = elim (mark_only new p q h k) [
+  | inl r ↦ elim (m.only q r) [ inl s ↦ inl s | inr s ↦ inr (Contains-append_left places (p ∷ []) q s) ]
+  | inr r ↦ inr (subst (Contains (places ++ p ∷ [])) r (Contains-push places p))
+]
+
+pub one_also : (old new : List Bool) (places : List ℕ) (p : ℕ) → MarksAlso old places new → p < length new → MarksAlso old (places ++ p ∷ []) (set new p true)
+one_also old new places p m h = record {
+  size = length-set new p true ∙ m.size;
+  these = All-push (IsMarked (set new p true)) places p (All-weaker (IsMarked new) (IsMarked (set new p true)) (λ q k. mark_stays new p q h k) places m.these) (mark_here new p h);
+  stay = λ q k. mark_stays new p q h (m.stay q k);
+  only = λ q k. also_only old new places p q m h k;
+}
+
+-- ---- places of one list of different trees
+
+argument_here : (i j : Tree) (is js : Trees) → more i is ≡ more j js → i ≡ j
+argument_here i j is js e = cc
+
+arguments_after : (i j : Tree) (is js : Trees) → more i is ≡ more j js → is ≡ js
+arguments_after i j is js e = cc
+
+none_or_more : (t : Tree) (ts : Trees) → none ≡ more t ts → ⊥
+none_or_more t ts e = cc
+
+same_picks : (trees : List Tree) (is js : List ℕ) → AreInOrder trees → All (λ i. i < length trees) is → All (λ i. i < length trees) js → pick trees is ≡ pick trees js → is ≡ js
+same_picks trees [] [] o a b e = refl
+same_picks trees [] (j ∷ js) o a b e = absurd (none_or_more _ _ e)
+same_picks trees (i ∷ is) [] o a b e = absurd (none_or_more _ _ (sym e))
+same_picks trees (i ∷ is) (j ∷ js) o a b e =
+    let first : i ≡ j = o.different i j (All-head (λ k. k < length trees) i is a) (All-head (λ k. k < length trees) j js b) (argument_here _ _ _ _ e) in
+    let rest : is ≡ js = same_picks trees is js o (All-tail (λ k. k < length trees) i is a) (All-tail (λ k. k < length trees) j js b) (arguments_after _ _ _ _ e) in
+    ap (λ k. k ∷ is) first ∙ ap (λ ks. j ∷ ks) rest
+
+picks_of : (h k : Head) (ts us : Trees) → node h ts ≡ node k us → ts ≡ us
+picks_of h k ts us e = cc
+
+pub same_arguments : (trees : List Tree) (p : ℕ) (h k : Head) (is js : List ℕ) → AreInOrder trees → All (λ i. i < length trees) is → All (λ i. i < length trees) js
+    → tree_at trees p ≡ tree_with trees h is → tree_at trees p ≡ tree_with trees k js → is ≡ js
+same_arguments trees p h k is js o a b d e = same_picks trees is js o a b (picks_of h k (pick trees is) (pick trees js) (sym d ∙ e))
+
+-- ---- the parts from one place less on
+
+below : (marks : List Bool) (p : ℕ) → IsMarked marks p → p < length marks
+below [] p m = absurd (apart false m refl)
+below (b ∷ marks) zero m = omega arith
+below (b ∷ marks) (suc p) m = let rest : p < length marks = below marks p m in omega arith
+
+at_or_above : (id p : ℕ) → id ≤ p → (id ≡ p) ⊎ (id + 1 ≤ p)
+at_or_above zero zero h = inl refl
+at_or_above zero (suc p) h = inr (omega arith)
+at_or_above (suc id) zero h = absurd (omega arith)
+at_or_above (suc id) (suc p) h = elim (at_or_above id p (omega arith)) [ inl e ↦ inl (ap suc e) | inr l ↦ inr (omega arith) ]
+
+pub parts_marked : ArgumentsArePropositional → (s : Stack) (id : ℕ) (h : Head) (is : List ℕ) (old new : List Bool) → AreInOrder s.trees → id < length s.trees → IsMarked old id → All (λ i. i < id) is
+    → tree_at s.trees id ≡ tree_with s.trees h is → ArePartsFrom s (id + 1) old → MarksAlso old is new → ArePartsFrom s id new
+parts_marked law s id h is old new o within marked earlier e parts m =
+    let whole : is_propositional_tree (signature_of s.frames) (tree_with s.trees h is) ≡ true = subst (λ t. is_propositional_tree (signature_of s.frames) t ≡ true) e (parts.propositional id marked) in
+    let truths : All (λ i. is_propositional_tree (signature_of s.frames) (tree_at s.trees i) ≡ true) is = law (signature_of s.frames) s.trees h is whole in
+    let below_all : All (λ i. i < length s.trees) is = All-weaker (λ i. i < id) (λ i. i < length s.trees) (λ i m'. omega arith) is earlier in
+    record {
+      size = m.size ∙ parts.size;
+      propositional = λ p k. elim (m.only p k) [
+        | inl r ↦ parts.propositional p r
+        | inr r ↦ All-contains (λ i. is_propositional_tree (signature_of s.frames) (tree_at s.trees i) ≡ true) is p truths r
+      ];
+      closed = λ p l k g js b d. elim (at_or_above id p l) [
+        | inl same ↦
+            All-same (IsMarked new) js is
+            (same_arguments s.trees p g h js is o b below_all d (subst (λ q. tree_at s.trees q ≡ tree_with s.trees h is) same e)) m.these
+        | inr above ↦ elim (m.only p k) [
+          | inl r ↦ All-weaker (IsMarked old) (IsMarked new) m.stay js (parts.closed p above r g js b d)
+          | inr r ↦ let less : p < id = All-contains (λ i. i < id) is p earlier r in absurd (omega arith)
+        ]
+      ];
+    }
+
+pub parts_unmarked : (s : Stack) (id : ℕ) (marks : List Bool) → slice_index_or marks id false ≡ false → ArePartsFrom s (id + 1) marks → ArePartsFrom s id marks
+parts_unmarked s id marks n parts = record {
+  size = parts.size;
+  propositional = parts.propositional;
+  closed = λ p l k g js b d. elim (at_or_above id p l) [
+    | inl same ↦ absurd (apart (slice_index_or marks p false) k (subst (λ q. slice_index_or marks q false ≡ false) same n))
+    | inr above ↦ parts.closed p above k g js b d
+  ];
+}
+
+-- ---- the parts at the start
+
+none_marked : (n p : ℕ) → IsMarked (replicate n false) p → ⊥
+none_marked zero p m = apart false m refl
+none_marked (suc n) zero m = apart false m refl
+none_marked (suc n) (suc p) m = none_marked n p m
+
+left_true : (a b : Bool) → (a && b) ≡ true → a ≡ true
+left_true true b h = refl
+left_true false b h = h
+
+right_true : (a b : Bool) → (a && b) ≡ true → b ≡ true
+right_true true b h = h
+right_true false b h = absurd cc
+
+all_of_them : (f : Tree → Bool) (ts : List Tree) → list_all f ts ≡ true → All (λ t. f t ≡ true) ts
+all_of_them f [] h = All-nil (λ t. f t ≡ true)
+all_of_them f (t ∷ ts) h = All-cons (λ u. f u ≡ true) t ts (left_true (f t) _ h) (all_of_them f ts (right_true (f t) _ h))
+
+from_map : (P : Tree → Type 0) (f : Assertion → Tree) (xs : List Assertion) → All P (map f xs) → All (λ a. P (f a)) xs
+from_map P f [] h = All-nil (λ a. P (f a))
+from_map P f (a ∷ xs) h = All-cons (λ b. P (f b)) a xs (All-head P (f a) (map f xs) h) (from_map P f xs (All-tail P (f a) (map f xs) h))
+
+abbrev place : Assertion → ℕ
+place a = a.term
+
+pub parts_begun : (s : Stack) (xs : List Assertion) (marks : List Bool) → AreAsserted s xs → is_propositional s.frames ≡ true → MarksAlso (replicate (length s.trees) false) (map place xs) marks
+    → length (replicate (length s.trees) false) ≡ length s.trees → ArePartsFrom s (length s.trees) marks
+parts_begun s xs marks asserted b m size =
+    let truths : All (λ (a : Assertion). is_propositional_tree (signature_of s.frames) (tree_at s.trees a.term) ≡ true) xs =
+    from_map (λ t. is_propositional_tree (signature_of s.frames) t ≡ true) (λ a. tree_at s.trees a.term) xs
+    (All-same (λ t. is_propositional_tree (signature_of s.frames) t ≡ true) (map (λ (a : Assertion). tree_at s.trees a.term) xs) (assertions_of s.frames) asserted.terms
+    (all_of_them (is_propositional_tree (signature_of s.frames)) (assertions_of s.frames) b)) in
+    record {
+      size = m.size ∙ size;
+      propositional = λ p k. elim (m.only p k) [
+        | inl r ↦ absurd (none_marked (length s.trees) p r)
+        | inr r ↦
+            All-contains (λ i. is_propositional_tree (signature_of s.frames) (tree_at s.trees i) ≡ true) (map place xs) p
+            (All-map (λ i. is_propositional_tree (signature_of s.frames) (tree_at s.trees i) ≡ true) place xs truths) r
+      ];
+      closed = λ p l k g js b' d.
+          let short : p < length marks = below marks p k in
+          let long : length marks ≡ length s.trees = m.size ∙ size in absurd (omega arith);
+    }
+
+marked_terms : (new : List Bool) (xs : List Assertion) → All (IsMarked new) (map place xs) → All (λ (a : Assertion). IsMarked new a.term) xs
+marked_terms new [] h = All-nil (λ (a : Assertion). IsMarked new a.term)
+marked_terms new (a ∷ xs) h =
+    All-cons (λ (b : Assertion). IsMarked new b.term) a xs (All-head (IsMarked new) a.term (map place xs) h) (marked_terms new xs (All-tail (IsMarked new) a.term (map place xs) h))
+
+-- before any part's arguments are marked
+pub record AreBegun (s : Stack) (xs : List Assertion) (n : ℕ) (marks : List Bool) : Type 0 where
+  pub within : n ≤ length s.trees
+  pub parts : ArePartsFrom s n marks
+  pub asserted : All (λ (a : Assertion). IsMarked marks a.term) xs
+
+pub marks_begun : (s : Stack) (xs : List Assertion) (n : ℕ) (first new : List Bool) → n ≡ length s.trees → first ≡ replicate (length s.trees) false → AreAsserted s xs → is_propositional s.frames ≡ true
+    → MarksAlso first (map place xs) new → AreBegun s xs n new
+marks_begun s xs n first new e r asserted b m = record {
+  within = omega arith;
+  parts = subst (λ k. ArePartsFrom s k new) (sym e) (parts_begun s xs new asserted b (subst (λ ms. MarksAlso ms (map place xs) new) r m) (length-replicate (length s.trees) false));
+  asserted = marked_terms new xs m.these;
+}
+
+pub assertion_also : (xs : List Assertion) (i : ℕ) (item : Assertion) (old new : List Bool) → i < length xs → item ≡ get_or xs i item → All (λ (a : Assertion). a.term < length old) xs
+    → MarksAlso old (map place (take i xs)) new → MarksAlso old (map place (take (i + 1) xs)) (set new item.term true)
+assertion_also xs i item old new h e within m =
+    let here : item.term < length old = subst (λ (a : Assertion). a.term < length old) (sym e) (within i item h) in
+    let size : length new ≡ length old = m.size in
+    let list : map place (take (i + 1) xs) ≡ map place (take i xs) ++ item.term ∷ [] =
+    ap (map place) (take_more xs i item h) ∙ map-append place (take i xs) (get_or xs i item ∷ []) ∙ ap (λ (a : Assertion). map place (take i xs) ++ a.term ∷ []) (sym e) in
+    subst (λ ps. MarksAlso old ps (set new item.term true)) (sym list) (one_also old new (map place (take i xs)) item.term m (omega arith))

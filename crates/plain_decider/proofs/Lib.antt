@@ -1,7 +1,0 @@
-mod Sound
-mod Finding
-mod Trying
-mod Flagging
-mod Constants
-mod Tabled
-mod Confirming

@@ -1,4 +1,0 @@
-pub mod Known
-pub mod Truths
-pub mod Search
-pub mod Confirmed
