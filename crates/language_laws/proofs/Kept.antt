@@ -10,6 +10,7 @@ use Rattle.smt_meaning.specs.declared.options.Options.{Options}
 use Rattle.smt_meaning.specs.declared.options.OptionName.{OptionName}
 use Rattle.smt_meaning.specs.declared.options.OptionName.TheVariants.{ProduceModels, ProduceAssertions}
 use Rattle.smt_meaning.specs.declared.options.OptionSetting.{OptionSetting}
+use Rattle.smt_meaning.specs.declared.options.UnknownReason.{UnknownReason}
 use Rattle.smt_meaning.specs.declared.options.InfoName.{InfoName}
 use Rattle.smt_meaning.specs.declared.options.InfoName.TheVariants as Asked
 use Rattle.smt_meaning.specs.declared.commands.Command.{Command}
@@ -27,7 +28,8 @@ use Rattle.smt_meaning.specs.Sorts.{Outcome, done, refused, Judging}
 use Rattle.smt_meaning.specs.Stack.{Frame, signature_of}
 use Rattle.smt_meaning.specs.StackCommand.{Stack, Change, declares, asserts, pushes, pops, clears, begins_again, is_unsupported, asks, stack_command, judged, changed}
 use Rattle.smt_meaning.specs.Command.{command}
-use Rattle.smt_meaning.specs.State.{State, Effect, denied, left_out, accepted, answered, checked, effect, provided, set_logic, set_option_in, start_option, get_info, stack_effect, on_stack, with_stack, get_value, judged_values, valued, get_model, kept_model, logics, is_start, asserting, with_logic, set, all_fit, term_values, printed_functions, texts_of}
+use Rattle.smt_meaning.specs.State.{State, Effect, denied, left_out, accepted, answered, checked, effect, provided, set_logic, set_option_in, start_option, reason_unknown, get_info, stack_effect, on_stack, with_stack, get_value, judged_values, valued, get_model, kept_model, logics, is_start, asserting, with_logic, set, all_fit, term_values, printed_functions, texts_of}
+use Rattle.smt_meaning.specs.Report.{reason_of}
 use Rattle.smt_meaning.specs.MayReply.{Decided, IsExactly, IsModel, MayCome, MayDecide, MayReply, MayReplyTo, Replies}
 use Rattle.smt_meaning.specs.LegalJournal.{Moment, beginning, Runs}
 use Rattle.language_laws.specs.Laws.{ModeFits}
@@ -68,13 +70,20 @@ set_option_sound : (s : State) (o : OptionSetting) (n : Option OptionName) → S
 set_option_sound s o None h = h
 set_option_sound s o (Some n) h = provided_sound (is_start s.mode) (OptionTooLate n) (accepted (record s { options = set o s.options })) h
 
+reason_sound : (s : State) (m : Mode) → Sound s → SoundEffect (reason_unknown s m)
+reason_sound s In.Start h = tt
+reason_sound s In.Assert h = tt
+reason_sound s (In.Sat i) h = tt
+reason_sound s (In.Unknown r) h = h
+reason_sound s In.Unsat h = tt
+
 get_info_sound : (s : State) (i : InfoName) → Sound s → SoundEffect (get_info s i)
 get_info_sound s Asked.Name h = h
 get_info_sound s Asked.Version h = h
 get_info_sound s Asked.Authors h = h
 get_info_sound s Asked.ErrorBehavior h = h
 get_info_sound s Asked.AssertionStackLevels h = h
-get_info_sound s Asked.ReasonUnknown h = tt
+get_info_sound s Asked.ReasonUnknown h = reason_sound s s.mode h
 
 -- after a change to the stack the mode is assert, with a logic
 asserting_sound : (settings : Settings) (l : Option (List ℕ)) (m : Mode) (o : Options) (k new : Stack)
@@ -88,10 +97,12 @@ clears_sound : (settings : Settings) (l : Option (List ℕ)) (m : Mode) (o : Opt
 clears_sound settings None In.Start o k new h = tt
 clears_sound settings None In.Assert o k new h = absurd h
 clears_sound settings None (In.Sat i) o k new h = absurd h
+clears_sound settings None (In.Unknown r) o k new h = absurd h
 clears_sound settings None In.Unsat o k new h = absurd h
 clears_sound settings (Some n) In.Start o k new h = absurd h
 clears_sound settings (Some n) In.Assert o k new h = tt
 clears_sound settings (Some n) (In.Sat i) o k new h = tt
+clears_sound settings (Some n) (In.Unknown r) o k new h = tt
 clears_sound settings (Some n) In.Unsat o k new h = tt
 
 on_stack_sound : (s : State) (n : List ℕ) (o : Outcome Change) → Sound s → SoundEffect (on_stack s n o)
@@ -183,6 +194,10 @@ model_sound : (l : Option (List ℕ)) (i : List Table) (frames : List Frame) →
 model_sound None i frames h m = absurd h
 model_sound (Some n) i frames h m = m
 
+unknown_sound : (l : Option (List ℕ)) (r : UnknownReason) (frames : List Frame) → HasLogic l → ModeFits (In.Unknown r) l frames
+unknown_sound None r frames h = absurd h
+unknown_sound (Some n) r frames h = tt
+
 unsat_sound : (l : Option (List ℕ)) (frames : List Frame) → HasLogic l → ModeFits In.Unsat l frames
 unsat_sound None frames h = absurd h
 unsat_sound (Some n) frames h = tt
@@ -193,7 +208,7 @@ decided_sound s Given.Unsat kept new h d = as_sound (record s { mode = In.Unsat 
 decided_sound s Given.Success kept new h d = absurd d
 decided_sound s Given.Silent kept new h d = absurd d
 decided_sound s Given.Unsupported kept new h d = absurd d
-decided_sound s Given.Unknown kept new h d = absurd d
+decided_sound s Given.Unknown kept new h d = as_sound (record s { mode = In.Unknown (reason_of d.0) }) new d.3 (unknown_sound s.logic (reason_of d.0) s.stack.frames h)
 decided_sound s (Given.Echo t) kept new h d = absurd d
 decided_sound s (Given.Option v) kept new h d = absurd d
 decided_sound s (Given.Info i) kept new h d = absurd d

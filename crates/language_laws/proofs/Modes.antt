@@ -1,5 +1,7 @@
 -- What the state says of a command: the logic, the mode, the kept model, and what is left of what was said.
 use Rattle.std.proofs.Common.{◌≡◌, [], ◌∷◌, refl}
+use Rattle.smt_meaning.specs.declared.reports.Cause.TheVariants.{Units, Memory}
+use Rattle.smt_meaning.specs.declared.reports.Report.{Report}
 use Rattle.smt_meaning.specs.Reading.{text_rest, mark_rest, quoted_rest, lexeme, comment_rest, is_word_byte, is_symbol_byte, is_printable, word_token}
 use Rattle.smt_meaning.specs.Sorts.{◌>>=◌, ◌>>◌, return, refuse, require, required, the_scope, note, found, declare}
 use Rattle.smt_meaning.specs.StackCommand.{judge_body, judged}
@@ -7,7 +9,7 @@ use Rattle.std.specs.Fmt.{digits}
 use Rattle.smt_meaning.specs.Command.{command}
 use Rattle.smt_meaning.specs.State.{effect}
 use Rattle.smt_meaning.specs.Text.{symbol_text, text}
-use Rattle.language_laws.proofs.Script.{wrong_replies, says_so, finds, quiet, quiet_finds, a_model, no_model}
+use Rattle.language_laws.proofs.Script.{wrong_replies, says_so, finds, quiet, quiet_finds, a_model, no_model, no_answer}
 
 -- a command that needs a logic sets one where none is set
 logics : wrong_replies
@@ -49,6 +51,22 @@ models : wrong_replies
     ≡ []
 unfolding text_rest mark_rest quoted_rest lexeme comment_rest is_word_byte is_symbol_byte is_printable word_token ◌>>=◌ ◌>>◌ return refuse require required the_scope note found declare judge_body judged digits command effect symbol_text text
 models = refl
+
+abbrev without_memory : Report
+without_memory = record { worker = 0; cause = Memory }
+
+abbrev without_units : Report
+without_units = record { worker = 0; cause = Units [] }
+
+-- after an answer by unknown no model is kept, and its reason is told until the mode ends
+unknown_answers : wrong_replies
+    (quiet_finds (no_answer (without_units ∷ []) ∷ []) "(check-sat)(get-info :reason-unknown)(get-value (1))(get-model)(assert true)(get-info :reason-unknown)(get-model)" "unknown\n(:reason-unknown incomplete)\n(error \"E20 no model\")\n(error \"E20 no model\")\n(error \"E9 no unknown answer\")\n(error \"E20 no model\")\n"
+    ∷ quiet_finds (no_answer (without_units ∷ without_memory ∷ []) ∷ []) "(check-sat)(echo \"\")(assert x)(set-option :verbosity 1)(get-info :reason-unknown)" "unknown\n\"\"\n(error \"E13 unknown symbol: x\")\n(:reason-unknown memout)\n"
+    ∷ quiet_finds (no_answer (without_units ∷ []) ∷ a_model [] ∷ no_answer (without_memory ∷ []) ∷ no_model ∷ []) "(check-sat)(get-info :reason-unknown)(check-sat)(get-info :reason-unknown)(check-sat)(get-info :reason-unknown)(check-sat)(get-info :reason-unknown)" "unknown\n(:reason-unknown incomplete)\nsat\n(error \"E9 no unknown answer\")\nunknown\n(:reason-unknown memout)\nunsat\n(error \"E9 no unknown answer\")\n"
+    ∷ finds (no_answer (without_units ∷ []) ∷ []) "(check-sat)(set-logic QF_UF)(set-option :random-seed 1)(reset)(get-info :reason-unknown)" "unknown\n(error \"E10 logic already set\")\n(error \"E11 option too late: :random-seed\")\nsuccess\n(error \"E9 no unknown answer\")\n" ∷ [])
+    ≡ []
+unfolding text_rest mark_rest quoted_rest lexeme comment_rest is_word_byte is_symbol_byte is_printable word_token ◌>>=◌ ◌>>◌ return refuse require required the_scope note found declare judge_body judged digits command effect symbol_text text
+unknown_answers = refl
 
 -- a refused command leaves nothing behind
 refused : wrong_replies

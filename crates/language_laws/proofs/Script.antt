@@ -9,10 +9,12 @@ use Rattle.smt_meaning.specs.declared.commands.Command.{Command}
 use Rattle.smt_meaning.specs.declared.answers.Mode.TheVariants as In
 use Rattle.smt_meaning.specs.declared.answers.Reply.{Reply}
 use Rattle.smt_meaning.specs.declared.answers.Reply.TheVariants as Given
+use Rattle.smt_meaning.specs.declared.reports.Report.{Report}
 use Rattle.smt_meaning.specs.Reading.{Lexeme, token, lexeme}
 use Rattle.smt_meaning.specs.Sexp.{Sexps, end, ◌▸◌, open_lists_of}
 use Rattle.smt_meaning.specs.Command.{command}
 use Rattle.smt_meaning.specs.State.{State, Effect, denied, left_out, accepted, answered, checked, effect, start}
+use Rattle.smt_meaning.specs.Report.{reason_of}
 use Rattle.smt_meaning.specs.MayReply.{success}
 use Rattle.smt_meaning.specs.Text.{text}
 
@@ -41,6 +43,7 @@ script bytes = first_list (open_lists_of (tokens_within bytes bytes))
 pub data Found : Type 0 where
   a_model : (i : List Table) → Found
   no_model : Found
+  no_answer : (rs : List Report) → Found
 
 -- the state that a script has come to, what its next checks find, and the bytes of the replies so far
 pub record Run : Type 0 where
@@ -58,6 +61,7 @@ says r reply s = record r { state = s; written = r.written ++ text reply }
 abbrev pub decides : Run → State → List Found → Run
 decides r s [] = r
 decides r s (a_model i ∷ rest) = record { state = record s { mode = In.Sat i }; found = rest; written = r.written ++ text Given.Sat }
+decides r s (no_answer rs ∷ rest) = record { state = record s { mode = In.Unknown (reason_of rs) }; found = rest; written = r.written ++ text Given.Unknown }
 decides r s (no_model ∷ rest) = record { state = record s { mode = In.Unsat }; found = rest; written = r.written ++ text Given.Unsat }
 
 abbrev pub comes : Run → Effect → Run

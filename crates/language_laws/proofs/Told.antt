@@ -12,6 +12,8 @@ use Rattle.smt_meaning.specs.declared.options.InfoName.{InfoName}
 use Rattle.smt_meaning.specs.declared.options.InfoName.TheVariants as Asked
 use Rattle.smt_meaning.specs.declared.commands.Command.{Command}
 use Rattle.smt_meaning.specs.declared.commands.Command.TheVariants.{SetLogic, SetOption, GetOption, SetInfo, GetInfo, Echo, Exit, Reset, ResetAssertions, DeclareSort, DefineSort, DeclareConst, DeclareFun, DefineFun, Assert, CheckSat, Push, Pop, GetValue, GetModel, GetAssertions, LeftOut}
+use Rattle.smt_meaning.specs.declared.answers.Mode.{Mode}
+use Rattle.smt_meaning.specs.declared.answers.Mode.TheVariants as In
 use Rattle.smt_meaning.specs.declared.answers.Reply.{Reply}
 use Rattle.smt_meaning.specs.declared.answers.Reply.TheVariants as Given
 use Rattle.smt_meaning.specs.declared.replies.Kept.{Kept}
@@ -23,7 +25,7 @@ use Rattle.smt_meaning.specs.Sorts.{Outcome, done, refused, Judging}
 use Rattle.smt_meaning.specs.StackCommand.{Change, declares, asserts, pushes, pops, clears, begins_again, is_unsupported, asks, stack_command, judged, changed}
 use Rattle.smt_meaning.specs.Command.{command}
 use Rattle.smt_meaning.specs.State
-use Rattle.smt_meaning.specs.State.{Effect, denied, left_out, accepted, answered, checked, effect, provided, set_logic, set_option_in, start_option, get_info, stack_effect, on_stack, get_value, judged_values, valued, get_model, get_assertions, kept_model, logics, is_start, asserting, with_logic, set, all_fit, term_values, printed_functions, texts_of}
+use Rattle.smt_meaning.specs.State.{Effect, denied, left_out, accepted, answered, checked, effect, provided, set_logic, set_option_in, start_option, reason_unknown, get_info, stack_effect, on_stack, get_value, judged_values, valued, get_model, get_assertions, kept_model, logics, is_start, asserting, with_logic, set, all_fit, term_values, printed_functions, texts_of}
 use Rattle.smt_meaning.specs.MayReply.{Decided, IsExactly, MayCome, MayDecide, MayReply, MayReplyTo, Replies, success}
 use Rattle.language_laws.specs.Laws.{HasOneReply, ChangesNothing}
 
@@ -65,13 +67,20 @@ set_option_told : (b : Bool) (s : State.State) (o : OptionSetting) (n : Option O
 set_option_told b s o None = refl
 set_option_told b s o (Some n) = provided_told b (is_start s.mode) (OptionTooLate n) (accepted (record s { options = set o s.options })) refl
 
+reason_told : (b : Bool) (s : State.State) (m : Mode) → is_told b (reason_unknown s m) ≡ true
+reason_told b s In.Start = refl
+reason_told b s In.Assert = refl
+reason_told b s (In.Sat i) = refl
+reason_told b s (In.Unknown r) = refl
+reason_told b s In.Unsat = refl
+
 get_info_told : (b : Bool) (s : State.State) (i : InfoName) → is_told b (get_info s i) ≡ true
 get_info_told b s Asked.Name = refl
 get_info_told b s Asked.Version = refl
 get_info_told b s Asked.Authors = refl
 get_info_told b s Asked.ErrorBehavior = refl
 get_info_told b s Asked.AssertionStackLevels = refl
-get_info_told b s Asked.ReasonUnknown = refl
+get_info_told b s Asked.ReasonUnknown = reason_told b s s.mode
 
 on_stack_told : (b : Bool) (s : State.State) (n : List ℕ) (o : Outcome Change) → is_told b (on_stack s n o) ≡ true
 on_stack_told b s n (refused r) = refl

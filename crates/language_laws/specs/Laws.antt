@@ -55,6 +55,7 @@ ModeFits In.Start None frames = Unit {0}
 ModeFits In.Start (Some n) frames = ⊥
 ModeFits In.Assert (Some n) frames = Unit {0}
 ModeFits (In.Sat i) (Some n) frames = IsModel frames i
+ModeFits (In.Unknown r) (Some n) frames = Unit {0}
 ModeFits In.Unsat (Some n) frames = Unit {0}
 ModeFits _ None frames = ⊥
 

@@ -8,10 +8,12 @@ use Rattle.smt_meaning.specs.declared.answers.Mode.TheVariants as In
 use Rattle.smt_meaning.specs.declared.answers.Reply.{Reply}
 use Rattle.smt_meaning.specs.declared.answers.Reply.TheVariants as Given
 use Rattle.smt_meaning.specs.declared.replies.Kept.{Kept}
-use Rattle.smt_meaning.specs.declared.replies.Kept.TheVariants.{Nothing, Model}
+use Rattle.smt_meaning.specs.declared.replies.Kept.TheVariants.{Nothing, Model, Reports}
+use Rattle.smt_meaning.specs.declared.reports.Report.{Report}
 use Rattle.smt_meaning.specs.Term.{Tree, Interpretation, fits}
 use Rattle.smt_meaning.specs.Interpretation.{meaning, AreTablesFor}
 use Rattle.smt_meaning.specs.Stack.{Frame, signature_of, assertions_of, Holds, HasNoModel}
+use Rattle.smt_meaning.specs.Report.{AreReports, deciding_workers, reason_of}
 use Rattle.smt_meaning.specs.Sexp.{sexp}
 use Rattle.smt_meaning.specs.Command.{command}
 use Rattle.smt_meaning.specs.State.{State, Effect, denied, left_out, accepted, answered, checked, effect}
@@ -33,6 +35,10 @@ pub record IsModel (frames : List Frame) (i : List Table) : Type 0 where
 abbrev pub MayDecide : State → Reply → Kept → State → Type 0
 MayDecide s Given.Sat kept new = (i : List Table) × (kept ≡ Model i) × IsModel s.stack.frames i × (new ≡ record s { mode = In.Sat i })
 MayDecide s Given.Unsat kept new = (kept ≡ Nothing) × HasNoModel s.stack.frames × (new ≡ record s { mode = In.Unsat })
+MayDecide s Given.Unknown kept new =
+    (rs : List Report) × (kept ≡ Reports rs)
+    × AreReports deciding_workers s.stack.trees s.stack.frames s.options.reproducible_resource_limit rs
+    × (new ≡ record s { mode = In.Unknown (reason_of rs) })
 MayDecide s _ kept new = ⊥
 
 -- exactly this reply, and this state

@@ -22,7 +22,7 @@ use Rattle.smt_meaning.specs.declared.options.OptionValue.{OptionValue}
 use Rattle.smt_meaning.specs.declared.options.OptionValue.TheVariants as Shown
 use Rattle.smt_meaning.specs.declared.options.InfoName.{InfoName}
 use Rattle.smt_meaning.specs.declared.options.InfoName.TheVariants as Asked
-use Rattle.smt_meaning.specs.declared.options.Info.TheVariants.{Name, Version, Authors, ErrorBehavior, AssertionStackLevels}
+use Rattle.smt_meaning.specs.declared.options.Info.TheVariants.{Name, Version, Authors, ErrorBehavior, AssertionStackLevels, ReasonUnknown}
 use Rattle.smt_meaning.specs.declared.commands.Command.{Command}
 use Rattle.smt_meaning.specs.declared.commands.Command.TheVariants.{SetLogic, SetOption, GetOption, SetInfo, GetInfo, Echo, Exit, Reset, ResetAssertions, DeclareSort, DefineSort, DeclareConst, DeclareFun, DefineFun, Assert, CheckSat, Push, Pop, GetValue, GetModel, GetAssertions, LeftOut}
 use Rattle.smt_meaning.specs.declared.answers.Mode.{Mode}
@@ -207,14 +207,18 @@ abbrev pub set_option_in : State → OptionSetting → Option OptionName → Eff
 set_option_in s o None = accepted (record s { options = set o s.options })
 set_option_in s o (Some n) = provided (is_start s.mode) (OptionTooLate n) (accepted (record s { options = set o s.options }))
 
+-- why the last check was answered by unknown, where it was
+abbrev pub reason_unknown : State → Mode → Effect
+reason_unknown s (In.Unknown r) = answered (Given.Info (ReasonUnknown r)) s
+reason_unknown s _ = denied NoUnknownAnswer
+
 abbrev pub get_info : State → InfoName → Effect
 get_info s Asked.Name = answered (Given.Info Name) s
 get_info s Asked.Version = answered (Given.Info Version) s
 get_info s Asked.Authors = answered (Given.Info Authors) s
 get_info s Asked.ErrorBehavior = answered (Given.Info ErrorBehavior) s
 get_info s Asked.AssertionStackLevels = answered (Given.Info (AssertionStackLevels (depth s.stack.frames))) s
--- no check is answered by unknown
-get_info s Asked.ReasonUnknown = denied NoUnknownAnswer
+get_info s Asked.ReasonUnknown = reason_unknown s s.mode
 
 -- ---- the stack
 

@@ -1,5 +1,5 @@
 use crate::errors::Error;
-use crate::options::{Info, OptionValue};
+use crate::options::{Info, OptionValue, UnknownReason};
 use crate::replies::Kept;
 use crate::seq::{Bytes, Seq};
 use crate::tokens::SExpr;
@@ -65,6 +65,8 @@ pub enum Mode {
     Assert,
     /// After `sat`, with the model that is kept.
     Sat(Interp),
+    /// The mode sat after `unknown`, with its reason: no model is kept.
+    Unknown(UnknownReason),
     Unsat,
 }
 

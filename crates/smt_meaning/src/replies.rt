@@ -1,3 +1,5 @@
+use crate::reports::Report;
+use crate::seq::Seq;
 use crate::values::Interp;
 
 /// What is kept with a reply.
@@ -6,4 +8,6 @@ pub enum Kept {
     Nothing,
     /// With `sat`: an interpretation that makes every assertion true.
     Model(Interp),
+    /// With `unknown`: what each worker shows, in order.
+    Reports(Seq<Report>),
 }

@@ -1,0 +1,164 @@
+-- What a worker shows that ended a check without an answer: the units that it spent, each of which did something new.
+use Rattle.std.specs.Prelude.{◌≡◌, ◌≢◌, ◌⊎◌, ℕ, zero, suc, ◌^◌, ◌≤◌, min, Bool, true, false, not, List, [], ◌∷◌, ◌++◌, map, length, ℤ, pos, int_le, unsigned_abs, All, AllPairs, Contains, if◌then◌else◌}
+use Rattle.std.specs.List.{list_any, range_with_len}
+use Rattle.std.proofs.Common.{refl, subst, inl, inr}
+use Rattle.smt_meaning.specs.declared.options.UnknownReason.{UnknownReason}
+use Rattle.smt_meaning.specs.declared.options.UnknownReason.TheVariants.{Memout, Incomplete}
+use Rattle.smt_meaning.specs.declared.terms.Operator.{Operator}
+use Rattle.smt_meaning.specs.declared.terms.Head.TheVariants.{Theory}
+use Rattle.smt_meaning.specs.declared.clauses.Atom.{Atom}
+use Rattle.smt_meaning.specs.declared.clauses.Atom.TheVariants.{Truth}
+use Rattle.smt_meaning.specs.declared.clauses.Literal.{Literal}
+use Rattle.smt_meaning.specs.declared.clauses.Clause.{Clause}
+use Rattle.smt_meaning.specs.declared.reports.Unit.{Unit as Spent}
+use Rattle.smt_meaning.specs.declared.reports.Unit.TheVariants.{Learnt, Numbered}
+use Rattle.smt_meaning.specs.declared.reports.Cause.{Cause}
+use Rattle.smt_meaning.specs.declared.reports.Cause.TheVariants.{Units, Memory}
+use Rattle.smt_meaning.specs.declared.reports.Report.{Report}
+use Rattle.smt_meaning.specs.Term.{Tree, Trees, node}
+use Rattle.smt_meaning.specs.TreeShape.{place_of}
+use Rattle.smt_meaning.specs.Parts.{IsPart}
+use Rattle.smt_meaning.specs.Signature.{tree_sort}
+use Rattle.smt_meaning.specs.Stack.{Frame, signature_of, assertions_of}
+use Rattle.smt_meaning.specs.Follows.{Follows}
+use Rattle.smt_meaning.specs.Atoms.{pair_atoms, stack_atoms}
+use Rattle.smt_meaning.specs.Forced.{Sign, Forces, IsClauseOf, literals_of}
+
+-- ---- the atoms of a check
+
+-- a part of an assertion
+pub record IsPartOfStack (frames : List Frame) (t : Tree) : Type 0 where
+  pub assertion : Tree
+  pub asserted : Contains (assertions_of frames) assertion
+  pub part : IsPart t assertion
+
+-- an atom that compares two parts of one sort
+pub record ComparesParts (ts : List Tree) (frames : List Frame) (a : Atom) : Type 0 where
+  pub left : Tree
+  pub right : Tree
+  pub left_part : IsPartOfStack frames left
+  pub right_part : IsPartOfStack frames right
+  pub one_sort : tree_sort (signature_of frames) left ≡ tree_sort (signature_of frames) right
+  pub among : Contains (pair_atoms ts (signature_of frames) left right) a
+
+abbrev pub IsCheckAtom : List Tree → List Frame → Atom → Type 0
+IsCheckAtom ts frames a = Contains (stack_atoms ts frames) a ⊎ ComparesParts ts frames a
+
+-- ---- clauses that propagation doesn't find by itself
+
+abbrev pub negated : Literal → Literal
+negated l = record { atom = l.atom; positive = not l.positive }
+
+-- a clause of a part of an assertion
+pub record IsPartClause (ts : List Tree) (frames : List Frame) (ls : List Literal) : Type 0 where
+  pub operator : Operator
+  pub arguments : Trees
+  pub part : IsPartOfStack frames (node (Theory operator) arguments)
+  pub signs : List Sign
+  pub clause : IsClauseOf ts (signature_of frames) operator arguments signs
+  pub same : ls ≡ literals_of signs
+
+-- the clause that an assertion is true
+pub record IsAsserted (ts : List Tree) (frames : List Frame) (ls : List Literal) : Type 0 where
+  pub assertion : Tree
+  pub asserted : Contains (assertions_of frames) assertion
+  pub same : ls ≡ record { atom = Truth (place_of assertion ts); positive = true } ∷ []
+
+-- the worker 0 keeps each clause that it learns, and of those that another learns the ones of at most 8 literals count
+abbrev pub IsKept : ℕ → List Literal → Type 0
+IsKept zero ls = Unit {0}
+IsKept (suc w) ls = length ls ≤ 8
+
+-- a clause that was learnt before, and counts
+pub record IsEarlier (worker : ℕ) (earlier : List Spent) (ls : List Literal) : Type 0 where
+  pub clause : Clause
+  pub learnt : Contains earlier (Learnt clause)
+  pub kept : IsKept worker ls
+  pub same : ls ≡ clause.literals
+
+abbrev pub IsGiven : List Tree → List Frame → ℕ → List Spent → List Literal → Type 0
+IsGiven ts frames worker earlier ls = IsPartClause ts frames ls ⊎ IsAsserted ts frames ls ⊎ IsEarlier worker earlier ls
+
+-- ---- units
+
+-- the limit 0 stands for none
+abbrev pub is_unlimited : ℤ → Bool
+is_unlimited limit = int_le limit (pos 0)
+
+-- how many units a worker may spend: as many as the limit says, where there is one, and at most 2^40
+abbrev pub most_units : ℤ → ℕ
+most_units limit = if is_unlimited limit then 2 ^ 40 else min (unsigned_abs limit) (2 ^ 40)
+
+-- where there is no limit, what the worker 0 learns costs no unit
+abbrev pub LearningCosts : ℕ → ℤ → Type 0
+LearningCosts worker limit = worker ≡ 0 → is_unlimited limit ≡ false
+
+-- a clause that follows, and that no clauses among those given force
+pub record IsLearnt (ts : List Tree) (frames : List Frame) (limit : ℤ) (worker : ℕ) (earlier : List Spent) (c : Clause) : Type 0 where
+  pub costs : LearningCosts worker limit
+  pub follows : Follows ts frames c.level c
+  pub of_check : All (λ (l : Literal). IsCheckAtom ts frames l.atom) c.literals
+  pub no_two : AllPairs (λ (l m : Literal). l.atom ≢ m.atom) c.literals
+  pub unforced : (clauses : List (List Literal)) → All (IsGiven ts frames worker earlier) clauses → Forces negated clauses c.literals → ⊥
+
+-- an atom of the check that isn't one of the stack, and wasn't numbered before
+pub record IsNumbered (ts : List Tree) (frames : List Frame) (earlier : List Spent) (a : Atom) : Type 0 where
+  pub of_check : IsCheckAtom ts frames a
+  pub not_of_stack : Contains (stack_atoms ts frames) a → ⊥
+  pub new : Contains earlier (Numbered a) → ⊥
+
+abbrev pub IsUnit : List Tree → List Frame → ℤ → ℕ → List Spent → Spent → Type 0
+IsUnit ts frames limit worker earlier (Learnt c) = IsLearnt ts frames limit worker earlier c
+IsUnit ts frames limit worker earlier (Numbered a) = IsNumbered ts frames earlier a
+
+-- each unit is one after those before it
+abbrev pub AreUnits : List Tree → List Frame → ℤ → ℕ → List Spent → Type 0
+AreUnits ts frames limit worker us =
+    (before after : List Spent) (u : Spent) → us ≡ before ++ u ∷ after → IsUnit ts frames limit worker before u
+
+-- a list that ends in one more, cut before one of its items: at the last one, or before it
+last_or_before : {X : Type 0} (us before after : List X) (u v : X) → us ++ u ∷ [] ≡ before ++ v ∷ after
+    → ((us ≡ before) × (u ≡ v)) ⊎ ((rest : List X) × (us ≡ before ++ v ∷ rest))
+last_or_before [] [] after u v e = inl (refl, cc)
+last_or_before [] (b ∷ []) after u v e = cc
+last_or_before [] (b ∷ c ∷ before) after u v e = cc
+last_or_before (x ∷ us) [] after u v e = inr (us, cc)
+last_or_before (x ∷ us) (b ∷ before) after u v e =
+    let first : x ≡ b = cc in let rest : us ++ u ∷ [] ≡ before ++ v ∷ after = cc in
+    elim (last_or_before us before after u v rest) [ inl (same, last) ↦ inl (cc, last) | inr (more, same) ↦ inr (more, cc) ]
+
+pub no_units : (ts : List Tree) (frames : List Frame) (limit : ℤ) (worker : ℕ) → AreUnits ts frames limit worker []
+no_units ts frames limit worker [] after u e = cc
+no_units ts frames limit worker (b ∷ before) after u e = cc
+
+pub one_more_unit : (ts : List Tree) (frames : List Frame) (limit : ℤ) (worker : ℕ) (us : List Spent) (u : Spent)
+    → AreUnits ts frames limit worker us → IsUnit ts frames limit worker us u → AreUnits ts frames limit worker (us ++ u ∷ [])
+one_more_unit ts frames limit worker us u each one before after v e =
+    elim (last_or_before us before after u v e) [
+      | inl (same, last) ↦ subst (λ x. IsUnit ts frames limit worker before x) last (subst (λ xs. IsUnit ts frames limit worker xs u) same one)
+      | inr (rest, same) ↦ each before rest v same
+    ]
+
+-- ---- reports
+
+-- all units are spent, or memory was wanting
+abbrev pub Shows : List Tree → List Frame → ℤ → ℕ → Cause → Type 0
+Shows ts frames limit worker (Units us) = (length us ≡ most_units limit) × AreUnits ts frames limit worker us
+Shows ts frames limit worker Memory = Unit {0}
+
+-- one report of each worker, in order from 0
+pub record AreReports (workers : ℕ) (ts : List Tree) (frames : List Frame) (limit : ℤ) (rs : List Report) : Type 0 where
+  pub one_each : map (λ (r : Report). r.worker) rs ≡ range_with_len 0 workers
+  pub shown : All (λ (r : Report). Shows ts frames limit r.worker r.cause) rs
+
+-- how many workers decide a check
+abbrev pub deciding_workers : ℕ
+deciding_workers = 1
+
+-- ---- the reason of an unknown answer
+
+abbrev pub wants_memory : Report → Bool
+wants_memory r = elim r.cause [ Memory ↦ true | Units us ↦ false ]
+
+abbrev pub reason_of : List Report → UnknownReason
+reason_of rs = if list_any wants_memory rs then Memout else Incomplete
