@@ -9,3 +9,4 @@ mod Kept
 mod Journals
 mod Numbers
 mod Propositional
+mod Reports
