@@ -1,5 +1,5 @@
 //! The decider.
-ghost use Rattle.std.specs.Prelude.{◌≡◌, IfOk, true};
+ghost use Rattle.std.specs.Prelude.{◌≡◌, IfOk, true, ℤ};
 ghost use Rattle.smt_meaning.specs.Kinds.{is_propositional};
 ghost use Rattle.theory_port.specs.Verdicts.{IsVerdict};
 ghost use Rattle.first_clauses.specs.First.{IsFirst};
@@ -56,7 +56,7 @@ fn search(
 ) -> Result<Verdict, AllocError>
     requires propositional { is_propositional stack.now.frames ≡ true }
     requires first { IsFirst stack.now places.items store.old }
-    ensures { IfOk result (IsVerdict stack.now.frames) }
+    ensures { IfOk result (λ verdict. (limit : ℤ) → IsVerdict stack.now.trees stack.now.frames limit verdict) }
 {
     stack.laws();
     tables_interpret();

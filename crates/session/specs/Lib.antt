@@ -2,3 +2,4 @@ pub mod Logics
 pub mod Shown
 pub mod StateCode
 pub mod Effects
+pub mod Heeded

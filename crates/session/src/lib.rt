@@ -3,6 +3,7 @@
 
 mod asked;
 mod carry;
+mod checks;
 mod logic;
 mod options;
 mod printed;

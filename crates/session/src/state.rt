@@ -4,6 +4,7 @@ ghost use Rattle.smt_meaning.specs.State.{is_start as is_start_mode};
 
 use crate::asked::values_of;
 use crate::carry::{carry, refused, word};
+use crate::checks::{in_force, reason_of};
 use crate::logic::Logic;
 use crate::options::{option_value, options_at_start, start_option, with_setting};
 use crate::printed::{printed_functions, texts_of};
@@ -51,7 +52,7 @@ pub struct Done {
 impl Session {
     ghost use Rattle.std.specs.Prelude.{◌≡◌, ◌≢◌, ◌↔◌, IfOk, OnErr, IsTrue};
     ghost use Rattle.std.specs.Prelude.{codes};
-    ghost use Rattle.smt_meaning.specs.State.{start, with_logic, asserting, set_logic, set_option_in, start_option, option_value, get_info, stack_effect, checked, effect, kept_model, get_value, get_model, get_assertions};
+    ghost use Rattle.smt_meaning.specs.State.{start, with_logic, asserting, set_logic, set_option_in, start_option, option_value, reason_unknown, get_info, stack_effect, checked, effect, kept_model, get_value, get_model, get_assertions};
     ghost use Rattle.smt_meaning.specs.StackCommand.{stack_command};
     ghost use Rattle.session.specs.Effects.{Comes, is_carried, word_of};
     ghost use Rattle.smt_meaning.specs.MayReply.{MayReply, MayCome, success};
@@ -248,7 +249,17 @@ impl Session {
             InfoName::AssertionStackLevels => {
                 Reply::Info(Info::AssertionStackLevels(u64::from(self.stack.depth())))
             }
-            InfoName::ReasonUnknown => Reply::Error(Error::NoUnknownAnswer),
+            InfoName::ReasonUnknown => self.reason_unknown(),
+        }
+    }
+
+    /// `(get-info :reason-unknown)`
+    fn reason_unknown(&self) -> Reply
+        ensures { Comes (reason_unknown self.now self.now.mode) self.now result self.now }
+    {
+        match self.mode {
+            Mode::Unknown(reason) => Reply::Info(Info::ReasonUnknown(reason)),
+            _ => Reply::Error(Error::NoUnknownAnswer),
         }
     }
 
@@ -306,7 +317,8 @@ impl Session {
         if !decider.takes(alloc, &self.stack)? {
             return Ok((Reply::Unsupported, Kept::Nothing));
         }
-        match decider.decide(alloc, &self.stack, &self.settings)? {
+        let settings = in_force(&self.settings, &self.options);
+        match decider.decide(alloc, &self.stack, &settings)? {
             Verdict::Sat(model) => {
                 let kept = model.copy_tables(alloc)?;
                 self.need_logic();
@@ -317,6 +329,12 @@ impl Session {
                 self.need_logic();
                 self.mode = Mode::Unsat;
                 Ok((Reply::Unsat, Kept::Nothing))
+            }
+            Verdict::Unknown(reports) => {
+                let reason = reason_of(reports.as_slice());
+                self.need_logic();
+                self.mode = Mode::Unknown(reason);
+                Ok((Reply::Unknown, Kept::Reports(reports)))
             }
         }
     }

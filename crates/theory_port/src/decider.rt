@@ -2,7 +2,7 @@
 ghost use Rattle.std.specs.Prelude.{◌≡◌, true, IfOk};
 
 use scope_stack::Stack;
-use smt_meaning::{Interp, Settings};
+use smt_meaning::{Interp, Report, Seq, Settings};
 use std::alloc::{AllocError, Global};
 
 /// What is found of the assertions of a stack.
@@ -12,6 +12,8 @@ pub enum Verdict {
     Sat(Interp),
     /// They have none.
     Unsat,
+    /// It isn't found: each worker ended by what it shows.
+    Unknown(Seq<Report>),
 }
 
 /// Decides whether the assertions of a stack have a model (SMT-LIB 2.6, section 4.2.5), on the stacks that it takes.
@@ -26,7 +28,7 @@ pub trait Decider {
     fn takes(&self, alloc: Global, stack: &Stack) -> Result<bool, AllocError>
         ensures { IfOk result (λ taken. taken ≡ decides stack.now.frames) };
 
-    /// Decides a check. An `Err` is for want of memory.
+    /// Decides a check under the settings in force, whose units are its limit. An `Err` is for want of memory.
     fn decide(
         &mut self,
         alloc: Global,
@@ -34,5 +36,5 @@ pub trait Decider {
         settings: &Settings,
     ) -> Result<Verdict, AllocError>
         requires { decides stack.now.frames ≡ true }
-        ensures { IfOk result (IsVerdict stack.now.frames) };
+        ensures { IfOk result (IsVerdict stack.now.trees stack.now.frames settings.now.units) };
 }

@@ -7,7 +7,7 @@ use Rattle.alone_decider.proofs.Deciding.{begins, model_left, none_left}
 use Rattle.alone_decider.proofs.decider.search.Goals as goal
 
 pub returns-in-Full : goal.returns-in-Full
-returns-in-Full c =
+returns-in-Full c limit =
     let reading : Reading = truths_reading c.solve.new.theory.about.trees c.solve.new.theory.about.frames c.solve.new.theory.atoms.items in
     let about : c.new-theory.result.about ≡ record { trees = c.args.stack.now.trees; frames = flat c.args.stack.now.frames; numbered = c.deref.result.now } = c.new-theory.ensures.about ∙ c.in_ok-terms.ensures in
     let grown : IsGrown (reading_of c.args.stack.now c.args.places.items) reading =
@@ -17,7 +17,7 @@ returns-in-Full c =
     c.requires.propositional c.requires.first grown c.in-Full.ensures.run.stay c.in-Full.ensures.outcome
 
 pub returns-in-False : goal.returns-in-False
-returns-in-False c =
+returns-in-False c limit =
     let reading : Reading = truths_reading c.solve.new.theory.about.trees c.solve.new.theory.about.frames c.solve.new.theory.atoms.items in
     let about : c.new-theory.result.about ≡ record { trees = c.args.stack.now.trees; frames = flat c.args.stack.now.frames; numbered = c.deref.result.now } = c.new-theory.ensures.about ∙ c.in_ok-terms.ensures in
     let grown : IsGrown (reading_of c.args.stack.now c.args.places.items) reading =
