@@ -5,7 +5,12 @@ use crate::reduce::Uses;
 use crate::restart::Restarts;
 use crate::scores::Scores;
 use literals::Literal;
+use rand_core::utils::NextWord;
+use rand_pcg::Pcg32;
 use std::alloc::{AllocError, Global};
+
+// One decision in so many takes a sign that is drawn.
+const RARE: u32 = 256;
 
 /// What the choices are made from.
 #[derive(Drop)]
@@ -18,20 +23,15 @@ pub struct Order {
     conflicts: u64,
     restarts: Restarts,
     uses: Uses,
-    // 0: atoms begin alike
-    seed: u64,
-}
-
-// The next word of Marsaglia's xorshift.
-fn next_word(word: u64) -> u64 {
-    let a = word ^ (word << 13);
-    let b = a ^ (a >> 7);
-    b ^ (b << 17)
+    // whether the first scores and signs are drawn
+    varied: bool,
+    draws: Pcg32,
 }
 
 impl Order {
-    /// Of no atoms. From another seed than 0 the first scores and signs are drawn; at 0 all begin alike, with the negative sign.
-    pub fn new(alloc: Global, seed: u64) -> Order {
+    /// Of no atoms, for the worker of this number. Choices are drawn by the generator that starts at the seed plus the worker's number, on the stream of that number: now and then the sign of a decision, and but for worker 0 the first scores and signs. In worker 0 all atoms begin alike, with the negative sign.
+    pub fn new(alloc: Global, seed: u64, worker: u8) -> Order {
+        let stream = u64::from(worker);
         Order {
             scores: Scores::new(alloc),
             heap: Heap::new(alloc),
@@ -40,18 +40,18 @@ impl Order {
             conflicts: 0,
             restarts: Restarts::new(),
             uses: Uses::new(alloc),
-            seed,
+            varied: worker > 0,
+            draws: Pcg32::new(seed.wrapping_add(stream), stream),
         }
     }
 
     // One atom more.
     fn push(&mut self, atom: u32) -> Result<(), AllocError> {
-        self.seed = next_word(self.seed);
-        let word = self.seed;
-        self.phases.push(word >> 63 == 1)?;
+        let word = if self.varied { self.draws.next_word() } else { 0 };
+        self.phases.push(word >> 31 == 1)?;
         self.raised.push(0)?;
         self.heap.make_room()?;
-        self.scores.push(word >> 48)?;
+        self.scores.push(u64::from(word >> 16))?;
         self.heap.insert(&self.scores, atom);
         Ok(())
     }
@@ -88,7 +88,17 @@ impl Order {
         if atom >= 1 << 31 {
             return None;
         }
-        Some(Literal::new(atom, self.phases.of(atom)))
+        Some(Literal::new(atom, self.first_sign(atom)))
+    }
+
+    // The sign that the atom had last, or rarely one that is drawn.
+    fn first_sign(&mut self, atom: u32) -> bool {
+        let word = self.draws.next_word();
+        if word % RARE == 0 {
+            word >> 31 == 1
+        } else {
+            self.phases.of(atom)
+        }
     }
 
     /// A literal is taken back: its atom waits again, with this sign first.

@@ -10,7 +10,7 @@ use Rattle.std.proofs.lemmas.List.Elements.{All-head}
 
 pub goes-still : (t : TheoryState) (b : Spending) → length b.units ≤ b.bound → Goes t t b b
 goes-still t b within = record {
-  grown = record { more = []; is = rw (append-nil t.reading.table) };
+  grown = record { more = []; is = rw (append-nil t.reading.table); none = λ closed. refl; stays = λ closed. closed };
   log = refl;
   added = [];
   budget = rw (append-nil b.units);

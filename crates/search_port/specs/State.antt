@@ -1,5 +1,5 @@
 -- What a theory is about, and what it was told.
-use Rattle.std.specs.Prelude.{◌≡◌, ℕ, ◌++◌, Bool, List, map, slice_index_or, Contains, All, ◌⊎◌, ◌<◌, length}
+use Rattle.std.specs.Prelude.{◌≡◌, ℕ, ◌++◌, Bool, true, List, [], map, slice_index_or, Contains, All, ◌⊎◌, ◌<◌, length}
 use Rattle.literals.specs.Signed.{Signed, opposite}
 use Rattle.smt_meaning.specs.declared.clauses.Atom.{Atom}
 use Rattle.smt_meaning.specs.declared.clauses.Atom.TheVariants.{Truth}
@@ -13,6 +13,8 @@ pub record Reading : Type 0 where
   pub trees : List Tree
   pub frames : List Frame
   pub table : List Atom
+  -- no atom is added
+  pub closed : Bool
 
 pub record TheoryState : Type 0 where
   pub reading : Reading
@@ -27,9 +29,9 @@ atom_at table n = slice_index_or table n (Truth 0)
 abbrev pub truth_atoms : List ℕ → List Atom
 truth_atoms places = map (λ (i : ℕ). Truth i) places
 
--- where each number's atom is the truth of the term at its place
+-- where each number's atom is the truth of the term at its place, and there are no others
 abbrev pub truths_reading : List Tree → List Frame → List ℕ → Reading
-truths_reading trees frames places = record { trees = trees; frames = frames; table = truth_atoms places }
+truths_reading trees frames places = record { trees = trees; frames = frames; table = truth_atoms places; closed = true }
 
 -- the atom is the truth of a term
 abbrev pub IsTruth : Atom → Type 0
@@ -43,10 +45,12 @@ truth r I n = atom_true r.trees I (atom_at r.table n)
 abbrev pub written : Reading → List Signed → List Literal
 written r ls = map (λ (l : Signed). record { atom = atom_at r.table l.atom; positive = l.positive }) ls
 
--- atoms are only added
+-- atoms are only added, and none where the old one is closed
 pub record IsGrown (old new : Reading) : Type 0 where
   pub more : List Atom
-  pub is : new ≡ record { trees = old.trees; frames = old.frames; table = old.table ++ more }
+  pub is : new ≡ record { trees = old.trees; frames = old.frames; table = old.table ++ more; closed = new.closed }
+  pub none : old.closed ≡ true → more ≡ []
+  pub stays : old.closed ≡ true → new.closed ≡ true
 
 -- each numbered atom is asserted, with one sign or the other
 abbrev pub IsFull : Reading → List Signed → Type 0

@@ -2,6 +2,7 @@
 #![tactic(auto)]
 
 ghost use Rattle.search_port.specs.Valid.{FollowsAsWritten};
+ghost use Rattle.search_port.specs.Forcing.{ForcesByNumbers, ForcesInTurn};
 
 mod bare;
 mod budget;
@@ -14,4 +15,14 @@ pub use theory::{Asserted, Checked, Inferred, Theory};
 /// A clause over numbers follows exactly where the clause with its atoms written out does.
 pub fn follows_as_written()
     ensures { FollowsAsWritten }
+{}
+
+/// What clauses force, they force with numbers in place of atoms.
+pub fn forces_by_numbers()
+    ensures { ForcesByNumbers }
+{}
+
+/// What clauses force that are forced in turn is forced.
+pub fn forces_in_turn()
+    ensures { ForcesInTurn }
 {}
