@@ -103,5 +103,6 @@ learnt-from s id ids c back fresh h k =
       asserting = asserts;
       true_by = true-by s.clauses ids c.level c.literals k.comes;
       drawn = drawn-by s.clauses ids c.level c.literals k.comes k.drawn;
+      own_atoms = k.own_atoms;
       unforced = k.unforced (literal_lists s.clauses) (All-map (IsQuiet (up_to (k.deepest - 1) s.trail.steps)) (λ (x : Kept). x.literals) s.clauses (h.quiet (k.deepest - 1) (omega arith)));
     }

@@ -6,7 +6,8 @@ use Rattle.clause_store.specs.declared.trail.Step.{Step}
 use Rattle.clause_store.specs.Stored.{HaveOwnIds, Kept, Stored, without}
 use Rattle.clause_store.specs.Found.{HasKept}
 use Rattle.cdcl_core.specs.Search.{AreAmong}
-use Rattle.cdcl_core.specs.Turns.{IsTidied}
+use Rattle.cdcl_core.specs.declared.forget.Forgetting.{Forgetting}
+use Rattle.cdcl_core.specs.Turns.{IsLasting, IsTidied}
 use Rattle.cdcl_core.specs.Forgetting.{AreMarked}
 use Rattle.cdcl_core.proofs.Depths.{kept_by}
 
@@ -24,14 +25,15 @@ without-among id clauses k c =
 without-stay : (id : ℕ) (clauses : List Kept) (k : Kept) → Contains clauses k → (k.id ≡ id → ⊥) → Contains (without id clauses) k
 without-stay id clauses k c h = kept_by (λ (x : Kept). not (x.id == id)) clauses k c (not_same k.id id h)
 
-pub forgotten : (first id : ℕ) (old new : Stored) → new ≡ record { clauses = without id old.clauses; trail = old.trail } → first ≤ id → HaveOwnIds old.clauses → HasKept old.clauses id (λ ls. 8 < length ls) → IsTidied first old new
-forgotten first id old new e late own h = subst (IsTidied first old) (sym e) record {
+pub forgotten : (f : Forgetting) (id : ℕ) (old new : Stored) → new ≡ record { clauses = without id old.clauses; trail = old.trail } → f.allowed ≡ true → f.first ≤ id → HaveOwnIds old.clauses → HasKept old.clauses id (λ ls. 8 < length ls) → IsTidied f old new
+forgotten f id old new e allowed late own h = subst (IsTidied f old) (sym e) record {
   trail = refl;
   of_old = without-among id old.clauses;
   stay = λ k c why. without-stay id old.clauses k c (λ same. elim why [
     | inl early ↦ absurd (omega arith)
     | inr short ↦
         let is : k ≡ h.0 = own k h.0 c h.1 (same ∙ sym h.2) in
+        let few : length k.literals ≤ 8 = subst (λ b. IsLasting b k.literals) allowed short in
         let long : 8 < length k.literals = subst (λ (x : Kept). 8 < length x.literals) (sym is) h.3 in
         absurd (omega arith)
   ]);

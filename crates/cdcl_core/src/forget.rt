@@ -12,6 +12,13 @@ use std::alloc::{AllocError, Global};
 // A clause of more literals is long.
 const SHORT: usize = 8;
 
+/// Which clauses may be forgotten: where it is allowed, those of more than 8 literals with ids from the first one on.
+#[derive(Clone, Copy, Drop)]
+pub struct Forgetting {
+    pub first: u64,
+    pub allowed: bool,
+}
+
 fn mark_one(marks: &mut Vec<bool>, reason: Option<u64>)
     ensures marked { (id : ℕ) → reason ≡ Some id → id < length marks.old.items → slice_index_or marks.new.items id false ≡ true }
     ensures stay { (id : ℕ) → slice_index_or marks.old.items id false ≡ true → slice_index_or marks.new.items id false ≡ true }
@@ -60,10 +67,17 @@ fn is_spare(order: &mut Order, store: &Store, marks: &[bool], id: u64) -> bool
     order.is_idle(id)
 }
 
-fn forget_one(order: &mut Order, store: &mut Store, marks: &[bool], first: u64, id: u64)
+fn forget_one(
+    order: &mut Order,
+    store: &mut Store,
+    marks: &[bool],
+    forgetting: Forgetting,
+    id: u64,
+)
     requires marked { AreMarked store.old.trail.steps marks.now }
-    requires late { first ≤ id }
-    ensures { IsTidied first store.old store.new }
+    requires allowed { forgetting.allowed ≡ true }
+    requires late { forgetting.first ≤ id }
+    ensures { IsTidied forgetting store.old store.new }
 {
     let _steps = store.steps();
     if is_spare(order, store, marks, id) {
@@ -71,25 +85,32 @@ fn forget_one(order: &mut Order, store: &mut Store, marks: &[bool], first: u64, 
     }
 }
 
-// Forgets long clauses with ids from this one on, but for those by which a step was forced. For want of memory it forgets none.
-fn forget_long(alloc: Global, order: &mut Order, store: &mut Store, first: u64)
-    ensures { IsTidied first store.old store.new }
+// Forgets clauses that may be, but for those by which a step was forced. For want of memory it forgets none.
+fn forget_long(alloc: Global, order: &mut Order, store: &mut Store, forgetting: Forgetting)
+    requires { forgetting.allowed ≡ true }
+    ensures { IsTidied forgetting store.old store.new }
 {
     let next = store.next_id();
     let Ok(marks) = mark_reasons(alloc, store, next) else {
         return;
     };
-    for id in first..next {
-        forget_one(order, store, &marks, first, id);
+    for id in forgetting.first..next {
+        forget_one(order, store, &marks, forgetting, id);
     }
 }
 
-// Forgets long clauses, if it may.
-pub fn tidy(alloc: Global, order: &mut Order, store: &mut Store, first: u64, may: bool)
-    ensures tidied { IsTidied first store.old store.new }
+// Forgets clauses that may be, if it is time.
+pub fn tidy(
+    alloc: Global,
+    order: &mut Order,
+    store: &mut Store,
+    forgetting: Forgetting,
+    may: bool,
+)
+    ensures tidied { IsTidied forgetting store.old store.new }
     ensures same { may ≡ false → store.new ≡ store.old }
 {
-    if may {
-        forget_long(alloc, order, store, first);
+    if may && forgetting.allowed {
+        forget_long(alloc, order, store, forgetting);
     }
 }

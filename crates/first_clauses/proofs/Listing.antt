@@ -3,6 +3,7 @@ use Rattle.std.proofs.Common.{◌≡◌, ◌⊎◌, inl, inr, ℕ, zero, suc, �
 use Rattle.std.proofs.lemmas.List.{take_more, length-take-le, get_or_append_left, get_or_push, get_or-take, length_push, map-append}
 use Rattle.std.proofs.lemmas.List.Elements.{All-nil, All-push, All-weaker, All-contains, Contains-append_left, Contains-push}
 use Rattle.smt_meaning.specs.Term.{tree_at}
+use Rattle.smt_meaning.specs.Report.{IsPartOfStack}
 use Rattle.smt_meaning.specs.Kinds.{is_propositional_tree}
 use Rattle.smt_meaning.specs.Stack.{signature_of}
 use Rattle.smt_meaning.specs.StackCommand.{Stack}
@@ -91,13 +92,19 @@ pub record AreTabled (s : Stack) (marks : List Bool) (places table : List ℕ) :
   pub same : table ≡ places
   pub parts : ArePlaces (signature_of s.frames) s.trees table
   pub marked : AreMarkedBelow (length marks) marks places
+  pub only : All (λ p. IsPartOfStack s.frames (tree_at s.trees p)) table
 
 pub are_tabled : (s : Stack) (marks read : List Bool) (places listed table : List ℕ) (count : ℕ) → ArePartsFrom s 0 marks → read ≡ marks → AreMarkedBelow (length read) read places → count ≡ length places → count ≤ 2 ^ 31
     → listed ≡ places → table ≡ listed → AreTabled s marks places table
 are_tabled s marks read places listed table count parts r m size few l t =
     let below : AreMarkedBelow (length marks) marks places = subst (λ ms. AreMarkedBelow (length ms) ms places) r m in
     let here : ArePlaces (signature_of s.frames) s.trees places = places_are s marks places parts below (subst (λ n. n ≤ 2 ^ 31) size few) in
-    record { same = t ∙ l; parts = subst (ArePlaces (signature_of s.frames) s.trees) (sym (t ∙ l)) here; marked = below }
+    record {
+      same = t ∙ l;
+      parts = subst (ArePlaces (signature_of s.frames) s.trees) (sym (t ∙ l)) here;
+      marked = below;
+      only = subst (λ ps. All (λ p. IsPartOfStack s.frames (tree_at s.trees p)) ps) (sym (t ∙ l)) (All-weaker (IsMarked marks) (λ p. IsPartOfStack s.frames (tree_at s.trees p)) parts.only places below.marked);
+    }
 
 -- ---- numbers
 

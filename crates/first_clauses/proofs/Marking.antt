@@ -6,15 +6,50 @@ use Rattle.std.proofs.lemmas.List.Elements.{All-head, All-tail, All-nil, All-con
 use Rattle.smt_meaning.specs.declared.terms.Head.{Head}
 use Rattle.smt_meaning.specs.Term.{Tree, Trees, node, none, more, tree_at}
 use Rattle.smt_meaning.specs.Nodes.{pick}
-use Rattle.smt_meaning.specs.Parts.{AreInOrder}
+use Rattle.smt_meaning.specs.Parts.{AreInOrder, IsPart, IsPartOfOne}
+use Rattle.smt_meaning.specs.Report.{IsPartOfStack}
 use Rattle.smt_meaning.specs.Kinds.{is_propositional_tree, is_propositional}
-use Rattle.smt_meaning.specs.Stack.{signature_of, assertions_of}
+use Rattle.smt_meaning.specs.Stack.{Frame, signature_of, assertions_of}
 use Rattle.smt_meaning.specs.StackCommand.{Stack}
 use Rattle.term_store.specs.Terms.{tree_with}
 use Rattle.scope_stack.specs.declared.answers.Assertion.{Assertion}
 use Rattle.scope_stack.specs.Shown.{AreAsserted}
 use Rattle.propositional_laws.specs.Laws.{ArgumentsArePropositional}
 use Rattle.first_clauses.specs.Marks.{IsMarked, MarksAlso, ArePartsFrom}
+use Rattle.first_clauses.proofs.Keeping.{are_assertions}
+
+-- ---- parts of parts
+
+part_itself : (t : Tree) → IsPart t t
+part_itself (node h ts) = inl refl
+
+mutual
+  pub part_of_part : (u t a : Tree) → IsPart u t → IsPart t a → IsPart u a
+  part_of_part u t (node h ts) p (inl e) = subst (IsPart u) e p
+  part_of_part u t (node h ts) p (inr q) = inr (part_of_some u t ts p q)
+
+  pub part_of_some : (u t : Tree) (ts : Trees) → IsPart u t → IsPartOfOne t ts → IsPartOfOne u ts
+  part_of_some u t none p q = absurd q
+  part_of_some u t (more a ts) p (inl q) = inl (part_of_part u t a p q)
+  part_of_some u t (more a ts) p (inr q) = inr (part_of_some u t ts p q)
+
+arguments_are_parts : (trees : List Tree) (is : List ℕ) → All (λ i. IsPartOfOne (tree_at trees i) (pick trees is)) is
+arguments_are_parts trees [] = All-nil (λ i. IsPartOfOne (tree_at trees i) none)
+arguments_are_parts trees (i ∷ is) =
+    All-cons (λ j. IsPartOfOne (tree_at trees j) (pick trees (i ∷ is))) i is (inl (part_itself (tree_at trees i)))
+    (All-weaker (λ j. IsPartOfOne (tree_at trees j) (pick trees is)) (λ j. IsPartOfOne (tree_at trees j) (pick trees (i ∷ is))) (λ j q. inr q) is (arguments_are_parts trees is))
+
+argument_of_stack : (frames : List Frame) (trees : List Tree) (h : Head) (is : List ℕ) (p : ℕ) → IsPartOfStack frames (tree_with trees h is) → Contains is p → IsPartOfStack frames (tree_at trees p)
+argument_of_stack frames trees h is p k c = record {
+  assertion = k.assertion;
+  asserted = k.asserted;
+  part = part_of_part (tree_at trees p) (tree_with trees h is) k.assertion (inr (All-contains (λ i. IsPartOfOne (tree_at trees i) (pick trees is)) is p (arguments_are_parts trees is) c)) k.part;
+}
+
+assertion_of_stack : (frames : List Frame) (t : Tree) → Contains (assertions_of frames) t → IsPartOfStack frames t
+assertion_of_stack frames t c = record { assertion = t; asserted = c; part = part_itself t }
+
+-- ---- marks
 
 apart : (b : Bool) → b ≡ true → b ≡ false → ⊥
 apart b p q = cc
@@ -107,6 +142,10 @@ parts_marked law s id h is old new o within marked earlier e parts m =
         | inl r ↦ parts.propositional p r
         | inr r ↦ All-contains (λ i. is_propositional_tree (signature_of s.frames) (tree_at s.trees i) ≡ true) is p truths r
       ];
+      only = λ p k. elim (m.only p k) [
+        | inl r ↦ parts.only p r
+        | inr r ↦ argument_of_stack s.frames s.trees h is p (subst (IsPartOfStack s.frames) e (parts.only id marked)) r
+      ];
       closed = λ p l k g js b d. elim (at_or_above id p l) [
         | inl same ↦
             All-same (IsMarked new) js is
@@ -122,6 +161,7 @@ pub parts_unmarked : (s : Stack) (id : ℕ) (marks : List Bool) → slice_index_
 parts_unmarked s id marks n parts = record {
   size = parts.size;
   propositional = parts.propositional;
+  only = parts.only;
   closed = λ p l k g js b d. elim (at_or_above id p l) [
     | inl same ↦ absurd (apart (slice_index_or marks p false) k (subst (λ q. slice_index_or marks q false ≡ false) same n))
     | inr above ↦ parts.closed p above k g js b d
@@ -168,6 +208,13 @@ parts_begun s xs marks asserted b m size =
         | inr r ↦
             All-contains (λ i. is_propositional_tree (signature_of s.frames) (tree_at s.trees i) ≡ true) (map place xs) p
             (All-map (λ i. is_propositional_tree (signature_of s.frames) (tree_at s.trees i) ≡ true) place xs truths) r
+      ];
+      only = λ p k. elim (m.only p k) [
+        | inl r ↦ absurd (none_marked (length s.trees) p r)
+        | inr r ↦
+            assertion_of_stack s.frames (tree_at s.trees p)
+            (All-contains (λ i. Contains (assertions_of s.frames) (tree_at s.trees i)) (map place xs) p
+            (All-map (λ i. Contains (assertions_of s.frames) (tree_at s.trees i)) place xs (are_assertions s xs asserted)) r)
       ];
       closed = λ p l k g js b' d.
           let short : p < length marks = below marks p k in

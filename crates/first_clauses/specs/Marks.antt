@@ -3,6 +3,7 @@ use Rattle.std.specs.Prelude.{◌≡◌, ◌⊎◌, ℕ, ◌<◌, ◌≤◌, Boo
 use Rattle.smt_meaning.specs.declared.terms.Head.{Head}
 use Rattle.smt_meaning.specs.Term.{Tree, tree_at}
 use Rattle.smt_meaning.specs.Kinds.{is_propositional_tree}
+use Rattle.smt_meaning.specs.Report.{IsPartOfStack}
 use Rattle.smt_meaning.specs.Stack.{signature_of}
 use Rattle.smt_meaning.specs.StackCommand.{Stack}
 use Rattle.term_store.specs.Terms.{tree_with}
@@ -23,10 +24,11 @@ abbrev pub AreClosedFrom : List Tree → ℕ → List Bool → Type 0
 AreClosedFrom trees k marks =
     (p : ℕ) → k ≤ p → IsMarked marks p → (h : Head) (arguments : List ℕ) → All (λ i. i < length trees) arguments → tree_at trees p ≡ tree_with trees h arguments → All (IsMarked marks) arguments
 
--- each marked term is propositional, and from this place on its arguments are marked
+-- each marked term is propositional and a part of an assertion, and from this place on its arguments are marked
 pub record ArePartsFrom (s : Stack) (k : ℕ) (marks : List Bool) : Type 0 where
   pub size : length marks ≡ length s.trees
   pub propositional : (p : ℕ) → IsMarked marks p → is_propositional_tree (signature_of s.frames) (tree_at s.trees p) ≡ true
+  pub only : (p : ℕ) → IsMarked marks p → IsPartOfStack s.frames (tree_at s.trees p)
   pub closed : AreClosedFrom s.trees k marks
 
 -- the terms of the assertions are marked, and of each marked term its arguments; each of them is propositional

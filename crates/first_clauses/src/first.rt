@@ -10,13 +10,14 @@ ghost use Rattle.term_store.specs.Terms.{tree_with};
 ghost use Rattle.scope_stack.specs.Shown.{AreAsserted};
 ghost use Rattle.search_port.specs.State.{Reading};
 ghost use Rattle.truth_values.specs.Places.{ArePlaces};
-ghost use Rattle.first_clauses.specs.First.{reading_of, unit, HasClause, IsAsserted, IsBegun, IsClause, IsFirst};
+ghost use Rattle.first_clauses.specs.First.{reading_of, unit, HasClause, HasNode, HasPart, IsAsserted, IsBegun, IsClause, IsFirst};
 
 use crate::numbers::{marked, number_all, numbered};
 use crate::parts::marks;
 use atom_form::TruthTable;
 use clause_form::{Clauses, Room, node_clauses_hold, put_node};
 use clause_store::store::Store;
+use forced_clauses::node_clauses_force;
 use literals::Literal;
 use propositional_laws::{propositional_is_declared, propositional_is_truth};
 use scope_stack::{Assertion, Stack};
@@ -55,7 +56,9 @@ fn keep(store: &mut Store, literals: &[Literal]) -> Result<(), AllocError>
 /// Keeps the clauses of a list.
 fn keep_all(store: &mut Store, clauses: &Clauses) -> Result<(), AllocError>
     requires { All (All (λ (l : Signed). l.atom < store.old.trail.atoms)) clauses.now }
-    ensures { OnOk result ((q : Reading) → IsBegun q store.old → All (IsClause q 0) clauses.now → IsBegun q store.new) }
+    ensures begun { OnOk result ((q : Reading) → IsBegun q store.old → All (IsClause q 0) clauses.now → IsBegun q store.new) }
+    ensures stay { (c : Kept) → Contains store.old.clauses c → Contains store.new.clauses c }
+    ensures has { OnOk result (All (HasClause store.new.clauses) clauses.now) }
 {
     for i in 0..clauses.len() {
         keep(store, clauses.clause(i))?;
@@ -78,7 +81,9 @@ fn keep_node(
     requires node { tree_at stack.now.trees (slice_index table.now number) ≡ tree_with stack.now.trees (Theory operator) arguments.now }
     requires earlier { All (λ i. i < slice_index table.now number) arguments.now }
     requires begun { IsBegun (reading_of stack.now table.now) store.old }
-    ensures { OnOk result (IsBegun (reading_of stack.now table.now) store.new) }
+    ensures begun { OnOk result (IsBegun (reading_of stack.now table.now) store.new) }
+    ensures stay { (c : Kept) → Contains store.old.clauses c → Contains store.new.clauses c }
+    ensures has { OnOk result (HasNode table.now store.new.clauses number operator arguments.now) }
 {
     node_clauses_hold();
     propositional_is_truth();
@@ -107,7 +112,9 @@ fn keep_part(
     requires parts { ArePlaces (signature_of stack.now.frames) stack.now.trees table.now }
     requires number { number < length table.now }
     requires begun { IsBegun (reading_of stack.now table.now) store.old }
-    ensures { OnOk result (IsBegun (reading_of stack.now table.now) store.new) }
+    ensures begun { OnOk result (IsBegun (reading_of stack.now table.now) store.new) }
+    ensures stay { (c : Kept) → Contains store.old.clauses c → Contains store.new.clauses c }
+    ensures has { OnOk result (HasPart stack.now.trees table.now store.new.clauses number) }
 {
     let node = stack.terms().node(table.place_of(number));
     match node.head {
@@ -133,7 +140,8 @@ fn keep_parts(
 ) -> Result<(), AllocError>
     requires parts { ArePlaces (signature_of stack.now.frames) stack.now.trees table.now }
     requires begun { IsBegun (reading_of stack.now table.now) store.old }
-    ensures { OnOk result (IsBegun (reading_of stack.now table.now) store.new) }
+    ensures begun { OnOk result (IsBegun (reading_of stack.now table.now) store.new) }
+    ensures has { OnOk result ((n : ℕ) → n < length table.now → HasPart stack.now.trees table.now store.new.clauses n) }
 {
     let mut space = Space {
         numbers: Vec::new(alloc),
@@ -181,6 +189,7 @@ fn keep_assertions(
     requires asserted { All (λ (a : _). Contains (assertions_of stack.now.frames) (tree_at stack.now.trees a.term)) assertions.now }
     requires begun { IsBegun (reading_of stack.now table.now) store.old }
     ensures begun { OnOk result (IsBegun (reading_of stack.now table.now) store.new) }
+    ensures stay { (c : Kept) → Contains store.old.clauses c → Contains store.new.clauses c }
     ensures has { OnOk result (All (λ (a : _). IsAsserted stack.now.trees table.now store.new.clauses (tree_at stack.now.trees a.term)) assertions.now) }
 {
     for assertion in assertions {
@@ -189,13 +198,15 @@ fn keep_assertions(
     Ok(())
 }
 
-/// The parts of the assertions of a propositional stack in the order of their places, the clauses of each, and for each assertion the clause that it is true.
+/// The parts of the assertions of a propositional stack in the order of their places, clauses that force those of each, and for each assertion the clause that it is true.
 /// An `Err` is for want of memory, as where there are more than 2^31 parts.
 pub fn first_clauses(alloc: Global, stack: &Stack) -> Result<First, AllocError>
     requires { is_propositional stack.now.frames ≡ true }
     ensures { IfOk result (λ first. IsFirst stack.now first.places.items first.store) }
 {
     stack.laws();
+    node_clauses_hold();
+    node_clauses_force();
     let assertions = stack.assertions();
     let marks = marks(alloc, stack, assertions)?;
     let places = marked(alloc, &marks)?;

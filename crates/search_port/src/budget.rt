@@ -181,6 +181,18 @@ impl Budget {
         Ok(())
     }
 
+    /// Spends a unit, and keeps a learnt clause for sharing. An `Err`, for want of memory, changes nothing.
+    pub fn spend_and_keep(&mut self, unit: Spent, clause: Lemma) -> Result<(), AllocError>
+        requires { length self.old.units < self.old.bound }
+        ensures spent { OnOk result (self.new ≡ record self.old { units = self.old.units ++ unit ∷ []; short = self.old.short ++ clause ∷ [] }) }
+        ensures same { OnErr result (self.new ≡ self.old) }
+    {
+        self.units.reserve(1)?;
+        self.short.push(clause)?;
+        self.units.push(unit)?;
+        Ok(())
+    }
+
     /// Keeps a learnt clause for sharing. An `Err`, for want of memory, changes nothing.
     pub fn keep_short(&mut self, clause: Lemma) -> Result<(), AllocError>
         ensures kept { OnOk result (self.new ≡ record self.old { short = self.old.short ++ clause ∷ [] }) }

@@ -1,6 +1,8 @@
-use Rattle.std.proofs.Common.{◌≡◌, ◌<◌, ◌^◌, Bool, List, All, Contains, length, subst, sym, rules}
+use Rattle.std.proofs.Common.{◌≡◌, ℕ, ◌<◌, ◌^◌, Bool, List, All, Contains, length, subst, sym, rules}
 use Rattle.scope_stack.specs.declared.answers.Assertion.{Assertion}
-use Rattle.first_clauses.specs.First.{reading_of, IsBegun, IsFirst}
+use Rattle.smt_meaning.specs.Stack.{signature_of}
+use Rattle.first_clauses.specs.First.{reading_of, HasPart, IsBegun, IsFirst}
+use Rattle.first_clauses.proofs.Nodes.{forces_parts, part_stays}
 use Rattle.first_clauses.proofs.Listing.{AreTabled, are_tabled, below_size}
 use Rattle.first_clauses.proofs.Keeping.{are_assertions, are_numbered, all_asserted}
 use Rattle.first_clauses.proofs.first.first_clauses.Goals as goal
@@ -44,9 +46,13 @@ returns c =
     are_tabled s c.in_ok-marks.marks.items c.deref.result.now c.in_ok-places.places.items c.deref-2.result.now c.in_ok-table.table c.len.result c.in_ok-marks.ensures.parts.parts c.deref.ensures.value
     c.in_ok-places.ensures size c.if-len.false c.deref-2.ensures.value c.in_ok-table.ensures in
     let begun : IsBegun (reading_of s c.in_ok-table.table) c.keep_assertions.new.store = c.in_ok-keep_assertions.ensures.begun in
+    let parts : (n : ℕ) → n < length c.in_ok-table.table → HasPart s.trees c.in_ok-table.table c.keep_assertions.new.store.clauses n =
+    λ n h. part_stays s.trees c.in_ok-table.table c.keep_parts.new.store.clauses c.keep_assertions.new.store.clauses n c.keep_assertions.ensures.stay (c.in_ok-keep_parts.ensures.has n h) in
     let first : IsFirst s c.in_ok-table.table c.keep_assertions.new.store = record {
       parts = tabled.parts;
       begun = begun;
       assertions = all_asserted s c.assertions-assertions.result.now c.in_ok-table.table c.keep_assertions.new.store.clauses c.assertions-assertions.ensures c.in_ok-keep_assertions.ensures.has;
+      only = tabled.only;
+      forced = forces_parts s.trees (signature_of s.frames) c.in_ok-table.table c.laws.ensures.in_order tabled.parts c.node_clauses_force.ensures c.node_clauses_hold.ensures c.keep_assertions.new.store.clauses parts;
     } in
     subst (λ ps. IsFirst s ps c.keep_assertions.new.store) tabled.same first

@@ -18,6 +18,7 @@ keep_assertion-requires-clause-asserted c =
 pub loop-assertion-preserved : goal.loop-assertion-preserved
 loop-assertion-preserved c = record {
   begun = c.in_ok-keep_assertion.ensures.begun;
+  stay = λ k among. c.keep_assertion.ensures.stay k (c.loop-assertion.invariant.stay k among);
   has = assertions_more c.args.stack.now.trees c.args.table.now c.loop-assertion.store.clauses c.keep_assertion.new.store.clauses c.args.assertions.now c.loop-assertion.assertion-index c.assertion-item.result
       c.loop-assertion-test.true c.assertion-item.is c.keep_assertion.ensures.stay c.loop-assertion.invariant.has c.in_ok-keep_assertion.ensures.has;
 }
