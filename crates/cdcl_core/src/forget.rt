@@ -67,13 +67,7 @@ fn is_spare(order: &mut Order, store: &Store, marks: &[bool], id: u64) -> bool
     order.is_idle(id)
 }
 
-fn forget_one(
-    order: &mut Order,
-    store: &mut Store,
-    marks: &[bool],
-    forgetting: Forgetting,
-    id: u64,
-)
+fn forget_one(order: &mut Order, store: &mut Store, marks: &[bool], forgetting: Forgetting, id: u64)
     requires marked { AreMarked store.old.trail.steps marks.now }
     requires allowed { forgetting.allowed ≡ true }
     requires late { forgetting.first ≤ id }
@@ -100,13 +94,7 @@ fn forget_long(alloc: Global, order: &mut Order, store: &mut Store, forgetting: 
 }
 
 // Forgets clauses that may be, if it is time.
-pub fn tidy(
-    alloc: Global,
-    order: &mut Order,
-    store: &mut Store,
-    forgetting: Forgetting,
-    may: bool,
-)
+pub fn tidy(alloc: Global, order: &mut Order, store: &mut Store, forgetting: Forgetting, may: bool)
     ensures tidied { IsTidied forgetting store.old store.new }
     ensures same { may ≡ false → store.new ≡ store.old }
 {
