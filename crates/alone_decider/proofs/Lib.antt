@@ -1,2 +1,5 @@
 pub mod Flagging
 pub mod Deciding
+pub mod Parts
+pub mod Units
+pub mod Showing

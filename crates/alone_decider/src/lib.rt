@@ -3,6 +3,7 @@
 
 mod decider;
 mod kinds;
+mod shown;
 mod still;
 
 pub use decider::Alone;

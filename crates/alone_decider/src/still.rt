@@ -13,12 +13,12 @@ pub(crate) struct Still<'s> {
 }
 
 impl Hook for Still<'_> {
-    ghost use Rattle.std.specs.Prelude.{[]};
+    ghost use Rattle.std.specs.Prelude.{[], false};
     ghost use Rattle.search_port.specs.State.{Reading};
     ghost use Rattle.cdcl_core.specs.Turns.{NoHook};
     ghost use Rattle.truth_theory.specs.Flat.{flat};
 
-    ghost reading = { λ h. record { trees = h.stack.now.trees; frames = flat h.stack.now.frames; table = [] } };
+    ghost reading = { λ h. record { trees = h.stack.now.trees; frames = flat h.stack.now.frames; table = []; closed = false } };
 
     ghost later = { λ h i. Unit {0} };
 

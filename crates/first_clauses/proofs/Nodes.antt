@@ -3,7 +3,7 @@ use Rattle.std.proofs.Common.{◌≡◌, inl, inr, ℕ, zero, suc, ◌<◌, ◌�
 use Rattle.std.specs.Prelude.{if◌then◌else◌}
 use Rattle.std.proofs.lemmas.Bool.{eqb-true}
 use Rattle.std.proofs.lemmas.List.{get_or_default}
-use Rattle.std.proofs.lemmas.List.Elements.{All-nil, All-cons, All-head, All-tail, All-weaker, All-contains, All-map, Contains-append_left, Contains-get_or}
+use Rattle.std.proofs.lemmas.List.Elements.{All-nil, All-cons, All-head, All-tail, All-weaker, All-contains, All-map, Contains-append_left, Contains-append_right, Contains-push, Contains-get_or}
 use Rattle.literals.specs.Signed.{Signed, opposite}
 use Rattle.clause_store.specs.Stored.{Kept}
 use Rattle.smt_meaning.specs.declared.terms.Operator.{Operator}
@@ -11,13 +11,14 @@ use Rattle.smt_meaning.specs.declared.terms.Operator.TheVariants.{True, False, N
 use Rattle.smt_meaning.specs.declared.terms.Head.{Head}
 use Rattle.smt_meaning.specs.declared.terms.Head.TheVariants.{Theory}
 use Rattle.smt_meaning.specs.Declaration.{Declaration}
-use Rattle.smt_meaning.specs.Term.{Tree, Trees, node, none, more, tree_at}
+use Rattle.smt_meaning.specs.Term.{Tree, Trees, node, none, more, tree_at, operate, truth_of}
 use Rattle.smt_meaning.specs.Nodes.{pick}
 use Rattle.smt_meaning.specs.Parts.{AreInOrder}
 use Rattle.smt_meaning.specs.TreeShape.{place_of}
 use Rattle.smt_meaning.specs.Signature.{stands_with}
 use Rattle.smt_meaning.specs.Kinds.{is_connective, count_trees, is_propositional_tree, are_propositional_trees}
-use Rattle.smt_meaning.specs.Forced.{Sign, Forces, IsNodeClause, IsClauseOf, has_node_clauses, places_in}
+use Rattle.smt_meaning.specs.declared.values.Value.TheVariants.{Truth as TruthValue}
+use Rattle.smt_meaning.specs.Forced.{Sign, Forces, RespectsNode, some_sign_true, IsNodeClause, IsClauseOf, has_node_clauses, places_in}
 use Rattle.term_store.specs.Terms.{AreDifferent}
 use Rattle.term_store.proofs.PlaceLemmas.{place_of-is}
 use Rattle.node_clauses.specs.Signs.{negated}
@@ -154,6 +155,30 @@ signs_over P [] h = All-nil (λ (s : Sign). P s.place)
 signs_over P (s ∷ ss) h =
     All-cons (λ (u : Sign). P u.place) s ss (All-head (λ (l : Signed). P l.atom) (signed s) (map signed ss) h) (signs_over P ss (All-tail (λ (l : Signed). P l.atom) (signed s) (map signed ss) h))
 
+-- ---- a clause of a node isn't empty
+
+abbrev at_place : ℕ → Bool → ℕ → Bool
+at_place p b q = if nat_eq p q then b else false
+
+false_at : (p i : ℕ) (b v : Bool) → nat_eq p i ≡ v → (p ≡ i → ⊥) → at_place p b i ≡ false
+false_at p i b true e h = absurd (h (eqb-true p i e))
+false_at p i b false e h = ap (λ w. if w then b else false) e
+
+false_elsewhere : (p : ℕ) (b : Bool) (is : List ℕ) → (Contains is p → ⊥) → map (λ i. TruthValue (at_place p b i)) is ≡ map (λ i. TruthValue false) is
+false_elsewhere p b [] h = refl
+false_elsewhere p b (i ∷ is) h =
+    let other : p ≡ i → ⊥ = λ e. h (subst (Contains (i ∷ is)) (sym e) (Contains-append_left (i ∷ []) is i (Contains-push [] i))) in
+    ap (λ v. TruthValue v ∷ map (λ j. TruthValue (at_place p b j)) is) (false_at p i b (nat_eq p i) refl other)
+    ∙ ap (λ vs. TruthValue false ∷ vs) (false_elsewhere p b is (λ c. h (Contains-append_right (i ∷ []) is p c)))
+
+some_sign : (o : Operator) (p : ℕ) (is : List ℕ) (ss : List Sign) → (Contains is p → ⊥) → IsNodeClause o p is ss → ss ≡ [] → ⊥
+some_sign o p is ss h c e =
+    let b : Bool = truth_of (operate o (map (λ i. TruthValue false) is)) in
+    let here : at_place p b p ≡ b = ap (λ w. if w then b else false) (eq-eqb p p refl) in
+    let respects : RespectsNode (at_place p b) o p is = here ∙ ap (λ vs. truth_of (operate o vs)) (sym (false_elsewhere p b is h)) in
+    let true_there : IsTrue (some_sign_true (at_place p b) []) = subst (λ us. IsTrue (some_sign_true (at_place p b) us)) e (c.true_of (at_place p b) respects) in
+    cc
+
 -- ---- the clauses of one term
 
 module _ (trees : List Tree) (ds : List Declaration) (places : List ℕ) (order : AreInOrder trees) (parts : ArePlaces ds trees places) where
@@ -240,6 +265,7 @@ module _ (trees : List Tree) (ds : List Declaration) (places : List ℕ) (order 
               All-map (λ (l : Signed). l.atom < length places) numbered ss
               (All-weaker (λ (s : Sign). Contains places s.place) (λ (s : Sign). number_of places s.place < length places) (λ s k. number_within s.place k) ss over);
           reads = read_again ss over;
+          some = some_sign o p is ss other of_node;
           forced =
               forces_more opposite (map (map numbered) (node_clauses o p is)) known (map numbered ss) (node_known n o is h other (part.kept o head))
               (forces_renamed numbered negated opposite (λ s. refl) (node_clauses o p is) ss (force o p is ss (fits_of trees ds o is stands clause.has) other of_node));

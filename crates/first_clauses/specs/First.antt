@@ -72,11 +72,12 @@ pub record HasPart (trees : List Tree) (places : List ℕ) (clauses : List Kept)
 abbrev pub placed : List ℕ → Signed → Sign
 placed places l = record { place = slice_index places l.atom; positive = l.positive }
 
--- the clause over numbers that reads so is forced
+-- the clause over numbers that reads so is forced, and isn't empty
 pub record IsForced (places : List ℕ) (known : List (List Signed)) (ss : List Sign) : Type 0 where
   pub literals : List Signed
   pub within : All (λ (l : Signed). l.atom < length places) literals
   pub reads : map (placed places) literals ≡ ss
+  pub some : ss ≡ [] → ⊥
   pub forced : Forces opposite known literals
 
 -- the clauses of each numbered term are forced
