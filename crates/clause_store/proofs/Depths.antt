@@ -230,10 +230,27 @@ drive-run atoms depth es lists old mid p' ws head head' Fixpoint first grows for
         settled = λ i live. subst (λ xs. IsSettled xs p'.steps (entry_at p'.entries i)) (whole head' p'.steps h.1)
             ((h.0.rests [] (Rested-none es mid depth head saves ws forced (Rested-grown (kept_from 0 es) es old mid depth head saves ws first r))).current i live);
       },
+      h.1,
     )
 drive-run atoms depth es lists old mid p' ws head head' (FalseClause row) first grows forced h =
     (drives atoms depth es lists old mid p' ws head head' first grows forced h.2 h.0, h.1)
 drive-run atoms depth es lists old mid p' ws head head' NoRoom first grows forced h = tt
+
+-- once all clauses are settled at depth 0 none needs to wait
+pub Rested-done : (es : List Entry) (steps : List Step) (depth head : ℕ) (saves : List Save) (ws : List Wait) → depth ≡ 0 → head ≡ length steps
+    → ((i : ℕ) → (entry_at es i).live ≡ true → IsSettled steps steps (entry_at es i)) → Rested es steps depth head saves ws → Rested es steps depth head saves []
+Rested-done es steps depth head saves ws top at_end settled h = record {
+  count = h.count;
+  deepest = h.deepest;
+  head_within = h.head_within;
+  ascending = h.ascending;
+  rows_within = h.rows_within;
+  heads_within = h.heads_within;
+  current = λ i live. inl (subst (λ xs. IsSettled xs steps (entry_at es i)) (sym (whole head steps at_end)) (settled i live));
+  lower = λ d lt i below live. absurd (omega arith);
+  waiting = λ k d lt. absurd (omega (arith, lt));
+  waiting_lower = λ d lt w c below. absurd (omega arith);
+}
 
 -- ---- a decision
 

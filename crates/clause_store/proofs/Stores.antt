@@ -1,5 +1,5 @@
 -- What stays true of a store.
-use Rattle.std.proofs.Common.{◌≡◌, ℕ, ◌+◌, ◌^◌, ◌<◌, ◌≤◌, Bool, true, false, List, [], ◌∷◌, ◌++◌, All, length, take, drop, subst, sym, ap, ◌∙◌, refl, arith, None, zero-add, ◌*◌}
+use Rattle.std.proofs.Common.{◌≡◌, ℕ, ◌+◌, ◌^◌, ◌<◌, ◌≤◌, Bool, true, false, List, [], ◌∷◌, ◌++◌, All, length, take, drop, subst, sym, ap, ◌∙◌, refl, arith, None, zero-add, ◌*◌, inl, inr, ◌⊎◌}
 use Rattle.std.proofs.lemmas.List.{take_at, take-append-le, get_or_append_left, length-append, length_push}
 use Rattle.std.proofs.lemmas.List.Elements.{All-contains, All-push, All-weaker, Contains-append_left}
 use Rattle.literals.specs.Signed.{Signed, packed}
@@ -16,11 +16,12 @@ use Rattle.clause_store.specs.Gaining.{GainsEntry, KeepsUp}
 use Rattle.clause_store.proofs.Turning.{code_within}
 use Rattle.clause_store.specs.Keeping.{IsKept, IsTight}
 use Rattle.clause_store.specs.Rested.{Rested}
-use Rattle.clause_store.specs.Driving.{Drives, IsQuietAll}
+use Rattle.clause_store.specs.Driving.{Drives, DriveGives, IsQuietAll}
+use Rattle.clause_store.specs.declared.run.Reached.TheVariants.{Fixpoint}
 use Rattle.clause_store.specs.Runs.{IsFalseAt}
 use Rattle.clause_store.proofs.Kept.{EachAfter-append, EachAfter-push, Grows-trans, All-kept, has_kept, kept_in}
 use Rattle.clause_store.proofs.Adding.{kept_from-push}
-use Rattle.clause_store.proofs.Depths.{settled_quiet, Rested-grown, Rested-decide, up_to-all}
+use Rattle.clause_store.proofs.Depths.{settled_quiet, Rested-done, Rested-grown, Rested-decide, up_to-all}
 use Rattle.clause_store.specs.declared.lists.Watch.{Watch}
 use Rattle.clause_store.specs.declared.waits.Save.{Save}
 use Rattle.clause_store.specs.declared.waits.Wait.{Wait}
@@ -49,7 +50,7 @@ justified-grown clauses depth old new h each =
 pub known_live : (atoms : ℕ) (es : List Entry) → All (λ (c : Kept). All (λ (l : Signed). l.atom < atoms) c.literals) (kept_from 0 es) → (i : ℕ) → (entry_at es i).live ≡ true → All (λ (l : Signed). l.atom < atoms) (entry_at es i).literals
 known_live atoms es h i live = All-contains (λ (c : Kept). All (λ (l : Signed). l.atom < atoms) c.literals) (kept_from 0 es) (kept_of (0 + i) (entry_at es i)) h (kept_in 0 es i live)
 
--- the store after steps that its clauses force; the watches may be kept up otherwise
+-- the store after steps that its clauses force; other clauses may wait, and the watches may be kept up otherwise
 pub IsKept-grown : (es es' : List Entry) (lists lists' : List (List Watch)) (t t' : Assigned) (head head' : ℕ) (saves : List Save) (ws : List Wait) (loose loose' : Bool) → IsKept es lists t head saves ws loose
     → Grows (kept_from 0 es) t.depth t.steps t'.steps → kept_from 0 es' ≡ kept_from 0 es → length es' ≡ length es → t'.atoms ≡ t.atoms → (loose' ≡ false → IsTight es' lists' t' head' saves ws)
     → IsKept es' lists' t' head' saves ws loose'
@@ -66,6 +67,30 @@ tight-driven es es' lists lists' t t' head head' saves ws h a d dr = record {
   watch = subst (λ n. IsWatching n es' lists') (sym a) dr.watch;
   rested = subst (λ n. Rested es' t'.steps n head' saves ws) (sym d) (dr.rested saves h.rested);
 }
+
+-- so it is when propagation ends, where none may wait at depth 0
+pub IsKept-settled : (es es' : List Entry) (lists lists' : List (List Watch)) (t t' : Assigned) (head head' : ℕ) (saves : List Save) (ws ws' : List Wait) (loose : Bool) → IsKept es lists t head saves ws loose
+    → Grows (kept_from 0 es) t.depth t.steps t'.steps → kept_from 0 es' ≡ kept_from 0 es → length es' ≡ length es → t'.atoms ≡ t.atoms → (loose ≡ false → IsTight es' lists' t' head' saves ws')
+    → IsKept es' lists' t' head' saves ws' loose
+IsKept-settled es es' lists lists' t t' head head' saves ws ws' loose h grows e count a tight = record {
+  known = subst (λ cs. All (λ (c : Kept). All (λ (l : Signed). l.atom < t'.atoms) c.literals) cs) (sym e) (subst (λ n. All (λ (c : Kept). All (λ (l : Signed). l.atom < n) c.literals) (kept_from 0 es)) (sym a) h.known);
+  justified = subst (λ cs. EachAfter (IsJustified cs) t'.steps) (sym e) (justified-grown (kept_from 0 es) t.depth t.steps t'.steps grows h.justified);
+  small = subst (λ n. n < 2 ^ 32) (sym count) h.small;
+  tight = tight;
+}
+
+pub tight-settled : (es es' : List Entry) (lists lists' : List (List Watch)) (t t' : Assigned) (head head' : ℕ) (saves : List Save) (ws ws' : List Wait) → IsTight es lists t head saves ws → t'.atoms ≡ t.atoms → t'.depth ≡ t.depth
+    → DriveGives t.atoms t.depth ws (record { entries = es; lists = lists; steps = t.steps }) (record { entries = es'; lists = lists'; steps = t'.steps }) head head' Fixpoint
+    → (ws' ≡ ws) ⊎ ((t'.depth ≡ 0) × (ws' ≡ [])) → IsTight es' lists' t' head' saves ws'
+tight-settled es es' lists lists' t t' head head' saves ws ws' h a d gives settled =
+    let driven : IsTight es' lists' t' head' saves ws = tight-driven es es' lists lists' t t' head head' saves ws h a d gives.0 in
+    elim settled [
+      | inl same ↦ subst (IsTight es' lists' t' head' saves) (sym same) driven
+      | inr done ↦ subst (IsTight es' lists' t' head' saves) (sym done.1) (record {
+        watch = driven.watch;
+        rested = Rested-done es' t'.steps t'.depth head' saves ws done.0 gives.2 (gives.1 saves h.rested).settled driven.rested;
+      })
+    ]
 
 pub tight-grown : (es : List Entry) (lists : List (List Watch)) (t t' : Assigned) (head : ℕ) (saves : List Save) (ws : List Wait) → Grows (kept_from 0 es) t.depth t.steps t'.steps → t'.atoms ≡ t.atoms → t'.depth ≡ t.depth
     → IsTight es lists t head saves ws → IsTight es lists t' head saves ws

@@ -1,5 +1,5 @@
 -- What propagation does to a store's parts.
-use Rattle.std.specs.Prelude.{◌≡◌, ℕ, true, List}
+use Rattle.std.specs.Prelude.{◌≡◌, ℕ, true, List, length}
 use Rattle.clause_store.specs.Entries.{entry_at}
 use Rattle.clause_store.specs.Visits.{Parts}
 use Rattle.clause_store.specs.Watching.{IsSettled, IsWatching}
@@ -20,6 +20,6 @@ pub record IsQuietAll (p : Parts) : Type 0 where
   pub settled : (i : ℕ) → (entry_at p.entries i).live ≡ true → IsSettled p.steps p.steps (entry_at p.entries i)
 
 abbrev pub DriveGives : ℕ → ℕ → List Wait → Parts → Parts → ℕ → ℕ → Reached → Type 0
-DriveGives atoms depth ws old new start head Fixpoint = Drives atoms depth ws old new start head × ((saves : List Save) → Rested old.entries old.steps depth start saves ws → IsQuietAll new)
+DriveGives atoms depth ws old new start head Fixpoint = Drives atoms depth ws old new start head × ((saves : List Save) → Rested old.entries old.steps depth start saves ws → IsQuietAll new) × (head ≡ length new.steps)
 DriveGives atoms depth ws old new start head (False row) = Drives atoms depth ws old new start head × IsFalseAt new row
 DriveGives atoms depth ws old new start head NoRoom = Unit {0}

@@ -90,7 +90,7 @@ pub fn scan(rows: &mut Rows, trail: &mut Trail) -> Outcome
         match find(rows, trail) {
             Among::Quiet => return Outcome::Fixpoint,
             Among::False(row) => return Outcome::False(row as u64),
-            Among::Unit(literal, row) => trail.assign(literal, Some(row as u64)),
+            Among::Unit(literal, row) => trail.assign(literal, row as u64),
         }
     }
 }

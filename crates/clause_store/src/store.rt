@@ -3,7 +3,7 @@ ghost use Rattle.std.specs.List.Sorted.{IsNonDecreasingBy};
 ghost use Rattle.std.specs.Prelude.{◌≡◌, ℕ, ◌+◌, ◌^◌, ◌<◌, ◌≤◌, true, false, List, [], ◌∷◌, ◌++◌, All, IfSome, IfOk, OnOk, OnErr, Some, length, max, slice_index_or};
 ghost use Rattle.clause_store.specs.Trail.{Assigns, IsOpen, StatusOf, up_to};
 ghost use Rattle.clause_store.specs.Each.{EachAfter};
-ghost use Rattle.clause_store.specs.TrailInvariant.{IsFresh};
+ghost use Rattle.clause_store.specs.TrailInvariant.{IsFresh, IsDecided};
 ghost use Rattle.literals.specs.Signed.{Signed, opposite};
 ghost use Rattle.clause_store.specs.Stored.{Kept, HaveOwnIds, IsJustified, Propagated, without, up_to_level};
 ghost use Rattle.clause_store.specs.Found.{HasKept, HasLevel, Outcomes};
@@ -16,7 +16,7 @@ use crate::run::{Reached, drive};
 use crate::scan::scan;
 use crate::trail::{Status, Step, Trail};
 use crate::undo::{calm, rewind};
-use crate::waits::{Save, Wait, drop_of};
+use crate::waits::{Save, Wait, drop_of, settle};
 use literals::Literal;
 use std::alloc::{AllocError, Global};
 use std::marker::Model;
@@ -87,7 +87,10 @@ impl Store {
         );
         self.head = head;
         match reached {
-            Reached::Fixpoint => Some(Outcome::Fixpoint),
+            Reached::Fixpoint => {
+                settle(&mut self.waiting, self.trail.depth());
+                Some(Outcome::Fixpoint)
+            }
             Reached::False(row) => Some(Outcome::False(row as u64)),
             Reached::NoRoom => {
                 self.loose = true;
@@ -186,7 +189,12 @@ impl Store {
             return self.add_loose(literals, level);
         }
         let row = self.rows.len();
-        if row + 1 >= 1 << 32 || self.waiting.reserve(1).is_err() {
+        if row + 1 >= 1 << 32 {
+            return Err(AllocError);
+        }
+        // each clause may wait once decisions are undone
+        let rest = (row + 1).saturating_sub(self.waiting.len());
+        if self.waiting.reserve(rest).is_err() {
             return Err(AllocError);
         }
         if !make_room(&mut self.lists, literals) {
@@ -326,6 +334,7 @@ impl Store {
         ensures justified { EachAfter (IsJustified self.now.clauses) self.now.trail.steps }
         ensures unique { HaveOwnIds self.now.clauses }
         ensures fresh { EachAfter IsFresh self.now.trail.steps }
+        ensures decided { EachAfter IsDecided self.now.trail.steps }
         ensures consistent { (l : Signed) → Assigns self.now.trail.steps l → Assigns self.now.trail.steps (opposite l) → ⊥ }
         ensures in_order { IsNonDecreasingBy (λ (s : Step). s.depth) self.now.trail.steps }
         ensures deepest { All (λ (s : Step). s.depth ≤ self.now.trail.depth) self.now.trail.steps }

@@ -178,7 +178,7 @@ fn step(
         Status::Open => match look_for(row, other, rows, trail) {
             Some(found) => transfer(found, other, row, rows, lists),
             None => {
-                trail.assign(other, Some(row as u64));
+                trail.assign(other, row as u64);
                 Visit::Keep(other)
             }
         },

@@ -1,9 +1,9 @@
 // The literals decided or reached, in order, and the truth value that each atom has by them.
-ghost use Rattle.std.specs.Prelude.{◌≡◌, ℕ, ◌+◌, ◌^◌, ◌<◌, ◌≤◌, List, [], ◌∷◌, ◌++◌, All, take, length, max, vec_len, vec_capacity, slice_set, slice_index_or, OnOk, OnErr};
+ghost use Rattle.std.specs.Prelude.{◌≡◌, ℕ, ◌+◌, ◌^◌, ◌<◌, ◌≤◌, Some, List, [], ◌∷◌, ◌++◌, All, take, length, max, vec_len, vec_capacity, slice_set, slice_index_or, OnOk, OnErr};
 ghost use Rattle.clause_store.specs.Trail.{Assigned, IsOpen, MarkOf, Assigns, StatusOf, up_to, mark_of};
 ghost use Rattle.literals.specs.Signed.{Signed, opposite};
 ghost use Rattle.clause_store.specs.Each.{EachAfter};
-ghost use Rattle.clause_store.specs.TrailInvariant.{IsFresh, Agrees, IsPlaced};
+ghost use Rattle.clause_store.specs.TrailInvariant.{IsFresh, IsDecided, Agrees, IsPlaced};
 ghost use Rattle.std.specs.List.Sorted.{IsNonDecreasingBy};
 
 use literals::Literal;
@@ -217,6 +217,7 @@ impl Trail {
         ensures known { All (λ (s : Step). s.literal.atom < self.now.atoms) self.now.steps }
         ensures room { length self.now.steps ≤ self.now.atoms }
         ensures fresh { EachAfter IsFresh self.now.steps }
+        ensures decided { EachAfter IsDecided self.now.steps }
         ensures consistent { (l : Signed) → Assigns self.now.steps l → Assigns self.now.steps (opposite l) → ⊥ }
         ensures in_order { IsNonDecreasingBy (λ (s : Step). s.depth) self.now.steps }
         ensures deepest { All (λ (s : Step). s.depth ≤ self.now.depth) self.now.steps }
@@ -224,11 +225,11 @@ impl Trail {
         &self.steps
     }
 
-    pub fn assign(&mut self, literal: Literal, reason: Option<u64>)
+    pub fn assign(&mut self, literal: Literal, reason: u64)
         requires known { literal.atom < self.old.atoms }
         requires is_open { IsOpen self.old.steps literal }
         ensures room { length self.old.steps < self.old.atoms }
-        ensures steps { let step : Step = record { literal = literal; depth = self.old.depth; reason = reason } in self.new ≡ record self.old { steps = self.old.steps ++ step ∷ [] } }
+        ensures steps { let step : Step = record { literal = literal; depth = self.old.depth; reason = Some reason } in self.new ≡ record self.old { steps = self.old.steps ++ step ∷ [] } }
     {
         let mark = mark_of(literal);
         put_place(&mut self.places, literal.atom(), self.steps.len());
@@ -237,7 +238,7 @@ impl Trail {
             Step {
                 literal,
                 depth: self.depth,
-                reason,
+                reason: Some(reason),
             },
         );
         self.marks[literal.atom() as usize] = mark;

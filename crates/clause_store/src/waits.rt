@@ -1,5 +1,5 @@
 // Clauses that wait for their one literal to be forced, and what is saved at a decision.
-ghost use Rattle.std.specs.Prelude.{◌≡◌, ℕ, ◌<◌, true, List, [], ◌∷◌, ◌++◌, All, IfSome, IfNone, Contains};
+ghost use Rattle.std.specs.Prelude.{◌≡◌, ◌⊎◌, ℕ, ◌<◌, true, List, [], ◌∷◌, ◌++◌, All, IfSome, IfNone, Contains};
 ghost use Rattle.literals.specs.Signed.{Signed};
 ghost use Rattle.clause_store.specs.Trail.{Assigns};
 ghost use Rattle.clause_store.specs.Entries.{Entry};
@@ -34,7 +34,7 @@ fn force(wait: Wait, trail: &mut Trail) -> bool
         Status::True => true,
         Status::False => false,
         Status::Open => {
-            trail.assign(wait.literal, Some(wait.row as u64));
+            trail.assign(wait.literal, wait.row as u64);
             true
         }
     }
@@ -55,6 +55,15 @@ pub fn force_all(waiting: &[Wait], trail: &mut Trail) -> Option<Wait>
         }
     }
     None
+}
+
+// Once all clauses are settled at depth 0, none needs to wait.
+pub fn settle(waiting: &mut Vec<Wait>, depth: u32)
+    ensures { (waiting.new.items ≡ waiting.old.items) ⊎ ((depth ≡ 0) × (waiting.new.items ≡ [])) }
+{
+    if depth == 0 {
+        waiting.clear();
+    }
 }
 
 // Takes out those of clauses from this place on.

@@ -1,6 +1,5 @@
 -- An analysis begins: nothing is seen, then the steps of the false clause.
-use Rattle.std.proofs.Common.{◌≡◌, ◌≢◌, ℕ, ◌+◌, ◌<◌, ◌≤◌, suc, zero, Bool, true, false, List, [], ◌∷◌, ◌++◌, length, take, get_or, replicate, Contains, All, Option, Some, None, subst, sym, ap, ◌∙◌, refl, inl, inr, ◌⊎◌, arith}
-use Rattle.std.specs.List.{count_by}
+use Rattle.std.proofs.Common.{◌≡◌, ℕ, ◌+◌, ◌<◌, ◌≤◌, suc, zero, true, false, List, [], ◌∷◌, ◌++◌, length, take, get_or, replicate, Contains, All, Some, None, subst, sym, ap, ◌∙◌, refl, inl, inr, ◌⊎◌, arith}
 use Rattle.std.proofs.lemmas.List.{length-replicate, get_or-replicate, get_or_past, take_more}
 use Rattle.std.proofs.lemmas.List.Sums.{count_by-le-length}
 use Rattle.std.proofs.lemmas.List.Elements.{All-push, All-weaker, All-contains, Contains-append_left, Contains-push}
@@ -11,10 +10,9 @@ use Rattle.clause_store.specs.Found.{HasKept}
 use Rattle.clause_store.specs.Each.{EachAfter}
 use Rattle.clause_store.specs.TrailInvariant.{IsFresh}
 use Rattle.conflict_learn.proofs.Trails.{same_place}
-use Rattle.conflict_learn.specs.declared.analysis.Mark.{Mark}
-use Rattle.conflict_learn.specs.declared.analysis.Mark.TheVariants.{Unseen, Waiting, Resolved}
-use Rattle.conflict_learn.specs.Analysing.{State, is_unseen, is_seen, is_waiting, is_resolved, mark_at, step_at, empty_state, SeenAt, IsSound, IsFalseBelow, IsGreatest, IsGrounded, IsAt, TakesIn, Begins, pending}
-use Rattle.conflict_learn.proofs.Marks.{unseen_or_seen, seen_where_waiting, seen_where_resolved, not_both, seen_within, pending-none}
+use Rattle.conflict_learn.specs.declared.analysis.Mark.TheVariants.{Unseen}
+use Rattle.conflict_learn.specs.Analysing.{State, is_unseen, is_seen, is_waiting, is_resolved, mark_at, step_at, empty_state, SeenAt, IsSound, IsFalseBelow, IsGreatest, TakesIn, Begins, pending}
+use Rattle.conflict_learn.proofs.Marks.{seen_where_waiting, seen_within, pending-none}
 
 unseen_at : (n k : ℕ) → mark_at (replicate n Unseen) k ≡ Unseen
 unseen_at n k = elim (below_or_past k n) [

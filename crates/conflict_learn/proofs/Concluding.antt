@@ -1,24 +1,22 @@
 -- The learnt clause is what it is said to be.
-use Rattle.std.proofs.Common.{◌≡◌, ◌≢◌, ℕ, zero, suc, ◌+◌, ◌-◌, ◌<◌, ◌≤◌, nat_le, cond, Bool, true, false, not, List, [], ◌∷◌, ◌++◌, map, filter, length, take, get_or, Contains, All, subst, sym, ap, ◌∙◌, refl, inl, inr, ◌⊎◌, arith}
+use Rattle.std.proofs.Common.{◌≡◌, ◌≢◌, ℕ, ◌-◌, ◌<◌, ◌≤◌, nat_le, cond, Bool, true, false, not, List, [], ◌∷◌, map, filter, length, take, Contains, All, subst, sym, ap, ◌∙◌, refl, inl, inr, ◌⊎◌, arith}
 use Rattle.std.proofs.lemmas.Bool.{le-leb, leb-true}
 use Rattle.std.proofs.lemmas.List.{get_or_default, take_all}
 use Rattle.std.proofs.lemmas.List.Elements.{All-head, All-tail, All-contains, All-weaker, All-filter, All-contains_itself, filter_passes, Contains-get_or, All-nil, All-cons}
 use Rattle.literals.specs.Signed.{Signed, opposite}
-use Rattle.smt_meaning.specs.Forced.{Forces}
 use Rattle.clause_store.specs.declared.trail.Step.{Step}
 use Rattle.clause_store.specs.Each.{EachAfter}
 use Rattle.clause_store.specs.TrailInvariant.{IsFresh}
 use Rattle.clause_store.specs.Trail.{Assigns, IsOpen, literals, up_to}
-use Rattle.clause_store.specs.Stored.{Kept, Stored, IsQuiet, IsFalseOn, HaveOwnIds}
+use Rattle.clause_store.specs.Stored.{Kept, Stored, IsQuiet, IsFalseOn}
 use Rattle.clause_store.specs.Found.{HasKept}
-use Rattle.conflict_learn.specs.declared.analysis.Mark.{Mark}
 use Rattle.conflict_learn.specs.Analysing.{State, no_step, is_seen, is_waiting, is_resolved, mark_at, step_at, falsified, first_depth, AreApart, IsHeaded, IsSound, IsGrounded, IsOnly, IsSplit, IsGreatest, IsFalseBelow, Shrinks, StandsIn}
-use Rattle.conflict_learn.specs.Learning.{ComesFrom, HasPremiseAt, IsKeptId, IsDrawn, IsFalseAt, IsFalseUpTo, IsGreatestDepth, HaveOwnAtoms, IsDeepest, IsLearnt, PremisesTrue}
-use Rattle.conflict_learn.proofs.Trails.{assigns_at, place_at, assigns_before, same_place}
+use Rattle.conflict_learn.specs.Learning.{ComesFrom, HasPremiseAt, IsDrawn, IsFalseAt, IsFalseUpTo, IsGreatestDepth, HaveOwnAtoms, IsDeepest, IsLearnt}
+use Rattle.conflict_learn.proofs.Trails.{assigns_at, place_at, assigns_before}
 use Rattle.conflict_learn.proofs.Marks.{same_or_apart, seen_where_waiting, not_waiting_and_resolved, seen_within}
 use Rattle.conflict_learn.proofs.Places.{none_in, in_head, in_tail, in_cases}
 use Rattle.conflict_learn.proofs.Taking.{opposite_twice}
-use Rattle.conflict_learn.proofs.NotForced.{IsConsistent, IsDecidable, not_forced, all_of}
+use Rattle.conflict_learn.proofs.NotForced.{IsConsistent, IsDecidable, not_forced}
 use Rattle.conflict_learn.proofs.Truth.{true_wherever}
 
 -- ---- steps up to a depth

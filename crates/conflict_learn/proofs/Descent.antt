@@ -1,18 +1,14 @@
 -- Steps of the greatest depth are resolved until one waits.
-use Rattle.std.proofs.Common.{◌≡◌, ◌≢◌, ℕ, ◌+◌, ◌-◌, ◌<◌, ◌≤◌, ◌&&◌, Bool, true, false, eqb, eq-eqb, eqb-true, List, [], ◌∷◌, ◌++◌, length, set, Contains, All, Option, Some, None, subst, sym, ap, ◌∙◌, refl, inl, inr, ◌⊎◌, arith}
+use Rattle.std.proofs.Common.{◌≡◌, ℕ, ◌+◌, ◌-◌, ◌<◌, ◌≤◌, ◌&&◌, Bool, true, false, eqb, eq-eqb, eqb-true, List, [], ◌∷◌, ◌++◌, length, set, Contains, All, Some, subst, sym, ap, ◌∙◌, refl, inl, inr, ◌⊎◌, arith}
 use Rattle.std.proofs.lemmas.List.Elements.{All-weaker, Contains-append_left, Contains-push}
 use Rattle.std.proofs.lemmas.List.{length-set}
 use Rattle.literals.specs.Signed.{Signed, opposite}
 use Rattle.clause_store.specs.declared.trail.Step.{Step}
-use Rattle.clause_store.specs.Stored.{Kept, HaveOwnIds}
-use Rattle.clause_store.specs.Found.{HasKept}
-use Rattle.conflict_learn.specs.declared.analysis.Mark.{Mark}
-use Rattle.conflict_learn.specs.declared.analysis.Mark.TheVariants.{Unseen, Waiting, Resolved}
-use Rattle.conflict_learn.specs.Analysing.{State, is_unseen, is_seen, is_waiting, is_resolved, mark_at, step_at, with_mark, with_less, SeenAt, IsSound, Grew, TakesIn, Resolves, IsGrounded, IsAt, IsOnly, IsFalseBelow, IsResolvedAt, pending}
-use Rattle.conflict_learn.proofs.Trails.{by_id}
-use Rattle.conflict_learn.proofs.Marks.{set_cases, seen_within, unseen_or_seen, seen_where_waiting, seen_where_resolved, pending-above, pending-here, pending-not_here, pending-none, pending-le}
+use Rattle.clause_store.specs.Stored.{Kept}
+use Rattle.conflict_learn.specs.declared.analysis.Mark.TheVariants.{Resolved}
+use Rattle.conflict_learn.specs.Analysing.{State, is_seen, is_waiting, mark_at, step_at, with_mark, with_less, SeenAt, IsSound, TakesIn, Resolves, IsGrounded, IsAt, IsOnly, IsFalseBelow, IsResolvedAt, FollowsAt, pending}
+use Rattle.conflict_learn.proofs.Marks.{set_cases, unseen_or_seen, seen_where_waiting, pending-above, pending-here, pending-not_here, pending-none, pending-some, pending-le}
 use Rattle.conflict_learn.proofs.Sound.{Stays, SeenAt-stays, Stays-set, sound-resolved, grew_stays}
-use Rattle.conflict_learn.proofs.Taking.{opposite_twice}
 
 pub sound-less : (clauses : List Kept) (steps : List Step) (s : State) → IsSound clauses steps s → IsSound clauses steps (with_less s)
 sound-less clauses steps s h = record {
@@ -184,6 +180,19 @@ descended clauses steps id left i s u new lt sound grounded at on more e res =
       omega arith,
       ap (λ (x : State). x.deepest) r.marked ∙ r.grew.deepest,
     )
+
+-- the last of several steps of the greatest depth isn't the first of its depth
+pub follows : (steps : List Step) (s : State) (i left : ℕ) → IsAt steps s (i + 1) → (is_waiting (mark_at s.marks i) && eqb (step_at steps i).depth s.deepest) ≡ true → left < s.count → (0 < left) ⊎ (s.deepest ≡ 0) → FollowsAt steps i
+follows steps s i left at on more bottom =
+    let b = waits_both steps s i on in
+    elim bottom [
+      | inl some ↦
+          let here : pending s.deepest steps s.marks (i + 1) ≡ pending s.deepest steps s.marks i + 1 = pending-here s.deepest steps s.marks i b.0 b.1 in
+          let count : pending s.deepest steps s.marks (i + 1) ≡ s.count = at.count in
+          let h = pending-some s.deepest steps s.marks i (omega arith) in
+          inr (h.0, h.1, h.2 ∙ sym b.1)
+      | inr none ↦ inl (b.1 ∙ none)
+    ]
 
 -- where none is left to wait for, no step of the greatest depth waits
 pub none_waits : (steps : List Step) (s : State) (i : ℕ) → IsAt steps s i → s.count ≡ 0 → (k : ℕ) → is_waiting (mark_at s.marks k) ≡ true → (step_at steps k).depth ≡ s.deepest → ⊥

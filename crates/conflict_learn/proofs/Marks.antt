@@ -1,12 +1,12 @@
 -- Marks as one of them changes, and how many wait.
-use Rattle.std.proofs.Common.{◌≡◌, ◌≢◌, ℕ, ◌+◌, ◌<◌, ◌≤◌, suc, zero, Bool, true, false, not, ◌&&◌, cond, nat_le, eqb, eq-eqb, eqb-true, List, [], ◌∷◌, length, get_or, set, ap, sym, subst, ◌∙◌, refl, inl, inr, ◌⊎◌, arith}
-use Rattle.std.specs.List.{sum_by, count_by}
-use Rattle.std.proofs.lemmas.List.{get_or-set_same, get_or-set_other, get_or_past, length-set}
+use Rattle.std.proofs.Common.{◌≡◌, ◌≢◌, ℕ, ◌+◌, ◌<◌, ◌≤◌, suc, zero, Bool, true, false, ◌&&◌, cond, eqb, eq-eqb, eqb-true, List, length, set, ap, sym, subst, refl, inl, inr, ◌⊎◌, arith}
+use Rattle.std.specs.List.{count_by}
+use Rattle.std.proofs.lemmas.List.{get_or-set_same, get_or-set_other, get_or_past}
 use Rattle.std.proofs.lemmas.List.Sums.{sum_by-set}
 use Rattle.clause_store.specs.declared.trail.Step.{Step}
 use Rattle.conflict_learn.specs.declared.analysis.Mark.{Mark}
 use Rattle.conflict_learn.specs.declared.analysis.Mark.TheVariants.{Unseen, Waiting, Resolved}
-use Rattle.conflict_learn.specs.Analysing.{State, is_unseen, is_seen, is_waiting, is_resolved, mark_at, step_at, pending}
+use Rattle.conflict_learn.specs.Analysing.{is_unseen, is_seen, is_waiting, is_resolved, mark_at, step_at, pending}
 
 pub same_or_apart : (a b : ℕ) → (a ≡ b) ⊎ (a ≢ b)
 same_or_apart a b = grind arith
@@ -142,6 +142,26 @@ pending-none d steps marks (suc i) e k lt on deep = elim (below_or_at k i lt) [
       let e' = rw (here, level) at e in
       absurd (omega (arith, e'))
 ]
+
+-- where some wait, one of that depth does
+pub pending-some : (d : ℕ) (steps : List Step) (marks : List Mark) (i : ℕ) → 0 < pending d steps marks i → (k : ℕ) × (k < i) × ((step_at steps k).depth ≡ d)
+unfolding pending
+pending-some d steps marks zero lt = absurd (omega arith)
+pending-some d steps marks (suc i) lt = elim (true_or_false (is_waiting (mark_at marks i) && eqb (step_at steps i).depth d)) [
+  | inl on ↦ (i, omega arith, eqb-true (step_at steps i).depth d (second _ _ on))
+  | inr off ↦
+      let rest = rw off at lt in
+      let h = pending-some d steps marks i (omega (arith, rest)) in
+      (h.0, omega (arith, h.1), h.2)
+]
+  where
+    true_or_false : (b : Bool) → (b ≡ true) ⊎ (b ≡ false)
+    true_or_false true = inl refl
+    true_or_false false = inr refl
+
+    second : (b c : Bool) → (b && c) ≡ true → c ≡ true
+    second true c h = h
+    second false c h = cc
 
 -- the last one counts where it waits at that depth, and else doesn't
 pub pending-here : (d : ℕ) (steps : List Step) (marks : List Mark) (i : ℕ) → is_waiting (mark_at marks i) ≡ true → (step_at steps i).depth ≡ d → pending d steps marks (i + 1) ≡ pending d steps marks i + 1

@@ -1,11 +1,11 @@
 -- A clause with one literal open on a trail, and the rest false, isn't forced by clauses that are quiet on that trail.
-use Rattle.std.proofs.Common.{◌≡◌, ◌≢◌, ℕ, ◌<◌, Bool, true, false, not, List, [], ◌∷◌, ◌++◌, map, All, Contains, length, get_or, subst, sym, ap, ◌∙◌, refl, inl, inr, ◌⊎◌, arith}
+use Rattle.std.proofs.Common.{◌≡◌, List, [], ◌∷◌, ◌++◌, map, All, Contains, get_or, subst, sym, refl, inl, inr, ◌⊎◌, arith}
 use Rattle.std.proofs.lemmas.List.Elements.{Contains-append_left, Contains-append_right, Contains-append_cases, All-map, All-contains, Contains-get_or, Contains-push, Contains-push_cases}
 use Rattle.literals.specs.Signed.{Signed, opposite}
 use Rattle.clause_store.specs.declared.trail.Step.{Step}
 use Rattle.clause_store.specs.Trail.{Assigns, IsOpen}
-use Rattle.clause_store.specs.Stored.{IsFalseOn, AllFalse, IsUnit, IsQuiet}
-use Rattle.smt_meaning.specs.Forced.{Reaches, Conflicts, Forces}
+use Rattle.clause_store.specs.Stored.{IsFalseOn, IsUnit, IsQuiet}
+use Rattle.smt_meaning.specs.Forced.{Reaches, Forces}
 use Rattle.smt_meaning.specs.Forced.Reaches.{start, unit}
 
 -- no atom has both signs

@@ -1,5 +1,5 @@
 -- What an analysis keeps as steps are seen, premises counted and steps resolved.
-use Rattle.std.proofs.Common.{◌≡◌, ◌≢◌, ℕ, ◌+◌, ◌<◌, ◌≤◌, max, suc, Bool, true, false, eqb, eq-eqb, eqb-true, List, [], ◌∷◌, ◌++◌, length, set, get_or, Contains, All, Option, Some, None, subst, sym, ap, ◌∙◌, refl, inl, inr, ◌⊎◌, arith, append_assoc}
+use Rattle.std.proofs.Common.{◌≡◌, ℕ, ◌+◌, ◌<◌, ◌≤◌, max, Bool, true, false, eqb, eqb-true, List, [], ◌∷◌, ◌++◌, length, set, Contains, subst, sym, ap, ◌∙◌, refl, inl, inr, ◌⊎◌, arith, append_assoc}
 use Rattle.std.proofs.lemmas.List.{length-set, length_push, append-nil}
 use Rattle.std.proofs.lemmas.List.Elements.{All-push, All-weaker, All-contains, Contains-push, Contains-push_cases, Contains-append_left}
 use Rattle.std.proofs.lemmas.Bool.Decides.{nat_tests}
@@ -9,8 +9,8 @@ use Rattle.clause_store.specs.Stored.{Kept}
 use Rattle.clause_store.specs.Found.{HasKept, HasLevel}
 use Rattle.conflict_learn.specs.declared.analysis.Mark.{Mark}
 use Rattle.conflict_learn.specs.declared.analysis.Mark.TheVariants.{Unseen, Waiting, Resolved}
-use Rattle.conflict_learn.specs.Analysing.{State, is_unseen, is_seen, is_waiting, is_resolved, mark_at, step_at, falsified, with_mark, with_deep, with_lower, with_premise, seen_by, seen, SeenAt, StandsIn, IsResolvedAt, IsReachedLevel, AreApart, IsSound, Grew, TakesIn, pending}
-use Rattle.conflict_learn.proofs.Marks.{set_cases, seen_within, unseen_or_seen, not_both, not_unseen, unseen-seen, unseen-resolved, pending-other, pending-seen, same_or_apart, not_waiting_and_resolved, waiting_or_resolved, seen_where_resolved}
+use Rattle.conflict_learn.specs.Analysing.{State, is_unseen, is_seen, is_waiting, is_resolved, mark_at, step_at, falsified, with_mark, with_premise, seen_by, seen, SeenAt, StandsIn, IsResolvedAt, IsSound, Grew, pending}
+use Rattle.conflict_learn.proofs.Marks.{set_cases, seen_within, unseen_or_seen, not_both, not_unseen, unseen-seen, unseen-resolved, pending-other, pending-seen}
 use Rattle.conflict_learn.proofs.Places.{AreApart-push}
 
 -- ---- marks that grew

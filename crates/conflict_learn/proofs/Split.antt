@@ -1,20 +1,18 @@
 -- Each step seen below the greatest depth is resolved or kept, one after the other.
-use Rattle.std.proofs.Common.{◌≡◌, ◌≢◌, ℕ, ◌+◌, ◌-◌, ◌<◌, ◌≤◌, suc, zero, nat_le, cond, Bool, true, false, List, [], ◌∷◌, ◌++◌, length, take, set, get_or, Contains, All, subst, sym, ap, ◌∙◌, refl, inl, inr, ◌⊎◌, arith}
+use Rattle.std.proofs.Common.{◌≡◌, ◌≢◌, ℕ, ◌+◌, ◌<◌, ◌≤◌, suc, zero, nat_le, cond, Bool, true, false, List, [], ◌∷◌, ◌++◌, length, take, set, get_or, Contains, All, subst, sym, ap, ◌∙◌, refl, inl, inr, ◌⊎◌, arith}
 use Rattle.std.specs.List.Sorted.{IsNonDecreasingBy}
-use Rattle.std.proofs.lemmas.List.{take_more, take_all, take-append-le, get_or_default, length-set, length-append, get_or-take, length-take-le}
-use Rattle.std.proofs.lemmas.List.Elements.{All-push, All-weaker, All-take, All-contains, All-head, All-tail, All-cons, Contains-append_left, Contains-push, Contains-push_cases, Contains-get_or}
-use Rattle.std.proofs.lemmas.Bool.{le-leb, leb-true}
+use Rattle.std.proofs.lemmas.List.{take_more, take_all, take-append-le, length-set}
+use Rattle.std.proofs.lemmas.List.Elements.{All-push, All-weaker, All-take, All-contains, Contains-append_left, Contains-push, Contains-push_cases, Contains-get_or}
+use Rattle.std.proofs.lemmas.Bool.{leb-true}
 use Rattle.std.proofs.lemmas.Bool.Decides.{nat_tests}
 use Rattle.clause_store.specs.declared.trail.Step.{Step}
 use Rattle.clause_store.specs.Stored.{Kept}
-use Rattle.conflict_learn.specs.declared.analysis.Mark.{Mark}
-use Rattle.conflict_learn.specs.declared.analysis.Mark.TheVariants.{Unseen, Waiting, Resolved}
-use Rattle.conflict_learn.specs.Analysing.{State, is_unseen, is_seen, is_waiting, is_resolved, mark_at, step_at, with_mark, with_place, AreApart, IsHeaded, IsSplit, IsSound, IsOnly, IsGrounded, Resolves, Grew, Shrinks}
+use Rattle.conflict_learn.specs.declared.analysis.Mark.TheVariants.{Resolved}
+use Rattle.conflict_learn.specs.Analysing.{State, is_seen, is_waiting, is_resolved, mark_at, step_at, with_place, AreApart, IsHeaded, IsSplit, IsSound, IsOnly, IsGrounded, Resolves, Shrinks}
 use Rattle.conflict_learn.proofs.Descent.{grounded_stays, resolves_stays}
 use Rattle.conflict_learn.proofs.Trails.{shallower}
 use Rattle.conflict_learn.proofs.Marks.{set_cases, unseen_or_seen, seen_where_waiting, seen_where_resolved, seen_within}
 use Rattle.conflict_learn.proofs.Places.{none_in, in_head, in_tail, in_cases, AreApart-push}
-use Rattle.conflict_learn.proofs.Sound.{Stays, Stays-set, grew_stays}
 
 -- ---- one place more
 

@@ -1,13 +1,13 @@
 -- A clause's literals are taken in, one by one.
-use Rattle.std.proofs.Common.{◌≡◌, ◌≢◌, ℕ, ◌+◌, ◌<◌, ◌≤◌, max, Bool, true, false, not, List, [], ◌∷◌, ◌++◌, length, take, get_or, Contains, All, Option, Some, None, subst, sym, ap, ◌∙◌, refl, inl, inr, ◌⊎◌, arith}
-use Rattle.std.proofs.lemmas.List.{take_more, get_or_default, take_all}
-use Rattle.std.proofs.lemmas.List.Elements.{All-push, All-weaker, All-contains, Contains-push, Contains-append_left, Contains-get_or}
+use Rattle.std.proofs.Common.{◌≡◌, ℕ, ◌+◌, ◌<◌, ◌≤◌, max, Bool, true, false, not, List, [], ◌∷◌, ◌++◌, length, take, get_or, Contains, All, Option, Some, subst, sym, ap, ◌∙◌, refl, inl, inr, ◌⊎◌, arith}
+use Rattle.std.proofs.lemmas.List.{take_more, take_all}
+use Rattle.std.proofs.lemmas.List.Elements.{All-push, All-weaker, Contains-push, Contains-get_or}
 use Rattle.literals.specs.Signed.{Signed, opposite}
 use Rattle.clause_store.specs.declared.trail.Step.{Step}
 use Rattle.clause_store.specs.Stored.{Kept, HaveOwnIds}
 use Rattle.clause_store.specs.Found.{HasKept, HasLevel}
 use Rattle.conflict_learn.specs.declared.analysis.Mark.{Mark}
-use Rattle.conflict_learn.specs.Analysing.{State, is_seen, mark_at, step_at, falsified, with_premise, seen_by, seen, SeenAt, StandsIn, IsSound, Grew, IsFalseBelow, TakesIn}
+use Rattle.conflict_learn.specs.Analysing.{State, is_seen, mark_at, step_at, falsified, with_premise, seen_by, seen, SeenAt, StandsIn, IsSound, Grew, TakesIn}
 use Rattle.conflict_learn.proofs.Sound.{SeenAt-stays, sound-seen, sound-premise, grew-seen, Grew-premise, Grew-both, grew_stays, at_seen}
 
 pub opposite_twice : (l : Signed) → opposite (opposite l) ≡ l

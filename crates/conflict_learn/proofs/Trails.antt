@@ -1,16 +1,16 @@
 -- Steps by their places: each literal has one, and a clause found by its id is the one that forced a step.
-use Rattle.std.proofs.Common.{◌≡◌, ◌≢◌, ℕ, ◌+◌, ◌<◌, ◌≤◌, List, [], ◌∷◌, ◌++◌, length, map, take, get_or, Contains, All, Option, Some, None, subst, sym, ap, ◌∙◌, refl, inl, inr, ◌⊎◌, arith}
-use Rattle.std.proofs.lemmas.List.{get_or-map, length-map, get_or_default, get_or-take, length-take-le}
-use Rattle.std.proofs.lemmas.List.Elements.{Contains-get_or, All-weaker}
+use Rattle.std.proofs.Common.{◌≡◌, ℕ, ◌<◌, ◌≤◌, List, length, take, get_or, All, Some, None, subst, sym, ap, ◌∙◌, inl, inr, ◌⊎◌, arith}
+use Rattle.std.proofs.lemmas.List.{get_or-map, length-map, get_or-take, length-take-le}
+use Rattle.std.proofs.lemmas.List.Elements.{All-weaker}
 use Rattle.std.specs.List.Sorted.{IsNonDecreasingBy}
 use Rattle.literals.specs.Signed.{Signed, opposite}
 use Rattle.clause_store.specs.declared.trail.Step.{Step}
 use Rattle.clause_store.specs.Each.{EachAfter}
-use Rattle.clause_store.specs.TrailInvariant.{IsFresh}
-use Rattle.clause_store.specs.Trail.{Assigns, literals}
-use Rattle.clause_store.specs.Stored.{Kept, IsForced, IsJustified, IsFalseOn, AllFalse, HaveOwnIds}
+use Rattle.clause_store.specs.TrailInvariant.{IsFresh, IsDecided}
+use Rattle.clause_store.specs.Trail.{Assigns}
+use Rattle.clause_store.specs.Stored.{Kept, IsForced, IsJustified, IsFalseOn, HaveOwnIds}
 use Rattle.clause_store.specs.Found.{HasKept}
-use Rattle.conflict_learn.specs.Analysing.{no_step, step_at, IsFalseBelow}
+use Rattle.conflict_learn.specs.Analysing.{no_step, step_at, IsFalseBelow, FollowsAt}
 
 pub same_some : {X : Type 0} (x y : X) → Some x ≡ Some y → x ≡ y
 same_some x y e = cc
@@ -95,3 +95,15 @@ pub known_on : (steps : List Step) (n : ℕ) (l : Signed) → All (λ (s : Step)
 known_on steps n l h on =
     let p = place_at steps l on in
     subst (λ (x : Signed). x.atom < n) p.2 (h p.0 no_step p.1)
+
+-- a step that isn't the first of its depth, or is of depth 0, has a reason
+pub has_a_reason : (steps : List Step) (k : ℕ) → k < length steps → EachAfter IsDecided steps → FollowsAt steps k → (step_at steps k).reason ≡ None → ⊥
+has_a_reason steps k lt decided h none =
+    let d = decided k no_step lt none in
+    elim h [
+      | inl top ↦ absurd (omega (arith, d.0))
+      | inr (j, below, same) ↦
+          let shallower : (get_or (take k steps) j no_step).depth < (step_at steps k).depth = d.1 j no_step (omega (arith, length-take-le k steps (omega arith))) in
+          let is : get_or (take k steps) j no_step ≡ step_at steps j = get_or-take k steps j no_step below in
+          absurd (omega (arith, ap (λ (s : Step). s.depth) is))
+    ]

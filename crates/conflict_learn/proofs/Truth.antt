@@ -1,13 +1,13 @@
 -- A clause is true wherever its premises are, if the steps by which the false clause is false are resolved by premises or falsify its literals.
-use Rattle.std.proofs.Common.{◌≡◌, ◌≢◌, ℕ, zero, suc, ◌+◌, ◌<◌, ◌≤◌, ◌||◌, Bool, true, false, not, List, [], ◌∷◌, ◌++◌, map, length, Contains, All, subst, sym, ap, ◌∙◌, refl, inl, inr, ◌⊎◌, arith}
+use Rattle.std.proofs.Common.{◌≡◌, ℕ, zero, suc, ◌<◌, ◌||◌, Bool, true, false, not, List, [], ◌∷◌, map, length, Contains, All, subst, sym, ap, ◌∙◌, refl, inl, inr, ◌⊎◌, arith}
 use Rattle.std.proofs.lemmas.List.Elements.{All-head, All-tail, All-contains, All-nil, All-cons}
 use Rattle.literals.specs.Signed.{Signed, opposite, sign, literal_true, some_true}
 use Rattle.clause_store.specs.declared.trail.Step.{Step}
 use Rattle.clause_store.specs.Stored.{Kept}
 use Rattle.conflict_learn.specs.declared.analysis.Mark.{Mark}
-use Rattle.conflict_learn.specs.Analysing.{State, is_seen, is_waiting, is_resolved, mark_at, step_at, falsified, SeenAt, IsSound, IsGrounded, IsResolvedAt}
+use Rattle.conflict_learn.specs.Analysing.{State, is_seen, is_waiting, mark_at, step_at, falsified, SeenAt, IsSound, IsGrounded, IsResolvedAt}
 use Rattle.conflict_learn.specs.Learning.{PremisesTrue}
-use Rattle.conflict_learn.proofs.Marks.{waiting_or_resolved, seen_within}
+use Rattle.conflict_learn.proofs.Marks.{waiting_or_resolved}
 use Rattle.conflict_learn.proofs.Places.{in_cases, in_head, in_tail, none_in}
 
 opposite_true : (values : ℕ → Bool) (l : Signed) → literal_true values (opposite l) ≡ true → literal_true values l ≡ false

@@ -1,5 +1,5 @@
 -- What an analysis of a false clause has found.
-use Rattle.std.specs.Prelude.{◌≡◌, ◌≢◌, ℕ, zero, suc, ◌+◌, ◌-◌, ◌<◌, ◌≤◌, ◌⊎◌, ◌==◌, ◌&&◌, nat_le, take, Bool, true, false, List, [], ◌∷◌, ◌++◌, All, Contains, Option, Some, None, length, set, replicate, slice_index_or, count_by, if◌then◌else◌}
+use Rattle.std.specs.Prelude.{◌≡◌, ℕ, zero, suc, ◌+◌, ◌-◌, ◌<◌, ◌≤◌, ◌⊎◌, ◌==◌, ◌&&◌, nat_le, take, Bool, true, false, List, [], ◌∷◌, ◌++◌, All, Contains, Option, Some, None, length, set, replicate, slice_index_or, count_by, if◌then◌else◌}
 use Rattle.literals.specs.Signed.{Signed, opposite}
 use Rattle.clause_store.specs.declared.trail.Step.{Step}
 use Rattle.clause_store.specs.Stored.{Kept}
@@ -51,6 +51,10 @@ no_step = record { literal = record { atom = 0; positive = true }; depth = 0; re
 
 abbrev pub step_at : List Step → ℕ → Step
 step_at steps k = slice_index_or steps k no_step
+
+-- a step at this place isn't the first of its depth, or that is 0
+abbrev pub FollowsAt : List Step → ℕ → Type 0
+FollowsAt steps k = ((step_at steps k).depth ≡ 0) ⊎ ((j : ℕ) × (j < k) × ((step_at steps j).depth ≡ (step_at steps k).depth))
 
 -- the literal that is false by the step at this place
 abbrev pub falsified : List Step → ℕ → Signed

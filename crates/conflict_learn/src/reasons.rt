@@ -3,7 +3,7 @@ ghost use Rattle.std.specs.Prelude.{◌≡◌, ℕ, ◌<◌, ◌≤◌, List, Al
 ghost use Rattle.literals.specs.Signed.{Signed, opposite};
 ghost use Rattle.clause_store.specs.Stored.{AllFalse, IsFalseOn};
 ghost use Rattle.clause_store.specs.Found.{HasKept};
-ghost use Rattle.conflict_learn.specs.Analysing.{step_at, IsFalseBelow};
+ghost use Rattle.conflict_learn.specs.Analysing.{step_at, IsFalseBelow, FollowsAt};
 
 use clause_store::rows::Looked;
 use clause_store::store::Store;
@@ -16,6 +16,16 @@ pub fn step(store: &Store, place: usize) -> Step
     ensures { result ≡ step_at store.now.trail.steps place }
 {
     store.steps()[place]
+}
+
+// The reason of a step that isn't the first of its depth, or is of depth 0.
+pub fn reason_at(store: &Store, place: usize) -> u64
+    requires within { place < length store.now.trail.steps }
+    requires follows { FollowsAt store.now.trail.steps place }
+    ensures { (step_at store.now.trail.steps place).reason ≡ Some result }
+{
+    let steps = store.steps();
+    steps[place].reason.unwrap()
 }
 
 // The place of the step by which a literal is false.

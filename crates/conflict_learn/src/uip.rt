@@ -1,9 +1,9 @@
 // The first unique implication point: steps of the greatest depth are resolved, newest first, until one waits.
-ghost use Rattle.std.specs.Prelude.{◌≡◌, ℕ, ◌+◌, ◌<◌, ◌≤◌, ◌&&◌, ◌==◌, true, Bool, Some, length, IfOk, OnOk};
+ghost use Rattle.std.specs.Prelude.{◌≡◌, ℕ, ◌+◌, ◌<◌, ◌≤◌, ◌⊎◌, ◌&&◌, ◌==◌, true, Bool, Some, length, IfOk, OnOk};
 ghost use Rattle.conflict_learn.specs.Analysing.{State, step_at, mark_at, is_seen, is_waiting, with_less, IsSound, IsGrounded, IsAt, IsOnly, Resolves, Comes};
 
 use crate::analysis::{Analysis, Mark, is_waiting};
-use crate::reasons::{look_at_reason, reason_literals, step};
+use crate::reasons::{look_at_reason, reason_at, reason_literals, step};
 use clause_store::store::Store;
 use std::alloc::AllocError;
 
@@ -54,6 +54,7 @@ impl Analysis {
         requires grounded { IsGrounded store.old.clauses store.old.trail.steps _id self.old }
         requires at { IsAt store.old.trail.steps self.old (length store.old.trail.steps) }
         requires enough { left ≤ self.old.count }
+        requires bottom { (0 < left) ⊎ (self.old.deepest ≡ 0) }
         ensures same { store.new ≡ store.old }
         ensures comes { IfOk result (λ i. Comes store.old.clauses store.old.trail.steps _id left i self.old self.new) }
     {
@@ -61,9 +62,7 @@ impl Analysis {
         while self.count() > left {
             i -= 1;
             if self.waits_deep(store, i) {
-                let Some(reason) = step(store, i).reason else {
-                    return Err(AllocError);
-                };
+                let reason = reason_at(store, i);
                 self.uncount();
                 self.resolve(store, i, reason)?;
             }

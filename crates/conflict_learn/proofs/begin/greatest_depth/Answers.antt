@@ -1,4 +1,4 @@
-use Rattle.std.proofs.Common.{◌≡◌, ◌<◌, ◌≤◌, subst, sym, ap, inl, inr, arith, refl}
+use Rattle.std.proofs.Common.{subst, sym, arith}
 use Rattle.clause_store.specs.Stored.{IsFalseOn}
 use Rattle.conflict_learn.proofs.begin.greatest_depth.Goals as goal
 

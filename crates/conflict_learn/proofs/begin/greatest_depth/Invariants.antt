@@ -1,4 +1,4 @@
-use Rattle.std.proofs.Common.{◌≡◌, take}
+use Rattle.std.proofs.Common.{take}
 use Rattle.conflict_learn.specs.Analysing.{IsGreatest}
 use Rattle.conflict_learn.proofs.begin.greatest_depth.Given as goal
 

@@ -1,9 +1,9 @@
-use Rattle.std.proofs.Common.{◌≡◌, ℕ, ◌<◌, ◌≤◌, ◌∷◌, ◌∙◌, All, map, ap, length, subst, sym, arith}
+use Rattle.std.proofs.Common.{◌≡◌, ◌<◌, ◌∷◌, ◌∙◌, All, map, ap, length, subst, sym, arith}
 use Rattle.clause_store.specs.Each.{EachAfter}
 use Rattle.clause_store.specs.TrailInvariant.{IsFresh}
 use Rattle.clause_store.specs.Stored.{Stored}
 use Rattle.clause_store.specs.Found.{HasKept}
-use Rattle.conflict_learn.specs.Analysing.{State, IsGreatest, Shrinks, falsified, first_depth}
+use Rattle.conflict_learn.specs.Analysing.{IsGreatest, Shrinks, falsified, first_depth}
 use Rattle.conflict_learn.specs.Learning.{IsLearnt}
 use Rattle.conflict_learn.proofs.Concluding.{concluded}
 use Rattle.conflict_learn.proofs.Split.{kept_within}

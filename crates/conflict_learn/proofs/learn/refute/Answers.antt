@@ -1,4 +1,4 @@
-use Rattle.std.proofs.Common.{◌≡◌, [], ◌≤◌, ◌∙◌, subst, sym, arith}
+use Rattle.std.proofs.Common.{[], ◌∙◌, subst, sym}
 use Rattle.conflict_learn.specs.Learning.{ComesFrom}
 use Rattle.conflict_learn.proofs.Concluding.{refuted}
 use Rattle.conflict_learn.proofs.Descent.{none_waits}

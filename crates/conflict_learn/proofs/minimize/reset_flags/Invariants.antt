@@ -1,4 +1,4 @@
-use Rattle.std.proofs.Common.{◌≡◌, ◌≤◌, ◌-◌, length}
+use Rattle.std.proofs.Common.{◌≤◌, ◌-◌, length}
 use Rattle.conflict_learn.proofs.minimize.reset_flags.Given as goal
 
 abbrev pub invariant-loop-flags : goal.invariant-loop-flags

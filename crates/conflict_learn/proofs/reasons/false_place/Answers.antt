@@ -1,4 +1,4 @@
-use Rattle.std.proofs.Common.{◌≡◌, ◌<◌, ◌∙◌, sym, subst}
+use Rattle.std.proofs.Common.{sym, subst}
 use Rattle.clause_store.specs.Trail.{Assigns}
 use Rattle.conflict_learn.proofs.Trails.{known_on}
 use Rattle.conflict_learn.proofs.reasons.false_place.Goals as goal

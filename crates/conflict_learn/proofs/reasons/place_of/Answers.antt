@@ -1,5 +1,4 @@
-use Rattle.std.proofs.Common.{◌≡◌, ◌<◌, ◌≤◌, ◌∙◌, sym, subst, arith}
-use Rattle.literals.specs.Signed.{Signed}
+use Rattle.std.proofs.Common.{◌≡◌, ◌≤◌, ◌∙◌, sym, subst, arith}
 use Rattle.clause_store.specs.Trail.{Assigns}
 use Rattle.conflict_learn.specs.Analysing.{no_step, step_at}
 use Rattle.conflict_learn.proofs.Trails.{same_place, assigns_at, known_on}

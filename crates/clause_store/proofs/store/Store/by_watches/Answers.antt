@@ -1,8 +1,8 @@
-use Rattle.std.proofs.Common.{◌≡◌, subst, arith, true, false}
+use Rattle.std.proofs.Common.{◌≡◌, ◌⊎◌, [], subst, arith, true, false}
 use Rattle.clause_store.specs.Visits.{Parts}
 use Rattle.clause_store.specs.Driving.{DriveGives}
 use Rattle.clause_store.specs.Keeping.{IsKept}
-use Rattle.clause_store.proofs.Stores.{IsKept-grown, tight-driven, lists_back, all_quiet, false_kept}
+use Rattle.clause_store.proofs.Stores.{IsKept-grown, IsKept-settled, tight-driven, tight-settled, lists_back, all_quiet, false_kept}
 use Rattle.clause_store.specs.declared.run.Reached.TheVariants.{Fixpoint, False as FalseClause}
 use Rattle.clause_store.proofs.store.Store.by_watches.Goals as goal
 
@@ -14,9 +14,10 @@ invariant_of-self c =
     let p' : Parts = record { entries = d.new.rows; lists = d.new.lists; steps = d.new.trail.steps } in
     let gives : DriveGives i.trail.atoms i.trail.depth i.waiting.items p p' i.head d.result.1 Fixpoint =
     subst (λ r. DriveGives i.trail.atoms i.trail.depth i.waiting.items p p' i.head d.result.1 r) c.in-Fixpoint.is (rw (c.deref_mut.ensures.value, c.deref.ensures.value) at d.ensures.gives) in
-    lists_back i.trail.atoms d.new.rows d.new.lists i.lists.items i.lists.len (λ ls. IsKept d.new.rows ls d.new.trail d.result.1 i.saves.items i.waiting.items i.loose) (omega (arith, d.auto.lists, c.deref_mut.ensures.len))
-    (IsKept-grown i.rows d.new.rows i.lists.items d.new.lists i.trail d.new.trail i.head d.result.1 i.saves.items i.waiting.items i.loose i.loose c.self.invariant d.ensures.grows d.ensures.clauses d.ensures.count d.ensures.same.0
-    (λ e. tight-driven i.rows d.new.rows i.lists.items d.new.lists i.trail d.new.trail i.head d.result.1 i.saves.items i.waiting.items (c.self.invariant.tight e) d.ensures.same.0 d.ensures.same.1 gives.0))
+    lists_back i.trail.atoms d.new.rows d.new.lists i.lists.items i.lists.len (λ ls. IsKept d.new.rows ls d.new.trail d.result.1 i.saves.items c.settle.new.waiting.items i.loose) (omega (arith, d.auto.lists, c.deref_mut.ensures.len))
+    (IsKept-settled i.rows d.new.rows i.lists.items d.new.lists i.trail d.new.trail i.head d.result.1 i.saves.items i.waiting.items c.settle.new.waiting.items i.loose c.self.invariant d.ensures.grows d.ensures.clauses d.ensures.count d.ensures.same.0
+    (λ e. tight-settled i.rows d.new.rows i.lists.items d.new.lists i.trail d.new.trail i.head d.result.1 i.saves.items i.waiting.items c.settle.new.waiting.items (c.self.invariant.tight e) d.ensures.same.0 d.ensures.same.1 gives
+    (subst (λ n. (c.settle.new.waiting.items ≡ i.waiting.items) ⊎ ((n ≡ 0) × (c.settle.new.waiting.items ≡ []))) c.depth.ensures c.settle.ensures)))
 
 pub invariant_of-self-in-False : goal.invariant_of-self-in-False
 invariant_of-self-in-False c =

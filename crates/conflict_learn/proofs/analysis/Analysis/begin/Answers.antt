@@ -1,5 +1,4 @@
 use Rattle.std.proofs.Common.{◌≡◌, None, ap, length, subst, sym, ◌∙◌}
-use Rattle.clause_store.specs.declared.trail.Step.{Step}
 use Rattle.clause_store.specs.Each.{EachAfter}
 use Rattle.clause_store.specs.TrailInvariant.{IsFresh}
 use Rattle.clause_store.specs.Stored.{Stored, AllFalse, HaveOwnIds}

@@ -1,7 +1,7 @@
-use Rattle.std.proofs.Common.{◌≡◌, ◌+◌, ◌-◌, ◌<◌, ◌≤◌, ◌&&◌, ◌∙◌, Some, true, false, eqb, ap, subst, sym, length, arith}
+use Rattle.std.proofs.Common.{◌≡◌, ◌+◌, ◌-◌, ◌<◌, ◌&&◌, ◌∙◌, true, false, eqb, subst, sym, length, arith, inl, inr, ◌⊎◌}
 use Rattle.clause_store.specs.Stored.{Stored}
-use Rattle.conflict_learn.specs.Analysing.{State, IsAt, IsSound, Resolves, mark_at, step_at, is_waiting}
-use Rattle.conflict_learn.proofs.Descent.{passed, pending_place, sound-less, descended}
+use Rattle.conflict_learn.specs.Analysing.{IsAt, IsSound, Resolves, mark_at, step_at, is_waiting, FollowsAt}
+use Rattle.conflict_learn.proofs.Descent.{passed, pending_place, sound-less, descended, follows}
 use Rattle.conflict_learn.proofs.analysis.Analysis.resolve_deepest.Goals as goal
 
 pub overflow_sub-i : goal.overflow_sub-i
@@ -55,3 +55,16 @@ loop-i-preserved c =
       within = omega arith;
       deepest = c.loop-i.invariant.deepest;
     }
+
+pub reason_at-reason-requires : goal.reason_at-reason-requires
+reason_at-reason-requires c =
+    let steps = c.args.store.now.trail.steps in
+    let lt : 0 < c.loop-i.i = pending_place steps c.loop-i.self c.loop-i.i c.loop-i.invariant.at (omega arith) in
+    let e : c.loop-i.i ≡ c.loop-i.i - 1 + 1 = omega arith in
+    let at : IsAt steps c.loop-i.self (c.loop-i.i - 1 + 1) = subst (IsAt steps c.loop-i.self) e c.loop-i.invariant.at in
+    let same : c.loop-i.store ≡ c.args.store.now = c.loop-i.invariant.same in
+    let w : (is_waiting (mark_at c.loop-i.self.marks (c.loop-i.i - 1)) && eqb (step_at steps (c.loop-i.i - 1)).depth c.loop-i.self.deepest) ≡ true =
+    subst (λ (st : Stored). (is_waiting (mark_at c.loop-i.self.marks (c.loop-i.i - 1)) && eqb (step_at st.trail.steps (c.loop-i.i - 1)).depth c.loop-i.self.deepest) ≡ true) same (sym c.waits_deep.ensures ∙ c.if-waits_deep.true) in
+    let bottom : (0 < c.args.left) ⊎ (c.loop-i.self.deepest ≡ 0) = elim c.requires.bottom [ inl some ↦ inl some | inr none ↦ inr (c.loop-i.invariant.deepest ∙ none) ] in
+    subst (λ (st : Stored). record { within : c.loop-i.i - 1 < length st.trail.steps; follows : FollowsAt st.trail.steps (c.loop-i.i - 1) }) (sym same)
+    record { within = omega arith; follows = follows steps c.loop-i.self (c.loop-i.i - 1) c.args.left at w (omega arith) bottom }

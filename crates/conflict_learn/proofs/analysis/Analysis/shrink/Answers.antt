@@ -1,7 +1,7 @@
-use Rattle.std.proofs.Common.{◌≡◌, ◌+◌, ◌-◌, ◌<◌, ◌≤◌, ◌∙◌, All, Some, ap, subst, sym, length, refl, arith}
+use Rattle.std.proofs.Common.{◌≡◌, ◌+◌, ◌<◌, ◌∙◌, All, ap, subst, sym, length, arith}
 use Rattle.clause_store.specs.Stored.{Stored}
-use Rattle.conflict_learn.specs.Analysing.{State, Resolves, Shrinks, IsSound, IsSplit, with_place, is_seen, mark_at}
-use Rattle.conflict_learn.proofs.Split.{Shrinking, low_at, low_within, kept_within, split-start, shrinking-kept, shrinking-resolved, shrunk}
+use Rattle.conflict_learn.specs.Analysing.{Resolves, with_place}
+use Rattle.conflict_learn.proofs.Split.{Shrinking, low_at, low_within, kept_within, shrinking-kept, shrinking-resolved, shrunk}
 use Rattle.conflict_learn.proofs.analysis.Analysis.shrink.Goals as goal
 use Rattle.conflict_learn.proofs.analysis.Analysis.shrink.Goals.{in-Some+in_ok-resolve-in-Some, in-None+in_ok-keep-in-None}
 

@@ -1,8 +1,6 @@
-use Rattle.std.proofs.Common.{◌≡◌, ◌⊎◌, ◌∙◌, ◌<◌, Some, None, true, false, All, subst, sym, ap, inl, inr, arith, get_or, length}
-use Rattle.std.proofs.lemmas.List.{get_or_default}
-use Rattle.literals.specs.Signed.{Signed, opposite}
-use Rattle.clause_store.specs.Found.{HasLevel}
-use Rattle.conflict_learn.specs.Analysing.{IsFalseBelow, step_at, seen, with_premise}
+use Rattle.std.proofs.Common.{◌≡◌, ◌⊎◌, ◌∙◌, Some, subst, sym, inl, inr, arith}
+use Rattle.literals.specs.Signed.{Signed}
+use Rattle.conflict_learn.specs.Analysing.{IsFalseBelow}
 use Rattle.conflict_learn.proofs.Taking.{Taking, taking-start, taking-skip, taking-more, taking-end}
 use Rattle.conflict_learn.proofs.analysis.Analysis.take_in.Goals as goal
 use Rattle.conflict_learn.proofs.analysis.Analysis.take_in.Goals.{then-not-is_it+in_ok-see, else-not-is_it}

@@ -1,4 +1,4 @@
-use Rattle.std.proofs.Common.{◌≡◌, [], ap, List, ℕ}
+use Rattle.std.proofs.Common.{◌≡◌, List}
 use Rattle.literals.specs.Signed.{Signed}
 use Rattle.conflict_learn.specs.Analysing.{State}
 use Rattle.conflict_learn.specs.Learning.{Lesson}
