@@ -66,6 +66,27 @@ impl WatchList {
         requires { k < length self.old }
         ensures { self.new ≡ slice_set self.old k watch }
     {
+        // one that stays isn't written
+        let blocker = watch.blocker;
+        let row = watch.row;
+        if !self.is_at(k, blocker, row) {
+            self.write(k, Watch { blocker, row });
+        }
+    }
+
+    // Whether this watch stands there.
+    fn is_at(&self, k: usize, blocker: Literal, row: u32) -> bool
+        requires { k < length self.now }
+        ensures { result ≡ true → (let w : Watch = record { blocker = blocker; row = row } in w ≡ slice_index_or self.now k w) }
+    {
+        let old = self.items[k];
+        old.row == row && old.blocker == blocker
+    }
+
+    fn write(&mut self, k: usize, watch: Watch)
+        requires { k < length self.old }
+        ensures { self.new ≡ slice_set self.old k watch }
+    {
         self.items[k] = watch;
     }
 

@@ -219,7 +219,7 @@ impl Rows {
         requires { i < length self.old }
         ensures { self.new ≡ self.old }
     {
-        let row = self.rows[i as usize];
-        self.rows[i as usize] = Row { place, ..row };
+        let row = &mut self.rows[i as usize];
+        row.place = place;
     }
 }
