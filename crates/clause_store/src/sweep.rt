@@ -26,20 +26,14 @@ pub fn is_false(trail: &Trail, literal: Literal) -> bool
     ensures says_true { result ≡ true → IsFalseOn trail.now.steps literal }
     ensures says_false { result ≡ false → IsFalseOn trail.now.steps literal → ⊥ }
 {
-    match trail.status(literal) {
-        Status::False => true,
-        _ => false,
-    }
+    trail.is_true(literal.negated())
 }
 
 fn is_true(trail: &Trail, literal: Literal) -> bool
     requires { literal.atom < trail.now.atoms }
     ensures says { result ≡ true → Assigns trail.now.steps literal }
 {
-    match trail.status(literal) {
-        Status::True => true,
-        _ => false,
-    }
+    trail.is_true(literal)
 }
 
 // Whether a clause may be watched by this literal beside the other.

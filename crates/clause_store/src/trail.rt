@@ -1,6 +1,6 @@
 // The literals decided or reached, in order, and the truth value that each atom has by them.
-ghost use Rattle.std.specs.Prelude.{◌≡◌, ℕ, ◌+◌, ◌^◌, ◌<◌, ◌≤◌, Some, List, [], ◌∷◌, ◌++◌, All, take, length, max, vec_len, vec_capacity, slice_set, slice_index_or, OnOk, OnErr};
-ghost use Rattle.clause_store.specs.Trail.{Assigned, IsOpen, MarkOf, Assigns, StatusOf, up_to, mark_of};
+ghost use Rattle.std.specs.Prelude.{◌≡◌, ℕ, true, false, ◌+◌, ◌^◌, ◌<◌, ◌≤◌, Some, List, [], ◌∷◌, ◌++◌, All, take, length, max, vec_len, vec_capacity, slice_set, slice_index_or, OnOk, OnErr};
+ghost use Rattle.clause_store.specs.Trail.{Assigned, IsOpen, IsTrueOn, MarkOf, Assigns, StatusOf, up_to, mark_of};
 ghost use Rattle.literals.specs.Signed.{Signed, opposite};
 ghost use Rattle.clause_store.specs.Each.{EachAfter};
 ghost use Rattle.clause_store.specs.TrailInvariant.{IsFresh, IsDecided, Agrees, IsPlaced};
@@ -17,7 +17,7 @@ pub struct Step {
     pub reason: Option<u64>,
 }
 
-#[derive(Clone, Copy)]
+#[derive(Clone, Copy, PartialEq, Eq)]
 pub enum Mark {
     Open,
     Positive,
@@ -90,6 +90,21 @@ fn status_by(mark: Mark, literal: Literal) -> Status
             Status::True
         },
     }
+}
+
+fn is_same(a: Mark, b: Mark) -> bool
+    ensures yes { result ≡ true → a ≡ b }
+    ensures no { result ≡ false → a ≡ b → ⊥ }
+{
+    a == b
+}
+
+// Whether a literal has the truth that its atom is marked with: one comparison, whatever its sign.
+fn has_mark(mark: Mark, literal: Literal) -> bool
+    ensures yes { result ≡ true → (steps : List Step) → MarkOf steps literal.atom mark → IsTrueOn steps literal }
+    ensures no { result ≡ false → (steps : List Step) → MarkOf steps literal.atom mark → Assigns steps literal → ⊥ }
+{
+    is_same(mark, mark_of(literal))
 }
 
 fn put_place(places: &mut Vec<u32>, atom: u32, place: usize)
@@ -193,6 +208,14 @@ impl Trail {
         ensures few { result ≤ 2 ^ 31 }
     {
         self.marks.len() as u32
+    }
+
+    pub fn is_true(&self, literal: Literal) -> bool
+        requires { literal.atom < self.now.atoms }
+        ensures yes { result ≡ true → IsTrueOn self.now.steps literal }
+        ensures no { result ≡ false → Assigns self.now.steps literal → ⊥ }
+    {
+        has_mark(self.marks[literal.atom() as usize], literal)
     }
 
     // The atom of an open literal leaves room for a step.
