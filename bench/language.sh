@@ -37,6 +37,19 @@ def nested_lets():
     text += f"(< v0 v{depth - 1})" + ")" * depth + ")"
     yield text
 
+def wide_let():
+    count = 40000
+    yield "(declare-const x Int)"
+    bindings = " ".join(f"(v{i} (+ x {i}))" for i in range(count))
+    yield f"(assert (let ({bindings}) (< " + " ".join(f"v{i}" for i in range(count)) + ")))"
+
+def wide_definition():
+    count = 20000
+    yield "(declare-const x Int)"
+    parameters = " ".join(f"(p{i} Int)" for i in range(count))
+    yield f"(define-fun d ({parameters}) Bool (< " + " ".join(f"p{i}" for i in range(count)) + "))"
+    yield "(assert (d " + " ".join("x" for i in range(count)) + "))"
+
 def nested_annotations():
     yield "(declare-const x Bool)"
     depth = 9900
@@ -47,6 +60,8 @@ script("100,000 constants", (f"(declare-const c{i} Int)" for i in range(100000))
 script("65,535 levels down and up", ["(push 1)"] * 65535 + ["(pop 1)"] * 65535)
 script("10,000 definitions in a chain", ["(define-fun d0 () Int 1)"] + [f"(define-fun d{i} () Int (+ d{i - 1} 1))" for i in range(1, 10000)] + ["(assert (= d9999 10000))"])
 script("9,900 nested lets", nested_lets())
+script("40,000 names in one let", wide_let())
+script("20,000 parameters", wide_definition())
 script("9,900 nested annotations", nested_annotations())
 script("100,000 small checks", ["(declare-const p Bool)"] + ["(push 1)", "(assert p)", "(check-sat)", "(pop 1)"] * 25000)
 END

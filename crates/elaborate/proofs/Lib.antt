@@ -15,3 +15,4 @@ pub mod Copies
 pub mod Bodied
 pub mod PartCopies
 pub mod Named
+mod FiledLemmas

@@ -1,5 +1,5 @@
 -- Names that are given to terms.
-use Rattle.std.proofs.Common.{◌≡◌, ℕ, ◌+◌, ◌<◌, ◌≤◌, List, [], ◌∷◌, ◌++◌, map, drop, reverse, append-nil, arith, ap, ap₂, sym, subst, ◌∙◌, refl, Bool, true, false, not, ◌&&◌, nat_lt, Option, Some, None}
+use Rattle.std.proofs.Common.{◌≡◌, ℕ, ◌+◌, ◌<◌, ◌≤◌, List, [], ◌∷◌, ◌++◌, map, drop, append-nil, arith, ap, ap₂, sym, subst, ◌∙◌, refl, Bool, true, false, not, ◌&&◌, nat_lt, Option, Some, None}
 use Rattle.std.specs.Prelude.{Result, Ok, Err, OnOk, OnErr, IfOk, if◌then◌else◌, bytes_eq, ◌↔◌}
 use Rattle.std.proofs.lemmas.Bool.Decides.{nat_tests}
 use Rattle.smt_meaning.specs.declared.values.Sort.{Sort}
@@ -26,7 +26,7 @@ use Rattle.elaborate.specs.declared.frame.Walk.{Walk}
 use Rattle.elaborate.specs.declared.error.JudgeError.{JudgeError}
 use Rattle.elaborate.specs.declared.error.JudgeError.TheVariants.{Refused, Memory}
 use Rattle.elaborate.specs.Judged.{scope_of, IsCauseOf}
-use Rattle.elaborate.specs.Values.{typed, IsValue}
+use Rattle.elaborate.specs.Values.{typed}
 use Rattle.elaborate.specs.Frames.{find_value, variable_at, is_open_at, frames_of, walk_of, AllHold, AnswerHolds, Stands}
 use Rattle.elaborate.specs.Steps.{StepComes, is_symbol, IsNoName}
 use Rattle.elaborate.specs.Naming.{names_bound, why_not_new, IsWhyNotNew, NameComes, TermComes}
@@ -56,10 +56,10 @@ names_same : (ts : List Tree) (bs : List Binding) → variable_names (map (varia
 names_same ts [] = refl
 names_same ts (b ∷ bs) = ap (λ (ns : List (List ℕ)). b.name ∷ ns) (names_same ts bs)
 
-pub open_is : {E : Type 0} (tokens : List Token) (bs xs : List Binding) (p : ℕ) (y : Result Bool E) → bs ≡ reverse xs
-    → IfOk y (λ b. (vs : List Variable) → variable_names vs ≡ names_bound (reverse xs) → has_free_first vs (ahead tokens p) ≡ b) → IfOk y (λ b. (ts : List Tree) → is_open_at tokens ts bs p ≡ b)
-open_is tokens bs xs p (Ok b) e h = λ ts. h (map (variable_at ts) bs) (names_same ts bs ∙ ap names_bound e)
-open_is tokens bs xs p (Err x) e h = tt
+pub open_is : {E : Type 0} (tokens : List Token) (bs : List Binding) (p : ℕ) (y : Result Bool E)
+    → IfOk y (λ b. (vs : List Variable) → variable_names vs ≡ names_bound bs → has_free_first vs (ahead tokens p) ≡ b) → IfOk y (λ b. (ts : List Tree) → is_open_at tokens ts bs p ≡ b)
+open_is tokens bs p (Ok b) h = λ ts. h (map (variable_at ts) bs) (names_same ts bs)
+open_is tokens bs p (Err x) h = tt
 
 -- ---- one definition more
 

@@ -6,3 +6,4 @@ pub mod Putting
 pub mod Bodies
 pub mod Parts
 pub mod Naming
+pub mod Filed

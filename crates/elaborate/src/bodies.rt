@@ -10,10 +10,10 @@ ghost use Rattle.elaborate.specs.Values.{Comes};
 ghost use Rattle.elaborate.specs.Bodies.{places_from, bindings_from};
 
 use crate::apply::Rules;
+use crate::bindings::Bindings;
 use crate::error::JudgeError;
 use crate::frame::Binding;
 use crate::read::judge_term;
-use crate::stack::Stack;
 use crate::value::Value;
 use crate::{Parameter, TypedBody};
 use look_ahead::ends;
@@ -34,11 +34,11 @@ fn add_places(count: u32, store: &mut TermStore) -> Result<(), InternError>
 }
 
 /// The binding of each parameter to its place, the first parameter on top.
-fn bind(alloc: Global, parameters: &[Parameter], count: u32) -> Result<Stack<Binding>, AllocError>
+fn bind(alloc: Global, parameters: &[Parameter], count: u32) -> Result<Bindings, AllocError>
     requires { count ≡ length parameters.now }
     ensures { IfOk result (λ bs. bs ≡ bindings_from 0 parameters.now) }
 {
-    let mut bindings = Stack::new(alloc);
+    let mut bindings = Bindings::new(alloc);
     let mut place = count;
     while place > 0 {
         place -= 1;

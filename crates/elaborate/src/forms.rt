@@ -10,16 +10,16 @@ ghost use Rattle.elaborate.specs.Frames.{walk_of, Stands};
 ghost use Rattle.elaborate.specs.Steps.{kind_of, takes_word, is_named, IsNoName, StepComes};
 
 use crate::apply::Rules;
+use crate::bindings::Bindings;
 use crate::error::JudgeError;
 use crate::frame::{Binding, Frame, Walk};
-use crate::stack::Stack;
 use crate::value::Value;
 use crate::walk::{give, push};
 use smt_meaning::{Bytes, Refusal, Seq, TokenView};
 use std::alloc::{AllocError, Global};
 
 /// Puts bindings on top, the first of them topmost, and says how many.
-fn bind(bindings: &mut Stack<Binding>, bound: Seq<Binding>) -> Result<usize, AllocError>
+fn bind(bindings: &mut Bindings, bound: Seq<Binding>) -> Result<usize, AllocError>
     ensures count { IfOk result (λ k. k ≡ length bound) }
     ensures bound { IfOk result (λ k. bindings.new ≡ bound ++ bindings.old) }
 {

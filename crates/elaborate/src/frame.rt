@@ -1,7 +1,5 @@
 //! Where the reading of a term stands.
-ghost use Rattle.std.specs.Prelude.{◌≡◌, reverse, bytes_eq};
-ghost use Rattle.elaborate.specs.Frames.{find_value};
-
+use crate::bindings::Bindings;
 use crate::stack::Stack;
 use crate::value::Value;
 use smt_meaning::{Bytes, Operator, Seq};
@@ -47,26 +45,5 @@ pub(crate) enum Frame {
 pub(crate) struct Walk {
     pub answer: Option<Value>,
     pub frames: Stack<Frame>,
-    pub bindings: Stack<Binding>,
-}
-
-fn same_name(left: &[u8], right: &[u8]) -> bool
-    ensures { result ≡ bytes_eq left.now right.now }
-{
-    left == right
-}
-
-/// What a name stands for, by the newest binding.
-pub(crate) fn find(bindings: &[Binding], name: &[u8]) -> Option<Value>
-    ensures { result ≡ find_value name.now (reverse bindings.now) }
-{
-    let mut place = bindings.len();
-    while place > 0 {
-        place -= 1;
-        let binding = &bindings[place];
-        if same_name(name, binding.name.as_slice()) {
-            return Some(binding.value);
-        }
-    }
-    None
+    pub bindings: Bindings,
 }

@@ -11,10 +11,10 @@ ghost use Rattle.elaborate.specs.Frames.{variable_at};
 ghost use Rattle.elaborate.specs.Steps.{FrameComes, IsLetHead, IsAnnotationHead};
 
 use crate::apply::{Rules, unknown, wrong_count};
+use crate::bindings::Bindings;
 use crate::error::JudgeError;
-use crate::frame::{Binding, Frame, find};
+use crate::frame::Frame;
 use crate::operators::operator_named;
-use crate::stack::Stack;
 use look_ahead::{LookError, check_annotation, check_let};
 use smt_meaning::{Bytes, Operator, Refusal, SExpr, Seq, TokenView, Word};
 use smt_sorts::Table;
@@ -36,13 +36,13 @@ fn name_head(
     alloc: Global,
     rules: Rules,
     name: &[u8],
-    bindings: &Stack<Binding>,
+    bindings: &Bindings,
     table: &Table,
 ) -> Result<Frame, JudgeError>
     ensures { (tokens : List TokenValue) (ahead : Sexps) (ts : List Tree) → FrameComes (on_head (rules_of rules) (map (variable_at ts) bindings.now) (TokenValue.Symbol name.now) ahead) (scope_of table.now ts) tokens bindings.now result }
 {
     let _ = rules.closed;
-    match find(bindings.oldest_first(), name) {
+    match bindings.find(name) {
         Some(_) => Err(wrong_count(alloc, name)),
         None => match operator_named(name) {
             Some(operator) => application(alloc, name, Some(operator)),
@@ -88,7 +88,7 @@ fn word_head(
     ends: &[usize],
     place: usize,
     word: Word,
-    bindings: &Stack<Binding>,
+    bindings: &Bindings,
     table: &Table,
 ) -> Result<Frame, JudgeError>
     requires ends { AreEnds term.now ends.now }
@@ -116,7 +116,7 @@ pub(crate) fn list_head(
     ends: &[usize],
     place: usize,
     token: TokenView<'_>,
-    bindings: &Stack<Binding>,
+    bindings: &Bindings,
     table: &Table,
 ) -> Result<Frame, JudgeError>
     requires ends { AreEnds term.now ends.now }

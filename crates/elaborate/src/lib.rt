@@ -12,6 +12,7 @@ ghost use Rattle.elaborate.specs.Values.{IsLonger, HasGrown};
 ghost use Rattle.elaborate.specs.Naming.{TermComes};
 
 mod apply;
+mod bindings;
 mod bodies;
 mod definitions;
 mod error;

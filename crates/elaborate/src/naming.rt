@@ -1,5 +1,5 @@
 //! Terms in which `:named` gives names.
-ghost use Rattle.std.specs.Prelude.{◌≡◌, ◌+◌, ◌<◌, ◌∷◌, [], List, None, drop, length, map, reverse, IfOk, IfErr, OnOk};
+ghost use Rattle.std.specs.Prelude.{◌≡◌, ◌+◌, ◌<◌, ◌∷◌, [], List, None, drop, length, map, IfOk, IfErr, OnOk};
 ghost use Rattle.smt_meaning.specs.declared.tokens.Token.{Token as TokenValue};
 ghost use Rattle.smt_meaning.specs.Seen.{seen};
 ghost use Rattle.smt_meaning.specs.Sexp.{Sexps, open_lists_of, sexp};
@@ -16,9 +16,10 @@ ghost use Rattle.elaborate.specs.Steps.{StepComes};
 ghost use Rattle.elaborate.specs.Naming.{why_not_new, IsWhyNotNew, NameComes, TermComes};
 
 use crate::apply::Rules;
+use crate::bindings::Bindings;
 use crate::error::JudgeError;
 use crate::forms::bound_name;
-use crate::frame::{Binding, Frame, Walk, find};
+use crate::frame::{Frame, Walk};
 use crate::parts::named_body;
 use crate::stack::Stack;
 use crate::steps::{is_word, step};
@@ -34,17 +35,16 @@ use term_walk::{nothing_is_free, walk_gives_the_judgement};
 /// The names that bindings bind.
 #[derive(Clone, Copy, Drop)]
 struct Bound<'a> {
-    bindings: &'a [Binding],
+    bindings: &'a Bindings,
 }
 
 impl<'a> look_ahead::Names for Bound<'a> {
-    ghost use Rattle.std.specs.Prelude.{reverse};
     ghost use Rattle.elaborate.specs.Naming.{names_bound};
 
-    ghost names = { λ b. names_bound (reverse b.bindings.now) };
+    ghost names = { λ b. names_bound b.bindings.now };
 
     fn binds(&self, name: &[u8]) -> bool {
-        match find(self.bindings, name) {
+        match self.bindings.find(name) {
             Some(_) => true,
             None => false,
         }
@@ -57,7 +57,7 @@ fn is_open(
     term: &SExpr,
     ends: &[usize],
     place: usize,
-    bindings: &Stack<Binding>,
+    bindings: &Bindings,
 ) -> Result<bool, AllocError>
     requires { AreEnds term.now ends.now }
     ensures { IfOk result (λ b. (ts : List Tree) → is_open_at term.now ts bindings.now place ≡ b) }
@@ -69,9 +69,7 @@ fn is_open(
     if place > term.len() {
         return Err(AllocError);
     }
-    let names = Bound {
-        bindings: bindings.oldest_first(),
-    };
+    let names = Bound { bindings };
     has_free_first(alloc, &names, term, ends, place)
 }
 
@@ -128,7 +126,7 @@ fn give_name(
     term: &SExpr,
     ends: &[usize],
     place: usize,
-    bindings: &Stack<Binding>,
+    bindings: &Bindings,
     name: &[u8],
     value: Value,
     table: &mut Table,
@@ -263,7 +261,7 @@ pub(crate) fn judge_named(
     let mut walk = Walk {
         answer: None,
         frames: Stack::new(alloc),
-        bindings: Stack::new(alloc),
+        bindings: Bindings::new(alloc),
     };
     match read_named(alloc, rules, term, ends, &mut walk, table, store) {
         Ok(()) => match walk.answer {

@@ -10,8 +10,9 @@ ghost use Rattle.elaborate.specs.Frames.{AreBound, variable_at, walk_of, Stands}
 ghost use Rattle.elaborate.specs.Steps.{StepComes};
 
 use crate::apply::Rules;
+use crate::bindings::Bindings;
 use crate::error::JudgeError;
-use crate::frame::{Binding, Walk};
+use crate::frame::Walk;
 use crate::stack::Stack;
 use crate::steps::step;
 use crate::value::Value;
@@ -51,7 +52,7 @@ pub(crate) fn judge_term(
     rules: Rules,
     term: &SExpr,
     ends: &[usize],
-    bindings: Stack<Binding>,
+    bindings: Bindings,
     table: &Table,
     store: &mut TermStore,
 ) -> Result<Value, JudgeError>

@@ -1,5 +1,5 @@
 //! A list that is read, grown and cut at its newest end.
-ghost use Rattle.std.specs.Prelude.{◌≡◌, ◌∷◌, [], List, drop, length, reverse, OnOk, OnErr, IfSome, IfNone};
+ghost use Rattle.std.specs.Prelude.{◌≡◌, ◌∷◌, [], List, drop, length, OnOk, OnErr, IfSome, IfNone};
 
 use std::alloc::{AllocError, Global};
 use std::marker::Model;
@@ -64,12 +64,5 @@ impl<T: Drop> Stack<T> {
         ensures none { IfNone result (self.now ≡ []) }
     {
         self.items.last()
-    }
-
-    /// The items, the oldest first.
-    pub fn oldest_first(&self) -> &[T]
-        ensures { self.now ≡ reverse result.now }
-    {
-        &self.items
     }
 }

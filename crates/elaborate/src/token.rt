@@ -10,11 +10,10 @@ ghost use Rattle.elaborate.specs.Values.{Comes, HasGrown};
 ghost use Rattle.elaborate.specs.Frames.{AreBound, variable_at};
 
 use crate::apply::{Rules, bare_function, bare_operator, unknown};
+use crate::bindings::Bindings;
 use crate::error::JudgeError;
-use crate::frame::{Binding, find};
 use crate::numeral::numeral;
 use crate::operators::operator_named;
-use crate::stack::Stack;
 use crate::value::{Value, stored};
 use smt_meaning::{Refusal, Sort, TokenView};
 use smt_sorts::Table;
@@ -43,7 +42,7 @@ fn judge_name(
     alloc: Global,
     rules: Rules,
     name: &[u8],
-    bindings: &Stack<Binding>,
+    bindings: &Bindings,
     table: &Table,
     store: &mut TermStore,
 ) -> Result<Value, JudgeError>
@@ -51,7 +50,7 @@ fn judge_name(
     ensures comes { Comes (judge_token (rules_of rules) (map (variable_at store.old.trees) bindings.now) (Token.Symbol name.now)) (scope_of table.now store.old.trees) store.new.trees result }
     ensures longer { HasGrown store.old store.new }
 {
-    match find(bindings.oldest_first(), name) {
+    match bindings.find(name) {
         Some(value) => Ok(value),
         None => judge_free(alloc, rules, name, table, store),
     }
@@ -82,7 +81,7 @@ pub(crate) fn judge_token(
     alloc: Global,
     rules: Rules,
     token: TokenView<'_>,
-    bindings: &Stack<Binding>,
+    bindings: &Bindings,
     table: &Table,
     store: &mut TermStore,
 ) -> Result<Value, JudgeError>

@@ -2,10 +2,11 @@
 use Rattle.std.proofs.Common.{◌≡◌, ℕ, zero, suc, ◌+◌, ◌<◌, List, [], ◌∷◌, ◌++◌, ap, sym, subst, ◌∙◌, refl, take, drop, length, arith, get_or, Bool, true, false, not, Option, Some, None, append_assoc}
 use Rattle.std.specs.Option.{MatchOption}
 use Rattle.std.specs.Prelude.{OnOk, IfOk, IfErr, Result, Ok, Err}
-use Rattle.std.specs.Prelude.{if◌then◌else◌, bytes_eq}
+use Rattle.std.specs.Prelude.{if◌then◌else◌, bytes_eq, reverse, is_some}
+use Rattle.name_index.specs.Newest.{first_named, newest_named, IsNewest, name_hash, hashes_of}
 use Rattle.std.specs.Borrow.{Bor}
 use Rattle.std.proofs.Math.Seq.{drop-cons}
-use Rattle.std.proofs.lemmas.List.{take_more}
+use Rattle.std.proofs.lemmas.List.{take_more, map_more, reverse-append}
 use Rattle.smt_meaning.specs.declared.refusals.Refusal.TheVariants.{WrongArguments, AlreadyDeclared}
 use Rattle.smt_meaning.specs.Sexp.{Sexp, Sexps, group, end, ◌▸◌}
 use Rattle.smt_meaning.specs.Signature.{is_one_of}
@@ -143,3 +144,36 @@ err_then (Err e) P Q f h = f e h
 pub value_then : {T E : Type 0} (r : Result T E) (P Q : T → Type 0) → ((x : T) → P x → Q x) → IfOk r P → IfOk r Q
 value_then (Ok x) P Q f h = f x h
 value_then (Err e) P Q f h = h
+
+-- ---- names that are found by their hashes
+
+is_one_where : (n : List ℕ) (bs : List (Bor (List ℕ))) → is_one_of n (names_of bs) ≡ is_some (first_named (λ (b : Bor (List ℕ)). b.now) n bs)
+is_one_where n [] = refl
+is_one_where n (b ∷ bs) = go (is_one_where n bs) (bytes_eq n b.now)
+  where
+    go : is_one_of n (names_of bs) ≡ is_some (first_named (λ (b : Bor (List ℕ)). b.now) n bs) → (c : Bool)
+        → (if c then true else is_one_of n (names_of bs)) ≡ is_some (if c then Some b else first_named (λ (b : Bor (List ℕ)). b.now) n bs)
+    go same true = refl
+    go same false = same
+
+one_of_reversed : (n : List ℕ) (bs : List (Bor (List ℕ))) → is_one_of n (names_of (reverse bs)) ≡ is_one_of n (names_of bs)
+one_of_reversed n [] = refl
+one_of_reversed n (b ∷ bs) =
+    ap (λ xs. is_one_of n (names_of xs)) (reverse-append (b ∷ []) bs) ∙ ap (is_one_of n) (names_append (reverse bs) (b ∷ [])) ∙ one_more n b.now (names_of (reverse bs))
+    ∙ ap (λ c. if bytes_eq n b.now then true else c) (one_of_reversed n bs)
+
+one_of_newest : (n : List ℕ) (bs : List (Bor (List ℕ))) → is_one_of n (names_of bs) ≡ is_some (newest_named (λ (b : Bor (List ℕ)). b.now) n bs)
+one_of_newest n bs = sym (one_of_reversed n bs) ∙ is_one_where n (reverse bs)
+
+pub one_found : (n : List ℕ) (bs : List (Bor (List ℕ))) (i : ℕ) → IsNewest (λ (b : Bor (List ℕ)). b.now) n bs i → is_one_of n (names_of bs) ≡ true
+one_found n [] i h = let short : i < 0 = h.within in absurd (omega arith)
+one_found n (b ∷ bs) i h = one_of_newest n (b ∷ bs) ∙ ap is_some (h.newest b)
+
+pub none_found : (n : List ℕ) (bs : List (Bor (List ℕ))) → newest_named (λ (b : Bor (List ℕ)). b.now) n bs ≡ None → is_one_of n (names_of bs) ≡ false
+none_found n bs h = one_of_newest n bs ∙ ap is_some h
+
+-- one more name is filed
+pub hashes_more : (bs : List (Bor (List ℕ))) (i : ℕ) (d : Bor (List ℕ)) (hs : List ℕ) (h : ℕ) → i < length bs → hs ≡ hashes_of (λ (b : Bor (List ℕ)). b.now) (take i bs) → h ≡ name_hash (get_or bs i d).now
+    → hs ++ h ∷ [] ≡ hashes_of (λ (b : Bor (List ℕ)). b.now) (take (i + 1) bs)
+hashes_more bs i d hs h short e f =
+    ap (λ x. x ++ h ∷ []) e ∙ ap (λ k. hashes_of (λ (b : Bor (List ℕ)). b.now) (take i bs) ++ k ∷ []) f ∙ sym (map_more (λ (b : Bor (List ℕ)). name_hash b.now) bs i d short)

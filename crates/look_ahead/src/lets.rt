@@ -8,8 +8,10 @@ ghost use Rattle.look_ahead.specs.Lets.{IsLetAt, name_bound, BindingAt, names_of
 
 use crate::LookError;
 use crate::parts::{Part, part_at, skip};
+use name_index::{find, hash};
 use smt_meaning::{Refusal, SExpr, Seq, TokenView};
 use std::alloc::{AllocError, Global};
+use term_store::HashIndex;
 
 /// Where the parts of a `let` begin.
 #[derive(Clone, Copy, Drop)]
@@ -118,16 +120,21 @@ pub(crate) fn is_one_of(name: &[u8], names: &[&[u8]]) -> bool
     false
 }
 
-/// The place of the first name that stood before.
-fn first_double(names: &[&[u8]]) -> Option<usize>
-    ensures { IsDouble names.now result }
+/// The place of the first name that stood before. Each name is found by its hash, so this takes time linear in their letters.
+fn first_double(alloc: Global, names: &[&[u8]]) -> Result<Option<usize>, AllocError>
+    ensures { IfOk result (IsDouble names.now) }
 {
+    if names.len() > u32::MAX as usize {
+        return Err(AllocError);
+    }
+    let mut index = HashIndex::new(alloc);
     for place in 0..names.len() {
-        if is_one_of(names[place], &names[..place]) {
-            return Some(place);
+        match find(&names[..place], &index, names[place]) {
+            Some(_) => return Ok(Some(place)),
+            None => index.push(hash(names[place]))?,
         }
     }
-    None
+    Ok(None)
 }
 
 /// Whether names may be bound together.
@@ -138,12 +145,13 @@ fn check_names(alloc: Global, names: &[&[u8]]) -> Result<(), LookError>
     if names.is_empty() {
         return Err(LookError::Refused(Refusal::WrongArguments));
     }
-    match first_double(names) {
-        None => Ok(()),
-        Some(place) => match Seq::copy(alloc, names[place]) {
+    match first_double(alloc, names) {
+        Ok(None) => Ok(()),
+        Ok(Some(place)) => match Seq::copy(alloc, names[place]) {
             Ok(name) => Err(LookError::Refused(Refusal::AlreadyDeclared(name))),
             Err(AllocError) => Err(LookError::Memory),
         },
+        Err(AllocError) => Err(LookError::Memory),
     }
 }
 

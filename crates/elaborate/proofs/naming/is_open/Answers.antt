@@ -2,4 +2,4 @@ use Rattle.elaborate.proofs.Named.{open_is}
 use Rattle.elaborate.proofs.naming.is_open.Goals as goal
 
 pub returns : goal.returns
-returns c = open_is c.args.term.now c.args.bindings.now c.oldest_first.result.now c.args.place c.has_free_first.result c.oldest_first.ensures c.has_free_first.ensures
+returns c = open_is c.args.term.now c.args.bindings.now c.args.place c.has_free_first.result c.has_free_first.ensures
