@@ -34,6 +34,7 @@ use apply::Rules;
 use bodies::typed_body;
 pub use error::JudgeError;
 use look_ahead::ends;
+use name_index::Named;
 use naming::judge_named;
 use smt_meaning::{Body, Bytes, SExpr, Sort, TermId};
 use smt_sorts::Table;
@@ -53,6 +54,14 @@ pub struct TypedTerm {
 pub struct Parameter {
     pub name: Bytes,
     pub sort: Sort,
+}
+
+impl Named for Parameter {
+    ghost name = { λ p. p.name };
+
+    fn name(&self) -> &[u8] {
+        self.name.as_slice()
+    }
 }
 
 /// The body of a definition, and its sort.

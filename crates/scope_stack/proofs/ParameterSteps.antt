@@ -1,6 +1,8 @@
 -- Judging parameters and bodies.
-use Rattle.std.proofs.Common.{◌≡◌, ◌∙◌, sym, refl, ap, ap₂, ℕ, ◌+◌, Bool, true, false, not, List, [], ◌∷◌, ◌++◌, map, length, arith, append_assoc, Some, bytes_eq, if◌then◌else◌}
-use Rattle.std.proofs.lemmas.List.{append-nil, length_push}
+use Rattle.std.proofs.Common.{◌≡◌, ◌∙◌, sym, refl, ap, ap₂, ℕ, ◌+◌, Bool, true, false, not, List, [], ◌∷◌, ◌++◌, map, length, arith, append_assoc, Some, None, ◌<◌, bytes_eq, if◌then◌else◌}
+use Rattle.std.specs.Prelude.{reverse, is_some}
+use Rattle.std.proofs.lemmas.List.{append-nil, length_push, map-append, reverse-append}
+use Rattle.name_index.specs.Newest.{first_named, newest_named, IsNewest}
 use Rattle.elaborate.specs.declared.Parameter.{Parameter}
 use Rattle.elaborate.specs.Judged.{parameters_from, variables_of}
 use Rattle.smt_meaning.specs.declared.values.Sort.{Sort}
@@ -18,7 +20,7 @@ use Rattle.smt_meaning.specs.StackCommand.{declares, Bodied, judge_sort, judge_p
 use Rattle.smt_sorts.specs.Names.{Names}
 use Rattle.scope_stack.specs.declared.answers.StackError.{StackError}
 use Rattle.scope_stack.specs.declared.answers.StackError.TheVariants.{Refused, Memory}
-use Rattle.scope_stack.specs.Judged.{scope_by, IsError, Gives, Causes, Adds, names_onto, names_before, IsParameter, one_parameter, Continues, body_of_sort, IsBody, sort_of}
+use Rattle.scope_stack.specs.Judged.{scope_by, IsError, Gives, Causes, Adds, names_onto, names_before, parameter_name, IsParameter, one_parameter, Continues, body_of_sort, IsBody, sort_of}
 use Rattle.scope_stack.proofs.Steps.{bind_done, next_done, next_refused, return_done, require_done, require_refused, bind_cause, next_cause, bind_then, next_then}
 use Rattle.scope_stack.proofs.SortSteps.{error_cause}
 
@@ -28,22 +30,30 @@ names-push : (before : List (List ℕ)) (ps : List Parameter) (p : Parameter) �
 names-push before [] p = refl
 names-push before (q ∷ ps) p = names-push (q.name ∷ before) ps p
 
-pub last_name : (n : List ℕ) (ps : List Parameter) (p : Parameter) → is_one_of n (names_before (ps ++ p ∷ [])) ≡ is_one_of n (p.name ∷ names_before ps)
-last_name n ps p = ap (is_one_of n) (names-push [] ps p)
+names_reversed : (before : List (List ℕ)) (ps : List Parameter) → names_onto before ps ≡ map parameter_name (reverse ps) ++ before
+names_reversed before [] = refl
+names_reversed before (p ∷ ps) =
+    names_reversed (p.name ∷ before) ps ∙ sym (append_assoc (map parameter_name (reverse ps)) (p.name ∷ []) before)
+    ∙ ap (λ ns. ns ++ before) (sym (map-append parameter_name (reverse ps) (p ∷ []))) ∙ ap (λ qs. map parameter_name qs ++ before) (sym (reverse-append (p ∷ []) ps))
 
-found_at : (n : List ℕ) (q : Parameter) (before : List (List ℕ)) (b : Bool) → b ≡ true → (if b then true else is_one_of n before) ≡ true
-found_at n q before b e = rw e refl
+one_where : (n : List ℕ) (ps : List Parameter) → is_one_of n (map parameter_name ps) ≡ is_some (first_named parameter_name n ps)
+one_where n [] = refl
+one_where n (p ∷ ps) = go (one_where n ps) (bytes_eq n p.name)
+  where
+    go : is_one_of n (map parameter_name ps) ≡ is_some (first_named parameter_name n ps) → (b : Bool)
+        → (if b then true else is_one_of n (map parameter_name ps)) ≡ is_some (if b then Some p else first_named parameter_name n ps)
+    go same true = refl
+    go same false = same
 
-not_at : (n : List ℕ) (before : List (List ℕ)) (b : Bool) → b ≡ false → (if b then true else is_one_of n before) ≡ is_one_of n before
-not_at n before b e = rw e refl
+before_newest : (n : List ℕ) (ps : List Parameter) → is_one_of n (names_before ps) ≡ is_some (newest_named parameter_name n ps)
+before_newest n ps = ap (is_one_of n) (names_reversed [] ps ∙ append-nil (map parameter_name (reverse ps))) ∙ one_where n (reverse ps)
 
-pub found_before : (n : List ℕ) (all rest others : List Parameter) (q : Parameter) → is_one_of n (names_before all) ≡ is_one_of n (names_before rest) → rest ≡ others ++ q ∷ [] → bytes_eq n q.name ≡ true
-    → is_one_of n (names_before all) ≡ true
-found_before n all rest others q h e f = h ∙ ap (λ ps. is_one_of n (names_before ps)) e ∙ last_name n others q ∙ found_at n q (names_before others) (bytes_eq n q.name) f
+pub found_before : (n : List ℕ) (ps : List Parameter) (i : ℕ) → IsNewest parameter_name n ps i → true ≡ is_one_of n (names_before ps)
+found_before n [] i h = let short : i < 0 = h.within in absurd (omega arith)
+found_before n (p ∷ ps) i h = sym (before_newest n (p ∷ ps) ∙ ap is_some (h.newest p))
 
-pub other_before : (n : List ℕ) (all rest others : List Parameter) (q : Parameter) → is_one_of n (names_before all) ≡ is_one_of n (names_before rest) → rest ≡ others ++ q ∷ [] → bytes_eq n q.name ≡ false
-    → is_one_of n (names_before all) ≡ is_one_of n (names_before others)
-other_before n all rest others q h e f = h ∙ ap (λ ps. is_one_of n (names_before ps)) e ∙ last_name n others q ∙ not_at n (names_before others) (bytes_eq n q.name) f
+pub never_before : (n : List ℕ) (ps : List Parameter) → newest_named parameter_name n ps ≡ None → false ≡ is_one_of n (names_before ps)
+never_before n ps h = sym (before_newest n ps ∙ ap is_some h)
 
 -- ---- one parameter
 

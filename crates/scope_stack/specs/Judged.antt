@@ -102,6 +102,9 @@ names_onto before (p ∷ ps) = names_onto (p.name ∷ before) ps
 abbrev pub names_before : List Parameter → List (List ℕ)
 names_before ps = names_onto [] ps
 
+abbrev pub parameter_name : Parameter → List ℕ
+parameter_name p = p.name
+
 abbrev pub sort_of : Parameter → Sort
 sort_of p = p.sort
 

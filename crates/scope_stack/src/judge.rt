@@ -1,18 +1,21 @@
 //! Judging the names and the sorts of a declaration.
 ghost use Rattle.elaborate.specs.Judged.{variables_of};
-ghost use Rattle.std.specs.Prelude.{◌≡◌, [], bytes_eq, map, None, OnOk, IfOk, IfErr};
+ghost use Rattle.std.specs.Prelude.{◌≡◌, ◌++◌, ◌∷◌, [], map, None, OnOk, IfOk, IfErr};
 ghost use Rattle.smt_meaning.specs.Signature.{find_function, find_sort, is_one_of, sort_eq};
 ghost use Rattle.smt_meaning.specs.StackCommand.{judge_parameters, judge_sort, judge_sorts, new_function_name, new_sort_name};
 ghost use Rattle.smt_sorts.specs.Names.{signature};
-ghost use Rattle.scope_stack.specs.Judged.{Gives, Causes, IsBody, IsError, IsParameter, body_of_sort, name_refusal, names_before, one_parameter, sort_of};
+ghost use Rattle.scope_stack.specs.Judged.{Gives, Causes, IsBody, IsError, IsParameter, body_of_sort, name_refusal, names_before, one_parameter, parameter_name, sort_of};
+ghost use Rattle.name_index.specs.Newest.{hashes_of};
 
 use crate::answers::StackError;
 use crate::term::judge_error;
 use elaborate::Parameter as Judged;
+use name_index::{find, hash};
 use smt_meaning::language::{Parameter, WrittenSort};
 use smt_meaning::{Body, Refusal, SExpr, Seq, Sort, Token};
 use smt_sorts::{NameError, Table};
 use std::alloc::{AllocError, Global};
+use term_store::HashIndex;
 
 fn name_error(alloc: Global, error: NameError, name: &[u8]) -> StackError
     ensures { IsError (name_refusal error name.now) result }
@@ -96,24 +99,15 @@ pub(crate) fn judge_sorts(
     Ok(judged)
 }
 
-fn is_name(one: &[u8], other: &[u8]) -> bool
-    ensures { result ≡ bytes_eq one.now other.now }
-{
-    one == other
-}
-
-/// Whether a name is that of one of these.
-fn is_before(name: &[u8], before: &[Judged]) -> bool
+/// Whether a name is that of one of these, whose names are filed in an index.
+fn is_before(name: &[u8], before: &[Judged], filed: &HashIndex) -> bool
+    requires { filed.now ≡ hashes_of parameter_name before.now }
     ensures { result ≡ is_one_of name.now (names_before before.now) }
 {
-    let mut rest = before;
-    while let Some((last, others)) = rest.split_last() {
-        if is_name(name, last.name.as_slice()) {
-            return true;
-        }
-        rest = others;
+    match find(before, filed, name) {
+        Some(_) => true,
+        None => false,
     }
-    false
 }
 
 fn bound_twice(alloc: Global, name: &[u8]) -> StackError
@@ -129,18 +123,38 @@ fn judge_parameter(
     alloc: Global,
     parameter: &Parameter,
     before: &[Judged],
+    filed: &HashIndex,
     table: &Table,
 ) -> Result<Judged, StackError>
+    requires { filed.now ≡ hashes_of parameter_name before.now }
     ensures gives { IfOk result (IsParameter before.now parameter.now table.now) }
     ensures causes { IfErr result (Causes (one_parameter before.now parameter.now) table.now) }
 {
     let name = parameter.name.as_slice();
-    if is_before(name, before) {
+    if is_before(name, before, filed) {
         return Err(bound_twice(alloc, name));
     }
     let sort = judge_sort(alloc, &parameter.sort, table)?;
     let name = Seq::copy(alloc, name)?;
     Ok(Judged { name, sort })
+}
+
+/// Adds a parameter, whose name is filed.
+fn append(
+    judged: &mut Vec<Judged>,
+    filed: &mut HashIndex,
+    parameter: Judged,
+) -> Result<(), AllocError>
+    requires { filed.old ≡ hashes_of parameter_name judged.old.items }
+    ensures items { OnOk result (judged.new.items ≡ judged.old.items ++ parameter ∷ []) }
+    ensures filed { OnOk result (filed.new ≡ hashes_of parameter_name judged.new.items) }
+{
+    if judged.len() >= u32::MAX as usize {
+        return Err(AllocError);
+    }
+    filed.push(hash(parameter.name.as_slice()))?;
+    judged.push(parameter)?;
+    Ok(())
 }
 
 /// The parameters that are written so.
@@ -153,10 +167,11 @@ pub(crate) fn judge_parameters(
     ensures causes { IfErr result (Causes (judge_parameters 0 [] parameters.now) table.now) }
 {
     let mut judged = Vec::new(alloc);
+    let mut filed = HashIndex::new(alloc);
     let mut rest = parameters;
     while let Some((first, tail)) = rest.split_first() {
-        let parameter = judge_parameter(alloc, first, judged.as_slice(), table)?;
-        judged.push(parameter)?;
+        let parameter = judge_parameter(alloc, first, judged.as_slice(), &filed, table)?;
+        append(&mut judged, &mut filed, parameter)?;
         rest = tail;
     }
     Ok(judged)
