@@ -6,3 +6,4 @@ pub mod Pivots
 pub mod Short
 pub mod Spans
 pub mod Keeping
+pub mod Lines

@@ -1,10 +1,14 @@
 -- Runs of next steps of a grid, and how many pivots they have.
-use Rattle.std.specs.Prelude.{◌≡◌, ℕ, suc, ◌+◌, ◌^◌, ◌<◌, ◌≤◌, true, false, List, [], ◌∷◌, length, slice_index_or, ℤ, Some, None}
+use Rattle.std.specs.Prelude.{◌≡◌, ℕ, suc, ◌+◌, ◌^◌, ◌<◌, ◌≤◌, true, false, List, [], ◌∷◌, ◌++◌, length, slice_index_or, ℤ, Option, Some, None, All}
 use Rattle.number_meaning.specs.Number.{is_zero}
 use Rattle.grid_meaning.specs.declared.Entry.{Entry}
 use Rattle.grid_meaning.specs.declared.TableRow.{TableRow}
 use Rattle.grid_meaning.specs.declared.Grid.{Grid}
-use Rattle.grid_meaning.specs.Grid.{Step, take, move, pivot, coefficient, value_at, column_at, is_basic, missed, any_crossed, next_step, after, MeetsRows}
+use Rattle.number_meaning.specs.declared.ratio.Ratio.{Ratio}
+use Rattle.grid_meaning.specs.declared.Member.{Member}
+use Rattle.grid_meaning.specs.declared.Line.{Line}
+use Rattle.grid_meaning.specs.Grid.{Step, take, move, pivot, coefficient, value_at, column_at, is_basic, entries_of, row_of, missed, any_crossed, next_step, after, MeetsRows}
+use Rattle.grid_meaning.specs.Lines.{sum_value, IsPositive, basic_member, line_of, pivot_line, IsIdentity, IsPivotLine, IsSeries}
 
 abbrev pub no_row : TableRow
 no_row = record { basic = 0; entries = [] }
@@ -70,3 +74,36 @@ MovesSettle = (g : Grid) (i : ℕ) (k : ℤ) → IsLawful g → next_step g ≡ 
 -- after a pivot all that isn't basic is within its bounds
 abbrev pub PivotsSettle : Type 0
 PivotsSettle = (g : Grid) (b : ℕ) (k : ℤ) (c : ℕ) → IsLawful g → next_step g ≡ Some (pivot b k c) → IsSettledTo (after g (pivot b k c)) (length g.columns)
+
+-- ---- lines
+
+-- the lines of the pivots of a run, in order, each of the grid before its step
+abbrev pub lines_of : Grid → List Step → List Line
+lines_of g [] = []
+lines_of g (take p ∷ ss) = lines_of (after g (take p)) ss
+lines_of g (move i k ∷ ss) = lines_of (after g (move i k)) ss
+lines_of g (pivot b k c ∷ ss) = pivot_line g b c ∷ lines_of (after g (pivot b k c)) ss
+
+-- each of them is a pivot by Bland's rule
+abbrev pub LinesArePivots : Type 0
+LinesArePivots = (g h : Grid) (ss : List Step) → IsLawful g → Runs g ss h → All IsPivotLine (lines_of g ss)
+
+-- neighbours among them differ in the basic variable, and the last one's isn't basic at the end; also after earlier lines of which this holds
+abbrev pub LinesGoOn : Type 0
+LinesGoOn = (g h : Grid) (ss : List Step) (ls : List Line) → IsLawful g → Runs g ss h → IsSeries g.rows ls → IsSeries h.rows (ls ++ lines_of g ss)
+
+-- the entry isn't 0
+abbrev pub IsNonzeroEntry : Entry → Type 0
+IsNonzeroEntry e = is_zero e.coefficient ≡ false
+
+-- a variable of the grid that isn't basic, with its column
+pub record IsFreeMember (g : Grid) (m : Member) : Type 0 where
+  pub known : m.variable < length g.columns
+  pub free : is_basic g.rows m.variable ≡ false
+  pub column : m.column ≡ column_at g m.variable
+
+-- where the rows are identities between sums of terms, so is the line of a row, whose entries are of variables that aren't basic
+abbrev pub LinesAreRows : Type 0
+LinesAreRows =
+    (g : Grid) (b : ℕ) (moves : Option ℕ) → IsLawful g → is_basic g.rows b ≡ true → ((w : ℕ → Ratio) → IsPositive w → MeetsRows g.rows (λ i. sum_value w (column_at g i).sum))
+    → All IsNonzeroEntry (entries_of (row_of g.rows b)) → IsIdentity (basic_member g b) (line_of g b moves).entries × All (IsFreeMember g) (line_of g b moves).entries

@@ -1,7 +1,7 @@
 //! The law that runs of next steps of a grid are short, as the contract of a function that does nothing.
 #![tactic(auto)]
 
-ghost use Rattle.grid_laws.specs.Law.{RunsAreShort, StepsKeep, MovesSettle, PivotsSettle};
+ghost use Rattle.grid_laws.specs.Law.{RunsAreShort, StepsKeep, MovesSettle, PivotsSettle, LinesArePivots, LinesGoOn, LinesAreRows};
 
 /// A run of next steps of n variables has fewer than 3^n pivots.
 pub fn runs_are_short()
@@ -13,4 +13,11 @@ pub fn steps_keep()
     ensures keep { StepsKeep }
     ensures moves { MovesSettle }
     ensures pivots { PivotsSettle }
+{}
+
+/// The lines of a run are pivots by Bland's rule, and neighbours among them differ in the basic variable; a line is a row of the grid, between the sums of its variables.
+pub fn lines_are_pivots()
+    ensures pivots { LinesArePivots }
+    ensures series { LinesGoOn }
+    ensures rows { LinesAreRows }
 {}
