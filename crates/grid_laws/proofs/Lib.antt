@@ -7,3 +7,4 @@ pub mod Short
 pub mod Spans
 pub mod Keeping
 pub mod Lines
+pub mod Resting

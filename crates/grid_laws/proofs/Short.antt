@@ -56,7 +56,7 @@ basic_before n g b k c j good t nb nc free =
         by_leaving false w = free m lm (sym (basic_stays n g.rows t.place c m lm (differs (basic_at g.rows m) (basic_at g.rows t.place) w)) ∙ e)
 
 -- and the other way
-free_before : (n : ℕ) (g : Grid) (b : ℕ) (k : ℤ) (c j : ℕ) → Good n g → Turning n g b c → j ≢ b → IsFree (after_pivot g b k c).rows j → IsFree g.rows j
+pub free_before : (n : ℕ) (g : Grid) (b : ℕ) (k : ℤ) (c j : ℕ) → Good n g → Turning n g b c → j ≢ b → IsFree (after_pivot g b k c).rows j → IsFree g.rows j
 free_before n g b k c j good t nb free m lm e = free' m (subst (λ q. m < q) (sym (length_after n g.rows (basic_at g.rows t.place) c)) lm) (basic_stays n g.rows t.place c m lm (λ w. nb (sym e ∙ w ∙ t.is_place)) ∙ e)
   where
     free' : IsFree (pivoted_rows n g.rows (basic_at g.rows t.place) c) j

@@ -1,8 +1,9 @@
 -- Runs of next steps of a grid, and how many pivots they have.
-use Rattle.std.specs.Prelude.{◌≡◌, ℕ, suc, ◌+◌, ◌^◌, ◌<◌, ◌≤◌, true, false, List, [], ◌∷◌, ◌++◌, length, slice_index_or, ℤ, Option, Some, None, All}
-use Rattle.number_meaning.specs.Number.{is_zero}
+use Rattle.std.specs.Prelude.{◌≡◌, ℕ, suc, ◌+◌, ◌^◌, ◌<◌, ◌≤◌, ◌⊎◌, true, false, List, [], ◌∷◌, ◌++◌, length, slice_index_or, ℤ, Option, Some, None, All}
+use Rattle.number_meaning.specs.Number.{whole, is_zero}
 use Rattle.grid_meaning.specs.declared.Entry.{Entry}
 use Rattle.grid_meaning.specs.declared.TableRow.{TableRow}
+use Rattle.grid_meaning.specs.declared.Column.{Column}
 use Rattle.grid_meaning.specs.declared.Grid.{Grid}
 use Rattle.number_meaning.specs.declared.ratio.Ratio.{Ratio}
 use Rattle.grid_meaning.specs.declared.Member.{Member}
@@ -107,3 +108,16 @@ abbrev pub LinesAreRows : Type 0
 LinesAreRows =
     (g : Grid) (b : ℕ) (moves : Option ℕ) → IsLawful g → is_basic g.rows b ≡ true → ((w : ℕ → Ratio) → IsPositive w → MeetsRows g.rows (λ i. sum_value w (column_at g i).sum))
     → All IsNonzeroEntry (entries_of (row_of g.rows b)) → IsIdentity (basic_member g b) (line_of g b moves).entries × All (IsFreeMember g) (line_of g b moves).entries
+
+-- ---- values that rest
+
+-- the value is one of the column's bounds
+abbrev pub IsAtBound : Column → Type 0
+IsAtBound c = (k : ℤ) × (c.value ≡ whole k) × ((c.lower ≡ Some k) ⊎ (c.upper ≡ Some k))
+
+-- what isn't basic in the second grid stands at one of its bounds there, or it wasn't basic in the first one and has the value that it had there
+abbrev pub KeepsResting : Grid → Grid → Type 0
+KeepsResting g h = (j : ℕ) → j < length h.columns → is_basic h.rows j ≡ false → IsAtBound (column_at h j) ⊎ ((is_basic g.rows j ≡ false) × (value_at h j ≡ value_at g j))
+
+abbrev pub RunsRest : Type 0
+RunsRest = (g h : Grid) (ss : List Step) → IsLawful g → Runs g ss h → KeepsResting g h

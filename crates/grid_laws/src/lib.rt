@@ -1,7 +1,7 @@
 //! The law that runs of next steps of a grid are short, as the contract of a function that does nothing.
 #![tactic(auto)]
 
-ghost use Rattle.grid_laws.specs.Law.{RunsAreShort, StepsKeep, MovesSettle, PivotsSettle, LinesArePivots, LinesGoOn, LinesAreRows};
+ghost use Rattle.grid_laws.specs.Law.{RunsAreShort, StepsKeep, MovesSettle, PivotsSettle, LinesArePivots, LinesGoOn, LinesAreRows, RunsRest};
 
 /// A run of next steps of n variables has fewer than 3^n pivots.
 pub fn runs_are_short()
@@ -20,4 +20,9 @@ pub fn lines_are_pivots()
     ensures pivots { LinesArePivots }
     ensures series { LinesGoOn }
     ensures rows { LinesAreRows }
+{}
+
+/// After a run what isn't basic stands at one of its bounds, or it wasn't basic before and has the value that it had.
+pub fn values_rest()
+    ensures { RunsRest }
 {}

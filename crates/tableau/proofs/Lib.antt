@@ -11,3 +11,4 @@ pub mod PivotedRows
 pub mod FitTests
 pub mod Places
 pub mod Writing
+pub mod PlaceLemmas

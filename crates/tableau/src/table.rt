@@ -9,6 +9,7 @@ ghost use Rattle.tableau.specs.Rows.{IsAscending, variable_at, coefficient_at};
 ghost use Rattle.tableau.specs.Staged.{Lacks, HasEntry};
 
 use crate::failure::Failure;
+use crate::row_places::{add_row, exchange, place_in};
 use crate::rows::{Row, check_fractions, pivot_rows, try_pivot_rows};
 use crate::search::coefficient_in;
 use fraction128::Fraction;
@@ -20,6 +21,8 @@ use std::marker::Model;
 #[derive(Drop)]
 pub struct Tableau {
     rows: Vec<Row>,
+    /// For each variable the place of its row, where it is basic. It may end before the variables do: those past it aren't basic.
+    places: Vec<Option<usize>>,
     form: Vec<Entry>,
     count: u32,
 }
@@ -31,10 +34,11 @@ impl Model for Tableau {
 
     ghost use Rattle.std.specs.Prelude.{map};
     ghost use Rattle.tableau.specs.Table.{plain, IsTableau};
+    ghost use Rattle.tableau.specs.Places.{IsPlaced};
 
     ghost view = { λ t. record { count = t.count; rows = map plain t.rows.items } };
 
-    ghost invariant = { λ t. IsTableau t.count t.rows.items };
+    ghost invariant = { λ t. IsTableau t.count t.rows.items × IsPlaced t.count t.rows.items t.places.items };
 }
 
 impl Tableau {
@@ -46,6 +50,7 @@ impl Tableau {
     {
         Tableau {
             rows: Vec::new(alloc),
+            places: Vec::new(alloc),
             form: Vec::new(alloc),
             count: 0,
         }
@@ -90,13 +95,17 @@ impl Tableau {
     {
         let basic = self.count;
         check_fractions(&entries);
-        self.rows.push(Row {
-            basic,
-            entries,
-            next_basic: basic,
-            next: Vec::new(alloc),
-            changes: false,
-        })?;
+        add_row(
+            &mut self.rows,
+            &mut self.places,
+            Row {
+                basic,
+                entries,
+                next_basic: basic,
+                next: Vec::new(alloc),
+                changes: false,
+            },
+        )?;
         self.count += 1;
         Ok(basic)
     }
@@ -141,7 +150,6 @@ impl Tableau {
     }
 
     /// The place of the row of a basic variable.
-    #[tactic(auto, using(crate::proofs::Places::row_first, crate::proofs::Places::row_none))]
     pub fn place_of(&self, variable: u32) -> Option<usize>
         ensures some { IfSome result (λ k. k < length self.now.rows) }
         ensures basic { IfSome result (λ k. (row_at self.now.rows k).basic ≡ variable) }
@@ -149,12 +157,7 @@ impl Tableau {
         ensures none { IfNone result ((k : ℕ) → k < length self.now.rows → (row_at self.now.rows k).basic ≢ variable) }
         ensures lacks { IfNone result (row_of self.now.rows variable ≡ None) }
     {
-        for place in 0..self.len() {
-            if self.basic(place) == variable {
-                return Some(place);
-            }
-        }
-        None
+        place_in(&self.places, variable)
     }
 
     /// Whether a variable is basic.
@@ -162,12 +165,7 @@ impl Tableau {
         ensures yes { result ≡ true → (k : ℕ) × (k < length self.now.rows) × ((row_at self.now.rows k).basic ≡ variable) }
         ensures no { result ≡ false → (k : ℕ) → k < length self.now.rows → (row_at self.now.rows k).basic ≢ variable }
     {
-        for place in 0..self.len() {
-            if self.basic(place) == variable {
-                return true;
-            }
-        }
-        false
+        self.place_of(variable).is_some()
     }
 
     /// Makes the entering variable basic in place of that of the row. The solutions of the rows stay; an `Err` changes nothing.
@@ -184,7 +182,10 @@ impl Tableau {
         ensures range { IfErr result (λ e. IsRange e → pivot_fits self.old.count self.old.rows (row_at self.old.rows place).basic entering ≡ false) }
         ensures err { OnErr result (self.new ≡ self.old) }
     {
-        pivot_rows(&mut self.rows, &mut self.form, place, entering)
+        let basic = self.rows[place].basic;
+        let made = pivot_rows(&mut self.rows, &mut self.form, place, entering);
+        exchange(&mut self.places, &made, basic, entering, place);
+        made
     }
 
     /// Tries a pivot, and leaves the rows as they are.

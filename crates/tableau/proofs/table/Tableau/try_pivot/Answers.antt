@@ -2,12 +2,16 @@ use Rattle.std.proofs.Common.{◌∙◌, ap}
 use Rattle.tableau.specs.Table.{Table, no_row}
 use Rattle.tableau.proofs.FitTests.{tried_fits_so, refused_so}
 use Rattle.tableau.proofs.TableLemmas.{tried_kept, tried_same}
+use Rattle.tableau.proofs.PlaceLemmas.{tried_placed}
 use Rattle.tableau.proofs.table.Tableau.try_pivot.Goals as goal
 
 pub invariant_of-self : goal.invariant_of-self
-invariant_of-self c =
-    tried_kept c.self.inside.rows.len c.self.inside.count c.self.inside.rows.items c.deref_mut.result.now c.try_pivot_rows.new.rows
-    c.self.invariant c.deref_mut.ensures.value c.self.inside.rows.ok.0 c.try_pivot_rows.auto.rows c.try_pivot_rows.ensures.same
+invariant_of-self c = (
+  tried_kept c.self.inside.rows.len c.self.inside.count c.self.inside.rows.items c.deref_mut.result.now c.try_pivot_rows.new.rows
+      c.self.invariant.0 c.deref_mut.ensures.value c.self.inside.rows.ok.0 c.try_pivot_rows.auto.rows c.try_pivot_rows.ensures.same,
+  tried_placed c.self.inside.rows.len c.self.inside.count c.self.inside.rows.items c.deref_mut.result.now c.try_pivot_rows.new.rows c.self.inside.places.items
+      c.self.invariant.1 c.deref_mut.ensures.value c.self.inside.rows.ok.0 c.try_pivot_rows.auto.rows c.try_pivot_rows.ensures.same,
+)
 
 pub returns-clause-same : goal.returns-clause-same
 returns-clause-same c =
@@ -18,9 +22,9 @@ returns-clause-same c =
 pub returns-clause-fits : goal.returns-clause-fits
 returns-clause-fits c =
     tried_fits_so c.try_pivot_rows.result c.self.inside.rows.items c.deref_mut.result.now c.try_pivot_rows.new.rows c.args.self.now.rows no_row c.self.inside.count c.args.self.now.count c.args.entering c.args.place
-    c.self.invariant (ap (λ (t : Table). t.rows) c.self.view_is) (ap (λ (t : Table). t.count) c.self.view_is) c.requires.place c.deref_mut.ensures.value c.try_pivot_rows.ensures.same c.try_pivot_rows.ensures.ok
+    c.self.invariant.0 (ap (λ (t : Table). t.rows) c.self.view_is) (ap (λ (t : Table). t.count) c.self.view_is) c.requires.place c.deref_mut.ensures.value c.try_pivot_rows.ensures.same c.try_pivot_rows.ensures.ok
 
 pub returns-clause-range : goal.returns-clause-range
 returns-clause-range c =
     refused_so c.try_pivot_rows.result c.self.inside.rows.items c.deref_mut.result.now c.args.self.now.rows no_row c.self.inside.count c.args.self.now.count c.args.entering c.args.place
-    c.self.invariant (ap (λ (t : Table). t.rows) c.self.view_is) (ap (λ (t : Table). t.count) c.self.view_is) c.requires.place c.deref_mut.ensures.value c.try_pivot_rows.ensures.range
+    c.self.invariant.0 (ap (λ (t : Table). t.rows) c.self.view_is) (ap (λ (t : Table). t.count) c.self.view_is) c.requires.place c.deref_mut.ensures.value c.try_pivot_rows.ensures.range
