@@ -1,0 +1,4 @@
+pub mod Given
+pub mod Building
+pub mod Keys
+pub mod Filling
