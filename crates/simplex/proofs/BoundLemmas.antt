@@ -24,7 +24,8 @@ use Rattle.simplex_steps.specs.State.{column_in, no_column, values, IsRanged, Ar
 use Rattle.simplex_steps.specs.Conflict.{Stands, IsConflict}
 use Rattle.simplex_steps.specs.Run.{IsRun, Ends}
 use Rattle.simplex_steps.specs.Run as Steps
-use Rattle.sum_laws.specs.Sums.{sum_value, column_values, IsMeant}
+use Rattle.grid_meaning.specs.Lines.{sum_value}
+use Rattle.sum_laws.specs.Sums.{column_values, IsMeant}
 use Rattle.sum_laws.proofs.Meaning.{runs_keep}
 use Rattle.simplex.specs.declared.state.Verdict.{Verdict}
 use Rattle.simplex.specs.declared.state.Verdict.TheVariants.{Fits, Conflict, Range, UnitsSpent, Memory}

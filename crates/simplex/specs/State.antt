@@ -8,6 +8,7 @@ use Rattle.grid_meaning.specs.declared.Column.{Column}
 use Rattle.grid_meaning.specs.declared.Bound.{Bound}
 use Rattle.grid_meaning.specs.declared.Side.TheVariants.{Lower, Upper}
 use Rattle.grid_meaning.specs.declared.TableRow.{TableRow}
+use Rattle.grid_meaning.specs.Lines.{NextFails}
 use Rattle.grid_meaning.specs.Grid.{next_step, entries_value, entries_value_fits, no_coefficients}
 use Rattle.tableau.specs.declared.sum.Part.{Part}
 use Rattle.tableau.specs.Written.{parts_row, parts_fit}
@@ -18,7 +19,7 @@ use Rattle.bound_trail.specs.declared.trail.Held.{Held}
 use Rattle.bound_trail.specs.Trail.{Trail, tightest, number_of, set_at}
 use Rattle.simplex_steps.specs.State.{grid_of, column_in, values, IsSolution}
 use Rattle.simplex_steps.specs.Conflict.{IsConflict}
-use Rattle.simplex_steps.specs.Run.{AreWithin, NextFails, NextPivotFits}
+use Rattle.simplex_steps.specs.Run.{AreWithin, NextPivotFits}
 use Rattle.simplex_steps.specs.declared.run.Outcome.{Outcome}
 use Rattle.simplex_steps.specs.declared.run.Outcome.TheVariants.{Fits as AllFit, Conflict as Clash, Range as NoFit, UnitsSpent as Spent, Memory as NoMemory}
 use Rattle.simplex.specs.declared.state.Verdict.{Verdict}

@@ -4,5 +4,5 @@
 mod state;
 
 pub use bound_trail::Set;
-pub use simplex_steps::Outcome;
+pub use simplex_steps::{Outcome, PivotLines};
 pub use state::{Answer, Simplex, Verdict};

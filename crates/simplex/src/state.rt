@@ -9,15 +9,16 @@ ghost use Rattle.tableau.specs.Failing.{IsRange};
 ghost use Rattle.tableau.specs.Table.{IsOpenRow};
 ghost use Rattle.tableau.specs.Written.{AreParts, parts_row};
 ghost use Rattle.sum_laws.specs.Sums.{AreMatched};
-ghost use Rattle.simplex_steps.specs.State.{column_in, values};
+ghost use Rattle.grid_laws.specs.Law.{KeepsResting};
+ghost use Rattle.simplex_steps.specs.State.{column_in, values, grid_of};
 ghost use Rattle.simplex_steps.specs.Conflict.{KnownEntries};
-ghost use Rattle.simplex_steps.specs.Run.{IsRun};
+ghost use Rattle.simplex_steps.specs.Run.{IsRun, KeepsLines};
 ghost use Rattle.simplex.specs.State.{IsState, KeepsValues, HasBounds, Judges, SpendsRoom, tag_in, tag_or, refreshed, KnownBounds, IsVerdict, new_column, with_row, row_value_of, row_fits};
 
 use bound_trail::{BoundTrail, Held, Set};
 use fraction128::{Fraction, Range};
 use grid_meaning::{Bound, Column, Entry, Seq, Side, Sum, Summand};
-use simplex_steps::{Checked, Moved, Outcome, check, moved_by};
+use simplex_steps::{Checked, Moved, Outcome, PivotLines, check, moved_by};
 use std::alloc::{AllocError, Global};
 use std::marker::Model;
 use tableau::{Failure, Part, Tableau, write_parts};
@@ -311,19 +312,23 @@ impl Simplex {
         }
     }
 
-    /// Moves values until all variables are within their bounds, or bounds are found that no solution of the rows meets, or the next step doesn't fit, or is a pivot past the room. The steps are the next ones of the grid; the bounds and the solutions of the rows stay.
-    pub fn check(&mut self, alloc: Global, room: u64) -> Answer
+    /// Moves values until all variables are within their bounds, or bounds are found that no solution of the rows meets, or the next step doesn't fit, or is a pivot past the room. The steps are the next ones of the grid; the bounds and the solutions of the rows stay. Where lines are kept, that of each pivot is added.
+    pub fn check(&mut self, alloc: Global, kept: &mut PivotLines, room: u64) -> Answer
         ensures run { IsRun self.old.table self.old.columns self.new.table self.new.columns result.pivots }
         ensures bounds { self.new.bounds ≡ self.old.bounds }
         ensures judges { Judges self.new result.verdict }
         ensures room { SpendsRoom room result.pivots result.verdict }
         ensures most { result.pivots ≤ room }
+        ensures lines { KeepsLines kept.old.keep result.pivots (grid_of self.old.table self.old.columns) (grid_of self.new.table self.new.columns) kept.old.lines.items kept.new.lines.items }
+        ensures keep { kept.new.keep ≡ kept.old.keep }
+        ensures rests { KeepsResting (grid_of self.old.table self.old.columns) (grid_of self.new.table self.new.columns) }
     {
         let Checked { outcome, pivots } = check(
             alloc,
             &mut self.tableau,
             &mut self.columns,
             &mut self.moved,
+            kept,
             room,
         );
         let verdict = verdict_of(alloc, &self.trail, outcome);

@@ -2,3 +2,4 @@ pub mod Columns
 pub mod Next
 pub mod ConflictLemmas
 pub mod Sound
+pub mod LineLemmas

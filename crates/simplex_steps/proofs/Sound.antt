@@ -24,7 +24,8 @@ use Rattle.simplex_steps.specs.declared.run.Outcome.TheVariants.{Fits as AllFit,
 use Rattle.simplex_steps.specs.declared.find.Turn.{Turn}
 use Rattle.simplex_steps.specs.Moved.{shift_fits, moved_to, moved_fits, pivoted_to, pivoted_fits}
 use Rattle.simplex_steps.specs.State.{grid_of, column_in, no_column, values, KeepsBounds, IsRanged, AreRanged, IsSolution, IsSound, SettledBelow}
-use Rattle.simplex_steps.specs.Run.{Reaches, NextFails, NextPivotFits, IsTurn, step_of, IsRun, IsAdvanced, IsFailed, IsUnspent, SpendsRoom, Ends}
+use Rattle.grid_meaning.specs.Lines.{NextFails}
+use Rattle.simplex_steps.specs.Run.{Reaches, NextPivotFits, IsTurn, step_of, IsRun, IsAdvanced, IsFailed, IsUnspent, SpendsRoom, Ends}
 use Rattle.simplex_steps.proofs.Columns.{cell_is, keeps_none, keeps_through, moved_exact, moved_keeps, pivoted_exact, pivoted_keeps}
 use Rattle.simplex_steps.proofs.Next.{next_move}
 
@@ -71,11 +72,11 @@ sound_back u ds cs l count keeps ranged =
 pub reaches_none : (g : Grid) → Reaches 0 g g
 reaches_none g = record { steps = []; runs = refl; count = refl }
 
-runs_append : (g h k : Grid) (ss ts : List Step) → Runs g ss h → Runs h ts k → Runs g (ss ++ ts) k
+pub runs_append : (g h k : Grid) (ss ts : List Step) → Runs g ss h → Runs h ts k → Runs g (ss ++ ts) k
 runs_append g h k [] ts p q = subst (λ x. Runs x ts k) (sym p) q
 runs_append g h k (s ∷ ss) ts p q = (p.0, runs_append (after g s) h k ss ts p.1 q)
 
-pivots_append : (ss ts : List Step) → pivots (ss ++ ts) ≡ pivots ss + pivots ts
+pub pivots_append : (ss ts : List Step) → pivots (ss ++ ts) ≡ pivots ss + pivots ts
 pivots_append [] ts = omega arith
 pivots_append (take p ∷ ss) ts = pivots_append ss ts
 pivots_append (move i k ∷ ss) ts = pivots_append ss ts

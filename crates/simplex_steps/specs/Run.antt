@@ -1,11 +1,13 @@
 -- Runs of steps, and how they end.
-use Rattle.std.specs.Prelude.{◌≡◌, ℕ, ℤ, ◌<◌, ◌↔◌, true, false, List, length, Some, None}
+use Rattle.std.specs.Prelude.{◌≡◌, ℕ, ℤ, ◌<◌, ◌↔◌, Bool, true, List, [], ◌∷◌, ◌++◌, length, Some, None, All, if◌then◌else◌}
 use Rattle.number_meaning.specs.declared.ratio.Ratio.{Ratio}
 use Rattle.number_meaning.specs.Whole.{InRange}
 use Rattle.grid_meaning.specs.declared.Column.{Column}
 use Rattle.grid_meaning.specs.declared.Grid.{Grid}
 use Rattle.grid_meaning.specs.Grid.{Step, pivot, next_step, step_fits, WithinBounds, MeetsRows}
-use Rattle.grid_laws.specs.Law.{Runs, pivots}
+use Rattle.grid_meaning.specs.declared.Line.{Line}
+use Rattle.grid_meaning.specs.Lines.{NextFails, IsPivotLine, IsSeries, pivot_line}
+use Rattle.grid_laws.specs.Law.{Runs, pivots, lines_of}
 use Rattle.tableau.specs.Table.{Table, row_at}
 use Rattle.tableau.specs.Staged.{HasEntry}
 use Rattle.simplex_steps.specs.declared.find.Turn.{Turn}
@@ -29,12 +31,6 @@ pub record Reaches (n : ℕ) (g h : Grid) : Type 0 where
   pub steps : List Step
   pub runs : Runs g steps h
   pub count : pivots steps ≡ n
-
--- the next step of the grid doesn't fit
-pub record NextFails (g : Grid) : Type 0 where
-  pub step : Step
-  pub next : next_step g ≡ Some step
-  pub fails : step_fits g step ≡ false
 
 -- the next step of the grid is a pivot that fits
 pub record NextPivotFits (g : Grid) : Type 0 where
@@ -102,12 +98,36 @@ pub record IsRun (t : Table) (cs : List Column) (u : Table) (ds : List Column) (
   pub solution : IsSolution u ds
   pub bounds : KeepsBounds cs ds
 
+-- the lines of the pivots of a run, where they are kept
+abbrev pub kept_lines : Bool → Grid → List Step → List Line
+kept_lines keep g ss = if keep then lines_of g ss else []
+
+-- next steps, n of them pivots, lead from g to h; where lines are kept, those of the pivots come after the lines before
+pub record Records (keep : Bool) (n : ℕ) (g h : Grid) (before now : List Line) : Type 0 where
+  pub steps : List Step
+  pub runs : Runs g steps h
+  pub count : pivots steps ≡ n
+  pub kept : now ≡ before ++ kept_lines keep g steps
+
+-- the same, where each of the new lines is a pivot by Bland's rule, and neighbours differ in the basic variable
+pub record KeepsLines (keep : Bool) (n : ℕ) (g h : Grid) (before now : List Line) : Type 0 where
+  pub steps : List Step
+  pub runs : Runs g steps h
+  pub count : pivots steps ≡ n
+  pub kept : now ≡ before ++ kept_lines keep g steps
+  pub pivots : All IsPivotLine (lines_of g steps)
+  pub series : keep ≡ true → IsSeries g.rows before → IsSeries h.rows now
+
+-- the line of a turn, where lines are kept
+abbrev pub turn_lines : Bool → Table → List Column → Turn → List Line
+turn_lines keep t cs turn = if keep then pivot_line (grid_of t cs) (row_at t.rows turn.place).basic turn.entering ∷ [] else []
+
 -- one step, which keeps all as it should be, or an end, which changes nothing
 pub record IsAdvanced (t : Table) (cs : List Column) (u : Table) (ds : List Column) : Type 0 where
   pub run : IsRun t cs u ds 1
   pub sound : IsSound u ds
   pub settled : IsSettled u ds
 
-abbrev pub Advances : Table → List Column → Table → List Column → Progress → Type 0
-Advances t cs u ds Pivoted = IsAdvanced t cs u ds
-Advances t cs u ds (Ended o) = (u ≡ t) × (ds ≡ cs) × Ends t cs o × IsUnspent o
+abbrev pub Advances : Bool → Table → List Column → List Line → Table → List Column → List Line → Progress → Type 0
+Advances keep t cs ls u ds ms Pivoted = IsAdvanced t cs u ds × Records keep 1 (grid_of t cs) (grid_of u ds) ls ms
+Advances keep t cs ls u ds ms (Ended o) = (u ≡ t) × (ds ≡ cs) × (ms ≡ ls) × Ends t cs o × IsUnspent o

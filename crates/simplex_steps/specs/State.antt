@@ -5,6 +5,8 @@ use Rattle.number_meaning.specs.Whole.{InRange}
 use Rattle.number_meaning.specs.Number.{whole}
 use Rattle.grid_meaning.specs.declared.Column.{Column}
 use Rattle.grid_meaning.specs.declared.TableRow.{TableRow}
+use Rattle.grid_meaning.specs.declared.Entry.{Entry}
+use Rattle.grid_meaning.specs.declared.Member.{Member}
 use Rattle.grid_meaning.specs.declared.Grid.{Grid}
 use Rattle.grid_meaning.specs.Grid.{missed, MeetsRows, any_crossed, is_basic}
 use Rattle.tableau.specs.Table.{Table, row_at}
@@ -20,6 +22,10 @@ column_in cs i = slice_index_or cs i no_column
 
 abbrev pub values : List Column → ℕ → Ratio
 values cs i = (column_in cs i).value
+
+-- an entry with the column of its variable
+abbrev pub member_in : List Column → Entry → Member
+member_in cs e = record { variable = e.variable; coefficient = e.coefficient; column = column_in cs e.variable }
 
 -- the values are numbers that meet the rows
 pub record IsSolution (t : Table) (cs : List Column) : Type 0 where

@@ -4,9 +4,11 @@
 mod bounds;
 mod conflict;
 mod find;
+mod line;
 mod moves;
 mod run;
 mod turn;
 
+pub use line::PivotLines;
 pub use moves::{Moved, moved_by};
 pub use run::{Checked, Outcome, check};

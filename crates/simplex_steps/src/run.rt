@@ -1,14 +1,16 @@
 //! The search for values within all bounds.
 ghost use Rattle.std.specs.Prelude.{◌≡◌, ℕ, ◌+◌, ◌<◌, ◌≤◌, true, false, length, OnOk, IfOk, Some, None};
 ghost use Rattle.grid_meaning.specs.Grid.{is_crossed};
+ghost use Rattle.grid_laws.specs.Law.{KeepsResting};
 ghost use Rattle.tableau.specs.Table.{Table};
 ghost use Rattle.simplex_steps.specs.State.{column_in, grid_of, IsSolution, AreRanged, IsSound, IsSettled, KeepsBounds};
-ghost use Rattle.simplex_steps.specs.Run.{Reaches, SameSolutions, Ends, SpendsRoom, Advances, IsFailed, IsUnspent, IsRun};
+ghost use Rattle.simplex_steps.specs.Run.{Reaches, SameSolutions, Ends, SpendsRoom, Advances, IsFailed, IsUnspent, IsRun, Records, KeepsLines};
 
 use crate::conflict::explain_crossed;
 use crate::find::{Found, find, first_crossed};
+use crate::line::PivotLines;
 use crate::moves::Moved;
-use crate::turn::{make_turn, settle, try_turn};
+use crate::turn::{record_turn, settle, try_turn};
 use fraction128::Range;
 use grid_meaning::{Bound, Column};
 use std::alloc::Global;
@@ -59,16 +61,18 @@ fn advance(
     tableau: &mut Tableau,
     columns: &mut [Column],
     moved: &mut Vec<Moved>,
+    kept: &mut PivotLines,
 ) -> Progress
     requires sound { IsSound tableau.old columns.old }
     requires settled { IsSettled tableau.old columns.old }
-    ensures { Advances tableau.old columns.old tableau.new columns.new result }
+    ensures advances { Advances kept.old.keep tableau.old columns.old kept.old.lines.items tableau.new columns.new kept.new.lines.items result }
+    ensures keep { kept.new.keep ≡ kept.old.keep }
 {
     match find(alloc, tableau, columns) {
         Err(_) => Progress::Ended(Outcome::Memory),
         Ok(Found::Fits) => Progress::Ended(Outcome::Fits),
         Ok(Found::Conflict(bounds)) => Progress::Ended(Outcome::Conflict(bounds)),
-        Ok(Found::Pivot(turn)) => match make_turn(tableau, columns, moved, turn) {
+        Ok(Found::Pivot(turn)) => match record_turn(alloc, tableau, columns, moved, kept, turn) {
             Ok(()) => Progress::Pivoted,
             Err(failure) => Progress::Ended(failed(failure)),
         },
@@ -104,17 +108,20 @@ fn search(
     tableau: &mut Tableau,
     columns: &mut [Column],
     moved: &mut Vec<Moved>,
+    kept: &mut PivotLines,
     room: u64,
 ) -> Checked
     requires sound { IsSound tableau.old columns.old }
     requires settled { IsSettled tableau.old columns.old }
     ensures run { IsRun tableau.old columns.old tableau.new columns.new result.pivots }
     ensures ends { Ends tableau.new columns.new result.outcome }
+    ensures lines { Records kept.old.keep result.pivots (grid_of tableau.old columns.old) (grid_of tableau.new columns.new) kept.old.lines.items kept.new.lines.items }
+    ensures keep { kept.new.keep ≡ kept.old.keep }
     ensures room { SpendsRoom room result.pivots result.outcome }
     ensures most { result.pivots ≤ room }
 {
     for pivots in 0..room {
-        match advance(alloc, tableau, columns, moved) {
+        match advance(alloc, tableau, columns, moved, kept) {
             Progress::Pivoted => (),
             Progress::Ended(outcome) => return Checked { outcome, pivots },
         }
@@ -132,16 +139,21 @@ fn check_uncrossed(
     tableau: &mut Tableau,
     columns: &mut [Column],
     moved: &mut Vec<Moved>,
+    kept: &mut PivotLines,
     room: u64,
 ) -> Checked
     requires sound { IsSound tableau.old columns.old }
     ensures run { IsRun tableau.old columns.old tableau.new columns.new result.pivots }
     ensures ends { Ends tableau.new columns.new result.outcome }
+    ensures lines { KeepsLines kept.old.keep result.pivots (grid_of tableau.old columns.old) (grid_of tableau.new columns.new) kept.old.lines.items kept.new.lines.items }
+    ensures keep { kept.new.keep ≡ kept.old.keep }
+    ensures rests { KeepsResting (grid_of tableau.old columns.old) (grid_of tableau.new columns.new) }
     ensures room { SpendsRoom room result.pivots result.outcome }
     ensures most { result.pivots ≤ room }
 {
+    tableau.facts();
     match settle(tableau, columns, moved) {
-        Ok(()) => search(alloc, tableau, columns, moved, room),
+        Ok(()) => search(alloc, tableau, columns, moved, kept, room),
         Err(failure) => Checked {
             outcome: failed(failure),
             pivots: 0,
@@ -163,18 +175,22 @@ fn crossing(alloc: Global, columns: &[Column], variable: u32) -> Outcome
     }
 }
 
-/// Moves values by the general simplex method until all are within their bounds, or bounds are found that no solution of the rows meets, or the next step doesn't fit, or is a pivot past the room. The steps are the next ones of the grid; bounds and the solutions of the rows stay.
+/// Moves values by the general simplex method until all are within their bounds, or bounds are found that no solution of the rows meets, or the next step doesn't fit, or is a pivot past the room. The steps are the next ones of the grid; bounds and the solutions of the rows stay. Where lines are kept, that of each pivot is added.
 pub fn check(
     alloc: Global,
     tableau: &mut Tableau,
     columns: &mut [Column],
     moved: &mut Vec<Moved>,
+    kept: &mut PivotLines,
     room: u64,
 ) -> Checked
     requires solution { IsSolution tableau.old columns.old }
     requires ranged { AreRanged columns.old }
     ensures run { IsRun tableau.old columns.old tableau.new columns.new result.pivots }
     ensures ends { Ends tableau.new columns.new result.outcome }
+    ensures lines { KeepsLines kept.old.keep result.pivots (grid_of tableau.old columns.old) (grid_of tableau.new columns.new) kept.old.lines.items kept.new.lines.items }
+    ensures keep { kept.new.keep ≡ kept.old.keep }
+    ensures rests { KeepsResting (grid_of tableau.old columns.old) (grid_of tableau.new columns.new) }
     ensures room { SpendsRoom room result.pivots result.outcome }
     ensures most { result.pivots ≤ room }
 {
@@ -183,6 +199,6 @@ pub fn check(
             outcome: crossing(alloc, columns, variable),
             pivots: 0,
         },
-        None => check_uncrossed(alloc, tableau, columns, moved, room),
+        None => check_uncrossed(alloc, tableau, columns, moved, kept, room),
     }
 }

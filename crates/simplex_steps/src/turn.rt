@@ -1,20 +1,23 @@
 //! One step: a move, or a pivot.
-ghost use Rattle.std.specs.Prelude.{◌≡◌, ◌≢◌, ℕ, ◌+◌, ◌<◌, ◌≤◌, ◌↔◌, true, false, length, OnOk, OnErr, IfOk, IfErr, Some, None};
+ghost use Rattle.std.specs.Prelude.{◌≡◌, ◌≢◌, ℕ, ◌+◌, ◌<◌, ◌≤◌, ◌↔◌, ◌++◌, true, false, take, length, OnOk, OnErr, IfOk, IfErr, Some, None};
 ghost use Rattle.number_meaning.specs.declared.ratio.Ratio.{Ratio};
 ghost use Rattle.grid_meaning.specs.Grid.{missed, is_basic, step_fits, after, MeetsRows};
 ghost use Rattle.tableau.specs.Failing.{IsRange};
 ghost use Rattle.tableau.specs.Table.{row_at};
 ghost use Rattle.simplex_steps.specs.State.{column_in, grid_of, IsSound, IsSettled, SettledBelow, KeepsBounds};
-ghost use Rattle.simplex_steps.specs.Run.{Reaches, NextFails, NextPivotFits, IsTurn, SameSolutions, IsAdvanced};
+ghost use Rattle.grid_meaning.specs.Lines.{NextFails};
+ghost use Rattle.simplex_steps.specs.Run.{Reaches, NextPivotFits, IsTurn, SameSolutions, IsAdvanced, turn_lines};
 
 use crate::bounds::missed;
 use crate::find::Turn;
+use crate::line::{PivotLines, line_of_pivot};
 use crate::moves::{Moved, move_columns, pivot_columns, try_columns};
-use grid_meaning::Column;
+use grid_meaning::{Column, Line};
+use std::alloc::{AllocError, Global};
 use tableau::{Failure, Tableau};
 
 /// Makes the pivot that is the next step. An `Err` changes nothing.
-pub fn make_turn(
+fn make_turn(
     tableau: &mut Tableau,
     columns: &mut [Column],
     moved: &mut Vec<Moved>,
@@ -35,6 +38,61 @@ pub fn make_turn(
         turn.number,
         turn.entering,
     )
+}
+
+/// Adds the line of a turn to those that are kept.
+fn add_line(
+    alloc: Global,
+    tableau: &Tableau,
+    columns: &[Column],
+    kept: &mut PivotLines,
+    turn: Turn,
+) -> Result<(), AllocError>
+    requires count { length columns.now ≡ tableau.now.count }
+    requires place { turn.place < length tableau.now.rows }
+    ensures ok { OnOk result (kept.new.lines.items ≡ kept.old.lines.items ++ turn_lines kept.old.keep tableau.now columns.now turn) }
+    ensures err { OnErr result (kept.new.lines.items ≡ kept.old.lines.items) }
+    ensures keep { kept.new.keep ≡ kept.old.keep }
+{
+    if kept.keep {
+        let line = line_of_pivot(alloc, tableau, columns, turn.place, turn.entering)?;
+        kept.lines.push(line)?;
+    }
+    Ok(())
+}
+
+/// Takes back all lines but the first ones, so many as the count says, where the pivot wasn't made.
+fn drop_unmade(lines: &mut Vec<Line>, made: &Result<(), Failure>, count: usize)
+    ensures ok { OnOk made.now (lines.new.items ≡ lines.old.items) }
+    ensures err { OnErr made.now (lines.new.items ≡ take count lines.old.items) }
+{
+    if made.is_err() {
+        lines.truncate(count);
+    }
+}
+
+/// Makes the pivot that is the next step, and adds its line to those that are kept. An `Err` changes nothing.
+pub fn record_turn(
+    alloc: Global,
+    tableau: &mut Tableau,
+    columns: &mut [Column],
+    moved: &mut Vec<Moved>,
+    kept: &mut PivotLines,
+    turn: Turn,
+) -> Result<(), Failure>
+    requires sound { IsSound tableau.old columns.old }
+    requires turn { IsTurn tableau.old columns.old turn }
+    ensures advanced { OnOk result (IsAdvanced tableau.old columns.old tableau.new columns.new) }
+    ensures lines { OnOk result (kept.new.lines.items ≡ kept.old.lines.items ++ turn_lines kept.old.keep tableau.old columns.old turn) }
+    ensures keep { kept.new.keep ≡ kept.old.keep }
+    ensures range { IfErr result (λ e. IsRange e → NextFails (grid_of tableau.old columns.old)) }
+    ensures err { OnErr result ((tableau.new ≡ tableau.old) × (columns.new ≡ columns.old) × (kept.new.lines.items ≡ kept.old.lines.items)) }
+{
+    let count = kept.lines.len();
+    add_line(alloc, tableau, columns, kept, turn)?;
+    let made = make_turn(tableau, columns, moved, turn);
+    drop_unmade(&mut kept.lines, &made, count);
+    made
 }
 
 /// Tries the pivot that is the next step, and leaves all as it is.

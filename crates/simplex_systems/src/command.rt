@@ -74,6 +74,11 @@ pub fn obey(system: &mut System, alloc: Global, line: &str) -> Result<Option<Str
             let room = u64::try_from(number_at(&numbers, 0)?)?;
             Ok(Some(system.check(alloc, room)?))
         }
+        "trace" => {
+            expect(&numbers, 1)?;
+            let room = u64::try_from(number_at(&numbers, 0)?)?;
+            Ok(Some(system.trace(alloc, room)?))
+        }
         _ => bail!("no such command"),
     }
 }

@@ -7,8 +7,8 @@ ghost use Rattle.simplex_systems.specs.Parts.{IsPicked};
 
 use anyhow::{Result, bail};
 use fraction128::Fraction;
-use grid_meaning::{Column, Seq, Side, Sum, Summand};
-use simplex::{Answer, Set, Simplex, Verdict};
+use grid_meaning::{Column, Line, Seq, Side, Sum, Summand};
+use simplex::{Answer, PivotLines, Set, Simplex, Verdict};
 use std::alloc::{AllocError, Global};
 use std::marker::Model;
 use tableau::{Failure, Part};
@@ -48,6 +48,17 @@ fn write_value(alloc: Global, line: &mut String, value: Fraction) -> Result<(), 
     let numerator = value.numerator();
     let denominator = value.denominator();
     line.push_str(format!(in alloc; " {numerator}/{denominator}")?.as_str())
+}
+
+/// Writes a pivot after a semicolon: the variable that leaves, and the one that enters.
+fn write_pivot(alloc: Global, line: &mut String, pivot: &Line) -> Result<(), AllocError> {
+    match (&pivot.basic, pivot.moves) {
+        (Some(basic), Some(enters)) => {
+            let leaves = basic.variable;
+            line.push_str(format!(in alloc; "; {leaves} {enters}")?.as_str())
+        }
+        _ => Ok(()),
+    }
 }
 
 /// The word, the pivots, and the tags.
@@ -196,7 +207,29 @@ impl System {
 
     /// The line that tells what a check with this room finds.
     pub fn check(&mut self, alloc: Global, room: u64) -> Result<String> {
-        let Answer { verdict, pivots } = self.simplex.check(alloc, room);
+        let mut kept = PivotLines {
+            keep: false,
+            lines: Vec::new(alloc),
+        };
+        self.checked(alloc, &mut kept, room)
+    }
+
+    /// The same, with the pivots: for each the variable that leaves and the one that enters.
+    pub fn trace(&mut self, alloc: Global, room: u64) -> Result<String> {
+        let mut kept = PivotLines {
+            keep: true,
+            lines: Vec::new(alloc),
+        };
+        let mut line = self.checked(alloc, &mut kept, room)?;
+        for pivot in &kept.lines {
+            write_pivot(alloc, &mut line, pivot)?;
+        }
+        Ok(line)
+    }
+
+    /// The line that tells what a check with this room finds, whose pivots' lines are kept where they are to be.
+    fn checked(&mut self, alloc: Global, kept: &mut PivotLines, room: u64) -> Result<String> {
+        let Answer { verdict, pivots } = self.simplex.check(alloc, kept, room);
         match verdict {
             Verdict::Fits => Ok(self.values_line(alloc, pivots)?),
             Verdict::Conflict(tags) => Ok(conflict_line(alloc, pivots, &tags)?),

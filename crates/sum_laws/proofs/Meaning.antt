@@ -1,5 +1,5 @@
 -- Columns keep the meaning of their sums.
-use Rattle.std.proofs.Common.{◌≡◌, ℕ, zero, suc, ◌+◌, ◌<◌, ◌≤◌, ◌⊎◌, inl, inr, pos, sym, ap, ap₂, ◌∙◌, subst, refl, arith, List, [], ◌∷◌, ◌++◌, length, get_or, length-append}
+use Rattle.std.proofs.Common.{◌≡◌, ℕ, zero, suc, ◌<◌, ◌≤◌, ◌⊎◌, inl, inr, sym, ap, ap₂, ◌∙◌, subst, refl, arith, List, [], ◌∷◌, ◌++◌, length, get_or, length-append}
 use Rattle.std.proofs.lemmas.List.{get_or_append_left, get_or_push, get_or_default}
 use Rattle.std.proofs.lemmas.Bool.{cases_lt}
 use Rattle.number_meaning.specs.declared.ratio.Ratio.{Ratio}
@@ -10,14 +10,15 @@ use Rattle.grid_meaning.specs.declared.Summand.{Summand}
 use Rattle.grid_meaning.specs.declared.TableRow.{TableRow}
 use Rattle.grid_meaning.specs.declared.Column.{Column}
 use Rattle.grid_meaning.specs.Grid.{row_value, MeetsRow, MeetsRows, leaf}
-use Rattle.grid_meaning.proofs.RowValue.{dot, meets_to, meets_from}
+use Rattle.grid_meaning.proofs.RowValue.{meets_to, meets_from}
 use Rattle.tableau.specs.declared.sum.Part.{Part}
 use Rattle.tableau.specs.Table.{Table, IsTable, row_at, no_row}
 use Rattle.tableau.specs.Written.{AreParts, parts_row}
 use Rattle.tableau.proofs.Coefficients.{Below}
 use Rattle.tableau.proofs.PivotedRows.{below_all}
 use Rattle.simplex_steps.specs.State.{column_in, no_column}
-use Rattle.sum_laws.specs.Sums.{sum_value, IsPositive, column_values, AgreeOnLeaves, IsMeant, AreMatched, NoneMean, LeavesKeep, RowsKeep, RunsKeep}
+use Rattle.grid_meaning.specs.Lines.{sum_value, IsPositive}
+use Rattle.sum_laws.specs.Sums.{column_values, AgreeOnLeaves, IsMeant, AreMatched, NoneMean, LeavesKeep, RowsKeep, RunsKeep}
 use Rattle.sum_laws.proofs.SumValues.{terms_dot, sum_positive_value, number_sum_value, number_leaf}
 use Rattle.sum_laws.proofs.WrittenSums.{parts_dot, row_positive, row_dot}
 

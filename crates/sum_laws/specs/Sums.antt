@@ -1,25 +1,17 @@
 -- Columns that stand for sums of terms: the solutions of the rows are the valuations that give each its sum's value.
-use Rattle.std.specs.Prelude.{◌≡◌, ℕ, ◌+◌, ◌<◌, pos, List, [], ◌∷◌, ◌++◌, length}
+use Rattle.std.specs.Prelude.{◌≡◌, ℕ, ◌<◌, List, [], ◌∷◌, ◌++◌, length}
 use Rattle.number_meaning.specs.declared.ratio.Ratio.{Ratio}
-use Rattle.number_meaning.specs.Number.{whole, SameNumber, unreduced_sum, unreduced_product}
+use Rattle.number_meaning.specs.Number.{SameNumber}
 use Rattle.grid_meaning.specs.declared.Summand.{Summand}
 use Rattle.grid_meaning.specs.declared.TableRow.{TableRow}
 use Rattle.grid_meaning.specs.declared.Column.{Column}
 use Rattle.grid_meaning.specs.Grid.{MeetsRows, leaf}
+use Rattle.grid_meaning.specs.Lines.{sum_value, IsPositive}
 use Rattle.tableau.specs.declared.sum.Part.{Part}
 use Rattle.tableau.specs.Table.{Table, IsTable}
 use Rattle.tableau.specs.Written.{AreParts, parts_row}
 use Rattle.simplex_steps.specs.State.{column_in}
 use Rattle.simplex_steps.specs.Run.{IsRun}
-
--- the value of a sum, where w gives each term its value
-abbrev pub sum_value : (ℕ → Ratio) → List Summand → Ratio
-sum_value w [] = whole (pos 0)
-sum_value w (p ∷ ps) = unreduced_sum (unreduced_product (whole p.coefficient) (w p.term)) (sum_value w ps)
-
--- all values have positive denominators
-abbrev pub IsPositive : (ℕ → Ratio) → Type 0
-IsPositive v = (i : ℕ) → 0 < (v i).denominator
 
 -- the value of each column's sum
 abbrev pub column_values : (ℕ → Ratio) → List Column → ℕ → Ratio
