@@ -97,6 +97,9 @@ impl Bindings {
     pub fn find(&self, name: &[u8]) -> Option<Value>
         ensures { result ≡ find_value name.now self.now }
     {
+        if self.items.is_empty() {
+            return None;
+        }
         match find(&self.items, &self.index, name) {
             Some(place) => Some(self.items[place].value),
             None => None,
