@@ -9,11 +9,12 @@ use Rattle.smt_meaning.specs.declared.clauses.Atom.{Atom}
 use Rattle.smt_meaning.specs.declared.clauses.Atom.TheVariants.{Truth}
 use Rattle.smt_meaning.specs.declared.reports.Unit.{Unit as ShownUnit}
 use Rattle.smt_meaning.specs.declared.reports.Cause.TheVariants.{Units}
-use Rattle.smt_meaning.specs.Stack.{depth}
+use Rattle.smt_meaning.specs.Stack.{Frame, depth}
 use Rattle.smt_meaning.specs.StackCommand.{Stack}
 use Rattle.smt_meaning.specs.Report.{IsUnit, AreUnits, Shows, is_unlimited, most_units}
 use Rattle.scope_stack.specs.Shown.{IsLawful}
-use Rattle.search_port.specs.State.{Reading, TheoryState, IsGrown, truth_atoms}
+use Rattle.smt_meaning.specs.Term.{Tree}
+use Rattle.search_port.specs.State.{Reading, TheoryState, IsGrown, truth_atoms, truths_reading}
 use Rattle.search_port.specs.Spending.{Spending}
 use Rattle.search_port.specs.Valid.{FollowsAsWritten}
 use Rattle.search_port.specs.Forcing.{ForcesByNumbers, ForcesInTurn}
@@ -58,6 +59,35 @@ limited limit true b c e begin learnt free same spent =
   where
     positive : (n : ℕ) → n ≡ 0 → n ≡ 2 ^ 40 → ⊥
     positive n e f = omega arith
+
+same_places : (xs ys : List ℕ) → truth_atoms xs ≡ truth_atoms ys → xs ≡ ys
+same_places [] [] e = refl
+same_places [] (y ∷ ys) e = absurd (nothing (Truth y) (truth_atoms ys) e)
+  where
+    nothing : (a : Atom) (rest : List Atom) → [] ≡ a ∷ rest → ⊥
+    nothing a rest e = cc
+same_places (x ∷ xs) [] e = absurd (nothing (Truth x) (truth_atoms xs) (sym e))
+  where
+    nothing : (a : Atom) (rest : List Atom) → [] ≡ a ∷ rest → ⊥
+    nothing a rest e = cc
+same_places (x ∷ xs) (y ∷ ys) e = ap (λ k. k ∷ xs) (here x y (truth_atoms xs) (truth_atoms ys) e) ∙ ap (λ ks. y ∷ ks) (same_places xs ys (later (Truth x) (Truth y) (truth_atoms xs) (truth_atoms ys) e))
+  where
+    here : (m n : ℕ) (us vs : List Atom) → Truth m ∷ us ≡ Truth n ∷ vs → m ≡ n
+    here m n us vs e = cc
+
+    later : (m n : Atom) (us vs : List Atom) → m ∷ us ≡ n ∷ vs → us ≡ vs
+    later m n us vs e = cc
+
+pub budget_of : (limit : ℤ) (b : Spending) (k : ℕ) (v : Bool) → b ≡ record { units = []; limit = k; bound = k; counts_learnt = v; keeps_lines = false; share = 0; short = [] } → k ≡ most_units limit → v ≡ not (is_unlimited limit) → IsBudget limit b
+budget_of limit b k v e most counts = record {
+  units = ap (λ (x : Spending). x.units) e;
+  limit_is = ap (λ (x : Spending). x.limit) e ∙ most;
+  counts = ap (λ (x : Spending). x.counts_learnt) e ∙ counts;
+}
+
+pub reading_begins : (s : Stack) (places atoms : List ℕ) (trees : List Tree) (frames : List Frame) → trees ≡ s.trees → frames ≡ flat s.frames → atoms ≡ places → truths_reading trees frames atoms ≡ reading_of s places
+reading_begins s places atoms trees frames t f a =
+    ap (λ ts. truths_reading ts frames atoms) t ∙ (ap (λ fs. truths_reading s.trees fs atoms) f ∙ ap (truths_reading s.trees (flat s.frames)) a)
 
 front_in : (P : Spent → Type 0) (us vs : List Spent) → All P (us ++ vs) → All P us
 front_in P us vs h k d lt = All-contains P (us ++ vs) (get_or us k d) h (Contains-append_left us vs (get_or us k d) (Contains-get_or us k d lt))
@@ -121,3 +151,7 @@ module _ (laws : Laws) (s : Stack) (places : List ℕ) (stored new : Stored) (fi
     numbers_of = λ k d lt. of_numbers (get_or c.units k d) (are_learnt k d lt, shown_all k d lt);
     shows = (length-map c.units (unit_of places (depth s.frames)) ∙ (spent ∙ (run.turns.limit ∙ budget.limit_is)), are_units);
   }
+
+  -- by the places that the theory has at the end
+  pub are_shown_at : (atoms : List ℕ) → u.reading.table ≡ truth_atoms atoms → AreShown s limit atoms c.units
+  are_shown_at atoms e = subst (λ (ps : List ℕ). AreShown s limit ps c.units) (sym (same_places atoms places (sym e ∙ table_is))) are_shown

@@ -18,7 +18,9 @@ use first_clauses::{First, first_clauses};
 use propositional_laws::propositional_fits;
 use scope_stack::Stack;
 use search_order::Order;
-use search_port::{Bare, Budget, Cause as Ending};
+use search_port::{
+    Bare, Budget, Cause as Ending, follows_as_written, forces_by_numbers, forces_in_turn,
+};
 use smt_meaning::{Cause, Settings, TermId};
 use std::alloc::{AllocError, Global};
 use term_laws::tables_interpret;
@@ -66,6 +68,9 @@ fn search(
     propositional_fits();
     flat_says_the_same();
     fresh_stands();
+    follows_as_written();
+    forces_by_numbers();
+    forces_in_turn();
     let terms = Terms::new(alloc, stack, &places)?;
     let mut theory = Bare::new(alloc, terms, places);
     let mut order = Order::new(alloc, settings.seed, 0);

@@ -11,15 +11,9 @@ use Rattle.smt_meaning.specs.Forced.{Sign}
 use Rattle.node_clauses.specs.Signs.{sign, yes, no, negated, sign_eq, is_sign_in, once, clashes}
 use Rattle.node_clauses.specs.NodeClauses.{conjunction, never, all_of, parity, one_of_two, choices, chosen, premises, premises_from, node_clauses}
 use Rattle.node_clauses.specs.WideClauses.{round, alike, parity_of_three, odd_of_three, wide_clauses}
+use Rattle.assertion_form.specs.Renamed.{renamed, Apart}
 use Rattle.node_clauses.proofs.Signs.{true_or_false}
 use Rattle.node_clauses.proofs.Over.{On, on_nil, on_head, on_tail, on_signs, on_premises}
-
-abbrev pub renamed : (ℕ → ℕ) → Sign → Sign
-renamed f s = sign (f s.place) s.positive
-
--- no two numbers below n get one name
-abbrev pub Apart : (ℕ → ℕ) → ℕ → Type 0
-Apart f n = (j k : ℕ) → j < n → k < n → f j ≡ f k → j ≡ k
 
 abbrev Below : ℕ → List Sign → Type 0
 Below n ss = On (λ i. i < n) ss

@@ -13,7 +13,8 @@ use Rattle.node_clauses.proofs.WideOver.{wide_over}
 use Rattle.clause_form.specs.Node.{signed, literals_of_node}
 use Rattle.atom_form.specs.Numbers.{Numbered, AreApart}
 use Rattle.assertion_form.specs.Reading.{placed, read, AreNumbered, IsGrown, Numbers}
-use Rattle.assertion_form.proofs.Renaming.{renamed, renamed_all, node_renamed}
+use Rattle.assertion_form.specs.Renamed.{renamed}
+use Rattle.assertion_form.proofs.Renaming.{renamed_all, node_renamed}
 
 grown_once : (old new : List ℕ) (p k : ℕ) (is_new : Bool) → Numbered old new p k is_new → IsGrown old new
 grown_once old new p k true n = (p ∷ [], (n.added refl).0)

@@ -1,3 +1,4 @@
 pub mod Given
 pub mod Form
 pub mod Reading
+pub mod Renamed

@@ -10,4 +10,4 @@ mod tests;
 mod writing;
 
 pub use assertion::{Space, form, form_new};
-pub use laws::{parts_force, term_clause_follows};
+pub use laws::{node_clauses_are_renamed, parts_force, term_clause_follows};

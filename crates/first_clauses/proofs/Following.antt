@@ -44,7 +44,7 @@ module _ (s : Stack) (places : List ℕ) where
   truth_is I n = ap (atom_true' I) (atom_is places n)
     where
       atom_true' : Interpretation → Atom → Bool
-      atom_true' J a = truth (record { trees = s.trees; frames = flat s.frames; table = a ∷ [] }) J 0
+      atom_true' J a = truth (record { trees = s.trees; frames = flat s.frames; table = a ∷ []; closed = true }) J 0
 
 -- ---- at the one level
 

@@ -25,7 +25,7 @@ none_below marks = record {
   each = λ p h m. absurd (omega arith);
 }
 
-last_or_before : (n k : ℕ) → k < n + 1 → (k < n) ⊎ (n ≡ k)
+pub last_or_before : (n k : ℕ) → k < n + 1 → (k < n) ⊎ (n ≡ k)
 last_or_before zero zero h = inr refl
 last_or_before zero (suc k) h = absurd (omega arith)
 last_or_before (suc n) zero h = inl (omega arith)

@@ -27,7 +27,7 @@ use Rattle.node_clauses.specs.WideClauses.{wide_clauses}
 use Rattle.node_clauses.specs.Laws.{fits_node, NodeClausesForce}
 use Rattle.forced_clauses.proofs.More.{forces_more}
 use Rattle.clause_form.specs.Node.{signed, literals_of_node, IsOfNode, NodeClausesHold}
-use Rattle.assertion_form.proofs.Renaming.{renamed, renamed_all, Apart, node_renamed}
+use Rattle.assertion_form.specs.Renamed.{renamed, Apart, NodeClausesRenamed}
 use Rattle.search_port.proofs.Forcing.{ComesBy, from_map, in_map, forces_renamed}
 use Rattle.truth_values.specs.Places.{ArePlaces}
 use Rattle.first_clauses.specs.Numbers.{AreAscending, AreNumbersOf}
@@ -210,7 +210,7 @@ module _ (trees : List Tree) (ds : List Declaration) (places : List ℕ) (order 
       ap (λ p. record { place = p; positive = s.positive } ∷ map (placed places) (map numbered ss)) (place_again s.place (All-head (λ (u : Sign). Contains places u.place) s ss h))
       ∙ ap (λ us. s ∷ us) (read_again ss (All-tail (λ (u : Sign). Contains places u.place) s ss h))
 
-  module _ (force : NodeClausesForce) (hold : NodeClausesHold) (clauses : List Kept) where
+  module _ (force : NodeClausesForce) (hold : NodeClausesHold) (rename : NodeClausesRenamed) (clauses : List Kept) where
     abbrev known : List (List Signed)
     known = map (λ (c : Kept). c.literals) clauses
 
@@ -221,11 +221,11 @@ module _ (trees : List Tree) (ds : List Declaration) (places : List ℕ) (order 
         let p : ℕ = slice_index places n in
         let xs : List ℕ = has.numbers in
         let places_are : map (slice_index places) xs ≡ is = has.are.places_of in
-        let all_is : node_clauses o p is ++ wide_clauses o p is ≡ renamed_all (slice_index places) (node_clauses o n xs ++ wide_clauses o n xs) =
-        subst (λ js. node_clauses o p js ++ wide_clauses o p js ≡ renamed_all (slice_index places) (node_clauses o n xs ++ wide_clauses o n xs)) places_are
-        (node_renamed (slice_index places) (length places) o n xs apart has.are.within) in
+        let all_is : node_clauses o p is ++ wide_clauses o p is ≡ map (map (renamed (slice_index places))) (node_clauses o n xs ++ wide_clauses o n xs) =
+        subst (λ js. node_clauses o p js ++ wide_clauses o p js ≡ map (map (renamed (slice_index places))) (node_clauses o n xs ++ wide_clauses o n xs)) places_are
+        (rename (slice_index places) (length places) o n xs apart has.are.within) in
         let r : ComesBy (map numbered) (node_clauses o p is) d = from_map (map numbered) (node_clauses o p is) d c in
-        let here : Contains (renamed_all (slice_index places) (node_clauses o n xs ++ wide_clauses o n xs)) r.from =
+        let here : Contains (map (map (renamed (slice_index places))) (node_clauses o n xs ++ wide_clauses o n xs)) r.from =
         subst (λ cs. Contains cs r.from) all_is (Contains-append_left (node_clauses o p is) (wide_clauses o p is) r.from r.among) in
         let q : ComesBy (map (renamed (slice_index places))) (node_clauses o n xs ++ wide_clauses o n xs) r.from =
         from_map (map (renamed (slice_index places))) (node_clauses o n xs ++ wide_clauses o n xs) r.from here in

@@ -14,6 +14,7 @@ ghost use Rattle.first_clauses.specs.First.{reading_of, unit, HasClause, HasNode
 
 use crate::numbers::{marked, number_all, numbered};
 use crate::parts::marks;
+use assertion_form::node_clauses_are_renamed;
 use atom_form::TruthTable;
 use clause_form::{Clauses, Room, node_clauses_hold, put_node};
 use clause_store::store::Store;
@@ -207,6 +208,7 @@ pub fn first_clauses(alloc: Global, stack: &Stack) -> Result<First, AllocError>
     stack.laws();
     node_clauses_hold();
     node_clauses_force();
+    node_clauses_are_renamed();
     let assertions = stack.assertions();
     let marks = marks(alloc, stack, assertions)?;
     let places = marked(alloc, &marks)?;

@@ -53,6 +53,6 @@ returns c =
       begun = begun;
       assertions = all_asserted s c.assertions-assertions.result.now c.in_ok-table.table c.keep_assertions.new.store.clauses c.assertions-assertions.ensures c.in_ok-keep_assertions.ensures.has;
       only = tabled.only;
-      forced = forces_parts s.trees (signature_of s.frames) c.in_ok-table.table c.laws.ensures.in_order tabled.parts c.node_clauses_force.ensures c.node_clauses_hold.ensures c.keep_assertions.new.store.clauses parts;
+      forced = forces_parts s.trees (signature_of s.frames) c.in_ok-table.table c.laws.ensures.in_order tabled.parts c.node_clauses_force.ensures c.node_clauses_hold.ensures c.node_clauses_are_renamed.ensures c.keep_assertions.new.store.clauses parts;
     } in
     subst (λ ps. IsFirst s ps c.keep_assertions.new.store) tabled.same first
