@@ -111,6 +111,7 @@ impl Fraction {
     }
 
     /// The sum, or the first of the listed steps that leaves the range.
+    #[inline(always)]
     pub fn add(self, other: Fraction) -> Result<Fraction, Range>
         ensures value { IfOk result (IsSum self other) }
         ensures exact { IfOk result (λ r. r ≡ sum_of self other) }
@@ -136,6 +137,7 @@ impl Fraction {
     }
 
     /// The product, or the first of the listed steps that leaves the range.
+    #[inline(always)]
     pub fn mul(self, other: Fraction) -> Result<Fraction, Range>
         ensures value { IfOk result (IsProduct self other) }
         ensures exact { IfOk result (λ r. r ≡ product_of self other) }
