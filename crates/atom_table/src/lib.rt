@@ -1,0 +1,10 @@
+//! Numbers of atoms: of the truth of a term, and of the equality of two terms.
+#![tactic(auto)]
+
+mod compact;
+mod table;
+#[cfg(test)]
+mod tests;
+
+pub use compact::CompactAtom;
+pub use table::AtomTable;
