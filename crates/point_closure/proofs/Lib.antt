@@ -1,0 +1,12 @@
+pub mod ListsLemmas
+pub mod RestLemmas
+pub mod FileLemmas
+pub mod SignatureLemmas
+pub mod SoundLemmas
+pub mod StateLemmas
+pub mod MeetLemmas
+pub mod GoingLemmas
+pub mod PartsLemmas
+pub mod KeepsLemmas
+pub mod BackLemmas
+pub mod LawLemmas

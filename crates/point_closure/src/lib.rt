@@ -1,0 +1,17 @@
+//! Congruence closure of points, with undo.
+#![tactic(auto)]
+
+mod closure;
+mod file;
+mod join;
+mod lists;
+mod meet;
+mod pending;
+mod points;
+mod table;
+#[cfg(test)]
+mod tests;
+mod watch;
+
+pub use closure::Closure;
+pub use watch::{Watch, Watched};
