@@ -72,8 +72,8 @@ module _ (ds : List Declaration) (trees : List Tree) (places : List ℕ) (order 
       let inside : a.place < length trees = All-contains (λ p. p < length trees) places a.place parts.within a.among in
       let p : Picked trees us =
       picked trees us (λ v k. (
-        let below : StandsBelow trees a.place v = order.after_arguments a.place v inside (subst (IsArgument v) (sym a.tree) k) in
-        (below.0, below.2, below.3)
+      let below : StandsBelow trees a.place v = order.after_arguments a.place v inside (subst (IsArgument v) (sym a.tree) k) in
+      (below.0, below.2, below.3)
       )) in
       let tree : tree_at trees a.place ≡ tree_with trees h p.places = a.tree ∙ ap (node h) (sym p.are) in
       each_at p.places (parts.closed a.place h p.places a.among tree p.within) u (subst (IsOneOf u) (sym p.are) c)

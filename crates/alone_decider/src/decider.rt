@@ -9,7 +9,7 @@ ghost use Rattle.theory_port.specs.Verdicts.{IsVerdict};
 ghost use Rattle.first_clauses.specs.First.{IsFirst};
 
 use crate::kinds::takes;
-use crate::shown::{reports, units_within, write_units};
+use crate::shown::{counts_learnt, reports, units_within, write_units};
 use crate::still::Still;
 use cdcl_core::fresh_stands;
 use cdcl_core::solve::{Outcome, solve};
@@ -74,8 +74,8 @@ fn search(
     let terms = Terms::new(alloc, stack, &places)?;
     let mut theory = Bare::new(alloc, terms, places);
     let mut order = Order::new(alloc, settings.seed, 0);
-    let limit = units_within(settings.units);
-    let mut budget = Budget::new(alloc, limit, settings.units > 0, false, 0);
+    let limit = units_within(settings);
+    let mut budget = Budget::new(alloc, limit, counts_learnt(settings), false, 0);
     let mut still = Still { alloc, stack };
     match solve(
         alloc,

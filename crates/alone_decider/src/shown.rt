@@ -1,5 +1,5 @@
 //! What the worker shows where a search ends without an answer.
-ghost use Rattle.std.specs.Prelude.{◌≡◌, ◌<◌, ℤ, List, length, map, All, IfOk};
+ghost use Rattle.std.specs.Prelude.{◌≡◌, ◌<◌, ℤ, List, not, length, map, All, IfOk};
 ghost use Rattle.literals.specs.Signed.{Signed};
 ghost use Rattle.smt_meaning.specs.Term.{Tree};
 ghost use Rattle.smt_meaning.specs.Stack.{Frame};
@@ -8,20 +8,27 @@ ghost use Rattle.alone_decider.specs.Shown.{clause_of, unit_of, IsOfNumbers};
 
 use literals::Literal as Packed;
 use search_port::Spent;
-use smt_meaning::{Atom, Cause, Clause, Literal, Report, Seq, TermId, Unit};
+use smt_meaning::{Atom, Cause, Clause, Literal, Report, Seq, Settings, TermId, Unit};
 use std::alloc::{AllocError, Global};
 
 /// The most units of work of a check.
 const MOST_UNITS: u64 = 1 << 40;
 
-/// How many units of work a check may spend under this limit, of which 0 stands for none.
-pub(crate) fn units_within(limit: i128) -> u64
-    ensures { result ≡ most_units limit }
+/// Whether learnt clauses are units: where there is a limit.
+pub(crate) fn counts_learnt(settings: &Settings) -> bool
+    ensures { result ≡ not (is_unlimited settings.now.units) }
 {
-    if limit <= 0 {
+    settings.units > 0
+}
+
+/// How many units of work a check may spend under the limit in force, of which 0 stands for none.
+pub(crate) fn units_within(settings: &Settings) -> u64
+    ensures { result ≡ most_units settings.now.units }
+{
+    if settings.units <= 0 {
         return MOST_UNITS;
     }
-    let units = limit.unsigned_abs();
+    let units = settings.units.unsigned_abs();
     if units < 1 << 40 {
         units as u64
     } else {
