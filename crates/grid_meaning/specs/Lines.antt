@@ -118,7 +118,7 @@ IsPivotOf b ms c = (rises : Bool) × IsOutside rises b.column × IsLeastHelping 
 abbrev pub IsPivotLine : Line → Type 0
 IsPivotLine l = (b : Member) × (c : ℕ) × (l.basic ≡ Some b) × (l.moves ≡ Some c) × IsPivotOf b l.entries c
 
--- the variables that two lines begin with differ
+-- the two lines are of different basic variables
 abbrev pub HaveOthers : Line → Line → Type 0
 HaveOthers l m = (b c : Member) → l.basic ≡ Some b → m.basic ≡ Some c → b.variable ≢ c.variable
 
