@@ -21,8 +21,7 @@ use tables::tables_of;
 use term_store::TermStore;
 
 /// Two marked applications of one declared symbol that no table gives what they are given: their arguments are equal and in the range, or each has an
-/// argument past the range, and they are given different values. Of several the one whose second application comes first. None exactly where there are
-/// no two.
+/// argument past the range, and they are given different values. None exactly where there are no two; of several, any.
 pub fn first_clash(
     alloc: Global,
     store: &TermStore,

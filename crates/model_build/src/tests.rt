@@ -1,7 +1,9 @@
+ghost use Rattle.std.specs.Prelude.{◌≡◌, [], None, false, IfOk};
+
 use crate::{Clash, Given, build, first_clash};
-use smt_meaning::Value::{Element, Truth, Whole};
-use smt_meaning::{Declaration, Head, Operator, Rank, Row, Seq, Sort, SymId, TermId, Value};
-use std::alloc::Global;
+use smt_meaning::Value::{Element, Truth};
+use smt_meaning::{Bytes, Declaration, Head, Rank, Seq, Sort, SymId, TermId, Value};
+use std::alloc::{AllocError, Global};
 use std::process::Abort;
 use std::test::Fail;
 use term_store::TermStore;
@@ -58,6 +60,53 @@ fn clashes_are_found(rt: HostRuntime) -> Result<(), Fail> {
         let clash = clash_of(&rt, rt.alloc(), &store, &given)?;
         let found = clash.map(|c| (c.first, c.second));
         assert_eq!(rt; found, want, "at {given:?}");
+    }
+    Ok(())
+}
+
+const TABLES: &str =
+    "[Table { symbol: 0, rows: Seq { items: [] }, default: Element(5) }, Table { symbol: 1, rows: Seq { items: [] }, default: Truth(true) }, Table { symbol: 2, rows: Seq { items: [Row { arguments: Seq { items: [Element(5), Truth(true)] }, value: Truth(false) }] }, default: Truth(false) }]";
+
+/// A declared function without a name.
+fn function(
+    alloc: Global,
+    id: SymId,
+    arguments: &[Sort],
+    sort: Sort,
+) -> Result<Declaration, AllocError>
+    ensures { IfOk result (λ d. d ≡ record { id = id; name = []; rank = record { arguments = arguments.now; result = sort }; body = None; is_sort = false }) }
+{
+    let arguments = Seq::from_vec(Vec::from_slice(alloc, arguments)?);
+    let rank = Rank {
+        arguments,
+        result: sort,
+    };
+    Ok(Declaration::function(id, Bytes::new(alloc), rank, None))
+}
+
+#[test]
+fn tables_are_built(rt: HostRuntime) -> Result<(), Fail> {
+    let alloc = rt.alloc();
+    let mut store = TermStore::new(alloc, u32::MAX);
+    let _ = store.intern(Head::Symbol(0), &[])?;
+    let _ = store.intern(Head::Symbol(1), &[])?;
+    let _ = store.intern(Head::Symbol(2), &[0, 1])?;
+    let constant = function(alloc, 0, &[], Sort::Free(9))?;
+    let truth = function(alloc, 1, &[], Sort::Bool)?;
+    let predicate = function(alloc, 2, &[Sort::Free(9), Sort::Bool], Sort::Bool)?;
+    let declarations = [constant, truth, predicate];
+    let given = [
+        Given::InRange(Element(5)),
+        Given::InRange(Truth(true)),
+        Given::InRange(Truth(false)),
+    ];
+    match first_clash(alloc, &store, &given)? {
+        Some(_) => assert!(rt; false),
+        None => {
+            let tables = build(alloc, &store, &declarations, &given)?;
+            let shown = format!(in alloc; "{:?}", tables.as_slice())?;
+            assert_eq!(rt; shown.as_str(), TABLES);
+        }
     }
     Ok(())
 }
