@@ -1,0 +1,14 @@
+use Rattle.std.proofs.Common.{◌≡◌, ◌-◌, [], length}
+use Rattle.equal_points.specs.Closure.{AreRead}
+use Rattle.congruence.specs.Recorded.{IsRecorded}
+use Rattle.congruence.proofs.congruence.Congruence.read.Given as goal
+
+abbrev pub invariant-terms : goal.invariant-terms
+invariant-terms l = record {
+  recorded : IsRecorded l.self;
+  first : l.self.closure.steps.items ≡ [];
+  read : AreRead l.store.trees l.self.closure.graph;
+}
+
+abbrev pub decreases-terms : goal.decreases-terms
+decreases-terms l = l.count - length l.self.closure.graph

@@ -1,0 +1,45 @@
+-- The literals for which steps were recorded.
+use Rattle.std.specs.Prelude.{◌≡◌, ℕ, true, List, ◌∷◌, map, slice_index_or, Contains}
+use Rattle.literals.specs.Signed.{Signed, opposite}
+use Rattle.equal_points.specs.declared.step.Step.{Step}
+use Rattle.equal_points.specs.declared.step.Step.TheVariants.{Differ}
+use Rattle.point_closure.specs.declared.watch.Watch.{Watch}
+use Rattle.point_closure.specs.declared.watch.Watched.TheVariants.{Step as AtStep}
+use Rattle.point_closure.specs.Rest.{watch_at}
+use Rattle.congruence.specs.declared.differing.Differing.{Differing}
+use Rattle.equal_points.specs.Closure.{Point}
+use Rattle.equal_points.specs.Explained.{step_at, Explains}
+
+abbrev pub reason_at : List Signed → ℕ → Signed
+reason_at rs s = slice_index_or rs s (record { atom = 0; positive = true })
+
+abbrev pub negation_at : List Signed → ℕ → Signed
+negation_at rs s = opposite (reason_at rs s)
+
+-- the reasons of merges that give the equality of two points
+pub record AreReasonsOf (ps : List Point) (log : List Step) (rs : List Signed) (i j : ℕ) (ls : List Signed) : Type 0 where
+  pub steps : List ℕ
+  pub explains : Explains ps log steps i j
+  pub literals : ls ≡ map (reason_at rs) steps
+
+-- not all reasons hold of merges that give the equality of the truth values
+pub record IsTruthConflict (ps : List Point) (log : List Step) (rs : List Signed) (ls : List Signed) : Type 0 where
+  pub steps : List ℕ
+  pub explains : Explains ps log steps 0 1
+  pub literals : ls ≡ map (negation_at rs) steps
+
+-- not all reasons hold of a step that keeps two points apart, and of merges that give their equality
+pub record IsStepConflict (ps : List Point) (log : List Step) (rs : List Signed) (ls : List Signed) : Type 0 where
+  pub differ : ℕ
+  pub left : ℕ
+  pub right : ℕ
+  pub is : step_at log differ ≡ Differ left right
+  pub steps : List ℕ
+  pub explains : Explains ps log steps left right
+  pub literals : ls ≡ negation_at rs differ ∷ map (negation_at rs) steps
+
+-- one of these watched pairs is that of a step
+pub record IsAmong (ws : List Watch) (ks : List ℕ) (d : Differing) : Type 0 where
+  pub pair : ℕ
+  pub met : Contains ks pair
+  pub is : watch_at ws pair ≡ record { left = d.left; right = d.right; watched = AtStep d.step }

@@ -1,0 +1,33 @@
+-- What holds of recorded steps and their reasons, over the terms of a list.
+use Rattle.std.specs.Prelude.{◌≡◌, ℕ, ◌+◌, ◌^◌, ◌<◌, ◌≤◌, ◌⊎◌, List, length}
+use Rattle.smt_meaning.specs.Term.{Tree, tree_at, Interpretation, value}
+use Rattle.literals.specs.Signed.{Signed}
+use Rattle.equal_points.specs.declared.step.Step.{Step}
+use Rattle.equal_points.specs.Closure.{Point, Equal}
+use Rattle.equal_points.specs.Explained.{merged}
+use Rattle.equal_points.specs.Laws.{MakesPairsTrue}
+use Rattle.point_closure.specs.Whole.{IsWhole, AreStepsApart}
+use Rattle.congruence.specs.declared.congruence.Congruence.{Congruence}
+use Rattle.congruence.specs.Reasons.{IsTruthConflict, IsStepConflict}
+
+-- the closure is at rest, each step has its reason, and the truth values are there
+pub record IsRecorded (c : Congruence) : Type 0 where
+  pub whole : IsWhole c.closure
+  pub reasons : length c.reasons.items ≡ length c.closure.steps.items
+  pub truths : 2 ≤ length c.closure.graph
+  pub few : length c.closure.graph < 2 ^ 32
+
+-- the merges give the equality of two terms
+abbrev pub AreEqualTerms : Congruence → ℕ → ℕ → Type 0
+AreEqualTerms c a b = Equal c.closure.graph (merged c.closure.steps.items) (a + 2) (b + 2)
+
+-- whoever makes the merged pairs true gives two terms one value
+abbrev pub HaveOneValue : List Tree → Congruence → ℕ → ℕ → Type 0
+HaveOneValue ts c a b = (I : Interpretation) → MakesPairsTrue ts I (merged c.closure.steps.items) → value I (tree_at ts a) ≡ value I (tree_at ts b)
+
+-- the truth values are not equal, and no step keeps equal points apart
+abbrev pub IsConsistent : List Point → List Step → Type 0
+IsConsistent ps log = (Equal ps (merged log) 0 1 → ⊥) × AreStepsApart ps log
+
+abbrev pub IsConflict : Congruence → List Signed → Type 0
+IsConflict c ls = IsTruthConflict c.closure.graph c.closure.steps.items c.reasons.items ls ⊎ IsStepConflict c.closure.graph c.closure.steps.items c.reasons.items ls

@@ -1,0 +1,255 @@
+//! Terms that are equal or differ, each for a reason.
+ghost use Rattle.std.specs.Prelude.{◌≡◌, ◌+◌, ◌<◌, ◌≤◌, ◌^◌, [], ◌∷◌, ◌++◌, length, take, List, OnOk, OnErr, IfOk, IfSome, IfNone, IsTrue, ◌↔◌};
+ghost use Rattle.congruence.specs.Reading.{truth_number};
+
+use crate::differing::{Differing, first_differing};
+use crate::reading::{arguments_of, shape_of};
+use crate::reasons::{add_negations, reasons_of};
+use equal_points::{Shape, Step, equal_points_have_one_value};
+use literals::Literal;
+use point_closure::Closure;
+use smt_meaning::TermId;
+use std::alloc::{AllocError, Global};
+use term_store::TermStore;
+
+/// What was recorded of terms, and what follows from it. The truth values are points 0 and 1, the term at place t is point t + 2.
+#[derive(Drop)]
+pub struct Congruence {
+    pub closure: Closure,
+    /// The reason of each step.
+    pub reasons: Vec<Literal>,
+    scratch: Vec<u32>,
+}
+
+/// The point of a truth value.
+fn truth_point(value: bool) -> u32
+    ensures { result ≡ truth_number value }
+{
+    if value { 0 } else { 1 }
+}
+
+impl Congruence {
+    ghost use Rattle.smt_meaning.specs.Term.{Tree};
+    ghost use Rattle.equal_points.specs.declared.step.Step.TheVariants.{Merge, Differ};
+    ghost use Rattle.equal_points.specs.Closure.{AreRead};
+    ghost use Rattle.point_closure.specs.Whole.{IsWithin};
+    ghost use Rattle.congruence.specs.Reasons.{AreReasonsOf, IsTruthConflict, IsStepConflict};
+    ghost use Rattle.congruence.specs.Recorded.{IsRecorded, AreEqualTerms, HaveOneValue, IsConsistent, IsConflict};
+
+    /// Nothing is read, nothing recorded.
+    pub fn new(alloc: Global) -> Result<Self, AllocError>
+        ensures recorded { IfOk result IsRecorded }
+        ensures first { IfOk result (λ c. c.closure.steps.items ≡ []) }
+        ensures read { IfOk result (λ c. (ts : List Tree) → AreRead ts c.closure.graph) }
+        ensures count { IfOk result (λ c. length c.closure.graph ≡ 2) }
+    {
+        let mut closure = Closure::new(alloc);
+        closure.add(Shape::Truth(true), &[])?;
+        closure.add(Shape::Truth(false), &[])?;
+        Ok(Congruence {
+            closure,
+            reasons: Vec::new(alloc),
+            scratch: Vec::new(alloc),
+        })
+    }
+
+    /// Reads the next term. An `Err` changes nothing.
+    fn read_term(&mut self, store: &TermStore, term: TermId) -> Result<(), AllocError>
+        requires recorded { IsRecorded self.old }
+        requires first { self.old.closure.steps.items ≡ [] }
+        requires read { AreRead store.now.trees self.old.closure.graph }
+        requires next { length self.old.closure.graph ≡ term + 2 }
+        requires within { term < length store.now.trees }
+        requires few { length store.now.trees + 2 < 2 ^ 32 }
+        ensures recorded { IsRecorded self.new }
+        ensures first { self.new.closure.steps.items ≡ [] }
+        ensures read { AreRead store.now.trees self.new.closure.graph }
+        ensures ok { OnOk result (length self.new.closure.graph ≡ term + 3) }
+    {
+        let node = store.node(term);
+        let shape = shape_of(node.head, !node.arguments.is_empty());
+        arguments_of(&mut self.scratch, shape, node.arguments)?;
+        self.closure.add(shape, &self.scratch)?;
+        Ok(())
+    }
+
+    /// Reads the terms of the store that weren't read yet. It has no step yet. An `Err` keeps what was read.
+    pub fn read(&mut self, store: &TermStore) -> Result<(), AllocError>
+        requires recorded { IsRecorded self.old }
+        requires first { self.old.closure.steps.items ≡ [] }
+        requires read { AreRead store.now.trees self.old.closure.graph }
+        requires few { length store.now.trees + 2 < 2 ^ 32 }
+        ensures recorded { IsRecorded self.new }
+        ensures first { self.new.closure.steps.items ≡ [] }
+        ensures read { AreRead store.now.trees self.new.closure.graph }
+        ensures ok { OnOk result (length store.now.trees + 2 ≤ length self.new.closure.graph) }
+    {
+        let count = store.len() as usize + 2;
+        'terms: while self.closure.len() < count {
+            let term = self.closure.len() - 2;
+            self.read_term(store, term as u32)?;
+        }
+        Ok(())
+    }
+
+    /// Records a step with its reason. An `Err` changes nothing.
+    fn record(&mut self, step: Step, reason: Literal) -> Result<(), AllocError>
+        requires recorded { IsRecorded self.old }
+        requires within { IsWithin (length self.old.closure.graph) step }
+        ensures recorded { IsRecorded self.new }
+        ensures graph { self.new.closure.graph ≡ self.old.closure.graph }
+        ensures ok { OnOk result (self.new.closure.steps.items ≡ self.old.closure.steps.items ++ step ∷ []) }
+        ensures reasons { OnOk result (self.new.reasons.items ≡ self.old.reasons.items ++ reason ∷ []) }
+        ensures err { OnErr result (self.new.closure.steps.items ≡ self.old.closure.steps.items) }
+        ensures same { OnErr result (self.new.reasons.items ≡ self.old.reasons.items) }
+    {
+        self.reasons.push(reason)?;
+        if self.closure.record(step).is_err() {
+            let _ = self.reasons.pop();
+            return Err(AllocError);
+        }
+        Ok(())
+    }
+
+    /// Records that two terms are equal. An `Err` changes nothing.
+    pub fn merge(&mut self, left: TermId, right: TermId, reason: Literal) -> Result<(), AllocError>
+        requires recorded { IsRecorded self.old }
+        requires left { left + 2 < length self.old.closure.graph }
+        requires right { right + 2 < length self.old.closure.graph }
+        ensures recorded { IsRecorded self.new }
+        ensures graph { self.new.closure.graph ≡ self.old.closure.graph }
+        ensures ok { OnOk result (self.new.closure.steps.items ≡ self.old.closure.steps.items ++ Merge (left + 2) (right + 2) ∷ []) }
+        ensures reasons { OnOk result (self.new.reasons.items ≡ self.old.reasons.items ++ reason ∷ []) }
+        ensures err { OnErr result (self.new.closure.steps.items ≡ self.old.closure.steps.items) }
+        ensures same { OnErr result (self.new.reasons.items ≡ self.old.reasons.items) }
+    {
+        self.record(Step::Merge(left + 2, right + 2), reason)
+    }
+
+    /// Records that a term has a truth value. An `Err` changes nothing.
+    pub fn truth(&mut self, term: TermId, value: bool, reason: Literal) -> Result<(), AllocError>
+        requires recorded { IsRecorded self.old }
+        requires within { term + 2 < length self.old.closure.graph }
+        ensures recorded { IsRecorded self.new }
+        ensures graph { self.new.closure.graph ≡ self.old.closure.graph }
+        ensures ok { OnOk result (self.new.closure.steps.items ≡ self.old.closure.steps.items ++ Merge (term + 2) (truth_number value) ∷ []) }
+        ensures reasons { OnOk result (self.new.reasons.items ≡ self.old.reasons.items ++ reason ∷ []) }
+        ensures err { OnErr result (self.new.closure.steps.items ≡ self.old.closure.steps.items) }
+        ensures same { OnErr result (self.new.reasons.items ≡ self.old.reasons.items) }
+    {
+        self.record(Step::Merge(term + 2, truth_point(value)), reason)
+    }
+
+    /// Records that two terms differ. An `Err` changes nothing.
+    pub fn differ(&mut self, left: TermId, right: TermId, reason: Literal) -> Result<(), AllocError>
+        requires recorded { IsRecorded self.old }
+        requires left { left + 2 < length self.old.closure.graph }
+        requires right { right + 2 < length self.old.closure.graph }
+        ensures recorded { IsRecorded self.new }
+        ensures graph { self.new.closure.graph ≡ self.old.closure.graph }
+        ensures ok { OnOk result (self.new.closure.steps.items ≡ self.old.closure.steps.items ++ Differ (left + 2) (right + 2) ∷ []) }
+        ensures reasons { OnOk result (self.new.reasons.items ≡ self.old.reasons.items ++ reason ∷ []) }
+        ensures err { OnErr result (self.new.closure.steps.items ≡ self.old.closure.steps.items) }
+        ensures same { OnErr result (self.new.reasons.items ≡ self.old.reasons.items) }
+    {
+        self.record(Step::Differ(left + 2, right + 2), reason)
+    }
+
+    /// Takes back all steps but the first.
+    pub fn undo_to(&mut self, depth: usize)
+        requires recorded { IsRecorded self.old }
+        ensures recorded { IsRecorded self.new }
+        ensures graph { self.new.closure.graph ≡ self.old.closure.graph }
+        ensures steps { self.new.closure.steps.items ≡ take depth self.old.closure.steps.items }
+        ensures reasons { self.new.reasons.items ≡ take depth self.old.reasons.items }
+    {
+        self.closure.undo_to(depth);
+        self.reasons.truncate(depth);
+    }
+}
+
+impl Congruence {
+    ghost use Rattle.smt_meaning.specs.Term.{Tree};
+    ghost use Rattle.equal_points.specs.declared.step.Step.TheVariants.{Differ};
+    ghost use Rattle.equal_points.specs.Closure.{AreRead, Equal};
+    ghost use Rattle.equal_points.specs.Explained.{merged, step_at};
+    ghost use Rattle.congruence.specs.Reasons.{AreReasonsOf, IsTruthConflict, IsStepConflict};
+    ghost use Rattle.congruence.specs.Recorded.{IsRecorded, AreEqualTerms, HaveOneValue, IsConsistent, IsConflict};
+
+    /// Whether the merges make two terms equal.
+    pub fn same(&self, left: TermId, right: TermId) -> bool
+        requires recorded { IsRecorded self.now }
+        requires left { left + 2 < length self.now.closure.graph }
+        requires right { right + 2 < length self.now.closure.graph }
+        ensures equal { IsTrue result ↔ AreEqualTerms self.now left right }
+        ensures values { IsTrue result → (ts : List Tree) → AreRead ts self.now.closure.graph → HaveOneValue ts self.now left right }
+    {
+        equal_points_have_one_value();
+        self.closure.same(left + 2, right + 2)
+    }
+
+    /// The reasons of merges that give the equality of two terms.
+    pub fn explain(
+        &self,
+        alloc: Global,
+        left: TermId,
+        right: TermId,
+    ) -> Result<Vec<Literal>, AllocError>
+        requires recorded { IsRecorded self.now }
+        requires left { left + 2 < length self.now.closure.graph }
+        requires right { right + 2 < length self.now.closure.graph }
+        requires equal { AreEqualTerms self.now left right }
+        ensures { IfOk result (λ v. AreReasonsOf self.now.closure.graph self.now.closure.steps.items self.now.reasons.items (left + 2) (right + 2) v.items) }
+    {
+        let steps = self.closure.explain(alloc, left + 2, right + 2)?;
+        reasons_of(alloc, &self.reasons, &steps)
+    }
+
+    /// Why the truth values can't be equal.
+    fn truth_conflict(&self, alloc: Global) -> Result<Vec<Literal>, AllocError>
+        requires recorded { IsRecorded self.now }
+        requires equal { Equal self.now.closure.graph (merged self.now.closure.steps.items) 0 1 }
+        ensures { IfOk result (λ v. IsTruthConflict self.now.closure.graph self.now.closure.steps.items self.now.reasons.items v.items) }
+    {
+        let steps = self.closure.explain(alloc, 0, 1)?;
+        let mut clause = Vec::new(alloc);
+        add_negations(&mut clause, &self.reasons, &steps)?;
+        Ok(clause)
+    }
+
+    /// Why the points of a step that keeps them apart can't be equal.
+    fn step_conflict(&self, alloc: Global, found: Differing) -> Result<Vec<Literal>, AllocError>
+        requires recorded { IsRecorded self.now }
+        requires left { found.left < length self.now.closure.graph }
+        requires right { found.right < length self.now.closure.graph }
+        requires within { found.step < length self.now.closure.steps.items }
+        requires step { step_at self.now.closure.steps.items found.step ≡ Differ found.left found.right }
+        requires equal { Equal self.now.closure.graph (merged self.now.closure.steps.items) found.left found.right }
+        ensures { IfOk result (λ v. IsStepConflict self.now.closure.graph self.now.closure.steps.items self.now.reasons.items v.items) }
+    {
+        let steps = self.closure.explain(alloc, found.left, found.right)?;
+        let mut clause = Vec::new(alloc);
+        clause.push(self.reasons[found.step as usize].negated())?;
+        add_negations(&mut clause, &self.reasons, &steps)?;
+        Ok(clause)
+    }
+
+    /// A clause that the reasons break, where the truth values or the points of a step that keeps them apart are equal.
+    pub fn conflict(&self, alloc: Global) -> Result<Option<Vec<Literal>>, AllocError>
+        requires recorded { IsRecorded self.now }
+        ensures some { IfOk result (λ r. IfSome r (λ v. IsConflict self.now v.items)) }
+        ensures none { IfOk result (λ r. IfNone r (IsConsistent self.now.closure.graph self.now.closure.steps.items)) }
+    {
+        if self.closure.same(0, 1) {
+            let clause = self.truth_conflict(alloc)?;
+            return Ok(Some(clause));
+        }
+        match first_differing(&self.closure.pairs, self.closure.met()) {
+            None => Ok(None),
+            Some(found) => {
+                let clause = self.step_conflict(alloc, found)?;
+                Ok(Some(clause))
+            }
+        }
+    }
+}

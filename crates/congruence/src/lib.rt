@@ -1,0 +1,9 @@
+//! Terms that are equal or differ, each for a reason, and what follows from that.
+#![tactic(auto)]
+
+mod congruence;
+mod differing;
+mod reading;
+mod reasons;
+
+pub use congruence::Congruence;
