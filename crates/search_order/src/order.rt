@@ -47,7 +47,11 @@ impl Order {
 
     // One atom more.
     fn push(&mut self, atom: u32) -> Result<(), AllocError> {
-        let word = if self.varied { self.draws.next_word() } else { 0 };
+        let word = if self.varied {
+            self.draws.next_word()
+        } else {
+            0
+        };
         self.phases.push(word >> 31 == 1)?;
         self.raised.push(0)?;
         self.heap.make_room()?;
