@@ -5,8 +5,6 @@ mod assertion;
 mod laws;
 mod numbering;
 mod part;
-#[cfg(test)]
-mod tests;
 mod writing;
 
 pub use assertion::{Space, form, form_new};

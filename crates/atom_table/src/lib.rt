@@ -3,8 +3,6 @@
 
 mod compact;
 mod table;
-#[cfg(test)]
-mod tests;
 
 pub use compact::CompactAtom;
 pub use table::AtomTable;

@@ -248,24 +248,6 @@ impl Store {
         }
     }
 
-    // One whose watches aren't kept up, so that it scans.
-    #[cfg(test)]
-    pub fn scanning(alloc: Global) -> Store
-        ensures { result ≡ record { clauses = []; trail = record { steps = []; atoms = 0; depth = 0 } } }
-    {
-        Store {
-            alloc,
-            rows: Rows::new(alloc),
-            lists: Vec::new(alloc),
-            spare: WatchList::new(alloc),
-            trail: Trail::new(alloc),
-            head: 0,
-            saves: Vec::new(alloc),
-            waiting: Vec::new(alloc),
-            loose: true,
-        }
-    }
-
     // Knows so many atoms; no other call takes memory but `add`.
     pub fn reserve(&mut self, atoms: u32) -> Result<(), AllocError>
         ensures reserved { OnOk result (self.new ≡ record self.old { trail = record { steps = self.old.trail.steps; atoms = max self.old.trail.atoms atoms; depth = self.old.trail.depth } }) }

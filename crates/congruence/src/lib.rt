@@ -5,7 +5,5 @@ mod congruence;
 mod differing;
 mod reading;
 mod reasons;
-#[cfg(test)]
-mod tests;
 
 pub use congruence::Congruence;

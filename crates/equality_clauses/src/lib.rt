@@ -5,8 +5,6 @@
 mod clauses;
 mod laws;
 mod once;
-#[cfg(test)]
-mod tests;
 
 pub use clauses::{Lists, put_choice, put_comparison, put_sameness};
 pub use laws::{

@@ -53,6 +53,3 @@ pub fn build(
     let _none = collect(store, given, &mut firsts)?;
     tables_of(alloc, store, given, &firsts.places, declarations)
 }
-
-#[cfg(test)]
-mod tests;

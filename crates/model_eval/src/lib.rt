@@ -12,8 +12,6 @@ mod marks;
 mod operators;
 mod rows;
 mod tables;
-#[cfg(test)]
-mod tests;
 
 use evaluate::{Found, add, gather, nothing};
 use marks::parts_of;

@@ -2,7 +2,5 @@
 #![tactic(auto)]
 
 mod lookup;
-#[cfg(test)]
-mod tests;
 
 pub use lookup::{Named, find, hash};

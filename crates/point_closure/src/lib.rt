@@ -9,8 +9,6 @@ mod meet;
 mod pending;
 mod points;
 mod table;
-#[cfg(test)]
-mod tests;
 mod watch;
 
 pub use closure::Closure;

@@ -7,8 +7,6 @@ mod laws;
 mod levels;
 mod shelf;
 mod state;
-#[cfg(test)]
-mod tests;
 
 pub use clause::{copy_clause, has_clause, is_same_clause};
 pub use event::{Addition, Entry, Event, Formula, Premise};

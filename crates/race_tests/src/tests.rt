@@ -1,3 +1,4 @@
+mod events;
 mod four;
 mod full;
 mod levels;

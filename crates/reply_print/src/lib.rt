@@ -9,8 +9,6 @@ mod name;
 mod number;
 mod reply;
 mod s_expression;
-#[cfg(test)]
-mod tests;
 mod values;
 
 pub use reply::{fixed, text};

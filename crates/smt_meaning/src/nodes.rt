@@ -52,16 +52,3 @@ impl Terms {
         self.nodes.as_slice()
     }
 }
-
-#[cfg(test)]
-mod tests {
-    use super::*;
-    use std::test::Fail;
-
-    #[test]
-    fn no_nodes_are_no_terms(rt: HostRuntime) -> Result<(), Fail> {
-        let terms = Terms::from_nodes(Vec::new(rt.alloc()));
-        assert_eq!(rt; terms.nodes().len(), 0);
-        Ok(())
-    }
-}

@@ -336,24 +336,3 @@ pub enum FaultKind {
     /// An opening parenthesis that opens one list too many.
     Nesting,
 }
-
-#[cfg(test)]
-mod tests {
-    use super::*;
-    use std::test::Fail;
-
-    #[test]
-    fn tokens_have_their_own_bytes(rt: HostRuntime) -> Result<(), Fail> {
-        let mut tokens = Tokens::new(rt.alloc());
-        tokens.push(TokenView::Symbol(b"ab".as_slice()))?;
-        tokens.push(TokenView::Reserved(Word::As))?;
-        tokens.push(TokenView::Text(b"c".as_slice()))?;
-        assert_eq!(rt; tokens.len(), 3);
-        assert!(rt; matches!(tokens.token(0), TokenView::Symbol(b"ab")));
-        assert!(rt; matches!(tokens.token(1), TokenView::Reserved(Word::As)));
-        assert!(rt; matches!(tokens.token(2), TokenView::Text(b"c")));
-        tokens.clear();
-        assert_eq!(rt; tokens.len(), 0);
-        Ok(())
-    }
-}

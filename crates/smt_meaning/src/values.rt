@@ -73,23 +73,3 @@ fn copy_rows(alloc: Global, rows: &[Row]) -> Result<Vec<Row>, AllocError>
     }
     Ok(copies)
 }
-
-#[cfg(test)]
-mod tests {
-    use super::*;
-    use std::test::Fail;
-
-    #[test]
-    fn copies_have_the_same_tables(rt: HostRuntime) -> Result<(), Fail> {
-        let mut tables = Seq::new(rt.alloc());
-        tables.push(Table {
-            symbol: 7,
-            rows: Seq::new(rt.alloc()),
-            default: Value::Whole(3),
-        })?;
-        let copy = tables.copy_tables(rt.alloc())?;
-        assert_eq!(rt; copy.len(), 1);
-        assert_eq!(rt; copy.as_slice()[0].symbol, 7);
-        Ok(())
-    }
-}

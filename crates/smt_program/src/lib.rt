@@ -9,8 +9,6 @@ ghost use Rattle.smt_top.specs.declared.top.Ended.{Ended as EndedValue};
 ghost use Rattle.smt_program.specs.Program.{IsServed, IsSaid, line_of};
 
 mod line;
-#[cfg(test)]
-mod tests;
 mod words;
 
 use line::line;

@@ -7,8 +7,6 @@ mod law;
 mod part;
 mod reader;
 mod scan;
-#[cfg(test)]
-mod tests;
 
 pub use law::reads_in_one_way;
 pub use reader::Reader;

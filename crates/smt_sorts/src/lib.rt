@@ -6,8 +6,6 @@ mod errors;
 mod places;
 mod reserved;
 mod table;
-#[cfg(test)]
-mod tests;
 
 pub use errors::{AddError, NameError};
 pub use table::Table;

@@ -5,6 +5,3 @@ mod serving;
 mod top;
 
 pub use top::{Ended, Note, run, run_within, unbegun};
-
-#[cfg(test)]
-mod tests;

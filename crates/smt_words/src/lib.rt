@@ -9,8 +9,6 @@ ghost use Rattle.smt_words.specs.Causes.{IsCause};
 
 mod command;
 mod error;
-#[cfg(test)]
-mod tests;
 
 use command::command;
 pub use error::WordsError;

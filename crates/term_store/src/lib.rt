@@ -4,8 +4,6 @@
 mod hash;
 mod index;
 mod store;
-#[cfg(test)]
-mod tests;
 
 pub use hash::mix;
 pub use index::HashIndex;

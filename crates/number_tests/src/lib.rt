@@ -1,0 +1,5 @@
+//! Tests of numbers, fractions and pivots.
+#![tactic(auto)]
+
+#[cfg(test)]
+mod tests;

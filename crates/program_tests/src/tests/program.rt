@@ -1,0 +1,115 @@
+use ports::{MemSink, MemSource};
+use smt_program::{program, words_of};
+use smt_words::WordsError;
+use std::alloc::Global;
+use std::env;
+use std::env::{Env, FillError};
+use std::test::Fail;
+
+/// An environment with these words of the command line.
+#[derive(Clone, Copy)]
+struct CommandLine<'a>(&'a [&'a [u8]]);
+
+impl Env for CommandLine<'_> {
+    fn arg(&self, i: usize, buf: &mut [u8]) -> Result<usize, FillError> {
+        match self.0.get(i) {
+            Some(word) if word.len() <= buf.len() => {
+                buf[..word.len()].copy_from_slice(word);
+                Ok(word.len())
+            }
+            Some(_) => Err(FillError::TooLong),
+            None => Err(FillError::NotPresent),
+        }
+    }
+
+    fn var(&self, _name: &str, _buf: &mut [u8]) -> Result<usize, FillError> {
+        Err(FillError::NotPresent)
+    }
+
+    fn var_at(&self, _i: usize, _buf: &mut [u8]) -> Result<usize, FillError> {
+        Err(FillError::NotPresent)
+    }
+}
+
+fn words(alloc: Global, words: &[&[u8]]) -> Result<Vec<String>, WordsError> {
+    words_of(alloc, env::args(&(CommandLine(words), alloc)))
+}
+
+#[test]
+fn takes_all_words_in_order(rt: HostRuntime) -> Result<(), Fail> {
+    let alloc = rt.alloc();
+    let taken = words(alloc, &[b"smt_cli", b"--seed", b"\xc3\xa9", b""])?;
+    assert_eq!(rt; taken.len(), 4);
+    assert_eq!(rt; taken[0].as_str(), "smt_cli");
+    assert_eq!(rt; taken[1].as_str(), "--seed");
+    assert_eq!(rt; taken[2].as_str(), "\u{e9}");
+    assert_eq!(rt; taken[3].as_str(), "");
+    Ok(())
+}
+
+#[test]
+fn refuses_a_word_that_is_not_utf_8(rt: HostRuntime) -> Result<(), Fail> {
+    let refused = words(rt.alloc(), &[b"smt_cli", b"--seed", b"\xff"]);
+    assert!(rt; matches!(&refused, Err(WordsError::Refused)));
+    Ok(())
+}
+
+/// What the program exits with, what it wrote, and what it said.
+fn outcome(
+    alloc: Global,
+    given: &[&[u8]],
+    script: &[u8],
+) -> Result<(String, Vec<u8>, Vec<u8>), Fail> {
+    let words = words(alloc, given);
+    let mut source = MemSource::new(script.to_vec(alloc)?, 9, Vec::new(alloc));
+    let mut sink = MemSink::new(alloc, 60, Vec::new(alloc))?;
+    let mut errors = MemSink::new(alloc, 99, Vec::new(alloc))?;
+    let code = program(alloc, &words, &mut source, &mut sink, &mut errors);
+    Ok((
+        format!(in alloc; "{code:?}")?,
+        sink.written().to_vec(alloc)?,
+        errors.written().to_vec(alloc)?,
+    ))
+}
+
+#[test]
+fn ends_with_a_status_and_a_line(rt: HostRuntime) -> Result<(), Fail> {
+    let usage =
+        b"usage: smt_cli [--workers 1..16] [--units U] [--share 0..64] [--seed K]\n".as_slice();
+    for (given, script, code, written, said) in [
+        (
+            [b"smt_cli".as_slice(), b"--seed=7"].as_slice(),
+            b"(check-sat)".as_slice(),
+            "ExitCode(unix_exit_status(0))",
+            b"sat\n".as_slice(),
+            b"".as_slice(),
+        ),
+        (
+            &[b"smt_cli"],
+            b"(check-sat))",
+            "ExitCode(unix_exit_status(1))",
+            b"sat\n(error \"E2 closing parenthesis at byte 11\")\n",
+            b"",
+        ),
+        (
+            &[b"smt_cli", b"--workers=0"],
+            b"(check-sat)",
+            "ExitCode(unix_exit_status(2))",
+            b"",
+            usage,
+        ),
+        (
+            &[b"smt_cli", b"--seed=\xff"],
+            b"(check-sat)",
+            "ExitCode(unix_exit_status(2))",
+            b"",
+            usage,
+        ),
+    ] {
+        let (ended, replies, line) = outcome(rt.alloc(), given, script)?;
+        assert_eq!(rt; ended.as_str(), code);
+        assert_eq!(rt; replies.as_slice(), written);
+        assert_eq!(rt; line.as_slice(), said);
+    }
+    Ok(())
+}

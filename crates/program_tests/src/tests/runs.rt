@@ -1,0 +1,164 @@
+use ports::{CalmSink, CalmSource, MemSink, MemSource, More, OpenGate, Put, Sink, Source};
+use smt_top::{Note, run, run_within};
+use std::alloc::{AllocError, Global};
+use std::cell::Cell;
+use std::test::Fail;
+
+/// The words of a line, cut at single spaces.
+fn words_of(alloc: Global, line: &str) -> Result<Vec<String>, AllocError> {
+    let mut words = Vec::new(alloc);
+    for word in line.split(' ') {
+        words.push(String::from_str(alloc, word)?)?;
+    }
+    Ok(words)
+}
+
+/// What becomes of a script that comes in pieces, where these calls of the source and of the sink
+/// fail. No call has the number 0.
+fn outcome(
+    alloc: Global,
+    script: &[u8],
+    piece: usize,
+    read_fails: u64,
+    write_fails: u64,
+) -> Result<(u8, Vec<u8>), AllocError> {
+    let words = words_of(alloc, "smt_cli")?;
+    let mut source = MemSource::new(script.to_vec(alloc)?, piece, vec![in alloc; read_fails]?);
+    let mut sink = MemSink::new(alloc, 200, vec![in alloc; write_fails]?)?;
+    let ended = run(alloc, &words, &mut source, &mut sink, &OpenGate);
+    Ok((ended.status, sink.written().to_vec(alloc)?))
+}
+
+#[test]
+fn answers_scripts(rt: HostRuntime) -> Result<(), Fail> {
+    for (script, status, want) in [
+        (b"".as_slice(), 0, b"".as_slice()),
+        (
+            b"(set-logic QF_UFLIA)(check-sat)(exit)",
+            0,
+            b"success\nsat\nsuccess\n",
+        ),
+        (
+            b"(check-sat)(assert",
+            1,
+            b"sat\n(error \"E3 end inside a command at byte 11\")\n",
+        ),
+        (
+            b"(set-logic QF_UF))(check-sat)",
+            1,
+            b"success\n(error \"E2 closing parenthesis at byte 17\")\n",
+        ),
+        (
+            b"(check-sat)(push 01)",
+            1,
+            b"sat\n(error \"E1 character at byte 17\")\n",
+        ),
+        (b"(exit)\xff\x00\x28", 0, b"success\n"),
+    ] {
+        for piece in [1, 4096] {
+            let (ended, written) = outcome(rt.alloc(), script, piece, 0, 0)?;
+            assert_eq!(rt; ended, status);
+            assert_eq!(rt; written.as_slice(), want);
+        }
+    }
+    Ok(())
+}
+
+#[test]
+fn stops_at_faults(rt: HostRuntime) -> Result<(), Fail> {
+    let alloc = rt.alloc();
+    let script = b"(set-logic QF_UFLIA)(check-sat)(exit)";
+    let (ended, written) = outcome(alloc, script, 99, 0, 3)?;
+    assert_eq!(rt; ended, 4);
+    assert_eq!(rt; written.as_slice(), b"success\nsat\n".as_slice());
+    let (ended, written) = outcome(alloc, b"(set-logic QF_UF)(check-sat)", 17, 2, 0)?;
+    assert_eq!(rt; ended, 3);
+    assert_eq!(rt; written.as_slice(), b"success\n".as_slice());
+    Ok(())
+}
+
+#[test]
+fn stops_at_the_budget(rt: HostRuntime) -> Result<(), Fail> {
+    let alloc = rt.alloc();
+    let words = words_of(alloc, "smt_cli")?;
+    let mut source = MemSource::new(b"(exit)".to_vec(alloc)?, 1, Vec::new(alloc));
+    let mut sink = MemSink::new(alloc, 20, Vec::new(alloc))?;
+    let ended = run_within(alloc, 2, &words, &mut source, &mut sink, &OpenGate);
+    assert_eq!(rt; ended.status, 6);
+    assert_eq!(rt; ended.note, Note::TooLong);
+    assert!(rt; sink.written().is_empty());
+    Ok(())
+}
+
+#[test]
+fn keeps_the_journal(rt: HostRuntime) -> Result<(), Fail> {
+    let alloc = rt.alloc();
+    let words = words_of(alloc, "smt_cli --workers 2")?;
+    let mut source = CalmSource::new(b"(check-sat)(check-sat)x".to_vec(alloc)?, 3);
+    let ended = run(alloc, &words, &mut source, &mut CalmSink, &OpenGate);
+    assert_eq!(rt; ended.status, 1);
+    assert_eq!(rt; ended.journal.len(), 3);
+    Ok(())
+}
+
+/// A source that notes at each call how many bytes have been written by then.
+#[derive(Drop)]
+struct Watching<'a> {
+    source: CalmSource,
+    written: &'a Cell<usize>,
+    seen: Vec<usize>,
+}
+
+impl Source for Watching<'_> {
+    ghost use Rattle.std.specs.Prelude.{None};
+
+    ghost told = { λ _. record {
+      left = None;
+      given = None;
+      faults = 0;
+    } };
+
+    fn more(&mut self, buf: &mut [u8]) -> More {
+        let _ = self.seen.push(self.written.get());
+        self.source.more(buf)
+    }
+}
+
+/// A sink that counts the bytes written.
+#[derive(Drop)]
+struct Counting<'a> {
+    written: &'a Cell<usize>,
+}
+
+impl Sink for Counting<'_> {
+    ghost use Rattle.std.specs.Prelude.{None};
+
+    ghost told = { λ _. record {
+      written = None;
+      calls = None;
+      faults = 0;
+    } };
+
+    fn put(&mut self, bytes: &[u8]) -> Put {
+        let count = self.written.get();
+        self.written.set(count.saturating_add(bytes.len()));
+        Put::Ok
+    }
+}
+
+#[test]
+fn answers_what_is_whole_before_it_asks_again(rt: HostRuntime) -> Result<(), Fail> {
+    let alloc = rt.alloc();
+    let words = words_of(alloc, "smt_cli")?;
+    let written = Cell::new(0);
+    let mut source = Watching {
+        source: CalmSource::new(b"(check-sat)(check-sat)".to_vec(alloc)?, 11),
+        written: &written,
+        seen: Vec::new(alloc),
+    };
+    let mut sink = Counting { written: &written };
+    let ended = run(alloc, &words, &mut source, &mut sink, &OpenGate);
+    assert_eq!(rt; ended.status, 0);
+    assert_eq!(rt; source.seen.as_slice(), [0, 4, 8].as_slice());
+    Ok(())
+}

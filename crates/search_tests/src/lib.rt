@@ -1,0 +1,5 @@
+//! Tests of stores of clauses, of the clauses of terms, and of what follows from equalities.
+#![tactic(auto)]
+
+#[cfg(test)]
+mod tests;

@@ -1,0 +1,5 @@
+mod assertions;
+mod classes;
+mod clauses;
+mod equalities;
+mod scans;

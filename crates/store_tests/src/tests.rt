@@ -1,0 +1,6 @@
+mod atoms;
+mod names;
+mod sorts;
+mod tables;
+mod terms;
+mod values;

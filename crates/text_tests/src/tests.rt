@@ -1,0 +1,6 @@
+mod ends;
+mod gates;
+mod kept;
+mod reading;
+mod replies;
+mod words;
