@@ -1,8 +1,7 @@
 //! Tests of commands on the s-expressions that the reader gives.
 #![tactic(auto)]
 
+#[cfg(test)]
 mod shown;
 #[cfg(test)]
 mod tests;
-
-pub use shown::judged;

@@ -72,40 +72,50 @@ fn outcome(
     ))
 }
 
+const USAGE: &[u8] = b"usage: smt_cli [--workers 1..16] [--units U] [--share 0..64] [--seed K]\n";
+
+/// Words, a script, what the program exits with, what it writes, and what it says.
+static ENDS: [(
+    &'static [&'static [u8]],
+    &'static [u8],
+    &'static str,
+    &'static [u8],
+    &'static [u8],
+); 4] = [
+    (
+        &[b"smt_cli", b"--seed=7"],
+        b"(check-sat)",
+        "ExitCode(unix_exit_status(0))",
+        b"sat\n",
+        b"",
+    ),
+    (
+        &[b"smt_cli"],
+        b"(check-sat))",
+        "ExitCode(unix_exit_status(1))",
+        b"sat\n(error \"E2 closing parenthesis at byte 11\")\n",
+        b"",
+    ),
+    (
+        &[b"smt_cli", b"--workers=0"],
+        b"(check-sat)",
+        "ExitCode(unix_exit_status(2))",
+        b"",
+        USAGE,
+    ),
+    (
+        &[b"smt_cli", b"--seed=\xff"],
+        b"(check-sat)",
+        "ExitCode(unix_exit_status(2))",
+        b"",
+        USAGE,
+    ),
+];
+
 #[test]
 fn ends_with_a_status_and_a_line(rt: HostRuntime) -> Result<(), Fail> {
-    let usage =
-        b"usage: smt_cli [--workers 1..16] [--units U] [--share 0..64] [--seed K]\n".as_slice();
-    for (given, script, code, written, said) in [
-        (
-            [b"smt_cli".as_slice(), b"--seed=7"].as_slice(),
-            b"(check-sat)".as_slice(),
-            "ExitCode(unix_exit_status(0))",
-            b"sat\n".as_slice(),
-            b"".as_slice(),
-        ),
-        (
-            &[b"smt_cli"],
-            b"(check-sat))",
-            "ExitCode(unix_exit_status(1))",
-            b"sat\n(error \"E2 closing parenthesis at byte 11\")\n",
-            b"",
-        ),
-        (
-            &[b"smt_cli", b"--workers=0"],
-            b"(check-sat)",
-            "ExitCode(unix_exit_status(2))",
-            b"",
-            usage,
-        ),
-        (
-            &[b"smt_cli", b"--seed=\xff"],
-            b"(check-sat)",
-            "ExitCode(unix_exit_status(2))",
-            b"",
-            usage,
-        ),
-    ] {
+    for row in ENDS.iter() {
+        let (given, script, code, written, said) = *row;
         let (ended, replies, line) = outcome(rt.alloc(), given, script)?;
         assert_eq!(rt; ended.as_str(), code);
         assert_eq!(rt; replies.as_slice(), written);

@@ -29,32 +29,36 @@ fn outcome(
     Ok((ended.status, sink.written().to_vec(alloc)?))
 }
 
+/// Scripts, the status at the end, and what is written.
+static SCRIPTS: [(&'static [u8], u8, &'static [u8]); 6] = [
+    (b"", 0, b""),
+    (
+        b"(set-logic QF_UFLIA)(check-sat)(exit)",
+        0,
+        b"success\nsat\nsuccess\n",
+    ),
+    (
+        b"(check-sat)(assert",
+        1,
+        b"sat\n(error \"E3 end inside a command at byte 11\")\n",
+    ),
+    (
+        b"(set-logic QF_UF))(check-sat)",
+        1,
+        b"success\n(error \"E2 closing parenthesis at byte 17\")\n",
+    ),
+    (
+        b"(check-sat)(push 01)",
+        1,
+        b"sat\n(error \"E1 character at byte 17\")\n",
+    ),
+    (b"(exit)\xff\x00\x28", 0, b"success\n"),
+];
+
 #[test]
 fn answers_scripts(rt: HostRuntime) -> Result<(), Fail> {
-    for (script, status, want) in [
-        (b"".as_slice(), 0, b"".as_slice()),
-        (
-            b"(set-logic QF_UFLIA)(check-sat)(exit)",
-            0,
-            b"success\nsat\nsuccess\n",
-        ),
-        (
-            b"(check-sat)(assert",
-            1,
-            b"sat\n(error \"E3 end inside a command at byte 11\")\n",
-        ),
-        (
-            b"(set-logic QF_UF))(check-sat)",
-            1,
-            b"success\n(error \"E2 closing parenthesis at byte 17\")\n",
-        ),
-        (
-            b"(check-sat)(push 01)",
-            1,
-            b"sat\n(error \"E1 character at byte 17\")\n",
-        ),
-        (b"(exit)\xff\x00\x28", 0, b"success\n"),
-    ] {
+    for row in SCRIPTS.iter() {
+        let (script, status, want) = *row;
         for piece in [1, 4096] {
             let (ended, written) = outcome(rt.alloc(), script, piece, 0, 0)?;
             assert_eq!(rt; ended, status);

@@ -224,27 +224,37 @@ fn the_first_of_many_rows_counts(rt: HostRuntime) -> Result<(), Fail> {
     Ok(())
 }
 
+/// The last of 500 conjunctions over a term, each of the one before it with itself.
+fn doubled(rt: &impl Abort, store: &mut TermStore, term: TermId) -> Result<TermId, Fail> {
+    let mut last = term;
+    for _ in 0..500 {
+        last = intern(rt, store, Head::Theory(And), &[last, last])?;
+    }
+    Ok(last)
+}
+
+/// The last of 10,001 negations over a term.
+fn negated(rt: &impl Abort, store: &mut TermStore, term: TermId) -> Result<TermId, Fail> {
+    let mut last = term;
+    for _ in 0..10_001 {
+        last = intern(rt, store, Head::Theory(Not), &[last])?;
+    }
+    Ok(last)
+}
+
 #[test]
 fn deep_and_shared_terms(rt: HostRuntime) -> Result<(), Fail> {
-    let interp = Seq::new(rt.alloc());
-    let mut store = TermStore::new(rt.alloc(), u32::MAX);
-    let mut double = intern(&rt, &mut store, Head::Theory(True), &[])?;
-    let mut negation = double;
-    for _ in 0..500 {
-        double = intern(&rt, &mut store, Head::Theory(And), &[double, double])?;
-    }
+    let alloc = rt.alloc();
+    let interp = Seq::new(alloc);
+    let mut store = TermStore::new(alloc, u32::MAX);
+    let first = intern(&rt, &mut store, Head::Theory(True), &[])?;
+    let double = doubled(&rt, &mut store, first)?;
     assert_eq!(rt; store.len(), 501);
-    assert_eq!(rt;
-        evaluate(&rt, rt.alloc(), &interp, &store, double),
-        Ok(Truth(true))
-    );
-    for _ in 0..10_001 {
-        negation = intern(&rt, &mut store, Head::Theory(Not), &[negation])?;
-    }
-    assert_eq!(rt;
-        evaluate(&rt, rt.alloc(), &interp, &store, negation),
-        Ok(Truth(false))
-    );
+    let value = evaluate(&rt, alloc, &interp, &store, double);
+    assert_eq!(rt; value, Ok(T));
+    let negation = negated(&rt, &mut store, first)?;
+    let value = evaluate(&rt, alloc, &interp, &store, negation);
+    assert_eq!(rt; value, Ok(F));
     Ok(())
 }
 
