@@ -3,6 +3,7 @@ ghost use Rattle.std.specs.Prelude.{◌≡◌, ◌+◌, ◌<◌, length, OnOk};
 use smt_meaning::{FaultKind, SExpr, TokenView, Word};
 use smt_reader::{Next, Reader, reads_in_one_way};
 use std::alloc::{AllocError, Global};
+use std::process::Abort;
 use std::test::Fail;
 
 type Fault = Option<(FaultKind, u64)>;
@@ -163,6 +164,24 @@ static SCRIPTS: [(&'static [u8], &'static [u8], Fault); 40] = [
     (b"\\", b"", Some((FaultKind::Character, 0))),
 ];
 
+// Compares what is read of a script in pieces of so many bytes.
+fn reads(
+    rt: &impl Abort,
+    alloc: Global,
+    script: &[u8],
+    step: usize,
+    finished: bool,
+    want: &[u8],
+    fault: Fault,
+) -> Result<(), AllocError>
+    requires { 0 < step }
+{
+    let (text, got) = read(alloc, script, step, finished)?;
+    assert_eq!(rt; text.as_slice(), want, "in pieces of {step}");
+    assert!(rt; got == fault, "in pieces of {step}");
+    Ok(())
+}
+
 // The lexicon of SMT-LIB 2.6, section 3.1, and the faults.
 #[test]
 fn reads_however_cut(rt: HostRuntime) -> Result<(), Fail> {
@@ -170,9 +189,7 @@ fn reads_however_cut(rt: HostRuntime) -> Result<(), Fail> {
     for row in SCRIPTS.iter() {
         let (script, want, fault) = *row;
         for step in [1, 2, 100] {
-            let (text, got) = read(rt.alloc(), script, step, true)?;
-            assert_eq!(rt; text.as_slice(), want, "in pieces of {step}");
-            assert!(rt; got == fault, "in pieces of {step}");
+            reads(&rt, rt.alloc(), script, step, true, want, fault)?;
         }
     }
     Ok(())
@@ -184,22 +201,39 @@ static FAULTY: [&'static [u8]; 18] = [
 ];
 
 // A word that is no token is a fault at its first byte, wherever it stands.
+
+// What stands before and after such a word, and what is read before it.
+static AROUND: [(&'static [u8], &'static [u8], &'static [u8]); 3] = [
+    (b"", b"", b""),
+    (b"a ", b" b", b"Sa, "),
+    (b"() (a (b ", b")", b"() "),
+];
+
+// Compares what is read of such a word between others.
+fn is_no_form(
+    rt: &impl Abort,
+    alloc: Global,
+    before: &[u8],
+    word: &[u8],
+    after: &[u8],
+    want: &[u8],
+) -> Result<(), AllocError> {
+    let mut script = before.to_vec(alloc)?;
+    script.extend_from_slice(word)?;
+    script.extend_from_slice(after)?;
+    let fault = Some((FaultKind::Character, before.len() as u64));
+    for step in [1, 2, 100] {
+        reads(rt, alloc, &script, step, true, want, fault)?;
+    }
+    Ok(())
+}
+
 #[test]
 fn words_of_no_form(rt: HostRuntime) -> Result<(), Fail> {
     for word in FAULTY.iter() {
-        for (before, after, want) in [
-            (b"".as_slice(), b"".as_slice(), b"".as_slice()),
-            (b"a ", b" b", b"Sa, "),
-            (b"() (a (b ", b")", b"() "),
-        ] {
-            let mut script = before.to_vec(rt.alloc())?;
-            script.extend_from_slice(word)?;
-            script.extend_from_slice(after)?;
-            for step in [1, 2, 100] {
-                let (text, got) = read(rt.alloc(), &script, step, true)?;
-                assert_eq!(rt; text.as_slice(), want, "in pieces of {step}");
-                assert!(rt; got == Some((FaultKind::Character, before.len() as u64)));
-            }
+        for row in AROUND.iter() {
+            let (before, after, want) = *row;
+            is_no_form(&rt, rt.alloc(), before, word, after, want)?;
         }
     }
     Ok(())
@@ -219,77 +253,68 @@ fn alone(byte: u8) -> (Option<u8>, Fault) {
     }
 }
 
+// What is read of a byte between blanks.
+fn text_alone(alloc: Global, byte: u8) -> Result<Vec<u8>, AllocError> {
+    let (kind, fault) = alone(byte);
+    let mut want = Vec::new(alloc);
+    if let Some(kind) = kind {
+        want.extend_from_slice(&[kind, byte, b',', b' '])?;
+    }
+    if fault.is_none() {
+        want.push(b'.')?;
+    }
+    Ok(want)
+}
+
 #[test]
 fn every_byte_alone(rt: HostRuntime) -> Result<(), Fail> {
     let alloc = rt.alloc();
     for byte in 0..=255 {
-        let (kind, fault) = alone(byte);
-        let mut want = Vec::new(alloc);
-        if let Some(kind) = kind {
-            want.extend_from_slice(&[kind, byte, b',', b' '])?;
-        }
-        if fault.is_none() {
-            want.push(b'.')?;
-        }
-        let (text, got) = read(alloc, &[b' ', byte, b' '], 1, true)?;
-        assert_eq!(rt; text.as_slice(), want.as_slice(), "at {byte}");
-        assert!(rt; got == fault, "at {byte}");
+        let want = text_alone(alloc, byte)?;
+        let (_, fault) = alone(byte);
+        reads(&rt, alloc, &[b' ', byte, b' '], 1, true, &want, fault)?;
     }
     Ok(())
+}
+
+// Whether no text in quotes, or no symbol in bars, has the byte.
+fn is_refused(mark: u8, byte: u8) -> bool {
+    byte == 127
+        || (byte < 32 && byte != 9 && byte != 10 && byte != 13)
+        || (mark == b'|' && byte == b'\\')
+}
+
+// Compares what is read of a byte between two marks, or of three marks.
+fn is_quoted(
+    rt: &impl Abort,
+    alloc: Global,
+    mark: u8,
+    byte: u8,
+    kind: u8,
+    three: (&[u8], u64),
+) -> Result<(), AllocError> {
+    let script = [mark, byte, mark];
+    if byte == mark {
+        let fault = Some((FaultKind::Unfinished, three.1));
+        reads(rt, alloc, &script, 1, true, three.0, fault)
+    } else if is_refused(mark, byte) {
+        let fault = Some((FaultKind::Character, 1));
+        reads(rt, alloc, &script, 1, true, b"", fault)
+    } else {
+        let want = [kind, byte, b',', b' ', b'.'];
+        reads(rt, alloc, &script, 1, true, &want, None)
+    }
 }
 
 #[test]
 fn every_byte_in_quotes(rt: HostRuntime) -> Result<(), Fail> {
     let alloc = rt.alloc();
-    for (mark, kind, twice) in [(b'"', b'T', (b"".as_slice(), 0)), (b'|', b'S', (b"S, ", 2))] {
-        for byte in 0..=255 {
-            let mut want = Vec::new(alloc);
-            let mut fault = None;
-            if byte == mark {
-                want.extend_from_slice(twice.0)?;
-                fault = Some((FaultKind::Unfinished, twice.1));
-            } else if byte == 127
-                || (byte < 32 && byte != 9 && byte != 10 && byte != 13)
-                || (mark == b'|' && byte == b'\\')
-            {
-                fault = Some((FaultKind::Character, 1));
-            } else {
-                want.extend_from_slice(&[kind, byte, b',', b' ', b'.'])?;
-            }
-            let (text, got) = read(alloc, &[mark, byte, mark], 1, true)?;
-            assert_eq!(rt; text.as_slice(), want.as_slice(), "at {byte}");
-            assert!(rt; got == fault, "at {byte}");
-        }
+    for byte in 0..=255 {
+        is_quoted(&rt, alloc, b'"', byte, b'T', (b"", 0))?;
+        is_quoted(&rt, alloc, b'|', byte, b'S', (b"S, ", 2))?;
     }
     Ok(())
 }
-
-static SETTLED: [(&'static [u8], &'static [u8], Fault); 24] = [
-    (b"", b"", None),
-    (b" ;)", b"", None),
-    (b"a", b"", None),
-    (b"a ", b"Sa, ", None),
-    (b"a;", b"Sa, ", None),
-    (b"a(", b"Sa, ", None),
-    (b"1)", b"N1, ", Some((FaultKind::Closing, 1))),
-    (b"1", b"", None),
-    (b"1a", b"", Some((FaultKind::Character, 0))),
-    (b"00", b"", Some((FaultKind::Character, 0))),
-    (b"(1a", b"", Some((FaultKind::Character, 1))),
-    (b"1.", b"", None),
-    (b"#", b"", None),
-    (b"#xg", b"", Some((FaultKind::Character, 0))),
-    (b":", b"", None),
-    (b": ", b"", Some((FaultKind::Character, 0))),
-    (b"\"a\"", b"", None),
-    (b"\"a\" ", b"Ta, ", None),
-    (b"\"a\x01", b"", Some((FaultKind::Character, 2))),
-    (b"|a|", b"Sa, ", None),
-    (b"(a)", b"(Sa,) ", None),
-    (b"((a)", b"", None),
-    (b"(\"a\"", b"", None),
-    (b")", b"", Some((FaultKind::Closing, 0))),
-];
 
 // What is read while more bytes may follow.
 #[test]
@@ -297,33 +322,45 @@ fn answers_as_soon_as_settled(rt: HostRuntime) -> Result<(), Fail> {
     for row in SETTLED.iter() {
         let (script, want, fault) = *row;
         for step in [1, 100] {
-            let (text, got) = read(rt.alloc(), script, step, false)?;
-            assert_eq!(rt; text.as_slice(), want, "in pieces of {step}");
-            assert!(rt; got == fault, "in pieces of {step}");
+            reads(&rt, rt.alloc(), script, step, false, want, fault)?;
         }
     }
     Ok(())
 }
 
+// So many parentheses that open, and so many that close.
+fn lists(alloc: Global, opened: usize, closed: usize) -> Result<Vec<u8>, AllocError> {
+    let mut script = vec![in alloc; b'('; opened]?;
+    script.extend_from_slice(&vec![in alloc; b')'; closed]?)?;
+    Ok(script)
+}
+
+// How many parentheses open and close, whether the script ends there, and the fault.
+static NESTED: [(usize, usize, bool, Fault); 5] = [
+    (10_000, 0, true, Some((FaultKind::Unfinished, 0))),
+    (10_000, 0, false, None),
+    (10_001, 0, false, Some((FaultKind::Nesting, 10_000))),
+    (10_001, 10_001, true, Some((FaultKind::Nesting, 10_000))),
+    (10_000, 9_999, true, Some((FaultKind::Unfinished, 0))),
+];
+
 // At most 10,000 lists are open at a time.
 #[test]
 fn nests_so_deep(rt: HostRuntime) -> Result<(), Fail> {
     let alloc = rt.alloc();
-    for (opened, closed, finished, fault) in [
-        (10_000, 0, true, Some((FaultKind::Unfinished, 0))),
-        (10_000, 0, false, None),
-        (10_001, 0, false, Some((FaultKind::Nesting, 10_000))),
-        (10_001, 10_001, true, Some((FaultKind::Nesting, 10_000))),
-        (10_000, 9_999, true, Some((FaultKind::Unfinished, 0))),
-    ] {
-        let mut script = vec![in alloc; b'('; opened]?;
-        script.extend_from_slice(&vec![in alloc; b')'; closed]?)?;
-        let (text, got) = read(alloc, &script, 4096, finished)?;
-        assert!(rt; text.is_empty());
-        assert!(rt; got == fault, "with {opened} and {closed}");
+    for row in NESTED.iter() {
+        let (opened, closed, finished, fault) = *row;
+        let script = lists(alloc, opened, closed)?;
+        reads(&rt, alloc, &script, 4096, finished, b"", fault)?;
     }
-    let mut script = vec![in alloc; b'('; 10_000]?;
-    script.extend_from_slice(&vec![in alloc; b')'; 10_000]?)?;
+    Ok(())
+}
+
+// The bytes are compared whole, since a message would show all 20,000.
+#[test]
+fn reads_the_deepest_list(rt: HostRuntime) -> Result<(), Fail> {
+    let alloc = rt.alloc();
+    let mut script = lists(alloc, 10_000, 10_000)?;
     let (text, got) = read(alloc, &script, 4096, true)?;
     script.extend_from_slice(b" .")?;
     assert!(rt; text == script);
@@ -331,25 +368,25 @@ fn nests_so_deep(rt: HostRuntime) -> Result<(), Fail> {
     Ok(())
 }
 
+// So many times these bytes, and then the last ones.
+fn repeated(alloc: Global, bytes: &[u8], count: usize, last: &[u8]) -> Result<Vec<u8>, AllocError> {
+    let mut all = Vec::new(alloc);
+    for _ in 0..count {
+        all.extend_from_slice(bytes)?;
+    }
+    all.extend_from_slice(last)?;
+    Ok(all)
+}
+
 // Places are counted from the beginning of the input, however much of it was read and let go.
 #[test]
 fn places_of_later_pieces(rt: HostRuntime) -> Result<(), Fail> {
     let alloc = rt.alloc();
-    let mut script = Vec::new(alloc);
-    let mut want = Vec::new(alloc);
-    for _ in 0..100 {
-        script.extend_from_slice(b"(a) ")?;
-        want.extend_from_slice(b"(Sa,) ")?;
-    }
-    script.extend_from_slice(b"(b ) )")?;
-    want.extend_from_slice(b"(Sb,) ")?;
+    let script = repeated(alloc, b"(a) ", 100, b"(b ) )")?;
+    let want = repeated(alloc, b"(Sa,) ", 100, b"(Sb,) ")?;
+    let fault = Some((FaultKind::Closing, 405));
     for step in [1, 3, 4, 5, 1000] {
-        let (text, got) = read(alloc, &script, step, true)?;
-        assert!(rt; text == want, "in pieces of {step}");
-        assert!(rt;
-            got == Some((FaultKind::Closing, 405)),
-            "in pieces of {step}"
-        );
+        reads(&rt, alloc, &script, step, true, &want, fault)?;
     }
     Ok(())
 }
