@@ -320,12 +320,12 @@ pivot_fits_so r items before new rows row n m c place t view count lt same ok =
     let h = here items before rows n place t view lt same in
     on_ok_weaker r (λ p. seen items before rows row n m c place true t view count lt same (λ d. fitting_fits before n c place d h.0 h.1 (pivoted_fitting before new c place d (p d)))) ok
 
-pub tried_fits_so : {T E : Type 0} (r : Result T E) (items before new : List Row) (rows : List TableRow) (row : TableRow) (n m c place : ℕ) → IsTableau n items → map plain items ≡ rows → n ≡ m → place < length rows
-    → before ≡ items → ((k : ℕ) (e : Row) → k < length before → IsSameRow (get_or before k e) (get_or new k e)) → OnOk r ((d : Row) → IsTriedPivot c place before new d)
+pub tried_fits_so : {T E : Type 0} (r : Result T E) (items before new : List Row) (rows : List TableRow) (row : TableRow) (n m c place : ℕ) (ks : List ℕ) → IsTableau n items → map plain items ≡ rows → n ≡ m → place < length rows
+    → before ≡ items → ((k : ℕ) (e : Row) → k < length before → IsSameRow (get_or before k e) (get_or new k e)) → OnOk r ((d : Row) → IsTriedPivot c place ks before new d)
     → OnOk r (pivot_fits m rows (get_or rows place row).basic c ≡ true)
-tried_fits_so r items before new rows row n m c place t view count lt same kept ok =
+tried_fits_so r items before new rows row n m c place ks t view count lt same kept ok =
     let h = here items before rows n place t view lt same in
-    on_ok_weaker r (λ p. seen items before rows row n m c place true t view count lt same (λ d. fitting_fits before n c place d h.0 h.1 (tried_fitting before new c place d kept (p d)))) ok
+    on_ok_weaker r (λ p. seen items before rows row n m c place true t view count lt same (λ d. fitting_fits before n c place d h.0 h.1 (tried_fitting before new c place ks d kept (p d)))) ok
 
 pub refused_so : {T : Type 0} (r : Result T Failure) (items before : List Row) (rows : List TableRow) (row : TableRow) (n m c place : ℕ) → IsTableau n items → map plain items ≡ rows → n ≡ m → place < length rows
     → before ≡ items → IfErr r (λ e. IsRange e → (d : Row) → IsRefused c place before d) → IfErr r (λ e. IsRange e → pivot_fits m rows (get_or rows place row).basic c ≡ false)

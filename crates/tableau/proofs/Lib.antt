@@ -12,3 +12,6 @@ pub mod FitTests
 pub mod Places
 pub mod Writing
 pub mod PlaceLemmas
+pub mod Lists
+pub mod HolderLemmas
+pub mod Passes

@@ -1,5 +1,5 @@
 -- One row through a pivot, and the places of the form.
-use Rattle.std.proofs.Common.{◌≡◌, ◌≢◌, ℕ, zero, suc, ◌+◌, ◌-◌, ◌<◌, ◌≤◌, ◌⊎◌, inl, inr, pos, negsuc, sym, ap, ap₂, ◌∙◌, subst, refl, arith, List, [], ◌∷◌, length, take, drop, get_or, Bool, true, false, cond, nat_lt, length-append}
+use Rattle.std.proofs.Common.{◌≡◌, ◌≢◌, ℕ, zero, suc, ◌+◌, ◌-◌, ◌<◌, ◌≤◌, ◌⊎◌, inl, inr, pos, negsuc, sym, ap, ap₂, ◌∙◌, subst, refl, arith, List, [], ◌∷◌, length, take, drop, get_or, Bool, true, false, cond, nat_lt, length-append, Contains}
 use Rattle.std.proofs.lemmas.Bool.Decides.{nat_tests}
 use Rattle.std.proofs.lemmas.List.{get_or-take, get_or_append_left, get_or-append-add, length-take-le, length-drop, get_or-drop, get_or_default}
 use Rattle.number_meaning.specs.declared.ratio.Ratio.{Ratio}
@@ -8,7 +8,8 @@ use Rattle.grid_meaning.specs.declared.Entry.{Entry}
 use Rattle.number_meaning.specs.Number.{whole}
 use Rattle.tableau.specs.declared.rows.Row.{Row}
 use Rattle.tableau.specs.Rows.{entry, scaled, zero_form, without, coefficient_at, entry_at}
-use Rattle.tableau.specs.Staged.{IsSameRow, IsTried, IsTriedPivot, IsCommitted, IsChanged, IsReplaced, Lacks, IsForm, IsPivoted, IsFitting, RowFits, IsFormRefused, IsOtherRefused, IsRefused}
+use Rattle.tableau.specs.Staged.{IsSameRow, IsTried, IsTriedPivot, IsCommitted, IsChanged, IsReplaced, Lacks, IsForm, IsPivoted, IsFitting, RowFits, IsFormRefused, IsOtherRefused, IsRefused, HasVariable}
+use Rattle.tableau.proofs.Lists.{in_list}
 
 -- the row that b leaves
 pub solved_row : (b c : ℕ) (form : List Entry) (q : ℕ) (before mid now : Row) → IsSameRow before mid → IsTried b c form q mid → IsCommitted mid now → before.basic ≡ b
@@ -97,18 +98,20 @@ form_here before c place q form entries r r' d lt entries_is f =
     subst (λ (x : Row). IsForm (get_or before place d).basic c x.entries.items form q) (get_or_default before place r' d lt)
     (subst (λ es. IsForm (get_or before place d).basic c es form q) entries_is (subst (λ (x : Row). IsForm x.basic c entries form q) (get_or_default before place r d lt) f))
 
-pub tried_is : (before mid : List Row) (c place q : ℕ) (form form' entries : List Entry) (r r' d : Row) → place < length before
+pub tried_is : (before mid : List Row) (c place q : ℕ) (ks : List ℕ) (form form' entries : List Entry) (r r' d : Row) → place < length before
     → entries ≡ (get_or before place r').entries.items → form' ≡ form → IsForm (get_or before place r).basic c entries form q
-    → ((k : ℕ) (e : Row) → k < length before → IsTried (get_or before place r).basic c form' q (get_or mid k e))
-    → IsTriedPivot c place before mid d
-tried_is before mid c place q form form' entries r r' d lt entries_is form_is is_form tried =
+    → ((k : ℕ) (e : Row) → k < length before → Contains ks k → IsTried (get_or before place r).basic c form' q (get_or mid k e))
+    → ((k : ℕ) (e : Row) → k < length before → HasVariable c (get_or before k e).entries.items → Contains ks k)
+    → IsTriedPivot c place ks before mid d
+tried_is before mid c place q ks form form' entries r r' d lt entries_is form_is is_form tried listed =
     record {
       form = form;
       q = q;
       is_form = form_here before c place q form entries r r' d lt entries_is is_form;
-      tried = λ k h.
+      tried = λ k h is.
           subst (λ (x : Row). IsTried x.basic c form q (get_or mid k d)) (get_or_default before place r d lt)
-          (subst (λ es. IsTried (get_or before place r).basic c es q (get_or mid k d)) form_is (tried k d h));
+          (subst (λ es. IsTried (get_or before place r).basic c es q (get_or mid k d)) form_is (tried k d h is));
+      others = λ k h none i li is. none (listed k d h (i, li, is));
     }
 
 pub refused_form : (before : List Row) (c place : ℕ) (entries : List Entry) (r r' d : Row) → place < length before → entries ≡ (get_or before place r').entries.items
@@ -130,25 +133,34 @@ refused_other before c place q form form' entries r r' d lt entries_is form_is i
     )
 
 -- all rows through a pivot
-pub pivoted_is : (before mid now : List Row) (c place : ℕ) (d : Row) → place < length before
+pub pivoted_is : (before mid now : List Row) (c place : ℕ) (ks : List ℕ) (d : Row) → place < length before
     → ((k : ℕ) (e : Row) → k < length before → (get_or before k e).basic ≡ (get_or before place e).basic → k ≡ place)
+    → ((k : ℕ) (e : Row) → k < length before → HasVariable c (get_or before k e).entries.items → Contains ks k)
     → ((k : ℕ) (e : Row) → k < length before → IsSameRow (get_or before k e) (get_or mid k e))
-    → IsTriedPivot c place before mid d
-    → ((k : ℕ) (e : Row) → k < length mid → IsCommitted (get_or mid k e) (get_or now k e))
+    → IsTriedPivot c place ks before mid d
+    → ((k : ℕ) (e : Row) → k < length mid → Contains ks k → IsCommitted (get_or mid k e) (get_or now k e))
+    → ((k : ℕ) (e : Row) → (Contains ks k → ⊥) → get_or now k e ≡ get_or mid k e)
     → length mid ≡ length before
     → IsPivoted c place before now d
-pivoted_is before mid now c place d lt distinct same p committed len =
-    let solved = solved_row (get_or before place d).basic c p.form p.q (get_or before place d) (get_or mid place d) (get_or now place d) (same place d lt) (p.tried place lt) (committed place d (omega arith)) refl in
+pivoted_is before mid now c place ks d lt distinct listed same p committed rest len =
+    let f = p.is_form in
+    let here : Contains ks place = listed place d lt (f.place, f.in_row, f.is_entering) in
+    let solved = solved_row (get_or before place d).basic c p.form p.q (get_or before place d) (get_or mid place d) (get_or now place d) (same place d lt) (p.tried place lt here) (committed place d (omega arith) here) refl in
     record {
       form = p.form;
       q = p.q;
       is_form = p.is_form;
       basic = solved.0;
       solved = solved.1;
-      others = λ k h ne.
-          changed_row (get_or before place d).basic c p.form p.q (get_or before k d) (get_or mid k d) (get_or now k d) (same k d h) (p.tried k h) (committed k d (omega arith))
-          (λ e. ne (distinct k d h e));
+      others = λ k h ne. by_list k h (λ e. ne (distinct k d h e)) (in_list ks k);
     }
+  where
+    by_list : (k : ℕ) → k < length before → (get_or before k d).basic ≢ (get_or before place d).basic → Contains ks k ⊎ (Contains ks k → ⊥) → IsChanged c p.form (get_or before k d) (get_or now k d)
+    by_list k h other (inl is) =
+        changed_row (get_or before place d).basic c p.form p.q (get_or before k d) (get_or mid k d) (get_or now k d) (same k d h) (p.tried k h is) (committed k d (omega (arith, h, len)) is) other
+    by_list k h other (inr none) =
+        let e = rest k d none in
+        (ap (λ (x : Row). x.basic) e ∙ (same k d h).basic, inr (p.others k h none, ap (λ (x : Row). x.entries.items) e ∙ (same k d h).entries))
 
 -- ---- what fits
 
@@ -165,14 +177,14 @@ pivoted_fitting before now c place d p =
     kind x y (inl (i, l, is, e, fits)) = inl (i, l, is, fits)
     kind x y (inr (l, e)) = inr l
 
-pub tried_fitting : (before mid : List Row) (c place : ℕ) (d : Row) → ((k : ℕ) (e : Row) → k < length before → IsSameRow (get_or before k e) (get_or mid k e))
-    → IsTriedPivot c place before mid d → IsFitting c place before d
-tried_fitting before mid c place d same p =
+pub tried_fitting : (before mid : List Row) (c place : ℕ) (ks : List ℕ) (d : Row) → ((k : ℕ) (e : Row) → k < length before → IsSameRow (get_or before k e) (get_or mid k e))
+    → IsTriedPivot c place ks before mid d → IsFitting c place before d
+tried_fitting before mid c place ks d same p =
     record {
       form = p.form;
       q = p.q;
       is_form = p.is_form;
-      others = λ k h ne. kind (get_or before k d) (get_or mid k d) (same k d h) ne (p.tried k h);
+      others = λ k h ne. by_list k h ne (in_list ks k);
     }
   where
     replaced : (y : Row) → IsReplaced c p.form y.entries.items y.next.items → RowFits c p.form y.entries.items
@@ -182,3 +194,7 @@ tried_fitting before mid c place d same p =
     kind x y s ne (inl t) = absurd (ne (sym s.basic ∙ t.0))
     kind x y s ne (inr (o, inl t)) = subst (RowFits c p.form) s.entries (replaced y t.2)
     kind x y s ne (inr (o, inr t)) = subst (RowFits c p.form) s.entries (inr t.1)
+
+    by_list : (k : ℕ) → k < length before → (get_or before k d).basic ≢ (get_or before place d).basic → Contains ks k ⊎ (Contains ks k → ⊥) → RowFits c p.form (get_or before k d).entries.items
+    by_list k h ne (inl is) = kind (get_or before k d) (get_or mid k d) (same k d h) ne (p.tried k h is)
+    by_list k h ne (inr none) = inr (p.others k h none)

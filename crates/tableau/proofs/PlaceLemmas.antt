@@ -82,7 +82,7 @@ placed_added n rows r places later t is added len here others p =
 
 -- ---- a pivot
 
-entry_listed : (m c : ℕ) (rows : List Row) (place : ℕ) (d : Row) → IsTableau m rows → place < length rows → HasEntry c (get_or rows place d).entries.items → c < m
+pub entry_listed : (m c : ℕ) (rows : List Row) (place : ℕ) (d : Row) → IsTableau m rows → place < length rows → HasEntry c (get_or rows place d).entries.items → c < m
 entry_listed m c rows place d t lt h = by_order (cases_lt c m)
   where
     by_order : (c < m) ⊎ (m ≤ c) → c < m

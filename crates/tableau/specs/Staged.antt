@@ -1,5 +1,5 @@
 -- What a pivot that is being tried makes of a row.
-use Rattle.std.specs.Prelude.{slice_index_or, ◌≤◌, ◌+◌, pos, nat_lt, if◌then◌else◌, ◌≡◌, ◌≢◌, ℕ, ◌<◌, ◌⊎◌, true, false, List, length}
+use Rattle.std.specs.Prelude.{slice_index_or, Contains, ◌≤◌, ◌+◌, pos, nat_lt, if◌then◌else◌, ◌≡◌, ◌≢◌, ℕ, ◌<◌, ◌⊎◌, true, false, List, length}
 use Rattle.number_meaning.specs.declared.ratio.Ratio.{Ratio}
 use Rattle.number_meaning.specs.Ratio.{IsReciprocal, IsFraction}
 use Rattle.number_meaning.specs.Listed.{negation_of, reciprocal_of}
@@ -11,6 +11,9 @@ use Rattle.tableau.specs.Rows.{variable_at, coefficient_at, merged, without, sca
 -- the row has the variable, and gets a multiple of the form; or it doesn't
 abbrev pub IsReplaced : ℕ → List Entry → List Entry → List Entry → Type 0
 IsReplaced c form es es' = (i : ℕ) × (i < length es) × (variable_at es i ≡ c) × (es' ≡ merged (coefficient_at es i) es form) × (merged_fits (coefficient_at es i) es form ≡ true)
+
+abbrev pub HasVariable : ℕ → List Entry → Type 0
+HasVariable c es = (i : ℕ) × (i < length es) × (variable_at es i ≡ c)
 
 abbrev pub Lacks : ℕ → List Entry → Type 0
 Lacks c es = (k : ℕ) → k < length es → variable_at es k ≢ c
@@ -121,9 +124,10 @@ pub record IsFitting (c place : ℕ) (rows : List Row) (d : Row) : Type 0 where
   pub is_form : IsForm (slice_index_or rows place d).basic c (slice_index_or rows place d).entries.items form q
   pub others : (k : ℕ) → k < length rows → (slice_index_or rows k d).basic ≢ (slice_index_or rows place d).basic → RowFits c form (slice_index_or rows k d).entries.items
 
--- the form of the row at the place, tried on each row
-pub record IsTriedPivot (c place : ℕ) (before mid : List Row) (d : Row) : Type 0 where
+-- the form of the row at the place, tried on each row listed; the others lack the variable
+pub record IsTriedPivot (c place : ℕ) (ks : List ℕ) (before mid : List Row) (d : Row) : Type 0 where
   pub form : List Entry
   pub q : ℕ
   pub is_form : IsForm (slice_index_or before place d).basic c (slice_index_or before place d).entries.items form q
-  pub tried : (k : ℕ) → k < length before → IsTried (slice_index_or before place d).basic c form q (slice_index_or mid k d)
+  pub tried : (k : ℕ) → k < length before → Contains ks k → IsTried (slice_index_or before place d).basic c form q (slice_index_or mid k d)
+  pub others : (k : ℕ) → k < length before → (Contains ks k → ⊥) → Lacks c (slice_index_or before k d).entries.items

@@ -1,9 +1,10 @@
 //! Rows with room for what a pivot makes of them.
-ghost use Rattle.std.specs.Prelude.{◌≡◌, ℕ, ◌<◌, ◌≤◌, ◌≢◌, ◌⊎◌, pos, true, [], ◌∷◌, length, slice_index_or, IfSome, IfNone, OnOk, IfOk, IfErr, OnErr, false};
+ghost use Rattle.std.specs.Prelude.{◌≡◌, ℕ, ◌<◌, ◌≤◌, ◌≢◌, ◌⊎◌, pos, true, [], ◌∷◌, length, slice_index_or, Contains, IfSome, IfNone, OnOk, IfOk, IfErr, OnErr, false};
 ghost use Rattle.tableau.specs.Failing.{IsRange};
 ghost use Rattle.tableau.specs.Fitting.{scaled_fits};
 ghost use Rattle.tableau.specs.Rows.{IsAscending, variable_at, coefficient_at, scaled, merged, zero_form, without};
-ghost use Rattle.tableau.specs.Staged.{IsStaged, IsTried, IsCommitted, IsSameRow, HasEntry, IsForm, IsPivoted, IsFormRefused, IsRowRefused, IsOtherRefused, IsRefused, IsFitting, IsTriedPivot};
+ghost use Rattle.tableau.specs.Staged.{IsStaged, IsTried, IsCommitted, IsSameRow, HasEntry, IsForm, IsPivoted, IsFormRefused, IsRowRefused, IsOtherRefused, IsRefused, IsFitting, IsTriedPivot, HasVariable};
+ghost use Rattle.tableau.specs.Holders.{items_at, IsIndexed};
 ghost use Rattle.number_meaning.specs.Number.{whole};
 ghost use Rattle.number_meaning.specs.Ratio.{IsFraction};
 ghost use Rattle.grid_meaning.specs.Grid.{coefficient};
@@ -11,6 +12,7 @@ ghost use Rattle.tableau.specs.declared.rows.Row.{Row};
 ghost use Rattle.tableau.specs.declared.failure.Failure.TheVariants.{Memory};
 
 use crate::failure::Failure;
+use crate::holders::{Change, file, forget_lost, note_rows};
 use crate::merge::{append_merged, append_scaled};
 use crate::search::{place_among, place_of};
 use fraction128::Fraction;
@@ -116,13 +118,15 @@ pub fn stage_solved(
     Ok(())
 }
 
-/// Makes the row what the pivot made of it.
+/// Makes the row what the pivot made of it, once.
 pub fn commit(row: &mut Row)
-    ensures { IsCommitted row.old row.new }
+    ensures made { IsCommitted row.old row.new }
+    ensures once { row.new.changes ≡ false }
 {
     if row.changes {
         mem::swap(&mut row.entries, &mut row.next);
         row.basic = row.next_basic;
+        row.changes = false;
     }
 }
 
@@ -147,9 +151,10 @@ fn try_row(
     }
 }
 
-/// Tries a pivot on all rows. The rows themselves stay.
+/// Tries a pivot on the rows at these places; a place past the rows is passed over. The rows themselves stay.
 pub fn try_rows(
     rows: &mut [Row],
+    list: &[usize],
     basic: u32,
     entering: u32,
     form: &[Entry],
@@ -158,27 +163,35 @@ pub fn try_rows(
     requires ascending { (k : ℕ) (d : Row) → k < length rows.old → IsAscending (slice_index_or rows.old k d).entries.items }
     requires place { place < length form.now }
     ensures same { (k : ℕ) (d : Row) → k < length rows.old → IsSameRow (slice_index_or rows.old k d) (slice_index_or rows.new k d) }
-    ensures ok { OnOk result ((k : ℕ) (d : Row) → k < length rows.old → IsTried basic entering form.now place (slice_index_or rows.new k d)) }
+    ensures ok { OnOk result ((k : ℕ) (d : Row) → k < length rows.old → Contains list.now k → IsTried basic entering form.now place (slice_index_or rows.new k d)) }
     ensures range { IfErr result (λ e. IsRange e → (d : Row) → IsOtherRefused basic entering form.now rows.old d) }
 {
-    for row in rows.iter_mut() {
-        try_row(row, basic, entering, form, place)?;
+    for here in list {
+        if *here >= rows.len() {
+            continue;
+        }
+        try_row(&mut rows[*here], basic, entering, form, place)?;
     }
     Ok(())
 }
 
-/// Makes each row what the pivot made of it.
-pub fn commit_rows(rows: &mut [Row])
-    ensures { (k : ℕ) (d : Row) → k < length rows.old → IsCommitted (slice_index_or rows.old k d) (slice_index_or rows.new k d) }
+/// Makes each row at these places what the pivot made of it.
+pub fn commit_rows(rows: &mut [Row], list: &[usize])
+    ensures made { (k : ℕ) (d : Row) → k < length rows.old → Contains list.now k → IsCommitted (slice_index_or rows.old k d) (slice_index_or rows.new k d) }
+    ensures others { (k : ℕ) (d : Row) → (Contains list.now k → ⊥) → slice_index_or rows.new k d ≡ slice_index_or rows.old k d }
 {
-    for row in rows.iter_mut() {
-        commit(row);
+    for here in list {
+        if *here >= rows.len() {
+            continue;
+        }
+        commit(&mut rows[*here]);
     }
 }
 
-/// Tries the pivot of the row at a place with the entering variable on all rows. The rows themselves stay.
+/// Tries the pivot of the row at a place with the entering variable on all rows that have it, whose places are listed. The rows themselves stay.
 pub fn try_pivot_rows(
     rows: &mut [Row],
+    list: &[usize],
     form: &mut Vec<Entry>,
     place: usize,
     entering: u32,
@@ -186,31 +199,38 @@ pub fn try_pivot_rows(
     requires place { place < length rows.old }
     requires ascending { (k : ℕ) (d : Row) → k < length rows.old → IsAscending (slice_index_or rows.old k d).entries.items }
     requires entry { (d : Row) → HasEntry entering (slice_index_or rows.old place d).entries.items }
+    requires listed { (k : ℕ) (d : Row) → k < length rows.old → HasVariable entering (slice_index_or rows.old k d).entries.items → Contains list.now k }
     ensures same { (k : ℕ) (d : Row) → k < length rows.old → IsSameRow (slice_index_or rows.old k d) (slice_index_or rows.new k d) }
-    ensures ok { OnOk result ((d : Row) → IsTriedPivot entering place rows.old rows.new d) }
+    ensures ok { OnOk result ((d : Row) → IsTriedPivot entering place list.now rows.old rows.new d) }
     ensures range { IfErr result (λ e. IsRange e → (d : Row) → IsRefused entering place rows.old d) }
 {
     let basic = rows[place].basic;
     let solved = prepare(form, basic, &rows[place].entries, entering)?;
-    try_rows(rows, basic, entering, form, solved)
+    try_rows(rows, list, basic, entering, form, solved)
 }
 
-/// Pivots the row at a place with the entering variable: in all rows the form of that row takes its place. An `Err` changes no row.
+/// Pivots the row at a place with the entering variable: in all rows that have it the form of that row takes its place. An `Err` changes no row.
 pub fn pivot_rows(
     rows: &mut [Row],
+    holders: &mut Vec<Vec<usize>>,
+    changes: &mut Vec<Change>,
     form: &mut Vec<Entry>,
     place: usize,
     entering: u32,
 ) -> Result<(), Failure>
     requires place { place < length rows.old }
-    requires ascending { (k : ℕ) (d : Row) → k < length rows.old → IsAscending (slice_index_or rows.old k d).entries.items }
-    requires distinct { (k : ℕ) (d : Row) → k < length rows.old → (slice_index_or rows.old k d).basic ≡ (slice_index_or rows.old place d).basic → k ≡ place }
+    requires indexed { IsIndexed rows.old holders.old.items }
     requires entry { (d : Row) → HasEntry entering (slice_index_or rows.old place d).entries.items }
     ensures ok { OnOk result ((d : Row) → IsPivoted entering place rows.old rows.new d) }
+    ensures indexed { IsIndexed rows.new holders.new.items }
     ensures range { IfErr result (λ e. IsRange e → (d : Row) → IsRefused entering place rows.old d) }
     ensures err { OnErr result ((k : ℕ) (d : Row) → k < length rows.old → IsSameRow (slice_index_or rows.old k d) (slice_index_or rows.new k d)) }
 {
-    try_pivot_rows(rows, form, place, entering)?;
-    commit_rows(rows);
+    try_pivot_rows(rows, &holders[entering as usize], form, place, entering)?;
+    note_rows(changes, rows, &holders[entering as usize])?;
+    file(holders, changes, entering)?;
+    commit_rows(rows, &holders[entering as usize]);
+    forget_lost(holders, rows, changes);
+    holders[entering as usize].clear();
     Ok(())
 }

@@ -1,14 +1,15 @@
 //! The tableau.
-ghost use Rattle.std.specs.Prelude.{◌≡◌, ◌≢◌, ◌↔◌, ℕ, ◌+◌, ◌-◌, ◌^◌, ◌<◌, ◌≤◌, pos, true, false, [], ◌∷◌, ◌++◌, length, OnOk, OnErr, IfOk, IfErr, IfSome, IfNone, Some, None};
+ghost use Rattle.std.specs.Prelude.{◌≡◌, ◌≢◌, ◌↔◌, ℕ, ◌+◌, ◌-◌, ◌^◌, ◌<◌, ◌≤◌, pos, true, false, [], ◌∷◌, ◌++◌, length, Contains, OnOk, OnErr, IfOk, IfErr, IfSome, IfNone, Some, None};
 ghost use Rattle.number_meaning.specs.declared.ratio.Ratio.{Ratio};
 ghost use Rattle.number_meaning.specs.Number.{is_zero};
 ghost use Rattle.grid_meaning.specs.Grid.{MeetsRows, coefficient, row_of, pivoted_rows, pivot_fits};
 ghost use Rattle.tableau.specs.Failing.{IsRange};
 ghost use Rattle.tableau.specs.declared.failure.Failure.TheVariants.{Memory};
 ghost use Rattle.tableau.specs.Rows.{IsAscending, variable_at, coefficient_at};
-ghost use Rattle.tableau.specs.Staged.{Lacks, HasEntry};
+ghost use Rattle.tableau.specs.Staged.{Lacks, HasEntry, HasVariable};
 
 use crate::failure::Failure;
+use crate::holders::{Change, index_row};
 use crate::row_places::{add_row, exchange, place_in};
 use crate::rows::{Row, check_fractions, pivot_rows, try_pivot_rows};
 use crate::search::coefficient_in;
@@ -23,6 +24,9 @@ pub struct Tableau {
     rows: Vec<Row>,
     /// For each variable the place of its row, where it is basic. It may end before the variables do: those past it aren't basic.
     places: Vec<Option<usize>>,
+    /// For each variable the places of the rows that have it. It may end before the variables do: those past it have none. Where memory was wanting, others are listed too.
+    holders: Vec<Vec<usize>>,
+    changes: Vec<Change>,
     form: Vec<Entry>,
     count: u32,
 }
@@ -35,10 +39,11 @@ impl Model for Tableau {
     ghost use Rattle.std.specs.Prelude.{map};
     ghost use Rattle.tableau.specs.Table.{plain, IsTableau};
     ghost use Rattle.tableau.specs.Places.{IsPlaced};
+    ghost use Rattle.tableau.specs.Holders.{IsIndexed};
 
     ghost view = { λ t. record { count = t.count; rows = map plain t.rows.items } };
 
-    ghost invariant = { λ t. IsTableau t.count t.rows.items × IsPlaced t.count t.rows.items t.places.items };
+    ghost invariant = { λ t. IsTableau t.count t.rows.items × IsPlaced t.count t.rows.items t.places.items × IsIndexed t.rows.items t.holders.items };
 }
 
 impl Tableau {
@@ -51,6 +56,8 @@ impl Tableau {
         Tableau {
             rows: Vec::new(alloc),
             places: Vec::new(alloc),
+            holders: Vec::new(alloc),
+            changes: Vec::new(alloc),
             form: Vec::new(alloc),
             count: 0,
         }
@@ -95,6 +102,7 @@ impl Tableau {
     {
         let basic = self.count;
         check_fractions(&entries);
+        index_row(&mut self.holders, self.rows.len(), &entries, basic + 1)?;
         add_row(
             &mut self.rows,
             &mut self.places,
@@ -160,6 +168,17 @@ impl Tableau {
         place_in(&self.places, variable)
     }
 
+    /// The places of the rows that have a variable, in any order. Where memory was wanting, other places are listed too.
+    pub fn holders(&self, variable: u32) -> &[usize]
+        ensures { (k : ℕ) → k < length self.now.rows → HasVariable variable (row_at self.now.rows k).entries → Contains result.now k }
+    {
+        if (variable as usize) < self.holders.len() {
+            &self.holders[variable as usize]
+        } else {
+            &[]
+        }
+    }
+
     /// Whether a variable is basic.
     pub fn is_basic(&self, variable: u32) -> bool
         ensures yes { result ≡ true → (k : ℕ) × (k < length self.now.rows) × ((row_at self.now.rows k).basic ≡ variable) }
@@ -183,7 +202,14 @@ impl Tableau {
         ensures err { OnErr result (self.new ≡ self.old) }
     {
         let basic = self.rows[place].basic;
-        let made = pivot_rows(&mut self.rows, &mut self.form, place, entering);
+        let made = pivot_rows(
+            &mut self.rows,
+            &mut self.holders,
+            &mut self.changes,
+            &mut self.form,
+            place,
+            entering,
+        );
         exchange(&mut self.places, &made, basic, entering, place);
         made
     }
@@ -196,6 +222,7 @@ impl Tableau {
         ensures fits { OnOk result (pivot_fits self.old.count self.old.rows (row_at self.old.rows place).basic entering ≡ true) }
         ensures range { IfErr result (λ e. IsRange e → pivot_fits self.old.count self.old.rows (row_at self.old.rows place).basic entering ≡ false) }
     {
-        try_pivot_rows(&mut self.rows, &mut self.form, place, entering)
+        let list = &self.holders[entering as usize];
+        try_pivot_rows(&mut self.rows, list, &mut self.form, place, entering)
     }
 }

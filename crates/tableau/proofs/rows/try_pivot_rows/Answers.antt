@@ -11,8 +11,8 @@ try_rows-requires-clause-place c =
 pub returns-clause-ok : goal.returns-clause-ok
 returns-clause-ok c =
     on_ok_weaker c.try_rows.result
-    (λ h d. tried_is c.args.rows.now c.try_rows.new.rows c.args.entering c.args.place c.in_ok-solved.solved c.prepare.new.out.items c.deref-2.result.now c.deref.result.now
-    c.index-rows-place.result c.index-rows-place-2.result d c.requires.place c.deref.ensures.value c.deref-2.ensures.value c.in_ok-solved.ensures.ok h)
+    (λ h d. tried_is c.args.rows.now c.try_rows.new.rows c.args.entering c.args.place c.in_ok-solved.solved c.args.list.now c.prepare.new.out.items c.deref-2.result.now c.deref.result.now
+    c.index-rows-place.result c.index-rows-place-2.result d c.requires.place c.deref.ensures.value c.deref-2.ensures.value c.in_ok-solved.ensures.ok h c.requires.listed)
     c.try_rows.ensures.ok
 
 pub returns-clause-range : goal.returns-clause-range

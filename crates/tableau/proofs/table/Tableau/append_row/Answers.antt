@@ -1,4 +1,4 @@
-use Rattle.std.proofs.Common.{sym, subst, ap, refl, ℕ, ◌<◌, ◌≤◌, ◌+◌, length, List, ◌++◌, ◌∷◌, []}
+use Rattle.std.proofs.Common.{◌≡◌, sym, subst, ap, refl, ℕ, ◌<◌, ◌≤◌, ◌+◌, length, List, ◌++◌, ◌∷◌, [], Contains, arith}
 use Rattle.grid_meaning.specs.declared.TableRow.{TableRow}
 use Rattle.number_meaning.specs.Ratio.{IsFraction}
 use Rattle.tableau.specs.Rows.{coefficient_at}
@@ -8,12 +8,24 @@ use Rattle.tableau.proofs.Fractions.{fractions_of}
 use Rattle.tableau.proofs.TableLemmas.{row_added}
 use Rattle.tableau.specs.Places.{IsPlaced}
 use Rattle.tableau.proofs.PlaceLemmas.{placed_unmade, placed_added}
+use Rattle.tableau.specs.Rows.{variable_at}
+use Rattle.tableau.specs.Holders.{items_at, IsIndexed}
+use Rattle.tableau.proofs.HolderLemmas.{indexed_more, indexed_added}
 use Rattle.tableau.proofs.table.Tableau.append_row.Goals as goal
 
 pub invariant_of-self : goal.invariant_of-self
 invariant_of-self c = (
+  c.self.invariant.0,
+  c.self.invariant.1,
+  indexed_more c.self.inside.rows.items c.self.inside.holders.items c.index_row.new.holders.items c.in_err-index_row.ensures.least c.in_err-index_row.ensures.keeps c.self.invariant.2,
+)
+
+pub invariant_of-self-in_err-add_row : goal.invariant_of-self-in_err-add_row
+invariant_of-self-in_err-add_row c = (
   subst (IsTableau c.self.inside.count) (sym c.in_err-add_row.ensures.same) c.self.invariant.0,
   placed_unmade c.self.inside.count c.self.inside.rows.items c.add_row.new.rows.items c.self.inside.places.items c.add_row.new.places.items c.in_err-add_row.ensures.same c.add_row.ensures.least c.add_row.ensures.within c.in_err-add_row.ensures.unplaced c.self.invariant.1,
+  subst (λ rs. IsIndexed rs c.index_row.new.holders.items) (sym c.in_err-add_row.ensures.same)
+      (indexed_more c.self.inside.rows.items c.self.inside.holders.items c.index_row.new.holders.items c.in_ok-index_row.ensures.least c.in_ok-index_row.ensures.keeps c.self.invariant.2),
 )
 
 pub invariant_of-self-2 : goal.invariant_of-self-2
@@ -27,4 +39,11 @@ invariant_of-self-2 c =
       subst (IsTableau (c.self.inside.count + 1)) (sym c.in_ok-add_row.ensures.rows) added,
       subst (λ rs. IsPlaced (c.self.inside.count + 1) rs c.add_row.new.places.items) (sym c.in_ok-add_row.ensures.rows)
           (placed_added c.self.inside.count c.self.inside.rows.items _ c.self.inside.places.items c.add_row.new.places.items c.self.invariant.0 refl added c.in_ok-add_row.ensures.count c.in_ok-add_row.ensures.placed c.in_ok-add_row.ensures.others c.self.invariant.1),
+      subst (λ rs. IsIndexed rs c.index_row.new.holders.items) (sym c.in_ok-add_row.ensures.rows)
+          (indexed_added c.self.inside.rows.items _ (c.self.inside.count + 1) c.self.inside.holders.items c.index_row.new.holders.items added (let l = c.in_ok-index_row.ensures.count in omega (arith, l)) c.in_ok-index_row.ensures.keeps
+          (subst (λ n. (i : ℕ) → i < length c.args.entries.items → variable_at c.args.entries.items i < length c.index_row.new.holders.items → Contains (items_at c.index_row.new.holders.items (variable_at c.args.entries.items i)) n)
+          (let z : c.len.result ≡ length c.self.inside.rows.items = omega (arith, c.self.inside.rows.ok.0) in z)
+          (subst (λ es. (i : ℕ) → i < length es → variable_at es i < length c.index_row.new.holders.items → Contains (items_at c.index_row.new.holders.items (variable_at es i)) c.len.result) c.deref-2.ensures.value
+          c.in_ok-index_row.ensures.listed))
+          c.self.invariant.2),
     )

@@ -1,10 +1,12 @@
-use Rattle.std.proofs.Common.{◌∙◌, ap, refl}
+use Rattle.std.proofs.Common.{◌∙◌, ap, refl, sym, subst}
 use Rattle.std.proofs.lemmas.Result.{on_ok_weaker, on_err_weaker}
 use Rattle.grid_meaning.specs.Grid.{pivoted_rows}
 use Rattle.tableau.specs.Table.{Table, no_row, row_at}
 use Rattle.tableau.proofs.PivotedRows.{pivot_rows_are}
 use Rattle.tableau.proofs.FitTests.{pivot_fits_so, refused_so}
 use Rattle.tableau.proofs.TableLemmas.{pivot_kept, pivot_keeps, pivot_same, pivot_entered, pivot_others}
+use Rattle.tableau.specs.Holders.{IsIndexed}
+use Rattle.tableau.proofs.HolderLemmas.{indexed_back}
 use Rattle.tableau.proofs.PlaceLemmas.{basic_listed, entering_listed, pivot_placed}
 use Rattle.tableau.proofs.table.Tableau.pivot.Goals as goal
 
@@ -23,7 +25,12 @@ invariant_of-self c = (
   pivot_placed c.pivot_rows-made.result c.self.inside.rows.len c.self.inside.count c.index.result.now.basic c.args.entering c.args.place c.self.inside.rows.items c.deref_mut.result.now c.pivot_rows-made.new.rows c.args.self.now.rows
       c.self.inside.places.items c.exchange.new.places.items c.index.result.now c.self.invariant.1 (ap (λ (t : Table). t.rows) c.self.view_is) c.requires.place c.deref_mut.ensures.value c.self.inside.rows.ok.0 c.pivot_rows-made.auto.rows
       c.index.ensures refl c.requires.entry c.pivot_rows-made.ensures.ok c.pivot_rows-made.ensures.err c.exchange.ensures.ok c.exchange.ensures.err,
+  indexed_back c.self.inside.rows.len c.self.inside.rows.items c.deref_mut.result.now c.pivot_rows-made.new.rows c.pivot_rows-made.new.holders.items
+      c.deref_mut.ensures.value c.self.inside.rows.ok.0 c.pivot_rows-made.auto.rows c.pivot_rows-made.ensures.indexed,
 )
+
+pub pivot_rows-made-requires-clause-indexed : goal.pivot_rows-made-requires-clause-indexed
+pivot_rows-made-requires-clause-indexed c = subst (λ rs. IsIndexed rs c.self.inside.holders.items) (sym c.deref_mut.ensures.value) c.self.invariant.2
 
 pub returns-clause-keeps : goal.returns-clause-keeps
 returns-clause-keeps c =
