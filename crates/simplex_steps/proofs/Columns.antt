@@ -1,6 +1,6 @@
 -- Columns whose values change, and that they are those of the definitions.
-use Rattle.std.proofs.Common.{◌≡◌, ◌≢◌, ℕ, ℤ, zero, suc, ◌+◌, ◌<◌, ◌≤◌, ◌⊎◌, inl, inr, pos, negsuc, sym, ap, ap₂, ◌∙◌, subst, refl, arith, List, [], ◌∷◌, ◌++◌, length, get_or, take, set, get_or-set_other, get_or-set_same, append_assoc, Bool, true, false, cond, eqb, eqb-true, eq-eqb, unsigned_abs, Option, Some, None, ◌&&◌, Result, Ok, Err, OnOk, OnErr}
-use Rattle.std.proofs.lemmas.List.{take_more, append-nil, length-set, ext_get_or, get_or_default}
+use Rattle.std.proofs.Common.{◌≡◌, ◌≢◌, ℕ, ℤ, zero, suc, ◌<◌, ◌≤◌, ◌⊎◌, inl, inr, pos, negsuc, sym, ap, ap₂, ◌∙◌, subst, refl, arith, List, [], ◌∷◌, ◌++◌, length, get_or, set, get_or-set_other, get_or-set_same, Bool, true, false, cond, eqb, eqb-true, eq-eqb, unsigned_abs, Option, Some, None, ◌&&◌, Result, Ok, Err, OnOk, OnErr}
+use Rattle.std.proofs.lemmas.List.{length-set, ext_get_or, get_or_default}
 use Rattle.std.proofs.lemmas.Bool.{cases_lt}
 use Rattle.number_meaning.specs.declared.ratio.Ratio.{Ratio}
 use Rattle.number_meaning.specs.Number.{whole, is_zero}
@@ -14,24 +14,13 @@ use Rattle.grid_meaning.specs.Grid.{every_row, fused_fits, coefficient, row_of, 
 use Rattle.grid_laws.proofs.Moments.{length_with, col_with}
 use Rattle.tableau.specs.Rows.{IsAscending}
 use Rattle.tableau.specs.Staged.{HasEntry, Lacks}
-use Rattle.tableau.specs.Table.{Table, IsTable, row_at, no_row, AreNonzero}
+use Rattle.tableau.specs.Table.{Table, IsTable, row_at, AreNonzero}
 use Rattle.tableau.proofs.Absent.{fused_none, fused_none_fits}
 use Rattle.tableau.proofs.Places.{row_first, row_none, row_some, row_lacks}
 use Rattle.tableau.proofs.Shape.{coefficient_found, coefficient_free, places_free}
 use Rattle.simplex_steps.specs.declared.moves.Moved.{Moved}
 use Rattle.simplex_steps.specs.Moved.{shift, shifts, shift_fits, applied, with_value, landed, moved_to, row_distance, pivoted_to}
 use Rattle.simplex_steps.specs.State.{grid_of, column_in, no_column, values, SameBounds, KeepsBounds, IsSolution}
-
-shifts_append : (cs : List Column) (i : ℕ) (t : Ratio) (xs ys : List TableRow) → shifts cs i t (xs ++ ys) ≡ shifts cs i t xs ++ shifts cs i t ys
-shifts_append cs i t [] ys = refl
-shifts_append cs i t (x ∷ xs) ys =
-    ap (λ ms. shift cs i t x ++ ms) (shifts_append cs i t xs ys) ∙ sym (append_assoc (shift cs i t x) (shifts cs i t xs) (shifts cs i t ys))
-
-pub more_shifts : (cs : List Column) (i : ℕ) (t : Ratio) (rows : List TableRow) (k : ℕ) (before now : List Moved) → k < length rows → before ≡ shifts cs i t (take k rows) → now ≡ before ++ shift cs i t (row_at rows k)
-    → now ≡ shifts cs i t (take (k + 1) rows)
-more_shifts cs i t rows k before now lt e f =
-    f ∙ ap₂ ◌++◌ e (sym (append-nil (shift cs i t (row_at rows k)))) ∙ sym (shifts_append cs i t (take k rows) (row_at rows k ∷ []))
-    ∙ ap (shifts cs i t) (sym (take_more rows k no_row lt))
 
 -- ---- one column
 
@@ -85,7 +74,7 @@ landed_keeps ms cs i x = keeps_through cs (applied ms cs) (landed ms cs i x) (ap
 
 -- ---- columns are determined by bounds and values
 
-with_its_value : (c d : Column) → SameBounds c d → c ≡ with_value d c.value
+pub with_its_value : (c d : Column) → SameBounds c d → c ≡ with_value d c.value
 with_its_value c d s =
     ap (λ z. let r : Column = record { sum = z; lower = c.lower; upper = c.upper; value = c.value } in r) s.sum
     ∙ ap (λ z. let r : Column = record { sum = d.sum; lower = z; upper = c.upper; value = c.value } in r) s.lower
@@ -106,7 +95,7 @@ variables_append : (P : ℕ → Type 0) (xs ys : List Moved) → VariablesOf P x
 variables_append P [] ys h g = g
 variables_append P (x ∷ xs) ys h g = (h.0, variables_append P xs ys h.1 g)
 
-applied_other : (ms : List Moved) (cs : List Column) (j : ℕ) → VariablesOf (λ i. i ≢ j) ms → column_in (applied ms cs) j ≡ column_in cs j
+pub applied_other : (ms : List Moved) (cs : List Column) (j : ℕ) → VariablesOf (λ i. i ≢ j) ms → column_in (applied ms cs) j ≡ column_in cs j
 applied_other [] cs j h = refl
 applied_other (m ∷ ms) cs j h =
     applied_other ms (set cs m.variable (with_value (column_in cs m.variable) m.value)) j h.1
@@ -179,20 +168,6 @@ distinct_from (r ∷ rs) h = (
   basics_from (λ b. b ≢ r.basic) rs (λ k lt e. let z : suc k ≡ zero = h (suc k) zero (omega (arith, lt)) (omega arith) e in absurd (omega (arith, z))),
   distinct_from rs (λ j k lj lk e. let z : suc j ≡ suc k = h (suc j) (suc k) (omega (arith, lj)) (omega (arith, lk)) e in omega (arith, z)),
 )
-
--- the listed variables are known
-variables_at : (P : ℕ → Type 0) (ms : List Moved) (k : ℕ) (d : Moved) → VariablesOf P ms → k < length ms → P (get_or ms k d).variable
-variables_at P [] k d h lt = absurd (omega (arith, lt))
-variables_at P (m ∷ ms) zero d h lt = h.0
-variables_at P (m ∷ ms) (suc k) d h lt = variables_at P ms k d h.1 (omega (arith, lt))
-
-pub shifts_known : (t : Table) (cs : List Column) (i : ℕ) (dist : Ratio) (ms : List Moved) → IsTable t → length cs ≡ t.count → ms ≡ shifts cs i dist t.rows → (k : ℕ) (d : Moved) → k < length ms
-    → (get_or ms k d).variable < length cs
-shifts_known t cs i dist ms facts count e k d lt =
-    variables_at (λ b. b < length cs) ms k d
-    (subst (VariablesOf (λ b. b < length cs)) (sym e)
-    (shifts_of (λ b. b < length cs) cs i dist t.rows (basics_from (λ b. b < length cs) t.rows (λ j lj. let b = facts.basics j lj in omega (arith, b, count)))))
-    lt
 
 abs_zero : (z : ℤ) → unsigned_abs z ≡ 0 → z ≡ pos 0
 abs_zero (pos n) e = ap pos e

@@ -1,4 +1,5 @@
 pub mod Columns
+pub mod Shifts
 pub mod Next
 pub mod ConflictLemmas
 pub mod Sound

@@ -1,5 +1,5 @@
 -- The values that variables get in a step.
-use Rattle.std.specs.Prelude.{ℕ, ℤ, Bool, List, [], ◌∷◌, flat_map, slice_set, if◌then◌else◌, ◌&&◌}
+use Rattle.std.specs.Prelude.{ℕ, ℤ, Bool, List, [], ◌∷◌, Contains, flat_map, slice_set, if◌then◌else◌, ◌&&◌}
 use Rattle.number_meaning.specs.declared.ratio.Ratio.{Ratio}
 use Rattle.number_meaning.specs.Listed.{sum_of, sum_steps, product_of, product_steps, reciprocal_of, fused}
 use Rattle.number_meaning.specs.Number.{whole, is_zero}
@@ -16,6 +16,11 @@ shift cs i t r = if is_zero (coefficient r.entries i) then [] else record { vari
 
 abbrev pub shifts : List Column → ℕ → Ratio → List TableRow → List Moved
 shifts cs i t rows = flat_map (shift cs i t) rows
+
+-- the list has the moves of those rows and no others, in any order
+pub record AreShifts (cs : List Column) (i : ℕ) (t : Ratio) (rows : List TableRow) (ms : List Moved) : Type 0 where
+  pub only : (m : Moved) → Contains ms m → Contains (shifts cs i t rows) m
+  pub each : (m : Moved) → Contains (shifts cs i t rows) m → Contains ms m
 
 abbrev pub shift_fits : List Column → ℕ → Ratio → TableRow → Bool
 shift_fits cs i t r = fused_fits (values cs r.basic) (coefficient r.entries i) t

@@ -2,6 +2,7 @@
 ghost use Rattle.std.specs.Prelude.{◌≡◌, ◌≢◌, ℕ, ◌+◌, ◌<◌, ◌≤◌, ◌⊎◌, ◌↔◌, ◌&&◌, pos, true, false, [], ◌∷◌, ◌++◌, length, slice_index_or, slice_set, take, OnOk, OnErr, IfOk, IfErr, Some, None};
 ghost use Rattle.number_meaning.specs.declared.ratio.Ratio.{Ratio};
 ghost use Rattle.number_meaning.specs.Whole.{InRange};
+ghost use Rattle.number_meaning.specs.Ratio.{IsFraction};
 ghost use Rattle.number_meaning.specs.Number.{whole, is_zero};
 ghost use Rattle.number_meaning.specs.Listed.{sum_of, product_of, reciprocal_of, fused};
 ghost use Rattle.grid_meaning.specs.Grid.{coefficient, distance, distance_fits, fused_fits, every_row, MeetsRows, pivoted_rows, pivot_fits};
@@ -9,7 +10,7 @@ ghost use Rattle.tableau.specs.Failing.{IsRange};
 ghost use Rattle.tableau.specs.Table.{row_at};
 ghost use Rattle.tableau.specs.Staged.{HasEntry};
 ghost use Rattle.simplex_steps.specs.State.{column_in, values};
-ghost use Rattle.simplex_steps.specs.Moved.{shift, shifts, shift_fits, applied, landed, moved_to, moved_fits, row_distance, pivoted_to, pivoted_fits, entering_fits};
+ghost use Rattle.simplex_steps.specs.Moved.{shift, shifts, AreShifts, shift_fits, applied, landed, moved_to, moved_fits, row_distance, pivoted_to, pivoted_fits, entering_fits};
 
 use fraction128::{Fraction, Range};
 use grid_meaning::Column;
@@ -68,7 +69,16 @@ fn list_shift(
     }
 }
 
-/// Lists what the basic variables become when a variable moves by a distance.
+/// Tells that each value is a fraction in lowest terms, as each `Fraction` is.
+fn check_values(columns: &[Column])
+    ensures { (i : ℕ) (d : Column) → i < length columns.now → IsFraction (slice_index_or columns.now i d).value }
+{
+    for column in columns {
+        let _value = column.value.ratio();
+    }
+}
+
+/// Lists what the basic variables become when a variable moves by a distance, each of them at least once.
 fn list_shifts(
     moved: &mut Vec<Moved>,
     tableau: &Tableau,
@@ -77,13 +87,20 @@ fn list_shifts(
     distance: Fraction,
 ) -> Result<(), Failure>
     requires { length columns.now ≡ tableau.now.count }
-    ensures ok { OnOk result (moved.new.items ≡ shifts columns.now variable distance tableau.now.rows) }
+    ensures ok { OnOk result (AreShifts columns.now variable distance tableau.now.rows moved.new.items) }
     ensures fits { OnOk result (every_row tableau.now.rows (shift_fits columns.now variable distance) ≡ true) }
     ensures range { IfErr result (λ e. IsRange e → every_row tableau.now.rows (shift_fits columns.now variable distance) ≡ false) }
 {
+    tableau.facts();
+    check_values(columns);
+    let _distance = distance.ratio();
     moved.clear();
-    for place in 0..tableau.len() {
-        list_shift(moved, tableau, columns, place, variable, distance)?;
+    let places = tableau.holders(variable);
+    for place in places {
+        if *place >= tableau.len() {
+            continue;
+        }
+        list_shift(moved, tableau, columns, *place, variable, distance)?;
     }
     Ok(())
 }
@@ -129,7 +146,7 @@ fn list_move(
     requires count { length columns.now ≡ tableau.now.count }
     requires number { InRange number }
     requires known { variable < tableau.now.count }
-    ensures ok { OnOk result (moved.new.items ≡ shifts columns.now variable (distance number (values columns.now variable)) tableau.now.rows) }
+    ensures ok { OnOk result (AreShifts columns.now variable (distance number (values columns.now variable)) tableau.now.rows moved.new.items) }
     ensures fits { OnOk result (moved_fits tableau.now.rows columns.now variable number ≡ true) }
     ensures range { IfErr result (λ e. IsRange e → moved_fits tableau.now.rows columns.now variable number ≡ false) }
 {
@@ -194,7 +211,7 @@ fn list_pivot(
     requires known { entering < tableau.now.count }
     requires nonzero { is_zero (coefficient (row_at tableau.now.rows place).entries entering) ≡ false }
     ensures value { IfOk result (λ x. x ≡ sum_of (values columns.now entering) (row_distance tableau.now.rows columns.now place number entering)) }
-    ensures moved { OnOk result (moved.new.items ≡ shifts columns.now entering (row_distance tableau.now.rows columns.now place number entering) tableau.now.rows) }
+    ensures moved { OnOk result (AreShifts columns.now entering (row_distance tableau.now.rows columns.now place number entering) tableau.now.rows moved.new.items) }
     ensures fits { OnOk result (pivoted_fits tableau.now.rows columns.now place number entering ≡ true) }
     ensures range { IfErr result (λ e. IsRange e → pivoted_fits tableau.now.rows columns.now place number entering ≡ false) }
 {

@@ -1,7 +1,29 @@
-use Rattle.std.proofs.Common.{◌∙◌}
-use Rattle.simplex_steps.proofs.Columns.{shifts_known}
+use Rattle.std.proofs.Common.{◌≡◌, sym, subst, ap, ◌∙◌, rules}
+use Rattle.std.proofs.lemmas.Int.{to_z-of_z}
+use Rattle.std.specs.Int.{w128}
+use Rattle.number_meaning.specs.declared.ratio.Ratio.{Ratio}
+use Rattle.number_meaning.specs.Number.{whole}
+use Rattle.grid_meaning.specs.Grid.{distance}
+use Rattle.simplex_steps.specs.Moved.{shifts, AreShifts, landed}
+use Rattle.simplex_steps.specs.State.{values}
+use Rattle.simplex_steps.proofs.Shifts.{moves_known, shifts_landed}
 use Rattle.simplex_steps.proofs.moves.move_columns.Goals as goal
 
 pub land-requires-clause-moved : goal.land-requires-clause-moved
 land-requires-clause-moved c =
-    shifts_known c.args.tableau.now c.args.columns.now c.args.variable _ c.deref.result.now c.facts.ensures c.requires.count (c.deref.ensures.value ∙ c.in_ok-list_move.ensures.ok)
+    let dist = distance c.args.number (values c.args.columns.now c.args.variable) in
+    moves_known c.args.tableau.now c.args.columns.now c.args.variable dist c.deref.result.now c.facts.ensures c.requires.count
+    (subst (AreShifts c.args.columns.now c.args.variable dist c.args.tableau.now.rows) (sym c.deref.ensures.value)
+    (subst (λ n. AreShifts c.args.columns.now c.args.variable (distance n (values c.args.columns.now c.args.variable)) c.args.tableau.now.rows c.list_move.new.moved.items) (to_z-of_z w128 c.args.number c.ranges.number)
+    c.in_ok-list_move.ensures.ok))
+
+pub returns-clause-ok : goal.returns-clause-ok
+returns-clause-ok c =
+    let dist = distance c.args.number (values c.args.columns.now c.args.variable) in
+    let number : c.from_whole.result ≡ whole c.args.number = search rules in
+    c.land.ensures
+    ∙ shifts_landed c.args.tableau.now c.args.columns.now c.args.variable dist c.deref.result.now c.args.variable c.from_whole.result c.facts.ensures
+    (subst (AreShifts c.args.columns.now c.args.variable dist c.args.tableau.now.rows) (sym c.deref.ensures.value)
+    (subst (λ n. AreShifts c.args.columns.now c.args.variable (distance n (values c.args.columns.now c.args.variable)) c.args.tableau.now.rows c.list_move.new.moved.items) (to_z-of_z w128 c.args.number c.ranges.number)
+    c.in_ok-list_move.ensures.ok))
+    ∙ ap (λ (x : Ratio). landed (shifts c.args.columns.now c.args.variable dist c.args.tableau.now.rows) c.args.columns.now c.args.variable x) number
