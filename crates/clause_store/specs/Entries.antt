@@ -1,5 +1,5 @@
 -- The kept clauses by their places, each with its two watched literals, and the lists of watches.
-use Rattle.std.specs.Prelude.{◌≡◌, ℕ, ◌<◌, ◌⊎◌, Bool, true, false, List, [], take, drop, slice_index_or, All}
+use Rattle.std.specs.Prelude.{◌≡◌, ℕ, ◌+◌, ◌-◌, ◌^◌, ◌<◌, ◌⊎◌, min, Bool, true, false, List, [], take, drop, slice_index_or, All}
 use Rattle.literals.specs.Signed.{Signed, packed}
 use Rattle.clause_store.specs.declared.rows.Row.{Row}
 use Rattle.clause_store.specs.declared.lists.Watch.{Watch}
@@ -27,6 +27,15 @@ no_entry = record { literals = []; first = zero_literal; second = zero_literal; 
 -- the entry at a place, and one that isn't live past the end
 abbrev pub entry_at : List Entry → ℕ → Entry
 entry_at es i = slice_index_or es i no_entry
+
+-- the clauses by their places, and how often one was looked at
+pub record Held : Type 0 where
+  pub entries : List Entry
+  pub looks : ℕ
+
+-- the count after one more look; it stands still at its last value
+abbrev pub risen : ℕ → ℕ
+risen looks = min (looks + 1) (2 ^ 64 - 1)
 
 -- the watches of a literal
 abbrev pub watches_of : List (List Watch) → Signed → List Watch

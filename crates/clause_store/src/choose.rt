@@ -143,11 +143,12 @@ pub fn keep_up(
 ) -> Result<Option<usize>, AllocError>
     requires some { 0 < length literals.now }
     requires known { All (λ (l : Signed). l.atom < trail.now.atoms) literals.now }
-    requires small { length rows.old + 1 < 2 ^ 32 }
+    requires small { length rows.old.entries + 1 < 2 ^ 32 }
     requires room { 2 * trail.now.atoms ≤ length lists.old }
-    ensures gains { OnOk result (GainsEntry rows.old rows.new literals.now level) }
-    ensures same { OnErr result ((rows.new ≡ rows.old) × (lists.new ≡ lists.old) × (waiting.new.items ≡ waiting.old.items)) }
-    ensures keeps { IfOk result (λ o. IfSome o (λ after. KeepsUp trail.now.atoms trail.now.steps rows.old rows.new lists.old lists.new waiting.old.items waiting.new.items head after)) }
+    ensures looks { rows.new.looks ≡ rows.old.looks }
+    ensures gains { OnOk result (GainsEntry rows.old.entries rows.new.entries literals.now level) }
+    ensures same { OnErr result ((rows.new.entries ≡ rows.old.entries) × (lists.new ≡ lists.old) × (waiting.new.items ≡ waiting.old.items)) }
+    ensures keeps { IfOk result (λ o. IfSome o (λ after. KeepsUp trail.now.atoms trail.now.steps rows.old.entries rows.new.entries lists.old lists.new waiting.old.items waiting.new.items head after)) }
 {
     let row = rows.len() as u32;
     let choice = choose(literals, trail);

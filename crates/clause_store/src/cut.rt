@@ -15,8 +15,9 @@ fn bound(level: i32) -> u32
 
 // Forgets the clauses of levels that aren't below the bound.
 fn cut_rows(rows: &mut Rows, bound: u32)
-    requires small { length rows.old < 2 ^ 32 }
-    ensures { IsCut bound rows.old rows.new (length rows.old) }
+    requires small { length rows.old.entries < 2 ^ 32 }
+    ensures cut { IsCut bound rows.old.entries rows.new.entries (length rows.old.entries) }
+    ensures looks { rows.new.looks ≡ rows.old.looks }
 {
     for i in 0..rows.len() {
         let row = i as u32;
@@ -28,9 +29,10 @@ fn cut_rows(rows: &mut Rows, bound: u32)
 
 // Forgets the clauses of levels above this.
 pub fn cut_to(rows: &mut Rows, level: i32)
-    requires small { length rows.old < 2 ^ 32 }
-    ensures fewer { IsFewer rows.old rows.new }
-    ensures clauses { kept_from 0 rows.new ≡ up_to_level level (kept_from 0 rows.old) }
+    requires small { length rows.old.entries < 2 ^ 32 }
+    ensures looks { rows.new.looks ≡ rows.old.looks }
+    ensures fewer { IsFewer rows.old.entries rows.new.entries }
+    ensures clauses { kept_from 0 rows.new.entries ≡ up_to_level level (kept_from 0 rows.old.entries) }
 {
     cut_rows(rows, bound(level));
 }

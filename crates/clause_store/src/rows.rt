@@ -1,5 +1,5 @@
 // Every clause's literals in one arena, and its two watched literals.
-ghost use Rattle.std.specs.Prelude.{◌≡◌, ℕ, ◌<◌, ◌^◌, List, [], ◌∷◌, ◌++◌, length, slice_set, true, false, OnOk, OnErr};
+ghost use Rattle.std.specs.Prelude.{◌≡◌, ℕ, ◌<◌, ◌≤◌, ◌^◌, List, [], ◌∷◌, ◌++◌, length, slice_set, true, false, OnOk, OnErr};
 ghost use Rattle.literals.specs.Signed.{Signed};
 
 use literals::Literal;
@@ -47,12 +47,12 @@ impl Model for Looked {
 
 impl Model for Rows {
     ghost use Rattle.std.specs.Prelude.{List, map, All, ◌+◌, ◌≤◌, length};
-    ghost use Rattle.clause_store.specs.Entries.{Entry, entry_of};
+    ghost use Rattle.clause_store.specs.Entries.{Held, entry_of};
     ghost use Rattle.clause_store.specs.declared.rows.Row.{Row};
 
-    ghost Value = { List Entry };
+    ghost Value = { Held };
 
-    ghost view = { λ r. map (entry_of r.literals.items) r.rows.items };
+    ghost view = { λ r. record { entries = map (entry_of r.literals.items) r.rows.items; looks = r.looks } };
 
     ghost invariant = { λ r. All (λ (row : Row). row.start + row.len ≤ length r.literals.items) r.rows.items };
 }
@@ -72,53 +72,53 @@ fn pushed(rows: &mut Vec<Row>, row: Row) -> bool
 }
 
 impl Rows {
-    ghost use Rattle.clause_store.specs.Entries.{Entry, entry_at};
+    ghost use Rattle.clause_store.specs.Entries.{Entry, Held, entry_at, risen};
 
     // How many clauses it has had room for, those forgotten too.
     pub fn len(&self) -> usize
-        ensures { result ≡ length self.now }
+        ensures { result ≡ length self.now.entries }
     {
         self.rows.len()
     }
 
     pub fn first(&self, i: u32) -> Literal
-        requires { i < length self.now }
-        ensures { result ≡ (entry_at self.now i).first }
+        requires { i < length self.now.entries }
+        ensures { result ≡ (entry_at self.now.entries i).first }
     {
         self.rows[i as usize].first
     }
 
     pub fn second(&self, i: u32) -> Literal
-        requires { i < length self.now }
-        ensures { result ≡ (entry_at self.now i).second }
+        requires { i < length self.now.entries }
+        ensures { result ≡ (entry_at self.now.entries i).second }
     {
         self.rows[i as usize].second
     }
 
     pub fn is_live(&self, i: u32) -> bool
-        requires { i < length self.now }
-        ensures { result ≡ (entry_at self.now i).live }
+        requires { i < length self.now.entries }
+        ensures { result ≡ (entry_at self.now.entries i).live }
     {
         self.rows[i as usize].live
     }
 
     pub fn level(&self, i: u32) -> u16
-        requires { i < length self.now }
-        ensures { result ≡ (entry_at self.now i).level }
+        requires { i < length self.now.entries }
+        ensures { result ≡ (entry_at self.now.entries i).level }
     {
         self.rows[i as usize].level
     }
 
     // How many literals a clause has.
     pub fn size(&self, i: u32) -> usize
-        requires { i < length self.now }
-        ensures { result ≡ length (entry_at self.now i).literals }
+        requires { i < length self.now.entries }
+        ensures { result ≡ length (entry_at self.now.entries i).literals }
     {
         self.rows[i as usize].len as usize
     }
 
     pub fn new(alloc: Global) -> Rows
-        ensures { result ≡ [] }
+        ensures { result ≡ record { entries = []; looks = 0 } }
     {
         Rows {
             literals: Vec::new(alloc),
@@ -128,14 +128,18 @@ impl Rows {
     }
 
     // How often a clause was looked at; it stands still at its greatest value.
-    pub fn looks(&self) -> u64 {
+    pub fn looks(&self) -> u64
+        ensures { result ≡ self.now.looks }
+    {
         self.looks
     }
 
     // Looks at a clause, which is the one way to its literals.
     pub fn look(&mut self, i: u32) -> Looked
-        requires { i < length self.old }
-        ensures same { self.new ≡ self.old }
+        requires { i < length self.old.entries }
+        ensures same { self.new.entries ≡ self.old.entries }
+        ensures looks { self.new.looks ≡ risen self.old.looks }
+        ensures rises { self.old.looks ≤ self.new.looks }
         ensures clause { result ≡ i }
     {
         self.looks = self.looks.saturating_add(1);
@@ -144,8 +148,8 @@ impl Rows {
 
     // The literals of a clause that is looked at.
     pub fn literals(&self, looked: Looked) -> &[Literal]
-        requires { looked < length self.now }
-        ensures { result.now ≡ (entry_at self.now looked).literals }
+        requires { looked < length self.now.entries }
+        ensures { result.now ≡ (entry_at self.now.entries looked).literals }
     {
         let row = self.rows[looked.row as usize];
         let start = row.start as usize;
@@ -155,16 +159,18 @@ impl Rows {
 
     // Keeps a clause no longer; its place stays.
     pub fn forget(&mut self, i: u32)
-        requires { i < length self.old }
-        ensures { self.new ≡ slice_set self.old i (record (entry_at self.old i) { live = false }) }
+        requires { i < length self.old.entries }
+        ensures entries { self.new.entries ≡ slice_set self.old.entries i (record (entry_at self.old.entries i) { live = false }) }
+        ensures looks { self.new.looks ≡ self.old.looks }
     {
         let row = self.rows[i as usize];
         self.rows[i as usize] = Row { live: false, ..row };
     }
 
     pub fn watch(&mut self, i: u32, first: Literal, second: Literal)
-        requires { i < length self.old }
-        ensures { self.new ≡ slice_set self.old i (record (entry_at self.old i) { first = first; second = second }) }
+        requires { i < length self.old.entries }
+        ensures entries { self.new.entries ≡ slice_set self.old.entries i (record (entry_at self.old.entries i) { first = first; second = second }) }
+        ensures looks { self.new.looks ≡ self.old.looks }
     {
         let row = self.rows[i as usize];
         self.rows[i as usize] = Row {
@@ -182,8 +188,9 @@ impl Rows {
         second: Literal,
         level: u16,
     ) -> Result<(), AllocError>
-        ensures added { OnOk result (let e : Entry = record { literals = literals.now; first = first; second = second; level = level; live = true } in self.new ≡ self.old ++ e ∷ []) }
-        ensures same { OnErr result (self.new ≡ self.old) }
+        ensures added { OnOk result (let e : Entry = record { literals = literals.now; first = first; second = second; level = level; live = true } in self.new.entries ≡ self.old.entries ++ e ∷ []) }
+        ensures same { OnErr result (self.new.entries ≡ self.old.entries) }
+        ensures looks { self.new.looks ≡ self.old.looks }
     {
         let start = self.literals.len();
         let len = literals.len();
@@ -209,15 +216,16 @@ impl Rows {
     }
 
     pub fn place(&self, i: u32) -> usize
-        requires { i < length self.now }
+        requires { i < length self.now.entries }
     {
         self.rows[i as usize].place
     }
 
     // Keeps where a search ended.
     pub fn go_on(&mut self, i: u32, place: usize)
-        requires { i < length self.old }
-        ensures { self.new ≡ self.old }
+        requires { i < length self.old.entries }
+        ensures entries { self.new.entries ≡ self.old.entries }
+        ensures looks { self.new.looks ≡ self.old.looks }
     {
         let row = &mut self.rows[i as usize];
         row.place = place;

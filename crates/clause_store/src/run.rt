@@ -29,13 +29,14 @@ fn turn(
     spare: &mut WatchList,
     trail: &mut Trail,
 ) -> Swept
-    requires watching { IsWatching trail.old.atoms rows.old lists.old }
+    requires watching { IsWatching trail.old.atoms rows.old.entries lists.old }
     requires is_false { IsFalseOn trail.old.steps f }
     requires known { f.atom < trail.old.atoms }
-    ensures gives { TurnGives trail.old.atoms f (record { entries = rows.old; lists = lists.old; steps = trail.old.steps }) (record { entries = rows.new; lists = lists.new; steps = trail.new.steps }) result }
-    ensures grows { Grows (kept_from 0 rows.old) trail.old.depth trail.old.steps trail.new.steps }
-    ensures clauses { kept_from 0 rows.new ≡ kept_from 0 rows.old }
-    ensures count { length rows.new ≡ length rows.old }
+    ensures rises { rows.old.looks ≤ rows.new.looks }
+    ensures gives { TurnGives trail.old.atoms f (record { entries = rows.old.entries; lists = lists.old; steps = trail.old.steps }) (record { entries = rows.new.entries; lists = lists.new; steps = trail.new.steps }) result }
+    ensures grows { Grows (kept_from 0 rows.old.entries) trail.old.depth trail.old.steps trail.new.steps }
+    ensures clauses { kept_from 0 rows.new.entries ≡ kept_from 0 rows.old.entries }
+    ensures count { length rows.new.entries ≡ length rows.old.entries }
     ensures same { (trail.new.atoms ≡ trail.old.atoms) × (trail.new.depth ≡ trail.old.depth) }
 {
     let code = f.code();
@@ -53,12 +54,13 @@ pub fn run(
     trail: &mut Trail,
     start: usize,
 ) -> (Reached, usize)
-    requires watching { IsWatching trail.old.atoms rows.old lists.old }
+    requires watching { IsWatching trail.old.atoms rows.old.entries lists.old }
     requires start { start ≤ length trail.old.steps }
-    ensures gives { RunGives trail.old.atoms (record { entries = rows.old; lists = lists.old; steps = trail.old.steps }) (record { entries = rows.new; lists = lists.new; steps = trail.new.steps }) start result.1 result.0 }
-    ensures grows { Grows (kept_from 0 rows.old) trail.old.depth trail.old.steps trail.new.steps }
-    ensures clauses { kept_from 0 rows.new ≡ kept_from 0 rows.old }
-    ensures count { length rows.new ≡ length rows.old }
+    ensures rises { rows.old.looks ≤ rows.new.looks }
+    ensures gives { RunGives trail.old.atoms (record { entries = rows.old.entries; lists = lists.old; steps = trail.old.steps }) (record { entries = rows.new.entries; lists = lists.new; steps = trail.new.steps }) start result.1 result.0 }
+    ensures grows { Grows (kept_from 0 rows.old.entries) trail.old.depth trail.old.steps trail.new.steps }
+    ensures clauses { kept_from 0 rows.new.entries ≡ kept_from 0 rows.old.entries }
+    ensures count { length rows.new.entries ≡ length rows.old.entries }
     ensures same { (trail.new.atoms ≡ trail.old.atoms) × (trail.new.depth ≡ trail.old.depth) }
 {
     let mut head = start;
@@ -82,13 +84,14 @@ pub fn drive(
     waiting: &[Wait],
     start: usize,
 ) -> (Reached, usize)
-    requires watching { IsWatching trail.old.atoms rows.old lists.old }
+    requires watching { IsWatching trail.old.atoms rows.old.entries lists.old }
     requires start { start ≤ length trail.old.steps }
-    requires waiting { All (IsWaiting rows.old trail.old.steps) waiting.now }
-    ensures gives { DriveGives trail.old.atoms trail.old.depth waiting.now (record { entries = rows.old; lists = lists.old; steps = trail.old.steps }) (record { entries = rows.new; lists = lists.new; steps = trail.new.steps }) start result.1 result.0 }
-    ensures grows { Grows (kept_from 0 rows.old) trail.old.depth trail.old.steps trail.new.steps }
-    ensures clauses { kept_from 0 rows.new ≡ kept_from 0 rows.old }
-    ensures count { length rows.new ≡ length rows.old }
+    requires waiting { All (IsWaiting rows.old.entries trail.old.steps) waiting.now }
+    ensures rises { rows.old.looks ≤ rows.new.looks }
+    ensures gives { DriveGives trail.old.atoms trail.old.depth waiting.now (record { entries = rows.old.entries; lists = lists.old; steps = trail.old.steps }) (record { entries = rows.new.entries; lists = lists.new; steps = trail.new.steps }) start result.1 result.0 }
+    ensures grows { Grows (kept_from 0 rows.old.entries) trail.old.depth trail.old.steps trail.new.steps }
+    ensures clauses { kept_from 0 rows.new.entries ≡ kept_from 0 rows.old.entries }
+    ensures count { length rows.new.entries ≡ length rows.old.entries }
     ensures same { (trail.new.atoms ≡ trail.old.atoms) × (trail.new.depth ≡ trail.old.depth) }
 {
     match force_all(waiting, trail) {

@@ -1,5 +1,5 @@
 // Propagation by a scan over all clauses.
-ghost use Rattle.std.specs.Prelude.{◌≡◌, ℕ, ◌^◌, ◌<◌, true, List, [], All, length};
+ghost use Rattle.std.specs.Prelude.{◌≡◌, ℕ, ◌^◌, ◌<◌, ◌≤◌, true, List, [], All, length};
 ghost use Rattle.literals.specs.Signed.{Signed};
 ghost use Rattle.clause_store.specs.Found.{FoundIn, Outcomes};
 ghost use Rattle.clause_store.specs.Entries.{entry_at};
@@ -49,10 +49,11 @@ fn look(literals: &[Literal], trail: &Trail) -> Found
 }
 
 fn look_at(row: u32, rows: &mut Rows, trail: &Trail) -> Found
-    requires within { row < length rows.old }
-    requires known { All (λ (l : Signed). l.atom < trail.now.atoms) (entry_at rows.old row).literals }
-    ensures found { FoundIn trail.now.steps (entry_at rows.old row).literals result }
-    ensures same { rows.new ≡ rows.old }
+    requires within { row < length rows.old.entries }
+    requires known { All (λ (l : Signed). l.atom < trail.now.atoms) (entry_at rows.old.entries row).literals }
+    ensures rises { rows.old.looks ≤ rows.new.looks }
+    ensures found { FoundIn trail.now.steps (entry_at rows.old.entries row).literals result }
+    ensures same { rows.new.entries ≡ rows.old.entries }
 {
     let looked = rows.look(row);
     look(rows.literals(looked), trail)
@@ -60,10 +61,11 @@ fn look_at(row: u32, rows: &mut Rows, trail: &Trail) -> Found
 
 // The first clause that is false, or has one literal open and the rest false.
 fn find(rows: &mut Rows, trail: &Trail) -> Among
-    requires known { (i : ℕ) → (entry_at rows.old i).live ≡ true → All (λ (l : Signed). l.atom < trail.now.atoms) (entry_at rows.old i).literals }
-    requires small { length rows.old < 2 ^ 32 }
-    ensures finds { ScanFinds trail.now.steps rows.old result }
-    ensures same { rows.new ≡ rows.old }
+    requires known { (i : ℕ) → (entry_at rows.old.entries i).live ≡ true → All (λ (l : Signed). l.atom < trail.now.atoms) (entry_at rows.old.entries i).literals }
+    requires small { length rows.old.entries < 2 ^ 32 }
+    ensures rises { rows.old.looks ≤ rows.new.looks }
+    ensures finds { ScanFinds trail.now.steps rows.old.entries result }
+    ensures same { rows.new.entries ≡ rows.old.entries }
 {
     for i in 0..rows.len() {
         let row = i as u32;
@@ -79,12 +81,13 @@ fn find(rows: &mut Rows, trail: &Trail) -> Among
 }
 
 pub fn scan(rows: &mut Rows, trail: &mut Trail) -> Outcome
-    requires known { (i : ℕ) → (entry_at rows.old i).live ≡ true → All (λ (l : Signed). l.atom < trail.old.atoms) (entry_at rows.old i).literals }
-    requires small { length rows.old < 2 ^ 32 }
-    ensures outcome { Outcomes trail.new.steps (kept_from 0 rows.old) result }
-    ensures grows { Grows (kept_from 0 rows.old) trail.old.depth trail.old.steps trail.new.steps }
+    requires known { (i : ℕ) → (entry_at rows.old.entries i).live ≡ true → All (λ (l : Signed). l.atom < trail.old.atoms) (entry_at rows.old.entries i).literals }
+    requires small { length rows.old.entries < 2 ^ 32 }
+    ensures rises { rows.old.looks ≤ rows.new.looks }
+    ensures outcome { Outcomes trail.new.steps (kept_from 0 rows.old.entries) result }
+    ensures grows { Grows (kept_from 0 rows.old.entries) trail.old.depth trail.old.steps trail.new.steps }
     ensures same { (trail.new.atoms ≡ trail.old.atoms) × (trail.new.depth ≡ trail.old.depth) }
-    ensures clauses { rows.new ≡ rows.old }
+    ensures clauses { rows.new.entries ≡ rows.old.entries }
 {
     'scan: loop {
         match find(rows, trail) {

@@ -1,6 +1,6 @@
-// Kept clauses, and the literals that are decided or follow from them, by two watched literals a clause.
+// Kept clauses, and the literals that are decided or follow from them, whatever the count of looks at clauses.
 ghost use Rattle.std.specs.List.Sorted.{IsNonDecreasingBy};
-ghost use Rattle.std.specs.Prelude.{◌≡◌, ℕ, ◌+◌, ◌^◌, ◌<◌, ◌≤◌, true, false, List, [], ◌∷◌, ◌++◌, All, IfSome, IfOk, OnOk, OnErr, Some, length, max, slice_index_or};
+ghost use Rattle.std.specs.Prelude.{◌≡◌, ℕ, ◌+◌, ◌^◌, ◌<◌, ◌≤◌, true, false, List, [], ◌∷◌, ◌++◌, All, IfOk, OnOk, OnErr, Some, length, max, slice_index_or};
 ghost use Rattle.clause_store.specs.Trail.{Assigns, IsOpen, StatusOf, up_to};
 ghost use Rattle.clause_store.specs.Each.{EachAfter};
 ghost use Rattle.clause_store.specs.TrailInvariant.{IsFresh, IsDecided};
@@ -8,15 +8,9 @@ ghost use Rattle.literals.specs.Signed.{Signed, opposite};
 ghost use Rattle.clause_store.specs.Stored.{Kept, HaveOwnIds, IsJustified, Propagated, without, up_to_level};
 ghost use Rattle.clause_store.specs.Found.{HasKept, HasLevel, Outcomes};
 
-use crate::choose::{keep_up, make_room};
-use crate::cut::cut_to;
-use crate::lists::{WatchList, make_lists};
-use crate::rows::{Looked, Rows};
-use crate::run::{Reached, drive};
-use crate::scan::scan;
-use crate::trail::{Status, Step, Trail};
-use crate::undo::{calm, rewind};
-use crate::waits::{Save, Wait, drop_of, settle};
+use crate::counted::CountedStore;
+use crate::rows::Looked;
+use crate::trail::{Status, Step};
 use literals::Literal;
 use std::alloc::{AllocError, Global};
 use std::marker::Model;
@@ -30,16 +24,7 @@ pub enum Outcome {
 
 #[derive(Drop)]
 pub struct Store {
-    alloc: Global,
-    rows: Rows,
-    lists: Vec<WatchList>,
-    spare: WatchList,
-    trail: Trail,
-    head: usize,
-    saves: Vec<Save>,
-    waiting: Vec<Wait>,
-    // whether the watches are no longer kept up: propagation then scans
-    loose: bool,
+    counted: CountedStore,
 }
 
 impl Model for Store {
@@ -47,73 +32,15 @@ impl Model for Store {
 
     ghost Value = { Stored };
 
-    ghost use Rattle.clause_store.specs.Watching.{kept_from};
-    ghost use Rattle.clause_store.specs.Keeping.{IsKept};
-
-    ghost view = { λ s. record { clauses = kept_from 0 s.rows; trail = s.trail } };
-
-    ghost invariant = { λ s. IsKept s.rows s.lists.items s.trail s.head s.saves.items s.waiting.items s.loose };
-}
-
-// Saves one more where that takes no memory.
-fn save_in_room(saves: &mut Vec<Save>, save: Save) -> bool
-    ensures saved { result ≡ true → saves.new.items ≡ saves.old.items ++ save ∷ [] }
-    ensures full { result ≡ false → saves.new.items ≡ saves.old.items }
-{
-    if saves.len() >= saves.capacity() {
-        return false;
-    }
-    let pushed = saves.push(save);
-    prove!(pushed.is_ok());
-    true
+    ghost view = { λ s. s.counted.stored };
 }
 
 impl Store {
-    // Propagates by watches, where these are kept up.
-    fn by_watches(&mut self) -> Option<Outcome>
-        ensures reached { Propagated self.old self.new }
-        ensures outcome { IfSome result (λ o. Outcomes self.new.trail.steps self.new.clauses o) }
-    {
-        if self.loose {
-            return None;
-        }
-        let (reached, head) = drive(
-            &mut self.rows,
-            &mut self.lists,
-            &mut self.spare,
-            &mut self.trail,
-            &self.waiting,
-            self.head,
-        );
-        self.head = head;
-        match reached {
-            Reached::Fixpoint => {
-                settle(&mut self.waiting, self.trail.depth());
-                Some(Outcome::Fixpoint)
-            }
-            Reached::False(row) => Some(Outcome::False(row as u64)),
-            Reached::NoRoom => {
-                self.loose = true;
-                None
-            }
-        }
-    }
-
-    fn by_scan(&mut self) -> Outcome
-        ensures reached { Propagated self.old self.new }
-        ensures outcome { Outcomes self.new.trail.steps self.new.clauses result }
-    {
-        scan(&mut self.rows, &mut self.trail)
-    }
-
     pub fn propagate(&mut self) -> Outcome
         ensures reached { Propagated self.old self.new }
         ensures outcome { Outcomes self.new.trail.steps self.new.clauses result }
     {
-        match self.by_watches() {
-            Some(outcome) => outcome,
-            None => self.by_scan(),
-        }
+        self.counted.propagate()
     }
 
     pub fn decide(&mut self, literal: Literal)
@@ -122,16 +49,7 @@ impl Store {
         requires room { self.old.trail.depth + 1 < 2 ^ 32 }
         ensures { let step : Step = record { literal = literal; depth = self.old.trail.depth + 1; reason = None } in self.new ≡ record self.old { trail = record { steps = self.old.trail.steps ++ step ∷ []; atoms = self.old.trail.atoms; depth = self.old.trail.depth + 1 } } }
     {
-        let rows = self.rows.len() as u32;
-        let saved = save_in_room(
-            &mut self.saves,
-            Save {
-                head: self.head,
-                rows,
-            },
-        );
-        self.loose = self.loose || !saved;
-        self.trail.decide(literal);
+        self.counted.decide(literal);
     }
 
     pub fn undo_to(&mut self, depth: u32)
@@ -139,86 +57,7 @@ impl Store {
         ensures undone { self.new ≡ record self.old { trail = record { steps = up_to depth self.old.trail.steps; atoms = self.old.trail.atoms; depth = depth } } }
         ensures front { (rest : List Step) × (self.old.trail.steps ≡ self.new.trail.steps ++ rest) }
     {
-        self.trail.undo_to(depth);
-        if self.loose {
-            return;
-        }
-        let at = depth as usize;
-        if at >= self.saves.len() {
-            return;
-        }
-        match rewind(
-            &self.rows,
-            &self.trail,
-            &mut self.saves,
-            &mut self.waiting,
-            at,
-        ) {
-            Some(head) => self.head = head,
-            None => self.loose = true,
-        }
-    }
-
-    // Adds a clause whose watches aren't kept up.
-    fn add_loose(&mut self, literals: &[Literal], level: u16) -> Result<u64, AllocError>
-        requires known { All (λ (l : Signed). l.atom < self.old.trail.atoms) literals.now }
-        ensures added { IfOk result (λ id. let kept : Kept = record { id = id; literals = literals.now; level = level } in self.new ≡ record self.old { clauses = self.old.clauses ++ kept ∷ [] }) }
-        ensures same { OnErr result (self.new ≡ self.old) }
-    {
-        let row = self.rows.len();
-        if row + 1 >= 1 << 32 {
-            return Err(AllocError);
-        }
-        let zero = Literal::new(0, true);
-        match self.rows.push(literals, zero, zero, level) {
-            Err(_) => Err(AllocError),
-            Ok(()) => {
-                self.loose = true;
-                Ok(row as u64)
-            }
-        }
-    }
-
-    fn add_watched(&mut self, literals: &[Literal], level: u16) -> Result<u64, AllocError>
-        requires some { 0 < length literals.now }
-        requires known { All (λ (l : Signed). l.atom < self.old.trail.atoms) literals.now }
-        ensures added { IfOk result (λ id. let kept : Kept = record { id = id; literals = literals.now; level = level } in self.new ≡ record self.old { clauses = self.old.clauses ++ kept ∷ [] }) }
-        ensures same { OnErr result (self.new ≡ self.old) }
-    {
-        if self.loose {
-            return self.add_loose(literals, level);
-        }
-        let row = self.rows.len();
-        if row + 1 >= 1 << 32 {
-            return Err(AllocError);
-        }
-        // each clause may wait once decisions are undone
-        let rest = (row + 1).saturating_sub(self.waiting.len());
-        if self.waiting.reserve(rest).is_err() {
-            return Err(AllocError);
-        }
-        if !make_room(&mut self.lists, literals) {
-            return Err(AllocError);
-        }
-        match keep_up(
-            &mut self.rows,
-            &mut self.lists,
-            &self.trail,
-            &mut self.waiting,
-            literals,
-            level,
-            self.head,
-        ) {
-            Err(_) => Err(AllocError),
-            Ok(Some(head)) => {
-                self.head = head;
-                Ok(row as u64)
-            }
-            Ok(None) => {
-                self.loose = true;
-                Ok(row as u64)
-            }
-        }
+        self.counted.undo_to(depth);
     }
 
     pub fn add(&mut self, literals: &[Literal], level: u16) -> Result<u64, AllocError>
@@ -226,25 +65,14 @@ impl Store {
         ensures added { IfOk result (λ id. let kept : Kept = record { id = id; literals = literals.now; level = level } in self.new ≡ record self.old { clauses = self.old.clauses ++ kept ∷ [] }) }
         ensures same { OnErr result (self.new ≡ self.old) }
     {
-        if literals.is_empty() {
-            return self.add_loose(literals, level);
-        }
-        self.add_watched(literals, level)
+        self.counted.add(literals, level)
     }
 
     pub fn new(alloc: Global) -> Store
         ensures { result ≡ record { clauses = []; trail = record { steps = []; atoms = 0; depth = 0 } } }
     {
         Store {
-            alloc,
-            rows: Rows::new(alloc),
-            lists: Vec::new(alloc),
-            spare: WatchList::new(alloc),
-            trail: Trail::new(alloc),
-            head: 0,
-            saves: Vec::new(alloc),
-            waiting: Vec::new(alloc),
-            loose: false,
+            counted: CountedStore::new(alloc),
         }
     }
 
@@ -253,11 +81,7 @@ impl Store {
         ensures reserved { OnOk result (self.new ≡ record self.old { trail = record { steps = self.old.trail.steps; atoms = max self.old.trail.atoms atoms; depth = self.old.trail.depth } }) }
         ensures same { OnErr result (self.new ≡ self.old) }
     {
-        make_lists(self.alloc, &mut self.lists, atoms)?;
-        self.saves
-            .reserve((atoms as usize).saturating_sub(self.saves.len()))?;
-        self.trail.reserve(atoms)?;
-        Ok(())
+        self.counted.reserve(atoms)
     }
 
     // How many atoms it knows.
@@ -265,28 +89,28 @@ impl Store {
         ensures atoms { result ≡ self.now.trail.atoms }
         ensures few { result ≤ 2 ^ 31 }
     {
-        self.trail.atoms()
+        self.counted.atoms()
     }
 
     // The id that the next clause gets.
     pub fn next_id(&self) -> u64
         ensures { All (λ (c : Kept). c.id < result) self.now.clauses }
     {
-        self.rows.len() as u64
+        self.counted.next_id()
     }
 
     // The number of decisions.
     pub fn depth(&self) -> u32
         ensures { result ≡ self.now.trail.depth }
     {
-        self.trail.depth()
+        self.counted.depth()
     }
 
     pub fn status(&self, literal: Literal) -> Status
         requires { literal.atom < self.now.trail.atoms }
         ensures { StatusOf self.now.trail.steps literal result }
     {
-        self.trail.status(literal)
+        self.counted.status(literal)
     }
 
     // How many steps more there is room for, where a literal is open.
@@ -296,7 +120,7 @@ impl Store {
         ensures steps { length self.now.trail.steps + result ≡ self.now.trail.atoms }
         ensures room { 0 < result }
     {
-        self.trail.room(literal)
+        self.counted.room(literal)
     }
 
     // Where on the trail a literal stands.
@@ -306,7 +130,7 @@ impl Store {
         ensures within { result < length self.now.trail.steps }
         ensures literal { (d : Step) → (slice_index_or self.now.trail.steps result d).literal ≡ literal }
     {
-        self.trail.place(literal)
+        self.counted.place(literal)
     }
 
     pub fn steps(&self) -> &[Step]
@@ -321,24 +145,21 @@ impl Store {
         ensures in_order { IsNonDecreasingBy (λ (s : Step). s.depth) self.now.trail.steps }
         ensures deepest { All (λ (s : Step). s.depth ≤ self.now.trail.depth) self.now.trail.steps }
     {
-        self.trail.steps()
+        self.counted.steps()
     }
 
     pub fn is_kept(&self, id: u64) -> bool
         ensures yes { result ≡ true → HasKept self.now.clauses id (λ ls. Unit {0}) }
         ensures no { result ≡ false → HasKept self.now.clauses id (λ ls. Unit {0}) → ⊥ }
     {
-        if id >= self.rows.len() as u64 {
-            return false;
-        }
-        self.rows.is_live(id as u32)
+        self.counted.is_kept(id)
     }
 
     pub fn level(&self, id: u64) -> u16
         requires { HasKept self.now.clauses id (λ ls. Unit {0}) }
         ensures { HasLevel self.now.clauses id result }
     {
-        self.rows.level(id as u32)
+        self.counted.level(id)
     }
 
     // How many literals a kept clause has.
@@ -346,7 +167,7 @@ impl Store {
         requires { HasKept self.now.clauses id (λ ls. Unit {0}) }
         ensures { HasKept self.now.clauses id (λ ls. result ≡ length ls) }
     {
-        self.rows.size(id as u32)
+        self.counted.size(id)
     }
 
     // Looks at a kept clause, which is the one way to its literals.
@@ -355,7 +176,7 @@ impl Store {
         ensures same { self.new ≡ self.old }
         ensures clause { result ≡ id }
     {
-        self.rows.look(id as u32)
+        self.counted.look(id)
     }
 
     // The literals of a kept clause that is looked at.
@@ -363,20 +184,12 @@ impl Store {
         requires { HasKept self.now.clauses looked (λ ls. Unit {0}) }
         ensures { HasKept self.now.clauses looked (λ ls. result.now ≡ ls) }
     {
-        self.rows.literals(looked)
+        self.counted.literals(looked)
     }
 
     // How often a clause was looked at; it stands still at its greatest value.
     pub fn looks(&self) -> u64 {
-        self.rows.looks()
-    }
-
-    fn row_of(&self, id: u64) -> u32
-        requires { HasKept self.now.clauses id (λ ls. Unit {0}) }
-        ensures { result ≡ id }
-    {
-        let _rows = self.rows.len();
-        id as u32
+        self.counted.looks()
     }
 
     // Keeps a clause no longer.
@@ -385,26 +198,13 @@ impl Store {
         requires unused { All (λ (s : Step). s.reason ≡ Some id → ⊥) self.old.trail.steps }
         ensures { self.new ≡ record self.old { clauses = without id self.old.clauses } }
     {
-        let row = self.row_of(id);
-        self.rows.forget(row);
-        drop_of(&mut self.waiting, row);
+        self.counted.forget(id);
     }
 
     // Takes back all steps, and keeps the clauses up to this level.
     pub fn cut_to(&mut self, level: i32)
         ensures { self.new ≡ record { clauses = up_to_level level self.old.clauses; trail = record { steps = []; atoms = self.old.trail.atoms; depth = 0 } } }
     {
-        self.trail.clear();
-        cut_to(&mut self.rows, level);
-        self.saves.clear();
-        self.waiting.clear();
-        self.head = 0;
-        if self.loose {
-            return;
-        }
-        match calm(&self.rows, &self.trail, 0, &mut self.waiting) {
-            Some(_) => {}
-            None => self.loose = true,
-        }
+        self.counted.cut_to(level);
     }
 }

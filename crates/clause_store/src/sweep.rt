@@ -102,11 +102,12 @@ fn seek_from(literals: &[Literal], place: usize, other: Literal, trail: &Trail) 
 
 // Looks at a clause for a literal that isn't false, and isn't this other one.
 fn look_for(row: u32, other: Literal, rows: &mut Rows, trail: &Trail) -> Option<Literal>
-    requires place { row < length rows.old }
-    requires known { All (λ (l : Signed). l.atom < trail.now.atoms) (entry_at rows.old row).literals }
-    ensures same { rows.new ≡ rows.old }
-    ensures some { IfSome result (λ l. Contains (entry_at rows.old row).literals l × (l ≡ other → ⊥) × (IsFalseOn trail.now.steps l → ⊥)) }
-    ensures none { IfNone result (All (λ m. (m ≡ other) ⊎ IsFalseOn trail.now.steps m) (entry_at rows.old row).literals) }
+    requires place { row < length rows.old.entries }
+    requires known { All (λ (l : Signed). l.atom < trail.now.atoms) (entry_at rows.old.entries row).literals }
+    ensures rises { rows.old.looks ≤ rows.new.looks }
+    ensures same { rows.new.entries ≡ rows.old.entries }
+    ensures some { IfSome result (λ l. Contains (entry_at rows.old.entries row).literals l × (l ≡ other → ⊥) × (IsFalseOn trail.now.steps l → ⊥)) }
+    ensures none { IfNone result (All (λ m. (m ≡ other) ⊎ IsFalseOn trail.now.steps m) (entry_at rows.old.entries row).literals) }
 {
     let looked = rows.look(row);
     let place = rows.place(row);
@@ -128,11 +129,12 @@ fn look_at(
     lists: &mut [WatchList],
     trail: &mut Trail,
 ) -> Visit
-    requires place { watch.row < length rows.old }
+    requires place { watch.row < length rows.old.entries }
     requires blocker { watch.blocker.atom < trail.old.atoms }
-    requires known { IsKnown trail.old.atoms (entry_at rows.old watch.row) }
+    requires known { IsKnown trail.old.atoms (entry_at rows.old.entries watch.row) }
     requires lists { 2 * trail.old.atoms ≤ length lists.old }
-    ensures gives { VisitGives f watch trail.old.depth (record { entries = rows.old; lists = lists.old; steps = trail.old.steps }) (record { entries = rows.new; lists = lists.new; steps = trail.new.steps }) result }
+    ensures rises { rows.old.looks ≤ rows.new.looks }
+    ensures gives { VisitGives f watch trail.old.depth (record { entries = rows.old.entries; lists = lists.old; steps = trail.old.steps }) (record { entries = rows.new.entries; lists = lists.new; steps = trail.new.steps }) result }
     ensures same { (trail.new.atoms ≡ trail.old.atoms) × (trail.new.depth ≡ trail.old.depth) }
 {
     if is_true(trail, watch.blocker) {
@@ -160,11 +162,12 @@ fn step(
     lists: &mut [WatchList],
     trail: &mut Trail,
 ) -> Visit
-    requires place { row < length rows.old }
+    requires place { row < length rows.old.entries }
     requires other { other.atom < trail.old.atoms }
-    requires known { IsKnown trail.old.atoms (entry_at rows.old row) }
+    requires known { IsKnown trail.old.atoms (entry_at rows.old.entries row) }
     requires lists { 2 * trail.old.atoms ≤ length lists.old }
-    ensures gives { StepGives other row trail.old.depth (record { entries = rows.old; lists = lists.old; steps = trail.old.steps }) (record { entries = rows.new; lists = lists.new; steps = trail.new.steps }) result }
+    ensures rises { rows.old.looks ≤ rows.new.looks }
+    ensures gives { StepGives other row trail.old.depth (record { entries = rows.old.entries; lists = lists.old; steps = trail.old.steps }) (record { entries = rows.new.entries; lists = lists.new; steps = trail.new.steps }) result }
     ensures same { (trail.new.atoms ≡ trail.old.atoms) × (trail.new.depth ≡ trail.old.depth) }
 {
     match trail.status(other) {
@@ -191,9 +194,10 @@ fn transfer(
     rows: &mut Rows,
     lists: &mut [WatchList],
 ) -> Visit
-    requires place { row < length rows.old }
+    requires place { row < length rows.old.entries }
     requires list { packed found < length lists.old }
-    ensures { Transfers found other row rows.old rows.new lists.old lists.new result }
+    ensures looks { rows.new.looks ≡ rows.old.looks }
+    ensures transfers { Transfers found other row rows.old.entries rows.new.entries lists.old lists.new result }
 {
     let list = &mut lists[found.code()];
     if !list.push_in_room(Watch {
@@ -221,13 +225,14 @@ pub fn sweep(
     lists: &mut [WatchList],
     trail: &mut Trail,
 ) -> Swept
-    requires watching { IsWatching trail.old.atoms rows.old (slice_set lists.old (packed f) list.old) }
+    requires watching { IsWatching trail.old.atoms rows.old.entries (slice_set lists.old (packed f) list.old) }
     requires is_false { IsFalseOn trail.old.steps f }
     requires place { packed f < length lists.old }
-    ensures gives { SweptGives trail.old.atoms trail.old.depth f (record { entries = rows.old; lists = lists.old; steps = trail.old.steps; list = list.old }) (record { entries = rows.new; lists = lists.new; steps = trail.new.steps; list = list.new }) result }
-    ensures grows { Grows (kept_from 0 rows.old) trail.old.depth trail.old.steps trail.new.steps }
-    ensures clauses { kept_from 0 rows.new ≡ kept_from 0 rows.old }
-    ensures count { length rows.new ≡ length rows.old }
+    ensures rises { rows.old.looks ≤ rows.new.looks }
+    ensures gives { SweptGives trail.old.atoms trail.old.depth f (record { entries = rows.old.entries; lists = lists.old; steps = trail.old.steps; list = list.old }) (record { entries = rows.new.entries; lists = lists.new; steps = trail.new.steps; list = list.new }) result }
+    ensures grows { Grows (kept_from 0 rows.old.entries) trail.old.depth trail.old.steps trail.new.steps }
+    ensures clauses { kept_from 0 rows.new.entries ≡ kept_from 0 rows.old.entries }
+    ensures count { length rows.new.entries ≡ length rows.old.entries }
     ensures same { (trail.new.atoms ≡ trail.old.atoms) × (trail.new.depth ≡ trail.old.depth) }
 {
     let mut k = 0;

@@ -12,9 +12,9 @@ use crate::waits::{Save, Wait, drop_from, wait_in_room};
 
 // A clause added at a greater depth: whether one of its watched literals is false now; one of a single literal waits.
 fn calm_one(rows: &Rows, trail: &Trail, i: u32, waiting: &mut Vec<Wait>) -> Option<bool>
-    requires within { i < length rows.now }
-    requires known { IsKnown trail.now.atoms (entry_at rows.now i) }
-    ensures { IfSome result (λ b. CalmGives rows.now trail.now.steps i waiting.old.items waiting.new.items b) }
+    requires within { i < length rows.now.entries }
+    requires known { IsKnown trail.now.atoms (entry_at rows.now.entries i) }
+    ensures { IfSome result (λ b. CalmGives rows.now.entries trail.now.steps i waiting.old.items waiting.new.items b) }
 {
     if !rows.is_live(i) {
         return Some(false);
@@ -40,9 +40,9 @@ fn calm_one(rows: &Rows, trail: &Trail, i: u32, waiting: &mut Vec<Wait>) -> Opti
 }
 
 pub fn calm(rows: &Rows, trail: &Trail, start: u32, waiting: &mut Vec<Wait>) -> Option<bool>
-    requires watching { (lists : List (List Watch)) × IsWatching trail.now.atoms rows.now lists }
-    requires small { length rows.now < 2 ^ 32 }
-    ensures { IfSome result (λ b. AllCalm rows.now trail.now.steps start (length rows.now) waiting.old.items waiting.new.items b) }
+    requires watching { (lists : List (List Watch)) × IsWatching trail.now.atoms rows.now.entries lists }
+    requires small { length rows.now.entries < 2 ^ 32 }
+    ensures { IfSome result (λ b. AllCalm rows.now.entries trail.now.steps start (length rows.now.entries) waiting.old.items waiting.new.items b) }
 {
     let mut stirred = false;
     let end = rows.len() as u32;
@@ -65,10 +65,10 @@ pub fn rewind(
     waiting: &mut Vec<Wait>,
     depth: usize,
 ) -> Option<usize>
-    requires watching { (lists : List (List Watch)) × IsWatching trail.now.atoms rows.now lists }
-    requires small { length rows.now < 2 ^ 32 }
+    requires watching { (lists : List (List Watch)) × IsWatching trail.now.atoms rows.now.entries lists }
+    requires small { length rows.now.entries < 2 ^ 32 }
     requires within { depth < vec_len saves.old }
-    ensures { IfSome result (λ head. Rewinds rows.now trail.now.steps depth saves.old.items saves.new.items waiting.old.items waiting.new.items head) }
+    ensures { IfSome result (λ head. Rewinds rows.now.entries trail.now.steps depth saves.old.items saves.new.items waiting.old.items waiting.new.items head) }
 {
     let save = saves[depth];
     saves.truncate(depth);

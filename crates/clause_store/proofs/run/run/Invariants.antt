@@ -6,16 +6,17 @@ use Rattle.clause_store.proofs.run.run.Given as goal
 
 abbrev pub invariant-steps : goal.invariant-steps
 invariant-steps l =
-    let first : Parts = record { entries = l.initial.rows; lists = l.initial.lists; steps = l.initial.trail.steps } in
-    let now : Parts = record { entries = l.rows; lists = l.lists; steps = l.trail.steps } in
+    let first : Parts = record { entries = l.initial.rows.entries; lists = l.initial.lists; steps = l.initial.trail.steps } in
+    let now : Parts = record { entries = l.rows.entries; lists = l.lists; steps = l.trail.steps } in
     record {
       runs : Runs l.initial.trail.atoms first now l.start l.head;
-      grows : Grows (kept_from 0 l.initial.rows) l.initial.trail.depth l.initial.trail.steps l.trail.steps;
-      clauses : kept_from 0 l.rows ≡ kept_from 0 l.initial.rows;
-      count : length l.rows ≡ length l.initial.rows;
+      grows : Grows (kept_from 0 l.initial.rows.entries) l.initial.trail.depth l.initial.trail.steps l.trail.steps;
+      clauses : kept_from 0 l.rows.entries ≡ kept_from 0 l.initial.rows.entries;
+      count : length l.rows.entries ≡ length l.initial.rows.entries;
       atoms : l.trail.atoms ≡ l.initial.trail.atoms;
       depth : l.trail.depth ≡ l.initial.trail.depth;
       within : l.head ≤ length l.trail.steps;
+      looks : l.initial.rows.looks ≤ l.rows.looks;
     }
 
 abbrev pub decreases-steps : goal.decreases-steps

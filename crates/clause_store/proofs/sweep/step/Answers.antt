@@ -5,19 +5,19 @@ use Rattle.clause_store.proofs.sweep.step.Goals as goal
 
 pub returns-in-Some-clause-gives : goal.returns-in-Some-clause-gives
 returns-in-Some-clause-gives c =
-    step-transfer c.in-Some.found c.args.other c.args.row c.args.trail.now.depth c.args.rows.now c.transfer.new.rows c.args.lists.now c.transfer.new.lists c.args.trail.now.steps c.transfer.result c.in-Some.ensures.some
-    (rw c.look_for.ensures.same at c.transfer.ensures)
+    step-transfer c.in-Some.found c.args.other c.args.row c.args.trail.now.depth c.args.rows.now.entries c.transfer.new.rows.entries c.args.lists.now c.transfer.new.lists c.args.trail.now.steps c.transfer.result c.in-Some.ensures.some
+    (rw c.look_for.ensures.same at c.transfer.ensures.transfers)
 
 pub returns-in-Some-look_for-clause-gives : goal.returns-in-Some-look_for-clause-gives
 returns-in-Some-look_for-clause-gives c =
-    step-transfer c.in-Some-look_for.found c.args.other c.args.row c.args.trail.now.depth c.args.rows.now c.transfer-in-Some-look_for.new.rows c.args.lists.now c.transfer-in-Some-look_for.new.lists c.args.trail.now.steps c.transfer-in-Some-look_for.result c.in-Some-look_for.ensures.some
-    (rw c.look_for-in-False.ensures.same at c.transfer-in-Some-look_for.ensures)
+    step-transfer c.in-Some-look_for.found c.args.other c.args.row c.args.trail.now.depth c.args.rows.now.entries c.transfer-in-Some-look_for.new.rows.entries c.args.lists.now c.transfer-in-Some-look_for.new.lists c.args.trail.now.steps c.transfer-in-Some-look_for.result c.in-Some-look_for.ensures.some
+    (rw c.look_for-in-False.ensures.same at c.transfer-in-Some-look_for.ensures.transfers)
 
 pub returns-in-None-clause-gives : goal.returns-in-None-clause-gives
 returns-in-None-clause-gives c =
-    step-implies c.args.other c.args.row c.args.trail.now.depth c.args.rows.now c.look_for.new.rows c.args.lists.now c.args.trail.now.steps c.assign.new.self.steps c.look_for.ensures.same c.in-Open.ensures c.in-None.ensures.none
+    step-implies c.args.other c.args.row c.args.trail.now.depth c.args.rows.now.entries c.look_for.new.rows.entries c.args.lists.now c.args.trail.now.steps c.assign.new.self.steps c.look_for.ensures.same c.in-Open.ensures c.in-None.ensures.none
     (ap (λ (t : Assigned). t.steps) c.assign.ensures.steps)
 
 pub returns-in-None-look_for-clause-gives : goal.returns-in-None-look_for-clause-gives
 returns-in-None-look_for-clause-gives c =
-    step-false c.args.other c.args.row c.args.trail.now.depth c.args.rows.now c.look_for-in-False.new.rows c.args.lists.now c.args.trail.now.steps c.look_for-in-False.ensures.same c.in-False.ensures.0 c.in-None-look_for.ensures.none
+    step-false c.args.other c.args.row c.args.trail.now.depth c.args.rows.now.entries c.look_for-in-False.new.rows.entries c.args.lists.now c.args.trail.now.steps c.look_for-in-False.ensures.same c.in-False.ensures.0 c.in-None-look_for.ensures.none

@@ -11,24 +11,24 @@ use Rattle.clause_store.proofs.sweep.sweep.Goals as goal
 
 pub look_at-requires-clause-place : goal.look_at-requires-clause-place
 look_at-requires-clause-place c =
-    let s : State = record { entries = c.watches.rows; lists = c.watches.lists; steps = c.watches.trail.steps; list = c.watches.list } in
+    let s : State = record { entries = c.watches.rows.entries; lists = c.watches.lists; steps = c.watches.trail.steps; list = c.watches.list } in
     (sound_at _ c.args.f s c.watches.k c.get-watch.result (omega arith) c.watches.invariant.sweeps.watch (omega arith) c.get-watch.ensures).within
 
 pub look_at-requires-clause-blocker : goal.look_at-requires-clause-blocker
 look_at-requires-clause-blocker c =
-    let s : State = record { entries = c.watches.rows; lists = c.watches.lists; steps = c.watches.trail.steps; list = c.watches.list } in
+    let s : State = record { entries = c.watches.rows.entries; lists = c.watches.lists; steps = c.watches.trail.steps; list = c.watches.list } in
     subst (λ n. c.get-watch.result.blocker.atom < n) (sym c.watches.invariant.atoms) (sound_at _ c.args.f s c.watches.k c.get-watch.result (omega arith) c.watches.invariant.sweeps.watch (omega arith) c.get-watch.ensures).known
 
 pub look_at-requires-clause-known : goal.look_at-requires-clause-known
 look_at-requires-clause-known c =
-    let s : State = record { entries = c.watches.rows; lists = c.watches.lists; steps = c.watches.trail.steps; list = c.watches.list } in
-    subst (λ n. IsKnown n (entry_at c.watches.rows c.get-watch.result.row)) (sym c.watches.invariant.atoms) (known_at _ c.args.f s c.watches.k c.get-watch.result (omega arith) c.watches.invariant.sweeps.watch (omega arith) c.get-watch.ensures)
+    let s : State = record { entries = c.watches.rows.entries; lists = c.watches.lists; steps = c.watches.trail.steps; list = c.watches.list } in
+    subst (λ n. IsKnown n (entry_at c.watches.rows.entries c.get-watch.result.row)) (sym c.watches.invariant.atoms) (known_at _ c.args.f s c.watches.k c.get-watch.result (omega arith) c.watches.invariant.sweeps.watch (omega arith) c.get-watch.ensures)
 
 pub watches-preserved-in-Keep : goal.watches-preserved-in-Keep
 watches-preserved-in-Keep c =
-    let first : State = record { entries = c.args.rows.now; lists = c.args.lists.now; steps = c.args.trail.now.steps; list = c.args.list.now } in
-    let p : Parts = record { entries = c.watches.rows; lists = c.watches.lists; steps = c.watches.trail.steps } in
-    let p' : Parts = record { entries = c.look_at.new.rows; lists = c.look_at.new.lists; steps = c.look_at.new.trail.steps } in
+    let first : State = record { entries = c.args.rows.now.entries; lists = c.args.lists.now; steps = c.args.trail.now.steps; list = c.args.list.now } in
+    let p : Parts = record { entries = c.watches.rows.entries; lists = c.watches.lists; steps = c.watches.trail.steps } in
+    let p' : Parts = record { entries = c.look_at.new.rows.entries; lists = c.look_at.new.lists; steps = c.look_at.new.trail.steps } in
     let gives : VisitGives c.args.f c.get-watch.result c.args.trail.now.depth p p' (Keep c.in-Keep.blocker) =
     subst (λ d. VisitGives c.args.f c.get-watch.result d p p' (Keep c.in-Keep.blocker)) c.watches.invariant.depth c.in-Keep.ensures.gives in
     let v : Watch = record { blocker = c.in-Keep.blocker; row = c.get-watch.result.row } in
@@ -38,13 +38,14 @@ watches-preserved-in-Keep c =
       sweeps = rw c.set.ensures done;
       atoms = c.look_at.ensures.same.0 ∙ c.watches.invariant.atoms;
       depth = c.look_at.ensures.same.1 ∙ c.watches.invariant.depth;
+      looks = omega (arith, c.watches.invariant.looks, c.in-Keep.ensures.rises);
     }
 
 pub watches-preserved : goal.watches-preserved
 watches-preserved c =
-    let first : State = record { entries = c.args.rows.now; lists = c.args.lists.now; steps = c.args.trail.now.steps; list = c.args.list.now } in
-    let p : Parts = record { entries = c.watches.rows; lists = c.watches.lists; steps = c.watches.trail.steps } in
-    let p' : Parts = record { entries = c.look_at.new.rows; lists = c.look_at.new.lists; steps = c.look_at.new.trail.steps } in
+    let first : State = record { entries = c.args.rows.now.entries; lists = c.args.lists.now; steps = c.args.trail.now.steps; list = c.args.list.now } in
+    let p : Parts = record { entries = c.watches.rows.entries; lists = c.watches.lists; steps = c.watches.trail.steps } in
+    let p' : Parts = record { entries = c.look_at.new.rows.entries; lists = c.look_at.new.lists; steps = c.look_at.new.trail.steps } in
     let same : c.take_out.result ≡ c.get-watch.result = c.take_out.ensures.value ∙ (get_or_default c.watches.list c.watches.k c.take_out.result c.get-watch.result (omega arith) ∙ sym c.get-watch.ensures) in
     let gives : VisitGives c.args.f c.get-watch.result c.args.trail.now.depth p p' Gone =
     subst (λ d. VisitGives c.args.f c.get-watch.result d p p' Gone) c.watches.invariant.depth c.in-Gone.ensures.gives in
@@ -54,19 +55,20 @@ watches-preserved c =
       sweeps = rw (c.take_out.ensures.rest, same) done;
       atoms = c.look_at.ensures.same.0 ∙ c.watches.invariant.atoms;
       depth = c.look_at.ensures.same.1 ∙ c.watches.invariant.depth;
+      looks = omega (arith, c.watches.invariant.looks, c.in-Gone.ensures.rises);
     }
 
 pub returns-in-False-clause-gives : goal.returns-in-False-clause-gives
 returns-in-False-clause-gives c =
-    let first : State = record { entries = c.args.rows.now; lists = c.args.lists.now; steps = c.args.trail.now.steps; list = c.args.list.now } in
-    let p : Parts = record { entries = c.watches.rows; lists = c.watches.lists; steps = c.watches.trail.steps } in
-    let p' : Parts = record { entries = c.look_at.new.rows; lists = c.look_at.new.lists; steps = c.look_at.new.trail.steps } in
+    let first : State = record { entries = c.args.rows.now.entries; lists = c.args.lists.now; steps = c.args.trail.now.steps; list = c.args.list.now } in
+    let p : Parts = record { entries = c.watches.rows.entries; lists = c.watches.lists; steps = c.watches.trail.steps } in
+    let p' : Parts = record { entries = c.look_at.new.rows.entries; lists = c.look_at.new.lists; steps = c.look_at.new.trail.steps } in
     let gives : VisitGives c.args.f c.get-watch.result c.args.trail.now.depth p p' False =
     subst (λ d. VisitGives c.args.f c.get-watch.result d p p' False) c.watches.invariant.depth c.in-False.ensures.gives in
     Round-false c.args.trail.now.atoms c.args.trail.now.depth c.args.f first p p' c.watches.list c.watches.k c.get-watch.result c.watches.invariant.sweeps gives
 
 pub returns-clause-gives : goal.returns-clause-gives
 returns-clause-gives c =
-    let first : State = record { entries = c.args.rows.now; lists = c.args.lists.now; steps = c.args.trail.now.steps; list = c.args.list.now } in
-    let now : State = record { entries = c.watches.rows; lists = c.watches.lists; steps = c.watches.trail.steps; list = c.watches.list } in
+    let first : State = record { entries = c.args.rows.now.entries; lists = c.args.lists.now; steps = c.args.trail.now.steps; list = c.args.list.now } in
+    let now : State = record { entries = c.watches.rows.entries; lists = c.watches.lists; steps = c.watches.trail.steps; list = c.watches.list } in
     Sweeps-end c.args.trail.now.atoms c.args.trail.now.depth c.args.f first now c.watches.k (omega arith) c.watches.invariant.sweeps

@@ -1,15 +1,16 @@
-use Rattle.std.proofs.Common.{◌≡◌, ◌-◌, length}
+use Rattle.std.proofs.Common.{◌≡◌, ◌-◌, ◌≤◌, length}
 use Rattle.clause_store.specs.Sweeps.{Sweeps, State}
 use Rattle.clause_store.proofs.sweep.sweep.Given as goal
 
 abbrev pub invariant-watches : goal.invariant-watches
 invariant-watches l =
-    let first : State = record { entries = l.initial.rows; lists = l.initial.lists; steps = l.initial.trail.steps; list = l.initial.list } in
-    let now : State = record { entries = l.rows; lists = l.lists; steps = l.trail.steps; list = l.list } in
+    let first : State = record { entries = l.initial.rows.entries; lists = l.initial.lists; steps = l.initial.trail.steps; list = l.initial.list } in
+    let now : State = record { entries = l.rows.entries; lists = l.lists; steps = l.trail.steps; list = l.list } in
     record {
       sweeps : Sweeps l.initial.trail.atoms l.initial.trail.depth l.f first now l.k;
       atoms : l.trail.atoms ≡ l.initial.trail.atoms;
       depth : l.trail.depth ≡ l.initial.trail.depth;
+      looks : l.initial.rows.looks ≤ l.rows.looks;
     }
 
 abbrev pub decreases-watches : goal.decreases-watches

@@ -8,7 +8,7 @@ true_false b e f = cc
 
 pub rows-preserved : goal.rows-preserved
 rows-preserved c = record {
-  calm = AllCalm-next c.args.trail.now.atoms c.args.rows.now c.requires.watching.0 c.args.trail.now.steps c.args.start c.rows.i c.args.waiting.now.items c.rows.waiting.items c.calm_one.new.waiting.items c.rows.stirred c.in-Some.b c.if-stirred.stirred
+  calm = AllCalm-next c.args.trail.now.atoms c.args.rows.now.entries c.requires.watching.0 c.args.trail.now.steps c.args.start c.rows.i c.args.waiting.now.items c.rows.waiting.items c.calm_one.new.waiting.items c.rows.stirred c.in-Some.b c.if-stirred.stirred
       c.requires.watching.1 c.rows.invariant.from
       (λ s. elim c.if-stirred.branch [ then-stirred w ↦ w.stirred-is ∙ s | else-stirred w ↦ absurd (true_false c.rows.stirred s w.if-stirred.false) ])
       (λ b. elim c.if-stirred.branch [ then-stirred w ↦ w.stirred-is ∙ w.if-stirred.true | else-stirred w ↦ w.stirred-is ∙ b ])

@@ -11,8 +11,8 @@ returns-then-stirred c =
     let lt : c.args.depth < length c.args.saves.now.items = omega (arith, c.args.saves.now.ok) in
     let is : x ≡ save_at c.args.saves.now.items c.args.depth = c.index-save.ensures ∙ get_or_default c.args.saves.now.items c.args.depth x no_save lt in
     rw c.truncate.ensures.items
-    (subst (λ b. Rewinds c.args.rows.now c.args.trail.now.steps c.args.depth c.args.saves.now.items (take c.args.depth c.args.saves.now.items) c.args.waiting.now.items c.calm.new.waiting.items (if b then 0 else x.head)) c.if-stirred.true
-    (rewinds c.args.trail.now.atoms c.args.rows.now c.requires.watching.0 c.args.trail.now.steps c.args.depth c.args.saves.now.items c.args.waiting.now.items c.drop_from.new.waiting.items c.calm.new.waiting.items c.in-Some.stirred x (length c.args.rows.now) is refl
+    (subst (λ b. Rewinds c.args.rows.now.entries c.args.trail.now.steps c.args.depth c.args.saves.now.items (take c.args.depth c.args.saves.now.items) c.args.waiting.now.items c.calm.new.waiting.items (if b then 0 else x.head)) c.if-stirred.true
+    (rewinds c.args.trail.now.atoms c.args.rows.now.entries c.requires.watching.0 c.args.trail.now.steps c.args.depth c.args.saves.now.items c.args.waiting.now.items c.drop_from.new.waiting.items c.calm.new.waiting.items c.in-Some.stirred x (length c.args.rows.now.entries) is refl
     c.drop_from.ensures.keeps c.drop_from.ensures.only c.in-Some.ensures))
 
 pub returns-else-stirred : goal.returns-else-stirred
@@ -21,6 +21,6 @@ returns-else-stirred c =
     let lt : c.args.depth < length c.args.saves.now.items = omega (arith, c.args.saves.now.ok) in
     let is : x ≡ save_at c.args.saves.now.items c.args.depth = c.index-save.ensures ∙ get_or_default c.args.saves.now.items c.args.depth x no_save lt in
     rw c.truncate.ensures.items
-    (subst (λ b. Rewinds c.args.rows.now c.args.trail.now.steps c.args.depth c.args.saves.now.items (take c.args.depth c.args.saves.now.items) c.args.waiting.now.items c.calm.new.waiting.items (if b then 0 else x.head)) c.if-stirred.false
-    (rewinds c.args.trail.now.atoms c.args.rows.now c.requires.watching.0 c.args.trail.now.steps c.args.depth c.args.saves.now.items c.args.waiting.now.items c.drop_from.new.waiting.items c.calm.new.waiting.items c.in-Some.stirred x (length c.args.rows.now) is refl
+    (subst (λ b. Rewinds c.args.rows.now.entries c.args.trail.now.steps c.args.depth c.args.saves.now.items (take c.args.depth c.args.saves.now.items) c.args.waiting.now.items c.calm.new.waiting.items (if b then 0 else x.head)) c.if-stirred.false
+    (rewinds c.args.trail.now.atoms c.args.rows.now.entries c.requires.watching.0 c.args.trail.now.steps c.args.depth c.args.saves.now.items c.args.waiting.now.items c.drop_from.new.waiting.items c.calm.new.waiting.items c.in-Some.stirred x (length c.args.rows.now.entries) is refl
     c.drop_from.ensures.keeps c.drop_from.ensures.only c.in-Some.ensures))

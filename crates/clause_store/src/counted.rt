@@ -1,0 +1,437 @@
+// Kept clauses, and the literals that are decided or follow from them, by two watched literals a clause; and how often a clause was looked at.
+ghost use Rattle.std.specs.List.Sorted.{IsNonDecreasingBy};
+ghost use Rattle.std.specs.Prelude.{◌≡◌, ℕ, ◌+◌, ◌^◌, ◌<◌, ◌≤◌, true, false, List, [], ◌∷◌, ◌++◌, All, IfSome, IfOk, OnOk, OnErr, Some, length, max, slice_index_or};
+ghost use Rattle.clause_store.specs.Trail.{Assigns, IsOpen, StatusOf, up_to};
+ghost use Rattle.clause_store.specs.Each.{EachAfter};
+ghost use Rattle.clause_store.specs.TrailInvariant.{IsFresh, IsDecided};
+ghost use Rattle.literals.specs.Signed.{Signed, opposite};
+ghost use Rattle.clause_store.specs.Stored.{Kept, HaveOwnIds, IsJustified, Propagated, without, up_to_level};
+ghost use Rattle.clause_store.specs.Found.{HasKept, HasLevel, Outcomes};
+ghost use Rattle.clause_store.specs.Entries.{risen};
+
+use crate::choose::{keep_up, make_room};
+use crate::cut::cut_to;
+use crate::lists::{WatchList, make_lists};
+use crate::rows::{Looked, Rows};
+use crate::run::{Reached, drive};
+use crate::scan::scan;
+use crate::store::Outcome;
+use crate::trail::{Status, Step, Trail};
+use crate::undo::{calm, rewind};
+use crate::waits::{Save, Wait, drop_of, settle};
+use literals::Literal;
+use std::alloc::{AllocError, Global};
+use std::marker::Model;
+
+#[derive(Drop)]
+pub struct CountedStore {
+    alloc: Global,
+    rows: Rows,
+    lists: Vec<WatchList>,
+    spare: WatchList,
+    trail: Trail,
+    head: usize,
+    saves: Vec<Save>,
+    waiting: Vec<Wait>,
+    // whether the watches are no longer kept up: propagation then scans
+    loose: bool,
+}
+
+impl Model for CountedStore {
+    ghost use Rattle.clause_store.specs.Looks.{Counted};
+
+    ghost Value = { Counted };
+
+    ghost use Rattle.clause_store.specs.Watching.{kept_from};
+    ghost use Rattle.clause_store.specs.Keeping.{IsKept};
+
+    ghost view = { λ s. record { stored = record { clauses = kept_from 0 s.rows.entries; trail = s.trail }; looks = s.rows.looks } };
+
+    ghost invariant = { λ s. IsKept s.rows.entries s.lists.items s.trail s.head s.saves.items s.waiting.items s.loose };
+}
+
+// Saves one more where that takes no memory.
+fn save_in_room(saves: &mut Vec<Save>, save: Save) -> bool
+    ensures saved { result ≡ true → saves.new.items ≡ saves.old.items ++ save ∷ [] }
+    ensures full { result ≡ false → saves.new.items ≡ saves.old.items }
+{
+    if saves.len() >= saves.capacity() {
+        return false;
+    }
+    let pushed = saves.push(save);
+    prove!(pushed.is_ok());
+    true
+}
+
+impl CountedStore {
+    // Propagates by watches, where these are kept up.
+    fn by_watches(&mut self) -> Option<Outcome>
+        ensures reached { Propagated self.old.stored self.new.stored }
+        ensures looks { self.old.looks ≤ self.new.looks }
+        ensures outcome { IfSome result (λ o. Outcomes self.new.stored.trail.steps self.new.stored.clauses o) }
+    {
+        if self.loose {
+            return None;
+        }
+        let (reached, head) = drive(
+            &mut self.rows,
+            &mut self.lists,
+            &mut self.spare,
+            &mut self.trail,
+            &self.waiting,
+            self.head,
+        );
+        self.head = head;
+        match reached {
+            Reached::Fixpoint => {
+                settle(&mut self.waiting, self.trail.depth());
+                Some(Outcome::Fixpoint)
+            }
+            Reached::False(row) => Some(Outcome::False(row as u64)),
+            Reached::NoRoom => {
+                self.loose = true;
+                None
+            }
+        }
+    }
+
+    fn by_scan(&mut self) -> Outcome
+        ensures reached { Propagated self.old.stored self.new.stored }
+        ensures looks { self.old.looks ≤ self.new.looks }
+        ensures outcome { Outcomes self.new.stored.trail.steps self.new.stored.clauses result }
+    {
+        scan(&mut self.rows, &mut self.trail)
+    }
+
+    pub fn propagate(&mut self) -> Outcome
+        ensures reached { Propagated self.old.stored self.new.stored }
+        ensures looks { self.old.looks ≤ self.new.looks }
+        ensures outcome { Outcomes self.new.stored.trail.steps self.new.stored.clauses result }
+    {
+        match self.by_watches() {
+            Some(outcome) => outcome,
+            None => self.by_scan(),
+        }
+    }
+
+    pub fn decide(&mut self, literal: Literal)
+        requires known { literal.atom < self.old.stored.trail.atoms }
+        requires is_open { IsOpen self.old.stored.trail.steps literal }
+        requires room { self.old.stored.trail.depth + 1 < 2 ^ 32 }
+        ensures decided { let step : Step = record { literal = literal; depth = self.old.stored.trail.depth + 1; reason = None } in self.new.stored ≡ record self.old.stored { trail = record { steps = self.old.stored.trail.steps ++ step ∷ []; atoms = self.old.stored.trail.atoms; depth = self.old.stored.trail.depth + 1 } } }
+        ensures looks { self.new.looks ≡ self.old.looks }
+    {
+        let rows = self.rows.len() as u32;
+        let saved = save_in_room(
+            &mut self.saves,
+            Save {
+                head: self.head,
+                rows,
+            },
+        );
+        self.loose = self.loose || !saved;
+        self.trail.decide(literal);
+    }
+
+    pub fn undo_to(&mut self, depth: u32)
+        requires { depth ≤ self.old.stored.trail.depth }
+        ensures undone { self.new.stored ≡ record self.old.stored { trail = record { steps = up_to depth self.old.stored.trail.steps; atoms = self.old.stored.trail.atoms; depth = depth } } }
+        ensures front { (rest : List Step) × (self.old.stored.trail.steps ≡ self.new.stored.trail.steps ++ rest) }
+        ensures looks { self.new.looks ≡ self.old.looks }
+    {
+        self.trail.undo_to(depth);
+        if self.loose {
+            return;
+        }
+        let at = depth as usize;
+        if at >= self.saves.len() {
+            return;
+        }
+        match rewind(
+            &self.rows,
+            &self.trail,
+            &mut self.saves,
+            &mut self.waiting,
+            at,
+        ) {
+            Some(head) => self.head = head,
+            None => self.loose = true,
+        }
+    }
+
+    // Adds a clause whose watches aren't kept up.
+    fn add_loose(&mut self, literals: &[Literal], level: u16) -> Result<u64, AllocError>
+        requires known { All (λ (l : Signed). l.atom < self.old.stored.trail.atoms) literals.now }
+        ensures added { IfOk result (λ id. let kept : Kept = record { id = id; literals = literals.now; level = level } in self.new.stored ≡ record self.old.stored { clauses = self.old.stored.clauses ++ kept ∷ [] }) }
+        ensures same { OnErr result (self.new.stored ≡ self.old.stored) }
+        ensures looks { self.new.looks ≡ self.old.looks }
+    {
+        let row = self.rows.len();
+        if row + 1 >= 1 << 32 {
+            return Err(AllocError);
+        }
+        let zero = Literal::new(0, true);
+        match self.rows.push(literals, zero, zero, level) {
+            Err(_) => Err(AllocError),
+            Ok(()) => {
+                self.loose = true;
+                Ok(row as u64)
+            }
+        }
+    }
+
+    fn add_watched(&mut self, literals: &[Literal], level: u16) -> Result<u64, AllocError>
+        requires some { 0 < length literals.now }
+        requires known { All (λ (l : Signed). l.atom < self.old.stored.trail.atoms) literals.now }
+        ensures added { IfOk result (λ id. let kept : Kept = record { id = id; literals = literals.now; level = level } in self.new.stored ≡ record self.old.stored { clauses = self.old.stored.clauses ++ kept ∷ [] }) }
+        ensures same { OnErr result (self.new.stored ≡ self.old.stored) }
+        ensures looks { self.new.looks ≡ self.old.looks }
+    {
+        if self.loose {
+            return self.add_loose(literals, level);
+        }
+        let row = self.rows.len();
+        if row + 1 >= 1 << 32 {
+            return Err(AllocError);
+        }
+        // each clause may wait once decisions are undone
+        let rest = (row + 1).saturating_sub(self.waiting.len());
+        if self.waiting.reserve(rest).is_err() {
+            return Err(AllocError);
+        }
+        if !make_room(&mut self.lists, literals) {
+            return Err(AllocError);
+        }
+        match keep_up(
+            &mut self.rows,
+            &mut self.lists,
+            &self.trail,
+            &mut self.waiting,
+            literals,
+            level,
+            self.head,
+        ) {
+            Err(_) => Err(AllocError),
+            Ok(Some(head)) => {
+                self.head = head;
+                Ok(row as u64)
+            }
+            Ok(None) => {
+                self.loose = true;
+                Ok(row as u64)
+            }
+        }
+    }
+
+    pub fn add(&mut self, literals: &[Literal], level: u16) -> Result<u64, AllocError>
+        requires known { All (λ (l : Signed). l.atom < self.old.stored.trail.atoms) literals.now }
+        ensures added { IfOk result (λ id. let kept : Kept = record { id = id; literals = literals.now; level = level } in self.new.stored ≡ record self.old.stored { clauses = self.old.stored.clauses ++ kept ∷ [] }) }
+        ensures same { OnErr result (self.new.stored ≡ self.old.stored) }
+        ensures looks { self.new.looks ≡ self.old.looks }
+    {
+        if literals.is_empty() {
+            return self.add_loose(literals, level);
+        }
+        self.add_watched(literals, level)
+    }
+
+    pub fn new(alloc: Global) -> CountedStore
+        ensures { result ≡ record { stored = record { clauses = []; trail = record { steps = []; atoms = 0; depth = 0 } }; looks = 0 } }
+    {
+        CountedStore {
+            alloc,
+            rows: Rows::new(alloc),
+            lists: Vec::new(alloc),
+            spare: WatchList::new(alloc),
+            trail: Trail::new(alloc),
+            head: 0,
+            saves: Vec::new(alloc),
+            waiting: Vec::new(alloc),
+            loose: false,
+        }
+    }
+
+    // One whose watches aren't kept up, so that it scans.
+    #[cfg(test)]
+    pub fn scanning(alloc: Global) -> CountedStore
+        ensures { result ≡ record { stored = record { clauses = []; trail = record { steps = []; atoms = 0; depth = 0 } }; looks = 0 } }
+    {
+        CountedStore {
+            alloc,
+            rows: Rows::new(alloc),
+            lists: Vec::new(alloc),
+            spare: WatchList::new(alloc),
+            trail: Trail::new(alloc),
+            head: 0,
+            saves: Vec::new(alloc),
+            waiting: Vec::new(alloc),
+            loose: true,
+        }
+    }
+
+    // Knows so many atoms; no other call takes memory but `add`.
+    pub fn reserve(&mut self, atoms: u32) -> Result<(), AllocError>
+        ensures reserved { OnOk result (self.new.stored ≡ record self.old.stored { trail = record { steps = self.old.stored.trail.steps; atoms = max self.old.stored.trail.atoms atoms; depth = self.old.stored.trail.depth } }) }
+        ensures same { OnErr result (self.new.stored ≡ self.old.stored) }
+        ensures looks { self.new.looks ≡ self.old.looks }
+    {
+        make_lists(self.alloc, &mut self.lists, atoms)?;
+        self.saves
+            .reserve((atoms as usize).saturating_sub(self.saves.len()))?;
+        self.trail.reserve(atoms)?;
+        Ok(())
+    }
+
+    // How many atoms it knows.
+    pub fn atoms(&self) -> u32
+        ensures atoms { result ≡ self.now.stored.trail.atoms }
+        ensures few { result ≤ 2 ^ 31 }
+    {
+        self.trail.atoms()
+    }
+
+    // The id that the next clause gets.
+    pub fn next_id(&self) -> u64
+        ensures { All (λ (c : Kept). c.id < result) self.now.stored.clauses }
+    {
+        self.rows.len() as u64
+    }
+
+    // The number of decisions.
+    pub fn depth(&self) -> u32
+        ensures { result ≡ self.now.stored.trail.depth }
+    {
+        self.trail.depth()
+    }
+
+    pub fn status(&self, literal: Literal) -> Status
+        requires { literal.atom < self.now.stored.trail.atoms }
+        ensures { StatusOf self.now.stored.trail.steps literal result }
+    {
+        self.trail.status(literal)
+    }
+
+    // How many steps more there is room for, where a literal is open.
+    pub fn room(&self, literal: Literal) -> usize
+        requires known { literal.atom < self.now.stored.trail.atoms }
+        requires is_open { IsOpen self.now.stored.trail.steps literal }
+        ensures steps { length self.now.stored.trail.steps + result ≡ self.now.stored.trail.atoms }
+        ensures room { 0 < result }
+    {
+        self.trail.room(literal)
+    }
+
+    // Where on the trail a literal stands.
+    pub fn place(&self, literal: Literal) -> usize
+        requires known { literal.atom < self.now.stored.trail.atoms }
+        requires assigned { Assigns self.now.stored.trail.steps literal }
+        ensures within { result < length self.now.stored.trail.steps }
+        ensures literal { (d : Step) → (slice_index_or self.now.stored.trail.steps result d).literal ≡ literal }
+    {
+        self.trail.place(literal)
+    }
+
+    pub fn steps(&self) -> &[Step]
+        ensures steps { result.now ≡ self.now.stored.trail.steps }
+        ensures known { All (λ (s : Step). s.literal.atom < self.now.stored.trail.atoms) self.now.stored.trail.steps }
+        ensures room { length self.now.stored.trail.steps ≤ self.now.stored.trail.atoms }
+        ensures justified { EachAfter (IsJustified self.now.stored.clauses) self.now.stored.trail.steps }
+        ensures unique { HaveOwnIds self.now.stored.clauses }
+        ensures fresh { EachAfter IsFresh self.now.stored.trail.steps }
+        ensures decided { EachAfter IsDecided self.now.stored.trail.steps }
+        ensures consistent { (l : Signed) → Assigns self.now.stored.trail.steps l → Assigns self.now.stored.trail.steps (opposite l) → ⊥ }
+        ensures in_order { IsNonDecreasingBy (λ (s : Step). s.depth) self.now.stored.trail.steps }
+        ensures deepest { All (λ (s : Step). s.depth ≤ self.now.stored.trail.depth) self.now.stored.trail.steps }
+    {
+        self.trail.steps()
+    }
+
+    pub fn is_kept(&self, id: u64) -> bool
+        ensures yes { result ≡ true → HasKept self.now.stored.clauses id (λ ls. Unit {0}) }
+        ensures no { result ≡ false → HasKept self.now.stored.clauses id (λ ls. Unit {0}) → ⊥ }
+    {
+        if id >= self.rows.len() as u64 {
+            return false;
+        }
+        self.rows.is_live(id as u32)
+    }
+
+    pub fn level(&self, id: u64) -> u16
+        requires { HasKept self.now.stored.clauses id (λ ls. Unit {0}) }
+        ensures { HasLevel self.now.stored.clauses id result }
+    {
+        self.rows.level(id as u32)
+    }
+
+    // How many literals a kept clause has.
+    pub fn size(&self, id: u64) -> usize
+        requires { HasKept self.now.stored.clauses id (λ ls. Unit {0}) }
+        ensures { HasKept self.now.stored.clauses id (λ ls. result ≡ length ls) }
+    {
+        self.rows.size(id as u32)
+    }
+
+    // Looks at a kept clause, which is the one way to its literals.
+    pub fn look(&mut self, id: u64) -> Looked
+        requires { HasKept self.old.stored.clauses id (λ ls. Unit {0}) }
+        ensures same { self.new.stored ≡ self.old.stored }
+        ensures looks { self.new.looks ≡ risen self.old.looks }
+        ensures clause { result ≡ id }
+    {
+        self.rows.look(id as u32)
+    }
+
+    // The literals of a kept clause that is looked at.
+    pub fn literals(&self, looked: Looked) -> &[Literal]
+        requires { HasKept self.now.stored.clauses looked (λ ls. Unit {0}) }
+        ensures { HasKept self.now.stored.clauses looked (λ ls. result.now ≡ ls) }
+    {
+        self.rows.literals(looked)
+    }
+
+    // How often a clause was looked at; it stands still at its greatest value.
+    pub fn looks(&self) -> u64
+        ensures { result ≡ self.now.looks }
+    {
+        self.rows.looks()
+    }
+
+    fn row_of(&self, id: u64) -> u32
+        requires { HasKept self.now.stored.clauses id (λ ls. Unit {0}) }
+        ensures { result ≡ id }
+    {
+        let _rows = self.rows.len();
+        id as u32
+    }
+
+    // Keeps a clause no longer.
+    pub fn forget(&mut self, id: u64)
+        requires kept { HasKept self.old.stored.clauses id (λ ls. Unit {0}) }
+        requires unused { All (λ (s : Step). s.reason ≡ Some id → ⊥) self.old.stored.trail.steps }
+        ensures forgotten { self.new.stored ≡ record self.old.stored { clauses = without id self.old.stored.clauses } }
+        ensures looks { self.new.looks ≡ self.old.looks }
+    {
+        let row = self.row_of(id);
+        self.rows.forget(row);
+        drop_of(&mut self.waiting, row);
+    }
+
+    // Takes back all steps, and keeps the clauses up to this level.
+    pub fn cut_to(&mut self, level: i32)
+        ensures cut { self.new.stored ≡ record { clauses = up_to_level level self.old.stored.clauses; trail = record { steps = []; atoms = self.old.stored.trail.atoms; depth = 0 } } }
+        ensures looks { self.new.looks ≡ self.old.looks }
+    {
+        self.trail.clear();
+        cut_to(&mut self.rows, level);
+        self.saves.clear();
+        self.waiting.clear();
+        self.head = 0;
+        if self.loose {
+            return;
+        }
+        match calm(&self.rows, &self.trail, 0, &mut self.waiting) {
+            Some(_) => {}
+            None => self.loose = true,
+        }
+    }
+}
