@@ -7,14 +7,15 @@ use Rattle.clause_store.specs.Trail.{Assigns}
 use Rattle.clause_store.specs.declared.trail.Step.{Step}
 use Rattle.clause_store.specs.Stored.{Kept}
 use Rattle.clause_store.specs.Entries.{Entry, entry_at, no_entry, watches_of, IsKnown}
-use Rattle.clause_store.specs.Watching.{IsSettled, IsPair, IsListed, IsSound, IsWatching, kept_of, kept_from}
+use Rattle.clause_store.specs.Watching.{IsSettled, IsPair, IsListed, IsSound, IsOwn, IsOnce, IsWatching, no_watch, kept_of, kept_from}
 use Rattle.clause_store.specs.Rested.{Rested, IsWaiting, Waits, save_at}
 use Rattle.clause_store.proofs.Watches.{below_or_at, IsListed-push, IsListed-new}
-use Rattle.clause_store.specs.Choosing.{IsChoice, Stands}
+use Rattle.clause_store.specs.Choosing.{IsChoice, Stands, Enlists, EnlistsBoth}
 use Rattle.clause_store.specs.Gaining.{KeepsUp}
 use Rattle.clause_store.specs.declared.choose.Choice.{Choice}
 use Rattle.clause_store.specs.declared.choose.Standing.TheVariants.{Awake, Waits as Waiting, Stirred}
 use Rattle.clause_store.proofs.Turning.{Assigns-front, code_within}
+use Rattle.clause_store.proofs.Tidy.{IsOnce-push}
 use Rattle.clause_store.proofs.Sweeping.{live_within, equal_or_apart, watches_of-same, watches_of-other, IsKnown-contained}
 use Rattle.clause_store.specs.declared.lists.Watch.{Watch}
 use Rattle.clause_store.specs.declared.waits.Save.{Save}
@@ -53,26 +54,78 @@ listed-add lists m l w i lt h = elim (equal_or_apart l m) [
   | inr apart ↦ rw (watches_of-other lists m l (watches_of lists m ++ w ∷ []) apart) h
 ]
 
-pub sound-add : (P : Watch → Type 0) (lists : List (List Watch)) (m l : Signed) (w : Watch) → packed m < length lists → ((x : Signed) → All P (watches_of lists x)) → P w → All P (watches_of (add_watch lists m w) l)
-sound-add P lists m l w lt h p = elim (equal_or_apart l m) [
-  | inl same ↦ subst (λ x. All P (watches_of (add_watch lists m w) x)) (sym same) (rw (watches_of-same lists m (watches_of lists m ++ w ∷ []) lt) (All-push P (watches_of lists m) w (h m) p))
+all-add : (Q : Signed → Watch → Type 0) (lists : List (List Watch)) (m l : Signed) (w : Watch) → packed m < length lists → ((x : Signed) → All (Q x) (watches_of lists x)) → Q m w → All (Q l) (watches_of (add_watch lists m w) l)
+all-add Q lists m l w lt h q = elim (equal_or_apart l m) [
+  | inl same ↦ subst (λ x. All (Q x) (watches_of (add_watch lists m w) x)) (sym same) (rw (watches_of-same lists m (watches_of lists m ++ w ∷ []) lt) (All-push (Q m) (watches_of lists m) w (h m) q))
   | inr apart ↦ rw (watches_of-other lists m l (watches_of lists m ++ w ∷ []) apart) (h l)
 ]
 
-pub listed-here : (lists : List (List Watch)) (m : Signed) (w : Watch) → packed m < length lists → IsListed (watches_of (add_watch lists m w) m) 0 w.row
+listed-here : (lists : List (List Watch)) (m : Signed) (w : Watch) → packed m < length lists → IsListed (watches_of (add_watch lists m w) m) 0 w.row
 listed-here lists m w lt = rw (watches_of-same lists m (watches_of lists m ++ w ∷ []) lt) (IsListed-new (watches_of lists m) w)
 
+-- the clause of this place isn't in the list
+abbrev pub IsAbsent : List Watch → ℕ → Type 0
+IsAbsent ws row = (j : ℕ) → j < length ws → (get_or ws j no_watch).row ≡ row → ⊥
+
+once-add : (lists : List (List Watch)) (m l : Signed) (w : Watch) → packed m < length lists → ((x : Signed) → IsOnce (watches_of lists x)) → IsAbsent (watches_of lists m) w.row → IsOnce (watches_of (add_watch lists m w) l)
+once-add lists m l w lt h fresh = elim (equal_or_apart l m) [
+  | inl same ↦ subst (λ x. IsOnce (watches_of (add_watch lists m w) x)) (sym same) (rw (watches_of-same lists m (watches_of lists m ++ w ∷ []) lt) (IsOnce-push (watches_of lists m) w fresh (h m)))
+  | inr apart ↦ rw (watches_of-other lists m l (watches_of lists m ++ w ∷ []) apart) (h l)
+]
+
+-- the lists once a clause's watches stand in those of its two watched literals
+pub record Listed (Q : Signed → Watch → Type 0) (lists lists' : List (List Watch)) (a b : Signed) (row : ℕ) : Type 0 where
+  pub grown : (l : Signed) (i : ℕ) → IsListed (watches_of lists l) 0 i → IsListed (watches_of lists' l) 0 i
+  pub first : IsListed (watches_of lists' a) 0 row
+  pub second : IsListed (watches_of lists' b) 0 row
+  pub each : ((l : Signed) → All (Q l) (watches_of lists l)) → Q a (record { blocker = b; row = row }) → Q b (record { blocker = a; row = row }) → (l : Signed) → All (Q l) (watches_of lists' l)
+  pub once : ((l : Signed) → IsOnce (watches_of lists l)) → ((l : Signed) → IsAbsent (watches_of lists l) row) → (l : Signed) → IsOnce (watches_of lists' l)
+  pub count : length lists' ≡ length lists
+
+listed_one : (Q : Signed → Watch → Type 0) (lists lists' : List (List Watch)) (a b : Signed) (row : ℕ) → packed a < length lists → a ≡ b → Enlists lists lists' a (record { blocker = b; row = row }) → Listed Q lists lists' a b row
+listed_one Q lists lists' a b row lt same is =
+    let v : Watch = record { blocker = b; row = row } in
+    let here : IsListed (watches_of (add_watch lists a v) a) 0 row = listed-here lists a v lt in
+    subst (λ (xs : List (List Watch)). Listed Q lists xs a b row) (sym is) record {
+      grown = λ l i h. listed-add lists a l v i lt h;
+      first = here;
+      second = subst (λ x. IsListed (watches_of (add_watch lists a v) x) 0 row) same here;
+      each = λ h qa qb l. all-add Q lists a l v lt h qa;
+      once = λ h fresh l. once-add lists a l v lt h (fresh a);
+      count = length-set lists (packed a) (watches_of lists a ++ v ∷ []);
+    }
+
+listed_two : (Q : Signed → Watch → Type 0) (lists lists' : List (List Watch)) (a b : Signed) (row : ℕ) → packed a < length lists → packed b < length lists → (a ≡ b → ⊥)
+    → (let v : Watch = record { blocker = b; row = row } in let w : Watch = record { blocker = a; row = row } in lists' ≡ add_watch (add_watch lists a v) b w) → Listed Q lists lists' a b row
+listed_two Q lists lists' a b row lt lt' apart is =
+    let v : Watch = record { blocker = b; row = row } in
+    let w : Watch = record { blocker = a; row = row } in
+    let mid : List (List Watch) = add_watch lists a v in
+    let len : length mid ≡ length lists = length-set lists (packed a) (watches_of lists a ++ v ∷ []) in
+    let in' : packed b < length mid = omega arith in
+    let same_b : watches_of mid b ≡ watches_of lists b = watches_of-other lists a b (watches_of lists a ++ v ∷ []) (λ x. apart (sym x)) in
+    subst (λ (xs : List (List Watch)). Listed Q lists xs a b row) (sym is) record {
+      grown = λ l i h. listed-add mid b l w i in' (listed-add lists a l v i lt h);
+      first = listed-add mid b a w row in' (listed-here lists a v lt);
+      second = listed-here mid b w in';
+      each = λ h qa qb l. all-add Q mid b l w in' (λ x. all-add Q lists a x v lt h qa) qb;
+      once = λ h fresh l. once-add mid b l w in' (λ x. once-add lists a x v lt h (fresh a)) (subst (λ ws. IsAbsent ws row) (sym same_b) (fresh b));
+      count = length-set mid (packed b) (watches_of mid b ++ w ∷ []) ∙ len;
+    }
+
+listed_both : (Q : Signed → Watch → Type 0) (lists lists' : List (List Watch)) (a b : Signed) (row : ℕ) → packed a < length lists → packed b < length lists → EnlistsBoth lists lists' a b row → Listed Q lists lists' a b row
+listed_both Q lists lists' a b row lt lt' (inl one) = listed_one Q lists lists' a b row lt one.0 one.1
+listed_both Q lists lists' a b row lt lt' (inr two) =
+    let w : Watch = record { blocker = a; row = row } in
+    listed_two Q lists lists' a b row lt lt' two.0 (two.1.2 ∙ ap (λ (xs : List (List Watch)). add_watch xs b w) two.1.1)
+
 -- a clause more, and a watch of it in the lists of its two watched literals
-pub IsWatching-add : (atoms : ℕ) (es : List Entry) (lists : List (List Watch)) (e : Entry) (v w : Watch) → IsWatching atoms es lists → IsKnown atoms e → IsPair e
-    → packed e.first < length lists → packed e.second < length lists → v.row ≡ length es → w.row ≡ length es → v.blocker ≡ e.second → w.blocker ≡ e.first
-    → IsWatching atoms (es ++ e ∷ []) (add_watch (add_watch lists e.first v) e.second w)
-IsWatching-add atoms es lists e v w h known pair f s rv rw' bv bw =
+pub IsWatching-add : (atoms : ℕ) (es : List Entry) (lists lists' : List (List Watch)) (e : Entry) → IsWatching atoms es lists → IsKnown atoms e → IsPair e
+    → Listed (λ l x. IsSound atoms (es ++ e ∷ []) x × IsOwn (es ++ e ∷ []) l x) lists lists' e.first e.second (length es) → IsWatching atoms (es ++ e ∷ []) lists'
+IsWatching-add atoms es lists lists' e h known pair is =
     let es' : List Entry = es ++ e ∷ [] in
-    let mid : List (List Watch) = add_watch lists e.first v in
-    let lists' : List (List Watch) = add_watch mid e.second w in
     let len : length es' ≡ length es + 1 = length_push es e in
     let new : entry_at es' (length es) ≡ e = entry_at-new es e (length es) refl in
-    let s' : packed e.second < length mid = omega (arith, length-set lists (packed e.first) (watches_of lists e.first ++ v ∷ [])) in
     let old : (x : Watch) → IsSound atoms es x → IsSound atoms es' x = λ x k.
     let lt : x.row < length es = k.within in
     record { within = omega arith; known = k.known; blocker = rw (entry_at-old es e x.row lt) k.blocker } in
@@ -82,7 +135,21 @@ IsWatching-add atoms es lists e v w h known pair f s rv rw' bv bw =
       known = IsKnown-contained atoms e x.blocker known c;
       blocker = λ l. subst (λ n. Contains (entry_at es' n).literals x.blocker) (sym r) (rw new c);
     } in
-    let grown : (l : Signed) (i : ℕ) → IsListed (watches_of lists l) 0 i → IsListed (watches_of lists' l) 0 i = λ l i a. listed-add mid e.second l w i s' (listed-add lists e.first l v i f a) in
+    let old_own : (l : Signed) → All (IsOwn es' l) (watches_of lists l) = λ l j x lt.
+    let o : IsOwn es l (get_or (watches_of lists l) j x) = h.tidy.own l j x lt in
+    let s : IsSound atoms es (get_or (watches_of lists l) j x) = h.sound l j x lt in
+    record { pair = rw (entry_at-old es e (get_or (watches_of lists l) j x).row s.within) o.pair } in
+    let v : Watch = record { blocker = e.second; row = length es } in
+    let w : Watch = record { blocker = e.first; row = length es } in
+    let own_v : IsOwn es' e.first v = record { pair = rw new (inl refl) } in
+    let own_w : IsOwn es' e.second w = record { pair = rw new (inr refl) } in
+    let all : (l : Signed) → All (λ x. IsSound atoms es' x × IsOwn es' l x) (watches_of lists' l) =
+    is.each (λ l j x lt. (All-weaker (IsSound atoms es) (IsSound atoms es') old (watches_of lists l) (h.sound l) j x lt, old_own l j x lt))
+    (of_new v refl pair.second, own_v) (of_new w refl pair.first, own_w) in
+    let fresh : (l : Signed) → IsAbsent (watches_of lists l) (length es) = λ l j lt y.
+    let s : IsSound atoms es (get_or (watches_of lists l) j no_watch) = h.sound l j no_watch lt in
+    let in' : (get_or (watches_of lists l) j no_watch).row < length es = s.within in
+    omega arith in
     record {
       known = λ i lt. elim (below_or_at i (length es) (omega arith)) [
         | inl below ↦ rw (entry_at-old es e i below) (h.known i below)
@@ -92,17 +159,18 @@ IsWatching-add atoms es lists e v w h known pair f s rv rw' bv bw =
         | inl below ↦ rw (entry_at-old es e i below) (h.pairs i (rw (entry_at-old es e i below) at live))
         | inr at ↦ subst (λ n. IsPair (entry_at es' n)) (sym at) (rw new pair)
       ];
-      sound = λ l. sound-add (IsSound atoms es') mid e.second l w s'
-          (λ x. sound-add (IsSound atoms es') lists e.first x v f (λ y. All-weaker (IsSound atoms es) (IsSound atoms es') old (watches_of lists y) (h.sound y)) (of_new v rv (subst (Contains e.literals) (sym bv) pair.second)))
-          (of_new w rw' (subst (Contains e.literals) (sym bw) pair.first));
+      sound = λ l. All-weaker (λ x. IsSound atoms es' x × IsOwn es' l x) (IsSound atoms es') (λ x p. p.0) (watches_of lists' l) (all l);
       listed = λ i live. elim (below_or_at i (length es) (let lt : i < length es' = live_within es' i live in omega arith)) [
         | inl below ↦
             let was : (entry_at es i).live ≡ true = rw (entry_at-old es e i below) at live in
-            rw (entry_at-old es e i below) (grown (entry_at es i).first i (h.listed i was).0, grown (entry_at es i).second i (h.listed i was).1)
-        | inr at ↦ subst (λ n. IsListed (watches_of lists' (entry_at es' n).first) 0 n × IsListed (watches_of lists' (entry_at es' n).second) 0 n) (sym at)
-            (rw new (listed-add mid e.second e.first w (length es) s' (subst (IsListed (watches_of mid e.first) 0) rv (listed-here lists e.first v f)), subst (IsListed (watches_of lists' e.second) 0) rw' (listed-here mid e.second w s')))
+            rw (entry_at-old es e i below) (is.grown (entry_at es i).first i (h.listed i was).0, is.grown (entry_at es i).second i (h.listed i was).1)
+        | inr at ↦ subst (λ n. IsListed (watches_of lists' (entry_at es' n).first) 0 n × IsListed (watches_of lists' (entry_at es' n).second) 0 n) (sym at) (rw new (is.first, is.second))
       ];
-      room = omega (arith, length-set mid (packed e.second) (watches_of mid e.second ++ w ∷ []), length-set lists (packed e.first) (watches_of lists e.first ++ v ∷ []), h.room);
+      room = omega (arith, is.count, h.room);
+      tidy = record {
+        own = λ l. All-weaker (λ x. IsSound atoms es' x × IsOwn es' l x) (IsOwn es' l) (λ x p. p.1) (watches_of lists' l) (all l);
+        once = is.once h.tidy.once fresh;
+      };
     }
 
 -- ---- the depths
@@ -166,21 +234,21 @@ Rested-add es e steps depth head head' saves ws ws' h le keeps only new =
 abbrev pub new_entry : List Signed → Signed → Signed → ℕ → Entry
 new_entry ls a b level = record { literals = ls; first = a; second = b; level = level; live = true }
 
-watching_added : (atoms : ℕ) (steps : List Step) (es : List Entry) (lists : List (List Watch)) (ls : List Signed) (level : ℕ) (c : Choice) (v w : Watch) → IsWatching atoms es lists → All (λ (l : Signed). l.atom < atoms) ls → IsChoice steps ls c
-    → v.row ≡ length es → w.row ≡ length es → v.blocker ≡ c.second → w.blocker ≡ c.first → IsWatching atoms (es ++ new_entry ls c.first c.second level ∷ []) (add_watch (add_watch lists c.first v) c.second w)
-watching_added atoms steps es lists ls level c v w h known ch rv rw' bv bw =
+watching_added : (atoms : ℕ) (steps : List Step) (es : List Entry) (lists lists' : List (List Watch)) (ls : List Signed) (level : ℕ) (c : Choice) → IsWatching atoms es lists → All (λ (l : Signed). l.atom < atoms) ls → IsChoice steps ls c
+    → EnlistsBoth lists lists' c.first c.second (length es) → IsWatching atoms (es ++ new_entry ls c.first c.second level ∷ []) lists'
+watching_added atoms steps es lists lists' ls level c h known ch both =
     let a : c.first.atom < atoms = All-contains (λ (l : Signed). l.atom < atoms) ls c.first known ch.first in
     let b : c.second.atom < atoms = All-contains (λ (l : Signed). l.atom < atoms) ls c.second known ch.second in
-    IsWatching-add atoms es lists (new_entry ls c.first c.second level) v w h (record { literals = known; first = a; second = b }) (record { first = ch.first; second = ch.second; single = ch.single })
-    (code_within c.first atoms (length lists) a h.room) (code_within c.second atoms (length lists) b h.room) rv rw' bv bw
+    IsWatching-add atoms es lists lists' (new_entry ls c.first c.second level) h (record { literals = known; first = a; second = b }) (record { first = ch.first; second = ch.second; single = ch.single })
+    (listed_both (λ l x. IsSound atoms (es ++ new_entry ls c.first c.second level ∷ []) x × IsOwn (es ++ new_entry ls c.first c.second level ∷ []) l x) lists lists' c.first c.second (length es) (code_within c.first atoms (length lists) a h.room) (code_within c.second atoms (length lists) b h.room) both)
 
-pub keeps-awake : (atoms : ℕ) (steps : List Step) (es : List Entry) (lists : List (List Watch)) (ls : List Signed) (level : ℕ) (c : Choice) (v w : Watch) (ws : List Wait) (head : ℕ) → All (λ (l : Signed). l.atom < atoms) ls → IsChoice steps ls c
-    → v.row ≡ length es → w.row ≡ length es → v.blocker ≡ c.second → w.blocker ≡ c.first → c.standing ≡ Awake
-    → KeepsUp atoms steps es (es ++ new_entry ls c.first c.second level ∷ []) lists (add_watch (add_watch lists c.first v) c.second w) ws ws head head
-keeps-awake atoms steps es lists ls level c v w ws head known ch rv rw' bv bw st = λ saves depth k.
+pub keeps-awake : (atoms : ℕ) (steps : List Step) (es : List Entry) (lists lists' : List (List Watch)) (ls : List Signed) (level : ℕ) (c : Choice) (ws : List Wait) (head : ℕ) → All (λ (l : Signed). l.atom < atoms) ls → IsChoice steps ls c
+    → EnlistsBoth lists lists' c.first c.second (length es) → c.standing ≡ Awake
+    → KeepsUp atoms steps es (es ++ new_entry ls c.first c.second level ∷ []) lists lists' ws ws head head
+keeps-awake atoms steps es lists lists' ls level c ws head known ch both st = λ saves depth k.
     let stands : Stands steps ls c.first c.second Awake = subst (Stands steps ls c.first c.second) st ch.stands in
     record {
-      watch = watching_added atoms steps es lists ls level c v w k.watch known ch rv rw' bv bw;
+      watch = watching_added atoms steps es lists lists' ls level c k.watch known ch both;
       rested = Rested-add es (new_entry ls c.first c.second level) steps depth head head saves ws ws k.rested (omega arith) (λ x m. m) (λ x m. inl m)
           (inl (inr (record { apart = stands.0; first = λ x. stands.1 (Assigns-front head steps (opposite c.first) x); second = λ x. stands.2 (Assigns-front head steps (opposite c.second) x) })));
     }
@@ -188,21 +256,21 @@ keeps-awake atoms steps es lists ls level c v w ws head known ch rv rw' bv bw st
 none_seen : (steps : List Step) (l : Signed) → Assigns (take 0 steps) l → ⊥
 none_seen steps l h = omega (arith, h.1)
 
-pub keeps-stirred : (atoms : ℕ) (steps : List Step) (es : List Entry) (lists : List (List Watch)) (ls : List Signed) (level : ℕ) (c : Choice) (v w : Watch) (ws : List Wait) (head : ℕ) → All (λ (l : Signed). l.atom < atoms) ls → IsChoice steps ls c
-    → v.row ≡ length es → w.row ≡ length es → v.blocker ≡ c.second → w.blocker ≡ c.first → c.standing ≡ Stirred
-    → KeepsUp atoms steps es (es ++ new_entry ls c.first c.second level ∷ []) lists (add_watch (add_watch lists c.first v) c.second w) ws ws head 0
-keeps-stirred atoms steps es lists ls level c v w ws head known ch rv rw' bv bw st = λ saves depth k.
+pub keeps-stirred : (atoms : ℕ) (steps : List Step) (es : List Entry) (lists lists' : List (List Watch)) (ls : List Signed) (level : ℕ) (c : Choice) (ws : List Wait) (head : ℕ) → All (λ (l : Signed). l.atom < atoms) ls → IsChoice steps ls c
+    → EnlistsBoth lists lists' c.first c.second (length es) → c.standing ≡ Stirred
+    → KeepsUp atoms steps es (es ++ new_entry ls c.first c.second level ∷ []) lists lists' ws ws head 0
+keeps-stirred atoms steps es lists lists' ls level c ws head known ch both st = λ saves depth k.
     let stands : Stands steps ls c.first c.second Stirred = subst (Stands steps ls c.first c.second) st ch.stands in
     record {
-      watch = watching_added atoms steps es lists ls level c v w k.watch known ch rv rw' bv bw;
+      watch = watching_added atoms steps es lists lists' ls level c k.watch known ch both;
       rested = Rested-add es (new_entry ls c.first c.second level) steps depth head 0 saves ws ws k.rested (omega arith) (λ x m. m) (λ x m. inl m)
           (inl (inr (record { apart = stands; first = λ x. none_seen steps (opposite c.first) x; second = λ x. none_seen steps (opposite c.second) x })));
     }
 
-pub keeps-waits : (atoms : ℕ) (steps : List Step) (es : List Entry) (lists : List (List Watch)) (ls : List Signed) (level : ℕ) (c : Choice) (v w : Watch) (ws : List Wait) (x : Wait) (head : ℕ) → All (λ (l : Signed). l.atom < atoms) ls → IsChoice steps ls c
-    → v.row ≡ length es → w.row ≡ length es → v.blocker ≡ c.second → w.blocker ≡ c.first → c.standing ≡ Waiting → x.row ≡ length es → x.literal ≡ c.first
-    → KeepsUp atoms steps es (es ++ new_entry ls c.first c.second level ∷ []) lists (add_watch (add_watch lists c.first v) c.second w) ws (ws ++ x ∷ []) head head
-keeps-waits atoms steps es lists ls level c v w ws x head known ch rv rw' bv bw st xr xl = λ saves depth k.
+pub keeps-waits : (atoms : ℕ) (steps : List Step) (es : List Entry) (lists lists' : List (List Watch)) (ls : List Signed) (level : ℕ) (c : Choice) (ws : List Wait) (x : Wait) (head : ℕ) → All (λ (l : Signed). l.atom < atoms) ls → IsChoice steps ls c
+    → EnlistsBoth lists lists' c.first c.second (length es) → c.standing ≡ Waiting → x.row ≡ length es → x.literal ≡ c.first
+    → KeepsUp atoms steps es (es ++ new_entry ls c.first c.second level ∷ []) lists lists' ws (ws ++ x ∷ []) head head
+keeps-waits atoms steps es lists lists' ls level c ws x head known ch both st xr xl = λ saves depth k.
     let stands : Stands steps ls c.first c.second Waiting = subst (Stands steps ls c.first c.second) st ch.stands in
     let e : Entry = new_entry ls c.first c.second level in
     let here : entry_at (es ++ e ∷ []) x.row ≡ e = entry_at-new es e x.row (sym xr) in
@@ -212,7 +280,7 @@ keeps-waits atoms steps es lists ls level c v w ws x head known ch rv rw' bv bw 
       rest = rw (here, xl) stands;
     } in
     record {
-      watch = watching_added atoms steps es lists ls level c v w k.watch known ch rv rw' bv bw;
+      watch = watching_added atoms steps es lists lists' ls level c k.watch known ch both;
       rested = Rested-add es e steps depth head head saves ws (ws ++ x ∷ []) k.rested (omega arith) (λ y m. Contains-append_left ws (x ∷ []) y m)
           (λ y m. elim (Contains-push_cases ws x y m) [
             | inl old ↦ inl old

@@ -11,7 +11,7 @@ use Rattle.clause_store.specs.declared.trail.Step.{Step}
 use Rattle.clause_store.specs.Stored.{Kept, IsFalseOn, IsForced, IsJustified, HaveOwnIds, without, up_to_level}
 use Rattle.clause_store.specs.Found.{HasKept, HasLevel}
 use Rattle.clause_store.specs.Entries.{Entry, entry_at, no_entry, watches_of, IsKnown}
-use Rattle.clause_store.specs.Watching.{IsWatching, IsPair, IsListed, IsSound, IsSettled, kept_from, kept_of}
+use Rattle.clause_store.specs.Watching.{IsWatching, IsPair, IsListed, IsSound, IsOwn, IsOnce, IsSettled, kept_from, kept_of}
 use Rattle.clause_store.specs.Rested.{Rested, IsWaiting, Waits, OthersFalse, save_at}
 use Rattle.clause_store.specs.Rewinding.{AllCalm}
 use Rattle.clause_store.specs.Cutting.{IsCut, IsFewer, cut_entry}
@@ -119,6 +119,11 @@ IsWatching-fewer atoms es es' lists f h = record {
       }) (watches_of lists l) (h.sound l);
   listed = λ i live. subst (λ (e : Entry). IsListed (watches_of lists e.first) 0 i × IsListed (watches_of lists e.second) 0 i) (sym (f.same i live)) (h.listed i (was_live es es' f i live));
   room = h.room;
+  tidy = record {
+    own = λ l. All-weaker (IsOwn es l) (IsOwn es' l)
+        (λ w o. record { pair = elim o.pair [ inl a ↦ inl (f.first w.row ∙ a) | inr b ↦ inr (f.second w.row ∙ b) ] }) (watches_of lists l) (h.tidy.own l);
+    once = h.tidy.once;
+  };
 }
 
 known_fewer : (atoms : ℕ) (es es' : List Entry) → IsFewer es es' → All (λ (c : Kept). All (λ (l : Signed). l.atom < atoms) c.literals) (kept_from 0 es) → All (λ (c : Kept). All (λ (l : Signed). l.atom < atoms) c.literals) (kept_from 0 es')
@@ -445,6 +450,10 @@ IsWatching-more atoms atoms' es lists lists' le room same h = record {
       (λ w s. let known : w.blocker.atom < atoms = s.known in record { within = s.within; known = omega arith; blocker = s.blocker }) (watches_of lists l) (h.sound l));
   listed = λ i live. rw (same (entry_at es i).first, same (entry_at es i).second) (h.listed i live);
   room = room;
+  tidy = record {
+    own = λ l. subst (All (IsOwn es l)) (sym (same l)) (h.tidy.own l);
+    once = λ l. subst IsOnce (sym (same l)) (h.tidy.once l);
+  };
 }
 
 pub IsKept-more : (es : List Entry) (lists lists' : List (List Watch)) (t t' : Assigned) (head : ℕ) (saves : List Save) (ws : List Wait) (loose : Bool) → t'.steps ≡ t.steps → t'.depth ≡ t.depth → t.atoms ≤ t'.atoms
@@ -468,6 +477,7 @@ IsKept-none t steps atoms depth =
       sound = λ l. All-nil (IsSound 0 []);
       listed = λ i live. absurd (false_true live);
       room = omega arith;
+      tidy = record { own = λ l. All-nil (IsOwn [] l); once = λ l j k lt. absurd (omega (arith, lt)) };
     } in
     let calm : AllCalm [] [] 0 0 [] [] false = record { keeps = λ w c. c; only = λ w c. inl c; calm = λ k le lt live. absurd (omega arith) } in
     record {

@@ -9,10 +9,11 @@ use Rattle.clause_store.specs.declared.trail.Step.{Step}
 use Rattle.clause_store.specs.Stored.{IsFalseOn, IsForced}
 use Rattle.clause_store.specs.Entries.{Entry, entry_at, watches_of, IsKnown, IsOther}
 use Rattle.clause_store.specs.Visits.{Parts, Moves, IsConflict, VisitGives}
-use Rattle.clause_store.specs.Watching.{IsSettled, IsPair, IsListed, IsSound, IsWatching, Covers, Grows, kept_from, no_watch}
+use Rattle.clause_store.specs.Watching.{IsSettled, IsPair, IsListed, IsSound, IsWatching, IsTidy, Covers, Grows, kept_from, no_watch}
 use Rattle.clause_store.specs.Sweeps.{State, Sweeps, Meets, watching}
 use Rattle.clause_store.proofs.Watches.{packed-injective, opposite-injective, IsListed-set, IsListed-next, IsListed-from, IsListed-removed, All-removed}
-use Rattle.clause_store.proofs.Sweeping.{entry_at-same, entry_at-other, live_within, IsSettled-other, Covers-step, watches_of-same, watches_of-other, IsWatching-set, IsWatching-move, pair_lists, watched, SameShape-none, SameShape-trans, SameShape-watched}
+use Rattle.clause_store.proofs.Sweeping.{entry_at-same, entry_at-other, live_within, IsSettled-other, Covers-step, watches_of-same, watches_of-other, IsWatched, watched_of, IsWatching-set, IsWatching-move, pair_lists, watched, SameShape-none, SameShape-trans, SameShape-watched}
+use Rattle.clause_store.proofs.Tidy.{IsTidy-keep, IsTidy-drop, IsTidy-move}
 use Rattle.clause_store.proofs.Kept.{Grows-none, Grows-push, Grows-assigns, forced_by, kept_from-watched, Assigns-push, Assigns-new}
 use Rattle.clause_store.specs.declared.lists.Watch.{Watch}
 use Rattle.clause_store.specs.declared.sweep.Visit.TheVariants.{Keep, Gone, False}
@@ -31,20 +32,20 @@ Sweeps-start atoms depth f s w = record {
 own_list : (f : Signed) (s : State) → packed f < length s.lists → watches_of (set s.lists (packed f) s.list) f ≡ s.list
 own_list f s lt = watches_of-same s.lists f s.list lt
 
-listed_own : (atoms : ℕ) (f : Signed) (s : State) (i : ℕ) → packed f < length s.lists → watching atoms f s → (entry_at s.entries i).live ≡ true
+listed_own : (atoms : ℕ) (f : Signed) (s : State) (i : ℕ) → packed f < length s.lists → IsWatched atoms s.entries (set s.lists (packed f) s.list) → (entry_at s.entries i).live ≡ true
     → ((entry_at s.entries i).first ≡ f) ⊎ ((entry_at s.entries i).second ≡ f) → IsListed s.list 0 i
 listed_own atoms f s i lt w live is = subst (λ ws. IsListed ws 0 i) (own_list f s lt) (pair_lists atoms s.entries (set s.lists (packed f) s.list) i f w live is).1
 
-sound_own : (atoms : ℕ) (f : Signed) (s : State) → packed f < length s.lists → watching atoms f s → All (IsSound atoms s.entries) s.list
+sound_own : (atoms : ℕ) (f : Signed) (s : State) → packed f < length s.lists → IsWatched atoms s.entries (set s.lists (packed f) s.list) → All (IsSound atoms s.entries) s.list
 sound_own atoms f s lt w = subst (All (IsSound atoms s.entries)) (own_list f s lt) (w.sound f)
 
 -- the literal's list changes, and nothing else
-relist : (atoms : ℕ) (f : Signed) (es : List Entry) (lists : List (List Watch)) (ws ws' : List Watch) → packed f < length lists → IsWatching atoms es (set lists (packed f) ws)
+relist : (atoms : ℕ) (f : Signed) (es : List Entry) (lists : List (List Watch)) (ws ws' : List Watch) → packed f < length lists → IsWatched atoms es (set lists (packed f) ws)
     → All (IsSound atoms es) ws' → ((i : ℕ) → (entry_at es i).live ≡ true → ((entry_at es i).first ≡ f) ⊎ ((entry_at es i).second ≡ f) → IsListed ws' 0 i)
-    → IsWatching atoms es (set lists (packed f) ws')
-relist atoms f es lists ws ws' lt w sound listed =
+    → IsTidy es (set lists (packed f) ws') → IsWatching atoms es (set lists (packed f) ws')
+relist atoms f es lists ws ws' lt w sound listed tidy =
     subst (IsWatching atoms es) (set-set lists (packed f) ws ws')
-    (IsWatching-set atoms es (set lists (packed f) ws) f ws' (omega (arith, length-set lists (packed f) ws)) w sound listed)
+    (IsWatching-set atoms es (set lists (packed f) ws) f ws' (omega (arith, length-set lists (packed f) ws)) w sound listed (subst (IsTidy es) (sym (set-set lists (packed f) ws ws')) tidy))
 
 at_place : (ws : List Watch) (k : ℕ) (w : Watch) → k < length ws → w ≡ get_or ws k w → w ≡ get_or ws k no_watch
 at_place ws k w lt is = is ∙ get_or_default ws k w no_watch lt
@@ -61,12 +62,14 @@ Sweeps-keep atoms depth f old es lists steps steps' ws k w b h lt is place grows
     let here : w ≡ get_or ws k no_watch = at_place ws k w lt is in
     let row_here : v.row ≡ (get_or ws k no_watch).row = ap (λ (x : Watch). x.row) here in
     let s : State = record { entries = es; lists = lists; steps = steps; list = ws } in
-    let sound_ws : All (IsSound atoms es) ws = sound_own atoms f s place h.watch in
+    let whole : IsWatched atoms es (set lists (packed f) ws) = watched_of atoms es (set lists (packed f) ws) h.watch in
+    let sound_ws : All (IsSound atoms es) ws = sound_own atoms f s place whole in
     let was : IsSound atoms es w = subst (IsSound atoms es) (sym here) (All-get_or (IsSound atoms es) ws k no_watch lt sound_ws) in
     let sound_v : IsSound atoms es v = record { within = was.within; known = known; blocker = contained } in
     record {
-      watch = relist atoms f es lists ws (set ws k v) place h.watch (All-set (IsSound atoms es) ws k v sound_v sound_ws)
-          (λ i live is_f. IsListed-set ws k 0 i v lt row_here (listed_own atoms f s i place h.watch live is_f));
+      watch = relist atoms f es lists ws (set ws k v) place whole (All-set (IsSound atoms es) ws k v sound_v sound_ws)
+          (λ i live is_f. IsListed-set ws k 0 i v lt row_here (listed_own atoms f s i place whole live is_f))
+          (IsTidy-keep es lists f ws k v place lt row_here h.watch.tidy);
       covers = λ g c. Covers-step g f es es steps steps' ws (set ws k v) k (k + 1) w.row (h.covers g c) more (λ i ne. refl) refl
           (λ live. inl (record { literal = b; contained = contained live; assigned = on }))
           (λ u cu x. x)
@@ -111,15 +114,17 @@ pub Sweeps-stale : (atoms depth : ℕ) (f : Signed) (old : State) (es : List Ent
 Sweeps-stale atoms depth f old es lists steps ws k w h lt is place not_own =
     let here : w ≡ get_or ws k no_watch = at_place ws k w lt is in
     let s : State = record { entries = es; lists = lists; steps = steps; list = ws } in
-    let sound_ws : All (IsSound atoms es) ws = sound_own atoms f s place h.watch in
+    let whole : IsWatched atoms es (set lists (packed f) ws) = watched_of atoms es (set lists (packed f) ws) h.watch in
+    let sound_ws : All (IsSound atoms es) ws = sound_own atoms f s place whole in
     let row_is : (get_or ws k no_watch).row ≡ w.row = ap (λ (x : Watch). x.row) (sym here) in
     record {
-      watch = relist atoms f es lists ws (swap_remove ws k w) place h.watch (All-removed (IsSound atoms es) ws k w lt sound_ws)
+      watch = relist atoms f es lists ws (swap_remove ws k w) place whole (All-removed (IsSound atoms es) ws k w lt sound_ws)
           (λ i live is_f. IsListed-removed ws k 0 i w lt (omega arith)
           (λ e. let same : w.row ≡ i = sym row_is ∙ e in
           let n = not_own (subst (λ m. (entry_at es m).live ≡ true) (sym same) live) in
           elim is_f [ inl a ↦ n.0 (subst (λ m. (entry_at es m).first ≡ f) (sym same) a) | inr b ↦ n.1 (subst (λ m. (entry_at es m).second ≡ f) (sym same) b) ])
-          (listed_own atoms f s i place h.watch live is_f));
+          (listed_own atoms f s i place whole live is_f))
+          (IsTidy-drop es lists f ws k w place lt h.watch.tidy);
       covers = λ g c.
           let cs : Covers g f es steps ws k = h.covers g c in
           Covers-step g f es es steps steps ws (swap_remove ws k w) k k w.row cs (λ l a. a) (λ i ne. refl) refl
@@ -154,15 +159,15 @@ Sweeps-move atoms depth f old es lists steps ws k w kept found h lt is place is_
     let changed : entry_at es' w.row ≡ watched e kept found = entry_at-same es w.row (watched e kept found) within in
     let is_kept : (e.first ≡ kept) ⊎ (e.second ≡ kept) = elim other.pair [ inl p ↦ inr p.1 | inr p ↦ inl p.1 ] in
     -- the whole, with the literal's list in it
-    let whole : IsWatching atoms es (set lists (packed f) ws) = h.watch in
+    let whole : IsWatched atoms es (set lists (packed f) ws) = watched_of atoms es (set lists (packed f) ws) h.watch in
     let own : watches_of (set lists (packed f) ws) found ≡ watches_of lists found = watches_of-other lists f found ws found_f in
-    let moved : IsWatching atoms es' (set (set lists (packed f) ws) (packed found) (watches_of (set lists (packed f) ws) found ++ more ∷ [])) =
+    let moved : IsWatched atoms es' (set (set lists (packed f) ws) (packed found) (watches_of (set lists (packed f) ws) found ++ more ∷ [])) =
     IsWatching-move atoms es (set lists (packed f) ws) w.row kept found more whole live is_kept contained apart (omega (arith, length-set lists (packed f) ws)) refl refl in
-    let moved' : IsWatching atoms es' (set (set lists (packed f) ws) (packed found) (watches_of lists found ++ more ∷ [])) =
-    subst (λ xs. IsWatching atoms es' (set (set lists (packed f) ws) (packed found) (xs ++ more ∷ []))) own moved in
+    let moved' : IsWatched atoms es' (set (set lists (packed f) ws) (packed found) (watches_of lists found ++ more ∷ [])) =
+    subst (λ xs. IsWatched atoms es' (set (set lists (packed f) ws) (packed found) (xs ++ more ∷ []))) own moved in
     let swapped : set (set lists (packed f) ws) (packed found) (watches_of lists found ++ more ∷ []) ≡ set lists' (packed f) ws =
     set_comm lists (packed f) (packed found) ws (watches_of lists found ++ more ∷ []) (λ x. found_f (packed-injective found f (sym x))) in
-    let after_move : IsWatching atoms es' (set lists' (packed f) ws) = subst (IsWatching atoms es') swapped moved' in
+    let after_move : IsWatched atoms es' (set lists' (packed f) ws) = subst (IsWatched atoms es') swapped moved' in
     let place' : packed f < length lists' = omega (arith, length-set lists (packed found) (watches_of lists found ++ more ∷ [])) in
     let s' : State = record { entries = es'; lists = lists'; steps = steps; list = ws } in
     let sound_ws : All (IsSound atoms es') ws = sound_own atoms f s' place' after_move in
@@ -177,7 +182,8 @@ Sweeps-move atoms depth f old es lists steps ws k w kept found h lt is place is_
           (λ x. let same : w.row ≡ i = sym row_is ∙ x in
           let of_row : ((entry_at es' w.row).first ≡ f) ⊎ ((entry_at es' w.row).second ≡ f) = subst (λ m. ((entry_at es' m).first ≡ f) ⊎ ((entry_at es' m).second ≡ f)) (sym same) is_f in
           elim (rw changed at of_row) [ inl a ↦ kept_f a | inr b ↦ found_f b ])
-          (listed_own atoms f s' i place' after_move is_live is_f));
+          (listed_own atoms f s' i place' after_move is_live is_f))
+          (IsTidy-move es lists f ws k w w.row kept found more place place_found lt row_is within other apart found_f refl h.watch.tidy);
       covers = λ g c.
           let cs : Covers g f es steps ws k = h.covers g c in
           Covers-step g f es es' steps steps ws (swap_remove ws k w) k k w.row cs (λ l a. a) (λ i ne. entry_at-other es w.row i (watched e kept found) ne)
@@ -200,13 +206,13 @@ abbrev pub with_list : Parts → List Watch → State
 with_list p ws = record { entries = p.entries; lists = p.lists; steps = p.steps; list = ws }
 
 pub sound_at : (atoms : ℕ) (f : Signed) (s : State) (k : ℕ) (w : Watch) → packed f < length s.lists → watching atoms f s → k < length s.list → w ≡ get_or s.list k w → IsSound atoms s.entries w
-sound_at atoms f s k w place h lt is = subst (IsSound atoms s.entries) (sym (at_place s.list k w lt is)) (All-get_or (IsSound atoms s.entries) s.list k no_watch lt (sound_own atoms f s place h))
+sound_at atoms f s k w place h lt is = subst (IsSound atoms s.entries) (sym (at_place s.list k w lt is)) (All-get_or (IsSound atoms s.entries) s.list k no_watch lt (sound_own atoms f s place (watched_of atoms s.entries (set s.lists (packed f) s.list) h)))
 
 pub known_at : (atoms : ℕ) (f : Signed) (s : State) (k : ℕ) (w : Watch) → packed f < length s.lists → watching atoms f s → k < length s.list → w ≡ get_or s.list k w → IsKnown atoms (entry_at s.entries w.row)
 known_at atoms f s k w place h lt is = h.known w.row (sound_at atoms f s k w place h lt is).within
 
 other_in : (atoms : ℕ) (es : List Entry) (lists : List (List Watch)) (row : ℕ) (f o : Signed) → IsWatching atoms es lists → (entry_at es row).live ≡ true → IsOther (entry_at es row) f o → Contains (entry_at es row).literals o
-other_in atoms es lists row f o h live other = (pair_lists atoms es lists row o h live (elim other.pair [ inl p ↦ inr p.1 | inr p ↦ inl p.1 ])).0
+other_in atoms es lists row f o h live other = (pair_lists atoms es lists row o (watched_of atoms es lists h) live (elim other.pair [ inl p ↦ inr p.1 | inr p ↦ inl p.1 ])).0
 
 keep_gone : (b : Signed) → Keep b ≡ Gone → ⊥
 keep_gone b e = cc

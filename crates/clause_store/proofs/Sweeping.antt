@@ -1,12 +1,12 @@
 -- What stays true of clauses and lists as a literal's watches are gone through.
-use Rattle.std.proofs.Common.{◌≡◌, ◌≢◌, ℕ, ◌<◌, ◌≤◌, true, false, List, [], ◌∷◌, ◌++◌, All, Contains, length, set, subst, sym, ap, ◌∙◌, refl, inl, inr, ◌⊎◌, arith}
+use Rattle.std.proofs.Common.{◌≡◌, ◌≢◌, ℕ, ◌*◌, ◌<◌, ◌≤◌, true, false, List, [], ◌∷◌, ◌++◌, All, Contains, length, set, subst, sym, ap, ◌∙◌, refl, inl, inr, ◌⊎◌, arith}
 use Rattle.std.proofs.lemmas.List.{length-set, get_or-set_same, get_or-set_other, get_or_past}
 use Rattle.std.proofs.lemmas.List.Elements.{All-weaker, All-push, All-contains}
 use Rattle.literals.specs.Signed.{Signed, opposite, packed}
 use Rattle.clause_store.specs.Trail.{Assigns}
 use Rattle.clause_store.specs.declared.trail.Step.{Step}
 use Rattle.clause_store.specs.Entries.{Entry, entry_at, no_entry, watches_of, IsKnown}
-use Rattle.clause_store.specs.Watching.{IsSatisfied, IsSettled, IsPair, IsListed, IsSound, IsWatching, View, Frame, Covers, SameShape}
+use Rattle.clause_store.specs.Watching.{IsSatisfied, IsSettled, IsPair, IsListed, IsSound, IsWatching, IsTidy, View, Frame, Covers, SameShape}
 use Rattle.clause_store.proofs.Watches.{same_or_apart, packed-injective, opposite-injective, IsListed-push, IsListed-new}
 use Rattle.clause_store.specs.declared.lists.Watch.{Watch}
 
@@ -106,11 +106,23 @@ equal_or_apart l m = elim (same_or_apart (packed l) (packed m)) [
   | inr apart ↦ inr (λ e. apart (ap packed e))
 ]
 
-pub IsWatching-set : (atoms : ℕ) (es : List Entry) (lists : List (List Watch)) (f : Signed) (ws : List Watch) → packed f < length lists → IsWatching atoms es lists
+-- the lists are up to date, whether tidy or not
+pub record IsWatched (atoms : ℕ) (es : List Entry) (lists : List (List Watch)) : Type 0 where
+  pub known : (i : ℕ) → i < length es → IsKnown atoms (entry_at es i)
+  pub pairs : (i : ℕ) → (entry_at es i).live ≡ true → IsPair (entry_at es i)
+  pub sound : (l : Signed) → All (IsSound atoms es) (watches_of lists l)
+  pub listed : (i : ℕ) → (entry_at es i).live ≡ true → IsListed (watches_of lists (entry_at es i).first) 0 i × IsListed (watches_of lists (entry_at es i).second) 0 i
+  pub room : 2 * atoms ≤ length lists
+
+pub watched_of : (atoms : ℕ) (es : List Entry) (lists : List (List Watch)) → IsWatching atoms es lists → IsWatched atoms es lists
+watched_of atoms es lists h = record { known = h.known; pairs = h.pairs; sound = h.sound; listed = h.listed; room = h.room }
+
+pub IsWatching-set : (atoms : ℕ) (es : List Entry) (lists : List (List Watch)) (f : Signed) (ws : List Watch) → packed f < length lists → IsWatched atoms es lists
     → All (IsSound atoms es) ws
     → ((i : ℕ) → (entry_at es i).live ≡ true → ((entry_at es i).first ≡ f) ⊎ ((entry_at es i).second ≡ f) → IsListed ws 0 i)
-    → IsWatching atoms es (set lists (packed f) ws)
-IsWatching-set atoms es lists f ws lt h sound listed = record {
+    → IsTidy es (set lists (packed f) ws) → IsWatching atoms es (set lists (packed f) ws)
+IsWatching-set atoms es lists f ws lt h sound listed tidy = record {
+  tidy = tidy;
   known = h.known;
   pairs = h.pairs;
   sound = λ l. elim (equal_or_apart l f) [
@@ -140,7 +152,7 @@ IsSound-entries atoms es es' w len live literals h = record {
   blocker = λ l. rw (literals w.row) (h.blocker (sym (live w.row) ∙ l));
 }
 
-pub pair_lists : (atoms : ℕ) (es : List Entry) (lists : List (List Watch)) (row : ℕ) (kept : Signed) → IsWatching atoms es lists → (entry_at es row).live ≡ true
+pub pair_lists : (atoms : ℕ) (es : List Entry) (lists : List (List Watch)) (row : ℕ) (kept : Signed) → IsWatched atoms es lists → (entry_at es row).live ≡ true
     → ((entry_at es row).first ≡ kept) ⊎ ((entry_at es row).second ≡ kept) → Contains (entry_at es row).literals kept × IsListed (watches_of lists kept) 0 row
 pair_lists atoms es lists row kept h live (inl e) =
     (subst (Contains (entry_at es row).literals) e (h.pairs row live).first, subst (λ x. IsListed (watches_of lists x) 0 row) e (h.listed row live).0)
@@ -159,9 +171,9 @@ same_elsewhere p es row a b keeps lt i = elim (same_or_apart i row) [
   | inr apart ↦ ap p (entry_at-other es row i (watched (entry_at es row) a b) apart)
 ]
 
-pub IsWatching-move : (atoms : ℕ) (es : List Entry) (lists : List (List Watch)) (row : ℕ) (kept found : Signed) (w : Watch) → IsWatching atoms es lists → (entry_at es row).live ≡ true
+pub IsWatching-move : (atoms : ℕ) (es : List Entry) (lists : List (List Watch)) (row : ℕ) (kept found : Signed) (w : Watch) → IsWatched atoms es lists → (entry_at es row).live ≡ true
     → ((entry_at es row).first ≡ kept) ⊎ ((entry_at es row).second ≡ kept) → Contains (entry_at es row).literals found → (found ≡ kept → ⊥) → packed found < length lists → w.blocker ≡ kept → w.row ≡ row
-    → IsWatching atoms (set es row (watched (entry_at es row) kept found)) (set lists (packed found) (watches_of lists found ++ w ∷ []))
+    → IsWatched atoms (set es row (watched (entry_at es row) kept found)) (set lists (packed found) (watches_of lists found ++ w ∷ []))
 IsWatching-move atoms es lists row kept found w h live is_kept contained ne lt blocker here =
     let within : row < length es = live_within es row live in
     let e = entry_at es row in

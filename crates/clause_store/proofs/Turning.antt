@@ -13,7 +13,7 @@ use Rattle.clause_store.specs.Sweeps.{State, Sweeps, Meets, SweptGives}
 use Rattle.clause_store.specs.Runs.{Rests, Turns, TurnsTo, TurnGives, Runs}
 use Rattle.clause_store.specs.declared.sweep.Swept.{Swept}
 use Rattle.clause_store.specs.declared.sweep.Swept.TheVariants.{Whole, False as FalseClause, NoRoom}
-use Rattle.clause_store.proofs.Sweeping.{IsSettled-other, equal_or_apart, watches_of-same, pair_lists, SameShape-none, SameShape-trans}
+use Rattle.clause_store.proofs.Sweeping.{IsSettled-other, equal_or_apart, watches_of-same, pair_lists, SameShape-none, SameShape-trans, watched_of}
 use Rattle.clause_store.specs.declared.lists.Watch.{Watch}
 
 by_sign : (a : ℕ) (b : Bool) → let l : Signed = record { atom = a; positive = b } in opposite (opposite l) ≡ l
@@ -85,9 +85,9 @@ Rests-covers atoms views es lists steps head s lt is w h =
       after_new = new;
       views_on = h.views_on;
       current = λ i live. elim (equal_or_apart (entry_at es i).first (opposite s.literal)) [
-        | inl first ↦ inr (h.current i live, (pair_lists atoms es lists i (opposite s.literal) w live (inl first)).1)
+        | inl first ↦ inr (h.current i live, (pair_lists atoms es lists i (opposite s.literal) (watched_of atoms es lists w) live (inl first)).1)
         | inr not_first ↦ elim (equal_or_apart (entry_at es i).second (opposite s.literal)) [
-          | inl second ↦ inr (h.current i live, (pair_lists atoms es lists i (opposite s.literal) w live (inr second)).1)
+          | inl second ↦ inr (h.current i live, (pair_lists atoms es lists i (opposite s.literal) (watched_of atoms es lists w) live (inr second)).1)
           | inr not_second ↦ inl (IsSettled-other (opposite s.literal) (take head steps) (take (head + 1) steps) steps (entry_at es i) new not_first not_second (h.current i live))
         ]
       ];

@@ -77,15 +77,15 @@ IsListed-new ws w = record {
 }
 
 -- what `swap_remove` leaves
-removed_other : (ws : List Watch) (k j : ℕ) (d : Watch) → k < length ws → j + 1 < length ws → j ≢ k → get_or (swap_remove ws k d) j no_watch ≡ get_or ws j no_watch
+pub removed_other : (ws : List Watch) (k j : ℕ) (d : Watch) → k < length ws → j + 1 < length ws → j ≢ k → get_or (swap_remove ws k d) j no_watch ≡ get_or ws j no_watch
 removed_other ws k j d lt in' ne =
     get_or-take (length ws - 1) (set ws k (get_or ws (length ws - 1) d)) j no_watch (omega arith) ∙ get_or-set_other ws k j (get_or ws (length ws - 1) d) no_watch ne
 
-removed_here : (ws : List Watch) (k : ℕ) (d : Watch) → k + 1 < length ws → get_or (swap_remove ws k d) k no_watch ≡ get_or ws (length ws - 1) d
+pub removed_here : (ws : List Watch) (k : ℕ) (d : Watch) → k + 1 < length ws → get_or (swap_remove ws k d) k no_watch ≡ get_or ws (length ws - 1) d
 removed_here ws k d in' =
     get_or-take (length ws - 1) (set ws k (get_or ws (length ws - 1) d)) k no_watch (omega arith) ∙ get_or-set_same ws k (get_or ws (length ws - 1) d) no_watch (omega arith)
 
-removed_length : (ws : List Watch) (k : ℕ) (d : Watch) → k < length ws → length (swap_remove ws k d) ≡ length ws - 1
+pub removed_length : (ws : List Watch) (k : ℕ) (d : Watch) → k < length ws → length (swap_remove ws k d) ≡ length ws - 1
 removed_length ws k d lt =
     length-take-le (length ws - 1) (set ws k (get_or ws (length ws - 1) d)) (omega (arith, length-set ws k (get_or ws (length ws - 1) d)))
 

@@ -1,5 +1,5 @@
 -- Two watched literals of a new clause.
-use Rattle.std.specs.Prelude.{◌≡◌, List, [], ◌∷◌, ◌++◌, All, Contains, slice_set}
+use Rattle.std.specs.Prelude.{◌≡◌, ◌⊎◌, ℕ, List, [], ◌∷◌, ◌++◌, All, Contains, slice_set}
 use Rattle.literals.specs.Signed.{Signed, packed}
 use Rattle.clause_store.specs.declared.trail.Step.{Step}
 use Rattle.clause_store.specs.Stored.{IsFalseOn}
@@ -23,3 +23,10 @@ pub record IsChoice (steps : List Step) (ls : List Signed) (c : Choice) : Type 0
 
 abbrev pub Enlists : List (List Watch) → List (List Watch) → Signed → Watch → Type 0
 Enlists old new l w = new ≡ slice_set old (packed l) (watches_of old l ++ w ∷ [])
+
+-- a watch of the clause in the lists of its two watched literals, one where these are the same
+abbrev pub EnlistsBoth : List (List Watch) → List (List Watch) → Signed → Signed → ℕ → Type 0
+EnlistsBoth old new a b row =
+    let v : Watch = record { blocker = b; row = row } in
+    let w : Watch = record { blocker = a; row = row } in
+    ((a ≡ b) × Enlists old new a v) ⊎ ((a ≡ b → ⊥) × ((mid : List (List Watch)) × Enlists old mid a v × Enlists mid new b w))

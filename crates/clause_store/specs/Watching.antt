@@ -48,12 +48,26 @@ pub record IsSound (atoms : ℕ) (es : List Entry) (w : Watch) : Type 0 where
   pub known : w.blocker.atom < atoms
   pub blocker : (entry_at es w.row).live ≡ true → Contains (entry_at es w.row).literals w.blocker
 
+-- the literal is one of the clause's two watched ones
+pub record IsOwn (es : List Entry) (l : Signed) (w : Watch) : Type 0 where
+  pub pair : ((entry_at es w.row).first ≡ l) ⊎ ((entry_at es w.row).second ≡ l)
+
+-- no clause stands twice in the list
+abbrev pub IsOnce : List Watch → Type 0
+IsOnce ws = (j k : ℕ) → j < length ws → k < length ws → (slice_index_or ws j no_watch).row ≡ (slice_index_or ws k no_watch).row → j ≡ k
+
+-- a literal's list has the clauses that it watches alone, each once, those forgotten too
+pub record IsTidy (es : List Entry) (lists : List (List Watch)) : Type 0 where
+  pub own : (l : Signed) → All (IsOwn es l) (watches_of lists l)
+  pub once : (l : Signed) → IsOnce (watches_of lists l)
+
 pub record IsWatching (atoms : ℕ) (es : List Entry) (lists : List (List Watch)) : Type 0 where
   pub known : (i : ℕ) → i < length es → IsKnown atoms (entry_at es i)
   pub pairs : (i : ℕ) → (entry_at es i).live ≡ true → IsPair (entry_at es i)
   pub sound : (l : Signed) → All (IsSound atoms es) (watches_of lists l)
   pub listed : (i : ℕ) → (entry_at es i).live ≡ true → IsListed (watches_of lists (entry_at es i).first) 0 i × IsListed (watches_of lists (entry_at es i).second) 0 i
   pub room : 2 * atoms ≤ length lists
+  pub tidy : IsTidy es lists
 
 -- ---- depths
 

@@ -3,7 +3,7 @@ ghost use Rattle.std.specs.Prelude.{◌≡◌, ℕ, ◌+◌, ◌*◌, ◌^◌, �
 ghost use Rattle.clause_store.specs.Gaining.{GainsEntry, KeepsUp};
 ghost use Rattle.literals.specs.Signed.{Signed, packed};
 ghost use Rattle.clause_store.specs.Stored.{IsFalseOn};
-ghost use Rattle.clause_store.specs.Choosing.{IsChoice, Enlists};
+ghost use Rattle.clause_store.specs.Choosing.{IsChoice, Enlists, EnlistsBoth};
 
 use crate::lists::{Watch, WatchList};
 use crate::rows::Rows;
@@ -131,6 +131,35 @@ pub fn enlist(lists: &mut [WatchList], literal: Literal, watch: Watch) -> bool
     list.push_in_room(watch)
 }
 
+// Puts the watches of a clause into the lists of its two watched literals, where that takes no memory; one where these are the same.
+fn enlist_both(lists: &mut [WatchList], first: Literal, second: Literal, row: u32) -> bool
+    requires first { packed first < length lists.old }
+    requires second { packed second < length lists.old }
+    ensures yes { result ≡ true → EnlistsBoth lists.old lists.new first second row }
+{
+    if !enlist(
+        lists,
+        first,
+        Watch {
+            blocker: second,
+            row,
+        },
+    ) {
+        return false;
+    }
+    if is_same(first, second) {
+        return true;
+    }
+    enlist(
+        lists,
+        second,
+        Watch {
+            blocker: first,
+            row,
+        },
+    )
+}
+
 // Adds a clause and keeps its watches up: the number of steps gone through, or nothing where there was no room for them.
 pub fn keep_up(
     rows: &mut Rows,
@@ -155,24 +184,7 @@ pub fn keep_up(
     let first = choice.first;
     let second = choice.second;
     rows.push(literals, first, second, level)?;
-    if !enlist(
-        lists,
-        first,
-        Watch {
-            blocker: second,
-            row,
-        },
-    ) {
-        return Ok(None);
-    }
-    if !enlist(
-        lists,
-        second,
-        Watch {
-            blocker: first,
-            row,
-        },
-    ) {
+    if !enlist_both(lists, first, second, row) {
         return Ok(None);
     }
     match choice.standing {
@@ -207,13 +219,10 @@ fn make_room_in_each(lists: &mut [WatchList], literals: &[Literal]) -> bool
     true
 }
 
-// Makes room in the lists of a clause's literals, so that its watches move without memory. A clause of one literal is watched twice in its list.
+// Makes room in the lists of a clause's literals, so that its watches move without memory.
 pub fn make_room(lists: &mut [WatchList], literals: &[Literal]) -> bool
     requires { All (λ (l : Signed). packed l < length lists.old) literals.now }
     ensures { lists.new ≡ lists.old }
 {
-    if literals.len() == 1 && !make_room_in_each(lists, literals) {
-        return false;
-    }
     make_room_in_each(lists, literals)
 }

@@ -1,4 +1,4 @@
-use Rattle.std.proofs.Common.{◌≡◌, ◌≤◌, Bool, true, false, ◌∙◌, arith}
+use Rattle.std.proofs.Common.{◌≡◌, ◌≤◌, length, Bool, true, false, ◌∙◌, arith}
 use Rattle.clause_store.proofs.Undoing.{AllCalm-next}
 use Rattle.clause_store.proofs.undo.calm.Goals.{then-stirred, else-stirred}
 use Rattle.clause_store.proofs.undo.calm.Goals as goal
@@ -16,3 +16,12 @@ rows-preserved c = record {
   from = (let le : c.args.start ≤ c.rows.i = c.rows.invariant.from in omega arith);
   end_is = c.rows.invariant.end_is;
 }
+
+pub returns : goal.returns
+returns c =
+    let i : length c.args.rows.now.entries ≤ c.rows.i = omega (arith, c.rows.invariant.end_is, c.rows-test.false) in
+    record {
+      keeps = c.rows.invariant.calm.keeps;
+      only = c.rows.invariant.calm.only;
+      calm = λ k le lt live. c.rows.invariant.calm.calm k le (omega arith) live;
+    }
