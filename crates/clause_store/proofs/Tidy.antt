@@ -26,14 +26,14 @@ IsOnce-set ws k w lt e once = λ i j in-i in-j same.
     once i j (omega (arith, length-set ws k w, in-i)) (omega (arith, length-set ws k w, in-j)) (sym (row_set ws k i w lt e) ∙ (same ∙ row_set ws k j w lt e))
 
 -- where an element that is left stood before one was taken out
-record CameFrom (ws : List Watch) (k j : ℕ) (x : Watch) : Type 0 where
+pub record CameFrom (ws : List Watch) (k j : ℕ) (x : Watch) : Type 0 where
   pub place : ℕ
   pub within : place < length ws
   pub apart : place ≡ k → ⊥
   pub is : x ≡ get_or ws place no_watch
   pub from : ((j ≡ k) × (place + 1 ≡ length ws)) ⊎ ((j ≢ k) × (place ≡ j))
 
-came_from : (ws : List Watch) (k j : ℕ) (d : Watch) → k < length ws → j < length (swap_remove ws k d) → CameFrom ws k j (get_or (swap_remove ws k d) j no_watch)
+pub came_from : (ws : List Watch) (k j : ℕ) (d : Watch) → k < length ws → j < length (swap_remove ws k d) → CameFrom ws k j (get_or (swap_remove ws k d) j no_watch)
 came_from ws k j d lt in' =
     let len : length (swap_remove ws k d) ≡ length ws - 1 = removed_length ws k d lt in
     elim (same_or_apart j k) [
@@ -71,7 +71,7 @@ IsOnce-removed ws k d lt once = λ i j in-i in-j same.
     ]
 
 -- what was taken out stands there no longer
-removed_apart : (ws : List Watch) (k j : ℕ) (d : Watch) → k < length ws → IsOnce ws → j < length (swap_remove ws k d) → row_at (swap_remove ws k d) j ≡ row_at ws k → ⊥
+pub removed_apart : (ws : List Watch) (k j : ℕ) (d : Watch) → k < length ws → IsOnce ws → j < length (swap_remove ws k d) → row_at (swap_remove ws k d) j ≡ row_at ws k → ⊥
 removed_apart ws k j d lt once in' e =
     let a : CameFrom ws k j (get_or (swap_remove ws k d) j no_watch) = came_from ws k j d lt in' in
     a.apart (once a.place k a.within lt (sym (ap (λ (x : Watch). x.row) a.is) ∙ e))
@@ -101,10 +101,10 @@ IsOnce-push ws w fresh once = λ i j in-i in-j same.
 IsOwn-row : (es : List Entry) (l : Signed) (v w : Watch) → v.row ≡ w.row → IsOwn es l w → IsOwn es l v
 IsOwn-row es l v w e h = record { pair = subst (λ n. ((entry_at es n).first ≡ l) ⊎ ((entry_at es n).second ≡ l)) (sym e) h.pair }
 
-own_in : (es : List Entry) (lists : List (List Watch)) (f : Signed) (ws : List Watch) → packed f < length lists → IsTidy es (set lists (packed f) ws) → All (IsOwn es f) ws
+pub own_in : (es : List Entry) (lists : List (List Watch)) (f : Signed) (ws : List Watch) → packed f < length lists → IsTidy es (set lists (packed f) ws) → All (IsOwn es f) ws
 own_in es lists f ws lt h = subst (All (IsOwn es f)) (watches_of-same lists f ws lt) (h.own f)
 
-once_in : (es : List Entry) (lists : List (List Watch)) (f : Signed) (ws : List Watch) → packed f < length lists → IsTidy es (set lists (packed f) ws) → IsOnce ws
+pub once_in : (es : List Entry) (lists : List (List Watch)) (f : Signed) (ws : List Watch) → packed f < length lists → IsTidy es (set lists (packed f) ws) → IsOnce ws
 once_in es lists f ws lt h = subst IsOnce (watches_of-same lists f ws lt) (h.once f)
 
 IsTidy-set : (es : List Entry) (lists : List (List Watch)) (f : Signed) (ws : List Watch) → packed f < length lists → IsTidy es lists → All (IsOwn es f) ws → IsOnce ws → IsTidy es (set lists (packed f) ws)

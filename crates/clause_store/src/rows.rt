@@ -1,5 +1,5 @@
 // Every clause's literals in one arena, and its two watched literals.
-ghost use Rattle.std.specs.Prelude.{◌≡◌, ℕ, ◌<◌, ◌≤◌, ◌^◌, List, [], ◌∷◌, ◌++◌, length, slice_set, true, false, OnOk, OnErr};
+ghost use Rattle.std.specs.Prelude.{◌≡◌, ℕ, ◌+◌, ◌<◌, ◌≤◌, ◌^◌, List, [], ◌∷◌, ◌++◌, length, slice_set, true, false, OnOk, OnErr};
 ghost use Rattle.literals.specs.Signed.{Signed};
 
 use literals::Literal;
@@ -140,6 +140,7 @@ impl Rows {
         ensures same { self.new.entries ≡ self.old.entries }
         ensures looks { self.new.looks ≡ risen self.old.looks }
         ensures rises { self.old.looks ≤ self.new.looks }
+        ensures once { self.new.looks ≤ self.old.looks + 1 }
         ensures clause { result ≡ i }
     {
         self.looks = self.looks.saturating_add(1);

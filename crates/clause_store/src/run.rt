@@ -3,6 +3,7 @@ ghost use Rattle.std.specs.Prelude.{◌≡◌, ℕ, ◌<◌, ◌≤◌, List, []
 ghost use Rattle.clause_store.specs.Watching.{IsWatching, Grows, kept_from};
 ghost use Rattle.clause_store.specs.Rested.{IsWaiting};
 ghost use Rattle.clause_store.specs.Driving.{DriveGives};
+ghost use Rattle.clause_store.specs.Looks.{LooksAt};
 ghost use Rattle.clause_store.specs.Runs.{RunGives, TurnGives};
 ghost use Rattle.clause_store.specs.Stored.{IsFalseOn};
 
@@ -33,6 +34,7 @@ fn turn(
     requires is_false { IsFalseOn trail.old.steps f }
     requires known { f.atom < trail.old.atoms }
     ensures rises { rows.old.looks ≤ rows.new.looks }
+    ensures looks { LooksAt f rows.old.entries rows.old.looks rows.new.looks }
     ensures gives { TurnGives trail.old.atoms f (record { entries = rows.old.entries; lists = lists.old; steps = trail.old.steps }) (record { entries = rows.new.entries; lists = lists.new; steps = trail.new.steps }) result }
     ensures grows { Grows (kept_from 0 rows.old.entries) trail.old.depth trail.old.steps trail.new.steps }
     ensures clauses { kept_from 0 rows.new.entries ≡ kept_from 0 rows.old.entries }

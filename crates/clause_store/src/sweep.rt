@@ -1,11 +1,12 @@
 // One pass over the watches of a literal that became false.
-ghost use Rattle.std.specs.Prelude.{◌≡◌, ℕ, true, false, ◌*◌, ◌<◌, ◌≤◌, ◌⊎◌, List, [], ◌∷◌, ◌++◌, All, Contains, length, slice_set, IfSome, IfNone};
+ghost use Rattle.std.specs.Prelude.{◌≡◌, ℕ, true, false, ◌+◌, ◌*◌, ◌<◌, ◌≤◌, ◌⊎◌, List, [], ◌∷◌, ◌++◌, All, Contains, length, slice_set, IfSome, IfNone};
 ghost use Rattle.literals.specs.Signed.{Signed, packed};
 ghost use Rattle.clause_store.specs.Trail.{Assigns};
 ghost use Rattle.clause_store.specs.Stored.{IsFalseOn};
 ghost use Rattle.clause_store.specs.Entries.{entry_at, IsKnown};
 ghost use Rattle.clause_store.specs.Watching.{IsWatching, Grows, kept_from};
 ghost use Rattle.clause_store.specs.Sweeps.{SweptGives};
+ghost use Rattle.clause_store.specs.Looks.{LooksAt};
 ghost use Rattle.clause_store.specs.Visits.{VisitGives, StepGives, Transfers, IsFoundAt, NoneBetween, Parts};
 
 use crate::lists::{Watch, WatchList};
@@ -105,6 +106,7 @@ fn look_for(row: u32, other: Literal, rows: &mut Rows, trail: &Trail) -> Option<
     requires place { row < length rows.old.entries }
     requires known { All (λ (l : Signed). l.atom < trail.now.atoms) (entry_at rows.old.entries row).literals }
     ensures rises { rows.old.looks ≤ rows.new.looks }
+    ensures once { rows.new.looks ≤ rows.old.looks + 1 }
     ensures same { rows.new.entries ≡ rows.old.entries }
     ensures some { IfSome result (λ l. Contains (entry_at rows.old.entries row).literals l × (l ≡ other → ⊥) × (IsFalseOn trail.now.steps l → ⊥)) }
     ensures none { IfNone result (All (λ m. (m ≡ other) ⊎ IsFalseOn trail.now.steps m) (entry_at rows.old.entries row).literals) }
@@ -134,6 +136,8 @@ fn look_at(
     requires known { IsKnown trail.old.atoms (entry_at rows.old.entries watch.row) }
     requires lists { 2 * trail.old.atoms ≤ length lists.old }
     ensures rises { rows.old.looks ≤ rows.new.looks }
+    ensures once { rows.new.looks ≤ rows.old.looks + 1 }
+    ensures dead { (entry_at rows.old.entries watch.row).live ≡ false → rows.new.looks ≡ rows.old.looks }
     ensures gives { VisitGives f watch trail.old.depth (record { entries = rows.old.entries; lists = lists.old; steps = trail.old.steps }) (record { entries = rows.new.entries; lists = lists.new; steps = trail.new.steps }) result }
     ensures same { (trail.new.atoms ≡ trail.old.atoms) × (trail.new.depth ≡ trail.old.depth) }
 {
@@ -167,6 +171,7 @@ fn step(
     requires known { IsKnown trail.old.atoms (entry_at rows.old.entries row) }
     requires lists { 2 * trail.old.atoms ≤ length lists.old }
     ensures rises { rows.old.looks ≤ rows.new.looks }
+    ensures once { rows.new.looks ≤ rows.old.looks + 1 }
     ensures gives { StepGives other row trail.old.depth (record { entries = rows.old.entries; lists = lists.old; steps = trail.old.steps }) (record { entries = rows.new.entries; lists = lists.new; steps = trail.new.steps }) result }
     ensures same { (trail.new.atoms ≡ trail.old.atoms) × (trail.new.depth ≡ trail.old.depth) }
 {
@@ -229,6 +234,7 @@ pub fn sweep(
     requires is_false { IsFalseOn trail.old.steps f }
     requires place { packed f < length lists.old }
     ensures rises { rows.old.looks ≤ rows.new.looks }
+    ensures looks { LooksAt f rows.old.entries rows.old.looks rows.new.looks }
     ensures gives { SweptGives trail.old.atoms trail.old.depth f (record { entries = rows.old.entries; lists = lists.old; steps = trail.old.steps; list = list.old }) (record { entries = rows.new.entries; lists = lists.new; steps = trail.new.steps; list = list.new }) result }
     ensures grows { Grows (kept_from 0 rows.old.entries) trail.old.depth trail.old.steps trail.new.steps }
     ensures clauses { kept_from 0 rows.new.entries ≡ kept_from 0 rows.old.entries }

@@ -1,10 +1,11 @@
-use Rattle.std.proofs.Common.{◌≡◌, ◌+◌, ◌<◌, set, subst, sym, ◌∙◌, arith}
+use Rattle.std.proofs.Common.{◌≡◌, ◌+◌, ◌<◌, set, subst, sym, ◌∙◌, refl, arith}
 use Rattle.std.specs.List.{swap_remove}
 use Rattle.std.proofs.lemmas.List.{get_or_default}
 use Rattle.clause_store.specs.Entries.{IsKnown, entry_at}
 use Rattle.clause_store.specs.Visits.{Parts, VisitGives}
 use Rattle.clause_store.specs.Sweeps.{Sweeps, State}
 use Rattle.clause_store.proofs.Rounds.{sound_at, known_at, Round-keep, Round-gone, Round-false, Sweeps-end, with_list}
+use Rattle.clause_store.proofs.Counting.{Visited, Seen-keep, Seen-gone, Seen-last, Seen-whole}
 use Rattle.clause_store.specs.declared.sweep.Visit.TheVariants.{Keep, Gone, False}
 use Rattle.clause_store.specs.declared.lists.Watch.{Watch}
 use Rattle.clause_store.proofs.sweep.sweep.Goals as goal
@@ -34,11 +35,15 @@ watches-preserved-in-Keep c =
     let v : Watch = record { blocker = c.in-Keep.blocker; row = c.get-watch.result.row } in
     let done : Sweeps c.args.trail.now.atoms c.args.trail.now.depth c.args.f first (with_list p' (set c.watches.list c.watches.k v)) (c.watches.k + 1) =
     Round-keep c.args.trail.now.atoms c.args.trail.now.depth c.args.f first p p' c.watches.list c.watches.k c.get-watch.result c.in-Keep.blocker c.watches.invariant.sweeps (omega arith) c.get-watch.ensures (omega arith) gives in
+    let now : State = record { entries = c.watches.rows.entries; lists = c.watches.lists; steps = c.watches.trail.steps; list = c.watches.list } in
+    let visited : Visited c.args.trail.now.atoms c.args.f now c.args.rows.now.entries c.watches.k c.get-watch.result c.watches.rows.looks c.look_at.new.rows.looks =
+    record { place = omega arith; watch = c.watches.invariant.sweeps.watch; shape = c.watches.invariant.sweeps.shape; within = omega arith; is = c.get-watch.ensures; once = c.in-Keep.ensures.once; dead = c.in-Keep.ensures.dead } in
     record {
       sweeps = rw c.set.ensures done;
       atoms = c.look_at.ensures.same.0 ∙ c.watches.invariant.atoms;
       depth = c.look_at.ensures.same.1 ∙ c.watches.invariant.depth;
       looks = omega (arith, c.watches.invariant.looks, c.in-Keep.ensures.rises);
+      seen = rw c.set.ensures (Seen-keep c.args.trail.now.atoms c.args.f now c.args.rows.now.entries c.watches.k c.get-watch.result v c.args.rows.now.looks c.watches.rows.looks c.look_at.new.rows.looks refl visited c.watches.invariant.seen);
     }
 
 pub watches-preserved : goal.watches-preserved
@@ -51,11 +56,15 @@ watches-preserved c =
     subst (λ d. VisitGives c.args.f c.get-watch.result d p p' Gone) c.watches.invariant.depth c.in-Gone.ensures.gives in
     let done : Sweeps c.args.trail.now.atoms c.args.trail.now.depth c.args.f first (with_list p' (swap_remove c.watches.list c.watches.k c.get-watch.result)) c.watches.k =
     Round-gone c.args.trail.now.atoms c.args.trail.now.depth c.args.f first p p' c.watches.list c.watches.k c.get-watch.result c.watches.invariant.sweeps (omega arith) c.get-watch.ensures (omega arith) c.requires.is_false gives in
+    let now : State = record { entries = c.watches.rows.entries; lists = c.watches.lists; steps = c.watches.trail.steps; list = c.watches.list } in
+    let visited : Visited c.args.trail.now.atoms c.args.f now c.args.rows.now.entries c.watches.k c.get-watch.result c.watches.rows.looks c.look_at.new.rows.looks =
+    record { place = omega arith; watch = c.watches.invariant.sweeps.watch; shape = c.watches.invariant.sweeps.shape; within = omega arith; is = c.get-watch.ensures; once = c.in-Gone.ensures.once; dead = c.in-Gone.ensures.dead } in
     record {
       sweeps = rw (c.take_out.ensures.rest, same) done;
       atoms = c.look_at.ensures.same.0 ∙ c.watches.invariant.atoms;
       depth = c.look_at.ensures.same.1 ∙ c.watches.invariant.depth;
       looks = omega (arith, c.watches.invariant.looks, c.in-Gone.ensures.rises);
+      seen = rw (c.take_out.ensures.rest, same) (Seen-gone c.args.trail.now.atoms c.args.f now c.args.rows.now.entries c.watches.k c.get-watch.result c.args.rows.now.looks c.watches.rows.looks c.look_at.new.rows.looks visited c.watches.invariant.seen);
     }
 
 pub returns-in-False-clause-gives : goal.returns-in-False-clause-gives
@@ -72,3 +81,20 @@ returns-clause-gives c =
     let first : State = record { entries = c.args.rows.now.entries; lists = c.args.lists.now; steps = c.args.trail.now.steps; list = c.args.list.now } in
     let now : State = record { entries = c.watches.rows.entries; lists = c.watches.lists; steps = c.watches.trail.steps; list = c.watches.list } in
     Sweeps-end c.args.trail.now.atoms c.args.trail.now.depth c.args.f first now c.watches.k (omega arith) c.watches.invariant.sweeps
+
+pub returns-in-False-clause-looks : goal.returns-in-False-clause-looks
+returns-in-False-clause-looks c =
+    let now : State = record { entries = c.watches.rows.entries; lists = c.watches.lists; steps = c.watches.trail.steps; list = c.watches.list } in
+    let visited : Visited c.args.trail.now.atoms c.args.f now c.args.rows.now.entries c.watches.k c.get-watch.result c.watches.rows.looks c.look_at.new.rows.looks =
+    record { place = omega arith; watch = c.watches.invariant.sweeps.watch; shape = c.watches.invariant.sweeps.shape; within = omega arith; is = c.get-watch.ensures; once = c.in-False.ensures.once; dead = c.in-False.ensures.dead } in
+    Seen-last c.args.trail.now.atoms c.args.f now c.args.rows.now.entries c.watches.k c.get-watch.result c.args.rows.now.looks c.watches.rows.looks c.look_at.new.rows.looks visited c.watches.invariant.seen
+
+pub returns-in-NoRoom-clause-looks : goal.returns-in-NoRoom-clause-looks
+returns-in-NoRoom-clause-looks c =
+    let now : State = record { entries = c.watches.rows.entries; lists = c.watches.lists; steps = c.watches.trail.steps; list = c.watches.list } in
+    let visited : Visited c.args.trail.now.atoms c.args.f now c.args.rows.now.entries c.watches.k c.get-watch.result c.watches.rows.looks c.look_at.new.rows.looks =
+    record { place = omega arith; watch = c.watches.invariant.sweeps.watch; shape = c.watches.invariant.sweeps.shape; within = omega arith; is = c.get-watch.ensures; once = c.in-NoRoom.ensures.once; dead = c.in-NoRoom.ensures.dead } in
+    Seen-last c.args.trail.now.atoms c.args.f now c.args.rows.now.entries c.watches.k c.get-watch.result c.args.rows.now.looks c.watches.rows.looks c.look_at.new.rows.looks visited c.watches.invariant.seen
+
+pub returns-clause-looks : goal.returns-clause-looks
+returns-clause-looks c = Seen-whole c.args.f c.args.rows.now.entries c.watches.list c.watches.k c.args.rows.now.looks c.watches.rows.looks c.watches.invariant.seen

@@ -1,5 +1,6 @@
 use Rattle.std.proofs.Common.{◌≡◌, ◌-◌, ◌≤◌, length}
 use Rattle.clause_store.specs.Sweeps.{Sweeps, State}
+use Rattle.clause_store.proofs.Counting.{Seen}
 use Rattle.clause_store.proofs.sweep.sweep.Given as goal
 
 abbrev pub invariant-watches : goal.invariant-watches
@@ -11,6 +12,7 @@ invariant-watches l =
       atoms : l.trail.atoms ≡ l.initial.trail.atoms;
       depth : l.trail.depth ≡ l.initial.trail.depth;
       looks : l.initial.rows.looks ≤ l.rows.looks;
+      seen : Seen l.f l.initial.rows.entries l.list l.k l.initial.rows.looks l.rows.looks;
     }
 
 abbrev pub decreases-watches : goal.decreases-watches
