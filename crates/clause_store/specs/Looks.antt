@@ -1,8 +1,10 @@
 -- How often a store looks at its clauses.
 use Rattle.std.specs.Prelude.{◌≡◌, ℕ, ◌+◌, ◌<◌, ◌≤◌, true, List, All, Contains, length, slice_index_or}
 use Rattle.literals.specs.Signed.{Signed}
-use Rattle.clause_store.specs.Stored.{Stored}
-use Rattle.clause_store.specs.Entries.{Entry, entry_at}
+use Rattle.clause_store.specs.Stored.{Kept, Stored, IsFalseOn}
+use Rattle.clause_store.specs.Found.{HasKept}
+use Rattle.clause_store.specs.declared.trail.Step.{Step}
+use Rattle.clause_store.specs.Entries.{Entry, entry_at, zero_literal}
 
 -- a store together with the count
 pub record Counted : Type 0 where
@@ -24,3 +26,22 @@ pub record LooksAt (l : Signed) (es : List Entry) (old new : ℕ) : Type 0 where
   pub apart : AreApart rows
   pub having : All (HasLiteral es l) rows
   pub bound : new ≤ old + length rows
+
+-- a clause, by its id, and a literal
+pub record Pair : Type 0 where
+  pub id : ℕ
+  pub literal : Signed
+
+abbrev pub no_pair : Pair
+no_pair = record { id = 0; literal = zero_literal }
+
+abbrev pub NoneTwice : List Pair → Type 0
+NoneTwice ps = (j k : ℕ) → j < length ps → k < length ps → slice_index_or ps j no_pair ≡ slice_index_or ps k no_pair → j ≡ k
+
+-- the count rises by no more than the number of pairs of a kept clause and one of its literals that these steps make false
+pub record LooksBy (steps : List Step) (clauses : List Kept) (old new : ℕ) : Type 0 where
+  pub pairs : List Pair
+  pub none_twice : NoneTwice pairs
+  pub having : All (λ (p : Pair). HasKept clauses p.id (λ ls. Contains ls p.literal)) pairs
+  pub are_false : All (λ (p : Pair). IsFalseOn steps p.literal) pairs
+  pub bound : new ≤ old + length pairs

@@ -1,9 +1,9 @@
 // Propagation by watches.
-ghost use Rattle.std.specs.Prelude.{◌≡◌, ℕ, ◌<◌, ◌≤◌, List, [], All, length};
+ghost use Rattle.std.specs.Prelude.{◌≡◌, ℕ, ◌<◌, ◌≤◌, List, [], All, drop, length};
 ghost use Rattle.clause_store.specs.Watching.{IsWatching, Grows, kept_from};
 ghost use Rattle.clause_store.specs.Rested.{IsWaiting};
 ghost use Rattle.clause_store.specs.Driving.{DriveGives};
-ghost use Rattle.clause_store.specs.Looks.{LooksAt};
+ghost use Rattle.clause_store.specs.Looks.{LooksAt, LooksBy};
 ghost use Rattle.clause_store.specs.Runs.{RunGives, TurnGives};
 ghost use Rattle.clause_store.specs.Stored.{IsFalseOn};
 
@@ -59,6 +59,7 @@ pub fn run(
     requires watching { IsWatching trail.old.atoms rows.old.entries lists.old }
     requires start { start ≤ length trail.old.steps }
     ensures rises { rows.old.looks ≤ rows.new.looks }
+    ensures looks { LooksBy (drop start trail.new.steps) (kept_from 0 rows.old.entries) rows.old.looks rows.new.looks }
     ensures gives { RunGives trail.old.atoms (record { entries = rows.old.entries; lists = lists.old; steps = trail.old.steps }) (record { entries = rows.new.entries; lists = lists.new; steps = trail.new.steps }) start result.1 result.0 }
     ensures grows { Grows (kept_from 0 rows.old.entries) trail.old.depth trail.old.steps trail.new.steps }
     ensures clauses { kept_from 0 rows.new.entries ≡ kept_from 0 rows.old.entries }
@@ -90,6 +91,7 @@ pub fn drive(
     requires start { start ≤ length trail.old.steps }
     requires waiting { All (IsWaiting rows.old.entries trail.old.steps) waiting.now }
     ensures rises { rows.old.looks ≤ rows.new.looks }
+    ensures looks { LooksBy (drop start trail.new.steps) (kept_from 0 rows.old.entries) rows.old.looks rows.new.looks }
     ensures gives { DriveGives trail.old.atoms trail.old.depth waiting.now (record { entries = rows.old.entries; lists = lists.old; steps = trail.old.steps }) (record { entries = rows.new.entries; lists = lists.new; steps = trail.new.steps }) start result.1 result.0 }
     ensures grows { Grows (kept_from 0 rows.old.entries) trail.old.depth trail.old.steps trail.new.steps }
     ensures clauses { kept_from 0 rows.new.entries ≡ kept_from 0 rows.old.entries }

@@ -1,10 +1,13 @@
-use Rattle.std.proofs.Common.{◌≡◌, ◌<◌, ◌≤◌, length, get_or, subst, ◌∙◌, arith}
+use Rattle.std.proofs.Common.{◌≡◌, ◌+◌, ◌<◌, ◌≤◌, length, take, get_or, subst, sym, ◌∙◌, arith}
 use Rattle.literals.specs.Signed.{opposite}
 use Rattle.clause_store.specs.declared.trail.Step.{Step}
 use Rattle.clause_store.specs.Watching.{Grows, kept_from}
 use Rattle.clause_store.specs.Visits.{Parts}
 use Rattle.clause_store.specs.Runs.{Turns, TurnsTo}
 use Rattle.clause_store.specs.Entries.{watches_of}
+use Rattle.clause_store.specs.Trail.{Assigns}
+use Rattle.clause_store.specs.Looks.{LooksAt}
+use Rattle.clause_store.proofs.Pairs.{Looked, Looked-turn, Looked-by}
 use Rattle.clause_store.proofs.Kept.{Grows-trans}
 use Rattle.clause_store.proofs.Turning.{Runs-turn, Runs-meets, Grows-longer}
 use Rattle.clause_store.proofs.run.run.Goals as goal
@@ -23,6 +26,12 @@ steps-preserved c =
     subst (λ f. Turns c.args.trail.now.atoms f p p' (length (watches_of p'.lists f))) c.negated.ensures
     (subst (λ n. Turns n c.negated.result p p' (length (watches_of p'.lists c.negated.result))) c.steps.invariant.atoms c.in-Whole.ensures.gives) in
     let longer : length c.steps.trail.steps ≤ length c.turn.new.trail.steps = Grows-longer _ _ _ _ grows in
+    let fresh : Assigns (take c.steps.head c.steps.trail.steps) s.literal → ⊥ = subst (λ (x : Step). Assigns (take c.steps.head c.steps.trail.steps) x.literal → ⊥) (sym is) (c.steps-in-steps.ensures.fresh c.steps.head s lt).0 in
+    let at : LooksAt (opposite s.literal) c.steps.rows.entries c.steps.rows.looks c.turn.new.rows.looks =
+    subst (λ f. LooksAt f c.steps.rows.entries c.steps.rows.looks c.turn.new.rows.looks) c.negated.ensures c.in-Whole.ensures.looks in
+    let looked : Looked c.args.rows.now.entries c.turn.new.trail.steps c.args.start (c.steps.head + 1) c.args.rows.now.looks c.turn.new.rows.looks =
+    Looked-turn (kept_from 0 c.steps.rows.entries) c.args.trail.now.depth c.args.rows.now.entries c.steps.rows.entries c.steps.trail.steps c.turn.new.trail.steps c.args.start c.steps.head c.args.rows.now.looks c.steps.rows.looks c.turn.new.rows.looks s
+    c.steps.invariant.from lt is fresh c.steps.invariant.runs.shape grows at c.steps.invariant.looked in
     record {
       runs = Runs-turn c.args.trail.now.atoms c.args.trail.now.depth first p p' c.args.start c.steps.head s lt is grows c.steps.invariant.runs turns;
       grows = Grows-trans _ _ _ _ _ _ c.steps.invariant.clauses c.steps.invariant.grows grows;
@@ -32,6 +41,8 @@ steps-preserved c =
       depth = c.in-Whole.ensures.same.1 ∙ c.steps.invariant.depth;
       within = omega arith;
       looks = omega (arith, c.steps.invariant.looks, c.in-Whole.ensures.rises);
+      from = (let le : c.args.start ≤ c.steps.head = c.steps.invariant.from in omega arith);
+      looked = looked;
     }
 
 pub returns-in-False-clause-gives : goal.returns-in-False-clause-gives
@@ -57,3 +68,36 @@ returns-in-False-clause-grows c =
 pub returns-in-NoRoom-clause-grows : goal.returns-in-NoRoom-clause-grows
 returns-in-NoRoom-clause-grows c =
     Grows-trans _ _ _ _ _ _ c.steps.invariant.clauses c.steps.invariant.grows (subst (λ d. Grows (kept_from 0 c.steps.rows.entries) d c.steps.trail.steps c.turn.new.trail.steps) c.steps.invariant.depth c.in-NoRoom.ensures.grows)
+
+pub returns-in-False-clause-looks : goal.returns-in-False-clause-looks
+returns-in-False-clause-looks c =
+    let s : Step = c.index-steps-head.result in
+    let is : s ≡ get_or c.steps.trail.steps c.steps.head s = rw c.steps-in-steps-2.ensures.steps at c.index-steps-head.is in
+    let lt : c.steps.head < length c.steps.trail.steps = rw c.steps-in-steps.ensures.steps at c.steps-test.true in
+    let grows : Grows (kept_from 0 c.steps.rows.entries) c.args.trail.now.depth c.steps.trail.steps c.turn.new.trail.steps =
+    subst (λ d. Grows (kept_from 0 c.steps.rows.entries) d c.steps.trail.steps c.turn.new.trail.steps) c.steps.invariant.depth c.in-False.ensures.grows in
+    let fresh : Assigns (take c.steps.head c.steps.trail.steps) s.literal → ⊥ = subst (λ (x : Step). Assigns (take c.steps.head c.steps.trail.steps) x.literal → ⊥) (sym is) (c.steps-in-steps.ensures.fresh c.steps.head s lt).0 in
+    let at : LooksAt (opposite s.literal) c.steps.rows.entries c.steps.rows.looks c.turn.new.rows.looks =
+    subst (λ f. LooksAt f c.steps.rows.entries c.steps.rows.looks c.turn.new.rows.looks) c.negated.ensures c.in-False.ensures.looks in
+    let looked : Looked c.args.rows.now.entries c.turn.new.trail.steps c.args.start (c.steps.head + 1) c.args.rows.now.looks c.turn.new.rows.looks =
+    Looked-turn (kept_from 0 c.steps.rows.entries) c.args.trail.now.depth c.args.rows.now.entries c.steps.rows.entries c.steps.trail.steps c.turn.new.trail.steps c.args.start c.steps.head c.args.rows.now.looks c.steps.rows.looks c.turn.new.rows.looks s
+    c.steps.invariant.from lt is fresh c.steps.invariant.runs.shape grows at c.steps.invariant.looked in
+    Looked-by c.args.rows.now.entries c.turn.new.trail.steps c.args.start (c.steps.head + 1) c.args.rows.now.looks c.turn.new.rows.looks looked
+
+pub returns-in-NoRoom-clause-looks : goal.returns-in-NoRoom-clause-looks
+returns-in-NoRoom-clause-looks c =
+    let s : Step = c.index-steps-head.result in
+    let is : s ≡ get_or c.steps.trail.steps c.steps.head s = rw c.steps-in-steps-2.ensures.steps at c.index-steps-head.is in
+    let lt : c.steps.head < length c.steps.trail.steps = rw c.steps-in-steps.ensures.steps at c.steps-test.true in
+    let grows : Grows (kept_from 0 c.steps.rows.entries) c.args.trail.now.depth c.steps.trail.steps c.turn.new.trail.steps =
+    subst (λ d. Grows (kept_from 0 c.steps.rows.entries) d c.steps.trail.steps c.turn.new.trail.steps) c.steps.invariant.depth c.in-NoRoom.ensures.grows in
+    let fresh : Assigns (take c.steps.head c.steps.trail.steps) s.literal → ⊥ = subst (λ (x : Step). Assigns (take c.steps.head c.steps.trail.steps) x.literal → ⊥) (sym is) (c.steps-in-steps.ensures.fresh c.steps.head s lt).0 in
+    let at : LooksAt (opposite s.literal) c.steps.rows.entries c.steps.rows.looks c.turn.new.rows.looks =
+    subst (λ f. LooksAt f c.steps.rows.entries c.steps.rows.looks c.turn.new.rows.looks) c.negated.ensures c.in-NoRoom.ensures.looks in
+    let looked : Looked c.args.rows.now.entries c.turn.new.trail.steps c.args.start (c.steps.head + 1) c.args.rows.now.looks c.turn.new.rows.looks =
+    Looked-turn (kept_from 0 c.steps.rows.entries) c.args.trail.now.depth c.args.rows.now.entries c.steps.rows.entries c.steps.trail.steps c.turn.new.trail.steps c.args.start c.steps.head c.args.rows.now.looks c.steps.rows.looks c.turn.new.rows.looks s
+    c.steps.invariant.from lt is fresh c.steps.invariant.runs.shape grows at c.steps.invariant.looked in
+    Looked-by c.args.rows.now.entries c.turn.new.trail.steps c.args.start (c.steps.head + 1) c.args.rows.now.looks c.turn.new.rows.looks looked
+
+pub returns-clause-looks : goal.returns-clause-looks
+returns-clause-looks c = Looked-by c.args.rows.now.entries c.steps.trail.steps c.args.start c.steps.head c.args.rows.now.looks c.steps.rows.looks c.steps.invariant.looked

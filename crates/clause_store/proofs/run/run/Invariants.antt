@@ -2,6 +2,7 @@ use Rattle.std.proofs.Common.{◌≡◌, ◌-◌, ◌≤◌, length}
 use Rattle.clause_store.specs.Watching.{Grows, kept_from}
 use Rattle.clause_store.specs.Runs.{Runs}
 use Rattle.clause_store.specs.Visits.{Parts}
+use Rattle.clause_store.proofs.Pairs.{Looked}
 use Rattle.clause_store.proofs.run.run.Given as goal
 
 abbrev pub invariant-steps : goal.invariant-steps
@@ -17,6 +18,8 @@ invariant-steps l =
       depth : l.trail.depth ≡ l.initial.trail.depth;
       within : l.head ≤ length l.trail.steps;
       looks : l.initial.rows.looks ≤ l.rows.looks;
+      from : l.start ≤ l.head;
+      looked : Looked l.initial.rows.entries l.trail.steps l.start l.head l.initial.rows.looks l.rows.looks;
     }
 
 abbrev pub decreases-steps : goal.decreases-steps
