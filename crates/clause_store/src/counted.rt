@@ -251,24 +251,6 @@ impl CountedStore {
         }
     }
 
-    // One whose watches aren't kept up, so that it scans.
-    #[cfg(test)]
-    pub fn scanning(alloc: Global) -> CountedStore
-        ensures { result ≡ record { stored = record { clauses = []; trail = record { steps = []; atoms = 0; depth = 0 } }; looks = 0 } }
-    {
-        CountedStore {
-            alloc,
-            rows: Rows::new(alloc),
-            lists: Vec::new(alloc),
-            spare: WatchList::new(alloc),
-            trail: Trail::new(alloc),
-            head: 0,
-            saves: Vec::new(alloc),
-            waiting: Vec::new(alloc),
-            loose: true,
-        }
-    }
-
     // Knows so many atoms; no other call takes memory but `add`.
     pub fn reserve(&mut self, atoms: u32) -> Result<(), AllocError>
         ensures reserved { OnOk result (self.new.stored ≡ record self.old.stored { trail = record { steps = self.old.stored.trail.steps; atoms = max self.old.stored.trail.atoms atoms; depth = self.old.stored.trail.depth } }) }
