@@ -1,5 +1,5 @@
 -- The literals for which steps were recorded.
-use Rattle.std.specs.Prelude.{◌≡◌, ℕ, true, List, ◌∷◌, map, slice_index_or, Contains}
+use Rattle.std.specs.Prelude.{◌≡◌, ℕ, ◌<◌, true, List, length, ◌∷◌, map, slice_index_or, Contains}
 use Rattle.literals.specs.Signed.{Signed, opposite}
 use Rattle.equal_points.specs.declared.step.Step.{Step}
 use Rattle.equal_points.specs.declared.step.Step.TheVariants.{Differ}
@@ -31,6 +31,7 @@ pub record IsTruthConflict (ps : List Point) (log : List Step) (rs : List Signed
 -- not all reasons hold of a step that keeps two points apart, and of merges that give their equality
 pub record IsStepConflict (ps : List Point) (log : List Step) (rs : List Signed) (ls : List Signed) : Type 0 where
   pub differ : ℕ
+  pub within : differ < length log
   pub left : ℕ
   pub right : ℕ
   pub is : step_at log differ ≡ Differ left right

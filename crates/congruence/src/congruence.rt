@@ -93,7 +93,7 @@ impl Congruence {
     }
 
     /// Records a step with its reason. An `Err` changes nothing.
-    fn record(&mut self, step: Step, reason: Literal) -> Result<(), AllocError>
+    pub fn record(&mut self, step: Step, reason: Literal) -> Result<(), AllocError>
         requires recorded { IsRecorded self.old }
         requires within { IsWithin (length self.old.closure.graph) step }
         ensures recorded { IsRecorded self.new }
