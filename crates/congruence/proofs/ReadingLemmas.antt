@@ -11,7 +11,8 @@ use Rattle.std.proofs.lemmas.List.Elements.{All-cons}
 use Rattle.equal_points.specs.declared.shape.Shape.{Shape}
 use Rattle.equal_points.specs.declared.shape.Shape.TheVariants.{Leaf, Truth, Application}
 use Rattle.equal_points.specs.Closure.{Point, IsPointOf, AreRead, with_truths}
-use Rattle.congruence.specs.Reading.{point_number, shape_for, arguments_for}
+use Rattle.term_store.specs.Terms.{tree_with}
+use Rattle.congruence.specs.Reading.{point_number, shape_for, arguments_for, is_applied, IsSeen, AreSeen}
 
 pub skip_truths : (ts : List Tree) (t : ℕ) → tree_at (with_truths ts) (t + 2) ≡ tree_at ts t
 skip_truths ts t = ap (tree_at (with_truths ts)) (let e : t + 2 ≡ suc (suc t) = omega arith in e)
@@ -65,3 +66,36 @@ arguments_below (Application f) (i ∷ is) t all = All-cons (λ n. n < t + 2) (i
     (arguments_below (Application f) is t (λ k d less. all (suc k) d (omega arith)))
 arguments_below (Truth b) is t all = λ k d less. absurd (omega arith)
 arguments_below Leaf is t all = λ k d less. absurd (omega arith)
+
+-- ---- what each term is seen as
+
+applied_is : (is : List ℕ) (r : Bool) → r ≡ (length is == 0) → not r ≡ is_applied is
+applied_is [] true e = refl
+applied_is [] false e = cc
+applied_is (i ∷ is) true e = let h : length (i ∷ is) ≡ 0 = eqb-true (length (i ∷ is)) 0 (sym e) in absurd (omega arith)
+applied_is (i ∷ is) false e = refl
+
+kept_seen : (ts : List Tree) (ps : List Point) (p : Point) (t : ℕ) → t + 2 < length ps → IsSeen ts ps t → IsSeen ts (ps ++ p ∷ []) t
+kept_seen ts ps p t less s = record {
+  head = s.head;
+  arguments = s.arguments;
+  tree = s.tree;
+  earlier = s.earlier;
+  point = get_or_append_left ps (p ∷ []) (record { shape = Leaf; arguments = [] }) (t + 2) less ∙ s.point;
+}
+
+pub see_next : (ts : List Tree) (ps : List Point) (h : Head) (is : List ℕ) (empty : Bool) (s : Shape) (args : List ℕ) (t : ℕ) → empty ≡ (length is == 0) → s ≡ shape_for h (not empty) → args ≡ arguments_for s is
+    → length ps ≡ t + 2 → tree_at ts t ≡ tree_with ts h is → All (λ i. i < t) is → AreSeen ts ps → AreSeen ts (ps ++ record { shape = s; arguments = args } ∷ [])
+see_next ts ps h is empty s args t is_empty is_shape are size tree earlier seen u less = elim (cases_lt (u + 2) (length ps)) [
+  | inl before ↦ kept_seen ts ps (point_with s args) u before (seen u before)
+  | inr above ↦
+      let here : t ≡ u = omega (arith, length_push ps (point_with s args)) in
+      subst (λ n. IsSeen ts (ps ++ point_with s args ∷ []) n) here (record {
+        head = h;
+        arguments = is;
+        tree = tree;
+        earlier = earlier;
+        point = get_or_push ps (point_with s args) (record { shape = Leaf; arguments = [] }) (t + 2) size
+            ∙ ap (point_with s) are ∙ ap (λ x. point_with x (arguments_for x is)) (is_shape ∙ ap (shape_for h) (applied_is is empty is_empty));
+      })
+]

@@ -34,6 +34,7 @@ impl Congruence {
     ghost use Rattle.equal_points.specs.Closure.{AreRead};
     ghost use Rattle.point_closure.specs.Whole.{IsWithin};
     ghost use Rattle.congruence.specs.Reasons.{AreReasonsOf, IsTruthConflict, IsStepConflict};
+    ghost use Rattle.congruence.specs.Reading.{AreSeen};
     ghost use Rattle.congruence.specs.Recorded.{IsRecorded, AreEqualTerms, HaveOneValue, IsConsistent, IsConflict};
 
     /// Nothing is read, nothing recorded.
@@ -41,6 +42,7 @@ impl Congruence {
         ensures recorded { IfOk result IsRecorded }
         ensures first { IfOk result (λ c. c.closure.steps.items ≡ []) }
         ensures read { IfOk result (λ c. (ts : List Tree) → AreRead ts c.closure.graph) }
+        ensures seen { IfOk result (λ c. (ts : List Tree) → AreSeen ts c.closure.graph) }
         ensures count { IfOk result (λ c. length c.closure.graph ≡ 2) }
     {
         let mut closure = Closure::new(alloc);
@@ -58,12 +60,14 @@ impl Congruence {
         requires recorded { IsRecorded self.old }
         requires first { self.old.closure.steps.items ≡ [] }
         requires read { AreRead store.now.trees self.old.closure.graph }
+        requires seen { AreSeen store.now.trees self.old.closure.graph }
         requires next { length self.old.closure.graph ≡ term + 2 }
         requires within { term < length store.now.trees }
         requires few { length store.now.trees + 2 < 2 ^ 32 }
         ensures recorded { IsRecorded self.new }
         ensures first { self.new.closure.steps.items ≡ [] }
         ensures read { AreRead store.now.trees self.new.closure.graph }
+        ensures seen { AreSeen store.now.trees self.new.closure.graph }
         ensures ok { OnOk result (length self.new.closure.graph ≡ term + 3) }
     {
         let node = store.node(term);
@@ -78,10 +82,12 @@ impl Congruence {
         requires recorded { IsRecorded self.old }
         requires first { self.old.closure.steps.items ≡ [] }
         requires read { AreRead store.now.trees self.old.closure.graph }
+        requires seen { AreSeen store.now.trees self.old.closure.graph }
         requires few { length store.now.trees + 2 < 2 ^ 32 }
         ensures recorded { IsRecorded self.new }
         ensures first { self.new.closure.steps.items ≡ [] }
         ensures read { AreRead store.now.trees self.new.closure.graph }
+        ensures seen { AreSeen store.now.trees self.new.closure.graph }
         ensures ok { OnOk result (length store.now.trees + 2 ≤ length self.new.closure.graph) }
     {
         let count = store.len() as usize + 2;

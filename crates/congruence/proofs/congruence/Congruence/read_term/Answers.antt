@@ -1,7 +1,7 @@
 use Rattle.std.proofs.Common.{◌<◌, ℕ, List, All, length, sym, ◌∙◌, subst}
 use Rattle.equal_points.specs.Closure.{Point, AreRead}
-use Rattle.congruence.specs.Reading.{arguments_for}
-use Rattle.congruence.proofs.ReadingLemmas.{arguments_below, read_next}
+use Rattle.congruence.specs.Reading.{arguments_for, AreSeen}
+use Rattle.congruence.proofs.ReadingLemmas.{arguments_below, read_next, see_next}
 use Rattle.congruence.proofs.congruence.Congruence.read_term.Goals as goal
 
 pub add-requires-clause-earlier : goal.add-requires-clause-earlier
@@ -15,3 +15,9 @@ returns-clause-read c =
     subst (λ (ps : List Point). AreRead c.args.store.now.trees ps) (sym c.in_ok-add.ensures.ok)
     (read_next c.args.store.now.trees c.args.self.now.closure.graph c.node-node.result.head c.node-node.result.arguments.now c.is_empty.result c.shape_of-shape.result c.deref.result.now c.args.term
     c.is_empty.ensures c.shape_of-shape.ensures (c.deref.ensures.value ∙ c.in_ok-arguments_of.ensures) c.requires.next c.node-node.ensures.tree c.requires.read)
+
+pub returns-clause-seen : goal.returns-clause-seen
+returns-clause-seen c =
+    subst (λ (ps : List Point). AreSeen c.args.store.now.trees ps) (sym c.in_ok-add.ensures.ok)
+    (see_next c.args.store.now.trees c.args.self.now.closure.graph c.node-node.result.head c.node-node.result.arguments.now c.is_empty.result c.shape_of-shape.result c.deref.result.now c.args.term
+    c.is_empty.ensures c.shape_of-shape.ensures (c.deref.ensures.value ∙ c.in_ok-arguments_of.ensures) c.requires.next c.node-node.ensures.tree c.node-node.ensures.earlier c.requires.seen)
