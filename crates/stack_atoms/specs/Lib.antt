@@ -1,0 +1,7 @@
+pub mod Parts
+pub mod Atoms
+pub mod Kinds
+pub mod Marks
+pub mod Sorts
+pub mod Numbers
+pub mod OfStack
