@@ -1,0 +1,6 @@
+pub mod Values
+pub mod Justifying
+pub mod Reasoning
+pub mod Clausing
+pub mod Declared
+pub mod Recording

@@ -1,0 +1,5 @@
+pub mod Steps
+pub mod Justified
+pub mod Clauses
+pub mod Reasoned
+pub mod Laws
