@@ -1,0 +1,5 @@
+pub mod Arguments
+pub mod Sorting
+pub mod Marked
+pub mod Clashes
+pub mod Valued
