@@ -1,5 +1,5 @@
 -- The kinds of problems, by the terms that stand in them.
-use Rattle.std.specs.Prelude.{ℕ, ◌+◌, Bool, true, false, ◌&&◌, nat_eq, List, []}
+use Rattle.std.specs.Prelude.{ℕ, ◌+◌, Bool, true, false, not, ◌&&◌, nat_eq, List, []}
 use Rattle.std.specs.List.{list_all}
 use Rattle.smt_meaning.specs.declared.terms.Operator.{Operator}
 use Rattle.smt_meaning.specs.declared.terms.Operator.TheVariants.{Add, Subtract, Multiply, AtMost, Less, AtLeast, Greater}
@@ -7,7 +7,7 @@ use Rattle.smt_meaning.specs.declared.terms.Head.{Head}
 use Rattle.smt_meaning.specs.declared.terms.Head.TheVariants.{Theory, Symbol}
 use Rattle.smt_meaning.specs.Declaration.{Declaration}
 use Rattle.smt_meaning.specs.Term.{Tree, Trees, node, none, more}
-use Rattle.smt_meaning.specs.Signature.{function_with_id, symbol_sort, stands_with, is_bool}
+use Rattle.smt_meaning.specs.Signature.{function_with_id, symbol_sort, tree_sort, stands_with, is_bool, is_int}
 use Rattle.smt_meaning.specs.Stack.{Frame, signature_of, assertions_of}
 
 -- ---- propositional logic: Bool constants, true, false, not, and, or, xor, =>, =, distinct and ite
@@ -43,3 +43,18 @@ abbrev mutual
 -- each assertion is a propositional term
 abbrev pub is_propositional : List Frame → Bool
 is_propositional frames = list_all (is_propositional_tree (signature_of frames)) (assertions_of frames)
+
+-- ---- terms without integers
+
+abbrev mutual
+  -- no part of it is an Int
+  pub has_no_int : List Declaration → Tree → Bool
+  has_no_int ds (node h ts) = not (is_int (tree_sort ds (node h ts))) && have_no_int ds ts
+
+  pub have_no_int : List Declaration → Trees → Bool
+  have_no_int ds none = true
+  have_no_int ds (more t ts) = has_no_int ds t && have_no_int ds ts
+
+-- no part of an assertion is an Int
+abbrev pub has_no_integers : List Frame → Bool
+has_no_integers frames = list_all (has_no_int (signature_of frames)) (assertions_of frames)

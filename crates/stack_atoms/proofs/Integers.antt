@@ -9,7 +9,7 @@ use Rattle.smt_meaning.specs.Parts.{IsPart, IsPartOfOne}
 use Rattle.smt_meaning.specs.Signature.{tree_sort, is_int}
 use Rattle.smt_meaning.specs.Stack.{Frame, signature_of, assertions_of}
 use Rattle.smt_meaning.specs.Report.{IsPartOfStack}
-use Rattle.stack_atoms.specs.Kinds.{has_no_int, have_no_int, has_no_integers}
+use Rattle.smt_meaning.specs.Kinds.{has_no_int, have_no_int, has_no_integers}
 use Rattle.stack_atoms.proofs.Sorting.{left_true, right_true}
 
 not_true : (b : Bool) → not b ≡ true → b ≡ false

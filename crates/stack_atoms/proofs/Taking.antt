@@ -11,7 +11,7 @@ use Rattle.smt_meaning.specs.Report.{IsPartOfStack}
 use Rattle.scope_stack.specs.declared.answers.Assertion.{Assertion}
 use Rattle.scope_stack.specs.Shown.{AreAsserted, IsLawful}
 use Rattle.stack_atoms.specs.Parts.{IsMarked, AreParts}
-use Rattle.stack_atoms.specs.Kinds.{has_no_integers}
+use Rattle.smt_meaning.specs.Kinds.{has_no_integers}
 use Rattle.stack_atoms.specs.Marks.{AreMarked, AreStackParts}
 use Rattle.stack_atoms.specs.Sorts.{AreSorts}
 use Rattle.stack_atoms.proofs.Sorting.{HasSort, part_has_sort}

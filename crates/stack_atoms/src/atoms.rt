@@ -1,7 +1,7 @@
 //! The atoms of a stack without integers.
 ghost use Rattle.std.specs.Prelude.{◌≡◌, ◌≢◌, ℕ, ◌<◌, length, true, false, IfOk, slice_index_or};
 ghost use Rattle.smt_meaning.specs.declared.values.Sort.TheVariants.{Bool as Truths, Int as Ints};
-ghost use Rattle.stack_atoms.specs.Kinds.{has_no_integers};
+ghost use Rattle.smt_meaning.specs.Kinds.{has_no_integers};
 ghost use Rattle.stack_atoms.specs.Parts.{IsMarked};
 ghost use Rattle.smt_meaning.specs.Stack.{signature_of};
 ghost use Rattle.stack_atoms.specs.OfStack.{AreOfStack};
