@@ -16,12 +16,12 @@ use Rattle.stack_atoms.specs.Marks.{AreClosedFrom, AreMarked, AreStackParts}
 use Rattle.stack_atoms.proofs.Marking.{below}
 
 -- the arguments of a term by their places
-record Picked (trees : List Tree) (us : Trees) : Type 0 where
-  places : List ℕ
-  are : pick trees places ≡ us
-  within : All (λ i. i < length trees) places
+pub record Picked (trees : List Tree) (us : Trees) : Type 0 where
+  pub places : List ℕ
+  pub are : pick trees places ≡ us
+  pub within : All (λ i. i < length trees) places
 
-picked : (trees : List Tree) (us : Trees) → ((u : Tree) → IsOneOf u us → (i : ℕ) × (i < length trees) × (tree_at trees i ≡ u)) → Picked trees us
+pub picked : (trees : List Tree) (us : Trees) → ((u : Tree) → IsOneOf u us → (i : ℕ) × (i < length trees) × (tree_at trees i ≡ u)) → Picked trees us
 picked trees none h = record { places = []; are = refl; within = All-nil (λ i. i < length trees) }
 picked trees (more u us) h =
     let here = h u (inl refl) in
@@ -33,7 +33,7 @@ picked trees (more u us) h =
     }
 
 -- a marked place has the term
-abbrev IsAt : List Tree → List Bool → Tree → Type 0
+abbrev pub IsAt : List Tree → List Bool → Tree → Type 0
 IsAt trees marks t = (p : ℕ) × IsMarked marks p × (tree_at trees p ≡ t)
 
 module _ (trees : List Tree) (marks : List Bool) (order : AreInOrder trees) (size : length marks ≡ length trees) (closed : AreClosedFrom trees 0 marks) where
@@ -55,7 +55,7 @@ module _ (trees : List Tree) (marks : List Bool) (order : AreInOrder trees) (siz
       each_at p.places (closed a.0 h p.places (omega arith) a.1 tree p.within) u (subst (IsOneOf u) (sym p.are) c)
 
   mutual
-    part_at : (u t : Tree) → IsPart u t → IsAt trees marks t → IsAt trees marks u
+    pub part_at : (u t : Tree) → IsPart u t → IsAt trees marks t → IsAt trees marks u
     part_at u (node h us) (inl e) a = subst (IsAt trees marks) (sym e) a
     part_at u (node h us) (inr q) a = part_of_some_at u us q (λ v c. arguments_at h us a v c)
 

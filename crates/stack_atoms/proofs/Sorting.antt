@@ -72,7 +72,7 @@ mutual
 
 -- ---- operators
 
-sort_is : (a b : Sort) → sort_eq a b ≡ true → a ≡ b
+pub sort_is : (a b : Sort) → sort_eq a b ≡ true → a ≡ b
 sort_is Truths Truths h = refl
 sort_is Truths Ints h = absurd cc
 sort_is Truths (Free b) h = absurd cc
@@ -83,19 +83,19 @@ sort_is (Free a) Truths h = absurd cc
 sort_is (Free a) Ints h = absurd cc
 sort_is (Free a) (Free b) h = ap Free (eqb-true a b h)
 
-stands_so : (b : Bool) (x : Option Sort) (s : Sort) → (if b then x else None) ≡ Some s → x ≡ Some s
+pub stands_so : (b : Bool) (x : Option Sort) (s : Sort) → (if b then x else None) ≡ Some s → x ≡ Some s
 stands_so true x s h = h
 stands_so false x s h = absurd cc
 
-if_so_true : (b : Bool) (r s : Sort) → if_so b r ≡ Some s → b ≡ true
+pub if_so_true : (b : Bool) (r s : Sort) → if_so b r ≡ Some s → b ≡ true
 if_so_true true r s h = refl
 if_so_true false r s h = absurd cc
 
-if_so_is : (b : Bool) (r s : Sort) → if_so b r ≡ Some s → r ≡ s
+pub if_so_is : (b : Bool) (r s : Sort) → if_so b r ≡ Some s → r ≡ s
 if_so_is true r s h = cc
 if_so_is false r s h = absurd cc
 
-the_some : (r s : Sort) → Some r ≡ Some s → r ≡ s
+pub the_some : (r s : Sort) → Some r ≡ Some s → r ≡ s
 the_some r s h = cc
 
 made_is : (o : Operator) (branch : Sort) (ss : List Sort) (s : Sort) → operator_sort o ss ≡ Some s → (ite_sort ss ≡ Some s → branch ≡ s) → made_sort o branch ≡ s
@@ -155,7 +155,7 @@ module _ (ds : List Declaration) (trees : List Tree) where
 
   -- ---- arguments of one sort
 
-  all_of_one : (r : Sort) (is : List ℕ) (ss : List Sort) → tree_sorts ds (pick trees is) ≡ Some ss → all_of r ss ≡ true → All (λ i. tree_sort ds (tree_at trees i) ≡ Some r) is
+  pub all_of_one : (r : Sort) (is : List ℕ) (ss : List Sort) → tree_sorts ds (pick trees is) ≡ Some ss → all_of r ss ≡ true → All (λ i. tree_sort ds (tree_at trees i) ≡ Some r) is
   all_of_one r [] ss e a = All-nil (λ i. tree_sort ds (tree_at trees i) ≡ Some r)
   all_of_one r (i ∷ is) ss e a =
       let f : HasFirst ds (tree_at trees i) (pick trees is) ss = first_of ds (tree_at trees i) (pick trees is) ss e in

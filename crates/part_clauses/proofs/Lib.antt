@@ -1,0 +1,4 @@
+pub mod Keeping
+pub mod Numbering
+pub mod Following
+pub mod Forcing

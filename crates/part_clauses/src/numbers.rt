@@ -1,0 +1,28 @@
+//! The numbers of a node's arguments.
+ghost use Rattle.std.specs.Prelude.{◌≡◌, All, Contains, IfOk, true, false};
+ghost use Rattle.smt_meaning.specs.declared.clauses.Atom.TheVariants.{Truth};
+ghost use Rattle.search_port.specs.State.{truth_atoms};
+ghost use Rattle.part_clauses.specs.Numbers.{AreNumbers};
+
+use atom_table::{AtomTable, CompactAtom};
+use smt_meaning::TermId;
+use std::alloc::AllocError;
+
+/// The numbers of the truths of these terms, or `false` where one has none.
+pub(crate) fn truth_numbers(
+    table: &AtomTable,
+    places: &[TermId],
+    numbers: &mut Vec<u32>,
+) -> Result<bool, AllocError>
+    ensures yes { IfOk result (λ all. all ≡ true → AreNumbers table.now (truth_atoms places.now) numbers.new.items) }
+    ensures no { IfOk result (λ all. all ≡ false → All (λ p. Contains table.now (Truth p)) places.now → ⊥) }
+{
+    numbers.clear();
+    for place in places {
+        let Some(number) = table.find(CompactAtom::Truth(*place)) else {
+            return Ok(false);
+        };
+        numbers.push(number)?;
+    }
+    Ok(true)
+}
