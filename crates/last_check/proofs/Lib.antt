@@ -1,0 +1,4 @@
+pub mod Nodes
+pub mod Made
+pub mod True
+pub mod End
