@@ -25,7 +25,7 @@ use Rattle.search_port.specs.Valid.{IsOver, IsOf, IsAtLevel}
 use Rattle.clause_form.specs.Node.{IsOfNode, NodeClausesHold, literals_of_node}
 use Rattle.term_laws.specs.Laws.{ValueHasItsSort}
 use Rattle.sort_laws.specs.Laws.{SymbolsAreDeclared}
-use Rattle.truth_theory.specs.Flat.{flat, FlatSaysTheSame}
+use Rattle.flat_stack.specs.Flat.{flat, FlatSaysTheSame}
 use Rattle.atom_table.specs.Numbers.{IsAt}
 use Rattle.stack_atoms.specs.Parts.{IsMarked, HasNoIntSort}
 use Rattle.stack_atoms.specs.Atoms.{IsPartAtom}

@@ -20,7 +20,7 @@ use smt_meaning::TermId;
 use sort_laws::symbols_are_declared;
 use stack_atoms::StackAtoms;
 use std::alloc::{AllocError, Global};
-use truth_theory::flat_says_the_same;
+use flat_stack::flat_says_the_same;
 
 /// Keeps the clause that a term is true that is asserted.
 fn keep_assertion(

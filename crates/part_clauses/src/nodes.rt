@@ -22,7 +22,7 @@ use sort_laws::symbols_are_declared;
 use stack_atoms::StackAtoms;
 use std::alloc::{AllocError, Global};
 use term_laws::value_has_its_sort;
-use truth_theory::flat_says_the_same;
+use flat_stack::flat_says_the_same;
 
 /// Lists that are used again for each node.
 #[derive(Drop)]
