@@ -3,12 +3,12 @@ ghost use Rattle.smt_meaning.specs.declared.settings.Settings.{Settings as Setti
 ghost use Rattle.smt_meaning.specs.LegalJournal.{journal_text};
 ghost use Rattle.smt_meaning.specs.MayReply.{Decided};
 ghost use Rattle.smt_words.specs.Words.{are_taken};
-ghost use Rattle.smt_meaning.specs.Kinds.{is_propositional};
+ghost use Rattle.smt_meaning.specs.Kinds.{has_no_integers};
 ghost use Rattle.smt_top.specs.Progress.{CutOff, Ends, NoneSettled, SoFar, Stands, at_sink, at_source, between};
 ghost use Rattle.smt_top.specs.Ended.{IsFaulty, IsUnbegun, MatchesStatus, Ran, StatusOf};
 
 use crate::serving::{Run, Stage, Stop};
-use alone_decider::Alone;
+use equality_decider::Alone;
 use ports::{Gate, More, Sink, Source};
 use smt_meaning::Seq;
 use smt_meaning::language::{Entry, Reply};
@@ -146,7 +146,7 @@ pub fn run<S: Source, K: Sink, G: Gate>(
     sink: &mut K,
     gate: &G,
 ) -> Ended
-    ensures ran { Ran is_propositional (2 ^ 40) (map string_bytes words.now.items) (between (S.told source.old) (K.told sink.old) (S.told source.new) (K.told sink.new)) result }
+    ensures ran { Ran has_no_integers (2 ^ 40) (map string_bytes words.now.items) (between (S.told source.old) (K.told sink.old) (S.told source.new) (K.told sink.new)) result }
     ensures untouched { are_taken (map string_bytes words.now.items) ≡ false → (source.new ≡ source.old) × (sink.new ≡ sink.old) × (result.journal ≡ []) }
     ensures silent { journal_text result.journal ≡ [] → sink.new ≡ sink.old }
 {
@@ -164,7 +164,7 @@ pub fn run_within<S: Source, K: Sink, G: Gate>(
     gate: &G,
 ) -> Ended
     requires { budget ≤ 2 ^ 40 }
-    ensures ran { Ran is_propositional budget (map string_bytes words.now.items) (between (S.told source.old) (K.told sink.old) (S.told source.new) (K.told sink.new)) result }
+    ensures ran { Ran has_no_integers budget (map string_bytes words.now.items) (between (S.told source.old) (K.told sink.old) (S.told source.new) (K.told sink.new)) result }
     ensures untouched { are_taken (map string_bytes words.now.items) ≡ false → (source.new ≡ source.old) × (sink.new ≡ sink.old) × (result.journal ≡ []) }
     ensures silent { journal_text result.journal ≡ [] → sink.new ≡ sink.old }
 {

@@ -1,0 +1,44 @@
+//! The decider.
+use crate::decide::search;
+use equality_theory::EqualityTheory;
+use part_clauses::part_clauses;
+use scope_stack::Stack;
+use smt_meaning::Settings;
+use stack_atoms::{numbered, takes};
+use std::alloc::{AllocError, Global};
+use theory_port::{Decider, Verdict};
+
+/// Decides the checks of stacks without integers: Booleans, declared sorts and functions over them. Each check begins anew, and where there is no limit of units, memory alone ends it without an answer.
+#[derive(Clone, Copy, Debug, Drop)]
+pub struct Alone;
+
+impl Decider for Alone {
+    ghost use Rattle.smt_meaning.specs.Kinds.{has_no_integers};
+
+    ghost decides = { has_no_integers };
+
+    fn takes(&self, alloc: Global, stack: &Stack) -> Result<bool, AllocError> {
+        takes(alloc, stack)
+    }
+
+    fn decide(
+        &mut self,
+        alloc: Global,
+        stack: &Stack,
+        settings: &Settings,
+    ) -> Result<Verdict, AllocError> {
+        let atoms = numbered(alloc, stack)?;
+        let mut store = part_clauses(alloc, stack, &atoms)?;
+        let sorts = atoms.sorts.to_vec(alloc)?;
+        let mut theory = EqualityTheory::new(alloc, stack, &atoms.marks, sorts, &atoms.table)?;
+        search(
+            alloc,
+            stack,
+            settings,
+            &atoms.marks,
+            &atoms.table,
+            &mut theory,
+            &mut store,
+        )
+    }
+}

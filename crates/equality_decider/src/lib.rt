@@ -1,0 +1,8 @@
+//! Decides the checks of stacks without integers: conflict-driven clause learning (Marques-Silva and Sakallah, ICCAD 1996) over a theory of equality.
+#![tactic(auto)]
+
+mod decide;
+mod shown;
+mod still;
+
+pub use decide::search;

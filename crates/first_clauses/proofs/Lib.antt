@@ -1,5 +1,0 @@
-pub mod Marking
-pub mod Listing
-pub mod Following
-pub mod Keeping
-pub mod Nodes

@@ -1,2 +1,0 @@
-pub mod FlatLaw
-mod Reading

@@ -1,9 +1,0 @@
-mod Lists
-mod Operating
-mod Valid
-mod Model
-mod Judging
-mod Against
-mod Telling
-mod Tabled
-mod Constants
