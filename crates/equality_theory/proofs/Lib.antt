@@ -1,0 +1,4 @@
+pub mod Going
+pub mod Saying
+pub mod Setting
+pub mod Telling

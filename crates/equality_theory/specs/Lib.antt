@@ -1,0 +1,4 @@
+pub mod Said
+pub mod Seen
+pub mod StateCode
+pub mod Told

@@ -1,0 +1,10 @@
+//! The theory of equality: what literals say of terms is closed under equality, and what that breaks is a conflict.
+#![tactic(auto)]
+
+mod choices;
+mod last;
+mod said;
+mod theory;
+mod told;
+
+pub use theory::EqualityTheory;

@@ -1,0 +1,151 @@
+//! The steps of a literal.
+ghost use Rattle.std.specs.Prelude.{◌≡◌, ◌+◌, ◌<◌, ◌^◌, List, length, OnOk};
+ghost use Rattle.smt_meaning.specs.Term.{Tree};
+ghost use Rattle.smt_meaning.specs.Stack.{signature_of};
+ghost use Rattle.equality_theory.specs.Said.{AreSaidBy, AreSaid};
+ghost use Rattle.equality_theory.specs.Seen.{IsSetting};
+
+use crate::choices::{Choices, is_bool};
+use atom_table::{AtomTable, CompactAtom};
+use equal_points::Step;
+use literal_steps::{
+    add_choice_steps, add_node_steps, add_pair_step, add_truth_step, choice_steps_are_justified,
+    node_steps_are_justified, sameness_is_justified, truth_is_justified,
+};
+use literals::Literal;
+use scope_stack::Stack;
+use smt_meaning::{Sort, TermId};
+use std::alloc::AllocError;
+use term_store::TermStore;
+
+/// What guides the choice of steps.
+#[derive(Drop)]
+pub(crate) struct Guide {
+    pub(crate) sorts: Vec<Sort>,
+    pub(crate) watched: Vec<bool>,
+    pub(crate) choices: Choices,
+}
+
+/// Adds that a term has a truth value, where the closure looks at it.
+fn add_own(
+    steps: &mut Vec<Step>,
+    watched: &[bool],
+    term: TermId,
+    value: bool,
+) -> Result<(), AllocError>
+    requires { term + 2 < 2 ^ 32 }
+    ensures { OnOk result ((ts : List Tree) → term < length ts → AreSaidBy ts term value steps.old.items → AreSaidBy ts term value steps.new.items) }
+{
+    truth_is_justified();
+    if (term as usize) < watched.len() && watched[term as usize] {
+        add_truth_step(steps, term, value)?;
+        return Ok(());
+    }
+    Ok(())
+}
+
+/// Adds what the truth of a term says of its arguments, where they are no Bools.
+fn add_arguments(
+    steps: &mut Vec<Step>,
+    store: &TermStore,
+    sorts: &[Sort],
+    term: TermId,
+    value: bool,
+) -> Result<(), AllocError>
+    requires within { term < length store.now.trees }
+    requires few { length store.now.trees + 2 < 2 ^ 32 }
+    ensures { OnOk result (AreSaidBy store.now.trees term value steps.old.items → AreSaidBy store.now.trees term value steps.new.items) }
+{
+    node_steps_are_justified();
+    let node = store.node(term);
+    if node.arguments.is_empty() || is_bool(sorts, node.arguments[0]) {
+        return Ok(());
+    }
+    add_node_steps(steps, node.head, node.arguments, value)?;
+    Ok(())
+}
+
+/// Adds what the truth of a condition says of a choice.
+fn add_choice(
+    steps: &mut Vec<Step>,
+    store: &TermStore,
+    place: TermId,
+    condition: TermId,
+    value: bool,
+) -> Result<(), AllocError>
+    requires few { length store.now.trees + 2 < 2 ^ 32 }
+    ensures { OnOk result (AreSaidBy store.now.trees condition value steps.old.items → AreSaidBy store.now.trees condition value steps.new.items) }
+{
+    choice_steps_are_justified();
+    if place >= store.len() {
+        return Ok(());
+    }
+    let node = store.node(place);
+    add_choice_steps(steps, place, node.head, node.arguments, condition, value)?;
+    Ok(())
+}
+
+/// Adds what the truth of a condition says of the choices by it.
+fn add_choices(
+    steps: &mut Vec<Step>,
+    store: &TermStore,
+    choices: &Choices,
+    condition: TermId,
+    value: bool,
+) -> Result<(), AllocError>
+    requires few { length store.now.trees + 2 < 2 ^ 32 }
+    ensures { OnOk result (AreSaidBy store.now.trees condition value steps.old.items → AreSaidBy store.now.trees condition value steps.new.items) }
+{
+    let mut link = choices.newest(condition);
+    while link > 0 {
+        let place = link - 1;
+        add_choice(steps, store, place, condition, value)?;
+        link = choices.before(place);
+    }
+    Ok(())
+}
+
+/// Adds what the truth of a term says.
+fn add_truth(
+    steps: &mut Vec<Step>,
+    store: &TermStore,
+    guide: &Guide,
+    term: TermId,
+    value: bool,
+) -> Result<(), AllocError>
+    requires within { term < length store.now.trees }
+    requires few { length store.now.trees + 2 < 2 ^ 32 }
+    ensures { OnOk result (AreSaidBy store.now.trees term value steps.old.items → AreSaidBy store.now.trees term value steps.new.items) }
+{
+    add_own(steps, &guide.watched, term, value)?;
+    add_arguments(steps, store, &guide.sorts, term, value)?;
+    add_choices(steps, store, &guide.choices, term, value)?;
+    Ok(())
+}
+
+/// The steps of a literal. An `Err` is for want of memory.
+pub(crate) fn say(
+    steps: &mut Vec<Step>,
+    stack: &Stack,
+    marks: &[bool],
+    table: &AtomTable,
+    guide: &Guide,
+    literal: Literal,
+) -> Result<(), AllocError>
+    requires setting { IsSetting stack.now marks.now table.now }
+    requires numbered { literal.atom < length table.now }
+    ensures { OnOk result (AreSaid (signature_of stack.now.frames) stack.now.trees table.now literal steps.new.items) }
+{
+    sameness_is_justified();
+    steps.clear();
+    match table.atom(literal.atom()) {
+        CompactAtom::Truth(term) => {
+            add_truth(steps, stack.terms(), guide, term, literal.is_positive())?;
+            Ok(())
+        }
+        CompactAtom::Same(left, right) => {
+            add_pair_step(steps, left, right, literal.is_positive())?;
+            Ok(())
+        }
+    }
+}
