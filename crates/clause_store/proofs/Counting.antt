@@ -5,7 +5,7 @@ use Rattle.std.proofs.lemmas.List.{length-set, length_push, get_or-set_other, ge
 use Rattle.std.proofs.lemmas.List.Elements.{All-weaker, All-push, All-nil, All-get_or}
 use Rattle.literals.specs.Signed.{Signed, packed}
 use Rattle.clause_store.specs.Entries.{Entry, entry_at}
-use Rattle.clause_store.specs.Watching.{IsListed, IsOwn, IsOnce, IsTidy, IsWatching, SameShape, no_watch}
+use Rattle.clause_store.specs.Watching.{IsListed, IsOwn, IsOnce, SameShape, no_watch}
 use Rattle.clause_store.specs.Sweeps.{State, watching}
 use Rattle.clause_store.specs.Looks.{HasLiteral, AreApart, LooksAt}
 use Rattle.clause_store.specs.declared.lists.Watch.{Watch}

@@ -1,13 +1,13 @@
 -- How often propagation looks at clauses: pairs of a clause and a literal of it that became false.
-use Rattle.std.proofs.Common.{◌≡◌, ℕ, ◌+◌, ◌-◌, ◌<◌, ◌≤◌, true, None, List, [], ◌∷◌, ◌++◌, All, Contains, length, map, take, drop, get_or, subst, sym, ap, ◌∙◌, refl, inl, inr, ◌⊎◌, arith}
+use Rattle.std.proofs.Common.{◌≡◌, ℕ, ◌+◌, ◌-◌, ◌<◌, ◌≤◌, None, List, [], ◌++◌, All, Contains, length, map, take, drop, get_or, subst, sym, ap, ◌∙◌, inl, inr, ◌⊎◌, arith}
 use Rattle.std.proofs.lemmas.List.{length-append, length-map, length-drop, length-take-le, get_or_append_left, get_or-append-add, get_or-map, get_or-drop, get_or-take, get_or_default}
 use Rattle.std.proofs.lemmas.List.Elements.{All-weaker, All-append, All-map, All-nil, All-get_or, Contains-get_or}
 use Rattle.literals.specs.Signed.{Signed, opposite}
-use Rattle.clause_store.specs.Trail.{Assigns, literals}
+use Rattle.clause_store.specs.Trail.{Assigns}
 use Rattle.clause_store.specs.declared.trail.Step.{Step}
 use Rattle.clause_store.specs.Stored.{Kept, IsFalseOn}
 use Rattle.clause_store.specs.Found.{HasKept}
-use Rattle.clause_store.specs.Entries.{Entry, entry_at, zero_literal}
+use Rattle.clause_store.specs.Entries.{Entry, zero_literal}
 use Rattle.clause_store.specs.Watching.{SameShape, Grows, kept_from}
 use Rattle.clause_store.specs.Looks.{HasLiteral, AreApart, LooksAt, Pair, no_pair, NoneTwice, LooksBy}
 use Rattle.clause_store.proofs.Kept.{has_kept}

@@ -1,15 +1,24 @@
 -- How often a store looks at its clauses.
-use Rattle.std.specs.Prelude.{◌≡◌, ℕ, ◌+◌, ◌<◌, ◌≤◌, true, List, All, Contains, length, slice_index_or}
+use Rattle.std.specs.Prelude.{◌≡◌, ℕ, ◌+◌, ◌<◌, ◌≤◌, true, Bool, List, All, Contains, length, slice_index_or}
 use Rattle.literals.specs.Signed.{Signed}
 use Rattle.clause_store.specs.Stored.{Kept, Stored, IsFalseOn}
 use Rattle.clause_store.specs.Found.{HasKept}
 use Rattle.clause_store.specs.declared.trail.Step.{Step}
+use Rattle.clause_store.specs.declared.store.Outcome.{Outcome}
+use Rattle.clause_store.specs.declared.store.Outcome.TheVariants.{Fixpoint, False as Conflict}
 use Rattle.clause_store.specs.Entries.{Entry, entry_at, zero_literal}
 
--- a store together with the count
+-- a store together with the count, how many steps are gone through, and whether its watches are kept up
 pub record Counted : Type 0 where
   pub stored : Stored
   pub looks : ℕ
+  pub settled : ℕ
+  pub watched : Bool
+
+-- at a fixpoint all steps are gone through
+abbrev pub SettlesAll : Counted → Outcome → Type 0
+SettlesAll c Fixpoint = c.settled ≡ length c.stored.trail.steps
+SettlesAll c (Conflict id) = Unit {0}
 
 -- the clause at this place is kept and has the literal
 pub record HasLiteral (es : List Entry) (l : Signed) (i : ℕ) : Type 0 where

@@ -1,6 +1,6 @@
 // Kept clauses, and the literals that are decided or follow from them, by two watched literals a clause; and how often a clause was looked at.
 ghost use Rattle.std.specs.List.Sorted.{IsNonDecreasingBy};
-ghost use Rattle.std.specs.Prelude.{◌≡◌, ℕ, ◌+◌, ◌^◌, ◌<◌, ◌≤◌, true, false, List, [], ◌∷◌, ◌++◌, All, IfSome, IfOk, OnOk, OnErr, Some, length, max, slice_index_or};
+ghost use Rattle.std.specs.Prelude.{◌≡◌, ℕ, ◌+◌, ◌^◌, ◌<◌, ◌≤◌, true, false, List, [], ◌∷◌, ◌++◌, All, IfSome, IfNone, IfOk, drop, OnOk, OnErr, Some, length, max, slice_index_or};
 ghost use Rattle.clause_store.specs.Trail.{Assigns, IsOpen, StatusOf, up_to};
 ghost use Rattle.clause_store.specs.Each.{EachAfter};
 ghost use Rattle.clause_store.specs.TrailInvariant.{IsFresh, IsDecided};
@@ -8,6 +8,7 @@ ghost use Rattle.literals.specs.Signed.{Signed, opposite};
 ghost use Rattle.clause_store.specs.Stored.{Kept, HaveOwnIds, IsJustified, Propagated, without, up_to_level};
 ghost use Rattle.clause_store.specs.Found.{HasKept, HasLevel, Outcomes};
 ghost use Rattle.clause_store.specs.Entries.{risen};
+ghost use Rattle.clause_store.specs.Looks.{LooksBy, SettlesAll};
 
 use crate::choose::{keep_up, make_room};
 use crate::cut::cut_to;
@@ -38,6 +39,7 @@ pub struct CountedStore {
 }
 
 impl Model for CountedStore {
+    ghost use Rattle.std.specs.Prelude.{not};
     ghost use Rattle.clause_store.specs.Looks.{Counted};
 
     ghost Value = { Counted };
@@ -45,7 +47,7 @@ impl Model for CountedStore {
     ghost use Rattle.clause_store.specs.Watching.{kept_from};
     ghost use Rattle.clause_store.specs.Keeping.{IsKept};
 
-    ghost view = { λ s. record { stored = record { clauses = kept_from 0 s.rows.entries; trail = s.trail }; looks = s.rows.looks } };
+    ghost view = { λ s. record { stored = record { clauses = kept_from 0 s.rows.entries; trail = s.trail }; looks = s.rows.looks; settled = s.head; watched = not s.loose } };
 
     ghost invariant = { λ s. IsKept s.rows.entries s.lists.items s.trail s.head s.saves.items s.waiting.items s.loose };
 }
@@ -68,6 +70,9 @@ impl CountedStore {
     fn by_watches(&mut self) -> Option<Outcome>
         ensures reached { Propagated self.old.stored self.new.stored }
         ensures looks { self.old.looks ≤ self.new.looks }
+        ensures settled { IfSome result (SettlesAll self.new) }
+        ensures gives_up { IfNone result (self.new.watched ≡ false) }
+        ensures bounded { self.new.watched ≡ true → LooksBy (drop self.old.settled self.new.stored.trail.steps) self.old.stored.clauses self.old.looks self.new.looks }
         ensures outcome { IfSome result (λ o. Outcomes self.new.stored.trail.steps self.new.stored.clauses o) }
     {
         if self.loose {
@@ -98,6 +103,7 @@ impl CountedStore {
     fn by_scan(&mut self) -> Outcome
         ensures reached { Propagated self.old.stored self.new.stored }
         ensures looks { self.old.looks ≤ self.new.looks }
+        ensures watched { self.new.watched ≡ self.old.watched }
         ensures outcome { Outcomes self.new.stored.trail.steps self.new.stored.clauses result }
     {
         scan(&mut self.rows, &mut self.trail)
@@ -106,6 +112,8 @@ impl CountedStore {
     pub fn propagate(&mut self) -> Outcome
         ensures reached { Propagated self.old.stored self.new.stored }
         ensures looks { self.old.looks ≤ self.new.looks }
+        ensures settled { self.new.watched ≡ true → SettlesAll self.new result }
+        ensures bounded { self.new.watched ≡ true → LooksBy (drop self.old.settled self.new.stored.trail.steps) self.old.stored.clauses self.old.looks self.new.looks }
         ensures outcome { Outcomes self.new.stored.trail.steps self.new.stored.clauses result }
     {
         match self.by_watches() {
@@ -119,6 +127,7 @@ impl CountedStore {
         requires is_open { IsOpen self.old.stored.trail.steps literal }
         requires room { self.old.stored.trail.depth + 1 < 2 ^ 32 }
         ensures decided { let step : Step = record { literal = literal; depth = self.old.stored.trail.depth + 1; reason = None } in self.new.stored ≡ record self.old.stored { trail = record { steps = self.old.stored.trail.steps ++ step ∷ []; atoms = self.old.stored.trail.atoms; depth = self.old.stored.trail.depth + 1 } } }
+        ensures settled { self.new.settled ≡ self.old.settled }
         ensures looks { self.new.looks ≡ self.old.looks }
     {
         let rows = self.rows.len() as u32;
@@ -236,7 +245,7 @@ impl CountedStore {
     }
 
     pub fn new(alloc: Global) -> CountedStore
-        ensures { result ≡ record { stored = record { clauses = []; trail = record { steps = []; atoms = 0; depth = 0 } }; looks = 0 } }
+        ensures { result ≡ record { stored = record { clauses = []; trail = record { steps = []; atoms = 0; depth = 0 } }; looks = 0; settled = 0; watched = true } }
     {
         CountedStore {
             alloc,
@@ -376,6 +385,20 @@ impl CountedStore {
         ensures { result ≡ self.now.looks }
     {
         self.rows.looks()
+    }
+
+    // How many steps propagation has gone through.
+    pub fn settled(&self) -> usize
+        ensures { result ≡ self.now.settled }
+    {
+        self.head
+    }
+
+    // Whether the watches are kept up; propagation scans where they aren't.
+    pub fn is_watched(&self) -> bool
+        ensures { result ≡ self.now.watched }
+    {
+        !self.loose
     }
 
     fn row_of(&self, id: u64) -> u32

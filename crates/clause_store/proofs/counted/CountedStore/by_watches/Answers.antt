@@ -61,3 +61,19 @@ returns-in-False-clause-outcome c =
     let gives : DriveGives i.trail.atoms i.trail.depth i.waiting.items p p' i.head d.result.1 (FalseClause c.in-False.row) =
     subst (λ r. DriveGives i.trail.atoms i.trail.depth i.waiting.items p p' i.head d.result.1 r) c.in-False.is (rw (c.deref_mut.ensures.value, c.deref.ensures.value) at d.ensures.gives) in
     false_kept p' c.in-False.row gives.1
+
+pub returns-in-Fixpoint-clause-settled : goal.returns-in-Fixpoint-clause-settled
+returns-in-Fixpoint-clause-settled c =
+    let i = c.self.inside in
+    let d = c.drive-reached in
+    let p : Parts = record { entries = i.rows.entries; lists = i.lists.items; steps = i.trail.steps } in
+    let p' : Parts = record { entries = d.new.rows.entries; lists = d.new.lists; steps = d.new.trail.steps } in
+    let gives : DriveGives i.trail.atoms i.trail.depth i.waiting.items p p' i.head d.result.1 Fixpoint =
+    subst (λ r. DriveGives i.trail.atoms i.trail.depth i.waiting.items p p' i.head d.result.1 r) c.in-Fixpoint.is (rw (c.deref_mut.ensures.value, c.deref.ensures.value) at d.ensures.gives) in
+    gives.2
+
+pub returns-in-Fixpoint-clause-bounded : goal.returns-in-Fixpoint-clause-bounded
+returns-in-Fixpoint-clause-bounded c = λ w. rw (← c.self.view_is) c.drive-reached.ensures.looks
+
+pub returns-in-False-clause-bounded : goal.returns-in-False-clause-bounded
+returns-in-False-clause-bounded c = λ w. rw (← c.self.view_is) c.drive-reached.ensures.looks
