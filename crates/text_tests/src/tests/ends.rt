@@ -114,7 +114,7 @@ fn reads_short_and_goes_on_after_a_fault(rt: HostRuntime) -> Result<(), Fail> {
 }
 
 /// A writer that takes so many bytes a call, and fails there.
-fn torn(alloc: Global, step: usize, cut: Option<usize>, unflushed: Option<usize>) -> Torn {
+fn torn_writer(alloc: Global, step: usize, cut: Option<usize>, unflushed: Option<usize>) -> Torn {
     Torn {
         got: Vec::new(alloc),
         step,
@@ -144,7 +144,7 @@ static TEARS: [(
 fn writes_on_until_a_fault(rt: HostRuntime) -> Result<(), Fail> {
     for row in TEARS.iter() {
         let (step, cut, unflushed, want, got, flushes) = *row;
-        let mut writer = torn(rt.alloc(), step, cut, unflushed);
+        let mut writer = torn_writer(rt.alloc(), step, cut, unflushed);
         let log = four_puts(rt.alloc(), &mut WriteSink::new(&mut writer))?;
         assert_eq!(rt; log.as_slice(), want);
         assert_eq!(rt; writer.got.as_slice(), got);

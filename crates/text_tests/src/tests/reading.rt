@@ -316,6 +316,33 @@ fn every_byte_in_quotes(rt: HostRuntime) -> Result<(), Fail> {
     Ok(())
 }
 
+static SETTLED: [(&'static [u8], &'static [u8], Fault); 24] = [
+    (b"", b"", None),
+    (b" ;)", b"", None),
+    (b"a", b"", None),
+    (b"a ", b"Sa, ", None),
+    (b"a;", b"Sa, ", None),
+    (b"a(", b"Sa, ", None),
+    (b"1)", b"N1, ", Some((FaultKind::Closing, 1))),
+    (b"1", b"", None),
+    (b"1a", b"", Some((FaultKind::Character, 0))),
+    (b"00", b"", Some((FaultKind::Character, 0))),
+    (b"(1a", b"", Some((FaultKind::Character, 1))),
+    (b"1.", b"", None),
+    (b"#", b"", None),
+    (b"#xg", b"", Some((FaultKind::Character, 0))),
+    (b":", b"", None),
+    (b": ", b"", Some((FaultKind::Character, 0))),
+    (b"\"a\"", b"", None),
+    (b"\"a\" ", b"Ta, ", None),
+    (b"\"a\x01", b"", Some((FaultKind::Character, 2))),
+    (b"|a|", b"Sa, ", None),
+    (b"(a)", b"(Sa,) ", None),
+    (b"((a)", b"", None),
+    (b"(\"a\"", b"", None),
+    (b")", b"", Some((FaultKind::Closing, 0))),
+];
+
 // What is read while more bytes may follow.
 #[test]
 fn answers_as_soon_as_settled(rt: HostRuntime) -> Result<(), Fail> {
