@@ -1,5 +1,5 @@
 -- A call that changes nothing that contracts see.
-use Rattle.std.proofs.Common.{◌≡◌, ◌≤◌, List, [], length, refl, subst, arith}
+use Rattle.std.proofs.Common.{◌≡◌, ◌≤◌, [], length, refl, subst, arith}
 use Rattle.std.proofs.lemmas.List.{append-nil}
 use Rattle.search_port.specs.State.{TheoryState}
 use Rattle.search_port.specs.Spending.{Spending}

@@ -1,6 +1,6 @@
 -- Steps that the truth of a term stands for.
-use Rattle.std.proofs.Common.{◌≡◌, ℕ, ◌+◌, ◌<◌, Bool, true, false, not, nat_eq, List, [], ◌∷◌, ◌++◌, length, All, refl, sym, ap, ◌∙◌, subst, arith}
-use Rattle.std.specs.Prelude.{if◌then◌else◌, slice_index_or}
+use Rattle.std.proofs.Common.{◌≡◌, ℕ, ◌+◌, ◌<◌, Bool, true, false, not, nat_eq, List, [], ◌∷◌, ◌++◌, length, All, subst, arith}
+use Rattle.std.specs.Prelude.{if◌then◌else◌}
 use Rattle.std.proofs.lemmas.List.Elements.{All-nil, All-cons, All-append, All-head, All-tail}
 use Rattle.literals.specs.Signed.{Signed}
 use Rattle.smt_meaning.specs.declared.clauses.Atom.{Atom}
@@ -13,7 +13,6 @@ use Rattle.smt_meaning.specs.Term.{Tree, tree_at}
 use Rattle.term_store.specs.Terms.{tree_with}
 use Rattle.search_port.specs.State.{atom_at}
 use Rattle.equal_points.specs.declared.step.Step.{Step}
-use Rattle.congruence.specs.Reading.{truth_number}
 use Rattle.point_closure.specs.Whole.{IsWithin}
 use Rattle.stack_atoms.specs.Atoms.{is_bool_at}
 use Rattle.literal_steps.specs.Steps.{equal_terms, truth_step, pair_step, neighbours_equal, all_equal, pair_steps, equality_steps, node_steps, branch_step, choice_steps}

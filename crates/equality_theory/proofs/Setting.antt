@@ -1,5 +1,5 @@
 -- The atoms of a setting, and what is broken in it.
-use Rattle.std.proofs.Common.{◌≡◌, ℕ, ◌+◌, ◌<◌, ◌≤◌, ◌^◌, Bool, true, false, List, length, All, refl, sym, ap, ◌∙◌, subst, inl, inr, arith}
+use Rattle.std.proofs.Common.{◌≡◌, ℕ, ◌<◌, Bool, true, false, List, length, All, sym, subst, inl, inr}
 use Rattle.std.specs.Prelude.{slice_index_or}
 use Rattle.std.proofs.lemmas.Bool.{cases_lt}
 use Rattle.std.proofs.lemmas.List.{get_or_past}
@@ -10,10 +10,8 @@ use Rattle.smt_meaning.specs.declared.clauses.Atom.TheVariants.{Truth, AtMost, S
 use Rattle.smt_meaning.specs.Stack.{signature_of}
 use Rattle.smt_meaning.specs.StackCommand.{Stack}
 use Rattle.atom_table.specs.Numbers.{IsAt}
-use Rattle.search_port.specs.declared.budget.Lemma.{Lemma}
-use Rattle.search_port.specs.State.{TheoryState, atom_at}
-use Rattle.search_port.specs.Calls.{IsConflict}
-use Rattle.truth_theory.specs.Flat.{flat, SaysTheSame, FlatSaysTheSame}
+use Rattle.search_port.specs.State.{atom_at}
+use Rattle.flat_stack.specs.Flat.{flat, SaysTheSame, FlatSaysTheSame}
 use Rattle.congruence.specs.declared.congruence.Congruence.{Congruence}
 use Rattle.congruence.specs.Recorded.{IsConflict as IsClash}
 use Rattle.stack_atoms.specs.Parts.{IsMarked}

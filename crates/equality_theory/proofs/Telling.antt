@@ -2,12 +2,11 @@
 use Rattle.std.proofs.Common.{◌≡◌, ℕ, ◌+◌, ◌<◌, ◌≤◌, Bool, true, false, not, List, [], ◌∷◌, ◌++◌, length, take, drop, min, All, Contains, refl, sym, ap, ◌∙◌, subst, inl, inr, arith}
 use Rattle.std.specs.Prelude.{slice_index_or, replicate}
 use Rattle.std.proofs.lemmas.Bool.{cases_lt}
-use Rattle.std.proofs.lemmas.List.{length-append, length-take, length-take-le, length_push, get_or_append_left, get_or_push, get_or-take, take-take, take-append-le, take_at, take_all, take-append-drop}
-use Rattle.std.proofs.lemmas.List.Elements.{All-nil, All-weaker, All-push, All-take, All-append, Contains-append_left, Contains-push_cases}
+use Rattle.std.proofs.lemmas.List.{length-append, length-take, length_push, get_or_append_left, get_or_push, get_or-take, take-take, take-append-le, take_at, take-append-drop}
+use Rattle.std.proofs.lemmas.List.Elements.{All-nil, All-weaker, All-push, All-take, Contains-append_left, Contains-push_cases}
 use Rattle.literals.specs.Signed.{Signed, opposite}
 use Rattle.smt_meaning.specs.declared.clauses.Atom.{Atom}
 use Rattle.smt_meaning.specs.Declaration.{Declaration}
-use Rattle.smt_meaning.specs.Term.{Tree}
 use Rattle.smt_meaning.specs.Stack.{signature_of}
 use Rattle.smt_meaning.specs.StackCommand.{Stack}
 use Rattle.search_port.specs.State.{IsOpenIn, IsConsistent}

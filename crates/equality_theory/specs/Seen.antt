@@ -1,11 +1,11 @@
 -- What contracts see of the theory of equality.
-use Rattle.std.specs.Prelude.{ℕ, ◌+◌, ◌<◌, ◌^◌, Bool, true, List, length}
+use Rattle.std.specs.Prelude.{◌+◌, ◌<◌, ◌^◌, Bool, true, List, length}
 use Rattle.literals.specs.Signed.{Signed}
 use Rattle.smt_meaning.specs.declared.clauses.Atom.{Atom}
 use Rattle.smt_meaning.specs.declared.clauses.Atom.TheVariants.{Truth, AtMost, Same}
 use Rattle.smt_meaning.specs.StackCommand.{Stack}
 use Rattle.search_port.specs.State.{TheoryState}
-use Rattle.truth_theory.specs.Flat.{flat}
+use Rattle.flat_stack.specs.Flat.{flat}
 use Rattle.stack_atoms.specs.OfStack.{AreOfStack}
 
 -- the levels of a stack are read as one

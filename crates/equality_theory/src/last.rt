@@ -13,7 +13,7 @@ use scope_stack::Stack;
 use search_port::Judged;
 use smt_meaning::Sort;
 use std::alloc::{AllocError, Global};
-use truth_theory::flat_says_the_same;
+use flat_stack::flat_says_the_same;
 
 /// Tables for what was told, or a clause that it breaks. An `Err` is for want of memory.
 pub(crate) fn judge(

@@ -15,7 +15,7 @@ use literals::Literal;
 use scope_stack::Stack;
 use search_port::{Asserted, Cause, Lemma};
 use std::alloc::{AllocError, Global};
-use truth_theory::flat_says_the_same;
+use flat_stack::flat_says_the_same;
 
 /// The literals, oldest first, and how many steps were recorded before each.
 #[derive(Drop)]

@@ -84,7 +84,7 @@ module _ (same : FlatSaysTheSame) (declared : SymbolsAreDeclared) (s : Stack) (m
     no_pair = p;
   }
 
-  truth_is : (I : Interpretation) (n p : ℕ) → IsAt table n (Truth p) → truth (reading_of s table) I n ≡ truth_of (value I (tree_at s.trees p))
+  pub truth_is : (I : Interpretation) (n p : ℕ) → IsAt table n (Truth p) → truth (reading_of s table) I n ≡ truth_of (value I (tree_at s.trees p))
   truth_is I n p h = ap (atom_true s.trees I) (h.1 (Truth 0))
 
   -- ---- nodes

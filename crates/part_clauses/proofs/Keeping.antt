@@ -147,3 +147,7 @@ theory_same h o p e f = let both : Theory o ≡ Theory p = sym e ∙ f in cc
 
 pub truth_same : (p q : ℕ) → Truth p ≡ Truth q → p ≡ q
 truth_same p q e = cc
+
+pub any_ok : (r : Result ⊤ AllocError) (P : Type 0) → P → OnOk r P
+any_ok (Ok u) P p = p
+any_ok (Err e) P p = tt

@@ -2,3 +2,4 @@ pub mod Keeping
 pub mod Numbering
 pub mod Following
 pub mod Forcing
+pub mod Comparing

@@ -1,5 +1,5 @@
 -- The clauses of numbered terms.
-use Rattle.std.specs.Prelude.{◌≡◌, ℕ, ◌<◌, List, [], ◌∷◌, All, Contains}
+use Rattle.std.specs.Prelude.{◌≡◌, ℕ, ◌<◌, List, ◌++◌, [], ◌∷◌, All, Contains}
 use Rattle.clause_store.specs.Stored.{Kept}
 use Rattle.smt_meaning.specs.declared.terms.Operator.{Operator}
 use Rattle.smt_meaning.specs.declared.terms.Head.{Head}
@@ -19,6 +19,10 @@ AreNumbers table [] [] = Unit {0}
 AreNumbers table (a ∷ atoms) (n ∷ ns) = IsAt table n a × AreNumbers table atoms ns
 AreNumbers table [] (n ∷ ns) = ⊥
 AreNumbers table (a ∷ atoms) [] = ⊥
+
+-- the numbers of these atoms come after those of others
+abbrev pub AddsNumbers : List Atom → List Atom → List ℕ → List ℕ → Type 0
+AddsNumbers table atoms old new = (before : List Atom) → AreNumbers table before old → AreNumbers table (before ++ atoms) new
 
 -- the clauses of a node with this operator, of Bools at these places, are kept
 pub record HasNode (table : List Atom) (clauses : List Kept) (n : ℕ) (o : Operator) (arguments : List ℕ) : Type 0 where

@@ -3,6 +3,8 @@ ghost use Rattle.std.specs.Prelude.{◌≡◌, ℕ, ◌<◌, length, All, Contai
 ghost use Rattle.clause_store.specs.Stored.{Kept};
 ghost use Rattle.smt_meaning.specs.declared.clauses.Atom.TheVariants.{Truth};
 ghost use Rattle.smt_meaning.specs.declared.terms.Head.TheVariants.{Theory};
+ghost use Rattle.smt_meaning.specs.declared.terms.Operator.TheVariants.{Distinct};
+ghost use Rattle.equality_clauses.specs.Laws.{of_pairs};
 ghost use Rattle.smt_meaning.specs.Term.{tree_at};
 ghost use Rattle.term_store.specs.Terms.{tree_with};
 ghost use Rattle.search_port.specs.State.{truth_atoms};
@@ -12,10 +14,13 @@ ghost use Rattle.part_clauses.specs.First.{reading_of, IsBegun};
 ghost use Rattle.part_clauses.specs.Numbers.{AreNumbers, HasNode, HasTerm, HasPart};
 
 use crate::keep::keep_all;
-use crate::numbers::truth_numbers;
+use crate::numbers::{pair_numbers, truth_numbers};
 use atom_table::CompactAtom;
 use clause_form::{Clauses, Room, node_clauses_hold, put_node};
 use clause_store::store::Store;
+use equality_clauses::{
+    Lists, comparison_is_over, comparison_is_tied, interpretation_agrees, put_comparison,
+};
 use scope_stack::Stack;
 use smt_meaning::{Head, Operator, TermId};
 use sort_laws::symbols_are_declared;
@@ -30,6 +35,7 @@ struct Space {
     numbers: Vec<u32>,
     clauses: Clauses,
     room: Room,
+    lists: Lists,
 }
 
 /// Keeps the clauses of a node, of arguments whose truths have these numbers.
@@ -68,7 +74,65 @@ fn keep_numbered(
     keep_all(store, &space.clauses)
 }
 
-/// Keeps the clauses of a node, if its arguments are Bools.
+/// Keeps the clauses of a `distinct`, of arguments whose equalities have these numbers.
+fn keep_pairs(
+    stack: &Stack,
+    atoms: &StackAtoms,
+    space: &mut Space,
+    store: &mut Store,
+    number: u32,
+    id: TermId,
+    arguments: &[TermId],
+) -> Result<(), AllocError>
+    requires parts { AreOfStack stack.now atoms.now.marks.items atoms.now.table }
+    requires number { IsAt atoms.now.table number (Truth id) }
+    requires node { tree_at stack.now.trees id ≡ tree_with stack.now.trees (Theory Distinct) arguments.now }
+    requires numbers { AreNumbers atoms.now.table (of_pairs arguments.now) space.old.numbers.items }
+    requires begun { IsBegun (reading_of stack.now atoms.now.table) store.old }
+    ensures begun { OnOk result (IsBegun (reading_of stack.now atoms.now.table) store.new) }
+    ensures stay { (c : Kept) → Contains store.old.clauses c → Contains store.new.clauses c }
+{
+    comparison_is_over();
+    comparison_is_tied();
+    interpretation_agrees();
+    symbols_are_declared();
+    flat_says_the_same();
+    space.clauses.clear();
+    put_comparison(
+        &mut space.clauses,
+        &mut space.lists,
+        Operator::Distinct,
+        number,
+        &space.numbers,
+    )?;
+    keep_all(store, &space.clauses)
+}
+
+/// Keeps the clauses of a `distinct`, if the equalities of its arguments are numbered.
+fn keep_distinct(
+    stack: &Stack,
+    atoms: &StackAtoms,
+    space: &mut Space,
+    store: &mut Store,
+    number: u32,
+    id: TermId,
+    arguments: &[TermId],
+) -> Result<(), AllocError>
+    requires parts { AreOfStack stack.now atoms.now.marks.items atoms.now.table }
+    requires number { IsAt atoms.now.table number (Truth id) }
+    requires node { tree_at stack.now.trees id ≡ tree_with stack.now.trees (Theory Distinct) arguments.now }
+    requires begun { IsBegun (reading_of stack.now atoms.now.table) store.old }
+    ensures begun { OnOk result (IsBegun (reading_of stack.now atoms.now.table) store.new) }
+    ensures stay { (c : Kept) → Contains store.old.clauses c → Contains store.new.clauses c }
+{
+    let all = pair_numbers(&atoms.table, arguments, &mut space.numbers)?;
+    if all {
+        return keep_pairs(stack, atoms, space, store, number, id, arguments);
+    }
+    Ok(())
+}
+
+/// Keeps the clauses of a node, over the truths of its arguments or, of a `distinct`, over their equalities, where these are numbered.
 fn keep_node(
     stack: &Stack,
     atoms: &StackAtoms,
@@ -92,7 +156,10 @@ fn keep_node(
     if all {
         return keep_numbered(stack, atoms, space, store, number, id, operator, arguments);
     }
-    Ok(())
+    match operator {
+        Operator::Distinct => keep_distinct(stack, atoms, space, store, number, id, arguments),
+        _ => Ok(()),
+    }
 }
 
 /// Keeps the clauses of a Bool, whose truth has this number.
@@ -167,6 +234,7 @@ pub(crate) fn keep_parts(
         numbers: Vec::new(alloc),
         clauses: Clauses::new(alloc),
         room: Room::new(alloc),
+        lists: Lists::new(alloc),
     };
     for number in 0..atoms.table.len() {
         keep_part(stack, atoms, &mut space, store, number as u32)?;

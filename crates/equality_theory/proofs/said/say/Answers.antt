@@ -1,4 +1,4 @@
-use Rattle.std.proofs.Common.{◌≡◌, ◌+◌, ◌<◌, ◌∷◌, ◌++◌, [], Bool, length, sym, ap, ◌∙◌, subst, arith}
+use Rattle.std.proofs.Common.{◌≡◌, ◌<◌, ◌∷◌, ◌++◌, [], Bool, length, sym, ap, ◌∙◌, subst, arith}
 use Rattle.std.specs.Prelude.{List}
 use Rattle.smt_meaning.specs.declared.clauses.Atom.TheVariants.{Same}
 use Rattle.smt_meaning.specs.Term.{Tree}

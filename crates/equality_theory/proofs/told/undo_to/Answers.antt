@@ -1,4 +1,4 @@
-use Rattle.std.proofs.Common.{rules, ◌≡◌, ◌<◌, length, take, sym, subst, arith}
+use Rattle.std.proofs.Common.{rules, ◌≡◌, ◌<◌, length, take, sym, subst}
 use Rattle.std.specs.Prelude.{ℕ, List, slice_index_or}
 use Rattle.literals.specs.Signed.{Signed}
 use Rattle.equality_theory.specs.Told.{IsTold}
