@@ -70,7 +70,7 @@ fn start(alloc: Global, congruence: Congruence) -> Told
 }
 
 impl<'s> EqualityTheory<'s> {
-    /// Nothing is told of the parts of a stack and their atoms. An `Err` is for want of memory, which no store of so many terms leaves.
+    /// Nothing is told of the parts of a stack and their atoms. An `Err` is for want of memory; a stack of 2^32 - 3 terms or more leaves none.
     pub fn new(
         alloc: Global,
         stack: &'s Stack,

@@ -1,6 +1,5 @@
-use Rattle.std.proofs.Common.{◌≡◌, ◌<◌, ◌≤◌, ◌^◌, ℕ, List, subst, sym, length, All, arith}
+use Rattle.std.proofs.Common.{◌<◌, ◌≤◌, ◌^◌, subst, sym, length, All, arith}
 use Rattle.std.proofs.lemmas.List.Elements.{All-weaker}
-use Rattle.literals.specs.Signed.{Signed}
 use Rattle.equality_clauses.specs.Laws.{of_pairs}
 use Rattle.search_port.specs.State.{Reading}
 use Rattle.part_clauses.specs.First.{reading_of, IsBegun, IsClause}

@@ -1,4 +1,4 @@
-use Rattle.std.proofs.Common.{rules, ◌≡◌, true, ◌++◌, ◌∷◌, [], List, ℕ, subst, sym, ap, ◌∙◌, refl, append_assoc}
+use Rattle.std.proofs.Common.{rules, ◌≡◌, true, ◌++◌, [], List, ℕ, subst, sym, ap, ◌∙◌, refl, append_assoc}
 use Rattle.std.proofs.lemmas.List.{append-nil}
 use Rattle.smt_meaning.specs.declared.clauses.Atom.{Atom}
 use Rattle.equality_clauses.specs.Laws.{of_first, of_pairs}
