@@ -29,7 +29,7 @@ use theory_port::Verdict;
 use flat_stack::flat_says_the_same;
 
 /// Searches from the first clauses on: a model of all of them is one of the assertions, where the empty clause follows, they have none, and where the search ends without an answer, its worker shows why.
-pub fn search<T: Theory>(
+pub(crate) fn search<T: Theory>(
     alloc: Global,
     stack: &Stack,
     settings: &Settings,

@@ -2,7 +2,8 @@
 #![tactic(auto)]
 
 mod decide;
+mod decider;
 mod shown;
 mod still;
 
-pub use decide::search;
+pub use decider::Alone;
