@@ -17,6 +17,7 @@ use atom_table::AtomTable;
 use cdcl_core::fresh_stands;
 use cdcl_core::solve::{Outcome, solve};
 use clause_store::store::Store;
+use flat_stack::flat_says_the_same;
 use scope_stack::Stack;
 use search_order::Order;
 use search_port::{
@@ -26,7 +27,6 @@ use smt_meaning::{Cause, Settings};
 use std::alloc::{AllocError, Global};
 use term_laws::{tables_interpret, value_has_its_sort};
 use theory_port::Verdict;
-use flat_stack::flat_says_the_same;
 
 /// Searches from the first clauses on: a model of all of them is one of the assertions, where the empty clause follows, they have none, and where the search ends without an answer, its worker shows why.
 pub(crate) fn search<T: Theory>(

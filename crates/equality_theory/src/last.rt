@@ -7,13 +7,13 @@ ghost use Rattle.equality_theory.specs.Told.{IsTold, IsTheory};
 
 use crate::told::Told;
 use atom_table::AtomTable;
+use flat_stack::flat_says_the_same;
 use last_check::last_check;
 use literal_steps::atoms_are_declared;
 use scope_stack::Stack;
 use search_port::Judged;
 use smt_meaning::Sort;
 use std::alloc::{AllocError, Global};
-use flat_stack::flat_says_the_same;
 
 /// Tables for what was told, or a clause that it breaks. An `Err` is for want of memory.
 pub(crate) fn judge(

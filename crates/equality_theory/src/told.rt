@@ -10,12 +10,12 @@ use crate::said::{Guide, say};
 use atom_table::AtomTable;
 use congruence::Congruence;
 use equal_points::Step;
+use flat_stack::flat_says_the_same;
 use literal_steps::{atoms_are_declared, clash_is_false_clause, lemma_of, record_all};
 use literals::Literal;
 use scope_stack::Stack;
 use search_port::{Asserted, Cause, Lemma};
 use std::alloc::{AllocError, Global};
-use flat_stack::flat_says_the_same;
 
 /// The literals, oldest first, and how many steps were recorded before each.
 #[derive(Drop)]

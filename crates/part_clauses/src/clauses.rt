@@ -13,6 +13,7 @@ use assertion_form::node_clauses_are_renamed;
 use atom_table::CompactAtom;
 use clause_form::node_clauses_hold;
 use clause_store::store::Store;
+use flat_stack::flat_says_the_same;
 use forced_clauses::node_clauses_force;
 use literals::Literal;
 use scope_stack::{Assertion, Stack};
@@ -20,7 +21,6 @@ use smt_meaning::TermId;
 use sort_laws::symbols_are_declared;
 use stack_atoms::StackAtoms;
 use std::alloc::{AllocError, Global};
-use flat_stack::flat_says_the_same;
 
 /// Keeps the clause that a term is true that is asserted.
 fn keep_assertion(
