@@ -1,5 +1,6 @@
 //! The decider.
 use crate::decide::search;
+use equality_chords::chords;
 use equality_theory::EqualityTheory;
 use part_clauses::part_clauses;
 use scope_stack::Stack;
@@ -27,8 +28,9 @@ impl Decider for Alone {
         stack: &Stack,
         settings: &Settings,
     ) -> Result<Verdict, AllocError> {
-        let atoms = numbered(alloc, stack)?;
-        let mut store = part_clauses(alloc, stack, &atoms)?;
+        let mut atoms = numbered(alloc, stack)?;
+        let triangles = chords(alloc, stack, &mut atoms)?;
+        let mut store = part_clauses(alloc, stack, &atoms, &triangles)?;
         let sorts = atoms.sorts.to_vec(alloc)?;
         let mut theory = EqualityTheory::new(alloc, stack, &atoms.marks, sorts, &atoms.table)?;
         search(

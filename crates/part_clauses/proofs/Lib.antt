@@ -3,3 +3,4 @@ pub mod Numbering
 pub mod Following
 pub mod Forcing
 pub mod Comparing
+pub mod Triangular

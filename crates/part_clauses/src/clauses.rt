@@ -9,10 +9,12 @@ ghost use Rattle.part_clauses.specs.First.{reading_of, IsAsserted, IsBegun, IsFi
 
 use crate::keep::keep;
 use crate::nodes::keep_parts;
+use crate::triangles::keep_triangles;
 use assertion_form::node_clauses_are_renamed;
 use atom_table::CompactAtom;
 use clause_form::node_clauses_hold;
 use clause_store::store::Store;
+use equality_chords::Triangle;
 use flat_stack::flat_says_the_same;
 use forced_clauses::node_clauses_force;
 use literals::Literal;
@@ -66,8 +68,13 @@ fn keep_assertions(
     Ok(())
 }
 
-/// The clauses that a search begins with: they force those of each part, and for each assertion there is the clause that it is true.
-pub fn part_clauses(alloc: Global, stack: &Stack, atoms: &StackAtoms) -> Result<Store, AllocError>
+/// The clauses that a search begins with: they force those of each part, and for each assertion there is the clause that it is true. Of each triangle that is one, two equalities give the third.
+pub fn part_clauses(
+    alloc: Global,
+    stack: &Stack,
+    atoms: &StackAtoms,
+    triangles: &[Triangle],
+) -> Result<Store, AllocError>
     requires { AreOfStack stack.now atoms.now.marks.items atoms.now.table }
     ensures { IfOk result (λ store. IsFirst stack.now atoms.now.table store) }
 {
@@ -77,6 +84,7 @@ pub fn part_clauses(alloc: Global, stack: &Stack, atoms: &StackAtoms) -> Result<
     node_clauses_are_renamed();
     let mut store = Store::new(alloc);
     store.reserve(atoms.table.len() as u32)?;
+    keep_triangles(stack, atoms, triangles, &mut store)?;
     keep_parts(alloc, stack, atoms, &mut store)?;
     keep_assertions(stack, stack.assertions(), atoms, &mut store)?;
     Ok(store)

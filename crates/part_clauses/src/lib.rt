@@ -5,5 +5,6 @@ mod clauses;
 mod keep;
 mod nodes;
 mod numbers;
+mod triangles;
 
 pub use clauses::part_clauses;

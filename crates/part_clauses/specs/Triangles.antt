@@ -1,0 +1,16 @@
+-- Equalities of two terms, and when two give a third.
+use Rattle.std.specs.Prelude.{◌≡◌, ℕ, ◌<◌, List, length}
+use Rattle.smt_meaning.specs.declared.values.Value.{Value}
+use Rattle.smt_meaning.specs.declared.clauses.Atom.{Atom}
+use Rattle.smt_meaning.specs.Term.{Tree, Interpretation, tree_at, value, same_value}
+use Rattle.smt_meaning.specs.Clause.{atom_true}
+use Rattle.search_port.specs.State.{atom_at}
+
+-- the atom of this number is true exactly where the terms at these two places have one value
+pub record IsEquality (trees : List Tree) (table : List Atom) (n i j : ℕ) : Type 0 where
+  pub within : n < length table
+  pub says : (I : Interpretation) → atom_true trees I (atom_at table n) ≡ same_value (value I (tree_at trees i)) (value I (tree_at trees j))
+
+-- whatever values the places have: where the first two pairs have one value each, so has the third
+abbrev pub Joins : ℕ → ℕ → ℕ → ℕ → ℕ → ℕ → Type 0
+Joins a b c d x y = (v : ℕ → Value) → v a ≡ v b → v c ≡ v d → v x ≡ v y
