@@ -15,8 +15,7 @@ def write(name, lines):
         out.write('(set-option :print-success false)\n(set-logic QF_UF)\n' + '\n'.join(lines) + '\n')
 def chain(n):
     # a = f^n(a) and a = f^(n+1)(a), so a = f(a)
-    lines = ['(declare-sort S 0)', '(declare-const a S)', '(declare-fun f (S) S)', '(define-fun t0 () S a)']
-    lines = lines[:3] + ['(declare-const c%d S)' % k for k in range(n + 2)] + ['(assert (= c0 a))']
+    lines = ['(declare-sort S 0)', '(declare-const a S)', '(declare-fun f (S) S)'] + ['(declare-const c%d S)' % k for k in range(n + 2)] + ['(assert (= c0 a))']
     lines += ['(assert (= c%d (f c%d)))' % (k + 1, k) for k in range(n + 1)]
     return lines + ['(assert (= c%d a))' % n, '(assert (= c%d a))' % (n + 1), '(assert (not (= a (f a))))', '(check-sat)']
 def nested(n):
@@ -67,7 +66,7 @@ def small(n):
             lines.append(r.choice(['(assert (= a%d a%d))' % (s, t), '(assert (= (f a%d) a%d))' % (s, t), '(assert (not (= (f (f a%d)) a%d)))' % (s, t), '(assert (or (= a%d a%d) (not (= (f a%d) a%d))))' % (s, t, t, s)]))
         lines += ['(check-sat)', '(pop 1)']
     return lines
-for n in (1000, 10000, 100000): write('chain_%06d' % n, chain(n)); 
+for n in (1000, 10000, 100000): write('chain_%06d' % n, chain(n))
 for n in (1000, 5000): write('nested_%05d' % n, nested(n))
 for n in (1000, 10000, 100000): write('merging_%06d' % n, merging(n, n))
 for n in (20, 200, 2000): write('diamonds_%04d' % n, diamonds(n))
