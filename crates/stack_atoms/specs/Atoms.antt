@@ -36,7 +36,7 @@ pub record IsWideDistinct (ds : List Declaration) (trees : List Tree) (marks : L
   pub wide : 3 ≤ length is
   pub no_bools : All (λ i. is_bool_at ds trees i ≡ false) is
 
--- each atom by its number: the truths of all parts that are Bools, and the equalities of each two arguments of a wide `distinct`
+-- each atom by its number: one of the parts', among them the truths of all that are Bools, and the equalities of each two arguments of a wide `distinct`
 pub record AreAtoms (ds : List Declaration) (trees : List Tree) (marks : List Bool) (table : List Atom) : Type 0 where
   pub few : length table ≤ 2 ^ 31
   pub apart : AllPairs (λ (a b : Atom). a ≢ b) table
