@@ -1,24 +1,25 @@
 -- One clause more.
 use Rattle.std.proofs.Common.{◌≡◌, ℕ, ◌+◌, ◌<◌, ◌≤◌, suc, Bool, true, false, List, [], ◌∷◌, ◌++◌, All, Contains, length, get_or, set, take, subst, sym, ap, ◌∙◌, refl, inl, inr, ◌⊎◌, arith, add-zero}
-use Rattle.std.proofs.lemmas.List.{get_or_append_left, get_or_push, length_push, length-set, take-take}
+use Rattle.std.proofs.lemmas.List.{get_or_append_left, get_or_push, length_push, length-set}
 use Rattle.std.proofs.lemmas.List.Elements.{All-weaker, All-push, All-contains, Contains-append_left, Contains-push, Contains-push_cases, Contains-get_or}
 use Rattle.literals.specs.Signed.{Signed, opposite, packed}
-use Rattle.clause_store.specs.Trail.{Assigns}
+use Rattle.clause_store.specs.Trail.{up_to}
 use Rattle.clause_store.specs.declared.trail.Step.{Step}
 use Rattle.clause_store.specs.Stored.{Kept}
 use Rattle.clause_store.specs.Entries.{Entry, entry_at, no_entry, watches_of, IsKnown}
 use Rattle.clause_store.specs.Watching.{IsSettled, IsPair, IsListed, IsSound, IsOwn, IsOnce, IsWatching, no_watch, kept_of, kept_from}
-use Rattle.clause_store.specs.Rested.{Rested, IsWaiting, Waits, save_at}
+use Rattle.clause_store.specs.Rested.{Rested, IsWaiting, Waits}
 use Rattle.clause_store.proofs.Watches.{below_or_at, IsListed-push, IsListed-new}
-use Rattle.clause_store.specs.Choosing.{IsChoice, Stands, Enlists, EnlistsBoth}
+use Rattle.clause_store.specs.Choosing.{IsChoice, AreOpen, Stands, Enlists, EnlistsBoth}
 use Rattle.clause_store.specs.Gaining.{KeepsUp}
 use Rattle.clause_store.specs.declared.choose.Choice.{Choice}
-use Rattle.clause_store.specs.declared.choose.Standing.TheVariants.{Awake, Waits as Waiting, Stirred}
+use Rattle.clause_store.specs.declared.choose.Standing.TheVariants.{Awake, Waits as Waiting}
 use Rattle.clause_store.proofs.Turning.{Assigns-front, code_within}
+use Rattle.clause_store.proofs.Filters.{up_to-assigns}
+use Rattle.clause_store.proofs.Depths.{up_to-all}
 use Rattle.clause_store.proofs.Tidy.{IsOnce-push}
 use Rattle.clause_store.proofs.Sweeping.{live_within, equal_or_apart, watches_of-same, watches_of-other, IsKnown-contained}
 use Rattle.clause_store.specs.declared.lists.Watch.{Watch}
-use Rattle.clause_store.specs.declared.waits.Save.{Save}
 use Rattle.clause_store.specs.declared.waits.Wait.{Wait}
 
 pub entry_at-old : (es : List Entry) (e : Entry) (i : ℕ) → i < length es → entry_at (es ++ e ∷ []) i ≡ entry_at es i
@@ -178,55 +179,42 @@ IsWatching-add atoms es lists lists' e h known pair is =
 All-from : {X : Type 0} (P : X → Type 0) (xs : List X) → ((x : X) → Contains xs x → P x) → All P xs
 All-from P xs h k d lt = h (get_or xs k d) (Contains-get_or xs k d lt)
 
-waits_in : (ws ws' : List Wait) (i : ℕ) → ((w : Wait) → Contains ws w → Contains ws' w) → Waits ws i → Waits ws' i
-waits_in ws ws' i keeps h = record { wait = h.wait; contained = keeps h.wait h.contained; row = h.row }
+waits_in : (ws ws' : List Wait) (i d : ℕ) → ((w : Wait) → Contains ws w → Contains ws' w) → Waits ws i d → Waits ws' i d
+waits_in ws ws' i d keeps h = record { wait = h.wait; contained = keeps h.wait h.contained; row = h.row; from = h.from }
 
-less_seen : (seen seen' steps : List Step) (e : Entry) → ((l : Signed) → Assigns seen' l → Assigns seen l) → IsSettled seen steps e → IsSettled seen' steps e
-less_seen seen seen' steps e less (inl s) = inl s
-less_seen seen seen' steps e less (inr a) = inr (record { apart = a.apart; first = λ x. a.first (less (opposite e.first) x); second = λ x. a.second (less (opposite e.second) x) })
-
-pub Rested-add : (es : List Entry) (e : Entry) (steps : List Step) (depth head head' : ℕ) (saves : List Save) (ws ws' : List Wait) → Rested es steps depth head saves ws → head' ≤ head
-    → ((w : Wait) → Contains ws w → Contains ws' w) → ((w : Wait) → Contains ws' w → Contains ws w ⊎ (IsWaiting (es ++ e ∷ []) steps w × (length es ≤ w.row)))
-    → IsSettled (take head' steps) steps e ⊎ Waits ws' (length es) → Rested (es ++ e ∷ []) steps depth head' saves ws'
-Rested-add es e steps depth head head' saves ws ws' h le keeps only new =
+pub Rested-add : (es : List Entry) (e : Entry) (steps : List Step) (depth head lasting : ℕ) (ws ws' : List Wait) → Rested es steps depth head lasting ws
+    → ((w : Wait) → Contains ws w → Contains ws' w) → ((w : Wait) → Contains ws' w → Contains ws w ⊎ IsWaiting (es ++ e ∷ []) steps w)
+    → ((d n : ℕ) → IsSettled (take n (up_to d steps)) (up_to d steps) e ⊎ Waits ws' (length es) d) → Rested (es ++ e ∷ []) steps depth head lasting ws'
+Rested-add es e steps depth head lasting ws ws' h keeps only new =
     let es' : List Entry = es ++ e ∷ [] in
     let len : length es' ≡ length es + 1 = length_push es e in
     let is_new : entry_at es' (length es) ≡ e = entry_at-new es e (length es) refl in
-    let within : head ≤ length steps = h.head_within in
-    let rows : (d : ℕ) → d < depth → (save_at saves d).rows ≤ length es = h.rows_within in
     record {
-      count = h.count;
       deepest = h.deepest;
-      head_within = omega arith;
-      ascending = h.ascending;
-      rows_within = λ d lt. let r : (save_at saves d).rows ≤ length es = rows d lt in omega arith;
-      heads_within = h.heads_within;
+      head_within = h.head_within;
+      lasting_within = h.lasting_within;
       current = λ i live. elim (below_or_at i (length es) (let lt : i < length es' = live_within es' i live in omega arith)) [
         | inl below ↦ rw (entry_at-old es e i below) (elim (h.current i (rw (entry_at-old es e i below) at live)) [
-          | inl done ↦ inl (less_seen (take head steps) (take head' steps) steps (entry_at es i)
-              (λ l a. Assigns-front head' (take head steps) l (subst (λ xs. Assigns xs l) (sym (take-take head' head steps le)) a)) done)
-          | inr waits ↦ inr (waits_in ws ws' i keeps waits)
+          | inl done ↦ inl done
+          | inr waits ↦ inr (waits_in ws ws' i depth keeps waits)
         ])
-        | inr at ↦ subst (λ n. IsSettled (take head' steps) steps (entry_at es' n) ⊎ Waits ws' n) (sym at) (rw is_new new)
+        | inr at ↦ subst (λ n. IsSettled (take head steps) steps (entry_at es' n) ⊎ Waits ws' n depth) (sym at)
+            (rw is_new (subst (λ xs. IsSettled (take head xs) xs e ⊎ Waits ws' (length es) depth) (up_to-all depth steps h.deepest) (new depth head)))
       ];
-      lower = λ d lt i below live.
-          let r : (save_at saves d).rows ≤ length es = rows d lt in
-          let old : i < length es = omega arith in
-          rw (entry_at-old es e i old) (elim (h.lower d lt i below (rw (entry_at-old es e i old) at live)) [ inl done ↦ inl done | inr waits ↦ inr (waits_in ws ws' i keeps waits) ]);
+      each = λ d i live. elim (below_or_at i (length es) (let lt : i < length es' = live_within es' i live in omega arith)) [
+        | inl below ↦ rw (entry_at-old es e i below) (elim (h.each d i (rw (entry_at-old es e i below) at live)) [
+          | inl done ↦ inl done
+          | inr waits ↦ inr (waits_in ws ws' i d keeps waits)
+        ])
+        | inr at ↦ subst (λ n. IsSettled (take lasting (up_to d steps)) (up_to d steps) (entry_at es' n) ⊎ Waits ws' n d) (sym at) (rw is_new (new d lasting))
+      ];
       waiting = All-from (IsWaiting es' steps) ws' (λ w c. elim (only w c) [
         | inl old ↦
             let was : IsWaiting es steps w = All-contains (IsWaiting es steps) ws w h.waiting old in
             let lt : w.row < length es = live_within es w.row was.live in
             record { live = rw (entry_at-old es e w.row lt) was.live; contained = rw (entry_at-old es e w.row lt) was.contained; rest = rw (entry_at-old es e w.row lt) was.rest }
-        | inr k ↦ k.0
+        | inr k ↦ k
       ]);
-      waiting_lower = λ d lt w c below.
-          let r : (save_at saves d).rows ≤ length es = rows d lt in
-          let old : w.row < length es = omega arith in
-          rw (entry_at-old es e w.row old) (elim (only w c) [
-            | inl was ↦ h.waiting_lower d lt w was below
-            | inr k ↦ absurd (let past : length es ≤ w.row = k.1 in omega arith)
-          ]);
     }
 
 -- ---- the clause as it is chosen to be watched
@@ -242,49 +230,44 @@ watching_added atoms steps es lists lists' ls level c h known ch both =
     IsWatching-add atoms es lists lists' (new_entry ls c.first c.second level) h (record { literals = known; first = a; second = b }) (record { first = ch.first; second = ch.second; single = ch.single })
     (listed_both (λ l x. IsSound atoms (es ++ new_entry ls c.first c.second level ∷ []) x × IsOwn (es ++ new_entry ls c.first c.second level ∷ []) l x) lists lists' c.first c.second (length es) (code_within c.first atoms (length lists) a h.room) (code_within c.second atoms (length lists) b h.room) both)
 
-pub keeps-awake : (atoms : ℕ) (steps : List Step) (es : List Entry) (lists lists' : List (List Watch)) (ls : List Signed) (level : ℕ) (c : Choice) (ws : List Wait) (head : ℕ) → All (λ (l : Signed). l.atom < atoms) ls → IsChoice steps ls c
+open_awake : (steps : List Step) (d n : ℕ) (e : Entry) → AreOpen (up_to d steps) e.first e.second → IsSettled (take n (up_to d steps)) (up_to d steps) e
+open_awake steps d n e o = inr (record { apart = o.apart; first = λ x. o.first (Assigns-front n (up_to d steps) (opposite e.first) x); second = λ x. o.second (Assigns-front n (up_to d steps) (opposite e.second) x) })
+
+pub open_below : (steps : List Step) (d : ℕ) (a b : Signed) → AreOpen steps a b → AreOpen (up_to d steps) a b
+open_below steps d a b o = record { apart = o.apart; first = λ x. o.first (up_to-assigns d steps (opposite a) x); second = λ x. o.second (up_to-assigns d steps (opposite b) x) }
+
+pub keeps-awake : (atoms : ℕ) (steps : List Step) (es : List Entry) (lists lists' : List (List Watch)) (ls : List Signed) (level : ℕ) (c : Choice) (ws : List Wait) → All (λ (l : Signed). l.atom < atoms) ls → IsChoice steps ls c
     → EnlistsBoth lists lists' c.first c.second (length es) → c.standing ≡ Awake
-    → KeepsUp atoms steps es (es ++ new_entry ls c.first c.second level ∷ []) lists lists' ws ws head head
-keeps-awake atoms steps es lists lists' ls level c ws head known ch both st = λ saves depth k.
+    → KeepsUp atoms steps es (es ++ new_entry ls c.first c.second level ∷ []) lists lists' ws ws
+keeps-awake atoms steps es lists lists' ls level c ws known ch both st = λ head lasting depth k.
     let stands : Stands steps ls c.first c.second Awake = subst (Stands steps ls c.first c.second) st ch.stands in
+    let e : Entry = new_entry ls c.first c.second level in
     record {
       watch = watching_added atoms steps es lists lists' ls level c k.watch known ch both;
-      rested = Rested-add es (new_entry ls c.first c.second level) steps depth head head saves ws ws k.rested (omega arith) (λ x m. m) (λ x m. inl m)
-          (inl (inr (record { apart = stands.0; first = λ x. stands.1 (Assigns-front head steps (opposite c.first) x); second = λ x. stands.2 (Assigns-front head steps (opposite c.second) x) })));
+      rested = Rested-add es e steps depth head lasting ws ws k.rested (λ x m. m) (λ x m. inl m) (λ d n. inl (open_awake steps d n e (open_below steps d c.first c.second stands)));
     }
 
-none_seen : (steps : List Step) (l : Signed) → Assigns (take 0 steps) l → ⊥
-none_seen steps l h = omega (arith, h.1)
+below_or_past : (a b : ℕ) → (a < b) ⊎ (b ≤ a)
+below_or_past a b = grind arith
 
-pub keeps-stirred : (atoms : ℕ) (steps : List Step) (es : List Entry) (lists lists' : List (List Watch)) (ls : List Signed) (level : ℕ) (c : Choice) (ws : List Wait) (head : ℕ) → All (λ (l : Signed). l.atom < atoms) ls → IsChoice steps ls c
-    → EnlistsBoth lists lists' c.first c.second (length es) → c.standing ≡ Stirred
-    → KeepsUp atoms steps es (es ++ new_entry ls c.first c.second level ∷ []) lists lists' ws ws head 0
-keeps-stirred atoms steps es lists lists' ls level c ws head known ch both st = λ saves depth k.
-    let stands : Stands steps ls c.first c.second Stirred = subst (Stands steps ls c.first c.second) st ch.stands in
-    record {
-      watch = watching_added atoms steps es lists lists' ls level c k.watch known ch both;
-      rested = Rested-add es (new_entry ls c.first c.second level) steps depth head 0 saves ws ws k.rested (omega arith) (λ x m. m) (λ x m. inl m)
-          (inl (inr (record { apart = stands; first = λ x. none_seen steps (opposite c.first) x; second = λ x. none_seen steps (opposite c.second) x })));
-    }
-
-pub keeps-waits : (atoms : ℕ) (steps : List Step) (es : List Entry) (lists lists' : List (List Watch)) (ls : List Signed) (level : ℕ) (c : Choice) (ws : List Wait) (x : Wait) (head : ℕ) → All (λ (l : Signed). l.atom < atoms) ls → IsChoice steps ls c
-    → EnlistsBoth lists lists' c.first c.second (length es) → c.standing ≡ Waiting → x.row ≡ length es → x.literal ≡ c.first
-    → KeepsUp atoms steps es (es ++ new_entry ls c.first c.second level ∷ []) lists lists' ws (ws ++ x ∷ []) head head
-keeps-waits atoms steps es lists lists' ls level c ws x head known ch both st xr xl = λ saves depth k.
-    let stands : Stands steps ls c.first c.second Waiting = subst (Stands steps ls c.first c.second) st ch.stands in
+pub keeps-waits : (atoms : ℕ) (steps : List Step) (es : List Entry) (lists lists' : List (List Watch)) (ls : List Signed) (level from : ℕ) (c : Choice) (ws : List Wait) (x : Wait) → All (λ (l : Signed). l.atom < atoms) ls → IsChoice steps ls c
+    → EnlistsBoth lists lists' c.first c.second (length es) → c.standing ≡ Waiting from → x.row ≡ length es → x.literal ≡ c.first → x.depth ≡ from
+    → KeepsUp atoms steps es (es ++ new_entry ls c.first c.second level ∷ []) lists lists' ws (ws ++ x ∷ [])
+keeps-waits atoms steps es lists lists' ls level from c ws x known ch both st xr xl xd = λ head lasting depth k.
+    let stands : Stands steps ls c.first c.second (Waiting from) = subst (Stands steps ls c.first c.second) st ch.stands in
     let e : Entry = new_entry ls c.first c.second level in
     let here : entry_at (es ++ e ∷ []) x.row ≡ e = entry_at-new es e x.row (sym xr) in
     let waits : IsWaiting (es ++ e ∷ []) steps x = record {
       live = rw here refl;
       contained = rw (here, xl) ch.first;
-      rest = rw (here, xl) stands;
+      rest = rw (here, xl, xd) stands.0;
     } in
     record {
       watch = watching_added atoms steps es lists lists' ls level c k.watch known ch both;
-      rested = Rested-add es e steps depth head head saves ws (ws ++ x ∷ []) k.rested (omega arith) (λ y m. Contains-append_left ws (x ∷ []) y m)
-          (λ y m. elim (Contains-push_cases ws x y m) [
-            | inl old ↦ inl old
-            | inr same ↦ inr (subst (IsWaiting (es ++ e ∷ []) steps) same waits, let r : y.row ≡ length es = sym (ap (λ (z : Wait). z.row) same) ∙ xr in omega arith)
-          ])
-          (inr (record { wait = x; contained = Contains-push ws x; row = xr }));
+      rested = Rested-add es e steps depth head lasting ws (ws ++ x ∷ []) k.rested (λ y m. Contains-append_left ws (x ∷ []) y m)
+          (λ y m. elim (Contains-push_cases ws x y m) [ inl old ↦ inl old | inr same ↦ inr (subst (IsWaiting (es ++ e ∷ []) steps) same waits) ])
+          (λ d n. elim (below_or_past d from) [
+            | inl below ↦ inl (open_awake steps d n e (stands.1 d below))
+            | inr past ↦ inr (record { wait = x; contained = Contains-push ws x; row = xr; from = omega arith })
+          ]);
     }

@@ -2,7 +2,7 @@
 use Rattle.std.proofs.Common.{◌≡◌, ◌≢◌, ℕ, ◌+◌, ◌*◌, ◌^◌, ◌<◌, ◌≤◌, ◌==◌, zero, suc, Bool, true, false, not, ◌&&◌, List, [], ◌∷◌, ◌++◌, All, Contains, length, get_or, set, take, filter, subst, sym, ap, ◌∙◌, refl, inl, inr, ◌⊎◌, arith, Some, zero-add, add-zero, eq-eqb, ℤ, pos, int_le, nat_lt}
 use Rattle.std.proofs.lemmas.Bool.Decides.{nat_tests}
 use Rattle.std.proofs.lemmas.List.{length-set, get_or_default, get_or_past}
-use Rattle.std.proofs.lemmas.List.Elements.{All-contains, All-weaker, All-nil, Contains-append_cases, Contains-push_cases}
+use Rattle.std.proofs.lemmas.List.Elements.{All-contains, All-weaker, All-nil, Contains-append_cases, Contains-append_left, Contains-get_or, Contains-push, Contains-push_cases}
 use Rattle.literals.specs.Signed.{Signed, opposite, packed}
 use Rattle.clause_store.specs.Assigned.{Assigned}
 use Rattle.clause_store.specs.Each.{EachAfter}
@@ -12,15 +12,15 @@ use Rattle.clause_store.specs.Stored.{Kept, IsFalseOn, IsForced, IsJustified, Ha
 use Rattle.clause_store.specs.Found.{HasKept, HasLevel}
 use Rattle.clause_store.specs.Entries.{Entry, entry_at, no_entry, watches_of, IsKnown}
 use Rattle.clause_store.specs.Watching.{IsWatching, IsPair, IsListed, IsSound, IsOwn, IsOnce, IsSettled, kept_from, kept_of}
-use Rattle.clause_store.specs.Rested.{Rested, IsWaiting, Waits, OthersFalse, save_at}
-use Rattle.clause_store.specs.Rewinding.{AllCalm}
+use Rattle.clause_store.specs.Rested.{Rested, IsWaiting, Waits, OthersFalse}
+use Rattle.clause_store.specs.From.{IsSingle, AreSingles}
 use Rattle.clause_store.specs.Cutting.{IsCut, IsFewer, cut_entry}
 use Rattle.clause_store.specs.Keeping.{IsKept, IsTight}
 use Rattle.clause_store.specs.declared.lists.Watch.{Watch}
-use Rattle.clause_store.specs.declared.waits.Save.{Save}
 use Rattle.clause_store.specs.declared.waits.Wait.{Wait}
 use Rattle.clause_store.proofs.Watches.{same_or_apart, below_or_at}
-use Rattle.clause_store.proofs.Sweeping.{live_within, entry_at-same, entry_at-other}
+use Rattle.clause_store.proofs.Sweeping.{live_within, entry_at-same, entry_at-other, equal_or_apart}
+use Rattle.clause_store.proofs.Turning.{Assigns-front}
 use Rattle.clause_store.proofs.Kept.{kept_in, All-kept}
 use Rattle.clause_store.proofs.Stores.{known_live}
 
@@ -239,29 +239,26 @@ justified_forgotten es i steps lt unused h k d lt' id r =
       unit = f.unit;
     }
 
-waits_fewer : (ws ws' : List Wait) (i k : ℕ) → ((w : Wait) → Contains ws w → (w.row ≡ i → ⊥) → Contains ws' w) → k ≢ i → Waits ws k → Waits ws' k
-waits_fewer ws ws' i k keeps ne h = record { wait = h.wait; contained = keeps h.wait h.contained (λ e. ne (sym h.row ∙ e)); row = h.row }
+waits_fewer : (ws ws' : List Wait) (i k d : ℕ) → ((w : Wait) → Contains ws w → (w.row ≡ i → ⊥) → Contains ws' w) → k ≢ i → Waits ws k d → Waits ws' k d
+waits_fewer ws ws' i k d keeps ne h = record { wait = h.wait; contained = keeps h.wait h.contained (λ e. ne (sym h.row ∙ e)); row = h.row; from = h.from }
 
-pub Rested-forgotten : (es : List Entry) (i : ℕ) (steps : List Step) (depth head : ℕ) (saves : List Save) (ws ws' : List Wait) → i < length es
-    → ((w : Wait) → Contains ws w → (w.row ≡ i → ⊥) → Contains ws' w) → ((w : Wait) → Contains ws' w → Contains ws w × (w.row ≡ i → ⊥)) → Rested es steps depth head saves ws → Rested (forgotten es i) steps depth head saves ws'
-Rested-forgotten es i steps depth head saves ws ws' lt keeps only h =
+pub Rested-forgotten : (es : List Entry) (i : ℕ) (steps : List Step) (depth head lasting : ℕ) (ws ws' : List Wait) → i < length es
+    → ((w : Wait) → Contains ws w → (w.row ≡ i → ⊥) → Contains ws' w) → ((w : Wait) → Contains ws' w → Contains ws w × (w.row ≡ i → ⊥)) → Rested es steps depth head lasting ws → Rested (forgotten es i) steps depth head lasting ws'
+Rested-forgotten es i steps depth head lasting ws ws' lt keeps only h =
     let f : IsFewer es (forgotten es i) = Fewer-forgotten es i lt in
     let apart : (k : ℕ) → (entry_at (forgotten es i) k).live ≡ true → k ≢ i =
     λ k live here. false_true (sym (ap (λ (e : Entry). e.live) (entry_at-same es i (dead (entry_at es i)) lt)) ∙ subst (λ n. (entry_at (forgotten es i) n).live ≡ true) here live) in
     record {
-      count = h.count;
       deepest = h.deepest;
       head_within = h.head_within;
-      ascending = h.ascending;
-      rows_within = λ d lt'. subst (λ n. (save_at saves d).rows ≤ n) (sym f.count) (h.rows_within d lt');
-      heads_within = h.heads_within;
+      lasting_within = h.lasting_within;
       current = λ k live. elim (h.current k (was_live es (forgotten es i) f k live)) [
         | inl done ↦ inl (subst (IsSettled (take head steps) steps) (sym (f.same k live)) done)
-        | inr waits ↦ inr (waits_fewer ws ws' i k keeps (apart k live) waits)
+        | inr waits ↦ inr (waits_fewer ws ws' i k depth keeps (apart k live) waits)
       ];
-      lower = λ d lt' k below live. elim (h.lower d lt' k below (was_live es (forgotten es i) f k live)) [
-        | inl done ↦ inl (subst (IsSettled (take (save_at saves d).head (up_to d steps)) (up_to d steps)) (sym (f.same k live)) done)
-        | inr waits ↦ inr (waits_fewer ws ws' i k keeps (apart k live) waits)
+      each = λ d k live. elim (h.each d k (was_live es (forgotten es i) f k live)) [
+        | inl done ↦ inl (subst (IsSettled (take lasting (up_to d steps)) (up_to d steps)) (sym (f.same k live)) done)
+        | inr waits ↦ inr (waits_fewer ws ws' i k d keeps (apart k live) waits)
       ];
       waiting = λ k d lt'.
           let w : Wait = get_or ws' k d in
@@ -271,14 +268,13 @@ Rested-forgotten es i steps depth head saves ws ws' lt keeps only h =
           record {
             live = subst (λ (e : Entry). e.live ≡ true) (sym same) was.live;
             contained = subst (λ (e : Entry). Contains e.literals w.literal) (sym same) was.contained;
-            rest = subst (λ (e : Entry). OthersFalse steps e.literals w.literal) (sym same) was.rest;
+            rest = subst (λ (e : Entry). OthersFalse (up_to w.depth steps) e.literals w.literal) (sym same) was.rest;
           };
-      waiting_lower = λ d lt' w c below. subst (λ ls. OthersFalse (up_to d steps) ls w.literal) (sym (f.literals w.row)) (h.waiting_lower d lt' w (only w c).0 below);
     }
 
-pub IsKept-forgotten : (es : List Entry) (i : ℕ) (lists : List (List Watch)) (t : Assigned) (head : ℕ) (saves : List Save) (ws ws' : List Wait) (loose : Bool) → i < length es → All (λ (s : Step). s.reason ≡ Some i → ⊥) t.steps
-    → ((w : Wait) → Contains ws w → (w.row ≡ i → ⊥) → Contains ws' w) → ((w : Wait) → Contains ws' w → Contains ws w × (w.row ≡ i → ⊥)) → IsKept es lists t head saves ws loose → IsKept (forgotten es i) lists t head saves ws' loose
-IsKept-forgotten es i lists t head saves ws ws' loose lt unused keeps only h =
+pub IsKept-forgotten : (es : List Entry) (i : ℕ) (lists : List (List Watch)) (t : Assigned) (head : ℕ) (ws ws' : List Wait) (loose : Bool) → i < length es → All (λ (s : Step). s.reason ≡ Some i → ⊥) t.steps
+    → ((w : Wait) → Contains ws w → (w.row ≡ i → ⊥) → Contains ws' w) → ((w : Wait) → Contains ws' w → Contains ws w × (w.row ≡ i → ⊥)) → IsKept es lists t head ws loose → IsKept (forgotten es i) lists t head ws' loose
+IsKept-forgotten es i lists t head ws ws' loose lt unused keeps only h =
     let f : IsFewer es (forgotten es i) = Fewer-forgotten es i lt in
     record {
       known = known_fewer t.atoms es (forgotten es i) f h.known;
@@ -286,7 +282,7 @@ IsKept-forgotten es i lists t head saves ws ws' loose lt unused keeps only h =
       small = subst (λ n. n < 2 ^ 32) (sym f.count) h.small;
       tight = λ e. record {
         watch = IsWatching-fewer t.atoms es (forgotten es i) lists f (h.tight e).watch;
-        rested = Rested-forgotten es i t.steps t.depth head saves ws ws' lt keeps only (h.tight e).rested;
+        rested = Rested-forgotten es i t.steps t.depth head head ws ws' lt keeps only (h.tight e).rested;
       };
     }
 
@@ -385,38 +381,78 @@ IsCut-end bound old new i le h = record {
 nothing_false : (l : Signed) → IsFalseOn [] l → ⊥
 nothing_false l h = none_in (opposite l) h
 
-pub Rested-cut : (atoms : ℕ) (es : List Entry) (lists : List (List Watch)) (ws : List Wait) (b : Bool) → IsWatching atoms es lists → AllCalm es [] 0 (length es) [] ws b → Rested es [] 0 0 [] ws
-Rested-cut atoms es lists ws b w h = record {
-  count = refl;
-  deepest = All-nil (λ (s : Step). s.depth ≤ 0);
-  head_within = omega arith;
-  ascending = λ d e le lt. absurd (omega arith);
-  rows_within = λ d lt. absurd (omega arith);
-  heads_within = λ d lt. absurd (omega arith);
-  current = λ i live. elim (h.calm i (omega arith) (live_within es i live) live) [
-    | inl waits ↦ inr waits
-    | inr c ↦ inl (inr (record { apart = c.0; first = nothing_false (entry_at es i).first; second = nothing_false (entry_at es i).second }))
-  ];
-  lower = λ d lt i below live. absurd (omega arith);
-  waiting = λ k d lt. elim (h.only (get_or ws k d) (k, lt, get_or_default ws k (get_or ws k d) d lt)) [
-    | inl none ↦ absurd (none_in (get_or ws k d) none)
-    | inr new ↦ new.0
-  ];
-  waiting_lower = λ d lt w c below. absurd (omega arith);
-}
+awake_at_first : (n : ℕ) (e : Entry) → (e.first ≡ e.second → ⊥) → IsSettled (take n []) [] e
+awake_at_first n e apart = inr (record {
+  apart = apart;
+  first = λ x. nothing_false e.first (Assigns-front n [] (opposite e.first) x);
+  second = λ x. nothing_false e.second (Assigns-front n [] (opposite e.second) x);
+})
 
-pub tight-cut : (es es' : List Entry) (lists : List (List Watch)) (t t' : Assigned) (ws : List Wait) (b : Bool) → IsFewer es es' → t'.steps ≡ [] → t'.atoms ≡ t.atoms → t'.depth ≡ 0 → AllCalm es' [] 0 (length es') [] ws b
-    → IsWatching t.atoms es lists → IsTight es' lists t' 0 [] ws
-tight-cut es es' lists t t' ws b f steps atoms depth calm w =
+pub Rested-cut : (atoms : ℕ) (es : List Entry) (lists : List (List Watch)) (ws : List Wait) → IsWatching atoms es lists → AreSingles es (length es) ws → Rested es [] 0 0 0 ws
+Rested-cut atoms es lists ws w h =
+    let at : (d i n : ℕ) → (entry_at es i).live ≡ true → IsSettled (take n []) [] (entry_at es i) ⊎ Waits ws i d = λ d i n live.
+    elim (equal_or_apart (entry_at es i).first (entry_at es i).second) [
+      | inl same ↦ inr (let x : Waits ws i 0 = h.all i (live_within es i live) live same in record { wait = x.wait; contained = x.contained; row = x.row; from = (let f : x.wait.depth ≤ 0 = x.from in omega arith) })
+      | inr apart ↦ inl (awake_at_first n (entry_at es i) apart)
+    ] in
+    record {
+      deepest = All-nil (λ (s : Step). s.depth ≤ 0);
+      head_within = omega arith;
+      lasting_within = omega arith;
+      current = λ i live. at 0 i 0 live;
+      each = λ d i live. at d i 0 live;
+      waiting = λ k d lt.
+          let x : Wait = get_or ws k d in
+          let s : IsSingle es x = h.only x (Contains-get_or ws k d lt) in
+          let pair : IsPair (entry_at es x.row) = w.pairs x.row s.live in
+          record {
+            live = s.live;
+            contained = subst (Contains (entry_at es x.row).literals) (sym s.literal) pair.first;
+            rest = All-weaker (λ m. m ≡ (entry_at es x.row).first) (λ m. (m ≡ x.literal) ⊎ IsFalseOn (up_to x.depth []) m) (λ m e. inl (e ∙ sym s.literal)) (entry_at es x.row).literals (pair.single s.single);
+          };
+    }
+
+pub tight-cut : (es es' : List Entry) (lists : List (List Watch)) (t t' : Assigned) (ws : List Wait) → IsFewer es es' → t'.steps ≡ [] → t'.atoms ≡ t.atoms → t'.depth ≡ 0 → AreSingles es' (length es') ws
+    → IsWatching t.atoms es lists → IsTight es' lists t' 0 ws
+tight-cut es es' lists t t' ws f steps atoms depth singles w =
     let watch : IsWatching t.atoms es' lists = IsWatching-fewer t.atoms es es' lists f w in
     record {
       watch = subst (λ n. IsWatching n es' lists) (sym atoms) watch;
-      rested = subst (λ ss. Rested es' ss t'.depth 0 [] ws) (sym steps) (subst (λ d. Rested es' [] d 0 [] ws) (sym depth) (Rested-cut t.atoms es' lists ws b watch calm));
+      rested = subst (λ ss. Rested es' ss t'.depth 0 0 ws) (sym steps) (subst (λ d. Rested es' [] d 0 0 ws) (sym depth) (Rested-cut t.atoms es' lists ws watch singles));
     }
 
-pub IsKept-cut : (es es' : List Entry) (lists : List (List Watch)) (t t' : Assigned) (head : ℕ) (saves : List Save) (ws ws' : List Wait) (loose loose' : Bool) → IsFewer es es' → t'.steps ≡ [] → t'.atoms ≡ t.atoms
-    → (loose' ≡ false → IsTight es' lists t' 0 [] ws') → IsKept es lists t head saves ws loose → IsKept es' lists t' 0 [] ws' loose'
-IsKept-cut es es' lists t t' head saves ws ws' loose loose' f steps atoms tight h = record {
+-- the clauses that wait once one more is seen
+pub AreSingles-none : (es : List Entry) → AreSingles es 0 []
+AreSingles-none es = record { only = λ w c. absurd (none_in w c); all = λ k lt live same. absurd (omega arith) }
+
+pub AreSingles-pass : (es : List Entry) (i : ℕ) (ws : List Wait) → ((entry_at es i).live ≡ true → (entry_at es i).first ≡ (entry_at es i).second → ⊥) → AreSingles es i ws → AreSingles es (i + 1) ws
+AreSingles-pass es i ws none h = record {
+  only = h.only;
+  all = λ k lt live same. elim (below_or_at k i lt) [
+    | inl below ↦ h.all k below live same
+    | inr at ↦ absurd (none (subst (λ n. (entry_at es n).live ≡ true) at live) (subst (λ n. (entry_at es n).first ≡ (entry_at es n).second) at same))
+  ];
+}
+
+pub AreSingles-push : (es : List Entry) (i : ℕ) (ws : List Wait) (w : Wait) → w.row ≡ i → w.depth ≡ 0 → w.literal ≡ (entry_at es i).first → (entry_at es i).live ≡ true → (entry_at es i).first ≡ (entry_at es i).second → AreSingles es i ws
+    → AreSingles es (i + 1) (ws ++ w ∷ [])
+AreSingles-push es i ws w row depth literal live same h =
+    let single : IsSingle es w = record {
+      live = subst (λ n. (entry_at es n).live ≡ true) (sym row) live;
+      single = subst (λ n. (entry_at es n).first ≡ (entry_at es n).second) (sym row) same;
+      literal = subst (λ n. w.literal ≡ (entry_at es n).first) (sym row) literal;
+    } in
+    record {
+      only = λ x c. elim (Contains-push_cases ws w x c) [ inl old ↦ h.only x old | inr e ↦ subst (IsSingle es) e single ];
+      all = λ k lt live' same'. elim (below_or_at k i lt) [
+        | inl below ↦ let x : Waits ws k 0 = h.all k below live' same' in record { wait = x.wait; contained = Contains-append_left ws (w ∷ []) x.wait x.contained; row = x.row; from = x.from }
+        | inr at ↦ record { wait = w; contained = Contains-push ws w; row = row ∙ sym at; from = omega arith }
+      ];
+    }
+
+pub IsKept-cut : (es es' : List Entry) (lists : List (List Watch)) (t t' : Assigned) (head : ℕ) (ws ws' : List Wait) (loose loose' : Bool) → IsFewer es es' → t'.steps ≡ [] → t'.atoms ≡ t.atoms
+    → (loose' ≡ false → IsTight es' lists t' 0 ws') → IsKept es lists t head ws loose → IsKept es' lists t' 0 ws' loose'
+IsKept-cut es es' lists t t' head ws ws' loose loose' f steps atoms tight h = record {
   known = subst (λ n. All (λ (c : Kept). All (λ (l : Signed). l.atom < n) c.literals) (kept_from 0 es')) (sym atoms) (known_fewer t.atoms es es' f h.known);
   justified = subst (EachAfter (IsJustified (kept_from 0 es'))) (sym steps) (λ k d lt. absurd (omega (arith, lt)));
   small = subst (λ n. n < 2 ^ 32) (sym f.count) h.small;
@@ -456,20 +492,20 @@ IsWatching-more atoms atoms' es lists lists' le room same h = record {
   };
 }
 
-pub IsKept-more : (es : List Entry) (lists lists' : List (List Watch)) (t t' : Assigned) (head : ℕ) (saves : List Save) (ws : List Wait) (loose : Bool) → t'.steps ≡ t.steps → t'.depth ≡ t.depth → t.atoms ≤ t'.atoms
-    → ((l : Signed) → watches_of lists' l ≡ watches_of lists l) → (loose ≡ false → 2 * t'.atoms ≤ length lists') → IsKept es lists t head saves ws loose → IsKept es lists' t' head saves ws loose
-IsKept-more es lists lists' t t' head saves ws loose steps depth le same room h = record {
+pub IsKept-more : (es : List Entry) (lists lists' : List (List Watch)) (t t' : Assigned) (head : ℕ) (ws : List Wait) (loose : Bool) → t'.steps ≡ t.steps → t'.depth ≡ t.depth → t.atoms ≤ t'.atoms
+    → ((l : Signed) → watches_of lists' l ≡ watches_of lists l) → (loose ≡ false → 2 * t'.atoms ≤ length lists') → IsKept es lists t head ws loose → IsKept es lists' t' head ws loose
+IsKept-more es lists lists' t t' head ws loose steps depth le same room h = record {
   known = All-weaker (λ (c : Kept). All (λ (l : Signed). l.atom < t.atoms) c.literals) (λ (c : Kept). All (λ (l : Signed). l.atom < t'.atoms) c.literals)
       (λ c k. All-weaker (λ (l : Signed). l.atom < t.atoms) (λ (l : Signed). l.atom < t'.atoms) (λ l lt. omega arith) c.literals k) (kept_from 0 es) h.known;
   justified = subst (EachAfter (IsJustified (kept_from 0 es))) (sym steps) h.justified;
   small = h.small;
   tight = λ e. record {
     watch = IsWatching-more t.atoms t'.atoms es lists lists' le (room e) same (h.tight e).watch;
-    rested = subst (λ ss. Rested es ss t'.depth head saves ws) (sym steps) (subst (λ d. Rested es t.steps d head saves ws) (sym depth) (h.tight e).rested);
+    rested = subst (λ ss. Rested es ss t'.depth head head ws) (sym steps) (subst (λ d. Rested es t.steps d head head ws) (sym depth) (h.tight e).rested);
   };
 }
 
-pub IsKept-none : (t : Assigned) → t.steps ≡ [] → t.atoms ≡ 0 → t.depth ≡ 0 → IsKept [] [] t 0 [] [] false
+pub IsKept-none : (t : Assigned) → t.steps ≡ [] → t.atoms ≡ 0 → t.depth ≡ 0 → IsKept [] [] t 0 [] false
 IsKept-none t steps atoms depth =
     let watch : IsWatching 0 [] [] = record {
       known = λ i lt. absurd (omega (arith, lt));
@@ -479,13 +515,12 @@ IsKept-none t steps atoms depth =
       room = omega arith;
       tidy = record { own = λ l. All-nil (IsOwn [] l); once = λ l j k lt. absurd (omega (arith, lt)) };
     } in
-    let calm : AllCalm [] [] 0 0 [] [] false = record { keeps = λ w c. c; only = λ w c. inl c; calm = λ k le lt live. absurd (omega arith) } in
     record {
       known = All-nil (λ (c : Kept). All (λ (l : Signed). l.atom < t.atoms) c.literals);
       justified = subst (EachAfter (IsJustified [])) (sym steps) (λ k d lt. absurd (omega (arith, lt)));
       small = omega arith;
       tight = λ e. record {
         watch = subst (λ n. IsWatching n [] []) (sym atoms) watch;
-        rested = subst (λ ss. Rested [] ss t.depth 0 [] []) (sym steps) (subst (λ d. Rested [] [] d 0 [] []) (sym depth) (Rested-cut 0 [] [] [] false watch calm));
+        rested = subst (λ ss. Rested [] ss t.depth 0 0 []) (sym steps) (subst (λ d. Rested [] [] d 0 0 []) (sym depth) (Rested-cut 0 [] [] [] watch (AreSingles-none [])));
       };
     }

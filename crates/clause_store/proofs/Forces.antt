@@ -2,13 +2,14 @@
 use Rattle.std.proofs.Common.{◌≡◌, ℕ, Bool, true, false, List, subst, sym, refl, inl, inr, ◌⊎◌, Some}
 use Rattle.std.proofs.lemmas.List.Elements.{All-weaker}
 use Rattle.literals.specs.Signed.{Signed, opposite}
-use Rattle.clause_store.specs.Trail.{Assigns}
+use Rattle.clause_store.specs.Trail.{Assigns, up_to}
 use Rattle.clause_store.specs.declared.trail.Step.{Step}
 use Rattle.clause_store.specs.Stored.{IsFalseOn}
 use Rattle.clause_store.specs.Entries.{Entry, entry_at}
 use Rattle.clause_store.specs.Watching.{Grows, kept_from}
 use Rattle.clause_store.specs.Rested.{IsWaiting, OthersFalse}
 use Rattle.clause_store.specs.Forcing.{ForceGives, AllForced}
+use Rattle.clause_store.proofs.Filters.{up_to-assigns}
 use Rattle.clause_store.proofs.Kept.{Grows-push, forced_by, Assigns-push}
 use Rattle.clause_store.specs.declared.waits.Wait.{Wait}
 
@@ -29,7 +30,7 @@ force-grows es w depth first old new true waits more h f = elim f.1 [
   | inl e ↦ subst (Grows (kept_from 0 es) depth first) (sym e) h
   | inr e ↦ subst (Grows (kept_from 0 es) depth first) (sym e)
       (Grows-push (kept_from 0 es) depth first old _ h
-      (forced_by es w.row old (record { literal = w.literal; depth = depth; reason = Some w.row }) waits.live refl waits.contained (OthersFalse-more first old (entry_at es w.row).literals w.literal more waits.rest)) refl)
+      (forced_by es w.row old (record { literal = w.literal; depth = depth; reason = Some w.row }) waits.live refl waits.contained (OthersFalse-more (up_to w.depth first) old (entry_at es w.row).literals w.literal (λ l a. more l (up_to-assigns w.depth first l a)) waits.rest)) refl)
 ]
 
 pub AllForced-more : (old new : List Step) (ws : List Wait) → ((l : Signed) → Assigns old l → Assigns new l) → AllForced old ws → AllForced new ws

@@ -13,7 +13,7 @@ use Rattle.clause_store.specs.declared.lists.Watch.{Watch}
 use Rattle.clause_store.specs.declared.sweep.Visit.{Visit}
 use Rattle.clause_store.specs.declared.sweep.Visit.TheVariants.{Keep, Gone, False, NoRoom}
 
-parts_same : (es es' : List Entry) (lists lists' : List (List Watch)) (steps : List Step) → es' ≡ es → lists' ≡ lists
+pub parts_same : (es es' : List Entry) (lists lists' : List (List Watch)) (steps : List Step) → es' ≡ es → lists' ≡ lists
     → let a : Parts = record { entries = es'; lists = lists'; steps = steps } in let b : Parts = record { entries = es; lists = lists; steps = steps } in a ≡ b
 parts_same es es' lists lists' steps e l = ap (λ (x : List Entry). let p : Parts = record { entries = x; lists = lists'; steps = steps } in p) e ∙ ap (λ (x : List (List Watch)). let p : Parts = record { entries = es; lists = x; steps = steps } in p) l
 

@@ -1,7 +1,7 @@
 -- How often propagation looks at clauses: pairs of a clause and a literal of it that became false.
 use Rattle.std.proofs.Common.{◌≡◌, ℕ, ◌+◌, ◌-◌, ◌<◌, ◌≤◌, None, List, [], ◌++◌, All, Contains, length, map, take, drop, get_or, subst, sym, ap, ◌∙◌, inl, inr, ◌⊎◌, arith}
-use Rattle.std.proofs.lemmas.List.{length-append, length-map, length-drop, length-take-le, get_or_append_left, get_or-append-add, get_or-map, get_or-drop, get_or-take, get_or_default}
-use Rattle.std.proofs.lemmas.List.Elements.{All-weaker, All-append, All-map, All-nil, All-get_or, Contains-get_or}
+use Rattle.std.proofs.lemmas.List.{length-append, length-map, length-drop, length-take, length-take-le, map-append, take-take, take-append-drop, get_or_append_left, get_or-append-add, get_or-map, get_or-drop, get_or-take, get_or_default}
+use Rattle.std.proofs.lemmas.List.Elements.{All-weaker, All-append, All-map, All-nil, All-get_or, Contains-append_right, Contains-get_or}
 use Rattle.literals.specs.Signed.{Signed, opposite}
 use Rattle.clause_store.specs.Trail.{Assigns}
 use Rattle.clause_store.specs.declared.trail.Step.{Step}
@@ -11,7 +11,9 @@ use Rattle.clause_store.specs.Entries.{Entry, zero_literal}
 use Rattle.clause_store.specs.Watching.{SameShape, Grows, kept_from}
 use Rattle.clause_store.specs.Looks.{HasLiteral, AreApart, LooksAt, Pair, no_pair, NoneTwice, LooksBy}
 use Rattle.clause_store.proofs.Kept.{has_kept}
-use Rattle.clause_store.proofs.Turning.{opposite-opposite}
+use Rattle.clause_store.specs.Each.{EachAfter}
+use Rattle.clause_store.specs.TrailInvariant.{IsFresh}
+use Rattle.clause_store.proofs.Turning.{Assigns-front, opposite-opposite}
 
 below_or_past : (a b : ℕ) → (a < b) ⊎ (b ≤ a)
 below_or_past a b = grind arith
@@ -170,3 +172,87 @@ LooksBy-none steps es n = record {
   are_false = All-nil (λ (p : Pair). IsFalseOn steps p.literal);
   bound = omega arith;
 }
+
+-- ---- two parts of a trail
+
+pub Looked-front : (es : List Entry) (steps : List Step) (start head old new : ℕ) → Looked es steps start head old new → LooksBy (drop start (take head steps)) (kept_from 0 es) old new
+Looked-front es steps start head old new h = record {
+  pairs = h.pairs;
+  none_twice = h.none_twice;
+  having = All-weaker (λ (p : Pair). HasLiteral es p.literal p.id) (λ (p : Pair). HasKept (kept_from 0 es) p.id (λ ls. Contains ls p.literal)) (λ p x. has_kept (λ ls. Contains ls p.literal) es p.id x.live x.contained) h.pairs h.having;
+  are_false = All-weaker (λ (p : Pair). FalseAt steps start head p.literal) (λ (p : Pair). IsFalseOn (drop start (take head steps)) p.literal) (λ p x. FalseAt-on (take head steps) start head p.literal (in_front p.literal x)) h.pairs h.are_false;
+  bound = h.bound;
+}
+  where
+    length_front : (n : ℕ) (xs : List Step) (k : ℕ) → k < n → k < length xs → k < length (take n xs)
+    length_front n xs k a b = omega (arith, length-take n xs)
+
+    in_front : (l : Signed) → FalseAt steps start head l → FalseAt (take head steps) start head l
+    in_front l x =
+        let below : x.place < head = x.below in
+        let within : x.place < length steps = x.within in
+        record {
+          place = x.place;
+          from = x.from;
+          below = x.below;
+          within = length_front head steps x.place below within;
+          is = ap (λ (s : Step). s.literal) (get_or-take head steps x.place no_step x.below) ∙ x.is;
+        }
+
+-- what is on the trail up to a place isn't after it
+apart_parts : (steps : List Step) (start head : ℕ) (l : Signed) → EachAfter IsFresh steps → Assigns (drop start (take head steps)) l → Assigns (drop head steps) l → ⊥
+apart_parts steps start head l fresh a b =
+    let f : Step → Signed = λ s. s.literal in
+    let k : ℕ = head + b.0 in
+    let len : length (map f (drop head steps)) ≡ length (drop head steps) = length-map (drop head steps) f in
+    let in-b : b.0 < length (map f (drop head steps)) = b.1 in
+    let lt : k < length steps = omega (arith, length-drop head steps) in
+    let is : (get_or steps k no_step).literal ≡ l = ap f (sym (get_or-drop head steps b.0 no_step)) ∙ (sym (get_or-map f (drop head steps) b.0 no_step l (omega arith)) ∙ b.2) in
+    let early : Assigns (take head steps) l = subst (λ xs. Assigns xs l) (take-append-drop start (take head steps)) (after_front (take start (take head steps)) (drop start (take head steps)) l a) in
+    let before : Assigns (take k steps) l = Assigns-front head (take k steps) l (subst (λ xs. Assigns xs l) (sym (take-take head k steps (omega arith))) early) in
+    (fresh k no_step lt).0 (subst (Assigns (take k steps)) (sym is) before)
+  where
+    after_front : (xs ys : List Step) (l : Signed) → Assigns ys l → Assigns (xs ++ ys) l
+    after_front xs ys l c = rw (map-append (λ (s : Step). s.literal) xs ys) (Contains-append_right (map (λ (s : Step). s.literal) xs) (map (λ (s : Step). s.literal) ys) l c)
+
+pub LooksBy-join : (clauses : List Kept) (steps : List Step) (start head a b c : ℕ) → EachAfter IsFresh steps → start ≤ head → LooksBy (drop start (take head steps)) clauses a b → LooksBy (drop head steps) clauses b c → LooksBy (drop start steps) clauses a c
+LooksBy-join clauses steps start head a b c fresh le x y = record {
+  pairs = x.pairs ++ y.pairs;
+  none_twice = NoneTwice-append x.pairs y.pairs x.none_twice y.none_twice
+      (λ i j in-i in-j e.
+      apart_parts steps start head (opposite (get_or x.pairs i no_pair).literal) fresh (All-get_or (λ (p : Pair). IsFalseOn (drop start (take head steps)) p.literal) x.pairs i no_pair in-i x.are_false)
+      (subst (λ (p : Pair). Assigns (drop head steps) (opposite p.literal)) (sym e) (All-get_or (λ (p : Pair). IsFalseOn (drop head steps) p.literal) y.pairs j no_pair in-j y.are_false)));
+  having = All-append (λ (p : Pair). HasKept clauses p.id (λ ls. Contains ls p.literal)) x.pairs y.pairs x.having y.having;
+  are_false = All-append (λ (p : Pair). IsFalseOn (drop start steps) p.literal) x.pairs y.pairs
+      (All-weaker (λ (p : Pair). IsFalseOn (drop start (take head steps)) p.literal) (λ (p : Pair). IsFalseOn (drop start steps) p.literal) (λ p f. early (opposite p.literal) f) x.pairs x.are_false)
+      (All-weaker (λ (p : Pair). IsFalseOn (drop head steps) p.literal) (λ (p : Pair). IsFalseOn (drop start steps) p.literal) (λ p f. late (opposite p.literal) f) y.pairs y.are_false);
+  bound = omega (arith, length-append x.pairs y.pairs, x.bound, y.bound);
+}
+  where
+    at_place : (n : ℕ) (xs : List Step) (l : Signed) → (k : ℕ) → n ≤ k → k < length xs → (get_or xs k no_step).literal ≡ l → Assigns (drop n xs) l
+    at_place n xs l k from within is =
+        let e : n + (k - n) ≡ k = omega arith in
+        subst (Assigns (drop n xs)) (ap (λ (s : Step). s.literal) (get_or-drop n xs (k - n) no_step ∙ ap (λ m. get_or xs m no_step) e) ∙ is)
+        (assigns_at (drop n xs) (k - n) no_step (omega (arith, length-drop n xs)))
+
+    -- where a step of the rest of a list stands
+    place_of : (n : ℕ) (xs : List Step) (l : Signed) → Assigns (drop n xs) l → (k : ℕ) × (n ≤ k) × (k < length xs) × ((get_or xs k no_step).literal ≡ l)
+    place_of n xs l h =
+        let f : Step → Signed = λ s. s.literal in
+        let len : length (map f (drop n xs)) ≡ length (drop n xs) = length-map (drop n xs) f in
+        let in-h : h.0 < length (map f (drop n xs)) = h.1 in
+        (n + h.0, omega arith, omega (arith, length-drop n xs), ap f (sym (get_or-drop n xs h.0 no_step)) ∙ (sym (get_or-map f (drop n xs) h.0 no_step l (omega arith)) ∙ h.2))
+
+    early : (l : Signed) → Assigns (drop start (take head steps)) l → Assigns (drop start steps) l
+    early l h =
+        let p = place_of start (take head steps) l h in
+        let from : start ≤ p.0 = p.1 in
+        let within : p.0 < length (take head steps) = p.2 in
+        let below : p.0 < head = omega (arith, length-take head steps) in
+        at_place start steps l p.0 from (omega (arith, length-take head steps)) (ap (λ (s : Step). s.literal) (sym (get_or-take head steps p.0 no_step below)) ∙ p.3)
+
+    late : (l : Signed) → Assigns (drop head steps) l → Assigns (drop start steps) l
+    late l h =
+        let p = place_of head steps l h in
+        let from : head ≤ p.0 = p.1 in
+        at_place start steps l p.0 (omega arith) p.2 p.3

@@ -29,25 +29,25 @@ Sweeps-start atoms depth f s w = record {
 }
 
 -- the list of the literal in the whole
-own_list : (f : Signed) (s : State) → packed f < length s.lists → watches_of (set s.lists (packed f) s.list) f ≡ s.list
+pub own_list : (f : Signed) (s : State) → packed f < length s.lists → watches_of (set s.lists (packed f) s.list) f ≡ s.list
 own_list f s lt = watches_of-same s.lists f s.list lt
 
-listed_own : (atoms : ℕ) (f : Signed) (s : State) (i : ℕ) → packed f < length s.lists → IsWatched atoms s.entries (set s.lists (packed f) s.list) → (entry_at s.entries i).live ≡ true
+pub listed_own : (atoms : ℕ) (f : Signed) (s : State) (i : ℕ) → packed f < length s.lists → IsWatched atoms s.entries (set s.lists (packed f) s.list) → (entry_at s.entries i).live ≡ true
     → ((entry_at s.entries i).first ≡ f) ⊎ ((entry_at s.entries i).second ≡ f) → IsListed s.list 0 i
 listed_own atoms f s i lt w live is = subst (λ ws. IsListed ws 0 i) (own_list f s lt) (pair_lists atoms s.entries (set s.lists (packed f) s.list) i f w live is).1
 
-sound_own : (atoms : ℕ) (f : Signed) (s : State) → packed f < length s.lists → IsWatched atoms s.entries (set s.lists (packed f) s.list) → All (IsSound atoms s.entries) s.list
+pub sound_own : (atoms : ℕ) (f : Signed) (s : State) → packed f < length s.lists → IsWatched atoms s.entries (set s.lists (packed f) s.list) → All (IsSound atoms s.entries) s.list
 sound_own atoms f s lt w = subst (All (IsSound atoms s.entries)) (own_list f s lt) (w.sound f)
 
 -- the literal's list changes, and nothing else
-relist : (atoms : ℕ) (f : Signed) (es : List Entry) (lists : List (List Watch)) (ws ws' : List Watch) → packed f < length lists → IsWatched atoms es (set lists (packed f) ws)
+pub relist : (atoms : ℕ) (f : Signed) (es : List Entry) (lists : List (List Watch)) (ws ws' : List Watch) → packed f < length lists → IsWatched atoms es (set lists (packed f) ws)
     → All (IsSound atoms es) ws' → ((i : ℕ) → (entry_at es i).live ≡ true → ((entry_at es i).first ≡ f) ⊎ ((entry_at es i).second ≡ f) → IsListed ws' 0 i)
     → IsTidy es (set lists (packed f) ws') → IsWatching atoms es (set lists (packed f) ws')
 relist atoms f es lists ws ws' lt w sound listed tidy =
     subst (IsWatching atoms es) (set-set lists (packed f) ws ws')
     (IsWatching-set atoms es (set lists (packed f) ws) f ws' (omega (arith, length-set lists (packed f) ws)) w sound listed (subst (IsTidy es) (sym (set-set lists (packed f) ws ws')) tidy))
 
-at_place : (ws : List Watch) (k : ℕ) (w : Watch) → k < length ws → w ≡ get_or ws k w → w ≡ get_or ws k no_watch
+pub at_place : (ws : List Watch) (k : ℕ) (w : Watch) → k < length ws → w ≡ get_or ws k w → w ≡ get_or ws k no_watch
 at_place ws k w lt is = is ∙ get_or_default ws k w no_watch lt
 
 -- ---- the watch stays, and its clause has a true literal
@@ -85,14 +85,14 @@ Sweeps-keep atoms depth f old es lists steps steps' ws k w b h lt is place grows
 -- ---- other watched literals
 
 -- a clause settled on some steps is so with a literal that isn't false there in place of one
-awake_on : (f : Signed) (seen steps : List Step) (e : Entry) (kept found : Signed) → (e.first ≡ kept) ⊎ (e.second ≡ kept) → (found ≡ kept → ⊥) → (IsFalseOn seen found → ⊥)
+pub awake_on : (f : Signed) (seen steps : List Step) (e : Entry) (kept found : Signed) → (e.first ≡ kept) ⊎ (e.second ≡ kept) → (found ≡ kept → ⊥) → (IsFalseOn seen found → ⊥)
     → IsSettled seen steps e → IsSettled seen steps (watched e kept found)
 awake_on f seen steps e kept found is_kept apart not_false (inl s) = inl s
 awake_on f seen steps e kept found (inl first) apart not_false (inr a) = inr (record { apart = λ x. apart (sym x); first = λ x. a.first (subst (IsFalseOn seen) (sym first) x); second = not_false })
 awake_on f seen steps e kept found (inr second) apart not_false (inr a) = inr (record { apart = λ x. apart (sym x); first = λ x. a.second (subst (IsFalseOn seen) (sym second) x); second = not_false })
 
 -- so it is after the literal that became false
-awake_after : (f : Signed) (seen after steps : List Step) (e : Entry) (kept found : Signed) → IsOther e f kept → (kept ≡ f → ⊥) → (found ≡ kept → ⊥) → (IsFalseOn after found → ⊥)
+pub awake_after : (f : Signed) (seen after steps : List Step) (e : Entry) (kept found : Signed) → IsOther e f kept → (kept ≡ f → ⊥) → (found ≡ kept → ⊥) → (IsFalseOn after found → ⊥)
     → ((l : Signed) → Assigns after l → Assigns seen l ⊎ (l ≡ opposite f)) → IsSettled seen steps e → IsSettled after steps (watched e kept found)
 awake_after f seen after steps e kept found other kept_f apart not_false new (inl s) = inl s
 awake_after f seen after steps e kept found other kept_f apart not_false new (inr a) = inr (record {
@@ -211,7 +211,7 @@ sound_at atoms f s k w place h lt is = subst (IsSound atoms s.entries) (sym (at_
 pub known_at : (atoms : ℕ) (f : Signed) (s : State) (k : ℕ) (w : Watch) → packed f < length s.lists → watching atoms f s → k < length s.list → w ≡ get_or s.list k w → IsKnown atoms (entry_at s.entries w.row)
 known_at atoms f s k w place h lt is = h.known w.row (sound_at atoms f s k w place h lt is).within
 
-other_in : (atoms : ℕ) (es : List Entry) (lists : List (List Watch)) (row : ℕ) (f o : Signed) → IsWatching atoms es lists → (entry_at es row).live ≡ true → IsOther (entry_at es row) f o → Contains (entry_at es row).literals o
+pub other_in : (atoms : ℕ) (es : List Entry) (lists : List (List Watch)) (row : ℕ) (f o : Signed) → IsWatching atoms es lists → (entry_at es row).live ≡ true → IsOther (entry_at es row) f o → Contains (entry_at es row).literals o
 other_in atoms es lists row f o h live other = (pair_lists atoms es lists row o (watched_of atoms es lists h) live (elim other.pair [ inl p ↦ inr p.1 | inr p ↦ inl p.1 ])).0
 
 keep_gone : (b : Signed) → Keep b ≡ Gone → ⊥

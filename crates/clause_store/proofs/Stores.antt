@@ -1,5 +1,5 @@
 -- What stays true of a store.
-use Rattle.std.proofs.Common.{◌≡◌, ℕ, ◌+◌, ◌^◌, ◌<◌, ◌≤◌, Bool, true, false, List, [], ◌∷◌, ◌++◌, All, length, take, drop, subst, sym, ap, ◌∙◌, refl, arith, None, zero-add, ◌*◌, inl, inr, ◌⊎◌}
+use Rattle.std.proofs.Common.{◌≡◌, ℕ, ◌+◌, ◌^◌, ◌<◌, ◌≤◌, Bool, true, false, List, [], ◌∷◌, ◌++◌, All, Contains, length, take, drop, subst, sym, ap, ◌∙◌, refl, arith, None, zero-add, ◌*◌}
 use Rattle.std.proofs.lemmas.List.{take_at, take-append-le, get_or_append_left, length-append, length_push}
 use Rattle.std.proofs.lemmas.List.Elements.{All-contains, All-push, All-weaker, Contains-append_left}
 use Rattle.literals.specs.Signed.{Signed, packed}
@@ -21,9 +21,8 @@ use Rattle.clause_store.specs.declared.run.Reached.TheVariants.{Fixpoint}
 use Rattle.clause_store.specs.Runs.{IsFalseAt}
 use Rattle.clause_store.proofs.Kept.{EachAfter-append, EachAfter-push, Grows-trans, All-kept, has_kept, kept_in}
 use Rattle.clause_store.proofs.Adding.{kept_from-push}
-use Rattle.clause_store.proofs.Depths.{settled_quiet, Rested-done, Rested-grown, Rested-decide, up_to-all}
+use Rattle.clause_store.proofs.Depths.{settled_quiet, Rested-done, Rested-grown, Rested-decide, Rested-undo, up_to-all}
 use Rattle.clause_store.specs.declared.lists.Watch.{Watch}
-use Rattle.clause_store.specs.declared.waits.Save.{Save}
 use Rattle.clause_store.specs.declared.waits.Wait.{Wait}
 
 same_trail : (t : Assigned) (steps : List Step) (atoms depth : ℕ) → t.steps ≡ steps → t.atoms ≡ atoms → t.depth ≡ depth → let u : Assigned = record { steps = steps; atoms = atoms; depth = depth } in t ≡ u
@@ -51,52 +50,49 @@ pub known_live : (atoms : ℕ) (es : List Entry) → All (λ (c : Kept). All (λ
 known_live atoms es h i live = All-contains (λ (c : Kept). All (λ (l : Signed). l.atom < atoms) c.literals) (kept_from 0 es) (kept_of (0 + i) (entry_at es i)) h (kept_in 0 es i live)
 
 -- the store after steps that its clauses force; other clauses may wait, and the watches may be kept up otherwise
-pub IsKept-grown : (es es' : List Entry) (lists lists' : List (List Watch)) (t t' : Assigned) (head head' : ℕ) (saves : List Save) (ws : List Wait) (loose loose' : Bool) → IsKept es lists t head saves ws loose
-    → Grows (kept_from 0 es) t.depth t.steps t'.steps → kept_from 0 es' ≡ kept_from 0 es → length es' ≡ length es → t'.atoms ≡ t.atoms → (loose' ≡ false → IsTight es' lists' t' head' saves ws)
-    → IsKept es' lists' t' head' saves ws loose'
-IsKept-grown es es' lists lists' t t' head head' saves ws loose loose' h grows e count a tight = record {
+pub IsKept-grown : (es es' : List Entry) (lists lists' : List (List Watch)) (t t' : Assigned) (head head' : ℕ) (ws : List Wait) (loose loose' : Bool) → IsKept es lists t head ws loose
+    → Grows (kept_from 0 es) t.depth t.steps t'.steps → kept_from 0 es' ≡ kept_from 0 es → length es' ≡ length es → t'.atoms ≡ t.atoms → (loose' ≡ false → IsTight es' lists' t' head' ws)
+    → IsKept es' lists' t' head' ws loose'
+IsKept-grown es es' lists lists' t t' head head' ws loose loose' h grows e count a tight = record {
   known = subst (λ cs. All (λ (c : Kept). All (λ (l : Signed). l.atom < t'.atoms) c.literals) cs) (sym e) (subst (λ n. All (λ (c : Kept). All (λ (l : Signed). l.atom < n) c.literals) (kept_from 0 es)) (sym a) h.known);
   justified = subst (λ cs. EachAfter (IsJustified cs) t'.steps) (sym e) (justified-grown (kept_from 0 es) t.depth t.steps t'.steps grows h.justified);
   small = subst (λ n. n < 2 ^ 32) (sym count) h.small;
   tight = tight;
 }
 
-pub tight-driven : (es es' : List Entry) (lists lists' : List (List Watch)) (t t' : Assigned) (head head' : ℕ) (saves : List Save) (ws : List Wait) → IsTight es lists t head saves ws → t'.atoms ≡ t.atoms → t'.depth ≡ t.depth
-    → Drives t.atoms t.depth ws (record { entries = es; lists = lists; steps = t.steps }) (record { entries = es'; lists = lists'; steps = t'.steps }) head head' → IsTight es' lists' t' head' saves ws
-tight-driven es es' lists lists' t t' head head' saves ws h a d dr = record {
+pub tight-driven : (es' : List Entry) (lists' : List (List Watch)) (t t' : Assigned) (head' : ℕ) (ws' : List Wait) → t'.atoms ≡ t.atoms → t'.depth ≡ t.depth
+    → Drives t.atoms t.depth (record { entries = es'; lists = lists'; steps = t'.steps }) head' ws' → IsTight es' lists' t' head' ws'
+tight-driven es' lists' t t' head' ws' a d dr = record {
   watch = subst (λ n. IsWatching n es' lists') (sym a) dr.watch;
-  rested = subst (λ n. Rested es' t'.steps n head' saves ws) (sym d) (dr.rested saves h.rested);
+  rested = subst (λ n. Rested es' t'.steps n head' head' ws') (sym d) dr.rested;
 }
 
 -- so it is when propagation ends, where none may wait at depth 0
-pub IsKept-settled : (es es' : List Entry) (lists lists' : List (List Watch)) (t t' : Assigned) (head head' : ℕ) (saves : List Save) (ws ws' : List Wait) (loose : Bool) → IsKept es lists t head saves ws loose
-    → Grows (kept_from 0 es) t.depth t.steps t'.steps → kept_from 0 es' ≡ kept_from 0 es → length es' ≡ length es → t'.atoms ≡ t.atoms → (loose ≡ false → IsTight es' lists' t' head' saves ws')
-    → IsKept es' lists' t' head' saves ws' loose
-IsKept-settled es es' lists lists' t t' head head' saves ws ws' loose h grows e count a tight = record {
+pub IsKept-settled : (es es' : List Entry) (lists lists' : List (List Watch)) (t t' : Assigned) (head head' : ℕ) (ws ws' : List Wait) (loose loose' : Bool) → IsKept es lists t head ws loose
+    → Grows (kept_from 0 es) t.depth t.steps t'.steps → kept_from 0 es' ≡ kept_from 0 es → length es' ≡ length es → t'.atoms ≡ t.atoms → (loose' ≡ false → IsTight es' lists' t' head' ws')
+    → IsKept es' lists' t' head' ws' loose'
+IsKept-settled es es' lists lists' t t' head head' ws ws' loose loose' h grows e count a tight = record {
   known = subst (λ cs. All (λ (c : Kept). All (λ (l : Signed). l.atom < t'.atoms) c.literals) cs) (sym e) (subst (λ n. All (λ (c : Kept). All (λ (l : Signed). l.atom < n) c.literals) (kept_from 0 es)) (sym a) h.known);
   justified = subst (λ cs. EachAfter (IsJustified cs) t'.steps) (sym e) (justified-grown (kept_from 0 es) t.depth t.steps t'.steps grows h.justified);
   small = subst (λ n. n < 2 ^ 32) (sym count) h.small;
   tight = tight;
 }
 
-pub tight-settled : (es es' : List Entry) (lists lists' : List (List Watch)) (t t' : Assigned) (head head' : ℕ) (saves : List Save) (ws ws' : List Wait) → IsTight es lists t head saves ws → t'.atoms ≡ t.atoms → t'.depth ≡ t.depth
-    → DriveGives t.atoms t.depth ws (record { entries = es; lists = lists; steps = t.steps }) (record { entries = es'; lists = lists'; steps = t'.steps }) head head' Fixpoint
-    → (ws' ≡ ws) ⊎ ((t'.depth ≡ 0) × (ws' ≡ [])) → IsTight es' lists' t' head' saves ws'
-tight-settled es es' lists lists' t t' head head' saves ws ws' h a d gives settled =
-    let driven : IsTight es' lists' t' head' saves ws = tight-driven es es' lists lists' t t' head head' saves ws h a d gives.0 in
-    elim settled [
-      | inl same ↦ subst (IsTight es' lists' t' head' saves) (sym same) driven
-      | inr done ↦ subst (IsTight es' lists' t' head' saves) (sym done.1) (record {
-        watch = driven.watch;
-        rested = Rested-done es' t'.steps t'.depth head' saves ws done.0 gives.2 (gives.1 saves h.rested).settled driven.rested;
-      })
-    ]
+pub tight-settled : (es' : List Entry) (lists' : List (List Watch)) (t t' : Assigned) (head' : ℕ) (ws ws' : List Wait) → t'.atoms ≡ t.atoms → t'.depth ≡ t.depth
+    → DriveGives t.atoms t.depth (record { entries = es'; lists = lists'; steps = t'.steps }) head' ws Fixpoint
+    → ((w : Wait) → Contains ws w → w.depth < t'.depth → Contains ws' w) → ((w : Wait) → Contains ws' w → Contains ws w × (w.depth < t'.depth)) → IsTight es' lists' t' head' ws'
+tight-settled es' lists' t t' head' ws ws' a d gives keeps only =
+    let driven : IsTight es' lists' t' head' ws = tight-driven es' lists' t t' head' ws a d gives.0 in
+    record {
+      watch = driven.watch;
+      rested = Rested-done es' t'.steps t'.depth head' head' ws ws' gives.2 gives.1.settled keeps only driven.rested;
+    }
 
-pub tight-grown : (es : List Entry) (lists : List (List Watch)) (t t' : Assigned) (head : ℕ) (saves : List Save) (ws : List Wait) → Grows (kept_from 0 es) t.depth t.steps t'.steps → t'.atoms ≡ t.atoms → t'.depth ≡ t.depth
-    → IsTight es lists t head saves ws → IsTight es lists t' head saves ws
-tight-grown es lists t t' head saves ws grows a d h = record {
+pub tight-grown : (es : List Entry) (lists : List (List Watch)) (t t' : Assigned) (head : ℕ) (ws : List Wait) → Grows (kept_from 0 es) t.depth t.steps t'.steps → t'.atoms ≡ t.atoms → t'.depth ≡ t.depth
+    → IsTight es lists t head ws → IsTight es lists t' head ws
+tight-grown es lists t t' head ws grows a d h = record {
   watch = subst (λ n. IsWatching n es lists) (sym a) h.watch;
-  rested = subst (λ n. Rested es t'.steps n head saves ws) (sym d) (Rested-grown (kept_from 0 es) es t.steps t'.steps t.depth head saves ws grows h.rested);
+  rested = subst (λ n. Rested es t'.steps n head head ws) (sym d) (Rested-grown (kept_from 0 es) es t.steps t'.steps t.depth head head ws grows h.rested);
 }
 
 pub all_quiet : (atoms : ℕ) (p : Parts) → IsWatching atoms p.entries p.lists → IsQuietAll p → All (λ (c : Kept). IsQuiet p.steps c.literals) (kept_from 0 p.entries)
@@ -124,44 +120,47 @@ Propagated-trans a b c h k =
 pub lists_back : (atoms : ℕ) (es : List Entry) (new items : List (List Watch)) (n : ℕ) (P : List (List Watch) → Type 0) → length new ≡ n → P new → P (take n (new ++ drop (length new) items))
 lists_back atoms es new items n P e h = subst P (sym (back_whole new items n e)) h
 
-pub IsKept-decide : (es : List Entry) (lists : List (List Watch)) (t : Assigned) (head : ℕ) (saves saves' : List Save) (ws : List Wait) (loose loose' : Bool) (s : Step) (x : Save) → IsKept es lists t head saves ws loose
-    → s.reason ≡ None → s.depth ≡ t.depth + 1 → x.head ≡ head → x.rows ≡ length es → (loose' ≡ false → (loose ≡ false) × (saves' ≡ saves ++ x ∷ []))
-    → IsKept es lists (record { steps = t.steps ++ s ∷ []; atoms = t.atoms; depth = t.depth + 1 }) head saves' ws loose'
-IsKept-decide es lists t head saves saves' ws loose loose' s x h reason deep is_head is_rows tight = record {
+pub IsKept-decide : (es : List Entry) (lists : List (List Watch)) (t : Assigned) (head : ℕ) (ws : List Wait) (loose : Bool) (s : Step) → IsKept es lists t head ws loose
+    → s.reason ≡ None → s.depth ≡ t.depth + 1 → IsKept es lists (record { steps = t.steps ++ s ∷ []; atoms = t.atoms; depth = t.depth + 1 }) head ws loose
+IsKept-decide es lists t head ws loose s h reason deep = record {
   known = h.known;
   justified = EachAfter-push (IsJustified (kept_from 0 es)) t.steps s h.justified (λ id e. cc);
   small = h.small;
   tight = λ e.
-      let was : IsTight es lists t head saves ws = h.tight (tight e).0 in
-      record { watch = was.watch; rested = subst (λ xs. Rested es (t.steps ++ s ∷ []) (t.depth + 1) head xs ws) (sym (tight e).1) (Rested-decide es t.steps t.depth head saves ws s x deep is_head is_rows was.rested) };
+      let was : IsTight es lists t head ws = h.tight e in
+      record { watch = was.watch; rested = Rested-decide es t.steps t.depth head head ws s deep was.rested };
 }
 
 EachAfter-front : {X : Type 0} (P : List X → X → Type 0) (xs ys : List X) → EachAfter P (xs ++ ys) → EachAfter P xs
 EachAfter-front P xs ys each k d h = rw (take-append-le k xs ys (omega arith), get_or_append_left xs ys d k h) at (each k d (omega (arith, length-append xs ys)))
 
-pub IsKept-undo : (es : List Entry) (lists : List (List Watch)) (t t' : Assigned) (rest : List Step) (head head' : ℕ) (saves saves' : List Save) (ws ws' : List Wait) (loose loose' : Bool) → IsKept es lists t head saves ws loose
-    → t'.atoms ≡ t.atoms → t.steps ≡ t'.steps ++ rest → (loose' ≡ false → IsTight es lists t' head' saves' ws') → IsKept es lists t' head' saves' ws' loose'
-IsKept-undo es lists t t' rest head head' saves saves' ws ws' loose loose' h a e tight = record {
+pub IsKept-undo : (es : List Entry) (lists : List (List Watch)) (t t' : Assigned) (rest : List Step) (head head' : ℕ) (ws ws' : List Wait) (loose loose' : Bool) → IsKept es lists t head ws loose
+    → t'.atoms ≡ t.atoms → t.steps ≡ t'.steps ++ rest → (loose' ≡ false → IsTight es lists t' head' ws') → IsKept es lists t' head' ws' loose'
+IsKept-undo es lists t t' rest head head' ws ws' loose loose' h a e tight = record {
   known = subst (λ n. All (λ (c : Kept). All (λ (l : Signed). l.atom < n) c.literals) (kept_from 0 es)) (sym a) h.known;
   justified = EachAfter-front (IsJustified (kept_from 0 es)) t'.steps rest (subst (EachAfter (IsJustified (kept_from 0 es))) e h.justified);
   small = h.small;
   tight = tight;
 }
 
-pub tight-same : (es : List Entry) (lists : List (List Watch)) (t : Assigned) (d head : ℕ) (saves : List Save) (ws : List Wait) → d ≤ t.depth → length saves ≤ d → IsTight es lists t head saves ws
-    → IsTight es lists (record { steps = up_to d t.steps; atoms = t.atoms; depth = d }) head saves ws
-tight-same es lists t d head saves ws le ge h =
-    let count : length saves ≡ t.depth = h.rested.count in
+pub tight-same : (es : List Entry) (lists : List (List Watch)) (t : Assigned) (d head : ℕ) (ws : List Wait) → d ≤ t.depth → t.depth ≤ d → IsTight es lists t head ws
+    → IsTight es lists (record { steps = up_to d t.steps; atoms = t.atoms; depth = d }) head ws
+tight-same es lists t d head ws le ge h =
     let e : t.depth ≡ d = omega arith in
     record {
       watch = h.watch;
-      rested = subst (λ n. Rested es (up_to n t.steps) n head saves ws) e (subst (λ ss. Rested es ss t.depth head saves ws) (sym (up_to-all t.depth t.steps h.rested.deepest)) h.rested);
+      rested = subst (λ n. Rested es (up_to n t.steps) n head head ws) e (subst (λ ss. Rested es ss t.depth head head ws) (sym (up_to-all t.depth t.steps h.rested.deepest)) h.rested);
     }
 
+pub tight-undo : (es : List Entry) (lists : List (List Watch)) (t : Assigned) (d head head' : ℕ) (ws ws' : List Wait) → head' ≤ head → head' ≤ length (up_to d t.steps)
+    → ((w : Wait) → Contains ws w → w.depth < d + 1 → Contains ws' w) → ((w : Wait) → Contains ws' w → Contains ws w × (w.depth < d + 1)) → IsTight es lists t head ws
+    → IsTight es lists (record { steps = up_to d t.steps; atoms = t.atoms; depth = d }) head' ws'
+tight-undo es lists t d head head' ws ws' le within keeps only h = record { watch = h.watch; rested = Rested-undo es t.steps t.depth head head d ws ws' head' h.rested le within keeps only }
+
 -- a clause more
-pub IsKept-add : (es : List Entry) (lists lists' : List (List Watch)) (t : Assigned) (head head' : ℕ) (saves : List Save) (ws ws' : List Wait) (loose loose' : Bool) (e : Entry) → IsKept es lists t head saves ws loose → e.live ≡ true
-    → All (λ (l : Signed). l.atom < t.atoms) e.literals → length es + 1 < 2 ^ 32 → (loose' ≡ false → IsTight (es ++ e ∷ []) lists' t head' saves ws') → IsKept (es ++ e ∷ []) lists' t head' saves ws' loose'
-IsKept-add es lists lists' t head head' saves ws ws' loose loose' e h live known small tight =
+pub IsKept-add : (es : List Entry) (lists lists' : List (List Watch)) (t : Assigned) (head : ℕ) (ws ws' : List Wait) (loose loose' : Bool) (e : Entry) → IsKept es lists t head ws loose → e.live ≡ true
+    → All (λ (l : Signed). l.atom < t.atoms) e.literals → length es + 1 < 2 ^ 32 → (loose' ≡ false → IsTight (es ++ e ∷ []) lists' t head ws') → IsKept (es ++ e ∷ []) lists' t head ws' loose'
+IsKept-add es lists lists' t head ws ws' loose loose' e h live known small tight =
     let c : Kept = kept_of (0 + length es) e in
     let more : kept_from 0 (es ++ e ∷ []) ≡ kept_from 0 es ++ c ∷ [] = kept_from-push 0 es e live in
     record {
@@ -182,16 +181,16 @@ stored_more es es' ls level t g =
     ∙ (ap (λ (xs : List Signed). let k : Kept = record { id = length es; literals = xs; level = g.entry.level } in stored (kept_from 0 es ++ k ∷ [])) g.literals
     ∙ ap (λ (n : ℕ). let k : Kept = record { id = length es; literals = ls; level = n } in stored (kept_from 0 es ++ k ∷ [])) g.level_is)))
 
-pub IsKept-gains : (es es' : List Entry) (ls : List Signed) (level : ℕ) (lists lists' : List (List Watch)) (t : Assigned) (head head' : ℕ) (saves : List Save) (ws ws' : List Wait) (loose loose' : Bool) → GainsEntry es es' ls level → IsKept es lists t head saves ws loose
-    → All (λ (l : Signed). l.atom < t.atoms) ls → length es + 1 < 2 ^ 32 → (loose' ≡ false → IsTight es' lists' t head' saves ws') → IsKept es' lists' t head' saves ws' loose'
-IsKept-gains es es' ls level lists lists' t head head' saves ws ws' loose loose' g h known small tight =
-    subst (λ xs. IsKept xs lists' t head' saves ws' loose') (sym g.gains)
-    (IsKept-add es lists lists' t head head' saves ws ws' loose loose' g.entry h g.live (subst (All (λ (l : Signed). l.atom < t.atoms)) (sym g.literals) known) small
-    (λ e. subst (λ xs. IsTight xs lists' t head' saves ws') g.gains (tight e)))
+pub IsKept-gains : (es es' : List Entry) (ls : List Signed) (level : ℕ) (lists lists' : List (List Watch)) (t : Assigned) (head : ℕ) (ws ws' : List Wait) (loose loose' : Bool) → GainsEntry es es' ls level → IsKept es lists t head ws loose
+    → All (λ (l : Signed). l.atom < t.atoms) ls → length es + 1 < 2 ^ 32 → (loose' ≡ false → IsTight es' lists' t head ws') → IsKept es' lists' t head ws' loose'
+IsKept-gains es es' ls level lists lists' t head ws ws' loose loose' g h known small tight =
+    subst (λ xs. IsKept xs lists' t head ws' loose') (sym g.gains)
+    (IsKept-add es lists lists' t head ws ws' loose loose' g.entry h g.live (subst (All (λ (l : Signed). l.atom < t.atoms)) (sym g.literals) known) small
+    (λ e. subst (λ xs. IsTight xs lists' t head ws') g.gains (tight e)))
 
-pub tight-kept : (es es' : List Entry) (lists lists' : List (List Watch)) (t : Assigned) (head head' : ℕ) (saves : List Save) (ws ws' : List Wait) → KeepsUp t.atoms t.steps es es' lists lists' ws ws' head head' → IsTight es lists t head saves ws → IsTight es' lists' t head' saves ws'
-tight-kept es es' lists lists' t head head' saves ws ws' k h =
-    let r = k saves t.depth (record { watch = h.watch; rested = h.rested }) in
+pub tight-kept : (es es' : List Entry) (lists lists' : List (List Watch)) (t : Assigned) (head : ℕ) (ws ws' : List Wait) → KeepsUp t.atoms t.steps es es' lists lists' ws ws' → IsTight es lists t head ws → IsTight es' lists' t head ws'
+tight-kept es es' lists lists' t head ws ws' k h =
+    let r = k head head t.depth (record { watch = h.watch; rested = h.rested }) in
     record { watch = r.watch; rested = r.rested }
 
 pub codes_within : (atoms n : ℕ) (ls : List Signed) → 2 * atoms ≤ n → All (λ (l : Signed). l.atom < atoms) ls → All (λ (l : Signed). packed l < n) ls

@@ -6,7 +6,6 @@ use Rattle.clause_store.specs.Entries.{Entry}
 use Rattle.clause_store.specs.Watching.{IsWatching}
 use Rattle.clause_store.specs.Rested.{Rested}
 use Rattle.clause_store.specs.declared.lists.Watch.{Watch}
-use Rattle.clause_store.specs.declared.waits.Save.{Save}
 use Rattle.clause_store.specs.declared.waits.Wait.{Wait}
 
 pub record GainsEntry (old new : List Entry) (ls : List Signed) (level : ℕ) : Type 0 where
@@ -16,10 +15,10 @@ pub record GainsEntry (old new : List Entry) (ls : List Signed) (level : ℕ) : 
   pub level_is : entry.level ≡ level
   pub live : entry.live ≡ true
 
-pub record KeptUp (atoms : ℕ) (steps : List Step) (es : List Entry) (lists : List (List Watch)) (ws : List Wait) (head : ℕ) (saves : List Save) (depth : ℕ) : Type 0 where
+pub record KeptUp (atoms : ℕ) (steps : List Step) (es : List Entry) (lists : List (List Watch)) (ws : List Wait) (head lasting depth : ℕ) : Type 0 where
   pub watch : IsWatching atoms es lists
-  pub rested : Rested es steps depth head saves ws
+  pub rested : Rested es steps depth head lasting ws
 
-abbrev pub KeepsUp : ℕ → List Step → List Entry → List Entry → List (List Watch) → List (List Watch) → List Wait → List Wait → ℕ → ℕ → Type 0
-KeepsUp atoms steps es es' lists lists' ws ws' head head' =
-    (saves : List Save) (depth : ℕ) → KeptUp atoms steps es lists ws head saves depth → KeptUp atoms steps es' lists' ws' head' saves depth
+abbrev pub KeepsUp : ℕ → List Step → List Entry → List Entry → List (List Watch) → List (List Watch) → List Wait → List Wait → Type 0
+KeepsUp atoms steps es es' lists lists' ws ws' =
+    (head lasting depth : ℕ) → KeptUp atoms steps es lists ws head lasting depth → KeptUp atoms steps es' lists' ws' head lasting depth

@@ -8,16 +8,15 @@ use Rattle.clause_store.specs.Entries.{Entry}
 use Rattle.clause_store.specs.Watching.{IsWatching, kept_from}
 use Rattle.clause_store.specs.Rested.{Rested}
 use Rattle.clause_store.specs.declared.lists.Watch.{Watch}
-use Rattle.clause_store.specs.declared.waits.Save.{Save}
 use Rattle.clause_store.specs.declared.waits.Wait.{Wait}
 
 -- the watches are kept up
-pub record IsTight (es : List Entry) (lists : List (List Watch)) (trail : Assigned) (head : ℕ) (saves : List Save) (ws : List Wait) : Type 0 where
+pub record IsTight (es : List Entry) (lists : List (List Watch)) (trail : Assigned) (head : ℕ) (ws : List Wait) : Type 0 where
   pub watch : IsWatching trail.atoms es lists
-  pub rested : Rested es trail.steps trail.depth head saves ws
+  pub rested : Rested es trail.steps trail.depth head head ws
 
-pub record IsKept (es : List Entry) (lists : List (List Watch)) (trail : Assigned) (head : ℕ) (saves : List Save) (ws : List Wait) (loose : Bool) : Type 0 where
+pub record IsKept (es : List Entry) (lists : List (List Watch)) (trail : Assigned) (head : ℕ) (ws : List Wait) (loose : Bool) : Type 0 where
   pub known : All (λ (c : Kept). All (λ (l : Signed). l.atom < trail.atoms) c.literals) (kept_from 0 es)
   pub justified : EachAfter (IsJustified (kept_from 0 es)) trail.steps
   pub small : length es < 2 ^ 32
-  pub tight : loose ≡ false → IsTight es lists trail head saves ws
+  pub tight : loose ≡ false → IsTight es lists trail head ws

@@ -1,24 +1,24 @@
 // Which two literals of a new clause are watched.
-ghost use Rattle.std.specs.Prelude.{◌≡◌, ℕ, ◌+◌, ◌*◌, ◌^◌, ◌<◌, ◌≤◌, ◌⊎◌, true, false, List, All, Contains, length, IfOk, IfSome, OnOk, OnErr};
+ghost use Rattle.std.specs.Prelude.{◌≡◌, ℕ, ◌+◌, ◌*◌, ◌^◌, ◌<◌, ◌≤◌, ◌⊎◌, true, false, List, All, Contains, length, IfOk, OnOk, OnErr};
 ghost use Rattle.clause_store.specs.Gaining.{GainsEntry, KeepsUp};
-ghost use Rattle.literals.specs.Signed.{Signed, packed};
+ghost use Rattle.literals.specs.Signed.{Signed, opposite, packed};
 ghost use Rattle.clause_store.specs.Stored.{IsFalseOn};
-ghost use Rattle.clause_store.specs.Choosing.{IsChoice, Enlists, EnlistsBoth};
+ghost use Rattle.clause_store.specs.Choosing.{IsChoice, Outlasts, Enlists, EnlistsBoth};
+ghost use Rattle.clause_store.specs.From.{IsFrom};
 
 use crate::lists::{Watch, WatchList};
 use crate::rows::Rows;
-use crate::sweep::{find, is_false};
+use crate::sweep::{find, is_false, is_same};
 use crate::trail::Trail;
 use crate::waits::{Wait, wait_in_room};
 use literals::Literal;
 use std::alloc::AllocError;
 
-// How a clause stands on the trail: neither watched literal is false, or all but the first are, or another look is due.
+// How a clause stands on the trail: neither watched literal is false, or from a depth on all but the first are.
 #[derive(Clone, Copy)]
 pub enum Standing {
     Awake,
-    Waits,
-    Stirred,
+    Waits(u32),
 }
 
 #[derive(Clone, Copy)]
@@ -28,95 +28,116 @@ pub struct Choice {
     pub standing: Standing,
 }
 
-fn is_same(a: Literal, b: Literal) -> bool
-    ensures yes { result ≡ true → a ≡ b }
-    ensures no { result ≡ false → a ≡ b → ⊥ }
+// Whether a literal isn't false, or became so no earlier than the other.
+fn outlasts(a: Literal, b: Literal, trail: &Trail) -> bool
+    requires first { a.atom < trail.now.atoms }
+    requires second { b.atom < trail.now.atoms }
+    ensures yes { result ≡ true → Outlasts trail.now.steps a b }
+    ensures no { result ≡ false → Outlasts trail.now.steps b a }
 {
-    a == b
+    if !is_false(trail, a) {
+        return true;
+    }
+    if !is_false(trail, b) {
+        return false;
+    }
+    trail.depth_of(a.negated()) >= trail.depth_of(b.negated())
 }
 
-#[derive(Clone, Copy)]
-pub struct Pick {
-    pub literal: Literal,
-    pub place: usize,
-}
-
-// The later of the best so far and this one; the first literal is the least of all.
-fn later(best: Pick, literal: Literal, first: Literal, trail: &Trail) -> Pick
-    requires known { literal.atom < trail.now.atoms }
-    requires rest { (literal ≡ first) ⊎ IsFalseOn trail.now.steps literal }
-    ensures of { (result.literal ≡ best.literal) ⊎ (result.literal ≡ literal) }
-    ensures single { first ≡ result.literal → (first ≡ best.literal) × (literal ≡ first) }
+fn later(best: Literal, literal: Literal, trail: &Trail) -> Literal
+    requires best { best.atom < trail.now.atoms }
+    requires literal { literal.atom < trail.now.atoms }
+    ensures of { (result ≡ best) ⊎ (result ≡ literal) }
+    ensures best { Outlasts trail.now.steps result best }
+    ensures literal { Outlasts trail.now.steps result literal }
 {
-    if is_same(literal, first) {
+    if outlasts(best, literal, trail) {
         return best;
     }
-    let place = trail.place(literal.negated());
-    if is_same(best.literal, first) {
-        return Pick { literal, place };
-    }
-    if place > best.place {
-        return Pick { literal, place };
+    literal
+}
+
+// A literal that isn't false, or the one that became so last.
+fn last(literals: &[Literal], trail: &Trail) -> Literal
+    requires some { 0 < length literals.now }
+    requires known { All (λ (l : Signed). l.atom < trail.now.atoms) literals.now }
+    ensures contained { Contains literals.now result }
+    ensures last { All (Outlasts trail.now.steps result) literals.now }
+{
+    let mut best = literals[0];
+    for literal in literals {
+        best = later(best, *literal, trail);
     }
     best
 }
 
-// A literal other than this one, where there is one: of these, which are false, the one that became so last.
-fn another(literals: &[Literal], first: Literal, trail: &Trail) -> Literal
+// The later of two literals, where the first of all isn't to be taken again.
+fn later_other(best: Literal, literal: Literal, first: Literal, trail: &Trail) -> Literal
+    requires best { best.atom < trail.now.atoms }
+    requires literal { literal.atom < trail.now.atoms }
+    ensures of { (result ≡ best) ⊎ (result ≡ literal) }
+    ensures single { first ≡ result → (first ≡ best) × (literal ≡ first) }
+    ensures best { (first ≡ best) ⊎ Outlasts trail.now.steps result best }
+    ensures literal { (literal ≡ first) ⊎ Outlasts trail.now.steps result literal }
+{
+    if is_same(literal, first) {
+        return best;
+    }
+    if is_same(first, best) {
+        return literal;
+    }
+    later(best, literal, trail)
+}
+
+// Of the literals other than this one such a literal, where there is another.
+pub fn another(literals: &[Literal], first: Literal, trail: &Trail) -> Literal
     requires contained { Contains literals.now first }
-    requires rest { All (λ (m : Signed). (m ≡ first) ⊎ IsFalseOn trail.now.steps m) literals.now }
     requires known { All (λ (l : Signed). l.atom < trail.now.atoms) literals.now }
     ensures contained { Contains literals.now result }
     ensures single { first ≡ result → All (λ (m : Signed). m ≡ first) literals.now }
+    ensures last { All (λ (m : Signed). (m ≡ first) ⊎ Outlasts trail.now.steps result m) literals.now }
 {
-    let mut best = Pick {
-        literal: first,
-        place: 0,
-    };
+    let mut best = first;
     for literal in literals {
-        best = later(best, *literal, first, trail);
+        best = later_other(best, *literal, first, trail);
     }
-    best.literal
+    best
 }
 
-// A literal that isn't false, where there is one.
-fn best(literals: &[Literal], trail: &Trail) -> Literal
-    requires some { 0 < length literals.now }
-    requires known { All (λ (l : Signed). l.atom < trail.now.atoms) literals.now }
-    ensures { Contains literals.now result }
+// From which depth on all literals but the first are false, where the second became so last of them.
+pub fn false_from(first: Literal, second: Literal, trail: &Trail) -> u32
+    requires known { second.atom < trail.now.atoms }
+    requires is_false { (second ≡ first) ⊎ IsFalseOn trail.now.steps second }
+    ensures single { second ≡ first → result ≡ 0 }
+    ensures from { (second ≡ first → ⊥) → IsFrom trail.now.steps (opposite second) result }
 {
-    let literal = literals[0];
-    if !is_false(trail, literal) {
-        return literal;
+    if is_same(second, first) {
+        return 0;
     }
-    match find(literals, literal, trail) {
-        Some(other) => other,
-        None => literal,
-    }
+    trail.depth_of(second.negated())
 }
 
+// The two literals of a clause that became false last, or aren't false.
 pub fn choose(literals: &[Literal], trail: &Trail) -> Choice
     requires some { 0 < length literals.now }
     requires known { All (λ (l : Signed). l.atom < trail.now.atoms) literals.now }
     ensures { IsChoice trail.now.steps literals.now result }
 {
-    let first = best(literals, trail);
+    let _steps = trail.steps();
+    let first = last(literals, trail);
     match find(literals, first, trail) {
-        None => Choice {
+        Some(second) => Choice {
             first,
-            second: another(literals, first, trail),
-            standing: Standing::Waits,
+            second,
+            standing: Standing::Awake,
         },
-        Some(second) => {
-            let standing = if is_false(trail, first) {
-                Standing::Stirred
-            } else {
-                Standing::Awake
-            };
+        None => {
+            let second = another(literals, first, trail);
+            let from = false_from(first, second, trail);
             Choice {
                 first,
                 second,
-                standing,
+                standing: Standing::Waits(from),
             }
         }
     }
@@ -160,7 +181,7 @@ fn enlist_both(lists: &mut [WatchList], first: Literal, second: Literal, row: u3
     )
 }
 
-// Adds a clause and keeps its watches up: the number of steps gone through, or nothing where there was no room for them.
+// Adds a clause and keeps its watches up, where there was room for them.
 pub fn keep_up(
     rows: &mut Rows,
     lists: &mut [WatchList],
@@ -168,8 +189,7 @@ pub fn keep_up(
     waiting: &mut Vec<Wait>,
     literals: &[Literal],
     level: u16,
-    head: usize,
-) -> Result<Option<usize>, AllocError>
+) -> Result<bool, AllocError>
     requires some { 0 < length literals.now }
     requires known { All (λ (l : Signed). l.atom < trail.now.atoms) literals.now }
     requires small { length rows.old.entries + 1 < 2 ^ 32 }
@@ -177,7 +197,7 @@ pub fn keep_up(
     ensures looks { rows.new.looks ≡ rows.old.looks }
     ensures gains { OnOk result (GainsEntry rows.old.entries rows.new.entries literals.now level) }
     ensures same { OnErr result ((rows.new.entries ≡ rows.old.entries) × (lists.new ≡ lists.old) × (waiting.new.items ≡ waiting.old.items)) }
-    ensures keeps { IfOk result (λ o. IfSome o (λ after. KeepsUp trail.now.atoms trail.now.steps rows.old.entries rows.new.entries lists.old lists.new waiting.old.items waiting.new.items head after)) }
+    ensures keeps { IfOk result (λ b. b ≡ true → KeepsUp trail.now.atoms trail.now.steps rows.old.entries rows.new.entries lists.old lists.new waiting.old.items waiting.new.items) }
 {
     let row = rows.len() as u32;
     let choice = choose(literals, trail);
@@ -185,23 +205,18 @@ pub fn keep_up(
     let second = choice.second;
     rows.push(literals, first, second, level)?;
     if !enlist_both(lists, first, second, row) {
-        return Ok(None);
+        return Ok(false);
     }
     match choice.standing {
-        Standing::Awake => Ok(Some(head)),
-        Standing::Stirred => Ok(Some(0)),
-        Standing::Waits => {
-            if !wait_in_room(
-                waiting,
-                Wait {
-                    row,
-                    literal: first,
-                },
-            ) {
-                return Ok(None);
-            }
-            Ok(Some(head))
-        }
+        Standing::Awake => Ok(true),
+        Standing::Waits(depth) => Ok(wait_in_room(
+            waiting,
+            Wait {
+                row,
+                literal: first,
+                depth,
+            },
+        )),
     }
 }
 

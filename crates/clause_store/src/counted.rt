@@ -1,6 +1,6 @@
 // Kept clauses, and the literals that are decided or follow from them, by two watched literals a clause; and how often a clause was looked at.
 ghost use Rattle.std.specs.List.Sorted.{IsNonDecreasingBy};
-ghost use Rattle.std.specs.Prelude.{◌≡◌, ℕ, ◌+◌, ◌^◌, ◌<◌, ◌≤◌, true, false, List, [], ◌∷◌, ◌++◌, All, IfSome, IfNone, IfOk, drop, OnOk, OnErr, Some, length, max, slice_index_or};
+ghost use Rattle.std.specs.Prelude.{◌≡◌, ℕ, ◌+◌, ◌^◌, ◌<◌, ◌≤◌, true, false, List, [], ◌∷◌, ◌++◌, All, IfSome, IfNone, IfOk, drop, OnOk, OnErr, Some, length, max, min, slice_index_or};
 ghost use Rattle.clause_store.specs.Trail.{Assigns, IsOpen, StatusOf, up_to};
 ghost use Rattle.clause_store.specs.Each.{EachAfter};
 ghost use Rattle.clause_store.specs.TrailInvariant.{IsFresh, IsDecided};
@@ -11,15 +11,14 @@ ghost use Rattle.clause_store.specs.Entries.{risen};
 ghost use Rattle.clause_store.specs.Looks.{LooksBy, SettlesAll};
 
 use crate::choose::{keep_up, make_room};
-use crate::cut::cut_to;
+use crate::cut::{cut_to, wait_singles};
 use crate::lists::{WatchList, make_lists};
 use crate::rows::{Looked, Rows};
 use crate::run::{Reached, drive};
 use crate::scan::scan;
 use crate::store::Outcome;
 use crate::trail::{Status, Step, Trail};
-use crate::undo::{calm, rewind};
-use crate::waits::{Save, Wait, drop_of, settle};
+use crate::waits::{Wait, drop_from, drop_of};
 use literals::Literal;
 use std::alloc::{AllocError, Global};
 use std::marker::Model;
@@ -32,7 +31,6 @@ pub struct CountedStore {
     spare: WatchList,
     trail: Trail,
     head: usize,
-    saves: Vec<Save>,
     waiting: Vec<Wait>,
     // whether the watches are no longer kept up: propagation then scans
     loose: bool,
@@ -49,20 +47,13 @@ impl Model for CountedStore {
 
     ghost view = { λ s. record { stored = record { clauses = kept_from 0 s.rows.entries; trail = s.trail }; looks = s.rows.looks; settled = s.head; watched = not s.loose } };
 
-    ghost invariant = { λ s. IsKept s.rows.entries s.lists.items s.trail s.head s.saves.items s.waiting.items s.loose };
+    ghost invariant = { λ s. IsKept s.rows.entries s.lists.items s.trail s.head s.waiting.items s.loose };
 }
 
-// Saves one more where that takes no memory.
-fn save_in_room(saves: &mut Vec<Save>, save: Save) -> bool
-    ensures saved { result ≡ true → saves.new.items ≡ saves.old.items ++ save ∷ [] }
-    ensures full { result ≡ false → saves.new.items ≡ saves.old.items }
+fn least(a: usize, b: usize) -> usize
+    ensures { result ≡ min a b }
 {
-    if saves.len() >= saves.capacity() {
-        return false;
-    }
-    let pushed = saves.push(save);
-    prove!(pushed.is_ok());
-    true
+    if a < b { a } else { b }
 }
 
 impl CountedStore {
@@ -83,13 +74,13 @@ impl CountedStore {
             &mut self.lists,
             &mut self.spare,
             &mut self.trail,
-            &self.waiting,
+            &mut self.waiting,
             self.head,
         );
         self.head = head;
         match reached {
             Reached::Fixpoint => {
-                settle(&mut self.waiting, self.trail.depth());
+                drop_from(&mut self.waiting, self.trail.depth());
                 Some(Outcome::Fixpoint)
             }
             Reached::False(row) => Some(Outcome::False(row as u64)),
@@ -128,17 +119,9 @@ impl CountedStore {
         requires room { self.old.stored.trail.depth + 1 < 2 ^ 32 }
         ensures decided { let step : Step = record { literal = literal; depth = self.old.stored.trail.depth + 1; reason = None } in self.new.stored ≡ record self.old.stored { trail = record { steps = self.old.stored.trail.steps ++ step ∷ []; atoms = self.old.stored.trail.atoms; depth = self.old.stored.trail.depth + 1 } } }
         ensures settled { self.new.settled ≡ self.old.settled }
+        ensures watched { self.new.watched ≡ self.old.watched }
         ensures looks { self.new.looks ≡ self.old.looks }
     {
-        let rows = self.rows.len() as u32;
-        let saved = save_in_room(
-            &mut self.saves,
-            Save {
-                head: self.head,
-                rows,
-            },
-        );
-        self.loose = self.loose || !saved;
         self.trail.decide(literal);
     }
 
@@ -146,26 +129,16 @@ impl CountedStore {
         requires { depth ≤ self.old.stored.trail.depth }
         ensures undone { self.new.stored ≡ record self.old.stored { trail = record { steps = up_to depth self.old.stored.trail.steps; atoms = self.old.stored.trail.atoms; depth = depth } } }
         ensures front { (rest : List Step) × (self.old.stored.trail.steps ≡ self.new.stored.trail.steps ++ rest) }
+        ensures settled { self.new.watched ≡ true → self.new.settled ≡ min self.old.settled (length self.new.stored.trail.steps) }
         ensures looks { self.new.looks ≡ self.old.looks }
     {
+        let before = self.trail.depth();
         self.trail.undo_to(depth);
-        if self.loose {
+        if depth >= before {
             return;
         }
-        let at = depth as usize;
-        if at >= self.saves.len() {
-            return;
-        }
-        match rewind(
-            &self.rows,
-            &self.trail,
-            &mut self.saves,
-            &mut self.waiting,
-            at,
-        ) {
-            Some(head) => self.head = head,
-            None => self.loose = true,
-        }
+        drop_from(&mut self.waiting, depth + 1);
+        self.head = least(self.head, self.trail.steps().len());
     }
 
     // Adds a clause whose watches aren't kept up.
@@ -173,6 +146,7 @@ impl CountedStore {
         requires known { All (λ (l : Signed). l.atom < self.old.stored.trail.atoms) literals.now }
         ensures added { IfOk result (λ id. let kept : Kept = record { id = id; literals = literals.now; level = level } in self.new.stored ≡ record self.old.stored { clauses = self.old.stored.clauses ++ kept ∷ [] }) }
         ensures same { OnErr result (self.new.stored ≡ self.old.stored) }
+        ensures settled { self.new.settled ≡ self.old.settled }
         ensures looks { self.new.looks ≡ self.old.looks }
     {
         let row = self.rows.len();
@@ -194,6 +168,7 @@ impl CountedStore {
         requires known { All (λ (l : Signed). l.atom < self.old.stored.trail.atoms) literals.now }
         ensures added { IfOk result (λ id. let kept : Kept = record { id = id; literals = literals.now; level = level } in self.new.stored ≡ record self.old.stored { clauses = self.old.stored.clauses ++ kept ∷ [] }) }
         ensures same { OnErr result (self.new.stored ≡ self.old.stored) }
+        ensures settled { self.new.settled ≡ self.old.settled }
         ensures looks { self.new.looks ≡ self.old.looks }
     {
         if self.loose {
@@ -218,15 +193,10 @@ impl CountedStore {
             &mut self.waiting,
             literals,
             level,
-            self.head,
         ) {
             Err(_) => Err(AllocError),
-            Ok(Some(head)) => {
-                self.head = head;
-                Ok(row as u64)
-            }
-            Ok(None) => {
-                self.loose = true;
+            Ok(kept_up) => {
+                self.loose = !kept_up;
                 Ok(row as u64)
             }
         }
@@ -236,6 +206,7 @@ impl CountedStore {
         requires known { All (λ (l : Signed). l.atom < self.old.stored.trail.atoms) literals.now }
         ensures added { IfOk result (λ id. let kept : Kept = record { id = id; literals = literals.now; level = level } in self.new.stored ≡ record self.old.stored { clauses = self.old.stored.clauses ++ kept ∷ [] }) }
         ensures same { OnErr result (self.new.stored ≡ self.old.stored) }
+        ensures settled { self.new.settled ≡ self.old.settled }
         ensures looks { self.new.looks ≡ self.old.looks }
     {
         if literals.is_empty() {
@@ -254,7 +225,6 @@ impl CountedStore {
             spare: WatchList::new(alloc),
             trail: Trail::new(alloc),
             head: 0,
-            saves: Vec::new(alloc),
             waiting: Vec::new(alloc),
             loose: false,
         }
@@ -264,11 +234,10 @@ impl CountedStore {
     pub fn reserve(&mut self, atoms: u32) -> Result<(), AllocError>
         ensures reserved { OnOk result (self.new.stored ≡ record self.old.stored { trail = record { steps = self.old.stored.trail.steps; atoms = max self.old.stored.trail.atoms atoms; depth = self.old.stored.trail.depth } }) }
         ensures same { OnErr result (self.new.stored ≡ self.old.stored) }
+        ensures settled { self.new.settled ≡ self.old.settled }
         ensures looks { self.new.looks ≡ self.old.looks }
     {
         make_lists(self.alloc, &mut self.lists, atoms)?;
-        self.saves
-            .reserve((atoms as usize).saturating_sub(self.saves.len()))?;
         self.trail.reserve(atoms)?;
         Ok(())
     }
@@ -414,6 +383,8 @@ impl CountedStore {
         requires kept { HasKept self.old.stored.clauses id (λ ls. Unit {0}) }
         requires unused { All (λ (s : Step). s.reason ≡ Some id → ⊥) self.old.stored.trail.steps }
         ensures forgotten { self.new.stored ≡ record self.old.stored { clauses = without id self.old.stored.clauses } }
+        ensures settled { self.new.settled ≡ self.old.settled }
+        ensures watched { self.new.watched ≡ self.old.watched }
         ensures looks { self.new.looks ≡ self.old.looks }
     {
         let row = self.row_of(id);
@@ -423,20 +394,17 @@ impl CountedStore {
 
     // Takes back all steps, and keeps the clauses up to this level.
     pub fn cut_to(&mut self, level: i32)
+        ensures settled { self.new.settled ≡ 0 }
         ensures cut { self.new.stored ≡ record { clauses = up_to_level level self.old.stored.clauses; trail = record { steps = []; atoms = self.old.stored.trail.atoms; depth = 0 } } }
         ensures looks { self.new.looks ≡ self.old.looks }
     {
         self.trail.clear();
         cut_to(&mut self.rows, level);
-        self.saves.clear();
         self.waiting.clear();
         self.head = 0;
         if self.loose {
             return;
         }
-        match calm(&self.rows, &self.trail, 0, &mut self.waiting) {
-            Some(_) => {}
-            None => self.loose = true,
-        }
+        self.loose = !wait_singles(&self.rows, &mut self.waiting);
     }
 }

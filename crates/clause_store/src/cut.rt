@@ -1,10 +1,13 @@
 // Keeps the clauses up to a level, with nothing assigned.
-ghost use Rattle.std.specs.Prelude.{◌≡◌, ℕ, ◌<◌, ◌^◌, length, int_le, nat_lt, pos};
+ghost use Rattle.std.specs.Prelude.{◌≡◌, ℕ, true, false, [], ◌+◌, ◌<◌, ◌^◌, length, int_le, nat_lt, pos};
 ghost use Rattle.clause_store.specs.Stored.{up_to_level};
 ghost use Rattle.clause_store.specs.Watching.{kept_from};
 ghost use Rattle.clause_store.specs.Cutting.{IsCut, IsFewer};
+ghost use Rattle.clause_store.specs.Entries.{entry_at};
+ghost use Rattle.clause_store.specs.From.{AreSingles};
 
 use crate::rows::Rows;
+use crate::waits::{Wait, wait_in_room};
 
 // The least number above all levels up to this.
 fn bound(level: i32) -> u32
@@ -35,4 +38,46 @@ pub fn cut_to(rows: &mut Rows, level: i32)
     ensures clauses { kept_from 0 rows.new.entries ≡ up_to_level level (kept_from 0 rows.old.entries) }
 {
     cut_rows(rows, bound(level));
+}
+
+// Whether a clause is kept and both its watched literals are one.
+fn is_single(rows: &Rows, i: u32) -> bool
+    requires within { i < length rows.now.entries }
+    ensures yes { result ≡ true → ((entry_at rows.now.entries i).live ≡ true) × ((entry_at rows.now.entries i).first ≡ (entry_at rows.now.entries i).second) }
+    ensures no { result ≡ false → (entry_at rows.now.entries i).live ≡ true → (entry_at rows.now.entries i).first ≡ (entry_at rows.now.entries i).second → ⊥ }
+{
+    rows.is_live(i) && rows.first(i) == rows.second(i)
+}
+
+// A clause of one literal waits, where that takes no memory.
+fn wait_single(rows: &Rows, i: u32, waiting: &mut Vec<Wait>) -> bool
+    requires within { i < length rows.now.entries }
+    ensures { result ≡ true → AreSingles rows.now.entries i waiting.old.items → AreSingles rows.now.entries (i + 1) waiting.new.items }
+{
+    if !is_single(rows, i) {
+        return true;
+    }
+    let literal = rows.first(i);
+    wait_in_room(
+        waiting,
+        Wait {
+            row: i,
+            literal,
+            depth: 0,
+        },
+    )
+}
+
+// The clauses of one literal wait, where that takes no memory.
+pub fn wait_singles(rows: &Rows, waiting: &mut Vec<Wait>) -> bool
+    requires none { waiting.old.items ≡ [] }
+    requires small { length rows.now.entries < 2 ^ 32 }
+    ensures { result ≡ true → AreSingles rows.now.entries (length rows.now.entries) waiting.new.items }
+{
+    for i in 0..rows.len() {
+        if !wait_single(rows, i as u32, waiting) {
+            return false;
+        }
+    }
+    true
 }

@@ -15,7 +15,7 @@ pub struct Row {
     level: u16,
     live: bool,
     // where the last search for another literal ended
-    place: usize,
+    place: u32,
 }
 
 #[derive(Drop)]
@@ -219,7 +219,7 @@ impl Rows {
     pub fn place(&self, i: u32) -> usize
         requires { i < length self.now.entries }
     {
-        self.rows[i as usize].place
+        self.rows[i as usize].place as usize
     }
 
     // Keeps where a search ended.
@@ -228,6 +228,7 @@ impl Rows {
         ensures entries { self.new.entries ≡ self.old.entries }
         ensures looks { self.new.looks ≡ self.old.looks }
     {
+        let place = if place < 1 << 31 { place as u32 } else { 0 };
         let row = &mut self.rows[i as usize];
         row.place = place;
     }

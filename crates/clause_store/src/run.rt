@@ -1,12 +1,16 @@
 // Propagation by watches.
-ghost use Rattle.std.specs.Prelude.{◌≡◌, ℕ, ◌<◌, ◌≤◌, List, [], All, drop, length};
+ghost use Rattle.std.specs.Prelude.{◌≡◌, ℕ, true, false, ◌<◌, ◌≤◌, List, [], All, drop, length};
 ghost use Rattle.clause_store.specs.Watching.{IsWatching, Grows, kept_from};
-ghost use Rattle.clause_store.specs.Rested.{IsWaiting};
+ghost use Rattle.clause_store.specs.Entries.{watches_of};
+ghost use Rattle.clause_store.specs.Rested.{Rested};
 ghost use Rattle.clause_store.specs.Driving.{DriveGives};
+ghost use Rattle.clause_store.specs.From.{AreLast};
+ghost use Rattle.clause_store.specs.Late.{CatchGives, CatchLooks, IsReady, LateCovers, LateHolds, LateTurnGives};
 ghost use Rattle.clause_store.specs.Looks.{LooksAt, LooksBy};
 ghost use Rattle.clause_store.specs.Runs.{RunGives, TurnGives};
 ghost use Rattle.clause_store.specs.Stored.{IsFalseOn};
 
+use crate::late::sweep_late;
 use crate::lists::WatchList;
 use crate::rows::Rows;
 use crate::sweep::{Swept, sweep};
@@ -78,21 +82,121 @@ pub fn run(
     (Reached::Fixpoint, head)
 }
 
+// Goes through the watches of a literal that became false at a lower depth.
+fn turn_late(
+    f: Literal,
+    rows: &mut Rows,
+    lists: &mut [WatchList],
+    spare: &mut WatchList,
+    trail: &mut Trail,
+    waiting: &mut Vec<Wait>,
+) -> Swept
+    requires watching { IsWatching trail.old.atoms rows.old.entries lists.old }
+    requires is_false { IsFalseOn trail.old.steps f }
+    requires known { f.atom < trail.old.atoms }
+    requires ready { IsReady rows.old.entries trail.old.steps trail.old.depth waiting.old.items }
+    ensures rises { rows.old.looks ≤ rows.new.looks }
+    ensures looks { LooksAt f rows.old.entries rows.old.looks rows.new.looks }
+    ensures gives { (head : ℕ) → LateCovers head f rows.old.entries trail.old.steps (watches_of lists.old f) 0 waiting.old.items → LateTurnGives trail.old.atoms trail.old.depth head (record { entries = rows.old.entries; lists = lists.old; steps = trail.old.steps }) (record { entries = rows.new.entries; lists = lists.new; steps = trail.new.steps }) waiting.new.items result }
+    ensures grows { Grows (kept_from 0 rows.old.entries) trail.old.depth trail.old.steps trail.new.steps }
+    ensures clauses { kept_from 0 rows.new.entries ≡ kept_from 0 rows.old.entries }
+    ensures count { length rows.new.entries ≡ length rows.old.entries }
+    ensures same { (trail.new.atoms ≡ trail.old.atoms) × (trail.new.depth ≡ trail.old.depth) }
+{
+    let code = f.code();
+    mem::swap(&mut lists[code], spare);
+    let swept = sweep_late(f, spare, rows, lists, trail, waiting);
+    mem::swap(&mut lists[code], spare);
+    swept
+}
+
+// Whether the step at this place is of a lower depth than the present one.
+fn is_late(trail: &Trail, head: usize) -> bool
+    requires { head ≤ length trail.now.steps }
+    ensures yes { result ≡ true → head < length trail.now.steps }
+    ensures no { result ≡ false → AreLast trail.now.steps trail.now.depth head }
+{
+    let steps = trail.steps();
+    if head >= steps.len() {
+        return false;
+    }
+    steps[head].depth != trail.depth()
+}
+
+// Goes through the steps of lower depths from this one on; the number is that of the steps gone through.
+fn catch_up(
+    rows: &mut Rows,
+    lists: &mut [WatchList],
+    spare: &mut WatchList,
+    trail: &mut Trail,
+    waiting: &mut Vec<Wait>,
+    start: usize,
+) -> (Reached, usize)
+    requires holds { LateHolds trail.old.atoms trail.old.depth (record { entries = rows.old.entries; lists = lists.old; steps = trail.old.steps }) waiting.old.items start }
+    ensures rises { rows.old.looks ≤ rows.new.looks }
+    ensures looks { CatchLooks start result.1 trail.new.steps (kept_from 0 rows.old.entries) rows.old.looks rows.new.looks result.0 }
+    ensures gives { CatchGives trail.old.atoms trail.old.depth result.1 (record { entries = rows.new.entries; lists = lists.new; steps = trail.new.steps }) waiting.new.items result.0 }
+    ensures grows { Grows (kept_from 0 rows.old.entries) trail.old.depth trail.old.steps trail.new.steps }
+    ensures clauses { kept_from 0 rows.new.entries ≡ kept_from 0 rows.old.entries }
+    ensures count { length rows.new.entries ≡ length rows.old.entries }
+    ensures same { (trail.new.atoms ≡ trail.old.atoms) × (trail.new.depth ≡ trail.old.depth) }
+{
+    let mut head = start;
+    'steps: while is_late(trail, head) {
+        let step = trail.steps()[head];
+        match turn_late(step.literal.negated(), rows, lists, spare, trail, waiting) {
+            Swept::Whole => head += 1,
+            Swept::False(row) => return (Reached::False(row), head),
+            Swept::NoRoom => return (Reached::NoRoom, head),
+        }
+    }
+    (Reached::Fixpoint, head)
+}
+
+// Propagates from this step on, once what waits is forced.
+fn go_through(
+    rows: &mut Rows,
+    lists: &mut [WatchList],
+    spare: &mut WatchList,
+    trail: &mut Trail,
+    waiting: &mut Vec<Wait>,
+    start: usize,
+) -> (Reached, usize)
+    requires holds { LateHolds trail.old.atoms trail.old.depth (record { entries = rows.old.entries; lists = lists.old; steps = trail.old.steps }) waiting.old.items start }
+    ensures rises { rows.old.looks ≤ rows.new.looks }
+    ensures looks { LooksBy (drop start trail.new.steps) (kept_from 0 rows.old.entries) rows.old.looks rows.new.looks }
+    ensures gives { DriveGives trail.old.atoms trail.old.depth (record { entries = rows.new.entries; lists = lists.new; steps = trail.new.steps }) result.1 waiting.new.items result.0 }
+    ensures grows { Grows (kept_from 0 rows.old.entries) trail.old.depth trail.old.steps trail.new.steps }
+    ensures clauses { kept_from 0 rows.new.entries ≡ kept_from 0 rows.old.entries }
+    ensures count { length rows.new.entries ≡ length rows.old.entries }
+    ensures same { (trail.new.atoms ≡ trail.old.atoms) × (trail.new.depth ≡ trail.old.depth) }
+{
+    let (caught, head) = catch_up(rows, lists, spare, trail, waiting, start);
+    match caught {
+        Reached::Fixpoint => {
+            let reached = run(rows, lists, spare, trail, head);
+            let _steps = trail.steps();
+            reached
+        }
+        Reached::False(row) => (Reached::False(row), head),
+        Reached::NoRoom => (Reached::NoRoom, head),
+    }
+}
+
 // Propagates from what waits and from this step on.
 pub fn drive(
     rows: &mut Rows,
     lists: &mut [WatchList],
     spare: &mut WatchList,
     trail: &mut Trail,
-    waiting: &[Wait],
+    waiting: &mut Vec<Wait>,
     start: usize,
 ) -> (Reached, usize)
     requires watching { IsWatching trail.old.atoms rows.old.entries lists.old }
-    requires start { start ≤ length trail.old.steps }
-    requires waiting { All (IsWaiting rows.old.entries trail.old.steps) waiting.now }
+    requires rested { Rested rows.old.entries trail.old.steps trail.old.depth start start waiting.old.items }
     ensures rises { rows.old.looks ≤ rows.new.looks }
     ensures looks { LooksBy (drop start trail.new.steps) (kept_from 0 rows.old.entries) rows.old.looks rows.new.looks }
-    ensures gives { DriveGives trail.old.atoms trail.old.depth waiting.now (record { entries = rows.old.entries; lists = lists.old; steps = trail.old.steps }) (record { entries = rows.new.entries; lists = lists.new; steps = trail.new.steps }) start result.1 result.0 }
+    ensures gives { DriveGives trail.old.atoms trail.old.depth (record { entries = rows.new.entries; lists = lists.new; steps = trail.new.steps }) result.1 waiting.new.items result.0 }
     ensures grows { Grows (kept_from 0 rows.old.entries) trail.old.depth trail.old.steps trail.new.steps }
     ensures clauses { kept_from 0 rows.new.entries ≡ kept_from 0 rows.old.entries }
     ensures count { length rows.new.entries ≡ length rows.old.entries }
@@ -100,6 +204,6 @@ pub fn drive(
 {
     match force_all(waiting, trail) {
         Some(wait) => (Reached::False(wait.row), start),
-        None => run(rows, lists, spare, trail, start),
+        None => go_through(rows, lists, spare, trail, waiting, start),
     }
 }

@@ -4,7 +4,8 @@ ghost use Rattle.literals.specs.Signed.{Signed, packed};
 ghost use Rattle.clause_store.specs.Trail.{Assigns};
 ghost use Rattle.clause_store.specs.Stored.{IsFalseOn};
 ghost use Rattle.clause_store.specs.Entries.{entry_at, IsKnown};
-ghost use Rattle.clause_store.specs.Watching.{IsWatching, Grows, kept_from};
+ghost use Rattle.clause_store.specs.Watching.{IsWatching, IsPair, Grows, kept_from};
+ghost use Rattle.clause_store.specs.Rested.{OthersFalse};
 ghost use Rattle.clause_store.specs.Sweeps.{SweptGives};
 ghost use Rattle.clause_store.specs.Looks.{LooksAt};
 ghost use Rattle.clause_store.specs.Visits.{VisitGives, StepGives, Transfers, IsFoundAt, NoneBetween, Parts};
@@ -20,6 +21,13 @@ pub enum Visit {
     Gone,
     False,
     NoRoom,
+}
+
+pub fn is_same(a: Literal, b: Literal) -> bool
+    ensures yes { result ≡ true → a ≡ b }
+    ensures no { result ≡ false → a ≡ b → ⊥ }
+{
+    a == b
 }
 
 pub fn is_false(trail: &Trail, literal: Literal) -> bool
@@ -101,16 +109,20 @@ fn seek_from(literals: &[Literal], place: usize, other: Literal, trail: &Trail) 
     }
 }
 
-// Looks at a clause for a literal that isn't false, and isn't this other one.
+// Looks at a clause for a literal that isn't false, and isn't this other one. One of two literals needs no look.
 fn look_for(row: u32, other: Literal, rows: &mut Rows, trail: &Trail) -> Option<Literal>
     requires place { row < length rows.old.entries }
     requires known { All (λ (l : Signed). l.atom < trail.now.atoms) (entry_at rows.old.entries row).literals }
+    requires two { length (entry_at rows.old.entries row).literals ≤ 2 → OthersFalse trail.now.steps (entry_at rows.old.entries row).literals other }
     ensures rises { rows.old.looks ≤ rows.new.looks }
     ensures once { rows.new.looks ≤ rows.old.looks + 1 }
     ensures same { rows.new.entries ≡ rows.old.entries }
     ensures some { IfSome result (λ l. Contains (entry_at rows.old.entries row).literals l × (l ≡ other → ⊥) × (IsFalseOn trail.now.steps l → ⊥)) }
     ensures none { IfNone result (All (λ m. (m ≡ other) ⊎ IsFalseOn trail.now.steps m) (entry_at rows.old.entries row).literals) }
 {
+    if rows.size(row) <= 2 {
+        return None;
+    }
     let looked = rows.look(row);
     let place = rows.place(row);
     match seek_from(rows.literals(looked), place, other, trail) {
@@ -134,6 +146,8 @@ fn look_at(
     requires place { watch.row < length rows.old.entries }
     requires blocker { watch.blocker.atom < trail.old.atoms }
     requires known { IsKnown trail.old.atoms (entry_at rows.old.entries watch.row) }
+    requires pair { (entry_at rows.old.entries watch.row).live ≡ true → IsPair (entry_at rows.old.entries watch.row) }
+    requires is_false { IsFalseOn trail.old.steps f }
     requires lists { 2 * trail.old.atoms ≤ length lists.old }
     ensures rises { rows.old.looks ≤ rows.new.looks }
     ensures once { rows.new.looks ≤ rows.old.looks + 1 }
@@ -149,10 +163,10 @@ fn look_at(
     }
     let first = rows.first(watch.row);
     let second = rows.second(watch.row);
-    if first == f {
+    if is_same(first, f) {
         return step(second, watch.row, rows, lists, trail);
     }
-    if second == f {
+    if is_same(second, f) {
         return step(first, watch.row, rows, lists, trail);
     }
     Visit::Gone
@@ -169,6 +183,7 @@ fn step(
     requires place { row < length rows.old.entries }
     requires other { other.atom < trail.old.atoms }
     requires known { IsKnown trail.old.atoms (entry_at rows.old.entries row) }
+    requires two { length (entry_at rows.old.entries row).literals ≤ 2 → OthersFalse trail.old.steps (entry_at rows.old.entries row).literals other }
     requires lists { 2 * trail.old.atoms ≤ length lists.old }
     ensures rises { rows.old.looks ≤ rows.new.looks }
     ensures once { rows.new.looks ≤ rows.old.looks + 1 }
@@ -192,7 +207,7 @@ fn step(
 }
 
 // Watches the clause by two other literals.
-fn transfer(
+pub fn transfer(
     found: Literal,
     other: Literal,
     row: u32,

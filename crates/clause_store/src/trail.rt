@@ -3,6 +3,7 @@ ghost use Rattle.std.specs.Prelude.{◌≡◌, ℕ, true, false, ◌+◌, ◌^�
 ghost use Rattle.clause_store.specs.Trail.{Assigned, IsOpen, IsTrueOn, MarkOf, Assigns, StatusOf, up_to, mark_of};
 ghost use Rattle.literals.specs.Signed.{Signed, opposite};
 ghost use Rattle.clause_store.specs.Each.{EachAfter};
+ghost use Rattle.clause_store.specs.From.{IsFrom};
 ghost use Rattle.clause_store.specs.TrailInvariant.{IsFresh, IsDecided, Agrees, IsPlaced};
 ghost use Rattle.std.specs.List.Sorted.{IsNonDecreasingBy};
 
@@ -184,6 +185,17 @@ impl Trail {
         ensures literal { (d : Step) → (slice_index_or self.now.steps result d).literal ≡ literal }
     {
         self.places[literal.atom() as usize] as usize
+    }
+
+    // The depth of a literal's step.
+    pub fn depth_of(&self, literal: Literal) -> u32
+        requires known { literal.atom < self.now.atoms }
+        requires assigned { Assigns self.now.steps literal }
+        ensures { IsFrom self.now.steps literal result }
+    {
+        let steps = self.steps();
+        let place = self.place(literal);
+        steps[place].depth
     }
 
     // Takes away all steps.

@@ -1,4 +1,4 @@
-// Clauses that wait for their one literal to be forced, and what is saved at a decision.
+// Clauses that wait for their one literal to be forced.
 ghost use Rattle.std.specs.Prelude.{◌≡◌, ◌⊎◌, ℕ, ◌<◌, true, List, [], ◌∷◌, ◌++◌, All, IfSome, IfNone, Contains};
 ghost use Rattle.literals.specs.Signed.{Signed};
 ghost use Rattle.clause_store.specs.Trail.{Assigns};
@@ -11,21 +11,15 @@ ghost use Rattle.clause_store.specs.Forcing.{ForceGives, AllForced, IsFalseWait}
 use crate::trail::{Status, Trail};
 use literals::Literal;
 
-// How far the steps were gone through, and how many clauses there were.
-#[derive(Clone, Copy)]
-pub struct Save {
-    pub head: usize,
-    pub rows: u32,
-}
-
-// A clause, by its place, whose other literals are false.
+// A clause, by its place, whose other literals are false from this depth on.
 #[derive(Clone, Copy)]
 pub struct Wait {
     pub row: u32,
     pub literal: Literal,
+    pub depth: u32,
 }
 
-fn force(wait: Wait, trail: &mut Trail) -> bool
+pub fn force(wait: Wait, trail: &mut Trail) -> bool
     requires { wait.literal.atom < trail.old.atoms }
     ensures gives { ForceGives wait trail.old.depth trail.old.steps trail.new.steps result }
     ensures same { (trail.new.atoms ≡ trail.old.atoms) × (trail.new.depth ≡ trail.old.depth) }
@@ -57,23 +51,14 @@ pub fn force_all(waiting: &[Wait], trail: &mut Trail) -> Option<Wait>
     None
 }
 
-// Once all clauses are settled at depth 0, none needs to wait.
-pub fn settle(waiting: &mut Vec<Wait>, depth: u32)
-    ensures { (waiting.new.items ≡ waiting.old.items) ⊎ ((depth ≡ 0) × (waiting.new.items ≡ [])) }
-{
-    if depth == 0 {
-        waiting.clear();
-    }
-}
-
-// Takes out those of clauses from this place on.
-pub fn drop_from(waiting: &mut Vec<Wait>, bound: u32)
-    ensures keeps { (w : Wait) → Contains waiting.old.items w → w.row < bound → Contains waiting.new.items w }
-    ensures only { (w : Wait) → Contains waiting.new.items w → Contains waiting.old.items w × (w.row < bound) }
+// Takes out those that wait from this depth on, or a deeper one.
+pub fn drop_from(waiting: &mut Vec<Wait>, depth: u32)
+    ensures keeps { (w : Wait) → Contains waiting.old.items w → w.depth < depth → Contains waiting.new.items w }
+    ensures only { (w : Wait) → Contains waiting.new.items w → Contains waiting.old.items w × (w.depth < depth) }
 {
     let mut k = 0;
     'waits: while k < waiting.len() {
-        if waiting[k].row >= bound {
+        if waiting[k].depth >= depth {
             waiting.swap_remove(k);
         } else {
             k += 1;

@@ -1,32 +1,36 @@
-use Rattle.std.proofs.Common.{◌≤◌, length, subst, refl, arith}
-use Rattle.clause_store.specs.Watching.{Grows, kept_from}
+use Rattle.std.proofs.Common.{subst, refl}
+use Rattle.clause_store.specs.Watching.{Grows, IsWatching, kept_from}
 use Rattle.clause_store.specs.Visits.{Parts}
-use Rattle.clause_store.specs.Runs.{RunGives}
+use Rattle.clause_store.specs.Rested.{Rested}
+use Rattle.clause_store.specs.Driving.{DriveGives}
 use Rattle.clause_store.proofs.Kept.{Grows-trans}
-use Rattle.clause_store.proofs.Turning.{Grows-longer}
-use Rattle.clause_store.proofs.Depths.{drive-false, drive-run}
+use Rattle.clause_store.proofs.Depths.{Rested-grown}
+use Rattle.clause_store.proofs.Driving.{drive-false, holds-rested}
 use Rattle.clause_store.proofs.run.drive.Goals as goal
 
-pub run-requires-clause-start : goal.run-requires-clause-start
-run-requires-clause-start c =
-    let longer : length c.args.trail.now.steps ≤ length c.force_all.new.trail.steps = Grows-longer _ _ _ _ (c.force_all.ensures.grows c.args.rows.now.entries c.requires.waiting) in
-    omega arith
+pub go_through-requires : goal.go_through-requires
+go_through-requires c =
+    let f = c.force_all in
+    let grows : Grows (kept_from 0 c.args.rows.now.entries) c.args.trail.now.depth c.args.trail.now.steps f.new.trail.steps = f.ensures.grows c.args.rows.now.entries (rw c.deref.ensures.value c.requires.rested.waiting) in
+    let p : Parts = record { entries = c.args.rows.now.entries; lists = c.args.lists.now; steps = f.new.trail.steps } in
+    let watch : IsWatching f.new.trail.atoms c.args.rows.now.entries c.args.lists.now = rw f.ensures.same.0 c.requires.watching in
+    let rested : Rested c.args.rows.now.entries f.new.trail.steps f.new.trail.depth c.args.start c.args.start c.args.waiting.now.items =
+    rw f.ensures.same.1 (Rested-grown (kept_from 0 c.args.rows.now.entries) c.args.rows.now.entries c.args.trail.now.steps f.new.trail.steps c.args.trail.now.depth c.args.start c.args.start c.args.waiting.now.items grows c.requires.rested) in
+    record { holds = holds-rested f.new.trail.atoms f.new.trail.depth p c.args.waiting.now.items c.args.start watch (rw c.deref.ensures.value at c.in-None.ensures.none) rested }
 
 pub returns-in-Some-clause-gives : goal.returns-in-Some-clause-gives
 returns-in-Some-clause-gives c =
-    drive-false c.args.trail.now.atoms c.args.trail.now.depth c.args.rows.now.entries c.args.lists.now c.args.trail.now.steps c.force_all.new.trail.steps c.args.waiting.now c.args.start c.in-Some.wait
-    c.requires.watching (c.force_all.ensures.grows c.args.rows.now.entries c.requires.waiting) c.requires.waiting c.in-Some.ensures.some.0 c.in-Some.ensures.some.1
+    drive-false c.args.trail.now.atoms c.args.trail.now.depth c.args.rows.now.entries c.args.lists.now c.args.trail.now.steps c.force_all.new.trail.steps c.args.waiting.now.items c.args.start c.in-Some.wait
+    c.requires.watching (c.force_all.ensures.grows c.args.rows.now.entries (rw c.deref.ensures.value c.requires.rested.waiting)) c.requires.rested (rw c.deref.ensures.value at c.in-Some.ensures.some.0) c.in-Some.ensures.some.1
 
 pub returns-in-None-clause-gives : goal.returns-in-None-clause-gives
 returns-in-None-clause-gives c =
-    let p' : Parts = record { entries = c.run.new.rows.entries; lists = c.run.new.lists; steps = c.run.new.trail.steps } in
-    drive-run c.args.trail.now.atoms c.args.trail.now.depth c.args.rows.now.entries c.args.lists.now c.args.trail.now.steps c.force_all.new.trail.steps p' c.args.waiting.now c.args.start c.run.result.1 c.run.result.0
-    (c.force_all.ensures.grows c.args.rows.now.entries c.requires.waiting)
-    (subst (λ d. Grows (kept_from 0 c.args.rows.now.entries) d c.force_all.new.trail.steps c.run.new.trail.steps) c.force_all.ensures.same.1 c.run.ensures.grows)
-    c.in-None.ensures.none
-    (subst (λ n. RunGives n (record { entries = c.args.rows.now.entries; lists = c.args.lists.now; steps = c.force_all.new.trail.steps }) p' c.args.start c.run.result.1 c.run.result.0) c.force_all.ensures.same.0 c.run.ensures.gives)
+    let n = c.go_through.new in
+    let p : Parts = record { entries = n.rows.entries; lists = n.lists; steps = n.trail.steps } in
+    subst (λ a. DriveGives a c.args.trail.now.depth p c.go_through.result.1 n.waiting.items c.go_through.result.0) c.force_all.ensures.same.0
+    (subst (λ d. DriveGives c.force_all.new.trail.atoms d p c.go_through.result.1 n.waiting.items c.go_through.result.0) c.force_all.ensures.same.1 c.go_through.ensures.gives)
 
 pub returns-in-None-clause-grows : goal.returns-in-None-clause-grows
 returns-in-None-clause-grows c =
-    Grows-trans _ _ _ _ _ _ refl (c.force_all.ensures.grows c.args.rows.now.entries c.requires.waiting)
-    (subst (λ d. Grows (kept_from 0 c.args.rows.now.entries) d c.force_all.new.trail.steps c.run.new.trail.steps) c.force_all.ensures.same.1 c.run.ensures.grows)
+    Grows-trans _ _ _ _ _ _ refl (c.force_all.ensures.grows c.args.rows.now.entries (rw c.deref.ensures.value c.requires.rested.waiting))
+    (subst (λ d. Grows (kept_from 0 c.args.rows.now.entries) d c.force_all.new.trail.steps c.go_through.new.trail.steps) c.force_all.ensures.same.1 c.go_through.ensures.grows)

@@ -1,10 +1,12 @@
 use Rattle.std.proofs.Common.{◌≡◌, ◌+◌, ◌<◌, set, subst, sym, ◌∙◌, refl, arith}
 use Rattle.std.specs.List.{swap_remove}
 use Rattle.std.proofs.lemmas.List.{get_or_default}
+use Rattle.literals.specs.Signed.{opposite}
 use Rattle.clause_store.specs.Entries.{IsKnown, entry_at}
 use Rattle.clause_store.specs.Visits.{Parts, VisitGives}
 use Rattle.clause_store.specs.Sweeps.{Sweeps, State}
 use Rattle.clause_store.proofs.Rounds.{sound_at, known_at, Round-keep, Round-gone, Round-false, Sweeps-end, with_list}
+use Rattle.clause_store.proofs.Kept.{Grows-assigns}
 use Rattle.clause_store.proofs.Counting.{Visited, Seen-keep, Seen-gone, Seen-last, Seen-whole}
 use Rattle.clause_store.specs.declared.sweep.Visit.TheVariants.{Keep, Gone, False}
 use Rattle.clause_store.specs.declared.lists.Watch.{Watch}
@@ -24,6 +26,12 @@ pub look_at-requires-clause-known : goal.look_at-requires-clause-known
 look_at-requires-clause-known c =
     let s : State = record { entries = c.watches.rows.entries; lists = c.watches.lists; steps = c.watches.trail.steps; list = c.watches.list } in
     subst (λ n. IsKnown n (entry_at c.watches.rows.entries c.get-watch.result.row)) (sym c.watches.invariant.atoms) (known_at _ c.args.f s c.watches.k c.get-watch.result (omega arith) c.watches.invariant.sweeps.watch (omega arith) c.get-watch.ensures)
+
+pub look_at-requires-clause-pair : goal.look_at-requires-clause-pair
+look_at-requires-clause-pair c = c.watches.invariant.sweeps.watch.pairs c.get-watch.result.row
+
+pub look_at-requires-clause-is_false : goal.look_at-requires-clause-is_false
+look_at-requires-clause-is_false c = Grows-assigns _ _ _ _ (opposite c.args.f) c.watches.invariant.sweeps.grows c.requires.is_false
 
 pub watches-preserved-in-Keep : goal.watches-preserved-in-Keep
 watches-preserved-in-Keep c =

@@ -3,18 +3,18 @@ use Rattle.std.proofs.lemmas.List.{get_or_default, take_all}
 use Rattle.std.proofs.lemmas.List.Elements.{All-contains}
 use Rattle.clause_store.specs.declared.waits.Wait.{Wait}
 use Rattle.clause_store.proofs.Loops.{All-grown}
-use Rattle.clause_store.proofs.Undoing.{removed_keeps, removed_only, removed_front}
+use Rattle.clause_store.proofs.Removing.{removed_keeps, removed_only, removed_front}
 use Rattle.clause_store.proofs.waits.drop_from.Goals as goal
 
-pub waits-preserved-then-index-bound : goal.waits-preserved-then-index-bound
-waits-preserved-then-index-bound c =
+pub waits-preserved-then-index-depth : goal.waits-preserved-then-index-depth
+waits-preserved-then-index-depth c =
     let xs = c.waits.waiting.items in
     let lt : c.waits.k < length xs = omega (arith, c.waits.waiting.ok) in
-    let high : c.args.bound ≤ c.index.result.now.row = c.if-index-bound.true in
+    let high : c.args.depth ≤ c.index.result.now.depth = c.if-index-depth.true in
     record {
       keeps = λ w h b. rw c.swap_remove.ensures.items (removed_keeps xs c.waits.k c.swap_remove.result w lt
           (λ e. let same : w ≡ c.index.result.now = e ∙ (get_or_default xs c.waits.k w c.index.result.now lt ∙ sym c.index.ensures) in
-          let r : w.row ≡ c.index.result.now.row = ap (λ (x : Wait). x.row) same in
+          let r : w.depth ≡ c.index.result.now.depth = ap (λ (x : Wait). x.depth) same in
           omega arith)
           (c.waits.invariant.keeps w h b));
       only = λ w h. c.waits.invariant.only w (removed_only xs c.waits.k c.swap_remove.result w lt (rw c.swap_remove.ensures.items at h));
@@ -25,16 +25,16 @@ pub waits-preserved : goal.waits-preserved
 waits-preserved c =
     let xs = c.waits.waiting.items in
     let lt : c.waits.k < length xs = omega (arith, c.waits.waiting.ok) in
-    let low : c.index.result.now.row < c.args.bound = c.if-index-bound.false in
+    let low : c.index.result.now.depth < c.args.depth = c.if-index-depth.false in
     record {
       keeps = c.waits.invariant.keeps;
       only = c.waits.invariant.only;
-      front = All-grown (λ (w : Wait). w.row < c.args.bound) xs c.waits.k c.index.result.now lt c.index.ensures c.waits.invariant.front low;
+      front = All-grown (λ (w : Wait). w.depth < c.args.depth) xs c.waits.k c.index.result.now lt c.index.ensures c.waits.invariant.front low;
     }
 
 pub returns-clause-only : goal.returns-clause-only
 returns-clause-only c = λ w h.
     let xs = c.waits.waiting.items in
     let ge : length xs ≤ c.waits.k = omega (arith, c.waits.waiting.ok) in
-    let all : All (λ (x : Wait). x.row < c.args.bound) xs = subst (All (λ (x : Wait). x.row < c.args.bound)) (take_all c.waits.k xs ge) c.waits.invariant.front in
-    (c.waits.invariant.only w h, All-contains (λ (x : Wait). x.row < c.args.bound) xs w all h)
+    let all : All (λ (x : Wait). x.depth < c.args.depth) xs = subst (All (λ (x : Wait). x.depth < c.args.depth)) (take_all c.waits.k xs ge) c.waits.invariant.front in
+    (c.waits.invariant.only w h, All-contains (λ (x : Wait). x.depth < c.args.depth) xs w all h)

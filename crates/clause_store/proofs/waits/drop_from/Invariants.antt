@@ -4,9 +4,9 @@ use Rattle.clause_store.proofs.waits.drop_from.Given as goal
 
 abbrev pub invariant-waits : goal.invariant-waits
 invariant-waits l = record {
-  keeps : (w : Wait) → Contains l.initial.waiting.items w → w.row < l.bound → Contains l.waiting.items w;
+  keeps : (w : Wait) → Contains l.initial.waiting.items w → w.depth < l.depth → Contains l.waiting.items w;
   only : (w : Wait) → Contains l.waiting.items w → Contains l.initial.waiting.items w;
-  front : All (λ (w : Wait). w.row < l.bound) (take l.k l.waiting.items);
+  front : All (λ (w : Wait). w.depth < l.depth) (take l.k l.waiting.items);
 }
 
 abbrev pub decreases-waits : goal.decreases-waits

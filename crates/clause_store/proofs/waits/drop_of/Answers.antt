@@ -3,7 +3,7 @@ use Rattle.std.proofs.lemmas.List.{get_or_default, take_all}
 use Rattle.std.proofs.lemmas.List.Elements.{All-contains}
 use Rattle.clause_store.specs.declared.waits.Wait.{Wait}
 use Rattle.clause_store.proofs.Loops.{All-grown}
-use Rattle.clause_store.proofs.Undoing.{removed_keeps, removed_only, removed_front}
+use Rattle.clause_store.proofs.Removing.{removed_keeps, removed_only, removed_front}
 use Rattle.clause_store.proofs.waits.drop_of.Goals as goal
 
 pub waits-preserved-then-index-row : goal.waits-preserved-then-index-row

@@ -11,7 +11,7 @@ invariant_of-self-in-Ok c =
     let i = c.self.inside in
     let e : Entry = record { literals = c.args.literals.now; first = c.new-zero.result; second = c.new-zero.result; level = c.args.level; live = true } in
     rw c.in-Ok.ensures.added
-    (IsKept-gains i.rows.entries (i.rows.entries ++ e ∷ []) c.args.literals.now c.args.level i.lists.items i.lists.items i.trail i.head i.head i.saves.items i.waiting.items i.waiting.items i.loose true (gains_new i.rows.entries e refl) c.self.invariant
+    (IsKept-gains i.rows.entries (i.rows.entries ++ e ∷ []) c.args.literals.now c.args.level i.lists.items i.lists.items i.trail i.head i.waiting.items i.waiting.items i.loose true (gains_new i.rows.entries e refl) c.self.invariant
     (rw (← c.self.view_is) at c.requires.known) (omega arith) (λ x. absurd (true_false x)))
 
 pub returns-in-Ok-clause-added : goal.returns-in-Ok-clause-added

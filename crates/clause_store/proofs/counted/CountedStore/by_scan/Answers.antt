@@ -7,6 +7,6 @@ scan-requires-clause-known c = known_live c.self.inside.trail.atoms c.self.insid
 
 pub invariant_of-self : goal.invariant_of-self
 invariant_of-self c =
-    rw c.scan.ensures.clauses (IsKept-grown c.self.inside.rows.entries c.self.inside.rows.entries c.self.inside.lists.items c.self.inside.lists.items c.self.inside.trail c.scan.new.trail c.self.inside.head c.self.inside.head c.self.inside.saves.items c.self.inside.waiting.items c.self.inside.loose c.self.inside.loose
+    rw c.scan.ensures.clauses (IsKept-grown c.self.inside.rows.entries c.self.inside.rows.entries c.self.inside.lists.items c.self.inside.lists.items c.self.inside.trail c.scan.new.trail c.self.inside.head c.self.inside.head c.self.inside.waiting.items c.self.inside.loose c.self.inside.loose
     c.self.invariant c.scan.ensures.grows refl refl c.scan.ensures.same.0
-    (λ e. tight-grown c.self.inside.rows.entries c.self.inside.lists.items c.self.inside.trail c.scan.new.trail c.self.inside.head c.self.inside.saves.items c.self.inside.waiting.items c.scan.ensures.grows c.scan.ensures.same.0 c.scan.ensures.same.1 (c.self.invariant.tight e)))
+    (λ e. tight-grown c.self.inside.rows.entries c.self.inside.lists.items c.self.inside.trail c.scan.new.trail c.self.inside.head c.self.inside.waiting.items c.scan.ensures.grows c.scan.ensures.same.0 c.scan.ensures.same.1 (c.self.invariant.tight e)))

@@ -21,7 +21,7 @@ invariant_of-self c =
     let ws : List Wait = c.drop_of.new.waiting.items in
     let keeps : (w : Wait) → Contains i.waiting.items w → (w.row ≡ c.args.id → ⊥) → Contains ws w = rw c.row_of-row.ensures at c.drop_of.ensures.keeps in
     let only : (w : Wait) → Contains ws w → Contains i.waiting.items w × (w.row ≡ c.args.id → ⊥) = rw c.row_of-row.ensures at c.drop_of.ensures.only in
-    rw (c.forget.ensures.entries, c.row_of-row.ensures) (IsKept-forgotten i.rows.entries c.args.id i.lists.items i.trail i.head i.saves.items i.waiting.items ws i.loose h.within unused keeps only c.self.invariant)
+    rw (c.forget.ensures.entries, c.row_of-row.ensures) (IsKept-forgotten i.rows.entries c.args.id i.lists.items i.trail i.head i.waiting.items ws i.loose h.within unused keeps only c.self.invariant)
 
 pub returns-clause-forgotten : goal.returns-clause-forgotten
 returns-clause-forgotten c =

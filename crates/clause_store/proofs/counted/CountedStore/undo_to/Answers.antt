@@ -1,48 +1,45 @@
-use Rattle.std.proofs.Common.{◌≡◌, ◌≤◌, length, Bool, true, false, subst, sym, ap, refl, arith}
+use Rattle.std.proofs.Common.{◌≡◌, ◌≤◌, Bool, true, false, not, List, length, min, subst, sym, ap, refl, arith, ◌∙◌}
+use Rattle.std.proofs.lemmas.List.Elements.{All-weaker}
 use Rattle.clause_store.specs.Assigned.{Assigned}
 use Rattle.clause_store.specs.Trail.{up_to}
-use Rattle.clause_store.specs.Watching.{IsWatching}
-use Rattle.clause_store.specs.Rested.{Rested}
 use Rattle.clause_store.specs.Keeping.{IsTight}
-use Rattle.clause_store.proofs.Stores.{IsKept-undo, tight-same}
+use Rattle.clause_store.specs.declared.trail.Step.{Step}
+use Rattle.clause_store.proofs.Depths.{up_to-all}
+use Rattle.clause_store.proofs.Stores.{IsKept-undo, tight-same, tight-undo}
 use Rattle.clause_store.proofs.counted.CountedStore.undo_to.Goals as goal
-
-true_false : (b : Bool) → b ≡ true → b ≡ false → ⊥
-true_false b e f = cc
 
 pub invariant_of-self : goal.invariant_of-self
 invariant_of-self c =
     let i = c.self.inside in
-    IsKept-undo i.rows.entries i.lists.items i.trail c.undo_to.new.self c.undo_to.ensures.front.0 i.head i.head i.saves.items i.saves.items i.waiting.items i.waiting.items i.loose i.loose c.self.invariant
-    (ap (λ (t : Assigned). t.atoms) c.undo_to.ensures.undone) c.undo_to.ensures.front.1 (λ e. absurd (true_false i.loose c.if-self.true e))
-
-pub invariant_of-self-then-at-len : goal.invariant_of-self-then-at-len
-invariant_of-self-then-at-len c =
-    let i = c.self.inside in
     let le : c.args.depth ≤ i.trail.depth = rw (← c.self.view_is) at c.requires in
-    IsKept-undo i.rows.entries i.lists.items i.trail c.undo_to.new.self c.undo_to.ensures.front.0 i.head i.head i.saves.items i.saves.items i.waiting.items i.waiting.items i.loose i.loose c.self.invariant
+    let ge : i.trail.depth ≤ c.args.depth = subst (λ n. n ≤ c.args.depth) c.depth-before.ensures c.if-depth-before.true in
+    IsKept-undo i.rows.entries i.lists.items i.trail c.undo_to.new.self c.undo_to.ensures.front.0 i.head i.head i.waiting.items i.waiting.items i.loose i.loose c.self.invariant
     (ap (λ (t : Assigned). t.atoms) c.undo_to.ensures.undone) c.undo_to.ensures.front.1
-    (λ e. rw c.undo_to.ensures.undone (tight-same i.rows.entries i.lists.items i.trail c.args.depth i.head i.saves.items i.waiting.items le (omega (arith, i.saves.ok)) (c.self.invariant.tight e)))
+    (λ e. rw c.undo_to.ensures.undone (tight-same i.rows.entries i.lists.items i.trail c.args.depth i.head i.waiting.items le ge (c.self.invariant.tight e)))
 
-pub invariant_of-self-in-Some : goal.invariant_of-self-in-Some
-invariant_of-self-in-Some c =
+loose_off : (b : Bool) → not b ≡ true → b ≡ false
+loose_off true e = sym e
+loose_off false e = refl
+
+pub returns-then-depth-before-clause-settled : goal.returns-then-depth-before-clause-settled
+returns-then-depth-before-clause-settled c = λ w.
+    let i = c.self.inside in
+    let tight : IsTight i.rows.entries i.lists.items i.trail i.head i.waiting.items = c.self.invariant.tight (loose_off i.loose w) in
+    let le : i.head ≤ length i.trail.steps = tight.rested.head_within in
+    let ge : i.trail.depth ≤ c.args.depth = subst (λ n. n ≤ c.args.depth) c.depth-before.ensures c.if-depth-before.true in
+    let all : up_to c.args.depth i.trail.steps ≡ i.trail.steps =
+    up_to-all c.args.depth i.trail.steps (All-weaker (λ (s : Step). s.depth ≤ i.trail.depth) (λ (s : Step). s.depth ≤ c.args.depth) (λ s x. omega arith) i.trail.steps tight.rested.deepest) in
+    let steps : c.undo_to.new.self.steps ≡ i.trail.steps = ap (λ (t : Assigned). t.steps) c.undo_to.ensures.undone ∙ all in
+    let r : i.head ≡ min i.head (length c.undo_to.new.self.steps) = omega (arith, ap (λ (xs : List Step). length xs) steps) in
+    rw (← c.self.view_is) r
+
+pub invariant_of-self-2 : goal.invariant_of-self-2
+invariant_of-self-2 c =
     let i = c.self.inside in
     let steps : c.undo_to.new.self.steps ≡ up_to c.args.depth i.trail.steps = ap (λ (t : Assigned). t.steps) c.undo_to.ensures.undone in
-    let atoms : c.undo_to.new.self.atoms ≡ i.trail.atoms = ap (λ (t : Assigned). t.atoms) c.undo_to.ensures.undone in
-    let depth : c.undo_to.new.self.depth ≡ c.args.depth = ap (λ (t : Assigned). t.depth) c.undo_to.ensures.undone in
-    IsKept-undo i.rows.entries i.lists.items i.trail c.undo_to.new.self c.undo_to.ensures.front.0 i.head c.in-Some.head i.saves.items c.rewind.new.saves.items i.waiting.items c.rewind.new.waiting.items i.loose i.loose c.self.invariant
-    atoms c.undo_to.ensures.front.1
-    (λ e.
-    let was : IsTight i.rows.entries i.lists.items i.trail i.head i.saves.items i.waiting.items = c.self.invariant.tight e in
-    let count : length i.saves.items ≡ i.trail.depth = was.rested.count in
-    record {
-      watch = subst (λ n. IsWatching n i.rows.entries i.lists.items) (sym atoms) was.watch;
-      rested = subst (λ n. Rested i.rows.entries c.undo_to.new.self.steps n c.in-Some.head c.rewind.new.saves.items c.rewind.new.waiting.items) (sym depth)
-          (c.in-Some.ensures i.trail.steps i.trail.depth i.head was.rested (omega (arith, i.saves.ok)) steps);
-    })
-
-pub invariant_of-self-in-None : goal.invariant_of-self-in-None
-invariant_of-self-in-None c =
-    let i = c.self.inside in
-    IsKept-undo i.rows.entries i.lists.items i.trail c.undo_to.new.self c.undo_to.ensures.front.0 i.head i.head i.saves.items c.rewind.new.saves.items i.waiting.items c.rewind.new.waiting.items i.loose true c.self.invariant
-    (ap (λ (t : Assigned). t.atoms) c.undo_to.ensures.undone) c.undo_to.ensures.front.1 (λ e. absurd (true_false true refl e))
+    let n = c.least-self-inside.result in
+    let is : n ≡ min i.head (length (up_to c.args.depth i.trail.steps)) = c.least-self-inside.ensures ∙ ap (λ xs. min i.head (length xs)) (c.steps.ensures.steps ∙ steps) in
+    IsKept-undo i.rows.entries i.lists.items i.trail c.undo_to.new.self c.undo_to.ensures.front.0 i.head n i.waiting.items c.drop_from.new.waiting.items i.loose i.loose c.self.invariant
+    (ap (λ (t : Assigned). t.atoms) c.undo_to.ensures.undone) c.undo_to.ensures.front.1
+    (λ e. rw c.undo_to.ensures.undone
+    (tight-undo i.rows.entries i.lists.items i.trail c.args.depth i.head n i.waiting.items c.drop_from.new.waiting.items (omega arith) (omega arith) c.drop_from.ensures.keeps c.drop_from.ensures.only (c.self.invariant.tight e)))

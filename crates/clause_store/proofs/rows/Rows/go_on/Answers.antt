@@ -8,4 +8,4 @@ pub returns-clause-entries : goal.returns-clause-entries
 returns-clause-entries c =
     let within : c.args.i < length (map (entry_of c.self.inside.literals.items) c.self.inside.rows.items) = rw (← c.self.view_is) at c.requires in
     let lt : c.args.i < length c.self.inside.rows.items = omega (arith, length-map c.self.inside.rows.items (entry_of c.self.inside.literals.items)) in
-    place-view c.self.inside.literals.items c.self.inside.rows.items c.args.i c.args.place c.index_mut-row.result.now lt c.index_mut-row.ensures.value ∙ ap (λ (h : Held). h.entries) c.self.view_is
+    place-view c.self.inside.literals.items c.self.inside.rows.items c.args.i c.if-place.place c.index_mut-row.result.now lt c.index_mut-row.ensures.value ∙ ap (λ (h : Held). h.entries) c.self.view_is

@@ -1,0 +1,20 @@
+use Rattle.std.proofs.Common.{◌≡◌, ◌-◌, ◌≤◌, length}
+use Rattle.clause_store.specs.Sweeps.{State}
+use Rattle.clause_store.specs.Late.{LateSweeps}
+use Rattle.clause_store.proofs.Counting.{Seen}
+use Rattle.clause_store.proofs.late.sweep_late.Given as goal
+
+abbrev pub invariant-watches : goal.invariant-watches
+invariant-watches l =
+    let first : State = record { entries = l.initial.rows.entries; lists = l.initial.lists; steps = l.initial.trail.steps; list = l.initial.list } in
+    let now : State = record { entries = l.rows.entries; lists = l.lists; steps = l.trail.steps; list = l.list } in
+    record {
+      sweeps : LateSweeps l.initial.trail.atoms l.initial.trail.depth l.f first now l.initial.waiting.items l.waiting.items l.k;
+      atoms : l.trail.atoms ≡ l.initial.trail.atoms;
+      depth : l.trail.depth ≡ l.initial.trail.depth;
+      looks : l.initial.rows.looks ≤ l.rows.looks;
+      seen : Seen l.f l.initial.rows.entries l.list l.k l.initial.rows.looks l.rows.looks;
+    }
+
+abbrev pub decreases-watches : goal.decreases-watches
+decreases-watches l = length l.list - l.k
