@@ -4,10 +4,10 @@ ghost use Rattle.congruence.specs.Reading.{truth_number};
 
 use crate::differing::{Differing, first_differing};
 use crate::reading::{arguments_of, shape_of};
-use crate::reasons::{add_negations, reasons_of};
+use crate::reasons::{add_negations, each_once, reasons_of};
 use equal_points::{Shape, Step, equal_points_have_one_value};
 use literals::Literal;
-use point_closure::Closure;
+use point_closure::{Closure, Watch, Watched};
 use smt_meaning::TermId;
 use std::alloc::{AllocError, Global};
 use term_store::TermStore;
@@ -161,6 +161,45 @@ impl Congruence {
         self.record(Step::Differ(left + 2, right + 2), reason)
     }
 
+    /// Watches two points, for the literal with a code, until the steps of now are taken back. An `Err` changes nothing that contracts see.
+    pub fn watch(&mut self, left: u32, right: u32, code: u32) -> Result<(), AllocError>
+        requires recorded { IsRecorded self.old }
+        requires left { left < length self.old.closure.graph }
+        requires right { right < length self.old.closure.graph }
+        ensures recorded { IsRecorded self.new }
+        ensures graph { self.new.closure.graph ≡ self.old.closure.graph }
+        ensures steps { self.new.closure.steps.items ≡ self.old.closure.steps.items }
+        ensures reasons { self.new.reasons.items ≡ self.old.reasons.items }
+    {
+        self.closure.watch(Watch {
+            left,
+            right,
+            watched: Watched::Equality(code),
+        })
+    }
+
+    /// How many watched pairs are known to be of equal points.
+    pub fn met_count(&self) -> usize
+        requires { IsRecorded self.now }
+    {
+        self.closure.met().len()
+    }
+
+    /// The literal for which the pair with this index is watched, of those known to be of equal points, oldest first. None where it is watched for none.
+    pub fn asked(&self, index: usize) -> Option<Literal>
+        requires { IsRecorded self.now }
+    {
+        let met = self.closure.met();
+        if index >= met.len() {
+            return None;
+        }
+        match self.closure.pair_at(met[index]).watched {
+            Watched::Equality(code) => Some(Literal::new(code / 2, code % 2 == 0)),
+            Watched::Truths => None,
+            Watched::Step(_) => None,
+        }
+    }
+
     /// Takes back all steps but the first.
     pub fn undo_to(&mut self, depth: usize)
         requires recorded { IsRecorded self.old }
@@ -179,7 +218,7 @@ impl Congruence {
     ghost use Rattle.equal_points.specs.declared.step.Step.TheVariants.{Differ};
     ghost use Rattle.equal_points.specs.Closure.{AreRead, Equal};
     ghost use Rattle.equal_points.specs.Explained.{merged, step_at};
-    ghost use Rattle.congruence.specs.Reasons.{AreReasonsOf, IsTruthConflict, IsStepConflict};
+    ghost use Rattle.congruence.specs.Reasons.{AreReasonsOf, IsTruthConflict, IsStepConflict, NoneTwice};
     ghost use Rattle.congruence.specs.Recorded.{IsRecorded, AreEqualTerms, HaveOneValue, IsConsistent, IsConflict};
 
     /// Whether the merges make two terms equal.
@@ -194,7 +233,25 @@ impl Congruence {
         self.closure.same(left + 2, right + 2)
     }
 
-    /// The reasons of merges that give the equality of two terms.
+    /// The reasons of merges that give the equality of two points, each once.
+    pub fn explain_points(
+        &self,
+        alloc: Global,
+        left: u32,
+        right: u32,
+    ) -> Result<Vec<Literal>, AllocError>
+        requires recorded { IsRecorded self.now }
+        requires left { left < length self.now.closure.graph }
+        requires right { right < length self.now.closure.graph }
+        requires equal { Equal self.now.closure.graph (merged self.now.closure.steps.items) left right }
+        ensures { IfOk result (λ v. AreReasonsOf self.now.closure.graph self.now.closure.steps.items self.now.reasons.items left right v.items) }
+    {
+        let steps = self.closure.explain(alloc, left, right)?;
+        let reasons = reasons_of(alloc, &self.reasons, &steps)?;
+        Ok(each_once(reasons))
+    }
+
+    /// The reasons of merges that give the equality of two terms, each once.
     pub fn explain(
         &self,
         alloc: Global,
@@ -207,20 +264,20 @@ impl Congruence {
         requires equal { AreEqualTerms self.now left right }
         ensures { IfOk result (λ v. AreReasonsOf self.now.closure.graph self.now.closure.steps.items self.now.reasons.items (left + 2) (right + 2) v.items) }
     {
-        let steps = self.closure.explain(alloc, left + 2, right + 2)?;
-        reasons_of(alloc, &self.reasons, &steps)
+        self.explain_points(alloc, left + 2, right + 2)
     }
 
     /// Why the truth values can't be equal.
     fn truth_conflict(&self, alloc: Global) -> Result<Vec<Literal>, AllocError>
         requires recorded { IsRecorded self.now }
         requires equal { Equal self.now.closure.graph (merged self.now.closure.steps.items) 0 1 }
-        ensures { IfOk result (λ v. IsTruthConflict self.now.closure.graph self.now.closure.steps.items self.now.reasons.items v.items) }
+        ensures is { IfOk result (λ v. IsTruthConflict self.now.closure.graph self.now.closure.steps.items self.now.reasons.items v.items) }
+        ensures once { IfOk result (λ v. NoneTwice v.items) }
     {
         let steps = self.closure.explain(alloc, 0, 1)?;
         let mut clause = Vec::new(alloc);
         add_negations(&mut clause, &self.reasons, &steps)?;
-        Ok(clause)
+        Ok(each_once(clause))
     }
 
     /// Why the points of a step that keeps them apart can't be equal.
@@ -231,19 +288,21 @@ impl Congruence {
         requires within { found.step < length self.now.closure.steps.items }
         requires step { step_at self.now.closure.steps.items found.step ≡ Differ found.left found.right }
         requires equal { Equal self.now.closure.graph (merged self.now.closure.steps.items) found.left found.right }
-        ensures { IfOk result (λ v. IsStepConflict self.now.closure.graph self.now.closure.steps.items self.now.reasons.items v.items) }
+        ensures is { IfOk result (λ v. IsStepConflict self.now.closure.graph self.now.closure.steps.items self.now.reasons.items v.items) }
+        ensures once { IfOk result (λ v. NoneTwice v.items) }
     {
         let steps = self.closure.explain(alloc, found.left, found.right)?;
         let mut clause = Vec::new(alloc);
         clause.push(self.reasons[found.step as usize].negated())?;
         add_negations(&mut clause, &self.reasons, &steps)?;
-        Ok(clause)
+        Ok(each_once(clause))
     }
 
-    /// A clause that the reasons break, where the truth values or the points of a step that keeps them apart are equal.
+    /// A clause that the reasons break, no literal of it twice, where the truth values or the points of a step that keeps them apart are equal.
     pub fn conflict(&self, alloc: Global) -> Result<Option<Vec<Literal>>, AllocError>
         requires recorded { IsRecorded self.now }
         ensures some { IfOk result (λ r. IfSome r (λ v. IsConflict self.now v.items)) }
+        ensures once { IfOk result (λ r. IfSome r (λ v. NoneTwice v.items)) }
         ensures none { IfOk result (λ r. IfNone r (IsConsistent self.now.closure.graph self.now.closure.steps.items)) }
     {
         if self.closure.same(0, 1) {

@@ -7,3 +7,4 @@ mod reading;
 mod reasons;
 
 pub use congruence::Congruence;
+pub use reasons::each_once;

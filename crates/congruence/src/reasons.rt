@@ -1,6 +1,6 @@
 //! The reasons of steps.
 ghost use Rattle.std.specs.Prelude.{◌≡◌, ◌<◌, ◌++◌, map, length, All, OnOk, IfOk};
-ghost use Rattle.congruence.specs.Reasons.{reason_at, negation_at};
+ghost use Rattle.congruence.specs.Reasons.{reason_at, negation_at, AreEachOnce};
 
 use literals::Literal;
 use std::alloc::{AllocError, Global};
@@ -34,4 +34,13 @@ pub(crate) fn add_negations(
         clause.push(reasons[*step as usize].negated())?;
     }
     Ok(())
+}
+
+/// The same literals, each once, by their codes.
+pub fn each_once(mut literals: Vec<Literal>) -> Vec<Literal>
+    ensures { AreEachOnce literals.items result.items }
+{
+    literals.sort_unstable_by_key(|literal| literal.code());
+    literals.dedup();
+    literals
 }

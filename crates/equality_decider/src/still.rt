@@ -20,7 +20,7 @@ impl Hook for Still<'_> {
 
     ghost reading = { λ h. record { trees = h.stack.now.trees; frames = flat h.stack.now.frames; table = []; closed = false } };
 
-    ghost later = { λ h i. Unit {0} };
+    ghost later = { λ h calls i. Unit {0} };
 
     ghost stopped = { λ h. NoHook };
 
@@ -32,5 +32,5 @@ impl Hook for Still<'_> {
 
     ghost later_same = { λ h. tt };
 
-    ghost later_both = { λ h i j p q. tt };
+    ghost later_both = { λ h i j ms ns p q. tt };
 }

@@ -6,6 +6,9 @@ use Rattle.smt_meaning.specs.declared.values.Sort.{Sort}
 use Rattle.smt_meaning.specs.Stack.{signature_of}
 use Rattle.smt_meaning.specs.StackCommand.{Stack}
 use Rattle.search_port.specs.State.{IsConsistent}
+use Rattle.search_port.specs.declared.theory.Asserted.{Asserted}
+use Rattle.search_port.specs.declared.theory.Asserted.TheVariants.{Taken, Conflict, Ended}
+use Rattle.congruence.specs.Reasons.{NoneTwice}
 use Rattle.congruence.specs.declared.congruence.Congruence.{Congruence}
 use Rattle.congruence.specs.Reading.{AreSeen}
 use Rattle.congruence.specs.Recorded.{IsRecorded}
@@ -43,3 +46,9 @@ pub record IsReady (ts : List Tree) (c : Congruence) : Type 0 where
   pub seen : AreSeen ts c.closure.graph
   pub every : length ts + 2 ≤ length c.closure.graph
   pub first : c.closure.steps.items ≡ []
+
+-- no literal stands twice in a clause that a literal breaks
+abbrev pub HasNoneTwice : Asserted → Type 0
+HasNoneTwice Taken = Unit {0}
+HasNoneTwice (Conflict c) = NoneTwice c.literals
+HasNoneTwice (Ended cause) = Unit {0}

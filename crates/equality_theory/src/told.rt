@@ -4,14 +4,15 @@ ghost use Rattle.literals.specs.Signed.{Signed};
 ghost use Rattle.search_port.specs.State.{IsOpenIn};
 ghost use Rattle.search_port.specs.Calls.{IsConflict, AssertedBy};
 ghost use Rattle.equality_theory.specs.Seen.{state_of, IsSetting};
-ghost use Rattle.equality_theory.specs.Told.{IsTold};
+ghost use Rattle.congruence.specs.Reasons.{NoneTwice};
+ghost use Rattle.equality_theory.specs.Told.{IsTold, HasNoneTwice};
 
 use crate::said::{Guide, say};
 use atom_table::AtomTable;
 use congruence::Congruence;
 use equal_points::Step;
 use flat_stack::flat_says_the_same;
-use literal_steps::{atoms_are_declared, clash_is_false_clause, lemma_of, record_all};
+use literal_steps::{atoms_are_declared, clash_is_false_clause, lemma_with, record_all};
 use literals::Literal;
 use scope_stack::Stack;
 use search_port::{Asserted, Cause, Lemma};
@@ -97,17 +98,15 @@ fn conflict(
 ) -> Result<Option<Lemma>, AllocError>
     requires setting { IsSetting stack.now marks.now table.now }
     requires told { IsTold stack.now table.now told.now.congruence told.now.log.items told.now.starts.items }
-    ensures { IfOk result (λ found. IfSome found (IsConflict (state_of stack.now table.now told.now.log.items))) }
+    ensures found { IfOk result (λ found. IfSome found (IsConflict (state_of stack.now table.now told.now.log.items))) }
+    ensures once { IfOk result (λ found. IfSome found (λ clause. NoneTwice clause.literals)) }
 {
     atoms_are_declared();
     clash_is_false_clause();
     flat_says_the_same();
     match told.congruence.conflict(alloc)? {
         None => Ok(None),
-        Some(clause) => {
-            let lemma = lemma_of(alloc, clause)?;
-            Ok(Some(lemma))
-        }
+        Some(clause) => Ok(Some(lemma_with(clause))),
     }
 }
 
@@ -151,6 +150,7 @@ fn tell_and_ask(
     ensures ok { OnOk result (told.new.log.items ≡ told.old.log.items ++ literal ∷ []) }
     ensures before { take (length told.old.log.items) told.new.log.items ≡ told.old.log.items }
     ensures found { IfOk result (λ found. IfSome found (IsConflict (state_of stack.now table.now told.new.log.items))) }
+    ensures once { IfOk result (λ found. IfSome found (λ clause. NoneTwice clause.literals)) }
 {
     add(told, stack, marks, table, guide, literal)?;
     conflict(alloc, told, stack, marks, table)
@@ -172,6 +172,7 @@ pub(crate) fn tell(
     requires open { IsOpenIn told.old.log.items literal }
     ensures told { IsTold stack.now table.now told.new.congruence told.new.log.items told.new.starts.items }
     ensures answer { AssertedBy (state_of stack.now table.now told.old.log.items) (state_of stack.now table.now told.new.log.items) literal result }
+    ensures once { HasNoneTwice result }
 {
     let count = told.log.len();
     match tell_and_ask(alloc, told, stack, marks, table, guide, literal) {

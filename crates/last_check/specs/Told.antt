@@ -8,6 +8,8 @@ use Rattle.smt_meaning.specs.StackCommand.{Stack}
 use Rattle.search_port.specs.State.{TheoryState, IsConsistent}
 use Rattle.search_port.specs.Calls.{JudgedBy}
 use Rattle.search_port.specs.declared.bare.Judged.{Judged}
+use Rattle.search_port.specs.declared.bare.Judged.TheVariants.{Fine, Conflict}
+use Rattle.congruence.specs.Reasons.{NoneTwice}
 use Rattle.literal_steps.specs.Clauses.{IsToldAtOneLevel}
 
 -- a log of literals over these atoms, to which none is added
@@ -23,3 +25,8 @@ pub record IsWholeLog (table : List Atom) (log : List Signed) : Type 0 where
 -- whichever levels are read as one: tables that make the literals true, or a clause of the theory that they make false
 abbrev pub IsJudged : Stack → List Atom → List Signed → Judged → Type 0
 IsJudged s table log judged = (frames : List Frame) → IsToldAtOneLevel (signature_of s.frames) (told s.trees table log frames) → JudgedBy (told s.trees table log frames) judged
+
+-- no literal stands twice in a clause that was found
+abbrev pub HasNoneTwice : Judged → Type 0
+HasNoneTwice (Fine tables) = Unit {0}
+HasNoneTwice (Conflict c) = NoneTwice c.literals

@@ -7,12 +7,12 @@ ghost use Rattle.stack_atoms.specs.OfStack.{AreOfStack};
 ghost use Rattle.class_model.specs.Values.{AreTerms};
 ghost use Rattle.literal_steps.specs.Reasoned.{IsReasoned};
 ghost use Rattle.log_replay.specs.Said.{AllIsSaid, Extends};
-ghost use Rattle.last_check.specs.Told.{IsWholeLog, IsJudged};
+ghost use Rattle.last_check.specs.Told.{IsWholeLog, IsJudged, HasNoneTwice};
 
 use atom_table::AtomTable;
 use class_model::{classes_are_of_equal_points, tables};
 use congruence::Congruence;
-use literal_steps::{clash_is_false_clause, lemma_of};
+use literal_steps::{clash_is_false_clause, lemma_of, lemma_with};
 use literals::Literal;
 use log_replay::replay;
 use node_judge::broken_part;
@@ -37,7 +37,8 @@ fn judge(
     requires reasoned { IsReasoned (signature_of stack.now.frames) stack.now.trees atoms.now log.now terms.now }
     requires said { AllIsSaid stack.now.trees marks.now atoms.now log.now terms.now.closure.steps.items }
     requires log { IsWholeLog atoms.now log.now }
-    ensures { IfOk result (IsJudged stack.now atoms.now log.now) }
+    ensures judged { IfOk result (IsJudged stack.now atoms.now log.now) }
+    ensures once { IfOk result HasNoneTwice }
 {
     stack.laws();
     let store = stack.terms();
@@ -45,12 +46,10 @@ fn judge(
     classes_are_of_equal_points(terms);
     clash_is_false_clause();
     if let Some(clause) = terms.conflict(alloc)? {
-        let lemma = lemma_of(alloc, clause)?;
-        return Ok(Judged::Conflict(lemma));
+        return Ok(Judged::Conflict(lemma_with(clause)));
     }
     if let Some(broken) = broken_part(alloc, stack, marks, sorts, atoms, terms)? {
-        let found = lemma_of(alloc, broken)?;
-        return Ok(Judged::Conflict(found));
+        return Ok(Judged::Conflict(lemma_of(broken)));
     }
     let model = tables(alloc, store, stack.declarations(), marks, sorts, terms)?;
     Ok(Judged::Fine(model))
@@ -75,13 +74,14 @@ fn tell_and_judge(
     ensures graph { congruence.new.closure.graph ≡ congruence.old.closure.graph }
     ensures extends { Extends congruence.old congruence.new }
     ensures judged { IfOk result (IsJudged stack.now atoms.now log.now) }
+    ensures once { IfOk result HasNoneTwice }
 {
     replay(alloc, stack.terms(), marks, atoms, congruence, log)?;
     judge(alloc, stack, marks, sorts, atoms, congruence, log)
 }
 
 /// Tables under which the literals of a log that tells all atoms are true, or a clause that the log makes false and that is true under every
-/// interpretation. The closure is as before, also after an `Err`, which is for want of memory.
+/// interpretation and has no literal twice. The closure is as before, also after an `Err`, which is for want of memory.
 pub fn last_check(
     alloc: Global,
     stack: &Stack,
@@ -101,6 +101,7 @@ pub fn last_check(
     ensures steps { congruence.new.closure.steps.items ≡ congruence.old.closure.steps.items }
     ensures reasons { congruence.new.reasons.items ≡ congruence.old.reasons.items }
     ensures judged { IfOk result (IsJudged stack.now atoms.now log.now) }
+    ensures once { IfOk result HasNoneTwice }
 {
     let depth = congruence.closure.depth();
     let judged = tell_and_judge(alloc, stack, marks, sorts, atoms, congruence, log);

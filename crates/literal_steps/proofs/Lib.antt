@@ -2,5 +2,6 @@ pub mod Values
 pub mod Justifying
 pub mod Reasoning
 pub mod Clausing
+pub mod Implying
 pub mod Declared
 pub mod Recording

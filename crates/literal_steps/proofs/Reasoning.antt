@@ -1,7 +1,7 @@
 -- What follows from the reasons of steps.
-use Rattle.std.proofs.Common.{◌≡◌, ℕ, ◌<◌, Bool, true, false, not, List, [], ◌∷◌, map, length, All, Contains, refl, sym, ap, subst, inl, inr}
+use Rattle.std.proofs.Common.{◌≡◌, ℕ, ◌<◌, Bool, true, false, not, List, [], ◌∷◌, map, length, All, Contains, refl, sym, ap, subst, inl, inr, arith}
 use Rattle.std.specs.Prelude.{◌||◌}
-use Rattle.std.proofs.lemmas.List.Elements.{All-nil, All-cons, All-head, All-tail, All-weaker, All-contains, All-map, Contains-append_cases}
+use Rattle.std.proofs.lemmas.List.Elements.{All-nil, All-cons, All-head, All-tail, All-weaker, All-contains, All-contains_itself, All-map, Contains-append_cases, Contains-append_right}
 use Rattle.literals.specs.Signed.{Signed, opposite, sign, literal_true, some_true}
 use Rattle.smt_meaning.specs.declared.values.Value.TheVariants.{Truth}
 use Rattle.smt_meaning.specs.declared.clauses.Atom.{Atom}
@@ -14,9 +14,9 @@ use Rattle.equal_points.specs.declared.step.Step.TheVariants.{Merge, Differ}
 use Rattle.equal_points.specs.Closure.{Point, Pair, AreRead}
 use Rattle.equal_points.specs.Laws.{point_value, MakesPairsTrue, EqualPointsHaveOneValue}
 use Rattle.equal_points.specs.Explained.{step_at, step_pairs, named, Explains}
-use Rattle.congruence.specs.Reasons.{reason_at, negation_at, IsTruthConflict, IsStepConflict}
+use Rattle.congruence.specs.Reasons.{reason_at, negation_at, HaveTheSame, IsTruthConflict, IsStepConflict}
 use Rattle.literal_steps.specs.Justified.{StepHolds, truth_by, IsJustified, AreJustified}
-use Rattle.literal_steps.specs.Clauses.{IsFalseClause}
+use Rattle.literal_steps.specs.Clauses.{IsTrueEverywhere, IsFalseClause}
 use Rattle.literal_steps.specs.Laws.{ReasonsMakeEqual, ClashIsFalseClause}
 
 -- ---- tests
@@ -65,6 +65,10 @@ pub both : {X : Type 0} (P Q R : X → Type 0) → ((x : X) → P x → Q x → 
 both P Q R f [] h k = All-nil R
 both P Q R f (x ∷ xs) h k = All-cons R x xs (f x (All-head P x xs h) (All-head Q x xs k)) (both P Q R f xs (All-tail P x xs h) (All-tail Q x xs k))
 
+-- what holds of each literal holds of those among them
+pub all_of_same : (P : Signed → Type 0) (ls ms : List Signed) → ((l : Signed) → Contains ms l → Contains ls l) → All P ls → All P ms
+all_of_same P ls ms among h = All-weaker (Contains ls) P (λ l c. All-contains P ls l h c) ms (All-weaker (Contains ms) (Contains ls) (λ l c. among l c) ms (All-contains_itself ms))
+
 -- ---- merged pairs
 
 pair_of_step : (ts : List Tree) (I : Interpretation) (s : Step) (p : Pair) → StepHolds ts I s → Contains (step_pairs s) p → point_value ts I p.left ≡ point_value ts I p.right
@@ -101,7 +105,41 @@ module _ (law : EqualPointsHaveOneValue) (ds : List Declaration) (ts : List Tree
 pub reasons_equal : EqualPointsHaveOneValue → ReasonsMakeEqual
 reasons_equal law ds ts table ps steps reasons ls i j I read justified are interprets h =
     equal_by law ds ts table ps steps reasons read justified I interprets are.steps i j are.explains
-    (unmapped (λ (l : Signed). literal_true (truth_by ts table I) l ≡ true) (reason_at reasons) are.steps (subst (All (λ (l : Signed). literal_true (truth_by ts table I) l ≡ true)) are.literals h))
+    (unmapped (λ (l : Signed). literal_true (truth_by ts table I) l ≡ true) (reason_at reasons) are.steps
+    (all_of_same (λ (l : Signed). literal_true (truth_by ts table I) l ≡ true) ls (map (reason_at reasons) are.steps) (λ l c. are.literals.same.all l c) h))
+
+-- ---- the same literals
+
+true_by : (f : ℕ → Bool) (l : Signed) (ls : List Signed) → Contains ls l → literal_true f l ≡ true → some_true f ls ≡ true
+true_by f l ls c h = true_unless (some_true f ls) (λ e. clash (literal_true f l) h (All-contains (λ (m : Signed). literal_true f m ≡ false) ls l (each_false f ls e) c))
+  where
+    clash : (b : Bool) → b ≡ true → b ≡ false → ⊥
+    clash true h k = cc
+    clash false h k = cc
+
+-- one with all literals of another is false only where that is
+pub false_part : (f : ℕ → Bool) (ls ms : List Signed) → ((l : Signed) → Contains ls l → Contains ms l) → some_true f ms ≡ false → some_true f ls ≡ false
+false_part f [] ms h e = refl
+false_part f (l ∷ ls) ms h e =
+    or_false (literal_true f l) (some_true f ls) (All-contains (λ (m : Signed). literal_true f m ≡ false) ms l (each_false f ms e) (h l (0, omega arith, refl)))
+    (false_part f ls ms (λ m c. h m (Contains-append_right (l ∷ []) ls m c)) e)
+  where
+    or_false : (a b : Bool) → a ≡ false → b ≡ false → (a || b) ≡ false
+    or_false true b h k = cc
+    or_false false b h k = k
+
+pub same_valid : (ds : List Declaration) (ts : List Tree) (table : List Atom) (ls ms : List Signed) → HaveTheSame ls ms → IsTrueEverywhere ds ts table ls → IsTrueEverywhere ds ts table ms
+same_valid ds ts table ls ms same h I interprets =
+    true_unless (some_true (truth_by ts table I) ms) (λ e. clash (h I interprets) (false_part (truth_by ts table I) ls ms (λ l c. same.all l c) e))
+  where
+    clash : {b : Bool} → b ≡ true → b ≡ false → ⊥
+    clash h k = cc
+
+pub same_conflict : (ds : List Declaration) (ts : List Tree) (table : List Atom) (log ls ms : List Signed) → HaveTheSame ls ms → IsFalseClause ds ts table log ls → IsFalseClause ds ts table log ms
+same_conflict ds ts table log ls ms same h = record {
+  is_false = all_of_same (IsFalseIn log) ls ms (λ l c. same.only l c) h.is_false;
+  valid = same_valid ds ts table ls ms same h.valid;
+}
 
 -- ---- conflicts
 
@@ -115,7 +153,7 @@ negation_false log rs s h less = subst (Contains log) (sym (twice (reason_at rs 
 negations_false : (log rs : List Signed) (ss : List ℕ) → All (Contains log) rs → All (λ s. s < length rs) ss → AllFalseIn log (map (negation_at rs) ss)
 negations_false log rs ss h less = All-map (IsFalseIn log) (negation_at rs) ss (All-weaker (λ s. s < length rs) (λ s. IsFalseIn log (negation_at rs s)) (λ s k. negation_false log rs s h k) ss less)
 
-truths_differ : (ts : List Tree) (I : Interpretation) → point_value ts I 0 ≡ point_value ts I 1 → ⊥
+pub truths_differ : (ts : List Tree) (I : Interpretation) → point_value ts I 0 ≡ point_value ts I 1 → ⊥
 truths_differ ts I e = apart e
   where
     apart : Truth true ≡ Truth false → ⊥
@@ -127,7 +165,7 @@ module _ (law : EqualPointsHaveOneValue) (ds : List Declaration) (ts : List Tree
   in_reasons ss h = subst (λ n. All (λ s. s < n) ss) (sym justified.as_many) h
 
   of_truths : IsTruthConflict ps steps rs ls → IsFalseClause ds ts table log ls
-  of_truths c = subst (IsFalseClause ds ts table log) (sym c.literals) (record {
+  of_truths c = same_conflict ds ts table log (map (negation_at rs) c.steps) ls c.literals.same (record {
     is_false = negations_false log rs c.steps told (in_reasons c.steps c.explains.steps);
     valid = λ I interprets. true_unless (some_true (truth_by ts table I) (map (negation_at rs) c.steps))
         (λ h. truths_differ ts I (equal_unless law ds ts table ps steps rs read justified I interprets c.steps 0 1 c.explains h));
@@ -137,7 +175,7 @@ module _ (law : EqualPointsHaveOneValue) (ds : List Declaration) (ts : List Tree
   of_step c =
       let differs : (I : Interpretation) → Interprets ds I → literal_true (truth_by ts table I) (reason_at rs c.differ) ≡ true → point_value ts I c.left ≡ point_value ts I c.right → ⊥ =
       subst (IsJustified ds ts table (reason_at rs c.differ)) c.is (justified.each c.differ c.within) in
-      subst (IsFalseClause ds ts table log) (sym c.literals) (record {
+      same_conflict ds ts table log (negation_at rs c.differ ∷ map (negation_at rs) c.steps) ls c.literals.same (record {
         is_false =
             All-cons (IsFalseIn log) (negation_at rs c.differ) (map (negation_at rs) c.steps)
             (negation_false log rs c.differ told (subst (λ n. c.differ < n) (sym justified.as_many) c.within))

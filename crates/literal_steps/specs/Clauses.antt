@@ -27,11 +27,6 @@ pub record IsToldAtOneLevel (ds : List Declaration) (t : TheoryState) : Type 0 w
   pub within : All (λ (l : Signed). l.atom < length t.reading.table) t.log
   pub consistent : IsConsistent t.log
 
--- the same literals, however often
-pub record HaveTheSame (ls ms : List Signed) : Type 0 where
-  pub all : (l : Signed) → Contains ls l → Contains ms l
-  pub only : (l : Signed) → Contains ms l → Contains ls l
-
 -- a clause with more literals, each of them false where the reasons are, which is false nowhere but where two terms have one value
 pub record AddsReasons (ds : List Declaration) (ts : List Tree) (table : List Atom) (reasons old new : List Signed) (i j : ℕ) : Type 0 where
   pub stays : (l : Signed) → Contains old l → Contains new l

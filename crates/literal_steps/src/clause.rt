@@ -9,16 +9,20 @@ ghost use Rattle.search_port.specs.Calls.{IsConflict};
 ghost use Rattle.equal_points.specs.Closure.{AreRead};
 ghost use Rattle.congruence.specs.Recorded.{IsRecorded, AreEqualTerms};
 ghost use Rattle.literal_steps.specs.Justified.{AreJustified};
-ghost use Rattle.literal_steps.specs.Clauses.{IsFalseClause, IsToldAtOneLevel, HaveTheSame, AddsReasons};
+ghost use Rattle.congruence.specs.Reasons.{NoneTwice, AreEachOnce};
+ghost use Rattle.literal_steps.specs.Clauses.{IsFalseClause, IsToldAtOneLevel, AddsReasons};
 
 use crate::reasons_make_equal;
-use congruence::Congruence;
+use congruence::{Congruence, each_once};
 use literals::Literal;
 use search_port::Lemma;
 use smt_meaning::{Seq, TermId};
 use std::alloc::{AllocError, Global};
 
-fn add_negations(clause: &mut Vec<Literal>, reasons: &[Literal]) -> Result<(), AllocError>
+pub(crate) fn add_negations(
+    clause: &mut Vec<Literal>,
+    reasons: &[Literal],
+) -> Result<(), AllocError>
     ensures { OnOk result (clause.new.items ≡ clause.old.items ++ map opposite reasons.now) }
 {
     for reason in reasons {
@@ -47,44 +51,24 @@ pub fn add_reasons(
     Ok(())
 }
 
-fn is_same(left: Literal, right: Literal) -> bool
-    ensures { IsTrue result ↔ (left ≡ right) }
+/// The clause at level 0 with these literals.
+pub fn lemma_with(literals: Vec<Literal>) -> Lemma
+    requires { NoneTwice literals.items }
+    ensures literals { result.literals ≡ literals.items }
+    ensures level { result.level ≡ 0 }
+    ensures conflict { (ds : List Declaration) (t : TheoryState) → IsToldAtOneLevel ds t → IsFalseClause ds t.reading.trees t.reading.table t.log literals.items → IsConflict t result }
 {
-    left == right
-}
-
-/// Adds a literal, unless the last one before it is the same.
-fn add_new(before: &[Literal], literal: Literal, kept: &mut Vec<Literal>) -> Result<(), AllocError>
-    ensures { OnOk result (HaveTheSame before.now kept.old.items → HaveTheSame (before.now ++ literal ∷ []) kept.new.items) }
-{
-    let count = before.len();
-    if count > 0 && is_same(before[count - 1], literal) {
-        return Ok(());
-    }
-    kept.push(literal)?;
-    Ok(())
-}
-
-/// The same literals, of equal ones that stand side by side one alone.
-fn apart(alloc: Global, literals: &[Literal]) -> Result<Vec<Literal>, AllocError>
-    ensures { IfOk result (λ kept. HaveTheSame literals.now kept.items) }
-{
-    let mut kept = Vec::new(alloc);
-    for i in 0..literals.len() {
-        add_new(&literals[..i], literals[i], &mut kept)?;
-    }
-    Ok(kept)
-}
-
-/// The clause at level 0 with each of these literals once. An `Err` is for want of memory.
-pub fn lemma_of(alloc: Global, mut literals: Vec<Literal>) -> Result<Lemma, AllocError>
-    ensures same { IfOk result (λ clause. HaveTheSame literals.items clause.literals) }
-    ensures conflict { IfOk result (λ clause. (ds : List Declaration) (t : TheoryState) → IsToldAtOneLevel ds t → IsFalseClause ds t.reading.trees t.reading.table t.log literals.items → IsConflict t clause) }
-{
-    literals.sort_unstable_by_key(|literal| literal.code());
-    let kept = apart(alloc, &literals)?;
-    Ok(Lemma {
-        literals: Seq::from_vec(kept),
+    Lemma {
+        literals: Seq::from_vec(literals),
         level: 0,
-    })
+    }
+}
+
+/// The clause at level 0 with each of these literals once.
+pub fn lemma_of(literals: Vec<Literal>) -> Lemma
+    ensures same { AreEachOnce literals.items result.literals }
+    ensures level { result.level ≡ 0 }
+    ensures conflict { (ds : List Declaration) (t : TheoryState) → IsToldAtOneLevel ds t → IsFalseClause ds t.reading.trees t.reading.table t.log literals.items → IsConflict t result }
+{
+    lemma_with(each_once(literals))
 }

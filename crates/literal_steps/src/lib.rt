@@ -4,10 +4,12 @@
 ghost use Rattle.literal_steps.specs.Laws.{AtomsAreDeclared, ChoiceStepsAreJustified, ClashIsFalseClause, NodeStepsAreJustified, ReasonsMakeEqual, SamenessIsJustified, TruthIsJustified};
 
 mod clause;
+mod implied;
 mod record;
 mod steps;
 
-pub use clause::{add_reasons, lemma_of};
+pub use clause::{add_reasons, lemma_of, lemma_with};
+pub use implied::implied_clause;
 pub use record::record_all;
 pub use steps::{add_choice_steps, add_node_steps, add_pair_step, add_truth_step};
 

@@ -4,10 +4,10 @@ use Rattle.equality_theory.specs.Seen.{state_of}
 use Rattle.equality_theory.proofs.Setting.{at_one_level, broken}
 use Rattle.equality_theory.proofs.told.conflict.Goals as goal
 
-pub returns-in_ok-lemma-in-Some : goal.returns-in_ok-lemma-in-Some
-returns-in_ok-lemma-in-Some c =
+pub returns-in-Some-clause-found : goal.returns-in-Some-clause-found
+returns-in-Some-clause-found c =
     let clash : IsClash c.args.told.now.congruence c.in-Some.clause.items = rw c.in-Some.is at c.in_ok-conflict.ensures.some in
-    c.in_ok-lemma-in-Some.ensures.conflict (signature_of c.args.stack.now.frames) (state_of c.args.stack.now c.args.table.now c.args.told.now.log.items)
+    c.lemma_with.ensures.conflict (signature_of c.args.stack.now.frames) (state_of c.args.stack.now c.args.table.now c.args.told.now.log.items)
     (at_one_level c.args.stack.now c.args.marks.now c.args.table.now c.requires.setting c.atoms_are_declared.ensures c.flat_says_the_same.ensures c.args.told.now.congruence c.args.told.now.log.items
     c.args.told.now.starts.items c.requires.told)
     (broken c.args.stack.now c.args.marks.now c.args.table.now c.requires.setting c.clash_is_false_clause.ensures c.args.told.now.congruence c.args.told.now.log.items c.args.told.now.starts.items
