@@ -2,9 +2,11 @@
 //! ends, says on a third why the run ended, and gives the status to exit with.
 #![tactic(auto)]
 
-ghost use Rattle.std.specs.Prelude.{◌≡◌, [], length};
+ghost use Rattle.std.specs.Prelude.{◌≡◌, [], List, length};
 ghost use Rattle.std.specs.Process.{exit_status};
 ghost use Rattle.smt_top.specs.Progress.{between};
+ghost use Rattle.smt_meaning.specs.declared.answers.Entry.{Entry as EntryValue};
+ghost use Rattle.smt_top.specs.Ended.{ended_with};
 ghost use Rattle.smt_top.specs.declared.top.Ended.{Ended as EndedValue};
 ghost use Rattle.smt_program.specs.Program.{IsServed, IsSaid, line_of};
 
@@ -13,25 +15,34 @@ mod words;
 
 use line::line;
 use ports::{Gate, OpenGate, ReadSource, Sink, Source, WriteSink};
-use smt_top::{Ended, run, unbegun};
+use smt_top::{Forgetting, Outcome, run_through, unbegun};
 use smt_words::WordsError;
 use std::alloc::Global;
 use std::env;
 use std::process::ExitCode;
 pub use words::words_of;
 
-/// Runs the script that the source gives, where there are words of the command line.
+/// Runs the script that the source gives, where there are words of the command line. No entry is kept, so that a run may be as long as it likes.
 fn serve<S: Source, K: Sink>(
     alloc: Global,
     words: &Result<Vec<String>, WordsError>,
     source: &mut S,
     sink: &mut K,
-) -> Ended
-    ensures { IsServed words.now (between (S.told source.old) (K.told sink.old) (S.told source.new) (K.told sink.new)) result }
+) -> Outcome
+    ensures { (journal : List EntryValue)
+        × IsServed words.now (between (S.told source.old) (K.told sink.old) (S.told source.new) (K.told sink.new)) (ended_with result journal) }
 {
     match words {
-        Ok(words) => run(alloc, words, source, sink, &OpenGate),
-        Err(error) => unbegun(alloc, *error),
+        Ok(words) => run_through(
+            alloc,
+            1 << 40,
+            words,
+            source,
+            sink,
+            &OpenGate,
+            &mut Forgetting,
+        ),
+        Err(error) => unbegun(*error),
     }
 }
 
@@ -48,13 +59,13 @@ fn say<E: Sink>(errors: &mut E, text: &[u8])
 }
 
 /// Says why a run ended, where the replies don't say all, and gives the status to exit with.
-fn conclude<E: Sink>(errors: &mut E, ended: &Ended) -> ExitCode
-    ensures status { exit_status result ≡ ended.now.status }
-    ensures said { IsSaid (line_of ended.now.note) (E.told errors.old) (E.told errors.new) }
-    ensures silent { line_of ended.now.note ≡ [] → errors.new ≡ errors.old }
+fn conclude<E: Sink>(errors: &mut E, outcome: Outcome) -> ExitCode
+    ensures status { exit_status result ≡ outcome.status }
+    ensures said { IsSaid (line_of outcome.note) (E.told errors.old) (E.told errors.new) }
+    ensures silent { line_of outcome.note ≡ [] → errors.new ≡ errors.old }
 {
-    say(errors, line(ended.note).as_bytes());
-    ExitCode::from(ended.status)
+    say(errors, line(outcome.note).as_bytes());
+    ExitCode::from(outcome.status)
 }
 
 /// The whole program between its ends: a run of the script that the source gives, under the words
@@ -72,8 +83,8 @@ pub fn program<S: Source, K: Sink, E: Sink>(
         × (exit_status result ≡ ended.status)
         × IsSaid (line_of ended.note) (E.told errors.old) (E.told errors.new) }
 {
-    let ended = serve(alloc, words, source, sink);
-    conclude(errors, &ended)
+    let outcome = serve(alloc, words, source, sink);
+    conclude(errors, outcome)
 }
 
 /// The program over the standard streams.

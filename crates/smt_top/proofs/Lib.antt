@@ -1,4 +1,6 @@
 mod Written
 mod Answering
 mod Turns
+mod Servings
+mod Driving
 mod Runs

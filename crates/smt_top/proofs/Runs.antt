@@ -13,9 +13,8 @@ use Rattle.smt_words.specs.Causes.{IsCause}
 use Rattle.smt_words.specs.declared.error.WordsError.{WordsError}
 use Rattle.smt_words.specs.declared.error.WordsError.TheVariants.{Refused, Memory as WordsMemory}
 use Rattle.ports.specs.Flow.{SourceTold, SinkTold}
-use Rattle.smt_top.specs.Progress.{Ends, Took, HasAnswered, Stands, SoFar, Over, CutOff, WrittenAtHalt, NoneSettled, IsWritten, between}
-use Rattle.smt_top.specs.Ended.{Ran, StatusOf, MatchesStatus, IsFaulty, IsUnbegun}
-use Rattle.smt_top.specs.declared.serving.Run.{Run}
+use Rattle.smt_top.specs.Progress.{Run, Ends, Took, HasAnswered, Stands, SoFar, Over, CutOff, WrittenAtHalt, NoneSettled, IsWritten, IsFaulty, between}
+use Rattle.smt_top.specs.Ended.{Ran, StatusOf, MatchesStatus, IsUnbegun}
 use Rattle.smt_top.specs.declared.serving.Stage.{Stage}
 use Rattle.smt_top.specs.declared.serving.Stage.TheVariants.{Asks, Complete}
 use Rattle.smt_top.specs.declared.top.Halt.{Halt}
@@ -64,7 +63,7 @@ module _ (decided : Decided) where
       long = λ h. absurd (omega arith);
     }
 
-    asking : SoFar decided (settings_of words) e budget r → r.reader.finished ≡ false → NoneSettled r → ended.status ≡ 6 → Ran decided budget words e ended
+    asking : SoFar decided (settings_of words) e budget r → r.reader.finished ≡ false → NoneSettled r.reader → ended.status ≡ 6 → Ran decided budget words e ended
     asking s going none status = record {
       input = s.input;
       given = s.given;
@@ -203,6 +202,7 @@ module _ (decided : Decided) where
     few = rw er (omega arith);
     ended = λ over. absurd (not_true (sym (ap (λ (u : Unread). u.finished) er) ∙ over));
     answered = subst (λ t. HasAnswered decided t [] r) (sym (ap (λ (s : State). s.settings) es)) (begins decided settings r er es ej);
+    numbered = rw (ej, er) (omega arith);
     whole = rw ej (Writes-none sink);
     later = record { read = omega arith; write = omega arith };
   }

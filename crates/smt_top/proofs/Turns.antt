@@ -15,10 +15,9 @@ use Rattle.smt_meaning.specs.declared.errors.Error.TheVariants.{Fault}
 use Rattle.smt_meaning.specs.declared.replies.Kept.{Kept}
 use Rattle.smt_meaning.specs.declared.replies.Kept.TheVariants.{Nothing}
 use Rattle.smt_meaning.specs.declared.tokens.FaultKind.{FaultKind}
-use Rattle.smt_top.specs.Progress.{moment, HasAnswered, IsComplete, IsFront, IsOver, NoneSettled, HasEntryAt, Comes, SoFar, Ends, Stands, at_source, at_sink}
+use Rattle.smt_top.specs.Progress.{Run, moment, HasAnswered, IsComplete, IsFront, IsOver, NoneSettled, given, Comes, SoFar, Ends, Stands, at_source, at_sink}
 use Rattle.smt_top.specs.declared.serving.Stage.{Stage}
 use Rattle.smt_top.specs.declared.serving.Stage.TheVariants.{Asks, Complete}
-use Rattle.smt_top.specs.declared.serving.Run.{Run}
 use Rattle.smt_top.specs.Progress.{CutOff, Over, Took, IsDone, WrittenAfter, WriteCause, IsWritten}
 use Rattle.smt_top.specs.Ended.{HaltOf}
 use Rattle.smt_top.specs.declared.serving.Stop.{Stop}
@@ -161,13 +160,13 @@ module _ (decided : Decided) where
     front_by false both input had = had_front s input new (goes_on (λ last. not_true (both.1 last)) input had)
 
   -- where the reply's text wasn't taken, or memory was wanting for it
-  pub reply_cut : (s : Settings) (old new : Run) (ts : List Token) (reply : Reply) (kept : Kept) (stop : Bool) (why : Stop)
+  pub reply_cut : (T : Type 0) (s : Settings) (old new : Run) (ts : List Token) (reply : Reply) (kept : Kept) (stop : Bool) (why : Stop)
       → IsSettled old.reader (ready ts) → Takes old.reader ts new.reader → Replies decided old.session ts reply kept new.session → (IsTrue stop ↔ IsExit ts)
-      → HasEntryAt why old.journal (entry_of old.journal reply kept) new.journal → (input : List ℕ) → HasAnswered decided s input old → IsFront decided s input new.reader.finished new.journal
-  reply_cut s old new ts reply kept stop StopWriteFault settled takes replies both entry input had = front_by s old new ts reply kept settled takes replies entry stop both input had
-  reply_cut s old new ts reply kept stop StopMemory settled takes replies both entry input had =
+      → new.journal ≡ old.journal ++ given {T = T} (Err why) (entry_of old.journal reply kept) → (input : List ℕ) → HasAnswered decided s input old → IsFront decided s input new.reader.finished new.journal
+  reply_cut T s old new ts reply kept stop StopWriteFault settled takes replies both entry input had = front_by s old new ts reply kept settled takes replies entry stop both input had
+  reply_cut T s old new ts reply kept stop StopMemory settled takes replies both entry input had =
       let front = had_front s input old had in
-      subst (λ j. IsFront decided s input new.reader.finished j) (sym entry) (subst (λ b. IsFront decided s input b old.journal) (sym takes.finished) front)
+      subst (λ j. IsFront decided s input new.reader.finished j) (sym (entry ∙ append-nil old.journal)) (subst (λ b. IsFront decided s input b old.journal) (sym takes.finished) front)
 
   module _ (s : Settings) (old new : Run) (kind : FaultKind) (at : ℕ) (settled : IsSettled old.reader (fault kind at)) (same : new.reader ≡ old.reader)
       (pushed : new.journal ≡ old.journal ++ entry_of old.journal (Error (Fault kind at)) Nothing ∷ []) where
@@ -193,12 +192,12 @@ module _ (decided : Decided) where
     faults input had = (fault_completes input had, inr (fault_stops input had))
 
   -- where the fault's text wasn't taken, or memory was wanting for it
-  pub fault_cut : (s : Settings) (old new : Run) (kind : FaultKind) (at : ℕ) (why : Stop) → IsSettled old.reader (fault kind at) → new.reader ≡ old.reader
-      → HasEntryAt why old.journal (entry_of old.journal (Error (Fault kind at)) Nothing) new.journal → (input : List ℕ) → HasAnswered decided s input old → IsFront decided s input new.reader.finished new.journal
-  fault_cut s old new kind at StopWriteFault settled same entry input had = legal_front s input new (fault_completes s old new kind at settled same entry input had)
-  fault_cut s old new kind at StopMemory settled same entry input had =
+  pub fault_cut : (T : Type 0) (s : Settings) (old new : Run) (kind : FaultKind) (at : ℕ) (why : Stop) → IsSettled old.reader (fault kind at) → new.reader ≡ old.reader
+      → new.journal ≡ old.journal ++ given {T = T} (Err why) (entry_of old.journal (Error (Fault kind at)) Nothing) → (input : List ℕ) → HasAnswered decided s input old → IsFront decided s input new.reader.finished new.journal
+  fault_cut T s old new kind at StopWriteFault settled same entry input had = legal_front s input new (fault_completes s old new kind at settled same entry input had)
+  fault_cut T s old new kind at StopMemory settled same entry input had =
       let front = had_front s input old had in
-      subst (λ j. IsFront decided s input new.reader.finished j) (sym entry) (subst (λ b. IsFront decided s input b old.journal) (sym (ap (λ (u : Unread). u.finished) same)) front)
+      subst (λ j. IsFront decided s input new.reader.finished j) (sym (entry ∙ append-nil old.journal)) (subst (λ b. IsFront decided s input b old.journal) (sym (ap (λ (u : Unread). u.finished) same)) front)
 
   -- where nothing was done
   pub idle_cut : (s : Settings) (old new : Run) → new.reader.finished ≡ old.reader.finished → new.journal ≡ old.journal → (input : List ℕ) → HasAnswered decided s input old → IsFront decided s input new.reader.finished new.journal
@@ -220,7 +219,7 @@ module _ (decided : Decided) where
 
   -- more is asked for
   pub asks : (s : Settings) (old new : Run) → new.reader ≡ old.reader → new.session ≡ old.session → new.journal ≡ old.journal → old.reader.finished ≡ false → ((a : Answer) → IsSettled old.reader a → ⊥)
-      → (input : List ℕ) → HasAnswered decided s input old → HasAnswered decided s input new × (new.reader.finished ≡ false) × NoneSettled new
+      → (input : List ℕ) → HasAnswered decided s input old → HasAnswered decided s input new × (new.reader.finished ≡ false) × NoneSettled new.reader
   unfolding HasAnswered
   asks s old new same state kept going none input had = (
     (λ more may.
@@ -261,7 +260,7 @@ module _ (decided : Decided) where
   unfed s input bytes journal front more may = subst (λ b. IsLegalSoFar decided s b journal) (sym (append_assoc input bytes more)) (front (bytes ++ more) tt)
 
   -- the entries answer all that is settled
-  pub answered_settled : (s : Settings) (input : List ℕ) (r : Run) → HasAnswered decided s input r → r.reader.finished ≡ false → NoneSettled r → AnswersSettled decided s input r.journal
+  pub answered_settled : (s : Settings) (input : List ℕ) (r : Run) → HasAnswered decided s input r → r.reader.finished ≡ false → NoneSettled r.reader → AnswersSettled decided s input r.journal
   unfolding HasAnswered
   answered_settled s input r had going none = record {
     place = r.reader.place;
@@ -294,6 +293,7 @@ module _ (decided : Decided) where
     few = rw er (omega (arith, s.few, length-append old.reader.bytes bytes));
     ended = λ over. absurd (not_true (sym going ∙ sym (ap (λ (u : Unread). u.finished) er) ∙ over));
     answered = feeds t old new s.input bytes going er es ej s.answered;
+    numbered = rw (ej, er) s.numbered;
     whole = rw ej s.whole;
     later = record { read = omega (arith, s.later.read); write = s.later.write };
   }
@@ -313,6 +313,7 @@ module _ (decided : Decided) where
     few = rw er (omega (arith, s.few));
     ended = λ _. over;
     answered = finishes t old new s.input er es ej s.answered;
+    numbered = rw (ej, er) s.numbered;
     whole = rw ej s.whole;
     later = record { read = omega (arith, s.later.read); write = s.later.write };
   }
@@ -333,9 +334,9 @@ module _ (decided : Decided) where
   -- what an advance of the run comes to
   pub advanced : (t : Settings) (e : Ends) (count : ℕ) (old new : Run) (stage : Stage) (next : SinkTold) (s : SoFar decided t e count old)
       → new.reader.finished ≡ old.reader.finished → new.reader.place + length new.reader.bytes ≡ old.reader.place + length old.reader.bytes
-      → Comes decided t stage s.input new → IsWritten e.sink next new.journal → e.sink_now.faults ≤ next.faults
+      → Comes decided t stage s.input new → (stage ≡ Asks → length new.journal ≤ new.reader.place) → IsWritten e.sink next new.journal → e.sink_now.faults ≤ next.faults
       → Stands decided t (Ok stage) (at_sink e next) count new
-  advanced t e count old new Complete next s same size comes whole later = record {
+  advanced t e count old new Complete next s same size comes numbered whole later = record {
     input = s.input;
     given = s.given;
     took = record { bytes = s.took.bytes; calls = s.took.calls };
@@ -347,7 +348,7 @@ module _ (decided : Decided) where
     whole = whole;
     later = record { read = s.later.read; write = omega (arith, s.later.write) };
   }
-  advanced t e count old new Asks next s same size comes whole later = (
+  advanced t e count old new Asks next s same size comes numbered whole later = (
     record {
       input = s.input;
       given = s.given;
@@ -358,6 +359,7 @@ module _ (decided : Decided) where
       few = omega (arith, s.few);
       ended = λ over. s.ended (sym same ∙ over);
       answered = comes.0;
+      numbered = numbered refl;
       whole = whole;
       later = record { read = s.later.read; write = omega (arith, s.later.write) };
     },
@@ -446,7 +448,7 @@ module _ (decided : Decided) where
       })
 
   -- a fault of the source cuts a run off
-  pub read_fault : (t : Settings) (e : Ends) (count : ℕ) (r : Run) (next : SourceTold) → r.reader.finished ≡ false → NoneSettled r
+  pub read_fault : (t : Settings) (e : Ends) (count : ℕ) (r : Run) (next : SourceTold) → r.reader.finished ≡ false → NoneSettled r.reader
       → Keeps e.source_now.left next.left → RoseBy 0 e.source_now.given next.given → e.source_now.faults ≤ next.faults → Rose e.source_now.faults next.faults
       → SoFar decided t e count r → CutOff decided t ReadFault (at_source e next) (count + 1) r
   read_fault t e count r next going none kept counts l rose s =

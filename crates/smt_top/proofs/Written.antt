@@ -7,7 +7,7 @@ use Rattle.ports.specs.Flow.{SinkTold, RoseBy, raised_by}
 use Rattle.smt_meaning.specs.LegalJournal.{journal_text}
 use Rattle.smt_meaning.specs.Text.{text}
 use Rattle.smt_meaning.specs.declared.answers.Entry.{Entry}
-use Rattle.smt_top.specs.Progress.{calls_for, journal_calls, Writes, IsWritten, IsTorn, PutAfter, WrittenAfter}
+use Rattle.smt_top.specs.Progress.{calls_for, journal_calls, Writes, IsWritten, IsTorn, PutAfter, WrittenAfter, given}
 use Rattle.smt_top.specs.declared.serving.Stop.{Stop}
 use Rattle.smt_top.specs.declared.serving.Stop.TheVariants.{Memory as StopMemory, WriteFault as StopWriteFault}
 
@@ -73,7 +73,7 @@ written_part before old new j e n p q = record {
 
 -- what is written after a put of an entry's text
 pub written_after : {T : Type 0} (r : Result T Stop) (before old new : SinkTold) (j : List Entry) (e : Entry) (bytes : List ℕ) → bytes ≡ text e.reply
-    → IsWritten before old j → PutAfter r old new bytes → WrittenAfter r before new (j ++ e ∷ [])
+    → IsWritten before old j → PutAfter r old new bytes → WrittenAfter r before new (j ++ given r e)
 written_after (Ok x) before old new j e bytes is p q = written_more before old new j e p (subst (λ b. Writes old new b (calls_for b)) is q)
 written_after (Err StopMemory) before old new j e bytes is p q = absurd q
 written_after (Err StopWriteFault) before old new j e bytes is p q = written_part before old new j e q.0 p (subst (λ b. Writes old new (take q.0 b) (calls_for b)) is q.1)
@@ -82,10 +82,15 @@ both_empty : (xs ys : List ℕ) → xs ++ ys ≡ [] → (xs ≡ []) × (ys ≡ [
 both_empty [] ys e = (refl, e)
 both_empty (x ∷ xs) ys e = absurd cc
 
--- where a journal has no text, neither has its last entry nor what stands before
-pub silent_parts : (j new : List Entry) (e : Entry) → new ≡ j ++ e ∷ [] → journal_text new ≡ [] → (journal_text j ≡ []) × (text e.reply ≡ [])
-silent_parts j new e is none = both_empty (journal_text j) (text e.reply) (sym (journal_text-push j e) ∙ sym (ap journal_text is) ∙ none)
+-- where entries have no text, neither have those of the front and those of the rest
+pub silent_both : (xs ys : List Entry) → journal_text (xs ++ ys) ≡ [] → (journal_text xs ≡ []) × (journal_text ys ≡ [])
+silent_both xs ys none = both_empty (journal_text xs) (journal_text ys) (sym (flat_map-append (λ (x : Entry). text x.reply) xs ys) ∙ none)
 
--- what was silent before stays so
-pub silent_on : {A B P : Type 0} {old mid new : A} → B × (new ≡ mid) → (B → P × (mid ≡ old)) → P × (new ≡ old)
-silent_on p before = let q = before p.0 in (q.0, p.1 ∙ q.1)
+pub one_text : (e : Entry) → journal_text (e ∷ []) ≡ text e.reply
+one_text e = append-nil (text e.reply)
+
+-- a put never wants memory, so the entry was given
+pub given_put : {T : Type 0} (r : Result T Stop) (old new : SinkTold) (bytes : List ℕ) (e : Entry) → PutAfter r old new bytes → given r e ≡ e ∷ []
+given_put (Ok x) old new bytes e p = refl
+given_put (Err StopMemory) old new bytes e p = absurd p
+given_put (Err StopWriteFault) old new bytes e p = refl

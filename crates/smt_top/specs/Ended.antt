@@ -1,8 +1,6 @@
 -- How a run ends.
-use Rattle.std.specs.Prelude.{◌≡◌, ℕ, ◌≤◌, ◌<◌, ◌⊎◌, Any, ⊤, false, List, Result, Ok, Err, length, IfSome, ◌↔◌}
+use Rattle.std.specs.Prelude.{◌≡◌, ℕ, ◌≤◌, ◌<◌, ◌⊎◌, false, List, [], Option, Result, Ok, Err, length, IfSome, ◌↔◌}
 use Rattle.smt_meaning.specs.declared.answers.Entry.{Entry}
-use Rattle.smt_meaning.specs.declared.answers.Reply.{Reply}
-use Rattle.smt_meaning.specs.declared.answers.Reply.TheVariants.{Error}
 use Rattle.smt_top.specs.declared.serving.Stop.{Stop}
 use Rattle.smt_top.specs.declared.serving.Stop.TheVariants.{Memory as StopMemory, WriteFault as StopWriteFault}
 use Rattle.smt_top.specs.declared.serving.Stage.{Stage}
@@ -13,24 +11,18 @@ use Rattle.smt_top.specs.declared.top.Note.{Note}
 use Rattle.smt_top.specs.declared.top.Note.TheVariants.{Fine, Words, ReadFault as ReadNote, WriteFault as WriteNote, NoMemory, TooLong as LongNote}
 use Rattle.ports.specs.Flow.{Rose}
 use Rattle.smt_meaning.specs.MayReply.{Decided}
-use Rattle.smt_meaning.specs.LegalJournal.{IsLegal, IsLegalSoFar, AnswersSettled}
+use Rattle.smt_meaning.specs.LegalJournal.{IsLegal, IsLegalSoFar, AnswersSettled, journal_text}
 use Rattle.smt_words.specs.Words.{are_taken, settings_of}
 use Rattle.smt_words.specs.declared.error.WordsError.{WordsError}
 use Rattle.smt_words.specs.declared.error.WordsError.TheVariants.{Refused, Memory as WordsMemory}
-use Rattle.smt_top.specs.Progress.{Ends, Took, IsDone, IsWritten, IsTorn}
+use Rattle.smt_top.specs.Ledgers.{Gains}
+use Rattle.smt_top.specs.Progress.{Ends, Took, IsDone, IsWritten, IsTorn, IsFaulty}
 use Rattle.smt_top.specs.declared.top.Ended.{Ended}
+use Rattle.smt_top.specs.declared.top.Outcome.{Outcome}
 
 abbrev pub HaltOf : Stop → Halt → Type 0
 HaltOf StopMemory h = h ≡ Memory
 HaltOf StopWriteFault h = h ≡ WriteFault
-
--- An error was replied.
-abbrev pub IsError : Reply → Type 0
-IsError (Error e) = ⊤
-IsError _ = ⊥
-
-abbrev pub IsFaulty : List Entry → Type 0
-IsFaulty entries = Any (λ e. IsError e.reply) entries
 
 abbrev pub StatusOf : Result Stage Halt → ℕ → Type 0
 StatusOf (Ok Complete) status = status < 2
@@ -81,3 +73,16 @@ pub record Ran (decided : Decided) (budget : ℕ) (words : List (List ℕ)) (e :
   pub write : ended.status ≡ 4 → Rose e.sink.faults e.sink_now.faults
   -- Of the calls within the budget each gave a byte or more, and another would be made.
   pub long : ended.status ≡ 6 → (given ≡ budget) × (budget ≤ length input)
+
+-- A run that ended so, with this journal.
+abbrev pub ended_with : Outcome → List Entry → Ended
+ended_with outcome journal = record { status = outcome.status; journal = journal; note = outcome.note }
+
+-- What a run through a ledger comes to: there is a journal with which all of this holds, and the ledger gained its entries. It is none where the words are refused, and where it has no text the sink is as it was.
+pub record RanThrough {K : Type 0} (decided : Decided) (budget : ℕ) (words : List (List ℕ)) (e : Ends) (outcome : Outcome) (sink sink_now : K)
+    (kept kept_now : Option (List Entry)) : Type 0 where
+  pub journal : List Entry
+  pub ran : Ran decided budget words e (ended_with outcome journal)
+  pub gained : Gains kept journal kept_now
+  pub silent : journal_text journal ≡ [] → sink_now ≡ sink
+  pub unread : are_taken words ≡ false → journal ≡ []

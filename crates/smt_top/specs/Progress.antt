@@ -1,13 +1,16 @@
 -- How far a run has come.
-use Rattle.std.specs.Prelude.{◌≡◌, ℕ, ◌+◌, ◌*◌, ◌≤◌, ◌<◌, ◌⊎◌, Bool, true, false, List, [], ◌∷◌, ◌++◌, length, take, sum_by, IfSome, Result, Ok, Err}
+use Rattle.std.specs.Prelude.{◌≡◌, ℕ, ◌+◌, ◌*◌, ◌≤◌, ◌<◌, ◌⊎◌, ◌↔◌, Bool, true, false, IsTrue, List, [], ◌∷◌, ◌++◌, length, take, sum_by, Any, ⊤, Option, IfSome, IfOk, IfErr, Result, Ok, Err}
 use Rattle.std.specs.Io.KnownBytes.{Appends, Consumes, IsAtEnd}
-use Rattle.smt_meaning.specs.Reading.{Answer, IsSettled, MayFollow}
+use Rattle.smt_meaning.specs.Reading.{Unread, Answer, IsSettled, MayFollow}
+use Rattle.smt_meaning.specs.State.{State}
 use Rattle.smt_meaning.specs.LegalJournal.{Moment, beginning, Runs, IsLegal, IsLegalSoFar, IsStopped, AnswersSettled, journal_text}
 use Rattle.smt_meaning.specs.MayReply.{Decided}
 use Rattle.smt_meaning.specs.Text.{text}
 use Rattle.smt_meaning.specs.declared.settings.Settings.{Settings}
 use Rattle.smt_meaning.specs.declared.answers.Entry.{Entry}
-use Rattle.smt_top.specs.declared.serving.Run.{Run}
+use Rattle.smt_meaning.specs.declared.answers.Reply.{Reply}
+use Rattle.smt_meaning.specs.declared.answers.Reply.TheVariants.{Error}
+use Rattle.smt_top.specs.declared.serving.Server.{Server}
 use Rattle.smt_top.specs.declared.serving.Stop.{Stop}
 use Rattle.smt_top.specs.declared.serving.Stop.TheVariants.{Memory as StopMemory, WriteFault as StopWriteFault}
 use Rattle.smt_top.specs.declared.top.Halt.{Halt}
@@ -15,8 +18,32 @@ use Rattle.smt_top.specs.declared.top.Halt.TheVariants.{Memory, ReadFault, Write
 use Rattle.smt_top.specs.declared.serving.Stage.{Stage}
 use Rattle.smt_top.specs.declared.serving.Stage.TheVariants.{Asks, Complete}
 use Rattle.ports.specs.Flow.{SourceTold, SinkTold, Rose, RoseBy}
+use Rattle.smt_top.specs.Ledgers.{Gains}
 
 -- The journal
+
+-- A run so far: what isn't read, the state, and what was answered.
+pub record Run : Type 0 where
+  pub reader : Unread
+  pub session : State
+  pub journal : List Entry
+
+-- The run of a server that has given these entries.
+abbrev pub run_of : Server → List Entry → Run
+run_of server entries = record { reader = server.reader; session = server.session; journal = entries }
+
+-- An error was replied.
+abbrev pub IsError : Reply → Type 0
+IsError (Error e) = ⊤
+IsError _ = ⊥
+
+abbrev pub IsFaulty : List Entry → Type 0
+IsFaulty entries = Any (λ e. IsError e.reply) entries
+
+-- The server has counted these entries, and knows whether an error is among their replies.
+pub record Tallies (server : Server) (entries : List Entry) : Type 0 where
+  pub count : server.count ≡ length entries
+  pub faulty : IsTrue server.is_faulty ↔ IsFaulty entries
 
 -- Where a run stands, if these bytes follow.
 abbrev pub moment : Run → List ℕ → Moment
@@ -35,8 +62,8 @@ unfoldable pub IsFront : Decided → Settings → List ℕ → Bool → List Ent
 IsFront decided s input finished journal = (more : List ℕ) → MayFollow finished more → IsLegalSoFar decided s (input ++ more) journal
 
 -- What isn't read settles nothing.
-abbrev pub NoneSettled : Run → Type 0
-NoneSettled r = (a : Answer) → IsSettled r.reader a → ⊥
+abbrev pub NoneSettled : Unread → Type 0
+NoneSettled u = (a : Answer) → IsSettled u a → ⊥
 
 -- Why a run is over: its input is, or an exit or a fault was answered.
 abbrev pub IsOver : Decided → Settings → List ℕ → Run → Type 0
@@ -44,7 +71,7 @@ IsOver decided s input r = (r.reader.finished ≡ true) ⊎ IsStopped decided s 
 
 -- What is so where a run stops.
 abbrev pub Comes : Decided → Settings → Stage → List ℕ → Run → Type 0
-Comes decided s Asks input r = HasAnswered decided s input r × (r.reader.finished ≡ false) × NoneSettled r
+Comes decided s Asks input r = HasAnswered decided s input r × (r.reader.finished ≡ false) × NoneSettled r.reader
 Comes decided s Complete input r = IsComplete decided s input r × IsOver decided s input r
 
 -- What is written
@@ -81,10 +108,11 @@ PutAfter (Ok x) before now bytes = Writes before now bytes (calls_for bytes)
 PutAfter (Err StopMemory) before now bytes = ⊥
 PutAfter (Err StopWriteFault) before now bytes = (n : ℕ) × Writes before now (take n bytes) (calls_for bytes)
 
--- The entry stands in the journal where its text wasn't taken, and doesn't where memory was wanting.
-abbrev pub HasEntryAt : Stop → List Entry → Entry → List Entry → Type 0
-HasEntryAt StopMemory old entry new = new ≡ old
-HasEntryAt StopWriteFault old entry new = new ≡ old ++ entry ∷ []
+-- What a call that writes an entry's text gave the ledger: the entry, unless memory was wanting for it.
+abbrev pub given : {T : Type 0} → Result T Stop → Entry → List Entry
+given (Ok x) entry = entry ∷ []
+given (Err StopMemory) entry = []
+given (Err StopWriteFault) entry = entry ∷ []
 
 abbrev pub WrittenAfter : {T : Type 0} → Result T Stop → SinkTold → SinkTold → List Entry → Type 0
 WrittenAfter (Ok x) before now journal = IsWritten before now journal
@@ -96,6 +124,19 @@ abbrev pub WriteCause : {T : Type 0} → Result T Stop → ℕ → ℕ → Type 
 WriteCause (Ok x) before now = before ≤ now
 WriteCause (Err StopMemory) before now = before ≤ now
 WriteCause (Err StopWriteFault) before now = (before ≤ now) × Rose before now
+
+-- What a call of the server did: it gave these entries to the ledger and their texts to the sink, and where the entries before had answered the front of the input, all of them now do. Where the call ended well, this holds after it.
+pub record Served {T K : Type 0} (decided : Decided) (result : Result T Stop) (old new : Server) (sink sink_now : K) (told told_now : SinkTold)
+    (kept kept_now : Option (List Entry)) (After : Settings → List ℕ → T → Run → Type 0) : Type 0 where
+  pub added : List Entry
+  pub gained : Gains kept added kept_now
+  pub tally : (entries : List Entry) → Tallies old entries → Tallies new (entries ++ added)
+  pub silent : journal_text added ≡ [] → sink_now ≡ sink
+  pub written : (before : SinkTold) (entries : List Entry) → IsWritten before told entries → WrittenAfter result before told_now (entries ++ added)
+  pub comes : (s : Settings) (input : List ℕ) (entries : List Entry) → Tallies old entries → HasAnswered decided s input (run_of old entries)
+      → IfOk result (λ r. After s input r (run_of new (entries ++ added)))
+  pub cut : (s : Settings) (input : List ℕ) (entries : List Entry) → Tallies old entries → HasAnswered decided s input (run_of old entries)
+      → IfErr result (λ _. IsFront decided s input new.reader.finished (entries ++ added))
 
 -- The two ends
 
@@ -134,7 +175,7 @@ pub record Took (e : Ends) (input : List ℕ) (given : ℕ) : Type 0 where
 
 -- How a run stands
 
--- A run that goes on after so many calls of the source: each gave a byte or more, at least one and at most 65536, unless one was the end; and what was ready of the bytes is answered and written.
+-- A run that goes on after so many calls of the source, with no more entries than bytes read: each gave a byte or more, at least one and at most 65536, unless one was the end; and what was ready of the bytes is answered and written.
 pub record SoFar (decided : Decided) (s : Settings) (e : Ends) (count : ℕ) (r : Run) : Type 0 where
   pub input : List ℕ
   pub given : ℕ
@@ -145,6 +186,7 @@ pub record SoFar (decided : Decided) (s : Settings) (e : Ends) (count : ℕ) (r 
   pub few : r.reader.place + length r.reader.bytes ≤ 65536 * count
   pub ended : r.reader.finished ≡ true → IsAtEnd e.source_now.left
   pub answered : HasAnswered decided s input r
+  pub numbered : length r.journal ≤ r.reader.place
   pub whole : IsWritten e.sink e.sink_now r.journal
   pub later : Later e
 
@@ -186,5 +228,24 @@ pub record CutOff (decided : Decided) (s : Settings) (halt : Halt) (e : Ends) (c
 -- How a run stands after a call.
 abbrev pub Stands : Decided → Settings → Result Stage Halt → Ends → ℕ → Run → Type 0
 Stands decided s (Ok Complete) e count r = Over decided s e count r
-Stands decided s (Ok Asks) e count r = SoFar decided s e count r × (r.reader.finished ≡ false) × NoneSettled r
+Stands decided s (Ok Asks) e count r = SoFar decided s e count r × (r.reader.finished ≡ false) × NoneSettled r.reader
 Stands decided s (Err halt) e count r = CutOff decided s halt e count r
+
+-- What is done with all that was ready.
+pub record Advances {K : Type 0} (decided : Decided) (result : Result Stage Halt) (old new : Server) (sink sink_now : K) (told told_now : SinkTold)
+    (kept kept_now : Option (List Entry)) : Type 0 where
+  pub added : List Entry
+  pub gained : Gains kept added kept_now
+  pub tally : (entries : List Entry) → Tallies old entries → Tallies new (entries ++ added)
+  pub silent : journal_text added ≡ [] → sink_now ≡ sink
+  pub stands : (s : Settings) (e : Ends) (count : ℕ) (entries : List Entry) → Tallies old entries → SoFar decided s e count (run_of old entries)
+      → e.sink_now ≡ told → Stands decided s result (at_sink e told_now) count (run_of new (entries ++ added))
+
+-- How a run stands after at most so many calls of its source, and what its ledger gained.
+pub record Driven {K : Type 0} (decided : Decided) (s : Settings) (result : Result Stage Halt) (e : Ends) (count : ℕ) (server : Server) (sink sink_now : K)
+    (kept kept_now : Option (List Entry)) : Type 0 where
+  pub journal : List Entry
+  pub gained : Gains kept journal kept_now
+  pub tally : Tallies server journal
+  pub silent : journal_text journal ≡ [] → sink_now ≡ sink
+  pub stands : Stands decided s result e count (run_of server journal)

@@ -1,7 +1,9 @@
-//! Runs a script: bytes come in, and replies go out.
+//! Runs a script: bytes come in, replies go out, and what was answered goes to a ledger.
 #![tactic(auto)]
 
+mod ledger;
 mod serving;
 mod top;
 
-pub use top::{Ended, Note, run, run_within, unbegun};
+pub use ledger::{Forgetting, Ledger};
+pub use top::{Ended, Note, Outcome, run, run_through, run_within, unbegun};

@@ -1,17 +1,19 @@
-ghost use Rattle.std.specs.Prelude.{◌≡◌, ◌≤◌, ◌<◌, ◌↔◌, ◌^◌, ◌+◌, [], ℕ, length, map, IsTrue, IfErr, OnOk, false, string_bytes};
+ghost use Rattle.std.specs.Prelude.{◌≡◌, ◌≤◌, ◌<◌, ◌↔◌, ◌^◌, ◌+◌, [], List, ℕ, length, map, IsTrue, IfErr, OnOk, false, string_bytes};
 ghost use Rattle.smt_meaning.specs.declared.settings.Settings.{Settings as SettingsValue};
+ghost use Rattle.smt_meaning.specs.declared.answers.Entry.{Entry as EntryValue};
 ghost use Rattle.smt_meaning.specs.LegalJournal.{journal_text};
 ghost use Rattle.smt_meaning.specs.MayReply.{Decided};
 ghost use Rattle.smt_words.specs.Words.{are_taken};
 ghost use Rattle.smt_meaning.specs.Kinds.{has_no_integers};
-ghost use Rattle.smt_top.specs.Progress.{CutOff, Ends, NoneSettled, SoFar, Stands, at_sink, at_source, between};
-ghost use Rattle.smt_top.specs.Ended.{IsFaulty, IsUnbegun, MatchesStatus, Ran, StatusOf};
+ghost use Rattle.smt_top.specs.Progress.{Advances, CutOff, Driven, Ends, NoneSettled, SoFar, Tallies, at_source, between, run_of};
+ghost use Rattle.smt_top.specs.Ended.{IsUnbegun, MatchesStatus, Ran, RanThrough, StatusOf};
 
-use crate::serving::{Run, Stage, Stop};
+use crate::ledger::Ledger;
+use crate::serving::{Server, Stage, Stop};
 use equality_decider::Alone;
 use ports::{Gate, More, Sink, Source};
 use smt_meaning::Seq;
-use smt_meaning::language::{Entry, Reply};
+use smt_meaning::language::Entry;
 use smt_words::{WordsError, settings};
 use std::alloc::{AllocError, Global};
 use theory_port::Decider;
@@ -33,10 +35,18 @@ pub enum Note {
     TooLong,
 }
 
-/// A run that has ended.
+/// How a run ended.
+#[derive(Clone, Copy, Debug, PartialEq, Eq, Drop)]
+pub struct Outcome {
+    /// What the program exits with: 0 where all is well, 1 where an error was replied, 2 where the words were refused, 3 and 4 where the source or the sink failed, 5 where memory was wanting, 6 where the input was too long.
+    pub status: u8,
+    pub note: Note,
+}
+
+/// A run that has ended, with its journal.
 #[derive(Drop)]
 pub struct Ended {
-    /// What the program exits with: 0 where all is well, 1 where an error was replied, 2 where the words were refused, 3 and 4 where the source or the sink failed, 5 where memory was wanting, 6 where the input was too long.
+    /// As that of an `Outcome`.
     pub status: u8,
     /// What was answered, in order.
     pub journal: Seq<Entry>,
@@ -77,62 +87,67 @@ impl From<Stop> for Halt {
 
 /// Runs to the end of the input, to an exit or to a fault, or says that more of the input is needed past the budget.
 #[tactic(none)]
-fn drive<S: Source, K: Sink, D: Decider>(
+fn drive<S: Source, K: Sink, L: Ledger, D: Decider>(
     alloc: Global,
     budget: u64,
     source: &mut S,
     sink: &mut K,
+    ledger: &mut L,
     decider: &mut D,
-    run: &mut Run,
+    server: &mut Server,
 ) -> Result<Stage, Halt>
     requires budget { budget ≤ 2 ^ 40 }
-    requires begun { SoFar D.decides run.old.session.settings (between (S.told source.old) (K.told sink.old) (S.told source.old) (K.told sink.old)) 0 run.old }
-    ensures stands { Stands D.decides run.old.session.settings result (between (S.told source.old) (K.told sink.old) (S.told source.new) (K.told sink.new)) budget run.new }
-    ensures silent { journal_text run.new.journal ≡ [] → sink.new ≡ sink.old }
+    requires begun { SoFar D.decides server.old.session.settings (between (S.told source.old) (K.told sink.old) (S.told source.old) (K.told sink.old)) 0 (run_of server.old []) }
+    requires tally { Tallies server.old [] }
+    ensures { Driven D.decides server.old.session.settings result (between (S.told source.old) (K.told sink.old) (S.told source.new) (K.told sink.new)) budget server.new
+        sink.old sink.new (L.entries ledger.old) (L.entries ledger.new) }
 {
     let mut buf = vec![in alloc; 0u8; 65536]?;
-    let mut stage = advance(alloc, sink, decider, run)?;
+    let mut stage = advance(alloc, sink, ledger, decider, server)?;
     for turn in 0..budget {
         match stage {
             Stage::Complete => break,
-            Stage::Asks => take_more(source, buf.as_mut_slice(), run)?,
+            Stage::Asks => take_more(source, buf.as_mut_slice(), server)?,
         }
-        stage = advance(alloc, sink, decider, run)?;
+        stage = advance(alloc, sink, ledger, decider, server)?;
     }
     Ok(stage)
 }
 
 /// Answers all that is ready.
-fn advance<K: Sink, D: Decider>(
+fn advance<K: Sink, L: Ledger, D: Decider>(
     alloc: Global,
     sink: &mut K,
+    ledger: &mut L,
     decider: &mut D,
-    run: &mut Run,
+    server: &mut Server,
 ) -> Result<Stage, Halt>
-    ensures stands { (s : SettingsValue) (e : Ends) (count : ℕ) → SoFar D.decides s e count run.old → e.sink_now ≡ K.told sink.old
-        → Stands D.decides s result (at_sink e (K.told sink.new)) count run.new }
-    ensures silent { journal_text run.new.journal ≡ [] → (journal_text run.old.journal ≡ []) × (sink.new ≡ sink.old) }
+    requires numbered { server.old.count ≤ server.old.reader.place }
+    requires room { server.old.reader.place + length server.old.reader.bytes + 1 < 2 ^ 64 }
+    ensures { Advances D.decides result server.old server.new sink.old sink.new (K.told sink.old) (K.told sink.new) (L.entries ledger.old) (L.entries ledger.new) }
 {
-    let stage = run.serve(alloc, sink, decider)?;
+    let stage = server.serve(alloc, sink, ledger, decider)?;
     Ok(stage)
 }
 
 /// Asks the source for more bytes, and feeds them.
-fn take_more<S: Source>(source: &mut S, buf: &mut [u8], run: &mut Run) -> Result<(), Halt>
-    requires going { run.old.reader.finished ≡ false }
-    requires settled { NoneSettled run.old }
+fn take_more<S: Source>(source: &mut S, buf: &mut [u8], server: &mut Server) -> Result<(), Halt>
+    requires going { server.old.reader.finished ≡ false }
+    requires settled { NoneSettled server.old.reader }
     requires buffer { length buf.old ≡ 65536 }
-    requires room { run.old.reader.place + length run.old.reader.bytes + 65536 < 2 ^ 64 }
-    ensures ok { OnOk result ((decided : Decided) (s : SettingsValue) (e : Ends) (count : ℕ) → SoFar decided s e count run.old → e.source_now ≡ S.told source.old
-        → SoFar decided s (at_source e (S.told source.new)) (count + 1) run.new) }
-    ensures err { IfErr result (λ halt. (decided : Decided) (s : SettingsValue) (e : Ends) (count : ℕ) → SoFar decided s e count run.old → e.source_now ≡ S.told source.old
-        → CutOff decided s halt (at_source e (S.told source.new)) (count + 1) run.new) }
-    ensures journal { run.new.journal ≡ run.old.journal }
+    requires room { server.old.reader.place + length server.old.reader.bytes + 65536 < 2 ^ 64 }
+    ensures ok { OnOk result ((decided : Decided) (s : SettingsValue) (e : Ends) (count : ℕ) (entries : List EntryValue)
+        → SoFar decided s e count (run_of server.old entries) → e.source_now ≡ S.told source.old
+        → SoFar decided s (at_source e (S.told source.new)) (count + 1) (run_of server.new entries)) }
+    ensures err { IfErr result (λ halt. (decided : Decided) (s : SettingsValue) (e : Ends) (count : ℕ) (entries : List EntryValue)
+        → SoFar decided s e count (run_of server.old entries) → e.source_now ≡ S.told source.old
+        → CutOff decided s halt (at_source e (S.told source.new)) (count + 1) (run_of server.new entries)) }
+    ensures tally { (entries : List EntryValue) → Tallies server.old entries → Tallies server.new entries }
 {
     match source.more(buf) {
-        More::Got(0) => run.reader.finish(),
-        More::Got(count) => run.reader.feed(&buf[..count])?,
-        More::End => run.reader.finish(),
+        More::Got(0) => server.reader.finish(),
+        More::Got(count) => server.reader.feed(&buf[..count])?,
+        More::End => server.reader.finish(),
         More::Failed => return Err(Halt::ReadFault),
     }
     Ok(())
@@ -154,7 +169,6 @@ pub fn run<S: Source, K: Sink, G: Gate>(
 }
 
 /// `run` with another budget of calls that ask for more input, where `run` has 2^40.
-#[tactic(none)]
 pub fn run_within<S: Source, K: Sink, G: Gate>(
     alloc: Global,
     budget: u64,
@@ -168,20 +182,44 @@ pub fn run_within<S: Source, K: Sink, G: Gate>(
     ensures untouched { are_taken (map string_bytes words.now.items) ≡ false → (source.new ≡ source.old) × (sink.new ≡ sink.old) × (result.journal ≡ []) }
     ensures silent { journal_text result.journal ≡ [] → sink.new ≡ sink.old }
 {
-    let _ = gate;
-    match settings(alloc, words) {
-        Ok(settings) => {
-            let mut run = Run::new(alloc, &settings);
-            let outcome = drive(alloc, budget, source, sink, &mut Alone, &mut run);
-            finish(outcome, run.into_journal())
-        }
-        Err(error) => unbegun(alloc, error),
+    let mut journal = Seq::new(alloc);
+    let outcome = run_through(alloc, budget, words, source, sink, gate, &mut journal);
+    Ended {
+        status: outcome.status,
+        journal,
+        note: outcome.note,
     }
 }
 
-/// A run that has ended before it began, since there are no settings for it.
-pub fn unbegun(alloc: Global, error: WordsError) -> Ended
-    ensures journal { result.journal ≡ [] }
+/// `run_within` through any ledger: the journal is that of its entries where it tells them, and there is one where it tells none.
+#[tactic(none)]
+pub fn run_through<S: Source, K: Sink, G: Gate, L: Ledger>(
+    alloc: Global,
+    budget: u64,
+    words: &Vec<String>,
+    source: &mut S,
+    sink: &mut K,
+    gate: &G,
+    ledger: &mut L,
+) -> Outcome
+    requires { budget ≤ 2 ^ 40 }
+    ensures ran { RanThrough has_no_integers budget (map string_bytes words.now.items) (between (S.told source.old) (K.told sink.old) (S.told source.new) (K.told sink.new)) result
+        sink.old sink.new (L.entries ledger.old) (L.entries ledger.new) }
+    ensures untouched { are_taken (map string_bytes words.now.items) ≡ false → (source.new ≡ source.old) × (sink.new ≡ sink.old) × (ledger.new ≡ ledger.old) }
+{
+    let _ = gate;
+    match settings(alloc, words) {
+        Ok(settings) => {
+            let mut server = Server::new(alloc, &settings);
+            let end = drive(alloc, budget, source, sink, ledger, &mut Alone, &mut server);
+            finish(end, server.is_faulty)
+        }
+        Err(error) => unbegun(error),
+    }
+}
+
+/// The outcome of a run that has ended before it began, since there are no settings for it.
+pub fn unbegun(error: WordsError) -> Outcome
     ensures status { IsUnbegun error result.status }
     ensures note { MatchesStatus result.note result.status }
 {
@@ -189,39 +227,21 @@ pub fn unbegun(alloc: Global, error: WordsError) -> Ended
         WordsError::Refused => (2, Note::Words),
         WordsError::Memory => (5, Note::NoMemory),
     };
-    Ended {
-        status,
-        journal: Seq::new(alloc),
-        note,
-    }
+    Outcome { status, note }
 }
 
-/// The status of a run that is over, and why it is.
-fn finish(outcome: Result<Stage, Halt>, journal: Seq<Entry>) -> Ended
-    ensures journal { result.journal ≡ journal }
-    ensures error { outcome ≡ Ok Stage.Complete → ((result.status ≡ 1) ↔ IsFaulty journal) }
-    ensures status { StatusOf outcome result.status }
+/// The status of a run that is over, and why it is, by whether an error was replied.
+fn finish(end: Result<Stage, Halt>, is_faulty: bool) -> Outcome
+    ensures error { end ≡ Ok Stage.Complete → ((result.status ≡ 1) ↔ IsTrue is_faulty) }
+    ensures status { StatusOf end result.status }
     ensures note { MatchesStatus result.note result.status }
 {
-    let (status, note) = match outcome {
-        Ok(Stage::Complete) => (u8::from(is_faulty(journal.as_slice())), Note::Fine),
+    let (status, note) = match end {
+        Ok(Stage::Complete) => (u8::from(is_faulty), Note::Fine),
         Ok(Stage::Asks) => (6, Note::TooLong),
         Err(Halt::ReadFault) => (3, Note::ReadFault),
         Err(Halt::WriteFault) => (4, Note::WriteFault),
         Err(Halt::Memory) => (5, Note::NoMemory),
     };
-    Ended {
-        status,
-        journal,
-        note,
-    }
-}
-
-/// Whether an error reply is in the journal.
-fn is_faulty(journal: &[Entry]) -> bool
-    ensures { IsTrue result ↔ IsFaulty journal.now }
-{
-    journal
-        .iter()
-        .any(|entry| matches!(entry.reply, Reply::Error(_)))
+    Outcome { status, note }
 }

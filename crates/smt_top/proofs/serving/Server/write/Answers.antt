@@ -1,0 +1,11 @@
+use Rattle.std.proofs.Common.{◌∙◌}
+use Rattle.smt_top.proofs.Written.{written_after}
+use Rattle.smt_top.proofs.serving.Server.write.Goals as goal
+
+pub returns-in-Some-clause-written : goal.returns-in-Some-clause-written
+returns-in-Some-clause-written g c before entries had = written_after c.put.result before _ _ entries _ _ c.in-Some.ensures.some had c.put.ensures.written
+
+pub returns-clause-written : goal.returns-clause-written
+returns-clause-written g c before entries had =
+    let made = rw c.new-made.ensures at c.in_ok-text.ensures.ok in
+    written_after c.put-2.result before _ _ entries _ _ (c.as_slice.ensures ∙ made) had c.put-2.ensures.written
