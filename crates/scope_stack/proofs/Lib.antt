@@ -11,3 +11,4 @@ pub mod GainLemmas
 pub mod TermSteps
 pub mod ParameterSteps
 pub mod BackLemmas
+mod RoomSteps

@@ -10,12 +10,12 @@ use Rattle.smt_meaning.specs.declared.tokens.Token.{Token}
 use Rattle.smt_meaning.specs.declared.commands.WrittenSort.{WrittenSort}
 use Rattle.smt_meaning.specs.declared.commands.Parameter.{Parameter as WrittenParameter}
 use Rattle.smt_meaning.specs.declared.refusals.Refusal.{Refusal}
-use Rattle.smt_meaning.specs.declared.refusals.Refusal.TheVariants.{ReservedName, AlreadyDeclared as DeclaredBefore, SortsDiffer, TooManySymbols}
+use Rattle.smt_meaning.specs.declared.refusals.Refusal.TheVariants.{ReservedName, AlreadyDeclared as DeclaredBefore, SortsDiffer, TooManySymbols, TooManyTerms}
 use Rattle.smt_meaning.specs.Declaration.{Body}
 use Rattle.smt_meaning.specs.Term.{Tree}
 use Rattle.smt_meaning.specs.Signature.{sort_eq}
 use Rattle.smt_meaning.specs.Sorts.{Scope, Outcome, done, refused, Judging, go_on, ◌>>=◌, ◌>>◌, return, require, Variable, not_before}
-use Rattle.smt_meaning.specs.StackCommand.{Change, declares, asks, is_unsupported, judge_sort, judge_sorts, judge_parameters, judge_body, judge_terms, ask_terms}
+use Rattle.smt_meaning.specs.StackCommand.{Change, declares, asks, is_unsupported, most_terms, judge_sort, judge_sorts, judge_parameters, judge_body, judge_terms, ask_terms}
 use Rattle.smt_sorts.specs.declared.errors.NameError.{NameError}
 use Rattle.smt_sorts.specs.declared.errors.NameError.TheVariants.{Reserved, AlreadyDeclared}
 use Rattle.smt_sorts.specs.declared.errors.AddError.{AddError}
@@ -46,6 +46,11 @@ IsError why Memory = Unit {0}
 abbrev pub IsSameError : JudgeError → StackError → Type 0
 IsSameError (TermRefused r) e = e ≡ Refused r
 IsSameError NoRoom e = e ≡ Memory
+
+-- there are too many terms, where there are so many; or want of memory
+abbrev pub IsRoomError : ℕ → StackError → Type 0
+IsRoomError n (Refused r) = (r ≡ TooManyTerms) × (most_terms < n)
+IsRoomError n Memory = Unit {0}
 
 -- ---- a step that changes nothing, whatever the terms are
 

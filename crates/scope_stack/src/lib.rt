@@ -6,6 +6,7 @@ mod asserted;
 mod declare;
 mod framed;
 mod judge;
+mod room;
 mod stack;
 mod term;
 

@@ -12,6 +12,7 @@ ghost use Rattle.scope_stack.specs.Carries.{typed_by};
 ghost use Rattle.scope_stack.specs.declared.answers.Asked.{Asked};
 
 use crate::answers::{Asked, StackError};
+use crate::room::{assertion_error, question_error};
 use elaborate::JudgeError;
 use smt_meaning::{Refusal, SExpr, Seq, Sort, TermId};
 use smt_sorts::Table;
@@ -28,7 +29,7 @@ pub(crate) fn judge_error(error: JudgeError) -> StackError
     }
 }
 
-fn is_bool(sort: Sort) -> bool
+pub(crate) fn is_bool(sort: Sort) -> bool
     ensures { result ≡ sort_eq sort Sort.Bool }
 {
     match sort {
@@ -66,7 +67,7 @@ pub(crate) fn judge_assertion(
             terms.cut(count);
             Err(StackError::Refused(Refusal::NotBool))
         }
-        Err(error) => Err(judge_error(error)),
+        Err(error) => Err(assertion_error(alloc, error, term, table, terms)),
     }
 }
 
@@ -93,7 +94,8 @@ fn judge_question(
     }
 }
 
-fn judge_terms(
+/// Judges terms whose values are asked for, from the left. An `Err` may leave names and terms.
+pub(crate) fn judge_terms(
     alloc: Global,
     texts: &[SExpr],
     table: &mut Table,
@@ -142,7 +144,7 @@ pub(crate) fn judge_questions(
         Err(error) => {
             table.cut_ids(ids);
             terms.cut(count);
-            Err(error)
+            Err(question_error(alloc, error, texts, table, terms))
         }
     }
 }

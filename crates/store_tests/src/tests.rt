@@ -1,5 +1,6 @@
 mod atoms;
 mod names;
+mod room;
 mod sorts;
 mod tables;
 mod terms;
