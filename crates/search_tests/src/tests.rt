@@ -1,4 +1,5 @@
 mod assertions;
+mod bounds;
 mod classes;
 mod clauses;
 mod equalities;

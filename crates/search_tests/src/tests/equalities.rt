@@ -5,7 +5,7 @@ use std::process::Abort;
 use std::test::Fail;
 
 /// Compares clauses with these, in which an atom stands as one more than its number, negative where it is negated.
-fn compare(rt: &impl Abort, clauses: &Clauses, wanted: &[&[i32]]) {
+pub(crate) fn compare(rt: &impl Abort, clauses: &Clauses, wanted: &[&[i32]]) {
     assert_eq!(rt; clauses.len(), wanted.len());
     for (i, want) in wanted.iter().enumerate() {
         let within = i < clauses.len();

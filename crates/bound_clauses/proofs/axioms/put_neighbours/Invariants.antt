@@ -1,0 +1,6 @@
+use Rattle.std.proofs.Common.{◌≡◌, ◌++◌, drop}
+use Rattle.bound_clauses.specs.Chain.{between_neighbours}
+use Rattle.bound_clauses.proofs.axioms.put_neighbours.Given as goal
+
+abbrev pub invariant-loop-link : goal.invariant-loop-link
+invariant-loop-link l = (l.clauses ++ between_neighbours l.before (drop l.link-index l.others)) ≡ (l.fn.clauses ++ between_neighbours l.fn.first l.others)

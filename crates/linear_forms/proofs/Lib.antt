@@ -1,0 +1,9 @@
+pub mod SumLemmas
+pub mod ScratchLemmas
+pub mod FoldLemmas
+pub mod ProductLemmas
+pub mod SumFolding
+pub mod NodeLemmas
+pub mod Unfolding
+pub mod TableLemmas
+pub mod Growing

@@ -1,0 +1,6 @@
+use Rattle.std.proofs.Common.{length}
+use Rattle.linear_forms.specs.Entries.{IsCovering}
+use Rattle.linear_forms.proofs.table.add_all.Given as goal
+
+abbrev pub invariant-loop-place : goal.invariant-loop-place
+invariant-loop-place l = IsCovering l.store.trees (length l.fn.entries.items) l.place l.entries.items l.all.items l.work

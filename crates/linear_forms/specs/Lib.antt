@@ -1,0 +1,5 @@
+pub mod Sums
+pub mod Scratch
+pub mod Folding
+pub mod Table
+pub mod Entries

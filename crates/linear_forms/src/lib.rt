@@ -1,0 +1,12 @@
+//! Linear forms of Int terms.
+#![tactic(auto)]
+
+mod coefficients;
+mod entries;
+mod nodes;
+mod products;
+mod sums;
+mod table;
+
+pub use entries::LinearForm;
+pub use table::LinearForms;

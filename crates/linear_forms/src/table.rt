@@ -1,0 +1,262 @@
+//! The linear forms of the terms of a store, by their places.
+ghost use Rattle.std.specs.Prelude.{◌≡◌, ◌+◌, ◌<◌, ◌≤◌, ◌++◌, [], ◌∷◌, length, take, All, OnOk, OnErr, IfOk, IfErr, IfSome, IfNone, Some, None};
+ghost use Rattle.term_store.specs.Terms.{AreDifferent};
+ghost use Rattle.linear_forms.specs.Folding.{form_of};
+ghost use Rattle.linear_forms.specs.Table.{known_at, AreForms, AreFormsTo, HasFormsTo};
+ghost use Rattle.linear_forms.specs.Entries.{knowns, AreLaid, AreSums, IsReady, IsTable, HasOutside, IsFoldedNext};
+
+use crate::coefficients::Stop;
+use crate::entries::{Entry, LinearForm, form_at};
+use crate::nodes::{Work, fold_node};
+use smt_meaning::{Head, Summand, TermId};
+use std::alloc::{AllocError, Global};
+use std::marker::Model;
+use term_store::TermStore;
+
+/// The form at a place, or the place of the part whose folding leaves the range.
+fn look<'a>(entries: &[Entry], all: &'a [Summand], place: usize) -> Result<LinearForm<'a>, TermId>
+    requires laid { AreLaid (length all.now) entries.now }
+    requires place { place < length entries.now }
+    ensures ok { IfOk result (λ f. known_at (knowns all.now entries.now) place ≡ record { form = form_of f.sum.now f.constant; outside = None }) }
+    ensures err { IfErr result (λ p. (known_at (knowns all.now entries.now) place).outside ≡ Some p) }
+{
+    match entries[place].outside {
+        Some(part) => Err(part),
+        None => Ok(form_at(entries, all, place)),
+    }
+}
+
+/// The part at which the folding of one of these terms leaves the range, if it does.
+fn outside_argument(entries: &[Entry], all: &[Summand], arguments: &[TermId]) -> Option<TermId>
+    requires laid { AreLaid (length all.now) entries.now }
+    requires places { All (λ i. i < length entries.now) arguments.now }
+    ensures some { IfSome result (λ p. HasOutside (knowns all.now entries.now) arguments.now p) }
+    ensures none { IfNone result (All (λ i. (known_at (knowns all.now entries.now) i).outside ≡ None) arguments.now) }
+{
+    for place in arguments {
+        if let Err(part) = look(entries, all, *place as usize) {
+            return Some(part);
+        }
+    }
+    None
+}
+
+/// Adds a sum's summands, and an entry for them. An `Err` changes nothing.
+fn append_parts(
+    entries: &mut Vec<Entry>,
+    all: &mut Vec<Summand>,
+    sum: &[Summand],
+    constant: i128,
+    outside: Option<TermId>,
+) -> Result<(), AllocError>
+    ensures summands { OnOk result (all.new.items ≡ all.old.items ++ sum.now) }
+    ensures entries { OnOk result (entries.new.items ≡ entries.old.items ++ record { start = length all.old.items; end = length all.new.items; constant = constant; outside = outside } ∷ []) }
+    ensures err { OnErr result ((all.new.items ≡ all.old.items) × (entries.new.items ≡ entries.old.items)) }
+{
+    let start = all.len();
+    all.extend_from_slice(sum)?;
+    let end = all.len();
+    let entry = Entry {
+        start,
+        end,
+        constant,
+        outside,
+    };
+    if entries.push(entry).is_err() {
+        all.truncate(start);
+        return Err(AllocError);
+    }
+    Ok(())
+}
+
+/// Adds what is known of a term. An `Err` changes nothing.
+fn append(
+    entries: &mut Vec<Entry>,
+    all: &mut Vec<Summand>,
+    sum: &[Summand],
+    constant: i128,
+    outside: Option<TermId>,
+) -> Result<(), AllocError>
+    requires { AreLaid (length all.old.items) entries.old.items }
+    ensures laid { AreLaid (length all.new.items) entries.new.items }
+    ensures ok { OnOk result (knowns all.new.items entries.new.items ≡ knowns all.old.items entries.old.items ++ record { form = form_of sum.now constant; outside = outside } ∷ []) }
+    ensures err { OnErr result (knowns all.new.items entries.new.items ≡ knowns all.old.items entries.old.items) }
+{
+    append_parts(entries, all, sum, constant, outside)
+}
+
+/// Folds the next term, whose arguments' foldings stay in the range. An `Err` changes nothing.
+fn add_folded(
+    entries: &mut Vec<Entry>,
+    all: &mut Vec<Summand>,
+    work: &mut Work,
+    head: Head,
+    arguments: &[TermId],
+    place: TermId,
+) -> Result<(), AllocError>
+    requires laid { AreLaid (length all.old.items) entries.old.items }
+    requires ready { IsReady work.old }
+    requires size { length entries.old.items ≡ place }
+    requires earlier { All (λ i. i < place) arguments.now }
+    requires sums { AreSums place (knowns all.old.items entries.old.items) arguments.now }
+    ensures laid { AreLaid (length all.new.items) entries.new.items }
+    ensures ready { IsReady work.new }
+    ensures ok { OnOk result (IsFoldedNext (knowns all.old.items entries.old.items) (knowns all.new.items entries.new.items) head arguments.now place) }
+    ensures err { OnErr result (knowns all.new.items entries.new.items ≡ knowns all.old.items entries.old.items) }
+{
+    match fold_node(entries, all, work, head, arguments, place) {
+        Ok(constant) => append(entries, all, &work.sum, constant, None),
+        Err(Stop::Range) => append(entries, all, &[], 0, Some(place)),
+        Err(Stop::Memory) => Err(AllocError),
+    }
+}
+
+/// Folds the next term of a list. An `Err` changes nothing.
+fn add_place(
+    entries: &mut Vec<Entry>,
+    all: &mut Vec<Summand>,
+    work: &mut Work,
+    store: &TermStore,
+    place: TermId,
+) -> Result<(), AllocError>
+    requires laid { AreLaid (length all.old.items) entries.old.items }
+    requires ready { IsReady work.old }
+    requires place { place < length store.now.trees }
+    requires different { AreDifferent store.now.trees }
+    requires forms { AreFormsTo store.now.trees place (knowns all.old.items entries.old.items) }
+    ensures laid { AreLaid (length all.new.items) entries.new.items }
+    ensures ready { IsReady work.new }
+    ensures ok { OnOk result (AreFormsTo store.now.trees (place + 1) (knowns all.new.items entries.new.items)) }
+    ensures err { OnErr result (knowns all.new.items entries.new.items ≡ knowns all.old.items entries.old.items) }
+{
+    let node = store.node(place);
+    match outside_argument(entries, all, node.arguments) {
+        Some(part) => append(entries, all, &[], 0, Some(part)),
+        None => add_folded(entries, all, work, node.head, node.arguments, place),
+    }
+}
+
+/// Folds the terms of a list from a place on. An `Err` keeps what was folded before it.
+fn add_all(
+    entries: &mut Vec<Entry>,
+    all: &mut Vec<Summand>,
+    work: &mut Work,
+    store: &TermStore,
+) -> Result<(), AllocError>
+    requires laid { AreLaid (length all.old.items) entries.old.items }
+    requires ready { IsReady work.old }
+    requires different { AreDifferent store.now.trees }
+    requires within { length entries.old.items ≤ length store.now.trees }
+    requires forms { AreFormsTo store.now.trees (length entries.old.items) (knowns all.old.items entries.old.items) }
+    ensures laid { AreLaid (length all.new.items) entries.new.items }
+    ensures ready { IsReady work.new }
+    ensures ok { OnOk result (AreFormsTo store.now.trees (length store.now.trees) (knowns all.new.items entries.new.items)) }
+    ensures kept { HasFormsTo store.now.trees (length entries.old.items) (knowns all.new.items entries.new.items) }
+{
+    let count = store.len();
+    for place in entries.len() as u32..count {
+        add_place(entries, all, work, store, place)?;
+    }
+    Ok(())
+}
+
+/// Folds the terms of a store that aren't known yet. An `Err` keeps what was folded before it.
+fn cover(
+    entries: &mut Vec<Entry>,
+    all: &mut Vec<Summand>,
+    work: &mut Work,
+    store: &TermStore,
+) -> Result<(), AllocError>
+    requires table { IsTable entries.old.items all.old.items work.old }
+    requires forms { AreForms (take (length (knowns all.old.items entries.old.items)) store.now.trees) (knowns all.old.items entries.old.items) }
+    ensures table { IsTable entries.new.items all.new.items work.new }
+    ensures ok { OnOk result (AreForms store.now.trees (knowns all.new.items entries.new.items)) }
+    ensures kept { AreForms (take (length (knowns all.new.items entries.new.items)) store.now.trees) (knowns all.new.items entries.new.items) }
+    ensures more { length (knowns all.old.items entries.old.items) ≤ length (knowns all.new.items entries.new.items) }
+{
+    let _known = store.len();
+    add_all(entries, all, work, store)
+}
+
+/// The linear forms of the first terms of a list, by their places, each folded once.
+#[derive(Drop)]
+pub struct LinearForms {
+    entries: Vec<Entry>,
+    summands: Vec<Summand>,
+    work: Work,
+}
+
+impl Model for LinearForms {
+    ghost use Rattle.std.specs.Prelude.{List};
+    ghost use Rattle.linear_forms.specs.Table.{Known, table_code};
+
+    ghost Value = { List Known };
+
+    ghost coded = { table_code };
+
+    ghost use Rattle.linear_forms.specs.Entries.{knowns, IsTable};
+
+    ghost view = { λ t. knowns t.summands.items t.entries.items };
+
+    ghost invariant = { λ t. IsTable t.entries.items t.summands.items t.work };
+}
+
+/// What is kept for the first places.
+fn keep(entries: &mut Vec<Entry>, len: usize)
+    ensures { entries.new.items ≡ take len entries.old.items }
+{
+    entries.truncate(len);
+}
+
+impl LinearForms {
+    ghost use Rattle.std.specs.Prelude.{◌≡◌, ◌<◌, ◌≤◌, [], length, take, List, OnOk, IfOk, IfErr};
+    ghost use Rattle.smt_meaning.specs.Term.{Tree};
+    ghost use Rattle.linear_forms.specs.Folding.{form_of};
+    ghost use Rattle.linear_forms.specs.Table.{AreForms, HasForm, IsOutside};
+
+    /// Nothing is known. It takes no memory.
+    pub fn new(alloc: Global) -> Self
+        ensures nothing { result ≡ [] }
+        ensures forms { (trees : List Tree) → AreForms (take (length result) trees) result }
+    {
+        LinearForms {
+            entries: Vec::new(alloc),
+            summands: Vec::new(alloc),
+            work: Work::new(alloc),
+        }
+    }
+
+    /// The count of terms whose folding is known.
+    pub fn len(&self) -> usize
+        ensures { result ≡ length self.now }
+    {
+        self.entries.len()
+    }
+
+    /// Folds the terms of a store that aren't known yet, where the known ones are its first. An `Err`, for want of memory, keeps these and perhaps more.
+    pub fn cover(&mut self, store: &TermStore) -> Result<(), AllocError>
+        requires { AreForms (take (length self.old) store.now.trees) self.old }
+        ensures ok { OnOk result (AreForms store.now.trees self.new) }
+        ensures kept { AreForms (take (length self.new) store.now.trees) self.new }
+        ensures more { length self.old ≤ length self.new }
+    {
+        cover(&mut self.entries, &mut self.summands, &mut self.work, store)
+    }
+
+    /// Forgets the terms from this place on. It takes no memory.
+    pub fn cut(&mut self, len: usize)
+        ensures first { self.new ≡ take len self.old }
+        ensures forms { (trees : List Tree) → AreForms trees self.old → AreForms (take len trees) self.new }
+    {
+        keep(&mut self.entries, len);
+    }
+
+    /// The form of the term at a place, or, exactly where folding it leaves the range, the place of the part whose own folding does.
+    pub fn form(&self, place: TermId) -> Result<LinearForm<'_>, TermId>
+        requires { place < length self.now }
+        ensures ok { (trees : List Tree) → AreForms trees self.now → IfOk result (λ f. HasForm trees place (form_of f.sum.now f.constant)) }
+        ensures err { (trees : List Tree) → AreForms trees self.now → IfErr result (λ p. IsOutside trees place p) }
+    {
+        look(&self.entries, &self.summands, place as usize)
+    }
+}

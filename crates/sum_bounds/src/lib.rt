@@ -1,0 +1,16 @@
+//! Bounds on sums of terms, each told with the literal that says it: whether rational numbers meet all of them, or which of them no numbers meet.
+#![tactic(auto)]
+
+mod finding;
+mod fractions;
+mod laws;
+mod lookup;
+mod state;
+mod told;
+mod writing;
+
+pub use finding::{Checked, Finding};
+pub use fractions::FractionalLeaf;
+pub use laws::{conflicts_are_valid, wholes_meet};
+pub use state::SumBounds;
+pub use writing::SumVariable;

@@ -1,0 +1,7 @@
+//! Numbers of sums of Int terms: equal sums have one number.
+#![tactic(auto)]
+
+mod hash;
+mod table;
+
+pub use table::SumTable;
