@@ -22,9 +22,9 @@ comment=$(printf ';%01023d' 0)
 yes "$comment"$'\n''(set-option :print-success false)' | head -n 128000 | measured 32 '64,000 options, each behind a comment of 1 KB: 68 MB'
 # What stands between two commands is kept until the second is read.
 { yes "$comment" | head -n 64000; echo '(exit)'; } | measured 256 'one command behind comments: 66 MB'
-# Each command leaves an entry of the journal, and nothing of its bytes.
+# Nothing of a command and of its reply is kept.
 yes '(set-option :print-success false)' | head -n 200000 | measured 32 '200,000 options'
-# A command costs memory for its own tokens alone.
-yes '(check-sat)' | head -n 200000 | measured 32 '200,000 checks'
+# A command costs memory for its own tokens alone, and its entry goes when it is written.
+yes '(check-sat)' | head -n 1000000 | measured 32 '1,000,000 checks'
 # One command of many tokens costs memory in proportion to them.
 { echo '(x'; yes 'y' | head -n 2000000; echo ')'; } | measured 256 'one list of 2,000,000 tokens'

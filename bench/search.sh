@@ -22,7 +22,7 @@ ghost use Rattle.clause_store.specs.Stored.{AllFalse};
 ghost use Rattle.clause_store.specs.Found.{HasKept};
 ghost use Rattle.conflict_learn.specs.Learning.{IsKeptId};
 
-use cdcl_core::forget::tidy;
+use cdcl_core::forget::{Forgetting, tidy};
 use clause_store::store::{Outcome, Store};
 use clause_store::trail::Status;
 use conflict_learn::{Learner, Learnt};
@@ -92,11 +92,26 @@ fn raise_clause(order: &mut Order, store: &mut Store, id: u64) {
     }
 }
 
+fn raise_reason(order: &mut Order, store: &mut Store, literal: Literal) {
+    if literal.atom() >= store.atoms() {
+        return;
+    }
+    if let Status::False = store.status(literal) {
+        let place = store.place(literal.negated());
+        if let Some(id) = store.steps()[place].reason {
+            raise_clause(order, store, id);
+        }
+    }
+}
+
 fn raise_premises(order: &mut Order, learner: &Learner, store: &mut Store) {
     order.begin_conflict();
     for id in learner.premises() {
         raise_clause(order, store, *id);
         let _noted = order.note_use(*id).is_ok();
+    }
+    for literal in learner.literals() {
+        raise_reason(order, store, *literal);
     }
 }
 
@@ -110,8 +125,7 @@ enum Next {
 #[derive(Clone, Copy)]
 struct Plan {
     alloc: Global,
-    first: u64,
-    may_forget: bool,
+    forgetting: Forgetting,
 }
 
 fn learn(
@@ -131,7 +145,7 @@ fn learn(
             let new = add(store, learner.literals(), level)?;
             order.note_use(new)?;
             if order.forgets() {
-                tidy(plan.alloc, order, store, plan.first, plan.may_forget);
+                tidy(plan.alloc, order, store, plan.forgetting, plan.forgetting.allowed);
             }
             if order.restarts() {
                 undo(order, store, 0);
@@ -157,17 +171,19 @@ fn turn(plan: Plan, order: &mut Order, store: &mut Store, learner: &mut Learner)
 fn search(store: &mut Store, alloc: Global, may_forget: bool) -> Result<(Next, u64), AllocError> {
     let plan = Plan {
         alloc,
-        first: store.next_id(),
-        may_forget,
+        forgetting: Forgetting {
+            first: store.next_id(),
+            allowed: may_forget,
+        },
     };
-    let mut order = Order::new(alloc, 0);
+    let mut order = Order::new(alloc, 0, u8::from(may_forget));
     order.grow(store.atoms())?;
     order.refill();
     let mut learner = Learner::new(alloc);
     for _ in 0..u64::MAX {
         match turn(plan, &mut order, store, &mut learner)? {
             Next::GoOn => {}
-            other => return Ok((other, store.next_id().saturating_sub(plan.first))),
+            other => return Ok((other, store.next_id().saturating_sub(plan.forgetting.first))),
         }
     }
     Ok((Next::GoOn, 0))
