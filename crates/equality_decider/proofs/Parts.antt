@@ -80,11 +80,11 @@ module _ (s : Stack) (marks : List Bool) (table : List Atom) (are : AreOfStack s
   pub place_again : (p : ℕ) → IsMarked marks p → place_of (tree_at s.trees p) s.trees ≡ p
   place_again p h = place_of-is (tree_at s.trees p) s.trees p (different_trees s.trees lawful.in_order) (marked_within p h) refl
 
-  pub check_atom : (a : Atom) → IsPartAtom (signature_of s.frames) s.trees marks a → IsCheckAtom s.trees s.frames a
+  pub check_atom : (a : Atom) → IsPartAtom (signature_of s.frames) s.trees marks a → IsCheckAtom s.trees s.frames [] a
   check_atom (Truth p) h =
       inl (subst (λ q. Contains (stack_atoms s.trees s.frames) (Truth q)) (place_again p h.0) (truth_of_stack s.trees s.frames (tree_at s.trees p) (are.only p h.0) h.1))
   check_atom (Same i j) h =
-      inr (record {
+      inr (inl (record {
         left = tree_at s.trees i;
         right = tree_at s.trees j;
         left_part = are.only i h.left;
@@ -93,7 +93,7 @@ module _ (s : Stack) (marks : List Bool) (table : List Atom) (are : AreOfStack s
         among = subst (λ p. Contains (pair_atoms s.trees (signature_of s.frames) (tree_at s.trees i) (tree_at s.trees j)) (Same p j)) (place_again i h.left)
             (subst (λ q. Contains (pair_atoms s.trees (signature_of s.frames) (tree_at s.trees i) (tree_at s.trees j)) (Same (place_of (tree_at s.trees i) s.trees) q)) (place_again j h.right)
             (same_among s.trees (signature_of s.frames) (tree_at s.trees i) (tree_at s.trees j)));
-      })
+      }))
   check_atom (AtMost sum k) h = absurd h
 
   pub plain_atom : (a : Atom) → IsPartAtom (signature_of s.frames) s.trees marks a → IsPlain a

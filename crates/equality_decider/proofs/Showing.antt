@@ -43,7 +43,7 @@ pub record IsBudget (limit : ℤ) (b : Spending) : Type 0 where
 -- what is shown, by the atoms of the numbers
 pub record AreShown (s : Stack) (limit : ℤ) (table : List Atom) (units : List Spent) : Type 0 where
   pub numbers_of : All (IsOfNumbers (length table)) units
-  pub shows : Shows s.trees s.frames limit 0 (Units (map (unit_of table (depth s.frames)) units))
+  pub shows : Shows s.trees s.frames limit 0 [] (Units (map (unit_of table (depth s.frames)) units))
 
 all_from_nothing : (b c : Spending) → b.units ≡ [] → b.counts_learnt ≡ false → (b.counts_learnt ≡ false → All IsNumber b.units → All IsNumber c.units) → All IsNumber c.units
 all_from_nothing b c e f h = h f (subst (λ xs. All IsNumber xs) (sym e) (All-nil IsNumber))
@@ -92,7 +92,7 @@ module _ (laws : Laws) (s : Stack) (marks : List Bool) (table : List Atom) (stor
   is_limited : is_unlimited limit ≡ false
   is_limited = limited limit (is_unlimited limit) b c refl budget are_learnt run.turns.spends.free run.turns.limit spent
 
-  one_unit : (before after : List Spent) (x : Spent) → c.units ≡ before ++ x ∷ after → IsUnit s.trees s.frames limit 0 (map (unit_of table (depth s.frames)) before) (unit_of table (depth s.frames) x)
+  one_unit : (before after : List Spent) (x : Spent) → c.units ≡ before ++ x ∷ after → IsUnit s.trees s.frames [] limit 0 (map (unit_of table (depth s.frames)) before) (unit_of table (depth s.frames) x)
   one_unit before after (Numbered n) e =
       absurd (All-contains IsLearntUnit (before ++ Numbered n ∷ after) (Numbered n) (subst (λ us. All IsLearntUnit us) e are_learnt)
       (Contains-append_right before (Numbered n ∷ after) (Numbered n) (Contains-append_left (Numbered n ∷ []) after (Numbered n) (Contains-push [] (Numbered n)))))
@@ -106,11 +106,11 @@ module _ (laws : Laws) (s : Stack) (marks : List Bool) (table : List Atom) (stor
       (front_in (IsShown u.reading) before (Learnt d ∷ after) shown) (All-contains (IsShown u.reading) (before ++ Learnt d ∷ after) (Learnt d) shown here)
       (new_front false stored.clauses [] before (Learnt d ∷ after) news) (new_at false stored.clauses [] before after (Learnt d) news)
 
-  are_units : AreUnits s.trees s.frames limit 0 (map (unit_of table (depth s.frames)) c.units)
+  are_units : AreUnits s.trees s.frames [] limit 0 (map (unit_of table (depth s.frames)) c.units)
   are_units before after x e =
       let r : Cut (unit_of table (depth s.frames)) c.units before after x = cut (unit_of table (depth s.frames)) c.units before after x e in
-      subst (λ us. IsUnit s.trees s.frames limit 0 us x) r.front_is
-      (subst (IsUnit s.trees s.frames limit 0 (map (unit_of table (depth s.frames)) r.front)) r.one_is (one_unit r.front r.back r.one r.is))
+      subst (λ us. IsUnit s.trees s.frames [] limit 0 us x) r.front_is
+      (subst (IsUnit s.trees s.frames [] limit 0 (map (unit_of table (depth s.frames)) r.front)) r.one_is (one_unit r.front r.back r.one r.is))
 
   of_numbers : (x : Spent) → IsLearntUnit x × IsShown u.reading x → IsOfNumbers (length table) x
   of_numbers (Learnt d) h =
@@ -120,5 +120,5 @@ module _ (laws : Laws) (s : Stack) (marks : List Bool) (table : List Atom) (stor
   pub are_shown : AreShown s limit table c.units
   are_shown = record {
     numbers_of = λ k d lt. of_numbers (get_or c.units k d) (are_learnt k d lt, shown_all k d lt);
-    shows = (length-map c.units (unit_of table (depth s.frames)) ∙ (spent ∙ (run.turns.limit ∙ budget.limit_is)), are_units);
+    shows = (length-map c.units (unit_of table (depth s.frames)) ∙ (spent ∙ (run.turns.limit ∙ budget.limit_is)), tt, are_units);
   }

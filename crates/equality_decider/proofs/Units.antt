@@ -225,6 +225,7 @@ module _ (s : Stack) (marks : List Bool) (table : List Atom) (stored : Stored) (
           clause_in : Clause → ShownUnit → Clause
           clause_in other (Shown.Learnt c) = c
           clause_in other (Shown.Numbered a) = other
+          clause_in other (Shown.Pivot l) = other
 
           of_unit : (x : Spent) → Contains before x → unit_of table level x ≡ Shown.Learnt e.clause → IsForcedBy known (map (numbered (number_in table)) ls)
           of_unit (Numbered n) c f = cc
@@ -245,13 +246,13 @@ module _ (s : Stack) (marks : List Bool) (table : List Atom) (stored : Stored) (
 
     pub learnt : FollowsAsWritten → ForcesByNumbers → ForcesInTurn → FlatSaysTheSame → (limit : ℤ) → is_unlimited limit ≡ false → (before : List Spent) (c : Lemma) → All (IsShown q) before → IsShown q (Learnt c)
         → AreNew false stored.clauses [] before → IsUnforced false stored.clauses before c.literals
-        → IsLearnt s.trees s.frames limit 0 (map (unit_of table (depth s.frames)) before) (clause_of table (depth s.frames) c.literals)
+        → IsLearnt s.trees s.frames [] limit 0 (map (unit_of table (depth s.frames)) before) (clause_of table (depth s.frames) c.literals)
     learnt as_written by_numbers in_turn flatly limit limited before c all shown new u =
         let within : All (λ (l : Signed). l.atom < length table) c.literals = inside c shown in
         record {
           costs = λ e. limited;
           follows = at_depth as_written flatly c shown;
-          of_check = All-map (λ (l : Literal). IsCheckAtom s.trees s.frames l.atom) (written_literal table) c.literals (all_of (λ (l : Signed). IsCheckAtom s.trees s.frames (atom_at table l.atom)) c.literals (λ l k.
+          of_check = All-map (λ (l : Literal). IsCheckAtom s.trees s.frames [] l.atom) (written_literal table) c.literals (all_of (λ (l : Signed). IsCheckAtom s.trees s.frames [] (atom_at table l.atom)) c.literals (λ l k.
               check_atom s marks table are lawful (atom_at table l.atom)
               (are.atoms.each l.atom (Truth 0) (All-contains (λ (m : Signed). m.atom < length table) c.literals l within k))));
           no_two = other_atoms table apart_atoms c.literals within shown.1;

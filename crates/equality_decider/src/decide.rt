@@ -84,7 +84,7 @@ fn unspent(
     budget: &Budget,
 ) -> Result<Verdict, AllocError>
     requires numbers { All (IsOfNumbers (length atoms.now)) budget.now.units }
-    requires spent { Shows stack.now.trees stack.now.frames settings.now.units 0 (Units (map (unit_of atoms.now (depth stack.now.frames)) budget.now.units)) }
+    requires spent { Shows stack.now.trees stack.now.frames settings.now.units 0 [] (Units (map (unit_of atoms.now (depth stack.now.frames)) budget.now.units)) }
     ensures { IfOk result (IsVerdict stack.now.trees stack.now.frames settings.now.units) }
 {
     let units = write_units(alloc, atoms, stack.depth(), budget.units())?;

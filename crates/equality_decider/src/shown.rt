@@ -1,5 +1,5 @@
 //! What the worker shows where a search ends without an answer.
-ghost use Rattle.std.specs.Prelude.{◌≡◌, ◌<◌, ℤ, List, not, length, map, All, IfOk};
+ghost use Rattle.std.specs.Prelude.{◌≡◌, ◌<◌, ℤ, List, [], not, length, map, All, IfOk};
 ghost use Rattle.literals.specs.Signed.{Signed};
 ghost use Rattle.smt_meaning.specs.Term.{Tree};
 ghost use Rattle.smt_meaning.specs.Stack.{Frame};
@@ -112,9 +112,14 @@ pub(crate) fn write_units(
 
 /// The reports, of the one worker.
 pub(crate) fn reports(alloc: Global, cause: Cause) -> Result<Seq<Report>, AllocError>
-    ensures { (ts : List Tree) (frames : List Frame) (limit : ℤ) → Shows ts frames limit 0 cause → IfOk result (AreReports deciding_workers ts frames limit) }
+    ensures { (ts : List Tree) (frames : List Frame) (limit : ℤ) → Shows ts frames limit 0 [] cause → IfOk result (AreReports deciding_workers ts frames limit) }
 {
     let mut reports = Seq::new(alloc);
-    reports.push(Report { worker: 0, cause })?;
+    let branches = Seq::new(alloc);
+    reports.push(Report {
+        worker: 0,
+        cause,
+        branches,
+    })?;
     Ok(reports)
 }

@@ -53,10 +53,10 @@ unfolding text_rest mark_rest quoted_rest lexeme comment_rest is_word_byte is_sy
 models = refl
 
 abbrev without_memory : Report
-without_memory = record { worker = 0; cause = Memory }
+without_memory = record { worker = 0; cause = Memory; branches = [] }
 
 abbrev without_units : Report
-without_units = record { worker = 0; cause = Units [] }
+without_units = record { worker = 0; cause = Units []; branches = [] }
 
 -- after an answer by unknown no model is kept, and its reason is told until the mode ends
 unknown_answers : wrong_replies

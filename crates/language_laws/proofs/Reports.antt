@@ -57,12 +57,12 @@ both_asserted =
     }
 
 abbrev ShownHere : Report → Type 0
-ShownHere r = Shows both_asserted.stack.trees both_asserted.stack.frames (pos 1) r.worker r.cause
+ShownHere r = Shows both_asserted.stack.trees both_asserted.stack.frames (pos 1) r.worker r.branches r.cause
 
 -- ---- memory
 
 abbrev without_memory : ℕ → Report
-without_memory w = record { worker = w; cause = Memory }
+without_memory w = record { worker = w; cause = Memory; branches = [] }
 
 -- the end of memory is free
 memory_may_end : MayReply every both_asserted CheckSat Unknown (Reports (without_memory 0 ∷ [])) (record both_asserted { mode = In.Unknown Memout })
@@ -106,7 +106,7 @@ abbrev p_is_q : Atom
 p_is_q = Same 0 1
 
 abbrev without_units : List Spent → Report
-without_units us = record { worker = 0; cause = Units us }
+without_units us = record { worker = 0; cause = Units us; branches = [] }
 
 atoms_are : stack_atoms both_asserted.stack.trees both_asserted.stack.frames ≡ Truth 0 ∷ Truth 1 ∷ []
 unfolding stack_atoms
@@ -136,12 +136,12 @@ no_equality c = elim (in_cases (Truth 0) p_is_q (Truth 1 ∷ []) c) [
 ]
 
 -- that p is q is an atom of the check, which wasn't numbered at its start
-one_unit : AreUnits both_asserted.stack.trees both_asserted.stack.frames (pos 1) 0 (Numbered p_is_q ∷ [])
+one_unit : AreUnits both_asserted.stack.trees both_asserted.stack.frames [] (pos 1) 0 (Numbered p_is_q ∷ [])
 one_unit =
-    one_more_unit both_asserted.stack.trees both_asserted.stack.frames (pos 1) 0 [] (Numbered p_is_q) (no_units both_asserted.stack.trees both_asserted.stack.frames (pos 1) 0)
+    one_more_unit both_asserted.stack.trees both_asserted.stack.frames [] (pos 1) 0 [] (Numbered p_is_q) (no_units both_asserted.stack.trees both_asserted.stack.frames [] (pos 1) 0)
     (
     record {
-      of_check = inr (
+      of_check = inr (inl (
           record {
             left = p_tree;
             right = q_tree;
@@ -150,7 +150,7 @@ one_unit =
             one_sort = refl;
             among = in_head p_is_q [];
           }
-          );
+          ));
       not_of_stack = λ c. no_equality (subst (λ xs. Contains xs p_is_q) atoms_are c);
       new = λ c. none_in (Numbered p_is_q) c;
     }
@@ -164,7 +164,7 @@ units_may_end = (
   record {
     one_each = refl;
     shown =
-        All-cons ShownHere (without_units (Numbered p_is_q ∷ [])) [] (refl, one_unit) (All-nil _);
+        All-cons ShownHere (without_units (Numbered p_is_q ∷ [])) [] (refl, tt, one_unit) (All-nil _);
   },
   refl,
 )

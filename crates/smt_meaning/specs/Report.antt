@@ -1,5 +1,5 @@
--- What a worker shows that ended a check without an answer: the units that it spent, each of which did something new.
-use Rattle.std.specs.Prelude.{◌≡◌, ◌≢◌, ◌⊎◌, ℕ, zero, suc, ◌^◌, ◌≤◌, min, Bool, true, false, not, List, [], ◌∷◌, ◌++◌, map, length, ℤ, pos, int_le, unsigned_abs, All, AllPairs, Contains, if◌then◌else◌}
+-- What a worker shows that ended a check without an answer: the units that it spent, each of which did something new, or where a number left the range.
+use Rattle.std.specs.Prelude.{◌≡◌, ◌≢◌, ◌⊎◌, ℕ, zero, suc, ◌^◌, ◌≤◌, min, Bool, true, false, not, List, [], ◌∷◌, ◌++◌, map, length, ℤ, pos, int_le, unsigned_abs, Option, Some, None, All, AllPairs, Contains, MatchBool, if◌then◌else◌}
 use Rattle.std.specs.List.{list_any, range_with_len}
 use Rattle.std.proofs.Common.{refl, subst, inl, inr}
 use Rattle.smt_meaning.specs.declared.options.UnknownReason.{UnknownReason}
@@ -10,10 +10,12 @@ use Rattle.smt_meaning.specs.declared.clauses.Atom.{Atom}
 use Rattle.smt_meaning.specs.declared.clauses.Atom.TheVariants.{Truth}
 use Rattle.smt_meaning.specs.declared.clauses.Literal.{Literal}
 use Rattle.smt_meaning.specs.declared.clauses.Clause.{Clause}
+use Rattle.grid_meaning.specs.declared.Line.{Line}
+use Rattle.grid_meaning.specs.Lines.{IsSoundLine, IsPivotLine, HaveOthers, empty_line}
 use Rattle.smt_meaning.specs.declared.reports.Unit.{Unit as Spent}
-use Rattle.smt_meaning.specs.declared.reports.Unit.TheVariants.{Learnt, Numbered}
+use Rattle.smt_meaning.specs.declared.reports.Unit.TheVariants.{Learnt, Numbered, Pivot}
 use Rattle.smt_meaning.specs.declared.reports.Cause.{Cause}
-use Rattle.smt_meaning.specs.declared.reports.Cause.TheVariants.{Units, Memory}
+use Rattle.smt_meaning.specs.declared.reports.Cause.TheVariants.{Units, Range, Memory}
 use Rattle.smt_meaning.specs.declared.reports.Report.{Report}
 use Rattle.smt_meaning.specs.Term.{Tree, Trees, node}
 use Rattle.smt_meaning.specs.TreeShape.{place_of}
@@ -21,28 +23,11 @@ use Rattle.smt_meaning.specs.Parts.{IsPart}
 use Rattle.smt_meaning.specs.Signature.{tree_sort}
 use Rattle.smt_meaning.specs.Stack.{Frame, signature_of, assertions_of}
 use Rattle.smt_meaning.specs.Follows.{Follows}
-use Rattle.smt_meaning.specs.Atoms.{pair_atoms, stack_atoms}
+use Rattle.smt_meaning.specs.Atoms.{stack_atoms}
+pub use Rattle.smt_meaning.specs.CheckAtoms.{IsPartOfStack, ComparesParts, IsCheckAtom}
+use Rattle.smt_meaning.specs.CheckAtoms.{IsLeaf, IsBoundOf, AreBranches}
+use Rattle.smt_meaning.specs.Ranges.{LeavesRange}
 use Rattle.smt_meaning.specs.Forced.{Sign, Forces, IsClauseOf, literals_of}
-
--- ---- the atoms of a check
-
--- a part of an assertion
-pub record IsPartOfStack (frames : List Frame) (t : Tree) : Type 0 where
-  pub assertion : Tree
-  pub asserted : Contains (assertions_of frames) assertion
-  pub part : IsPart t assertion
-
--- an atom that compares two parts of one sort
-pub record ComparesParts (ts : List Tree) (frames : List Frame) (a : Atom) : Type 0 where
-  pub left : Tree
-  pub right : Tree
-  pub left_part : IsPartOfStack frames left
-  pub right_part : IsPartOfStack frames right
-  pub one_sort : tree_sort (signature_of frames) left ≡ tree_sort (signature_of frames) right
-  pub among : Contains (pair_atoms ts (signature_of frames) left right) a
-
-abbrev pub IsCheckAtom : List Tree → List Frame → Atom → Type 0
-IsCheckAtom ts frames a = Contains (stack_atoms ts frames) a ⊎ ComparesParts ts frames a
 
 -- ---- clauses that propagation doesn't find by itself
 
@@ -94,27 +79,51 @@ abbrev pub LearningCosts : ℕ → ℤ → Type 0
 LearningCosts worker limit = worker ≡ 0 → is_unlimited limit ≡ false
 
 -- a clause that follows, and that no clauses among those given force
-pub record IsLearnt (ts : List Tree) (frames : List Frame) (limit : ℤ) (worker : ℕ) (earlier : List Spent) (c : Clause) : Type 0 where
+pub record IsLearnt (ts : List Tree) (frames : List Frame) (branches : List Line) (limit : ℤ) (worker : ℕ) (earlier : List Spent) (c : Clause) : Type 0 where
   pub costs : LearningCosts worker limit
   pub follows : Follows ts frames c.level c
-  pub of_check : All (λ (l : Literal). IsCheckAtom ts frames l.atom) c.literals
+  pub of_check : All (λ (l : Literal). IsCheckAtom ts frames branches l.atom) c.literals
   pub no_two : AllPairs (λ (l m : Literal). l.atom ≢ m.atom) c.literals
   pub unforced : (clauses : List (List Literal)) → All (IsGiven ts frames worker earlier) clauses → Forces negated clauses c.literals → ⊥
 
 -- an atom of the check that isn't one of the stack, and wasn't numbered before
-pub record IsNumbered (ts : List Tree) (frames : List Frame) (earlier : List Spent) (a : Atom) : Type 0 where
-  pub of_check : IsCheckAtom ts frames a
+pub record IsNumbered (ts : List Tree) (frames : List Frame) (branches : List Line) (earlier : List Spent) (a : Atom) : Type 0 where
+  pub of_check : IsCheckAtom ts frames branches a
   pub not_of_stack : Contains (stack_atoms ts frames) a → ⊥
   pub new : Contains earlier (Numbered a) → ⊥
 
-abbrev pub IsUnit : List Tree → List Frame → ℤ → ℕ → List Spent → Spent → Type 0
-IsUnit ts frames limit worker earlier (Learnt c) = IsLearnt ts frames limit worker earlier c
-IsUnit ts frames limit worker earlier (Numbered a) = IsNumbered ts frames earlier a
+-- the line of the newest pivot
+abbrev pub last_pivot : List Spent → Option Line
+last_pivot [] = None
+last_pivot (u ∷ us) = newer (last_pivot us) u
+  where
+    newer : Option Line → Spent → Option Line
+    newer (Some l) u = Some l
+    newer None (Pivot l) = Some l
+    newer None (Learnt c) = None
+    newer None (Numbered a) = None
+
+-- a pivot by Bland's rule in a row over atoms of the check, of another basic variable than the pivot before it
+pub record IsPivot (ts : List Tree) (frames : List Frame) (branches : List Line) (earlier : List Spent) (l : Line) : Type 0 where
+  pub row : IsSoundLine (IsBoundOf (IsCheckAtom ts frames branches)) l
+  pub by_rule : IsPivotLine l
+  pub others : (m : Line) → last_pivot earlier ≡ Some m → HaveOthers m l
+
+-- without a limit no lines are kept
+pub record IsUnlisted (ts : List Tree) (frames : List Frame) (l : Line) : Type 0 where
+  pub term : ℕ
+  pub leaf : IsLeaf ts frames term
+  pub empty : l ≡ empty_line
+
+abbrev pub IsUnit : List Tree → List Frame → List Line → ℤ → ℕ → List Spent → Spent → Type 0
+IsUnit ts frames branches limit worker earlier (Learnt c) = IsLearnt ts frames branches limit worker earlier c
+IsUnit ts frames branches limit worker earlier (Numbered a) = IsNumbered ts frames branches earlier a
+IsUnit ts frames branches limit worker earlier (Pivot l) = MatchBool (is_unlimited limit) (IsUnlisted ts frames l) (IsPivot ts frames branches earlier l)
 
 -- each unit is one after those before it
-abbrev pub AreUnits : List Tree → List Frame → ℤ → ℕ → List Spent → Type 0
-AreUnits ts frames limit worker us =
-    (before after : List Spent) (u : Spent) → us ≡ before ++ u ∷ after → IsUnit ts frames limit worker before u
+abbrev pub AreUnits : List Tree → List Frame → List Line → ℤ → ℕ → List Spent → Type 0
+AreUnits ts frames branches limit worker us =
+    (before after : List Spent) (u : Spent) → us ≡ before ++ u ∷ after → IsUnit ts frames branches limit worker before u
 
 -- a list that ends in one more, cut before one of its items: at the last one, or before it
 last_or_before : {X : Type 0} (us before after : List X) (u v : X) → us ++ u ∷ [] ≡ before ++ v ∷ after
@@ -127,29 +136,30 @@ last_or_before (x ∷ us) (b ∷ before) after u v e =
     let first : x ≡ b = cc in let rest : us ++ u ∷ [] ≡ before ++ v ∷ after = cc in
     elim (last_or_before us before after u v rest) [ inl (same, last) ↦ inl (cc, last) | inr (more, same) ↦ inr (more, cc) ]
 
-pub no_units : (ts : List Tree) (frames : List Frame) (limit : ℤ) (worker : ℕ) → AreUnits ts frames limit worker []
-no_units ts frames limit worker [] after u e = cc
-no_units ts frames limit worker (b ∷ before) after u e = cc
+pub no_units : (ts : List Tree) (frames : List Frame) (branches : List Line) (limit : ℤ) (worker : ℕ) → AreUnits ts frames branches limit worker []
+no_units ts frames branches limit worker [] after u e = cc
+no_units ts frames branches limit worker (b ∷ before) after u e = cc
 
-pub one_more_unit : (ts : List Tree) (frames : List Frame) (limit : ℤ) (worker : ℕ) (us : List Spent) (u : Spent)
-    → AreUnits ts frames limit worker us → IsUnit ts frames limit worker us u → AreUnits ts frames limit worker (us ++ u ∷ [])
-one_more_unit ts frames limit worker us u each one before after v e =
+pub one_more_unit : (ts : List Tree) (frames : List Frame) (branches : List Line) (limit : ℤ) (worker : ℕ) (us : List Spent) (u : Spent)
+    → AreUnits ts frames branches limit worker us → IsUnit ts frames branches limit worker us u → AreUnits ts frames branches limit worker (us ++ u ∷ [])
+one_more_unit ts frames branches limit worker us u each one before after v e =
     elim (last_or_before us before after u v e) [
-      | inl (same, last) ↦ subst (λ x. IsUnit ts frames limit worker before x) last (subst (λ xs. IsUnit ts frames limit worker xs u) same one)
+      | inl (same, last) ↦ subst (λ x. IsUnit ts frames branches limit worker before x) last (subst (λ xs. IsUnit ts frames branches limit worker xs u) same one)
       | inr (rest, same) ↦ each before rest v same
     ]
 
 -- ---- reports
 
--- all units are spent, or memory was wanting
-abbrev pub Shows : List Tree → List Frame → ℤ → ℕ → Cause → Type 0
-Shows ts frames limit worker (Units us) = (length us ≡ most_units limit) × AreUnits ts frames limit worker us
-Shows ts frames limit worker Memory = Unit {0}
+-- all units are spent, a number left the range, or memory was wanting
+abbrev pub Shows : List Tree → List Frame → ℤ → ℕ → List Line → Cause → Type 0
+Shows ts frames limit worker branches (Units us) = (length us ≡ most_units limit) × AreBranches ts frames branches × AreUnits ts frames branches limit worker us
+Shows ts frames limit worker branches (Range seen) = AreBranches ts frames branches × LeavesRange ts frames (IsCheckAtom ts frames branches) seen
+Shows ts frames limit worker branches Memory = Unit {0}
 
 -- one report of each worker, in order from 0
 pub record AreReports (workers : ℕ) (ts : List Tree) (frames : List Frame) (limit : ℤ) (rs : List Report) : Type 0 where
   pub one_each : map (λ (r : Report). r.worker) rs ≡ range_with_len 0 workers
-  pub shown : All (λ (r : Report). Shows ts frames limit r.worker r.cause) rs
+  pub shown : All (λ (r : Report). Shows ts frames limit r.worker r.branches r.cause) rs
 
 -- how many workers decide a check
 abbrev pub deciding_workers : ℕ
@@ -158,7 +168,7 @@ deciding_workers = 1
 -- ---- the reason of an unknown answer
 
 abbrev pub wants_memory : Report → Bool
-wants_memory r = elim r.cause [ Memory ↦ true | Units us ↦ false ]
+wants_memory r = elim r.cause [ Memory ↦ true | Units us ↦ false | Range seen ↦ false ]
 
 abbrev pub reason_of : List Report → UnknownReason
 reason_of rs = if list_any wants_memory rs then Memout else Incomplete

@@ -23,7 +23,7 @@ pub use declarations::{Body, Declaration, Rank};
 pub use nodes::{Node, Terms};
 pub use refusals::Refusal;
 pub use replies::Kept;
-pub use reports::{Cause, Report, Unit};
+pub use reports::{Cause, RangeSeen, Report, Unit};
 pub use seq::{Bytes, Seq};
 pub use settings::Settings;
 pub use terms::{Head, Operator, TermId};

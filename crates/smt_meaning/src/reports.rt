@@ -1,5 +1,8 @@
 use crate::clauses::{Atom, Clause};
 use crate::seq::Seq;
+use crate::terms::TermId;
+use crate::values::Interp;
+use grid_meaning::{Grid, Line};
 
 /// A unit of a worker's work, by which the work of a check is limited.
 #[derive(Debug, Drop)]
@@ -8,6 +11,23 @@ pub enum Unit {
     Learnt(Clause),
     /// It numbered an atom.
     Numbered(Atom),
+    /// It made a pivot, of which this is the row before it.
+    Pivot(Line),
+}
+
+/// Where a number left the range.
+#[derive(Debug, Drop)]
+pub enum RangeSeen {
+    /// Folding this part, or a pair that it compares.
+    Coefficient(TermId),
+    /// Folding the difference of these two Int parts.
+    Pair(TermId, TermId),
+    /// The value of this argument of an application, where the leaves have the grid's values.
+    Argument(TermId, Grid),
+    /// The next step of the grid.
+    Step(Grid),
+    /// The value of this part under tables that make each assertion true, where the grid gives the leaves their values.
+    Model(Interp, TermId, Grid),
 }
 
 /// Why a worker ended without an answer.
@@ -15,6 +35,8 @@ pub enum Unit {
 pub enum Cause {
     /// It had spent these units, oldest first, and might spend no more.
     Units(Seq<Unit>),
+    /// A number left the range.
+    Range(RangeSeen),
     /// Memory was wanting.
     Memory,
 }
@@ -25,4 +47,6 @@ pub struct Report {
     /// Counted from 0.
     pub worker: u8,
     pub cause: Cause,
+    /// The rows at which it branched, oldest first.
+    pub branches: Seq<Line>,
 }
