@@ -10,3 +10,4 @@ mod Journals
 mod Numbers
 mod Propositional
 mod Reports
+mod Ranges

@@ -116,13 +116,13 @@ abbrev is_same : Atom → Bool
 is_same (Same s t) = true
 is_same _ = false
 
-in_head : {X : Type 0} (x : X) (xs : List X) → Contains (x ∷ xs) x
+pub in_head : {X : Type 0} (x : X) (xs : List X) → Contains (x ∷ xs) x
 in_head x xs = Contains-append_left (x ∷ []) xs x (Contains-push [] x)
 
-none_in : {X : Type 0} (x : X) → Contains [] x → ⊥
+pub none_in : {X : Type 0} (x : X) → Contains [] x → ⊥
 none_in x (k, lt, is) = absurd (omega (arith, lt))
 
-in_cases : {X : Type 0} (x y : X) (xs : List X) → Contains (x ∷ xs) y → (x ≡ y) ⊎ Contains xs y
+pub in_cases : {X : Type 0} (x y : X) (xs : List X) → Contains (x ∷ xs) y → (x ≡ y) ⊎ Contains xs y
 in_cases x y xs c = elim (Contains-append_cases (x ∷ []) xs y c) [
   | inl here ↦ elim (Contains-push_cases [] x y here) [ inl gone ↦ absurd (none_in y gone) | inr e ↦ inl e ]
   | inr later ↦ inr later

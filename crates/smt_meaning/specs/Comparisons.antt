@@ -1,5 +1,5 @@
 -- Whether the differences that comparisons of Int terms make stay within the range.
-use Rattle.std.specs.Prelude.{Bool, true, false, ◌&&◌, List, ◌-ℤ◌, neg_ℤ, pos, if◌then◌else◌}
+use Rattle.std.specs.Prelude.{Bool, true, ◌&&◌, List, ◌-ℤ◌, neg_ℤ, pos, if◌then◌else◌}
 use Rattle.number_meaning.specs.Whole.{is_in_range}
 use Rattle.smt_meaning.specs.declared.terms.Operator.TheVariants.{Equal, Distinct, Ite, AtMost as IsAtMost, Less, AtLeast, Greater}
 use Rattle.smt_meaning.specs.declared.terms.Head.{Head}

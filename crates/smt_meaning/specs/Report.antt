@@ -19,8 +19,6 @@ use Rattle.smt_meaning.specs.declared.reports.Cause.TheVariants.{Units, Range, M
 use Rattle.smt_meaning.specs.declared.reports.Report.{Report}
 use Rattle.smt_meaning.specs.Term.{Tree, Trees, node}
 use Rattle.smt_meaning.specs.TreeShape.{place_of}
-use Rattle.smt_meaning.specs.Parts.{IsPart}
-use Rattle.smt_meaning.specs.Signature.{tree_sort}
 use Rattle.smt_meaning.specs.Stack.{Frame, signature_of, assertions_of}
 use Rattle.smt_meaning.specs.Follows.{Follows}
 use Rattle.smt_meaning.specs.Atoms.{stack_atoms}
