@@ -48,7 +48,7 @@ not_opposite : (b : Bool) → b ≡ not b → ⊥
 not_opposite true h = cc
 not_opposite false h = cc
 
-no_pair_at : (ls : List Signed) → HasNoAtomTwice ls → (l : Signed) (j k : ℕ) → j < length ls → k < length ls → slice_index_or ls j l ≡ l → slice_index_or ls k (opposite l) ≡ opposite l → ⊥
+pub no_pair_at : (ls : List Signed) → HasNoAtomTwice ls → (l : Signed) (j k : ℕ) → j < length ls → k < length ls → slice_index_or ls j l ≡ l → slice_index_or ls k (opposite l) ≡ opposite l → ⊥
 no_pair_at [] h l j k a b p q = absurd (omega arith)
 no_pair_at (m ∷ ls) h l zero zero a b p q = not_opposite l.positive (ap (λ (x : Signed). x.positive) (sym p ∙ q))
 no_pair_at (m ∷ ls) h l zero (suc k) a b p q = h.0 k (opposite l) (omega arith) (ap (λ (x : Signed). x.atom) p ∙ sym (ap (λ (x : Signed). x.atom) q))

@@ -30,7 +30,6 @@ use Rattle.node_clauses.specs.Signs.{negated}
 use Rattle.node_clauses.specs.NodeClauses.{node_clauses}
 use Rattle.node_clauses.specs.WideClauses.{wide_clauses}
 use Rattle.node_clauses.specs.Laws.{fits_node, NodeClausesForce}
-use Rattle.forced_clauses.proofs.More.{forces_more}
 use Rattle.clause_form.specs.Node.{signed, literals_of_node, NodeClausesHold}
 use Rattle.assertion_form.specs.Renamed.{renamed, Apart, NodeClausesRenamed}
 use Rattle.search_port.proofs.Forcing.{ComesBy, from_map, in_map, forces_renamed}
@@ -40,10 +39,12 @@ use Rattle.stack_atoms.specs.Atoms.{is_bool_at}
 use Rattle.stack_atoms.specs.OfStack.{HasPlace, AreOfStack}
 use Rattle.stack_atoms.proofs.Sorting.{left_true, right_true, HasArguments, arguments_of, HasFirst, first_of, stands_so, if_so_true, if_so_is, the_some, sort_is, all_of_one}
 use Rattle.stack_atoms.proofs.Places.{IsAt as StandsAt, Picked, picked, part_at}
+use Rattle.part_clauses.specs.Turned.{IsKeptTurned}
 use Rattle.part_clauses.specs.Numbers.{HasNode, HasTerm, HasPart}
-use Rattle.part_clauses.specs.First.{HasClause, IsForced, ForcesParts, written_literal}
+use Rattle.part_clauses.specs.First.{IsForced, ForcesParts, written_literal}
 use Rattle.part_clauses.proofs.Numbering.{number_of, numbers_apart, found, numbers_are}
-use Rattle.part_clauses.proofs.Following.{place_within}
+use Rattle.part_clauses.proofs.Following.{place_within, truth_part}
+use Rattle.part_clauses.proofs.Turning.{forces_turned}
 
 -- ---- the places of a term's arguments
 
@@ -277,9 +278,9 @@ module _ (s : Stack) (marks : List Bool) (table : List Atom) (order : AreInOrder
     abbrev known : List (List Signed)
     known = map (λ (c : Kept). c.literals) clauses
 
-    -- each clause of the node is kept, by numbers
-    node_known : (p : ℕ) (o : Operator) (is : List ℕ) → All (λ i. i < length s.trees) is → HasNode table clauses (number_of table p) o is
-        → (d : List Signed) → Contains (map (map numbered) (node_clauses o p is)) d → Contains known d
+    -- each clause of the node is kept, by numbers, or with what negations negate
+    node_known : (p : ℕ) (o : Operator) (is : List ℕ) → All (λ i. i < length s.trees) is → HasNode s.trees table clauses (number_of table p) o is
+        → (d : List Signed) → Contains (map (map numbered) (node_clauses o p is)) d → IsKeptTurned s.trees table clauses d
     node_known p o is h has d c =
         let n : ℕ = number_of table p in
         let xs : List ℕ = has.numbers in
@@ -293,9 +294,14 @@ module _ (s : Stack) (marks : List Bool) (table : List Atom) (order : AreInOrder
         let among : Contains (literals_of_node o n xs) (map signed (map (renamed (number_of table)) r.from)) =
         in_literals o n xs (map (renamed (number_of table)) r.from) (subst (λ cs. Contains cs (map (renamed (number_of table)) r.from)) (sym all_is) here) in
         let same : map signed (map (renamed (number_of table)) r.from) ≡ d = fused r.from ∙ r.is in
-        let kept : HasClause clauses (map signed (map (renamed (number_of table)) r.from)) =
-        All-contains (HasClause clauses) (literals_of_node o n xs) (map signed (map (renamed (number_of table)) r.from)) has.kept among in
-        subst (Contains known) (kept.literals ∙ same) (in_map (λ (k : Kept). k.literals) clauses kept.kept kept.among)
+        subst (IsKeptTurned s.trees table clauses) same (All-contains (IsKeptTurned s.trees table clauses) (literals_of_node o n xs) (map signed (map (renamed (number_of table)) r.from)) has.kept among)
+
+    -- places are told apart by their trees
+    told : (is js : List ℕ) → All (λ i. i < length s.trees) is → All (λ i. i < length s.trees) js → pick s.trees is ≡ pick s.trees js → is ≡ js
+    told is js h k e = sym (places_picked s.trees is order h) ∙ ap (places_in s.trees) e ∙ places_picked s.trees js order k
+
+    inside_trees : (n p : ℕ) → IsAt table n (TruthAtom p) → p < length s.trees
+    inside_trees n p h = place_within s marks table p atoms (truth_part s marks table n p atoms h).0
 
     part_forced : (p : ℕ) (o : Operator) (us : Trees) (ss : List Sign) → IsMarked marks p → tree_at s.trees p ≡ node (Theory o) us
         → IsClauseOf s.trees (signature_of s.frames) o us ss → ((n : ℕ) → n < length table → HasPart s.trees table clauses n)
@@ -319,8 +325,8 @@ module _ (s : Stack) (marks : List Bool) (table : List Atom) (order : AreInOrder
         ∙ ap (places_in s.trees) (arguments_same term.head (Theory o) (pick s.trees term.arguments) (pick s.trees is) (sym term.tree ∙ tree)) ∙ places_picked s.trees is order inside in
         let earlier : All (λ i. i < p) is = subst (All (λ i. i < p)) places term.earlier in
         let contained : All (λ i. Contains table (TruthAtom i)) is = λ k d l. atoms.atoms.truths (get_or is k d) (closed k d l) (is_so.bools k d l) in
-        let has : HasNode table clauses (number_of table p) o is =
-        subst (HasNode table clauses (number_of table p) o) places (term.kept o heads (subst (All (λ i. Contains table (TruthAtom i))) (sym places) contained)) in
+        let has : HasNode s.trees table clauses (number_of table p) o is =
+        subst (HasNode s.trees table clauses (number_of table p) o) places (term.kept o heads (subst (All (λ i. Contains table (TruthAtom i))) (sym places) contained)) in
         let top : place_of (node (Theory o) (pick s.trees is)) s.trees ≡ p = place_of-is (node (Theory o) (pick s.trees is)) s.trees p (different_trees s.trees order) here tree in
         let of_node : IsNodeClause o p is ss =
         subst (λ js. IsNodeClause o p js ss) (places_picked s.trees is order inside) (subst (λ q. IsNodeClause o q (places_in s.trees (pick s.trees is)) ss) top clause.clause) in
@@ -336,7 +342,7 @@ module _ (s : Stack) (marks : List Bool) (table : List Atom) (order : AreInOrder
           reads = read_again ss over;
           some = some_sign o p is ss other of_node;
           forced =
-              forces_more opposite (map (map numbered) (node_clauses o p is)) known (map numbered ss) (node_known p o is inside has)
+              forces_turned s.trees table atoms.atoms.apart told inside_trees clauses parts (map (map numbered) (node_clauses o p is)) (node_known p o is inside has) (map numbered ss)
               (forces_renamed numbered negated opposite (λ l. refl) (node_clauses o p is) ss (force o p is ss (fits_of s.trees ds o is is_so.stands clause.has) other of_node));
         }
 

@@ -19,6 +19,7 @@ use Rattle.clause_form.specs.Node.{literals_of_node}
 use Rattle.stack_atoms.specs.Parts.{IsMarked}
 use Rattle.stack_atoms.specs.OfStack.{HasPlace, AreOfStack}
 use Rattle.stack_atoms.proofs.Marking.{below}
+use Rattle.part_clauses.specs.Turned.{IsKeptTurned}
 use Rattle.part_clauses.specs.Numbers.{HasNode, HasTerm, HasPart}
 use Rattle.smt_meaning.specs.Stack.{signature_of, assertions_of}
 use Rattle.smt_meaning.specs.StackCommand.{Stack}
@@ -46,9 +47,11 @@ stays s new k c e h = subst (λ (x : Stored). Contains x.clauses c) (sym e) (Con
 pub has : (s new : Stored) (k : Kept) (ls : List Signed) → new ≡ with_clause s k → k.literals ≡ ls → HasClause new.clauses ls
 has s new k ls e l = record { kept = k; among = subst (λ (x : Stored). Contains x.clauses k) (sym e) (Contains-push s.clauses k); literals = l }
 
+pub known_clause : (q : Reading) (s : Stored) (ls : List Signed) → IsBegun q s → IsClause q 0 ls → All (λ (l : Signed). l.atom < s.trail.atoms) ls
+known_clause q s ls b h = λ j e m. subst (λ n. (slice_index_or ls j e).atom < n) (sym b.atoms) (h.over.within (slice_index_or ls j e) (Contains-get_or ls j e m))
+
 pub known : (q : Reading) (s : Stored) (cs : List (List Signed)) → IsBegun q s → All (IsClause q 0) cs → All (All (λ (l : Signed). l.atom < s.trail.atoms)) cs
-known q s cs b h = λ k d l. λ j e m.
-    subst (λ n. (slice_index_or (slice_index_or cs k d) j e).atom < n) (sym b.atoms) ((h k d l).over.within (slice_index_or (slice_index_or cs k d) j e) (Contains-get_or (slice_index_or cs k d) j e m))
+known q s cs b h = λ k d l. known_clause q s (slice_index_or cs k d) b (h k d l)
 
 pub asserted_stays : (trees : List Tree) (table : List Atom) (old new : List Kept) (t : Tree) → ((c : Kept) → Contains old c → Contains new c) → IsAsserted trees table old t → IsAsserted trees table new t
 asserted_stays trees table old new t h a = record {
@@ -100,11 +103,17 @@ on_ok (Err e) P Q h f = h
 pub clause_stays : (old new : List Kept) → ((c : Kept) → Contains old c → Contains new c) → (ls : List Signed) → HasClause old ls → HasClause new ls
 clause_stays old new stay ls h = record { kept = h.kept; among = stay h.kept h.among; literals = h.literals }
 
-node_stays : (table : List Atom) (old new : List Kept) (n : ℕ) (o : Operator) (is : List ℕ) → ((c : Kept) → Contains old c → Contains new c) → HasNode table old n o is → HasNode table new n o is
-node_stays table old new n o is stay h = record {
+turned_stays : (trees : List Tree) (table : List Atom) (old new : List Kept) → ((c : Kept) → Contains old c → Contains new c) → (ls : List Signed) → IsKeptTurned trees table old ls → IsKeptTurned trees table new ls
+turned_stays trees table old new stay ls h = record { turned = h.turned; are = h.are; short = h.short; kept = clause_stays old new stay h.turned h.kept }
+
+pub all_turned_stay : (trees : List Tree) (table : List Atom) (old new : List Kept) (cs : List (List Signed)) → ((c : Kept) → Contains old c → Contains new c) → All (IsKeptTurned trees table old) cs → All (IsKeptTurned trees table new) cs
+all_turned_stay trees table old new cs stay h = All-weaker (IsKeptTurned trees table old) (IsKeptTurned trees table new) (turned_stays trees table old new stay) cs h
+
+node_stays : (trees : List Tree) (table : List Atom) (old new : List Kept) (n : ℕ) (o : Operator) (is : List ℕ) → ((c : Kept) → Contains old c → Contains new c) → HasNode trees table old n o is → HasNode trees table new n o is
+node_stays trees table old new n o is stay h = record {
   numbers = h.numbers;
   are = h.are;
-  kept = All-weaker (HasClause old) (HasClause new) (clause_stays old new stay) (literals_of_node o n h.numbers) h.kept;
+  kept = all_turned_stay trees table old new (literals_of_node o n h.numbers) stay h.kept;
 }
 
 pub part_stays : (trees : List Tree) (table : List Atom) (old new : List Kept) (n : ℕ) → ((c : Kept) → Contains old c → Contains new c) → HasPart trees table old n → HasPart trees table new n
@@ -115,7 +124,7 @@ part_stays trees table old new n stay h = λ p e.
       arguments = term.arguments;
       tree = term.tree;
       earlier = term.earlier;
-      kept = λ o same all. node_stays table old new n o term.arguments stay (term.kept o same all);
+      kept = λ o same all. node_stays trees table old new n o term.arguments stay (term.kept o same all);
     }
 
 pub last_or_before : (n k : ℕ) → k < n + 1 → (k < n) ⊎ (n ≡ k)

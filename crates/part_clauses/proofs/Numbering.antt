@@ -95,13 +95,13 @@ before_or_not zero (suc n) = inl (omega arith)
 before_or_not (suc m) zero = inr (inr (omega arith))
 before_or_not (suc m) (suc n) = elim (before_or_not m n) [ inl l ↦ inl (omega arith) | inr r ↦ elim r [ inl e ↦ inr (inl (ap suc e)) | inr g ↦ inr (inr (omega arith)) ] ]
 
-one_place : (table : List Atom) (m n : ℕ) (a : Atom) → AreApart table → IsAt table m a → IsAt table n a → m ≡ n
+pub one_place : (table : List Atom) (m n : ℕ) (a : Atom) → AreApart table → IsAt table m a → IsAt table n a → m ≡ n
 one_place table m n a apart x y = elim (before_or_not m n) [
   | inl less ↦ absurd (apart m n a less y.0 (x.1 a ∙ sym (y.1 a)))
   | inr r ↦ elim r [ inl same ↦ same | inr more ↦ absurd (apart n m a more x.0 (y.1 a ∙ sym (x.1 a))) ]
 ]
 
-contained : (table : List Atom) (n : ℕ) (a : Atom) → IsAt table n a → Contains table a
+pub contained : (table : List Atom) (n : ℕ) (a : Atom) → IsAt table n a → Contains table a
 contained table n a h = (n, h.0, h.1 a)
 
 pub number_is : (table : List Atom) (n p : ℕ) → AreApart table → IsAt table n (Truth p) → n ≡ number_of table p

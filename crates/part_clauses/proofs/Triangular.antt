@@ -1,17 +1,16 @@
 -- The clauses of triangles follow.
-use Rattle.std.proofs.Common.{◌≡◌, ◌≢◌, ℕ, zero, suc, ◌<◌, Bool, true, false, not, ◌&&◌, ◌||◌, List, [], ◌∷◌, map, length, All, Contains, slice_index_or, subst, sym, ap, ◌∙◌, arith, refl, nat_eq, eq-eqb}
+use Rattle.std.proofs.Common.{◌≡◌, ℕ, zero, suc, ◌<◌, Bool, true, false, not, ◌&&◌, ◌||◌, List, [], ◌∷◌, length, All, Contains, slice_index_or, subst, sym, ap, ◌∙◌, arith, refl, eq-eqb}
 use Rattle.std.specs.Prelude.{pos, negsuc, ℤ}
 use Rattle.std.proofs.lemmas.Bool.{eqb-true}
 use Rattle.std.proofs.lemmas.List.Elements.{All-nil, All-cons}
-use Rattle.literals.specs.Signed.{Signed, opposite, some_true}
+use Rattle.literals.specs.Signed.{Signed, opposite}
 use Rattle.smt_meaning.specs.declared.values.Value.{Value}
 use Rattle.smt_meaning.specs.declared.values.Value.TheVariants.{Truth as TruthValue, Whole, Element}
 use Rattle.smt_meaning.specs.declared.clauses.Atom.{Atom}
 use Rattle.smt_meaning.specs.declared.clauses.Atom.TheVariants.{Truth, Same}
 use Rattle.smt_meaning.specs.declared.terms.Operator.TheVariants.{Equal}
 use Rattle.smt_meaning.specs.declared.terms.Head.TheVariants.{Theory}
-use Rattle.smt_meaning.specs.Term.{Tree, tree_at, Interpretation, value, truth_of, same_value, int_eq, bool_eq}
-use Rattle.smt_meaning.specs.Nodes.{pick}
+use Rattle.smt_meaning.specs.Term.{Tree, tree_at, value, truth_of, same_value, int_eq, bool_eq}
 use Rattle.smt_meaning.specs.Clause.{atom_true}
 use Rattle.smt_meaning.specs.StackCommand.{Stack}
 use Rattle.term_store.specs.Terms.{tree_with}

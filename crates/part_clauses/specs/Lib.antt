@@ -1,3 +1,4 @@
 pub mod First
+pub mod Turned
 pub mod Numbers
 pub mod Triangles

@@ -6,5 +6,6 @@ mod keep;
 mod nodes;
 mod numbers;
 mod triangles;
+mod turn;
 
 pub use clauses::part_clauses;

@@ -15,6 +15,7 @@ ghost use Rattle.part_clauses.specs.Numbers.{AreNumbers, HasNode, HasTerm, HasPa
 
 use crate::keep::keep_all;
 use crate::numbers::{pair_numbers, truth_numbers};
+use crate::turn::keep_all_turned;
 use atom_table::CompactAtom;
 use clause_form::{Clauses, Room, node_clauses_hold, put_node};
 use clause_store::store::Store;
@@ -22,6 +23,7 @@ use equality_clauses::{
     Lists, comparison_is_over, comparison_is_tied, interpretation_agrees, put_comparison,
 };
 use flat_stack::flat_says_the_same;
+use literals::Literal;
 use scope_stack::Stack;
 use smt_meaning::{Head, Operator, TermId};
 use sort_laws::symbols_are_declared;
@@ -34,6 +36,7 @@ use term_laws::value_has_its_sort;
 struct Space {
     numbers: Vec<u32>,
     clauses: Clauses,
+    turned: Vec<Literal>,
     room: Room,
     lists: Lists,
 }
@@ -57,7 +60,7 @@ fn keep_numbered(
     requires begun { IsBegun (reading_of stack.now atoms.now.table) store.old }
     ensures begun { OnOk result (IsBegun (reading_of stack.now atoms.now.table) store.new) }
     ensures stay { (c : Kept) → Contains store.old.clauses c → Contains store.new.clauses c }
-    ensures has { OnOk result (HasNode atoms.now.table store.new.clauses number operator arguments.now) }
+    ensures has { OnOk result (HasNode stack.now.trees atoms.now.table store.new.clauses number operator arguments.now) }
 {
     node_clauses_hold();
     value_has_its_sort();
@@ -71,7 +74,7 @@ fn keep_numbered(
         number,
         &space.numbers,
     )?;
-    keep_all(store, &space.clauses)
+    keep_all_turned(stack, atoms, store, &space.clauses, &mut space.turned)
 }
 
 /// Keeps the clauses of a `distinct`, of arguments whose equalities have these numbers.
@@ -150,7 +153,7 @@ fn keep_node(
     requires begun { IsBegun (reading_of stack.now atoms.now.table) store.old }
     ensures begun { OnOk result (IsBegun (reading_of stack.now atoms.now.table) store.new) }
     ensures stay { (c : Kept) → Contains store.old.clauses c → Contains store.new.clauses c }
-    ensures has { OnOk result (All (λ i. Contains atoms.now.table (Truth i)) arguments.now → HasNode atoms.now.table store.new.clauses number operator arguments.now) }
+    ensures has { OnOk result (All (λ i. Contains atoms.now.table (Truth i)) arguments.now → HasNode stack.now.trees atoms.now.table store.new.clauses number operator arguments.now) }
 {
     let all = truth_numbers(&atoms.table, arguments, &mut space.numbers)?;
     if all {
@@ -233,6 +236,7 @@ pub(crate) fn keep_parts(
     let mut space = Space {
         numbers: Vec::new(alloc),
         clauses: Clauses::new(alloc),
+        turned: Vec::new(alloc),
         room: Room::new(alloc),
         lists: Lists::new(alloc),
     };

@@ -2,12 +2,12 @@ use Rattle.std.proofs.Common.{◌≡◌, ◌<◌, ◌≤◌, ◌^◌, List, ◌+
 use Rattle.std.proofs.lemmas.List.Elements.{All-weaker}
 use Rattle.literals.specs.Signed.{Signed}
 use Rattle.clause_form.specs.Node.{literals_of_node}
-use Rattle.search_port.specs.State.{Reading, truth_atoms}
-use Rattle.part_clauses.specs.First.{reading_of, HasClause, IsBegun, IsClause}
+use Rattle.search_port.specs.State.{truth_atoms}
+use Rattle.part_clauses.specs.Turned.{IsKeptTurned}
 use Rattle.part_clauses.specs.Numbers.{HasNode}
 use Rattle.part_clauses.proofs.Numbering.{numbers_within}
 use Rattle.part_clauses.proofs.Following.{clauses_are}
-use Rattle.part_clauses.proofs.Keeping.{known, on_ok}
+use Rattle.part_clauses.proofs.Keeping.{on_ok}
 use Rattle.part_clauses.proofs.nodes.keep_numbered.Goals as goal
 
 pub put_node-requires-clause-number : goal.put_node-requires-clause-number
@@ -23,31 +23,21 @@ put_node-requires-clause-arguments c =
     (All-weaker (λ n. n < length c.args.atoms.now.table) (λ n. n < 2 ^ 31) (λ n l. omega arith) c.args.space.now.numbers.items
     (numbers_within c.args.atoms.now.table (truth_atoms c.args.arguments.now) c.args.space.now.numbers.items c.requires.numbers))
 
-pub keep_all-requires : goal.keep_all-requires
-keep_all-requires c =
-    let clauses : All (IsClause (reading_of c.args.stack.now c.args.atoms.now.table) 0) c.put_node.new.clauses =
+pub keep_all_turned-requires-clause-follow : goal.keep_all_turned-requires-clause-follow
+keep_all_turned-requires-clause-follow c =
     clauses_are c.flat_says_the_same.ensures c.symbols_are_declared.ensures c.args.stack.now c.args.atoms.now.marks.items c.args.atoms.now.table c.requires.parts c.value_has_its_sort.ensures c.node_clauses_hold.ensures c.args.number
     c.args.id c.args.operator c.args.arguments.now c.args.space.now.numbers.items c.deref.result.now c.clear.new.self c.put_node.new.clauses c.requires.number c.requires.node c.requires.earlier c.requires.numbers
-    c.deref.ensures.value c.clear.ensures c.in_ok-put_node.ensures in
-    known (reading_of c.args.stack.now c.args.atoms.now.table) c.args.store.now c.put_node.new.clauses c.requires.begun clauses
-
-pub returns-clause-begun : goal.returns-clause-begun
-returns-clause-begun c =
-    let clauses : All (IsClause (reading_of c.args.stack.now c.args.atoms.now.table) 0) c.put_node.new.clauses =
-    clauses_are c.flat_says_the_same.ensures c.symbols_are_declared.ensures c.args.stack.now c.args.atoms.now.marks.items c.args.atoms.now.table c.requires.parts c.value_has_its_sort.ensures c.node_clauses_hold.ensures c.args.number
-    c.args.id c.args.operator c.args.arguments.now c.args.space.now.numbers.items c.deref.result.now c.clear.new.self c.put_node.new.clauses c.requires.number c.requires.node c.requires.earlier c.requires.numbers
-    c.deref.ensures.value c.clear.ensures c.in_ok-put_node.ensures in
-    on_ok c.keep_all.result ((q : Reading) → IsBegun q c.args.store.now → All (IsClause q 0) c.put_node.new.clauses → IsBegun q c.keep_all.new.store)
-    (IsBegun (reading_of c.args.stack.now c.args.atoms.now.table) c.keep_all.new.store) c.keep_all.ensures.begun (λ h. h (reading_of c.args.stack.now c.args.atoms.now.table) c.requires.begun clauses)
+    c.deref.ensures.value c.clear.ensures c.in_ok-put_node.ensures
 
 pub returns-clause-has : goal.returns-clause-has
 returns-clause-has c =
     let same : c.put_node.new.clauses ≡ literals_of_node c.args.operator c.args.number c.args.space.now.numbers.items =
     c.in_ok-put_node.ensures ∙ (ap (λ (cs : List (List Signed)). cs ++ literals_of_node c.args.operator c.args.number c.deref.result.now) c.clear.ensures ∙ ap (literals_of_node c.args.operator c.args.number) c.deref.ensures.value) in
-    on_ok c.keep_all.result (All (HasClause c.keep_all.new.store.clauses) c.put_node.new.clauses) (HasNode c.args.atoms.now.table c.keep_all.new.store.clauses c.args.number c.args.operator c.args.arguments.now)
-    c.keep_all.ensures.has
+    on_ok c.keep_all_turned.result (All (IsKeptTurned c.args.stack.now.trees c.args.atoms.now.table c.keep_all_turned.new.store.clauses) c.put_node.new.clauses)
+    (HasNode c.args.stack.now.trees c.args.atoms.now.table c.keep_all_turned.new.store.clauses c.args.number c.args.operator c.args.arguments.now)
+    c.keep_all_turned.ensures.has
     (λ all. record {
       numbers = c.args.space.now.numbers.items;
       are = c.requires.numbers;
-      kept = subst (All (HasClause c.keep_all.new.store.clauses)) same all;
+      kept = subst (All (IsKeptTurned c.args.stack.now.trees c.args.atoms.now.table c.keep_all_turned.new.store.clauses)) same all;
     })

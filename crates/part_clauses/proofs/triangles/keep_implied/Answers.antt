@@ -1,8 +1,8 @@
-use Rattle.std.proofs.Common.{rules, ◌≡◌, true, false, List, [], ◌∷◌, subst, sym, ap, ◌∙◌}
+use Rattle.std.proofs.Common.{rules, ◌≡◌, true, false, [], ◌∷◌, subst, sym, ap, ◌∙◌}
 use Rattle.literals.specs.Signed.{Signed}
 use Rattle.search_port.specs.State.{Reading}
 use Rattle.part_clauses.specs.First.{reading_of, IsBegun, IsClause}
-use Rattle.part_clauses.specs.Triangles.{IsEquality, Joins}
+use Rattle.part_clauses.specs.Triangles.{Joins}
 use Rattle.part_clauses.proofs.Keeping.{on_ok}
 use Rattle.part_clauses.proofs.Triangular.{implies_clause, triangle_follows}
 use Rattle.part_clauses.proofs.triangles.keep_implied.Goals as goal
