@@ -7,3 +7,4 @@ pub mod NodeLemmas
 pub mod Unfolding
 pub mod TableLemmas
 pub mod Growing
+pub mod DifferenceLemmas

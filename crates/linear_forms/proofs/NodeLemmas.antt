@@ -44,11 +44,11 @@ higher_sums low high known is l a k d h = to_higher 0 low high (known_at known (
 
 -- ---- the places of a folded form
 
-abbrev AllSums : ℕ → List Form → Type 0
+abbrev pub AllSums : ℕ → List Form → Type 0
 AllSums bound [] = Unit {0}
 AllSums bound (f ∷ fs) = IsSum bound f.sum × AllSums bound fs
 
-all_sums : (bound : ℕ) (known : List Known) (is : List ℕ) → AreSums bound known is → AllSums bound (forms_at known is)
+pub all_sums : (bound : ℕ) (known : List Known) (is : List ℕ) → AreSums bound known is → AllSums bound (forms_at known is)
 all_sums bound known [] a = tt
 all_sums bound known (i ∷ is) a =
     (All-head (λ j. IsSum bound (known_at known j).form.sum) i is a, all_sums bound known is (All-tail (λ j. IsSum bound (known_at known j).form.sum) i is a))
@@ -72,7 +72,7 @@ product_sums bound f g a b = by f.sum
     by [] = sum_times_sum bound f.constant g.sum b
     by (p ∷ rest) = sum_times_sum bound g.constant f.sum a
 
-combined_sums : (bound : ℕ) (s : Bool) (fs : List Form) → AllSums bound fs → IsSum bound (combined_form s fs).sum
+pub combined_sums : (bound : ℕ) (s : Bool) (fs : List Form) → AllSums bound fs → IsSum bound (combined_form s fs).sum
 combined_sums bound true [] h = tt
 combined_sums bound true (f ∷ []) h = sum_times_sum bound (negsuc 0) f.sum h.0
 combined_sums bound true (f ∷ g ∷ gs) h = folded_sums bound form_minus (combine_sum bound true) (f ∷ g ∷ gs) h

@@ -91,7 +91,7 @@ module _ (ts : List Tree) (place : ℕ) (known : List Known) (forms : AreFormsTo
   known_form : (i : ℕ) → i < place → (known_at known i).outside ≡ None → HasForm ts i (known_at known i).form
   known_form i h e = subst (λ o. MatchOption o (HasForm ts i (known_at known i).form) (IsOutside ts i)) e (forms.each i h)
 
-  known_outside : (i p : ℕ) → i < place → (known_at known i).outside ≡ Some p → IsOutside ts i p
+  pub known_outside : (i p : ℕ) → i < place → (known_at known i).outside ≡ Some p → IsOutside ts i p
   known_outside i p h e = subst (λ o. MatchOption o (HasForm ts i (known_at known i).form) (IsOutside ts i)) e (forms.each i h)
 
   pub argument_sums : (is : List ℕ) → All (λ i. i < place) is → All (λ i. (known_at known i).outside ≡ None) is → AreSums place known is
@@ -101,13 +101,13 @@ module _ (ts : List Tree) (place : ℕ) (known : List Known) (forms : AreFormsTo
       let f : HasForm ts i (known_at known i).form = known_form i less (b k d h) in
       to_higher 0 (i + 1) place (known_at known i).form.sum (omega arith) f.is_sum
 
-  argument_forms : (is : List ℕ) → All (λ i. i < place) is → All (λ i. (known_at known i).outside ≡ None) is → forms_in ts is ≡ forms_at known is
+  pub argument_forms : (is : List ℕ) → All (λ i. i < place) is → All (λ i. (known_at known i).outside ≡ None) is → forms_in ts is ≡ forms_at known is
   argument_forms [] a b = refl
   argument_forms (i ∷ is) a b =
       let f : HasForm ts i (known_at known i).form = known_form i (All-head (λ j. j < place) i is a) (All-head (λ j. (known_at known j).outside ≡ None) i is b) in
       ap (λ x. x ∷ forms_in ts is) f.form ∙ ap (λ xs. (known_at known i).form ∷ xs) (argument_forms is (All-tail (λ j. j < place) i is a) (All-tail (λ j. (known_at known j).outside ≡ None) i is b))
 
-  argument_fits : (is : List ℕ) → All (λ i. i < place) is → All (λ i. (known_at known i).outside ≡ None) is → all_fit ts is ≡ true
+  pub argument_fits : (is : List ℕ) → All (λ i. i < place) is → All (λ i. (known_at known i).outside ≡ None) is → all_fit ts is ≡ true
   argument_fits [] a b = refl
   argument_fits (i ∷ is) a b =
       let f : HasForm ts i (known_at known i).form = known_form i (All-head (λ j. j < place) i is a) (All-head (λ j. (known_at known j).outside ≡ None) i is b) in

@@ -3,3 +3,4 @@ pub mod Scratch
 pub mod Folding
 pub mod Table
 pub mod Entries
+pub mod Differences

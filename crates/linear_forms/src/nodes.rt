@@ -82,7 +82,7 @@ fn combine_into(
 }
 
 /// Adds up the forms of some terms that stand before a place, or takes those of the others from the first one.
-fn fold_combined(
+pub(crate) fn fold_combined(
     entries: &[Entry],
     all: &[Summand],
     work: &mut Work,

@@ -6,6 +6,7 @@ ghost use Rattle.linear_forms.specs.Table.{known_at, AreForms, AreFormsTo, HasFo
 ghost use Rattle.linear_forms.specs.Entries.{knowns, AreLaid, AreSums, IsReady, IsTable, HasOutside, IsFoldedNext};
 
 use crate::coefficients::Stop;
+use crate::differences::{DifferenceError, difference};
 use crate::entries::{Entry, LinearForm, form_at};
 use crate::nodes::{Work, fold_node};
 use smt_meaning::{Head, Summand, TermId};
@@ -27,7 +28,11 @@ fn look<'a>(entries: &[Entry], all: &'a [Summand], place: usize) -> Result<Linea
 }
 
 /// The part at which the folding of one of these terms leaves the range, if it does.
-fn outside_argument(entries: &[Entry], all: &[Summand], arguments: &[TermId]) -> Option<TermId>
+pub(crate) fn outside_argument(
+    entries: &[Entry],
+    all: &[Summand],
+    arguments: &[TermId],
+) -> Option<TermId>
     requires laid { AreLaid (length all.now) entries.now }
     requires places { All (λ i. i < length entries.now) arguments.now }
     ensures some { IfSome result (λ p. HasOutside (knowns all.now entries.now) arguments.now p) }
@@ -213,6 +218,7 @@ impl LinearForms {
     ghost use Rattle.smt_meaning.specs.Term.{Tree};
     ghost use Rattle.linear_forms.specs.Folding.{form_of};
     ghost use Rattle.linear_forms.specs.Table.{AreForms, HasForm, IsOutside};
+    ghost use Rattle.linear_forms.specs.Differences.{difference_fits, KnowsForms, IsDifference, Refuses};
 
     /// Nothing is known. It takes no memory.
     pub fn new(alloc: Global) -> Self
@@ -258,5 +264,30 @@ impl LinearForms {
         ensures err { (trees : List Tree) → AreForms trees self.now → IfErr result (λ p. IsOutside trees place p) }
     {
         look(&self.entries, &self.summands, place as usize)
+    }
+
+    /// The difference of the terms at two places, the first less the second: its constant, and in the list, whatever it was before, its sum. An `Err` says which of
+    /// the three foldings leaves the range, or that memory is wanting; then nothing is said of the list.
+    pub fn difference(
+        &mut self,
+        left: TermId,
+        right: TermId,
+        sum: &mut Vec<Summand>,
+    ) -> Result<i128, DifferenceError>
+        requires left { left < length self.old }
+        requires right { right < length self.old }
+        requires known { KnowsForms self.old }
+        ensures ok { (trees : List Tree) → AreForms trees self.old → IfOk result (λ n. IsDifference trees left right (form_of sum.new.items n)) }
+        ensures err { (trees : List Tree) → AreForms trees self.old → IfErr result (λ e. Refuses trees (difference_fits trees) left right e) }
+        ensures same { self.new ≡ self.old }
+    {
+        difference(
+            &self.entries,
+            &self.summands,
+            &mut self.work,
+            left,
+            right,
+            sum,
+        )
     }
 }

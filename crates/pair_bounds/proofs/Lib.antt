@@ -1,0 +1,4 @@
+pub mod Mapping
+pub mod NormalLemmas
+pub mod PairLemmas
+pub mod TurningLemmas

@@ -1,0 +1,2 @@
+-- The bounds that compare two terms.
+use Rattle.std.proofs.Common.{◌≡◌}

@@ -1,0 +1,54 @@
+//! Bounds of sums that are turned so that the first coefficient is positive.
+ghost use Rattle.std.specs.Prelude.{◌≡◌, true, List};
+ghost use Rattle.number_meaning.specs.Whole.{InRange};
+ghost use Rattle.smt_meaning.specs.declared.clauses.Atom.TheVariants.{AtMost as BoundAtom};
+ghost use Rattle.smt_meaning.specs.Term.{Tree, Interpretation};
+ghost use Rattle.smt_meaning.specs.Clause.{atom_true, sum_value};
+ghost use Rattle.smt_meaning.specs.Linear.{sum_fits};
+ghost use Rattle.pair_bounds.specs.Turning.{is_turned, negation_of, turned, limit_of, is_within};
+
+use smt_meaning::Summand;
+
+/// What a sum is at most, or at least.
+#[derive(Clone, Copy, PartialEq, Eq, Debug, Drop)]
+pub enum Limit {
+    AtMost(i128),
+    AtLeast(i128),
+}
+
+/// Whether the first coefficient is negative.
+fn first_is_negative(sum: &[Summand]) -> bool
+    ensures { result ≡ is_turned sum.now }
+{
+    match sum.first() {
+        Some(summand) => summand.coefficient < 0,
+        None => false,
+    }
+}
+
+/// Negates each coefficient.
+fn negate(sum: &mut [Summand])
+    requires { sum_fits sum.old ≡ true }
+    ensures { sum.new ≡ negation_of sum.old }
+{
+    for summand in sum.iter_mut() {
+        summand.coefficient = -summand.coefficient;
+    }
+}
+
+/// Turns a sum so that its first coefficient is positive, and gives what the bound that the sum is at most a threshold says of the turned sum: a sum whose first
+/// coefficient is negative is at most the threshold where its negation is at least the threshold's negation.
+pub fn turn(sum: &mut [Summand], threshold: i128) -> Limit
+    requires fits { sum_fits sum.old ≡ true }
+    requires in_range { InRange threshold }
+    ensures sum { sum.new ≡ turned sum.old }
+    ensures limit { result ≡ limit_of sum.old threshold }
+    ensures fits { sum_fits sum.new ≡ true }
+    ensures says { (ts : List Tree) (I : Interpretation) → is_within result (sum_value ts I sum.new) ≡ atom_true ts I (BoundAtom sum.old threshold) }
+{
+    if first_is_negative(sum) {
+        negate(sum);
+        return Limit::AtLeast(-threshold);
+    }
+    Limit::AtMost(threshold)
+}
