@@ -1,10 +1,12 @@
 -- Bounds divided by the greatest common divisor of their coefficients.
-use Rattle.std.proofs.Common.{◌≡◌, ◌≢◌, ◌⊎◌, inl, inr, ℕ, zero, suc, ◌+◌, ◌*◌, ◌/◌, ◌<◌, ◌≤◌, true, ◌&&◌, List, [], ◌∷◌, ◌++◌, length, get_or, set, take, drop, ap, subst, sym, ◌∙◌, refl, arith}
-use Rattle.std.specs.Prelude.{ℤ, pos, negsuc, unsigned_abs}
-use Rattle.std.specs.Int.{IsGcd, ◌∣◌}
-use Rattle.std.proofs.lemmas.Nat.Gcd.{dvd_trans, le_of_dvd}
+use Rattle.std.proofs.Common.{◌≡◌, ◌≢◌, ℕ, zero, suc, ◌+◌, ◌*◌, ◌/◌, ◌<◌, ◌≤◌, true, List, [], ◌∷◌, length, get_or, drop, ap, subst, sym, ◌∙◌, refl, arith, false, leb, to_z, of_z}
+use Rattle.std.specs.Prelude.{ℤ, pos, negsuc, unsigned_abs, int_le}
+use Rattle.std.specs.Int.{IsGcd, ◌∣◌, w128}
+use Rattle.std.proofs.lemmas.Bool.{leb-true, leb-false}
+use Rattle.number_meaning.proofs.Integers.{same_bits}
+use Rattle.std.proofs.lemmas.Nat.Gcd.{dvd_trans}
 use Rattle.std.proofs.Math.Nat.{div-le_self, div-mul_cancel, div-one, eq-zero_of_zero-dvd}
-use Rattle.std.proofs.lemmas.List.{take_more, take_all, drop_more, drop_all, map-append}
+use Rattle.std.proofs.lemmas.List.{drop_more, drop_all}
 use Rattle.number_meaning.specs.Whole.{InRange, is_in_range}
 use Rattle.number_meaning.specs.Gcd.{gcd_of}
 use Rattle.number_meaning.proofs.Divisors.{IsGcd-gcd_of}
@@ -36,7 +38,8 @@ quotient_not_zero : (z : ℤ) (g : ℕ) → g ∣ unsigned_abs z → z ≢ pos 0
 quotient_not_zero (pos a) g d h e =
     let none : a / g ≡ 0 = cc in
     let back : a / g * g ≡ a = div-mul_cancel g d in
-    h (ap pos (sym back ∙ ap (λ n. n * g) none))
+    let zero_product : a / g * g ≡ 0 = ap (λ n. n * g) none ∙ omega arith in
+    h (ap pos (sym back ∙ zero_product))
 quotient_not_zero (negsuc a) g d h e = cc
 
 -- ---- the divisor
@@ -139,3 +142,16 @@ module _ (ps : List Summand) (g : ℤ) (e : g ≡ pos (sum_gcd ps)) where
 
   pub normal_order : (qs : List Summand) → qs ≡ each_divided g ps → (low high : ℕ) → IsSumWithin low high ps → IsSumWithin low high qs
   normal_order qs s low high h = subst (IsSumWithin low high) (sym (s ∙ ap (λ x. each_divided x ps) e)) (divided_order (sum_gcd ps) low high ps (divides ps) h)
+
+pub at_most_one : (ps : List Summand) (g : ℤ) → g ≡ pos (sum_gcd ps) → InRange g → int_le (to_z w128 (of_z w128 g)) (pos 1) ≡ true → sum_gcd ps ≤ 1
+at_most_one ps g e r h =
+    let l : leb (sum_gcd ps) 1 ≡ true = ap (λ z. int_le z (pos 1)) (sym (same_bits g r ∙ e)) ∙ h in
+    leb-true (sum_gcd ps) 1 l
+
+pub more_than_one : (ps : List Summand) (g : ℤ) → g ≡ pos (sum_gcd ps) → InRange g → int_le (to_z w128 (of_z w128 g)) (pos 1) ≡ false → 1 < sum_gcd ps
+more_than_one ps g e r h =
+    let l : leb (sum_gcd ps) 1 ≡ false = ap (λ z. int_le z (pos 1)) (sym (same_bits g r ∙ e)) ∙ h in
+    leb-false (sum_gcd ps) 1 l
+
+pub quotient_in_range_by : (z g : ℤ) {n : ℕ} → InRange z → g ≡ pos n → InRange (divided z g)
+quotient_in_range_by z g {n} h e = subst (λ x. InRange (divided z x)) (sym e) (quotient_in_range z n h)

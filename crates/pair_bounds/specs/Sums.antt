@@ -1,5 +1,5 @@
 -- Sums without zero coefficients.
-use Rattle.std.specs.Prelude.{◌≡◌, ◌≢◌, ℕ, true, List, [], ◌∷◌, pos}
+use Rattle.std.specs.Prelude.{◌≢◌, List, [], ◌∷◌, pos}
 use Rattle.smt_meaning.specs.declared.clauses.Summand.{Summand}
 
 -- no coefficient is 0

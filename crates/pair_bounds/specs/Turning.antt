@@ -1,5 +1,5 @@
 -- Sums turned so that the first coefficient is positive, and what a bound says of the turned sum.
-use Rattle.std.specs.Prelude.{Bool, true, false, List, [], ◌∷◌, ℤ, pos, negsuc, neg_ℤ, int_lt, int_le, if◌then◌else◌}
+use Rattle.std.specs.Prelude.{Bool, false, List, [], ◌∷◌, ℤ, pos, negsuc, neg_ℤ, int_lt, int_le, if◌then◌else◌}
 use Rattle.smt_meaning.specs.declared.clauses.Summand.{Summand}
 use Rattle.smt_meaning.specs.Linear.{each_times}
 use Rattle.pair_bounds.specs.declared.turning.Limit.{Limit}

@@ -2,7 +2,7 @@
 ghost use Rattle.std.specs.Prelude.{◌≡◌, ℕ, true, pos, ◌<ℤ◌};
 ghost use Rattle.number_meaning.specs.Whole.{InRange};
 ghost use Rattle.smt_meaning.specs.declared.clauses.Atom.TheVariants.{AtMost};
-ghost use Rattle.smt_meaning.specs.Linear.{sum_fits};
+ghost use Rattle.smt_meaning.specs.Linear.{summand as summand_of, sum_fits};
 ghost use Rattle.smt_meaning.specs.Atoms.{sum_gcd, divided, each_divided, normal_bound};
 ghost use Rattle.linear_forms.specs.Sums.{IsSumWithin};
 ghost use Rattle.pair_bounds.specs.Sums.{HaveNoZero};
@@ -22,6 +22,7 @@ fn quotient(number: i128, divisor: i128) -> i128
 fn divisor_of(sum: &[Summand]) -> i128
     requires { sum_fits sum.now ≡ true }
     ensures value { result ≡ pos (sum_gcd sum.now) }
+    ensures in_range { InRange result }
 {
     let mut divisor = 0;
     let mut i = sum.len();
@@ -32,13 +33,24 @@ fn divisor_of(sum: &[Summand]) -> i128
     divisor
 }
 
+/// A summand with its coefficient divided.
+fn divided_summand(summand: Summand, divisor: i128) -> Summand
+    requires { pos 0 <ℤ divisor }
+    ensures { result ≡ summand_of summand.term (divided summand.coefficient divisor) }
+{
+    Summand {
+        coefficient: quotient(summand.coefficient, divisor),
+        term: summand.term,
+    }
+}
+
 /// Divides each coefficient, rounding down.
 fn divide(sum: &mut [Summand], divisor: i128)
     requires { pos 0 <ℤ divisor }
     ensures { sum.new ≡ each_divided divisor sum.old }
 {
     for summand in sum.iter_mut() {
-        summand.coefficient = quotient(summand.coefficient, divisor);
+        *summand = divided_summand(*summand, divisor);
     }
 }
 

@@ -1,10 +1,11 @@
 //! Bounds of sums that are turned so that the first coefficient is positive.
-ghost use Rattle.std.specs.Prelude.{◌≡◌, true, List};
+ghost use Rattle.std.specs.Prelude.{◌≡◌, ℕ, true, List, negsuc, ◌*ℤ◌};
 ghost use Rattle.number_meaning.specs.Whole.{InRange};
 ghost use Rattle.smt_meaning.specs.declared.clauses.Atom.TheVariants.{AtMost as BoundAtom};
 ghost use Rattle.smt_meaning.specs.Term.{Tree, Interpretation};
 ghost use Rattle.smt_meaning.specs.Clause.{atom_true, sum_value};
-ghost use Rattle.smt_meaning.specs.Linear.{sum_fits};
+ghost use Rattle.smt_meaning.specs.Linear.{summand as summand_of, sum_fits};
+ghost use Rattle.linear_forms.specs.Sums.{IsSumWithin};
 ghost use Rattle.pair_bounds.specs.Turning.{is_turned, negation_of, turned, limit_of, is_within};
 
 use smt_meaning::Summand;
@@ -26,13 +27,24 @@ fn first_is_negative(sum: &[Summand]) -> bool
     }
 }
 
+/// A summand with its coefficient negated.
+fn negated(summand: Summand) -> Summand
+    requires { InRange summand.coefficient }
+    ensures { result ≡ summand_of summand.term (negsuc 0 *ℤ summand.coefficient) }
+{
+    Summand {
+        coefficient: -summand.coefficient,
+        term: summand.term,
+    }
+}
+
 /// Negates each coefficient.
 fn negate(sum: &mut [Summand])
     requires { sum_fits sum.old ≡ true }
     ensures { sum.new ≡ negation_of sum.old }
 {
     for summand in sum.iter_mut() {
-        summand.coefficient = -summand.coefficient;
+        *summand = negated(*summand);
     }
 }
 
@@ -44,6 +56,7 @@ pub fn turn(sum: &mut [Summand], threshold: i128) -> Limit
     ensures sum { sum.new ≡ turned sum.old }
     ensures limit { result ≡ limit_of sum.old threshold }
     ensures fits { sum_fits sum.new ≡ true }
+    ensures order { (low high : ℕ) → IsSumWithin low high sum.old → IsSumWithin low high sum.new }
     ensures says { (ts : List Tree) (I : Interpretation) → is_within result (sum_value ts I sum.new) ≡ atom_true ts I (BoundAtom sum.old threshold) }
 {
     if first_is_negative(sum) {
