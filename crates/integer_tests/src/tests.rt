@@ -1,3 +1,5 @@
 mod bounds;
 mod forms;
+mod pairs;
 mod sums;
+mod thresholds;

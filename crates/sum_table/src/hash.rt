@@ -11,7 +11,8 @@ fn word_of(negative: bool) -> u64
     if negative { 1 } else { 0 }
 }
 
-fn with_number(state: u64, number: i128) -> u64
+/// The state of a hash after one more number.
+pub fn mix_number(state: u64, number: i128) -> u64
     ensures { result ≡ number_state state number }
 {
     let size = number.unsigned_abs();
@@ -23,7 +24,7 @@ fn with_number(state: u64, number: i128) -> u64
 fn with_summand(state: u64, summand: Summand) -> u64
     ensures { result ≡ summand_state state summand }
 {
-    mix(with_number(state, summand.coefficient), summand.term as u64)
+    mix(mix_number(state, summand.coefficient), summand.term as u64)
 }
 
 fn with_summands(start: u64, sum: &[Summand]) -> u64

@@ -4,4 +4,5 @@
 mod hash;
 mod table;
 
+pub use hash::mix_number;
 pub use table::SumTable;

@@ -5,7 +5,7 @@ use std::test::Fail;
 use term_store::{InternError, TermStore};
 
 /// The place of a term whose arguments are known.
-fn intern(
+pub(super) fn intern(
     rt: &impl Abort,
     store: &mut TermStore,
     head: Head,
@@ -16,7 +16,7 @@ fn intern(
     store.intern(head, arguments)
 }
 
-fn theory(
+pub(super) fn theory(
     rt: &impl Abort,
     store: &mut TermStore,
     operator: Operator,

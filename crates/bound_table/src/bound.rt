@@ -1,0 +1,26 @@
+ghost use Rattle.std.specs.Prelude.{◌≡◌, ◌↔◌, IsTrue};
+ghost use Rattle.bound_table.specs.Hash.{bound_hash};
+
+use sum_table::mix_number;
+use term_store::mix;
+
+/// That a sum, given by its number, is at most a threshold.
+#[derive(Clone, Copy, PartialEq, Eq, Debug, Drop)]
+pub struct SumBound {
+    pub sum: u32,
+    pub threshold: i128,
+}
+
+pub(crate) fn is_same(a: SumBound, b: SumBound) -> bool
+    ensures { IsTrue result ↔ (a ≡ b) }
+{
+    a == b
+}
+
+/// The hash of a bound. Equal bounds have equal hashes.
+#[tactic(auto, unfolding(crate::specs::Hash::bound_hash))]
+pub(crate) fn hash_of(bound: SumBound) -> u32
+    ensures { result ≡ bound_hash bound }
+{
+    (mix_number(mix(1, bound.sum as u64), bound.threshold) >> 32) as u32
+}
