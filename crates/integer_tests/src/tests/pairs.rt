@@ -1,12 +1,12 @@
 //! Bounds that compare two terms, with outcomes computed by hand.
-ghost use Rattle.std.specs.Prelude.{◌≡◌, true};
-ghost use Rattle.smt_meaning.specs.Linear.{sum_fits};
+ghost use Rattle.std.specs.Prelude.{IfOk};
 ghost use Rattle.linear_forms.specs.Differences.{KnowsForms};
 
 use super::forms::{intern, theory};
 use linear_forms::{DifferenceError, LinearForms};
 use pair_bounds::{Limit, at_most, below, turn};
 use smt_meaning::{Head, Operator, Summand, TermId};
+use std::alloc::{AllocError, Global};
 use std::process::Abort;
 use std::test::Fail;
 use term_store::{InternError, TermStore};
@@ -41,6 +41,15 @@ fn bound(
             below(forms, left, right, sum)
         }
     }
+}
+
+/// The forms of the terms of a store.
+fn forms_of(alloc: Global, store: &TermStore) -> Result<LinearForms, AllocError>
+    ensures { IfOk result (λ f. KnowsForms f) }
+{
+    let mut forms = LinearForms::new(alloc);
+    forms.cover(store)?;
+    Ok(forms)
 }
 
 fn is_sum(sum: &[Summand], expected: &[(i128, TermId)]) -> bool {
@@ -112,8 +121,7 @@ fn bounds_are_divided_and_rounded_down(rt: HostRuntime) -> Result<(), Fail> {
     let fourfold = scaled(&rt, &mut store, 4, y)?;
     let threefold = shifted(&rt, &mut store, 3, x, 1)?;
     let sixfold = scaled(&rt, &mut store, 6, y)?;
-    let mut forms = LinearForms::new(rt.alloc());
-    forms.cover(&store)?;
+    let mut forms = forms_of(rt.alloc(), &store)?;
     let mut sum = Vec::new(rt.alloc());
     let halves = [(1, x), (-2, y)];
     let turned = [(-1, x), (2, y)];
@@ -190,8 +198,7 @@ fn bounds_without_a_divisor_stay(rt: HostRuntime) -> Result<(), Fail> {
     let seven = intern(&rt, &mut store, Head::Numeral(7), &[])?;
     let fourfold = scaled(&rt, &mut store, 4, x)?;
     let threefold = scaled(&rt, &mut store, 3, y)?;
-    let mut forms = LinearForms::new(rt.alloc());
-    forms.cover(&store)?;
+    let mut forms = forms_of(rt.alloc(), &store)?;
     let mut sum = Vec::new(rt.alloc());
     assert!(rt; is_bound(&rt, &mut forms, AtMost(two, seven), &mut sum, &[], 5));
     assert!(rt;
@@ -236,8 +243,7 @@ fn pairs_past_the_range_are_refused(rt: HostRuntime) -> Result<(), Fail> {
     let large = scaled(&rt, &mut store, 1 << 126, x)?;
     let negated = theory(&rt, &mut store, Operator::Subtract, &[large])?;
     let outside = theory(&rt, &mut store, Operator::Add, &[large, large])?;
-    let mut forms = LinearForms::new(rt.alloc());
-    forms.cover(&store)?;
+    let mut forms = forms_of(rt.alloc(), &store)?;
     let mut sum = Vec::new(rt.alloc());
     let pair = DifferenceError::Pair;
     assert!(rt;
@@ -265,36 +271,34 @@ fn pairs_past_the_range_are_refused(rt: HostRuntime) -> Result<(), Fail> {
     Ok(())
 }
 
-fn limit(rt: &impl Abort, sum: &mut [Summand], threshold: i128) -> Limit {
-    let in_range = threshold != i128::MIN && has_range(sum);
+/// Whether a sum of two terms with these coefficients is turned to the expected ones, with this limit.
+fn is_turned(
+    rt: &impl Abort,
+    coefficients: (i128, i128),
+    threshold: i128,
+    expected: (i128, i128),
+    limit: Limit,
+) -> bool {
+    let (first, second) = coefficients;
+    let in_range = first != i128::MIN && second != i128::MIN && threshold != i128::MIN;
     assert!(rt; in_range);
-    turn(sum, threshold)
-}
-
-/// Whether all coefficients are in the range.
-fn has_range(sum: &[Summand]) -> bool
-    ensures { result ≡ true → sum_fits sum.now ≡ true }
-{
-    sum.iter().all(|summand| summand.coefficient != i128::MIN)
+    let mut sum = [
+        Summand {
+            coefficient: first,
+            term: 3,
+        },
+        Summand {
+            coefficient: second,
+            term: 5,
+        },
+    ];
+    let found = turn(&mut sum, threshold);
+    found == limit && is_sum(&sum, &[(expected.0, 3), (expected.1, 5)])
 }
 
 #[test]
 fn sums_are_turned(rt: HostRuntime) -> Result<(), Fail> {
-    let mut sum = [
-        Summand {
-            coefficient: -1,
-            term: 3,
-        },
-        Summand {
-            coefficient: 2,
-            term: 5,
-        },
-    ];
-    let first = limit(&rt, &mut sum, 4);
-    assert_eq!(rt; first, Limit::AtLeast(-4));
-    assert!(rt; is_sum(&sum, &[(1, 3), (-2, 5)]));
-    let second = limit(&rt, &mut sum, 4);
-    assert_eq!(rt; second, Limit::AtMost(4));
-    assert!(rt; is_sum(&sum, &[(1, 3), (-2, 5)]));
+    assert!(rt; is_turned(&rt, (-1, 2), 4, (1, -2), Limit::AtLeast(-4)));
+    assert!(rt; is_turned(&rt, (1, -2), 4, (1, -2), Limit::AtMost(4)));
     Ok(())
 }
