@@ -11,81 +11,24 @@ use std::process::Abort;
 use std::test::Fail;
 use term_store::{InternError, TermStore};
 
-/// A comparison of two terms.
+/// A number times x, a number times y, and a number.
+type Affine = (i128, i128, i128);
+
+/// That the left side is at most the right one, or below it, and the bound: the coefficients of x and y, and the threshold; or none, where the pair leaves the range.
 #[derive(Clone, Copy)]
-enum Comparison {
-    AtMost(TermId, TermId),
-    Below(TermId, TermId),
+struct Row {
+    left: Affine,
+    is_strict: bool,
+    right: Affine,
+    bound: Option<Affine>,
 }
 
-use Comparison::{AtMost, Below};
-
-/// The bound of a comparison.
-fn bound(
-    rt: &impl Abort,
-    forms: &mut LinearForms,
-    comparison: Comparison,
-    sum: &mut Vec<Summand>,
-) -> Result<i128, DifferenceError>
-    requires { KnowsForms forms.old }
-    ensures { KnowsForms forms.new }
-{
-    let count = forms.len();
-    match comparison {
-        AtMost(left, right) => {
-            assert!(rt; (left as usize) < count && (right as usize) < count);
-            at_most(forms, left, right, sum)
-        }
-        Below(left, right) => {
-            assert!(rt; (left as usize) < count && (right as usize) < count);
-            below(forms, left, right, sum)
-        }
-    }
-}
-
-/// The forms of the terms of a store.
-fn forms_of(alloc: Global, store: &TermStore) -> Result<LinearForms, AllocError>
-    ensures { IfOk result (λ f. KnowsForms f) }
-{
-    let mut forms = LinearForms::new(alloc);
-    forms.cover(store)?;
-    Ok(forms)
-}
-
-fn is_sum(sum: &[Summand], expected: &[(i128, TermId)]) -> bool {
-    sum.len() == expected.len()
-        && sum
-            .iter()
-            .zip(expected)
-            .all(|(p, q)| p.coefficient == q.0 && p.term == q.1)
-}
-
-fn is_bound(
-    rt: &impl Abort,
-    forms: &mut LinearForms,
-    comparison: Comparison,
-    sum: &mut Vec<Summand>,
-    expected: &[(i128, TermId)],
-    threshold: i128,
-) -> bool
-    requires { KnowsForms forms.old }
-    ensures { KnowsForms forms.new }
-{
-    let found = bound(rt, forms, comparison, sum);
-    found == Ok(threshold) && is_sum(sum, expected)
-}
-
-fn is_refused(
-    rt: &impl Abort,
-    forms: &mut LinearForms,
-    comparison: Comparison,
-    sum: &mut Vec<Summand>,
-    error: DifferenceError,
-) -> bool
-    requires { KnowsForms forms.old }
-    ensures { KnowsForms forms.new }
-{
-    bound(rt, forms, comparison, sum) == Err(error)
+/// A store with the terms x and y at the places 0 and 1.
+fn two_terms(rt: &impl Abort, alloc: Global) -> Result<TermStore, InternError> {
+    let mut store = TermStore::new(alloc, 99);
+    let _x = intern(rt, &mut store, Head::Symbol(0), &[])?;
+    let _y = intern(rt, &mut store, Head::Symbol(1), &[])?;
+    Ok(store)
 }
 
 /// A number times a term.
@@ -99,176 +42,139 @@ fn scaled(
     theory(rt, store, Operator::Multiply, &[number, term])
 }
 
-/// The sum of a number times a term and a number.
-fn shifted(
-    rt: &impl Abort,
-    store: &mut TermStore,
-    factor: i128,
-    term: TermId,
-    constant: i128,
-) -> Result<TermId, InternError> {
-    let product = scaled(rt, store, factor, term)?;
+fn affine(rt: &impl Abort, store: &mut TermStore, side: Affine) -> Result<TermId, InternError> {
+    let (x, y, constant) = side;
+    let first = scaled(rt, store, x, 0)?;
+    let second = scaled(rt, store, y, 1)?;
     let number = intern(rt, store, Head::Numeral(constant), &[])?;
-    theory(rt, store, Operator::Add, &[product, number])
+    theory(rt, store, Operator::Add, &[first, second, number])
+}
+
+/// The forms of the terms of a store.
+fn forms_of(alloc: Global, store: &TermStore) -> Result<LinearForms, AllocError>
+    ensures { IfOk result (λ f. KnowsForms f) }
+{
+    let mut forms = LinearForms::new(alloc);
+    forms.cover(store)?;
+    Ok(forms)
+}
+
+/// The bound of a comparison.
+fn bound(
+    rt: &impl Abort,
+    alloc: Global,
+    store: &TermStore,
+    sides: (TermId, TermId),
+    is_strict: bool,
+    sum: &mut Vec<Summand>,
+) -> Result<i128, DifferenceError> {
+    let Ok(mut forms) = forms_of(alloc, store) else {
+        return Err(DifferenceError::Memory);
+    };
+    let (left, right) = sides;
+    let count = forms.len();
+    assert!(rt; (left as usize) < count && (right as usize) < count);
+    if is_strict {
+        return below(&mut forms, left, right, sum);
+    }
+    at_most(&mut forms, left, right, sum)
+}
+
+/// The coefficient of a term.
+fn coefficient(sum: &[Summand], term: TermId) -> i128 {
+    for summand in sum {
+        if summand.term == term {
+            return summand.coefficient;
+        }
+    }
+    0
+}
+
+/// Whether a bound comes out as expected.
+fn comes_out(
+    expected: Option<Affine>,
+    found: Result<i128, DifferenceError>,
+    sum: &[Summand],
+) -> bool {
+    match expected {
+        Some((x, y, threshold)) => {
+            found == Ok(threshold)
+                && coefficient(sum, 0) == x
+                && coefficient(sum, 1) == y
+                && sum.iter().all(|summand| summand.coefficient != 0)
+        }
+        None => found == Err(DifferenceError::Pair),
+    }
+}
+
+fn holds(rt: &impl Abort, alloc: Global, row: Row) -> Result<bool, InternError> {
+    let mut store = two_terms(rt, alloc)?;
+    let left = affine(rt, &mut store, row.left)?;
+    let right = affine(rt, &mut store, row.right)?;
+    let mut sum = Vec::new(alloc);
+    let found = bound(rt, alloc, &store, (left, right), row.is_strict, &mut sum);
+    Ok(comes_out(row.bound, found, &sum))
+}
+
+fn at_most_row(left: Affine, right: Affine, bound: Option<Affine>) -> Row {
+    Row {
+        left,
+        is_strict: false,
+        right,
+        bound,
+    }
+}
+
+fn below_row(left: Affine, right: Affine, bound: Option<Affine>) -> Row {
+    Row {
+        left,
+        is_strict: true,
+        right,
+        bound,
+    }
 }
 
 #[test]
 fn bounds_are_divided_and_rounded_down(rt: HostRuntime) -> Result<(), Fail> {
-    let mut store = TermStore::new(rt.alloc(), 99);
-    let x = intern(&rt, &mut store, Head::Symbol(0), &[])?;
-    let y = intern(&rt, &mut store, Head::Symbol(1), &[])?;
-    let even = shifted(&rt, &mut store, 2, x, 7)?;
-    let fourfold = scaled(&rt, &mut store, 4, y)?;
-    let threefold = shifted(&rt, &mut store, 3, x, 1)?;
-    let sixfold = scaled(&rt, &mut store, 6, y)?;
-    let mut forms = forms_of(rt.alloc(), &store)?;
-    let mut sum = Vec::new(rt.alloc());
-    let halves = [(1, x), (-2, y)];
-    let turned = [(-1, x), (2, y)];
-    assert!(rt;
-        is_bound(
-            &rt,
-            &mut forms,
-            AtMost(even, fourfold),
-            &mut sum,
-            &halves,
-            -4
-        )
-    );
-    assert!(rt;
-        is_bound(
-            &rt,
-            &mut forms,
-            AtMost(fourfold, even),
-            &mut sum,
-            &turned,
-            3
-        )
-    );
-    assert!(rt;
-        is_bound(
-            &rt,
-            &mut forms,
-            Below(even, fourfold),
-            &mut sum,
-            &halves,
-            -4
-        )
-    );
-    assert!(rt;
-        is_bound(
-            &rt,
-            &mut forms,
-            AtMost(threefold, sixfold),
-            &mut sum,
-            &halves,
-            -1
-        )
-    );
-    assert!(rt;
-        is_bound(
-            &rt,
-            &mut forms,
-            Below(sixfold, threefold),
-            &mut sum,
-            &turned,
-            0
-        )
-    );
-    assert!(rt;
-        is_bound(
-            &rt,
-            &mut forms,
-            AtMost(threefold, fourfold),
-            &mut sum,
-            &[(3, x), (-4, y)],
-            -1
-        )
-    );
-    Ok(())
-}
-
-/// A sum without terms stays as it is, and the last coefficient counts.
-#[test]
-fn bounds_without_a_divisor_stay(rt: HostRuntime) -> Result<(), Fail> {
-    let mut store = TermStore::new(rt.alloc(), 99);
-    let x = intern(&rt, &mut store, Head::Symbol(0), &[])?;
-    let y = intern(&rt, &mut store, Head::Symbol(1), &[])?;
-    let two = intern(&rt, &mut store, Head::Numeral(2), &[])?;
-    let seven = intern(&rt, &mut store, Head::Numeral(7), &[])?;
-    let fourfold = scaled(&rt, &mut store, 4, x)?;
-    let threefold = scaled(&rt, &mut store, 3, y)?;
-    let mut forms = forms_of(rt.alloc(), &store)?;
-    let mut sum = Vec::new(rt.alloc());
-    assert!(rt; is_bound(&rt, &mut forms, AtMost(two, seven), &mut sum, &[], 5));
-    assert!(rt;
-        is_bound(
-            &rt,
-            &mut forms,
-            AtMost(fourfold, fourfold),
-            &mut sum,
-            &[],
-            0
-        )
-    );
-    assert!(rt;
-        is_bound(
-            &rt,
-            &mut forms,
-            Below(fourfold, fourfold),
-            &mut sum,
-            &[],
-            -1
-        )
-    );
-    assert!(rt;
-        is_bound(
-            &rt,
-            &mut forms,
-            AtMost(fourfold, threefold),
-            &mut sum,
-            &[(4, x), (-3, y)],
-            0
-        )
-    );
+    let rows = [
+        at_most_row((2, 0, 7), (0, 4, 0), Some((1, -2, -4))),
+        at_most_row((0, 4, 0), (2, 0, 7), Some((-1, 2, 3))),
+        below_row((2, 0, 7), (0, 4, 0), Some((1, -2, -4))),
+        at_most_row((3, 0, 1), (0, 6, 0), Some((1, -2, -1))),
+        below_row((0, 6, 0), (3, 0, 1), Some((-1, 2, 0))),
+        at_most_row((4, 0, 1), (0, 3, 0), Some((4, -3, -1))),
+        at_most_row((0, 0, 2), (0, 0, 7), Some((0, 0, 5))),
+        at_most_row((4, 0, 1), (4, 0, 1), Some((0, 0, 0))),
+        below_row((4, 0, 1), (4, 0, 1), Some((0, 0, -1))),
+    ];
+    for row in rows {
+        assert!(rt; holds(&rt, rt.alloc(), row)?);
+    }
     Ok(())
 }
 
 #[test]
 fn pairs_past_the_range_are_refused(rt: HostRuntime) -> Result<(), Fail> {
-    let mut store = TermStore::new(rt.alloc(), 99);
-    let x = intern(&rt, &mut store, Head::Symbol(0), &[])?;
-    let zero = intern(&rt, &mut store, Head::Numeral(0), &[])?;
-    let greatest = intern(&rt, &mut store, Head::Numeral(i128::MAX), &[])?;
-    let large = scaled(&rt, &mut store, 1 << 126, x)?;
-    let negated = theory(&rt, &mut store, Operator::Subtract, &[large])?;
-    let outside = theory(&rt, &mut store, Operator::Add, &[large, large])?;
-    let mut forms = forms_of(rt.alloc(), &store)?;
-    let mut sum = Vec::new(rt.alloc());
-    let pair = DifferenceError::Pair;
-    assert!(rt;
-        is_bound(
-            &rt,
-            &mut forms,
-            AtMost(greatest, zero),
-            &mut sum,
-            &[],
-            -i128::MAX
-        )
-    );
-    assert!(rt; is_refused(&rt, &mut forms, Below(greatest, zero), &mut sum, pair));
-    assert!(rt; is_bound(&rt, &mut forms, AtMost(large, zero), &mut sum, &[(1, x)], 0));
-    assert!(rt; is_refused(&rt, &mut forms, AtMost(large, negated), &mut sum, pair));
-    assert!(rt;
-        is_refused(
-            &rt,
-            &mut forms,
-            AtMost(x, outside),
-            &mut sum,
-            DifferenceError::Term(outside)
-        )
-    );
+    let greatest = (0, 0, i128::MAX);
+    let large = (1 << 126, 0, 0);
+    let rows = [
+        at_most_row(greatest, (0, 0, 0), Some((0, 0, -i128::MAX))),
+        below_row(greatest, (0, 0, 0), None),
+        at_most_row(large, (0, 0, 0), Some((1, 0, 0))),
+        at_most_row(large, (-(1 << 126), 0, 0), None),
+    ];
+    for row in rows {
+        assert!(rt; holds(&rt, rt.alloc(), row)?);
+    }
     Ok(())
+}
+
+fn is_sum(sum: &[Summand], expected: &[(i128, TermId)]) -> bool {
+    sum.len() == expected.len()
+        && sum
+            .iter()
+            .zip(expected)
+            .all(|(p, q)| p.coefficient == q.0 && p.term == q.1)
 }
 
 /// Whether a sum of two terms with these coefficients is turned to the expected ones, with this limit.
