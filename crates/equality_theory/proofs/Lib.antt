@@ -1,4 +1,6 @@
 pub mod Going
+pub mod Pressing
 pub mod Saying
+pub mod Scanning
 pub mod Setting
 pub mod Telling

@@ -17,6 +17,7 @@ use Rattle.smt_meaning.specs.Term.{Tree}
 use Rattle.stack_atoms.specs.Sorts.{AreSorts}
 use Rattle.literal_steps.specs.Reasoned.{IsReasoned}
 use Rattle.equality_theory.specs.Seen.{IsSetting}
+use Rattle.equality_theory.specs.Places.{ArePlaces}
 
 -- the reasons of the first so many steps are among the first so many literals
 pub record IsMark (log reasons : List Signed) (count start : ℕ) : Type 0 where
@@ -38,6 +39,12 @@ pub record IsTheory (s : Stack) (marks : List Bool) (sorts : List Sort) (table :
   pub setting : IsSetting s marks table
   pub sorted : AreSorts (signature_of s.frames) s.trees (length s.trees) sorts
   pub told : IsTold s table c log starts
+
+-- and where each atom was told last
+pub record IsKept (s : Stack) (marks : List Bool) (sorts : List Sort) (table : List Atom) (c : Congruence) (log : List Signed) (starts places : List ℕ) : Type 0 where
+  pub theory : IsTheory s marks sorts table c log starts
+  pub as_many : length places ≡ length table
+  pub told_at : ArePlaces log places
 
 -- the terms are read, and no step is recorded
 pub record IsReady (ts : List Tree) (c : Congruence) : Type 0 where

@@ -2,8 +2,10 @@
 #![tactic(auto)]
 
 mod choices;
+mod implied;
 mod last;
 mod said;
+mod scan;
 mod theory;
 mod told;
 

@@ -26,6 +26,14 @@ pub(crate) struct Guide {
     pub(crate) choices: Choices,
 }
 
+/// How much of what a literal says is asked for.
+#[derive(Clone, Copy, Drop)]
+pub(crate) enum Extent {
+    Whole,
+    /// Without what it says of choices.
+    Alone,
+}
+
 /// Adds that a term has a truth value, where the closure looks at it.
 fn add_own(
     steps: &mut Vec<Step>,
@@ -112,6 +120,7 @@ fn add_truth(
     guide: &Guide,
     term: TermId,
     value: bool,
+    extent: Extent,
 ) -> Result<(), AllocError>
     requires within { term < length store.now.trees }
     requires few { length store.now.trees + 2 < 2 ^ 32 }
@@ -119,8 +128,10 @@ fn add_truth(
 {
     add_own(steps, &guide.watched, term, value)?;
     add_arguments(steps, store, &guide.sorts, term, value)?;
-    add_choices(steps, store, &guide.choices, term, value)?;
-    Ok(())
+    match extent {
+        Extent::Alone => Ok(()),
+        Extent::Whole => add_choices(steps, store, &guide.choices, term, value),
+    }
 }
 
 /// The steps of a literal. An `Err` is for want of memory.
@@ -131,6 +142,7 @@ pub(crate) fn say(
     table: &AtomTable,
     guide: &Guide,
     literal: Literal,
+    extent: Extent,
 ) -> Result<(), AllocError>
     requires setting { IsSetting stack.now marks.now table.now }
     requires numbered { literal.atom < length table.now }
@@ -140,7 +152,14 @@ pub(crate) fn say(
     steps.clear();
     match table.atom(literal.atom()) {
         CompactAtom::Truth(term) => {
-            add_truth(steps, stack.terms(), guide, term, literal.is_positive())?;
+            add_truth(
+                steps,
+                stack.terms(),
+                guide,
+                term,
+                literal.is_positive(),
+                extent,
+            )?;
             Ok(())
         }
         CompactAtom::Same(left, right) => {

@@ -7,8 +7,10 @@ ghost use Rattle.equality_theory.specs.Seen.{state_of};
 ghost use Rattle.equality_theory.specs.Told.{IsReady};
 
 use crate::choices::{Choices, watched};
+use crate::implied::infer;
 use crate::last::judge;
 use crate::said::Guide;
+use crate::scan::Scan;
 use crate::told::{Told, tell, undo_to};
 use atom_table::AtomTable;
 use congruence::Congruence;
@@ -29,13 +31,14 @@ pub struct EqualityTheory<'s> {
     table: &'s AtomTable,
     guide: Guide,
     told: Told,
+    scan: Scan,
 }
 
 impl<'s> Model for EqualityTheory<'s> {
     ghost use Rattle.search_port.specs.State.{TheoryState};
     ghost use Rattle.equality_theory.specs.StateCode.{state_code};
     ghost use Rattle.equality_theory.specs.Seen.{state_of};
-    ghost use Rattle.equality_theory.specs.Told.{IsTheory};
+    ghost use Rattle.equality_theory.specs.Told.{IsKept};
 
     ghost Value = { TheoryState };
 
@@ -43,7 +46,7 @@ impl<'s> Model for EqualityTheory<'s> {
 
     ghost view = { λ s. state_of s.stack.now s.table.now s.told.log.items };
 
-    ghost invariant = { λ s. IsTheory s.stack.now s.marks.now s.guide.sorts.items s.table.now s.told.congruence s.told.log.items s.told.starts.items };
+    ghost invariant = { λ s. IsKept s.stack.now s.marks.now s.guide.sorts.items s.table.now s.told.congruence s.told.log.items s.told.starts.items s.scan.places.items };
 }
 
 /// A closure that has read the terms of a store. An `Err` is for want of memory.
@@ -89,6 +92,7 @@ impl<'s> EqualityTheory<'s> {
         let congruence = closure_of(alloc, store)?;
         let choices = Choices::new(alloc, store, &sorts)?;
         let watched = watched(alloc, store)?;
+        let places = vec![in alloc; 0; table.len()]?;
         Ok(EqualityTheory {
             alloc,
             stack,
@@ -100,6 +104,7 @@ impl<'s> EqualityTheory<'s> {
                 choices,
             },
             told: start(alloc, congruence),
+            scan: Scan::new(places, Vec::new(alloc)),
         })
     }
 }
@@ -122,6 +127,8 @@ impl<'s> Theory for EqualityTheory<'s> {
     }
 
     fn assert(&mut self, literal: Literal) -> Asserted {
+        let place = self.told.log.len();
+        self.scan.note(literal, place);
         tell(
             self.alloc,
             &mut self.told,
@@ -135,8 +142,15 @@ impl<'s> Theory for EqualityTheory<'s> {
 
     fn propagate(&mut self, budget: &mut Budget) -> Inferred {
         let _room = budget.room();
-        let _ = self.table;
-        Inferred::Quiet
+        infer(
+            self.alloc,
+            &self.told,
+            &mut self.scan,
+            self.stack,
+            self.marks,
+            self.table,
+            &self.guide,
+        )
     }
 
     fn final_check(&mut self, budget: &mut Budget) -> Checked {
@@ -158,5 +172,6 @@ impl<'s> Theory for EqualityTheory<'s> {
 
     fn undo_to(&mut self, count: usize) {
         undo_to(&mut self.told, self.stack, self.table, count);
+        self.scan.restart();
     }
 }

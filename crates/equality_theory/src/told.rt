@@ -7,7 +7,7 @@ ghost use Rattle.equality_theory.specs.Seen.{state_of, IsSetting};
 ghost use Rattle.congruence.specs.Reasons.{NoneTwice};
 ghost use Rattle.equality_theory.specs.Told.{IsTold, HasNoneTwice};
 
-use crate::said::{Guide, say};
+use crate::said::{Extent, Guide, say};
 use atom_table::AtomTable;
 use congruence::Congruence;
 use equal_points::Step;
@@ -61,7 +61,15 @@ fn record(
     ensures told { IsTold stack.now table.now told.new.congruence told.new.log.items told.new.starts.items }
     ensures log { told.new.log.items ≡ told.old.log.items }
 {
-    say(&mut told.steps, stack, marks, table, guide, literal)?;
+    say(
+        &mut told.steps,
+        stack,
+        marks,
+        table,
+        guide,
+        literal,
+        Extent::Whole,
+    )?;
     record_all(&mut told.congruence, &told.steps, literal)
 }
 

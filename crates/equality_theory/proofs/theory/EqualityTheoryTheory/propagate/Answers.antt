@@ -1,6 +1,11 @@
-use Rattle.std.proofs.Common.{refl, arith}
+use Rattle.std.proofs.Common.{sym, arith}
+use Rattle.equality_theory.specs.Seen.{state_of}
 use Rattle.equality_theory.proofs.Going.{goes_same}
 use Rattle.equality_theory.proofs.theory.EqualityTheoryTheory.propagate.Goals as goal
 
 pub returns-clause-goes : goal.returns-clause-goes
-returns-clause-goes c = goes_same c.args.self.now c.args.self.now c.args.budget.now refl (let r = c.room-room.ensures in omega arith)
+returns-clause-goes c =
+    goes_same c.args.self.now (state_of c.self.inside.stack.now c.self.inside.table.now c.self.inside.told.log.items) c.args.budget.now (sym c.self.view_is) (let r = c.room-room.ensures in omega arith)
+
+pub returns-clause-found : goal.returns-clause-found
+returns-clause-found c = c.infer.ensures.found c.args.budget.now c.args.budget.now
