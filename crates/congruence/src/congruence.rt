@@ -3,9 +3,10 @@ ghost use Rattle.std.specs.Prelude.{◌≡◌, ◌+◌, ◌<◌, ◌≤◌, ◌^
 ghost use Rattle.congruence.specs.Reading.{truth_number};
 
 use crate::differing::{Differing, first_differing};
+use crate::explanation::Explanation;
 use crate::reading::{arguments_of, shape_of};
-use crate::reasons::{add_negations, each_once, reasons_of};
-use equal_points::{Shape, Step, equal_points_have_one_value};
+use crate::reasons::{add_negations, each_once, keep_each_once, put_reasons};
+use equal_points::{Explainer, Shape, Step, equal_points_have_one_value};
 use literals::Literal;
 use point_closure::{Closure, Watch, Watched};
 use smt_meaning::TermId;
@@ -233,55 +234,70 @@ impl Congruence {
         self.closure.same(left + 2, right + 2)
     }
 
-    /// The reasons of merges that give the equality of two points, each once.
+    /// Finds the reasons of merges that give the equality of two points, each once. An `Err` is for want of memory.
     pub fn explain_points(
         &self,
-        alloc: Global,
+        explanation: &mut Explanation,
         left: u32,
         right: u32,
-    ) -> Result<Vec<Literal>, AllocError>
+    ) -> Result<(), AllocError>
         requires recorded { IsRecorded self.now }
         requires left { left < length self.now.closure.graph }
         requires right { right < length self.now.closure.graph }
         requires equal { Equal self.now.closure.graph (merged self.now.closure.steps.items) left right }
-        ensures { IfOk result (λ v. AreReasonsOf self.now.closure.graph self.now.closure.steps.items self.now.reasons.items left right v.items) }
+        ensures { OnOk result (AreReasonsOf self.now.closure.graph self.now.closure.steps.items self.now.reasons.items left right explanation.new.reasons.items) }
     {
-        let steps = self.closure.explain(alloc, left, right)?;
-        let reasons = reasons_of(alloc, &self.reasons, &steps)?;
-        Ok(each_once(reasons))
+        self.closure
+            .explain(&mut explanation.explainer, left, right)?;
+        put_reasons(
+            &mut explanation.reasons,
+            &self.reasons,
+            &explanation.explainer.steps,
+        )?;
+        keep_each_once(&mut explanation.reasons);
+        Ok(())
     }
 
-    /// The reasons of merges that give the equality of two terms, each once.
+    /// Finds the reasons of merges that give the equality of two terms, each once. An `Err` is for want of memory.
     pub fn explain(
         &self,
-        alloc: Global,
+        explanation: &mut Explanation,
         left: TermId,
         right: TermId,
-    ) -> Result<Vec<Literal>, AllocError>
+    ) -> Result<(), AllocError>
         requires recorded { IsRecorded self.now }
         requires left { left + 2 < length self.now.closure.graph }
         requires right { right + 2 < length self.now.closure.graph }
         requires equal { AreEqualTerms self.now left right }
-        ensures { IfOk result (λ v. AreReasonsOf self.now.closure.graph self.now.closure.steps.items self.now.reasons.items (left + 2) (right + 2) v.items) }
+        ensures { OnOk result (AreReasonsOf self.now.closure.graph self.now.closure.steps.items self.now.reasons.items (left + 2) (right + 2) explanation.new.reasons.items) }
     {
-        self.explain_points(alloc, left + 2, right + 2)
+        self.explain_points(explanation, left + 2, right + 2)
     }
 
     /// Why the truth values can't be equal.
-    fn truth_conflict(&self, alloc: Global) -> Result<Vec<Literal>, AllocError>
+    fn truth_conflict(
+        &self,
+        alloc: Global,
+        explainer: &mut Explainer,
+    ) -> Result<Vec<Literal>, AllocError>
         requires recorded { IsRecorded self.now }
         requires equal { Equal self.now.closure.graph (merged self.now.closure.steps.items) 0 1 }
         ensures is { IfOk result (λ v. IsTruthConflict self.now.closure.graph self.now.closure.steps.items self.now.reasons.items v.items) }
         ensures once { IfOk result (λ v. NoneTwice v.items) }
     {
-        let steps = self.closure.explain(alloc, 0, 1)?;
+        self.closure.explain(explainer, 0, 1)?;
         let mut clause = Vec::new(alloc);
-        add_negations(&mut clause, &self.reasons, &steps)?;
+        add_negations(&mut clause, &self.reasons, &explainer.steps)?;
         Ok(each_once(clause))
     }
 
     /// Why the points of a step that keeps them apart can't be equal.
-    fn step_conflict(&self, alloc: Global, found: Differing) -> Result<Vec<Literal>, AllocError>
+    fn step_conflict(
+        &self,
+        alloc: Global,
+        explainer: &mut Explainer,
+        found: Differing,
+    ) -> Result<Vec<Literal>, AllocError>
         requires recorded { IsRecorded self.now }
         requires left { found.left < length self.now.closure.graph }
         requires right { found.right < length self.now.closure.graph }
@@ -291,28 +307,32 @@ impl Congruence {
         ensures is { IfOk result (λ v. IsStepConflict self.now.closure.graph self.now.closure.steps.items self.now.reasons.items v.items) }
         ensures once { IfOk result (λ v. NoneTwice v.items) }
     {
-        let steps = self.closure.explain(alloc, found.left, found.right)?;
+        self.closure.explain(explainer, found.left, found.right)?;
         let mut clause = Vec::new(alloc);
         clause.push(self.reasons[found.step as usize].negated())?;
-        add_negations(&mut clause, &self.reasons, &steps)?;
+        add_negations(&mut clause, &self.reasons, &explainer.steps)?;
         Ok(each_once(clause))
     }
 
     /// A clause that the reasons break, no literal of it twice, where the truth values or the points of a step that keeps them apart are equal.
-    pub fn conflict(&self, alloc: Global) -> Result<Option<Vec<Literal>>, AllocError>
+    pub fn conflict(
+        &self,
+        alloc: Global,
+        explanation: &mut Explanation,
+    ) -> Result<Option<Vec<Literal>>, AllocError>
         requires recorded { IsRecorded self.now }
         ensures some { IfOk result (λ r. IfSome r (λ v. IsConflict self.now v.items)) }
         ensures once { IfOk result (λ r. IfSome r (λ v. NoneTwice v.items)) }
         ensures none { IfOk result (λ r. IfNone r (IsConsistent self.now.closure.graph self.now.closure.steps.items)) }
     {
         if self.closure.same(0, 1) {
-            let clause = self.truth_conflict(alloc)?;
+            let clause = self.truth_conflict(alloc, &mut explanation.explainer)?;
             return Ok(Some(clause));
         }
         match first_differing(&self.closure.pairs, self.closure.met()) {
             None => Ok(None),
             Some(found) => {
-                let clause = self.step_conflict(alloc, found)?;
+                let clause = self.step_conflict(alloc, &mut explanation.explainer, found)?;
                 Ok(Some(clause))
             }
         }

@@ -3,8 +3,10 @@
 
 mod congruence;
 mod differing;
+mod explanation;
 mod reading;
 mod reasons;
 
 pub use congruence::Congruence;
+pub use explanation::Explanation;
 pub use reasons::each_once;

@@ -13,7 +13,7 @@ use crate::said::Guide;
 use crate::scan::Scan;
 use crate::told::{Told, tell, undo_to};
 use atom_table::AtomTable;
-use congruence::Congruence;
+use congruence::{Congruence, Explanation};
 use literals::Literal;
 use scope_stack::Stack;
 use search_port::{Asserted, Budget, Cause, Checked, Inferred, Judged, Theory};
@@ -66,6 +66,7 @@ fn start(alloc: Global, congruence: Congruence) -> Told
 {
     Told {
         congruence,
+        explanation: Explanation::new(alloc),
         log: Vec::new(alloc),
         starts: Vec::new(alloc),
         steps: Vec::new(alloc),

@@ -9,7 +9,7 @@ ghost use Rattle.equality_theory.specs.Told.{IsTold, HasNoneTwice};
 
 use crate::said::{Extent, Guide, say};
 use atom_table::AtomTable;
-use congruence::Congruence;
+use congruence::{Congruence, Explanation};
 use equal_points::Step;
 use flat_stack::flat_says_the_same;
 use literal_steps::{atoms_are_declared, clash_is_false_clause, lemma_with, record_all};
@@ -18,10 +18,11 @@ use scope_stack::Stack;
 use search_port::{Asserted, Cause, Lemma};
 use std::alloc::{AllocError, Global};
 
-/// The literals, oldest first, and how many steps were recorded before each.
+/// The literals, oldest first, and how many steps were recorded before each; the lists of the last explanation, for the next.
 #[derive(Drop)]
 pub(crate) struct Told {
     pub(crate) congruence: Congruence,
+    pub(crate) explanation: Explanation,
     pub(crate) log: Vec<Literal>,
     pub(crate) starts: Vec<usize>,
     pub(crate) steps: Vec<Step>,
@@ -99,20 +100,22 @@ fn add(
 /// A clause that what was told breaks.
 fn conflict(
     alloc: Global,
-    told: &Told,
+    told: &mut Told,
     stack: &Stack,
     marks: &[bool],
     table: &AtomTable,
 ) -> Result<Option<Lemma>, AllocError>
     requires setting { IsSetting stack.now marks.now table.now }
-    requires told { IsTold stack.now table.now told.now.congruence told.now.log.items told.now.starts.items }
-    ensures found { IfOk result (λ found. IfSome found (IsConflict (state_of stack.now table.now told.now.log.items))) }
+    requires told { IsTold stack.now table.now told.old.congruence told.old.log.items told.old.starts.items }
+    ensures told { IsTold stack.now table.now told.new.congruence told.new.log.items told.new.starts.items }
+    ensures log { told.new.log.items ≡ told.old.log.items }
+    ensures found { IfOk result (λ found. IfSome found (IsConflict (state_of stack.now table.now told.new.log.items))) }
     ensures once { IfOk result (λ found. IfSome found (λ clause. NoneTwice clause.literals)) }
 {
     atoms_are_declared();
     clash_is_false_clause();
     flat_says_the_same();
-    match told.congruence.conflict(alloc)? {
+    match told.congruence.conflict(alloc, &mut told.explanation)? {
         None => Ok(None),
         Some(clause) => Ok(Some(lemma_with(clause))),
     }

@@ -11,7 +11,7 @@ ghost use Rattle.last_check.specs.Told.{IsWholeLog, IsJudged, HasNoneTwice};
 
 use atom_table::AtomTable;
 use class_model::{classes_are_of_equal_points, tables};
-use congruence::Congruence;
+use congruence::{Congruence, Explanation};
 use literal_steps::{clash_is_false_clause, lemma_of, lemma_with};
 use literals::Literal;
 use log_replay::replay;
@@ -45,7 +45,7 @@ fn judge(
     let _different = store.len();
     classes_are_of_equal_points(terms);
     clash_is_false_clause();
-    if let Some(clause) = terms.conflict(alloc)? {
+    if let Some(clause) = terms.conflict(alloc, &mut Explanation::new(alloc))? {
         return Ok(Judged::Conflict(lemma_with(clause)));
     }
     if let Some(broken) = broken_part(alloc, stack, marks, sorts, atoms, terms)? {

@@ -13,11 +13,11 @@ ghost use Rattle.congruence.specs.Reasons.{NoneTwice, AreEachOnce};
 ghost use Rattle.literal_steps.specs.Clauses.{IsFalseClause, IsToldAtOneLevel, AddsReasons};
 
 use crate::reasons_make_equal;
-use congruence::{Congruence, each_once};
+use congruence::{Congruence, Explanation, each_once};
 use literals::Literal;
 use search_port::Lemma;
 use smt_meaning::{Seq, TermId};
-use std::alloc::{AllocError, Global};
+use std::alloc::AllocError;
 
 pub(crate) fn add_negations(
     clause: &mut Vec<Literal>,
@@ -33,7 +33,7 @@ pub(crate) fn add_negations(
 
 /// Adds the negations of the reasons for which two terms are equal.
 pub fn add_reasons(
-    alloc: Global,
+    explanation: &mut Explanation,
     clause: &mut Vec<Literal>,
     congruence: &Congruence,
     left: TermId,
@@ -46,8 +46,8 @@ pub fn add_reasons(
     ensures { OnOk result ((ds : List Declaration) (ts : List Tree) (table : List Atom) → AreRead ts congruence.now.closure.graph → AreJustified ds ts table congruence.now.closure.steps.items congruence.now.reasons.items → AddsReasons ds ts table congruence.now.reasons.items clause.old.items clause.new.items left right) }
 {
     reasons_make_equal();
-    let reasons = congruence.explain(alloc, left, right)?;
-    add_negations(clause, &reasons)?;
+    congruence.explain(explanation, left, right)?;
+    add_negations(clause, &explanation.reasons)?;
     Ok(())
 }
 

@@ -9,7 +9,7 @@ ghost use Rattle.literal_steps.specs.Implied.{IsRefuted, IsOneRefuted, Presses};
 
 use crate::clause::{add_negations, lemma_of};
 use crate::reasons_make_equal;
-use congruence::Congruence;
+use congruence::{Congruence, Explanation};
 use equal_points::Step;
 use literals::Literal;
 use search_port::Lemma;
@@ -71,6 +71,7 @@ fn first_refuted(congruence: &Congruence, steps: &[Step]) -> Option<Refuted>
 /// or where there are more reasons than so many. An `Err` is for want of memory.
 pub fn implied_clause(
     alloc: Global,
+    explanation: &mut Explanation,
     congruence: &Congruence,
     literal: Literal,
     steps: &[Step],
@@ -85,12 +86,12 @@ pub fn implied_clause(
     let Some(found) = first_refuted(congruence, steps) else {
         return Ok(None);
     };
-    let reasons = congruence.explain_points(alloc, found.left, found.right)?;
-    if reasons.len() > most {
+    congruence.explain_points(explanation, found.left, found.right)?;
+    if explanation.reasons.len() > most {
         return Ok(None);
     }
     let mut clause = Vec::new(alloc);
     clause.push(literal)?;
-    add_negations(&mut clause, &reasons)?;
+    add_negations(&mut clause, &explanation.reasons)?;
     Ok(Some(lemma_of(clause)))
 }

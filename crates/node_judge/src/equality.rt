@@ -17,7 +17,7 @@ ghost use Rattle.node_judge.specs.Comparing.{AddsChain, HasSameOrTwo, IsBrokenEq
 use crate::against::{against, sameness, truth_at};
 use atom_table::AtomTable;
 use class_model::classes_are_of_equal_points;
-use congruence::Congruence;
+use congruence::{Congruence, Explanation};
 use literal_steps::add_reasons;
 use literals::Literal;
 use smt_meaning::TermId;
@@ -149,7 +149,7 @@ pub(crate) fn wide_clause(
 
 /// Adds why each two neighbours of these terms are equal.
 fn add_chain(
-    alloc: Global,
+    explanation: &mut Explanation,
     clause: &mut Vec<Literal>,
     terms: &Congruence,
     places: &[TermId],
@@ -161,7 +161,7 @@ fn add_chain(
 {
     classes_are_of_equal_points(terms);
     for i in 1..places.len() {
-        add_reasons(alloc, clause, terms, places[i - 1], places[i])?;
+        add_reasons(explanation, clause, terms, places[i - 1], places[i])?;
     }
     Ok(())
 }
@@ -189,7 +189,7 @@ pub(crate) fn broken_equality(
     }
     let mut clause = Vec::new(alloc);
     clause.push(against(atoms, terms, place))?;
-    add_chain(alloc, &mut clause, terms, arguments)?;
+    add_chain(&mut Explanation::new(alloc), &mut clause, terms, arguments)?;
     Ok(Some(clause))
 }
 
@@ -215,7 +215,13 @@ pub(crate) fn broken_distinct(
     };
     let mut clause = Vec::new(alloc);
     clause.push(against(atoms, terms, place))?;
-    add_reasons(alloc, &mut clause, terms, pair.left, pair.right)?;
+    add_reasons(
+        &mut Explanation::new(alloc),
+        &mut clause,
+        terms,
+        pair.left,
+        pair.right,
+    )?;
     Ok(Some(clause))
 }
 

@@ -10,7 +10,7 @@ use crate::points::add_point;
 use crate::table::Table;
 use crate::watch::{Watch, Watched, first_clash};
 use equal_points::{
-    Classes, Graph, Reason, Shape, Step, Union, classes_are_the_closure, explained,
+    Classes, Explainer, Graph, Reason, Shape, Step, Union, classes_are_the_closure,
 };
 use std::alloc::{AllocError, Global};
 
@@ -548,18 +548,23 @@ impl Closure {
         self.classes.class_of(left) == self.classes.class_of(right)
     }
 
-    /// The steps whose merges make two equal points equal.
-    pub fn explain(&self, alloc: Global, left: u32, right: u32) -> Result<Vec<u32>, AllocError>
+    /// Finds the steps whose merges make two equal points equal. An `Err` is for want of memory.
+    pub fn explain(
+        &self,
+        explainer: &mut Explainer,
+        left: u32,
+        right: u32,
+    ) -> Result<(), AllocError>
         requires whole { IsWhole self.now }
         requires left_within { left < length self.now.graph }
         requires right_within { right < length self.now.graph }
         requires equal { Equal self.now.graph (merged self.now.steps.items) left right }
-        ensures { IfOk result (λ v. Explains self.now.graph self.now.steps.items v.items left right) }
+        ensures { OnOk result (Explains self.now.graph self.now.steps.items explainer.new.steps.items left right) }
     {
         let _earlier = self.graph.len();
         let _each = self.classes.unions();
         classes_are_the_closure();
-        explained(alloc, &self.graph, &self.classes, left, right)
+        explainer.explain(&self.graph, &self.classes, left, right)
     }
 
     /// A point that stands for its class: equal points have the same.

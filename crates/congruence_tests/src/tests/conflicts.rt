@@ -2,7 +2,7 @@
 ghost use Rattle.std.specs.Prelude.{IfOk};
 ghost use Rattle.congruence.specs.Recorded.{IsRecorded};
 
-use congruence::Congruence;
+use congruence::{Congruence, Explanation};
 use equal_points::Step;
 use literals::Literal;
 use smt_meaning::{Head, TermId};
@@ -62,11 +62,15 @@ fn undo(congruence: &mut Congruence, depth: usize)
 }
 
 /// The clause that is broken, as the numbers of its atoms with their signs. Nothing where none is.
-fn broken(alloc: Global, congruence: &Congruence) -> Result<Vec<(u32, bool)>, Fail>
+fn broken(
+    alloc: Global,
+    explanation: &mut Explanation,
+    congruence: &Congruence,
+) -> Result<Vec<(u32, bool)>, Fail>
     requires { IsRecorded congruence.now }
 {
     let mut found = Vec::new(alloc);
-    if let Some(clause) = congruence.conflict(alloc)? {
+    if let Some(clause) = congruence.conflict(alloc, explanation)? {
         for literal in &clause {
             found.push((literal.atom(), literal.is_positive()))?;
         }
@@ -87,15 +91,16 @@ static APPLIED: [(Head, &'static [TermId]); 4] = [
 fn equal_arguments(rt: HostRuntime) -> Result<(), Fail> {
     let alloc = rt.alloc();
     let mut congruence = closure_of(&rt, alloc, &APPLIED)?;
+    let mut explanation = Explanation::new(alloc);
     record(&rt, &mut congruence, Step::Differ(4, 5), 1, false)?;
-    assert!(rt; broken(alloc, &congruence)?.is_empty());
+    assert!(rt; broken(alloc, &mut explanation, &congruence)?.is_empty());
     record(&rt, &mut congruence, Step::Merge(2, 3), 0, true)?;
     assert_eq!(rt;
-        broken(alloc, &congruence)?.as_slice(),
+        broken(alloc, &mut explanation, &congruence)?.as_slice(),
         [(0, false), (1, true)].as_slice()
     );
     undo(&mut congruence, 1);
-    assert!(rt; broken(alloc, &congruence)?.is_empty());
+    assert!(rt; broken(alloc, &mut explanation, &congruence)?.is_empty());
     Ok(())
 }
 
@@ -104,12 +109,13 @@ fn equal_arguments(rt: HostRuntime) -> Result<(), Fail> {
 fn equal_truths(rt: HostRuntime) -> Result<(), Fail> {
     let alloc = rt.alloc();
     let mut congruence = closure_of(&rt, alloc, &APPLIED)?;
+    let mut explanation = Explanation::new(alloc);
     record(&rt, &mut congruence, Step::Merge(2, 0), 0, true)?;
     record(&rt, &mut congruence, Step::Merge(3, 1), 1, false)?;
-    assert!(rt; broken(alloc, &congruence)?.is_empty());
+    assert!(rt; broken(alloc, &mut explanation, &congruence)?.is_empty());
     record(&rt, &mut congruence, Step::Merge(2, 3), 2, true)?;
     assert_eq!(rt;
-        broken(alloc, &congruence)?.as_slice(),
+        broken(alloc, &mut explanation, &congruence)?.as_slice(),
         [(0, false), (1, true), (2, false)].as_slice()
     );
     Ok(())
@@ -120,12 +126,70 @@ fn equal_truths(rt: HostRuntime) -> Result<(), Fail> {
 fn one_reason_for_two_steps(rt: HostRuntime) -> Result<(), Fail> {
     let alloc = rt.alloc();
     let mut congruence = closure_of(&rt, alloc, &APPLIED)?;
+    let mut explanation = Explanation::new(alloc);
     record(&rt, &mut congruence, Step::Merge(2, 3), 7, true)?;
     record(&rt, &mut congruence, Step::Merge(3, 4), 7, true)?;
     record(&rt, &mut congruence, Step::Differ(2, 4), 5, false)?;
     assert_eq!(rt;
-        broken(alloc, &congruence)?.as_slice(),
+        broken(alloc, &mut explanation, &congruence)?.as_slice(),
         [(5, true), (7, false)].as_slice()
+    );
+    Ok(())
+}
+
+/// The reasons for which two points are equal. Nothing where they aren't.
+fn reasons(
+    rt: &impl Abort,
+    alloc: Global,
+    explanation: &mut Explanation,
+    congruence: &Congruence,
+    left: u32,
+    right: u32,
+) -> Result<Vec<(u32, bool)>, Fail>
+    requires { IsRecorded congruence.now }
+{
+    let count = congruence.closure.len();
+    assert!(rt; (left as usize) < count && (right as usize) < count);
+    let mut found = Vec::new(alloc);
+    if congruence.closure.same(left, right) {
+        congruence.explain_points(explanation, left, right)?;
+        for literal in &explanation.reasons {
+            found.push((literal.atom(), literal.is_positive()))?;
+        }
+    }
+    Ok(found)
+}
+
+/// a = b, b = f(a), and f(a) and f(b) differ: explained over and over in the same lists, a conflict has all of its reasons each time, and no others.
+#[test]
+fn one_explanation_after_another(rt: HostRuntime) -> Result<(), Fail> {
+    let alloc = rt.alloc();
+    let mut congruence = closure_of(&rt, alloc, &APPLIED)?;
+    let mut explanation = Explanation::new(alloc);
+    record(&rt, &mut congruence, Step::Merge(2, 3), 0, true)?;
+    record(&rt, &mut congruence, Step::Merge(3, 4), 2, true)?;
+    record(&rt, &mut congruence, Step::Differ(4, 5), 1, false)?;
+    for _ in 0..3 {
+        assert_eq!(rt;
+            broken(alloc, &mut explanation, &congruence)?.as_slice(),
+            [(0, false), (1, true)].as_slice()
+        );
+    }
+    for _ in 0..2 {
+        assert_eq!(rt;
+            reasons(&rt, alloc, &mut explanation, &congruence, 2, 4)?.as_slice(),
+            [(0, true), (2, true)].as_slice()
+        );
+        assert_eq!(rt;
+            reasons(&rt, alloc, &mut explanation, &congruence, 4, 5)?.as_slice(),
+            [(0, true)].as_slice()
+        );
+    }
+    undo(&mut congruence, 1);
+    assert!(rt; reasons(&rt, alloc, &mut explanation, &congruence, 2, 4)?.is_empty());
+    assert_eq!(rt;
+        reasons(&rt, alloc, &mut explanation, &congruence, 5, 4)?.as_slice(),
+        [(0, true)].as_slice()
     );
     Ok(())
 }

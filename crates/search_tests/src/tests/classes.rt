@@ -2,8 +2,8 @@
 ghost use Rattle.std.specs.Prelude.{IfOk};
 ghost use Rattle.point_closure.specs.Whole.{IsWhole};
 
-use congruence::Congruence;
-use equal_points::{Shape, Step};
+use congruence::{Congruence, Explanation};
+use equal_points::{Explainer, Shape, Step};
 use point_closure::{Closure, Watch, Watched};
 use std::alloc::Global;
 use std::process::Abort;
@@ -111,8 +111,9 @@ fn count_of_reasons(
     if !closure.same(left, right) {
         return Ok(None);
     }
-    let told = closure.explain(alloc, left, right)?;
-    Ok(Some(told.len()))
+    let mut explainer = Explainer::new(alloc);
+    closure.explain(&mut explainer, left, right)?;
+    Ok(Some(explainer.steps.len()))
 }
 
 /// The truth values, p and q.
@@ -165,7 +166,11 @@ fn nothing_is_recorded(rt: HostRuntime) -> Result<(), Fail> {
     let store = TermStore::new(alloc, 4);
     let mut congruence = Congruence::new(alloc)?;
     congruence.read(&store)?;
-    assert!(rt; congruence.conflict(alloc)?.is_none());
+    assert!(rt;
+        congruence
+            .conflict(alloc, &mut Explanation::new(alloc))?
+            .is_none()
+    );
     congruence.undo_to(0);
     Ok(())
 }

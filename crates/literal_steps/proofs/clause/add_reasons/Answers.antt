@@ -7,7 +7,7 @@ use Rattle.literal_steps.proofs.clause.add_reasons.Goals as goal
 
 pub returns : goal.returns
 returns c = λ ds ts table read justified.
-    let now : c.add_negations.new.clause.items ≡ c.args.clause.now.items ++ map opposite c.in_ok-reasons.reasons.items = search rules in
+    let now : c.add_negations.new.clause.items ≡ c.args.clause.now.items ++ map opposite c.explain.new.explanation.reasons.items = search rules in
     subst (λ (ls : List Signed). AddsReasons ds ts table c.args.congruence.now.reasons.items c.args.clause.now.items ls c.args.left c.args.right) (sym now)
     (reasons_added c.reasons_make_equal.ensures ds ts table c.args.congruence.now.closure.graph c.args.congruence.now.closure.steps.items c.args.congruence.now.reasons.items c.args.clause.now.items
-    c.in_ok-reasons.reasons.items c.args.left c.args.right read justified c.in_ok-reasons.ensures)
+    c.explain.new.explanation.reasons.items c.args.left c.args.right read justified c.in_ok-explain.ensures)
