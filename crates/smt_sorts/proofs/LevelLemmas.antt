@@ -147,7 +147,7 @@ levels_from-cut ids (suc n) p ks ds size below above =
 
 -- ---- the levels hold each declaration once, in order
 
-abbrev below_level : ℕ → List ℕ → List Declaration → List Declaration
+abbrev pub below_level : ℕ → List ℕ → List Declaration → List Declaration
 below_level n [] ds = []
 below_level n (k ∷ ks) [] = []
 below_level n (k ∷ ks) (d ∷ ds) = cons_if (nat_lt k n) d (below_level n ks ds)
@@ -198,3 +198,15 @@ all_of-below (suc n) ks ds order =
 
 pub all_of-levels_from : (n : ℕ) (ks : List ℕ) (ds : List Declaration) → length ks ≡ length ds → All (λ k. k < n) ks → AllPairs (λ j k. j ≤ k) ks → all_of_levels (levels_from n ks ds) ≡ ds
 all_of-levels_from n ks ds size below order = all_of-below n ks ds order ∙ below_level-all n ks ds size below
+
+-- those of the levels from 0 to k
+pub all_of-up_to : (n k : ℕ) (ks : List ℕ) (ds : List Declaration) → length ks ≡ length ds → All (λ j. j < n) ks → AllPairs (λ i j. i ≤ j) ks
+    → all_of_levels (take (k + 1) (levels_from n ks ds)) ≡ below_level (k + 1) ks ds
+all_of-up_to n k ks ds size below order =
+    elim (cases_lt k n) [
+      | inl less ↦ ap all_of_levels (take-levels_from (k + 1) n ks ds (omega arith)) ∙ all_of-below (k + 1) ks ds order
+      | inr above ↦
+          ap all_of_levels (take_all (k + 1) (levels_from n ks ds) (omega (arith, length-levels_from n ks ds)))
+          ∙ all_of-levels_from n ks ds size below order
+          ∙ sym (below_level-all (k + 1) ks ds size (All-weaker (λ j. j < n) (λ j. j < k + 1) (λ j less. omega arith) ks below))
+    ]

@@ -4,3 +4,4 @@ mod ListedLemmas
 mod LevelLemmas
 mod TableLemmas
 mod PlaceLemmas
+mod WhereLemmas

@@ -1,5 +1,5 @@
 -- How declarations are kept: in order, each with its level, and found by the hashes of their names.
-use Rattle.std.specs.Prelude.{◌≡◌, refl, ℕ, ◌/◌, ◌^◌, ◌&&◌, Bool, not, List, [], ◌∷◌, map, take, length, Option, Some, None, bytes_eq, nat_eq, if◌then◌else◌, AllPairs}
+use Rattle.std.specs.Prelude.{◌≡◌, refl, ℕ, ◌/◌, ◌^◌, ◌<◌, ◌&&◌, Bool, not, List, [], ◌∷◌, map, take, length, Option, Some, None, bytes_eq, nat_eq, if◌then◌else◌, AllPairs, get_or, slice_index}
 use Rattle.std.specs.Coded.{Coded, code_by, coded×, coded_ℕ, coded_list}
 use Rattle.term_store.specs.Hash.{words_state}
 use Rattle.smt_meaning.specs.Declaration.{Declaration}
@@ -55,3 +55,10 @@ pub record IsListed (ds : List Declaration) (levels hashes : List ℕ) : Type 0 
   pub size : length levels ≡ length ds
   pub apart : AllPairs AreApart ds
   pub hashed : hashes ≡ map hash_of ds
+
+-- a declaration with this id has this level
+pub record IsListedAt (a : Listed) (id l : ℕ) : Type 0 where
+  pub place : ℕ
+  pub within : place < length a.declarations
+  pub id_is : (d : Declaration) → (get_or a.declarations place d).id ≡ id
+  pub level : slice_index a.levels place ≡ l

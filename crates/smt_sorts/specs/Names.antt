@@ -1,5 +1,5 @@
 -- The table of names by levels: what is declared, what changes it, and what is true of every table.
-use Rattle.std.specs.Prelude.{◌≡◌, ◌≢◌, refl, ℕ, ◌+◌, ◌-◌, ◌^◌, ◌<◌, ◌≤◌, min, Bool, true, false, nat_lt, List, [], ◌∷◌, ◌++◌, map, take, length, replicate, filter, flat_map, Option, Some, None, All, AllPairs, codes}
+use Rattle.std.specs.Prelude.{◌≡◌, ◌≢◌, refl, ℕ, ◌+◌, ◌-◌, ◌^◌, ◌<◌, ◌≤◌, min, Bool, true, false, nat_lt, List, [], ◌∷◌, ◌++◌, map, take, length, replicate, filter, flat_map, Option, Some, None, All, AllPairs, Contains, codes}
 use Rattle.std.specs.Coded.{Coded, code_by, coded×, coded_ℕ, coded_list}
 use Rattle.smt_meaning.specs.declared.values.Sort.{Sort}
 use Rattle.smt_meaning.specs.declared.values.Sort.TheVariants.{Free}
@@ -27,6 +27,15 @@ all_of_levels dss = flat_map (λ (ds : List Declaration). ds) dss
 -- the declarations of all levels, in order
 abbrev pub signature : Names → List Declaration
 signature t = all_of_levels t.levels
+
+-- the ids of what the levels from 0 to l declare
+abbrev pub ids_up_to : ℕ → List (List Declaration) → List ℕ
+ids_up_to l dss = map (λ (d : Declaration). d.id) (all_of_levels (take (l + 1) dss))
+
+-- what has this id is declared at level l, and at none below
+pub record IsLevelOf (dss : List (List Declaration)) (id l : ℕ) : Type 0 where
+  pub declared : Contains (ids_up_to l dss) id
+  pub least : (k : ℕ) → Contains (ids_up_to k dss) id → l ≤ k
 
 -- ---- what changes a table
 

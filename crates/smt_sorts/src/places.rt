@@ -1,7 +1,7 @@
 //! Places in lists that rise.
 ghost use Rattle.std.specs.Prelude.{◌≡◌, ◌<◌, ◌≤◌, length, take, drop, Some, None, IfSome, IfNone, All, AllPairs};
 ghost use Rattle.smt_meaning.specs.Declaration.{Declaration as DeclarationValue};
-ghost use Rattle.smt_sorts.specs.Listed.{first_that, has_id};
+ghost use Rattle.smt_sorts.specs.Listed.{first_that, has_id, IsListedAt};
 
 use smt_meaning::{Declaration, SymId};
 
@@ -38,6 +38,24 @@ pub(crate) fn with_id(declarations: &[Declaration], id: SymId) -> Option<&Declar
     let declaration = &declarations[place];
     if declaration.id() == id {
         Some(declaration)
+    } else {
+        None
+    }
+}
+
+/// The level of the declaration with this id.
+pub(crate) fn level_with_id(declarations: &[Declaration], levels: &[u32], id: SymId) -> Option<u32>
+    requires order { AllPairs (λ (d e : DeclarationValue). d.id < e.id) declarations.now }
+    requires size { length levels.now ≡ length declarations.now }
+    ensures some { IfSome result (IsListedAt (record { declarations = declarations.now; levels = levels.now }) id) }
+    ensures none { IfNone result (first_that (has_id id) declarations.now ≡ None) }
+{
+    let place = below_id(declarations, id);
+    if place == declarations.len() {
+        return None;
+    }
+    if declarations[place].id() == id {
+        Some(levels[place])
     } else {
         None
     }

@@ -47,7 +47,7 @@ fn name_if_sort(declaration: &Declaration) -> &[u8]
 }
 
 impl Table {
-    ghost use Rattle.smt_sorts.specs.Names.{Names, signature, no_names, with_declaration, with_levels, without_levels, cut_to, cleared, sort_or_new, IsNewFunction, IsNewSort, IsCause, IsTable, HasGained};
+    ghost use Rattle.smt_sorts.specs.Names.{Names, signature, no_names, with_declaration, with_levels, without_levels, cut_to, cleared, sort_or_new, IsNewFunction, IsNewSort, IsCause, IsTable, HasGained, IsLevelOf};
 
     /// No name, on level 0. It takes no memory.
     pub fn new(alloc: Global) -> Self
@@ -142,6 +142,15 @@ impl Table {
         } else {
             Some(declaration)
         }
+    }
+
+    /// The level of what has this id.
+    pub fn level_with_id(&self, id: SymId) -> Option<u32>
+        ensures some { IfSome result (IsLevelOf self.now.levels id) }
+        ensures within { IfSome result (λ l. l < length self.now.levels) }
+        ensures none { IfNone result (first_that (has_id id) (signature self.now) ≡ None) }
+    {
+        places::level_with_id(self.entries.declarations(), self.entries.levels(), id)
     }
 
     /// The name of the sort with this id, empty where there is none.

@@ -48,7 +48,10 @@ fn names_go_with_their_level(rt: HostRuntime) -> Result<(), Fail> {
     assert_eq!(rt; declare(rt.alloc(), &mut table, b"r")?, 2);
     assert_eq!(rt; id_of(&table, b"r"), 2);
     assert_eq!(rt; table.levels(), 3);
+    assert_eq!(rt; table.level_with_id(1), Some(0));
+    assert_eq!(rt; table.level_with_id(2), Some(2));
     table.pop(1);
+    assert_eq!(rt; table.level_with_id(2), None);
     assert_eq!(rt; id_of(&table, b"r"), 99);
     assert_eq!(rt; id_of(&table, b"q"), 1);
     assert_eq!(rt; table.declarations().len(), 2);

@@ -1,7 +1,7 @@
 use Rattle.std.proofs.Common.{sym, ap, ◌∙◌}
 use Rattle.smt_sorts.proofs.TableLemmas.{HasGained-declared}
 use Rattle.smt_sorts.proofs.PlaceLemmas.{found_sort}
-use Rattle.smt_sorts.specs.Names.{Names, signature}
+use Rattle.smt_sorts.specs.Names.{signature}
 use Rattle.smt_meaning.specs.Declaration.{Declaration}
 use Rattle.smt_sorts.proofs.table.Table.add_sort.Goals as goal
 
