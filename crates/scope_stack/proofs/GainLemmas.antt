@@ -1,5 +1,5 @@
 -- A stack after declarations and assertions.
-use Rattle.std.proofs.Common.{◌≡◌, ◌∙◌, sym, refl, ap, ap₂, subst, ℕ, ◌<◌, List, [], ◌∷◌, ◌++◌, map, drop, length, arith, All, Some, Result, Ok, Err}
+use Rattle.std.proofs.Common.{◌≡◌, ◌∙◌, sym, refl, ap, ap₂, subst, ℕ, ◌+◌, ◌<◌, ◌≤◌, List, [], ◌∷◌, ◌++◌, map, drop, length, arith, All, Some, Result, Ok, Err}
 use Rattle.std.proofs.lemmas.List.{drop_at}
 use Rattle.std.proofs.lemmas.List.Elements.{All-nil, All-cons}
 use Rattle.elaborate.specs.Values.{IsLonger}
@@ -10,7 +10,7 @@ use Rattle.smt_meaning.specs.Declaration.{Declaration}
 use Rattle.smt_meaning.specs.Term.{Tree}
 use Rattle.smt_meaning.specs.Sorts.{done, Judging, Typed}
 use Rattle.smt_meaning.specs.Stack.{Assertion as Asserted, Frame, on_top}
-use Rattle.smt_meaning.specs.StackCommand.{Stack, Change, declares, asserts, asks, is_unsupported, stack_command, judged, judged_is, changed, new_declarations, assert_term, ask_terms}
+use Rattle.smt_meaning.specs.StackCommand.{Stack, Change, declares, asserts, asks, is_unsupported, stack_command, judged, judged_is, changed, new_declarations, most_levels, assert_term, ask_terms}
 use Rattle.smt_sorts.specs.Names.{Names, signature, on_newest, HasGained}
 use Rattle.term_store.specs.Terms.{Terms}
 use Rattle.scope_stack.specs.declared.answers.Assertion.{Assertion}
@@ -40,6 +40,9 @@ length-last ys (xs ∷ zs ∷ rest) = let e : length (on_last ys (zs ∷ rest)) 
 -- how many levels there are stays
 levels_stay : (t u : Names) → HasGained t u → length u.levels ≡ length t.levels
 levels_stay t u g = ap length g.levels ∙ length-newest g.gained t.levels
+
+pub few_still : (t u : Names) → HasGained t u → length t.levels ≤ most_levels + 1 → length u.levels ≤ 65536
+few_still t u g few = let e : length u.levels ≡ length t.levels = levels_stay t u g in omega (arith, e, few)
 
 new-gained : (t u : Names) (ts us : List Tree) (xss : List (List Assertion)) (g : HasGained t u) → new_declarations (stack_by t ts xss) (scope_by u us) ≡ g.gained
 new-gained t u ts us xss g =

@@ -12,3 +12,6 @@ pub mod TermSteps
 pub mod ParameterSteps
 pub mod BackLemmas
 mod RoomSteps
+pub mod SortLemmas
+pub mod FactLemmas
+pub mod LevelSteps

@@ -4,3 +4,4 @@ pub mod Inside
 pub mod Judged
 pub mod Carries
 pub mod Shown
+pub mod Facts

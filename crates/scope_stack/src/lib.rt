@@ -4,6 +4,7 @@
 mod answers;
 mod asserted;
 mod declare;
+mod facts;
 mod framed;
 mod judge;
 mod room;

@@ -4,9 +4,10 @@ ghost use Rattle.std.specs.Prelude.{◌≡◌, ◌≤◌, ◌<◌, unsigned_abs,
 use crate::answers::{Asked, Assertion, Carried, StackError};
 use crate::asserted::Asserted;
 use crate::declare;
+use crate::facts::{TermFacts, add_assertion};
 use crate::term::{judge_assertion, judge_questions};
 use smt_meaning::language::{Parameter, WrittenSort};
-use smt_meaning::{Bytes, Declaration, Refusal, SExpr, Seq, SymId};
+use smt_meaning::{Bytes, Declaration, Refusal, SExpr, Seq, Sort, SymId};
 use smt_sorts::Table;
 use sort_laws::{assertions_are_truths, parts_are_among_the_trees, trees_are_in_order};
 use std::alloc::Global;
@@ -26,6 +27,7 @@ pub struct Stack {
     table: Table,
     terms: TermStore,
     asserted: Asserted,
+    facts: TermFacts,
 }
 
 impl Model for Stack {
@@ -36,11 +38,12 @@ impl Model for Stack {
 
     ghost coded = { coded_stack };
 
-    ghost use Rattle.scope_stack.specs.Inside.{stack_by, IsStack};
+    ghost use Rattle.scope_stack.specs.Inside.{stack_by};
+    ghost use Rattle.scope_stack.specs.Facts.{IsKept};
 
     ghost view = { λ s. stack_by s.table s.terms.trees s.asserted };
 
-    ghost invariant = { λ s. IsStack s.table s.terms s.asserted };
+    ghost invariant = { λ s. IsKept s.table s.terms s.asserted s.facts.sorts.items s.facts.levels.items };
 }
 
 /// The size of a count that is at most so large.
@@ -66,6 +69,7 @@ impl Stack {
     ghost use Rattle.smt_meaning.specs.StackCommand.{Stack as StackValue, start, declare_sort, define_sort, declare_function, define_function, assert_term, push_levels, pop_levels};
     ghost use Rattle.scope_stack.specs.Carries.{Carries, Answers, IsAsked, IsAfterQuestion};
     ghost use Rattle.scope_stack.specs.Shown.{AreAsserted, IsLawful};
+    ghost use Rattle.scope_stack.specs.Facts.{AreSorts, AreLevels};
 
     /// Level 0 alone, with nothing in it. It takes no memory.
     pub fn new(alloc: Global) -> Self
@@ -75,6 +79,7 @@ impl Stack {
             table: Table::new(alloc),
             terms: TermStore::new(alloc, MOST_TERMS),
             asserted: Asserted::new(alloc),
+            facts: TermFacts::new(alloc),
         }
     }
 
@@ -91,6 +96,20 @@ impl Stack {
         ensures limit { result.now.limit ≡ 4294967295 }
     {
         &self.terms
+    }
+
+    /// The sorts of the terms, by their places. Of a term that no longer has one it is any.
+    pub fn sorts(&self) -> &[Sort]
+        ensures { AreSorts (signature_of self.now.frames) self.now.trees (length self.now.trees) result.now }
+    {
+        self.facts.sorts.as_slice()
+    }
+
+    /// The levels of the terms, by their places: each is the least with all symbols of its term. Of a term with a symbol that is no longer declared it is any.
+    pub fn levels(&self) -> &[u16]
+        ensures { AreLevels self.now.frames self.now.trees (length self.now.trees) result.now }
+    {
+        self.facts.levels.as_slice()
     }
 
     /// The declarations and definitions of all levels, in order.
@@ -193,11 +212,20 @@ impl Stack {
         let ids = self.table.ids();
         let count = self.terms.len();
         let term = judge_assertion(alloc, term, &mut self.table, &mut self.terms)?;
-        match self.asserted.add(Assertion { text, term }) {
+        let assertion = Assertion { text, term };
+        match add_assertion(
+            &self.table,
+            &self.terms,
+            count,
+            &mut self.facts,
+            &mut self.asserted,
+            assertion,
+        ) {
             Ok(()) => Ok(Carried::Done),
             Err(_) => {
                 self.table.cut_ids(ids);
                 self.terms.cut(count);
+                self.facts.cut(count);
                 Err(StackError::Memory)
             }
         }
@@ -207,8 +235,16 @@ impl Stack {
     pub fn ask(&mut self, alloc: Global, terms: &[SExpr]) -> Result<Seq<Asked>, StackError>
         ensures { Answers terms.now self.old result self.new }
     {
+        let count = self.terms.len();
         let asked = judge_questions(alloc, terms, &mut self.table, &mut self.terms)?;
-        Ok(asked)
+        match self.facts.extend(&self.table, &self.terms, count) {
+            Ok(()) => Ok(asked),
+            Err(_) => {
+                self.terms.cut(count);
+                self.facts.cut(count);
+                Err(StackError::Memory)
+            }
+        }
     }
 
     /// Takes the terms of the question back that was asked last, before which there were so many. It takes no memory.
@@ -220,6 +256,7 @@ impl Stack {
         trees_are_in_order();
         parts_are_among_the_trees();
         self.terms.cut(terms);
+        self.facts.cut(terms);
     }
 
     /// `(push count)` (section 4.2.2).
@@ -263,6 +300,7 @@ impl Stack {
     {
         self.table.reset();
         self.terms.cut(0);
+        self.facts.cut(0);
         self.asserted.clear();
     }
 }

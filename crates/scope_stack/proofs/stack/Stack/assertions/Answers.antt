@@ -5,7 +5,7 @@ pub returns : goal.returns
 returns c =
     rw (← c.self.view_is, c.all.ensures)
     (record {
-      texts = shown_texts c.self.inside.terms.trees c.self.inside.table.levels c.self.inside.asserted c.self.invariant.as_many;
-      terms = shown_terms c.self.inside.terms.trees c.self.inside.table.levels c.self.inside.asserted c.self.invariant.as_many;
-      within = c.self.invariant.within;
+      texts = shown_texts c.self.inside.terms.trees c.self.inside.table.levels c.self.inside.asserted c.self.invariant.stack.as_many;
+      terms = shown_terms c.self.inside.terms.trees c.self.inside.table.levels c.self.inside.asserted c.self.invariant.stack.as_many;
+      within = c.self.invariant.stack.within;
     })

@@ -8,4 +8,4 @@ pub returns : goal.returns
 returns c =
     let d : depth (stack_by c.self.inside.table c.self.inside.terms.trees c.self.inside.asserted).frames ≡ length c.self.inside.table.levels - 1 =
     depth-stack c.self.inside.table c.self.inside.terms.trees c.self.inside.asserted in
-    rw (← c.self.view_is) (omega (arith, d, c.depth.ensures, c.self.invariant.as_many, c.self.invariant.few))
+    rw (← c.self.view_is) (omega (arith, d, c.depth.ensures, c.self.invariant.stack.as_many, c.self.invariant.stack.few))

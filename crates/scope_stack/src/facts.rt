@@ -1,0 +1,230 @@
+//! What is kept beside the terms, by their places.
+ghost use Rattle.std.specs.Prelude.{◌≡◌, ◌<◌, ◌≤◌, [], ◌∷◌, length, take, All, OnOk, OnErr, IfSome, slice_index, slice_index_or};
+ghost use Rattle.smt_meaning.specs.declared.values.Sort.TheVariants.{Bool as Truths};
+ghost use Rattle.smt_meaning.specs.Term.{tree_at};
+ghost use Rattle.scope_stack.specs.Facts.{AreFacts, HaveLevels, IsFact, IsLeast, IsResult, IsTermLevel, greatest_of, made_sort as made_by};
+ghost use Rattle.smt_meaning.specs.Clause.{head_symbols};
+ghost use Rattle.smt_sorts.specs.Names.{ids_up_to};
+ghost use Rattle.scope_stack.specs.Pieces.{on_last};
+
+use crate::answers::Assertion;
+use crate::asserted::Asserted;
+use smt_meaning::{Head, Operator, Sort, SymId, TermId};
+use smt_sorts::Table;
+use std::alloc::{AllocError, Global};
+use term_store::TermStore;
+
+/// What is kept beside the terms, by their places.
+#[derive(Drop)]
+pub struct TermFacts {
+    /// Of a term that no longer has a sort it is any.
+    pub sorts: Vec<Sort>,
+    /// Of a term with a symbol that is no longer declared it is any.
+    pub levels: Vec<u16>,
+}
+
+/// The sort that an operator makes, where a branch of an `ite` has this sort.
+fn made_sort(operator: Operator, branch: Sort) -> Sort
+    ensures { result ≡ made_by operator branch }
+{
+    match operator {
+        Operator::Add | Operator::Subtract | Operator::Multiply => Sort::Int,
+        Operator::Ite => branch,
+        _ => Sort::Bool,
+    }
+}
+
+/// The sort of the second of these terms.
+fn branch_sort(sorts: &[Sort], places: &[TermId]) -> Sort
+    requires { All (λ p. p < length sorts.now) places.now }
+    ensures { 1 < length places.now → result ≡ slice_index_or sorts.now (slice_index places.now 1) Truths }
+{
+    if places.len() < 2 {
+        return Sort::Bool;
+    }
+    sorts[places[1] as usize]
+}
+
+/// The sort of a symbol's result, where the symbol is declared.
+fn result_sort(table: &Table, symbol: SymId) -> Option<Sort>
+    ensures { IfSome result (IsResult table.now symbol) }
+{
+    let _ = table.ids();
+    match table.function_with_id(symbol) {
+        Some(found) => Some(found.rank().result),
+        None => None,
+    }
+}
+
+/// The sort of the term at a place, where those of the terms before it are known. There is none where its symbol isn't declared.
+fn sort_at(table: &Table, terms: &TermStore, sorts: &[Sort], id: TermId) -> Option<Sort>
+    requires within { id < length terms.now.trees }
+    requires facts { AreFacts table.now terms.now.trees id sorts.now }
+    ensures { IfSome result (IsFact table.now (tree_at terms.now.trees id)) }
+{
+    let node = terms.node(id);
+    match node.head {
+        Head::Theory(operator) => Some(made_sort(operator, branch_sort(sorts, node.arguments))),
+        Head::Symbol(symbol) => result_sort(table, symbol),
+        Head::Numeral(_) => Some(Sort::Int),
+        Head::Place(_) => Some(Sort::Int),
+    }
+}
+
+/// Adds the sorts of the terms from a place on. An `Err`, for want of memory, may leave some.
+fn add_sorts(
+    table: &Table,
+    terms: &TermStore,
+    from: TermId,
+    sorts: &mut Vec<Sort>,
+) -> Result<(), AllocError>
+    requires within { from ≤ length terms.now.trees }
+    requires facts { AreFacts table.now terms.now.trees from sorts.old.items }
+    ensures facts { OnOk result (AreFacts table.now terms.now.trees (length terms.now.trees) sorts.new.items) }
+    ensures kept { take from sorts.new.items ≡ sorts.old.items }
+{
+    for id in from..terms.len() {
+        // The symbols of a term are declared when it is judged, so there is always a sort.
+        let Some(sort) = sort_at(table, terms, sorts, id) else {
+            return Err(AllocError);
+        };
+        sorts.push(sort)?;
+    }
+    Ok(())
+}
+
+/// The level of a head's symbol, 0 where it has none. There is none where the symbol isn't declared.
+fn head_level(table: &Table, head: Head) -> Option<u16>
+    requires { length table.now.levels ≤ 65536 }
+    ensures { IfSome result (IsLeast (λ k. ids_up_to k table.now.levels) (head_symbols head)) }
+{
+    match head {
+        Head::Symbol(symbol) => match table.level_with_id(symbol) {
+            Some(level) => Some(level as u16),
+            None => None,
+        },
+        Head::Theory(_) => Some(0),
+        Head::Numeral(_) => Some(0),
+        Head::Place(_) => Some(0),
+    }
+}
+
+/// The greatest of a level and those of the terms at these places.
+fn greatest(levels: &[u16], places: &[TermId], level: u16) -> u16
+    requires { All (λ p. p < length levels.now) places.now }
+    ensures { result ≡ greatest_of levels.now places.now level }
+{
+    let mut most = level;
+    let mut rest = places;
+    while let Some((first, tail)) = rest.split_first() {
+        most = most.max(levels[*first as usize]);
+        rest = tail;
+    }
+    most
+}
+
+/// The level of the term at a place, where those of the terms before it are known. There is none where its symbol isn't declared.
+fn level_at(table: &Table, terms: &TermStore, levels: &[u16], id: TermId) -> Option<u16>
+    requires within { id < length terms.now.trees }
+    requires few { length table.now.levels ≤ 65536 }
+    requires levels { HaveLevels table.now terms.now.trees id levels.now }
+    ensures { IfSome result (IsTermLevel table.now (tree_at terms.now.trees id)) }
+{
+    let node = terms.node(id);
+    let Some(level) = head_level(table, node.head) else {
+        return None;
+    };
+    Some(greatest(levels, node.arguments, level))
+}
+
+/// Adds the levels of the terms from a place on. An `Err`, for want of memory, may leave some.
+fn add_levels(
+    table: &Table,
+    terms: &TermStore,
+    from: TermId,
+    levels: &mut Vec<u16>,
+) -> Result<(), AllocError>
+    requires few { length table.now.levels ≤ 65536 }
+    requires within { from ≤ length terms.now.trees }
+    requires levels { HaveLevels table.now terms.now.trees from levels.old.items }
+    ensures levels { OnOk result (HaveLevels table.now terms.now.trees (length terms.now.trees) levels.new.items) }
+    ensures kept { take from levels.new.items ≡ levels.old.items }
+{
+    for id in from..terms.len() {
+        // As for the sorts, there is always a level.
+        let Some(level) = level_at(table, terms, levels, id) else {
+            return Err(AllocError);
+        };
+        levels.push(level)?;
+    }
+    Ok(())
+}
+
+impl TermFacts {
+    ghost use Rattle.std.specs.Prelude.{◌≡◌, ◌≤◌, length, take, [], OnOk};
+    ghost use Rattle.scope_stack.specs.Facts.{AreFacts, HaveLevels};
+
+    /// Of no term. It takes no memory.
+    pub fn new(alloc: Global) -> Self
+        ensures sorts { result.sorts.items ≡ [] }
+        ensures levels { result.levels.items ≡ [] }
+    {
+        TermFacts {
+            sorts: Vec::new(alloc),
+            levels: Vec::new(alloc),
+        }
+    }
+
+    /// Adds those of the terms from a place on. An `Err`, for want of memory, may leave some.
+    pub fn extend(
+        &mut self,
+        table: &Table,
+        terms: &TermStore,
+        from: TermId,
+    ) -> Result<(), AllocError>
+        requires within { from ≤ length terms.now.trees }
+        requires few { length table.now.levels ≤ 65536 }
+        requires facts { AreFacts table.now terms.now.trees from self.old.sorts.items }
+        requires levels { HaveLevels table.now terms.now.trees from self.old.levels.items }
+        ensures facts { OnOk result (AreFacts table.now terms.now.trees (length terms.now.trees) self.new.sorts.items) }
+        ensures levels { OnOk result (HaveLevels table.now terms.now.trees (length terms.now.trees) self.new.levels.items) }
+        ensures kept { take from self.new.sorts.items ≡ self.old.sorts.items }
+        ensures levels_kept { take from self.new.levels.items ≡ self.old.levels.items }
+    {
+        add_sorts(table, terms, from, &mut self.sorts)?;
+        add_levels(table, terms, from, &mut self.levels)
+    }
+
+    /// Keeps those of the first terms, so many. It takes no memory.
+    pub fn cut(&mut self, len: u32)
+        ensures sorts { self.new.sorts.items ≡ take len self.old.sorts.items }
+        ensures levels { self.new.levels.items ≡ take len self.old.levels.items }
+    {
+        self.sorts.truncate(len as usize);
+        self.levels.truncate(len as usize);
+    }
+}
+
+/// Adds an assertion whose term was judged, and what is kept beside the terms from a place on. An `Err`, for want of memory, may leave some of it.
+pub(crate) fn add_assertion(
+    table: &Table,
+    terms: &TermStore,
+    from: TermId,
+    facts: &mut TermFacts,
+    asserted: &mut Asserted,
+    assertion: Assertion,
+) -> Result<(), AllocError>
+    requires within { from ≤ length terms.now.trees }
+    requires few { length table.now.levels ≤ 65536 }
+    requires facts { AreFacts table.now terms.now.trees from facts.old.sorts.items }
+    requires levels { HaveLevels table.now terms.now.trees from facts.old.levels.items }
+    ensures ok { OnOk result (asserted.new ≡ on_last (assertion ∷ []) asserted.old) }
+    ensures err { OnErr result (asserted.new ≡ asserted.old) }
+    ensures facts { OnOk result (AreFacts table.now terms.now.trees (length terms.now.trees) facts.new.sorts.items) }
+    ensures levels { OnOk result (HaveLevels table.now terms.now.trees (length terms.now.trees) facts.new.levels.items) }
+    ensures kept { take from facts.new.sorts.items ≡ facts.old.sorts.items }
+    ensures levels_kept { take from facts.new.levels.items ≡ facts.old.levels.items }
+{
+    facts.extend(table, terms, from)?;
+    asserted.add(assertion)
+}
