@@ -22,7 +22,7 @@ use Rattle.model_build.specs.Given.{given_at, has_past, givens, head_of, argumen
 use Rattle.model_build.proofs.Reading.{givens-pick}
 use Rattle.stack_atoms.specs.Parts.{IsMarked, AreParts}
 use Rattle.stack_atoms.specs.Atoms.{is_bool_at}
-use Rattle.stack_atoms.specs.Sorts.{AreSorts}
+use Rattle.scope_stack.specs.Facts.{AreSorts}
 use Rattle.class_model.specs.Values.{class, value_by, ClassesAreOfEqualPoints, AreTerms}
 use Rattle.class_model.specs.Settled.{IsSettled, AreGivenBy}
 use Rattle.class_model.proofs.Arguments.{images_at, same_count, same_place}

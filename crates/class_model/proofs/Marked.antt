@@ -14,7 +14,7 @@ use Rattle.model_build.specs.declared.given.Given.TheVariants.{Unmarked, InRange
 use Rattle.model_build.specs.Given.{given_at, is_marked, is_past, has_past}
 use Rattle.stack_atoms.specs.Parts.{IsMarked, AreParts}
 use Rattle.stack_atoms.specs.Atoms.{is_bool_at}
-use Rattle.stack_atoms.specs.Sorts.{AreSorts}
+use Rattle.scope_stack.specs.Facts.{AreSorts}
 use Rattle.class_model.specs.Values.{value_by, class_value}
 use Rattle.class_model.specs.Settled.{given_by, is_bool_by, AreGivenBy}
 

@@ -20,7 +20,7 @@ use Rattle.model_build.specs.Given.{given_at, is_marked, is_past, givens, argume
 use Rattle.model_build.specs.Building.{AreGiven, IsGivenOf, HasOperatorsValue, AreValues, GiveValues}
 use Rattle.model_build.proofs.Reading.{givens-pick}
 use Rattle.stack_atoms.specs.Parts.{IsMarked, AreParts, HasNoIntSort}
-use Rattle.stack_atoms.specs.Sorts.{AreSorts}
+use Rattle.scope_stack.specs.Facts.{AreSorts}
 use Rattle.class_model.specs.Values.{class_value, AreTerms}
 use Rattle.class_model.specs.Settled.{IsSettled, HaveClassValues, AreGivenBy}
 use Rattle.class_model.proofs.Arguments.{each_pick}

@@ -4,7 +4,7 @@ ghost use Rattle.smt_meaning.specs.Signature.{HasNoIdTwice, is_bool};
 ghost use Rattle.smt_meaning.specs.Interpretation.{AreTablesFor};
 ghost use Rattle.congruence.specs.Recorded.{IsRecorded};
 ghost use Rattle.stack_atoms.specs.Parts.{AreParts};
-ghost use Rattle.stack_atoms.specs.Sorts.{AreSorts};
+ghost use Rattle.scope_stack.specs.Facts.{AreSorts};
 ghost use Rattle.class_model.specs.Values.{AreTerms};
 ghost use Rattle.class_model.specs.Settled.{IsSettled, HaveClassValues, given_by, AreGivenBy};
 

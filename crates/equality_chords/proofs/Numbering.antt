@@ -14,7 +14,7 @@ use Rattle.equality_clauses.specs.Laws.{of_pairs}
 use Rattle.atom_table.specs.Numbers.{Numbered, AreApart}
 use Rattle.stack_atoms.specs.Parts.{IsMarked, HasNoIntSort}
 use Rattle.stack_atoms.specs.Atoms.{AreAtoms, AreComparable, IsPartAtom}
-use Rattle.stack_atoms.specs.Sorts.{AreSorts}
+use Rattle.scope_stack.specs.Facts.{AreSorts}
 use Rattle.stack_atoms.specs.OfStack.{AreOfStack}
 
 inside : (bs : List Bool) (k : ℕ) → IsMarked bs k → k < length bs

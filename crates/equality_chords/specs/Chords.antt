@@ -4,7 +4,7 @@ use Rattle.smt_meaning.specs.declared.values.Sort.TheVariants.{Bool as Truths}
 use Rattle.smt_meaning.specs.Stack.{signature_of}
 use Rattle.smt_meaning.specs.StackCommand.{Stack}
 use Rattle.stack_atoms.specs.Parts.{IsMarked}
-use Rattle.stack_atoms.specs.Sorts.{AreSorts}
+use Rattle.scope_stack.specs.Facts.{AreSorts}
 use Rattle.stack_atoms.specs.OfStack.{AreOfStack}
 use Rattle.stack_atoms.specs.declared.atoms.StackAtoms.{StackAtoms}
 

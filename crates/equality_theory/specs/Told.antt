@@ -14,7 +14,7 @@ use Rattle.congruence.specs.Reading.{AreSeen}
 use Rattle.congruence.specs.Recorded.{IsRecorded}
 use Rattle.equal_points.specs.Closure.{AreRead}
 use Rattle.smt_meaning.specs.Term.{Tree}
-use Rattle.stack_atoms.specs.Sorts.{AreSorts}
+use Rattle.scope_stack.specs.Facts.{AreSorts}
 use Rattle.literal_steps.specs.Reasoned.{IsReasoned}
 use Rattle.equality_theory.specs.Seen.{IsSetting}
 use Rattle.equality_theory.specs.Places.{ArePlaces}

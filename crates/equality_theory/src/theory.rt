@@ -2,7 +2,7 @@
 ghost use Rattle.std.specs.Prelude.{◌≡◌, ◌+◌, ◌<◌, ◌^◌, [], length, IfOk};
 ghost use Rattle.smt_meaning.specs.Stack.{signature_of};
 ghost use Rattle.stack_atoms.specs.OfStack.{AreOfStack};
-ghost use Rattle.stack_atoms.specs.Sorts.{AreSorts};
+ghost use Rattle.scope_stack.specs.Facts.{AreSorts};
 ghost use Rattle.equality_theory.specs.Seen.{state_of};
 ghost use Rattle.equality_theory.specs.Told.{IsReady};
 

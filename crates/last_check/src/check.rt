@@ -2,7 +2,7 @@
 ghost use Rattle.std.specs.Prelude.{◌≡◌, ◌+◌, ◌≤◌, length, All, IfOk};
 ghost use Rattle.smt_meaning.specs.Stack.{signature_of};
 ghost use Rattle.congruence.specs.Recorded.{IsRecorded};
-ghost use Rattle.stack_atoms.specs.Sorts.{AreSorts};
+ghost use Rattle.scope_stack.specs.Facts.{AreSorts};
 ghost use Rattle.stack_atoms.specs.OfStack.{AreOfStack};
 ghost use Rattle.class_model.specs.Values.{AreTerms};
 ghost use Rattle.literal_steps.specs.Reasoned.{IsReasoned};

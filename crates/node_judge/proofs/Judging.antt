@@ -23,7 +23,7 @@ use Rattle.congruence.specs.declared.congruence.Congruence.{Congruence}
 use Rattle.equality_clauses.specs.Laws.{of_pairs}
 use Rattle.stack_atoms.specs.Parts.{IsMarked, AreParts, HasNoIntSort}
 use Rattle.stack_atoms.specs.Atoms.{is_bool_at, AreAtoms}
-use Rattle.stack_atoms.specs.Sorts.{AreSorts}
+use Rattle.scope_stack.specs.Facts.{AreSorts}
 use Rattle.stack_atoms.specs.OfStack.{AreOfStack}
 use Rattle.class_model.specs.Values.{class, class_value}
 use Rattle.class_model.specs.Settled.{IsSettled}

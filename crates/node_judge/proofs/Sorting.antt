@@ -15,7 +15,7 @@ use Rattle.smt_meaning.specs.Term.{Tree, Trees, node, tree_at}
 use Rattle.smt_meaning.specs.Signature.{tree_sort, tree_sorts, with_sorts, cons_sort, head_sort, operator_sort, stands_with, takes, if_so, all_of, all_the_same, ite_sort, sort_eq, is_bool}
 use Rattle.term_store.specs.Terms.{tree_with}
 use Rattle.stack_atoms.specs.Atoms.{is_bool_at}
-use Rattle.stack_atoms.specs.Sorts.{AreSorts}
+use Rattle.scope_stack.specs.Facts.{AreSorts}
 use Rattle.node_judge.specs.Kinds.{first_is_bool, IsOverBools, IsOverOthers, IsOver}
 
 -- ---- the sorts of the arguments

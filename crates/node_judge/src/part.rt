@@ -11,7 +11,7 @@ ghost use Rattle.term_store.specs.Terms.{tree_with};
 ghost use Rattle.congruence.specs.Recorded.{IsRecorded};
 ghost use Rattle.stack_atoms.specs.Parts.{IsMarked};
 ghost use Rattle.stack_atoms.specs.Atoms.{is_bool_at};
-ghost use Rattle.stack_atoms.specs.Sorts.{AreSorts};
+ghost use Rattle.scope_stack.specs.Facts.{AreSorts};
 ghost use Rattle.stack_atoms.specs.OfStack.{AreOfStack};
 ghost use Rattle.class_model.specs.Settled.{IsSettled};
 ghost use Rattle.literal_steps.specs.Clauses.{IsFalseClause};

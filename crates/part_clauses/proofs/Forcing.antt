@@ -37,7 +37,8 @@ use Rattle.atom_table.specs.Numbers.{IsAt}
 use Rattle.stack_atoms.specs.Parts.{IsMarked, HasNoIntSort}
 use Rattle.stack_atoms.specs.Atoms.{is_bool_at}
 use Rattle.stack_atoms.specs.OfStack.{HasPlace, AreOfStack}
-use Rattle.stack_atoms.proofs.Sorting.{left_true, right_true, HasArguments, arguments_of, HasFirst, first_of, stands_so, if_so_true, if_so_is, the_some, sort_is, all_of_one}
+use Rattle.scope_stack.proofs.SortLemmas.{HasArguments, arguments_of, HasFirst, first_of, stands_so, if_so_is, the_some}
+use Rattle.stack_atoms.proofs.Sorting.{left_true, right_true, if_so_true, sort_is, all_of_one}
 use Rattle.stack_atoms.proofs.Places.{IsAt as StandsAt, Picked, picked, part_at}
 use Rattle.part_clauses.specs.Turned.{IsKeptTurned}
 use Rattle.part_clauses.specs.Numbers.{HasNode, HasTerm, HasPart}

@@ -21,9 +21,10 @@ use Rattle.equality_clauses.specs.Laws.{of_first, of_pairs}
 use Rattle.atom_table.specs.Numbers.{Numbered, AreApart}
 use Rattle.stack_atoms.specs.Parts.{IsMarked, AreParts}
 use Rattle.stack_atoms.specs.Atoms.{is_bool_at, IsPartAtom, IsWideDistinct, AreAtoms}
-use Rattle.stack_atoms.specs.Sorts.{AreSorts}
+use Rattle.scope_stack.specs.Facts.{AreSorts}
 use Rattle.stack_atoms.specs.Numbers.{AddsAll, AreAtomsBelow}
-use Rattle.stack_atoms.proofs.Sorting.{HaveOneSort, distinct_sort, last_or_before}
+use Rattle.scope_stack.proofs.SortLemmas.{last_or_before}
+use Rattle.stack_atoms.proofs.Sorting.{HaveOneSort, distinct_sort}
 use Rattle.stack_atoms.proofs.Marking.{below, same_arguments}
 
 -- ---- atoms one after another
@@ -193,7 +194,7 @@ module _ (ds : List Declaration) (trees : List Tree) (marks : List Bool) (sorts 
   truth_more k old new m e b a = record {
     few = a.few b.few;
     each = each_more old new (Truth k ∷ []) b.each (All-cons (IsPartAtom ds trees marks) (Truth k) [] (m, bool_there k m e) (All-nil (IsPartAtom ds trees marks))) a;
-    truths = λ p l n t. elim (last_or_before ds trees k p l) [
+    truths = λ p l n t. elim (last_or_before k p l) [
       | inl before ↦ a.stay (Truth p) (b.truths p before n t)
       | inr last ↦ subst (λ q. Contains new (Truth q)) last (All-head (Contains new) (Truth k) [] a.these)
     ];
@@ -204,7 +205,7 @@ module _ (ds : List Declaration) (trees : List Tree) (marks : List Bool) (sorts 
   no_truth k old m n b = record {
     few = b.few;
     each = b.each;
-    truths = λ p l n' t. elim (last_or_before ds trees k p l) [
+    truths = λ p l n' t. elim (last_or_before k p l) [
       | inl before ↦ b.truths p before n' t
       | inr last ↦
           let no : is_bool_at ds trees p ≡ false = subst (λ q. is_bool_at ds trees q ≡ false) last (no_bool_there k m n) in
@@ -220,7 +221,7 @@ module _ (ds : List Declaration) (trees : List Tree) (marks : List Bool) (sorts 
     few = a.few b.few;
     each = each_more old new (of_pairs is) b.each (wide_atoms k is w) a;
     truths = λ p l n t. a.stay (Truth p) (b.truths p l n t);
-    pairs = λ p js l v. elim (last_or_before ds trees k p l) [
+    pairs = λ p js l v. elim (last_or_before k p l) [
       | inl before ↦ All-weaker (Contains old) (Contains new) a.stay (of_pairs js) (b.pairs p js before v)
       | inr last ↦ subst (λ ks. All (Contains new) (of_pairs ks)) (sym (all js (subst (λ q. IsWideDistinct ds trees marks q js) (sym last) v))) a.these
     ];
@@ -231,7 +232,7 @@ module _ (ds : List Declaration) (trees : List Tree) (marks : List Bool) (sorts 
     few = b.few;
     each = b.each;
     truths = b.truths;
-    pairs = λ p js l v. elim (last_or_before ds trees k p l) [
+    pairs = λ p js l v. elim (last_or_before k p l) [
       | inl before ↦ b.pairs p js before v
       | inr last ↦ absurd (none js (subst (λ q. IsWideDistinct ds trees marks q js) (sym last) v))
     ];
@@ -244,11 +245,11 @@ module _ (ds : List Declaration) (trees : List Tree) (marks : List Bool) (sorts 
   unmarked k old n b = record {
     few = b.few;
     each = b.each;
-    truths = λ p l m t. elim (last_or_before ds trees k p l) [
+    truths = λ p l m t. elim (last_or_before k p l) [
       | inl before ↦ b.truths p before m t
       | inr last ↦ absurd (apart (slice_index_or marks p false) m (subst (λ q. slice_index_or marks q false ≡ false) last n))
     ];
-    pairs = λ p js l v. elim (last_or_before ds trees k p l) [
+    pairs = λ p js l v. elim (last_or_before k p l) [
       | inl before ↦ b.pairs p js before v
       | inr last ↦ absurd (apart (slice_index_or marks p false) v.marked (subst (λ q. slice_index_or marks q false ≡ false) last n))
     ];

@@ -13,7 +13,7 @@ use Rattle.scope_stack.specs.Shown.{AreAsserted, IsLawful}
 use Rattle.stack_atoms.specs.Parts.{IsMarked, AreParts}
 use Rattle.smt_meaning.specs.Kinds.{has_no_integers}
 use Rattle.stack_atoms.specs.Marks.{AreMarked, AreStackParts}
-use Rattle.stack_atoms.specs.Sorts.{AreSorts}
+use Rattle.scope_stack.specs.Facts.{AreSorts}
 use Rattle.stack_atoms.proofs.Sorting.{HasSort, part_has_sort}
 use Rattle.stack_atoms.proofs.Integers.{part_of_stack_is_no_int, stack_without_integers}
 use Rattle.stack_atoms.proofs.Marking.{below}

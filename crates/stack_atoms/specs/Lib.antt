@@ -1,6 +1,5 @@
 pub mod Parts
 pub mod Atoms
 pub mod Marks
-pub mod Sorts
 pub mod Numbers
 pub mod OfStack

@@ -5,11 +5,10 @@ ghost use Rattle.smt_meaning.specs.Kinds.{has_no_integers};
 ghost use Rattle.stack_atoms.specs.Parts.{IsMarked};
 ghost use Rattle.smt_meaning.specs.Stack.{signature_of};
 ghost use Rattle.stack_atoms.specs.OfStack.{AreOfStack};
-ghost use Rattle.stack_atoms.specs.Sorts.{AreSorts};
+ghost use Rattle.scope_stack.specs.Facts.{AreSorts};
 
 use crate::numbers::number_parts;
 use crate::parts::marks;
-use crate::sorts::sorts;
 use atom_table::AtomTable;
 use scope_stack::Stack;
 use smt_meaning::Sort;
@@ -59,8 +58,7 @@ pub fn takes(alloc: Global, stack: &Stack) -> Result<bool, AllocError>
 {
     stack.laws();
     let marks = marks(alloc, stack, stack.assertions())?;
-    let sorts = sorts(alloc, stack)?;
-    Ok(are_no_integers(&marks, &sorts))
+    Ok(are_no_integers(&marks, stack.sorts()))
 }
 
 /// Marks the parts of the assertions, and numbers their atoms. An `Err` is for want of memory, as where there are more than 2^31 atoms.
@@ -71,7 +69,7 @@ pub fn numbered(alloc: Global, stack: &Stack) -> Result<StackAtoms, AllocError>
 {
     stack.laws();
     let marks = marks(alloc, stack, stack.assertions())?;
-    let sorts = sorts(alloc, stack)?;
+    let sorts = stack.sorts().to_vec(alloc)?;
     let table = number_parts(alloc, stack, &marks, &sorts)?;
     Ok(StackAtoms {
         marks,

@@ -4,6 +4,5 @@
 mod atoms;
 mod numbers;
 mod parts;
-mod sorts;
 
 pub use atoms::{StackAtoms, numbered, takes};

@@ -10,7 +10,7 @@ ghost use Rattle.smt_meaning.specs.Stack.{signature_of};
 ghost use Rattle.term_store.specs.Terms.{tree_with};
 ghost use Rattle.stack_atoms.specs.Parts.{IsMarked, AreParts};
 ghost use Rattle.stack_atoms.specs.Atoms.{AreAtoms, IsWideDistinct};
-ghost use Rattle.stack_atoms.specs.Sorts.{AreSorts};
+ghost use Rattle.scope_stack.specs.Facts.{AreSorts};
 ghost use Rattle.stack_atoms.specs.Numbers.{AddsAll, AreAtomsBelow};
 
 use atom_table::{AtomTable, CompactAtom};

@@ -3,7 +3,7 @@ use Rattle.smt_meaning.specs.declared.values.Sort.{Sort}
 use Rattle.smt_meaning.specs.Stack.{signature_of}
 use Rattle.stack_atoms.specs.Parts.{AreParts}
 use Rattle.stack_atoms.specs.Atoms.{AreAtoms}
-use Rattle.stack_atoms.specs.Sorts.{AreSorts}
+use Rattle.scope_stack.specs.Facts.{AreSorts}
 use Rattle.stack_atoms.proofs.Taking.{parts_are}
 use Rattle.stack_atoms.proofs.Places.{assertions_marked}
 use Rattle.stack_atoms.proofs.atoms.numbered.Goals as goal
@@ -15,7 +15,7 @@ number_parts-requires-clause-parts c =
 
 pub number_parts-requires-clause-sorts : goal.number_parts-requires-clause-sorts
 number_parts-requires-clause-sorts c =
-    subst (λ (ss : List Sort). AreSorts (signature_of c.args.stack.now.frames) c.args.stack.now.trees (length c.args.stack.now.trees) ss) (sym c.deref-2.ensures.value) c.in_ok-sorts.ensures
+    subst (λ (ss : List Sort). AreSorts (signature_of c.args.stack.now.frames) c.args.stack.now.trees (length c.args.stack.now.trees) ss) (sym c.deref-2.ensures.value) (subst (λ (ss : List Sort). AreSorts (signature_of c.args.stack.now.frames) c.args.stack.now.trees (length c.args.stack.now.trees) ss) (sym (c.in_ok-sorts.ensures.items_if_clones_equal (λ x y e. e))) c.sorts.ensures)
 
 pub returns-clause-atoms : goal.returns-clause-atoms
 returns-clause-atoms c =
@@ -27,3 +27,7 @@ returns-clause-atoms c =
       only = c.in_ok-marks.ensures.parts.only;
       assertions = assertions_marked s c.assertions.result.now marks c.assertions.ensures c.in_ok-marks.ensures;
     }
+
+pub returns-clause-sorts : goal.returns-clause-sorts
+returns-clause-sorts c =
+    subst (λ (ss : List Sort). AreSorts (signature_of c.args.stack.now.frames) c.args.stack.now.trees (length c.args.stack.now.trees) ss) (sym (c.in_ok-sorts.ensures.items_if_clones_equal (λ x y e. e))) c.sorts.ensures

@@ -1,8 +1,5 @@
-use Rattle.std.proofs.Common.{List, Bool, length, subst, sym}
-use Rattle.smt_meaning.specs.declared.values.Sort.{Sort}
-use Rattle.smt_meaning.specs.Stack.{signature_of}
+use Rattle.std.proofs.Common.{List, Bool, subst, sym}
 use Rattle.stack_atoms.specs.Marks.{AreMarked}
-use Rattle.stack_atoms.specs.Sorts.{AreSorts}
 use Rattle.stack_atoms.proofs.Taking.{taken}
 use Rattle.stack_atoms.proofs.atoms.takes.Goals as goal
 
@@ -10,6 +7,5 @@ pub returns : goal.returns
 returns c =
     let s = c.args.stack.now in
     let xs = c.assertions.result.now in
-    taken s xs c.deref.result.now c.laws.ensures c.assertions.ensures (subst (λ (bs : List Bool). AreMarked s xs 0 bs) (sym c.deref.ensures.value) c.in_ok-marks.ensures) c.deref-2.result.now
-    (subst (λ (ss : List Sort). AreSorts (signature_of s.frames) s.trees (length s.trees) ss) (sym c.deref-2.ensures.value) c.in_ok-sorts.ensures) c.are_no_integers.result c.are_no_integers.ensures.yes
+    taken s xs c.deref.result.now c.laws.ensures c.assertions.ensures (subst (λ (bs : List Bool). AreMarked s xs 0 bs) (sym c.deref.ensures.value) c.in_ok-marks.ensures) c.sorts.result.now c.sorts.ensures c.are_no_integers.result c.are_no_integers.ensures.yes
     c.are_no_integers.ensures.no
