@@ -13,6 +13,7 @@ use crate::said::{Extent, Guide, say};
 use crate::scan::{Scan, is_open};
 use crate::told::Told;
 use atom_table::AtomTable;
+use congruence::Explanation;
 use equal_points::Step;
 use flat_stack::flat_says_the_same;
 use literal_steps::{atoms_are_declared, implied_clause};
@@ -36,6 +37,7 @@ fn implied(
     alloc: Global,
     told: &Told,
     steps: &mut Vec<Step>,
+    explanation: &mut Explanation,
     stack: &Stack,
     marks: &[bool],
     table: &AtomTable,
@@ -50,16 +52,16 @@ fn implied(
 {
     atoms_are_declared();
     flat_says_the_same();
-    say(
+    let negation = literal.negated();
+    say(steps, stack, marks, table, guide, negation, Extent::Alone)?;
+    match implied_clause(
+        alloc,
+        explanation,
+        &told.congruence,
+        literal,
         steps,
-        stack,
-        marks,
-        table,
-        guide,
-        literal.negated(),
-        Extent::Alone,
-    )?;
-    match implied_clause(alloc, &told.congruence, literal, steps, REASONS)? {
+        REASONS,
+    )? {
         None => Ok(None),
         Some(clause) => Ok(Some(clause)),
     }
@@ -70,6 +72,7 @@ fn implied_sign(
     alloc: Global,
     told: &Told,
     steps: &mut Vec<Step>,
+    explanation: &mut Explanation,
     stack: &Stack,
     marks: &[bool],
     table: &AtomTable,
@@ -82,12 +85,23 @@ fn implied_sign(
     requires open { (l : Signed) → l.atom ≡ literal.atom → IsOpenIn told.now.log.items l }
     ensures { IfOk result (λ found. IfSome found (IsPressingLemma (state_of stack.now table.now told.now.log.items))) }
 {
-    match implied(alloc, told, steps, stack, marks, table, guide, literal)? {
+    match implied(
+        alloc,
+        told,
+        steps,
+        explanation,
+        stack,
+        marks,
+        table,
+        guide,
+        literal,
+    )? {
         Some(clause) => Ok(Some(clause)),
         None => implied(
             alloc,
             told,
             steps,
+            explanation,
             stack,
             marks,
             table,
@@ -124,6 +138,7 @@ fn scan_atom(
         alloc,
         told,
         &mut scan.steps,
+        &mut scan.explanation,
         stack,
         marks,
         table,

@@ -4,6 +4,7 @@ ghost use Rattle.literals.specs.Signed.{Signed};
 ghost use Rattle.search_port.specs.State.{IsOpenIn};
 ghost use Rattle.equality_theory.specs.Places.{ArePlaces};
 
+use congruence::Explanation;
 use equal_points::Step;
 use literals::Literal;
 
@@ -17,6 +18,8 @@ pub(crate) struct Scan {
     passed: usize,
     /// Room for the steps of a literal.
     pub(crate) steps: Vec<Step>,
+    /// The lists of the last explanation, for the next.
+    pub(crate) explanation: Explanation,
 }
 
 /// Whether an atom isn't in the log, with either sign.
@@ -33,7 +36,7 @@ pub(crate) fn is_open(places: &[usize], log: &[Literal], atom: u32) -> bool
 }
 
 impl Scan {
-    pub(crate) fn new(places: Vec<usize>, steps: Vec<Step>) -> Self
+    pub(crate) fn new(places: Vec<usize>, steps: Vec<Step>, explanation: Explanation) -> Self
         ensures { result.places.items ≡ places.items }
     {
         Scan {
@@ -41,6 +44,7 @@ impl Scan {
             next: 0,
             passed: 0,
             steps,
+            explanation,
         }
     }
 

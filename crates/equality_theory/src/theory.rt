@@ -105,7 +105,7 @@ impl<'s> EqualityTheory<'s> {
                 choices,
             },
             told: start(alloc, congruence),
-            scan: Scan::new(places, Vec::new(alloc)),
+            scan: Scan::new(places, Vec::new(alloc), Explanation::new(alloc)),
         })
     }
 }
