@@ -24,10 +24,10 @@ use smt_meaning::Seq;
 use std::alloc::{AllocError, Global};
 
 /// How many atoms are scanned at most in one call.
-const SCANNED: usize = 32;
+const SCANNED: usize = 8;
 
 /// How many clauses are given at most in one call.
-const GIVEN: usize = 16;
+const GIVEN: usize = 4;
 
 /// How many reasons a literal has at most.
 const REASONS: usize = 7;
