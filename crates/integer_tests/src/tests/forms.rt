@@ -1,5 +1,6 @@
 use linear_forms::LinearForms;
 use smt_meaning::{Head, Operator, TermId};
+use std::alloc::Global;
 use std::process::Abort;
 use std::test::Fail;
 use term_store::{InternError, TermStore};
@@ -55,26 +56,38 @@ fn outside(rt: &impl Abort, forms: &LinearForms, place: TermId) -> Option<TermId
     }
 }
 
+/// Terms with their arguments, each earlier: x, y, 2, 2 y, x - 2 y - 2, its difference with itself, and its negation.
+static FOLDED: [(Head, &'static [TermId]); 7] = [
+    (Head::Symbol(0), &[]),
+    (Head::Symbol(1), &[]),
+    (Head::Numeral(2), &[]),
+    (Head::Theory(Operator::Multiply), &[2, 1]),
+    (Head::Theory(Operator::Subtract), &[0, 3, 2]),
+    (Head::Theory(Operator::Subtract), &[4, 4]),
+    (Head::Theory(Operator::Subtract), &[4]),
+];
+
+/// The forms of these terms.
+fn forms_of(
+    rt: &impl Abort,
+    alloc: Global,
+    terms: &[(Head, &[TermId])],
+) -> Result<LinearForms, InternError> {
+    let mut store = TermStore::new(alloc, 99);
+    for (head, arguments) in terms {
+        let _ = intern(rt, &mut store, *head, arguments)?;
+    }
+    let mut forms = LinearForms::new(alloc);
+    forms.cover(&store)?;
+    Ok(forms)
+}
+
 #[test]
 fn sums_are_folded(rt: HostRuntime) -> Result<(), Fail> {
-    let mut store = TermStore::new(rt.alloc(), 99);
-    let x = intern(&rt, &mut store, Head::Symbol(0), &[])?;
-    let y = intern(&rt, &mut store, Head::Symbol(1), &[])?;
-    let two = intern(&rt, &mut store, Head::Numeral(2), &[])?;
-    let twice = theory(&rt, &mut store, Operator::Multiply, &[two, y])?;
-    let difference = theory(&rt, &mut store, Operator::Subtract, &[x, twice, two])?;
-    let nothing = theory(
-        &rt,
-        &mut store,
-        Operator::Subtract,
-        &[difference, difference],
-    )?;
-    let negated = theory(&rt, &mut store, Operator::Subtract, &[difference])?;
-    let mut forms = LinearForms::new(rt.alloc());
-    forms.cover(&store)?;
-    assert!(rt; is_form(&rt, &forms, difference, &[(1, x), (-2, y)], -2));
-    assert!(rt; is_form(&rt, &forms, negated, &[(-1, x), (2, y)], 2));
-    assert!(rt; is_form(&rt, &forms, nothing, &[], 0));
+    let forms = forms_of(&rt, rt.alloc(), &FOLDED)?;
+    assert!(rt; is_form(&rt, &forms, 4, &[(1, 0), (-2, 1)], -2));
+    assert!(rt; is_form(&rt, &forms, 5, &[], 0));
+    assert!(rt; is_form(&rt, &forms, 6, &[(-1, 0), (2, 1)], 2));
     Ok(())
 }
 

@@ -1,4 +1,4 @@
-use Rattle.std.proofs.Common.{◌≡◌, ℕ, List, map, subst, sym, ap, ◌∙◌}
+use Rattle.std.proofs.Common.{[], ◌≡◌, ℕ, List, map, subst, sym, ap, ◌∙◌}
 use Rattle.smt_meaning.specs.declared.reports.Unit.{Unit as ShownUnit}
 use Rattle.smt_meaning.specs.declared.reports.Cause.TheVariants.{Units}
 use Rattle.smt_meaning.specs.Stack.{depth}

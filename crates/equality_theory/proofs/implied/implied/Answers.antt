@@ -12,6 +12,6 @@ returns-in-Some c =
     let presses : Presses c.args.told.now.congruence c.args.literal c.deref.result.now c.in-Some.clause = rw c.in-Some.is at c.in_ok-implied_clause.ensures.presses in
     let said : AreSaid (signature_of c.args.stack.now.frames) c.args.stack.now.trees c.args.table.now (opposite c.args.literal) c.deref.result.now =
     subst (λ (ss : List Step). AreSaid (signature_of c.args.stack.now.frames) c.args.stack.now.trees c.args.table.now (opposite c.args.literal) ss) (sym c.deref.ensures.value)
-    (subst (λ (l : Signed). AreSaid (signature_of c.args.stack.now.frames) c.args.stack.now.trees c.args.table.now l c.say.new.steps.items) c.negated.ensures c.in_ok-say.ensures) in
+    (subst (λ (l : Signed). AreSaid (signature_of c.args.stack.now.frames) c.args.stack.now.trees c.args.table.now l c.say.new.steps.items) c.negated-negation.ensures c.in_ok-say.ensures) in
     presses_here c.atoms_are_declared.ensures c.flat_says_the_same.ensures c.args.stack.now c.args.marks.now c.args.table.now c.requires.setting c.args.told.now.congruence c.args.told.now.log.items
     c.args.told.now.starts.items c.args.literal c.deref.result.now c.in-Some.clause c.requires.told c.requires.numbered c.requires.open said presses
