@@ -1,0 +1,5 @@
+pub mod Laws
+pub mod Places
+pub mod Said
+pub mod Seen
+pub mod Told

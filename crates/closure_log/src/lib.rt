@@ -1,0 +1,17 @@
+//! Literals of a log told to a closure of congruence, with what they say of the terms of a stack, and what is broken or follows.
+#![tactic(auto)]
+
+ghost use Rattle.closure_log.specs.Laws.{StaysTold};
+
+mod choices;
+mod implied;
+mod laws;
+mod said;
+mod scan;
+mod told;
+
+pub use implied::infer;
+pub use laws::what_was_told_stays;
+pub use said::Guide;
+pub use scan::Scan;
+pub use told::ClosureLog;

@@ -1,0 +1,11 @@
+//! The theory of equality and of whole numbers together: literals are told to a closure of congruence and to bounds of sums, and a model of both is
+//! evaluated before it is given.
+#![tactic(auto)]
+
+mod held;
+mod numbering;
+mod theory;
+mod values;
+mod wanted;
+
+pub use theory::Combined;
