@@ -1,0 +1,3 @@
+mod Results
+mod Keys
+mod Tables

@@ -1,0 +1,8 @@
+//! Numbers of atoms of all kinds: of the truth of a term, of the equality of two terms, and of a bound of a sum.
+#![tactic(auto)]
+
+mod atom;
+mod table;
+
+pub use atom::NumberedAtom;
+pub use table::AtomNumbers;
