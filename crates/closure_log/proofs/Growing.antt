@@ -37,9 +37,20 @@ module _ (s : Stack) (table more : List Atom) where
   }
 
   stays : (c : Congruence) (log : List Signed) (starts : List ℕ) → IsTold s table c log starts → IsTold s (table ++ more) c log starts
-  stays c log starts h = record h {
-    reasoned = record h.reasoned { justified = steps_stay c.closure.steps.items c.reasons.items log h.numbered h.reasoned.told h.reasoned.justified };
+  stays c log starts h = record {
+    reasoned = record {
+      recorded = h.reasoned.recorded;
+      read = h.reasoned.read;
+      every = h.reasoned.every;
+      justified = steps_stay c.closure.steps.items c.reasons.items log h.numbered h.reasoned.told h.reasoned.justified;
+      told = h.reasoned.told;
+    };
+    seen = h.seen;
     numbered = All-weaker (λ (l : Signed). l.atom < length table) (λ (l : Signed). l.atom < length (table ++ more)) (λ l less. omega (arith, length-append table more)) log h.numbered;
+    consistent = h.consistent;
+    as_many = h.as_many;
+    ascending = h.ascending;
+    marks = h.marks;
   }
 
 pub stays_told : StaysTold

@@ -79,17 +79,17 @@ places_taken log places n h = record {
 pub places_of_none : (places : List ℕ) → ArePlaces [] places
 places_of_none places = record { at = λ j m less is. absurd (omega arith) }
 
--- zeros at the end change no place
-pub places_grown : (log : List Signed) (places : List ℕ) (more : ℕ) → ArePlaces log places → ArePlaces log (places ++ replicate more 0)
-places_grown log places more h = record { at = λ j m less is. zeros m.atom ∙ h.at j m less is }
-  where
-    zeros : (a : ℕ) → slice_index_or (places ++ replicate more 0) a 0 ≡ slice_index_or places a 0
-    zeros a = elim (cases_lt a (length places)) [
-      | inl before ↦ get_or_append_left places (replicate more 0) 0 a before
-      | inr past ↦ get_or-append_right places (replicate more 0) (length places) a 0 refl past ∙ zero_at more (a - length places) ∙ sym (get_or_past places a 0 past)
-    ]
+zero_at : (n k : ℕ) → slice_index_or (replicate n zero) k zero ≡ zero
+zero_at zero k = refl
+zero_at (suc n) zero = refl
+zero_at (suc n) (suc k) = zero_at n k
 
-    zero_at : (n k : ℕ) → slice_index_or (replicate n 0) k 0 ≡ 0
-    zero_at zero k = refl
-    zero_at (suc n) zero = refl
-    zero_at (suc n) (suc k) = zero_at n k
+same_with_zeros : (places : List ℕ) (more a : ℕ) → slice_index_or (places ++ replicate more zero) a zero ≡ slice_index_or places a zero
+same_with_zeros places more a = elim (cases_lt a (length places)) [
+  | inl before ↦ get_or_append_left places (replicate more zero) zero a before
+  | inr past ↦ get_or-append_right places (replicate more zero) (length places) a zero refl past ∙ zero_at more (a - length places) ∙ sym (get_or_past places a zero past)
+]
+
+-- zeros at the end change no place
+pub places_grown : (log : List Signed) (places : List ℕ) (more : ℕ) → ArePlaces log places → ArePlaces log (places ++ replicate more zero)
+places_grown log places more h = record { at = λ j m less is. same_with_zeros places more m.atom ∙ h.at j m less is }

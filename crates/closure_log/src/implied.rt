@@ -124,6 +124,7 @@ fn scan_atom(
     ensures places { scan.new.places.items ≡ scan.old.places.items }
     ensures found { IfOk result (λ found. IfSome found (IsPressingLemma (state_of stack.now atoms.now.atoms told.now.log.items))) }
 {
+    let _few = atoms.len();
     if !is_open(&scan.places, &told.log, atom as u32) {
         return Ok(None);
     }

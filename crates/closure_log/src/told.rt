@@ -72,14 +72,7 @@ fn record(
     ensures told { IsTold stack.now atoms.now.atoms told.new.congruence told.new.log.items told.new.starts.items }
     ensures log { told.new.log.items ≡ told.old.log.items }
 {
-    say(
-        &mut told.steps,
-        stack,
-        atoms,
-        guide,
-        literal,
-        Extent::Whole,
-    )?;
+    say(&mut told.steps, stack, atoms, guide, literal, Extent::Whole)?;
     record_all(&mut told.congruence, &told.steps, literal)
 }
 

@@ -3,7 +3,7 @@ use Rattle.std.specs.Prelude.{ℕ, List, slice_index_or}
 use Rattle.literals.specs.Signed.{Signed}
 use Rattle.closure_log.specs.Told.{IsTold}
 use Rattle.closure_log.proofs.Telling.{told_undone}
-use Rattle.closure_log.proofs.told.undo_to.Goals as goal
+use Rattle.closure_log.proofs.told.cut_to.Goals as goal
 
 pub returns-then-count-len-clause-told : goal.returns-then-count-len-clause-told
 returns-then-count-len-clause-told c =
