@@ -7,7 +7,7 @@ ghost use Rattle.tableau.specs.Failing.{IsRange};
 ghost use Rattle.simplex_steps.specs.State.{column_in, grid_of, values};
 ghost use Rattle.simplex_steps.specs.Run.{IsRun, KeepsLines};
 ghost use Rattle.simplex.specs.State.{IsState as IsSimplex, KeepsValues};
-ghost use Rattle.sum_bounds.specs.Bounds.{sums, sum_hashes, told_bound, MeetsSide, IsPastEnd, AreApart, IsSum, StandsFor, with_leaf, with_sum, sum_fits, Judges, SpendsRoom, IsFirstIn, AreWhole, IsState};
+ghost use Rattle.sum_bounds.specs.Bounds.{sums, leaf_values, sum_hashes, told_bound, MeetsSide, IsPastEnd, AreApart, IsSum, StandsFor, with_leaf, with_sum, sum_fits, Judges, SpendsRoom, IsFirstIn, AreWhole, IsState};
 ghost use Rattle.sum_bounds.specs.Written.{HasLeaf};
 ghost use Rattle.sum_bounds.specs.Kept.{IsGrownByLeaf, IsGrownBySum};
 
@@ -16,6 +16,7 @@ use crate::fractions::{FractionalLeaf, first_fraction};
 use crate::lookup::{find, hash_of};
 use crate::told::{is_met, number_of, side_of, tag_of};
 use crate::writing::{SumVariable, first_is_negative, parts_of, turned_sum};
+use fraction128::Fraction;
 use grid_meaning::{Sum, Summand};
 use literals::Literal;
 use simplex::{PivotLines, Set, Simplex};
@@ -157,6 +158,19 @@ impl SumBounds {
             Some(_) => true,
             None => false,
         }
+    }
+
+    /// The value of a term's variable, if it has one.
+    pub fn value(&self, term: u32) -> Option<Fraction>
+        ensures some { IfSome result (λ v. v ≡ leaf_values self.now term) }
+        ensures none { IfNone result (HasLeaf self.now.columns term → ⊥) }
+    {
+        let alone = [Summand {
+            coefficient: 1,
+            term,
+        }];
+        let variable = find(&self.simplex, &self.keys, &alone)?;
+        Some(self.simplex.column(variable).value)
     }
 
     /// How many bounds are told.
