@@ -9,7 +9,7 @@ ghost use Rattle.simplex_steps.specs.Run.{IsRun, KeepsLines};
 ghost use Rattle.simplex.specs.State.{KeepsValues};
 ghost use Rattle.smt_meaning.specs.declared.clauses.Atom.{Atom};
 ghost use Rattle.smt_meaning.specs.declared.clauses.Atom.TheVariants.{AtMost};
-ghost use Rattle.sum_bounds.specs.Bounds.{sum_fits, IsFirstIn, AreWhole};
+ghost use Rattle.sum_bounds.specs.Bounds.{leaf_values, sum_fits, IsFirstIn, AreWhole};
 ghost use Rattle.sum_bounds.specs.Clauses.{plain};
 ghost use Rattle.sum_bounds.specs.Written.{HasLeaf};
 ghost use Rattle.bound_log.specs.Told.{said_at, told_by, IsKnown, IsPast, IsState, IsTold, IsUndone};
@@ -22,6 +22,7 @@ use crate::plain::plain_sum;
 use crate::report::{Reported, report_of};
 use crate::said::{Said, assert, push, said_of, start_of};
 use crate::variables::variable_of;
+use fraction128::Fraction;
 use literals::Literal;
 use simplex::PivotLines;
 use smt_meaning::Summand;
@@ -225,6 +226,14 @@ impl BoundLog {
             report: report_of(finding),
             pivots,
         }
+    }
+
+    /// The value of a term's variable, if it has one.
+    pub fn value(&self, term: u32) -> Option<Fraction>
+        ensures some { IfSome result (λ v. v ≡ leaf_values self.now.bounds term) }
+        ensures none { IfNone result (HasLeaf self.now.bounds.columns term → ⊥) }
+    {
+        self.bounds.value(term)
     }
 
     /// The least variable of a term whose value isn't whole.

@@ -1,10 +1,18 @@
 //! What was told, to the closure and to the bounds.
+ghost use Rattle.std.specs.Prelude.{◌≡◌, ◌<◌, length, take};
+ghost use Rattle.search_port.specs.State.{IsOpenIn};
+ghost use Rattle.search_port.specs.Calls.{AssertedBy, InferredBy};
+ghost use Rattle.search_port.specs.Spending.{Spending};
+ghost use Rattle.closure_log.specs.Seen.{state_of, IsSetting};
+ghost use Rattle.theory_combine.specs.Held.{IsHeld, IsMet};
+
 use atom_numbers::AtomNumbers;
 use bound_log::{BoundLog, Report};
 use closure_log::{ClosureLog, Guide, Scan, infer};
+use flat_stack::flat_says_the_same;
 use literals::Literal;
 use scope_stack::Stack;
-use search_port::{Asserted, Cause, Inferred};
+use search_port::{Asserted, Cause, Inferred, Lemma};
 use simplex::PivotLines;
 use std::alloc::Global;
 
@@ -16,7 +24,18 @@ pub(crate) struct Held {
     pub(crate) scan: Scan,
 }
 
-/// Tells one literal more. Where it isn't taken nothing changes.
+/// What a check of the bounds finds.
+#[derive(Drop)]
+pub(crate) enum Met {
+    /// The terms' values meet all bounds.
+    Fits,
+    /// A clause that is false.
+    Conflict(Lemma),
+    /// It didn't come to its end.
+    Ended,
+}
+
+/// Tells one literal more. Where memory is wanting, or a bound leaves the range, it isn't taken.
 pub(crate) fn tell(
     alloc: Global,
     held: &mut Held,
@@ -24,34 +43,60 @@ pub(crate) fn tell(
     atoms: &AtomNumbers,
     guide: &Guide,
     literal: Literal,
-) -> Asserted {
+) -> Asserted
+    requires setting { IsSetting stack.now atoms.now.atoms }
+    requires held { IsHeld stack.now atoms.now.atoms held.old }
+    requires numbered { literal.atom < length atoms.now.atoms }
+    requires open { IsOpenIn held.old.closure.log.items literal }
+    ensures held { IsHeld stack.now atoms.now.atoms held.new }
+    ensures answer { AssertedBy (state_of stack.now atoms.now.atoms held.old.closure.log.items) (state_of stack.now atoms.now.atoms held.new.closure.log.items) literal result }
+{
     let place = held.closure.log.len();
     if held.bounds.tell(literal).is_err() {
         return Asserted::Ended(Cause::Memory);
     }
-    let answer = held.closure.tell(alloc, stack, atoms, guide, literal);
     held.scan.note(literal, place);
-    if matches!(answer, Asserted::Ended(_)) {
-        held.bounds.undo_to(place);
+    let answer = held.closure.tell(alloc, stack, atoms, guide, literal);
+    match answer {
+        Asserted::Ended(cause) => {
+            held.bounds.undo_to(place);
+            Asserted::Ended(cause)
+        }
+        other => other,
     }
-    answer
 }
 
 /// Keeps so many of the literals.
-pub(crate) fn undo_to(held: &mut Held, stack: &Stack, atoms: &AtomNumbers, count: usize) {
+pub(crate) fn undo_to(held: &mut Held, stack: &Stack, atoms: &AtomNumbers, count: usize)
+    requires { IsHeld stack.now atoms.now.atoms held.old }
+    ensures held { IsHeld stack.now atoms.now.atoms held.new }
+    ensures log { held.new.closure.log.items ≡ take count held.old.closure.log.items }
+{
     held.closure.undo_to(stack, atoms, count);
     held.bounds.undo_to(count);
     held.scan.restart();
 }
 
 /// Moves values until all bounds are met, or finds a clause that the bounds break.
-pub(crate) fn meet_bounds(alloc: Global, held: &mut Held) -> Inferred {
+pub(crate) fn meet_bounds(
+    alloc: Global,
+    held: &mut Held,
+    stack: &Stack,
+    atoms: &AtomNumbers,
+) -> Met
+    requires setting { IsSetting stack.now atoms.now.atoms }
+    requires held { IsHeld stack.now atoms.now.atoms held.old }
+    ensures held { IsHeld stack.now atoms.now.atoms held.new }
+    ensures log { held.new.closure.log.items ≡ held.old.closure.log.items }
+    ensures met { IsMet (state_of stack.now atoms.now.atoms held.new.closure.log.items) result }
+{
+    flat_says_the_same();
     let mut lines = PivotLines::new(alloc, false);
     let reported = held.bounds.check(alloc, &mut lines, u64::MAX);
     match reported.report {
-        Report::Fits => Inferred::Quiet,
-        Report::Conflict(clause) => Inferred::Conflict(clause),
-        Report::Range(_) | Report::UnitsSpent | Report::Memory => Inferred::Ended(Cause::Memory),
+        Report::Fits => Met::Fits,
+        Report::Conflict(clause) => Met::Conflict(clause),
+        Report::Range(_) | Report::UnitsSpent | Report::Memory => Met::Ended,
     }
 }
 
@@ -62,10 +107,20 @@ pub(crate) fn follow(
     stack: &Stack,
     atoms: &AtomNumbers,
     guide: &Guide,
-) -> Inferred {
+) -> Inferred
+    requires setting { IsSetting stack.now atoms.now.atoms }
+    requires held { IsHeld stack.now atoms.now.atoms held.old }
+    ensures held { IsHeld stack.now atoms.now.atoms held.new }
+    ensures log { held.new.closure.log.items ≡ held.old.closure.log.items }
+    ensures found { (b c : Spending) → InferredBy (state_of stack.now atoms.now.atoms held.new.closure.log.items) b c result }
+{
     let found = infer(alloc, &held.closure, &mut held.scan, stack, atoms, guide);
-    if !matches!(found, Inferred::Quiet) {
-        return found;
+    match found {
+        Inferred::Quiet => match meet_bounds(alloc, held, stack, atoms) {
+            Met::Fits => Inferred::Quiet,
+            Met::Conflict(clause) => Inferred::Conflict(clause),
+            Met::Ended => Inferred::Ended(Cause::Memory),
+        },
+        other => other,
     }
-    meet_bounds(alloc, held)
 }

@@ -1,0 +1,4 @@
+pub mod Held
+pub mod Numbering
+pub mod State
+pub mod StateCode
