@@ -7,6 +7,8 @@ use Rattle.search_port.specs.Calls.{IsConflict}
 use Rattle.closure_log.specs.Told.{IsTold}
 use Rattle.closure_log.specs.Places.{ArePlaces}
 use Rattle.bound_log.specs.Atoms.{Knows}
+use Rattle.bound_log.specs.declared.report.Report.{Report}
+use Rattle.bound_log.specs.declared.report.Report.TheVariants.{Fits as AllFit, Conflict as Clash, Range as NoFit, UnitsSpent as Spent, Memory as NoMemory}
 use Rattle.theory_combine.specs.declared.held.Held.{Held}
 use Rattle.theory_combine.specs.declared.held.Met.{Met}
 use Rattle.theory_combine.specs.declared.held.Met.TheVariants.{Fits, Conflict, Ended}
@@ -24,3 +26,11 @@ abbrev pub IsMet : TheoryState → Met → Type 0
 IsMet t Fits = Unit {0}
 IsMet t (Conflict c) = IsConflict t c
 IsMet t Ended = Unit {0}
+
+-- what a report says, without why there is no end
+abbrev pub IsMetBy : Report → Met → Type 0
+IsMetBy AllFit m = m ≡ Fits
+IsMetBy (Clash c) m = m ≡ Conflict c
+IsMetBy (NoFit number) m = m ≡ Ended
+IsMetBy Spent m = m ≡ Ended
+IsMetBy NoMemory m = m ≡ Ended

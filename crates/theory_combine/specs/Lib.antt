@@ -1,4 +1,1 @@
 pub mod Held
-pub mod Numbering
-pub mod State
-pub mod StateCode

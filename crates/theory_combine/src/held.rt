@@ -4,10 +4,10 @@ ghost use Rattle.search_port.specs.State.{IsOpenIn};
 ghost use Rattle.search_port.specs.Calls.{AssertedBy, InferredBy};
 ghost use Rattle.search_port.specs.Spending.{Spending};
 ghost use Rattle.closure_log.specs.Seen.{state_of, IsSetting};
-ghost use Rattle.theory_combine.specs.Held.{IsHeld, IsMet};
+ghost use Rattle.theory_combine.specs.Held.{IsHeld, IsMet, IsMetBy};
 
 use atom_numbers::AtomNumbers;
-use bound_log::{BoundLog, Report};
+use bound_log::{BoundLog, Report, Reported};
 use closure_log::{ClosureLog, Guide, Scan, infer};
 use flat_stack::flat_says_the_same;
 use literals::Literal;
@@ -52,17 +52,18 @@ pub(crate) fn tell(
     ensures answer { AssertedBy (state_of stack.now atoms.now.atoms held.old.closure.log.items) (state_of stack.now atoms.now.atoms held.new.closure.log.items) literal result }
 {
     let place = held.closure.log.len();
-    if held.bounds.tell(literal).is_err() {
+    let Ok(()) = held.bounds.tell(literal) else {
         return Asserted::Ended(Cause::Memory);
-    }
+    };
     held.scan.note(literal, place);
     let answer = held.closure.tell(alloc, stack, atoms, guide, literal);
     match answer {
+        Asserted::Taken => Asserted::Taken,
+        Asserted::Conflict(clause) => Asserted::Conflict(clause),
         Asserted::Ended(cause) => {
             held.bounds.undo_to(place);
             Asserted::Ended(cause)
         }
-        other => other,
     }
 }
 
@@ -75,6 +76,17 @@ pub(crate) fn undo_to(held: &mut Held, stack: &Stack, atoms: &AtomNumbers, count
     held.closure.undo_to(stack, atoms, count);
     held.bounds.undo_to(count);
     held.scan.restart();
+}
+
+/// What a report says, without why there is no end.
+fn met_by(report: Report) -> Met
+    ensures { IsMetBy report result }
+{
+    match report {
+        Report::Fits => Met::Fits,
+        Report::Conflict(clause) => Met::Conflict(clause),
+        Report::Range(_) | Report::UnitsSpent | Report::Memory => Met::Ended,
+    }
 }
 
 /// Moves values until all bounds are met, or finds a clause that the bounds break.
@@ -91,13 +103,12 @@ pub(crate) fn meet_bounds(
     ensures met { IsMet (state_of stack.now atoms.now.atoms held.new.closure.log.items) result }
 {
     flat_says_the_same();
-    let mut lines = PivotLines::new(alloc, false);
-    let reported = held.bounds.check(alloc, &mut lines, u64::MAX);
-    match reported.report {
-        Report::Fits => Met::Fits,
-        Report::Conflict(clause) => Met::Conflict(clause),
-        Report::Range(_) | Report::UnitsSpent | Report::Memory => Met::Ended,
-    }
+    let mut lines = PivotLines {
+        keep: false,
+        lines: Vec::new(alloc),
+    };
+    let Reported { report, pivots: _ } = held.bounds.check(alloc, &mut lines, u64::MAX);
+    met_by(report)
 }
 
 /// What follows from the literals told.

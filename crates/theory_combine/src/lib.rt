@@ -3,9 +3,3 @@
 #![tactic(auto)]
 
 mod held;
-mod numbering;
-mod theory;
-mod values;
-mod wanted;
-
-pub use theory::Combined;
