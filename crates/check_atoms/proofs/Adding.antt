@@ -44,6 +44,6 @@ only_one x y (k, h, e) = at k h e
     at (suc k) h e = absurd (omega (arith, h))
 
 -- what refuses an atom of a list refuses the list
-pub refuses_more : (trees : List Tree) (atoms : List PartAtom) (x : PartAtom) (e : Refusal) → Contains atoms x → RefusesOne trees (x ∷ []) e → RefusesOne trees atoms e
-refuses_more trees atoms x e c (inl m) = inl m
-refuses_more trees atoms x e c (inr r) = inr (record { order = r.order; among = subst (Contains atoms) (only_one x (Bound r.order) r.among) c; refuses = r.refuses })
+pub refuses_more : (trees : List Tree) (place : ℕ) (atoms : List PartAtom) (x : PartAtom) (e : Refusal) → Contains atoms x → RefusesOne trees place (x ∷ []) e → RefusesOne trees place atoms e
+refuses_more trees place atoms x e c (inl m) = inl m
+refuses_more trees place atoms x e c (inr r) = inr (record { order = r.order; among = subst (Contains atoms) (only_one x (Bound r.order) r.among) c; refuses = r.refuses })

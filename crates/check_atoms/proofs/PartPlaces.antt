@@ -60,13 +60,10 @@ module _ (P : ℕ → Type 0) where
     two_over (i ∷ is) g = All-append IsOver (first_with f i is) (each_two f is) (first_over i is (All-head P i is g) (All-tail P i is g)) (two_over is (All-tail P i is g))
 
     branches_over : (p : ℕ) (is : List ℕ) → P p → All P is → All IsOver (with_branches f p is)
-    branches_over p [] h g = All-nil IsOver
-    branches_over p (c ∷ []) h g = All-nil IsOver
-    branches_over p (c ∷ i ∷ []) h g = All-nil IsOver
     branches_over p (c ∷ i ∷ j ∷ []) h g =
         let r = All-tail P c (i ∷ j ∷ []) g in
         All-append IsOver (pair f p i) (pair f p j) (pair_over (f p) p i h (All-head P i (j ∷ []) r)) (pair_over (f p) p j h (All-head P j [] (All-tail P i (j ∷ []) r)))
-    branches_over p (c ∷ i ∷ j ∷ k ∷ ks) h g = All-nil IsOver
+    branches_over p is h g = All-nil IsOver
 
     compared_over : (o : Operator) (p : ℕ) (is : List ℕ) → P p → All P is → All IsOver (compared f o p is)
     compared_over Equal p [] h g = All-nil IsOver
@@ -81,22 +78,11 @@ module _ (P : ℕ → Type 0) where
     compared_over AtLeast p (i ∷ is) h g = falling_over NotAbove i is (All-head P i is g) (All-tail P i is g)
     compared_over Greater p [] h g = All-nil IsOver
     compared_over Greater p (i ∷ is) h g = falling_over Below i is (All-head P i is g) (All-tail P i is g)
-    compared_over True p is h g = All-nil IsOver
-    compared_over False p is h g = All-nil IsOver
-    compared_over Not p is h g = All-nil IsOver
-    compared_over And p is h g = All-nil IsOver
-    compared_over Or p is h g = All-nil IsOver
-    compared_over Xor p is h g = All-nil IsOver
-    compared_over Implies p is h g = All-nil IsOver
-    compared_over Add p is h g = All-nil IsOver
-    compared_over Subtract p is h g = All-nil IsOver
-    compared_over Multiply p is h g = All-nil IsOver
+    compared_over o p is h g = All-nil IsOver
 
     by_head_over : (h : Head) (p : ℕ) (is : List ℕ) → P p → All P is → All IsOver (compared_by_head f h p is)
     by_head_over (Theory o) p is h g = compared_over o p is h g
-    by_head_over (Numeral n) p is h g = All-nil IsOver
-    by_head_over (Symbol n) p is h g = All-nil IsOver
-    by_head_over (Place n) p is h g = All-nil IsOver
+    by_head_over k p is h g = All-nil IsOver
 
     pub part_over : (p : ℕ) (h : Head) (is : List ℕ) → P p → All P is → All IsOver (of_part f p h is)
     part_over p h is k g = All-append IsOver (truth_by_sort (f p) p) (compared_by_head f h p is) (truth_over (f p) p k) (by_head_over h p is k g)
@@ -128,37 +114,19 @@ module _ (f g : ℕ → Option Sort) where
   same_two (i ∷ is) es = ap₂ (λ xs ys. xs ++ ys) (same_first i is (All-head Agree i is es)) (same_two is (All-tail Agree i is es))
 
   same_branches : (p : ℕ) (is : List ℕ) → Agree p → with_branches f p is ≡ with_branches g p is
-  same_branches p [] e = refl
-  same_branches p (c ∷ []) e = refl
-  same_branches p (c ∷ i ∷ []) e = refl
   same_branches p (c ∷ i ∷ j ∷ []) e = ap (λ s. by_sort s p i ++ by_sort s p j) e
-  same_branches p (c ∷ i ∷ j ∷ k ∷ ks) e = refl
+  same_branches p is e = refl
 
   same_compared : (o : Operator) (p : ℕ) (is : List ℕ) → Agree p → All Agree is → compared f o p is ≡ compared g o p is
   same_compared Equal p [] e es = refl
   same_compared Equal p (i ∷ is) e es = same_neighbours i is (All-head Agree i is es) (All-tail Agree i is es)
   same_compared Distinct p is e es = same_two is es
   same_compared Ite p is e es = same_branches p is e
-  same_compared AtMost p is e es = refl
-  same_compared Less p is e es = refl
-  same_compared AtLeast p is e es = refl
-  same_compared Greater p is e es = refl
-  same_compared True p is e es = refl
-  same_compared False p is e es = refl
-  same_compared Not p is e es = refl
-  same_compared And p is e es = refl
-  same_compared Or p is e es = refl
-  same_compared Xor p is e es = refl
-  same_compared Implies p is e es = refl
-  same_compared Add p is e es = refl
-  same_compared Subtract p is e es = refl
-  same_compared Multiply p is e es = refl
+  same_compared o p is e es = refl
 
   same_by_head : (h : Head) (p : ℕ) (is : List ℕ) → Agree p → All Agree is → compared_by_head f h p is ≡ compared_by_head g h p is
   same_by_head (Theory o) p is e es = same_compared o p is e es
-  same_by_head (Numeral n) p is e es = refl
-  same_by_head (Symbol n) p is e es = refl
-  same_by_head (Place n) p is e es = refl
+  same_by_head h p is e es = refl
 
   pub same_part : (p : ℕ) (h : Head) (is : List ℕ) → Agree p → All Agree is → of_part f p h is ≡ of_part g p h is
   same_part p h is e es = ap₂ (λ xs ys. xs ++ ys) (ap (λ s. truth_by_sort s p) e) (same_by_head h p is e es)

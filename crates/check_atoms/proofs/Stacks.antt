@@ -101,7 +101,7 @@ module _ (s : Stack) (marks : List Bool) (law : IsLawful s) (parts : AreMarkedFr
     ];
   }
 
-  pub part_refused : (k : ℕ) (h : Head) (is : List ℕ) (e : Refusal) → IsMarked marks k → IsNode s.trees k h is → RefusesOne s.trees (part_atoms s k h is) e → IsRefused s e
+  pub part_refused : (k : ℕ) (h : Head) (is : List ℕ) (e : Refusal) → IsMarked marks k → IsNode s.trees k h is → RefusesOne s.trees k (part_atoms s k h is) e → IsRefused s e
   part_refused k h is e m n (inl memory) = inl memory
   part_refused k h is e m n (inr r) = inr (record { place = k; head = h; arguments = is; part = parts.only k m; term = n; bound = r })
 
@@ -150,6 +150,7 @@ module _ (s : Stack) (marks : List Bool) (law : IsLawful s) (parts : AreMarkedFr
     all_atoms atoms b few apart =
         let over : All (λ (a : Atom). All (IsMarked marks) (atom_places a)) atoms = λ k d l. over_marked (get_or atoms k d) (b.only (get_or atoms k d) (Contains-get_or atoms k d l)) in
         record {
+          size = parts.size;
           few = few;
           apart = apart;
           only = b.only;

@@ -86,26 +86,12 @@ module _ (P : ℕ → Type 0) where
   by_operator Add fs leaf h k = all_folded form_plus added fs h
   by_operator Subtract fs leaf h k = subtracted fs h
   by_operator Multiply fs leaf h k = all_folded form_product multiplied fs h
-  by_operator True fs leaf h k = k
-  by_operator False fs leaf h k = k
-  by_operator Not fs leaf h k = k
-  by_operator And fs leaf h k = k
-  by_operator Or fs leaf h k = k
-  by_operator Xor fs leaf h k = k
-  by_operator Implies fs leaf h k = k
-  by_operator Equal fs leaf h k = k
-  by_operator Distinct fs leaf h k = k
-  by_operator Ite fs leaf h k = k
-  by_operator AtMost fs leaf h k = k
-  by_operator Less fs leaf h k = k
-  by_operator AtLeast fs leaf h k = k
-  by_operator Greater fs leaf h k = k
+  by_operator o fs leaf h k = k
 
   by_head : (h : Head) (fs : List Form) (leaf : Form) → HavePlaces fs → HasPlaces leaf.sum → HasPlaces (head_form h fs leaf).sum
   by_head (Numeral n) fs leaf h k = tt
   by_head (Theory o) fs leaf h k = by_operator o fs leaf h k
-  by_head (Symbol f) fs leaf h k = k
-  by_head (Place j) fs leaf h k = k
+  by_head t fs leaf h k = k
 
   module _ (ts : List Tree) where
     mutual

@@ -24,21 +24,21 @@ abbrev pub fits_by : Sense → List Tree → Tree → Tree → Bool
 fits_by NotAbove = at_most_fits
 fits_by Below = below_fits
 
--- folding the bound that says the order leaves the range: by itself, or a folding of one of its terms does at this part
-abbrev pub RefusesOrder : List Tree → Order → Refusal → Type 0
-RefusesOrder ts o (Term part) = Refuses ts (fits_by o.sense ts) o.lesser o.greater (FormOfTerm part)
-RefusesOrder ts o (Pair q) = (q ≡ o) × Refuses ts (fits_by o.sense ts) o.lesser o.greater FormOfPair
-RefusesOrder ts o Memory = ⊥
+-- folding the bound that says an order at this place leaves the range: by itself, or a folding of one of its terms does at this part
+abbrev pub RefusesOrder : List Tree → ℕ → Order → Refusal → Type 0
+RefusesOrder ts place o (Term part) = Refuses ts (fits_by o.sense ts) o.lesser o.greater (FormOfTerm part)
+RefusesOrder ts place o (Pair p q) = (p ≡ place) × (q ≡ o) × Refuses ts (fits_by o.sense ts) o.lesser o.greater FormOfPair
+RefusesOrder ts place o Memory = ⊥
 
 -- one of these bounds is refused
-pub record RefusesBound (ts : List Tree) (atoms : List PartAtom) (e : Refusal) : Type 0 where
+pub record RefusesBound (ts : List Tree) (place : ℕ) (atoms : List PartAtom) (e : Refusal) : Type 0 where
   pub order : Order
   pub among : Contains atoms (Bound order)
-  pub refuses : RefusesOrder ts order e
+  pub refuses : RefusesOrder ts place order e
 
 -- memory is wanting, or one of these is refused
-abbrev pub RefusesOne : List Tree → List PartAtom → Refusal → Type 0
-RefusesOne ts atoms e = (e ≡ Memory) ⊎ RefusesBound ts atoms e
+abbrev pub RefusesOne : List Tree → ℕ → List PartAtom → Refusal → Type 0
+RefusesOne ts place atoms e = (e ≡ Memory) ⊎ RefusesBound ts place atoms e
 
 -- the terms of a bound are among the first so many
 abbrev pub IsWithin : ℕ → PartAtom → Type 0

@@ -38,6 +38,7 @@ pub record IsAtomOfPart (s : Stack) (marks : List Bool) (a : Atom) : Type 0 wher
 
 -- exactly the atoms of the parts are numbered, each once, and they are over parts and over what the stack declares
 pub record AreCheckAtoms (s : Stack) (marks : List Bool) (atoms : List Atom) : Type 0 where
+  pub size : length marks ≡ length s.trees
   pub few : length atoms ≤ 2 ^ 31
   pub apart : AreApart atoms
   pub only : (a : Atom) → Contains atoms a → IsAtomOfPart s marks a
@@ -52,7 +53,7 @@ pub record RefusesPart (s : Stack) (e : Refusal) : Type 0 where
   pub arguments : List ℕ
   pub part : IsPartOfStack s.frames (tree_at s.trees place)
   pub term : IsNode s.trees place head arguments
-  pub bound : RefusesBound s.trees (part_atoms s place head arguments) e
+  pub bound : RefusesBound s.trees place (part_atoms s place head arguments) e
 
 -- memory is wanting, or a bound is refused
 abbrev pub IsRefused : Stack → Refusal → Type 0

@@ -70,7 +70,7 @@ fn number_part(
         node.head,
         node.arguments,
     )?;
-    number_all(forms, atoms, &mut lists.sum, &lists.wanted)
+    number_all(forms, atoms, &mut lists.sum, id, &lists.wanted)
 }
 
 /// Numbers the atoms of all parts.

@@ -7,8 +7,8 @@ use std::alloc::AllocError;
 pub enum Refusal {
     /// Folding the term at this place leaves the range.
     Term(TermId),
-    /// Folding each of two terms stays in the range, and folding the bound that says this order of them doesn't.
-    Pair(Order),
+    /// The part at this place compares two terms, whose foldings stay in the range; folding the bound that says this order of them doesn't.
+    Pair(TermId, Order),
     /// Memory is wanting, as where there are more than 2^31 atoms.
     Memory,
 }

@@ -60,4 +60,4 @@ returns-clause-err c =
     c.deref.ensures.value ∙ c.in_ok-add_part.ensures ∙ ap (λ (xs : List PartAtom). xs ++ of_part (sort_in c.sorts.result.now) c.args.id h is) c.clear.ensures.items
     ∙ same_atoms s marks c.laws.ensures c.requires.parts c.sorts.result.now c.sorts.ensures c.args.id h is marked node in
     MatchResult-weaker c.number_all.result (c.number_all.ensures.err s.trees c.requires.forms) (λ u t. t)
-    (λ e r. part_refused s marks c.laws.ensures c.requires.parts c.args.id h is e marked node (subst (λ (xs : List PartAtom). RefusesOne s.trees xs e) wanted r))
+    (λ e r. part_refused s marks c.laws.ensures c.requires.parts c.args.id h is e marked node (subst (λ (xs : List PartAtom). RefusesOne s.trees c.args.id xs e) wanted r))

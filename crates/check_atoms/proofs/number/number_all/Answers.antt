@@ -10,7 +10,7 @@ pub returns-in_err-number_atom-clause-err : goal.returns-in_err-number_atom-clau
 returns-in_err-number_atom-clause-err c = λ trees f.
     let p = err_from_is_err_and c.from_residual.result c.from_residual.ensures.1 in
     rw (p.1, p.2)
-    (refuses_more trees c.args.wanted.now _ c.in_err-number_atom.field-0.0 (Contains-get_or c.args.wanted.now c.loop-atom.atom-index (Truth 0) c.loop-atom-test.true)
+    (refuses_more trees c.args.part c.args.wanted.now _ c.in_err-number_atom.field-0.0 (Contains-get_or c.args.wanted.now c.loop-atom.atom-index (Truth 0) c.loop-atom-test.true)
     (c.in_err-number_atom.ensures.err trees (subst (λ (ks : List Known). AreForms trees ks) (sym c.loop-atom.invariant.0) f)))
 
 pub loop-atom-preserved : goal.loop-atom-preserved
