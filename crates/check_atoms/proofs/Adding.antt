@@ -1,0 +1,49 @@
+-- Atoms numbered one after another.
+use Rattle.std.proofs.Common.{◌≡◌, inl, inr, ℕ, zero, suc, ◌<◌, ◌+◌, List, [], ◌∷◌, ◌++◌, map, length, take, get_or, Contains, subst, sym, arith}
+use Rattle.std.proofs.lemmas.List.{map_more}
+use Rattle.std.proofs.lemmas.List.Elements.{All-nil, All-cons, All-append, All-weaker, Contains-append_left, Contains-append_right, Contains-append_cases}
+use Rattle.smt_meaning.specs.declared.clauses.Atom.{Atom}
+use Rattle.smt_meaning.specs.Term.{Tree}
+use Rattle.atom_numbers.specs.Atoms.{Numbers}
+use Rattle.check_atoms.specs.declared.refusal.Refusal.{Refusal}
+use Rattle.check_atoms.specs.declared.part.PartAtom.{PartAtom}
+use Rattle.check_atoms.specs.declared.part.PartAtom.TheVariants.{Bound}
+use Rattle.check_atoms.specs.PartAtoms.{atom_of}
+use Rattle.check_atoms.specs.Numbering.{Adds, RefusesOne}
+
+pub adds_none : (old : List Atom) → Adds old [] old
+adds_none old = record { these = All-nil (Contains old); stay = λ a c. c; only = λ a c. inl c }
+
+pub adds_one : (old new : List Atom) (a : Atom) (k : ℕ) → Numbers old new a k → Adds old (a ∷ []) new
+adds_one old new a k n = record {
+  these = All-cons (Contains new) a [] (k, n.at.0, n.at.1 a) (All-nil (Contains new));
+  stay = λ b c. elim n.others [ inl e ↦ subst (λ xs. Contains xs b) (sym e) c | inr e ↦ subst (λ xs. Contains xs b) (sym e.0) (Contains-append_left old (a ∷ []) b c) ];
+  only = λ b c. elim n.others [ inl e ↦ inl (subst (λ xs. Contains xs b) e c) | inr e ↦ Contains-append_cases old (a ∷ []) b (subst (λ xs. Contains xs b) e.0 c) ];
+}
+
+pub adds_more : (first second third xs ys : List Atom) → Adds first xs second → Adds second ys third → Adds first (xs ++ ys) third
+adds_more first second third xs ys a b = record {
+  these = All-append (Contains third) xs ys (All-weaker (Contains second) (Contains third) b.stay xs a.these) b.these;
+  stay = λ x c. b.stay x (a.stay x c);
+  only = λ x c. elim (b.only x c) [
+    | inl before ↦ elim (a.only x before) [ inl old ↦ inl old | inr one ↦ inr (Contains-append_left xs ys x one) ]
+    | inr here ↦ inr (Contains-append_right xs ys x here)
+  ];
+}
+
+pub adds_next : (trees : List Tree) (atoms : List PartAtom) (i : ℕ) (d : PartAtom) (first second third : List Atom) → i < length atoms
+    → Adds first (map (atom_of trees) (take i atoms)) second → Adds second (atom_of trees (get_or atoms i d) ∷ []) third → Adds first (map (atom_of trees) (take (i + 1) atoms)) third
+adds_next trees atoms i d first second third h a b =
+    subst (λ xs. Adds first xs third) (sym (map_more (atom_of trees) atoms i d h)) (adds_more first second third (map (atom_of trees) (take i atoms)) (atom_of trees (get_or atoms i d) ∷ []) a b)
+
+only_one : (x y : PartAtom) → Contains (x ∷ []) y → x ≡ y
+only_one x y (k, h, e) = at k h e
+  where
+    at : (k : ℕ) → k < length (x ∷ []) → get_or (x ∷ []) k y ≡ y → x ≡ y
+    at zero h e = e
+    at (suc k) h e = absurd (omega (arith, h))
+
+-- what refuses an atom of a list refuses the list
+pub refuses_more : (trees : List Tree) (place : ℕ) (atoms : List PartAtom) (x : PartAtom) (e : Refusal) → Contains atoms x → RefusesOne trees place (x ∷ []) e → RefusesOne trees place atoms e
+refuses_more trees place atoms x e c (inl m) = inl m
+refuses_more trees place atoms x e c (inr r) = inr (record { order = r.order; among = subst (Contains atoms) (only_one x (Bound r.order) r.among) c; refuses = r.refuses })

@@ -1,0 +1,4 @@
+mod Adding
+mod Sums
+mod PartPlaces
+mod Stacks

@@ -1,0 +1,169 @@
+-- The atoms of one part more, and of all parts.
+use Rattle.std.proofs.Common.{◌≡◌, inl, inr, ℕ, ◌<◌, ◌≤◌, ◌+◌, ◌^◌, Bool, true, false, List, [], ◌∷◌, Some, map, length, get_or, All, Contains, subst, sym, ap, ◌∙◌, refl, arith}
+use Rattle.std.specs.Prelude.{slice_index_or}
+use Rattle.std.proofs.lemmas.List.Elements.{All-nil, All-cons, All-head, All-tail, All-append, All-weaker, All-contains, Contains-get_or}
+use Rattle.smt_meaning.specs.declared.values.Sort.{Sort}
+use Rattle.smt_meaning.specs.declared.values.Sort.TheVariants.{Bool as Truths}
+use Rattle.smt_meaning.specs.declared.terms.Head.{Head}
+use Rattle.smt_meaning.specs.declared.clauses.Atom.{Atom}
+use Rattle.smt_meaning.specs.Declaration.{Declaration}
+use Rattle.smt_meaning.specs.Term.{Tree, Trees, node, tree_at}
+use Rattle.smt_meaning.specs.TreeShape.{place_of}
+use Rattle.smt_meaning.specs.Nodes.{pick}
+use Rattle.smt_meaning.specs.Parts.{IsPart}
+use Rattle.smt_meaning.specs.Signature.{tree_sort}
+use Rattle.smt_meaning.specs.Clause.{atom_places, symbols, symbols_at}
+use Rattle.smt_meaning.specs.Follows.{declared_ids}
+use Rattle.smt_meaning.specs.Stack.{signature_of, assertions_of}
+use Rattle.smt_meaning.specs.StackCommand.{Stack}
+use Rattle.term_store.specs.Terms.{tree_with, AreDifferent}
+use Rattle.term_store.proofs.PlaceLemmas.{place_of-is}
+use Rattle.atom_table.specs.Numbers.{AreApart}
+use Rattle.sort_laws.specs.Laws.{SymbolsAreDeclared}
+use Rattle.search_port.specs.Valid.{IsOf}
+use Rattle.scope_stack.specs.Facts.{AreSorts}
+use Rattle.scope_stack.specs.Shown.{IsLawful}
+use Rattle.scope_stack.proofs.SortLemmas.{last_or_before}
+use Rattle.stack_atoms.specs.Parts.{IsMarked}
+use Rattle.stack_atoms.specs.Marks.{AreMarkedFrom}
+use Rattle.stack_atoms.proofs.Sorting.{HasSort, part_has_sort}
+use Rattle.stack_atoms.proofs.Marking.{below, same_arguments}
+use Rattle.stack_atoms.proofs.Places.{part_at}
+use Rattle.check_atoms.specs.declared.refusal.Refusal.{Refusal}
+use Rattle.check_atoms.specs.declared.part.PartAtom.{PartAtom}
+use Rattle.check_atoms.specs.declared.part.PartAtom.TheVariants.{Truth, Same, Bound}
+use Rattle.check_atoms.specs.PartAtoms.{atom_of, of_part, sort_of, sort_in}
+use Rattle.check_atoms.specs.Numbering.{Adds, RefusesOne}
+use Rattle.check_atoms.specs.OfStack.{IsNode, part_atoms, IsAtomOfPart, AreCheckAtoms, AreAtomsBelow, IsRefused}
+use Rattle.check_atoms.proofs.Sums.{bound_places}
+use Rattle.check_atoms.proofs.PartPlaces.{IsOver, part_over, same_part}
+
+head_of : (h k : Head) (ts us : Trees) → node h ts ≡ node k us → h ≡ k
+head_of h k ts us e = cc
+
+apart : (b : Bool) → b ≡ true → b ≡ false → ⊥
+apart b p q = cc
+
+module _ (s : Stack) (marks : List Bool) (law : IsLawful s) (parts : AreMarkedFrom s 0 marks) where
+  abbrev ds : List Declaration
+  ds = signature_of s.frames
+
+  pub inside : (p : ℕ) → IsMarked marks p → p < length s.trees
+  inside p m = let short : p < length marks = below marks p m in let size : length marks ≡ length s.trees = parts.size in omega arith
+
+  its_sort : (p : ℕ) → IsMarked marks p → HasSort ds (tree_at s.trees p)
+  its_sort p m =
+      let part = parts.only p m in
+      part_has_sort ds (tree_at s.trees p) part.assertion part.part
+      (Truths, All-contains (λ (t : Tree). tree_sort ds t ≡ Some Truths) (assertions_of s.frames) part.assertion law.truths part.asserted)
+
+  arguments_marked : (p : ℕ) (h : Head) (is : List ℕ) → IsMarked marks p → IsNode s.trees p h is → All (IsMarked marks) is
+  arguments_marked p h is m n = parts.closed p h is (omega arith) m n.tree n.arguments
+
+  module _ (sorts : List Sort) (sorted : AreSorts ds s.trees (length s.trees) sorts) where
+    sort_there : (p : ℕ) → IsMarked marks p → sort_in sorts p ≡ sort_of ds s.trees p
+    sort_there p m = let sort = its_sort p m in ap Some (sorted.each p sort.0 (inside p m) sort.1) ∙ sym sort.1
+
+    pub same_atoms : (p : ℕ) (h : Head) (is : List ℕ) → IsMarked marks p → IsNode s.trees p h is → of_part (sort_in sorts) p h is ≡ part_atoms s p h is
+    same_atoms p h is m n =
+        same_part (sort_in sorts) (sort_of ds s.trees) p h is (sort_there p m)
+        (All-weaker (IsMarked marks) (λ i. sort_in sorts i ≡ sort_of ds s.trees i) sort_there is (arguments_marked p h is m n))
+
+  -- ---- one part more
+
+  one_node : (p : ℕ) (h k : Head) (is js : List ℕ) → IsNode s.trees p h is → IsNode s.trees p k js → part_atoms s p h is ≡ part_atoms s p k js
+  one_node p h k is js a b =
+      ap (λ g. part_atoms s p g is) (head_of h k (pick s.trees is) (pick s.trees js) (sym a.tree ∙ b.tree))
+      ∙ ap (part_atoms s p k) (same_arguments s.trees p h k is js law.in_order a.arguments b.arguments a.tree b.tree)
+
+  pub part_more : (k : ℕ) (h : Head) (is : List ℕ) (old new : List Atom) → IsMarked marks k → IsNode s.trees k h is → AreAtomsBelow s marks k old → Adds old (map (atom_of s.trees) (part_atoms s k h is)) new
+      → AreAtomsBelow s marks (k + 1) new
+  part_more k h is old new m n b a = record {
+    only = λ x c. elim (a.only x c) [ inl before ↦ b.only x before | inr here ↦ record { place = k; head = h; arguments = is; marked = m; term = n; among = here } ];
+    each = λ p g js l pm pn. elim (last_or_before k p l) [
+      | inl before ↦ All-weaker (Contains old) (Contains new) a.stay (map (atom_of s.trees) (part_atoms s p g js)) (b.each p g js before pm pn)
+      | inr last ↦ here p g js last pn
+    ];
+  }
+    where
+      here : (p : ℕ) (g : Head) (js : List ℕ) → k ≡ p → IsNode s.trees p g js → All (Contains new) (map (atom_of s.trees) (part_atoms s p g js))
+      here p g js e pn =
+          let at : IsNode s.trees k g js = subst (λ q. IsNode s.trees q g js) (sym e) pn in
+          subst (λ q. All (Contains new) (map (atom_of s.trees) (part_atoms s q g js))) e
+          (subst (λ xs. All (Contains new) (map (atom_of s.trees) xs)) (one_node k h g is js n at) a.these)
+
+  pub no_part : (k : ℕ) (atoms : List Atom) → slice_index_or marks k false ≡ false → AreAtomsBelow s marks k atoms → AreAtomsBelow s marks (k + 1) atoms
+  no_part k atoms none b = record {
+    only = b.only;
+    each = λ p g js l pm pn. elim (last_or_before k p l) [
+      | inl before ↦ b.each p g js before pm pn
+      | inr last ↦ absurd (apart (slice_index_or marks p false) pm (subst (λ q. slice_index_or marks q false ≡ false) last none))
+    ];
+  }
+
+  pub part_refused : (k : ℕ) (h : Head) (is : List ℕ) (e : Refusal) → IsMarked marks k → IsNode s.trees k h is → RefusesOne s.trees k (part_atoms s k h is) e → IsRefused s e
+  part_refused k h is e m n (inl memory) = inl memory
+  part_refused k h is e m n (inr r) = inr (record { place = k; head = h; arguments = is; part = parts.only k m; term = n; bound = r })
+
+  -- ---- the places and the symbols of the atoms
+
+  different : AreDifferent s.trees
+  different j k less within e = let same : j ≡ k = law.in_order.different j k (omega (arith, less, within)) within e in omega (arith, same, less)
+
+  part_there : (p : ℕ) → IsMarked marks p → (u : Tree) → IsPart u (tree_at s.trees p) → IsMarked marks (place_of u s.trees)
+  part_there p m u q =
+      let at = part_at s.trees marks law.in_order parts.size parts.closed u (tree_at s.trees p) q (p, m, refl) in
+      subst (IsMarked marks) (sym (place_of-is u s.trees at.0 different (inside at.0 at.1) at.2)) at.1
+
+  places_marked : (x : PartAtom) → IsOver (IsMarked marks) x → All (IsMarked marks) (atom_places (atom_of s.trees x))
+  places_marked (Truth p) h = All-cons (IsMarked marks) p [] h (All-nil (IsMarked marks))
+  places_marked (Same i j) h = All-cons (IsMarked marks) i (j ∷ []) h.0 (All-cons (IsMarked marks) j [] h.1 (All-nil (IsMarked marks)))
+  places_marked (Bound o) h = bound_places (IsMarked marks) s.trees o (part_there o.lesser h.0) (part_there o.greater h.1)
+
+  over_marked : (a : Atom) → IsAtomOfPart s marks a → All (IsMarked marks) (atom_places a)
+  over_marked a p =
+      All-contains (λ (b : Atom). All (IsMarked marks) (atom_places b)) (map (atom_of s.trees) (part_atoms s p.place p.head p.arguments)) a
+      (each_image (part_atoms s p.place p.head p.arguments)
+      (part_over (IsMarked marks) (sort_of ds s.trees) p.place p.head p.arguments p.marked (arguments_marked p.place p.head p.arguments p.marked p.term)))
+      p.among
+    where
+      each_image : (xs : List PartAtom) → All (IsOver (IsMarked marks)) xs → All (λ (b : Atom). All (IsMarked marks) (atom_places b)) (map (atom_of s.trees) xs)
+      each_image [] h = All-nil (λ (b : Atom). All (IsMarked marks) (atom_places b))
+      each_image (x ∷ xs) h =
+          All-cons (λ (b : Atom). All (IsMarked marks) (atom_places b)) (atom_of s.trees x) (map (atom_of s.trees) xs) (places_marked x (All-head (IsOver (IsMarked marks)) x xs h))
+          (each_image xs (All-tail (IsOver (IsMarked marks)) x xs h))
+
+  module _ (declares : SymbolsAreDeclared) where
+    symbols_declared : (p : ℕ) → IsMarked marks p → All (Contains (declared_ids s.frames)) (symbols (tree_at s.trees p))
+    symbols_declared p m = let sort = its_sort p m in declares ds (tree_at s.trees p) sort.0 sort.1
+
+    all_declared : (ps : List ℕ) → All (IsMarked marks) ps → All (Contains (declared_ids s.frames)) (symbols_at s.trees ps)
+    all_declared [] h = All-nil (Contains (declared_ids s.frames))
+    all_declared (p ∷ ps) h =
+        All-append (Contains (declared_ids s.frames)) (symbols (tree_at s.trees p)) (symbols_at s.trees ps) (symbols_declared p (All-head (IsMarked marks) p ps h))
+        (all_declared ps (All-tail (IsMarked marks) p ps h))
+
+    is_of : (a : Atom) → All (IsMarked marks) (atom_places a) → IsOf s.trees s.frames a
+    is_of a h = record { declared = all_declared (atom_places a) h; within = All-weaker (IsMarked marks) (λ i. i < length s.trees) inside (atom_places a) h }
+
+    pub all_atoms : (atoms : List Atom) → AreAtomsBelow s marks (length s.trees) atoms → length atoms ≤ 2 ^ 31 → AreApart atoms → AreCheckAtoms s marks atoms
+    all_atoms atoms b few apart =
+        let over : All (λ (a : Atom). All (IsMarked marks) (atom_places a)) atoms = λ k d l. over_marked (get_or atoms k d) (b.only (get_or atoms k d) (Contains-get_or atoms k d l)) in
+        record {
+          size = parts.size;
+          few = few;
+          apart = apart;
+          only = b.only;
+          each = λ p h is m n. b.each p h is n.within m n;
+          over_parts = over;
+          declared = All-weaker (λ (a : Atom). All (IsMarked marks) (atom_places a)) (IsOf s.trees s.frames) is_of atoms over;
+        }
+
+pub no_atoms : (s : Stack) (marks : List Bool) → AreAtomsBelow s marks 0 []
+no_atoms s marks = record { only = λ a c. absurd (none a c); each = λ p h is l m n. absurd (omega arith) }
+  where
+    none : (a : Atom) → Contains [] a → ⊥
+    none a (k, h, e) = omega (arith, h)
+
+pub node_here : (trees : List Tree) (p : ℕ) (h : Head) (is : List ℕ) → p < length trees → tree_at trees p ≡ tree_with trees h is → All (λ i. i < p) is → IsNode trees p h is
+node_here trees p h is within tree earlier = record { within = within; tree = tree; arguments = All-weaker (λ i. i < p) (λ i. i < length trees) (λ i l. omega (arith, l, within)) is earlier }

@@ -1,0 +1,122 @@
+-- The places of the sum of a linear form are those of parts of its term.
+use Rattle.std.proofs.Common.{inl, inr, ℕ, zero, Bool, true, false, List, [], ◌∷◌, All, refl}
+use Rattle.std.specs.Prelude.{ℤ, pos, negsuc, ◌+ℤ◌, neg_ℤ, ◌-ℤ◌, nat_eq, nat_lt, if◌then◌else◌}
+use Rattle.std.proofs.lemmas.List.Elements.{All-nil, All-cons}
+use Rattle.smt_meaning.specs.declared.terms.Operator.TheVariants.{True, False, Not, And, Or, Xor, Implies, Equal, Distinct, Ite, Add, Subtract, Multiply, AtMost, Less, AtLeast, Greater}
+use Rattle.smt_meaning.specs.declared.terms.Operator.{Operator}
+use Rattle.smt_meaning.specs.declared.terms.Head.{Head}
+use Rattle.smt_meaning.specs.declared.terms.Head.TheVariants.{Numeral, Theory, Symbol, Place}
+use Rattle.smt_meaning.specs.declared.clauses.Summand.{Summand}
+use Rattle.smt_meaning.specs.Term.{Tree, Trees, node, none, more, tree_at}
+use Rattle.smt_meaning.specs.TreeShape.{place_of}
+use Rattle.smt_meaning.specs.Parts.{IsPart, IsPartOfOne}
+use Rattle.smt_meaning.specs.Clause.{sum_places, atom_places}
+use Rattle.smt_meaning.specs.Linear.{Form, summand, is_zero, unless_zero, placed, with_term, sums_added, each_times, sum_times, form_plus, form_minus, form_product, fold_forms, folded, difference_form, head_form, leaf_form, linear_form, linear_forms}
+use Rattle.smt_meaning.specs.Atoms.{each_divided, normal_bound, difference_of}
+use Rattle.bound_clauses.specs.declared.orders.Sense.{Sense}
+use Rattle.bound_clauses.specs.declared.orders.Sense.TheVariants.{NotAbove, Below}
+use Rattle.bound_clauses.specs.declared.orders.Order.{Order}
+use Rattle.bound_clauses.specs.Orders.{atom_of, bound_atom}
+
+module _ (P : ℕ → Type 0) where
+  -- each place of the sum is one of these
+  abbrev pub HasPlaces : List Summand → Type 0
+  HasPlaces [] = Unit {0}
+  HasPlaces (p ∷ ps) = P p.term × HasPlaces ps
+
+  abbrev pub HavePlaces : List Form → Type 0
+  HavePlaces [] = Unit {0}
+  HavePlaces (f ∷ fs) = HasPlaces f.sum × HavePlaces fs
+
+  either : (b : Bool) (xs ys : List Summand) → HasPlaces xs → HasPlaces ys → HasPlaces (if b then xs else ys)
+  either true xs ys h g = h
+  either false xs ys h g = g
+
+  unless : (i : ℕ) (c : ℤ) (ps : List Summand) → P i → HasPlaces ps → HasPlaces (unless_zero i c ps)
+  unless i c ps h g = either (is_zero c) ps (summand i c ∷ ps) g (h, g)
+
+  put : (b same : Bool) (i : ℕ) (c : ℤ) (p : Summand) (ps rest : List Summand) → P i → HasPlaces (p ∷ ps) → HasPlaces rest → HasPlaces (placed b same i c p ps rest)
+  put true same i c p ps rest h g r = unless i c (p ∷ ps) h g
+  put false true i c p ps rest h g r = unless i (c +ℤ p.coefficient) ps h g.1
+  put false false i c p ps rest h g r = (g.0, r)
+
+  term_more : (i : ℕ) (c : ℤ) (ps : List Summand) → P i → HasPlaces ps → HasPlaces (with_term i c ps)
+  term_more i c [] h g = unless i c [] h g
+  term_more i c (p ∷ ps) h g = put (nat_lt i p.term) (nat_eq i p.term) i c p ps (with_term i c ps) h g (term_more i c ps h g.1)
+
+  both : (ps qs : List Summand) → HasPlaces ps → HasPlaces qs → HasPlaces (sums_added ps qs)
+  both [] qs h g = g
+  both (p ∷ ps) qs h g = term_more p.term p.coefficient (sums_added ps qs) h.0 (both ps qs h.1 g)
+
+  each_multiple : (k : ℤ) (ps : List Summand) → HasPlaces ps → HasPlaces (each_times k ps)
+  each_multiple k [] h = h
+  each_multiple k (p ∷ ps) h = (h.0, each_multiple k ps h.1)
+
+  multiple : (k : ℤ) (ps : List Summand) → HasPlaces ps → HasPlaces (sum_times k ps)
+  multiple k ps h = either (is_zero k) [] (each_times k ps) tt (each_multiple k ps h)
+
+  added : (f g : Form) → HasPlaces f.sum → HasPlaces g.sum → HasPlaces (form_plus f g).sum
+  added f g h k = both f.sum g.sum h k
+
+  taken : (f g : Form) → HasPlaces f.sum → HasPlaces g.sum → HasPlaces (form_minus f g).sum
+  taken f g h k = both f.sum (sum_times (negsuc zero) g.sum) h (multiple (negsuc zero) g.sum k)
+
+  multiplied : (f g : Form) → HasPlaces f.sum → HasPlaces g.sum → HasPlaces (form_product f g).sum
+  multiplied f g h k = by f.sum f.constant h
+    where
+      by : (ps : List Summand) (n : ℤ) → HasPlaces ps → HasPlaces (form_product (record { sum = ps; constant = n }) g).sum
+      by [] n h = multiple n g.sum k
+      by (p ∷ ps) n h = multiple g.constant (p ∷ ps) h
+
+  module _ (op : Form → Form → Form) (keeps : (f g : Form) → HasPlaces f.sum → HasPlaces g.sum → HasPlaces (op f g).sum) where
+    folded_from : (f : Form) (gs : List Form) → HasPlaces f.sum → HavePlaces gs → HasPlaces (fold_forms op f gs).sum
+    folded_from f [] h k = h
+    folded_from f (g ∷ gs) h k = folded_from (op f g) gs (keeps f g h k.0) k.1
+
+    all_folded : (fs : List Form) → HavePlaces fs → HasPlaces (folded op fs).sum
+    all_folded [] h = tt
+    all_folded (f ∷ fs) h = folded_from f fs h.0 h.1
+
+  subtracted : (fs : List Form) → HavePlaces fs → HasPlaces (difference_form fs).sum
+  subtracted [] h = tt
+  subtracted (f ∷ []) h = multiple (negsuc zero) f.sum h.0
+  subtracted (f ∷ g ∷ gs) h = folded_from form_minus taken f (g ∷ gs) h.0 h.1
+
+  by_operator : (o : Operator) (fs : List Form) (leaf : Form) → HavePlaces fs → HasPlaces leaf.sum → HasPlaces (head_form (Theory o) fs leaf).sum
+  by_operator Add fs leaf h k = all_folded form_plus added fs h
+  by_operator Subtract fs leaf h k = subtracted fs h
+  by_operator Multiply fs leaf h k = all_folded form_product multiplied fs h
+  by_operator o fs leaf h k = k
+
+  by_head : (h : Head) (fs : List Form) (leaf : Form) → HavePlaces fs → HasPlaces leaf.sum → HasPlaces (head_form h fs leaf).sum
+  by_head (Numeral n) fs leaf h k = tt
+  by_head (Theory o) fs leaf h k = by_operator o fs leaf h k
+  by_head t fs leaf h k = k
+
+  module _ (ts : List Tree) where
+    mutual
+      form_places : (t : Tree) → ((u : Tree) → IsPart u t → P (place_of u ts)) → HasPlaces (linear_form ts t).sum
+      form_places (node h us) parts = by_head h (linear_forms ts us) (leaf_form ts (node h us)) (forms_places us (λ u q. parts u (inr q))) (parts (node h us) (inl refl), tt)
+
+      forms_places : (us : Trees) → ((u : Tree) → IsPartOfOne u us → P (place_of u ts)) → HavePlaces (linear_forms ts us)
+      forms_places none parts = tt
+      forms_places (more u us) parts = (form_places u (λ v q. parts v (inl q)), forms_places us (λ v q. parts v (inr q)))
+
+    quotients : (g : ℤ) (ps : List Summand) → HasPlaces ps → All P (sum_places (each_divided g ps))
+    quotients g [] h = All-nil P
+    quotients g (p ∷ ps) h = All-cons P p.term (sum_places (each_divided g ps)) h.0 (quotients g ps h.1)
+
+    normal : (ps : List Summand) (k : ℤ) → HasPlaces ps → All P (atom_places (normal_bound ps k))
+    normal [] k h = All-nil P
+    normal (p ∷ ps) k h = quotients _ (p ∷ ps) h
+
+    difference : (s t : Tree) → ((u : Tree) → IsPart u s → P (place_of u ts)) → ((u : Tree) → IsPart u t → P (place_of u ts)) → HasPlaces (difference_of ts s t).sum
+    difference s t a b = taken (linear_form ts s) (linear_form ts t) (form_places s a) (form_places t b)
+
+    by_sense : (sense : Sense) (s t : Tree) → ((u : Tree) → IsPart u s → P (place_of u ts)) → ((u : Tree) → IsPart u t → P (place_of u ts)) → All P (atom_places (atom_of sense ts s t))
+    by_sense NotAbove s t a b = normal (difference_of ts s t).sum (neg_ℤ (difference_of ts s t).constant) (difference s t a b)
+    by_sense Below s t a b = normal (difference_of ts s t).sum (neg_ℤ (difference_of ts s t).constant -ℤ pos 1) (difference s t a b)
+
+    -- each place of a bound's sum is one of these, where those of the parts of both terms are
+    pub bound_places : (o : Order) → ((u : Tree) → IsPart u (tree_at ts o.lesser) → P (place_of u ts)) → ((u : Tree) → IsPart u (tree_at ts o.greater) → P (place_of u ts)) → All P (atom_places (bound_atom ts o))
+    bound_places o a b = by_sense o.sense (tree_at ts o.lesser) (tree_at ts o.greater) a b

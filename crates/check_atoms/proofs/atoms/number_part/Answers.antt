@@ -1,0 +1,63 @@
+use Rattle.std.proofs.Common.{rules, ◌≡◌, ◌<◌, ◌++◌, List, map, true, false, length, slice_index_or, subst, sym, ap, ◌∙◌, All, arith}
+use Rattle.std.proofs.lemmas.List.Elements.{All-weaker}
+use Rattle.std.proofs.lemmas.Result.{on_ok_weaker, MatchResult-weaker}
+use Rattle.smt_meaning.specs.Term.{Tree, tree_at}
+use Rattle.term_store.specs.Terms.{tree_with}
+use Rattle.check_atoms.specs.declared.part.PartAtom.{PartAtom}
+use Rattle.check_atoms.specs.PartAtoms.{atom_of, of_part, sort_in}
+use Rattle.check_atoms.specs.Numbering.{Adds, RefusesOne, IsWithin}
+use Rattle.check_atoms.specs.OfStack.{part_atoms}
+use Rattle.check_atoms.proofs.PartPlaces.{part_within}
+use Rattle.check_atoms.proofs.Stacks.{same_atoms, part_more, no_part, part_refused, node_here}
+use Rattle.check_atoms.proofs.atoms.number_part.Goals as goal
+
+pub returns-then-not-marks-id-clause-ok : goal.returns-then-not-marks-id-clause-ok
+returns-then-not-marks-id-clause-ok c =
+    let none : slice_index_or c.args.marks.now c.args.id false ≡ false = search rules in
+    no_part c.args.stack.now c.args.marks.now c.laws.ensures c.requires.parts c.args.id c.args.atoms.now.atoms none c.requires.atoms
+
+pub number_all-requires-clause-within : goal.number_all-requires-clause-within
+number_all-requires-clause-within c =
+    let s = c.args.stack.now in
+    let h = c.node-node.result.head in
+    let is = c.node-node.result.arguments.now in
+    let wanted : c.deref.result.now ≡ of_part (sort_in c.sorts.result.now) c.args.id h is =
+    c.deref.ensures.value ∙ c.in_ok-add_part.ensures ∙ ap (λ (xs : List PartAtom). xs ++ of_part (sort_in c.sorts.result.now) c.args.id h is) c.clear.ensures.items in
+    let size : length c.args.forms.now ≡ length s.trees = c.requires.forms.forms.size in
+    let within : c.args.id < length s.trees = c.requires.within in
+    let here : c.args.id < length c.args.forms.now = omega (arith, size, within) in
+    subst (λ (xs : List PartAtom). All (IsWithin (length c.args.forms.now)) xs) (sym wanted)
+    (part_within (sort_in c.sorts.result.now) (length c.args.forms.now) c.args.id h is here
+    (All-weaker (λ i. i < c.args.id) (λ i. i < length c.args.forms.now) (λ i l. omega (arith, l, here)) is c.node-node.ensures.earlier))
+
+pub returns-clause-ok : goal.returns-clause-ok
+returns-clause-ok c =
+    let s = c.args.stack.now in
+    let marks = c.args.marks.now in
+    let h = c.node-node.result.head in
+    let is = c.node-node.result.arguments.now in
+    let marked : slice_index_or marks c.args.id false ≡ true = search rules in
+    let tree : tree_at s.trees c.args.id ≡ tree_with s.trees h is = subst (λ (ts : List Tree). tree_at ts c.args.id ≡ tree_with ts h is) c.terms.ensures.trees c.node-node.ensures.tree in
+    let node = node_here s.trees c.args.id h is c.requires.within tree c.node-node.ensures.earlier in
+    let wanted : c.deref.result.now ≡ part_atoms s c.args.id h is =
+    c.deref.ensures.value ∙ c.in_ok-add_part.ensures ∙ ap (λ (xs : List PartAtom). xs ++ of_part (sort_in c.sorts.result.now) c.args.id h is) c.clear.ensures.items
+    ∙ same_atoms s marks c.laws.ensures c.requires.parts c.sorts.result.now c.sorts.ensures c.args.id h is marked node in
+    on_ok_weaker c.number_all.result
+    (λ a. part_more s marks c.laws.ensures c.requires.parts c.args.id h is c.args.atoms.now.atoms c.number_all.new.atoms.atoms marked node c.requires.atoms
+    (subst (λ (xs : List PartAtom). Adds c.args.atoms.now.atoms (map (atom_of s.trees) xs) c.number_all.new.atoms.atoms) wanted a))
+    (c.number_all.ensures.ok s.trees c.requires.forms)
+
+pub returns-clause-err : goal.returns-clause-err
+returns-clause-err c =
+    let s = c.args.stack.now in
+    let marks = c.args.marks.now in
+    let h = c.node-node.result.head in
+    let is = c.node-node.result.arguments.now in
+    let marked : slice_index_or marks c.args.id false ≡ true = search rules in
+    let tree : tree_at s.trees c.args.id ≡ tree_with s.trees h is = subst (λ (ts : List Tree). tree_at ts c.args.id ≡ tree_with ts h is) c.terms.ensures.trees c.node-node.ensures.tree in
+    let node = node_here s.trees c.args.id h is c.requires.within tree c.node-node.ensures.earlier in
+    let wanted : c.deref.result.now ≡ part_atoms s c.args.id h is =
+    c.deref.ensures.value ∙ c.in_ok-add_part.ensures ∙ ap (λ (xs : List PartAtom). xs ++ of_part (sort_in c.sorts.result.now) c.args.id h is) c.clear.ensures.items
+    ∙ same_atoms s marks c.laws.ensures c.requires.parts c.sorts.result.now c.sorts.ensures c.args.id h is marked node in
+    MatchResult-weaker c.number_all.result (c.number_all.ensures.err s.trees c.requires.forms) (λ u t. t)
+    (λ e r. part_refused s marks c.laws.ensures c.requires.parts c.args.id h is e marked node (subst (λ (xs : List PartAtom). RefusesOne s.trees c.args.id xs e) wanted r))

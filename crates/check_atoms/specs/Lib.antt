@@ -1,0 +1,3 @@
+pub mod PartAtoms
+pub mod Numbering
+pub mod OfStack

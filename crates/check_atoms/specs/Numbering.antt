@@ -1,0 +1,47 @@
+-- Numbering atoms one after another, and why one is refused.
+use Rattle.std.specs.Prelude.{◌≡◌, ◌⊎◌, ℕ, ◌<◌, Bool, List, All, Contains}
+use Rattle.smt_meaning.specs.declared.clauses.Atom.{Atom}
+use Rattle.smt_meaning.specs.Term.{Tree}
+use Rattle.linear_forms.specs.declared.differences.DifferenceError.TheVariants.{Term as FormOfTerm, Pair as FormOfPair}
+use Rattle.linear_forms.specs.Differences.{Refuses}
+use Rattle.pair_bounds.specs.Pairs.{at_most_fits, below_fits}
+use Rattle.bound_clauses.specs.declared.orders.Sense.{Sense}
+use Rattle.bound_clauses.specs.declared.orders.Sense.TheVariants.{NotAbove, Below}
+use Rattle.bound_clauses.specs.declared.orders.Order.{Order}
+use Rattle.check_atoms.specs.declared.refusal.Refusal.{Refusal}
+use Rattle.check_atoms.specs.declared.refusal.Refusal.TheVariants.{Term, Pair, Memory}
+use Rattle.check_atoms.specs.declared.part.PartAtom.{PartAtom}
+use Rattle.check_atoms.specs.declared.part.PartAtom.TheVariants.{Truth, Same, Bound}
+
+-- these atoms are numbered, beside those that were before
+pub record Adds (old atoms new : List Atom) : Type 0 where
+  pub these : All (Contains new) atoms
+  pub stay : (a : Atom) → Contains old a → Contains new a
+  pub only : (a : Atom) → Contains new a → Contains old a ⊎ Contains atoms a
+
+-- whether folding the bound of two terms stays in the range
+abbrev pub fits_by : Sense → List Tree → Tree → Tree → Bool
+fits_by NotAbove = at_most_fits
+fits_by Below = below_fits
+
+-- folding the bound that says an order at this place leaves the range: by itself, or a folding of one of its terms does at this part
+abbrev pub RefusesOrder : List Tree → ℕ → Order → Refusal → Type 0
+RefusesOrder ts place o (Term part) = Refuses ts (fits_by o.sense ts) o.lesser o.greater (FormOfTerm part)
+RefusesOrder ts place o (Pair p q) = (p ≡ place) × (q ≡ o) × Refuses ts (fits_by o.sense ts) o.lesser o.greater FormOfPair
+RefusesOrder ts place o Memory = ⊥
+
+-- one of these bounds is refused
+pub record RefusesBound (ts : List Tree) (place : ℕ) (atoms : List PartAtom) (e : Refusal) : Type 0 where
+  pub order : Order
+  pub among : Contains atoms (Bound order)
+  pub refuses : RefusesOrder ts place order e
+
+-- memory is wanting, or one of these is refused
+abbrev pub RefusesOne : List Tree → ℕ → List PartAtom → Refusal → Type 0
+RefusesOne ts place atoms e = (e ≡ Memory) ⊎ RefusesBound ts place atoms e
+
+-- the terms of a bound are among the first so many
+abbrev pub IsWithin : ℕ → PartAtom → Type 0
+IsWithin count (Truth p) = Unit {0}
+IsWithin count (Same i j) = Unit {0}
+IsWithin count (Bound o) = (o.lesser < count) × (o.greater < count)

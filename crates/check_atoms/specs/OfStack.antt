@@ -1,0 +1,65 @@
+-- The atoms that are numbered for the check of a stack.
+use Rattle.std.specs.Prelude.{◌≡◌, ◌⊎◌, ℕ, ◌<◌, ◌≤◌, ◌^◌, Bool, List, map, length, All, Contains}
+use Rattle.smt_meaning.specs.declared.terms.Head.{Head}
+use Rattle.smt_meaning.specs.declared.clauses.Atom.{Atom}
+use Rattle.smt_meaning.specs.Term.{Tree, tree_at}
+use Rattle.smt_meaning.specs.Clause.{atom_places}
+use Rattle.smt_meaning.specs.Stack.{signature_of}
+use Rattle.smt_meaning.specs.StackCommand.{Stack}
+use Rattle.smt_meaning.specs.Report.{IsPartOfStack}
+use Rattle.term_store.specs.Terms.{tree_with}
+use Rattle.atom_table.specs.Numbers.{AreApart}
+use Rattle.search_port.specs.Valid.{IsOf}
+use Rattle.stack_atoms.specs.Parts.{IsMarked}
+use Rattle.check_atoms.specs.declared.refusal.Refusal.{Refusal}
+use Rattle.check_atoms.specs.declared.refusal.Refusal.TheVariants.{Memory}
+use Rattle.check_atoms.specs.declared.part.PartAtom.{PartAtom}
+use Rattle.check_atoms.specs.PartAtoms.{atom_of, of_part, sort_of}
+use Rattle.check_atoms.specs.Numbering.{RefusesBound}
+
+-- the term at this place has this head, and its arguments are at these places
+pub record IsNode (trees : List Tree) (p : ℕ) (h : Head) (is : List ℕ) : Type 0 where
+  pub within : p < length trees
+  pub tree : tree_at trees p ≡ tree_with trees h is
+  pub arguments : All (λ i. i < length trees) is
+
+-- the atoms of the term at a place
+abbrev pub part_atoms : Stack → ℕ → Head → List ℕ → List PartAtom
+part_atoms s p h is = of_part (sort_of (signature_of s.frames) s.trees) p h is
+
+-- an atom of a part
+pub record IsAtomOfPart (s : Stack) (marks : List Bool) (a : Atom) : Type 0 where
+  pub place : ℕ
+  pub head : Head
+  pub arguments : List ℕ
+  pub marked : IsMarked marks place
+  pub term : IsNode s.trees place head arguments
+  pub among : Contains (map (atom_of s.trees) (part_atoms s place head arguments)) a
+
+-- exactly the atoms of the parts are numbered, each once, and they are over parts and over what the stack declares
+pub record AreCheckAtoms (s : Stack) (marks : List Bool) (atoms : List Atom) : Type 0 where
+  pub size : length marks ≡ length s.trees
+  pub few : length atoms ≤ 2 ^ 31
+  pub apart : AreApart atoms
+  pub only : (a : Atom) → Contains atoms a → IsAtomOfPart s marks a
+  pub each : (p : ℕ) (h : Head) (is : List ℕ) → IsMarked marks p → IsNode s.trees p h is → All (Contains atoms) (map (atom_of s.trees) (part_atoms s p h is))
+  pub over_parts : All (λ (a : Atom). All (IsMarked marks) (atom_places a)) atoms
+  pub declared : All (IsOf s.trees s.frames) atoms
+
+-- a bound that compares terms of a part is refused
+pub record RefusesPart (s : Stack) (e : Refusal) : Type 0 where
+  pub place : ℕ
+  pub head : Head
+  pub arguments : List ℕ
+  pub part : IsPartOfStack s.frames (tree_at s.trees place)
+  pub term : IsNode s.trees place head arguments
+  pub bound : RefusesBound s.trees place (part_atoms s place head arguments) e
+
+-- memory is wanting, or a bound is refused
+abbrev pub IsRefused : Stack → Refusal → Type 0
+IsRefused s e = (e ≡ Memory) ⊎ RefusesPart s e
+
+-- of the parts below a place exactly the atoms are numbered
+pub record AreAtomsBelow (s : Stack) (marks : List Bool) (k : ℕ) (atoms : List Atom) : Type 0 where
+  pub only : (a : Atom) → Contains atoms a → IsAtomOfPart s marks a
+  pub each : (p : ℕ) (h : Head) (is : List ℕ) → p < k → IsMarked marks p → IsNode s.trees p h is → All (Contains atoms) (map (atom_of s.trees) (part_atoms s p h is))

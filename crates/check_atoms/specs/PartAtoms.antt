@@ -1,0 +1,85 @@
+-- The atoms of a part, by the places of its arguments.
+use Rattle.std.specs.Prelude.{ℕ, List, [], ◌∷◌, ◌++◌, map, Option, Some, slice_index_or}
+use Rattle.smt_meaning.specs.declared.values.Sort.{Sort}
+use Rattle.smt_meaning.specs.declared.values.Sort.TheVariants.{Bool as Truths, Int as Ints}
+use Rattle.smt_meaning.specs.declared.terms.Operator.{Operator}
+use Rattle.smt_meaning.specs.declared.terms.Operator.TheVariants.{Equal, Distinct, Ite}
+use Rattle.smt_meaning.specs.declared.terms.Head.{Head}
+use Rattle.smt_meaning.specs.declared.terms.Head.TheVariants.{Theory}
+use Rattle.smt_meaning.specs.declared.clauses.Atom.{Atom}
+use Rattle.smt_meaning.specs.declared.clauses.Atom.TheVariants.{Truth as TruthAtom, Same as SameAtom}
+use Rattle.smt_meaning.specs.Declaration.{Declaration}
+use Rattle.smt_meaning.specs.Term.{Tree, tree_at}
+use Rattle.smt_meaning.specs.Signature.{tree_sort}
+use Rattle.bound_clauses.specs.Orders.{order_atoms, both_orders, bound_atom}
+use Rattle.check_atoms.specs.declared.part.PartAtom.{PartAtom}
+use Rattle.check_atoms.specs.declared.part.PartAtom.TheVariants.{Truth, Same, Bound}
+
+-- the atom that it stands for
+abbrev pub atom_of : List Tree → PartAtom → Atom
+atom_of ts (Truth p) = TruthAtom p
+atom_of ts (Same i j) = SameAtom i j
+atom_of ts (Bound o) = bound_atom ts o
+
+-- ---- of two terms that are compared, by the sort of the first
+
+-- of two Bools none, since their truths say all; of two Ints also both bounds of their difference
+abbrev pub by_sort : Option Sort → ℕ → ℕ → List PartAtom
+by_sort (Some Truths) i j = []
+by_sort (Some Ints) i j = Same i j ∷ map Bound (both_orders i j)
+by_sort s i j = Same i j ∷ []
+
+abbrev pub truth_by_sort : Option Sort → ℕ → List PartAtom
+truth_by_sort (Some Truths) p = Truth p ∷ []
+truth_by_sort s p = []
+
+module _ (sort_at : ℕ → Option Sort) where
+  abbrev pub pair : ℕ → ℕ → List PartAtom
+  pair i j = by_sort (sort_at i) i j
+
+  -- of each place and the next
+  abbrev pub neighbours_from : ℕ → List ℕ → List PartAtom
+  neighbours_from i [] = []
+  neighbours_from i (j ∷ js) = pair i j ++ neighbours_from j js
+
+  abbrev pub neighbours : List ℕ → List PartAtom
+  neighbours [] = []
+  neighbours (i ∷ is) = neighbours_from i is
+
+  -- of a place with each of the others
+  abbrev pub first_with : ℕ → List ℕ → List PartAtom
+  first_with i [] = []
+  first_with i (j ∷ js) = pair i j ++ first_with i js
+
+  -- of each two
+  abbrev pub each_two : List ℕ → List PartAtom
+  each_two [] = []
+  each_two (i ∷ is) = first_with i is ++ each_two is
+
+  -- of an `ite` with each branch
+  abbrev pub with_branches : ℕ → List ℕ → List PartAtom
+  with_branches p (c ∷ i ∷ j ∷ []) = pair p i ++ pair p j
+  with_branches p is = []
+
+  -- those that compare the arguments of the term at a place
+  abbrev pub compared : Operator → ℕ → List ℕ → List PartAtom
+  compared Equal p is = neighbours is
+  compared Distinct p is = each_two is
+  compared Ite p is = with_branches p is
+  compared o p is = map Bound (order_atoms o is)
+
+  abbrev pub compared_by_head : Head → ℕ → List ℕ → List PartAtom
+  compared_by_head (Theory o) p is = compared o p is
+  compared_by_head h p is = []
+
+  -- and the truth of the term, if it is a Bool
+  abbrev pub of_part : ℕ → Head → List ℕ → List PartAtom
+  of_part p h is = truth_by_sort (sort_at p) p ++ compared_by_head h p is
+
+-- the sort of the term at a place
+abbrev pub sort_of : List Declaration → List Tree → ℕ → Option Sort
+sort_of ds ts p = tree_sort ds (tree_at ts p)
+
+-- the same, from a list of the terms' sorts
+abbrev pub sort_in : List Sort → ℕ → Option Sort
+sort_in sorts p = Some (slice_index_or sorts p Truths)

@@ -1,0 +1,25 @@
+use bound_clauses::Order;
+use smt_meaning::TermId;
+use std::alloc::AllocError;
+
+/// Why the atoms of a stack aren't numbered.
+#[derive(Clone, Copy, PartialEq, Eq, Debug)]
+pub enum Refusal {
+    /// Folding the term at this place leaves the range.
+    Term(TermId),
+    /// The part at this place compares two terms, whose foldings stay in the range; folding the bound that says this order of them doesn't.
+    Pair(TermId, Order),
+    /// Memory is wanting, as where there are more than 2^31 atoms.
+    Memory,
+}
+
+impl From<AllocError> for Refusal {
+    ghost use Rattle.std.specs.Prelude.{◌≡◌};
+    ghost use Rattle.check_atoms.specs.declared.refusal.Refusal.TheVariants.{Memory};
+
+    ghost from_gives = { λ _ e. e ≡ Memory };
+
+    fn from(_: AllocError) -> Refusal {
+        Refusal::Memory
+    }
+}
