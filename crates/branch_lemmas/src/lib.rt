@@ -3,7 +3,9 @@
 
 mod branches;
 mod clause;
+mod sides;
 mod ties;
 
 pub use branches::branch_lemmas;
+pub use sides::sides_are_open;
 pub use ties::tie_lemmas;
