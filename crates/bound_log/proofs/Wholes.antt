@@ -1,8 +1,8 @@
 -- Whole numbers that meet the bounds told, and the literals that say these.
-use Rattle.std.proofs.Common.{◌≡◌, ℕ, ◌<◌, Bool, true, false, List, [], ◌∷◌, map, length, ℤ, neg_ℤ, refl, sym, ap, ◌∙◌, subst, arith}
-use Rattle.std.specs.Prelude.{int_le, Contains}
+use Rattle.std.proofs.Common.{◌≡◌, ℕ, ◌<◌, Bool, true, false, List, [], ◌∷◌, map, length, ℤ, pos, ◌+ℤ◌, ◌*ℤ◌, neg_ℤ, refl, sym, ap, ap₂, ◌∙◌, subst, arith}
+use Rattle.std.specs.Prelude.{int_le, All, Contains}
 use Rattle.std.proofs.lemmas.Int.{ints}
-use Rattle.std.proofs.lemmas.List.Elements.{All-contains}
+use Rattle.std.proofs.lemmas.List.Elements.{All-head, All-tail, All-contains}
 use Rattle.number_meaning.specs.declared.ratio.Ratio.{Ratio}
 use Rattle.number_meaning.specs.Number.{whole, unreduced_sum, unreduced_product}
 use Rattle.number_meaning.proofs.RingEquations.{var, sum, product, minus, unit, solve}
@@ -12,6 +12,9 @@ use Rattle.grid_meaning.specs.Grid.{is_turned, turned}
 use Rattle.grid_meaning.specs.Lines.{sum_value}
 use Rattle.smt_meaning.specs.declared.clauses.Summand as Places
 use Rattle.smt_meaning.specs.declared.clauses.Atom.TheVariants.{AtMost}
+use Rattle.smt_meaning.specs.Term.{Tree, Interpretation}
+use Rattle.smt_meaning.specs.Clause as Clauses
+use Rattle.smt_meaning.specs.Clause.{atom_true}
 use Rattle.literals.specs.Signed.{Signed, sign}
 use Rattle.search_port.specs.State.{atom_at}
 use Rattle.sum_bounds.specs.declared.writing.SumVariable.{SumVariable}
@@ -21,7 +24,7 @@ use Rattle.bound_log.specs.declared.said.Said.{Said}
 use Rattle.bound_log.specs.declared.said.Said.TheVariants.{Nothing, Bound}
 use Rattle.bound_log.specs.Told.{said_at, told_by}
 use Rattle.bound_log.specs.Atoms.{Says, SaysBound}
-use Rattle.bound_log.specs.Values.{sum_at, numbers_of, IsToldOf, BoundsAreTold, WholesHold}
+use Rattle.bound_log.specs.Values.{sum_at, numbers_of, IsToldOf, BoundsAreTold, WholesHold, IsGiven, MetAreTrue}
 use Rattle.bound_log.proofs.Breaking.{told_in}
 
 -- ---- sums of whole numbers
@@ -103,3 +106,14 @@ wholes_hold law table s state knows are_whole met l sum_ k among is some =
     ap (sum_value (whole_values s.bounds)) o.stands.sum ∙ turned_is_whole f sum_ ∙ ap (λ (b : Bool). whole (turned_value b (sum_at f sum_))) (sym o.stands.sign)
     in
     bound_says l.positive v.turned (sum_at f sum_) k (subst (λ (x : Ratio). MeetsSide (told_side l.positive v.turned) (told_number l.positive v.turned k) x) value meets)
+
+-- ---- under an interpretation
+
+sum_given : (ts : List Tree) (I : Interpretation) (f : ℕ → ℤ) (ps : List Places.Summand) → All (IsGiven ts I f) ps → Clauses.sum_value ts I ps ≡ sum_at f ps
+sum_given ts I f [] h = refl
+sum_given ts I f (p ∷ ps) h =
+    ap₂ (λ x y. p.coefficient *ℤ x +ℤ y) (All-head (IsGiven ts I f) p ps h) (sum_given ts I f ps (All-tail (IsGiven ts I f) p ps h))
+
+pub met_true : MetAreTrue
+met_true r I f log met l sum_ k among is some given =
+    ap (sign l.positive) (ap (atom_true r.trees I) is ∙ ap (λ z. int_le z k) (sum_given r.trees I f sum_ given)) ∙ met l sum_ k among is some

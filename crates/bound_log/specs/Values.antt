@@ -3,8 +3,10 @@ use Rattle.std.specs.Prelude.{◌≡◌, ◌≢◌, ℕ, true, List, [], ◌∷�
 use Rattle.smt_meaning.specs.declared.clauses.Summand.{Summand}
 use Rattle.smt_meaning.specs.declared.clauses.Atom.{Atom}
 use Rattle.smt_meaning.specs.declared.clauses.Atom.TheVariants.{AtMost}
-use Rattle.literals.specs.Signed.{Signed, sign}
-use Rattle.search_port.specs.State.{atom_at}
+use Rattle.smt_meaning.specs.Term.{Tree, Interpretation, number_of}
+use Rattle.smt_meaning.specs.Clause.{value_at}
+use Rattle.literals.specs.Signed.{Signed, sign, literal_true}
+use Rattle.search_port.specs.State.{Reading, atom_at, truth}
 use Rattle.sum_bounds.specs.Bounds as Bounds
 use Rattle.sum_bounds.specs.declared.writing.SumVariable.{SumVariable}
 use Rattle.sum_bounds.specs.Bounds.{StandsFor, told_bound, Meets, sums, leaf_values, AreWhole}
@@ -51,3 +53,13 @@ AreMet table f log =
 abbrev pub WholesHold : Type 0
 WholesHold =
     (table : List Atom) (s : State) → IsState s → Knows table s → AreWhole s.bounds → MeetsAll s → AreMet table (numbers_of s.bounds) s.log
+
+-- the interpretation gives the place the number that f does
+abbrev pub IsGiven : List Tree → Interpretation → (ℕ → ℤ) → Summand → Type 0
+IsGiven ts I f p = number_of (value_at ts I p.term) ≡ f p.term
+
+-- such a literal is true under each interpretation that gives the places of its sum these numbers
+abbrev pub MetAreTrue : Type 0
+MetAreTrue =
+    (r : Reading) (I : Interpretation) (f : ℕ → ℤ) (log : List Signed) → AreMet r.table f log → (l : Signed) (sum : List Summand) (k : ℤ) → Contains log l
+    → atom_at r.table l.atom ≡ AtMost sum k → sum ≢ [] → All (IsGiven r.trees I f) sum → literal_true (truth r I) l ≡ true

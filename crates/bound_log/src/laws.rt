@@ -1,5 +1,5 @@
 //! Laws on literals told, as contracts of functions that do nothing.
-ghost use Rattle.bound_log.specs.Values.{BoundsAreTold, WholesHold};
+ghost use Rattle.bound_log.specs.Values.{BoundsAreTold, MetAreTrue, WholesHold};
 
 use sum_bounds::wholes_meet;
 
@@ -14,3 +14,8 @@ pub fn wholes_hold()
 {
     wholes_meet();
 }
+
+/// Each such literal is true under an interpretation that gives the terms of its sum these numbers.
+pub fn met_are_true()
+    ensures { MetAreTrue }
+{}
