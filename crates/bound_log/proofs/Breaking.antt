@@ -1,23 +1,20 @@
 -- Bounds that are told by literals, and conflicts of them as clauses.
-use Rattle.std.proofs.Common.{◌≡◌, ℕ, zero, suc, ◌<◌, Bool, true, false, not, List, [], ◌∷◌, ◌++◌, length, ℤ, refl, sym, ap, ◌∙◌, subst, inl, inr, arith}
+use Rattle.std.proofs.Common.{◌≡◌, ℕ, zero, suc, ◌<◌, Bool, true, false, not, List, [], ◌∷◌, length, ℤ, refl, sym, ap, ◌∙◌, subst, inl, inr, arith}
 use Rattle.std.specs.Prelude.{All, Contains}
 use Rattle.std.proofs.lemmas.List.Elements.{All-weaker, All-contains, All-contains_itself, Contains-append_cases, Contains-append_left, Contains-append_right}
-use Rattle.grid_meaning.specs.declared.Summand.{Summand}
-use Rattle.grid_meaning.specs.Grid.{is_turned}
 use Rattle.smt_meaning.specs.Declaration.{Declaration}
 use Rattle.smt_meaning.specs.Interpretation.{Interprets}
 use Rattle.smt_meaning.specs.Stack.{signature_of}
 use Rattle.literals.specs.Signed.{Signed, opposite}
-use Rattle.search_port.specs.State.{Reading, TheoryState, atom_at, IsFalseIn, AllFalseIn}
+use Rattle.search_port.specs.State.{Reading, atom_at, IsFalseIn, AllFalseIn}
 use Rattle.search_port.specs.declared.budget.Lemma.{Lemma}
 use Rattle.congruence.specs.Reasons.{NoneTwice}
-use Rattle.literal_steps.specs.Clauses.{IsToldAtOneLevel}
 use Rattle.sum_bounds.specs.declared.writing.SumVariable.{SumVariable}
 use Rattle.sum_bounds.specs.declared.finding.Finding.{Finding}
 use Rattle.sum_bounds.specs.declared.finding.Finding.TheVariants.{Fits as AllFit, Conflict as Clash, Range as NoFit, UnitsSpent as Spent, Memory as NoMemory}
 use Rattle.sum_bounds.specs.Bounds as Bounds
 use Rattle.sum_bounds.specs.Bounds.{Told, told_bound, sums}
-use Rattle.sum_bounds.specs.Clauses.{plain, IsSaid, ConflictsAreValid}
+use Rattle.sum_bounds.specs.Clauses.{IsSaid, ConflictsAreValid}
 use Rattle.bound_log.specs.declared.said.Said.{Said}
 use Rattle.bound_log.specs.declared.said.Said.TheVariants.{Nothing, Bound}
 use Rattle.bound_log.specs.declared.report.Report.{Report}

@@ -1,5 +1,5 @@
 -- Variables more.
-use Rattle.std.proofs.Common.{◌≡◌, ◌≢◌, ℕ, ◌+◌, ◌<◌, ◌≤◌, ◌⊎◌, pos, List, [], ◌∷◌, ◌++◌, length, refl, sym, ap, ◌∙◌, subst, inl, inr, arith}
+use Rattle.std.proofs.Common.{◌≡◌, ◌≢◌, ℕ, ◌<◌, ◌≤◌, ◌⊎◌, pos, List, [], ◌++◌, length, refl, sym, ap, ◌∙◌, subst, inl, inr, arith}
 use Rattle.std.specs.Prelude.{All, Result, Ok, Err, OnErr}
 use Rattle.std.proofs.lemmas.List.{append_assoc, length-append, get_or_append_left}
 use Rattle.std.proofs.lemmas.List.Elements.{All-weaker, All-map}

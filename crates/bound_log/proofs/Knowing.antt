@@ -1,5 +1,5 @@
 -- What is known of atoms, where variables keep their sums.
-use Rattle.std.proofs.Common.{◌≡◌, ℕ, ◌+◌, ◌<◌, List, [], ◌∷◌, ◌++◌, length, ℤ, refl, sym, ap, ◌∙◌, subst, inl, inr, arith}
+use Rattle.std.proofs.Common.{◌≡◌, ◌+◌, ◌<◌, List, [], ◌∷◌, ◌++◌, length, ℤ, sym, ap, ◌∙◌, subst, inl, inr, arith}
 use Rattle.std.proofs.lemmas.Bool.{cases_lt}
 use Rattle.std.proofs.lemmas.List.{length_push, get_or_append_left, get_or_push}
 use Rattle.grid_meaning.specs.declared.Summand.{Summand}
@@ -13,7 +13,7 @@ use Rattle.sum_bounds.specs.Bounds.{StandsFor}
 use Rattle.bound_log.specs.declared.said.Said.{Said}
 use Rattle.bound_log.specs.declared.said.Said.TheVariants.{Nothing, Bound}
 use Rattle.bound_log.specs.Told.{State, said_at}
-use Rattle.bound_log.specs.Atoms.{Says, SaysNothing, SaysBound, Knows, KnowsTheSame, KnowsOneMore}
+use Rattle.bound_log.specs.Atoms.{Says, SaysNothing, KnowsTheSame, KnowsOneMore}
 use Rattle.bound_log.proofs.Growing.{KeepsSums}
 
 stands_kept : (b c : Bounds.State) (ps : List Summand) (v : SumVariable) → KeepsSums b c → StandsFor b ps v → StandsFor c ps v

@@ -4,13 +4,12 @@ use Rattle.std.specs.Prelude.{slice_index_or, All}
 use Rattle.std.proofs.lemmas.Bool.{cases_lt}
 use Rattle.std.proofs.lemmas.List.{append_assoc, length-take, length_push, get_or_append_left, get_or_push, get_or-take, take-take, take-append-le, take_at, take-append-drop}
 use Rattle.std.proofs.lemmas.List.Elements.{All-head, All-tail, All-weaker, All-push, All-take}
-use Rattle.number_meaning.specs.Whole.{InRange}
 use Rattle.literals.specs.Signed.{Signed}
 use Rattle.sum_bounds.specs.Bounds as Bounds
 use Rattle.sum_bounds.specs.Bounds.{Told}
 use Rattle.bound_log.specs.declared.said.Said.{Said}
 use Rattle.bound_log.specs.declared.said.Said.TheVariants.{Nothing, Bound}
-use Rattle.bound_log.specs.Told.{State, said_at, told_by, all_told, IsKnown, AreNumbered, AreStarts, IsCore, IsState}
+use Rattle.bound_log.specs.Told.{said_at, told_by, all_told, IsKnown, AreNumbered, IsCore, IsState}
 
 -- ---- lists
 

@@ -1,5 +1,5 @@
 -- Variables more.
-use Rattle.std.specs.Prelude.{◌≡◌, ◌≢◌, ℕ, ◌++◌, List, pos}
+use Rattle.std.specs.Prelude.{◌≡◌, ◌≢◌, ◌++◌, List, pos}
 use Rattle.number_meaning.specs.Whole.{InRange}
 use Rattle.grid_meaning.specs.declared.Column.{Column}
 use Rattle.smt_meaning.specs.declared.clauses.Summand as Places

@@ -1,5 +1,5 @@
 -- What a check reports.
-use Rattle.std.specs.Prelude.{◌≡◌, ℕ, List, All}
+use Rattle.std.specs.Prelude.{◌≡◌, ℕ, List}
 use Rattle.literals.specs.Signed.{Signed}
 use Rattle.smt_meaning.specs.Declaration.{Declaration}
 use Rattle.search_port.specs.State.{TheoryState, AllFalseIn}
@@ -10,14 +10,13 @@ use Rattle.congruence.specs.Reasons.{NoneTwice}
 use Rattle.literal_steps.specs.Clauses.{IsToldAtOneLevel, IsFalseClause}
 use Rattle.simplex_steps.specs.State.{grid_of}
 use Rattle.simplex_steps.specs.Run.{AreWithin, NextPivotFits}
-use Rattle.sum_bounds.specs.Bounds as Bounds
-use Rattle.sum_bounds.specs.Bounds.{Meets, leaf_values, sums}
 use Rattle.sum_bounds.specs.declared.finding.Finding.{Finding}
 use Rattle.sum_bounds.specs.declared.finding.Finding.TheVariants.{Fits as AllFit, Conflict as Clash, Range as NoFit, UnitsSpent as Spent, Memory as NoMemory}
 use Rattle.bound_log.specs.declared.report.Report.{Report}
 use Rattle.bound_log.specs.declared.report.Report.TheVariants.{Fits, Conflict, Range, UnitsSpent, Memory}
 use Rattle.bound_log.specs.Told.{State}
 use Rattle.bound_log.specs.Atoms.{Knows}
+use Rattle.bound_log.specs.Values.{MeetsAll}
 
 -- a clause at level 0 with no literal twice, false in the log, and a conflict of each theory's state with that log whose table has the atoms that are known
 pub record IsClause (s : State) (c : Lemma) : Type 0 where
@@ -28,7 +27,7 @@ pub record IsClause (s : State) (c : Lemma) : Type 0 where
 
 -- what a report says of the state at the end
 abbrev pub Judges : State → Report → Type 0
-Judges s Fits = AreWithin s.bounds.columns × All (Meets (sums s.bounds) (leaf_values s.bounds)) s.bounds.told
+Judges s Fits = AreWithin s.bounds.columns × MeetsAll s
 Judges s (Conflict c) = IsClause s c
 Judges s (Range number) = NextFails (grid_of s.bounds.table s.bounds.columns)
 Judges s UnitsSpent = NextPivotFits (grid_of s.bounds.table s.bounds.columns)

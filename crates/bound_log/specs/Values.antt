@@ -3,12 +3,36 @@ use Rattle.std.specs.Prelude.{◌≡◌, ◌≢◌, ℕ, true, List, [], ◌∷�
 use Rattle.smt_meaning.specs.declared.clauses.Summand.{Summand}
 use Rattle.smt_meaning.specs.declared.clauses.Atom.{Atom}
 use Rattle.smt_meaning.specs.declared.clauses.Atom.TheVariants.{AtMost}
-use Rattle.literals.specs.Signed.{Signed, sign}
-use Rattle.search_port.specs.State.{atom_at}
+use Rattle.smt_meaning.specs.Term.{Tree, Interpretation, number_of}
+use Rattle.smt_meaning.specs.Clause.{value_at}
+use Rattle.literals.specs.Signed.{Signed, sign, literal_true}
+use Rattle.search_port.specs.State.{Reading, atom_at, truth}
 use Rattle.sum_bounds.specs.Bounds as Bounds
-use Rattle.sum_bounds.specs.Bounds.{Meets, sums, leaf_values, AreWhole}
+use Rattle.sum_bounds.specs.declared.writing.SumVariable.{SumVariable}
+use Rattle.sum_bounds.specs.Bounds.{StandsFor, told_bound, Meets, sums, leaf_values, AreWhole}
+use Rattle.sum_bounds.specs.Clauses.{plain}
 use Rattle.bound_log.specs.Told.{State, IsState}
 use Rattle.bound_log.specs.Atoms.{Knows}
+
+-- the terms' values meet all bounds told
+abbrev pub MeetsAll : State → Type 0
+MeetsAll s = All (Meets (sums s.bounds) (leaf_values s.bounds)) s.bounds.told
+
+-- ---- literals and bounds told
+
+-- the literal is told as a bound on the variable of the sum
+pub record IsToldOf (s : State) (l : Signed) (sum : List Summand) (k : ℤ) : Type 0 where
+  pub of : SumVariable
+  pub stands : StandsFor s.bounds (plain sum) of
+  pub told : Contains s.bounds.told (told_bound l of.variable of.turned k)
+
+-- so each literal of the log is whose atom bounds a sum that isn't empty
+abbrev pub BoundsAreTold : Type 0
+BoundsAreTold =
+    (table : List Atom) (s : State) → IsState s → Knows table s → (l : Signed) (sum : List Summand) (k : ℤ) → Contains s.log l → atom_at table l.atom ≡ AtMost sum k → sum ≢ []
+    → IsToldOf s l sum k
+
+-- ---- whole numbers
 
 -- the sum where f gives each place its number
 abbrev pub sum_at : (ℕ → ℤ) → List Summand → ℤ
@@ -28,5 +52,14 @@ AreMet table f log =
 -- where the terms' values are whole and meet the bounds told, the log's literals on bounds are true of them
 abbrev pub WholesHold : Type 0
 WholesHold =
-    (table : List Atom) (s : State) → IsState s → Knows table s → AreWhole s.bounds → All (Meets (sums s.bounds) (leaf_values s.bounds)) s.bounds.told
-    → AreMet table (numbers_of s.bounds) s.log
+    (table : List Atom) (s : State) → IsState s → Knows table s → AreWhole s.bounds → MeetsAll s → AreMet table (numbers_of s.bounds) s.log
+
+-- the interpretation gives the place the number that f does
+abbrev pub IsGiven : List Tree → Interpretation → (ℕ → ℤ) → Summand → Type 0
+IsGiven ts I f p = number_of (value_at ts I p.term) ≡ f p.term
+
+-- such a literal is true under each interpretation that gives the places of its sum these numbers
+abbrev pub MetAreTrue : Type 0
+MetAreTrue =
+    (r : Reading) (I : Interpretation) (f : ℕ → ℤ) (log : List Signed) → AreMet r.table f log → (l : Signed) (sum : List Summand) (k : ℤ) → Contains log l
+    → atom_at r.table l.atom ≡ AtMost sum k → sum ≢ [] → All (IsGiven r.trees I f) sum → literal_true (truth r I) l ≡ true

@@ -1,7 +1,12 @@
-//! A law on literals told, as the contract of a function that does nothing.
-ghost use Rattle.bound_log.specs.Values.{WholesHold};
+//! Laws on literals told, as contracts of functions that do nothing.
+ghost use Rattle.bound_log.specs.Values.{BoundsAreTold, MetAreTrue, WholesHold};
 
 use sum_bounds::wholes_meet;
+
+/// Each literal told whose atom bounds a sum is told as a bound on the variable of the sum.
+pub fn bounds_are_told()
+    ensures { BoundsAreTold }
+{}
 
 /// Where the terms' values are whole numbers that meet all bounds told, each literal told of a bound is true of these numbers.
 pub fn wholes_hold()
@@ -9,3 +14,8 @@ pub fn wholes_hold()
 {
     wholes_meet();
 }
+
+/// Each such literal is true under an interpretation that gives the terms of its sum these numbers.
+pub fn met_are_true()
+    ensures { MetAreTrue }
+{}

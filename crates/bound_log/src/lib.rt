@@ -8,7 +8,7 @@ mod report;
 mod said;
 mod variables;
 
-pub use laws::wholes_hold;
+pub use laws::{bounds_are_told, met_are_true, wholes_hold};
 pub use log::BoundLog;
 pub use report::{Report, Reported};
 pub use said::Said;

@@ -1,4 +1,4 @@
-use Rattle.std.proofs.Common.{◌≡◌, map, take}
+use Rattle.std.proofs.Common.{◌≡◌, take}
 use Rattle.sum_bounds.specs.Clauses.{plain}
 use Rattle.bound_log.proofs.plain.plain_sum.Given as goal
 

@@ -7,7 +7,7 @@ use Rattle.smt_meaning.specs.declared.clauses.Atom.TheVariants.{AtMost}
 use Rattle.sum_bounds.specs.Bounds.{StandsFor}
 use Rattle.sum_bounds.specs.Clauses.{plain}
 use Rattle.bound_log.specs.declared.said.Said.{Said}
-use Rattle.bound_log.specs.declared.said.Said.TheVariants.{Nothing, Bound}
+use Rattle.bound_log.specs.declared.said.Said.TheVariants.{Nothing}
 use Rattle.bound_log.specs.Told.{State, IsCore}
 use Rattle.bound_log.specs.Atoms.{KnowsTheSame, KnowsOneMore}
 use Rattle.bound_log.proofs.Telling.{core_more, core_kept}
