@@ -3,9 +3,9 @@ use Rattle.std.proofs.Common.{◌≡◌, ℕ, ◌+◌, ◌<◌, ◌≤◌, Bool,
 use Rattle.std.specs.Prelude.{◌⊎◌, ℤ, Some, slice_index_or}
 use Rattle.std.proofs.lemmas.Bool.{cases_lt}
 use Rattle.std.proofs.lemmas.List.{get_or_past, get_or_push, get_or_append_left}
-use Rattle.std.proofs.lemmas.List.Elements.{All-nil, All-cons, All-head, All-tail}
+use Rattle.std.proofs.lemmas.List.Elements.{All-nil, All-cons, All-head, All-tail, All-weaker}
 use Rattle.smt_meaning.specs.declared.values.Sort.{Sort}
-use Rattle.smt_meaning.specs.declared.values.Sort.TheVariants.{Bool as Truths}
+use Rattle.smt_meaning.specs.declared.values.Sort.TheVariants.{Bool as Truths, Int as Ints}
 use Rattle.smt_meaning.specs.declared.terms.Head.{Head}
 use Rattle.smt_meaning.specs.Declaration.{Declaration}
 use Rattle.smt_meaning.specs.Term.{Tree, Trees, node, tree_at}
@@ -21,12 +21,20 @@ use Rattle.stack_atoms.specs.Parts.{IsMarked}
 use Rattle.stack_atoms.proofs.Places.{Picked, picked}
 use Rattle.scope_stack.specs.Facts.{AreSorts}
 use Rattle.value_model.specs.Parts.{AreSortedParts}
-use Rattle.value_model.specs.Values.{chosen, is_worked_out, GiveChosen, IsPlaceGiven, AllGiven}
+use Rattle.value_model.specs.WorkedOut.{is_worked_out, worked_out, IsWorkedOut, AreWorkedOut}
+use Rattle.value_model.specs.Values.{chosen, AllWorkedOut, IsNextWorkedOut, GiveChosen, IsPlaceGiven, AllGiven}
 
 marked_given : (g : Given) (s : Sort) → is_given_of g s ≡ true → is_marked g ≡ true
 marked_given Unmarked s h = absurd cc
 marked_given (InRange v) s h = refl
 marked_given PastRange s h = refl
+
+mark_within : (marks : List Bool) (p : ℕ) → IsMarked marks p → p < length marks
+mark_within marks p m = by (cases_lt p (length marks))
+  where
+    by : (p < length marks) ⊎ (length marks ≤ p) → p < length marks
+    by (inl h) = h
+    by (inr h) = let e : slice_index_or marks p false ≡ false = get_or_past marks p false h in absurd cc
 
 -- the arguments of a tree that stands in a list in order, by their places
 pub arguments_picked : (trees : List Tree) (order : AreInOrder trees) (p : ℕ) (h : Head) (us : Trees) → p < length trees → tree_at trees p ≡ node h us → Picked trees us
@@ -50,11 +58,7 @@ module _ (ds : List Declaration) (trees : List Tree) (marks : List Bool) (sorts 
   module _ (gs : List Given) (size : length gs ≡ length trees) (each : AllGiven trees marks sorts ts ns es (length trees) gs) (parts : AreSortedParts ds trees marks)
       (are : AreSorts ds trees (length trees) sorts) (order : AreInOrder trees) where
     within : (p : ℕ) → IsMarked marks p → p < length trees
-    within p m = by (cases_lt p (length marks))
-      where
-        by : (p < length marks) ⊎ (length marks ≤ p) → p < length trees
-        by (inl h) = subst (λ n. p < n) parts.size h
-        by (inr h) = let e : slice_index_or marks p false ≡ false = get_or_past marks p false h in absurd cc
+    within p m = subst (λ n. p < n) parts.size (mark_within marks p m)
 
     mark_of : (p : ℕ) → p < length trees → is_marked (given_at gs p) ≡ true → IsMarked marks p
     mark_of p less m = by (slice_index_or marks p false) refl
@@ -105,3 +109,47 @@ module _ (ds : List Declaration) (trees : List Tree) (marks : List Bool) (sorts 
       closed = λ p less m. closed p (tree_at trees p) less (mark_of p less m) refl;
       applications = application_inside;
     }
+
+-- ---- what is worked out
+
+pub given_before : (gs : List Given) (g : Given) (k : ℕ) (is : List ℕ) → length gs ≡ k → All (λ i. i < k) is → map (given_at (gs ++ g ∷ [])) is ≡ map (given_at gs) is
+given_before gs g k [] size below = refl
+given_before gs g k (i ∷ is) size below =
+    let less : i < k = All-head (λ j. j < k) i is below in
+    ap (λ x. x ∷ map (given_at (gs ++ g ∷ [])) is) (get_or_append_left gs (g ∷ []) Unmarked i (omega arith)) ∙ ap (λ xs. given_at gs i ∷ xs) (given_before gs g k is size (All-tail (λ j. j < k) i is below))
+
+module _ (trees : List Tree) (marks : List Bool) (sorts : List Sort) where
+  worked_before : (k p : ℕ) (gs : List Given) (g : Given) → length gs ≡ k → p < k → IsWorkedOut trees gs p → IsWorkedOut trees (gs ++ g ∷ []) p
+  worked_before k p gs g size less w = record {
+    head = w.head;
+    arguments = w.arguments;
+    tree = w.tree;
+    earlier = w.earlier;
+    is_made = λ h. get_or_append_left gs (g ∷ []) Unmarked p (omega arith) ∙ w.is_made h
+        ∙ ap (worked_out w.head) (sym (given_before gs g k w.arguments size (All-weaker (λ i. i < p) (λ i. i < k) (λ i below. omega arith) w.arguments w.earlier)));
+  }
+
+  worked_here : (p : ℕ) (gs : List Given) (g : Given) → length gs ≡ p → IsNextWorkedOut trees gs p g → IsWorkedOut trees (gs ++ g ∷ []) p
+  worked_here p gs g size w = record {
+    head = w.head;
+    arguments = w.arguments;
+    tree = w.tree;
+    earlier = w.earlier;
+    is_made = λ h. get_or_push gs g Unmarked p size ∙ w.is_made h ∙ ap (worked_out w.head) (sym (given_before gs g p w.arguments size w.earlier));
+  }
+
+  pub worked_out_pushed : (k : ℕ) (gs : List Given) (g : Given) → length gs ≡ k → AllWorkedOut trees marks sorts k gs
+      → (IsMarked marks k → slice_index_or sorts k Truths ≡ Ints → IsNextWorkedOut trees gs k g) → AllWorkedOut trees marks sorts (k + 1) (gs ++ g ∷ [])
+  worked_out_pushed k gs g size each here p less m int = by (cases_lt p k)
+    where
+      by : (p < k) ⊎ (k ≤ p) → IsWorkedOut trees (gs ++ g ∷ []) p
+      by (inl h) = worked_before k p gs g size h (each p h m int)
+      by (inr h) =
+          let e : p ≡ k = omega arith in
+          worked_here p gs g (size ∙ sym e) (subst (λ q. IsNextWorkedOut trees gs q g) (sym e) (here (subst (IsMarked marks) e m) (subst (λ q. slice_index_or sorts q Truths ≡ Ints) e int)))
+
+pub are_worked_out : (ds : List Declaration) (trees : List Tree) (marks : List Bool) (sorts : List Sort) (gs : List Given) → AllWorkedOut trees marks sorts (length trees) gs
+    → length marks ≡ length trees → AreSorts ds trees (length trees) sorts → AreWorkedOut ds trees marks gs
+are_worked_out ds trees marks sorts gs each size are p m has =
+    let less : p < length trees = subst (λ n. p < n) size (mark_within marks p m) in
+    each p less m (are.each p Ints less has)

@@ -1,21 +1,21 @@
 -- What places are given by lists of values.
-use Rattle.std.specs.Prelude.{◌≡◌, ℕ, ◌<◌, ◌^◌, ◌-◌, Bool, true, false, List, length, Some, ℤ, pos, neg_ℤ, slice_index_or, if◌then◌else◌}
+use Rattle.std.specs.Prelude.{◌≡◌, ℕ, ◌<◌, ◌^◌, ◌-◌, Bool, true, false, List, length, map, All, Some, ℤ, pos, neg_ℤ, slice_index_or, if◌then◌else◌}
 use Rattle.number_meaning.specs.Whole.{is_in_range}
 use Rattle.smt_meaning.specs.declared.values.Value.{Value}
 use Rattle.smt_meaning.specs.declared.values.Value.TheVariants.{Truth, Whole, Element}
 use Rattle.smt_meaning.specs.declared.values.Sort.{Sort}
 use Rattle.smt_meaning.specs.declared.values.Sort.TheVariants.{Bool as Truths, Int as Ints, Free}
-use Rattle.smt_meaning.specs.declared.terms.Operator.TheVariants.{Add, Subtract, Multiply}
 use Rattle.smt_meaning.specs.declared.terms.Head.{Head}
-use Rattle.smt_meaning.specs.declared.terms.Head.TheVariants.{Numeral, Theory}
 use Rattle.smt_meaning.specs.Declaration.{Declaration}
 use Rattle.smt_meaning.specs.Term.{Tree, tree_at}
 use Rattle.smt_meaning.specs.Signature.{tree_sort}
+use Rattle.term_store.specs.Terms.{tree_with}
 use Rattle.model_build.specs.declared.given.Given.{Given}
 use Rattle.model_build.specs.declared.given.Given.TheVariants.{Unmarked, InRange}
 use Rattle.model_build.specs.Given.{given_at, head_of}
 use Rattle.model_build.specs.Building.{is_given_of}
 use Rattle.stack_atoms.specs.Parts.{IsMarked}
+use Rattle.value_model.specs.WorkedOut.{is_worked_out, worked_out, IsWorkedOut}
 
 -- the number, or the least in the range
 abbrev pub in_the_range : ℤ → ℤ
@@ -26,14 +26,6 @@ abbrev pub chosen : List Bool → List ℤ → List ℕ → Sort → ℕ → Val
 chosen truths numbers elements Truths p = Truth (slice_index_or truths p false)
 chosen truths numbers elements Ints p = Whole (in_the_range (slice_index_or numbers p (pos 0)))
 chosen truths numbers elements (Free s) p = Element (slice_index_or elements p 0)
-
--- the value isn't chosen: it is a numeral's, or made of those of the arguments
-abbrev pub is_worked_out : Head → Bool
-is_worked_out (Numeral n) = true
-is_worked_out (Theory Add) = true
-is_worked_out (Theory Subtract) = true
-is_worked_out (Theory Multiply) = true
-is_worked_out _ = false
 
 -- each list has a value for each place
 pub record HaveValues (count : ℕ) (truths : List Bool) (numbers : List ℤ) (elements : List ℕ) : Type 0 where
@@ -56,3 +48,15 @@ pub record IsPlaceGiven (trees : List Tree) (marks : List Bool) (sorts : List So
 
 abbrev pub AllGiven : List Tree → List Bool → List Sort → List Bool → List ℤ → List ℕ → ℕ → List Given → Type 0
 AllGiven trees marks sorts truths numbers elements bound gs = (p : ℕ) → p < bound → IsPlaceGiven trees marks sorts truths numbers elements p (given_at gs p)
+
+-- each marked Int below a bound is worked out, where it isn't chosen
+abbrev pub AllWorkedOut : List Tree → List Bool → List Sort → ℕ → List Given → Type 0
+AllWorkedOut trees marks sorts bound gs = (p : ℕ) → p < bound → IsMarked marks p → slice_index_or sorts p Truths ≡ Ints → IsWorkedOut trees gs p
+
+-- what the next place is given, by those before
+pub record IsNextWorkedOut (trees : List Tree) (gs : List Given) (p : ℕ) (g : Given) : Type 0 where
+  pub head : Head
+  pub arguments : List ℕ
+  pub tree : tree_at trees p ≡ tree_with trees head arguments
+  pub earlier : All (λ i. i < p) arguments
+  pub is_made : is_worked_out head ≡ true → g ≡ worked_out head (map (given_at gs) arguments)

@@ -1,12 +1,15 @@
 //! What the places of a stack's terms are given.
-ghost use Rattle.std.specs.Prelude.{◌≡◌, ◌<◌, length, true, false, All, IfOk, IfSome, IfNone};
-ghost use Rattle.smt_meaning.specs.declared.values.Sort.TheVariants.{Int as Ints};
+ghost use Rattle.std.specs.Prelude.{◌≡◌, ◌<◌, length, map, true, false, All, IfOk, IfSome, IfNone, slice_index_or};
+ghost use Rattle.smt_meaning.specs.declared.values.Sort.TheVariants.{Bool as Truths, Int as Ints};
 ghost use Rattle.smt_meaning.specs.Stack.{signature_of};
 ghost use Rattle.scope_stack.specs.Facts.{AreSorts};
 ghost use Rattle.model_build.specs.declared.given.Given.TheVariants.{InRange};
+ghost use Rattle.model_build.specs.Given.{given_at};
 ghost use Rattle.model_build.specs.Building.{is_given_of, AreGiven};
+ghost use Rattle.stack_atoms.specs.Parts.{IsMarked};
 ghost use Rattle.value_model.specs.Parts.{AreSortedParts};
-ghost use Rattle.value_model.specs.Values.{HaveValues, in_the_range, chosen, is_worked_out, IsPlaceGiven, GiveChosen};
+ghost use Rattle.value_model.specs.Values.{HaveValues, in_the_range, chosen, IsPlaceGiven, IsNextWorkedOut, GiveChosen};
+ghost use Rattle.value_model.specs.WorkedOut.{is_worked_out, worked_out, AreWorkedOut};
 
 use crate::numbers::{number_given, operated};
 use model_build::Given;
@@ -54,11 +57,12 @@ fn chosen(values: &PlaceValues<'_>, sort: Sort, place: TermId) -> Value
 /// What an Int is given by its head, where its value isn't chosen.
 fn worked_out(head: Head, arguments: &[TermId], given: &[Given]) -> Option<Given>
     requires { All (λ i. i < length given.now) arguments.now }
-    ensures some { IfSome result (λ g. (is_given_of g Ints ≡ true) × (is_worked_out head ≡ true)) }
+    ensures sorted { IfSome result (λ g. is_given_of g Ints ≡ true) }
+    ensures some { IfSome result (λ g. (g ≡ worked_out head (map (given_at given.now) arguments.now)) × (is_worked_out head ≡ true)) }
     ensures none { IfNone result (is_worked_out head ≡ false) }
 {
     match head {
-        Head::Numeral(number) => Some(number_given(number)),
+        Head::Numeral(number) => Some(number_given(Some(number))),
         Head::Theory(Operator::Add) => Some(operated(Operator::Add, arguments, given)),
         Head::Theory(Operator::Subtract) => Some(operated(Operator::Subtract, arguments, given)),
         Head::Theory(Operator::Multiply) => Some(operated(Operator::Multiply, arguments, given)),
@@ -80,6 +84,7 @@ fn part_given(
     requires elements { place < length values.now.elements.now }
     requires arguments { All (λ i. i < length given.now) arguments.now }
     ensures sorted { is_given_of result sort ≡ true }
+    ensures made { sort ≡ Ints → is_worked_out head ≡ true → result ≡ worked_out head (map (given_at given.now) arguments.now) }
     ensures is_chosen { is_worked_out head ≡ false → result ≡ InRange (chosen values.now.truths.now values.now.numbers.now values.now.elements.now sort place) }
 {
     if sort == Sort::Int {
@@ -104,7 +109,8 @@ fn place_given(
     requires sorts { length sorts.now ≡ length store.now.trees }
     requires values { HaveValues (length store.now.trees) values.now.truths.now values.now.numbers.now values.now.elements.now }
     requires next { length given.now ≡ place }
-    ensures { IsPlaceGiven store.now.trees marks.now sorts.now values.now.truths.now values.now.numbers.now values.now.elements.now place result }
+    ensures place { IsPlaceGiven store.now.trees marks.now sorts.now values.now.truths.now values.now.numbers.now values.now.elements.now place result }
+    ensures made { IsMarked marks.now place → slice_index_or sorts.now place Truths ≡ Ints → IsNextWorkedOut store.now.trees given.now place result }
 {
     if !marks[place as usize] {
         return Given::Unmarked;
@@ -135,6 +141,7 @@ pub fn given_values(
     requires values { HaveValues (length stack.now.trees) values.now.truths.now values.now.numbers.now values.now.elements.now }
     ensures given { IfOk result (λ given. AreGiven (signature_of stack.now.frames) stack.now.trees given.items) }
     ensures chosen { IfOk result (λ given. GiveChosen (signature_of stack.now.frames) stack.now.trees marks.now values.now.truths.now values.now.numbers.now values.now.elements.now given.items) }
+    ensures worked_out { IfOk result (λ given. AreWorkedOut (signature_of stack.now.frames) stack.now.trees marks.now given.items) }
 {
     stack.laws();
     let store = stack.terms();
