@@ -59,7 +59,7 @@ module _ (trees : List Tree) (marks : List Bool) (I : Interpretation) (values : 
   past_is (Same p q) h past = past
 
   module _ (atoms : List Atom) (all : All (HasMarkedPlaces marks) atoms) where
-    literal_is : (l : Signed) → l.atom < length atoms → literal_true (truth_by values atoms) l ≡ literal_true (truth_in trees atoms I) l
+    pub literal_is : (l : Signed) → l.atom < length atoms → literal_true (truth_by values atoms) l ≡ literal_true (truth_in trees atoms I) l
     literal_is l less = ap (sign l.positive) (atom_is (atom_at atoms l.atom) (all l.atom (Truth 0) less))
 
     literals_true : (log : List Signed) → All (λ (l : Signed). l.atom < length atoms) log → All (λ l. literal_true (truth_by values atoms) l ≡ true) log → AreTrueIn trees atoms I log
@@ -119,6 +119,10 @@ pub places_of : (atoms : List Atom) (n k : ℕ) (a : Atom) → All (HasPlacesBel
 places_of atoms n k a all at = subst (HasPlacesBelow n) (at.1 (Truth 0)) (all k (Truth 0) at.0)
 
 -- ---- a log, one literal after another
+
+pub none_of : (o : Option Verdict) → ((v : Verdict) → o ≡ Some v → ⊥) → o ≡ None
+none_of None h = refl
+none_of (Some v) h = absurd (h v refl)
 
 some_true_of : (o : Option Bool) (k : ℕ) → verdict_of o k ≡ None → o ≡ Some true
 some_true_of (Some true) k e = refl

@@ -14,8 +14,8 @@ use Rattle.search_port.specs.State.{TheoryState, atom_at}
 use Rattle.search_port.specs.Calls.{IsModelOf}
 use Rattle.model_eval.specs.Unfit.{IsCauseOfAny}
 use Rattle.model_eval.specs.declared.EvalError.TheVariants.{Range as RangeOf}
-use Rattle.log_value.specs.Places.{marked_places}
-use Rattle.log_value.specs.Atoms.{truth_by, IsPastRange}
+use Rattle.log_value.specs.Places.{marked_places, AreValues}
+use Rattle.log_value.specs.Atoms.{truth_by, IsPastRange, HasMarkedPlaces}
 use Rattle.log_value.specs.declared.log.Verdict.{Verdict}
 use Rattle.log_value.specs.declared.log.Verdict.TheVariants.{AllTrue, False, Range, Unknown}
 
@@ -37,6 +37,12 @@ IsPastRangeIn trees I (Same p q) = ⊥
 -- the literals of a log, read by this table
 abbrev pub AreTrueIn : List Tree → List Atom → Interpretation → List Signed → Type 0
 AreTrueIn trees atoms I log = All (λ l. literal_true (truth_in trees atoms I) l ≡ true) log
+
+-- literals on atoms with marked places are true by the values of terms exactly where they are under the interpretation that gives the values
+abbrev pub TruthIsByValues : Type 0
+TruthIsByValues =
+    (trees : List Tree) (marks : List Bool) (I : Interpretation) (values : List Value) (atoms : List Atom) (l : Signed) → AreValues trees marks I values → All (HasMarkedPlaces marks) atoms → l.atom < length atoms
+    → literal_true (truth_by values atoms) l ≡ literal_true (truth_in trees atoms I) l
 
 -- a state with these trees, this table and this log
 pub record IsAbout (trees : List Tree) (atoms : List Atom) (log : List Signed) (t : TheoryState) : Type 0 where

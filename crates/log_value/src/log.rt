@@ -51,9 +51,8 @@ fn judged(
     let mut pairs = Vec::new(alloc);
     for place in 0..log.len() {
         let truth = makes_true(values, atoms, log[place], &mut pairs)?;
-        match verdict_of(truth, place) {
-            Some(verdict) => return Ok(verdict),
-            None => {}
+        if let Some(verdict) = verdict_of(truth, place) {
+            return Ok(verdict);
         }
     }
     Ok(Verdict::AllTrue)
