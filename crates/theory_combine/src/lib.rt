@@ -3,3 +3,6 @@
 #![tactic(auto)]
 
 mod held;
+mod model;
+mod numbering;
+mod values;
