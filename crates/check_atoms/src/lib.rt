@@ -2,11 +2,13 @@
 #![tactic(auto)]
 
 mod atoms;
+mod laws;
 mod number;
 mod part;
 mod parts;
 mod refusal;
 
 pub use atoms::{CheckAtoms, numbered};
+pub use laws::{atoms_are_of_stack, refused_term_leaves_range, stack_atoms_are_numbered};
 pub use part::PartAtom;
 pub use refusal::Refusal;

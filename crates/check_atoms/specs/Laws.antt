@@ -1,0 +1,36 @@
+-- What holds of the numbered atoms, and of a refusal.
+use Rattle.std.specs.Prelude.{◌≡◌, ◌⊎◌, ℕ, Bool, true, List, All, Contains}
+use Rattle.smt_meaning.specs.declared.clauses.Atom.{Atom}
+use Rattle.smt_meaning.specs.declared.clauses.Atom.TheVariants.{Same}
+use Rattle.smt_meaning.specs.Term.{tree_at}
+use Rattle.smt_meaning.specs.Signature.{tree_sort, is_bool}
+use Rattle.smt_meaning.specs.Stack.{signature_of}
+use Rattle.smt_meaning.specs.StackCommand.{Stack}
+use Rattle.smt_meaning.specs.Atoms.{stack_atoms}
+use Rattle.smt_meaning.specs.Ranges.{LeavesInPart}
+use Rattle.scope_stack.specs.Shown.{IsLawful}
+use Rattle.stack_atoms.specs.Marks.{AreStackParts}
+use Rattle.check_atoms.specs.declared.refusal.Refusal.TheVariants.{Term}
+use Rattle.check_atoms.specs.OfStack.{AreCheckAtoms, IsRefused}
+
+-- each numbered atom is one of the stack's
+abbrev pub AtomsAreOfStack : Type 0
+AtomsAreOfStack =
+    (s : Stack) (marks : List Bool) (atoms : List Atom) → IsLawful s → AreStackParts s marks → AreCheckAtoms s marks atoms → All (Contains (stack_atoms s.trees s.frames)) atoms
+
+-- the equality of two Bools
+pub record IsSameOfBools (s : Stack) (a : Atom) : Type 0 where
+  pub left : ℕ
+  pub right : ℕ
+  pub atom : a ≡ Same left right
+  pub bool : is_bool (tree_sort (signature_of s.frames) (tree_at s.trees left)) ≡ true
+
+-- and each of the stack's is numbered, but for the equalities of Bools
+abbrev pub StackAtomsAreNumbered : Type 0
+StackAtomsAreNumbered =
+    (s : Stack) (marks : List Bool) (atoms : List Atom) → IsLawful s → AreStackParts s marks → AreCheckAtoms s marks atoms
+    → All (λ (a : Atom). Contains atoms a ⊎ IsSameOfBools s a) (stack_atoms s.trees s.frames)
+
+-- a term whose folding is refused is a part whose folding leaves the range
+abbrev pub RefusedTermLeavesRange : Type 0
+RefusedTermLeavesRange = (s : Stack) (part : ℕ) → IsLawful s → IsRefused s (Term part) → LeavesInPart s.trees s.frames part

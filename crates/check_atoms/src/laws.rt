@@ -1,0 +1,23 @@
+//! What holds of the numbered atoms and of a refusal, as contracts of functions that do nothing.
+ghost use Rattle.check_atoms.specs.Laws.{AtomsAreOfStack, StackAtomsAreNumbered, RefusedTermLeavesRange};
+
+use bound_clauses::orders_are_comparisons;
+
+/// Each numbered atom is one of the stack's.
+pub fn atoms_are_of_stack()
+    ensures { AtomsAreOfStack }
+{
+    orders_are_comparisons();
+}
+
+/// Each of the stack's atoms is numbered, but for the equalities of Bools.
+pub fn stack_atoms_are_numbered()
+    ensures { StackAtomsAreNumbered }
+{
+    orders_are_comparisons();
+}
+
+/// A term whose folding is refused is a part whose folding leaves the range.
+pub fn refused_term_leaves_range()
+    ensures { RefusedTermLeavesRange }
+{}
