@@ -33,7 +33,7 @@ use Rattle.check_atoms.specs.declared.refusal.Refusal.{Refusal}
 use Rattle.check_atoms.specs.declared.part.PartAtom.{PartAtom}
 use Rattle.check_atoms.specs.declared.part.PartAtom.TheVariants.{Truth, Same, Bound}
 use Rattle.check_atoms.specs.PartAtoms.{atom_of, of_part, sort_of, sort_in}
-use Rattle.check_atoms.specs.Numbering.{Adds, RefusesOne}
+use Rattle.check_atoms.specs.Numbering.{IsNormal, Adds, RefusesOne}
 use Rattle.check_atoms.specs.OfStack.{IsNode, part_atoms, IsAtomOfPart, AreCheckAtoms, AreAtomsBelow, IsRefused}
 use Rattle.check_atoms.proofs.Sums.{bound_places}
 use Rattle.check_atoms.proofs.PartPlaces.{IsOver, part_over, same_part}
@@ -76,9 +76,13 @@ module _ (s : Stack) (marks : List Bool) (law : IsLawful s) (parts : AreMarkedFr
       ap (λ g. part_atoms s p g is) (head_of h k (pick s.trees is) (pick s.trees js) (sym a.tree ∙ b.tree))
       ∙ ap (part_atoms s p k) (same_arguments s.trees p h k is js law.in_order a.arguments b.arguments a.tree b.tree)
 
-  pub part_more : (k : ℕ) (h : Head) (is : List ℕ) (old new : List Atom) → IsMarked marks k → IsNode s.trees k h is → AreAtomsBelow s marks k old → Adds old (map (atom_of s.trees) (part_atoms s k h is)) new
+  pub part_more : (k : ℕ) (h : Head) (is : List ℕ) (old new : List Atom) → IsMarked marks k → IsNode s.trees k h is → AreAtomsBelow s marks k old → Adds (length s.trees) old (map (atom_of s.trees) (part_atoms s k h is)) new
       → AreAtomsBelow s marks (k + 1) new
   part_more k h is old new m n b a = record {
+    bounds = λ i d l. elim (a.only (get_or new i d) (Contains-get_or new i d l)) [
+      | inl before ↦ All-contains (IsNormal (length s.trees)) old (get_or new i d) b.bounds before
+      | inr here ↦ All-contains (IsNormal (length s.trees)) (map (atom_of s.trees) (part_atoms s k h is)) (get_or new i d) a.normal here
+    ];
     only = λ x c. elim (a.only x c) [ inl before ↦ b.only x before | inr here ↦ record { place = k; head = h; arguments = is; marked = m; term = n; among = here } ];
     each = λ p g js l pm pn. elim (last_or_before k p l) [
       | inl before ↦ All-weaker (Contains old) (Contains new) a.stay (map (atom_of s.trees) (part_atoms s p g js)) (b.each p g js before pm pn)
@@ -94,6 +98,7 @@ module _ (s : Stack) (marks : List Bool) (law : IsLawful s) (parts : AreMarkedFr
 
   pub no_part : (k : ℕ) (atoms : List Atom) → slice_index_or marks k false ≡ false → AreAtomsBelow s marks k atoms → AreAtomsBelow s marks (k + 1) atoms
   no_part k atoms none b = record {
+    bounds = b.bounds;
     only = b.only;
     each = λ p g js l pm pn. elim (last_or_before k p l) [
       | inl before ↦ b.each p g js before pm pn
@@ -155,12 +160,13 @@ module _ (s : Stack) (marks : List Bool) (law : IsLawful s) (parts : AreMarkedFr
           apart = apart;
           only = b.only;
           each = λ p h is m n. b.each p h is n.within m n;
+          bounds = b.bounds;
           over_parts = over;
           declared = All-weaker (λ (a : Atom). All (IsMarked marks) (atom_places a)) (IsOf s.trees s.frames) is_of atoms over;
         }
 
 pub no_atoms : (s : Stack) (marks : List Bool) → AreAtomsBelow s marks 0 []
-no_atoms s marks = record { only = λ a c. absurd (none a c); each = λ p h is l m n. absurd (omega arith) }
+no_atoms s marks = record { bounds = All-nil (IsNormal (length s.trees)); only = λ a c. absurd (none a c); each = λ p h is l m n. absurd (omega arith) }
   where
     none : (a : Atom) → Contains [] a → ⊥
     none a (k, h, e) = omega (arith, h)

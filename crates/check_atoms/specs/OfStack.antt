@@ -15,7 +15,7 @@ use Rattle.check_atoms.specs.declared.refusal.Refusal.{Refusal}
 use Rattle.check_atoms.specs.declared.refusal.Refusal.TheVariants.{Memory}
 use Rattle.check_atoms.specs.declared.part.PartAtom.{PartAtom}
 use Rattle.check_atoms.specs.PartAtoms.{atom_of, of_part, sort_of}
-use Rattle.check_atoms.specs.Numbering.{RefusesBound}
+use Rattle.check_atoms.specs.Numbering.{IsNormal, RefusesBound}
 
 -- the term at this place has this head, and its arguments are at these places
 pub record IsNode (trees : List Tree) (p : ℕ) (h : Head) (is : List ℕ) : Type 0 where
@@ -43,6 +43,7 @@ pub record AreCheckAtoms (s : Stack) (marks : List Bool) (atoms : List Atom) : T
   pub apart : AreApart atoms
   pub only : (a : Atom) → Contains atoms a → IsAtomOfPart s marks a
   pub each : (p : ℕ) (h : Head) (is : List ℕ) → IsMarked marks p → IsNode s.trees p h is → All (Contains atoms) (map (atom_of s.trees) (part_atoms s p h is))
+  pub bounds : All (IsNormal (length s.trees)) atoms
   pub over_parts : All (λ (a : Atom). All (IsMarked marks) (atom_places a)) atoms
   pub declared : All (IsOf s.trees s.frames) atoms
 
@@ -61,5 +62,6 @@ IsRefused s e = (e ≡ Memory) ⊎ RefusesPart s e
 
 -- of the parts below a place exactly the atoms are numbered
 pub record AreAtomsBelow (s : Stack) (marks : List Bool) (k : ℕ) (atoms : List Atom) : Type 0 where
+  pub bounds : All (IsNormal (length s.trees)) atoms
   pub only : (a : Atom) → Contains atoms a → IsAtomOfPart s marks a
   pub each : (p : ℕ) (h : Head) (is : List ℕ) → p < k → IsMarked marks p → IsNode s.trees p h is → All (Contains atoms) (map (atom_of s.trees) (part_atoms s p h is))
