@@ -1,6 +1,7 @@
 mod Adding
 mod Sums
 mod PartPlaces
+mod Integers
 mod Stacks
 mod Related
 mod StackAtoms
