@@ -6,3 +6,4 @@ mod Stacks
 mod Related
 mod StackAtoms
 mod Refused
+mod RefusedPair

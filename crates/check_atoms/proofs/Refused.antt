@@ -24,18 +24,18 @@ use Rattle.check_atoms.proofs.PartPlaces.{IsOver, part_over}
 folds : (ts : List Tree) (t : Tree) → FoldsOutside ts t → folding_fits ts t ≡ false
 folds ts (node h us) o = ap₂ (λ a b. a && b) o.0 o.1
 
-itself : (t : Tree) → IsPart t t
+pub itself : (t : Tree) → IsPart t t
 itself (node h us) = inl refl
 
 no_memory : (p : ℕ) → Term p ≡ Memory → ⊥
 no_memory p e = cc
 
 module _ (s : Stack) (lawful : IsLawful s) where
-  different : AreDifferent s.trees
+  pub different : AreDifferent s.trees
   different j k less within e = let same : j ≡ k = lawful.in_order.different j k (omega (arith, less, within)) within e in omega (arith, same, less)
 
   -- a place of a part of the term at a place
-  abbrev IsBelow : ℕ → ℕ → Type 0
+  abbrev pub IsBelow : ℕ → ℕ → Type 0
   IsBelow p i = IsPart (tree_at s.trees i) (tree_at s.trees p) × (i < length s.trees)
 
   arguments_below : (is : List ℕ) → All (λ i. IsPartOfOne (tree_at s.trees i) (pick s.trees is)) is
@@ -44,7 +44,7 @@ module _ (s : Stack) (lawful : IsLawful s) where
       All-cons (λ j. IsPartOfOne (tree_at s.trees j) (pick s.trees (i ∷ is))) i is (inl (itself (tree_at s.trees i)))
       (All-weaker (λ j. IsPartOfOne (tree_at s.trees j) (pick s.trees is)) (λ j. IsPartOfOne (tree_at s.trees j) (pick s.trees (i ∷ is))) (λ j q. inr q) is (arguments_below is))
 
-  all_below : (p : ℕ) (h : Head) (is : List ℕ) → tree_at s.trees p ≡ node h (pick s.trees is) → All (λ i. i < length s.trees) is → All (IsBelow p) is
+  pub all_below : (p : ℕ) (h : Head) (is : List ℕ) → tree_at s.trees p ≡ node h (pick s.trees is) → All (λ i. i < length s.trees) is → All (IsBelow p) is
   all_below p h is e w = λ k d l. (subst (IsPart _) (sym e) (inr (arguments_below is k d l)), w k d l)
 
   module _ (part : ℕ) (r : RefusesPart s (Term part)) where

@@ -6,11 +6,15 @@ use Rattle.smt_meaning.specs.Term.{tree_at}
 use Rattle.smt_meaning.specs.Signature.{tree_sort, is_bool}
 use Rattle.smt_meaning.specs.Stack.{signature_of}
 use Rattle.smt_meaning.specs.StackCommand.{Stack}
+use Rattle.smt_meaning.specs.Linear.{linear_form, form_fits}
 use Rattle.smt_meaning.specs.Atoms.{stack_atoms}
-use Rattle.smt_meaning.specs.Ranges.{LeavesInPart}
+use Rattle.smt_meaning.specs.Ranges.{LeavesInPart, LeavesInPair}
 use Rattle.scope_stack.specs.Shown.{IsLawful}
 use Rattle.stack_atoms.specs.Marks.{AreStackParts}
-use Rattle.check_atoms.specs.declared.refusal.Refusal.TheVariants.{Term}
+use Rattle.bound_clauses.specs.declared.orders.Sense.{Sense}
+use Rattle.bound_clauses.specs.declared.orders.Sense.TheVariants.{NotAbove, Below}
+use Rattle.bound_clauses.specs.declared.orders.Order.{Order}
+use Rattle.check_atoms.specs.declared.refusal.Refusal.TheVariants.{Term, Pair}
 use Rattle.check_atoms.specs.OfStack.{AreCheckAtoms, IsRefused}
 
 -- each numbered atom is one of the stack's
@@ -34,3 +38,14 @@ StackAtomsAreNumbered =
 -- a term whose folding is refused is a part whose folding leaves the range
 abbrev pub RefusedTermLeavesRange : Type 0
 RefusedTermLeavesRange = (s : Stack) (part : ℕ) → IsLawful s → IsRefused s (Term part) → LeavesInPart s.trees s.frames part
+
+-- of a pair that is refused the difference leaves the range, or for a strict bound what the part compares
+abbrev pub PairLeavesRange : Stack → ℕ → Sense → ℕ → ℕ → Type 0
+PairLeavesRange s part NotAbove left right = LeavesInPair s.trees s.frames left right
+PairLeavesRange s part Below left right = LeavesInPart s.trees s.frames part
+
+-- where the form of its first term is in the range
+abbrev pub RefusedPairLeavesRange : Type 0
+RefusedPairLeavesRange =
+    (s : Stack) (part : ℕ) (o : Order) → IsLawful s → form_fits (linear_form s.trees (tree_at s.trees o.lesser)) ≡ true → IsRefused s (Pair part o)
+    → PairLeavesRange s part o.sense o.lesser o.greater

@@ -1,5 +1,5 @@
 //! What holds of the numbered atoms and of a refusal, as contracts of functions that do nothing.
-ghost use Rattle.check_atoms.specs.Laws.{AtomsAreOfStack, StackAtomsAreNumbered, RefusedTermLeavesRange};
+ghost use Rattle.check_atoms.specs.Laws.{AtomsAreOfStack, StackAtomsAreNumbered, RefusedTermLeavesRange, RefusedPairLeavesRange};
 
 use bound_clauses::orders_are_comparisons;
 
@@ -20,4 +20,9 @@ pub fn stack_atoms_are_numbered()
 /// A term whose folding is refused is a part whose folding leaves the range.
 pub fn refused_term_leaves_range()
     ensures { RefusedTermLeavesRange }
+{}
+
+/// Where the form of the first term of a refused pair is in the range, the pair's difference leaves it, or for a strict bound what the part compares does.
+pub fn refused_pair_leaves_range()
+    ensures { RefusedPairLeavesRange }
 {}

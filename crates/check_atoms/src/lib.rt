@@ -9,6 +9,9 @@ mod parts;
 mod refusal;
 
 pub use atoms::{CheckAtoms, numbered};
-pub use laws::{atoms_are_of_stack, refused_term_leaves_range, stack_atoms_are_numbered};
+pub use laws::{
+    atoms_are_of_stack, refused_pair_leaves_range, refused_term_leaves_range,
+    stack_atoms_are_numbered,
+};
 pub use part::PartAtom;
 pub use refusal::Refusal;
