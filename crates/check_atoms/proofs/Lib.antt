@@ -7,3 +7,4 @@ mod Related
 mod StackAtoms
 mod Refused
 mod RefusedPair
+mod PartNumbers

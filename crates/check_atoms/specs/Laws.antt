@@ -1,7 +1,11 @@
 -- What holds of the numbered atoms, and of a refusal.
-use Rattle.std.specs.Prelude.{◌≡◌, ◌⊎◌, ℕ, Bool, true, List, All, Contains}
+use Rattle.std.specs.Prelude.{◌≡◌, ◌⊎◌, ℕ, Bool, true, List, map, All, Contains, IsTrue}
+use Rattle.smt_meaning.specs.declared.terms.Operator.{Operator}
+use Rattle.smt_meaning.specs.declared.terms.Operator.TheVariants.{Equal, Distinct, Ite}
+use Rattle.smt_meaning.specs.declared.terms.Head.{Head}
+use Rattle.smt_meaning.specs.declared.terms.Head.TheVariants.{Theory}
 use Rattle.smt_meaning.specs.declared.clauses.Atom.{Atom}
-use Rattle.smt_meaning.specs.declared.clauses.Atom.TheVariants.{Same}
+use Rattle.smt_meaning.specs.declared.clauses.Atom.TheVariants.{Truth, Same}
 use Rattle.smt_meaning.specs.Term.{tree_at}
 use Rattle.smt_meaning.specs.Signature.{tree_sort, is_bool}
 use Rattle.smt_meaning.specs.Stack.{signature_of}
@@ -10,12 +14,16 @@ use Rattle.smt_meaning.specs.Linear.{linear_form, form_fits}
 use Rattle.smt_meaning.specs.Atoms.{stack_atoms}
 use Rattle.smt_meaning.specs.Ranges.{LeavesInPart, LeavesInPair}
 use Rattle.scope_stack.specs.Shown.{IsLawful}
+use Rattle.stack_atoms.specs.Parts.{IsMarked}
 use Rattle.stack_atoms.specs.Marks.{AreStackParts}
 use Rattle.bound_clauses.specs.declared.orders.Sense.{Sense}
 use Rattle.bound_clauses.specs.declared.orders.Sense.TheVariants.{NotAbove, Below}
 use Rattle.bound_clauses.specs.declared.orders.Order.{Order}
 use Rattle.check_atoms.specs.declared.refusal.Refusal.TheVariants.{Term, Pair}
-use Rattle.check_atoms.specs.OfStack.{AreCheckAtoms, IsRefused}
+use Rattle.bound_clauses.specs.Orders.{order_atoms, bound_atom}
+use Rattle.bound_clauses.specs.Laws.{orders}
+use Rattle.check_atoms.specs.PartAtoms.{atom_of, sort_of, neighbours, each_two, with_branches}
+use Rattle.check_atoms.specs.OfStack.{IsNode, AreCheckAtoms, IsRefused}
 
 -- each numbered atom is one of the stack's
 abbrev pub AtomsAreOfStack : Type 0
@@ -49,3 +57,20 @@ abbrev pub RefusedPairLeavesRange : Type 0
 RefusedPairLeavesRange =
     (s : Stack) (part : ℕ) (o : Order) → IsLawful s → form_fits (linear_form s.trees (tree_at s.trees o.lesser)) ≡ true → IsRefused s (Pair part o)
     → PairLeavesRange s part o.sense o.lesser o.greater
+
+-- what is numbered for a part with this operator: the bounds of a comparison, and the atoms of each two terms that it compares
+pub record HasNumbers (s : Stack) (atoms : List Atom) (p : ℕ) (o : Operator) (is : List ℕ) : Type 0 where
+  pub comparison : IsTrue (orders o) → All (Contains atoms) (map (bound_atom s.trees) (order_atoms o is))
+  pub equality : o ≡ Equal → All (Contains atoms) (map (atom_of s.trees) (neighbours (sort_of (signature_of s.frames) s.trees) is))
+  pub different : o ≡ Distinct → All (Contains atoms) (map (atom_of s.trees) (each_two (sort_of (signature_of s.frames) s.trees) is))
+  pub choice : o ≡ Ite → All (Contains atoms) (map (atom_of s.trees) (with_branches (sort_of (signature_of s.frames) s.trees) p is))
+
+abbrev pub PartsHaveNumbers : Type 0
+PartsHaveNumbers =
+    (s : Stack) (marks : List Bool) (atoms : List Atom) → AreCheckAtoms s marks atoms → (p : ℕ) (o : Operator) (is : List ℕ) → IsMarked marks p → IsNode s.trees p (Theory o) is → HasNumbers s atoms p o is
+
+-- the truth of each part that is a Bool is numbered
+abbrev pub TruthsHaveNumbers : Type 0
+TruthsHaveNumbers =
+    (s : Stack) (marks : List Bool) (atoms : List Atom) → AreCheckAtoms s marks atoms → (p : ℕ) (h : Head) (is : List ℕ) → IsMarked marks p → IsNode s.trees p h is
+    → is_bool (sort_of (signature_of s.frames) s.trees p) ≡ true → Contains atoms (Truth p)

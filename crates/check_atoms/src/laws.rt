@@ -1,5 +1,5 @@
 //! What holds of the numbered atoms and of a refusal, as contracts of functions that do nothing.
-ghost use Rattle.check_atoms.specs.Laws.{AtomsAreOfStack, StackAtomsAreNumbered, RefusedTermLeavesRange, RefusedPairLeavesRange};
+ghost use Rattle.check_atoms.specs.Laws.{AtomsAreOfStack, StackAtomsAreNumbered, PartsHaveNumbers, TruthsHaveNumbers, RefusedTermLeavesRange, RefusedPairLeavesRange};
 
 use bound_clauses::orders_are_comparisons;
 
@@ -16,6 +16,16 @@ pub fn stack_atoms_are_numbered()
 {
     orders_are_comparisons();
 }
+
+/// The atoms that compare the arguments of a part are numbered.
+pub fn parts_have_numbers()
+    ensures { PartsHaveNumbers }
+{}
+
+/// The truth of each part that is a Bool is numbered.
+pub fn truths_have_numbers()
+    ensures { TruthsHaveNumbers }
+{}
 
 /// A term whose folding is refused is a part whose folding leaves the range.
 pub fn refused_term_leaves_range()
