@@ -1,4 +1,10 @@
 mod Adding
 mod Sums
 mod PartPlaces
+mod Integers
 mod Stacks
+mod Related
+mod StackAtoms
+mod Refused
+mod RefusedPair
+mod PartNumbers

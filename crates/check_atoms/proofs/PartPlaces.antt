@@ -4,16 +4,16 @@ use Rattle.std.specs.Prelude.{Option, None}
 use Rattle.std.proofs.lemmas.List.Elements.{All-nil, All-cons, All-head, All-tail, All-append, All-weaker}
 use Rattle.smt_meaning.specs.declared.values.Sort.{Sort}
 use Rattle.smt_meaning.specs.declared.values.Sort.TheVariants.{Bool as Truths, Int as Ints, Free}
-use Rattle.smt_meaning.specs.declared.terms.Operator.TheVariants.{True, False, Not, And, Or, Xor, Implies, Equal, Distinct, Ite, Add, Subtract, Multiply, AtMost, Less, AtLeast, Greater}
+use Rattle.smt_meaning.specs.declared.terms.Operator.TheVariants.{Equal, Distinct, Ite, AtMost, Less, AtLeast, Greater}
 use Rattle.smt_meaning.specs.declared.terms.Operator.{Operator}
 use Rattle.smt_meaning.specs.declared.terms.Head.{Head}
-use Rattle.smt_meaning.specs.declared.terms.Head.TheVariants.{Numeral, Theory, Symbol, Place}
+use Rattle.smt_meaning.specs.declared.terms.Head.TheVariants.{Theory}
 use Rattle.bound_clauses.specs.declared.orders.Sense.{Sense}
 use Rattle.bound_clauses.specs.declared.orders.Sense.TheVariants.{NotAbove, Below}
-use Rattle.bound_clauses.specs.Orders.{order, both_orders, rising, falling}
+use Rattle.bound_clauses.specs.Orders.{order, both_orders, rising, falling, order_atoms}
 use Rattle.check_atoms.specs.declared.part.PartAtom.{PartAtom}
 use Rattle.check_atoms.specs.declared.part.PartAtom.TheVariants.{Truth, Same, Bound}
-use Rattle.check_atoms.specs.PartAtoms.{by_sort, truth_by_sort, pair, neighbours_from, first_with, each_two, with_branches, compared, compared_by_head, of_part}
+use Rattle.check_atoms.specs.PartAtoms.{by_sort, truth_by_sort, pair, neighbours, neighbours_from, first_with, each_two, with_branches, compared, compared_by_head, of_part}
 use Rattle.check_atoms.specs.Numbering.{IsWithin}
 
 -- ---- which places
@@ -45,20 +45,37 @@ module _ (P : ℕ → Type 0) where
   falling_over s i [] h g = All-nil IsOver
   falling_over s i (j ∷ js) h g = All-cons IsOver (Bound (order s j i)) (map Bound (falling s j js)) (All-head P j js g, h) (falling_over s j js (All-head P j js g) (All-tail P j js g))
 
+  pub orders_over : (o : Operator) (is : List ℕ) → All P is → All IsOver (map Bound (order_atoms o is))
+  orders_over AtMost [] g = All-nil IsOver
+  orders_over AtMost (i ∷ is) g = rising_over NotAbove i is (All-head P i is g) (All-tail P i is g)
+  orders_over Less [] g = All-nil IsOver
+  orders_over Less (i ∷ is) g = rising_over Below i is (All-head P i is g) (All-tail P i is g)
+  orders_over AtLeast [] g = All-nil IsOver
+  orders_over AtLeast (i ∷ is) g = falling_over NotAbove i is (All-head P i is g) (All-tail P i is g)
+  orders_over Greater [] g = All-nil IsOver
+  orders_over Greater (i ∷ is) g = falling_over Below i is (All-head P i is g) (All-tail P i is g)
+  orders_over o is g = All-nil IsOver
+
+  -- what holds of the atoms of each pair holds of those of all pairs
+  module _ (Q : PartAtom → Type 0) (f : ℕ → Option Sort) (pairs : (i j : ℕ) → P i → P j → All Q (pair f i j)) where
+    neighbours_all : (i : ℕ) (js : List ℕ) → P i → All P js → All Q (neighbours_from f i js)
+    neighbours_all i [] h g = All-nil Q
+    neighbours_all i (j ∷ js) h g =
+        All-append Q (pair f i j) (neighbours_from f j js) (pairs i j h (All-head P j js g)) (neighbours_all j js (All-head P j js g) (All-tail P j js g))
+
+    pub equal_all : (is : List ℕ) → All P is → All Q (neighbours f is)
+    equal_all [] g = All-nil Q
+    equal_all (i ∷ is) g = neighbours_all i is (All-head P i is g) (All-tail P i is g)
+
+    first_all : (i : ℕ) (js : List ℕ) → P i → All P js → All Q (first_with f i js)
+    first_all i [] h g = All-nil Q
+    first_all i (j ∷ js) h g = All-append Q (pair f i j) (first_with f i js) (pairs i j h (All-head P j js g)) (first_all i js h (All-tail P j js g))
+
+    pub two_all : (is : List ℕ) → All P is → All Q (each_two f is)
+    two_all [] g = All-nil Q
+    two_all (i ∷ is) g = All-append Q (first_with f i is) (each_two f is) (first_all i is (All-head P i is g) (All-tail P i is g)) (two_all is (All-tail P i is g))
+
   module _ (f : ℕ → Option Sort) where
-    neighbours_over : (i : ℕ) (js : List ℕ) → P i → All P js → All IsOver (neighbours_from f i js)
-    neighbours_over i [] h g = All-nil IsOver
-    neighbours_over i (j ∷ js) h g =
-        All-append IsOver (pair f i j) (neighbours_from f j js) (pair_over (f i) i j h (All-head P j js g)) (neighbours_over j js (All-head P j js g) (All-tail P j js g))
-
-    first_over : (i : ℕ) (js : List ℕ) → P i → All P js → All IsOver (first_with f i js)
-    first_over i [] h g = All-nil IsOver
-    first_over i (j ∷ js) h g = All-append IsOver (pair f i j) (first_with f i js) (pair_over (f i) i j h (All-head P j js g)) (first_over i js h (All-tail P j js g))
-
-    two_over : (is : List ℕ) → All P is → All IsOver (each_two f is)
-    two_over [] g = All-nil IsOver
-    two_over (i ∷ is) g = All-append IsOver (first_with f i is) (each_two f is) (first_over i is (All-head P i is g) (All-tail P i is g)) (two_over is (All-tail P i is g))
-
     branches_over : (p : ℕ) (is : List ℕ) → P p → All P is → All IsOver (with_branches f p is)
     branches_over p (c ∷ i ∷ j ∷ []) h g =
         let r = All-tail P c (i ∷ j ∷ []) g in
@@ -66,19 +83,10 @@ module _ (P : ℕ → Type 0) where
     branches_over p is h g = All-nil IsOver
 
     compared_over : (o : Operator) (p : ℕ) (is : List ℕ) → P p → All P is → All IsOver (compared f o p is)
-    compared_over Equal p [] h g = All-nil IsOver
-    compared_over Equal p (i ∷ is) h g = neighbours_over i is (All-head P i is g) (All-tail P i is g)
-    compared_over Distinct p is h g = two_over is g
+    compared_over Equal p is h g = equal_all IsOver f (λ i j. pair_over (f i) i j) is g
+    compared_over Distinct p is h g = two_all IsOver f (λ i j. pair_over (f i) i j) is g
     compared_over Ite p is h g = branches_over p is h g
-    compared_over AtMost p [] h g = All-nil IsOver
-    compared_over AtMost p (i ∷ is) h g = rising_over NotAbove i is (All-head P i is g) (All-tail P i is g)
-    compared_over Less p [] h g = All-nil IsOver
-    compared_over Less p (i ∷ is) h g = rising_over Below i is (All-head P i is g) (All-tail P i is g)
-    compared_over AtLeast p [] h g = All-nil IsOver
-    compared_over AtLeast p (i ∷ is) h g = falling_over NotAbove i is (All-head P i is g) (All-tail P i is g)
-    compared_over Greater p [] h g = All-nil IsOver
-    compared_over Greater p (i ∷ is) h g = falling_over Below i is (All-head P i is g) (All-tail P i is g)
-    compared_over o p is h g = All-nil IsOver
+    compared_over o p is h g = orders_over o is g
 
     by_head_over : (h : Head) (p : ℕ) (is : List ℕ) → P p → All P is → All IsOver (compared_by_head f h p is)
     by_head_over (Theory o) p is h g = compared_over o p is h g

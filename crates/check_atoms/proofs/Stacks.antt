@@ -33,9 +33,16 @@ use Rattle.check_atoms.specs.declared.refusal.Refusal.{Refusal}
 use Rattle.check_atoms.specs.declared.part.PartAtom.{PartAtom}
 use Rattle.check_atoms.specs.declared.part.PartAtom.TheVariants.{Truth, Same, Bound}
 use Rattle.check_atoms.specs.PartAtoms.{atom_of, of_part, sort_of, sort_in}
-use Rattle.check_atoms.specs.Numbering.{Adds, RefusesOne}
+use Rattle.check_atoms.specs.Numbering.{IsNormal, Adds, RefusesOne}
 use Rattle.check_atoms.specs.OfStack.{IsNode, part_atoms, IsAtomOfPart, AreCheckAtoms, AreAtomsBelow, IsRefused}
-use Rattle.check_atoms.proofs.Sums.{bound_places}
+use Rattle.smt_meaning.specs.declared.clauses.Atom.TheVariants.{Truth as TruthAtom, Same as SameAtom, AtMost}
+use Rattle.smt_meaning.specs.Clause.{sum_places}
+use Rattle.smt_meaning.specs.CheckAtoms.{is_leaf, IsLeaf}
+use Rattle.bound_clauses.specs.Orders.{bound_atom}
+use Rattle.stack_atoms.proofs.Marking.{part_of_part}
+use Rattle.check_atoms.specs.OfStack.{bound_terms}
+use Rattle.check_atoms.proofs.Integers.{IsIntBound, part_int}
+use Rattle.check_atoms.proofs.Sums.{IsInt, bound_places}
 use Rattle.check_atoms.proofs.PartPlaces.{IsOver, part_over, same_part}
 
 head_of : (h k : Head) (ts us : Trees) → node h ts ≡ node k us → h ≡ k
@@ -76,9 +83,13 @@ module _ (s : Stack) (marks : List Bool) (law : IsLawful s) (parts : AreMarkedFr
       ap (λ g. part_atoms s p g is) (head_of h k (pick s.trees is) (pick s.trees js) (sym a.tree ∙ b.tree))
       ∙ ap (part_atoms s p k) (same_arguments s.trees p h k is js law.in_order a.arguments b.arguments a.tree b.tree)
 
-  pub part_more : (k : ℕ) (h : Head) (is : List ℕ) (old new : List Atom) → IsMarked marks k → IsNode s.trees k h is → AreAtomsBelow s marks k old → Adds old (map (atom_of s.trees) (part_atoms s k h is)) new
+  pub part_more : (k : ℕ) (h : Head) (is : List ℕ) (old new : List Atom) → IsMarked marks k → IsNode s.trees k h is → AreAtomsBelow s marks k old → Adds (length s.trees) old (map (atom_of s.trees) (part_atoms s k h is)) new
       → AreAtomsBelow s marks (k + 1) new
   part_more k h is old new m n b a = record {
+    bounds = λ i d l. elim (a.only (get_or new i d) (Contains-get_or new i d l)) [
+      | inl before ↦ All-contains (IsNormal (length s.trees)) old (get_or new i d) b.bounds before
+      | inr here ↦ All-contains (IsNormal (length s.trees)) (map (atom_of s.trees) (part_atoms s k h is)) (get_or new i d) a.normal here
+    ];
     only = λ x c. elim (a.only x c) [ inl before ↦ b.only x before | inr here ↦ record { place = k; head = h; arguments = is; marked = m; term = n; among = here } ];
     each = λ p g js l pm pn. elim (last_or_before k p l) [
       | inl before ↦ All-weaker (Contains old) (Contains new) a.stay (map (atom_of s.trees) (part_atoms s p g js)) (b.each p g js before pm pn)
@@ -94,6 +105,7 @@ module _ (s : Stack) (marks : List Bool) (law : IsLawful s) (parts : AreMarkedFr
 
   pub no_part : (k : ℕ) (atoms : List Atom) → slice_index_or marks k false ≡ false → AreAtomsBelow s marks k atoms → AreAtomsBelow s marks (k + 1) atoms
   no_part k atoms none b = record {
+    bounds = b.bounds;
     only = b.only;
     each = λ p g js l pm pn. elim (last_or_before k p l) [
       | inl before ↦ b.each p g js before pm pn
@@ -110,28 +122,56 @@ module _ (s : Stack) (marks : List Bool) (law : IsLawful s) (parts : AreMarkedFr
   different : AreDifferent s.trees
   different j k less within e = let same : j ≡ k = law.in_order.different j k (omega (arith, less, within)) within e in omega (arith, same, less)
 
-  part_there : (p : ℕ) → IsMarked marks p → (u : Tree) → IsPart u (tree_at s.trees p) → IsMarked marks (place_of u s.trees)
-  part_there p m u q =
+  -- an Int leaf of the assertions, at a marked place
+  abbrev IsLeafPart : ℕ → Type 0
+  IsLeafPart q = IsMarked marks q × IsLeaf s.trees s.frames q
+
+  leaf_there : (p : ℕ) → IsMarked marks p → (u : Tree) → IsPart u (tree_at s.trees p) → is_leaf u ≡ true → IsInt ds u → IsLeafPart (place_of u s.trees)
+  leaf_there p m u q leaf int =
       let at = part_at s.trees marks law.in_order parts.size parts.closed u (tree_at s.trees p) q (p, m, refl) in
-      subst (IsMarked marks) (sym (place_of-is u s.trees at.0 different (inside at.0 at.1) at.2)) at.1
+      let whole = parts.only p m in (
+        subst (IsMarked marks) (sym (place_of-is u s.trees at.0 different (inside at.0 at.1) at.2)) at.1,
+        record {
+          leaf = u;
+          part = record { part = record { assertion = whole.assertion; asserted = whole.asserted; part = part_of_part u (tree_at s.trees p) whole.assertion q whole.part }; int = int; place_is = refl };
+          is = leaf;
+        },
+      )
 
-  places_marked : (x : PartAtom) → IsOver (IsMarked marks) x → All (IsMarked marks) (atom_places (atom_of s.trees x))
-  places_marked (Truth p) h = All-cons (IsMarked marks) p [] h (All-nil (IsMarked marks))
-  places_marked (Same i j) h = All-cons (IsMarked marks) i (j ∷ []) h.0 (All-cons (IsMarked marks) j [] h.1 (All-nil (IsMarked marks)))
-  places_marked (Bound o) h = bound_places (IsMarked marks) s.trees o (part_there o.lesser h.0) (part_there o.greater h.1)
+  record HasPlaces (a : Atom) : Type 0 where
+    over : All (IsMarked marks) (atom_places a)
+    leaves : All (IsLeaf s.trees s.frames) (bound_terms a)
 
-  over_marked : (a : Atom) → IsAtomOfPart s marks a → All (IsMarked marks) (atom_places a)
-  over_marked a p =
-      All-contains (λ (b : Atom). All (IsMarked marks) (atom_places b)) (map (atom_of s.trees) (part_atoms s p.place p.head p.arguments)) a
+  bound_has : (a : Atom) → All IsLeafPart (atom_places a) → HasPlaces a
+  bound_has (TruthAtom p) h = record { over = All-weaker IsLeafPart (IsMarked marks) (λ q k. k.0) (p ∷ []) h; leaves = All-nil (IsLeaf s.trees s.frames) }
+  bound_has (SameAtom i j) h = record { over = All-weaker IsLeafPart (IsMarked marks) (λ q k. k.0) (i ∷ j ∷ []) h; leaves = All-nil (IsLeaf s.trees s.frames) }
+  bound_has (AtMost sum k) h = record {
+    over = All-weaker IsLeafPart (IsMarked marks) (λ q k. k.0) (sum_places sum) h;
+    leaves = All-weaker IsLeafPart (IsLeaf s.trees s.frames) (λ q k. k.1) (sum_places sum) h;
+  }
+
+  has_places : (x : PartAtom) → IsOver (IsMarked marks) x → IsIntBound ds s.trees x → HasPlaces (atom_of s.trees x)
+  has_places (Truth p) h i = record { over = All-cons (IsMarked marks) p [] h (All-nil (IsMarked marks)); leaves = All-nil (IsLeaf s.trees s.frames) }
+  has_places (Same i j) h k = record {
+    over = All-cons (IsMarked marks) i (j ∷ []) h.0 (All-cons (IsMarked marks) j [] h.1 (All-nil (IsMarked marks)));
+    leaves = All-nil (IsLeaf s.trees s.frames);
+  }
+  has_places (Bound o) h i = bound_has (bound_atom s.trees o) (bound_places IsLeafPart s.trees ds o i.0 i.1 (leaf_there o.lesser h.0) (leaf_there o.greater h.1))
+
+  each_image : (xs : List PartAtom) → All (IsOver (IsMarked marks)) xs → All (IsIntBound ds s.trees) xs → All HasPlaces (map (atom_of s.trees) xs)
+  each_image [] h g = All-nil HasPlaces
+  each_image (x ∷ xs) h g =
+      All-cons HasPlaces (atom_of s.trees x) (map (atom_of s.trees) xs) (has_places x (All-head (IsOver (IsMarked marks)) x xs h) (All-head (IsIntBound ds s.trees) x xs g))
+      (each_image xs (All-tail (IsOver (IsMarked marks)) x xs h) (All-tail (IsIntBound ds s.trees) x xs g))
+
+  over_leaves : (a : Atom) → IsAtomOfPart s marks a → HasPlaces a
+  over_leaves a p =
+      let sort = its_sort p.place p.marked in
+      All-contains HasPlaces (map (atom_of s.trees) (part_atoms s p.place p.head p.arguments)) a
       (each_image (part_atoms s p.place p.head p.arguments)
-      (part_over (IsMarked marks) (sort_of ds s.trees) p.place p.head p.arguments p.marked (arguments_marked p.place p.head p.arguments p.marked p.term)))
+      (part_over (IsMarked marks) (sort_of ds s.trees) p.place p.head p.arguments p.marked (arguments_marked p.place p.head p.arguments p.marked p.term))
+      (part_int ds s.trees p.place p.head p.arguments sort.0 sort.1 p.term.tree))
       p.among
-    where
-      each_image : (xs : List PartAtom) → All (IsOver (IsMarked marks)) xs → All (λ (b : Atom). All (IsMarked marks) (atom_places b)) (map (atom_of s.trees) xs)
-      each_image [] h = All-nil (λ (b : Atom). All (IsMarked marks) (atom_places b))
-      each_image (x ∷ xs) h =
-          All-cons (λ (b : Atom). All (IsMarked marks) (atom_places b)) (atom_of s.trees x) (map (atom_of s.trees) xs) (places_marked x (All-head (IsOver (IsMarked marks)) x xs h))
-          (each_image xs (All-tail (IsOver (IsMarked marks)) x xs h))
 
   module _ (declares : SymbolsAreDeclared) where
     symbols_declared : (p : ℕ) → IsMarked marks p → All (Contains (declared_ids s.frames)) (symbols (tree_at s.trees p))
@@ -148,19 +188,21 @@ module _ (s : Stack) (marks : List Bool) (law : IsLawful s) (parts : AreMarkedFr
 
     pub all_atoms : (atoms : List Atom) → AreAtomsBelow s marks (length s.trees) atoms → length atoms ≤ 2 ^ 31 → AreApart atoms → AreCheckAtoms s marks atoms
     all_atoms atoms b few apart =
-        let over : All (λ (a : Atom). All (IsMarked marks) (atom_places a)) atoms = λ k d l. over_marked (get_or atoms k d) (b.only (get_or atoms k d) (Contains-get_or atoms k d l)) in
+        let over : All (λ (a : Atom). All (IsMarked marks) (atom_places a)) atoms = λ k d l. (over_leaves (get_or atoms k d) (b.only (get_or atoms k d) (Contains-get_or atoms k d l))).over in
         record {
           size = parts.size;
           few = few;
           apart = apart;
           only = b.only;
           each = λ p h is m n. b.each p h is n.within m n;
+          bounds = b.bounds;
           over_parts = over;
+          leaves = λ k d l. (over_leaves (get_or atoms k d) (b.only (get_or atoms k d) (Contains-get_or atoms k d l))).leaves;
           declared = All-weaker (λ (a : Atom). All (IsMarked marks) (atom_places a)) (IsOf s.trees s.frames) is_of atoms over;
         }
 
 pub no_atoms : (s : Stack) (marks : List Bool) → AreAtomsBelow s marks 0 []
-no_atoms s marks = record { only = λ a c. absurd (none a c); each = λ p h is l m n. absurd (omega arith) }
+no_atoms s marks = record { bounds = All-nil (IsNormal (length s.trees)); only = λ a c. absurd (none a c); each = λ p h is l m n. absurd (omega arith) }
   where
     none : (a : Atom) → Contains [] a → ⊥
     none a (k, h, e) = omega (arith, h)

@@ -1,22 +1,52 @@
--- The places of the sum of a linear form are those of parts of its term.
-use Rattle.std.proofs.Common.{inl, inr, ℕ, zero, Bool, true, false, List, [], ◌∷◌, All, refl}
+-- The places of the sum of a linear form are those of leaves of its term.
+use Rattle.std.proofs.Common.{◌≡◌, inl, inr, ℕ, zero, Bool, true, false, List, [], ◌∷◌, length, All, Some, subst, sym, ap, ◌∙◌, refl}
 use Rattle.std.specs.Prelude.{ℤ, pos, negsuc, ◌+ℤ◌, neg_ℤ, ◌-ℤ◌, nat_eq, nat_lt, if◌then◌else◌}
 use Rattle.std.proofs.lemmas.List.Elements.{All-nil, All-cons}
-use Rattle.smt_meaning.specs.declared.terms.Operator.TheVariants.{True, False, Not, And, Or, Xor, Implies, Equal, Distinct, Ite, Add, Subtract, Multiply, AtMost, Less, AtLeast, Greater}
+use Rattle.smt_meaning.specs.declared.terms.Operator.TheVariants.{Add, Subtract, Multiply}
 use Rattle.smt_meaning.specs.declared.terms.Operator.{Operator}
-use Rattle.smt_meaning.specs.declared.terms.Head.{Head}
-use Rattle.smt_meaning.specs.declared.terms.Head.TheVariants.{Numeral, Theory, Symbol, Place}
+use Rattle.smt_meaning.specs.declared.terms.Head.TheVariants.{Numeral, Theory}
 use Rattle.smt_meaning.specs.declared.clauses.Summand.{Summand}
 use Rattle.smt_meaning.specs.Term.{Tree, Trees, node, none, more, tree_at}
 use Rattle.smt_meaning.specs.TreeShape.{place_of}
+use Rattle.smt_meaning.specs.declared.values.Sort.{Sort}
+use Rattle.smt_meaning.specs.declared.values.Sort.TheVariants.{Int as Ints}
+use Rattle.smt_meaning.specs.Declaration.{Declaration}
+use Rattle.smt_meaning.specs.Signature.{tree_sort, tree_sorts, operator_sort, if_so, all_of, sort_eq, stands_with}
+use Rattle.smt_meaning.specs.CheckAtoms.{is_leaf}
+use Rattle.scope_stack.proofs.SortLemmas.{HasArguments, arguments_of, HasFirst, first_of, stands_so}
+use Rattle.stack_atoms.proofs.Sorting.{left_true, right_true, sort_is, if_so_true}
 use Rattle.smt_meaning.specs.Parts.{IsPart, IsPartOfOne}
 use Rattle.smt_meaning.specs.Clause.{sum_places, atom_places}
-use Rattle.smt_meaning.specs.Linear.{Form, summand, is_zero, unless_zero, placed, with_term, sums_added, each_times, sum_times, form_plus, form_minus, form_product, fold_forms, folded, difference_form, head_form, leaf_form, linear_form, linear_forms}
+use Rattle.smt_meaning.specs.Linear.{Form, summand, is_zero, unless_zero, placed, with_term, sums_added, each_times, sum_times, form_plus, form_minus, form_product, fold_forms, folded, difference_form, linear_form, linear_forms}
 use Rattle.smt_meaning.specs.Atoms.{each_divided, normal_bound, difference_of}
 use Rattle.bound_clauses.specs.declared.orders.Sense.{Sense}
 use Rattle.bound_clauses.specs.declared.orders.Sense.TheVariants.{NotAbove, Below}
 use Rattle.bound_clauses.specs.declared.orders.Order.{Order}
 use Rattle.bound_clauses.specs.Orders.{atom_of, bound_atom}
+
+-- ---- the arguments of sums, differences and products
+
+abbrev pub IsInt : List Declaration → Tree → Type 0
+IsInt ds t = tree_sort ds t ≡ Some Ints
+
+abbrev AreInts : List Declaration → Trees → Type 0
+AreInts ds none = Unit {0}
+AreInts ds (more u us) = IsInt ds u × AreInts ds us
+
+all_ints : (ds : List Declaration) (us : Trees) (ss : List Sort) → tree_sorts ds us ≡ Some ss → all_of Ints ss ≡ true → AreInts ds us
+all_ints ds none ss e a = tt
+all_ints ds (more u us) ss e a =
+    let f : HasFirst ds u us ss = first_of ds u us ss e in
+    let b : all_of Ints (f.first ∷ f.rest) ≡ true = subst (λ xs. all_of Ints xs ≡ true) f.are a in
+    (f.here ∙ ap Some (sym (sort_is Ints f.first (left_true (sort_eq Ints f.first) _ b))), all_ints ds us f.rest f.later (right_true (sort_eq Ints f.first) _ b))
+
+inner_ints : (ds : List Declaration) (o : Operator) (us : Trees) → ((ss : List Sort) → operator_sort o ss ≡ if_so (all_of Ints ss) Ints) → IsInt ds (node (Theory o) us) → AreInts ds us
+inner_ints ds o us by i =
+    let args : HasArguments ds (Theory o) us Ints = arguments_of ds (Theory o) us Ints i in
+    let made : operator_sort o args.sorts ≡ Some Ints = stands_so (stands_with o (length args.sorts)) (operator_sort o args.sorts) Ints args.made in
+    all_ints ds us args.sorts args.are (if_so_true (all_of Ints args.sorts) Ints Ints (sym (by args.sorts) ∙ made))
+
+-- ---- places of sums
 
 module _ (P : ℕ → Type 0) where
   -- each place of the sum is one of these
@@ -82,25 +112,20 @@ module _ (P : ℕ → Type 0) where
   subtracted (f ∷ []) h = multiple (negsuc zero) f.sum h.0
   subtracted (f ∷ g ∷ gs) h = folded_from form_minus taken f (g ∷ gs) h.0 h.1
 
-  by_operator : (o : Operator) (fs : List Form) (leaf : Form) → HavePlaces fs → HasPlaces leaf.sum → HasPlaces (head_form (Theory o) fs leaf).sum
-  by_operator Add fs leaf h k = all_folded form_plus added fs h
-  by_operator Subtract fs leaf h k = subtracted fs h
-  by_operator Multiply fs leaf h k = all_folded form_product multiplied fs h
-  by_operator o fs leaf h k = k
-
-  by_head : (h : Head) (fs : List Form) (leaf : Form) → HavePlaces fs → HasPlaces leaf.sum → HasPlaces (head_form h fs leaf).sum
-  by_head (Numeral n) fs leaf h k = tt
-  by_head (Theory o) fs leaf h k = by_operator o fs leaf h k
-  by_head t fs leaf h k = k
-
-  module _ (ts : List Tree) where
+  module _ (ts : List Tree) (ds : List Declaration) where
     mutual
-      form_places : (t : Tree) → ((u : Tree) → IsPart u t → P (place_of u ts)) → HasPlaces (linear_form ts t).sum
-      form_places (node h us) parts = by_head h (linear_forms ts us) (leaf_form ts (node h us)) (forms_places us (λ u q. parts u (inr q))) (parts (node h us) (inl refl), tt)
+      form_places : (t : Tree) → IsInt ds t → ((u : Tree) → IsPart u t → is_leaf u ≡ true → IsInt ds u → P (place_of u ts)) → HasPlaces (linear_form ts t).sum
+      form_places (node (Numeral n) us) i leaves = tt
+      form_places (node (Theory Add) us) i leaves =
+          all_folded form_plus added (linear_forms ts us) (forms_places us (inner_ints ds Add us (λ ss. refl) i) (λ u q. leaves u (inr q)))
+      form_places (node (Theory Subtract) us) i leaves = subtracted (linear_forms ts us) (forms_places us (inner_ints ds Subtract us (λ ss. refl) i) (λ u q. leaves u (inr q)))
+      form_places (node (Theory Multiply) us) i leaves =
+          all_folded form_product multiplied (linear_forms ts us) (forms_places us (inner_ints ds Multiply us (λ ss. refl) i) (λ u q. leaves u (inr q)))
+      form_places (node h us) i leaves = (leaves (node h us) (inl refl) refl i, tt)
 
-      forms_places : (us : Trees) → ((u : Tree) → IsPartOfOne u us → P (place_of u ts)) → HavePlaces (linear_forms ts us)
-      forms_places none parts = tt
-      forms_places (more u us) parts = (form_places u (λ v q. parts v (inl q)), forms_places us (λ v q. parts v (inr q)))
+      forms_places : (us : Trees) → AreInts ds us → ((u : Tree) → IsPartOfOne u us → is_leaf u ≡ true → IsInt ds u → P (place_of u ts)) → HavePlaces (linear_forms ts us)
+      forms_places none i leaves = tt
+      forms_places (more u us) i leaves = (form_places u i.0 (λ v q. leaves v (inl q)), forms_places us i.1 (λ v q. leaves v (inr q)))
 
     quotients : (g : ℤ) (ps : List Summand) → HasPlaces ps → All P (sum_places (each_divided g ps))
     quotients g [] h = All-nil P
@@ -110,13 +135,17 @@ module _ (P : ℕ → Type 0) where
     normal [] k h = All-nil P
     normal (p ∷ ps) k h = quotients _ (p ∷ ps) h
 
-    difference : (s t : Tree) → ((u : Tree) → IsPart u s → P (place_of u ts)) → ((u : Tree) → IsPart u t → P (place_of u ts)) → HasPlaces (difference_of ts s t).sum
-    difference s t a b = taken (linear_form ts s) (linear_form ts t) (form_places s a) (form_places t b)
+    abbrev HaveLeaves : Tree → Type 0
+    HaveLeaves t = (u : Tree) → IsPart u t → is_leaf u ≡ true → IsInt ds u → P (place_of u ts)
 
-    by_sense : (sense : Sense) (s t : Tree) → ((u : Tree) → IsPart u s → P (place_of u ts)) → ((u : Tree) → IsPart u t → P (place_of u ts)) → All P (atom_places (atom_of sense ts s t))
-    by_sense NotAbove s t a b = normal (difference_of ts s t).sum (neg_ℤ (difference_of ts s t).constant) (difference s t a b)
-    by_sense Below s t a b = normal (difference_of ts s t).sum (neg_ℤ (difference_of ts s t).constant -ℤ pos 1) (difference s t a b)
+    difference : (s t : Tree) → IsInt ds s → IsInt ds t → HaveLeaves s → HaveLeaves t → HasPlaces (difference_of ts s t).sum
+    difference s t i j a b = taken (linear_form ts s) (linear_form ts t) (form_places s i a) (form_places t j b)
 
-    -- each place of a bound's sum is one of these, where those of the parts of both terms are
-    pub bound_places : (o : Order) → ((u : Tree) → IsPart u (tree_at ts o.lesser) → P (place_of u ts)) → ((u : Tree) → IsPart u (tree_at ts o.greater) → P (place_of u ts)) → All P (atom_places (bound_atom ts o))
-    bound_places o a b = by_sense o.sense (tree_at ts o.lesser) (tree_at ts o.greater) a b
+    by_sense : (sense : Sense) (s t : Tree) → IsInt ds s → IsInt ds t → HaveLeaves s → HaveLeaves t → All P (atom_places (atom_of sense ts s t))
+    by_sense NotAbove s t i j a b = normal (difference_of ts s t).sum (neg_ℤ (difference_of ts s t).constant) (difference s t i j a b)
+    by_sense Below s t i j a b = normal (difference_of ts s t).sum (neg_ℤ (difference_of ts s t).constant -ℤ pos 1) (difference s t i j a b)
+
+    -- each place of a bound's sum is one of these, where those of the leaves of both terms are
+    pub bound_places : (o : Order) → IsInt ds (tree_at ts o.lesser) → IsInt ds (tree_at ts o.greater) → HaveLeaves (tree_at ts o.lesser) → HaveLeaves (tree_at ts o.greater)
+        → All P (atom_places (bound_atom ts o))
+    bound_places o i j a b = by_sense o.sense (tree_at ts o.lesser) (tree_at ts o.greater) i j a b

@@ -1,3 +1,4 @@
 pub mod PartAtoms
 pub mod Numbering
 pub mod OfStack
+pub mod Laws

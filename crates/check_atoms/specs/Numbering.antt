@@ -1,6 +1,11 @@
 -- Numbering atoms one after another, and why one is refused.
-use Rattle.std.specs.Prelude.{◌≡◌, ◌⊎◌, ℕ, ◌<◌, Bool, List, All, Contains}
+use Rattle.std.specs.Prelude.{◌≡◌, ◌⊎◌, ℕ, ◌<◌, Bool, List, All, Contains, true, ℤ}
+use Rattle.number_meaning.specs.Whole.{InRange}
+use Rattle.smt_meaning.specs.declared.clauses.Summand.{Summand}
 use Rattle.smt_meaning.specs.declared.clauses.Atom.{Atom}
+use Rattle.smt_meaning.specs.declared.clauses.Atom.TheVariants.{Truth as TruthAtom, Same as SameAtom, AtMost}
+use Rattle.smt_meaning.specs.Linear.{sum_fits}
+use Rattle.linear_forms.specs.Sums.{IsSum}
 use Rattle.smt_meaning.specs.Term.{Tree}
 use Rattle.linear_forms.specs.declared.differences.DifferenceError.TheVariants.{Term as FormOfTerm, Pair as FormOfPair}
 use Rattle.linear_forms.specs.Differences.{Refuses}
@@ -13,8 +18,21 @@ use Rattle.check_atoms.specs.declared.refusal.Refusal.TheVariants.{Term, Pair, M
 use Rattle.check_atoms.specs.declared.part.PartAtom.{PartAtom}
 use Rattle.check_atoms.specs.declared.part.PartAtom.TheVariants.{Truth, Same, Bound}
 
+-- the sum has ascending places below a count, each with a coefficient that isn't 0, and all numbers are in the range
+pub record IsNormalBound (count : ℕ) (sum : List Summand) (threshold : ℤ) : Type 0 where
+  pub is_sum : IsSum count sum
+  pub coefficients : sum_fits sum ≡ true
+  pub in_range : InRange threshold
+
+-- the atom is no bound, or such a one
+abbrev pub IsNormal : ℕ → Atom → Type 0
+IsNormal count (TruthAtom p) = Unit {0}
+IsNormal count (SameAtom i j) = Unit {0}
+IsNormal count (AtMost sum k) = IsNormalBound count sum k
+
 -- these atoms are numbered, beside those that were before
-pub record Adds (old atoms new : List Atom) : Type 0 where
+pub record Adds (count : ℕ) (old atoms new : List Atom) : Type 0 where
+  pub normal : All (IsNormal count) atoms
   pub these : All (Contains new) atoms
   pub stay : (a : Atom) → Contains old a → Contains new a
   pub only : (a : Atom) → Contains new a → Contains old a ⊎ Contains atoms a

@@ -1,9 +1,11 @@
 -- The atoms that are numbered for the check of a stack.
-use Rattle.std.specs.Prelude.{◌≡◌, ◌⊎◌, ℕ, ◌<◌, ◌≤◌, ◌^◌, Bool, List, map, length, All, Contains}
+use Rattle.std.specs.Prelude.{◌≡◌, ◌⊎◌, ℕ, ◌<◌, ◌≤◌, ◌^◌, Bool, List, [], map, length, All, Contains}
 use Rattle.smt_meaning.specs.declared.terms.Head.{Head}
 use Rattle.smt_meaning.specs.declared.clauses.Atom.{Atom}
+use Rattle.smt_meaning.specs.declared.clauses.Atom.TheVariants.{Truth, Same, AtMost}
 use Rattle.smt_meaning.specs.Term.{Tree, tree_at}
-use Rattle.smt_meaning.specs.Clause.{atom_places}
+use Rattle.smt_meaning.specs.Clause.{atom_places, sum_places}
+use Rattle.smt_meaning.specs.CheckAtoms.{IsLeaf}
 use Rattle.smt_meaning.specs.Stack.{signature_of}
 use Rattle.smt_meaning.specs.StackCommand.{Stack}
 use Rattle.smt_meaning.specs.Report.{IsPartOfStack}
@@ -15,7 +17,7 @@ use Rattle.check_atoms.specs.declared.refusal.Refusal.{Refusal}
 use Rattle.check_atoms.specs.declared.refusal.Refusal.TheVariants.{Memory}
 use Rattle.check_atoms.specs.declared.part.PartAtom.{PartAtom}
 use Rattle.check_atoms.specs.PartAtoms.{atom_of, of_part, sort_of}
-use Rattle.check_atoms.specs.Numbering.{RefusesBound}
+use Rattle.check_atoms.specs.Numbering.{IsNormal, RefusesBound}
 
 -- the term at this place has this head, and its arguments are at these places
 pub record IsNode (trees : List Tree) (p : ℕ) (h : Head) (is : List ℕ) : Type 0 where
@@ -36,6 +38,12 @@ pub record IsAtomOfPart (s : Stack) (marks : List Bool) (a : Atom) : Type 0 wher
   pub term : IsNode s.trees place head arguments
   pub among : Contains (map (atom_of s.trees) (part_atoms s place head arguments)) a
 
+-- the terms of a bound's sum
+abbrev pub bound_terms : Atom → List ℕ
+bound_terms (Truth p) = []
+bound_terms (Same i j) = []
+bound_terms (AtMost sum k) = sum_places sum
+
 -- exactly the atoms of the parts are numbered, each once, and they are over parts and over what the stack declares
 pub record AreCheckAtoms (s : Stack) (marks : List Bool) (atoms : List Atom) : Type 0 where
   pub size : length marks ≡ length s.trees
@@ -43,7 +51,9 @@ pub record AreCheckAtoms (s : Stack) (marks : List Bool) (atoms : List Atom) : T
   pub apart : AreApart atoms
   pub only : (a : Atom) → Contains atoms a → IsAtomOfPart s marks a
   pub each : (p : ℕ) (h : Head) (is : List ℕ) → IsMarked marks p → IsNode s.trees p h is → All (Contains atoms) (map (atom_of s.trees) (part_atoms s p h is))
+  pub bounds : All (IsNormal (length s.trees)) atoms
   pub over_parts : All (λ (a : Atom). All (IsMarked marks) (atom_places a)) atoms
+  pub leaves : All (λ (a : Atom). All (IsLeaf s.trees s.frames) (bound_terms a)) atoms
   pub declared : All (IsOf s.trees s.frames) atoms
 
 -- a bound that compares terms of a part is refused
@@ -61,5 +71,6 @@ IsRefused s e = (e ≡ Memory) ⊎ RefusesPart s e
 
 -- of the parts below a place exactly the atoms are numbered
 pub record AreAtomsBelow (s : Stack) (marks : List Bool) (k : ℕ) (atoms : List Atom) : Type 0 where
+  pub bounds : All (IsNormal (length s.trees)) atoms
   pub only : (a : Atom) → Contains atoms a → IsAtomOfPart s marks a
   pub each : (p : ℕ) (h : Head) (is : List ℕ) → p < k → IsMarked marks p → IsNode s.trees p h is → All (Contains atoms) (map (atom_of s.trees) (part_atoms s p h is))

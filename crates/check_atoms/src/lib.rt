@@ -2,11 +2,16 @@
 #![tactic(auto)]
 
 mod atoms;
+mod laws;
 mod number;
 mod part;
 mod parts;
 mod refusal;
 
 pub use atoms::{CheckAtoms, numbered};
+pub use laws::{
+    atoms_are_of_stack, parts_have_numbers, refused_pair_leaves_range, refused_term_leaves_range,
+    stack_atoms_are_numbered, truths_have_numbers,
+};
 pub use part::PartAtom;
 pub use refusal::Refusal;

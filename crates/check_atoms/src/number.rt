@@ -21,7 +21,7 @@ use smt_meaning::{Summand, TermId};
 
 /// Numbers a truth or an equality.
 fn number_core(atoms: &mut AtomNumbers, atom: CompactAtom) -> Result<(), Refusal>
-    ensures ok { OnOk result (Adds atoms.old.atoms (core_atom atom ∷ []) atoms.new.atoms) }
+    ensures ok { (count : ℕ) → OnOk result (Adds count atoms.old.atoms (core_atom atom ∷ []) atoms.new.atoms) }
     ensures err { IfErr result (λ e. e ≡ Memory) }
 {
     let _number = atoms.number(atom)?;
@@ -68,7 +68,7 @@ fn number_order(
     requires lesser { order.lesser < length forms.old }
     requires greater { order.greater < length forms.old }
     requires known { KnowsForms forms.old }
-    ensures ok { (trees : List Tree) → AreForms trees forms.old → OnOk result (Adds atoms.old.atoms (bound_atom trees order ∷ []) atoms.new.atoms) }
+    ensures ok { (trees : List Tree) → AreForms trees forms.old → OnOk result (Adds (length trees) atoms.old.atoms (bound_atom trees order ∷ []) atoms.new.atoms) }
     ensures err { (trees : List Tree) → AreForms trees forms.old → IfErr result (λ e. (e ≡ Memory) ⊎ RefusesOrder trees part order e) }
     ensures same { forms.new ≡ forms.old }
 {
@@ -90,7 +90,7 @@ fn number_atom(
 ) -> Result<(), Refusal>
     requires within { IsWithin (length forms.old) atom }
     requires known { KnowsForms forms.old }
-    ensures ok { (trees : List Tree) → AreForms trees forms.old → OnOk result (Adds atoms.old.atoms (atom_of trees atom ∷ []) atoms.new.atoms) }
+    ensures ok { (trees : List Tree) → AreForms trees forms.old → OnOk result (Adds (length trees) atoms.old.atoms (atom_of trees atom ∷ []) atoms.new.atoms) }
     ensures err { (trees : List Tree) → AreForms trees forms.old → IfErr result (λ e. RefusesOne trees part (atom ∷ []) e) }
     ensures same { forms.new ≡ forms.old }
 {
@@ -111,7 +111,7 @@ pub(crate) fn number_all(
 ) -> Result<(), Refusal>
     requires within { All (IsWithin (length forms.old)) wanted.now }
     requires known { KnowsForms forms.old }
-    ensures ok { (trees : List Tree) → AreForms trees forms.old → OnOk result (Adds atoms.old.atoms (map (atom_of trees) wanted.now) atoms.new.atoms) }
+    ensures ok { (trees : List Tree) → AreForms trees forms.old → OnOk result (Adds (length trees) atoms.old.atoms (map (atom_of trees) wanted.now) atoms.new.atoms) }
     ensures err { (trees : List Tree) → AreForms trees forms.old → IfErr result (λ e. RefusesOne trees part wanted.now e) }
     ensures same { forms.new ≡ forms.old }
 {

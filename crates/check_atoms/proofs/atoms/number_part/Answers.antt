@@ -44,7 +44,7 @@ returns-clause-ok c =
     ∙ same_atoms s marks c.laws.ensures c.requires.parts c.sorts.result.now c.sorts.ensures c.args.id h is marked node in
     on_ok_weaker c.number_all.result
     (λ a. part_more s marks c.laws.ensures c.requires.parts c.args.id h is c.args.atoms.now.atoms c.number_all.new.atoms.atoms marked node c.requires.atoms
-    (subst (λ (xs : List PartAtom). Adds c.args.atoms.now.atoms (map (atom_of s.trees) xs) c.number_all.new.atoms.atoms) wanted a))
+    (subst (λ (xs : List PartAtom). Adds (length s.trees) c.args.atoms.now.atoms (map (atom_of s.trees) xs) c.number_all.new.atoms.atoms) wanted a))
     (c.number_all.ensures.ok s.trees c.requires.forms)
 
 pub returns-clause-err : goal.returns-clause-err

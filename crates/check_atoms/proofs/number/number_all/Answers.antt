@@ -1,4 +1,4 @@
-use Rattle.std.proofs.Common.{List, subst, sym, ◌∙◌}
+use Rattle.std.proofs.Common.{List, length, subst, sym, ◌∙◌}
 use Rattle.std.proofs.lemmas.List.Elements.{Contains-get_or}
 use Rattle.std.proofs.lemmas.Result.{err_from_is_err_and}
 use Rattle.linear_forms.specs.Table.{Known, AreForms}
@@ -17,6 +17,6 @@ pub loop-atom-preserved : goal.loop-atom-preserved
 loop-atom-preserved c = (
   c.in_ok-number_atom.ensures.same ∙ c.loop-atom.invariant.0,
   λ trees f.
-      adds_next trees c.args.wanted.now c.loop-atom.atom-index (Truth 0) c.args.atoms.now.atoms c.loop-atom.atoms.atoms c.number_atom.new.atoms.atoms c.loop-atom-test.true (c.loop-atom.invariant.1 trees f)
+      adds_next (length trees) trees c.args.wanted.now c.loop-atom.atom-index (Truth 0) c.args.atoms.now.atoms c.loop-atom.atoms.atoms c.number_atom.new.atoms.atoms c.loop-atom-test.true (c.loop-atom.invariant.1 trees f)
       (c.in_ok-number_atom.ensures.ok trees (subst (λ (ks : List Known). AreForms trees ks) (sym c.loop-atom.invariant.0) f)),
 )

@@ -1,4 +1,4 @@
-use Rattle.std.proofs.Common.{◌≡◌, List, map, take}
+use Rattle.std.proofs.Common.{◌≡◌, List, map, take, length}
 use Rattle.smt_meaning.specs.Term.{Tree}
 use Rattle.linear_forms.specs.Table.{AreForms}
 use Rattle.check_atoms.specs.PartAtoms.{atom_of}
@@ -8,4 +8,4 @@ use Rattle.check_atoms.proofs.number.number_all.Given as goal
 abbrev pub invariant-loop-atom : goal.invariant-loop-atom
 invariant-loop-atom l =
     (l.forms ≡ l.fn.forms)
-    × ((trees : List Tree) → AreForms trees l.fn.forms → Adds l.fn.atoms.atoms (map (atom_of trees) (take l.atom-index l.wanted)) l.atoms.atoms)
+    × ((trees : List Tree) → AreForms trees l.fn.forms → Adds (length trees) l.fn.atoms.atoms (map (atom_of trees) (take l.atom-index l.wanted)) l.atoms.atoms)

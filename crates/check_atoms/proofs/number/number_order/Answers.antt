@@ -1,9 +1,9 @@
-use Rattle.std.proofs.Common.{ap₂, subst, ◌∙◌}
+use Rattle.std.proofs.Common.{ap₂, subst, ◌∙◌, length, refl}
 use Rattle.smt_meaning.specs.declared.clauses.Atom.TheVariants.{AtMost}
 use Rattle.number_meaning.proofs.Integers.{same_bits}
 use Rattle.bound_clauses.specs.Orders.{bound_atom}
 use Rattle.atom_numbers.specs.Atoms.{Numbers}
-use Rattle.check_atoms.proofs.Adding.{adds_one}
+use Rattle.check_atoms.proofs.Adding.{adds_one, normal_bound}
 use Rattle.check_atoms.proofs.number.number_order.Goals as goal
 
 pub returns-in-Err-clause-err : goal.returns-in-Err-clause-err
@@ -15,4 +15,5 @@ returns-clause-ok c = λ trees f.
     let old = c.args.atoms.now.atoms in
     let new = c.number_bound.new.self.atoms in
     let a = ap₂ (λ s k. AtMost s k) c.deref.ensures.value (same_bits c.in-Ok.threshold b.in_range) ∙ b.atom in
-    adds_one old new (bound_atom trees c.args.order) c.in_ok-_number._number (subst (λ x. Numbers old new x c.in_ok-_number._number) a c.in_ok-_number.ensures.ok)
+    adds_one (length trees) old new (bound_atom trees c.args.order) c.in_ok-_number._number (normal_bound (length trees) trees (bound_atom trees c.args.order) c.bound_of.new.sum.items c.in-Ok.threshold refl b)
+    (subst (λ x. Numbers old new x c.in_ok-_number._number) a c.in_ok-_number.ensures.ok)

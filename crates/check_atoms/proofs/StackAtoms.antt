@@ -1,0 +1,212 @@
+-- The numbered atoms are the stack's.
+use Rattle.std.proofs.Common.{◌≡◌, ◌⊎◌, inl, inr, ℕ, ◌<◌, Bool, List, [], ◌∷◌, ◌++◌, Some, map, length, get_or, All, Contains, subst, sym, ap, ap₂, ◌∙◌, refl, arith, flat_map}
+use Rattle.std.specs.Prelude.{Option, None, if◌then◌else◌}
+use Rattle.std.proofs.lemmas.List.Elements.{All-nil, All-cons, All-append, All-weaker, All-contains, All-contains_itself, Contains-get_or, Contains-append_left, Contains-append_right, Contains-append_cases, Contains-push_cases}
+use Rattle.smt_meaning.specs.declared.values.Sort.{Sort}
+use Rattle.smt_meaning.specs.declared.values.Sort.TheVariants.{Bool as Truths, Int as Ints, Free}
+use Rattle.smt_meaning.specs.declared.terms.Head.{Head}
+use Rattle.smt_meaning.specs.declared.clauses.Atom.{Atom}
+use Rattle.smt_meaning.specs.declared.clauses.Atom.TheVariants.{Truth as TruthAtom, Same as SameAtom}
+use Rattle.smt_meaning.specs.Declaration.{Declaration}
+use Rattle.smt_meaning.specs.Term.{Tree, Trees, node, none, more, tree_at}
+use Rattle.smt_meaning.specs.TreeShape.{place_of}
+use Rattle.smt_meaning.specs.Nodes.{pick}
+use Rattle.smt_meaning.specs.Parts.{IsPart, IsPartOfOne, IsArgument}
+use Rattle.smt_meaning.specs.Signature.{tree_sort, is_bool, is_int}
+use Rattle.smt_meaning.specs.Stack.{signature_of, assertions_of}
+use Rattle.smt_meaning.specs.StackCommand.{Stack}
+use Rattle.smt_meaning.specs.Report.{IsPartOfStack}
+use Rattle.smt_meaning.specs.Atoms.{at_most_atom, pair_atoms, comparison_atoms, truth_atom, atoms_of, atoms_of_all, stack_atoms, stack_atoms_are}
+use Rattle.term_store.specs.Terms.{AreDifferent}
+use Rattle.term_store.proofs.PlaceLemmas.{place_of-is}
+use Rattle.scope_stack.specs.Shown.{IsLawful}
+use Rattle.stack_atoms.specs.Parts.{IsMarked}
+use Rattle.stack_atoms.specs.Marks.{AreStackParts}
+use Rattle.stack_atoms.proofs.Marking.{below}
+use Rattle.stack_atoms.proofs.Places.{Picked, picked}
+use Rattle.bound_clauses.specs.Laws.{OrdersAreComparisons}
+use Rattle.check_atoms.specs.PartAtoms.{atom_of, by_sort, truth_by_sort, sort_of}
+use Rattle.check_atoms.specs.OfStack.{IsNode, part_atoms, IsAtomOfPart, AreCheckAtoms}
+use Rattle.check_atoms.specs.Laws.{AtomsAreOfStack, IsSameOfBools, StackAtomsAreNumbered}
+use Rattle.check_atoms.proofs.Related.{IsKept, part_related}
+
+-- ---- a part's own atoms, and those of a term
+
+abbrev own : List Tree → List Declaration → Tree → List Atom
+own ts ds (node h us) = truth_atom ts ds (node h us) ++ comparison_atoms ts ds h us
+
+module _ (ts : List Tree) (ds : List Declaration) (a : Atom) where
+  mutual
+    up : (u t : Tree) → IsPart u t → Contains (own ts ds u) a → Contains (atoms_of ts ds t) a
+    up u (node h us) (inl e) c = Contains-append_right (atoms_of_all ts ds us) (own ts ds (node h us)) a (subst (λ t. Contains (own ts ds t) a) e c)
+    up u (node h us) (inr q) c = Contains-append_left (atoms_of_all ts ds us) (own ts ds (node h us)) a (up_some u us q c)
+
+    up_some : (u : Tree) (us : Trees) → IsPartOfOne u us → Contains (own ts ds u) a → Contains (atoms_of_all ts ds us) a
+    up_some u none q c = absurd q
+    up_some u (more t us) (inl q) c = Contains-append_left (atoms_of ts ds t) (atoms_of_all ts ds us) a (up u t q c)
+    up_some u (more t us) (inr q) c = Contains-append_right (atoms_of ts ds t) (atoms_of_all ts ds us) a (up_some u us q c)
+
+  mutual
+    down : (t : Tree) → Contains (atoms_of ts ds t) a → (u : Tree) × IsPart u t × Contains (own ts ds u) a
+    down (node h us) c = elim (Contains-append_cases (atoms_of_all ts ds us) (own ts ds (node h us)) a c) [
+      | inl some ↦ let r = down_some us some in (r.0, inr r.1, r.2)
+      | inr here ↦ (node h us, inl refl, here)
+    ]
+
+    down_some : (us : Trees) → Contains (atoms_of_all ts ds us) a → (u : Tree) × IsPartOfOne u us × Contains (own ts ds u) a
+    down_some none c = absurd (omega (arith, c.1))
+    down_some (more t us) c = elim (Contains-append_cases (atoms_of ts ds t) (atoms_of_all ts ds us) a c) [
+      | inl first ↦ let r = down t first in (r.0, inl r.1, r.2)
+      | inr rest ↦ let r = down_some us rest in (r.0, inr r.1, r.2)
+    ]
+
+only_one : {X : Type 0} (y x : X) → Contains (y ∷ []) x → y ≡ x
+only_one y x c = elim (Contains-push_cases [] y x c) [ inl nothing ↦ absurd (omega (arith, nothing.1)) | inr e ↦ e ]
+
+into_flat : {X A : Type 0} (f : X → List A) (xs : List X) (x : X) (a : A) → Contains xs x → Contains (f x) a → Contains (flat_map f xs) a
+into_flat f [] x a c d = absurd (omega (arith, c.1))
+into_flat f (y ∷ xs) x a c d = elim (Contains-append_cases (y ∷ []) xs x c) [
+  | inl one ↦ Contains-append_left (f y) (flat_map f xs) a (subst (λ z. Contains (f z) a) (sym (only_one y x one)) d)
+  | inr later ↦ Contains-append_right (f y) (flat_map f xs) a (into_flat f xs x a later d)
+]
+
+from_flat : {X A : Type 0} (f : X → List A) (xs : List X) (a : A) → Contains (flat_map f xs) a → (x : X) × Contains xs x × Contains (f x) a
+from_flat f [] a c = absurd (omega (arith, c.1))
+from_flat f (y ∷ xs) a c = elim (Contains-append_cases (f y) (flat_map f xs) a c) [
+  | inl first ↦ (y, Contains-append_left (y ∷ []) xs y (0, omega arith, refl), first)
+  | inr rest ↦ let r = from_flat f xs a rest in (r.0, Contains-append_right (y ∷ []) xs r.0 r.1, r.2)
+]
+
+-- ---- of a stack
+
+module _ (s : Stack) (marks : List Bool) (atoms : List Atom) (lawful : IsLawful s) (parts : AreStackParts s marks) (are : AreCheckAtoms s marks atoms) (compares : OrdersAreComparisons) where
+  abbrev ts : List Tree
+  ts = s.trees
+
+  abbrev ds : List Declaration
+  ds = signature_of s.frames
+
+  abbrev Inside : ℕ → Type 0
+  Inside i = i < length ts
+
+  different : AreDifferent ts
+  different j k less within e = let same : j ≡ k = lawful.in_order.different j k (omega (arith, less, within)) within e in omega (arith, same, less)
+
+  again : (p : ℕ) → Inside p → place_of (tree_at ts p) ts ≡ p
+  again p h = place_of-is (tree_at ts p) ts p different h refl
+
+  -- what the definition says of two terms, by their places
+  abbrev stated : Option Sort → ℕ → ℕ → List Atom
+  stated r i j = SameAtom i j ∷ (if is_int r then at_most_atom ts (tree_at ts i) (tree_at ts j) ∷ at_most_atom ts (tree_at ts j) (tree_at ts i) ∷ [] else [])
+
+  pair_stated : (i j : ℕ) → Inside i → Inside j → stated (sort_of ds ts i) i j ≡ pair_atoms ts ds (tree_at ts i) (tree_at ts j)
+  pair_stated i j h g =
+      ap₂ (λ p q. SameAtom p q ∷ (if is_int (sort_of ds ts i) then at_most_atom ts (tree_at ts i) (tree_at ts j) ∷ at_most_atom ts (tree_at ts j) (tree_at ts i) ∷ [] else [])) (sym (again i h)) (sym (again j g))
+
+  truth_stated : (r : Option Sort) (p : ℕ) → map (atom_of ts) (truth_by_sort r p) ≡ (if is_bool r then TruthAtom p ∷ [] else [])
+  truth_stated None p = refl
+  truth_stated (Some Truths) p = refl
+  truth_stated (Some Ints) p = refl
+  truth_stated (Some (Free n)) p = refl
+
+  truths_are : (p : ℕ) → Inside p → map (atom_of ts) (truth_by_sort (sort_of ds ts p) p) ≡ truth_atom ts ds (tree_at ts p)
+  truths_are p h = truth_stated (sort_of ds ts p) p ∙ ap (λ q. if is_bool (sort_of ds ts p) then TruthAtom q ∷ [] else []) (sym (again p h))
+
+  in_stack : (u : Tree) (a : Atom) → IsPartOfStack s.frames u → Contains (own ts ds u) a → Contains (stack_atoms ts s.frames) a
+  in_stack u a part c =
+      subst (λ xs. Contains xs a) (sym (stack_atoms_are ts s.frames))
+      (into_flat (atoms_of ts ds) (assertions_of s.frames) part.assertion a part.asserted (up ts ds a u part.assertion part.part c))
+
+  -- ---- each numbered one is the stack's
+
+  abbrev Holds : List Atom → List Atom → Type 0
+  Holds xs ys = All (Contains ys) xs
+
+  pair_held : (r : Option Sort) (i j : ℕ) → Holds (map (atom_of ts) (by_sort r i j)) (stated r i j)
+  pair_held None i j = All-contains_itself (stated None i j)
+  pair_held (Some Truths) i j = All-nil (Contains (stated (Some Truths) i j))
+  pair_held (Some Ints) i j = All-contains_itself (stated (Some Ints) i j)
+  pair_held (Some (Free n)) i j = All-contains_itself (stated (Some (Free n)) i j)
+
+  held : IsKept ts ds Holds Inside
+  held = record {
+    same = All-contains_itself;
+    append = λ xs ys us vs a b.
+        All-append (Contains (us ++ vs)) xs ys (All-weaker (Contains us) (Contains (us ++ vs)) (λ x c. Contains-append_left us vs x c) xs a)
+        (All-weaker (Contains vs) (Contains (us ++ vs)) (λ x c. Contains-append_right us vs x c) ys b);
+    pairs = λ i j h g. subst (Holds (map (atom_of ts) (by_sort (sort_of ds ts i) i j))) (pair_stated i j h g) (pair_held (sort_of ds ts i) i j);
+  }
+
+  own_is : (p : ℕ) (h : Head) (us : Trees) → tree_at ts p ≡ node h us → truth_atom ts ds (tree_at ts p) ++ comparison_atoms ts ds h us ≡ own ts ds (node h us)
+  own_is p h us e = ap (λ t. truth_atom ts ds t ++ comparison_atoms ts ds h us) e
+
+  pub of_stack : (a : Atom) → IsAtomOfPart s marks a → Contains (stack_atoms ts s.frames) a
+  of_stack a o =
+      let us = pick ts o.arguments in
+      let tree : tree_at ts o.place ≡ node o.head us = o.term.tree in
+      let all = part_related ts ds Holds Inside held compares o.head o.place o.arguments o.term.within o.term.arguments tree
+      (subst (Holds (map (atom_of ts) (truth_by_sort (sort_of ds ts o.place) o.place))) (truths_are o.place o.term.within) (All-contains_itself (map (atom_of ts) (truth_by_sort (sort_of ds ts o.place) o.place)))) in
+      let here = All-contains (Contains (truth_atom ts ds (tree_at ts o.place) ++ comparison_atoms ts ds o.head us)) (map (atom_of ts) (part_atoms s o.place o.head o.arguments)) a all o.among in
+      in_stack (node o.head us) a (subst (IsPartOfStack s.frames) tree (parts.only o.place o.marked)) (subst (λ xs. Contains xs a) (own_is o.place o.head us tree) here)
+
+  -- ---- each of the stack's is numbered, but for equalities of Bools
+
+  abbrev Numbered : List Atom → Atom → Type 0
+  Numbered xs a = Contains xs a ⊎ IsSameOfBools s a
+
+  abbrev Gives : List Atom → List Atom → Type 0
+  Gives xs ys = All (Numbered xs) ys
+
+  gives_itself : (xs : List Atom) → Gives xs xs
+  gives_itself xs = All-weaker (Contains xs) (Numbered xs) (λ a c. inl c) xs (All-contains_itself xs)
+
+  more_numbered : (xs zs : List Atom) (a : Atom) → ((b : Atom) → Contains xs b → Contains zs b) → Numbered xs a → Numbered zs a
+  more_numbered xs zs a f (inl c) = inl (f a c)
+  more_numbered xs zs a f (inr b) = inr b
+
+  pair_given : (r : Option Sort) (i j : ℕ) → tree_sort ds (tree_at ts i) ≡ r → Gives (map (atom_of ts) (by_sort r i j)) (stated r i j)
+  pair_given None i j e = gives_itself (stated None i j)
+  pair_given (Some Truths) i j e = All-cons (Numbered []) (SameAtom i j) [] (inr (record { left = i; right = j; atom = refl; bool = ap is_bool e })) (All-nil (Numbered []))
+  pair_given (Some Ints) i j e = gives_itself (stated (Some Ints) i j)
+  pair_given (Some (Free n)) i j e = gives_itself (stated (Some (Free n)) i j)
+
+  given : IsKept ts ds Gives Inside
+  given = record {
+    same = gives_itself;
+    append = λ xs ys us vs a b.
+        All-append (Numbered (xs ++ ys)) us vs (All-weaker (Numbered xs) (Numbered (xs ++ ys)) (λ x c. more_numbered xs (xs ++ ys) x (λ y d. Contains-append_left xs ys y d) c) us a)
+        (All-weaker (Numbered ys) (Numbered (xs ++ ys)) (λ x c. more_numbered ys (xs ++ ys) x (λ y d. Contains-append_right xs ys y d) c) vs b);
+    pairs = λ i j h g. subst (Gives (map (atom_of ts) (by_sort (sort_of ds ts i) i j))) (pair_stated i j h g) (pair_given (sort_of ds ts i) i j refl);
+  }
+
+  node_numbered : (p : ℕ) (h : Head) (is : List ℕ) (a : Atom) → IsMarked marks p → IsNode ts p h is → Contains (own ts ds (node h (pick ts is))) a → Numbered atoms a
+  node_numbered p h is a m n c =
+      let all = part_related ts ds Gives Inside given compares h p is n.within n.arguments n.tree
+      (subst (Gives (map (atom_of ts) (truth_by_sort (sort_of ds ts p) p))) (truths_are p n.within) (gives_itself (map (atom_of ts) (truth_by_sort (sort_of ds ts p) p)))) in
+      more_numbered (map (atom_of ts) (part_atoms s p h is)) atoms a (λ b d. All-contains (Contains atoms) (map (atom_of ts) (part_atoms s p h is)) b (are.each p h is m n) d)
+      (All-contains (Numbered (map (atom_of ts) (part_atoms s p h is))) (truth_atom ts ds (tree_at ts p) ++ comparison_atoms ts ds h (pick ts is)) a all
+      (subst (λ xs. Contains xs a) (sym (own_is p h (pick ts is) n.tree)) c))
+
+  tree_numbered : (u : Tree) (a : Atom) → IsPartOfStack s.frames u → Contains (own ts ds u) a → Numbered atoms a
+  tree_numbered (node h us) a part c =
+      let at = parts.each (node h us) part in
+      let p = at.0 in
+      let short : p < length marks = below marks p at.1 in
+      let within : p < length ts = omega (arith, short, are.size) in
+      let args : Picked ts us =
+      picked ts us (λ v q. (let b = lawful.in_order.after_arguments p v within (subst (IsArgument v) (sym at.2) q) in (b.0, b.2, b.3))) in
+      let tree : tree_at ts p ≡ node h (pick ts args.places) = at.2 ∙ ap (node h) (sym args.are) in
+      node_numbered p h args.places a at.1 (record { within = within; tree = tree; arguments = args.within }) (subst (λ vs. Contains (own ts ds (node h vs)) a) (sym args.are) c)
+
+  pub numbered : (a : Atom) → Contains (stack_atoms ts s.frames) a → Numbered atoms a
+  numbered a c =
+      let f = from_flat (atoms_of ts ds) (assertions_of s.frames) a (subst (λ xs. Contains xs a) (stack_atoms_are ts s.frames) c) in
+      let d = down ts ds a f.0 f.2 in
+      tree_numbered d.0 a (record { assertion = f.0; asserted = f.1; part = d.1 }) d.2
+
+pub atoms_of_stack : OrdersAreComparisons → AtomsAreOfStack
+atoms_of_stack compares s marks atoms lawful parts are = λ k d l. of_stack s marks atoms lawful parts are compares (get_or atoms k d) (are.only (get_or atoms k d) (Contains-get_or atoms k d l))
+
+pub all_numbered : OrdersAreComparisons → StackAtomsAreNumbered
+all_numbered compares s marks atoms lawful parts are = λ k d l.
+    numbered s marks atoms lawful parts are compares (get_or (stack_atoms s.trees s.frames) k d) (Contains-get_or (stack_atoms s.trees s.frames) k d l)

@@ -1,0 +1,76 @@
+-- What holds of the numbered atoms, and of a refusal.
+use Rattle.std.specs.Prelude.{◌≡◌, ◌⊎◌, ℕ, Bool, true, List, map, All, Contains, IsTrue}
+use Rattle.smt_meaning.specs.declared.terms.Operator.{Operator}
+use Rattle.smt_meaning.specs.declared.terms.Operator.TheVariants.{Equal, Distinct, Ite}
+use Rattle.smt_meaning.specs.declared.terms.Head.{Head}
+use Rattle.smt_meaning.specs.declared.terms.Head.TheVariants.{Theory}
+use Rattle.smt_meaning.specs.declared.clauses.Atom.{Atom}
+use Rattle.smt_meaning.specs.declared.clauses.Atom.TheVariants.{Truth, Same}
+use Rattle.smt_meaning.specs.Term.{tree_at}
+use Rattle.smt_meaning.specs.Signature.{tree_sort, is_bool}
+use Rattle.smt_meaning.specs.Stack.{signature_of}
+use Rattle.smt_meaning.specs.StackCommand.{Stack}
+use Rattle.smt_meaning.specs.Linear.{linear_form, form_fits}
+use Rattle.smt_meaning.specs.Atoms.{stack_atoms}
+use Rattle.smt_meaning.specs.Ranges.{LeavesInPart, LeavesInPair}
+use Rattle.scope_stack.specs.Shown.{IsLawful}
+use Rattle.stack_atoms.specs.Parts.{IsMarked}
+use Rattle.stack_atoms.specs.Marks.{AreStackParts}
+use Rattle.bound_clauses.specs.declared.orders.Sense.{Sense}
+use Rattle.bound_clauses.specs.declared.orders.Sense.TheVariants.{NotAbove, Below}
+use Rattle.bound_clauses.specs.declared.orders.Order.{Order}
+use Rattle.check_atoms.specs.declared.refusal.Refusal.TheVariants.{Term, Pair}
+use Rattle.bound_clauses.specs.Orders.{order_atoms, bound_atom}
+use Rattle.bound_clauses.specs.Laws.{orders}
+use Rattle.check_atoms.specs.PartAtoms.{atom_of, sort_of, neighbours, each_two, with_branches}
+use Rattle.check_atoms.specs.OfStack.{IsNode, AreCheckAtoms, IsRefused}
+
+-- each numbered atom is one of the stack's
+abbrev pub AtomsAreOfStack : Type 0
+AtomsAreOfStack =
+    (s : Stack) (marks : List Bool) (atoms : List Atom) → IsLawful s → AreStackParts s marks → AreCheckAtoms s marks atoms → All (Contains (stack_atoms s.trees s.frames)) atoms
+
+-- the equality of two Bools
+pub record IsSameOfBools (s : Stack) (a : Atom) : Type 0 where
+  pub left : ℕ
+  pub right : ℕ
+  pub atom : a ≡ Same left right
+  pub bool : is_bool (tree_sort (signature_of s.frames) (tree_at s.trees left)) ≡ true
+
+-- and each of the stack's is numbered, but for the equalities of Bools
+abbrev pub StackAtomsAreNumbered : Type 0
+StackAtomsAreNumbered =
+    (s : Stack) (marks : List Bool) (atoms : List Atom) → IsLawful s → AreStackParts s marks → AreCheckAtoms s marks atoms
+    → All (λ (a : Atom). Contains atoms a ⊎ IsSameOfBools s a) (stack_atoms s.trees s.frames)
+
+-- a term whose folding is refused is a part whose folding leaves the range
+abbrev pub RefusedTermLeavesRange : Type 0
+RefusedTermLeavesRange = (s : Stack) (part : ℕ) → IsLawful s → IsRefused s (Term part) → LeavesInPart s.trees s.frames part
+
+-- of a pair that is refused the difference leaves the range, or for a strict bound what the part compares
+abbrev pub PairLeavesRange : Stack → ℕ → Sense → ℕ → ℕ → Type 0
+PairLeavesRange s part NotAbove left right = LeavesInPair s.trees s.frames left right
+PairLeavesRange s part Below left right = LeavesInPart s.trees s.frames part
+
+-- where the form of its first term is in the range
+abbrev pub RefusedPairLeavesRange : Type 0
+RefusedPairLeavesRange =
+    (s : Stack) (part : ℕ) (o : Order) → IsLawful s → form_fits (linear_form s.trees (tree_at s.trees o.lesser)) ≡ true → IsRefused s (Pair part o)
+    → PairLeavesRange s part o.sense o.lesser o.greater
+
+-- what is numbered for a part with this operator: the bounds of a comparison, and the atoms of each two terms that it compares
+pub record HasNumbers (s : Stack) (atoms : List Atom) (p : ℕ) (o : Operator) (is : List ℕ) : Type 0 where
+  pub comparison : IsTrue (orders o) → All (Contains atoms) (map (bound_atom s.trees) (order_atoms o is))
+  pub equality : o ≡ Equal → All (Contains atoms) (map (atom_of s.trees) (neighbours (sort_of (signature_of s.frames) s.trees) is))
+  pub different : o ≡ Distinct → All (Contains atoms) (map (atom_of s.trees) (each_two (sort_of (signature_of s.frames) s.trees) is))
+  pub choice : o ≡ Ite → All (Contains atoms) (map (atom_of s.trees) (with_branches (sort_of (signature_of s.frames) s.trees) p is))
+
+abbrev pub PartsHaveNumbers : Type 0
+PartsHaveNumbers =
+    (s : Stack) (marks : List Bool) (atoms : List Atom) → AreCheckAtoms s marks atoms → (p : ℕ) (o : Operator) (is : List ℕ) → IsMarked marks p → IsNode s.trees p (Theory o) is → HasNumbers s atoms p o is
+
+-- the truth of each part that is a Bool is numbered
+abbrev pub TruthsHaveNumbers : Type 0
+TruthsHaveNumbers =
+    (s : Stack) (marks : List Bool) (atoms : List Atom) → AreCheckAtoms s marks atoms → (p : ℕ) (h : Head) (is : List ℕ) → IsMarked marks p → IsNode s.trees p h is
+    → is_bool (sort_of (signature_of s.frames) s.trees p) ≡ true → Contains atoms (Truth p)

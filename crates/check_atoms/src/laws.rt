@@ -1,0 +1,38 @@
+//! What holds of the numbered atoms and of a refusal, as contracts of functions that do nothing.
+ghost use Rattle.check_atoms.specs.Laws.{AtomsAreOfStack, StackAtomsAreNumbered, PartsHaveNumbers, TruthsHaveNumbers, RefusedTermLeavesRange, RefusedPairLeavesRange};
+
+use bound_clauses::orders_are_comparisons;
+
+/// Each numbered atom is one of the stack's.
+pub fn atoms_are_of_stack()
+    ensures { AtomsAreOfStack }
+{
+    orders_are_comparisons();
+}
+
+/// Each of the stack's atoms is numbered, but for the equalities of Bools.
+pub fn stack_atoms_are_numbered()
+    ensures { StackAtomsAreNumbered }
+{
+    orders_are_comparisons();
+}
+
+/// The atoms that compare the arguments of a part are numbered.
+pub fn parts_have_numbers()
+    ensures { PartsHaveNumbers }
+{}
+
+/// The truth of each part that is a Bool is numbered.
+pub fn truths_have_numbers()
+    ensures { TruthsHaveNumbers }
+{}
+
+/// A term whose folding is refused is a part whose folding leaves the range.
+pub fn refused_term_leaves_range()
+    ensures { RefusedTermLeavesRange }
+{}
+
+/// Where the form of the first term of a refused pair is in the range, the pair's difference leaves it, or for a strict bound what the part compares does.
+pub fn refused_pair_leaves_range()
+    ensures { RefusedPairLeavesRange }
+{}
