@@ -5,3 +5,4 @@ pub mod Sorting
 pub mod Soundness
 pub mod Steps
 pub mod PartSoundness
+pub mod Deciding
