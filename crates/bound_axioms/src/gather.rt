@@ -1,5 +1,5 @@
 //! Gathering the links of all bounds.
-ghost use Rattle.std.specs.Prelude.{◌≡◌, ℕ, ◌+◌, ◌<◌, List, [], length, IfOk, OnOk};
+ghost use Rattle.std.specs.Prelude.{◌≡◌, ◌+◌, ◌<◌, List, [], length, IfOk, OnOk};
 ghost use Rattle.smt_meaning.specs.declared.clauses.Atom.TheVariants.{AtMost as BoundAtom};
 ghost use Rattle.smt_meaning.specs.Term.{Tree, Interpretation};
 ghost use Rattle.smt_meaning.specs.Clause.{atom_true, sum_value};

@@ -1,5 +1,5 @@
 //! Links, and the clauses between neighbours.
-ghost use Rattle.std.specs.Prelude.{◌≡◌, ℕ, ◌<◌, ◌^◌, ◌&&◌, nat_eq, [], ◌∷◌, ◌++◌, ℤ, int_le, All, OnOk};
+ghost use Rattle.std.specs.Prelude.{◌≡◌, ◌<◌, ◌^◌, ◌&&◌, nat_eq, ◌++◌, ℤ, int_le, All, OnOk};
 ghost use Rattle.std.specs.List.Sorted.{IsSorted, IsPermutation};
 ghost use Rattle.literals.specs.Signed.{sign};
 ghost use Rattle.pair_bounds.specs.Turning.{is_within};
