@@ -3,6 +3,8 @@
 
 mod axioms;
 mod gather;
+mod laws;
 mod links;
 
 pub use axioms::put_all_axioms;
+pub use laws::axioms_reach_all;
