@@ -6,3 +6,4 @@ pub mod Soundness
 pub mod Steps
 pub mod PartSoundness
 pub mod Deciding
+pub mod Stacked

@@ -12,5 +12,6 @@ mod ties;
 pub use error::PartError;
 pub use laws::{
     choice_part_is_decided, equality_part_is_decided, numbers_are_found, order_part_is_decided,
+    part_atoms_are_of_stack,
 };
 pub use parts::{Space, put_part};
