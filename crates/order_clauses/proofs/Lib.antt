@@ -5,3 +5,5 @@ pub mod Sorting
 pub mod Soundness
 pub mod Steps
 pub mod PartSoundness
+pub mod Deciding
+pub mod Stacked

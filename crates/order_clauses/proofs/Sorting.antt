@@ -18,7 +18,7 @@ if_some : (b : Bool) (x : Option Sort) (s : Sort) → (if b then x else None) �
 if_some true x s h = h
 if_some false x s h = cc
 
-if_so_true : (b : Bool) (t s : Sort) → if_so b t ≡ Some s → (b ≡ true) × (t ≡ s)
+pub if_so_true : (b : Bool) (t s : Sort) → if_so b t ≡ Some s → (b ≡ true) × (t ≡ s)
 if_so_true true t s h = (refl, cc)
 if_so_true false t s h = absurd (let x : None ≡ Some s = h in cc)
 
@@ -27,9 +27,9 @@ int_is Truths h = absurd (let x : false ≡ true = h in cc)
 int_is Ints h = refl
 int_is (Free a) h = absurd (let x : false ≡ true = h in cc)
 
-left : (a b : Bool) → (a && b) ≡ true → a ≡ true
-left true b h = refl
-left false b h = cc
+pub and_left : (a b : Bool) → (a && b) ≡ true → a ≡ true
+and_left true b h = refl
+and_left false b h = cc
 
 right : (a b : Bool) → (a && b) ≡ true → b ≡ true
 right true b h = h
@@ -43,7 +43,7 @@ module _ (ds : List Declaration) (ts : List Tree) (sorts : List Sort) where
       ∙ ap (λ ss. cons_sort (Some (sort_at sorts i)) ss) (listed is (All-tail (HasSort ds ts sorts) i is h))
 
   -- what the operator asks of the sorts of its arguments
-  asked : (o : Operator) (p : ℕ) (is : List ℕ) → tree_at ts p ≡ node (Theory o) (pick ts is) → HasSort ds ts sorts p → All (HasSort ds ts sorts) is
+  pub asked : (o : Operator) (p : ℕ) (is : List ℕ) → tree_at ts p ≡ node (Theory o) (pick ts is) → HasSort ds ts sorts p → All (HasSort ds ts sorts) is
       → operator_sort o (map (sort_at sorts) is) ≡ Some (sort_at sorts p)
   asked o p is e h hs =
       if_some (stands_with o (length (map (sort_at sorts) is))) (operator_sort o (map (sort_at sorts) is)) (sort_at sorts p)
@@ -53,7 +53,7 @@ module _ (ds : List Declaration) (ts : List Tree) (sorts : List Sort) where
   each_int [] hs h = All-nil (λ i. tree_sort ds (tree_at ts i) ≡ Some Ints)
   each_int (i ∷ is) hs h =
       All-cons (λ j. tree_sort ds (tree_at ts j) ≡ Some Ints) i is
-      ((All-head (HasSort ds ts sorts) i is hs) ∙ ap Some (int_is (sort_at sorts i) (left (sort_eq Ints (sort_at sorts i)) (all_of Ints (map (sort_at sorts) is)) h)))
+      ((All-head (HasSort ds ts sorts) i is hs) ∙ ap Some (int_is (sort_at sorts i) (and_left (sort_eq Ints (sort_at sorts i)) (all_of Ints (map (sort_at sorts) is)) h)))
       (each_int is (All-tail (HasSort ds ts sorts) i is hs) (right (sort_eq Ints (sort_at sorts i)) (all_of Ints (map (sort_at sorts) is)) h))
 
   by_first : (i : ℕ) (is : List ℕ) → All (HasSort ds ts sorts) (i ∷ is) → sort_at sorts i ≡ Ints → all_of (sort_at sorts i) (map (sort_at sorts) is) ≡ true

@@ -4,3 +4,4 @@ pub mod Clauses
 pub mod Needed
 pub mod Sound
 pub mod Errors
+pub mod Decided

@@ -1,11 +1,18 @@
 -- The atoms that the clauses of a part are over, and the orders whose bounds are among them.
-use Rattle.std.specs.Prelude.{ℕ, Bool, List, [], ◌∷◌, map, flat_map, if◌then◌else◌}
+use Rattle.std.specs.Prelude.{◌≡◌, ℕ, Bool, List, [], ◌∷◌, map, flat_map, All, Contains, Some, if◌then◌else◌}
 use Rattle.smt_meaning.specs.declared.terms.Operator.{Operator}
 use Rattle.smt_meaning.specs.declared.terms.Operator.TheVariants.{Equal, Distinct, Ite, AtMost, Less, AtLeast, Greater}
+use Rattle.smt_meaning.specs.declared.terms.Head.TheVariants.{Theory}
 use Rattle.smt_meaning.specs.declared.clauses.Atom.{Atom}
 use Rattle.smt_meaning.specs.declared.clauses.Atom.TheVariants.{Truth}
 use Rattle.smt_meaning.specs.declared.values.Sort.{Sort}
-use Rattle.smt_meaning.specs.Term.{Tree}
+use Rattle.smt_meaning.specs.declared.values.Sort.TheVariants.{Bool as Truths}
+use Rattle.smt_meaning.specs.Declaration.{Declaration}
+use Rattle.smt_meaning.specs.Term.{Tree, node, tree_at}
+use Rattle.smt_meaning.specs.TreeShape.{place_of}
+use Rattle.smt_meaning.specs.Signature.{tree_sort}
+use Rattle.smt_meaning.specs.Nodes.{pick}
+use Rattle.smt_meaning.specs.Atoms.{comparison_atoms}
 use Rattle.bound_clauses.specs.declared.orders.Order.{Order}
 use Rattle.bound_clauses.specs.Orders.{order_atoms, bound_atom}
 use Rattle.order_clauses.specs.declared.pairs.Pair.{Pair}
@@ -66,3 +73,16 @@ atoms_of_part sorts ts Equal p is = equality_atoms_of sorts ts Equal p is
 atoms_of_part sorts ts Distinct p is = equality_atoms_of sorts ts Distinct p is
 atoms_of_part sorts ts Ite p is = choice_atoms_of sorts ts p is
 atoms_of_part sorts ts o p is = []
+
+-- ---- they are atoms that a stack has for the part
+
+-- the truths of terms at these places that are Bools have numbers
+abbrev pub HaveTruths : List Declaration → List Tree → List Atom → List ℕ → Type 0
+HaveTruths ds ts table is = All (λ i. tree_sort ds (tree_at ts i) ≡ Some Truths → Contains table (Truth i)) is
+
+-- where these have numbers, and the atoms that compare the part's arguments, so have all that the clauses are over
+abbrev pub PartAtomsAreOfStack : Type 0
+PartAtomsAreOfStack =
+    (ds : List Declaration) (ts : List Tree) (sorts : List Sort) (table : List Atom) (o : Operator) (p : ℕ) (is : List ℕ) → tree_at ts p ≡ node (Theory o) (pick ts is)
+    → All (λ i. tree_sort ds (tree_at ts i) ≡ Some (sort_at sorts i)) (p ∷ is) → All (λ i. place_of (tree_at ts i) ts ≡ i) (p ∷ is) → HaveTruths ds ts table (p ∷ is)
+    → All (Contains table) (comparison_atoms ts ds (Theory o) (pick ts is)) → All (Contains table) (atoms_of_part sorts ts o p is)

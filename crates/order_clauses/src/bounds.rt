@@ -1,5 +1,5 @@
 //! The numbers of the bounds of orders, and the clauses of those that are constant.
-ghost use Rattle.std.specs.Prelude.{◌≡◌, ◌<◌, ◌≤◌, ◌^◌, [], ◌∷◌, ◌++◌, List, length, map, flat_map, All, Contains, OnOk, IfOk, IfErr};
+ghost use Rattle.std.specs.Prelude.{◌≡◌, ◌<◌, ◌^◌, [], ◌∷◌, ◌++◌, List, length, map, flat_map, All, Contains, OnOk, IfOk, IfErr};
 ghost use Rattle.smt_meaning.specs.declared.clauses.Atom.TheVariants.{AtMost as BoundAtom};
 ghost use Rattle.smt_meaning.specs.Term.{Tree};
 ghost use Rattle.linear_forms.specs.Table.{AreForms};

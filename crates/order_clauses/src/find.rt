@@ -1,5 +1,5 @@
 //! The numbers of atoms.
-ghost use Rattle.std.specs.Prelude.{◌≡◌, ◌<◌, ◌≤◌, ◌^◌, [], ◌∷◌, length, Contains, IfOk, IfErr, OnOk};
+ghost use Rattle.std.specs.Prelude.{◌≡◌, ◌<◌, ◌^◌, Contains, IfOk, IfErr, OnOk};
 ghost use Rattle.smt_meaning.specs.declared.clauses.Atom.TheVariants.{Truth, AtMost};
 ghost use Rattle.order_clauses.specs.Pairs.{same_atom};
 ghost use Rattle.order_clauses.specs.Numbers.{number_in};

@@ -4,9 +4,14 @@
 mod bounds;
 mod error;
 mod find;
+mod laws;
 mod pairs;
 mod parts;
 mod ties;
 
 pub use error::PartError;
+pub use laws::{
+    choice_part_is_decided, equality_part_is_decided, numbers_are_found, order_part_is_decided,
+    part_atoms_are_of_stack,
+};
 pub use parts::{Space, put_part};

@@ -1,5 +1,5 @@
 //! The clauses of parts.
-ghost use Rattle.std.specs.Prelude.{◌≡◌, ◌<◌, ◌≤◌, ◌^◌, [], ◌∷◌, ◌++◌, List, length, true, map, flat_map, All, Contains, OnOk, IfOk, IfErr, IsTrue};
+ghost use Rattle.std.specs.Prelude.{◌≡◌, ◌<◌, [], ◌∷◌, ◌++◌, List, length, true, flat_map, All, Contains, OnOk, IfErr};
 ghost use Rattle.smt_meaning.specs.declared.terms.Head.TheVariants.{Theory};
 ghost use Rattle.smt_meaning.specs.Declaration.{Declaration};
 ghost use Rattle.smt_meaning.specs.Term.{Tree, node, tree_at};

@@ -1,5 +1,5 @@
 //! The clauses that tie equalities of Ints to the bounds of their differences.
-ghost use Rattle.std.specs.Prelude.{◌≡◌, ◌<◌, ◌≤◌, ◌^◌, [], ◌++◌, List, length, true, map, flat_map, All, Contains, OnOk, IfOk, IfErr};
+ghost use Rattle.std.specs.Prelude.{◌≡◌, ◌<◌, ◌^◌, [], ◌++◌, List, length, map, flat_map, All, Contains, OnOk, IfOk, IfErr};
 ghost use Rattle.smt_meaning.specs.Term.{Tree};
 ghost use Rattle.linear_forms.specs.Table.{AreForms};
 ghost use Rattle.bound_clauses.specs.Orders.{order, bound_atom};

@@ -1,0 +1,3 @@
+pub mod Gathering
+pub mod Ordering
+pub mod Reaching

@@ -1,0 +1,4 @@
+pub mod Links
+pub mod Axioms
+pub mod Gathered
+pub mod Reached
