@@ -8,7 +8,7 @@ use Rattle.grid_meaning.specs.declared.Summand.{Summand}
 use Rattle.grid_meaning.specs.declared.Column.{Column}
 use Rattle.simplex_steps.specs.State.{column_in, no_column, KeepsBounds}
 use Rattle.simplex.specs.State.{KeepsValues}
-use Rattle.sum_bounds.specs.Bounds.{State, sums, with_leaf, with_sum}
+use Rattle.sum_bounds.specs.Bounds.{State, sums, with_leaf}
 use Rattle.sum_bounds.specs.Written.{HasLeaf}
 use Rattle.smt_meaning.specs.declared.clauses.Summand as Places
 use Rattle.sum_bounds.specs.Clauses.{plain}
@@ -16,7 +16,7 @@ use Rattle.bound_log.specs.Growth.{IsGrown, IsProper}
 use Rattle.bound_log.proofs.Telling.{no_more}
 
 pub grown_self : (s : State) → IsGrown s s
-grown_self s = record { more = []; columns = sym (no_more s.columns); told = refl }
+grown_self s = record { more = []; columns = sym (no_more s.columns); more_rows = []; rows = sym (no_more s.table.rows); told = refl }
 
 pub grown_same : (s u : State) → u ≡ s → IsGrown s u
 grown_same s u e = subst (IsGrown s) (sym e) (grown_self s)
@@ -25,16 +25,14 @@ pub grown_through : (s t u : State) → IsGrown s t → IsGrown t u → IsGrown 
 grown_through s t u g h = record {
   more = g.more ++ h.more;
   columns = h.columns ∙ ap (λ cs. cs ++ h.more) g.columns ∙ append_assoc s.columns g.more h.more;
+  more_rows = g.more_rows ++ h.more_rows;
+  rows = h.rows ∙ ap (λ rs. rs ++ h.more_rows) g.rows ∙ append_assoc s.table.rows g.more_rows h.more_rows;
   told = h.told ∙ g.told;
 }
 
 pub grown_by_leaf : (s u : State) (term : ℕ) → (u ≡ s) ⊎ (u ≡ with_leaf s term) → IsGrown s u
 grown_by_leaf s u term (inl e) = grown_same s u e
-grown_by_leaf s u term (inr e) = subst (IsGrown s) (sym e) (record { more = _; columns = refl; told = refl })
-
-pub grown_by_sum : (s u : State) (ps : List Summand) → (u ≡ s) ⊎ (u ≡ with_sum s ps) → IsGrown s u
-grown_by_sum s u ps (inl e) = grown_same s u e
-grown_by_sum s u ps (inr e) = subst (IsGrown s) (sym e) (record { more = _; columns = refl; told = refl })
+grown_by_leaf s u term (inr e) = subst (IsGrown s) (sym e) (record { more = _; columns = refl; more_rows = []; rows = sym (no_more s.table.rows); told = refl })
 
 pub fewer : (s u : State) → IsGrown s u → length s.columns ≤ length u.columns
 fewer s u g = omega (arith, ap length g.columns, length-append s.columns g.more)

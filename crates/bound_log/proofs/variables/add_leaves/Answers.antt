@@ -1,11 +1,14 @@
 use Rattle.std.proofs.Common.{take, subst}
 use Rattle.std.specs.Prelude.{All}
 use Rattle.std.proofs.lemmas.List.{take_all}
-use Rattle.std.proofs.lemmas.List.Elements.{All-more}
+use Rattle.std.proofs.lemmas.List.Elements.{All-nil, All-more}
 use Rattle.grid_meaning.specs.declared.Summand.{Summand}
 use Rattle.sum_bounds.specs.Written.{HasLeaf}
-use Rattle.bound_log.proofs.Growing.{grown_through, leaves_kept}
+use Rattle.bound_log.proofs.Growing.{grown_self, grown_through, leaves_kept}
 use Rattle.bound_log.proofs.variables.add_leaves.Goals as goal
+
+pub loop-summand-init : goal.loop-summand-init
+loop-summand-init c = (grown_self c.args.bounds.now, All-nil (λ (p : Summand). HasLeaf c.args.bounds.now.columns p.term))
 
 pub loop-summand-preserved : goal.loop-summand-preserved
 loop-summand-preserved c =

@@ -11,7 +11,7 @@ use Rattle.bound_log.specs.declared.said.Said.TheVariants.{Nothing}
 use Rattle.bound_log.specs.Told.{State, IsCore}
 use Rattle.bound_log.specs.Atoms.{KnowsTheSame, KnowsOneMore}
 use Rattle.bound_log.proofs.Telling.{core_more, core_kept}
-use Rattle.bound_log.proofs.Growing.{keeps_self, keeps_where_grown, fewer, proper_plain, in_err}
+use Rattle.bound_log.proofs.Growing.{grown_self, grown_same, keeps_self, keeps_where_grown, fewer, proper_plain, in_err}
 use Rattle.bound_log.proofs.Knowing.{knows_more, knows_kept, says_nothing}
 use Rattle.bound_log.proofs.log.BoundLog.know_bound.Goals as goal
 
@@ -72,3 +72,12 @@ returns-clause-knows c =
     subst (λ (o : State). KnowsOneMore o a new) c.self.view_is
     (knows_more old new a _ c.in_ok-add-2.ensures.ok (keeps_where_grown s.bounds b c.variable_of.ensures.grown)
     (record { sum = c.args.sum.now; atom = ap (λ (z : ℤ). AtMost c.args.sum.now z) (sym (same_bits c.args.threshold c.requires.threshold)); variable = stands }))
+
+pub returns-in_err-add-clause-grown : goal.returns-in_err-add-clause-grown
+returns-in_err-add-clause-grown c = grown_same c.args.self.now.bounds c.self.inside.bounds (ap (λ (o : State). o.bounds) c.self.view_is)
+
+pub returns-then-is_empty-clause-grown : goal.returns-then-is_empty-clause-grown
+returns-then-is_empty-clause-grown c = grown_same c.args.self.now.bounds c.self.inside.bounds (ap (λ (o : State). o.bounds) c.self.view_is)
+
+pub returns-in_err-terms-clause-grown : goal.returns-in_err-terms-clause-grown
+returns-in_err-terms-clause-grown c = grown_self c.args.self.now.bounds

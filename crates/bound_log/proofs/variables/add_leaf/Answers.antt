@@ -1,0 +1,11 @@
+use Rattle.bound_log.proofs.Growing.{grown_self, grown_same, grown_by_leaf}
+use Rattle.bound_log.proofs.variables.add_leaf.Goals as goal
+
+pub returns-then-count-eq4294967295-clause-grown : goal.returns-then-count-eq4294967295-clause-grown
+returns-then-count-eq4294967295-clause-grown c = grown_self c.args.bounds.now
+
+pub returns-in_err-_variable-clause-grown : goal.returns-in_err-_variable-clause-grown
+returns-in_err-_variable-clause-grown c = grown_same c.args.bounds.now c.leaf.new.self c.in_err-_variable.ensures.err
+
+pub returns-clause-grown : goal.returns-clause-grown
+returns-clause-grown c = grown_by_leaf c.args.bounds.now c.leaf.new.self c.args.term c.in_ok-_variable.ensures.same
