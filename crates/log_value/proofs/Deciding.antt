@@ -1,6 +1,10 @@
 -- The truth of atoms by the values of terms is that under the interpretation that gives these values.
 use Rattle.std.proofs.Common.{◌≡◌, ℕ, ◌+◌, ◌<◌, ◌≤◌, Bool, true, false, List, [], ◌∷◌, length, map, take, All, refl, sym, ap, subst, ◌∙◌, inl, inr}
-use Rattle.std.specs.Prelude.{◌⊎◌, Option, Some, None, pos, ◌+ℤ◌, ◌*ℤ◌, int_le}
+use Rattle.std.specs.Prelude.{◌⊎◌, pos, ◌+ℤ◌, ◌*ℤ◌, int_le}
+use Rattle.std.proofs.Common.{arith, ℤ, pos, ◌≤ℤ◌, ◌<ℤ◌, neg_ℤ, negsuc, ◌^◌}
+use Rattle.std.specs.Prelude.{int_lt}
+use Rattle.std.proofs.lemmas.Int.{ints}
+use Rattle.std.proofs.lemmas.Bool.Decides.{nat_tests}
 use Rattle.std.proofs.lemmas.Bool.{cases_lt}
 use Rattle.std.proofs.lemmas.List.{get_or_past, take_more}
 use Rattle.std.proofs.lemmas.List.Elements.{All-nil, All-cons, All-head, All-tail, All-weaker, All-take, All-push}
@@ -19,10 +23,10 @@ use Rattle.atom_table.specs.Numbers.{IsAt}
 use Rattle.search_port.specs.State.{atom_at, truth}
 use Rattle.model_eval.specs.Walk.{is_marked}
 use Rattle.log_value.specs.Places.{value_at, AreValues}
-use Rattle.log_value.specs.Atoms.{sum_by, atom_true_by, truth_by, pair_by, IsPastRange, IsLiteralTruth, HasPlacesBelow, HasMarkedPlaces}
-use Rattle.log_value.specs.Verdict.{literal_at, truth_in, IsPastRangeIn, AreTrueIn, AreModels, IsFirstFalse, IsFirstUnknown, verdict_of, IsVerdict, IsVerdictBy}
+use Rattle.log_value.specs.Atoms.{sum_by, atom_true_by, truth_by, pair_by, HasPlacesBelow, HasMarkedPlaces}
+use Rattle.log_value.specs.Verdict.{literal_at, truth_in, AreTrueIn, AreModels, IsFirstFalse, IsVerdict, IsVerdictBy}
 use Rattle.log_value.specs.declared.log.Verdict.{Verdict}
-use Rattle.log_value.specs.declared.log.Verdict.TheVariants.{AllTrue, False, Range, Unknown}
+use Rattle.log_value.specs.declared.log.Verdict.TheVariants.{AllTrue, False, Range}
 
 -- ---- sums
 
@@ -53,11 +57,6 @@ module _ (trees : List Tree) (marks : List Bool) (I : Interpretation) (values : 
       ∙ ap (same_value (value I (tree_at trees p)))
       (are.each q (All-head (λ r. is_marked marks r ≡ true) q [] (All-tail (λ r. is_marked marks r ≡ true) p (q ∷ []) h)))
 
-  past_is : (a : Atom) → HasMarkedPlaces marks a → IsPastRange values a → IsPastRangeIn trees I a
-  past_is (Truth p) h past = past
-  past_is (AtMost sum k) h past = λ inside. past (subst InRange (sym (sum_is sum h)) inside)
-  past_is (Same p q) h past = past
-
   module _ (atoms : List Atom) (all : All (HasMarkedPlaces marks) atoms) where
     pub literal_is : (l : Signed) → l.atom < length atoms → literal_true (truth_by values atoms) l ≡ literal_true (truth_in trees atoms I) l
     literal_is l less = ap (sign l.positive) (atom_is (atom_at atoms l.atom) (all l.atom (Truth 0) less))
@@ -73,14 +72,6 @@ module _ (trees : List Tree) (marks : List Bool) (I : Interpretation) (values : 
     first_false log k below f = record {
       within = f.within;
       is_false = sym (literal_is (literal_at log k) (below k (record { atom = 0; positive = true }) f.within)) ∙ f.is_false;
-      before = literals_true (take k log) (All-take (λ (l : Signed). l.atom < length atoms) k log below) f.before;
-    }
-
-    first_unknown : (log : List Signed) (k : ℕ) → All (λ (l : Signed). l.atom < length atoms) log → IsFirstUnknown (truth_by values atoms) (IsPastRange values) atoms log k
-        → IsFirstUnknown (truth_in trees atoms I) (IsPastRangeIn trees I) atoms log k
-    first_unknown log k below f = record {
-      within = f.within;
-      past = past_is (atom_at atoms (literal_at log k).atom) (all (literal_at log k).atom (Truth 0) (below k (record { atom = 0; positive = true }) f.within)) f.past;
       before = literals_true (take k log) (All-take (λ (l : Signed). l.atom < length atoms) k log below) f.before;
     }
 
@@ -100,7 +91,6 @@ verdict_is trees marks tables values atoms log AllTrue are all below h =
     are_models trees atoms log tables (literals_true trees marks (meaning tables) values are atoms all log below h)
 verdict_is trees marks tables values atoms log (False k) are all below h = first_false trees marks (meaning tables) values are atoms all log k below h
 verdict_is trees marks tables values atoms log (Range i) are all below h = absurd h
-verdict_is trees marks tables values atoms log (Unknown k) are all below h = first_unknown trees marks (meaning tables) values are atoms all log k below h
 
 -- ---- the places of atoms
 
@@ -120,28 +110,16 @@ places_of atoms n k a all at = subst (HasPlacesBelow n) (at.1 (Truth 0)) (all k 
 
 -- ---- a log, one literal after another
 
-pub none_of : (o : Option Verdict) → ((v : Verdict) → o ≡ Some v → ⊥) → o ≡ None
-none_of None h = refl
-none_of (Some v) h = absurd (h v refl)
-
-some_true_of : (o : Option Bool) (k : ℕ) → verdict_of o k ≡ None → o ≡ Some true
-some_true_of (Some true) k e = refl
-some_true_of (Some false) k e = absurd cc
-some_true_of None k e = absurd cc
-
-pub true_so_far : (values : List Value) (atoms : List Atom) (log : List Signed) (k : ℕ) (o : Option Bool) → k < length log → IsLiteralTruth values atoms (literal_at log k) o → verdict_of o k ≡ None
+pub true_so_far : (values : List Value) (atoms : List Atom) (log : List Signed) (k : ℕ) → k < length log → literal_true (truth_by values atoms) (literal_at log k) ≡ true
     → All (λ l. literal_true (truth_by values atoms) l ≡ true) (take k log) → All (λ l. literal_true (truth_by values atoms) l ≡ true) (take (k + 1) log)
-true_so_far values atoms log k o less h e before =
-    let here : true ≡ literal_true (truth_by values atoms) (literal_at log k) = subst (IsLiteralTruth values atoms (literal_at log k)) (some_true_of o k e) h in
+true_so_far values atoms log k less here before =
     subst (λ ls. All (λ l. literal_true (truth_by values atoms) l ≡ true) ls) (sym (take_more log k (record { atom = 0; positive = true }) less))
-    (All-push (λ l. literal_true (truth_by values atoms) l ≡ true) (take k log) (literal_at log k) before (sym here))
+    (All-push (λ l. literal_true (truth_by values atoms) l ≡ true) (take k log) (literal_at log k) before here)
 
-some_same : (v w : Verdict) → Some v ≡ Some w → v ≡ w
-some_same v w e = cc
+-- ---- sums outside the range
 
-pub verdict_by : (values : List Value) (atoms : List Atom) (log : List Signed) (k : ℕ) (o : Option Bool) (v : Verdict) → k < length log → IsLiteralTruth values atoms (literal_at log k) o → verdict_of o k ≡ Some v
-    → All (λ l. literal_true (truth_by values atoms) l ≡ true) (take k log) → IsVerdictBy values atoms log v
-verdict_by values atoms log k (Some true) v less h e before = absurd cc
-verdict_by values atoms log k (Some false) v less h e before =
-    subst (IsVerdictBy values atoms log) (some_same (False k) v e) (record { within = less; is_false = sym h; before = before })
-verdict_by values atoms log k None v less h e before = subst (IsVerdictBy values atoms log) (some_same (Unknown k) v e) (record { within = less; past = h; before = before })
+pub past_sign : (s k : ℤ) → (InRange s → ⊥) → neg_ℤ (pos (2 ^ 127)) ≤ℤ k → k <ℤ pos (2 ^ 127) → int_lt s (pos 0) ≡ int_le s k
+past_sign (pos m) (pos n) past low high = grind (arith, ints, nat_tests)
+past_sign (pos m) (negsuc n) past low high = grind (arith, ints, nat_tests)
+past_sign (negsuc m) (pos n) past low high = grind (arith, ints, nat_tests)
+past_sign (negsuc m) (negsuc n) past low high = grind (arith, ints, nat_tests)

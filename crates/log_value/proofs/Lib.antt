@@ -1,2 +1,3 @@
 pub mod Spreading
 pub mod Deciding
+pub mod Places

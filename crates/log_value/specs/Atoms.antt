@@ -1,7 +1,5 @@
 -- The truth of atoms and of literals by the values of terms.
-use Rattle.std.specs.Prelude.{◌≡◌, ℕ, ◌<◌, Bool, true, List, [], ◌∷◌, All, Option, Some, None, ℤ, pos, ◌+ℤ◌, ◌*ℤ◌, int_le}
-use Rattle.number_meaning.specs.Whole.{InRange}
-use Rattle.literals.specs.Signed.{Signed, literal_true}
+use Rattle.std.specs.Prelude.{◌≡◌, ℕ, ◌<◌, Bool, true, List, [], ◌∷◌, All, ℤ, pos, ◌+ℤ◌, ◌*ℤ◌, int_le}
 use Rattle.smt_meaning.specs.declared.values.Value.{Value}
 use Rattle.smt_meaning.specs.declared.clauses.Summand.{Summand}
 use Rattle.smt_meaning.specs.declared.clauses.Atom.{Atom}
@@ -25,21 +23,6 @@ atom_true_by values (Same p q) = same_value (value_at values p) (value_at values
 -- the truth of each number's atom
 abbrev pub truth_by : List Value → List Atom → ℕ → Bool
 truth_by values atoms n = atom_true_by values (atom_at atoms n)
-
--- it is a bound of a sum whose value is outside the range
-abbrev pub IsPastRange : List Value → Atom → Type 0
-IsPastRange values (Truth p) = ⊥
-IsPastRange values (AtMost sum k) = InRange (sum_by values sum) → ⊥
-IsPastRange values (Same p q) = ⊥
-
--- the atom's truth, and none exactly where it is past the range
-abbrev pub IsAtomTruth : List Value → Atom → Option Bool → Type 0
-IsAtomTruth values a (Some b) = b ≡ atom_true_by values a
-IsAtomTruth values a None = IsPastRange values a
-
-abbrev pub IsLiteralTruth : List Value → List Atom → Signed → Option Bool → Type 0
-IsLiteralTruth values atoms l (Some b) = b ≡ literal_true (truth_by values atoms) l
-IsLiteralTruth values atoms l None = IsPastRange values (atom_at atoms l.atom)
 
 -- its places are below a bound
 abbrev pub HasPlacesBelow : ℕ → Atom → Type 0

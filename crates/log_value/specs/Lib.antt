@@ -1,3 +1,4 @@
 pub mod Places
 pub mod Atoms
 pub mod Verdict
+pub mod Wide

@@ -1,13 +1,11 @@
 -- What a log is under tables.
-use Rattle.std.specs.Prelude.{◌≡◌, ℕ, ◌<◌, Bool, true, false, List, length, take, All, Option, Some, None, slice_index_or}
-use Rattle.number_meaning.specs.Whole.{InRange}
+use Rattle.std.specs.Prelude.{◌≡◌, ℕ, ◌<◌, Bool, true, false, List, length, take, All, slice_index_or}
 use Rattle.literals.specs.Signed.{Signed, literal_true}
 use Rattle.smt_meaning.specs.declared.values.Value.{Value}
 use Rattle.smt_meaning.specs.declared.values.Table.{Table}
 use Rattle.smt_meaning.specs.declared.clauses.Atom.{Atom}
-use Rattle.smt_meaning.specs.declared.clauses.Atom.TheVariants.{Truth, AtMost, Same}
 use Rattle.smt_meaning.specs.Term.{Tree, Interpretation}
-use Rattle.smt_meaning.specs.Clause.{atom_true, sum_value}
+use Rattle.smt_meaning.specs.Clause.{atom_true}
 use Rattle.smt_meaning.specs.Interpretation.{AreTablesFor, meaning}
 use Rattle.smt_meaning.specs.Stack.{signature_of}
 use Rattle.search_port.specs.State.{TheoryState, atom_at}
@@ -15,9 +13,9 @@ use Rattle.search_port.specs.Calls.{IsModelOf}
 use Rattle.model_eval.specs.Unfit.{IsCauseOfAny}
 use Rattle.model_eval.specs.declared.EvalError.TheVariants.{Range as RangeOf}
 use Rattle.log_value.specs.Places.{marked_places, AreValues}
-use Rattle.log_value.specs.Atoms.{truth_by, IsPastRange, HasMarkedPlaces}
+use Rattle.log_value.specs.Atoms.{truth_by, HasMarkedPlaces}
 use Rattle.log_value.specs.declared.log.Verdict.{Verdict}
-use Rattle.log_value.specs.declared.log.Verdict.TheVariants.{AllTrue, False, Range, Unknown}
+use Rattle.log_value.specs.declared.log.Verdict.TheVariants.{AllTrue, False, Range}
 
 abbrev pub literal_at : List Signed → ℕ → Signed
 literal_at log k = slice_index_or log k (record { atom = 0; positive = true })
@@ -27,12 +25,6 @@ literal_at log k = slice_index_or log k (record { atom = 0; positive = true })
 -- the truth of each number's atom
 abbrev pub truth_in : List Tree → List Atom → Interpretation → ℕ → Bool
 truth_in trees atoms I n = atom_true trees I (atom_at atoms n)
-
--- it is a bound of a sum whose value is outside the range
-abbrev pub IsPastRangeIn : List Tree → Interpretation → Atom → Type 0
-IsPastRangeIn trees I (Truth p) = ⊥
-IsPastRangeIn trees I (AtMost sum k) = InRange (sum_value trees I sum) → ⊥
-IsPastRangeIn trees I (Same p q) = ⊥
 
 -- the literals of a log, read by this table
 abbrev pub AreTrueIn : List Tree → List Atom → Interpretation → List Signed → Type 0
@@ -60,28 +52,14 @@ pub record IsFirstFalse (truth : ℕ → Bool) (log : List Signed) (k : ℕ) : T
   pub is_false : literal_true truth (literal_at log k) ≡ false
   pub before : All (λ l. literal_true truth l ≡ true) (take k log)
 
--- or its truth isn't known
-pub record IsFirstUnknown (truth : ℕ → Bool) (Past : Atom → Type 0) (atoms : List Atom) (log : List Signed) (k : ℕ) : Type 0 where
-  pub within : k < length log
-  pub past : Past (atom_at atoms (literal_at log k).atom)
-  pub before : All (λ l. literal_true truth l ≡ true) (take k log)
-
 abbrev pub IsVerdict : List Tree → List Bool → List Atom → List Signed → List Table → Verdict → Type 0
 IsVerdict trees marks atoms log tables AllTrue = AreModels trees atoms log tables
 IsVerdict trees marks atoms log tables (False k) = IsFirstFalse (truth_in trees atoms (meaning tables)) log k
 IsVerdict trees marks atoms log tables (Range i) = IsCauseOfAny (meaning tables) trees (marked_places marks) (RangeOf i)
-IsVerdict trees marks atoms log tables (Unknown k) = IsFirstUnknown (truth_in trees atoms (meaning tables)) (IsPastRangeIn trees (meaning tables)) atoms log k
 
 -- ---- by the values of terms; no public contract speaks of it
-
--- what one literal's truth says of the log
-abbrev pub verdict_of : Option Bool → ℕ → Option Verdict
-verdict_of (Some true) k = None
-verdict_of (Some false) k = Some (False k)
-verdict_of None k = Some (Unknown k)
 
 abbrev pub IsVerdictBy : List Value → List Atom → List Signed → Verdict → Type 0
 IsVerdictBy values atoms log AllTrue = All (λ l. literal_true (truth_by values atoms) l ≡ true) log
 IsVerdictBy values atoms log (False k) = IsFirstFalse (truth_by values atoms) log k
 IsVerdictBy values atoms log (Range i) = ⊥
-IsVerdictBy values atoms log (Unknown k) = IsFirstUnknown (truth_by values atoms) (IsPastRange values) atoms log k

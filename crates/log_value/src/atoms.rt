@@ -1,9 +1,9 @@
 //! The truth of numbered atoms and of literals by the values of terms.
 ghost use Rattle.std.specs.Prelude.{◌≡◌, ◌<◌, length, All, IfOk};
 ghost use Rattle.smt_meaning.specs.Term.{truth_of, same_value};
-ghost use Rattle.literals.specs.Signed.{sign};
+ghost use Rattle.literals.specs.Signed.{sign, literal_true};
 ghost use Rattle.search_port.specs.State.{atom_at};
-ghost use Rattle.log_value.specs.Atoms.{IsAtomTruth, IsLiteralTruth, HasPlacesBelow};
+ghost use Rattle.log_value.specs.Atoms.{atom_true_by, truth_by, HasPlacesBelow};
 
 use crate::sums::is_at_most;
 use atom_numbers::{AtomNumbers, NumberedAtom};
@@ -31,23 +31,23 @@ fn is_same(left: Value, right: Value) -> bool
     }
 }
 
-/// The truth of an atom. None exactly where it is a bound of a sum whose value is outside the range.
+/// The truth of an atom by the values of terms.
 fn atom_truth(
     values: &[Value],
     atoms: &AtomNumbers,
     number: u32,
     pairs: &mut Vec<(i128, i128)>,
-) -> Result<Option<bool>, AllocError>
+) -> Result<bool, AllocError>
     requires number { number < length atoms.now.atoms }
     requires places { All (HasPlacesBelow (length values.now)) atoms.now.atoms }
-    ensures { IfOk result (IsAtomTruth values.now (atom_at atoms.now.atoms number)) }
+    ensures { IfOk result (λ b. b ≡ atom_true_by values.now (atom_at atoms.now.atoms number)) }
 {
     match atoms.atom(number) {
-        NumberedAtom::Truth(place) => Ok(Some(truth_of(values[place as usize]))),
-        NumberedAtom::Same(left, right) => Ok(Some(is_same(
+        NumberedAtom::Truth(place) => Ok(truth_of(values[place as usize])),
+        NumberedAtom::Same(left, right) => Ok(is_same(
             values[left as usize],
             values[right as usize],
-        ))),
+        )),
         NumberedAtom::Bound(bound) => {
             is_at_most(values, atoms.sum(bound.sum), bound.threshold, pairs)
         }
@@ -60,20 +60,18 @@ fn signed(positive: bool, truth: bool) -> bool
     positive == truth
 }
 
-/// Whether a literal is true by the values of terms. None exactly where its atom is a bound of a sum whose value is outside the range. The pairs are room to work in.
-/// An `Err` is for want of memory.
+/// Whether a literal is true by the values of terms. The sum of a bound is exact, also where it is outside the range. The pairs are room to work in; what they
+/// were is of no meaning. An `Err` is for want of memory.
 pub fn makes_true(
     values: &[Value],
     atoms: &AtomNumbers,
     literal: Literal,
     pairs: &mut Vec<(i128, i128)>,
-) -> Result<Option<bool>, AllocError>
+) -> Result<bool, AllocError>
     requires number { literal.atom < length atoms.now.atoms }
     requires places { All (HasPlacesBelow (length values.now)) atoms.now.atoms }
-    ensures { IfOk result (IsLiteralTruth values.now atoms.now.atoms literal) }
+    ensures { IfOk result (λ b. b ≡ literal_true (truth_by values.now atoms.now.atoms) literal) }
 {
-    match atom_truth(values, atoms, literal.atom(), pairs)? {
-        Some(truth) => Ok(Some(signed(literal.is_positive(), truth))),
-        None => Ok(None),
-    }
+    let truth = atom_truth(values, atoms, literal.atom(), pairs)?;
+    Ok(signed(literal.is_positive(), truth))
 }

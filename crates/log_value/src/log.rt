@@ -2,7 +2,7 @@
 ghost use Rattle.std.specs.Prelude.{◌≡◌, ◌<◌, length, All, IfOk};
 ghost use Rattle.literals.specs.Signed.{Signed};
 ghost use Rattle.log_value.specs.Atoms.{HasPlacesBelow, HasMarkedPlaces};
-ghost use Rattle.log_value.specs.Verdict.{verdict_of, IsVerdictBy, IsVerdict};
+ghost use Rattle.log_value.specs.Verdict.{IsVerdictBy, IsVerdict};
 
 use crate::atoms::makes_true;
 use crate::values::evaluated;
@@ -22,19 +22,6 @@ pub enum Verdict {
     False(usize),
     /// A term takes part whose value, or a partial result, is outside the range: the first one.
     Range(TermId),
-    /// The literal at this place of the log is on a bound of a sum whose value is outside the range, and those before it are true.
-    Unknown(usize),
-}
-
-/// What one literal's truth says of the log, where it isn't true.
-fn verdict_of(truth: Option<bool>, place: usize) -> Option<Verdict>
-    ensures { result ≡ verdict_of truth place }
-{
-    match truth {
-        Some(true) => None,
-        Some(false) => Some(Verdict::False(place)),
-        None => Some(Verdict::Unknown(place)),
-    }
 }
 
 /// Judges a log by the values of terms.
@@ -50,9 +37,8 @@ fn judged(
 {
     let mut pairs = Vec::new(alloc);
     for place in 0..log.len() {
-        let truth = makes_true(values, atoms, log[place], &mut pairs)?;
-        if let Some(verdict) = verdict_of(truth, place) {
-            return Ok(verdict);
+        if !makes_true(values, atoms, log[place], &mut pairs)? {
+            return Ok(Verdict::False(place));
         }
     }
     Ok(Verdict::AllTrue)

@@ -22,7 +22,7 @@ use Rattle.stack_atoms.proofs.Places.{Picked, picked}
 use Rattle.scope_stack.specs.Facts.{AreSorts}
 use Rattle.value_model.specs.Parts.{AreSortedParts}
 use Rattle.value_model.specs.WorkedOut.{is_worked_out, worked_out, IsWorkedOut, AreWorkedOut}
-use Rattle.value_model.specs.Values.{chosen, AllWorkedOut, IsNextWorkedOut, GiveChosen, IsPlaceGiven, AllGiven}
+use Rattle.value_model.specs.Values.{GiveNoOthers, chosen, AllWorkedOut, IsNextWorkedOut, GiveChosen, IsPlaceGiven, AllGiven}
 
 marked_given : (g : Given) (s : Sort) → is_given_of g s ≡ true → is_marked g ≡ true
 marked_given Unmarked s h = absurd cc
@@ -109,6 +109,14 @@ module _ (ds : List Declaration) (trees : List Tree) (marks : List Bool) (sorts 
       closed = λ p less m. closed p (tree_at trees p) less (mark_of p less m) refl;
       applications = application_inside;
     }
+
+pub give_no_others : (trees : List Tree) (marks : List Bool) (sorts : List Sort) (ts : List Bool) (ns : List ℤ) (es : List ℕ) (gs : List Given) → length gs ≡ length trees
+    → AllGiven trees marks sorts ts ns es (length trees) gs → GiveNoOthers marks gs
+give_no_others trees marks sorts ts ns es gs size each p h = by (cases_lt p (length trees))
+  where
+    by : (p < length trees) ⊎ (length trees ≤ p) → given_at gs p ≡ Unmarked
+    by (inl less) = (each p less).unmarked h
+    by (inr past) = get_or_past gs p Unmarked (omega arith)
 
 -- ---- what is worked out
 

@@ -39,6 +39,10 @@ GiveChosen ds trees marks truths numbers elements gs =
     (p : ℕ) (s : Sort) → IsMarked marks p → tree_sort ds (tree_at trees p) ≡ Some s → is_worked_out (head_of (tree_at trees p)) ≡ false
     → given_at gs p ≡ InRange (chosen truths numbers elements s p)
 
+-- and no other place is given anything
+abbrev pub GiveNoOthers : List Bool → List Given → Type 0
+GiveNoOthers marks gs = (p : ℕ) → slice_index_or marks p false ≡ false → given_at gs p ≡ Unmarked
+
 -- ---- a place at a time, by the sorts that are kept; no public contract speaks of it
 
 pub record IsPlaceGiven (trees : List Tree) (marks : List Bool) (sorts : List Sort) (truths : List Bool) (numbers : List ℤ) (elements : List ℕ) (p : ℕ) (g : Given) : Type 0 where

@@ -8,7 +8,7 @@ ghost use Rattle.model_build.specs.Given.{given_at};
 ghost use Rattle.model_build.specs.Building.{is_given_of, AreGiven};
 ghost use Rattle.stack_atoms.specs.Parts.{IsMarked};
 ghost use Rattle.value_model.specs.Parts.{AreSortedParts};
-ghost use Rattle.value_model.specs.Values.{HaveValues, in_the_range, chosen, IsPlaceGiven, IsNextWorkedOut, GiveChosen};
+ghost use Rattle.value_model.specs.Values.{HaveValues, in_the_range, chosen, IsPlaceGiven, IsNextWorkedOut, GiveChosen, GiveNoOthers};
 ghost use Rattle.value_model.specs.WorkedOut.{is_worked_out, worked_out, AreWorkedOut};
 
 use crate::numbers::{number_given, operated};
@@ -141,6 +141,7 @@ pub fn given_values(
     requires values { HaveValues (length stack.now.trees) values.now.truths.now values.now.numbers.now values.now.elements.now }
     ensures given { IfOk result (λ given. AreGiven (signature_of stack.now.frames) stack.now.trees given.items) }
     ensures chosen { IfOk result (λ given. GiveChosen (signature_of stack.now.frames) stack.now.trees marks.now values.now.truths.now values.now.numbers.now values.now.elements.now given.items) }
+    ensures no_others { IfOk result (λ given. GiveNoOthers marks.now given.items) }
     ensures worked_out { IfOk result (λ given. AreWorkedOut (signature_of stack.now.frames) stack.now.trees marks.now given.items) }
 {
     stack.laws();

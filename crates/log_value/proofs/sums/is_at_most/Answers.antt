@@ -1,11 +1,12 @@
-use Rattle.std.proofs.Common.{ap, subst, sym, ◌∙◌, to_z, of_z}
-use Rattle.std.specs.Prelude.{pos, int_le}
+use Rattle.std.proofs.Common.{ap, subst, sym, ◌∙◌, to_z, of_z, arith}
+use Rattle.std.specs.Prelude.{pos, int_le, int_lt}
 use Rattle.std.specs.Int.{w128}
-use Rattle.std.proofs.lemmas.Int.{to_z-of_z}
+use Rattle.std.proofs.lemmas.Int.{to_z-of_z, ints}
 use Rattle.number_meaning.specs.Whole.{InRange}
 use Rattle.number_meaning.proofs.Integers.{same_bits}
 use Rattle.fraction128.specs.Dot.{dot_of}
-use Rattle.log_value.proofs.Deciding.{dot_is}
+use Rattle.log_value.specs.Atoms.{sum_by}
+use Rattle.log_value.proofs.Deciding.{dot_is, past_sign}
 use Rattle.log_value.proofs.sums.is_at_most.Goals as goal
 
 pub returns-in-Some : goal.returns-in-Some
@@ -17,5 +18,9 @@ returns-in-Some c =
     (c.in-Some.ensures.some.0 ∙ ap (dot_of (pos 0)) (c.deref.ensures.value ∙ c.in_ok-pair_up.ensures) ∙ dot_is c.args.values.now c.args.sum.now)
 
 pub returns-in-None : goal.returns-in-None
-returns-in-None c = λ inside.
-    c.in-None.ensures.none (subst InRange (sym (ap (dot_of (pos 0)) (c.deref.ensures.value ∙ c.in_ok-pair_up.ensures) ∙ dot_is c.args.values.now c.args.sum.now)) inside)
+returns-in-None c =
+    let here = ap (dot_of (pos 0)) (c.deref.ensures.value ∙ c.in_ok-pair_up.ensures) ∙ dot_is c.args.values.now c.args.sum.now in
+    let there = ap (dot_of (pos 0)) (c.deref-in-None.ensures.value ∙ c.in_ok-pair_up.ensures) ∙ dot_is c.args.values.now c.args.sum.now in
+    c.is_sum_negative.ensures
+    ∙ ap (λ z. int_lt z (pos 0)) there
+    ∙ past_sign (sum_by c.args.values.now c.args.sum.now) c.args.threshold (λ inside. c.in-None.ensures.none (subst InRange (sym here) inside)) (omega (arith, ints, c.ranges.threshold.sfits)) (omega (arith, ints, c.ranges.threshold.sfits))

@@ -6,7 +6,7 @@ use Rattle.smt_meaning.specs.Term.{Tree}
 use Rattle.smt_meaning.specs.Stack.{signature_of}
 use Rattle.model_build.specs.declared.given.Given.{Given}
 use Rattle.value_model.specs.Values.{AllGiven, AllWorkedOut, IsPlaceGiven, IsNextWorkedOut}
-use Rattle.value_model.proofs.Placing.{all_pushed, are_given, give_chosen, worked_out_pushed, are_worked_out}
+use Rattle.value_model.proofs.Placing.{all_pushed, give_no_others, are_given, give_chosen, worked_out_pushed, are_worked_out}
 use Rattle.value_model.proofs.given.given_values.Goals as goal
 
 pub loop-place-preserved : goal.loop-place-preserved
@@ -51,3 +51,10 @@ returns-clause-worked_out c =
     let all : c.loop-place.place ≡ length c.args.stack.now.trees = search rules in
     are_worked_out (signature_of c.args.stack.now.frames) c.args.stack.now.trees c.args.marks.now c.args.sorts.now c.loop-place.given.items
     (subst (λ n. AllWorkedOut c.args.stack.now.trees c.args.marks.now c.args.sorts.now n c.loop-place.given.items) all c.loop-place.invariant.made) c.requires.parts.size c.requires.sorts
+
+pub returns-clause-no_others : goal.returns-clause-no_others
+returns-clause-no_others c =
+    let all : c.loop-place.place ≡ length c.args.stack.now.trees = search rules in
+    give_no_others c.args.stack.now.trees c.args.marks.now c.args.sorts.now c.args.values.now.truths.now c.args.values.now.numbers.now c.args.values.now.elements.now c.loop-place.given.items (c.loop-place.invariant.count ∙ all)
+    (subst (λ n. AllGiven c.args.stack.now.trees c.args.marks.now c.args.sorts.now c.args.values.now.truths.now c.args.values.now.numbers.now c.args.values.now.elements.now n c.loop-place.given.items) all
+    c.loop-place.invariant.each)
