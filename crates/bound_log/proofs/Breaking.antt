@@ -1,5 +1,5 @@
 -- Bounds that are told by literals, and conflicts of them as clauses.
-use Rattle.std.proofs.Common.{◌≡◌, ℕ, zero, suc, ◌<◌, Bool, true, false, not, List, [], ◌∷◌, length, ℤ, refl, sym, ap, ◌∙◌, subst, inl, inr, arith}
+use Rattle.std.proofs.Common.{◌≡◌, zero, suc, ◌<◌, Bool, true, false, not, List, [], ◌∷◌, length, ℤ, refl, sym, ap, ◌∙◌, subst, inl, inr, arith}
 use Rattle.std.specs.Prelude.{All, Contains}
 use Rattle.std.proofs.lemmas.List.Elements.{All-weaker, All-contains, All-contains_itself, Contains-append_cases, Contains-append_left, Contains-append_right}
 use Rattle.smt_meaning.specs.Declaration.{Declaration}
@@ -21,7 +21,7 @@ use Rattle.bound_log.specs.declared.report.Report.{Report}
 use Rattle.bound_log.specs.declared.report.Report.TheVariants.{Fits, Conflict, Range, UnitsSpent, Memory}
 use Rattle.bound_log.specs.Told.{State, said_at, told_by, all_told, IsState}
 use Rattle.bound_log.specs.Atoms.{Says, SaysBound, Knows}
-use Rattle.bound_log.specs.Reporting.{IsClause, IsLemmaOf, IsReport, Judges, SpendsRoom}
+use Rattle.bound_log.specs.Reporting.{IsClause, IsLemmaOf, IsReport, Judges}
 
 twice_not : (b : Bool) → not (not b) ≡ b
 twice_not true = refl
@@ -130,14 +130,3 @@ judged law s (Clash ls) Fits state j e = absurd e
 judged law s (Clash ls) (Range n) state j e = absurd e
 judged law s (Clash ls) UnitsSpent state j e = absurd e
 judged law s (Clash ls) Memory state j e = absurd e
-
-pub spends : (room made : ℕ) (f : Finding) (r : Report) → Bounds.SpendsRoom room made f → IsReport f r → SpendsRoom room made r
-spends room made AllFit r h e = subst (SpendsRoom room made) (sym e) h
-spends room made (NoFit n) r h e = subst (SpendsRoom room made) (sym e) h
-spends room made Spent r h e = subst (SpendsRoom room made) (sym e) h
-spends room made NoMemory r h e = subst (SpendsRoom room made) (sym e) h
-spends room made (Clash ls) (Conflict c) h e = tt
-spends room made (Clash ls) Fits h e = absurd e
-spends room made (Clash ls) (Range n) h e = absurd e
-spends room made (Clash ls) UnitsSpent h e = absurd e
-spends room made (Clash ls) Memory h e = absurd e

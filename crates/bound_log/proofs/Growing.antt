@@ -6,8 +6,7 @@ use Rattle.std.proofs.lemmas.List.Elements.{All-weaker, All-map}
 use Rattle.number_meaning.specs.Whole.{InRange}
 use Rattle.grid_meaning.specs.declared.Summand.{Summand}
 use Rattle.grid_meaning.specs.declared.Column.{Column}
-use Rattle.simplex_steps.specs.State.{column_in, no_column, KeepsBounds}
-use Rattle.simplex.specs.State.{KeepsValues}
+use Rattle.simplex_steps.specs.State.{column_in, no_column}
 use Rattle.sum_bounds.specs.Bounds.{State, sums, with_leaf}
 use Rattle.sum_bounds.specs.Written.{HasLeaf}
 use Rattle.smt_meaning.specs.declared.clauses.Summand as Places
@@ -53,12 +52,6 @@ pub record KeepsSums (s u : State) : Type 0 where
 
 pub keeps_where_grown : (s u : State) → IsGrown s u → KeepsSums s u
 keeps_where_grown s u g = record { fewer = fewer s u g; each = λ i less. ap (λ (c : Column). c.sum) (same_column s u i g less) }
-
-pub keeps_with_values : (s u : State) → KeepsValues s.columns u.columns → KeepsSums s u
-keeps_with_values s u k = record { fewer = omega (arith, k.count); each = λ i less. (k.each i).sum }
-
-pub keeps_with_bounds : (s u : State) → KeepsBounds s.columns u.columns → KeepsSums s u
-keeps_with_bounds s u k = record { fewer = omega (arith, k.count); each = λ i less. (k.each i).sum }
 
 pub keeps_self : (s : State) → KeepsSums s s
 keeps_self s = record { fewer = omega arith; each = λ i less. refl }
