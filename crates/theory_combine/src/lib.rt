@@ -2,7 +2,9 @@
 //! evaluated before it is given.
 #![tactic(auto)]
 
+mod branch;
 mod held;
 mod model;
 mod numbering;
+mod step;
 mod values;

@@ -1,5 +1,5 @@
 //! Atoms that get numbers during the search, each a unit of work.
-ghost use Rattle.std.specs.Prelude.{◌≡◌, ◌+◌, ◌<◌, ◌≤◌, ◌∷◌, ◌++◌, [], length, take, Contains, IfErr, OnOk, OnErr, Bool, List, None};
+ghost use Rattle.std.specs.Prelude.{◌≡◌, ◌+◌, ◌<◌, ◌≤◌, ◌∷◌, ◌++◌, [], length, take, Contains, IfErr, OnOk, OnErr, None};
 ghost use Rattle.search_port.specs.Calls.{EndsBy, Goes};
 ghost use Rattle.closure_log.specs.Seen.{state_of};
 ghost use Rattle.bound_log.specs.Atoms.{KnowsOneMore};
@@ -75,22 +75,23 @@ fn know(alloc: Global, bounds: &mut BoundLog, atom: &NewAtom) -> Result<(), Allo
 fn add(
     alloc: Global,
     stack: &Stack,
+    marks: &[bool],
     atoms: &mut AtomNumbers,
     held: &mut Held,
     atom: &NewAtom,
 ) -> Result<(), AllocError>
-    ghost marks: { List Bool }
-    requires whole { IsWhole stack.now marks atoms.old held.old }
+    requires whole { IsWhole stack.now marks.now atoms.old held.old }
     requires new { Contains atoms.old.atoms (atom_of atom.now) → ⊥ }
-    requires of_stack { IsNew stack.now marks atom.now }
+    requires of_stack { IsNew stack.now marks.now atom.now }
     ensures ok { OnOk result (atoms.new.atoms ≡ atoms.old.atoms ++ atom_of atom.now ∷ []) }
-    ensures whole { OnOk result (IsWhole stack.now marks atoms.new held.new) }
+    ensures whole { OnOk result (IsWhole stack.now marks.now atoms.new held.new) }
     ensures front { take (length atoms.old.atoms) atoms.new.atoms ≡ atoms.old.atoms }
     ensures within { length atoms.old.atoms ≤ length atoms.new.atoms }
     ensures log { held.new.closure.log.items ≡ held.old.closure.log.items }
 {
     what_was_told_stays();
     let _ = stack.terms();
+    let _ = marks.len();
     number(atoms, atom)?;
     know(alloc, &mut held.bounds, atom)?;
     held.scan.grow(atoms.len())?;
@@ -101,18 +102,18 @@ fn add(
 pub(crate) fn number_new(
     alloc: Global,
     stack: &Stack,
+    marks: &[bool],
     atoms: &mut AtomNumbers,
     lost: &mut Option<u32>,
     held: &mut Held,
     budget: &mut Budget,
     atom: &NewAtom,
 ) -> Result<(), Cause>
-    ghost marks: { List Bool }
-    requires whole { IsWhole stack.now marks atoms.old held.old }
+    requires whole { IsWhole stack.now marks.now atoms.old held.old }
     requires none { lost.old ≡ None }
     requires new { Contains atoms.old.atoms (atom_of atom.now) → ⊥ }
-    requires of_stack { IsNew stack.now marks atom.now }
-    ensures numbered { IsNumbered stack.now marks lost.new atoms.new held.new }
+    requires of_stack { IsNew stack.now marks.now atom.now }
+    ensures numbered { IsNumbered stack.now marks.now lost.new atoms.new held.new }
     ensures goes { Goes (state_of stack.now atoms.old.atoms held.old.closure.log.items) (state_of stack.now (table_of lost.new atoms.new.atoms) held.new.closure.log.items) budget.old budget.new }
     ensures kept { OnOk result (lost.new ≡ None) }
     ensures added { OnOk result (atoms.new.atoms ≡ atoms.old.atoms ++ atom_of atom.now ∷ []) }
@@ -124,7 +125,7 @@ pub(crate) fn number_new(
         return Err(Cause::Units);
     }
     let count = atoms.len() as u32;
-    let Ok(()) = add(alloc, stack, atoms, held, atom) else {
+    let Ok(()) = add(alloc, stack, marks, atoms, held, atom) else {
         *lost = Some(count);
         return Err(Cause::Memory);
     };

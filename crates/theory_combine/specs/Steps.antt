@@ -1,0 +1,12 @@
+-- How a search goes on.
+use Rattle.std.specs.Prelude.{◌<◌, length, All}
+use Rattle.search_port.specs.State.{TheoryState}
+use Rattle.search_port.specs.Calls.{IsLemma, EndsBy}
+use Rattle.search_port.specs.Spending.{Spending}
+use Rattle.theory_combine.specs.declared.step.Step.{Step}
+use Rattle.theory_combine.specs.declared.step.Step.TheVariants.{Lemmas, Ended}
+
+-- clauses of the theory after a unit was spent, or why there is no end
+abbrev pub IsStep : TheoryState → Spending → Spending → Step → Type 0
+IsStep t b c (Lemmas cs) = All (IsLemma t.reading) cs × (length b.units < length c.units)
+IsStep t b c (Ended cause) = EndsBy t c cause
