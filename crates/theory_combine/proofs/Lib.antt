@@ -1,4 +1,6 @@
+pub mod Fitting
 pub mod Going
 pub mod Holding
 pub mod Marking
 pub mod Numbers
+pub mod Tying

@@ -19,7 +19,7 @@ use Rattle.model_eval.specs.Walk.{is_marked}
 use Rattle.value_model.specs.Parts.{AreSortedParts}
 use Rattle.log_value.specs.Atoms.{HasMarkedPlaces}
 
-marked_within : (marks : List Bool) (p : ℕ) → is_marked marks p ≡ true → p < length marks
+pub marked_within : (marks : List Bool) (p : ℕ) → is_marked marks p ≡ true → p < length marks
 marked_within marks p h = elim (cases_lt p (length marks)) [ inl less ↦ less | inr past ↦ absurd (clash (sym (get_or_past marks p false past)) h) ]
   where
     clash : false ≡ slice_index_or marks p false → slice_index_or marks p false ≡ true → ⊥

@@ -1,4 +1,5 @@
 pub mod Found
 pub mod Held
 pub mod Numbering
+pub mod Pairs
 pub mod Steps

@@ -6,5 +6,6 @@ mod branch;
 mod held;
 mod model;
 mod numbering;
+mod pairs;
 mod step;
 mod values;

@@ -30,7 +30,7 @@ pub(crate) enum Step {
     Ended(Cause),
 }
 
-fn is_marked_place(marks: &[bool], place: u32) -> bool
+pub(crate) fn is_marked_place(marks: &[bool], place: u32) -> bool
     ensures { result ≡ is_marked marks.now place }
 {
     (place as usize) < marks.len() && marks[place as usize]
