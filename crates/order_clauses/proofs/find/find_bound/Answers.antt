@@ -1,0 +1,12 @@
+use Rattle.std.proofs.Common.{subst}
+use Rattle.std.specs.Int.{w128}
+use Rattle.std.proofs.lemmas.Int.{to_z-of_z}
+use Rattle.smt_meaning.specs.declared.clauses.Atom.TheVariants.{AtMost}
+use Rattle.atom_table.specs.Numbers.{IsAt}
+use Rattle.order_clauses.proofs.Numbering.{number_is}
+use Rattle.order_clauses.proofs.find.find_bound.Goals as goal
+
+pub returns-in-Some-clause-number : goal.returns-in-Some-clause-number
+returns-in-Some-clause-number c =
+    number_is c.args.atoms.now.atoms c.in-Some.number (AtMost c.args.sum.now c.args.threshold) c.are_apart.ensures
+    (subst (λ z. IsAt c.args.atoms.now.atoms c.in-Some.number (AtMost c.args.sum.now z)) (to_z-of_z w128 c.args.threshold c.ranges.threshold) c.in-Some.ensures.some)

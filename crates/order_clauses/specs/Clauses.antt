@@ -1,0 +1,101 @@
+-- The clauses of the parts of a stack that compare Ints, and of equalities and choices of terms that are no Bools, over the numbers that a table gives.
+use Rattle.std.specs.Prelude.{ℕ, Bool, true, false, List, [], ◌∷◌, ◌++◌, map, flat_map, pos, int_le, slice_index_or, if◌then◌else◌}
+use Rattle.literals.specs.Signed.{Signed}
+use Rattle.smt_meaning.specs.declared.values.Sort.{Sort}
+use Rattle.smt_meaning.specs.declared.values.Sort.TheVariants.{Bool as Truths, Int as Ints, Free}
+use Rattle.smt_meaning.specs.declared.terms.Operator.{Operator}
+use Rattle.smt_meaning.specs.declared.terms.Operator.TheVariants.{Equal, Distinct, Ite, AtMost, Less, AtLeast, Greater}
+use Rattle.smt_meaning.specs.declared.clauses.Atom.{Atom}
+use Rattle.smt_meaning.specs.declared.clauses.Atom.TheVariants.{Truth, AtMost as BoundAtom}
+use Rattle.smt_meaning.specs.Term.{Tree}
+use Rattle.equality_clauses.specs.Ties.{comparison_clauses, choice_clauses}
+use Rattle.bound_clauses.specs.declared.orders.Sense.TheVariants.{NotAbove}
+use Rattle.bound_clauses.specs.declared.orders.Order.{Order}
+use Rattle.bound_clauses.specs.Orders.{order, order_atoms, bound_atom}
+use Rattle.bound_clauses.specs.Ties.{order_clauses, equal_clauses, constant_clauses}
+use Rattle.order_clauses.specs.declared.pairs.Pair.{Pair}
+use Rattle.order_clauses.specs.Pairs.{pair, pairs_of, same_atom, orders_of_pair}
+use Rattle.order_clauses.specs.Numbers.{number_in}
+
+-- ---- numbers
+
+abbrev pub truth_number : List Atom → ℕ → ℕ
+truth_number table p = number_in table (Truth p)
+
+abbrev pub same_number : List Atom → Pair → ℕ
+same_number table q = number_in table (same_atom q)
+
+abbrev pub bound_number : List Tree → List Atom → Order → ℕ
+bound_number ts table o = number_in table (bound_atom ts o)
+
+-- ---- bounds of the empty sum
+
+-- such a bound has its truth value; of other bounds nothing is said
+abbrev pub constant_of : ℕ → Atom → List (List Signed)
+constant_of n (BoundAtom [] k) = constant_clauses n (int_le (pos 0) k)
+constant_of n a = []
+
+abbrev pub of_bound : List Tree → List Atom → Order → List (List Signed)
+of_bound ts table o = constant_of (bound_number ts table o) (bound_atom ts o)
+
+-- ---- comparisons
+
+-- a comparison is true exactly where the bounds of its neighbours are
+abbrev pub order_part : List Tree → List Atom → Operator → ℕ → List ℕ → List (List Signed)
+order_part ts table o p is =
+    flat_map (of_bound ts table) (order_atoms o is) ++ order_clauses (truth_number table p) (map (bound_number ts table) (order_atoms o is))
+
+-- ---- equalities
+
+-- the equality of two Ints is true exactly where both bounds of their difference are
+abbrev pub int_tie : List Tree → List Atom → Pair → List (List Signed)
+int_tie ts table q =
+    flat_map (of_bound ts table) (orders_of_pair q)
+    ++ equal_clauses (same_number table q) (bound_number ts table (order NotAbove q.left q.right)) (bound_number ts table (order NotAbove q.right q.left))
+
+-- of terms of a declared sort nothing more is said
+abbrev pub tie : List Tree → List Atom → Bool → Pair → List (List Signed)
+tie ts table int q = if int then int_tie ts table q else []
+
+-- `=` or `distinct` of terms that are no Bools, over the equalities of the pairs that it compares
+abbrev pub equality_part : List Tree → List Atom → Bool → Operator → ℕ → List ℕ → List (List Signed)
+equality_part ts table int o p is =
+    flat_map (tie ts table int) (pairs_of o is) ++ comparison_clauses o (truth_number table p) (map (same_number table) (pairs_of o is))
+
+-- an `ite` that is no Bool, with this condition and these branches, over its equalities with these
+abbrev pub choice_part : List Tree → List Atom → Bool → ℕ → ℕ → ℕ → ℕ → List (List Signed)
+choice_part ts table int p c i j =
+    flat_map (tie ts table int) (pair p i ∷ pair p j ∷ []) ++ choice_clauses (truth_number table c) (same_number table (pair p i)) (same_number table (pair p j))
+
+-- ---- parts
+
+abbrev pub sort_at : List Sort → ℕ → Sort
+sort_at sorts p = slice_index_or sorts p Truths
+
+-- what is said of terms of a sort that isn't Bool, by whether it is Int
+abbrev pub unless_bool : {A : Type 0} → Sort → (Bool → List A) → List A
+unless_bool Truths f = []
+unless_bool Ints f = f true
+unless_bool (Free s) f = f false
+
+-- of `=` and `distinct`, by the sort of the first argument
+abbrev pub equality_clauses_of : List Sort → List Tree → List Atom → Operator → ℕ → List ℕ → List (List Signed)
+equality_clauses_of sorts ts table o p [] = []
+equality_clauses_of sorts ts table o p (i ∷ is) = unless_bool (sort_at sorts i) (λ int. equality_part ts table int o p (i ∷ is))
+
+-- of `ite`, by its own
+abbrev pub choice_clauses_of : List Sort → List Tree → List Atom → ℕ → List ℕ → List (List Signed)
+choice_clauses_of sorts ts table p (c ∷ i ∷ j ∷ []) = unless_bool (sort_at sorts p) (λ int. choice_part ts table int p c i j)
+choice_clauses_of sorts ts table p is = []
+
+-- by the sorts of places, the clauses of the term at a place with this operator and the arguments at these places: of a comparison of Ints, and of `=`, `distinct`
+-- and `ite` of terms that are no Bools; of other terms none
+abbrev pub part_clauses_of : List Sort → List Tree → List Atom → Operator → ℕ → List ℕ → List (List Signed)
+part_clauses_of sorts ts table AtMost p is = order_part ts table AtMost p is
+part_clauses_of sorts ts table Less p is = order_part ts table Less p is
+part_clauses_of sorts ts table AtLeast p is = order_part ts table AtLeast p is
+part_clauses_of sorts ts table Greater p is = order_part ts table Greater p is
+part_clauses_of sorts ts table Equal p is = equality_clauses_of sorts ts table Equal p is
+part_clauses_of sorts ts table Distinct p is = equality_clauses_of sorts ts table Distinct p is
+part_clauses_of sorts ts table Ite p is = choice_clauses_of sorts ts table p is
+part_clauses_of sorts ts table o p is = []

@@ -1,0 +1,6 @@
+pub mod Pairs
+pub mod Numbers
+pub mod Clauses
+pub mod Needed
+pub mod Sound
+pub mod Errors

@@ -1,0 +1,61 @@
+//! The numbers of atoms.
+ghost use Rattle.std.specs.Prelude.{◌≡◌, ◌<◌, ◌≤◌, ◌^◌, [], ◌∷◌, length, Contains, IfOk, IfErr, OnOk};
+ghost use Rattle.smt_meaning.specs.declared.clauses.Atom.TheVariants.{Truth, AtMost};
+ghost use Rattle.order_clauses.specs.Pairs.{same_atom};
+ghost use Rattle.order_clauses.specs.Numbers.{number_in};
+ghost use Rattle.order_clauses.specs.Clauses.{truth_number, same_number};
+
+use crate::error::PartError;
+use crate::pairs::Pair;
+use atom_numbers::AtomNumbers;
+use atom_table::CompactAtom;
+use smt_meaning::{Summand, TermId};
+
+/// The number of the truth of a term, or `Missing`.
+pub(crate) fn find_truth(atoms: &AtomNumbers, place: TermId) -> Result<u32, PartError>
+    ensures number { IfOk result (λ n. n ≡ truth_number atoms.now.atoms place) }
+    ensures few { IfOk result (λ n. n < 2 ^ 31) }
+    ensures has { OnOk result (Contains atoms.now.atoms (Truth place)) }
+    ensures err { IfErr result (λ e. (e ≡ PartError.Missing) × (Contains atoms.now.atoms (Truth place) → ⊥)) }
+{
+    atoms.are_few();
+    atoms.are_apart();
+    match atoms.find(CompactAtom::Truth(place)) {
+        Some(number) => Ok(number),
+        None => Err(PartError::Missing),
+    }
+}
+
+/// The number of the equality of two terms, or `Missing`.
+pub(crate) fn find_same(atoms: &AtomNumbers, pair: Pair) -> Result<u32, PartError>
+    ensures number { IfOk result (λ n. n ≡ same_number atoms.now.atoms pair) }
+    ensures few { IfOk result (λ n. n < 2 ^ 31) }
+    ensures has { OnOk result (Contains atoms.now.atoms (same_atom pair)) }
+    ensures err { IfErr result (λ e. (e ≡ PartError.Missing) × (Contains atoms.now.atoms (same_atom pair) → ⊥)) }
+{
+    atoms.are_few();
+    atoms.are_apart();
+    match atoms.find(CompactAtom::Same(pair.left, pair.right)) {
+        Some(number) => Ok(number),
+        None => Err(PartError::Missing),
+    }
+}
+
+/// The number of the bound that a sum is at most a threshold, or `Missing`.
+pub(crate) fn find_bound(
+    atoms: &AtomNumbers,
+    sum: &[Summand],
+    threshold: i128,
+) -> Result<u32, PartError>
+    ensures number { IfOk result (λ n. n ≡ number_in atoms.now.atoms (AtMost sum.now threshold)) }
+    ensures few { IfOk result (λ n. n < 2 ^ 31) }
+    ensures has { OnOk result (Contains atoms.now.atoms (AtMost sum.now threshold)) }
+    ensures err { IfErr result (λ e. (e ≡ PartError.Missing) × (Contains atoms.now.atoms (AtMost sum.now threshold) → ⊥)) }
+{
+    atoms.are_few();
+    atoms.are_apart();
+    match atoms.find_bound(sum, threshold) {
+        Some(number) => Ok(number),
+        None => Err(PartError::Missing),
+    }
+}
