@@ -1,0 +1,16 @@
+//! Laws on literals told, as contracts of functions that do nothing.
+ghost use Rattle.bound_log.specs.Values.{BoundsAreTold, WholesHold};
+
+use sum_bounds::wholes_meet;
+
+/// Each literal told whose atom bounds a sum is told as a bound on the variable of the sum.
+pub fn bounds_are_told()
+    ensures { BoundsAreTold }
+{}
+
+/// Where the terms' values are whole numbers that meet all bounds told, each literal told of a bound is true of these numbers.
+pub fn wholes_hold()
+    ensures { WholesHold }
+{
+    wholes_meet();
+}
