@@ -1,0 +1,155 @@
+-- What places are given, one after another, can be given.
+use Rattle.std.proofs.Common.{◌≡◌, ℕ, ◌+◌, ◌<◌, ◌≤◌, Bool, true, false, List, [], ◌∷◌, ◌++◌, length, map, All, refl, sym, ap, subst, ◌∙◌, inl, inr, arith}
+use Rattle.std.specs.Prelude.{◌⊎◌, ℤ, Some, slice_index_or}
+use Rattle.std.proofs.lemmas.Bool.{cases_lt}
+use Rattle.std.proofs.lemmas.List.{get_or_past, get_or_push, get_or_append_left}
+use Rattle.std.proofs.lemmas.List.Elements.{All-nil, All-cons, All-head, All-tail, All-weaker}
+use Rattle.smt_meaning.specs.declared.values.Sort.{Sort}
+use Rattle.smt_meaning.specs.declared.values.Sort.TheVariants.{Bool as Truths, Int as Ints}
+use Rattle.smt_meaning.specs.declared.terms.Head.{Head}
+use Rattle.smt_meaning.specs.Declaration.{Declaration}
+use Rattle.smt_meaning.specs.Term.{Tree, Trees, node, tree_at}
+use Rattle.smt_meaning.specs.Parts.{IsArgument, StandsBelow, AreInOrder}
+use Rattle.smt_meaning.specs.Signature.{tree_sort}
+use Rattle.term_store.specs.Terms.{AreDifferent}
+use Rattle.model_build.specs.declared.given.Given.{Given}
+use Rattle.model_build.specs.declared.given.Given.TheVariants.{Unmarked, InRange, PastRange}
+use Rattle.model_build.specs.Given.{given_at, is_marked, is_past, arguments_of, givens, IsApplication}
+use Rattle.model_build.specs.Building.{is_given_of, IsGivenOf, AreGiven}
+use Rattle.model_build.proofs.Reading.{givens-pick}
+use Rattle.stack_atoms.specs.Parts.{IsMarked}
+use Rattle.stack_atoms.proofs.Places.{Picked, picked}
+use Rattle.scope_stack.specs.Facts.{AreSorts}
+use Rattle.value_model.specs.Parts.{AreSortedParts}
+use Rattle.value_model.specs.WorkedOut.{is_worked_out, worked_out, IsWorkedOut, AreWorkedOut}
+use Rattle.value_model.specs.Values.{chosen, AllWorkedOut, IsNextWorkedOut, GiveChosen, IsPlaceGiven, AllGiven}
+
+marked_given : (g : Given) (s : Sort) → is_given_of g s ≡ true → is_marked g ≡ true
+marked_given Unmarked s h = absurd cc
+marked_given (InRange v) s h = refl
+marked_given PastRange s h = refl
+
+mark_within : (marks : List Bool) (p : ℕ) → IsMarked marks p → p < length marks
+mark_within marks p m = by (cases_lt p (length marks))
+  where
+    by : (p < length marks) ⊎ (length marks ≤ p) → p < length marks
+    by (inl h) = h
+    by (inr h) = let e : slice_index_or marks p false ≡ false = get_or_past marks p false h in absurd cc
+
+-- the arguments of a tree that stands in a list in order, by their places
+pub arguments_picked : (trees : List Tree) (order : AreInOrder trees) (p : ℕ) (h : Head) (us : Trees) → p < length trees → tree_at trees p ≡ node h us → Picked trees us
+arguments_picked trees order p h us less e =
+    picked trees us (λ u c. (
+    let b : StandsBelow trees p u = order.after_arguments p u less (subst (IsArgument u) (sym e) c) in
+    (b.0, b.2, b.3)
+    ))
+
+module _ (ds : List Declaration) (trees : List Tree) (marks : List Bool) (sorts : List Sort) (ts : List Bool) (ns : List ℤ) (es : List ℕ) where
+  pub all_pushed : (k : ℕ) (gs : List Given) (g : Given) → length gs ≡ k → AllGiven trees marks sorts ts ns es k gs → IsPlaceGiven trees marks sorts ts ns es k g
+      → AllGiven trees marks sorts ts ns es (k + 1) (gs ++ g ∷ [])
+  all_pushed k gs g size each here p less = by (cases_lt p k)
+    where
+      by : (p < k) ⊎ (k ≤ p) → IsPlaceGiven trees marks sorts ts ns es p (given_at (gs ++ g ∷ []) p)
+      by (inl h) = subst (IsPlaceGiven trees marks sorts ts ns es p) (sym (get_or_append_left gs (g ∷ []) Unmarked p (omega arith))) (each p h)
+      by (inr h) =
+          let e : p ≡ k = omega arith in
+          subst (IsPlaceGiven trees marks sorts ts ns es p) (sym (get_or_push gs g Unmarked p (size ∙ sym e))) (subst (λ q. IsPlaceGiven trees marks sorts ts ns es q g) (sym e) here)
+
+  module _ (gs : List Given) (size : length gs ≡ length trees) (each : AllGiven trees marks sorts ts ns es (length trees) gs) (parts : AreSortedParts ds trees marks)
+      (are : AreSorts ds trees (length trees) sorts) (order : AreInOrder trees) where
+    within : (p : ℕ) → IsMarked marks p → p < length trees
+    within p m = subst (λ n. p < n) parts.size (mark_within marks p m)
+
+    mark_of : (p : ℕ) → p < length trees → is_marked (given_at gs p) ≡ true → IsMarked marks p
+    mark_of p less m = by (slice_index_or marks p false) refl
+      where
+        by : (b : Bool) → slice_index_or marks p false ≡ b → IsMarked marks p
+        by true h = h
+        by false h = let k : is_marked (given_at gs p) ≡ false = ap is_marked ((each p less).unmarked h) in absurd cc
+
+    marked : (p : ℕ) → IsMarked marks p → is_marked (given_at gs p) ≡ true
+    marked p m = marked_given (given_at gs p) (slice_index_or sorts p Truths) ((each p (within p m)).sorted m)
+
+    sort_kept : (p : ℕ) (s : Sort) → IsMarked marks p → tree_sort ds (tree_at trees p) ≡ Some s → slice_index_or sorts p Truths ≡ s
+    sort_kept p s m has = are.each p s (within p m) has
+
+    given_sorted : (p : ℕ) → IsMarked marks p → IsGivenOf (given_at gs p) (tree_sort ds (tree_at trees p))
+    given_sorted p m =
+        let s = parts.sorted p m in
+        subst (IsGivenOf (given_at gs p)) (sym s.1) (subst (λ r. is_given_of (given_at gs p) r ≡ true) (sort_kept p s.0 m s.1) ((each p (within p m)).sorted m))
+
+    all_marked : (is : List ℕ) → All (IsMarked marks) is → All (λ g. is_marked g ≡ true) (map (given_at gs) is)
+    all_marked [] h = All-nil (λ g. is_marked g ≡ true)
+    all_marked (i ∷ is) h =
+        All-cons (λ g. is_marked g ≡ true) (given_at gs i) (map (given_at gs) is) (marked i (All-head (IsMarked marks) i is h)) (all_marked is (All-tail (IsMarked marks) i is h))
+
+    different : AreDifferent trees
+    different j k l h e = let same : j ≡ k = order.different j k (omega arith) h e in omega arith
+
+    arguments_marked : (p : ℕ) (h : Head) (us : Trees) → p < length trees → IsMarked marks p → tree_at trees p ≡ node h us → All (λ g. is_marked g ≡ true) (givens trees gs us)
+    arguments_marked p h us less m e =
+        let a = arguments_picked trees order p h us less e in
+        subst (λ vs. All (λ g. is_marked g ≡ true) (givens trees gs vs)) a.are
+        (subst (All (λ g. is_marked g ≡ true)) (sym (givens-pick trees gs a.places different a.within))
+        (all_marked a.places (parts.closed p h a.places m (e ∙ ap (node h) (sym a.are)) a.within)))
+
+    closed : (p : ℕ) (t : Tree) → p < length trees → IsMarked marks p → tree_at trees p ≡ t → All (λ g. is_marked g ≡ true) (givens trees gs (arguments_of t))
+    closed p (node h us) less m e = arguments_marked p h us less m e
+
+    pub give_chosen : GiveChosen ds trees marks ts ns es gs
+    give_chosen p s m has plain = (each p (within p m)).is_chosen m plain ∙ ap (λ r. InRange (chosen ts ns es r p)) (sort_kept p s m has)
+
+    application_inside : (f p : ℕ) → IsApplication trees gs f p → is_past (given_at gs p) ≡ false
+    application_inside f p a = ap is_past ((each p a.within).is_chosen (mark_of p a.within a.marked) (ap is_worked_out a.symbol))
+
+    pub are_given : AreGiven ds trees gs
+    are_given = record {
+      size = size;
+      sorts = λ p less m. given_sorted p (mark_of p less m);
+      closed = λ p less m. closed p (tree_at trees p) less (mark_of p less m) refl;
+      applications = application_inside;
+    }
+
+-- ---- what is worked out
+
+pub given_before : (gs : List Given) (g : Given) (k : ℕ) (is : List ℕ) → length gs ≡ k → All (λ i. i < k) is → map (given_at (gs ++ g ∷ [])) is ≡ map (given_at gs) is
+given_before gs g k [] size below = refl
+given_before gs g k (i ∷ is) size below =
+    let less : i < k = All-head (λ j. j < k) i is below in
+    ap (λ x. x ∷ map (given_at (gs ++ g ∷ [])) is) (get_or_append_left gs (g ∷ []) Unmarked i (omega arith)) ∙ ap (λ xs. given_at gs i ∷ xs) (given_before gs g k is size (All-tail (λ j. j < k) i is below))
+
+module _ (trees : List Tree) (marks : List Bool) (sorts : List Sort) where
+  worked_before : (k p : ℕ) (gs : List Given) (g : Given) → length gs ≡ k → p < k → IsWorkedOut trees gs p → IsWorkedOut trees (gs ++ g ∷ []) p
+  worked_before k p gs g size less w = record {
+    head = w.head;
+    arguments = w.arguments;
+    tree = w.tree;
+    earlier = w.earlier;
+    is_made = λ h. get_or_append_left gs (g ∷ []) Unmarked p (omega arith) ∙ w.is_made h
+        ∙ ap (worked_out w.head) (sym (given_before gs g k w.arguments size (All-weaker (λ i. i < p) (λ i. i < k) (λ i below. omega arith) w.arguments w.earlier)));
+  }
+
+  worked_here : (p : ℕ) (gs : List Given) (g : Given) → length gs ≡ p → IsNextWorkedOut trees gs p g → IsWorkedOut trees (gs ++ g ∷ []) p
+  worked_here p gs g size w = record {
+    head = w.head;
+    arguments = w.arguments;
+    tree = w.tree;
+    earlier = w.earlier;
+    is_made = λ h. get_or_push gs g Unmarked p size ∙ w.is_made h ∙ ap (worked_out w.head) (sym (given_before gs g p w.arguments size w.earlier));
+  }
+
+  pub worked_out_pushed : (k : ℕ) (gs : List Given) (g : Given) → length gs ≡ k → AllWorkedOut trees marks sorts k gs
+      → (IsMarked marks k → slice_index_or sorts k Truths ≡ Ints → IsNextWorkedOut trees gs k g) → AllWorkedOut trees marks sorts (k + 1) (gs ++ g ∷ [])
+  worked_out_pushed k gs g size each here p less m int = by (cases_lt p k)
+    where
+      by : (p < k) ⊎ (k ≤ p) → IsWorkedOut trees (gs ++ g ∷ []) p
+      by (inl h) = worked_before k p gs g size h (each p h m int)
+      by (inr h) =
+          let e : p ≡ k = omega arith in
+          worked_here p gs g (size ∙ sym e) (subst (λ q. IsNextWorkedOut trees gs q g) (sym e) (here (subst (IsMarked marks) e m) (subst (λ q. slice_index_or sorts q Truths ≡ Ints) e int)))
+
+pub are_worked_out : (ds : List Declaration) (trees : List Tree) (marks : List Bool) (sorts : List Sort) (gs : List Given) → AllWorkedOut trees marks sorts (length trees) gs
+    → length marks ≡ length trees → AreSorts ds trees (length trees) sorts → AreWorkedOut ds trees marks gs
+are_worked_out ds trees marks sorts gs each size are p m has =
+    let less : p < length trees = subst (λ n. p < n) size (mark_within marks p m) in
+    each p less m (are.each p Ints less has)

@@ -1,0 +1,4 @@
+pub mod Parts
+pub mod WorkedOut
+pub mod Values
+pub mod Modelled
