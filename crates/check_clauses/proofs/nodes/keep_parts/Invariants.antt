@@ -1,0 +1,10 @@
+use Rattle.std.proofs.Common.{◌≡◌}
+use Rattle.part_clauses.specs.First.{IsBegun}
+use Rattle.check_clauses.specs.First.{reading_of}
+use Rattle.check_clauses.proofs.nodes.keep_parts.Given as goal
+
+abbrev pub invariant-loop-place : goal.invariant-loop-place
+invariant-loop-place l = record {
+  begun : IsBegun (reading_of l.stack l.atoms.atoms) l.store;
+  same : l.forms ≡ l.fn.forms;
+}
