@@ -1,7 +1,6 @@
 -- The assertions are numbered, and a store that knows the atoms and nothing else begins.
-use Rattle.std.proofs.Common.{◌≡◌, ℕ, ◌<◌, Bool, List, [], length, get_or, All, Contains, Some, subst, sym, ap, ◌∙◌, refl, arith}
-use Rattle.std.proofs.lemmas.List.Elements.{All-nil, All-contains}
-use Rattle.clause_store.specs.Stored.{Kept, Stored}
+use Rattle.std.proofs.Common.{◌≡◌, ℕ, ◌<◌, Bool, List, length, get_or, All, Contains, Some, subst}
+use Rattle.std.proofs.lemmas.List.Elements.{All-contains}
 use Rattle.smt_meaning.specs.declared.values.Sort.TheVariants.{Bool as Truths}
 use Rattle.smt_meaning.specs.declared.clauses.Atom.{Atom}
 use Rattle.smt_meaning.specs.declared.clauses.Atom.TheVariants.{Truth}
@@ -12,12 +11,10 @@ use Rattle.smt_meaning.specs.StackCommand.{Stack}
 use Rattle.scope_stack.specs.declared.answers.Assertion.{Assertion}
 use Rattle.scope_stack.specs.Shown.{AreAsserted, IsLawful}
 use Rattle.linear_forms.specs.Table.{Known, AreForms}
-use Rattle.search_port.specs.State.{Reading}
 use Rattle.stack_atoms.specs.Parts.{IsMarked}
 use Rattle.stack_atoms.specs.Marks.{AreStackParts}
 use Rattle.stack_atoms.proofs.Marking.{assertion_of_stack}
 use Rattle.check_atoms.specs.OfStack.{AreCheckAtoms}
-use Rattle.part_clauses.specs.First.{IsClause, IsBegun}
 use Rattle.part_clauses.proofs.Keeping.{are_assertions}
 use Rattle.check_clauses.proofs.Parts.{within, truth_numbered}
 

@@ -1,20 +1,19 @@
 -- What the outcome of a search says of the assertions.
-use Rattle.std.proofs.Common.{◌≡◌, ℕ, zero, suc, ◌<◌, Bool, true, false, ◌||◌, List, [], ◌∷◌, ◌++◌, length, All, subst, sym, ap, ◌∙◌, arith, refl}
+use Rattle.std.proofs.Common.{◌≡◌, ℕ, zero, suc, ◌<◌, Bool, true, false, ◌||◌, List, [], ◌∷◌, ◌++◌, length, subst, sym, ap, ◌∙◌, arith, refl}
 use Rattle.std.proofs.lemmas.List.Elements.{All-weaker}
 use Rattle.literals.specs.Signed.{Signed, some_true}
-use Rattle.clause_store.specs.Stored.{Kept, Stored}
+use Rattle.clause_store.specs.Stored.{Kept}
 use Rattle.smt_meaning.specs.declared.clauses.Atom.{Atom}
 use Rattle.smt_meaning.specs.declared.clauses.Atom.TheVariants.{Truth}
 use Rattle.smt_meaning.specs.Term.{Tree, tree_at, Interpretation, value, truth_of}
 use Rattle.smt_meaning.specs.Clause.{atom_true}
 use Rattle.smt_meaning.specs.Interpretation.{Interprets}
-use Rattle.smt_meaning.specs.Stack.{Frame, signature_of, assertions_of, up_to, Holds, Satisfies, HasNoModel, no_model}
+use Rattle.smt_meaning.specs.Stack.{Frame, signature_of, assertions_of, up_to, Holds, Satisfies, no_model}
 use Rattle.smt_meaning.specs.StackCommand.{Stack}
 use Rattle.search_port.specs.State.{Reading, IsGrown, atom_at, truth}
-use Rattle.search_port.specs.Valid.{FollowsAt}
 use Rattle.flat_stack.specs.Flat.{flat, FlatSaysTheSame}
 use Rattle.part_clauses.specs.First.{unit, IsAsserted}
-use Rattle.check_clauses.specs.First.{reading_of, IsFirst}
+use Rattle.check_clauses.specs.First.{reading_of}
 use Rattle.check_clauses.specs.Laws.{MakesTrue, FirstClausesSayAssertions, SignatureStays, EmptyClauseMeansNoModel}
 
 -- ---- the reading grows

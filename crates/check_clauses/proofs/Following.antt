@@ -1,7 +1,7 @@
 -- The clauses of parts and of assertions follow.
 use Rattle.std.proofs.Common.{◌≡◌, ℕ, zero, suc, ◌<◌, Bool, true, false, not, ◌||◌, List, [], ◌∷◌, ◌++◌, map, length, All, Contains, Some, slice_index_or, subst, sym, ap, ◌∙◌, arith, refl}
 use Rattle.std.proofs.lemmas.List.Elements.{All-nil, All-cons, All-head, All-tail, All-weaker, All-contains, All-same}
-use Rattle.literals.specs.Signed.{Signed, opposite, some_true}
+use Rattle.literals.specs.Signed.{Signed, opposite}
 use Rattle.smt_meaning.specs.declared.values.Value.{Value}
 use Rattle.smt_meaning.specs.declared.values.Value.TheVariants.{Truth as TruthValue, Whole, Element}
 use Rattle.smt_meaning.specs.declared.values.Sort.TheVariants.{Bool as Truths}

@@ -3,3 +3,4 @@ pub mod Shaped
 pub mod Parts
 pub mod Asserting
 pub mod Deciding
+pub mod Keeping

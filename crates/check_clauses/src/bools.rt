@@ -1,5 +1,6 @@
 //! Nodes of Bools.
-ghost use Rattle.std.specs.Prelude.{◌≡◌, ◌<◌, length, true, All, Contains, OnOk, ◌∷◌, Some};
+ghost use Rattle.std.specs.Prelude.{◌≡◌, ◌<◌, length, true, false, All, Contains, OnOk, ◌∷◌, Some};
+ghost use Rattle.clause_store.specs.Stored.{Kept};
 ghost use Rattle.smt_meaning.specs.declared.values.Sort.TheVariants.{Bool as Truths};
 ghost use Rattle.smt_meaning.specs.declared.clauses.Atom.TheVariants.{Truth};
 ghost use Rattle.smt_meaning.specs.declared.terms.Head.TheVariants.{Theory};
@@ -12,7 +13,7 @@ ghost use Rattle.search_port.specs.Valid.{IsOf};
 ghost use Rattle.order_clauses.specs.Clauses.{sort_at};
 ghost use Rattle.part_clauses.specs.First.{IsBegun};
 ghost use Rattle.part_clauses.specs.Numbers.{AreNumbers};
-ghost use Rattle.check_clauses.specs.First.{reading_of};
+ghost use Rattle.check_clauses.specs.First.{reading_of, AreBools, HasTruths};
 
 use crate::keep::keep_all;
 use atom_numbers::AtomNumbers;
@@ -44,9 +45,10 @@ impl Space {
 }
 
 /// Whether the term at this place is a Bool.
-pub(crate) fn is_bool(sorts: &[Sort], place: TermId) -> bool
+fn is_bool(sorts: &[Sort], place: TermId) -> bool
     requires { place < length sorts.now }
-    ensures { result ≡ true → sort_at sorts.now place ≡ Truths }
+    ensures yes { result ≡ true → sort_at sorts.now place ≡ Truths }
+    ensures no { result ≡ false → sort_at sorts.now place ≡ Truths → ⊥ }
 {
     match sorts[place as usize] {
         Sort::Bool => true,
@@ -56,9 +58,10 @@ pub(crate) fn is_bool(sorts: &[Sort], place: TermId) -> bool
 }
 
 /// Whether the terms at these places are Bools.
-pub(crate) fn are_bools(sorts: &[Sort], places: &[TermId]) -> bool
+fn all_are_bools(sorts: &[Sort], places: &[TermId]) -> bool
     requires { All (λ i. i < length sorts.now) places.now }
-    ensures { result ≡ true → All (λ i. sort_at sorts.now i ≡ Truths) places.now }
+    ensures yes { result ≡ true → AreBools sorts.now places.now }
+    ensures no { result ≡ false → AreBools sorts.now places.now → ⊥ }
 {
     for place in places {
         if !is_bool(sorts, *place) {
@@ -66,6 +69,19 @@ pub(crate) fn are_bools(sorts: &[Sort], places: &[TermId]) -> bool
         }
     }
     true
+}
+
+/// Whether a term and its arguments are Bools.
+pub(crate) fn are_bools(sorts: &[Sort], place: TermId, arguments: &[TermId]) -> bool
+    requires place { place < length sorts.now }
+    requires arguments { All (λ i. i < length sorts.now) arguments.now }
+    ensures yes { result ≡ true → AreBools sorts.now (place ∷ arguments.now) }
+    ensures no { result ≡ false → AreBools sorts.now (place ∷ arguments.now) → ⊥ }
+{
+    if !is_bool(sorts, place) {
+        return false;
+    }
+    all_are_bools(sorts, arguments)
 }
 
 /// The numbers of the truths of these terms.
@@ -104,6 +120,8 @@ pub(crate) fn keep_bools(
     requires earlier { All (λ i. i < place) arguments.now }
     requires begun { IsBegun (reading_of stack.now atoms.now.atoms) store.old }
     ensures begun { OnOk result (IsBegun (reading_of stack.now atoms.now.atoms) store.new) }
+    ensures stay { (c : Kept) → Contains store.old.clauses c → Contains store.new.clauses c }
+    ensures has { OnOk result (HasTruths atoms.now.atoms store.new.clauses place operator arguments.now) }
 {
     node_clauses_hold();
     value_has_its_sort();

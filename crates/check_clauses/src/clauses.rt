@@ -10,7 +10,7 @@ ghost use Rattle.linear_forms.specs.Table.{AreForms};
 ghost use Rattle.stack_atoms.specs.Marks.{AreStackParts};
 ghost use Rattle.check_atoms.specs.OfStack.{AreCheckAtoms};
 ghost use Rattle.part_clauses.specs.First.{IsAsserted, IsBegun};
-ghost use Rattle.check_clauses.specs.First.{reading_of, IsFirst, IsRefused};
+ghost use Rattle.check_clauses.specs.First.{reading_of, IsFirst, IsRefused, HasParts};
 
 use crate::error::FirstError;
 use crate::keep::keep;
@@ -83,6 +83,7 @@ pub fn check_clauses(
     requires atoms { AreCheckAtoms stack.now parts.old.marks.items parts.old.atoms.atoms }
     requires forms { AreForms stack.now.trees parts.old.forms }
     ensures first { IfOk result (IsFirst stack.now parts.old.atoms.atoms) }
+    ensures parts { IfOk result (λ store. HasParts stack.now parts.old.marks.items sorts.now parts.old.atoms.atoms store.clauses) }
     ensures refused { IfErr result (IsRefused stack.now parts.old.marks.items sorts.now parts.old.atoms.atoms) }
     ensures same { parts.new ≡ parts.old }
 {

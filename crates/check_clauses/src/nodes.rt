@@ -1,5 +1,7 @@
 //! The clauses of the parts.
-ghost use Rattle.std.specs.Prelude.{◌≡◌, ◌<◌, ◌∷◌, true, List, length, All, OnOk, IfErr};
+ghost use Rattle.std.specs.Prelude.{◌≡◌, ◌<◌, ◌∷◌, true, List, length, All, Contains, OnOk, IfErr};
+ghost use Rattle.clause_store.specs.Stored.{Kept};
+ghost use Rattle.order_clauses.specs.Clauses.{part_clauses_of};
 ghost use Rattle.smt_meaning.specs.declared.terms.Head.TheVariants.{Theory};
 ghost use Rattle.smt_meaning.specs.Term.{Tree, tree_at};
 ghost use Rattle.smt_meaning.specs.TreeShape.{is_linear};
@@ -14,11 +16,11 @@ ghost use Rattle.check_atoms.specs.OfStack.{IsNode, AreCheckAtoms};
 ghost use Rattle.order_clauses.specs.Needed.{orders_of_part, atoms_of_part};
 ghost use Rattle.order_clauses.specs.Sound.{HasSort};
 ghost use Rattle.order_clauses.specs.Errors.{IsCause};
-ghost use Rattle.part_clauses.specs.First.{IsBegun};
-ghost use Rattle.check_clauses.specs.First.{reading_of, IsRefused};
+ghost use Rattle.part_clauses.specs.First.{IsBegun, HasClause};
+ghost use Rattle.check_clauses.specs.First.{reading_of, IsRefused, HasPart, HasPartAt, HasParts};
 ghost use Rattle.check_clauses.specs.Shapes.{AreFlags};
 
-use crate::bools::{Space as BoolSpace, are_bools, is_bool, keep_bools};
+use crate::bools::{Space as BoolSpace, are_bools, keep_bools};
 use crate::error::FirstError;
 use crate::keep::keep_all;
 use crate::shapes::linear_terms;
@@ -62,6 +64,8 @@ fn keep_compared(
     requires readable { All (IsReadable trees) (place ∷ arguments.now) }
     requires begun { IsBegun (reading_of stack.now atoms.now.atoms) store.old }
     ensures begun { OnOk result (IsBegun (reading_of stack.now atoms.now.atoms) store.new) }
+    ensures stay { (c : Kept) → Contains store.old.clauses c → Contains store.new.clauses c }
+    ensures has { OnOk result (All (HasClause store.new.clauses) (part_clauses_of sorts.now trees atoms.now.atoms operator place arguments.now)) }
     ensures cause { IfErr result (λ e. IsCause trees atoms.now.atoms (orders_of_part sorts.now operator place arguments.now) (atoms_of_part sorts.now trees operator place arguments.now) e) }
     ensures same { forms.new ≡ forms.old }
 {
@@ -104,11 +108,13 @@ fn keep_node(
     requires earlier { All (λ i. i < place) arguments.now }
     requires begun { IsBegun (reading_of stack.now atoms.now.atoms) store.old }
     ensures begun { OnOk result (IsBegun (reading_of stack.now atoms.now.atoms) store.new) }
+    ensures stay { (c : Kept) → Contains store.old.clauses c → Contains store.new.clauses c }
+    ensures has { OnOk result (HasPart stack.now sorts.now atoms.now.atoms store.new.clauses place operator arguments.now) }
     ensures err { IfErr result (IsRefused stack.now marks.now sorts.now atoms.now.atoms) }
     ensures same { forms.new ≡ forms.old }
 {
     stack.laws();
-    if is_bool(sorts, place) && are_bools(sorts, arguments) {
+    if are_bools(sorts, place, arguments) {
         keep_bools(
             stack,
             atoms,
@@ -148,9 +154,12 @@ fn keep_place(
     requires within { place < length stack.now.trees }
     requires begun { IsBegun (reading_of stack.now atoms.now.atoms) store.old }
     ensures begun { OnOk result (IsBegun (reading_of stack.now atoms.now.atoms) store.new) }
+    ensures stay { (c : Kept) → Contains store.old.clauses c → Contains store.new.clauses c }
+    ensures has { OnOk result (HasPartAt stack.now marks.now sorts.now atoms.now.atoms store.new.clauses place) }
     ensures err { IfErr result (IsRefused stack.now marks.now sorts.now atoms.now.atoms) }
     ensures same { forms.new ≡ forms.old }
 {
+    stack.laws();
     if !marks[place as usize] {
         return Ok(());
     }
@@ -171,7 +180,9 @@ fn keep_place(
             operator,
             node.arguments,
         ),
-        _ => Ok(()),
+        Head::Numeral(_) => Ok(()),
+        Head::Symbol(_) => Ok(()),
+        Head::Place(_) => Ok(()),
     }
 }
 
@@ -191,6 +202,7 @@ pub(crate) fn keep_parts(
     requires forms { AreForms stack.now.trees forms.old }
     requires begun { IsBegun (reading_of stack.now atoms.now.atoms) store.old }
     ensures begun { OnOk result (IsBegun (reading_of stack.now atoms.now.atoms) store.new) }
+    ensures has { OnOk result (HasParts stack.now marks.now sorts.now atoms.now.atoms store.new.clauses) }
     ensures err { IfErr result (IsRefused stack.now marks.now sorts.now atoms.now.atoms) }
     ensures same { forms.new ≡ forms.old }
 {

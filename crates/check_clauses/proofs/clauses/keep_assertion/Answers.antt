@@ -1,6 +1,5 @@
 use Rattle.std.proofs.Common.{[], ◌∷◌, subst, sym, refl}
 use Rattle.literals.specs.Signed.{Signed}
-use Rattle.clause_store.specs.Stored.{Kept}
 use Rattle.smt_meaning.specs.declared.clauses.Atom.TheVariants.{Truth}
 use Rattle.smt_meaning.specs.Term.{tree_at}
 use Rattle.search_port.specs.State.{Reading}
