@@ -58,9 +58,6 @@ head_of h k ts us e = cc
 theory_of : (o q : Operator) → Theory o ≡ Theory q → o ≡ q
 theory_of o q e = cc
 
-
-
-
 pub heads_same : (trees : List Tree) (p : ℕ) (h k : Head) (is js : List ℕ) → tree_at trees p ≡ tree_with trees h is → tree_at trees p ≡ tree_with trees k js → h ≡ k
 heads_same trees p h k is js e f = head_of h k (pick trees is) (pick trees js) (sym e ∙ f)
 
