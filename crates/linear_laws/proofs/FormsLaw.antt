@@ -1,16 +1,17 @@
 -- The form of a term is in the range, where its numerals are and its folding stays there.
-use Rattle.std.proofs.Common.{◌≡◌, zero, suc, ◌^◌, List, [], ◌∷◌, ap, ◌∙◌, refl, true, nat_lt, arith}
-use Rattle.std.specs.Prelude.{ℤ, pos, negsuc, ◌*ℤ◌, neg_ℤ, unsigned_abs}
+use Rattle.std.proofs.Common.{◌≡◌, ℕ, zero, suc, ◌^◌, List, [], ◌∷◌, All, ap, ◌∙◌, refl, true, nat_lt, arith}
+use Rattle.std.specs.Prelude.{IsTrue, ℤ, pos, negsuc, ◌*ℤ◌, neg_ℤ, unsigned_abs}
+use Rattle.std.proofs.lemmas.List.Elements.{All-head, All-tail}
 use Rattle.number_meaning.specs.Whole.{is_in_range}
 use Rattle.smt_meaning.specs.declared.clauses.Summand.{Summand}
 use Rattle.smt_meaning.specs.declared.terms.Operator.TheVariants.{Add, Subtract, Multiply}
 use Rattle.smt_meaning.specs.declared.terms.Head.{Head}
 use Rattle.smt_meaning.specs.declared.terms.Head.TheVariants.{Numeral, Theory, Symbol, Place}
-use Rattle.smt_meaning.specs.Term.{node}
+use Rattle.smt_meaning.specs.Term.{Tree, node, tree_at}
 use Rattle.smt_meaning.specs.Linear.{Form, each_times, form_times, form_plus, form_minus, form_product, fold_forms, folded, difference_form, head_form, leaf_form, linear_forms, sum_fits, form_fits, folds_fit, folded_fits, head_folding_fits, foldings_fit}
 use Rattle.term_laws.proofs.Both.{and_left, and_right, and_both}
-use Rattle.linear_laws.specs.Numerals.{head_in_range, all_numerals_fit}
-use Rattle.linear_laws.specs.Laws.{FoldedFormsFit}
+use Rattle.linear_laws.specs.Numerals.{head_in_range, numerals_fit, all_numerals_fit}
+use Rattle.linear_laws.specs.Laws.{FoldedFormsFit, PlacedFormsFit}
 
 -- ---- a negated form
 
@@ -68,3 +69,11 @@ pub folded_form_fits : FoldedFormsFit
 folded_form_fits ts (node h us) k e =
     head_fits h (linear_forms ts us) (leaf_form ts (node h us)) (and_left (head_in_range h) (all_numerals_fit us) k)
     (and_right (foldings_fit ts us) (head_folding_fits h (linear_forms ts us)) e) refl
+
+numerals_at : (ts : List Tree) (p : ℕ) → All (λ (t : Tree). IsTrue (numerals_fit t)) ts → IsTrue (numerals_fit (tree_at ts p))
+numerals_at [] p h = refl
+numerals_at (t ∷ ts) zero h = All-head (λ (u : Tree). IsTrue (numerals_fit u)) t ts h
+numerals_at (t ∷ ts) (suc p) h = numerals_at ts p (All-tail (λ (u : Tree). IsTrue (numerals_fit u)) t ts h)
+
+pub placed_form_fits : PlacedFormsFit
+placed_form_fits ts p h e = folded_form_fits ts (tree_at ts p) (numerals_at ts p h) e

@@ -1,7 +1,7 @@
 -- Laws of what the judgement of terms lets through: linear terms alone, and numerals of the range.
-use Rattle.std.specs.Prelude.{List, All, IsTrue}
+use Rattle.std.specs.Prelude.{ℕ, List, All, IsTrue}
 use Rattle.smt_meaning.specs.declared.commands.Command.{Command}
-use Rattle.smt_meaning.specs.Term.{Tree}
+use Rattle.smt_meaning.specs.Term.{Tree, tree_at}
 use Rattle.smt_meaning.specs.TreeShape.{is_among, is_linear}
 use Rattle.smt_meaning.specs.Parts.{IsPart}
 use Rattle.smt_meaning.specs.Linear.{leaves, linear_form, form_fits, folding_fits}
@@ -34,3 +34,8 @@ NumeralsAreInRange = (cs : List Command) → All (λ (t : Tree). IsTrue (numeral
 -- a term whose numerals are in the range, and whose folding stays there, has a form in the range
 abbrev pub FoldedFormsFit : Type 0
 FoldedFormsFit = (ts : List Tree) (t : Tree) → IsTrue (numerals_fit t) → IsTrue (folding_fits ts t) → IsTrue (form_fits (linear_form ts t))
+
+-- so has the term at a place of a list of such terms
+abbrev pub PlacedFormsFit : Type 0
+PlacedFormsFit =
+    (ts : List Tree) (p : ℕ) → All (λ (t : Tree). IsTrue (numerals_fit t)) ts → IsTrue (folding_fits ts (tree_at ts p)) → IsTrue (form_fits (linear_form ts (tree_at ts p)))

@@ -1,7 +1,7 @@
 //! Laws of what the judgement of terms lets through, each as the contract of a function that does nothing.
 #![tactic(auto)]
 
-ghost use Rattle.linear_laws.specs.Laws.{AssertionsAreLinear, FoldedFormsFit, LeavesAreAmongTheTrees, LeavesAreParts, NumeralsAreInRange, TreesAreLinear};
+ghost use Rattle.linear_laws.specs.Laws.{AssertionsAreLinear, FoldedFormsFit, LeavesAreAmongTheTrees, LeavesAreParts, NumeralsAreInRange, PlacedFormsFit, TreesAreLinear};
 
 use sort_laws::parts_are_among_the_trees;
 
@@ -37,4 +37,9 @@ pub fn numerals_are_in_range()
 /// The form of a term is in the range, where its numerals are and its folding stays there.
 pub fn folded_forms_fit()
     ensures { FoldedFormsFit }
+{}
+
+/// The form of the term at a place is in the range, where the numerals of all terms are and its folding stays there.
+pub fn placed_forms_fit()
+    ensures { PlacedFormsFit }
 {}
