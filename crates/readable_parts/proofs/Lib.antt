@@ -1,1 +1,2 @@
 mod Readable
+mod Places

@@ -11,7 +11,7 @@ use Rattle.smt_meaning.specs.StackCommand.{start, after_all}
 use Rattle.linear_laws.specs.Laws.{AssertionsAreLinear, LeavesAreAmongTheTrees, LeavesAreParts}
 use Rattle.readable_parts.specs.Laws.{PartsAreReadable, LawfulPartsAreReadable}
 
-abbrev IsLinear : Tree → Type 0
+abbrev pub IsLinear : Tree → Type 0
 IsLinear t = IsTrue (is_linear t)
 
 abbrev IsAmong : List Tree → Tree → Type 0
@@ -25,7 +25,7 @@ parts_readable linear among cs p k = record {
       (tree_at (after_all start cs).trees p) k.part;
 }
 
-linear_at : (ts : List Tree) (p : ℕ) → All IsLinear ts → IsLinear (tree_at ts p)
+pub linear_at : (ts : List Tree) (p : ℕ) → All IsLinear ts → IsLinear (tree_at ts p)
 linear_at [] p h = refl
 linear_at (t ∷ ts) zero h = All-head IsLinear t ts h
 linear_at (t ∷ ts) (suc p) h = linear_at ts p (All-tail IsLinear t ts h)
