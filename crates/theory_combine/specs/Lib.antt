@@ -1,5 +1,0 @@
-pub mod Found
-pub mod Held
-pub mod Numbering
-pub mod Pairs
-pub mod Steps
