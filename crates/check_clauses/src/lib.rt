@@ -1,0 +1,14 @@
+//! The first clauses of a search over a stack with integers: those that say of each part what its operator does, and that the assertions are true.
+#![tactic(auto)]
+
+mod bools;
+mod clauses;
+mod error;
+mod keep;
+mod laws;
+mod nodes;
+mod shapes;
+
+pub use clauses::check_clauses;
+pub use error::FirstError;
+pub use laws::{empty_clause_means_no_model, first_clauses_say_assertions, signature_stays};

@@ -1,0 +1,129 @@
+//! The search.
+ghost use Rattle.std.specs.Prelude.{◌≡◌, [], not, map, IfOk};
+ghost use Rattle.scope_stack.specs.declared.answers.Assertion.{Assertion as AssertionOf};
+ghost use Rattle.smt_meaning.specs.Interpretation.{AreTablesFor, meaning};
+ghost use Rattle.smt_meaning.specs.Stack.{signature_of, Holds};
+ghost use Rattle.smt_meaning.specs.Report.{is_unlimited, most_units};
+ghost use Rattle.theory_port.specs.Verdicts.{IsVerdict};
+ghost use Rattle.cdcl_core.specs.Search.{AreAgreed};
+ghost use Rattle.check_clauses.specs.First.{reading_of, IsFirst};
+
+use crate::still::Still;
+use cdcl_core::fresh_stands;
+use cdcl_core::solve::{Outcome, solve};
+use check_clauses::{empty_clause_means_no_model, first_clauses_say_assertions, signature_stays};
+use clause_store::store::Store;
+use model_eval::values;
+use scope_stack::{Assertion, Stack};
+use search_order::Order;
+use search_port::{Budget, Theory};
+use smt_meaning::{Cause, Interp, Report, Seq, Settings, TermId};
+use std::alloc::{AllocError, Global};
+use theory_port::Verdict;
+
+/// The most units of work of a check.
+const MOST_UNITS: u64 = 1 << 40;
+
+/// Whether learnt clauses are units: where there is a limit.
+fn counts_learnt(settings: &Settings) -> bool
+    ensures { result ≡ not (is_unlimited settings.now.units) }
+{
+    settings.units > 0
+}
+
+/// How many units of work a check may spend under the limit in force, of which 0 stands for none.
+fn units_within(settings: &Settings) -> u64
+    ensures { result ≡ most_units settings.now.units }
+{
+    if settings.units <= 0 {
+        return MOST_UNITS;
+    }
+    let units = settings.units.unsigned_abs();
+    if units < 1 << 40 {
+        units as u64
+    } else {
+        MOST_UNITS
+    }
+}
+
+/// The answer that is left where memory is wanting.
+fn unknown(alloc: Global, stack: &Stack, settings: &Settings) -> Result<Verdict, AllocError>
+    ensures { IfOk result (IsVerdict stack.now.trees stack.now.frames settings.now.units) }
+{
+    let mut reports = Seq::new(alloc);
+    let branches = Seq::new(alloc);
+    reports.push(Report {
+        worker: 0,
+        cause: Cause::Memory,
+        branches,
+    })?;
+    Ok(Verdict::Unknown(reports))
+}
+
+/// The places of the assertions.
+fn places_of(alloc: Global, assertions: &[Assertion]) -> Result<Vec<TermId>, AllocError>
+    ensures { IfOk result (λ places. places.items ≡ map (λ (a : AssertionOf). a.term) assertions.now) }
+{
+    let mut places = Vec::new(alloc);
+    for assertion in assertions {
+        places.push(assertion.term)?;
+    }
+    Ok(places)
+}
+
+/// Tables that make the assertions true, if each number on the way is in the range.
+fn model(
+    alloc: Global,
+    stack: &Stack,
+    settings: &Settings,
+    tables: Interp,
+) -> Result<Verdict, AllocError>
+    requires tables { AreTablesFor (signature_of stack.now.frames) tables }
+    requires holds { Holds (meaning tables) stack.now.frames }
+    ensures { IfOk result (IsVerdict stack.now.trees stack.now.frames settings.now.units) }
+{
+    let places = places_of(alloc, stack.assertions())?;
+    match values(alloc, &tables, stack.terms(), &places) {
+        Ok(_) => Ok(Verdict::Sat(tables)),
+        Err(_) => unknown(alloc, stack, settings),
+    }
+}
+
+/// Searches from the first clauses on, with a theory that was told nothing: a model of all of them under which each number is in the range is one of the
+/// assertions, and where the empty clause follows, they have none. Where the search ends otherwise, it is shown as for want of memory. An `Err` is for want of memory.
+pub fn search<T: Theory>(
+    alloc: Global,
+    stack: &Stack,
+    settings: &Settings,
+    theory: &mut T,
+    store: &mut Store,
+) -> Result<Verdict, AllocError>
+    requires first { IsFirst stack.now (T.state theory.old).reading.table store.old }
+    requires reading { (T.state theory.old).reading ≡ reading_of stack.now (T.state theory.old).reading.table }
+    requires untold { (T.state theory.old).log ≡ [] }
+    requires agreed { AreAgreed T.agrees (T.state theory.old).reading store.old.clauses }
+    ensures { IfOk result (IsVerdict stack.now.trees stack.now.frames settings.now.units) }
+{
+    first_clauses_say_assertions();
+    signature_stays();
+    empty_clause_means_no_model();
+    fresh_stands();
+    let mut order = Order::new(alloc, settings.seed, 0);
+    let limit = units_within(settings);
+    let mut budget = Budget::new(alloc, limit, counts_learnt(settings), false, 0);
+    let mut still = Still { alloc, stack };
+    match solve(
+        alloc,
+        &mut order,
+        false,
+        store,
+        theory,
+        &mut budget,
+        &mut still,
+    ) {
+        Outcome::Full(tables) => model(alloc, stack, settings, tables),
+        Outcome::False(_) => Ok(Verdict::Unsat),
+        // Spent units are not shown yet: that each is new to what propagation finds rests on how the first clauses force those of the parts.
+        Outcome::Ended(_) => unknown(alloc, stack, settings),
+    }
+}
