@@ -3,7 +3,7 @@ use Rattle.std.specs.Prelude.{◌≡◌, ℕ, ◌<◌, Bool, true, List, length,
 use Rattle.number_meaning.specs.Whole.{InRange}
 use Rattle.smt_meaning.specs.declared.values.Sort.TheVariants.{Int as Ints}
 use Rattle.smt_meaning.specs.declared.clauses.Atom.{Atom}
-use Rattle.smt_meaning.specs.declared.clauses.Atom.TheVariants.{AtMost}
+use Rattle.smt_meaning.specs.declared.clauses.Atom.TheVariants.{AtMost, Same}
 use Rattle.smt_meaning.specs.Stack.{signature_of}
 use Rattle.smt_meaning.specs.StackCommand.{Stack}
 use Rattle.smt_meaning.specs.Signature.{tree_sort}
@@ -12,6 +12,7 @@ use Rattle.atom_table.specs.Numbers.{IsAt}
 use Rattle.bound_clauses.specs.Laws.{IsReadable}
 use Rattle.bound_log.specs.Growth.{IsProper}
 use Rattle.model_eval.specs.Walk.{is_marked}
+use Rattle.theory_combine.specs.declared.numbering.Pair.{Pair}
 use Rattle.theory_combine.specs.declared.pairs.Sought.{Sought}
 use Rattle.theory_combine.specs.declared.pairs.Sought.TheVariants.{Number, New, Outside}
 
@@ -31,3 +32,9 @@ abbrev pub IsSought : List Atom → Atom → Sought → Type 0
 IsSought atoms a (Number n) = IsAt atoms n a
 IsSought atoms a (New b) = (Contains atoms (AtMost b.sum.items b.threshold) → ⊥) × All IsProper b.sum.items × InRange b.threshold
 IsSought atoms a Outside = Unit {0}
+
+-- two Ints whose equality has no number
+pub record IsWanted (s : Stack) (marks : List Bool) (atoms : List Atom) (p : Pair) : Type 0 where
+  pub left : IsFit s marks p.left
+  pub right : IsFit s marks p.right
+  pub new : Contains atoms (Same p.left p.right) → ⊥

@@ -9,3 +9,4 @@ mod numbering;
 mod pairs;
 mod step;
 mod values;
+mod wanted;

@@ -14,7 +14,7 @@ ghost use Rattle.bound_log.specs.Growth.{IsProper};
 ghost use Rattle.value_model.specs.Parts.{AreSortedParts};
 ghost use Rattle.closure_log.specs.Seen.{state_of};
 ghost use Rattle.theory_combine.specs.Numbering.{table_of, IsNumbered, IsWhole};
-ghost use Rattle.theory_combine.specs.Pairs.{HaveReadable, IsFit, IsSought};
+ghost use Rattle.theory_combine.specs.Pairs.{HaveReadable, IsFit, IsSought, IsWanted};
 ghost use Rattle.theory_combine.specs.Steps.{IsStep};
 
 use crate::held::Held;
@@ -165,4 +165,92 @@ fn tie(
             }
         }
     }
+}
+
+/// Whether a pair's equality may get a number, and has none.
+fn is_wanted(
+    stack: &Stack,
+    marks: &[bool],
+    readable: &[bool],
+    atoms: &AtomNumbers,
+    pair: Pair,
+) -> bool
+    requires parts { AreSortedParts (signature_of stack.now.frames) stack.now.trees marks.now }
+    requires readable { HaveReadable stack.now.trees readable.now }
+    ensures { result ≡ true → IsWanted stack.now marks.now atoms.now.atoms pair }
+{
+    if !is_fit(stack, marks, readable, pair.left) {
+        return false;
+    }
+    if !is_fit(stack, marks, readable, pair.right) {
+        return false;
+    }
+    !is_numbered(atoms, pair)
+}
+
+/// The newest pair whose equality is to get a number; newer ones are dropped.
+pub(crate) fn next_pair(
+    pairs: &mut Vec<Pair>,
+    stack: &Stack,
+    marks: &[bool],
+    readable: &[bool],
+    atoms: &AtomNumbers,
+) -> Option<Pair>
+    requires parts { AreSortedParts (signature_of stack.now.frames) stack.now.trees marks.now }
+    requires readable { HaveReadable stack.now.trees readable.now }
+    ensures { IfSome result (IsWanted stack.now marks.now atoms.now.atoms) }
+{
+    for _turn in 0..pairs.len() {
+        let Some(pair) = pairs.last() else {
+            return None;
+        };
+        let pair = *pair;
+        if is_wanted(stack, marks, readable, atoms, pair) {
+            return Some(pair);
+        }
+        let _ = pairs.pop();
+    }
+    None
+}
+
+/// Goes on with the next atom of a pair: the bounds of its difference, and then its equality, which is tied to them.
+pub(crate) fn go_on_with_pair(
+    alloc: Global,
+    stack: &Stack,
+    marks: &[bool],
+    forms: &mut LinearForms,
+    atoms: &mut AtomNumbers,
+    lost: &mut Option<u32>,
+    held: &mut Held,
+    budget: &mut Budget,
+    pair: Pair,
+) -> Step
+    requires parts { AreSortedParts (signature_of stack.now.frames) stack.now.trees marks.now }
+    requires forms { AreForms stack.now.trees forms.old }
+    requires whole { IsWhole stack.now marks.now atoms.old held.old }
+    requires none { lost.old ≡ None }
+    requires wanted { IsWanted stack.now marks.now atoms.old.atoms pair }
+    ensures forms { forms.new ≡ forms.old }
+    ensures numbered { IsNumbered stack.now marks.now lost.new atoms.new held.new }
+    ensures goes { Goes (state_of stack.now atoms.old.atoms held.old.closure.log.items) (state_of stack.now (table_of lost.new atoms.new.atoms) held.new.closure.log.items) budget.old budget.new }
+    ensures log { held.new.closure.log.items ≡ held.old.closure.log.items }
+    ensures step { IsStep (state_of stack.now (table_of lost.new atoms.new.atoms) held.new.closure.log.items) budget.old budget.new result }
+{
+    let low = match seek(alloc, atoms, stack, forms, pair.left, pair.right) {
+        Sought::Number(low) => low,
+        Sought::New(bound) => {
+            return go_on_with_bound(alloc, stack, marks, atoms, lost, held, budget, bound);
+        }
+        Sought::Outside => return stop(stack, atoms, lost, held, budget),
+    };
+    let high = match seek(alloc, atoms, stack, forms, pair.right, pair.left) {
+        Sought::Number(high) => high,
+        Sought::New(bound) => {
+            return go_on_with_bound(alloc, stack, marks, atoms, lost, held, budget, bound);
+        }
+        Sought::Outside => return stop(stack, atoms, lost, held, budget),
+    };
+    tie(
+        alloc, stack, marks, atoms, lost, held, budget, pair, low, high,
+    )
 }
