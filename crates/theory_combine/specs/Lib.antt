@@ -1,5 +1,7 @@
+pub mod Combined
 pub mod Found
 pub mod Held
 pub mod Numbering
 pub mod Pairs
+pub mod StateCode
 pub mod Steps

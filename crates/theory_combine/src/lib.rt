@@ -8,5 +8,6 @@ mod model;
 mod numbering;
 mod pairs;
 mod step;
+mod theory;
 mod values;
 mod wanted;
