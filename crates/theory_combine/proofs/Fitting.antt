@@ -20,7 +20,7 @@ use Rattle.value_model.specs.Parts.{AreSortedParts}
 use Rattle.theory_combine.specs.Pairs.{HaveReadable, IsFit}
 use Rattle.theory_combine.proofs.Marking.{marked_within}
 
-pub fit : (s : Stack) (marks readable : List Bool) (sorts : List Sort) (p : ℕ) → AreSortedParts (signature_of s.frames) s.trees marks → HaveReadable s.trees readable
+pub fit : (s : Stack) (marks readable : List Bool) (sorts : List Sort) (p : ℕ) → AreSortedParts (signature_of s.frames) s.trees marks → HaveReadable s.trees marks readable
     → AreSorts (signature_of s.frames) s.trees (length s.trees) sorts → is_marked marks p ≡ true → is_marked readable p ≡ true → slice_index_or sorts p Truths ≡ Ints → IsFit s marks p
 fit s marks readable sorts p parts reads are marked is_readable int =
     let within : p < length s.trees = subst (λ n. p < n) parts.size (marked_within marks p marked) in
@@ -30,7 +30,7 @@ fit s marks readable sorts p parts reads are marked is_readable int =
       within = within;
       marked = marked;
       is_int = has.1 ∙ ap (λ (t : Sort). Some t) sort;
-      readable = reads p is_readable;
+      readable = reads p marked is_readable;
     }
 
 and_first : (a b : Bool) → (a && b) ≡ true → a ≡ true

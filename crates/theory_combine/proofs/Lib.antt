@@ -1,3 +1,4 @@
+pub mod Beginning
 pub mod Fitting
 pub mod Going
 pub mod Holding

@@ -17,6 +17,6 @@ TakesAll a = Unit {0}
 -- the parts of a stack, their linear forms, and what is numbered and held
 pub record IsCombined (s : Stack) (marks places : List Bool) (known : List Known) (lost : Option ℕ) (atoms : Atoms) (h : Held) : Type 0 where
   pub parts : AreSortedParts (signature_of s.frames) s.trees marks
-  pub readable : HaveReadable s.trees places
+  pub readable : HaveReadable s.trees marks places
   pub forms : AreForms s.trees known
   pub numbered : IsNumbered s marks lost atoms h

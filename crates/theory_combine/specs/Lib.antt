@@ -1,3 +1,4 @@
+pub mod Begin
 pub mod Combined
 pub mod Found
 pub mod Held

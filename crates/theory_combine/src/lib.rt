@@ -2,6 +2,7 @@
 //! evaluated before it is given.
 #![tactic(auto)]
 
+mod begin;
 mod branch;
 mod held;
 mod model;
@@ -11,3 +12,5 @@ mod step;
 mod theory;
 mod values;
 mod wanted;
+
+pub use theory::Combined;

@@ -76,7 +76,7 @@ fn is_int(sorts: &[Sort], place: TermId) -> bool
 /// Whether a term is a marked Int whose bounds have its value.
 fn is_fit(stack: &Stack, marks: &[bool], readable: &[bool], place: TermId) -> bool
     requires parts { AreSortedParts (signature_of stack.now.frames) stack.now.trees marks.now }
-    requires readable { HaveReadable stack.now.trees readable.now }
+    requires readable { HaveReadable stack.now.trees marks.now readable.now }
     ensures { result ≡ true → IsFit stack.now marks.now place }
 {
     let sorts = stack.sorts();
@@ -176,7 +176,7 @@ fn is_wanted(
     pair: Pair,
 ) -> bool
     requires parts { AreSortedParts (signature_of stack.now.frames) stack.now.trees marks.now }
-    requires readable { HaveReadable stack.now.trees readable.now }
+    requires readable { HaveReadable stack.now.trees marks.now readable.now }
     ensures { result ≡ true → IsWanted stack.now marks.now atoms.now.atoms pair }
 {
     if !is_fit(stack, marks, readable, pair.left) {
@@ -197,7 +197,7 @@ pub(crate) fn next_pair(
     atoms: &AtomNumbers,
 ) -> Option<Pair>
     requires parts { AreSortedParts (signature_of stack.now.frames) stack.now.trees marks.now }
-    requires readable { HaveReadable stack.now.trees readable.now }
+    requires readable { HaveReadable stack.now.trees marks.now readable.now }
     ensures { IfSome result (IsWanted stack.now marks.now atoms.now.atoms) }
 {
     for _turn in 0..pairs.len() {

@@ -17,6 +17,7 @@ use crate::pairs::{go_on_with_pair, next_pair};
 use crate::step::{Step, stop};
 use crate::wanted::want;
 use atom_numbers::AtomNumbers;
+use check_atoms::CheckAtoms;
 use closure_log::Guide;
 use linear_forms::LinearForms;
 use literals::Literal;
@@ -59,6 +60,38 @@ impl<'s> Model for Combined<'s> {
     ghost invariant = { λ c. IsCombined c.stack.now c.marks.items c.readable.items c.forms c.lost c.atoms c.held };
 }
 
+impl<'s> Combined<'s> {
+    ghost use Rattle.std.specs.Prelude.{◌≡◌, None};
+    ghost use Rattle.closure_log.specs.Seen.{state_of};
+    ghost use Rattle.theory_combine.specs.Combined.{IsCombined};
+
+    /// The theory of what is held.
+    pub(crate) fn start(
+        alloc: Global,
+        stack: &'s Stack,
+        parts: CheckAtoms,
+        readable: Vec<bool>,
+        guide: Guide,
+        held: Held,
+    ) -> Self
+        requires { IsCombined stack.now parts.marks.items readable.items parts.forms None parts.atoms held }
+        ensures { result ≡ state_of stack.now parts.atoms.atoms held.closure.log.items }
+    {
+        Combined {
+            alloc,
+            stack,
+            marks: parts.marks,
+            readable,
+            forms: parts.forms,
+            guide,
+            atoms: parts.atoms,
+            lost: None,
+            held,
+            pairs: Vec::new(alloc),
+        }
+    }
+}
+
 /// What a step comes to between decisions.
 fn inferred(step: Step) -> Inferred
     ensures { StepInfers step result }
@@ -93,7 +126,7 @@ fn separate(
     budget: &mut Budget,
 ) -> Step
     requires parts { AreSortedParts (signature_of stack.now.frames) stack.now.trees marks.now }
-    requires readable { HaveReadable stack.now.trees readable.now }
+    requires readable { HaveReadable stack.now.trees marks.now readable.now }
     requires forms { AreForms stack.now.trees forms.old }
     requires whole { IsWhole stack.now marks.now atoms.old held.old }
     requires none { lost.old ≡ None }
@@ -123,7 +156,7 @@ fn judge(
     budget: &mut Budget,
 ) -> Checked
     requires parts { AreSortedParts (signature_of stack.now.frames) stack.now.trees marks.now }
-    requires readable { HaveReadable stack.now.trees readable.now }
+    requires readable { HaveReadable stack.now.trees marks.now readable.now }
     requires forms { AreForms stack.now.trees forms.old }
     requires whole { IsWhole stack.now marks.now atoms.old held.old }
     requires none { lost.old ≡ None }
@@ -166,7 +199,7 @@ fn check(
     budget: &mut Budget,
 ) -> Checked
     requires parts { AreSortedParts (signature_of stack.now.frames) stack.now.trees marks.now }
-    requires readable { HaveReadable stack.now.trees readable.now }
+    requires readable { HaveReadable stack.now.trees marks.now readable.now }
     requires forms { AreForms stack.now.trees forms.old }
     requires whole { IsWhole stack.now marks.now atoms.old held.old }
     requires none { lost.old ≡ None }
@@ -203,7 +236,7 @@ fn look(
     budget: &mut Budget,
 ) -> Inferred
     requires parts { AreSortedParts (signature_of stack.now.frames) stack.now.trees marks.now }
-    requires readable { HaveReadable stack.now.trees readable.now }
+    requires readable { HaveReadable stack.now.trees marks.now readable.now }
     requires forms { AreForms stack.now.trees forms.old }
     requires whole { IsWhole stack.now marks.now atoms.old held.old }
     requires none { lost.old ≡ None }
