@@ -1,4 +1,4 @@
-//! The program on scripts with declared sorts and functions whose answers another solver gave: functions of several arguments, predicates, choices, truths as arguments, a deep term, and checks under push and pop.
+//! The program on scripts with integers whose answers another solver gave: equalities modulo 2, 3 and 6, boxes, sums and functions, choices, chains of `distinct`, large numbers, and drawn formulas, under push and pop.
 #![tactic(auto)]
 
 use smt_program::start;
