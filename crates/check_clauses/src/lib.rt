@@ -12,3 +12,4 @@ mod shapes;
 pub use clauses::check_clauses;
 pub use error::FirstError;
 pub use laws::{empty_clause_means_no_model, first_clauses_say_assertions, signature_stays};
+pub use shapes::linear_terms;

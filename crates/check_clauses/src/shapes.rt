@@ -94,7 +94,7 @@ fn is_linear(constant: &[bool], linear: &[bool], head: Head, places: &[TermId]) 
 }
 
 /// Of each term, by its place, whether each product in it has at most one factor that isn't built from numerals, `+`, `-` and `*` alone.
-pub(crate) fn linear_terms(alloc: Global, terms: &TermStore) -> Result<Vec<bool>, AllocError>
+pub fn linear_terms(alloc: Global, terms: &TermStore) -> Result<Vec<bool>, AllocError>
     ensures { IfOk result (λ linear. AreFlags is_linear terms.now.trees (length terms.now.trees) linear.items) }
 {
     let mut constant = Vec::new(alloc);

@@ -46,8 +46,8 @@ fn units_within(settings: &Settings) -> u64
     }
 }
 
-/// The answer that is left where memory is wanting.
-fn unknown(alloc: Global, stack: &Stack, settings: &Settings) -> Result<Verdict, AllocError>
+/// The answer that is left where memory is wanting: its one worker shows so.
+pub fn unknown(alloc: Global, stack: &Stack, settings: &Settings) -> Result<Verdict, AllocError>
     ensures { IfOk result (IsVerdict stack.now.trees stack.now.frames settings.now.units) }
 {
     let mut reports = Seq::new(alloc);

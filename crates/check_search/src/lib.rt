@@ -4,4 +4,4 @@
 mod decide;
 mod still;
 
-pub use decide::search;
+pub use decide::{search, unknown};

@@ -4,13 +4,13 @@ ghost use Rattle.smt_meaning.specs.declared.answers.Entry.{Entry as EntryValue};
 ghost use Rattle.smt_meaning.specs.LegalJournal.{journal_text};
 ghost use Rattle.smt_meaning.specs.MayReply.{Decided};
 ghost use Rattle.smt_words.specs.Words.{are_taken};
-ghost use Rattle.smt_meaning.specs.Kinds.{has_no_integers};
+ghost use Rattle.whole_decider.specs.Taken.{every_stack};
 ghost use Rattle.smt_top.specs.Progress.{Advances, CutOff, Driven, Ends, NoneSettled, SoFar, Tallies, at_source, between, run_of};
 ghost use Rattle.smt_top.specs.Ended.{IsUnbegun, MatchesStatus, Ran, RanThrough, StatusOf};
 
 use crate::ledger::Ledger;
 use crate::serving::{Server, Stage, Stop};
-use equality_decider::Alone;
+use whole_decider::Whole;
 use ports::{Gate, More, Sink, Source};
 use smt_meaning::Seq;
 use smt_meaning::language::Entry;
@@ -161,7 +161,7 @@ pub fn run<S: Source, K: Sink, G: Gate>(
     sink: &mut K,
     gate: &G,
 ) -> Ended
-    ensures ran { Ran has_no_integers (2 ^ 40) (map string_bytes words.now.items) (between (S.told source.old) (K.told sink.old) (S.told source.new) (K.told sink.new)) result }
+    ensures ran { Ran every_stack (2 ^ 40) (map string_bytes words.now.items) (between (S.told source.old) (K.told sink.old) (S.told source.new) (K.told sink.new)) result }
     ensures untouched { are_taken (map string_bytes words.now.items) ≡ false → (source.new ≡ source.old) × (sink.new ≡ sink.old) × (result.journal ≡ []) }
     ensures silent { journal_text result.journal ≡ [] → sink.new ≡ sink.old }
 {
@@ -178,7 +178,7 @@ pub fn run_within<S: Source, K: Sink, G: Gate>(
     gate: &G,
 ) -> Ended
     requires { budget ≤ 2 ^ 40 }
-    ensures ran { Ran has_no_integers budget (map string_bytes words.now.items) (between (S.told source.old) (K.told sink.old) (S.told source.new) (K.told sink.new)) result }
+    ensures ran { Ran every_stack budget (map string_bytes words.now.items) (between (S.told source.old) (K.told sink.old) (S.told source.new) (K.told sink.new)) result }
     ensures untouched { are_taken (map string_bytes words.now.items) ≡ false → (source.new ≡ source.old) × (sink.new ≡ sink.old) × (result.journal ≡ []) }
     ensures silent { journal_text result.journal ≡ [] → sink.new ≡ sink.old }
 {
@@ -203,7 +203,7 @@ pub fn run_through<S: Source, K: Sink, G: Gate, L: Ledger>(
     ledger: &mut L,
 ) -> Outcome
     requires { budget ≤ 2 ^ 40 }
-    ensures ran { RanThrough has_no_integers budget (map string_bytes words.now.items) (between (S.told source.old) (K.told sink.old) (S.told source.new) (K.told sink.new)) result
+    ensures ran { RanThrough every_stack budget (map string_bytes words.now.items) (between (S.told source.old) (K.told sink.old) (S.told source.new) (K.told sink.new)) result
         sink.old sink.new (L.entries ledger.old) (L.entries ledger.new) }
     ensures untouched { are_taken (map string_bytes words.now.items) ≡ false → (source.new ≡ source.old) × (sink.new ≡ sink.old) × (ledger.new ≡ ledger.old) }
 {
@@ -211,7 +211,7 @@ pub fn run_through<S: Source, K: Sink, G: Gate, L: Ledger>(
     match settings(alloc, words) {
         Ok(settings) => {
             let mut server = Server::new(alloc, &settings);
-            let end = drive(alloc, budget, source, sink, ledger, &mut Alone, &mut server);
+            let end = drive(alloc, budget, source, sink, ledger, &mut Whole, &mut server);
             finish(end, server.is_faulty)
         }
         Err(error) => unbegun(error),

@@ -1,7 +1,7 @@
 use Rattle.std.proofs.Common.{◌≡◌, true, refl, ap, sym, ◌∙◌, subst, map, string_bytes, []}
 use Rattle.smt_meaning.specs.State.{State}
 use Rattle.smt_words.specs.Words.{are_taken, settings_of}
-use Rattle.smt_meaning.specs.Kinds.{has_no_integers}
+use Rattle.whole_decider.specs.Taken.{every_stack}
 use Rattle.smt_top.specs.Progress.{Stands, between, run_of}
 use Rattle.smt_top.specs.Ended.{ended_with}
 use Rattle.smt_top.proofs.Turns.{not_true}
@@ -13,7 +13,7 @@ pub drive-end-requires-clause-budget : goal.drive-end-requires-clause-budget
 drive-end-requires-clause-budget g c = c.requires
 
 pub drive-end-requires-clause-begun : goal.drive-end-requires-clause-begun
-drive-end-requires-clause-begun g c = begun has_no_integers c.in-Ok.settings _ _ (run_of c.new-server.result []) c.new-server.ensures.reader c.new-server.ensures.session refl
+drive-end-requires-clause-begun g c = begun every_stack c.in-Ok.settings _ _ (run_of c.new-server.result []) c.new-server.ensures.reader c.new-server.ensures.session refl
 
 pub drive-end-requires-clause-tally : goal.drive-end-requires-clause-tally
 drive-end-requires-clause-tally g c = c.new-server.ensures.tally
@@ -29,8 +29,8 @@ returns-in-Ok-clause-ran g c =
     record {
       journal = d.journal;
       ran =
-          ran has_no_integers c.args.budget words e (run_of c.drive-end.new.server d.journal) (ended_with c.finish.result d.journal) taken refl c.finish.ensures.note c.drive-end.result
-          (subst (λ t. Stands has_no_integers t c.drive-end.result e c.args.budget (run_of c.drive-end.new.server d.journal)) of_run d.stands) c.finish.ensures.status
+          ran every_stack c.args.budget words e (run_of c.drive-end.new.server d.journal) (ended_with c.finish.result d.journal) taken refl c.finish.ensures.note c.drive-end.result
+          (subst (λ t. Stands every_stack t c.drive-end.result e c.args.budget (run_of c.drive-end.new.server d.journal)) of_run d.stands) c.finish.ensures.status
           (λ over. let error = c.finish.ensures.error over in ((λ one. d.tally.faulty.0 (error.0 one)), (λ faulty. error.1 (d.tally.faulty.1 faulty))));
       gained = d.gained;
       silent = d.silent;
@@ -47,7 +47,7 @@ pub returns-in-Err-clause-ran : goal.returns-in-Err-clause-ran
 returns-in-Err-clause-ran g c =
     record {
       journal = [];
-      ran = unbegun has_no_integers c.args.budget (map string_bytes c.args.words.now.items) _ _ (ended_with c.unbegun.result []) c.in-Err.error c.unbegun.ensures.status c.in-Err.ensures.cause c.unbegun.ensures.note refl;
+      ran = unbegun every_stack c.args.budget (map string_bytes c.args.words.now.items) _ _ (ended_with c.unbegun.result []) c.in-Err.error c.unbegun.ensures.status c.in-Err.ensures.cause c.unbegun.ensures.note refl;
       gained = Gains-none _;
       silent = λ none. refl;
       unread = λ no'. refl;

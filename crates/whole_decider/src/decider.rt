@@ -1,0 +1,63 @@
+//! The decider.
+ghost use Rattle.std.specs.Prelude.{IfOk};
+ghost use Rattle.theory_port.specs.Verdicts.{IsVerdict};
+
+use check_atoms::numbered;
+use check_clauses::check_clauses;
+use check_search::{search, unknown};
+use equality_decider::Alone;
+use scope_stack::Stack;
+use smt_meaning::Settings;
+use std::alloc::{AllocError, Global};
+use theory_combine::Combined;
+use theory_port::{Decider, Verdict};
+
+/// Decides the checks of all stacks: those without integers by the closure of congruence alone, others by the theory of equality and whole numbers.
+/// Each check begins anew.
+#[derive(Clone, Copy, Debug, Drop)]
+pub struct Whole;
+
+/// Decides a check of a stack with integers.
+fn decide_integers(
+    alloc: Global,
+    stack: &Stack,
+    settings: &Settings,
+) -> Result<Verdict, AllocError>
+    ensures { IfOk result (IsVerdict stack.now.trees stack.now.frames settings.now.units) }
+{
+    let Ok(mut parts) = numbered(alloc, stack) else {
+        return unknown(alloc, stack, settings);
+    };
+    let Ok(mut store) = check_clauses(alloc, stack, stack.sorts(), &mut parts) else {
+        return unknown(alloc, stack, settings);
+    };
+    let Ok(mut theory) = Combined::new(alloc, stack, parts) else {
+        return unknown(alloc, stack, settings);
+    };
+    search(alloc, stack, settings, &mut theory, &mut store)
+}
+
+impl Decider for Whole {
+    ghost use Rattle.whole_decider.specs.Taken.{every_stack};
+
+    ghost decides = { every_stack };
+
+    fn takes(&self, _alloc: Global, _stack: &Stack) -> Result<bool, AllocError> {
+        Ok(true)
+    }
+
+    fn decide(
+        &mut self,
+        alloc: Global,
+        stack: &Stack,
+        settings: &Settings,
+    ) -> Result<Verdict, AllocError> {
+        let mut plain = Alone;
+        let taken = plain.takes(alloc, stack)?;
+        if taken {
+            plain.decide(alloc, stack, settings)
+        } else {
+            decide_integers(alloc, stack, settings)
+        }
+    }
+}
