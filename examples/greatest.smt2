@@ -4,9 +4,6 @@
 ; k is any place. The assertions say that the invariant holds at k before the turn, that k is below
 ; the new i, and that the invariant fails at k after the turn. So `unsat` says that the turn keeps
 ; the invariant; `sat` would give an array and a place where it doesn't.
-;
-; Not decided yet, since there are numbers and a function in it: the check is answered
-; `unsupported`.
 (set-option :print-success false)
 (set-logic QF_UFLIA)
 (declare-fun item (Int) Int)

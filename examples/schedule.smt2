@@ -3,9 +3,6 @@
 ;
 ; a, b and c are the hours at which the jobs begin. A first answer `sat` says that they can, and the
 ; values are a schedule. A second answer `unsat` says that 8 hours are too few.
-;
-; Not decided yet, since there are numbers in it: each check is answered `unsupported`, and so
-; there are no values (E20).
 (set-option :print-success false)
 (set-option :produce-models true)
 (set-logic QF_IDL)
