@@ -10,13 +10,13 @@ ghost use Rattle.smt_top.specs.Ended.{IsUnbegun, MatchesStatus, Ran, RanThrough,
 
 use crate::ledger::Ledger;
 use crate::serving::{Server, Stage, Stop};
-use whole_decider::Whole;
 use ports::{Gate, More, Sink, Source};
 use smt_meaning::Seq;
 use smt_meaning::language::Entry;
 use smt_words::{WordsError, settings};
 use std::alloc::{AllocError, Global};
 use theory_port::Decider;
+use whole_decider::Whole;
 
 /// Why a run ended.
 #[derive(Clone, Copy, Debug, PartialEq, Eq, Drop)]

@@ -45,9 +45,10 @@ module _ (s : Stack) (marks : List Bool) (law : IsLawful s) (parts : AreStackPar
   of_terms_at (Truth p) h m =
       let marked : IsMarked marks p = All-head (IsMarked marks) p [] m in
       (Parts.within s marks law parts atoms.size p marked, ap is_bool (Parts.bool_sort s marks law parts atoms.size sorts sorted p marked (get_or_default sorts p Truths Ints h.0 ∙ h.1)))
-  of_terms_at (Same i j) h m =
-      (Parts.within s marks law parts atoms.size i (All-head (IsMarked marks) i (j ∷ []) m),
-      Parts.within s marks law parts atoms.size j (All-head (IsMarked marks) j [] (All-tail (IsMarked marks) i (j ∷ []) m)))
+  of_terms_at (Same i j) h m = (
+    Parts.within s marks law parts atoms.size i (All-head (IsMarked marks) i (j ∷ []) m),
+    Parts.within s marks law parts atoms.size j (All-head (IsMarked marks) j [] (All-tail (IsMarked marks) i (j ∷ []) m)),
+  )
   of_terms_at (AtMost sum k) h m = tt
 
   pub setting : SymbolsAreDeclared → FlatSaysTheSame → ((n : ℕ) → n < length table → IsTruthOfBool sorts (slice_index_or table n (Truth 0))) → length s.trees + 2 < 2 ^ 32 → IsSetting s table

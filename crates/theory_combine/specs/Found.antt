@@ -13,4 +13,3 @@ abbrev pub IsFound : Stack → List Atom → List Signed → Found → Type 0
 IsFound s table log (Fine tables) = IsModelOf (state_of s table log) tables
 IsFound s table log (Apart c) = (c.first < length s.trees) × (c.second < length s.trees)
 IsFound s table log Unfit = Unit {0}
-

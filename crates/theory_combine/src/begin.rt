@@ -46,11 +46,7 @@ fn learn(
 }
 
 /// Bounds that know all atoms, and no literal. An `Err` is for want of memory, or where a row leaves the range.
-fn bounds_of(
-    alloc: Global,
-    stack: &Stack,
-    atoms: &AtomNumbers,
-) -> Result<BoundLog, AllocError>
+fn bounds_of(alloc: Global, stack: &Stack, atoms: &AtomNumbers) -> Result<BoundLog, AllocError>
     requires normal { All (IsNormal (length stack.now.trees)) atoms.now.atoms }
     ensures knows { IfOk result (λ b. Knows atoms.now.atoms b) }
     ensures log { IfOk result (λ b. b.log ≡ []) }

@@ -90,12 +90,7 @@ fn met_by(report: Report) -> Met
 }
 
 /// Moves values until all bounds are met, or finds a clause that the bounds break.
-pub(crate) fn meet_bounds(
-    alloc: Global,
-    held: &mut Held,
-    stack: &Stack,
-    atoms: &AtomNumbers,
-) -> Met
+pub(crate) fn meet_bounds(alloc: Global, held: &mut Held, stack: &Stack, atoms: &AtomNumbers) -> Met
     requires setting { IsSetting stack.now atoms.now.atoms }
     requires held { IsHeld stack.now atoms.now.atoms held.old }
     ensures held { IsHeld stack.now atoms.now.atoms held.new }

@@ -57,10 +57,15 @@ pub(crate) enum Sought {
 pub(crate) fn is_numbered(atoms: &AtomNumbers, pair: Pair) -> bool
     ensures { result ≡ false → Contains atoms.now.atoms (Same pair.left pair.right) → ⊥ }
 {
-    if atoms.find(CompactAtom::Same(pair.left, pair.right)).is_some() {
+    if atoms
+        .find(CompactAtom::Same(pair.left, pair.right))
+        .is_some()
+    {
         return true;
     }
-    atoms.find(CompactAtom::Same(pair.right, pair.left)).is_some()
+    atoms
+        .find(CompactAtom::Same(pair.right, pair.left))
+        .is_some()
 }
 
 /// Whether a listed sort is Int.

@@ -49,11 +49,7 @@ fn number_of(bounds: &BoundLog, place: u32, class: u32) -> i128 {
 }
 
 /// A number for each term. An `Err` is for want of memory.
-fn numbers(
-    alloc: Global,
-    bounds: &BoundLog,
-    elements: &[u32],
-) -> Result<Vec<i128>, AllocError>
+fn numbers(alloc: Global, bounds: &BoundLog, elements: &[u32]) -> Result<Vec<i128>, AllocError>
     requires { length elements.now < 2 ^ 32 }
     ensures { IfOk result (λ numbers. length numbers.items ≡ length elements.now) }
 {

@@ -25,11 +25,7 @@ fn want_arguments(
 }
 
 /// Adds the pairs that two applications may differ by: of themselves, and of their arguments. An `Err`, for want of memory, adds some of them.
-pub(crate) fn want(
-    pairs: &mut Vec<Pair>,
-    stack: &Stack,
-    clash: Clash,
-) -> Result<(), AllocError>
+pub(crate) fn want(pairs: &mut Vec<Pair>, stack: &Stack, clash: Clash) -> Result<(), AllocError>
     requires first { clash.first < length stack.now.trees }
     requires second { clash.second < length stack.now.trees }
 {

@@ -18,11 +18,7 @@ use theory_port::{Decider, Verdict};
 pub struct Whole;
 
 /// Decides a check of a stack with integers.
-fn decide_integers(
-    alloc: Global,
-    stack: &Stack,
-    settings: &Settings,
-) -> Result<Verdict, AllocError>
+fn decide_integers(alloc: Global, stack: &Stack, settings: &Settings) -> Result<Verdict, AllocError>
     ensures { IfOk result (IsVerdict stack.now.trees stack.now.frames settings.now.units) }
 {
     let Ok(mut parts) = numbered(alloc, stack) else {

@@ -29,8 +29,9 @@ tie_lemmas-requires-clause-same c =
 pub returns-in-Ok-tie_lemmas-clause-step : goal.returns-in-Ok-tie_lemmas-clause-step
 returns-in-Ok-tie_lemmas-clause-step c =
     let whole : IsWhole c.args.stack.now c.args.marks.now c.number_new.new.atoms c.number_new.new.held =
-    subst (λ (o : Option ℕ). IsNumbered c.args.stack.now c.args.marks.now o c.number_new.new.atoms c.number_new.new.held) c.in-Ok.ensures.kept c.number_new.ensures.numbered in
-    (subst (λ (o : Option ℕ). All (IsLemma (state_of c.args.stack.now (table_of o c.number_new.new.atoms.atoms) c.number_new.new.held.closure.log.items).reading) c.in-Ok-tie_lemmas.lemmas) (sym c.in-Ok.ensures.kept)
-    (tied_lemmas c.flat_says_the_same.ensures c.value_has_its_sort.ensures c.args.stack.now c.args.marks.now c.args.atoms.now c.number_new.new.atoms c.number_new.new.held c.args.pair.left c.args.pair.right c.len-same.result
-    c.args.low c.args.high c.in-Ok-tie_lemmas.lemmas whole c.in-Ok.ensures.added c.len-same.ensures.count c.requires.left c.requires.right c.requires.low c.requires.high c.in-Ok-tie_lemmas.ensures.lemmas),
-    omega (arith, c.in-Ok.ensures.spent))
+    subst (λ (o : Option ℕ). IsNumbered c.args.stack.now c.args.marks.now o c.number_new.new.atoms c.number_new.new.held) c.in-Ok.ensures.kept c.number_new.ensures.numbered in (
+      subst (λ (o : Option ℕ). All (IsLemma (state_of c.args.stack.now (table_of o c.number_new.new.atoms.atoms) c.number_new.new.held.closure.log.items).reading) c.in-Ok-tie_lemmas.lemmas) (sym c.in-Ok.ensures.kept)
+          (tied_lemmas c.flat_says_the_same.ensures c.value_has_its_sort.ensures c.args.stack.now c.args.marks.now c.args.atoms.now c.number_new.new.atoms c.number_new.new.held c.args.pair.left c.args.pair.right c.len-same.result
+          c.args.low c.args.high c.in-Ok-tie_lemmas.lemmas whole c.in-Ok.ensures.added c.len-same.ensures.count c.requires.left c.requires.right c.requires.low c.requires.high c.in-Ok-tie_lemmas.ensures.lemmas),
+      omega (arith, c.in-Ok.ensures.spent),
+    )
