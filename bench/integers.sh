@@ -13,6 +13,7 @@ import random
 def write(name, lines):
     with open(name + '.smt2', 'w') as out:
         out.write('(set-option :print-success false)\n(set-logic QF_UFLIA)\n' + '\n'.join(lines) + '\n')
+def number(n): return str(n) if n >= 0 else '(- %d)' % -n
 def ints(names): return ['(declare-const %s Int)' % n for n in names]
 def shop(jobs, machines, horizon, seed):
     r = random.Random(seed)
@@ -33,7 +34,7 @@ def differences(n, seed):
     lines = ints('x%d' % k for k in range(n))
     for _ in range(4 * n):
         a, b, c, d = (r.randrange(n) for _ in range(4))
-        lines.append('(assert (or (<= (- x%d x%d) %d) (<= (- x%d x%d) %d)))' % (a, b, r.randint(-6, 4), c, d, r.randint(-6, 4)))
+        lines.append('(assert (or (<= (- x%d x%d) %s) (<= (- x%d x%d) %s)))' % (a, b, number(r.randint(-6, 4)), c, d, number(r.randint(-6, 4))))
     return lines + ['(check-sat)']
 def pigeons(n):
     names = ['p%d' % k for k in range(n + 1)]
@@ -75,7 +76,7 @@ def small(n):
         lines.append('(push 1)')
         for _ in range(4):
             s, t = r.choice('abcd'), r.choice('abcd')
-            lines.append(r.choice(['(assert (<= %s (+ %s %d)))' % (s, t, r.randint(-3, 3)), '(assert (= (f %s) %s))' % (s, t), '(assert (distinct (f (f %s)) %s))' % (s, t), '(assert (or (< %s %s) (= (f %s) 2)))' % (s, t, t)]))
+            lines.append(r.choice(['(assert (<= %s (+ %s %s)))' % (s, t, number(r.randint(-3, 3))), '(assert (= (f %s) %s))' % (s, t), '(assert (distinct (f (f %s)) %s))' % (s, t), '(assert (or (< %s %s) (= (f %s) 2)))' % (s, t, t)]))
         lines += ['(assert (<= 0 a b c d 6))', '(check-sat)', '(pop 1)']
     return lines
 write('shop_3x3', shop(3, 3, 25, 1)); write('shop_4x4', shop(4, 4, 40, 2)); write('shop_6x5', shop(6, 5, 60, 3))
