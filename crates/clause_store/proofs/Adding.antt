@@ -139,11 +139,11 @@ IsWatching-add atoms es lists lists' e h known pair is =
     let old_own : (l : Signed) → All (IsOwn es' l) (watches_of lists l) = λ l j x lt.
     let o : IsOwn es l (get_or (watches_of lists l) j x) = h.tidy.own l j x lt in
     let s : IsSound atoms es (get_or (watches_of lists l) j x) = h.sound l j x lt in
-    record { pair = rw (entry_at-old es e (get_or (watches_of lists l) j x).row s.within) o.pair } in
+    record { pair = rw (entry_at-old es e (get_or (watches_of lists l) j x).row s.within) o.pair; contained = rw (entry_at-old es e (get_or (watches_of lists l) j x).row s.within) o.contained } in
     let v : Watch = record { blocker = e.second; row = length es } in
     let w : Watch = record { blocker = e.first; row = length es } in
-    let own_v : IsOwn es' e.first v = record { pair = rw new (inl refl) } in
-    let own_w : IsOwn es' e.second w = record { pair = rw new (inr refl) } in
+    let own_v : IsOwn es' e.first v = record { pair = rw new (inl refl); contained = rw new pair.first } in
+    let own_w : IsOwn es' e.second w = record { pair = rw new (inr refl); contained = rw new pair.second } in
     let all : (l : Signed) → All (λ x. IsSound atoms es' x × IsOwn es' l x) (watches_of lists' l) =
     is.each (λ l j x lt. (All-weaker (IsSound atoms es) (IsSound atoms es') old (watches_of lists l) (h.sound l) j x lt, old_own l j x lt))
     (of_new v refl pair.second, own_v) (of_new w refl pair.first, own_w) in
@@ -152,8 +152,8 @@ IsWatching-add atoms es lists lists' e h known pair is =
     let in' : (get_or (watches_of lists l) j no_watch).row < length es = s.within in
     omega arith in
     record {
-      known = λ i lt. elim (below_or_at i (length es) (omega arith)) [
-        | inl below ↦ rw (entry_at-old es e i below) (h.known i below)
+      known = λ i live. elim (below_or_at i (length es) (let lt : i < length es' = live_within es' i live in omega arith)) [
+        | inl below ↦ rw (entry_at-old es e i below) (h.known i (rw (entry_at-old es e i below) at live))
         | inr at ↦ subst (λ n. IsKnown atoms (entry_at es' n)) (sym at) (rw new known)
       ];
       pairs = λ i live. elim (below_or_at i (length es) (let lt : i < length es' = live_within es' i live in omega arith)) [

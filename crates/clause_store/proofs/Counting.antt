@@ -15,7 +15,7 @@ use Rattle.clause_store.proofs.Tidy.{CameFrom, came_from, removed_apart, own_in,
 
 -- ---- numbers, none twice
 
-AreApart-push : (ns : List ℕ) (n : ℕ) → ((j : ℕ) → j < length ns → get_or ns j 0 ≡ n → ⊥) → AreApart ns → AreApart (ns ++ n ∷ [])
+pub AreApart-push : (ns : List ℕ) (n : ℕ) → ((j : ℕ) → j < length ns → get_or ns j 0 ≡ n → ⊥) → AreApart ns → AreApart (ns ++ n ∷ [])
 AreApart-push ns n fresh apart = λ i j in-i in-j same.
     let len : length (ns ++ n ∷ []) ≡ length ns + 1 = length_push ns n in
     elim (below_or_at i (length ns) (omega arith)) [

@@ -7,7 +7,7 @@ use Rattle.clause_store.specs.declared.trail.Step.{Step}
 use Rattle.clause_store.specs.Stored.{IsFalseOn}
 use Rattle.clause_store.specs.Entries.{Entry, entry_at, watches_of}
 use Rattle.clause_store.specs.Visits.{Parts}
-use Rattle.clause_store.specs.Watching.{IsSettled, IsWatching, Grows, kept_from}
+use Rattle.clause_store.specs.Watching.{IsSettled, SameShape, IsWatching, Grows, kept_from}
 use Rattle.clause_store.specs.Sweeps.{State}
 use Rattle.clause_store.specs.Rested.{Rested, IsWaiting, Waits}
 use Rattle.clause_store.specs.Forcing.{AllForced}
@@ -18,9 +18,9 @@ use Rattle.clause_store.specs.Late.{LateCovers, LateHolds, LateSweptGives, LateT
 use Rattle.clause_store.specs.declared.lists.Watch.{Watch}
 use Rattle.clause_store.specs.declared.waits.Wait.{Wait}
 use Rattle.clause_store.specs.declared.sweep.Swept.{Swept}
-use Rattle.clause_store.specs.declared.sweep.Swept.TheVariants.{Whole, False as FalseClause, NoRoom as OutOfRoom}
+use Rattle.clause_store.specs.declared.sweep.Swept.TheVariants.{Whole, False as FalseClause}
 use Rattle.clause_store.specs.declared.run.Reached.{Reached}
-use Rattle.clause_store.specs.declared.run.Reached.TheVariants.{Fixpoint, False as FalseReached, NoRoom}
+use Rattle.clause_store.specs.declared.run.Reached.TheVariants.{Fixpoint, False as FalseReached}
 use Rattle.clause_store.proofs.Filters.{up_to-assigns}
 use Rattle.clause_store.proofs.Forces.{OthersFalse-more}
 use Rattle.clause_store.proofs.Kept.{Grows-assigns}
@@ -44,7 +44,6 @@ late-turn atoms depth f es lists steps spare list d code s' (FalseClause row) ws
     let cs : LateCovers head f s'.entries s'.steps s'.list h.place ws' = h.sweeps.covers head (subst (λ xs. LateCovers head f es steps xs 0 ws) (sym same) c) in
     let within : head < length s'.steps = cs.within in
     (record { watch = h.sweeps.watch; covered = Late-back head f s'.entries s'.steps s'.list h.place ws' cs; ready = h.sweeps.ready; within = omega arith }, record { live = h.live; all_false = h.all_false })
-late-turn atoms depth f es lists steps spare list d code s' OutOfRoom ws ws' head e is lt w h c = tt
 
 -- ---- all steps
 
@@ -88,7 +87,6 @@ drive-run atoms depth p p' ws head head' Fixpoint grows h last g =
       g.1,
     )
 drive-run atoms depth p p' ws head head' (FalseReached row) grows h last g = (drives-run atoms depth p p' ws head head' grows h last g.2 g.0, g.1)
-drive-run atoms depth p p' ws head head' NoRoom grows h last g = tt
 
 pub drive-false : (atoms depth : ℕ) (es : List Entry) (lists : List (List Watch)) (old new : List Step) (ws : List Wait) (head : ℕ) (w : Wait) → IsWatching atoms es lists → Grows (kept_from 0 es) depth old new → Rested es old depth head head ws → Contains ws w → IsFalseOn new w.literal
     → Drives atoms depth (record { entries = es; lists = lists; steps = new }) head ws × IsFalseAt (record { entries = es; lists = lists; steps = new }) w.row
@@ -101,3 +99,7 @@ drive-false atoms depth es lists old new ws head w watch grows h contained is_fa
         all_false = all_false new w.literal (entry_at es w.row).literals is_false (OthersFalse-more (up_to w.depth old) new (entry_at es w.row).literals w.literal (λ l a. more l (up_to-assigns w.depth old l a)) here.rest);
       },
     )
+
+pub late_shape : (atoms depth : ℕ) (f : Signed) (s s' : State) (ws ws' : List Wait) (r : Swept) → LateSweptGives atoms depth f s s' ws ws' r → SameShape s.entries s'.entries
+late_shape atoms depth f s s' ws ws' Whole h = h.shape
+late_shape atoms depth f s s' ws ws' (FalseClause row) h = h.sweeps.shape

@@ -1,19 +1,19 @@
 -- Fewer clauses, and clauses by their ids.
-use Rattle.std.proofs.Common.{◌≡◌, ◌≢◌, ℕ, ◌+◌, ◌*◌, ◌^◌, ◌<◌, ◌≤◌, ◌==◌, zero, suc, Bool, true, false, not, ◌&&◌, List, [], ◌∷◌, ◌++◌, All, Contains, length, get_or, set, take, filter, subst, sym, ap, ◌∙◌, refl, inl, inr, ◌⊎◌, arith, Some, zero-add, add-zero, eq-eqb, ℤ, pos, int_le, nat_lt}
+use Rattle.std.proofs.Common.{◌≡◌, ◌≢◌, ℕ, ◌+◌, ◌*◌, ◌^◌, ◌<◌, ◌≤◌, ◌==◌, zero, suc, Bool, true, false, not, ◌&&◌, List, [], ◌∷◌, ◌++◌, All, Contains, length, get_or, set, take, filter, Option, None, subst, sym, ap, ◌∙◌, refl, inl, inr, ◌⊎◌, arith, Some, zero-add, add-zero, eq-eqb, ℤ, pos, int_le, nat_lt}
 use Rattle.std.proofs.lemmas.Bool.Decides.{nat_tests}
-use Rattle.std.proofs.lemmas.List.{length-set, get_or_default, get_or_past}
-use Rattle.std.proofs.lemmas.List.Elements.{All-contains, All-weaker, All-nil, Contains-append_cases, Contains-append_left, Contains-get_or, Contains-push, Contains-push_cases}
-use Rattle.literals.specs.Signed.{Signed, opposite, packed}
+use Rattle.std.proofs.lemmas.List.{length-set, map-set, get_or_default, get_or_past}
+use Rattle.std.proofs.lemmas.List.Elements.{All-contains, All-push, All-weaker, All-nil, Contains-append_cases, Contains-append_left, Contains-get_or, Contains-push, Contains-push_cases}
+use Rattle.literals.specs.Signed.{Signed, opposite}
 use Rattle.clause_store.specs.Assigned.{Assigned}
 use Rattle.clause_store.specs.Each.{EachAfter}
 use Rattle.clause_store.specs.Trail.{up_to}
 use Rattle.clause_store.specs.declared.trail.Step.{Step}
-use Rattle.clause_store.specs.Stored.{Kept, IsFalseOn, IsForced, IsJustified, HaveOwnIds, without, up_to_level}
+use Rattle.clause_store.specs.Stored.{Kept, AllFalse, IsFalseOn, IsForced, IsJustified, HaveOwnIds, without, up_to_level}
 use Rattle.clause_store.specs.Found.{HasKept, HasLevel}
 use Rattle.clause_store.specs.Entries.{Entry, entry_at, no_entry, watches_of, IsKnown}
 use Rattle.clause_store.specs.Watching.{IsWatching, IsPair, IsListed, IsSound, IsOwn, IsOnce, IsSettled, kept_from, kept_of}
 use Rattle.clause_store.specs.Rested.{Rested, IsWaiting, Waits, OthersFalse}
-use Rattle.clause_store.specs.From.{IsSingle, AreSingles}
+use Rattle.clause_store.specs.From.{IsSingle, AreSingles, HasSingles}
 use Rattle.clause_store.specs.Cutting.{IsCut, IsFewer, cut_entry}
 use Rattle.clause_store.specs.Keeping.{IsKept, IsTight}
 use Rattle.clause_store.specs.declared.lists.Watch.{Watch}
@@ -23,6 +23,9 @@ use Rattle.clause_store.proofs.Sweeping.{live_within, entry_at-same, entry_at-ot
 use Rattle.clause_store.proofs.Turning.{Assigns-front}
 use Rattle.clause_store.proofs.Kept.{kept_in, All-kept}
 use Rattle.clause_store.proofs.Stores.{known_live}
+use Rattle.clause_store.proofs.Numbers.{apart_fresh}
+use Rattle.clause_store.specs.Empties.{IsEmptyAt, NamesEmpty, filled, all_filled}
+use Rattle.clause_store.proofs.Empties.{at_filled, length_filled, Fewer-filled}
 
 false_true : false ≡ true → ⊥
 false_true e = cc
@@ -96,6 +99,28 @@ ids_within es k d lt =
     let id : (get_or (kept_from 0 es) k d).id ≡ 0 + at.place = ap (λ (c : Kept). c.id) at.is in
     omega arith
 
+-- the same kept clauses are without literals at the same places
+same_empty : (es es' : List Entry) (i : ℕ) → kept_from 0 es' ≡ kept_from 0 es → IsEmptyAt es i → IsEmptyAt es' i
+same_empty es es' i e h =
+    let old : HasKept (kept_from 0 es) i (λ ls. ls ≡ []) = live_kept es i (λ ls. ls ≡ []) h.live h.none in
+    let new : HasLive es' i (λ ls. ls ≡ []) = has_live es' i (λ ls. ls ≡ []) (subst (λ cs. HasKept cs i (λ ls. ls ≡ [])) (sym e) old) in
+    record { live = new.live; none = new.has }
+
+pub none_kept : (es : List Entry) → ((id : ℕ) → HasKept (kept_from 0 es) id (λ ls. ls ≡ []) → ⊥) → (i : ℕ) → IsEmptyAt es i → ⊥
+none_kept es h i x = h i (live_kept es i (λ ls. ls ≡ []) x.live x.none)
+
+pub none_has : (es : List Entry) → NamesEmpty es None → (id : ℕ) → HasKept (kept_from 0 es) id (λ ls. ls ≡ []) → ⊥
+none_has es h id k =
+    let at : HasLive es id (λ ls. ls ≡ []) = has_live es id (λ ls. ls ≡ []) k in
+    h id (record { live = at.live; none = at.has })
+
+pub empty_false : (es : List Entry) (i : ℕ) (steps : List Step) → IsEmptyAt es i → HasKept (kept_from 0 es) i (AllFalse steps)
+empty_false es i steps h = live_kept es i (AllFalse steps) h.live (subst (AllFalse steps) (sym h.none) (All-nil (IsFalseOn steps)))
+
+pub names_kept : (es es' : List Entry) (o : Option ℕ) → kept_from 0 es' ≡ kept_from 0 es → NamesEmpty es o → NamesEmpty es' o
+names_kept es es' (Some i) e h = same_empty es es' i e h
+names_kept es es' None e h = λ i x. h i (same_empty es' es i (sym e) x)
+
 -- ---- entries of which some are no longer live
 
 was_live : (old new : List Entry) → IsFewer old new → (i : ℕ) → (entry_at new i).live ≡ true → (entry_at old i).live ≡ true
@@ -103,13 +128,7 @@ was_live old new f i live = subst (λ (e : Entry). e.live ≡ true) (f.same i li
 
 pub IsWatching-fewer : (atoms : ℕ) (es es' : List Entry) (lists : List (List Watch)) → IsFewer es es' → IsWatching atoms es lists → IsWatching atoms es' lists
 IsWatching-fewer atoms es es' lists f h = record {
-  known = λ i lt.
-      let k : IsKnown atoms (entry_at es i) = h.known i (subst (λ n. i < n) f.count lt) in
-      record {
-        literals = subst (All (λ (l : Signed). l.atom < atoms)) (sym (f.literals i)) k.literals;
-        first = subst (λ (l : Signed). l.atom < atoms) (sym (f.first i)) k.first;
-        second = subst (λ (l : Signed). l.atom < atoms) (sym (f.second i)) k.second;
-      };
+  known = λ i live. subst (IsKnown atoms) (sym (f.same i live)) (h.known i (was_live es es' f i live));
   pairs = λ i live. subst IsPair (sym (f.same i live)) (h.pairs i (was_live es es' f i live));
   sound = λ l. All-weaker (IsSound atoms es) (IsSound atoms es')
       (λ w s. record {
@@ -121,7 +140,7 @@ IsWatching-fewer atoms es es' lists f h = record {
   room = h.room;
   tidy = record {
     own = λ l. All-weaker (IsOwn es l) (IsOwn es' l)
-        (λ w o. record { pair = elim o.pair [ inl a ↦ inl (f.first w.row ∙ a) | inr b ↦ inr (f.second w.row ∙ b) ] }) (watches_of lists l) (h.tidy.own l);
+        (λ w o. record { pair = elim o.pair [ inl a ↦ inl (f.first w.row ∙ a) | inr b ↦ inr (f.second w.row ∙ b) ]; contained = subst (λ ls. Contains ls l) (sym (f.literals w.row)) o.contained }) (watches_of lists l) (h.tidy.own l);
     once = h.tidy.once;
   };
 }
@@ -272,17 +291,22 @@ Rested-forgotten es i steps depth head lasting ws ws' lt keeps only h =
           };
     }
 
-pub IsKept-forgotten : (es : List Entry) (i : ℕ) (lists : List (List Watch)) (t : Assigned) (head : ℕ) (ws ws' : List Wait) (loose : Bool) → i < length es → All (λ (s : Step). s.reason ≡ Some i → ⊥) t.steps
-    → ((w : Wait) → Contains ws w → (w.row ≡ i → ⊥) → Contains ws' w) → ((w : Wait) → Contains ws' w → Contains ws w × (w.row ≡ i → ⊥)) → IsKept es lists t head ws loose → IsKept (forgotten es i) lists t head ws' loose
-IsKept-forgotten es i lists t head ws ws' loose lt unused keeps only h =
+filled_forgotten : (es : List Entry) (i : ℕ) → all_filled (forgotten es i) ≡ forgotten (all_filled es) i
+filled_forgotten es i = map-set filled es i (dead (entry_at es i)) ∙ ap (λ (e : Entry). set (all_filled es) i (dead e)) (sym (at_filled es i))
+
+pub IsKept-forgotten : (es : List Entry) (i : ℕ) (lists : List (List Watch)) (t : Assigned) (head : ℕ) (ws ws' : List Wait) (empty empty' : Option ℕ) → i < length es → All (λ (s : Step). s.reason ≡ Some i → ⊥) t.steps
+    → ((w : Wait) → Contains ws w → (w.row ≡ i → ⊥) → Contains ws' w) → ((w : Wait) → Contains ws' w → Contains ws w × (w.row ≡ i → ⊥)) → NamesEmpty (forgotten es i) empty' → IsKept es lists t head ws empty → IsKept (forgotten es i) lists t head ws' empty'
+IsKept-forgotten es i lists t head ws ws' empty empty' lt unused keeps only names h =
     let f : IsFewer es (forgotten es i) = Fewer-forgotten es i lt in
     record {
       known = known_fewer t.atoms es (forgotten es i) f h.known;
       justified = justified_forgotten es i t.steps lt unused h.justified;
       small = subst (λ n. n < 2 ^ 32) (sym f.count) h.small;
-      tight = λ e. record {
-        watch = IsWatching-fewer t.atoms es (forgotten es i) lists f (h.tight e).watch;
-        rested = Rested-forgotten es i t.steps t.depth head head ws ws' lt keeps only (h.tight e).rested;
+      empty_is = names;
+      tight = record {
+        watch = IsWatching-fewer t.atoms (all_filled es) (all_filled (forgotten es i)) lists (Fewer-filled es (forgotten es i) f) h.tight.watch;
+        rested = subst (λ xs. Rested xs t.steps t.depth head head ws') (sym (filled_forgotten es i))
+            (Rested-forgotten (all_filled es) i t.steps t.depth head head ws ws' (omega (arith, length_filled es)) keeps only h.tight.rested);
       };
     }
 
@@ -450,9 +474,10 @@ AreSingles-push es i ws w row depth literal live same h =
       ];
     }
 
-pub IsKept-cut : (es es' : List Entry) (lists : List (List Watch)) (t t' : Assigned) (head : ℕ) (ws ws' : List Wait) (loose loose' : Bool) → IsFewer es es' → t'.steps ≡ [] → t'.atoms ≡ t.atoms
-    → (loose' ≡ false → IsTight es' lists t' 0 ws') → IsKept es lists t head ws loose → IsKept es' lists t' 0 ws' loose'
-IsKept-cut es es' lists t t' head ws ws' loose loose' f steps atoms tight h = record {
+pub IsKept-cut : (es es' : List Entry) (lists : List (List Watch)) (t t' : Assigned) (head : ℕ) (ws ws' : List Wait) (empty empty' : Option ℕ) → IsFewer es es' → t'.steps ≡ [] → t'.atoms ≡ t.atoms
+    → NamesEmpty es' empty' → IsTight (all_filled es') lists t' 0 ws' → IsKept es lists t head ws empty → IsKept es' lists t' 0 ws' empty'
+IsKept-cut es es' lists t t' head ws ws' empty empty' f steps atoms names tight h = record {
+  empty_is = names;
   known = subst (λ n. All (λ (c : Kept). All (λ (l : Signed). l.atom < n) c.literals) (kept_from 0 es')) (sym atoms) (known_fewer t.atoms es es' f h.known);
   justified = subst (EachAfter (IsJustified (kept_from 0 es'))) (sym steps) (λ k d lt. absurd (omega (arith, lt)));
   small = subst (λ n. n < 2 ^ 32) (sym f.count) h.small;
@@ -461,19 +486,10 @@ IsKept-cut es es' lists t t' head ws ws' loose loose' f steps atoms tight h = re
 
 -- ---- more atoms, and none
 
-more_default : {X : Type 0} (xs : List X) (d : X) (k : ℕ) → get_or (xs ++ d ∷ []) k d ≡ get_or xs k d
-more_default [] d zero = refl
-more_default [] d (suc k) = refl
-more_default (x ∷ xs) d zero = refl
-more_default (x ∷ xs) d (suc k) = more_default xs d k
-
-pub lists_more : (lists : List (List Watch)) (l : Signed) → watches_of (lists ++ [] ∷ []) l ≡ watches_of lists l
-lists_more lists l = more_default lists [] (packed l)
-
 pub IsWatching-more : (atoms atoms' : ℕ) (es : List Entry) (lists lists' : List (List Watch)) → atoms ≤ atoms' → 2 * atoms' ≤ length lists' → ((l : Signed) → watches_of lists' l ≡ watches_of lists l) → IsWatching atoms es lists → IsWatching atoms' es lists'
 IsWatching-more atoms atoms' es lists lists' le room same h = record {
-  known = λ i lt.
-      let k : IsKnown atoms (entry_at es i) = h.known i lt in
+  known = λ i live.
+      let k : IsKnown atoms (entry_at es i) = h.known i live in
       let first : (entry_at es i).first.atom < atoms = k.first in
       let second : (entry_at es i).second.atom < atoms = k.second in
       record {
@@ -492,23 +508,24 @@ IsWatching-more atoms atoms' es lists lists' le room same h = record {
   };
 }
 
-pub IsKept-more : (es : List Entry) (lists lists' : List (List Watch)) (t t' : Assigned) (head : ℕ) (ws : List Wait) (loose : Bool) → t'.steps ≡ t.steps → t'.depth ≡ t.depth → t.atoms ≤ t'.atoms
-    → ((l : Signed) → watches_of lists' l ≡ watches_of lists l) → (loose ≡ false → 2 * t'.atoms ≤ length lists') → IsKept es lists t head ws loose → IsKept es lists' t' head ws loose
-IsKept-more es lists lists' t t' head ws loose steps depth le same room h = record {
+pub IsKept-more : (es : List Entry) (lists lists' : List (List Watch)) (t t' : Assigned) (head : ℕ) (ws : List Wait) (empty : Option ℕ) → t'.steps ≡ t.steps → t'.depth ≡ t.depth → t.atoms ≤ t'.atoms
+    → ((l : Signed) → watches_of lists' l ≡ watches_of lists l) → 2 * t'.atoms ≤ length lists' → IsKept es lists t head ws empty → IsKept es lists' t' head ws empty
+IsKept-more es lists lists' t t' head ws empty steps depth le same room h = record {
+  empty_is = h.empty_is;
   known = All-weaker (λ (c : Kept). All (λ (l : Signed). l.atom < t.atoms) c.literals) (λ (c : Kept). All (λ (l : Signed). l.atom < t'.atoms) c.literals)
       (λ c k. All-weaker (λ (l : Signed). l.atom < t.atoms) (λ (l : Signed). l.atom < t'.atoms) (λ l lt. omega arith) c.literals k) (kept_from 0 es) h.known;
   justified = subst (EachAfter (IsJustified (kept_from 0 es))) (sym steps) h.justified;
   small = h.small;
-  tight = λ e. record {
-    watch = IsWatching-more t.atoms t'.atoms es lists lists' le (room e) same (h.tight e).watch;
-    rested = subst (λ ss. Rested es ss t'.depth head head ws) (sym steps) (subst (λ d. Rested es t.steps d head head ws) (sym depth) (h.tight e).rested);
+  tight = record {
+    watch = IsWatching-more t.atoms t'.atoms (all_filled es) lists lists' le room same h.tight.watch;
+    rested = subst (λ ss. Rested (all_filled es) ss t'.depth head head ws) (sym steps) (subst (λ d. Rested (all_filled es) t.steps d head head ws) (sym depth) h.tight.rested);
   };
 }
 
-pub IsKept-none : (t : Assigned) → t.steps ≡ [] → t.atoms ≡ 0 → t.depth ≡ 0 → IsKept [] [] t 0 [] false
+pub IsKept-none : (t : Assigned) → t.steps ≡ [] → t.atoms ≡ 0 → t.depth ≡ 0 → IsKept [] [] t 0 [] None
 IsKept-none t steps atoms depth =
     let watch : IsWatching 0 [] [] = record {
-      known = λ i lt. absurd (omega (arith, lt));
+      known = λ i live. absurd (false_true live);
       pairs = λ i live. absurd (false_true live);
       sound = λ l. All-nil (IsSound 0 []);
       listed = λ i live. absurd (false_true live);
@@ -519,8 +536,26 @@ IsKept-none t steps atoms depth =
       known = All-nil (λ (c : Kept). All (λ (l : Signed). l.atom < t.atoms) c.literals);
       justified = subst (EachAfter (IsJustified [])) (sym steps) (λ k d lt. absurd (omega (arith, lt)));
       small = omega arith;
-      tight = λ e. record {
+      empty_is = λ i x. false_true x.live;
+      tight = record {
         watch = subst (λ n. IsWatching n [] []) (sym atoms) watch;
         rested = subst (λ ss. Rested [] ss t.depth 0 0 []) (sym steps) (subst (λ d. Rested [] [] d 0 0 []) (sym depth) (Rested-cut 0 [] [] [] watch (AreSingles-none [])));
       };
     }
+
+pub HasSingles-none : (es : List Entry) → HasSingles es 0 []
+HasSingles-none es = record { singles = AreSingles-none es; below = All-nil (λ (w : Wait). w.row < 0); apart = λ j k lt. absurd (omega (arith, lt)) }
+
+below_more : (ws : List Wait) (i : ℕ) → All (λ (w : Wait). w.row < i) ws → All (λ (w : Wait). w.row < i + 1) ws
+below_more ws i h = All-weaker (λ (w : Wait). w.row < i) (λ (w : Wait). w.row < i + 1) (λ w lt. omega arith) ws h
+
+pub HasSingles-pass : (es : List Entry) (i : ℕ) (ws : List Wait) → ((entry_at es i).live ≡ true → (entry_at es i).first ≡ (entry_at es i).second → ⊥) → HasSingles es i ws → HasSingles es (i + 1) ws
+HasSingles-pass es i ws none h = record { singles = AreSingles-pass es i ws none h.singles; below = below_more ws i h.below; apart = h.apart }
+
+pub HasSingles-push : (es : List Entry) (i : ℕ) (ws : List Wait) (w : Wait) → w.row ≡ i → w.depth ≡ 0 → w.literal ≡ (entry_at es i).first → (entry_at es i).live ≡ true → (entry_at es i).first ≡ (entry_at es i).second → HasSingles es i ws
+    → HasSingles es (i + 1) (ws ++ w ∷ [])
+HasSingles-push es i ws w row depth literal live same h = record {
+  singles = AreSingles-push es i ws w row depth literal live same h.singles;
+  below = All-push (λ (x : Wait). x.row < i + 1) ws w (below_more ws i h.below) (omega (arith, row));
+  apart = apart_fresh ws w h.apart (λ x c e. let lt : x.row < i = All-contains (λ (y : Wait). y.row < i) ws x h.below c in omega (arith, row, e));
+}

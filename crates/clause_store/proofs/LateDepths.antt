@@ -2,7 +2,7 @@
 use Rattle.std.proofs.Common.{◌≡◌, ◌≢◌, ℕ, ◌+◌, ◌<◌, ◌≤◌, zero, suc, Bool, true, false, nat_le, List, [], ◌∷◌, ◌++◌, All, Contains, length, take, get_or, subst, sym, ap, ◌∙◌, refl, inl, inr, ◌⊎◌, arith}
 use Rattle.std.proofs.lemmas.Bool.Decides.{nat_tests}
 use Rattle.std.proofs.lemmas.List.{take_all, take-take, take-append-le, get_or_append_left}
-use Rattle.std.proofs.lemmas.List.Elements.{All-head, All-tail, All-weaker, All-push, All-contains, Contains-append_left, Contains-push}
+use Rattle.std.proofs.lemmas.List.Elements.{All-head, All-tail, All-weaker, All-contains, Contains-get_or}
 use Rattle.std.specs.List.Sorted.{IsNonDecreasingBy}
 use Rattle.literals.specs.Signed.{Signed, opposite}
 use Rattle.clause_store.specs.Trail.{Assigns, up_to}
@@ -22,7 +22,7 @@ use Rattle.clause_store.proofs.Watches.{same_or_apart}
 use Rattle.clause_store.proofs.Sweeping.{IsSettled-other, equal_or_apart, pair_lists, watched_of, watched}
 use Rattle.clause_store.proofs.Turning.{Assigns-front, Assigns-more_cases, Grows-longer, opposite-opposite}
 use Rattle.clause_store.proofs.Kept.{Grows-none, Grows-assigns}
-use Rattle.clause_store.proofs.Forces.{force-grows, AllForced-more}
+use Rattle.clause_store.proofs.Forces.{force-grows}
 use Rattle.clause_store.proofs.Depths.{up_to-grown, up_to-all, each-grown, deepest-grown, waiting-grown, waiting-shaped, less_seen, below_or_past}
 use Rattle.clause_store.proofs.Rounds.{awake_on, awake_after}
 
@@ -105,9 +105,6 @@ Late-back head f es steps list k ws h = λ i live. elim (h.each i live) [
 
 -- ---- steps grow
 
-waits_in : (ws ws' : List Wait) (i d : ℕ) → ((w : Wait) → Contains ws w → Contains ws' w) → Waits ws i d → Waits ws' i d
-waits_in ws ws' i d keeps h = record { wait = h.wait; contained = keeps h.wait h.contained; row = h.row; from = h.from }
-
 front-grown : (clauses : List Kept) (depth d n : ℕ) (old new : List Step) → Grows clauses depth old new → n ≤ length old → All (λ (s : Step). s.depth ≤ depth) old → All (λ (s : Step). s.depth ≤ depth) new → take n (up_to d new) ≡ take n (up_to d old)
 front-grown clauses depth d n old new grows within deep deep' = elim (below_or_past d depth) [
   | inl below ↦ ap (λ xs. take n xs) (up_to-grown clauses depth d old new grows below)
@@ -118,14 +115,14 @@ front-grown clauses depth d n old new grows within deep deep' = elim (below_or_p
 ]
 
 covered-grown : (clauses : List Kept) (depth head i : ℕ) (old new : List Step) (ws ws' : List Wait) (e : Entry) → Grows clauses depth old new → head ≤ length old → All (λ (s : Step). s.depth ≤ depth) old → All (λ (s : Step). s.depth ≤ depth) new
-    → ((w : Wait) → Contains ws w → Contains ws' w) → IsCovered old ws head i e → IsCovered new ws' head i e
+    → ((n d : ℕ) → Waits ws n d → Waits ws' n d) → IsCovered old ws head i e → IsCovered new ws' head i e
 covered-grown clauses depth head i old new ws ws' e grows within deep deep' keeps h = λ d. elim (h d) [
   | inl done ↦ inl (each-grown clauses depth d head old new e grows within deep deep' done)
-  | inr waits ↦ inr (waits_in ws ws' i d keeps waits)
+  | inr waits ↦ inr (keeps i d waits)
 ]
 
 pub Late-step : (head depth : ℕ) (f : Signed) (clauses : List Kept) (es es' : List Entry) (steps steps' : List Step) (list list' : List Watch) (k k' : ℕ) (ws ws' : List Wait) (row : ℕ) → LateCovers head f es steps list k ws
-    → Grows clauses depth steps steps' → All (λ (s : Step). s.depth ≤ depth) steps → All (λ (s : Step). s.depth ≤ depth) steps' → ((w : Wait) → Contains ws w → Contains ws' w)
+    → Grows clauses depth steps steps' → All (λ (s : Step). s.depth ≤ depth) steps → All (λ (s : Step). s.depth ≤ depth) steps' → ((n d : ℕ) → Waits ws n d → Waits ws' n d)
     → ((i : ℕ) → i ≢ row → entry_at es' i ≡ entry_at es i) → (entry_at es' row).live ≡ (entry_at es row).live
     → ((entry_at es row).live ≡ true → IsCovered steps' ws' (head + 1) row (entry_at es' row)) → ((i : ℕ) → i ≢ row → IsListed list k i → IsListed list' k' i) → LateCovers head f es' steps' list' k' ws'
 Late-step head depth f clauses es es' steps steps' list list' k k' ws ws' row h grows deep deep' keeps others live settled listed =
@@ -152,6 +149,9 @@ Late-step head depth f clauses es es' steps steps' list list' k k' ws ws' row h 
 
 -- ---- what waits
 
+All-from : {X : Type 0} (P : X → Type 0) (xs : List X) → ((x : X) → Contains xs x → P x) → All P xs
+All-from P xs h k d lt = h (get_or xs k d) (Contains-get_or xs k d lt)
+
 pub pinned-waits : (es : List Entry) (steps : List Step) (w : Wait) (s : Signed) → (entry_at es w.row).live ≡ true → Contains (entry_at es w.row).literals w.literal → IsPinned steps (entry_at es w.row).literals w.literal s w.depth → IsWaiting es steps w
 pinned-waits es steps w s live contained h = record { live = live; contained = contained; rest = h.rest }
 
@@ -161,17 +161,43 @@ pins-grow es depth steps steps' ws ws' w waits p = force-grows es w depth steps 
 pub ready-pinned : (es : List Entry) (depth : ℕ) (steps steps' : List Step) (ws ws' : List Wait) (w : Wait) → IsWaiting es steps w → Pins w depth steps steps' ws ws' → IsReady es steps depth ws → IsReady es steps' depth ws'
 ready-pinned es depth steps steps' ws ws' w waits p h =
     let grows : Grows (kept_from 0 es) depth steps steps' = pins-grow es depth steps steps' ws ws' w waits p in
-    subst (IsReady es steps' depth) (sym p.gains) record {
+    record {
       deepest = deepest-grown (kept_from 0 es) steps steps' depth grows h.deepest;
-      waiting = waiting-grown (kept_from 0 es) es depth steps steps' (ws ++ w ∷ []) grows (All-push (IsWaiting es steps) ws w h.waiting waits);
-      forced = All-push (λ (x : Wait). Assigns steps' x.literal) ws w (AllForced-more steps steps' ws (λ l a. Grows-assigns (kept_from 0 es) depth steps steps' l grows a) h.forced) p.forced.0;
+      waiting = waiting-grown (kept_from 0 es) es depth steps steps' ws' grows (All-from (IsWaiting es steps) ws' (λ x c. elim (p.only x c) [ inl old ↦ All-contains (IsWaiting es steps) ws x h.waiting old | inr same ↦ subst (IsWaiting es steps) (sym same) waits ]));
+      forced = All-from (λ (x : Wait). Assigns steps' x.literal) ws' (λ x c. elim (p.only x c) [
+        | inl old ↦ Grows-assigns (kept_from 0 es) depth steps steps' x.literal grows (All-contains (λ (y : Wait). Assigns steps y.literal) ws x h.forced old)
+        | inr same ↦ subst (λ (y : Wait). Assigns steps' y.literal) (sym same) p.forced.0
+      ]);
     }
 
 pub ready-shaped : (es es' : List Entry) (steps : List Step) (depth : ℕ) (ws : List Wait) → SameShape es es' → IsReady es steps depth ws → IsReady es' steps depth ws
 ready-shaped es es' steps depth ws shape h = record { deepest = h.deepest; waiting = waiting-shaped es es' steps ws shape h.waiting; forced = h.forced }
 
-pub keeps-pinned : (depth : ℕ) (steps steps' : List Step) (ws ws' : List Wait) (w : Wait) → Pins w depth steps steps' ws ws' → (x : Wait) → Contains ws x → Contains ws' x
-keeps-pinned depth steps steps' ws ws' w p x c = subst (λ xs. Contains xs x) (sym p.gains) (Contains-append_left ws (w ∷ []) x c)
+-- a clause waits at each depth where it did, now by the new wait
+pub keeps-pinned : (es : List Entry) (depth : ℕ) (steps steps' : List Step) (ws ws' : List Wait) (w : Wait) (s : Signed) → Contains (entry_at es w.row).literals w.literal → IsPinned steps (entry_at es w.row).literals w.literal s w.depth
+    → All (IsWaiting es steps) ws → Pins w depth steps steps' ws ws' → (n d : ℕ) → Waits ws n d → Waits ws' n d
+keeps-pinned es depth steps steps' ws ws' w s in-o pinned waiting p n d h = elim (same_or_apart h.wait.row w.row) [
+  | inl same ↦
+      let x : IsWaiting es steps h.wait = All-contains (IsWaiting es steps) ws h.wait waiting h.contained in
+      let rest : All (λ m. (m ≡ h.wait.literal) ⊎ IsFalseOn (up_to h.wait.depth steps) m) (entry_at es w.row).literals = subst (λ i. All (λ m. (m ≡ h.wait.literal) ⊎ IsFalseOn (up_to h.wait.depth steps) m) (entry_at es i).literals) same x.rest in
+      let later : h.wait.depth ≤ d = h.from in
+      record {
+        wait = w;
+        contained = p.waits;
+        row = sym same ∙ h.row;
+        from = elim (below_or_past h.wait.depth w.depth) [
+          | inl below ↦ absurd (none_below {l = h.wait.literal} (pinned.below h.wait.depth below) (All-contains (λ m. (m ≡ h.wait.literal) ⊎ IsFalseOn (up_to h.wait.depth steps) m) (entry_at es w.row).literals w.literal rest in-o)
+              (All-contains (λ m. (m ≡ h.wait.literal) ⊎ IsFalseOn (up_to h.wait.depth steps) m) (entry_at es w.row).literals s rest pinned.contained))
+          | inr past ↦ omega arith
+        ];
+      }
+  | inr apart ↦ record { wait = h.wait; contained = p.keeps h.wait h.contained apart; row = h.row; from = h.from }
+]
+  where
+    none_below : {xs : List Step} {o s l : Signed} → AreOpen xs o s → (o ≡ l) ⊎ IsFalseOn xs o → (s ≡ l) ⊎ IsFalseOn xs s → ⊥
+    none_below open' (inl a) (inl b) = open'.apart (a ∙ sym b)
+    none_below open' (inl a) (inr f) = open'.second f
+    none_below open' (inr f) b = open'.first f
 
 -- ---- a clause that is pinned
 
@@ -189,7 +215,7 @@ pinned-covered clauses depth n row steps steps' ws ws' ls w s e is_row grows dee
       let o : AreOpen (up_to d steps) w.literal s = h.below d below in
       let o' : AreOpen (up_to d steps') w.literal s = subst (λ xs. AreOpen xs w.literal s) (sym (up_to-grown clauses depth d steps steps' grows (omega arith))) o in
       open_covered (up_to d steps') n w.literal s e o' pair)
-  | inr past ↦ inr (record { wait = w; contained = subst (λ xs. Contains xs w) (sym p.gains) (Contains-push ws w); row = is_row; from = past })
+  | inr past ↦ inr (record { wait = w; contained = p.waits; row = is_row; from = past })
 ]
   where
     open_covered : (xs : List Step) (n : ℕ) (a b : Signed) (e : Entry) → AreOpen xs a b → ((e.first ≡ a) × (e.second ≡ b)) ⊎ ((e.first ≡ b) × (e.second ≡ a)) → IsSettled (take n xs) xs e

@@ -2,7 +2,7 @@
 use Rattle.std.proofs.Common.{◌≡◌, ℕ, ◌+◌, ◌*◌, ◌<◌, ◌≤◌, true, false, List, [], ◌∷◌, ◌++◌, All, Contains, length, get_or, set, subst, sym, ap, ◌∙◌, refl, inl, inr, ◌⊎◌, arith}
 use Rattle.std.specs.List.{swap_remove}
 use Rattle.std.proofs.lemmas.List.{length-set, set_comm, get_or-set_same}
-use Rattle.std.proofs.lemmas.List.Elements.{All-set, All-get_or, All-contains}
+use Rattle.std.proofs.lemmas.List.Elements.{All-set, All-get_or, All-contains, All-weaker}
 use Rattle.literals.specs.Signed.{Signed, opposite, packed}
 use Rattle.clause_store.specs.declared.trail.Step.{Step}
 use Rattle.clause_store.specs.Stored.{IsFalseOn}
@@ -10,7 +10,7 @@ use Rattle.clause_store.specs.Entries.{Entry, entry_at, watches_of, IsKnown, IsO
 use Rattle.clause_store.specs.Visits.{Parts, Moves}
 use Rattle.clause_store.specs.Watching.{IsPair, IsOwn, IsSound, Grows, SameShape, kept_from, no_watch}
 use Rattle.clause_store.specs.Sweeps.{State, watching}
-use Rattle.clause_store.specs.Rested.{IsWaiting}
+use Rattle.clause_store.specs.Rested.{IsWaiting, Waits}
 use Rattle.clause_store.specs.Late.{IsCovered, IsReady, LateCovers, Pins, Shifts, LatePins, LateMoves, LateGives, LateSweeps, LateMeets}
 use Rattle.clause_store.specs.declared.lists.Watch.{Watch}
 use Rattle.clause_store.specs.declared.waits.Wait.{Wait}
@@ -129,7 +129,7 @@ move_watch atoms f es lists steps ws k w kept found h lt is place live other apa
           let of_row : ((entry_at es' w.row).first ≡ f) ⊎ ((entry_at es' w.row).second ≡ f) = subst (λ m. ((entry_at es' m).first ≡ f) ⊎ ((entry_at es' m).second ≡ f)) (sym same) is_f in
           elim (rw changed at of_row) [ inl a ↦ kept_f a | inr b ↦ found_f b ])
           (listed_own atoms f s' i place' after_move is_live is_f))
-          (IsTidy-move es lists f ws k w w.row kept found more place place_found lt row_is within other apart found_f refl h.tidy);
+          (IsTidy-move es lists f ws k w w.row kept found more place place_found lt row_is within other apart found_f contained refl h.tidy);
       changed = changed;
       kept_f = kept_f;
     }
@@ -149,14 +149,14 @@ Late-keep atoms depth f old p p' us ws ws' list k w b h lt is place g =
     let grows : Grows (kept_from 0 p.entries) depth p.steps p'.steps = pins-grow p.entries depth p.steps p'.steps ws ws' x waits pins in
     let ready' : IsReady p.entries p'.steps depth ws' = ready-pinned p.entries depth p.steps p'.steps ws ws' x waits pins h.ready in
     let b_in : Contains e.literals b = subst (Contains e.literals) (sym g.gives.0) in-o in
-    let known : b.atom < atoms = All-contains (λ (m : Signed). m.atom < atoms) e.literals b (known_at atoms f (with_list p list) k w place h.watch lt is).literals b_in in
+    let known : b.atom < atoms = All-contains (λ (m : Signed). m.atom < atoms) e.literals b (known_at atoms f (with_list p list) k w place h.watch lt is g.live).literals b_in in
     let here : w ≡ get_or list k no_watch = at_place list k w lt is in
     let row_here : v.row ≡ (get_or list k no_watch).row = ap (λ (y : Watch). y.row) here in
     let pair : ((e.first ≡ g.other) × (e.second ≡ g.second)) ⊎ ((e.first ≡ g.second) × (e.second ≡ g.other)) = elim g.is_other.pair [ inl q ↦ inr (q.0 ∙ sym second_f, q.1) | inr q ↦ inl (q.1, q.0 ∙ sym second_f) ] in
     let done : LateSweeps atoms depth f old (record { entries = p.entries; lists = p.lists; steps = p'.steps; list = set list k v }) us ws' (k + 1) = record {
       watch = keep_watch atoms f p.entries p.lists p.steps list k w b h.watch lt is place known (λ live. b_in);
       covers = λ head c.
-          Late-step head depth f (kept_from 0 p.entries) p.entries p.entries p.steps p'.steps list (set list k v) k (k + 1) ws ws' w.row (h.covers head c) grows h.ready.deepest ready'.deepest (keeps-pinned depth p.steps p'.steps ws ws' x pins) (λ i ne. refl) refl
+          Late-step head depth f (kept_from 0 p.entries) p.entries p.entries p.steps p'.steps list (set list k v) k (k + 1) ws ws' w.row (h.covers head c) grows h.ready.deepest ready'.deepest (keeps-pinned p.entries depth p.steps p'.steps ws ws' x g.second in-o g.pinned h.ready.waiting pins) (λ i ne. refl) refl
           (λ live. pinned-covered (kept_from 0 p.entries) depth (head + 1) w.row p.steps p'.steps ws ws' e.literals x g.second e refl grows h.ready.deepest g.pinned pins pair)
           (λ i ne l. IsListed-next (set list k v) k i (λ y. ne (sym y ∙ ap (λ (z : Watch). z.row) (get_or-set_same list k v no_watch lt))) (IsListed-set list k k i v lt row_here l));
       ready = ready';
@@ -176,7 +176,7 @@ late_dead atoms depth f old p us ws list k w h lt is place dead =
     record {
       watch = drop_watch atoms f p.entries p.lists p.steps list k w h.watch lt is place dead;
       covers = λ head c.
-          Late-step head depth f (kept_from 0 p.entries) p.entries p.entries p.steps p.steps list (swap_remove list k w) k k ws ws w.row (h.covers head c) (Grows-none (kept_from 0 p.entries) depth p.steps) h.ready.deepest h.ready.deepest (λ x m. m) (λ i ne. refl) refl
+          Late-step head depth f (kept_from 0 p.entries) p.entries p.entries p.steps p.steps list (swap_remove list k w) k k ws ws w.row (h.covers head c) (Grows-none (kept_from 0 p.entries) depth p.steps) h.ready.deepest h.ready.deepest (λ n d x. x) (λ i ne. refl) refl
           (λ live. absurd (true_false (sym live ∙ dead)))
           (λ i ne l. IsListed-removed list k k i w lt (omega arith) (λ e. ne (sym e ∙ row_is)) l);
       ready = h.ready;
@@ -192,7 +192,7 @@ late_dead atoms depth f old p us ws list k w h lt is place dead =
 -- another literal is watched: what is left to show is that the clause is covered
 late_other : (atoms depth : ℕ) (f : Signed) (old : State) (p p' : Parts) (us ws ws' : List Wait) (list : List Watch) (k : ℕ) (w : Watch) (kept found : Signed) → LateSweeps atoms depth f old (with_list p list) us ws k → k < length list → w ≡ get_or list k w → packed f < length p.lists
     → (entry_at p.entries w.row).live ≡ true → IsOther (entry_at p.entries w.row) f kept → (found ≡ kept → ⊥) → (found ≡ f → ⊥) → Contains (entry_at p.entries w.row).literals found → Shifts kept found w.row p p'
-    → Grows (kept_from 0 p.entries) depth p.steps p'.steps → IsReady p.entries p'.steps depth ws' → ((x : Wait) → Contains ws x → Contains ws' x)
+    → Grows (kept_from 0 p.entries) depth p.steps p'.steps → IsReady p.entries p'.steps depth ws' → ((n d : ℕ) → Waits ws n d → Waits ws' n d)
     → ((head : ℕ) → (kept ≡ f → ⊥) → LateCovers head f p.entries p.steps list k ws → IsCovered p'.steps ws' (head + 1) w.row (watched (entry_at p.entries w.row) kept found))
     → LateSweeps atoms depth f old (with_list p' (swap_remove list k w)) us ws' k
 late_other atoms depth f old p p' us ws ws' list k w kept found h lt is place live other apart found_f contained shifts grows ready keeps covered =
@@ -201,7 +201,7 @@ late_other atoms depth f old p p' us ws ws' list k w kept found h lt is place li
     let here : w ≡ get_or list k no_watch = at_place list k w lt is in
     let row_is : (get_or list k no_watch).row ≡ w.row = ap (λ (x : Watch). x.row) (sym here) in
     let within : w.row < length p.entries = live_within p.entries w.row live in
-    let known : IsKnown atoms e = known_at atoms f (with_list p list) k w place h.watch lt is in
+    let known : IsKnown atoms e = known_at atoms f (with_list p list) k w place h.watch lt is live in
     let atom : found.atom < atoms = All-contains (λ (x : Signed). x.atom < atoms) e.literals found known.literals contained in
     let room : 2 * atoms ≤ length (set p.lists (packed f) list) = h.watch.room in
     let place_found : packed found < length p.lists = code_within found atoms (length p.lists) atom (omega (arith, length-set p.lists (packed f) list)) in
@@ -234,7 +234,7 @@ late_pinned atoms depth f old p p' us ws ws' list k w h lt is place g =
     let in-o : Contains e.literals g.other = other_in atoms p.entries (set p.lists (packed f) list) w.row f g.other h.watch g.live g.is_other in
     let waits : IsWaiting p.entries p.steps x = pinned-waits p.entries p.steps x g.second g.live in-o g.pinned in
     let grows : Grows (kept_from 0 p.entries) depth p.steps p'.steps = pins-grow p.entries depth p.steps p'.steps ws ws' x waits pins in
-    late_other atoms depth f old p p' us ws ws' list k w g.other g.second h lt is place g.live g.is_other g.pinned.apart g.gives.0 g.pinned.contained g.gives.1 grows (ready-pinned p.entries depth p.steps p'.steps ws ws' x waits pins h.ready) (keeps-pinned depth p.steps p'.steps ws ws' x pins)
+    late_other atoms depth f old p p' us ws ws' list k w g.other g.second h lt is place g.live g.is_other g.pinned.apart g.gives.0 g.pinned.contained g.gives.1 grows (ready-pinned p.entries depth p.steps p'.steps ws ws' x waits pins h.ready) (keeps-pinned p.entries depth p.steps p'.steps ws ws' x g.second in-o g.pinned h.ready.waiting pins)
     (λ head kept_f c. pinned-covered (kept_from 0 p.entries) depth (head + 1) w.row p.steps p'.steps ws ws' e.literals x g.second (watched e g.other g.second) refl grows h.ready.deepest g.pinned pins (inl (refl, refl)))
 
 late_moved : (atoms depth : ℕ) (f : Signed) (old : State) (p p' : Parts) (us ws : List Wait) (list : List Watch) (k : ℕ) (w : Watch) → LateSweeps atoms depth f old (with_list p list) us ws k → k < length list → w ≡ get_or list k w → packed f < length p.lists → IsFalseOn p.steps f
@@ -244,7 +244,7 @@ late_moved atoms depth f old p p' us ws list k w h lt is place is_false g =
     let found_f : m.found ≡ f → ⊥ = λ x. m.not_false (subst (IsFalseOn p.steps) (sym x) is_false) in
     let none : Grows (kept_from 0 p.entries) depth p.steps p'.steps = subst (Grows (kept_from 0 p.entries) depth p.steps) (sym m.steps) (Grows-none (kept_from 0 p.entries) depth p.steps) in
     late_other atoms depth f old p p' us ws ws list k w g.other m.found h lt is place g.live g.is_other m.apart found_f m.contained (record { entries = m.entries; lists = m.lists }) none
-    (subst (λ xs. IsReady p.entries xs depth ws) (sym m.steps) h.ready) (λ x c. c)
+    (subst (λ xs. IsReady p.entries xs depth ws) (sym m.steps) h.ready) (λ n d x. x)
     (λ head kept_f c. subst (λ xs. IsCovered xs ws (head + 1) w.row (watched (entry_at p.entries w.row) g.other m.found)) (sym m.steps)
     (moved-covered head f p.entries p.steps list k w.row ws g.other m.found c g.live g.is_other kept_f m.apart m.not_false))
 
@@ -263,3 +263,6 @@ pub Late-false : (atoms depth : ℕ) (f : Signed) (old : State) (p p' : Parts) (
 Late-false atoms depth f old p p' us ws ws' list k w h g =
     subst (λ q. LateMeets atoms depth f old (with_list q list) us ws' w.row) (sym g.1.same)
     (subst (λ xs. LateMeets atoms depth f old (with_list p list) us xs w.row) (sym g.1.waits) (record { place = k; sweeps = h; live = g.0; all_false = g.2 }))
+
+pub waiting_within : (es : List Entry) (steps : List Step) (ws : List Wait) → All (IsWaiting es steps) ws → All (λ (w : Wait). w.row < length es) ws
+waiting_within es steps ws h = All-weaker (IsWaiting es steps) (λ (w : Wait). w.row < length es) (λ w x. live_within es w.row x.live) ws h

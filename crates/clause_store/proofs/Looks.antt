@@ -2,28 +2,25 @@
 use Rattle.std.proofs.Common.{◌≡◌, ℕ, List, [], ◌∷◌, ◌++◌, Some, All, Contains, ◌⊎◌, inl, inr, refl, subst, sym, ap, ◌∙◌}
 use Rattle.std.proofs.lemmas.List.Elements.{All-weaker}
 use Rattle.std.proofs.lemmas.List.{get_or_default}
-use Rattle.std.proofs.Common.{get_or, length, ◌<◌, ◌≤◌, arith}
-use Rattle.literals.specs.Signed.{Signed}
+use Rattle.std.proofs.Common.{get_or, set, length, ◌<◌, ◌≤◌, arith}
+use Rattle.literals.specs.Signed.{Signed, packed}
 use Rattle.clause_store.specs.declared.trail.Step.{Step}
 use Rattle.clause_store.specs.Trail.{IsOpen}
 use Rattle.clause_store.specs.Stored.{IsFalseOn, AllFalse}
-use Rattle.clause_store.specs.Entries.{Entry, entry_at}
-use Rattle.clause_store.specs.Visits.{Parts, StepGives, Transfers, IsFoundAt, NoneBetween}
+use Rattle.clause_store.specs.Entries.{Entry, entry_at, watches_of}
+use Rattle.clause_store.specs.Visits.{Parts, StepGives, IsFoundAt, NoneBetween}
 use Rattle.clause_store.specs.declared.lists.Watch.{Watch}
-use Rattle.clause_store.specs.declared.sweep.Visit.{Visit}
-use Rattle.clause_store.specs.declared.sweep.Visit.TheVariants.{Keep, Gone, False, NoRoom}
+use Rattle.clause_store.specs.declared.sweep.Visit.TheVariants.{Keep, Gone, False}
 
 pub parts_same : (es es' : List Entry) (lists lists' : List (List Watch)) (steps : List Step) → es' ≡ es → lists' ≡ lists
     → let a : Parts = record { entries = es'; lists = lists'; steps = steps } in let b : Parts = record { entries = es; lists = lists; steps = steps } in a ≡ b
 parts_same es es' lists lists' steps e l = ap (λ (x : List Entry). let p : Parts = record { entries = x; lists = lists'; steps = steps } in p) e ∙ ap (λ (x : List (List Watch)). let p : Parts = record { entries = es; lists = x; steps = steps } in p) l
 
-pub step-transfer : (found o : Signed) (row depth : ℕ) (es es' : List Entry) (lists lists' : List (List Watch)) (steps : List Step) (v : Visit)
-    → Contains (entry_at es row).literals found × (found ≡ o → ⊥) × (IsFalseOn steps found → ⊥) → Transfers found o row es es' lists lists' v
-    → StepGives o row depth (record { entries = es; lists = lists; steps = steps }) (record { entries = es'; lists = lists'; steps = steps }) v
-step-transfer found o row depth es es' lists lists' steps (Keep b) h t = absurd t
-step-transfer found o row depth es es' lists lists' steps Gone h t = record { found = found; apart = h.1; contained = h.0; not_false = h.2; entries = t.0; lists = t.1; steps = refl }
-step-transfer found o row depth es es' lists lists' steps False h t = absurd t
-step-transfer found o row depth es es' lists lists' steps NoRoom h t = parts_same es es' lists lists' steps t.0 t.1
+pub step-moves : (found o : Signed) (row depth : ℕ) (es es' : List Entry) (lists lists' : List (List Watch)) (steps : List Step)
+    → Contains (entry_at es row).literals found × (found ≡ o → ⊥) × (IsFalseOn steps found → ⊥) → es' ≡ set es row (record (entry_at es row) { first = o; second = found })
+    → (let more : Watch = record { blocker = o; row = row } in lists' ≡ set lists (packed found) (watches_of lists found ++ more ∷ []))
+    → StepGives o row depth (record { entries = es; lists = lists; steps = steps }) (record { entries = es'; lists = lists'; steps = steps }) Gone
+step-moves found o row depth es es' lists lists' steps h e l = record { found = found; apart = h.1; contained = h.0; not_false = h.2; entries = e; lists = l; steps = refl }
 
 pub all_false : (steps : List Step) (o : Signed) (ls : List Signed) → IsFalseOn steps o → All (λ m. (m ≡ o) ⊎ IsFalseOn steps m) ls → AllFalse steps ls
 all_false steps o ls f h = All-weaker (λ m. (m ≡ o) ⊎ IsFalseOn steps m) (IsFalseOn steps) (λ m p. elim p [ inl e ↦ subst (IsFalseOn steps) (sym e) f | inr g ↦ g ]) ls h

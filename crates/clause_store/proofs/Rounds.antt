@@ -183,7 +183,7 @@ Sweeps-move atoms depth f old es lists steps ws k w kept found h lt is place is_
           let of_row : ((entry_at es' w.row).first ≡ f) ⊎ ((entry_at es' w.row).second ≡ f) = subst (λ m. ((entry_at es' m).first ≡ f) ⊎ ((entry_at es' m).second ≡ f)) (sym same) is_f in
           elim (rw changed at of_row) [ inl a ↦ kept_f a | inr b ↦ found_f b ])
           (listed_own atoms f s' i place' after_move is_live is_f))
-          (IsTidy-move es lists f ws k w w.row kept found more place place_found lt row_is within other apart found_f refl h.watch.tidy);
+          (IsTidy-move es lists f ws k w w.row kept found more place place_found lt row_is within other apart found_f contained refl h.watch.tidy);
       covers = λ g c.
           let cs : Covers g f es steps ws k = h.covers g c in
           Covers-step g f es es' steps steps ws (swap_remove ws k w) k k w.row cs (λ l a. a) (λ i ne. entry_at-other es w.row i (watched e kept found) ne)
@@ -208,8 +208,8 @@ with_list p ws = record { entries = p.entries; lists = p.lists; steps = p.steps;
 pub sound_at : (atoms : ℕ) (f : Signed) (s : State) (k : ℕ) (w : Watch) → packed f < length s.lists → watching atoms f s → k < length s.list → w ≡ get_or s.list k w → IsSound atoms s.entries w
 sound_at atoms f s k w place h lt is = subst (IsSound atoms s.entries) (sym (at_place s.list k w lt is)) (All-get_or (IsSound atoms s.entries) s.list k no_watch lt (sound_own atoms f s place (watched_of atoms s.entries (set s.lists (packed f) s.list) h)))
 
-pub known_at : (atoms : ℕ) (f : Signed) (s : State) (k : ℕ) (w : Watch) → packed f < length s.lists → watching atoms f s → k < length s.list → w ≡ get_or s.list k w → IsKnown atoms (entry_at s.entries w.row)
-known_at atoms f s k w place h lt is = h.known w.row (sound_at atoms f s k w place h lt is).within
+pub known_at : (atoms : ℕ) (f : Signed) (s : State) (k : ℕ) (w : Watch) → packed f < length s.lists → watching atoms f s → k < length s.list → w ≡ get_or s.list k w → (entry_at s.entries w.row).live ≡ true → IsKnown atoms (entry_at s.entries w.row)
+known_at atoms f s k w place h lt is live = h.known w.row live
 
 pub other_in : (atoms : ℕ) (es : List Entry) (lists : List (List Watch)) (row : ℕ) (f o : Signed) → IsWatching atoms es lists → (entry_at es row).live ≡ true → IsOther (entry_at es row) f o → Contains (entry_at es row).literals o
 other_in atoms es lists row f o h live other = (pair_lists atoms es lists row o (watched_of atoms es lists h) live (elim other.pair [ inl p ↦ inr p.1 | inr p ↦ inl p.1 ])).0
@@ -252,7 +252,7 @@ Round-keep atoms depth f old p p' ws k w b h lt is place (inr (inr st)) =
     let v : Watch = record { blocker = b; row = w.row } in
     let other : IsOther (entry_at p.entries w.row) f b = subst (IsOther (entry_at p.entries w.row) f) (sym st.gives.0) st.is_other in
     let contained : Contains (entry_at p.entries w.row).literals b = other_in atoms p.entries (set p.lists (packed f) ws) w.row f b h.watch st.live other in
-    let known : b.atom < atoms = All-contains (λ (m : Signed). m.atom < atoms) (entry_at p.entries w.row).literals b (known_at atoms f (with_list p ws) k w place h.watch lt is).literals contained in
+    let known : b.atom < atoms = All-contains (λ (m : Signed). m.atom < atoms) (entry_at p.entries w.row).literals b (known_at atoms f (with_list p ws) k w place h.watch lt is st.live).literals contained in
     elim st.gives.1 [
       | inl stays ↦ subst (λ q. Sweeps atoms depth f old (with_list q (set ws k v)) (k + 1)) (sym stays.same)
           (Sweeps-keep atoms depth f old p.entries p.lists p.steps p.steps ws k w b h lt is place h.grows (λ l a. a) known (λ live. contained) stays.is_true)
@@ -277,7 +277,7 @@ Round-gone atoms depth f old p p' ws k w h lt is place false_then (inr (inr st))
     let m : Moves st.other w.row p p' = st.gives in
     let more : Watch = record { blocker = st.other; row = w.row } in
     let is_false : IsFalseOn p.steps f = Grows-assigns (kept_from 0 old.entries) depth old.steps p.steps (opposite f) h.grows false_then in
-    let known : IsKnown atoms (entry_at p.entries w.row) = known_at atoms f (with_list p ws) k w place h.watch lt is in
+    let known : IsKnown atoms (entry_at p.entries w.row) = known_at atoms f (with_list p ws) k w place h.watch lt is st.live in
     let atom : m.found.atom < atoms = All-contains (λ (x : Signed). x.atom < atoms) (entry_at p.entries w.row).literals m.found known.literals m.contained in
     let room : 2 * atoms ≤ length (set p.lists (packed f) ws) = h.watch.room in
     let here : packed m.found < length p.lists = code_within m.found atoms (length p.lists) atom (omega (arith, length-set p.lists (packed f) ws)) in

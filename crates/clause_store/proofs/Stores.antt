@@ -1,5 +1,5 @@
 -- What stays true of a store.
-use Rattle.std.proofs.Common.{◌≡◌, ℕ, ◌+◌, ◌^◌, ◌<◌, ◌≤◌, Bool, true, false, List, [], ◌∷◌, ◌++◌, All, Contains, length, take, drop, subst, sym, ap, ◌∙◌, refl, arith, None, zero-add, ◌*◌}
+use Rattle.std.proofs.Common.{◌≡◌, ℕ, ◌+◌, ◌^◌, ◌<◌, ◌≤◌, true, List, [], ◌∷◌, ◌++◌, All, Contains, length, take, drop, subst, sym, ap, ◌∙◌, refl, arith, None, zero-add, ◌*◌, Option}
 use Rattle.std.proofs.lemmas.List.{take_at, take-append-le, get_or_append_left, length-append, length_push}
 use Rattle.std.proofs.lemmas.List.Elements.{All-contains, All-push, All-weaker, Contains-append_left}
 use Rattle.literals.specs.Signed.{Signed, packed}
@@ -7,9 +7,10 @@ use Rattle.clause_store.specs.Assigned.{Assigned}
 use Rattle.clause_store.specs.Each.{EachAfter}
 use Rattle.clause_store.specs.Trail.{up_to}
 use Rattle.clause_store.specs.declared.trail.Step.{Step}
-use Rattle.clause_store.specs.Stored.{Kept, Stored, IsJustified, Propagated, IsQuiet, AllFalse, IsReached}
+use Rattle.clause_store.specs.Stored.{Kept, Stored, IsJustified, Propagated, IsQuiet, AllFalse}
 use Rattle.clause_store.specs.Found.{HasKept}
 use Rattle.clause_store.specs.Entries.{Entry, entry_at}
+use Rattle.clause_store.specs.Empties.{NamesEmpty, all_filled}
 use Rattle.clause_store.specs.Visits.{Parts}
 use Rattle.clause_store.specs.Watching.{IsWatching, Grows, kept_from, kept_of}
 use Rattle.clause_store.specs.Gaining.{GainsEntry, KeepsUp}
@@ -19,9 +20,9 @@ use Rattle.clause_store.specs.Rested.{Rested}
 use Rattle.clause_store.specs.Driving.{Drives, DriveGives, IsQuietAll}
 use Rattle.clause_store.specs.declared.run.Reached.TheVariants.{Fixpoint}
 use Rattle.clause_store.specs.Runs.{IsFalseAt}
-use Rattle.clause_store.proofs.Kept.{EachAfter-append, EachAfter-push, Grows-trans, All-kept, has_kept, kept_in}
+use Rattle.clause_store.proofs.Kept.{Grows-none, EachAfter-append, EachAfter-push, All-kept, has_kept, kept_in}
 use Rattle.clause_store.proofs.Adding.{kept_from-push}
-use Rattle.clause_store.proofs.Depths.{settled_quiet, Rested-done, Rested-grown, Rested-decide, Rested-undo, up_to-all}
+use Rattle.clause_store.proofs.Depths.{settled_quiet, Rested-done, Rested-decide, Rested-undo, up_to-all}
 use Rattle.clause_store.specs.declared.lists.Watch.{Watch}
 use Rattle.clause_store.specs.declared.waits.Wait.{Wait}
 
@@ -41,6 +42,9 @@ Propagated-grows clauses clauses' t t' grows e a d = record {
   reached = grows.reached;
 }
 
+pub Propagated-none : (a : Stored) → Propagated a a
+Propagated-none a = Propagated-grows a.clauses a.clauses a.trail a.trail (Grows-none a.clauses a.trail.depth a.trail.steps) refl refl refl
+
 pub justified-grown : (clauses : List Kept) (depth : ℕ) (old new : List Step) → Grows clauses depth old new → EachAfter (IsJustified clauses) old → EachAfter (IsJustified clauses) new
 justified-grown clauses depth old new h each =
     subst (EachAfter (IsJustified clauses)) (sym h.gains)
@@ -49,17 +53,6 @@ justified-grown clauses depth old new h each =
 pub known_live : (atoms : ℕ) (es : List Entry) → All (λ (c : Kept). All (λ (l : Signed). l.atom < atoms) c.literals) (kept_from 0 es) → (i : ℕ) → (entry_at es i).live ≡ true → All (λ (l : Signed). l.atom < atoms) (entry_at es i).literals
 known_live atoms es h i live = All-contains (λ (c : Kept). All (λ (l : Signed). l.atom < atoms) c.literals) (kept_from 0 es) (kept_of (0 + i) (entry_at es i)) h (kept_in 0 es i live)
 
--- the store after steps that its clauses force; other clauses may wait, and the watches may be kept up otherwise
-pub IsKept-grown : (es es' : List Entry) (lists lists' : List (List Watch)) (t t' : Assigned) (head head' : ℕ) (ws : List Wait) (loose loose' : Bool) → IsKept es lists t head ws loose
-    → Grows (kept_from 0 es) t.depth t.steps t'.steps → kept_from 0 es' ≡ kept_from 0 es → length es' ≡ length es → t'.atoms ≡ t.atoms → (loose' ≡ false → IsTight es' lists' t' head' ws)
-    → IsKept es' lists' t' head' ws loose'
-IsKept-grown es es' lists lists' t t' head head' ws loose loose' h grows e count a tight = record {
-  known = subst (λ cs. All (λ (c : Kept). All (λ (l : Signed). l.atom < t'.atoms) c.literals) cs) (sym e) (subst (λ n. All (λ (c : Kept). All (λ (l : Signed). l.atom < n) c.literals) (kept_from 0 es)) (sym a) h.known);
-  justified = subst (λ cs. EachAfter (IsJustified cs) t'.steps) (sym e) (justified-grown (kept_from 0 es) t.depth t.steps t'.steps grows h.justified);
-  small = subst (λ n. n < 2 ^ 32) (sym count) h.small;
-  tight = tight;
-}
-
 pub tight-driven : (es' : List Entry) (lists' : List (List Watch)) (t t' : Assigned) (head' : ℕ) (ws' : List Wait) → t'.atoms ≡ t.atoms → t'.depth ≡ t.depth
     → Drives t.atoms t.depth (record { entries = es'; lists = lists'; steps = t'.steps }) head' ws' → IsTight es' lists' t' head' ws'
 tight-driven es' lists' t t' head' ws' a d dr = record {
@@ -67,11 +60,12 @@ tight-driven es' lists' t t' head' ws' a d dr = record {
   rested = subst (λ n. Rested es' t'.steps n head' head' ws') (sym d) dr.rested;
 }
 
--- so it is when propagation ends, where none may wait at depth 0
-pub IsKept-settled : (es es' : List Entry) (lists lists' : List (List Watch)) (t t' : Assigned) (head head' : ℕ) (ws ws' : List Wait) (loose loose' : Bool) → IsKept es lists t head ws loose
-    → Grows (kept_from 0 es) t.depth t.steps t'.steps → kept_from 0 es' ≡ kept_from 0 es → length es' ≡ length es → t'.atoms ≡ t.atoms → (loose' ≡ false → IsTight es' lists' t' head' ws')
-    → IsKept es' lists' t' head' ws' loose'
-IsKept-settled es es' lists lists' t t' head head' ws ws' loose loose' h grows e count a tight = record {
+-- the store after steps that its clauses force
+pub IsKept-settled : (es es' : List Entry) (lists lists' : List (List Watch)) (t t' : Assigned) (head head' : ℕ) (ws ws' : List Wait) (empty : Option ℕ) → IsKept es lists t head ws empty
+    → Grows (kept_from 0 es) t.depth t.steps t'.steps → kept_from 0 es' ≡ kept_from 0 es → length es' ≡ length es → t'.atoms ≡ t.atoms → NamesEmpty es' empty → IsTight (all_filled es') lists' t' head' ws'
+    → IsKept es' lists' t' head' ws' empty
+IsKept-settled es es' lists lists' t t' head head' ws ws' empty h grows e count a names tight = record {
+  empty_is = names;
   known = subst (λ cs. All (λ (c : Kept). All (λ (l : Signed). l.atom < t'.atoms) c.literals) cs) (sym e) (subst (λ n. All (λ (c : Kept). All (λ (l : Signed). l.atom < n) c.literals) (kept_from 0 es)) (sym a) h.known);
   justified = subst (λ cs. EachAfter (IsJustified cs) t'.steps) (sym e) (justified-grown (kept_from 0 es) t.depth t.steps t'.steps grows h.justified);
   small = subst (λ n. n < 2 ^ 32) (sym count) h.small;
@@ -88,13 +82,6 @@ tight-settled es' lists' t t' head' ws ws' a d gives keeps only =
       rested = Rested-done es' t'.steps t'.depth head' head' ws ws' gives.2 gives.1.settled keeps only driven.rested;
     }
 
-pub tight-grown : (es : List Entry) (lists : List (List Watch)) (t t' : Assigned) (head : ℕ) (ws : List Wait) → Grows (kept_from 0 es) t.depth t.steps t'.steps → t'.atoms ≡ t.atoms → t'.depth ≡ t.depth
-    → IsTight es lists t head ws → IsTight es lists t' head ws
-tight-grown es lists t t' head ws grows a d h = record {
-  watch = subst (λ n. IsWatching n es lists) (sym a) h.watch;
-  rested = subst (λ n. Rested es t'.steps n head head ws) (sym d) (Rested-grown (kept_from 0 es) es t.steps t'.steps t.depth head head ws grows h.rested);
-}
-
 pub all_quiet : (atoms : ℕ) (p : Parts) → IsWatching atoms p.entries p.lists → IsQuietAll p → All (λ (c : Kept). IsQuiet p.steps c.literals) (kept_from 0 p.entries)
 all_quiet atoms p w q = All-kept (IsQuiet p.steps) 0 p.entries (λ i live. settled_quiet p.steps (entry_at p.entries i) (w.pairs i live) q.consistent (q.settled i live))
 
@@ -105,38 +92,26 @@ false_kept p row h = has_kept (AllFalse p.steps) p.entries row h.live h.all_fals
 pub back_whole : {X : Type 0} (new items : List X) (n : ℕ) → length new ≡ n → take n (new ++ drop (length new) items) ≡ new
 back_whole new items n e = take_at new (drop (length new) items) n e
 
-pub Propagated-trans : (a b c : Stored) → Propagated a b → Propagated b c → Propagated a c
-Propagated-trans a b c h k =
-    let clauses : b.clauses ≡ a.clauses = ap (λ (x : Stored). x.clauses) h.gains in
-    let steps : b.trail.steps ≡ a.trail.steps ++ h.added = ap (λ (x : Stored). x.trail.steps) h.gains in
-    let atoms : b.trail.atoms ≡ a.trail.atoms = ap (λ (x : Stored). x.trail.atoms) h.gains in
-    let depth : b.trail.depth ≡ a.trail.depth = ap (λ (x : Stored). x.trail.depth) h.gains in
-    let first : Grows a.clauses a.trail.depth a.trail.steps b.trail.steps = record { added = h.added; gains = steps; reached = h.reached } in
-    let second : Grows b.clauses a.trail.depth b.trail.steps c.trail.steps =
-    record { added = k.added; gains = ap (λ (x : Stored). x.trail.steps) k.gains; reached = subst (λ d. IsReached b.clauses b.trail.steps k.added d) depth k.reached } in
-    Propagated-grows a.clauses c.clauses a.trail c.trail (Grows-trans a.clauses b.clauses a.trail.depth a.trail.steps b.trail.steps c.trail.steps clauses first second)
-    (ap (λ (x : Stored). x.clauses) k.gains ∙ clauses) (ap (λ (x : Stored). x.trail.atoms) k.gains ∙ atoms) (ap (λ (x : Stored). x.trail.depth) k.gains ∙ depth)
+pub lists_back : {X : Type 0} (new items : List X) (n : ℕ) (P : List X → Type 0) → length new ≡ n → P new → P (take n (new ++ drop (length new) items))
+lists_back new items n P e h = subst P (sym (back_whole new items n e)) h
 
-pub lists_back : (atoms : ℕ) (es : List Entry) (new items : List (List Watch)) (n : ℕ) (P : List (List Watch) → Type 0) → length new ≡ n → P new → P (take n (new ++ drop (length new) items))
-lists_back atoms es new items n P e h = subst P (sym (back_whole new items n e)) h
-
-pub IsKept-decide : (es : List Entry) (lists : List (List Watch)) (t : Assigned) (head : ℕ) (ws : List Wait) (loose : Bool) (s : Step) → IsKept es lists t head ws loose
-    → s.reason ≡ None → s.depth ≡ t.depth + 1 → IsKept es lists (record { steps = t.steps ++ s ∷ []; atoms = t.atoms; depth = t.depth + 1 }) head ws loose
-IsKept-decide es lists t head ws loose s h reason deep = record {
+pub IsKept-decide : (es : List Entry) (lists : List (List Watch)) (t : Assigned) (head : ℕ) (ws : List Wait) (empty : Option ℕ) (s : Step) → IsKept es lists t head ws empty
+    → s.reason ≡ None → s.depth ≡ t.depth + 1 → IsKept es lists (record { steps = t.steps ++ s ∷ []; atoms = t.atoms; depth = t.depth + 1 }) head ws empty
+IsKept-decide es lists t head ws empty s h reason deep = record {
+  empty_is = h.empty_is;
   known = h.known;
   justified = EachAfter-push (IsJustified (kept_from 0 es)) t.steps s h.justified (λ id e. cc);
   small = h.small;
-  tight = λ e.
-      let was : IsTight es lists t head ws = h.tight e in
-      record { watch = was.watch; rested = Rested-decide es t.steps t.depth head head ws s deep was.rested };
+  tight = record { watch = h.tight.watch; rested = Rested-decide (all_filled es) t.steps t.depth head head ws s deep h.tight.rested };
 }
 
 EachAfter-front : {X : Type 0} (P : List X → X → Type 0) (xs ys : List X) → EachAfter P (xs ++ ys) → EachAfter P xs
 EachAfter-front P xs ys each k d h = rw (take-append-le k xs ys (omega arith), get_or_append_left xs ys d k h) at (each k d (omega (arith, length-append xs ys)))
 
-pub IsKept-undo : (es : List Entry) (lists : List (List Watch)) (t t' : Assigned) (rest : List Step) (head head' : ℕ) (ws ws' : List Wait) (loose loose' : Bool) → IsKept es lists t head ws loose
-    → t'.atoms ≡ t.atoms → t.steps ≡ t'.steps ++ rest → (loose' ≡ false → IsTight es lists t' head' ws') → IsKept es lists t' head' ws' loose'
-IsKept-undo es lists t t' rest head head' ws ws' loose loose' h a e tight = record {
+pub IsKept-undo : (es : List Entry) (lists : List (List Watch)) (t t' : Assigned) (rest : List Step) (head head' : ℕ) (ws ws' : List Wait) (empty : Option ℕ) → IsKept es lists t head ws empty
+    → t'.atoms ≡ t.atoms → t.steps ≡ t'.steps ++ rest → IsTight (all_filled es) lists t' head' ws' → IsKept es lists t' head' ws' empty
+IsKept-undo es lists t t' rest head head' ws ws' empty h a e tight = record {
+  empty_is = h.empty_is;
   known = subst (λ n. All (λ (c : Kept). All (λ (l : Signed). l.atom < n) c.literals) (kept_from 0 es)) (sym a) h.known;
   justified = EachAfter-front (IsJustified (kept_from 0 es)) t'.steps rest (subst (EachAfter (IsJustified (kept_from 0 es))) e h.justified);
   small = h.small;
@@ -158,9 +133,9 @@ pub tight-undo : (es : List Entry) (lists : List (List Watch)) (t : Assigned) (d
 tight-undo es lists t d head head' ws ws' le within keeps only h = record { watch = h.watch; rested = Rested-undo es t.steps t.depth head head d ws ws' head' h.rested le within keeps only }
 
 -- a clause more
-pub IsKept-add : (es : List Entry) (lists lists' : List (List Watch)) (t : Assigned) (head : ℕ) (ws ws' : List Wait) (loose loose' : Bool) (e : Entry) → IsKept es lists t head ws loose → e.live ≡ true
-    → All (λ (l : Signed). l.atom < t.atoms) e.literals → length es + 1 < 2 ^ 32 → (loose' ≡ false → IsTight (es ++ e ∷ []) lists' t head ws') → IsKept (es ++ e ∷ []) lists' t head ws' loose'
-IsKept-add es lists lists' t head ws ws' loose loose' e h live known small tight =
+pub IsKept-add : (es : List Entry) (lists lists' : List (List Watch)) (t : Assigned) (head : ℕ) (ws ws' : List Wait) (empty empty' : Option ℕ) (e : Entry) → IsKept es lists t head ws empty → e.live ≡ true
+    → All (λ (l : Signed). l.atom < t.atoms) e.literals → length es + 1 < 2 ^ 32 → NamesEmpty (es ++ e ∷ []) empty' → IsTight (all_filled (es ++ e ∷ [])) lists' t head ws' → IsKept (es ++ e ∷ []) lists' t head ws' empty'
+IsKept-add es lists lists' t head ws ws' empty empty' e h live known small names tight =
     let c : Kept = kept_of (0 + length es) e in
     let more : kept_from 0 (es ++ e ∷ []) ≡ kept_from 0 es ++ c ∷ [] = kept_from-push 0 es e live in
     record {
@@ -168,6 +143,7 @@ IsKept-add es lists lists' t head ws ws' loose loose' e h live known small tight
       justified = subst (λ cs. EachAfter (IsJustified cs) t.steps) (sym more)
           (λ k d lt id r. let f = h.justified k d lt id r in record { by = f.by; kept = Contains-append_left (kept_from 0 es) (c ∷ []) f.by f.kept; reason = f.reason; unit = f.unit });
       small = omega (arith, length_push es e);
+      empty_is = names;
       tight = tight;
     }
 
@@ -181,12 +157,13 @@ stored_more es es' ls level t g =
     ∙ (ap (λ (xs : List Signed). let k : Kept = record { id = length es; literals = xs; level = g.entry.level } in stored (kept_from 0 es ++ k ∷ [])) g.literals
     ∙ ap (λ (n : ℕ). let k : Kept = record { id = length es; literals = ls; level = n } in stored (kept_from 0 es ++ k ∷ [])) g.level_is)))
 
-pub IsKept-gains : (es es' : List Entry) (ls : List Signed) (level : ℕ) (lists lists' : List (List Watch)) (t : Assigned) (head : ℕ) (ws ws' : List Wait) (loose loose' : Bool) → GainsEntry es es' ls level → IsKept es lists t head ws loose
-    → All (λ (l : Signed). l.atom < t.atoms) ls → length es + 1 < 2 ^ 32 → (loose' ≡ false → IsTight es' lists' t head ws') → IsKept es' lists' t head ws' loose'
-IsKept-gains es es' ls level lists lists' t head ws ws' loose loose' g h known small tight =
-    subst (λ xs. IsKept xs lists' t head ws' loose') (sym g.gains)
-    (IsKept-add es lists lists' t head ws ws' loose loose' g.entry h g.live (subst (All (λ (l : Signed). l.atom < t.atoms)) (sym g.literals) known) small
-    (λ e. subst (λ xs. IsTight xs lists' t head ws') g.gains (tight e)))
+pub IsKept-gains : (es es' : List Entry) (ls : List Signed) (level : ℕ) (lists lists' : List (List Watch)) (t : Assigned) (head : ℕ) (ws ws' : List Wait) (empty empty' : Option ℕ) → GainsEntry es es' ls level → IsKept es lists t head ws empty
+    → All (λ (l : Signed). l.atom < t.atoms) ls → length es + 1 < 2 ^ 32 → NamesEmpty es' empty' → IsTight (all_filled es') lists' t head ws' → IsKept es' lists' t head ws' empty'
+IsKept-gains es es' ls level lists lists' t head ws ws' empty empty' g h known small names tight =
+    subst (λ xs. IsKept xs lists' t head ws' empty') (sym g.gains)
+    (IsKept-add es lists lists' t head ws ws' empty empty' g.entry h g.live (subst (All (λ (l : Signed). l.atom < t.atoms)) (sym g.literals) known) small
+    (subst (λ xs. NamesEmpty xs empty') g.gains names)
+    (subst (λ xs. IsTight (all_filled xs) lists' t head ws') g.gains tight))
 
 pub tight-kept : (es es' : List Entry) (lists lists' : List (List Watch)) (t : Assigned) (head : ℕ) (ws ws' : List Wait) → KeepsUp t.atoms t.steps es es' lists lists' ws ws' → IsTight es lists t head ws → IsTight es' lists' t head ws'
 tight-kept es es' lists lists' t head ws ws' k h =

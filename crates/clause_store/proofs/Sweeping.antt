@@ -108,7 +108,7 @@ equal_or_apart l m = elim (same_or_apart (packed l) (packed m)) [
 
 -- the lists are up to date, whether tidy or not
 pub record IsWatched (atoms : ℕ) (es : List Entry) (lists : List (List Watch)) : Type 0 where
-  pub known : (i : ℕ) → i < length es → IsKnown atoms (entry_at es i)
+  pub known : (i : ℕ) → (entry_at es i).live ≡ true → IsKnown atoms (entry_at es i)
   pub pairs : (i : ℕ) → (entry_at es i).live ≡ true → IsPair (entry_at es i)
   pub sound : (l : Signed) → All (IsSound atoms es) (watches_of lists l)
   pub listed : (i : ℕ) → (entry_at es i).live ≡ true → IsListed (watches_of lists (entry_at es i).first) 0 i × IsListed (watches_of lists (entry_at es i).second) 0 i
@@ -189,20 +189,20 @@ IsWatching-move atoms es lists row kept found w h live is_kept contained ne lt b
       | inl same ↦ subst (λ x. IsListed (watches_of lists' x) 0 i) (sym same) (rw (watches_of-same lists found (watches_of lists found ++ w ∷ []) lt) (IsListed-push (watches_of lists found) w 0 i (subst (λ x. IsListed (watches_of lists x) 0 i) same a)))
       | inr apart ↦ rw (watches_of-other lists found l (watches_of lists found ++ w ∷ []) apart) a
     ] in
-    let known_row : IsKnown atoms (entry_at es row) = h.known row within in
+    let known_row : IsKnown atoms (entry_at es row) = h.known row live in
     let sound_w : IsSound atoms es w = record {
       within = subst (λ n. n < length es) (sym here) within;
       known = subst (λ (x : Signed). x.atom < atoms) (sym blocker) (IsKnown-contained atoms (entry_at es row) kept known_row of_kept.0);
       blocker = λ l. subst (λ x. Contains (entry_at es w.row).literals x) (sym blocker) (subst (λ n. Contains (entry_at es n).literals kept) (sym here) of_kept.0);
     } in
     record {
-      known = λ i lt'. elim (same_or_apart i row) [
+      known = λ i is_live. elim (same_or_apart i row) [
         | inl same ↦ subst (λ n. IsKnown atoms (entry_at es' n)) (sym same) (rw changed (record {
           literals = known_row.literals;
           first = IsKnown-contained atoms (entry_at es row) kept known_row of_kept.0;
           second = IsKnown-contained atoms (entry_at es row) found known_row contained;
         }))
-        | inr apart ↦ rw (entry_at-other es row i (watched (entry_at es row) kept found) apart) (h.known i (subst (λ n. i < n) len lt'))
+        | inr apart ↦ rw (entry_at-other es row i (watched (entry_at es row) kept found) apart) (h.known i (sym (lives i) ∙ is_live))
       ];
       pairs = λ i is_live. elim (same_or_apart i row) [
         | inl same ↦ subst (λ n. IsPair (entry_at es' n)) (sym same) (rw changed (record { first = of_kept.0; second = contained; single = λ x. absurd (ne (sym x)) }))

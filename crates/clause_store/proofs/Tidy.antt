@@ -1,5 +1,5 @@
 -- Lists of watches with no clause twice, each of clauses that the list's literal watches.
-use Rattle.std.proofs.Common.{◌≡◌, ◌≢◌, ℕ, ◌+◌, ◌-◌, ◌<◌, List, [], ◌∷◌, ◌++◌, All, length, get_or, set, subst, sym, ap, ◌∙◌, refl, inl, inr, ◌⊎◌, arith}
+use Rattle.std.proofs.Common.{◌≡◌, ◌≢◌, ℕ, ◌+◌, ◌-◌, ◌<◌, List, [], ◌∷◌, ◌++◌, All, Contains, length, get_or, set, subst, sym, ap, ◌∙◌, refl, inl, inr, ◌⊎◌, arith}
 use Rattle.std.specs.List.{swap_remove}
 use Rattle.std.proofs.lemmas.List.{length-set, set-set, length_push, get_or-set_same, get_or-set_other, get_or_append_left, get_or_push, get_or_default}
 use Rattle.std.proofs.lemmas.List.Elements.{All-set, All-push, All-get_or}
@@ -99,7 +99,7 @@ IsOnce-push ws w fresh once = λ i j in-i in-j same.
 -- ---- the lists of a store
 
 IsOwn-row : (es : List Entry) (l : Signed) (v w : Watch) → v.row ≡ w.row → IsOwn es l w → IsOwn es l v
-IsOwn-row es l v w e h = record { pair = subst (λ n. ((entry_at es n).first ≡ l) ⊎ ((entry_at es n).second ≡ l)) (sym e) h.pair }
+IsOwn-row es l v w e h = record { pair = subst (λ n. ((entry_at es n).first ≡ l) ⊎ ((entry_at es n).second ≡ l)) (sym e) h.pair; contained = subst (λ n. Contains (entry_at es n).literals l) (sym e) h.contained }
 
 pub own_in : (es : List Entry) (lists : List (List Watch)) (f : Signed) (ws : List Watch) → packed f < length lists → IsTidy es (set lists (packed f) ws) → All (IsOwn es f) ws
 own_in es lists f ws lt h = subst (All (IsOwn es f)) (watches_of-same lists f ws lt) (h.own f)
@@ -141,7 +141,10 @@ IsTidy-drop es lists f ws k d lt at h =
 
 own_elsewhere : (es : List Entry) (row : ℕ) (a b l : Signed) (x : Watch) → (x.row ≡ row → ⊥) → IsOwn es l x → IsOwn (set es row (watched (entry_at es row) a b)) l x
 own_elsewhere es row a b l x ne h =
-    record { pair = subst (λ (e : Entry). (e.first ≡ l) ⊎ (e.second ≡ l)) (sym (entry_at-other es row x.row (watched (entry_at es row) a b) ne)) h.pair }
+    record {
+      pair = subst (λ (e : Entry). (e.first ≡ l) ⊎ (e.second ≡ l)) (sym (entry_at-other es row x.row (watched (entry_at es row) a b) ne)) h.pair;
+      contained = subst (λ (e : Entry). Contains e.literals l) (sym (entry_at-other es row x.row (watched (entry_at es row) a b) ne)) h.contained;
+    }
 
 -- neither of the two watched literals is this
 not_of_pair : (e : Entry) (f kept l : Signed) → IsOther e f kept → (l ≡ f → ⊥) → (l ≡ kept → ⊥) → (e.first ≡ l) ⊎ (e.second ≡ l) → ⊥
@@ -160,14 +163,16 @@ own_moved es f kept found l row x lt other nf h = elim (same_or_apart x.row row)
       record {
         pair = subst (λ n. ((entry_at (set es row (watched e kept found)) n).first ≡ l) ⊎ ((entry_at (set es row (watched e kept found)) n).second ≡ l)) (sym same)
             (subst (λ (y : Entry). (y.first ≡ l) ⊎ (y.second ≡ l)) (sym changed) (inl is));
+        contained = subst (λ n. Contains (entry_at (set es row (watched e kept found)) n).literals l) (sym same)
+            (subst (λ (y : Entry). Contains y.literals l) (sym changed) (subst (λ n. Contains (entry_at es n).literals l) same h.contained));
       }
   | inr apart ↦ own_elsewhere es row kept found l x apart h
 ]
 
 pub IsTidy-move : (es : List Entry) (lists : List (List Watch)) (f : Signed) (ws : List Watch) (k : ℕ) (d : Watch) (row : ℕ) (kept found : Signed) (more : Watch) → packed f < length lists → packed found < length lists → k < length ws
-    → row_at ws k ≡ row → row < length es → IsOther (entry_at es row) f kept → (found ≡ kept → ⊥) → (found ≡ f → ⊥) → more.row ≡ row → IsTidy es (set lists (packed f) ws)
+    → row_at ws k ≡ row → row < length es → IsOther (entry_at es row) f kept → (found ≡ kept → ⊥) → (found ≡ f → ⊥) → Contains (entry_at es row).literals found → more.row ≡ row → IsTidy es (set lists (packed f) ws)
     → IsTidy (set es row (watched (entry_at es row) kept found)) (set (set lists (packed found) (watches_of lists found ++ more ∷ [])) (packed f) (swap_remove ws k d))
-IsTidy-move es lists f ws k d row kept found more lt lt' at is within other nk nf more_row h =
+IsTidy-move es lists f ws k d row kept found more lt lt' at is within other nk nf in-row more_row h =
     let e : Entry = entry_at es row in
     let es' : List Entry = set es row (watched e kept found) in
     let ws' : List Watch = swap_remove ws k d in
@@ -186,6 +191,7 @@ IsTidy-move es lists f ws k d row kept found more lt lt' at is within other nk n
     (subst (λ n. ((entry_at es n).first ≡ found) ⊎ ((entry_at es n).second ≡ found)) (y ∙ more_row) (All-get_or (IsOwn es found) (watches_of lists found) j no_watch in' old_own).pair) in
     let own_more : IsOwn es' found more = record {
       pair = subst (λ n. ((entry_at es' n).first ≡ found) ⊎ ((entry_at es' n).second ≡ found)) (sym more_row) (subst (λ (y : Entry). (y.first ≡ found) ⊎ (y.second ≡ found)) (sym changed) (inr refl));
+      contained = subst (λ n. Contains (entry_at es' n).literals found) (sym more_row) (subst (λ (y : Entry). Contains y.literals found) (sym changed) in-row);
     } in
     let own_found : All (IsOwn es' found) grown = All-push (IsOwn es' found) (watches_of lists found) more (λ j x in'. own_moved es f kept found found row (get_or (watches_of lists found) j x) within other nf (old_own j x in')) own_more in
     record {

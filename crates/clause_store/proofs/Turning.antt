@@ -8,11 +8,13 @@ use Rattle.clause_store.specs.declared.trail.Step.{Step}
 use Rattle.clause_store.specs.Stored.{Kept, IsFalseOn}
 use Rattle.clause_store.specs.Entries.{Entry, entry_at, watches_of}
 use Rattle.clause_store.specs.Visits.{Parts}
-use Rattle.clause_store.specs.Watching.{IsSettled, IsWatching, View, Frame, Covers, Grows, kept_from}
+use Rattle.clause_store.specs.Watching.{IsSettled, SameShape, IsWatching, View, Frame, Covers, Grows, kept_from}
 use Rattle.clause_store.specs.Sweeps.{State, Sweeps, Meets, SweptGives}
-use Rattle.clause_store.specs.Runs.{Rests, Turns, TurnsTo, TurnGives, Runs}
+use Rattle.clause_store.specs.Runs.{Rests, Turns, TurnsTo, TurnGives, Runs, RunGives}
+use Rattle.clause_store.specs.declared.run.Reached.{Reached}
+use Rattle.clause_store.specs.declared.run.Reached.TheVariants.{Fixpoint, False as FalseReached}
 use Rattle.clause_store.specs.declared.sweep.Swept.{Swept}
-use Rattle.clause_store.specs.declared.sweep.Swept.TheVariants.{Whole, False as FalseClause, NoRoom}
+use Rattle.clause_store.specs.declared.sweep.Swept.TheVariants.{Whole, False as FalseClause}
 use Rattle.clause_store.proofs.Sweeping.{IsSettled-other, equal_or_apart, watches_of-same, pair_lists, SameShape-none, SameShape-trans, watched_of}
 use Rattle.clause_store.specs.declared.lists.Watch.{Watch}
 
@@ -182,4 +184,11 @@ turn-gives atoms depth f es lists steps spare list d code s' (FalseClause row) e
     let place : packed f < length lists = code_within f atoms (length lists) lt w.room in
     let len : length s'.lists ≡ length (set lists code spare) = h.sweeps.length_lists in
     Turns-meets atoms depth f lists (record { entries = es; lists = set lists code spare; steps = steps; list = list }) s' row (list_is lists f code list d e is place) (omega (arith, length-set lists code spare)) h
-turn-gives atoms depth f es lists steps spare list d code s' NoRoom e is lt w h = tt
+
+pub swept_shape : (atoms depth : ℕ) (f : Signed) (s s' : State) (r : Swept) → SweptGives atoms depth f s s' r → SameShape s.entries s'.entries
+swept_shape atoms depth f s s' Whole h = h.shape
+swept_shape atoms depth f s s' (FalseClause row) h = h.sweeps.shape
+
+pub run_shape : (atoms : ℕ) (p p' : Parts) (start head : ℕ) (r : Reached) → RunGives atoms p p' start head r → SameShape p.entries p'.entries
+run_shape atoms p p' start head Fixpoint h = h.0.shape
+run_shape atoms p p' start head (FalseReached row) h = h.0.shape

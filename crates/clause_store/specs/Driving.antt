@@ -7,7 +7,7 @@ use Rattle.clause_store.specs.Rested.{Rested}
 use Rattle.clause_store.specs.Runs.{IsConsistent, IsFalseAt}
 use Rattle.clause_store.specs.declared.waits.Wait.{Wait}
 use Rattle.clause_store.specs.declared.run.Reached.{Reached}
-use Rattle.clause_store.specs.declared.run.Reached.TheVariants.{Fixpoint, False, NoRoom}
+use Rattle.clause_store.specs.declared.run.Reached.TheVariants.{Fixpoint, False}
 
 -- the parts are as they should be between two calls
 pub record Drives (atoms depth : ℕ) (p : Parts) (head : ℕ) (ws : List Wait) : Type 0 where
@@ -21,4 +21,3 @@ pub record IsQuietAll (p : Parts) : Type 0 where
 abbrev pub DriveGives : ℕ → ℕ → Parts → ℕ → List Wait → Reached → Type 0
 DriveGives atoms depth p head ws Fixpoint = Drives atoms depth p head ws × IsQuietAll p × (head ≡ length p.steps)
 DriveGives atoms depth p head ws (False row) = Drives atoms depth p head ws × IsFalseAt p row
-DriveGives atoms depth p head ws NoRoom = Unit {0}

@@ -1,5 +1,5 @@
 -- The kept clauses by their places, each with its two watched literals, and the lists of watches.
-use Rattle.std.specs.Prelude.{◌≡◌, ℕ, ◌+◌, ◌-◌, ◌^◌, ◌<◌, ◌⊎◌, min, Bool, true, false, List, [], take, drop, slice_index_or, All}
+use Rattle.std.specs.Prelude.{◌≡◌, ℕ, ◌+◌, ◌-◌, ◌^◌, ◌<◌, ◌⊎◌, min, Bool, true, false, List, [], take, drop, slice_index_or, All, map}
 use Rattle.literals.specs.Signed.{Signed, packed}
 use Rattle.clause_store.specs.declared.rows.Row.{Row}
 use Rattle.clause_store.specs.declared.lists.Watch.{Watch}
@@ -37,9 +37,23 @@ pub record Held : Type 0 where
 abbrev pub risen : ℕ → ℕ
 risen looks = min (looks + 1) (2 ^ 64 - 1)
 
+-- a literal's watches, and for how many there is room
+pub record Listing : Type 0 where
+  pub watches : List Watch
+  pub room : ℕ
+
+abbrev pub bare : List Listing → List (List Watch)
+bare lists = map (λ (l : Listing). l.watches) lists
+
+abbrev pub rooms : List Listing → List ℕ
+rooms lists = map (λ (l : Listing). l.room) lists
+
 -- the watches of a literal
 abbrev pub watches_of : List (List Watch) → Signed → List Watch
 watches_of lists l = slice_index_or lists (packed l) []
+
+abbrev pub room_of : List ℕ → Signed → ℕ
+room_of rooms l = slice_index_or rooms (packed l) 0
 
 -- its literals' atoms are below this number
 pub record IsKnown (atoms : ℕ) (e : Entry) : Type 0 where

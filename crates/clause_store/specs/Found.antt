@@ -1,17 +1,10 @@
 -- What a look at clauses finds.
 use Rattle.std.specs.Prelude.{◌≡◌, ℕ, List, All, Contains}
 use Rattle.literals.specs.Signed.{Signed}
-use Rattle.clause_store.specs.Trail.{Step, IsOpen}
-use Rattle.clause_store.specs.Stored.{Kept, AllFalse, IsUnit, IsQuiet}
-use Rattle.clause_store.specs.declared.scan.Found.{Found}
-use Rattle.clause_store.specs.declared.scan.Found.TheVariants.{Quiet, Unit as UnitLiteral, False}
+use Rattle.clause_store.specs.Trail.{Step}
+use Rattle.clause_store.specs.Stored.{Kept, AllFalse, IsQuiet}
 use Rattle.clause_store.specs.declared.store.Outcome.{Outcome}
 use Rattle.clause_store.specs.declared.store.Outcome.TheVariants.{Fixpoint, False as Conflict}
-
-abbrev pub FoundIn : List Step → List Signed → Found → Type 0
-FoundIn steps ls Quiet = IsQuiet steps ls
-FoundIn steps ls (UnitLiteral l) = IsOpen steps l × IsUnit steps ls l
-FoundIn steps ls False = AllFalse steps ls
 
 -- the kept clause of this id has this fact
 abbrev pub HasKept : List Kept → ℕ → (List Signed → Type 0) → Type 0

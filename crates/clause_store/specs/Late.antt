@@ -17,11 +17,11 @@ use Rattle.clause_store.specs.From.{AreLast}
 use Rattle.clause_store.specs.declared.lists.Watch.{Watch}
 use Rattle.clause_store.specs.declared.waits.Wait.{Wait}
 use Rattle.clause_store.specs.declared.sweep.Visit.{Visit}
-use Rattle.clause_store.specs.declared.sweep.Visit.TheVariants.{Keep, Gone, False, NoRoom}
+use Rattle.clause_store.specs.declared.sweep.Visit.TheVariants.{Keep, Gone, False}
 use Rattle.clause_store.specs.declared.sweep.Swept.{Swept}
-use Rattle.clause_store.specs.declared.sweep.Swept.TheVariants.{Whole, False as FalseClause, NoRoom as OutOfRoom}
+use Rattle.clause_store.specs.declared.sweep.Swept.TheVariants.{Whole, False as FalseClause}
 use Rattle.clause_store.specs.declared.run.Reached.{Reached}
-use Rattle.clause_store.specs.declared.run.Reached.TheVariants.{Fixpoint, False as FalseReached, NoRoom as NoRoomReached}
+use Rattle.clause_store.specs.declared.run.Reached.TheVariants.{Fixpoint, False as FalseReached}
 use Rattle.clause_store.specs.declared.late.Examined.{Examined}
 use Rattle.clause_store.specs.declared.late.Examined.TheVariants.{Found, False as AllAreFalse, Pinned}
 
@@ -62,9 +62,11 @@ ExaminedGives steps ls o (Found l) = Contains ls l × (l ≡ o → ⊥) × (IsFa
 ExaminedGives steps ls o AllAreFalse = AllFalse steps ls
 ExaminedGives steps ls o (Pinned s from) = IsPinned steps ls o s from
 
--- a clause waits, and its literal is on the trail
+-- a clause waits so and no longer otherwise, and its literal is on the trail
 pub record Pins (w : Wait) (depth : ℕ) (steps steps' : List Step) (ws ws' : List Wait) : Type 0 where
-  pub gains : ws' ≡ ws ++ w ∷ []
+  pub waits : Contains ws' w
+  pub keeps : (x : Wait) → Contains ws x → (x.row ≡ w.row → ⊥) → Contains ws' x
+  pub only : (x : Wait) → Contains ws' x → Contains ws x ⊎ (x ≡ w)
   pub forced : ForceGives w depth steps steps' true
 
 -- another literal of the clause is watched beside this one
@@ -80,7 +82,6 @@ abbrev pub PinGives : Signed → Signed → Wait → ℕ → Parts → Parts →
 PinGives f s w depth old new ws ws' (Keep b) = (b ≡ w.literal) × (s ≡ f) × Remains old new × Pins w depth old.steps new.steps ws ws'
 PinGives f s w depth old new ws ws' Gone = (s ≡ f → ⊥) × Shifts w.literal s w.row old new × Pins w depth old.steps new.steps ws ws'
 PinGives f s w depth old new ws ws' False = ⊥
-PinGives f s w depth old new ws ws' NoRoom = new ≡ old
 
 pub record LatePins (f : Signed) (row depth : ℕ) (old new : Parts) (ws ws' : List Wait) (v : Visit) : Type 0 where
   pub live : (entry_at old.entries row).live ≡ true
@@ -106,7 +107,6 @@ abbrev pub LateGives : Signed → ℕ → ℕ → Parts → Parts → List Wait 
 LateGives f row depth old new ws ws' (Keep b) = LatePins f row depth old new ws ws' (Keep b)
 LateGives f row depth old new ws ws' Gone = ((entry_at old.entries row).live ≡ false × LateSame old new ws ws') ⊎ (LateMoves f row old new ws ws' ⊎ LatePins f row depth old new ws ws' Gone)
 LateGives f row depth old new ws ws' False = ((entry_at old.entries row).live ≡ true) × LateSame old new ws ws' × AllFalse old.steps (entry_at old.entries row).literals
-LateGives f row depth old new ws ws' NoRoom = new ≡ old
 
 -- ---- one literal's watches
 
@@ -128,7 +128,6 @@ pub record LateMeets (atoms depth : ℕ) (f : Signed) (old new : State) (ws ws' 
 abbrev pub LateSweptGives : ℕ → ℕ → Signed → State → State → List Wait → List Wait → Swept → Type 0
 LateSweptGives atoms depth f old new ws ws' Whole = LateSweeps atoms depth f old new ws ws' (length new.list)
 LateSweptGives atoms depth f old new ws ws' (FalseClause row) = LateMeets atoms depth f old new ws ws' row
-LateSweptGives atoms depth f old new ws ws' OutOfRoom = Unit {0}
 
 -- ---- one step, and all
 
@@ -141,15 +140,12 @@ pub record LateHolds (atoms depth : ℕ) (p : Parts) (ws : List Wait) (head : �
 abbrev pub LateTurnGives : ℕ → ℕ → ℕ → Parts → Parts → List Wait → Swept → Type 0
 LateTurnGives atoms depth head old new ws' Whole = LateHolds atoms depth new ws' (head + 1) × SameShape old.entries new.entries
 LateTurnGives atoms depth head old new ws' (FalseClause row) = LateHolds atoms depth new ws' head × IsFalseAt new row
-LateTurnGives atoms depth head old new ws' OutOfRoom = Unit {0}
 
 abbrev pub CatchGives : ℕ → ℕ → ℕ → Parts → List Wait → Reached → Type 0
 CatchGives atoms depth head new ws' Fixpoint = LateHolds atoms depth new ws' head × AreLast new.steps depth head
 CatchGives atoms depth head new ws' (FalseReached row) = LateHolds atoms depth new ws' head × IsFalseAt new row
-CatchGives atoms depth head new ws' NoRoomReached = Unit {0}
 
 -- the count rises by no more than the pairs of the steps gone through, and where it stops before the end of all
 abbrev pub CatchLooks : ℕ → ℕ → List Step → List Kept → ℕ → ℕ → Reached → Type 0
 CatchLooks start head steps clauses old new Fixpoint = (start ≤ head) × LooksBy (drop start (take head steps)) clauses old new
 CatchLooks start head steps clauses old new (FalseReached row) = LooksBy (drop start steps) clauses old new
-CatchLooks start head steps clauses old new NoRoomReached = LooksBy (drop start steps) clauses old new

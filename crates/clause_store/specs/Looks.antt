@@ -1,5 +1,5 @@
 -- How often a store looks at its clauses.
-use Rattle.std.specs.Prelude.{◌≡◌, ℕ, ◌+◌, ◌<◌, ◌≤◌, true, Bool, List, All, Contains, length, slice_index_or}
+use Rattle.std.specs.Prelude.{◌≡◌, ℕ, ◌+◌, ◌<◌, ◌≤◌, true, List, All, Contains, length, slice_index_or}
 use Rattle.literals.specs.Signed.{Signed}
 use Rattle.clause_store.specs.Stored.{Kept, Stored, IsFalseOn}
 use Rattle.clause_store.specs.Found.{HasKept}
@@ -8,12 +8,11 @@ use Rattle.clause_store.specs.declared.store.Outcome.{Outcome}
 use Rattle.clause_store.specs.declared.store.Outcome.TheVariants.{Fixpoint, False as Conflict}
 use Rattle.clause_store.specs.Entries.{Entry, entry_at, zero_literal}
 
--- a store together with the count, how many steps are gone through, and whether its watches are kept up
+-- a store together with the count, and how many steps are gone through
 pub record Counted : Type 0 where
   pub stored : Stored
   pub looks : ℕ
   pub settled : ℕ
-  pub watched : Bool
 
 -- at a fixpoint all steps are gone through
 abbrev pub SettlesAll : Counted → Outcome → Type 0

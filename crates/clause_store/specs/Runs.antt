@@ -8,9 +8,9 @@ use Rattle.clause_store.specs.Entries.{Entry, entry_at, watches_of}
 use Rattle.clause_store.specs.Watching.{IsSettled, IsWatching, View, Frame, Covers, SameShape}
 use Rattle.clause_store.specs.Visits.{Parts}
 use Rattle.clause_store.specs.declared.run.Reached.{Reached}
-use Rattle.clause_store.specs.declared.run.Reached.TheVariants.{Fixpoint, False, NoRoom as OutOfRoom}
+use Rattle.clause_store.specs.declared.run.Reached.TheVariants.{Fixpoint, False}
 use Rattle.clause_store.specs.declared.sweep.Swept.{Swept}
-use Rattle.clause_store.specs.declared.sweep.Swept.TheVariants.{Whole, False as FalseClause, NoRoom}
+use Rattle.clause_store.specs.declared.sweep.Swept.TheVariants.{Whole, False as FalseClause}
 
 -- each clause is settled by the steps up to the head, and at each depth below
 pub record Rests (views : List View) (es : List Entry) (steps : List Step) (head : ℕ) : Type 0 where
@@ -36,7 +36,6 @@ pub record TurnsTo (atoms : ℕ) (f : Signed) (old new : Parts) (row : ℕ) : Ty
 abbrev pub TurnGives : ℕ → Signed → Parts → Parts → Swept → Type 0
 TurnGives atoms f old new Whole = Turns atoms f old new (length (watches_of new.lists f))
 TurnGives atoms f old new (FalseClause row) = TurnsTo atoms f old new row
-TurnGives atoms f old new NoRoom = Unit {0}
 
 -- no literal is there with both signs
 abbrev pub IsConsistent : List Step → Type 0
@@ -51,4 +50,3 @@ pub record Runs (atoms : ℕ) (old new : Parts) (start head : ℕ) : Type 0 wher
 abbrev pub RunGives : ℕ → Parts → Parts → ℕ → ℕ → Reached → Type 0
 RunGives atoms old new start head Fixpoint = Runs atoms old new start head × (head ≡ length new.steps) × IsConsistent new.steps
 RunGives atoms old new start head (False row) = Runs atoms old new start head × IsFalseAt new row × (head ≤ length new.steps)
-RunGives atoms old new start head OutOfRoom = Unit {0}

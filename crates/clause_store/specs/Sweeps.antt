@@ -7,7 +7,7 @@ use Rattle.clause_store.specs.Entries.{Entry, entry_at}
 use Rattle.clause_store.specs.Watching.{IsWatching, Frame, Covers, Grows, kept_from, SameShape}
 use Rattle.clause_store.specs.declared.lists.Watch.{Watch}
 use Rattle.clause_store.specs.declared.sweep.Swept.{Swept}
-use Rattle.clause_store.specs.declared.sweep.Swept.TheVariants.{Whole, False, NoRoom}
+use Rattle.clause_store.specs.declared.sweep.Swept.TheVariants.{Whole, False}
 
 -- clauses, lists of watches and steps; the literal's own list stands apart, gone through up to a place
 pub record State : Type 0 where
@@ -40,4 +40,3 @@ pub record Meets (atoms depth : ℕ) (f : Signed) (old new : State) (row : ℕ) 
 abbrev pub SweptGives : ℕ → ℕ → Signed → State → State → Swept → Type 0
 SweptGives atoms depth f old new Whole = Sweeps atoms depth f old new (length new.list)
 SweptGives atoms depth f old new (False row) = Meets atoms depth f old new row
-SweptGives atoms depth f old new NoRoom = Unit {0}

@@ -7,7 +7,7 @@ use Rattle.clause_store.specs.Stored.{IsFalseOn, AllFalse}
 use Rattle.clause_store.specs.Entries.{Entry, entry_at, watches_of, IsOther}
 use Rattle.clause_store.specs.declared.lists.Watch.{Watch}
 use Rattle.clause_store.specs.declared.sweep.Visit.{Visit}
-use Rattle.clause_store.specs.declared.sweep.Visit.TheVariants.{Keep, Gone, False, NoRoom}
+use Rattle.clause_store.specs.declared.sweep.Visit.TheVariants.{Keep, Gone, False}
 
 -- what a sweep may change
 pub record Parts : Type 0 where
@@ -48,15 +48,6 @@ abbrev pub StepGives : Signed → ℕ → ℕ → Parts → Parts → Visit → 
 StepGives o row depth old new (Keep b) = (b ≡ o) × (Stays old new b ⊎ Implies row depth old new b)
 StepGives o row depth old new Gone = Moves o row old new
 StepGives o row depth old new False = IsConflict row old new
-StepGives o row depth old new NoRoom = new ≡ old
-
-abbrev pub Transfers : Signed → Signed → ℕ → List Entry → List Entry → List (List Watch) → List (List Watch) → Visit → Type 0
-Transfers found o row es es' lists lists' (Keep b) = ⊥
-Transfers found o row es es' lists lists' Gone =
-    let more : Watch = record { blocker = o; row = row } in
-    (es' ≡ slice_set es row (record (entry_at es row) { first = o; second = found })) × (lists' ≡ slice_set lists (packed found) (watches_of lists found ++ more ∷ []))
-Transfers found o row es es' lists lists' False = ⊥
-Transfers found o row es es' lists lists' NoRoom = (es' ≡ es) × (lists' ≡ lists)
 
 -- the literal at this place isn't this one, and isn't false
 pub record IsFoundAt (steps : List Step) (ls : List Signed) (o : Signed) (k : ℕ) : Type 0 where
@@ -72,7 +63,6 @@ abbrev pub IsBlocked : Watch → Parts → Parts → Visit → Type 0
 IsBlocked w old new (Keep b) = (b ≡ w.blocker) × Stays old new b
 IsBlocked w old new Gone = ⊥
 IsBlocked w old new False = ⊥
-IsBlocked w old new NoRoom = ⊥
 
 pub record IsStale (f : Signed) (w : Watch) (old new : Parts) (v : Visit) : Type 0 where
   pub gone : v ≡ Gone

@@ -48,9 +48,10 @@ pub record IsSound (atoms : ℕ) (es : List Entry) (w : Watch) : Type 0 where
   pub known : w.blocker.atom < atoms
   pub blocker : (entry_at es w.row).live ≡ true → Contains (entry_at es w.row).literals w.blocker
 
--- the literal is one of the clause's two watched ones
+-- the literal is one of the clause's, and one of its two watched ones
 pub record IsOwn (es : List Entry) (l : Signed) (w : Watch) : Type 0 where
   pub pair : ((entry_at es w.row).first ≡ l) ⊎ ((entry_at es w.row).second ≡ l)
+  pub contained : Contains (entry_at es w.row).literals l
 
 -- no clause stands twice in the list
 abbrev pub IsOnce : List Watch → Type 0
@@ -62,7 +63,7 @@ pub record IsTidy (es : List Entry) (lists : List (List Watch)) : Type 0 where
   pub once : (l : Signed) → IsOnce (watches_of lists l)
 
 pub record IsWatching (atoms : ℕ) (es : List Entry) (lists : List (List Watch)) : Type 0 where
-  pub known : (i : ℕ) → i < length es → IsKnown atoms (entry_at es i)
+  pub known : (i : ℕ) → (entry_at es i).live ≡ true → IsKnown atoms (entry_at es i)
   pub pairs : (i : ℕ) → (entry_at es i).live ≡ true → IsPair (entry_at es i)
   pub sound : (l : Signed) → All (IsSound atoms es) (watches_of lists l)
   pub listed : (i : ℕ) → (entry_at es i).live ≡ true → IsListed (watches_of lists (entry_at es i).first) 0 i × IsListed (watches_of lists (entry_at es i).second) 0 i

@@ -1,16 +1,19 @@
 // Which two literals of a new clause are watched.
-ghost use Rattle.std.specs.Prelude.{◌≡◌, ℕ, ◌+◌, ◌*◌, ◌^◌, ◌<◌, ◌≤◌, ◌⊎◌, true, false, List, All, Contains, length, IfOk, OnOk, OnErr};
+ghost use Rattle.std.specs.Prelude.{◌≡◌, ℕ, ◌+◌, ◌*◌, ◌^◌, ◌<◌, ◌≤◌, ◌⊎◌, true, false, List, All, Contains, length, OnOk, OnErr, vec_capacity};
 ghost use Rattle.clause_store.specs.Gaining.{GainsEntry, KeepsUp};
+ghost use Rattle.clause_store.specs.Empties.{all_filled};
 ghost use Rattle.literals.specs.Signed.{Signed, opposite, packed};
 ghost use Rattle.clause_store.specs.Stored.{IsFalseOn};
-ghost use Rattle.clause_store.specs.Choosing.{IsChoice, Outlasts, Enlists, EnlistsBoth};
+ghost use Rattle.clause_store.specs.Choosing.{IsChoice, Outlasts, EnlistsBoth};
+ghost use Rattle.clause_store.specs.Entries.{bare, rooms, room_of};
 ghost use Rattle.clause_store.specs.From.{IsFrom};
+ghost use Rattle.clause_store.specs.Room.{HasPlace, HasRoomToWait};
 
-use crate::lists::{Watch, WatchList};
+use crate::lists::{Watch, WatchList, enlist};
 use crate::rows::Rows;
 use crate::sweep::{find, is_false, is_same};
 use crate::trail::Trail;
-use crate::waits::{Wait, wait_in_room};
+use crate::waits::{Wait, push_wait};
 use literals::Literal;
 use std::alloc::AllocError;
 
@@ -143,33 +146,25 @@ pub fn choose(literals: &[Literal], trail: &Trail) -> Choice
     }
 }
 
-// Puts a watch into a literal's list, where that takes no memory.
-pub fn enlist(lists: &mut [WatchList], literal: Literal, watch: Watch) -> bool
-    requires { packed literal < length lists.old }
-    ensures yes { result ≡ true → Enlists lists.old lists.new literal watch }
-{
-    let list = &mut lists[literal.code()];
-    list.push_in_room(watch)
-}
-
-// Puts the watches of a clause into the lists of its two watched literals, where that takes no memory; one where these are the same.
-fn enlist_both(lists: &mut [WatchList], first: Literal, second: Literal, row: u32) -> bool
+// Puts the watches of a clause into the lists of its two watched literals, where there is room for them; one where these are the same.
+fn enlist_both(lists: &mut [WatchList], first: Literal, second: Literal, row: u32)
     requires first { packed first < length lists.old }
     requires second { packed second < length lists.old }
-    ensures yes { result ≡ true → EnlistsBoth lists.old lists.new first second row }
+    requires first_room { HasPlace (bare lists.old) (rooms lists.old) first }
+    requires second_room { HasPlace (bare lists.old) (rooms lists.old) second }
+    ensures lists { EnlistsBoth (bare lists.old) (bare lists.new) first second row }
+    ensures rooms { rooms lists.new ≡ rooms lists.old }
 {
-    if !enlist(
+    enlist(
         lists,
         first,
         Watch {
             blocker: second,
             row,
         },
-    ) {
-        return false;
-    }
+    );
     if is_same(first, second) {
-        return true;
+        return;
     }
     enlist(
         lists,
@@ -178,10 +173,10 @@ fn enlist_both(lists: &mut [WatchList], first: Literal, second: Literal, row: u3
             blocker: first,
             row,
         },
-    )
+    );
 }
 
-// Adds a clause and keeps its watches up, where there was room for them.
+// Adds a clause and keeps its watches up.
 pub fn keep_up(
     rows: &mut Rows,
     lists: &mut [WatchList],
@@ -189,55 +184,66 @@ pub fn keep_up(
     waiting: &mut Vec<Wait>,
     literals: &[Literal],
     level: u16,
-) -> Result<bool, AllocError>
+) -> Result<(), AllocError>
     requires some { 0 < length literals.now }
     requires known { All (λ (l : Signed). l.atom < trail.now.atoms) literals.now }
     requires small { length rows.old.entries + 1 < 2 ^ 32 }
     requires room { 2 * trail.now.atoms ≤ length lists.old }
+    requires within { All (λ (w : Wait). w.row < length rows.old.entries) waiting.old.items }
+    requires waiting { HasRoomToWait rows.old.entries waiting.old.items (vec_capacity waiting.old) }
+    requires one_more { length rows.old.entries + 1 ≤ vec_capacity waiting.old }
+    requires places { All (HasPlace (bare lists.old) (rooms lists.old)) literals.now }
     ensures looks { rows.new.looks ≡ rows.old.looks }
+    ensures waiting { HasRoomToWait rows.new.entries waiting.new.items (vec_capacity waiting.new) }
     ensures gains { OnOk result (GainsEntry rows.old.entries rows.new.entries literals.now level) }
-    ensures same { OnErr result ((rows.new.entries ≡ rows.old.entries) × (lists.new ≡ lists.old) × (waiting.new.items ≡ waiting.old.items)) }
-    ensures keeps { IfOk result (λ b. b ≡ true → KeepsUp trail.now.atoms trail.now.steps rows.old.entries rows.new.entries lists.old lists.new waiting.old.items waiting.new.items) }
+    ensures same { OnErr result ((rows.new.entries ≡ rows.old.entries) × (bare lists.new ≡ bare lists.old) × (waiting.new.items ≡ waiting.old.items)) }
+    ensures keeps { OnOk result (KeepsUp trail.now.atoms trail.now.steps (all_filled rows.old.entries) (all_filled rows.new.entries) (bare lists.old) (bare lists.new) waiting.old.items waiting.new.items) }
+    ensures rooms { rooms lists.new ≡ rooms lists.old }
 {
     let row = rows.len() as u32;
     let choice = choose(literals, trail);
     let first = choice.first;
     let second = choice.second;
     rows.push(literals, first, second, level)?;
-    if !enlist_both(lists, first, second, row) {
-        return Ok(false);
-    }
+    enlist_both(lists, first, second, row);
     match choice.standing {
-        Standing::Awake => Ok(true),
-        Standing::Waits(depth) => Ok(wait_in_room(
-            waiting,
-            Wait {
-                row,
-                literal: first,
-                depth,
-            },
-        )),
+        Standing::Awake => Ok(()),
+        Standing::Waits(depth) => {
+            push_wait(
+                waiting,
+                Wait {
+                    row,
+                    literal: first,
+                    depth,
+                },
+            );
+            Ok(())
+        }
     }
 }
 
-// Makes room for a watch more in the list of each of these literals.
-fn make_room_in_each(lists: &mut [WatchList], literals: &[Literal]) -> bool
-    requires { All (λ (l : Signed). packed l < length lists.old) literals.now }
-    ensures { lists.new ≡ lists.old }
+// Makes room for a watch more in a literal's list.
+fn make_room_at(lists: &mut [WatchList], literal: Literal) -> bool
+    requires { packed literal < length lists.old }
+    ensures watches { bare lists.new ≡ bare lists.old }
+    ensures grows { (l : Signed) → room_of (rooms lists.old) l ≤ room_of (rooms lists.new) l }
+    ensures more { result ≡ true → room_of (rooms lists.old) literal + 1 ≤ room_of (rooms lists.new) literal }
 {
-    for literal in literals {
-        let list = &mut lists[literal.code()];
-        if !list.make_room() {
-            return false;
-        }
-    }
-    true
+    let list = &mut lists[literal.code()];
+    list.make_room()
 }
 
 // Makes room in the lists of a clause's literals, so that its watches move without memory.
 pub fn make_room(lists: &mut [WatchList], literals: &[Literal]) -> bool
     requires { All (λ (l : Signed). packed l < length lists.old) literals.now }
-    ensures { lists.new ≡ lists.old }
+    ensures watches { bare lists.new ≡ bare lists.old }
+    ensures grows { (l : Signed) → room_of (rooms lists.old) l ≤ room_of (rooms lists.new) l }
+    ensures more { result ≡ true → All (λ (l : Signed). room_of (rooms lists.old) l + 1 ≤ room_of (rooms lists.new) l) literals.now }
 {
-    make_room_in_each(lists, literals)
+    for literal in literals {
+        if !make_room_at(lists, *literal) {
+            return false;
+        }
+    }
+    true
 }

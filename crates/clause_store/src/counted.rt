@@ -12,13 +12,13 @@ ghost use Rattle.clause_store.specs.Looks.{LooksBy, SettlesAll};
 
 use crate::choose::{keep_up, make_room};
 use crate::cut::{cut_to, wait_singles};
+use crate::empty::still_empty;
 use crate::lists::{WatchList, make_lists};
 use crate::rows::{Looked, Rows};
 use crate::run::{Reached, drive};
-use crate::scan::scan;
 use crate::store::Outcome;
 use crate::trail::{Status, Step, Trail};
-use crate::waits::{Wait, drop_from, drop_of};
+use crate::waits::{Wait, drop_from, drop_of, make_room_to_wait};
 use literals::Literal;
 use std::alloc::{AllocError, Global};
 use std::marker::Model;
@@ -32,22 +32,22 @@ pub struct CountedStore {
     trail: Trail,
     head: usize,
     waiting: Vec<Wait>,
-    // whether the watches are no longer kept up: propagation then scans
-    loose: bool,
+    // a kept clause without literals, where there is one
+    empty: Option<u32>,
 }
 
 impl Model for CountedStore {
-    ghost use Rattle.std.specs.Prelude.{not};
+    ghost use Rattle.std.specs.Prelude.{vec_capacity};
     ghost use Rattle.clause_store.specs.Looks.{Counted};
 
     ghost Value = { Counted };
 
     ghost use Rattle.clause_store.specs.Watching.{kept_from};
-    ghost use Rattle.clause_store.specs.Keeping.{IsKept};
+    ghost use Rattle.clause_store.specs.Keeping.{IsRoomy};
 
-    ghost view = { λ s. record { stored = record { clauses = kept_from 0 s.rows.entries; trail = s.trail }; looks = s.rows.looks; settled = s.head; watched = not s.loose } };
+    ghost view = { λ s. record { stored = record { clauses = kept_from 0 s.rows.entries; trail = s.trail }; looks = s.rows.looks; settled = s.head } };
 
-    ghost invariant = { λ s. IsKept s.rows.entries s.lists.items s.trail s.head s.waiting.items s.loose };
+    ghost invariant = { λ s. IsRoomy s.rows.entries s.lists.items s.trail s.head s.waiting.items (vec_capacity s.waiting) s.empty };
 }
 
 fn least(a: usize, b: usize) -> usize
@@ -57,18 +57,15 @@ fn least(a: usize, b: usize) -> usize
 }
 
 impl CountedStore {
-    // Propagates by watches, where these are kept up.
-    fn by_watches(&mut self) -> Option<Outcome>
+    // Propagates by watches, where each clause has literals.
+    fn by_watches(&mut self) -> Outcome
+        requires { (id : ℕ) → HasKept self.old.stored.clauses id (λ ls. ls ≡ []) → ⊥ }
         ensures reached { Propagated self.old.stored self.new.stored }
         ensures looks { self.old.looks ≤ self.new.looks }
-        ensures settled { IfSome result (SettlesAll self.new) }
-        ensures gives_up { IfNone result (self.new.watched ≡ false) }
-        ensures bounded { self.new.watched ≡ true → LooksBy (drop self.old.settled self.new.stored.trail.steps) self.old.stored.clauses self.old.looks self.new.looks }
-        ensures outcome { IfSome result (λ o. Outcomes self.new.stored.trail.steps self.new.stored.clauses o) }
+        ensures settled { SettlesAll self.new result }
+        ensures bounded { LooksBy (drop self.old.settled self.new.stored.trail.steps) self.old.stored.clauses self.old.looks self.new.looks }
+        ensures outcome { Outcomes self.new.stored.trail.steps self.new.stored.clauses result }
     {
-        if self.loose {
-            return None;
-        }
         let (reached, head) = drive(
             &mut self.rows,
             &mut self.lists,
@@ -81,35 +78,22 @@ impl CountedStore {
         match reached {
             Reached::Fixpoint => {
                 drop_from(&mut self.waiting, self.trail.depth());
-                Some(Outcome::Fixpoint)
+                Outcome::Fixpoint
             }
-            Reached::False(row) => Some(Outcome::False(row as u64)),
-            Reached::NoRoom => {
-                self.loose = true;
-                None
-            }
+            Reached::False(row) => Outcome::False(row as u64),
         }
-    }
-
-    fn by_scan(&mut self) -> Outcome
-        ensures reached { Propagated self.old.stored self.new.stored }
-        ensures looks { self.old.looks ≤ self.new.looks }
-        ensures watched { self.new.watched ≡ self.old.watched }
-        ensures outcome { Outcomes self.new.stored.trail.steps self.new.stored.clauses result }
-    {
-        scan(&mut self.rows, &mut self.trail)
     }
 
     pub fn propagate(&mut self) -> Outcome
         ensures reached { Propagated self.old.stored self.new.stored }
         ensures looks { self.old.looks ≤ self.new.looks }
-        ensures settled { self.new.watched ≡ true → SettlesAll self.new result }
-        ensures bounded { self.new.watched ≡ true → LooksBy (drop self.old.settled self.new.stored.trail.steps) self.old.stored.clauses self.old.looks self.new.looks }
+        ensures settled { SettlesAll self.new result }
+        ensures bounded { LooksBy (drop self.old.settled self.new.stored.trail.steps) self.old.stored.clauses self.old.looks self.new.looks }
         ensures outcome { Outcomes self.new.stored.trail.steps self.new.stored.clauses result }
     {
-        match self.by_watches() {
-            Some(outcome) => outcome,
-            None => self.by_scan(),
+        match self.empty {
+            Some(row) => Outcome::False(row as u64),
+            None => self.by_watches(),
         }
     }
 
@@ -119,7 +103,6 @@ impl CountedStore {
         requires room { self.old.stored.trail.depth + 1 < 2 ^ 32 }
         ensures decided { let step : Step = record { literal = literal; depth = self.old.stored.trail.depth + 1; reason = None } in self.new.stored ≡ record self.old.stored { trail = record { steps = self.old.stored.trail.steps ++ step ∷ []; atoms = self.old.stored.trail.atoms; depth = self.old.stored.trail.depth + 1 } } }
         ensures settled { self.new.settled ≡ self.old.settled }
-        ensures watched { self.new.watched ≡ self.old.watched }
         ensures looks { self.new.looks ≡ self.old.looks }
     {
         self.trail.decide(literal);
@@ -129,7 +112,7 @@ impl CountedStore {
         requires { depth ≤ self.old.stored.trail.depth }
         ensures undone { self.new.stored ≡ record self.old.stored { trail = record { steps = up_to depth self.old.stored.trail.steps; atoms = self.old.stored.trail.atoms; depth = depth } } }
         ensures front { (rest : List Step) × (self.old.stored.trail.steps ≡ self.new.stored.trail.steps ++ rest) }
-        ensures settled { self.new.watched ≡ true → self.new.settled ≡ min self.old.settled (length self.new.stored.trail.steps) }
+        ensures settled { self.new.settled ≡ min self.old.settled (length self.new.stored.trail.steps) }
         ensures looks { self.new.looks ≡ self.old.looks }
     {
         let before = self.trail.depth();
@@ -141,9 +124,9 @@ impl CountedStore {
         self.head = least(self.head, self.trail.steps().len());
     }
 
-    // Adds a clause whose watches aren't kept up.
-    fn add_loose(&mut self, literals: &[Literal], level: u16) -> Result<u64, AllocError>
-        requires known { All (λ (l : Signed). l.atom < self.old.stored.trail.atoms) literals.now }
+    // Adds a clause without literals.
+    fn add_empty(&mut self, literals: &[Literal], level: u16) -> Result<u64, AllocError>
+        requires none { literals.now ≡ [] }
         ensures added { IfOk result (λ id. let kept : Kept = record { id = id; literals = literals.now; level = level } in self.new.stored ≡ record self.old.stored { clauses = self.old.stored.clauses ++ kept ∷ [] }) }
         ensures same { OnErr result (self.new.stored ≡ self.old.stored) }
         ensures settled { self.new.settled ≡ self.old.settled }
@@ -153,11 +136,14 @@ impl CountedStore {
         if row + 1 >= 1 << 32 {
             return Err(AllocError);
         }
+        if !make_room_to_wait(&mut self.waiting, row + 1) {
+            return Err(AllocError);
+        }
         let zero = Literal::new(0, true);
         match self.rows.push(literals, zero, zero, level) {
             Err(_) => Err(AllocError),
             Ok(()) => {
-                self.loose = true;
+                self.empty = Some(row as u32);
                 Ok(row as u64)
             }
         }
@@ -171,35 +157,26 @@ impl CountedStore {
         ensures settled { self.new.settled ≡ self.old.settled }
         ensures looks { self.new.looks ≡ self.old.looks }
     {
-        if self.loose {
-            return self.add_loose(literals, level);
-        }
         let row = self.rows.len();
         if row + 1 >= 1 << 32 {
             return Err(AllocError);
         }
         // each clause may wait once decisions are undone
-        let rest = (row + 1).saturating_sub(self.waiting.len());
-        if self.waiting.reserve(rest).is_err() {
+        if !make_room_to_wait(&mut self.waiting, row + 1) {
             return Err(AllocError);
         }
         if !make_room(&mut self.lists, literals) {
             return Err(AllocError);
         }
-        match keep_up(
+        keep_up(
             &mut self.rows,
             &mut self.lists,
             &self.trail,
             &mut self.waiting,
             literals,
             level,
-        ) {
-            Err(_) => Err(AllocError),
-            Ok(kept_up) => {
-                self.loose = !kept_up;
-                Ok(row as u64)
-            }
-        }
+        )?;
+        Ok(row as u64)
     }
 
     pub fn add(&mut self, literals: &[Literal], level: u16) -> Result<u64, AllocError>
@@ -210,13 +187,13 @@ impl CountedStore {
         ensures looks { self.new.looks ≡ self.old.looks }
     {
         if literals.is_empty() {
-            return self.add_loose(literals, level);
+            return self.add_empty(literals, level);
         }
         self.add_watched(literals, level)
     }
 
     pub fn new(alloc: Global) -> CountedStore
-        ensures { result ≡ record { stored = record { clauses = []; trail = record { steps = []; atoms = 0; depth = 0 } }; looks = 0; settled = 0; watched = true } }
+        ensures { result ≡ record { stored = record { clauses = []; trail = record { steps = []; atoms = 0; depth = 0 } }; looks = 0; settled = 0 } }
     {
         CountedStore {
             alloc,
@@ -226,7 +203,7 @@ impl CountedStore {
             trail: Trail::new(alloc),
             head: 0,
             waiting: Vec::new(alloc),
-            loose: false,
+            empty: None,
         }
     }
 
@@ -363,13 +340,6 @@ impl CountedStore {
         self.head
     }
 
-    // Whether the watches are kept up; propagation scans where they aren't.
-    pub fn is_watched(&self) -> bool
-        ensures { result ≡ self.now.watched }
-    {
-        !self.loose
-    }
-
     fn row_of(&self, id: u64) -> u32
         requires { HasKept self.now.stored.clauses id (λ ls. Unit {0}) }
         ensures { result ≡ id }
@@ -384,12 +354,12 @@ impl CountedStore {
         requires unused { All (λ (s : Step). s.reason ≡ Some id → ⊥) self.old.stored.trail.steps }
         ensures forgotten { self.new.stored ≡ record self.old.stored { clauses = without id self.old.stored.clauses } }
         ensures settled { self.new.settled ≡ self.old.settled }
-        ensures watched { self.new.watched ≡ self.old.watched }
         ensures looks { self.new.looks ≡ self.old.looks }
     {
         let row = self.row_of(id);
         self.rows.forget(row);
         drop_of(&mut self.waiting, row);
+        self.empty = still_empty(&self.rows, self.empty);
     }
 
     // Takes back all steps, and keeps the clauses up to this level.
@@ -402,9 +372,7 @@ impl CountedStore {
         cut_to(&mut self.rows, level);
         self.waiting.clear();
         self.head = 0;
-        if self.loose {
-            return;
-        }
-        self.loose = !wait_singles(&self.rows, &mut self.waiting);
+        self.empty = still_empty(&self.rows, self.empty);
+        wait_singles(&self.rows, &mut self.waiting);
     }
 }

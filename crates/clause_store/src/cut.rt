@@ -1,13 +1,14 @@
 // Keeps the clauses up to a level, with nothing assigned.
-ghost use Rattle.std.specs.Prelude.{◌≡◌, ℕ, true, false, [], ◌+◌, ◌<◌, ◌^◌, length, int_le, nat_lt, pos};
+ghost use Rattle.std.specs.Prelude.{◌≡◌, ℕ, true, false, [], ◌+◌, ◌<◌, ◌≤◌, ◌^◌, length, int_le, nat_lt, pos, vec_capacity};
 ghost use Rattle.clause_store.specs.Stored.{up_to_level};
 ghost use Rattle.clause_store.specs.Watching.{kept_from};
 ghost use Rattle.clause_store.specs.Cutting.{IsCut, IsFewer};
 ghost use Rattle.clause_store.specs.Entries.{entry_at};
-ghost use Rattle.clause_store.specs.From.{AreSingles};
+ghost use Rattle.clause_store.specs.Empties.{all_filled};
+ghost use Rattle.clause_store.specs.From.{HasSingles};
 
 use crate::rows::Rows;
-use crate::waits::{Wait, wait_in_room};
+use crate::waits::{Wait, push_wait};
 
 // The least number above all levels up to this.
 fn bound(level: i32) -> u32
@@ -40,44 +41,53 @@ pub fn cut_to(rows: &mut Rows, level: i32)
     cut_rows(rows, bound(level));
 }
 
-// Whether a clause is kept and both its watched literals are one.
+// Whether a clause is kept and watched.
+fn is_watched(rows: &Rows, i: u32) -> bool
+    requires within { i < length rows.now.entries }
+    ensures { result ≡ (entry_at (all_filled rows.now.entries) i).live }
+{
+    rows.is_live(i) && rows.size(i) > 0
+}
+
+// Whether a clause is watched and both its watched literals are one.
 fn is_single(rows: &Rows, i: u32) -> bool
     requires within { i < length rows.now.entries }
-    ensures yes { result ≡ true → ((entry_at rows.now.entries i).live ≡ true) × ((entry_at rows.now.entries i).first ≡ (entry_at rows.now.entries i).second) }
-    ensures no { result ≡ false → (entry_at rows.now.entries i).live ≡ true → (entry_at rows.now.entries i).first ≡ (entry_at rows.now.entries i).second → ⊥ }
+    ensures yes { result ≡ true → ((entry_at (all_filled rows.now.entries) i).live ≡ true) × ((entry_at rows.now.entries i).first ≡ (entry_at rows.now.entries i).second) }
+    ensures no { result ≡ false → (entry_at (all_filled rows.now.entries) i).live ≡ true → (entry_at rows.now.entries i).first ≡ (entry_at rows.now.entries i).second → ⊥ }
 {
-    rows.is_live(i) && rows.first(i) == rows.second(i)
+    is_watched(rows, i) && rows.first(i) == rows.second(i)
 }
 
-// A clause of one literal waits, where that takes no memory.
-fn wait_single(rows: &Rows, i: u32, waiting: &mut Vec<Wait>) -> bool
+// A clause of one literal waits.
+fn wait_single(rows: &Rows, i: u32, waiting: &mut Vec<Wait>)
     requires within { i < length rows.now.entries }
-    ensures { result ≡ true → AreSingles rows.now.entries i waiting.old.items → AreSingles rows.now.entries (i + 1) waiting.new.items }
+    requires singles { HasSingles (all_filled rows.now.entries) i waiting.old.items }
+    requires room { length rows.now.entries ≤ vec_capacity waiting.old }
+    ensures singles { HasSingles (all_filled rows.now.entries) (i + 1) waiting.new.items }
+    ensures room { vec_capacity waiting.old ≤ vec_capacity waiting.new }
 {
-    if !is_single(rows, i) {
-        return true;
+    if is_single(rows, i) {
+        let literal = rows.first(i);
+        push_wait(
+            waiting,
+            Wait {
+                row: i,
+                literal,
+                depth: 0,
+            },
+        );
     }
-    let literal = rows.first(i);
-    wait_in_room(
-        waiting,
-        Wait {
-            row: i,
-            literal,
-            depth: 0,
-        },
-    )
 }
 
-// The clauses of one literal wait, where that takes no memory.
-pub fn wait_singles(rows: &Rows, waiting: &mut Vec<Wait>) -> bool
+// The clauses of one literal wait.
+pub fn wait_singles(rows: &Rows, waiting: &mut Vec<Wait>)
     requires none { waiting.old.items ≡ [] }
     requires small { length rows.now.entries < 2 ^ 32 }
-    ensures { result ≡ true → AreSingles rows.now.entries (length rows.now.entries) waiting.new.items }
+    requires room { length rows.now.entries ≤ vec_capacity waiting.old }
+    ensures singles { HasSingles (all_filled rows.now.entries) (length rows.now.entries) waiting.new.items }
+    ensures room { vec_capacity waiting.old ≤ vec_capacity waiting.new }
 {
     for i in 0..rows.len() {
-        if !wait_single(rows, i as u32, waiting) {
-            return false;
-        }
+        wait_single(rows, i as u32, waiting);
     }
-    true
 }

@@ -1,11 +1,12 @@
 // Catches up with steps of lower depths, which a decision was taken before: there each clause is watched so that it stays well at each depth.
-ghost use Rattle.std.specs.Prelude.{◌≡◌, ℕ, true, false, ◌+◌, ◌*◌, ◌<◌, ◌≤◌, ◌⊎◌, List, All, Contains, length, slice_set};
+ghost use Rattle.std.specs.Prelude.{◌≡◌, ℕ, true, false, ◌+◌, ◌*◌, ◌<◌, ◌≤◌, ◌⊎◌, List, All, Contains, length, slice_set, vec_capacity};
 ghost use Rattle.clause_store.specs.declared.waits.Wait.{Wait};
 ghost use Rattle.literals.specs.Signed.{Signed, opposite, packed};
 ghost use Rattle.clause_store.specs.Stored.{IsFalseOn};
-ghost use Rattle.clause_store.specs.Entries.{entry_at, IsKnown, IsOther};
+ghost use Rattle.clause_store.specs.Entries.{entry_at, bare, rooms, IsKnown, IsOther};
 ghost use Rattle.clause_store.specs.Watching.{IsWatching, IsPair, Grows, kept_from};
 ghost use Rattle.clause_store.specs.Looks.{LooksAt, LooksBy};
+ghost use Rattle.clause_store.specs.Room.{HasPlace, LeavesRoom, HasRoomToWait, HasRoomToMove};
 ghost use Rattle.clause_store.specs.Visits.{Parts};
 ghost use Rattle.clause_store.specs.Late.{ExaminedGives, PinGives, LateGives, IsReady, LateSweptGives};
 
@@ -14,7 +15,7 @@ use crate::lists::{Watch, WatchList};
 use crate::rows::Rows;
 use crate::sweep::{Swept, Visit, find, is_false, is_same, transfer};
 use crate::trail::Trail;
-use crate::waits::{Wait, force, wait_in_room};
+use crate::waits::{Wait, force, wait_anew};
 use literals::Literal;
 
 // What a look at a clause finds: a literal that isn't false; none; or the other one alone, and the one that became false last, with its depth.
@@ -86,20 +87,23 @@ fn pin(
     requires list { packed second < length lists.old }
     requires known { other.atom < trail.old.atoms }
     requires not_false { IsFalseOn trail.old.steps other → ⊥ }
+    requires within { All (λ (w : Wait). w.row < length rows.old.entries) waiting.old.items }
+    requires room { HasRoomToWait rows.old.entries waiting.old.items (vec_capacity waiting.old) }
+    requires move_room { (second ≡ f → ⊥) → HasPlace (bare lists.old) (rooms lists.old) second }
+    ensures rooms { rooms lists.new ≡ rooms lists.old }
     ensures looks { rows.new.looks ≡ rows.old.looks }
-    ensures gives { let w : Wait = record { row = row; literal = other; depth = from } in PinGives f second w trail.old.depth (record { entries = rows.old.entries; lists = lists.old; steps = trail.old.steps }) (record { entries = rows.new.entries; lists = lists.new; steps = trail.new.steps }) waiting.old.items waiting.new.items result }
+    ensures gives { let w : Wait = record { row = row; literal = other; depth = from } in PinGives f second w trail.old.depth (record { entries = rows.old.entries; lists = bare lists.old; steps = trail.old.steps }) (record { entries = rows.new.entries; lists = bare lists.new; steps = trail.new.steps }) waiting.old.items waiting.new.items result }
+    ensures room { HasRoomToWait rows.new.entries waiting.new.items (vec_capacity waiting.new) }
     ensures same { (trail.new.atoms ≡ trail.old.atoms) × (trail.new.depth ≡ trail.old.depth) }
 {
-    if !wait_in_room(
+    wait_anew(
         waiting,
         Wait {
             row,
             literal: other,
             depth: from,
         },
-    ) {
-        return Visit::NoRoom;
-    }
+    );
     if is_same(second, f) {
         let _forced = force(
             Wait {
@@ -111,20 +115,16 @@ fn pin(
         );
         return Visit::Keep(other);
     }
-    match transfer(second, other, row, rows, lists) {
-        Visit::Gone => {
-            let _forced = force(
-                Wait {
-                    row,
-                    literal: other,
-                    depth: from,
-                },
-                trail,
-            );
-            Visit::Gone
-        }
-        rest => rest,
-    }
+    transfer(second, other, row, rows, lists);
+    let _forced = force(
+        Wait {
+            row,
+            literal: other,
+            depth: from,
+        },
+        trail,
+    );
+    Visit::Gone
 }
 
 // Looks at one clause that a false literal watches.
@@ -139,13 +139,18 @@ fn visit(
     requires place { row < length rows.old.entries }
     requires own { ((entry_at rows.old.entries row).first ≡ f) ⊎ ((entry_at rows.old.entries row).second ≡ f) }
     requires pair { (entry_at rows.old.entries row).live ≡ true → IsPair (entry_at rows.old.entries row) }
-    requires known { IsKnown trail.old.atoms (entry_at rows.old.entries row) }
+    requires known { (entry_at rows.old.entries row).live ≡ true → IsKnown trail.old.atoms (entry_at rows.old.entries row) }
     requires is_false { IsFalseOn trail.old.steps f }
     requires lists { 2 * trail.old.atoms ≤ length lists.old }
+    requires within { All (λ (w : Wait). w.row < length rows.old.entries) waiting.old.items }
+    requires room { HasRoomToWait rows.old.entries waiting.old.items (vec_capacity waiting.old) }
+    requires move_room { (entry_at rows.old.entries row).live ≡ true → LeavesRoom (bare lists.old) (rooms lists.old) (entry_at rows.old.entries row) }
+    ensures rooms { rooms lists.new ≡ rooms lists.old }
     ensures rises { rows.old.looks ≤ rows.new.looks }
     ensures once { rows.new.looks ≤ rows.old.looks + 1 }
     ensures dead { (entry_at rows.old.entries row).live ≡ false → rows.new.looks ≡ rows.old.looks }
-    ensures gives { LateGives f row trail.old.depth (record { entries = rows.old.entries; lists = lists.old; steps = trail.old.steps }) (record { entries = rows.new.entries; lists = lists.new; steps = trail.new.steps }) waiting.old.items waiting.new.items result }
+    ensures gives { LateGives f row trail.old.depth (record { entries = rows.old.entries; lists = bare lists.old; steps = trail.old.steps }) (record { entries = rows.new.entries; lists = bare lists.new; steps = trail.new.steps }) waiting.old.items waiting.new.items result }
+    ensures room { HasRoomToWait rows.new.entries waiting.new.items (vec_capacity waiting.new) }
     ensures same { (trail.new.atoms ≡ trail.old.atoms) × (trail.new.depth ≡ trail.old.depth) }
 {
     if !rows.is_live(row) {
@@ -153,7 +158,10 @@ fn visit(
     }
     let other = other_of(f, row, rows);
     match examine(other, row, rows, trail) {
-        Examined::Found(found) => transfer(found, other, row, rows, lists),
+        Examined::Found(found) => {
+            transfer(found, other, row, rows, lists);
+            Visit::Gone
+        }
         Examined::False => Visit::False,
         Examined::Pinned(second, from) => pin(
             f, second, other, from, row, rows, lists, trail, waiting,
@@ -170,16 +178,20 @@ pub fn sweep_late(
     trail: &mut Trail,
     waiting: &mut Vec<Wait>,
 ) -> Swept
-    requires watching { IsWatching trail.old.atoms rows.old.entries (slice_set lists.old (packed f) list.old) }
+    requires watching { IsWatching trail.old.atoms rows.old.entries (slice_set (bare lists.old) (packed f) list.old.watches) }
+    requires move_room { HasRoomToMove rows.old.entries (slice_set (rooms lists.old) (packed f) list.old.room) }
     requires is_false { IsFalseOn trail.old.steps f }
     requires place { packed f < length lists.old }
     requires ready { IsReady rows.old.entries trail.old.steps trail.old.depth waiting.old.items }
+    requires room { HasRoomToWait rows.old.entries waiting.old.items (vec_capacity waiting.old) }
     ensures rises { rows.old.looks ≤ rows.new.looks }
     ensures looks { LooksAt f rows.old.entries rows.old.looks rows.new.looks }
-    ensures gives { LateSweptGives trail.old.atoms trail.old.depth f (record { entries = rows.old.entries; lists = lists.old; steps = trail.old.steps; list = list.old }) (record { entries = rows.new.entries; lists = lists.new; steps = trail.new.steps; list = list.new }) waiting.old.items waiting.new.items result }
+    ensures rooms { (rooms lists.new ≡ rooms lists.old) × (list.new.room ≡ list.old.room) }
+    ensures gives { LateSweptGives trail.old.atoms trail.old.depth f (record { entries = rows.old.entries; lists = bare lists.old; steps = trail.old.steps; list = list.old.watches }) (record { entries = rows.new.entries; lists = bare lists.new; steps = trail.new.steps; list = list.new.watches }) waiting.old.items waiting.new.items result }
     ensures grows { Grows (kept_from 0 rows.old.entries) trail.old.depth trail.old.steps trail.new.steps }
     ensures clauses { kept_from 0 rows.new.entries ≡ kept_from 0 rows.old.entries }
     ensures count { length rows.new.entries ≡ length rows.old.entries }
+    ensures room { HasRoomToWait rows.new.entries waiting.new.items (vec_capacity waiting.new) }
     ensures same { (trail.new.atoms ≡ trail.old.atoms) × (trail.new.depth ≡ trail.old.depth) }
 {
     let mut k = 0;
@@ -195,7 +207,6 @@ pub fn sweep_late(
                 list.take_out(k);
             }
             Visit::False => return Swept::False(row),
-            Visit::NoRoom => return Swept::NoRoom,
         }
     }
     Swept::Whole

@@ -1,8 +1,10 @@
 // The watches of one literal.
-ghost use Rattle.std.specs.Prelude.{◌≡◌, ℕ, ◌<◌, ◌≤◌, ◌*◌, OnOk, List, [], ◌∷◌, ◌++◌, length, slice_index_or, slice_set, true, false, vec_len, vec_capacity};
+ghost use Rattle.std.specs.Prelude.{◌≡◌, ℕ, ◌+◌, ◌<◌, ◌≤◌, ◌*◌, OnOk, List, [], ◌∷◌, ◌++◌, length, slice_index_or, slice_set, true, false, vec_len, vec_capacity};
 ghost use Rattle.std.specs.List.{swap_remove};
-ghost use Rattle.literals.specs.Signed.{Signed};
-ghost use Rattle.clause_store.specs.Entries.{watches_of};
+ghost use Rattle.literals.specs.Signed.{Signed, packed};
+ghost use Rattle.clause_store.specs.Room.{HasPlace};
+ghost use Rattle.clause_store.specs.Choosing.{Enlists};
+ghost use Rattle.clause_store.specs.Entries.{watches_of, room_of, bare, rooms};
 
 use literals::Literal;
 use std::alloc::{AllocError, Global};
@@ -23,17 +25,20 @@ pub struct WatchList {
 }
 
 impl Model for WatchList {
-    ghost use Rattle.std.specs.Prelude.{List};
-    ghost use Rattle.clause_store.specs.declared.lists.Watch.{Watch};
+    ghost use Rattle.std.specs.Prelude.{◌≤◌, vec_capacity};
+    ghost use Rattle.clause_store.specs.Entries.{Listing};
 
-    ghost Value = { List Watch };
+    ghost Value = { Listing };
 
-    ghost view = { λ l. l.items.items };
+    ghost view = { λ l. record { watches = l.items.items; room = l.uses } };
+
+    ghost invariant = { λ l. l.uses ≤ vec_capacity l.items };
 }
 
 fn push_within(items: &mut Vec<Watch>, watch: Watch)
     requires { vec_len items.old < vec_capacity items.old }
-    ensures { items.new.items ≡ items.old.items ++ watch ∷ [] }
+    ensures items { items.new.items ≡ items.old.items ++ watch ∷ [] }
+    ensures room { vec_capacity items.old ≤ vec_capacity items.new }
 {
     let pushed = items.push(watch);
     prove!(pushed.is_ok());
@@ -41,7 +46,7 @@ fn push_within(items: &mut Vec<Watch>, watch: Watch)
 
 impl WatchList {
     pub fn new(alloc: Global) -> WatchList
-        ensures { result ≡ [] }
+        ensures { result ≡ record { watches = []; room = 0 } }
     {
         WatchList {
             items: Vec::new(alloc),
@@ -50,21 +55,21 @@ impl WatchList {
     }
 
     pub fn len(&self) -> usize
-        ensures { result ≡ length self.now }
+        ensures { result ≡ length self.now.watches }
     {
         self.items.len()
     }
 
     pub fn get(&self, k: usize) -> Watch
-        requires { k < length self.now }
-        ensures { result ≡ slice_index_or self.now k result }
+        requires { k < length self.now.watches }
+        ensures { result ≡ slice_index_or self.now.watches k result }
     {
         self.items[k]
     }
 
     pub fn set(&mut self, k: usize, watch: Watch)
-        requires { k < length self.old }
-        ensures { self.new ≡ slice_set self.old k watch }
+        requires { k < length self.old.watches }
+        ensures { self.new ≡ record { watches = slice_set self.old.watches k watch; room = self.old.room } }
     {
         // one that stays isn't written
         let blocker = watch.blocker;
@@ -76,56 +81,60 @@ impl WatchList {
 
     // Whether this watch stands there.
     fn is_at(&self, k: usize, blocker: Literal, row: u32) -> bool
-        requires { k < length self.now }
-        ensures { result ≡ true → (let w : Watch = record { blocker = blocker; row = row } in w ≡ slice_index_or self.now k w) }
+        requires { k < length self.now.watches }
+        ensures { result ≡ true → (let w : Watch = record { blocker = blocker; row = row } in w ≡ slice_index_or self.now.watches k w) }
     {
         let old = self.items[k];
         old.row == row && old.blocker == blocker
     }
 
     fn write(&mut self, k: usize, watch: Watch)
-        requires { k < length self.old }
-        ensures { self.new ≡ slice_set self.old k watch }
+        requires { k < length self.old.watches }
+        ensures { self.new ≡ record { watches = slice_set self.old.watches k watch; room = self.old.room } }
     {
         self.items[k] = watch;
     }
 
     // Takes one out; the last comes to its place.
     pub fn take_out(&mut self, k: usize) -> Watch
-        requires { k < length self.old }
-        ensures rest { self.new ≡ swap_remove self.old k result }
-        ensures value { result ≡ slice_index_or self.old k result }
+        requires { k < length self.old.watches }
+        ensures rest { self.new ≡ record { watches = swap_remove self.old.watches k result; room = self.old.room } }
+        ensures value { result ≡ slice_index_or self.old.watches k result }
     {
         self.items.swap_remove(k)
     }
 
-    // Adds one where that takes no memory.
-    pub fn push_in_room(&mut self, watch: Watch) -> bool
-        ensures pushed { result ≡ true → self.new ≡ self.old ++ watch ∷ [] }
-        ensures full { result ≡ false → self.new ≡ self.old }
+    // Adds one, for which there is room.
+    pub fn push(&mut self, watch: Watch)
+        requires { length self.old.watches < self.old.room }
+        ensures { self.new ≡ record { watches = self.old.watches ++ watch ∷ []; room = self.old.room } }
     {
-        if self.items.len() >= self.items.capacity() {
-            return false;
-        }
         push_within(&mut self.items, watch);
-        true
     }
 
     // Makes room for a watch of one more clause.
     pub fn make_room(&mut self) -> bool
-        ensures { self.new ≡ self.old }
+        ensures watches { self.new.watches ≡ self.old.watches }
+        ensures grows { self.old.room ≤ self.new.room }
+        ensures more { result ≡ true → self.old.room + 1 ≤ self.new.room }
     {
-        let uses = self.uses.saturating_add(1);
+        if self.uses == usize::MAX {
+            return false;
+        }
+        let uses = self.uses + 1;
+        let rest = uses.saturating_sub(self.items.len());
+        if self.items.reserve(rest).is_err() {
+            return false;
+        }
         self.uses = uses;
-        self.items
-            .reserve(uses.saturating_sub(self.items.len()))
-            .is_ok()
+        true
     }
 }
 
 // Empty lists until there are two for each atom.
 pub fn make_lists(alloc: Global, lists: &mut Vec<WatchList>, atoms: u32) -> Result<(), AllocError>
-    ensures same { (l : Signed) → watches_of lists.new.items l ≡ watches_of lists.old.items l }
+    ensures same { (l : Signed) → watches_of (bare lists.new.items) l ≡ watches_of (bare lists.old.items) l }
+    ensures rooms { (l : Signed) → room_of (rooms lists.new.items) l ≡ room_of (rooms lists.old.items) l }
     ensures more { vec_len lists.old ≤ vec_len lists.new }
     ensures room { OnOk result (2 * atoms ≤ vec_len lists.new) }
 {
@@ -134,4 +143,15 @@ pub fn make_lists(alloc: Global, lists: &mut Vec<WatchList>, atoms: u32) -> Resu
         lists.push(WatchList::new(alloc))?;
     }
     Ok(())
+}
+
+// Puts a watch into a literal's list, where there is room for it.
+pub fn enlist(lists: &mut [WatchList], literal: Literal, watch: Watch)
+    requires list { packed literal < length lists.old }
+    requires room { HasPlace (bare lists.old) (rooms lists.old) literal }
+    ensures lists { Enlists (bare lists.old) (bare lists.new) literal watch }
+    ensures rooms { rooms lists.new ≡ rooms lists.old }
+{
+    let list = &mut lists[literal.code()];
+    list.push(watch);
 }

@@ -1,12 +1,13 @@
 // Propagation by watches.
-ghost use Rattle.std.specs.Prelude.{◌≡◌, ℕ, true, false, ◌<◌, ◌≤◌, List, [], All, drop, length};
-ghost use Rattle.clause_store.specs.Watching.{IsWatching, Grows, kept_from};
-ghost use Rattle.clause_store.specs.Entries.{watches_of};
+ghost use Rattle.std.specs.Prelude.{◌≡◌, ℕ, true, false, ◌<◌, ◌≤◌, List, [], All, drop, length, vec_capacity};
+ghost use Rattle.clause_store.specs.Watching.{IsWatching, SameShape, Grows, kept_from};
+ghost use Rattle.clause_store.specs.Entries.{watches_of, bare, rooms};
 ghost use Rattle.clause_store.specs.Rested.{Rested};
 ghost use Rattle.clause_store.specs.Driving.{DriveGives};
 ghost use Rattle.clause_store.specs.From.{AreLast};
 ghost use Rattle.clause_store.specs.Late.{CatchGives, CatchLooks, IsReady, LateCovers, LateHolds, LateTurnGives};
 ghost use Rattle.clause_store.specs.Looks.{LooksAt, LooksBy};
+ghost use Rattle.clause_store.specs.Room.{HasRoomToWait, HasRoomToMove};
 ghost use Rattle.clause_store.specs.Runs.{RunGives, TurnGives};
 ghost use Rattle.clause_store.specs.Stored.{IsFalseOn};
 
@@ -23,7 +24,6 @@ use std::mem;
 pub enum Reached {
     Fixpoint,
     False(u32),
-    NoRoom,
 }
 
 // Goes through the watches of a literal that became false.
@@ -34,15 +34,18 @@ fn turn(
     spare: &mut WatchList,
     trail: &mut Trail,
 ) -> Swept
-    requires watching { IsWatching trail.old.atoms rows.old.entries lists.old }
+    requires watching { IsWatching trail.old.atoms rows.old.entries (bare lists.old) }
+    requires move_room { HasRoomToMove rows.old.entries (rooms lists.old) }
     requires is_false { IsFalseOn trail.old.steps f }
     requires known { f.atom < trail.old.atoms }
     ensures rises { rows.old.looks ≤ rows.new.looks }
     ensures looks { LooksAt f rows.old.entries rows.old.looks rows.new.looks }
-    ensures gives { TurnGives trail.old.atoms f (record { entries = rows.old.entries; lists = lists.old; steps = trail.old.steps }) (record { entries = rows.new.entries; lists = lists.new; steps = trail.new.steps }) result }
+    ensures gives { TurnGives trail.old.atoms f (record { entries = rows.old.entries; lists = bare lists.old; steps = trail.old.steps }) (record { entries = rows.new.entries; lists = bare lists.new; steps = trail.new.steps }) result }
     ensures grows { Grows (kept_from 0 rows.old.entries) trail.old.depth trail.old.steps trail.new.steps }
     ensures clauses { kept_from 0 rows.new.entries ≡ kept_from 0 rows.old.entries }
     ensures count { length rows.new.entries ≡ length rows.old.entries }
+    ensures shape { SameShape rows.old.entries rows.new.entries }
+    ensures rooms { rooms lists.new ≡ rooms lists.old }
     ensures same { (trail.new.atoms ≡ trail.old.atoms) × (trail.new.depth ≡ trail.old.depth) }
 {
     let code = f.code();
@@ -60,14 +63,17 @@ pub fn run(
     trail: &mut Trail,
     start: usize,
 ) -> (Reached, usize)
-    requires watching { IsWatching trail.old.atoms rows.old.entries lists.old }
+    requires watching { IsWatching trail.old.atoms rows.old.entries (bare lists.old) }
+    requires move_room { HasRoomToMove rows.old.entries (rooms lists.old) }
     requires start { start ≤ length trail.old.steps }
     ensures rises { rows.old.looks ≤ rows.new.looks }
     ensures looks { LooksBy (drop start trail.new.steps) (kept_from 0 rows.old.entries) rows.old.looks rows.new.looks }
-    ensures gives { RunGives trail.old.atoms (record { entries = rows.old.entries; lists = lists.old; steps = trail.old.steps }) (record { entries = rows.new.entries; lists = lists.new; steps = trail.new.steps }) start result.1 result.0 }
+    ensures gives { RunGives trail.old.atoms (record { entries = rows.old.entries; lists = bare lists.old; steps = trail.old.steps }) (record { entries = rows.new.entries; lists = bare lists.new; steps = trail.new.steps }) start result.1 result.0 }
     ensures grows { Grows (kept_from 0 rows.old.entries) trail.old.depth trail.old.steps trail.new.steps }
     ensures clauses { kept_from 0 rows.new.entries ≡ kept_from 0 rows.old.entries }
     ensures count { length rows.new.entries ≡ length rows.old.entries }
+    ensures shape { SameShape rows.old.entries rows.new.entries }
+    ensures rooms { rooms lists.new ≡ rooms lists.old }
     ensures same { (trail.new.atoms ≡ trail.old.atoms) × (trail.new.depth ≡ trail.old.depth) }
 {
     let mut head = start;
@@ -76,7 +82,6 @@ pub fn run(
         match turn(step.literal.negated(), rows, lists, spare, trail) {
             Swept::Whole => head += 1,
             Swept::False(row) => return (Reached::False(row), head),
-            Swept::NoRoom => return (Reached::NoRoom, head),
         }
     }
     (Reached::Fixpoint, head)
@@ -91,16 +96,21 @@ fn turn_late(
     trail: &mut Trail,
     waiting: &mut Vec<Wait>,
 ) -> Swept
-    requires watching { IsWatching trail.old.atoms rows.old.entries lists.old }
+    requires watching { IsWatching trail.old.atoms rows.old.entries (bare lists.old) }
+    requires move_room { HasRoomToMove rows.old.entries (rooms lists.old) }
     requires is_false { IsFalseOn trail.old.steps f }
     requires known { f.atom < trail.old.atoms }
     requires ready { IsReady rows.old.entries trail.old.steps trail.old.depth waiting.old.items }
+    requires room { HasRoomToWait rows.old.entries waiting.old.items (vec_capacity waiting.old) }
     ensures rises { rows.old.looks ≤ rows.new.looks }
     ensures looks { LooksAt f rows.old.entries rows.old.looks rows.new.looks }
-    ensures gives { (head : ℕ) → LateCovers head f rows.old.entries trail.old.steps (watches_of lists.old f) 0 waiting.old.items → LateTurnGives trail.old.atoms trail.old.depth head (record { entries = rows.old.entries; lists = lists.old; steps = trail.old.steps }) (record { entries = rows.new.entries; lists = lists.new; steps = trail.new.steps }) waiting.new.items result }
+    ensures gives { (head : ℕ) → LateCovers head f rows.old.entries trail.old.steps (watches_of (bare lists.old) f) 0 waiting.old.items → LateTurnGives trail.old.atoms trail.old.depth head (record { entries = rows.old.entries; lists = bare lists.old; steps = trail.old.steps }) (record { entries = rows.new.entries; lists = bare lists.new; steps = trail.new.steps }) waiting.new.items result }
     ensures grows { Grows (kept_from 0 rows.old.entries) trail.old.depth trail.old.steps trail.new.steps }
     ensures clauses { kept_from 0 rows.new.entries ≡ kept_from 0 rows.old.entries }
     ensures count { length rows.new.entries ≡ length rows.old.entries }
+    ensures shape { SameShape rows.old.entries rows.new.entries }
+    ensures rooms { rooms lists.new ≡ rooms lists.old }
+    ensures room { HasRoomToWait rows.new.entries waiting.new.items (vec_capacity waiting.new) }
     ensures same { (trail.new.atoms ≡ trail.old.atoms) × (trail.new.depth ≡ trail.old.depth) }
 {
     let code = f.code();
@@ -132,13 +142,18 @@ fn catch_up(
     waiting: &mut Vec<Wait>,
     start: usize,
 ) -> (Reached, usize)
-    requires holds { LateHolds trail.old.atoms trail.old.depth (record { entries = rows.old.entries; lists = lists.old; steps = trail.old.steps }) waiting.old.items start }
+    requires holds { LateHolds trail.old.atoms trail.old.depth (record { entries = rows.old.entries; lists = bare lists.old; steps = trail.old.steps }) waiting.old.items start }
+    requires move_room { HasRoomToMove rows.old.entries (rooms lists.old) }
+    requires room { HasRoomToWait rows.old.entries waiting.old.items (vec_capacity waiting.old) }
     ensures rises { rows.old.looks ≤ rows.new.looks }
     ensures looks { CatchLooks start result.1 trail.new.steps (kept_from 0 rows.old.entries) rows.old.looks rows.new.looks result.0 }
-    ensures gives { CatchGives trail.old.atoms trail.old.depth result.1 (record { entries = rows.new.entries; lists = lists.new; steps = trail.new.steps }) waiting.new.items result.0 }
+    ensures gives { CatchGives trail.old.atoms trail.old.depth result.1 (record { entries = rows.new.entries; lists = bare lists.new; steps = trail.new.steps }) waiting.new.items result.0 }
     ensures grows { Grows (kept_from 0 rows.old.entries) trail.old.depth trail.old.steps trail.new.steps }
     ensures clauses { kept_from 0 rows.new.entries ≡ kept_from 0 rows.old.entries }
     ensures count { length rows.new.entries ≡ length rows.old.entries }
+    ensures shape { SameShape rows.old.entries rows.new.entries }
+    ensures rooms { rooms lists.new ≡ rooms lists.old }
+    ensures room { HasRoomToWait rows.new.entries waiting.new.items (vec_capacity waiting.new) }
     ensures same { (trail.new.atoms ≡ trail.old.atoms) × (trail.new.depth ≡ trail.old.depth) }
 {
     let mut head = start;
@@ -147,7 +162,6 @@ fn catch_up(
         match turn_late(step.literal.negated(), rows, lists, spare, trail, waiting) {
             Swept::Whole => head += 1,
             Swept::False(row) => return (Reached::False(row), head),
-            Swept::NoRoom => return (Reached::NoRoom, head),
         }
     }
     (Reached::Fixpoint, head)
@@ -162,13 +176,18 @@ fn go_through(
     waiting: &mut Vec<Wait>,
     start: usize,
 ) -> (Reached, usize)
-    requires holds { LateHolds trail.old.atoms trail.old.depth (record { entries = rows.old.entries; lists = lists.old; steps = trail.old.steps }) waiting.old.items start }
+    requires holds { LateHolds trail.old.atoms trail.old.depth (record { entries = rows.old.entries; lists = bare lists.old; steps = trail.old.steps }) waiting.old.items start }
+    requires move_room { HasRoomToMove rows.old.entries (rooms lists.old) }
+    requires room { HasRoomToWait rows.old.entries waiting.old.items (vec_capacity waiting.old) }
     ensures rises { rows.old.looks ≤ rows.new.looks }
     ensures looks { LooksBy (drop start trail.new.steps) (kept_from 0 rows.old.entries) rows.old.looks rows.new.looks }
-    ensures gives { DriveGives trail.old.atoms trail.old.depth (record { entries = rows.new.entries; lists = lists.new; steps = trail.new.steps }) result.1 waiting.new.items result.0 }
+    ensures gives { DriveGives trail.old.atoms trail.old.depth (record { entries = rows.new.entries; lists = bare lists.new; steps = trail.new.steps }) result.1 waiting.new.items result.0 }
     ensures grows { Grows (kept_from 0 rows.old.entries) trail.old.depth trail.old.steps trail.new.steps }
     ensures clauses { kept_from 0 rows.new.entries ≡ kept_from 0 rows.old.entries }
     ensures count { length rows.new.entries ≡ length rows.old.entries }
+    ensures shape { SameShape rows.old.entries rows.new.entries }
+    ensures rooms { rooms lists.new ≡ rooms lists.old }
+    ensures room { HasRoomToWait rows.new.entries waiting.new.items (vec_capacity waiting.new) }
     ensures same { (trail.new.atoms ≡ trail.old.atoms) × (trail.new.depth ≡ trail.old.depth) }
 {
     let (caught, head) = catch_up(rows, lists, spare, trail, waiting, start);
@@ -179,7 +198,6 @@ fn go_through(
             reached
         }
         Reached::False(row) => (Reached::False(row), head),
-        Reached::NoRoom => (Reached::NoRoom, head),
     }
 }
 
@@ -192,14 +210,19 @@ pub fn drive(
     waiting: &mut Vec<Wait>,
     start: usize,
 ) -> (Reached, usize)
-    requires watching { IsWatching trail.old.atoms rows.old.entries lists.old }
+    requires watching { IsWatching trail.old.atoms rows.old.entries (bare lists.old) }
+    requires move_room { HasRoomToMove rows.old.entries (rooms lists.old) }
     requires rested { Rested rows.old.entries trail.old.steps trail.old.depth start start waiting.old.items }
+    requires room { HasRoomToWait rows.old.entries waiting.old.items (vec_capacity waiting.old) }
     ensures rises { rows.old.looks ≤ rows.new.looks }
     ensures looks { LooksBy (drop start trail.new.steps) (kept_from 0 rows.old.entries) rows.old.looks rows.new.looks }
-    ensures gives { DriveGives trail.old.atoms trail.old.depth (record { entries = rows.new.entries; lists = lists.new; steps = trail.new.steps }) result.1 waiting.new.items result.0 }
+    ensures gives { DriveGives trail.old.atoms trail.old.depth (record { entries = rows.new.entries; lists = bare lists.new; steps = trail.new.steps }) result.1 waiting.new.items result.0 }
     ensures grows { Grows (kept_from 0 rows.old.entries) trail.old.depth trail.old.steps trail.new.steps }
     ensures clauses { kept_from 0 rows.new.entries ≡ kept_from 0 rows.old.entries }
     ensures count { length rows.new.entries ≡ length rows.old.entries }
+    ensures shape { SameShape rows.old.entries rows.new.entries }
+    ensures rooms { rooms lists.new ≡ rooms lists.old }
+    ensures room { HasRoomToWait rows.new.entries waiting.new.items (vec_capacity waiting.new) }
     ensures same { (trail.new.atoms ≡ trail.old.atoms) × (trail.new.depth ≡ trail.old.depth) }
 {
     match force_all(waiting, trail) {

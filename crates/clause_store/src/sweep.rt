@@ -3,14 +3,15 @@ ghost use Rattle.std.specs.Prelude.{◌≡◌, ℕ, true, false, ◌+◌, ◌*�
 ghost use Rattle.literals.specs.Signed.{Signed, packed};
 ghost use Rattle.clause_store.specs.Trail.{Assigns};
 ghost use Rattle.clause_store.specs.Stored.{IsFalseOn};
-ghost use Rattle.clause_store.specs.Entries.{entry_at, IsKnown};
+ghost use Rattle.clause_store.specs.Entries.{entry_at, watches_of, bare, rooms, IsKnown};
+ghost use Rattle.clause_store.specs.Room.{HasPlace, LeavesRoom, HasRoomToMove};
 ghost use Rattle.clause_store.specs.Watching.{IsWatching, IsPair, Grows, kept_from};
 ghost use Rattle.clause_store.specs.Rested.{OthersFalse};
 ghost use Rattle.clause_store.specs.Sweeps.{SweptGives};
 ghost use Rattle.clause_store.specs.Looks.{LooksAt};
-ghost use Rattle.clause_store.specs.Visits.{VisitGives, StepGives, Transfers, IsFoundAt, NoneBetween, Parts};
+ghost use Rattle.clause_store.specs.Visits.{VisitGives, StepGives, IsFoundAt, NoneBetween, Parts};
 
-use crate::lists::{Watch, WatchList};
+use crate::lists::{Watch, WatchList, enlist};
 use crate::rows::Rows;
 use crate::trail::{Status, Trail};
 use literals::Literal;
@@ -20,7 +21,6 @@ pub enum Visit {
     Keep(Literal),
     Gone,
     False,
-    NoRoom,
 }
 
 pub fn is_same(a: Literal, b: Literal) -> bool
@@ -145,14 +145,16 @@ fn look_at(
 ) -> Visit
     requires place { watch.row < length rows.old.entries }
     requires blocker { watch.blocker.atom < trail.old.atoms }
-    requires known { IsKnown trail.old.atoms (entry_at rows.old.entries watch.row) }
+    requires known { (entry_at rows.old.entries watch.row).live ≡ true → IsKnown trail.old.atoms (entry_at rows.old.entries watch.row) }
     requires pair { (entry_at rows.old.entries watch.row).live ≡ true → IsPair (entry_at rows.old.entries watch.row) }
     requires is_false { IsFalseOn trail.old.steps f }
     requires lists { 2 * trail.old.atoms ≤ length lists.old }
+    requires room { (entry_at rows.old.entries watch.row).live ≡ true → LeavesRoom (bare lists.old) (rooms lists.old) (entry_at rows.old.entries watch.row) }
     ensures rises { rows.old.looks ≤ rows.new.looks }
     ensures once { rows.new.looks ≤ rows.old.looks + 1 }
     ensures dead { (entry_at rows.old.entries watch.row).live ≡ false → rows.new.looks ≡ rows.old.looks }
-    ensures gives { VisitGives f watch trail.old.depth (record { entries = rows.old.entries; lists = lists.old; steps = trail.old.steps }) (record { entries = rows.new.entries; lists = lists.new; steps = trail.new.steps }) result }
+    ensures rooms { rooms lists.new ≡ rooms lists.old }
+    ensures gives { VisitGives f watch trail.old.depth (record { entries = rows.old.entries; lists = bare lists.old; steps = trail.old.steps }) (record { entries = rows.new.entries; lists = bare lists.new; steps = trail.new.steps }) result }
     ensures same { (trail.new.atoms ≡ trail.old.atoms) × (trail.new.depth ≡ trail.old.depth) }
 {
     if is_true(trail, watch.blocker) {
@@ -185,56 +187,60 @@ fn step(
     requires known { IsKnown trail.old.atoms (entry_at rows.old.entries row) }
     requires two { length (entry_at rows.old.entries row).literals ≤ 2 → OthersFalse trail.old.steps (entry_at rows.old.entries row).literals other }
     requires lists { 2 * trail.old.atoms ≤ length lists.old }
+    requires room { (l : Signed) → Contains (entry_at rows.old.entries row).literals l → (l ≡ other → ⊥) → (IsFalseOn trail.old.steps l → ⊥) → HasPlace (bare lists.old) (rooms lists.old) l }
     ensures rises { rows.old.looks ≤ rows.new.looks }
     ensures once { rows.new.looks ≤ rows.old.looks + 1 }
-    ensures gives { StepGives other row trail.old.depth (record { entries = rows.old.entries; lists = lists.old; steps = trail.old.steps }) (record { entries = rows.new.entries; lists = lists.new; steps = trail.new.steps }) result }
+    ensures rooms { rooms lists.new ≡ rooms lists.old }
+    ensures gives { StepGives other row trail.old.depth (record { entries = rows.old.entries; lists = bare lists.old; steps = trail.old.steps }) (record { entries = rows.new.entries; lists = bare lists.new; steps = trail.new.steps }) result }
     ensures same { (trail.new.atoms ≡ trail.old.atoms) × (trail.new.depth ≡ trail.old.depth) }
 {
     match trail.status(other) {
         Status::True => Visit::Keep(other),
         Status::Open => match look_for(row, other, rows, trail) {
-            Some(found) => transfer(found, other, row, rows, lists),
+            Some(found) => {
+                transfer(found, other, row, rows, lists);
+                Visit::Gone
+            }
             None => {
                 trail.assign(other, row as u64);
                 Visit::Keep(other)
             }
         },
         Status::False => match look_for(row, other, rows, trail) {
-            Some(found) => transfer(found, other, row, rows, lists),
+            Some(found) => {
+                transfer(found, other, row, rows, lists);
+                Visit::Gone
+            }
             None => Visit::False,
         },
     }
 }
 
 // Watches the clause by two other literals.
-pub fn transfer(
-    found: Literal,
-    other: Literal,
-    row: u32,
-    rows: &mut Rows,
-    lists: &mut [WatchList],
-) -> Visit
+pub fn transfer(found: Literal, other: Literal, row: u32, rows: &mut Rows, lists: &mut [WatchList])
     requires place { row < length rows.old.entries }
     requires list { packed found < length lists.old }
+    requires room { HasPlace (bare lists.old) (rooms lists.old) found }
     ensures looks { rows.new.looks ≡ rows.old.looks }
-    ensures transfers { Transfers found other row rows.old.entries rows.new.entries lists.old lists.new result }
+    ensures entries { rows.new.entries ≡ slice_set rows.old.entries row (record (entry_at rows.old.entries row) { first = other; second = found }) }
+    ensures lists { let more : Watch = record { blocker = other; row = row } in bare lists.new ≡ slice_set (bare lists.old) (packed found) (watches_of (bare lists.old) found ++ more ∷ []) }
+    ensures rooms { rooms lists.new ≡ rooms lists.old }
 {
-    let list = &mut lists[found.code()];
-    if !list.push_in_room(Watch {
-        blocker: other,
-        row,
-    }) {
-        return Visit::NoRoom;
-    }
+    enlist(
+        lists,
+        found,
+        Watch {
+            blocker: other,
+            row,
+        },
+    );
     rows.watch(row, other, found);
-    Visit::Gone
 }
 
 #[derive(Clone, Copy)]
 pub enum Swept {
     Whole,
     False(u32),
-    NoRoom,
 }
 
 // Goes through the watches of a literal that became false.
@@ -245,12 +251,14 @@ pub fn sweep(
     lists: &mut [WatchList],
     trail: &mut Trail,
 ) -> Swept
-    requires watching { IsWatching trail.old.atoms rows.old.entries (slice_set lists.old (packed f) list.old) }
+    requires watching { IsWatching trail.old.atoms rows.old.entries (slice_set (bare lists.old) (packed f) list.old.watches) }
+    requires room { HasRoomToMove rows.old.entries (slice_set (rooms lists.old) (packed f) list.old.room) }
     requires is_false { IsFalseOn trail.old.steps f }
     requires place { packed f < length lists.old }
     ensures rises { rows.old.looks ≤ rows.new.looks }
     ensures looks { LooksAt f rows.old.entries rows.old.looks rows.new.looks }
-    ensures gives { SweptGives trail.old.atoms trail.old.depth f (record { entries = rows.old.entries; lists = lists.old; steps = trail.old.steps; list = list.old }) (record { entries = rows.new.entries; lists = lists.new; steps = trail.new.steps; list = list.new }) result }
+    ensures rooms { (rooms lists.new ≡ rooms lists.old) × (list.new.room ≡ list.old.room) }
+    ensures gives { SweptGives trail.old.atoms trail.old.depth f (record { entries = rows.old.entries; lists = bare lists.old; steps = trail.old.steps; list = list.old.watches }) (record { entries = rows.new.entries; lists = bare lists.new; steps = trail.new.steps; list = list.new.watches }) result }
     ensures grows { Grows (kept_from 0 rows.old.entries) trail.old.depth trail.old.steps trail.new.steps }
     ensures clauses { kept_from 0 rows.new.entries ≡ kept_from 0 rows.old.entries }
     ensures count { length rows.new.entries ≡ length rows.old.entries }
@@ -269,7 +277,6 @@ pub fn sweep(
                 list.take_out(k);
             }
             Visit::False => return Swept::False(row),
-            Visit::NoRoom => return Swept::NoRoom,
         }
     }
     Swept::Whole

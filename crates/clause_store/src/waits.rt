@@ -1,5 +1,7 @@
 // Clauses that wait for their one literal to be forced.
-ghost use Rattle.std.specs.Prelude.{◌≡◌, ◌⊎◌, ℕ, ◌<◌, true, List, [], ◌∷◌, ◌++◌, All, IfSome, IfNone, Contains};
+ghost use Rattle.std.specs.Prelude.{◌≡◌, ◌⊎◌, ℕ, ◌<◌, ◌≤◌, true, List, [], ◌∷◌, ◌++◌, All, IfSome, IfNone, Contains, vec_len, vec_capacity};
+ghost use Rattle.clause_store.specs.Looks.{AreApart};
+ghost use Rattle.clause_store.specs.Room.{rows_of};
 ghost use Rattle.literals.specs.Signed.{Signed};
 ghost use Rattle.clause_store.specs.Trail.{Assigns};
 ghost use Rattle.clause_store.specs.Entries.{Entry};
@@ -55,6 +57,8 @@ pub fn force_all(waiting: &[Wait], trail: &mut Trail) -> Option<Wait>
 pub fn drop_from(waiting: &mut Vec<Wait>, depth: u32)
     ensures keeps { (w : Wait) → Contains waiting.old.items w → w.depth < depth → Contains waiting.new.items w }
     ensures only { (w : Wait) → Contains waiting.new.items w → Contains waiting.old.items w × (w.depth < depth) }
+    ensures apart { AreApart (rows_of waiting.old.items) → AreApart (rows_of waiting.new.items) }
+    ensures room { vec_capacity waiting.new ≡ vec_capacity waiting.old }
 {
     let mut k = 0;
     'waits: while k < waiting.len() {
@@ -70,6 +74,8 @@ pub fn drop_from(waiting: &mut Vec<Wait>, depth: u32)
 pub fn drop_of(waiting: &mut Vec<Wait>, row: u32)
     ensures keeps { (w : Wait) → Contains waiting.old.items w → (w.row ≡ row → ⊥) → Contains waiting.new.items w }
     ensures only { (w : Wait) → Contains waiting.new.items w → Contains waiting.old.items w × (w.row ≡ row → ⊥) }
+    ensures apart { AreApart (rows_of waiting.old.items) → AreApart (rows_of waiting.new.items) }
+    ensures room { vec_capacity waiting.new ≡ vec_capacity waiting.old }
 {
     let mut k = 0;
     'waits: while k < waiting.len() {
@@ -81,14 +87,36 @@ pub fn drop_of(waiting: &mut Vec<Wait>, row: u32)
     }
 }
 
-// Adds one where that takes no memory.
-pub fn wait_in_room(waiting: &mut Vec<Wait>, wait: Wait) -> bool
-    ensures added { result ≡ true → waiting.new.items ≡ waiting.old.items ++ wait ∷ [] }
+// Adds one.
+pub fn push_wait(waiting: &mut Vec<Wait>, wait: Wait)
+    requires { vec_len waiting.old < vec_capacity waiting.old }
+    ensures items { waiting.new.items ≡ waiting.old.items ++ wait ∷ [] }
+    ensures room { vec_capacity waiting.old ≤ vec_capacity waiting.new }
 {
-    if waiting.len() >= waiting.capacity() {
-        return false;
-    }
     let pushed = waiting.push(wait);
     prove!(pushed.is_ok());
-    true
+}
+
+// A clause waits so, and no longer otherwise.
+pub fn wait_anew(waiting: &mut Vec<Wait>, wait: Wait)
+    requires apart { AreApart (rows_of waiting.old.items) }
+    requires room { (n : ℕ) × (wait.row < n) × All (λ (w : Wait). w.row < n) waiting.old.items × (n ≤ vec_capacity waiting.old) }
+    ensures waits { Contains waiting.new.items wait }
+    ensures keeps { (w : Wait) → Contains waiting.old.items w → (w.row ≡ wait.row → ⊥) → Contains waiting.new.items w }
+    ensures only { (w : Wait) → Contains waiting.new.items w → Contains waiting.old.items w ⊎ (w ≡ wait) }
+    ensures apart { AreApart (rows_of waiting.new.items) }
+    ensures room { vec_capacity waiting.old ≤ vec_capacity waiting.new }
+{
+    drop_of(waiting, wait.row);
+    push_wait(waiting, wait);
+}
+
+// Makes room for so many.
+pub fn make_room_to_wait(waiting: &mut Vec<Wait>, count: usize) -> bool
+    ensures items { waiting.new.items ≡ waiting.old.items }
+    ensures same { vec_capacity waiting.old ≤ vec_capacity waiting.new }
+    ensures room { result ≡ true → count ≤ vec_capacity waiting.new }
+{
+    let rest = count.saturating_sub(waiting.len());
+    waiting.reserve(rest).is_ok()
 }

@@ -1,20 +1,25 @@
-use Rattle.std.proofs.Common.{◌≡◌, ◌-◌, ◌≤◌, length}
+use Rattle.std.proofs.Common.{◌≡◌, ◌-◌, ◌≤◌, length, vec_capacity}
+use Rattle.clause_store.specs.Entries.{bare, rooms}
 use Rattle.clause_store.specs.Sweeps.{State}
 use Rattle.clause_store.specs.Late.{LateSweeps}
+use Rattle.clause_store.specs.Room.{HasRoomToWait}
 use Rattle.clause_store.proofs.Counting.{Seen}
 use Rattle.clause_store.proofs.late.sweep_late.Given as goal
 
 abbrev pub invariant-watches : goal.invariant-watches
 invariant-watches l =
-    let first : State = record { entries = l.initial.rows.entries; lists = l.initial.lists; steps = l.initial.trail.steps; list = l.initial.list } in
-    let now : State = record { entries = l.rows.entries; lists = l.lists; steps = l.trail.steps; list = l.list } in
+    let first : State = record { entries = l.initial.rows.entries; lists = bare l.initial.lists; steps = l.initial.trail.steps; list = l.initial.list.watches } in
+    let now : State = record { entries = l.rows.entries; lists = bare l.lists; steps = l.trail.steps; list = l.list.watches } in
     record {
       sweeps : LateSweeps l.initial.trail.atoms l.initial.trail.depth l.f first now l.initial.waiting.items l.waiting.items l.k;
       atoms : l.trail.atoms ≡ l.initial.trail.atoms;
       depth : l.trail.depth ≡ l.initial.trail.depth;
+      rooms : rooms l.lists ≡ rooms l.initial.lists;
+      list_room : l.list.room ≡ l.initial.list.room;
       looks : l.initial.rows.looks ≤ l.rows.looks;
-      seen : Seen l.f l.initial.rows.entries l.list l.k l.initial.rows.looks l.rows.looks;
+      room : HasRoomToWait l.rows.entries l.waiting.items (vec_capacity l.waiting);
+      seen : Seen l.f l.initial.rows.entries l.list.watches l.k l.initial.rows.looks l.rows.looks;
     }
 
 abbrev pub decreases-watches : goal.decreases-watches
-decreases-watches l = length l.list - l.k
+decreases-watches l = length l.list.watches - l.k

@@ -1,13 +1,15 @@
-use Rattle.std.proofs.Common.{◌≡◌, ◌-◌, ◌≤◌, length}
+use Rattle.std.proofs.Common.{◌≡◌, ◌-◌, ◌≤◌, length, vec_capacity}
 use Rattle.clause_store.specs.Watching.{Grows, SameShape, kept_from}
 use Rattle.clause_store.specs.Visits.{Parts}
+use Rattle.clause_store.specs.Entries.{bare, rooms}
 use Rattle.clause_store.specs.Late.{LateHolds}
+use Rattle.clause_store.specs.Room.{HasRoomToWait}
 use Rattle.clause_store.proofs.Pairs.{Looked}
 use Rattle.clause_store.proofs.run.catch_up.Given as goal
 
 abbrev pub invariant-steps : goal.invariant-steps
 invariant-steps l =
-    let now : Parts = record { entries = l.rows.entries; lists = l.lists; steps = l.trail.steps } in
+    let now : Parts = record { entries = l.rows.entries; lists = bare l.lists; steps = l.trail.steps } in
     record {
       holds : LateHolds l.initial.trail.atoms l.initial.trail.depth now l.waiting.items l.head;
       shape : SameShape l.initial.rows.entries l.rows.entries;
@@ -16,7 +18,9 @@ invariant-steps l =
       count : length l.rows.entries ≡ length l.initial.rows.entries;
       atoms : l.trail.atoms ≡ l.initial.trail.atoms;
       depth : l.trail.depth ≡ l.initial.trail.depth;
+      rooms : rooms l.lists ≡ rooms l.initial.lists;
       looks : l.initial.rows.looks ≤ l.rows.looks;
+      room : HasRoomToWait l.rows.entries l.waiting.items (vec_capacity l.waiting);
       from : l.start ≤ l.head;
       looked : Looked l.initial.rows.entries l.trail.steps l.start l.head l.initial.rows.looks l.rows.looks;
     }

@@ -1,4 +1,8 @@
-use Rattle.std.proofs.Common.{◌≡◌, ◌≤◌, length, take, drop, ap, subst, sym, ◌∙◌}
+use Rattle.std.proofs.Common.{◌≡◌, ◌≤◌, length, take, drop, ap, subst, sym, ◌∙◌, arith}
+use Rattle.clause_store.specs.Entries.{bare, rooms}
+use Rattle.clause_store.specs.Room.{HasRoomToMove}
+use Rattle.clause_store.proofs.Rooms.{moves_shaped}
+use Rattle.clause_store.proofs.Sweeping.{SameShape-trans}
 use Rattle.std.proofs.lemmas.List.{take-append-le}
 use Rattle.clause_store.specs.Watching.{Grows, kept_from}
 use Rattle.clause_store.specs.Visits.{Parts}
@@ -15,8 +19,8 @@ pub returns-in-Fixpoint-clause-gives : goal.returns-in-Fixpoint-clause-gives
 returns-in-Fixpoint-clause-gives c =
     let m = c.catch_up-caught.new in
     let n = c.run-reached.new in
-    let p : Parts = record { entries = m.rows.entries; lists = m.lists; steps = m.trail.steps } in
-    let p' : Parts = record { entries = n.rows.entries; lists = n.lists; steps = n.trail.steps } in
+    let p : Parts = record { entries = m.rows.entries; lists = bare m.lists; steps = m.trail.steps } in
+    let p' : Parts = record { entries = n.rows.entries; lists = bare n.lists; steps = n.trail.steps } in
     let grows : Grows (kept_from 0 m.rows.entries) c.args.trail.now.depth m.trail.steps n.trail.steps = subst (λ d. Grows (kept_from 0 m.rows.entries) d m.trail.steps n.trail.steps) c.catch_up-caught.ensures.same.1 c.run-reached.ensures.grows in
     let gives : RunGives c.args.trail.now.atoms p p' c.catch_up-caught.result.1 c.run-reached.result.1 c.run-reached.result.0 = subst (λ a. RunGives a p p' c.catch_up-caught.result.1 c.run-reached.result.1 c.run-reached.result.0) c.catch_up-caught.ensures.same.0 c.run-reached.ensures.gives in
     let caught : CatchGives c.args.trail.now.atoms c.args.trail.now.depth c.catch_up-caught.result.1 p m.waiting.items Fixpoint = subst (CatchGives c.args.trail.now.atoms c.args.trail.now.depth c.catch_up-caught.result.1 p m.waiting.items) c.in-Fixpoint.is c.catch_up-caught.ensures.gives in
@@ -33,7 +37,7 @@ returns-in-Fixpoint-clause-looks c =
     let m = c.catch_up-caught.new in
     let n = c.run-reached.new in
     let head = c.catch_up-caught.result.1 in
-    let p : Parts = record { entries = m.rows.entries; lists = m.lists; steps = m.trail.steps } in
+    let p : Parts = record { entries = m.rows.entries; lists = bare m.lists; steps = m.trail.steps } in
     let caught : CatchGives c.args.trail.now.atoms c.args.trail.now.depth head p m.waiting.items Fixpoint = subst (CatchGives c.args.trail.now.atoms c.args.trail.now.depth head p m.waiting.items) c.in-Fixpoint.is c.catch_up-caught.ensures.gives in
     let looks : CatchLooks c.args.start head m.trail.steps (kept_from 0 c.args.rows.now.entries) c.args.rows.now.looks m.rows.looks Fixpoint = subst (CatchLooks c.args.start head m.trail.steps (kept_from 0 c.args.rows.now.entries) c.args.rows.now.looks m.rows.looks) c.in-Fixpoint.is c.catch_up-caught.ensures.looks in
     let within : head ≤ length m.trail.steps = caught.0.within in
@@ -46,7 +50,20 @@ returns-in-Fixpoint-clause-looks c =
 pub returns-in-False-clause-gives : goal.returns-in-False-clause-gives
 returns-in-False-clause-gives c =
     let m = c.catch_up-caught.new in
-    let p : Parts = record { entries = m.rows.entries; lists = m.lists; steps = m.trail.steps } in
+    let p : Parts = record { entries = m.rows.entries; lists = bare m.lists; steps = m.trail.steps } in
     let caught : CatchGives c.args.trail.now.atoms c.args.trail.now.depth c.catch_up-caught.result.1 p m.waiting.items (FalseReached c.in-False.row) =
     subst (CatchGives c.args.trail.now.atoms c.args.trail.now.depth c.catch_up-caught.result.1 p m.waiting.items) c.in-False.is c.catch_up-caught.ensures.gives in
     (drives-holds c.args.trail.now.atoms c.args.trail.now.depth p m.waiting.items c.catch_up-caught.result.1 caught.0, caught.1)
+
+pub run-reached-requires-clause-move_room : goal.run-reached-requires-clause-move_room
+run-reached-requires-clause-move_room c =
+    subst (HasRoomToMove c.catch_up-caught.new.rows.entries) (sym c.catch_up-caught.ensures.rooms) (moves_shaped c.args.rows.now.entries c.catch_up-caught.new.rows.entries (rooms c.args.lists.now) c.catch_up-caught.ensures.shape c.requires.move_room)
+
+pub returns-in-Fixpoint-clause-shape : goal.returns-in-Fixpoint-clause-shape
+returns-in-Fixpoint-clause-shape c = SameShape-trans c.args.rows.now.entries c.catch_up-caught.new.rows.entries c.run-reached.new.rows.entries c.catch_up-caught.ensures.shape c.run-reached.ensures.shape
+
+pub returns-in-Fixpoint-clause-rooms : goal.returns-in-Fixpoint-clause-rooms
+returns-in-Fixpoint-clause-rooms c = c.run-reached.ensures.rooms ∙ c.catch_up-caught.ensures.rooms
+
+pub returns-in-Fixpoint-clause-room : goal.returns-in-Fixpoint-clause-room
+returns-in-Fixpoint-clause-room c = record { apart = c.catch_up-caught.ensures.room.apart; room = omega (arith, c.catch_up-caught.ensures.room.room, c.run-reached.ensures.count) }

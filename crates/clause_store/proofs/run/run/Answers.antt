@@ -4,7 +4,10 @@ use Rattle.clause_store.specs.declared.trail.Step.{Step}
 use Rattle.clause_store.specs.Watching.{Grows, kept_from}
 use Rattle.clause_store.specs.Visits.{Parts}
 use Rattle.clause_store.specs.Runs.{Turns, TurnsTo}
-use Rattle.clause_store.specs.Entries.{watches_of}
+use Rattle.clause_store.specs.Entries.{watches_of, bare, rooms}
+use Rattle.clause_store.specs.Room.{HasRoomToMove}
+use Rattle.clause_store.proofs.Rooms.{moves_shaped}
+use Rattle.clause_store.proofs.Sweeping.{SameShape-trans}
 use Rattle.clause_store.specs.Trail.{Assigns}
 use Rattle.clause_store.specs.Looks.{LooksAt}
 use Rattle.clause_store.proofs.Pairs.{Looked, Looked-turn, Looked-by}
@@ -14,9 +17,9 @@ use Rattle.clause_store.proofs.run.run.Goals as goal
 
 pub steps-preserved : goal.steps-preserved
 steps-preserved c =
-    let first : Parts = record { entries = c.args.rows.now.entries; lists = c.args.lists.now; steps = c.args.trail.now.steps } in
-    let p : Parts = record { entries = c.steps.rows.entries; lists = c.steps.lists; steps = c.steps.trail.steps } in
-    let p' : Parts = record { entries = c.turn.new.rows.entries; lists = c.turn.new.lists; steps = c.turn.new.trail.steps } in
+    let first : Parts = record { entries = c.args.rows.now.entries; lists = bare c.args.lists.now; steps = c.args.trail.now.steps } in
+    let p : Parts = record { entries = c.steps.rows.entries; lists = bare c.steps.lists; steps = c.steps.trail.steps } in
+    let p' : Parts = record { entries = c.turn.new.rows.entries; lists = bare c.turn.new.lists; steps = c.turn.new.trail.steps } in
     let s : Step = c.index-steps-head.result in
     let is : s ≡ get_or c.steps.trail.steps c.steps.head s = rw c.steps-in-steps-2.ensures.steps at c.index-steps-head.is in
     let lt : c.steps.head < length c.steps.trail.steps = rw c.steps-in-steps.ensures.steps at c.steps-test.true in
@@ -40,6 +43,7 @@ steps-preserved c =
       atoms = c.in-Whole.ensures.same.0 ∙ c.steps.invariant.atoms;
       depth = c.in-Whole.ensures.same.1 ∙ c.steps.invariant.depth;
       within = omega arith;
+      rooms = c.in-Whole.ensures.rooms ∙ c.steps.invariant.rooms;
       looks = omega (arith, c.steps.invariant.looks, c.in-Whole.ensures.rises);
       from = (let le : c.args.start ≤ c.steps.head = c.steps.invariant.from in omega arith);
       looked = looked;
@@ -47,9 +51,9 @@ steps-preserved c =
 
 pub returns-in-False-clause-gives : goal.returns-in-False-clause-gives
 returns-in-False-clause-gives c =
-    let first : Parts = record { entries = c.args.rows.now.entries; lists = c.args.lists.now; steps = c.args.trail.now.steps } in
-    let p : Parts = record { entries = c.steps.rows.entries; lists = c.steps.lists; steps = c.steps.trail.steps } in
-    let p' : Parts = record { entries = c.turn.new.rows.entries; lists = c.turn.new.lists; steps = c.turn.new.trail.steps } in
+    let first : Parts = record { entries = c.args.rows.now.entries; lists = bare c.args.lists.now; steps = c.args.trail.now.steps } in
+    let p : Parts = record { entries = c.steps.rows.entries; lists = bare c.steps.lists; steps = c.steps.trail.steps } in
+    let p' : Parts = record { entries = c.turn.new.rows.entries; lists = bare c.turn.new.lists; steps = c.turn.new.trail.steps } in
     let s : Step = c.index-steps-head.result in
     let is : s ≡ get_or c.steps.trail.steps c.steps.head s = rw c.steps-in-steps-2.ensures.steps at c.index-steps-head.is in
     let lt : c.steps.head < length c.steps.trail.steps = rw c.steps-in-steps.ensures.steps at c.steps-test.true in
@@ -64,10 +68,6 @@ returns-in-False-clause-gives c =
 pub returns-in-False-clause-grows : goal.returns-in-False-clause-grows
 returns-in-False-clause-grows c =
     Grows-trans _ _ _ _ _ _ c.steps.invariant.clauses c.steps.invariant.grows (subst (λ d. Grows (kept_from 0 c.steps.rows.entries) d c.steps.trail.steps c.turn.new.trail.steps) c.steps.invariant.depth c.in-False.ensures.grows)
-
-pub returns-in-NoRoom-clause-grows : goal.returns-in-NoRoom-clause-grows
-returns-in-NoRoom-clause-grows c =
-    Grows-trans _ _ _ _ _ _ c.steps.invariant.clauses c.steps.invariant.grows (subst (λ d. Grows (kept_from 0 c.steps.rows.entries) d c.steps.trail.steps c.turn.new.trail.steps) c.steps.invariant.depth c.in-NoRoom.ensures.grows)
 
 pub returns-in-False-clause-looks : goal.returns-in-False-clause-looks
 returns-in-False-clause-looks c =
@@ -84,20 +84,21 @@ returns-in-False-clause-looks c =
     c.steps.invariant.from lt is fresh c.steps.invariant.runs.shape grows at c.steps.invariant.looked in
     Looked-by c.args.rows.now.entries c.turn.new.trail.steps c.args.start (c.steps.head + 1) c.args.rows.now.looks c.turn.new.rows.looks looked
 
-pub returns-in-NoRoom-clause-looks : goal.returns-in-NoRoom-clause-looks
-returns-in-NoRoom-clause-looks c =
-    let s : Step = c.index-steps-head.result in
-    let is : s ≡ get_or c.steps.trail.steps c.steps.head s = rw c.steps-in-steps-2.ensures.steps at c.index-steps-head.is in
-    let lt : c.steps.head < length c.steps.trail.steps = rw c.steps-in-steps.ensures.steps at c.steps-test.true in
-    let grows : Grows (kept_from 0 c.steps.rows.entries) c.args.trail.now.depth c.steps.trail.steps c.turn.new.trail.steps =
-    subst (λ d. Grows (kept_from 0 c.steps.rows.entries) d c.steps.trail.steps c.turn.new.trail.steps) c.steps.invariant.depth c.in-NoRoom.ensures.grows in
-    let fresh : Assigns (take c.steps.head c.steps.trail.steps) s.literal → ⊥ = subst (λ (x : Step). Assigns (take c.steps.head c.steps.trail.steps) x.literal → ⊥) (sym is) (c.steps-in-steps.ensures.fresh c.steps.head s lt).0 in
-    let at : LooksAt (opposite s.literal) c.steps.rows.entries c.steps.rows.looks c.turn.new.rows.looks =
-    subst (λ f. LooksAt f c.steps.rows.entries c.steps.rows.looks c.turn.new.rows.looks) c.negated.ensures c.in-NoRoom.ensures.looks in
-    let looked : Looked c.args.rows.now.entries c.turn.new.trail.steps c.args.start (c.steps.head + 1) c.args.rows.now.looks c.turn.new.rows.looks =
-    Looked-turn (kept_from 0 c.steps.rows.entries) c.args.trail.now.depth c.args.rows.now.entries c.steps.rows.entries c.steps.trail.steps c.turn.new.trail.steps c.args.start c.steps.head c.args.rows.now.looks c.steps.rows.looks c.turn.new.rows.looks s
-    c.steps.invariant.from lt is fresh c.steps.invariant.runs.shape grows at c.steps.invariant.looked in
-    Looked-by c.args.rows.now.entries c.turn.new.trail.steps c.args.start (c.steps.head + 1) c.args.rows.now.looks c.turn.new.rows.looks looked
-
 pub returns-clause-looks : goal.returns-clause-looks
 returns-clause-looks c = Looked-by c.args.rows.now.entries c.steps.trail.steps c.args.start c.steps.head c.args.rows.now.looks c.steps.rows.looks c.steps.invariant.looked
+
+pub turn-requires-clause-move_room : goal.turn-requires-clause-move_room
+turn-requires-clause-move_room c =
+    subst (HasRoomToMove c.steps.rows.entries) (sym c.steps.invariant.rooms) (moves_shaped c.args.rows.now.entries c.steps.rows.entries (rooms c.args.lists.now) c.steps.invariant.runs.shape c.requires.move_room)
+
+pub returns-in-False-clause-shape : goal.returns-in-False-clause-shape
+returns-in-False-clause-shape c = SameShape-trans c.args.rows.now.entries c.steps.rows.entries c.turn.new.rows.entries c.steps.invariant.runs.shape c.in-False.ensures.shape
+
+pub returns-in-False-clause-rooms : goal.returns-in-False-clause-rooms
+returns-in-False-clause-rooms c = c.in-False.ensures.rooms ∙ c.steps.invariant.rooms
+
+pub returns-clause-shape : goal.returns-clause-shape
+returns-clause-shape c = c.steps.invariant.runs.shape
+
+pub returns-clause-rooms : goal.returns-clause-rooms
+returns-clause-rooms c = c.steps.invariant.rooms

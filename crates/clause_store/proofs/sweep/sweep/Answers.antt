@@ -1,8 +1,10 @@
-use Rattle.std.proofs.Common.{◌≡◌, ◌+◌, ◌<◌, set, subst, sym, ◌∙◌, refl, arith}
+use Rattle.std.proofs.Common.{◌≡◌, ◌+◌, ◌<◌, set, subst, sym, ◌∙◌, refl, arith, ap}
 use Rattle.std.specs.List.{swap_remove}
 use Rattle.std.proofs.lemmas.List.{get_or_default}
-use Rattle.literals.specs.Signed.{opposite}
-use Rattle.clause_store.specs.Entries.{IsKnown, entry_at}
+use Rattle.literals.specs.Signed.{opposite, packed}
+use Rattle.clause_store.specs.Room.{HasRoomToMove}
+use Rattle.clause_store.proofs.Rooms.{bare_count, leaves_room}
+use Rattle.clause_store.specs.Entries.{Listing, IsKnown, entry_at, bare, rooms}
 use Rattle.clause_store.specs.Visits.{Parts, VisitGives}
 use Rattle.clause_store.specs.Sweeps.{Sweeps, State}
 use Rattle.clause_store.proofs.Rounds.{sound_at, known_at, Round-keep, Round-gone, Round-false, Sweeps-end, with_list}
@@ -14,18 +16,18 @@ use Rattle.clause_store.proofs.sweep.sweep.Goals as goal
 
 pub look_at-requires-clause-place : goal.look_at-requires-clause-place
 look_at-requires-clause-place c =
-    let s : State = record { entries = c.watches.rows.entries; lists = c.watches.lists; steps = c.watches.trail.steps; list = c.watches.list } in
-    (sound_at _ c.args.f s c.watches.k c.get-watch.result (omega arith) c.watches.invariant.sweeps.watch (omega arith) c.get-watch.ensures).within
+    let s : State = record { entries = c.watches.rows.entries; lists = bare c.watches.lists; steps = c.watches.trail.steps; list = c.watches.list.watches } in
+    (sound_at _ c.args.f s c.watches.k c.get-watch.result (omega (arith, bare_count c.watches.lists, bare_count c.args.lists.now)) c.watches.invariant.sweeps.watch (omega (arith, bare_count c.watches.lists, bare_count c.args.lists.now)) c.get-watch.ensures).within
 
 pub look_at-requires-clause-blocker : goal.look_at-requires-clause-blocker
 look_at-requires-clause-blocker c =
-    let s : State = record { entries = c.watches.rows.entries; lists = c.watches.lists; steps = c.watches.trail.steps; list = c.watches.list } in
-    subst (λ n. c.get-watch.result.blocker.atom < n) (sym c.watches.invariant.atoms) (sound_at _ c.args.f s c.watches.k c.get-watch.result (omega arith) c.watches.invariant.sweeps.watch (omega arith) c.get-watch.ensures).known
+    let s : State = record { entries = c.watches.rows.entries; lists = bare c.watches.lists; steps = c.watches.trail.steps; list = c.watches.list.watches } in
+    subst (λ n. c.get-watch.result.blocker.atom < n) (sym c.watches.invariant.atoms) (sound_at _ c.args.f s c.watches.k c.get-watch.result (omega (arith, bare_count c.watches.lists, bare_count c.args.lists.now)) c.watches.invariant.sweeps.watch (omega (arith, bare_count c.watches.lists, bare_count c.args.lists.now)) c.get-watch.ensures).known
 
 pub look_at-requires-clause-known : goal.look_at-requires-clause-known
 look_at-requires-clause-known c =
-    let s : State = record { entries = c.watches.rows.entries; lists = c.watches.lists; steps = c.watches.trail.steps; list = c.watches.list } in
-    subst (λ n. IsKnown n (entry_at c.watches.rows.entries c.get-watch.result.row)) (sym c.watches.invariant.atoms) (known_at _ c.args.f s c.watches.k c.get-watch.result (omega arith) c.watches.invariant.sweeps.watch (omega arith) c.get-watch.ensures)
+    let s : State = record { entries = c.watches.rows.entries; lists = bare c.watches.lists; steps = c.watches.trail.steps; list = c.watches.list.watches } in
+    λ live. subst (λ n. IsKnown n (entry_at c.watches.rows.entries c.get-watch.result.row)) (sym c.watches.invariant.atoms) (known_at _ c.args.f s c.watches.k c.get-watch.result (omega (arith, bare_count c.watches.lists, bare_count c.args.lists.now)) c.watches.invariant.sweeps.watch (omega (arith, bare_count c.watches.lists, bare_count c.args.lists.now)) c.get-watch.ensures live)
 
 pub look_at-requires-clause-pair : goal.look_at-requires-clause-pair
 look_at-requires-clause-pair c = c.watches.invariant.sweeps.watch.pairs c.get-watch.result.row
@@ -35,74 +37,84 @@ look_at-requires-clause-is_false c = Grows-assigns _ _ _ _ (opposite c.args.f) c
 
 pub watches-preserved-in-Keep : goal.watches-preserved-in-Keep
 watches-preserved-in-Keep c =
-    let first : State = record { entries = c.args.rows.now.entries; lists = c.args.lists.now; steps = c.args.trail.now.steps; list = c.args.list.now } in
-    let p : Parts = record { entries = c.watches.rows.entries; lists = c.watches.lists; steps = c.watches.trail.steps } in
-    let p' : Parts = record { entries = c.look_at.new.rows.entries; lists = c.look_at.new.lists; steps = c.look_at.new.trail.steps } in
+    let first : State = record { entries = c.args.rows.now.entries; lists = bare c.args.lists.now; steps = c.args.trail.now.steps; list = c.args.list.now.watches } in
+    let p : Parts = record { entries = c.watches.rows.entries; lists = bare c.watches.lists; steps = c.watches.trail.steps } in
+    let p' : Parts = record { entries = c.look_at.new.rows.entries; lists = bare c.look_at.new.lists; steps = c.look_at.new.trail.steps } in
     let gives : VisitGives c.args.f c.get-watch.result c.args.trail.now.depth p p' (Keep c.in-Keep.blocker) =
     subst (λ d. VisitGives c.args.f c.get-watch.result d p p' (Keep c.in-Keep.blocker)) c.watches.invariant.depth c.in-Keep.ensures.gives in
     let v : Watch = record { blocker = c.in-Keep.blocker; row = c.get-watch.result.row } in
-    let done : Sweeps c.args.trail.now.atoms c.args.trail.now.depth c.args.f first (with_list p' (set c.watches.list c.watches.k v)) (c.watches.k + 1) =
-    Round-keep c.args.trail.now.atoms c.args.trail.now.depth c.args.f first p p' c.watches.list c.watches.k c.get-watch.result c.in-Keep.blocker c.watches.invariant.sweeps (omega arith) c.get-watch.ensures (omega arith) gives in
-    let now : State = record { entries = c.watches.rows.entries; lists = c.watches.lists; steps = c.watches.trail.steps; list = c.watches.list } in
+    let done : Sweeps c.args.trail.now.atoms c.args.trail.now.depth c.args.f first (with_list p' (set c.watches.list.watches c.watches.k v)) (c.watches.k + 1) =
+    Round-keep c.args.trail.now.atoms c.args.trail.now.depth c.args.f first p p' c.watches.list.watches c.watches.k c.get-watch.result c.in-Keep.blocker c.watches.invariant.sweeps (omega (arith, bare_count c.watches.lists, bare_count c.args.lists.now)) c.get-watch.ensures (omega (arith, bare_count c.watches.lists, bare_count c.args.lists.now)) gives in
+    let now : State = record { entries = c.watches.rows.entries; lists = bare c.watches.lists; steps = c.watches.trail.steps; list = c.watches.list.watches } in
     let visited : Visited c.args.trail.now.atoms c.args.f now c.args.rows.now.entries c.watches.k c.get-watch.result c.watches.rows.looks c.look_at.new.rows.looks =
-    record { place = omega arith; watch = c.watches.invariant.sweeps.watch; shape = c.watches.invariant.sweeps.shape; within = omega arith; is = c.get-watch.ensures; once = c.in-Keep.ensures.once; dead = c.in-Keep.ensures.dead } in
+    record { place = omega (arith, bare_count c.watches.lists, bare_count c.args.lists.now); watch = c.watches.invariant.sweeps.watch; shape = c.watches.invariant.sweeps.shape; within = omega arith; is = c.get-watch.ensures; once = c.in-Keep.ensures.once; dead = c.in-Keep.ensures.dead } in
     record {
       sweeps = rw c.set.ensures done;
       atoms = c.look_at.ensures.same.0 ∙ c.watches.invariant.atoms;
       depth = c.look_at.ensures.same.1 ∙ c.watches.invariant.depth;
+      rooms = c.look_at.ensures.rooms ∙ c.watches.invariant.rooms;
+      list_room = ap (λ (x : Listing). x.room) c.set.ensures ∙ c.watches.invariant.list_room;
       looks = omega (arith, c.watches.invariant.looks, c.in-Keep.ensures.rises);
       seen = rw c.set.ensures (Seen-keep c.args.trail.now.atoms c.args.f now c.args.rows.now.entries c.watches.k c.get-watch.result v c.args.rows.now.looks c.watches.rows.looks c.look_at.new.rows.looks refl visited c.watches.invariant.seen);
     }
 
 pub watches-preserved : goal.watches-preserved
 watches-preserved c =
-    let first : State = record { entries = c.args.rows.now.entries; lists = c.args.lists.now; steps = c.args.trail.now.steps; list = c.args.list.now } in
-    let p : Parts = record { entries = c.watches.rows.entries; lists = c.watches.lists; steps = c.watches.trail.steps } in
-    let p' : Parts = record { entries = c.look_at.new.rows.entries; lists = c.look_at.new.lists; steps = c.look_at.new.trail.steps } in
-    let same : c.take_out.result ≡ c.get-watch.result = c.take_out.ensures.value ∙ (get_or_default c.watches.list c.watches.k c.take_out.result c.get-watch.result (omega arith) ∙ sym c.get-watch.ensures) in
+    let first : State = record { entries = c.args.rows.now.entries; lists = bare c.args.lists.now; steps = c.args.trail.now.steps; list = c.args.list.now.watches } in
+    let p : Parts = record { entries = c.watches.rows.entries; lists = bare c.watches.lists; steps = c.watches.trail.steps } in
+    let p' : Parts = record { entries = c.look_at.new.rows.entries; lists = bare c.look_at.new.lists; steps = c.look_at.new.trail.steps } in
+    let same : c.take_out.result ≡ c.get-watch.result = c.take_out.ensures.value ∙ (get_or_default c.watches.list.watches c.watches.k c.take_out.result c.get-watch.result (omega (arith, bare_count c.watches.lists, bare_count c.args.lists.now)) ∙ sym c.get-watch.ensures) in
     let gives : VisitGives c.args.f c.get-watch.result c.args.trail.now.depth p p' Gone =
     subst (λ d. VisitGives c.args.f c.get-watch.result d p p' Gone) c.watches.invariant.depth c.in-Gone.ensures.gives in
-    let done : Sweeps c.args.trail.now.atoms c.args.trail.now.depth c.args.f first (with_list p' (swap_remove c.watches.list c.watches.k c.get-watch.result)) c.watches.k =
-    Round-gone c.args.trail.now.atoms c.args.trail.now.depth c.args.f first p p' c.watches.list c.watches.k c.get-watch.result c.watches.invariant.sweeps (omega arith) c.get-watch.ensures (omega arith) c.requires.is_false gives in
-    let now : State = record { entries = c.watches.rows.entries; lists = c.watches.lists; steps = c.watches.trail.steps; list = c.watches.list } in
+    let done : Sweeps c.args.trail.now.atoms c.args.trail.now.depth c.args.f first (with_list p' (swap_remove c.watches.list.watches c.watches.k c.get-watch.result)) c.watches.k =
+    Round-gone c.args.trail.now.atoms c.args.trail.now.depth c.args.f first p p' c.watches.list.watches c.watches.k c.get-watch.result c.watches.invariant.sweeps (omega (arith, bare_count c.watches.lists, bare_count c.args.lists.now)) c.get-watch.ensures (omega (arith, bare_count c.watches.lists, bare_count c.args.lists.now)) c.requires.is_false gives in
+    let now : State = record { entries = c.watches.rows.entries; lists = bare c.watches.lists; steps = c.watches.trail.steps; list = c.watches.list.watches } in
     let visited : Visited c.args.trail.now.atoms c.args.f now c.args.rows.now.entries c.watches.k c.get-watch.result c.watches.rows.looks c.look_at.new.rows.looks =
-    record { place = omega arith; watch = c.watches.invariant.sweeps.watch; shape = c.watches.invariant.sweeps.shape; within = omega arith; is = c.get-watch.ensures; once = c.in-Gone.ensures.once; dead = c.in-Gone.ensures.dead } in
+    record { place = omega (arith, bare_count c.watches.lists, bare_count c.args.lists.now); watch = c.watches.invariant.sweeps.watch; shape = c.watches.invariant.sweeps.shape; within = omega arith; is = c.get-watch.ensures; once = c.in-Gone.ensures.once; dead = c.in-Gone.ensures.dead } in
     record {
       sweeps = rw (c.take_out.ensures.rest, same) done;
       atoms = c.look_at.ensures.same.0 ∙ c.watches.invariant.atoms;
       depth = c.look_at.ensures.same.1 ∙ c.watches.invariant.depth;
+      rooms = c.look_at.ensures.rooms ∙ c.watches.invariant.rooms;
+      list_room = ap (λ (x : Listing). x.room) c.take_out.ensures.rest ∙ c.watches.invariant.list_room;
       looks = omega (arith, c.watches.invariant.looks, c.in-Gone.ensures.rises);
       seen = rw (c.take_out.ensures.rest, same) (Seen-gone c.args.trail.now.atoms c.args.f now c.args.rows.now.entries c.watches.k c.get-watch.result c.args.rows.now.looks c.watches.rows.looks c.look_at.new.rows.looks visited c.watches.invariant.seen);
     }
 
 pub returns-in-False-clause-gives : goal.returns-in-False-clause-gives
 returns-in-False-clause-gives c =
-    let first : State = record { entries = c.args.rows.now.entries; lists = c.args.lists.now; steps = c.args.trail.now.steps; list = c.args.list.now } in
-    let p : Parts = record { entries = c.watches.rows.entries; lists = c.watches.lists; steps = c.watches.trail.steps } in
-    let p' : Parts = record { entries = c.look_at.new.rows.entries; lists = c.look_at.new.lists; steps = c.look_at.new.trail.steps } in
+    let first : State = record { entries = c.args.rows.now.entries; lists = bare c.args.lists.now; steps = c.args.trail.now.steps; list = c.args.list.now.watches } in
+    let p : Parts = record { entries = c.watches.rows.entries; lists = bare c.watches.lists; steps = c.watches.trail.steps } in
+    let p' : Parts = record { entries = c.look_at.new.rows.entries; lists = bare c.look_at.new.lists; steps = c.look_at.new.trail.steps } in
     let gives : VisitGives c.args.f c.get-watch.result c.args.trail.now.depth p p' False =
     subst (λ d. VisitGives c.args.f c.get-watch.result d p p' False) c.watches.invariant.depth c.in-False.ensures.gives in
-    Round-false c.args.trail.now.atoms c.args.trail.now.depth c.args.f first p p' c.watches.list c.watches.k c.get-watch.result c.watches.invariant.sweeps gives
+    Round-false c.args.trail.now.atoms c.args.trail.now.depth c.args.f first p p' c.watches.list.watches c.watches.k c.get-watch.result c.watches.invariant.sweeps gives
 
 pub returns-clause-gives : goal.returns-clause-gives
 returns-clause-gives c =
-    let first : State = record { entries = c.args.rows.now.entries; lists = c.args.lists.now; steps = c.args.trail.now.steps; list = c.args.list.now } in
-    let now : State = record { entries = c.watches.rows.entries; lists = c.watches.lists; steps = c.watches.trail.steps; list = c.watches.list } in
-    Sweeps-end c.args.trail.now.atoms c.args.trail.now.depth c.args.f first now c.watches.k (omega arith) c.watches.invariant.sweeps
+    let first : State = record { entries = c.args.rows.now.entries; lists = bare c.args.lists.now; steps = c.args.trail.now.steps; list = c.args.list.now.watches } in
+    let now : State = record { entries = c.watches.rows.entries; lists = bare c.watches.lists; steps = c.watches.trail.steps; list = c.watches.list.watches } in
+    Sweeps-end c.args.trail.now.atoms c.args.trail.now.depth c.args.f first now c.watches.k (omega (arith, bare_count c.watches.lists, bare_count c.args.lists.now)) c.watches.invariant.sweeps
 
 pub returns-in-False-clause-looks : goal.returns-in-False-clause-looks
 returns-in-False-clause-looks c =
-    let now : State = record { entries = c.watches.rows.entries; lists = c.watches.lists; steps = c.watches.trail.steps; list = c.watches.list } in
+    let now : State = record { entries = c.watches.rows.entries; lists = bare c.watches.lists; steps = c.watches.trail.steps; list = c.watches.list.watches } in
     let visited : Visited c.args.trail.now.atoms c.args.f now c.args.rows.now.entries c.watches.k c.get-watch.result c.watches.rows.looks c.look_at.new.rows.looks =
-    record { place = omega arith; watch = c.watches.invariant.sweeps.watch; shape = c.watches.invariant.sweeps.shape; within = omega arith; is = c.get-watch.ensures; once = c.in-False.ensures.once; dead = c.in-False.ensures.dead } in
-    Seen-last c.args.trail.now.atoms c.args.f now c.args.rows.now.entries c.watches.k c.get-watch.result c.args.rows.now.looks c.watches.rows.looks c.look_at.new.rows.looks visited c.watches.invariant.seen
-
-pub returns-in-NoRoom-clause-looks : goal.returns-in-NoRoom-clause-looks
-returns-in-NoRoom-clause-looks c =
-    let now : State = record { entries = c.watches.rows.entries; lists = c.watches.lists; steps = c.watches.trail.steps; list = c.watches.list } in
-    let visited : Visited c.args.trail.now.atoms c.args.f now c.args.rows.now.entries c.watches.k c.get-watch.result c.watches.rows.looks c.look_at.new.rows.looks =
-    record { place = omega arith; watch = c.watches.invariant.sweeps.watch; shape = c.watches.invariant.sweeps.shape; within = omega arith; is = c.get-watch.ensures; once = c.in-NoRoom.ensures.once; dead = c.in-NoRoom.ensures.dead } in
+    record { place = omega (arith, bare_count c.watches.lists, bare_count c.args.lists.now); watch = c.watches.invariant.sweeps.watch; shape = c.watches.invariant.sweeps.shape; within = omega arith; is = c.get-watch.ensures; once = c.in-False.ensures.once; dead = c.in-False.ensures.dead } in
     Seen-last c.args.trail.now.atoms c.args.f now c.args.rows.now.entries c.watches.k c.get-watch.result c.args.rows.now.looks c.watches.rows.looks c.look_at.new.rows.looks visited c.watches.invariant.seen
 
 pub returns-clause-looks : goal.returns-clause-looks
-returns-clause-looks c = Seen-whole c.args.f c.args.rows.now.entries c.watches.list c.watches.k c.args.rows.now.looks c.watches.rows.looks c.watches.invariant.seen
+returns-clause-looks c = Seen-whole c.args.f c.args.rows.now.entries c.watches.list.watches c.watches.k c.args.rows.now.looks c.watches.rows.looks c.watches.invariant.seen
+
+pub look_at-requires-clause-room : goal.look_at-requires-clause-room
+look_at-requires-clause-room c = λ live.
+    let s : State = record { entries = c.watches.rows.entries; lists = bare c.watches.lists; steps = c.watches.trail.steps; list = c.watches.list.watches } in
+    leaves_room c.args.trail.now.atoms c.args.f s c.args.rows.now.entries (rooms c.watches.lists) c.args.list.now.room c.watches.k c.get-watch.result (omega (arith, bare_count c.watches.lists, bare_count c.args.lists.now))
+    c.watches.invariant.sweeps.watch (subst (λ rs. HasRoomToMove c.args.rows.now.entries (set rs (packed c.args.f) c.args.list.now.room)) (sym c.watches.invariant.rooms) c.requires.room) c.watches.invariant.sweeps.shape
+    (omega arith) c.get-watch.ensures
+
+pub returns-clause-rooms : goal.returns-clause-rooms
+returns-clause-rooms c = (c.watches.invariant.rooms, c.watches.invariant.list_room)
+
+pub returns-in-False-clause-rooms : goal.returns-in-False-clause-rooms
+returns-in-False-clause-rooms c = (c.look_at.ensures.rooms ∙ c.watches.invariant.rooms, c.watches.invariant.list_room)

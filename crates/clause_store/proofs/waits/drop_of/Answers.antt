@@ -3,6 +3,7 @@ use Rattle.std.proofs.lemmas.List.{get_or_default, take_all}
 use Rattle.std.proofs.lemmas.List.Elements.{All-contains}
 use Rattle.clause_store.specs.declared.waits.Wait.{Wait}
 use Rattle.clause_store.proofs.Loops.{All-grown}
+use Rattle.clause_store.proofs.Numbers.{apart_removed}
 use Rattle.clause_store.proofs.Removing.{removed_keeps, removed_only, removed_front}
 use Rattle.clause_store.proofs.waits.drop_of.Goals as goal
 
@@ -16,6 +17,8 @@ waits-preserved-then-index-row c =
           b (ap (λ (x : Wait). x.row) same ∙ c.if-index-row.true))
           (c.waits.invariant.keeps w h b));
       only = λ w h. c.waits.invariant.only w (removed_only xs c.waits.k c.swap_remove.result w lt (rw c.swap_remove.ensures.items at h));
+      apart = λ a. rw c.swap_remove.ensures.items (apart_removed xs c.waits.k c.swap_remove.result lt (c.waits.invariant.apart a));
+      room = c.swap_remove.ensures.capacity ∙ c.waits.invariant.room;
       front = rw (c.swap_remove.ensures.items, removed_front xs c.waits.k c.swap_remove.result lt) c.waits.invariant.front;
     }
 
@@ -26,6 +29,8 @@ waits-preserved c =
     record {
       keeps = c.waits.invariant.keeps;
       only = c.waits.invariant.only;
+      apart = c.waits.invariant.apart;
+      room = c.waits.invariant.room;
       front = All-grown (λ (w : Wait). w.row ≡ c.args.row → ⊥) xs c.waits.k c.index.result.now lt c.index.ensures c.waits.invariant.front c.if-index-row.false;
     }
 

@@ -1,5 +1,25 @@
-use Rattle.clause_store.proofs.Stores.{Propagated-trans}
+use Rattle.std.proofs.Common.{drop, subst}
+use Rattle.clause_store.specs.Empties.{IsEmptyAt, NamesEmpty}
+use Rattle.clause_store.proofs.Stores.{Propagated-none}
+use Rattle.clause_store.proofs.Fewer.{none_has, empty_false}
+use Rattle.clause_store.proofs.Pairs.{LooksBy-none}
 use Rattle.clause_store.proofs.counted.CountedStore.propagate.Goals as goal
 
-pub returns-in-None-clause-reached : goal.returns-in-None-clause-reached
-returns-in-None-clause-reached c = Propagated-trans c.args.self.now.stored c.by_watches.new.self.stored c.by_scan.new.self.stored c.by_watches.ensures.reached c.by_scan.ensures.reached
+pub by_watches-requires : goal.by_watches-requires
+by_watches-requires c =
+    let i = c.self.inside in
+    rw (← c.self.view_is) (none_has i.rows.entries (subst (NamesEmpty i.rows.entries) c.in-None.is c.self.invariant.kept.empty_is))
+
+pub returns-in-Some-clause-outcome : goal.returns-in-Some-clause-outcome
+returns-in-Some-clause-outcome c =
+    let i = c.self.inside in
+    let at : IsEmptyAt i.rows.entries c.in-Some.row = subst (NamesEmpty i.rows.entries) c.in-Some.is c.self.invariant.kept.empty_is in
+    rw (← c.self.view_is) (empty_false i.rows.entries c.in-Some.row i.trail.steps at)
+
+pub returns-in-Some-clause-reached : goal.returns-in-Some-clause-reached
+returns-in-Some-clause-reached c = Propagated-none c.args.self.now.stored
+
+pub returns-in-Some-clause-bounded : goal.returns-in-Some-clause-bounded
+returns-in-Some-clause-bounded c =
+    let i = c.self.inside in
+    rw (← c.self.view_is) (LooksBy-none (drop i.head i.trail.steps) i.rows.entries i.rows.looks)

@@ -2,7 +2,7 @@ use Rattle.clause_store.proofs.Fewer.{own_ids}
 use Rattle.clause_store.proofs.counted.CountedStore.steps.Goals as goal
 
 pub returns-clause-justified : goal.returns-clause-justified
-returns-clause-justified c = rw (← c.self.view_is) c.self.invariant.justified
+returns-clause-justified c = rw (← c.self.view_is) c.self.invariant.kept.justified
 
 pub returns-clause-unique : goal.returns-clause-unique
 returns-clause-unique c = rw (← c.self.view_is) (own_ids c.self.inside.rows.entries)
