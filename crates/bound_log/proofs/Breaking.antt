@@ -7,6 +7,7 @@ use Rattle.smt_meaning.specs.Interpretation.{Interprets}
 use Rattle.smt_meaning.specs.Stack.{signature_of}
 use Rattle.literals.specs.Signed.{Signed, opposite}
 use Rattle.search_port.specs.State.{Reading, atom_at, IsFalseIn, AllFalseIn}
+use Rattle.search_port.specs.Valid.{IsValid}
 use Rattle.search_port.specs.declared.budget.Lemma.{Lemma}
 use Rattle.congruence.specs.Reasons.{NoneTwice}
 use Rattle.sum_bounds.specs.declared.writing.SumVariable.{SumVariable}
@@ -15,6 +16,7 @@ use Rattle.sum_bounds.specs.declared.finding.Finding.TheVariants.{Fits as AllFit
 use Rattle.sum_bounds.specs.Bounds as Bounds
 use Rattle.sum_bounds.specs.Bounds.{Told, told_bound, sums}
 use Rattle.sum_bounds.specs.Clauses.{IsSaid, ConflictsAreValid}
+use Rattle.sum_bounds.specs.Wholes.{IsWholeConflict, WholeConflictsAreValid}
 use Rattle.bound_log.specs.declared.said.Said.{Said}
 use Rattle.bound_log.specs.declared.said.Said.TheVariants.{Nothing, Bound}
 use Rattle.bound_log.specs.declared.report.Report.{Report}
@@ -96,27 +98,37 @@ literal_told s t state c = let o = of_log s t state c in subst (λ (u : Told). C
 
 -- ---- conflicts
 
-false_in : (s : State) (ls : List Signed) → IsState s → Bounds.IsConflict (sums s.bounds) s.bounds.told ls → AllFalseIn s.log ls
-false_in s ls state c =
-    All-weaker (λ l. (t : Told) × Contains c.bounds t × (l ≡ opposite t.literal)) (IsFalseIn s.log)
+false_in : (s : State) (bounds : List Told) (ls : List Signed) → IsState s → All (Contains s.bounds.told) bounds → All (λ l. (t : Told) × Contains bounds t × (l ≡ opposite t.literal)) ls → AllFalseIn s.log ls
+false_in s bounds ls state stand only =
+    All-weaker (λ l. (t : Told) × Contains bounds t × (l ≡ opposite t.literal)) (IsFalseIn s.log)
     (λ l p.
     subst (IsFalseIn s.log) (sym p.2)
-    (subst (Contains s.log) (sym (twice p.0.literal)) (literal_told s p.0 state (All-contains (Contains s.bounds.told) c.bounds p.0 c.stand p.1))))
-    ls c.only
+    (subst (Contains s.log) (sym (twice p.0.literal)) (literal_told s p.0 state (All-contains (Contains s.bounds.told) bounds p.0 stand p.1))))
+    ls only
 
-broken : ConflictsAreValid → (s : State) (ls : List Signed) (c : Lemma) → IsState s → Bounds.IsConflict (sums s.bounds) s.bounds.told ls → IsLemmaOf ls c → IsClause s c
-broken law s ls c state conflict m = record {
+clause_of : (s : State) (ls : List Signed) (c : Lemma) → NoneTwice ls → AllFalseIn s.log ls → ((r : Reading) → Knows r.table s → IsValid r 0 ls) → IsLemmaOf ls c → IsClause s c
+clause_of s ls c once false_in_log valid m = record {
   level = m.level;
-  once = subst NoneTwice (sym m.literals) conflict.once;
-  is_false = subst (AllFalseIn s.log) (sym m.literals) (false_in s ls state conflict);
+  once = subst NoneTwice (sym m.literals) once;
+  is_false = subst (AllFalseIn s.log) (sym m.literals) false_in_log;
   conflict = λ ds t knows same at.
       m.conflict ds t at (record {
-        is_false = subst (λ (log : List Signed). AllFalseIn log ls) (sym same) (false_in s ls state conflict);
+        is_false = subst (λ (log : List Signed). AllFalseIn log ls) (sym same) false_in_log;
         valid = λ I interprets.
-            law t.reading 0 (sums s.bounds) s.bounds.told ls (each_said t.reading s state knows) conflict I
+            valid t.reading knows I
             (subst (λ (es : List Declaration). Interprets es I) (sym (ap signature_of (at.one_level 0) ∙ at.declares)) interprets);
       });
 }
+
+broken : ConflictsAreValid → (s : State) (ls : List Signed) (c : Lemma) → IsState s → Bounds.IsConflict (sums s.bounds) s.bounds.told ls → IsLemmaOf ls c → IsClause s c
+broken law s ls c state conflict m =
+    clause_of s ls c conflict.once (false_in s conflict.bounds ls state conflict.stand conflict.only)
+    (λ r knows. law r 0 (sums s.bounds) s.bounds.told ls (each_said r s state knows) conflict) m
+
+pub broken_by_wholes : WholeConflictsAreValid → (s : State) (ls : List Signed) (c : Lemma) → IsState s → IsWholeConflict (sums s.bounds) s.bounds.told ls → IsLemmaOf ls c → IsClause s c
+broken_by_wholes law s ls c state conflict m =
+    clause_of s ls c conflict.once (false_in s conflict.bounds ls state conflict.stand conflict.only)
+    (λ r knows. law r 0 (sums s.bounds) s.bounds.told ls (each_said r s state knows) conflict) m
 
 -- ---- reports
 

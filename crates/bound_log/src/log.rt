@@ -1,5 +1,5 @@
 //! The log, and the calls on it.
-ghost use Rattle.std.specs.Prelude.{◌≡◌, ◌+◌, ◌<◌, ◌≤◌, ◌^◌, ◌↔◌, IsTrue, false, [], ◌∷◌, ◌++◌, map, take, length, All, OnOk, OnErr, IfErr, IfSome, IfNone};
+ghost use Rattle.std.specs.Prelude.{◌≡◌, ◌+◌, ◌<◌, ◌≤◌, ◌^◌, ◌↔◌, IsTrue, false, [], ◌∷◌, ◌++◌, map, take, length, All, OnOk, OnErr, IfOk, IfErr, IfSome, IfNone};
 ghost use Rattle.number_meaning.specs.Whole.{InRange};
 ghost use Rattle.grid_meaning.specs.Grid.{turned};
 ghost use Rattle.grid_laws.specs.Law.{KeepsResting};
@@ -15,7 +15,7 @@ ghost use Rattle.sum_bounds.specs.Written.{HasLeaf};
 ghost use Rattle.bound_log.specs.Told.{said_at, told_by, IsKnown, IsPast, IsState, IsTold, IsUndone};
 ghost use Rattle.bound_log.specs.Atoms.{SaysNothing, KnowsTheSame, KnowsOneMore};
 ghost use Rattle.bound_log.specs.Growth.{IsGrown, IsProper};
-ghost use Rattle.bound_log.specs.Reporting.{Judges, SpendsRoom};
+ghost use Rattle.bound_log.specs.Reporting.{Judges, SpendsRoom, IsClause};
 ghost use Rattle.bound_log.specs.declared.said.Said.TheVariants.{Nothing};
 
 use crate::plain::plain_sum;
@@ -23,12 +23,16 @@ use crate::report::{Reported, report_of};
 use crate::said::{Said, assert, push, said_of, start_of};
 use crate::variables::variable_of;
 use fraction128::Fraction;
+use literal_steps::lemma_with;
 use literals::Literal;
+use search_port::Lemma;
 use simplex::PivotLines;
 use smt_meaning::Summand;
 use std::alloc::{AllocError, Global};
 use std::marker::Model;
-use sum_bounds::{Checked, FractionalLeaf, SumBounds, conflicts_are_valid};
+use sum_bounds::{
+    Checked, FractionalLeaf, SumBounds, conflicts_are_valid, whole_conflicts_are_valid,
+};
 use tableau::Failure;
 
 /// Adds what the next atom says. More than 2^31 atoms are want of memory; an `Err` changes nothing.
@@ -225,6 +229,18 @@ impl BoundLog {
         Reported {
             report: report_of(finding),
             pivots,
+        }
+    }
+
+    /// A clause that the log breaks, where a row shows by its fixed variables that no whole numbers meet all bounds told. `None` promises nothing; an `Err` is for want of memory.
+    pub fn whole_conflict(&self, alloc: Global) -> Result<Option<Lemma>, AllocError>
+        ensures { IfOk result (λ o. IfSome o (IsClause self.now)) }
+    {
+        whole_conflicts_are_valid();
+        self.bounds.facts();
+        match self.bounds.whole_conflict(alloc)? {
+            Some(clause) => Ok(Some(lemma_with(clause))),
+            None => Ok(None),
         }
     }
 

@@ -2,7 +2,7 @@
 use Rattle.std.proofs.Common.{◌≡◌, ◌≢◌, ℕ, zero, suc, ◌<◌, ◌≤◌, ◌⊎◌, inl, inr, sym, ap, ap₂, ◌∙◌, subst, refl, arith, List, [], ◌∷◌, ◌++◌, length, take, get_or, get_or-set_other, get_or-set_same, length-append, Bool, true, false, cond, eqb, eqb-true, eq-eqb, Option, Some, None, All}
 use Rattle.std.proofs.lemmas.List.{get_or_append_left, get_or_push, length-set, get_or_past}
 use Rattle.std.proofs.lemmas.Bool.{cases_lt}
-use Rattle.std.specs.Prelude.{int_lt}
+use Rattle.std.specs.Prelude.{ℤ, int_lt, IfSome}
 use Rattle.number_meaning.specs.declared.ratio.Ratio.{Ratio}
 use Rattle.number_meaning.specs.Whole.{InRange}
 use Rattle.number_meaning.specs.Number.{SameNumber, unreduced_sum, unreduced_product}
@@ -29,7 +29,7 @@ use Rattle.sum_laws.specs.Sums.{column_values, IsMeant}
 use Rattle.sum_laws.proofs.Meaning.{runs_keep}
 use Rattle.simplex.specs.declared.state.Verdict.{Verdict}
 use Rattle.simplex.specs.declared.state.Verdict.TheVariants.{Fits, Conflict, Range, UnitsSpent, Memory}
-use Rattle.simplex.specs.State.{IsState, IsCore, HasBounds, AreKnown, SameValues, KeepsValues, refreshed, KnownBounds, IsVerdict, IsConflictOf, Judges, SpendsRoom}
+use Rattle.simplex.specs.State.{IsState, IsCore, HasBounds, FixedAt, AreKnown, SameValues, KeepsValues, refreshed, KnownBounds, IsVerdict, IsConflictOf, Judges, SpendsRoom}
 
 -- ---- values that stay
 
@@ -193,6 +193,11 @@ ranged_of t cs trail core i = by_order (cases_lt i (length cs))
           subst IsRanged (sym h.upper) (ranged_number (tightest trail.bounds i Upper) (ranged_after trail.bounds None i Upper tt all)),
         )
     by_order (inr le) = subst (λ (c : Column). IsRanged c.lower × IsRanged c.upper) (sym (get_or_past cs i no_column le)) (tt, tt)
+
+-- the number that is left alone lies in the range
+pub fixed_ranged : (o : Option ℤ) (c : Column) → IfSome o (FixedAt c) → IsRanged c.lower → IfSome o InRange
+fixed_ranged None c h r = tt
+fixed_ranged (Some k) c h r = subst IsRanged h.0 r
 
 -- ---- what a check makes of the state
 

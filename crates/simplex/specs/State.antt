@@ -1,5 +1,5 @@
 -- The state of the simplex method: rows, columns, and the bounds that were set.
-use Rattle.std.specs.Prelude.{◌≡◌, ℕ, ◌+◌, ◌<◌, ◌≤◌, ◌⊎◌, Bool, ◌&&◌, List, [], ◌∷◌, ◌++◌, map, length, slice_index_or, slice_set, pos, Option, Some, None}
+use Rattle.std.specs.Prelude.{◌≡◌, ℕ, ◌+◌, ◌<◌, ◌≤◌, ◌⊎◌, Bool, ◌&&◌, List, [], ◌∷◌, ◌++◌, map, length, slice_index_or, slice_set, ℤ, pos, Option, Some, None}
 use Rattle.number_meaning.specs.declared.ratio.Ratio.{Ratio}
 use Rattle.number_meaning.specs.Whole.{InRange}
 use Rattle.number_meaning.specs.Number.{whole}
@@ -46,6 +46,10 @@ pub record IsState (s : State) : Type 0 where
   pub bounded : (i : ℕ) → i < length s.columns → HasBounds s.bounds i (column_in s.columns i)
   pub known : AreKnown (length s.columns) s.bounds
   pub meant : IsMeant s.table.rows s.columns
+
+-- the column's bounds leave this number alone
+abbrev pub FixedAt : Column → ℤ → Type 0
+FixedAt c k = (c.lower ≡ Some k) × (c.upper ≡ Some k)
 
 -- two columns have the same sum and value
 pub record SameValues (c d : Column) : Type 0 where

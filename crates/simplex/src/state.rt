@@ -1,5 +1,5 @@
 //! The state, and the calls on it.
-ghost use Rattle.std.specs.Prelude.{◌≡◌, ℕ, ◌+◌, ◌-◌, ◌^◌, ◌<◌, ◌≤◌, pos, true, false, [], ◌∷◌, ◌++◌, map, take, length, slice_index_or, slice_set, OnOk, OnErr, IfOk, IfErr, Some, None};
+ghost use Rattle.std.specs.Prelude.{◌≡◌, ℕ, ◌+◌, ◌-◌, ◌^◌, ◌<◌, ◌≤◌, pos, true, false, [], ◌∷◌, ◌++◌, map, take, length, slice_index_or, slice_set, ℤ, OnOk, OnErr, IfOk, IfErr, IfSome, IfNone, Some, None};
 ghost use Rattle.number_meaning.specs.Number.{whole};
 ghost use Rattle.number_meaning.specs.Whole.{InRange};
 ghost use Rattle.bound_trail.specs.Trail.{tightest, number_of, set_at};
@@ -13,7 +13,7 @@ ghost use Rattle.grid_laws.specs.Law.{KeepsResting};
 ghost use Rattle.simplex_steps.specs.State.{column_in, values, grid_of};
 ghost use Rattle.simplex_steps.specs.Conflict.{KnownEntries};
 ghost use Rattle.simplex_steps.specs.Run.{IsRun, KeepsLines};
-ghost use Rattle.simplex.specs.State.{IsState, KeepsValues, HasBounds, Judges, SpendsRoom, tag_in, tag_or, refreshed, KnownBounds, IsVerdict, new_column, with_row, row_value_of, row_fits};
+ghost use Rattle.simplex.specs.State.{IsState, KeepsValues, HasBounds, FixedAt, Judges, SpendsRoom, tag_in, tag_or, refreshed, KnownBounds, IsVerdict, new_column, with_row, row_value_of, row_fits};
 
 use bound_trail::{BoundTrail, Held, Set};
 use fraction128::{Fraction, Range};
@@ -72,6 +72,17 @@ fn refresh(columns: &mut Vec<Column>, trail: &BoundTrail, variable: u32)
     let lower = number_of(trail.tightest(variable, Side::Lower));
     let upper = number_of(trail.tightest(variable, Side::Upper));
     bound(&mut columns[variable as usize], lower, upper);
+}
+
+/// The number that both bounds are.
+fn common(column: &Column) -> Option<i128>
+    ensures some { IfSome result (FixedAt column.now) }
+    ensures none { IfNone result ((k : ℤ) → FixedAt column.now k → ⊥) }
+{
+    match (column.lower, column.upper) {
+        (Some(lower), Some(upper)) if lower == upper => Some(lower),
+        _ => None,
+    }
 }
 
 /// The tags of bounds that stand.
@@ -274,6 +285,31 @@ impl Simplex {
         ensures { result.now ≡ column_in self.now.columns variable }
     {
         &self.columns[variable as usize]
+    }
+
+    /// The rows.
+    pub fn tableau(&self) -> &Tableau
+        ensures { result.now ≡ self.now.table }
+    {
+        &self.tableau
+    }
+
+    /// The number that a variable's bounds leave alone, where they are equal.
+    pub fn fixed(&self, variable: u32) -> Option<i128>
+        requires { variable < length self.now.columns }
+        ensures some { IfSome result (FixedAt (column_in self.now.columns variable)) }
+        ensures none { IfNone result ((k : ℤ) → FixedAt (column_in self.now.columns variable) k → ⊥) }
+        ensures in_range { IfSome result InRange }
+    {
+        common(&self.columns[variable as usize])
+    }
+
+    /// The tags of the tightest bounds on the variables and sides of bounds, in order.
+    pub fn tags(&self, alloc: Global, bounds: &[Bound]) -> Result<Vec<u32>, AllocError>
+        requires { (k : ℕ) (d : Bound) → k < length bounds.now → (slice_index_or bounds.now k d).variable < length self.now.columns }
+        ensures { IfOk result (λ ts. ts.items ≡ map (tag_in self.now.bounds) bounds.now) }
+    {
+        tags_of(alloc, &self.trail, bounds)
     }
 
     /// Sets a bound. Values stay; an `Err`, for want of memory, changes nothing.

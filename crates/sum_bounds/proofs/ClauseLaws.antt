@@ -16,8 +16,9 @@ use Rattle.smt_meaning.specs.Clause as Clauses
 use Rattle.smt_meaning.specs.Clause.{atom_true, value_at}
 use Rattle.literals.specs.Signed.{Signed, opposite, literal_true, some_true, sign}
 use Rattle.search_port.specs.State.{Reading, truth}
-use Rattle.sum_bounds.specs.Bounds.{Told, told_side, told_number, MeetsSide, Meets, sums, leaf_values}
+use Rattle.sum_bounds.specs.Bounds.{Told, told_side, told_number, MeetsSide, Meets, sums, leaf_values, IsConflict}
 use Rattle.sum_bounds.specs.Clauses.{plain, IsSaid, ConflictsAreValid, WholesMeet, whole_values}
+use Rattle.sum_bounds.specs.Wholes.{IsWholeConflict, WholeConflictsAreValid}
 use Rattle.sum_bounds.proofs.Leaves.{whole_leaf}
 
 -- the sum of whole numbers
@@ -95,17 +96,25 @@ none_true v (l ∷ ls) h (suc k) d lt = none_true v ls (or_parts (literal_true v
 among_false : (v : ℕ → Bool) (ls : List Signed) (l : Signed) → some_true v ls ≡ false → Contains ls l → literal_true v l ≡ false
 among_false v ls l h (k, lt, e) = subst (λ m. literal_true v m ≡ false) e (none_true v ls h k l lt)
 
-pub conflicts_valid : ConflictsAreValid
-conflicts_valid r level sums told ls said c I interprets = by (some_true (truth r I) ls) refl
+pub whole_conflicts_valid : WholeConflictsAreValid
+whole_conflicts_valid r level sums told ls said c I interprets = by (some_true (truth r I) ls) refl
   where
     by : (b : Bool) → some_true (truth r I) ls ≡ b → b ≡ true
     by true e = refl
     by false e =
-        absurd (c.apart (λ i. whole (number_of (value_at r.trees I i))) (λ i. omega arith)
+        absurd (c.apart (λ i. number_of (value_at r.trees I i))
         (λ k d lt.
         let t = get_or c.bounds k d in
         let in_told = c.stand k d lt in
         said_holds r sums t I (subst (IsSaid r sums) in_told.2 (said in_told.0 t in_told.1)) (flipped (truth r I) t.literal (among_false (truth r I) ls (opposite t.literal) e (c.each k d lt)))))
+
+-- what no numbers meet, no whole numbers meet
+whole_of : (sums : ℕ → List Summand) (told : List Told) (ls : List Signed) → IsConflict sums told ls → IsWholeConflict sums told ls
+whole_of sums told ls c =
+    record { bounds = c.bounds; stand = c.stand; each = c.each; only = c.only; once = c.once; apart = λ f met. c.apart (λ i. whole (f i)) (λ i. omega arith) met }
+
+pub conflicts_valid : ConflictsAreValid
+conflicts_valid r level sums told ls said c = whole_conflicts_valid r level sums told ls said (whole_of sums told ls c)
 
 -- ---- whole values
 

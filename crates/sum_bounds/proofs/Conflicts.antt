@@ -1,6 +1,6 @@
 -- Conflicts by tags as conflicts of bounds told; and what a check finds.
-use Rattle.std.proofs.Common.{◌≡◌, ℕ, ◌<◌, inl, inr, List, map, length, get_or, ℤ, pos, Option, Some, None, sym, ap, subst, ◌∙◌, refl, arith}
-use Rattle.std.specs.Prelude.{All, Contains}
+use Rattle.std.proofs.Common.{◌≡◌, ◌≢◌, ℕ, ◌<◌, inl, inr, List, map, length, get_or, ℤ, pos, Option, Some, None, sym, ap, subst, ◌∙◌, refl, arith}
+use Rattle.std.specs.Prelude.{All, AllPairs, Contains}
 use Rattle.std.proofs.lemmas.List.{get_or-map, length-map}
 use Rattle.std.proofs.lemmas.List.Elements.{Contains-get_or}
 use Rattle.number_meaning.specs.declared.ratio.Ratio.{Ratio}
@@ -92,17 +92,22 @@ not_all : (s : Simplex.State) (bounds : List Bound) (w : ℕ → Ratio) → Simp
 not_all s bounds w state (inl r) fw met = r.apart (column_values w s.columns) (λ i. sum_positive_value w (column_in s.columns i).sum fw) (state.meant.solved w fw) met
 not_all s bounds w state (inr r) fw met = r.apart (column_values w s.columns) (λ i. sum_positive_value w (column_in s.columns i).sum fw) met
 
-pub conflict_of : (s : Simplex.State) (tags : List ℕ) (ls : List Signed) → Simplex.IsState s → IsTagged s tags → IsClauseOf tags ls
-    → IsConflict (λ i. (column_in s.columns i).sum) (map told_of s.bounds) ls
+-- the literals are complements of those of bounds told, none twice
+pub record IsToldClause (told bounds : List Told) (ls : List Signed) : Type 0 where
+  pub stand : All (Contains told) bounds
+  pub each : All (λ (t : Told). Contains ls (opposite t.literal)) bounds
+  pub only : All (λ l. (t : Told) × Contains bounds t × (l ≡ opposite t.literal)) ls
+  pub once : AllPairs (λ (a b : Signed). a ≢ b) ls
+
+pub told_clause : (s : Simplex.State) (bounds : List Bound) (tags : List ℕ) (ls : List Signed) → Simplex.IsState s → All (Stands s.columns) bounds → tags ≡ map (tag_in s.bounds) bounds → IsClauseOf tags ls
+    → IsToldClause (map told_of s.bounds) (map (told_in s.bounds) bounds) ls
 unfolding told_in
-conflict_of s tags ls state tagged clause =
+told_clause s bounds tags ls state standing exact clause =
     let bs = s.bounds in
-    let bounds = tagged.bounds in
     record {
-      bounds = map (told_in bs) bounds;
       stand = λ k d lt.
           let short : k < length bounds = omega (arith, lt, length-map bounds (told_in bs)) in
-          subst (Contains (map told_of bs)) (sym (told_at k d short)) (stood s.columns bs (get_or bounds k no_bound) state.bounded (all_stand s bounds tagged.conflict k no_bound short));
+          subst (Contains (map told_of bs)) (sym (told_at k d short)) (stood s.columns bs (get_or bounds k no_bound) state.bounded (standing k no_bound short));
       each = λ k d lt.
           let short : k < length bounds = omega (arith, lt, length-map bounds (told_in bs)) in
           subst (λ (t : Told). Contains ls (opposite t.literal)) (sym (told_at k d short))
@@ -114,22 +119,38 @@ conflict_of s tags ls state tagged clause =
           let there = Contains-get_or (map (told_in bs) bounds) n (told_in bs no_bound) (omega (arith, short, length-map bounds (told_in bs))) in
           (told_in bs (get_or bounds n no_bound), subst (Contains (map (told_in bs) bounds)) (told_at n (told_in bs no_bound) short) there, r.2 ∙ ap complement (tag_at n short));
       once = clause.once;
-      apart = λ w fw met.
-          not_all s bounds w state tagged.conflict fw
-          (λ k d lt.
-          let b = get_or bounds k d in
-          meets_at (column_values w s.columns) b.variable b.side b.number
-          (subst (λ (t : Told). Meets (λ i. (column_in s.columns i).sum) w t) (get_or-map (told_in bs) bounds k d (told_in bs d) lt) (met k (told_in bs d) (omega (arith, lt, length-map bounds (told_in bs))))));
     }
   where
-    told_at : (k : ℕ) (d : Told) → k < length tagged.bounds → get_or (map (told_in s.bounds) tagged.bounds) k d ≡ told_in s.bounds (get_or tagged.bounds k no_bound)
-    told_at k d lt = get_or-map (told_in s.bounds) tagged.bounds k no_bound d lt
+    told_at : (k : ℕ) (d : Told) → k < length bounds → get_or (map (told_in s.bounds) bounds) k d ≡ told_in s.bounds (get_or bounds k no_bound)
+    told_at k d lt = get_or-map (told_in s.bounds) bounds k no_bound d lt
 
-    count : length tags ≡ length tagged.bounds
-    count = ap length tagged.exact ∙ length-map tagged.bounds (tag_in s.bounds)
+    count : length tags ≡ length bounds
+    count = ap length exact ∙ length-map bounds (tag_in s.bounds)
 
-    tag_at : (k : ℕ) → k < length tagged.bounds → get_or tags k 0 ≡ tag_in s.bounds (get_or tagged.bounds k no_bound)
-    tag_at k lt = ap (λ xs. get_or xs k 0) tagged.exact ∙ get_or-map (tag_in s.bounds) tagged.bounds k no_bound 0 lt
+    tag_at : (k : ℕ) → k < length bounds → get_or tags k 0 ≡ tag_in s.bounds (get_or bounds k no_bound)
+    tag_at k lt = ap (λ xs. get_or xs k 0) exact ∙ get_or-map (tag_in s.bounds) bounds k no_bound 0 lt
+
+-- values that meet the bounds as they were told meet the bounds
+pub told_met : (s : Simplex.State) (bounds : List Bound) (w : ℕ → Ratio) → All (Meets (λ i. (column_in s.columns i).sum) w) (map (told_in s.bounds) bounds) → All (MeetsBound (column_values w s.columns)) bounds
+unfolding told_in
+told_met s bounds w met k d lt =
+    let b = get_or bounds k d in
+    meets_at (column_values w s.columns) b.variable b.side b.number
+    (subst (λ (t : Told). Meets (λ i. (column_in s.columns i).sum) w t) (get_or-map (told_in s.bounds) bounds k d (told_in s.bounds d) lt) (met k (told_in s.bounds d) (omega (arith, lt, length-map bounds (told_in s.bounds)))))
+
+pub conflict_of : (s : Simplex.State) (tags : List ℕ) (ls : List Signed) → Simplex.IsState s → IsTagged s tags → IsClauseOf tags ls
+    → IsConflict (λ i. (column_in s.columns i).sum) (map told_of s.bounds) ls
+conflict_of s tags ls state tagged clause =
+    let bounds = tagged.bounds in
+    let c = told_clause s bounds tags ls state (all_stand s bounds tagged.conflict) tagged.exact clause in
+    record {
+      bounds = map (told_in s.bounds) bounds;
+      stand = c.stand;
+      each = c.each;
+      only = c.only;
+      once = c.once;
+      apart = λ w fw met. not_all s bounds w state tagged.conflict fw (told_met s bounds w met);
+    }
 
 -- ---- what a check finds
 

@@ -9,3 +9,4 @@ pub mod Values
 pub mod Conflicts
 pub mod Growth
 pub mod Checks
+pub mod WholeRows

@@ -5,3 +5,4 @@ pub mod Finding
 pub mod Bounds
 pub mod Kept
 pub mod Clauses
+pub mod Wholes

@@ -7,10 +7,11 @@ mod laws;
 mod lookup;
 mod state;
 mod told;
+mod wholes;
 mod writing;
 
 pub use finding::{Checked, Finding};
 pub use fractions::FractionalLeaf;
-pub use laws::{conflicts_are_valid, wholes_meet};
+pub use laws::{conflicts_are_valid, whole_conflicts_are_valid, wholes_meet};
 pub use state::SumBounds;
 pub use writing::SumVariable;

@@ -9,12 +9,14 @@ ghost use Rattle.simplex_steps.specs.Run.{IsRun, KeepsLines};
 ghost use Rattle.simplex.specs.State.{IsState as IsSimplex, KeepsValues};
 ghost use Rattle.sum_bounds.specs.Bounds.{sums, leaf_values, sum_hashes, told_bound, MeetsSide, IsPastEnd, AreApart, IsSum, StandsFor, with_leaf, with_sum, sum_fits, Judges, SpendsRoom, IsFirstIn, AreWhole, IsState};
 ghost use Rattle.sum_bounds.specs.Written.{HasLeaf};
+ghost use Rattle.sum_bounds.specs.Wholes.{IsWholeConflict};
 ghost use Rattle.sum_bounds.specs.Kept.{IsGrownByLeaf, IsGrownBySum};
 
 use crate::finding::{Checked, Finding, finding_of};
 use crate::fractions::{FractionalLeaf, first_fraction};
 use crate::lookup::{find, hash_of};
 use crate::told::{is_met, number_of, side_of, tag_of};
+use crate::wholes::whole_conflict;
 use crate::writing::{SumVariable, first_is_negative, parts_of, turned_sum};
 use fraction128::Fraction;
 use grid_meaning::{Sum, Summand};
@@ -289,5 +291,12 @@ impl SumBounds {
         ensures none { IfNone result (AreWhole self.now) }
     {
         first_fraction(&self.simplex, self.count)
+    }
+
+    /// A clause of bounds told that no whole numbers meet, where a row of the tableau shows it by its fixed variables: their part isn't a multiple of the greatest common divisor of the other coefficients. `None` promises nothing; an `Err` is for want of memory.
+    pub fn whole_conflict(&self, alloc: Global) -> Result<Option<Vec<Literal>>, AllocError>
+        ensures { IfOk result (λ o. IfSome o (λ ls. IsWholeConflict (sums self.now) self.now.told ls.items)) }
+    {
+        whole_conflict(alloc, &self.simplex)
     }
 }
