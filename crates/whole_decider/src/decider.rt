@@ -6,6 +6,8 @@ use check_atoms::numbered;
 use check_clauses::check_clauses;
 use check_search::{search, unknown};
 use equality_decider::Alone;
+use kept_axioms::keep_axioms;
+use range_reports::refused;
 use scope_stack::Stack;
 use smt_meaning::Settings;
 use std::alloc::{AllocError, Global};
@@ -21,10 +23,14 @@ pub struct Whole;
 fn decide_integers(alloc: Global, stack: &Stack, settings: &Settings) -> Result<Verdict, AllocError>
     ensures { IfOk result (IsVerdict stack.now.trees stack.now.frames settings.now.units) }
 {
-    let Ok(mut parts) = numbered(alloc, stack) else {
-        return unknown(alloc, stack, settings);
+    let mut parts = match numbered(alloc, stack) {
+        Ok(parts) => parts,
+        Err(refusal) => return refused(alloc, stack, settings, refusal),
     };
     let Ok(mut store) = check_clauses(alloc, stack, stack.sorts(), &mut parts) else {
+        return unknown(alloc, stack, settings);
+    };
+    let Ok(()) = keep_axioms(alloc, stack, &parts, &mut store) else {
         return unknown(alloc, stack, settings);
     };
     let Ok(mut theory) = Combined::new(alloc, stack, parts) else {
