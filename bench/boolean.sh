@@ -1,9 +1,10 @@
 #!/usr/bin/env bash
-# The time of deciding Boolean scripts, beside minisat on the same clauses and z3 on the same scripts, where they are there.
-# Use: bench/boolean.sh [SMT_CLI [SECONDS]], at the top of the repository.
+# The time and the peak memory of deciding Boolean scripts by the program, which keeps every learnt clause, and by the search that forgets, beside z3 on the same scripts and minisat on the same clauses, each where it is there.
+# Use: bench/boolean.sh [SMT_CLI [FORGETTING_CHECKS [SECONDS]]], at the top of the repository.
 set -eu
 program=${1:-crates/smt_cli/out/smt_cli}
-limit=${2:-20}
+forgetting=${2:-crates/forgetting_checks/out/forgetting_checks}
+limit=${3:-20}
 folder=$(mktemp -d)
 trap 'rm -rf "$folder"' EXIT
 python3 - "$folder" << 'END'
@@ -89,27 +90,28 @@ for seed in range(3):
 write("counter-reached", *counter(6, 50, 45))
 write("counter-not-reached", *counter(6, 40, 41))
 END
-seconds() {
-    local started ended
-    started=$(date +%s%N)
-    timeout "$limit" "$@" > "$folder/out" 2> /dev/null || true
-    ended=$(date +%s%N)
-    spent=$(((ended - started) / 1000000))
+# its milliseconds of processor time, and its kilobytes at most; the limit is of processor time
+measure() {
+    TIMEFORMAT='%3U %3S'
+    { time (ulimit -t "$limit"; /usr/bin/time -f %M -o "$folder/kilobytes" "$@" < "$input" > "$folder/out" 2> /dev/null) || true; } 2> "$folder/times"
+    spent=$(awk '{printf "%d", 1000 * ($1 + $2)}' "$folder/times")
+    most=$(tail -n 1 "$folder/kilobytes")
 }
 solvers=()
-for solver in "$program" z3 minisat; do
+for solver in "$program" "$forgetting" z3 minisat; do
     command -v "$solver" > /dev/null && solvers+=("$solver")
 done
 for script in "$folder"/*.smt2; do
     line=$(basename "$script" .smt2)
+    input=$script
     for solver in "${solvers[@]}"; do
         case $solver in
-            minisat) seconds minisat -verb=0 "${script%.smt2}.cnf" ;;
-            *) if [ "$solver" = z3 ]; then words=(-in); else words=(); fi
-               seconds "$solver" "${words[@]}" < "$script" ;;
+            minisat) measure minisat -verb=0 "${script%.smt2}.cnf" ;;
+            z3) measure z3 -in ;;
+            *) measure "$solver" ;;
         esac
         answer=$(grep -m1 -ioE 'unsat(isfiable)?|sat(isfiable)?|unsupported' "$folder/out" | tr A-Z a-z | sed 's/isfiable//' || true)
-        line+=" $(basename "$solver") ${answer:-none} $spent"
+        line+=" $(basename "$solver") ${answer:-none} $spent $most"
     done
     echo "$line"
 done | tee "$folder/lines"
@@ -117,18 +119,24 @@ python3 - "$folder/lines" "$((limit * 1000))" << 'END'
 import math, sys
 lines = [line.split() for line in open(sys.argv[1])]
 limit = int(sys.argv[2])
-times = {}
+times, sizes = {}, {}
 for words in lines:
-    row = {words[k]: (words[k + 1], max(int(words[k + 2]), 1)) for k in range(1, len(words), 3)}
-    said = {answer for answer, _ in row.values() if answer in ("sat", "unsat")}
+    row = {words[k]: (words[k + 1], max(int(words[k + 2]), 1), int(words[k + 3])) for k in range(1, len(words), 4)}
+    said = {answer for answer, _, _ in row.values() if answer in ("sat", "unsat")}
     if len(said) > 1:
         print("answers differ:", " ".join(words))
-    for solver, (answer, spent) in row.items():
-        times.setdefault(solver, []).append((answer in ("sat", "unsat"), spent if answer in ("sat", "unsat") else limit))
-names = list(times)
-for name in names:
-    print(f"{name}: {sum(done for done, _ in times[name])} of {len(lines)} decided")
-for other in names[1:]:
-    ratios = [a / b for (_, a), (_, b) in zip(times[names[0]], times[other])]
-    print(f"{names[0]} / {other}: geometric mean of times {math.exp(sum(map(math.log, ratios)) / len(ratios)):.2f} (a script that isn't decided counts as {limit} ms)")
+    for solver, (answer, spent, most) in row.items():
+        done = answer in ("sat", "unsat")
+        times.setdefault(solver, []).append((done, spent if done else limit))
+        sizes.setdefault(solver, []).append(most)
+def mean(xs, ys):
+    return math.exp(sum(math.log(x / y) for x, y in zip(xs, ys)) / len(xs))
+for name in times:
+    print(f"{name}: {sum(done for done, _ in times[name])} of {len(lines)} decided, at most {max(sizes[name]) // 1024} MB")
+others = [name for name in times if name in ("z3", "minisat")]
+for name in times:
+    for other in others:
+        if name not in others:
+            spent = mean([t for _, t in times[name]], [t for _, t in times[other]])
+            print(f"{name} / {other}: geometric mean of times {spent:.2f} (a script that isn't decided counts as {limit} ms), of peak memory {mean(sizes[name], sizes[other]):.2f}")
 END

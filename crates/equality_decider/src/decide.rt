@@ -1,5 +1,5 @@
 //! The search over the parts of a stack.
-ghost use Rattle.std.specs.Prelude.{◌≡◌, [], true, map, length, All, IfOk};
+ghost use Rattle.std.specs.Prelude.{◌≡◌, [], true, false, map, length, All, IfOk};
 ghost use Rattle.smt_meaning.specs.declared.clauses.Atom.{Atom as AtomValue};
 ghost use Rattle.smt_meaning.specs.Stack.{depth};
 ghost use Rattle.smt_meaning.specs.Report.{Shows};
@@ -11,6 +11,7 @@ ghost use Rattle.theory_port.specs.Verdicts.{IsVerdict};
 ghost use Rattle.cdcl_core.specs.Search.{AreAgreed};
 ghost use Rattle.equality_decider.specs.Shown.{unit_of, IsOfNumbers};
 
+use crate::keeping::Keeping;
 use crate::shown::{counts_learnt, reports, units_within, write_units};
 use crate::still::Still;
 use atom_table::AtomTable;
@@ -31,6 +32,7 @@ use theory_port::Verdict;
 /// Searches from the first clauses on: a model of all of them is one of the assertions, where the empty clause follows, they have none, and where the search ends without an answer, its worker shows why.
 pub(crate) fn search<T: Theory>(
     alloc: Global,
+    keeping: Keeping,
     stack: &Stack,
     settings: &Settings,
     marks: &[bool],
@@ -55,13 +57,14 @@ pub(crate) fn search<T: Theory>(
     forces_by_numbers();
     forces_in_turn();
     let mut order = Order::new(alloc, settings.seed, 0);
+    let forgets = keeping.forgets(settings);
     let limit = units_within(settings);
-    let mut budget = Budget::new(alloc, limit, counts_learnt(settings), false, 0);
+    let mut budget = Budget::new(alloc, limit, counts_learnt(settings, forgets), false, 0);
     let mut still = Still { alloc, stack };
     match solve(
         alloc,
         &mut order,
-        false,
+        forgets,
         store,
         theory,
         &mut budget,
@@ -69,24 +72,30 @@ pub(crate) fn search<T: Theory>(
     ) {
         Outcome::Full(model) => Ok(Verdict::Sat(model)),
         Outcome::False(_) => Ok(Verdict::Unsat),
-        Outcome::Ended(Ending::Units) => unspent(alloc, stack, settings, atoms, &budget),
+        Outcome::Ended(Ending::Units) => {
+            unspent(alloc, forgets, stack, settings, atoms, &budget)
+        }
         Outcome::Ended(Ending::Memory) => Ok(Verdict::Unknown(reports(alloc, Cause::Memory)?)),
         Outcome::Ended(Ending::Cancelled(_)) => unreachable!(),
     }
 }
 
-/// The answer where all units are spent.
+/// The answer where all units are spent. Where clauses are forgotten, the units are none of a worker 0, which keeps each clause: the room for more of them is wanting.
 fn unspent(
     alloc: Global,
+    forgets: bool,
     stack: &Stack,
     settings: &Settings,
     atoms: &AtomTable,
     budget: &Budget,
 ) -> Result<Verdict, AllocError>
-    requires numbers { All (IsOfNumbers (length atoms.now)) budget.now.units }
-    requires spent { Shows stack.now.trees stack.now.frames settings.now.units 0 [] (Units (map (unit_of atoms.now (depth stack.now.frames)) budget.now.units)) }
+    requires numbers { forgets ≡ false → All (IsOfNumbers (length atoms.now)) budget.now.units }
+    requires spent { forgets ≡ false → Shows stack.now.trees stack.now.frames settings.now.units 0 [] (Units (map (unit_of atoms.now (depth stack.now.frames)) budget.now.units)) }
     ensures { IfOk result (IsVerdict stack.now.trees stack.now.frames settings.now.units) }
 {
+    if forgets {
+        return Ok(Verdict::Unknown(reports(alloc, Cause::Memory)?));
+    }
     let units = write_units(alloc, atoms, stack.depth(), budget.units())?;
     Ok(Verdict::Unknown(reports(alloc, Cause::Units(units))?))
 }

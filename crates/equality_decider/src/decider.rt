@@ -1,5 +1,10 @@
-//! The decider.
+//! The deciders.
+ghost use Rattle.std.specs.Prelude.{◌≡◌, true, IfOk};
+ghost use Rattle.smt_meaning.specs.Kinds.{has_no_integers};
+ghost use Rattle.theory_port.specs.Verdicts.{IsVerdict};
+
 use crate::decide::search;
+use crate::keeping::Keeping;
 use equality_chords::chords;
 use equality_theory::EqualityTheory;
 use part_clauses::part_clauses;
@@ -28,19 +33,56 @@ impl Decider for Alone {
         stack: &Stack,
         settings: &Settings,
     ) -> Result<Verdict, AllocError> {
-        let mut atoms = numbered(alloc, stack)?;
-        let triangles = chords(alloc, stack, &mut atoms)?;
-        let mut store = part_clauses(alloc, stack, &atoms, &triangles)?;
-        let sorts = atoms.sorts.to_vec(alloc)?;
-        let mut theory = EqualityTheory::new(alloc, stack, &atoms.marks, sorts, &atoms.table)?;
-        search(
-            alloc,
-            stack,
-            settings,
-            &atoms.marks,
-            &atoms.table,
-            &mut theory,
-            &mut store,
-        )
+        check(alloc, Keeping::All, stack, settings)
     }
+}
+
+/// Decides the same checks by the same search, which without a limit of units forgets learnt clauses of more than 8 literals that it doesn't use.
+#[derive(Clone, Copy, Debug, Drop)]
+pub struct Forgetful;
+
+impl Decider for Forgetful {
+    ghost use Rattle.smt_meaning.specs.Kinds.{has_no_integers};
+
+    ghost decides = { has_no_integers };
+
+    fn takes(&self, alloc: Global, stack: &Stack) -> Result<bool, AllocError> {
+        Alone.takes(alloc, stack)
+    }
+
+    fn decide(
+        &mut self,
+        alloc: Global,
+        stack: &Stack,
+        settings: &Settings,
+    ) -> Result<Verdict, AllocError> {
+        check(alloc, Keeping::Used, stack, settings)
+    }
+}
+
+/// Numbers the atoms of the stack, and searches from its first clauses on.
+fn check(
+    alloc: Global,
+    keeping: Keeping,
+    stack: &Stack,
+    settings: &Settings,
+) -> Result<Verdict, AllocError>
+    requires { has_no_integers stack.now.frames ≡ true }
+    ensures { IfOk result (IsVerdict stack.now.trees stack.now.frames settings.now.units) }
+{
+    let mut atoms = numbered(alloc, stack)?;
+    let triangles = chords(alloc, stack, &mut atoms)?;
+    let mut store = part_clauses(alloc, stack, &atoms, &triangles)?;
+    let sorts = atoms.sorts.to_vec(alloc)?;
+    let mut theory = EqualityTheory::new(alloc, stack, &atoms.marks, sorts, &atoms.table)?;
+    search(
+        alloc,
+        keeping,
+        stack,
+        settings,
+        &atoms.marks,
+        &atoms.table,
+        &mut theory,
+        &mut store,
+    )
 }

@@ -3,7 +3,8 @@
 
 mod decide;
 mod decider;
+mod keeping;
 mod shown;
 mod still;
 
-pub use decider::Alone;
+pub use decider::{Alone, Forgetful};

@@ -1,5 +1,5 @@
 //! What the worker shows where a search ends without an answer.
-ghost use Rattle.std.specs.Prelude.{◌≡◌, ◌<◌, ℤ, List, [], not, length, map, All, IfOk};
+ghost use Rattle.std.specs.Prelude.{◌≡◌, ◌<◌, ℤ, List, [], not, false, length, map, All, IfOk};
 ghost use Rattle.literals.specs.Signed.{Signed};
 ghost use Rattle.smt_meaning.specs.Term.{Tree};
 ghost use Rattle.smt_meaning.specs.Stack.{Frame};
@@ -16,10 +16,13 @@ use std::alloc::{AllocError, Global};
 /// The most units of work of a check.
 const MOST_UNITS: u64 = 1 << 40;
 
-/// Whether learnt clauses are units: where there is a limit.
-pub(crate) fn counts_learnt(settings: &Settings) -> bool
-    ensures { result ≡ not (is_unlimited settings.now.units) }
+/// Whether learnt clauses are units: where there is a limit, or clauses are forgotten, which a search does only after a unit.
+pub(crate) fn counts_learnt(settings: &Settings, forgets: bool) -> bool
+    ensures { forgets ≡ false → result ≡ not (is_unlimited settings.now.units) }
 {
+    if forgets {
+        return true;
+    }
     settings.units > 0
 }
 

@@ -4,7 +4,7 @@ use Rattle.search_port.specs.State.{Reading, TheoryState, IsGrown}
 use Rattle.search_port.specs.declared.budget.Cause.{Cause}
 use Rattle.flat_stack.specs.Flat.{flat}
 use Rattle.part_clauses.specs.First.{reading_of}
-use Rattle.cdcl_core.specs.Turns.{EndsSearch, NoHook}
+use Rattle.cdcl_core.specs.Turns.{EndsSearch, NoHook, Searches}
 use Rattle.equality_decider.proofs.Deciding.{heard, model_left, none_left}
 use Rattle.equality_decider.proofs.Showing.{AreShown, Laws, are_shown, budget_of}
 use Rattle.equality_decider.proofs.decide.search.Goals as goal
@@ -30,25 +30,27 @@ returns-in-False g c =
     none_left c.flat_says_the_same.ensures s c.args.atoms.now after c.in-False.field-0 grown c.in-False.ensures.outcome
 
 pub unspent-requires-clause-numbers : goal.unspent-requires-clause-numbers
-unspent-requires-clause-numbers g c =
+unspent-requires-clause-numbers g c kept =
     let s = c.args.stack.now in
     let after : TheoryState = g.T.Theory.state c.solve.new.theory in
     let shown : AreShown s c.args.settings.now.units c.args.atoms.now c.solve.new.budget.units =
     are_shown (record { as_written = c.follows_as_written.ensures; by_numbers = c.forces_by_numbers.ensures; in_turn = c.forces_in_turn.ensures; flatly = c.flat_says_the_same.ensures }) s c.args.marks.now
     c.args.atoms.now c.args.store.now c.solve.new.store c.requires.numbered c.requires.first c.laws.ensures c.args.settings.now.units (g.T.Theory.state c.args.theory.now) after c.new-budget.result
     c.solve.new.budget c.requires.reading
-    (budget_of c.args.settings.now.units c.new-budget.result c.units_within-limit.result _ c.new-budget.ensures c.units_within-limit.ensures c.counts_learnt.ensures) c.in-Ended-Units.ensures.run
+    (budget_of c.args.settings.now.units c.new-budget.result c.units_within-limit.result _ c.new-budget.ensures c.units_within-limit.ensures (c.counts_learnt.ensures kept))
+    (subst (λ v. Searches v c.args.store.now c.solve.new.store (g.T.Theory.state c.args.theory.now) after c.new-budget.result c.solve.new.budget) kept c.in-Ended-Units.ensures.run)
     (subst (λ (e : Cause). EndsSearch after.reading c.solve.new.budget NoHook e) c.in-Ended-Units.field-0-is c.in-Ended-Units.ensures.outcome) in
     shown.numbers_of
 
 pub unspent-requires-clause-spent : goal.unspent-requires-clause-spent
-unspent-requires-clause-spent g c =
+unspent-requires-clause-spent g c kept =
     let s = c.args.stack.now in
     let after : TheoryState = g.T.Theory.state c.solve.new.theory in
     let shown : AreShown s c.args.settings.now.units c.args.atoms.now c.solve.new.budget.units =
     are_shown (record { as_written = c.follows_as_written.ensures; by_numbers = c.forces_by_numbers.ensures; in_turn = c.forces_in_turn.ensures; flatly = c.flat_says_the_same.ensures }) s c.args.marks.now
     c.args.atoms.now c.args.store.now c.solve.new.store c.requires.numbered c.requires.first c.laws.ensures c.args.settings.now.units (g.T.Theory.state c.args.theory.now) after c.new-budget.result
     c.solve.new.budget c.requires.reading
-    (budget_of c.args.settings.now.units c.new-budget.result c.units_within-limit.result _ c.new-budget.ensures c.units_within-limit.ensures c.counts_learnt.ensures) c.in-Ended-Units.ensures.run
+    (budget_of c.args.settings.now.units c.new-budget.result c.units_within-limit.result _ c.new-budget.ensures c.units_within-limit.ensures (c.counts_learnt.ensures kept))
+    (subst (λ v. Searches v c.args.store.now c.solve.new.store (g.T.Theory.state c.args.theory.now) after c.new-budget.result c.solve.new.budget) kept c.in-Ended-Units.ensures.run)
     (subst (λ (e : Cause). EndsSearch after.reading c.solve.new.budget NoHook e) c.in-Ended-Units.field-0-is c.in-Ended-Units.ensures.outcome) in
     shown.shows

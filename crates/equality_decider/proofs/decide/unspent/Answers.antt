@@ -12,5 +12,5 @@ returns c =
     let s = c.args.stack.now in
     let same : c.in_ok-units.units ≡ map (unit_of c.args.atoms.now (depth s.frames)) c.args.budget.now.units =
     c.in_ok-units.ensures ∙ (ap (λ (d : ℕ). map (unit_of c.args.atoms.now d) c.units.result.now) c.depth.ensures ∙ ap (λ (us : List Spent). map (unit_of c.args.atoms.now (depth s.frames)) us) c.units.ensures) in
-    c.in_ok-reports.ensures s.trees s.frames c.args.settings.now.units
-    (subst (λ (us : List ShownUnit). Shows s.trees s.frames c.args.settings.now.units 0 [] (Units us)) (sym same) c.requires.spent)
+    c.in_ok-reports-2.ensures s.trees s.frames c.args.settings.now.units
+    (subst (λ (us : List ShownUnit). Shows s.trees s.frames c.args.settings.now.units 0 [] (Units us)) (sym same) (c.requires.spent c.if-forgets.false))
