@@ -1,0 +1,58 @@
+-- The parts of a stack and their atoms, before anything is told.
+use Rattle.std.proofs.Common.{◌∙◌, ℕ, ◌+◌, ◌<◌, ◌^◌, Bool, List, ◌∷◌, [], length, All, sym, ap, subst}
+use Rattle.std.specs.Prelude.{slice_index_or}
+use Rattle.std.proofs.lemmas.List.{get_or_default}
+use Rattle.std.proofs.lemmas.List.Elements.{All-head, All-tail, All-weaker}
+use Rattle.smt_meaning.specs.declared.values.Sort.{Sort}
+use Rattle.smt_meaning.specs.declared.values.Sort.TheVariants.{Bool as Truths, Int as Ints}
+use Rattle.smt_meaning.specs.declared.clauses.Atom.{Atom}
+use Rattle.smt_meaning.specs.declared.clauses.Atom.TheVariants.{Truth, Same, AtMost}
+use Rattle.smt_meaning.specs.Clause.{atom_places}
+use Rattle.smt_meaning.specs.Signature.{is_bool}
+use Rattle.smt_meaning.specs.Stack.{signature_of}
+use Rattle.smt_meaning.specs.StackCommand.{Stack}
+use Rattle.smt_meaning.specs.TreeShape.{is_linear}
+use Rattle.sort_laws.specs.Laws.{SymbolsAreDeclared}
+use Rattle.scope_stack.specs.Facts.{AreSorts}
+use Rattle.scope_stack.specs.Shown.{IsLawful}
+use Rattle.search_port.specs.Valid.{IsOf}
+use Rattle.flat_stack.specs.Flat.{flat, FlatSaysTheSame}
+use Rattle.stack_atoms.specs.Parts.{IsMarked}
+use Rattle.stack_atoms.specs.Marks.{AreStackParts}
+use Rattle.check_atoms.specs.OfStack.{AreCheckAtoms}
+use Rattle.check_clauses.specs.Shapes.{AreFlags}
+use Rattle.check_clauses.proofs.Parts as Parts
+use Rattle.value_model.specs.Parts.{AreSortedParts}
+use Rattle.closure_log.specs.Seen.{IsOfTerms, IsSetting}
+use Rattle.theory_steps.specs.Begin.{IsTruthOfBool}
+use Rattle.theory_steps.specs.Pairs.{HaveReadable}
+use Rattle.theory_steps.proofs.Marking.{marked_is_of}
+
+module _ (s : Stack) (marks : List Bool) (law : IsLawful s) (parts : AreStackParts s marks) (table : List Atom) (atoms : AreCheckAtoms s marks table) (sorts : List Sort) (sorted : AreSorts (signature_of s.frames) s.trees (length s.trees) sorts) where
+  pub sorted_parts : AreSortedParts (signature_of s.frames) s.trees marks
+  sorted_parts = record {
+    size = atoms.size;
+    sorted = λ p m. (slice_index_or sorts p Truths, Parts.has_sort s marks law parts atoms.size sorts sorted p m);
+    closed = Parts.arguments_marked s marks law parts atoms.size;
+  }
+
+  pub readable : (flags : List Bool) → AreFlags is_linear s.trees (length s.trees) flags → HaveReadable s.trees marks flags
+  readable flags are p m f = Parts.readable s marks law parts atoms.size p m (sym (are.each p (Parts.within s marks law parts atoms.size p m)) ∙ f)
+
+  of_terms_at : (a : Atom) → IsTruthOfBool sorts a → All (IsMarked marks) (atom_places a) → IsOfTerms s a
+  of_terms_at (Truth p) h m =
+      let marked : IsMarked marks p = All-head (IsMarked marks) p [] m in
+      (Parts.within s marks law parts atoms.size p marked, ap is_bool (Parts.bool_sort s marks law parts atoms.size sorts sorted p marked (get_or_default sorts p Truths Ints h.0 ∙ h.1)))
+  of_terms_at (Same i j) h m = (
+    Parts.within s marks law parts atoms.size i (All-head (IsMarked marks) i (j ∷ []) m),
+    Parts.within s marks law parts atoms.size j (All-head (IsMarked marks) j [] (All-tail (IsMarked marks) i (j ∷ []) m)),
+  )
+  of_terms_at (AtMost sum k) h m = tt
+
+  pub setting : SymbolsAreDeclared → FlatSaysTheSame → ((n : ℕ) → n < length table → IsTruthOfBool sorts (slice_index_or table n (Truth 0))) → length s.trees + 2 < 2 ^ 32 → IsSetting s table
+  setting symbols flat_law bools few = record {
+    few = few;
+    of_terms = λ n d less. of_terms_at (slice_index_or table n d) (subst (IsTruthOfBool sorts) (get_or_default table n (Truth 0) d less) (bools n less)) (atoms.over_parts n d less);
+    declared =
+        All-weaker (λ (a : Atom). All (IsMarked marks) (atom_places a)) (IsOf s.trees (flat s.frames)) (λ a m. marked_is_of symbols flat_law s marks sorted_parts a m) table atoms.over_parts;
+  }

@@ -1,0 +1,22 @@
+use Rattle.std.proofs.Common.{rules, ◌≡◌, ◌∙◌, List, length, take, sym, ap, subst}
+use Rattle.literals.specs.Signed.{Signed}
+use Rattle.closure_log.specs.Seen.{state_of}
+use Rattle.closure_log.specs.Places.{ArePlaces}
+use Rattle.theory_steps.proofs.Holding.{ended_same, front_of}
+use Rattle.theory_steps.proofs.held.tell_both.Goals as goal
+
+pub returns-in-Ended-clause-held : goal.returns-in-Ended-clause-held
+returns-in-Ended-clause-held c =
+    let log : c.tell-answer.new.self.log.items ≡ c.args.held.now.closure.log.items =
+    ended_same (state_of c.args.stack.now c.args.atoms.now.atoms c.args.held.now.closure.log.items) (state_of c.args.stack.now c.args.atoms.now.atoms c.tell-answer.new.self.log.items) c.args.literal c.in-Ended.cause
+    c.in-Ended.ensures.answer in
+    let place : c.len-place.result ≡ length c.args.held.now.closure.log.items = search rules in
+    record {
+      told = c.tell-answer.ensures.told;
+      knows = c.undo_to.ensures.stays c.args.atoms.now.atoms (c.tell.ensures.stays c.args.atoms.now.atoms c.requires.held.knows);
+      same =
+          c.undo_to.ensures.undone.log ∙ ap (take c.len-place.result) c.in-Ok.ensures.ok.log
+          ∙ front_of c.args.held.now.bounds.log c.args.literal c.len-place.result (place ∙ ap length (sym c.requires.held.same)) ∙ c.requires.held.same ∙ sym log;
+      size = c.note.ensures.size ∙ c.requires.held.size;
+      told_at = subst (λ (ls : List Signed). ArePlaces ls c.note.new.self.places.items) (sym log) (c.note.ensures.same c.args.held.now.closure.log.items c.requires.held.told_at c.requires.open);
+    }

@@ -1,0 +1,30 @@
+use Rattle.std.proofs.Common.{rules, ◌≡◌, ◌∙◌, ◌+◌, ◌<◌, ◌^◌, true, List, [], length, sym, subst}
+use Rattle.literals.specs.Signed.{Signed}
+use Rattle.closure_log.specs.Places.{ArePlaces}
+use Rattle.theory_steps.proofs.Beginning.{sorted_parts, readable, setting}
+use Rattle.theory_steps.proofs.start.begin.Goals as goal
+
+pub returns : goal.returns
+returns c =
+    let yes : c.are_of_bools.result ≡ true = search rules in
+    let few : length c.args.stack.now.trees + 2 < 2 ^ 32 = search rules in
+    record {
+      parts = sorted_parts c.args.stack.now c.args.marks.now c.laws.ensures c.requires.marks c.args.atoms.now.atoms c.requires.atoms c.sorts.result.now c.sorts.ensures;
+      readable =
+          readable c.args.stack.now c.args.marks.now c.laws.ensures c.requires.marks c.args.atoms.now.atoms c.requires.atoms c.sorts.result.now c.sorts.ensures c.in_ok-readable.readable.items
+          (rw c.terms-2.ensures.trees at c.in_ok-readable.ensures);
+      whole = record {
+        setting =
+            setting c.args.stack.now c.args.marks.now c.laws.ensures c.requires.marks c.args.atoms.now.atoms c.requires.atoms c.sorts.result.now c.sorts.ensures c.symbols_are_declared.ensures
+            c.flat_says_the_same.ensures (c.are_of_bools.ensures yes) few;
+        marked = c.requires.atoms.over_parts;
+        held = record {
+          told = c.in_ok-closure.ensures.told c.args.atoms.now.atoms;
+          knows = c.in_ok-bounds.ensures.knows;
+          same = c.in_ok-bounds.ensures.log ∙ sym c.in_ok-closure.ensures.log;
+          size = c.in_ok-grow.ensures.size ∙ c.len-2.ensures.count;
+          told_at = subst (λ (ls : List Signed). ArePlaces ls c.grow.new.self.places.items) (sym c.in_ok-closure.ensures.log) (c.grow.ensures.told [] c.new-scan.ensures.told);
+        };
+      };
+      log = c.in_ok-closure.ensures.log;
+    }

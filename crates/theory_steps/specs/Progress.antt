@@ -1,0 +1,33 @@
+-- What a search is about, and how far it has come.
+use Rattle.std.specs.Prelude.{◌≡◌, None}
+use Rattle.smt_meaning.specs.Stack.{signature_of}
+use Rattle.search_port.specs.State.{TheoryState}
+use Rattle.search_port.specs.Spending.{Spending}
+use Rattle.search_port.specs.Calls.{Goes}
+use Rattle.linear_forms.specs.Table.{AreForms}
+use Rattle.value_model.specs.Parts.{AreSortedParts}
+use Rattle.closure_log.specs.Seen.{state_of}
+use Rattle.theory_steps.specs.declared.parts.Parts.{Parts}
+use Rattle.theory_steps.specs.declared.parts.Progress.{Progress}
+use Rattle.theory_steps.specs.Numbering.{table_of, IsNumbered, IsWhole}
+use Rattle.theory_steps.specs.Pairs.{HaveReadable}
+
+-- the parts of a stack, and which of them bounds can read
+abbrev pub AreParts : Parts → Type 0
+AreParts p = AreSortedParts (signature_of p.stack.now.frames) p.stack.now.trees p.marks.items × HaveReadable p.stack.now.trees p.marks.items p.readable.items
+
+-- the atoms that are told of, and what was told
+abbrev pub state : Parts → Progress → TheoryState
+state p w = state_of p.stack.now (table_of w.lost w.atoms.atoms) w.held.closure.log.items
+
+-- linear forms of the terms, and what is numbered and held
+abbrev pub IsProgress : Parts → Progress → Type 0
+IsProgress p w = AreForms p.stack.now.trees w.forms × IsNumbered p.stack.now p.marks.items w.lost w.atoms w.held
+
+-- and no atom was lost
+abbrev pub IsUnderWay : Parts → Progress → Type 0
+IsUnderWay p w = AreForms p.stack.now.trees w.forms × IsWhole p.stack.now p.marks.items w.atoms w.held × (w.lost ≡ None)
+
+-- what a call that may spend units leaves
+abbrev pub Went : Parts → Progress → Progress → Spending → Spending → Type 0
+Went p old new b c = IsProgress p new × Goes (state p old) (state p new) b c

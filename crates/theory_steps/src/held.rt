@@ -1,0 +1,148 @@
+//! What was told, to the closure and to the bounds.
+ghost use Rattle.std.specs.Prelude.{◌≡◌, ◌<◌, length, take};
+ghost use Rattle.search_port.specs.State.{IsOpenIn};
+ghost use Rattle.search_port.specs.Calls.{AssertedBy, InferredBy};
+ghost use Rattle.search_port.specs.Spending.{Spending};
+ghost use Rattle.closure_log.specs.Seen.{state_of, IsSetting};
+ghost use Rattle.theory_steps.specs.Held.{IsHeld, IsMet, IsMetBy};
+
+use atom_numbers::AtomNumbers;
+use bound_log::{BoundLog, Report, Reported};
+use closure_log::{ClosureLog, Guide, Scan, infer};
+use flat_stack::flat_says_the_same;
+use literals::Literal;
+use scope_stack::Stack;
+use search_port::{Asserted, Cause, Inferred, Lemma};
+use simplex::PivotLines;
+use std::alloc::Global;
+
+/// The literals told, and what they say of terms and of sums.
+#[derive(Drop)]
+pub struct Held {
+    pub closure: ClosureLog,
+    pub bounds: BoundLog,
+    pub scan: Scan,
+}
+
+/// What a check of the bounds finds.
+#[derive(Drop)]
+pub(crate) enum Met {
+    /// The terms' values meet all bounds.
+    Fits,
+    /// A clause that is false.
+    Conflict(Lemma),
+    /// It didn't come to its end.
+    Ended,
+}
+
+/// Tells one literal more. Where memory is wanting, or a bound leaves the range, it isn't taken.
+pub(crate) fn tell_both(
+    alloc: Global,
+    held: &mut Held,
+    stack: &Stack,
+    atoms: &AtomNumbers,
+    guide: &Guide,
+    literal: Literal,
+) -> Asserted
+    requires setting { IsSetting stack.now atoms.now.atoms }
+    requires held { IsHeld stack.now atoms.now.atoms held.old }
+    requires numbered { literal.atom < length atoms.now.atoms }
+    requires open { IsOpenIn held.old.closure.log.items literal }
+    ensures held { IsHeld stack.now atoms.now.atoms held.new }
+    ensures answer { AssertedBy (state_of stack.now atoms.now.atoms held.old.closure.log.items) (state_of stack.now atoms.now.atoms held.new.closure.log.items) literal result }
+{
+    let place = held.closure.log.len();
+    let Ok(()) = held.bounds.tell(literal) else {
+        return Asserted::Ended(Cause::Memory);
+    };
+    held.scan.note(literal, place);
+    let answer = held.closure.tell(alloc, stack, atoms, guide, literal);
+    match answer {
+        Asserted::Taken => Asserted::Taken,
+        Asserted::Conflict(clause) => Asserted::Conflict(clause),
+        Asserted::Ended(cause) => {
+            held.bounds.undo_to(place);
+            Asserted::Ended(cause)
+        }
+    }
+}
+
+/// Keeps so many of the literals.
+pub(crate) fn undo_both(held: &mut Held, stack: &Stack, atoms: &AtomNumbers, count: usize)
+    requires { IsHeld stack.now atoms.now.atoms held.old }
+    ensures held { IsHeld stack.now atoms.now.atoms held.new }
+    ensures log { held.new.closure.log.items ≡ take count held.old.closure.log.items }
+{
+    held.closure.undo_to(stack, atoms, count);
+    held.bounds.undo_to(count);
+    held.scan.restart();
+}
+
+/// What a report says, without why there is no end.
+fn met_by(report: Report) -> Met
+    ensures { IsMetBy report result }
+{
+    match report {
+        Report::Fits => Met::Fits,
+        Report::Conflict(clause) => Met::Conflict(clause),
+        Report::Range(_) | Report::UnitsSpent | Report::Memory => Met::Ended,
+    }
+}
+
+/// Moves values until all bounds are met, or finds a clause that the bounds break.
+pub(crate) fn meet_bounds(alloc: Global, held: &mut Held, stack: &Stack, atoms: &AtomNumbers) -> Met
+    requires setting { IsSetting stack.now atoms.now.atoms }
+    requires held { IsHeld stack.now atoms.now.atoms held.old }
+    ensures held { IsHeld stack.now atoms.now.atoms held.new }
+    ensures log { held.new.closure.log.items ≡ held.old.closure.log.items }
+    ensures met { IsMet (state_of stack.now atoms.now.atoms held.new.closure.log.items) result }
+{
+    flat_says_the_same();
+    let mut lines = PivotLines {
+        keep: false,
+        lines: Vec::new(alloc),
+    };
+    let Reported { report, pivots: _ } = held.bounds.check(alloc, &mut lines, u64::MAX);
+    met_by(report)
+}
+
+/// A clause that the bounds break over whole numbers, where a row shows one. That it fits says nothing more.
+pub(crate) fn meet_wholes(alloc: Global, held: &Held, stack: &Stack, atoms: &AtomNumbers) -> Met
+    requires setting { IsSetting stack.now atoms.now.atoms }
+    requires held { IsHeld stack.now atoms.now.atoms held.now }
+    ensures { IsMet (state_of stack.now atoms.now.atoms held.now.closure.log.items) result }
+{
+    flat_says_the_same();
+    let Ok(found) = held.bounds.whole_conflict(alloc) else {
+        return Met::Ended;
+    };
+    match found {
+        Some(clause) => Met::Conflict(clause),
+        None => Met::Fits,
+    }
+}
+
+/// What follows from the literals told.
+pub(crate) fn follow(
+    alloc: Global,
+    held: &mut Held,
+    stack: &Stack,
+    atoms: &AtomNumbers,
+    guide: &Guide,
+) -> Inferred
+    requires setting { IsSetting stack.now atoms.now.atoms }
+    requires held { IsHeld stack.now atoms.now.atoms held.old }
+    ensures held { IsHeld stack.now atoms.now.atoms held.new }
+    ensures log { held.new.closure.log.items ≡ held.old.closure.log.items }
+    ensures found { (b c : Spending) → InferredBy (state_of stack.now atoms.now.atoms held.new.closure.log.items) b c result }
+{
+    let found = infer(alloc, &held.closure, &mut held.scan, stack, atoms, guide);
+    match found {
+        Inferred::Quiet => match meet_bounds(alloc, held, stack, atoms) {
+            Met::Fits => Inferred::Quiet,
+            Met::Conflict(clause) => Inferred::Conflict(clause),
+            Met::Ended => Inferred::Ended(Cause::Memory),
+        },
+        other => other,
+    }
+}

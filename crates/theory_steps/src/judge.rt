@@ -1,0 +1,175 @@
+//! What is found between decisions, and where every atom has a truth value.
+ghost use Rattle.std.specs.Prelude.{◌<◌, length};
+ghost use Rattle.search_port.specs.Calls.{CheckedBy, InferredBy};
+ghost use Rattle.theory_steps.specs.Progress.{state, AreParts, IsUnderWay, Went};
+ghost use Rattle.theory_steps.specs.Steps.{IsStep, StepInfers, StepChecks};
+
+use crate::branch::branch;
+use crate::held::{Met, follow, meet_bounds, meet_wholes};
+use crate::model::{Found, find_model};
+use crate::pairs::{go_on_with_pair, next_pair};
+use crate::parts::{Parts, Progress};
+use crate::step::{Step, stays, stop};
+use crate::wanted::want;
+use model_build::Clash;
+use search_port::{Budget, Cause, Checked, Inferred};
+use sum_bounds::FractionalLeaf;
+
+/// What a step comes to between decisions.
+fn inferred(step: Step) -> Inferred
+    ensures { StepInfers step result }
+{
+    match step {
+        Step::Lemmas(lemmas) => Inferred::Lemmas(lemmas),
+        Step::Ended(cause) => Inferred::Ended(cause),
+    }
+}
+
+/// What a step comes to in a last check.
+fn checked(step: Step) -> Checked
+    ensures { StepChecks step result }
+{
+    match step {
+        Step::Lemmas(lemmas) => Checked::Lemmas(lemmas),
+        Step::Ended(cause) => Checked::Ended(cause),
+    }
+}
+
+/// Goes on from a term whose value isn't whole: a row may show that no whole numbers do, else there is a branch.
+fn make_whole(
+    parts: &Parts<'_>,
+    progress: &mut Progress,
+    budget: &mut Budget,
+    leaf: FractionalLeaf,
+) -> Checked
+    requires parts { AreParts parts.now }
+    requires under_way { IsUnderWay parts.now progress.old }
+    ensures went { Went parts.now progress.old progress.new budget.old budget.new }
+    ensures found { CheckedBy (state parts.now progress.new) budget.old budget.new result }
+{
+    let met = meet_wholes(parts.alloc, &progress.held, parts.stack, &progress.atoms);
+    stays(parts, progress, budget);
+    match met {
+        Met::Fits => {
+            let step = branch(parts, progress, budget, leaf);
+            checked(step)
+        }
+        Met::Conflict(clause) => Checked::Conflict(clause),
+        Met::Ended => Checked::Ended(Cause::Memory),
+    }
+}
+
+/// Goes on with the newest pair whose equality is to get a number.
+fn go_on(parts: &Parts<'_>, progress: &mut Progress, budget: &mut Budget) -> Step
+    requires parts { AreParts parts.now }
+    requires under_way { IsUnderWay parts.now progress.old }
+    ensures went { Went parts.now progress.old progress.new budget.old budget.new }
+    ensures step { IsStep (state parts.now progress.new) budget.old budget.new result }
+{
+    match next_pair(parts, &mut progress.pairs, &progress.atoms) {
+        Some(pair) => go_on_with_pair(parts, progress, budget, pair),
+        None => stop(parts, progress, budget),
+    }
+}
+
+/// Goes on after two applications were found to clash.
+fn separate(
+    parts: &Parts<'_>,
+    progress: &mut Progress,
+    budget: &mut Budget,
+    clash: Clash,
+) -> Checked
+    requires parts { AreParts parts.now }
+    requires under_way { IsUnderWay parts.now progress.old }
+    requires first { clash.first < length parts.now.stack.now.trees }
+    requires second { clash.second < length parts.now.stack.now.trees }
+    ensures went { Went parts.now progress.old progress.new budget.old budget.new }
+    ensures found { CheckedBy (state parts.now progress.new) budget.old budget.new result }
+{
+    let wanted = want(&mut progress.pairs, parts.stack, clash);
+    stays(parts, progress, budget);
+    match wanted {
+        Ok(()) => {
+            let step = go_on(parts, progress, budget);
+            checked(step)
+        }
+        Err(_) => Checked::Ended(Cause::Memory),
+    }
+}
+
+/// Looks for a model, where the values that meet all bounds are whole.
+fn try_model(parts: &Parts<'_>, progress: &mut Progress, budget: &mut Budget) -> Checked
+    requires parts { AreParts parts.now }
+    requires under_way { IsUnderWay parts.now progress.old }
+    ensures went { Went parts.now progress.old progress.new budget.old budget.new }
+    ensures found { CheckedBy (state parts.now progress.new) budget.old budget.new result }
+{
+    stays(parts, progress, budget);
+    let found = find_model(
+        parts.alloc,
+        parts.stack,
+        &parts.marks,
+        &progress.atoms,
+        &progress.held,
+    );
+    match found {
+        Ok(Found::Fine(tables)) => Checked::Fine(tables),
+        Ok(Found::Apart(clash)) => separate(parts, progress, budget, clash),
+        Ok(Found::Unfit) => Checked::Ended(Cause::Memory),
+        Err(_) => Checked::Ended(Cause::Memory),
+    }
+}
+
+/// A last check: the bounds are to be met first.
+pub(crate) fn judge(parts: &Parts<'_>, progress: &mut Progress, budget: &mut Budget) -> Checked
+    requires parts { AreParts parts.now }
+    requires under_way { IsUnderWay parts.now progress.old }
+    ensures went { Went parts.now progress.old progress.new budget.old budget.new }
+    ensures found { CheckedBy (state parts.now progress.new) budget.old budget.new result }
+{
+    let met = meet_bounds(
+        parts.alloc,
+        &mut progress.held,
+        parts.stack,
+        &progress.atoms,
+    );
+    stays(parts, progress, budget);
+    match met {
+        Met::Fits => match progress.held.bounds.first_fraction() {
+            Some(leaf) => make_whole(parts, progress, budget, leaf),
+            None => try_model(parts, progress, budget),
+        },
+        Met::Conflict(clause) => Checked::Conflict(clause),
+        Met::Ended => Checked::Ended(Cause::Memory),
+    }
+}
+
+/// Clauses that follow between decisions, or an atom more that was wanted.
+pub(crate) fn infer_more(
+    parts: &Parts<'_>,
+    progress: &mut Progress,
+    budget: &mut Budget,
+) -> Inferred
+    requires parts { AreParts parts.now }
+    requires under_way { IsUnderWay parts.now progress.old }
+    ensures went { Went parts.now progress.old progress.new budget.old budget.new }
+    ensures found { InferredBy (state parts.now progress.new) budget.old budget.new result }
+{
+    match next_pair(parts, &mut progress.pairs, &progress.atoms) {
+        Some(pair) => {
+            let step = go_on_with_pair(parts, progress, budget, pair);
+            inferred(step)
+        }
+        None => {
+            let found = follow(
+                parts.alloc,
+                &mut progress.held,
+                parts.stack,
+                &progress.atoms,
+                &parts.guide,
+            );
+            stays(parts, progress, budget);
+            found
+        }
+    }
+}

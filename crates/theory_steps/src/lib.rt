@@ -1,0 +1,22 @@
+//! What a search over equality and whole numbers does at each call: literals are told to a closure of congruence and to bounds of sums, atoms get numbers on the way,
+//! and a model of both is evaluated before it is given.
+#![tactic(auto)]
+
+mod branch;
+mod calls;
+mod constant;
+mod held;
+mod judge;
+mod model;
+mod numbering;
+mod pairs;
+mod parts;
+mod start;
+mod step;
+mod values;
+mod wanted;
+
+pub use calls::{check, look, tell, undo_to};
+pub use held::Held;
+pub use parts::{Pair, Parts, Progress};
+pub use start::{Begun, begin};

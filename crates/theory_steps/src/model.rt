@@ -1,0 +1,99 @@
+//! A model of what was told, from values, which is evaluated before it is given.
+ghost use Rattle.std.specs.Prelude.{◌≡◌, length, IfOk};
+ghost use Rattle.smt_meaning.specs.Interpretation.{AreTablesFor};
+ghost use Rattle.smt_meaning.specs.Stack.{signature_of};
+ghost use Rattle.model_build.specs.Building.{AreGiven};
+ghost use Rattle.value_model.specs.Parts.{AreSortedParts};
+ghost use Rattle.theory_steps.specs.Numbering.{IsWhole};
+ghost use Rattle.theory_steps.specs.Found.{IsFound};
+
+use crate::held::Held;
+use crate::values::values_of;
+use atom_numbers::AtomNumbers;
+use flat_stack::flat_says_the_same;
+use log_value::{Verdict, tables_make_true};
+use model_build::{Clash, Given};
+use scope_stack::Stack;
+use smt_meaning::Interp;
+use std::alloc::{AllocError, Global};
+use value_model::{Modelled, PlaceValues, given_values, model_from};
+
+/// What is found where the values meet all bounds.
+#[derive(Drop)]
+pub(crate) enum Found {
+    /// Tables that make each literal told true.
+    Fine(Interp),
+    /// Two applications that are given different values, while no table can tell their arguments apart.
+    Apart(Clash),
+    /// The values make a literal false, or leave the range.
+    Unfit,
+}
+
+/// What the terms are given. An `Err` is for want of memory.
+fn given_by(
+    alloc: Global,
+    stack: &Stack,
+    marks: &[bool],
+    atoms: &AtomNumbers,
+    held: &Held,
+) -> Result<Vec<Given>, AllocError>
+    requires parts { AreSortedParts (signature_of stack.now.frames) stack.now.trees marks.now }
+    requires whole { IsWhole stack.now marks.now atoms.now held.now }
+    ensures { IfOk result (λ given. AreGiven (signature_of stack.now.frames) stack.now.trees given.items) }
+{
+    let chosen = values_of(alloc, stack, atoms, held)?;
+    let values = PlaceValues {
+        truths: &chosen.truths,
+        numbers: &chosen.numbers,
+        elements: &chosen.elements,
+    };
+    given_values(alloc, stack, marks, stack.sorts(), &values)
+}
+
+/// Tables that make each literal told true, if these do. An `Err` is for want of memory.
+fn evaluate(
+    alloc: Global,
+    stack: &Stack,
+    marks: &[bool],
+    atoms: &AtomNumbers,
+    held: &Held,
+    tables: Interp,
+) -> Result<Found, AllocError>
+    requires size { length marks.now ≡ length stack.now.trees }
+    requires whole { IsWhole stack.now marks.now atoms.now held.now }
+    requires tables { AreTablesFor (signature_of stack.now.frames) tables }
+    ensures { IfOk result (IsFound stack.now atoms.now.atoms held.now.closure.log.items) }
+{
+    flat_says_the_same();
+    let verdict = tables_make_true(
+        alloc,
+        stack.terms(),
+        marks,
+        atoms,
+        &held.closure.log,
+        &tables,
+    )?;
+    match verdict {
+        Verdict::AllTrue => Ok(Found::Fine(tables)),
+        _ => Ok(Found::Unfit),
+    }
+}
+
+/// Tables that make each literal told true, if the values give them. An `Err` is for want of memory.
+pub(crate) fn find_model(
+    alloc: Global,
+    stack: &Stack,
+    marks: &[bool],
+    atoms: &AtomNumbers,
+    held: &Held,
+) -> Result<Found, AllocError>
+    requires parts { AreSortedParts (signature_of stack.now.frames) stack.now.trees marks.now }
+    requires whole { IsWhole stack.now marks.now atoms.now held.now }
+    ensures { IfOk result (IsFound stack.now atoms.now.atoms held.now.closure.log.items) }
+{
+    let given = given_by(alloc, stack, marks, atoms, held)?;
+    match model_from(alloc, stack, &given)? {
+        Modelled::Clash(clash) => Ok(Found::Apart(clash)),
+        Modelled::Tables(tables) => evaluate(alloc, stack, marks, atoms, held, tables),
+    }
+}

@@ -1,0 +1,119 @@
+//! Atoms that get numbers during the search, each a unit of work.
+ghost use Rattle.std.specs.Prelude.{◌≡◌, ◌+◌, ◌<◌, ◌≤◌, ◌∷◌, ◌++◌, [], length, take, Contains, IfErr, OnOk, OnErr, None};
+ghost use Rattle.search_port.specs.Calls.{EndsBy};
+ghost use Rattle.bound_log.specs.Atoms.{KnowsOneMore};
+ghost use Rattle.theory_steps.specs.Numbering.{atom_of, IsNew, IsProperAtom, IsWhole};
+ghost use Rattle.theory_steps.specs.Progress.{state, IsUnderWay, Went};
+
+use crate::held::Held;
+use crate::parts::{Pair, Parts, Progress};
+use atom_numbers::AtomNumbers;
+use atom_table::CompactAtom;
+use bound_log::BoundLog;
+use closure_log::what_was_told_stays;
+use search_port::{Budget, Cause, Spent};
+use smt_meaning::Summand;
+use std::alloc::{AllocError, Global};
+
+/// That a sum is at most a threshold.
+#[derive(Drop)]
+pub(crate) struct NewBound {
+    pub(crate) sum: Vec<Summand>,
+    pub(crate) threshold: i128,
+}
+
+/// An atom that is to get a number.
+#[derive(Drop)]
+pub(crate) enum NewAtom {
+    Equality(Pair),
+    Bound(NewBound),
+}
+
+/// Numbers an atom.
+fn number(atoms: &mut AtomNumbers, atom: &NewAtom) -> Result<(), AllocError>
+    requires new { Contains atoms.old.atoms (atom_of atom.now) → ⊥ }
+    ensures ok { OnOk result (atoms.new.atoms ≡ atoms.old.atoms ++ atom_of atom.now ∷ []) }
+    ensures err { OnErr result (atoms.new.atoms ≡ atoms.old.atoms) }
+{
+    match atom {
+        NewAtom::Equality(pair) => {
+            let _number = atoms.number(CompactAtom::Same(pair.left, pair.right))?;
+            Ok(())
+        }
+        NewAtom::Bound(bound) => {
+            let _number = atoms.number_bound(&bound.sum, bound.threshold)?;
+            Ok(())
+        }
+    }
+}
+
+/// Makes what an atom says of sums known.
+fn know(alloc: Global, bounds: &mut BoundLog, atom: &NewAtom) -> Result<(), AllocError>
+    requires { IsProperAtom atom.now }
+    ensures knows { OnOk result (KnowsOneMore bounds.old (atom_of atom.now) bounds.new) }
+    ensures log { bounds.new.log ≡ bounds.old.log }
+{
+    match atom {
+        NewAtom::Equality(_) => bounds.know_other(),
+        NewAtom::Bound(bound) => {
+            let Ok(()) = bounds.know_bound(alloc, &bound.sum, bound.threshold) else {
+                return Err(AllocError);
+            };
+            Ok(())
+        }
+    }
+}
+
+/// Numbers an atom, and makes it known to what is held. After an `Err` the atom may have a number without being known.
+fn add(
+    parts: &Parts<'_>,
+    atoms: &mut AtomNumbers,
+    held: &mut Held,
+    atom: &NewAtom,
+) -> Result<(), AllocError>
+    requires whole { IsWhole parts.now.stack.now parts.now.marks.items atoms.old held.old }
+    requires new { Contains atoms.old.atoms (atom_of atom.now) → ⊥ }
+    requires of_stack { IsNew parts.now.stack.now parts.now.marks.items atom.now }
+    ensures ok { OnOk result (atoms.new.atoms ≡ atoms.old.atoms ++ atom_of atom.now ∷ []) }
+    ensures whole { OnOk result (IsWhole parts.now.stack.now parts.now.marks.items atoms.new held.new) }
+    ensures front { take (length atoms.old.atoms) atoms.new.atoms ≡ atoms.old.atoms }
+    ensures within { length atoms.old.atoms ≤ length atoms.new.atoms }
+    ensures log { held.new.closure.log.items ≡ held.old.closure.log.items }
+{
+    what_was_told_stays();
+    number(atoms, atom)?;
+    know(parts.alloc, &mut held.bounds, atom)?;
+    held.scan.grow(atoms.len())?;
+    Ok(())
+}
+
+/// Numbers an atom, a unit of work. Where it can't be kept, for want of memory, nothing is told or numbered from then on.
+pub(crate) fn number_new(
+    parts: &Parts<'_>,
+    progress: &mut Progress,
+    budget: &mut Budget,
+    atom: &NewAtom,
+) -> Result<(), Cause>
+    requires under_way { IsUnderWay parts.now progress.old }
+    requires new { Contains progress.old.atoms.atoms (atom_of atom.now) → ⊥ }
+    requires of_stack { IsNew parts.now.stack.now parts.now.marks.items atom.now }
+    ensures went { Went parts.now progress.old progress.new budget.old budget.new }
+    ensures kept { OnOk result (progress.new.lost ≡ None) }
+    ensures added { OnOk result (progress.new.atoms.atoms ≡ progress.old.atoms.atoms ++ atom_of atom.now ∷ []) }
+    ensures spent { OnOk result (length budget.new.units ≡ length budget.old.units + 1) }
+    ensures ended { IfErr result (λ e. EndsBy (state parts.now progress.new) budget.new e) }
+{
+    if budget.room() == 0 {
+        return Err(Cause::Units);
+    }
+    let count = progress.atoms.len() as u32;
+    let Ok(()) = add(parts, &mut progress.atoms, &mut progress.held, atom) else {
+        progress.lost = Some(count);
+        return Err(Cause::Memory);
+    };
+    let Ok(()) = budget.spend(Spent::Numbered(count)) else {
+        progress.lost = Some(count);
+        return Err(Cause::Memory);
+    };
+    Ok(())
+}

@@ -1,0 +1,220 @@
+//! Equalities of Ints that get numbers, after both bounds of the difference.
+ghost use Rattle.std.specs.Prelude.{◌≡◌, ◌<◌, length, true, false, All, Contains, IfSome, slice_index_or};
+ghost use Rattle.number_meaning.specs.Whole.{InRange};
+ghost use Rattle.smt_meaning.specs.declared.values.Sort.TheVariants.{Bool as Truths, Int as Ints};
+ghost use Rattle.smt_meaning.specs.declared.clauses.Atom.TheVariants.{AtMost, Same};
+ghost use Rattle.smt_meaning.specs.Term.{tree_at};
+ghost use Rattle.smt_meaning.specs.Atoms.{at_most_atom};
+ghost use Rattle.atom_table.specs.Numbers.{IsAt};
+ghost use Rattle.linear_forms.specs.Table.{AreForms};
+ghost use Rattle.bound_log.specs.Growth.{IsProper};
+ghost use Rattle.theory_steps.specs.Pairs.{IsFit, IsSought, IsWanted};
+ghost use Rattle.theory_steps.specs.Progress.{state, AreParts, IsUnderWay, Went};
+ghost use Rattle.theory_steps.specs.Steps.{IsStep};
+
+use crate::numbering::{NewAtom, NewBound, number_new};
+use crate::parts::{Pair, Parts, Progress};
+use crate::step::{Step, go_on_with_bound, is_marked_place, stop};
+use atom_numbers::AtomNumbers;
+use atom_table::CompactAtom;
+use branch_lemmas::tie_lemmas;
+use flat_stack::flat_says_the_same;
+use linear_forms::LinearForms;
+use pair_bounds::at_most;
+use search_port::{Budget, Cause};
+use smt_meaning::{Sort, Summand, TermId};
+use sort_laws::symbols_are_declared;
+use term_laws::value_has_its_sort;
+
+/// The bound that one term is at most another.
+#[derive(Drop)]
+pub(crate) enum Sought {
+    /// It has this number.
+    Number(u32),
+    /// It has none.
+    New(NewBound),
+    /// Folding it leaves the range, or memory is wanting.
+    Outside,
+}
+
+/// Whether the equality of two terms has a number, in one order or the other.
+fn is_numbered(atoms: &AtomNumbers, pair: Pair) -> bool
+    ensures { result ≡ false → Contains atoms.now.atoms (Same pair.left pair.right) → ⊥ }
+{
+    if atoms
+        .find(CompactAtom::Same(pair.left, pair.right))
+        .is_some()
+    {
+        return true;
+    }
+    atoms
+        .find(CompactAtom::Same(pair.right, pair.left))
+        .is_some()
+}
+
+/// Whether a listed sort is Int.
+fn is_int(sorts: &[Sort], place: TermId) -> bool
+    ensures { result ≡ true → slice_index_or sorts.now place Truths ≡ Ints }
+{
+    if place as usize >= sorts.len() {
+        return false;
+    }
+    sorts[place as usize] == Sort::Int
+}
+
+/// Whether a term is a marked Int whose bounds have its value.
+fn is_fit(parts: &Parts<'_>, place: TermId) -> bool
+    requires { AreParts parts.now }
+    ensures { result ≡ true → IsFit parts.now.stack.now parts.now.marks.items place }
+{
+    let sorts = parts.stack.sorts();
+    if !is_marked_place(&parts.marks, place) {
+        return false;
+    }
+    if !is_marked_place(&parts.readable, place) {
+        return false;
+    }
+    is_int(sorts, place)
+}
+
+/// The number of a bound, or the bound.
+fn look_up(atoms: &AtomNumbers, sum: Vec<Summand>, threshold: i128) -> Sought
+    requires proper { All IsProper sum.items }
+    requires in_range { InRange threshold }
+    ensures { IsSought atoms.now.atoms (AtMost sum.items threshold) result }
+{
+    match atoms.find_bound(&sum, threshold) {
+        Some(number) => Sought::Number(number),
+        None => Sought::New(NewBound { sum, threshold }),
+    }
+}
+
+/// The bound that one term is at most another.
+fn seek(
+    parts: &Parts<'_>,
+    forms: &mut LinearForms,
+    atoms: &AtomNumbers,
+    left: TermId,
+    right: TermId,
+) -> Sought
+    requires forms { AreForms parts.now.stack.now.trees forms.old }
+    requires left { left < length parts.now.stack.now.trees }
+    requires right { right < length parts.now.stack.now.trees }
+    ensures sought { IsSought atoms.now.atoms (at_most_atom parts.now.stack.now.trees (tree_at parts.now.stack.now.trees left) (tree_at parts.now.stack.now.trees right)) result }
+    ensures same { forms.new ≡ forms.old }
+{
+    let _known = parts.stack.terms();
+    let mut sum = Vec::new(parts.alloc);
+    match at_most(forms, left, right, &mut sum) {
+        Err(_) => Sought::Outside,
+        Ok(threshold) => look_up(atoms, sum, threshold),
+    }
+}
+
+/// Numbers the equality of two Ints that have both bounds of their difference, and ties it to them.
+fn tie(
+    parts: &Parts<'_>,
+    progress: &mut Progress,
+    budget: &mut Budget,
+    pair: Pair,
+    low: u32,
+    high: u32,
+) -> Step
+    requires parts { AreParts parts.now }
+    requires under_way { IsUnderWay parts.now progress.old }
+    requires wanted { IsWanted parts.now.stack.now parts.now.marks.items progress.old.atoms.atoms pair }
+    requires low { IsAt progress.old.atoms.atoms low (at_most_atom parts.now.stack.now.trees (tree_at parts.now.stack.now.trees pair.left) (tree_at parts.now.stack.now.trees pair.right)) }
+    requires high { IsAt progress.old.atoms.atoms high (at_most_atom parts.now.stack.now.trees (tree_at parts.now.stack.now.trees pair.right) (tree_at parts.now.stack.now.trees pair.left)) }
+    ensures went { Went parts.now progress.old progress.new budget.old budget.new }
+    ensures step { IsStep (state parts.now progress.new) budget.old budget.new result }
+{
+    symbols_are_declared();
+    flat_says_the_same();
+    value_has_its_sort();
+    let same = progress.atoms.len() as u32;
+    let atom = NewAtom::Equality(pair);
+    match number_new(parts, progress, budget, &atom) {
+        Err(cause) => Step::Ended(cause),
+        Ok(()) => {
+            let _few = progress.atoms.len();
+            match tie_lemmas(parts.alloc, same, low, high) {
+                Ok(lemmas) => Step::Lemmas(lemmas),
+                Err(_) => Step::Ended(Cause::Memory),
+            }
+        }
+    }
+}
+
+/// Whether a pair's equality may get a number, and has none.
+fn is_wanted(parts: &Parts<'_>, atoms: &AtomNumbers, pair: Pair) -> bool
+    requires { AreParts parts.now }
+    ensures { result ≡ true → IsWanted parts.now.stack.now parts.now.marks.items atoms.now.atoms pair }
+{
+    if !is_fit(parts, pair.left) {
+        return false;
+    }
+    if !is_fit(parts, pair.right) {
+        return false;
+    }
+    !is_numbered(atoms, pair)
+}
+
+/// The newest pair whose equality is to get a number; newer ones are dropped.
+pub(crate) fn next_pair(
+    parts: &Parts<'_>,
+    pairs: &mut Vec<Pair>,
+    atoms: &AtomNumbers,
+) -> Option<Pair>
+    requires { AreParts parts.now }
+    ensures { IfSome result (IsWanted parts.now.stack.now parts.now.marks.items atoms.now.atoms) }
+{
+    for _turn in 0..pairs.len() {
+        let Some(pair) = pairs.last() else {
+            return None;
+        };
+        let pair = *pair;
+        if is_wanted(parts, atoms, pair) {
+            return Some(pair);
+        }
+        let _ = pairs.pop();
+    }
+    None
+}
+
+/// Goes on with the next atom of a pair: the bounds of its difference, and then its equality, which is tied to them.
+pub(crate) fn go_on_with_pair(
+    parts: &Parts<'_>,
+    progress: &mut Progress,
+    budget: &mut Budget,
+    pair: Pair,
+) -> Step
+    requires parts { AreParts parts.now }
+    requires under_way { IsUnderWay parts.now progress.old }
+    requires wanted { IsWanted parts.now.stack.now parts.now.marks.items progress.old.atoms.atoms pair }
+    ensures went { Went parts.now progress.old progress.new budget.old budget.new }
+    ensures step { IsStep (state parts.now progress.new) budget.old budget.new result }
+{
+    let low = match seek(
+        parts,
+        &mut progress.forms,
+        &progress.atoms,
+        pair.left,
+        pair.right,
+    ) {
+        Sought::Number(low) => low,
+        Sought::New(bound) => return go_on_with_bound(parts, progress, budget, bound),
+        Sought::Outside => return stop(parts, progress, budget),
+    };
+    let high = match seek(
+        parts,
+        &mut progress.forms,
+        &progress.atoms,
+        pair.right,
+        pair.left,
+    ) {
+        Sought::Number(high) => high,
+        Sought::New(bound) => return go_on_with_bound(parts, progress, budget, bound),
+        Sought::Outside => return stop(parts, progress, budget),
+    };
+    tie(parts, progress, budget, pair, low, high)
+}

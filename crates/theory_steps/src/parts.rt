@@ -1,0 +1,39 @@
+//! What a search is about, and what it keeps.
+use crate::held::Held;
+use atom_numbers::AtomNumbers;
+use closure_log::Guide;
+use linear_forms::LinearForms;
+use scope_stack::Stack;
+use smt_meaning::TermId;
+use std::alloc::Global;
+
+/// The parts of a stack.
+#[derive(Drop)]
+pub struct Parts<'s> {
+    pub alloc: Global,
+    pub stack: &'s Stack,
+    /// Which terms are parts of the assertions, by their places.
+    pub marks: Vec<bool>,
+    /// Which terms are linear, with their leaves among the terms.
+    pub readable: Vec<bool>,
+    pub guide: Guide,
+}
+
+/// Two Ints whose equality is to get a number.
+#[derive(Clone, Copy, PartialEq, Eq, Debug, Drop)]
+pub struct Pair {
+    pub left: TermId,
+    pub right: TermId,
+}
+
+/// How far a search over the parts has come.
+#[derive(Drop)]
+pub struct Progress {
+    pub forms: LinearForms,
+    pub atoms: AtomNumbers,
+    /// How many atoms had numbers before one that couldn't be kept, for want of memory.
+    pub lost: Option<u32>,
+    pub held: Held,
+    /// Pairs whose equalities are to get numbers.
+    pub pairs: Vec<Pair>,
+}

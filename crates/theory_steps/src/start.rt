@@ -1,0 +1,137 @@
+//! What a search begins with, before anything is told.
+ghost use Rattle.std.specs.Prelude.{◌≡◌, ℕ, ◌<◌, [], true, length, All, IfOk, OnOk, slice_index_or};
+ghost use Rattle.smt_meaning.specs.declared.values.Sort.TheVariants.{Bool as Truths, Int as Ints};
+ghost use Rattle.search_port.specs.State.{atom_at};
+ghost use Rattle.stack_atoms.specs.Marks.{AreStackParts};
+ghost use Rattle.check_atoms.specs.Numbering.{IsNormal};
+ghost use Rattle.check_atoms.specs.OfStack.{AreCheckAtoms};
+ghost use Rattle.bound_log.specs.Atoms.{Knows, KnowsOneMore};
+ghost use Rattle.theory_steps.specs.Begin.{IsOfBool, IsTruthOfBool, IsBegun};
+
+use crate::held::Held;
+use atom_numbers::{AtomNumbers, NumberedAtom};
+use bound_log::BoundLog;
+use check_clauses::linear_terms;
+use closure_log::{ClosureLog, Guide, Scan};
+use flat_stack::flat_says_the_same;
+use scope_stack::Stack;
+use smt_meaning::Sort;
+use sort_laws::symbols_are_declared;
+use std::alloc::{AllocError, Global};
+
+/// What a search begins with.
+#[derive(Drop)]
+pub struct Begun {
+    /// Which terms are linear, with their leaves among the terms.
+    pub readable: Vec<bool>,
+    pub guide: Guide,
+    pub held: Held,
+}
+
+/// Makes the atom of the next number known to bounds.
+fn learn(
+    alloc: Global,
+    stack: &Stack,
+    atoms: &AtomNumbers,
+    bounds: &mut BoundLog,
+    number: u32,
+) -> Result<(), AllocError>
+    requires numbered { number < length atoms.now.atoms }
+    requires normal { All (IsNormal (length stack.now.trees)) atoms.now.atoms }
+    ensures knows { OnOk result (KnowsOneMore bounds.old (atom_at atoms.now.atoms number) bounds.new) }
+    ensures log { bounds.new.log ≡ bounds.old.log }
+{
+    let _known = stack.terms();
+    match atoms.atom(number) {
+        NumberedAtom::Truth(_) | NumberedAtom::Same(_, _) => bounds.know_other(),
+        NumberedAtom::Bound(bound) => {
+            match bounds.know_bound(alloc, atoms.sum(bound.sum), bound.threshold) {
+                Ok(()) => Ok(()),
+                Err(_) => Err(AllocError),
+            }
+        }
+    }
+}
+
+/// Bounds that know all atoms, and no literal. An `Err` is for want of memory, or where a row leaves the range.
+fn bounds_of(alloc: Global, stack: &Stack, atoms: &AtomNumbers) -> Result<BoundLog, AllocError>
+    requires normal { All (IsNormal (length stack.now.trees)) atoms.now.atoms }
+    ensures knows { IfOk result (λ b. Knows atoms.now.atoms b) }
+    ensures log { IfOk result (λ b. b.log ≡ []) }
+{
+    let mut bounds = BoundLog::new(alloc);
+    for number in 0..atoms.len() {
+        learn(alloc, stack, atoms, &mut bounds, number as u32)?;
+    }
+    Ok(bounds)
+}
+
+/// Whether a sort is that of Bools.
+fn is_bool(sorts: &[Sort], place: u32) -> bool
+    ensures { result ≡ true → (place < length sorts.now) × (slice_index_or sorts.now place Ints ≡ Truths) }
+{
+    if place as usize >= sorts.len() {
+        return false;
+    }
+    sorts[place as usize] == Sort::Bool
+}
+
+/// Whether an atom is no truth, or that of a Bool.
+fn is_of_bool(sorts: &[Sort], atom: NumberedAtom) -> bool
+    ensures { result ≡ true → IsOfBool sorts.now atom }
+{
+    match atom {
+        NumberedAtom::Truth(place) => is_bool(sorts, place),
+        NumberedAtom::Same(_, _) | NumberedAtom::Bound(_) => true,
+    }
+}
+
+/// Whether the truths that have numbers are of Bools.
+fn are_of_bools(sorts: &[Sort], atoms: &AtomNumbers) -> bool
+    ensures { result ≡ true → (n : ℕ) → n < length atoms.now.atoms → IsTruthOfBool sorts.now (atom_at atoms.now.atoms n) }
+{
+    for number in 0..atoms.len() {
+        if !is_of_bool(sorts, atoms.atom(number as u32)) {
+            return false;
+        }
+    }
+    true
+}
+
+/// Nothing is told of the parts of a stack and their atoms. An `Err` is for want of memory, or where a row of a sum leaves the range; a stack of 2^32 - 3 terms or
+/// more leaves none.
+pub fn begin(
+    alloc: Global,
+    stack: &Stack,
+    marks: &[bool],
+    atoms: &AtomNumbers,
+) -> Result<Begun, AllocError>
+    requires marks { AreStackParts stack.now marks.now }
+    requires atoms { AreCheckAtoms stack.now marks.now atoms.now.atoms }
+    ensures { IfOk result (IsBegun stack.now marks.now atoms.now) }
+{
+    stack.laws();
+    symbols_are_declared();
+    flat_says_the_same();
+    if stack.terms().len() >= u32::MAX - 2 {
+        return Err(AllocError);
+    }
+    if !are_of_bools(stack.sorts(), atoms) {
+        return Err(AllocError);
+    }
+    let readable = linear_terms(alloc, stack.terms())?;
+    let guide = Guide::new(alloc, stack)?;
+    let closure = ClosureLog::new(alloc, stack)?;
+    let bounds = bounds_of(alloc, stack, atoms)?;
+    let mut scan = Scan::new(alloc);
+    scan.grow(atoms.len())?;
+    Ok(Begun {
+        readable,
+        guide,
+        held: Held {
+            closure,
+            bounds,
+            scan,
+        },
+    })
+}

@@ -1,0 +1,114 @@
+//! Values of the parts, as the closure and the bounds have them.
+ghost use Rattle.std.specs.Prelude.{◌≡◌, ◌+◌, ◌<◌, ◌≤◌, ◌^◌, length, All, IfOk};
+ghost use Rattle.literals.specs.Signed.{Signed};
+ghost use Rattle.congruence.specs.Recorded.{IsRecorded};
+ghost use Rattle.theory_steps.specs.Held.{IsHeld};
+
+use crate::held::Held;
+use atom_numbers::{AtomNumbers, NumberedAtom};
+use bound_log::BoundLog;
+use congruence::Congruence;
+use literals::Literal;
+use scope_stack::Stack;
+use std::alloc::{AllocError, Global};
+
+/// A value for each place, by sort.
+#[derive(Drop)]
+pub(crate) struct Chosen {
+    pub(crate) truths: Vec<bool>,
+    pub(crate) numbers: Vec<i128>,
+    pub(crate) elements: Vec<u32>,
+}
+
+/// The number of the class of each term. An `Err` is for want of memory.
+fn classes(alloc: Global, congruence: &Congruence, count: u32) -> Result<Vec<u32>, AllocError>
+    requires recorded { IsRecorded congruence.now }
+    requires every { count + 2 ≤ length congruence.now.closure.graph }
+    requires few { count + 2 < 2 ^ 32 }
+    ensures { IfOk result (λ elements. length elements.items ≡ count) }
+{
+    let mut elements = Vec::new(alloc);
+    for place in 0..count {
+        elements.push(congruence.closure.class_of(place + 2))?;
+    }
+    Ok(elements)
+}
+
+/// The value of a term's variable where it is whole, and else the number of its class.
+fn number_of(bounds: &BoundLog, place: u32, class: u32) -> i128 {
+    match bounds.value(place) {
+        Some(value) => {
+            if value.is_whole() {
+                value.numerator()
+            } else {
+                class as i128
+            }
+        }
+        None => class as i128,
+    }
+}
+
+/// A number for each term. An `Err` is for want of memory.
+fn numbers(alloc: Global, bounds: &BoundLog, elements: &[u32]) -> Result<Vec<i128>, AllocError>
+    requires { length elements.now < 2 ^ 32 }
+    ensures { IfOk result (λ numbers. length numbers.items ≡ length elements.now) }
+{
+    let mut numbers = Vec::new(alloc);
+    for place in 0..elements.len() {
+        numbers.push(number_of(bounds, place as u32, elements[place]))?;
+    }
+    Ok(numbers)
+}
+
+/// Sets the truth of a term that a literal tells.
+fn set_truth(truths: &mut [bool], atoms: &AtomNumbers, literal: Literal)
+    requires { literal.atom < length atoms.now.atoms }
+    ensures { length truths.new ≡ length truths.old }
+{
+    if let NumberedAtom::Truth(term) = atoms.atom(literal.atom()) {
+        if (term as usize) < truths.len() {
+            truths[term as usize] = literal.is_positive();
+        }
+    }
+}
+
+/// The truth of each term that the log tells. An `Err` is for want of memory.
+fn truths(
+    alloc: Global,
+    atoms: &AtomNumbers,
+    log: &[Literal],
+    count: u32,
+) -> Result<Vec<bool>, AllocError>
+    requires { All (λ (l : Signed). l.atom < length atoms.now.atoms) log.now }
+    ensures { IfOk result (λ truths. length truths.items ≡ count) }
+{
+    let mut truths = vec![in alloc; false; count as usize]?;
+    for literal in log {
+        set_truth(&mut truths, atoms, *literal);
+    }
+    Ok(truths)
+}
+
+/// A value for each term. An `Err` is for want of memory.
+pub(crate) fn values_of(
+    alloc: Global,
+    stack: &Stack,
+    atoms: &AtomNumbers,
+    held: &Held,
+) -> Result<Chosen, AllocError>
+    requires few { length stack.now.trees + 2 < 2 ^ 32 }
+    requires held { IsHeld stack.now atoms.now.atoms held.now }
+    ensures truths { IfOk result (λ c. length c.truths.items ≡ length stack.now.trees) }
+    ensures numbers { IfOk result (λ c. length c.numbers.items ≡ length stack.now.trees) }
+    ensures elements { IfOk result (λ c. length c.elements.items ≡ length stack.now.trees) }
+{
+    let count = stack.terms().len();
+    let elements = classes(alloc, &held.closure.congruence, count)?;
+    let numbers = numbers(alloc, &held.bounds, &elements)?;
+    let truths = truths(alloc, atoms, &held.closure.log, count)?;
+    Ok(Chosen {
+        truths,
+        numbers,
+        elements,
+    })
+}
