@@ -1,8 +1,20 @@
 use crate::shown::judged;
+use std::alloc::{AllocError, Global};
+use std::process::Abort;
 use std::test::Fail;
 
+/// A script, and what its first s-expression is taken as.
+type Row = (&'static [u8], &'static [u8]);
+
+fn compare(rt: &impl Abort, alloc: Global, rows: &[Row]) -> Result<(), AllocError> {
+    for (script, want) in rows {
+        assert_eq!(rt; judged(alloc, script)?.as_slice(), *want);
+    }
+    Ok(())
+}
+
 /// Commands, and what they are taken as.
-static TAKEN: [(&'static [u8], &'static [u8]); 23] = [
+static TAKEN: [Row; 23] = [
     (b"(set-logic QF_UFLIA)", b"logic QF_UFLIA"),
     (b"(set-info :status (a b))", b"set-info"),
     (b"(set-info :status)", b"set-info"),
@@ -46,15 +58,12 @@ static TAKEN: [(&'static [u8], &'static [u8]); 23] = [
 // SMT-LIB 2.6, section 4.2: commands with the arguments that they ask for.
 #[test]
 fn commands_are_taken(rt: HostRuntime) -> Result<(), Fail> {
-    for row in TAKEN.iter() {
-        let (script, want) = *row;
-        assert_eq!(rt; judged(rt.alloc(), script)?.as_slice(), want);
-    }
+    compare(&rt, rt.alloc(), &TAKEN)?;
     Ok(())
 }
 
 /// Options, and what they are taken as.
-static OPTIONS: [(&'static [u8], &'static [u8]); 14] = [
+static OPTIONS: [Row; 14] = [
     (b"(set-option :print-success false)", b"print-success off"),
     (
         b"(set-option :regular-output-channel \"stdout\")",
@@ -89,15 +98,12 @@ static OPTIONS: [(&'static [u8], &'static [u8]); 14] = [
 // SMT-LIB 2.6, section 4.1.7: options.
 #[test]
 fn options_are_taken(rt: HostRuntime) -> Result<(), Fail> {
-    for row in OPTIONS.iter() {
-        let (script, want) = *row;
-        assert_eq!(rt; judged(rt.alloc(), script)?.as_slice(), want);
-    }
+    compare(&rt, rt.alloc(), &OPTIONS)?;
     Ok(())
 }
 
 /// What is no command, and its error.
-static REFUSED: [(&'static [u8], &'static [u8]); 24] = [
+static REFUSED: [Row; 24] = [
     (b"check-sat", b"E6"),
     (b"()", b"E6"),
     (b"((exit))", b"E6"),
@@ -132,9 +138,6 @@ static REFUSED: [(&'static [u8], &'static [u8]); 24] = [
 
 #[test]
 fn others_are_refused(rt: HostRuntime) -> Result<(), Fail> {
-    for row in REFUSED.iter() {
-        let (script, want) = *row;
-        assert_eq!(rt; judged(rt.alloc(), script)?.as_slice(), want);
-    }
+    compare(&rt, rt.alloc(), &REFUSED)?;
     Ok(())
 }

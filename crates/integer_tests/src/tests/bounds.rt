@@ -10,6 +10,7 @@ use literals::Literal;
 use simplex::PivotLines;
 use smt_meaning::Atom;
 use std::alloc::{AllocError, Global};
+use std::process::Abort;
 use std::test::Fail;
 use sum_bounds::{Finding, SumBounds};
 use tableau::Failure;
@@ -32,6 +33,11 @@ const Y: Summand = Summand {
 const MINUS_Y: Summand = Summand {
     coefficient: -1,
     term: 1,
+};
+
+const MINUS_TWICE_Z: Summand = Summand {
+    coefficient: -2,
+    term: 2,
 };
 
 const TWICE_Y: Summand = Summand {
@@ -95,16 +101,6 @@ fn tell(bounds: &mut SumBounds, alloc: Global, row: &Row) -> Result<bool, Failur
     Ok(true)
 }
 
-/// Tells rows; false where one may not be told.
-fn tell_all(bounds: &mut SumBounds, alloc: Global, rows: &[Row]) -> Result<bool, Failure> {
-    for row in rows {
-        if !tell(bounds, alloc, row)? {
-            return Ok(false);
-        }
-    }
-    Ok(true)
-}
-
 fn check(bounds: &mut SumBounds, alloc: Global) -> Finding {
     let mut lines = PivotLines {
         keep: false,
@@ -113,16 +109,16 @@ fn check(bounds: &mut SumBounds, alloc: Global) -> Finding {
     bounds.check(alloc, &mut lines, 10).finding
 }
 
+/// Whether a clause has just these literals, in any order.
+fn is_clause(clause: &[Literal], literals: &[(u32, bool)]) -> bool {
+    clause.len() == literals.len()
+        && clause.iter().all(|literal| literals.contains(&(literal.atom(), literal.is_positive())))
+}
+
 /// Whether the finding is a conflict of just these literals, in any order.
 fn is_conflict(finding: &Finding, literals: &[(u32, bool)]) -> bool {
     match finding {
-        Finding::Conflict(clause) => {
-            clause.len() == literals.len()
-                && clause.iter().all(|literal| literals.contains(&(
-                    literal.atom(),
-                    literal.is_positive(),
-                )))
-        }
+        Finding::Conflict(clause) => is_clause(clause, literals),
         _ => false,
     }
 }
@@ -147,76 +143,143 @@ fn sides(alloc: Global, value: Fraction) -> Result<Option<(i128, i128)>, AllocEr
     }
 }
 
-/// x + y <= 1, and x >= 1.
-static FITTING: [Row; 2] = [
-    Row {
+/// What is told or taken back, or what must be found then.
+enum Turn {
+    Tell(Row),
+    /// So many bounds stay.
+    Undo(usize),
+    Fits,
+    /// A conflict of just these literals.
+    Conflict(&'static [(u32, bool)]),
+    /// The least term with a value that isn't whole, and the floor of that value.
+    Fraction(u32, i128),
+    /// The count of variables, and that of bounds.
+    Counts(u32, usize),
+}
+
+/// Takes a turn; false where it can't be taken, or something else is found.
+fn take(bounds: &mut SumBounds, alloc: Global, turn: &Turn) -> Result<bool, Failure> {
+    match turn {
+        Turn::Tell(row) => tell(bounds, alloc, row),
+        Turn::Undo(count) => {
+            bounds.undo_to(*count);
+            Ok(true)
+        }
+        Turn::Fits => Ok(matches!(check(bounds, alloc), Finding::Fits)),
+        Turn::Conflict(literals) => Ok(is_conflict(&check(bounds, alloc), literals)),
+        Turn::Fraction(term, floor) => Ok(fraction(bounds) == Some((*term, *floor))),
+        Turn::Counts(variables, told) => Ok(bounds.count() == *variables && bounds.len() == *told),
+    }
+}
+
+/// Takes turns on two terms with variables.
+fn take_all(rt: &impl Abort, alloc: Global, turns: &[Turn]) -> Result<(), Failure> {
+    let mut bounds = SumBounds::new(alloc);
+    add_leaves(&mut bounds, alloc, 2)?;
+    for (at, turn) in turns.iter().enumerate() {
+        assert!(rt; take(&mut bounds, alloc, turn)?, "at {at}");
+    }
+    Ok(())
+}
+
+/// x + y <= 1, and x >= 1; then x + y <= 1 again, by its negation, and y >= 1.
+static THREE_BOUNDS: [Turn; 9] = [
+    Turn::Tell(Row {
         atom: 0,
         positive: true,
         sum: &[X, Y],
+        number: 1,
+    }),
+    Turn::Tell(Row {
+        atom: 1,
+        positive: false,
+        sum: &[X],
+        number: 0,
+    }),
+    Turn::Fits,
+    Turn::Tell(Row {
+        atom: 2,
+        positive: false,
+        sum: &[MINUS_X, MINUS_Y],
+        number: -2,
+    }),
+    Turn::Tell(Row {
+        atom: 3,
+        positive: false,
+        sum: &[Y],
+        number: 0,
+    }),
+    Turn::Conflict(&[(0, false), (1, true), (3, true)]),
+    Turn::Undo(3),
+    Turn::Fits,
+    Turn::Counts(3, 3),
+];
+
+/// 2 y <= -5, and -2 y <= 5.
+static HALVES: [Turn; 4] = [
+    Turn::Tell(Row {
+        atom: 0,
+        positive: true,
+        sum: &[TWICE_Y],
+        number: -5,
+    }),
+    Turn::Tell(Row {
+        atom: 1,
+        positive: true,
+        sum: &[MINUS_TWICE_Y],
+        number: 5,
+    }),
+    Turn::Fits,
+    Turn::Fraction(1, -3),
+];
+
+#[test]
+fn bounds_are_told_and_taken_back(rt: HostRuntime) -> Result<(), Fail> {
+    take_all(&rt, rt.alloc(), &THREE_BOUNDS)?;
+    take_all(&rt, rt.alloc(), &HALVES)?;
+    Ok(())
+}
+
+/// x - 2 y <= 1, x - 2 y >= 1, x - 2 z <= 0, and x - 2 z >= 0.
+static ODD_AND_EVEN: [Row; 4] = [
+    Row {
+        atom: 0,
+        positive: true,
+        sum: &[X, MINUS_TWICE_Y],
         number: 1,
     },
     Row {
         atom: 1,
         positive: false,
-        sum: &[X],
+        sum: &[X, MINUS_TWICE_Y],
         number: 0,
     },
-];
-
-/// x + y <= 1 again, by its negation, and y >= 1.
-static CONFLICTING: [Row; 2] = [
     Row {
         atom: 2,
-        positive: false,
-        sum: &[MINUS_X, MINUS_Y],
-        number: -2,
+        positive: true,
+        sum: &[X, MINUS_TWICE_Z],
+        number: 0,
     },
     Row {
         atom: 3,
         positive: false,
-        sum: &[Y],
-        number: 0,
+        sum: &[X, MINUS_TWICE_Z],
+        number: -1,
     },
 ];
 
 #[test]
-fn three_bounds_conflict(rt: HostRuntime) -> Result<(), Fail> {
+fn no_number_is_odd_and_even(rt: HostRuntime) -> Result<(), Fail> {
     let mut bounds = SumBounds::new(rt.alloc());
-    add_leaves(&mut bounds, rt.alloc(), 2)?;
-    assert!(rt; tell_all(&mut bounds, rt.alloc(), &FITTING)?);
+    add_leaves(&mut bounds, rt.alloc(), 3)?;
+    assert!(rt; tell_all(&mut bounds, rt.alloc(), &ODD_AND_EVEN)?);
     assert!(rt; matches!(check(&mut bounds, rt.alloc()), Finding::Fits));
-    assert!(rt; tell_all(&mut bounds, rt.alloc(), &CONFLICTING)?);
-    let found = check(&mut bounds, rt.alloc());
-    assert!(rt; is_conflict(&found, &[(0, false), (1, true), (3, true)]));
+    let all = [(0, false), (1, true), (2, false), (3, true)];
+    assert!(rt;
+        matches!(bounds.whole_conflict(rt.alloc())?, Some(clause) if is_clause(&clause, &all))
+    );
     bounds.undo_to(3);
-    assert!(rt; matches!(check(&mut bounds, rt.alloc()), Finding::Fits));
-    assert_eq!(rt; (bounds.count(), bounds.len()), (3, 3));
-    Ok(())
-}
-
-/// 2 y <= -5, and -2 y <= 5.
-static HALVES: [Row; 2] = [
-    Row {
-        atom: 0,
-        positive: true,
-        sum: &[TWICE_Y],
-        number: -5,
-    },
-    Row {
-        atom: 1,
-        positive: true,
-        sum: &[MINUS_TWICE_Y],
-        number: 5,
-    },
-];
-
-#[test]
-fn a_value_is_not_whole(rt: HostRuntime) -> Result<(), Fail> {
-    let mut bounds = SumBounds::new(rt.alloc());
-    add_leaves(&mut bounds, rt.alloc(), 2)?;
-    assert!(rt; tell_all(&mut bounds, rt.alloc(), &HALVES)?);
-    assert!(rt; matches!(check(&mut bounds, rt.alloc()), Finding::Fits));
-    assert_eq!(rt; fraction(&bounds), Some((1, -3)));
+    assert!(rt; matches!(bounds.whole_conflict(rt.alloc())?, None));
     Ok(())
 }
 

@@ -1,6 +1,6 @@
 use linear_forms::LinearForms;
 use smt_meaning::{Head, Operator, TermId};
-use std::alloc::Global;
+use std::alloc::{AllocError, Global};
 use std::process::Abort;
 use std::test::Fail;
 use term_store::{InternError, TermStore};
@@ -26,30 +26,30 @@ pub(super) fn theory(
     intern(rt, store, Head::Theory(operator), arguments)
 }
 
-fn is_form(
-    rt: &impl Abort,
-    forms: &LinearForms,
-    place: TermId,
-    sum: &[(i128, TermId)],
-    constant: i128,
-) -> bool {
-    assert!(rt; (place as usize) < forms.len());
-    match forms.form(place) {
-        Ok(form) => {
-            form.constant == constant
-                && form.sum.len() == sum.len()
-                && form
-                    .sum
-                    .iter()
-                    .zip(sum)
-                    .all(|(p, q)| p.coefficient == q.0 && p.term == q.1)
-        }
-        Err(_) => false,
+/// A sum of numbers times terms.
+type Sum = &'static [(i128, TermId)];
+
+fn is_form(forms: &LinearForms, place: TermId, sum: &[(i128, TermId)], constant: i128) -> bool {
+    if place as usize >= forms.len() {
+        return false;
     }
+    let Ok(form) = forms.form(place) else {
+        return false;
+    };
+    form.constant == constant
+        && form.sum.len() == sum.len()
+        && form
+            .sum
+            .iter()
+            .zip(sum)
+            .all(|(p, q)| p.coefficient == q.0 && p.term == q.1)
 }
 
-fn outside(rt: &impl Abort, forms: &LinearForms, place: TermId) -> Option<TermId> {
-    assert!(rt; (place as usize) < forms.len());
+/// The part of a term whose folding leaves the range.
+fn outside(forms: &LinearForms, place: TermId) -> Option<TermId> {
+    if place as usize >= forms.len() {
+        return None;
+    }
     match forms.form(place) {
         Ok(_) => None,
         Err(part) => Some(part),
@@ -67,42 +67,59 @@ static FOLDED: [(Head, &'static [TermId]); 7] = [
     (Head::Theory(Operator::Subtract), &[4]),
 ];
 
-/// The forms of these terms.
-fn forms_of(
+/// The places of terms among these, and their forms.
+static FORMS: [(TermId, Sum, i128); 3] = [
+    (4, &[(1, 0), (-2, 1)], -2),
+    (5, &[], 0),
+    (6, &[(-1, 0), (2, 1)], 2),
+];
+
+/// A list of these terms.
+fn store_of(
     rt: &impl Abort,
     alloc: Global,
     terms: &[(Head, &[TermId])],
-) -> Result<LinearForms, InternError> {
+) -> Result<TermStore, InternError> {
     let mut store = TermStore::new(alloc, 99);
     for (head, arguments) in terms {
         let _ = intern(rt, &mut store, *head, arguments)?;
     }
+    Ok(store)
+}
+
+/// A term, and 128 times the sum of the last one with itself.
+fn doubled(rt: &impl Abort, alloc: Global) -> Result<TermStore, InternError> {
+    let mut store = TermStore::new(alloc, 999);
+    let mut last = intern(rt, &mut store, Head::Symbol(0), &[])?;
+    for _ in 0..128 {
+        last = theory(rt, &mut store, Operator::Add, &[last, last])?;
+    }
+    Ok(store)
+}
+
+fn forms_of(alloc: Global, store: &TermStore) -> Result<LinearForms, AllocError> {
     let mut forms = LinearForms::new(alloc);
-    forms.cover(&store)?;
+    forms.cover(store)?;
     Ok(forms)
 }
 
 #[test]
 fn sums_are_folded(rt: HostRuntime) -> Result<(), Fail> {
-    let forms = forms_of(&rt, rt.alloc(), &FOLDED)?;
-    assert!(rt; is_form(&rt, &forms, 4, &[(1, 0), (-2, 1)], -2));
-    assert!(rt; is_form(&rt, &forms, 5, &[], 0));
-    assert!(rt; is_form(&rt, &forms, 6, &[(-1, 0), (2, 1)], 2));
+    let store = store_of(&rt, rt.alloc(), &FOLDED)?;
+    let forms = forms_of(rt.alloc(), &store)?;
+    for (place, sum, constant) in FORMS.iter() {
+        assert!(rt; is_form(&forms, *place, sum, *constant));
+    }
     Ok(())
 }
 
 /// A term doubled until a coefficient is past the range: the place where it is 2^126, and the first refused one.
 #[test]
 fn doubling_ends_at_the_range(rt: HostRuntime) -> Result<(), Fail> {
-    let mut store = TermStore::new(rt.alloc(), 999);
-    let mut last = intern(&rt, &mut store, Head::Symbol(0), &[])?;
-    for _ in 0..128 {
-        last = theory(&rt, &mut store, Operator::Add, &[last, last])?;
-    }
-    let mut forms = LinearForms::new(rt.alloc());
-    forms.cover(&store)?;
-    assert!(rt; is_form(&rt, &forms, 126, &[(1 << 126, 0)], 0));
-    assert_eq!(rt; outside(&rt, &forms, 127), Some(127));
-    assert_eq!(rt; outside(&rt, &forms, last), Some(127));
+    let store = doubled(&rt, rt.alloc())?;
+    let forms = forms_of(rt.alloc(), &store)?;
+    assert!(rt; is_form(&forms, 126, &[(1 << 126, 0)], 0));
+    assert_eq!(rt; outside(&forms, 127), Some(127));
+    assert_eq!(rt; outside(&forms, 128), Some(127));
     Ok(())
 }

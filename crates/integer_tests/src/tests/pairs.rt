@@ -14,14 +14,9 @@ use term_store::{InternError, TermStore};
 /// A number times x, a number times y, and a number.
 type Affine = (i128, i128, i128);
 
-/// That the left side is at most the right one, or below it, and the bound: the coefficients of x and y, and the threshold; or none, where the pair leaves the range.
-#[derive(Clone, Copy)]
-struct Row {
-    left: Affine,
-    is_strict: bool,
-    right: Affine,
-    bound: Option<Affine>,
-}
+/// The left side, whether it is below the right one or at most it, the right side, and the bound: the coefficients of x and y, and the threshold; or none, where
+/// the pair leaves the range.
+type Row = (Affine, bool, Affine, Option<Affine>);
 
 /// A store with the terms x and y at the places 0 and 1.
 fn two_terms(rt: &impl Abort, alloc: Global) -> Result<TermStore, InternError> {
@@ -108,63 +103,40 @@ fn comes_out(
 }
 
 fn holds(rt: &impl Abort, alloc: Global, row: Row) -> Result<bool, InternError> {
+    let (left, is_strict, right, expected) = row;
     let mut store = two_terms(rt, alloc)?;
-    let left = affine(rt, &mut store, row.left)?;
-    let right = affine(rt, &mut store, row.right)?;
+    let left = affine(rt, &mut store, left)?;
+    let right = affine(rt, &mut store, right)?;
     let mut sum = Vec::new(alloc);
-    let found = bound(rt, alloc, &store, (left, right), row.is_strict, &mut sum);
-    Ok(comes_out(row.bound, found, &sum))
+    let found = bound(rt, alloc, &store, (left, right), is_strict, &mut sum);
+    Ok(comes_out(expected, found, &sum))
 }
 
-fn at_most_row(left: Affine, right: Affine, bound: Option<Affine>) -> Row {
-    Row {
-        left,
-        is_strict: false,
-        right,
-        bound,
-    }
-}
+const GREATEST: Affine = (0, 0, i128::MAX);
 
-fn below_row(left: Affine, right: Affine, bound: Option<Affine>) -> Row {
-    Row {
-        left,
-        is_strict: true,
-        right,
-        bound,
-    }
-}
+const LARGE: Affine = (1 << 126, 0, 0);
 
-#[test]
-fn bounds_are_divided_and_rounded_down(rt: HostRuntime) -> Result<(), Fail> {
-    let rows = [
-        at_most_row((2, 0, 7), (0, 4, 0), Some((1, -2, -4))),
-        at_most_row((0, 4, 0), (2, 0, 7), Some((-1, 2, 3))),
-        below_row((2, 0, 7), (0, 4, 0), Some((1, -2, -4))),
-        at_most_row((3, 0, 1), (0, 6, 0), Some((1, -2, -1))),
-        below_row((0, 6, 0), (3, 0, 1), Some((-1, 2, 0))),
-        at_most_row((4, 0, 1), (0, 3, 0), Some((4, -3, -1))),
-        at_most_row((0, 0, 2), (0, 0, 7), Some((0, 0, 5))),
-        at_most_row((4, 0, 1), (4, 0, 1), Some((0, 0, 0))),
-        below_row((4, 0, 1), (4, 0, 1), Some((0, 0, -1))),
-    ];
-    for row in rows {
-        assert!(rt; holds(&rt, rt.alloc(), row)?);
-    }
-    Ok(())
-}
+/// Bounds are divided and rounded down; then pairs at the ends of the range.
+static ROWS: [Row; 13] = [
+    ((2, 0, 7), false, (0, 4, 0), Some((1, -2, -4))),
+    ((0, 4, 0), false, (2, 0, 7), Some((-1, 2, 3))),
+    ((2, 0, 7), true, (0, 4, 0), Some((1, -2, -4))),
+    ((3, 0, 1), false, (0, 6, 0), Some((1, -2, -1))),
+    ((0, 6, 0), true, (3, 0, 1), Some((-1, 2, 0))),
+    ((4, 0, 1), false, (0, 3, 0), Some((4, -3, -1))),
+    ((0, 0, 2), false, (0, 0, 7), Some((0, 0, 5))),
+    ((4, 0, 1), false, (4, 0, 1), Some((0, 0, 0))),
+    ((4, 0, 1), true, (4, 0, 1), Some((0, 0, -1))),
+    (GREATEST, false, (0, 0, 0), Some((0, 0, -i128::MAX))),
+    (GREATEST, true, (0, 0, 0), None),
+    (LARGE, false, (0, 0, 0), Some((1, 0, 0))),
+    (LARGE, false, (-(1 << 126), 0, 0), None),
+];
 
 #[test]
-fn pairs_past_the_range_are_refused(rt: HostRuntime) -> Result<(), Fail> {
-    let greatest = (0, 0, i128::MAX);
-    let large = (1 << 126, 0, 0);
-    let rows = [
-        at_most_row(greatest, (0, 0, 0), Some((0, 0, -i128::MAX))),
-        below_row(greatest, (0, 0, 0), None),
-        at_most_row(large, (0, 0, 0), Some((1, 0, 0))),
-        at_most_row(large, (-(1 << 126), 0, 0), None),
-    ];
-    for row in rows {
-        assert!(rt; holds(&rt, rt.alloc(), row)?);
+fn pairs_have_bounds(rt: HostRuntime) -> Result<(), Fail> {
+    for row in ROWS.iter() {
+        assert!(rt; holds(&rt, rt.alloc(), *row)?);
     }
     Ok(())
 }

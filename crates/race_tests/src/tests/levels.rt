@@ -1,4 +1,4 @@
-ghost use Rattle.std.specs.Prelude.{◌≡◌, IfOk};
+ghost use Rattle.std.specs.Prelude.{◌≡◌, ◌<◌, IfOk};
 ghost use Rattle.race_model.specs.Base.{base_of};
 ghost use Rattle.race_tests.specs.Proposition.{declared, raised, stated};
 
@@ -43,22 +43,42 @@ fn raise(alloc: Global, levels: &mut Levels, pool: &mut Pool<Levels>) -> Result<
     Ok(())
 }
 
-/// A pool goes with its levels: what was shared of a level goes with it.
-#[test]
-fn a_pool_goes_with_its_levels(rt: HostRuntime) -> Result<(), Fail> {
-    let alloc = rt.alloc();
+// A pool whose second level is empty.
+fn raised_pool(alloc: Global) -> Result<Pool<Levels>, AllocError>
+    ensures { IfOk result (λ p. (⟦<Pool<Levels> as Shelf>⟧.state p).base ≡ raised) }
+{
     let mut levels = first_levels(alloc)?;
     let mut pool = pool_on(alloc, &levels);
     state_p(alloc, &mut levels, &mut pool)?;
     raise(alloc, &mut levels, &mut pool)?;
-    let Told::Shared(first) = put(&mut pool, 0, true_clause(alloc, 1)?) else {
-        panic!(rt; "not taken")
-    };
-    assert_eq!(rt; first, 0);
-    let Told::Shared(second) = put(&mut pool, 1, true_clause(alloc, 0)?) else {
-        panic!(rt; "not taken")
-    };
-    assert_eq!(rt; second, 1);
+    Ok(pool)
+}
+
+// Shares a true clause of a level: its place.
+fn share(
+    alloc: Global,
+    pool: &mut Pool<Levels>,
+    worker: u8,
+    level: u16,
+) -> Result<Option<u64>, AllocError>
+    requires base { (⟦<Pool<Levels> as Shelf>⟧.state pool.old).base ≡ raised }
+    requires level { level < 2 }
+    ensures { (⟦<Pool<Levels> as Shelf>⟧.state pool.new).base ≡ raised }
+{
+    let clause = true_clause(alloc, level)?;
+    Ok(match put(pool, worker, clause) {
+        Told::Shared(place) => Some(place),
+        _ => None,
+    })
+}
+
+/// A pool goes with its levels: what was shared of a level goes with it.
+#[test]
+fn a_pool_goes_with_its_levels(rt: HostRuntime) -> Result<(), Fail> {
+    let alloc = rt.alloc();
+    let mut pool = raised_pool(alloc)?;
+    assert_eq!(rt; share(alloc, &mut pool, 0, 1)?, Some(0));
+    assert_eq!(rt; share(alloc, &mut pool, 1, 0)?, Some(1));
     pool.pop(1);
     let left = pool.batch(0)?;
     assert_eq!(rt; left.len(), 1);

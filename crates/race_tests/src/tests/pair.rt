@@ -2,21 +2,20 @@ ghost use Rattle.std.specs.Prelude.{◌≡◌, IfSome};
 ghost use Rattle.race_tests.specs.Jobs.{IsReady};
 
 use crate::stack::{Empty, pool_of_two, true_clause};
-use crate::tests::steps::{empty_level, race_of_two};
 use lemma_pool::Pool;
 use race_cell::{Batch, Pass, Race, Raced, Sharing};
-use race_model::{Entry, Event, Levels, RaceState, Shelf, is_same_clause};
-use smt_meaning::{Seq, Terms};
+use race_model::{Entry, Shelf, is_same_clause};
 use std::alloc::{AllocError, Global};
 use std::process::Abort;
 use std::test::Fail;
 
-// The true clause of level 0, which the first worker shared, and nothing else.
-fn is_that_clause(rt: &impl Abort, alloc: Global, entries: &[Entry]) -> Result<(), Fail> {
-    assert_eq!(rt; entries.len(), 1);
-    assert_eq!(rt; entries[0].worker, 0);
-    assert!(rt; is_same_clause(&entries[0].clause, &true_clause(alloc, 0)?));
-    Ok(())
+/// Whether the first worker shared the true clause of level 0, and nothing else was shared.
+pub fn is_that_clause(alloc: Global, entries: &[Entry]) -> Result<bool, AllocError> {
+    if entries.len() != 1 {
+        return Ok(false);
+    }
+    let clause = true_clause(alloc, 0)?;
+    Ok(entries[0].worker == 0 && is_same_clause(&entries[0].clause, &clause))
 }
 
 // A race of two passes, and the passes.
@@ -46,25 +45,72 @@ fn share_one(
     Ok(race.share(pass, clause))
 }
 
-fn take(race: &Race<Pool<Empty>>, pass: &mut Pass<Pool<Empty>>) -> Batch
-    requires { IsReady race.now.table.shared.table_id pass.old }
-    ensures { IsReady race.now.table.shared.table_id pass.new }
-{
-    race.take_batch(pass)
+/// What a pass tries, and what comes of it.
+enum Turn {
+    /// It shares the clause, as the entry at a place.
+    Share(u64),
+    /// It takes a batch: the clause, or no entry.
+    Take(bool),
+    Win,
+    /// It tries to win after a worker that has won.
+    Lose(u8),
+    /// It sees which worker has won.
+    See(u8),
 }
 
-fn win(race: &Race<Pool<Empty>>, pass: &mut Pass<Pool<Empty>>) -> Raced
+// Whether the pass shares the clause as the entry at this place.
+fn shares(
+    alloc: Global,
+    race: &Race<Pool<Empty>>,
+    pass: &mut Pass<Pool<Empty>>,
+    place: u64,
+) -> Result<bool, AllocError>
     requires { IsReady race.now.table.shared.table_id pass.old }
     ensures { IsReady race.now.table.shared.table_id pass.new }
 {
-    race.win(pass)
+    let shared = share_one(alloc, race, pass)?;
+    Ok(match shared {
+        Sharing::Shared(found) => found == place,
+        _ => false,
+    })
 }
 
-fn winner(race: &Race<Pool<Empty>>, pass: &mut Pass<Pool<Empty>>) -> Option<u8>
+// Whether the pass takes the clause, or a batch of nothing.
+fn takes(
+    alloc: Global,
+    race: &Race<Pool<Empty>>,
+    pass: &mut Pass<Pool<Empty>>,
+    one: bool,
+) -> Result<bool, AllocError>
     requires { IsReady race.now.table.shared.table_id pass.old }
     ensures { IsReady race.now.table.shared.table_id pass.new }
 {
-    race.winner_seen(pass)
+    let Batch::Batch(batch) = race.take_batch(pass) else {
+        return Ok(false);
+    };
+    if one {
+        return is_that_clause(alloc, batch.as_slice());
+    }
+    Ok(batch.is_empty())
+}
+
+// Whether a turn comes out so.
+fn comes_out(
+    alloc: Global,
+    race: &Race<Pool<Empty>>,
+    pass: &mut Pass<Pool<Empty>>,
+    turn: &Turn,
+) -> Result<bool, AllocError>
+    requires { IsReady race.now.table.shared.table_id pass.old }
+    ensures { IsReady race.now.table.shared.table_id pass.new }
+{
+    match turn {
+        Turn::Share(place) => shares(alloc, race, pass, *place),
+        Turn::Take(one) => takes(alloc, race, pass, *one),
+        Turn::Win => Ok(matches!(race.win(pass), Raced::Won)),
+        Turn::Lose(faster) => Ok(matches!(race.win(pass), Raced::Lost(found) if found == *faster)),
+        Turn::See(winner) => Ok(race.winner_seen(pass) == Some(*winner)),
+    }
 }
 
 // The pool, after both passes.
@@ -82,67 +128,67 @@ fn end_two(
     Ok(race.end(passes))
 }
 
+/// The second takes the clause of the first once, and wins.
+static TURNS: [(bool, Turn); 6] = [
+    (false, Turn::Share(0)),
+    (true, Turn::Take(true)),
+    (true, Turn::Take(false)),
+    (true, Turn::Win),
+    (false, Turn::Lose(1)),
+    (false, Turn::See(1)),
+];
+
+// Whether a turn of one of the passes comes out so.
+fn one_does(
+    alloc: Global,
+    race: &Race<Pool<Empty>>,
+    first: &mut Pass<Pool<Empty>>,
+    second: &mut Pass<Pool<Empty>>,
+    is_second: bool,
+    turn: &Turn,
+) -> Result<bool, AllocError>
+    requires first { IsReady race.now.table.shared.table_id first.old }
+    requires second { IsReady race.now.table.shared.table_id second.old }
+    ensures first { IsReady race.now.table.shared.table_id first.new }
+    ensures second { IsReady race.now.table.shared.table_id second.new }
+{
+    if is_second {
+        return comes_out(alloc, race, second, turn);
+    }
+    comes_out(alloc, race, first, turn)
+}
+
+// How many turns come out so, until one doesn't.
+fn count_turns(
+    alloc: Global,
+    race: &Race<Pool<Empty>>,
+    first: &mut Pass<Pool<Empty>>,
+    second: &mut Pass<Pool<Empty>>,
+) -> Result<u32, AllocError>
+    requires first { IsReady race.now.table.shared.table_id first.old }
+    requires second { IsReady race.now.table.shared.table_id second.old }
+    ensures first { IsReady race.now.table.shared.table_id first.new }
+    ensures second { IsReady race.now.table.shared.table_id second.new }
+{
+    let mut count = 0u32;
+    for (is_second, turn) in TURNS.iter() {
+        if !one_does(alloc, race, first, second, *is_second, turn)? {
+            return Ok(count);
+        }
+        count = count.saturating_add(1);
+    }
+    Ok(count)
+}
+
 /// One of two passes shares a clause; the other takes it once, and wins. The pool that comes back has it.
 #[test]
 fn two_passes_share_take_and_win(rt: HostRuntime) -> Result<(), Fail> {
     let alloc = rt.alloc();
-    let Some((race, mut zero, mut one)) = start_two(alloc) else {
+    let Some((race, mut first, mut second)) = start_two(alloc) else {
         panic!(rt; "no memory")
     };
-    let Sharing::Shared(place) = share_one(alloc, &race, &mut zero)? else {
-        panic!(rt; "not shared")
-    };
-    assert_eq!(rt; place, 0);
-    let Batch::Batch(batch) = take(&race, &mut one) else {
-        panic!(rt; "no batch")
-    };
-    is_that_clause(&rt, alloc, batch.as_slice())?;
-    let Batch::Batch(empty) = take(&race, &mut one) else {
-        panic!(rt; "no second batch")
-    };
-    assert_eq!(rt; empty.len(), 0);
-    let Raced::Won = win(&race, &mut one) else {
-        panic!(rt; "not won")
-    };
-    let Raced::Lost(faster) = win(&race, &mut zero) else {
-        panic!(rt; "won twice")
-    };
-    assert_eq!(rt; faster, 1);
-    assert_eq!(rt; winner(&race, &mut zero), Some(1));
-    let pool = end_two(alloc, race, zero, one)?;
-    is_that_clause(&rt, alloc, pool.batch(0)?.as_slice())
-}
-
-// Learns the true clause, or shares it.
-fn learn_or_share(alloc: Global, state: &mut RaceState, learns: bool) -> Result<bool, AllocError> {
-    let clause = true_clause(alloc, 0)?;
-    let event = if learns {
-        Event::Learn(0, Seq::new(alloc), clause)
-    } else {
-        Event::Share(0, clause)
-    };
-    state.step(alloc, event)
-}
-
-/// The same race as events, over the same levels.
-#[test]
-fn the_same_events_are_steps(rt: HostRuntime) -> Result<(), Fail> {
-    let alloc = rt.alloc();
-    let mut state = race_of_two(
-        alloc,
-        Levels {
-            terms: Terms::from_nodes(Vec::new(alloc)),
-            levels: vec![in alloc; empty_level(alloc), empty_level(alloc)]?,
-        },
-    )?;
-    assert!(rt; learn_or_share(alloc, &mut state, true)?);
-    assert!(rt; learn_or_share(alloc, &mut state, false)?);
-    assert!(rt; state.step(alloc, Event::TakeBatch(1))?);
-    assert!(rt; state.step(alloc, Event::TakeBatch(1))?);
-    assert!(rt; state.step(alloc, Event::Win(1))?);
-    assert!(rt; state.step(alloc, Event::End(0))?);
-    assert!(rt; state.step(alloc, Event::End(1))?);
-    assert_eq!(rt; state.winner, Some(1));
-    is_that_clause(&rt, alloc, state.entries.as_slice())?;
+    assert_eq!(rt; count_turns(alloc, &race, &mut first, &mut second)?, 6);
+    let pool = end_two(alloc, race, first, second)?;
+    assert!(rt; is_that_clause(alloc, pool.batch(0)?.as_slice())?);
     Ok(())
 }

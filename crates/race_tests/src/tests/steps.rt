@@ -1,4 +1,4 @@
-ghost use Rattle.std.specs.Prelude.{◌≡◌, [], ◌∷◌, IfOk, IsTrue};
+ghost use Rattle.std.specs.Prelude.{◌≡◌, [], ◌∷◌, IfOk, IfSome, IsTrue};
 ghost use Rattle.race_model.specs.Base.{base_of};
 ghost use Rattle.race_model.specs.Race.{state_of};
 ghost use Rattle.smt_meaning.specs.declared.tokens.Token.TheVariants.{Enter, Leave, Symbol};
@@ -223,15 +223,33 @@ fn learn_p(alloc: Global, state: &mut RaceState) -> Result<bool, AllocError>
     Ok(took)
 }
 
+// A race where p is asserted and denied, and the clause without literals learnt from that. None where a step isn't taken.
+fn refuted(alloc: Global) -> Result<Option<RaceState>, AllocError>
+    ensures { IfOk result (λ r. IfSome r (λ s. (state_of s).base ≡ denied)) }
+{
+    let mut state = start(alloc)?;
+    if !state_p(alloc, &mut state)? {
+        return Ok(None);
+    }
+    if !raise(alloc, &mut state)? {
+        return Ok(None);
+    }
+    if !deny_p(alloc, &mut state)? {
+        return Ok(None);
+    }
+    if !refute(alloc, &mut state)? {
+        return Ok(None);
+    }
+    Ok(Some(state))
+}
+
 /// A clause that rests on a popped assertion goes with it: from the entries, from what was read of them, and from what may be shared or learnt.
 #[test]
 fn a_pop_takes_its_clauses(rt: HostRuntime) -> Result<(), Fail> {
     let alloc = rt.alloc();
-    let mut state = start(alloc)?;
-    assert!(rt; state_p(alloc, &mut state)?);
-    assert!(rt; raise(alloc, &mut state)?);
-    assert!(rt; deny_p(alloc, &mut state)?);
-    assert!(rt; refute(alloc, &mut state)?);
+    let Some(mut state) = refuted(alloc)? else {
+        panic!(rt; "not refuted")
+    };
     assert!(rt; share_or_take(alloc, &mut state, true)?);
     assert!(rt; share_or_take(alloc, &mut state, false)?);
     assert!(rt; lower(alloc, &mut state)?);

@@ -1,62 +1,24 @@
-//! Points that merge and differ, and what follows.
+//! Points that merge and differ, and what follows. Each test is a list of turns, so that what a call is proved to do is carried through one turn alone.
 ghost use Rattle.std.specs.Prelude.{IfOk};
 ghost use Rattle.point_closure.specs.Whole.{IsWhole};
 
-use congruence::{Congruence, Explanation};
 use equal_points::{Explainer, Shape, Step};
 use point_closure::{Closure, Watch, Watched};
-use std::alloc::Global;
+use std::alloc::{AllocError, Global};
 use std::process::Abort;
 use std::test::Fail;
-use term_store::TermStore;
 
-/// The closure of these points, each after its arguments.
-fn closure_of(rt: &impl Abort, alloc: Global, points: &[(Shape, &[u32])]) -> Result<Closure, Fail>
-    ensures { IfOk result (λ c. IsWhole c) }
-{
-    let mut closure = Closure::new(alloc);
-    for (shape, arguments) in points {
-        let count = closure.len();
-        assert!(rt; arguments.iter().all(|i| (*i as usize) < count));
-        closure.add(*shape, arguments)?;
-    }
-    Ok(closure)
-}
-
-fn record(rt: &impl Abort, closure: &mut Closure, step: Step) -> Result<(), Fail>
-    requires { IsWhole closure.old }
-    ensures { IsWhole closure.new }
-{
-    let count = closure.len();
-    match step {
-        Step::Merge(left, right) | Step::Differ(left, right) => {
-            assert!(rt; (left as usize) < count && (right as usize) < count)
-        }
-    }
-    closure.record(step)?;
-    Ok(())
-}
-
-fn undo(closure: &mut Closure, depth: usize)
-    requires { IsWhole closure.old }
-    ensures { IsWhole closure.new }
-{
-    closure.undo_to(depth);
-}
-
-fn same(rt: &impl Abort, closure: &Closure, left: u32, right: u32) -> bool
-    requires { IsWhole closure.now }
-{
-    let count = closure.len();
-    assert!(rt; (left as usize) < count && (right as usize) < count);
-    closure.same(left, right)
-}
-
-/// Whether the pairs that are met are these.
-fn is_met(closure: &Closure, pairs: &[u32]) -> bool
-    requires { IsWhole closure.now }
-{
-    closure.met() == pairs
+/// What is recorded or taken back, or what must be found then.
+enum Turn {
+    Step(Step),
+    /// The first two points are watched as the truth values.
+    Watch,
+    /// So many steps stay.
+    Undo(usize),
+    /// The watched pairs whose points are equal.
+    Met(&'static [u32]),
+    /// By how many steps two points are equal; none where they aren't.
+    Same(u32, u32, Option<usize>),
 }
 
 /// a, b, f(a) and f(b).
@@ -68,53 +30,17 @@ static APPLIED: [(Shape, &'static [u32]); 4] = [
 ];
 
 /// a = b is merged, f(a) and f(b) differ: the pair is met, for the reason a = b.
-#[test]
-fn applications_of_equal_constants(rt: HostRuntime) -> Result<(), Fail> {
-    let mut closure = closure_of(&rt, rt.alloc(), &APPLIED)?;
-    record(&rt, &mut closure, Step::Merge(0, 1))?;
-    record(&rt, &mut closure, Step::Differ(2, 3))?;
-    assert!(rt; is_met(&closure, &[0]));
-    assert!(rt; same(&rt, &closure, 2, 3));
-    undo(&mut closure, 1);
-    assert!(rt; is_met(&closure, &[]));
-    assert!(rt; same(&rt, &closure, 2, 3));
-    undo(&mut closure, 0);
-    assert!(rt; !same(&rt, &closure, 2, 3));
-    Ok(())
-}
-
-fn watch_truths(rt: &impl Abort, closure: &mut Closure) -> Result<(), Fail>
-    requires { IsWhole closure.old }
-    ensures { IsWhole closure.new }
-{
-    assert!(rt; closure.len() > 1);
-    closure.watch(Watch {
-        left: 0,
-        right: 1,
-        watched: Watched::Truths,
-    })?;
-    Ok(())
-}
-
-/// How many steps explain why two points are equal, if they are.
-fn count_of_reasons(
-    rt: &impl Abort,
-    alloc: Global,
-    closure: &Closure,
-    left: u32,
-    right: u32,
-) -> Result<Option<usize>, Fail>
-    requires { IsWhole closure.now }
-{
-    let count = closure.len();
-    assert!(rt; (left as usize) < count && (right as usize) < count);
-    if !closure.same(left, right) {
-        return Ok(None);
-    }
-    let mut explainer = Explainer::new(alloc);
-    closure.explain(&mut explainer, left, right)?;
-    Ok(Some(explainer.steps.len()))
-}
+static APPLICATIONS: [Turn; 9] = [
+    Turn::Step(Step::Merge(0, 1)),
+    Turn::Step(Step::Differ(2, 3)),
+    Turn::Met(&[0]),
+    Turn::Same(2, 3, Some(1)),
+    Turn::Undo(1),
+    Turn::Met(&[]),
+    Turn::Same(2, 3, Some(1)),
+    Turn::Undo(0),
+    Turn::Same(2, 3, None),
+];
 
 /// The truth values, p and q.
 static TRUTHS: [(Shape, &'static [u32]); 4] = [
@@ -125,18 +51,15 @@ static TRUTHS: [(Shape, &'static [u32]); 4] = [
 ];
 
 /// p is true, q is false, p = q: the truth values are met, for all three reasons.
-#[test]
-fn truth_values_differ(rt: HostRuntime) -> Result<(), Fail> {
-    let mut closure = closure_of(&rt, rt.alloc(), &TRUTHS)?;
-    watch_truths(&rt, &mut closure)?;
-    record(&rt, &mut closure, Step::Merge(2, 0))?;
-    record(&rt, &mut closure, Step::Merge(3, 1))?;
-    assert!(rt; is_met(&closure, &[]));
-    record(&rt, &mut closure, Step::Merge(2, 3))?;
-    assert!(rt; is_met(&closure, &[0]));
-    assert_eq!(rt; count_of_reasons(&rt, rt.alloc(), &closure, 0, 1)?, Some(3));
-    Ok(())
-}
+static DIFFERING_TRUTHS: [Turn; 7] = [
+    Turn::Watch,
+    Turn::Step(Step::Merge(2, 0)),
+    Turn::Step(Step::Merge(3, 1)),
+    Turn::Met(&[]),
+    Turn::Step(Step::Merge(2, 3)),
+    Turn::Met(&[0]),
+    Turn::Same(0, 1, Some(3)),
+];
 
 /// a, f(a), f(f(a)) and so on.
 static NESTED: [(Shape, &'static [u32]); 6] = [
@@ -149,28 +72,127 @@ static NESTED: [(Shape, &'static [u32]); 6] = [
 ];
 
 /// a = f(f(f(a))) and a = f(f(f(f(f(a))))) give a = f(a).
-#[test]
-fn three_and_five_give_one(rt: HostRuntime) -> Result<(), Fail> {
-    let mut closure = closure_of(&rt, rt.alloc(), &NESTED)?;
-    record(&rt, &mut closure, Step::Merge(0, 3))?;
-    assert!(rt; !same(&rt, &closure, 0, 1));
-    record(&rt, &mut closure, Step::Merge(0, 5))?;
-    assert!(rt; same(&rt, &closure, 0, 1));
+static THREE_AND_FIVE: [Turn; 4] = [
+    Turn::Step(Step::Merge(0, 3)),
+    Turn::Same(0, 1, None),
+    Turn::Step(Step::Merge(0, 5)),
+    Turn::Same(0, 1, Some(2)),
+];
+
+/// The closure of these points, each after its arguments.
+fn closure_of(
+    rt: &impl Abort,
+    alloc: Global,
+    points: &[(Shape, &[u32])],
+) -> Result<Closure, AllocError>
+    ensures { IfOk result (λ c. IsWhole c) }
+{
+    let mut closure = Closure::new(alloc);
+    for (shape, arguments) in points {
+        let count = closure.len();
+        assert!(rt; arguments.iter().all(|i| (*i as usize) < count));
+        closure.add(*shape, arguments)?;
+    }
+    Ok(closure)
+}
+
+/// Records a step; false where its points aren't known.
+fn record(closure: &mut Closure, step: Step) -> Result<bool, AllocError>
+    requires { IsWhole closure.old }
+    ensures { IsWhole closure.new }
+{
+    let count = closure.len();
+    let (left, right) = match step {
+        Step::Merge(left, right) => (left, right),
+        Step::Differ(left, right) => (left, right),
+    };
+    if left as usize >= count || right as usize >= count {
+        return Ok(false);
+    }
+    closure.record(step)?;
+    Ok(true)
+}
+
+fn watch_truths(closure: &mut Closure) -> Result<bool, AllocError>
+    requires { IsWhole closure.old }
+    ensures { IsWhole closure.new }
+{
+    if closure.len() < 2 {
+        return Ok(false);
+    }
+    closure.watch(Watch {
+        left: 0,
+        right: 1,
+        watched: Watched::Truths,
+    })?;
+    Ok(true)
+}
+
+/// Whether these are the watched pairs whose points are equal.
+fn is_met(closure: &Closure, pairs: &[u32]) -> bool
+    requires { IsWhole closure.now }
+{
+    closure.met() == pairs
+}
+
+/// By how many steps two points are equal, if they are.
+fn steps_between(
+    alloc: Global,
+    closure: &Closure,
+    left: u32,
+    right: u32,
+) -> Result<Option<usize>, AllocError>
+    requires { IsWhole closure.now }
+{
+    let count = closure.len();
+    if left as usize >= count || right as usize >= count {
+        return Ok(None);
+    }
+    if !closure.same(left, right) {
+        return Ok(None);
+    }
+    let mut explainer = Explainer::new(alloc);
+    closure.explain(&mut explainer, left, right)?;
+    Ok(Some(explainer.steps.len()))
+}
+
+/// Takes a turn; false where it can't be taken, or something else is found.
+fn take(alloc: Global, closure: &mut Closure, turn: &Turn) -> Result<bool, AllocError>
+    requires { IsWhole closure.old }
+    ensures { IsWhole closure.new }
+{
+    match turn {
+        Turn::Step(step) => record(closure, *step),
+        Turn::Watch => watch_truths(closure),
+        Turn::Undo(depth) => {
+            closure.undo_to(*depth);
+            Ok(true)
+        }
+        Turn::Met(pairs) => Ok(is_met(closure, pairs)),
+        Turn::Same(left, right, steps) => Ok(
+            steps_between(alloc, closure, *left, *right)? == *steps,
+        ),
+    }
+}
+
+/// Takes turns on the closure of these points.
+fn take_all(
+    rt: &impl Abort,
+    alloc: Global,
+    points: &[(Shape, &[u32])],
+    turns: &[Turn],
+) -> Result<(), AllocError> {
+    let mut closure = closure_of(rt, alloc, points)?;
+    for (at, turn) in turns.iter().enumerate() {
+        assert!(rt; take(alloc, &mut closure, turn)?, "at {at}");
+    }
     Ok(())
 }
 
-/// Of nothing recorded nothing conflicts.
 #[test]
-fn nothing_is_recorded(rt: HostRuntime) -> Result<(), Fail> {
-    let alloc = rt.alloc();
-    let store = TermStore::new(alloc, 4);
-    let mut congruence = Congruence::new(alloc)?;
-    congruence.read(&store)?;
-    assert!(rt;
-        congruence
-            .conflict(alloc, &mut Explanation::new(alloc))?
-            .is_none()
-    );
-    congruence.undo_to(0);
+fn points_merge_and_differ(rt: HostRuntime) -> Result<(), Fail> {
+    take_all(&rt, rt.alloc(), &APPLIED, &APPLICATIONS)?;
+    take_all(&rt, rt.alloc(), &TRUTHS, &DIFFERING_TRUTHS)?;
+    take_all(&rt, rt.alloc(), &NESTED, &THREE_AND_FIVE)?;
     Ok(())
 }

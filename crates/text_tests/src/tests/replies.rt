@@ -1,4 +1,4 @@
-//! The replies of the formats, with their texts.
+//! The replies of the formats, with their texts. A table says which reply it is, and a function makes it, so that no test holds many of them.
 use reply_print::{fixed, text};
 use smt_meaning::language::{
     Error, Info, OptionName, OptionValue, PrintedFunction, PrintedRow, PrintedValue, Reply,
@@ -9,11 +9,112 @@ use std::alloc::{AllocError, Global};
 use std::process::Abort;
 use std::test::Fail;
 
-/// Compares the text of a reply. It takes the reply, so that no test has to drop one.
-fn is_text(rt: &impl Abort, alloc: Global, reply: Reply, want: &[u8]) -> Result<(), AllocError> {
+/// Compares the text of a reply.
+fn is_text(rt: &impl Abort, alloc: Global, reply: &Reply, want: &[u8]) -> Result<(), AllocError> {
     let mut out = Bytes::copy(alloc, b"sat\n")?;
-    text(alloc, &reply, &mut out)?;
+    text(alloc, reply, &mut out)?;
     assert_eq!(rt; out.as_slice().strip_prefix(b"sat\n"), Some(want));
+    Ok(())
+}
+
+/// A reply that takes no memory.
+#[derive(Clone, Copy)]
+enum Plain {
+    Success,
+    Silent,
+    Unsupported,
+    Sat,
+    Unsat,
+    Unknown,
+    Truth(bool),
+    Number(i128),
+    Name,
+    Levels(u64),
+    Memout,
+    BadCharacter(u64),
+    NotCommand,
+    InteractiveModeTooLate,
+    NoModel,
+    ValueTooLarge,
+}
+
+fn without_memory(plain: Plain) -> Reply {
+    match plain {
+        Plain::Success => Reply::Success,
+        Plain::Silent => Reply::Silent,
+        Plain::Unsupported => Reply::Unsupported,
+        Plain::Sat => Reply::Sat,
+        Plain::Unsat => Reply::Unsat,
+        Plain::Unknown => Reply::Unknown,
+        Plain::Truth(truth) => Reply::Option(OptionValue::Truth(truth)),
+        Plain::Number(number) => Reply::Option(OptionValue::Number(number)),
+        Plain::Name => Reply::Info(Info::Name),
+        Plain::Levels(levels) => Reply::Info(Info::AssertionStackLevels(levels)),
+        Plain::Memout => Reply::Info(Info::ReasonUnknown(UnknownReason::Memout)),
+        Plain::BadCharacter(at) => Reply::Error(Error::Fault(FaultKind::Character, at)),
+        Plain::NotCommand => Reply::Error(Error::NotCommand),
+        Plain::InteractiveModeTooLate => {
+            Reply::Error(Error::OptionTooLate(OptionName::InteractiveMode))
+        }
+        Plain::NoModel => Reply::Error(Error::NoModel),
+        Plain::ValueTooLarge => Reply::Error(Error::ValueTooLarge),
+    }
+}
+
+/// Replies whose text never varies.
+static FIXED: [(Plain, &'static [u8]); 6] = [
+    (Plain::Success, b"success\n"),
+    (Plain::Silent, b""),
+    (Plain::Unsupported, b"unsupported\n"),
+    (Plain::Sat, b"sat\n"),
+    (Plain::Unsat, b"unsat\n"),
+    (Plain::Unknown, b"unknown\n"),
+];
+
+#[test]
+fn fixed_replies(rt: HostRuntime) -> Result<(), Fail> {
+    for row in FIXED.iter() {
+        let (which, want) = *row;
+        let reply = without_memory(which);
+        assert_eq!(rt; fixed(&reply), Some(want));
+        is_text(&rt, rt.alloc(), &reply, want)?;
+    }
+    Ok(())
+}
+
+/// Options, information, and errors without a name.
+static PLAIN: [(Plain, &'static [u8]); 11] = [
+    (Plain::Truth(true), b"true\n"),
+    (Plain::Number(-1), b"(- 1)\n"),
+    (
+        Plain::Number(i128::MAX),
+        b"170141183460469231731687303715884105727\n",
+    ),
+    (Plain::Name, b"(:name \"smt_cli\")\n"),
+    (Plain::Levels(65535), b"(:assertion-stack-levels 65535)\n"),
+    (Plain::Memout, b"(:reason-unknown memout)\n"),
+    (
+        Plain::BadCharacter(17),
+        b"(error \"E1 character at byte 17\")\n",
+    ),
+    (Plain::NotCommand, b"(error \"E6 not a command\")\n"),
+    (
+        Plain::InteractiveModeTooLate,
+        b"(error \"E11 option too late: :interactive-mode\")\n",
+    ),
+    (Plain::NoModel, b"(error \"E20 no model\")\n"),
+    (
+        Plain::ValueTooLarge,
+        b"(error \"E22 value past 128 bits\")\n",
+    ),
+];
+
+#[test]
+fn replies_without_memory(rt: HostRuntime) -> Result<(), Fail> {
+    for row in PLAIN.iter() {
+        let (which, want) = *row;
+        is_text(&rt, rt.alloc(), &without_memory(which), want)?;
+    }
     Ok(())
 }
 
@@ -34,84 +135,12 @@ fn application(alloc: Global, function: &[u8], argument: &[u8]) -> Result<SExpr,
     Ok(tokens.into_sexpr())
 }
 
-/// Compares the text of a reply whose text never varies.
-fn is_fixed(
-    rt: &impl Abort,
-    alloc: Global,
-    reply: Reply,
-    want: &'static [u8],
-) -> Result<(), AllocError> {
-    assert_eq!(rt; fixed(&reply), Some(want));
-    is_text(rt, alloc, reply, want)
-}
-
-#[test]
-fn fixed_replies(rt: HostRuntime) -> Result<(), Fail> {
-    let alloc = rt.alloc();
-    is_fixed(&rt, alloc, Reply::Success, b"success\n")?;
-    is_fixed(&rt, alloc, Reply::Silent, b"")?;
-    is_fixed(&rt, alloc, Reply::Unsupported, b"unsupported\n")?;
-    is_fixed(&rt, alloc, Reply::Sat, b"sat\n")?;
-    is_fixed(&rt, alloc, Reply::Unsat, b"unsat\n")?;
-    is_fixed(&rt, alloc, Reply::Unknown, b"unknown\n")?;
-    Ok(())
-}
-
-#[test]
-fn options(rt: HostRuntime) -> Result<(), Fail> {
-    let alloc = rt.alloc();
-    let truth = Reply::Option(OptionValue::Truth(true));
-    is_text(&rt, alloc, truth, b"true\n")?;
-    let negative = Reply::Option(OptionValue::Number(-1));
-    is_text(&rt, alloc, negative, b"(- 1)\n")?;
-    let greatest = Reply::Option(OptionValue::Number(i128::MAX));
-    is_text(
-        &rt,
-        alloc,
-        greatest,
-        b"170141183460469231731687303715884105727\n",
-    )?;
-    Ok(())
-}
-
-#[test]
-fn information(rt: HostRuntime) -> Result<(), Fail> {
-    let alloc = rt.alloc();
-    let name = Reply::Info(Info::Name);
-    is_text(&rt, alloc, name, b"(:name \"smt_cli\")\n")?;
-    let levels = Reply::Info(Info::AssertionStackLevels(65535));
-    is_text(&rt, alloc, levels, b"(:assertion-stack-levels 65535)\n")?;
-    let reason = Reply::Info(Info::ReasonUnknown(UnknownReason::Memout));
-    is_text(&rt, alloc, reason, b"(:reason-unknown memout)\n")?;
-    Ok(())
-}
-
-#[test]
-fn texts_are_quoted(rt: HostRuntime) -> Result<(), Fail> {
-    let alloc = rt.alloc();
-    let stdout = Bytes::copy(alloc, b"stdout")?;
-    let option = Reply::Option(OptionValue::Text(stdout));
-    is_text(&rt, alloc, option, b"\"stdout\"\n")?;
-    let echo = Bytes::copy(alloc, b"a \"b\"")?;
-    is_text(&rt, alloc, Reply::Echo(echo), b"\"a \"\"b\"\"\"\n")?;
-    Ok(())
-}
-
 /// Two assertions, in which names stand in bars.
 fn two_assertions(alloc: Global) -> Result<Reply, AllocError> {
     let mut terms = Seq::new(alloc);
     terms.push(application(alloc, b"not", b"a b")?)?;
     terms.push(word(alloc, b"push")?)?;
     Ok(Reply::Assertions(terms))
-}
-
-#[test]
-fn assertions(rt: HostRuntime) -> Result<(), Fail> {
-    let alloc = rt.alloc();
-    is_text(&rt, alloc, Reply::Assertions(Seq::new(alloc)), b"()\n")?;
-    let reply = two_assertions(alloc)?;
-    is_text(&rt, alloc, reply, b"((not |a b|) |push|)\n")?;
-    Ok(())
 }
 
 /// The value of a term, which is an application of `f` to `x`.
@@ -136,14 +165,6 @@ fn two_values(alloc: Global) -> Result<Reply, AllocError> {
     values.push(number_value(alloc)?)?;
     values.push(element_value(alloc)?)?;
     Ok(Reply::Values(values))
-}
-
-#[test]
-fn values(rt: HostRuntime) -> Result<(), Fail> {
-    let reply = two_values(rt.alloc())?;
-    let want = b"(((f x) (- 5)) (e (as |@a b!12| |a b|)))\n";
-    is_text(&rt, rt.alloc(), reply, want)?;
-    Ok(())
 }
 
 fn names(alloc: Global, names: &[&[u8]]) -> Result<Seq<Bytes>, AllocError> {
@@ -185,77 +206,100 @@ fn model(
     Ok(Reply::Model(functions))
 }
 
-#[test]
-fn model_of_one_argument(rt: HostRuntime) -> Result<(), Fail> {
-    let alloc = rt.alloc();
+fn one_argument(alloc: Global) -> Result<Reply, AllocError> {
     let row = row(alloc, PrintedValue::Whole(1), PrintedValue::Whole(5))?;
-    let reply = model(alloc, b"f", &[b"Int"], row, 0)?;
-    let want = b"((define-fun f ((x!0 Int)) Int (ite (= x!0 1) 5 0)))\n";
-    is_text(&rt, alloc, reply, want)?;
-    Ok(())
+    model(alloc, b"f", &[b"Int"], row, 0)
 }
 
-#[test]
-fn model_of_two_arguments(rt: HostRuntime) -> Result<(), Fail> {
-    let alloc = rt.alloc();
+fn two_arguments(alloc: Global) -> Result<Reply, AllocError> {
     let mut row = row(alloc, PrintedValue::Whole(-1), PrintedValue::Whole(2))?;
     row.arguments.push(PrintedValue::Truth(true))?;
-    let reply = model(alloc, b"g", &[b"Int", b"Bool"], row, 3)?;
-    let want =
-        b"((define-fun g ((x!0 Int) (x!1 Bool)) Int (ite (and (= x!0 (- 1)) (= x!1 true)) 2 3)))\n";
-    is_text(&rt, alloc, reply, want.as_slice())?;
-    Ok(())
+    model(alloc, b"g", &[b"Int", b"Bool"], row, 3)
 }
 
-/// Compares the text of an error.
-fn is_error(rt: &impl Abort, alloc: Global, error: Error, want: &[u8]) -> Result<(), AllocError> {
-    is_text(rt, alloc, Reply::Error(error), want)
+fn unknown_symbol(alloc: Global) -> Result<Refusal, AllocError> {
+    let text = Bytes::copy(alloc, b"a\"")?;
+    Ok(Refusal::UnknownSymbol(Token::Text(text)))
 }
 
-#[test]
-fn errors_without_a_name(rt: HostRuntime) -> Result<(), Fail> {
-    let alloc = rt.alloc();
-    let fault = Error::Fault(FaultKind::Character, 17);
-    is_error(&rt, alloc, fault, b"(error \"E1 character at byte 17\")\n")?;
-    is_error(
-        &rt,
-        alloc,
-        Error::NotCommand,
-        b"(error \"E6 not a command\")\n",
-    )?;
-    let late = Error::OptionTooLate(OptionName::InteractiveMode);
-    is_error(
-        &rt,
-        alloc,
-        late,
-        b"(error \"E11 option too late: :interactive-mode\")\n",
-    )?;
-    is_error(&rt, alloc, Error::NoModel, b"(error \"E20 no model\")\n")?;
-    is_error(
-        &rt,
-        alloc,
-        Error::ValueTooLarge,
-        b"(error \"E22 value past 128 bits\")\n",
-    )?;
-    Ok(())
+fn reserved_name(alloc: Global) -> Result<Refusal, AllocError> {
+    Ok(Refusal::ReservedName(Bytes::copy(alloc, b"let")?))
 }
 
-/// Compares the text of a refusal of `assert`.
-fn is_refusal(rt: &impl Abort, alloc: Global, why: Refusal, want: &[u8]) -> Result<(), AllocError> {
+/// The refusal of an `assert`.
+fn refused(alloc: Global, why: Refusal) -> Result<Reply, AllocError> {
     let assert = Bytes::copy(alloc, b"assert")?;
-    is_error(rt, alloc, Error::Refused(assert, why), want)
+    Ok(Reply::Error(Error::Refused(assert, why)))
 }
 
+/// A reply that takes memory.
+#[derive(Clone, Copy)]
+enum Made {
+    Text(&'static [u8]),
+    Echo(&'static [u8]),
+    NoAssertion,
+    TwoAssertions,
+    TwoValues,
+    OneArgument,
+    TwoArguments,
+    UnknownSymbol,
+    ReservedName,
+    WrongArguments,
+}
+
+fn with_memory(alloc: Global, made: Made) -> Result<Reply, AllocError> {
+    match made {
+        Made::Text(text) => Ok(Reply::Option(OptionValue::Text(Bytes::copy(alloc, text)?))),
+        Made::Echo(text) => Ok(Reply::Echo(Bytes::copy(alloc, text)?)),
+        Made::NoAssertion => Ok(Reply::Assertions(Seq::new(alloc))),
+        Made::TwoAssertions => two_assertions(alloc),
+        Made::TwoValues => two_values(alloc),
+        Made::OneArgument => one_argument(alloc),
+        Made::TwoArguments => two_arguments(alloc),
+        Made::UnknownSymbol => refused(alloc, unknown_symbol(alloc)?),
+        Made::ReservedName => refused(alloc, reserved_name(alloc)?),
+        Made::WrongArguments => refused(alloc, Refusal::WrongArguments),
+    }
+}
+
+/// Texts in quotes, terms, values, models, and errors with a name.
+static MADE: [(Made, &'static [u8]); 10] = [
+    (Made::Text(b"stdout"), b"\"stdout\"\n"),
+    (Made::Echo(b"a \"b\""), b"\"a \"\"b\"\"\"\n"),
+    (Made::NoAssertion, b"()\n"),
+    (Made::TwoAssertions, b"((not |a b|) |push|)\n"),
+    (
+        Made::TwoValues,
+        b"(((f x) (- 5)) (e (as |@a b!12| |a b|)))\n",
+    ),
+    (
+        Made::OneArgument,
+        b"((define-fun f ((x!0 Int)) Int (ite (= x!0 1) 5 0)))\n",
+    ),
+    (
+        Made::TwoArguments,
+        b"((define-fun g ((x!0 Int) (x!1 Bool)) Int (ite (and (= x!0 (- 1)) (= x!1 true)) 2 3)))\n",
+    ),
+    (
+        Made::UnknownSymbol,
+        b"(error \"E13 unknown symbol: \"\"a\"\"\"\"\"\"\")\n",
+    ),
+    (
+        Made::ReservedName,
+        b"(error \"E24 reserved name: |let|\")\n",
+    ),
+    (
+        Made::WrongArguments,
+        b"(error \"E8 wrong arguments: assert\")\n",
+    ),
+];
+
 #[test]
-fn refusals_with_a_name(rt: HostRuntime) -> Result<(), Fail> {
-    let alloc = rt.alloc();
-    let unknown = Refusal::UnknownSymbol(Token::Text(Bytes::copy(alloc, b"a\"")?));
-    let want = b"(error \"E13 unknown symbol: \"\"a\"\"\"\"\"\"\")\n";
-    is_refusal(&rt, alloc, unknown, want.as_slice())?;
-    let reserved = Refusal::ReservedName(Bytes::copy(alloc, b"let")?);
-    let want = b"(error \"E24 reserved name: |let|\")\n";
-    is_refusal(&rt, alloc, reserved, want.as_slice())?;
-    let want = b"(error \"E8 wrong arguments: assert\")\n";
-    is_refusal(&rt, alloc, Refusal::WrongArguments, want.as_slice())?;
+fn replies_with_memory(rt: HostRuntime) -> Result<(), Fail> {
+    for row in MADE.iter() {
+        let (which, want) = *row;
+        let reply = with_memory(rt.alloc(), which)?;
+        is_text(&rt, rt.alloc(), &reply, want)?;
+    }
     Ok(())
 }
