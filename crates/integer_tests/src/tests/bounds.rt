@@ -123,6 +123,18 @@ fn is_conflict(finding: &Finding, literals: &[(u32, bool)]) -> bool {
     }
 }
 
+/// Whether no whole numbers are found to meet the bounds of just these literals, or nothing is found where there are none.
+fn breaks_wholes(
+    bounds: &SumBounds,
+    alloc: Global,
+    literals: &[(u32, bool)],
+) -> Result<bool, AllocError> {
+    match bounds.whole_conflict(alloc)? {
+        Some(clause) => Ok(is_clause(&clause, literals)),
+        None => Ok(literals.is_empty()),
+    }
+}
+
 /// The least term with a value that isn't whole, and the floor of that value.
 fn fraction(bounds: &SumBounds) -> Option<(u32, i128)> {
     match bounds.first_fraction() {
@@ -151,6 +163,8 @@ enum Turn {
     Fits,
     /// A conflict of just these literals.
     Conflict(&'static [(u32, bool)]),
+    /// A conflict over whole numbers of just these literals, or none where there are none.
+    Wholes(&'static [(u32, bool)]),
     /// The least term with a value that isn't whole, and the floor of that value.
     Fraction(u32, i128),
     /// The count of variables, and that of bounds.
@@ -167,15 +181,16 @@ fn take(bounds: &mut SumBounds, alloc: Global, turn: &Turn) -> Result<bool, Fail
         }
         Turn::Fits => Ok(matches!(check(bounds, alloc), Finding::Fits)),
         Turn::Conflict(literals) => Ok(is_conflict(&check(bounds, alloc), literals)),
+        Turn::Wholes(literals) => Ok(breaks_wholes(bounds, alloc, literals)?),
         Turn::Fraction(term, floor) => Ok(fraction(bounds) == Some((*term, *floor))),
         Turn::Counts(variables, told) => Ok(bounds.count() == *variables && bounds.len() == *told),
     }
 }
 
-/// Takes turns on two terms with variables.
-fn take_all(rt: &impl Abort, alloc: Global, turns: &[Turn]) -> Result<(), Failure> {
+/// Takes turns on so many terms with variables.
+fn take_all(rt: &impl Abort, alloc: Global, leaves: u32, turns: &[Turn]) -> Result<(), Failure> {
     let mut bounds = SumBounds::new(alloc);
-    add_leaves(&mut bounds, alloc, 2)?;
+    add_leaves(&mut bounds, alloc, leaves)?;
     for (at, turn) in turns.iter().enumerate() {
         assert!(rt; take(&mut bounds, alloc, turn)?, "at {at}");
     }
@@ -235,53 +250,43 @@ static HALVES: [Turn; 4] = [
 
 #[test]
 fn bounds_are_told_and_taken_back(rt: HostRuntime) -> Result<(), Fail> {
-    take_all(&rt, rt.alloc(), &THREE_BOUNDS)?;
-    take_all(&rt, rt.alloc(), &HALVES)?;
+    take_all(&rt, rt.alloc(), 2, &THREE_BOUNDS)?;
+    take_all(&rt, rt.alloc(), 2, &HALVES)?;
+    take_all(&rt, rt.alloc(), 3, &ODD_AND_EVEN)?;
     Ok(())
 }
 
 /// x - 2 y <= 1, x - 2 y >= 1, x - 2 z <= 0, and x - 2 z >= 0.
-static ODD_AND_EVEN: [Row; 4] = [
-    Row {
+static ODD_AND_EVEN: [Turn; 8] = [
+    Turn::Tell(Row {
         atom: 0,
         positive: true,
         sum: &[X, MINUS_TWICE_Y],
         number: 1,
-    },
-    Row {
+    }),
+    Turn::Tell(Row {
         atom: 1,
         positive: false,
         sum: &[X, MINUS_TWICE_Y],
         number: 0,
-    },
-    Row {
+    }),
+    Turn::Tell(Row {
         atom: 2,
         positive: true,
         sum: &[X, MINUS_TWICE_Z],
         number: 0,
-    },
-    Row {
+    }),
+    Turn::Tell(Row {
         atom: 3,
         positive: false,
         sum: &[X, MINUS_TWICE_Z],
         number: -1,
-    },
+    }),
+    Turn::Fits,
+    Turn::Wholes(&[(0, false), (1, true), (2, false), (3, true)]),
+    Turn::Undo(3),
+    Turn::Wholes(&[]),
 ];
-
-#[test]
-fn no_number_is_odd_and_even(rt: HostRuntime) -> Result<(), Fail> {
-    let mut bounds = SumBounds::new(rt.alloc());
-    add_leaves(&mut bounds, rt.alloc(), 3)?;
-    assert!(rt; tell_all(&mut bounds, rt.alloc(), &ODD_AND_EVEN)?);
-    assert!(rt; matches!(check(&mut bounds, rt.alloc()), Finding::Fits));
-    let all = [(0, false), (1, true), (2, false), (3, true)];
-    assert!(rt;
-        matches!(bounds.whole_conflict(rt.alloc())?, Some(clause) if is_clause(&clause, &all))
-    );
-    bounds.undo_to(3);
-    assert!(rt; matches!(bounds.whole_conflict(rt.alloc())?, None));
-    Ok(())
-}
 
 #[test]
 fn branches_have_two_sides(rt: HostRuntime) -> Result<(), Fail> {
