@@ -6,10 +6,12 @@ ghost use Rattle.search_port.specs.Forcing.{ForcesByNumbers, ForcesInTurn};
 
 mod bare;
 mod budget;
+mod shown;
 mod theory;
 
 pub use bare::{About, Bare, Judged};
 pub use budget::{Budget, Cause, Lemma, Spent};
+pub use shown::{Showing, Shown};
 pub use theory::{Asserted, Checked, Inferred, Theory};
 
 /// A clause over numbers follows exactly where the clause with its atoms written out does.

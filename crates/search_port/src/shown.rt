@@ -1,0 +1,30 @@
+// What a theory shows of a search that ended without an answer.
+use crate::theory::Theory;
+use grid_meaning::Line;
+use smt_meaning::{Atom, RangeSeen, Seq};
+use std::alloc::{AllocError, Global};
+
+/// What a theory shows at the end of a search.
+#[derive(Drop)]
+pub struct Showing {
+    /// The rows at which it branched, oldest first.
+    pub branches: Seq<Line>,
+    /// Where a number left the range, if that ended the search.
+    pub seen: Option<RangeSeen>,
+}
+
+/// A theory that shows how its atoms came, and where a number left the range.
+pub trait Shown: Theory {
+    ghost use Rattle.std.specs.Prelude.{◌≡◌, ◌<◌, length, IfOk};
+    ghost use Rattle.search_port.specs.State.{atom_at};
+    ghost use Rattle.search_port.specs.Showing.{IsShowing};
+
+    /// The atom of a number, written out. An `Err` is for want of memory.
+    fn atom(&self, alloc: Global, number: u32) -> Result<Atom, AllocError>
+        requires { number < length (Self.state self.now).reading.table }
+        ensures { IfOk result (λ a. a ≡ atom_at (Self.state self.now).reading.table number) };
+
+    /// Its branches, over which its atoms are atoms of the check, no two the same; and where a number left the range.
+    fn show(self) -> Showing
+        ensures { IsShowing (Self.state self).reading result };
+}
