@@ -16,7 +16,8 @@ use Rattle.elaborate.specs.declared.error.JudgeError.TheVariants.{Refused, Memor
 use Rattle.elaborate.specs.Judged.{scope_of, variables_of, IsCauseOf}
 use Rattle.elaborate.specs.Values.{Comes}
 use Rattle.elaborate.specs.Frames.{variable_at, AreBound}
-use Rattle.elaborate.specs.Bodies.{places_from, bindings_from}
+use Rattle.smt_sorts.specs.Workshop.{places_from}
+use Rattle.elaborate.specs.Bodies.{bindings_from}
 use Rattle.elaborate.proofs.Copies.{trees_of_parameters, variables_are, parameters_bound}
 
 pub all_bound : (ts : List Tree) (n : ℕ) (ps : List Parameter) (bs : List Binding) → ts ≡ places_from 0 n → n ≡ length ps → bs ≡ bindings_from 0 ps → AreBound ts bs

@@ -9,12 +9,13 @@ use Rattle.smt_meaning.specs.declared.terms.Head.TheVariants.{Place}
 use Rattle.smt_meaning.specs.declared.nodes.Node.{Node}
 use Rattle.smt_meaning.specs.Term.{Tree, node, none, tree_at}
 use Rattle.smt_meaning.specs.TreeShape.{is_among, is_constant, is_linear, with_parts}
-use Rattle.smt_meaning.specs.Nodes.{pick, tree_of, trees_from, trees_of, AreNodes}
+use Rattle.smt_meaning.specs.Nodes.{pick, tree_of, trees_from, trees_of, AreNodes, AreNodesAfter}
 use Rattle.smt_meaning.specs.Sorts.{Variable}
 use Rattle.elaborate.specs.declared.Parameter.{Parameter}
 use Rattle.elaborate.specs.Judged.{parameters_from}
 use Rattle.elaborate.specs.Frames.{variable_at, AreBound}
-use Rattle.elaborate.specs.Bodies.{places_from, bindings_from}
+use Rattle.smt_sorts.specs.Workshop.{places_from}
+use Rattle.elaborate.specs.Bodies.{bindings_from}
 
 -- ---- places
 
@@ -119,4 +120,36 @@ one_more ts m ns ms n f h e here all =
           ∙ sym (take_push m ts _ h);
       count = omega (arith, length_push ns n, f.count);
       earlier = nodes_push ns n f.earlier (subst (λ j. All (λ i. i < j) n.arguments) (sym f.count) all);
+    })
+
+-- ---- nodes from a place on
+
+-- so many trees are the first ones and those of these nodes
+pub record AreFrom (ts : List Tree) (from' m : ℕ) (ns : List Node) : Type 0 where
+  pub trees : trees_from (take from' ts) ns ≡ take m ts
+  pub count : from' + length ns ≡ m
+  pub earlier : AreNodesAfter from' ns
+
+pub none_from : (ts : List Tree) (from' : ℕ) → AreFrom ts from' from' []
+none_from ts from' = record { trees = refl; count = omega arith; earlier = λ k d h. absurd (omega arith) }
+
+after_push : (m : ℕ) (ns : List Node) (n : Node) → AreNodesAfter m ns → All (λ i. i < m + length ns) n.arguments → AreNodesAfter m (ns ++ n ∷ [])
+after_push m ns n nodes args k d h =
+    elim (cases_lt k (length ns)) [
+      | inl below ↦ rw (get_or_append_left ns (n ∷ []) d k below) (nodes k d below)
+      | inr above ↦
+          let at_end : length ns ≡ k = omega (arith, length_push ns n) in
+          subst (λ j. All (λ i. i < m + j) (get_or (ns ++ n ∷ []) j d).arguments) at_end (rw (get_or-append_seam ns n [] d) args)
+    ]
+
+pub one_from : (ts : List Tree) (from' m : ℕ) (ns ms : List Node) (n : Node) → AreFrom ts from' m ns → m < length ts → ms ≡ ns ++ n ∷ [] → tree_at ts m ≡ tree_of ts n → All (λ i. i < m) n.arguments → AreFrom ts from' (suc m) ms
+one_from ts from' m ns ms n f h e here all =
+    subst (AreFrom ts from' (suc m)) (sym e) (record {
+      trees =
+          trees_from-append (take from' ts) ns (n ∷ []) ∙ ap (λ us. us ++ tree_of us n ∷ []) f.trees
+          ∙ ap (λ us. take m ts ++ node n.head us ∷ []) (pick_first ts n.arguments m (omega arith) all)
+          ∙ ap (λ t. take m ts ++ t ∷ []) (sym here)
+          ∙ sym (take_push m ts _ h);
+      count = omega (arith, length_push ns n, f.count);
+      earlier = after_push from' ns n f.earlier (subst (λ j. All (λ i. i < j) n.arguments) (sym f.count) all);
     })

@@ -1,3 +1,7 @@
+pub mod Again
+mod Laid
+pub mod Owned
+mod Left
 pub mod Flags
 pub mod Stored
 pub mod Applied

@@ -113,7 +113,7 @@ with_all_push : (ts us : List Tree) (t : Tree) → with_all ts (us ++ t ∷ []) 
 with_all_push ts [] t = refl
 with_all_push ts (u ∷ us) t = with_all_push (with_parts ts u) us t
 
-values_push : (ts : List Tree) (vs : List Value) (v : Value) → AreValues ts vs → IsValue ts v → AreValues ts (vs ++ v ∷ [])
+pub values_push : (ts : List Tree) (vs : List Value) (v : Value) → AreValues ts vs → IsValue ts v → AreValues ts (vs ++ v ∷ [])
 values_push ts [] v a h = (h, tt)
 values_push ts (w ∷ vs) v a h = (a.0, values_push ts vs v a.1 h)
 
@@ -162,7 +162,7 @@ longer_both ts us ws l m = (l.0 ++ m.0, m.1 ∙ ap (λ xs. xs ++ m.0) l.1 ∙ ap
 abbrev at : Scope → List Tree → Scope
 at s us = record s { trees = us }
 
-defined_is : (r : Rules) (d : Declaration) (b : Body) (xs : Trees) (s : Scope) (l : Bool) → d.body ≡ Some b → (not r.closed || all_are_linear (map (put xs) b.terms)) ≡ l
+pub defined_is : (r : Rules) (d : Declaration) (b : Body) (xs : Trees) (s : Scope) (l : Bool) → d.body ≡ Some b → (not r.closed || all_are_linear (map (put xs) b.terms)) ≡ l
     → judge_symbol r d xs s ≡ (require l NotLinear >> (note (map (put xs) b.terms) >> found (put xs b.term) d.rank.result)) s
 defined_is r d b xs s l e h =
     ap (λ (o : Option Body). (require (not r.closed || all_are_linear (elim o [ None ↦ node (Symbol d.id) xs ∷ [] | Some c ↦ map (put xs) c.terms ])) NotLinear
@@ -173,7 +173,7 @@ refused_here : (us : List Tree) (t : Tree) (x : Sort) (s : Scope) → (require f
 unfolding ◌>>◌ return refuse require note found
 refused_here us t x s = refl
 
-done_here : (us : List Tree) (t : Tree) (x : Sort) (s : Scope) → (require true NotLinear >> (note us >> found t x)) s ≡ done (record { tree = t; sort = x }) (at s (with_all s.trees us))
+pub done_here : (us : List Tree) (t : Tree) (x : Sort) (s : Scope) → (require true NotLinear >> (note us >> found t x)) s ≡ done (record { tree = t; sort = x }) (at s (with_all s.trees us))
 unfolding ◌>>◌ return refuse require note found
 done_here us t x s = refl
 

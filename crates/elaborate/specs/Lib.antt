@@ -7,3 +7,4 @@ pub mod Bodies
 pub mod Parts
 pub mod Naming
 pub mod Filed
+pub mod Own

@@ -108,7 +108,7 @@ pub(crate) fn bare_operator(
 }
 
 /// Whether the arguments have these sorts, each its own.
-fn have_sorts(arguments: &[Value], sorts: &[Sort]) -> bool
+pub(crate) fn have_sorts(arguments: &[Value], sorts: &[Sort]) -> bool
     requires { length arguments.now ≡ length sorts.now }
     ensures { result ≡ sorts_eq (map sort_of arguments.now) sorts.now }
 {
@@ -163,13 +163,13 @@ fn apply_declared(
 }
 
 /// The head of a list has at least one argument.
-fn is_count(count: usize, wanted: usize) -> bool
+pub(crate) fn is_count(count: usize, wanted: usize) -> bool
     ensures { result ≡ (nat_eq count wanted && nat_le 1 count) }
 {
     count == wanted && count >= 1
 }
 
-fn is_zero(count: usize) -> bool
+pub(crate) fn is_zero(count: usize) -> bool
     ensures { result ≡ nat_eq count 0 }
 {
     count == 0

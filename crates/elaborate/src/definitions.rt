@@ -1,6 +1,8 @@
 //! Definitions, with arguments put in for their parameters (SMT-LIB 2.6, section 4.2.3).
-ghost use Rattle.std.specs.Prelude.{◌≡◌, ◌<◌, [], map, length, All, IfOk, OnErr, Some, List};
-ghost use Rattle.smt_meaning.specs.Nodes.{AreNodes, trees_of as terms_of};
+ghost use Rattle.std.specs.Prelude.{◌≡◌, ◌<◌, ◌++◌, [], map, length, All, IfOk, OnOk, OnErr, Some, List};
+ghost use Rattle.smt_meaning.specs.declared.nodes.Node.{Node as NodeValue};
+ghost use Rattle.smt_meaning.specs.Nodes.{AreNodes, AreNodesAfter, joined, trees_of as terms_of};
+ghost use Rattle.smt_meaning.specs.Term.{Tree, Trees};
 ghost use Rattle.smt_meaning.specs.Sorts.{judge_symbol, trees_of};
 ghost use Rattle.elaborate.specs.Judged.{scope_of, rules_of};
 ghost use Rattle.elaborate.specs.Values.{AreValues, Comes, HasGrown, IsNode, typed};
@@ -10,7 +12,7 @@ ghost use Rattle.elaborate.specs.Putting.{value_at, IsPut, ArePut};
 use crate::apply::{Rules, may_stand};
 use crate::error::JudgeError;
 use crate::value::{Value, are_linear, stored};
-use smt_meaning::{Body, Declaration, Head, Node, Operator, Refusal, Sort, TermId};
+use smt_meaning::{Body, Declaration, Head, Layer, Node, Operator, Refusal, Sort, TermId};
 use smt_sorts::Table;
 use std::alloc::{AllocError, Global};
 use term_store::TermStore;
@@ -86,23 +88,44 @@ fn put_other(
     stored(alloc, node.head, Sort::Bool, &parts, store)
 }
 
+/// The values of more terms of a definition with arguments put in, after those of the terms before them.
+fn put_layer(
+    alloc: Global,
+    nodes: &[Node],
+    arguments: &[Value],
+    values: &mut Vec<Value>,
+    store: &mut TermStore,
+) -> Result<(), JudgeError>
+    requires arguments { AreValues store.old.trees arguments.now }
+    requires values { AreValues store.old.trees values.old.items }
+    requires nodes { AreNodesAfter (length values.old.items) nodes.now }
+    ensures ok { OnOk result ((ns : List NodeValue) (ts : List Tree) (xs : Trees) → xs ≡ trees_of (map (typed store.old.trees) arguments.now) → ArePut xs ts (terms_of ns) values.old.items store.old.trees → ArePut xs ts (terms_of (ns ++ nodes.now)) values.new.items store.new.trees) }
+    ensures memory { OnErr result (result ≡ Err JudgeError.Memory) }
+    ensures longer { HasGrown store.old store.new }
+{
+    for node in nodes {
+        let value = put_node(alloc, node, arguments, values, store)?;
+        values.push(value)?;
+    }
+    Ok(())
+}
+
 /// The values of all terms of a definition with arguments put in, in order.
 fn put_all(
     alloc: Global,
-    nodes: &[Node],
+    layers: &[Layer],
     arguments: &[Value],
     store: &mut TermStore,
 ) -> Result<Vec<Value>, JudgeError>
     requires arguments { AreValues store.old.trees arguments.now }
-    requires nodes { AreNodes nodes.now }
-    ensures ok { IfOk result (λ v. ArePut (trees_of (map (typed store.old.trees) arguments.now)) store.old.trees (terms_of nodes.now) v.items store.new.trees) }
+    requires nodes { AreNodes (joined layers.now) }
+    ensures ok { IfOk result (λ v. ArePut (trees_of (map (typed store.old.trees) arguments.now)) store.old.trees (terms_of (joined layers.now)) v.items store.new.trees) }
     ensures memory { OnErr result (result ≡ Err JudgeError.Memory) }
     ensures longer { HasGrown store.old store.new }
 {
     let mut values = Vec::new(alloc);
-    for node in nodes {
-        let value = put_node(alloc, node, arguments, &values, store)?;
-        values.push(value)?;
+    for layer in layers {
+        put_layer(alloc, layer.nodes(), arguments, &mut values, store)?;
     }
     Ok(values)
 }
@@ -123,7 +146,7 @@ pub(crate) fn apply_definition(
     ensures longer { HasGrown store.old store.new }
 {
     let _ = table.ids();
-    let values = put_all(alloc, body.terms().nodes(), arguments, store)?;
+    let values = put_all(alloc, body.terms().layers(), arguments, store)?;
     if !may_stand(rules, are_linear(&values)) {
         return Err(JudgeError::Refused(Refusal::NotLinear));
     }

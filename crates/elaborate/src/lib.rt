@@ -6,11 +6,14 @@ ghost use Rattle.smt_meaning.specs.Sexp.{sexp};
 ghost use Rattle.smt_meaning.specs.Term.{Tree};
 ghost use Rattle.smt_meaning.specs.Sorts.{judge, done};
 ghost use Rattle.smt_meaning.specs.StackCommand.{judge_body};
-ghost use Rattle.smt_sorts.specs.Names.{Names, HasGained};
+ghost use Rattle.smt_sorts.specs.Names.{Names, HasGained, signature};
+ghost use Rattle.smt_sorts.specs.Workshop.{IsOfAny};
 ghost use Rattle.elaborate.specs.Judged.{scope_of, rules_of, term_rules, typed_term, IsCauseOf, variables_of, bodied_of};
 ghost use Rattle.elaborate.specs.Values.{IsLonger, HasGrown};
 ghost use Rattle.elaborate.specs.Naming.{TermComes};
+ghost use Rattle.elaborate.specs.Own.{IsLeft};
 
+mod apart;
 mod apply;
 mod bindings;
 mod bodies;
@@ -22,6 +25,7 @@ mod head;
 mod naming;
 mod numeral;
 mod operators;
+mod own;
 mod parts;
 mod read;
 mod stack;
@@ -37,7 +41,7 @@ use look_ahead::ends;
 use name_index::Named;
 use naming::judge_named;
 use smt_meaning::{Body, Bytes, SExpr, Sort, TermId};
-use smt_sorts::Table;
+use smt_sorts::{Kept, Table, Workshop};
 use std::alloc::Global;
 use term_store::TermStore;
 use value::Value;
@@ -64,11 +68,12 @@ impl Named for Parameter {
     }
 }
 
-/// The body of a definition, and its sort.
-#[derive(Debug, Drop)]
+/// The body of a definition, its sort, and what may be kept of its judgement for the next one.
+#[derive(Drop)]
 pub struct TypedBody {
     pub body: Body,
     pub sort: Sort,
+    pub workshop: Option<Workshop>,
 }
 
 /// Judges a term without parameters, where `:named` is allowed or not: its place among the terms and its sort, or the one refusal. The terms
@@ -126,15 +131,18 @@ fn judged(
 }
 
 /// Judges the body of a definition with these parameters, apart from the terms of the stack: its different terms, and its sort, or the one
-/// refusal.
+/// refusal. Where it begins with the definition of which something is kept, its terms are taken from there.
 pub fn body(
     alloc: Global,
     parameters: &[Parameter],
     term: &SExpr,
     table: &Table,
+    kept: Option<Kept>,
 ) -> Result<TypedBody, JudgeError>
+    requires { IsOfAny (signature table.now) kept }
+    ensures workshop { IfOk result (λ b. IsLeft b.body b.workshop) }
     ensures ok { IfOk result (λ b. (ts : List Tree) → judge_body (variables_of parameters.now) term.now (scope_of table.now ts) ≡ done (bodied_of b) (scope_of table.now ts)) }
     ensures refused { IfErr result (λ e. (ts : List Tree) → IsCauseOf e (judge_body (variables_of parameters.now) term.now (scope_of table.now ts))) }
 {
-    typed_body(alloc, parameters, term, table)
+    typed_body(alloc, parameters, term, table, kept)
 }

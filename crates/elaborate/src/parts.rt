@@ -183,7 +183,7 @@ fn terms(alloc: Global, store: &TermStore) -> Result<Terms, AllocError>
         let node = node(alloc, store, id)?;
         nodes.push(node)?;
     }
-    Ok(Terms::from_nodes(nodes))
+    Terms::from_nodes(alloc, nodes)
 }
 
 /// A stored term as the body of a definition.

@@ -8,13 +8,16 @@ ghost use Rattle.elaborate.specs.Judged.{scope_of, rules_of};
 ghost use Rattle.elaborate.specs.Values.{Comes, HasGrown};
 ghost use Rattle.elaborate.specs.Frames.{AreBound, variable_at, walk_of, Stands};
 ghost use Rattle.elaborate.specs.Steps.{StepComes};
+ghost use Rattle.smt_sorts.specs.Names.{signature};
+ghost use Rattle.elaborate.specs.Own.{IsApart};
 
+use crate::apart::step_apart;
 use crate::apply::Rules;
 use crate::bindings::Bindings;
 use crate::error::JudgeError;
 use crate::frame::Walk;
+use crate::own::Apart;
 use crate::stack::Stack;
-use crate::steps::step;
 use crate::value::Value;
 use smt_meaning::{Refusal, SExpr};
 use smt_sorts::Table;
@@ -31,14 +34,17 @@ fn read(
     walk: &mut Walk,
     table: &Table,
     store: &mut TermStore,
+    apart: &mut Apart,
 ) -> Result<(), JudgeError>
     requires ends { AreEnds term.now ends.now }
     requires stands { Stands (scope_of table.now store.old.trees) walk.old }
+    requires apart { IsApart (signature table.now) store.old.trees apart.old }
     ensures comes { StepComes (run (rules_of rules) term.now (walk_of term.now (scope_of table.now store.old.trees) walk.old)) (scope_of table.now store.old.trees) term.now (scope_of table.now store.new.trees) walk.new result }
     ensures longer { HasGrown store.old store.new }
+    ensures apart { IsApart (signature table.now) store.new.trees apart.new }
 {
     for place in 0..term.len() {
-        match step(alloc, rules, term, ends, place, walk, table, store) {
+        match step_apart(alloc, rules, term, ends, place, walk, table, store, apart) {
             Ok(()) => {}
             Err(error) => return Err(error),
         }
@@ -46,7 +52,7 @@ fn read(
     Ok(())
 }
 
-/// Judges a term under variables.
+/// Judges the body of a definition under variables.
 pub(crate) fn judge_term(
     alloc: Global,
     rules: Rules,
@@ -55,11 +61,14 @@ pub(crate) fn judge_term(
     bindings: Bindings,
     table: &Table,
     store: &mut TermStore,
+    apart: &mut Apart,
 ) -> Result<Value, JudgeError>
     requires ends { AreEnds term.now ends.now }
     requires bound { AreBound store.old.trees bindings }
+    requires apart { IsApart (signature table.now) store.old.trees apart.old }
     ensures comes { Comes (judge (rules_of rules) (map (variable_at store.old.trees) bindings) (sexp term.now)) (scope_of table.now store.old.trees) store.new.trees result }
     ensures longer { HasGrown store.old store.new }
+    ensures apart { IsApart (signature table.now) store.new.trees apart.new }
 {
     walk_gives_the_judgement();
     let _ = term.len();
@@ -68,7 +77,7 @@ pub(crate) fn judge_term(
         frames: Stack::new(alloc),
         bindings,
     };
-    match read(alloc, rules, term, ends, &mut walk, table, store) {
+    match read(alloc, rules, term, ends, &mut walk, table, store, apart) {
         Ok(()) => match walk.answer {
             Some(value) => Ok(value),
             None => Err(JudgeError::Refused(Refusal::WrongArguments)),

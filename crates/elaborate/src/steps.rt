@@ -38,7 +38,7 @@ pub(crate) enum Class {
     Word,
 }
 
-fn class_of(token: TokenView<'_>) -> Class
+pub(crate) fn class_of(token: TokenView<'_>) -> Class
     ensures { result ≡ class_of (seen token.entry) }
 {
     match token {

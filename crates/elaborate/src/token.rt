@@ -38,7 +38,7 @@ fn judge_numeral(
 }
 
 /// The term that a name stands for.
-fn judge_name(
+pub(crate) fn judge_name(
     alloc: Global,
     rules: Rules,
     name: &[u8],

@@ -15,3 +15,4 @@ mod RoomSteps
 pub mod SortLemmas
 pub mod FactLemmas
 pub mod LevelSteps
+mod KeptSteps

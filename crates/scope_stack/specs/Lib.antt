@@ -5,3 +5,4 @@ pub mod Judged
 pub mod Carries
 pub mod Shown
 pub mod Facts
+pub mod Kept

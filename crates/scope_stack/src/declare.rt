@@ -1,10 +1,13 @@
 //! Declarations and definitions of sorts and functions.
-ghost use Rattle.std.specs.Prelude.{◌≡◌, None, pos, OnOk, OnErr, IfErr};
+ghost use Rattle.std.specs.Prelude.{◌≡◌, ◌<◌, None, Some, pos, OnOk, OnErr, IfErr};
 ghost use Rattle.smt_meaning.specs.Signature.{find_function, find_sort};
 ghost use Rattle.smt_meaning.specs.Sorts.{declare};
 ghost use Rattle.smt_meaning.specs.StackCommand.{declare_function, declare_new_sort, declare_sort, define_function, define_new_sort, define_sort, function_declaration, sort_declaration};
 ghost use Rattle.smt_meaning.specs.Term.{int_eq};
 ghost use Rattle.smt_sorts.specs.Names.{signature, sort_or_new, HasGained};
+ghost use Rattle.smt_sorts.specs.Workshop.{IsOfAny};
+ghost use Rattle.elaborate.specs.Own.{IsLeft};
+ghost use Rattle.scope_stack.specs.Kept.{IsKeptOf};
 ghost use Rattle.scope_stack.specs.Judged.{Adds, Causes, Declares, HasDeclared, IsFailed, IfTooMany};
 
 use crate::answers::{Carried, StackError};
@@ -12,9 +15,10 @@ use crate::judge::{
     judge_body, judge_parameters, judge_sort, judge_sorts, new_function_name, new_sort_name,
     sorts_of,
 };
+use elaborate::TypedBody;
 use smt_meaning::language::{Parameter, WrittenSort};
-use smt_meaning::{Body, Bytes, Rank, Refusal, SExpr, Seq, Sort};
-use smt_sorts::{AddError, Table};
+use smt_meaning::{Bytes, Rank, Refusal, SExpr, Seq, Sort, SymId};
+use smt_sorts::{AddError, Kept, Table, Workshop};
 use std::alloc::Global;
 
 fn add_error(error: AddError) -> StackError
@@ -46,24 +50,54 @@ fn add_sort(
     }
 }
 
-/// The newest level gains a function.
-fn add_function(
+/// The newest level gains a declared function.
+fn add_function(alloc: Global, table: &mut Table, name: &[u8], rank: Rank) -> Result<(), StackError>
+    requires { find_function name.now (signature table.old) ≡ None }
+    ensures adds { OnOk result (Adds (declare (λ id. function_declaration id name.now rank.arguments rank.result None)) table.old tt table.new) }
+    ensures gained { OnOk result (HasGained table.old table.new) }
+    ensures causes { IfErr result (Causes (declare (λ id. function_declaration id name.now rank.arguments rank.result None)) table.old) }
+    ensures err { OnErr result (table.new ≡ table.old) }
+{
+    let _ = table.ids();
+    match table.add_function(alloc, name, rank, None) {
+        Ok(_) => Ok(()),
+        Err(error) => Err(add_error(error)),
+    }
+}
+
+/// The newest level gains a definition, of whose judgement something may be kept.
+fn add_definition(
     alloc: Global,
     table: &mut Table,
     name: &[u8],
     rank: Rank,
-    body: Option<Body>,
+    judged: TypedBody,
 ) -> Result<(), StackError>
-    requires { find_function name.now (signature table.old) ≡ None }
-    ensures adds { OnOk result (Adds (declare (λ id. function_declaration id name.now rank.arguments rank.result body)) table.old tt table.new) }
+    requires new { find_function name.now (signature table.old) ≡ None }
+    requires workshop { IsLeft judged.body judged.workshop }
+    ensures adds { OnOk result (Adds (declare (λ id. function_declaration id name.now rank.arguments rank.result (Some judged.body))) table.old tt table.new) }
     ensures gained { OnOk result (HasGained table.old table.new) }
-    ensures causes { IfErr result (Causes (declare (λ id. function_declaration id name.now rank.arguments rank.result body)) table.old) }
+    ensures causes { IfErr result (Causes (declare (λ id. function_declaration id name.now rank.arguments rank.result (Some judged.body))) table.old) }
     ensures err { OnErr result (table.new ≡ table.old) }
 {
     let _ = table.ids();
-    match table.add_function(alloc, name, rank, body) {
-        Ok(_) => Ok(()),
+    match table.add_function(alloc, name, rank, Some(judged.body)) {
+        Ok(id) => {
+            keep(table, id, judged.workshop);
+            Ok(())
+        }
         Err(error) => Err(add_error(error)),
+    }
+}
+
+/// Keeps what is left of the judgement of the definition with this id.
+fn keep(table: &mut Table, id: SymId, workshop: Option<Workshop>)
+    requires given { id < table.old.given }
+    requires of { IsKeptOf (signature table.old) id workshop }
+    ensures { table.new ≡ table.old }
+{
+    if let Some(workshop) = workshop {
+        table.keep(Kept { id, workshop });
     }
 }
 
@@ -146,7 +180,7 @@ pub(crate) fn declare_function(
     new_function_name(alloc, name, table)?;
     let arguments = judge_sorts(alloc, arguments, table)?;
     let result = judge_sort(alloc, sort, table)?;
-    add_function(alloc, table, name, Rank { arguments, result }, None)?;
+    add_function(alloc, table, name, Rank { arguments, result })?;
     Ok(Carried::Done)
 }
 
@@ -161,11 +195,36 @@ pub(crate) fn define_function(
 ) -> Result<Carried, StackError>
     ensures { Declares (define_function name.now parameters.now sort.now body.now) table.old result table.new }
 {
+    let kept = table.take_kept();
+    define_with(alloc, table, name, parameters, sort, body, kept)
+}
+
+/// Defines a function, with what is kept of the definition before.
+fn define_with(
+    alloc: Global,
+    table: &mut Table,
+    name: &[u8],
+    parameters: &[Parameter],
+    sort: &WrittenSort,
+    body: &SExpr,
+    kept: Option<Kept>,
+) -> Result<Carried, StackError>
+    requires { IsOfAny (signature table.old) kept }
+    ensures { Declares (define_function name.now parameters.now sort.now body.now) table.old result table.new }
+{
     new_function_name(alloc, name, table)?;
     let parameters = judge_parameters(alloc, parameters, table)?;
     let result = judge_sort(alloc, sort, table)?;
-    let body = judge_body(alloc, name, parameters.as_slice(), result, body, table)?;
+    let judged = judge_body(
+        alloc,
+        name,
+        parameters.as_slice(),
+        result,
+        body,
+        table,
+        kept,
+    )?;
     let arguments = Seq::from_vec(sorts_of(alloc, parameters.as_slice())?);
-    add_function(alloc, table, name, Rank { arguments, result }, Some(body))?;
+    add_definition(alloc, table, name, Rank { arguments, result }, judged)?;
     Ok(Carried::Done)
 }

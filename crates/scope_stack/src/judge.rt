@@ -4,16 +4,18 @@ ghost use Rattle.std.specs.Prelude.{◌≡◌, ◌++◌, ◌∷◌, [], map, Non
 ghost use Rattle.smt_meaning.specs.Signature.{find_function, find_sort, is_one_of, sort_eq};
 ghost use Rattle.smt_meaning.specs.StackCommand.{judge_parameters, judge_sort, judge_sorts, new_function_name, new_sort_name};
 ghost use Rattle.smt_sorts.specs.Names.{signature};
+ghost use Rattle.smt_sorts.specs.Workshop.{IsOfAny};
+ghost use Rattle.elaborate.specs.Own.{IsLeft};
 ghost use Rattle.scope_stack.specs.Judged.{Gives, Causes, IsBody, IsError, IsParameter, body_of_sort, name_refusal, names_before, one_parameter, parameter_name, sort_of};
 ghost use Rattle.name_index.specs.Newest.{hashes_of};
 
 use crate::answers::StackError;
 use crate::term::judge_error;
-use elaborate::Parameter as Judged;
+use elaborate::{Parameter as Judged, TypedBody};
 use name_index::{find, hash};
 use smt_meaning::language::{Parameter, WrittenSort};
-use smt_meaning::{Body, Refusal, SExpr, Seq, Sort, Token};
-use smt_sorts::{NameError, Table};
+use smt_meaning::{Refusal, SExpr, Seq, Sort, Token};
+use smt_sorts::{Kept, NameError, Table};
 use std::alloc::{AllocError, Global};
 use term_store::HashIndex;
 
@@ -213,14 +215,17 @@ pub(crate) fn judge_body(
     sort: Sort,
     term: &SExpr,
     table: &Table,
-) -> Result<Body, StackError>
-    ensures gives { IfOk result (IsBody (variables_of parameters.now) term.now sort table.now) }
+    kept: Option<Kept>,
+) -> Result<TypedBody, StackError>
+    requires { IsOfAny (signature table.now) kept }
+    ensures gives { IfOk result (λ b. IsBody (variables_of parameters.now) term.now sort table.now b.body) }
+    ensures workshop { IfOk result (λ b. IsLeft b.body b.workshop) }
     ensures causes { IfErr result (Causes (body_of_sort name.now (variables_of parameters.now) term.now sort) table.now) }
 {
-    match elaborate::body(alloc, parameters, term, table) {
+    match elaborate::body(alloc, parameters, term, table, kept) {
         Ok(judged) => {
             if is_same(judged.sort, sort) {
-                Ok(judged.body)
+                Ok(judged)
             } else {
                 Err(differs(alloc, name))
             }

@@ -20,7 +20,7 @@ mod values;
 
 pub use clauses::{Atom, AtomId, Clause, ClauseId, Literal, Sum, Summand};
 pub use declarations::{Body, Declaration, Rank};
-pub use nodes::{Node, Terms};
+pub use nodes::{Layer, Node, Terms};
 pub use refusals::Refusal;
 pub use replies::Kept;
 pub use reports::{Cause, RangeSeen, Report, Unit};

@@ -5,3 +5,4 @@ mod LevelLemmas
 mod TableLemmas
 mod PlaceLemmas
 mod WhereLemmas
+mod KeptLemmas

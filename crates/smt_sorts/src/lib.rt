@@ -6,6 +6,8 @@ mod errors;
 mod places;
 mod reserved;
 mod table;
+mod workshop;
 
 pub use errors::{AddError, NameError};
 pub use table::Table;
+pub use workshop::{Kept, Workshop};

@@ -8,6 +8,7 @@ ghost use Rattle.smt_sorts.specs.Listed.{is_named, kind_of, first_that, has_id, 
 
 use crate::entries::{Entries, Kind};
 use crate::errors::{AddError, NameError};
+use crate::workshop::Kept;
 use crate::{places, reserved};
 use smt_meaning::{Body, Bytes, Declaration, Rank, Seq, Sort, SymId};
 use std::alloc::{AllocError, Global};
@@ -19,6 +20,7 @@ pub struct Table {
     entries: Entries,
     count: u32,
     given: SymId,
+    kept: Option<Kept>,
 }
 
 impl Model for Table {
@@ -29,10 +31,11 @@ impl Model for Table {
     ghost coded = { names_code };
 
     ghost use Rattle.smt_sorts.specs.Leveled.{levels_of, IsLeveled};
+    ghost use Rattle.smt_sorts.specs.Workshop.{IsKept};
 
     ghost view = { λ a. record { levels = levels_of a.count a.entries; given = a.given } };
 
-    ghost invariant = { λ a. IsLeveled a.count a.given a.entries };
+    ghost invariant = { λ a. IsLeveled a.count a.given a.entries × IsKept a.given a.entries.declarations a.kept };
 }
 
 /// The name of a declaration, where it is that of a sort, else nothing.
@@ -48,6 +51,7 @@ fn name_if_sort(declaration: &Declaration) -> &[u8]
 
 impl Table {
     ghost use Rattle.smt_sorts.specs.Names.{Names, signature, no_names, with_declaration, with_levels, without_levels, cut_to, cleared, sort_or_new, IsNewFunction, IsNewSort, IsCause, IsTable, HasGained, IsLevelOf};
+    ghost use Rattle.smt_sorts.specs.Workshop.{IsOf, IsOfAny};
 
     /// No name, on level 0. It takes no memory.
     pub fn new(alloc: Global) -> Self
@@ -57,6 +61,7 @@ impl Table {
             entries: Entries::new(alloc),
             count: 1,
             given: 0,
+            kept: None,
         }
     }
 
@@ -267,6 +272,23 @@ impl Table {
         Ok(id)
     }
 
+    /// Keeps what is left of the judgement of a definition, in place of what was kept before. No contract shows it but that of `take_kept`.
+    pub fn keep(&mut self, kept: Kept)
+        requires given { kept.id < self.old.given }
+        requires of { IsOf (signature self.old) kept }
+        ensures { self.new ≡ self.old }
+    {
+        self.kept = Some(kept);
+    }
+
+    /// Takes what is kept of the judgement of a definition.
+    pub fn take_kept(&mut self) -> Option<Kept>
+        ensures of { IsOfAny (signature self.old) result }
+        ensures same { self.new ≡ self.old }
+    {
+        self.kept.take()
+    }
+
     /// Adds so many levels. It takes no memory.
     pub fn push(&mut self, levels: u32)
         requires { length self.old.levels + levels < 2 ^ 32 }
@@ -293,6 +315,7 @@ impl Table {
         let len = places::below_id(self.entries.declarations(), ids);
         self.entries.truncate(len);
         self.given = self.given.min(ids);
+        self.kept = None;
     }
 
     /// Takes every declaration and every level but level 0 away. The ids stay given. It takes no memory.
@@ -301,6 +324,7 @@ impl Table {
     {
         self.entries.truncate(0);
         self.count = 1;
+        self.kept = None;
     }
 
     /// Takes all away, and gives all ids back. It takes no memory.
@@ -309,6 +333,7 @@ impl Table {
     {
         self.entries.truncate(0);
         self.count = 1;
+        self.kept = None;
         self.given = 0;
     }
 }

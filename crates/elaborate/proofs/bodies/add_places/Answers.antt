@@ -1,5 +1,5 @@
 use Rattle.std.proofs.Common.{◌≡◌, ◌+◌, suc, subst, arith}
-use Rattle.elaborate.specs.Bodies.{places_from}
+use Rattle.smt_sorts.specs.Workshop.{places_from}
 use Rattle.elaborate.proofs.Copies.{place_joins}
 use Rattle.elaborate.proofs.bodies.add_places.Goals as goal
 

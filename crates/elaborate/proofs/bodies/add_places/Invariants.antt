@@ -1,5 +1,5 @@
 use Rattle.std.proofs.Common.{◌≡◌}
-use Rattle.elaborate.specs.Bodies.{places_from}
+use Rattle.smt_sorts.specs.Workshop.{places_from}
 use Rattle.elaborate.proofs.bodies.add_places.Given as goal
 
 abbrev pub invariant-loop-place : goal.invariant-loop-place

@@ -13,7 +13,7 @@ pub returns-then-not-may_stand-clause-comes : goal.returns-then-not-may_stand-cl
 returns-then-not-may_stand-clause-comes c =
     let ts0 = c.args.store.now.trees in
     let put : ArePut (trees_of (map (typed ts0) c.args.arguments.now)) ts0 c.args.body.now.terms c.in_ok-values.values.items c.put_all.new.store.trees =
-    subst (λ (ts : List Tree). ArePut (trees_of (map (typed ts0) c.args.arguments.now)) ts0 ts c.in_ok-values.values.items c.put_all.new.store.trees) (sym c.nodes.ensures.trees ∙ c.terms.ensures) c.in_ok-values.ensures.ok in
+    subst (λ (ts : List Tree). ArePut (trees_of (map (typed ts0) c.args.arguments.now)) ts0 ts c.in_ok-values.values.items c.put_all.new.store.trees) (sym c.layers.ensures.trees ∙ c.terms.ensures) c.in_ok-values.ensures.ok in
     let linear : c.are_linear.result ≡ all_linear c.in_ok-values.values.items = c.are_linear.ensures ∙ ap all_linear c.deref.ensures.value in
     let test : (not c.args.rules.closed || all_linear c.in_ok-values.values.items) ≡ false =
     ap (λ b. not c.args.rules.closed || b) (sym linear) ∙ sym c.may_stand.ensures ∙ c.if-not-may_stand.true in
@@ -23,7 +23,7 @@ pub returns-clause-comes : goal.returns-clause-comes
 returns-clause-comes c =
     let ts0 = c.args.store.now.trees in
     let put : ArePut (trees_of (map (typed ts0) c.args.arguments.now)) ts0 c.args.body.now.terms c.in_ok-values.values.items c.put_all.new.store.trees =
-    subst (λ (ts : List Tree). ArePut (trees_of (map (typed ts0) c.args.arguments.now)) ts0 ts c.in_ok-values.values.items c.put_all.new.store.trees) (sym c.nodes.ensures.trees ∙ c.terms.ensures) c.in_ok-values.ensures.ok in
+    subst (λ (ts : List Tree). ArePut (trees_of (map (typed ts0) c.args.arguments.now)) ts0 ts c.in_ok-values.values.items c.put_all.new.store.trees) (sym c.layers.ensures.trees ∙ c.terms.ensures) c.in_ok-values.ensures.ok in
     let linear : c.are_linear.result ≡ all_linear c.in_ok-values.values.items = c.are_linear.ensures ∙ ap all_linear c.deref.ensures.value in
     let test : (not c.args.rules.closed || all_linear c.in_ok-values.values.items) ≡ true =
     ap (λ b. not c.args.rules.closed || b) (sym linear) ∙ sym c.may_stand.ensures ∙ c.if-not-may_stand.false in

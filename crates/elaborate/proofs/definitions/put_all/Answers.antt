@@ -1,41 +1,41 @@
-use Rattle.std.proofs.Common.{rules, ◌≡◌, ◌<◌, ◌++◌, ◌∷◌, ◌+◌, [], List, length, map, take, All, subst, sym, ap, ◌∙◌}
+use Rattle.std.proofs.Common.{◌≡◌, ◌++◌, ◌∷◌, ◌+◌, [], List, map, take, subst, sym, ap, ◌∙◌}
 use Rattle.smt_meaning.specs.declared.nodes.Node.{Node}
-use Rattle.smt_meaning.specs.Nodes.{trees_of as terms_of}
+use Rattle.smt_meaning.specs.Nodes.{joined, trees_of as terms_of}
 use Rattle.smt_meaning.specs.Sorts.{trees_of}
-use Rattle.smt_meaning.specs.Term.{Trees}
-use Rattle.elaborate.specs.declared.value.Value.{Value}
 use Rattle.elaborate.specs.Values.{typed}
-use Rattle.elaborate.specs.Putting.{value_at, IsPut, ArePut}
+use Rattle.elaborate.specs.Putting.{ArePut}
 use Rattle.elaborate.proofs.Grow.{values_grow, typeds_same}
-use Rattle.elaborate.proofs.Puts.{one_put, longer_both}
+use Rattle.elaborate.proofs.Puts.{longer_both}
+use Rattle.elaborate.proofs.Laid.{joined_push, layer_nodes}
 use Rattle.std.proofs.lemmas.List.{take_more}
 use Rattle.elaborate.proofs.definitions.put_all.Goals as goal
 
-pub put_node-requires-clause-arguments : goal.put_node-requires-clause-arguments
-put_node-requires-clause-arguments c = values_grow c.args.store.now.trees c.loop-node.store.trees c.args.arguments.now c.loop-node.invariant.grown.0 c.requires.arguments
+pub put_layer-requires-clause-arguments : goal.put_layer-requires-clause-arguments
+put_layer-requires-clause-arguments c = values_grow c.args.store.now.trees c.loop-layer.store.trees c.args.arguments.now c.loop-layer.invariant.grown.0 c.requires.arguments
 
-pub loop-node-preserved : goal.loop-node-preserved
-loop-node-preserved c =
+pub put_layer-requires-clause-nodes : goal.put_layer-requires-clause-nodes
+put_layer-requires-clause-nodes c =
+    let i = c.loop-layer.layer-index in
+    let p : List Node = c.layer-item.result in
+    let taken : take (i + 1) c.args.layers.now ≡ take i c.args.layers.now ++ p ∷ [] =
+    take_more c.args.layers.now i p c.loop-layer-test.true ∙ ap (λ (x : List Node). take i c.args.layers.now ++ x ∷ []) (sym c.layer-item.is) in
+    layer_nodes c.args.layers.now i p c.nodes.result.now (trees_of (map (typed c.args.store.now.trees) c.args.arguments.now)) c.args.store.now.trees c.loop-layer.values.items c.loop-layer.store.trees taken c.nodes.ensures c.requires.nodes c.loop-layer.invariant.put
+
+pub loop-layer-preserved : goal.loop-layer-preserved
+loop-layer-preserved c =
     let ts0 = c.args.store.now.trees in
-    let ts = c.loop-node.store.trees in
-    let us = c.put_node.new.store.trees in
-    let n : Node = c.node-item.result in
-    let taken : take (c.loop-node.node-index + 1) c.args.nodes.now ≡ take c.loop-node.node-index c.args.nodes.now ++ n ∷ [] =
-    take_more c.args.nodes.now c.loop-node.node-index n c.loop-node-test.true ∙ ap (λ (x : Node). take c.loop-node.node-index c.args.nodes.now ++ x ∷ []) (sym c.node-item.is) in
-    let same : trees_of (map (typed ts) c.args.arguments.now) ≡ trees_of (map (typed ts0) c.args.arguments.now) =
-    ap trees_of (typeds_same ts0 ts c.args.arguments.now c.loop-node.invariant.grown.0 c.requires.arguments) in
-    let value : IsPut (trees_of (map (typed ts0) c.args.arguments.now)) n.head (map (value_at c.loop-node.values.items) n.arguments) ts us c.in_ok-value.value =
-    subst (λ (xs : Trees). IsPut xs n.head (map (value_at c.loop-node.values.items) n.arguments) ts us c.in_ok-value.value) same
-    (subst (λ (vs : List Value). IsPut (trees_of (map (typed ts) c.args.arguments.now)) n.head (map (value_at vs) n.arguments) ts us c.in_ok-value.value) c.deref.ensures.value c.in_ok-value.ensures.ok) in
-    let places : All (λ i. i < length c.loop-node.values.items) n.arguments =
-    subst (λ k. All (λ i. i < k) n.arguments) (sym c.loop-node.invariant.count)
-    (subst (λ (m : Node). All (λ i. i < c.loop-node.node-index) m.arguments) (sym c.node-item.is) (c.requires.nodes c.loop-node.node-index n c.loop-node-test.true)) in
-    let pushed : c.push.new.self.items ≡ c.loop-node.values.items ++ c.in_ok-value.value ∷ [] = c.in_ok-push.ensures.items in
-    let put : ArePut (trees_of (map (typed ts0) c.args.arguments.now)) ts0 (terms_of (take c.loop-node.node-index c.args.nodes.now ++ n ∷ [])) (c.loop-node.values.items ++ c.in_ok-value.value ∷ []) us =
-    one_put (trees_of (map (typed ts0) c.args.arguments.now)) ts0 (take c.loop-node.node-index c.args.nodes.now) n c.loop-node.values.items ts us c.in_ok-value.value c.loop-node.invariant.put c.put_node.ensures.longer.0 places value in
+    let ts = c.loop-layer.store.trees in
+    let us = c.put_layer.new.store.trees in
+    let i = c.loop-layer.layer-index in
+    let p : List Node = c.layer-item.result in
+    let taken : take (i + 1) c.args.layers.now ≡ take i c.args.layers.now ++ p ∷ [] =
+    take_more c.args.layers.now i p c.loop-layer-test.true ∙ ap (λ (x : List Node). take i c.args.layers.now ++ x ∷ []) (sym c.layer-item.is) in
+    let same : trees_of (map (typed ts0) c.args.arguments.now) ≡ trees_of (map (typed ts) c.args.arguments.now) =
+    sym (ap trees_of (typeds_same ts0 ts c.args.arguments.now c.loop-layer.invariant.grown.0 c.requires.arguments)) in
+    let all : joined (take i c.args.layers.now) ++ c.nodes.result.now ≡ joined (take (i + 1) c.args.layers.now) =
+    ap (λ (ns : List Node). joined (take i c.args.layers.now) ++ ns) c.nodes.ensures ∙ sym (joined_push (take i c.args.layers.now) p) ∙ ap joined (sym taken) in
     record {
-      count = search rules;
-      put = subst (λ ns. ArePut (trees_of (map (typed ts0) c.args.arguments.now)) ts0 (terms_of ns) c.push.new.self.items us) (sym taken)
-          (subst (λ vs. ArePut (trees_of (map (typed ts0) c.args.arguments.now)) ts0 (terms_of (take c.loop-node.node-index c.args.nodes.now ++ n ∷ [])) vs us) (sym pushed) put);
-      grown = (longer_both ts0 ts us c.loop-node.invariant.grown.0 c.put_node.ensures.longer.0, c.put_node.ensures.longer.1 ∙ c.loop-node.invariant.grown.1);
+      put = subst (λ (ns : List Node). ArePut (trees_of (map (typed ts0) c.args.arguments.now)) ts0 (terms_of ns) c.put_layer.new.values.items us) all
+          (c.in_ok-put_layer.ensures.ok (joined (take i c.args.layers.now)) ts0 (trees_of (map (typed ts0) c.args.arguments.now)) same c.loop-layer.invariant.put);
+      grown = (longer_both ts0 ts us c.loop-layer.invariant.grown.0 c.put_layer.ensures.longer.0, c.put_layer.ensures.longer.1 ∙ c.loop-layer.invariant.grown.1);
     }

@@ -1,77 +1,12 @@
-use Rattle.std.proofs.Common.{◌≡◌, refl, sym, ap, ◌∙◌, subst, map, Some}
-use Rattle.std.proofs.lemmas.Result.{err_from_is_err_and}
-use Rattle.elaborate.specs.Judged.{variables_of}
-use Rattle.smt_meaning.specs.Sorts.{declare}
-use Rattle.smt_meaning.specs.StackCommand.{function_declaration, sorts_of_variables}
-use Rattle.scope_stack.specs.Judged.{Adds, Causes, IsBody, body_of_sort, sort_of}
-use Rattle.scope_stack.proofs.ParameterSteps.{sorts_same, definition_adds, definition_name_cause, definition_parameters_cause, definition_sort_cause, definition_body_cause, definition_add_cause}
+use Rattle.std.proofs.Common.{sym, subst}
+use Rattle.smt_meaning.specs.StackCommand.{define_function}
+use Rattle.smt_sorts.specs.Names.{Names, signature}
+use Rattle.smt_sorts.specs.Workshop.{IsOfAny}
+use Rattle.scope_stack.specs.Judged.{Declares}
 use Rattle.scope_stack.proofs.declare.define_function.Goals as goal
 
-pub returns-in_err-new_function_name : goal.returns-in_err-new_function_name
-returns-in_err-new_function_name c =
-    let p = err_from_is_err_and c.from_residual.result c.from_residual.ensures.1 in
-    rw (p.1, p.2)
-    (record { causes = definition_name_cause c.args.name.now c.args.parameters.now c.args.sort.now c.args.body.now c.args.table.now _ c.in_err-new_function_name.ensures.causes; same = refl })
-
-pub returns-in_err-parameters : goal.returns-in_err-parameters
-returns-in_err-parameters c =
-    let p = err_from_is_err_and c.from_residual-in_err-parameters.result c.from_residual-in_err-parameters.ensures.1 in
-    rw (p.1, p.2)
-    (record {
-      causes = definition_parameters_cause c.args.name.now c.args.parameters.now c.args.sort.now c.args.body.now c.args.table.now _ c.in_ok-new_function_name.ensures.gives c.in_err-parameters.ensures.causes;
-      same = refl;
-    })
-
-pub returns-in_err-result : goal.returns-in_err-result
-returns-in_err-result c =
-    let p = err_from_is_err_and c.from_residual-in_err-result.result c.from_residual-in_err-result.ensures.1 in
-    rw (p.1, p.2)
-    (record {
-      causes = definition_sort_cause c.args.name.now c.args.parameters.now c.args.sort.now c.args.body.now c.args.table.now (variables_of c.in_ok-parameters.parameters.items) _
-          c.in_ok-new_function_name.ensures.gives c.in_ok-parameters.ensures.gives c.in_err-result.ensures.causes;
-      same = refl;
-    })
-
-pub returns-in_err-body : goal.returns-in_err-body
-returns-in_err-body c =
-    let p = err_from_is_err_and c.from_residual-in_err-body.result c.from_residual-in_err-body.ensures.1 in
-    rw (p.1, p.2)
-    (record {
-      causes = definition_body_cause c.args.name.now c.args.parameters.now c.args.sort.now c.args.body.now c.args.table.now (variables_of c.in_ok-parameters.parameters.items) c.in_ok-result.result _
-          c.in_ok-new_function_name.ensures.gives c.in_ok-parameters.ensures.gives c.in_ok-result.ensures.gives
-          (subst (λ qs. Causes (body_of_sort c.args.name.now (variables_of qs) c.args.body.now c.in_ok-result.result) c.args.table.now c.in_err-body.field-0.0) c.as_slice.ensures.value c.in_err-body.ensures.causes);
-      same = refl;
-    })
-
-pub returns-in_err-sorts_of : goal.returns-in_err-sorts_of
-returns-in_err-sorts_of c =
-    let p = err_from_is_err_and c.from_residual-in_err-sorts_of.result c.from_residual-in_err-sorts_of.ensures.1 in
-    rw (p.1, p.2) (record { causes = λ ts. tt; same = refl })
-
-pub returns-in_err-add_function : goal.returns-in_err-add_function
-returns-in_err-add_function c =
-    let p = err_from_is_err_and c.from_residual-in_err-add_function.result c.from_residual-in_err-add_function.ensures.1 in
-    let arguments : c.from_vec-arguments.result ≡ sorts_of_variables (variables_of c.in_ok-parameters.parameters.items) =
-    c.from_vec-arguments.ensures ∙ c.in_ok-sorts_of.ensures ∙ ap (λ qs. map sort_of qs) c.as_slice-2.ensures.value ∙ sym (sorts_same c.in_ok-parameters.parameters.items) in
-    rw (p.1, p.2)
-    (record {
-      causes = definition_add_cause c.args.name.now c.args.parameters.now c.args.sort.now c.args.body.now c.args.table.now (variables_of c.in_ok-parameters.parameters.items) c.in_ok-result.result
-          c.in_ok-body.body _ c.in_ok-new_function_name.ensures.gives c.in_ok-parameters.ensures.gives c.in_ok-result.ensures.gives
-          (subst (λ qs. IsBody (variables_of qs) c.args.body.now c.in_ok-result.result c.args.table.now c.in_ok-body.body) c.as_slice.ensures.value c.in_ok-body.ensures.gives)
-          (subst (λ rs. Causes (declare (λ id. function_declaration id c.args.name.now rs c.in_ok-result.result (Some c.in_ok-body.body))) c.args.table.now c.in_err-add_function.field-0.0) arguments
-          c.in_err-add_function.ensures.causes);
-      same = c.in_err-add_function.ensures.err;
-    })
+pub define_with-requires : goal.define_with-requires
+define_with-requires c = subst (λ (t : Names). IsOfAny (signature t) c.take_kept-kept.result) (sym c.take_kept-kept.ensures.same) c.take_kept-kept.ensures.of
 
 pub returns : goal.returns
-returns c =
-    let arguments : c.from_vec-arguments.result ≡ sorts_of_variables (variables_of c.in_ok-parameters.parameters.items) =
-    c.from_vec-arguments.ensures ∙ c.in_ok-sorts_of.ensures ∙ ap (λ qs. map sort_of qs) c.as_slice-2.ensures.value ∙ sym (sorts_same c.in_ok-parameters.parameters.items) in
-    record {
-      adds = definition_adds c.args.name.now c.args.parameters.now c.args.sort.now c.args.body.now c.args.table.now c.add_function.new.table (variables_of c.in_ok-parameters.parameters.items)
-          c.in_ok-result.result c.in_ok-body.body c.in_ok-new_function_name.ensures.gives c.in_ok-parameters.ensures.gives c.in_ok-result.ensures.gives
-          (subst (λ qs. IsBody (variables_of qs) c.args.body.now c.in_ok-result.result c.args.table.now c.in_ok-body.body) c.as_slice.ensures.value c.in_ok-body.ensures.gives)
-          (subst (λ rs. Adds (declare (λ id. function_declaration id c.args.name.now rs c.in_ok-result.result (Some c.in_ok-body.body))) c.args.table.now tt c.add_function.new.table) arguments
-          c.in_ok-add_function.ensures.adds);
-      gained = c.in_ok-add_function.ensures.gained;
-    }
+returns c = subst (λ (t : Names). Declares (define_function c.args.name.now c.args.parameters.now c.args.sort.now c.args.body.now) t c.define_with.result c.define_with.new.table) c.take_kept-kept.ensures.same c.define_with.ensures

@@ -9,7 +9,7 @@ returns-clause-value c =
     let below = rw c.declarations.ensures.value at c.below_id-len.ensures.below in
     let above = rw c.declarations.ensures.value at c.below_id-len.ensures.above in
     rw (c.truncate.ensures, c.min-self-inside.ensures, ← c.self.view_is)
-    (ap (λ dss. record { levels = dss; given = min c.self.inside.given c.args.ids }) (levels_of-cut c.self.inside.count c.self.inside.given c.args.ids c.below_id-len.result c.self.inside.entries c.self.invariant below above))
+    (ap (λ dss. record { levels = dss; given = min c.self.inside.given c.args.ids }) (levels_of-cut c.self.inside.count c.self.inside.given c.args.ids c.below_id-len.result c.self.inside.entries c.self.invariant.0 below above))
 
 pub returns-clause-restored : goal.returns-clause-restored
 returns-clause-restored c = λ t e h. returns-clause-value c ∙ ap (λ n. cut_to n c.args.self.now) (sym e) ∙ cut_to-gained t c.args.self.now h

@@ -1,0 +1,142 @@
+-- A definition whose terms are taken as they stand.
+use Rattle.std.proofs.Common.{◌≡◌, ℕ, zero, suc, ◌+◌, ◌<◌, ◌≤◌, List, [], ◌∷◌, ◌++◌, length, map, ap, sym, subst, ◌∙◌, arith, append_assoc, append-nil, Bool, true, false, ◌&&◌, ◌||◌, not, Option, Some, None, nat_eq}
+use Rattle.std.specs.Prelude.{if◌then◌else◌, bytes_eq, Ok}
+use Rattle.std.proofs.lemmas.List.{length-append}
+use Rattle.std.proofs.lemmas.Bool.{and_parts}
+use Rattle.smt_meaning.specs.declared.terms.Head.TheVariants.{Place}
+use Rattle.smt_meaning.specs.Declaration.{Declaration, Body}
+use Rattle.smt_meaning.specs.Signature.{find_function}
+use Rattle.smt_meaning.specs.Sorts.{Scope, Rules, done, with_all, trees_of, all_are_linear, judge_symbol}
+use Rattle.smt_meaning.specs.Term.{Tree, Trees, node, none, tree_at}
+use Rattle.smt_meaning.specs.TreeShape.{argument, put, is_constant, is_linear}
+use Rattle.term_store.specs.Terms.{Terms}
+use Rattle.smt_sorts.specs.declared.workshop.Kept.{Kept}
+use Rattle.smt_sorts.specs.Workshop.{places_from, AreOwn, IsWorkshop, IsWorkshopOf, IsOfAny}
+use Rattle.elaborate.specs.declared.own.Apart.{Apart}
+use Rattle.elaborate.specs.declared.value.Value.{Value}
+use Rattle.elaborate.specs.Values.{typed, IsLonger, HasGrown, Comes}
+use Rattle.elaborate.specs.Own.{IsTaken, IsApart, are_own, IsFit, CanTake, IsDeclared}
+use Rattle.elaborate.proofs.Again.{same_at}
+use Rattle.elaborate.proofs.Copies.{length-places, place_at}
+use Rattle.elaborate.proofs.Puts.{defined_is, done_here}
+
+abbrev at : Scope → List Tree → Scope
+at s us = record s { trees = us }
+
+-- ---- declarations
+
+some_is : {A : Type 0} (a b : A) → Some a ≡ Some b → a ≡ b
+some_is a b e = cc
+
+pub declared_is : (n : List ℕ) (ds : List Declaration) (d : Declaration) → find_function n ds ≡ Some d → IsDeclared ds d
+declared_is n [] d e k h i = absurd (cc)
+declared_is n (x ∷ ds) d e k h i = go (bytes_eq n x.name && not x.is_sort) e (λ f. declared_is n ds d f k h.1 i)
+  where
+    go : (b : Bool) → (if b then Some x else find_function n ds) ≡ Some d → (find_function n ds ≡ Some d → IsWorkshopOf d.body k.workshop) → IsWorkshopOf d.body k.workshop
+    go true f rest =
+        let same : x ≡ d = some_is x d f in
+        subst (λ (y : Declaration). IsWorkshopOf y.body k.workshop) same (h.0 (ap (λ (y : Declaration). y.id) same ∙ i))
+    go false f rest = rest f
+
+-- ---- arguments that are the parameters
+
+own_arguments : (vs : List Value) (k n j : ℕ) → are_own k vs ≡ true → k + length vs ≤ n → j < length vs → argument (trees_of (map (typed (places_from 0 n)) vs)) j ≡ node (Place (k + j)) none
+own_arguments [] k n j e h i = absurd (omega arith)
+own_arguments (v ∷ vs) k n zero e h i =
+    let parts = and_parts (nat_eq v.id k) (are_own (k + 1) vs) e in
+    let test : nat_eq v.id k ≡ true = parts.0 in
+    let id : v.id ≡ k = grind arith in
+    let same : 0 + k ≡ k + 0 = omega arith in
+    ap (tree_at (places_from 0 n)) id ∙ place_at 0 n k _ (omega arith) ∙ ap (λ i'. node (Place i') none) same
+own_arguments (v ∷ vs) k n (suc j) e h i =
+    let parts = and_parts (nat_eq v.id k) (are_own (k + 1) vs) e in
+    let same : k + 1 + j ≡ k + suc j = omega arith in
+    own_arguments vs (k + 1) n j parts.1 (omega arith) (omega arith) ∙ ap (λ i'. node (Place i') none) same
+
+pub arguments_own : (vs : List Value) (n : ℕ) (ts : List Tree) → ts ≡ places_from 0 n → are_own 0 vs ≡ true → length vs ≡ n → AreOwn n (trees_of (map (typed ts) vs))
+arguments_own vs n ts e o l k h =
+    ap (λ us. argument (trees_of (map (typed us) vs)) k) e
+    ∙ own_arguments vs 0 n k o (omega (arith, l)) (omega (arith, l))
+    ∙ (let same : 0 + k ≡ k = omega arith in ap (λ i. node (Place i) none) same)
+
+nothing_more : (n : ℕ) (ts : List Tree) → IsLonger (places_from 0 n) ts → length ts ≡ n → ts ≡ places_from 0 n
+nothing_more n ts l e = go l.0 l.1
+  where
+    go : (more' : List Tree) → ts ≡ places_from 0 n ++ more' → ts ≡ places_from 0 n
+    go [] f = f ∙ append-nil (places_from 0 n)
+    go (t ∷ us) f = absurd (omega (arith, e, ap length f, length-append (places_from 0 n) (t ∷ us), length-places 0 n))
+
+-- ---- the definition
+
+own_symbol : (r : Rules) (d : Declaration) (b : Body) (xs : Trees) (s : Scope) (us : List Tree) (v : Value) → d.body ≡ Some b → r.closed ≡ false → map (put xs) b.terms ≡ b.terms → with_all s.trees b.terms ≡ b.terms → us ≡ b.terms
+    → v.id < length b.terms → tree_at b.terms v.id ≡ b.term → v.sort ≡ d.rank.result → v.constant ≡ is_constant b.term → v.linear ≡ is_linear b.term → Comes (judge_symbol r d xs) s us (Ok v)
+own_symbol r d b xs s us v e open' own again whole within term sort constant linear =
+    let tree : tree_at us v.id ≡ b.term = ap (λ ts. tree_at ts v.id) whole ∙ term in
+    let put_tree : put xs b.term ≡ tree_at us v.id = ap (put xs) (sym term) ∙ same_at (put xs) b.terms v.id own within ∙ ap (λ ts. tree_at ts v.id) (sym whole) in
+    let joined : with_all s.trees (map (put xs) b.terms) ≡ us = ap (with_all s.trees) own ∙ again ∙ sym whole in (
+      defined_is r d b xs s true e (ap (λ c. not c || all_are_linear (map (put xs) b.terms)) open')
+          ∙ done_here (map (put xs) b.terms) (put xs b.term) d.rank.result s
+          ∙ ap (λ (x : Tree). done (record { tree = x; sort = d.rank.result }) (at s (with_all s.trees (map (put xs) b.terms)))) put_tree
+          ∙ ap (λ x. done (record { tree = tree_at us v.id; sort = x }) (at s (with_all s.trees (map (put xs) b.terms)))) (sym sort)
+          ∙ ap (λ (ts : List Tree). done (typed us v) (at s ts)) joined,
+      record {
+        within = subst (λ (ts : List Tree). v.id < length ts) (sym whole) within;
+        constant = constant ∙ ap is_constant (sym tree);
+        linear = linear ∙ ap is_linear (sym tree);
+      },
+    )
+
+fit_is : (r : Rules) (d : Declaration) (vs : List Value) (s : Terms) (a : Apart) (k : Kept) → CanTake r d vs s a → a.kept ≡ Some k → IsFit k d vs s a.parameters
+fit_is r d vs s a k can e = subst (λ (q : Kept). IsFit q d vs s a.parameters) (some_is can.kept k (sym can.is_kept ∙ e)) can.fit
+
+shop_is : (ds : List Declaration) (r : Rules) (d : Declaration) (vs : List Value) (s : Terms) (a : Apart) (k : Kept) (b : Body) → IsApart ds s.trees a → IsDeclared ds d → CanTake r d vs s a → a.kept ≡ Some k → d.body ≡ Some b → IsWorkshop b k.workshop
+shop_is ds r d vs s a k b h dec can e body =
+    let fit : IsFit k d vs s a.parameters = fit_is r d vs s a k can e in
+    subst (λ (o : Option Body). IsWorkshopOf o k.workshop) body (dec k (subst (IsOfAny ds) e h.kept) (sym fit.id))
+
+pub taken_comes : (ds : List Declaration) (r : Rules) (d : Declaration) (vs : List Value) (s : Terms) (a : Apart) (k : Kept) (b : Body) (c : Scope) (v : Value) → IsApart ds s.trees a → IsDeclared ds d → CanTake r d vs s a → a.kept ≡ Some k → d.body ≡ Some b
+    → c.trees ≡ s.trees → v.id < length b.terms → tree_at b.terms v.id ≡ b.term → v.sort ≡ d.rank.result → v.constant ≡ k.workshop.constant → v.linear ≡ k.workshop.linear
+    → Comes (judge_symbol r d (trees_of (map (typed s.trees) vs))) c k.workshop.store.trees (Ok v)
+taken_comes ds r d vs s a k b c v h dec can e body trees within term sort constant linear =
+    let fit : IsFit k d vs s a.parameters = fit_is r d vs s a k can e in
+    let shop : IsWorkshop b k.workshop = shop_is ds r d vs s a k b h dec can e body in
+    let first : s.trees ≡ places_from 0 a.parameters = nothing_more a.parameters s.trees h.all.first fit.stored in
+    let same : places_from 0 k.workshop.parameters ≡ c.trees = ap (places_from 0) fit.parameters ∙ sym first ∙ sym trees in
+    let own : AreOwn k.workshop.parameters (trees_of (map (typed s.trees) vs)) = subst (λ n. AreOwn n (trees_of (map (typed s.trees) vs))) (sym fit.parameters) (arguments_own vs a.parameters s.trees first fit.own fit.given) in
+    own_symbol r d b (trees_of (map (typed s.trees) vs)) c k.workshop.store.trees v body can.unclosed (shop.own (trees_of (map (typed s.trees) vs)) own) (subst (λ us. with_all us b.terms ≡ b.terms) same shop.again) shop.store within term sort
+    (constant ∙ shop.constant) (linear ∙ shop.linear)
+
+pub taken_grown : (ds : List Declaration) (r : Rules) (d : Declaration) (vs : List Value) (s : Terms) (a : Apart) (k : Kept) (b : Body) → IsApart ds s.trees a → IsDeclared ds d → CanTake r d vs s a → a.kept ≡ Some k → d.body ≡ Some b → HasGrown s k.workshop.store
+taken_grown ds r d vs s a k b h dec can e body =
+    let fit : IsFit k d vs s a.parameters = fit_is r d vs s a k can e in
+    let shop : IsWorkshop b k.workshop = shop_is ds r d vs s a k b h dec can e body in
+    let first : s.trees ≡ places_from 0 a.parameters = nothing_more a.parameters s.trees h.all.first fit.stored in (
+      (shop.rest, shop.store ∙ shop.first ∙ ap (λ us. us ++ shop.rest) (ap (places_from 0) fit.parameters ∙ sym first)),
+      fit.limit,
+    )
+
+pub taken_apart : (ds : List Declaration) (r : Rules) (d : Declaration) (vs : List Value) (s : Terms) (a : Apart) (k : Kept) (b : Body) (n : ℕ) → IsApart ds s.trees a → IsDeclared ds d → CanTake r d vs s a → a.kept ≡ Some k → d.body ≡ Some b → n ≡ length k.workshop.store.trees
+    → IsApart ds k.workshop.store.trees (record { parameters = a.parameters; kept = None; terms = k.workshop.terms; count = n })
+taken_apart ds r d vs s a k b n h dec can e body size =
+    let fit : IsFit k d vs s a.parameters = fit_is r d vs s a k can e in
+    let shop : IsWorkshop b k.workshop = shop_is ds r d vs s a k b h dec can e body in
+    record {
+      all = record {
+        first = (shop.rest, shop.store ∙ shop.first ∙ ap (λ m. places_from 0 m ++ shop.rest) fit.parameters);
+        taken = ([], shop.store ∙ sym shop.terms ∙ sym (append-nil k.workshop.terms));
+        count = size ∙ ap length (shop.store ∙ sym shop.terms);
+        own = λ xs o. ap (map (put xs)) shop.terms ∙ shop.own xs (subst (λ m. AreOwn m xs) (sym fit.parameters) o) ∙ sym shop.terms;
+      };
+      kept = tt;
+    }
+
+-- ---- what stays when terms join
+
+longer_on : (ts us vs : List Tree) → IsLonger ts us → IsLonger us vs → IsLonger ts vs
+longer_on ts us vs l m = (l.0 ++ m.0, m.1 ∙ ap (λ xs. xs ++ m.0) l.1 ∙ append_assoc ts l.0 m.0)
+
+pub taken_on : (ts us : List Tree) (a : Apart) → IsTaken ts a → IsLonger ts us → IsTaken us a
+taken_on ts us a h l = record { first = longer_on (places_from 0 a.parameters) ts us h.first l; taken = longer_on a.terms ts us h.taken l; count = h.count; own = h.own }
+
+pub apart_on : (ds : List Declaration) (ts us : List Tree) (a : Apart) → IsApart ds ts a → IsLonger ts us → IsApart ds us a
+apart_on ds ts us a h l = record { all = taken_on ts us a h.all l; kept = h.kept }

@@ -1,0 +1,236 @@
+//! A definition that is used first in the body of the next one, with its parameters put in for themselves: its terms are there as they stand.
+ghost use Rattle.std.specs.Prelude.{◌≡◌, ◌<◌, map, length, true, None, Some, IsTrue, IfSome};
+ghost use Rattle.smt_meaning.specs.declared.tokens.Token.{Token};
+ghost use Rattle.smt_meaning.specs.Seen.{seen};
+ghost use Rattle.smt_meaning.specs.Signature.{find_function};
+ghost use Rattle.smt_meaning.specs.Sorts.{judge_token, judge_application, judge_symbol, known_symbol, trees_of};
+ghost use Rattle.smt_sorts.specs.Names.{signature};
+ghost use Rattle.elaborate.specs.Judged.{scope_of, rules_of};
+ghost use Rattle.elaborate.specs.Values.{AreValues, Comes, HasGrown, typed};
+ghost use Rattle.elaborate.specs.Frames.{AreBound, variable_at};
+ghost use Rattle.elaborate.specs.Own.{IsApart, IsFit, CanTake, IsDeclared, IsBareOwn, IsAppliedOwn, are_own};
+
+use crate::apply::{Rules, apply_name, have_sorts, is_count, is_zero};
+use crate::bindings::Bindings;
+use crate::error::JudgeError;
+use crate::operators::operator_named;
+use crate::token::{judge_name, judge_token};
+use crate::value::Value;
+use smt_meaning::{Bytes, Declaration, Operator, Seq, Terms, TokenView};
+use smt_sorts::{Kept, Table, Workshop};
+use std::alloc::Global;
+use term_store::TermStore;
+
+/// Where a body is judged: how many parameters it has, what is kept of an earlier definition until its terms are taken, and the terms that were
+/// taken, with their number.
+#[derive(Drop)]
+pub(crate) struct Apart {
+    pub parameters: u32,
+    pub kept: Option<Kept>,
+    pub terms: Terms,
+    pub count: u32,
+}
+
+/// Whether each argument is the parameter at its own place.
+fn are_own(arguments: &[Value]) -> bool
+    ensures { result ≡ are_own 0 arguments.now }
+{
+    for (place, value) in arguments.iter().enumerate() {
+        if value.id as usize != place {
+            return false;
+        }
+    }
+    true
+}
+
+/// Whether the terms that are kept are those of a declaration, with all parameters and nothing else put in where nothing else is stored.
+fn fits(
+    kept: &Kept,
+    declaration: &Declaration,
+    arguments: &[Value],
+    store: &TermStore,
+    parameters: u32,
+) -> bool
+    ensures { IsTrue result → IsFit kept.now declaration.now arguments.now store.now parameters }
+{
+    kept.id == declaration.id()
+        && kept.workshop.parameters == parameters
+        && store.len() == parameters
+        && kept.workshop.store.limit() == store.limit()
+        && arguments.len() == parameters as usize
+        && are_own(arguments)
+}
+
+/// Whether the terms of a declaration are there to be taken.
+fn can_take(
+    rules: Rules,
+    declaration: &Declaration,
+    arguments: &[Value],
+    store: &TermStore,
+    apart: &Apart,
+) -> bool
+    ensures { IsTrue result → CanTake (rules_of rules) declaration.now arguments.now store.now apart.now }
+{
+    if rules.closed {
+        return false;
+    }
+    match &apart.kept {
+        Some(kept) => fits(kept, declaration, arguments, store, apart.parameters),
+        None => false,
+    }
+}
+
+/// The definition that a name without arguments stands for, where its terms are there to be taken.
+fn bare_own<'a>(
+    rules: Rules,
+    name: &[u8],
+    bindings: &Bindings,
+    table: &'a Table,
+    store: &TermStore,
+    apart: &Apart,
+) -> Option<&'a Declaration>
+    ensures { IfSome result (λ d. IsBareOwn (rules_of rules) name.now bindings.now (signature table.now) store.now apart.now d.now) }
+{
+    if apart.kept.is_none() || bindings.find(name).is_some() || operator_named(name).is_some() {
+        return None;
+    }
+    let declaration = table.lookup(name)?;
+    if is_zero(declaration.rank().arguments.len())
+        && can_take(rules, declaration, &[], store, apart)
+    {
+        Some(declaration)
+    } else {
+        None
+    }
+}
+
+/// The definition that a name with these arguments stands for, where its terms are there to be taken.
+fn applied_own<'a>(
+    rules: Rules,
+    name: &[u8],
+    operator: Option<Operator>,
+    arguments: &[Value],
+    table: &'a Table,
+    store: &TermStore,
+    apart: &Apart,
+) -> Option<&'a Declaration>
+    ensures { IfSome result (λ d. IsAppliedOwn (rules_of rules) name.now operator arguments.now (signature table.now) store.now apart.now d.now) }
+{
+    if apart.kept.is_none() || operator.is_some() {
+        return None;
+    }
+    let declaration = table.lookup(name)?;
+    let sorts = declaration.rank().arguments.as_slice();
+    if is_count(arguments.len(), sorts.len())
+        && have_sorts(arguments, sorts)
+        && can_take(rules, declaration, arguments, store, apart)
+    {
+        Some(declaration)
+    } else {
+        None
+    }
+}
+
+/// Takes the terms of a definition as they stand.
+fn take(
+    rules: Rules,
+    declaration: &Declaration,
+    arguments: &[Value],
+    table: &Table,
+    store: &mut TermStore,
+    apart: &mut Apart,
+) -> Result<Value, JudgeError>
+    requires apart { IsApart (signature table.now) store.old.trees apart.old }
+    requires declared { IsDeclared (signature table.now) declaration.now }
+    requires can { CanTake (rules_of rules) declaration.now arguments.now store.old apart.old }
+    ensures comes { Comes (judge_symbol (rules_of rules) declaration.now (trees_of (map (typed store.old.trees) arguments.now))) (scope_of table.now store.old.trees) store.new.trees result }
+    ensures longer { HasGrown store.old store.new }
+    ensures apart { IsApart (signature table.now) store.new.trees apart.new }
+{
+    let _ = (table.ids(), rules.closed, arguments.len());
+    let Some(kept) = apart.kept.take() else {
+        return Err(JudgeError::Memory);
+    };
+    let Some(body) = declaration.body() else {
+        return Err(JudgeError::Memory);
+    };
+    let workshop = kept.workshop;
+    let (constant, linear) = (workshop.constant, workshop.linear);
+    apart.count = workshop.store.len();
+    apart.terms = workshop.terms;
+    *store = workshop.store;
+    Ok(Value {
+        id: body.place(),
+        sort: declaration.rank().result,
+        constant,
+        linear,
+    })
+}
+
+/// The term that a token stands for in a body.
+pub(crate) fn token_apart(
+    alloc: Global,
+    rules: Rules,
+    token: TokenView<'_>,
+    bindings: &Bindings,
+    table: &Table,
+    store: &mut TermStore,
+    apart: &mut Apart,
+) -> Result<Value, JudgeError>
+    requires bound { AreBound store.old.trees bindings.now }
+    requires apart { IsApart (signature table.now) store.old.trees apart.old }
+    ensures comes { Comes (judge_token (rules_of rules) (map (variable_at store.old.trees) bindings.now) (seen token.entry)) (scope_of table.now store.old.trees) store.new.trees result }
+    ensures longer { HasGrown store.old store.new }
+    ensures apart { IsApart (signature table.now) store.new.trees apart.new }
+{
+    match token {
+        TokenView::Symbol(name) => name_apart(alloc, rules, name, bindings, table, store, apart),
+        _ => judge_token(alloc, rules, token, bindings, table, store),
+    }
+}
+
+/// The term that a name stands for in a body.
+fn name_apart(
+    alloc: Global,
+    rules: Rules,
+    name: &[u8],
+    bindings: &Bindings,
+    table: &Table,
+    store: &mut TermStore,
+    apart: &mut Apart,
+) -> Result<Value, JudgeError>
+    requires bound { AreBound store.old.trees bindings.now }
+    requires apart { IsApart (signature table.now) store.old.trees apart.old }
+    ensures comes { Comes (judge_token (rules_of rules) (map (variable_at store.old.trees) bindings.now) (Token.Symbol name.now)) (scope_of table.now store.old.trees) store.new.trees result }
+    ensures longer { HasGrown store.old store.new }
+    ensures apart { IsApart (signature table.now) store.new.trees apart.new }
+{
+    match bare_own(rules, name, bindings, table, store, apart) {
+        Some(declaration) => take(rules, declaration, &[], table, store, apart),
+        None => judge_name(alloc, rules, name, bindings, table, store),
+    }
+}
+
+/// A name with its arguments in a body.
+pub(crate) fn apply_apart(
+    alloc: Global,
+    rules: Rules,
+    name: &Bytes,
+    operator: Option<Operator>,
+    arguments: &Seq<Value>,
+    table: &Table,
+    store: &mut TermStore,
+    apart: &mut Apart,
+) -> Result<Value, JudgeError>
+    requires values { AreValues store.old.trees arguments.now }
+    requires apart { IsApart (signature table.now) store.old.trees apart.old }
+    ensures comes { Comes (judge_application (rules_of rules) name.now (known_symbol operator (find_function name.now (signature table.now))) (map (typed store.old.trees) arguments.now)) (scope_of table.now store.old.trees) store.new.trees result }
+    ensures longer { HasGrown store.old store.new }
+    ensures apart { IsApart (signature table.now) store.new.trees apart.new }
+{
+    let given = arguments.as_slice();
+    match applied_own(rules, name.as_slice(), operator, given, table, store, apart) {
+        Some(declaration) => take(rules, declaration, given, table, store, apart),
+        None => apply_name(alloc, rules, name, operator, arguments, table, store),
+    }
+}
