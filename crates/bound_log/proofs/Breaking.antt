@@ -29,7 +29,7 @@ twice_not : (b : Bool) → not (not b) ≡ b
 twice_not true = refl
 twice_not false = refl
 
-twice : (l : Signed) → opposite (opposite l) ≡ l
+pub twice : (l : Signed) → opposite (opposite l) ≡ l
 twice l = ap (λ (b : Bool). let m : Signed = record { atom = l.atom; positive = b } in m) (twice_not l.positive)
 
 -- ---- bounds of literals

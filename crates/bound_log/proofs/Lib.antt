@@ -3,3 +3,8 @@ pub mod Growing
 pub mod Knowing
 pub mod Breaking
 pub mod Wholes
+pub mod Resting
+pub mod Columns
+pub mod Taking
+pub mod Lines
+pub mod Implying

@@ -1,5 +1,9 @@
 pub mod Told
+pub mod Resting
 pub mod Atoms
+pub mod Columns
+pub mod Pending
 pub mod Growth
 pub mod Values
 pub mod Reporting
+pub mod Implied

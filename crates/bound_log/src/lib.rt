@@ -1,10 +1,12 @@
 //! Literals of a log, told to bounds on sums and taken back, and conflicts of these bounds as clauses of the theory.
 #![tactic(auto)]
 
+mod implied;
 mod laws;
 mod log;
 mod plain;
 mod report;
+mod room;
 mod said;
 mod variables;
 

@@ -1,7 +1,8 @@
 //! The log, and the calls on it.
-ghost use Rattle.std.specs.Prelude.{◌≡◌, ◌+◌, ◌<◌, ◌≤◌, ◌^◌, ◌↔◌, IsTrue, false, [], ◌∷◌, ◌++◌, map, take, length, All, OnOk, OnErr, IfOk, IfErr, IfSome, IfNone};
+ghost use Rattle.std.specs.Prelude.{◌≡◌, ◌+◌, ◌<◌, ◌≤◌, ◌^◌, ◌↔◌, IsTrue, false, [], ◌∷◌, ◌++◌, map, take, length, All, Bool, Contains, List, OnOk, OnErr, IfOk, IfErr, IfSome, IfNone};
 ghost use Rattle.number_meaning.specs.Whole.{InRange};
 ghost use Rattle.grid_meaning.specs.Grid.{turned};
+ghost use Rattle.grid_meaning.specs.Lines.{IsBranchLine, IsSoundGrid, IsSoundLine, NextFails};
 ghost use Rattle.grid_laws.specs.Law.{KeepsResting};
 ghost use Rattle.tableau.specs.Failing.{IsRange};
 ghost use Rattle.simplex_steps.specs.State.{grid_of};
@@ -9,20 +10,25 @@ ghost use Rattle.simplex_steps.specs.Run.{IsRun, KeepsLines};
 ghost use Rattle.simplex.specs.State.{KeepsValues};
 ghost use Rattle.smt_meaning.specs.declared.clauses.Atom.{Atom};
 ghost use Rattle.smt_meaning.specs.declared.clauses.Atom.TheVariants.{AtMost};
+ghost use Rattle.smt_meaning.specs.CheckAtoms.{IsBoundOf, told};
 ghost use Rattle.sum_bounds.specs.Bounds.{leaf_values, sum_fits, IsFirstIn, AreWhole};
 ghost use Rattle.sum_bounds.specs.Clauses.{plain};
 ghost use Rattle.sum_bounds.specs.Written.{HasLeaf};
 ghost use Rattle.bound_log.specs.Told.{said_at, told_by, IsKnown, IsPast, IsState, IsTold, IsUndone};
-ghost use Rattle.bound_log.specs.Atoms.{SaysNothing, KnowsTheSame, KnowsOneMore};
+ghost use Rattle.bound_log.specs.Atoms.{SaysNothing, Knows, KnowsTheSame, KnowsOneMore};
+ghost use Rattle.bound_log.specs.Columns.{KeepsColumns, AddsColumns};
 ghost use Rattle.bound_log.specs.Growth.{IsGrown, IsProper};
+ghost use Rattle.bound_log.specs.Pending.{plain_grid, with_pending, FailsToTake, FailsToTell};
 ghost use Rattle.bound_log.specs.Reporting.{Judges, SpendsRoom, IsClause};
 ghost use Rattle.bound_log.specs.declared.said.Said.TheVariants.{Nothing};
 
 use crate::plain::plain_sum;
 use crate::report::{Reported, report_of};
+use crate::room::shut_out;
 use crate::said::{Said, assert, push, said_of, start_of};
 use crate::variables::variable_of;
 use fraction128::Fraction;
+use grid_meaning::{Grid, Line, Pending, Seq};
 use literal_steps::lemma_with;
 use literals::Literal;
 use search_port::Lemma;
@@ -91,12 +97,13 @@ pub struct BoundLog {
 
 impl Model for BoundLog {
     ghost use Rattle.bound_log.specs.Told.{State, IsCore};
+    ghost use Rattle.bound_log.specs.Resting.{AreResting};
 
     ghost Value = { State };
 
     ghost view = { λ s. record { bounds = s.bounds; said = s.said.items; log = s.log.items } };
 
-    ghost invariant = { λ s. IsCore s.bounds s.said.items s.log.items s.starts.items };
+    ghost invariant = { λ s. IsCore s.bounds s.said.items s.log.items s.starts.items × AreResting s.bounds s.said.items };
 }
 
 impl BoundLog {
@@ -144,6 +151,7 @@ impl BoundLog {
     pub fn know_other(&mut self) -> Result<(), AllocError>
         ensures ok { OnOk result (self.new ≡ record self.old { said = self.old.said ++ Nothing ∷ [] }) }
         ensures knows { OnOk result ((a : Atom) → SaysNothing a → KnowsOneMore self.old a self.new) }
+        ensures columns { (a : Atom) → AddsColumns self.old a self.new }
         ensures err { OnErr result (self.new ≡ self.old) }
     {
         add(&mut self.said, Said::Nothing)?;
@@ -167,6 +175,8 @@ impl BoundLog {
         ensures err { OnErr result (self.new.said ≡ self.old.said) }
         ensures stays { OnErr result (KnowsTheSame self.old self.new) }
         ensures range { IfErr result (λ e. IsRange e → sum_fits self.new.bounds.table self.new.bounds.columns (turned (plain sum.now)) ≡ false) }
+        ensures columns { AddsColumns self.old (AtMost sum.now threshold) self.new }
+        ensures fails { IfErr result (λ e. IsRange e → (holds : Bool) → FailsToTake self.new sum.now threshold holds) }
     {
         if sum.is_empty() {
             add(&mut self.said, Said::Nothing)?;
@@ -186,6 +196,8 @@ impl BoundLog {
         ensures stays { KnowsTheSame self.old self.new }
         ensures range { IfErr result (λ e. IsRange e → IsPast (said_at self.old.said literal.atom) literal e) }
         ensures err { OnErr result (self.new ≡ self.old) }
+        ensures columns { KeepsColumns self.old self.new }
+        ensures fails { IfErr result (λ e. IsRange e → FailsToTell self.old literal) }
     {
         let said = said_of(&self.said, literal.atom());
         tell_said(
@@ -202,6 +214,7 @@ impl BoundLog {
     pub fn undo_to(&mut self, count: usize)
         ensures undone { IsUndone self.old count self.new }
         ensures stays { KnowsTheSame self.old self.new }
+        ensures columns { KeepsColumns self.old self.new }
     {
         if count < self.starts.len() {
             self.bounds.undo_to(start_of(&self.starts, count));
@@ -216,6 +229,7 @@ impl BoundLog {
         ensures log { self.new.log ≡ self.old.log }
         ensures said { self.new.said ≡ self.old.said }
         ensures stays { KnowsTheSame self.old self.new }
+        ensures columns { KeepsColumns self.old self.new }
         ensures judges { Judges self.new result.report }
         ensures room { SpendsRoom room result.pivots result.report }
         ensures most { result.pivots ≤ room }
@@ -226,10 +240,20 @@ impl BoundLog {
         conflicts_are_valid();
         let Checked { finding, pivots } = self.bounds.check(alloc, kept, room);
         self.bounds.facts();
+        self.bounds.origins();
         Reported {
             report: report_of(finding),
             pivots,
         }
+    }
+
+    /// The literal on an atom that a row leaves no room for, if one is seen. It promises nothing of the row.
+    pub(crate) fn shut_out(&self, atom: u32) -> Option<Literal>
+        requires numbered { atom < length self.now.said }
+        ensures { IfSome result (λ l. l.atom ≡ atom) }
+    {
+        self.bounds.facts();
+        shut_out(&self.bounds, said_of(&self.said, atom), atom)
     }
 
     /// A clause that the log breaks, where a row shows by its fixed variables that no whole numbers meet all bounds told. `None` promises nothing; an `Err` is for want of memory.
@@ -258,5 +282,49 @@ impl BoundLog {
         ensures none { IfNone result (AreWhole self.now.bounds) }
     {
         self.bounds.first_fraction()
+    }
+
+    /// The row of the first variable of a term whose value isn't whole, as a line: its other variables are 0 or at numbers that known atoms or their complements say.
+    pub fn branch_line(&self, alloc: Global, leaf: FractionalLeaf) -> Result<Line, AllocError>
+        requires { IsFirstIn self.now.bounds.columns leaf }
+        ensures branches { IfOk result (IsBranchLine leaf.term leaf.floor) }
+        ensures sound { IfOk result (λ l. (table : List Atom) → Knows table self.now → IsSoundLine (IsBoundOf (Contains table)) l) }
+    {
+        self.bounds.facts();
+        self.bounds.origins();
+        self.bounds.line(alloc, leaf.variable)
+    }
+
+    /// The rows and the variables, with their bounds and values, as a grid with nothing pending.
+    pub fn grid(&self, alloc: Global) -> Result<Grid, AllocError>
+        ensures exact { IfOk result (λ g. g ≡ plain_grid self.now) }
+        ensures sound { IfOk result (λ g. (table : List Atom) → Knows table self.now → IsSoundGrid (IsBoundOf (Contains table)) g) }
+    {
+        self.bounds.facts();
+        self.bounds.origins();
+        self.bounds.grid(alloc)
+    }
+
+    /// The rows and the variables, with their bounds and values, as a grid with a bound pending: that a sum is at most a number, or that it isn't.
+    pub fn pending_grid(
+        &self,
+        alloc: Global,
+        sum: &[Summand],
+        number: i128,
+        holds: bool,
+    ) -> Result<Grid, AllocError>
+        ensures exact { IfOk result (λ g. g ≡ with_pending (plain_grid self.now) (told sum.now number holds)) }
+        ensures sound { IfOk result (λ g. (table : List Atom) → Knows table self.now → IsSoundGrid (IsBoundOf (Contains table)) g) }
+        ensures fails { IfOk result (λ g. FailsToTake self.now sum.now number holds → NextFails g) }
+    {
+        self.bounds.facts();
+        self.bounds.origins();
+        let sum = Seq::from_vec(plain_sum(alloc, sum)?);
+        let Grid { columns, rows, .. } = self.bounds.grid(alloc)?;
+        Ok(Grid {
+            columns,
+            rows,
+            pending: Some(Pending { sum, number, holds }),
+        })
     }
 }

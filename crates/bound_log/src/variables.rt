@@ -1,12 +1,14 @@
 //! The variables of the terms of a sum, and that of the sum.
-ghost use Rattle.std.specs.Prelude.{◌≡◌, ◌≢◌, ℕ, ◌<◌, ◌-◌, ◌^◌, false, pos, All, length, OnOk, OnErr, IfOk, IfErr};
+ghost use Rattle.std.specs.Prelude.{◌≡◌, ◌≢◌, ℕ, ◌<◌, ◌-◌, ◌^◌, false, pos, All, length, OnOk, OnErr, IfOk, IfErr, None};
 ghost use Rattle.number_meaning.specs.Whole.{InRange};
-ghost use Rattle.grid_meaning.specs.Grid.{turned};
+ghost use Rattle.grid_meaning.specs.Grid.{column_of, leaf, turned};
 ghost use Rattle.grid_meaning.specs.declared.Summand.{Summand as SummandValue};
 ghost use Rattle.tableau.specs.Failing.{IsRange};
 ghost use Rattle.sum_bounds.specs.Bounds.{StandsFor, IsSum, sum_fits};
 ghost use Rattle.sum_bounds.specs.Written.{HasLeaf};
 ghost use Rattle.bound_log.specs.Growth.{IsGrown};
+ghost use Rattle.bound_log.specs.Columns.{IsLeafIn, IsPartIn, AddsSums};
+ghost use Rattle.bound_log.specs.Resting.{AreStill};
 
 use grid_meaning::Summand;
 use std::alloc::{AllocError, Global};
@@ -16,6 +18,8 @@ use tableau::Failure;
 /// Gives a term a variable where it has none. More variables than can be counted are want of memory.
 fn add_leaf(bounds: &mut SumBounds, alloc: Global, term: u32) -> Result<(), AllocError>
     ensures grown { IsGrown bounds.old bounds.new }
+    ensures still { AreStill bounds.old bounds.new }
+    ensures sums { AddsSums (λ ps. ps ≡ leaf term) bounds.old bounds.new }
     ensures leaf { OnOk result (HasLeaf bounds.new.columns term) }
 {
     if bounds.count() == u32::MAX {
@@ -28,6 +32,8 @@ fn add_leaf(bounds: &mut SumBounds, alloc: Global, term: u32) -> Result<(), Allo
 /// Gives each term of a sum a variable where it has none. After an `Err` some terms may have one.
 fn add_leaves(bounds: &mut SumBounds, alloc: Global, sum: &[Summand]) -> Result<(), AllocError>
     ensures grown { IsGrown bounds.old bounds.new }
+    ensures still { AreStill bounds.old bounds.new }
+    ensures sums { AddsSums (IsLeafIn sum.now) bounds.old bounds.new }
     ensures leaves { OnOk result (All (λ (p : SummandValue). HasLeaf bounds.new.columns p.term) sum.now) }
 {
     for summand in sum {
@@ -44,8 +50,11 @@ pub(crate) fn variable_of(
 ) -> Result<SumVariable, Failure>
     requires { All (λ (p : SummandValue). InRange p.coefficient × (p.coefficient ≢ pos 0)) sum.now }
     ensures grown { IsGrown bounds.old bounds.new }
+    ensures still { AreStill bounds.old bounds.new }
+    ensures sums { AddsSums (IsPartIn sum.now) bounds.old bounds.new }
     ensures ok { IfOk result (StandsFor bounds.new sum.now) }
     ensures range { IfErr result (λ e. IsRange e → sum_fits bounds.new.table bounds.new.columns (turned sum.now) ≡ false) }
+    ensures lacks { IfErr result (λ e. IsRange e → column_of bounds.new.columns (turned sum.now) ≡ None) }
 {
     add_leaves(bounds, alloc, sum)?;
     if bounds.count() == u32::MAX {

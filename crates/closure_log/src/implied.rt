@@ -141,8 +141,8 @@ fn scan_atom(
     )
 }
 
-/// Adds a clause, where there is one.
-fn keep(clauses: &mut Vec<Lemma>, found: Option<Lemma>) -> Result<(), AllocError>
+/// Adds a clause, where there is one. An `Err` is for want of memory.
+pub fn keep(clauses: &mut Vec<Lemma>, found: Option<Lemma>) -> Result<(), AllocError>
     ensures { OnOk result ((t : TheoryState) → IfSome found (IsPressingLemma t) → All (IsPressingLemma t) clauses.old.items → All (IsPressingLemma t) clauses.new.items) }
 {
     match found {
@@ -184,8 +184,8 @@ fn find_implied(
     Ok(clauses)
 }
 
-/// Quiet where there is no clause.
-fn inferred(clauses: Vec<Lemma>) -> Inferred
+/// Quiet where there is no clause, and else the clauses.
+pub fn inferred(clauses: Vec<Lemma>) -> Inferred
     ensures { (t : TheoryState) (b c : Spending) → All (IsPressingLemma t) clauses.items → InferredBy t b c result }
 {
     if clauses.len() == 0 {

@@ -10,8 +10,8 @@ mod said;
 mod scan;
 mod told;
 
-pub use implied::infer;
+pub use implied::{infer, inferred, keep};
 pub use laws::what_was_told_stays;
 pub use said::Guide;
-pub use scan::Scan;
+pub use scan::{Scan, is_open};
 pub use told::ClosureLog;

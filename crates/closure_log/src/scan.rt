@@ -24,7 +24,7 @@ pub struct Scan {
 }
 
 /// Whether an atom isn't in the log, with either sign.
-pub(crate) fn is_open(places: &[usize], log: &[Literal], atom: u32) -> bool
+pub fn is_open(places: &[usize], log: &[Literal], atom: u32) -> bool
     requires places { ArePlaces log.now places.now }
     requires within { atom < length places.now }
     ensures { result ≡ true → (l : Signed) → l.atom ≡ atom → IsOpenIn log.now l }

@@ -1,6 +1,7 @@
 //! The general simplex method: variables with bounds that are set and taken back, and values that are moved until they meet them.
 #![tactic(auto)]
 
+mod grid;
 mod state;
 
 pub use bound_trail::Set;

@@ -4,9 +4,10 @@ ghost use Rattle.number_meaning.specs.Number.{whole};
 ghost use Rattle.number_meaning.specs.Whole.{InRange};
 ghost use Rattle.bound_trail.specs.Trail.{tightest, number_of, set_at};
 ghost use Rattle.grid_meaning.specs.Grid.{entries_value, entries_value_fits, leaf};
+ghost use Rattle.grid_meaning.specs.Lines.{line_of};
 ghost use Rattle.tableau.specs.declared.failure.Failure.TheVariants.{Memory as NoMemory};
 ghost use Rattle.tableau.specs.Failing.{IsRange};
-ghost use Rattle.tableau.specs.Table.{IsOpenRow};
+ghost use Rattle.tableau.specs.Table.{IsOpenRow, row_at};
 ghost use Rattle.tableau.specs.Written.{AreParts, parts_row};
 ghost use Rattle.sum_laws.specs.Sums.{AreMatched};
 ghost use Rattle.grid_laws.specs.Law.{KeepsResting};
@@ -15,10 +16,11 @@ ghost use Rattle.simplex_steps.specs.Conflict.{KnownEntries};
 ghost use Rattle.simplex_steps.specs.Run.{IsRun, KeepsLines};
 ghost use Rattle.simplex.specs.State.{IsState, KeepsValues, HasBounds, FixedAt, Judges, SpendsRoom, tag_in, tag_or, refreshed, KnownBounds, IsVerdict, new_column, with_row, row_value_of, row_fits};
 
+use crate::grid::copy_grid;
 use bound_trail::{BoundTrail, Held, Set};
 use fraction128::{Fraction, Range};
-use grid_meaning::{Bound, Column, Entry, Seq, Side, Sum, Summand};
-use simplex_steps::{Checked, Moved, Outcome, PivotLines, check, moved_by};
+use grid_meaning::{Bound, Column, Entry, Grid, Line, Seq, Side, Sum, Summand};
+use simplex_steps::{Checked, Moved, Outcome, PivotLines, check, line_of_pivot, moved_by};
 use std::alloc::{AllocError, Global};
 use std::marker::Model;
 use tableau::{Failure, Part, Tableau, write_parts};
@@ -292,6 +294,33 @@ impl Simplex {
         ensures { result.now ≡ self.now.table }
     {
         &self.tableau
+    }
+
+    /// A row as a line, in which no variable moves.
+    pub fn line(&self, alloc: Global, place: usize) -> Result<Line, AllocError>
+        requires { place < length self.now.table.rows }
+        ensures { IfOk result (λ l. l ≡ line_of (grid_of self.now.table self.now.columns) (row_at self.now.table.rows place).basic None) }
+    {
+        self.tableau.facts();
+        let Line { basic, entries, .. } = line_of_pivot(
+            alloc,
+            &self.tableau,
+            &self.columns,
+            place,
+            0,
+        )?;
+        Ok(Line {
+            basic,
+            entries,
+            moves: None,
+        })
+    }
+
+    /// A copy of the rows and the columns as a grid with nothing pending.
+    pub fn grid(&self, alloc: Global) -> Result<Grid, AllocError>
+        ensures { IfOk result (λ g. g ≡ grid_of self.now.table self.now.columns) }
+    {
+        copy_grid(alloc, &self.tableau, &self.columns)
     }
 
     /// The number that a variable's bounds leave alone, where they are equal.

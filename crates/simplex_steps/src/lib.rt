@@ -9,6 +9,6 @@ mod moves;
 mod run;
 mod turn;
 
-pub use line::PivotLines;
+pub use line::{PivotLines, copy_column, line_of_pivot};
 pub use moves::{Moved, moved_by};
 pub use run::{Checked, Outcome, check};

@@ -28,7 +28,7 @@ fn copy_sum(alloc: Global, sum: &Sum) -> Result<Sum, AllocError>
 }
 
 /// A copy of a column.
-fn copy_column(alloc: Global, column: &Column) -> Result<Column, AllocError>
+pub fn copy_column(alloc: Global, column: &Column) -> Result<Column, AllocError>
     ensures { IfOk result (λ c. c ≡ column.now) }
 {
     let sum = copy_sum(alloc, &column.sum)?;

@@ -32,7 +32,7 @@ use Rattle.sum_bounds.proofs.Values.{HaveBounds, met_from_within, sums_meet}
 -- ---- bounds that stand were told
 
 -- a bound that stands, as it was told
-pub told_in : List Set → Bound → Told
+unfoldable pub told_in : List Set → Bound → Told
 told_in bs b = record { literal = unpacked (tag_in bs b); variable = b.variable; side = b.side; number = b.number }
 
 side_number : Side → Column → Option ℤ
@@ -72,7 +72,7 @@ told_is bs b h is number a =
         ∙ ap (λ (r : Side). let t : Told = record { literal = unpacked (tag_in bs b); variable = b.variable; side = r; number = x.number } in t) s
         ∙ ap (λ (k : ℤ). let t : Told = record { literal = unpacked (tag_in bs b); variable = b.variable; side = b.side; number = k } in t) n
 
-stood : (cs : List Column) (bs : List Set) (b : Bound) → HaveBounds cs bs → Stands cs b → Contains (map told_of bs) (told_in bs b)
+pub stood : (cs : List Column) (bs : List Set) (b : Bound) → HaveBounds cs bs → Stands cs b → Contains (map told_of bs) (told_in bs b)
 stood cs bs b has st =
     let at = stands_at cs b.variable b.side b.number st in
     let c = column_in cs b.variable in

@@ -1,5 +1,5 @@
 -- The variable of a term.
-use Rattle.std.proofs.Common.{◌≡◌, ℕ, ◌<◌, ◌⊎◌, inl, inr, Bool, true, false, ◌&&◌, eqb, eqb-true, eq-eqb, List, [], ◌∷◌, length, ℤ, pos, negsuc, ◌-ℤ◌, unsigned_abs, Option, Some, None, sym, ap, ap₂, subst, ◌∙◌, refl, arith}
+use Rattle.std.proofs.Common.{◌≡◌, ◌≢◌, ℕ, ◌<◌, ◌⊎◌, inl, inr, Bool, true, false, ◌&&◌, eqb, eqb-true, eq-eqb, List, [], ◌∷◌, length, ℤ, pos, negsuc, ◌-ℤ◌, unsigned_abs, Option, Some, None, sym, ap, ap₂, subst, ◌∙◌, refl, arith}
 use Rattle.std.proofs.lemmas.Bool.{cases_order}
 use Rattle.std.proofs.lemmas.Int.{ints}
 use Rattle.std.proofs.lemmas.List.{get_or_past}
@@ -105,3 +105,14 @@ pub sum_values : (t : Table) (cs : List Column) → IsSolution t cs → IsMeant 
 sum_values t cs s meant apart i lt =
     meant.determined (values cs) (λ term. values cs (variable_of cs term)) s.positive (λ term. s.positive (variable_of cs term)) s.meets
     (λ j term lj e. subst (λ n. SameNumber (values cs j) (values cs n)) (sym (leaf_found cs term j apart lj e)) refl) i lt
+
+-- a sum that no variable stands for
+pub column_none : (cs : List Column) (ps : List Summand) → ((i : ℕ) → i < length cs → (column_in cs i).sum ≢ ps) → column_of cs ps ≡ None
+column_none cs ps lacks = by (column_of cs ps) refl
+  where
+    by : (o : Option ℕ) → column_of cs ps ≡ o → column_of cs ps ≡ None
+    by None e = e
+    by (Some v) e =
+        let r = first_some (λ j c. only_if (same_sum c.sum ps) (Some j)) 0 cs v e in
+        let both_ = only_some (same_sum (column_in cs r.0).sum ps) r.1 v r.4 in
+        absurd (lacks r.0 r.3 (same_sum-is (column_in cs r.0).sum ps both_.0))

@@ -10,3 +10,4 @@ pub mod Conflicts
 pub mod Growth
 pub mod Checks
 pub mod WholeRows
+pub mod Origins

@@ -6,3 +6,4 @@ pub mod Bounds
 pub mod Kept
 pub mod Clauses
 pub mod Wholes
+pub mod Origins

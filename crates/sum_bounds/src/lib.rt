@@ -5,6 +5,7 @@ mod finding;
 mod fractions;
 mod laws;
 mod lookup;
+mod reach;
 mod state;
 mod told;
 mod wholes;

@@ -1,7 +1,8 @@
 //! The state, and the calls on it.
-ghost use Rattle.std.specs.Prelude.{◌≡◌, ℕ, ◌+◌, ◌-◌, ◌^◌, ◌<◌, ◌≤◌, ◌⊎◌, ◌↔◌, IsTrue, true, false, [], ◌∷◌, ◌++◌, map, take, length, All, OnOk, OnErr, IfOk, IfErr, IfSome, IfNone};
+ghost use Rattle.std.specs.Prelude.{◌≡◌, ℕ, ◌+◌, ◌-◌, ◌^◌, ◌<◌, ◌≤◌, ◌⊎◌, ◌↔◌, IsTrue, true, false, [], ◌∷◌, ◌++◌, map, take, length, All, OnOk, OnErr, IfOk, IfErr, IfSome, IfNone, None};
 ghost use Rattle.number_meaning.specs.Whole.{InRange};
-ghost use Rattle.grid_meaning.specs.Grid.{leaf, turned};
+ghost use Rattle.grid_meaning.specs.Grid.{column_of, is_basic, leaf, turned};
+ghost use Rattle.grid_meaning.specs.Lines.{line_of};
 ghost use Rattle.grid_laws.specs.Law.{KeepsResting};
 ghost use Rattle.tableau.specs.Failing.{IsRange};
 ghost use Rattle.simplex_steps.specs.State.{column_in, grid_of, values};
@@ -11,15 +12,17 @@ ghost use Rattle.sum_bounds.specs.Bounds.{sums, leaf_values, sum_hashes, told_bo
 ghost use Rattle.sum_bounds.specs.Written.{HasLeaf};
 ghost use Rattle.sum_bounds.specs.Wholes.{IsWholeConflict};
 ghost use Rattle.sum_bounds.specs.Kept.{IsGrownByLeaf, IsGrownBySum};
+ghost use Rattle.sum_bounds.specs.Origins.{IsOfTold};
 
 use crate::finding::{Checked, Finding, finding_of};
 use crate::fractions::{FractionalLeaf, first_fraction};
 use crate::lookup::{find, hash_of};
+use crate::reach::reach;
 use crate::told::{is_met, number_of, side_of, tag_of};
 use crate::wholes::whole_conflict;
 use crate::writing::{SumVariable, first_is_negative, parts_of, turned_sum};
 use fraction128::Fraction;
-use grid_meaning::{Sum, Summand};
+use grid_meaning::{Grid, Line, Sum, Summand};
 use literals::Literal;
 use simplex::{PivotLines, Set, Simplex};
 use std::alloc::{AllocError, Global};
@@ -141,6 +144,13 @@ impl SumBounds {
         self.simplex.facts();
     }
 
+    /// Tells where the bounds of variables come from.
+    pub fn origins(&self)
+        ensures { IsOfTold self.now }
+    {
+        self.simplex.facts();
+    }
+
     /// How many variables there are.
     pub fn count(&self) -> u32
         ensures { result ≡ length self.now.columns }
@@ -210,6 +220,7 @@ impl SumBounds {
         ensures ok { IfOk result (StandsFor self.new sum.now) }
         ensures same { OnOk result ((self.new ≡ self.old) ⊎ (self.new ≡ with_sum self.old (turned sum.now))) }
         ensures range { IfErr result (λ e. IsRange e → sum_fits self.old.table self.old.columns (turned sum.now) ≡ false) }
+        ensures lacks { IfErr result (λ e. IsRange e → column_of self.old.columns (turned sum.now) ≡ None) }
         ensures err { OnErr result (self.new ≡ self.old) }
     {
         let turned = first_is_negative(sum);
@@ -285,12 +296,38 @@ impl SumBounds {
         }
     }
 
+    /// The rows and the variables, with their bounds and values, as a grid with nothing pending.
+    pub fn grid(&self, alloc: Global) -> Result<Grid, AllocError>
+        ensures { IfOk result (λ g. g ≡ grid_of self.now.table self.now.columns) }
+    {
+        self.simplex.grid(alloc)
+    }
+
+    /// The row of a basic variable as a line, in which no variable moves.
+    pub fn line(&self, alloc: Global, variable: u32) -> Result<Line, AllocError>
+        requires { is_basic self.now.table.rows variable ≡ true }
+        ensures { IfOk result (λ l. l ≡ line_of (grid_of self.now.table self.now.columns) variable None) }
+    {
+        let place = self.simplex.tableau().place_of(variable).unwrap();
+        self.simplex.line(alloc, place)
+    }
+
     /// The least variable of a term whose value isn't whole.
     pub fn first_fraction(&self) -> Option<FractionalLeaf>
         ensures some { IfSome result (IsFirstIn self.now.columns) }
         ensures none { IfNone result (AreWhole self.now) }
     {
         first_fraction(&self.simplex, self.count)
+    }
+
+    /// The most, or the least, that the bounds of the others in its row leave the sum of a variable. This only guides a search: it promises nothing.
+    pub fn reach(&self, of: SumVariable, rises: bool) -> Option<Fraction> {
+        if of.turned {
+            let turned = reach(&self.simplex, of.variable, !rises)?;
+            Some(turned.neg())
+        } else {
+            reach(&self.simplex, of.variable, rises)
+        }
     }
 
     /// A clause of bounds told that no whole numbers meet, where a row of the tableau shows it by its fixed variables: their part isn't a multiple of the greatest common divisor of the other coefficients. `None` promises nothing; an `Err` is for want of memory.

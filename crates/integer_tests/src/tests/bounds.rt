@@ -135,6 +135,25 @@ fn breaks_wholes(
     }
 }
 
+/// Whether these are the values of the variables in order, as numerators and denominators.
+fn has_values(
+    bounds: &SumBounds,
+    alloc: Global,
+    values: &[(i128, i128)],
+) -> Result<bool, AllocError> {
+    let grid = bounds.grid(alloc)?;
+    let columns = grid.columns.as_slice();
+    if columns.len() != values.len() {
+        return Ok(false);
+    }
+    for (place, column) in columns.iter().enumerate() {
+        if (column.value.numerator(), column.value.denominator()) != values[place] {
+            return Ok(false);
+        }
+    }
+    Ok(true)
+}
+
 /// The least term with a value that isn't whole, and the floor of that value.
 fn fraction(bounds: &SumBounds) -> Option<(u32, i128)> {
     match bounds.first_fraction() {
@@ -169,6 +188,8 @@ enum Turn {
     Fraction(u32, i128),
     /// The count of variables, and that of bounds.
     Counts(u32, usize),
+    /// The values of the variables in order, as numerators and denominators.
+    Values(&'static [(i128, i128)]),
 }
 
 /// Takes a turn; false where it can't be taken, or something else is found.
@@ -184,6 +205,7 @@ fn take(bounds: &mut SumBounds, alloc: Global, turn: &Turn) -> Result<bool, Fail
         Turn::Wholes(literals) => Ok(breaks_wholes(bounds, alloc, literals)?),
         Turn::Fraction(term, floor) => Ok(fraction(bounds) == Some((*term, *floor))),
         Turn::Counts(variables, told) => Ok(bounds.count() == *variables && bounds.len() == *told),
+        Turn::Values(values) => Ok(has_values(bounds, alloc, values)?),
     }
 }
 
@@ -231,7 +253,7 @@ static THREE_BOUNDS: [Turn; 9] = [
 ];
 
 /// 2 y <= -5, and -2 y <= 5.
-static HALVES: [Turn; 4] = [
+static HALVES: [Turn; 5] = [
     Turn::Tell(Row {
         atom: 0,
         positive: true,
@@ -246,6 +268,7 @@ static HALVES: [Turn; 4] = [
     }),
     Turn::Fits,
     Turn::Fraction(1, -3),
+    Turn::Values(&[(0, 1), (-5, 2), (-5, 1)]),
 ];
 
 #[test]

@@ -14,5 +14,5 @@ returns-in-Some c =
     let now : State = record { bounds = s.bounds; said = s.said.items; log = s.log.items } in
     let made = c.lemma_with.ensures in
     subst (λ (t : State). IsClause t c.lemma_with.result) c.self.view_is
-    (broken_by_wholes c.whole_conflicts_are_valid.ensures now c.in-Some.clause.items c.lemma_with.result (state_is s.bounds s.said.items s.log.items s.starts.items c.facts.ensures c.self.invariant)
+    (broken_by_wholes c.whole_conflicts_are_valid.ensures now c.in-Some.clause.items c.lemma_with.result (state_is s.bounds s.said.items s.log.items s.starts.items c.facts.ensures c.self.invariant.0)
     (subst (λ o. IfSome o (λ ls. IsWholeConflict (sums s.bounds) s.bounds.told ls.items)) c.in-Some.is c.in_ok-clause.ensures) (record { literals = made.literals; level = made.level; conflict = made.conflict }))

@@ -1,0 +1,25 @@
+use Rattle.std.proofs.Common.{◌≡◌, List, true, None, sym, subst}
+use Rattle.std.specs.Prelude.{Contains}
+use Rattle.std.proofs.lemmas.Result.{IfOk-weaker}
+use Rattle.grid_meaning.specs.Grid.{is_basic}
+use Rattle.grid_meaning.specs.Lines.{line_of, IsSoundLine}
+use Rattle.smt_meaning.specs.declared.clauses.Atom.{Atom}
+use Rattle.smt_meaning.specs.CheckAtoms.{IsBoundOf}
+use Rattle.simplex_steps.specs.State.{grid_of}
+use Rattle.sum_bounds.specs.Bounds.{IsFirstIn}
+use Rattle.bound_log.specs.Told.{State, IsState}
+use Rattle.bound_log.specs.Atoms.{Knows}
+use Rattle.bound_log.proofs.Telling.{state_is}
+use Rattle.bound_log.proofs.Lines.{broken_basic, sound_line}
+use Rattle.bound_log.proofs.log.BoundLog.branch_line.Goals as goal
+
+pub returns-clause-sound : goal.returns-clause-sound
+returns-clause-sound c =
+    let s = c.self.inside in
+    let now : State = record { bounds = s.bounds; said = s.said.items; log = s.log.items } in
+    let state : IsState now = state_is s.bounds s.said.items s.log.items s.starts.items c.facts.ensures c.self.invariant.0 in
+    let first : IsFirstIn s.bounds.columns c.args.leaf = subst (λ (o : State). IsFirstIn o.bounds.columns c.args.leaf) (sym c.self.view_is) c.requires in
+    let basic : is_basic s.bounds.table.rows c.args.leaf.variable ≡ true = broken_basic now c.args.leaf c.self.invariant.1 first in
+    IfOk-weaker c.line.result (λ l. l ≡ line_of (grid_of s.bounds.table s.bounds.columns) c.args.leaf.variable None)
+    (λ l. (table : List Atom) → Knows table c.args.self.now → IsSoundLine (IsBoundOf (Contains table)) l)
+    (λ l is table knows. sound_line table now c.args.leaf.variable l state c.origins.ensures c.self.invariant.1 basic is (subst (Knows table) (sym c.self.view_is) knows)) c.line.ensures

@@ -1,0 +1,62 @@
+//! Atoms that follow by a row.
+ghost use Rattle.std.specs.Prelude.{◌≡◌, ◌<◌, length, IfSome};
+ghost use Rattle.search_port.specs.State.{IsOpenIn};
+ghost use Rattle.literals.specs.Signed.{Signed};
+ghost use Rattle.bound_log.specs.Atoms.{KnowsTheSame};
+ghost use Rattle.bound_log.specs.Columns.{KeepsColumns};
+ghost use Rattle.bound_log.specs.Implied.{IsTried, IsImplied};
+
+use crate::log::BoundLog;
+use crate::report::{Report, Reported};
+use literals::Literal;
+use search_port::Lemma;
+use simplex::PivotLines;
+use std::alloc::Global;
+
+/// The clause of a conflict.
+fn clause_of(report: Report) -> Option<Lemma>
+    ensures { IfSome result (λ c. report ≡ Report.Conflict c) }
+{
+    match report {
+        Report::Conflict(clause) => Some(clause),
+        Report::Fits | Report::Range(_) | Report::UnitsSpent | Report::Memory => None,
+    }
+}
+
+/// What the bounds break at once, without a pivot, where a literal is told, which is then taken back.
+fn try_literal(bounds: &mut BoundLog, alloc: Global, literal: Literal) -> Option<Lemma>
+    requires numbered { literal.atom < length bounds.old.said }
+    ensures stays { KnowsTheSame bounds.old bounds.new }
+    ensures columns { KeepsColumns bounds.old bounds.new }
+    ensures log { bounds.new.log ≡ bounds.old.log }
+    ensures said { bounds.new.said ≡ bounds.old.said }
+    ensures clause { IfSome result (IsTried bounds.old literal) }
+{
+    let count = bounds.len();
+    let Ok(()) = bounds.tell(literal) else {
+        return None;
+    };
+    let mut lines = PivotLines {
+        keep: false,
+        lines: Vec::new(alloc),
+    };
+    let Reported { report, pivots: _ } = bounds.check(alloc, &mut lines, 0);
+    bounds.undo_to(count);
+    clause_of(report)
+}
+
+impl BoundLog {
+    /// A clause by which an open atom follows from what is told, or by which what is told breaks the bounds, where the row of the atom's sum shows one by the bounds of its other variables.
+    /// `None` promises nothing. It may move values.
+    pub fn implied(&mut self, alloc: Global, atom: u32) -> Option<Lemma>
+        requires numbered { atom < length self.old.said }
+        requires open { (l : Signed) → l.atom ≡ atom → IsOpenIn self.old.log l }
+        ensures stays { KnowsTheSame self.old self.new }
+        ensures columns { KeepsColumns self.old self.new }
+        ensures log { self.new.log ≡ self.old.log }
+        ensures clause { IfSome result (IsImplied self.old) }
+    {
+        let literal = self.shut_out(atom)?;
+        try_literal(self, alloc, literal)
+    }
+}
