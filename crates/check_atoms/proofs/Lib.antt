@@ -8,3 +8,4 @@ mod StackAtoms
 mod Refused
 mod RefusedPair
 mod PartNumbers
+mod FirstAtoms

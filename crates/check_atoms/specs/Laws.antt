@@ -8,11 +8,13 @@ use Rattle.smt_meaning.specs.declared.clauses.Atom.{Atom}
 use Rattle.smt_meaning.specs.declared.clauses.Atom.TheVariants.{Truth, Same}
 use Rattle.smt_meaning.specs.Term.{tree_at}
 use Rattle.smt_meaning.specs.Signature.{tree_sort, is_bool}
-use Rattle.smt_meaning.specs.Stack.{signature_of}
+use Rattle.smt_meaning.specs.Stack.{Frame, signature_of}
 use Rattle.smt_meaning.specs.StackCommand.{Stack}
 use Rattle.smt_meaning.specs.Linear.{linear_form, form_fits}
 use Rattle.smt_meaning.specs.Atoms.{stack_atoms}
+use Rattle.smt_meaning.specs.CheckAtoms.{IsPartOfStack, IsFirstAtom}
 use Rattle.smt_meaning.specs.Ranges.{LeavesInPart, LeavesInPair}
+use Rattle.flat_stack.specs.Flat.{flat}
 use Rattle.scope_stack.specs.Shown.{IsLawful}
 use Rattle.stack_atoms.specs.Parts.{IsMarked}
 use Rattle.stack_atoms.specs.Marks.{AreStackParts}
@@ -42,6 +44,18 @@ abbrev pub StackAtomsAreNumbered : Type 0
 StackAtomsAreNumbered =
     (s : Stack) (marks : List Bool) (atoms : List Atom) → IsLawful s → AreStackParts s marks → AreCheckAtoms s marks atoms
     → All (λ (a : Atom). Contains atoms a ⊎ IsSameOfBools s a) (stack_atoms s.trees s.frames)
+
+-- by these levels each numbered atom is one that a check begins with, each of theirs is numbered but for the equalities of Bools, of which none is, and the marked terms are parts
+pub record AreFirstAtoms (s : Stack) (frames : List Frame) (marks : List Bool) (atoms : List Atom) : Type 0 where
+  pub first : All (IsFirstAtom s.trees frames) atoms
+  pub all : (a : Atom) → Contains (stack_atoms s.trees frames) a → Contains atoms a ⊎ IsSameOfBools s a
+  pub no_bools : (a : Atom) → Contains atoms a → IsSameOfBools s a → ⊥
+  pub parts : (p : ℕ) → IsMarked marks p → IsPartOfStack frames (tree_at s.trees p)
+
+-- the numbered atoms are such by the levels of the stack, and by one level with all of them
+abbrev pub AtomsAreFirst : Type 0
+AtomsAreFirst =
+    (s : Stack) (marks : List Bool) (atoms : List Atom) → IsLawful s → AreStackParts s marks → AreCheckAtoms s marks atoms → AreFirstAtoms s s.frames marks atoms × AreFirstAtoms s (flat s.frames) marks atoms
 
 -- a term whose folding is refused is a part whose folding leaves the range
 abbrev pub RefusedTermLeavesRange : Type 0

@@ -1,7 +1,8 @@
 //! What holds of the numbered atoms and of a refusal, as contracts of functions that do nothing.
-ghost use Rattle.check_atoms.specs.Laws.{AtomsAreOfStack, StackAtomsAreNumbered, PartsHaveNumbers, TruthsHaveNumbers, RefusedTermLeavesRange, RefusedPairLeavesRange};
+ghost use Rattle.check_atoms.specs.Laws.{AtomsAreOfStack, StackAtomsAreNumbered, AtomsAreFirst, PartsHaveNumbers, TruthsHaveNumbers, RefusedTermLeavesRange, RefusedPairLeavesRange};
 
 use bound_clauses::orders_are_comparisons;
+use flat_stack::flat_says_the_same;
 
 /// Each numbered atom is one of the stack's.
 pub fn atoms_are_of_stack()
@@ -15,6 +16,14 @@ pub fn stack_atoms_are_numbered()
     ensures { StackAtomsAreNumbered }
 {
     orders_are_comparisons();
+}
+
+/// Each numbered atom is one that a check begins with, and each of the stack's is numbered, but for the equalities of Bools, of which none is.
+pub fn atoms_are_first()
+    ensures { AtomsAreFirst }
+{
+    orders_are_comparisons();
+    flat_says_the_same();
 }
 
 /// The atoms that compare the arguments of a part are numbered.

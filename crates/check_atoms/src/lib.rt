@@ -10,8 +10,8 @@ mod refusal;
 
 pub use atoms::{CheckAtoms, numbered};
 pub use laws::{
-    atoms_are_of_stack, parts_have_numbers, refused_pair_leaves_range, refused_term_leaves_range,
-    stack_atoms_are_numbered, truths_have_numbers,
+    atoms_are_first, atoms_are_of_stack, parts_have_numbers, refused_pair_leaves_range,
+    refused_term_leaves_range, stack_atoms_are_numbered, truths_have_numbers,
 };
 pub use part::PartAtom;
 pub use refusal::Refusal;

@@ -4,3 +4,4 @@ pub mod Parts
 pub mod Asserting
 pub mod Deciding
 pub mod Keeping
+pub mod Forcing

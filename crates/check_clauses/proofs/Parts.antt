@@ -39,7 +39,7 @@ one_of_them u none c = absurd c
 one_of_them u (more t us) (inl e) = inl (subst (IsPart u) e (itself u))
 one_of_them u (more t us) (inr c) = inr (one_of_them u us c)
 
-picked_is : (trees : List Tree) (is : List ℕ) → All (λ i. IsOneOf (tree_at trees i) (pick trees is)) is
+pub picked_is : (trees : List Tree) (is : List ℕ) → All (λ i. IsOneOf (tree_at trees i) (pick trees is)) is
 picked_is trees [] = All-nil (λ i. IsOneOf (tree_at trees i) (pick trees []))
 picked_is trees (j ∷ is) =
     All-cons (λ i. IsOneOf (tree_at trees i) (pick trees (j ∷ is))) j is (inl refl)

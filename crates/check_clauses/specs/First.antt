@@ -1,5 +1,5 @@
--- The first clauses of a search over a stack with integers: what each says follows from the stack, and the assertions are among them.
-use Rattle.std.specs.Prelude.{◌≡◌, ℕ, false, Bool, List, ◌∷◌, All}
+-- The first clauses of a search over a stack with integers: what each says follows from the stack, the assertions are among them, and they force the clauses of each part.
+use Rattle.std.specs.Prelude.{◌≡◌, ℕ, false, Bool, List, ◌∷◌, map, All}
 use Rattle.clause_store.specs.Stored.{Kept, Stored}
 use Rattle.smt_meaning.specs.declared.values.Sort.{Sort}
 use Rattle.smt_meaning.specs.declared.values.Sort.TheVariants.{Bool as Truths}
@@ -22,7 +22,7 @@ use Rattle.order_clauses.specs.Errors.{IsCause}
 use Rattle.clause_form.specs.Node.{literals_of_node}
 use Rattle.atom_table.specs.Numbers.{IsAt}
 use Rattle.part_clauses.specs.Numbers.{AreNumbers}
-use Rattle.part_clauses.specs.First.{IsBegun, IsAsserted, HasClause}
+use Rattle.part_clauses.specs.First.{IsBegun, IsAsserted, HasClause, ForcesParts}
 use Rattle.check_clauses.specs.declared.error.FirstError.{FirstError}
 use Rattle.check_clauses.specs.declared.error.FirstError.TheVariants.{Part, NotLinear, Memory}
 
@@ -30,10 +30,11 @@ use Rattle.check_clauses.specs.declared.error.FirstError.TheVariants.{Part, NotL
 abbrev pub reading_of : Stack → List Atom → Reading
 reading_of s table = record { trees = s.trees; frames = flat s.frames; table = table; closed = false }
 
--- nothing is decided, each clause that is kept follows, and each assertion is one
+-- nothing is decided, each clause that is kept follows, each assertion is one, and the clauses of each part are forced
 pub record IsFirst (s : Stack) (table : List Atom) (stored : Stored) : Type 0 where
   pub begun : IsBegun (reading_of s table) stored
   pub assertions : All (IsAsserted s.trees table stored.clauses) (assertions_of s.frames)
+  pub forced : ForcesParts s table (map (λ (c : Kept). c.literals) stored.clauses)
 
 -- the clauses of a node with this operator, over the truths of it and of its arguments, are kept
 pub record HasTruths (table : List Atom) (clauses : List Kept) (place : ℕ) (o : Operator) (is : List ℕ) : Type 0 where

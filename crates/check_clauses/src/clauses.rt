@@ -14,6 +14,7 @@ ghost use Rattle.check_clauses.specs.First.{reading_of, IsFirst, IsRefused, HasP
 
 use crate::error::FirstError;
 use crate::keep::keep;
+use crate::laws::kept_parts_are_forced;
 use crate::nodes::keep_parts;
 use atom_numbers::AtomNumbers;
 use atom_table::CompactAtom;
@@ -70,7 +71,7 @@ fn keep_assertions(
 }
 
 /// The clauses that a search begins with, at level 0: of each part that is a node of Bools those of its operator over their truths, of each other part those that tie
-/// it to what it compares or chooses, and for each assertion the clause that it is true. An `Err` says that memory is wanting, or which part's clauses can't be put
+/// it to what it compares or chooses, and for each assertion the clause that it is true. They force the clauses of each part. An `Err` says that memory is wanting, or which part's clauses can't be put
 /// and why. The atoms and the forms stay as they are.
 pub fn check_clauses(
     alloc: Global,
@@ -88,6 +89,7 @@ pub fn check_clauses(
     ensures same { parts.new ≡ parts.old }
 {
     stack.laws();
+    kept_parts_are_forced();
     let mut store = Store::new(alloc);
     store.reserve(parts.atoms.len() as u32)?;
     keep_parts(

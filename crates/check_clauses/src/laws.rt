@@ -1,7 +1,9 @@
 //! What the first clauses are for, as contracts of functions that do nothing.
-ghost use Rattle.check_clauses.specs.Laws.{FirstClausesSayAssertions, SignatureStays, EmptyClauseMeansNoModel};
+ghost use Rattle.check_clauses.specs.Laws.{FirstClausesSayAssertions, SignatureStays, EmptyClauseMeansNoModel, KeptPartsAreForced, MoreForceParts};
 
+use assertion_form::node_clauses_are_renamed;
 use flat_stack::flat_says_the_same;
+use forced_clauses::node_clauses_force;
 
 /// What makes the first clauses true makes the assertions true, also where the search has numbered more atoms.
 pub fn first_clauses_say_assertions()
@@ -21,3 +23,16 @@ pub fn empty_clause_means_no_model()
 {
     flat_says_the_same();
 }
+
+/// The kept clauses of the parts, among whatever others, force each clause that is true of a part's operator.
+pub fn kept_parts_are_forced()
+    ensures { KeptPartsAreForced }
+{
+    node_clauses_force();
+    node_clauses_are_renamed();
+}
+
+/// Where fewer clauses force those of the parts, more do.
+pub fn more_force_parts()
+    ensures { MoreForceParts }
+{}

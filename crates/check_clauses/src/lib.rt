@@ -11,5 +11,8 @@ mod shapes;
 
 pub use clauses::check_clauses;
 pub use error::FirstError;
-pub use laws::{empty_clause_means_no_model, first_clauses_say_assertions, signature_stays};
+pub use laws::{
+    empty_clause_means_no_model, first_clauses_say_assertions, kept_parts_are_forced,
+    more_force_parts, signature_stays,
+};
 pub use shapes::linear_terms;

@@ -1,5 +1,5 @@
 -- Axioms follow from each stack.
-use Rattle.std.proofs.Common.{◌≡◌, ℕ, List, [], ◌++◌, All, Contains, ◌∙◌, ap, subst}
+use Rattle.std.proofs.Common.{◌≡◌, ℕ, List, [], ◌++◌, map, All, Contains, ◌∙◌, ap, subst}
 use Rattle.std.proofs.lemmas.List.Elements.{All-weaker, All-contains}
 use Rattle.literals.specs.Signed.{Signed}
 use Rattle.clause_store.specs.Stored.{Kept, Stored}
@@ -8,6 +8,7 @@ use Rattle.smt_meaning.specs.declared.clauses.Atom.TheVariants.{AtMost}
 use Rattle.smt_meaning.specs.Stack.{signature_of, assertions_of}
 use Rattle.smt_meaning.specs.StackCommand.{Stack}
 use Rattle.search_port.specs.Valid.{IsOf}
+use Rattle.search_port.proofs.Forcing.{ComesBy, from_map, in_map}
 use Rattle.atom_table.specs.Numbers.{IsAt}
 use Rattle.flat_stack.specs.Flat.{FlatSaysTheSame}
 use Rattle.bound_axioms.specs.Axioms.{BoundsFit, IsSound, AddsAxioms}
@@ -16,6 +17,7 @@ use Rattle.check_atoms.specs.Numbering.{IsNormal, IsNormalBound}
 use Rattle.part_clauses.specs.First.{HasClause, IsAsserted, IsBegun, IsClause}
 use Rattle.part_clauses.proofs.Keeping.{asserted_stays}
 use Rattle.check_clauses.specs.First.{reading_of, IsFirst}
+use Rattle.check_clauses.specs.Laws.{MoreForceParts}
 use Rattle.check_clauses.proofs.Following.{put_clauses}
 use Rattle.kept_axioms.specs.Kept.{HasAxioms}
 
@@ -35,10 +37,19 @@ module _ (s : Stack) (table : List Atom) where
   axioms_follow same declared empty put e h =
       put_clauses same s table declared empty put h.added e h.is (All-weaker (IsSound table) (IsSoundIn (signature_of s.frames) s.trees table) sound h.added h.sound)
 
-  pub still_first : (old new : Stored) → IsFirst s table old → ((c : Kept) → Contains old.clauses c → Contains new.clauses c) → IsBegun (reading_of s table) new → IsFirst s table new
-  still_first old new first stay begun = record {
+  abbrev literals : Kept → List Signed
+  literals c = c.literals
+
+  literals_stay : (old new : List Kept) → ((c : Kept) → Contains old c → Contains new c) → (ls : List Signed) → Contains (map literals old) ls → Contains (map literals new) ls
+  literals_stay old new stay ls h =
+      let r : ComesBy literals old ls = from_map literals old ls h in
+      subst (Contains (map literals new)) r.is (in_map literals new r.from (stay r.from r.among))
+
+  pub still_first : MoreForceParts → (old new : Stored) → IsFirst s table old → ((c : Kept) → Contains old.clauses c → Contains new.clauses c) → IsBegun (reading_of s table) new → IsFirst s table new
+  still_first more old new first stay begun = record {
     begun = begun;
     assertions = All-weaker (IsAsserted s.trees table old.clauses) (IsAsserted s.trees table new.clauses) (λ t h. asserted_stays s.trees table old.clauses new.clauses t stay h) (assertions_of s.frames) first.assertions;
+    forced = more s table (map literals old.clauses) (map literals new.clauses) (literals_stay old.clauses new.clauses stay) first.forced;
   }
 
 pub has_axioms : (table : List Atom) (clauses : List Kept) (empty put : List (List Signed)) → empty ≡ [] → AddsAxioms table empty put → All (HasClause clauses) put → HasAxioms table clauses

@@ -10,6 +10,7 @@ ghost use Rattle.kept_axioms.specs.Kept.{HasAxioms};
 
 use bound_axioms::put_all_axioms;
 use check_atoms::CheckAtoms;
+use check_clauses::more_force_parts;
 use clause_form::Clauses;
 use clause_store::store::Store;
 use flat_stack::flat_says_the_same;
@@ -30,7 +31,7 @@ fn keep_all(store: &mut Store, clauses: &Clauses) -> Result<(), AllocError>
 }
 
 /// Keeps the axioms of the bounds of the parts' atoms, at level 0: then propagation knows the order of the bounds on one sum and on its negation, without the theory.
-/// They are true under every interpretation, so what is kept still follows.
+/// They are true under every interpretation, so what is kept still follows, and it forces what it forced before.
 pub fn keep_axioms(
     alloc: Global,
     stack: &Stack,
@@ -44,6 +45,7 @@ pub fn keep_axioms(
     ensures has { OnOk result (HasAxioms parts.now.atoms.atoms store.new.clauses) }
 {
     flat_says_the_same();
+    more_force_parts();
     let mut axioms = Clauses::new(alloc);
     put_all_axioms(alloc, &mut axioms, &parts.atoms)?;
     keep_all(store, &axioms)

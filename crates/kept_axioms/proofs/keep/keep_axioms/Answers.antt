@@ -25,7 +25,7 @@ returns-clause-first c =
     axioms_follow s table c.flat_says_the_same.ensures c.requires.atoms.declared c.new-axioms.result c.put_all_axioms.new.clauses c.new-axioms.ensures c.in_ok-put_all_axioms.ensures in
     on_ok c.keep_all.result ((q : Reading) → IsBegun q c.args.store.now → All (IsClause q 0) c.put_all_axioms.new.clauses → IsBegun q c.keep_all.new.store) (IsFirst s table c.keep_all.new.store)
     c.keep_all.ensures.begun
-    (λ h. still_first s table c.args.store.now c.keep_all.new.store c.requires.first c.keep_all.ensures.stay (h (reading_of s table) c.requires.first.begun follow))
+    (λ h. still_first s table c.more_force_parts.ensures c.args.store.now c.keep_all.new.store c.requires.first c.keep_all.ensures.stay (h (reading_of s table) c.requires.first.begun follow))
 
 pub returns-clause-has : goal.returns-clause-has
 returns-clause-has c =

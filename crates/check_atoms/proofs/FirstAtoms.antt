@@ -1,0 +1,145 @@
+-- The numbered atoms are those that a check begins with.
+use Rattle.std.proofs.Common.{◌≡◌, inl, ℕ, Bool, true, false, List, [], ◌∷◌, Some, map, get_or, All, Contains, subst, sym, ap, ap₂, ◌∙◌, refl, flat_map}
+use Rattle.std.specs.Prelude.{Option, None, ℤ}
+use Rattle.std.proofs.lemmas.List.Elements.{All-nil, All-cons, All-append, All-map, All-contains, Contains-get_or}
+use Rattle.smt_meaning.specs.declared.values.Sort.{Sort}
+use Rattle.smt_meaning.specs.declared.values.Sort.TheVariants.{Bool as Truths, Int as Ints, Free}
+use Rattle.smt_meaning.specs.declared.terms.Operator.{Operator}
+use Rattle.smt_meaning.specs.declared.terms.Operator.TheVariants.{Equal, Distinct, Ite}
+use Rattle.smt_meaning.specs.declared.terms.Head.{Head}
+use Rattle.smt_meaning.specs.declared.terms.Head.TheVariants.{Theory}
+use Rattle.smt_meaning.specs.declared.clauses.Summand.{Summand}
+use Rattle.smt_meaning.specs.declared.clauses.Atom.{Atom}
+use Rattle.smt_meaning.specs.declared.clauses.Atom.TheVariants.{Truth as TruthAtom, Same as SameAtom}
+use Rattle.smt_meaning.specs.Declaration.{Declaration}
+use Rattle.smt_meaning.specs.Term.{Tree, tree_at}
+use Rattle.smt_meaning.specs.Signature.{is_bool}
+use Rattle.smt_meaning.specs.Stack.{Frame, signature_of, assertions_of}
+use Rattle.smt_meaning.specs.StackCommand.{Stack}
+use Rattle.smt_meaning.specs.CheckAtoms.{IsPartOfStack, IsFirstAtom}
+use Rattle.smt_meaning.specs.Atoms.{normal_bound, atoms_of, stack_atoms, stack_atoms_are}
+use Rattle.flat_stack.specs.Flat.{flat, FlatSaysTheSame}
+use Rattle.scope_stack.specs.Shown.{IsLawful}
+use Rattle.stack_atoms.specs.Marks.{AreStackParts}
+use Rattle.bound_clauses.specs.declared.orders.Sense.{Sense}
+use Rattle.bound_clauses.specs.declared.orders.Sense.TheVariants.{NotAbove, Below}
+use Rattle.bound_clauses.specs.declared.orders.Order.{Order}
+use Rattle.bound_clauses.specs.Orders.{atom_of as order_atom, both_orders, order_atoms}
+use Rattle.bound_clauses.specs.Laws.{OrdersAreComparisons}
+use Rattle.check_atoms.specs.declared.part.PartAtom.{PartAtom}
+use Rattle.check_atoms.specs.declared.part.PartAtom.TheVariants.{Truth, Same, Bound}
+use Rattle.check_atoms.specs.PartAtoms.{atom_of, by_sort, truth_by_sort, pair, with_branches, compared, compared_by_head, of_part, sort_of}
+use Rattle.check_atoms.specs.OfStack.{IsAtomOfPart, AreCheckAtoms, part_atoms}
+use Rattle.check_atoms.specs.Laws.{IsSameOfBools, AreFirstAtoms, AtomsAreFirst}
+use Rattle.check_atoms.proofs.PartPlaces.{equal_all, two_all}
+use Rattle.check_atoms.proofs.StackAtoms.{of_stack, numbered}
+
+-- ---- no equality of two Bools is numbered
+
+any : (is : List ℕ) → All (λ i. Unit {0}) is
+any is = λ k d l. tt
+
+module _ (f : ℕ → Option Sort) where
+  -- it is no equality, or one of terms that are no Bools
+  abbrev IsUnlike : PartAtom → Type 0
+  IsUnlike (Truth p) = Unit {0}
+  IsUnlike (Same i j) = is_bool (f i) ≡ false
+  IsUnlike (Bound o) = Unit {0}
+
+  bounds_unlike : (os : List Order) → All IsUnlike (map Bound os)
+  bounds_unlike [] = All-nil IsUnlike
+  bounds_unlike (o ∷ os) = All-cons IsUnlike (Bound o) (map Bound os) tt (bounds_unlike os)
+
+  by_sort_unlike : (r : Option Sort) (i j : ℕ) → f i ≡ r → All IsUnlike (by_sort r i j)
+  by_sort_unlike None i j e = All-cons IsUnlike (Same i j) [] (ap is_bool e) (All-nil IsUnlike)
+  by_sort_unlike (Some Truths) i j e = All-nil IsUnlike
+  by_sort_unlike (Some Ints) i j e = All-cons IsUnlike (Same i j) (map Bound (both_orders i j)) (ap is_bool e) (bounds_unlike (both_orders i j))
+  by_sort_unlike (Some (Free n)) i j e = All-cons IsUnlike (Same i j) [] (ap is_bool e) (All-nil IsUnlike)
+
+  pair_unlike : (i j : ℕ) → All IsUnlike (pair f i j)
+  pair_unlike i j = by_sort_unlike (f i) i j refl
+
+  truth_unlike : (r : Option Sort) (p : ℕ) → All IsUnlike (truth_by_sort r p)
+  truth_unlike None p = All-nil IsUnlike
+  truth_unlike (Some Truths) p = All-cons IsUnlike (Truth p) [] tt (All-nil IsUnlike)
+  truth_unlike (Some Ints) p = All-nil IsUnlike
+  truth_unlike (Some (Free n)) p = All-nil IsUnlike
+
+  branches_unlike : (p : ℕ) (is : List ℕ) → All IsUnlike (with_branches f p is)
+  branches_unlike p (c ∷ i ∷ j ∷ []) = All-append IsUnlike (pair f p i) (pair f p j) (pair_unlike p i) (pair_unlike p j)
+  branches_unlike p is = All-nil IsUnlike
+
+  compared_unlike : (o : Operator) (p : ℕ) (is : List ℕ) → All IsUnlike (compared f o p is)
+  compared_unlike Equal p is = equal_all (λ i. Unit {0}) IsUnlike f (λ i j h g. pair_unlike i j) is (any is)
+  compared_unlike Distinct p is = two_all (λ i. Unit {0}) IsUnlike f (λ i j h g. pair_unlike i j) is (any is)
+  compared_unlike Ite p is = branches_unlike p is
+  compared_unlike o p is = bounds_unlike (order_atoms o is)
+
+  by_head_unlike : (h : Head) (p : ℕ) (is : List ℕ) → All IsUnlike (compared_by_head f h p is)
+  by_head_unlike (Theory o) p is = compared_unlike o p is
+  by_head_unlike h p is = All-nil IsUnlike
+
+  part_unlike : (p : ℕ) (h : Head) (is : List ℕ) → All IsUnlike (of_part f p h is)
+  part_unlike p h is = All-append IsUnlike (truth_by_sort (f p) p) (compared_by_head f h p is) (truth_unlike (f p) p) (by_head_unlike h p is)
+
+normal_no_equality : (sum : List Summand) (k : ℤ) (i j : ℕ) → normal_bound sum k ≡ SameAtom i j → ⊥
+normal_no_equality [] k i j e = cc
+normal_no_equality (p ∷ ps) k i j e = cc
+
+order_no_equality : (sense : Sense) (ts : List Tree) (t u : Tree) (i j : ℕ) → order_atom sense ts t u ≡ SameAtom i j → ⊥
+order_no_equality NotAbove ts t u i j e = normal_no_equality _ _ i j e
+order_no_equality Below ts t u i j e = normal_no_equality _ _ i j e
+
+same_left : (i j k l : ℕ) → SameAtom i j ≡ SameAtom k l → i ≡ k
+same_left i j k l e = cc
+
+true_or_false : (b : Bool) → b ≡ true → b ≡ false → ⊥
+true_or_false b p q = cc
+
+module _ (s : Stack) where
+  abbrev sort_there : ℕ → Option Sort
+  sort_there = sort_of (signature_of s.frames) s.trees
+
+  abbrev IsOther : Atom → Type 0
+  IsOther a = IsSameOfBools s a → ⊥
+
+  other : (x : PartAtom) → IsUnlike sort_there x → IsOther (atom_of s.trees x)
+  other (Truth p) h b = (let e : TruthAtom p ≡ SameAtom b.left b.right = b.atom in cc)
+  other (Same i j) h b = true_or_false (is_bool (sort_there i)) (ap (λ k. is_bool (sort_there k)) (same_left i j b.left b.right b.atom) ∙ b.bool) h
+  other (Bound o) h b = order_no_equality o.sense s.trees (tree_at s.trees o.lesser) (tree_at s.trees o.greater) b.left b.right b.atom
+
+  all_other : (xs : List PartAtom) → All (IsUnlike sort_there) xs → All IsOther (map (atom_of s.trees) xs)
+  all_other xs h = All-map IsOther (atom_of s.trees) xs (λ k d l. other (get_or xs k d) (h k d l))
+
+  no_bools : (marks : List Bool) (a : Atom) → IsAtomOfPart s marks a → IsOther a
+  no_bools marks a o =
+      All-contains IsOther (map (atom_of s.trees) (part_atoms s o.place o.head o.arguments)) a
+      (all_other (part_atoms s o.place o.head o.arguments) (part_unlike sort_there o.place o.head o.arguments)) o.among
+
+  -- ---- by levels that declare and assert the same
+
+  module _ (marks : List Bool) (atoms : List Atom) (lawful : IsLawful s) (parts : AreStackParts s marks) (are : AreCheckAtoms s marks atoms) (compares : OrdersAreComparisons) (frames : List Frame)
+      (signature : signature_of frames ≡ signature_of s.frames) (assertions : assertions_of frames ≡ assertions_of s.frames) where
+    same_atoms : stack_atoms s.trees frames ≡ stack_atoms s.trees s.frames
+    same_atoms =
+        stack_atoms_are s.trees frames ∙ ap₂ (λ (ds : List Declaration) (ts : List Tree). flat_map (atoms_of s.trees ds) ts) signature assertions ∙ sym (stack_atoms_are s.trees s.frames)
+
+    part_there : (t : Tree) → IsPartOfStack s.frames t → IsPartOfStack frames t
+    part_there t p = record { assertion = p.assertion; asserted = subst (λ ts. Contains ts p.assertion) (sym assertions) p.asserted; part = p.part }
+
+    first_there : (a : Atom) → Contains atoms a → IsFirstAtom s.trees frames a
+    first_there a c = inl (subst (λ xs. Contains xs a) (sym same_atoms) (of_stack s marks atoms lawful parts are compares a (are.only a c)))
+
+    pub first_by : AreFirstAtoms s frames marks atoms
+    first_by = record {
+      first = λ k d l. first_there (get_or atoms k d) (Contains-get_or atoms k d l);
+      all = λ a c. numbered s marks atoms lawful parts are compares a (subst (λ xs. Contains xs a) same_atoms c);
+      no_bools = λ a c. no_bools marks a (are.only a c);
+      parts = λ p m. part_there (tree_at s.trees p) (parts.only p m);
+    }
+
+pub first_atoms : OrdersAreComparisons → FlatSaysTheSame → AtomsAreFirst
+first_atoms compares same s marks atoms lawful parts are = (
+  first_by s marks atoms lawful parts are compares s.frames refl refl,
+  first_by s marks atoms lawful parts are compares (flat s.frames) (same s.frames).signature (same s.frames).assertions,
+)
