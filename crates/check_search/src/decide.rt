@@ -7,17 +7,23 @@ ghost use Rattle.smt_meaning.specs.Report.{is_unlimited, most_units};
 ghost use Rattle.theory_port.specs.Verdicts.{IsVerdict};
 ghost use Rattle.cdcl_core.specs.Search.{AreAgreed};
 ghost use Rattle.check_clauses.specs.First.{reading_of, IsFirst};
+ghost use Rattle.check_search.specs.Shown.{HasStackAtoms};
 
+use crate::ending::{all_spent, stopped};
+use crate::shown::unknown;
 use crate::still::Still;
 use cdcl_core::fresh_stands;
 use cdcl_core::solve::{Outcome, solve};
 use check_clauses::{empty_clause_means_no_model, first_clauses_say_assertions, signature_stays};
 use clause_store::store::Store;
+use flat_stack::flat_says_the_same;
 use model_eval::values;
 use scope_stack::{Assertion, Stack};
 use search_order::Order;
-use search_port::{Budget, Theory};
-use smt_meaning::{Cause, Interp, Report, Seq, Settings, TermId};
+use search_port::{
+    Budget, Cause as Ending, Shown, follows_as_written, forces_by_numbers, forces_in_turn,
+};
+use smt_meaning::{Interp, Settings, TermId};
 use std::alloc::{AllocError, Global};
 use theory_port::Verdict;
 
@@ -44,20 +50,6 @@ fn units_within(settings: &Settings) -> u64
     } else {
         MOST_UNITS
     }
-}
-
-/// The answer that is left where memory is wanting: its one worker shows so.
-pub fn unknown(alloc: Global, stack: &Stack, settings: &Settings) -> Result<Verdict, AllocError>
-    ensures { IfOk result (IsVerdict stack.now.trees stack.now.frames settings.now.units) }
-{
-    let mut reports = Seq::new(alloc);
-    let branches = Seq::new(alloc);
-    reports.push(Report {
-        worker: 0,
-        cause: Cause::Memory,
-        branches,
-    })?;
-    Ok(Verdict::Unknown(reports))
 }
 
 /// The places of the assertions.
@@ -90,24 +82,30 @@ fn model(
 }
 
 /// Searches from the first clauses on, with a theory that was told nothing: a model of all of them under which each number is in the range is one of the
-/// assertions, and where the empty clause follows, they have none. Where the search ends otherwise, it is shown as for want of memory. An `Err` is for want of memory.
-pub fn search<T: Theory>(
+/// assertions, and where the empty clause follows, they have none. Where the search ends otherwise, its worker shows why. An `Err` is for want of memory.
+pub fn search<T: Shown>(
     alloc: Global,
     stack: &Stack,
     settings: &Settings,
-    theory: &mut T,
-    store: &mut Store,
+    mut theory: T,
+    mut store: Store,
 ) -> Result<Verdict, AllocError>
-    requires first { IsFirst stack.now (T.state theory.old).reading.table store.old }
-    requires reading { (T.state theory.old).reading ≡ reading_of stack.now (T.state theory.old).reading.table }
-    requires untold { (T.state theory.old).log ≡ [] }
-    requires agreed { AreAgreed T.agrees (T.state theory.old).reading store.old.clauses }
+    requires first { IsFirst stack.now (T.state theory).reading.table store }
+    requires reading { (T.state theory).reading ≡ reading_of stack.now (T.state theory).reading.table }
+    requires untold { (T.state theory).log ≡ [] }
+    requires agreed { AreAgreed T.agrees (T.state theory).reading store.clauses }
+    requires all { HasStackAtoms stack.now (T.state theory).reading.table }
     ensures { IfOk result (IsVerdict stack.now.trees stack.now.frames settings.now.units) }
 {
+    stack.laws();
     first_clauses_say_assertions();
     signature_stays();
     empty_clause_means_no_model();
     fresh_stands();
+    flat_says_the_same();
+    follows_as_written();
+    forces_by_numbers();
+    forces_in_turn();
     let mut order = Order::new(alloc, settings.seed, 0);
     let limit = units_within(settings);
     let mut budget = Budget::new(alloc, limit, counts_learnt(settings), false, 0);
@@ -116,14 +114,15 @@ pub fn search<T: Theory>(
         alloc,
         &mut order,
         false,
-        store,
-        theory,
+        &mut store,
+        &mut theory,
         &mut budget,
         &mut still,
     ) {
         Outcome::Full(tables) => model(alloc, stack, settings, tables),
         Outcome::False(_) => Ok(Verdict::Unsat),
-        // Spent units are not shown yet: that each is new to what propagation finds rests on how the first clauses force those of the parts.
-        Outcome::Ended(_) => unknown(alloc, stack, settings),
+        Outcome::Ended(Ending::Units) => all_spent(alloc, stack, settings, theory, &budget),
+        Outcome::Ended(Ending::Memory) => stopped(alloc, stack, settings, theory),
+        Outcome::Ended(Ending::Cancelled(_)) => unreachable!(),
     }
 }

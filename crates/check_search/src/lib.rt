@@ -1,7 +1,11 @@
-//! The search over the first clauses of a stack with integers.
+//! The search over the first clauses of a stack with integers, and what it shows where it ends without an answer.
 #![tactic(auto)]
 
+mod bools;
 mod decide;
+mod ending;
+mod shown;
 mod still;
 
-pub use decide::{search, unknown};
+pub use decide::search;
+pub use shown::unknown;

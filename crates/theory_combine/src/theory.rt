@@ -2,10 +2,11 @@
 use check_atoms::CheckAtoms;
 use literals::Literal;
 use scope_stack::Stack;
-use search_port::{Asserted, Budget, Checked, Inferred, Theory};
+use search_port::{Asserted, Budget, Checked, Inferred, Showing, Shown, Theory};
+use smt_meaning::{Atom, Seq};
 use std::alloc::{AllocError, Global};
 use std::marker::Model;
-use theory_steps::{Begun, Parts, Progress, begin, check, look, tell, undo_to};
+use theory_steps::{Begun, Parts, Progress, begin, check, look, show, tell, undo_to, written};
 
 /// The theory of equality and of whole numbers together, for the parts of a stack.
 #[derive(Drop)]
@@ -56,6 +57,8 @@ impl<'s> Combined<'s> {
                 lost: None,
                 held: begun.held,
                 pairs: Vec::new(alloc),
+                branches: Seq::new(alloc),
+                seen: None,
             },
         }
     }
@@ -107,5 +110,16 @@ impl<'s> Theory for Combined<'s> {
 
     fn undo_to(&mut self, count: usize) {
         undo_to(&self.parts, &mut self.progress, count)
+    }
+}
+
+impl<'s> Shown for Combined<'s> {
+    fn atom(&self, alloc: Global, number: u32) -> Result<Atom, AllocError> {
+        written(alloc, &self.parts, &self.progress, number)
+    }
+
+    fn show(self) -> Showing {
+        let Combined { parts, progress } = self;
+        show(&parts, progress)
     }
 }

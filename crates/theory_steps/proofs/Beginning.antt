@@ -1,6 +1,6 @@
 -- The parts of a stack and their atoms, before anything is told.
 use Rattle.std.proofs.Common.{◌∙◌, ℕ, ◌+◌, ◌<◌, ◌^◌, Bool, List, ◌∷◌, [], length, All, sym, ap, subst}
-use Rattle.std.specs.Prelude.{slice_index_or}
+use Rattle.std.specs.Prelude.{slice_index_or, None}
 use Rattle.std.proofs.lemmas.List.{get_or_default}
 use Rattle.std.proofs.lemmas.List.Elements.{All-head, All-tail, All-weaker}
 use Rattle.smt_meaning.specs.declared.values.Sort.{Sort}
@@ -20,12 +20,15 @@ use Rattle.flat_stack.specs.Flat.{flat, FlatSaysTheSame}
 use Rattle.stack_atoms.specs.Parts.{IsMarked}
 use Rattle.stack_atoms.specs.Marks.{AreStackParts}
 use Rattle.check_atoms.specs.OfStack.{AreCheckAtoms}
+use Rattle.check_atoms.specs.Laws.{AtomsAreOfStack}
 use Rattle.check_clauses.specs.Shapes.{AreFlags}
 use Rattle.check_clauses.proofs.Parts as Parts
 use Rattle.value_model.specs.Parts.{AreSortedParts}
 use Rattle.closure_log.specs.Seen.{IsOfTerms, IsSetting}
 use Rattle.theory_steps.specs.Begin.{IsTruthOfBool}
 use Rattle.theory_steps.specs.Pairs.{HaveReadable}
+use Rattle.theory_steps.specs.Shown.{AreShown}
+use Rattle.theory_steps.proofs.Comparing.{first_atoms, over_leaves}
 use Rattle.theory_steps.proofs.Marking.{marked_is_of}
 
 module _ (s : Stack) (marks : List Bool) (law : IsLawful s) (parts : AreStackParts s marks) (table : List Atom) (atoms : AreCheckAtoms s marks table) (sorts : List Sort) (sorted : AreSorts (signature_of s.frames) s.trees (length s.trees) sorts) where
@@ -56,3 +59,12 @@ module _ (s : Stack) (marks : List Bool) (law : IsLawful s) (parts : AreStackPar
     declared =
         All-weaker (λ (a : Atom). All (IsMarked marks) (atom_places a)) (IsOf s.trees (flat s.frames)) (λ a m. marked_is_of symbols flat_law s marks sorted_parts a m) table atoms.over_parts;
   }
+
+-- nothing is seen, and there is no branch
+pub begins_shown : FlatSaysTheSame → AtomsAreOfStack → (s : Stack) (marks : List Bool) (table : List Atom) → IsLawful s → AreStackParts s marks → AreCheckAtoms s marks table → AreShown s [] None table
+begins_shown flat_law stack_law s marks table lawful parts atoms = record {
+  branches = tt;
+  atoms = first_atoms flat_law s table (stack_law s marks table lawful parts atoms);
+  seen = tt;
+  leaves = over_leaves flat_law s table atoms.leaves;
+}

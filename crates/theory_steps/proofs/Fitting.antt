@@ -7,6 +7,8 @@ use Rattle.number_meaning.specs.Whole.{is_in_range}
 use Rattle.smt_meaning.specs.declared.values.Sort.{Sort}
 use Rattle.smt_meaning.specs.declared.values.Sort.TheVariants.{Bool as Truths, Int as Ints}
 use Rattle.smt_meaning.specs.declared.clauses.Summand.{Summand}
+use Rattle.smt_meaning.specs.Term.{tree_at}
+use Rattle.smt_meaning.specs.CheckAtoms.{is_leaf}
 use Rattle.smt_meaning.specs.Linear.{sum_fits}
 use Rattle.smt_meaning.specs.Stack.{signature_of}
 use Rattle.smt_meaning.specs.StackCommand.{Stack}
@@ -16,7 +18,11 @@ use Rattle.bound_log.specs.Growth.{IsProper}
 use Rattle.model_eval.specs.Walk.{is_marked}
 use Rattle.value_model.specs.Parts.{AreSortedParts}
 use Rattle.theory_steps.specs.Pairs.{HaveReadable, IsFit}
+use Rattle.theory_steps.specs.Shown.{IsMarkedLeaf}
 use Rattle.theory_steps.proofs.Marking.{marked_within}
+
+pub in_list : (s : Stack) (marks : List Bool) (p : ℕ) → AreSortedParts (signature_of s.frames) s.trees marks → is_marked marks p ≡ true → p < length s.trees
+in_list s marks p parts marked = subst (λ n. p < n) parts.size (marked_within marks p marked)
 
 pub fit : (s : Stack) (marks readable : List Bool) (sorts : List Sort) (p : ℕ) → AreSortedParts (signature_of s.frames) s.trees marks → HaveReadable s.trees marks readable
     → AreSorts (signature_of s.frames) s.trees (length s.trees) sorts → is_marked marks p ≡ true → is_marked readable p ≡ true → slice_index_or sorts p Truths ≡ Ints → IsFit s marks p
@@ -30,6 +36,14 @@ fit s marks readable sorts p parts reads are marked is_readable int =
       is_int = has.1 ∙ ap (λ (t : Sort). Some t) sort;
       readable = reads p marked is_readable;
     }
+
+pub marked_leaf : (s : Stack) (marks : List Bool) (sorts : List Sort) (p : ℕ) → AreSortedParts (signature_of s.frames) s.trees marks → AreSorts (signature_of s.frames) s.trees (length s.trees) sorts
+    → is_marked marks p ≡ true → slice_index_or sorts p Truths ≡ Ints → is_leaf (tree_at s.trees p) ≡ true → IsMarkedLeaf s marks p
+marked_leaf s marks sorts p parts are marked int leaf =
+    let within : p < length s.trees = in_list s marks p parts marked in
+    let has = parts.sorted p marked in
+    let sort : has.0 ≡ Ints = sym (are.each p has.0 within has.1) ∙ int in
+    record { within = within; marked = marked; is_int = has.1 ∙ ap (λ (t : Sort). Some t) sort; leaf = leaf }
 
 and_first : (a b : Bool) → (a && b) ≡ true → a ≡ true
 and_first true b e = refl

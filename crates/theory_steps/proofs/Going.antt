@@ -2,7 +2,9 @@
 use Rattle.std.proofs.Common.{◌≡◌, ◌∙◌, ℕ, ◌<◌, ◌≤◌, true, false, List, [], ◌∷◌, ◌++◌, take, length, refl, sym, ap, ap₂, subst, arith}
 use Rattle.std.specs.Prelude.{Option, Some}
 use Rattle.std.proofs.lemmas.List.{append-nil, length_push}
-use Rattle.std.proofs.lemmas.List.Elements.{All-nil, All-cons}
+use Rattle.std.proofs.lemmas.List.Elements.{All-nil, All-cons, All-push}
+use Rattle.grid_meaning.specs.declared.Line.{Line}
+use Rattle.smt_meaning.specs.declared.reports.RangeSeen.{RangeSeen}
 use Rattle.literals.specs.Signed.{Signed}
 use Rattle.smt_meaning.specs.declared.clauses.Atom.{Atom}
 use Rattle.smt_meaning.specs.StackCommand.{Stack}
@@ -17,6 +19,7 @@ use Rattle.theory_steps.specs.declared.parts.Parts.{Parts}
 use Rattle.theory_steps.specs.declared.parts.Progress.{Progress}
 use Rattle.theory_steps.specs.Numbering.{table_of, IsNumbered, IsWhole}
 use Rattle.theory_steps.specs.Progress.{state, IsProgress, IsUnderWay, Went}
+use Rattle.theory_steps.specs.Shown.{AreShown, IsOfCheck, IsOverLeaves, IsToShow}
 
 pub goes_still : (t : TheoryState) (b : Spending) → length b.units ≤ b.bound → Goes t t b b
 goes_still t b within = record {
@@ -47,6 +50,15 @@ goes_one s table a log b c n count is room = record {
   paid = omega (arith, length_push table a);
 }
 
+-- an atom more of the check
+shown_push : (s : Stack) (rows : List Line) (left : Option RangeSeen) (table : List Atom) (a : Atom) → AreShown s rows left table → IsToShow s rows a → AreShown s rows left (table ++ a ∷ [])
+shown_push s rows left table a h one = record {
+  branches = h.branches;
+  atoms = All-push (IsOfCheck s rows) table a h.atoms one.of_check;
+  seen = h.seen;
+  leaves = All-push (IsOverLeaves s) table a h.leaves one.leaves;
+}
+
 -- ---- what the search has come to
 
 pub went_same : (p : Parts) (w : Progress) (b : Spending) → IsProgress p w → length b.units ≤ b.bound → Went p w w b b
@@ -54,7 +66,15 @@ went_same p w b is within = (is, goes_still (state p w) b within)
 
 pub went_still : (p : Parts) (w : Progress) (b : Spending) → IsUnderWay p w → length b.units ≤ b.bound → Went p w w b b
 went_still p w b u within =
-    went_same p w b (u.0, subst (λ (o : Option ℕ). IsNumbered p.stack.now p.marks.items o w.atoms w.held) (sym u.2) u.1) within
+    went_same p w b (
+      u.0,
+      subst (λ (o : Option ℕ). IsNumbered p.stack.now p.marks.items o w.atoms w.held) (sym u.2) u.1,
+      subst (λ (o : Option ℕ). AreShown p.stack.now w.branches w.seen (table_of o w.atoms.atoms)) (sym u.2) u.3,
+    ) within
+
+-- a state that is seen alike
+pub went_after : (p : Parts) (old middle new : Progress) (b c : Spending) → state p middle ≡ state p old → Went p middle new b c → Went p old new b c
+went_after p old middle new b c e h = (h.0, subst (λ (t : TheoryState). Goes t (state p new) b c) e h.1)
 
 -- an atom couldn't be kept
 pub went_lost : (p : Parts) (w : Progress) (b c : Spending) (n : ℕ) (atoms : Atoms) (h : Held) → IsUnderWay p w → n ≡ length w.atoms.atoms → take (length w.atoms.atoms) atoms.atoms ≡ w.atoms.atoms
@@ -64,16 +84,24 @@ went_lost p w b c n atoms h u count front more log within spent =
     ap (λ (o : Option ℕ). table_of o w.atoms.atoms) u.2 ∙ sym front ∙ ap (λ k. take k atoms.atoms) (sym count) in
     let same : state p w ≡ state_of p.stack.now (take n atoms.atoms) h.closure.log.items = ap₂ (λ (t : List Atom) (ls : List Signed). state_of p.stack.now t ls) table (sym log) in
     let still : Goes (state p w) (state_of p.stack.now (take n atoms.atoms) h.closure.log.items) b b = subst (λ (t : TheoryState). Goes (state p w) t b b) same (goes_still (state p w) b within) in
-    ((u.0, omega (arith, count, more)), subst (λ (d : Spending). Goes (state p w) (state_of p.stack.now (take n atoms.atoms) h.closure.log.items) b d) (sym spent) still)
+    let shown : AreShown p.stack.now w.branches w.seen (take n atoms.atoms) =
+    subst (λ (t : List Atom). AreShown p.stack.now w.branches w.seen t) (sym front ∙ ap (λ k. take k atoms.atoms) (sym count)) u.3 in
+    ((u.0, omega (arith, count, more), shown), subst (λ (d : Spending). Goes (state p w) (state_of p.stack.now (take n atoms.atoms) h.closure.log.items) b d) (sym spent) still)
 
 -- an atom more
 pub went_on : (p : Parts) (w : Progress) (b c : Spending) (n : ℕ) (a : Atom) (atoms : Atoms) (h : Held) → IsUnderWay p w → IsWhole p.stack.now p.marks.items atoms h → atoms.atoms ≡ w.atoms.atoms ++ a ∷ []
     → h.closure.log.items ≡ w.held.closure.log.items → n ≡ length w.atoms.atoms → c ≡ record b { units = b.units ++ Numbered n ∷ [] } → length b.units < b.bound
-    → Went p w (record w { atoms = atoms; held = h }) b c
-went_on p w b c n a atoms h u whole added log count spent room =
+    → IsToShow p.stack.now w.branches a → Went p w (record w { atoms = atoms; held = h }) b c
+went_on p w b c n a atoms h u whole added log count spent room to_show =
+    let shown : AreShown p.stack.now w.branches w.seen atoms.atoms =
+    subst (λ (t : List Atom). AreShown p.stack.now w.branches w.seen t) (sym added) (shown_push p.stack.now w.branches w.seen w.atoms.atoms a u.3 to_show) in
     let same : state_of p.stack.now (w.atoms.atoms ++ a ∷ []) w.held.closure.log.items ≡ state_of p.stack.now atoms.atoms h.closure.log.items =
     ap₂ (λ (t : List Atom) (ls : List Signed). state_of p.stack.now t ls) (sym added) (sym log) in (
-      (u.0, subst (λ (o : Option ℕ). IsNumbered p.stack.now p.marks.items o atoms h) (sym u.2) whole),
+      (
+        u.0,
+        subst (λ (o : Option ℕ). IsNumbered p.stack.now p.marks.items o atoms h) (sym u.2) whole,
+        subst (λ (o : Option ℕ). AreShown p.stack.now w.branches w.seen (table_of o atoms.atoms)) (sym u.2) shown,
+      ),
       subst (λ (o : Option ℕ). Goes (state_of p.stack.now (table_of o w.atoms.atoms) w.held.closure.log.items) (state_of p.stack.now (table_of o atoms.atoms) h.closure.log.items) b c) (sym u.2)
           (subst (λ (t : TheoryState). Goes (state_of p.stack.now w.atoms.atoms w.held.closure.log.items) t b c) same (goes_one p.stack.now w.atoms.atoms a w.held.closure.log.items b c n count spent room)),
     )

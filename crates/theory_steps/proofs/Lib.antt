@@ -1,8 +1,15 @@
 pub mod Beginning
+pub mod Branching
+pub mod Comparing
 pub mod Fitting
+pub mod Following
 pub mod Going
 pub mod Holding
 pub mod Marking
 pub mod Numbers
+pub mod Own
+pub mod Past
+pub mod Rows
 pub mod Saying
+pub mod Telling
 pub mod Tying

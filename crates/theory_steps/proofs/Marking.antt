@@ -50,8 +50,7 @@ module _ (law : SymbolsAreDeclared) (flat_law : FlatSaysTheSame) (s : Stack) (ma
   pub marked_is_of : (a : Atom) → HasMarkedPlaces marks a → IsOf s.trees (flat s.frames) a
   marked_is_of a h = record { declared = declared_at (atom_places a) h; within = within_at (atom_places a) h }
 
-pub sum_is_marked : (marks : List Bool) (sum : List Summand) → All (λ (p : Summand). is_marked marks p.term ≡ true) sum → All (λ p. is_marked marks p ≡ true) (sum_places sum)
-sum_is_marked marks [] h = All-nil (λ p. is_marked marks p ≡ true)
-sum_is_marked marks (p ∷ ps) h =
-    All-cons (λ q. is_marked marks q ≡ true) p.term (sum_places ps) (All-head (λ (q : Summand). is_marked marks q.term ≡ true) p ps h)
-    (sum_is_marked marks ps (All-tail (λ (q : Summand). is_marked marks q.term ≡ true) p ps h))
+-- what holds of the terms of a sum holds of its places
+pub at_places : (P : ℕ → Type 0) (sum : List Summand) → All (λ (p : Summand). P p.term) sum → All P (sum_places sum)
+at_places P [] h = All-nil P
+at_places P (p ∷ ps) h = All-cons P p.term (sum_places ps) (All-head (λ (q : Summand). P q.term) p ps h) (at_places P ps (All-tail (λ (q : Summand). P q.term) p ps h))

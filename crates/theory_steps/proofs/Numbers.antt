@@ -14,6 +14,7 @@ use Rattle.closure_log.specs.Places.{ArePlaces}
 use Rattle.closure_log.specs.Seen.{IsOfTerms, IsSetting}
 use Rattle.closure_log.specs.Told.{IsTold}
 use Rattle.bound_log.specs.Atoms.{Knows, KnowsOneMore}
+use Rattle.bound_log.specs.Columns.{AddsColumns, HasColumnsOf}
 use Rattle.theory_steps.specs.declared.held.Held.{Held}
 use Rattle.theory_steps.specs.declared.numbering.NewAtom.{NewAtom}
 use Rattle.theory_steps.specs.Numbering.{atom_of, IsNew, IsWhole}
@@ -26,9 +27,9 @@ setting_more s marks table a setting new = record {
 }
 
 pub whole_more : StaysTold → (s : Stack) (marks : List Bool) (old new : Atoms) (a : NewAtom) (h k : Held) → new.atoms ≡ old.atoms ++ atom_of a ∷ [] → IsWhole s marks old h → IsNew s marks a → k.closure ≡ h.closure
-    → KnowsOneMore h.bounds (atom_of a) k.bounds → k.bounds.log ≡ h.bounds.log → length k.scan.places.items ≡ length new.atoms
+    → KnowsOneMore h.bounds (atom_of a) k.bounds → AddsColumns h.bounds (atom_of a) k.bounds → k.bounds.log ≡ h.bounds.log → length k.scan.places.items ≡ length new.atoms
     → ((log : List Signed) → ArePlaces log h.scan.places.items → ArePlaces log k.scan.places.items) → IsWhole s marks new k
-whole_more stays s marks old new a h k e whole is_new same_closure knows same_log size places = record {
+whole_more stays s marks old new a h k e whole is_new same_closure knows columns same_log size places = record {
   setting = subst (IsSetting s) (sym e) (setting_more s marks old.atoms a whole.setting is_new);
   marked = subst (λ (table : List Atom). All (HasMarkedPlaces marks) table) (sym e) (All-push (HasMarkedPlaces marks) old.atoms (atom_of a) whole.marked is_new.marked);
   held = record {
@@ -39,6 +40,7 @@ whole_more stays s marks old new a h k e whole is_new same_closure knows same_lo
     knows = subst (λ (table : List Atom). Knows table k.bounds) (sym e) (knows old.atoms whole.held.knows);
     same = same_log ∙ whole.held.same ∙ ap (λ (c : ClosureLog). c.log.items) (sym same_closure);
     size = size;
+    columns = subst (λ (table : List Atom). HasColumnsOf table k.bounds) (sym e) (columns old.atoms whole.held.columns);
     told_at = subst (λ (c : ClosureLog). ArePlaces c.log.items k.scan.places.items) (sym same_closure) (places h.closure.log.items whole.held.told_at);
   };
 }

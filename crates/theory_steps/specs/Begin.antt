@@ -1,5 +1,5 @@
--- What a search begins with: truths are of Bools, by the sorts that are kept, and nothing is told.
-use Rattle.std.specs.Prelude.{◌≡◌, ℕ, ◌<◌, Bool, List, [], length, slice_index_or}
+-- What a search begins with: truths are of Bools, by the sorts that are kept, nothing is told, and there is no branch.
+use Rattle.std.specs.Prelude.{◌≡◌, ℕ, ◌<◌, Bool, List, [], length, slice_index_or, None}
 use Rattle.smt_meaning.specs.declared.values.Sort.{Sort}
 use Rattle.smt_meaning.specs.declared.values.Sort.TheVariants.{Bool as Truths, Int as Ints}
 use Rattle.smt_meaning.specs.declared.clauses.Atom.{Atom}
@@ -13,6 +13,7 @@ use Rattle.atom_numbers.specs.declared.atom.NumberedAtom.TheVariants.{Truth, Sam
 use Rattle.theory_steps.specs.declared.start.Begun.{Begun}
 use Rattle.theory_steps.specs.Numbering.{IsWhole}
 use Rattle.theory_steps.specs.Pairs.{HaveReadable}
+use Rattle.theory_steps.specs.Shown.{AreOfAssertions, AreShown}
 
 abbrev pub IsBoolPlace : List Sort → ℕ → Type 0
 IsBoolPlace sorts p = (p < length sorts) × (slice_index_or sorts p Ints ≡ Truths)
@@ -32,5 +33,7 @@ IsTruthOfBool sorts (AtMost sum k) = Unit {0}
 pub record IsBegun (s : Stack) (marks : List Bool) (atoms : Atoms) (b : Begun) : Type 0 where
   pub parts : AreSortedParts (signature_of s.frames) s.trees marks
   pub readable : HaveReadable s.trees marks b.readable.items
+  pub of_assertions : AreOfAssertions s marks
   pub whole : IsWhole s marks atoms b.held
   pub log : b.held.closure.log.items ≡ []
+  pub shown : AreShown s [] None atoms.atoms

@@ -4,4 +4,5 @@ pub mod Held
 pub mod Numbering
 pub mod Pairs
 pub mod Progress
+pub mod Shown
 pub mod Steps

@@ -11,22 +11,28 @@ use Rattle.theory_steps.specs.declared.parts.Parts.{Parts}
 use Rattle.theory_steps.specs.declared.parts.Progress.{Progress}
 use Rattle.theory_steps.specs.Numbering.{table_of, IsNumbered, IsWhole}
 use Rattle.theory_steps.specs.Pairs.{HaveReadable}
+use Rattle.theory_steps.specs.Shown.{AreOfAssertions, AreShown}
 
--- the parts of a stack, and which of them bounds can read
+-- the parts of a stack's assertions, and which of them bounds can read
 abbrev pub AreParts : Parts → Type 0
-AreParts p = AreSortedParts (signature_of p.stack.now.frames) p.stack.now.trees p.marks.items × HaveReadable p.stack.now.trees p.marks.items p.readable.items
+AreParts p =
+    AreSortedParts (signature_of p.stack.now.frames) p.stack.now.trees p.marks.items × HaveReadable p.stack.now.trees p.marks.items p.readable.items
+    × AreOfAssertions p.stack.now p.marks.items
 
 -- the atoms that are told of, and what was told
 abbrev pub state : Parts → Progress → TheoryState
 state p w = state_of p.stack.now (table_of w.lost w.atoms.atoms) w.held.closure.log.items
 
--- linear forms of the terms, and what is numbered and held
+-- linear forms of the terms, what is numbered and held, and what can be shown of it
 abbrev pub IsProgress : Parts → Progress → Type 0
-IsProgress p w = AreForms p.stack.now.trees w.forms × IsNumbered p.stack.now p.marks.items w.lost w.atoms w.held
+IsProgress p w =
+    AreForms p.stack.now.trees w.forms × IsNumbered p.stack.now p.marks.items w.lost w.atoms w.held
+    × AreShown p.stack.now w.branches w.seen (table_of w.lost w.atoms.atoms)
 
 -- and no atom was lost
 abbrev pub IsUnderWay : Parts → Progress → Type 0
-IsUnderWay p w = AreForms p.stack.now.trees w.forms × IsWhole p.stack.now p.marks.items w.atoms w.held × (w.lost ≡ None)
+IsUnderWay p w =
+    AreForms p.stack.now.trees w.forms × IsWhole p.stack.now p.marks.items w.atoms w.held × (w.lost ≡ None) × AreShown p.stack.now w.branches w.seen w.atoms.atoms
 
 -- what a call that may spend units leaves
 abbrev pub Went : Parts → Progress → Progress → Spending → Spending → Type 0

@@ -1,15 +1,21 @@
 //! Branches on the value of a term that isn't whole.
-ghost use Rattle.std.specs.Prelude.{Contains, All, IfOk, IfSome};
+ghost use Rattle.std.specs.Prelude.{◌≡◌, ◌∷◌, [], pos, Contains, All, OnOk, IfOk, IfSome};
 ghost use Rattle.number_meaning.specs.Whole.{InRange};
 ghost use Rattle.smt_meaning.specs.declared.clauses.Atom.TheVariants.{AtMost};
+ghost use Rattle.smt_meaning.specs.Linear.{summand};
+ghost use Rattle.smt_meaning.specs.Boxes.{term_at_most};
+ghost use Rattle.sum_bounds.specs.Bounds.{IsFirstIn};
 ghost use Rattle.bound_log.specs.Growth.{IsProper};
 ghost use Rattle.theory_steps.specs.Progress.{state, AreParts, IsUnderWay, Went};
+ghost use Rattle.theory_steps.specs.Shown.{IsOfCheck, IsMarkedLeaf};
 ghost use Rattle.theory_steps.specs.Steps.{IsStep};
 
+use crate::leaves::is_leaf;
 use crate::numbering::NewBound;
 use crate::parts::{Parts, Progress};
 use crate::step::{Step, go_on_with_bound, stop};
 use atom_numbers::AtomNumbers;
+use flat_stack::flat_says_the_same;
 use search_port::Budget;
 use smt_meaning::{Summand, TermId};
 use std::alloc::{AllocError, Global};
@@ -17,7 +23,8 @@ use sum_bounds::FractionalLeaf;
 
 /// The sum of one term alone.
 fn alone(alloc: Global, term: TermId) -> Result<Vec<Summand>, AllocError>
-    ensures { IfOk result (λ sum. All IsProper sum.items) }
+    ensures proper { IfOk result (λ sum. All IsProper sum.items) }
+    ensures alone { IfOk result (λ sum. sum.items ≡ summand term (pos 1) ∷ []) }
 {
     let mut sum = Vec::new(alloc);
     sum.push(Summand {
@@ -28,10 +35,11 @@ fn alone(alloc: Global, term: TermId) -> Result<Vec<Summand>, AllocError>
 }
 
 /// The bound that a term is at most the whole number below its value, unless it has a number or memory is wanting.
-fn new_side(alloc: Global, atoms: &AtomNumbers, leaf: FractionalLeaf) -> Option<NewBound>
+fn new_side(alloc: Global, atoms: &AtomNumbers, leaf: &FractionalLeaf) -> Option<NewBound>
     ensures new { IfSome result (λ b. Contains atoms.now.atoms (AtMost b.sum.items b.threshold) → ⊥) }
     ensures proper { IfSome result (λ b. All IsProper b.sum.items) }
     ensures in_range { IfSome result (λ b. InRange b.threshold) }
+    ensures side { IfSome result (λ b. AtMost b.sum.items b.threshold ≡ term_at_most leaf.now.term leaf.now.floor) }
 {
     let threshold = leaf.floor;
     if threshold == i128::MIN {
@@ -46,6 +54,28 @@ fn new_side(alloc: Global, atoms: &AtomNumbers, leaf: FractionalLeaf) -> Option<
     }
 }
 
+/// Keeps the row of a branch. An `Err` is for want of memory.
+fn keep_row(
+    parts: &Parts<'_>,
+    progress: &mut Progress,
+    leaf: FractionalLeaf,
+) -> Result<(), AllocError>
+    requires under_way { IsUnderWay parts.now progress.old }
+    requires parts { AreParts parts.now }
+    requires leaf { IsMarkedLeaf parts.now.stack.now parts.now.marks.items leaf.term }
+    requires first { IsFirstIn progress.old.held.bounds.bounds.columns leaf }
+    ensures under_way { IsUnderWay parts.now progress.new }
+    ensures atoms { progress.new.atoms ≡ progress.old.atoms }
+    ensures same { state parts.now progress.new ≡ state parts.now progress.old }
+    ensures of_check { OnOk result (IsOfCheck parts.now.stack.now progress.new.branches (term_at_most leaf.term leaf.floor)) }
+{
+    flat_says_the_same();
+    let line = progress.held.bounds.branch_line(parts.alloc, leaf)?;
+    progress.branches.push(line)?;
+    progress.seen = None;
+    Ok(())
+}
+
 /// Goes on with the bound that a term is at most the whole number below its value. The other side is its negation.
 pub(crate) fn branch(
     parts: &Parts<'_>,
@@ -55,11 +85,18 @@ pub(crate) fn branch(
 ) -> Step
     requires parts { AreParts parts.now }
     requires under_way { IsUnderWay parts.now progress.old }
+    requires first { IsFirstIn progress.old.held.bounds.bounds.columns leaf }
     ensures went { Went parts.now progress.old progress.new budget.old budget.new }
     ensures step { IsStep (state parts.now progress.new) budget.old budget.new result }
 {
-    match new_side(parts.alloc, &progress.atoms, leaf) {
-        Some(bound) => go_on_with_bound(parts, progress, budget, bound),
-        None => stop(parts, progress, budget),
+    if !is_leaf(parts, leaf.term) {
+        return stop(parts, progress, budget);
+    }
+    let Some(bound) = new_side(parts.alloc, &progress.atoms, &leaf) else {
+        return stop(parts, progress, budget);
+    };
+    match keep_row(parts, progress, leaf) {
+        Ok(()) => go_on_with_bound(parts, progress, budget, bound),
+        Err(_) => stop(parts, progress, budget),
     }
 }

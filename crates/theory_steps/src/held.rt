@@ -1,8 +1,12 @@
 //! What was told, to the closure and to the bounds.
-ghost use Rattle.std.specs.Prelude.{◌≡◌, ◌<◌, length, take};
+ghost use Rattle.std.specs.Prelude.{◌≡◌, ◌<◌, List, length, take};
+ghost use Rattle.smt_meaning.specs.declared.clauses.Atom.{Atom};
 ghost use Rattle.search_port.specs.State.{IsOpenIn};
 ghost use Rattle.search_port.specs.Calls.{AssertedBy, InferredBy};
 ghost use Rattle.search_port.specs.Spending.{Spending};
+ghost use Rattle.bound_log.specs.Atoms.{Knows};
+ghost use Rattle.bound_log.specs.Columns.{HasColumnsOf};
+ghost use Rattle.bound_log.specs.Reporting.{Judges};
 ghost use Rattle.closure_log.specs.Seen.{state_of, IsSetting};
 ghost use Rattle.theory_steps.specs.Held.{IsHeld, IsMet, IsMetBy};
 
@@ -10,6 +14,7 @@ use atom_numbers::AtomNumbers;
 use bound_log::{BoundLog, Report, Reported};
 use closure_log::{ClosureLog, Guide, Scan, infer};
 use flat_stack::flat_says_the_same;
+use grid_meaning::Grid;
 use literals::Literal;
 use scope_stack::Stack;
 use search_port::{Asserted, Cause, Inferred, Lemma};
@@ -22,6 +27,8 @@ pub struct Held {
     pub closure: ClosureLog,
     pub bounds: BoundLog,
     pub scan: Scan,
+    /// The atom after the one whose bound was looked at last.
+    pub looked: usize,
 }
 
 /// What a check of the bounds finds.
@@ -31,6 +38,8 @@ pub(crate) enum Met {
     Fits,
     /// A clause that is false.
     Conflict(Lemma),
+    /// The next step of this grid leaves the range.
+    Past(Grid),
     /// It didn't come to its end.
     Ended,
 }
@@ -78,14 +87,19 @@ pub(crate) fn undo_both(held: &mut Held, stack: &Stack, atoms: &AtomNumbers, cou
     held.scan.restart();
 }
 
-/// What a report says, without why there is no end.
-fn met_by(report: Report) -> Met
-    ensures { IsMetBy report result }
+/// What a report says, with the grid where a number left the range.
+fn met_by(alloc: Global, bounds: &BoundLog, report: Report) -> Met
+    requires { Judges bounds.now report }
+    ensures { (table : List Atom) → Knows table bounds.now → HasColumnsOf table bounds.now → IsMetBy bounds.now table result }
 {
     match report {
         Report::Fits => Met::Fits,
         Report::Conflict(clause) => Met::Conflict(clause),
-        Report::Range(_) | Report::UnitsSpent | Report::Memory => Met::Ended,
+        Report::Range(_) => match bounds.grid(alloc) {
+            Ok(grid) => Met::Past(grid),
+            Err(_) => Met::Ended,
+        },
+        Report::UnitsSpent | Report::Memory => Met::Ended,
     }
 }
 
@@ -103,7 +117,7 @@ pub(crate) fn meet_bounds(alloc: Global, held: &mut Held, stack: &Stack, atoms: 
         lines: Vec::new(alloc),
     };
     let Reported { report, pivots: _ } = held.bounds.check(alloc, &mut lines, u64::MAX);
-    met_by(report)
+    met_by(alloc, &held.bounds, report)
 }
 
 /// A clause that the bounds break over whole numbers, where a row shows one. That it fits says nothing more.
@@ -122,7 +136,7 @@ pub(crate) fn meet_wholes(alloc: Global, held: &Held, stack: &Stack, atoms: &Ato
     }
 }
 
-/// What follows from the literals told.
+/// What follows from the literals told by equality.
 pub(crate) fn follow(
     alloc: Global,
     held: &mut Held,
@@ -136,13 +150,5 @@ pub(crate) fn follow(
     ensures log { held.new.closure.log.items ≡ held.old.closure.log.items }
     ensures found { (b c : Spending) → InferredBy (state_of stack.now atoms.now.atoms held.new.closure.log.items) b c result }
 {
-    let found = infer(alloc, &held.closure, &mut held.scan, stack, atoms, guide);
-    match found {
-        Inferred::Quiet => match meet_bounds(alloc, held, stack, atoms) {
-            Met::Fits => Inferred::Quiet,
-            Met::Conflict(clause) => Inferred::Conflict(clause),
-            Met::Ended => Inferred::Ended(Cause::Memory),
-        },
-        other => other,
-    }
+    infer(alloc, &held.closure, &mut held.scan, stack, atoms, guide)
 }

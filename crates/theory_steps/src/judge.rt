@@ -1,15 +1,17 @@
 //! What is found between decisions, and where every atom has a truth value.
 ghost use Rattle.std.specs.Prelude.{◌<◌, length};
 ghost use Rattle.search_port.specs.Calls.{CheckedBy, InferredBy};
+ghost use Rattle.sum_bounds.specs.Bounds.{IsFirstIn};
 ghost use Rattle.theory_steps.specs.Progress.{state, AreParts, IsUnderWay, Went};
 ghost use Rattle.theory_steps.specs.Steps.{IsStep, StepInfers, StepChecks};
 
 use crate::branch::branch;
 use crate::held::{Met, follow, meet_bounds, meet_wholes};
+use crate::implied::follow_rows;
 use crate::model::{Found, find_model};
 use crate::pairs::{go_on_with_pair, next_pair};
 use crate::parts::{Parts, Progress};
-use crate::step::{Step, stays, stop};
+use crate::step::{Step, stays, stop, stop_past};
 use crate::wanted::want;
 use model_build::Clash;
 use search_port::{Budget, Cause, Checked, Inferred};
@@ -44,6 +46,7 @@ fn make_whole(
 ) -> Checked
     requires parts { AreParts parts.now }
     requires under_way { IsUnderWay parts.now progress.old }
+    requires first { IsFirstIn progress.old.held.bounds.bounds.columns leaf }
     ensures went { Went parts.now progress.old progress.new budget.old budget.new }
     ensures found { CheckedBy (state parts.now progress.new) budget.old budget.new result }
 {
@@ -55,7 +58,7 @@ fn make_whole(
             checked(step)
         }
         Met::Conflict(clause) => Checked::Conflict(clause),
-        Met::Ended => Checked::Ended(Cause::Memory),
+        Met::Past(_) | Met::Ended => Checked::Ended(Cause::Memory),
     }
 }
 
@@ -120,6 +123,19 @@ fn try_model(parts: &Parts<'_>, progress: &mut Progress, budget: &mut Budget) ->
     }
 }
 
+/// A last check where the values meet all bounds.
+fn judge_values(parts: &Parts<'_>, progress: &mut Progress, budget: &mut Budget) -> Checked
+    requires parts { AreParts parts.now }
+    requires under_way { IsUnderWay parts.now progress.old }
+    ensures went { Went parts.now progress.old progress.new budget.old budget.new }
+    ensures found { CheckedBy (state parts.now progress.new) budget.old budget.new result }
+{
+    match progress.held.bounds.first_fraction() {
+        Some(leaf) => make_whole(parts, progress, budget, leaf),
+        None => try_model(parts, progress, budget),
+    }
+}
+
 /// A last check: the bounds are to be met first.
 pub(crate) fn judge(parts: &Parts<'_>, progress: &mut Progress, budget: &mut Budget) -> Checked
     requires parts { AreParts parts.now }
@@ -135,12 +151,76 @@ pub(crate) fn judge(parts: &Parts<'_>, progress: &mut Progress, budget: &mut Bud
     );
     stays(parts, progress, budget);
     match met {
-        Met::Fits => match progress.held.bounds.first_fraction() {
-            Some(leaf) => make_whole(parts, progress, budget, leaf),
-            None => try_model(parts, progress, budget),
-        },
+        Met::Fits => judge_values(parts, progress, budget),
         Met::Conflict(clause) => Checked::Conflict(clause),
+        Met::Past(grid) => {
+            let step = stop_past(parts, progress, budget, grid);
+            checked(step)
+        }
         Met::Ended => Checked::Ended(Cause::Memory),
+    }
+}
+
+/// Bounds that follow by rows, where the values meet all bounds.
+fn look_at_rows(parts: &Parts<'_>, progress: &mut Progress, budget: &Budget) -> Inferred
+    requires parts { AreParts parts.now }
+    requires under_way { IsUnderWay parts.now progress.old }
+    ensures went { Went parts.now progress.old progress.new budget.now budget.now }
+    ensures found { InferredBy (state parts.now progress.new) budget.now budget.now result }
+{
+    let found = follow_rows(
+        parts.alloc,
+        &mut progress.held,
+        parts.stack,
+        &progress.atoms,
+    );
+    stays(parts, progress, budget);
+    found
+}
+
+/// What the bounds show between decisions.
+fn look_at_bounds(parts: &Parts<'_>, progress: &mut Progress, budget: &Budget) -> Inferred
+    requires parts { AreParts parts.now }
+    requires under_way { IsUnderWay parts.now progress.old }
+    ensures went { Went parts.now progress.old progress.new budget.now budget.now }
+    ensures found { InferredBy (state parts.now progress.new) budget.now budget.now result }
+{
+    let met = meet_bounds(
+        parts.alloc,
+        &mut progress.held,
+        parts.stack,
+        &progress.atoms,
+    );
+    stays(parts, progress, budget);
+    match met {
+        Met::Fits => look_at_rows(parts, progress, budget),
+        Met::Conflict(clause) => Inferred::Conflict(clause),
+        Met::Past(grid) => {
+            let step = stop_past(parts, progress, budget, grid);
+            inferred(step)
+        }
+        Met::Ended => Inferred::Ended(Cause::Memory),
+    }
+}
+
+/// Clauses that follow between decisions: by equality, or else by bounds.
+fn follow_all(parts: &Parts<'_>, progress: &mut Progress, budget: &Budget) -> Inferred
+    requires parts { AreParts parts.now }
+    requires under_way { IsUnderWay parts.now progress.old }
+    ensures went { Went parts.now progress.old progress.new budget.now budget.now }
+    ensures found { InferredBy (state parts.now progress.new) budget.now budget.now result }
+{
+    let found = follow(
+        parts.alloc,
+        &mut progress.held,
+        parts.stack,
+        &progress.atoms,
+        &parts.guide,
+    );
+    stays(parts, progress, budget);
+    match found {
+        Inferred::Quiet => look_at_bounds(parts, progress, budget),
+        other => other,
     }
 }
 
@@ -160,16 +240,6 @@ pub(crate) fn infer_more(
             let step = go_on_with_pair(parts, progress, budget, pair);
             inferred(step)
         }
-        None => {
-            let found = follow(
-                parts.alloc,
-                &mut progress.held,
-                parts.stack,
-                &progress.atoms,
-                &parts.guide,
-            );
-            stays(parts, progress, budget);
-            found
-        }
+        None => follow_all(parts, progress, budget),
     }
 }

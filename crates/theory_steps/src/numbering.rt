@@ -2,8 +2,10 @@
 ghost use Rattle.std.specs.Prelude.{◌≡◌, ◌+◌, ◌<◌, ◌≤◌, ◌∷◌, ◌++◌, [], length, take, Contains, IfErr, OnOk, OnErr, None};
 ghost use Rattle.search_port.specs.Calls.{EndsBy};
 ghost use Rattle.bound_log.specs.Atoms.{KnowsOneMore};
+ghost use Rattle.bound_log.specs.Columns.{AddsColumns};
 ghost use Rattle.theory_steps.specs.Numbering.{atom_of, IsNew, IsProperAtom, IsWhole};
 ghost use Rattle.theory_steps.specs.Progress.{state, IsUnderWay, Went};
+ghost use Rattle.theory_steps.specs.Shown.{IsToShow};
 
 use crate::held::Held;
 use crate::parts::{Pair, Parts, Progress};
@@ -51,6 +53,7 @@ fn number(atoms: &mut AtomNumbers, atom: &NewAtom) -> Result<(), AllocError>
 fn know(alloc: Global, bounds: &mut BoundLog, atom: &NewAtom) -> Result<(), AllocError>
     requires { IsProperAtom atom.now }
     ensures knows { OnOk result (KnowsOneMore bounds.old (atom_of atom.now) bounds.new) }
+    ensures columns { AddsColumns bounds.old (atom_of atom.now) bounds.new }
     ensures log { bounds.new.log ≡ bounds.old.log }
 {
     match atom {
@@ -97,6 +100,7 @@ pub(crate) fn number_new(
     requires under_way { IsUnderWay parts.now progress.old }
     requires new { Contains progress.old.atoms.atoms (atom_of atom.now) → ⊥ }
     requires of_stack { IsNew parts.now.stack.now parts.now.marks.items atom.now }
+    requires to_show { IsToShow parts.now.stack.now progress.old.branches (atom_of atom.now) }
     ensures went { Went parts.now progress.old progress.new budget.old budget.new }
     ensures kept { OnOk result (progress.new.lost ≡ None) }
     ensures added { OnOk result (progress.new.atoms.atoms ≡ progress.old.atoms.atoms ++ atom_of atom.now ∷ []) }

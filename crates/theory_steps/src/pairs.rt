@@ -1,28 +1,32 @@
 //! Equalities of Ints that get numbers, after both bounds of the difference.
-ghost use Rattle.std.specs.Prelude.{◌≡◌, ◌<◌, length, true, false, All, Contains, IfSome, slice_index_or};
-ghost use Rattle.number_meaning.specs.Whole.{InRange};
-ghost use Rattle.smt_meaning.specs.declared.values.Sort.TheVariants.{Bool as Truths, Int as Ints};
+ghost use Rattle.std.specs.Prelude.{◌≡◌, ℕ, ◌<◌, List, length, true, false, All, Contains, IfSome};
+ghost use Rattle.number_meaning.specs.Whole.{InRange, is_in_range};
 ghost use Rattle.smt_meaning.specs.declared.clauses.Atom.TheVariants.{AtMost, Same};
-ghost use Rattle.smt_meaning.specs.Term.{tree_at};
+ghost use Rattle.smt_meaning.specs.Term.{Tree, tree_at};
+ghost use Rattle.smt_meaning.specs.Linear.{form_fits, linear_form};
 ghost use Rattle.smt_meaning.specs.Atoms.{at_most_atom};
 ghost use Rattle.atom_table.specs.Numbers.{IsAt};
 ghost use Rattle.linear_forms.specs.Table.{AreForms};
+ghost use Rattle.linear_forms.specs.Differences.{Refuses};
+ghost use Rattle.pair_bounds.specs.Pairs.{at_most_fits};
 ghost use Rattle.bound_log.specs.Growth.{IsProper};
-ghost use Rattle.theory_steps.specs.Pairs.{IsFit, IsSought, IsWanted};
+ghost use Rattle.theory_steps.specs.Pairs.{IsFit, IsRefused, IsSought, IsWanted};
 ghost use Rattle.theory_steps.specs.Progress.{state, AreParts, IsUnderWay, Went};
+ghost use Rattle.theory_steps.specs.Shown.{IsLeft, IsOfCheck};
 ghost use Rattle.theory_steps.specs.Steps.{IsStep};
 
+use crate::leaves::{are_leaves, is_int, is_marked_place};
 use crate::numbering::{NewAtom, NewBound, number_new};
 use crate::parts::{Pair, Parts, Progress};
-use crate::step::{Step, go_on_with_bound, is_marked_place, stop};
+use crate::step::{Step, go_on_with_bound, stop, stop_seeing};
 use atom_numbers::AtomNumbers;
 use atom_table::CompactAtom;
 use branch_lemmas::tie_lemmas;
 use flat_stack::flat_says_the_same;
-use linear_forms::LinearForms;
+use linear_forms::{DifferenceError, LinearForms};
 use pair_bounds::at_most;
 use search_port::{Budget, Cause};
-use smt_meaning::{Sort, Summand, TermId};
+use smt_meaning::{RangeSeen, Summand, TermId};
 use sort_laws::symbols_are_declared;
 use term_laws::value_has_its_sort;
 
@@ -34,7 +38,24 @@ pub(crate) enum Sought {
     /// It has none.
     New(NewBound),
     /// Folding it leaves the range, or memory is wanting.
-    Outside,
+    Outside(DifferenceError),
+}
+
+/// The pair with its terms exchanged.
+fn other_way(pair: Pair) -> Pair
+    ensures left { result.left ≡ pair.right }
+    ensures right { result.right ≡ pair.left }
+{
+    Pair {
+        left: pair.right,
+        right: pair.left,
+    }
+}
+
+fn is_in_range(number: i128) -> bool
+    ensures { result ≡ is_in_range number }
+{
+    number.unsigned_abs() < 1 << 127
 }
 
 /// Whether the equality of two terms has a number, in one order or the other.
@@ -50,16 +71,6 @@ fn is_numbered(atoms: &AtomNumbers, pair: Pair) -> bool
     atoms
         .find(CompactAtom::Same(pair.right, pair.left))
         .is_some()
-}
-
-/// Whether a listed sort is Int.
-fn is_int(sorts: &[Sort], place: TermId) -> bool
-    ensures { result ≡ true → slice_index_or sorts.now place Truths ≡ Ints }
-{
-    if place as usize >= sorts.len() {
-        return false;
-    }
-    sorts[place as usize] == Sort::Int
 }
 
 /// Whether a term is a marked Int whose bounds have its value.
@@ -81,7 +92,8 @@ fn is_fit(parts: &Parts<'_>, place: TermId) -> bool
 fn look_up(atoms: &AtomNumbers, sum: Vec<Summand>, threshold: i128) -> Sought
     requires proper { All IsProper sum.items }
     requires in_range { InRange threshold }
-    ensures { IsSought atoms.now.atoms (AtMost sum.items threshold) result }
+    ensures sought { IsSought atoms.now.atoms (AtMost sum.items threshold) result }
+    ensures refused { (ts : List Tree) (left right : ℕ) → IsRefused ts left right result }
 {
     match atoms.find_bound(&sum, threshold) {
         Some(number) => Sought::Number(number),
@@ -101,12 +113,13 @@ fn seek(
     requires left { left < length parts.now.stack.now.trees }
     requires right { right < length parts.now.stack.now.trees }
     ensures sought { IsSought atoms.now.atoms (at_most_atom parts.now.stack.now.trees (tree_at parts.now.stack.now.trees left) (tree_at parts.now.stack.now.trees right)) result }
+    ensures refused { IsRefused parts.now.stack.now.trees left right result }
     ensures same { forms.new ≡ forms.old }
 {
     let _known = parts.stack.terms();
     let mut sum = Vec::new(parts.alloc);
     match at_most(forms, left, right, &mut sum) {
-        Err(_) => Sought::Outside,
+        Err(error) => Sought::Outside(error),
         Ok(threshold) => look_up(atoms, sum, threshold),
     }
 }
@@ -181,6 +194,116 @@ pub(crate) fn next_pair(
     None
 }
 
+/// Whether the constant of a term's form is in the range.
+fn has_form_in_range(forms: &LinearForms, place: TermId) -> bool
+    requires { place < length forms.now }
+    ensures { result ≡ true → (trees : List Tree) → AreForms trees forms.now → form_fits (linear_form trees (tree_at trees place)) ≡ true }
+{
+    match forms.form(place) {
+        Ok(form) => is_in_range(form.constant),
+        Err(_) => false,
+    }
+}
+
+/// What folding the bound of two Int parts shows, where it is refused. Of a part with a constant past the range, which no commands make, it shows nothing.
+fn seen_of(
+    parts: &Parts<'_>,
+    progress: &Progress,
+    pair: Pair,
+    error: DifferenceError,
+) -> Option<RangeSeen>
+    requires parts { AreParts parts.now }
+    requires forms { AreForms parts.now.stack.now.trees progress.now.forms }
+    requires left { IsFit parts.now.stack.now parts.now.marks.items pair.left }
+    requires right { IsFit parts.now.stack.now parts.now.marks.items pair.right }
+    requires refused { Refuses parts.now.stack.now.trees (at_most_fits parts.now.stack.now.trees) pair.left pair.right error }
+    ensures { IfSome result (IsLeft parts.now.stack.now progress.now.branches) }
+{
+    flat_says_the_same();
+    match error {
+        DifferenceError::Term(part) => Some(RangeSeen::Coefficient(part)),
+        DifferenceError::Pair => {
+            if !has_form_in_range(&progress.forms, pair.left) {
+                return None;
+            }
+            Some(RangeSeen::Pair(pair.left, pair.right))
+        }
+        DifferenceError::Memory => None,
+    }
+}
+
+/// Doesn't go on where folding the bound of two Int parts is refused.
+fn stop_at_pair(
+    parts: &Parts<'_>,
+    progress: &mut Progress,
+    budget: &Budget,
+    pair: Pair,
+    error: DifferenceError,
+) -> Step
+    requires parts { AreParts parts.now }
+    requires under_way { IsUnderWay parts.now progress.old }
+    requires left { IsFit parts.now.stack.now parts.now.marks.items pair.left }
+    requires right { IsFit parts.now.stack.now parts.now.marks.items pair.right }
+    requires refused { Refuses parts.now.stack.now.trees (at_most_fits parts.now.stack.now.trees) pair.left pair.right error }
+    ensures went { Went parts.now progress.old progress.new budget.now budget.now }
+    ensures step { IsStep (state parts.now progress.new) budget.now budget.now result }
+{
+    let seen = seen_of(parts, progress, pair, error);
+    stop_seeing(parts, progress, budget, seen)
+}
+
+/// Goes on with a bound of a pair more.
+fn go_on_with_side(
+    parts: &Parts<'_>,
+    progress: &mut Progress,
+    budget: &mut Budget,
+    bound: NewBound,
+) -> Step
+    requires parts { AreParts parts.now }
+    requires under_way { IsUnderWay parts.now progress.old }
+    requires new { Contains progress.old.atoms.atoms (AtMost bound.sum.items bound.threshold) → ⊥ }
+    requires proper { All IsProper bound.sum.items }
+    requires in_range { InRange bound.threshold }
+    requires of_check { IsOfCheck parts.now.stack.now progress.old.branches (AtMost bound.sum.items bound.threshold) }
+    ensures went { Went parts.now progress.old progress.new budget.old budget.new }
+    ensures step { IsStep (state parts.now progress.new) budget.old budget.new result }
+{
+    if !are_leaves(parts, &bound.sum) {
+        return stop(parts, progress, budget);
+    }
+    go_on_with_bound(parts, progress, budget, bound)
+}
+
+/// Goes on with a pair whose first bound has a number.
+fn go_on_above(
+    parts: &Parts<'_>,
+    progress: &mut Progress,
+    budget: &mut Budget,
+    pair: Pair,
+    low: u32,
+) -> Step
+    requires parts { AreParts parts.now }
+    requires under_way { IsUnderWay parts.now progress.old }
+    requires wanted { IsWanted parts.now.stack.now parts.now.marks.items progress.old.atoms.atoms pair }
+    requires low { IsAt progress.old.atoms.atoms low (at_most_atom parts.now.stack.now.trees (tree_at parts.now.stack.now.trees pair.left) (tree_at parts.now.stack.now.trees pair.right)) }
+    ensures went { Went parts.now progress.old progress.new budget.old budget.new }
+    ensures step { IsStep (state parts.now progress.new) budget.old budget.new result }
+{
+    flat_says_the_same();
+    let sought = seek(
+        parts,
+        &mut progress.forms,
+        &progress.atoms,
+        pair.right,
+        pair.left,
+    );
+    match sought {
+        Sought::Number(high) => tie(parts, progress, budget, pair, low, high),
+        Sought::New(bound) => go_on_with_side(parts, progress, budget, bound),
+        Sought::Outside(error) => stop_at_pair(parts, progress, budget, other_way(pair), error),
+    }
+}
+
 /// Goes on with the next atom of a pair: the bounds of its difference, and then its equality, which is tied to them.
 pub(crate) fn go_on_with_pair(
     parts: &Parts<'_>,
@@ -194,27 +317,17 @@ pub(crate) fn go_on_with_pair(
     ensures went { Went parts.now progress.old progress.new budget.old budget.new }
     ensures step { IsStep (state parts.now progress.new) budget.old budget.new result }
 {
-    let low = match seek(
+    flat_says_the_same();
+    let sought = seek(
         parts,
         &mut progress.forms,
         &progress.atoms,
         pair.left,
         pair.right,
-    ) {
-        Sought::Number(low) => low,
-        Sought::New(bound) => return go_on_with_bound(parts, progress, budget, bound),
-        Sought::Outside => return stop(parts, progress, budget),
-    };
-    let high = match seek(
-        parts,
-        &mut progress.forms,
-        &progress.atoms,
-        pair.right,
-        pair.left,
-    ) {
-        Sought::Number(high) => high,
-        Sought::New(bound) => return go_on_with_bound(parts, progress, budget, bound),
-        Sought::Outside => return stop(parts, progress, budget),
-    };
-    tie(parts, progress, budget, pair, low, high)
+    );
+    match sought {
+        Sought::Number(low) => go_on_above(parts, progress, budget, pair, low),
+        Sought::New(bound) => go_on_with_side(parts, progress, budget, bound),
+        Sought::Outside(error) => stop_at_pair(parts, progress, budget, pair, error),
+    }
 }

@@ -2,9 +2,10 @@
 use crate::held::Held;
 use atom_numbers::AtomNumbers;
 use closure_log::Guide;
+use grid_meaning::Line;
 use linear_forms::LinearForms;
 use scope_stack::Stack;
-use smt_meaning::TermId;
+use smt_meaning::{RangeSeen, Seq, TermId};
 use std::alloc::Global;
 
 /// The parts of a stack.
@@ -36,4 +37,8 @@ pub struct Progress {
     pub held: Held,
     /// Pairs whose equalities are to get numbers.
     pub pairs: Vec<Pair>,
+    /// The rows of the branches, oldest first.
+    pub branches: Seq<Line>,
+    /// Where a number left the range, if that ended the search.
+    pub seen: Option<RangeSeen>,
 }

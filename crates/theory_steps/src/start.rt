@@ -6,11 +6,13 @@ ghost use Rattle.stack_atoms.specs.Marks.{AreStackParts};
 ghost use Rattle.check_atoms.specs.Numbering.{IsNormal};
 ghost use Rattle.check_atoms.specs.OfStack.{AreCheckAtoms};
 ghost use Rattle.bound_log.specs.Atoms.{Knows, KnowsOneMore};
+ghost use Rattle.bound_log.specs.Columns.{AddsColumns, HasColumnsOf};
 ghost use Rattle.theory_steps.specs.Begin.{IsOfBool, IsTruthOfBool, IsBegun};
 
 use crate::held::Held;
 use atom_numbers::{AtomNumbers, NumberedAtom};
 use bound_log::BoundLog;
+use check_atoms::atoms_are_of_stack;
 use check_clauses::linear_terms;
 use closure_log::{ClosureLog, Guide, Scan};
 use flat_stack::flat_says_the_same;
@@ -39,6 +41,7 @@ fn learn(
     requires numbered { number < length atoms.now.atoms }
     requires normal { All (IsNormal (length stack.now.trees)) atoms.now.atoms }
     ensures knows { OnOk result (KnowsOneMore bounds.old (atom_at atoms.now.atoms number) bounds.new) }
+    ensures columns { AddsColumns bounds.old (atom_at atoms.now.atoms number) bounds.new }
     ensures log { bounds.new.log ≡ bounds.old.log }
 {
     let _known = stack.terms();
@@ -57,6 +60,7 @@ fn learn(
 fn bounds_of(alloc: Global, stack: &Stack, atoms: &AtomNumbers) -> Result<BoundLog, AllocError>
     requires normal { All (IsNormal (length stack.now.trees)) atoms.now.atoms }
     ensures knows { IfOk result (λ b. Knows atoms.now.atoms b) }
+    ensures columns { IfOk result (λ b. HasColumnsOf atoms.now.atoms b) }
     ensures log { IfOk result (λ b. b.log ≡ []) }
 {
     let mut bounds = BoundLog::new(alloc);
@@ -113,6 +117,7 @@ pub fn begin(
     stack.laws();
     symbols_are_declared();
     flat_says_the_same();
+    atoms_are_of_stack();
     if stack.terms().len() >= u32::MAX - 2 {
         return Err(AllocError);
     }
@@ -132,6 +137,7 @@ pub fn begin(
             closure,
             bounds,
             scan,
+            looked: 0,
         },
     })
 }

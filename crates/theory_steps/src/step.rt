@@ -1,18 +1,20 @@
 //! Steps that go on with an atom more.
-ghost use Rattle.std.specs.Prelude.{◌≡◌, ◌<◌, length, true, Contains, All};
+ghost use Rattle.std.specs.Prelude.{◌<◌, length, Contains, All, IfSome};
 ghost use Rattle.number_meaning.specs.Whole.{InRange};
 ghost use Rattle.smt_meaning.specs.declared.clauses.Atom.TheVariants.{AtMost};
-ghost use Rattle.model_eval.specs.Walk.{is_marked};
 ghost use Rattle.bound_log.specs.Growth.{IsProper};
+ghost use Rattle.theory_steps.specs.Held.{IsPastOf};
 ghost use Rattle.theory_steps.specs.Progress.{state, AreParts, IsUnderWay, Went};
+ghost use Rattle.theory_steps.specs.Shown.{IsOfCheck, IsLeft, IsMarkedLeaf};
 ghost use Rattle.theory_steps.specs.Steps.{IsStep};
 
 use crate::constant::said_of;
 use crate::numbering::{NewAtom, NewBound, number_new};
 use crate::parts::{Parts, Progress};
 use flat_stack::flat_says_the_same;
+use grid_meaning::Grid;
 use search_port::{Budget, Cause, Lemma};
-use smt_meaning::{Seq, Summand};
+use smt_meaning::{RangeSeen, Seq};
 use sort_laws::symbols_are_declared;
 
 /// How the search goes on.
@@ -22,24 +24,6 @@ pub(crate) enum Step {
     Lemmas(Seq<Lemma>),
     /// It doesn't.
     Ended(Cause),
-}
-
-pub(crate) fn is_marked_place(marks: &[bool], place: u32) -> bool
-    ensures { result ≡ is_marked marks.now place }
-{
-    (place as usize) < marks.len() && marks[place as usize]
-}
-
-/// Whether each place of a sum is marked.
-fn are_marked(marks: &[bool], sum: &[Summand]) -> bool
-    ensures { result ≡ true → All (λ (p : _). is_marked marks.now p.term ≡ true) sum.now }
-{
-    for k in 0..sum.len() {
-        if !is_marked_place(marks, sum[k].term) {
-            return false;
-        }
-    }
-    true
 }
 
 /// Goes on with a bound more.
@@ -54,14 +38,13 @@ pub(crate) fn go_on_with_bound(
     requires new { Contains progress.old.atoms.atoms (AtMost bound.sum.items bound.threshold) → ⊥ }
     requires proper { All IsProper bound.sum.items }
     requires in_range { InRange bound.threshold }
+    requires of_check { IsOfCheck parts.now.stack.now progress.old.branches (AtMost bound.sum.items bound.threshold) }
+    requires leaves { All (λ (p : _). IsMarkedLeaf parts.now.stack.now parts.now.marks.items p.term) bound.sum.items }
     ensures went { Went parts.now progress.old progress.new budget.old budget.new }
     ensures step { IsStep (state parts.now progress.new) budget.old budget.new result }
 {
     symbols_are_declared();
     flat_says_the_same();
-    if !are_marked(&parts.marks, &bound.sum) {
-        return stop(parts, progress, budget);
-    }
     let number = progress.atoms.len() as u32;
     let atom = NewAtom::Bound(bound);
     match number_new(parts, progress, budget, &atom) {
@@ -82,6 +65,38 @@ pub(crate) fn stays(parts: &Parts<'_>, progress: &Progress, budget: &Budget)
     ensures { Went parts.now progress.now progress.now budget.now budget.now }
 {
     let _spent = budget.room();
+}
+
+/// Doesn't go on, and shows where a number left the range, if one did.
+pub(crate) fn stop_seeing(
+    parts: &Parts<'_>,
+    progress: &mut Progress,
+    budget: &Budget,
+    seen: Option<RangeSeen>,
+) -> Step
+    requires under_way { IsUnderWay parts.now progress.old }
+    requires seen { IfSome seen (IsLeft parts.now.stack.now progress.old.branches) }
+    ensures went { Went parts.now progress.old progress.new budget.now budget.now }
+    ensures step { IsStep (state parts.now progress.new) budget.now budget.now result }
+{
+    progress.seen = seen;
+    stays(parts, progress, budget);
+    Step::Ended(Cause::Memory)
+}
+
+/// Doesn't go on where the next step of a grid leaves the range.
+pub(crate) fn stop_past(
+    parts: &Parts<'_>,
+    progress: &mut Progress,
+    budget: &Budget,
+    grid: Grid,
+) -> Step
+    requires under_way { IsUnderWay parts.now progress.old }
+    requires past { IsPastOf progress.old.atoms.atoms grid }
+    ensures went { Went parts.now progress.old progress.new budget.now budget.now }
+    ensures step { IsStep (state parts.now progress.new) budget.now budget.now result }
+{
+    stop_seeing(parts, progress, budget, Some(RangeSeen::Step(grid)))
 }
 
 /// Doesn't go on.

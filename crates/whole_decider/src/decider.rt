@@ -2,7 +2,7 @@
 ghost use Rattle.std.specs.Prelude.{IfOk};
 ghost use Rattle.theory_port.specs.Verdicts.{IsVerdict};
 
-use check_atoms::numbered;
+use check_atoms::{atoms_are_first, numbered};
 use check_clauses::check_clauses;
 use check_search::{search, unknown};
 use equality_decider::Alone;
@@ -23,6 +23,8 @@ pub struct Whole;
 fn decide_integers(alloc: Global, stack: &Stack, settings: &Settings) -> Result<Verdict, AllocError>
     ensures { IfOk result (IsVerdict stack.now.trees stack.now.frames settings.now.units) }
 {
+    stack.laws();
+    atoms_are_first();
     let mut parts = match numbered(alloc, stack) {
         Ok(parts) => parts,
         Err(refusal) => return refused(alloc, stack, settings, refusal),
@@ -33,10 +35,10 @@ fn decide_integers(alloc: Global, stack: &Stack, settings: &Settings) -> Result<
     let Ok(()) = keep_axioms(alloc, stack, &parts, &mut store) else {
         return unknown(alloc, stack, settings);
     };
-    let Ok(mut theory) = Combined::new(alloc, stack, parts) else {
+    let Ok(theory) = Combined::new(alloc, stack, parts) else {
         return unknown(alloc, stack, settings);
     };
-    search(alloc, stack, settings, &mut theory, &mut store)
+    search(alloc, stack, settings, theory, store)
 }
 
 impl Decider for Whole {

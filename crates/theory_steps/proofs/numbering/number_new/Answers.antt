@@ -20,4 +20,4 @@ returns-in_default-spend-clause-went c =
 pub returns-clause-went : goal.returns-clause-went
 returns-clause-went c =
     went_on c.args.parts.now c.args.progress.now c.args.budget.now c.spend.new.self c.len-count.result (atom_of c.args.atom.now) c.add.new.atoms c.add.new.held c.requires.under_way c.in-Ok.ensures.whole c.in-Ok.ensures.ok
-    c.add.ensures.log c.len-count.ensures.count c.in-Ok-spend.ensures.spent (let r = c.room.ensures in let f = c.if-room-eq0.false in grind arith)
+    c.add.ensures.log c.len-count.ensures.count c.in-Ok-spend.ensures.spent (let r = c.room.ensures in let f = c.if-room-eq0.false in grind arith) c.requires.to_show

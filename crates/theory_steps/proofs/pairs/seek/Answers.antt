@@ -20,4 +20,10 @@ look_up-requires-clause-in_range c =
 pub returns-in-Ok-clause-sought : goal.returns-in-Ok-clause-sought
 returns-in-Ok-clause-sought c =
     let found = c.in-Ok.ensures.ok c.args.parts.now.stack.now.trees c.requires.forms in
-    subst (λ (a : Atom). IsSought c.args.atoms.now.atoms a c.look_up.result) (ap (AtMost c.at_most.new.sum.items) (same_bits c.in-Ok.threshold found.bound.in_range) ∙ found.bound.atom) c.look_up.ensures
+    subst (λ (a : Atom). IsSought c.args.atoms.now.atoms a c.look_up.result) (ap (AtMost c.at_most.new.sum.items) (same_bits c.in-Ok.threshold found.bound.in_range) ∙ found.bound.atom) c.look_up.ensures.sought
+
+pub returns-in-Ok-clause-refused : goal.returns-in-Ok-clause-refused
+returns-in-Ok-clause-refused c = c.look_up.ensures.refused c.args.parts.now.stack.now.trees c.args.left c.args.right
+
+pub returns-in-Err-clause-refused : goal.returns-in-Err-clause-refused
+returns-in-Err-clause-refused c = c.in-Err.ensures.err c.args.parts.now.stack.now.trees c.requires.forms

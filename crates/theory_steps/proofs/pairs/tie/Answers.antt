@@ -6,6 +6,7 @@ use Rattle.smt_meaning.specs.declared.clauses.Atom.TheVariants.{Same}
 use Rattle.search_port.specs.Calls.{IsLemma}
 use Rattle.closure_log.specs.Seen.{state_of}
 use Rattle.theory_steps.specs.Numbering.{table_of, IsNumbered, IsWhole}
+use Rattle.theory_steps.proofs.Comparing.{same_to_show}
 use Rattle.theory_steps.proofs.Marking.{marked_is_of}
 use Rattle.theory_steps.proofs.Tying.{pair_is_marked, tied_lemmas}
 use Rattle.theory_steps.proofs.pairs.tie.Goals as goal
@@ -21,6 +22,11 @@ number_new-requires-clause-of_stack c =
       marked = marked;
       proper = tt;
     }
+
+pub number_new-requires-clause-to_show : goal.number_new-requires-clause-to_show
+number_new-requires-clause-to_show c =
+    same_to_show c.flat_says_the_same.ensures c.args.parts.now.stack.now c.args.parts.now.marks.items c.requires.parts.2 c.requires.under_way.0.different c.args.pair.left c.args.pair.right c.requires.wanted.left
+    c.requires.wanted.right c.args.progress.now.branches
 
 pub tie_lemmas-requires-clause-same : goal.tie_lemmas-requires-clause-same
 tie_lemmas-requires-clause-same c =

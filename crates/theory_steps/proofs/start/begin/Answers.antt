@@ -1,7 +1,7 @@
 use Rattle.std.proofs.Common.{rules, ◌≡◌, ◌∙◌, ◌+◌, ◌<◌, ◌^◌, true, List, [], length, sym, subst}
 use Rattle.literals.specs.Signed.{Signed}
 use Rattle.closure_log.specs.Places.{ArePlaces}
-use Rattle.theory_steps.proofs.Beginning.{sorted_parts, readable, setting}
+use Rattle.theory_steps.proofs.Beginning.{sorted_parts, readable, setting, begins_shown}
 use Rattle.theory_steps.proofs.start.begin.Goals as goal
 
 pub returns : goal.returns
@@ -21,10 +21,14 @@ returns c =
         held = record {
           told = c.in_ok-closure.ensures.told c.args.atoms.now.atoms;
           knows = c.in_ok-bounds.ensures.knows;
+          columns = c.in_ok-bounds.ensures.columns;
           same = c.in_ok-bounds.ensures.log ∙ sym c.in_ok-closure.ensures.log;
           size = c.in_ok-grow.ensures.size ∙ c.len-2.ensures.count;
           told_at = subst (λ (ls : List Signed). ArePlaces ls c.grow.new.self.places.items) (sym c.in_ok-closure.ensures.log) (c.grow.ensures.told [] c.new-scan.ensures.told);
         };
       };
       log = c.in_ok-closure.ensures.log;
+      of_assertions = c.requires.marks.only;
+      shown =
+          begins_shown c.flat_says_the_same.ensures c.atoms_are_of_stack.ensures c.args.stack.now c.args.marks.now c.args.atoms.now.atoms c.laws.ensures c.requires.marks c.requires.atoms;
     }

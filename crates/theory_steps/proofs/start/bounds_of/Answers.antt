@@ -4,6 +4,7 @@ use Rattle.std.specs.Prelude.{take}
 use Rattle.smt_meaning.specs.declared.clauses.Atom.{Atom}
 use Rattle.smt_meaning.specs.declared.clauses.Atom.TheVariants.{Truth}
 use Rattle.bound_log.specs.Atoms.{Knows}
+use Rattle.bound_log.specs.Columns.{HasColumnsOf}
 use Rattle.theory_steps.proofs.start.bounds_of.Goals as goal
 
 pub loop-number-preserved : goal.loop-number-preserved
@@ -13,5 +14,8 @@ loop-number-preserved c =
       knows =
           subst (λ (table : List Atom). Knows table c.learn.new.bounds) (sym ((take_at_read c.args.atoms.now.atoms c.loop-number.number (Truth 0) less).1))
           (c.in_ok-learn.ensures.knows (take c.loop-number.number c.args.atoms.now.atoms) c.loop-number.invariant.knows);
+      columns =
+          subst (λ (table : List Atom). HasColumnsOf table c.learn.new.bounds) (sym ((take_at_read c.args.atoms.now.atoms c.loop-number.number (Truth 0) less).1))
+          (c.learn.ensures.columns (take c.loop-number.number c.args.atoms.now.atoms) c.loop-number.invariant.columns);
       log = c.learn.ensures.log ∙ c.loop-number.invariant.log;
     }

@@ -1,6 +1,7 @@
-use Rattle.std.proofs.Common.{rules, ◌≡◌, ◌++◌, ◌∷◌, [], Bool, true, List, length, All, sym, ap, subst, arith}
+use Rattle.std.proofs.Common.{◌≡◌, ◌++◌, ◌∷◌, [], true, List, length, All, sym, ap, subst, arith}
 use Rattle.std.specs.Prelude.{ℕ, Option}
 use Rattle.std.proofs.lemmas.List.{length_push}
+use Rattle.std.proofs.lemmas.List.Elements.{All-weaker}
 use Rattle.smt_meaning.specs.declared.clauses.Summand.{Summand}
 use Rattle.smt_meaning.specs.declared.clauses.Atom.{Atom}
 use Rattle.smt_meaning.specs.declared.clauses.Atom.TheVariants.{AtMost}
@@ -9,8 +10,10 @@ use Rattle.closure_log.specs.Seen.{state_of}
 use Rattle.model_eval.specs.Walk.{is_marked}
 use Rattle.log_value.specs.Atoms.{HasMarkedPlaces}
 use Rattle.theory_steps.specs.Numbering.{table_of}
+use Rattle.theory_steps.specs.Shown.{IsMarkedLeaf}
 use Rattle.theory_steps.proofs.Saying.{pushed_at}
-use Rattle.theory_steps.proofs.Marking.{marked_is_of, sum_is_marked}
+use Rattle.theory_steps.proofs.Comparing.{over_marked}
+use Rattle.theory_steps.proofs.Marking.{at_places, marked_is_of}
 use Rattle.theory_steps.proofs.step.go_on_with_bound.Goals as goal
 
 pub number_new-requires-clause-of_stack : goal.number_new-requires-clause-of_stack
@@ -18,17 +21,22 @@ number_new-requires-clause-of_stack c =
     let s = c.args.parts.now.stack.now in
     let marks = c.args.parts.now.marks.items in
     let sum = c.args.bound.sum.items in
-    let yes : c.are_marked.result ≡ true = search rules in
-    let seen : All (λ (p : Summand). is_marked c.deref.result.now p.term ≡ true) sum =
-    subst (λ (ps : List Summand). All (λ (p : Summand). is_marked c.deref.result.now p.term ≡ true) ps) c.deref-2.ensures.value (c.are_marked.ensures yes) in
-    let all : All (λ (p : Summand). is_marked marks p.term ≡ true) sum = subst (λ (ms : List Bool). All (λ (p : Summand). is_marked ms p.term ≡ true) sum) c.deref.ensures.value seen in
-    let marked : HasMarkedPlaces marks (AtMost sum c.args.bound.threshold) = sum_is_marked marks sum all in
+    let all : All (λ (p : Summand). is_marked marks p.term ≡ true) sum =
+    All-weaker (λ (p : Summand). IsMarkedLeaf s marks p.term) (λ (p : Summand). is_marked marks p.term ≡ true) (λ p h. h.marked) sum c.requires.leaves in
+    let marked : HasMarkedPlaces marks (AtMost sum c.args.bound.threshold) = at_places (λ p. is_marked marks p ≡ true) sum all in
     record {
       terms = tt;
       declared = marked_is_of c.symbols_are_declared.ensures c.flat_says_the_same.ensures s marks c.requires.parts.0 (AtMost sum c.args.bound.threshold) marked;
       marked = marked;
       proper = (c.requires.proper, c.requires.in_range);
     }
+
+pub number_new-requires-clause-to_show : goal.number_new-requires-clause-to_show
+number_new-requires-clause-to_show c = record {
+  of_check = c.requires.of_check;
+  leaves =
+      over_marked c.flat_says_the_same.ensures c.args.parts.now.stack.now c.args.parts.now.marks.items c.requires.parts.2 c.requires.under_way.0.different c.args.bound.sum.items c.requires.leaves;
+}
 
 pub said_of-requires : goal.said_of-requires
 said_of-requires c =

@@ -1,0 +1,226 @@
+-- What a check shows of a stack, where other levels have the same declarations and assertions.
+use Rattle.std.proofs.Common.{◌≡◌, false, inl, inr, ℕ, List, [], ◌∷◌, All, Contains, subst, sym, ap, ◌∙◌}
+use Rattle.std.specs.Prelude.{ℤ, Some, flat_map, neg_ℤ}
+use Rattle.std.proofs.lemmas.List.Elements.{All-weaker}
+use Rattle.grid_meaning.specs.declared.Summand.{Summand as GridSummand}
+use Rattle.grid_meaning.specs.declared.Column.{Column}
+use Rattle.grid_meaning.specs.declared.Member.{Member}
+use Rattle.grid_meaning.specs.declared.Grid.{Grid}
+use Rattle.grid_meaning.specs.declared.Line.{Line}
+use Rattle.grid_meaning.specs.declared.Side.{Side}
+use Rattle.grid_meaning.specs.declared.Side.TheVariants.{Lower, Upper}
+use Rattle.grid_meaning.specs.Grid.{column_at}
+use Rattle.grid_meaning.specs.Lines.{Bounding, IsBoundedBy, IsResting, IsSoundLine, IsSoundGrid}
+use Rattle.smt_meaning.specs.declared.values.Sort.TheVariants.{Int as Ints}
+use Rattle.smt_meaning.specs.declared.values.Table.{Table}
+use Rattle.smt_meaning.specs.declared.clauses.Atom.{Atom}
+use Rattle.smt_meaning.specs.declared.clauses.Atom.TheVariants.{AtMost}
+use Rattle.smt_meaning.specs.declared.reports.RangeSeen.{RangeSeen}
+use Rattle.smt_meaning.specs.declared.reports.RangeSeen.TheVariants.{Coefficient, Pair, Argument, Step, Model}
+use Rattle.smt_meaning.specs.Declaration.{Declaration}
+use Rattle.smt_meaning.specs.Term.{Tree}
+use Rattle.smt_meaning.specs.Signature.{tree_sort}
+use Rattle.smt_meaning.specs.Interpretation.{AreTablesFor, meaning}
+use Rattle.smt_meaning.specs.Comparisons.{compared_fits}
+use Rattle.smt_meaning.specs.Stack.{Frame, signature_of, assertions_of, Satisfies}
+use Rattle.smt_meaning.specs.Atoms.{pair_atoms, atoms_of, stack_atoms, stack_atoms_are}
+use Rattle.smt_meaning.specs.Boxes.{IsInBox, asserted_atoms, said_atoms, conjuncts, term_at_most, negation_at_most}
+use Rattle.smt_meaning.specs.CheckAtoms.{IsPartOfStack, IsIntPart, IsLeaf, ComparesParts, BoundsInBox, IsFirstAtom, IsBoundOf, IsBranch, WithBranch, WithBranches, EachIsBranch, IsCheckAtom, AreBranches}
+use Rattle.smt_meaning.specs.Ranges.{LeavesInPart, LeavesInPair, IsIntArgument, LeavesInArgument, LeavesInModel, IsKnownColumn, IsOnAtom, LeavesInStep, LeavesRange}
+
+-- ---- lines and grids under more bounds
+
+module _ (B C : Bounding) (more : (sum : List GridSummand) (side : Side) (k : ℤ) → B sum side k → C sum side k) where
+  bounded_by : (c : Column) → IsBoundedBy B c → IsBoundedBy C c
+  bounded_by c h = record { lower = λ k e. more c.sum Lower k (h.lower k e); upper = λ k e. more c.sum Upper k (h.upper k e) }
+
+  resting_by : (c : Column) → IsResting B c → IsResting C c
+  resting_by c (inl e) = inl e
+  resting_by c (inr (side, k, e, b)) = inr (side, k, e, more c.sum side k b)
+
+  line_by : (l : Line) → IsSoundLine B l → IsSoundLine C l
+  line_by l h = record {
+    basic = h.basic;
+    is_basic = h.is_basic;
+    row = h.row;
+    bounded = bounded_by h.basic.column h.bounded;
+    entries_bounded = All-weaker (λ (m : Member). IsBoundedBy B m.column) (λ (m : Member). IsBoundedBy C m.column) (λ m k. bounded_by m.column k) l.entries h.entries_bounded;
+    resting = All-weaker (λ (m : Member). IsResting B m.column) (λ (m : Member). IsResting C m.column) (λ m k. resting_by m.column k) l.entries h.resting;
+  }
+
+  grid_by : (g : Grid) → IsSoundGrid B g → IsSoundGrid C g
+  grid_by g h = record {
+    identities = h.identities;
+    meets = h.meets;
+    bounded = λ i l. bounded_by (column_at g i) (h.bounded i l);
+    resting = λ i l e. resting_by (column_at g i) (h.resting i l e);
+  }
+
+-- ---- more atoms
+
+module _ (Is Js : Atom → Type 0) (more : (a : Atom) → Is a → Js a) where
+  bound_by : (sum : List GridSummand) (side : Side) (k : ℤ) → IsBoundOf Is sum side k → IsBoundOf Js sum side k
+  bound_by sum side k h = record {
+    terms = h.terms;
+    most = h.most;
+    positive = h.positive;
+    atom = more (AtMost h.terms h.most) h.atom;
+    sum_is = h.sum_is;
+    side_is = h.side_is;
+    number_is = h.number_is;
+  }
+
+  with_branch_by : (l : Line) (a : Atom) → WithBranch Is l a → WithBranch Js l a
+  with_branch_by l a (inl h) = inl (more a h)
+  with_branch_by l a (inr h) = inr h
+
+with_branches_by : (Is Js : Atom → Type 0) → ((a : Atom) → Is a → Js a) → (ls : List Line) (a : Atom) → WithBranches Is ls a → WithBranches Js ls a
+with_branches_by Is Js more [] a h = more a h
+with_branches_by Is Js more (l ∷ ls) a h = with_branches_by (WithBranch Is l) (WithBranch Js l) (with_branch_by Is Js more l) ls a h
+
+-- ---- parts by other levels
+
+module _ (ts : List Tree) (fs gs : List Frame) (signature : signature_of fs ≡ signature_of gs) (assertions : assertions_of fs ≡ assertions_of gs) where
+  part_by : (t : Tree) → IsPartOfStack fs t → IsPartOfStack gs t
+  part_by t h = record { assertion = h.assertion; asserted = subst (λ (us : List Tree). Contains us h.assertion) assertions h.asserted; part = h.part }
+
+  int_part_by : (t : Tree) (p : ℕ) → IsIntPart ts fs t p → IsIntPart ts gs t p
+  int_part_by t p h = record { part = part_by t h.part; int = subst (λ (ds : List Declaration). tree_sort ds t ≡ Some Ints) signature h.int; place_is = h.place_is }
+
+  leaf_by : (p : ℕ) → IsLeaf ts fs p → IsLeaf ts gs p
+  leaf_by p h = record { leaf = h.leaf; part = int_part_by h.leaf p h.part; is = h.is }
+
+  compares_by : (a : Atom) → ComparesParts ts fs a → ComparesParts ts gs a
+  compares_by a h = record {
+    left = h.left;
+    right = h.right;
+    left_part = part_by h.left h.left_part;
+    right_part = part_by h.right h.right_part;
+    one_sort = subst (λ (ds : List Declaration). tree_sort ds h.left ≡ tree_sort ds h.right) signature h.one_sort;
+    among = subst (λ (ds : List Declaration). Contains (pair_atoms ts ds h.left h.right) a) signature h.among;
+  }
+
+  same_asserted : asserted_atoms ts fs ≡ asserted_atoms ts gs
+  same_asserted =
+      ap (λ (ds : List Declaration). flat_map (said_atoms ts ds) (flat_map conjuncts (assertions_of fs))) signature
+      ∙ ap (λ (us : List Tree). flat_map (said_atoms ts (signature_of gs)) (flat_map conjuncts us)) assertions
+
+  box_by : (t : ℕ) (k : ℤ) → IsInBox ts fs t k → IsInBox ts gs t k
+  box_by t k h = record {
+    least = h.least;
+    greatest = h.greatest;
+    has_least = subst (λ (xs : List Atom). Contains xs (negation_at_most t (neg_ℤ h.least))) same_asserted h.has_least;
+    has_greatest = subst (λ (xs : List Atom). Contains xs (term_at_most t h.greatest)) same_asserted h.has_greatest;
+    above = λ m c. h.above m (subst (λ (xs : List Atom). Contains xs (negation_at_most t m)) (sym same_asserted) c);
+    below = λ m c. h.below m (subst (λ (xs : List Atom). Contains xs (term_at_most t m)) (sym same_asserted) c);
+  }
+
+  bounds_by : (a : Atom) → BoundsInBox ts fs a → BoundsInBox ts gs a
+  bounds_by a h = record { term = h.term; number = h.number; leaf = leaf_by h.term h.leaf; in_box = box_by h.term h.number h.in_box; among = h.among }
+
+  same_atoms : stack_atoms ts fs ≡ stack_atoms ts gs
+  same_atoms =
+      stack_atoms_are ts fs
+      ∙ ap (λ (ds : List Declaration). flat_map (atoms_of ts ds) (assertions_of fs)) signature
+      ∙ ap (λ (us : List Tree). flat_map (atoms_of ts (signature_of gs)) us) assertions
+      ∙ sym (stack_atoms_are ts gs)
+
+  first_by : (a : Atom) → IsFirstAtom ts fs a → IsFirstAtom ts gs a
+  first_by a (inl h) = inl (subst (λ (xs : List Atom). Contains xs a) same_atoms h)
+  first_by a (inr (inl h)) = inr (inl (compares_by a h))
+  first_by a (inr (inr h)) = inr (inr (bounds_by a h))
+
+  pub check_atom_by : (branches : List Line) (a : Atom) → IsCheckAtom ts fs branches a → IsCheckAtom ts gs branches a
+  check_atom_by branches a h = with_branches_by (IsFirstAtom ts fs) (IsFirstAtom ts gs) first_by branches a h
+
+  branch_by : (Is Js : Atom → Type 0) → ((a : Atom) → Is a → Js a) → (l : Line) → IsBranch ts fs Is l → IsBranch ts gs Js l
+  branch_by Is Js more l h = record {
+    term = h.term;
+    floor = h.floor;
+    leaf = leaf_by h.term h.leaf;
+    row = line_by (IsBoundOf Is) (IsBoundOf Js) (bound_by Is Js more) l h.row;
+    branches = h.branches;
+  }
+
+  each_by : (Is Js : Atom → Type 0) → ((a : Atom) → Is a → Js a) → (ls : List Line) → EachIsBranch ts fs Is ls → EachIsBranch ts gs Js ls
+  each_by Is Js more [] h = tt
+  each_by Is Js more (l ∷ ls) h = (branch_by Is Js more l h.0, each_by (WithBranch Is l) (WithBranch Js l) (with_branch_by Is Js more l) ls h.1)
+
+  pub branches_by : (branches : List Line) → AreBranches ts fs branches → AreBranches ts gs branches
+  branches_by branches h = each_by (IsFirstAtom ts fs) (IsFirstAtom ts gs) first_by branches h
+
+-- ---- where a number leaves the range
+
+module _ (ts : List Tree) (fs gs : List Frame) (signature : signature_of fs ≡ signature_of gs) (assertions : assertions_of fs ≡ assertions_of gs) (Is Js : Atom → Type 0) (more : (a : Atom) → Is a → Js a) where
+  in_part_by : (place : ℕ) → LeavesInPart ts fs place → LeavesInPart ts gs place
+  in_part_by place h = record {
+    tree = h.tree;
+    part = part_by ts fs gs signature assertions h.tree h.part;
+    place_is = h.place_is;
+    leaves = elim h.leaves [ inl e ↦ inl e | inr e ↦ inr (subst (λ (ds : List Declaration). compared_fits ts ds h.tree ≡ false) signature e) ];
+  }
+
+  in_pair_by : (s t : ℕ) → LeavesInPair ts fs s t → LeavesInPair ts gs s t
+  in_pair_by s t h = record {
+    left = h.left;
+    right = h.right;
+    left_part = int_part_by ts fs gs signature assertions h.left s h.left_part;
+    right_part = int_part_by ts fs gs signature assertions h.right t h.right_part;
+    leaves = h.leaves;
+  }
+
+  int_argument_by : (t : Tree) (place : ℕ) → IsIntArgument ts fs t place → IsIntArgument ts gs t place
+  int_argument_by t place h = record {
+    symbol = h.symbol;
+    arguments = h.arguments;
+    application = part_by ts fs gs signature assertions _ h.application;
+    among = h.among;
+    int = int_part_by ts fs gs signature assertions t place h.int;
+  }
+
+  in_argument_by : (place : ℕ) (g : Grid) → LeavesInArgument ts fs Is place g → LeavesInArgument ts gs Js place g
+  in_argument_by place g h = record {
+    tree = h.tree;
+    argument = int_argument_by h.tree place h.argument;
+    grid = grid_by (IsBoundOf Is) (IsBoundOf Js) (bound_by Is Js more) g h.grid;
+    within = h.within;
+    numbers = h.numbers;
+    values = h.values;
+    outside = h.outside;
+  }
+
+  in_model_by : (i : List Table) (place : ℕ) (g : Grid) → LeavesInModel ts fs Is i place g → LeavesInModel ts gs Js i place g
+  in_model_by i place g h = record {
+    tree = h.tree;
+    part = part_by ts fs gs signature assertions h.tree h.part;
+    place_is = h.place_is;
+    tables = subst (λ (ds : List Declaration). AreTablesFor ds i) signature h.tables;
+    holds = subst (λ (us : List Tree). All (Satisfies (meaning i)) us) assertions h.holds;
+    outside = h.outside;
+    grid = grid_by (IsBoundOf Is) (IsBoundOf Js) (bound_by Is Js more) g h.grid;
+    values = λ t p part leaf. h.values t p (int_part_by ts gs fs (sym signature) (sym assertions) t p part) (leaf_by ts gs fs (sym signature) (sym assertions) p leaf);
+  }
+
+  column_by : (c : Column) → IsKnownColumn ts fs Is c → IsKnownColumn ts gs Js c
+  column_by c (inl (t, leaf, e)) = inl (t, leaf_by ts fs gs signature assertions t leaf, e)
+  column_by c (inr (ps, k, a, e)) = inr (ps, k, more (AtMost ps k) a, e)
+
+  in_step_by : (g : Grid) → LeavesInStep ts fs Is g → LeavesInStep ts gs Js g
+  in_step_by g h = record {
+    columns = All-weaker (IsKnownColumn ts fs Is) (IsKnownColumn ts gs Js) column_by g.columns h.columns;
+    grid = grid_by (IsBoundOf Is) (IsBoundOf Js) (bound_by Is Js more) g h.grid;
+    pending = λ p e. (let o : IsOnAtom Is p = h.pending p e in record { terms = o.terms; atom = more (AtMost o.terms p.number) o.atom; sum_is = o.sum_is });
+    next = h.next;
+  }
+
+  leaves_by : (seen : RangeSeen) → LeavesRange ts fs Is seen → LeavesRange ts gs Js seen
+  leaves_by (Coefficient t) h = in_part_by t h
+  leaves_by (Pair s t) h = in_pair_by s t h
+  leaves_by (Argument t g) h = in_argument_by t g h
+  leaves_by (Step g) h = in_step_by g h
+  leaves_by (Model i t g) h = in_model_by i t g h
+
+pub range_by : (ts : List Tree) (fs gs : List Frame) → signature_of fs ≡ signature_of gs → assertions_of fs ≡ assertions_of gs → (branches : List Line) (seen : RangeSeen)
+    → LeavesRange ts fs (IsCheckAtom ts fs branches) seen → LeavesRange ts gs (IsCheckAtom ts gs branches) seen
+range_by ts fs gs signature assertions branches seen h =
+    leaves_by ts fs gs signature assertions (IsCheckAtom ts fs branches) (IsCheckAtom ts gs branches) (check_atom_by ts fs gs signature assertions branches) seen h

@@ -1,0 +1,56 @@
+//! What is answered where a search ended on its way.
+ghost use Rattle.std.specs.Prelude.{◌≡◌, length, All, IfOk};
+ghost use Rattle.flat_stack.specs.Flat.{flat};
+ghost use Rattle.theory_port.specs.Verdicts.{IsVerdict};
+ghost use Rattle.check_search.specs.Shown.{IsOfNumbers, ShowsUnits};
+
+use crate::bools::some_numbers_bools;
+use crate::shown::{report, write_units};
+use flat_stack::flat_says_the_same;
+use scope_stack::Stack;
+use search_port::{Budget, Showing, Shown};
+use smt_meaning::{Cause, Settings};
+use std::alloc::{AllocError, Global};
+use theory_port::Verdict;
+
+/// The answer where all units are spent: its worker shows them, and the branches of the theory. A unit that is an equality of Bools shows nothing new, since the stack has that atom;
+/// a theory of integers spends none.
+pub(crate) fn all_spent<T: Shown>(
+    alloc: Global,
+    stack: &Stack,
+    settings: &Settings,
+    theory: T,
+    budget: &Budget,
+) -> Result<Verdict, AllocError>
+    requires trees { (T.state theory).reading.trees ≡ stack.now.trees }
+    requires frames { (T.state theory).reading.frames ≡ flat stack.now.frames }
+    requires numbers { All (IsOfNumbers (length (T.state theory).reading.table)) budget.now.units }
+    requires spent { ShowsUnits stack.now settings.now.units (T.state theory).reading budget.now.units }
+    ensures { IfOk result (IsVerdict stack.now.trees stack.now.frames settings.now.units) }
+{
+    let units = write_units(alloc, &theory, stack.depth(), budget.units())?;
+    if some_numbers_bools(stack.sorts(), units.as_slice()) {
+        return stopped(alloc, stack, settings, theory);
+    }
+    let shown = theory.show();
+    report(alloc, Cause::Units(units), shown.branches)
+}
+
+/// The answer where the search could not go on: its worker shows where a number left the range, if the theory saw one do so, and else that memory is wanting.
+pub(crate) fn stopped<T: Shown>(
+    alloc: Global,
+    stack: &Stack,
+    settings: &Settings,
+    theory: T,
+) -> Result<Verdict, AllocError>
+    requires trees { (T.state theory).reading.trees ≡ stack.now.trees }
+    requires frames { (T.state theory).reading.frames ≡ flat stack.now.frames }
+    ensures { IfOk result (IsVerdict stack.now.trees stack.now.frames settings.now.units) }
+{
+    flat_says_the_same();
+    let Showing { branches, seen } = theory.show();
+    match seen {
+        Some(seen) => report(alloc, Cause::Range(seen), branches),
+        None => report(alloc, Cause::Memory, branches),
+    }
+}

@@ -1,0 +1,38 @@
+-- The row of a branch more.
+use Rattle.std.proofs.Common.{◌<◌, ℕ, Bool, ℤ, List, [], ◌∷◌, ◌++◌, All, Contains, refl, arith}
+use Rattle.std.specs.Prelude.{Option, None}
+use Rattle.std.proofs.lemmas.List.Elements.{All-weaker, All-contains}
+use Rattle.grid_meaning.specs.declared.Line.{Line}
+use Rattle.grid_meaning.specs.Lines.{IsSoundLine, IsBranchLine}
+use Rattle.smt_meaning.specs.declared.clauses.Atom.{Atom}
+use Rattle.smt_meaning.specs.declared.reports.RangeSeen.{RangeSeen}
+use Rattle.smt_meaning.specs.StackCommand.{Stack}
+use Rattle.smt_meaning.specs.Boxes.{term_at_most}
+use Rattle.smt_meaning.specs.CheckAtoms.{IsFirstAtom, IsBoundOf, IsBranch}
+use Rattle.term_store.specs.Terms.{AreDifferent}
+use Rattle.flat_stack.specs.Flat.{flat, FlatSaysTheSame}
+use Rattle.theory_steps.specs.Shown.{AreOfAssertions, AreShown, IsMarkedLeaf, IsOfCheck}
+use Rattle.theory_steps.proofs.Branching.{each_more, line_over, with_more, with_newest}
+use Rattle.theory_steps.proofs.Comparing.{leaf_part}
+
+module _ (flat_law : FlatSaysTheSame) (s : Stack) (marks : List Bool) (of_assertions : AreOfAssertions s marks) (different : AreDifferent s.trees) (rows : List Line) (left : Option RangeSeen) (table : List Atom) (shown : AreShown s rows left table) (term : ℕ) (floor : ℤ) (leaf : IsMarkedLeaf s marks term) (l : Line) (branches : IsBranchLine term floor l) (row : IsSoundLine (IsBoundOf (Contains table)) l) where
+  is_branch : IsBranch s.trees (flat s.frames) (IsOfCheck s rows) l
+  is_branch = record {
+    term = term;
+    floor = floor;
+    leaf = leaf_part flat_law s marks of_assertions different term leaf;
+    row = line_over (Contains table) (IsOfCheck s rows) (λ a c. All-contains (IsOfCheck s rows) table a shown.atoms c) l row;
+    branches = branches;
+  }
+
+  pub shown_more : AreShown s (rows ++ l ∷ []) None table
+  shown_more = record {
+    branches = each_more s.trees (flat s.frames) (IsFirstAtom s.trees (flat s.frames)) rows l shown.branches is_branch;
+    atoms = All-weaker (IsOfCheck s rows) (IsOfCheck s (rows ++ l ∷ [])) (λ a h. with_more (IsFirstAtom s.trees (flat s.frames)) rows l a h) table shown.atoms;
+    seen = tt;
+    leaves = shown.leaves;
+  }
+
+  pub side_of_check : IsOfCheck s (rows ++ l ∷ []) (term_at_most term floor)
+  side_of_check =
+      with_newest (IsFirstAtom s.trees (flat s.frames)) rows l (term_at_most term floor) (record { term = term; floor = floor; branches = branches; among = (0, omega arith, refl) })

@@ -1,0 +1,23 @@
+-- A literal more of what is held.
+use Rattle.std.proofs.Common.{◌≡◌, ◌∙◌, List, [], ◌∷◌, ◌++◌, length, sym, ap, subst}
+use Rattle.literals.specs.Signed.{Signed}
+use Rattle.smt_meaning.specs.declared.clauses.Atom.{Atom}
+use Rattle.smt_meaning.specs.StackCommand.{Stack}
+use Rattle.closure_log.specs.Places.{ArePlaces}
+use Rattle.closure_log.specs.Told.{IsTold}
+use Rattle.bound_log.specs.Atoms.{Knows}
+use Rattle.bound_log.specs.Columns.{HasColumnsOf}
+use Rattle.theory_steps.specs.declared.held.Held.{Held}
+use Rattle.theory_steps.specs.Held.{IsHeld}
+
+pub told_more : (s : Stack) (table : List Atom) (h k : Held) (l : Signed) → IsHeld s table h → IsTold s table k.closure.congruence k.closure.log.items k.closure.starts.items → Knows table k.bounds
+    → HasColumnsOf table k.bounds → k.bounds.log ≡ h.bounds.log ++ l ∷ [] → k.closure.log.items ≡ h.closure.log.items ++ l ∷ [] → length k.scan.places.items ≡ length h.scan.places.items
+    → ArePlaces (h.closure.log.items ++ l ∷ []) k.scan.places.items → IsHeld s table k
+told_more s table h k l held told knows columns bounds log size places = record {
+  told = told;
+  knows = knows;
+  same = bounds ∙ ap (λ (ls : List Signed). ls ++ l ∷ []) held.same ∙ sym log;
+  size = size ∙ held.size;
+  told_at = subst (λ (ls : List Signed). ArePlaces ls k.scan.places.items) (sym log) places;
+  columns = columns;
+}

@@ -1,0 +1,12 @@
+use Rattle.theory_steps.proofs.Own.{own_numbers}
+use Rattle.theory_steps.proofs.showing.show.Goals as goal
+
+pub returns : goal.returns
+returns c =
+    let shown = c.requires.2 in
+    record {
+      branches = shown.branches;
+      atoms = shown.atoms;
+      different = own_numbers c.args.progress.lost c.args.progress.atoms.atoms c.are_apart.ensures;
+      seen = shown.seen;
+    }
