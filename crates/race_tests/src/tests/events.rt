@@ -50,7 +50,7 @@ fn empty_race(alloc: Global, count: u32) -> Result<RaceState, AllocError> {
     for _ in 0..count {
         levels.push(empty_level(alloc))?;
     }
-    let terms = Terms::from_nodes(Vec::new(alloc));
+    let terms = Terms::from_nodes(alloc, Vec::new(alloc))?;
     race_of_two(alloc, Levels { terms, levels })
 }
 

@@ -29,7 +29,7 @@ fn terms(alloc: Global) -> Result<Terms, AllocError>
     ensures { IfOk result (λ t. t ≡ declared.trees) }
 {
     let arguments = Seq::from_vec(vec![in alloc; 0]?);
-    Ok(Terms::from_nodes(vec![in alloc;
+    let nodes = vec![in alloc;
         Node {
             head: Head::Symbol(0),
             arguments: Seq::new(alloc),
@@ -38,7 +38,8 @@ fn terms(alloc: Global) -> Result<Terms, AllocError>
             head: Head::Theory(Operator::Not),
             arguments,
         },
-    ]?))
+    ]?;
+    Terms::from_nodes(alloc, nodes)
 }
 
 fn worker(alloc: Global) -> Worker {

@@ -3,8 +3,10 @@ use std::test::Fail;
 
 #[test]
 fn no_nodes_are_no_terms(rt: HostRuntime) -> Result<(), Fail> {
-    let terms = Terms::from_nodes(Vec::new(rt.alloc()));
-    assert_eq!(rt; terms.nodes().len(), 0);
+    let terms = Terms::from_nodes(rt.alloc(), Vec::new(rt.alloc()))?;
+    for layer in terms.layers() {
+        assert_eq!(rt; layer.nodes().len(), 0);
+    }
     Ok(())
 }
 

@@ -1,5 +1,5 @@
 use Rattle.congruence.specs.Recorded.{IsRecorded}
-use Rattle.congruence_tests.proofs.tests.conflicts.take_all.Given as goal
+use Rattle.search_tests.proofs.tests.conflicts.take_all.Given as goal
 
 abbrev pub invariant-loop-at : goal.invariant-loop-at
 invariant-loop-at g l = IsRecorded l.congruence

@@ -1,5 +1,0 @@
-//! Tests of what equalities of terms break.
-#![tactic(auto)]
-
-#[cfg(test)]
-mod tests;
