@@ -1,5 +1,5 @@
 -- Calls of a hook, one between any two units.
-use Rattle.std.proofs.Common.{◌≡◌, ℕ, ◌+◌, ◌<◌, ◌≤◌, ◌⊎◌, min, MatchBool, Bool, true, false, List, [], ◌∷◌, ◌++◌, All, Contains, length, ap, sym, subst, ◌∙◌, refl, inl, inr, arith}
+use Rattle.std.proofs.Common.{◌≡◌, ℕ, ◌+◌, ◌<◌, ◌≤◌, ◌⊎◌, min, MatchBool, Bool, true, false, List, [], ◌∷◌, ◌++◌, All, Contains, length, ap, subst, ◌∙◌, inl, inr, arith}
 use Rattle.std.proofs.lemmas.List.{length-append}
 use Rattle.std.proofs.lemmas.List.Elements.{All-nil, All-push, All-weaker, Contains-append_left, Contains-push}
 use Rattle.search_port.specs.State.{TheoryState}

@@ -16,13 +16,13 @@ use Rattle.search_port.specs.State.{Reading, TheoryState, IsGrown}
 use Rattle.search_port.specs.Spending.{Spending}
 use Rattle.search_port.specs.Valid.{FollowsAsWritten}
 use Rattle.search_port.specs.Forcing.{ForcesByNumbers, ForcesInTurn}
-use Rattle.search_port.specs.Calls.{numbers}
+use Rattle.search_port.specs.Calls.{IsNoPivot, numbers}
 use Rattle.search_port.specs.declared.budget.Spent.{Spent}
-use Rattle.search_port.specs.declared.budget.Spent.TheVariants.{Learnt, Numbered}
+use Rattle.search_port.specs.declared.budget.Spent.TheVariants.{Learnt, Numbered, Pivot}
 use Rattle.flat_stack.specs.Flat.{FlatSaysTheSame}
 use Rattle.stack_atoms.specs.OfStack.{AreOfStack}
 use Rattle.part_clauses.specs.First.{reading_of, IsFirst}
-use Rattle.cdcl_core.specs.Turns.{AreNew, IsShown, IsNumber, Searches}
+use Rattle.cdcl_core.specs.Turns.{AreNew, IsShown, IsOfTheory, Searches}
 use Rattle.equality_decider.specs.Shown.{unit_of, IsOfNumbers}
 use Rattle.equality_decider.proofs.Deciding.{table_stays, trees_stay, frames_stay}
 use Rattle.equality_decider.proofs.Units.{Cut, cut, IsLearntUnit, all_learnt, no_units, new_at, new_front, inside, learnt}
@@ -39,20 +39,21 @@ pub record IsBudget (limit : ℤ) (b : Spending) : Type 0 where
   pub units : b.units ≡ []
   pub limit_is : b.limit ≡ most_units limit
   pub counts : b.counts_learnt ≡ not (is_unlimited limit)
+  pub keeps : b.keeps_lines ≡ false
 
 -- what is shown, by the atoms of the numbers
 pub record AreShown (s : Stack) (limit : ℤ) (table : List Atom) (units : List Spent) : Type 0 where
   pub numbers_of : All (IsOfNumbers (length table)) units
   pub shows : Shows s.trees s.frames limit 0 [] (Units (map (unit_of table (depth s.frames)) units))
 
-all_from_nothing : (b c : Spending) → b.units ≡ [] → b.counts_learnt ≡ false → (b.counts_learnt ≡ false → All IsNumber b.units → All IsNumber c.units) → All IsNumber c.units
-all_from_nothing b c e f h = h f (subst (λ xs. All IsNumber xs) (sym e) (All-nil IsNumber))
+all_from_nothing : (b c : Spending) → b.units ≡ [] → b.counts_learnt ≡ false → (b.counts_learnt ≡ false → All IsOfTheory b.units → All IsOfTheory c.units) → All IsOfTheory c.units
+all_from_nothing b c e f h = h f (subst (λ xs. All IsOfTheory xs) (sym e) (All-nil IsOfTheory))
 
 -- where nothing limits the units, none is spent
-limited : (limit : ℤ) (v : Bool) (b c : Spending) → is_unlimited limit ≡ v → IsBudget limit b → All IsLearntUnit c.units → (b.counts_learnt ≡ false → All IsNumber b.units → All IsNumber c.units) → c.limit ≡ b.limit → length c.units ≡ c.limit → v ≡ false
+limited : (limit : ℤ) (v : Bool) (b c : Spending) → is_unlimited limit ≡ v → IsBudget limit b → All IsLearntUnit c.units → (b.counts_learnt ≡ false → All IsOfTheory b.units → All IsOfTheory c.units) → c.limit ≡ b.limit → length c.units ≡ c.limit → v ≡ false
 limited limit false b c e begin learnt free same spent = refl
 limited limit true b c e begin learnt free same spent =
-    let numbers : All IsNumber c.units = all_from_nothing b c begin.units (begin.counts ∙ ap not e) free in
+    let numbers : All IsOfTheory c.units = all_from_nothing b c begin.units (begin.counts ∙ ap not e) free in
     let none : length c.units ≡ 0 = ap (λ (us : List Spent). length us) (no_units c.units learnt numbers) in
     let most : c.limit ≡ 2 ^ 40 = same ∙ (begin.limit_is ∙ ap (λ w. if w then 2 ^ 40 else min (unsigned_abs limit) (2 ^ 40)) e) in
     absurd (positive c.limit (sym spent ∙ none) most)
@@ -65,6 +66,7 @@ budget_of limit b k v e most counts = record {
   units = ap (λ (x : Spending). x.units) e;
   limit_is = ap (λ (x : Spending). x.limit) e ∙ most;
   counts = ap (λ (x : Spending). x.counts_learnt) e ∙ counts;
+  keeps = ap (λ (x : Spending). x.keeps_lines) e;
 }
 
 front_in : (P : Spent → Type 0) (us vs : List Spent) → All P (us ++ vs) → All P us
@@ -84,7 +86,7 @@ module _ (laws : Laws) (s : Stack) (marks : List Bool) (table : List Atom) (stor
       ∙ ap (λ (atoms : List Atom). range_with_len (length t.reading.table) (length atoms)) (run.turns.grown.none closed)
 
   are_learnt : All IsLearntUnit c.units
-  are_learnt = all_learnt c.units no_numbers
+  are_learnt = all_learnt c.units no_numbers (run.turns.spends.no_pivots budget.keeps (subst (λ xs. All IsNoPivot xs) (sym budget.units) (All-nil IsNoPivot)))
 
   shown_all : All (IsShown u.reading) c.units
   shown_all = run.turns.shown (subst (λ us. All (IsShown t.reading) us) (sym budget.units) (All-nil (IsShown t.reading)))
@@ -96,6 +98,9 @@ module _ (laws : Laws) (s : Stack) (marks : List Bool) (table : List Atom) (stor
   one_unit before after (Numbered n) e =
       absurd (All-contains IsLearntUnit (before ++ Numbered n ∷ after) (Numbered n) (subst (λ us. All IsLearntUnit us) e are_learnt)
       (Contains-append_right before (Numbered n ∷ after) (Numbered n) (Contains-append_left (Numbered n ∷ []) after (Numbered n) (Contains-push [] (Numbered n)))))
+  one_unit before after (Pivot l) e =
+      absurd (All-contains IsLearntUnit (before ++ Pivot l ∷ after) (Pivot l) (subst (λ us. All IsLearntUnit us) e are_learnt)
+      (Contains-append_right before (Pivot l ∷ after) (Pivot l) (Contains-append_left (Pivot l ∷ []) after (Pivot l) (Contains-push [] (Pivot l)))))
   one_unit before after (Learnt d) e =
       let news : AreNew false stored.clauses [] (before ++ Learnt d ∷ after) = subst (AreNew false stored.clauses []) e (run.new_units budget.units) in
       let shown : All (IsShown u.reading) (before ++ Learnt d ∷ after) = subst (λ us. All (IsShown u.reading) us) e shown_all in
@@ -116,6 +121,7 @@ module _ (laws : Laws) (s : Stack) (marks : List Bool) (table : List Atom) (stor
   of_numbers (Learnt d) h =
       inside s marks table stored are first lawful u.reading (table_stays s table u.reading grown) (trees_stay s table u.reading grown) (frames_stay s table u.reading grown) d h.1
   of_numbers (Numbered n) h = absurd h.0
+  of_numbers (Pivot l) h = absurd h.0
 
   pub are_shown : AreShown s limit table c.units
   are_shown = record {

@@ -31,10 +31,10 @@ use Rattle.conflict_learn.specs.Learning.{HaveOwnAtoms}
 use Rattle.search_port.specs.State.{Reading, atom_at, written}
 use Rattle.search_port.specs.Valid.{IsOver, FollowsAt, FollowsAsWritten}
 use Rattle.search_port.specs.Forcing.{negation, numbered, ForcesByNumbers, ForcesInTurn, IsForcedBy}
-use Rattle.search_port.specs.Calls.{numbers}
+use Rattle.search_port.specs.Calls.{IsNoPivot, numbers}
 use Rattle.search_port.specs.declared.budget.Lemma.{Lemma}
 use Rattle.search_port.specs.declared.budget.Spent.{Spent}
-use Rattle.search_port.specs.declared.budget.Spent.TheVariants.{Learnt, Numbered}
+use Rattle.search_port.specs.declared.budget.Spent.TheVariants.{Learnt, Numbered, Pivot}
 use Rattle.search_port.proofs.Forcing.{ComesBy, from_map, in_map}
 use Rattle.forced_clauses.proofs.More.{forces_more}
 use Rattle.flat_stack.specs.Flat.{flat, FlatSaysTheSame, SaysTheSame}
@@ -42,7 +42,7 @@ use Rattle.stack_atoms.specs.Atoms.{IsPartAtom}
 use Rattle.stack_atoms.specs.OfStack.{AreOfStack, HasPlace}
 use Rattle.part_clauses.specs.First.{IsAsserted, IsFirst, IsForced, written_literal, unit as unit_clause}
 use Rattle.cdcl_core.specs.Search.{literal_lists}
-use Rattle.cdcl_core.specs.Turns.{AreNew, IsNewUnit, IsUnforced, IsShown, IsNumber}
+use Rattle.cdcl_core.specs.Turns.{AreNew, IsNewUnit, IsUnforced, IsShown, IsOfTheory}
 use Rattle.equality_decider.specs.Shown.{clause_of, unit_of, IsOfNumbers}
 use Rattle.equality_decider.proofs.Numbers.{IsPlain, number_in, number_again, one_number}
 use Rattle.equality_decider.proofs.Parts.{check_atom, plain_atom, place_again}
@@ -92,19 +92,22 @@ cut f (x ∷ xs) (b ∷ bs) after y e =
 abbrev pub IsLearntUnit : Spent → Type 0
 IsLearntUnit (Learnt c) = Unit {0}
 IsLearntUnit (Numbered n) = ⊥
+IsLearntUnit (Pivot l) = ⊥
 
-pub all_learnt : (us : List Spent) → numbers us ≡ [] → All IsLearntUnit us
-all_learnt [] e = All-nil IsLearntUnit
-all_learnt (Learnt c ∷ us) e = All-cons IsLearntUnit (Learnt c) us tt (all_learnt us e)
-all_learnt (Numbered n ∷ us) e = absurd (some n (numbers us) e)
+pub all_learnt : (us : List Spent) → numbers us ≡ [] → All IsNoPivot us → All IsLearntUnit us
+all_learnt [] e h = All-nil IsLearntUnit
+all_learnt (Learnt c ∷ us) e h = All-cons IsLearntUnit (Learnt c) us tt (all_learnt us e (All-tail IsNoPivot (Learnt c) us h))
+all_learnt (Pivot l ∷ us) e h = absurd (All-head IsNoPivot (Pivot l) us h)
+all_learnt (Numbered n ∷ us) e h = absurd (some n (numbers us) e)
   where
     some : (k : ℕ) (ks : List ℕ) → k ∷ ks ≡ [] → ⊥
     some k ks e = cc
 
-pub no_units : (us : List Spent) → All IsLearntUnit us → All IsNumber us → us ≡ []
+pub no_units : (us : List Spent) → All IsLearntUnit us → All IsOfTheory us → us ≡ []
 no_units [] h k = refl
-no_units (Learnt c ∷ us) h k = absurd (All-head IsNumber (Learnt c) us k)
+no_units (Learnt c ∷ us) h k = absurd (All-head IsOfTheory (Learnt c) us k)
 no_units (Numbered n ∷ us) h k = absurd (All-head IsLearntUnit (Numbered n) us h)
+no_units (Pivot l ∷ us) h k = absurd (All-head IsLearntUnit (Pivot l) us h)
 
 -- ---- what is new is new at its place, and isn't empty
 
@@ -229,6 +232,7 @@ module _ (s : Stack) (marks : List Bool) (table : List Atom) (stored : Stored) (
 
           of_unit : (x : Spent) → Contains before x → unit_of table level x ≡ Shown.Learnt e.clause → IsForcedBy known (map (numbered (number_in table)) ls)
           of_unit (Numbered n) c f = cc
+          of_unit (Pivot l) c f = cc
           of_unit (Learnt d) c f =
               let is : clause_of table level d.literals ≡ e.clause = ap (clause_in e.clause) f in
               let within : All (λ (l : Signed). l.atom < length table) d.literals = inside d (All-contains (IsShown q) before (Learnt d) shown c) in

@@ -93,6 +93,7 @@ fn write_unit(
             clause.literals.as_slice(),
         )?)),
         Spent::Numbered(number) => Ok(Unit::Numbered(atom_at(atoms, *number))),
+        Spent::Pivot(_) => unreachable!(),
     }
 }
 

@@ -13,6 +13,7 @@ goes_still t b within = record {
   budget = rw (append-nil b.units);
   units = λ k d lt. absurd (omega arith);
   in_bound = omega arith;
+  no_pivots = λ e k d lt. absurd (omega arith);
   numbered = refl;
   paid = omega arith;
 }

@@ -1,16 +1,19 @@
 -- The laws of a theory's calls.
-use Rattle.std.specs.Prelude.{◌≡◌, ℕ, ◌+◌, ◌<◌, ◌≤◌, true, List, [], ◌∷◌, ◌++◌, length, All, Contains}
+use Rattle.std.specs.Prelude.{◌≡◌, ℕ, ◌+◌, ◌<◌, ◌≤◌, true, false, List, [], ◌∷◌, ◌++◌, length, All, Contains}
 use Rattle.std.specs.List.{range_with_len}
+use Rattle.grid_meaning.specs.declared.Line.{Line}
+use Rattle.grid_meaning.specs.Lines.{IsSoundLine, IsPivotLine}
 use Rattle.literals.specs.Signed.{Signed, literal_true}
 use Rattle.smt_meaning.specs.declared.values.Table.{Table}
 use Rattle.smt_meaning.specs.Interpretation.{AreTablesFor, meaning}
 use Rattle.smt_meaning.specs.Stack.{signature_of}
+use Rattle.smt_meaning.specs.CheckAtoms.{IsBoundOf}
 use Rattle.search_port.specs.State.{Reading, TheoryState, IsGrown, truth, AllFalseIn, IsPressing, IsMadeTrue}
 use Rattle.search_port.specs.Valid.{IsTheoryClause}
 use Rattle.search_port.specs.Spending.{Spending}
 use Rattle.search_port.specs.declared.budget.Lemma.{Lemma}
 use Rattle.search_port.specs.declared.budget.Spent.{Spent}
-use Rattle.search_port.specs.declared.budget.Spent.TheVariants.{Learnt, Numbered}
+use Rattle.search_port.specs.declared.budget.Spent.TheVariants.{Learnt, Numbered, Pivot}
 use Rattle.search_port.specs.declared.budget.Cause.{Cause}
 use Rattle.search_port.specs.declared.budget.Cause.TheVariants.{Units, Memory, Cancelled}
 use Rattle.search_port.specs.declared.bare.Judged.{Judged}
@@ -24,16 +27,28 @@ use Rattle.search_port.specs.declared.theory.Checked.TheVariants.{Fine, Conflict
 
 -- ---- units
 
--- a unit that a theory may spend: an atom that is newly numbered
+-- a pivot by Bland's rule, in a row over numbered atoms
+pub record IsPivot (r : Reading) (l : Line) : Type 0 where
+  pub row : IsSoundLine (IsBoundOf (Contains r.table)) l
+  pub by_rule : IsPivotLine l
+
+-- a unit that a theory may spend: an atom that is newly numbered, or a pivot
 abbrev pub IsTheoryUnit : Reading → Reading → Spent → Type 0
 IsTheoryUnit old new (Learnt c) = ⊥
 IsTheoryUnit old new (Numbered n) = (length old.table ≤ n) × (n < length new.table)
+IsTheoryUnit old new (Pivot l) = IsPivot new l
+
+abbrev pub IsNoPivot : Spent → Type 0
+IsNoPivot (Learnt c) = Unit {0}
+IsNoPivot (Numbered n) = Unit {0}
+IsNoPivot (Pivot l) = ⊥
 
 -- the numbers of the atoms that units number
 abbrev pub numbers : List Spent → List ℕ
 numbers [] = []
 numbers (Learnt c ∷ us) = numbers us
 numbers (Numbered n ∷ us) = n ∷ numbers us
+numbers (Pivot l ∷ us) = numbers us
 
 -- what a call that may spend units keeps and adds
 pub record Goes (old new : TheoryState) (b c : Spending) : Type 0 where
@@ -45,6 +60,8 @@ pub record Goes (old new : TheoryState) (b c : Spending) : Type 0 where
   pub budget : c ≡ record { units = b.units ++ added; limit = b.limit; bound = b.bound; counts_learnt = b.counts_learnt; keeps_lines = b.keeps_lines; share = b.share; short = b.short }
   pub units : All (IsTheoryUnit old.reading new.reading) added
   pub in_bound : length b.units + length added ≤ b.bound
+  -- pivots are units only where their lines are kept
+  pub no_pivots : b.keeps_lines ≡ false → All IsNoPivot added
   -- each new atom is a unit, once and in order
   pub numbered : numbers added ≡ range_with_len (length old.reading.table) (length grown.more)
   -- so each is paid for

@@ -2,6 +2,7 @@
 ghost use Rattle.std.specs.Prelude.{◌≡◌, ℕ, ◌+◌, ◌<◌, ◌≤◌, min, List, [], ◌∷◌, ◌++◌, length, IfOk, OnOk, OnErr};
 ghost use Rattle.search_port.specs.Spending.{Spending};
 
+use grid_meaning::Line;
 use literals::Literal;
 use smt_meaning::Seq;
 use std::alloc::{AllocError, Global};
@@ -34,6 +35,8 @@ pub enum Spent {
     Learnt(Lemma),
     /// An atom that wasn't numbered before, by its number.
     Numbered(u32),
+    /// A pivot, by its line.
+    Pivot(Line),
 }
 
 /// Why a search ended without an answer.
@@ -99,6 +102,14 @@ impl Budget {
         ensures { result.now ≡ self.now.units }
     {
         &self.units
+    }
+
+    /// The units that were spent, oldest first, taken out.
+    pub fn into_units(self) -> Vec<Spent>
+        ensures { result.items ≡ self.units }
+    {
+        let Budget { units, .. } = self;
+        units
     }
 
     /// The learnt clauses to share, oldest first.
