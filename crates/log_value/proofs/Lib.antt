@@ -1,3 +1,2 @@
 pub mod Spreading
 pub mod Deciding
-pub mod Places

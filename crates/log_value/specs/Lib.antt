@@ -1,4 +1,3 @@
 pub mod Places
 pub mod Atoms
 pub mod Verdict
-pub mod Wide

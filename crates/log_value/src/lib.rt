@@ -6,7 +6,6 @@ mod laws;
 mod log;
 mod sums;
 mod values;
-mod wide;
 
 pub use atoms::makes_true;
 pub use laws::truth_is_by_values;
