@@ -1,0 +1,3 @@
+mod Units
+mod Saying
+mod Clausing
