@@ -10,6 +10,8 @@ use Rattle.grid_meaning.specs.Grid.{leaf, turned}
 use Rattle.smt_meaning.specs.declared.clauses.Summand.{Summand}
 use Rattle.smt_meaning.specs.declared.clauses.Atom.{Atom}
 use Rattle.smt_meaning.specs.declared.clauses.Atom.TheVariants.{AtMost}
+use Rattle.smt_meaning.specs.Linear.{summand}
+use Rattle.smt_meaning.specs.Boxes.{term_at_most}
 use Rattle.simplex_steps.specs.State.{column_in, no_column, KeepsBounds}
 use Rattle.simplex.specs.State.{KeepsValues}
 use Rattle.sum_bounds.specs.Bounds as Bounds
@@ -103,6 +105,11 @@ columns_more s u ps k adds table h i d lt =
           (more_atoms table (AtMost ps k) (column_in s.bounds.columns i) (h i no_column w.0))
       | inr p ↦ part_of table ps k (column_in u.bounds.columns i) p
     ])
+
+-- a term alone more, as an atom on it has
+pub columns_leaf : (s u : State) (term : ℕ) (k : ℤ) → AddsSums (λ qs. qs ≡ leaf term) s.bounds u.bounds → AddsColumns s (term_at_most term k) u
+columns_leaf s u term k adds =
+    columns_more s u (summand term (pos 1) ∷ []) k (adds_weaker (λ qs. qs ≡ leaf term) (IsPartIn (plain (summand term (pos 1) ∷ []))) s.bounds u.bounds (λ qs e. inr e) adds)
 
 -- where columns stay, also under an atom more
 pub columns_other : (s u : State) (a : Atom) → u.bounds ≡ s.bounds → AddsColumns s a u

@@ -1,5 +1,5 @@
 //! The log, and the calls on it.
-ghost use Rattle.std.specs.Prelude.{◌≡◌, ◌+◌, ◌<◌, ◌≤◌, ◌^◌, ◌↔◌, IsTrue, false, [], ◌∷◌, ◌++◌, map, take, length, All, Bool, Contains, List, OnOk, OnErr, IfOk, IfErr, IfSome, IfNone};
+ghost use Rattle.std.specs.Prelude.{◌≡◌, ◌+◌, ◌<◌, ◌≤◌, ◌^◌, ◌↔◌, IsTrue, false, [], ◌∷◌, ◌++◌, map, take, length, All, Bool, Contains, List, ℤ, OnOk, OnErr, IfOk, IfErr, IfSome, IfNone};
 ghost use Rattle.number_meaning.specs.Whole.{InRange};
 ghost use Rattle.grid_meaning.specs.Grid.{turned};
 ghost use Rattle.grid_meaning.specs.Lines.{IsBranchLine, IsSoundGrid, IsSoundLine, NextFails};
@@ -10,6 +10,7 @@ ghost use Rattle.simplex_steps.specs.Run.{IsRun, KeepsLines};
 ghost use Rattle.simplex.specs.State.{KeepsValues};
 ghost use Rattle.smt_meaning.specs.declared.clauses.Atom.{Atom};
 ghost use Rattle.smt_meaning.specs.declared.clauses.Atom.TheVariants.{AtMost};
+ghost use Rattle.smt_meaning.specs.Boxes.{term_at_most};
 ghost use Rattle.smt_meaning.specs.CheckAtoms.{IsBoundOf, told};
 ghost use Rattle.sum_bounds.specs.Bounds.{leaf_values, sum_fits, IsFirstIn, AreWhole};
 ghost use Rattle.sum_bounds.specs.Clauses.{plain};
@@ -26,7 +27,7 @@ use crate::plain::plain_sum;
 use crate::report::{Reported, report_of};
 use crate::room::shut_out;
 use crate::said::{Said, assert, push, said_of, start_of};
-use crate::variables::variable_of;
+use crate::variables::{add_leaf, variable_of};
 use fraction128::Fraction;
 use grid_meaning::{Grid, Line, Pending, Seq};
 use literal_steps::lemma_with;
@@ -145,6 +146,17 @@ impl BoundLog {
         ensures { IsTrue result ↔ HasLeaf self.now.bounds.columns term }
     {
         self.bounds.has_leaf(term)
+    }
+
+    /// Gives a term a variable without bounds, where it has none. After an `Err`, for want of memory, it may have one or not.
+    pub fn add_leaf(&mut self, alloc: Global, term: u32) -> Result<(), AllocError>
+        ensures leaf { OnOk result (HasLeaf self.new.bounds.columns term) }
+        ensures log { self.new.log ≡ self.old.log }
+        ensures said { self.new.said ≡ self.old.said }
+        ensures stays { KnowsTheSame self.old self.new }
+        ensures columns { (k : ℤ) → AddsColumns self.old (term_at_most term k) self.new }
+    {
+        add_leaf(&mut self.bounds, alloc, term)
     }
 
     /// The atom with the next number is none that bounds a sum, or bounds the empty one. An `Err`, for want of memory, changes nothing.

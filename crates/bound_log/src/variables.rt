@@ -16,7 +16,7 @@ use sum_bounds::{SumBounds, SumVariable};
 use tableau::Failure;
 
 /// Gives a term a variable where it has none. More variables than can be counted are want of memory.
-fn add_leaf(bounds: &mut SumBounds, alloc: Global, term: u32) -> Result<(), AllocError>
+pub(crate) fn add_leaf(bounds: &mut SumBounds, alloc: Global, term: u32) -> Result<(), AllocError>
     ensures grown { IsGrown bounds.old bounds.new }
     ensures still { AreStill bounds.old bounds.new }
     ensures sums { AddsSums (λ ps. ps ≡ leaf term) bounds.old bounds.new }

@@ -26,50 +26,23 @@ use Rattle.smt_meaning.specs.Stack.{Frame, signature_of, assertions_of, Satisfie
 use Rattle.smt_meaning.specs.Atoms.{pair_atoms, atoms_of, stack_atoms, stack_atoms_are}
 use Rattle.smt_meaning.specs.Boxes.{IsInBox, asserted_atoms, said_atoms, conjuncts, term_at_most, negation_at_most}
 use Rattle.smt_meaning.specs.CheckAtoms.{IsPartOfStack, IsIntPart, IsLeaf, ComparesParts, BoundsInBox, IsFirstAtom, IsBoundOf, IsBranch, WithBranch, WithBranches, EachIsBranch, IsCheckAtom, AreBranches}
+use Rattle.search_port.proofs.Pivots.{bounded_by, resting_by, bound_by, line_over}
 use Rattle.smt_meaning.specs.Ranges.{LeavesInPart, LeavesInPair, IsIntArgument, LeavesInArgument, LeavesInModel, IsKnownColumn, IsOnAtom, LeavesInStep, LeavesRange}
 
 -- ---- lines and grids under more bounds
 
 module _ (B C : Bounding) (more : (sum : List GridSummand) (side : Side) (k : ℤ) → B sum side k → C sum side k) where
-  bounded_by : (c : Column) → IsBoundedBy B c → IsBoundedBy C c
-  bounded_by c h = record { lower = λ k e. more c.sum Lower k (h.lower k e); upper = λ k e. more c.sum Upper k (h.upper k e) }
-
-  resting_by : (c : Column) → IsResting B c → IsResting C c
-  resting_by c (inl e) = inl e
-  resting_by c (inr (side, k, e, b)) = inr (side, k, e, more c.sum side k b)
-
-  line_by : (l : Line) → IsSoundLine B l → IsSoundLine C l
-  line_by l h = record {
-    basic = h.basic;
-    is_basic = h.is_basic;
-    row = h.row;
-    bounded = bounded_by h.basic.column h.bounded;
-    entries_bounded = All-weaker (λ (m : Member). IsBoundedBy B m.column) (λ (m : Member). IsBoundedBy C m.column) (λ m k. bounded_by m.column k) l.entries h.entries_bounded;
-    resting = All-weaker (λ (m : Member). IsResting B m.column) (λ (m : Member). IsResting C m.column) (λ m k. resting_by m.column k) l.entries h.resting;
-  }
-
   grid_by : (g : Grid) → IsSoundGrid B g → IsSoundGrid C g
   grid_by g h = record {
     identities = h.identities;
     meets = h.meets;
-    bounded = λ i l. bounded_by (column_at g i) (h.bounded i l);
-    resting = λ i l e. resting_by (column_at g i) (h.resting i l e);
+    bounded = λ i l. bounded_by B C more (column_at g i) (h.bounded i l);
+    resting = λ i l e. resting_by B C more (column_at g i) (h.resting i l e);
   }
 
 -- ---- more atoms
 
 module _ (Is Js : Atom → Type 0) (more : (a : Atom) → Is a → Js a) where
-  bound_by : (sum : List GridSummand) (side : Side) (k : ℤ) → IsBoundOf Is sum side k → IsBoundOf Js sum side k
-  bound_by sum side k h = record {
-    terms = h.terms;
-    most = h.most;
-    positive = h.positive;
-    atom = more (AtMost h.terms h.most) h.atom;
-    sum_is = h.sum_is;
-    side_is = h.side_is;
-    number_is = h.number_is;
-  }
-
   with_branch_by : (l : Line) (a : Atom) → WithBranch Is l a → WithBranch Js l a
   with_branch_by l a (inl h) = inl (more a h)
   with_branch_by l a (inr h) = inr h
@@ -138,7 +111,7 @@ module _ (ts : List Tree) (fs gs : List Frame) (signature : signature_of fs ≡ 
     term = h.term;
     floor = h.floor;
     leaf = leaf_by h.term h.leaf;
-    row = line_by (IsBoundOf Is) (IsBoundOf Js) (bound_by Is Js more) l h.row;
+    row = line_over Is Js more l h.row;
     branches = h.branches;
   }
 

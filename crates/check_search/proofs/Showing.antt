@@ -1,8 +1,8 @@
 -- What a search over a stack shows where it ends without an answer.
 use Rattle.std.proofs.Common.{◌≡◌, inl, inr, ◌⊎◌, ℕ, suc, ◌+◌, ◌<◌, Bool, true, false, not, List, [], ◌∷◌, ◌++◌, map, length, All, Contains, get_or, subst, sym, ap, ◌∙◌, arith, refl}
-use Rattle.std.specs.Prelude.{ℤ, Option, Some, None, IfSome}
+use Rattle.std.specs.Prelude.{ℤ, Option, Some, None, IfSome, MatchBool}
 use Rattle.std.specs.List.{range_with_len}
-use Rattle.std.proofs.lemmas.List.{length-map, length-append}
+use Rattle.std.proofs.lemmas.List.{length-map, length-append, map-append}
 use Rattle.std.proofs.lemmas.List.Elements.{All-nil, All-weaker, All-contains, Contains-append_right}
 use Rattle.literals.specs.Signed.{Signed}
 use Rattle.clause_store.specs.Stored.{Kept, Stored}
@@ -18,25 +18,26 @@ use Rattle.smt_meaning.specs.StackCommand.{Stack}
 use Rattle.smt_meaning.specs.Atoms.{stack_atoms}
 use Rattle.smt_meaning.specs.CheckAtoms.{IsCheckAtom}
 use Rattle.smt_meaning.specs.Ranges.{LeavesRange}
-use Rattle.smt_meaning.specs.Report.{IsUnit, AreUnits, is_unlimited, most_units}
+use Rattle.smt_meaning.specs.Report.{IsPivot, IsUnit, IsUnlisted, AreUnits, is_unlimited, most_units}
 use Rattle.scope_stack.specs.Shown.{IsLawful}
 use Rattle.search_port.specs.State.{Reading, TheoryState, IsGrown, atom_at}
 use Rattle.search_port.specs.Showing.{IsShowing}
 use Rattle.search_port.specs.Spending.{Spending}
 use Rattle.search_port.specs.Valid.{FollowsAt, FollowsAsWritten}
 use Rattle.search_port.specs.Forcing.{ForcesByNumbers, ForcesInTurn}
-use Rattle.search_port.specs.Calls.{numbers}
+use Rattle.search_port.specs.Calls.{IsNoPivot, numbers}
 use Rattle.search_port.specs.declared.shown.Showing.{Showing}
 use Rattle.search_port.specs.declared.budget.Spent.{Spent}
-use Rattle.search_port.specs.declared.budget.Spent.TheVariants.{Learnt, Numbered}
+use Rattle.search_port.specs.declared.budget.Spent.TheVariants.{Learnt, Numbered, Pivot}
 use Rattle.search_port.proofs.Forcing.{in_map}
+use Rattle.search_port.proofs.Pivots.{line_over}
 use Rattle.flat_stack.specs.Flat.{flat, FlatSaysTheSame}
 use Rattle.check_atoms.specs.Laws.{IsSameOfBools}
 use Rattle.part_clauses.specs.First.{ForcesParts, IsAsserted, IsForced, written_literal}
 use Rattle.check_clauses.specs.First.{reading_of, IsFirst}
 use Rattle.cdcl_core.specs.Search.{literal_lists}
-use Rattle.cdcl_core.specs.Turns.{AreNew, IsShown, IsNumber, Searches}
-use Rattle.check_search.specs.Shown.{HasStackAtoms, unit_of, IsOfNumbers, NumbersNoBools, ShowsUnits}
+use Rattle.cdcl_core.specs.Turns.{AreNew, IsShown, IsOfTheory, Searches}
+use Rattle.check_search.specs.Shown.{HasStackAtoms, unit_of, IsOfNumbers, NumbersNoBools, ChangeRows, ShowsUnits}
 use Rattle.check_search.proofs.Lists.{Cut, cut, IsAfter, in_order, all_of, at_any, first_or_later, front_in, in_middle}
 use Rattle.check_search.proofs.Numbers.{same_front}
 use Rattle.check_search.proofs.SameStack.{check_atom_by, branches_by, range_by}
@@ -54,12 +55,14 @@ pub record IsBudget (limit : ℤ) (b : Spending) : Type 0 where
   pub units : b.units ≡ []
   pub limit_is : b.limit ≡ most_units limit
   pub counts : b.counts_learnt ≡ not (is_unlimited limit)
+  pub keeps : b.keeps_lines ≡ not (is_unlimited limit)
 
-pub budget_of : (limit : ℤ) (b : Spending) (k : ℕ) (v : Bool) → b ≡ record { units = []; limit = k; bound = k; counts_learnt = v; keeps_lines = false; share = 0; short = [] } → k ≡ most_units limit → v ≡ not (is_unlimited limit) → IsBudget limit b
+pub budget_of : (limit : ℤ) (b : Spending) (k : ℕ) (v : Bool) → b ≡ record { units = []; limit = k; bound = k; counts_learnt = v; keeps_lines = v; share = 0; short = [] } → k ≡ most_units limit → v ≡ not (is_unlimited limit) → IsBudget limit b
 budget_of limit b k v e most counts = record {
   units = ap (λ (x : Spending). x.units) e;
   limit_is = ap (λ (x : Spending). x.limit) e ∙ most;
   counts = ap (λ (x : Spending). x.counts_learnt) e ∙ counts;
+  keeps = ap (λ (x : Spending). x.keeps_lines) e ∙ counts;
 }
 
 -- ---- what a theory shows, by the levels of the stack
@@ -137,16 +140,17 @@ of_numbers before after b c none shown = λ k d lt. one (get_or c.units k d) (al
     one : (y : Spent) → IsShown after y → IsOfNumbers (length after.table) y
     one (Learnt d) h = all_of (λ (l : Signed). l.atom < length after.table) d.literals (λ l k. h.0.1.within l k)
     one (Numbered n) h = h
+    one (Pivot l) h = tt
 
--- where nothing limits the units, no learnt clause is one
-limited : (limit : ℤ) (v : Bool) (b c : Spending) (x : Spent) → is_unlimited limit ≡ v → IsBudget limit b → (b.counts_learnt ≡ false → All IsNumber b.units → All IsNumber c.units) → Contains c.units x → (IsNumber x → ⊥) → v ≡ false
-limited limit false b c x e begin free among other = refl
-limited limit true b c x e begin free among other =
-    absurd (other (All-contains IsNumber c.units x (free (begin.counts ∙ ap not e) (subst (λ (us : List Spent). All IsNumber us) (sym begin.units) (All-nil IsNumber))) among))
+-- there is a limit where one of the units is none of those that there are without one
+limited : (P : Spent → Type 0) (counts v : Bool) (us vs : List Spent) (x : Spent) → counts ≡ not v → us ≡ [] → (counts ≡ false → All P us → All P vs) → Contains vs x → (P x → ⊥) → v ≡ false
+limited P counts false us vs x e none free among other = refl
+limited P counts true us vs x e none free among other = absurd (other (All-contains P vs x (free e (subst (λ (ws : List Spent). All P ws) (sym none) (All-nil P))) among))
 
 has_number : (us : List Spent) (m : ℕ) → Contains us (Numbered m) → Contains (numbers us) m
 has_number [] m h = absurd (omega (arith, h.1))
 has_number (Learnt c ∷ us) m h = first_or_later (Contains (numbers us) m) (Learnt c) (Numbered m) us (λ e. absurd cc) (λ later. has_number us m later) h
+has_number (Pivot l ∷ us) m h = first_or_later (Contains (numbers us) m) (Pivot l) (Numbered m) us (λ e. absurd cc) (λ later. has_number us m later) h
 has_number (Numbered n ∷ us) m h =
     first_or_later (Contains (n ∷ numbers us) m) (Numbered n) (Numbered m) us (λ e. subst (Contains (n ∷ numbers us)) (number_is e) (in_middle [] (numbers us) n))
     (λ later. Contains-append_right (n ∷ []) (numbers us) m (has_number us m later)) h
@@ -154,6 +158,7 @@ has_number (Numbered n ∷ us) m h =
     number_of : Spent → ℕ
     number_of (Learnt c) = 0
     number_of (Numbered k) = k
+    number_of (Pivot l) = 0
 
     number_is : Numbered n ≡ Numbered m → n ≡ m
     number_is e = ap number_of e
@@ -179,7 +184,8 @@ module _ (laws : Laws) (s : Stack) (stored new : Stored) (lawful : IsLawful s) (
   of_stack : (a : Atom) → Contains (stack_atoms s.trees s.frames) a → ((m : ℕ) × (m < length t.reading.table) × (atom_at u.reading.table m ≡ a)) ⊎ IsSameOfBools s a
   of_stack a h = elim (all a h) [ inl k ↦ inl (first_number a k) | inr b ↦ inr b ]
 
-  module _ (x : Showing) (shown : IsShowing (by_levels s u.reading) x) (others : All (NumbersNoBools s) (map (unit_of u.reading.table (depth s.frames)) c.units)) where
+  module _ (x : Showing) (shown : IsShowing (by_levels s u.reading) x) (others : All (NumbersNoBools s) (map (unit_of u.reading.table (depth s.frames)) c.units))
+      (change : ChangeRows (map (unit_of u.reading.table (depth s.frames)) c.units)) where
     last : IsLast s x.branches stored u.reading
     last = record {
       trees = trees_stay s t.reading u.reading begins run.turns.grown;
@@ -207,9 +213,19 @@ module _ (laws : Laws) (s : Stack) (stored new : Stored) (lawful : IsLawful s) (
         let here : Contains c.units (Learnt d) = subst (λ us. Contains us (Learnt d)) (sym e) (in_middle before after (Learnt d)) in
         let news : AreNew false stored.clauses [] (before ++ Learnt d ∷ after) = subst (AreNew false stored.clauses []) e (run.new_units budget.units) in
         learnt s x.branches stored u.reading last lawful laws.as_written laws.by_numbers laws.in_turn laws.flatly limit
-        (limited limit (is_unlimited limit) b c (Learnt d) refl budget run.turns.spends.free here (λ h. h)) before d
+        (limited IsOfTheory b.counts_learnt (is_unlimited limit) b.units c.units (Learnt d) budget.counts budget.units run.turns.spends.free here (λ h. h)) before d
         (front_in (IsShown u.reading) before (Learnt d ∷ after) (subst (λ (us : List Spent). All (IsShown u.reading) us) e shown_all)) (All-contains (IsShown u.reading) c.units (Learnt d) shown_all here)
         (new_front stored.clauses [] before (Learnt d ∷ after) news) (new_at stored.clauses [] before after (Learnt d) news)
+    one_unit before after (Pivot l) e =
+        let here : Contains c.units (Pivot l) = subst (λ us. Contains us (Pivot l)) (sym e) (in_middle before after (Pivot l)) in
+        let is : IsShown u.reading (Pivot l) = All-contains (IsShown u.reading) c.units (Pivot l) shown_all here in
+        let counted : is_unlimited limit ≡ false = limited IsNoPivot b.keeps_lines (is_unlimited limit) b.units c.units (Pivot l) budget.keeps budget.units run.turns.spends.no_pivots here (λ h. h) in
+        let written : List Spent → List ShownUnit = map (unit_of u.reading.table (depth s.frames)) in
+        subst (λ v. MatchBool v (IsUnlisted s.trees s.frames l) (IsPivot s.trees s.frames x.branches (written before) l)) (sym counted) (record {
+          row = line_over (Contains u.reading.table) (IsCheckAtom s.trees s.frames x.branches) (λ a k. All-contains (IsCheckAtom s.trees s.frames x.branches) u.reading.table a shown.atoms k) l is.row;
+          by_rule = is.by_rule;
+          others = λ m newest. change (written before) (written after) l m (ap written e ∙ map-append (unit_of u.reading.table (depth s.frames)) before (Pivot l ∷ after)) newest;
+        })
 
     are_units : AreUnits s.trees s.frames x.branches limit 0 (map (unit_of u.reading.table (depth s.frames)) c.units)
     are_units before after y e =
@@ -218,6 +234,6 @@ module _ (laws : Laws) (s : Stack) (stored new : Stored) (lawful : IsLawful s) (
         (subst (IsUnit s.trees s.frames x.branches limit 0 (map (unit_of u.reading.table (depth s.frames)) r.front)) r.one_is (one_unit r.front r.back r.one r.is))
 
   pub shows_units : length c.units ≡ c.limit → ShowsUnits s limit u.reading c.units
-  shows_units spent x h others =
+  shows_units spent x h others change =
       let shown : IsShowing (by_levels s u.reading) x = shown_by_levels laws.flatly s u.reading x (trees_stay s t.reading u.reading begins run.turns.grown) (frames_stay s t.reading u.reading begins run.turns.grown) h in
-      (length-map c.units (unit_of u.reading.table (depth s.frames)) ∙ (spent ∙ (run.turns.limit ∙ budget.limit_is)), shown.branches, are_units x shown others)
+      (length-map c.units (unit_of u.reading.table (depth s.frames)) ∙ (spent ∙ (run.turns.limit ∙ budget.limit_is)), shown.branches, are_units x shown others change)

@@ -36,7 +36,7 @@ use Rattle.search_port.specs.Forcing.{numbered, ForcesByNumbers, ForcesInTurn, I
 use Rattle.search_port.specs.Calls.{numbers}
 use Rattle.search_port.specs.declared.budget.Lemma.{Lemma}
 use Rattle.search_port.specs.declared.budget.Spent.{Spent}
-use Rattle.search_port.specs.declared.budget.Spent.TheVariants.{Learnt, Numbered}
+use Rattle.search_port.specs.declared.budget.Spent.TheVariants.{Learnt, Numbered, Pivot}
 use Rattle.search_port.proofs.Forcing.{ComesBy, from_map, in_map}
 use Rattle.forced_clauses.proofs.More.{forces_more}
 use Rattle.flat_stack.specs.Flat.{flat, FlatSaysTheSame, SaysTheSame}
@@ -54,6 +54,7 @@ pub numbers_of_both : (us vs : List Spent) → numbers (us ++ vs) ≡ numbers us
 numbers_of_both [] vs = refl
 numbers_of_both (Learnt c ∷ us) vs = numbers_of_both us vs
 numbers_of_both (Numbered n ∷ us) vs = ap (λ ns. n ∷ ns) (numbers_of_both us vs)
+numbers_of_both (Pivot l ∷ us) vs = numbers_of_both us vs
 
 -- ---- what is new is new at its place, and isn't empty
 
@@ -177,6 +178,7 @@ module _ (s : Stack) (branches : List Line) (stored : Stored) (q : Reading) (las
 
         of_unit : (x : Spent) → Contains before x → unit_of q.table level x ≡ Shown.Learnt e.clause → IsForcedBy known (map (numbered (number_in q.table)) ls)
         of_unit (Numbered n) c f = cc
+        of_unit (Pivot l) c f = cc
         of_unit (Learnt d) c f =
             let is : clause_of q.table level d.literals ≡ e.clause = ap (clause_in e.clause) f in
             let within : All (λ (l : Signed). l.atom < length q.table) d.literals = inside d (All-contains (IsShown q) before (Learnt d) shown c) in
@@ -267,6 +269,7 @@ module _ (s : Stack) (branches : List Line) (stored : Stored) (q : Reading) (las
 
         of_unit : (x : Spent) → Contains before x → unit_of q.table level x ≡ Shown.Numbered (atom_at q.table n) → ⊥
         of_unit (Learnt d) c f = cc
+        of_unit (Pivot l) c f = cc
         of_unit (Numbered m) c f =
             let below : m < n = earlier m c in
             let same : m ≡ n = last.apart m n (omega (arith, below, within)) within (ap (atom_in (Truth 0)) f) in

@@ -1,6 +1,8 @@
 -- What a search asks of its first atoms, and what its worker shows of the units that it has spent.
-use Rattle.std.specs.Prelude.{◌⊎◌, ℕ, ℤ, ◌<◌, List, map, All, Contains}
+use Rattle.std.specs.Prelude.{◌≡◌, ◌⊎◌, ℕ, ℤ, ◌<◌, List, ◌∷◌, ◌++◌, map, Option, Some, All, Contains}
 use Rattle.literals.specs.Signed.{Signed}
+use Rattle.grid_meaning.specs.declared.Line.{Line}
+use Rattle.grid_meaning.specs.Lines.{HaveOthers}
 use Rattle.smt_meaning.specs.declared.clauses.Atom.{Atom}
 use Rattle.smt_meaning.specs.declared.clauses.Clause.{Clause}
 use Rattle.smt_meaning.specs.declared.reports.Unit.{Unit as ShownUnit}
@@ -9,11 +11,11 @@ use Rattle.smt_meaning.specs.declared.reports.Cause.TheVariants.{Units}
 use Rattle.smt_meaning.specs.Stack.{depth}
 use Rattle.smt_meaning.specs.StackCommand.{Stack}
 use Rattle.smt_meaning.specs.Atoms.{stack_atoms}
-use Rattle.smt_meaning.specs.Report.{Shows}
+use Rattle.smt_meaning.specs.Report.{last_pivot, Shows}
 use Rattle.search_port.specs.State.{Reading, atom_at}
 use Rattle.search_port.specs.Showing.{IsShowing}
 use Rattle.search_port.specs.declared.budget.Spent.{Spent}
-use Rattle.search_port.specs.declared.budget.Spent.TheVariants.{Learnt, Numbered}
+use Rattle.search_port.specs.declared.budget.Spent.TheVariants.{Learnt, Numbered, Pivot}
 use Rattle.search_port.specs.declared.shown.Showing.{Showing}
 use Rattle.check_atoms.specs.Laws.{IsSameOfBools}
 use Rattle.part_clauses.specs.First.{written_literal}
@@ -30,11 +32,13 @@ clause_of table level ls = record { literals = map (written_literal table) ls; l
 abbrev pub unit_of : List Atom → ℕ → Spent → ShownUnit
 unit_of table level (Learnt c) = Shown.Learnt (clause_of table level c.literals)
 unit_of table level (Numbered n) = Shown.Numbered (atom_at table n)
+unit_of table level (Pivot l) = Shown.Pivot l
 
 -- it speaks of so many numbers
 abbrev pub IsOfNumbers : ℕ → Spent → Type 0
 IsOfNumbers n (Learnt c) = All (λ (l : Signed). l.atom < n) c.literals
 IsOfNumbers n (Numbered k) = k < n
+IsOfNumbers n (Pivot l) = Unit {0}
 
 -- the unit numbers no equality of Bools
 abbrev pub NumbersNoBools : Stack → ShownUnit → Type 0
@@ -42,7 +46,12 @@ NumbersNoBools s (Shown.Learnt c) = Unit {0}
 NumbersNoBools s (Shown.Numbered a) = IsSameOfBools s a → ⊥
 NumbersNoBools s (Shown.Pivot l) = Unit {0}
 
--- with what a theory of this reading shows, its worker shows that these are all units that it may spend, their clauses at the level of the whole stack, if they number no equality of Bools
+-- each pivot has another basic variable than the one before it
+abbrev pub ChangeRows : List ShownUnit → Type 0
+ChangeRows us = (before after : List ShownUnit) (l m : Line) → us ≡ before ++ Shown.Pivot l ∷ after → last_pivot before ≡ Some m → HaveOthers m l
+
+-- with what a theory of this reading shows, its worker shows that these are all units that it may spend, their clauses at the level of the whole stack, if they number no equality of Bools, and
+-- each pivot has another basic variable than the one before it
 abbrev pub ShowsUnits : Stack → ℤ → Reading → List Spent → Type 0
 ShowsUnits s limit q us =
-    (t : Showing) → IsShowing q t → All (NumbersNoBools s) (map (unit_of q.table (depth s.frames)) us) → Shows s.trees s.frames limit 0 t.branches (Units (map (unit_of q.table (depth s.frames)) us))
+    (t : Showing) → IsShowing q t → All (NumbersNoBools s) (map (unit_of q.table (depth s.frames)) us) → ChangeRows (map (unit_of q.table (depth s.frames)) us) → Shows s.trees s.frames limit 0 t.branches (Units (map (unit_of q.table (depth s.frames)) us))

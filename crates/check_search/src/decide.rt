@@ -30,8 +30,8 @@ use theory_port::Verdict;
 /// The most units of work of a check.
 const MOST_UNITS: u64 = 1 << 40;
 
-/// Whether learnt clauses are units: where there is a limit.
-fn counts_learnt(settings: &Settings) -> bool
+/// Whether there is a limit: under one learnt clauses and pivots are units too, and lines of pivots are kept.
+fn has_limit(settings: &Settings) -> bool
     ensures { result ≡ not (is_unlimited settings.now.units) }
 {
     settings.units > 0
@@ -108,7 +108,8 @@ pub fn search<T: Shown>(
     forces_in_turn();
     let mut order = Order::new(alloc, settings.seed, 0);
     let limit = units_within(settings);
-    let mut budget = Budget::new(alloc, limit, counts_learnt(settings), false, 0);
+    let limited = has_limit(settings);
+    let mut budget = Budget::new(alloc, limit, limited, limited, 0);
     let mut still = Still { alloc, stack };
     match solve(
         alloc,
@@ -121,7 +122,7 @@ pub fn search<T: Shown>(
     ) {
         Outcome::Full(tables) => model(alloc, stack, settings, tables),
         Outcome::False(_) => Ok(Verdict::Unsat),
-        Outcome::Ended(Ending::Units) => all_spent(alloc, stack, settings, theory, &budget),
+        Outcome::Ended(Ending::Units) => all_spent(alloc, stack, settings, theory, budget),
         Outcome::Ended(Ending::Memory) => stopped(alloc, stack, settings, theory),
         Outcome::Ended(Ending::Cancelled(_)) => unreachable!(),
     }

@@ -4,8 +4,10 @@
 mod bools;
 mod decide;
 mod ending;
+mod pivots;
 mod shown;
 mod still;
 
 pub use decide::search;
+pub use ending::out_of_range;
 pub use shown::unknown;

@@ -43,10 +43,10 @@ fn write_unit<T: Shown>(
     alloc: Global,
     theory: &T,
     level: u16,
-    unit: &Spent,
+    unit: Spent,
 ) -> Result<Unit, AllocError>
-    requires { IsOfNumbers (length (T.state theory.now).reading.table) unit.now }
-    ensures { IfOk result (λ u. u ≡ unit_of (T.state theory.now).reading.table level unit.now) }
+    requires { IsOfNumbers (length (T.state theory.now).reading.table) unit }
+    ensures { IfOk result (λ u. u ≡ unit_of (T.state theory.now).reading.table level unit) }
 {
     match unit {
         Spent::Learnt(clause) => Ok(Unit::Learnt(write_clause(
@@ -55,7 +55,8 @@ fn write_unit<T: Shown>(
             level,
             clause.literals.as_slice(),
         )?)),
-        Spent::Numbered(number) => Ok(Unit::Numbered(theory.atom(alloc, *number)?)),
+        Spent::Numbered(number) => Ok(Unit::Numbered(theory.atom(alloc, number)?)),
+        Spent::Pivot(line) => Ok(Unit::Pivot(line)),
     }
 }
 
@@ -64,10 +65,10 @@ pub(crate) fn write_units<T: Shown>(
     alloc: Global,
     theory: &T,
     level: u16,
-    units: &[Spent],
+    units: Vec<Spent>,
 ) -> Result<Seq<Unit>, AllocError>
-    requires { All (IsOfNumbers (length (T.state theory.now).reading.table)) units.now }
-    ensures { IfOk result (λ us. us ≡ map (unit_of (T.state theory.now).reading.table level) units.now) }
+    requires { All (IsOfNumbers (length (T.state theory.now).reading.table)) units.items }
+    ensures { IfOk result (λ us. us ≡ map (unit_of (T.state theory.now).reading.table level) units.items) }
 {
     let mut written = Seq::new(alloc);
     for unit in units {

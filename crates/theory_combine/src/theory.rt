@@ -6,7 +6,9 @@ use search_port::{Asserted, Budget, Checked, Inferred, Showing, Shown, Theory};
 use smt_meaning::{Atom, Seq};
 use std::alloc::{AllocError, Global};
 use std::marker::Model;
-use theory_steps::{Begun, Parts, Progress, begin, check, look, show, tell, undo_to, written};
+use theory_steps::{
+    Begun, BoundError, Parts, Progress, begin, check, look, show, tell, undo_to, written,
+};
 
 /// The theory of equality and of whole numbers together, for the parts of a stack.
 #[derive(Drop)]
@@ -30,12 +32,13 @@ impl<'s> Model for Combined<'s> {
 }
 
 impl<'s> Combined<'s> {
-    ghost use Rattle.std.specs.Prelude.{◌≡◌, [], IfOk};
+    ghost use Rattle.std.specs.Prelude.{◌≡◌, [], IfOk, IfErr};
     ghost use Rattle.stack_atoms.specs.Marks.{AreStackParts};
     ghost use Rattle.check_atoms.specs.OfStack.{AreCheckAtoms};
     ghost use Rattle.linear_forms.specs.Table.{AreForms};
     ghost use Rattle.closure_log.specs.Seen.{state_of};
     ghost use Rattle.theory_steps.specs.Begin.{IsBegun};
+    ghost use Rattle.theory_steps.specs.Errors.{IsErrorSeen};
 
     /// The theory of what is begun.
     fn start(alloc: Global, stack: &'s Stack, parts: CheckAtoms, begun: Begun) -> Self
@@ -63,16 +66,19 @@ impl<'s> Combined<'s> {
         }
     }
 
-    /// Nothing is told of the parts of a stack and their atoms. An `Err` is for want of memory, or where a row of a sum leaves the range; a stack of 2^32 - 3
-    /// terms or more leaves none.
-    pub fn new(alloc: Global, stack: &'s Stack, parts: CheckAtoms) -> Result<Self, AllocError>
+    /// Nothing is told of the parts of a stack and their atoms. An `Err` is for want of memory, of which a stack of 2^32 - 3 terms or more leaves none, or shows
+    /// that a row of an atom leaves the range.
+    pub fn new(alloc: Global, stack: &'s Stack, parts: CheckAtoms) -> Result<Self, BoundError>
         requires marks { AreStackParts stack.now parts.marks.items }
         requires atoms { AreCheckAtoms stack.now parts.marks.items parts.atoms.atoms }
         requires forms { AreForms stack.now.trees parts.forms }
-        ensures { IfOk result (λ theory. theory ≡ state_of stack.now parts.atoms.atoms []) }
+        ensures ok { IfOk result (λ theory. theory ≡ state_of stack.now parts.atoms.atoms []) }
+        ensures err { IfErr result (IsErrorSeen stack.now []) }
     {
-        let begun = begin(alloc, stack, &parts.marks, &parts.atoms)?;
-        Ok(Combined::start(alloc, stack, parts, begun))
+        match begin(alloc, stack, &parts.marks, &parts.atoms) {
+            Ok(begun) => Ok(Combined::start(alloc, stack, parts, begun)),
+            Err(error) => Err(error),
+        }
     }
 }
 

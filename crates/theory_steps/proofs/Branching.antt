@@ -1,7 +1,6 @@
 -- One branch more.
-use Rattle.std.proofs.Common.{◌≡◌, ◌⊎◌, ℕ, List, [], ◌∷◌, ◌++◌, ℤ, pos, Some, All, Contains, inl, inr}
-use Rattle.std.proofs.lemmas.List.Elements.{All-weaker, All-contains}
-use Rattle.number_meaning.specs.Number.{whole}
+use Rattle.std.proofs.Common.{List, [], ◌∷◌, ◌++◌, ℤ, inl, inr}
+use Rattle.std.proofs.lemmas.List.Elements.{All-weaker}
 use Rattle.grid_meaning.specs.declared.Summand.{Summand as GridSummand}
 use Rattle.grid_meaning.specs.declared.Side.{Side}
 use Rattle.grid_meaning.specs.declared.Side.TheVariants.{Lower, Upper}

@@ -15,7 +15,7 @@ use Rattle.smt_meaning.specs.Linear.{linear_form, form_fits, folding_fits}
 use Rattle.smt_meaning.specs.Clause.{sum_places}
 use Rattle.smt_meaning.specs.Comparisons.{pair_fits}
 use Rattle.smt_meaning.specs.Atoms.{pair_atoms, at_most_atom, atoms_of, stack_atoms, stack_atoms_are}
-use Rattle.smt_meaning.specs.Stack.{signature_of, assertions_of}
+use Rattle.smt_meaning.specs.Stack.{signature_of}
 use Rattle.smt_meaning.specs.StackCommand.{Stack}
 use Rattle.smt_meaning.specs.CheckAtoms.{IsPartOfStack, IsIntPart, IsLeaf, ComparesParts, IsFirstAtom}
 use Rattle.smt_meaning.specs.Ranges.{LeavesInPart, LeavesInPair}
@@ -50,12 +50,12 @@ module _ (flat_law : FlatSaysTheSame) (s : Stack) (marks : List Bool) (of_assert
   same : SaysTheSame s.frames
   same = flat_law s.frames
 
-  part : (p : ℕ) → is_marked marks p ≡ true → IsPartOfStack (flat s.frames) (tree_at s.trees p)
+  pub part : (p : ℕ) → is_marked marks p ≡ true → IsPartOfStack (flat s.frames) (tree_at s.trees p)
   part p marked =
       let of : IsPartOfStack s.frames (tree_at s.trees p) = of_assertions p marked in
       record { assertion = of.assertion; asserted = subst (λ (us : List Tree). Contains us of.assertion) (sym same.assertions) of.asserted; part = of.part }
 
-  int_part : (p : ℕ) → p < length s.trees → is_marked marks p ≡ true → tree_sort (signature_of s.frames) (tree_at s.trees p) ≡ Some Ints → IsIntPart s.trees (flat s.frames) (tree_at s.trees p) p
+  pub int_part : (p : ℕ) → p < length s.trees → is_marked marks p ≡ true → tree_sort (signature_of s.frames) (tree_at s.trees p) ≡ Some Ints → IsIntPart s.trees (flat s.frames) (tree_at s.trees p) p
   int_part p within marked int = record {
     part = part p marked;
     int = subst (λ (ds : List Declaration). tree_sort ds (tree_at s.trees p) ≡ Some Ints) (sym same.signature) int;

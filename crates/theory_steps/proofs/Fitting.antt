@@ -8,6 +8,7 @@ use Rattle.smt_meaning.specs.declared.values.Sort.{Sort}
 use Rattle.smt_meaning.specs.declared.values.Sort.TheVariants.{Bool as Truths, Int as Ints}
 use Rattle.smt_meaning.specs.declared.clauses.Summand.{Summand}
 use Rattle.smt_meaning.specs.Term.{tree_at}
+use Rattle.smt_meaning.specs.Signature.{tree_sort}
 use Rattle.smt_meaning.specs.CheckAtoms.{is_leaf}
 use Rattle.smt_meaning.specs.Linear.{sum_fits}
 use Rattle.smt_meaning.specs.Stack.{signature_of}
@@ -37,13 +38,18 @@ fit s marks readable sorts p parts reads are marked is_readable int =
       readable = reads p marked is_readable;
     }
 
+-- a marked place whose listed sort is Int
+pub marked_int : (s : Stack) (marks : List Bool) (sorts : List Sort) (p : ℕ) → AreSortedParts (signature_of s.frames) s.trees marks → AreSorts (signature_of s.frames) s.trees (length s.trees) sorts
+    → is_marked marks p ≡ true → slice_index_or sorts p Truths ≡ Ints → tree_sort (signature_of s.frames) (tree_at s.trees p) ≡ Some Ints
+marked_int s marks sorts p parts are marked int =
+    let has = parts.sorted p marked in
+    let sort : has.0 ≡ Ints = sym (are.each p has.0 (in_list s marks p parts marked) has.1) ∙ int in
+    has.1 ∙ ap (λ (t : Sort). Some t) sort
+
 pub marked_leaf : (s : Stack) (marks : List Bool) (sorts : List Sort) (p : ℕ) → AreSortedParts (signature_of s.frames) s.trees marks → AreSorts (signature_of s.frames) s.trees (length s.trees) sorts
     → is_marked marks p ≡ true → slice_index_or sorts p Truths ≡ Ints → is_leaf (tree_at s.trees p) ≡ true → IsMarkedLeaf s marks p
 marked_leaf s marks sorts p parts are marked int leaf =
-    let within : p < length s.trees = in_list s marks p parts marked in
-    let has = parts.sorted p marked in
-    let sort : has.0 ≡ Ints = sym (are.each p has.0 within has.1) ∙ int in
-    record { within = within; marked = marked; is_int = has.1 ∙ ap (λ (t : Sort). Some t) sort; leaf = leaf }
+    record { within = in_list s marks p parts marked; marked = marked; is_int = marked_int s marks sorts p parts are marked int; leaf = leaf }
 
 and_first : (a b : Bool) → (a && b) ≡ true → a ≡ true
 and_first true b e = refl

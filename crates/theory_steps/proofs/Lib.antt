@@ -1,12 +1,15 @@
 pub mod Beginning
 pub mod Branching
 pub mod Comparing
+pub mod Cycling
 pub mod Fitting
 pub mod Following
 pub mod Going
 pub mod Holding
+pub mod Leaving
 pub mod Marking
 pub mod Numbers
+pub mod Outside
 pub mod Own
 pub mod Past
 pub mod Rows

@@ -14,10 +14,12 @@ use Rattle.closure_log.specs.Places.{ArePlaces}
 use Rattle.closure_log.specs.Seen.{IsOfTerms, IsSetting}
 use Rattle.closure_log.specs.Told.{IsTold}
 use Rattle.bound_log.specs.Atoms.{Knows, KnowsOneMore}
-use Rattle.bound_log.specs.Columns.{AddsColumns, HasColumnsOf}
+use Rattle.bound_log.specs.Columns.{AddsColumns}
 use Rattle.theory_steps.specs.declared.held.Held.{Held}
 use Rattle.theory_steps.specs.declared.numbering.NewAtom.{NewAtom}
+use Rattle.theory_steps.specs.Columns.{HasKnownColumns}
 use Rattle.theory_steps.specs.Numbering.{atom_of, IsNew, IsWhole}
+use Rattle.theory_steps.proofs.Telling.{adds_known}
 
 setting_more : (s : Stack) (marks : List Bool) (table : List Atom) (a : NewAtom) → IsSetting s table → IsNew s marks a → IsSetting s (table ++ atom_of a ∷ [])
 setting_more s marks table a setting new = record {
@@ -40,7 +42,7 @@ whole_more stays s marks old new a h k e whole is_new same_closure knows columns
     knows = subst (λ (table : List Atom). Knows table k.bounds) (sym e) (knows old.atoms whole.held.knows);
     same = same_log ∙ whole.held.same ∙ ap (λ (c : ClosureLog). c.log.items) (sym same_closure);
     size = size;
-    columns = subst (λ (table : List Atom). HasColumnsOf table k.bounds) (sym e) (columns old.atoms whole.held.columns);
+    columns = subst (λ (table : List Atom). HasKnownColumns s table k.bounds) (sym e) (adds_known s old.atoms (atom_of a) h.bounds k.bounds columns whole.held.columns);
     told_at = subst (λ (c : ClosureLog). ArePlaces c.log.items k.scan.places.items) (sym same_closure) (places h.closure.log.items whole.held.told_at);
   };
 }

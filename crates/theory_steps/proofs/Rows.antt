@@ -1,5 +1,5 @@
 -- The row of a branch more.
-use Rattle.std.proofs.Common.{◌<◌, ℕ, Bool, ℤ, List, [], ◌∷◌, ◌++◌, All, Contains, refl, arith}
+use Rattle.std.proofs.Common.{ℕ, Bool, ℤ, List, [], ◌∷◌, ◌++◌, Contains, refl, arith}
 use Rattle.std.specs.Prelude.{Option, None}
 use Rattle.std.proofs.lemmas.List.Elements.{All-weaker, All-contains}
 use Rattle.grid_meaning.specs.declared.Line.{Line}

@@ -1,4 +1,7 @@
+pub mod Argument
 pub mod Begin
+pub mod Columns
+pub mod Errors
 pub mod Found
 pub mod Held
 pub mod Numbering

@@ -4,6 +4,7 @@ ghost use Rattle.search_port.specs.State.{IsOpenIn};
 ghost use Rattle.search_port.specs.Calls.{AssertedBy, CheckedBy, InferredBy};
 ghost use Rattle.theory_steps.specs.Progress.{state, AreParts, IsProgress, Went};
 
+use crate::errors::seen_of;
 use crate::held::{tell_both, undo_both};
 use crate::judge::{infer_more, judge};
 use crate::parts::{Parts, Progress};
@@ -11,7 +12,7 @@ use literals::Literal;
 use search_port::{Asserted, Budget, Cause, Checked, Inferred};
 
 /// Tells one literal more. A conflict is a clause of the theory that is false under what is told; where memory is wanting, or a bound leaves the range, the literal
-/// isn't taken.
+/// isn't taken, and the bound is kept to be shown.
 pub fn tell(parts: &Parts<'_>, progress: &mut Progress, literal: Literal) -> Asserted
     requires progress { IsProgress parts.now progress.old }
     requires numbered { literal.atom < length (state parts.now progress.old).reading.table }
@@ -21,14 +22,23 @@ pub fn tell(parts: &Parts<'_>, progress: &mut Progress, literal: Literal) -> Ass
 {
     match progress.lost {
         Some(_) => Asserted::Ended(Cause::Memory),
-        None => tell_both(
-            parts.alloc,
-            &mut progress.held,
-            parts.stack,
-            &progress.atoms,
-            &parts.guide,
-            literal,
-        ),
+        None => {
+            let told = tell_both(
+                parts.alloc,
+                &mut progress.held,
+                parts.stack,
+                &progress.atoms,
+                &parts.guide,
+                literal,
+            );
+            match told {
+                Ok(answer) => answer,
+                Err(error) => {
+                    progress.seen = seen_of(error);
+                    Asserted::Ended(Cause::Memory)
+                }
+            }
+        }
     }
 }
 

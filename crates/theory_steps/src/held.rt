@@ -1,5 +1,5 @@
 //! What was told, to the closure and to the bounds.
-ghost use Rattle.std.specs.Prelude.{◌≡◌, ◌<◌, List, length, take};
+ghost use Rattle.std.specs.Prelude.{◌≡◌, ◌<◌, List, length, take, IfOk, IfErr, OnErr};
 ghost use Rattle.smt_meaning.specs.declared.clauses.Atom.{Atom};
 ghost use Rattle.search_port.specs.State.{IsOpenIn};
 ghost use Rattle.search_port.specs.Calls.{AssertedBy, InferredBy};
@@ -7,9 +7,13 @@ ghost use Rattle.search_port.specs.Spending.{Spending};
 ghost use Rattle.bound_log.specs.Atoms.{Knows};
 ghost use Rattle.bound_log.specs.Columns.{HasColumnsOf};
 ghost use Rattle.bound_log.specs.Reporting.{Judges};
+ghost use Rattle.flat_stack.specs.Flat.{flat};
 ghost use Rattle.closure_log.specs.Seen.{state_of, IsSetting};
+ghost use Rattle.theory_steps.specs.Errors.{IsErrorOf};
 ghost use Rattle.theory_steps.specs.Held.{IsHeld, IsMet, IsMetBy};
 
+use crate::differences::Differences;
+use crate::errors::{BoundError, untold};
 use atom_numbers::AtomNumbers;
 use bound_log::{BoundLog, Report, Reported};
 use closure_log::{ClosureLog, Guide, Scan, infer};
@@ -17,7 +21,7 @@ use flat_stack::flat_says_the_same;
 use grid_meaning::Grid;
 use literals::Literal;
 use scope_stack::Stack;
-use search_port::{Asserted, Cause, Inferred, Lemma};
+use search_port::{Asserted, Inferred, Lemma};
 use simplex::PivotLines;
 use std::alloc::Global;
 
@@ -27,8 +31,15 @@ pub struct Held {
     pub closure: ClosureLog,
     pub bounds: BoundLog,
     pub scan: Scan,
+    pub looked: Looked,
+}
+
+/// What guides the search, of which no contract speaks.
+#[derive(Drop)]
+pub struct Looked {
     /// The atom after the one whose bound was looked at last.
-    pub looked: usize,
+    pub next: usize,
+    pub differences: Differences,
 }
 
 /// What a check of the bounds finds.
@@ -44,7 +55,7 @@ pub(crate) enum Met {
     Ended,
 }
 
-/// Tells one literal more. Where memory is wanting, or a bound leaves the range, it isn't taken.
+/// Tells one literal more. After an `Err`, where its bound leaves the range or memory is wanting, it isn't taken.
 pub(crate) fn tell_both(
     alloc: Global,
     held: &mut Held,
@@ -52,26 +63,30 @@ pub(crate) fn tell_both(
     atoms: &AtomNumbers,
     guide: &Guide,
     literal: Literal,
-) -> Asserted
+) -> Result<Asserted, BoundError>
     requires setting { IsSetting stack.now atoms.now.atoms }
     requires held { IsHeld stack.now atoms.now.atoms held.old }
     requires numbered { literal.atom < length atoms.now.atoms }
     requires open { IsOpenIn held.old.closure.log.items literal }
     ensures held { IsHeld stack.now atoms.now.atoms held.new }
-    ensures answer { AssertedBy (state_of stack.now atoms.now.atoms held.old.closure.log.items) (state_of stack.now atoms.now.atoms held.new.closure.log.items) literal result }
+    ensures answer { IfOk result (AssertedBy (state_of stack.now atoms.now.atoms held.old.closure.log.items) (state_of stack.now atoms.now.atoms held.new.closure.log.items) literal) }
+    ensures stays { OnErr result (held.new.closure.log.items ≡ held.old.closure.log.items) }
+    ensures err { IfErr result (IsErrorOf stack.now.trees (flat stack.now.frames) atoms.now.atoms) }
 {
     let place = held.closure.log.len();
-    let Ok(()) = held.bounds.tell(literal) else {
-        return Asserted::Ended(Cause::Memory);
-    };
-    held.scan.note(literal, place);
-    let answer = held.closure.tell(alloc, stack, atoms, guide, literal);
-    match answer {
-        Asserted::Taken => Asserted::Taken,
-        Asserted::Conflict(clause) => Asserted::Conflict(clause),
-        Asserted::Ended(cause) => {
-            held.bounds.undo_to(place);
-            Asserted::Ended(cause)
+    match held.bounds.tell(literal) {
+        Err(failure) => Err(untold(alloc, &held.bounds, atoms, literal, failure)),
+        Ok(()) => {
+            held.scan.note(literal, place);
+            let answer = held.closure.tell(alloc, stack, atoms, guide, literal);
+            match answer {
+                Asserted::Taken => Ok(Asserted::Taken),
+                Asserted::Conflict(clause) => Ok(Asserted::Conflict(clause)),
+                Asserted::Ended(cause) => {
+                    held.bounds.undo_to(place);
+                    Ok(Asserted::Ended(cause))
+                }
+            }
         }
     }
 }
@@ -85,12 +100,18 @@ pub(crate) fn undo_both(held: &mut Held, stack: &Stack, atoms: &AtomNumbers, cou
     held.closure.undo_to(stack, atoms, count);
     held.bounds.undo_to(count);
     held.scan.restart();
+    held.looked.differences.undo_to(count);
+}
+
+/// Whether the numbers of the graph of differences meet all bounds told, and are to be tried as those of a model.
+pub(crate) fn leads(held: &Held) -> bool {
+    held.looked.differences.leads(held.closure.log.len())
 }
 
 /// What a report says, with the grid where a number left the range.
 fn met_by(alloc: Global, bounds: &BoundLog, report: Report) -> Met
     requires { Judges bounds.now report }
-    ensures { (table : List Atom) → Knows table bounds.now → HasColumnsOf table bounds.now → IsMetBy bounds.now table result }
+    ensures { (table all : List Atom) → Knows table bounds.now → HasColumnsOf all bounds.now → IsMetBy bounds.now table all result }
 {
     match report {
         Report::Fits => Met::Fits,

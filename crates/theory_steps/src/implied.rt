@@ -92,7 +92,7 @@ pub(crate) fn follow_rows(
         if clauses.len() == GIVEN {
             return inferred(clauses);
         }
-        let Some(atom) = next_look(&mut held.looked, atoms.len()) else {
+        let Some(atom) = next_look(&mut held.looked.next, atoms.len()) else {
             return inferred(clauses);
         };
         let found = look_at(alloc, held, stack, atoms, atom);

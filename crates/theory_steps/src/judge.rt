@@ -5,13 +5,16 @@ ghost use Rattle.sum_bounds.specs.Bounds.{IsFirstIn};
 ghost use Rattle.theory_steps.specs.Progress.{state, AreParts, IsUnderWay, Went};
 ghost use Rattle.theory_steps.specs.Steps.{IsStep, StepInfers, StepChecks};
 
+use crate::argument::argument_seen;
 use crate::branch::branch;
-use crate::held::{Met, follow, meet_bounds, meet_wholes};
+use crate::cycles::{follow_differences, meet_differences};
+use crate::held::{Met, follow, leads, meet_bounds, meet_wholes};
 use crate::implied::follow_rows;
 use crate::model::{Found, find_model};
 use crate::pairs::{go_on_with_pair, next_pair};
 use crate::parts::{Parts, Progress};
-use crate::step::{Step, stays, stop, stop_past};
+use crate::step::{Step, stays, stop_past, stop_seeing};
+use crate::unfit::stop_unfit;
 use crate::wanted::want;
 use model_build::Clash;
 use search_port::{Budget, Cause, Checked, Inferred};
@@ -62,16 +65,31 @@ fn make_whole(
     }
 }
 
-/// Goes on with the newest pair whose equality is to get a number.
-fn go_on(parts: &Parts<'_>, progress: &mut Progress, budget: &mut Budget) -> Step
+/// Doesn't go on where two applications clash, and shows an argument whose value left the range, if one did.
+fn stop_at_clash(parts: &Parts<'_>, progress: &mut Progress, budget: &Budget, clash: Clash) -> Step
     requires parts { AreParts parts.now }
     requires under_way { IsUnderWay parts.now progress.old }
+    requires first { clash.first < length parts.now.stack.now.trees }
+    requires second { clash.second < length parts.now.stack.now.trees }
+    ensures went { Went parts.now progress.old progress.new budget.now budget.now }
+    ensures step { IsStep (state parts.now progress.new) budget.now budget.now result }
+{
+    let seen = argument_seen(parts, progress, clash);
+    stop_seeing(parts, progress, budget, seen)
+}
+
+/// Goes on with the newest pair whose equality is to get a number.
+fn go_on(parts: &Parts<'_>, progress: &mut Progress, budget: &mut Budget, clash: Clash) -> Step
+    requires parts { AreParts parts.now }
+    requires under_way { IsUnderWay parts.now progress.old }
+    requires first { clash.first < length parts.now.stack.now.trees }
+    requires second { clash.second < length parts.now.stack.now.trees }
     ensures went { Went parts.now progress.old progress.new budget.old budget.new }
     ensures step { IsStep (state parts.now progress.new) budget.old budget.new result }
 {
     match next_pair(parts, &mut progress.pairs, &progress.atoms) {
         Some(pair) => go_on_with_pair(parts, progress, budget, pair),
-        None => stop(parts, progress, budget),
+        None => stop_at_clash(parts, progress, budget, clash),
     }
 }
 
@@ -93,7 +111,7 @@ fn separate(
     stays(parts, progress, budget);
     match wanted {
         Ok(()) => {
-            let step = go_on(parts, progress, budget);
+            let step = go_on(parts, progress, budget, clash);
             checked(step)
         }
         Err(_) => Checked::Ended(Cause::Memory),
@@ -118,7 +136,10 @@ fn try_model(parts: &Parts<'_>, progress: &mut Progress, budget: &mut Budget) ->
     match found {
         Ok(Found::Fine(tables)) => Checked::Fine(tables),
         Ok(Found::Apart(clash)) => separate(parts, progress, budget, clash),
-        Ok(Found::Unfit) => Checked::Ended(Cause::Memory),
+        Ok(Found::Unfit) => {
+            let step = stop_unfit(parts, progress, budget);
+            checked(step)
+        }
         Err(_) => Checked::Ended(Cause::Memory),
     }
 }
@@ -136,8 +157,8 @@ fn judge_values(parts: &Parts<'_>, progress: &mut Progress, budget: &mut Budget)
     }
 }
 
-/// A last check: the bounds are to be met first.
-pub(crate) fn judge(parts: &Parts<'_>, progress: &mut Progress, budget: &mut Budget) -> Checked
+/// A last check by the rows of sums: the bounds are to be met first.
+fn judge_sums(parts: &Parts<'_>, progress: &mut Progress, budget: &mut Budget) -> Checked
     requires parts { AreParts parts.now }
     requires under_way { IsUnderWay parts.now progress.old }
     ensures went { Went parts.now progress.old progress.new budget.old budget.new }
@@ -161,6 +182,59 @@ pub(crate) fn judge(parts: &Parts<'_>, progress: &mut Progress, budget: &mut Bud
     }
 }
 
+/// A last check where the numbers of a graph meet all bounds, which are differences: they may be those of a model, or else the rows of sums are looked at.
+fn judge_numbers(parts: &Parts<'_>, progress: &mut Progress, budget: &mut Budget) -> Checked
+    requires parts { AreParts parts.now }
+    requires under_way { IsUnderWay parts.now progress.old }
+    ensures went { Went parts.now progress.old progress.new budget.old budget.new }
+    ensures found { CheckedBy (state parts.now progress.new) budget.old budget.new result }
+{
+    let found = find_model(
+        parts.alloc,
+        parts.stack,
+        &parts.marks,
+        &progress.atoms,
+        &progress.held,
+    );
+    stays(parts, progress, budget);
+    match found {
+        Ok(Found::Fine(tables)) => Checked::Fine(tables),
+        Ok(Found::Apart(clash)) => separate(parts, progress, budget, clash),
+        _ => {
+            progress.held.looked.differences.give_up();
+            stays(parts, progress, budget);
+            judge_sums(parts, progress, budget)
+        }
+    }
+}
+
+/// A last check: by differences alone, where all bounds are that, or else by the rows of sums.
+pub(crate) fn judge(parts: &Parts<'_>, progress: &mut Progress, budget: &mut Budget) -> Checked
+    requires parts { AreParts parts.now }
+    requires under_way { IsUnderWay parts.now progress.old }
+    ensures went { Went parts.now progress.old progress.new budget.old budget.new }
+    ensures found { CheckedBy (state parts.now progress.new) budget.old budget.new result }
+{
+    let met = meet_differences(
+        parts.alloc,
+        &mut progress.held,
+        parts.stack,
+        &progress.atoms,
+    );
+    stays(parts, progress, budget);
+    match met {
+        Err(_) => Checked::Ended(Cause::Memory),
+        Ok(Some(clause)) => Checked::Conflict(clause),
+        Ok(None) => {
+            if leads(&progress.held) {
+                judge_numbers(parts, progress, budget)
+            } else {
+                judge_sums(parts, progress, budget)
+            }
+        }
+    }
+}
+
 /// Bounds that follow by rows, where the values meet all bounds.
 fn look_at_rows(parts: &Parts<'_>, progress: &mut Progress, budget: &Budget) -> Inferred
     requires parts { AreParts parts.now }
@@ -178,8 +252,8 @@ fn look_at_rows(parts: &Parts<'_>, progress: &mut Progress, budget: &Budget) -> 
     found
 }
 
-/// What the bounds show between decisions.
-fn look_at_bounds(parts: &Parts<'_>, progress: &mut Progress, budget: &Budget) -> Inferred
+/// What sums show between decisions.
+fn look_at_sums(parts: &Parts<'_>, progress: &mut Progress, budget: &Budget) -> Inferred
     requires parts { AreParts parts.now }
     requires under_way { IsUnderWay parts.now progress.old }
     ensures went { Went parts.now progress.old progress.new budget.now budget.now }
@@ -200,6 +274,26 @@ fn look_at_bounds(parts: &Parts<'_>, progress: &mut Progress, budget: &Budget) -
             inferred(step)
         }
         Met::Ended => Inferred::Ended(Cause::Memory),
+    }
+}
+
+/// What the bounds show between decisions: differences alone, where all of them are that.
+fn look_at_bounds(parts: &Parts<'_>, progress: &mut Progress, budget: &Budget) -> Inferred
+    requires parts { AreParts parts.now }
+    requires under_way { IsUnderWay parts.now progress.old }
+    ensures went { Went parts.now progress.old progress.new budget.now budget.now }
+    ensures found { InferredBy (state parts.now progress.new) budget.now budget.now result }
+{
+    let found = follow_differences(
+        parts.alloc,
+        &mut progress.held,
+        parts.stack,
+        &progress.atoms,
+    );
+    stays(parts, progress, budget);
+    match found {
+        Some(inferred) => inferred,
+        None => look_at_sums(parts, progress, budget),
     }
 }
 

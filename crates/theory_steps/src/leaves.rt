@@ -2,11 +2,14 @@
 ghost use Rattle.std.specs.Prelude.{◌≡◌, true, All, slice_index_or};
 ghost use Rattle.smt_meaning.specs.declared.values.Sort.TheVariants.{Bool as Truths, Int as Ints};
 ghost use Rattle.smt_meaning.specs.CheckAtoms.{is_leaf_head};
+ghost use Rattle.smt_meaning.specs.Stack.{signature_of};
 ghost use Rattle.model_eval.specs.Walk.{is_marked};
+ghost use Rattle.value_model.specs.Parts.{AreSortedParts};
 ghost use Rattle.theory_steps.specs.Progress.{AreParts};
 ghost use Rattle.theory_steps.specs.Shown.{IsMarkedLeaf};
 
 use crate::parts::Parts;
+use scope_stack::Stack;
 use smt_meaning::{Head, Operator, Sort, Summand, TermId};
 
 pub(crate) fn is_marked_place(marks: &[bool], place: u32) -> bool
@@ -26,7 +29,7 @@ pub(crate) fn is_int(sorts: &[Sort], place: TermId) -> bool
 }
 
 /// Whether a term with this head is no numeral, sum, difference or product.
-fn is_leaf_head(head: Head) -> bool
+pub(crate) fn is_leaf_head(head: Head) -> bool
     ensures { result ≡ is_leaf_head head }
 {
     match head {
@@ -40,19 +43,27 @@ fn is_leaf_head(head: Head) -> bool
     }
 }
 
-/// Whether a term is a leaf of the Int parts.
-pub(crate) fn is_leaf(parts: &Parts<'_>, place: TermId) -> bool
-    requires { AreParts parts.now }
-    ensures { result ≡ true → IsMarkedLeaf parts.now.stack.now parts.now.marks.items place }
+/// Whether a term is a leaf of the marked Ints of a stack.
+pub(crate) fn is_marked_leaf(stack: &Stack, marks: &[bool], place: TermId) -> bool
+    requires { AreSortedParts (signature_of stack.now.frames) stack.now.trees marks.now }
+    ensures { result ≡ true → IsMarkedLeaf stack.now marks.now place }
 {
-    let sorts = parts.stack.sorts();
-    if !is_marked_place(&parts.marks, place) {
+    let sorts = stack.sorts();
+    if !is_marked_place(marks, place) {
         return false;
     }
     if !is_int(sorts, place) {
         return false;
     }
-    is_leaf_head(parts.stack.terms().node(place).head)
+    is_leaf_head(stack.terms().node(place).head)
+}
+
+/// Whether a term is a leaf of the Int parts.
+pub(crate) fn is_leaf(parts: &Parts<'_>, place: TermId) -> bool
+    requires { AreParts parts.now }
+    ensures { result ≡ true → IsMarkedLeaf parts.now.stack.now parts.now.marks.items place }
+{
+    is_marked_leaf(parts.stack, &parts.marks, place)
 }
 
 /// Whether a sum is over leaves of the Int parts.

@@ -2,9 +2,13 @@
 //! and a model of both is evaluated before it is given.
 #![tactic(auto)]
 
+mod argument;
 mod branch;
 mod calls;
 mod constant;
+mod cycles;
+mod differences;
+mod errors;
 mod held;
 mod implied;
 mod judge;
@@ -16,11 +20,14 @@ mod parts;
 mod showing;
 mod start;
 mod step;
+mod unfit;
 mod values;
 mod wanted;
 
 pub use calls::{check, look, tell, undo_to};
-pub use held::Held;
+pub use differences::Differences;
+pub use errors::BoundError;
+pub use held::{Held, Looked};
 pub use parts::{Pair, Parts, Progress};
 pub use showing::{show, written};
 pub use start::{Begun, begin};

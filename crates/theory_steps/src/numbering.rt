@@ -3,10 +3,13 @@ ghost use Rattle.std.specs.Prelude.{◌≡◌, ◌+◌, ◌<◌, ◌≤◌, ◌�
 ghost use Rattle.search_port.specs.Calls.{EndsBy};
 ghost use Rattle.bound_log.specs.Atoms.{KnowsOneMore};
 ghost use Rattle.bound_log.specs.Columns.{AddsColumns};
+ghost use Rattle.flat_stack.specs.Flat.{flat};
+ghost use Rattle.theory_steps.specs.Errors.{IsErrorAt, IsErrorOf};
 ghost use Rattle.theory_steps.specs.Numbering.{atom_of, IsNew, IsProperAtom, IsWhole};
 ghost use Rattle.theory_steps.specs.Progress.{state, IsUnderWay, Went};
 ghost use Rattle.theory_steps.specs.Shown.{IsToShow};
 
+use crate::errors::{BoundError, know_bound, know_other, seen_of};
 use crate::held::Held;
 use crate::parts::{Pair, Parts, Progress};
 use atom_numbers::AtomNumbers;
@@ -50,20 +53,16 @@ fn number(atoms: &mut AtomNumbers, atom: &NewAtom) -> Result<(), AllocError>
 }
 
 /// Makes what an atom says of sums known.
-fn know(alloc: Global, bounds: &mut BoundLog, atom: &NewAtom) -> Result<(), AllocError>
+fn know(alloc: Global, bounds: &mut BoundLog, atom: &NewAtom) -> Result<(), BoundError>
     requires { IsProperAtom atom.now }
     ensures knows { OnOk result (KnowsOneMore bounds.old (atom_of atom.now) bounds.new) }
     ensures columns { AddsColumns bounds.old (atom_of atom.now) bounds.new }
     ensures log { bounds.new.log ≡ bounds.old.log }
+    ensures err { IfErr result (IsErrorAt bounds.old (atom_of atom.now)) }
 {
     match atom {
-        NewAtom::Equality(_) => bounds.know_other(),
-        NewAtom::Bound(bound) => {
-            let Ok(()) = bounds.know_bound(alloc, &bound.sum, bound.threshold) else {
-                return Err(AllocError);
-            };
-            Ok(())
-        }
+        NewAtom::Equality(_) => know_other(bounds),
+        NewAtom::Bound(bound) => know_bound(alloc, bounds, &bound.sum, bound.threshold),
     }
 }
 
@@ -73,7 +72,7 @@ fn add(
     atoms: &mut AtomNumbers,
     held: &mut Held,
     atom: &NewAtom,
-) -> Result<(), AllocError>
+) -> Result<(), BoundError>
     requires whole { IsWhole parts.now.stack.now parts.now.marks.items atoms.old held.old }
     requires new { Contains atoms.old.atoms (atom_of atom.now) → ⊥ }
     requires of_stack { IsNew parts.now.stack.now parts.now.marks.items atom.now }
@@ -82,6 +81,7 @@ fn add(
     ensures front { take (length atoms.old.atoms) atoms.new.atoms ≡ atoms.old.atoms }
     ensures within { length atoms.old.atoms ≤ length atoms.new.atoms }
     ensures log { held.new.closure.log.items ≡ held.old.closure.log.items }
+    ensures err { IfErr result (IsErrorOf parts.now.stack.now.trees (flat parts.now.stack.now.frames) (atoms.old.atoms ++ atom_of atom.now ∷ [])) }
 {
     what_was_told_stays();
     number(atoms, atom)?;
@@ -90,7 +90,7 @@ fn add(
     Ok(())
 }
 
-/// Numbers an atom, a unit of work. Where it can't be kept, for want of memory, nothing is told or numbered from then on.
+/// Numbers an atom, a unit of work. Where it can't be kept, for want of memory or where its bound leaves the range, nothing is told or numbered from then on.
 pub(crate) fn number_new(
     parts: &Parts<'_>,
     progress: &mut Progress,
@@ -111,13 +111,18 @@ pub(crate) fn number_new(
         return Err(Cause::Units);
     }
     let count = progress.atoms.len() as u32;
-    let Ok(()) = add(parts, &mut progress.atoms, &mut progress.held, atom) else {
-        progress.lost = Some(count);
-        return Err(Cause::Memory);
-    };
-    let Ok(()) = budget.spend(Spent::Numbered(count)) else {
-        progress.lost = Some(count);
-        return Err(Cause::Memory);
-    };
-    Ok(())
+    match add(parts, &mut progress.atoms, &mut progress.held, atom) {
+        Err(error) => {
+            progress.seen = seen_of(error);
+            progress.lost = Some(count);
+            Err(Cause::Memory)
+        }
+        Ok(()) => match budget.spend(Spent::Numbered(count)) {
+            Ok(()) => Ok(()),
+            Err(_) => {
+                progress.lost = Some(count);
+                Err(Cause::Memory)
+            }
+        },
+    }
 }

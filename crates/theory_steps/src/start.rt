@@ -1,15 +1,25 @@
 //! What a search begins with, before anything is told.
-ghost use Rattle.std.specs.Prelude.{◌≡◌, ℕ, ◌<◌, [], true, length, All, IfOk, OnOk, slice_index_or};
+ghost use Rattle.std.specs.Prelude.{◌≡◌, ℕ, ◌<◌, List, [], true, length, All, IfOk, IfErr, OnOk, slice_index_or};
 ghost use Rattle.smt_meaning.specs.declared.values.Sort.TheVariants.{Bool as Truths, Int as Ints};
+ghost use Rattle.smt_meaning.specs.declared.clauses.Atom.{Atom};
+ghost use Rattle.smt_meaning.specs.Stack.{signature_of};
+ghost use Rattle.term_store.specs.Terms.{AreDifferent};
 ghost use Rattle.search_port.specs.State.{atom_at};
 ghost use Rattle.stack_atoms.specs.Marks.{AreStackParts};
 ghost use Rattle.check_atoms.specs.Numbering.{IsNormal};
 ghost use Rattle.check_atoms.specs.OfStack.{AreCheckAtoms};
-ghost use Rattle.bound_log.specs.Atoms.{Knows, KnowsOneMore};
+ghost use Rattle.value_model.specs.Parts.{AreSortedParts};
+ghost use Rattle.bound_log.specs.Atoms.{Knows, KnowsOneMore, KnowsTheSame};
 ghost use Rattle.bound_log.specs.Columns.{AddsColumns, HasColumnsOf};
 ghost use Rattle.theory_steps.specs.Begin.{IsOfBool, IsTruthOfBool, IsBegun};
+ghost use Rattle.theory_steps.specs.Columns.{HasKnownColumns};
+ghost use Rattle.theory_steps.specs.Errors.{IsErrorAt, IsErrorOver, IsErrorSeen};
+ghost use Rattle.theory_steps.specs.Shown.{AreOfAssertions};
 
-use crate::held::Held;
+use crate::differences::Differences;
+use crate::errors::{BoundError, know_bound, know_other};
+use crate::held::{Held, Looked};
+use crate::leaves::is_marked_leaf;
 use atom_numbers::{AtomNumbers, NumberedAtom};
 use bound_log::BoundLog;
 use check_atoms::atoms_are_of_stack;
@@ -37,37 +47,78 @@ fn learn(
     atoms: &AtomNumbers,
     bounds: &mut BoundLog,
     number: u32,
-) -> Result<(), AllocError>
+) -> Result<(), BoundError>
     requires numbered { number < length atoms.now.atoms }
     requires normal { All (IsNormal (length stack.now.trees)) atoms.now.atoms }
     ensures knows { OnOk result (KnowsOneMore bounds.old (atom_at atoms.now.atoms number) bounds.new) }
     ensures columns { AddsColumns bounds.old (atom_at atoms.now.atoms number) bounds.new }
     ensures log { bounds.new.log ≡ bounds.old.log }
+    ensures err { IfErr result (IsErrorAt bounds.old (atom_at atoms.now.atoms number)) }
 {
     let _known = stack.terms();
     match atoms.atom(number) {
-        NumberedAtom::Truth(_) | NumberedAtom::Same(_, _) => bounds.know_other(),
+        NumberedAtom::Truth(_) | NumberedAtom::Same(_, _) => know_other(bounds),
         NumberedAtom::Bound(bound) => {
-            match bounds.know_bound(alloc, atoms.sum(bound.sum), bound.threshold) {
-                Ok(()) => Ok(()),
-                Err(_) => Err(AllocError),
-            }
+            know_bound(alloc, bounds, atoms.sum(bound.sum), bound.threshold)
         }
     }
 }
 
 /// Bounds that know all atoms, and no literal. An `Err` is for want of memory, or where a row leaves the range.
-fn bounds_of(alloc: Global, stack: &Stack, atoms: &AtomNumbers) -> Result<BoundLog, AllocError>
+fn bounds_of(alloc: Global, stack: &Stack, atoms: &AtomNumbers) -> Result<BoundLog, BoundError>
     requires normal { All (IsNormal (length stack.now.trees)) atoms.now.atoms }
     ensures knows { IfOk result (λ b. Knows atoms.now.atoms b) }
     ensures columns { IfOk result (λ b. HasColumnsOf atoms.now.atoms b) }
     ensures log { IfOk result (λ b. b.log ≡ []) }
+    ensures err { IfErr result (IsErrorOver atoms.now.atoms atoms.now.atoms) }
 {
     let mut bounds = BoundLog::new(alloc);
     for number in 0..atoms.len() {
         learn(alloc, stack, atoms, &mut bounds, number as u32)?;
     }
     Ok(bounds)
+}
+
+/// Gives a term a variable, if it is an Int leaf of the assertions. An `Err` is for want of memory.
+fn add_if_leaf(
+    alloc: Global,
+    stack: &Stack,
+    marks: &[bool],
+    bounds: &mut BoundLog,
+    place: u32,
+) -> Result<(), AllocError>
+    requires parts { AreSortedParts (signature_of stack.now.frames) stack.now.trees marks.now }
+    requires of_assertions { AreOfAssertions stack.now marks.now }
+    requires different { AreDifferent stack.now.trees }
+    ensures knows { KnowsTheSame bounds.old bounds.new }
+    ensures columns { (table : List Atom) → HasKnownColumns stack.now table bounds.old → HasKnownColumns stack.now table bounds.new }
+    ensures log { bounds.new.log ≡ bounds.old.log }
+{
+    flat_says_the_same();
+    if !is_marked_leaf(stack, marks, place) {
+        return Ok(());
+    }
+    bounds.add_leaf(alloc, place)
+}
+
+/// Gives each Int leaf of the assertions a variable. An `Err` is for want of memory.
+fn add_leaves(
+    alloc: Global,
+    stack: &Stack,
+    marks: &[bool],
+    bounds: &mut BoundLog,
+) -> Result<(), AllocError>
+    requires parts { AreSortedParts (signature_of stack.now.frames) stack.now.trees marks.now }
+    requires of_assertions { AreOfAssertions stack.now marks.now }
+    requires different { AreDifferent stack.now.trees }
+    ensures knows { KnowsTheSame bounds.old bounds.new }
+    ensures columns { (table : List Atom) → HasKnownColumns stack.now table bounds.old → HasKnownColumns stack.now table bounds.new }
+    ensures log { bounds.new.log ≡ bounds.old.log }
+{
+    for place in 0..stack.terms().len() {
+        add_if_leaf(alloc, stack, marks, bounds, place)?;
+    }
+    Ok(())
 }
 
 /// Whether a sort is that of Bools.
@@ -102,16 +153,19 @@ fn are_of_bools(sorts: &[Sort], atoms: &AtomNumbers) -> bool
     true
 }
 
-/// Nothing is told of the parts of a stack and their atoms. An `Err` is for want of memory, or where a row of a sum leaves the range; a stack of 2^32 - 3 terms or
-/// more leaves none.
-pub fn begin(
+/// Nothing is told of the parts of a stack and their atoms, which the bounds know. An `Err` is for want of memory; a stack of 2^32 - 3 terms or more leaves none.
+fn begin_with(
     alloc: Global,
     stack: &Stack,
     marks: &[bool],
     atoms: &AtomNumbers,
+    mut bounds: BoundLog,
 ) -> Result<Begun, AllocError>
     requires marks { AreStackParts stack.now marks.now }
     requires atoms { AreCheckAtoms stack.now marks.now atoms.now.atoms }
+    requires knows { Knows atoms.now.atoms bounds }
+    requires columns { HasKnownColumns stack.now atoms.now.atoms bounds }
+    requires log { bounds.log ≡ [] }
     ensures { IfOk result (IsBegun stack.now marks.now atoms.now) }
 {
     stack.laws();
@@ -127,7 +181,7 @@ pub fn begin(
     let readable = linear_terms(alloc, stack.terms())?;
     let guide = Guide::new(alloc, stack)?;
     let closure = ClosureLog::new(alloc, stack)?;
-    let bounds = bounds_of(alloc, stack, atoms)?;
+    add_leaves(alloc, stack, marks, &mut bounds)?;
     let mut scan = Scan::new(alloc);
     scan.grow(atoms.len())?;
     Ok(Begun {
@@ -137,7 +191,31 @@ pub fn begin(
             closure,
             bounds,
             scan,
-            looked: 0,
+            looked: Looked {
+                next: 0,
+                differences: Differences::new(alloc),
+            },
         },
     })
+}
+
+/// Nothing is told of the parts of a stack and their atoms. An `Err` is for want of memory, of which a stack of 2^32 - 3 terms or more leaves none, or shows that a
+/// row of an atom leaves the range.
+pub fn begin(
+    alloc: Global,
+    stack: &Stack,
+    marks: &[bool],
+    atoms: &AtomNumbers,
+) -> Result<Begun, BoundError>
+    requires marks { AreStackParts stack.now marks.now }
+    requires atoms { AreCheckAtoms stack.now marks.now atoms.now.atoms }
+    ensures begun { IfOk result (IsBegun stack.now marks.now atoms.now) }
+    ensures err { IfErr result (IsErrorSeen stack.now []) }
+{
+    stack.laws();
+    flat_says_the_same();
+    atoms_are_of_stack();
+    let bounds = bounds_of(alloc, stack, atoms)?;
+    let begun = begin_with(alloc, stack, marks, atoms, bounds)?;
+    Ok(begun)
 }

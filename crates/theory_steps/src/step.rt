@@ -3,7 +3,8 @@ ghost use Rattle.std.specs.Prelude.{◌<◌, length, Contains, All, IfSome};
 ghost use Rattle.number_meaning.specs.Whole.{InRange};
 ghost use Rattle.smt_meaning.specs.declared.clauses.Atom.TheVariants.{AtMost};
 ghost use Rattle.bound_log.specs.Growth.{IsProper};
-ghost use Rattle.theory_steps.specs.Held.{IsPastOf};
+ghost use Rattle.flat_stack.specs.Flat.{flat};
+ghost use Rattle.theory_steps.specs.Errors.{IsPastOf};
 ghost use Rattle.theory_steps.specs.Progress.{state, AreParts, IsUnderWay, Went};
 ghost use Rattle.theory_steps.specs.Shown.{IsOfCheck, IsLeft, IsMarkedLeaf};
 ghost use Rattle.theory_steps.specs.Steps.{IsStep};
@@ -92,7 +93,7 @@ pub(crate) fn stop_past(
     grid: Grid,
 ) -> Step
     requires under_way { IsUnderWay parts.now progress.old }
-    requires past { IsPastOf progress.old.atoms.atoms grid }
+    requires past { IsPastOf parts.now.stack.now.trees (flat parts.now.stack.now.frames) progress.old.atoms.atoms grid }
     ensures went { Went parts.now progress.old progress.new budget.now budget.now }
     ensures step { IsStep (state parts.now progress.new) budget.now budget.now result }
 {

@@ -4,12 +4,12 @@ ghost use Rattle.literals.specs.Signed.{Signed};
 ghost use Rattle.congruence.specs.Recorded.{IsRecorded};
 ghost use Rattle.theory_steps.specs.Held.{IsHeld};
 
-use crate::held::Held;
+use crate::held::{Held, leads};
 use atom_numbers::{AtomNumbers, NumberedAtom};
-use bound_log::BoundLog;
 use congruence::Congruence;
 use literals::Literal;
 use scope_stack::Stack;
+use smt_meaning::Summand;
 use std::alloc::{AllocError, Global};
 
 /// A value for each place, by sort.
@@ -34,9 +34,51 @@ fn classes(alloc: Global, congruence: &Congruence, count: u32) -> Result<Vec<u32
     Ok(elements)
 }
 
-/// The value of a term's variable where it is whole, and else the number of its class.
-fn number_of(bounds: &BoundLog, place: u32, class: u32) -> i128 {
-    match bounds.value(place) {
+/// Marks the terms of a sum.
+fn mark_terms(stands: &mut [bool], sum: &[Summand])
+    ensures { length stands.new ≡ length stands.old }
+{
+    for k in 0..sum.len() {
+        let place = sum[k].term as usize;
+        if place < stands.len() {
+            stands[place] = true;
+        }
+    }
+}
+
+/// Marks the terms of the sum that an atom bounds.
+fn mark_bounded(stands: &mut [bool], atoms: &AtomNumbers, number: u32)
+    requires { number < length atoms.now.atoms }
+    ensures { length stands.new ≡ length stands.old }
+{
+    if let NumberedAtom::Bound(bound) = atoms.atom(number) {
+        mark_terms(stands, atoms.sum(bound.sum));
+    }
+}
+
+/// Which terms stand in the sum of a bound. An `Err` is for want of memory.
+fn bounded(alloc: Global, atoms: &AtomNumbers, count: u32) -> Result<Vec<bool>, AllocError>
+    ensures { IfOk result (λ stands. length stands.items ≡ count) }
+{
+    let mut stands = vec![in alloc; false; count as usize]?;
+    for number in 0..atoms.len() {
+        mark_bounded(&mut stands, atoms, number as u32);
+    }
+    Ok(stands)
+}
+
+/// The value of a term's variable where it stands in a bound and the value is whole, and else the number of its class. Where differences lead, the number that their graph has comes first.
+fn number_of(held: &Held, stands: bool, place: u32, class: u32) -> i128 {
+    if leads(held) {
+        return match held.looked.differences.number(place) {
+            Some(number) => number,
+            None => class as i128,
+        };
+    }
+    if !stands {
+        return class as i128;
+    }
+    match held.bounds.value(place) {
         Some(value) => {
             if value.is_whole() {
                 value.numerator()
@@ -49,13 +91,19 @@ fn number_of(bounds: &BoundLog, place: u32, class: u32) -> i128 {
 }
 
 /// A number for each term. An `Err` is for want of memory.
-fn numbers(alloc: Global, bounds: &BoundLog, elements: &[u32]) -> Result<Vec<i128>, AllocError>
-    requires { length elements.now < 2 ^ 32 }
+fn numbers(
+    alloc: Global,
+    held: &Held,
+    stands: &[bool],
+    elements: &[u32],
+) -> Result<Vec<i128>, AllocError>
+    requires few { length elements.now < 2 ^ 32 }
+    requires each { length stands.now ≡ length elements.now }
     ensures { IfOk result (λ numbers. length numbers.items ≡ length elements.now) }
 {
     let mut numbers = Vec::new(alloc);
     for place in 0..elements.len() {
-        numbers.push(number_of(bounds, place as u32, elements[place]))?;
+        numbers.push(number_of(held, stands[place], place as u32, elements[place]))?;
     }
     Ok(numbers)
 }
@@ -104,7 +152,8 @@ pub(crate) fn values_of(
 {
     let count = stack.terms().len();
     let elements = classes(alloc, &held.closure.congruence, count)?;
-    let numbers = numbers(alloc, &held.bounds, &elements)?;
+    let stands = bounded(alloc, atoms, count)?;
+    let numbers = numbers(alloc, held, &stands, &elements)?;
     let truths = truths(alloc, atoms, &held.closure.log, count)?;
     Ok(Chosen {
         truths,

@@ -4,15 +4,16 @@ ghost use Rattle.theory_port.specs.Verdicts.{IsVerdict};
 
 use check_atoms::{atoms_are_first, numbered};
 use check_clauses::check_clauses;
-use check_search::{search, unknown};
+use check_search::{out_of_range, search, unknown};
 use equality_decider::Alone;
 use kept_axioms::keep_axioms;
 use range_reports::refused;
 use scope_stack::Stack;
-use smt_meaning::Settings;
+use smt_meaning::{RangeSeen, Settings};
 use std::alloc::{AllocError, Global};
 use theory_combine::Combined;
 use theory_port::{Decider, Verdict};
+use theory_steps::BoundError;
 
 /// Decides the checks of all stacks: those without integers by the closure of congruence alone, others by the theory of equality and whole numbers.
 /// Each check begins anew.
@@ -35,10 +36,13 @@ fn decide_integers(alloc: Global, stack: &Stack, settings: &Settings) -> Result<
     let Ok(()) = keep_axioms(alloc, stack, &parts, &mut store) else {
         return unknown(alloc, stack, settings);
     };
-    let Ok(theory) = Combined::new(alloc, stack, parts) else {
-        return unknown(alloc, stack, settings);
-    };
-    search(alloc, stack, settings, theory, store)
+    match Combined::new(alloc, stack, parts) {
+        Ok(theory) => search(alloc, stack, settings, theory, store),
+        Err(BoundError::Memory) => unknown(alloc, stack, settings),
+        Err(BoundError::Range(grid)) => {
+            out_of_range(alloc, stack, settings, RangeSeen::Step(grid))
+        }
+    }
 }
 
 impl Decider for Whole {

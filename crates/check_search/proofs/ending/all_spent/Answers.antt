@@ -5,19 +5,21 @@ use Rattle.smt_meaning.specs.Stack.{depth}
 use Rattle.smt_meaning.specs.Report.{Shows}
 use Rattle.search_port.specs.State.{Reading}
 use Rattle.search_port.specs.declared.budget.Spent.{Spent}
-use Rattle.check_search.specs.Shown.{unit_of, NumbersNoBools}
+use Rattle.check_search.specs.Shown.{unit_of, NumbersNoBools, ChangeRows}
 use Rattle.check_search.proofs.ending.all_spent.Goals as goal
 
 pub returns : goal.returns
 returns g c =
     let s = c.args.stack.now in
     let q : Reading = (g.T.Theory.state c.args.theory).reading in
-    let deep : map (unit_of q.table c.depth.result) c.units.result.now ≡ map (unit_of q.table (depth s.frames)) c.units.result.now = ap (λ (d : ℕ). map (unit_of q.table d) c.units.result.now) c.depth.ensures in
-    let spent : map (unit_of q.table (depth s.frames)) c.units.result.now ≡ map (unit_of q.table (depth s.frames)) c.args.budget.now.units =
-    ap (λ (us : List Spent). map (unit_of q.table (depth s.frames)) us) c.units.ensures in
-    let same : c.in_ok-units.units ≡ map (unit_of q.table (depth s.frames)) c.args.budget.now.units = c.in_ok-units.ensures ∙ deep ∙ spent in
+    let deep : map (unit_of q.table c.depth.result) c.into_units.result.items ≡ map (unit_of q.table (depth s.frames)) c.into_units.result.items =
+    ap (λ (d : ℕ). map (unit_of q.table d) c.into_units.result.items) c.depth.ensures in
+    let spent : map (unit_of q.table (depth s.frames)) c.into_units.result.items ≡ map (unit_of q.table (depth s.frames)) c.args.budget.units =
+    ap (λ (us : List Spent). map (unit_of q.table (depth s.frames)) us) c.into_units.ensures in
+    let same : c.in_ok-units.units ≡ map (unit_of q.table (depth s.frames)) c.args.budget.units = c.in_ok-units.ensures ∙ deep ∙ spent in
     let others : All (NumbersNoBools s) c.in_ok-units.units =
-    subst (λ (us : List ShownUnit). All (NumbersNoBools s) us) c.as_slice.ensures (c.some_numbers_bools.ensures s c.sorts.ensures c.if-some_numbers_bools.false) in
+    subst (λ (us : List ShownUnit). All (NumbersNoBools s) us) c.as_slice-written.ensures (c.some_numbers_bools.ensures s c.sorts.ensures c.if-some_numbers_bools.false) in
+    let change : ChangeRows c.in_ok-units.units = subst ChangeRows c.as_slice-written.ensures (c.some_row_twice.ensures c.if-some_row_twice.false) in
     c.report.ensures s.trees s.frames c.args.settings.now.units
     (subst (λ (us : List ShownUnit). Shows s.trees s.frames c.args.settings.now.units 0 c.show-shown.result.branches (Units us)) (sym same)
-    (c.requires.spent c.show-shown.result c.show-shown.ensures (subst (λ (us : List ShownUnit). All (NumbersNoBools s) us) same others)))
+    (c.requires.spent c.show-shown.result c.show-shown.ensures (subst (λ (us : List ShownUnit). All (NumbersNoBools s) us) same others) (subst ChangeRows same change)))

@@ -1,4 +1,4 @@
-use Rattle.std.proofs.Common.{◌≡◌, sym, subst}
+use Rattle.std.proofs.Common.{sym, subst}
 use Rattle.smt_meaning.specs.declared.clauses.Atom.{Atom}
 use Rattle.theory_steps.specs.Shown.{IsOfCheck}
 use Rattle.theory_steps.proofs.Going.{went_after}

@@ -1,4 +1,4 @@
-use Rattle.std.proofs.Common.{◌≡◌, List, refl, sym, subst}
+use Rattle.std.proofs.Common.{List, sym, subst}
 use Rattle.std.specs.Prelude.{None}
 use Rattle.grid_meaning.specs.declared.Line.{Line}
 use Rattle.smt_meaning.specs.Boxes.{term_at_most}

@@ -1,13 +1,14 @@
-use Rattle.std.proofs.Common.{◌≡◌, All, sym, ap, subst}
+use Rattle.std.proofs.Common.{◌∙◌, All, sym, ap, subst}
 use Rattle.grid_meaning.specs.declared.Grid.{Grid}
 use Rattle.grid_meaning.specs.Lines.{NextFails}
 use Rattle.bound_log.specs.Columns.{IsColumnOf}
+use Rattle.theory_steps.proofs.Past.{no_none}
 use Rattle.theory_steps.proofs.held.met_by.Goals as goal
 
 pub returns-in-Ok : goal.returns-in-Ok
-returns-in-Ok c = λ table knows columns. record {
+returns-in-Ok c = λ table all knows columns. record {
   sound = c.in-Ok.ensures.sound table knows;
-  columns = subst (λ (g : Grid). All (IsColumnOf table) g.columns) (sym c.in-Ok.ensures.exact) columns;
-  nothing = ap (λ (g : Grid). g.pending) c.in-Ok.ensures.exact;
+  columns = subst (λ (g : Grid). All (IsColumnOf all) g.columns) (sym c.in-Ok.ensures.exact) columns;
+  pending = λ p e. absurd (no_none p (sym (ap (λ (g : Grid). g.pending) c.in-Ok.ensures.exact) ∙ e));
   next = subst NextFails (sym c.in-Ok.ensures.exact) (rw c.in-Range.is at c.requires);
 }

@@ -1,4 +1,4 @@
-use Rattle.std.proofs.Common.{◌≡◌, ℕ, ◌<◌}
+use Rattle.std.proofs.Common.{ℕ, ◌<◌}
 use Rattle.std.specs.Prelude.{slice_index_or}
 use Rattle.smt_meaning.specs.declared.clauses.Summand.{Summand}
 use Rattle.theory_steps.specs.Shown.{IsMarkedLeaf}

@@ -1,4 +1,4 @@
-use Rattle.std.proofs.Common.{rules, ◌≡◌, ◌∙◌, ◌&&◌, Bool, true, sym, ap, ap₂}
+use Rattle.std.proofs.Common.{rules, ◌∙◌, ◌&&◌, Bool, sym, ap, ap₂}
 use Rattle.std.proofs.lemmas.Int.{to_z-of_z}
 use mir.Syntax.{w128}
 use mir.Val.{SFits}

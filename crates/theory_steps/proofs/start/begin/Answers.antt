@@ -1,34 +1,27 @@
-use Rattle.std.proofs.Common.{rules, ◌≡◌, ◌∙◌, ◌+◌, ◌<◌, ◌^◌, true, List, [], length, sym, subst}
-use Rattle.literals.specs.Signed.{Signed}
-use Rattle.closure_log.specs.Places.{ArePlaces}
-use Rattle.theory_steps.proofs.Beginning.{sorted_parts, readable, setting, begins_shown}
+use Rattle.std.proofs.Common.{[]}
+use Rattle.std.specs.Prelude.{None}
+use Rattle.std.proofs.lemmas.List.Elements.{All-nil}
+use Rattle.smt_meaning.specs.CheckAtoms.{IsLeaf}
+use Rattle.flat_stack.specs.Flat.{flat}
+use Rattle.bound_log.proofs.Taking.{err_is}
+use Rattle.theory_steps.specs.declared.errors.BoundError.TheVariants.{Memory}
+use Rattle.theory_steps.specs.Errors.{IsErrorSeen}
+use Rattle.theory_steps.proofs.Beginning.{begins_shown}
+use Rattle.theory_steps.proofs.Past.{error_seen, error_with}
 use Rattle.theory_steps.proofs.start.begin.Goals as goal
 
-pub returns : goal.returns
-returns c =
-    let yes : c.are_of_bools.result ≡ true = search rules in
-    let few : length c.args.stack.now.trees + 2 < 2 ^ 32 = search rules in
-    record {
-      parts = sorted_parts c.args.stack.now c.args.marks.now c.laws.ensures c.requires.marks c.args.atoms.now.atoms c.requires.atoms c.sorts.result.now c.sorts.ensures;
-      readable =
-          readable c.args.stack.now c.args.marks.now c.laws.ensures c.requires.marks c.args.atoms.now.atoms c.requires.atoms c.sorts.result.now c.sorts.ensures c.in_ok-readable.readable.items
-          (rw c.terms-2.ensures.trees at c.in_ok-readable.ensures);
-      whole = record {
-        setting =
-            setting c.args.stack.now c.args.marks.now c.laws.ensures c.requires.marks c.args.atoms.now.atoms c.requires.atoms c.sorts.result.now c.sorts.ensures c.symbols_are_declared.ensures
-            c.flat_says_the_same.ensures (c.are_of_bools.ensures yes) few;
-        marked = c.requires.atoms.over_parts;
-        held = record {
-          told = c.in_ok-closure.ensures.told c.args.atoms.now.atoms;
-          knows = c.in_ok-bounds.ensures.knows;
-          columns = c.in_ok-bounds.ensures.columns;
-          same = c.in_ok-bounds.ensures.log ∙ sym c.in_ok-closure.ensures.log;
-          size = c.in_ok-grow.ensures.size ∙ c.len-2.ensures.count;
-          told_at = subst (λ (ls : List Signed). ArePlaces ls c.grow.new.self.places.items) (sym c.in_ok-closure.ensures.log) (c.grow.ensures.told [] c.new-scan.ensures.told);
-        };
-      };
-      log = c.in_ok-closure.ensures.log;
-      of_assertions = c.requires.marks.only;
-      shown =
-          begins_shown c.flat_says_the_same.ensures c.atoms_are_of_stack.ensures c.args.stack.now c.args.marks.now c.args.atoms.now.atoms c.laws.ensures c.requires.marks c.requires.atoms;
-    }
+pub returns-in_err-bounds-clause-err : goal.returns-in_err-bounds-clause-err
+returns-in_err-bounds-clause-err c =
+    let s = c.args.stack.now in
+    let table = c.args.atoms.now.atoms in
+    let e = c.in_err-bounds.field-0.0 in
+    err_is c.from_residual.result e (IsErrorSeen s []) c.from_residual.ensures.1
+    (error_seen s [] None table (begins_shown c.flat_says_the_same.ensures c.atoms_are_of_stack.ensures s c.args.marks.now table c.laws.ensures c.requires.marks c.requires.atoms) e
+    (error_with s table [] (All-nil (IsLeaf s.trees (flat s.frames))) e c.in_err-bounds.ensures.err))
+
+pub begin_with-requires-clause-columns : goal.begin_with-requires-clause-columns
+begin_with-requires-clause-columns c =
+    record { own = []; leaves = All-nil (IsLeaf c.args.stack.now.trees (flat c.args.stack.now.frames)); columns = c.in_ok-bounds.ensures.columns }
+
+pub returns-in_err-begun-clause-err : goal.returns-in_err-begun-clause-err
+returns-in_err-begun-clause-err c = err_is c.from_residual-in_err-begun.result Memory (IsErrorSeen c.args.stack.now []) c.from_residual-in_err-begun.ensures.1 tt

@@ -11,4 +11,4 @@ search-requires-clause-all c =
     let first = c.atoms_are_first.ensures s c.in-Ok.parts.marks.items c.in-Ok.parts.atoms.atoms c.laws.ensures c.in-Ok.ensures.parts c.in-Ok.ensures.atoms in
     λ a among.
     subst (λ (table : List Atom). Contains table a ⊎ IsSameOfBools s a)
-    (sym (ap (λ (t : TheoryState). t.reading.table) c.in-Ok-new.ensures ∙ ap (λ (p : CheckAtoms). p.atoms.atoms) c.check_clauses.ensures.same)) (first.0.all a among)
+    (sym (ap (λ (t : TheoryState). t.reading.table) c.in-Ok-new.ensures.ok ∙ ap (λ (p : CheckAtoms). p.atoms.atoms) c.check_clauses.ensures.same)) (first.0.all a among)

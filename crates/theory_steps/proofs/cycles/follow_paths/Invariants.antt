@@ -1,0 +1,12 @@
+use Rattle.std.proofs.Common.{◌≡◌, All}
+use Rattle.literal_steps.specs.Implied.{IsPressingLemma}
+use Rattle.closure_log.specs.Seen.{state_of}
+use Rattle.theory_steps.specs.Held.{IsHeld}
+use Rattle.theory_steps.proofs.cycles.follow_paths.Given as goal
+
+abbrev pub invariant-loop-turn : goal.invariant-loop-turn
+invariant-loop-turn l = record {
+  held : IsHeld l.stack l.atoms.atoms l.held;
+  log : l.held.closure.log.items ≡ l.initial.held.closure.log.items;
+  found : All (IsPressingLemma (state_of l.stack l.atoms.atoms l.held.closure.log.items)) l.clauses.items;
+}

@@ -1,0 +1,12 @@
+use Rattle.std.proofs.Common.{◌≡◌, List}
+use Rattle.smt_meaning.specs.declared.clauses.Atom.{Atom}
+use Rattle.bound_log.specs.Atoms.{KnowsTheSame}
+use Rattle.theory_steps.specs.Columns.{HasKnownColumns}
+use Rattle.theory_steps.proofs.start.add_leaves.Given as goal
+
+abbrev pub invariant-loop-place : goal.invariant-loop-place
+invariant-loop-place l = record {
+  knows : KnowsTheSame l.initial.bounds l.bounds;
+  columns : (table : List Atom) → HasKnownColumns l.stack table l.initial.bounds → HasKnownColumns l.stack table l.bounds;
+  log : l.bounds.log ≡ l.initial.bounds.log;
+}

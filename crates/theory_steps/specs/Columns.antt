@@ -1,0 +1,23 @@
+-- The variables of bounds, as those of leaves and of a table's atoms.
+use Rattle.std.specs.Prelude.{ℕ, List, map, ◌++◌, pos, All}
+use Rattle.smt_meaning.specs.declared.clauses.Atom.{Atom}
+use Rattle.smt_meaning.specs.StackCommand.{Stack}
+use Rattle.smt_meaning.specs.Boxes.{term_at_most}
+use Rattle.smt_meaning.specs.CheckAtoms.{IsLeaf}
+use Rattle.flat_stack.specs.Flat.{flat}
+use Rattle.bound_log.specs.Told.{State}
+use Rattle.bound_log.specs.Columns.{HasColumnsOf}
+
+-- a bound on the leaf alone
+abbrev pub bound_on : ℕ → Atom
+bound_on term = term_at_most term (pos 0)
+
+-- the atoms of a table, behind bounds on these leaves alone
+abbrev pub with_leaves : List ℕ → List Atom → List Atom
+with_leaves own table = map bound_on own ++ table
+
+-- each variable is of one of some leaves, of a term of an atom, or of the sum of an atom
+pub record HasKnownColumns (s : Stack) (table : List Atom) (b : State) : Type 0 where
+  pub own : List ℕ
+  pub leaves : All (IsLeaf s.trees (flat s.frames)) own
+  pub columns : HasColumnsOf (with_leaves own table) b
