@@ -15,14 +15,29 @@ struct Shown {
 
 /// What the first s-expression of a script is as a command, or the number of the error, as a text.
 pub fn judged(alloc: Global, script: &[u8]) -> Result<Vec<u8>, AllocError> {
+    match first(alloc, script)? {
+        Some(sexpr) => taken(alloc, &sexpr),
+        None => Ok(Vec::new(alloc)),
+    }
+}
+
+/// The first s-expression of a script.
+fn first(alloc: Global, script: &[u8]) -> Result<Option<SExpr>, AllocError> {
     let mut reader = Reader::new(alloc);
     reader.feed(script)?;
     reader.finish();
+    Ok(match reader.next(alloc)? {
+        Next::Ready(sexpr) => Some(sexpr),
+        _ => None,
+    })
+}
+
+/// What an s-expression is as a command.
+fn taken(alloc: Global, sexpr: &SExpr) -> Result<Vec<u8>, AllocError> {
+    let answer = command(alloc, sexpr)?;
     let text = Vec::new(alloc);
     let mut shown = Shown { alloc, text };
-    if let Next::Ready(sexpr) = reader.next(alloc)? {
-        shown.answer(&command(alloc, &sexpr)?)?;
-    }
+    shown.answer(&answer)?;
     let Shown { text, .. } = shown;
     Ok(text)
 }

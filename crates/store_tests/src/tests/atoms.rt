@@ -31,15 +31,24 @@ fn atom(rt: &impl Abort, table: &AtomTable, number: u32) -> CompactAtom {
     table.atom(number)
 }
 
+/// Whether an atom gets this number, and is new or not, and is found by both.
+fn gets(
+    rt: &impl Abort,
+    table: &mut AtomTable,
+    row: &(CompactAtom, u32, bool),
+) -> Result<bool, AllocError> {
+    let (wanted, place, is_new) = *row;
+    if number(rt, table, wanted)? != (place, is_new) {
+        return Ok(false);
+    }
+    Ok(table.find(wanted) == Some(place) && atom(rt, table, place) == wanted)
+}
+
 #[test]
 fn equal_atoms_have_one_number(rt: HostRuntime) -> Result<(), Fail> {
     let mut table = AtomTable::new(rt.alloc());
     for row in ATOMS.iter() {
-        let (wanted, place, is_new) = *row;
-        let got = number(&rt, &mut table, wanted)?;
-        assert_eq!(rt; got, (place, is_new), "{wanted:?}");
-        assert_eq!(rt; table.find(wanted), Some(place));
-        assert_eq!(rt; atom(&rt, &table, place), wanted);
+        assert!(rt; gets(&rt, &mut table, row)?, "at {row:?}");
     }
     assert_eq!(rt; table.len(), 5);
     assert_eq!(rt; table.find(Same(4, 4)), None);

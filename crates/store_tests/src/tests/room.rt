@@ -17,24 +17,47 @@ fn intern(
     store.intern(head, arguments)
 }
 
-/// A list of at most so many terms, with two constants.
-fn constants(rt: &impl Abort, alloc: Global, limit: u32) -> Result<TermStore, Fail> {
+/// A list of at most so many terms, of which these stand in it, each after its arguments.
+fn store_of(
+    rt: &impl Abort,
+    alloc: Global,
+    limit: u32,
+    terms: &[(Head, &[TermId])],
+) -> Result<TermStore, InternError> {
     let mut store = TermStore::new(alloc, limit);
-    intern(rt, &mut store, Head::Symbol(0), &[])?;
-    intern(rt, &mut store, Head::Symbol(1), &[])?;
+    for (head, arguments) in terms {
+        let _ = intern(rt, &mut store, *head, arguments)?;
+    }
     Ok(store)
+}
+
+/// Two constants.
+static CONSTANTS: [(Head, &'static [TermId]); 2] = [(Head::Symbol(0), &[]), (Head::Symbol(1), &[])];
+
+/// The second one, its negation, and the negation of that.
+static OTHERS: [(Head, &'static [TermId]); 3] = [
+    (Head::Symbol(1), &[]),
+    (Head::Theory(Operator::Not), &[0]),
+    (Head::Theory(Operator::Not), &[1]),
+];
+
+/// Whether two constants, with room for a term more, lack room for these terms, and how many terms stand there then.
+fn lacks(rt: &impl Abort, alloc: Global, others: &TermStore) -> Result<(bool, u32), InternError> {
+    let mut store = store_of(rt, alloc, 3, &CONSTANTS)?;
+    let lacks = lacks_room(alloc, others, &mut store)?;
+    Ok((lacks, store.len()))
+}
+
+/// The same, of the first so many of the others.
+fn lacks_first(rt: &impl Abort, alloc: Global, count: usize) -> Result<(bool, u32), InternError> {
+    let others = store_of(rt, alloc, 9, &OTHERS[..count.min(3)])?;
+    lacks(rt, alloc, &others)
 }
 
 #[test]
 fn terms_that_are_there_take_no_room(rt: HostRuntime) -> Result<(), Fail> {
-    let mut store = constants(&rt, rt.alloc(), 3)?;
-    let mut others = TermStore::new(rt.alloc(), 9);
-    let not = Head::Theory(Operator::Not);
-    intern(&rt, &mut others, Head::Symbol(1), &[])?;
-    intern(&rt, &mut others, not, &[0])?;
-    assert!(rt; !lacks_room(rt.alloc(), &others, &mut store)?);
-    intern(&rt, &mut others, not, &[1])?;
-    assert!(rt; lacks_room(rt.alloc(), &others, &mut store)?);
-    assert_eq!(rt; store.len(), 2);
+    for (count, is_lacking) in [(2, false), (3, true)] {
+        assert_eq!(rt; lacks_first(&rt, rt.alloc(), count)?, (is_lacking, 2));
+    }
     Ok(())
 }
