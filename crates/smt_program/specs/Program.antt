@@ -1,7 +1,7 @@
 -- What the program comes to: its run, and what it says of how that ended.
 use Rattle.std.specs.Prelude.{◌≡◌, ◌⊎◌, ◌^◌, List, [], ℕ, Result, Ok, Err, codes, map, string_bytes, Vec, String}
 use Rattle.ports.specs.Flow.{SinkTold, Rose}
-use Rattle.whole_decider.specs.Taken.{every_stack}
+use Rattle.smt_top.specs.Taken.{every_stack}
 use Rattle.smt_words.specs.declared.error.WordsError.{WordsError}
 use Rattle.smt_top.specs.declared.top.Note.{Note}
 use Rattle.smt_top.specs.declared.top.Note.TheVariants.{Fine, Words, ReadFault, WriteFault, NoMemory, TooLong}

@@ -15,6 +15,7 @@ mod words;
 
 use line::line;
 use ports::{Gate, OpenGate, ReadSource, Sink, Source, WriteSink};
+pub use smt_top::{Note, run, run_within};
 use smt_top::{Forgetting, Outcome, run_through, unbegun};
 use smt_words::WordsError;
 use std::alloc::Global;
