@@ -1,6 +1,7 @@
 #!/usr/bin/env bash
 # The time of checks with integers, beside z3 and cvc5 on the same scripts where they are there: job shops, difference logic, pigeons over integers, magic squares, subset sums, bounded
-# systems, arrays by functions, unrolled loops, and small checks under push and pop. A wrong answer is said.
+# systems, arrays by functions, unrolled loops, verification conditions with functions and indices, and small checks under push and pop. A wrong answer is said. At the end
+# stands a line for each family: how many scripts were answered, and the geometric means of the ratios to z3's times and to cvc5's.
 # Use: bench/integers.sh [SECONDS], at the top of the repository, after a build.
 set -eu
 limit=${1:-10}
@@ -69,6 +70,34 @@ def loop(n):
     lines = ints('x%d' % k for k in range(n + 1)) + ints('y%d' % k for k in range(n + 1)) + ['(assert (and (= x0 0) (= y0 0)))']
     for k in range(n): lines += ['(assert (= x%d (+ x%d 1)))' % (k + 1, k), '(assert (= y%d (ite (< x%d %d) (+ y%d 2) (+ y%d 1))))' % (k + 1, k, n // 2, k, k)]
     return lines + ['(assert (distinct y%d %d))' % (n, 2 * (n // 2) + (n - n // 2)), '(check-sat)']
+def greatest(n, strict):  # the greatest of an array is kept by a step of the loop, at any index; n steps
+    lines = ['(declare-fun f (Int) Int)'] + ints(['k', 'n'] + ['i%d' % j for j in range(n + 1)] + ['m%d' % j for j in range(n + 1)])
+    lines += ['(assert (and (<= 0 i0) (<= 0 k)))', '(assert (=> (< k i0) (<= (f k) m0)))']
+    for j in range(n):
+        lines += ['(assert (< i%d n))' % j, '(assert (= i%d (+ i%d 1)))' % (j + 1, j), '(assert (= m%d (ite (> (f i%d) m%d) (f i%d) m%d)))' % (j + 1, j, j, j, j)]
+    return lines + ['(assert (%s k i%d))' % ('<' if strict else '<=', n), '(assert (> (f k) m%d))' % n, '(check-sat)']
+def halving(n, right):  # the bounds of a binary search stay in order and in the array, and come nearer; n steps
+    lines = ['(declare-fun a (Int) Int)'] + ints(['size', 'key', 'at'] + [c + str(j) for c in ('lo', 'hi') for j in range(n + 1)] + ['d%d' % j for j in range(n)])
+    lines += ['(assert (and (<= 0 lo0) (<= lo0 hi0) (<= hi0 size)))', '(assert (= (a at) key))', '(assert (and (<= lo0 at) (< at hi0)))']
+    for j in range(n):
+        mid = '(+ lo%d d%d)' % (j, j)
+        lines += ['(assert (< lo%d hi%d))' % (j, j), '(assert (and (<= 0 d%d) (<= (* 2 d%d) (- hi%d lo%d)) (< (- hi%d lo%d) (+ (* 2 d%d) 2))))' % ((j, j) + (j,) * 5)]
+        lines += ['(assert (=> (< at %s) (< (a at) (a %s))))' % (mid, mid), '(assert (=> (< %s at) (< (a %s) (a at))))' % (mid, mid)]
+        lines.append('(assert (ite (< (a %s) key) (and (= lo%d (+ %s %d)) (= hi%d hi%d)) (and (= lo%d lo%d) (= hi%d (+ %s 1)))))' % (mid, j + 1, mid, 1 if right else 2, j + 1, j, j + 1, j, j + 1, mid))
+    return lines + ['(assert (not (and (<= 0 lo%d) (<= lo%d at) (< at hi%d) (<= hi%d size))))' % ((n,) * 4), '(check-sat)']
+def swaps(n):  # after swaps of neighbours each way the old array is back
+    lines = ['(declare-fun a%d (Int) Int)' % j for j in range(2 * n + 1)] + ints(['k', 'i'])
+    places = list(range(n)) + list(range(n))[::-1]
+    for j, p in enumerate(places):
+        x, y = '(+ i %d)' % p, '(+ i %d)' % (p + 1)
+        lines += ['(assert (and (= (a%d %s) (a%d %s)) (= (a%d %s) (a%d %s))))' % (j + 1, x, j, y, j + 1, y, j, x)]
+        lines += ['(assert (or (= k %s) (= k %s) (= (a%d k) (a%d k))))' % (x, y, j + 1, j)]
+        lines += ['(assert (= (a%d (+ i %d)) (a%d (+ i %d))))' % (j + 1, q, j, q) for q in range(n + 1) if q not in (p, p + 1)]
+    return lines + ['(assert (distinct (a%d k) (a0 k)))' % (2 * n), '(check-sat)']
+def ordered(n, wrong):  # in an array whose neighbours are in order the first isn't above the last
+    lines = ['(declare-fun f (Int) Int)'] + ints(['i'])
+    lines += ['(assert (<= (f (+ i %d)) (f (+ i %d))))' % (j, j + 1) for j in range(n) if j != wrong]
+    return lines + ['(assert (> (f i) (f (+ i %d))))' % n, '(check-sat)']
 def small(n):
     r = random.Random(7)
     lines = ['(declare-fun f (Int) Int)'] + ints('abcd')
@@ -87,6 +116,9 @@ for n in (8, 12, 16): write('subset_%02d' % n, subset(n, n))
 for n in (5, 10, 15): write('system_%02d' % n, system(n, n))
 for n in (4, 6, 8): write('arrays_%d' % n, arrays(n, n))
 for n in (10, 20, 50): write('loop_%02d' % n, loop(n))
+write('verify_greatest_3', greatest(3, True)); write('verify_greatest_8', greatest(8, True)); write('verify_greatest_wrong', greatest(3, False))
+write('verify_halving_1', halving(1, True)); write('verify_halving_3', halving(3, True)); write('verify_halving_wrong', halving(2, False))
+write('verify_swaps_3', swaps(3)); write('verify_ordered_20', ordered(20, 20)); write('verify_ordered_wrong', ordered(20, 7))
 write('small_checks', small(2000))
 END
 measure() { # NAME COMMAND..
@@ -96,7 +128,7 @@ measure() { # NAME COMMAND..
     end=$(date +%s.%N)
     echo "$end $start" | awk '{ printf "%.3f", $1 - $2 }'
 }
-printf '%-18s %10s %10s %10s  %s\n' script smt_cli z3 cvc5 answers
+printf '%-22s %10s %10s %10s  %s\n' script smt_cli z3 cvc5 answers
 for script in *.smt2; do
     name=${script%.smt2}
     own=$(measure "$name.own" sh -c "'$program' < $script")
@@ -106,5 +138,18 @@ for script in *.smt2; do
     if command -v cvc5 > /dev/null; then cvc5=$(measure "$name.cvc5" cvc5 --incremental "$script"); fi
     answer=$(head -c 200 "$name.own.out" | head -1)
     if [ -s "$name.own.out" ] && [ -s "$name.z3.out" ] && ! cmp -s "$name.own.out" "$name.z3.out"; then answer="$answer WRONG"; fi
-    printf '%-18s %10s %10s %10s  %s\n' "$name" "$own" "$z3" "$cvc5" "${answer:--}"
+    printf '%-22s %10s %10s %10s  %s\n' "$name" "$own" "$z3" "$cvc5" "${answer:--}"
+    echo "${name%%_*} $own $z3 $cvc5 ${answer:--}" >> times
 done
+awk '
+function mean(sum, count) { return count ? sprintf("%.2f", exp(sum / count)) : "-" }
+function more(time) { return time > 0.001 ? time : 0.001 }
+!($1 in all) { order[++families] = $1 }
+{ all[$1]++ }
+$5 ~ /^(sat|unsat)$/ && $6 == "" { solved[$1]++ }
+$3 != "-" { z3[$1] += log(more($2) / more($3)); with_z3[$1]++ }
+$4 != "-" { cvc5[$1] += log(more($2) / more($4)); with_cvc5[$1]++ }
+END {
+    printf "\n%-22s %10s %10s %10s\n", "family", "answered", "to z3", "to cvc5"
+    for (k = 1; k <= families; k++) { f = order[k]; printf "%-22s %10s %10s %10s\n", f, solved[f] + 0 "/" all[f], mean(z3[f], with_z3[f]), mean(cvc5[f], with_cvc5[f]) }
+}' times
