@@ -1,6 +1,6 @@
 #!/usr/bin/env bash
-# The time of checks with integers, beside z3 and cvc5 on the same scripts where they are there: job shops, difference logic, pigeons over integers, magic squares, subset sums, bounded
-# systems, arrays by functions, unrolled loops, verification conditions with functions and indices, and small checks under push and pop. A wrong answer is said. At the end
+# The processor time of checks with integers, beside z3 and cvc5 on the same scripts where they are there: job shops, difference logic, pigeons over integers, magic squares, subset sums, bounded
+# systems, arrays by functions, unrolled loops, verification conditions with functions and indices, and small checks under push and pop, of the same few terms and of new terms each time. A wrong answer is said. At the end
 # stands a line for each family: how many scripts were answered, and the geometric means of the ratios to z3's times and to cvc5's.
 # Use: bench/integers.sh [SECONDS], at the top of the repository, after a build.
 set -eu
@@ -108,6 +108,10 @@ def small(n):
             lines.append(r.choice(['(assert (<= %s (+ %s %s)))' % (s, t, number(r.randint(-3, 3))), '(assert (= (f %s) %s))' % (s, t), '(assert (distinct (f (f %s)) %s))' % (s, t), '(assert (or (< %s %s) (= (f %s) 2)))' % (s, t, t)]))
         lines += ['(assert (<= 0 a b c d 6))', '(check-sat)', '(pop 1)']
     return lines
+def fresh(n):
+    lines = ['(declare-fun f (Int) Int)'] + ints('ab')
+    for k in range(n): lines += ['(push 1)', '(assert (and (<= a (+ b %d)) (= (f %d) (+ a %d)) (<= 0 a b %d)))' % (k, k, k, k + 5), '(check-sat)', '(pop 1)']
+    return lines
 write('shop_3x3', shop(3, 3, 25, 1)); write('shop_4x4', shop(4, 4, 40, 2)); write('shop_6x5', shop(6, 5, 60, 3))
 for n in (20, 50, 100): write('differences_%03d' % n, differences(n, n))
 for n in (4, 5, 6, 7): write('pigeons_%d' % n, pigeons(n))
@@ -119,19 +123,17 @@ for n in (10, 20, 50): write('loop_%02d' % n, loop(n))
 write('verify_greatest_3', greatest(3, True)); write('verify_greatest_8', greatest(8, True)); write('verify_greatest_wrong', greatest(3, False))
 write('verify_halving_1', halving(1, True)); write('verify_halving_3', halving(3, True)); write('verify_halving_wrong', halving(2, False))
 write('verify_swaps_3', swaps(3)); write('verify_ordered_20', ordered(20, 20)); write('verify_ordered_wrong', ordered(20, 7))
-write('small_checks', small(2000))
+write('small_checks', small(2000)); write('small_fresh', fresh(4000))
 END
 measure() { # NAME COMMAND..
-    local start end
-    start=$(date +%s.%N)
-    timeout "$limit" "${@:2}" > "$1.out" 2> /dev/null || true
-    end=$(date +%s.%N)
-    echo "$end $start" | awk '{ printf "%.3f", $1 - $2 }'
+    local spent
+    spent=$({ TIMEFORMAT='%U %S'; time timeout "$limit" "${@:2}" > "$1.out" 2> /dev/null || true; } 2>&1)
+    echo "$spent" | awk '{ printf "%.3f", $1 + $2 }'
 }
 printf '%-22s %10s %10s %10s  %s\n' script smt_cli z3 cvc5 answers
 for script in *.smt2; do
     name=${script%.smt2}
-    own=$(measure "$name.own" sh -c "'$program' < $script")
+    own=$(measure "$name.own" "$program" < "$script")
     z3=-
     cvc5=-
     if command -v z3 > /dev/null; then z3=$(measure "$name.z3" z3 "$script"); fi

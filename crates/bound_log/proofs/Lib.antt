@@ -8,3 +8,5 @@ pub mod Columns
 pub mod Taking
 pub mod Lines
 pub mod Implying
+pub mod Runs
+pub mod Pivots

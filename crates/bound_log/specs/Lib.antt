@@ -7,3 +7,4 @@ pub mod Growth
 pub mod Values
 pub mod Reporting
 pub mod Implied
+pub mod Pivots

@@ -20,6 +20,7 @@ ghost use Rattle.bound_log.specs.Atoms.{SaysNothing, Knows, KnowsTheSame, KnowsO
 ghost use Rattle.bound_log.specs.Columns.{KeepsColumns, AddsColumns};
 ghost use Rattle.bound_log.specs.Growth.{IsGrown, IsProper};
 ghost use Rattle.bound_log.specs.Pending.{plain_grid, with_pending, FailsToTake, FailsToTell};
+ghost use Rattle.bound_log.specs.Pivots.{AddsPivots};
 ghost use Rattle.bound_log.specs.Reporting.{Judges, SpendsRoom, IsClause};
 ghost use Rattle.bound_log.specs.declared.said.Said.TheVariants.{Nothing};
 
@@ -235,7 +236,7 @@ impl BoundLog {
         }
     }
 
-    /// Moves values until the terms' values meet all bounds told, or finds a clause that the log breaks, or a step that doesn't fit or is a pivot past the room.
+    /// Moves values until the terms' values meet all bounds told, or finds a clause that the log breaks, or a step that doesn't fit or is a pivot past the room. Where lines are kept, that of each pivot is added: it is by Bland's rule, in a row over known atoms.
     pub fn check(&mut self, alloc: Global, kept: &mut PivotLines, room: u64) -> Reported
         ensures run { IsRun self.old.bounds.table self.old.bounds.columns self.new.bounds.table self.new.bounds.columns result.pivots }
         ensures log { self.new.log ≡ self.old.log }
@@ -248,8 +249,11 @@ impl BoundLog {
         ensures lines { KeepsLines kept.old.keep result.pivots (grid_of self.old.bounds.table self.old.bounds.columns) (grid_of self.new.bounds.table self.new.bounds.columns) kept.old.lines.items kept.new.lines.items }
         ensures keep { kept.new.keep ≡ kept.old.keep }
         ensures rests { KeepsResting (grid_of self.old.bounds.table self.old.bounds.columns) (grid_of self.new.bounds.table self.new.bounds.columns) }
+        ensures pivots { AddsPivots self.old kept.old.keep result.pivots kept.old.lines.items kept.new.lines.items }
     {
         conflicts_are_valid();
+        self.bounds.facts();
+        self.bounds.origins();
         let Checked { finding, pivots } = self.bounds.check(alloc, kept, room);
         self.bounds.facts();
         self.bounds.origins();

@@ -16,3 +16,5 @@ pub mod SortLemmas
 pub mod FactLemmas
 pub mod LevelSteps
 mod KeptSteps
+pub mod SeenLemmas
+pub mod CopyLemmas

@@ -6,3 +6,4 @@ pub mod Carries
 pub mod Shown
 pub mod Facts
 pub mod Kept
+pub mod Seen

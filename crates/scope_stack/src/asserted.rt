@@ -1,10 +1,14 @@
 //! Assertions by levels.
-ghost use Rattle.std.specs.Prelude.{◌≡◌, ◌+◌, ◌-◌, ◌<◌, ◌++◌, ◌∷◌, [], length, take, replicate, OnOk, OnErr};
+ghost use Rattle.std.specs.Prelude.{◌≡◌, ◌+◌, ◌-◌, ◌<◌, ◌++◌, ◌∷◌, [], length, take, replicate, map, All, IfOk, OnOk, OnErr};
+ghost use Rattle.scope_stack.specs.Inside.{asserted_by, IsWithin};
 ghost use Rattle.scope_stack.specs.Pieces.{all_of, on_last};
+ghost use Rattle.scope_stack.specs.Seen.{AreCopies, AreMoved};
 
 use crate::answers::Assertion;
+use smt_meaning::TermId;
 use std::alloc::{AllocError, Global};
 use std::marker::Model;
+use term_store::TermStore;
 
 /// The assertions of each level, level 0 first. There is a level at least.
 #[derive(Drop)]
@@ -36,6 +40,31 @@ fn extend(starts: &mut Vec<usize>, count: usize, start: usize) -> Result<(), All
         starts.push_reserved(start);
     }
     Ok(())
+}
+
+/// The assertions, where the term at each place has moved to that of its copy.
+fn move_all(
+    alloc: Global,
+    assertions: &[Assertion],
+    terms: &TermStore,
+    copies: &TermStore,
+    places: &[TermId],
+) -> Result<Vec<Assertion>, AllocError>
+    requires within { All (IsWithin terms.now.trees) assertions.now }
+    requires places { AreCopies terms.now.trees copies.now.trees places.now }
+    ensures same { IfOk result (λ v. map (asserted_by copies.now.trees) v.items ≡ map (asserted_by terms.now.trees) assertions.now) }
+    ensures within { IfOk result (λ v. All (IsWithin copies.now.trees) v.items) }
+{
+    let mut moved = Vec::new(alloc);
+    for assertion in assertions {
+        let place = places[assertion.term as usize];
+        if place >= copies.len() {
+            return Err(AllocError);
+        }
+        let text = assertion.text.copy(alloc)?;
+        moved.push(Assertion { text, term: place })?;
+    }
+    Ok(moved)
 }
 
 impl Asserted {
@@ -100,5 +129,22 @@ impl Asserted {
     {
         self.items.clear();
         self.starts.clear();
+    }
+
+    /// The same assertions by levels, where the term at each place has moved to that of its copy. An `Err` is for want of memory, or where a term has no copy.
+    pub(crate) fn moved(
+        &self,
+        alloc: Global,
+        terms: &TermStore,
+        copies: &TermStore,
+        places: &[TermId],
+    ) -> Result<Asserted, AllocError>
+        requires within { All (IsWithin terms.now.trees) (all_of self.now) }
+        requires places { AreCopies terms.now.trees copies.now.trees places.now }
+        ensures { IfOk result (AreMoved terms.now.trees copies.now.trees self.now) }
+    {
+        let items = move_all(alloc, &self.items, terms, copies, places)?;
+        let starts = self.starts.to_vec(alloc)?;
+        Ok(Asserted { items, starts })
     }
 }

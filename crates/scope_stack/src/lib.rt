@@ -3,8 +3,10 @@
 
 mod answers;
 mod asserted;
+mod copy;
 mod declare;
 mod facts;
+mod few;
 mod framed;
 mod judge;
 mod room;
@@ -12,4 +14,4 @@ mod stack;
 mod term;
 
 pub use answers::{Asked, Assertion, Carried, StackError};
-pub use stack::Stack;
+pub use stack::{Part, ScopeStack, Stack};

@@ -1,10 +1,11 @@
-//! The levels of a run, its declarations, its assertions and its terms.
+//! The levels of a run, its declarations, its assertions and its terms, and what a check sees of them.
 ghost use Rattle.std.specs.Prelude.{◌≡◌, ◌≤◌, ◌<◌, unsigned_abs, IfSome, IfNone};
 
 use crate::answers::{Asked, Assertion, Carried, StackError};
 use crate::asserted::Asserted;
 use crate::declare;
 use crate::facts::{TermFacts, add_assertion};
+use crate::few::{Few, few_terms};
 use crate::term::{judge_assertion, judge_questions};
 use smt_meaning::language::{Parameter, WrittenSort};
 use smt_meaning::{Bytes, Declaration, Refusal, SExpr, Seq, Sort, SymId};
@@ -23,14 +24,14 @@ const MOST_LEVELS: u16 = u16::MAX;
 
 /// The stack of a run: its levels with their declarations and assertions, and the terms that were judged since the start or the last reset.
 #[derive(Drop)]
-pub struct Stack {
+pub struct ScopeStack {
     table: Table,
     terms: TermStore,
     asserted: Asserted,
     facts: TermFacts,
 }
 
-impl Model for Stack {
+impl Model for ScopeStack {
     ghost use Rattle.smt_meaning.specs.StackCommand.{Stack as StackValue};
     ghost use Rattle.scope_stack.specs.StackCode.{coded_stack};
 
@@ -59,23 +60,22 @@ fn at_most(count: i128, most: u32) -> Option<u32>
     }
 }
 
-impl Stack {
-    ghost use Rattle.std.specs.Prelude.{◌≡◌, ◌≤◌, ◌≢◌, [], unsigned_abs, length, List, IfSome, IfNone, Some, None};
-    ghost use Rattle.smt_meaning.specs.Signature.{function_with_id};
+impl ScopeStack {
+    ghost use Rattle.std.specs.Prelude.{◌≡◌, ◌≤◌, ◌≢◌, [], unsigned_abs, length, List, IfOk, IfErr, Some, None};
     ghost use Rattle.smt_meaning.specs.Stack.{depth, signature_of, start_frames};
     ghost use Rattle.smt_meaning.specs.State.{name_of_sort};
     ghost use Rattle.smt_meaning.specs.declared.tokens.Token.{Token};
     ghost use Rattle.scope_stack.specs.declared.answers.Asked.{Asked};
     ghost use Rattle.smt_meaning.specs.StackCommand.{Stack as StackValue, start, declare_sort, define_sort, declare_function, define_function, assert_term, push_levels, pop_levels};
     ghost use Rattle.scope_stack.specs.Carries.{Carries, Answers, IsAsked, IsAfterQuestion};
-    ghost use Rattle.scope_stack.specs.Shown.{AreAsserted, IsLawful};
-    ghost use Rattle.scope_stack.specs.Facts.{AreSorts, AreLevels};
+    ghost use Rattle.scope_stack.specs.Inside.{IsReached};
+    ghost use Rattle.scope_stack.specs.Shown.{AreAsserted};
 
     /// Level 0 alone, with nothing in it. It takes no memory.
     pub fn new(alloc: Global) -> Self
         ensures { result ≡ start }
     {
-        Stack {
+        ScopeStack {
             table: Table::new(alloc),
             terms: TermStore::new(alloc, MOST_TERMS),
             asserted: Asserted::new(alloc),
@@ -98,33 +98,11 @@ impl Stack {
         &self.terms
     }
 
-    /// The sorts of the terms, by their places. Of a term that no longer has one it is any.
-    pub fn sorts(&self) -> &[Sort]
-        ensures { AreSorts (signature_of self.now.frames) self.now.trees (length self.now.trees) result.now }
-    {
-        self.facts.sorts.as_slice()
-    }
-
-    /// The levels of the terms, by their places: each is the least with all symbols of its term. Of a term with a symbol that is no longer declared it is any.
-    pub fn levels(&self) -> &[u16]
-        ensures { AreLevels self.now.frames self.now.trees (length self.now.trees) result.now }
-    {
-        self.facts.levels.as_slice()
-    }
-
     /// The declarations and definitions of all levels, in order.
     pub fn declarations(&self) -> &[Declaration]
         ensures { result.now ≡ signature_of self.now.frames }
     {
         self.table.declarations()
-    }
-
-    /// The function with this id.
-    pub fn function_with_id(&self, id: SymId) -> Option<&Declaration>
-        ensures some { IfSome result (λ d. function_with_id id (signature_of self.now.frames) ≡ Some d.now) }
-        ensures none { IfNone result (function_with_id id (signature_of self.now.frames) ≡ None) }
-    {
-        self.table.function_with_id(id)
     }
 
     /// The name of the sort with this id, empty where there is none.
@@ -139,17 +117,6 @@ impl Stack {
         ensures { AreAsserted self.now result.now }
     {
         self.asserted.all()
-    }
-
-    /// What is true of every stack.
-    pub fn laws(&self)
-        ensures { IsLawful self.now }
-    {
-        let _ = &self.terms;
-        no_id_twice();
-        assertions_are_truths();
-        trees_are_in_order();
-        parts_are_among_the_trees();
     }
 
     /// `(declare-sort name arity)` (section 4.2.3).
@@ -302,5 +269,232 @@ impl Stack {
         self.terms.cut(0);
         self.facts.cut(0);
         self.asserted.clear();
+    }
+
+    /// All that a check may see of it. It takes no memory.
+    pub fn into_stack(self) -> Stack
+        ensures same { result ≡ self }
+        ensures reached { IsReached result }
+    {
+        no_id_twice();
+        assertions_are_truths();
+        trees_are_in_order();
+        parts_are_among_the_trees();
+        let ScopeStack {
+            table,
+            terms,
+            asserted,
+            facts,
+        } = self;
+        Stack {
+            table,
+            terms,
+            asserted,
+            facts,
+        }
+    }
+
+    /// Takes back all that a check saw of it. It takes no memory.
+    pub fn of(stack: Stack) -> Self
+        requires { IsReached stack }
+        ensures { result ≡ stack }
+    {
+        let Stack {
+            table,
+            terms,
+            asserted,
+            facts,
+        } = stack;
+        ScopeStack {
+            table,
+            terms,
+            asserted,
+            facts,
+        }
+    }
+
+    /// What a check needs of it: its levels, with the terms of their assertions alone. `Err` gives it back where most terms are needed, or memory is wanting.
+    pub fn part(self, alloc: Global) -> Result<Part, ScopeStack>
+        ensures ok { IfOk result (λ p. p ≡ self) }
+        ensures err { IfErr result (λ s. s ≡ self) }
+    {
+        no_id_twice();
+        assertions_are_truths();
+        trees_are_in_order();
+        parts_are_among_the_trees();
+        let ScopeStack {
+            table,
+            terms,
+            asserted,
+            facts,
+        } = self;
+        match few_terms(alloc, &table, &terms, &asserted) {
+            Ok(few) => {
+                let stack = Stack {
+                    table,
+                    terms: few.terms,
+                    asserted: few.asserted,
+                    facts: few.facts,
+                };
+                Ok(Part {
+                    stack,
+                    terms,
+                    asserted,
+                    facts,
+                })
+            }
+            Err(_) => Err(ScopeStack {
+                table,
+                terms,
+                asserted,
+                facts,
+            }),
+        }
+    }
+}
+
+/// What a check sees of a stack: its levels with their declarations and assertions, and terms, those of the assertions among them.
+#[derive(Drop)]
+pub struct Stack {
+    table: Table,
+    terms: TermStore,
+    asserted: Asserted,
+    facts: TermFacts,
+}
+
+impl Model for Stack {
+    ghost use Rattle.smt_meaning.specs.StackCommand.{Stack as StackValue};
+    ghost use Rattle.scope_stack.specs.StackCode.{coded_stack};
+
+    ghost Value = { StackValue };
+
+    ghost coded = { coded_stack };
+
+    ghost use Rattle.scope_stack.specs.Inside.{stack_by};
+    ghost use Rattle.scope_stack.specs.Seen.{IsSeen};
+
+    ghost view = { λ s. stack_by s.table s.terms.trees s.asserted };
+
+    ghost invariant = { λ s. IsSeen s.table s.terms s.asserted s.facts.sorts.items s.facts.levels.items };
+}
+
+impl Stack {
+    ghost use Rattle.std.specs.Prelude.{◌≡◌, length, IfSome, IfNone, Some, None};
+    ghost use Rattle.smt_meaning.specs.Signature.{function_with_id};
+    ghost use Rattle.smt_meaning.specs.Stack.{depth, signature_of};
+    ghost use Rattle.scope_stack.specs.Shown.{AreAsserted, IsLawful};
+    ghost use Rattle.scope_stack.specs.Facts.{AreSorts, AreLevels};
+
+    /// How many levels stand above level 0.
+    pub fn depth(&self) -> u16
+        ensures { result ≡ depth self.now.frames }
+    {
+        self.asserted.depth() as u16
+    }
+
+    /// The terms. Their list is the stack's.
+    pub fn terms(&self) -> &TermStore
+        ensures trees { result.now.trees ≡ self.now.trees }
+        ensures limit { result.now.limit ≡ 4294967295 }
+    {
+        &self.terms
+    }
+
+    /// The sorts of the terms, by their places. Of a term that no longer has one it is any.
+    pub fn sorts(&self) -> &[Sort]
+        ensures { AreSorts (signature_of self.now.frames) self.now.trees (length self.now.trees) result.now }
+    {
+        self.facts.sorts.as_slice()
+    }
+
+    /// The levels of the terms, by their places: each is the least with all symbols of its term. Of a term with a symbol that is no longer declared it is any.
+    pub fn levels(&self) -> &[u16]
+        ensures { AreLevels self.now.frames self.now.trees (length self.now.trees) result.now }
+    {
+        self.facts.levels.as_slice()
+    }
+
+    /// The declarations and definitions of all levels, in order.
+    pub fn declarations(&self) -> &[Declaration]
+        ensures { result.now ≡ signature_of self.now.frames }
+    {
+        self.table.declarations()
+    }
+
+    /// The function with this id.
+    pub fn function_with_id(&self, id: SymId) -> Option<&Declaration>
+        ensures some { IfSome result (λ d. function_with_id id (signature_of self.now.frames) ≡ Some d.now) }
+        ensures none { IfNone result (function_with_id id (signature_of self.now.frames) ≡ None) }
+    {
+        self.table.function_with_id(id)
+    }
+
+    /// The assertions of all levels, in order.
+    pub fn assertions(&self) -> &[Assertion]
+        ensures { AreAsserted self.now result.now }
+    {
+        self.asserted.all()
+    }
+
+    /// What is true of every stack.
+    pub fn laws(&self)
+        ensures { IsLawful self.now }
+    {
+        let _ = &self.terms;
+    }
+}
+
+/// A stack, with a part of it that a check may see: the same levels, and fewer terms.
+#[derive(Drop)]
+pub struct Part {
+    stack: Stack,
+    terms: TermStore,
+    asserted: Asserted,
+    facts: TermFacts,
+}
+
+impl Model for Part {
+    ghost use Rattle.smt_meaning.specs.StackCommand.{Stack as StackValue};
+    ghost use Rattle.scope_stack.specs.StackCode.{coded_stack};
+
+    ghost Value = { StackValue };
+
+    ghost coded = { coded_stack };
+
+    ghost use Rattle.scope_stack.specs.Inside.{stack_by};
+    ghost use Rattle.scope_stack.specs.Seen.{names_of, IsPartOf};
+
+    ghost view = { λ p. stack_by (names_of p.stack) p.terms.trees p.asserted };
+
+    ghost invariant = { λ p. IsPartOf p.stack p.terms p.asserted p.facts.sorts.items p.facts.levels.items };
+}
+
+impl Part {
+    ghost use Rattle.std.specs.Prelude.{◌≡◌};
+
+    /// What a check sees.
+    pub fn stack(&self) -> &Stack
+        ensures { result.now.frames ≡ self.now.frames }
+    {
+        &self.stack
+    }
+
+    /// The whole again. It takes no memory.
+    pub fn whole(self) -> ScopeStack
+        ensures { result ≡ self }
+    {
+        let Part {
+            stack,
+            terms,
+            asserted,
+            facts,
+        } = self;
+        let Stack { table, .. } = stack;
+        ScopeStack {
+            table,
+            terms,
+            asserted,
+            facts,
+        }
     }
 }

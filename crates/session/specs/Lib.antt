@@ -3,3 +3,4 @@ pub mod Shown
 pub mod StateCode
 pub mod Effects
 pub mod Heeded
+pub mod Found

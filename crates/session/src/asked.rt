@@ -10,7 +10,7 @@ ghost use Rattle.session.specs.Shown.{IsUnfit};
 use crate::carry::refused;
 use crate::printed::term_values;
 use model_eval::{EvalError, values};
-use scope_stack::{Asked, Stack, StackError};
+use scope_stack::{Asked, ScopeStack, StackError};
 use smt_meaning::language::{Error, Reply, TermValue};
 use smt_meaning::{Interp, SExpr, Seq, TermId};
 use std::alloc::{AllocError, Global};
@@ -19,7 +19,7 @@ use std::alloc::{AllocError, Global};
 pub fn values_of(
     alloc: Global,
     model: &Interp,
-    stack: &mut Stack,
+    stack: &mut ScopeStack,
     terms: &[SExpr],
 ) -> Result<Reply, AllocError>
     ensures ok { IfOk result (λ r. ComesOfQuestion model.now terms.now stack.old r stack.new) }
@@ -48,7 +48,7 @@ pub fn values_of(
 fn evaluated(
     alloc: Global,
     model: &Interp,
-    stack: &Stack,
+    stack: &ScopeStack,
     terms: &[SExpr],
     asked: &[Asked],
 ) -> Result<Seq<TermValue>, EvalError>

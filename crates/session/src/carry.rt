@@ -4,13 +4,17 @@ ghost use Rattle.smt_meaning.specs.StackCommand.{stack_command};
 ghost use Rattle.scope_stack.specs.Carries.{Carries};
 ghost use Rattle.session.specs.Effects.{is_carried, word_of, DeclaresSort};
 
-use scope_stack::{Carried, Stack, StackError};
+use scope_stack::{Carried, ScopeStack, StackError};
 use smt_meaning::language::{Command, Error, Reply};
 use smt_meaning::{Bytes, Refusal};
 use std::alloc::{AllocError, Global};
 
 /// Carries a command of the stack out.
-pub fn carry(alloc: Global, command: &Command, stack: &mut Stack) -> Result<Carried, StackError>
+pub fn carry(
+    alloc: Global,
+    command: &Command,
+    stack: &mut ScopeStack,
+) -> Result<Carried, StackError>
     requires { IsTrue (is_carried command.now) }
     ensures { IfSome (stack_command command.now) (λ c. Carries c stack.old result stack.new) }
 {
@@ -41,7 +45,7 @@ fn declare_sort(
     alloc: Global,
     name: &Bytes,
     arity: i128,
-    stack: &mut Stack,
+    stack: &mut ScopeStack,
 ) -> Result<Carried, StackError>
     ensures { DeclaresSort name.now arity stack.old result stack.new }
 {

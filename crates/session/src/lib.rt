@@ -4,6 +4,7 @@
 mod asked;
 mod carry;
 mod checks;
+mod found;
 mod logic;
 mod options;
 mod printed;

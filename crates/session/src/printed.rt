@@ -4,13 +4,13 @@ ghost use Rattle.smt_meaning.specs.Stack.{signature_of};
 ghost use Rattle.smt_meaning.specs.State.{sort_name as name_of_written, printed as shown, printed_all as all_shown, printed_row as shown_row, printed_function as shown_function, printed_functions as shown_functions};
 ghost use Rattle.session.specs.Shown.{shown_terms};
 
-use scope_stack::{Asked, Assertion, Stack};
+use scope_stack::{Asked, Assertion, ScopeStack};
 use smt_meaning::language::{PrintedFunction, PrintedRow, PrintedValue, TermValue};
 use smt_meaning::{Bytes, Declaration, Row, SExpr, Seq, Sort, Table, Value};
 use std::alloc::{AllocError, Global};
 
 /// The name of a sort.
-fn sort_name(alloc: Global, stack: &Stack, sort: Sort) -> Result<Bytes, AllocError>
+fn sort_name(alloc: Global, stack: &ScopeStack, sort: Sort) -> Result<Bytes, AllocError>
     ensures { IfOk result (λ n. n ≡ name_of_written (signature_of stack.now.frames) sort) }
 {
     match sort {
@@ -23,7 +23,7 @@ fn sort_name(alloc: Global, stack: &Stack, sort: Sort) -> Result<Bytes, AllocErr
 /// A value of a sort.
 fn printed(
     alloc: Global,
-    stack: &Stack,
+    stack: &ScopeStack,
     sort: Sort,
     value: Value,
 ) -> Result<PrintedValue, AllocError>
@@ -39,7 +39,7 @@ fn printed(
 /// Values of these sorts.
 fn printed_all(
     alloc: Global,
-    stack: &Stack,
+    stack: &ScopeStack,
     sorts: &[Sort],
     values: &[Value],
 ) -> Result<Seq<PrintedValue>, AllocError>
@@ -58,7 +58,7 @@ fn printed_all(
 /// A row of a function.
 fn printed_row(
     alloc: Global,
-    stack: &Stack,
+    stack: &ScopeStack,
     declaration: &Declaration,
     row: &Row,
 ) -> Result<PrintedRow, AllocError>
@@ -78,7 +78,7 @@ fn printed_row(
 /// The rows of a function.
 fn printed_rows(
     alloc: Global,
-    stack: &Stack,
+    stack: &ScopeStack,
     declaration: &Declaration,
     rows: &[Row],
 ) -> Result<Seq<PrintedRow>, AllocError>
@@ -92,7 +92,7 @@ fn printed_rows(
 }
 
 /// The names of sorts.
-fn sort_names(alloc: Global, stack: &Stack, sorts: &[Sort]) -> Result<Seq<Bytes>, AllocError>
+fn sort_names(alloc: Global, stack: &ScopeStack, sorts: &[Sort]) -> Result<Seq<Bytes>, AllocError>
     ensures { IfOk result (λ ns. ns ≡ map (name_of_written (signature_of stack.now.frames)) sorts.now) }
 {
     let mut out = Seq::new(alloc);
@@ -105,7 +105,7 @@ fn sort_names(alloc: Global, stack: &Stack, sorts: &[Sort]) -> Result<Seq<Bytes>
 /// A declared function with its table.
 fn printed_function(
     alloc: Global,
-    stack: &Stack,
+    stack: &ScopeStack,
     declaration: &Declaration,
     table: &Table,
 ) -> Result<PrintedFunction, AllocError>
@@ -129,7 +129,7 @@ fn printed_function(
 /// The declared functions of a stack in order, each with its table.
 pub fn printed_functions(
     alloc: Global,
-    stack: &Stack,
+    stack: &ScopeStack,
     tables: &[Table],
 ) -> Result<Seq<PrintedFunction>, AllocError>
     ensures { IfOk result (λ fs. fs ≡ shown_functions (signature_of stack.now.frames) (signature_of stack.now.frames) tables.now) }
@@ -151,7 +151,7 @@ pub fn printed_functions(
 /// Terms as they were given, each with its value.
 pub fn term_values(
     alloc: Global,
-    stack: &Stack,
+    stack: &ScopeStack,
     terms: &[SExpr],
     asked: &[Asked],
     values: &[Value],

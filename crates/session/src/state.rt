@@ -5,10 +5,11 @@ ghost use Rattle.smt_meaning.specs.State.{is_start as is_start_mode};
 use crate::asked::values_of;
 use crate::carry::{carry, refused, word};
 use crate::checks::{in_force, reason_of};
+use crate::found::found;
 use crate::logic::Logic;
 use crate::options::{option_value, options_at_start, start_option, with_setting};
 use crate::printed::{printed_functions, texts_of};
-use scope_stack::{Carried, Stack, StackError};
+use scope_stack::{Carried, ScopeStack, StackError};
 use smt_meaning::language::{
     Command, Error, Info, InfoName, Mode, OptionName, OptionSetting, Options, Reply,
 };
@@ -24,7 +25,7 @@ pub struct Session {
     logic: Option<Logic>,
     mode: Mode,
     options: Options,
-    stack: Stack,
+    stack: ScopeStack,
 }
 
 impl Model for Session {
@@ -67,7 +68,7 @@ impl Session {
             logic: None,
             mode: Mode::Start,
             options: options_at_start(settings),
-            stack: Stack::new(alloc),
+            stack: ScopeStack::new(alloc),
         }
     }
 
@@ -314,11 +315,11 @@ impl Session {
         ensures ok { IfOk result (λ answer. MayCome D.decides self.old (checked (with_logic self.old)) answer.0 answer.1 self.new) }
         ensures err { OnErr result (self.new ≡ self.old) }
     {
-        if !decider.takes(alloc, &self.stack)? {
-            return Ok((Reply::Unsupported, Kept::Nothing));
-        }
         let settings = in_force(&self.settings, &self.options);
-        match decider.decide(alloc, &self.stack, &settings)? {
+        let Some(verdict) = found(alloc, decider, &settings, &mut self.stack)? else {
+            return Ok((Reply::Unsupported, Kept::Nothing));
+        };
+        match verdict {
             Verdict::Sat(model) => {
                 let kept = model.copy_tables(alloc)?;
                 self.need_logic();

@@ -4,3 +4,4 @@
 mod theory;
 
 pub use theory::Combined;
+pub use theory_steps::BoundError;

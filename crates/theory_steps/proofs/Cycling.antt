@@ -1,5 +1,5 @@
 -- Clauses of differences, as conflicts of what is held, and as clauses by which a literal follows.
-use Rattle.std.proofs.Common.{◌≡◌, ◌<◌, ◌∙◌, List, length, refl}
+use Rattle.std.proofs.Common.{◌<◌, List, length, refl}
 use Rattle.std.specs.Prelude.{All, Contains, Option, Some, None, Result, Ok, Err, IfOk, IfSome}
 use Rattle.literals.specs.Signed.{Signed}
 use Rattle.smt_meaning.specs.declared.clauses.Atom.{Atom}

@@ -19,7 +19,7 @@ use Rattle.bound_log.specs.Atoms.{Knows}
 use Rattle.bound_log.specs.Reporting.{IsClause}
 use Rattle.theory_steps.specs.declared.held.Held.{Held}
 use Rattle.theory_steps.specs.declared.held.Met.{Met}
-use Rattle.theory_steps.specs.declared.held.Met.TheVariants.{Fits, Conflict, Past, Ended}
+use Rattle.theory_steps.specs.declared.held.Met.TheVariants.{Fits, Conflict, Past, Spent, Ended}
 use Rattle.theory_steps.specs.Columns.{with_leaves}
 use Rattle.theory_steps.specs.Held.{IsHeld, IsMet, IsMetBy}
 
@@ -41,6 +41,7 @@ met flat_law s table h b Fits setting held knows log by = tt
 met flat_law s table h b (Conflict c) setting held knows log by =
     by.conflict (signature_of s.frames) (state_of s table h.closure.log.items) knows (sym (log ∙ held.same)) (at_one_level flat_law s table h setting held)
 met flat_law s table h b (Past g) setting held knows log by = record { own = held.columns.own; leaves = held.columns.leaves; past = by }
+met flat_law s table h b Spent setting held knows log by = tt
 met flat_law s table h b Ended setting held knows log by = tt
 
 -- a clause that the log breaks is one

@@ -14,5 +14,6 @@ pub mod Own
 pub mod Past
 pub mod Rows
 pub mod Saying
+pub mod Spending
 pub mod Telling
 pub mod Tying

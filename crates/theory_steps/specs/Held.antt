@@ -11,7 +11,7 @@ use Rattle.bound_log.specs.Told.{State}
 use Rattle.bound_log.specs.Reporting.{IsClause}
 use Rattle.theory_steps.specs.declared.held.Held.{Held}
 use Rattle.theory_steps.specs.declared.held.Met.{Met}
-use Rattle.theory_steps.specs.declared.held.Met.TheVariants.{Fits, Conflict, Past, Ended}
+use Rattle.theory_steps.specs.declared.held.Met.TheVariants.{Fits, Conflict, Past, Spent, Ended}
 use Rattle.theory_steps.specs.Columns.{HasKnownColumns}
 use Rattle.theory_steps.specs.Errors.{IsPastOver, IsPastOf}
 
@@ -29,6 +29,7 @@ abbrev pub IsMet : TheoryState → Met → Type 0
 IsMet t Fits = Unit {0}
 IsMet t (Conflict c) = IsConflict t c
 IsMet t (Past g) = IsPastOf t.reading.trees t.reading.frames t.reading.table g
+IsMet t Spent = Unit {0}
 IsMet t Ended = Unit {0}
 
 -- the same of what the bounds have, for each table that they know and the atoms of all their variables
@@ -36,4 +37,5 @@ abbrev pub IsMetBy : State → List Atom → List Atom → Met → Type 0
 IsMetBy b table all Fits = Unit {0}
 IsMetBy b table all (Conflict c) = IsClause b c
 IsMetBy b table all (Past g) = IsPastOver table all g
+IsMetBy b table all Spent = Unit {0}
 IsMetBy b table all Ended = Unit {0}

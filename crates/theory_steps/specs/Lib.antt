@@ -6,6 +6,7 @@ pub mod Found
 pub mod Held
 pub mod Numbering
 pub mod Pairs
+pub mod Pivots
 pub mod Progress
 pub mod Shown
 pub mod Steps

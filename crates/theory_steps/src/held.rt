@@ -7,10 +7,13 @@ ghost use Rattle.search_port.specs.Spending.{Spending};
 ghost use Rattle.bound_log.specs.Atoms.{Knows};
 ghost use Rattle.bound_log.specs.Columns.{HasColumnsOf};
 ghost use Rattle.bound_log.specs.Reporting.{Judges};
+ghost use Rattle.bound_log.specs.declared.report.Report.TheVariants.{UnitsSpent};
 ghost use Rattle.flat_stack.specs.Flat.{flat};
 ghost use Rattle.closure_log.specs.Seen.{state_of, IsSetting};
 ghost use Rattle.theory_steps.specs.Errors.{IsErrorOf};
 ghost use Rattle.theory_steps.specs.Held.{IsHeld, IsMet, IsMetBy};
+ghost use Rattle.theory_steps.specs.Pivots.{ArePivotsOf};
+ghost use Rattle.theory_steps.specs.declared.held.Met.TheVariants.{Spent};
 
 use crate::differences::Differences;
 use crate::errors::{BoundError, untold};
@@ -18,7 +21,7 @@ use atom_numbers::AtomNumbers;
 use bound_log::{BoundLog, Report, Reported};
 use closure_log::{ClosureLog, Guide, Scan, infer};
 use flat_stack::flat_says_the_same;
-use grid_meaning::Grid;
+use grid_meaning::{Grid, Line};
 use literals::Literal;
 use scope_stack::Stack;
 use search_port::{Asserted, Inferred, Lemma};
@@ -51,8 +54,17 @@ pub(crate) enum Met {
     Conflict(Lemma),
     /// The next step of this grid leaves the range.
     Past(Grid),
+    /// There is no room for the pivot that is the next step.
+    Spent,
     /// It didn't come to its end.
     Ended,
+}
+
+/// What a check of the bounds finds, and the lines of its pivots, where they are kept.
+#[derive(Drop)]
+pub(crate) struct Meeting {
+    pub met: Met,
+    pub lines: Vec<Line>,
 }
 
 /// Tells one literal more. After an `Err`, where its bound leaves the range or memory is wanting, it isn't taken.
@@ -111,7 +123,8 @@ pub(crate) fn leads(held: &Held) -> bool {
 /// What a report says, with the grid where a number left the range.
 fn met_by(alloc: Global, bounds: &BoundLog, report: Report) -> Met
     requires { Judges bounds.now report }
-    ensures { (table all : List Atom) → Knows table bounds.now → HasColumnsOf all bounds.now → IsMetBy bounds.now table all result }
+    ensures met { (table all : List Atom) → Knows table bounds.now → HasColumnsOf all bounds.now → IsMetBy bounds.now table all result }
+    ensures spent { result ≡ Spent → report ≡ UnitsSpent }
 {
     match report {
         Report::Fits => Met::Fits,
@@ -120,25 +133,36 @@ fn met_by(alloc: Global, bounds: &BoundLog, report: Report) -> Met
             Ok(grid) => Met::Past(grid),
             Err(_) => Met::Ended,
         },
-        Report::UnitsSpent | Report::Memory => Met::Ended,
+        Report::UnitsSpent => Met::Spent,
+        Report::Memory => Met::Ended,
     }
 }
 
-/// Moves values until all bounds are met, or finds a clause that the bounds break.
-pub(crate) fn meet_bounds(alloc: Global, held: &mut Held, stack: &Stack, atoms: &AtomNumbers) -> Met
+/// Moves values until all bounds are met, or finds a clause that the bounds break, by no more pivots than there is room for.
+pub(crate) fn meet_bounds(
+    alloc: Global,
+    held: &mut Held,
+    stack: &Stack,
+    atoms: &AtomNumbers,
+    keep: bool,
+    room: u64,
+) -> Meeting
     requires setting { IsSetting stack.now atoms.now.atoms }
     requires held { IsHeld stack.now atoms.now.atoms held.old }
     ensures held { IsHeld stack.now atoms.now.atoms held.new }
     ensures log { held.new.closure.log.items ≡ held.old.closure.log.items }
-    ensures met { IsMet (state_of stack.now atoms.now.atoms held.new.closure.log.items) result }
+    ensures met { IsMet (state_of stack.now atoms.now.atoms held.new.closure.log.items) result.met }
+    ensures lines { ArePivotsOf (state_of stack.now atoms.now.atoms held.new.closure.log.items) keep room result }
 {
     flat_says_the_same();
-    let mut lines = PivotLines {
-        keep: false,
+    let mut kept = PivotLines {
+        keep,
         lines: Vec::new(alloc),
     };
-    let Reported { report, pivots: _ } = held.bounds.check(alloc, &mut lines, u64::MAX);
-    met_by(alloc, &held.bounds, report)
+    let Reported { report, pivots: _ } = held.bounds.check(alloc, &mut kept, room);
+    let met = met_by(alloc, &held.bounds, report);
+    let PivotLines { lines, .. } = kept;
+    Meeting { met, lines }
 }
 
 /// A clause that the bounds break over whole numbers, where a row shows one. That it fits says nothing more.

@@ -2,17 +2,20 @@
 ghost use Rattle.std.specs.Prelude.{◌<◌, length};
 ghost use Rattle.search_port.specs.Calls.{CheckedBy, InferredBy};
 ghost use Rattle.sum_bounds.specs.Bounds.{IsFirstIn};
+ghost use Rattle.theory_steps.specs.Held.{IsMet};
+ghost use Rattle.theory_steps.specs.Pivots.{SpendsAll};
 ghost use Rattle.theory_steps.specs.Progress.{state, AreParts, IsUnderWay, Went};
 ghost use Rattle.theory_steps.specs.Steps.{IsStep, StepInfers, StepChecks};
 
 use crate::argument::argument_seen;
 use crate::branch::branch;
 use crate::cycles::{follow_differences, meet_differences};
-use crate::held::{Met, follow, leads, meet_bounds, meet_wholes};
+use crate::held::{Met, follow, leads, meet_wholes};
 use crate::implied::follow_rows;
 use crate::model::{Found, find_model};
 use crate::pairs::{go_on_with_pair, next_pair};
 use crate::parts::{Parts, Progress};
+use crate::pivots::meet_within;
 use crate::step::{Step, stays, stop_past, stop_seeing};
 use crate::unfit::stop_unfit;
 use crate::wanted::want;
@@ -61,7 +64,7 @@ fn make_whole(
             checked(step)
         }
         Met::Conflict(clause) => Checked::Conflict(clause),
-        Met::Past(_) | Met::Ended => Checked::Ended(Cause::Memory),
+        Met::Past(_) | Met::Spent | Met::Ended => Checked::Ended(Cause::Memory),
     }
 }
 
@@ -157,19 +160,15 @@ fn judge_values(parts: &Parts<'_>, progress: &mut Progress, budget: &mut Budget)
     }
 }
 
-/// A last check by the rows of sums: the bounds are to be met first.
-fn judge_sums(parts: &Parts<'_>, progress: &mut Progress, budget: &mut Budget) -> Checked
+/// A last check by the rows of sums, from what was met of the bounds.
+fn judge_met(parts: &Parts<'_>, progress: &mut Progress, budget: &mut Budget, met: Met) -> Checked
     requires parts { AreParts parts.now }
     requires under_way { IsUnderWay parts.now progress.old }
+    requires met { IsMet (state parts.now progress.old) met }
+    requires spent { SpendsAll budget.old met }
     ensures went { Went parts.now progress.old progress.new budget.old budget.new }
     ensures found { CheckedBy (state parts.now progress.new) budget.old budget.new result }
 {
-    let met = meet_bounds(
-        parts.alloc,
-        &mut progress.held,
-        parts.stack,
-        &progress.atoms,
-    );
     stays(parts, progress, budget);
     match met {
         Met::Fits => judge_values(parts, progress, budget),
@@ -178,8 +177,20 @@ fn judge_sums(parts: &Parts<'_>, progress: &mut Progress, budget: &mut Budget) -
             let step = stop_past(parts, progress, budget, grid);
             checked(step)
         }
+        Met::Spent => Checked::Ended(Cause::Units),
         Met::Ended => Checked::Ended(Cause::Memory),
     }
+}
+
+/// A last check by the rows of sums: the bounds are to be met first.
+fn judge_sums(parts: &Parts<'_>, progress: &mut Progress, budget: &mut Budget) -> Checked
+    requires parts { AreParts parts.now }
+    requires under_way { IsUnderWay parts.now progress.old }
+    ensures went { Went parts.now progress.old progress.new budget.old budget.new }
+    ensures found { CheckedBy (state parts.now progress.new) budget.old budget.new result }
+{
+    let met = meet_within(parts, progress, budget);
+    judge_met(parts, progress, budget, met)
 }
 
 /// A last check where the numbers of a graph meet all bounds, which are differences: they may be those of a model, or else the rows of sums are looked at.
@@ -252,19 +263,15 @@ fn look_at_rows(parts: &Parts<'_>, progress: &mut Progress, budget: &Budget) -> 
     found
 }
 
-/// What sums show between decisions.
-fn look_at_sums(parts: &Parts<'_>, progress: &mut Progress, budget: &Budget) -> Inferred
+/// What sums show between decisions, from what was met of the bounds.
+fn look_at_met(parts: &Parts<'_>, progress: &mut Progress, budget: &Budget, met: Met) -> Inferred
     requires parts { AreParts parts.now }
     requires under_way { IsUnderWay parts.now progress.old }
+    requires met { IsMet (state parts.now progress.old) met }
+    requires spent { SpendsAll budget.now met }
     ensures went { Went parts.now progress.old progress.new budget.now budget.now }
     ensures found { InferredBy (state parts.now progress.new) budget.now budget.now result }
 {
-    let met = meet_bounds(
-        parts.alloc,
-        &mut progress.held,
-        parts.stack,
-        &progress.atoms,
-    );
     stays(parts, progress, budget);
     match met {
         Met::Fits => look_at_rows(parts, progress, budget),
@@ -273,16 +280,28 @@ fn look_at_sums(parts: &Parts<'_>, progress: &mut Progress, budget: &Budget) -> 
             let step = stop_past(parts, progress, budget, grid);
             inferred(step)
         }
+        Met::Spent => Inferred::Ended(Cause::Units),
         Met::Ended => Inferred::Ended(Cause::Memory),
     }
 }
 
-/// What the bounds show between decisions: differences alone, where all of them are that.
-fn look_at_bounds(parts: &Parts<'_>, progress: &mut Progress, budget: &Budget) -> Inferred
+/// What sums show between decisions.
+fn look_at_sums(parts: &Parts<'_>, progress: &mut Progress, budget: &mut Budget) -> Inferred
     requires parts { AreParts parts.now }
     requires under_way { IsUnderWay parts.now progress.old }
-    ensures went { Went parts.now progress.old progress.new budget.now budget.now }
-    ensures found { InferredBy (state parts.now progress.new) budget.now budget.now result }
+    ensures went { Went parts.now progress.old progress.new budget.old budget.new }
+    ensures found { InferredBy (state parts.now progress.new) budget.old budget.new result }
+{
+    let met = meet_within(parts, progress, budget);
+    look_at_met(parts, progress, budget, met)
+}
+
+/// What the bounds show between decisions: differences alone, where all of them are that.
+fn look_at_bounds(parts: &Parts<'_>, progress: &mut Progress, budget: &mut Budget) -> Inferred
+    requires parts { AreParts parts.now }
+    requires under_way { IsUnderWay parts.now progress.old }
+    ensures went { Went parts.now progress.old progress.new budget.old budget.new }
+    ensures found { InferredBy (state parts.now progress.new) budget.old budget.new result }
 {
     let found = follow_differences(
         parts.alloc,
@@ -298,11 +317,11 @@ fn look_at_bounds(parts: &Parts<'_>, progress: &mut Progress, budget: &Budget) -
 }
 
 /// Clauses that follow between decisions: by equality, or else by bounds.
-fn follow_all(parts: &Parts<'_>, progress: &mut Progress, budget: &Budget) -> Inferred
+fn follow_all(parts: &Parts<'_>, progress: &mut Progress, budget: &mut Budget) -> Inferred
     requires parts { AreParts parts.now }
     requires under_way { IsUnderWay parts.now progress.old }
-    ensures went { Went parts.now progress.old progress.new budget.now budget.now }
-    ensures found { InferredBy (state parts.now progress.new) budget.now budget.now result }
+    ensures went { Went parts.now progress.old progress.new budget.old budget.new }
+    ensures found { InferredBy (state parts.now progress.new) budget.old budget.new result }
 {
     let found = follow(
         parts.alloc,

@@ -17,6 +17,7 @@ mod model;
 mod numbering;
 mod pairs;
 mod parts;
+mod pivots;
 mod showing;
 mod start;
 mod step;

@@ -11,9 +11,8 @@ use range_reports::refused;
 use scope_stack::Stack;
 use smt_meaning::{RangeSeen, Settings};
 use std::alloc::{AllocError, Global};
-use theory_combine::Combined;
+use theory_combine::{BoundError, Combined};
 use theory_port::{Decider, Verdict};
-use theory_steps::BoundError;
 
 /// Decides the checks of all stacks: those without integers by the closure of congruence alone, others by the theory of equality and whole numbers.
 /// Each check begins anew.

@@ -1,5 +1,5 @@
 use ports::{CalmSink, CalmSource, MemSink, MemSource, More, OpenGate, Put, Sink, Source};
-use smt_top::{Note, run, run_within};
+use smt_program::{Note, run, run_within};
 use std::alloc::{AllocError, Global};
 use std::cell::Cell;
 use std::test::Fail;

@@ -5,8 +5,8 @@ use Rattle.bound_log.specs.Columns.{IsColumnOf}
 use Rattle.theory_steps.proofs.Past.{no_none}
 use Rattle.theory_steps.proofs.held.met_by.Goals as goal
 
-pub returns-in-Ok : goal.returns-in-Ok
-returns-in-Ok c = λ table all knows columns. record {
+pub returns-in-Ok-clause-met : goal.returns-in-Ok-clause-met
+returns-in-Ok-clause-met c = λ table all knows columns. record {
   sound = c.in-Ok.ensures.sound table knows;
   columns = subst (λ (g : Grid). All (IsColumnOf all) g.columns) (sym c.in-Ok.ensures.exact) columns;
   pending = λ p e. absurd (no_none p (sym (ap (λ (g : Grid). g.pending) c.in-Ok.ensures.exact) ∙ e));

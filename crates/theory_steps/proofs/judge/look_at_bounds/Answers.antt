@@ -1,5 +1,5 @@
 use Rattle.std.proofs.Common.{sym, subst}
-use Rattle.std.specs.Prelude.{ℕ, Option, IfSome}
+use Rattle.std.specs.Prelude.{ℕ, Option}
 use Rattle.search_port.specs.Calls.{InferredBy}
 use Rattle.closure_log.specs.Seen.{state_of}
 use Rattle.theory_steps.specs.Numbering.{table_of}

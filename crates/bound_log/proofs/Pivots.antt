@@ -1,0 +1,90 @@
+-- The lines of a check's pivots are over known atoms.
+use Rattle.std.proofs.Common.{◌≡◌, ◌∙◌, ℕ, ◌<◌, ◌≤◌, ◌⊎◌, inl, inr, ℤ, Bool, true, false, List, [], ◌∷◌, length, Option, Some, None, refl, sym, subst}
+use Rattle.std.specs.Prelude.{All, Contains}
+use Rattle.std.proofs.lemmas.Bool.{cases_lt}
+use Rattle.std.proofs.lemmas.List.{get_or_past}
+use Rattle.std.proofs.lemmas.List.Elements.{All-nil, All-contains}
+use Rattle.number_meaning.specs.Whole.{InRange}
+use Rattle.grid_meaning.specs.declared.Column.{Column}
+use Rattle.grid_meaning.specs.declared.Grid.{Grid}
+use Rattle.grid_meaning.specs.declared.Line.{Line}
+use Rattle.grid_meaning.specs.declared.Side.{Side}
+use Rattle.grid_meaning.specs.declared.Side.TheVariants.{Lower, Upper}
+use Rattle.grid_meaning.specs.Grid.{Step, any_crossed, next_step}
+use Rattle.grid_meaning.specs.Lines.{IsPivotLine, IsSoundLine}
+use Rattle.grid_laws.specs.Law.{Runs, lines_of}
+use Rattle.smt_meaning.specs.declared.clauses.Atom.{Atom}
+use Rattle.smt_meaning.specs.CheckAtoms.{IsBoundOf}
+use Rattle.tableau.specs.Table.{Table}
+use Rattle.simplex_steps.specs.State.{grid_of, column_in, no_column, IsRanged, AreRanged}
+use Rattle.simplex_steps.specs.Run.{KeepsLines, kept_lines}
+use Rattle.simplex_steps.proofs.Sound.{lawful}
+use Rattle.sum_bounds.specs.Bounds as Bounds
+use Rattle.sum_bounds.specs.Bounds.{Told}
+use Rattle.sum_bounds.specs.Origins.{bound_on, IsOfTold}
+use Rattle.bound_log.specs.Told.{State, IsState}
+use Rattle.bound_log.specs.Atoms.{Knows}
+use Rattle.bound_log.specs.Resting.{AreResting}
+use Rattle.bound_log.specs.Pivots.{AddsPivots}
+use Rattle.bound_log.proofs.Lines.{sound_grid}
+use Rattle.bound_log.proofs.Runs.{nonzero_rows, sound_lines, as_many_lines}
+
+-- ---- bounds in the range
+
+ranged_told : (b : Bounds.State) (i : ℕ) (side : Side) (o : Option ℤ) → Bounds.IsState b → IsOfTold b → i < length b.columns → bound_on (column_in b.columns i) side ≡ o → IsRanged o
+ranged_told b i side None state origins lt e = tt
+ranged_told b i side (Some k) state origins lt e =
+    let t = origins.told i side k lt e in
+    subst InRange t.number (All-contains (λ (x : Told). (x.variable < length b.columns) × InRange x.number) b.told t.bound state.known t.among).1
+
+are_ranged : (b : Bounds.State) → Bounds.IsState b → IsOfTold b → AreRanged b.columns
+are_ranged b state origins i = by_order (cases_lt i (length b.columns))
+  where
+    by_order : (i < length b.columns) ⊎ (length b.columns ≤ i) → IsRanged (column_in b.columns i).lower × IsRanged (column_in b.columns i).upper
+    by_order (inl lt) = (ranged_told b i Lower (column_in b.columns i).lower state origins lt refl, ranged_told b i Upper (column_in b.columns i).upper state origins lt refl)
+    by_order (inr le) = subst (λ (c : Column). IsRanged c.lower × IsRanged c.upper) (sym (get_or_past b.columns i no_column le)) (tt, tt)
+
+-- ---- runs from a state
+
+-- where bounds cross there is no next step
+none_next : (t : Table) (cs : List Column) (s : Step) → any_crossed cs ≡ true → next_step (grid_of t cs) ≡ Some s → ⊥
+none_next t cs s e next = let none : next_step (grid_of t cs) ≡ None = rw e refl in let z : None ≡ Some s = sym none ∙ next in absurd (cc)
+
+lines_over : (table : List Atom) (s : State) (h : Grid) (ss : List Step) → IsState s → IsOfTold s.bounds → AreResting s.bounds s.said → Knows table s → Runs (grid_of s.bounds.table s.bounds.columns) ss h
+    → All (IsSoundLine (IsBoundOf (Contains table))) (lines_of (grid_of s.bounds.table s.bounds.columns) ss)
+lines_over table s h [] state origins rests knows runs = All-nil (IsSoundLine (IsBoundOf (Contains table)))
+lines_over table s h (z ∷ zs) state origins rests knows runs = by_crossing (any_crossed s.bounds.columns) refl
+  where
+    g : Grid
+    g = grid_of s.bounds.table s.bounds.columns
+
+    by_crossing : (v : Bool) → any_crossed s.bounds.columns ≡ v → All (IsSoundLine (IsBoundOf (Contains table))) (lines_of (grid_of s.bounds.table s.bounds.columns) (z ∷ zs))
+    by_crossing true e = absurd (none_next s.bounds.table s.bounds.columns z e runs.0)
+    by_crossing false e =
+        sound_lines (IsBoundOf (Contains table)) g h (z ∷ zs) (lawful s.bounds.table s.bounds.columns origins.table (record { solution = state.bounds.solution; ranged = are_ranged s.bounds state.bounds origins; uncrossed = e }))
+        (sound_grid table s state origins rests knows) (nonzero_rows s.bounds.table.rows origins.table.nonzero) runs
+
+kept_all : (P : Line → Type 0) (keep : Bool) (g : Grid) (ss : List Step) → All P (lines_of g ss) → All P (kept_lines keep g ss)
+kept_all P true g ss h = h
+kept_all P false g ss h = All-nil P
+
+kept_each : (keep : Bool) (g : Grid) (ss : List Step) → keep ≡ true → length (kept_lines keep g ss) ≡ length (lines_of g ss)
+kept_each true g ss e = refl
+kept_each false g ss e = absurd (cc)
+
+kept_none : (keep : Bool) (g : Grid) (ss : List Step) → keep ≡ false → kept_lines keep g ss ≡ []
+kept_none true g ss e = absurd (cc)
+kept_none false g ss e = refl
+
+pub adds_pivots : (s : State) (keep : Bool) (made : ℕ) (h : Grid) (before now : List Line) → IsState s → IsOfTold s.bounds → AreResting s.bounds s.said
+    → KeepsLines keep made (grid_of s.bounds.table s.bounds.columns) h before now → AddsPivots s keep made before now
+adds_pivots s keep made h before now state origins rests lines =
+    let g : Grid = grid_of s.bounds.table s.bounds.columns in
+    record {
+      added = kept_lines keep g lines.steps;
+      is = lines.kept;
+      count = λ e. kept_each keep g lines.steps e ∙ as_many_lines g lines.steps ∙ lines.count;
+      none = λ e. kept_none keep g lines.steps e;
+      by_rule = kept_all IsPivotLine keep g lines.steps lines.pivots;
+      sound = λ table knows. kept_all (IsSoundLine (IsBoundOf (Contains table))) keep g lines.steps (lines_over table s h lines.steps state origins rests knows lines.runs);
+    }

@@ -1,0 +1,35 @@
+-- Pivots as units of a check of the bounds.
+use Rattle.std.specs.Prelude.{◌≡◌, ℕ, ◌≤◌, Bool, true, false, List, [], ◌++◌, map, take, length, All}
+use Rattle.grid_meaning.specs.declared.Line.{Line}
+use Rattle.search_port.specs.State.{TheoryState}
+use Rattle.search_port.specs.Spending.{Spending}
+use Rattle.search_port.specs.Calls.{IsPivot}
+use Rattle.search_port.specs.declared.budget.Spent.{Spent as SpentUnit}
+use Rattle.search_port.specs.declared.budget.Spent.TheVariants.{Pivot}
+use Rattle.theory_steps.specs.declared.held.Met.{Met}
+use Rattle.theory_steps.specs.declared.held.Met.TheVariants.{Fits, Conflict, Past, Spent, Ended}
+use Rattle.theory_steps.specs.declared.held.Meeting.{Meeting}
+
+-- where lines are kept, those of at most so many pivots over numbered atoms, and of so many where there was no room for another
+pub record ArePivotsOf (t : TheoryState) (keep : Bool) (room : ℕ) (m : Meeting) : Type 0 where
+  pub pivots : All (IsPivot t.reading) m.lines.items
+  pub within : length m.lines.items ≤ room
+  pub none : keep ≡ false → m.lines.items ≡ []
+  pub spent : keep ≡ true → m.met ≡ Spent → length m.lines.items ≡ room
+
+-- the units of these lines
+abbrev pub pivot_units : List Line → List SpentUnit
+pivot_units ls = map Pivot ls
+
+-- the pivots of the first so many lines are spent
+pub record SpendsPivots (ls : List Line) (b c : Spending) : Type 0 where
+  pub count : ℕ
+  pub is : c ≡ record b { units = b.units ++ pivot_units (take count ls) }
+
+-- where there was no room for another pivot, all units are spent
+abbrev pub SpendsAll : Spending → Met → Type 0
+SpendsAll b Spent = length b.units ≡ b.bound
+SpendsAll b Fits = Unit {0}
+SpendsAll b (Conflict c) = Unit {0}
+SpendsAll b (Past g) = Unit {0}
+SpendsAll b Ended = Unit {0}
