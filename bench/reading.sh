@@ -5,7 +5,7 @@
 set -eu
 folder=$(mktemp -d)
 trap 'rm -rf "$folder"' EXIT
-libraries='number_meaning smt_meaning smt_reader'
+libraries='fraction128 smt_meaning smt_reader'
 mkdir -p "$folder/crates/kept_expressions/src"
 for library in $libraries; do
     cp -a "crates/$library" "$folder/crates/"

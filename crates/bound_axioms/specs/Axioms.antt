@@ -1,7 +1,7 @@
 -- The axioms of the bounds of a table.
 use Rattle.std.specs.Prelude.{◌≡◌, ◌≢◌, ℕ, true, List, [], ◌++◌, length, All, ℤ}
 use Rattle.std.specs.List.Sorted.{IsSorted}
-use Rattle.number_meaning.specs.Whole.{InRange}
+use Rattle.fraction128.specs.Whole.{InRange}
 use Rattle.literals.specs.Signed.{Signed, some_true}
 use Rattle.smt_meaning.specs.declared.clauses.Summand.{Summand}
 use Rattle.smt_meaning.specs.declared.clauses.Atom.{Atom}

@@ -3,7 +3,7 @@ use Rattle.std.proofs.Common.{◌≡◌, ℕ, Bool, true, false, List, [], ◌�
 use Rattle.std.specs.Prelude.{not, ◌&&◌, ◌||◌, ℤ, pos, negsuc, ◌+ℤ◌, ◌-ℤ◌, ◌*ℤ◌, neg_ℤ, int_le, IsTrue}
 use Rattle.std.proofs.lemmas.List.Elements.{All-append, All-nil, All-head, All-tail, All-cons, All-weaker}
 use Rattle.std.proofs.Math.IntN.{*ℤ-zero}
-use Rattle.number_meaning.proofs.Ring.{times-sum, times_assoc}
+use Rattle.fraction128.proofs.Ring.{times-sum, times_assoc}
 use Rattle.smt_meaning.specs.declared.clauses.Summand.{Summand}
 use Rattle.smt_meaning.specs.declared.clauses.Atom.{Atom}
 use Rattle.smt_meaning.specs.declared.clauses.Atom.TheVariants.{AtMost as BoundAtom}

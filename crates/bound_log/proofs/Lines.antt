@@ -4,17 +4,17 @@ use Rattle.std.specs.Prelude.{All, Contains}
 use Rattle.std.proofs.lemmas.Bool.{cases_lt}
 use Rattle.std.proofs.lemmas.List.{get_or_default}
 use Rattle.std.proofs.lemmas.List.Elements.{All-map}
-use Rattle.number_meaning.specs.declared.ratio.Ratio.{Ratio}
-use Rattle.number_meaning.specs.Number.{whole, SameNumber, unreduced_sum, unreduced_product}
-use Rattle.grid_meaning.specs.declared.Entry.{Entry}
-use Rattle.grid_meaning.specs.declared.Grid.{Grid}
-use Rattle.grid_meaning.specs.declared.Line.{Line}
-use Rattle.grid_meaning.specs.declared.Member.{Member}
-use Rattle.grid_meaning.specs.declared.TableRow.{TableRow}
-use Rattle.grid_meaning.specs.declared.Side.{Side}
-use Rattle.grid_meaning.specs.declared.Side.TheVariants.{Lower, Upper}
-use Rattle.grid_meaning.specs.Grid.{is_basic, is_some, row_of, entries_of, row_value, column_at, value_at, is_turned, MeetsRows}
-use Rattle.grid_meaning.specs.Lines.{Bounding, IsBoundedBy, IsResting, IsSoundGrid, IsSoundLine, IsBranchLine, sum_value, member_of, basic_member, line_of, members_value}
+use Rattle.fraction128.specs.declared.ratio.Ratio.{Ratio}
+use Rattle.fraction128.specs.Number.{whole, SameNumber, unreduced_sum, unreduced_product}
+use Rattle.fraction128.specs.declared.Entry.{Entry}
+use Rattle.fraction128.specs.declared.Grid.{Grid}
+use Rattle.fraction128.specs.declared.Line.{Line}
+use Rattle.fraction128.specs.declared.Member.{Member}
+use Rattle.fraction128.specs.declared.TableRow.{TableRow}
+use Rattle.fraction128.specs.declared.Side.{Side}
+use Rattle.fraction128.specs.declared.Side.TheVariants.{Lower, Upper}
+use Rattle.fraction128.specs.Grid.{is_basic, is_some, row_of, entries_of, row_value, column_at, value_at, is_turned, MeetsRows}
+use Rattle.fraction128.specs.Lines.{Bounding, IsBoundedBy, IsResting, IsSoundGrid, IsSoundLine, IsBranchLine, sum_value, member_of, basic_member, line_of, members_value}
 use Rattle.smt_meaning.specs.declared.clauses.Atom.{Atom}
 use Rattle.smt_meaning.specs.declared.clauses.Atom.TheVariants.{Truth as TruthAtom, AtMost}
 use Rattle.smt_meaning.specs.CheckAtoms.{IsBoundOf}

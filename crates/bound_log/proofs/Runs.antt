@@ -3,18 +3,18 @@ use Rattle.std.proofs.Common.{◌≡◌, ℕ, zero, suc, ◌+◌, ◌<◌, ◌�
 use Rattle.std.specs.Prelude.{All}
 use Rattle.std.proofs.lemmas.List.{get_or_default}
 use Rattle.std.proofs.lemmas.List.Elements.{All-nil, All-cons, All-weaker}
-use Rattle.number_meaning.specs.declared.ratio.Ratio.{Ratio}
-use Rattle.number_meaning.specs.Number.{is_zero, unreduced_sum, unreduced_product, SameNumber}
-use Rattle.number_meaning.proofs.RationalRing.{Rational, number}
-use Rattle.grid_meaning.specs.declared.Entry.{Entry}
-use Rattle.grid_meaning.specs.declared.TableRow.{TableRow}
-use Rattle.grid_meaning.specs.declared.Column.{Column}
-use Rattle.grid_meaning.specs.declared.Member.{Member}
-use Rattle.grid_meaning.specs.declared.Grid.{Grid}
-use Rattle.grid_meaning.specs.declared.Side.TheVariants.{Lower, Upper}
-use Rattle.grid_meaning.specs.Grid.{Step, take, move, pivot, row_of, entries_of, is_basic, row_value, MeetsRow, MeetsRows, column_at, value_at, next_step, after, after_move, after_pivot, moved_value, pivoted_value, pivoted_entry, entries_from, pivoted_rows, with_values}
-use Rattle.grid_meaning.specs.Lines.{Bounding, IsPositive, IsBoundedBy, IsResting, IsSoundGrid, IsSoundLine, sum_value, basic_member, line_of, pivot_line}
-use Rattle.grid_meaning.proofs.RowValue as RowValue
+use Rattle.fraction128.specs.declared.ratio.Ratio.{Ratio}
+use Rattle.fraction128.specs.Number.{is_zero, unreduced_sum, unreduced_product, SameNumber}
+use Rattle.fraction128.proofs.RationalRing.{Rational, number}
+use Rattle.fraction128.specs.declared.Entry.{Entry}
+use Rattle.fraction128.specs.declared.TableRow.{TableRow}
+use Rattle.fraction128.specs.declared.Column.{Column}
+use Rattle.fraction128.specs.declared.Member.{Member}
+use Rattle.fraction128.specs.declared.Grid.{Grid}
+use Rattle.fraction128.specs.declared.Side.TheVariants.{Lower, Upper}
+use Rattle.fraction128.specs.Grid.{Step, take, move, pivot, row_of, entries_of, is_basic, row_value, MeetsRow, MeetsRows, column_at, value_at, next_step, after, after_move, after_pivot, moved_value, pivoted_value, pivoted_entry, entries_from, pivoted_rows, with_values}
+use Rattle.fraction128.specs.Lines.{Bounding, IsPositive, IsBoundedBy, IsResting, IsSoundGrid, IsSoundLine, sum_value, basic_member, line_of, pivot_line}
+use Rattle.fraction128.proofs.RowValue as RowValue
 use Rattle.grid_laws.specs.Law.{row_at, no_row, IsLawful, IsNonzeroEntry, IsFreeMember, IsAtBound, KeepsResting, Runs, pivots, lines_of}
 use Rattle.grid_laws.proofs.Spans.{dot_coefficients}
 use Rattle.grid_laws.proofs.Pivots.{Solves, solves_after}

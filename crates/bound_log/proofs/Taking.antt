@@ -1,11 +1,11 @@
 -- Bounds that can't be taken in: their numbers leave the range.
 use Rattle.std.proofs.Common.{◌≡◌, ◌<◌, Bool, true, false, ◌&&◌, List, length, ℤ, ◌+ℤ◌, pos, None, refl, sym, ap, ◌∙◌, subst, arith}
 use Rattle.std.specs.Prelude.{Result, Ok, Err, IfErr, IsErrAnd}
-use Rattle.number_meaning.specs.Whole.{InRange, is_in_range}
-use Rattle.grid_meaning.specs.declared.Grid.{Grid}
-use Rattle.grid_meaning.specs.declared.Pending.{Pending}
-use Rattle.grid_meaning.specs.Grid.{take, take_fits, number_fits, column_of, turned}
-use Rattle.grid_meaning.specs.Lines.{Bounding, IsSoundGrid}
+use Rattle.fraction128.specs.Whole.{InRange, is_in_range}
+use Rattle.fraction128.specs.declared.Grid.{Grid}
+use Rattle.fraction128.specs.declared.Pending.{Pending}
+use Rattle.fraction128.specs.Grid.{take, take_fits, number_fits, column_of, turned}
+use Rattle.fraction128.specs.Lines.{Bounding, IsSoundGrid}
 use Rattle.smt_meaning.specs.declared.clauses.Summand.{Summand}
 use Rattle.smt_meaning.specs.declared.clauses.Atom.TheVariants.{AtMost}
 use Rattle.smt_meaning.specs.CheckAtoms.{told}

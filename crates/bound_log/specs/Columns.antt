@@ -1,8 +1,8 @@
 -- The sums that variables stand for, as those of a table's atoms.
 use Rattle.std.specs.Prelude.{◌≡◌, ℕ, ◌<◌, ◌⊎◌, List, [], ◌∷◌, ◌++◌, length, ℤ, All, Contains}
-use Rattle.grid_meaning.specs.declared.Column.{Column}
-use Rattle.grid_meaning.specs.declared.Summand.{Summand as GridSummand}
-use Rattle.grid_meaning.specs.Grid.{leaf, turned}
+use Rattle.fraction128.specs.declared.Column.{Column}
+use Rattle.fraction128.specs.declared.Summand.{Summand as GridSummand}
+use Rattle.fraction128.specs.Grid.{leaf, turned}
 use Rattle.smt_meaning.specs.declared.clauses.Summand.{Summand}
 use Rattle.smt_meaning.specs.declared.clauses.Atom.{Atom}
 use Rattle.smt_meaning.specs.declared.clauses.Atom.TheVariants.{AtMost}

@@ -1,8 +1,8 @@
 -- Variables more.
 use Rattle.std.specs.Prelude.{◌≡◌, ◌≢◌, ◌++◌, List, pos}
-use Rattle.number_meaning.specs.Whole.{InRange}
-use Rattle.grid_meaning.specs.declared.Column.{Column}
-use Rattle.grid_meaning.specs.declared.TableRow.{TableRow}
+use Rattle.fraction128.specs.Whole.{InRange}
+use Rattle.fraction128.specs.declared.Column.{Column}
+use Rattle.fraction128.specs.declared.TableRow.{TableRow}
 use Rattle.smt_meaning.specs.declared.clauses.Summand as Places
 use Rattle.sum_bounds.specs.Bounds.{State}
 

@@ -1,8 +1,8 @@
 -- Grids with a bound that is to be taken in next.
 use Rattle.std.specs.Prelude.{◌≡◌, List, ℤ, Bool, Some}
-use Rattle.grid_meaning.specs.declared.Grid.{Grid}
-use Rattle.grid_meaning.specs.declared.Pending.{Pending}
-use Rattle.grid_meaning.specs.Lines.{NextFails}
+use Rattle.fraction128.specs.declared.Grid.{Grid}
+use Rattle.fraction128.specs.declared.Pending.{Pending}
+use Rattle.fraction128.specs.Lines.{NextFails}
 use Rattle.smt_meaning.specs.declared.clauses.Summand.{Summand}
 use Rattle.smt_meaning.specs.declared.clauses.Atom.{Atom}
 use Rattle.smt_meaning.specs.declared.clauses.Atom.TheVariants.{AtMost}

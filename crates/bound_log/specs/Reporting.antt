@@ -5,7 +5,7 @@ use Rattle.smt_meaning.specs.Declaration.{Declaration}
 use Rattle.search_port.specs.State.{TheoryState, AllFalseIn}
 use Rattle.search_port.specs.Calls.{IsConflict}
 use Rattle.search_port.specs.declared.budget.Lemma.{Lemma}
-use Rattle.grid_meaning.specs.Lines.{NextFails}
+use Rattle.fraction128.specs.Lines.{NextFails}
 use Rattle.congruence.specs.Reasons.{NoneTwice}
 use Rattle.literal_steps.specs.Clauses.{IsToldAtOneLevel, IsFalseClause}
 use Rattle.simplex_steps.specs.State.{grid_of}

@@ -1,9 +1,9 @@
 -- Variables that aren't basic, and what their values rest at.
 use Rattle.std.specs.Prelude.{◌≡◌, ℕ, ◌<◌, ◌⊎◌, Bool, false, List, length, ℤ, pos}
-use Rattle.number_meaning.specs.declared.ratio.Ratio.{Ratio}
-use Rattle.number_meaning.specs.Number.{whole}
-use Rattle.grid_meaning.specs.declared.Side.{Side}
-use Rattle.grid_meaning.specs.Grid.{is_basic}
+use Rattle.fraction128.specs.declared.ratio.Ratio.{Ratio}
+use Rattle.fraction128.specs.Number.{whole}
+use Rattle.fraction128.specs.declared.Side.{Side}
+use Rattle.fraction128.specs.Grid.{is_basic}
 use Rattle.simplex_steps.specs.State.{values}
 use Rattle.sum_bounds.specs.declared.writing.SumVariable.{SumVariable}
 use Rattle.sum_bounds.specs.Bounds.{State, told_side, told_number}

@@ -1,6 +1,6 @@
 -- Literals told in order, and the bounds on sums that they say.
 use Rattle.std.specs.Prelude.{◌≡◌, ℕ, ◌<◌, ◌≤◌, ◌^◌, List, [], ◌∷◌, ◌++◌, length, take, slice_index_or, All}
-use Rattle.number_meaning.specs.Whole.{InRange}
+use Rattle.fraction128.specs.Whole.{InRange}
 use Rattle.tableau.specs.declared.failure.Failure.{Failure}
 use Rattle.literals.specs.Signed.{Signed}
 use Rattle.simplex.specs.State.{KeepsValues}

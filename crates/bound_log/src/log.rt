@@ -1,8 +1,8 @@
 //! The log, and the calls on it.
 ghost use Rattle.std.specs.Prelude.{◌≡◌, ◌+◌, ◌<◌, ◌≤◌, ◌^◌, ◌↔◌, IsTrue, false, [], ◌∷◌, ◌++◌, map, take, length, All, Bool, Contains, List, ℤ, OnOk, OnErr, IfOk, IfErr, IfSome, IfNone};
-ghost use Rattle.number_meaning.specs.Whole.{InRange};
-ghost use Rattle.grid_meaning.specs.Grid.{turned};
-ghost use Rattle.grid_meaning.specs.Lines.{IsBranchLine, IsSoundGrid, IsSoundLine, NextFails};
+ghost use Rattle.fraction128.specs.Whole.{InRange};
+ghost use Rattle.fraction128.specs.Grid.{turned};
+ghost use Rattle.fraction128.specs.Lines.{IsBranchLine, IsSoundGrid, IsSoundLine, NextFails};
 ghost use Rattle.grid_laws.specs.Law.{KeepsResting};
 ghost use Rattle.tableau.specs.Failing.{IsRange};
 ghost use Rattle.simplex_steps.specs.State.{grid_of};
@@ -29,8 +29,7 @@ use crate::report::{Reported, report_of};
 use crate::room::shut_out;
 use crate::said::{Said, assert, push, said_of, start_of};
 use crate::variables::{add_leaf, variable_of};
-use fraction128::Fraction;
-use grid_meaning::{Grid, Line, Pending, Seq};
+use fraction128::{Fraction, Grid, Line, Pending, Seq};
 use literal_steps::lemma_with;
 use literals::Literal;
 use search_port::Lemma;

@@ -2,7 +2,7 @@
 ghost use Rattle.std.specs.Prelude.{◌≡◌, map, IfOk};
 ghost use Rattle.sum_bounds.specs.Clauses.{plain};
 
-use grid_meaning::Summand;
+use fraction128::Summand;
 use smt_meaning::Summand as Placed;
 use std::alloc::{AllocError, Global};
 

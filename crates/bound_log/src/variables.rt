@@ -1,8 +1,8 @@
 //! The variables of the terms of a sum, and that of the sum.
 ghost use Rattle.std.specs.Prelude.{◌≡◌, ◌≢◌, ℕ, ◌<◌, ◌-◌, ◌^◌, false, pos, All, length, OnOk, OnErr, IfOk, IfErr, None};
-ghost use Rattle.number_meaning.specs.Whole.{InRange};
-ghost use Rattle.grid_meaning.specs.Grid.{column_of, leaf, turned};
-ghost use Rattle.grid_meaning.specs.declared.Summand.{Summand as SummandValue};
+ghost use Rattle.fraction128.specs.Whole.{InRange};
+ghost use Rattle.fraction128.specs.Grid.{column_of, leaf, turned};
+ghost use Rattle.fraction128.specs.declared.Summand.{Summand as SummandValue};
 ghost use Rattle.tableau.specs.Failing.{IsRange};
 ghost use Rattle.sum_bounds.specs.Bounds.{StandsFor, IsSum, sum_fits};
 ghost use Rattle.sum_bounds.specs.Written.{HasLeaf};
@@ -10,7 +10,7 @@ ghost use Rattle.bound_log.specs.Growth.{IsGrown};
 ghost use Rattle.bound_log.specs.Columns.{IsLeafIn, IsPartIn, AddsSums};
 ghost use Rattle.bound_log.specs.Resting.{AreStill};
 
-use grid_meaning::Summand;
+use fraction128::Summand;
 use std::alloc::{AllocError, Global};
 use sum_bounds::{SumBounds, SumVariable};
 use tableau::Failure;

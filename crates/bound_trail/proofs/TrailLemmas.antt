@@ -2,8 +2,8 @@
 use Rattle.std.proofs.Common.{◌≡◌, ℕ, zero, suc, ◌<◌, ◌≤◌, ◌⊎◌, inl, inr, sym, ap, ap₂, ◌∙◌, subst, refl, arith, List, [], ◌∷◌, ◌++◌, length, map, take, set, get_or, get_or-set_other, get_or-set_same, length-append, Bool, true, false, cond, eqb, eqb-true, eq-eqb, ◌&&◌, Option, None}
 use Rattle.std.proofs.lemmas.List.{get_or_append_left, get_or_push, length-set, take-append-le, take_all, length-map, get_or_default}
 use Rattle.std.proofs.lemmas.Bool.{cases_lt}
-use Rattle.grid_meaning.specs.declared.Side.{Side}
-use Rattle.grid_meaning.specs.declared.Side.TheVariants.{Lower, Upper}
+use Rattle.fraction128.specs.declared.Side.{Side}
+use Rattle.fraction128.specs.declared.Side.TheVariants.{Lower, Upper}
 use Rattle.bound_trail.specs.declared.trail.Set.{Set}
 use Rattle.bound_trail.specs.declared.trail.Held.{Held}
 use Rattle.bound_trail.specs.declared.trail.Mark.{Mark}

@@ -1,7 +1,7 @@
 -- The bounds that were set, and the tightest of them.
 use Rattle.std.specs.Prelude.{◌≡◌, ℕ, ◌<◌, ◌==◌, ◌&&◌, Bool, true, false, List, [], ◌∷◌, map, take, length, slice_index_or, int_lt, pos, ℤ, Option, Some, None, if◌then◌else◌}
-use Rattle.grid_meaning.specs.declared.Side.{Side}
-use Rattle.grid_meaning.specs.declared.Side.TheVariants.{Lower, Upper}
+use Rattle.fraction128.specs.declared.Side.{Side}
+use Rattle.fraction128.specs.declared.Side.TheVariants.{Lower, Upper}
 use Rattle.bound_trail.specs.declared.trail.Set.{Set}
 use Rattle.bound_trail.specs.declared.trail.Held.{Held}
 use Rattle.bound_trail.specs.declared.trail.Mark.{Mark}

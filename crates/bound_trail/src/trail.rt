@@ -2,7 +2,7 @@
 ghost use Rattle.std.specs.Prelude.{◌≡◌, ◌≢◌, ℕ, ◌+◌, ◌-◌, ◌<◌, ◌≤◌, true, false, [], ◌∷◌, ◌++◌, map, take, length, slice_set, OnOk, OnErr, IfOk, IfSome, IfNone, Some, None};
 ghost use Rattle.bound_trail.specs.Trail.{tighter, tightest, held_on, with_held, is_tighter};
 
-use grid_meaning::Side;
+use fraction128::Side;
 use std::alloc::{AllocError, Global};
 use std::marker::Model;
 

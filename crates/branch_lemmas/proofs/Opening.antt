@@ -5,13 +5,13 @@ use Rattle.std.specs.Int.{◌∣◌}
 use Rattle.std.proofs.Math.Nat.{dvd-mul_left, dvd-mul_right, mul-one}
 use Rattle.std.proofs.lemmas.Int.{ints, unsigned_abs-mul}
 use Rattle.std.proofs.lemmas.List.Elements.{All-contains}
-use Rattle.number_meaning.specs.declared.ratio.Ratio.{Ratio}
-use Rattle.number_meaning.specs.Number.{whole, unreduced_sum, unreduced_product}
-use Rattle.number_meaning.specs.Ratio.{IsFraction}
-use Rattle.number_meaning.proofs.Divisors.{gcd_is}
-use Rattle.grid_meaning.specs.declared.Side.TheVariants.{Lower, Upper}
-use Rattle.grid_meaning.specs.Grid.{leaf}
-use Rattle.grid_meaning.specs.Lines.{IsFloor, sum_value}
+use Rattle.fraction128.specs.declared.ratio.Ratio.{Ratio}
+use Rattle.fraction128.specs.Number.{whole, unreduced_sum, unreduced_product}
+use Rattle.fraction128.specs.Ratio.{IsFraction}
+use Rattle.fraction128.proofs.Divisors.{gcd_is}
+use Rattle.fraction128.specs.declared.Side.TheVariants.{Lower, Upper}
+use Rattle.fraction128.specs.Grid.{leaf}
+use Rattle.fraction128.specs.Lines.{IsFloor, sum_value}
 use Rattle.smt_meaning.specs.declared.clauses.Atom.{Atom}
 use Rattle.literals.specs.Signed.{Signed}
 use Rattle.search_port.specs.State.{atom_at}

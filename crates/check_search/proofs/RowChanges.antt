@@ -2,9 +2,9 @@
 use Rattle.std.proofs.Common.{◌≡◌, ◌≢◌, inl, inr, ◌⊎◌, ℕ, suc, ◌+◌, ◌<◌, List, [], ◌∷◌, ◌++◌, take, length, get_or, subst, sym, ap, ◌∙◌, refl, arith}
 use Rattle.std.proofs.Math.Seq.{take-suc}
 use Rattle.std.specs.Prelude.{Option, Some, None}
-use Rattle.grid_meaning.specs.declared.Line.{Line}
-use Rattle.grid_meaning.specs.declared.Member.{Member}
-use Rattle.grid_meaning.specs.Lines.{HaveOthers}
+use Rattle.fraction128.specs.declared.Line.{Line}
+use Rattle.fraction128.specs.declared.Member.{Member}
+use Rattle.fraction128.specs.Lines.{HaveOthers}
 use Rattle.smt_meaning.specs.declared.reports.Unit.{Unit as ShownUnit}
 use Rattle.smt_meaning.specs.declared.reports.Unit.TheVariants.{Learnt, Numbered, Pivot}
 use Rattle.smt_meaning.specs.Report.{last_pivot}

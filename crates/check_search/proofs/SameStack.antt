@@ -2,15 +2,15 @@
 use Rattle.std.proofs.Common.{◌≡◌, false, inl, inr, ℕ, List, [], ◌∷◌, All, Contains, subst, sym, ap, ◌∙◌}
 use Rattle.std.specs.Prelude.{ℤ, Some, flat_map, neg_ℤ}
 use Rattle.std.proofs.lemmas.List.Elements.{All-weaker}
-use Rattle.grid_meaning.specs.declared.Summand.{Summand as GridSummand}
-use Rattle.grid_meaning.specs.declared.Column.{Column}
-use Rattle.grid_meaning.specs.declared.Member.{Member}
-use Rattle.grid_meaning.specs.declared.Grid.{Grid}
-use Rattle.grid_meaning.specs.declared.Line.{Line}
-use Rattle.grid_meaning.specs.declared.Side.{Side}
-use Rattle.grid_meaning.specs.declared.Side.TheVariants.{Lower, Upper}
-use Rattle.grid_meaning.specs.Grid.{column_at}
-use Rattle.grid_meaning.specs.Lines.{Bounding, IsBoundedBy, IsResting, IsSoundLine, IsSoundGrid}
+use Rattle.fraction128.specs.declared.Summand.{Summand as GridSummand}
+use Rattle.fraction128.specs.declared.Column.{Column}
+use Rattle.fraction128.specs.declared.Member.{Member}
+use Rattle.fraction128.specs.declared.Grid.{Grid}
+use Rattle.fraction128.specs.declared.Line.{Line}
+use Rattle.fraction128.specs.declared.Side.{Side}
+use Rattle.fraction128.specs.declared.Side.TheVariants.{Lower, Upper}
+use Rattle.fraction128.specs.Grid.{column_at}
+use Rattle.fraction128.specs.Lines.{Bounding, IsBoundedBy, IsResting, IsSoundLine, IsSoundGrid}
 use Rattle.smt_meaning.specs.declared.values.Sort.TheVariants.{Int as Ints}
 use Rattle.smt_meaning.specs.declared.values.Table.{Table}
 use Rattle.smt_meaning.specs.declared.clauses.Atom.{Atom}

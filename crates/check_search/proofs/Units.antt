@@ -6,7 +6,7 @@ use Rattle.std.proofs.lemmas.List.Kept.{AllPairs-cons}
 use Rattle.std.proofs.lemmas.List.Elements.{All-head, All-tail, All-contains, All-map}
 use Rattle.literals.specs.Signed.{Signed, opposite}
 use Rattle.clause_store.specs.Stored.{Kept, Stored}
-use Rattle.grid_meaning.specs.declared.Line.{Line}
+use Rattle.fraction128.specs.declared.Line.{Line}
 use Rattle.smt_meaning.specs.declared.clauses.Atom.{Atom}
 use Rattle.smt_meaning.specs.declared.clauses.Atom.TheVariants.{Truth}
 use Rattle.smt_meaning.specs.declared.clauses.Literal.{Literal}

@@ -1,8 +1,8 @@
 -- What a search asks of its first atoms, and what its worker shows of the units that it has spent.
 use Rattle.std.specs.Prelude.{◌≡◌, ◌⊎◌, ℕ, ℤ, ◌<◌, List, ◌∷◌, ◌++◌, map, Option, Some, All, Contains}
 use Rattle.literals.specs.Signed.{Signed}
-use Rattle.grid_meaning.specs.declared.Line.{Line}
-use Rattle.grid_meaning.specs.Lines.{HaveOthers}
+use Rattle.fraction128.specs.declared.Line.{Line}
+use Rattle.fraction128.specs.Lines.{HaveOthers}
 use Rattle.smt_meaning.specs.declared.clauses.Atom.{Atom}
 use Rattle.smt_meaning.specs.declared.clauses.Clause.{Clause}
 use Rattle.smt_meaning.specs.declared.reports.Unit.{Unit as ShownUnit}

@@ -1,9 +1,9 @@
 //! Neighbouring pivots: by its pivot a row's basic variable stops being basic, so the next pivot is of another one.
 ghost use Rattle.std.specs.Prelude.{◌≡◌, ◌≢◌, ℕ, false, Some};
-ghost use Rattle.grid_meaning.specs.declared.Member.{Member as MemberOf};
+ghost use Rattle.fraction128.specs.declared.Member.{Member as MemberOf};
 ghost use Rattle.check_search.specs.Shown.{ChangeRows};
 
-use grid_meaning::Line;
+use fraction128::Line;
 use smt_meaning::Unit;
 
 /// The basic variable of a line's row.

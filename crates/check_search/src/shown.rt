@@ -7,7 +7,7 @@ ghost use Rattle.smt_meaning.specs.Report.{Shows};
 ghost use Rattle.theory_port.specs.Verdicts.{IsVerdict};
 ghost use Rattle.check_search.specs.Shown.{clause_of, unit_of, IsOfNumbers};
 
-use grid_meaning::Line;
+use fraction128::Line;
 use literals::Literal as Packed;
 use scope_stack::Stack;
 use search_port::{Shown, Spent};

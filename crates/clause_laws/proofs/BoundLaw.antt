@@ -12,8 +12,8 @@ use Rattle.smt_meaning.specs.declared.clauses.Summand.{Summand}
 use Rattle.smt_meaning.specs.Term.{Tree, Interpretation, number_of}
 use Rattle.smt_meaning.specs.Clause.{sum_value, value_at, atom_true}
 use Rattle.smt_meaning.specs.Atoms.{sum_gcd, divided, each_divided, normal_bound}
-use Rattle.number_meaning.proofs.Divisors.{IsGcd-gcd_of}
-use Rattle.number_meaning.proofs.Ring.{times-sum, times_assoc}
+use Rattle.fraction128.proofs.Divisors.{IsGcd-gcd_of}
+use Rattle.fraction128.proofs.Ring.{times-sum, times_assoc}
 
 -- ---- the greatest common divisor
 

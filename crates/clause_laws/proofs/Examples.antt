@@ -1,7 +1,7 @@
 -- Linear forms, normal bounds, the atoms of an assertion and the clauses of a node, on examples that were computed by hand.
 use Rattle.std.proofs.Common.{◌≡◌, ℕ, ◌^◌, false, List, [], ◌∷◌, map, refl}
 use Rattle.std.specs.Prelude.{ℤ, pos, negsuc}
-use Rattle.number_meaning.specs.Gcd.{gcd_of}
+use Rattle.fraction128.specs.Gcd.{gcd_of}
 use Rattle.smt_meaning.specs.declared.values.Sort.{Sort}
 use Rattle.smt_meaning.specs.declared.values.Sort.TheVariants.{Bool as Truths, Int as Ints}
 use Rattle.smt_meaning.specs.declared.terms.Operator.{Operator}

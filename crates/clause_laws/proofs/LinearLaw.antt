@@ -14,7 +14,7 @@ use Rattle.smt_meaning.specs.Term.{Tree, Trees, node, none, more, tree_at, Inter
 use Rattle.smt_meaning.specs.TreeShape.{place_of, is_among, is_constant_head, is_constant, are_constant, at_most_one_varies, is_linear_at, is_linear, are_linear}
 use Rattle.smt_meaning.specs.Clause.{sum_value, value_at}
 use Rattle.smt_meaning.specs.Linear.{Form, form_value, unless_zero, placed, with_term, sums_added, each_times, sum_times, form_times, form_plus, form_minus, form_product, fold_forms, folded, difference_form, leaf_form, linear_form, linear_forms, leaves, leaves_of}
-use Rattle.number_meaning.proofs.Ring.{sum-times, times-sum, times_assoc}
+use Rattle.fraction128.proofs.Ring.{sum-times, times-sum, times_assoc}
 use Rattle.clause_laws.proofs.Included.{All-included, included_left, included_right}
 use Rattle.term_laws.proofs.SameTree.{found_again, and_left, and_right}
 

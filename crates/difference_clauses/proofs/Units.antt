@@ -1,8 +1,8 @@
 -- Sums of one term and of two, with coefficients 1 and -1.
 use Rattle.std.proofs.Common.{◌≡◌, ℤ, pos, negsuc, ◌+ℤ◌, ◌-ℤ◌, ◌*ℤ◌, neg_ℤ, [], ◌∷◌, refl, sym, ap, ap₂, ◌∙◌, arith}
 use Rattle.std.proofs.lemmas.Int.{ints}
-use Rattle.number_meaning.proofs.RingEquations.{var, product, minus, unit, solve}
-use Rattle.number_meaning.proofs.WholeNumbers.{wholes}
+use Rattle.fraction128.proofs.RingEquations.{var, product, minus, unit, solve}
+use Rattle.fraction128.proofs.WholeNumbers.{wholes}
 
 plus_times : (x : ℤ) → pos 1 *ℤ x ≡ x
 plus_times x = solve wholes (x ∷ []) (product unit (var 0)) (var 0) refl

@@ -4,8 +4,8 @@ use Rattle.std.specs.Prelude.{ℤ, pos, negsuc, ◌+ℤ◌, ◌*ℤ◌, neg_ℤ,
 use Rattle.std.proofs.lemmas.Int.{ints}
 use Rattle.std.proofs.lemmas.Bool.Decides.{nat_tests}
 use Rattle.std.proofs.lemmas.List.Elements.{All-nil, All-cons}
-use Rattle.number_meaning.specs.Whole.{InRange as IsInRange, is_in_range}
-use Rattle.number_meaning.proofs.LowestTerms.{neg-times}
+use Rattle.fraction128.specs.Whole.{InRange as IsInRange, is_in_range}
+use Rattle.fraction128.proofs.LowestTerms.{neg-times}
 use Rattle.fraction128.specs.Dot.{dot_of}
 use Rattle.smt_meaning.specs.declared.values.Value.{Value}
 use Rattle.smt_meaning.specs.declared.values.Value.TheVariants.{Truth, Whole, Element}

@@ -6,17 +6,16 @@ ghost use Rattle.smt_meaning.specs.Term.{number_of};
 ghost use Rattle.fraction128.specs.Dot.{dot_of};
 ghost use Rattle.linear_forms.specs.Folding.{form_of};
 ghost use Rattle.linear_forms.specs.Table.{HasForm};
-ghost use Rattle.number_meaning.specs.Whole.{InRange};
+ghost use Rattle.fraction128.specs.Whole.{InRange};
 ghost use Rattle.model_build.specs.declared.given.Given.TheVariants.{InRange as IsGiven};
 ghost use Rattle.exact_values.specs.Exact.{AreListed, given_of};
 ghost use Rattle.exact_values.specs.Sums.{signed, pair_of, pairs_of, number_of_place};
 
-use fraction128::dot;
+use fraction128::{dot, is_sum_negative};
 use linear_forms::{LinearForm, LinearForms};
 use model_build::Given;
 use smt_meaning::{Summand, TermId, Value};
 use std::alloc::{AllocError, AllocFailed};
-use sum_signs::is_sum_negative;
 use term_store::TermStore;
 
 /// Why exact values aren't shown to be those of terms.

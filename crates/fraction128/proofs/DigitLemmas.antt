@@ -7,10 +7,10 @@ use Rattle.fraction128.specs.Dot.{dot_of}
 use Rattle.std.specs.Int.{w128}
 use Rattle.std.proofs.lemmas.Nat.{mul-le}
 use Rattle.std.proofs.lemmas.Int.{ints, unsigned_abs-mul}
-use Rattle.number_meaning.specs.Whole.{InRange}
-use Rattle.number_meaning.proofs.Integers.{same_bits}
-use Rattle.number_meaning.proofs.RingEquations.{Term, var, sum, product, solve}
-use Rattle.number_meaning.proofs.WholeNumbers.{wholes}
+use Rattle.fraction128.specs.Whole.{InRange}
+use Rattle.fraction128.proofs.Integers.{same_bits}
+use Rattle.fraction128.proofs.RingEquations.{Term, var, sum, product, solve}
+use Rattle.fraction128.proofs.WholeNumbers.{wholes}
 use Rattle.fraction128.specs.declared.exact_sum.Four.{Four}
 use Rattle.fraction128.specs.declared.exact_sum.Wide.{Wide}
 use Rattle.fraction128.specs.Digits.{base, AreDigits, IsDigit, IsSettled, held, next, four_value, wide_value}

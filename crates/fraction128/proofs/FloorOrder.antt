@@ -6,8 +6,8 @@ use Rattle.std.specs.Cmp.{int_cmp_is, nat_cmp_is}
 use Rattle.std.proofs.Math.Nat.{div-add-mod', mod-lt, mul-le-mul_right, mul_comm}
 use Rattle.std.proofs.lemmas.Int.{ints}
 use Rattle.std.proofs.lemmas.Bool.{cases_lt}
-use Rattle.number_meaning.proofs.Comparisons.{less-quotient, more-quotient}
-use Rattle.number_meaning.proofs.LowestTerms.{pos_times}
+use Rattle.fraction128.proofs.Comparisons.{less-quotient, more-quotient}
+use Rattle.fraction128.proofs.LowestTerms.{pos_times}
 
 nat_scaled : (a b d : ℕ) → a * d ≡ a / b * (b * d) + a % b * d
 nat_scaled a b d = sym (ap (λ n. n * d) (div-add-mod' a b)) ∙ regroup (a / b) b (a % b) d

@@ -3,3 +3,19 @@ pub mod Steps
 pub mod FloorOrder
 pub mod Smallness
 pub mod DigitLemmas
+pub mod Ring
+pub mod RingEquations
+pub mod WholeNumbers
+pub mod Divisors
+pub mod Integers
+pub mod LowestTerms
+pub mod Comparisons
+pub mod RationalRing
+pub mod RationalOrder
+pub mod ListedAnswers
+pub mod ExactSteps
+pub mod FieldLaws
+mod NumberMeaningExamples
+pub mod RowValue
+mod GridMeaningExamples
+pub mod Places

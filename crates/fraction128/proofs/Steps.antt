@@ -1,13 +1,13 @@
 -- Of a sum and of a product: the first step that leaves the range, and the answer where none does.
 use Rattle.std.proofs.Common.{◌≡◌, ℕ, ◌*◌, ◌/◌, ◌^◌, ◌<◌, ℤ, pos, ◌+ℤ◌, ◌-ℤ◌, ◌*ℤ◌, neg_ℤ, unsigned_abs, sym, ap, ap₂, ◌∙◌, subst, [], ◌∷◌, None, Some}
 use Rattle.std.specs.Int.RustNames.{int_div}
-use Rattle.number_meaning.specs.declared.range.Range.{Range}
-use Rattle.number_meaning.specs.Whole.{InRange, value_of, first_outside}
-use Rattle.number_meaning.specs.Gcd.{gcd_of}
-use Rattle.number_meaning.specs.Ratio.{IsFraction, IsSum, IsDifference, IsProduct}
-use Rattle.number_meaning.specs.declared.ratio.Ratio.{Ratio}
-use Rattle.number_meaning.specs.Listed.{times, plus, negation_of, sum_over, reduced_by, sum_of, sum_steps, product_of, product_steps}
-use Rattle.number_meaning.proofs.LowestTerms.{inside_next, outside_here, sum-is, product-is, neg-times}
+use Rattle.fraction128.specs.declared.range.Range.{Range}
+use Rattle.fraction128.specs.Whole.{InRange, value_of, first_outside}
+use Rattle.fraction128.specs.Gcd.{gcd_of}
+use Rattle.fraction128.specs.Ratio.{IsFraction, IsSum, IsDifference, IsProduct}
+use Rattle.fraction128.specs.declared.ratio.Ratio.{Ratio}
+use Rattle.fraction128.specs.Listed.{times, plus, negation_of, sum_over, reduced_by, sum_of, sum_steps, product_of, product_steps}
+use Rattle.fraction128.proofs.LowestTerms.{inside_next, outside_here, sum-is, product-is, neg-times}
 
 abbrev one : Ratio → Ratio → Range
 one x y = times x.numerator (pos (y.denominator / gcd_of x.denominator y.denominator))

@@ -1,6 +1,6 @@
 -- Fractions whose sums and products stay within 64 bits.
 use Rattle.std.specs.Prelude.{◌<◌, ◌^◌, unsigned_abs}
-use Rattle.number_meaning.specs.declared.ratio.Ratio.{Ratio}
+use Rattle.fraction128.specs.declared.ratio.Ratio.{Ratio}
 
 -- both parts have 31 bits
 pub record IsSmall (x : Ratio) : Type 0 where

@@ -2,7 +2,7 @@
 #![tactic(auto)]
 
 ghost use Rattle.std.specs.Prelude.{◌≡◌, ℕ, ℤ, ◌+◌, ◌*◌, ◌<◌, ◌≤◌, ◌^◌, pos, ◌+ℤ◌, ◌*ℤ◌, ◌<ℤ◌, ◌≤ℤ◌, unsigned_abs, IfSome, IfNone};
-ghost use Rattle.number_meaning.specs.Whole.{InRange};
+ghost use Rattle.fraction128.specs.Whole.{InRange};
 ghost use Rattle.fraction128.specs.Dot.{dot_of};
 ghost use Rattle.fraction128.specs.Digits.{IsDigit, AreDigits, IsSettled, AreNear, four_value, wide_value, held, next, base, IsRanged};
 

@@ -3,14 +3,14 @@
 
 ghost use Rattle.std.specs.Prelude.{◌≡◌, ℕ, ◌*◌, ◌<◌, ◌^◌, pos, ◌+ℤ◌, ◌-ℤ◌, ◌*ℤ◌, ◌<ℤ◌, ◌≤ℤ◌, unsigned_abs, IfOk, OnOk, IfErr, IsTrue, ◌↔◌, ◌≢◌, Some, None};
 ghost use Rattle.std.specs.Ordering.{int_cmp};
-ghost use Rattle.number_meaning.specs.Whole.{InRange, first_outside};
-ghost use Rattle.number_meaning.specs.Ratio.{IsFraction, Equals, IsSum, IsDifference, IsProduct, IsReciprocal};
-ghost use Rattle.number_meaning.specs.Listed.{negation_of, reciprocal_of, sum_of, sum_steps, product_of, product_steps};
+ghost use Rattle.fraction128.specs.Whole.{InRange, first_outside};
+ghost use Rattle.fraction128.specs.Ratio.{IsFraction, Equals, IsSum, IsDifference, IsProduct, IsReciprocal};
+ghost use Rattle.fraction128.specs.Listed.{negation_of, reciprocal_of, sum_of, sum_steps, product_of, product_steps};
 
 use crate::order::order;
 use crate::sums::{difference, product, reciprocal, reduced, sum};
 use crate::whole::floor_div;
-use number_meaning::{Range, Ratio};
+use crate::{Range, Ratio};
 use std::cmp::Ordering;
 use std::marker::Model;
 
@@ -21,11 +21,11 @@ pub struct Fraction {
 }
 
 impl Model for Fraction {
-    ghost use Rattle.number_meaning.specs.declared.ratio.Ratio.{Ratio};
+    ghost use Rattle.fraction128.specs.declared.ratio.Ratio.{Ratio};
 
     ghost Value = { Ratio };
 
-    ghost use Rattle.number_meaning.specs.Ratio.{IsFraction};
+    ghost use Rattle.fraction128.specs.Ratio.{IsFraction};
 
     ghost view = { λ a. a.ratio };
 

@@ -2,15 +2,15 @@
 use Rattle.std.proofs.Common.{unsigned_abs, ◌*ℤ◌, ◌≡◌, ℤ, ◌<◌, ◌⊎◌, inl, inr, pos, sym, ap, ap₂, ◌∙◌, subst, refl, arith, [], ◌∷◌, Bool, true, false, cond, ◌&&◌, ◌||◌, eq-eqb, Option, Some, None}
 use Rattle.std.specs.Prelude.{int_lt}
 use Rattle.std.proofs.lemmas.Int.{ints}
-use Rattle.number_meaning.specs.declared.ratio.Ratio.{Ratio}
-use Rattle.number_meaning.specs.Number.{whole, is_less, is_positive, is_negative}
-use Rattle.number_meaning.specs.Listed.{negation_of}
-use Rattle.number_meaning.proofs.RingEquations.{var, sum, product, minus, nothing, solve}
-use Rattle.number_meaning.proofs.RationalRing.{Rational, number, number_neg, number_back, rational_sum, rational_product, rational_negation, rational_zero, rational_zero-is, rationals}
-use Rattle.number_meaning.proofs.RationalOrder.{NonPos, nonpos_plus, nonpos_none, nonpos_times, less_or_same, difference_nonpos, times_one, none_times}
-use Rattle.number_meaning.proofs.ExactSteps.{none_number}
-use Rattle.grid_meaning.specs.declared.Column.{Column}
-use Rattle.grid_meaning.specs.Grid.{is_below, is_above, can_rise, can_fall, missed, helps}
+use Rattle.fraction128.specs.declared.ratio.Ratio.{Ratio}
+use Rattle.fraction128.specs.Number.{whole, is_less, is_positive, is_negative}
+use Rattle.fraction128.specs.Listed.{negation_of}
+use Rattle.fraction128.proofs.RingEquations.{var, sum, product, minus, nothing, solve}
+use Rattle.fraction128.proofs.RationalRing.{Rational, number, number_neg, number_back, rational_sum, rational_product, rational_negation, rational_zero, rational_zero-is, rationals}
+use Rattle.fraction128.proofs.RationalOrder.{NonPos, nonpos_plus, nonpos_none, nonpos_times, less_or_same, difference_nonpos, times_one, none_times}
+use Rattle.fraction128.proofs.ExactSteps.{none_number}
+use Rattle.fraction128.specs.declared.Column.{Column}
+use Rattle.fraction128.specs.Grid.{is_below, is_above, can_rise, can_fall, missed, helps}
 
 -- ---- signs
 

@@ -1,15 +1,15 @@
 -- Next steps keep what holds of grids.
 use Rattle.std.proofs.Common.{◌≡◌, ◌≢◌, ℕ, ◌<◌, sym, ap, ◌∙◌, subst, refl, arith, List, [], ◌∷◌, length, get_or, Bool, true, false, cond, eqb, eqb-true, eq-eqb, None, unsigned_abs}
 use Rattle.std.proofs.lemmas.List.{get_or_default}
-use Rattle.number_meaning.specs.declared.ratio.Ratio.{Ratio}
-use Rattle.number_meaning.specs.Number.{whole}
-use Rattle.number_meaning.specs.Listed.{fused}
-use Rattle.grid_meaning.specs.declared.Entry.{Entry}
-use Rattle.grid_meaning.specs.declared.Column.{Column}
-use Rattle.grid_meaning.specs.declared.TableRow.{TableRow}
-use Rattle.grid_meaning.specs.declared.Grid.{Grid}
-use Rattle.grid_meaning.specs.Grid.{take, move, pivot, coefficient, cell, is_basic, value_at, missed, distance, after_pivot, after_move, moved_value, MeetsRow}
-use Rattle.grid_meaning.proofs.RowValue as RowValue
+use Rattle.fraction128.specs.declared.ratio.Ratio.{Ratio}
+use Rattle.fraction128.specs.Number.{whole}
+use Rattle.fraction128.specs.Listed.{fused}
+use Rattle.fraction128.specs.declared.Entry.{Entry}
+use Rattle.fraction128.specs.declared.Column.{Column}
+use Rattle.fraction128.specs.declared.TableRow.{TableRow}
+use Rattle.fraction128.specs.declared.Grid.{Grid}
+use Rattle.fraction128.specs.Grid.{take, move, pivot, coefficient, cell, is_basic, value_at, missed, distance, after_pivot, after_move, moved_value, MeetsRow}
+use Rattle.fraction128.proofs.RowValue as RowValue
 use Rattle.grid_laws.specs.Law.{row_at, no_row, AreFrom, ArePositive, IsLawful, StepsKeep, MovesSettle, PivotsSettle}
 use Rattle.grid_laws.proofs.Spans.{coefficient_positive, dot_coefficients, differs}
 use Rattle.grid_laws.proofs.Bland.{zero_back}

@@ -2,15 +2,15 @@
 use Rattle.std.proofs.Common.{◌≡◌, ◌≢◌, ℕ, ℤ, zero, suc, ◌+◌, ◌<◌, ◌≤◌, ◌⊎◌, inl, inr, pos, sym, ap, ap₂, ◌∙◌, subst, refl, arith, List, [], ◌∷◌, ◌++◌, map, length, get_or, Bool, true, false, cond, eqb, eqb-true, eq-eqb, Some, unsigned_abs}
 use Rattle.std.specs.Prelude.{All}
 use Rattle.std.proofs.lemmas.List.{get_or-map, length-map, append_assoc}
-use Rattle.number_meaning.specs.declared.ratio.Ratio.{Ratio}
-use Rattle.number_meaning.specs.Number.{whole, is_less, SameNumber, unreduced_sum, unreduced_product}
-use Rattle.grid_meaning.specs.declared.Entry.{Entry}
-use Rattle.grid_meaning.specs.declared.TableRow.{TableRow}
-use Rattle.grid_meaning.specs.declared.Grid.{Grid}
-use Rattle.grid_meaning.specs.declared.Member.{Member}
-use Rattle.grid_meaning.specs.declared.Line.{Line}
-use Rattle.grid_meaning.specs.Grid.{take, move, pivot, coefficient, column_at, value_at, cell, is_basic, entries_of, row_of, row_value, helps, next_step, after, after_pivot, pivoted_rows, is_above, is_below, MeetsRows}
-use Rattle.grid_meaning.specs.Lines.{sum_value, member_of, basic_member, line_of, pivot_line, members_value, IsIdentity, IsOutside, Helps, IsLeastHelping, IsPivotLine, HaveOthers, IsSeries}
+use Rattle.fraction128.specs.declared.ratio.Ratio.{Ratio}
+use Rattle.fraction128.specs.Number.{whole, is_less, SameNumber, unreduced_sum, unreduced_product}
+use Rattle.fraction128.specs.declared.Entry.{Entry}
+use Rattle.fraction128.specs.declared.TableRow.{TableRow}
+use Rattle.fraction128.specs.declared.Grid.{Grid}
+use Rattle.fraction128.specs.declared.Member.{Member}
+use Rattle.fraction128.specs.declared.Line.{Line}
+use Rattle.fraction128.specs.Grid.{take, move, pivot, coefficient, column_at, value_at, cell, is_basic, entries_of, row_of, row_value, helps, next_step, after, after_pivot, pivoted_rows, is_above, is_below, MeetsRows}
+use Rattle.fraction128.specs.Lines.{sum_value, member_of, basic_member, line_of, pivot_line, members_value, IsIdentity, IsOutside, Helps, IsLeastHelping, IsPivotLine, HaveOthers, IsSeries}
 use Rattle.grid_laws.specs.Law.{row_at, no_row, AreFrom, IsLawful, lines_of, LinesArePivots, LinesGoOn, LinesAreRows, IsNonzeroEntry, IsFreeMember}
 use Rattle.grid_laws.proofs.Spans.{not_same, differs}
 use Rattle.grid_laws.proofs.Bland.{missed_cases, less_is_most, zero_back}

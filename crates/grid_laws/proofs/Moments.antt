@@ -2,16 +2,16 @@
 use Rattle.std.proofs.Common.{◌≡◌, ◌≢◌, ℕ, ℤ, zero, suc, ◌+◌, ◌<◌, ◌≤◌, ◌⊎◌, inl, inr, pos, sym, ap, ap₂, ◌∙◌, subst, refl, arith, List, [], ◌∷◌, length, Bool, true, false, cond, eqb, eqb-true, eq-eqb, Option, Some, None, ◌&&◌, ◌||◌}
 use Rattle.std.proofs.lemmas.Int.{ints}
 use Rattle.std.proofs.lemmas.Bool.{cases_lt}
-use Rattle.number_meaning.specs.declared.ratio.Ratio.{Ratio}
-use Rattle.number_meaning.specs.Number.{whole, is_less, is_positive, is_negative}
-use Rattle.number_meaning.specs.Listed.{negation_of, reciprocal_of, sum_of, fused}
-use Rattle.number_meaning.proofs.RingEquations.{var, sum, product, minus, unit, solve}
-use Rattle.number_meaning.proofs.RationalRing.{Rational, number, number_neg, rational_sum, rational_product, rational_negation, rationals}
-use Rattle.number_meaning.proofs.ExactSteps.{sum_positive, number_sum, product_positive, number_product, fused_positive, number_fused, reciprocal_positive, number_reciprocal}
-use Rattle.grid_meaning.specs.declared.Column.{Column}
-use Rattle.grid_meaning.specs.declared.TableRow.{TableRow}
-use Rattle.grid_meaning.specs.declared.Grid.{Grid}
-use Rattle.grid_meaning.specs.Grid.{is_some, entries_of, coefficient, cell, is_basic, value_at, is_crossed, any_crossed, can_rise, can_fall, helps, distance, moved_value, pivot_distance, pivoted_value, pivoted_rows, with_values, after_move, after_pivot}
+use Rattle.fraction128.specs.declared.ratio.Ratio.{Ratio}
+use Rattle.fraction128.specs.Number.{whole, is_less, is_positive, is_negative}
+use Rattle.fraction128.specs.Listed.{negation_of, reciprocal_of, sum_of, fused}
+use Rattle.fraction128.proofs.RingEquations.{var, sum, product, minus, unit, solve}
+use Rattle.fraction128.proofs.RationalRing.{Rational, number, number_neg, rational_sum, rational_product, rational_negation, rationals}
+use Rattle.fraction128.proofs.ExactSteps.{sum_positive, number_sum, product_positive, number_product, fused_positive, number_fused, reciprocal_positive, number_reciprocal}
+use Rattle.fraction128.specs.declared.Column.{Column}
+use Rattle.fraction128.specs.declared.TableRow.{TableRow}
+use Rattle.fraction128.specs.declared.Grid.{Grid}
+use Rattle.fraction128.specs.Grid.{is_some, entries_of, coefficient, cell, is_basic, value_at, is_crossed, any_crossed, can_rise, can_fall, helps, distance, moved_value, pivot_distance, pivoted_value, pivoted_rows, with_values, after_move, after_pivot}
 use Rattle.grid_laws.specs.Law.{row_at}
 use Rattle.grid_laws.proofs.Spans.{not_same, coefficient_positive}
 use Rattle.grid_laws.proofs.Pivots.{Shape, Solves, IsPivot, entry_at, basic_at, row_is, row_lacks, basic_or_free, shape_after, solves_after, solves_shifted}

@@ -1,9 +1,9 @@
 -- What a next step says of its grid.
 use Rattle.std.proofs.Common.{◌≡◌, ℕ, ℤ, zero, suc, ◌+◌, ◌<◌, pos, sym, ap, ap₂, ◌∙◌, subst, refl, arith, List, [], ◌∷◌, length, get_or, Bool, true, false, not, Option, Some, None}
-use Rattle.number_meaning.specs.Number.{whole, is_less}
-use Rattle.grid_meaning.specs.declared.Column.{Column}
-use Rattle.grid_meaning.specs.declared.Grid.{Grid}
-use Rattle.grid_meaning.specs.Grid.{Step, take, move, pivot, value_at, cell, is_basic, missed, helps, any_crossed, first_place, only_if, with_place, least_outside, least_broken, entering, blands_pivot, next_step, search_step}
+use Rattle.fraction128.specs.Number.{whole, is_less}
+use Rattle.fraction128.specs.declared.Column.{Column}
+use Rattle.fraction128.specs.declared.Grid.{Grid}
+use Rattle.fraction128.specs.Grid.{Step, take, move, pivot, value_at, cell, is_basic, missed, helps, any_crossed, first_place, only_if, with_place, least_outside, least_broken, entering, blands_pivot, next_step, search_step}
 
 abbrev pub no_col : Column
 no_col = record { sum = []; lower = None; upper = None; value = whole (pos 0) }

@@ -1,16 +1,16 @@
 -- A pivot keeps the shape of rows and their solutions.
 use Rattle.std.proofs.Common.{◌≡◌, ◌≢◌, ℕ, zero, suc, ◌<◌, ◌⊎◌, inl, inr, pos, negsuc, sym, ap, ap₂, ◌∙◌, subst, refl, arith, List, [], ◌∷◌, length, Bool, true, false, cond, eqb, eqb-true, eq-eqb, Some, None}
 use Rattle.std.proofs.lemmas.List.{get_or-map, length-map}
-use Rattle.number_meaning.specs.declared.ratio.Ratio.{Ratio}
-use Rattle.number_meaning.specs.Number.{whole}
-use Rattle.number_meaning.specs.Listed.{negation_of, reciprocal_of, fused}
-use Rattle.number_meaning.proofs.RingEquations.{var, sum, product, minus, nothing, unit, solve}
-use Rattle.number_meaning.proofs.RationalRing.{Rational, number, number_neg, rational_sum, rational_product, rational_negation, rational_zero, rational_one, rational_zero-is, rational_one-is, rationals}
-use Rattle.number_meaning.proofs.ExactSteps.{product_positive, number_product, fused_positive, number_fused, reciprocal_positive, number_reciprocal}
-use Rattle.grid_meaning.specs.declared.Entry.{Entry}
-use Rattle.grid_meaning.specs.declared.TableRow.{TableRow}
-use Rattle.grid_meaning.specs.Grid.{coefficient, row_of, entries_of, cell, factor, form_entry, scaled_entry, pivoted_entry, entries_from, pivoted_rows}
-use Rattle.grid_meaning.proofs.RowValue.{ArePositive}
+use Rattle.fraction128.specs.declared.ratio.Ratio.{Ratio}
+use Rattle.fraction128.specs.Number.{whole}
+use Rattle.fraction128.specs.Listed.{negation_of, reciprocal_of, fused}
+use Rattle.fraction128.proofs.RingEquations.{var, sum, product, minus, nothing, unit, solve}
+use Rattle.fraction128.proofs.RationalRing.{Rational, number, number_neg, rational_sum, rational_product, rational_negation, rational_zero, rational_one, rational_zero-is, rational_one-is, rationals}
+use Rattle.fraction128.proofs.ExactSteps.{product_positive, number_product, fused_positive, number_fused, reciprocal_positive, number_reciprocal}
+use Rattle.fraction128.specs.declared.Entry.{Entry}
+use Rattle.fraction128.specs.declared.TableRow.{TableRow}
+use Rattle.fraction128.specs.Grid.{coefficient, row_of, entries_of, cell, factor, form_entry, scaled_entry, pivoted_entry, entries_from, pivoted_rows}
+use Rattle.fraction128.proofs.RowValue.{ArePositive}
 use Rattle.grid_laws.specs.Law.{row_at, no_row, AreFrom}
 use Rattle.grid_laws.proofs.Spans.{span, span_same, span_sum, span_product, only, span_only, not_same, differs, listed_positive, listed_from, number_listed, coefficient_positive}
 

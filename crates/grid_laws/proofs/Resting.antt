@@ -1,12 +1,12 @@
 -- Where the values of variables that aren't basic stand after a run.
 use Rattle.std.proofs.Common.{◌≡◌, ℕ, ℤ, ◌<◌, ◌⊎◌, inl, inr, sym, ap, ◌∙◌, subst, refl, arith, List, [], ◌∷◌, length, Bool, true, false, cond, eqb, eqb-true, Some}
-use Rattle.number_meaning.specs.declared.ratio.Ratio.{Ratio}
-use Rattle.number_meaning.specs.Number.{whole, is_less}
-use Rattle.number_meaning.specs.Listed.{fused}
-use Rattle.grid_meaning.specs.declared.Column.{Column}
-use Rattle.grid_meaning.specs.declared.TableRow.{TableRow}
-use Rattle.grid_meaning.specs.declared.Grid.{Grid}
-use Rattle.grid_meaning.specs.Grid.{Step, take, move, pivot, cell, is_basic, column_at, value_at, missed, next_step, distance, moved_value, pivoted_value, with_values, after_move, after_pivot, pivoted_rows}
+use Rattle.fraction128.specs.declared.ratio.Ratio.{Ratio}
+use Rattle.fraction128.specs.Number.{whole, is_less}
+use Rattle.fraction128.specs.Listed.{fused}
+use Rattle.fraction128.specs.declared.Column.{Column}
+use Rattle.fraction128.specs.declared.TableRow.{TableRow}
+use Rattle.fraction128.specs.declared.Grid.{Grid}
+use Rattle.fraction128.specs.Grid.{Step, take, move, pivot, cell, is_basic, column_at, value_at, missed, next_step, distance, moved_value, pivoted_value, with_values, after_move, after_pivot, pivoted_rows}
 use Rattle.grid_laws.specs.Law.{IsLawful, Runs, IsAtBound, KeepsResting, RunsRest}
 use Rattle.grid_laws.proofs.Spans.{differs}
 use Rattle.grid_laws.proofs.Bland.{missed_cases}

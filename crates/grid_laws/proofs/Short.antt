@@ -3,17 +3,17 @@ use Rattle.std.proofs.Common.{◌≡◌, ◌≢◌, ℕ, ℤ, zero, suc, ◌+◌
 use Rattle.std.specs.Prelude.{int_lt}
 use Rattle.std.proofs.lemmas.Int.{ints}
 use Rattle.std.proofs.lemmas.Bool.{cases_lt}
-use Rattle.number_meaning.specs.declared.ratio.Ratio.{Ratio}
-use Rattle.number_meaning.specs.Number.{whole, is_less}
-use Rattle.number_meaning.proofs.RingEquations.{var, sum, product, minus, nothing, unit, solve}
-use Rattle.number_meaning.proofs.RationalRing.{Rational, number, rational_sum, rational_product, rational_negation, rational_zero, rational_one, rationals}
-use Rattle.number_meaning.proofs.RationalOrder.{NonPos, nonpos_none, times_one}
-use Rattle.number_meaning.proofs.ExactSteps.{none_number}
-use Rattle.grid_meaning.specs.declared.Entry.{Entry}
-use Rattle.grid_meaning.specs.declared.Column.{Column}
-use Rattle.grid_meaning.specs.declared.Grid.{Grid}
-use Rattle.grid_meaning.specs.Grid.{Step, take, move, pivot, coefficient, cell, is_basic, value_at, missed, is_crossed, helps, any_crossed, next_step, after_pivot, after_move, pivoted_value, pivoted_rows, MeetsRows}
-use Rattle.grid_meaning.proofs.RowValue as RowValue
+use Rattle.fraction128.specs.declared.ratio.Ratio.{Ratio}
+use Rattle.fraction128.specs.Number.{whole, is_less}
+use Rattle.fraction128.proofs.RingEquations.{var, sum, product, minus, nothing, unit, solve}
+use Rattle.fraction128.proofs.RationalRing.{Rational, number, rational_sum, rational_product, rational_negation, rational_zero, rational_one, rationals}
+use Rattle.fraction128.proofs.RationalOrder.{NonPos, nonpos_none, times_one}
+use Rattle.fraction128.proofs.ExactSteps.{none_number}
+use Rattle.fraction128.specs.declared.Entry.{Entry}
+use Rattle.fraction128.specs.declared.Column.{Column}
+use Rattle.fraction128.specs.declared.Grid.{Grid}
+use Rattle.fraction128.specs.Grid.{Step, take, move, pivot, coefficient, cell, is_basic, value_at, missed, is_crossed, helps, any_crossed, next_step, after_pivot, after_move, pivoted_value, pivoted_rows, MeetsRows}
+use Rattle.fraction128.proofs.RowValue as RowValue
 use Rattle.grid_laws.specs.Law.{row_at, no_row, ArePositive, IsGrid, Runs, pivots, RunsAreShort}
 use Rattle.grid_laws.proofs.Counting.{Turn, AreBelow, AreWithout, AreApart, Names, Alternates, few_turns}
 use Rattle.grid_laws.proofs.Spans.{span, span_same, span_sum, span_product, span_nonpos, coefficient_positive, dot_coefficients, differs}

@@ -1,14 +1,14 @@
 -- Sums over variables, and rows by their coefficients.
 use Rattle.std.proofs.Common.{◌≡◌, ◌≢◌, ℕ, zero, suc, ◌+◌, ◌<◌, ◌≤◌, pos, sym, ap, ap₂, ◌∙◌, refl, arith, List, [], ◌∷◌, Bool, true, false, cond, eqb, eqb-true, eq-eqb}
-use Rattle.number_meaning.specs.declared.ratio.Ratio.{Ratio}
-use Rattle.number_meaning.specs.Number.{whole, is_zero}
-use Rattle.number_meaning.proofs.RingEquations.{var, sum, product, nothing, unit, solve}
-use Rattle.number_meaning.proofs.RationalRing.{Rational, number, rational_sum, rational_product, rational_zero, rational_one, rational_zero-is, rationals}
-use Rattle.number_meaning.proofs.RationalOrder.{NonPos, nonpos_plus, nonpos_none}
-use Rattle.number_meaning.proofs.ExactSteps.{none_number}
-use Rattle.grid_meaning.specs.declared.Entry.{Entry}
-use Rattle.grid_meaning.specs.Grid.{coefficient, entries_from}
-use Rattle.grid_meaning.proofs.RowValue.{dot, ArePositive}
+use Rattle.fraction128.specs.declared.ratio.Ratio.{Ratio}
+use Rattle.fraction128.specs.Number.{whole, is_zero}
+use Rattle.fraction128.proofs.RingEquations.{var, sum, product, nothing, unit, solve}
+use Rattle.fraction128.proofs.RationalRing.{Rational, number, rational_sum, rational_product, rational_zero, rational_one, rational_zero-is, rationals}
+use Rattle.fraction128.proofs.RationalOrder.{NonPos, nonpos_plus, nonpos_none}
+use Rattle.fraction128.proofs.ExactSteps.{none_number}
+use Rattle.fraction128.specs.declared.Entry.{Entry}
+use Rattle.fraction128.specs.Grid.{coefficient, entries_from}
+use Rattle.fraction128.proofs.RowValue.{dot, ArePositive}
 use Rattle.grid_laws.specs.Law.{AreFrom}
 
 -- the sum over the n variables from i on

@@ -1,15 +1,15 @@
 -- Runs of next steps of a grid, and how many pivots they have.
 use Rattle.std.specs.Prelude.{◌≡◌, ℕ, suc, ◌+◌, ◌^◌, ◌<◌, ◌≤◌, ◌⊎◌, true, false, List, [], ◌∷◌, ◌++◌, length, slice_index_or, ℤ, Option, Some, None, All}
-use Rattle.number_meaning.specs.Number.{whole, is_zero}
-use Rattle.grid_meaning.specs.declared.Entry.{Entry}
-use Rattle.grid_meaning.specs.declared.TableRow.{TableRow}
-use Rattle.grid_meaning.specs.declared.Column.{Column}
-use Rattle.grid_meaning.specs.declared.Grid.{Grid}
-use Rattle.number_meaning.specs.declared.ratio.Ratio.{Ratio}
-use Rattle.grid_meaning.specs.declared.Member.{Member}
-use Rattle.grid_meaning.specs.declared.Line.{Line}
-use Rattle.grid_meaning.specs.Grid.{Step, take, move, pivot, coefficient, value_at, column_at, is_basic, entries_of, row_of, missed, any_crossed, next_step, after, MeetsRows}
-use Rattle.grid_meaning.specs.Lines.{sum_value, IsPositive, basic_member, line_of, pivot_line, IsIdentity, IsPivotLine, IsSeries}
+use Rattle.fraction128.specs.Number.{whole, is_zero}
+use Rattle.fraction128.specs.declared.Entry.{Entry}
+use Rattle.fraction128.specs.declared.TableRow.{TableRow}
+use Rattle.fraction128.specs.declared.Column.{Column}
+use Rattle.fraction128.specs.declared.Grid.{Grid}
+use Rattle.fraction128.specs.declared.ratio.Ratio.{Ratio}
+use Rattle.fraction128.specs.declared.Member.{Member}
+use Rattle.fraction128.specs.declared.Line.{Line}
+use Rattle.fraction128.specs.Grid.{Step, take, move, pivot, coefficient, value_at, column_at, is_basic, entries_of, row_of, missed, any_crossed, next_step, after, MeetsRows}
+use Rattle.fraction128.specs.Lines.{sum_value, IsPositive, basic_member, line_of, pivot_line, IsIdentity, IsPivotLine, IsSeries}
 
 abbrev pub no_row : TableRow
 no_row = record { basic = 0; entries = [] }

@@ -3,8 +3,8 @@ use Rattle.std.proofs.Common.{◌≡◌, ℕ, ◌+◌, ◌*◌, ◌<◌, ◌≤�
 use Rattle.std.specs.Prelude.{int_le}
 use Rattle.std.proofs.lemmas.Int.{ints}
 use Rattle.std.proofs.Math.Nat.{mul-le-mul_left}
-use Rattle.number_meaning.specs.Gcd.{gcd_of}
-use Rattle.number_meaning.specs.Whole.{InRange}
+use Rattle.fraction128.specs.Gcd.{gcd_of}
+use Rattle.fraction128.specs.Whole.{InRange}
 use Rattle.smt_meaning.specs.declared.clauses.Atom.TheVariants.{AtMost}
 use Rattle.smt_meaning.specs.Term.{Interpretation, number_of}
 use Rattle.smt_meaning.specs.Clause.{atom_true, value_at}

@@ -1,6 +1,6 @@
 //! Branches on the value of a term.
 ghost use Rattle.std.specs.Prelude.{◌≡◌, ◌≢◌, pos, ◌+ℤ◌, ◌*ℤ◌, ◌<ℤ◌, ◌≤ℤ◌, IfOk};
-ghost use Rattle.number_meaning.specs.Whole.{InRange};
+ghost use Rattle.fraction128.specs.Whole.{InRange};
 ghost use Rattle.int_branch.specs.Branch.{multiple, other_number, IsBranch, AreNormal, OneHolds, BranchesAreValid};
 
 use fraction128::Fraction;

@@ -2,7 +2,7 @@
 use Rattle.std.proofs.Common.{◌≡◌, sym, Bool, true, false, List, [], ◌∷◌, refl, ap, subst, inl, inr, arith, ℤ, pos, negsuc, neg_ℤ, None, ◌≤ℤ◌}
 use Rattle.std.proofs.lemmas.List.Elements.{Contains-append_right}
 use Rattle.std.specs.Prelude.{codes, Contains}
-use Rattle.number_meaning.specs.Gcd.{gcd_of}
+use Rattle.fraction128.specs.Gcd.{gcd_of}
 use Rattle.smt_meaning.specs.declared.values.Sort.TheVariants.{Int as Ints}
 use Rattle.smt_meaning.specs.declared.terms.Operator.{Operator}
 use Rattle.smt_meaning.specs.declared.terms.Operator.TheVariants.{And, AtMost as IsAtMost, Less, Multiply}

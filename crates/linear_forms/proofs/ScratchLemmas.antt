@@ -7,8 +7,8 @@ use Rattle.std.proofs.lemmas.Bool.{eqb-true, eqb-false}
 use Rattle.std.proofs.lemmas.List.{get_or-set_same, get_or-set_other, get_or_default, length-set, take_more, append-nil}
 use Rattle.std.proofs.lemmas.List.Sorted.{Contains-permutation}
 use Rattle.std.proofs.Math.IntN.{*ℤ-zero}
-use Rattle.number_meaning.specs.Whole.{InRange}
-use Rattle.number_meaning.proofs.Ring.{times-sum}
+use Rattle.fraction128.specs.Whole.{InRange}
+use Rattle.fraction128.proofs.Ring.{times-sum}
 use Rattle.smt_meaning.specs.declared.clauses.Summand.{Summand}
 use Rattle.smt_meaning.specs.Linear.{summand, unless_zero}
 use Rattle.linear_forms.specs.declared.coefficients.Coefficient.{Coefficient}

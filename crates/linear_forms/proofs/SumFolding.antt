@@ -2,7 +2,7 @@
 use Rattle.std.proofs.Common.{◌≡◌, ◌≢◌, ◌⊎◌, inl, inr, ℕ, ◌+◌, ◌<◌, ◌≤◌, Bool, true, false, List, [], ◌∷◌, length, get_or, drop, Result, Ok, Err, subst, sym, refl, arith}
 use Rattle.std.specs.Prelude.{ℤ, pos, ◌+ℤ◌, IfOk}
 use Rattle.std.proofs.lemmas.List.{drop_more, drop_all}
-use Rattle.number_meaning.specs.Whole.{InRange}
+use Rattle.fraction128.specs.Whole.{InRange}
 use Rattle.smt_meaning.specs.Linear.{Form}
 use Rattle.linear_forms.specs.declared.coefficients.Coefficient.{Coefficient}
 use Rattle.linear_forms.specs.declared.coefficients.Stop.{Stop}

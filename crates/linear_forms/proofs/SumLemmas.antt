@@ -4,7 +4,7 @@ use Rattle.std.specs.Prelude.{ℤ, pos, negsuc, ◌+ℤ◌, ◌*ℤ◌, neg_ℤ,
 use Rattle.std.proofs.lemmas.Int.{ints}
 use Rattle.std.proofs.lemmas.Bool.{eqb-true, eqb-false, ne_eqb, ltb-true, ltb-false, lt-ltb}
 use Rattle.std.proofs.Math.IntN.{zero-*ℤ, *ℤ-zero}
-use Rattle.number_meaning.specs.Whole.{InRange, is_in_range}
+use Rattle.fraction128.specs.Whole.{InRange, is_in_range}
 use Rattle.smt_meaning.specs.declared.clauses.Summand.{Summand}
 use Rattle.smt_meaning.specs.Linear.{summand, unless_zero, placed, with_term, sums_added, each_times, sum_times, sum_fits}
 use Rattle.term_laws.proofs.Both.{and_left, and_right, and_both}

@@ -1,6 +1,6 @@
 -- The coefficients by place while a form is folded. No public contract speaks of them.
 use Rattle.std.specs.Prelude.{◌≡◌, ◌≢◌, ℕ, ◌<◌, Bool, List, length, take, ◌≤◌, All, Contains, ℤ, pos, ◌+ℤ◌, slice_index, slice_index_or}
-use Rattle.number_meaning.specs.Whole.{InRange}
+use Rattle.fraction128.specs.Whole.{InRange}
 use Rattle.smt_meaning.specs.declared.clauses.Summand.{Summand}
 use Rattle.linear_forms.specs.declared.coefficients.Coefficient.{Coefficient}
 use Rattle.linear_forms.specs.Sums.{coefficient_of, IsSum, signed}

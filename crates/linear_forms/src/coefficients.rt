@@ -1,6 +1,6 @@
 //! Coefficients by place, while a form is folded.
 ghost use Rattle.std.specs.Prelude.{◌≡◌, ◌<◌, ◌++◌, [], List, IfSome, IfNone, length, take, slice_set, true, All, Contains, OnOk, IfOk, OnErr, pos, ◌+ℤ◌, ◌-ℤ◌, ◌*ℤ◌};
-ghost use Rattle.number_meaning.specs.Whole.{InRange};
+ghost use Rattle.fraction128.specs.Whole.{InRange};
 ghost use Rattle.smt_meaning.specs.Linear.{unless_zero, sum_fits};
 ghost use Rattle.smt_meaning.specs.declared.clauses.Summand.{Summand as SummandValue};
 ghost use Rattle.linear_forms.specs.Sums.{IsSum, signed};

@@ -1,6 +1,6 @@
 //! Products of forms, folded from the left.
 ghost use Rattle.std.specs.Prelude.{◌≡◌, ◌<◌, ◌++◌, [], ◌∷◌, length, true, false, All, OnOk, IfOk, ◌*ℤ◌};
-ghost use Rattle.number_meaning.specs.Whole.{InRange};
+ghost use Rattle.fraction128.specs.Whole.{InRange};
 ghost use Rattle.smt_meaning.specs.Linear.{summand as summand_of, sum_fits, form_fits, sum_times, form_times, form_product, folded, folded_fits};
 ghost use Rattle.linear_forms.specs.Folding.{form_of};
 ghost use Rattle.linear_forms.specs.Entries.{knowns, forms_at, AreLaid};

@@ -1,6 +1,6 @@
 //! Sums and differences of forms, folded from the left.
 ghost use Rattle.std.specs.Prelude.{◌≡◌, ◌<◌, ◌≤◌, ◌⊎◌, length, true, false, All, IfOk, pos, ◌+ℤ◌};
-ghost use Rattle.number_meaning.specs.Whole.{InRange};
+ghost use Rattle.fraction128.specs.Whole.{InRange};
 ghost use Rattle.linear_forms.specs.Sums.{IsSum, signed};
 ghost use Rattle.linear_forms.specs.Scratch.{AreRanged, AreZero, AreTouched, IsAdded, LeavesRange};
 ghost use Rattle.linear_forms.specs.Folding.{combined_fits, IsCombined};

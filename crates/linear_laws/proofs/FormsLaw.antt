@@ -2,7 +2,7 @@
 use Rattle.std.proofs.Common.{◌≡◌, ℕ, zero, suc, ◌^◌, List, [], ◌∷◌, All, ap, ◌∙◌, refl, true, nat_lt, arith}
 use Rattle.std.specs.Prelude.{IsTrue, ℤ, pos, negsuc, ◌*ℤ◌, neg_ℤ, unsigned_abs}
 use Rattle.std.proofs.lemmas.List.Elements.{All-head, All-tail}
-use Rattle.number_meaning.specs.Whole.{is_in_range}
+use Rattle.fraction128.specs.Whole.{is_in_range}
 use Rattle.smt_meaning.specs.declared.clauses.Summand.{Summand}
 use Rattle.smt_meaning.specs.declared.terms.Operator.TheVariants.{Add, Subtract, Multiply}
 use Rattle.smt_meaning.specs.declared.terms.Head.{Head}

@@ -1,6 +1,6 @@
 -- Whether the numerals of a term are in the range.
 use Rattle.std.specs.Prelude.{Bool, true, ◌&&◌}
-use Rattle.number_meaning.specs.Whole.{is_in_range}
+use Rattle.fraction128.specs.Whole.{is_in_range}
 use Rattle.smt_meaning.specs.declared.terms.Head.{Head}
 use Rattle.smt_meaning.specs.declared.terms.Head.TheVariants.{Numeral}
 use Rattle.smt_meaning.specs.Term.{Tree, Trees, node, none, more}

@@ -5,10 +5,9 @@ ghost use Rattle.smt_meaning.specs.declared.clauses.Summand.{Summand as SummandO
 ghost use Rattle.log_value.specs.Places.{value_at};
 ghost use Rattle.log_value.specs.Atoms.{sum_by, pair_by};
 
-use fraction128::dot;
+use fraction128::{dot, is_sum_negative};
 use smt_meaning::{Summand, Value};
 use std::alloc::AllocError;
-use sum_signs::is_sum_negative;
 
 fn number_of(value: Value) -> i128
     ensures { result ≡ number_of value }

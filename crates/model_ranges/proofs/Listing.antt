@@ -4,9 +4,9 @@ use Rattle.std.specs.Prelude.{◌⊎◌, ℤ, pos, ◌*ℤ◌, slice_index_or}
 use Rattle.std.proofs.lemmas.Bool.{cases_lt}
 use Rattle.std.proofs.lemmas.List.{get_or_push, get_or_append_left}
 use Rattle.std.proofs.lemmas.Int.{ints}
-use Rattle.number_meaning.specs.declared.ratio.Ratio.{Ratio}
-use Rattle.number_meaning.specs.Number.{whole, SameNumber}
-use Rattle.grid_meaning.specs.declared.Grid.{Grid}
+use Rattle.fraction128.specs.declared.ratio.Ratio.{Ratio}
+use Rattle.fraction128.specs.Number.{whole, SameNumber}
+use Rattle.fraction128.specs.declared.Grid.{Grid}
 use Rattle.smt_meaning.specs.declared.values.Value.{Value}
 use Rattle.smt_meaning.specs.declared.values.Value.TheVariants.{Truth}
 use Rattle.smt_meaning.specs.declared.values.Sort.{Sort}

@@ -1,7 +1,7 @@
 -- Values of the Int leaves of a stack's assertions, as a grid has them.
 use Rattle.std.specs.Prelude.{◌≡◌, ℕ, ◌<◌, Bool, true, List, length, Some, slice_index_or}
-use Rattle.number_meaning.specs.Number.{whole}
-use Rattle.grid_meaning.specs.declared.Grid.{Grid}
+use Rattle.fraction128.specs.Number.{whole}
+use Rattle.fraction128.specs.declared.Grid.{Grid}
 use Rattle.smt_meaning.specs.declared.values.Value.{Value}
 use Rattle.smt_meaning.specs.declared.values.Sort.TheVariants.{Int as Ints}
 use Rattle.smt_meaning.specs.Term.{tree_at, number_of}

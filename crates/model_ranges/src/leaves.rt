@@ -1,6 +1,6 @@
 //! Values of leaves, from the variables of bounds.
 ghost use Rattle.std.specs.Prelude.{◌≡◌, ◌<◌, true, length, IfOk, IfSome, slice_index_or};
-ghost use Rattle.number_meaning.specs.Number.{whole};
+ghost use Rattle.fraction128.specs.Number.{whole};
 ghost use Rattle.smt_meaning.specs.declared.values.Value.TheVariants.{Whole as WholeOf};
 ghost use Rattle.smt_meaning.specs.declared.values.Sort.TheVariants.{Bool as Truths, Int as Ints};
 ghost use Rattle.smt_meaning.specs.Term.{tree_at, number_of};

@@ -20,7 +20,7 @@ use crate::tables::{exact_tables, test_assertions, unfit_place};
 use bound_log::BoundLog;
 use exact_values::Unshown;
 use flat_stack::flat_says_the_same;
-use grid_meaning::Grid;
+use fraction128::Grid;
 use linear_forms::LinearForms;
 use scope_stack::Stack;
 use smt_meaning::{Interp, TermId, Value};

@@ -3,13 +3,13 @@ use Rattle.std.proofs.Common.{◌≡◌, ◌≢◌, ℕ, zero, suc, ◌+◌, ◌
 use Rattle.std.specs.Prelude.{ℤ, pos, negsuc, unsigned_abs, int_le}
 use Rattle.std.specs.Int.{IsGcd, ◌∣◌, w128}
 use Rattle.std.proofs.lemmas.Bool.{leb-true, leb-false}
-use Rattle.number_meaning.proofs.Integers.{same_bits}
+use Rattle.fraction128.proofs.Integers.{same_bits}
 use Rattle.std.proofs.lemmas.Nat.Gcd.{dvd_trans}
 use Rattle.std.proofs.Math.Nat.{div-le_self, div-mul_cancel, div-one, eq-zero_of_zero-dvd}
 use Rattle.std.proofs.lemmas.List.{drop_more, drop_all}
-use Rattle.number_meaning.specs.Whole.{InRange, is_in_range}
-use Rattle.number_meaning.specs.Gcd.{gcd_of}
-use Rattle.number_meaning.proofs.Divisors.{IsGcd-gcd_of}
+use Rattle.fraction128.specs.Whole.{InRange, is_in_range}
+use Rattle.fraction128.specs.Gcd.{gcd_of}
+use Rattle.fraction128.proofs.Divisors.{IsGcd-gcd_of}
 use Rattle.term_laws.proofs.Both.{and_left, and_right, and_both}
 use Rattle.smt_meaning.specs.declared.clauses.Summand.{Summand}
 use Rattle.smt_meaning.specs.declared.clauses.Atom.TheVariants.{AtMost}

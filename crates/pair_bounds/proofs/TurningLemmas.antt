@@ -3,9 +3,9 @@ use Rattle.std.proofs.Common.{◌≡◌, ◌≢◌, ℕ, ◌+◌, Bool, true, fa
 use Rattle.std.specs.Prelude.{ℤ, pos, negsuc, ◌+ℤ◌, ◌-ℤ◌, ◌*ℤ◌, neg_ℤ, int_le, ◌≤ℤ◌, ◌<ℤ◌}
 use Rattle.std.specs.Int.{w128}
 use Rattle.std.proofs.lemmas.Int.{ints}
-use Rattle.number_meaning.proofs.Integers.{same_bits}
-use Rattle.number_meaning.specs.Whole.{InRange, is_in_range}
-use Rattle.number_meaning.proofs.Ring.{times-sum, times_assoc}
+use Rattle.fraction128.proofs.Integers.{same_bits}
+use Rattle.fraction128.specs.Whole.{InRange, is_in_range}
+use Rattle.fraction128.proofs.Ring.{times-sum, times_assoc}
 use Rattle.term_laws.proofs.Both.{and_left, and_right, and_both}
 use Rattle.smt_meaning.specs.declared.clauses.Summand.{Summand}
 use Rattle.smt_meaning.specs.Term.{Tree, Interpretation, number_of}

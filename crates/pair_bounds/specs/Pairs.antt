@@ -1,6 +1,6 @@
 -- The bounds that compare two terms.
 use Rattle.std.specs.Prelude.{◌≡◌, ℕ, Bool, true, ◌&&◌, List, length, ℤ, pos, ◌-ℤ◌, neg_ℤ}
-use Rattle.number_meaning.specs.Whole.{InRange, is_in_range}
+use Rattle.fraction128.specs.Whole.{InRange, is_in_range}
 use Rattle.smt_meaning.specs.declared.clauses.Summand.{Summand}
 use Rattle.smt_meaning.specs.declared.clauses.Atom.{Atom}
 use Rattle.smt_meaning.specs.declared.clauses.Atom.TheVariants.{AtMost}

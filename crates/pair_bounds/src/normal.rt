@@ -1,6 +1,6 @@
 //! Bounds divided by the greatest common divisor of their coefficients.
 ghost use Rattle.std.specs.Prelude.{◌≡◌, ℕ, true, pos, ◌<ℤ◌};
-ghost use Rattle.number_meaning.specs.Whole.{InRange};
+ghost use Rattle.fraction128.specs.Whole.{InRange};
 ghost use Rattle.smt_meaning.specs.declared.clauses.Atom.TheVariants.{AtMost};
 ghost use Rattle.smt_meaning.specs.Linear.{summand as summand_of, sum_fits};
 ghost use Rattle.smt_meaning.specs.Atoms.{sum_gcd, divided, each_divided, normal_bound};

@@ -1,6 +1,6 @@
 //! Bounds of sums that are turned so that the first coefficient is positive.
 ghost use Rattle.std.specs.Prelude.{◌≡◌, ℕ, true, List, negsuc, ◌*ℤ◌};
-ghost use Rattle.number_meaning.specs.Whole.{InRange};
+ghost use Rattle.fraction128.specs.Whole.{InRange};
 ghost use Rattle.smt_meaning.specs.declared.clauses.Atom.TheVariants.{AtMost as BoundAtom};
 ghost use Rattle.smt_meaning.specs.Term.{Tree, Interpretation};
 ghost use Rattle.smt_meaning.specs.Clause.{atom_true, sum_value};

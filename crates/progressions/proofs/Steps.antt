@@ -6,15 +6,15 @@ use Rattle.std.specs.Int.RustNames.{int_div, int_rem}
 use Rattle.std.proofs.Math.Nat.{mul-one, div-le_self, mod-eq-zero_of_dvd, dvd-mul_right}
 use Rattle.std.proofs.Math.IntN.{zero-*ℤ}
 use Rattle.std.proofs.lemmas.Int.{ints, unsigned_abs-mul}
-use Rattle.number_meaning.specs.declared.ratio.Ratio.{Ratio}
-use Rattle.number_meaning.specs.Gcd.{gcd_of}
-use Rattle.number_meaning.specs.Whole.{InRange}
-use Rattle.number_meaning.specs.Number.{whole, SameNumber, unreduced_sum, unreduced_product}
-use Rattle.number_meaning.proofs.Comparisons.{times_cancel}
-use Rattle.number_meaning.proofs.Divisors.{IsGcd-gcd_of}
-use Rattle.number_meaning.proofs.Integers.{quot-times}
-use Rattle.number_meaning.proofs.RingEquations.{var, sum, product, nothing, solve}
-use Rattle.number_meaning.proofs.WholeNumbers.{wholes}
+use Rattle.fraction128.specs.declared.ratio.Ratio.{Ratio}
+use Rattle.fraction128.specs.Gcd.{gcd_of}
+use Rattle.fraction128.specs.Whole.{InRange}
+use Rattle.fraction128.specs.Number.{whole, SameNumber, unreduced_sum, unreduced_product}
+use Rattle.fraction128.proofs.Comparisons.{times_cancel}
+use Rattle.fraction128.proofs.Divisors.{IsGcd-gcd_of}
+use Rattle.fraction128.proofs.Integers.{quot-times}
+use Rattle.fraction128.proofs.RingEquations.{var, sum, product, nothing, solve}
+use Rattle.fraction128.proofs.WholeNumbers.{wholes}
 use Rattle.progressions.specs.Progressions.{State, Has, MayBe, IsScaled, Adds}
 
 -- ---- scaling

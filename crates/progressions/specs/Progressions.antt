@@ -1,6 +1,6 @@
 -- Arithmetic progressions of rational numbers.
 use Rattle.std.specs.Prelude.{◌≡◌, ℤ, pos, ◌+ℤ◌, ◌*ℤ◌, Option, Some, None}
-use Rattle.number_meaning.specs.declared.ratio.Ratio.{Ratio}
+use Rattle.fraction128.specs.declared.ratio.Ratio.{Ratio}
 
 pub record State : Type 0 where
   pub scale : ℤ

@@ -1,9 +1,9 @@
 //! Progressions, and what is added to all of their numbers.
 ghost use Rattle.std.specs.Prelude.{◌≡◌, ◌<◌, true, false, ℤ, pos, ◌+ℤ◌, ◌*ℤ◌, ◌<ℤ◌, unsigned_abs, IfSome};
 ghost use Rattle.std.specs.Int.{◌∣◌};
-ghost use Rattle.number_meaning.specs.declared.ratio.Ratio.{Ratio};
-ghost use Rattle.number_meaning.specs.Whole.{InRange};
-ghost use Rattle.number_meaning.specs.Number.{whole, SameNumber, unreduced_sum, unreduced_product};
+ghost use Rattle.fraction128.specs.declared.ratio.Ratio.{Ratio};
+ghost use Rattle.fraction128.specs.Whole.{InRange};
+ghost use Rattle.fraction128.specs.Number.{whole, SameNumber, unreduced_sum, unreduced_product};
 ghost use Rattle.progressions.specs.Progressions.{Has, MayBe, IsScaled, Adds};
 
 use fraction128::{Fraction, gcd};
@@ -85,7 +85,7 @@ impl Model for Progression {
     ghost Value = { State };
 
     ghost use Rattle.std.specs.Prelude.{pos, ◌<ℤ◌};
-    ghost use Rattle.number_meaning.specs.Whole.{InRange};
+    ghost use Rattle.fraction128.specs.Whole.{InRange};
 
     ghost view = { λ p. record { scale = p.scale; step = p.step; start = p.start } };
 

@@ -1,6 +1,6 @@
 //! The numerals of terms.
 ghost use Rattle.std.specs.Prelude.{◌≡◌, true, false, All, IsTrue};
-ghost use Rattle.number_meaning.specs.Whole.{is_in_range};
+ghost use Rattle.fraction128.specs.Whole.{is_in_range};
 ghost use Rattle.smt_meaning.specs.Term.{Tree};
 ghost use Rattle.linear_laws.specs.Numerals.{head_in_range, numerals_fit};
 

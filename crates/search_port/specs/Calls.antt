@@ -1,8 +1,8 @@
 -- The laws of a theory's calls.
 use Rattle.std.specs.Prelude.{◌≡◌, ℕ, ◌+◌, ◌<◌, ◌≤◌, true, false, List, [], ◌∷◌, ◌++◌, length, All, Contains}
 use Rattle.std.specs.List.{range_with_len}
-use Rattle.grid_meaning.specs.declared.Line.{Line}
-use Rattle.grid_meaning.specs.Lines.{IsSoundLine, IsPivotLine}
+use Rattle.fraction128.specs.declared.Line.{Line}
+use Rattle.fraction128.specs.Lines.{IsSoundLine, IsPivotLine}
 use Rattle.literals.specs.Signed.{Signed, literal_true}
 use Rattle.smt_meaning.specs.declared.values.Table.{Table}
 use Rattle.smt_meaning.specs.Interpretation.{AreTablesFor, meaning}

@@ -2,7 +2,7 @@
 ghost use Rattle.std.specs.Prelude.{◌≡◌, ℕ, ◌+◌, ◌<◌, ◌≤◌, min, List, [], ◌∷◌, ◌++◌, length, IfOk, OnOk, OnErr};
 ghost use Rattle.search_port.specs.Spending.{Spending};
 
-use grid_meaning::Line;
+use fraction128::Line;
 use literals::Literal;
 use smt_meaning::Seq;
 use std::alloc::{AllocError, Global};

@@ -1,6 +1,6 @@
 // What a theory shows of a search that ended without an answer.
 use crate::theory::Theory;
-use grid_meaning::Line;
+use fraction128::Line;
 use smt_meaning::{Atom, RangeSeen, Seq};
 use std::alloc::{AllocError, Global};
 

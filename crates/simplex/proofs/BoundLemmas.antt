@@ -3,16 +3,16 @@ use Rattle.std.proofs.Common.{◌≡◌, ◌≢◌, ℕ, zero, suc, ◌<◌, ◌
 use Rattle.std.proofs.lemmas.List.{get_or_append_left, get_or_push, length-set, get_or_past}
 use Rattle.std.proofs.lemmas.Bool.{cases_lt}
 use Rattle.std.specs.Prelude.{ℤ, int_lt, IfSome}
-use Rattle.number_meaning.specs.declared.ratio.Ratio.{Ratio}
-use Rattle.number_meaning.specs.Whole.{InRange}
-use Rattle.number_meaning.specs.Number.{SameNumber, unreduced_sum, unreduced_product}
-use Rattle.grid_meaning.specs.declared.Entry.{Entry}
-use Rattle.grid_meaning.specs.declared.TableRow.{TableRow}
-use Rattle.grid_meaning.specs.declared.Column.{Column}
-use Rattle.grid_meaning.specs.declared.Bound.{Bound}
-use Rattle.grid_meaning.specs.declared.Side.{Side}
-use Rattle.grid_meaning.specs.declared.Side.TheVariants.{Lower, Upper}
-use Rattle.grid_meaning.specs.Grid.{row_value, MeetsRows}
+use Rattle.fraction128.specs.declared.ratio.Ratio.{Ratio}
+use Rattle.fraction128.specs.Whole.{InRange}
+use Rattle.fraction128.specs.Number.{SameNumber, unreduced_sum, unreduced_product}
+use Rattle.fraction128.specs.declared.Entry.{Entry}
+use Rattle.fraction128.specs.declared.TableRow.{TableRow}
+use Rattle.fraction128.specs.declared.Column.{Column}
+use Rattle.fraction128.specs.declared.Bound.{Bound}
+use Rattle.fraction128.specs.declared.Side.{Side}
+use Rattle.fraction128.specs.declared.Side.TheVariants.{Lower, Upper}
+use Rattle.fraction128.specs.Grid.{row_value, MeetsRows}
 use Rattle.tableau.specs.Table.{Table, IsTable}
 use Rattle.bound_trail.specs.declared.trail.Set.{Set}
 use Rattle.bound_trail.specs.declared.trail.Held.{Held}
@@ -24,7 +24,7 @@ use Rattle.simplex_steps.specs.State.{column_in, no_column, values, IsRanged, Ar
 use Rattle.simplex_steps.specs.Conflict.{Stands, IsConflict}
 use Rattle.simplex_steps.specs.Run.{IsRun, Ends}
 use Rattle.simplex_steps.specs.Run as Steps
-use Rattle.grid_meaning.specs.Lines.{sum_value}
+use Rattle.fraction128.specs.Lines.{sum_value}
 use Rattle.sum_laws.specs.Sums.{column_values, IsMeant}
 use Rattle.sum_laws.proofs.Meaning.{runs_keep}
 use Rattle.simplex.specs.declared.state.Verdict.{Verdict}

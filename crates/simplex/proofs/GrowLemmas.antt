@@ -2,19 +2,19 @@
 use Rattle.std.proofs.Common.{◌≡◌, ℕ, ◌+◌, ◌<◌, ◌≤◌, ◌⊎◌, inl, inr, pos, sym, ap, ap₂, ◌∙◌, subst, refl, arith, List, [], ◌∷◌, ◌++◌, length, get_or, drop, drop-cons, add-one, length-append, Bool, true, false, eqb, eqb-true, ◌&&◌, None, Result, Ok, Err, OnOk, OnErr}
 use Rattle.std.proofs.lemmas.List.{get_or_append_left, get_or_push, get_or_default, get_or_past}
 use Rattle.std.proofs.lemmas.Bool.{cases_lt}
-use Rattle.number_meaning.specs.declared.ratio.Ratio.{Ratio}
-use Rattle.number_meaning.specs.Number.{whole, SameNumber, unreduced_sum, unreduced_product}
-use Rattle.number_meaning.specs.Listed.{fused}
-use Rattle.number_meaning.proofs.RingEquations.{var, sum, product, nothing, solve}
-use Rattle.number_meaning.proofs.RationalRing.{number, rational_sum, rational_zero-is, rationals}
-use Rattle.number_meaning.proofs.ExactSteps.{number_fused, fused_positive}
-use Rattle.grid_meaning.specs.declared.Entry.{Entry}
-use Rattle.grid_meaning.specs.declared.Summand.{Summand}
-use Rattle.grid_meaning.specs.declared.TableRow.{TableRow}
-use Rattle.grid_meaning.specs.declared.Column.{Column}
-use Rattle.grid_meaning.specs.declared.Side.TheVariants.{Lower, Upper}
-use Rattle.grid_meaning.specs.Grid.{row_value, MeetsRow, MeetsRows, entries_value, entries_value_fits, fused_fits}
-use Rattle.grid_meaning.proofs.RowValue.{dot, meets_from, ArePositive}
+use Rattle.fraction128.specs.declared.ratio.Ratio.{Ratio}
+use Rattle.fraction128.specs.Number.{whole, SameNumber, unreduced_sum, unreduced_product}
+use Rattle.fraction128.specs.Listed.{fused}
+use Rattle.fraction128.proofs.RingEquations.{var, sum, product, nothing, solve}
+use Rattle.fraction128.proofs.RationalRing.{number, rational_sum, rational_zero-is, rationals}
+use Rattle.fraction128.proofs.ExactSteps.{number_fused, fused_positive}
+use Rattle.fraction128.specs.declared.Entry.{Entry}
+use Rattle.fraction128.specs.declared.Summand.{Summand}
+use Rattle.fraction128.specs.declared.TableRow.{TableRow}
+use Rattle.fraction128.specs.declared.Column.{Column}
+use Rattle.fraction128.specs.declared.Side.TheVariants.{Lower, Upper}
+use Rattle.fraction128.specs.Grid.{row_value, MeetsRow, MeetsRows, entries_value, entries_value_fits, fused_fits}
+use Rattle.fraction128.proofs.RowValue.{dot, meets_from, ArePositive}
 use Rattle.tableau.specs.Table.{Table, IsTable, IsOpenRow, row_at, no_row}
 use Rattle.tableau.proofs.Coefficients.{Below}
 use Rattle.tableau.proofs.PivotedRows.{below_all}

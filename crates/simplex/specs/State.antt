@@ -1,15 +1,15 @@
 -- The state of the simplex method: rows, columns, and the bounds that were set.
 use Rattle.std.specs.Prelude.{◌≡◌, ℕ, ◌+◌, ◌<◌, ◌≤◌, ◌⊎◌, Bool, ◌&&◌, List, [], ◌∷◌, ◌++◌, map, length, slice_index_or, slice_set, ℤ, pos, Option, Some, None}
-use Rattle.number_meaning.specs.declared.ratio.Ratio.{Ratio}
-use Rattle.number_meaning.specs.Whole.{InRange}
-use Rattle.number_meaning.specs.Number.{whole}
-use Rattle.grid_meaning.specs.declared.Summand.{Summand}
-use Rattle.grid_meaning.specs.declared.Column.{Column}
-use Rattle.grid_meaning.specs.declared.Bound.{Bound}
-use Rattle.grid_meaning.specs.declared.Side.TheVariants.{Lower, Upper}
-use Rattle.grid_meaning.specs.declared.TableRow.{TableRow}
-use Rattle.grid_meaning.specs.Lines.{NextFails}
-use Rattle.grid_meaning.specs.Grid.{next_step, entries_value, entries_value_fits, no_coefficients}
+use Rattle.fraction128.specs.declared.ratio.Ratio.{Ratio}
+use Rattle.fraction128.specs.Whole.{InRange}
+use Rattle.fraction128.specs.Number.{whole}
+use Rattle.fraction128.specs.declared.Summand.{Summand}
+use Rattle.fraction128.specs.declared.Column.{Column}
+use Rattle.fraction128.specs.declared.Bound.{Bound}
+use Rattle.fraction128.specs.declared.Side.TheVariants.{Lower, Upper}
+use Rattle.fraction128.specs.declared.TableRow.{TableRow}
+use Rattle.fraction128.specs.Lines.{NextFails}
+use Rattle.fraction128.specs.Grid.{next_step, entries_value, entries_value_fits, no_coefficients}
 use Rattle.tableau.specs.declared.sum.Part.{Part}
 use Rattle.tableau.specs.Written.{parts_row, parts_fit}
 use Rattle.tableau.specs.Table.{Table, IsTable}

@@ -3,7 +3,7 @@ ghost use Rattle.std.specs.Prelude.{◌≡◌, ◌<◌, length, IfOk};
 ghost use Rattle.tableau.specs.Table.{row_at};
 ghost use Rattle.simplex_steps.specs.State.{grid_of};
 
-use grid_meaning::{Column, Grid, Seq, TableRow};
+use fraction128::{Column, Grid, Seq, TableRow};
 use simplex_steps::copy_column;
 use std::alloc::{AllocError, Global};
 use tableau::Tableau;

@@ -1,10 +1,10 @@
 //! The state, and the calls on it.
 ghost use Rattle.std.specs.Prelude.{◌≡◌, ℕ, ◌+◌, ◌-◌, ◌^◌, ◌<◌, ◌≤◌, pos, true, false, [], ◌∷◌, ◌++◌, map, take, length, slice_index_or, slice_set, ℤ, OnOk, OnErr, IfOk, IfErr, IfSome, IfNone, Some, None};
-ghost use Rattle.number_meaning.specs.Number.{whole};
-ghost use Rattle.number_meaning.specs.Whole.{InRange};
+ghost use Rattle.fraction128.specs.Number.{whole};
+ghost use Rattle.fraction128.specs.Whole.{InRange};
 ghost use Rattle.bound_trail.specs.Trail.{tightest, number_of, set_at};
-ghost use Rattle.grid_meaning.specs.Grid.{entries_value, entries_value_fits, leaf};
-ghost use Rattle.grid_meaning.specs.Lines.{line_of};
+ghost use Rattle.fraction128.specs.Grid.{entries_value, entries_value_fits, leaf};
+ghost use Rattle.fraction128.specs.Lines.{line_of};
 ghost use Rattle.tableau.specs.declared.failure.Failure.TheVariants.{Memory as NoMemory};
 ghost use Rattle.tableau.specs.Failing.{IsRange};
 ghost use Rattle.tableau.specs.Table.{IsOpenRow, row_at};
@@ -18,8 +18,7 @@ ghost use Rattle.simplex.specs.State.{IsState, KeepsValues, HasBounds, FixedAt, 
 
 use crate::grid::copy_grid;
 use bound_trail::{BoundTrail, Held, Set};
-use fraction128::{Fraction, Range};
-use grid_meaning::{Bound, Column, Entry, Grid, Line, Seq, Side, Sum, Summand};
+use fraction128::{Bound, Column, Entry, Fraction, Grid, Line, Range, Seq, Side, Sum, Summand};
 use simplex_steps::{Checked, Moved, Outcome, PivotLines, check, line_of_pivot, moved_by};
 use std::alloc::{AllocError, Global};
 use std::marker::Model;

@@ -2,15 +2,15 @@
 use Rattle.std.proofs.Common.{◌≡◌, ◌≢◌, ℕ, ℤ, zero, suc, ◌<◌, ◌≤◌, ◌⊎◌, inl, inr, pos, negsuc, sym, ap, ap₂, ◌∙◌, subst, refl, arith, List, [], ◌∷◌, ◌++◌, length, get_or, set, get_or-set_other, get_or-set_same, Bool, true, false, cond, eqb, eqb-true, eq-eqb, unsigned_abs, Option, Some, None, ◌&&◌, Result, Ok, Err, OnOk, OnErr}
 use Rattle.std.proofs.lemmas.List.{length-set, ext_get_or, get_or_default}
 use Rattle.std.proofs.lemmas.Bool.{cases_lt}
-use Rattle.number_meaning.specs.declared.ratio.Ratio.{Ratio}
-use Rattle.number_meaning.specs.Number.{whole, is_zero}
-use Rattle.number_meaning.specs.Ratio.{IsFraction}
-use Rattle.number_meaning.specs.Listed.{negation_of, reciprocal_of, sum_of, product_of, fused}
-use Rattle.number_meaning.proofs.ExactSteps.{sum_positive, product_positive, reciprocal_positive}
-use Rattle.grid_meaning.specs.declared.Entry.{Entry}
-use Rattle.grid_meaning.specs.declared.TableRow.{TableRow}
-use Rattle.grid_meaning.specs.declared.Column.{Column}
-use Rattle.grid_meaning.specs.Grid.{every_row, fused_fits, coefficient, row_of, entries_of, is_some, is_basic, cell, distance, moved_value, pivot_distance, pivoted_value, with_values, after_move, after_pivot}
+use Rattle.fraction128.specs.declared.ratio.Ratio.{Ratio}
+use Rattle.fraction128.specs.Number.{whole, is_zero}
+use Rattle.fraction128.specs.Ratio.{IsFraction}
+use Rattle.fraction128.specs.Listed.{negation_of, reciprocal_of, sum_of, product_of, fused}
+use Rattle.fraction128.proofs.ExactSteps.{sum_positive, product_positive, reciprocal_positive}
+use Rattle.fraction128.specs.declared.Entry.{Entry}
+use Rattle.fraction128.specs.declared.TableRow.{TableRow}
+use Rattle.fraction128.specs.declared.Column.{Column}
+use Rattle.fraction128.specs.Grid.{every_row, fused_fits, coefficient, row_of, entries_of, is_some, is_basic, cell, distance, moved_value, pivot_distance, pivoted_value, with_values, after_move, after_pivot}
 use Rattle.grid_laws.proofs.Moments.{length_with, col_with}
 use Rattle.tableau.specs.Rows.{IsAscending}
 use Rattle.tableau.specs.Staged.{HasEntry, Lacks}

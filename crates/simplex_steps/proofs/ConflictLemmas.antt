@@ -3,21 +3,21 @@ use Rattle.std.proofs.Common.{◌≡◌, ◌≢◌, ℕ, zero, suc, ◌<◌, ℤ
 use Rattle.std.specs.Prelude.{int_lt}
 use Rattle.std.proofs.lemmas.Int.{ints}
 use Rattle.std.proofs.lemmas.List.{get_or-map, length-map}
-use Rattle.number_meaning.specs.declared.ratio.Ratio.{Ratio}
-use Rattle.number_meaning.specs.Listed.{negation_of}
-use Rattle.number_meaning.specs.Number.{whole, is_less, is_positive, is_negative}
-use Rattle.number_meaning.proofs.RingEquations.{var, sum, product, minus, nothing, solve}
-use Rattle.number_meaning.proofs.RationalRing.{Rational, number, number_neg, rational_sum, rational_product, rational_negation, rationals}
-use Rattle.number_meaning.proofs.RationalOrder.{NonPos, nonpos_plus, nonpos_none, nonpos_times, less_or_same, difference_nonpos, times_one}
-use Rattle.number_meaning.proofs.ExactSteps.{none_number}
-use Rattle.grid_meaning.specs.declared.Summand.{Summand}
-use Rattle.grid_meaning.specs.declared.Entry.{Entry}
-use Rattle.grid_meaning.specs.declared.Column.{Column}
-use Rattle.grid_meaning.specs.declared.TableRow.{TableRow}
-use Rattle.grid_meaning.specs.declared.Bound.{Bound}
-use Rattle.grid_meaning.specs.declared.Side.TheVariants.{Lower, Upper}
-use Rattle.grid_meaning.specs.Grid.{helps, can_rise, can_fall, is_crossed, MeetsRow}
-use Rattle.grid_meaning.proofs.RowValue.{dot, meets_to, ArePositive}
+use Rattle.fraction128.specs.declared.ratio.Ratio.{Ratio}
+use Rattle.fraction128.specs.Listed.{negation_of}
+use Rattle.fraction128.specs.Number.{whole, is_less, is_positive, is_negative}
+use Rattle.fraction128.proofs.RingEquations.{var, sum, product, minus, nothing, solve}
+use Rattle.fraction128.proofs.RationalRing.{Rational, number, number_neg, rational_sum, rational_product, rational_negation, rationals}
+use Rattle.fraction128.proofs.RationalOrder.{NonPos, nonpos_plus, nonpos_none, nonpos_times, less_or_same, difference_nonpos, times_one}
+use Rattle.fraction128.proofs.ExactSteps.{none_number}
+use Rattle.fraction128.specs.declared.Summand.{Summand}
+use Rattle.fraction128.specs.declared.Entry.{Entry}
+use Rattle.fraction128.specs.declared.Column.{Column}
+use Rattle.fraction128.specs.declared.TableRow.{TableRow}
+use Rattle.fraction128.specs.declared.Bound.{Bound}
+use Rattle.fraction128.specs.declared.Side.TheVariants.{Lower, Upper}
+use Rattle.fraction128.specs.Grid.{helps, can_rise, can_fall, is_crossed, MeetsRow}
+use Rattle.fraction128.proofs.RowValue.{dot, meets_to, ArePositive}
 use Rattle.tableau.specs.Table.{Table, IsTable, AreNonzero, row_at, no_row}
 use Rattle.tableau.proofs.Shape.{nonzero_positive}
 use Rattle.simplex_steps.specs.State.{column_in, values, IsSolution}

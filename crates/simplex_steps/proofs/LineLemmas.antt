@@ -1,14 +1,14 @@
 -- The lines that are kept along a run.
 use Rattle.std.proofs.Common.{◌≡◌, ℕ, ℤ, pos, ◌+◌, ◌<◌, sym, ap, ap₂, ◌∙◌, subst, refl, arith, List, [], ◌∷◌, ◌++◌, length, map, append_assoc, Bool, true, false, cond, Some}
-use Rattle.number_meaning.specs.declared.ratio.Ratio.{Ratio}
-use Rattle.number_meaning.specs.Number.{whole}
-use Rattle.grid_meaning.specs.declared.Entry.{Entry}
-use Rattle.grid_meaning.specs.declared.Column.{Column}
-use Rattle.grid_meaning.specs.declared.Grid.{Grid}
-use Rattle.grid_meaning.specs.declared.Member.{Member}
-use Rattle.grid_meaning.specs.declared.Line.{Line}
-use Rattle.grid_meaning.specs.Grid.{Step, take, move, pivot, next_step, after, entries_of}
-use Rattle.grid_meaning.specs.Lines.{pivot_line, IsSeries}
+use Rattle.fraction128.specs.declared.ratio.Ratio.{Ratio}
+use Rattle.fraction128.specs.Number.{whole}
+use Rattle.fraction128.specs.declared.Entry.{Entry}
+use Rattle.fraction128.specs.declared.Column.{Column}
+use Rattle.fraction128.specs.declared.Grid.{Grid}
+use Rattle.fraction128.specs.declared.Member.{Member}
+use Rattle.fraction128.specs.declared.Line.{Line}
+use Rattle.fraction128.specs.Grid.{Step, take, move, pivot, next_step, after, entries_of}
+use Rattle.fraction128.specs.Lines.{pivot_line, IsSeries}
 use Rattle.grid_laws.specs.Law.{Runs, pivots, lines_of, IsLawful, KeepsResting}
 use Rattle.grid_laws.proofs.Lines.{lines_are_pivots, lines_go_on}
 use Rattle.grid_laws.proofs.Resting.{runs_rest}

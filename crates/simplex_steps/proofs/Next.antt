@@ -3,13 +3,13 @@ use Rattle.std.proofs.Common.{◌≡◌, ◌≢◌, ℕ, ℤ, zero, suc, ◌+◌
 use Rattle.std.proofs.lemmas.List.{get_or_default}
 use Rattle.std.proofs.lemmas.Bool.{cases_lt}
 use Rattle.std.proofs.lemmas.Int.{ints}
-use Rattle.number_meaning.specs.declared.ratio.Ratio.{Ratio}
-use Rattle.number_meaning.specs.Number.{whole, is_less}
-use Rattle.number_meaning.specs.Whole.{InRange}
-use Rattle.grid_meaning.specs.declared.Summand.{Summand}
-use Rattle.grid_meaning.specs.declared.Entry.{Entry}
-use Rattle.grid_meaning.specs.declared.Column.{Column}
-use Rattle.grid_meaning.specs.Grid.{move, pivot, cell, is_basic, is_below, is_above, missed, is_crossed, any_crossed, helps, first_place, only_if, with_place, least_outside, least_broken, entering, next_step}
+use Rattle.fraction128.specs.declared.ratio.Ratio.{Ratio}
+use Rattle.fraction128.specs.Number.{whole, is_less}
+use Rattle.fraction128.specs.Whole.{InRange}
+use Rattle.fraction128.specs.declared.Summand.{Summand}
+use Rattle.fraction128.specs.declared.Entry.{Entry}
+use Rattle.fraction128.specs.declared.Column.{Column}
+use Rattle.fraction128.specs.Grid.{move, pivot, cell, is_basic, is_below, is_above, missed, is_crossed, any_crossed, helps, first_place, only_if, with_place, least_outside, least_broken, entering, next_step}
 use Rattle.tableau.specs.Rows.{variable_at}
 use Rattle.tableau.specs.Staged.{HasEntry, Lacks}
 use Rattle.tableau.specs.Table.{Table, IsTable, row_at}

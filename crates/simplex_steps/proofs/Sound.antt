@@ -1,21 +1,21 @@
 -- Sound rows and columns are lawful grids, and steps keep them so.
 use Rattle.std.proofs.Common.{◌≡◌, ℕ, ℤ, ◌+◌, ◌<◌, ◌≤◌, ◌⊎◌, inl, inr, ◌↔◌, sym, ap, ap₂, ◌∙◌, subst, refl, arith, List, [], ◌∷◌, ◌++◌, length, Bool, true, false, Some, None, ◌&&◌, Result, Ok, Err, OnErr, IfErr}
-use Rattle.number_meaning.specs.declared.ratio.Ratio.{Ratio}
-use Rattle.number_meaning.specs.Number.{is_zero}
-use Rattle.number_meaning.specs.Listed.{product_of, product_steps, reciprocal_of, sum_steps}
+use Rattle.fraction128.specs.declared.ratio.Ratio.{Ratio}
+use Rattle.fraction128.specs.Number.{is_zero}
+use Rattle.fraction128.specs.Listed.{product_of, product_steps, reciprocal_of, sum_steps}
 use Rattle.std.proofs.lemmas.Bool.{cases_lt}
 use Rattle.std.proofs.lemmas.List.{get_or_past}
-use Rattle.grid_meaning.specs.declared.Entry.{Entry}
-use Rattle.grid_meaning.specs.declared.Column.{Column}
-use Rattle.grid_meaning.specs.declared.Grid.{Grid}
-use Rattle.grid_meaning.specs.Grid.{Step, take, move, pivot, is_basic, missed, next_step, step_fits, pivot_fits, pivoted_rows, after, after_move, after_pivot, MeetsRows, fit, every_row, distance, distance_fits}
+use Rattle.fraction128.specs.declared.Entry.{Entry}
+use Rattle.fraction128.specs.declared.Column.{Column}
+use Rattle.fraction128.specs.declared.Grid.{Grid}
+use Rattle.fraction128.specs.Grid.{Step, take, move, pivot, is_basic, missed, next_step, step_fits, pivot_fits, pivoted_rows, after, after_move, after_pivot, MeetsRows, fit, every_row, distance, distance_fits}
 use Rattle.grid_laws.specs.Law.{ArePositive, AreFrom, IsLawful, Runs, pivots}
 use Rattle.grid_laws.proofs.Keeping.{steps_keep, moves_settle, pivots_settle}
 use Rattle.tableau.specs.Table.{Table, IsTable, row_at}
 use Rattle.tableau.proofs.Coefficients.{Below}
 use Rattle.tableau.proofs.PivotedRows.{below_all}
 use Rattle.tableau.proofs.Shape.{From, from_zero, coefficient_free, places_free, nonzero_positive}
-use Rattle.grid_meaning.proofs.RowValue as RowValue
+use Rattle.fraction128.proofs.RowValue as RowValue
 use Rattle.tableau.specs.declared.failure.Failure.{Failure}
 use Rattle.tableau.specs.declared.failure.Failure.TheVariants.{Range as NoFit, Memory as NoMemory}
 use Rattle.tableau.specs.Failing.{IsRange}
@@ -24,7 +24,7 @@ use Rattle.simplex_steps.specs.declared.run.Outcome.TheVariants.{Fits as AllFit,
 use Rattle.simplex_steps.specs.declared.find.Turn.{Turn}
 use Rattle.simplex_steps.specs.Moved.{shift_fits, moved_to, moved_fits, pivoted_to, pivoted_fits}
 use Rattle.simplex_steps.specs.State.{grid_of, column_in, no_column, values, KeepsBounds, IsRanged, AreRanged, IsSolution, IsSound, SettledBelow}
-use Rattle.grid_meaning.specs.Lines.{NextFails}
+use Rattle.fraction128.specs.Lines.{NextFails}
 use Rattle.simplex_steps.specs.Run.{Reaches, NextPivotFits, IsTurn, step_of, IsRun, IsAdvanced, IsFailed, IsUnspent, SpendsRoom, Ends}
 use Rattle.simplex_steps.proofs.Columns.{cell_is, keeps_none, keeps_through, moved_exact, moved_keeps, pivoted_exact, pivoted_keeps}
 use Rattle.simplex_steps.proofs.Next.{next_move}

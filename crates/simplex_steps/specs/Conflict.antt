@@ -1,15 +1,15 @@
 -- Bounds that no solution of the rows meets.
 use Rattle.std.specs.Prelude.{◌≡◌, ℕ, ◌<◌, ◌⊎◌, Bool, true, false, not, List, [], ◌∷◌, length, slice_index_or, map, ℤ, pos, Option, Some, None, All, if◌then◌else◌}
-use Rattle.number_meaning.specs.declared.ratio.Ratio.{Ratio}
-use Rattle.number_meaning.specs.Whole.{InRange}
-use Rattle.number_meaning.specs.Number.{whole, is_less, is_positive}
-use Rattle.grid_meaning.specs.declared.Entry.{Entry}
-use Rattle.grid_meaning.specs.declared.TableRow.{TableRow}
-use Rattle.grid_meaning.specs.declared.Column.{Column}
-use Rattle.grid_meaning.specs.declared.Bound.{Bound}
-use Rattle.grid_meaning.specs.declared.Side.{Side}
-use Rattle.grid_meaning.specs.declared.Side.TheVariants.{Lower, Upper}
-use Rattle.grid_meaning.specs.Grid.{missed, helps, is_crossed, MeetsRows}
+use Rattle.fraction128.specs.declared.ratio.Ratio.{Ratio}
+use Rattle.fraction128.specs.Whole.{InRange}
+use Rattle.fraction128.specs.Number.{whole, is_less, is_positive}
+use Rattle.fraction128.specs.declared.Entry.{Entry}
+use Rattle.fraction128.specs.declared.TableRow.{TableRow}
+use Rattle.fraction128.specs.declared.Column.{Column}
+use Rattle.fraction128.specs.declared.Bound.{Bound}
+use Rattle.fraction128.specs.declared.Side.{Side}
+use Rattle.fraction128.specs.declared.Side.TheVariants.{Lower, Upper}
+use Rattle.fraction128.specs.Grid.{missed, helps, is_crossed, MeetsRows}
 use Rattle.tableau.specs.Table.{row_at}
 use Rattle.simplex_steps.specs.State.{column_in}
 

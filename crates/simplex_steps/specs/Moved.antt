@@ -1,11 +1,11 @@
 -- The values that variables get in a step.
 use Rattle.std.specs.Prelude.{ℕ, ℤ, Bool, List, [], ◌∷◌, Contains, flat_map, slice_set, if◌then◌else◌, ◌&&◌}
-use Rattle.number_meaning.specs.declared.ratio.Ratio.{Ratio}
-use Rattle.number_meaning.specs.Listed.{sum_of, sum_steps, product_of, product_steps, reciprocal_of, fused}
-use Rattle.number_meaning.specs.Number.{whole, is_zero}
-use Rattle.grid_meaning.specs.declared.TableRow.{TableRow}
-use Rattle.grid_meaning.specs.declared.Column.{Column}
-use Rattle.grid_meaning.specs.Grid.{coefficient, distance, distance_fits, fit, fused_fits, every_row}
+use Rattle.fraction128.specs.declared.ratio.Ratio.{Ratio}
+use Rattle.fraction128.specs.Listed.{sum_of, sum_steps, product_of, product_steps, reciprocal_of, fused}
+use Rattle.fraction128.specs.Number.{whole, is_zero}
+use Rattle.fraction128.specs.declared.TableRow.{TableRow}
+use Rattle.fraction128.specs.declared.Column.{Column}
+use Rattle.fraction128.specs.Grid.{coefficient, distance, distance_fits, fit, fused_fits, every_row}
 use Rattle.tableau.specs.Table.{row_at}
 use Rattle.simplex_steps.specs.declared.moves.Moved.{Moved}
 use Rattle.simplex_steps.specs.State.{column_in, values}

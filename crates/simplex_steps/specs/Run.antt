@@ -1,12 +1,12 @@
 -- Runs of steps, and how they end.
 use Rattle.std.specs.Prelude.{◌≡◌, ℕ, ℤ, ◌<◌, ◌↔◌, Bool, true, List, [], ◌∷◌, ◌++◌, length, Some, None, All, if◌then◌else◌}
-use Rattle.number_meaning.specs.declared.ratio.Ratio.{Ratio}
-use Rattle.number_meaning.specs.Whole.{InRange}
-use Rattle.grid_meaning.specs.declared.Column.{Column}
-use Rattle.grid_meaning.specs.declared.Grid.{Grid}
-use Rattle.grid_meaning.specs.Grid.{Step, pivot, next_step, step_fits, WithinBounds, MeetsRows}
-use Rattle.grid_meaning.specs.declared.Line.{Line}
-use Rattle.grid_meaning.specs.Lines.{NextFails, IsPivotLine, IsSeries, pivot_line}
+use Rattle.fraction128.specs.declared.ratio.Ratio.{Ratio}
+use Rattle.fraction128.specs.Whole.{InRange}
+use Rattle.fraction128.specs.declared.Column.{Column}
+use Rattle.fraction128.specs.declared.Grid.{Grid}
+use Rattle.fraction128.specs.Grid.{Step, pivot, next_step, step_fits, WithinBounds, MeetsRows}
+use Rattle.fraction128.specs.declared.Line.{Line}
+use Rattle.fraction128.specs.Lines.{NextFails, IsPivotLine, IsSeries, pivot_line}
 use Rattle.grid_laws.specs.Law.{Runs, pivots, lines_of}
 use Rattle.tableau.specs.Table.{Table, row_at}
 use Rattle.tableau.specs.Staged.{HasEntry}

@@ -1,14 +1,14 @@
 -- Rows with the columns of their variables, as a grid with nothing pending.
 use Rattle.std.specs.Prelude.{◌≡◌, ◌≢◌, ℕ, ◌<◌, ◌≤◌, false, List, length, slice_index_or, Option, Some, None, ℤ, pos, []}
-use Rattle.number_meaning.specs.declared.ratio.Ratio.{Ratio}
-use Rattle.number_meaning.specs.Whole.{InRange}
-use Rattle.number_meaning.specs.Number.{whole}
-use Rattle.grid_meaning.specs.declared.Column.{Column}
-use Rattle.grid_meaning.specs.declared.TableRow.{TableRow}
-use Rattle.grid_meaning.specs.declared.Entry.{Entry}
-use Rattle.grid_meaning.specs.declared.Member.{Member}
-use Rattle.grid_meaning.specs.declared.Grid.{Grid}
-use Rattle.grid_meaning.specs.Grid.{missed, MeetsRows, any_crossed, is_basic}
+use Rattle.fraction128.specs.declared.ratio.Ratio.{Ratio}
+use Rattle.fraction128.specs.Whole.{InRange}
+use Rattle.fraction128.specs.Number.{whole}
+use Rattle.fraction128.specs.declared.Column.{Column}
+use Rattle.fraction128.specs.declared.TableRow.{TableRow}
+use Rattle.fraction128.specs.declared.Entry.{Entry}
+use Rattle.fraction128.specs.declared.Member.{Member}
+use Rattle.fraction128.specs.declared.Grid.{Grid}
+use Rattle.fraction128.specs.Grid.{missed, MeetsRows, any_crossed, is_basic}
 use Rattle.tableau.specs.Table.{Table, row_at}
 
 abbrev pub grid_of : Table → List Column → Grid

@@ -1,12 +1,10 @@
 //! A variable's value and its bounds.
 ghost use Rattle.std.specs.Prelude.{◌≡◌, ◌<◌, ◌^◌, true, false, unsigned_abs};
-ghost use Rattle.number_meaning.specs.Whole.{InRange};
-ghost use Rattle.number_meaning.specs.Number.{whole, is_less};
-ghost use Rattle.grid_meaning.specs.Grid.{missed, can_rise, can_fall, is_crossed, helps};
+ghost use Rattle.fraction128.specs.Whole.{InRange};
+ghost use Rattle.fraction128.specs.Number.{whole, is_less};
+ghost use Rattle.fraction128.specs.Grid.{missed, can_rise, can_fall, is_crossed, helps};
 
-use fraction128::Fraction;
-use grid_meaning::Column;
-use number_meaning::laws;
+use fraction128::{Column, Fraction, laws};
 
 /// Whether a value is less than a whole number.
 #[inline(always)]

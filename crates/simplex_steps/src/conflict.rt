@@ -1,12 +1,11 @@
 //! Bounds that no solution of the rows meets.
 ghost use Rattle.std.specs.Prelude.{◌≡◌, ℕ, ◌+◌, ◌<◌, ◌≤◌, true, false, [], ◌∷◌, length, slice_index_or, All, IfOk, Some, None};
-ghost use Rattle.grid_meaning.specs.Grid.{is_crossed};
+ghost use Rattle.fraction128.specs.Grid.{is_crossed};
 ghost use Rattle.tableau.specs.Table.{row_at};
 ghost use Rattle.simplex_steps.specs.State.{column_in, IsSolution};
 ghost use Rattle.simplex_steps.specs.Conflict.{NoneHelps, KnownEntries, stops, side_bound, stop_side, IsTarget, IsRowConflict, IsCrossing};
 
-use fraction128::Fraction;
-use grid_meaning::{Bound, Column, Entry, Side};
+use fraction128::{Bound, Column, Entry, Fraction, Side};
 use std::alloc::{AllocError, Global};
 use tableau::Tableau;
 

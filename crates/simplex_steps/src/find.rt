@@ -1,9 +1,9 @@
 //! The next step of the search.
 ghost use Rattle.std.specs.Prelude.{◌≡◌, ◌≢◌, ℕ, ◌+◌, ◌<◌, ◌≤◌, true, false, [], ◌∷◌, length, slice_index_or, IfOk, IfSome, IfNone, Some, None};
-ghost use Rattle.number_meaning.specs.Whole.{InRange};
-ghost use Rattle.number_meaning.specs.Number.{whole, is_less};
-ghost use Rattle.grid_meaning.specs.declared.Entry.{Entry};
-ghost use Rattle.grid_meaning.specs.Grid.{missed, is_crossed, any_crossed, helps, entering};
+ghost use Rattle.fraction128.specs.Whole.{InRange};
+ghost use Rattle.fraction128.specs.Number.{whole, is_less};
+ghost use Rattle.fraction128.specs.declared.Entry.{Entry};
+ghost use Rattle.fraction128.specs.Grid.{missed, is_crossed, any_crossed, helps, entering};
 ghost use Rattle.tableau.specs.Table.{row_at};
 ghost use Rattle.tableau.specs.Staged.{HasEntry};
 ghost use Rattle.simplex_steps.specs.State.{column_in, grid_of, IsSolution, AreRanged, IsRanged, IsSound, IsSettled, IsLeastBroken};
@@ -12,7 +12,7 @@ ghost use Rattle.simplex_steps.specs.Run.{IsFound};
 
 use crate::bounds::{helps, is_crossed, is_less_than, missed};
 use crate::conflict::explain_row;
-use grid_meaning::{Bound, Column, Entry};
+use fraction128::{Bound, Column, Entry};
 use std::alloc::{AllocError, Global};
 use tableau::Tableau;
 

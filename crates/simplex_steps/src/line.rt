@@ -1,13 +1,12 @@
 //! Lines: rows with the columns of their variables.
 ghost use Rattle.std.specs.Prelude.{◌≡◌, ◌<◌, [], ◌∷◌, ◌++◌, map, length, OnOk, OnErr, IfOk, Some};
-ghost use Rattle.number_meaning.specs.Number.{whole};
-ghost use Rattle.grid_meaning.specs.Lines.{pivot_line};
+ghost use Rattle.fraction128.specs.Number.{whole};
+ghost use Rattle.fraction128.specs.Lines.{pivot_line};
 ghost use Rattle.tableau.specs.Table.{row_at};
 ghost use Rattle.simplex_steps.specs.State.{column_in, grid_of, member_in};
 ghost use Rattle.simplex_steps.specs.Conflict.{KnownEntries};
 
-use fraction128::Fraction;
-use grid_meaning::{Column, Entry, Line, Member, Seq, Sum};
+use fraction128::{Column, Entry, Fraction, Line, Member, Seq, Sum};
 use std::alloc::{AllocError, Global};
 use tableau::Tableau;
 

@@ -1,19 +1,18 @@
 //! The values that variables get in a step.
 ghost use Rattle.std.specs.Prelude.{◌≡◌, ◌≢◌, ℕ, ◌+◌, ◌<◌, ◌≤◌, ◌⊎◌, ◌↔◌, ◌&&◌, pos, true, false, [], ◌∷◌, ◌++◌, length, slice_index_or, slice_set, take, OnOk, OnErr, IfOk, IfErr, Some, None};
-ghost use Rattle.number_meaning.specs.declared.ratio.Ratio.{Ratio};
-ghost use Rattle.number_meaning.specs.Whole.{InRange};
-ghost use Rattle.number_meaning.specs.Ratio.{IsFraction};
-ghost use Rattle.number_meaning.specs.Number.{whole, is_zero};
-ghost use Rattle.number_meaning.specs.Listed.{sum_of, product_of, reciprocal_of, fused};
-ghost use Rattle.grid_meaning.specs.Grid.{coefficient, distance, distance_fits, fused_fits, every_row, MeetsRows, pivoted_rows, pivot_fits};
+ghost use Rattle.fraction128.specs.declared.ratio.Ratio.{Ratio};
+ghost use Rattle.fraction128.specs.Whole.{InRange};
+ghost use Rattle.fraction128.specs.Ratio.{IsFraction};
+ghost use Rattle.fraction128.specs.Number.{whole, is_zero};
+ghost use Rattle.fraction128.specs.Listed.{sum_of, product_of, reciprocal_of, fused};
+ghost use Rattle.fraction128.specs.Grid.{coefficient, distance, distance_fits, fused_fits, every_row, MeetsRows, pivoted_rows, pivot_fits};
 ghost use Rattle.tableau.specs.Failing.{IsRange};
 ghost use Rattle.tableau.specs.Table.{row_at};
 ghost use Rattle.tableau.specs.Staged.{HasEntry};
 ghost use Rattle.simplex_steps.specs.State.{column_in, values};
 ghost use Rattle.simplex_steps.specs.Moved.{shift, shifts, AreShifts, shift_fits, applied, landed, moved_to, moved_fits, row_distance, pivoted_to, pivoted_fits, entering_fits};
 
-use fraction128::{Fraction, Range};
-use grid_meaning::Column;
+use fraction128::{Column, Fraction, Range};
 use tableau::{Failure, Tableau};
 
 /// The value that a variable gets.

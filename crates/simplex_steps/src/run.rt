@@ -1,6 +1,6 @@
 //! The search for values within all bounds.
 ghost use Rattle.std.specs.Prelude.{◌≡◌, ℕ, ◌+◌, ◌<◌, ◌≤◌, true, false, length, OnOk, IfOk, Some, None};
-ghost use Rattle.grid_meaning.specs.Grid.{is_crossed};
+ghost use Rattle.fraction128.specs.Grid.{is_crossed};
 ghost use Rattle.grid_laws.specs.Law.{KeepsResting};
 ghost use Rattle.tableau.specs.Table.{Table};
 ghost use Rattle.simplex_steps.specs.State.{column_in, grid_of, IsSolution, AreRanged, IsSound, IsSettled, KeepsBounds};
@@ -11,8 +11,7 @@ use crate::find::{Found, find, first_crossed};
 use crate::line::PivotLines;
 use crate::moves::Moved;
 use crate::turn::{record_turn, settle, try_turn};
-use fraction128::Range;
-use grid_meaning::{Bound, Column};
+use fraction128::{Bound, Column, Range};
 use std::alloc::Global;
 use tableau::{Failure, Tableau};
 

@@ -1,18 +1,18 @@
 //! One step: a move, or a pivot.
 ghost use Rattle.std.specs.Prelude.{◌≡◌, ◌≢◌, ℕ, ◌+◌, ◌<◌, ◌≤◌, ◌↔◌, ◌++◌, true, false, take, length, OnOk, OnErr, IfOk, IfErr, Some, None};
-ghost use Rattle.number_meaning.specs.declared.ratio.Ratio.{Ratio};
-ghost use Rattle.grid_meaning.specs.Grid.{missed, is_basic, step_fits, after, MeetsRows};
+ghost use Rattle.fraction128.specs.declared.ratio.Ratio.{Ratio};
+ghost use Rattle.fraction128.specs.Grid.{missed, is_basic, step_fits, after, MeetsRows};
 ghost use Rattle.tableau.specs.Failing.{IsRange};
 ghost use Rattle.tableau.specs.Table.{row_at};
 ghost use Rattle.simplex_steps.specs.State.{column_in, grid_of, IsSound, IsSettled, SettledBelow, KeepsBounds};
-ghost use Rattle.grid_meaning.specs.Lines.{NextFails};
+ghost use Rattle.fraction128.specs.Lines.{NextFails};
 ghost use Rattle.simplex_steps.specs.Run.{Reaches, NextPivotFits, IsTurn, SameSolutions, IsAdvanced, turn_lines};
 
 use crate::bounds::missed;
 use crate::find::Turn;
 use crate::line::{PivotLines, line_of_pivot};
 use crate::moves::{Moved, move_columns, pivot_columns, try_columns};
-use grid_meaning::{Column, Line};
+use fraction128::{Column, Line};
 use std::alloc::{AllocError, Global};
 use tableau::{Failure, Tableau};
 

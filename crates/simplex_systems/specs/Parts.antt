@@ -1,7 +1,7 @@
 -- Summands with their parts.
 use Rattle.std.specs.Prelude.{◌≡◌, ℕ, List}
-use Rattle.grid_meaning.specs.declared.Column.{Column}
-use Rattle.grid_meaning.specs.Grid.{leaf}
+use Rattle.fraction128.specs.declared.Column.{Column}
+use Rattle.fraction128.specs.Grid.{leaf}
 use Rattle.tableau.specs.Written.{IsPart}
 use Rattle.simplex_steps.specs.State.{column_in}
 use Rattle.simplex_systems.specs.declared.system.Picked.{Picked}

@@ -1,7 +1,7 @@
 //! The commands, a line each.
 use crate::system::System;
 use anyhow::{Result, bail};
-use grid_meaning::Side;
+use fraction128::Side;
 use std::alloc::Global;
 use std::str::SplitWhitespace;
 

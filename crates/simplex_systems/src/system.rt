@@ -1,13 +1,12 @@
 //! A system: the simplex method's state with the number of its variables.
 ghost use Rattle.std.specs.Prelude.{◌≡◌, ◌<◌, length, IfOk, IfSome};
-ghost use Rattle.grid_meaning.specs.Grid.{leaf};
+ghost use Rattle.fraction128.specs.Grid.{leaf};
 ghost use Rattle.tableau.specs.Written.{AreParts};
 ghost use Rattle.sum_laws.specs.Sums.{AreMatched};
 ghost use Rattle.simplex_systems.specs.Parts.{IsPicked};
 
 use anyhow::{Result, bail};
-use fraction128::Fraction;
-use grid_meaning::{Column, Line, Seq, Side, Sum, Summand};
+use fraction128::{Column, Fraction, Line, Seq, Side, Sum, Summand};
 use simplex::{Answer, PivotLines, Set, Simplex, Verdict};
 use std::alloc::{AllocError, Global};
 use std::marker::Model;

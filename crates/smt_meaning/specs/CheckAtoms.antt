@@ -1,12 +1,12 @@
 -- The atoms that a check may have, and the bounds that they put on sums.
 use Rattle.std.specs.Prelude.{◌≡◌, ◌⊎◌, ℕ, Bool, true, false, List, [], ◌∷◌, map, ℤ, pos, ◌-ℤ◌, neg_ℤ, Some, Contains, if◌then◌else◌}
-use Rattle.grid_meaning.specs.declared.Summand.{Summand as GridSummand}
-use Rattle.grid_meaning.specs.declared.Pending.{Pending}
-use Rattle.grid_meaning.specs.declared.Side.{Side}
-use Rattle.grid_meaning.specs.declared.Side.TheVariants.{Lower, Upper}
-use Rattle.grid_meaning.specs.declared.Line.{Line}
-use Rattle.grid_meaning.specs.Grid.{turned, bound_number, bounds_above}
-use Rattle.grid_meaning.specs.Lines.{IsSoundLine, IsBranchLine}
+use Rattle.fraction128.specs.declared.Summand.{Summand as GridSummand}
+use Rattle.fraction128.specs.declared.Pending.{Pending}
+use Rattle.fraction128.specs.declared.Side.{Side}
+use Rattle.fraction128.specs.declared.Side.TheVariants.{Lower, Upper}
+use Rattle.fraction128.specs.declared.Line.{Line}
+use Rattle.fraction128.specs.Grid.{turned, bound_number, bounds_above}
+use Rattle.fraction128.specs.Lines.{IsSoundLine, IsBranchLine}
 use Rattle.smt_meaning.specs.declared.values.Sort.TheVariants.{Int as Ints}
 use Rattle.smt_meaning.specs.declared.terms.Operator.TheVariants.{Add, Subtract, Multiply}
 use Rattle.smt_meaning.specs.declared.terms.Head.{Head}

@@ -1,6 +1,6 @@
 -- Whether the differences that comparisons of Int terms make stay within the range.
 use Rattle.std.specs.Prelude.{Bool, true, ◌&&◌, List, ◌-ℤ◌, neg_ℤ, pos, if◌then◌else◌}
-use Rattle.number_meaning.specs.Whole.{is_in_range}
+use Rattle.fraction128.specs.Whole.{is_in_range}
 use Rattle.smt_meaning.specs.declared.terms.Operator.TheVariants.{Equal, Distinct, Ite, AtMost as IsAtMost, Less, AtLeast, Greater}
 use Rattle.smt_meaning.specs.declared.terms.Head.{Head}
 use Rattle.smt_meaning.specs.declared.terms.Head.TheVariants.{Theory}

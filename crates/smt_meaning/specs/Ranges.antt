@@ -1,13 +1,13 @@
 -- What shows that a number left the range.
 use Rattle.std.specs.Prelude.{◌≡◌, ◌⊎◌, ℕ, ◌<◌, false, List, [], ◌∷◌, length, ℤ, pos, ◌+ℤ◌, ◌*ℤ◌, Some, All}
-use Rattle.number_meaning.specs.declared.ratio.Ratio.{Ratio}
-use Rattle.number_meaning.specs.Number.{whole, SameNumber}
-use Rattle.number_meaning.specs.Whole.{is_in_range}
-use Rattle.grid_meaning.specs.declared.Pending.{Pending}
-use Rattle.grid_meaning.specs.declared.Column.{Column}
-use Rattle.grid_meaning.specs.declared.Grid.{Grid}
-use Rattle.grid_meaning.specs.Grid.{WithinBounds, leaf, turned, value_at, variable_of}
-use Rattle.grid_meaning.specs.Lines.{IsSoundGrid, NextFails}
+use Rattle.fraction128.specs.declared.ratio.Ratio.{Ratio}
+use Rattle.fraction128.specs.Number.{whole, SameNumber}
+use Rattle.fraction128.specs.Whole.{is_in_range}
+use Rattle.fraction128.specs.declared.Pending.{Pending}
+use Rattle.fraction128.specs.declared.Column.{Column}
+use Rattle.fraction128.specs.declared.Grid.{Grid}
+use Rattle.fraction128.specs.Grid.{WithinBounds, leaf, turned, value_at, variable_of}
+use Rattle.fraction128.specs.Lines.{IsSoundGrid, NextFails}
 use Rattle.smt_meaning.specs.declared.values.Table.{Table}
 use Rattle.smt_meaning.specs.declared.terms.Head.TheVariants.{Symbol}
 use Rattle.smt_meaning.specs.declared.clauses.Summand.{Summand}

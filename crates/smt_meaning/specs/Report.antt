@@ -10,8 +10,8 @@ use Rattle.smt_meaning.specs.declared.clauses.Atom.{Atom}
 use Rattle.smt_meaning.specs.declared.clauses.Atom.TheVariants.{Truth}
 use Rattle.smt_meaning.specs.declared.clauses.Literal.{Literal}
 use Rattle.smt_meaning.specs.declared.clauses.Clause.{Clause}
-use Rattle.grid_meaning.specs.declared.Line.{Line}
-use Rattle.grid_meaning.specs.Lines.{IsSoundLine, IsPivotLine, HaveOthers, empty_line}
+use Rattle.fraction128.specs.declared.Line.{Line}
+use Rattle.fraction128.specs.Lines.{IsSoundLine, IsPivotLine, HaveOthers, empty_line}
 use Rattle.smt_meaning.specs.declared.reports.Unit.{Unit as Spent}
 use Rattle.smt_meaning.specs.declared.reports.Unit.TheVariants.{Learnt, Numbered, Pivot}
 use Rattle.smt_meaning.specs.declared.reports.Cause.{Cause}

@@ -1,6 +1,6 @@
 -- The sort of a term or its one refusal, its tree, and the trees that are judged on the way (SMT-LIB 2.6, sections 3.6 and 5.3).
 use Rattle.std.specs.Prelude.{ℕ, ◌+◌, ◌-◌, ◌*◌, Bool, true, false, not, ◌&&◌, ◌||◌, nat_eq, nat_lt, nat_le, List, [], ◌∷◌, ◌++◌, map, length, pos, if◌then◌else◌, Option, Some, None, bytes_eq, codes}
-use Rattle.number_meaning.specs.Whole.{is_in_range}
+use Rattle.fraction128.specs.Whole.{is_in_range}
 use Rattle.smt_meaning.specs.declared.values.Sort.{Sort}
 use Rattle.smt_meaning.specs.declared.values.Sort.TheVariants.{Bool as Truths, Int as Ints}
 use Rattle.smt_meaning.specs.declared.terms.Operator.{Operator}

@@ -2,7 +2,7 @@ use crate::clauses::{Atom, Clause};
 use crate::seq::Seq;
 use crate::terms::TermId;
 use crate::values::Interp;
-use grid_meaning::{Grid, Line};
+use fraction128::{Grid, Line};
 
 /// A unit of a worker's work, by which the work of a check is limited.
 #[derive(Debug, Drop)]

@@ -3,13 +3,13 @@ use Rattle.std.proofs.Common.{◌≡◌, ℕ, zero, suc, ◌<◌, Bool, true, fa
 use Rattle.std.specs.Prelude.{int_le, Contains}
 use Rattle.std.proofs.lemmas.Int.{ints}
 use Rattle.std.proofs.lemmas.Bool.{or_parts}
-use Rattle.number_meaning.specs.declared.ratio.Ratio.{Ratio}
-use Rattle.number_meaning.specs.Number.{whole, unreduced_sum, unreduced_product}
-use Rattle.number_meaning.proofs.RingEquations.{var, sum, product, minus, unit, solve}
-use Rattle.number_meaning.proofs.WholeNumbers.{wholes}
-use Rattle.grid_meaning.specs.declared.Summand.{Summand}
-use Rattle.grid_meaning.specs.Grid.{is_turned, turned}
-use Rattle.grid_meaning.specs.Lines.{sum_value}
+use Rattle.fraction128.specs.declared.ratio.Ratio.{Ratio}
+use Rattle.fraction128.specs.Number.{whole, unreduced_sum, unreduced_product}
+use Rattle.fraction128.proofs.RingEquations.{var, sum, product, minus, unit, solve}
+use Rattle.fraction128.proofs.WholeNumbers.{wholes}
+use Rattle.fraction128.specs.declared.Summand.{Summand}
+use Rattle.fraction128.specs.Grid.{is_turned, turned}
+use Rattle.fraction128.specs.Lines.{sum_value}
 use Rattle.smt_meaning.specs.declared.clauses.Summand as Places
 use Rattle.smt_meaning.specs.Term.{Tree, Interpretation, number_of}
 use Rattle.smt_meaning.specs.Clause as Clauses

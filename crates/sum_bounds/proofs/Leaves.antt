@@ -3,11 +3,11 @@ use Rattle.std.proofs.Common.{◌≡◌, ◌≢◌, ℕ, ◌<◌, ◌⊎◌, inl
 use Rattle.std.proofs.lemmas.Bool.{cases_order}
 use Rattle.std.proofs.lemmas.Int.{ints}
 use Rattle.std.proofs.lemmas.List.{get_or_past}
-use Rattle.number_meaning.specs.Number.{SameNumber}
-use Rattle.grid_meaning.specs.declared.Summand.{Summand}
-use Rattle.grid_meaning.specs.declared.Column.{Column}
-use Rattle.grid_meaning.specs.Grid.{same_sum, only_if, column_of, variable_of, leaf}
-use Rattle.grid_meaning.specs.Lines.{sum_value}
+use Rattle.fraction128.specs.Number.{SameNumber}
+use Rattle.fraction128.specs.declared.Summand.{Summand}
+use Rattle.fraction128.specs.declared.Column.{Column}
+use Rattle.fraction128.specs.Grid.{same_sum, only_if, column_of, variable_of, leaf}
+use Rattle.fraction128.specs.Lines.{sum_value}
 use Rattle.grid_laws.proofs.NextStep.{first_some, first_none}
 use Rattle.tableau.specs.Table.{Table}
 use Rattle.simplex_steps.specs.State.{column_in, no_column, values, IsSolution}

@@ -1,9 +1,9 @@
 -- Where the bounds of variables come from.
 use Rattle.std.proofs.Common.{◌≡◌, ℕ, ◌<◌, List, length, map, ℤ, Some, refl}
-use Rattle.grid_meaning.specs.declared.Bound.{Bound}
-use Rattle.grid_meaning.specs.declared.Column.{Column}
-use Rattle.grid_meaning.specs.declared.Side.{Side}
-use Rattle.grid_meaning.specs.declared.Side.TheVariants.{Lower, Upper}
+use Rattle.fraction128.specs.declared.Bound.{Bound}
+use Rattle.fraction128.specs.declared.Column.{Column}
+use Rattle.fraction128.specs.declared.Side.{Side}
+use Rattle.fraction128.specs.declared.Side.TheVariants.{Lower, Upper}
 use Rattle.simplex_steps.specs.State.{column_in}
 use Rattle.simplex_steps.specs.Conflict.{Stands}
 use Rattle.simplex.specs.State as Simplex

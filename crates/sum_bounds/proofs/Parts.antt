@@ -2,14 +2,14 @@
 use Rattle.std.proofs.Common.{◌≡◌, ◌≢◌, ℕ, zero, suc, ◌<◌, List, [], ◌∷◌, map, length, get_or, ℤ, pos, negsuc, neg_ℤ, Bool, true, false, ◌&&◌, sym, ap, ap₂, subst, ◌∙◌, refl, arith}
 use Rattle.std.proofs.lemmas.List.{get_or-map, length-map}
 use Rattle.std.proofs.lemmas.List.Elements.{All-head, All-tail, All-map}
-use Rattle.number_meaning.specs.declared.ratio.Ratio.{Ratio}
-use Rattle.number_meaning.specs.Listed.{fused}
-use Rattle.number_meaning.specs.Number.{whole}
-use Rattle.number_meaning.specs.Whole.{InRange}
-use Rattle.grid_meaning.specs.declared.Summand.{Summand}
-use Rattle.grid_meaning.specs.declared.Column.{Column}
-use Rattle.grid_meaning.specs.declared.TableRow.{TableRow}
-use Rattle.grid_meaning.specs.Grid.{is_turned, turned, every, fused_fits, written, written_fits, written_variable, variable_of, entries_from, sum_row, no_coefficients, leaf}
+use Rattle.fraction128.specs.declared.ratio.Ratio.{Ratio}
+use Rattle.fraction128.specs.Listed.{fused}
+use Rattle.fraction128.specs.Number.{whole}
+use Rattle.fraction128.specs.Whole.{InRange}
+use Rattle.fraction128.specs.declared.Summand.{Summand}
+use Rattle.fraction128.specs.declared.Column.{Column}
+use Rattle.fraction128.specs.declared.TableRow.{TableRow}
+use Rattle.fraction128.specs.Grid.{is_turned, turned, every, fused_fits, written, written_fits, written_variable, variable_of, entries_from, sum_row, no_coefficients, leaf}
 use Rattle.tableau.specs.Written.{IsPart, AreParts, parts_written, parts_fit, parts_row}
 use Rattle.sum_laws.specs.Sums.{AreMatched}
 use Rattle.simplex_steps.specs.State.{column_in}

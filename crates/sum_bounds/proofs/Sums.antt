@@ -1,7 +1,7 @@
 -- Sums with a positive first coefficient, and lists of summands.
 use Rattle.std.proofs.Common.{◌≡◌, ℕ, zero, suc, ◌<◌, Bool, true, false, List, [], ◌∷◌, map, length, get_or, ap, ap₂, refl, arith}
-use Rattle.grid_meaning.specs.declared.Summand.{Summand}
-use Rattle.grid_meaning.specs.Grid.{is_turned, turned}
+use Rattle.fraction128.specs.declared.Summand.{Summand}
+use Rattle.fraction128.specs.Grid.{is_turned, turned}
 use Rattle.sum_bounds.specs.Written.{turned_summand}
 
 each_same : (ps : List Summand) → map (turned_summand false) ps ≡ ps

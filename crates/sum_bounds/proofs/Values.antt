@@ -2,15 +2,15 @@
 use Rattle.std.proofs.Common.{◌≡◌, ℕ, ◌<◌, Bool, true, false, List, map, length, get_or, ℤ, Option, Some, None, sym, ap, subst, ◌∙◌, refl, arith}
 use Rattle.std.specs.Prelude.{All, if◌then◌else◌}
 use Rattle.std.proofs.lemmas.List.{get_or-map, length-map}
-use Rattle.number_meaning.specs.declared.ratio.Ratio.{Ratio}
-use Rattle.number_meaning.specs.Number.{whole, is_less, SameNumber}
-use Rattle.number_meaning.specs.Whole.{InRange}
-use Rattle.number_meaning.proofs.FieldLaws.{less_respects}
-use Rattle.grid_meaning.specs.declared.Column.{Column}
-use Rattle.grid_meaning.specs.declared.Side.{Side}
-use Rattle.grid_meaning.specs.declared.Side.TheVariants.{Lower, Upper}
-use Rattle.grid_meaning.specs.Grid.{is_below, is_above, missed, variable_of}
-use Rattle.grid_meaning.specs.Lines.{sum_value}
+use Rattle.fraction128.specs.declared.ratio.Ratio.{Ratio}
+use Rattle.fraction128.specs.Number.{whole, is_less, SameNumber}
+use Rattle.fraction128.specs.Whole.{InRange}
+use Rattle.fraction128.proofs.FieldLaws.{less_respects}
+use Rattle.fraction128.specs.declared.Column.{Column}
+use Rattle.fraction128.specs.declared.Side.{Side}
+use Rattle.fraction128.specs.declared.Side.TheVariants.{Lower, Upper}
+use Rattle.fraction128.specs.Grid.{is_below, is_above, missed, variable_of}
+use Rattle.fraction128.specs.Lines.{sum_value}
 use Rattle.bound_trail.specs.declared.trail.Set.{Set}
 use Rattle.bound_trail.specs.declared.trail.Held.{Held}
 use Rattle.bound_trail.specs.Trail.{tightest, number_of, set_at, no_set}

@@ -5,16 +5,16 @@ use Rattle.std.proofs.lemmas.Int.{ints}
 use Rattle.std.proofs.Math.IntN.{zero-*ℤ}
 use Rattle.std.proofs.lemmas.List.{drop_all, take_all}
 use Rattle.std.proofs.lemmas.List.Elements.{All-contains, All-more, All-push, All-weaker, Contains-append_left, Contains-push}
-use Rattle.number_meaning.specs.declared.ratio.Ratio.{Ratio}
-use Rattle.number_meaning.specs.Number.{whole, is_less, SameNumber, unreduced_sum, unreduced_product}
-use Rattle.number_meaning.proofs.LowestTerms.{pos_times}
-use Rattle.number_meaning.proofs.RingEquations.{var, sum, product, minus, unit, solve}
-use Rattle.number_meaning.proofs.WholeNumbers.{wholes as ring}
-use Rattle.grid_meaning.specs.declared.Entry.{Entry}
-use Rattle.grid_meaning.specs.declared.TableRow.{TableRow}
-use Rattle.grid_meaning.specs.declared.Column.{Column}
-use Rattle.grid_meaning.specs.declared.Bound.{Bound}
-use Rattle.grid_meaning.specs.Grid.{MeetsRow, row_value}
+use Rattle.fraction128.specs.declared.ratio.Ratio.{Ratio}
+use Rattle.fraction128.specs.Number.{whole, is_less, SameNumber, unreduced_sum, unreduced_product}
+use Rattle.fraction128.proofs.LowestTerms.{pos_times}
+use Rattle.fraction128.proofs.RingEquations.{var, sum, product, minus, unit, solve}
+use Rattle.fraction128.proofs.WholeNumbers.{wholes as ring}
+use Rattle.fraction128.specs.declared.Entry.{Entry}
+use Rattle.fraction128.specs.declared.TableRow.{TableRow}
+use Rattle.fraction128.specs.declared.Column.{Column}
+use Rattle.fraction128.specs.declared.Bound.{Bound}
+use Rattle.fraction128.specs.Grid.{MeetsRow, row_value}
 use Rattle.progressions.specs.Progressions.{State as Progression, Has, MayBe}
 use Rattle.literals.specs.Signed.{Signed}
 use Rattle.tableau.specs.Table.{AreNonzero, row_at, no_row}

@@ -1,15 +1,15 @@
 -- Bounds on sums of terms, told one after another, each with the literal that says it.
 use Rattle.std.specs.Prelude.{◌≡◌, ◌≢◌, ℕ, ◌+◌, ◌<◌, Bool, true, false, List, [], ◌∷◌, ◌++◌, map, length, ℤ, pos, ◌+ℤ◌, neg_ℤ, All, AllPairs, Contains, if◌then◌else◌, ◌&&◌}
-use Rattle.number_meaning.specs.declared.ratio.Ratio.{Ratio}
-use Rattle.number_meaning.specs.declared.range.Op.TheVariants.{Add}
-use Rattle.number_meaning.specs.Number.{whole, is_less}
-use Rattle.number_meaning.specs.Whole.{InRange}
-use Rattle.grid_meaning.specs.declared.Summand.{Summand}
-use Rattle.grid_meaning.specs.declared.Column.{Column}
-use Rattle.grid_meaning.specs.declared.Side.{Side}
-use Rattle.grid_meaning.specs.declared.Side.TheVariants.{Lower, Upper}
-use Rattle.grid_meaning.specs.Grid.{leaf, is_turned, turned, variable_of, written_fits, entries_value, entries_value_fits, sum_row, no_coefficients}
-use Rattle.grid_meaning.specs.Lines.{NextFails, IsFloor, IsPositive, sum_value}
+use Rattle.fraction128.specs.declared.ratio.Ratio.{Ratio}
+use Rattle.fraction128.specs.declared.range.Op.TheVariants.{Add}
+use Rattle.fraction128.specs.Number.{whole, is_less}
+use Rattle.fraction128.specs.Whole.{InRange}
+use Rattle.fraction128.specs.declared.Summand.{Summand}
+use Rattle.fraction128.specs.declared.Column.{Column}
+use Rattle.fraction128.specs.declared.Side.{Side}
+use Rattle.fraction128.specs.declared.Side.TheVariants.{Lower, Upper}
+use Rattle.fraction128.specs.Grid.{leaf, is_turned, turned, variable_of, written_fits, entries_value, entries_value_fits, sum_row, no_coefficients}
+use Rattle.fraction128.specs.Lines.{NextFails, IsFloor, IsPositive, sum_value}
 use Rattle.tableau.specs.declared.failure.Failure.{Failure}
 use Rattle.tableau.specs.declared.failure.Failure.TheVariants.{Range as OutOfRange}
 use Rattle.tableau.specs.Table.{Table}

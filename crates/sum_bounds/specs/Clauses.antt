@@ -1,9 +1,9 @@
 -- What told bounds say of numbers that an interpretation gives to terms.
 use Rattle.std.specs.Prelude.{◌≡◌, ℕ, List, map, ℤ, All}
-use Rattle.number_meaning.specs.declared.ratio.Ratio.{Ratio}
-use Rattle.number_meaning.specs.Number.{whole}
-use Rattle.grid_meaning.specs.declared.Summand.{Summand}
-use Rattle.grid_meaning.specs.Grid.{is_turned, turned}
+use Rattle.fraction128.specs.declared.ratio.Ratio.{Ratio}
+use Rattle.fraction128.specs.Number.{whole}
+use Rattle.fraction128.specs.declared.Summand.{Summand}
+use Rattle.fraction128.specs.Grid.{is_turned, turned}
 use Rattle.smt_meaning.specs.declared.clauses.Summand as Places
 use Rattle.smt_meaning.specs.declared.clauses.Atom.TheVariants.{AtMost}
 use Rattle.literals.specs.Signed.{Signed}

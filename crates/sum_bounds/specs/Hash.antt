@@ -1,6 +1,6 @@
 -- A hash of a sum. No public contract speaks of it.
 use Rattle.std.specs.Prelude.{ℕ, ◌/◌, ◌%◌, ◌^◌, List, [], ◌∷◌, unsigned_abs}
-use Rattle.grid_meaning.specs.declared.Summand.{Summand}
+use Rattle.fraction128.specs.declared.Summand.{Summand}
 use Rattle.term_store.specs.Hash.{mixed}
 
 -- the state after one more summand: its term, and the lower half of its coefficient's absolute value

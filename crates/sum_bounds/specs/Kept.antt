@@ -1,6 +1,6 @@
 -- Variables more.
 use Rattle.std.specs.Prelude.{◌≡◌, ℕ, List}
-use Rattle.grid_meaning.specs.declared.Summand.{Summand}
+use Rattle.fraction128.specs.declared.Summand.{Summand}
 use Rattle.simplex.specs.State.{State}
 use Rattle.sum_bounds.specs.Bounds.{sum_hashes, leaf_table, leaf_columns, sum_table, sum_columns}
 

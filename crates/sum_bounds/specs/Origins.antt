@@ -1,8 +1,8 @@
 -- Where the bounds of variables come from.
 use Rattle.std.specs.Prelude.{◌≡◌, ℕ, ◌<◌, List, length, ℤ, Option, Some, Contains}
-use Rattle.grid_meaning.specs.declared.Column.{Column}
-use Rattle.grid_meaning.specs.declared.Side.{Side}
-use Rattle.grid_meaning.specs.declared.Side.TheVariants.{Lower, Upper}
+use Rattle.fraction128.specs.declared.Column.{Column}
+use Rattle.fraction128.specs.declared.Side.{Side}
+use Rattle.fraction128.specs.declared.Side.TheVariants.{Lower, Upper}
 use Rattle.tableau.specs.Table.{IsTable}
 use Rattle.simplex_steps.specs.State.{column_in}
 use Rattle.sum_bounds.specs.Bounds.{Told, State}

@@ -1,14 +1,14 @@
 -- Bounds that no whole numbers meet.
 use Rattle.std.specs.Prelude.{◌≡◌, ◌≢◌, ℕ, List, ℤ, negsuc, All, AllPairs, Contains}
-use Rattle.number_meaning.specs.declared.ratio.Ratio.{Ratio}
-use Rattle.number_meaning.specs.Number.{whole, unreduced_sum, unreduced_product}
-use Rattle.grid_meaning.specs.declared.Summand.{Summand}
-use Rattle.grid_meaning.specs.declared.Entry.{Entry}
-use Rattle.grid_meaning.specs.declared.TableRow.{TableRow}
-use Rattle.grid_meaning.specs.declared.Column.{Column}
-use Rattle.grid_meaning.specs.declared.Bound.{Bound}
-use Rattle.grid_meaning.specs.declared.Side.TheVariants.{Lower, Upper}
-use Rattle.grid_meaning.specs.Grid.{MeetsRow, row_value}
+use Rattle.fraction128.specs.declared.ratio.Ratio.{Ratio}
+use Rattle.fraction128.specs.Number.{whole, unreduced_sum, unreduced_product}
+use Rattle.fraction128.specs.declared.Summand.{Summand}
+use Rattle.fraction128.specs.declared.Entry.{Entry}
+use Rattle.fraction128.specs.declared.TableRow.{TableRow}
+use Rattle.fraction128.specs.declared.Column.{Column}
+use Rattle.fraction128.specs.declared.Bound.{Bound}
+use Rattle.fraction128.specs.declared.Side.TheVariants.{Lower, Upper}
+use Rattle.fraction128.specs.Grid.{MeetsRow, row_value}
 use Rattle.progressions.specs.Progressions.{State as Progression, Has}
 use Rattle.literals.specs.Signed.{Signed, opposite}
 use Rattle.search_port.specs.State.{Reading}

@@ -1,9 +1,9 @@
 -- Sums as they are kept, and their parts.
 use Rattle.std.specs.Prelude.{◌≡◌, ◌≢◌, ℕ, ◌<◌, Bool, List, length, pos, neg_ℤ, if◌then◌else◌}
-use Rattle.number_meaning.specs.Whole.{InRange}
-use Rattle.grid_meaning.specs.declared.Summand.{Summand}
-use Rattle.grid_meaning.specs.declared.Column.{Column}
-use Rattle.grid_meaning.specs.Grid.{leaf, variable_of}
+use Rattle.fraction128.specs.Whole.{InRange}
+use Rattle.fraction128.specs.declared.Summand.{Summand}
+use Rattle.fraction128.specs.declared.Column.{Column}
+use Rattle.fraction128.specs.Grid.{leaf, variable_of}
 use Rattle.tableau.specs.declared.sum.Part.{Part}
 use Rattle.simplex_steps.specs.State.{column_in}
 

@@ -1,12 +1,11 @@
 //! Terms whose values aren't whole.
 ghost use Rattle.std.specs.Prelude.{◌≡◌, ◌≢◌, ℕ, ◌<◌, length, IfSome, IfNone};
-ghost use Rattle.grid_meaning.specs.Grid.{leaf};
-ghost use Rattle.grid_meaning.specs.Lines.{IsFloor};
+ghost use Rattle.fraction128.specs.Grid.{leaf};
+ghost use Rattle.fraction128.specs.Lines.{IsFloor};
 ghost use Rattle.simplex_steps.specs.State.{column_in};
 ghost use Rattle.sum_bounds.specs.Bounds.{IsFractional, IsFirstIn, AreWholeIn};
 
-use fraction128::Fraction;
-use grid_meaning::{Column, Summand};
+use fraction128::{Column, Fraction, Summand};
 use simplex::Simplex;
 
 /// A variable of a term whose value isn't whole, and the greatest whole number that is at most the value.

@@ -4,7 +4,7 @@ ghost use Rattle.simplex_steps.specs.State.{column_in};
 ghost use Rattle.sum_bounds.specs.Hash.{summand_state, sum_hash};
 ghost use Rattle.sum_bounds.specs.Bounds.{sum_hashes};
 
-use grid_meaning::Summand;
+use fraction128::Summand;
 use simplex::Simplex;
 use term_store::{HashIndex, mix};
 

@@ -3,8 +3,7 @@ ghost use Rattle.std.specs.Prelude.{◌<◌, length};
 ghost use Rattle.simplex_steps.specs.State.{column_in};
 ghost use Rattle.simplex_steps.specs.Conflict.{KnownEntries};
 
-use fraction128::Fraction;
-use grid_meaning::{Column, Entry};
+use fraction128::{Column, Entry, Fraction};
 use simplex::Simplex;
 
 /// The most or the least that a part of a row comes to by the bounds of its variable.

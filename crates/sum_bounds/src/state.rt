@@ -1,8 +1,8 @@
 //! The state, and the calls on it.
 ghost use Rattle.std.specs.Prelude.{◌≡◌, ℕ, ◌+◌, ◌-◌, ◌^◌, ◌<◌, ◌≤◌, ◌⊎◌, ◌↔◌, IsTrue, true, false, [], ◌∷◌, ◌++◌, map, take, length, All, OnOk, OnErr, IfOk, IfErr, IfSome, IfNone, None};
-ghost use Rattle.number_meaning.specs.Whole.{InRange};
-ghost use Rattle.grid_meaning.specs.Grid.{column_of, is_basic, leaf, turned};
-ghost use Rattle.grid_meaning.specs.Lines.{line_of};
+ghost use Rattle.fraction128.specs.Whole.{InRange};
+ghost use Rattle.fraction128.specs.Grid.{column_of, is_basic, leaf, turned};
+ghost use Rattle.fraction128.specs.Lines.{line_of};
 ghost use Rattle.grid_laws.specs.Law.{KeepsResting};
 ghost use Rattle.tableau.specs.Failing.{IsRange};
 ghost use Rattle.simplex_steps.specs.State.{column_in, grid_of, values};
@@ -21,8 +21,7 @@ use crate::reach::reach;
 use crate::told::{is_met, number_of, side_of, tag_of};
 use crate::wholes::whole_conflict;
 use crate::writing::{SumVariable, first_is_negative, parts_of, turned_sum};
-use fraction128::Fraction;
-use grid_meaning::{Grid, Line, Sum, Summand};
+use fraction128::{Fraction, Grid, Line, Sum, Summand};
 use literals::Literal;
 use simplex::{PivotLines, Set, Simplex};
 use std::alloc::{AllocError, Global};

@@ -1,16 +1,14 @@
 //! A literal's bound, and the clause of the bounds in a conflict.
 ghost use Rattle.std.specs.Prelude.{◌≡◌, ◌<◌, ◌^◌, true, false, pos, ◌+ℤ◌, IsTrue, ◌↔◌, Contains, OnOk, IfOk, IfErr};
-ghost use Rattle.number_meaning.specs.Whole.{InRange};
-ghost use Rattle.number_meaning.specs.Number.{whole, is_less};
+ghost use Rattle.fraction128.specs.Whole.{InRange};
+ghost use Rattle.fraction128.specs.Number.{whole, is_less};
 ghost use Rattle.literals.specs.Signed.{packed, unpacked, opposite};
 ghost use Rattle.tableau.specs.Failing.{IsRange};
 ghost use Rattle.sum_bounds.specs.Bounds.{told_side, told_number, MeetsSide};
 ghost use Rattle.sum_bounds.specs.Complements.{IsPut, IsClauseOf};
 
-use fraction128::{Fraction, Op, Range, add};
-use grid_meaning::Side;
+use fraction128::{Fraction, Op, Range, Side, add, laws};
 use literals::Literal;
-use number_meaning::laws;
 use std::alloc::{AllocError, Global};
 use tableau::Failure;
 

@@ -7,8 +7,7 @@ ghost use Rattle.sum_bounds.specs.Bounds.{told_of};
 ghost use Rattle.sum_bounds.specs.Wholes.{HasSums, HasDifferences, LacksWholes, AddsBoth, AreBounds, IsWholeConflict};
 
 use crate::told::clause_of;
-use fraction128::Fraction;
-use grid_meaning::{Bound, Entry, Side};
+use fraction128::{Bound, Entry, Fraction, Side};
 use literals::Literal;
 use progressions::Progression;
 use simplex::Simplex;

@@ -1,13 +1,13 @@
 //! Sums with a positive first coefficient, and their parts.
 ghost use Rattle.std.specs.Prelude.{◌≡◌, ◌≢◌, ℕ, ◌<◌, pos, map, length, All, IfOk};
-ghost use Rattle.number_meaning.specs.Whole.{InRange};
-ghost use Rattle.grid_meaning.specs.Grid.{is_turned, turned, leaf};
+ghost use Rattle.fraction128.specs.Whole.{InRange};
+ghost use Rattle.fraction128.specs.Grid.{is_turned, turned, leaf};
 ghost use Rattle.simplex_steps.specs.State.{column_in};
 ghost use Rattle.sum_bounds.specs.Bounds.{sum_hashes, AreApart, IsSum};
 ghost use Rattle.sum_bounds.specs.Written.{turned_summand, part_in, HasLeaf};
 
 use crate::lookup::find;
-use grid_meaning::{Seq, Sum, Summand};
+use fraction128::{Seq, Sum, Summand};
 use simplex::Simplex;
 use std::alloc::{AllocError, Global};
 use tableau::Part;

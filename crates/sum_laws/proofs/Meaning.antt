@@ -2,22 +2,22 @@
 use Rattle.std.proofs.Common.{◌≡◌, ℕ, zero, suc, ◌<◌, ◌≤◌, ◌⊎◌, inl, inr, sym, ap, ap₂, ◌∙◌, subst, refl, arith, List, [], ◌∷◌, ◌++◌, length, get_or, length-append}
 use Rattle.std.proofs.lemmas.List.{get_or_append_left, get_or_push, get_or_default}
 use Rattle.std.proofs.lemmas.Bool.{cases_lt}
-use Rattle.number_meaning.specs.declared.ratio.Ratio.{Ratio}
-use Rattle.number_meaning.specs.Number.{whole, SameNumber, unreduced_sum, unreduced_product}
-use Rattle.number_meaning.proofs.RationalRing.{Rational, number, number_eq, number_back, rational_sum, rational_product}
-use Rattle.grid_meaning.specs.declared.Entry.{Entry}
-use Rattle.grid_meaning.specs.declared.Summand.{Summand}
-use Rattle.grid_meaning.specs.declared.TableRow.{TableRow}
-use Rattle.grid_meaning.specs.declared.Column.{Column}
-use Rattle.grid_meaning.specs.Grid.{row_value, MeetsRow, MeetsRows, leaf}
-use Rattle.grid_meaning.proofs.RowValue.{meets_to, meets_from}
+use Rattle.fraction128.specs.declared.ratio.Ratio.{Ratio}
+use Rattle.fraction128.specs.Number.{whole, SameNumber, unreduced_sum, unreduced_product}
+use Rattle.fraction128.proofs.RationalRing.{Rational, number, number_eq, number_back, rational_sum, rational_product}
+use Rattle.fraction128.specs.declared.Entry.{Entry}
+use Rattle.fraction128.specs.declared.Summand.{Summand}
+use Rattle.fraction128.specs.declared.TableRow.{TableRow}
+use Rattle.fraction128.specs.declared.Column.{Column}
+use Rattle.fraction128.specs.Grid.{row_value, MeetsRow, MeetsRows, leaf}
+use Rattle.fraction128.proofs.RowValue.{meets_to, meets_from}
 use Rattle.tableau.specs.declared.sum.Part.{Part}
 use Rattle.tableau.specs.Table.{Table, IsTable, row_at, no_row}
 use Rattle.tableau.specs.Written.{AreParts, parts_row}
 use Rattle.tableau.proofs.Coefficients.{Below}
 use Rattle.tableau.proofs.PivotedRows.{below_all}
 use Rattle.simplex_steps.specs.State.{column_in, no_column}
-use Rattle.grid_meaning.specs.Lines.{sum_value, IsPositive}
+use Rattle.fraction128.specs.Lines.{sum_value, IsPositive}
 use Rattle.sum_laws.specs.Sums.{column_values, AgreeOnLeaves, IsMeant, AreMatched, NoneMean, LeavesKeep, RowsKeep, RunsKeep}
 use Rattle.sum_laws.proofs.SumValues.{terms_dot, sum_positive_value, number_sum_value, number_leaf}
 use Rattle.sum_laws.proofs.WrittenSums.{parts_dot, row_positive, row_dot}

@@ -1,15 +1,15 @@
 -- The row that a sum is written to has the sum's value on the solutions of the rows.
 use Rattle.std.proofs.Common.{◌≡◌, ℕ, zero, suc, ◌+◌, ◌<◌, pos, sym, ap, ap₂, ◌∙◌, subst, refl, arith, List, [], ◌∷◌, Bool, true, false, cond, eqb, eqb-true, eq-eqb, Option, Some, None}
-use Rattle.number_meaning.specs.declared.ratio.Ratio.{Ratio}
-use Rattle.number_meaning.specs.Number.{whole}
-use Rattle.number_meaning.specs.Listed.{fused}
-use Rattle.number_meaning.proofs.RingEquations.{var, sum, product, nothing, solve}
-use Rattle.number_meaning.proofs.RationalRing.{Rational, number, rational_sum, rational_product, rational_zero, rational_zero-is, rational_one, rational_one-is, rationals}
-use Rattle.number_meaning.proofs.ExactSteps.{number_fused, fused_positive}
-use Rattle.grid_meaning.specs.declared.Entry.{Entry}
-use Rattle.grid_meaning.specs.declared.TableRow.{TableRow}
-use Rattle.grid_meaning.specs.Grid.{coefficient, row_of, entries_of, is_some, written_variable, no_coefficients, entries_from, MeetsRow, MeetsRows}
-use Rattle.grid_meaning.proofs.RowValue as RowValue
+use Rattle.fraction128.specs.declared.ratio.Ratio.{Ratio}
+use Rattle.fraction128.specs.Number.{whole}
+use Rattle.fraction128.specs.Listed.{fused}
+use Rattle.fraction128.proofs.RingEquations.{var, sum, product, nothing, solve}
+use Rattle.fraction128.proofs.RationalRing.{Rational, number, rational_sum, rational_product, rational_zero, rational_zero-is, rational_one, rational_one-is, rationals}
+use Rattle.fraction128.proofs.ExactSteps.{number_fused, fused_positive}
+use Rattle.fraction128.specs.declared.Entry.{Entry}
+use Rattle.fraction128.specs.declared.TableRow.{TableRow}
+use Rattle.fraction128.specs.Grid.{coefficient, row_of, entries_of, is_some, written_variable, no_coefficients, entries_from, MeetsRow, MeetsRows}
+use Rattle.fraction128.proofs.RowValue as RowValue
 use Rattle.grid_laws.specs.Law.{AreFrom}
 use Rattle.grid_laws.proofs.Spans.{span, span_same, span_sum, span_product, span_zero, only, span_only, dot_coefficients, listed_from, listed_positive, number_listed, coefficient_positive}
 use Rattle.tableau.specs.declared.sum.Part.{Part}
@@ -19,7 +19,7 @@ use Rattle.tableau.proofs.Coefficients.{Below}
 use Rattle.tableau.proofs.Places.{row_some}
 use Rattle.tableau.proofs.PivotedRows.{below_all}
 use Rattle.tableau.proofs.Shape.{From, from_zero, nonzero_positive}
-use Rattle.grid_meaning.specs.Lines.{IsPositive}
+use Rattle.fraction128.specs.Lines.{IsPositive}
 
 -- the sum of the parts' coefficients times the values of their variables
 abbrev pub parts_dot : (ℕ → Rational) → List Part → Rational

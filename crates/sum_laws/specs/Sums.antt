@@ -1,12 +1,12 @@
 -- Columns that stand for sums of terms: the solutions of the rows are the valuations that give each its sum's value.
 use Rattle.std.specs.Prelude.{◌≡◌, ℕ, ◌<◌, List, [], ◌∷◌, ◌++◌, length}
-use Rattle.number_meaning.specs.declared.ratio.Ratio.{Ratio}
-use Rattle.number_meaning.specs.Number.{SameNumber}
-use Rattle.grid_meaning.specs.declared.Summand.{Summand}
-use Rattle.grid_meaning.specs.declared.TableRow.{TableRow}
-use Rattle.grid_meaning.specs.declared.Column.{Column}
-use Rattle.grid_meaning.specs.Grid.{MeetsRows, leaf}
-use Rattle.grid_meaning.specs.Lines.{sum_value, IsPositive}
+use Rattle.fraction128.specs.declared.ratio.Ratio.{Ratio}
+use Rattle.fraction128.specs.Number.{SameNumber}
+use Rattle.fraction128.specs.declared.Summand.{Summand}
+use Rattle.fraction128.specs.declared.TableRow.{TableRow}
+use Rattle.fraction128.specs.declared.Column.{Column}
+use Rattle.fraction128.specs.Grid.{MeetsRows, leaf}
+use Rattle.fraction128.specs.Lines.{sum_value, IsPositive}
 use Rattle.tableau.specs.declared.sum.Part.{Part}
 use Rattle.tableau.specs.Table.{Table, IsTable}
 use Rattle.tableau.specs.Written.{AreParts, parts_row}

@@ -6,16 +6,16 @@ use Rattle.std.proofs.Math.Nat.{div-one, div_self, zero-div, mul-one, one-mul}
 use Rattle.std.proofs.Math.IntN.{*ℤ_comm}
 use Rattle.std.proofs.lemmas.Int.{ints}
 use Rattle.std.proofs.lemmas.Nat.Gcd.{IsGcd-from_zero, IsGcd-swap}
-use Rattle.number_meaning.specs.declared.ratio.Ratio.{Ratio}
-use Rattle.number_meaning.specs.Whole.{InRange, is_in_range, value_of, first_outside}
-use Rattle.number_meaning.specs.declared.range.Range.{Range}
-use Rattle.number_meaning.specs.Ratio.{IsFraction}
-use Rattle.number_meaning.specs.Gcd.{gcd_of}
-use Rattle.number_meaning.specs.Listed.{sum_of, sum_over, sum_steps, reduced_by, product_of, product_steps, fused, negation_of, times, plus}
-use Rattle.number_meaning.specs.Number.{whole}
-use Rattle.number_meaning.proofs.Divisors.{gcd-Apart, gcd_is}
-use Rattle.number_meaning.proofs.LowestTerms.{product-is, sum-is}
-use Rattle.grid_meaning.specs.Grid.{fit, fused_fits}
+use Rattle.fraction128.specs.declared.ratio.Ratio.{Ratio}
+use Rattle.fraction128.specs.Whole.{InRange, is_in_range, value_of, first_outside}
+use Rattle.fraction128.specs.declared.range.Range.{Range}
+use Rattle.fraction128.specs.Ratio.{IsFraction}
+use Rattle.fraction128.specs.Gcd.{gcd_of}
+use Rattle.fraction128.specs.Listed.{sum_of, sum_over, sum_steps, reduced_by, product_of, product_steps, fused, negation_of, times, plus}
+use Rattle.fraction128.specs.Number.{whole}
+use Rattle.fraction128.proofs.Divisors.{gcd-Apart, gcd_is}
+use Rattle.fraction128.proofs.LowestTerms.{product-is, sum-is}
+use Rattle.fraction128.specs.Grid.{fit, fused_fits}
 
 quot_one : (z : ℤ) → int_div z (pos 1) ≡ z
 quot_one (pos a) = ap pos (div-one a)

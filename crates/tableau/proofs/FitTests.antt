@@ -3,13 +3,13 @@ use Rattle.std.proofs.Common.{◌≡◌, ◌≢◌, ℕ, zero, suc, ◌+◌, ◌
 use Rattle.std.proofs.lemmas.Bool.Decides.{nat_tests}
 use Rattle.std.proofs.lemmas.Result.{on_ok_weaker}
 use Rattle.std.proofs.lemmas.List.{get_or-map}
-use Rattle.number_meaning.specs.declared.ratio.Ratio.{Ratio}
-use Rattle.number_meaning.specs.Ratio.{IsFraction}
-use Rattle.number_meaning.specs.Listed.{product_steps, negation_of, reciprocal_of}
-use Rattle.number_meaning.specs.Number.{whole}
-use Rattle.grid_meaning.specs.declared.Entry.{Entry}
-use Rattle.grid_meaning.specs.declared.TableRow.{TableRow}
-use Rattle.grid_meaning.specs.Grid.{coefficient, row_of, entries_of, factor, form_entry, scaled_entry, fit, fused_fits, every, every_row, pivot_fits}
+use Rattle.fraction128.specs.declared.ratio.Ratio.{Ratio}
+use Rattle.fraction128.specs.Ratio.{IsFraction}
+use Rattle.fraction128.specs.Listed.{product_steps, negation_of, reciprocal_of}
+use Rattle.fraction128.specs.Number.{whole}
+use Rattle.fraction128.specs.declared.Entry.{Entry}
+use Rattle.fraction128.specs.declared.TableRow.{TableRow}
+use Rattle.fraction128.specs.Grid.{coefficient, row_of, entries_of, factor, form_entry, scaled_entry, fit, fused_fits, every, every_row, pivot_fits}
 use Rattle.tableau.specs.declared.rows.Row.{Row}
 use Rattle.tableau.specs.Fitting.{scaled_fits, multiplied_fits, onto_fits, merged_fits}
 use Rattle.tableau.specs.Rows.{IsAscending, scaled, zero_form, variable_at, coefficient_at}

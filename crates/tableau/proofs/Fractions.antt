@@ -1,11 +1,11 @@
 -- Rows stay lists of fractions in lowest terms where the numbers stay in the range.
 use Rattle.std.proofs.Common.{◌≡◌, ℕ, zero, suc, ◌<◌, arith, List, [], ◌∷◌, length, Bool, true, false, cond, nat_lt, eqb, ◌&&◌}
-use Rattle.number_meaning.specs.declared.ratio.Ratio.{Ratio}
-use Rattle.number_meaning.specs.Ratio.{IsFraction}
-use Rattle.number_meaning.specs.Listed.{product_of, product_steps, fused}
-use Rattle.number_meaning.specs.Number.{is_zero}
-use Rattle.grid_meaning.specs.declared.Entry.{Entry}
-use Rattle.grid_meaning.specs.Grid.{coefficient, fit, fused_fits}
+use Rattle.fraction128.specs.declared.ratio.Ratio.{Ratio}
+use Rattle.fraction128.specs.Ratio.{IsFraction}
+use Rattle.fraction128.specs.Listed.{product_of, product_steps, fused}
+use Rattle.fraction128.specs.Number.{is_zero}
+use Rattle.fraction128.specs.declared.Entry.{Entry}
+use Rattle.fraction128.specs.Grid.{coefficient, fit, fused_fits}
 use Rattle.tableau.specs.Fitting.{scaled_fits, multiplied_fits, onto_fits, merged_fits}
 use Rattle.tableau.specs.Rows.{entry, scaled, multiplied, merged, merged_onto, unless_none, zero_form, coefficient_at}
 use Rattle.tableau.specs.Table.{AreFractions}

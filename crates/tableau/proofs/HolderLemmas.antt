@@ -2,7 +2,7 @@
 use Rattle.std.proofs.Common.{◌≡◌, ◌≢◌, ℕ, ◌<◌, ◌≤◌, ◌⊎◌, inl, inr, true, sym, ap, ◌∙◌, subst, arith, List, [], ◌∷◌, ◌++◌, length, length-append, get_or, map, take, drop, Contains, Vec}
 use Rattle.std.proofs.lemmas.Bool.{cases_eq, cases_lt}
 use Rattle.std.proofs.lemmas.List.{get_or_append_left, get_or_push, get_or-map, length-map}
-use Rattle.grid_meaning.specs.declared.TableRow.{TableRow}
+use Rattle.fraction128.specs.declared.TableRow.{TableRow}
 use Rattle.tableau.specs.declared.rows.Row.{Row}
 use Rattle.tableau.specs.declared.holders.Change.{Change}
 use Rattle.tableau.specs.Rows.{variable_at, IsAscending}

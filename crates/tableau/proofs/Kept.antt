@@ -2,18 +2,18 @@
 use Rattle.std.proofs.Common.{◌≡◌, ◌≢◌, ℕ, zero, suc, ◌+◌, ◌*◌, ◌<◌, ◌≤◌, ◌⊎◌, inl, inr, ℤ, ◌*ℤ◌, pos, neg_ℤ, sym, ap, ap₂, ◌∙◌, subst, refl, arith, List, [], ◌∷◌, ◌++◌, length, take, drop, get_or, Bool, true, false, cond, nat_lt, eqb, eqb-true, eq-eqb}
 use Rattle.std.proofs.lemmas.Int.{ints}
 use Rattle.std.proofs.lemmas.Bool.{cases_lt}
-use Rattle.number_meaning.specs.declared.ratio.Ratio.{Ratio}
-use Rattle.number_meaning.specs.Ratio.{IsReciprocal}
-use Rattle.number_meaning.specs.Listed.{product_of, negation_of}
-use Rattle.number_meaning.proofs.LowestTerms.{pos_times}
-use Rattle.grid_meaning.specs.declared.Entry.{Entry}
-use Rattle.number_meaning.specs.Number.{whole, is_zero, unreduced_product}
-use Rattle.number_meaning.specs.Listed.{fused}
-use Rattle.number_meaning.proofs.RingEquations.{var, sum, product, minus, nothing, unit, solve}
-use Rattle.number_meaning.proofs.WholeNumbers.{wholes}
-use Rattle.number_meaning.proofs.RationalRing.{Rational, number, number_eq, number_neg, number_times, rational_sum, rational_product, rational_negation, rational_zero, rational_one, rational_one-is, rationals}
-use Rattle.number_meaning.proofs.ExactSteps.{number_product}
-use Rattle.grid_meaning.proofs.RowValue.{dot}
+use Rattle.fraction128.specs.declared.ratio.Ratio.{Ratio}
+use Rattle.fraction128.specs.Ratio.{IsReciprocal}
+use Rattle.fraction128.specs.Listed.{product_of, negation_of}
+use Rattle.fraction128.proofs.LowestTerms.{pos_times}
+use Rattle.fraction128.specs.declared.Entry.{Entry}
+use Rattle.fraction128.specs.Number.{whole, is_zero, unreduced_product}
+use Rattle.fraction128.specs.Listed.{fused}
+use Rattle.fraction128.proofs.RingEquations.{var, sum, product, minus, nothing, unit, solve}
+use Rattle.fraction128.proofs.WholeNumbers.{wholes}
+use Rattle.fraction128.proofs.RationalRing.{Rational, number, number_eq, number_neg, number_times, rational_sum, rational_product, rational_negation, rational_zero, rational_one, rational_one-is, rationals}
+use Rattle.fraction128.proofs.ExactSteps.{number_product}
+use Rattle.fraction128.proofs.RowValue.{dot}
 use Rattle.tableau.specs.declared.rows.Row.{Row}
 use Rattle.tableau.specs.Rows.{entry, scaled, multiplied, merged, merged_onto, unless_none, zero_form, without, variable_at, coefficient_at, IsAscending}
 use Rattle.tableau.specs.Staged.{IsForm, IsPivoted, IsChanged, Lacks}

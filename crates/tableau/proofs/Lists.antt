@@ -6,8 +6,8 @@ use Rattle.std.proofs.lemmas.List.Elements.{Contains-append_left, Contains-push,
 use Rattle.std.specs.List.Sorted.{IsPermutation}
 use Rattle.std.specs.List.{swap_remove as holes}
 use Rattle.std.proofs.lemmas.List.Sorted.{IsPermutation-swap_remove, Contains-permutation}
-use Rattle.number_meaning.specs.Number.{whole}
-use Rattle.grid_meaning.specs.declared.Entry.{Entry}
+use Rattle.fraction128.specs.Number.{whole}
+use Rattle.fraction128.specs.declared.Entry.{Entry}
 use Rattle.tableau.specs.declared.holders.Change.{Change}
 use Rattle.tableau.specs.Rows.{entry, variable_at}
 use Rattle.tableau.specs.Staged.{HasVariable}

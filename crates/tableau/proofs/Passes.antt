@@ -2,7 +2,7 @@
 use Rattle.std.proofs.Common.{◌≡◌, ◌≢◌, ℕ, ◌+◌, ◌<◌, ◌⊎◌, inl, inr, true, false, List, length, take, get_or, set, get_or-set_other, get_or-set_same, Contains, sym, ap, ◌∙◌, subst, arith}
 use Rattle.std.proofs.lemmas.Bool.{cases_eq}
 use Rattle.std.proofs.lemmas.List.{get_or_default, length-set}
-use Rattle.grid_meaning.specs.declared.Entry.{Entry}
+use Rattle.fraction128.specs.declared.Entry.{Entry}
 use Rattle.tableau.specs.declared.rows.Row.{Row}
 use Rattle.tableau.specs.Staged.{IsSameRow, IsTried, IsCommitted, IsRowRefused, IsOtherRefused}
 use Rattle.tableau.proofs.Lists.{in_list, one_more, taken_here, taken_before}

@@ -2,10 +2,10 @@
 use Rattle.std.proofs.Common.{◌≡◌, ◌≢◌, ℕ, zero, suc, ◌+◌, ◌-◌, ◌<◌, ◌≤◌, ◌⊎◌, inl, inr, pos, negsuc, sym, ap, ap₂, ◌∙◌, subst, refl, arith, List, [], ◌∷◌, length, take, drop, get_or, Bool, true, false, cond, nat_lt, length-append, Contains}
 use Rattle.std.proofs.lemmas.Bool.Decides.{nat_tests}
 use Rattle.std.proofs.lemmas.List.{get_or-take, get_or_append_left, get_or-append-add, length-take-le, length-drop, get_or-drop, get_or_default}
-use Rattle.number_meaning.specs.declared.ratio.Ratio.{Ratio}
-use Rattle.number_meaning.specs.Listed.{product_of, negation_of}
-use Rattle.grid_meaning.specs.declared.Entry.{Entry}
-use Rattle.number_meaning.specs.Number.{whole}
+use Rattle.fraction128.specs.declared.ratio.Ratio.{Ratio}
+use Rattle.fraction128.specs.Listed.{product_of, negation_of}
+use Rattle.fraction128.specs.declared.Entry.{Entry}
+use Rattle.fraction128.specs.Number.{whole}
 use Rattle.tableau.specs.declared.rows.Row.{Row}
 use Rattle.tableau.specs.Rows.{entry, scaled, zero_form, without, coefficient_at, entry_at}
 use Rattle.tableau.specs.Staged.{IsSameRow, IsTried, IsTriedPivot, IsCommitted, IsChanged, IsReplaced, Lacks, IsForm, IsPivoted, IsFitting, RowFits, IsFormRefused, IsOtherRefused, IsRefused, HasVariable}

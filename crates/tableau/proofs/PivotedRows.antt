@@ -3,12 +3,12 @@ use Rattle.std.proofs.Common.{◌≡◌, ◌≢◌, ℕ, zero, suc, ◌+◌, ◌
 use Rattle.std.proofs.lemmas.Bool.Decides.{nat_tests}
 use Rattle.std.proofs.lemmas.Result.{on_ok_weaker}
 use Rattle.std.proofs.lemmas.List.{get_or-map, length-map}
-use Rattle.number_meaning.specs.Listed.{product_of, fused, negation_of, reciprocal_of}
-use Rattle.number_meaning.specs.Number.{whole}
-use Rattle.grid_meaning.specs.declared.Entry.{Entry}
-use Rattle.grid_meaning.specs.declared.TableRow.{TableRow}
-use Rattle.grid_meaning.specs.Grid.{coefficient, row_of, entries_of, entries_from, factor, scaled_entry, pivoted_entry, pivoted_rows}
-use Rattle.grid_meaning.proofs.RowValue.{ArePositive}
+use Rattle.fraction128.specs.Listed.{product_of, fused, negation_of, reciprocal_of}
+use Rattle.fraction128.specs.Number.{whole}
+use Rattle.fraction128.specs.declared.Entry.{Entry}
+use Rattle.fraction128.specs.declared.TableRow.{TableRow}
+use Rattle.fraction128.specs.Grid.{coefficient, row_of, entries_of, entries_from, factor, scaled_entry, pivoted_entry, pivoted_rows}
+use Rattle.fraction128.proofs.RowValue.{ArePositive}
 use Rattle.tableau.specs.declared.rows.Row.{Row}
 use Rattle.tableau.specs.Rows.{IsAscending, zero_form, without, coefficient_at}
 use Rattle.tableau.specs.Staged.{Lacks, IsForm, IsPivoted, IsChanged, IsReplaced}

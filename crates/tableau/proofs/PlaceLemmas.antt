@@ -3,8 +3,8 @@ use Rattle.std.proofs.Common.{◌≡◌, ◌≢◌, ℕ, ◌+◌, ◌<◌, ◌�
 use Rattle.std.proofs.Math.ListN.{length-set}
 use Rattle.std.proofs.lemmas.List.{get_or_append_left, get_or_push, get_or-map, length-map, get_or_past, get_or_default}
 use Rattle.std.proofs.lemmas.Bool.{cases_lt}
-use Rattle.grid_meaning.specs.declared.TableRow.{TableRow}
-use Rattle.grid_meaning.specs.Grid.{row_of}
+use Rattle.fraction128.specs.declared.TableRow.{TableRow}
+use Rattle.fraction128.specs.Grid.{row_of}
 use Rattle.tableau.specs.declared.rows.Row.{Row}
 use Rattle.tableau.specs.Staged.{IsPivoted, IsSameRow, HasEntry}
 use Rattle.tableau.specs.Table.{IsTableau, plain, row_at, no_row}

@@ -1,7 +1,7 @@
 -- The row of a variable.
 use Rattle.std.proofs.Common.{◌≡◌, ◌≢◌, ℕ, zero, suc, ◌<◌, sym, ap, ◌∙◌, refl, arith, List, [], ◌∷◌, length, Bool, true, false, cond, eqb, eqb-true, eq-eqb, Some, None}
-use Rattle.grid_meaning.specs.declared.TableRow.{TableRow}
-use Rattle.grid_meaning.specs.Grid.{row_of}
+use Rattle.fraction128.specs.declared.TableRow.{TableRow}
+use Rattle.fraction128.specs.Grid.{row_of}
 use Rattle.tableau.specs.Table.{row_at}
 
 pub row_first : (rs : List TableRow) (k b : ℕ) → k < length rs → (row_at rs k).basic ≡ b → ((i : ℕ) → i < k → (row_at rs i).basic ≢ b) → row_of rs b ≡ Some (row_at rs k)

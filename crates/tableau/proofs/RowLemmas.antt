@@ -1,14 +1,14 @@
 -- Steps of the loops over rows.
 use Rattle.std.proofs.Common.{Result, Ok, Err, IfErr, IsErrAnd, Bool, true, false, ◌&&◌, Some, None, ap₂, negsuc, ◌≤◌, ◌-◌, ◌⊎◌, inl, inr, ◌≡◌, ℕ, suc, ◌+◌, ◌<◌, List, [], ◌∷◌, ◌++◌, length, get_or, take, drop, refl, sym, ap, ◌∙◌, append_assoc, add-one, arith, drop-cons}
 use Rattle.std.proofs.lemmas.List.{append-nil, drop_all, take_all, length-drop}
-use Rattle.number_meaning.specs.declared.ratio.Ratio.{Ratio}
-use Rattle.number_meaning.specs.Listed.{product_of, product_steps}
-use Rattle.grid_meaning.specs.declared.Entry.{Entry}
-use Rattle.number_meaning.specs.Number.{whole}
-use Rattle.number_meaning.specs.Whole.{first_outside}
-use Rattle.number_meaning.specs.declared.range.Range.{Range}
+use Rattle.fraction128.specs.declared.ratio.Ratio.{Ratio}
+use Rattle.fraction128.specs.Listed.{product_of, product_steps}
+use Rattle.fraction128.specs.declared.Entry.{Entry}
+use Rattle.fraction128.specs.Number.{whole}
+use Rattle.fraction128.specs.Whole.{first_outside}
+use Rattle.fraction128.specs.declared.range.Range.{Range}
 use Rattle.tableau.proofs.Absent.{fit_by_none, fit_false}
-use Rattle.grid_meaning.specs.Grid.{fit}
+use Rattle.fraction128.specs.Grid.{fit}
 use Rattle.tableau.specs.Fitting.{scaled_fits, multiplied_fits, merged_fits}
 use Rattle.tableau.specs.Rows.{entry, zero_form, scaled, multiplied, merged}
 

@@ -2,19 +2,19 @@
 use Rattle.std.proofs.Common.{◌≡◌, ◌≢◌, ℕ, zero, suc, ◌+◌, ◌<◌, ◌≤◌, ℤ, ◌*ℤ◌, pos, negsuc, sym, ap, ap₂, ◌∙◌, refl, arith, List, [], ◌∷◌, length, get_or, Bool, true, false, cond, nat_lt, eqb, eqb-true, eq-eqb, unsigned_abs}
 use Rattle.std.proofs.lemmas.Bool.Decides.{nat_tests}
 use Rattle.std.proofs.lemmas.List.{get_or_default}
-use Rattle.number_meaning.specs.declared.ratio.Ratio.{Ratio}
-use Rattle.number_meaning.specs.Listed.{product_of}
-use Rattle.grid_meaning.specs.declared.Entry.{Entry}
-use Rattle.number_meaning.specs.Number.{whole, is_zero}
-use Rattle.number_meaning.specs.Listed.{fused}
-use Rattle.grid_meaning.specs.Grid.{coefficient}
-use Rattle.number_meaning.specs.Listed.{reciprocal_of}
-use Rattle.number_meaning.proofs.RingEquations.{var, sum, product, nothing, unit, solve, mul_none}
-use Rattle.number_meaning.proofs.WholeNumbers.{wholes}
-use Rattle.number_meaning.proofs.RationalRing.{Rational, number, number_back, rational_sum, rational_product, rational_zero, rational_zero-is, rational_one, rationals}
-use Rattle.number_meaning.proofs.ExactSteps.{product_positive, number_product, fused_positive, number_reciprocal, none_number}
-use Rattle.grid_meaning.proofs.RowValue.{ArePositive, dot}
-use Rattle.number_meaning.specs.Ratio.{IsFraction}
+use Rattle.fraction128.specs.declared.ratio.Ratio.{Ratio}
+use Rattle.fraction128.specs.Listed.{product_of}
+use Rattle.fraction128.specs.declared.Entry.{Entry}
+use Rattle.fraction128.specs.Number.{whole, is_zero}
+use Rattle.fraction128.specs.Listed.{fused}
+use Rattle.fraction128.specs.Grid.{coefficient}
+use Rattle.fraction128.specs.Listed.{reciprocal_of}
+use Rattle.fraction128.proofs.RingEquations.{var, sum, product, nothing, unit, solve, mul_none}
+use Rattle.fraction128.proofs.WholeNumbers.{wholes}
+use Rattle.fraction128.proofs.RationalRing.{Rational, number, number_back, rational_sum, rational_product, rational_zero, rational_zero-is, rational_one, rationals}
+use Rattle.fraction128.proofs.ExactSteps.{product_positive, number_product, fused_positive, number_reciprocal, none_number}
+use Rattle.fraction128.proofs.RowValue.{ArePositive, dot}
+use Rattle.fraction128.specs.Ratio.{IsFraction}
 use Rattle.tableau.specs.Staged.{HasEntry}
 use Rattle.tableau.specs.Table.{IsNonzero, AreNonzero, Table, IsOpenRow, row_at}
 use Rattle.tableau.specs.Rows.{entry, scaled, multiplied, merged, merged_onto, unless_none, variable_at, coefficient_at, IsAscending}

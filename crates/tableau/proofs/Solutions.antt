@@ -2,15 +2,15 @@
 use Rattle.std.proofs.Common.{◌≡◌, ℕ, zero, suc, ◌+◌, ◌<◌, pos, negsuc, sym, ap, ap₂, ◌∙◌, refl, arith, List, [], ◌∷◌, ◌++◌, length, take, drop, Bool, true, false, cond, nat_lt, drop-cons, add-one}
 use Rattle.std.proofs.lemmas.Bool.Decides.{nat_tests}
 use Rattle.std.proofs.lemmas.List.{take-append-drop}
-use Rattle.number_meaning.specs.declared.ratio.Ratio.{Ratio}
-use Rattle.number_meaning.specs.Listed.{product_of}
-use Rattle.grid_meaning.specs.declared.Entry.{Entry}
-use Rattle.number_meaning.specs.Number.{whole, is_zero}
-use Rattle.number_meaning.specs.Listed.{fused}
-use Rattle.number_meaning.proofs.RingEquations.{var, sum, product, minus, nothing, unit, solve, mul_none}
-use Rattle.number_meaning.proofs.RationalRing.{Rational, number, rational_sum, rational_product, rational_negation, rational_zero, rational_one, rational_one-is, number_neg, rationals}
-use Rattle.number_meaning.proofs.ExactSteps.{product_positive, number_product, fused_positive, number_fused, none_number}
-use Rattle.grid_meaning.proofs.RowValue.{ArePositive, positive_append, dot, dot_append}
+use Rattle.fraction128.specs.declared.ratio.Ratio.{Ratio}
+use Rattle.fraction128.specs.Listed.{product_of}
+use Rattle.fraction128.specs.declared.Entry.{Entry}
+use Rattle.fraction128.specs.Number.{whole, is_zero}
+use Rattle.fraction128.specs.Listed.{fused}
+use Rattle.fraction128.proofs.RingEquations.{var, sum, product, minus, nothing, unit, solve, mul_none}
+use Rattle.fraction128.proofs.RationalRing.{Rational, number, rational_sum, rational_product, rational_negation, rational_zero, rational_one, rational_one-is, number_neg, rationals}
+use Rattle.fraction128.proofs.ExactSteps.{product_positive, number_product, fused_positive, number_fused, none_number}
+use Rattle.fraction128.proofs.RowValue.{ArePositive, positive_append, dot, dot_append}
 use Rattle.tableau.specs.Rows.{entry, scaled, multiplied, merged, merged_onto, unless_none, zero_form, without, variable_at, coefficient_at, entry_at}
 
 -- ---- multiples

@@ -4,12 +4,12 @@ use Rattle.std.proofs.lemmas.List.{get_or_append_left, get_or_push, get_or-map, 
 use Rattle.std.proofs.lemmas.List.Elements.{All-map}
 use Rattle.std.proofs.lemmas.Bool.{cases_lt}
 use Rattle.std.proofs.lemmas.Result.{on_ok_weaker, on_err_weaker}
-use Rattle.number_meaning.specs.declared.ratio.Ratio.{Ratio}
-use Rattle.grid_meaning.specs.declared.TableRow.{TableRow}
-use Rattle.grid_meaning.specs.declared.Entry.{Entry}
-use Rattle.grid_meaning.specs.Grid.{MeetsRow, MeetsRows}
-use Rattle.number_meaning.proofs.RationalRing.{number}
-use Rattle.grid_meaning.proofs.RowValue.{dot, meets_to, meets_from}
+use Rattle.fraction128.specs.declared.ratio.Ratio.{Ratio}
+use Rattle.fraction128.specs.declared.TableRow.{TableRow}
+use Rattle.fraction128.specs.declared.Entry.{Entry}
+use Rattle.fraction128.specs.Grid.{MeetsRow, MeetsRows}
+use Rattle.fraction128.proofs.RationalRing.{number}
+use Rattle.fraction128.proofs.RowValue.{dot, meets_to, meets_from}
 use Rattle.tableau.specs.declared.rows.Row.{Row}
 use Rattle.tableau.specs.Rows.{IsAscending}
 use Rattle.tableau.specs.Staged.{IsPivoted, IsSameRow, Lacks}

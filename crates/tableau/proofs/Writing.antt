@@ -2,15 +2,15 @@
 use Rattle.std.proofs.Common.{◌≡◌, ℕ, ℤ, zero, suc, ◌+◌, ◌<◌, ◌≤◌, ◌⊎◌, inl, inr, pos, negsuc, sym, ap, ap₂, ◌∙◌, subst, refl, arith, List, [], ◌∷◌, length, drop, drop-cons, add-one, Bool, true, false, cond, eqb, eqb-true, eq-eqb, ◌&&◌, Option, Some, None, unsigned_abs}
 use Rattle.std.proofs.lemmas.List.{drop_all}
 use Rattle.std.proofs.lemmas.Bool.{cases_lt}
-use Rattle.number_meaning.specs.declared.ratio.Ratio.{Ratio}
-use Rattle.number_meaning.specs.Ratio.{IsFraction}
-use Rattle.number_meaning.specs.Whole.{InRange}
-use Rattle.number_meaning.specs.Gcd.{gcd_of}
-use Rattle.number_meaning.specs.Listed.{fused}
-use Rattle.number_meaning.specs.Number.{whole, is_zero}
-use Rattle.grid_meaning.specs.declared.Entry.{Entry}
-use Rattle.grid_meaning.specs.declared.TableRow.{TableRow}
-use Rattle.grid_meaning.specs.Grid.{coefficient, row_of, entries_of, is_some, written_variable, no_coefficients, every, fused_fits}
+use Rattle.fraction128.specs.declared.ratio.Ratio.{Ratio}
+use Rattle.fraction128.specs.Ratio.{IsFraction}
+use Rattle.fraction128.specs.Whole.{InRange}
+use Rattle.fraction128.specs.Gcd.{gcd_of}
+use Rattle.fraction128.specs.Listed.{fused}
+use Rattle.fraction128.specs.Number.{whole, is_zero}
+use Rattle.fraction128.specs.declared.Entry.{Entry}
+use Rattle.fraction128.specs.declared.TableRow.{TableRow}
+use Rattle.fraction128.specs.Grid.{coefficient, row_of, entries_of, is_some, written_variable, no_coefficients, every, fused_fits}
 use Rattle.tableau.specs.declared.sum.Part.{Part}
 use Rattle.tableau.specs.Rows.{merged}
 use Rattle.tableau.specs.Fitting.{merged_fits}

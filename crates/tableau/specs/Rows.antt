@@ -2,11 +2,11 @@
 use Rattle.std.specs.Prelude.{◌+◌, negsuc, slice_index_or, length, ◌≡◌, ℕ, ◌<◌, nat_lt, List, [], ◌∷◌, ◌++◌, pos, if◌then◌else◌, take, drop}
 use Rattle.std.specs.declared.cmp.Ordering.{Ordering}
 use Rattle.std.specs.declared.cmp.Ordering.TheVariants.{Less, Equal, Greater}
-use Rattle.number_meaning.specs.declared.ratio.Ratio.{Ratio}
-use Rattle.number_meaning.specs.Listed.{product_of}
-use Rattle.grid_meaning.specs.declared.Entry.{Entry}
-use Rattle.number_meaning.specs.Number.{whole, is_zero}
-use Rattle.number_meaning.specs.Listed.{fused}
+use Rattle.fraction128.specs.declared.ratio.Ratio.{Ratio}
+use Rattle.fraction128.specs.Listed.{product_of}
+use Rattle.fraction128.specs.declared.Entry.{Entry}
+use Rattle.fraction128.specs.Number.{whole, is_zero}
+use Rattle.fraction128.specs.Listed.{fused}
 
 abbrev pub entry : ℕ → Ratio → Entry
 entry i x = record { variable = i; coefficient = x }

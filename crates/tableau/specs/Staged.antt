@@ -1,9 +1,9 @@
 -- What a pivot that is being tried makes of a row.
 use Rattle.std.specs.Prelude.{slice_index_or, Contains, ◌≤◌, ◌+◌, pos, nat_lt, if◌then◌else◌, ◌≡◌, ◌≢◌, ℕ, ◌<◌, ◌⊎◌, true, false, List, length}
-use Rattle.number_meaning.specs.declared.ratio.Ratio.{Ratio}
-use Rattle.number_meaning.specs.Ratio.{IsReciprocal, IsFraction}
-use Rattle.number_meaning.specs.Listed.{negation_of, reciprocal_of}
-use Rattle.grid_meaning.specs.declared.Entry.{Entry}
+use Rattle.fraction128.specs.declared.ratio.Ratio.{Ratio}
+use Rattle.fraction128.specs.Ratio.{IsReciprocal, IsFraction}
+use Rattle.fraction128.specs.Listed.{negation_of, reciprocal_of}
+use Rattle.fraction128.specs.declared.Entry.{Entry}
 use Rattle.tableau.specs.declared.rows.Row.{Row}
 use Rattle.tableau.specs.Fitting.{scaled_fits, merged_fits}
 use Rattle.tableau.specs.Rows.{variable_at, coefficient_at, merged, without, scaled, zero_form}

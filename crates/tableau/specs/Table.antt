@@ -1,9 +1,9 @@
 -- What holds of the rows of a tableau.
 use Rattle.std.specs.Prelude.{◌≡◌, ◌≢◌, ℕ, ◌<◌, ◌≤◌, pos, List, [], ◌∷◌, length, slice_index_or}
-use Rattle.number_meaning.specs.declared.ratio.Ratio.{Ratio}
-use Rattle.number_meaning.specs.Ratio.{IsFraction}
-use Rattle.grid_meaning.specs.declared.Entry.{Entry}
-use Rattle.grid_meaning.specs.declared.TableRow.{TableRow}
+use Rattle.fraction128.specs.declared.ratio.Ratio.{Ratio}
+use Rattle.fraction128.specs.Ratio.{IsFraction}
+use Rattle.fraction128.specs.declared.Entry.{Entry}
+use Rattle.fraction128.specs.declared.TableRow.{TableRow}
 use Rattle.tableau.specs.declared.rows.Row.{Row}
 use Rattle.tableau.specs.Rows.{IsAscending}
 use Rattle.tableau.specs.Staged.{Lacks}

@@ -1,12 +1,12 @@
 -- Sums of variables, written by variables that aren't basic.
 use Rattle.std.specs.Prelude.{◌≡◌, ◌≢◌, ℕ, ◌<◌, pos, Bool, true, List, [], ◌∷◌, length, slice_index_or, ◌&&◌, Option, Some, None}
-use Rattle.number_meaning.specs.declared.ratio.Ratio.{Ratio}
-use Rattle.number_meaning.specs.Listed.{fused}
-use Rattle.number_meaning.specs.Number.{whole}
-use Rattle.number_meaning.specs.Whole.{InRange}
-use Rattle.grid_meaning.specs.declared.Entry.{Entry}
-use Rattle.grid_meaning.specs.declared.TableRow.{TableRow}
-use Rattle.grid_meaning.specs.Grid.{every, fused_fits, written_variable, entries_from, no_coefficients}
+use Rattle.fraction128.specs.declared.ratio.Ratio.{Ratio}
+use Rattle.fraction128.specs.Listed.{fused}
+use Rattle.fraction128.specs.Number.{whole}
+use Rattle.fraction128.specs.Whole.{InRange}
+use Rattle.fraction128.specs.declared.Entry.{Entry}
+use Rattle.fraction128.specs.declared.TableRow.{TableRow}
+use Rattle.fraction128.specs.Grid.{every, fused_fits, written_variable, entries_from, no_coefficients}
 use Rattle.tableau.specs.declared.sum.Part.{Part}
 use Rattle.tableau.specs.Rows.{entry}
 use Rattle.tableau.specs.Table.{Table, IsOpenRow}

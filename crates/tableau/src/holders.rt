@@ -10,7 +10,7 @@ ghost use Rattle.tableau.specs.Holders.{items_at, IsNoted, KeepsListed};
 use crate::failure::Failure;
 use crate::rows::Row;
 use crate::search::place_of;
-use grid_meaning::Entry;
+use fraction128::Entry;
 
 /// That a pivot gives a row a variable, or takes it from the row.
 #[derive(Clone, Copy, Drop)]

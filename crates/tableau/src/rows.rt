@@ -5,9 +5,9 @@ ghost use Rattle.tableau.specs.Fitting.{scaled_fits};
 ghost use Rattle.tableau.specs.Rows.{IsAscending, variable_at, coefficient_at, scaled, merged, zero_form, without};
 ghost use Rattle.tableau.specs.Staged.{IsStaged, IsTried, IsCommitted, IsSameRow, HasEntry, IsForm, IsPivoted, IsFormRefused, IsRowRefused, IsOtherRefused, IsRefused, IsFitting, IsTriedPivot, HasVariable};
 ghost use Rattle.tableau.specs.Holders.{items_at, IsIndexed};
-ghost use Rattle.number_meaning.specs.Number.{whole};
-ghost use Rattle.number_meaning.specs.Ratio.{IsFraction};
-ghost use Rattle.grid_meaning.specs.Grid.{coefficient};
+ghost use Rattle.fraction128.specs.Number.{whole};
+ghost use Rattle.fraction128.specs.Ratio.{IsFraction};
+ghost use Rattle.fraction128.specs.Grid.{coefficient};
 ghost use Rattle.tableau.specs.declared.rows.Row.{Row};
 ghost use Rattle.tableau.specs.declared.failure.Failure.TheVariants.{Memory};
 
@@ -15,8 +15,7 @@ use crate::failure::Failure;
 use crate::holders::{Change, file, forget_lost, note_rows};
 use crate::merge::{append_merged, append_scaled};
 use crate::search::{place_among, place_of};
-use fraction128::Fraction;
-use grid_meaning::Entry;
+use fraction128::{Entry, Fraction};
 use std::mem;
 
 /// A row, and what the pivot that is being tried makes of it.

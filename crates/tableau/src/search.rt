@@ -2,11 +2,10 @@
 ghost use Rattle.std.specs.Prelude.{◌≡◌, ℕ, ◌<◌, ◌≤◌, ◌≢◌, true, false, length, IfSome, IfNone};
 ghost use Rattle.tableau.specs.Rows.{IsAscending, variable_at, coefficient_at};
 ghost use Rattle.tableau.specs.Table.{AreNonzero};
-ghost use Rattle.number_meaning.specs.Number.{whole, is_zero};
-ghost use Rattle.grid_meaning.specs.Grid.{coefficient};
+ghost use Rattle.fraction128.specs.Number.{whole, is_zero};
+ghost use Rattle.fraction128.specs.Grid.{coefficient};
 
-use fraction128::Fraction;
-use grid_meaning::Entry;
+use fraction128::{Entry, Fraction};
 
 /// The place of the entry of a variable.
 pub fn place_of(entries: &[Entry], variable: u32) -> Option<usize>

@@ -1,8 +1,8 @@
 //! Sums of variables, written by variables that aren't basic.
 ghost use Rattle.std.specs.Prelude.{◌≡◌, ◌≢◌, ℕ, ◌+◌, ◌-◌, ◌^◌, ◌<◌, ◌≤◌, pos, true, false, [], ◌∷◌, ◌++◌, length, OnOk, OnErr, IfOk, IfErr};
-ghost use Rattle.number_meaning.specs.Number.{whole};
-ghost use Rattle.number_meaning.specs.Whole.{InRange};
-ghost use Rattle.grid_meaning.specs.Grid.{row_of, no_coefficients};
+ghost use Rattle.fraction128.specs.Number.{whole};
+ghost use Rattle.fraction128.specs.Whole.{InRange};
+ghost use Rattle.fraction128.specs.Grid.{row_of, no_coefficients};
 ghost use Rattle.tableau.specs.Failing.{IsRange};
 ghost use Rattle.tableau.specs.Fitting.{merged_fits};
 ghost use Rattle.tableau.specs.Rows.{merged};
@@ -12,8 +12,7 @@ ghost use Rattle.tableau.specs.Written.{parts_written, parts_fit, parts_row, Are
 use crate::failure::Failure;
 use crate::merge::append_merged;
 use crate::table::Tableau;
-use fraction128::Fraction;
-use grid_meaning::Entry;
+use fraction128::{Entry, Fraction};
 use std::alloc::Global;
 use std::mem;
 

@@ -1,8 +1,8 @@
 //! The tableau.
 ghost use Rattle.std.specs.Prelude.{◌≡◌, ◌≢◌, ◌↔◌, ℕ, ◌+◌, ◌-◌, ◌^◌, ◌<◌, ◌≤◌, pos, true, false, [], ◌∷◌, ◌++◌, length, Contains, OnOk, OnErr, IfOk, IfErr, IfSome, IfNone, Some, None};
-ghost use Rattle.number_meaning.specs.declared.ratio.Ratio.{Ratio};
-ghost use Rattle.number_meaning.specs.Number.{is_zero};
-ghost use Rattle.grid_meaning.specs.Grid.{MeetsRows, coefficient, row_of, pivoted_rows, pivot_fits};
+ghost use Rattle.fraction128.specs.declared.ratio.Ratio.{Ratio};
+ghost use Rattle.fraction128.specs.Number.{is_zero};
+ghost use Rattle.fraction128.specs.Grid.{MeetsRows, coefficient, row_of, pivoted_rows, pivot_fits};
 ghost use Rattle.tableau.specs.Failing.{IsRange};
 ghost use Rattle.tableau.specs.declared.failure.Failure.TheVariants.{Memory};
 ghost use Rattle.tableau.specs.Rows.{IsAscending, variable_at, coefficient_at};
@@ -13,8 +13,7 @@ use crate::holders::{Change, index_row};
 use crate::row_places::{add_row, exchange, place_in};
 use crate::rows::{Row, check_fractions, pivot_rows, try_pivot_rows};
 use crate::search::coefficient_in;
-use fraction128::Fraction;
-use grid_meaning::Entry;
+use fraction128::{Entry, Fraction};
 use std::alloc::Global;
 use std::marker::Model;
 

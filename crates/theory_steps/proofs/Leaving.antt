@@ -5,14 +5,14 @@ use Rattle.std.proofs.lemmas.Bool.{cases_lt}
 use Rattle.std.proofs.lemmas.Int.{ints}
 use Rattle.std.proofs.lemmas.List.{append_assoc, drop_more, length_push, get_or_append_left, get_or_push, get_or_past}
 use Rattle.std.proofs.lemmas.List.Elements.{All-nil, All-cons, All-head, All-tail, All-append, All-weaker, All-contains}
-use Rattle.number_meaning.specs.Whole.{InRange, is_in_range}
-use Rattle.number_meaning.specs.Number.{whole}
+use Rattle.fraction128.specs.Whole.{InRange, is_in_range}
+use Rattle.fraction128.specs.Number.{whole}
 use Rattle.fraction128.specs.Dot.{dot_of}
-use Rattle.grid_meaning.specs.declared.Grid.{Grid}
-use Rattle.grid_meaning.specs.declared.Line.{Line}
-use Rattle.grid_meaning.specs.declared.Column.{Column}
-use Rattle.grid_meaning.specs.Grid.{WithinBounds, is_below, is_above}
-use Rattle.grid_meaning.specs.Lines.{IsSoundGrid}
+use Rattle.fraction128.specs.declared.Grid.{Grid}
+use Rattle.fraction128.specs.declared.Line.{Line}
+use Rattle.fraction128.specs.declared.Column.{Column}
+use Rattle.fraction128.specs.Grid.{WithinBounds, is_below, is_above}
+use Rattle.fraction128.specs.Lines.{IsSoundGrid}
 use Rattle.smt_meaning.specs.declared.terms.Operator.TheVariants.{Add, Subtract, Multiply}
 use Rattle.smt_meaning.specs.declared.terms.Head.{Head}
 use Rattle.smt_meaning.specs.declared.terms.Head.TheVariants.{Numeral, Theory, Symbol}

@@ -2,8 +2,8 @@
 use Rattle.std.proofs.Common.{ℕ, Bool, ℤ, List, [], ◌∷◌, ◌++◌, Contains, refl, arith}
 use Rattle.std.specs.Prelude.{Option, None}
 use Rattle.std.proofs.lemmas.List.Elements.{All-weaker, All-contains}
-use Rattle.grid_meaning.specs.declared.Line.{Line}
-use Rattle.grid_meaning.specs.Lines.{IsSoundLine, IsBranchLine}
+use Rattle.fraction128.specs.declared.Line.{Line}
+use Rattle.fraction128.specs.Lines.{IsSoundLine, IsBranchLine}
 use Rattle.smt_meaning.specs.declared.clauses.Atom.{Atom}
 use Rattle.smt_meaning.specs.declared.reports.RangeSeen.{RangeSeen}
 use Rattle.smt_meaning.specs.StackCommand.{Stack}

@@ -4,7 +4,7 @@ use Rattle.std.specs.List.{range_with_len}
 use Rattle.std.proofs.Common.{◌≡◌, ◌∙◌, ℕ, ◌+◌, ◌≤◌, Bool, true, false, List, [], ◌∷◌, ◌++◌, take, min, length, append_assoc, refl, sym, ap, subst, arith}
 use Rattle.std.proofs.lemmas.List.{append-nil, length-append, length-map, length-take}
 use Rattle.std.proofs.lemmas.List.Elements.{All-weaker, All-append, All-map, All-take}
-use Rattle.grid_meaning.specs.declared.Line.{Line}
+use Rattle.fraction128.specs.declared.Line.{Line}
 use Rattle.literals.specs.Signed.{Signed}
 use Rattle.search_port.specs.State.{Reading, TheoryState, IsGrown, IsPressing, IsMadeTrue}
 use Rattle.search_port.specs.Spending.{Spending}

@@ -1,9 +1,9 @@
 -- Bounds that aren't known or told, and the grids that show why.
 use Rattle.std.specs.Prelude.{◌≡◌, ℕ, List, [], ◌∷◌, ◌++◌, All, Contains, Option, Some, None}
-use Rattle.grid_meaning.specs.declared.Grid.{Grid}
-use Rattle.grid_meaning.specs.declared.Line.{Line}
-use Rattle.grid_meaning.specs.declared.Pending.{Pending}
-use Rattle.grid_meaning.specs.Lines.{IsSoundGrid, NextFails}
+use Rattle.fraction128.specs.declared.Grid.{Grid}
+use Rattle.fraction128.specs.declared.Line.{Line}
+use Rattle.fraction128.specs.declared.Pending.{Pending}
+use Rattle.fraction128.specs.Lines.{IsSoundGrid, NextFails}
 use Rattle.smt_meaning.specs.declared.clauses.Atom.{Atom}
 use Rattle.smt_meaning.specs.declared.reports.RangeSeen.{RangeSeen}
 use Rattle.smt_meaning.specs.declared.reports.RangeSeen.TheVariants.{Step}

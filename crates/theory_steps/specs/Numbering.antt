@@ -1,6 +1,6 @@
 -- Atoms that get numbers during the search.
 use Rattle.std.specs.Prelude.{ℕ, ◌≤◌, Bool, List, length, take, All, Option, Some, None}
-use Rattle.number_meaning.specs.Whole.{InRange}
+use Rattle.fraction128.specs.Whole.{InRange}
 use Rattle.smt_meaning.specs.declared.clauses.Atom.{Atom}
 use Rattle.smt_meaning.specs.declared.clauses.Atom.TheVariants.{Same, AtMost}
 use Rattle.smt_meaning.specs.StackCommand.{Stack}

@@ -1,6 +1,6 @@
 -- Pairs of Ints whose equality is to get a number.
 use Rattle.std.specs.Prelude.{◌≡◌, ℕ, ◌<◌, Bool, true, List, length, All, Contains, Some}
-use Rattle.number_meaning.specs.Whole.{InRange}
+use Rattle.fraction128.specs.Whole.{InRange}
 use Rattle.smt_meaning.specs.declared.values.Sort.TheVariants.{Int as Ints}
 use Rattle.smt_meaning.specs.declared.clauses.Atom.{Atom}
 use Rattle.smt_meaning.specs.declared.clauses.Atom.TheVariants.{AtMost, Same}

@@ -1,6 +1,6 @@
 -- Pivots as units of a check of the bounds.
 use Rattle.std.specs.Prelude.{◌≡◌, ℕ, ◌≤◌, Bool, true, false, List, [], ◌++◌, map, take, length, All}
-use Rattle.grid_meaning.specs.declared.Line.{Line}
+use Rattle.fraction128.specs.declared.Line.{Line}
 use Rattle.search_port.specs.State.{TheoryState}
 use Rattle.search_port.specs.Spending.{Spending}
 use Rattle.search_port.specs.Calls.{IsPivot}

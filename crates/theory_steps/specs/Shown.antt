@@ -1,6 +1,6 @@
 -- What a search can show of its atoms, and where a number left the range.
 use Rattle.std.specs.Prelude.{◌≡◌, ℕ, ◌<◌, Bool, true, List, length, All, Option, Some, IfSome}
-use Rattle.grid_meaning.specs.declared.Line.{Line}
+use Rattle.fraction128.specs.declared.Line.{Line}
 use Rattle.smt_meaning.specs.declared.values.Sort.TheVariants.{Int as Ints}
 use Rattle.smt_meaning.specs.declared.clauses.Atom.{Atom}
 use Rattle.smt_meaning.specs.declared.reports.RangeSeen.{RangeSeen}

@@ -1,7 +1,7 @@
 //! Arguments of applications whose values are past the range, where whole values of the leaves meet all bounds.
 ghost use Rattle.std.specs.Prelude.{◌≡◌, ◌<◌, List, length, map, true, false, All, IfOk, IfSome};
-ghost use Rattle.number_meaning.specs.Number.{whole, is_less};
-ghost use Rattle.grid_meaning.specs.Grid.{WithinBounds, is_below, is_above};
+ghost use Rattle.fraction128.specs.Number.{whole, is_less};
+ghost use Rattle.fraction128.specs.Grid.{WithinBounds, is_below, is_above};
 ghost use Rattle.smt_meaning.specs.Term.{Tree, tree_at};
 ghost use Rattle.smt_meaning.specs.Linear.{linear_form};
 ghost use Rattle.term_store.specs.Terms.{AreDifferent};
@@ -15,11 +15,9 @@ use crate::leaves::{is_int, is_leaf_head, is_marked_place};
 use crate::parts::{Parts, Progress};
 use bound_log::BoundLog;
 use flat_stack::flat_says_the_same;
-use fraction128::{Fraction, dot};
-use grid_meaning::Column;
+use fraction128::{Column, Fraction, dot, laws};
 use linear_forms::LinearForms;
 use model_build::Clash;
-use number_meaning::laws;
 use smt_meaning::{Head, RangeSeen, Summand, TermId};
 use std::alloc::{AllocError, Global};
 use term_store::TermStore;

@@ -1,6 +1,6 @@
 //! Branches on the value of a term that isn't whole.
 ghost use Rattle.std.specs.Prelude.{◌≡◌, ◌∷◌, [], pos, Contains, All, OnOk, IfOk, IfSome};
-ghost use Rattle.number_meaning.specs.Whole.{InRange};
+ghost use Rattle.fraction128.specs.Whole.{InRange};
 ghost use Rattle.smt_meaning.specs.declared.clauses.Atom.TheVariants.{AtMost};
 ghost use Rattle.smt_meaning.specs.Linear.{summand};
 ghost use Rattle.smt_meaning.specs.Boxes.{term_at_most};

@@ -1,6 +1,6 @@
 //! Bounds that can't be known or told: where a number leaves the range, a grid shows it.
 ghost use Rattle.std.specs.Prelude.{◌≡◌, ◌<◌, List, length, All, Contains, IfErr, OnOk};
-ghost use Rattle.number_meaning.specs.Whole.{InRange};
+ghost use Rattle.fraction128.specs.Whole.{InRange};
 ghost use Rattle.smt_meaning.specs.declared.clauses.Atom.{Atom};
 ghost use Rattle.smt_meaning.specs.declared.clauses.Atom.TheVariants.{AtMost};
 ghost use Rattle.tableau.specs.Failing.{IsRange};
@@ -12,7 +12,7 @@ ghost use Rattle.theory_steps.specs.Errors.{IsErrorOver, IsErrorAt, seen_of};
 
 use atom_numbers::{AtomNumbers, NumberedAtom};
 use bound_log::BoundLog;
-use grid_meaning::Grid;
+use fraction128::Grid;
 use literals::Literal;
 use smt_meaning::{RangeSeen, Summand};
 use std::alloc::{AllocError, Global};

@@ -21,7 +21,7 @@ use atom_numbers::AtomNumbers;
 use bound_log::{BoundLog, Report, Reported};
 use closure_log::{ClosureLog, Guide, Scan, infer};
 use flat_stack::flat_says_the_same;
-use grid_meaning::{Grid, Line};
+use fraction128::{Grid, Line};
 use literals::Literal;
 use scope_stack::Stack;
 use search_port::{Asserted, Inferred, Lemma};

@@ -1,6 +1,6 @@
 //! Equalities of Ints that get numbers, after both bounds of the difference.
 ghost use Rattle.std.specs.Prelude.{◌≡◌, ℕ, ◌<◌, List, length, true, false, All, Contains, IfSome};
-ghost use Rattle.number_meaning.specs.Whole.{InRange, is_in_range};
+ghost use Rattle.fraction128.specs.Whole.{InRange, is_in_range};
 ghost use Rattle.smt_meaning.specs.declared.clauses.Atom.TheVariants.{AtMost, Same};
 ghost use Rattle.smt_meaning.specs.Term.{Tree, tree_at};
 ghost use Rattle.smt_meaning.specs.Linear.{form_fits, linear_form};

@@ -2,7 +2,7 @@
 use crate::held::Held;
 use atom_numbers::AtomNumbers;
 use closure_log::Guide;
-use grid_meaning::Line;
+use fraction128::Line;
 use linear_forms::LinearForms;
 use scope_stack::Stack;
 use smt_meaning::{RangeSeen, Seq, TermId};

@@ -7,7 +7,7 @@ ghost use Rattle.theory_steps.specs.Progress.{state, AreParts, IsUnderWay, Went}
 use crate::held::{Meeting, Met, meet_bounds};
 use crate::parts::{Parts, Progress};
 use crate::step::stays;
-use grid_meaning::Line;
+use fraction128::Line;
 use search_port::{Budget, Spent};
 use std::alloc::AllocError;
 

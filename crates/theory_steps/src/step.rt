@@ -1,6 +1,6 @@
 //! Steps that go on with an atom more.
 ghost use Rattle.std.specs.Prelude.{◌<◌, length, Contains, All, IfSome};
-ghost use Rattle.number_meaning.specs.Whole.{InRange};
+ghost use Rattle.fraction128.specs.Whole.{InRange};
 ghost use Rattle.smt_meaning.specs.declared.clauses.Atom.TheVariants.{AtMost};
 ghost use Rattle.bound_log.specs.Growth.{IsProper};
 ghost use Rattle.flat_stack.specs.Flat.{flat};
@@ -13,7 +13,7 @@ use crate::constant::said_of;
 use crate::numbering::{NewAtom, NewBound, number_new};
 use crate::parts::{Parts, Progress};
 use flat_stack::flat_says_the_same;
-use grid_meaning::Grid;
+use fraction128::Grid;
 use search_port::{Budget, Cause, Lemma};
 use smt_meaning::{RangeSeen, Seq};
 use sort_laws::symbols_are_declared;

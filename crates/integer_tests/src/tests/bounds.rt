@@ -3,8 +3,7 @@ ghost use Rattle.std.specs.Prelude.{◌≡◌, true};
 ghost use Rattle.sum_bounds.specs.Bounds.{IsSum};
 ghost use Rattle.sum_bounds.specs.Written.{IsKnown};
 
-use fraction128::{Fraction, Op, Range};
-use grid_meaning::Summand;
+use fraction128::{Fraction, Op, Range, Summand};
 use int_branch::branch;
 use literals::Literal;
 use simplex::PivotLines;

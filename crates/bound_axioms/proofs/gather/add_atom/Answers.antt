@@ -1,7 +1,7 @@
 use Rattle.std.proofs.Common.{[], sym, subst, to_z, of_z, ◌+◌}
 use Rattle.std.proofs.lemmas.Result.{IfOk-weaker}
 use Rattle.std.specs.Int.{w128}
-use Rattle.number_meaning.proofs.Integers.{same_bits}
+use Rattle.fraction128.proofs.Integers.{same_bits}
 use Rattle.smt_meaning.specs.declared.clauses.Atom.TheVariants.{AtMost}
 use Rattle.atom_table.specs.Numbers.{IsAt}
 use Rattle.bound_axioms.specs.Axioms.{BoundFits}

@@ -1,6 +1,6 @@
 use Rattle.std.proofs.Common.{rules, ◌≡◌, ◌<◌, ℤ, List, [], ◌∷◌, ◌++◌, inr, length, sym, ap, subst, ◌∙◌, to_z, of_z}
 use Rattle.std.specs.Int.{w128}
-use Rattle.number_meaning.proofs.Integers.{same_bits}
+use Rattle.fraction128.proofs.Integers.{same_bits}
 use Rattle.literals.specs.Signed.{sign}
 use Rattle.smt_meaning.specs.declared.clauses.Atom.TheVariants.{AtMost}
 use Rattle.smt_meaning.specs.Term.{Tree, Interpretation}

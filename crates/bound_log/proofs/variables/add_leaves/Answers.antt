@@ -2,7 +2,7 @@ use Rattle.std.proofs.Common.{take, subst}
 use Rattle.std.specs.Prelude.{All}
 use Rattle.std.proofs.lemmas.List.{take_all}
 use Rattle.std.proofs.lemmas.List.Elements.{All-nil, All-more}
-use Rattle.grid_meaning.specs.declared.Summand.{Summand}
+use Rattle.fraction128.specs.declared.Summand.{Summand}
 use Rattle.sum_bounds.specs.Written.{HasLeaf}
 use Rattle.bound_log.proofs.Growing.{grown_self, grown_through, leaves_kept}
 use Rattle.bound_log.specs.Columns.{IsLeafIn}

@@ -1,6 +1,6 @@
 use Rattle.std.proofs.Common.{take}
 use Rattle.std.specs.Prelude.{All}
-use Rattle.grid_meaning.specs.declared.Summand.{Summand}
+use Rattle.fraction128.specs.declared.Summand.{Summand}
 use Rattle.sum_bounds.specs.Written.{HasLeaf}
 use Rattle.bound_log.specs.Growth.{IsGrown}
 use Rattle.bound_log.specs.Columns.{IsLeafIn, AddsSums}

@@ -1,4 +1,4 @@
-use Rattle.grid_meaning.specs.Grid.{turned}
+use Rattle.fraction128.specs.Grid.{turned}
 use Rattle.bound_log.specs.Columns.{IsPartIn}
 use Rattle.bound_log.proofs.Columns.{adds_through, adds_sum, adds_leaves, as_part}
 use Rattle.bound_log.proofs.Resting.{still_through, still_by_sum, in_either}

@@ -1,6 +1,6 @@
 use Rattle.std.proofs.Common.{ap₂, subst, ◌∙◌, length, refl}
 use Rattle.smt_meaning.specs.declared.clauses.Atom.TheVariants.{AtMost}
-use Rattle.number_meaning.proofs.Integers.{same_bits}
+use Rattle.fraction128.proofs.Integers.{same_bits}
 use Rattle.bound_clauses.specs.Orders.{bound_atom}
 use Rattle.atom_numbers.specs.Atoms.{Numbers}
 use Rattle.check_atoms.proofs.Adding.{adds_one, normal_bound}

@@ -1,5 +1,5 @@
 use Rattle.std.proofs.Common.{◌≡◌, List, [], sym, subst}
-use Rattle.grid_meaning.specs.declared.Line.{Line}
+use Rattle.fraction128.specs.declared.Line.{Line}
 use Rattle.smt_meaning.specs.CheckAtoms.{IsCheckAtom, AreBranches}
 use Rattle.smt_meaning.specs.Ranges.{LeavesRange}
 use Rattle.flat_stack.specs.Flat.{flat}

@@ -1,6 +1,6 @@
 use Rattle.std.proofs.Common.{◌≡◌, ◌++◌, ap, sym, subst, ◌∙◌, All, ◌<◌, false}
-use Rattle.number_meaning.specs.Whole.{InRange}
-use Rattle.number_meaning.proofs.Integers.{same_bits}
+use Rattle.fraction128.specs.Whole.{InRange}
+use Rattle.fraction128.proofs.Integers.{same_bits}
 use Rattle.smt_meaning.specs.declared.values.Value.TheVariants.{Whole}
 use Rattle.model_build.specs.declared.given.Given.TheVariants.{InRange as IsGiven}
 use Rattle.smt_meaning.specs.declared.clauses.Summand.{Summand}

@@ -2,7 +2,7 @@ use Rattle.std.proofs.Common.{◌≡◌, ◌∙◌, ◌+ℤ◌, ◌*ℤ◌, pos,
 use Rattle.std.specs.Prelude.{IfNone}
 use Rattle.std.specs.Int.{w128}
 use Rattle.std.proofs.lemmas.Int.{to_z-of_z}
-use Rattle.number_meaning.specs.Whole.{InRange}
+use Rattle.fraction128.specs.Whole.{InRange}
 use Rattle.fraction128.specs.Dot.{dot_of}
 use Rattle.fraction128.specs.Digits.{wide_value}
 use Rattle.fraction128.proofs.DigitLemmas.{dot_all, dot_more}

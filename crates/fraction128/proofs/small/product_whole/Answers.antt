@@ -1,5 +1,5 @@
 use Rattle.std.proofs.Common.{ap, ◌∙◌, arith}
-use Rattle.number_meaning.proofs.Integers.{same_bits64, small_bits}
+use Rattle.fraction128.proofs.Integers.{same_bits64, small_bits}
 use Rattle.fraction128.proofs.Smallness.{product-small_whole}
 use Rattle.fraction128.proofs.small.product_whole.Goals as goal
 

@@ -1,6 +1,6 @@
 use Rattle.std.proofs.Common.{◌≤◌, ◌<◌, ◌≢◌, ℤ, pos, ◌+ℤ◌, sym, subst, arith}
-use Rattle.number_meaning.specs.Whole.{InRange}
-use Rattle.number_meaning.proofs.Integers.{same_bits}
+use Rattle.fraction128.specs.Whole.{InRange}
+use Rattle.fraction128.proofs.Integers.{same_bits}
 use Rattle.int_branch.proofs.Branches.{next_in_range}
 use Rattle.int_branch.proofs.sides.floor_of.Goals as goal
 

@@ -1,5 +1,5 @@
 use Rattle.std.proofs.Common.{◌<◌, length, Err, ap, sym, subst}
-use Rattle.number_meaning.proofs.Integers.{same_bits}
+use Rattle.fraction128.proofs.Integers.{same_bits}
 use Rattle.linear_forms.specs.Folding.{form_of}
 use Rattle.linear_forms.specs.Entries.{knowns}
 use Rattle.linear_forms.specs.Differences.{IsDifference}

@@ -2,7 +2,7 @@ use Rattle.std.proofs.Common.{◌≡◌, ◌≢◌, ◌<◌, true, false, length
 use Rattle.std.specs.Prelude.{ℤ}
 use Rattle.std.specs.Int.{w128}
 use Rattle.std.proofs.lemmas.Result.{err_from_is_err_and}
-use Rattle.number_meaning.proofs.Integers.{same_bits}
+use Rattle.fraction128.proofs.Integers.{same_bits}
 use Rattle.linear_forms.specs.Folding.{form_of}
 use Rattle.linear_forms.specs.Entries.{knowns, forms_at}
 use Rattle.linear_forms.proofs.FoldLemmas.{FoldsOn}

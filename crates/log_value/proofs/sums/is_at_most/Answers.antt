@@ -2,8 +2,8 @@ use Rattle.std.proofs.Common.{ap, subst, sym, ◌∙◌, to_z, of_z, arith}
 use Rattle.std.specs.Prelude.{pos, int_le, int_lt}
 use Rattle.std.specs.Int.{w128}
 use Rattle.std.proofs.lemmas.Int.{to_z-of_z, ints}
-use Rattle.number_meaning.specs.Whole.{InRange}
-use Rattle.number_meaning.proofs.Integers.{same_bits}
+use Rattle.fraction128.specs.Whole.{InRange}
+use Rattle.fraction128.proofs.Integers.{same_bits}
 use Rattle.fraction128.specs.Dot.{dot_of}
 use Rattle.log_value.specs.Atoms.{sum_by}
 use Rattle.log_value.proofs.Deciding.{dot_is, past_sign}

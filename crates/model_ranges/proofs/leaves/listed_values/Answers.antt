@@ -1,6 +1,6 @@
 use Rattle.std.proofs.Common.{◌≡◌, ◌+◌, length, true, List, subst, sym, rules}
 use Rattle.std.specs.Prelude.{slice_index_or}
-use Rattle.number_meaning.specs.Number.{whole}
+use Rattle.fraction128.specs.Number.{whole}
 use Rattle.smt_meaning.specs.declared.values.Value.{Value}
 use Rattle.smt_meaning.specs.declared.values.Sort.TheVariants.{Bool as Truths, Int as Ints}
 use Rattle.smt_meaning.specs.Term.{Tree, tree_at, number_of}

@@ -1,5 +1,5 @@
 use Rattle.std.proofs.Common.{◌≡◌, ◌<◌, length, List, All, Contains, ap, subst, sym, ◌∙◌}
-use Rattle.grid_meaning.specs.declared.Grid.{Grid}
+use Rattle.fraction128.specs.declared.Grid.{Grid}
 use Rattle.smt_meaning.specs.Term.{Tree}
 use Rattle.scope_stack.specs.declared.answers.Assertion.{Assertion}
 use Rattle.bound_log.specs.Pending.{plain_grid}

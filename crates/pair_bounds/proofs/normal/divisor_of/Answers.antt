@@ -1,6 +1,6 @@
 use Rattle.std.proofs.Common.{arith, subst, sym}
-use Rattle.number_meaning.specs.Whole.{InRange}
-use Rattle.number_meaning.proofs.Integers.{same_bits}
+use Rattle.fraction128.specs.Whole.{InRange}
+use Rattle.fraction128.proofs.Integers.{same_bits}
 use Rattle.std.specs.Prelude.{pos, ◌-◌, slice_index_or}
 use Rattle.smt_meaning.specs.declared.clauses.Summand.{Summand}
 use Rattle.pair_bounds.proofs.NormalLemmas.{coefficient_at}

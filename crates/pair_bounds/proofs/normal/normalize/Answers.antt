@@ -1,9 +1,9 @@
 use Rattle.std.proofs.Common.{to_z, of_z, ap, subst, sym, ◌∙◌}
 use Rattle.std.specs.Int.{w128}
-use Rattle.number_meaning.specs.Whole.{InRange}
+use Rattle.fraction128.specs.Whole.{InRange}
 use Rattle.smt_meaning.specs.declared.clauses.Atom.TheVariants.{AtMost}
 use Rattle.smt_meaning.specs.Atoms.{divided, each_divided}
-use Rattle.number_meaning.proofs.Integers.{same_bits}
+use Rattle.fraction128.proofs.Integers.{same_bits}
 use Rattle.pair_bounds.proofs.NormalLemmas.{normal_already, normal_divided, normal_fits, normal_order, at_most_one, more_than_one, quotient_in_range_by}
 use Rattle.pair_bounds.proofs.normal.normalize.Goals as goal
 

@@ -1,5 +1,5 @@
 use Rattle.std.proofs.Common.{ap, length, arith}
-use Rattle.number_meaning.proofs.Integers.{same_bits}
+use Rattle.fraction128.proofs.Integers.{same_bits}
 use Rattle.linear_forms.specs.Folding.{form_of}
 use Rattle.linear_forms.proofs.FoldLemmas.{form_constant}
 use Rattle.pair_bounds.proofs.TurningLemmas.{negated_bits}

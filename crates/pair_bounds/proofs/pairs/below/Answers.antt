@@ -1,7 +1,7 @@
 use Rattle.std.proofs.Common.{ap, length, arith, ◌∙◌, subst, sym}
 use Rattle.std.specs.Prelude.{pos, ◌-ℤ◌, neg_ℤ}
-use Rattle.number_meaning.specs.Whole.{InRange}
-use Rattle.number_meaning.proofs.Integers.{same_bits}
+use Rattle.fraction128.specs.Whole.{InRange}
+use Rattle.fraction128.proofs.Integers.{same_bits}
 use Rattle.linear_forms.specs.Folding.{form_of}
 use Rattle.linear_forms.proofs.FoldLemmas.{form_constant}
 use Rattle.pair_bounds.proofs.PairLemmas.{written_back, difference_no_zero, is_below}

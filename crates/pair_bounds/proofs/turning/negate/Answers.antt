@@ -1,6 +1,6 @@
 use Rattle.std.proofs.Common.{subst, sym}
 use Rattle.std.specs.Prelude.{pos}
-use Rattle.number_meaning.specs.Whole.{InRange}
+use Rattle.fraction128.specs.Whole.{InRange}
 use Rattle.smt_meaning.specs.declared.clauses.Summand.{Summand}
 use Rattle.pair_bounds.proofs.NormalLemmas.{coefficient_at}
 use Rattle.pair_bounds.proofs.Mapping.{mapping_same, mapping_step}

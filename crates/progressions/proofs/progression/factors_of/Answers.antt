@@ -1,7 +1,7 @@
 use Rattle.std.proofs.Common.{◌∙◌, pos, ◌*ℤ◌, ◌<ℤ◌, sym, ap, subst, to_z, of_z}
 use Rattle.std.specs.Int.{w128}
 use Rattle.std.proofs.lemmas.Int.{to_z-of_z}
-use Rattle.number_meaning.proofs.Integers.{same_bits}
+use Rattle.fraction128.proofs.Integers.{same_bits}
 use Rattle.progressions.proofs.Steps.{IsDivisor, divisor_is, same_products}
 use Rattle.progressions.proofs.progression.factors_of.Goals as goal
 use Rattle.progressions.proofs.progression.factors_of.Goals.{After-gcd-divisor}

@@ -2,7 +2,7 @@ use Rattle.std.specs.Int.{w128}
 use Rattle.std.proofs.lemmas.Int.{quot_is, fits_signed_from_abs}
 use Rattle.std.specs.Int.RustNames.{int_div}
 use Rattle.std.proofs.Common.{pos, ◌<ℤ◌, ◌*ℤ◌, ◌∙◌, sym, subst, ap}
-use Rattle.number_meaning.specs.Whole.{InRange}
+use Rattle.fraction128.specs.Whole.{InRange}
 use Rattle.progressions.proofs.Steps.{exact_quotient}
 use Rattle.progressions.proofs.progression.quotient.Goals as goal
 

@@ -1,6 +1,6 @@
 use Rattle.std.proofs.Common.{◌≡◌, drop, pos}
-use Rattle.number_meaning.specs.Number.{whole}
-use Rattle.grid_meaning.specs.Grid.{entries_value, entries_value_fits}
+use Rattle.fraction128.specs.Number.{whole}
+use Rattle.fraction128.specs.Grid.{entries_value, entries_value_fits}
 use Rattle.simplex_steps.specs.State.{values}
 use Rattle.simplex.proofs.state.value_of.Given as goal
 

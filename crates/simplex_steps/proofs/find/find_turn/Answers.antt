@@ -1,6 +1,6 @@
 use Rattle.std.proofs.Common.{sym, subst}
-use Rattle.grid_meaning.specs.declared.Column.{Column}
-use Rattle.number_meaning.proofs.Integers.{same_bits}
+use Rattle.fraction128.specs.declared.Column.{Column}
+use Rattle.fraction128.proofs.Integers.{same_bits}
 use Rattle.tableau.specs.Table.{row_at}
 use Rattle.simplex_steps.specs.State.{column_in}
 use Rattle.simplex_steps.specs.Conflict.{IsTarget}

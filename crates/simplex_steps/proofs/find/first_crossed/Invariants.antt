@@ -1,5 +1,5 @@
 use Rattle.std.proofs.Common.{◌≡◌, ℕ, ◌<◌, false}
-use Rattle.grid_meaning.specs.Grid.{is_crossed}
+use Rattle.fraction128.specs.Grid.{is_crossed}
 use Rattle.simplex_steps.specs.State.{column_in}
 use Rattle.simplex_steps.proofs.find.first_crossed.Given as goal
 

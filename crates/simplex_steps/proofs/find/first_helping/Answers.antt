@@ -1,8 +1,8 @@
 use Rattle.std.proofs.Common.{◌≡◌, ℕ, ◌<◌, false, Bool, List, length, get_or, ap, ◌∙◌, sym, subst, arith, below_more}
 use Rattle.std.proofs.lemmas.List.{get_or_default}
-use Rattle.grid_meaning.specs.declared.Entry.{Entry}
-use Rattle.grid_meaning.specs.declared.Column.{Column}
-use Rattle.grid_meaning.specs.Grid.{helps}
+use Rattle.fraction128.specs.declared.Entry.{Entry}
+use Rattle.fraction128.specs.declared.Column.{Column}
+use Rattle.fraction128.specs.Grid.{helps}
 use Rattle.simplex_steps.specs.State.{column_in, no_column}
 use Rattle.simplex_steps.specs.Conflict.{KnownEntries}
 use Rattle.simplex_steps.proofs.find.first_helping.Goals as goal

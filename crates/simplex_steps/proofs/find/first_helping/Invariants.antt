@@ -1,6 +1,6 @@
 use Rattle.std.proofs.Common.{◌≡◌, ℕ, ◌<◌, false, get_or}
-use Rattle.grid_meaning.specs.declared.Entry.{Entry}
-use Rattle.grid_meaning.specs.Grid.{helps}
+use Rattle.fraction128.specs.declared.Entry.{Entry}
+use Rattle.fraction128.specs.Grid.{helps}
 use Rattle.simplex_steps.specs.State.{column_in}
 use Rattle.simplex_steps.proofs.find.first_helping.Given as goal
 

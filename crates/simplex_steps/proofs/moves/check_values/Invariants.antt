@@ -1,6 +1,6 @@
 use Rattle.std.proofs.Common.{ℕ, ◌<◌, get_or}
-use Rattle.number_meaning.specs.Ratio.{IsFraction}
-use Rattle.grid_meaning.specs.declared.Column.{Column}
+use Rattle.fraction128.specs.Ratio.{IsFraction}
+use Rattle.fraction128.specs.declared.Column.{Column}
 use Rattle.simplex_steps.proofs.moves.check_values.Given as goal
 
 abbrev pub invariant-loop-column : goal.invariant-loop-column

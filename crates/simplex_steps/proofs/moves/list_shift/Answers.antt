@@ -1,5 +1,5 @@
 use Rattle.std.proofs.Common.{subst}
-use Rattle.number_meaning.specs.Ratio.{IsFraction}
+use Rattle.fraction128.specs.Ratio.{IsFraction}
 use Rattle.simplex_steps.proofs.Columns.{lacking_fits, value_in}
 use Rattle.simplex_steps.proofs.moves.list_shift.Goals as goal
 

@@ -1,9 +1,9 @@
 use Rattle.std.proofs.Common.{◌≡◌, sym, subst, ap, ◌∙◌, rules}
 use Rattle.std.proofs.lemmas.Int.{to_z-of_z}
 use Rattle.std.specs.Int.{w128}
-use Rattle.number_meaning.specs.declared.ratio.Ratio.{Ratio}
-use Rattle.number_meaning.specs.Number.{whole}
-use Rattle.grid_meaning.specs.Grid.{distance}
+use Rattle.fraction128.specs.declared.ratio.Ratio.{Ratio}
+use Rattle.fraction128.specs.Number.{whole}
+use Rattle.fraction128.specs.Grid.{distance}
 use Rattle.simplex_steps.specs.Moved.{shifts, AreShifts, landed}
 use Rattle.simplex_steps.specs.State.{values}
 use Rattle.simplex_steps.proofs.Shifts.{moves_known, shifts_landed}

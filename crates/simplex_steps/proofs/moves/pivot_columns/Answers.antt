@@ -1,9 +1,9 @@
 use Rattle.std.proofs.Common.{◌≡◌, ◌∙◌, ap, sym, subst, arith, rules}
 use Rattle.std.proofs.lemmas.Int.{to_z-of_z}
 use Rattle.std.specs.Int.{w128}
-use Rattle.number_meaning.specs.declared.ratio.Ratio.{Ratio}
-use Rattle.number_meaning.specs.Number.{whole}
-use Rattle.number_meaning.specs.Listed.{sum_of}
+use Rattle.fraction128.specs.declared.ratio.Ratio.{Ratio}
+use Rattle.fraction128.specs.Number.{whole}
+use Rattle.fraction128.specs.Listed.{sum_of}
 use Rattle.tableau.specs.Table.{row_at}
 use Rattle.simplex_steps.specs.Moved.{shifts, AreShifts, landed, row_distance}
 use Rattle.simplex_steps.specs.State.{values}

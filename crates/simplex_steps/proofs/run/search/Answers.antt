@@ -1,5 +1,5 @@
 use Rattle.std.proofs.Common.{◌∙◌, sym, subst, List}
-use Rattle.grid_meaning.specs.declared.Column.{Column}
+use Rattle.fraction128.specs.declared.Column.{Column}
 use Rattle.tableau.specs.Table.{Table}
 use Rattle.simplex_steps.specs.State.{grid_of}
 use Rattle.simplex_steps.specs.Run.{Ends}

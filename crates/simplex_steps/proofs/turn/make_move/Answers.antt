@@ -1,7 +1,7 @@
 use Rattle.std.proofs.Common.{◌≡◌, false, sym, subst}
 use Rattle.std.proofs.lemmas.Result.{on_ok_weaker}
-use Rattle.number_meaning.specs.Whole.{InRange}
-use Rattle.number_meaning.proofs.Integers.{same_bits}
+use Rattle.fraction128.specs.Whole.{InRange}
+use Rattle.fraction128.proofs.Integers.{same_bits}
 use Rattle.tableau.proofs.RowLemmas.{if_err_then}
 use Rattle.simplex_steps.specs.Moved.{moved_to, moved_fits}
 use Rattle.simplex_steps.specs.State.{column_in}

@@ -1,6 +1,6 @@
 use Rattle.std.proofs.Common.{◌≡◌, false, subst, ◌&&◌}
-use Rattle.number_meaning.proofs.Integers.{same_bits}
-use Rattle.grid_meaning.specs.Grid.{pivot_fits}
+use Rattle.fraction128.proofs.Integers.{same_bits}
+use Rattle.fraction128.specs.Grid.{pivot_fits}
 use Rattle.tableau.specs.Table.{row_at}
 use Rattle.tableau.proofs.RowLemmas.{if_err_then}
 use Rattle.simplex_steps.specs.Moved.{pivoted_to, pivoted_fits}

@@ -1,5 +1,5 @@
 use Rattle.std.proofs.Common.{◌∙◌, ap}
-use Rattle.grid_meaning.specs.declared.Column.{Column}
+use Rattle.fraction128.specs.declared.Column.{Column}
 use Rattle.sum_bounds.proofs.Lookups.{passed_start, passed_on}
 use Rattle.sum_bounds.proofs.lookup.find.Goals as goal
 

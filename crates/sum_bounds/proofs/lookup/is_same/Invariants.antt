@@ -1,5 +1,5 @@
 use Rattle.std.proofs.Common.{◌≡◌, ℕ, ◌<◌, get_or}
-use Rattle.grid_meaning.specs.declared.Summand.{Summand}
+use Rattle.fraction128.specs.declared.Summand.{Summand}
 use Rattle.sum_bounds.proofs.lookup.is_same.Given as goal
 
 abbrev pub invariant-loop-place : goal.invariant-loop-place

@@ -1,7 +1,7 @@
 use Rattle.std.proofs.Common.{◌≡◌, ◌∙◌, ◌++◌, ◌∷◌, [], map, pos, ap, ap₂, sym, subst, Bool, ◌&&◌}
-use Rattle.number_meaning.specs.Number.{whole}
-use Rattle.grid_meaning.specs.declared.TableRow.{TableRow}
-use Rattle.grid_meaning.specs.Grid.{entries_value, entries_value_fits, sum_row, no_coefficients}
+use Rattle.fraction128.specs.Number.{whole}
+use Rattle.fraction128.specs.declared.TableRow.{TableRow}
+use Rattle.fraction128.specs.Grid.{entries_value, entries_value_fits, sum_row, no_coefficients}
 use Rattle.tableau.specs.Written.{AreParts, parts_row, parts_fit}
 use Rattle.sum_laws.specs.Sums.{AreMatched}
 use Rattle.simplex_steps.specs.State.{values}

@@ -1,6 +1,6 @@
 use Rattle.std.proofs.Common.{◌∙◌, ◌<◌, length, ap, sym, subst, refl}
 use Rattle.tableau.specs.Table.{Table, row_at}
-use Rattle.grid_meaning.specs.declared.Entry.{Entry}
+use Rattle.fraction128.specs.declared.Entry.{Entry}
 use Rattle.simplex_steps.proofs.Next.{known_row}
 use Rattle.sum_bounds.specs.Wholes.{AddsBoth}
 use Rattle.sum_bounds.proofs.WholeRows.{bounds_first, bounds_more, bounds_all}

@@ -1,6 +1,6 @@
 use Rattle.std.proofs.Common.{◌-◌, subst, arith}
 use Rattle.std.specs.Prelude.{IfSome}
-use Rattle.grid_meaning.specs.declared.Entry.{Entry}
+use Rattle.fraction128.specs.declared.Entry.{Entry}
 use Rattle.simplex_steps.specs.State.{column_in}
 use Rattle.simplex.specs.State.{FixedAt}
 use Rattle.sum_bounds.proofs.WholeRows.{AddsPart, sums_more, sums_all}

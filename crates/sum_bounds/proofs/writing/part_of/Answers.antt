@@ -2,7 +2,7 @@ use Rattle.std.proofs.Common.{◌≡◌, ℕ, ◌<◌, ℤ, length, sym, ap₂, 
 use Rattle.std.proofs.lemmas.Int.{to_z-of_z}
 use Rattle.std.specs.Int.{w128}
 use Rattle.std.specs.Prelude.{IfSome}
-use Rattle.grid_meaning.specs.Grid.{leaf}
+use Rattle.fraction128.specs.Grid.{leaf}
 use Rattle.tableau.specs.declared.sum.Part.{Part}
 use Rattle.simplex_steps.specs.State.{column_in}
 use Rattle.sum_bounds.proofs.Leaves.{leaf_found}

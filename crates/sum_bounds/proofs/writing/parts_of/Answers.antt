@@ -1,5 +1,5 @@
 use Rattle.std.proofs.Common.{pos}
-use Rattle.grid_meaning.specs.declared.Summand.{Summand}
+use Rattle.fraction128.specs.declared.Summand.{Summand}
 use Rattle.sum_bounds.proofs.writing.parts_of.Goals as goal
 
 pub part_of-requires-clause-leaf : goal.part_of-requires-clause-leaf

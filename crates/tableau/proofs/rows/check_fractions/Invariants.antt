@@ -1,5 +1,5 @@
 use Rattle.std.proofs.Common.{ℕ, ◌<◌}
-use Rattle.number_meaning.specs.Ratio.{IsFraction}
+use Rattle.fraction128.specs.Ratio.{IsFraction}
 use Rattle.tableau.specs.Rows.{coefficient_at}
 use Rattle.tableau.proofs.rows.check_fractions.Given as goal
 

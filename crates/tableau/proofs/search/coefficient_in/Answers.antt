@@ -1,7 +1,7 @@
 use Rattle.std.proofs.Common.{ap, ◌∙◌, pos}
 use Rattle.std.proofs.lemmas.List.{get_or_default}
-use Rattle.grid_meaning.specs.declared.Entry.{Entry}
-use Rattle.number_meaning.specs.Number.{whole}
+use Rattle.fraction128.specs.declared.Entry.{Entry}
+use Rattle.fraction128.specs.Number.{whole}
 use Rattle.tableau.specs.Rows.{entry}
 use Rattle.tableau.proofs.Shape.{coefficient_found, found_nonzero, lacking_zero}
 use Rattle.tableau.proofs.search.coefficient_in.Goals as goal

@@ -1,6 +1,6 @@
 use Rattle.std.proofs.Common.{◌≡◌, ◌∙◌, ap, true, false, subst, arith}
-use Rattle.number_meaning.specs.Number.{whole}
-use Rattle.grid_meaning.specs.Grid.{row_of}
+use Rattle.fraction128.specs.Number.{whole}
+use Rattle.fraction128.specs.Grid.{row_of}
 use Rattle.tableau.specs.Failing.{IsRange}
 use Rattle.tableau.specs.Fitting.{merged_fits}
 use Rattle.tableau.specs.Rows.{merged}

@@ -1,7 +1,7 @@
 use Rattle.std.proofs.Common.{ℕ, ◌<◌}
 use Rattle.std.specs.Prelude.{slice_index_or}
-use Rattle.grid_meaning.specs.declared.Column.{Column}
-use Rattle.grid_meaning.specs.Grid.{WithinBounds}
+use Rattle.fraction128.specs.declared.Column.{Column}
+use Rattle.fraction128.specs.Grid.{WithinBounds}
 use Rattle.theory_steps.proofs.argument.are_within.Given as goal
 
 abbrev pub invariant-loop-k : goal.invariant-loop-k

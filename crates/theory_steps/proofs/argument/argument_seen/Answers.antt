@@ -1,5 +1,5 @@
 use Rattle.std.proofs.Common.{rules, ◌≡◌, true, List, All, sym, subst}
-use Rattle.grid_meaning.specs.Grid.{WithinBounds}
+use Rattle.fraction128.specs.Grid.{WithinBounds}
 use Rattle.smt_meaning.specs.Term.{Tree}
 use Rattle.theory_steps.specs.Argument.{AreListed}
 use Rattle.theory_steps.proofs.Leaving.{argument_left}

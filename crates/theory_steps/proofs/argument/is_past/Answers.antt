@@ -2,7 +2,7 @@ use Rattle.std.proofs.Common.{rules, ◌≡◌, ◌∙◌, ◌+ℤ◌, sym, ap�
 use Rattle.std.proofs.lemmas.Int.{to_z-of_z}
 use mir.Syntax.{w128}
 use mir.Val.{SFits}
-use Rattle.number_meaning.specs.Whole.{InRange}
+use Rattle.fraction128.specs.Whole.{InRange}
 use Rattle.fraction128.specs.Dot.{dot_of}
 use Rattle.smt_meaning.specs.Ranges.{sum_at}
 use Rattle.bound_log.specs.Values.{numbers_of}

@@ -1,5 +1,5 @@
 use Rattle.std.proofs.Common.{rules, ◌≡◌, false}
-use Rattle.grid_meaning.specs.Grid.{is_below, is_above}
+use Rattle.fraction128.specs.Grid.{is_below, is_above}
 use Rattle.theory_steps.proofs.Leaving.{within_both}
 use Rattle.theory_steps.proofs.argument.is_within.Goals as goal
 

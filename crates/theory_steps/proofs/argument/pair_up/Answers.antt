@@ -3,7 +3,7 @@ use Rattle.std.specs.Prelude.{slice_index_or}
 use Rattle.std.proofs.lemmas.Int.{to_z-of_z}
 use mir.Syntax.{w128}
 use mir.Val.{SFits}
-use Rattle.number_meaning.specs.declared.ratio.Ratio.{Ratio}
+use Rattle.fraction128.specs.declared.ratio.Ratio.{Ratio}
 use Rattle.smt_meaning.specs.declared.clauses.Summand.{Summand}
 use Rattle.bound_log.specs.Values.{numbers_of}
 use Rattle.theory_steps.specs.Argument.{pair_by}

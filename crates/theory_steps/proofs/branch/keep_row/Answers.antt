@@ -1,6 +1,6 @@
 use Rattle.std.proofs.Common.{List, sym, subst}
 use Rattle.std.specs.Prelude.{None}
-use Rattle.grid_meaning.specs.declared.Line.{Line}
+use Rattle.fraction128.specs.declared.Line.{Line}
 use Rattle.smt_meaning.specs.Boxes.{term_at_most}
 use Rattle.theory_steps.specs.Shown.{AreShown, IsOfCheck}
 use Rattle.theory_steps.proofs.Rows.{shown_more, side_of_check}

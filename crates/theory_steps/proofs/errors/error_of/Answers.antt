@@ -1,7 +1,7 @@
 use Rattle.std.proofs.Common.{◌≡◌, ◌∙◌, All, Contains, Some, ℤ, sym, ap, subst, to_z, of_z}
 use Rattle.std.specs.Int.{w128}
 use Rattle.std.proofs.lemmas.Int.{to_z-of_z}
-use Rattle.grid_meaning.specs.declared.Grid.{Grid}
+use Rattle.fraction128.specs.declared.Grid.{Grid}
 use Rattle.smt_meaning.specs.CheckAtoms.{told}
 use Rattle.bound_log.specs.Columns.{IsColumnOf}
 use Rattle.bound_log.specs.Pending.{FailsToTake}

@@ -1,5 +1,5 @@
 use Rattle.std.proofs.Common.{rules, ◌≡◌, [], List, subst}
-use Rattle.grid_meaning.specs.declared.Line.{Line}
+use Rattle.fraction128.specs.declared.Line.{Line}
 use Rattle.bound_log.specs.Pivots.{AddsPivots}
 use Rattle.closure_log.specs.Seen.{state_of}
 use Rattle.theory_steps.specs.Columns.{with_leaves}

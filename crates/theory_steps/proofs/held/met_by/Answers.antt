@@ -1,6 +1,6 @@
 use Rattle.std.proofs.Common.{◌∙◌, All, sym, ap, subst}
-use Rattle.grid_meaning.specs.declared.Grid.{Grid}
-use Rattle.grid_meaning.specs.Lines.{NextFails}
+use Rattle.fraction128.specs.declared.Grid.{Grid}
+use Rattle.fraction128.specs.Lines.{NextFails}
 use Rattle.bound_log.specs.Columns.{IsColumnOf}
 use Rattle.theory_steps.proofs.Past.{no_none}
 use Rattle.theory_steps.proofs.held.met_by.Goals as goal

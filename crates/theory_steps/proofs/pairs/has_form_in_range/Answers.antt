@@ -2,7 +2,7 @@ use Rattle.std.proofs.Common.{rules, ◌∙◌, ◌&&◌, Bool, sym, ap, ap₂}
 use Rattle.std.proofs.lemmas.Int.{to_z-of_z}
 use mir.Syntax.{w128}
 use mir.Val.{SFits}
-use Rattle.number_meaning.specs.Whole.{is_in_range}
+use Rattle.fraction128.specs.Whole.{is_in_range}
 use Rattle.smt_meaning.specs.Linear.{form_fits}
 use Rattle.theory_steps.proofs.pairs.has_form_in_range.Goals as goal
 

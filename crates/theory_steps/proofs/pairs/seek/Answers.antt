@@ -1,6 +1,6 @@
 use Rattle.std.proofs.Common.{◌∙◌, length, sym, ap, subst}
-use Rattle.number_meaning.specs.Whole.{InRange}
-use Rattle.number_meaning.proofs.Integers.{same_bits}
+use Rattle.fraction128.specs.Whole.{InRange}
+use Rattle.fraction128.proofs.Integers.{same_bits}
 use Rattle.smt_meaning.specs.declared.clauses.Atom.{Atom}
 use Rattle.smt_meaning.specs.declared.clauses.Atom.TheVariants.{AtMost}
 use Rattle.theory_steps.specs.Pairs.{IsSought}

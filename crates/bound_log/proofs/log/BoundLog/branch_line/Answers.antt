@@ -1,8 +1,8 @@
 use Rattle.std.proofs.Common.{◌≡◌, List, true, None, sym, subst}
 use Rattle.std.specs.Prelude.{Contains}
 use Rattle.std.proofs.lemmas.Result.{IfOk-weaker}
-use Rattle.grid_meaning.specs.Grid.{is_basic}
-use Rattle.grid_meaning.specs.Lines.{line_of, IsSoundLine}
+use Rattle.fraction128.specs.Grid.{is_basic}
+use Rattle.fraction128.specs.Lines.{line_of, IsSoundLine}
 use Rattle.smt_meaning.specs.declared.clauses.Atom.{Atom}
 use Rattle.smt_meaning.specs.CheckAtoms.{IsBoundOf}
 use Rattle.simplex_steps.specs.State.{grid_of}

@@ -1,7 +1,7 @@
 use Rattle.std.proofs.Common.{◌≡◌, List, sym, subst}
 use Rattle.std.specs.Prelude.{Contains}
 use Rattle.std.proofs.lemmas.Result.{IfOk-weaker}
-use Rattle.grid_meaning.specs.Lines.{IsSoundGrid}
+use Rattle.fraction128.specs.Lines.{IsSoundGrid}
 use Rattle.smt_meaning.specs.declared.clauses.Atom.{Atom}
 use Rattle.smt_meaning.specs.CheckAtoms.{IsBoundOf}
 use Rattle.simplex_steps.specs.State.{grid_of}

@@ -1,9 +1,9 @@
 use Rattle.std.proofs.Common.{rules, ◌≡◌, ◌≢◌, ◌∙◌, Bool, false, None, ℤ, pos, length, refl, sym, ap, subst}
 use Rattle.std.specs.Prelude.{List, All}
-use Rattle.number_meaning.specs.Whole.{InRange}
-use Rattle.number_meaning.proofs.Integers.{same_bits}
-use Rattle.grid_meaning.specs.declared.Summand.{Summand}
-use Rattle.grid_meaning.specs.Grid.{column_of, turned}
+use Rattle.fraction128.specs.Whole.{InRange}
+use Rattle.fraction128.proofs.Integers.{same_bits}
+use Rattle.fraction128.specs.declared.Summand.{Summand}
+use Rattle.fraction128.specs.Grid.{column_of, turned}
 use Rattle.smt_meaning.specs.declared.clauses.Atom.TheVariants.{AtMost}
 use Rattle.tableau.specs.Failing.{IsRange}
 use Rattle.sum_bounds.specs.Bounds.{StandsFor, sum_fits}

@@ -1,6 +1,6 @@
 use Rattle.std.proofs.Common.{sym, subst}
 use Rattle.std.specs.Prelude.{Contains}
-use Rattle.grid_meaning.specs.Lines.{IsSoundGrid}
+use Rattle.fraction128.specs.Lines.{IsSoundGrid}
 use Rattle.smt_meaning.specs.CheckAtoms.{IsBoundOf}
 use Rattle.bound_log.specs.Told.{State, IsState}
 use Rattle.bound_log.specs.Atoms.{Knows}

@@ -1,6 +1,6 @@
 use Rattle.std.proofs.Common.{◌≡◌, ap₂, subst}
-use Rattle.number_meaning.specs.Listed.{product_of}
-use Rattle.number_meaning.proofs.ListedAnswers.{product-exact}
+use Rattle.fraction128.specs.Listed.{product_of}
+use Rattle.fraction128.proofs.ListedAnswers.{product-exact}
 use Rattle.fraction128.proofs.fraction.Fraction.mul.Goals as goal
 
 pub returns-clause-exact : goal.returns-clause-exact

@@ -1,7 +1,7 @@
 use Rattle.std.proofs.Common.{◌∙◌, ap, sym}
-use Rattle.number_meaning.specs.declared.ratio.Ratio.{Ratio}
-use Rattle.number_meaning.specs.Listed.{reciprocal_of}
-use Rattle.number_meaning.proofs.ListedAnswers.{reciprocal-exact}
+use Rattle.fraction128.specs.declared.ratio.Ratio.{Ratio}
+use Rattle.fraction128.specs.Listed.{reciprocal_of}
+use Rattle.fraction128.proofs.ListedAnswers.{reciprocal-exact}
 use Rattle.fraction128.proofs.fraction.Fraction.recip.Goals as goal
 
 pub returns-clause-exact : goal.returns-clause-exact

@@ -1,7 +1,7 @@
 use Rattle.std.proofs.Common.{◌≤◌, All, pos, length, rules, subst}
 use Rattle.std.proofs.lemmas.List.{take_all}
 use Rattle.std.proofs.lemmas.List.Elements.{All-more}
-use Rattle.grid_meaning.specs.declared.Summand.{Summand}
+use Rattle.fraction128.specs.declared.Summand.{Summand}
 use Rattle.sum_bounds.specs.Written.{IsKnown}
 use Rattle.integer_tests.proofs.tests.bounds.is_sum.Goals as goal
 

@@ -1,5 +1,5 @@
 use Rattle.std.proofs.Common.{ap, sym, ◌∙◌}
-use Rattle.number_meaning.specs.Number.{is_zero}
+use Rattle.fraction128.specs.Number.{is_zero}
 use Rattle.tableau.specs.Table.{row_at}
 use Rattle.tableau.proofs.Shape.{has_entry}
 use Rattle.number_tests.proofs.tests.pivots.has_entry.Goals as goal

@@ -1,5 +1,5 @@
 use Rattle.std.proofs.Common.{◌≡◌, ◌∙◌, ◌+ℤ◌, ◌*ℤ◌, Bool, true, false, not, ap, ap₂}
-use Rattle.number_meaning.proofs.Integers.{same_bits}
+use Rattle.fraction128.proofs.Integers.{same_bits}
 use Rattle.progressions.specs.Progressions.{State}
 use Rattle.progressions.proofs.Steps.{lacks}
 use Rattle.progressions.proofs.progression.Progression.lacks_zero.Goals as goal

@@ -1,8 +1,8 @@
 use Rattle.std.proofs.Common.{◌∙◌, ◌*ℤ◌, pos, ◌<ℤ◌, sym, subst, ap, ap₂, to_z, of_z}
 use Rattle.std.specs.Int.{w128}
 use Rattle.std.proofs.lemmas.Int.{to_z-of_z}
-use Rattle.number_meaning.specs.Whole.{InRange}
-use Rattle.number_meaning.proofs.Integers.{same_bits}
+use Rattle.fraction128.specs.Whole.{InRange}
+use Rattle.fraction128.proofs.Integers.{same_bits}
 use Rattle.progressions.specs.Progressions.{State}
 use Rattle.progressions.proofs.Steps.{is_scaled, positive_product}
 use Rattle.progressions.proofs.progression.Progression.scaled.Goals as goal

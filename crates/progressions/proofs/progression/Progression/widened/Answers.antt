@@ -1,8 +1,8 @@
 use Rattle.std.proofs.Common.{◌∙◌, pos, ◌+ℤ◌, ◌*ℤ◌, unsigned_abs, ap, ap₂}
 use Rattle.std.specs.Int.{w128}
 use Rattle.std.proofs.lemmas.Int.{to_z-of_z}
-use Rattle.number_meaning.specs.Gcd.{gcd_of}
-use Rattle.number_meaning.proofs.Integers.{same_bits}
+use Rattle.fraction128.specs.Gcd.{gcd_of}
+use Rattle.fraction128.proofs.Integers.{same_bits}
 use Rattle.progressions.specs.Progressions.{State}
 use Rattle.progressions.proofs.Steps.{has_both}
 use Rattle.progressions.proofs.progression.Progression.widened.Goals as goal

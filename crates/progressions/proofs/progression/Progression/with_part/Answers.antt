@@ -1,7 +1,7 @@
 use Rattle.std.proofs.Common.{◌∙◌, ◌*ℤ◌, sym, ap, ap₂, to_z, of_z}
 use Rattle.std.specs.Int.{w128}
 use Rattle.std.proofs.lemmas.Int.{to_z-of_z}
-use Rattle.number_meaning.proofs.Integers.{same_bits}
+use Rattle.fraction128.proofs.Integers.{same_bits}
 use Rattle.progressions.specs.Progressions.{State}
 use Rattle.progressions.proofs.Steps.{part_added}
 use Rattle.progressions.proofs.progression.Progression.with_part.Goals as goal

@@ -1,5 +1,5 @@
 use Rattle.std.proofs.Common.{ap, ◌+◌, arith, subst, sym, ◌<◌}
-use Rattle.number_meaning.specs.declared.ratio.Ratio.{Ratio}
+use Rattle.fraction128.specs.declared.ratio.Ratio.{Ratio}
 use Rattle.bound_trail.specs.Trail.{Trail}
 use Rattle.sum_laws.proofs.Meaning.{leaves_keep}
 use Rattle.simplex.specs.State.{IsCore, new_column}

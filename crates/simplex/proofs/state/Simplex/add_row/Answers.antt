@@ -1,6 +1,6 @@
 use Rattle.std.proofs.Common.{ap, arith, subst, sym, ◌∷◌, [], ◌++◌, List}
-use Rattle.grid_meaning.specs.declared.Column.{Column}
-use Rattle.grid_meaning.specs.declared.Entry.{Entry}
+use Rattle.fraction128.specs.declared.Column.{Column}
+use Rattle.fraction128.specs.declared.Entry.{Entry}
 use Rattle.bound_trail.specs.Trail.{Trail}
 use Rattle.tableau.specs.Table.{Table}
 use Rattle.tableau.specs.Written.{AreParts}

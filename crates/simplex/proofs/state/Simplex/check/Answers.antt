@@ -1,6 +1,6 @@
 use Rattle.std.proofs.Common.{◌≡◌, ◌∙◌, ◌++◌, ℕ, List, length, take, drop, ap, sym, subst, arith}
 use Rattle.std.proofs.lemmas.List.{take-append-le, take_all}
-use Rattle.grid_meaning.specs.declared.Column.{Column}
+use Rattle.fraction128.specs.declared.Column.{Column}
 use Rattle.simplex_steps.specs.State.{AreRanged}
 use Rattle.simplex_steps.specs.Run.{IsRun}
 use Rattle.simplex.specs.State.{IsCore}

@@ -1,6 +1,6 @@
 use Rattle.std.proofs.Common.{◌<◌, ◌∙◌, length, sym, subst}
 use Rattle.std.proofs.lemmas.List.{get_or_default}
-use Rattle.grid_meaning.specs.declared.Column.{Column}
+use Rattle.fraction128.specs.declared.Column.{Column}
 use Rattle.simplex_steps.specs.State.{IsRanged, no_column}
 use Rattle.simplex.specs.State.{State}
 use Rattle.simplex.proofs.BoundLemmas.{ranged_of, fixed_ranged}

@@ -1,5 +1,5 @@
 use Rattle.std.proofs.Common.{◌≡◌, ◌∙◌, Bool, ℤ, ap, refl}
-use Rattle.number_meaning.proofs.Integers.{same_bits}
+use Rattle.fraction128.proofs.Integers.{same_bits}
 use Rattle.sum_bounds.specs.Bounds.{State, told_side, told_number}
 use Rattle.sum_bounds.proofs.Growth.{core_kept, met_told, told_pushed}
 use Rattle.sum_bounds.proofs.state.SumBounds.assert.Goals as goal

@@ -1,9 +1,9 @@
 use Rattle.std.proofs.Common.{◌≡◌, ◌∙◌, List, None, pos, ap, sym, subst}
 use Rattle.std.specs.Prelude.{Result, Ok, Err, IfErr}
-use Rattle.number_meaning.specs.Number.{whole}
-use Rattle.grid_meaning.specs.declared.Column.{Column}
-use Rattle.grid_meaning.specs.declared.Summand.{Summand}
-use Rattle.grid_meaning.specs.Grid.{column_of, entries_value, sum_row, turned}
+use Rattle.fraction128.specs.Number.{whole}
+use Rattle.fraction128.specs.declared.Column.{Column}
+use Rattle.fraction128.specs.declared.Summand.{Summand}
+use Rattle.fraction128.specs.Grid.{column_of, entries_value, sum_row, turned}
 use Rattle.tableau.specs.Failing.{IsRange}
 use Rattle.simplex_steps.specs.State.{values}
 use Rattle.simplex.specs.State.{new_column}

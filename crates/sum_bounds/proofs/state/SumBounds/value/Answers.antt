@@ -1,6 +1,6 @@
 use Rattle.std.proofs.Common.{◌≡◌, sym, ap, ◌∙◌}
-use Rattle.grid_meaning.specs.declared.Column.{Column}
-use Rattle.grid_meaning.specs.Grid.{variable_of}
+use Rattle.fraction128.specs.declared.Column.{Column}
+use Rattle.fraction128.specs.Grid.{variable_of}
 use Rattle.simplex_steps.specs.State.{values}
 use Rattle.sum_bounds.specs.Bounds.{State, leaf_values}
 use Rattle.sum_bounds.proofs.Leaves.{leaf_found}

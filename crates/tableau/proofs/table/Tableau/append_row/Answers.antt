@@ -1,6 +1,6 @@
 use Rattle.std.proofs.Common.{◌≡◌, sym, subst, ap, refl, ℕ, ◌<◌, ◌≤◌, ◌+◌, length, List, ◌++◌, ◌∷◌, [], Contains, arith}
-use Rattle.grid_meaning.specs.declared.TableRow.{TableRow}
-use Rattle.number_meaning.specs.Ratio.{IsFraction}
+use Rattle.fraction128.specs.declared.TableRow.{TableRow}
+use Rattle.fraction128.specs.Ratio.{IsFraction}
 use Rattle.tableau.specs.Rows.{coefficient_at}
 use Rattle.tableau.specs.Staged.{Lacks}
 use Rattle.tableau.specs.Table.{Table, IsTableau, row_at}

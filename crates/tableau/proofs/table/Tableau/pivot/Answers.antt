@@ -1,6 +1,6 @@
 use Rattle.std.proofs.Common.{◌∙◌, ap, refl, sym, subst}
 use Rattle.std.proofs.lemmas.Result.{on_ok_weaker, on_err_weaker}
-use Rattle.grid_meaning.specs.Grid.{pivoted_rows}
+use Rattle.fraction128.specs.Grid.{pivoted_rows}
 use Rattle.tableau.specs.Table.{Table, no_row, row_at}
 use Rattle.tableau.proofs.PivotedRows.{pivot_rows_are}
 use Rattle.tableau.proofs.FitTests.{pivot_fits_so, refused_so}

@@ -1,2 +1,0 @@
-pub mod RowValue
-mod Examples

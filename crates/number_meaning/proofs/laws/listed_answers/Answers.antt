@@ -1,8 +1,0 @@
-use Rattle.number_meaning.proofs.ExactSteps.{sum_same, product_same}
-use Rattle.number_meaning.proofs.laws.listed_answers.Goals as goal
-
-pub returns-clause-sum : goal.returns-clause-sum
-returns-clause-sum c = sum_same
-
-pub returns-clause-product : goal.returns-clause-product
-returns-clause-product c = product_same

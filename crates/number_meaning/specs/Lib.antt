@@ -1,5 +1,0 @@
-pub mod Whole
-pub mod Gcd
-pub mod Ratio
-pub mod Listed
-pub mod Number
