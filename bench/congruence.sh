@@ -5,7 +5,7 @@
 set -eu
 folder=$(mktemp -d)
 trap 'rm -rf "$folder"' EXIT
-libraries='fraction128 smt_meaning term_laws term_store equal_points point_closure'
+libraries='fraction128 smt_meaning smt_laws term_store equal_points point_closure'
 mkdir -p "$folder/crates/closure_time/src" "$folder/crates/closure_time/specs" "$folder/crates/closure_time/proofs/add_chain" "$folder/crates/closure_time/proofs/add_random" "$folder/crates/closure_time/proofs/merge_random"
 for library in $libraries; do
     cp -a "crates/$library" "$folder/crates/"

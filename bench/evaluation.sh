@@ -5,7 +5,7 @@
 set -eu
 folder=$(mktemp -d)
 trap 'rm -rf "$folder"' EXIT
-libraries='fraction128 smt_meaning term_laws term_store model_eval'
+libraries='fraction128 smt_meaning smt_laws term_store model_eval'
 mkdir -p "$folder/crates/evaluated_nodes/src"
 for library in $libraries; do
     cp -a "crates/$library" "$folder/crates/"

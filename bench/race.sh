@@ -5,7 +5,7 @@
 set -eu
 folder=$(mktemp -d)
 trap 'rm -rf "$folder"' EXIT
-libraries='fraction128 smt_meaning term_laws sort_laws clause_laws race_model lemma_pool race_cell race_tests'
+libraries='fraction128 smt_meaning smt_laws race_model lemma_pool race_cell race_tests'
 program="$folder/crates/timed_race"
 mkdir -p "$program/src"
 for library in $libraries; do

@@ -10,7 +10,7 @@ use Rattle.smt_meaning.specs.Interpretation.{Interprets, has_sort}
 use Rattle.smt_meaning.specs.Stack.{Satisfies, assertions_of, signature_of, up_to}
 use Rattle.smt_meaning.specs.Clause.{clause_symbols, symbols}
 use Rattle.smt_meaning.specs.Follows.{declared_ids, follows}
-use Rattle.term_laws.proofs.SortLaw.{value_fits_sort}
+use Rattle.smt_laws.proofs.SortLaw.{value_fits_sort}
 use Rattle.assertion_form.specs.Given.{Suits}
 use Rattle.assertion_form.specs.Form.{AreBools, TermClauseFollows}
 

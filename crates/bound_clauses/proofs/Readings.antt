@@ -15,7 +15,7 @@ use Rattle.smt_meaning.specs.TreeShape.{is_linear, is_among}
 use Rattle.smt_meaning.specs.Clause.{value_at, sum_value, atom_true}
 use Rattle.smt_meaning.specs.Linear.{Form, form_value, each_times, leaves}
 use Rattle.smt_meaning.specs.Atoms.{difference_of}
-use Rattle.clause_laws.specs.Laws.{LinearFormHasValue, NormalBoundHasValue}
+use Rattle.smt_laws.specs.ClauseLaws.{LinearFormHasValue, NormalBoundHasValue}
 use Rattle.bound_clauses.specs.declared.orders.Sense.{Sense}
 use Rattle.bound_clauses.specs.declared.orders.Sense.TheVariants.{NotAbove, Below}
 use Rattle.bound_clauses.specs.declared.axioms.Bound.{Bound}

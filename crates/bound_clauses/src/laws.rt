@@ -1,8 +1,8 @@
 //! What holds of the clauses, as contracts of functions that do nothing.
 ghost use Rattle.bound_clauses.specs.Laws.{OrdersAreComparisons, PairsAreCompared, OrderIsTied, OrderIsOver, EqualityIsTied, EqualityIsOver, ConstantIsTied, ConstantIsOver, AxiomsAreTrue, AxiomsAreOver, AxiomsAreFew, AxiomsForceAll, BoundHasValue, InterpretationAgrees, OrderClausesAreTrue, EqualityClausesAreTrue, ConstantHasValue, AxiomsHaveValue, OrderIsDecided, EqualityIsDecided};
 
-use clause_laws::{linear_form_has_value, normal_bound_has_value};
 use equality_clauses::comparison_is_over;
+use smt_laws::{linear_form_has_value, normal_bound_has_value};
 
 /// The bounds of a comparison are the atoms that a stack has for it.
 pub fn orders_are_comparisons()

@@ -18,7 +18,7 @@ use Rattle.smt_meaning.specs.Stack.{Frame, signature_of, assertions_of}
 use Rattle.smt_meaning.specs.StackCommand.{Stack}
 use Rattle.smt_meaning.specs.CheckAtoms.{IsPartOfStack, IsFirstAtom}
 use Rattle.smt_meaning.specs.Atoms.{normal_bound, atoms_of, stack_atoms, stack_atoms_are}
-use Rattle.flat_stack.specs.Flat.{flat, FlatSaysTheSame}
+use Rattle.smt_laws.specs.Flat.{flat, FlatSaysTheSame}
 use Rattle.scope_stack.specs.Shown.{IsLawful}
 use Rattle.stack_atoms.specs.Marks.{AreStackParts}
 use Rattle.bound_clauses.specs.declared.orders.Sense.{Sense}

@@ -19,7 +19,7 @@ use Rattle.smt_meaning.specs.StackCommand.{Stack}
 use Rattle.term_store.specs.Terms.{tree_with, AreDifferent}
 use Rattle.term_store.proofs.PlaceLemmas.{place_of-is}
 use Rattle.atom_table.specs.Numbers.{AreApart}
-use Rattle.sort_laws.specs.Laws.{SymbolsAreDeclared}
+use Rattle.smt_laws.specs.SortLaws.{SymbolsAreDeclared}
 use Rattle.search_port.specs.Valid.{IsOf}
 use Rattle.scope_stack.specs.Facts.{AreSorts}
 use Rattle.scope_stack.specs.Shown.{IsLawful}

@@ -14,7 +14,7 @@ use Rattle.smt_meaning.specs.Linear.{linear_form, form_fits}
 use Rattle.smt_meaning.specs.Atoms.{stack_atoms}
 use Rattle.smt_meaning.specs.CheckAtoms.{IsPartOfStack, IsFirstAtom}
 use Rattle.smt_meaning.specs.Ranges.{LeavesInPart, LeavesInPair}
-use Rattle.flat_stack.specs.Flat.{flat}
+use Rattle.smt_laws.specs.Flat.{flat}
 use Rattle.scope_stack.specs.Shown.{IsLawful}
 use Rattle.stack_atoms.specs.Parts.{IsMarked}
 use Rattle.stack_atoms.specs.Marks.{AreStackParts}

@@ -16,8 +16,8 @@ use atom_numbers::AtomNumbers;
 use bound_clauses::Order;
 use linear_forms::LinearForms;
 use scope_stack::Stack;
+use smt_laws::symbols_are_declared;
 use smt_meaning::{Sort, Summand, TermId};
-use sort_laws::symbols_are_declared;
 use std::alloc::Global;
 
 /// The parts of a stack's assertions and their atoms.

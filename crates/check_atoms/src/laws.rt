@@ -2,7 +2,7 @@
 ghost use Rattle.check_atoms.specs.Laws.{AtomsAreOfStack, StackAtomsAreNumbered, AtomsAreFirst, PartsHaveNumbers, TruthsHaveNumbers, RefusedTermLeavesRange, RefusedPairLeavesRange};
 
 use bound_clauses::orders_are_comparisons;
-use flat_stack::flat_says_the_same;
+use smt_laws::flat_says_the_same;
 
 /// Each numbered atom is one of the stack's.
 pub fn atoms_are_of_stack()

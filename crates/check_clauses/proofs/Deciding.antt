@@ -11,7 +11,7 @@ use Rattle.smt_meaning.specs.Interpretation.{Interprets}
 use Rattle.smt_meaning.specs.Stack.{Frame, signature_of, assertions_of, up_to, Holds, Satisfies, no_model}
 use Rattle.smt_meaning.specs.StackCommand.{Stack}
 use Rattle.search_port.specs.State.{Reading, IsGrown, atom_at, truth}
-use Rattle.flat_stack.specs.Flat.{flat, FlatSaysTheSame}
+use Rattle.smt_laws.specs.Flat.{flat, FlatSaysTheSame}
 use Rattle.part_clauses.specs.First.{unit, IsAsserted}
 use Rattle.check_clauses.specs.First.{reading_of}
 use Rattle.check_clauses.specs.Laws.{MakesTrue, FirstClausesSayAssertions, SignatureStays, EmptyClauseMeansNoModel}

@@ -12,7 +12,7 @@ use Rattle.smt_meaning.specs.TreeShape.{is_linear}
 use Rattle.smt_meaning.specs.Stack.{assertions_of}
 use Rattle.smt_meaning.specs.StackCommand.{Stack}
 use Rattle.search_port.specs.State.{Reading, truth_atoms}
-use Rattle.flat_stack.specs.Flat.{flat}
+use Rattle.smt_laws.specs.Flat.{flat}
 use Rattle.stack_atoms.specs.Parts.{IsMarked}
 use Rattle.check_atoms.specs.OfStack.{IsNode}
 use Rattle.order_clauses.specs.declared.error.PartError.{PartError}

@@ -20,11 +20,10 @@ use atom_numbers::AtomNumbers;
 use atom_table::CompactAtom;
 use clause_form::{Clauses, Room, node_clauses_hold, put_node};
 use clause_store::store::Store;
-use flat_stack::flat_says_the_same;
 use scope_stack::Stack;
+use smt_laws::{flat_says_the_same, value_has_its_sort};
 use smt_meaning::{Operator, Sort, TermId};
 use std::alloc::{AllocError, Global};
-use term_laws::value_has_its_sort;
 
 /// Lists that are used again for each node.
 #[derive(Drop)]

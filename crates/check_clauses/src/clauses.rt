@@ -20,9 +20,9 @@ use atom_numbers::AtomNumbers;
 use atom_table::CompactAtom;
 use check_atoms::CheckAtoms;
 use clause_store::store::Store;
-use flat_stack::flat_says_the_same;
 use literals::Literal;
 use scope_stack::{Assertion, Stack};
+use smt_laws::flat_says_the_same;
 use smt_meaning::{Sort, TermId};
 use std::alloc::{AllocError, Global};
 

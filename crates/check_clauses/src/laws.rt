@@ -2,8 +2,8 @@
 ghost use Rattle.check_clauses.specs.Laws.{FirstClausesSayAssertions, SignatureStays, EmptyClauseMeansNoModel, KeptPartsAreForced, MoreForceParts};
 
 use assertion_form::node_clauses_are_renamed;
-use flat_stack::flat_says_the_same;
 use forced_clauses::node_clauses_force;
+use smt_laws::flat_says_the_same;
 
 /// What makes the first clauses true makes the assertions true, also where the search has numbered more atoms.
 pub fn first_clauses_say_assertions()

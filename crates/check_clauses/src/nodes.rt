@@ -27,10 +27,10 @@ use crate::shapes::linear_terms;
 use atom_numbers::AtomNumbers;
 use clause_form::Clauses;
 use clause_store::store::Store;
-use flat_stack::flat_says_the_same;
 use linear_forms::LinearForms;
 use order_clauses::{PartError, Space as PartSpace, put_part};
 use scope_stack::Stack;
+use smt_laws::flat_says_the_same;
 use smt_meaning::{Head, Operator, Sort, TermId};
 use std::alloc::Global;
 

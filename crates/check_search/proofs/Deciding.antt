@@ -16,7 +16,7 @@ use Rattle.scope_stack.specs.Shown.{AreAsserted}
 use Rattle.search_port.specs.State.{Reading, TheoryState, IsGrown}
 use Rattle.search_port.specs.Valid.{IsOver, FollowsAt}
 use Rattle.cdcl_core.specs.Search.{IsFresh, IsModel, AreAmong}
-use Rattle.flat_stack.specs.Flat.{flat}
+use Rattle.smt_laws.specs.Flat.{flat}
 use Rattle.part_clauses.specs.First.{IsClause}
 use Rattle.check_clauses.specs.First.{reading_of, IsFirst}
 use Rattle.check_clauses.specs.Laws.{FirstClausesSayAssertions, SignatureStays}

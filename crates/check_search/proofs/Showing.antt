@@ -31,7 +31,7 @@ use Rattle.search_port.specs.declared.budget.Spent.{Spent}
 use Rattle.search_port.specs.declared.budget.Spent.TheVariants.{Learnt, Numbered, Pivot}
 use Rattle.search_port.proofs.Forcing.{in_map}
 use Rattle.search_port.proofs.Pivots.{line_over}
-use Rattle.flat_stack.specs.Flat.{flat, FlatSaysTheSame}
+use Rattle.smt_laws.specs.Flat.{flat, FlatSaysTheSame}
 use Rattle.check_atoms.specs.Laws.{IsSameOfBools}
 use Rattle.part_clauses.specs.First.{ForcesParts, IsAsserted, IsForced, written_literal}
 use Rattle.check_clauses.specs.First.{reading_of, IsFirst}

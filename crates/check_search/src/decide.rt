@@ -16,13 +16,13 @@ use cdcl_core::fresh_stands;
 use cdcl_core::solve::{Outcome, solve};
 use check_clauses::{empty_clause_means_no_model, first_clauses_say_assertions, signature_stays};
 use clause_store::store::Store;
-use flat_stack::flat_says_the_same;
 use model_eval::values;
 use scope_stack::{Assertion, Stack};
 use search_order::Order;
 use search_port::{
     Budget, Cause as Ending, Shown, follows_as_written, forces_by_numbers, forces_in_turn,
 };
+use smt_laws::flat_says_the_same;
 use smt_meaning::{Interp, Settings, TermId};
 use std::alloc::{AllocError, Global};
 use theory_port::Verdict;

@@ -2,16 +2,16 @@
 ghost use Rattle.std.specs.Prelude.{◌≡◌, [], length, All, IfOk};
 ghost use Rattle.smt_meaning.specs.CheckAtoms.{IsCheckAtom};
 ghost use Rattle.smt_meaning.specs.Ranges.{LeavesRange};
-ghost use Rattle.flat_stack.specs.Flat.{flat};
+ghost use Rattle.smt_laws.specs.Flat.{flat};
 ghost use Rattle.theory_port.specs.Verdicts.{IsVerdict};
 ghost use Rattle.check_search.specs.Shown.{IsOfNumbers, ShowsUnits};
 
 use crate::bools::some_numbers_bools;
 use crate::pivots::some_row_twice;
 use crate::shown::{report, write_units};
-use flat_stack::flat_says_the_same;
 use scope_stack::Stack;
 use search_port::{Budget, Showing, Shown};
+use smt_laws::flat_says_the_same;
 use smt_meaning::{Cause, RangeSeen, Seq, Settings};
 use std::alloc::{AllocError, Global};
 use theory_port::Verdict;

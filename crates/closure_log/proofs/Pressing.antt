@@ -9,7 +9,7 @@ use Rattle.search_port.specs.State.{TheoryState, IsOpenIn, IsPressing}
 use Rattle.search_port.specs.Spending.{Spending}
 use Rattle.search_port.specs.Calls.{IsLemma, AreNews}
 use Rattle.search_port.specs.declared.budget.Lemma.{Lemma}
-use Rattle.flat_stack.specs.Flat.{FlatSaysTheSame}
+use Rattle.smt_laws.specs.Flat.{FlatSaysTheSame}
 use Rattle.equal_points.specs.declared.step.Step.{Step}
 use Rattle.congruence.specs.declared.congruence.Congruence.{Congruence}
 use Rattle.literal_steps.specs.Implied.{IsPressingLemma, Presses}

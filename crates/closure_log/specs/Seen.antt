@@ -7,7 +7,7 @@ use Rattle.smt_meaning.specs.Stack.{signature_of}
 use Rattle.smt_meaning.specs.StackCommand.{Stack}
 use Rattle.search_port.specs.State.{TheoryState}
 use Rattle.search_port.specs.Valid.{IsOf}
-use Rattle.flat_stack.specs.Flat.{flat}
+use Rattle.smt_laws.specs.Flat.{flat}
 use Rattle.stack_atoms.specs.Atoms.{is_bool_at}
 
 -- the levels of a stack are read as one, and atoms may be added

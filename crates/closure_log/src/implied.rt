@@ -15,11 +15,11 @@ use crate::told::ClosureLog;
 use atom_numbers::AtomNumbers;
 use congruence::Explanation;
 use equal_points::Step;
-use flat_stack::flat_says_the_same;
 use literal_steps::implied_clause;
 use literals::Literal;
 use scope_stack::Stack;
 use search_port::{Cause, Inferred, Lemma};
+use smt_laws::flat_says_the_same;
 use smt_meaning::Seq;
 use std::alloc::{AllocError, Global};
 

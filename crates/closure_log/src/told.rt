@@ -11,11 +11,11 @@ use crate::said::{Extent, Guide, say};
 use atom_numbers::AtomNumbers;
 use congruence::{Congruence, Explanation};
 use equal_points::Step;
-use flat_stack::flat_says_the_same;
 use literal_steps::{clash_is_false_clause, lemma_with, record_all};
 use literals::Literal;
 use scope_stack::Stack;
 use search_port::{Asserted, Cause, Lemma};
+use smt_laws::flat_says_the_same;
 use std::alloc::{AllocError, Global};
 use term_store::TermStore;
 

@@ -6,7 +6,7 @@ use Rattle.smt_meaning.specs.declared.terms.Operator.{Operator}
 use Rattle.smt_meaning.specs.Term.{Tree}
 use Rattle.smt_meaning.specs.Signature.{find_function}
 use Rattle.smt_meaning.specs.Sorts.{Scope, known_symbol}
-use Rattle.term_walk.specs.Walk.{application, given as given_to, give as given_all}
+use Rattle.smt_laws.specs.Walk.{application, given as given_to, give as given_all}
 use Rattle.elaborate.specs.declared.value.Value.{Value}
 use Rattle.elaborate.specs.declared.frame.Binding.{Binding}
 use Rattle.elaborate.specs.declared.frame.Frame.{Frame}

@@ -11,7 +11,7 @@ use Rattle.smt_meaning.specs.Declaration.{Declaration}
 use Rattle.smt_meaning.specs.Sexp.{Sexps, open_lists_of}
 use Rattle.smt_meaning.specs.Signature.{look_up, operators, find_function}
 use Rattle.smt_meaning.specs.Sorts.{Scope, Outcome, done, refused, Judging, go_on, ◌>>=◌, ◌>>◌, return, refuse, the_scope, Variable, Rules, Known, variable, operator, function, unknown, known, known_symbol, can_be_applied}
-use Rattle.term_walk.specs.Walk.{Frame as Meant, application, let_open, annotation, on_head, check_let, check_annotation, has_free_first, first_list}
+use Rattle.smt_laws.specs.Walk.{Frame as Meant, application, let_open, annotation, on_head, check_let, check_annotation, has_free_first, first_list}
 use Rattle.elaborate.specs.declared.value.Value.{Value}
 use Rattle.elaborate.specs.declared.frame.Binding.{Binding}
 use Rattle.elaborate.specs.declared.frame.Frame.{Frame}

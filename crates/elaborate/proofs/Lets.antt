@@ -8,7 +8,7 @@ use Rattle.smt_meaning.specs.declared.refusals.Refusal.TheVariants.{WrongArgumen
 use Rattle.smt_meaning.specs.Term.{Tree}
 use Rattle.smt_meaning.specs.Sexp.{Sexps}
 use Rattle.smt_meaning.specs.Sorts.{Scope, done, refused, ◌>>=◌, return, refuse, Rules}
-use Rattle.term_walk.specs.Walk.{body, bindings, binding, give as given_all, on_leave, on_words, on_attribute, after_keyword}
+use Rattle.smt_laws.specs.Walk.{body, bindings, binding, give as given_all, on_leave, on_words, on_attribute, after_keyword}
 use Rattle.elaborate.specs.declared.value.Value.{Value}
 use Rattle.elaborate.specs.declared.frame.Binding.{Binding as Pair}
 use Rattle.elaborate.specs.declared.frame.Frame.{Frame}

@@ -10,7 +10,7 @@ use Rattle.smt_meaning.specs.Term.{Tree}
 use Rattle.smt_meaning.specs.Sexp.{Sexps}
 use Rattle.smt_meaning.specs.Signature.{find_function}
 use Rattle.smt_meaning.specs.Sorts.{Scope, Outcome, done, refused, Judging, go_on, ◌>>=◌, return, refuse, Typed, Rules, known_symbol, judge_token, judge_application}
-use Rattle.term_walk.specs.Walk.{Frame as Meant, whole, opened, variables, given as given_to, give as given_all, on_enter, on_leave, on_words, on_head}
+use Rattle.smt_laws.specs.Walk.{Frame as Meant, whole, opened, variables, given as given_to, give as given_all, on_enter, on_leave, on_words, on_head}
 use Rattle.elaborate.specs.declared.value.Value.{Value}
 use Rattle.elaborate.specs.declared.frame.Binding.{Binding as Pair}
 use Rattle.elaborate.specs.declared.frame.Frame.{Frame}

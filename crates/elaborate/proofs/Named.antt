@@ -15,8 +15,8 @@ use Rattle.smt_meaning.specs.StackCommand.{function_declaration}
 use Rattle.smt_sorts.specs.declared.errors.AddError.{AddError}
 use Rattle.smt_sorts.specs.declared.errors.AddError.TheVariants.{TooManySymbols as TooMany}
 use Rattle.smt_sorts.specs.Names.{Names, signature, with_declaration}
-use Rattle.term_walk.specs.Walk.{Frame as Meant, attributes, has_free_first, on_words, step, run, finish}
-use Rattle.term_walk.specs.Laws.{WalkGivesTheJudgement}
+use Rattle.smt_laws.specs.Walk.{Frame as Meant, attributes, has_free_first, on_words, step, run, finish}
+use Rattle.smt_laws.specs.TermWalkLaws.{WalkGivesTheJudgement}
 use Rattle.look_ahead.specs.Ahead.{ahead}
 use Rattle.elaborate.specs.declared.value.Value.{Value}
 use Rattle.elaborate.specs.declared.frame.Binding.{Binding}

@@ -10,7 +10,7 @@ use Rattle.smt_meaning.specs.declared.terms.Head.{Head}
 use Rattle.smt_meaning.specs.Term.{Tree, node, more, tree_at}
 use Rattle.smt_meaning.specs.TreeShape.{is_among, with_tree, with_parts}
 use Rattle.smt_meaning.specs.Nodes.{pick}
-use Rattle.term_walk.specs.Todo.{Todo, visit, keep, after, visits, VisitsParts}
+use Rattle.smt_laws.specs.Todo.{Todo, visit, keep, after, visits, VisitsParts}
 use Rattle.term_store.specs.Terms.{IsPlace, AreComplete}
 use Rattle.elaborate.specs.declared.parts.Job.{Job}
 use Rattle.elaborate.specs.declared.parts.Job.TheVariants.{Visit, Keep}

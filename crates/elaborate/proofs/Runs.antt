@@ -7,8 +7,8 @@ use Rattle.smt_meaning.specs.declared.refusals.Refusal.TheVariants.{WrongArgumen
 use Rattle.smt_meaning.specs.Term.{Tree}
 use Rattle.smt_meaning.specs.Sexp.{Sexps, open_lists_of, sexp, IsSexp}
 use Rattle.smt_meaning.specs.Sorts.{Scope, Outcome, done, refused, Judging, go_on, ◌>>=◌, return, refuse, Typed, Rules, judge}
-use Rattle.term_walk.specs.Walk.{Frame as Meant, whole, on_enter, on_leave, on_words, first_list, step, run, finish}
-use Rattle.term_walk.specs.Laws.{WalkGivesTheJudgement}
+use Rattle.smt_laws.specs.Walk.{Frame as Meant, whole, on_enter, on_leave, on_words, first_list, step, run, finish}
+use Rattle.smt_laws.specs.TermWalkLaws.{WalkGivesTheJudgement}
 use Rattle.elaborate.specs.declared.value.Value.{Value}
 use Rattle.elaborate.specs.declared.frame.Binding.{Binding}
 use Rattle.elaborate.specs.declared.frame.Frame.{Frame}

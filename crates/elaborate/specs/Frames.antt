@@ -7,7 +7,7 @@ use Rattle.smt_meaning.specs.Term.{Tree}
 use Rattle.smt_meaning.specs.Sexp.{open_lists_of}
 use Rattle.smt_meaning.specs.Signature.{find_function}
 use Rattle.smt_meaning.specs.Sorts.{Scope, Variable, known_symbol}
-use Rattle.term_walk.specs.Walk.{Frame as Meant, whole, answer, opened, application, let_open, bindings, binding_open, binding, bound_to, body, result, annotation, attributes, naming, has_free_first, first_list}
+use Rattle.smt_laws.specs.Walk.{Frame as Meant, whole, answer, opened, application, let_open, bindings, binding_open, binding, bound_to, body, result, annotation, attributes, naming, has_free_first, first_list}
 use Rattle.elaborate.specs.declared.value.Value.{Value}
 use Rattle.elaborate.specs.declared.frame.Binding.{Binding}
 use Rattle.elaborate.specs.declared.frame.Frame.{Frame}

@@ -1,7 +1,7 @@
 -- A stored term is copied with its parts: the jobs that are left, and where the copies stand.
 use Rattle.std.specs.Prelude.{◌≡◌, ℕ, List, [], ◌∷◌, map, Option, Some}
 use Rattle.smt_meaning.specs.Term.{Tree, tree_at}
-use Rattle.term_walk.specs.Todo.{Todo, visit, keep, after}
+use Rattle.smt_laws.specs.Todo.{Todo, visit, keep, after}
 use Rattle.term_store.specs.Terms.{IsPlace}
 use Rattle.elaborate.specs.declared.parts.Job.{Job}
 use Rattle.elaborate.specs.declared.parts.Job.TheVariants.{Visit, Keep}

@@ -5,7 +5,7 @@ use Rattle.smt_meaning.specs.declared.tokens.Token.TheVariants.{Enter, Leave, Sy
 use Rattle.smt_meaning.specs.declared.refusals.Refusal.TheVariants.{WrongArguments}
 use Rattle.smt_meaning.specs.Sexp.{Sexps}
 use Rattle.smt_meaning.specs.Sorts.{Scope, done, refused, Judging}
-use Rattle.term_walk.specs.Walk.{Frame as Meant, given as given_to, give as given_all, check_let, check_annotation}
+use Rattle.smt_laws.specs.Walk.{Frame as Meant, given as given_to, give as given_all, check_let, check_annotation}
 use Rattle.elaborate.specs.declared.value.Value.{Value}
 use Rattle.elaborate.specs.declared.frame.Binding.{Binding as Pair}
 use Rattle.elaborate.specs.declared.frame.Frame.{Frame}

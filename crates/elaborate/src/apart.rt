@@ -5,7 +5,7 @@ ghost use Rattle.smt_meaning.specs.Seen.{seen};
 ghost use Rattle.smt_meaning.specs.Sexp.{Sexps, open_lists_of};
 ghost use Rattle.look_ahead.specs.Ahead.{AreEnds};
 ghost use Rattle.smt_sorts.specs.Names.{signature};
-ghost use Rattle.term_walk.specs.Walk.{step, on_words, on_leave};
+ghost use Rattle.smt_laws.specs.Walk.{step, on_words, on_leave};
 ghost use Rattle.elaborate.specs.Judged.{scope_of, rules_of};
 ghost use Rattle.elaborate.specs.Values.{HasGrown};
 ghost use Rattle.elaborate.specs.Frames.{walk_of, Stands};

@@ -4,7 +4,7 @@ ghost use Rattle.smt_meaning.specs.declared.tokens.Token.{Token as TokenValue};
 ghost use Rattle.smt_meaning.specs.Seen.{seen};
 ghost use Rattle.smt_meaning.specs.Sexp.{Sexps};
 ghost use Rattle.smt_meaning.specs.Sorts.{Scope, Rules as RulesValue};
-ghost use Rattle.term_walk.specs.Walk.{on_leave, on_words};
+ghost use Rattle.smt_laws.specs.Walk.{on_leave, on_words};
 ghost use Rattle.elaborate.specs.Judged.{rules_of};
 ghost use Rattle.elaborate.specs.Frames.{walk_of, Stands};
 ghost use Rattle.elaborate.specs.Steps.{kind_of, takes_word, is_named, IsNoName, StepComes};

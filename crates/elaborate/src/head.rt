@@ -4,7 +4,7 @@ ghost use Rattle.smt_meaning.specs.declared.tokens.Token.{Token as TokenValue};
 ghost use Rattle.smt_meaning.specs.Seen.{seen};
 ghost use Rattle.smt_meaning.specs.Sexp.{Sexps};
 ghost use Rattle.smt_meaning.specs.Term.{Tree};
-ghost use Rattle.term_walk.specs.Walk.{on_head};
+ghost use Rattle.smt_laws.specs.Walk.{on_head};
 ghost use Rattle.look_ahead.specs.Ahead.{ahead, AreEnds};
 ghost use Rattle.elaborate.specs.Judged.{scope_of, rules_of};
 ghost use Rattle.elaborate.specs.Frames.{variable_at};

@@ -7,7 +7,7 @@ ghost use Rattle.smt_meaning.specs.Term.{Tree};
 ghost use Rattle.smt_meaning.specs.Signature.{is_one_of, find_function, reserved_functions};
 ghost use Rattle.smt_meaning.specs.Sorts.{judge, declare, name_declaration, name_term};
 ghost use Rattle.smt_sorts.specs.Names.{Names, signature, HasGained, IsNewFunction};
-ghost use Rattle.term_walk.specs.Walk.{step, run, on_words};
+ghost use Rattle.smt_laws.specs.Walk.{step, run, on_words};
 ghost use Rattle.look_ahead.specs.Ahead.{AreEnds};
 ghost use Rattle.elaborate.specs.Judged.{scope_of, rules_of};
 ghost use Rattle.elaborate.specs.Values.{HasGrown, IsValue, typed};
@@ -26,11 +26,11 @@ use crate::steps::{is_word, step};
 use crate::value::Value;
 use crate::walk::{awaits_name, push};
 use look_ahead::has_free_first;
+use smt_laws::{nothing_is_free, walk_gives_the_judgement};
 use smt_meaning::{Bytes, Rank, Refusal, SExpr, Seq, TokenView};
 use smt_sorts::{AddError, NameError, Table};
 use std::alloc::{AllocError, Global};
 use term_store::TermStore;
-use term_walk::{nothing_is_free, walk_gives_the_judgement};
 
 /// The names that bindings bind.
 #[derive(Clone, Copy, Drop)]

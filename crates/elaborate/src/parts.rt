@@ -11,11 +11,11 @@ ghost use Rattle.elaborate.specs.Parts.{job_place, outcome, visits_of, AreCopies
 ghost use Rattle.elaborate.specs.declared.parts.Job.TheVariants as Job;
 
 use crate::stack::Stack;
+use smt_laws::parts_are_visited;
 use smt_meaning::{Body, Node, Seq, TermId, Terms};
 use std::alloc::{AllocError, Global};
 use std::collections::HashMap;
 use term_store::TermStore;
-use term_walk::parts_are_visited;
 
 /// What is still to do with a term of a store.
 #[derive(Clone, Copy, Drop)]

@@ -2,7 +2,7 @@
 ghost use Rattle.std.specs.Prelude.{◌≡◌, map};
 ghost use Rattle.smt_meaning.specs.Sexp.{sexp};
 ghost use Rattle.smt_meaning.specs.Sorts.{judge};
-ghost use Rattle.term_walk.specs.Walk.{run};
+ghost use Rattle.smt_laws.specs.Walk.{run};
 ghost use Rattle.look_ahead.specs.Ahead.{AreEnds};
 ghost use Rattle.elaborate.specs.Judged.{scope_of, rules_of};
 ghost use Rattle.elaborate.specs.Values.{Comes, HasGrown};
@@ -19,11 +19,11 @@ use crate::frame::Walk;
 use crate::own::Apart;
 use crate::stack::Stack;
 use crate::value::Value;
+use smt_laws::walk_gives_the_judgement;
 use smt_meaning::{Refusal, SExpr};
 use smt_sorts::Table;
 use std::alloc::Global;
 use term_store::TermStore;
-use term_walk::walk_gives_the_judgement;
 
 /// Reads each token in turn.
 fn read(

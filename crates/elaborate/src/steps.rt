@@ -6,7 +6,7 @@ ghost use Rattle.smt_meaning.specs.Sexp.{Sexps, open_lists_of};
 ghost use Rattle.smt_meaning.specs.Term.{Tree};
 ghost use Rattle.look_ahead.specs.Ahead.{ahead, AreEnds};
 ghost use Rattle.smt_meaning.specs.Sorts.{Scope};
-ghost use Rattle.term_walk.specs.Walk.{step, on_words, on_enter, on_leave};
+ghost use Rattle.smt_laws.specs.Walk.{step, on_words, on_enter, on_leave};
 ghost use Rattle.elaborate.specs.Judged.{scope_of, rules_of};
 ghost use Rattle.elaborate.specs.Values.{HasGrown};
 ghost use Rattle.elaborate.specs.Frames.{walk_of, Stands};

@@ -17,12 +17,12 @@ use Rattle.smt_meaning.specs.MayReply.{Fits, IsModel as IsModelOfFrames}
 use Rattle.smt_meaning.specs.Signature.{tree_sort}
 use Rattle.smt_meaning.specs.Stack.{Frame, signature_of, assertions_of, up_to, Holds, Satisfies, HasNoModel, no_model}
 use Rattle.smt_meaning.specs.StackCommand.{Stack}
-use Rattle.term_laws.specs.Laws.{TablesInterpret, ValueHasItsSort}
+use Rattle.smt_laws.specs.TermLaws.{TablesInterpret, ValueHasItsSort}
 use Rattle.scope_stack.specs.Shown.{IsLawful}
 use Rattle.search_port.specs.State.{Reading, TheoryState, IsGrown, atom_at, truth}
 use Rattle.search_port.specs.Valid.{IsOver, FollowsAt}
 use Rattle.cdcl_core.specs.Search.{IsFresh, IsModel, AreAmong}
-use Rattle.flat_stack.specs.Flat.{flat, FlatSaysTheSame}
+use Rattle.smt_laws.specs.Flat.{flat, FlatSaysTheSame}
 use Rattle.smt_meaning.specs.Kinds.{has_no_int, has_no_integers}
 use Rattle.part_clauses.specs.First.{reading_of, unit, IsClause, IsAsserted, IsFirst}
 use Rattle.equality_decider.proofs.Fitting.{fit}

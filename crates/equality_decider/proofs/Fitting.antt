@@ -13,7 +13,7 @@ use Rattle.smt_meaning.specs.Declaration.{Declaration}
 use Rattle.smt_meaning.specs.Term.{Tree, Trees, node, none, more, Interpretation, value, values, apply, fits, all_fit, head_fits, in_range, all_in_range, partials}
 use Rattle.smt_meaning.specs.Signature.{tree_sort, tree_sorts, with_sorts, cons_sort, head_sort, operator_sort, stands_with, if_so, all_of, is_int}
 use Rattle.smt_meaning.specs.Interpretation.{has_sort, Interprets}
-use Rattle.term_laws.specs.Laws.{ValueHasItsSort}
+use Rattle.smt_laws.specs.TermLaws.{ValueHasItsSort}
 use Rattle.smt_meaning.specs.Kinds.{has_no_int, have_no_int}
 
 left_true : (a b : Bool) → (a && b) ≡ true → a ≡ true

@@ -19,7 +19,7 @@ use Rattle.search_port.specs.Forcing.{ForcesByNumbers, ForcesInTurn}
 use Rattle.search_port.specs.Calls.{IsNoPivot, numbers}
 use Rattle.search_port.specs.declared.budget.Spent.{Spent}
 use Rattle.search_port.specs.declared.budget.Spent.TheVariants.{Learnt, Numbered, Pivot}
-use Rattle.flat_stack.specs.Flat.{FlatSaysTheSame}
+use Rattle.smt_laws.specs.Flat.{FlatSaysTheSame}
 use Rattle.stack_atoms.specs.OfStack.{AreOfStack}
 use Rattle.part_clauses.specs.First.{reading_of, IsFirst}
 use Rattle.cdcl_core.specs.Turns.{AreNew, IsShown, IsOfTheory, Searches}

@@ -37,7 +37,7 @@ use Rattle.search_port.specs.declared.budget.Spent.{Spent}
 use Rattle.search_port.specs.declared.budget.Spent.TheVariants.{Learnt, Numbered, Pivot}
 use Rattle.search_port.proofs.Forcing.{ComesBy, from_map, in_map}
 use Rattle.forced_clauses.proofs.More.{forces_more}
-use Rattle.flat_stack.specs.Flat.{flat, FlatSaysTheSame, SaysTheSame}
+use Rattle.smt_laws.specs.Flat.{flat, FlatSaysTheSame, SaysTheSame}
 use Rattle.stack_atoms.specs.Atoms.{IsPartAtom}
 use Rattle.stack_atoms.specs.OfStack.{AreOfStack, HasPlace}
 use Rattle.part_clauses.specs.First.{IsAsserted, IsFirst, IsForced, written_literal, unit as unit_clause}

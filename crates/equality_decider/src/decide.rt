@@ -18,15 +18,14 @@ use atom_table::AtomTable;
 use cdcl_core::fresh_stands;
 use cdcl_core::solve::{Outcome, solve};
 use clause_store::store::Store;
-use flat_stack::flat_says_the_same;
 use scope_stack::Stack;
 use search_order::Order;
 use search_port::{
     Budget, Cause as Ending, Theory, follows_as_written, forces_by_numbers, forces_in_turn,
 };
+use smt_laws::{flat_says_the_same, tables_interpret, value_has_its_sort};
 use smt_meaning::{Cause, Settings};
 use std::alloc::{AllocError, Global};
-use term_laws::{tables_interpret, value_has_its_sort};
 use theory_port::Verdict;
 
 /// Searches from the first clauses on: a model of all of them is one of the assertions, where the empty clause follows, they have none, and where the search ends without an answer, its worker shows why.

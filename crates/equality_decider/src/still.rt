@@ -16,7 +16,7 @@ impl Hook for Still<'_> {
     ghost use Rattle.std.specs.Prelude.{[], false};
     ghost use Rattle.search_port.specs.State.{Reading};
     ghost use Rattle.cdcl_core.specs.Turns.{NoHook};
-    ghost use Rattle.flat_stack.specs.Flat.{flat};
+    ghost use Rattle.smt_laws.specs.Flat.{flat};
 
     ghost reading = { λ h. record { trees = h.stack.now.trees; frames = flat h.stack.now.frames; table = []; closed = false } };
 

@@ -11,7 +11,7 @@ use Rattle.smt_meaning.specs.Stack.{signature_of}
 use Rattle.smt_meaning.specs.StackCommand.{Stack}
 use Rattle.atom_table.specs.Numbers.{IsAt}
 use Rattle.search_port.specs.State.{atom_at}
-use Rattle.flat_stack.specs.Flat.{flat, SaysTheSame, FlatSaysTheSame}
+use Rattle.smt_laws.specs.Flat.{flat, SaysTheSame, FlatSaysTheSame}
 use Rattle.congruence.specs.declared.congruence.Congruence.{Congruence}
 use Rattle.congruence.specs.Recorded.{IsConflict as IsClash}
 use Rattle.stack_atoms.specs.Parts.{IsMarked}

@@ -15,11 +15,11 @@ use crate::told::Told;
 use atom_table::AtomTable;
 use congruence::Explanation;
 use equal_points::Step;
-use flat_stack::flat_says_the_same;
 use literal_steps::{atoms_are_declared, implied_clause};
 use literals::Literal;
 use scope_stack::Stack;
 use search_port::{Cause, Inferred, Lemma};
+use smt_laws::flat_says_the_same;
 use smt_meaning::Seq;
 use std::alloc::{AllocError, Global};
 

@@ -7,11 +7,11 @@ ghost use Rattle.equality_theory.specs.Told.{IsTold, IsTheory};
 
 use crate::told::Told;
 use atom_table::AtomTable;
-use flat_stack::flat_says_the_same;
 use last_check::last_check;
 use literal_steps::atoms_are_declared;
 use scope_stack::Stack;
 use search_port::Judged;
+use smt_laws::flat_says_the_same;
 use smt_meaning::Sort;
 use std::alloc::{AllocError, Global};
 

@@ -11,11 +11,11 @@ use crate::said::{Extent, Guide, say};
 use atom_table::AtomTable;
 use congruence::{Congruence, Explanation};
 use equal_points::Step;
-use flat_stack::flat_says_the_same;
 use literal_steps::{atoms_are_declared, clash_is_false_clause, lemma_with, record_all};
 use literals::Literal;
 use scope_stack::Stack;
 use search_port::{Asserted, Cause, Lemma};
+use smt_laws::flat_says_the_same;
 use std::alloc::{AllocError, Global};
 
 /// The literals, oldest first, and how many steps were recorded before each; the lists of the last explanation, for the next.

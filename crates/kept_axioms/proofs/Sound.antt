@@ -10,7 +10,7 @@ use Rattle.smt_meaning.specs.StackCommand.{Stack}
 use Rattle.search_port.specs.Valid.{IsOf}
 use Rattle.search_port.proofs.Forcing.{ComesBy, from_map, in_map}
 use Rattle.atom_table.specs.Numbers.{IsAt}
-use Rattle.flat_stack.specs.Flat.{FlatSaysTheSame}
+use Rattle.smt_laws.specs.Flat.{FlatSaysTheSame}
 use Rattle.bound_axioms.specs.Axioms.{BoundsFit, IsSound, AddsAxioms}
 use Rattle.order_clauses.specs.Sound.{IsSound as IsSoundIn}
 use Rattle.check_atoms.specs.Numbering.{IsNormal, IsNormalBound}

@@ -13,8 +13,8 @@ use check_atoms::CheckAtoms;
 use check_clauses::more_force_parts;
 use clause_form::Clauses;
 use clause_store::store::Store;
-use flat_stack::flat_says_the_same;
 use scope_stack::Stack;
+use smt_laws::flat_says_the_same;
 use std::alloc::{AllocError, Global};
 
 /// Keeps the clauses of a list.

@@ -1,6 +1,6 @@
 -- The difference of two terms from their forms.
 use Rattle.std.proofs.Common.{◌≡◌, ℕ, zero, suc, ◌<◌, true, false, ◌&&◌, List, [], ◌∷◌, length, All, None, subst, sym, ap, ◌∙◌, arith}
-use Rattle.term_laws.proofs.Both.{and_left, and_right, and_both}
+use Rattle.smt_laws.proofs.Both.{and_left, and_right, and_both}
 use Rattle.smt_meaning.specs.Term.{Tree, tree_at}
 use Rattle.smt_meaning.specs.Linear.{Form, form_minus, form_fits, folding_fits}
 use Rattle.linear_forms.specs.Sums.{IsSum}

@@ -3,7 +3,7 @@ use Rattle.std.proofs.Common.{◌≡◌, ◌≢◌, ℕ, zero, suc, ◌+◌, ◌
 use Rattle.std.specs.Prelude.{ℤ, pos, negsuc, ◌*ℤ◌, neg_ℤ}
 use Rattle.std.proofs.lemmas.List.{take_more, take_all, drop_more, drop_all, map-append}
 use Rattle.fraction128.specs.Whole.{InRange, is_in_range}
-use Rattle.term_laws.proofs.Both.{and_left, and_right, and_both}
+use Rattle.smt_laws.proofs.Both.{and_left, and_right, and_both}
 use Rattle.smt_meaning.specs.declared.clauses.Summand.{Summand}
 use Rattle.smt_meaning.specs.Linear.{Form, summand, form_times, form_product, form_fits, sum_fits, each_times, sum_times, fold_forms, folds_fit, folded, folded_fits, number_form}
 use Rattle.linear_forms.specs.Folding.{form_of, IsMultiplying}

@@ -7,7 +7,7 @@ use Rattle.std.proofs.Math.IntN.{zero-*ℤ, *ℤ-zero}
 use Rattle.fraction128.specs.Whole.{InRange, is_in_range}
 use Rattle.smt_meaning.specs.declared.clauses.Summand.{Summand}
 use Rattle.smt_meaning.specs.Linear.{summand, unless_zero, placed, with_term, sums_added, each_times, sum_times, sum_fits}
-use Rattle.term_laws.proofs.Both.{and_left, and_right, and_both}
+use Rattle.smt_laws.proofs.Both.{and_left, and_right, and_both}
 use Rattle.linear_forms.specs.Sums.{coefficient_of, IsSumWithin, IsSum}
 
 -- ---- the coefficient of a place

@@ -4,7 +4,7 @@ use Rattle.std.specs.Prelude.{ℤ, slice_range, MatchOption, OnOk, OnErr}
 use Rattle.std.proofs.lemmas.Bool.{cases_lt}
 use Rattle.std.proofs.lemmas.List.{length-map, map-append, length_push, get_or_push, get_or_append_left, length-append, length-drop, take-append-le, drop-append-le, drop_at, take_all}
 use Rattle.std.proofs.lemmas.List.Elements.{All-head, All-tail}
-use Rattle.term_laws.proofs.Both.{and_both}
+use Rattle.smt_laws.proofs.Both.{and_both}
 use Rattle.smt_meaning.specs.declared.clauses.Summand.{Summand}
 use Rattle.smt_meaning.specs.declared.terms.Head.{Head}
 use Rattle.smt_meaning.specs.Term.{Tree, tree_at}

@@ -11,7 +11,7 @@ use Rattle.smt_meaning.specs.Term.{Tree, tree_at}
 use Rattle.smt_meaning.specs.Clause.{symbols}
 use Rattle.smt_meaning.specs.Follows.{declared_ids}
 use Rattle.smt_meaning.specs.Stack.{Frame, signature_of}
-use Rattle.sort_laws.specs.Laws.{SymbolsAreDeclared}
+use Rattle.smt_laws.specs.SortLaws.{SymbolsAreDeclared}
 use Rattle.search_port.specs.Valid.{IsOf}
 use Rattle.stack_atoms.specs.Parts.{IsMarked, AreParts, HasNoIntSort}
 use Rattle.stack_atoms.specs.Atoms.{IsPartAtom}

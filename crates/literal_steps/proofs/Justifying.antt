@@ -16,7 +16,7 @@ use Rattle.smt_meaning.specs.Term.{Tree, tree_at, Interpretation, value, values,
 use Rattle.smt_meaning.specs.Nodes.{pick}
 use Rattle.smt_meaning.specs.Signature.{tree_sort, is_bool}
 use Rattle.smt_meaning.specs.Clause.{atom_true}
-use Rattle.term_laws.specs.Laws.{ValueHasItsSort}
+use Rattle.smt_laws.specs.TermLaws.{ValueHasItsSort}
 use Rattle.term_store.specs.Terms.{tree_with}
 use Rattle.search_port.specs.State.{atom_at}
 use Rattle.equal_points.specs.Laws.{point_value}

@@ -17,7 +17,7 @@ pub use steps::{add_choice_steps, add_node_steps, add_pair_step, add_truth_step}
 pub fn truth_is_justified()
     ensures { TruthIsJustified }
 {
-    term_laws::value_has_its_sort();
+    smt_laws::value_has_its_sort();
 }
 
 /// The equality of two terms justifies that their points are equal, or differ.
@@ -53,5 +53,5 @@ pub fn clash_is_false_clause()
 pub fn atoms_are_declared()
     ensures { AtomsAreDeclared }
 {
-    sort_laws::symbols_are_declared();
+    smt_laws::symbols_are_declared();
 }

@@ -19,7 +19,7 @@ use Rattle.look_ahead.specs.declared.lets.LetPlaces.{LetPlaces}
 use Rattle.look_ahead.specs.declared.free.Form.{Form}
 use Rattle.look_ahead.specs.declared.free.Form.TheVariants.{Other}
 use Rattle.look_ahead.specs.Ahead.{ahead}
-use Rattle.term_walk.specs.Walk.{has_free_first}
+use Rattle.smt_laws.specs.Walk.{has_free_first}
 use Rattle.look_ahead.proofs.LetLemmas.{names_append}
 use Rattle.look_ahead.specs.Lets.{is_let, HasLet, names_of}
 use Rattle.look_ahead.specs.Free.{first_free, todo, weight, weights, first_weight, Replaces, Follows, is_pair, HasSecond, Looks, form_of, FormAt}

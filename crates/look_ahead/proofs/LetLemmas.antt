@@ -11,7 +11,7 @@ use Rattle.smt_meaning.specs.declared.refusals.Refusal.TheVariants.{WrongArgumen
 use Rattle.smt_meaning.specs.Sexp.{Sexp, Sexps, group, end, ◌▸◌}
 use Rattle.smt_meaning.specs.Signature.{is_one_of}
 use Rattle.smt_meaning.specs.Sorts.{Scope, Outcome, done, refused, ◌>>◌, return, refuse, require, none_twice, check_bindings, bound_names, cons_name}
-use Rattle.term_walk.specs.Walk.{check_let}
+use Rattle.smt_laws.specs.Walk.{check_let}
 use Rattle.look_ahead.specs.declared.LookError.{LookError}
 use Rattle.look_ahead.specs.declared.LookError.TheVariants.{Refused, Memory}
 use Rattle.look_ahead.specs.Ahead.{IsWhyNoLet}

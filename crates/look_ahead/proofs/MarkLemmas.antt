@@ -8,7 +8,7 @@ use Rattle.smt_meaning.specs.declared.tokens.TokenView.{TokenView}
 use Rattle.smt_meaning.specs.declared.tokens.TokenView.TheVariants.{Enter as EnterSeen, Leave as LeaveSeen}
 use Rattle.smt_meaning.specs.Seen.{seen}
 use Rattle.smt_meaning.specs.Sexp.{Sexps, word, group, end, ◌▸◌, before, open_lists_of, IsSexp, sexp}
-use Rattle.term_walk.specs.Walk.{first_list}
+use Rattle.smt_laws.specs.Walk.{first_list}
 use Rattle.look_ahead.specs.Ahead.{ahead, IsInside, IsList, AreEnds}
 use Rattle.look_ahead.specs.Marks.{behind, AreFrom, AreMarked}
 

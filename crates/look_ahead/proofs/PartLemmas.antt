@@ -8,7 +8,7 @@ use Rattle.smt_meaning.specs.declared.refusals.Refusal.TheVariants.{WrongArgumen
 use Rattle.smt_meaning.specs.Sexp.{Sexp, Sexps, word, end, ◌▸◌, before, open_lists_of}
 use Rattle.smt_meaning.specs.Seen.{seen}
 use Rattle.smt_meaning.specs.Sorts.{Scope, require, refuse, return, are_attributes, are_attributes_from}
-use Rattle.term_walk.specs.Walk.{first_list, check_annotation}
+use Rattle.smt_laws.specs.Walk.{first_list, check_annotation}
 use Rattle.look_ahead.specs.Ahead.{ahead, IsInside, checked}
 
 word_before : (v : TokenView) (lists : List Sexps) (inner : Sexps) (outer : List Sexps) → (v ≡ EnterSeen → ⊥) → (v ≡ LeaveSeen → ⊥) → lists ≡ inner ∷ outer

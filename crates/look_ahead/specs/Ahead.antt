@@ -6,7 +6,7 @@ use Rattle.smt_meaning.specs.declared.refusals.Refusal.TheVariants.{WrongArgumen
 use Rattle.smt_meaning.specs.Sexp.{Sexp, Sexps, word, group, end, ◌▸◌, open_lists_of}
 use Rattle.smt_meaning.specs.Seen.{seen}
 use Rattle.smt_meaning.specs.Sorts.{Scope, Outcome, done, refused, are_attributes_from}
-use Rattle.term_walk.specs.Walk.{first_list, check_let}
+use Rattle.smt_laws.specs.Walk.{first_list, check_let}
 use Rattle.look_ahead.specs.declared.parts.Part.{Part}
 use Rattle.look_ahead.specs.declared.parts.Part.TheVariants.{End, Word, List as ListUpTo}
 use Rattle.look_ahead.specs.declared.parts.Attributes.{Attributes}

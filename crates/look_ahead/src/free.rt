@@ -13,9 +13,9 @@ ghost use Rattle.look_ahead.specs.Free.{IsSecond, Looks, Replaces, Follows, form
 use crate::Names;
 use crate::lets::{LetPlaces, is_one_of, let_places, names_bound};
 use crate::parts::{Part, part_at, skip};
+use smt_laws::others_are_left_out;
 use smt_meaning::{SExpr, TokenView, Word};
 use std::alloc::{AllocError, Global};
-use term_walk::others_are_left_out;
 
 /// What is still to be looked through.
 #[derive(Clone, Copy, Drop)]

@@ -2,7 +2,7 @@
 ghost use Rattle.std.specs.Prelude.{◌≡◌, ◌≤◌, List, ℕ, length, map, Some, None, [], OnOk, IfOk, IfErr, IfSome, IfNone, MatchOption};
 ghost use Rattle.smt_meaning.specs.Signature.{is_one_of};
 ghost use Rattle.smt_meaning.specs.Sorts.{Scope, bound_names, check_bindings, done};
-ghost use Rattle.term_walk.specs.Walk.{check_let};
+ghost use Rattle.smt_laws.specs.Walk.{check_let};
 ghost use Rattle.look_ahead.specs.Ahead.{ahead, AreEnds, IsWhyNoLet};
 ghost use Rattle.look_ahead.specs.Lets.{IsLetAt, name_bound, BindingAt, names_of, IsDouble, IsWhyNoNames};
 

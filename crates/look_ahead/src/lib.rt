@@ -3,7 +3,7 @@
 
 ghost use Rattle.std.specs.Prelude.{◌≡◌, ◌≤◌, List, length, OnOk, IfOk, IfErr};
 ghost use Rattle.smt_meaning.specs.Sorts.{Scope, Variable, done, variable_names};
-ghost use Rattle.term_walk.specs.Walk.{check_let, check_annotation, has_free_first};
+ghost use Rattle.smt_laws.specs.Walk.{check_let, check_annotation, has_free_first};
 ghost use Rattle.look_ahead.specs.Ahead.{ahead, AreEnds, checked, IsWhyNoLet};
 
 mod free;

@@ -3,9 +3,9 @@ ghost use Rattle.std.specs.Prelude.{◌≡◌, ℕ, ◌+◌, ◌<◌, length, If
 ghost use Rattle.look_ahead.specs.Ahead.{AreEnds, IsInside};
 ghost use Rattle.look_ahead.specs.Marks.{AreMarked};
 
+use smt_laws::s_expressions_read_back;
 use smt_meaning::{SExpr, TokenView};
 use std::alloc::{AllocError, Global};
-use term_laws::s_expressions_read_back;
 
 /// Marks the end of a list that begins at a place; of those behind it the ends are marked, and the last of the places in `closing` closes the innermost that is open.
 fn mark(

@@ -1,7 +1,7 @@
 //! What stands at a place.
 ghost use Rattle.std.specs.Prelude.{◌≡◌, ◌≤◌, length, false};
 ghost use Rattle.smt_meaning.specs.Sorts.{are_attributes_from, Scope};
-ghost use Rattle.term_walk.specs.Walk.{check_annotation};
+ghost use Rattle.smt_laws.specs.Walk.{check_annotation};
 ghost use Rattle.look_ahead.specs.Ahead.{ahead, AreEnds, IsPart, Skips, GoesOn, checked};
 
 use smt_meaning::{SExpr, TokenView};

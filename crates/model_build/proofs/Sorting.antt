@@ -18,7 +18,7 @@ use Rattle.model_build.specs.Given.{given_at, is_marked, is_past, has_past, give
 use Rattle.model_build.specs.Building.{is_given_of, IsGivenOf, AreGiven}
 use Rattle.model_build.specs.Filling.{value_of}
 use Rattle.model_build.proofs.Looking.{left_true, right_true, or_left, or_right}
-use Rattle.term_laws.proofs.SameTree.{tree_eq-true}
+use Rattle.smt_laws.proofs.SameTree.{tree_eq-true}
 use Rattle.smt_meaning.specs.TreeShape.{tree_eq}
 
 -- ---- equal sorts

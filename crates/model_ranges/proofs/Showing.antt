@@ -22,7 +22,7 @@ use Rattle.smt_meaning.specs.CheckAtoms.{IsPartOfStack, IsIntPart, IsLeaf, IsBou
 use Rattle.smt_meaning.specs.Ranges.{HasValue, LeavesInModel}
 use Rattle.term_store.specs.Terms.{tree_with, AreDifferent}
 use Rattle.term_store.proofs.PlaceLemmas.{place_of-is}
-use Rattle.flat_stack.specs.Flat.{flat, SaysTheSame, FlatSaysTheSame}
+use Rattle.smt_laws.specs.Flat.{flat, SaysTheSame, FlatSaysTheSame}
 use Rattle.scope_stack.specs.declared.answers.Assertion.{Assertion}
 use Rattle.scope_stack.specs.Shown.{AreAsserted, IsLawful}
 use Rattle.stack_atoms.specs.Parts.{IsMarked}

@@ -17,7 +17,7 @@ use Rattle.smt_meaning.specs.Clause.{atom_true}
 use Rattle.smt_meaning.specs.Interpretation.{Interprets}
 use Rattle.smt_meaning.specs.Stack.{signature_of}
 use Rattle.smt_meaning.specs.StackCommand.{Stack}
-use Rattle.term_laws.specs.Laws.{ValueHasItsSort}
+use Rattle.smt_laws.specs.TermLaws.{ValueHasItsSort}
 use Rattle.term_store.specs.Terms.{tree_with}
 use Rattle.search_port.specs.State.{IsFalseIn, AllFalseIn, atom_at}
 use Rattle.congruence.specs.declared.congruence.Congruence.{Congruence}

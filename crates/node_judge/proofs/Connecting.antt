@@ -18,7 +18,7 @@ use Rattle.smt_meaning.specs.Signature.{tree_sort, is_bool}
 use Rattle.smt_meaning.specs.Kinds.{is_connective}
 use Rattle.smt_meaning.specs.Stack.{signature_of}
 use Rattle.smt_meaning.specs.StackCommand.{Stack}
-use Rattle.term_laws.specs.Laws.{ValueHasItsSort}
+use Rattle.smt_laws.specs.TermLaws.{ValueHasItsSort}
 use Rattle.term_store.specs.Terms.{tree_with}
 use Rattle.search_port.specs.State.{IsFalseIn}
 use Rattle.congruence.specs.declared.congruence.Congruence.{Congruence}

@@ -26,9 +26,9 @@ use atom_table::AtomTable;
 use congruence::Congruence;
 use literals::Literal;
 use scope_stack::Stack;
+use smt_laws::value_has_its_sort;
 use smt_meaning::{Head, Operator, Sort, TermId};
 use std::alloc::{AllocError, Global};
-use term_laws::value_has_its_sort;
 
 /// Whether the first of these terms is a Bool, where there is one.
 fn is_over_bools(sorts: &[Sort], arguments: &[TermId]) -> bool

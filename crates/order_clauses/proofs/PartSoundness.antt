@@ -12,7 +12,7 @@ use Rattle.smt_meaning.specs.Declaration.{Declaration}
 use Rattle.smt_meaning.specs.Term.{Tree, node, tree_at}
 use Rattle.smt_meaning.specs.Signature.{tree_sort}
 use Rattle.smt_meaning.specs.Nodes.{pick}
-use Rattle.term_laws.specs.Laws.{ValueHasItsSort}
+use Rattle.smt_laws.specs.TermLaws.{ValueHasItsSort}
 use Rattle.equality_clauses.specs.Laws.{compares, ComparisonIsTied, ComparisonIsOver, ChoiceIsTied, ChoiceIsOver, InterpretationAgrees}
 use Rattle.bound_clauses.specs.Laws.{IsReadable, OrderIsOver, EqualityIsOver, ConstantIsOver, OrderClausesAreTrue, EqualityClausesAreTrue, ConstantHasValue}
 use Rattle.order_clauses.specs.Clauses.{sort_at, unless_bool, equality_part, choice_part, part_clauses_of}

@@ -19,7 +19,7 @@ use Rattle.smt_meaning.specs.Interpretation.{Interprets, has_sort}
 use Rattle.smt_meaning.specs.Nodes.{pick}
 use Rattle.smt_meaning.specs.Clause.{value_at, atom_true}
 use Rattle.smt_meaning.specs.Atoms.{normal_bound}
-use Rattle.term_laws.specs.Laws.{ValueHasItsSort}
+use Rattle.smt_laws.specs.TermLaws.{ValueHasItsSort}
 use Rattle.search_port.specs.State.{atom_at}
 use Rattle.clause_form.specs.Node.{HasNoAtomTwice}
 use Rattle.equality_clauses.specs.Ties.{comparison_clauses, choice_clauses}

@@ -29,9 +29,9 @@ use equality_clauses::{
     interpretation_agrees, put_choice, put_comparison,
 };
 use linear_forms::LinearForms;
+use smt_laws::value_has_its_sort;
 use smt_meaning::{Operator, Sort, Summand, TermId};
 use std::alloc::Global;
-use term_laws::value_has_its_sort;
 
 /// Lists that are used again for each part.
 #[derive(Drop)]

@@ -10,7 +10,7 @@ use Rattle.std.proofs.lemmas.List.{drop_more, drop_all}
 use Rattle.fraction128.specs.Whole.{InRange, is_in_range}
 use Rattle.fraction128.specs.Gcd.{gcd_of}
 use Rattle.fraction128.proofs.Divisors.{IsGcd-gcd_of}
-use Rattle.term_laws.proofs.Both.{and_left, and_right, and_both}
+use Rattle.smt_laws.proofs.Both.{and_left, and_right, and_both}
 use Rattle.smt_meaning.specs.declared.clauses.Summand.{Summand}
 use Rattle.smt_meaning.specs.declared.clauses.Atom.TheVariants.{AtMost}
 use Rattle.smt_meaning.specs.Linear.{summand, sum_fits}

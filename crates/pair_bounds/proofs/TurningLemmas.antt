@@ -6,7 +6,7 @@ use Rattle.std.proofs.lemmas.Int.{ints}
 use Rattle.fraction128.proofs.Integers.{same_bits}
 use Rattle.fraction128.specs.Whole.{InRange, is_in_range}
 use Rattle.fraction128.proofs.Ring.{times-sum, times_assoc}
-use Rattle.term_laws.proofs.Both.{and_left, and_right, and_both}
+use Rattle.smt_laws.proofs.Both.{and_left, and_right, and_both}
 use Rattle.smt_meaning.specs.declared.clauses.Summand.{Summand}
 use Rattle.smt_meaning.specs.Term.{Tree, Interpretation, number_of}
 use Rattle.smt_meaning.specs.Clause.{sum_value, value_at}

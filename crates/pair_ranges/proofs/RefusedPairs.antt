@@ -3,9 +3,9 @@ use Rattle.std.proofs.Common.{◌≡◌, ℕ, subst, sym, true, inl, inr}
 use Rattle.smt_meaning.specs.Term.{tree_at}
 use Rattle.smt_meaning.specs.Linear.{folding_fits}
 use Rattle.smt_meaning.specs.StackCommand.{Stack, start, after_all}
-use Rattle.term_laws.specs.Laws.{NoIdTwice}
-use Rattle.sort_laws.specs.Laws.{AssertionsAreTruths, TreesAreInOrder, PartsAreAmongTheTrees}
-use Rattle.linear_laws.specs.Laws.{NumeralsAreInRange, PlacedFormsFit}
+use Rattle.smt_laws.specs.TermLaws.{NoIdTwice}
+use Rattle.smt_laws.specs.SortLaws.{AssertionsAreTruths, TreesAreInOrder, PartsAreAmongTheTrees}
+use Rattle.smt_laws.specs.LinearLaws.{NumeralsAreInRange, PlacedFormsFit}
 use Rattle.bound_clauses.specs.declared.orders.Order.{Order}
 use Rattle.check_atoms.specs.declared.refusal.Refusal.TheVariants.{Pair, Memory}
 use Rattle.check_atoms.specs.OfStack.{IsRefused}

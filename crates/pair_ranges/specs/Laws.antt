@@ -3,7 +3,7 @@ use Rattle.std.specs.Prelude.{ℕ, List, All, IsTrue}
 use Rattle.smt_meaning.specs.declared.commands.Command.{Command}
 use Rattle.smt_meaning.specs.Term.{Tree}
 use Rattle.smt_meaning.specs.StackCommand.{Stack, start, after_all}
-use Rattle.linear_laws.specs.Numerals.{numerals_fit}
+use Rattle.smt_laws.specs.Numerals.{numerals_fit}
 use Rattle.bound_clauses.specs.declared.orders.Order.{Order}
 use Rattle.scope_stack.specs.Shown.{IsLawful}
 use Rattle.check_atoms.specs.declared.refusal.Refusal.TheVariants.{Pair}

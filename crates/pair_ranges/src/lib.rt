@@ -4,9 +4,10 @@
 ghost use Rattle.pair_ranges.specs.Laws.{LawfulPairsLeaveRange, RefusedPairsLeaveRange};
 
 use check_atoms::refused_pair_leaves_range;
-use linear_laws::{numerals_are_in_range, placed_forms_fit};
-use sort_laws::{assertions_are_truths, parts_are_among_the_trees, trees_are_in_order};
-use term_laws::no_id_twice;
+use smt_laws::{
+    assertions_are_truths, no_id_twice, numerals_are_in_range, parts_are_among_the_trees,
+    placed_forms_fit, trees_are_in_order,
+};
 
 /// On a stack that commands give, the difference of a refused pair leaves the range, or for a strict bound what the part compares does.
 pub fn refused_pairs_leave_range()

@@ -13,8 +13,8 @@ use Rattle.smt_meaning.specs.Nodes.{pick}
 use Rattle.smt_meaning.specs.Clause.{value_at}
 use Rattle.smt_meaning.specs.StackCommand.{Stack}
 use Rattle.term_store.specs.Terms.{tree_with}
-use Rattle.sort_laws.specs.Laws.{SymbolsAreDeclared}
-use Rattle.flat_stack.specs.Flat.{FlatSaysTheSame}
+use Rattle.smt_laws.specs.SortLaws.{SymbolsAreDeclared}
+use Rattle.smt_laws.specs.Flat.{FlatSaysTheSame}
 use Rattle.search_port.specs.State.{atom_at, truth}
 use Rattle.clause_form.specs.Node.{HasNoAtomTwice}
 use Rattle.equality_clauses.specs.Laws.{of_first, of_pairs, IsOver, AllTrue, ComparisonIsTied, ComparisonIsOver, InterpretationAgrees}

@@ -24,9 +24,9 @@ use Rattle.term_store.specs.Terms.{tree_with}
 use Rattle.search_port.specs.State.{atom_at, truth, truth_atoms}
 use Rattle.search_port.specs.Valid.{IsOver, IsOf, IsAtLevel}
 use Rattle.clause_form.specs.Node.{IsOfNode, NodeClausesHold, literals_of_node}
-use Rattle.term_laws.specs.Laws.{ValueHasItsSort}
-use Rattle.sort_laws.specs.Laws.{SymbolsAreDeclared}
-use Rattle.flat_stack.specs.Flat.{flat, FlatSaysTheSame}
+use Rattle.smt_laws.specs.TermLaws.{ValueHasItsSort}
+use Rattle.smt_laws.specs.SortLaws.{SymbolsAreDeclared}
+use Rattle.smt_laws.specs.Flat.{flat, FlatSaysTheSame}
 use Rattle.atom_table.specs.Numbers.{IsAt}
 use Rattle.stack_atoms.specs.Parts.{IsMarked, HasNoIntSort}
 use Rattle.stack_atoms.specs.Atoms.{IsPartAtom}

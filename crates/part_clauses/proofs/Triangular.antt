@@ -14,8 +14,8 @@ use Rattle.smt_meaning.specs.Term.{Tree, tree_at, value, truth_of, same_value, i
 use Rattle.smt_meaning.specs.Clause.{atom_true}
 use Rattle.smt_meaning.specs.StackCommand.{Stack}
 use Rattle.term_store.specs.Terms.{tree_with}
-use Rattle.sort_laws.specs.Laws.{SymbolsAreDeclared}
-use Rattle.flat_stack.specs.Flat.{FlatSaysTheSame}
+use Rattle.smt_laws.specs.SortLaws.{SymbolsAreDeclared}
+use Rattle.smt_laws.specs.Flat.{FlatSaysTheSame}
 use Rattle.search_port.specs.State.{atom_at, truth}
 use Rattle.stack_atoms.specs.OfStack.{AreOfStack}
 use Rattle.part_clauses.specs.First.{reading_of, IsClause}

@@ -14,7 +14,7 @@ use Rattle.smt_meaning.specs.Stack.{signature_of, assertions_of}
 use Rattle.smt_meaning.specs.StackCommand.{Stack}
 use Rattle.search_port.specs.State.{Reading, atom_at}
 use Rattle.search_port.specs.Valid.{IsOver, FollowsAt}
-use Rattle.flat_stack.specs.Flat.{flat}
+use Rattle.smt_laws.specs.Flat.{flat}
 
 -- by what the clauses are read: the atom of each number, and all levels of the stack as one
 abbrev pub reading_of : Stack → List Atom → Reading

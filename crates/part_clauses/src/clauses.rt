@@ -15,12 +15,11 @@ use atom_table::CompactAtom;
 use clause_form::node_clauses_hold;
 use clause_store::store::Store;
 use equality_chords::Triangle;
-use flat_stack::flat_says_the_same;
 use forced_clauses::node_clauses_force;
 use literals::Literal;
 use scope_stack::{Assertion, Stack};
+use smt_laws::{flat_says_the_same, symbols_are_declared};
 use smt_meaning::TermId;
-use sort_laws::symbols_are_declared;
 use stack_atoms::StackAtoms;
 use std::alloc::{AllocError, Global};
 

@@ -22,14 +22,12 @@ use clause_store::store::Store;
 use equality_clauses::{
     Lists, comparison_is_over, comparison_is_tied, interpretation_agrees, put_comparison,
 };
-use flat_stack::flat_says_the_same;
 use literals::Literal;
 use scope_stack::Stack;
+use smt_laws::{flat_says_the_same, symbols_are_declared, value_has_its_sort};
 use smt_meaning::{Head, Operator, TermId};
-use sort_laws::symbols_are_declared;
 use stack_atoms::StackAtoms;
 use std::alloc::{AllocError, Global};
-use term_laws::value_has_its_sort;
 
 /// Lists that are used again for each node.
 #[derive(Drop)]

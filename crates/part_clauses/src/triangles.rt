@@ -10,11 +10,10 @@ use crate::keep::keep;
 use atom_table::CompactAtom;
 use clause_store::store::Store;
 use equality_chords::Triangle;
-use flat_stack::flat_says_the_same;
 use literals::Literal;
 use scope_stack::Stack;
+use smt_laws::{flat_says_the_same, symbols_are_declared};
 use smt_meaning::{Head, Operator, TermId};
-use sort_laws::symbols_are_declared;
 use stack_atoms::StackAtoms;
 use std::alloc::AllocError;
 

@@ -13,14 +13,12 @@ use crate::keep::keep;
 use atom_table::{AtomTable, CompactAtom};
 use clause_form::Clauses;
 use clause_store::store::Store;
-use flat_stack::flat_says_the_same;
 use literals::Literal;
 use scope_stack::Stack;
+use smt_laws::{flat_says_the_same, symbols_are_declared, value_has_its_sort};
 use smt_meaning::{Head, Operator, TermId};
-use sort_laws::symbols_are_declared;
 use stack_atoms::StackAtoms;
 use std::alloc::AllocError;
-use term_laws::value_has_its_sort;
 use term_store::TermStore;
 
 /// A clause of more literals is kept as it is.

@@ -12,7 +12,7 @@ use Rattle.smt_meaning.specs.Term.{Tree, Interpretation}
 use Rattle.smt_meaning.specs.Interpretation.{Interprets}
 use Rattle.smt_meaning.specs.Stack.{Frame, Assertion, Satisfies, Holds, HasNoModel, signature_of, assertions_of, terms_of, up_to, on_top, pushed, popped, empty_frame}
 use Rattle.smt_meaning.specs.Follows.{Follows, FollowsFrom, follows, follows_from}
-use Rattle.clause_laws.specs.Laws.{StillFollowsAfterPush, StillFollowsAfterMore, StillFollowsAfterPop, StillFollowsAbove, StillFollowsWithTrees, EmptyClauseShowsNoModel}
+use Rattle.smt_laws.specs.ClauseLaws.{StillFollowsAfterPush, StillFollowsAfterMore, StillFollowsAfterPop, StillFollowsAbove, StillFollowsWithTrees, EmptyClauseShowsNoModel}
 use Rattle.race_model.specs.declared.event.Entry.{Entry}
 use Rattle.race_model.specs.declared.event.Premise.{Premise}
 use Rattle.race_model.specs.declared.event.Premise.TheVariants.{Known, Asserted}

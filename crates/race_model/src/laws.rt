@@ -1,7 +1,7 @@
 //! Laws of races, each as the contract of a function that does nothing.
 ghost use Rattle.race_model.specs.Laws.{EmptyOwnClauseRefutes, EveryRunIsSound, FirstStateIsSound, NextRaceBeginsSound, RaceKeepsSound, SoundAfterAssert, SoundAfterCut, SoundAfterPush, SoundWithTrees, StepKeepsSound};
 
-use clause_laws::{
+use smt_laws::{
     empty_clause_shows_no_model, still_follows_above, still_follows_after_more,
     still_follows_after_pop, still_follows_after_push, still_follows_with_trees,
 };

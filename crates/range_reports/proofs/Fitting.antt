@@ -7,7 +7,7 @@ use Rattle.smt_meaning.specs.declared.terms.Head.{Head}
 use Rattle.smt_meaning.specs.Term.{Tree, tree_at}
 use Rattle.smt_meaning.specs.Nodes.{pick}
 use Rattle.term_store.specs.Terms.{tree_with}
-use Rattle.linear_laws.specs.Numerals.{head_in_range, numerals_fit, all_numerals_fit}
+use Rattle.smt_laws.specs.Numerals.{head_in_range, numerals_fit, all_numerals_fit}
 
 -- the numerals of the first so many terms are in the range
 abbrev pub FitBelow : List Tree → ℕ → Type 0

@@ -5,7 +5,7 @@ use Rattle.smt_meaning.specs.Term.{Tree}
 use Rattle.smt_meaning.specs.StackCommand.{Stack}
 use Rattle.smt_meaning.specs.Report.{Shows, IsCheckAtom}
 use Rattle.smt_meaning.specs.Ranges.{LeavesRange}
-use Rattle.linear_laws.specs.Numerals.{numerals_fit}
+use Rattle.smt_laws.specs.Numerals.{numerals_fit}
 use Rattle.scope_stack.specs.Shown.{IsLawful}
 use Rattle.bound_clauses.specs.declared.orders.Sense.{Sense}
 use Rattle.bound_clauses.specs.declared.orders.Sense.TheVariants.{NotAbove, Below}

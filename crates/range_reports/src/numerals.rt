@@ -2,7 +2,7 @@
 ghost use Rattle.std.specs.Prelude.{◌≡◌, true, false, All, IsTrue};
 ghost use Rattle.fraction128.specs.Whole.{is_in_range};
 ghost use Rattle.smt_meaning.specs.Term.{Tree};
-ghost use Rattle.linear_laws.specs.Numerals.{head_in_range, numerals_fit};
+ghost use Rattle.smt_laws.specs.Numerals.{head_in_range, numerals_fit};
 
 use smt_meaning::Head;
 use term_store::TermStore;

@@ -2,7 +2,7 @@
 ghost use Rattle.std.specs.Prelude.{◌≡◌, [], ◌∷◌, List, All, IsTrue, IfOk};
 ghost use Rattle.smt_meaning.specs.Term.{Tree};
 ghost use Rattle.smt_meaning.specs.Report.{Shows};
-ghost use Rattle.linear_laws.specs.Numerals.{numerals_fit};
+ghost use Rattle.smt_laws.specs.Numerals.{numerals_fit};
 ghost use Rattle.theory_port.specs.Verdicts.{IsVerdict};
 ghost use Rattle.check_atoms.specs.OfStack.{IsRefused};
 ghost use Rattle.range_reports.specs.Causes.{pair_seen, cause_of, only_report};

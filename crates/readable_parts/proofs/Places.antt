@@ -5,9 +5,9 @@ use Rattle.smt_meaning.specs.Term.{Tree, Trees, node, none, more, tree_at}
 use Rattle.smt_meaning.specs.Parts.{IsPart, IsPartOfOne, IsOneOf, IsArgument, StandsBelow, AreInOrder}
 use Rattle.smt_meaning.specs.Linear.{leaves}
 use Rattle.smt_meaning.specs.StackCommand.{start, after_all}
-use Rattle.sort_laws.specs.Laws.{TreesAreInOrder}
-use Rattle.sort_laws.proofs.Among.{Among, among_first, among_rest}
-use Rattle.linear_laws.specs.Laws.{LeavesAreParts, TreesAreLinear}
+use Rattle.smt_laws.specs.SortLaws.{TreesAreInOrder}
+use Rattle.smt_laws.proofs.Among.{Among, among_first, among_rest}
+use Rattle.smt_laws.specs.LinearLaws.{LeavesAreParts, TreesAreLinear}
 use Rattle.bound_clauses.specs.Laws.{IsReadable}
 use Rattle.readable_parts.specs.Laws.{PlacesAreReadable, LawfulPlacesAreReadable}
 use Rattle.readable_parts.proofs.Readable.{IsLinear, linear_at}

@@ -8,7 +8,7 @@ use Rattle.smt_meaning.specs.Parts.{IsPart}
 use Rattle.smt_meaning.specs.Linear.{leaves}
 use Rattle.smt_meaning.specs.Stack.{assertions_of}
 use Rattle.smt_meaning.specs.StackCommand.{start, after_all}
-use Rattle.linear_laws.specs.Laws.{AssertionsAreLinear, LeavesAreAmongTheTrees, LeavesAreParts}
+use Rattle.smt_laws.specs.LinearLaws.{AssertionsAreLinear, LeavesAreAmongTheTrees, LeavesAreParts}
 use Rattle.readable_parts.specs.Laws.{PartsAreReadable, LawfulPartsAreReadable}
 
 abbrev pub IsLinear : Tree → Type 0

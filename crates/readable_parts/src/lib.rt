@@ -3,10 +3,10 @@
 
 ghost use Rattle.readable_parts.specs.Laws.{LawfulPartsAreReadable, LawfulPlacesAreReadable, PartsAreReadable, PlacesAreReadable};
 
-use linear_laws::{
-    assertions_are_linear, leaves_are_among_the_trees, leaves_are_parts, trees_are_linear,
+use smt_laws::{
+    assertions_are_linear, leaves_are_among_the_trees, leaves_are_parts, trees_are_in_order,
+    trees_are_linear,
 };
-use sort_laws::trees_are_in_order;
 
 /// Where a part of an assertion stands on a stack that commands give, bounds can be read: the tree is linear, and its leaves are among the stack's trees.
 pub fn parts_are_readable()

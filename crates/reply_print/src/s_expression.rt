@@ -7,9 +7,9 @@ ghost use Rattle.reply_print.specs.Pieces.{is_enter as opens, is_leave as closes
 
 use crate::list::Print;
 use crate::name::{keyword, literal, symbol};
+use smt_laws::s_expressions_read_back;
 use smt_meaning::{Bytes, SExpr, TokenView, Word};
 use std::alloc::{AllocError, Global};
-use term_laws::s_expressions_read_back;
 
 /// Appends an s-expression: its tokens, with one space between neighbours in a list.
 pub fn s_expression(sexpr: &SExpr, out: &mut Bytes) -> Result<(), AllocError>

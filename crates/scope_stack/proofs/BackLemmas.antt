@@ -10,8 +10,8 @@ use Rattle.smt_meaning.specs.Parts.{IsPart, AreInOrder}
 use Rattle.smt_meaning.specs.Stack.{Frame, assertions_of}
 use Rattle.smt_meaning.specs.StackCommand.{Stack}
 use Rattle.smt_sorts.specs.Names.{Names}
-use Rattle.term_laws.specs.Laws.{TreeEqualityDecides}
-use Rattle.sort_laws.specs.Laws.{TreesAreInOrder, PartsAreAmongTheTrees}
+use Rattle.smt_laws.specs.TermLaws.{TreeEqualityDecides}
+use Rattle.smt_laws.specs.SortLaws.{TreesAreInOrder, PartsAreAmongTheTrees}
 use Rattle.term_store.specs.Terms.{Terms}
 use Rattle.scope_stack.specs.declared.answers.Asked.{Asked}
 use Rattle.scope_stack.specs.declared.answers.Assertion.{Assertion}

@@ -18,7 +18,7 @@ use Rattle.smt_meaning.specs.Clause.{symbols, symbols_of, head_symbols}
 use Rattle.smt_meaning.specs.StackCommand.{Change}
 use Rattle.smt_meaning.specs.Sorts.{Judging}
 use Rattle.smt_sorts.specs.Names.{Names, all_of_levels, signature, with_levels, without_levels, cleared, HasGained}
-use Rattle.term_laws.proofs.Both.{and_left}
+use Rattle.smt_laws.proofs.Both.{and_left}
 use Rattle.term_store.specs.Terms.{Terms, tree_with}
 use Rattle.elaborate.specs.Values.{IsLonger}
 use Rattle.scope_stack.specs.declared.answers.Assertion.{Assertion}

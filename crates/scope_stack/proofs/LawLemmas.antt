@@ -1,8 +1,8 @@
 -- What is true of each stack that commands give.
 use Rattle.std.proofs.Common.{subst}
 use Rattle.smt_meaning.specs.StackCommand.{Stack}
-use Rattle.term_laws.specs.Laws.{NoIdTwice}
-use Rattle.sort_laws.specs.Laws.{AssertionsAreTruths, TreesAreInOrder, PartsAreAmongTheTrees}
+use Rattle.smt_laws.specs.TermLaws.{NoIdTwice}
+use Rattle.smt_laws.specs.SortLaws.{AssertionsAreTruths, TreesAreInOrder, PartsAreAmongTheTrees}
 use Rattle.scope_stack.specs.Inside.{IsReached}
 use Rattle.scope_stack.specs.Shown.{IsLawful}
 

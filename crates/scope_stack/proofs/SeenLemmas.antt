@@ -7,8 +7,8 @@ use Rattle.smt_meaning.specs.Stack.{Frame}
 use Rattle.smt_meaning.specs.StackCommand.{Stack}
 use Rattle.smt_sorts.specs.Names.{Names}
 use Rattle.term_store.specs.Terms.{Terms}
-use Rattle.term_laws.specs.Laws.{NoIdTwice}
-use Rattle.sort_laws.specs.Laws.{AssertionsAreTruths, TreesAreInOrder, PartsAreAmongTheTrees}
+use Rattle.smt_laws.specs.TermLaws.{NoIdTwice}
+use Rattle.smt_laws.specs.SortLaws.{AssertionsAreTruths, TreesAreInOrder, PartsAreAmongTheTrees}
 use Rattle.scope_stack.specs.declared.answers.Assertion.{Assertion}
 use Rattle.scope_stack.specs.Inside.{frames_by, stack_by, IsStack}
 use Rattle.scope_stack.specs.Facts.{IsKept}

@@ -7,13 +7,15 @@ use crate::declare;
 use crate::facts::{TermFacts, add_assertion};
 use crate::few::{Few, few_terms};
 use crate::term::{judge_assertion, judge_questions};
+use smt_laws::{
+    assertions_are_truths, no_id_twice, parts_are_among_the_trees, tree_equality_decides,
+    trees_are_in_order,
+};
 use smt_meaning::language::{Parameter, WrittenSort};
 use smt_meaning::{Bytes, Declaration, Refusal, SExpr, Seq, Sort, SymId};
 use smt_sorts::Table;
-use sort_laws::{assertions_are_truths, parts_are_among_the_trees, trees_are_in_order};
 use std::alloc::Global;
 use std::marker::Model;
-use term_laws::{no_id_twice, tree_equality_decides};
 use term_store::TermStore;
 
 /// How many terms there may be.

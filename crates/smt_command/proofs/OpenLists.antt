@@ -4,8 +4,8 @@ use Rattle.smt_meaning.specs.declared.tokens.Token.{Token}
 use Rattle.smt_meaning.specs.declared.tokens.Token.TheVariants.{Enter, Leave, Numeral, Decimal, Hex, Binary, Text, Symbol, Reserved, Keyword}
 use Rattle.smt_meaning.specs.Reading.{IsSExpr, most_open}
 use Rattle.smt_meaning.specs.Sexp.{Sexps, word, group, end, ◌▸◌, before, open_lists_of, sexp, is_parenthesis, is_proper, are_proper, deepest}
-use Rattle.term_laws.proofs.Both.{and_left, and_right, and_both}
-use Rattle.term_laws.proofs.SExprLaw.{read_back}
+use Rattle.smt_laws.proofs.Both.{and_left, and_right, and_both}
+use Rattle.smt_laws.proofs.SExprLaw.{read_back}
 use Rattle.smt_command.specs.Arguments.{innermost, depth_behind}
 
 -- ---- each open list may stand in an s-expression

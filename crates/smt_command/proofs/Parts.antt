@@ -7,8 +7,8 @@ use Rattle.smt_meaning.specs.declared.tokens.Token.{Token}
 use Rattle.smt_meaning.specs.declared.tokens.Token.TheVariants.{Enter, Leave, Numeral, Decimal, Hex, Binary, Text, Symbol, Reserved, Keyword}
 use Rattle.smt_meaning.specs.Reading.{IsSExpr}
 use Rattle.smt_meaning.specs.Sexp.{Sexp, Sexps, word, group, end, ◌▸◌, tokens, tokens_of, before, open_lists_of, is_proper, are_proper}
-use Rattle.term_laws.proofs.Both.{and_left}
-use Rattle.term_laws.proofs.SExprLaw.{are_sexprs}
+use Rattle.smt_laws.proofs.Both.{and_left}
+use Rattle.smt_laws.proofs.SExprLaw.{are_sexprs}
 use Rattle.smt_command.specs.declared.arguments.Arguments.{Arguments}
 use Rattle.smt_command.specs.Arguments.{left, innermost, open_lists, is_end, rest_of, first_by, term}
 use Rattle.smt_command.proofs.OpenLists.{Fine, IsSome, fine_at, some_before}

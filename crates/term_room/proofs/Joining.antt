@@ -4,8 +4,8 @@ use Rattle.std.specs.Prelude.{if◌then◌else◌}
 use Rattle.smt_meaning.specs.Term.{Tree, Trees, node, none, more}
 use Rattle.smt_meaning.specs.TreeShape.{tree_eq, is_among, with_tree, with_parts, with_all_parts}
 use Rattle.smt_meaning.specs.Sorts.{with_all}
-use Rattle.sort_laws.proofs.Among.{Among, among_append, among_parts, kept_with_parts}
-use Rattle.term_laws.proofs.SameTree.{tree_eq-true}
+use Rattle.smt_laws.proofs.Among.{Among, among_append, among_parts, kept_with_parts}
+use Rattle.smt_laws.proofs.SameTree.{tree_eq-true}
 
 abbrev mutual
   -- the tree is in the list with its parts

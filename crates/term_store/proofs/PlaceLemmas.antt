@@ -4,7 +4,7 @@ use Rattle.std.specs.Prelude.{if◌then◌else◌}
 use Rattle.std.proofs.lemmas.List.{length_push, get_or_push}
 use Rattle.smt_meaning.specs.Term.{Tree, tree_at}
 use Rattle.smt_meaning.specs.TreeShape.{tree_eq, is_among, place_of, with_tree}
-use Rattle.term_laws.proofs.SameTree.{found_again, tree_eq-self}
+use Rattle.smt_laws.proofs.SameTree.{found_again, tree_eq-self}
 use Rattle.term_store.specs.Terms.{IsNew, AreDifferent}
 use Rattle.term_store.proofs.NodeLemmas.{places_same, AreDifferent-push}
 

@@ -12,11 +12,11 @@ use Rattle.smt_meaning.specs.Signature.{is_bool}
 use Rattle.smt_meaning.specs.Stack.{signature_of}
 use Rattle.smt_meaning.specs.StackCommand.{Stack}
 use Rattle.smt_meaning.specs.TreeShape.{is_linear}
-use Rattle.sort_laws.specs.Laws.{SymbolsAreDeclared}
+use Rattle.smt_laws.specs.SortLaws.{SymbolsAreDeclared}
 use Rattle.scope_stack.specs.Facts.{AreSorts}
 use Rattle.scope_stack.specs.Shown.{IsLawful}
 use Rattle.search_port.specs.Valid.{IsOf}
-use Rattle.flat_stack.specs.Flat.{flat, FlatSaysTheSame}
+use Rattle.smt_laws.specs.Flat.{flat, FlatSaysTheSame}
 use Rattle.stack_atoms.specs.Parts.{IsMarked}
 use Rattle.stack_atoms.specs.Marks.{AreStackParts}
 use Rattle.check_atoms.specs.OfStack.{AreCheckAtoms}

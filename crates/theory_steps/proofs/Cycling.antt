@@ -8,7 +8,7 @@ use Rattle.smt_meaning.specs.StackCommand.{Stack}
 use Rattle.search_port.specs.State.{IsOpenIn}
 use Rattle.search_port.specs.Calls.{IsConflict}
 use Rattle.search_port.specs.declared.budget.Lemma.{Lemma}
-use Rattle.flat_stack.specs.Flat.{FlatSaysTheSame}
+use Rattle.smt_laws.specs.Flat.{FlatSaysTheSame}
 use Rattle.literal_steps.specs.Implied.{IsPressingLemma}
 use Rattle.closure_log.specs.Seen.{state_of, IsSetting}
 use Rattle.difference_clauses.specs.Clauses.{IsBroken, IsImpliedBy}

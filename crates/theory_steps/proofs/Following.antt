@@ -5,7 +5,7 @@ use Rattle.smt_meaning.specs.declared.clauses.Atom.{Atom}
 use Rattle.smt_meaning.specs.Stack.{signature_of}
 use Rattle.smt_meaning.specs.StackCommand.{Stack}
 use Rattle.search_port.specs.declared.budget.Lemma.{Lemma}
-use Rattle.flat_stack.specs.Flat.{FlatSaysTheSame}
+use Rattle.smt_laws.specs.Flat.{FlatSaysTheSame}
 use Rattle.literal_steps.specs.Implied.{IsPressingLemma}
 use Rattle.closure_log.specs.Seen.{state_of, IsSetting}
 use Rattle.bound_log.specs.Implied.{IsImplied}

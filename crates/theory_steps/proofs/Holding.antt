@@ -11,7 +11,7 @@ use Rattle.search_port.specs.declared.budget.Cause.{Cause}
 use Rattle.search_port.specs.declared.budget.Cause.TheVariants.{Units, Memory, Cancelled}
 use Rattle.search_port.specs.declared.theory.Asserted.TheVariants.{Ended as AssertEnded}
 use Rattle.search_port.specs.declared.budget.Lemma.{Lemma}
-use Rattle.flat_stack.specs.Flat.{SaysTheSame, FlatSaysTheSame}
+use Rattle.smt_laws.specs.Flat.{SaysTheSame, FlatSaysTheSame}
 use Rattle.literal_steps.specs.Clauses.{IsToldAtOneLevel}
 use Rattle.closure_log.specs.Seen.{state_of, IsSetting}
 use Rattle.bound_log.specs.Told.{State}

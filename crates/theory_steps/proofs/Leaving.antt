@@ -28,7 +28,7 @@ use Rattle.smt_meaning.specs.CheckAtoms.{IsPartOfStack, IsBoundOf, is_leaf_head}
 use Rattle.smt_meaning.specs.Ranges.{HasValue, LeavesInArgument, sum_at}
 use Rattle.term_store.specs.Terms.{tree_with, AreDifferent}
 use Rattle.term_store.proofs.PlaceLemmas.{place_of-is}
-use Rattle.flat_stack.specs.Flat.{flat, FlatSaysTheSame}
+use Rattle.smt_laws.specs.Flat.{flat, FlatSaysTheSame}
 use Rattle.check_clauses.proofs.Parts.{picked_is}
 use Rattle.model_eval.specs.Walk.{is_marked}
 use Rattle.sum_bounds.specs.Bounds.{State, AreApart, leaf_values}

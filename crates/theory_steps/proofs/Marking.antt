@@ -12,9 +12,9 @@ use Rattle.smt_meaning.specs.Clause.{symbols, symbols_at, atom_places, sum_place
 use Rattle.smt_meaning.specs.Follows.{declared_ids}
 use Rattle.smt_meaning.specs.Stack.{signature_of}
 use Rattle.smt_meaning.specs.StackCommand.{Stack}
-use Rattle.sort_laws.specs.Laws.{SymbolsAreDeclared}
+use Rattle.smt_laws.specs.SortLaws.{SymbolsAreDeclared}
 use Rattle.search_port.specs.Valid.{IsOf}
-use Rattle.flat_stack.specs.Flat.{flat, SaysTheSame, FlatSaysTheSame}
+use Rattle.smt_laws.specs.Flat.{flat, SaysTheSame, FlatSaysTheSame}
 use Rattle.model_eval.specs.Walk.{is_marked}
 use Rattle.value_model.specs.Parts.{AreSortedParts}
 use Rattle.log_value.specs.Atoms.{HasMarkedPlaces}

@@ -9,7 +9,7 @@ use Rattle.smt_meaning.specs.declared.clauses.Atom.{Atom}
 use Rattle.smt_meaning.specs.declared.reports.RangeSeen.{RangeSeen}
 use Rattle.smt_meaning.specs.StackCommand.{Stack}
 use Rattle.smt_meaning.specs.Ranges.{LeavesInModel}
-use Rattle.flat_stack.specs.Flat.{flat}
+use Rattle.smt_laws.specs.Flat.{flat}
 use Rattle.theory_steps.specs.Shown.{AreShown, IsOfCheck}
 use Rattle.theory_steps.proofs.Branching.{grid_over}
 

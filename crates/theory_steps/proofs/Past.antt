@@ -18,7 +18,7 @@ use Rattle.smt_meaning.specs.Clause.{sum_places}
 use Rattle.smt_meaning.specs.Linear.{summand}
 use Rattle.smt_meaning.specs.CheckAtoms.{IsLeaf, told}
 use Rattle.smt_meaning.specs.Ranges.{IsKnownColumn, IsOnAtom, LeavesInStep}
-use Rattle.flat_stack.specs.Flat.{flat}
+use Rattle.smt_laws.specs.Flat.{flat}
 use Rattle.sum_bounds.specs.Clauses.{plain}
 use Rattle.search_port.specs.State.{atom_at}
 use Rattle.bound_log.specs.Told.{State}

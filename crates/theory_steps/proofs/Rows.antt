@@ -10,7 +10,7 @@ use Rattle.smt_meaning.specs.StackCommand.{Stack}
 use Rattle.smt_meaning.specs.Boxes.{term_at_most}
 use Rattle.smt_meaning.specs.CheckAtoms.{IsFirstAtom, IsBoundOf, IsBranch}
 use Rattle.term_store.specs.Terms.{AreDifferent}
-use Rattle.flat_stack.specs.Flat.{flat, FlatSaysTheSame}
+use Rattle.smt_laws.specs.Flat.{flat, FlatSaysTheSame}
 use Rattle.theory_steps.specs.Shown.{AreOfAssertions, AreShown, IsMarkedLeaf, IsOfCheck}
 use Rattle.theory_steps.proofs.Branching.{each_more, line_over, with_more, with_newest}
 use Rattle.theory_steps.proofs.Comparing.{leaf_part}

@@ -14,8 +14,8 @@ use Rattle.smt_meaning.specs.Interpretation.{Interprets, has_sort}
 use Rattle.smt_meaning.specs.Atoms.{at_most_atom}
 use Rattle.smt_meaning.specs.Stack.{signature_of}
 use Rattle.smt_meaning.specs.StackCommand.{Stack}
-use Rattle.term_laws.specs.Laws.{ValueHasItsSort}
-use Rattle.flat_stack.specs.Flat.{FlatSaysTheSame}
+use Rattle.smt_laws.specs.TermLaws.{ValueHasItsSort}
+use Rattle.smt_laws.specs.Flat.{FlatSaysTheSame}
 use Rattle.atom_table.specs.Numbers.{IsAt}
 use Rattle.atom_numbers.specs.Atoms.{Atoms}
 use Rattle.search_port.specs.State.{TheoryState, atom_at}

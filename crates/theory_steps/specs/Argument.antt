@@ -12,7 +12,7 @@ use Rattle.smt_meaning.specs.Linear.{Form, leaves, linear_form}
 use Rattle.smt_meaning.specs.Stack.{signature_of}
 use Rattle.smt_meaning.specs.StackCommand.{Stack}
 use Rattle.smt_meaning.specs.Ranges.{IsIntArgument, form_at}
-use Rattle.flat_stack.specs.Flat.{flat}
+use Rattle.smt_laws.specs.Flat.{flat}
 use Rattle.model_eval.specs.Walk.{is_marked}
 use Rattle.sum_bounds.specs.Bounds.{State, leaf_values}
 use Rattle.sum_bounds.specs.Written.{HasLeaf}

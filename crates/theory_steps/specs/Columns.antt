@@ -4,7 +4,7 @@ use Rattle.smt_meaning.specs.declared.clauses.Atom.{Atom}
 use Rattle.smt_meaning.specs.StackCommand.{Stack}
 use Rattle.smt_meaning.specs.Boxes.{term_at_most}
 use Rattle.smt_meaning.specs.CheckAtoms.{IsLeaf}
-use Rattle.flat_stack.specs.Flat.{flat}
+use Rattle.smt_laws.specs.Flat.{flat}
 use Rattle.bound_log.specs.Told.{State}
 use Rattle.bound_log.specs.Columns.{HasColumnsOf}
 

@@ -5,7 +5,7 @@ use Rattle.smt_meaning.specs.declared.clauses.Atom.{Atom}
 use Rattle.smt_meaning.specs.declared.clauses.Atom.TheVariants.{Same, AtMost}
 use Rattle.smt_meaning.specs.StackCommand.{Stack}
 use Rattle.search_port.specs.Valid.{IsOf}
-use Rattle.flat_stack.specs.Flat.{flat}
+use Rattle.smt_laws.specs.Flat.{flat}
 use Rattle.atom_numbers.specs.Atoms.{Atoms}
 use Rattle.bound_log.specs.Growth.{IsProper}
 use Rattle.log_value.specs.Atoms.{HasMarkedPlaces}

@@ -10,7 +10,7 @@ use Rattle.smt_meaning.specs.Stack.{signature_of}
 use Rattle.smt_meaning.specs.StackCommand.{Stack}
 use Rattle.smt_meaning.specs.CheckAtoms.{IsPartOfStack, IsCheckAtom, IsLeaf, AreBranches, is_leaf}
 use Rattle.smt_meaning.specs.Ranges.{LeavesRange}
-use Rattle.flat_stack.specs.Flat.{flat}
+use Rattle.smt_laws.specs.Flat.{flat}
 use Rattle.check_atoms.specs.OfStack.{bound_terms}
 use Rattle.model_eval.specs.Walk.{is_marked}
 

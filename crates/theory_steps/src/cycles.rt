@@ -12,9 +12,9 @@ use atom_numbers::AtomNumbers;
 use closure_log::{inferred, is_open, keep};
 use difference_clauses::{broken, implied, told_literals};
 use difference_graph::Implied;
-use flat_stack::flat_says_the_same;
 use scope_stack::Stack;
 use search_port::{Cause, Inferred, Lemma};
+use smt_laws::flat_says_the_same;
 use std::alloc::{AllocError, Global};
 
 /// How many clauses are given in a call, but for those of one edge.

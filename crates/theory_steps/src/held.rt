@@ -8,7 +8,7 @@ ghost use Rattle.bound_log.specs.Atoms.{Knows};
 ghost use Rattle.bound_log.specs.Columns.{HasColumnsOf};
 ghost use Rattle.bound_log.specs.Reporting.{Judges};
 ghost use Rattle.bound_log.specs.declared.report.Report.TheVariants.{UnitsSpent};
-ghost use Rattle.flat_stack.specs.Flat.{flat};
+ghost use Rattle.smt_laws.specs.Flat.{flat};
 ghost use Rattle.closure_log.specs.Seen.{state_of, IsSetting};
 ghost use Rattle.theory_steps.specs.Errors.{IsErrorOf};
 ghost use Rattle.theory_steps.specs.Held.{IsHeld, IsMet, IsMetBy};
@@ -20,12 +20,12 @@ use crate::errors::{BoundError, untold};
 use atom_numbers::AtomNumbers;
 use bound_log::{BoundLog, Report, Reported};
 use closure_log::{ClosureLog, Guide, Scan, infer};
-use flat_stack::flat_says_the_same;
 use fraction128::{Grid, Line};
 use literals::Literal;
 use scope_stack::Stack;
 use search_port::{Asserted, Inferred, Lemma};
 use simplex::PivotLines;
+use smt_laws::flat_says_the_same;
 use std::alloc::Global;
 
 /// The literals told, and what they say of terms and of sums.

@@ -10,9 +10,9 @@ ghost use Rattle.theory_steps.specs.Held.{IsHeld};
 use crate::held::Held;
 use atom_numbers::AtomNumbers;
 use closure_log::{inferred, is_open, keep};
-use flat_stack::flat_says_the_same;
 use scope_stack::Stack;
 use search_port::{Cause, Inferred, Lemma};
+use smt_laws::flat_says_the_same;
 use std::alloc::Global;
 
 /// How many atoms are looked at in a call.

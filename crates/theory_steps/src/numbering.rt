@@ -3,7 +3,7 @@ ghost use Rattle.std.specs.Prelude.{◌≡◌, ◌+◌, ◌<◌, ◌≤◌, ◌�
 ghost use Rattle.search_port.specs.Calls.{EndsBy};
 ghost use Rattle.bound_log.specs.Atoms.{KnowsOneMore};
 ghost use Rattle.bound_log.specs.Columns.{AddsColumns};
-ghost use Rattle.flat_stack.specs.Flat.{flat};
+ghost use Rattle.smt_laws.specs.Flat.{flat};
 ghost use Rattle.theory_steps.specs.Errors.{IsErrorAt, IsErrorOf};
 ghost use Rattle.theory_steps.specs.Numbering.{atom_of, IsNew, IsProperAtom, IsWhole};
 ghost use Rattle.theory_steps.specs.Progress.{state, IsUnderWay, Went};

@@ -22,13 +22,11 @@ use crate::step::{Step, go_on_with_bound, stop, stop_seeing};
 use atom_numbers::AtomNumbers;
 use atom_table::CompactAtom;
 use branch_lemmas::tie_lemmas;
-use flat_stack::flat_says_the_same;
 use linear_forms::{DifferenceError, LinearForms};
 use pair_bounds::at_most;
 use search_port::{Budget, Cause};
+use smt_laws::{flat_says_the_same, symbols_are_declared, value_has_its_sort};
 use smt_meaning::{RangeSeen, Summand, TermId};
-use sort_laws::symbols_are_declared;
-use term_laws::value_has_its_sort;
 
 /// The bound that one term is at most another.
 #[derive(Drop)]

@@ -25,10 +25,9 @@ use bound_log::BoundLog;
 use check_atoms::atoms_are_of_stack;
 use check_clauses::linear_terms;
 use closure_log::{ClosureLog, Guide, Scan};
-use flat_stack::flat_says_the_same;
 use scope_stack::Stack;
+use smt_laws::{flat_says_the_same, symbols_are_declared};
 use smt_meaning::Sort;
-use sort_laws::symbols_are_declared;
 use std::alloc::{AllocError, Global};
 
 /// What a search begins with.

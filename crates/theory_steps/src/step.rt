@@ -3,7 +3,7 @@ ghost use Rattle.std.specs.Prelude.{◌<◌, length, Contains, All, IfSome};
 ghost use Rattle.fraction128.specs.Whole.{InRange};
 ghost use Rattle.smt_meaning.specs.declared.clauses.Atom.TheVariants.{AtMost};
 ghost use Rattle.bound_log.specs.Growth.{IsProper};
-ghost use Rattle.flat_stack.specs.Flat.{flat};
+ghost use Rattle.smt_laws.specs.Flat.{flat};
 ghost use Rattle.theory_steps.specs.Errors.{IsPastOf};
 ghost use Rattle.theory_steps.specs.Progress.{state, AreParts, IsUnderWay, Went};
 ghost use Rattle.theory_steps.specs.Shown.{IsOfCheck, IsLeft, IsMarkedLeaf};
@@ -12,11 +12,10 @@ ghost use Rattle.theory_steps.specs.Steps.{IsStep};
 use crate::constant::said_of;
 use crate::numbering::{NewAtom, NewBound, number_new};
 use crate::parts::{Parts, Progress};
-use flat_stack::flat_says_the_same;
 use fraction128::Grid;
 use search_port::{Budget, Cause, Lemma};
+use smt_laws::{flat_says_the_same, symbols_are_declared};
 use smt_meaning::{RangeSeen, Seq};
-use sort_laws::symbols_are_declared;
 
 /// How the search goes on.
 #[derive(Drop)]

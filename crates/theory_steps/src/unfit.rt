@@ -1,7 +1,7 @@
 //! Where a number leaves the range in a model.
 ghost use Rattle.std.specs.Prelude.{◌≡◌, ℕ, true, Contains, IfOk};
 ghost use Rattle.smt_meaning.specs.Ranges.{LeavesInModel};
-ghost use Rattle.flat_stack.specs.Flat.{flat};
+ghost use Rattle.smt_laws.specs.Flat.{flat};
 ghost use Rattle.model_eval.specs.Walk.{is_marked};
 ghost use Rattle.theory_steps.specs.Progress.{state, AreParts, IsUnderWay, Went};
 ghost use Rattle.theory_steps.specs.Steps.{IsStep};

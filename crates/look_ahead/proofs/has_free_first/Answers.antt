@@ -1,6 +1,6 @@
 use Rattle.std.proofs.Common.{◌≡◌, List, Bool}
 use Rattle.smt_meaning.specs.Sorts.{Variable, variable_names}
-use Rattle.term_walk.specs.Walk.{has_free_first}
+use Rattle.smt_laws.specs.Walk.{has_free_first}
 use Rattle.look_ahead.specs.Ahead.{ahead}
 use Rattle.look_ahead.specs.Free.{first_free}
 use Rattle.look_ahead.proofs.LetLemmas.{value_then}

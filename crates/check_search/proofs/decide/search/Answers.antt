@@ -2,7 +2,7 @@ use Rattle.std.proofs.Common.{subst, sym, ap, [], false}
 use Rattle.search_port.specs.State.{Reading, TheoryState, IsGrown}
 use Rattle.search_port.specs.Spending.{Spending}
 use Rattle.search_port.specs.declared.budget.Cause.{Cause}
-use Rattle.flat_stack.specs.Flat.{flat}
+use Rattle.smt_laws.specs.Flat.{flat}
 use Rattle.check_clauses.specs.First.{reading_of}
 use Rattle.cdcl_core.specs.Turns.{EndsSearch, NoHook}
 use Rattle.check_search.proofs.Deciding.{fresh, heard, tables_for, holds}

@@ -2,7 +2,7 @@ use Rattle.std.proofs.Common.{◌≡◌, List, [], sym, subst}
 use Rattle.fraction128.specs.declared.Line.{Line}
 use Rattle.smt_meaning.specs.CheckAtoms.{IsCheckAtom, AreBranches}
 use Rattle.smt_meaning.specs.Ranges.{LeavesRange}
-use Rattle.flat_stack.specs.Flat.{flat}
+use Rattle.smt_laws.specs.Flat.{flat}
 use Rattle.check_search.proofs.SameStack.{range_by}
 use Rattle.check_search.proofs.ending.out_of_range.Goals as goal
 

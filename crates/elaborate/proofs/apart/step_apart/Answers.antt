@@ -1,7 +1,7 @@
 use Rattle.std.proofs.Common.{sym, drop, ◌+◌}
 use Rattle.smt_meaning.specs.Sexp.{open_lists_of}
 use Rattle.smt_meaning.specs.Seen.{seen}
-use Rattle.term_walk.specs.Walk.{first_list}
+use Rattle.smt_laws.specs.Walk.{first_list}
 use Rattle.elaborate.specs.Judged.{scope_of, rules_of}
 use Rattle.elaborate.specs.Frames.{walk_of}
 use Rattle.elaborate.proofs.Runs.{step_leave, step_word}

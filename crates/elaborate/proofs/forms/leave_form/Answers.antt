@@ -1,5 +1,5 @@
 use Rattle.std.proofs.Common.{sym, subst}
-use Rattle.term_walk.specs.Walk.{on_leave}
+use Rattle.smt_laws.specs.Walk.{on_leave}
 use Rattle.elaborate.specs.declared.frame.Frame.TheVariants.{Bindings, BoundTo, Done, Attributes}
 use Rattle.elaborate.specs.Frames.{AreBound}
 use Rattle.elaborate.proofs.Moves.{top_is, replaced_push}

@@ -1,6 +1,6 @@
 use Rattle.std.proofs.Common.{refl, sym, ◌∙◌}
 use Rattle.smt_meaning.specs.Seen.{seen}
-use Rattle.term_walk.specs.Walk.{on_words}
+use Rattle.smt_laws.specs.Walk.{on_words}
 use Rattle.elaborate.specs.declared.frame.Frame.TheVariants.{BindingOpen, Bound, Attributes, Naming}
 use Rattle.elaborate.specs.Judged.{rules_of}
 use Rattle.elaborate.proofs.Moves.{popped, top_is, replaced_push}

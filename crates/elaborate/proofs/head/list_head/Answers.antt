@@ -1,6 +1,6 @@
 use Rattle.std.proofs.Common.{map, ap, sym, subst}
 use Rattle.smt_meaning.specs.Seen.{seen}
-use Rattle.term_walk.specs.Walk.{on_head}
+use Rattle.smt_laws.specs.Walk.{on_head}
 use Rattle.look_ahead.specs.Ahead.{ahead}
 use Rattle.elaborate.specs.Judged.{scope_of, rules_of}
 use Rattle.elaborate.specs.Frames.{variable_at}

@@ -1,7 +1,7 @@
 use Rattle.std.proofs.Common.{map, ap}
 use Rattle.smt_meaning.specs.declared.tokens.Token.TheVariants.{Reserved}
 use Rattle.smt_meaning.specs.declared.refusals.Refusal.TheVariants.{UnknownSymbol}
-use Rattle.term_walk.specs.Walk.{on_head}
+use Rattle.smt_laws.specs.Walk.{on_head}
 use Rattle.look_ahead.specs.Ahead.{ahead}
 use Rattle.elaborate.specs.Judged.{scope_of, rules_of}
 use Rattle.elaborate.specs.Frames.{variable_at}

@@ -1,5 +1,5 @@
 use Rattle.std.proofs.Common.{refl, sym, subst, None}
-use Rattle.term_laws.proofs.SExprLaw.{read_back}
+use Rattle.smt_laws.proofs.SExprLaw.{read_back}
 use Rattle.elaborate.specs.Judged.{scope_of, rules_of}
 use Rattle.elaborate.specs.Frames.{AllHold}
 use Rattle.elaborate.proofs.Runs.{judged_answer, judged_unfinished, judged_refused}

@@ -1,5 +1,5 @@
 use Rattle.std.proofs.Common.{arith}
-use Rattle.term_walk.specs.Walk.{on_enter}
+use Rattle.smt_laws.specs.Walk.{on_enter}
 use Rattle.elaborate.specs.declared.frame.Frame.TheVariants.{LetOpen, Bindings, BindingOpen, Attributes}
 use Rattle.elaborate.proofs.Moves.{replaced_push, top_is, no_bindings, enter_let, enter_binding, enter_value}
 use Rattle.elaborate.proofs.steps.enter_form.Goals as goal

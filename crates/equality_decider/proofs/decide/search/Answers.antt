@@ -2,7 +2,7 @@ use Rattle.std.proofs.Common.{◌≡◌, ℕ, ◌<◌, List, All, map, length, a
 use Rattle.smt_meaning.specs.Stack.{depth}
 use Rattle.search_port.specs.State.{Reading, TheoryState, IsGrown}
 use Rattle.search_port.specs.declared.budget.Cause.{Cause}
-use Rattle.flat_stack.specs.Flat.{flat}
+use Rattle.smt_laws.specs.Flat.{flat}
 use Rattle.part_clauses.specs.First.{reading_of}
 use Rattle.cdcl_core.specs.Turns.{EndsSearch, NoHook, Searches}
 use Rattle.equality_decider.proofs.Deciding.{heard, model_left, none_left}

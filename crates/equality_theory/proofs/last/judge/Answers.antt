@@ -1,7 +1,7 @@
 use Rattle.std.proofs.Common.{sym, subst}
 use Rattle.std.specs.Prelude.{List}
 use Rattle.literals.specs.Signed.{Signed}
-use Rattle.flat_stack.specs.Flat.{flat}
+use Rattle.smt_laws.specs.Flat.{flat}
 use Rattle.last_check.specs.Told.{IsWholeLog, IsJudged}
 use Rattle.equality_theory.proofs.Setting.{at_one_level}
 use Rattle.equality_theory.proofs.Telling.{told_same}

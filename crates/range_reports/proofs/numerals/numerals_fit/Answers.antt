@@ -1,5 +1,5 @@
 use Rattle.std.proofs.Common.{◌≡◌, ◌≤◌, length, true, rules}
-use Rattle.linear_laws.specs.Numerals.{head_in_range}
+use Rattle.smt_laws.specs.Numerals.{head_in_range}
 use Rattle.range_reports.proofs.Fitting.{fit_more, all_fit}
 use Rattle.range_reports.proofs.numerals.numerals_fit.Goals as goal
 

@@ -2,7 +2,7 @@ use Rattle.std.proofs.Common.{[], All, refl, subst, sym}
 use Rattle.std.specs.Prelude.{IsTrue}
 use Rattle.smt_meaning.specs.Term.{Tree}
 use Rattle.smt_meaning.specs.Report.{Shows}
-use Rattle.linear_laws.specs.Numerals.{numerals_fit}
+use Rattle.smt_laws.specs.Numerals.{numerals_fit}
 use Rattle.range_reports.proofs.Shown.{shown}
 use Rattle.range_reports.proofs.report.refused.Goals as goal
 

@@ -1,7 +1,7 @@
 use Rattle.std.proofs.Common.{List, refl, sym, subst}
 use Rattle.smt_meaning.specs.Declaration.{Declaration}
 use Rattle.smt_meaning.specs.Interpretation.{AreTablesFor}
-use Rattle.flat_stack.specs.Flat.{SaysTheSame}
+use Rattle.smt_laws.specs.Flat.{SaysTheSame}
 use Rattle.closure_log.specs.Seen.{state_of}
 use Rattle.log_value.specs.Verdict.{AreModels}
 use Rattle.theory_steps.proofs.model.evaluate.Goals as goal

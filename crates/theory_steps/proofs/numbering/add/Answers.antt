@@ -1,5 +1,5 @@
 use Rattle.std.proofs.Common.{◌∙◌, ◌++◌, ◌∷◌, [], refl}
-use Rattle.flat_stack.specs.Flat.{flat}
+use Rattle.smt_laws.specs.Flat.{flat}
 use Rattle.bound_log.proofs.Taking.{err_is}
 use Rattle.theory_steps.specs.declared.errors.BoundError.TheVariants.{Memory}
 use Rattle.theory_steps.specs.declared.held.Held.{Held}

@@ -2,7 +2,7 @@ use Rattle.std.proofs.Common.{[]}
 use Rattle.std.specs.Prelude.{None}
 use Rattle.std.proofs.lemmas.List.Elements.{All-nil}
 use Rattle.smt_meaning.specs.CheckAtoms.{IsLeaf}
-use Rattle.flat_stack.specs.Flat.{flat}
+use Rattle.smt_laws.specs.Flat.{flat}
 use Rattle.bound_log.proofs.Taking.{err_is}
 use Rattle.theory_steps.specs.declared.errors.BoundError.TheVariants.{Memory}
 use Rattle.theory_steps.specs.Errors.{IsErrorSeen}

@@ -1,5 +1,0 @@
-use Rattle.clause_laws.proofs.Resolution.{empty_shows}
-use Rattle.clause_laws.proofs.empty_clause_shows_no_model.Goals as goal
-
-pub returns : goal.returns
-returns c = empty_shows

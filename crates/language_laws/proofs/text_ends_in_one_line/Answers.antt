@@ -1,5 +1,0 @@
-use Rattle.language_laws.proofs.Lines.{ends_in_one_line}
-use Rattle.language_laws.proofs.text_ends_in_one_line.Goals as goal
-
-pub returns : goal.returns
-returns c = ends_in_one_line

@@ -1,0 +1,62 @@
+pub mod Both
+pub mod SortLaw
+pub mod Tables
+pub mod ValueLaw
+pub mod SexpLaw
+pub mod SExprLaw
+pub mod SameTree
+pub mod JudgeLaw
+pub mod BodyLaw
+pub mod EnvironmentLaw
+mod Written
+mod TermLawsExamples
+pub mod Keeping
+pub mod FreshLaw
+pub mod Among
+mod PlacesLaw
+mod Signatures
+mod SortLawsJudgements
+mod SortLawsTermsLaw
+mod SortLawsCommandsLaw
+mod SortLawsStackLaw
+pub mod OrderLaw
+pub mod BelowLaw
+pub mod Included
+pub mod FollowsLaw
+pub mod Resolution
+pub mod MoreTrees
+pub mod ClauseLawsPartsLaw
+pub mod LinearLaw
+pub mod BoundLaw
+mod ClauseLawsExamples
+mod Propagation
+mod Script
+mod Refusals
+mod Orders
+mod Texts
+mod Modes
+mod Lines
+mod Told
+mod Kept
+mod Journals
+mod Numbers
+mod Propositional
+mod Reports
+mod Ranges
+pub mod FlatLaw
+mod Each
+mod Shapes
+mod LinearLawsJudgements
+mod LinearLawsTermsLaw
+mod LinearLawsCommandsLaw
+mod LinearLawsStackLaw
+mod LinearLawsPartsLaw
+mod FormsLaw
+mod Monad
+mod Steps
+mod Shape
+mod Run
+mod UseLemmas
+mod AgainLemmas
+mod FormLemmas
+mod TodoLemmas

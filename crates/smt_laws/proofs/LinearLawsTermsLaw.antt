@@ -1,0 +1,237 @@
+-- A judged term is among the trees, each of which is linear where products are judged, and whose numerals are in the range.
+use Rattle.std.proofs.Common.{ℕ, List, [], ◌∷◌, ◌++◌, map, refl, Bool, true, false, ◌&&◌, not, Option, Some, None}
+use Rattle.std.specs.Prelude.{codes, bytes_eq, pos, if◌then◌else◌}
+use Rattle.smt_meaning.specs.declared.values.Sort.{Sort}
+use Rattle.smt_meaning.specs.declared.values.Sort.TheVariants.{Bool as Truths, Int as Ints}
+use Rattle.smt_meaning.specs.declared.terms.Operator.{Operator}
+use Rattle.smt_meaning.specs.declared.terms.Operator.TheVariants.{True, False}
+use Rattle.smt_meaning.specs.declared.terms.Head.TheVariants.{Numeral as Number, Theory, Symbol as Function}
+use Rattle.smt_meaning.specs.declared.tokens.Token.{Token}
+use Rattle.smt_meaning.specs.declared.tokens.Token.TheVariants.{Numeral, Symbol, Reserved, Keyword}
+use Rattle.smt_meaning.specs.declared.tokens.Word.TheVariants.{Exclamation, Let}
+use Rattle.smt_meaning.specs.Declaration.{Declaration, Body}
+use Rattle.smt_meaning.specs.Term.{Trees, node, none}
+use Rattle.smt_meaning.specs.TreeShape.{is_linear_at, put}
+use Rattle.smt_meaning.specs.Sexp.{Sexp, Sexps, word, group, end, ◌▸◌}
+use Rattle.smt_meaning.specs.Signature.{look_up, find_function, operators}
+use Rattle.smt_meaning.specs.Sorts.{Scope, Judging, Typed, Variable, Rules, trees_of, Known, variable, operator, function, unknown, known, find_variable, known_name, known_symbol, applied, applied_trees, all_are_linear, judge_symbol, judge_operator, can_be_applied, judge_application, judge_bare, judge_numeral, decimal, judge_token, check_bindings, none_twice, bound_names, name_by, judge_attributes, either, judge, judge_all, judge_bindings, has_free, variable_names}
+use Rattle.smt_laws.proofs.Among.{Among, among_one, among_map, among_parts}
+use Rattle.smt_laws.proofs.Each.{Each, EachOf, of_among, each_among, each_parts}
+use Rattle.smt_laws.proofs.Shapes.{Linear, linear_up, linear_each, tested, Small, small_down, small_up, put_each_small}
+use Rattle.smt_laws.proofs.LinearLawsJudgements.{Stands, AllStand, Good, After, Gives, Nothing, bind_gives, next_gives, return_gives, refuse_gives, require_gives, required_gives, scope_then, Fine, note_found, declare_gives}
+
+-- ---- lists of terms and of variables
+
+abbrev pub AllFine : List Typed → Scope → Type 0
+AllFine [] t = Unit {0}
+AllFine (a ∷ ts) t = Fine a t × AllFine ts t
+
+abbrev pub VariablesFine : List Variable → Scope → Type 0
+VariablesFine [] t = Unit {0}
+VariablesFine (v ∷ vs) t = Fine v.term t × VariablesFine vs t
+
+abbrev AreAmong : Trees → Scope → Type 0
+AreAmong us t = EachOf (λ u. Among u t.trees) us
+
+fine_after : (a : Typed) (s t : Scope) → After s t → Fine a s → Fine a t
+fine_after a s t e h = e.kept a.tree h
+
+variables_after : (vs : List Variable) (s t : Scope) → After s t → VariablesFine vs s → VariablesFine vs t
+variables_after [] s t e h = tt
+variables_after (v ∷ vs) s t e h = (fine_after v.term s t e h.0, variables_after vs s t e h.1)
+
+variables_append : (xs vs : List Variable) (t : Scope) → VariablesFine xs t → VariablesFine vs t → VariablesFine (xs ++ vs) t
+variables_append [] vs t h k = k
+variables_append (x ∷ xs) vs t h k = (h.0, variables_append xs vs t h.1 k)
+
+all_after : (ts : List Typed) (s t : Scope) → After s t → AllFine ts s → AllFine ts t
+all_after [] s t e h = tt
+all_after (a ∷ ts) s t e h = (fine_after a s t e h.0, all_after ts s t e h.1)
+
+are_among : (ts : List Typed) (t : Scope) → AllFine ts t → AreAmong (trees_of ts) t
+are_among [] t h = tt
+are_among (a ∷ ts) t h = (h.0, are_among ts t h.1)
+
+-- ---- what a name stands for
+
+abbrev KnownFine : Known → Scope → Type 0
+KnownFine (variable a) t = Fine a t
+KnownFine (function d) t = Stands d.body
+KnownFine (operator o) t = Unit {0}
+KnownFine unknown t = Unit {0}
+
+known_after : (k : Known) (s t : Scope) → After s t → KnownFine k s → KnownFine k t
+known_after (variable a) s t e h = fine_after a s t e h
+known_after (function d) s t e h = h
+known_after (operator o) s t e h = tt
+known_after unknown s t e h = tt
+
+variable_step : (a : Typed) (o : Option Typed) (k : Known) (t : Scope) (b : Bool) → Fine a t → KnownFine (known_name o k) t → KnownFine (known_name (if b then Some a else o) k) t
+variable_step a o k t true h g = h
+variable_step a o k t false h g = g
+
+variable_known : (n : List ℕ) (vs : List Variable) (k : Known) (t : Scope) → VariablesFine vs t → KnownFine k t → KnownFine (known_name (find_variable n vs) k) t
+variable_known n [] k t h g = g
+variable_known n (v ∷ vs) k t h g = variable_step v.term (find_variable n vs) k t (bytes_eq n v.name) h.0 (variable_known n vs k t h.1 g)
+
+abbrev FoundStands : Option Declaration → Type 0
+FoundStands None = Unit {0}
+FoundStands (Some d) = Stands d.body
+
+found_step : (d : Declaration) (o : Option Declaration) (b : Bool) → Stands d.body → FoundStands o → FoundStands (if b then Some d else o)
+found_step d o true h k = h
+found_step d o false h k = k
+
+found_stands : (n : List ℕ) (ds : List Declaration) → AllStand ds → FoundStands (find_function n ds)
+found_stands n [] h = tt
+found_stands n (d ∷ ds) h = found_step d (find_function n ds) (bytes_eq n d.name && not d.is_sort) h.0 (found_stands n ds h.1)
+
+symbol_known : (o : Option Operator) (d : Option Declaration) (t : Scope) → FoundStands d → KnownFine (known_symbol o d) t
+symbol_known (Some o) d t h = tt
+symbol_known None None t h = tt
+symbol_known None (Some d) t h = h
+
+known_fine : (c : Bool) (n : List ℕ) (vs : List Variable) (t : Scope) → Good c t → VariablesFine vs t → KnownFine (known vs n t) t
+known_fine c n vs t g h =
+    variable_known n vs (known_symbol (look_up n operators) (find_function n t.signature)) t h
+    (symbol_known (look_up n operators) (find_function n t.signature) t (found_stands n t.signature g.bodies))
+
+-- ---- applications and bare symbols
+
+applied_small : (d : Declaration) (ts : Trees) → Stands d.body → EachOf Small ts → Each Small (applied_trees d ts)
+applied_small d ts h k = go d.body h
+  where
+    go : (o : Option Body) → Stands o → Each Small (elim o [ None ↦ node (Function d.id) ts ∷ [] | Some b ↦ map (put ts) b.terms ])
+    go None w = (small_up (Function d.id) ts refl k, tt)
+    go (Some b) w = put_each_small ts b.terms k w.1
+
+applied_among : (d : Declaration) (ts : Trees) → Stands d.body → Among (applied d ts) (applied_trees d ts)
+applied_among d ts h = go d.body h
+  where
+    go : (o : Option Body) → Stands o
+        → Among (elim o [ None ↦ node (Function d.id) ts | Some b ↦ put ts b.term ]) (elim o [ None ↦ node (Function d.id) ts ∷ [] | Some b ↦ map (put ts) b.terms ])
+    go None w = among_one (node (Function d.id) ts)
+    go (Some b) w = among_map (put ts) b.term b.terms w.0
+
+symbol_gives : (s : Scope) (r : Rules) (d : Declaration) (ts : Trees) → Good r.closed s → Stands d.body → AreAmong ts s → Gives r.closed s (judge_symbol r d ts) Fine
+symbol_gives s r d ts g h w =
+    let small : EachOf Small ts = of_among Small ts s.trees g.small w in
+    next_gives r.closed s _ _ _ Fine (require_gives r.closed s _ _)
+    (λ a t f e k. note_found r.closed t (applied_trees d ts) (applied d ts) d.rank.result (applied_small d ts h small)
+    (λ closed. linear_each (applied_trees d ts) (tested r.closed (all_are_linear (applied_trees d ts)) k closed)) (applied_among d ts h))
+
+operator_gives : (s : Scope) (r : Rules) (o : Operator) (ts : Trees) (x : Sort) → Good r.closed s → AreAmong ts s → Gives r.closed s (judge_operator r o ts x) Fine
+operator_gives s r o ts x g w =
+    next_gives r.closed s _ _ _ Fine (require_gives r.closed s _ _)
+    (λ a t f e k. note_found r.closed t (node (Theory o) ts ∷ []) (node (Theory o) ts) x (small_up (Theory o) ts refl (of_among Small ts s.trees g.small w), tt)
+    (λ closed. (linear_up (Theory o) ts (tested r.closed (is_linear_at (Theory o) ts) k closed) (of_among Linear ts s.trees (g.linear closed) w), tt)) (among_one (node (Theory o) ts)))
+
+bare_gives : (s : Scope) (r : Rules) (n : List ℕ) (k : Known) → Good r.closed s → KnownFine k s → Gives r.closed s (judge_bare r n k) Fine
+bare_gives s r n (variable a) g h = return_gives r.closed s a Fine h
+bare_gives s r n unknown g h = refuse_gives r.closed s _ _
+bare_gives s r n (operator True) g h = operator_gives s r True none Truths g tt
+bare_gives s r n (operator False) g h = operator_gives s r False none Truths g tt
+bare_gives s r n (operator _) g h = refuse_gives r.closed s _ _
+bare_gives s r n (function d) g h = next_gives r.closed s _ _ _ Fine (require_gives r.closed s _ _) (λ a t f e k. symbol_gives t r d none f h tt)
+
+application_gives : (s : Scope) (r : Rules) (n : List ℕ) (k : Known) (ts : List Typed) → KnownFine k s → AllFine ts s → Gives r.closed s (judge_application r n k ts) Fine
+application_gives s r n (variable a) ts h w = refuse_gives r.closed s _ _
+application_gives s r n unknown ts h w = refuse_gives r.closed s _ _
+application_gives s r n (operator o) ts h w =
+    next_gives r.closed s _ _ _ Fine (require_gives r.closed s _ _)
+    (λ a t g e k. bind_gives r.closed t _ _ Nothing Fine (required_gives r.closed t _ _)
+    (λ x u f m l. operator_gives u r o (trees_of ts) x f (are_among ts u (all_after ts t u m (all_after ts s t e w)))))
+application_gives s r n (function d) ts h w =
+    next_gives r.closed s _ _ _ Fine (require_gives r.closed s _ _)
+    (λ a t g e k. next_gives r.closed t _ _ _ Fine (require_gives r.closed t _ _)
+    (λ x u f m l. symbol_gives u r d (trees_of ts) f h (are_among ts u (all_after ts t u m (all_after ts s t e w)))))
+
+can_be_applied_gives : (c : Bool) (s : Scope) (n : List ℕ) (k : Known) → Gives c s (can_be_applied n k) Nothing
+can_be_applied_gives c s n (variable a) = refuse_gives c s _ _
+can_be_applied_gives c s n unknown = refuse_gives c s _ _
+can_be_applied_gives c s n _ = return_gives c s tt Nothing tt
+
+none_twice_gives : (c : Bool) (s : Scope) (before ns : List (List ℕ)) → Gives c s (none_twice before ns) Nothing
+none_twice_gives c s before [] = return_gives c s tt Nothing tt
+none_twice_gives c s before (n ∷ ns) = next_gives c s _ _ _ Nothing (require_gives c s _ _) (λ a t g e k. none_twice_gives c t (n ∷ before) ns)
+
+bindings_gives : (c : Bool) (s : Scope) (o : Option (List (List ℕ))) → Gives c s (check_bindings o) Nothing
+bindings_gives c s None = refuse_gives c s _ _
+bindings_gives c s (Some []) = refuse_gives c s _ _
+bindings_gives c s (Some (n ∷ ns)) = none_twice_gives c s [] (n ∷ ns)
+
+-- ---- names
+
+name_gives : (c : Bool) (r : Rules) (s : Scope) (open_term : Bool) (a : Typed) (ss : Sexps) → Fine a s → Gives c s (name_by r open_term a ss) Nothing
+name_gives c r s open_term a (word (Symbol n) ▸ rest) h =
+    scope_then c s _ Nothing
+    (next_gives c s _ _ _ Nothing (require_gives c s _ _)
+    (λ x t g e k. next_gives c t _ _ _ Nothing (require_gives c t _ _)
+    (λ y u f m l. next_gives c u _ _ _ Nothing (require_gives c u _ _)
+    (λ z v i p q. declare_gives c v _
+    (λ id. (
+      among_parts a.tree [],
+      each_parts Small small_down [] a.tree tt (each_among Small a.tree v.trees i.small (fine_after a u v p (fine_after a t u m (fine_after a s t e h)))),
+    ))))))
+name_gives c r s open_term a _ h = refuse_gives c s _ _
+
+either_gives : {A : Type 0} (c : Bool) (s : Scope) (b : Bool) (m n : Judging A) (P : A → Scope → Type 0) → Gives c s m P → Gives c s n P → Gives c s (either b m n) P
+either_gives c s true m n P h g = h
+either_gives c s false m n P h g = g
+
+attributes_give : (c : Bool) (r : Rules) (s : Scope) (open_term : Bool) (a : Typed) (ss : Sexps) → Fine a s → Gives c s (judge_attributes r open_term a ss) Nothing
+attributes_give c r s open_term a end h = return_gives c s tt Nothing tt
+attributes_give c r s open_term a (word (Keyword k) ▸ rest) h =
+    either_gives c s (bytes_eq k (codes "named")) _ _ Nothing
+    (next_gives c s _ _ _ Nothing (name_gives c r s open_term a rest h) (λ x t g e w. attributes_give c r t open_term a rest (fine_after a s t e h))) (attributes_give c r s open_term a rest h)
+attributes_give c r s open_term a (_ ▸ rest) h = attributes_give c r s open_term a rest h
+
+-- ---- terms
+
+numeral_gives : (c : Bool) (s : Scope) (n : ℕ) → Gives c s (judge_numeral n) Fine
+numeral_gives c s n =
+    next_gives c s _ _ _ Fine (require_gives c s _ _)
+    (λ a t g e k. note_found c t (node (Number (pos n)) none ∷ []) (node (Number (pos n)) none) Ints (small_up (Number (pos n)) none k tt, tt) (λ closed. (refl, tt))
+    (among_one (node (Number (pos n)) none)))
+
+token_gives : (s : Scope) (r : Rules) (vs : List Variable) (t : Token) → Good r.closed s → VariablesFine vs s → Gives r.closed s (judge_token r vs t) Fine
+token_gives s r vs (Symbol n) g h = scope_then r.closed s (λ u. judge_bare r n (known vs n u)) Fine (bare_gives s r n (known vs n s) g (known_fine r.closed n vs s g h))
+token_gives s r vs (Numeral cs) g h = numeral_gives r.closed s (decimal cs)
+token_gives s r vs _ g h = refuse_gives r.closed s _ _
+
+mutual
+  pub judge_gives : (r : Rules) (vs : List Variable) (x : Sexp) (s : Scope) → Good r.closed s → VariablesFine vs s → Gives r.closed s (judge r vs x) Fine
+  judge_gives r vs (word t) s g h = token_gives s r vs t g h
+  judge_gives r vs (group (word (Reserved Let) ▸ group bs ▸ b ▸ end)) s g h =
+      next_gives r.closed s _ _ _ Fine (bindings_gives r.closed s (bound_names bs))
+      (λ y t f e k. bind_gives r.closed t _ _ VariablesFine Fine (bindings_give r vs bs t f (variables_after vs s t e h))
+      (λ xs u d m l. judge_gives r (xs ++ vs) b u d (variables_append xs vs u l (variables_after vs t u m (variables_after vs s t e h)))))
+  judge_gives r vs (group (word (Reserved Let) ▸ _)) s g h = refuse_gives r.closed s _ _
+  judge_gives r vs (group (word (Reserved Exclamation) ▸ x ▸ rest)) s g h =
+      next_gives r.closed s _ _ _ Fine (require_gives r.closed s _ _)
+      (λ y t f e k. bind_gives r.closed t _ _ Fine Fine (judge_gives r vs x t f (variables_after vs s t e h))
+      (λ a u d m l. next_gives r.closed u _ _ _ Fine (attributes_give r.closed r u (has_free (variable_names vs) x) a rest l)
+      (λ z v i p q. return_gives r.closed v a Fine (fine_after a u v p l))))
+  judge_gives r vs (group (word (Reserved Exclamation) ▸ end)) s g h = refuse_gives r.closed s _ _
+  judge_gives r vs (group (word (Reserved w) ▸ _)) s g h = refuse_gives r.closed s _ _
+  judge_gives r vs (group (word (Symbol n) ▸ xs)) s g h =
+      scope_then r.closed s _ Fine
+      (next_gives r.closed s _ _ _ Fine (can_be_applied_gives r.closed s n (known vs n s))
+      (λ y t f e k. bind_gives r.closed t _ _ AllFine Fine (all_give r vs xs t f (variables_after vs s t e h))
+      (λ ts u d m l. application_gives u r n (known vs n s) ts (known_after (known vs n s) t u m (known_after (known vs n s) s t e (known_fine r.closed n vs s g h))) l)))
+  judge_gives r vs (group _) s g h = refuse_gives r.closed s _ _
+
+  pub all_give : (r : Rules) (vs : List Variable) (xs : Sexps) (s : Scope) → Good r.closed s → VariablesFine vs s → Gives r.closed s (judge_all r vs xs) AllFine
+  all_give r vs end s g h = return_gives r.closed s [] AllFine tt
+  all_give r vs (x ▸ xs) s g h =
+      bind_gives r.closed s _ _ Fine AllFine (judge_gives r vs x s g h)
+      (λ a t f e k. bind_gives r.closed t _ _ AllFine AllFine (all_give r vs xs t f (variables_after vs s t e h))
+      (λ ts u d m l. return_gives r.closed u (a ∷ ts) AllFine (fine_after a t u m k, l)))
+
+  bindings_give : (r : Rules) (vs : List Variable) (bs : Sexps) (s : Scope) → Good r.closed s → VariablesFine vs s → Gives r.closed s (judge_bindings r vs bs) VariablesFine
+  bindings_give r vs end s g h = return_gives r.closed s [] VariablesFine tt
+  bindings_give r vs (group (word (Symbol n) ▸ x ▸ end) ▸ rest) s g h =
+      bind_gives r.closed s _ _ Fine VariablesFine (judge_gives r vs x s g h)
+      (λ a t f e k. bind_gives r.closed t _ _ VariablesFine VariablesFine (bindings_give r vs rest t f (variables_after vs s t e h))
+      (λ xs u d m l. return_gives r.closed u _ VariablesFine (fine_after a t u m k, l)))
+  bindings_give r vs (_ ▸ rest) s g h = refuse_gives r.closed s _ _

@@ -1,0 +1,177 @@
+-- What may be shown with an answer by unknown, and what may not.
+use Rattle.std.proofs.Common.{◌≡◌, ℕ, Bool, true, false, List, [], ◌∷◌, refl, sym, ap, ◌∙◌, subst, inl, inr, ◌⊎◌, arith, pos, All, map, None, Some}
+use Rattle.std.proofs.lemmas.List.Elements.{All-nil, All-cons, All-head, Contains-push, Contains-append_left, Contains-append_right, Contains-append_cases, Contains-push_cases}
+use Rattle.std.specs.Prelude.{codes, Contains, length}
+use Rattle.smt_meaning.specs.declared.values.Sort.TheVariants.{Bool as Truths}
+use Rattle.smt_meaning.specs.declared.options.UnknownReason.TheVariants.{Memout, Incomplete}
+use Rattle.smt_meaning.specs.declared.terms.Head.TheVariants.{Symbol as Function}
+use Rattle.smt_meaning.specs.declared.tokens.Token.TheVariants.{Symbol}
+use Rattle.smt_meaning.specs.declared.clauses.Atom.{Atom}
+use Rattle.smt_meaning.specs.declared.clauses.Atom.TheVariants.{Truth, Same}
+use Rattle.smt_meaning.specs.declared.commands.Command.TheVariants.{CheckSat}
+use Rattle.smt_meaning.specs.declared.answers.Mode.TheVariants as In
+use Rattle.smt_meaning.specs.declared.answers.Reply.TheVariants.{Unknown}
+use Rattle.smt_meaning.specs.declared.reports.Unit.{Unit as Spent}
+use Rattle.smt_meaning.specs.declared.reports.Unit.TheVariants.{Numbered}
+use Rattle.smt_meaning.specs.declared.reports.Cause.TheVariants.{Units, Memory}
+use Rattle.smt_meaning.specs.declared.reports.Report.{Report}
+use Rattle.smt_meaning.specs.declared.replies.Kept.{Kept}
+use Rattle.smt_meaning.specs.declared.replies.Kept.TheVariants.{Reports}
+use Rattle.smt_meaning.specs.Declaration.{Declaration}
+use Rattle.smt_meaning.specs.Term.{Tree, node, none}
+use Rattle.smt_meaning.specs.Atoms.{stack_atoms}
+use Rattle.smt_meaning.specs.Report.{AreUnits, Shows, no_units, one_more_unit}
+use Rattle.smt_meaning.specs.State.{State, effect, start}
+use Rattle.smt_meaning.specs.MayReply.{Decided, MayReply}
+use Rattle.smt_laws.proofs.Told.{false_true}
+use Rattle.smt_laws.proofs.Script.{settings}
+
+abbrev every : Decided
+every frames = true
+
+-- ---- two constants that are asserted, under a limit of one unit
+
+abbrev truth_constant : ℕ → List ℕ → Declaration
+truth_constant id n = record { id = id; name = n; rank = record { arguments = []; result = Truths }; body = None; is_sort = false }
+
+abbrev p_tree : Tree
+p_tree = node (Function 0) none
+
+abbrev q_tree : Tree
+q_tree = node (Function 1) none
+
+abbrev both_asserted : State
+both_asserted =
+    record (start settings) {
+      logic = Some (codes "QF_UFLIA");
+      mode = In.Assert;
+      options = record (start settings).options { reproducible_resource_limit = pos 1 };
+      stack = record {
+        frames = record {
+          declared = truth_constant 0 (codes "p") ∷ truth_constant 1 (codes "q") ∷ [];
+          asserted = record { text = Symbol (codes "p") ∷ []; term = p_tree } ∷ record { text = Symbol (codes "q") ∷ []; term = q_tree } ∷ [];
+        } ∷ [];
+        given = 2;
+        trees = p_tree ∷ q_tree ∷ [];
+      };
+    }
+
+abbrev ShownHere : Report → Type 0
+ShownHere r = Shows both_asserted.stack.trees both_asserted.stack.frames (pos 1) r.worker r.branches r.cause
+
+-- ---- memory
+
+abbrev without_memory : ℕ → Report
+without_memory w = record { worker = w; cause = Memory; branches = [] }
+
+-- the end of memory is free
+memory_may_end : MayReply every both_asserted CheckSat Unknown (Reports (without_memory 0 ∷ [])) (record both_asserted { mode = In.Unknown Memout })
+unfolding MayReply effect
+memory_may_end = (
+  without_memory 0 ∷ [],
+  refl,
+  record { one_each = refl; shown = All-cons ShownHere (without_memory 0) [] tt (All-nil _) },
+  refl,
+)
+
+abbrev kept_reports : Kept → List Report
+kept_reports (Reports rs) = rs
+kept_reports _ = []
+
+abbrev first_worker : List Report → ℕ
+first_worker [] = 0
+first_worker (r ∷ rs) = r.worker
+
+abbrev first_or_0 : List ℕ → ℕ
+first_or_0 [] = 0
+first_or_0 (n ∷ ns) = n
+
+-- the worker 1 alone shows nothing, nor do no workers
+others_show_nothing : (new : State) → MayReply every both_asserted CheckSat Unknown (Reports (without_memory 1 ∷ [])) new → ⊥
+unfolding MayReply effect
+others_show_nothing new h =
+    let same : without_memory 1 ∷ [] ≡ h.0 = ap kept_reports h.1 in
+    let numbers : map (λ (r : Report). r.worker) (without_memory 1 ∷ []) ≡ 0 ∷ [] = ap (map (λ (r : Report). r.worker)) same ∙ h.2.one_each in
+    absurd (omega (arith, ap first_or_0 numbers))
+
+none_show_nothing : (new : State) → MayReply every both_asserted CheckSat Unknown (Reports []) new → ⊥
+unfolding MayReply effect
+none_show_nothing new h =
+    let numbers : [] ≡ 0 ∷ [] = ap (map (λ (r : Report). r.worker)) (ap kept_reports h.1) ∙ h.2.one_each in
+    absurd (omega (arith, ap (length {A = ℕ}) numbers))
+
+-- ---- units
+
+abbrev p_is_q : Atom
+p_is_q = Same 0 1
+
+abbrev without_units : List Spent → Report
+without_units us = record { worker = 0; cause = Units us; branches = [] }
+
+atoms_are : stack_atoms both_asserted.stack.trees both_asserted.stack.frames ≡ Truth 0 ∷ Truth 1 ∷ []
+unfolding stack_atoms
+atoms_are = refl
+
+abbrev is_same : Atom → Bool
+is_same (Same s t) = true
+is_same _ = false
+
+pub in_head : {X : Type 0} (x : X) (xs : List X) → Contains (x ∷ xs) x
+in_head x xs = Contains-append_left (x ∷ []) xs x (Contains-push [] x)
+
+pub none_in : {X : Type 0} (x : X) → Contains [] x → ⊥
+none_in x (k, lt, is) = absurd (omega (arith, lt))
+
+pub in_cases : {X : Type 0} (x y : X) (xs : List X) → Contains (x ∷ xs) y → (x ≡ y) ⊎ Contains xs y
+in_cases x y xs c = elim (Contains-append_cases (x ∷ []) xs y c) [
+  | inl here ↦ elim (Contains-push_cases [] x y here) [ inl gone ↦ absurd (none_in y gone) | inr e ↦ inl e ]
+  | inr later ↦ inr later
+]
+
+-- the atoms of the stack are truths alone
+no_equality : Contains (Truth 0 ∷ Truth 1 ∷ []) p_is_q → ⊥
+no_equality c = elim (in_cases (Truth 0) p_is_q (Truth 1 ∷ []) c) [
+  | inl e ↦ false_true (ap is_same e)
+  | inr d ↦ elim (in_cases (Truth 1) p_is_q [] d) [ inl e ↦ false_true (ap is_same e) | inr f ↦ none_in p_is_q f ]
+]
+
+-- that p is q is an atom of the check, which wasn't numbered at its start
+one_unit : AreUnits both_asserted.stack.trees both_asserted.stack.frames [] (pos 1) 0 (Numbered p_is_q ∷ [])
+one_unit =
+    one_more_unit both_asserted.stack.trees both_asserted.stack.frames [] (pos 1) 0 [] (Numbered p_is_q) (no_units both_asserted.stack.trees both_asserted.stack.frames [] (pos 1) 0)
+    (
+    record {
+      of_check = inr (inl (
+          record {
+            left = p_tree;
+            right = q_tree;
+            left_part = record { assertion = p_tree; asserted = in_head p_tree (q_tree ∷ []); part = inl refl };
+            right_part = record { assertion = q_tree; asserted = Contains-append_right (p_tree ∷ []) (q_tree ∷ []) q_tree (in_head q_tree []); part = inl refl };
+            one_sort = refl;
+            among = in_head p_is_q [];
+          }
+          ));
+      not_of_stack = λ c. no_equality (subst (λ xs. Contains xs p_is_q) atoms_are c);
+      new = λ c. none_in (Numbered p_is_q) c;
+    }
+    )
+
+units_may_end : MayReply every both_asserted CheckSat Unknown (Reports (without_units (Numbered p_is_q ∷ []) ∷ [])) (record both_asserted { mode = In.Unknown Incomplete })
+unfolding MayReply effect
+units_may_end = (
+  without_units (Numbered p_is_q ∷ []) ∷ [],
+  refl,
+  record {
+    one_each = refl;
+    shown =
+        All-cons ShownHere (without_units (Numbered p_is_q ∷ [])) [] (refl, tt, one_unit) (All-nil _);
+  },
+  refl,
+)
+
+-- fewer units than the limit show nothing
+fewer_show_nothing : (new : State) → MayReply every both_asserted CheckSat Unknown (Reports (without_units [] ∷ [])) new → ⊥
+unfolding MayReply effect
+fewer_show_nothing new h =
+    let shown : All ShownHere (without_units [] ∷ []) = subst (All ShownHere) (sym (ap kept_reports h.1)) h.2.shown in
+    absurd (omega (arith, (All-head ShownHere (without_units []) [] shown).0))

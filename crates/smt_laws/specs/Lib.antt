@@ -1,0 +1,13 @@
+pub mod TermLaws
+pub mod SortLaws
+pub mod ClauseLaws
+pub mod LanguageLaws
+pub mod Flat
+pub mod Numerals
+pub mod LinearLaws
+pub mod Walk
+pub mod TermWalkLaws
+pub mod Uses
+pub mod Again
+pub mod Form
+pub mod Todo

@@ -1,5 +1,0 @@
-use Rattle.sort_laws.proofs.BelowLaw.{sorts_below}
-use Rattle.sort_laws.proofs.sorts_are_the_same_below.Goals as goal
-
-pub returns : goal.returns
-returns c = sorts_below

@@ -1,5 +1,0 @@
-use Rattle.term_laws.proofs.SexpLaw.{sexp-tokens, is_sexp-tokens}
-use Rattle.term_laws.proofs.tokens_read_back.Goals as goal
-
-pub returns : goal.returns
-returns c = λ s h. (is_sexp-tokens s h, sexp-tokens s h)
