@@ -3,7 +3,7 @@ use Rattle.std.proofs.Common.{◌≡◌, ℕ, Bool, true, false, List, [], ◌�
 use Rattle.std.specs.Prelude.{if◌then◌else◌, bytes_eq, reverse}
 use Rattle.std.specs.Option.{option_map}
 use Rattle.std.proofs.lemmas.List.{map-append, take-map}
-use Rattle.name_index.specs.Newest.{first_named, newest_named, IsNewest, name_hash}
+use Rattle.term_store.specs.Newest.{first_named, newest_named, IsNewest, name_hash}
 use Rattle.elaborate.specs.declared.frame.Binding.{Binding}
 use Rattle.elaborate.specs.Frames.{find_value}
 use Rattle.elaborate.specs.Filed.{bound_hashes}

@@ -1,6 +1,6 @@
 -- How bindings are filed.
 use Rattle.std.specs.Prelude.{ℕ, List}
-use Rattle.name_index.specs.Newest.{hashes_of}
+use Rattle.term_store.specs.Newest.{hashes_of}
 use Rattle.elaborate.specs.declared.frame.Binding.{Binding}
 
 abbrev pub bound_hashes : List Binding → List ℕ

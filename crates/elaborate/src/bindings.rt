@@ -5,10 +5,9 @@ ghost use Rattle.elaborate.specs.Filed.{bound_hashes};
 
 use crate::frame::Binding;
 use crate::value::Value;
-use name_index::{Named, find, hash};
 use std::alloc::{AllocError, Global};
 use std::marker::Model;
-use term_store::HashIndex;
+use term_store::{HashIndex, Named, find, hash};
 
 impl Named for Binding {
     ghost name = { λ b. b.name };

@@ -38,12 +38,11 @@ use apply::Rules;
 use bodies::typed_body;
 pub use error::JudgeError;
 use look_ahead::ends;
-use name_index::Named;
 use naming::judge_named;
 use smt_meaning::{Body, Bytes, SExpr, Sort, TermId};
 use smt_sorts::{Kept, Table, Workshop};
 use std::alloc::Global;
-use term_store::TermStore;
+use term_store::{Named, TermStore};
 use value::Value;
 
 /// A term that was judged: its place in the list of terms, and its sort.

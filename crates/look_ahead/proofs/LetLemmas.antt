@@ -3,7 +3,7 @@ use Rattle.std.proofs.Common.{◌≡◌, ℕ, zero, suc, ◌+◌, ◌<◌, List,
 use Rattle.std.specs.Option.{MatchOption}
 use Rattle.std.specs.Prelude.{OnOk, IfOk, IfErr, Result, Ok, Err}
 use Rattle.std.specs.Prelude.{if◌then◌else◌, bytes_eq, reverse, is_some}
-use Rattle.name_index.specs.Newest.{first_named, newest_named, IsNewest, name_hash, hashes_of}
+use Rattle.term_store.specs.Newest.{first_named, newest_named, IsNewest, name_hash, hashes_of}
 use Rattle.std.specs.Borrow.{Bor}
 use Rattle.std.proofs.Math.Seq.{drop-cons}
 use Rattle.std.proofs.lemmas.List.{take_more, map_more, reverse-append}

@@ -8,10 +8,9 @@ ghost use Rattle.look_ahead.specs.Lets.{IsLetAt, name_bound, BindingAt, names_of
 
 use crate::LookError;
 use crate::parts::{Part, part_at, skip};
-use name_index::{find, hash};
 use smt_meaning::{Refusal, SExpr, Seq, TokenView};
 use std::alloc::{AllocError, Global};
-use term_store::HashIndex;
+use term_store::{HashIndex, find, hash};
 
 /// Where the parts of a `let` begin.
 #[derive(Clone, Copy, Drop)]

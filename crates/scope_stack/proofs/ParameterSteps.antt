@@ -2,7 +2,7 @@
 use Rattle.std.proofs.Common.{◌≡◌, ◌∙◌, sym, refl, ap, ap₂, ℕ, ◌+◌, Bool, true, false, not, List, [], ◌∷◌, ◌++◌, map, length, arith, append_assoc, Some, None, ◌<◌, bytes_eq, if◌then◌else◌}
 use Rattle.std.specs.Prelude.{reverse, is_some}
 use Rattle.std.proofs.lemmas.List.{append-nil, length_push, map-append, reverse-append}
-use Rattle.name_index.specs.Newest.{first_named, newest_named, IsNewest}
+use Rattle.term_store.specs.Newest.{first_named, newest_named, IsNewest}
 use Rattle.elaborate.specs.declared.Parameter.{Parameter}
 use Rattle.elaborate.specs.Judged.{parameters_from, variables_of}
 use Rattle.smt_meaning.specs.declared.values.Sort.{Sort}

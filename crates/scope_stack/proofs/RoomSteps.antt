@@ -13,7 +13,7 @@ use Rattle.smt_meaning.specs.StackCommand.{in_assert, assert_term, ask_terms, ju
 use Rattle.smt_meaning.specs.Term.{Tree}
 use Rattle.smt_sorts.specs.Names.{Names, signature}
 use Rattle.term_store.specs.Terms.{Terms}
-use Rattle.term_room.specs.Alike.{Alike, JoinsAlike, TermsJoinAlike, QuestionsJoinAlike}
+use Rattle.term_store.specs.Alike.{Alike, JoinsAlike, TermsJoinAlike, QuestionsJoinAlike}
 use Rattle.scope_stack.specs.declared.answers.StackError.{StackError}
 use Rattle.scope_stack.specs.declared.answers.StackError.TheVariants.{Refused, Memory}
 use Rattle.scope_stack.specs.Judged.{scope_by, IsCause, IsSameError, IsRoomError}

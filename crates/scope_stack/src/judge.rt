@@ -7,17 +7,16 @@ ghost use Rattle.smt_sorts.specs.Names.{signature};
 ghost use Rattle.smt_sorts.specs.Workshop.{IsOfAny};
 ghost use Rattle.elaborate.specs.Own.{IsLeft};
 ghost use Rattle.scope_stack.specs.Judged.{Gives, Causes, IsBody, IsError, IsParameter, body_of_sort, name_refusal, names_before, one_parameter, parameter_name, sort_of};
-ghost use Rattle.name_index.specs.Newest.{hashes_of};
+ghost use Rattle.term_store.specs.Newest.{hashes_of};
 
 use crate::answers::StackError;
 use crate::term::judge_error;
 use elaborate::{Parameter as Judged, TypedBody};
-use name_index::{find, hash};
 use smt_meaning::language::{Parameter, WrittenSort};
 use smt_meaning::{Refusal, SExpr, Seq, Sort, Token};
 use smt_sorts::{Kept, NameError, Table};
 use std::alloc::{AllocError, Global};
-use term_store::HashIndex;
+use term_store::{HashIndex, find, hash};
 
 fn name_error(alloc: Global, error: NameError, name: &[u8]) -> StackError
     ensures { IsError (name_refusal error name.now) result }

@@ -12,8 +12,7 @@ use elaborate::JudgeError;
 use smt_meaning::{Refusal, SExpr};
 use smt_sorts::Table;
 use std::alloc::Global;
-use term_room::{lacks_room, questions_join_alike, terms_join_alike};
-use term_store::TermStore;
+use term_store::{TermStore, lacks_room, questions_join_alike, terms_join_alike};
 
 /// How many terms there may be where terms are judged apart.
 const MOST_APART: u32 = 4294967295;

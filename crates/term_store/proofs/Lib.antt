@@ -4,3 +4,7 @@ pub mod NodeLemmas
 pub mod StoreLemmas
 pub mod PlaceLemmas
 pub mod PartLemmas
+mod SeekLemmas
+mod Joining
+mod Uniform
+mod RoomLemmas

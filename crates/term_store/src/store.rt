@@ -3,8 +3,8 @@ ghost use Rattle.std.specs.Prelude.{◌≡◌, ◌<◌, ◌≤◌, ◌↔◌, []
 ghost use Rattle.term_store.specs.Hash.{node_hash};
 ghost use Rattle.term_store.specs.Nodes.{plain, nodes_of, plain_hash, AreLaid, HasNode, HasNoNode};
 
-use crate::hash;
 use crate::index::HashIndex;
+use crate::term_store_hash;
 use smt_meaning::{Head, TermId};
 use std::alloc::{AllocError, Global};
 use std::marker::Model;
@@ -228,7 +228,7 @@ impl TermStore {
         ensures err { OnErr result (self.new ≡ self.old) }
     {
         let id = self.len();
-        let hash = hash::of_node(head, arguments);
+        let hash = term_store_hash::of_node(head, arguments);
         if let Some(old) = self.place(hash, head, arguments) {
             return Ok(old);
         }

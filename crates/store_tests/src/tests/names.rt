@@ -1,9 +1,8 @@
 ghost use Rattle.std.specs.Prelude.{◌<◌, ◌^◌, length};
 
-use name_index::{Named, find, hash};
 use std::alloc::Global;
 use std::test::Fail;
-use term_store::HashIndex;
+use term_store::{HashIndex, Named, find, hash};
 
 /// Where the last item of a name stands.
 fn place_of<T: Named>(alloc: Global, items: &[T], name: &[u8]) -> Result<Option<usize>, Fail>

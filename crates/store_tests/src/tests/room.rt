@@ -2,8 +2,7 @@ use smt_meaning::{Head, Operator, TermId};
 use std::alloc::Global;
 use std::process::Abort;
 use std::test::Fail;
-use term_room::lacks_room;
-use term_store::{InternError, TermStore};
+use term_store::{InternError, TermStore, lacks_room};
 
 /// The place of a term whose arguments are known.
 fn intern(

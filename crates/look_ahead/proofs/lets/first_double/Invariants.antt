@@ -1,7 +1,7 @@
 use Rattle.std.proofs.Common.{◌≡◌, drop, take, []}
 use Rattle.std.specs.Borrow.{Bor}
 use Rattle.std.specs.Prelude.{List, ℕ}
-use Rattle.name_index.specs.Newest.{hashes_of}
+use Rattle.term_store.specs.Newest.{hashes_of}
 use Rattle.look_ahead.specs.Lets.{names_of, doubled}
 use Rattle.look_ahead.proofs.lets.first_double.Given as goal
 

@@ -1,6 +1,6 @@
 use Rattle.std.proofs.Common.{◌∙◌, sym, ap, subst}
 use Rattle.std.proofs.lemmas.Result.{err_from_is_err_and}
-use Rattle.name_index.specs.Newest.{hashes_of}
+use Rattle.term_store.specs.Newest.{hashes_of}
 use Rattle.scope_stack.specs.Judged.{Causes, Continues, IsParameter, one_parameter, parameter_name}
 use Rattle.scope_stack.proofs.SortSteps.{nothing_left}
 use Rattle.scope_stack.proofs.ParameterSteps.{continues_first, continues_next, continues_last, continues_cause}

@@ -1,5 +1,5 @@
 use Rattle.std.proofs.Common.{◌≡◌, length}
-use Rattle.name_index.specs.Newest.{hashes_of}
+use Rattle.term_store.specs.Newest.{hashes_of}
 use Rattle.scope_stack.specs.Judged.{Continues, parameter_name}
 use Rattle.scope_stack.proofs.judge.judge_parameters.Given as goal
 

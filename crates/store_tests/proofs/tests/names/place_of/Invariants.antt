@@ -1,5 +1,5 @@
 use Rattle.std.proofs.Common.{◌≡◌, take}
-use Rattle.name_index.specs.Newest.{hashes_of}
+use Rattle.term_store.specs.Newest.{hashes_of}
 use Rattle.store_tests.proofs.tests.names.place_of.Given as goal
 
 abbrev pub invariant-loop-item : goal.invariant-loop-item
