@@ -6,11 +6,11 @@ use Rattle.smt_meaning.specs.Forced.{Sign}
 use Rattle.smt_meaning.specs.declared.terms.Operator.{Operator}
 use Rattle.smt_meaning.specs.declared.terms.Head.{Head}
 use Rattle.smt_meaning.specs.declared.terms.Head.TheVariants.{Theory}
-use Rattle.node_clauses.specs.Signs.{negated}
-use Rattle.node_clauses.specs.NodeClauses.{node_clauses}
-use Rattle.node_clauses.specs.WideClauses.{wide_clauses}
-use Rattle.forced_clauses.proofs.Forcing.{forces}
-use Rattle.forced_clauses.proofs.More.{forces_more}
+use Rattle.clause_form.specs.Signs.{negated}
+use Rattle.clause_form.specs.NodeClauses.{node_clauses}
+use Rattle.clause_form.specs.WideClauses.{wide_clauses}
+use Rattle.clause_form.proofs.Forcing.{forces}
+use Rattle.clause_form.proofs.More.{forces_more}
 use Rattle.assertion_form.specs.Given.{has_clauses, clauses_of}
 use Rattle.assertion_form.specs.Form.{PartsForce}
 

@@ -8,12 +8,12 @@ use Rattle.smt_meaning.specs.declared.terms.Operator.{Operator}
 use Rattle.smt_meaning.specs.declared.terms.Operator.TheVariants.{True, False, Not, And, Or, Xor, Implies, Equal, Distinct, Ite}
 use Rattle.smt_meaning.specs.Term.{bool_eq}
 use Rattle.smt_meaning.specs.Forced.{Sign}
-use Rattle.node_clauses.specs.Signs.{sign, yes, no, negated, sign_eq, is_sign_in, once, clashes}
-use Rattle.node_clauses.specs.NodeClauses.{conjunction, never, all_of, parity, one_of_two, choices, chosen, premises, premises_from, node_clauses}
-use Rattle.node_clauses.specs.WideClauses.{round, alike, parity_of_three, odd_of_three, wide_clauses}
+use Rattle.clause_form.specs.Signs.{sign, yes, no, negated, sign_eq, is_sign_in, once, clashes}
+use Rattle.clause_form.specs.NodeClauses.{conjunction, never, all_of, parity, one_of_two, choices, chosen, premises, premises_from, node_clauses}
+use Rattle.clause_form.specs.WideClauses.{round, alike, parity_of_three, odd_of_three, wide_clauses}
 use Rattle.assertion_form.specs.Renamed.{renamed, Apart}
-use Rattle.node_clauses.proofs.Signs.{true_or_false}
-use Rattle.node_clauses.proofs.Over.{On, on_nil, on_head, on_tail, on_signs, on_premises}
+use Rattle.clause_form.proofs.Signs.{true_or_false}
+use Rattle.clause_form.proofs.Over.{On, on_nil, on_head, on_tail, on_signs, on_premises}
 
 abbrev Below : ℕ → List Sign → Type 0
 Below n ss = On (λ i. i < n) ss

@@ -13,14 +13,14 @@ use Rattle.smt_meaning.specs.Term.{Tree, node, tree_at, Interpretation, truth_of
 use Rattle.smt_meaning.specs.Nodes.{pick}
 use Rattle.smt_meaning.specs.Clause.{value_at, symbols, symbols_of, head_symbols}
 use Rattle.smt_meaning.specs.Forced.{some_sign_true, RespectsNode}
-use Rattle.node_clauses.specs.NodeClauses.{node_clauses}
-use Rattle.node_clauses.specs.WideClauses.{wide_clauses}
-use Rattle.node_clauses.specs.Laws.{HasNoPlaceTwice}
-use Rattle.node_clauses.proofs.TrueClauses.{met}
-use Rattle.node_clauses.proofs.WideTrue.{wide_met}
-use Rattle.node_clauses.proofs.Over.{over}
-use Rattle.node_clauses.proofs.WideOver.{wide_over}
-use Rattle.node_clauses.proofs.ApartClauses.{node_apart, wide_apart}
+use Rattle.clause_form.specs.NodeClauses.{node_clauses}
+use Rattle.clause_form.specs.WideClauses.{wide_clauses}
+use Rattle.clause_form.specs.NodeClausesLaws.{HasNoPlaceTwice}
+use Rattle.clause_form.proofs.TrueClauses.{met}
+use Rattle.clause_form.proofs.WideTrue.{wide_met}
+use Rattle.clause_form.proofs.Over.{over}
+use Rattle.clause_form.proofs.WideOver.{wide_over}
+use Rattle.clause_form.proofs.ApartClauses.{node_apart, wide_apart}
 use Rattle.assertion_form.specs.Given.{is_bool_at, all_bools, has_clauses, clauses_of, truths, Suits, IsPart, AreSound}
 
 and_left : (a b : Bool) → (a && b) ≡ true → a ≡ true

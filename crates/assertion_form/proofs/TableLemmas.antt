@@ -5,11 +5,11 @@ use Rattle.std.proofs.lemmas.List.Elements.{All-nil, All-cons, All-head, All-tai
 use Rattle.literals.specs.Signed.{Signed}
 use Rattle.smt_meaning.specs.declared.terms.Operator.{Operator}
 use Rattle.smt_meaning.specs.Forced.{Sign}
-use Rattle.node_clauses.specs.Signs.{yes}
-use Rattle.node_clauses.specs.NodeClauses.{node_clauses}
-use Rattle.node_clauses.specs.WideClauses.{wide_clauses}
-use Rattle.node_clauses.proofs.Over.{On, OnAll, on_head, on_tail, over}
-use Rattle.node_clauses.proofs.WideOver.{wide_over}
+use Rattle.clause_form.specs.Signs.{yes}
+use Rattle.clause_form.specs.NodeClauses.{node_clauses}
+use Rattle.clause_form.specs.WideClauses.{wide_clauses}
+use Rattle.clause_form.proofs.Over.{On, OnAll, on_head, on_tail, over}
+use Rattle.clause_form.proofs.WideOver.{wide_over}
 use Rattle.clause_form.specs.Node.{signed, literals_of_node}
 use Rattle.atom_form.specs.Numbers.{Numbered, AreApart}
 use Rattle.assertion_form.specs.Reading.{placed, read, AreNumbered, IsGrown, Numbers}

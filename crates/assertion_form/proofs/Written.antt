@@ -7,9 +7,9 @@ use Rattle.smt_meaning.specs.declared.clauses.Clause.{Clause}
 use Rattle.smt_meaning.specs.Term.{Tree, tree_at, Interpretation, bool_eq}
 use Rattle.smt_meaning.specs.Clause.{signed, some_true, places, symbols, symbols_at}
 use Rattle.smt_meaning.specs.Forced.{literals_of, some_sign_true}
-use Rattle.node_clauses.specs.Signs.{yes, sign_true}
-use Rattle.node_clauses.specs.Laws.{HasNoPlaceTwice}
-use Rattle.node_clauses.proofs.TrueClauses.{some_cons}
+use Rattle.clause_form.specs.Signs.{yes, sign_true}
+use Rattle.clause_form.specs.NodeClausesLaws.{HasNoPlaceTwice}
+use Rattle.clause_form.proofs.TrueClauses.{some_cons}
 use Rattle.assertion_form.specs.Given.{truths, IsPart, AreSound, Formed, is_marked}
 use Rattle.assertion_form.specs.Form.{written, FollowsFromTerm, IsFormOf}
 use Rattle.assertion_form.proofs.Forming.{given_more}

@@ -13,8 +13,8 @@ use Rattle.smt_meaning.specs.declared.values.Sort.TheVariants.{Bool as Truths}
 use Rattle.smt_meaning.specs.Signature.{tree_sort}
 use Rattle.smt_meaning.specs.Stack.{Frame, assertions_of, signature_of, up_to}
 use Rattle.smt_meaning.specs.Follows.{Follows, declared_ids}
-use Rattle.node_clauses.specs.Signs.{yes, negated}
-use Rattle.node_clauses.specs.Laws.{fits_node}
+use Rattle.clause_form.specs.Signs.{yes, negated}
+use Rattle.clause_form.specs.NodeClausesLaws.{fits_node}
 use Rattle.assertion_form.specs.Given.{Suits, IsGiven, is_marked, is_bool_at, has_clauses}
 
 -- a clause over the truth of places, with its atoms written out

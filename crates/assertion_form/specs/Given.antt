@@ -10,9 +10,9 @@ use Rattle.smt_meaning.specs.Term.{Tree, node, tree_at, Interpretation, truth_of
 use Rattle.smt_meaning.specs.Nodes.{pick}
 use Rattle.smt_meaning.specs.Clause.{value_at, symbols}
 use Rattle.smt_meaning.specs.Forced.{some_sign_true}
-use Rattle.node_clauses.specs.NodeClauses.{node_clauses}
-use Rattle.node_clauses.specs.WideClauses.{wide_clauses}
-use Rattle.node_clauses.specs.Laws.{HasNoPlaceTwice}
+use Rattle.clause_form.specs.NodeClauses.{node_clauses}
+use Rattle.clause_form.specs.WideClauses.{wide_clauses}
+use Rattle.clause_form.specs.NodeClausesLaws.{HasNoPlaceTwice}
 
 -- whether the term at this place is of the sort Bool
 abbrev pub is_bool_at : List Bool → ℕ → Bool

@@ -2,9 +2,9 @@
 use Rattle.std.specs.Prelude.{◌≡◌, ℕ, ◌<◌, List, ◌++◌, map, All}
 use Rattle.smt_meaning.specs.declared.terms.Operator.{Operator}
 use Rattle.smt_meaning.specs.Forced.{Sign}
-use Rattle.node_clauses.specs.Signs.{sign}
-use Rattle.node_clauses.specs.NodeClauses.{node_clauses}
-use Rattle.node_clauses.specs.WideClauses.{wide_clauses}
+use Rattle.clause_form.specs.Signs.{sign}
+use Rattle.clause_form.specs.NodeClauses.{node_clauses}
+use Rattle.clause_form.specs.WideClauses.{wide_clauses}
 
 abbrev pub renamed : (ℕ → ℕ) → Sign → Sign
 renamed f s = sign (f s.place) s.positive

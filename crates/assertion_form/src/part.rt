@@ -1,8 +1,8 @@
 //! The clauses of one part, by the places of its node and of its arguments.
 ghost use Rattle.std.specs.Prelude.{◌≡◌, ◌<◌, [], ◌∷◌, ◌++◌, length, All, OnOk};
-ghost use Rattle.node_clauses.specs.Signs.{yes};
-ghost use Rattle.node_clauses.specs.NodeClauses.{node_clauses};
-ghost use Rattle.node_clauses.specs.WideClauses.{wide_clauses};
+ghost use Rattle.clause_form.specs.Signs.{yes};
+ghost use Rattle.clause_form.specs.NodeClauses.{node_clauses};
+ghost use Rattle.clause_form.specs.WideClauses.{wide_clauses};
 ghost use Rattle.assertion_form.specs.Given.{all_bools, has_clauses, clauses_of};
 ghost use Rattle.assertion_form.specs.Reading.{read, AreNumbered, IsGrown};
 

@@ -22,9 +22,9 @@ use Rattle.term_store.specs.Terms.{tree_with}
 use Rattle.scope_stack.specs.Facts.{AreSorts}
 use Rattle.scope_stack.specs.Shown.{IsLawful}
 use Rattle.search_port.specs.State.{truth_atoms}
-use Rattle.node_clauses.specs.NodeClauses.{node_clauses}
-use Rattle.node_clauses.specs.Laws.{NodeClausesForce}
-use Rattle.forced_clauses.proofs.More.{forces_more}
+use Rattle.clause_form.specs.NodeClauses.{node_clauses}
+use Rattle.clause_form.specs.NodeClausesLaws.{NodeClausesForce}
+use Rattle.clause_form.proofs.More.{forces_more}
 use Rattle.assertion_form.specs.Renamed.{NodeClausesRenamed}
 use Rattle.clause_form.specs.Node.{literals_of_node}
 use Rattle.stack_atoms.specs.Parts.{IsMarked}

@@ -2,7 +2,7 @@
 ghost use Rattle.check_clauses.specs.Laws.{FirstClausesSayAssertions, SignatureStays, EmptyClauseMeansNoModel, KeptPartsAreForced, MoreForceParts};
 
 use assertion_form::node_clauses_are_renamed;
-use forced_clauses::node_clauses_force;
+use clause_form::node_clauses_force;
 use smt_laws::flat_says_the_same;
 
 /// What makes the first clauses true makes the assertions true, also where the search has numbered more atoms.

@@ -6,8 +6,8 @@ use Rattle.std.proofs.lemmas.List.Elements.{Contains-append_left, Contains-appen
 use Rattle.std.specs.Prelude.{Result, Ok, Err, OnOk}
 use Rattle.literals.specs.Signed.{Signed}
 use Rattle.smt_meaning.specs.Forced.{Sign}
-use Rattle.node_clauses.specs.Signs.{negated, sign_eq, is_sign_in, once, clashes}
-use Rattle.node_clauses.proofs.Signs.{true_or_false, or_left, or_right, sign_eq-true, in_first, in_rest}
+use Rattle.clause_form.specs.Signs.{negated, sign_eq, is_sign_in, once, clashes}
+use Rattle.clause_form.proofs.Signs.{true_or_false, or_left, or_right, sign_eq-true, in_first, in_rest}
 use Rattle.clause_form.specs.Node.{plain}
 use Rattle.clause_form.specs.Plain.{signs, sign_lists, atom_at, IsPlaced}
 use Rattle.clause_form.proofs.NodeLaws.{in_cons}

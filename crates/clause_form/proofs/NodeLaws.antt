@@ -5,11 +5,11 @@ use Rattle.literals.specs.Signed.{Signed, opposite, literal_true, some_true}
 use Rattle.smt_meaning.specs.declared.terms.Operator.{Operator}
 use Rattle.smt_meaning.specs.Term.{bool_eq}
 use Rattle.smt_meaning.specs.Forced.{Sign, some_sign_true, IsTrueOfNode}
-use Rattle.node_clauses.specs.NodeClauses.{node_clauses}
-use Rattle.node_clauses.specs.WideClauses.{wide_clauses}
-use Rattle.node_clauses.specs.Laws.{HasNoPlaceTwice, NodeClausesAreTrue, NodeClausesAreOver, NodeClausesAreApart, WideClausesAreTrue, WideClausesAreOver, WideClausesAreApart}
+use Rattle.clause_form.specs.NodeClauses.{node_clauses}
+use Rattle.clause_form.specs.WideClauses.{wide_clauses}
+use Rattle.clause_form.specs.NodeClausesLaws.{HasNoPlaceTwice, NodeClausesAreTrue, NodeClausesAreOver, NodeClausesAreApart, WideClausesAreTrue, WideClausesAreOver, WideClausesAreApart}
 use Rattle.clause_form.specs.Node.{signed, literals_of_node, HasNoAtomTwice, IsOfNode, NodeClausesHold, NodeClausesDecide}
-use Rattle.forced_clauses.specs.Laws.{NodeClausesDecide as Decide}
+use Rattle.clause_form.specs.ForcedClausesLaws.{NodeClausesDecide as Decide}
 
 -- ---- truth
 

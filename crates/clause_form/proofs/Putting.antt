@@ -5,8 +5,8 @@ use Rattle.std.proofs.lemmas.List.{map-append, append_assoc}
 use Rattle.literals.specs.Signed.{Signed, opposite}
 use Rattle.smt_meaning.specs.declared.terms.Operator.{Operator}
 use Rattle.smt_meaning.specs.Forced.{Sign}
-use Rattle.node_clauses.specs.NodeClauses.{node_clauses}
-use Rattle.node_clauses.specs.WideClauses.{excluding, parity_of_three, wide_clauses}
+use Rattle.clause_form.specs.NodeClauses.{node_clauses}
+use Rattle.clause_form.specs.WideClauses.{excluding, parity_of_three, wide_clauses}
 use Rattle.clause_form.specs.Node.{signed, literals_of_node}
 use Rattle.clause_form.specs.Plain.{signs, sign_lists}
 

@@ -1,3 +1,8 @@
 pub mod Parts
 pub mod Node
 pub mod Plain
+pub mod ForcedClausesLaws
+pub mod Signs
+pub mod NodeClauses
+pub mod WideClauses
+pub mod NodeClausesLaws

@@ -5,9 +5,9 @@ use Rattle.smt_meaning.specs.declared.values.Value.TheVariants.{Truth}
 use Rattle.smt_meaning.specs.declared.terms.Operator.{Operator}
 use Rattle.smt_meaning.specs.Term.{operate, truth_of}
 use Rattle.smt_meaning.specs.Forced.{Sign}
-use Rattle.node_clauses.specs.NodeClauses.{node_clauses}
-use Rattle.node_clauses.specs.WideClauses.{wide_clauses}
-use Rattle.forced_clauses.specs.Laws.{fits_clauses}
+use Rattle.clause_form.specs.NodeClauses.{node_clauses}
+use Rattle.clause_form.specs.WideClauses.{wide_clauses}
+use Rattle.clause_form.specs.ForcedClausesLaws.{fits_clauses}
 
 -- a numbered atom with a sign, and a place with a sign whose number is the place
 abbrev pub signed : Sign → Signed

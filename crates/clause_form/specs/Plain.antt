@@ -2,7 +2,7 @@
 use Rattle.std.specs.Prelude.{◌≡◌, ℕ, ◌<◌, true, List, [], ◌∷◌, map, length, slice_index, slice_index_or}
 use Rattle.literals.specs.Signed.{Signed}
 use Rattle.smt_meaning.specs.Forced.{Sign}
-use Rattle.node_clauses.specs.Signs.{negated}
+use Rattle.clause_form.specs.Signs.{negated}
 use Rattle.clause_form.specs.Node.{plain}
 
 abbrev pub signs : List Signed → List Sign

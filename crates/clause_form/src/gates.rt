@@ -1,9 +1,9 @@
 //! The clauses by which a literal says what others make together.
 ghost use Rattle.std.specs.Prelude.{◌≡◌, ◌<◌, ◌^◌, [], ◌∷◌, ◌++◌, map, true, false, OnOk};
 ghost use Rattle.smt_meaning.specs.Term.{xor};
-ghost use Rattle.node_clauses.specs.Signs.{negated, once, clashes};
-ghost use Rattle.node_clauses.specs.NodeClauses.{conjunction, never, all_of, parity, one_of_two, choices, chosen};
-ghost use Rattle.node_clauses.specs.WideClauses.{round, alike, excluding, parity_of_three, odd_of_three};
+ghost use Rattle.clause_form.specs.Signs.{negated, once, clashes};
+ghost use Rattle.clause_form.specs.NodeClauses.{conjunction, never, all_of, parity, one_of_two, choices, chosen};
+ghost use Rattle.clause_form.specs.WideClauses.{round, alike, excluding, parity_of_three, odd_of_three};
 ghost use Rattle.clause_form.specs.Node.{plain};
 ghost use Rattle.clause_form.specs.Plain.{signs, sign_lists, pairs};
 

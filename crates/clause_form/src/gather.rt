@@ -1,7 +1,7 @@
 //! Literals each once, in linear time: a table has where an atom's literal stands. It is never cleared, since an entry counts only where it leads to that atom.
 ghost use Rattle.std.specs.Prelude.{◌≡◌, ◌≢◌, ◌<◌, true, false, [], ◌∷◌, ◌++◌, length, reverse, All, Contains, if◌then◌else◌, OnOk, IfOk, IfSome, IfNone};
 ghost use Rattle.literals.specs.Signed.{Signed};
-ghost use Rattle.node_clauses.specs.Signs.{negated, is_sign_in, once, clashes};
+ghost use Rattle.clause_form.specs.Signs.{negated, is_sign_in, once, clashes};
 ghost use Rattle.clause_form.specs.Node.{plain};
 ghost use Rattle.clause_form.specs.Plain.{signs, IsPlaced};
 

@@ -1,7 +1,7 @@
 //! The literals that a node joins.
 ghost use Rattle.std.specs.Prelude.{◌≡◌, ◌<◌, ◌^◌, ◌++◌, map, All, OnOk};
-ghost use Rattle.node_clauses.specs.Signs.{sign};
-ghost use Rattle.node_clauses.specs.NodeClauses.{premises};
+ghost use Rattle.clause_form.specs.Signs.{sign};
+ghost use Rattle.clause_form.specs.NodeClauses.{premises};
 ghost use Rattle.clause_form.specs.Plain.{signs};
 
 use literals::Literal;

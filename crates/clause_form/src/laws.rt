@@ -1,8 +1,8 @@
 //! What holds of the clauses of a node.
 ghost use Rattle.clause_form.specs.Node.{NodeClausesDecide, NodeClausesHold};
 
-use forced_clauses::node_clauses_decide as decide;
-use node_clauses::{
+use crate::forced_clauses::node_clauses_decide as decide;
+use crate::{
     node_clauses_are_apart, node_clauses_are_over, node_clauses_are_true, wide_clauses_are_apart,
     wide_clauses_are_over, wide_clauses_are_true,
 };

@@ -1,7 +1,7 @@
 //! The clauses of one node.
 ghost use Rattle.std.specs.Prelude.{◌≡◌, ◌<◌, ◌^◌, ◌++◌, All, OnOk};
-ghost use Rattle.node_clauses.specs.NodeClauses.{node_clauses};
-ghost use Rattle.node_clauses.specs.WideClauses.{wide_clauses};
+ghost use Rattle.clause_form.specs.NodeClauses.{node_clauses};
+ghost use Rattle.clause_form.specs.WideClauses.{wide_clauses};
 ghost use Rattle.clause_form.specs.Node.{literals_of_node};
 ghost use Rattle.clause_form.specs.Plain.{sign_lists};
 

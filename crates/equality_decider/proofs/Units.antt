@@ -36,7 +36,7 @@ use Rattle.search_port.specs.declared.budget.Lemma.{Lemma}
 use Rattle.search_port.specs.declared.budget.Spent.{Spent}
 use Rattle.search_port.specs.declared.budget.Spent.TheVariants.{Learnt, Numbered, Pivot}
 use Rattle.search_port.proofs.Forcing.{ComesBy, from_map, in_map}
-use Rattle.forced_clauses.proofs.More.{forces_more}
+use Rattle.clause_form.proofs.More.{forces_more}
 use Rattle.smt_laws.specs.Flat.{flat, FlatSaysTheSame, SaysTheSame}
 use Rattle.stack_atoms.specs.Atoms.{IsPartAtom}
 use Rattle.stack_atoms.specs.OfStack.{AreOfStack, HasPlace}

@@ -17,8 +17,8 @@ use Rattle.smt_meaning.specs.Report.{IsPartOfStack}
 use Rattle.smt_meaning.specs.Stack.{signature_of, assertions_of}
 use Rattle.smt_meaning.specs.StackCommand.{Stack}
 use Rattle.term_store.specs.Terms.{tree_with}
-use Rattle.node_clauses.specs.NodeClauses.{node_clauses}
-use Rattle.node_clauses.specs.Laws.{NodeClausesForce}
+use Rattle.clause_form.specs.NodeClauses.{node_clauses}
+use Rattle.clause_form.specs.NodeClausesLaws.{NodeClausesForce}
 use Rattle.clause_form.specs.Node.{NodeClausesHold}
 use Rattle.assertion_form.specs.Renamed.{NodeClausesRenamed}
 use Rattle.atom_table.specs.Numbers.{IsAt}

@@ -22,10 +22,10 @@ use Rattle.smt_meaning.specs.declared.values.Value.TheVariants.{Truth as TruthVa
 use Rattle.smt_meaning.specs.Forced.{Sign, RespectsNode, Forces, some_sign_true, IsNodeClause, IsClauseOf, has_node_clauses, are_two_bools, places_in, literals_of}
 use Rattle.term_store.specs.Terms.{AreDifferent, tree_with}
 use Rattle.term_store.proofs.PlaceLemmas.{place_of-is}
-use Rattle.node_clauses.specs.Signs.{negated}
-use Rattle.node_clauses.specs.NodeClauses.{node_clauses}
-use Rattle.node_clauses.specs.WideClauses.{wide_clauses}
-use Rattle.node_clauses.specs.Laws.{fits_node, NodeClausesForce}
+use Rattle.clause_form.specs.Signs.{negated}
+use Rattle.clause_form.specs.NodeClauses.{node_clauses}
+use Rattle.clause_form.specs.WideClauses.{wide_clauses}
+use Rattle.clause_form.specs.NodeClausesLaws.{fits_node, NodeClausesForce}
 use Rattle.clause_form.specs.Node.{signed, literals_of_node}
 use Rattle.assertion_form.specs.Renamed.{renamed, Apart, NodeClausesRenamed}
 use Rattle.search_port.proofs.Forcing.{ComesBy, from_map, in_map, forces_renamed}

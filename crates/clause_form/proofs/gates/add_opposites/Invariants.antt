@@ -1,5 +1,5 @@
 use Rattle.std.proofs.Common.{◌≡◌, ◌++◌, drop, map}
-use Rattle.node_clauses.specs.Signs.{negated}
+use Rattle.clause_form.specs.Signs.{negated}
 use Rattle.clause_form.specs.Plain.{signs}
 use Rattle.clause_form.proofs.gates.add_opposites.Given as goal
 

@@ -1,5 +1,5 @@
 use Rattle.std.proofs.Common.{◌≡◌, ◌++◌, drop}
-use Rattle.node_clauses.specs.WideClauses.{round}
+use Rattle.clause_form.specs.WideClauses.{round}
 use Rattle.clause_form.specs.Node.{plain}
 use Rattle.clause_form.specs.Plain.{signs, sign_lists}
 use Rattle.clause_form.proofs.gates.put_round.Given as goal

@@ -1,5 +1,5 @@
 use Rattle.std.proofs.Common.{◌≡◌, ◌+◌, ◌-◌, false, sym, subst, arith, drop, reverse}
-use Rattle.node_clauses.specs.Signs.{once, clashes}
+use Rattle.clause_form.specs.Signs.{once, clashes}
 use Rattle.clause_form.specs.Plain.{signs}
 use Rattle.clause_form.proofs.Gathering.{gathers, stays_clear, clash_found, turned}
 use Rattle.clause_form.proofs.gather.gather.Goals as goal

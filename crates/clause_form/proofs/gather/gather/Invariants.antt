@@ -1,5 +1,5 @@
 use Rattle.std.proofs.Common.{◌≡◌, ◌≤◌, false, drop, length, reverse}
-use Rattle.node_clauses.specs.Signs.{once, clashes}
+use Rattle.clause_form.specs.Signs.{once, clashes}
 use Rattle.clause_form.specs.Plain.{signs, IsPlaced}
 use Rattle.clause_form.proofs.gather.gather.Given as goal
 

@@ -1,5 +1,5 @@
 use Rattle.std.proofs.Common.{◌≡◌, ◌++◌, drop, map}
-use Rattle.node_clauses.specs.Signs.{sign}
+use Rattle.clause_form.specs.Signs.{sign}
 use Rattle.clause_form.specs.Plain.{signs}
 use Rattle.clause_form.proofs.inputs.add_all.Given as goal
 

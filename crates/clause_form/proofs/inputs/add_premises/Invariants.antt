@@ -1,5 +1,5 @@
 use Rattle.std.proofs.Common.{◌≡◌, ◌++◌, drop}
-use Rattle.node_clauses.specs.NodeClauses.{premises}
+use Rattle.clause_form.specs.NodeClauses.{premises}
 use Rattle.clause_form.specs.Plain.{signs}
 use Rattle.clause_form.proofs.inputs.add_premises.Given as goal
 

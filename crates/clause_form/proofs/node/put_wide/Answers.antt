@@ -1,6 +1,6 @@
 use Rattle.std.proofs.Common.{◌∙◌, ◌++◌, ap, map, true}
-use Rattle.node_clauses.specs.Signs.{sign, clashes}
-use Rattle.node_clauses.proofs.ApartClauses.{no_clash_of_yes}
+use Rattle.clause_form.specs.Signs.{sign, clashes}
+use Rattle.clause_form.proofs.ApartClauses.{no_clash_of_yes}
 use Rattle.clause_form.specs.Plain.{signs}
 use Rattle.clause_form.proofs.node.put_wide.Goals as goal
 

@@ -1,5 +1,0 @@
-use Rattle.node_clauses.proofs.WideOver.{wide_over_contained}
-use Rattle.node_clauses.proofs.wide_clauses_are_over.Goals as goal
-
-pub returns : goal.returns
-returns c = wide_over_contained
