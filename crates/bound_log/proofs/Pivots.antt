@@ -12,7 +12,7 @@ use Rattle.fraction128.specs.declared.Side.{Side}
 use Rattle.fraction128.specs.declared.Side.TheVariants.{Lower, Upper}
 use Rattle.fraction128.specs.Grid.{Step, any_crossed, next_step}
 use Rattle.fraction128.specs.Lines.{IsPivotLine, IsSoundLine}
-use Rattle.grid_laws.specs.Law.{Runs, lines_of}
+use Rattle.simplex_steps.specs.Law.{Runs, lines_of}
 use Rattle.smt_meaning.specs.declared.clauses.Atom.{Atom}
 use Rattle.smt_meaning.specs.CheckAtoms.{IsBoundOf}
 use Rattle.tableau.specs.Table.{Table}

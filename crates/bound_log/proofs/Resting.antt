@@ -11,7 +11,7 @@ use Rattle.fraction128.specs.declared.TableRow.{TableRow}
 use Rattle.fraction128.specs.declared.Side.{Side}
 use Rattle.fraction128.specs.declared.Side.TheVariants.{Lower, Upper}
 use Rattle.fraction128.specs.Grid.{is_basic, is_some, row_of, leaf, sum_row, entries_value}
-use Rattle.grid_laws.specs.Law.{KeepsResting}
+use Rattle.simplex_steps.specs.Law.{KeepsResting}
 use Rattle.literals.specs.Signed.{Signed}
 use Rattle.tableau.specs.Table.{Table}
 use Rattle.simplex_steps.specs.State.{column_in, no_column, values, grid_of}

@@ -15,14 +15,14 @@ use Rattle.fraction128.specs.declared.Side.TheVariants.{Lower, Upper}
 use Rattle.fraction128.specs.Grid.{Step, take, move, pivot, row_of, entries_of, is_basic, row_value, MeetsRow, MeetsRows, column_at, value_at, next_step, after, after_move, after_pivot, moved_value, pivoted_value, pivoted_entry, entries_from, pivoted_rows, with_values}
 use Rattle.fraction128.specs.Lines.{Bounding, IsPositive, IsBoundedBy, IsResting, IsSoundGrid, IsSoundLine, sum_value, basic_member, line_of, pivot_line}
 use Rattle.fraction128.proofs.RowValue as RowValue
-use Rattle.grid_laws.specs.Law.{row_at, no_row, IsLawful, IsNonzeroEntry, IsFreeMember, IsAtBound, KeepsResting, Runs, pivots, lines_of}
-use Rattle.grid_laws.proofs.Spans.{dot_coefficients}
-use Rattle.grid_laws.proofs.Pivots.{Solves, solves_after}
-use Rattle.grid_laws.proofs.NextStep.{col, PivotFacts, step_facts}
-use Rattle.grid_laws.proofs.Moments.{Good, Turning, turning, good_after, length_with, col_with}
-use Rattle.grid_laws.proofs.Keeping.{good_of, steps_keep}
-use Rattle.grid_laws.proofs.Resting.{runs_rest}
-use Rattle.grid_laws.proofs.Lines.{lines_are_rows}
+use Rattle.simplex_steps.specs.Law.{row_at, no_row, IsLawful, IsNonzeroEntry, IsFreeMember, IsAtBound, KeepsResting, Runs, pivots, lines_of}
+use Rattle.simplex_steps.proofs.Spans.{dot_coefficients}
+use Rattle.simplex_steps.proofs.Pivots.{Solves, solves_after}
+use Rattle.simplex_steps.proofs.NextStep.{col, PivotFacts, step_facts}
+use Rattle.simplex_steps.proofs.Moments.{Good, Turning, turning, good_after, length_with, col_with}
+use Rattle.simplex_steps.proofs.Keeping.{good_of, steps_keep}
+use Rattle.simplex_steps.proofs.Resting.{runs_rest}
+use Rattle.simplex_steps.proofs.Lines.{lines_are_rows}
 use Rattle.tableau.specs.Table.{IsNonzero, AreNonzero}
 use Rattle.sum_laws.proofs.SumValues.{sum_positive_value}
 

@@ -3,7 +3,7 @@ ghost use Rattle.std.specs.Prelude.{◌≡◌, ◌+◌, ◌<◌, ◌≤◌, ◌^
 ghost use Rattle.fraction128.specs.Whole.{InRange};
 ghost use Rattle.fraction128.specs.Grid.{turned};
 ghost use Rattle.fraction128.specs.Lines.{IsBranchLine, IsSoundGrid, IsSoundLine, NextFails};
-ghost use Rattle.grid_laws.specs.Law.{KeepsResting};
+ghost use Rattle.simplex_steps.specs.Law.{KeepsResting};
 ghost use Rattle.tableau.specs.Failing.{IsRange};
 ghost use Rattle.simplex_steps.specs.State.{grid_of};
 ghost use Rattle.simplex_steps.specs.Run.{IsRun, KeepsLines};

@@ -10,7 +10,7 @@ ghost use Rattle.tableau.specs.Failing.{IsRange};
 ghost use Rattle.tableau.specs.Table.{IsOpenRow, row_at};
 ghost use Rattle.tableau.specs.Written.{AreParts, parts_row};
 ghost use Rattle.sum_laws.specs.Sums.{AreMatched};
-ghost use Rattle.grid_laws.specs.Law.{KeepsResting};
+ghost use Rattle.simplex_steps.specs.Law.{KeepsResting};
 ghost use Rattle.simplex_steps.specs.State.{column_in, values, grid_of};
 ghost use Rattle.simplex_steps.specs.Conflict.{KnownEntries};
 ghost use Rattle.simplex_steps.specs.Run.{IsRun, KeepsLines};

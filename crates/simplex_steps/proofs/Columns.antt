@@ -11,7 +11,7 @@ use Rattle.fraction128.specs.declared.Entry.{Entry}
 use Rattle.fraction128.specs.declared.TableRow.{TableRow}
 use Rattle.fraction128.specs.declared.Column.{Column}
 use Rattle.fraction128.specs.Grid.{every_row, fused_fits, coefficient, row_of, entries_of, is_some, is_basic, cell, distance, moved_value, pivot_distance, pivoted_value, with_values, after_move, after_pivot}
-use Rattle.grid_laws.proofs.Moments.{length_with, col_with}
+use Rattle.simplex_steps.proofs.Moments.{length_with, col_with}
 use Rattle.tableau.specs.Rows.{IsAscending}
 use Rattle.tableau.specs.Staged.{HasEntry, Lacks}
 use Rattle.tableau.specs.Table.{Table, IsTable, row_at, AreNonzero}

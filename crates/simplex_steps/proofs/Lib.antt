@@ -4,3 +4,13 @@ pub mod Next
 pub mod ConflictLemmas
 pub mod Sound
 pub mod LineLemmas
+pub mod Bland
+pub mod Counting
+pub mod Moments
+pub mod NextStep
+pub mod Pivots
+pub mod Short
+pub mod Spans
+pub mod Keeping
+pub mod Lines
+pub mod Resting

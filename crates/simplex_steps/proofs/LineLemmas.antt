@@ -9,9 +9,9 @@ use Rattle.fraction128.specs.declared.Member.{Member}
 use Rattle.fraction128.specs.declared.Line.{Line}
 use Rattle.fraction128.specs.Grid.{Step, take, move, pivot, next_step, after, entries_of}
 use Rattle.fraction128.specs.Lines.{pivot_line, IsSeries}
-use Rattle.grid_laws.specs.Law.{Runs, pivots, lines_of, IsLawful, KeepsResting}
-use Rattle.grid_laws.proofs.Lines.{lines_are_pivots, lines_go_on}
-use Rattle.grid_laws.proofs.Resting.{runs_rest}
+use Rattle.simplex_steps.specs.Law.{Runs, pivots, lines_of, IsLawful, KeepsResting}
+use Rattle.simplex_steps.proofs.Lines.{lines_are_pivots, lines_go_on}
+use Rattle.simplex_steps.proofs.Resting.{runs_rest}
 use Rattle.tableau.specs.Table.{Table, IsTable, row_at}
 use Rattle.simplex_steps.specs.State.{grid_of, member_in}
 use Rattle.simplex_steps.specs.declared.find.Turn.{Turn}

@@ -9,8 +9,8 @@ use Rattle.fraction128.specs.declared.Entry.{Entry}
 use Rattle.fraction128.specs.declared.Column.{Column}
 use Rattle.fraction128.specs.declared.Grid.{Grid}
 use Rattle.fraction128.specs.Grid.{Step, take, move, pivot, is_basic, missed, next_step, step_fits, pivot_fits, pivoted_rows, after, after_move, after_pivot, MeetsRows, fit, every_row, distance, distance_fits}
-use Rattle.grid_laws.specs.Law.{ArePositive, AreFrom, IsLawful, Runs, pivots}
-use Rattle.grid_laws.proofs.Keeping.{steps_keep, moves_settle, pivots_settle}
+use Rattle.simplex_steps.specs.Law.{ArePositive, AreFrom, IsLawful, Runs, pivots}
+use Rattle.simplex_steps.proofs.Keeping.{steps_keep, moves_settle, pivots_settle}
 use Rattle.tableau.specs.Table.{Table, IsTable, row_at}
 use Rattle.tableau.proofs.Coefficients.{Below}
 use Rattle.tableau.proofs.PivotedRows.{below_all}

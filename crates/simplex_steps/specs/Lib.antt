@@ -2,3 +2,4 @@ pub mod State
 pub mod Moved
 pub mod Conflict
 pub mod Run
+pub mod Law

@@ -7,7 +7,7 @@ use Rattle.fraction128.specs.declared.Grid.{Grid}
 use Rattle.fraction128.specs.Grid.{Step, pivot, next_step, step_fits, WithinBounds, MeetsRows}
 use Rattle.fraction128.specs.declared.Line.{Line}
 use Rattle.fraction128.specs.Lines.{NextFails, IsPivotLine, IsSeries, pivot_line}
-use Rattle.grid_laws.specs.Law.{Runs, pivots, lines_of}
+use Rattle.simplex_steps.specs.Law.{Runs, pivots, lines_of}
 use Rattle.tableau.specs.Table.{Table, row_at}
 use Rattle.tableau.specs.Staged.{HasEntry}
 use Rattle.simplex_steps.specs.declared.find.Turn.{Turn}

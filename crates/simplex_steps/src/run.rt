@@ -1,7 +1,7 @@
 //! The search for values within all bounds.
 ghost use Rattle.std.specs.Prelude.{◌≡◌, ℕ, ◌+◌, ◌<◌, ◌≤◌, true, false, length, OnOk, IfOk, Some, None};
 ghost use Rattle.fraction128.specs.Grid.{is_crossed};
-ghost use Rattle.grid_laws.specs.Law.{KeepsResting};
+ghost use Rattle.simplex_steps.specs.Law.{KeepsResting};
 ghost use Rattle.tableau.specs.Table.{Table};
 ghost use Rattle.simplex_steps.specs.State.{column_in, grid_of, IsSolution, AreRanged, IsSound, IsSettled, KeepsBounds};
 ghost use Rattle.simplex_steps.specs.Run.{Reaches, SameSolutions, Ends, SpendsRoom, Advances, IsFailed, IsUnspent, IsRun, Records, KeepsLines};

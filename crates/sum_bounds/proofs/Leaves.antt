@@ -8,7 +8,7 @@ use Rattle.fraction128.specs.declared.Summand.{Summand}
 use Rattle.fraction128.specs.declared.Column.{Column}
 use Rattle.fraction128.specs.Grid.{same_sum, only_if, column_of, variable_of, leaf}
 use Rattle.fraction128.specs.Lines.{sum_value}
-use Rattle.grid_laws.proofs.NextStep.{first_some, first_none}
+use Rattle.simplex_steps.proofs.NextStep.{first_some, first_none}
 use Rattle.tableau.specs.Table.{Table}
 use Rattle.simplex_steps.specs.State.{column_in, no_column, values, IsSolution}
 use Rattle.sum_laws.specs.Sums.{IsMeant}

@@ -3,7 +3,7 @@ ghost use Rattle.std.specs.Prelude.{◌≡◌, ℕ, ◌+◌, ◌-◌, ◌^◌, �
 ghost use Rattle.fraction128.specs.Whole.{InRange};
 ghost use Rattle.fraction128.specs.Grid.{column_of, is_basic, leaf, turned};
 ghost use Rattle.fraction128.specs.Lines.{line_of};
-ghost use Rattle.grid_laws.specs.Law.{KeepsResting};
+ghost use Rattle.simplex_steps.specs.Law.{KeepsResting};
 ghost use Rattle.tableau.specs.Failing.{IsRange};
 ghost use Rattle.simplex_steps.specs.State.{column_in, grid_of, values};
 ghost use Rattle.simplex_steps.specs.Run.{IsRun, KeepsLines};

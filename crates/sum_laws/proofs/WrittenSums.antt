@@ -10,8 +10,8 @@ use Rattle.fraction128.specs.declared.Entry.{Entry}
 use Rattle.fraction128.specs.declared.TableRow.{TableRow}
 use Rattle.fraction128.specs.Grid.{coefficient, row_of, entries_of, is_some, written_variable, no_coefficients, entries_from, MeetsRow, MeetsRows}
 use Rattle.fraction128.proofs.RowValue as RowValue
-use Rattle.grid_laws.specs.Law.{AreFrom}
-use Rattle.grid_laws.proofs.Spans.{span, span_same, span_sum, span_product, span_zero, only, span_only, dot_coefficients, listed_from, listed_positive, number_listed, coefficient_positive}
+use Rattle.simplex_steps.specs.Law.{AreFrom}
+use Rattle.simplex_steps.proofs.Spans.{span, span_same, span_sum, span_product, span_zero, only, span_only, dot_coefficients, listed_from, listed_positive, number_listed, coefficient_positive}
 use Rattle.tableau.specs.declared.sum.Part.{Part}
 use Rattle.tableau.specs.Table.{Table, IsTable, row_at, no_row}
 use Rattle.tableau.specs.Written.{parts_written, parts_row, AreParts}

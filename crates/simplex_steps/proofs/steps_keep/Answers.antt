@@ -1,5 +1,5 @@
-use Rattle.grid_laws.proofs.Keeping as Keeping
-use Rattle.grid_laws.proofs.steps_keep.Goals as goal
+use Rattle.simplex_steps.proofs.Keeping as Keeping
+use Rattle.simplex_steps.proofs.steps_keep.Goals as goal
 
 pub returns-clause-keep : goal.returns-clause-keep
 returns-clause-keep c = Keeping.steps_keep

@@ -1,5 +1,5 @@
-use Rattle.grid_laws.proofs.Lines as Lines
-use Rattle.grid_laws.proofs.lines_are_pivots.Goals as goal
+use Rattle.simplex_steps.proofs.Lines as Lines
+use Rattle.simplex_steps.proofs.lines_are_pivots.Goals as goal
 
 pub returns-clause-pivots : goal.returns-clause-pivots
 returns-clause-pivots c = Lines.lines_are_pivots

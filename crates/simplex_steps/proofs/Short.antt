@@ -14,13 +14,13 @@ use Rattle.fraction128.specs.declared.Column.{Column}
 use Rattle.fraction128.specs.declared.Grid.{Grid}
 use Rattle.fraction128.specs.Grid.{Step, take, move, pivot, coefficient, cell, is_basic, value_at, missed, is_crossed, helps, any_crossed, next_step, after_pivot, after_move, pivoted_value, pivoted_rows, MeetsRows}
 use Rattle.fraction128.proofs.RowValue as RowValue
-use Rattle.grid_laws.specs.Law.{row_at, no_row, ArePositive, IsGrid, Runs, pivots, RunsAreShort}
-use Rattle.grid_laws.proofs.Counting.{Turn, AreBelow, AreWithout, AreApart, Names, Alternates, few_turns}
-use Rattle.grid_laws.proofs.Spans.{span, span_same, span_sum, span_product, span_nonpos, coefficient_positive, dot_coefficients, differs}
-use Rattle.grid_laws.proofs.Pivots.{Solves, basic_at, basic_or_free, length_after, basic_entered, basic_stays, solves_after}
-use Rattle.grid_laws.proofs.Bland.{idle_term, coming_term, cant_leave}
-use Rattle.grid_laws.proofs.NextStep.{col, MoveFacts, PivotFacts, step_facts}
-use Rattle.grid_laws.proofs.Moments.{Good, IsFree, numbers, free_is, is_free, cell_is, Turning, turning, pivot_column, pivot_value, pivot_stays, pivot_leaves, good_after, good_moved}
+use Rattle.simplex_steps.specs.Law.{row_at, no_row, ArePositive, IsGrid, Runs, pivots, RunsAreShort}
+use Rattle.simplex_steps.proofs.Counting.{Turn, AreBelow, AreWithout, AreApart, Names, Alternates, few_turns}
+use Rattle.simplex_steps.proofs.Spans.{span, span_same, span_sum, span_product, span_nonpos, coefficient_positive, dot_coefficients, differs}
+use Rattle.simplex_steps.proofs.Pivots.{Solves, basic_at, basic_or_free, length_after, basic_entered, basic_stays, solves_after}
+use Rattle.simplex_steps.proofs.Bland.{idle_term, coming_term, cant_leave}
+use Rattle.simplex_steps.proofs.NextStep.{col, MoveFacts, PivotFacts, step_facts}
+use Rattle.simplex_steps.proofs.Moments.{Good, IsFree, numbers, free_is, is_free, cell_is, Turning, turning, pivot_column, pivot_value, pivot_stays, pivot_leaves, good_after, good_moved}
 
 -- ---- runs of pivots
 

@@ -10,12 +10,12 @@ use Rattle.fraction128.specs.declared.TableRow.{TableRow}
 use Rattle.fraction128.specs.declared.Grid.{Grid}
 use Rattle.fraction128.specs.Grid.{take, move, pivot, coefficient, cell, is_basic, value_at, missed, distance, after_pivot, after_move, moved_value, MeetsRow}
 use Rattle.fraction128.proofs.RowValue as RowValue
-use Rattle.grid_laws.specs.Law.{row_at, no_row, AreFrom, ArePositive, IsLawful, StepsKeep, MovesSettle, PivotsSettle}
-use Rattle.grid_laws.proofs.Spans.{coefficient_positive, dot_coefficients, differs}
-use Rattle.grid_laws.proofs.Bland.{zero_back}
-use Rattle.grid_laws.proofs.NextStep.{col, MoveFacts, PivotFacts, step_facts}
-use Rattle.grid_laws.proofs.Moments.{Good, numbers, turning, good_after, good_moved, length_with, col_with}
-use Rattle.grid_laws.proofs.Short.{within_bounds, crossed_at, settled_after, good_grid}
+use Rattle.simplex_steps.specs.Law.{row_at, no_row, AreFrom, ArePositive, IsLawful, StepsKeep, MovesSettle, PivotsSettle}
+use Rattle.simplex_steps.proofs.Spans.{coefficient_positive, dot_coefficients, differs}
+use Rattle.simplex_steps.proofs.Bland.{zero_back}
+use Rattle.simplex_steps.proofs.NextStep.{col, MoveFacts, PivotFacts, step_facts}
+use Rattle.simplex_steps.proofs.Moments.{Good, numbers, turning, good_after, good_moved, length_with, col_with}
+use Rattle.simplex_steps.proofs.Short.{within_bounds, crossed_at, settled_after, good_grid}
 
 pub good_of : (g : Grid) → IsLawful g → Good (length g.columns) g
 good_of g h = good_grid g h.grid h.pending h.meets h.uncrossed

@@ -11,8 +11,8 @@ use Rattle.fraction128.specs.declared.Entry.{Entry}
 use Rattle.fraction128.specs.declared.TableRow.{TableRow}
 use Rattle.fraction128.specs.Grid.{coefficient, row_of, entries_of, cell, factor, form_entry, scaled_entry, pivoted_entry, entries_from, pivoted_rows}
 use Rattle.fraction128.proofs.RowValue.{ArePositive}
-use Rattle.grid_laws.specs.Law.{row_at, no_row, AreFrom}
-use Rattle.grid_laws.proofs.Spans.{span, span_same, span_sum, span_product, only, span_only, not_same, differs, listed_positive, listed_from, number_listed, coefficient_positive}
+use Rattle.simplex_steps.specs.Law.{row_at, no_row, AreFrom}
+use Rattle.simplex_steps.proofs.Spans.{span, span_same, span_sum, span_product, only, span_only, not_same, differs, listed_positive, listed_from, number_listed, coefficient_positive}
 
 -- the coefficient of a variable in the row at a place
 abbrev pub entry_at : List TableRow → ℕ → ℕ → Rational

@@ -11,14 +11,14 @@ use Rattle.fraction128.specs.declared.Member.{Member}
 use Rattle.fraction128.specs.declared.Line.{Line}
 use Rattle.fraction128.specs.Grid.{take, move, pivot, coefficient, column_at, value_at, cell, is_basic, entries_of, row_of, row_value, helps, next_step, after, after_pivot, pivoted_rows, is_above, is_below, MeetsRows}
 use Rattle.fraction128.specs.Lines.{sum_value, member_of, basic_member, line_of, pivot_line, members_value, IsIdentity, IsOutside, Helps, IsLeastHelping, IsPivotLine, HaveOthers, IsSeries}
-use Rattle.grid_laws.specs.Law.{row_at, no_row, AreFrom, IsLawful, lines_of, LinesArePivots, LinesGoOn, LinesAreRows, IsNonzeroEntry, IsFreeMember}
-use Rattle.grid_laws.proofs.Spans.{not_same, differs}
-use Rattle.grid_laws.proofs.Bland.{missed_cases, less_is_most, zero_back}
-use Rattle.grid_laws.proofs.Pivots.{basic_at, basic_or_free, row_is, length_after, basic_entered, basic_stays}
-use Rattle.grid_laws.proofs.NextStep.{PivotFacts, step_facts}
-use Rattle.grid_laws.proofs.Moments.{Good, IsFree, free_is, cell_is, Turning, turning}
-use Rattle.grid_laws.proofs.Keeping.{good_of, steps_keep}
-use Rattle.grid_laws.proofs.Spans.{coefficient_positive}
+use Rattle.simplex_steps.specs.Law.{row_at, no_row, AreFrom, IsLawful, lines_of, LinesArePivots, LinesGoOn, LinesAreRows, IsNonzeroEntry, IsFreeMember}
+use Rattle.simplex_steps.proofs.Spans.{not_same, differs}
+use Rattle.simplex_steps.proofs.Bland.{missed_cases, less_is_most, zero_back}
+use Rattle.simplex_steps.proofs.Pivots.{basic_at, basic_or_free, row_is, length_after, basic_entered, basic_stays}
+use Rattle.simplex_steps.proofs.NextStep.{PivotFacts, step_facts}
+use Rattle.simplex_steps.proofs.Moments.{Good, IsFree, free_is, cell_is, Turning, turning}
+use Rattle.simplex_steps.proofs.Keeping.{good_of, steps_keep}
+use Rattle.simplex_steps.proofs.Spans.{coefficient_positive}
 
 -- ---- entries
 

@@ -12,11 +12,11 @@ use Rattle.fraction128.specs.declared.Column.{Column}
 use Rattle.fraction128.specs.declared.TableRow.{TableRow}
 use Rattle.fraction128.specs.declared.Grid.{Grid}
 use Rattle.fraction128.specs.Grid.{is_some, entries_of, coefficient, cell, is_basic, value_at, is_crossed, any_crossed, can_rise, can_fall, helps, distance, moved_value, pivot_distance, pivoted_value, pivoted_rows, with_values, after_move, after_pivot}
-use Rattle.grid_laws.specs.Law.{row_at}
-use Rattle.grid_laws.proofs.Spans.{not_same, coefficient_positive}
-use Rattle.grid_laws.proofs.Pivots.{Shape, Solves, IsPivot, entry_at, basic_at, row_is, row_lacks, basic_or_free, shape_after, solves_after, solves_shifted}
-use Rattle.grid_laws.proofs.Bland.{zero_back}
-use Rattle.grid_laws.proofs.NextStep.{no_col, col, MoveFacts, PivotFacts}
+use Rattle.simplex_steps.specs.Law.{row_at}
+use Rattle.simplex_steps.proofs.Spans.{not_same, coefficient_positive}
+use Rattle.simplex_steps.proofs.Pivots.{Shape, Solves, IsPivot, entry_at, basic_at, row_is, row_lacks, basic_or_free, shape_after, solves_after, solves_shifted}
+use Rattle.simplex_steps.proofs.Bland.{zero_back}
+use Rattle.simplex_steps.proofs.NextStep.{no_col, col, MoveFacts, PivotFacts}
 
 -- the numbers of the values
 abbrev pub numbers : Grid → ℕ → Rational

@@ -9,7 +9,7 @@ use Rattle.fraction128.proofs.ExactSteps.{none_number}
 use Rattle.fraction128.specs.declared.Entry.{Entry}
 use Rattle.fraction128.specs.Grid.{coefficient, entries_from}
 use Rattle.fraction128.proofs.RowValue.{dot, ArePositive}
-use Rattle.grid_laws.specs.Law.{AreFrom}
+use Rattle.simplex_steps.specs.Law.{AreFrom}
 
 -- the sum over the n variables from i on
 abbrev pub span : ℕ → ℕ → (ℕ → Rational) → Rational

@@ -7,14 +7,14 @@ use Rattle.fraction128.specs.declared.Column.{Column}
 use Rattle.fraction128.specs.declared.TableRow.{TableRow}
 use Rattle.fraction128.specs.declared.Grid.{Grid}
 use Rattle.fraction128.specs.Grid.{Step, take, move, pivot, cell, is_basic, column_at, value_at, missed, next_step, distance, moved_value, pivoted_value, with_values, after_move, after_pivot, pivoted_rows}
-use Rattle.grid_laws.specs.Law.{IsLawful, Runs, IsAtBound, KeepsResting, RunsRest}
-use Rattle.grid_laws.proofs.Spans.{differs}
-use Rattle.grid_laws.proofs.Bland.{missed_cases}
-use Rattle.grid_laws.proofs.Pivots.{Shape, basic_at, length_after, basic_entered}
-use Rattle.grid_laws.proofs.NextStep.{col, MoveFacts, PivotFacts, step_facts}
-use Rattle.grid_laws.proofs.Moments.{Good, Turning, turning, good_after, length_with, col_with, pivot_value, pivot_stays, pivot_leaves, is_free, free_is, basic_is}
-use Rattle.grid_laws.proofs.Short.{free_before}
-use Rattle.grid_laws.proofs.Keeping.{good_of, steps_keep}
+use Rattle.simplex_steps.specs.Law.{IsLawful, Runs, IsAtBound, KeepsResting, RunsRest}
+use Rattle.simplex_steps.proofs.Spans.{differs}
+use Rattle.simplex_steps.proofs.Bland.{missed_cases}
+use Rattle.simplex_steps.proofs.Pivots.{Shape, basic_at, length_after, basic_entered}
+use Rattle.simplex_steps.proofs.NextStep.{col, MoveFacts, PivotFacts, step_facts}
+use Rattle.simplex_steps.proofs.Moments.{Good, Turning, turning, good_after, length_with, col_with, pivot_value, pivot_stays, pivot_leaves, is_free, free_is, basic_is}
+use Rattle.simplex_steps.proofs.Short.{free_before}
+use Rattle.simplex_steps.proofs.Keeping.{good_of, steps_keep}
 
 -- two columns with the same bounds
 record HasSame (c d : Column) : Type 0 where
