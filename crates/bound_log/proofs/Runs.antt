@@ -24,7 +24,7 @@ use Rattle.simplex_steps.proofs.Keeping.{good_of, steps_keep}
 use Rattle.simplex_steps.proofs.Resting.{runs_rest}
 use Rattle.simplex_steps.proofs.Lines.{lines_are_rows}
 use Rattle.tableau.specs.Table.{IsNonzero, AreNonzero}
-use Rattle.sum_laws.proofs.SumValues.{sum_positive_value}
+use Rattle.simplex.proofs.SumValues.{sum_positive_value}
 
 -- ---- entries that aren't 0
 

@@ -14,10 +14,10 @@ use Rattle.fraction128.specs.declared.Side.{Side}
 use Rattle.fraction128.specs.declared.Side.TheVariants.{Lower, Upper}
 use Rattle.fraction128.specs.Grid.{row_value, MeetsRows}
 use Rattle.tableau.specs.Table.{Table, IsTable}
-use Rattle.bound_trail.specs.declared.trail.Set.{Set}
-use Rattle.bound_trail.specs.declared.trail.Held.{Held}
-use Rattle.bound_trail.specs.Trail.{Trail, tightest, number_of, set_at, no_set, held_next, held_after, tighter, is_on, held_by}
-use Rattle.bound_trail.proofs.TrailLemmas.{tightest_more, next_elsewhere}
+use Rattle.simplex.specs.declared.trail.Set.{Set}
+use Rattle.simplex.specs.declared.trail.Held.{Held}
+use Rattle.simplex.specs.Trail.{Trail, tightest, number_of, set_at, no_set, held_next, held_after, tighter, is_on, held_by}
+use Rattle.simplex.proofs.TrailLemmas.{tightest_more, next_elsewhere}
 use Rattle.simplex_steps.specs.declared.run.Outcome.{Outcome}
 use Rattle.simplex_steps.specs.declared.run.Outcome.TheVariants.{Fits as AllFit, Conflict as Clash, Range as NoFit, UnitsSpent as Spent, Memory as NoMemory}
 use Rattle.simplex_steps.specs.State.{column_in, no_column, values, IsRanged, AreRanged, IsSolution}
@@ -25,8 +25,8 @@ use Rattle.simplex_steps.specs.Conflict.{Stands, IsConflict}
 use Rattle.simplex_steps.specs.Run.{IsRun, Ends}
 use Rattle.simplex_steps.specs.Run as Steps
 use Rattle.fraction128.specs.Lines.{sum_value}
-use Rattle.sum_laws.specs.Sums.{column_values, IsMeant}
-use Rattle.sum_laws.proofs.Meaning.{runs_keep}
+use Rattle.simplex.specs.Sums.{column_values, IsMeant}
+use Rattle.simplex.proofs.Meaning.{runs_keep}
 use Rattle.simplex.specs.declared.state.Verdict.{Verdict}
 use Rattle.simplex.specs.declared.state.Verdict.TheVariants.{Fits, Conflict, Range, UnitsSpent, Memory}
 use Rattle.simplex.specs.State.{IsState, IsCore, HasBounds, FixedAt, AreKnown, SameValues, KeepsValues, refreshed, KnownBounds, IsVerdict, IsConflictOf, Judges, SpendsRoom}

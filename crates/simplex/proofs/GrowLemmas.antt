@@ -19,13 +19,13 @@ use Rattle.tableau.specs.Table.{Table, IsTable, IsOpenRow, row_at, no_row}
 use Rattle.tableau.proofs.Coefficients.{Below}
 use Rattle.tableau.proofs.PivotedRows.{below_all}
 use Rattle.tableau.proofs.Shape.{nonzero_positive}
-use Rattle.bound_trail.specs.declared.trail.Set.{Set}
-use Rattle.bound_trail.specs.Trail.{Trail, number_of, no_set}
-use Rattle.bound_trail.proofs.TrailLemmas.{tightest_past}
+use Rattle.simplex.specs.declared.trail.Set.{Set}
+use Rattle.simplex.specs.Trail.{Trail, number_of, no_set}
+use Rattle.simplex.proofs.TrailLemmas.{tightest_past}
 use Rattle.simplex_steps.specs.State.{column_in, no_column, values, IsSolution}
 use Rattle.simplex_steps.specs.Conflict.{KnownEntries}
-use Rattle.sum_laws.specs.Sums.{IsMeant}
-use Rattle.sum_laws.proofs.Meaning.{none_mean}
+use Rattle.simplex.specs.Sums.{IsMeant}
+use Rattle.simplex.proofs.Meaning.{none_mean}
 use Rattle.simplex.specs.State.{IsCore, HasBounds, AreKnown, new_column, with_row}
 
 -- ---- adding up the value

@@ -1,2 +1,6 @@
 pub mod BoundLemmas
 pub mod GrowLemmas
+pub mod TrailLemmas
+pub mod SumValues
+pub mod WrittenSums
+pub mod Meaning

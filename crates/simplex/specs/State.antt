@@ -13,10 +13,10 @@ use Rattle.fraction128.specs.Grid.{next_step, entries_value, entries_value_fits,
 use Rattle.tableau.specs.declared.sum.Part.{Part}
 use Rattle.tableau.specs.Written.{parts_row, parts_fit}
 use Rattle.tableau.specs.Table.{Table, IsTable}
-use Rattle.sum_laws.specs.Sums.{IsMeant}
-use Rattle.bound_trail.specs.declared.trail.Set.{Set}
-use Rattle.bound_trail.specs.declared.trail.Held.{Held}
-use Rattle.bound_trail.specs.Trail.{Trail, tightest, number_of, set_at}
+use Rattle.simplex.specs.Sums.{IsMeant}
+use Rattle.simplex.specs.declared.trail.Set.{Set}
+use Rattle.simplex.specs.declared.trail.Held.{Held}
+use Rattle.simplex.specs.Trail.{Trail, tightest, number_of, set_at}
 use Rattle.simplex_steps.specs.State.{grid_of, column_in, values, IsSolution}
 use Rattle.simplex_steps.specs.Conflict.{IsConflict}
 use Rattle.simplex_steps.specs.Run.{AreWithin, NextPivotFits}

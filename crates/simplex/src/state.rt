@@ -2,14 +2,14 @@
 ghost use Rattle.std.specs.Prelude.{◌≡◌, ℕ, ◌+◌, ◌-◌, ◌^◌, ◌<◌, ◌≤◌, pos, true, false, [], ◌∷◌, ◌++◌, map, take, length, slice_index_or, slice_set, ℤ, OnOk, OnErr, IfOk, IfErr, IfSome, IfNone, Some, None};
 ghost use Rattle.fraction128.specs.Number.{whole};
 ghost use Rattle.fraction128.specs.Whole.{InRange};
-ghost use Rattle.bound_trail.specs.Trail.{tightest, number_of, set_at};
+ghost use Rattle.simplex.specs.Trail.{tightest, number_of, set_at};
 ghost use Rattle.fraction128.specs.Grid.{entries_value, entries_value_fits, leaf};
 ghost use Rattle.fraction128.specs.Lines.{line_of};
 ghost use Rattle.tableau.specs.declared.failure.Failure.TheVariants.{Memory as NoMemory};
 ghost use Rattle.tableau.specs.Failing.{IsRange};
 ghost use Rattle.tableau.specs.Table.{IsOpenRow, row_at};
 ghost use Rattle.tableau.specs.Written.{AreParts, parts_row};
-ghost use Rattle.sum_laws.specs.Sums.{AreMatched};
+ghost use Rattle.simplex.specs.Sums.{AreMatched};
 ghost use Rattle.simplex_steps.specs.Law.{KeepsResting};
 ghost use Rattle.simplex_steps.specs.State.{column_in, values, grid_of};
 ghost use Rattle.simplex_steps.specs.Conflict.{KnownEntries};
@@ -17,7 +17,7 @@ ghost use Rattle.simplex_steps.specs.Run.{IsRun, KeepsLines};
 ghost use Rattle.simplex.specs.State.{IsState, KeepsValues, HasBounds, FixedAt, Judges, SpendsRoom, tag_in, tag_or, refreshed, KnownBounds, IsVerdict, new_column, with_row, row_value_of, row_fits};
 
 use crate::grid::copy_grid;
-use bound_trail::{BoundTrail, Held, Set};
+use crate::{BoundTrail, Held, Set};
 use fraction128::{Bound, Column, Entry, Fraction, Grid, Line, Range, Seq, Side, Sum, Summand};
 use simplex_steps::{Checked, Moved, Outcome, PivotLines, check, line_of_pivot, moved_by};
 use std::alloc::{AllocError, Global};

@@ -7,7 +7,7 @@ use Rattle.fraction128.specs.declared.Column.{Column}
 use Rattle.fraction128.specs.Grid.{leaf}
 use Rattle.tableau.specs.declared.sum.Part.{Part}
 use Rattle.tableau.specs.Written.{AreParts, IsPart}
-use Rattle.sum_laws.specs.Sums.{AreMatched}
+use Rattle.simplex.specs.Sums.{AreMatched}
 use Rattle.simplex_steps.specs.State.{column_in}
 use Rattle.simplex_systems.specs.declared.system.Picked.{Picked}
 use Rattle.simplex_systems.specs.Parts.{IsPicked}

@@ -2,7 +2,7 @@
 ghost use Rattle.std.specs.Prelude.{◌≡◌, ◌<◌, length, IfOk, IfSome};
 ghost use Rattle.fraction128.specs.Grid.{leaf};
 ghost use Rattle.tableau.specs.Written.{AreParts};
-ghost use Rattle.sum_laws.specs.Sums.{AreMatched};
+ghost use Rattle.simplex.specs.Sums.{AreMatched};
 ghost use Rattle.simplex_systems.specs.Parts.{IsPicked};
 
 use anyhow::{Result, bail};

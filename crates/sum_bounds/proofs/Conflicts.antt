@@ -9,14 +9,14 @@ use Rattle.fraction128.specs.declared.Bound.{Bound}
 use Rattle.fraction128.specs.declared.Side.{Side}
 use Rattle.fraction128.specs.declared.Side.TheVariants.{Lower, Upper}
 use Rattle.fraction128.specs.Lines.{IsPositive}
-use Rattle.bound_trail.specs.declared.trail.Set.{Set}
-use Rattle.bound_trail.specs.declared.trail.Held.{Held}
-use Rattle.bound_trail.specs.Trail.{tightest, number_of, set_at, no_set}
+use Rattle.simplex.specs.declared.trail.Set.{Set}
+use Rattle.simplex.specs.declared.trail.Held.{Held}
+use Rattle.simplex.specs.Trail.{tightest, number_of, set_at, no_set}
 use Rattle.literals.specs.Signed.{Signed, opposite, unpacked}
 use Rattle.simplex_steps.specs.State.{column_in}
 use Rattle.simplex_steps.specs.Conflict.{Stands, MeetsBound, IsConflict as IsRowConflict}
-use Rattle.sum_laws.specs.Sums.{column_values}
-use Rattle.sum_laws.proofs.SumValues.{sum_positive_value}
+use Rattle.simplex.specs.Sums.{column_values}
+use Rattle.simplex.proofs.SumValues.{sum_positive_value}
 use Rattle.simplex.specs.State as Simplex
 use Rattle.simplex.specs.State.{HasBounds, tag_in, tag_or, IsTagged, SpendsRoom as SpendsSimplex}
 use Rattle.simplex.specs.declared.state.Verdict.{Verdict}

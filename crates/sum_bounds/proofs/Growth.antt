@@ -7,8 +7,8 @@ use Rattle.fraction128.specs.declared.ratio.Ratio.{Ratio}
 use Rattle.fraction128.specs.declared.Column.{Column}
 use Rattle.fraction128.specs.declared.Side.{Side}
 use Rattle.literals.specs.Signed.{Signed, unpacked}
-use Rattle.bound_trail.specs.declared.trail.Set.{Set}
-use Rattle.bound_trail.specs.Trail.{set_at, no_set}
+use Rattle.simplex.specs.declared.trail.Set.{Set}
+use Rattle.simplex.specs.Trail.{set_at, no_set}
 use Rattle.simplex_steps.specs.State.{column_in, no_column, values}
 use Rattle.simplex.specs.State as Simplex
 use Rattle.simplex.specs.State.{KeepsValues, AreKnown}

@@ -11,7 +11,7 @@ use Rattle.fraction128.specs.Lines.{sum_value}
 use Rattle.simplex_steps.proofs.NextStep.{first_some, first_none}
 use Rattle.tableau.specs.Table.{Table}
 use Rattle.simplex_steps.specs.State.{column_in, no_column, values, IsSolution}
-use Rattle.sum_laws.specs.Sums.{IsMeant}
+use Rattle.simplex.specs.Sums.{IsMeant}
 use Rattle.sum_bounds.specs.Bounds.{AreApart, AreWholeIn}
 
 -- ---- one sum

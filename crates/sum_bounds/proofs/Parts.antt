@@ -11,7 +11,7 @@ use Rattle.fraction128.specs.declared.Column.{Column}
 use Rattle.fraction128.specs.declared.TableRow.{TableRow}
 use Rattle.fraction128.specs.Grid.{is_turned, turned, every, fused_fits, written, written_fits, written_variable, variable_of, entries_from, sum_row, no_coefficients, leaf}
 use Rattle.tableau.specs.Written.{IsPart, AreParts, parts_written, parts_fit, parts_row}
-use Rattle.sum_laws.specs.Sums.{AreMatched}
+use Rattle.simplex.specs.Sums.{AreMatched}
 use Rattle.simplex_steps.specs.State.{column_in}
 use Rattle.sum_bounds.specs.Bounds.{AreApart, IsSum}
 use Rattle.sum_bounds.specs.Written.{part_in, turned_summand, IsKnown, HasLeaf}

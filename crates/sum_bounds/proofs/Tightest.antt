@@ -6,9 +6,9 @@ use Rattle.fraction128.specs.declared.ratio.Ratio.{Ratio}
 use Rattle.fraction128.proofs.RationalOrder.{mul_mono}
 use Rattle.fraction128.specs.declared.Side.{Side}
 use Rattle.fraction128.specs.declared.Side.TheVariants.{Lower, Upper}
-use Rattle.bound_trail.specs.declared.trail.Set.{Set}
-use Rattle.bound_trail.specs.declared.trail.Held.{Held}
-use Rattle.bound_trail.specs.Trail.{tightest, held_after, held_next, held_by, tighter, is_on, same_side, set_at}
+use Rattle.simplex.specs.declared.trail.Set.{Set}
+use Rattle.simplex.specs.declared.trail.Held.{Held}
+use Rattle.simplex.specs.Trail.{tightest, held_after, held_next, held_by, tighter, is_on, same_side, set_at}
 use Rattle.sum_bounds.specs.Bounds.{MeetsSide}
 
 -- a bound of the list with this variable, side, number and tag

@@ -11,13 +11,13 @@ use Rattle.fraction128.specs.declared.Side.{Side}
 use Rattle.fraction128.specs.declared.Side.TheVariants.{Lower, Upper}
 use Rattle.fraction128.specs.Grid.{is_below, is_above, missed, variable_of}
 use Rattle.fraction128.specs.Lines.{sum_value}
-use Rattle.bound_trail.specs.declared.trail.Set.{Set}
-use Rattle.bound_trail.specs.declared.trail.Held.{Held}
-use Rattle.bound_trail.specs.Trail.{tightest, number_of, set_at, no_set}
+use Rattle.simplex.specs.declared.trail.Set.{Set}
+use Rattle.simplex.specs.declared.trail.Held.{Held}
+use Rattle.simplex.specs.Trail.{tightest, number_of, set_at, no_set}
 use Rattle.simplex_steps.specs.State.{column_in, values, IsSolution}
 use Rattle.simplex_steps.specs.Run.{AreWithin}
-use Rattle.sum_laws.specs.Sums.{IsMeant}
-use Rattle.sum_laws.proofs.SumValues.{sum_positive_value}
+use Rattle.simplex.specs.Sums.{IsMeant}
+use Rattle.simplex.proofs.SumValues.{sum_positive_value}
 use Rattle.simplex.specs.State.{HasBounds, AreKnown}
 use Rattle.sum_bounds.specs.Bounds.{Told, State, told_of, MeetsSide, Meets, AllMet, AreApart, sums, leaf_values}
 use Rattle.sum_bounds.proofs.Tightest.{IsAmong, tightest_among, tightest_least, meets_looser}

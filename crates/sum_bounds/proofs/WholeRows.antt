@@ -20,7 +20,7 @@ use Rattle.literals.specs.Signed.{Signed}
 use Rattle.tableau.specs.Table.{AreNonzero, row_at, no_row}
 use Rattle.simplex_steps.specs.State.{column_in}
 use Rattle.simplex_steps.specs.Conflict.{Stands, MeetsBound}
-use Rattle.sum_laws.specs.Sums.{column_values}
+use Rattle.simplex.specs.Sums.{column_values}
 use Rattle.simplex.specs.State as Simplex
 use Rattle.simplex.specs.State.{FixedAt, tag_in}
 use Rattle.sum_bounds.specs.Bounds.{told_of}

@@ -13,10 +13,10 @@ use Rattle.fraction128.specs.Lines.{NextFails, IsFloor, IsPositive, sum_value}
 use Rattle.tableau.specs.declared.failure.Failure.{Failure}
 use Rattle.tableau.specs.declared.failure.Failure.TheVariants.{Range as OutOfRange}
 use Rattle.tableau.specs.Table.{Table}
-use Rattle.bound_trail.specs.declared.trail.Set.{Set}
+use Rattle.simplex.specs.declared.trail.Set.{Set}
 use Rattle.literals.specs.Signed.{Signed, opposite, unpacked}
 use Rattle.simplex_steps.specs.State.{grid_of, column_in, values, IsSolution}
-use Rattle.sum_laws.specs.Sums.{IsMeant}
+use Rattle.simplex.specs.Sums.{IsMeant}
 use Rattle.simplex_steps.specs.Run.{AreWithin, NextPivotFits}
 use Rattle.simplex.specs.State as Simplex
 use Rattle.sum_bounds.specs.declared.writing.SumVariable.{SumVariable}

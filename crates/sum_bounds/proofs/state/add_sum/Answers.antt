@@ -3,7 +3,7 @@ use Rattle.fraction128.specs.Number.{whole}
 use Rattle.fraction128.specs.declared.TableRow.{TableRow}
 use Rattle.fraction128.specs.Grid.{entries_value, entries_value_fits, sum_row, no_coefficients}
 use Rattle.tableau.specs.Written.{AreParts, parts_row, parts_fit}
-use Rattle.sum_laws.specs.Sums.{AreMatched}
+use Rattle.simplex.specs.Sums.{AreMatched}
 use Rattle.simplex_steps.specs.State.{values}
 use Rattle.simplex.specs.State.{new_column, with_row, row_value_of}
 use Rattle.sum_bounds.specs.Hash.{sum_hash}

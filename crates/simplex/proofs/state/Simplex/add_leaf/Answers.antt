@@ -1,7 +1,7 @@
 use Rattle.std.proofs.Common.{ap, ◌+◌, arith, subst, sym, ◌<◌}
 use Rattle.fraction128.specs.declared.ratio.Ratio.{Ratio}
-use Rattle.bound_trail.specs.Trail.{Trail}
-use Rattle.sum_laws.proofs.Meaning.{leaves_keep}
+use Rattle.simplex.specs.Trail.{Trail}
+use Rattle.simplex.proofs.Meaning.{leaves_keep}
 use Rattle.simplex.specs.State.{IsCore, new_column}
 use Rattle.simplex.proofs.GrowLemmas.{core_grown, grown_free}
 use Rattle.simplex.proofs.state.Simplex.add_leaf.Goals as goal

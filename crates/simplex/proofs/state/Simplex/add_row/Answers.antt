@@ -1,11 +1,11 @@
 use Rattle.std.proofs.Common.{ap, arith, subst, sym, ◌∷◌, [], ◌++◌, List}
 use Rattle.fraction128.specs.declared.Column.{Column}
 use Rattle.fraction128.specs.declared.Entry.{Entry}
-use Rattle.bound_trail.specs.Trail.{Trail}
+use Rattle.simplex.specs.Trail.{Trail}
 use Rattle.tableau.specs.Table.{Table}
 use Rattle.tableau.specs.Written.{AreParts}
-use Rattle.sum_laws.specs.Sums.{IsMeant, AreMatched}
-use Rattle.sum_laws.proofs.Meaning.{rows_keep}
+use Rattle.simplex.specs.Sums.{IsMeant, AreMatched}
+use Rattle.simplex.proofs.Meaning.{rows_keep}
 use Rattle.simplex.specs.State.{State, IsCore, new_column, with_row}
 use Rattle.simplex.proofs.GrowLemmas.{core_grown, core_same, grown_row, on_cases, open_known}
 use Rattle.simplex.proofs.state.Simplex.add_row.Goals as goal

@@ -1,5 +1,5 @@
 use Rattle.std.proofs.Common.{◌∙◌, ap, length, subst, sym, take, ◌-◌}
-use Rattle.bound_trail.specs.Trail.{Trail}
+use Rattle.simplex.specs.Trail.{Trail}
 use Rattle.simplex.specs.State.{State, IsCore}
 use Rattle.simplex.proofs.BoundLemmas.{core_undone, last_known, take_none}
 use Rattle.simplex.proofs.state.Simplex.undo.Goals as goal

@@ -2,7 +2,7 @@ use Rattle.std.proofs.Common.{◌≡◌, ◌++◌, ◌∷◌, [], ℕ, List, sym
 use Rattle.fraction128.specs.declared.Summand.{Summand}
 use Rattle.tableau.specs.declared.sum.Part.{Part}
 use Rattle.tableau.specs.Written.{AreParts}
-use Rattle.sum_laws.specs.Sums.{AreMatched}
+use Rattle.simplex.specs.Sums.{AreMatched}
 use Rattle.simplex_systems.specs.Parts.{IsPicked}
 use Rattle.simplex_systems.specs.declared.system.Picked.{Picked}
 use Rattle.simplex_systems.proofs.PartLemmas.{parts_push, matched_push}

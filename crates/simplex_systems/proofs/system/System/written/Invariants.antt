@@ -1,5 +1,5 @@
 use Rattle.tableau.specs.Written.{AreParts}
-use Rattle.sum_laws.specs.Sums.{AreMatched}
+use Rattle.simplex.specs.Sums.{AreMatched}
 use Rattle.simplex_systems.proofs.system.System.written.Given as goal
 
 abbrev pub invariant-loop-place : goal.invariant-loop-place

@@ -4,11 +4,11 @@ use Rattle.std.proofs.lemmas.List.{get_or_append_left, get_or_push, length-set, 
 use Rattle.std.proofs.lemmas.Bool.{cases_lt}
 use Rattle.fraction128.specs.declared.Side.{Side}
 use Rattle.fraction128.specs.declared.Side.TheVariants.{Lower, Upper}
-use Rattle.bound_trail.specs.declared.trail.Set.{Set}
-use Rattle.bound_trail.specs.declared.trail.Held.{Held}
-use Rattle.bound_trail.specs.declared.trail.Mark.{Mark}
-use Rattle.bound_trail.specs.declared.trail.Standing.{Standing}
-use Rattle.bound_trail.specs.Trail.{same_side, tighter, held_next, held_after, tightest, set_of, no_mark, mark_at, nothing, standing_at, held_on, with_held, IsTrail}
+use Rattle.simplex.specs.declared.trail.Set.{Set}
+use Rattle.simplex.specs.declared.trail.Held.{Held}
+use Rattle.simplex.specs.declared.trail.Mark.{Mark}
+use Rattle.simplex.specs.declared.trail.Standing.{Standing}
+use Rattle.simplex.specs.Trail.{same_side, tighter, held_next, held_after, tightest, set_of, no_mark, mark_at, nothing, standing_at, held_on, with_held, IsTrail}
 
 held_append : (h : Option Held) (xs ys : List Set) (i : ℕ) (s : Side) → held_after h (xs ++ ys) i s ≡ held_after (held_after h xs i s) ys i s
 held_append h [] ys i s = refl

@@ -1,7 +1,7 @@
 use Rattle.std.proofs.Common.{ap, arith}
-use Rattle.bound_trail.specs.Trail.{Trail}
-use Rattle.bound_trail.proofs.TrailLemmas.{set_as}
-use Rattle.bound_trail.proofs.trail.BoundTrail.set.Goals as goal
+use Rattle.simplex.specs.Trail.{Trail}
+use Rattle.simplex.proofs.TrailLemmas.{set_as}
+use Rattle.simplex.proofs.trail.BoundTrail.set.Goals as goal
 
 pub invariant_of-self-2 : goal.invariant_of-self-2
 invariant_of-self-2 c =

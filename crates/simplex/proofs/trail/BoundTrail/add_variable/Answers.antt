@@ -1,7 +1,7 @@
 use Rattle.std.proofs.Common.{sym, subst}
-use Rattle.bound_trail.specs.Trail.{IsTrail}
-use Rattle.bound_trail.proofs.TrailLemmas.{trail_grown}
-use Rattle.bound_trail.proofs.trail.BoundTrail.add_variable.Goals as goal
+use Rattle.simplex.specs.Trail.{IsTrail}
+use Rattle.simplex.proofs.TrailLemmas.{trail_grown}
+use Rattle.simplex.proofs.trail.BoundTrail.add_variable.Goals as goal
 
 pub invariant_of-self-2 : goal.invariant_of-self-2
 invariant_of-self-2 c =

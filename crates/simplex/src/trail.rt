@@ -1,6 +1,6 @@
 //! The trail of bounds.
 ghost use Rattle.std.specs.Prelude.{◌≡◌, ◌≢◌, ℕ, ◌+◌, ◌-◌, ◌<◌, ◌≤◌, true, false, [], ◌∷◌, ◌++◌, map, take, length, slice_set, OnOk, OnErr, IfOk, IfSome, IfNone, Some, None};
-ghost use Rattle.bound_trail.specs.Trail.{tighter, tightest, held_on, with_held, is_tighter};
+ghost use Rattle.simplex.specs.Trail.{tighter, tightest, held_on, with_held, is_tighter};
 
 use fraction128::Side;
 use std::alloc::{AllocError, Global};
@@ -93,12 +93,12 @@ pub struct BoundTrail {
 }
 
 impl Model for BoundTrail {
-    ghost use Rattle.bound_trail.specs.Trail.{Trail};
+    ghost use Rattle.simplex.specs.Trail.{Trail};
 
     ghost Value = { Trail };
 
     ghost use Rattle.std.specs.Prelude.{map, length};
-    ghost use Rattle.bound_trail.specs.Trail.{set_of, IsTrail};
+    ghost use Rattle.simplex.specs.Trail.{set_of, IsTrail};
 
     ghost view = { λ t. record { count = length t.standing.items; bounds = map set_of t.marks.items } };
 
@@ -106,7 +106,7 @@ impl Model for BoundTrail {
 }
 
 impl BoundTrail {
-    ghost use Rattle.bound_trail.specs.Trail.{Trail};
+    ghost use Rattle.simplex.specs.Trail.{Trail};
 
     /// No variable. It takes no memory.
     pub fn new(alloc: Global) -> Self

@@ -1,5 +1,5 @@
-use Rattle.sum_laws.proofs.Meaning as Meaning
-use Rattle.sum_laws.proofs.sums_stay.Goals as goal
+use Rattle.simplex.proofs.Meaning as Meaning
+use Rattle.simplex.proofs.sums_stay.Goals as goal
 
 pub returns-clause-none : goal.returns-clause-none
 returns-clause-none c = Meaning.none_mean

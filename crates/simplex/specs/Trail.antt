@@ -2,10 +2,10 @@
 use Rattle.std.specs.Prelude.{◌≡◌, ℕ, ◌<◌, ◌==◌, ◌&&◌, Bool, true, false, List, [], ◌∷◌, map, take, length, slice_index_or, int_lt, pos, ℤ, Option, Some, None, if◌then◌else◌}
 use Rattle.fraction128.specs.declared.Side.{Side}
 use Rattle.fraction128.specs.declared.Side.TheVariants.{Lower, Upper}
-use Rattle.bound_trail.specs.declared.trail.Set.{Set}
-use Rattle.bound_trail.specs.declared.trail.Held.{Held}
-use Rattle.bound_trail.specs.declared.trail.Mark.{Mark}
-use Rattle.bound_trail.specs.declared.trail.Standing.{Standing}
+use Rattle.simplex.specs.declared.trail.Set.{Set}
+use Rattle.simplex.specs.declared.trail.Held.{Held}
+use Rattle.simplex.specs.declared.trail.Mark.{Mark}
+use Rattle.simplex.specs.declared.trail.Standing.{Standing}
 
 abbrev pub same_side : Side → Side → Bool
 same_side Lower Lower = true

@@ -1,5 +1,5 @@
-use Rattle.bound_trail.proofs.TrailLemmas.{undone_as}
-use Rattle.bound_trail.proofs.trail.BoundTrail.undo.Goals as goal
+use Rattle.simplex.proofs.TrailLemmas.{undone_as}
+use Rattle.simplex.proofs.trail.BoundTrail.undo.Goals as goal
 
 pub invariant_of-self-2 : goal.invariant_of-self-2
 invariant_of-self-2 c =

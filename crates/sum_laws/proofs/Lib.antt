@@ -1,3 +1,0 @@
-pub mod SumValues
-pub mod WrittenSums
-pub mod Meaning
