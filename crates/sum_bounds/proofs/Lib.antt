@@ -11,3 +11,4 @@ pub mod Growth
 pub mod Checks
 pub mod WholeRows
 pub mod Origins
+mod Steps

@@ -15,7 +15,7 @@ use Rattle.fraction128.specs.declared.TableRow.{TableRow}
 use Rattle.fraction128.specs.declared.Column.{Column}
 use Rattle.fraction128.specs.declared.Bound.{Bound}
 use Rattle.fraction128.specs.Grid.{MeetsRow, row_value}
-use Rattle.progressions.specs.Progressions.{State as Progression, Has, MayBe}
+use Rattle.sum_bounds.specs.Progressions.{State as Progression, Has, MayBe}
 use Rattle.literals.specs.Signed.{Signed}
 use Rattle.tableau.specs.Table.{AreNonzero, row_at, no_row}
 use Rattle.simplex_steps.specs.State.{column_in}

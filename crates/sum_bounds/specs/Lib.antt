@@ -7,3 +7,4 @@ pub mod Kept
 pub mod Clauses
 pub mod Wholes
 pub mod Origins
+pub mod Progressions

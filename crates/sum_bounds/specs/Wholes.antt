@@ -9,7 +9,7 @@ use Rattle.fraction128.specs.declared.Column.{Column}
 use Rattle.fraction128.specs.declared.Bound.{Bound}
 use Rattle.fraction128.specs.declared.Side.TheVariants.{Lower, Upper}
 use Rattle.fraction128.specs.Grid.{MeetsRow, row_value}
-use Rattle.progressions.specs.Progressions.{State as Progression, Has}
+use Rattle.sum_bounds.specs.Progressions.{State as Progression, Has}
 use Rattle.literals.specs.Signed.{Signed, opposite}
 use Rattle.search_port.specs.State.{Reading}
 use Rattle.search_port.specs.Valid.{IsValid}

@@ -6,10 +6,10 @@ ghost use Rattle.simplex_steps.specs.Conflict.{KnownEntries};
 ghost use Rattle.sum_bounds.specs.Bounds.{told_of};
 ghost use Rattle.sum_bounds.specs.Wholes.{HasSums, HasDifferences, LacksWholes, AddsBoth, AreBounds, IsWholeConflict};
 
+use crate::Progression;
 use crate::told::clause_of;
 use fraction128::{Bound, Entry, Fraction, Side};
 use literals::Literal;
-use progressions::Progression;
 use simplex::Simplex;
 use std::alloc::{AllocError, Global};
 

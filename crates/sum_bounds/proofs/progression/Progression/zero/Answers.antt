@@ -1,5 +1,5 @@
 use Rattle.std.proofs.Common.{pos, refl}
-use Rattle.progressions.proofs.progression.Progression.zero.Goals as goal
+use Rattle.sum_bounds.proofs.progression.Progression.zero.Goals as goal
 
 pub returns : goal.returns
 returns c = (pos 0, refl)

@@ -3,8 +3,8 @@ use Rattle.std.proofs.lemmas.Int.{quot_is, fits_signed_from_abs}
 use Rattle.std.specs.Int.RustNames.{int_div}
 use Rattle.std.proofs.Common.{pos, ◌<ℤ◌, ◌*ℤ◌, ◌∙◌, sym, subst, ap}
 use Rattle.fraction128.specs.Whole.{InRange}
-use Rattle.progressions.proofs.Steps.{exact_quotient}
-use Rattle.progressions.proofs.progression.quotient.Goals as goal
+use Rattle.sum_bounds.proofs.Steps.{exact_quotient}
+use Rattle.sum_bounds.proofs.progression.quotient.Goals as goal
 
 pub returns-clause-positive : goal.returns-clause-positive
 returns-clause-positive c =

@@ -2,9 +2,9 @@ use Rattle.std.proofs.Common.{◌∙◌, ◌*ℤ◌, sym, ap, ap₂, to_z, of_z}
 use Rattle.std.specs.Int.{w128}
 use Rattle.std.proofs.lemmas.Int.{to_z-of_z}
 use Rattle.fraction128.proofs.Integers.{same_bits}
-use Rattle.progressions.specs.Progressions.{State}
-use Rattle.progressions.proofs.Steps.{part_added}
-use Rattle.progressions.proofs.progression.Progression.with_part.Goals as goal
+use Rattle.sum_bounds.specs.Progressions.{State}
+use Rattle.sum_bounds.proofs.Steps.{part_added}
+use Rattle.sum_bounds.proofs.progression.Progression.with_part.Goals as goal
 
 pub returns : goal.returns
 returns c =

@@ -3,9 +3,9 @@ use Rattle.std.specs.Int.{w128}
 use Rattle.std.proofs.lemmas.Int.{to_z-of_z}
 use Rattle.fraction128.specs.Whole.{InRange}
 use Rattle.fraction128.proofs.Integers.{same_bits}
-use Rattle.progressions.specs.Progressions.{State}
-use Rattle.progressions.proofs.Steps.{is_scaled, positive_product}
-use Rattle.progressions.proofs.progression.Progression.scaled.Goals as goal
+use Rattle.sum_bounds.specs.Progressions.{State}
+use Rattle.sum_bounds.proofs.Steps.{is_scaled, positive_product}
+use Rattle.sum_bounds.proofs.progression.Progression.scaled.Goals as goal
 
 pub invariant_of-result : goal.invariant_of-result
 invariant_of-result c =

@@ -4,7 +4,7 @@ ghost use Rattle.std.specs.Int.{◌∣◌};
 ghost use Rattle.fraction128.specs.declared.ratio.Ratio.{Ratio};
 ghost use Rattle.fraction128.specs.Whole.{InRange};
 ghost use Rattle.fraction128.specs.Number.{whole, SameNumber, unreduced_sum, unreduced_product};
-ghost use Rattle.progressions.specs.Progressions.{Has, MayBe, IsScaled, Adds};
+ghost use Rattle.sum_bounds.specs.Progressions.{Has, MayBe, IsScaled, Adds};
 
 use fraction128::{Fraction, gcd};
 use std::marker::Model;
@@ -80,7 +80,7 @@ pub struct Progression {
 }
 
 impl Model for Progression {
-    ghost use Rattle.progressions.specs.Progressions.{State};
+    ghost use Rattle.sum_bounds.specs.Progressions.{State};
 
     ghost Value = { State };
 
@@ -95,7 +95,7 @@ impl Model for Progression {
 }
 
 impl Progression {
-    ghost use Rattle.progressions.specs.Progressions.{State};
+    ghost use Rattle.sum_bounds.specs.Progressions.{State};
 
     /// 0 alone.
     pub fn zero() -> Progression

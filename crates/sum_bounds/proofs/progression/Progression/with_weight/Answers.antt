@@ -3,8 +3,8 @@ use Rattle.std.specs.Prelude.{IfSome}
 use Rattle.std.specs.Int.{w128}
 use Rattle.fraction128.specs.Whole.{InRange}
 use Rattle.fraction128.proofs.Integers.{same_bits}
-use Rattle.progressions.proofs.Steps.{if_moved, widened_adds}
-use Rattle.progressions.proofs.progression.Progression.with_weight.Goals as goal
+use Rattle.sum_bounds.proofs.Steps.{if_moved, widened_adds}
+use Rattle.sum_bounds.proofs.progression.Progression.with_weight.Goals as goal
 
 pub returns-in_ok-product-in-Some : goal.returns-in_ok-product-in-Some
 returns-in_ok-product-in-Some c =

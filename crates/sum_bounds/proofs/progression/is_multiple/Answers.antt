@@ -2,8 +2,8 @@ use Rattle.std.proofs.Common.{◌≡◌, ◌∙◌, ℤ, pos, true, false, sym, 
 use Rattle.std.specs.Int.{w128}
 use Rattle.std.specs.Int.RustNames.{int_rem}
 use Rattle.std.proofs.lemmas.Int.{to_z-of_z}
-use Rattle.progressions.proofs.Steps.{no_rest}
-use Rattle.progressions.proofs.progression.is_multiple.Goals as goal
+use Rattle.sum_bounds.proofs.Steps.{no_rest}
+use Rattle.sum_bounds.proofs.progression.is_multiple.Goals as goal
 
 pub returns-else-of-eq0 : goal.returns-else-of-eq0
 returns-else-of-eq0 c = λ no m e.

@@ -1,8 +1,8 @@
 use Rattle.std.proofs.Common.{◌≡◌, ◌∙◌, ◌+ℤ◌, ◌*ℤ◌, Bool, true, false, not, ap, ap₂}
 use Rattle.fraction128.proofs.Integers.{same_bits}
-use Rattle.progressions.specs.Progressions.{State}
-use Rattle.progressions.proofs.Steps.{lacks}
-use Rattle.progressions.proofs.progression.Progression.lacks_zero.Goals as goal
+use Rattle.sum_bounds.specs.Progressions.{State}
+use Rattle.sum_bounds.proofs.Steps.{lacks}
+use Rattle.sum_bounds.proofs.progression.Progression.lacks_zero.Goals as goal
 
 no : (b : Bool) → not b ≡ true → b ≡ false
 no true e = absurd (cc)

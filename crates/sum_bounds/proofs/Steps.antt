@@ -15,7 +15,7 @@ use Rattle.fraction128.proofs.Divisors.{IsGcd-gcd_of}
 use Rattle.fraction128.proofs.Integers.{quot-times}
 use Rattle.fraction128.proofs.RingEquations.{var, sum, product, nothing, solve}
 use Rattle.fraction128.proofs.WholeNumbers.{wholes}
-use Rattle.progressions.specs.Progressions.{State, Has, MayBe, IsScaled, Adds}
+use Rattle.sum_bounds.specs.Progressions.{State, Has, MayBe, IsScaled, Adds}
 
 -- ---- scaling
 

@@ -3,9 +3,9 @@ use Rattle.std.specs.Int.{w128}
 use Rattle.std.proofs.lemmas.Int.{to_z-of_z}
 use Rattle.fraction128.specs.Gcd.{gcd_of}
 use Rattle.fraction128.proofs.Integers.{same_bits}
-use Rattle.progressions.specs.Progressions.{State}
-use Rattle.progressions.proofs.Steps.{has_both}
-use Rattle.progressions.proofs.progression.Progression.widened.Goals as goal
+use Rattle.sum_bounds.specs.Progressions.{State}
+use Rattle.sum_bounds.proofs.Steps.{has_both}
+use Rattle.sum_bounds.proofs.progression.Progression.widened.Goals as goal
 
 pub returns-clause-has : goal.returns-clause-has
 returns-clause-has c = λ m z.

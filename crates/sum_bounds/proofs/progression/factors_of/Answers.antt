@@ -2,9 +2,9 @@ use Rattle.std.proofs.Common.{◌∙◌, pos, ◌*ℤ◌, ◌<ℤ◌, sym, ap, s
 use Rattle.std.specs.Int.{w128}
 use Rattle.std.proofs.lemmas.Int.{to_z-of_z}
 use Rattle.fraction128.proofs.Integers.{same_bits}
-use Rattle.progressions.proofs.Steps.{IsDivisor, divisor_is, same_products}
-use Rattle.progressions.proofs.progression.factors_of.Goals as goal
-use Rattle.progressions.proofs.progression.factors_of.Goals.{After-gcd-divisor}
+use Rattle.sum_bounds.proofs.Steps.{IsDivisor, divisor_is, same_products}
+use Rattle.sum_bounds.proofs.progression.factors_of.Goals as goal
+use Rattle.sum_bounds.proofs.progression.factors_of.Goals.{After-gcd-divisor}
 
 divisor : (c : After-gcd-divisor) → IsDivisor (to_z w128 (of_z w128 c.args.left)) (to_z w128 (of_z w128 c.args.right)) (to_z w128 (of_z w128 c.gcd-divisor.result))
 divisor c =
