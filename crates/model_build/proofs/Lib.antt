@@ -6,3 +6,5 @@ pub mod Looking
 pub mod Sorting
 pub mod Fills
 pub mod Meanings
+pub mod Placing
+pub mod Operators

@@ -1,4 +1,6 @@
 //! Tables under which terms have given values.
+//!
+//! Tables of declared functions, made from values that the terms of a stack are given by their places.
 #![tactic(auto)]
 
 ghost use Rattle.std.specs.Prelude.{◌≡◌, length, IfOk, MatchOption};
@@ -11,14 +13,19 @@ mod applications;
 mod firsts;
 mod given;
 mod hash;
+mod model;
+mod numbers;
 mod tables;
+mod value_model_given;
 
 use firsts::{Firsts, collect};
 pub use given::{Clash, Given};
+pub use model::{Modelled, model_from};
 use smt_meaning::{Declaration, Interp};
 use std::alloc::{AllocError, Global};
 use tables::tables_of;
 use term_store::TermStore;
+pub use value_model_given::{PlaceValues, given_values};
 
 /// Two marked applications of one declared symbol that no table gives what they are given: their arguments are equal and in the range, or each has an
 /// argument past the range, and they are given different values. None exactly where there are no two; of several, any.

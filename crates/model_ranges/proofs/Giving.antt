@@ -23,8 +23,8 @@ use Rattle.model_build.specs.Building.{is_given_of, IsGivenOf, AreGiven, AreValu
 use Rattle.model_build.proofs.Reading.{givens-pick}
 use Rattle.stack_atoms.specs.Parts.{IsMarked}
 use Rattle.scope_stack.specs.Facts.{AreSorts}
-use Rattle.value_model.specs.Parts.{AreSortedParts}
-use Rattle.value_model.proofs.Placing.{arguments_picked}
+use Rattle.model_build.specs.Parts.{AreSortedParts}
+use Rattle.model_build.proofs.Placing.{arguments_picked}
 use Rattle.exact_values.specs.Exact.{exact, exact_at, given_of, is_marked_in, AreGivenExactly}
 use Rattle.model_ranges.specs.Shown.{GiveExactValues}
 

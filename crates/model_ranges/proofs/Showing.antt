@@ -28,7 +28,7 @@ use Rattle.scope_stack.specs.Shown.{AreAsserted, IsLawful}
 use Rattle.stack_atoms.specs.Parts.{IsMarked}
 use Rattle.stack_atoms.specs.Marks.{AreStackParts}
 use Rattle.stack_atoms.proofs.Places.{stack_parts}
-use Rattle.value_model.specs.Parts.{AreSortedParts}
+use Rattle.model_build.specs.Parts.{AreSortedParts}
 use Rattle.linear_forms.specs.Table.{Known, IsLinked, AreForms}
 use Rattle.model_eval.specs.Walk.{is_marked}
 use Rattle.model_eval.specs.Unfit.{fits_alone}

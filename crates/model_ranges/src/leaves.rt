@@ -13,11 +13,11 @@ ghost use Rattle.model_ranges.specs.Leaves.{HaveLeafValues};
 use bound_log::BoundLog;
 use exact_values::Unshown;
 use fraction128::Fraction;
+use model_build::PlaceValues;
 use scope_stack::Stack;
 use smt_meaning::{Head, Operator, Sort, TermId, Value};
 use std::alloc::Global;
 use term_store::TermStore;
-use value_model::PlaceValues;
 
 /// Whether a term with this head is no numeral, sum, difference or product.
 pub(crate) fn is_leaf(head: Head) -> bool

@@ -9,7 +9,7 @@ ghost use Rattle.smt_meaning.specs.Ranges.{LeavesInModel};
 ghost use Rattle.smt_laws.specs.Flat.{flat};
 ghost use Rattle.linear_forms.specs.Table.{AreForms};
 ghost use Rattle.model_eval.specs.Walk.{is_marked};
-ghost use Rattle.value_model.specs.Parts.{AreSortedParts};
+ghost use Rattle.model_build.specs.Parts.{AreSortedParts};
 ghost use Rattle.exact_values.specs.Exact.{AreListed};
 ghost use Rattle.bound_log.specs.Atoms.{Knows};
 ghost use Rattle.bound_log.specs.Pending.{plain_grid};
@@ -21,11 +21,11 @@ use bound_log::BoundLog;
 use exact_values::Unshown;
 use fraction128::Grid;
 use linear_forms::LinearForms;
+use model_build::PlaceValues;
 use scope_stack::Stack;
 use smt_laws::flat_says_the_same;
 use smt_meaning::{Interp, TermId, Value};
 use std::alloc::Global;
-use value_model::PlaceValues;
 
 /// A part under tables that make each assertion true, a number of whose value leaves the range, and a grid that gives the leaves their values.
 #[derive(Drop)]

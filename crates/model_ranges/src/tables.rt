@@ -5,7 +5,7 @@ ghost use Rattle.smt_meaning.specs.TreeShape.{is_linear};
 ghost use Rattle.smt_meaning.specs.Interpretation.{AreTablesFor};
 ghost use Rattle.smt_meaning.specs.Stack.{signature_of};
 ghost use Rattle.scope_stack.specs.declared.answers.Assertion.{Assertion as AssertionOf};
-ghost use Rattle.value_model.specs.Parts.{AreSortedParts};
+ghost use Rattle.model_build.specs.Parts.{AreSortedParts};
 ghost use Rattle.model_eval.specs.Walk.{is_marked};
 ghost use Rattle.exact_values.specs.Exact.{AreListed};
 ghost use Rattle.model_ranges.specs.Shown.{GiveExactValues, IsTrueAt, IsTrueIn, IsUnfit};
@@ -14,12 +14,12 @@ use crate::leaves::{is_leaf, is_marked_place};
 use exact_values::{Listed, Unshown, given_exactly};
 use linear_forms::LinearForms;
 use log_value::{Values, evaluated};
+use model_build::{Modelled, model_from};
 use model_eval::EvalError;
 use scope_stack::{Assertion, Stack};
 use smt_meaning::{Interp, TermId, Value};
 use std::alloc::Global;
 use term_store::TermStore;
-use value_model::{Modelled, model_from};
 
 /// Tables under which each marked term has its exact value.
 pub(crate) fn exact_tables(

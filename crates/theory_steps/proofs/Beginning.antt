@@ -23,7 +23,7 @@ use Rattle.check_atoms.specs.OfStack.{AreCheckAtoms}
 use Rattle.check_atoms.specs.Laws.{AtomsAreOfStack}
 use Rattle.check_clauses.specs.Shapes.{AreFlags}
 use Rattle.check_clauses.proofs.Parts as Parts
-use Rattle.value_model.specs.Parts.{AreSortedParts}
+use Rattle.model_build.specs.Parts.{AreSortedParts}
 use Rattle.closure_log.specs.Seen.{IsOfTerms, IsSetting}
 use Rattle.theory_steps.specs.Begin.{IsTruthOfBool}
 use Rattle.theory_steps.specs.Pairs.{HaveReadable}

@@ -17,7 +17,7 @@ use Rattle.scope_stack.specs.Facts.{AreSorts}
 use Rattle.linear_forms.specs.Sums.{IsSumWithin}
 use Rattle.bound_log.specs.Growth.{IsProper}
 use Rattle.model_eval.specs.Walk.{is_marked}
-use Rattle.value_model.specs.Parts.{AreSortedParts}
+use Rattle.model_build.specs.Parts.{AreSortedParts}
 use Rattle.theory_steps.specs.Pairs.{HaveReadable, IsFit}
 use Rattle.theory_steps.specs.Shown.{IsMarkedLeaf}
 use Rattle.theory_steps.proofs.Marking.{marked_within}

@@ -16,7 +16,7 @@ use Rattle.smt_laws.specs.SortLaws.{SymbolsAreDeclared}
 use Rattle.search_port.specs.Valid.{IsOf}
 use Rattle.smt_laws.specs.Flat.{flat, SaysTheSame, FlatSaysTheSame}
 use Rattle.model_eval.specs.Walk.{is_marked}
-use Rattle.value_model.specs.Parts.{AreSortedParts}
+use Rattle.model_build.specs.Parts.{AreSortedParts}
 use Rattle.log_value.specs.Atoms.{HasMarkedPlaces}
 
 pub marked_within : (marks : List Bool) (p : ℕ) → is_marked marks p ≡ true → p < length marks

@@ -6,7 +6,7 @@ use Rattle.smt_meaning.specs.declared.clauses.Atom.{Atom}
 use Rattle.smt_meaning.specs.declared.clauses.Atom.TheVariants.{Truth as TruthAtom, Same as SameAtom, AtMost}
 use Rattle.smt_meaning.specs.Stack.{signature_of}
 use Rattle.smt_meaning.specs.StackCommand.{Stack}
-use Rattle.value_model.specs.Parts.{AreSortedParts}
+use Rattle.model_build.specs.Parts.{AreSortedParts}
 use Rattle.atom_numbers.specs.Atoms.{Atoms}
 use Rattle.atom_numbers.specs.declared.atom.NumberedAtom.{NumberedAtom}
 use Rattle.atom_numbers.specs.declared.atom.NumberedAtom.TheVariants.{Truth, Same, Bound}

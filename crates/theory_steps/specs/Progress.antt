@@ -5,7 +5,7 @@ use Rattle.search_port.specs.State.{TheoryState}
 use Rattle.search_port.specs.Spending.{Spending}
 use Rattle.search_port.specs.Calls.{Goes}
 use Rattle.linear_forms.specs.Table.{AreForms}
-use Rattle.value_model.specs.Parts.{AreSortedParts}
+use Rattle.model_build.specs.Parts.{AreSortedParts}
 use Rattle.closure_log.specs.Seen.{state_of}
 use Rattle.theory_steps.specs.declared.parts.Parts.{Parts}
 use Rattle.theory_steps.specs.declared.parts.Progress.{Progress}

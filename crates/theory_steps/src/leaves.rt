@@ -4,7 +4,7 @@ ghost use Rattle.smt_meaning.specs.declared.values.Sort.TheVariants.{Bool as Tru
 ghost use Rattle.smt_meaning.specs.CheckAtoms.{is_leaf_head};
 ghost use Rattle.smt_meaning.specs.Stack.{signature_of};
 ghost use Rattle.model_eval.specs.Walk.{is_marked};
-ghost use Rattle.value_model.specs.Parts.{AreSortedParts};
+ghost use Rattle.model_build.specs.Parts.{AreSortedParts};
 ghost use Rattle.theory_steps.specs.Progress.{AreParts};
 ghost use Rattle.theory_steps.specs.Shown.{IsMarkedLeaf};
 

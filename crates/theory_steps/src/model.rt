@@ -3,7 +3,7 @@ ghost use Rattle.std.specs.Prelude.{◌≡◌, length, IfOk};
 ghost use Rattle.smt_meaning.specs.Interpretation.{AreTablesFor};
 ghost use Rattle.smt_meaning.specs.Stack.{signature_of};
 ghost use Rattle.model_build.specs.Building.{AreGiven};
-ghost use Rattle.value_model.specs.Parts.{AreSortedParts};
+ghost use Rattle.model_build.specs.Parts.{AreSortedParts};
 ghost use Rattle.theory_steps.specs.Numbering.{IsWhole};
 ghost use Rattle.theory_steps.specs.Found.{IsFound};
 
@@ -11,12 +11,11 @@ use crate::held::Held;
 use crate::values::values_of;
 use atom_numbers::AtomNumbers;
 use log_value::{Verdict, tables_make_true};
-use model_build::{Clash, Given};
+use model_build::{Clash, Given, Modelled, PlaceValues, given_values, model_from};
 use scope_stack::Stack;
 use smt_laws::flat_says_the_same;
 use smt_meaning::Interp;
 use std::alloc::{AllocError, Global};
-use value_model::{Modelled, PlaceValues, given_values, model_from};
 
 /// What is found where the values meet all bounds.
 #[derive(Drop)]

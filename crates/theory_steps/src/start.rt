@@ -8,7 +8,7 @@ ghost use Rattle.search_port.specs.State.{atom_at};
 ghost use Rattle.stack_atoms.specs.Marks.{AreStackParts};
 ghost use Rattle.check_atoms.specs.Numbering.{IsNormal};
 ghost use Rattle.check_atoms.specs.OfStack.{AreCheckAtoms};
-ghost use Rattle.value_model.specs.Parts.{AreSortedParts};
+ghost use Rattle.model_build.specs.Parts.{AreSortedParts};
 ghost use Rattle.bound_log.specs.Atoms.{Knows, KnowsOneMore, KnowsTheSame};
 ghost use Rattle.bound_log.specs.Columns.{AddsColumns, HasColumnsOf};
 ghost use Rattle.theory_steps.specs.Begin.{IsOfBool, IsTruthOfBool, IsBegun};

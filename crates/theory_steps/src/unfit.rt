@@ -10,10 +10,10 @@ use crate::parts::{Parts, Progress};
 use crate::step::{Step, stop, stop_seeing};
 use crate::values::values_of;
 use exact_values::Unshown;
+use model_build::PlaceValues;
 use model_ranges::{InModel, shown_in_model};
 use search_port::Budget;
 use smt_meaning::RangeSeen;
-use value_model::PlaceValues;
 
 /// Whether a place is marked.
 fn is_marked_at(marks: &[bool], place: usize) -> bool

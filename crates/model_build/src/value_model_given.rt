@@ -7,12 +7,12 @@ ghost use Rattle.model_build.specs.declared.given.Given.TheVariants.{InRange};
 ghost use Rattle.model_build.specs.Given.{given_at};
 ghost use Rattle.model_build.specs.Building.{is_given_of, AreGiven};
 ghost use Rattle.stack_atoms.specs.Parts.{IsMarked};
-ghost use Rattle.value_model.specs.Parts.{AreSortedParts};
-ghost use Rattle.value_model.specs.Values.{HaveValues, in_the_range, chosen, IsPlaceGiven, IsNextWorkedOut, GiveChosen, GiveNoOthers};
-ghost use Rattle.value_model.specs.WorkedOut.{is_worked_out, worked_out, AreWorkedOut};
+ghost use Rattle.model_build.specs.Parts.{AreSortedParts};
+ghost use Rattle.model_build.specs.Values.{HaveValues, in_the_range, chosen, IsPlaceGiven, IsNextWorkedOut, GiveChosen, GiveNoOthers};
+ghost use Rattle.model_build.specs.WorkedOut.{is_worked_out, worked_out, AreWorkedOut};
 
+use crate::Given;
 use crate::numbers::{number_given, operated};
-use model_build::Given;
 use scope_stack::Stack;
 use smt_meaning::{Head, Operator, Sort, TermId, Value};
 use std::alloc::{AllocError, Global};

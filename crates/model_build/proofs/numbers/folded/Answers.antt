@@ -1,8 +1,8 @@
 use Rattle.std.proofs.Common.{map, drop, ap, sym, ◌∙◌}
 use Rattle.model_build.specs.Given.{given_at}
-use Rattle.value_model.specs.WorkedOut.{folded}
-use Rattle.value_model.proofs.Operators.{folded_none}
-use Rattle.value_model.proofs.numbers.folded.Goals as goal
+use Rattle.model_build.specs.WorkedOut.{folded}
+use Rattle.model_build.proofs.Operators.{folded_none}
+use Rattle.model_build.proofs.numbers.folded.Goals as goal
 
 pub returns-in-None : goal.returns-in-None
 returns-in-None c =

@@ -4,7 +4,7 @@ use Rattle.std.specs.Prelude.{ℤ, ◌*ℤ◌, None}
 use Rattle.smt_meaning.specs.declared.terms.Operator.{Operator}
 use Rattle.smt_meaning.specs.declared.terms.Operator.TheVariants.{True, False, Not, And, Or, Xor, Implies, Equal, Distinct, Ite, Add, Subtract, Multiply, AtMost, Less, AtLeast, Greater}
 use Rattle.model_build.specs.declared.given.Given.{Given}
-use Rattle.value_model.specs.WorkedOut.{combined, folded}
+use Rattle.model_build.specs.WorkedOut.{combined, folded}
 
 pub times_of : (o : Operator) (m n : ℤ) → (o ≡ Add → ⊥) → (o ≡ Subtract → ⊥) → combined o m n ≡ m *ℤ n
 times_of Add m n a s = absurd (a refl)

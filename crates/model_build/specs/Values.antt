@@ -15,7 +15,7 @@ use Rattle.model_build.specs.declared.given.Given.TheVariants.{Unmarked, InRange
 use Rattle.model_build.specs.Given.{given_at, head_of}
 use Rattle.model_build.specs.Building.{is_given_of}
 use Rattle.stack_atoms.specs.Parts.{IsMarked}
-use Rattle.value_model.specs.WorkedOut.{is_worked_out, worked_out, IsWorkedOut}
+use Rattle.model_build.specs.WorkedOut.{is_worked_out, worked_out, IsWorkedOut}
 
 -- the number, or the least in the range
 abbrev pub in_the_range : ℤ → ℤ

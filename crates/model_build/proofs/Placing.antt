@@ -20,9 +20,9 @@ use Rattle.model_build.proofs.Reading.{givens-pick}
 use Rattle.stack_atoms.specs.Parts.{IsMarked}
 use Rattle.stack_atoms.proofs.Places.{Picked, picked}
 use Rattle.scope_stack.specs.Facts.{AreSorts}
-use Rattle.value_model.specs.Parts.{AreSortedParts}
-use Rattle.value_model.specs.WorkedOut.{is_worked_out, worked_out, IsWorkedOut, AreWorkedOut}
-use Rattle.value_model.specs.Values.{GiveNoOthers, chosen, AllWorkedOut, IsNextWorkedOut, GiveChosen, IsPlaceGiven, AllGiven}
+use Rattle.model_build.specs.Parts.{AreSortedParts}
+use Rattle.model_build.specs.WorkedOut.{is_worked_out, worked_out, IsWorkedOut, AreWorkedOut}
+use Rattle.model_build.specs.Values.{GiveNoOthers, chosen, AllWorkedOut, IsNextWorkedOut, GiveChosen, IsPlaceGiven, AllGiven}
 
 marked_given : (g : Given) (s : Sort) → is_given_of g s ≡ true → is_marked g ≡ true
 marked_given Unmarked s h = absurd cc

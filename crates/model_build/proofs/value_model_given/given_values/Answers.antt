@@ -5,9 +5,9 @@ use Rattle.stack_atoms.specs.Parts.{IsMarked}
 use Rattle.smt_meaning.specs.Term.{Tree}
 use Rattle.smt_meaning.specs.Stack.{signature_of}
 use Rattle.model_build.specs.declared.given.Given.{Given}
-use Rattle.value_model.specs.Values.{AllGiven, AllWorkedOut, IsPlaceGiven, IsNextWorkedOut}
-use Rattle.value_model.proofs.Placing.{all_pushed, give_no_others, are_given, give_chosen, worked_out_pushed, are_worked_out}
-use Rattle.value_model.proofs.given.given_values.Goals as goal
+use Rattle.model_build.specs.Values.{AllGiven, AllWorkedOut, IsPlaceGiven, IsNextWorkedOut}
+use Rattle.model_build.proofs.Placing.{all_pushed, give_no_others, are_given, give_chosen, worked_out_pushed, are_worked_out}
+use Rattle.model_build.proofs.value_model_given.given_values.Goals as goal
 
 pub loop-place-preserved : goal.loop-place-preserved
 loop-place-preserved c =

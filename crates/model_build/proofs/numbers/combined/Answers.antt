@@ -1,8 +1,8 @@
 use Rattle.std.proofs.Common.{◌≡◌, ap, sym, ◌∙◌, rules}
 use Rattle.std.specs.Prelude.{◌*ℤ◌}
-use Rattle.value_model.specs.WorkedOut.{kept}
-use Rattle.value_model.proofs.Operators.{times_of}
-use Rattle.value_model.proofs.numbers.combined.Goals as goal
+use Rattle.model_build.specs.WorkedOut.{kept}
+use Rattle.model_build.proofs.Operators.{times_of}
+use Rattle.model_build.proofs.numbers.combined.Goals as goal
 
 pub returns-in_default : goal.returns-in_default
 returns-in_default c =

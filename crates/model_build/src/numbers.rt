@@ -3,9 +3,9 @@ ghost use Rattle.std.specs.Prelude.{◌≡◌, ◌<◌, length, map, true, All, 
 ghost use Rattle.smt_meaning.specs.declared.values.Sort.TheVariants.{Int as Ints};
 ghost use Rattle.model_build.specs.Given.{given_at};
 ghost use Rattle.model_build.specs.Building.{is_given_of};
-ghost use Rattle.value_model.specs.WorkedOut.{kept, value_number, given_number, number_given, combined_with, stepped, folded, alone, operated};
+ghost use Rattle.model_build.specs.WorkedOut.{kept, value_number, given_number, number_given, combined_with, stepped, folded, alone, operated};
 
-use model_build::Given;
+use crate::Given;
 use smt_meaning::{Operator, TermId, Value};
 
 /// The number, where it is in the range.

@@ -6,8 +6,8 @@ use Rattle.smt_meaning.specs.Interpretation.{AreTablesFor}
 use Rattle.model_build.specs.declared.given.Given.{Given}
 use Rattle.model_build.specs.Given.{IsClash}
 use Rattle.model_build.specs.Building.{GiveValues}
-use Rattle.value_model.specs.declared.model.Modelled.{Modelled}
-use Rattle.value_model.specs.declared.model.Modelled.TheVariants.{Clash, Tables}
+use Rattle.model_build.specs.declared.model.Modelled.{Modelled}
+use Rattle.model_build.specs.declared.model.Modelled.TheVariants.{Clash, Tables}
 
 -- tables for the declarations that give each place its value, or two applications that no tables give what they are given
 abbrev pub IsModelled : List Declaration → List Tree → List Given → Modelled → Type 0

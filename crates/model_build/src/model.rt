@@ -2,9 +2,9 @@
 ghost use Rattle.std.specs.Prelude.{IfOk};
 ghost use Rattle.smt_meaning.specs.Stack.{signature_of};
 ghost use Rattle.model_build.specs.Building.{AreGiven};
-ghost use Rattle.value_model.specs.Modelled.{IsModelled};
+ghost use Rattle.model_build.specs.Modelled.{IsModelled};
 
-use model_build::{Clash, Given, build, first_clash};
+use crate::{Clash, Given, build, first_clash};
 use scope_stack::Stack;
 use smt_meaning::Interp;
 use std::alloc::{AllocError, Global};

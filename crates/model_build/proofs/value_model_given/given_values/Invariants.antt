@@ -1,6 +1,6 @@
 use Rattle.std.proofs.Common.{◌≡◌, length}
-use Rattle.value_model.specs.Values.{AllGiven, AllWorkedOut}
-use Rattle.value_model.proofs.given.given_values.Given as goal
+use Rattle.model_build.specs.Values.{AllGiven, AllWorkedOut}
+use Rattle.model_build.proofs.value_model_given.given_values.Given as goal
 
 abbrev pub invariant-loop-place : goal.invariant-loop-place
 invariant-loop-place l = record {

@@ -1,4 +1,0 @@
-pub mod Parts
-pub mod WorkedOut
-pub mod Values
-pub mod Modelled
