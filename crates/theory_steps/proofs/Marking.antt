@@ -17,7 +17,7 @@ use Rattle.search_port.specs.Valid.{IsOf}
 use Rattle.smt_laws.specs.Flat.{flat, SaysTheSame, FlatSaysTheSame}
 use Rattle.model_eval.specs.Walk.{is_marked}
 use Rattle.model_build.specs.Parts.{AreSortedParts}
-use Rattle.log_value.specs.Atoms.{HasMarkedPlaces}
+use Rattle.exact_model.specs.Atoms.{HasMarkedPlaces}
 
 pub marked_within : (marks : List Bool) (p : ℕ) → is_marked marks p ≡ true → p < length marks
 marked_within marks p h = elim (cases_lt p (length marks)) [ inl less ↦ less | inr past ↦ absurd (clash (sym (get_or_past marks p false past)) h) ]

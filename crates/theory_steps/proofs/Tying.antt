@@ -26,7 +26,7 @@ use Rattle.bound_clauses.specs.Laws.{IsNumber}
 use Rattle.branch_lemmas.specs.Clauses.{AreTied}
 use Rattle.closure_log.specs.Seen.{state_of}
 use Rattle.model_eval.specs.Walk.{is_marked}
-use Rattle.log_value.specs.Atoms.{HasMarkedPlaces}
+use Rattle.exact_model.specs.Atoms.{HasMarkedPlaces}
 use Rattle.theory_steps.specs.declared.held.Held.{Held}
 use Rattle.theory_steps.specs.Numbering.{IsWhole}
 use Rattle.theory_steps.specs.Pairs.{IsFit}

@@ -8,7 +8,7 @@ use Rattle.search_port.specs.Valid.{IsOf}
 use Rattle.smt_laws.specs.Flat.{flat}
 use Rattle.atom_numbers.specs.Atoms.{Atoms}
 use Rattle.bound_log.specs.Growth.{IsProper}
-use Rattle.log_value.specs.Atoms.{HasMarkedPlaces}
+use Rattle.exact_model.specs.Atoms.{HasMarkedPlaces}
 use Rattle.closure_log.specs.Seen.{IsOfTerms, IsSetting}
 use Rattle.theory_steps.specs.declared.held.Held.{Held}
 use Rattle.theory_steps.specs.declared.numbering.NewAtom.{NewAtom}

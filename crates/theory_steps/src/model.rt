@@ -10,7 +10,7 @@ ghost use Rattle.theory_steps.specs.Found.{IsFound};
 use crate::held::Held;
 use crate::values::values_of;
 use atom_numbers::AtomNumbers;
-use log_value::{Verdict, tables_make_true};
+use exact_model::{Verdict, tables_make_true};
 use model_build::{Clash, Given, Modelled, PlaceValues, given_values, model_from};
 use scope_stack::Stack;
 use smt_laws::flat_says_the_same;

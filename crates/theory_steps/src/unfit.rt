@@ -9,9 +9,8 @@ ghost use Rattle.theory_steps.specs.Steps.{IsStep};
 use crate::parts::{Parts, Progress};
 use crate::step::{Step, stop, stop_seeing};
 use crate::values::values_of;
-use exact_values::Unshown;
+use exact_model::{InModel, Unshown, shown_in_model};
 use model_build::PlaceValues;
-use model_ranges::{InModel, shown_in_model};
 use search_port::Budget;
 use smt_meaning::RangeSeen;
 

@@ -3,7 +3,7 @@ use Rattle.smt_meaning.specs.Declaration.{Declaration}
 use Rattle.smt_meaning.specs.Interpretation.{AreTablesFor}
 use Rattle.smt_laws.specs.Flat.{SaysTheSame}
 use Rattle.closure_log.specs.Seen.{state_of}
-use Rattle.log_value.specs.Verdict.{AreModels}
+use Rattle.exact_model.specs.Verdict.{AreModels}
 use Rattle.theory_steps.proofs.model.evaluate.Goals as goal
 
 pub returns-in-AllTrue : goal.returns-in-AllTrue

@@ -8,7 +8,7 @@ use Rattle.smt_meaning.specs.declared.clauses.Atom.TheVariants.{AtMost}
 use Rattle.search_port.specs.Calls.{IsLemma}
 use Rattle.closure_log.specs.Seen.{state_of}
 use Rattle.model_eval.specs.Walk.{is_marked}
-use Rattle.log_value.specs.Atoms.{HasMarkedPlaces}
+use Rattle.exact_model.specs.Atoms.{HasMarkedPlaces}
 use Rattle.theory_steps.specs.Numbering.{table_of}
 use Rattle.theory_steps.specs.Shown.{IsMarkedLeaf}
 use Rattle.theory_steps.proofs.Saying.{pushed_at}

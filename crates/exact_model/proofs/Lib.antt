@@ -1,0 +1,8 @@
+pub mod Forms
+pub mod Comparing
+pub mod Heads
+pub mod Spreading
+pub mod Deciding
+pub mod Giving
+pub mod Showing
+pub mod Listing

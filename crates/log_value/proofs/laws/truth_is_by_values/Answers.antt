@@ -1,5 +1,0 @@
-use Rattle.log_value.proofs.Deciding.{literal_is}
-use Rattle.log_value.proofs.laws.truth_is_by_values.Goals as goal
-
-pub returns : goal.returns
-returns c = λ trees marks I values atoms l are all less. literal_is trees marks I values are atoms all l less

@@ -1,6 +1,0 @@
-use Rattle.std.proofs.Common.{◌≡◌, ◌++◌, drop}
-use Rattle.log_value.specs.Places.{marked_from, marked_places}
-use Rattle.log_value.proofs.values.marked_places.Given as goal
-
-abbrev pub invariant-loop-place : goal.invariant-loop-place
-invariant-loop-place l = l.places.items ++ marked_from l.place (drop l.place l.marks) ≡ marked_places l.marks
