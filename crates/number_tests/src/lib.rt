@@ -1,5 +1,0 @@
-//! Tests of numbers, fractions and pivots.
-#![tactic(auto)]
-
-#[cfg(test)]
-mod tests;
