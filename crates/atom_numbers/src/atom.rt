@@ -1,3 +1,4 @@
+//! An atom of any kind, by the number that its own table gives it.
 ghost use Rattle.std.specs.Prelude.{◌≡◌};
 ghost use Rattle.atom_numbers.specs.Numbers.{numbered_of};
 

@@ -1,3 +1,4 @@
+//! Atoms of two kinds, with their hash: the truth of a term, and the equality of two.
 ghost use Rattle.std.specs.Prelude.{◌≡◌, ◌↔◌, IsTrue};
 ghost use Rattle.atom_table.specs.Compact.{atom_hash};
 

@@ -1,4 +1,26 @@
-//! Literals of a log, told to bounds on sums and taken back, and conflicts of these bounds as clauses of the theory.
+//! Literals of a log, told to bounds on sums and taken back, and conflicts of these bounds as
+//! clauses of the theory.
+//!
+//! `BoundLog`: the bounds told are exactly those that the literals say. A conflict is a clause that
+//! is false in the log and true everywhere, as is what `whole_conflict` gives; where values are
+//! whole and meet all bounds, each literal on a bound is true of them.
+//!
+//! `branch_line`, `grid`: the row of the least variable of a term whose value isn't whole, or the
+//! whole grid: an identity of the sums that the values meet, where each bound is one that a known
+//! atom or its complement says, and what isn't basic is 0 or such a number.
+//!
+//! `add_leaf`, `pending_grid`: a term alone gets a variable without bounds. Where making an atom
+//! known, or telling a literal, was refused for the range, taking that bound in is the next step of
+//! the grid and doesn't fit.
+//!
+//! `check`: values move by next steps of the grid until they meet all bounds told, or a clause that
+//! the log breaks is found, or a step that leaves the range or is a pivot past the room. Where
+//! lines are kept, one is added for each pivot: by Bland's rule, in a row over known atoms as
+//! above.
+//!
+//! `implied`: of an open atom, where it gives one, a clause that is true under every
+//! interpretation, whose literals are false in the log but at most one, which is open; what is told
+//! stays.
 #![tactic(auto)]
 
 mod implied;

@@ -1,3 +1,4 @@
+//! A bound by the number of its sum and its threshold, with its hash.
 ghost use Rattle.std.specs.Prelude.{◌≡◌, ◌↔◌, IsTrue};
 ghost use Rattle.bound_table.specs.Hash.{bound_hash};
 

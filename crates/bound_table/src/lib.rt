@@ -1,4 +1,8 @@
 //! Numbers of bounds: that a sum, given by its number, is at most a threshold.
+//!
+//! `BoundTable`: equal bounds have one number, each number one bound; want of memory changes
+//! nothing. Where no sum has two numbers, different bounds are different atoms, and they stay so
+//! while sums get numbers.
 #![tactic(auto)]
 
 mod bound;

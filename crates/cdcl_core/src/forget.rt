@@ -1,4 +1,5 @@
-// Learnt clauses that aren't used are forgotten, but for short ones and those by which a step was forced.
+//! Learnt clauses that aren't used are forgotten, but for short ones and those by which a step was
+//! forced.
 ghost use Rattle.std.specs.Prelude.{◌≡◌, ℕ, ◌<◌, ◌≤◌, true, false, All, Some, List, length, slice_index_or, IfOk};
 ghost use Rattle.clause_store.specs.Found.{HasKept};
 ghost use Rattle.cdcl_core.specs.Turns.{IsTidied};

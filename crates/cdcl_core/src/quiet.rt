@@ -1,4 +1,4 @@
-// How far a clause that is added asks to take decisions back.
+//! How far a clause that is added asks to take decisions back.
 ghost use Rattle.std.specs.Prelude.{◌≡◌, ℕ, ◌<◌, ◌≤◌, min, max, List, Contains, All, length};
 ghost use Rattle.literals.specs.Signed.{Signed};
 ghost use Rattle.clause_store.specs.Trail.{Assigns};

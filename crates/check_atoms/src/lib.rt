@@ -1,4 +1,9 @@
-//! The parts of a stack's assertions, and the atoms that are numbered for its check: of all kinds, with integers and without.
+//! The parts of a stack's assertions, and the atoms that are numbered for its check: of all kinds,
+//! with integers and without.
+//!
+//! `numbered`: exactly the atoms of a stack's parts, each once: truths, equalities, and bounds in
+//! normal form; or exactly which folding leaves the range. They are all atoms that the definition
+//! gives the stack, but for the equalities of Bools.
 #![tactic(auto)]
 
 mod atoms;

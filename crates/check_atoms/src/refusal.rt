@@ -1,3 +1,4 @@
+//! Why the atoms of a stack can't be numbered.
 use bound_clauses::Order;
 use smt_meaning::TermId;
 use std::alloc::AllocError;

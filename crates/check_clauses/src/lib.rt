@@ -1,4 +1,9 @@
-//! The first clauses of a search over a stack with integers: those that say of each part what its operator does, and that the assertions are true.
+//! The first clauses of a search over a stack with integers: those that say of each part what its
+//! operator does, and that the assertions are true.
+//!
+//! `check_clauses`: in the store that a search begins with each clause follows, each assertion is
+//! one, of each part the clauses of its operator are kept, and together they force every node
+//! clause of every part.
 #![tactic(auto)]
 
 mod bools;

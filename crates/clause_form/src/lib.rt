@@ -1,6 +1,16 @@
-//! The clauses that say in the truth of terms what an assertion says.
+//! The clauses of a connective: what a term that is a Bool says of its arguments, in the truths of
+//! terms (Tseitin, 1968). Laws stand beside the code that puts them.
 //!
-//! The clauses of a node, by operator, and the law that they are true, as the contract of a function that does nothing.
+//! `put_node`, `Clauses`, `node_clauses_hold`: exactly the clauses of a node are appended, over the
+//! numbers of its own truth and its arguments'; each is true of the node, over these alone, and has
+//! no atom twice.
+//!
+//! `node_clauses_are_true`, `node_clauses_are_over`, `node_clauses_are_apart` and the same of
+//! `wide_clauses`: the clauses by operator are true whatever truth values the arguments have, over
+//! these and the node's own, and no place stands twice in one.
+//!
+//! `node_clauses_force`, `more_force_as_much`: propagation over a node's clauses reaches all that
+//! is true of the node; more clauses force as much.
 #![tactic(auto)]
 
 ghost use Rattle.clause_form.specs.NodeClausesLaws.{NodeClausesAreApart, NodeClausesAreOver, NodeClausesAreTrue, WideClausesAreApart, WideClausesAreOver, WideClausesAreTrue};

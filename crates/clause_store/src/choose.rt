@@ -1,4 +1,4 @@
-// Which two literals of a new clause are watched.
+//! Which two literals of a new clause are watched.
 ghost use Rattle.std.specs.Prelude.{◌≡◌, ℕ, ◌+◌, ◌*◌, ◌^◌, ◌<◌, ◌≤◌, ◌⊎◌, true, false, List, All, Contains, length, OnOk, OnErr, vec_capacity};
 ghost use Rattle.clause_store.specs.Gaining.{GainsEntry, KeepsUp};
 ghost use Rattle.clause_store.specs.Empties.{all_filled};

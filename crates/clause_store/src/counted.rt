@@ -1,4 +1,5 @@
-// Kept clauses, and the literals that are decided or follow from them, by two watched literals a clause; and how often a clause was looked at.
+//! Kept clauses, and the literals that are decided or follow from them, by two watched literals a
+//! clause; and how often a clause was looked at.
 ghost use Rattle.std.specs.List.Sorted.{IsNonDecreasingBy};
 ghost use Rattle.std.specs.Prelude.{◌≡◌, ℕ, ◌+◌, ◌^◌, ◌<◌, ◌≤◌, true, false, List, [], ◌∷◌, ◌++◌, All, IfSome, IfNone, IfOk, drop, OnOk, OnErr, Some, length, max, min, slice_index_or};
 ghost use Rattle.clause_store.specs.Trail.{Assigns, IsOpen, StatusOf, up_to};

@@ -1,4 +1,4 @@
-// Keeps the clauses up to a level, with nothing assigned.
+//! Keeps the clauses up to a level, with nothing assigned.
 ghost use Rattle.std.specs.Prelude.{◌≡◌, ℕ, true, false, [], ◌+◌, ◌<◌, ◌≤◌, ◌^◌, length, int_le, nat_lt, pos, vec_capacity};
 ghost use Rattle.clause_store.specs.Stored.{up_to_level};
 ghost use Rattle.clause_store.specs.Watching.{kept_from};

@@ -1,4 +1,4 @@
-// Kept clauses without literals: while there is one, propagation answers it.
+//! Kept clauses without literals: while there is one, propagation answers it.
 ghost use Rattle.std.specs.Prelude.{◌≡◌, true, false, ℕ, ◌<◌, ◌^◌, List, [], IfSome, IfNone, length};
 ghost use Rattle.literals.specs.Signed.{Signed};
 ghost use Rattle.clause_store.specs.Entries.{entry_at};

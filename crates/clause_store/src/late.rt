@@ -1,4 +1,5 @@
-// Catches up with steps of lower depths, which a decision was taken before: there each clause is watched so that it stays well at each depth.
+//! Catches up with steps of lower depths, which a decision was taken before: there each clause is
+//! watched so that it stays well at each depth.
 ghost use Rattle.std.specs.Prelude.{◌≡◌, ℕ, true, false, ◌+◌, ◌*◌, ◌<◌, ◌≤◌, ◌⊎◌, List, All, Contains, length, slice_set, vec_capacity};
 ghost use Rattle.clause_store.specs.declared.waits.Wait.{Wait};
 ghost use Rattle.literals.specs.Signed.{Signed, opposite, packed};

@@ -1,4 +1,4 @@
-// The watches of one literal.
+//! The watches of one literal.
 ghost use Rattle.std.specs.Prelude.{◌≡◌, ℕ, ◌+◌, ◌<◌, ◌≤◌, ◌*◌, OnOk, List, [], ◌∷◌, ◌++◌, length, slice_index_or, slice_set, true, false, vec_len, vec_capacity};
 ghost use Rattle.std.specs.List.{swap_remove};
 ghost use Rattle.literals.specs.Signed.{Signed, packed};

@@ -1,4 +1,4 @@
-// Every clause's literals in one arena, and its two watched literals.
+//! Every clause's literals in one arena, and its two watched literals.
 ghost use Rattle.std.specs.Prelude.{◌≡◌, ℕ, ◌+◌, ◌<◌, ◌≤◌, ◌^◌, List, [], ◌∷◌, ◌++◌, length, slice_set, true, false, OnOk, OnErr};
 ghost use Rattle.literals.specs.Signed.{Signed};
 

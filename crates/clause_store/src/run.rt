@@ -1,4 +1,48 @@
-// Propagation by watches.
+//! Propagation: what kept clauses force is put on the trail, until they force nothing more or one
+//! of them is false.
+//!
+//! The idea is Chaff's (Moskewicz, Madigan, Zhao, Zhang and Malik, DAC 2001), in the form that
+//! MiniSat gave it (Eén and Sörensson, SAT 2003). A clause forces a literal, or is false, only once
+//! all of its literals but one are false, so only once one of any two of them is. So each clause of
+//! two literals or more is watched by two of them (a clause of one waits to be forced), and when a
+//! literal becomes false only the clauses in its own list are looked at: `turn` takes the list out,
+//! `sweep` goes through it, and it is put back.
+//!
+//! Each watch of a literal that became false comes to one of these:
+//!
+//! - a literal of the clause that stands beside the watch (its blocker) is true: the watch stays,
+//!   without a look at the clause;
+//! - the clause was forgotten, or isn't watched by this literal any more: the watch goes;
+//! - the clause has another literal that isn't false: it is watched by that one, in its list;
+//! - it has none, and its other watched literal is open: that one is forced, with the clause as its
+//!   reason;
+//! - it has none, and the other is false too: the clause is false, and the run ends with it.
+//!
+//! In a clause of two literals the other one is all that there is to find, so it isn't looked at.
+//!
+//! Undoing decisions changes no watch. That rests on the order in which steps are gone through.
+//! Where a clause keeps a watch that is false, some literal of it is true, and as long as the false
+//! one is of the present depth, whatever takes the true one back takes the false one back too. A
+//! literal that became false at a lower depth (a decision was taken before a fixpoint) doesn't have
+//! this: the true literal may go while it stays. So `catch_up` goes through such steps first, and
+//! `sweep_late` watches the clause by literals that are well at each depth: by two that aren't
+//! false, or, where all but one are false, by the one and the one that became false last; then the
+//! clause waits, from the depth on at which that came about, for its one literal to be forced.
+//! `drive` begins by forcing what waits.
+//!
+//! What holds between two calls (`Rested`): with the decisions above any depth undone, each kept
+//! clause is settled by the steps gone through, or waits from that depth or a lower one. Settled is
+//! a clause with a true literal, or neither of whose watched literals is false by those steps.
+//!
+//! Why that is right. A literal comes on the trail only in `step` and `force`, where every other
+//! literal of a kept clause is false: so each is forced by its reason. At the end every step was
+//! gone through, so each kept clause has a true literal, or two literals that aren't false: none is
+//! false, none forces anything. A run ends, since each turn goes through one step more, and no atom
+//! is put on the trail twice.
+//!
+//! What a caller may rely on is said by `Store::propagate`, and how often clauses are looked at by
+//! `CountedStore`. Nothing here takes memory: `add` made room in the list of each literal for each
+//! clause that has it, and for each clause to wait once.
 ghost use Rattle.std.specs.Prelude.{◌≡◌, ℕ, true, false, ◌<◌, ◌≤◌, List, [], All, drop, length, vec_capacity};
 ghost use Rattle.clause_store.specs.Watching.{IsWatching, SameShape, Grows, kept_from};
 ghost use Rattle.clause_store.specs.Entries.{watches_of, bare, rooms};

@@ -1,4 +1,5 @@
-// Kept clauses, and the literals that are decided or follow from them, whatever the count of looks at clauses.
+//! Kept clauses, and the literals that are decided or follow from them, whatever the count of looks
+//! at clauses.
 ghost use Rattle.std.specs.List.Sorted.{IsNonDecreasingBy};
 ghost use Rattle.std.specs.Prelude.{◌≡◌, ℕ, ◌+◌, ◌^◌, ◌<◌, ◌≤◌, true, false, List, [], ◌∷◌, ◌++◌, All, IfOk, OnOk, OnErr, Some, length, max, slice_index_or};
 ghost use Rattle.clause_store.specs.Trail.{Assigns, IsOpen, StatusOf, up_to};

@@ -1,4 +1,4 @@
-// One pass over the watches of a literal that became false.
+//! One pass over the watches of a literal that became false.
 ghost use Rattle.std.specs.Prelude.{◌≡◌, ℕ, true, false, ◌+◌, ◌*◌, ◌<◌, ◌≤◌, ◌⊎◌, List, [], ◌∷◌, ◌++◌, All, Contains, length, slice_set, IfSome, IfNone};
 ghost use Rattle.literals.specs.Signed.{Signed, packed};
 ghost use Rattle.clause_store.specs.Trail.{Assigns};

@@ -1,4 +1,4 @@
-// The literals decided or reached, in order, and the truth value that each atom has by them.
+//! The literals decided or reached, in order, and the truth value that each atom has by them.
 ghost use Rattle.std.specs.Prelude.{◌≡◌, ℕ, true, false, ◌+◌, ◌^◌, ◌<◌, ◌≤◌, Some, List, [], ◌∷◌, ◌++◌, All, take, length, max, vec_len, vec_capacity, slice_set, slice_index_or, OnOk, OnErr};
 ghost use Rattle.clause_store.specs.Trail.{Assigned, IsOpen, IsTrueOn, MarkOf, Assigns, StatusOf, up_to, mark_of};
 ghost use Rattle.literals.specs.Signed.{Signed, opposite};

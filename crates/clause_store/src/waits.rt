@@ -1,4 +1,4 @@
-// Clauses that wait for their one literal to be forced.
+//! Clauses that wait for their one literal to be forced.
 ghost use Rattle.std.specs.Prelude.{◌≡◌, ◌⊎◌, ℕ, ◌<◌, ◌≤◌, true, List, [], ◌∷◌, ◌++◌, All, IfSome, IfNone, Contains, vec_len, vec_capacity};
 ghost use Rattle.clause_store.specs.Looks.{AreApart};
 ghost use Rattle.clause_store.specs.Room.{rows_of};

@@ -1,4 +1,9 @@
-//! Literals of a log told to a closure of congruence, with what they say of the terms of a stack, and what is broken or follows.
+//! Literals of a log told to a closure of congruence, with what they say of the terms of a stack,
+//! and what is broken or follows.
+//!
+//! `ClosureLog`, `Scan`, `infer`: literals told in order, over atoms of all kinds, with what they
+//! say of terms; conflicts, clauses by which open literals follow, undoing. All stays so while more
+//! atoms get numbers.
 #![tactic(auto)]
 
 ghost use Rattle.closure_log.specs.Laws.{StaysTold};

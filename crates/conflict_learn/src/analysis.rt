@@ -1,4 +1,5 @@
-// Which steps of the trail a false clause comes from: each step seen either waits, to stay in the learnt clause, or is resolved by its reason, a premise.
+//! Which steps of the trail a false clause comes from: each step seen either waits, to stay in the
+//! learnt clause, or is resolved by its reason, a premise.
 ghost use Rattle.std.specs.Prelude.{◌≡◌, ◌≢◌, ℕ, ◌+◌, ◌<◌, ◌≤◌, ◌⊎◌, ◌∷◌, ◌++◌, [], true, false, List, All, Contains, Option, Some, None, max, length, vec_len, count_by, slice_index_or, replicate, IfOk, OnOk};
 ghost use Rattle.literals.specs.Signed.{Signed, opposite};
 ghost use Rattle.clause_store.specs.Stored.{Kept};

@@ -1,4 +1,4 @@
-// An analysis begins with the false clause.
+//! An analysis begins with the false clause.
 ghost use Rattle.std.specs.Prelude.{◌≡◌, ℕ, ◌<◌, ◌≤◌, List, [], All, Contains, length, replicate, OnOk};
 ghost use Rattle.literals.specs.Signed.{Signed};
 ghost use Rattle.clause_store.specs.Stored.{AllFalse};

@@ -1,4 +1,4 @@
-// The steps whose literals stay in the learnt clause.
+//! The steps whose literals stay in the learnt clause.
 ghost use Rattle.std.specs.Prelude.{◌≡◌, ℕ, ◌∷◌, ◌<◌, ◌≤◌, List, All, map, length, OnOk};
 ghost use Rattle.conflict_learn.specs.Analysing.{step_at, falsified, with_place, IsSound, IsGrounded, IsOnly, Shrinks};
 

@@ -1,4 +1,40 @@
-// Learning from a false clause: the clause of the first unique implication point, without the literals that follow from its others.
+//! Learning: from a kept clause that is false, a clause that follows from kept clauses and forbids
+//! what led there.
+//!
+//! The scheme is GRASP's (Marques-Silva and Sakallah, IEEE Transactions on Computers, 1999), with
+//! the first unique implication point (Zhang, Madigan, Moskewicz and Malik, ICCAD 2001) and with
+//! minimization (Sörensson and Biere, SAT 2009).
+//!
+//! Each literal of the false clause is false by a step of the trail. Such a step is seen, and a
+//! seen step either waits or is resolved. To resolve it is to take its reason, the kept clause that
+//! forced it, as a premise: the other literals of that clause are false by steps at lower places,
+//! which are seen in turn. From the newest step down, those of the greatest depth are resolved
+//! until one of them alone waits: the first unique implication point (`uip`). Of the others that
+//! wait, those are resolved too that follow from the rest by their reasons (`minimize`), and all of
+//! depth 0. The learnt clause says that not all of the steps that still wait hold: first the
+//! literal of the unique implication point, then one of the deepest of the rest, then the others.
+//!
+//! Where the greatest depth is 0, nothing is left to wait, and the premises can't all be true: that
+//! is the empty clause.
+//!
+//! Why it follows. The marks alone carry the proof (`IsSound`): a step marked resolved follows, by
+//! one of the premises, from seen steps at lower places. So wherever the premises are true and the
+//! steps that wait hold, each seen step holds, by induction over the places; then every literal of
+//! the false clause is false, though it is a premise. No order of resolving comes into this. So
+//! which steps are resolved beside those of the greatest depth is free, and `minimize` promises
+//! nothing of its answers but that there is a reason to resolve by.
+//!
+//! Why it is of use. Only one literal of the clause has the greatest depth. With decisions taken
+//! back to `back_to`, the depth of the second, all but the first are false and the first is open:
+//! the clause forces it there. And it says something new: clauses that were quiet before the
+//! decision of the greatest depth don't give its first literal from its others, since that literal
+//! was open there.
+//!
+//! What a caller may rely on is said by `Learner::learn`: the store stays as it was; the literals
+//! and the premises, by their numbers, are lent until the next call. A literal of depth 0 never
+//! stands in a clause, but the clauses by which it holds count as premises, and so do their levels.
+//! A learner's lists are used again from one call to the next; marks are cleared over the length of
+//! the trail.
 ghost use Rattle.std.specs.Prelude.{◌≡◌, ℕ, ◌<◌, ◌≤◌, List, [], ◌∷◌, All, map, length, IfOk};
 ghost use Rattle.clause_store.specs.Stored.{AllFalse};
 ghost use Rattle.clause_store.specs.Found.{HasKept};

@@ -1,4 +1,5 @@
-// Minimization: which literals a learnt clause can do without, since they follow from its others by reasons. No contract rests on the answers, since each step left out is resolved.
+//! Minimization: which literals a learnt clause can do without, since they follow from its others
+//! by reasons. No contract rests on the answers, since each step left out is resolved.
 ghost use Rattle.std.specs.Prelude.{◌≡◌, ◌<◌, ◌≤◌, List, All, Some, length, IfSome, OnOk};
 ghost use Rattle.conflict_learn.specs.Analysing.{step_at, KnownBy};
 

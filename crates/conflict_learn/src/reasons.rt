@@ -1,4 +1,4 @@
-// What the store says of the steps of its trail.
+//! What the store says of the steps of its trail.
 ghost use Rattle.std.specs.Prelude.{◌≡◌, ℕ, ◌<◌, ◌≤◌, List, All, Contains, Option, Some, length, slice_index_or, ◌⊎◌};
 ghost use Rattle.literals.specs.Signed.{Signed, opposite};
 ghost use Rattle.clause_store.specs.Stored.{AllFalse, IsFalseOn};

@@ -1,3 +1,4 @@
+//! Why a term isn't judged to the end: it is refused, or memory is wanting.
 use smt_meaning::Refusal;
 use std::alloc::{AllocError, AllocFailed};
 use term_store::InternError;

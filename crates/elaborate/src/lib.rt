@@ -1,4 +1,8 @@
-//! The sort and the tree of a term, or its one refusal, in one pass over its tokens.
+//! The sort and the tree of a term, or its one refusal, in one pass over its tokens (SMT-LIB 2.6,
+//! sections 3.6 and 5.2).
+//!
+//! `term`, `body`: exactly what judging the term gives, with the names that it gives and the terms
+//! that it adds. A refusal or want of memory leaves names and terms as they were.
 #![tactic(auto)]
 
 ghost use Rattle.std.specs.Prelude.{◌≡◌, ◌<◌, [], List, length, IfOk, IfErr, OnOk, OnErr};

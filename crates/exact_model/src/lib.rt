@@ -1,9 +1,17 @@
-//! Values of terms that are exact: a numeral, sum, difference or product has the value of its linear form, also outside the range, and each other term one that is listed.
-//! Where each operator makes its term's value of those of its arguments, tables under which applications have their values give every term its exact value.
+//! Models whose numbers may be past the range: exact values of terms, the truth of a log's literals
+//! under tables, and models in which a number leaves the range.
 //!
-//! The truth of a log's literals under tables.
+//! `given_exactly`: what places are given by exact values: a numeral, sum, difference or product
+//! that of its linear form at the leaves' numbers, which may be past the range, each other term one
+//! that is listed; where each operator makes its term's value of its arguments' exact values.
 //!
-//! Models in which a number of a part leaves the range: tables that make each assertion true, where a grid gives the leaves their values.
+//! `tables_make_true`: whether tables make each literal of a log true, by one evaluation of the
+//! marked terms and exact sums; the first literal that they make false; the first term that leaves
+//! the range.
+//!
+//! `shown_in_model`: a model in which a number leaves the range: tables that make each assertion
+//! true, with the leaves' numbers from the variables of the bounds, and the part whose evaluation
+//! they refuse.
 #![tactic(auto)]
 
 mod atoms;

@@ -1,3 +1,5 @@
+//! The pool: clauses in the order in which they were shared, with who shared them. It keeps no
+//! history of the race; that is told by the contract of `race_cell` alone.
 ghost use Rattle.std.specs.Prelude.{◌≡◌, ◌+◌, ◌-◌, ◌≤◌, [], All, IfOk, OnOk, length, min, vec_len, vec_capacity};
 ghost use Rattle.smt_meaning.specs.Stack.{depth};
 ghost use Rattle.race_model.specs.declared.event.Entry.{Entry};

@@ -1,4 +1,15 @@
-//! Linear forms of Int terms.
+//! Linear forms of Int terms (Dutertre and de Moura, CAV 2006).
+//!
+//! `LinearForms::cover`, `form`, `cut`: the linear form of each term of a store, folded once from
+//! the left: exactly the definition's where no number of the folding leaves the range, else the
+//! place of the part at which it does, whose arguments' foldings stay in the range.
+//!
+//! Sums are in ascending order of places, without zero coefficients, and name no place past the
+//! term's own; want of memory keeps what was known.
+//!
+//! `LinearForms::difference`: the form of the difference of two terms, exactly the definition's
+//! where no number of the folding leaves the range; else the part at which one of the two leaves
+//! it, or that the pair does.
 #![tactic(auto)]
 
 mod coefficients;

@@ -1,4 +1,20 @@
 //! What literals say of terms, as steps of a closure, and the clauses that reasons of steps give.
+//!
+//! `add_truth_step`, `add_pair_step`, `add_node_steps`, `add_choice_steps`, `record_all`: exactly
+//! the steps that a literal says of terms; what is recorded for reasons that justify it stays
+//! justified, on an error too.
+//!
+//! `add_reasons`, `lemma_of`, `lemma_with`, and 7 laws: each such step holds under every
+//! interpretation that makes its literal true. A clash of justified steps is a clause that is true
+//! under every interpretation, and false where the reasons are told; so are clauses with the
+//! reasons of an equality. A clause that is made of a list has each literal once.
+//!
+//! `implied_clause`: where a step that the negation of a literal says can't hold (its points are
+//! equal though it says that they differ, or one has the truth value that the other isn't), the
+//! clause "the literal, or not the reasons", true under every interpretation.
+//!
+//! The other literals of that clause are false where the literal is open; none stands twice; there
+//! is no clause where there are more reasons than so many.
 #![tactic(auto)]
 
 ghost use Rattle.literal_steps.specs.Laws.{AtomsAreDeclared, ChoiceStepsAreJustified, ClashIsFalseClause, NodeStepsAreJustified, ReasonsMakeEqual, SamenessIsJustified, TruthIsJustified};

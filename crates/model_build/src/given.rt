@@ -1,3 +1,4 @@
+//! What a place is given, and two applications that clash.
 use smt_meaning::{TermId, Value};
 
 /// What a place of a store is given.

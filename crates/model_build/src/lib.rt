@@ -1,6 +1,20 @@
-//! Tables under which terms have given values.
+//! Tables of a signature's functions under which the terms of a stack have given values.
 //!
-//! Tables of declared functions, made from values that the terms of a stack are given by their places.
+//! `first_clash`: None exactly where applications of one declared symbol whose arguments are equal
+//! and in the range, and those that each have an argument past the range, are given one value; else
+//! some two that are not.
+//!
+//! `build`: where no two clash, each marked term is given a value of its sort, and applications are
+//! given values within the range: one table for each declared function of the signature in order,
+//! each of its sort, no two rows with equal arguments, none for constants.
+//!
+//! Under these tables each marked term has its value: for all values of terms, without bound, that
+//! agree with what the marked places are given and in which each marked term that is no application
+//! has its operator's value of its arguments' values.
+//!
+//! `given_values`, `model_from`: each part is given a value of its sort from lists by place, sums,
+//! differences and products what their arguments give; then tables for the declarations, or two
+//! applications that clash.
 #![tactic(auto)]
 
 ghost use Rattle.std.specs.Prelude.{◌≡◌, length, IfOk, MatchOption};

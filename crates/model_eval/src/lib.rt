@@ -1,4 +1,9 @@
-//! The value of a term under a finite interpretation, where no number on the way leaves the range.
+//! The value of a term under a finite interpretation (SMT-LIB 2.6, section 5.3), where no number on
+//! the way leaves the range.
+//!
+//! `values`, `value`: the values of a list of terms, in one pass over their parts, exactly where
+//! all fit; else `Range` with the first part of one of them, in numbering, whose own value or
+//! partial result leaves the range; the same of one term.
 #![tactic(auto)]
 
 ghost use Rattle.std.specs.Prelude.{◌≡◌, ◌<◌, length, map, All, OnOk, IfOk, IfErr, IsTrue};

@@ -1,4 +1,8 @@
-//! Judges the parts of a check by the classes of a closure: each has the value that its operator makes of its arguments, or it gives a clause that the log breaks.
+//! Judges the parts of a check by the classes of a closure.
+//!
+//! `broken_part`: of a closure that has all that a whole log says, each part has the value that its
+//! operator makes of the values of its arguments' classes, or there is a clause that is true under
+//! every interpretation and false in the log.
 #![tactic(auto)]
 
 mod against;

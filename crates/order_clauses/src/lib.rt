@@ -1,4 +1,9 @@
-//! The clauses of parts of a stack that compare Ints, and of equalities and choices of terms that are no Bools, over atoms that have numbers.
+//! The clauses of parts of a stack that compare Ints, and of equalities and choices of terms that
+//! are no Bools, over atoms that have numbers.
+//!
+//! `put_part`: exactly the clauses of comparisons, equalities, `distinct` and choices over the
+//! numbers of a table, true under every interpretation. A log that makes them true, with bounds
+//! that fit the values, gives the operator's value.
 #![tactic(auto)]
 
 mod bounds;

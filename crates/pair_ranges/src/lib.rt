@@ -1,4 +1,7 @@
-//! Laws of the pairs of terms whose bound is refused, each as the contract of a function that does nothing.
+//! Laws of the pairs of terms whose bound is refused, each as the contract of a function that does
+//! nothing.
+//!
+//! Whatever commands come, a refused folding is one that leaves the range.
 #![tactic(auto)]
 
 ghost use Rattle.pair_ranges.specs.Laws.{LawfulPairsLeaveRange, RefusedPairsLeaveRange};

@@ -1,4 +1,38 @@
-//! Congruence closure of points, with undo.
+//! Congruence closure: points that are merged, and whatever becomes equal by that.
+//!
+//! A point is a term as equality sees it: an application of a symbol to points, a truth value, or a
+//! leaf. Merging two points makes them equal, and with them all applications of one symbol whose
+//! arguments are equal, one by one (Nelson and Oppen, JACM 1980; Downey, Sethi and Tarjan, JACM
+//! 1980). Classes are trees without shortcuts, the smaller joined to the larger, so that a union is
+//! taken back by removing one edge, and a point finds its class in logarithmic time. Each edge
+//! tells which two points were joined there, and why: a step that was recorded, or that they are
+//! alike (Nieuwenhuis and Oliveras, 2007). That is what `explain` follows.
+//!
+//! Each application is filed under a hash of its signature, its symbol with the classes of its
+//! arguments. A union changes only the signatures of points with an argument in the class that
+//! goes; each class has a list of those (`uses`). So `unite` joins classes and lists, and files the
+//! listed points anew: one whose signature is there already is pending with the points that have
+//! it, else it is filed. `close` takes pending pairs, oldest first, until there are none. What is
+//! filed stays where it is when a signature changes: a search looks at every point of its hash and
+//! compares signatures as they now are.
+//!
+//! Pairs may be watched. A watched pair is listed with the classes of its two points, and is met by
+//! the union that brings them together. The pairs that must differ are watched so; the first of
+//! them that is met is a clash.
+//!
+//! Undoing. All of this grows at its end: unions, filed points, changes of lists, watched pairs,
+//! met ones. A mark is the length of each; a step keeps the mark from before it, and `reset` cuts
+//! back to one. So does a call that finds no memory half way, which then leaves all as it was.
+//!
+//! Why `same` is exact. No more is equal than should be: each union has a reason, a merged pair, or
+//! two points with one symbol and arguments that were in one class already (`IsJustified`). No less
+//! is: while pairs are pending (`Stands`), each merged pair and each two points of one signature
+//! are in one class, or a pending pair ties them, or one of them still waits to be filed. Once
+//! nothing is pending the classes respect all merges and all applications, so they are the closure.
+//! A run of `close` ends, since each union leaves a class fewer.
+//!
+//! What a caller may rely on is said by `record`, `add`, `watch` and `undo_to`, and by `same`,
+//! `met`, `clash` and `explain`. Points are added before the first step only, and stay.
 ghost use Rattle.std.specs.Prelude.{◌≡◌, ◌≢◌, ◌⊎◌, ◌+◌, ◌-◌, ◌<◌, ◌≤◌, ℕ, [], ◌∷◌, ◌++◌, length, take, slice_index_or, All, OnOk, OnErr, IfOk, IfSome, IfNone, IsTrue, ◌↔◌, ◌^◌, Contains};
 
 use crate::file::refile;

@@ -1,3 +1,4 @@
+//! Pairs that wait to be joined, and the marks to which a closure is cut back.
 use equal_points::Reason;
 
 /// Two points that are to be in one class.

@@ -1,3 +1,4 @@
+//! Watched pairs of points, and the first of those that met though they must differ.
 ghost use Rattle.std.specs.Prelude.{◌≡◌, ◌<◌, ℕ, Bool, false, length, All, IfSome, IfNone, Contains, IsTrue};
 ghost use Rattle.point_closure.specs.Rest.{watch_at, must_differ as watched_must_differ};
 

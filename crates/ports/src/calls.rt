@@ -1,3 +1,4 @@
+//! Counts of calls, of 64 bits, which stand still at their end.
 ghost use Rattle.std.specs.Prelude.{◌≡◌, ◌≤◌};
 ghost use Rattle.ports.specs.Flow.{raised};
 ghost use Rattle.ports.specs.Memory.{fails_next};

@@ -1,3 +1,4 @@
+//! A source and a sink in memory that never fail.
 ghost use Rattle.std.specs.Prelude.{◌≡◌, ◌≢◌, max, drop, length, take, ◌++◌, Some, None};
 ghost use Rattle.ports.specs.Flow.{Gives, GivesAtMost, MoreCause, PutCause, RoseBy, Takes, gifts};
 ghost use Rattle.ports.specs.Calm.{calm_after, calm_answer, moved};

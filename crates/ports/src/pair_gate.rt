@@ -1,3 +1,4 @@
+//! A gate at which two workers meet. It is the only thing here that waits, and tests alone use it.
 use crate::gates::Gate;
 use std::sync::atomic::AtomicBool;
 use std::sync::atomic::Ordering::SeqCst;

@@ -1,3 +1,4 @@
+//! What stands in the history of a race.
 use smt_meaning::Clause;
 
 /// What a worker does in a race. The number is the worker's.

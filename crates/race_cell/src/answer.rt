@@ -1,3 +1,4 @@
+//! What a pass's calls answer.
 use race_model::Entry;
 use smt_meaning::Clause;
 

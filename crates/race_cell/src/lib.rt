@@ -1,4 +1,16 @@
 //! A race of passes over one shared shelf, none of which waits.
+//!
+//! `Race`: passes share, take batches and win. Each call tells what it adds to the pass's
+//! knowledge: `Shared(p)` stands at p; a batch is exactly what stands from the pass's mark on and
+//! follows from the levels on which the race began; `Busy` only by its one exchange; `Lost(w)`
+//! exactly where its one exchange found w.
+//!
+//! `end` gives back the shelf: there is one history with each pass's shares, batches and win, each
+//! once and in its own order, after all that the pass had seen, with one win at most and one end a
+//! pass.
+//!
+//! As events (a clause is learnt from all assertions of its levels before it is shared) that
+//! history is a race from the shelf at the start to the entries at the end.
 #![tactic(auto)]
 
 mod action;

@@ -1,3 +1,4 @@
+//! The events of a race.
 use smt_meaning::{Clause, Declaration, SExpr, Seq, TermId};
 
 /// A clause that a worker shared.

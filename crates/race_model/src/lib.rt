@@ -1,4 +1,18 @@
-//! The race of workers over one stack as a pure machine: its state, its events and their steps, and the law over every order of them.
+//! The race of workers over one stack as a pure machine: its state, its events and their steps, and
+//! the law over every order of them. The program doesn't call it yet.
+//!
+//! `RaceState::step`: does exactly what the event says, or answers false and changes nothing,
+//! exactly where a condition of the event that can be tested doesn't hold.
+//!
+//! What can't be tested (that a learnt clause is true wherever its premises are, with symbols of
+//! its levels; that an assertion is a Bool term with this tree and these names) the caller owes.
+//!
+//! Laws: the first state is sound; each step, each race in any order of its events, and the
+//! beginning of a next race keep it sound.
+//!
+//! So over every run an entry or own clause follows from levels that still stand, at or below its
+//! own, each mark is at most the number of entries, and no popped assertion supports a later
+//! answer. An empty own clause shows that the levels up to its own have no model.
 #![tactic(auto)]
 
 mod clause;

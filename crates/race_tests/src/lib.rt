@@ -1,4 +1,5 @@
-//! Tests of races over a pool, with and without threads.
+//! Tests of races over a pool, with and without threads: two workers at a gate, four over one cell,
+//! a full pool, and the same race by steps of the pure machine.
 #![tactic(auto)]
 
 #[cfg(test)]

@@ -1,4 +1,8 @@
-//! Laws of the places at which parts of the assertions stand, each as the contract of a function that does nothing.
+//! Laws of the places at which parts of the assertions stand, each as the contract of a function
+//! that does nothing.
+//!
+//! Whatever commands come, the bounds of a stack's parts can be read at these places, and so have
+//! the values of what they compare.
 #![tactic(auto)]
 
 ghost use Rattle.readable_parts.specs.Laws.{LawfulPartsAreReadable, LawfulPlacesAreReadable, PartsAreReadable, PlacesAreReadable};

@@ -1,3 +1,4 @@
+//! The text of a whole reply: what each kind of reply prints, and its line feed.
 ghost use Rattle.std.specs.Prelude.{◌≡◌, ◌↔◌, ◌++◌, [], ◌∷◌, map, IsSome, IfSome, OnOk, OnErr};
 ghost use Rattle.smt_meaning.specs.Text.{text as text_of, listed};
 ghost use Rattle.reply_print.specs.Texts.{HasFixedText, error_reply_text};

@@ -1,4 +1,17 @@
-//! The stack of levels, as the fold of the commands that work on it (SMT-LIB 2.6, sections 4.1.4 and 4.2.2 to 4.2.4).
+//! The stack of levels, as the fold of the commands that work on it (SMT-LIB 2.6, sections 4.1.4
+//! and 4.2.2 to 4.2.4).
+//!
+//! `ScopeStack`: each command on the stack does exactly what it is judged to do, is answered
+//! `unsupported`, or is refused exactly as it is judged; then nothing changes, and no declaration,
+//! name, term or number of it stays.
+//!
+//! `Stack`: beside the terms stand, by place, their sorts (of a term that has one it is this one)
+//! and their levels (of a term whose symbols are declared the least one with all of them). It is
+//! also what a pool of clauses stands on.
+//!
+//! `Part`: a check sees all of a stack, or a part: the same levels, and terms that make a lawful
+//! stack with them, so that those of the assertions are among them. That there are no others, no
+//! clause says. The whole comes back as it was.
 #![tactic(auto)]
 
 mod answers;

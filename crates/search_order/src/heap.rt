@@ -1,4 +1,4 @@
-// The atoms that wait for a decision, in a binary heap with the greatest score on top.
+//! The atoms that wait for a decision, in a binary heap with the greatest score on top.
 use crate::scores::Scores;
 use std::alloc::{AllocError, Global};
 

@@ -1,4 +1,7 @@
-//! The free choices of a search: which atom is decided next and with which sign, when the decisions are taken back, and which learnt clauses are forgotten. No contract speaks of what is chosen.
+//! The free choices of a search: which atom is decided next and with which sign, when the decisions
+//! are taken back, and which learnt clauses are forgotten.
+//!
+//! `Order`: nothing beyond safety. No contract speaks of what is chosen.
 #![tactic(auto)]
 
 mod heap;

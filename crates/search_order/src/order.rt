@@ -1,4 +1,4 @@
-// The choices of one search.
+//! The choices of one search.
 use crate::heap::Heap;
 use crate::phases::Phases;
 use crate::reduce::Uses;

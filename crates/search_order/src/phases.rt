@@ -1,4 +1,5 @@
-// The sign that an atom had last, which is tried first when it is decided again (Pipatsrisawat and Darwiche).
+//! The sign that an atom had last, which is tried first when it is decided again (Pipatsrisawat and
+//! Darwiche).
 use std::alloc::{AllocError, Global};
 
 #[derive(Drop)]

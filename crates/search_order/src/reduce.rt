@@ -1,4 +1,5 @@
-// When learnt clauses are forgotten, and which: those that weren't used since they were looked over last.
+//! When learnt clauses are forgotten, and which: those that weren't used since they were looked
+//! over last.
 use std::alloc::{AllocError, Global};
 
 // The conflicts before clauses are forgotten for the first time, and how many more each time.

@@ -1,4 +1,5 @@
-// When all decisions are taken back: after so many conflicts as Luby's sequence 1, 1, 2, 1, 1, 2, 4, .. says, times a hundred.
+//! When all decisions are taken back: after so many conflicts as Luby's sequence 1, 1, 2, 1, 1, 2,
+//! 4, .. says, times a hundred.
 const BASE: u64 = 100;
 
 // Longer runs aren't asked for.

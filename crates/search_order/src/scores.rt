@@ -1,4 +1,6 @@
-// Scores of atoms: those of recent conflicts have the greatest (Chaff's sum that decays, with MiniSat's growing increment in place of the decay). Scores are whole numbers, scaled down together when one grows too large.
+//! Scores of atoms: those of recent conflicts have the greatest (Chaff's sum that decays, with
+//! MiniSat's growing increment in place of the decay). Scores are whole numbers, scaled down
+//! together when one grows too large.
 use std::alloc::{AllocError, Global};
 
 // A score above this one scales all down.

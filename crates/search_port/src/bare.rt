@@ -1,4 +1,4 @@
-// The theory of no theory: each atom is the truth of a term.
+//! The theory of no theory: each atom is the truth of a term.
 ghost use Rattle.std.specs.Prelude.{◌≡◌, [], ◌^◌, ◌<◌, ◌≤◌, All, vec_len, IfOk};
 ghost use Rattle.std.proofs.Props.{props};
 ghost use Rattle.literals.specs.Signed.{Signed};

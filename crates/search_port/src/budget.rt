@@ -1,4 +1,4 @@
-// Units of work, and how many of them a check may spend.
+//! Units of work, and how many of them a check may spend.
 ghost use Rattle.std.specs.Prelude.{◌≡◌, ℕ, ◌+◌, ◌<◌, ◌≤◌, min, List, [], ◌∷◌, ◌++◌, length, IfOk, OnOk, OnErr};
 ghost use Rattle.search_port.specs.Spending.{Spending};
 

@@ -1,4 +1,23 @@
-//! What the search asks of a theory, the budget of units that it lends, and the theory of no theory.
+//! What the search asks of a theory (Nieuwenhuis, Oliveras and Tinelli, JACM 2006), the budget of
+//! units that it lends, and the theory of no theory.
+//!
+//! `Theory`, `About`: conflicts are false under what was asserted; conflicts and lemmas are true
+//! under every interpretation, at the least level of their symbols; a model makes each asserted
+//! literal true; what is taken back.
+//!
+//! The units that a call of a theory spends are each atom newly numbered, once and in order, and,
+//! where lines are kept, pivots by Bland's rule in rows over numbered atoms. `Bare` is the theory
+//! of truths alone, over whoever knows about terms.
+//!
+//! `Shown`: what a theory shows at the end of a search: its branches, over which its atoms are
+//! atoms of the check, no two the same, and where a number left the range, if that ended it.
+//!
+//! `Budget`: how many units there are, of which kind, and how many may be spent. A unit and a
+//! clause to be shared are put down together or not at all.
+//!
+//! `follows_as_written`, `forces_by_numbers`, `forces_in_turn`: a clause over numbers follows
+//! exactly where the clause with its atoms written out does. What clauses force, they force with
+//! numbers in place of atoms, and so is forced what they force in turn.
 #![tactic(auto)]
 
 ghost use Rattle.search_port.specs.Valid.{FollowsAsWritten};

@@ -1,4 +1,4 @@
-// What a theory shows of a search that ended without an answer.
+//! What a theory shows of a search that ended without an answer.
 use crate::theory::Theory;
 use fraction128::Line;
 use smt_meaning::{Atom, RangeSeen, Seq};

@@ -1,4 +1,4 @@
-// The trait.
+//! The trait of theories: what a search tells a theory, asks of it, and may believe.
 ghost use Rattle.std.specs.Prelude.{◌≡◌, ℕ, ◌<◌, ◌≤◌, List, All, take, length};
 ghost use Rattle.smt_meaning.specs.declared.clauses.Atom.{Atom};
 ghost use Rattle.search_port.specs.State.{IsConsistent, IsFull, IsOpenIn, Reading, TheoryState};

@@ -1,4 +1,8 @@
 //! A run's state, and what each command does to it (SMT-LIB 2.6, sections 4.1 and 4.2).
+//!
+//! `Session::new`, `step`: a command may be answered so in the state before, with this kept, and
+//! leaves this state, by the definition of replies. It stops exactly on an accepted `exit`; want of
+//! memory changes nothing.
 #![tactic(auto)]
 
 mod asked;

@@ -1,8 +1,15 @@
-//! The general simplex method: variables with bounds that are set and taken back, and values that are moved until they meet them.
+//! The general simplex method: variables with bounds that are set and taken back, and values that
+//! are moved until they meet them (Dutertre and de Moura, CAV 2006).
 //!
-//! The bounds that were set, in order, each with a tag, and for each variable and side the tightest of them.
+//! `Simplex`: variables for terms and for their sums, bounds that are set and taken back exactly,
+//! and `check` as in `simplex_steps`, whose conflict is told by tags. Values stay where bounds come
+//! and go; of lines, and of what isn't basic, it says as much as that.
 //!
-//! Laws on rows whose variables stand for sums of terms, as the contract of a function that does nothing.
+//! `BoundTrail`: bounds in the order in which they were set, with tags; the tightest of a variable
+//! on a side; the newest is taken back.
+//!
+//! `sums_stay`: the solutions of the rows are exactly the valuations that give each variable the
+//! value of its sum; new leaves, new rows and next steps keep that.
 #![tactic(auto)]
 
 ghost use Rattle.simplex.specs.Sums.{NoneMean, LeavesKeep, RowsKeep, RunsKeep};

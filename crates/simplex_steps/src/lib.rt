@@ -1,6 +1,36 @@
-//! Steps of the general simplex method over a tableau, with Bland's rule: values move until all are within their bounds, or bounds are found that no values meet.
+//! Steps of the general simplex method over a tableau, with Bland's rule: values move until all are
+//! within their bounds, or bounds are found that no values meet (Dutertre and de Moura, CAV 2006,
+//! section 3; Bland, 1977). Its laws speak of the definitions of grids alone.
 //!
-//! The law that runs of next steps of a grid are short, as the contract of a function that does nothing.
+//! `check`: the grid at the end is the one at the start after next steps of the definition, with
+//! the number of pivots told; the rows' solutions stay. `Fits`: every value is within its bounds.
+//! `Conflict`: exactly the bounds that stop a row, or the two of the least variable whose bounds
+//! cross; each stands, and no values meet them.
+//!
+//! `Range`: the next step doesn't fit. `UnitsSpent`: the next step is a pivot that fits, and as
+//! many were made as there was room for. What isn't basic at the end stands at a bound, or wasn't
+//! basic at the start and has its value from then.
+//!
+//! Where lines are kept, the line of each pivot comes after those before, each by the definition
+//! and of the grid at its step; neighbours differ in the basic variable, also across calls.
+//!
+//! `runs_are_short`: every run of next steps of a grid of n variables, with nothing pending, values
+//! that meet the rows and bounds that don't cross, has fewer than 3^n pivots: so the simplex method
+//! ends whatever the numbers.
+//!
+//! `steps_keep`: a next step leads from a lawful grid to one; a move settles its variable; after a
+//! pivot all that isn't basic is within its bounds.
+//!
+//! `lines_are_pivots`: the line of each pivot of a run, as a row of the grid before the step with
+//! the columns of its variables, is a pivot by Bland's rule: its basic variable is outside one of
+//! its bounds, and the one that moves is the least of the row that can bring it nearer.
+//!
+//! Neighbours among these lines differ in the basic variable, and that of the last isn't basic at
+//! the end, also after lines of earlier runs. Where rows are identities between sums of terms, so
+//! is a line, its values meet it, and its entries are of variables that aren't basic.
+//!
+//! `values_rest`: after a run each variable that isn't basic stands at one of its bounds, or wasn't
+//! basic before and has the value that it had.
 #![tactic(auto)]
 
 ghost use Rattle.simplex_steps.specs.Law.{RunsAreShort, StepsKeep, MovesSettle, PivotsSettle, LinesArePivots, LinesGoOn, LinesAreRows, RunsRest};

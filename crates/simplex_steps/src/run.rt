@@ -1,4 +1,35 @@
-//! The search for values within all bounds.
+//! The simplex method: values are moved until all are within their bounds, or bounds are found that
+//! no values meet.
+//!
+//! This is the general simplex method of Dutertre and de Moura (CAV 2006, section 3), with Bland's
+//! rule (1977). The state is a grid: rows, and for each variable bounds and a value, where the
+//! values solve the rows. Where the bounds of a variable cross, that is a conflict before anything
+//! moves. Else variables that aren't basic are moved to the bound that they miss, the least first
+//! (`settle`). Then as long as some basic variable is outside its bounds, the least such one is
+//! taken; in its row the least variable is sought that isn't basic and can bring it nearer, one
+//! that isn't at the bound in the way. The two change places in a pivot, and the one that leaves is
+//! set to the bound that it missed. Where the row has no such variable, each of its variables
+//! stands at the bound in the way: these bounds, with the missed one, are a conflict.
+//!
+//! Why a conflict is one. The basic variable is the sum of the row's entries, and each of them is
+//! already as far in the useful direction as its bound lets it. So no values that solve the row and
+//! meet these bounds bring the basic variable to the one that it misses.
+//!
+//! Why it ends. A pivot alone may gain nothing, and another rule than Bland's may go round for
+//! ever. With the least variable on both sides it doesn't: of n variables a run has fewer than 3^n
+//! pivots, whatever the numbers (`runs_are_short`). That is proved over the definition of a grid's
+//! next step, so it holds for this code, which is proved to make exactly those steps, and for runs
+//! that go on where others ended.
+//!
+//! A caller lends room for so many pivots, and gets back how many were made. Where the room is
+//! spent, the next step is looked for and tried but not made (`last_look`), so that the answer
+//! tells an end from want of room. A step that leaves the range, or for which memory is wanting,
+//! changes nothing, and ends the run. Where lines are kept, the row of each pivot is copied with
+//! its columns before the pivot is made, and taken back if it isn't: these show the work that was
+//! done.
+//!
+//! What a caller may rely on is said by `check`, whatever the outcome: the bounds and the rows'
+//! solutions stay, and what isn't basic at the end stands at a bound, or has the value that it had.
 ghost use Rattle.std.specs.Prelude.{◌≡◌, ℕ, ◌+◌, ◌<◌, ◌≤◌, true, false, length, OnOk, IfOk, Some, None};
 ghost use Rattle.fraction128.specs.Grid.{is_crossed};
 ghost use Rattle.simplex_steps.specs.Law.{KeepsResting};

@@ -1,4 +1,15 @@
 //! The commands, a line each.
+//!
+//! - `system N`: a new system, whose first N variables stand for terms.
+//! - `row C V C V ..`: a new variable for the sum of C times V and so on, where each V stands for a
+//!   term. Prints `range` where the sum isn't taken in since a number leaves the range.
+//! - `lower V K`, `upper V K`: a bound of a variable. Its tag is the number of bounds that stood
+//!   before it.
+//! - `undo N`: all bounds but the first N are taken back.
+//! - `check N`: with room for N pivots. Prints `fits` with the values of all variables, `conflict`
+//!   with the tags of the bounds, `range` or `units`; the word is followed by the number of pivots.
+//! - `trace N`: the same, and then for each pivot a semicolon, the variable that leaves and the one
+//!   that enters.
 use crate::system::System;
 use anyhow::{Result, bail};
 use fraction128::Side;

@@ -1,6 +1,9 @@
-//! Reads a script from standard input, writes the replies to standard output, and ends with the status of the run.
+//! The program: reads a script from standard input, writes the replies to standard output, and ends
+//! with the status of the run.
 //!
-//! Tests of runs of scripts, and of the program round a run.
+//! `main` is one call of `smt_program::start`, of which no clause speaks. Its stored run has checks
+//! of each kind, and each kind of reply and refusal; its tests are tables of whole runs over
+//! sources and sinks in memory.
 #![tactic(auto)]
 
 #[cfg(test)]

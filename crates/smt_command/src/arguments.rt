@@ -1,3 +1,4 @@
+//! The arguments of a command, taken off a list of tokens one after another.
 ghost use Rattle.std.specs.Prelude.{◌≡◌, ◌+◌, ◌^◌, ◌∷◌, ◌<◌, ◌≤◌, Some, drop, length, slice_range, IfOk, OnOk, OnSome, IfNone, IsTrue};
 ghost use Rattle.std.specs.Option.{option_map, option_copied};
 ghost use Rattle.smt_meaning.specs.Reading.{IsSExpr};

@@ -1,3 +1,4 @@
+//! The one call: which command an s-expression is, in the order of its refusals.
 ghost use Rattle.std.specs.Prelude.{◌≡◌, IfOk};
 ghost use Rattle.smt_meaning.specs.Command.{command};
 ghost use Rattle.smt_meaning.specs.Sexp.{sexp};

@@ -1,4 +1,7 @@
-//! Judges an s-expression as a command (SMT-LIB 2.6, section 4.2): which command it is, or why it is none.
+//! Judges an s-expression as a command (SMT-LIB 2.6, section 4.2): which command it is, or why it
+//! is none.
+//!
+//! `command`: what an s-expression is as a command, or its error, exactly.
 #![tactic(auto)]
 
 mod arguments;

@@ -1,3 +1,4 @@
+//! Lists among the arguments: of symbols, sorts, parameters and terms.
 ghost use Rattle.std.specs.Prelude.{◌≡◌, IfOk};
 ghost use Rattle.smt_meaning.specs.Command.{each, symbol, written_sort, parameter, terms};
 ghost use Rattle.smt_command.specs.Arguments.{left};

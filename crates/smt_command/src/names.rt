@@ -1,3 +1,4 @@
+//! The names of commands, options and information.
 ghost use Rattle.std.specs.Prelude.{◌≡◌};
 ghost use Rattle.smt_meaning.specs.Signature.{look_up, is_one_of};
 ghost use Rattle.smt_meaning.specs.Command.{option_names, info_names};

@@ -1,3 +1,4 @@
+//! The number that a numeral's digits write, where it is in the range.
 ghost use Rattle.std.specs.Prelude.{◌≡◌, ◌+◌, ◌-◌, ◌*◌, ◌^◌, ◌<◌, ◌≤◌, MatchOption};
 ghost use Rattle.smt_command.specs.Values.{small_number};
 

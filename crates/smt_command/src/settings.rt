@@ -1,3 +1,4 @@
+//! Options and information as arguments (SMT-LIB 2.6, sections 4.1.7 and 4.1.8).
 ghost use Rattle.std.specs.Prelude.{◌≡◌, Ok};
 ghost use Rattle.std.specs.Option.{option_map};
 ghost use Rattle.smt_meaning.specs.declared.commands.Command.TheVariants.{SetOption};

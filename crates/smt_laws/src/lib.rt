@@ -1,4 +1,46 @@
-//! Laws of the definitions of terms, each as the contract of a function that does nothing.
+//! What holds of the definitions whatever a script does: each law is the contract of a function
+//! that does nothing.
+//!
+//! Of the language: where a command is no check, exactly one reply may be given and one state be
+//! left. An error, and `unsupported`, leave the state as it was. A reply's bytes end in one line
+//! feed, and only a success that isn't printed has none.
+//!
+//! Of states that a journal comes to: a logic is set exactly outside the start mode. A model that
+//! is kept makes every assertion of the stack true, with every number on the way in the range. The
+//! numbers of a command are at most 2^127 - 1 and not below 0.
+//!
+//! Of terms: a well-sorted term has a value of its sort, which depends on its symbols alone; the
+//! tables for a signature interpret it; the value of an accepted term by cases on its text, also
+//! with parameters, is that of its tree. The test for equal trees is true exactly where they are
+//! one.
+//!
+//! Of s-expressions: the tokens of a tree read back to it, and what the lexicon calls one
+//! s-expression is the list of tokens of the tree that it reads as, the other way round for each
+//! tree nested no deeper than allowed.
+//!
+//! Of sorts: whatever commands came, the tree of an accepted term has the sort that it was judged
+//! to have, and every assertion is a Bool, also under what its levels declare. The trees that a
+//! stack keeps differ, each after its arguments, the parts of assertions among them; no number of a
+//! symbol stands twice.
+//!
+//! Of levels: a term whose symbols are declared at a level has there the sort that it has above;
+//! the symbols of a term that has a sort are declared; all levels of a stack as one say the same.
+//!
+//! Of clauses: one that follows still follows after pushes, later assertions and declarations, a
+//! pop to its level, at greater levels and with more terms. A resolvent follows at the greater
+//! level; an empty clause that follows shows that there is no model.
+//!
+//! Of linear terms: whatever commands came, the terms on a stack are linear, with their leaves
+//! among its terms and numerals in the range. A linear term has the value of its linear form, a
+//! normal bound that of the bound over whole numbers; a folding is judged by the same steps
+//! wherever it stands.
+//!
+//! Of places and names: a tree is found again at its place; a name that is given to a term stands
+//! for the term, and its use judges again just the terms that were judged in it.
+//!
+//! Of judging in one pass: reading the tokens of a term with a stack gives what judging it gives.
+//! What a term has free is what it uses; the forms of `let` and of annotations are read token by
+//! token; definitions' trees are noted once.
 #![tactic(auto)]
 
 mod clauses;

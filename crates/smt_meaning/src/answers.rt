@@ -1,3 +1,5 @@
+//! Replies, with all that their texts print, the modes of a run, and the entries of a journal
+//! (SMT-LIB 2.6, section 4.1).
 use crate::errors::Error;
 use crate::options::{Info, OptionValue, UnknownReason};
 use crate::replies::Kept;

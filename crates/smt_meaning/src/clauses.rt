@@ -1,3 +1,4 @@
+//! Sums, atoms, literals and clauses.
 use crate::seq::Seq;
 use crate::terms::TermId;
 

@@ -1,3 +1,4 @@
+//! Commands, as they are read from an s-expression alone (SMT-LIB 2.6, section 4.2).
 use crate::options::{InfoName, OptionName, OptionSetting};
 use crate::seq::{Bytes, Seq};
 use crate::tokens::SExpr;

@@ -1,3 +1,4 @@
+//! What is declared or defined under a name (SMT-LIB 2.6, section 4.2.3).
 ghost use Rattle.std.specs.Prelude.{◌≡◌, ◌<◌, true, false, length, Some, None, IfSome, IfNone};
 ghost use Rattle.smt_meaning.specs.Term.{tree_at};
 ghost use Rattle.smt_meaning.specs.Signature.{is_symbol};

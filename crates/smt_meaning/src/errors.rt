@@ -1,3 +1,4 @@
+//! Errors, with all that their texts print (SMT-LIB 2.6, section 4.1.1).
 use crate::options::OptionName;
 use crate::refusals::Refusal;
 use crate::seq::Bytes;

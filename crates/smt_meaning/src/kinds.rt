@@ -1,3 +1,4 @@
+//! The kinds of tokens: with its bytes, a kind is a token.
 ghost use Rattle.std.specs.Prelude.{◌≡◌};
 ghost use Rattle.smt_meaning.specs.Seen.{seen};
 ghost use Rattle.smt_meaning.specs.Flat.{token_of};

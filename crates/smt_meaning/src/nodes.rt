@@ -1,3 +1,4 @@
+//! Lists of terms, each after its arguments, in parts that several lists may share.
 ghost use Rattle.std.specs.Prelude.{◌≡◌, ◌≤◌, ◌++◌, ◌∷◌, [], length, map, All, IfOk, OnOk};
 ghost use Rattle.smt_meaning.specs.Term.{tree_at};
 ghost use Rattle.smt_meaning.specs.Nodes.{AreNodes, AreNodesAfter, joined, tree_of, trees_from, trees_of};

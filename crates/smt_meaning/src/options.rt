@@ -1,3 +1,4 @@
+//! Options, information, and the values of both (SMT-LIB 2.6, sections 4.1.7 and 4.1.8).
 use crate::seq::Bytes;
 
 /// A channel for output (SMT-LIB 2.6, section 4.1.7).

@@ -1,3 +1,4 @@
+//! Why a term, or a command that works on the stack, is refused.
 use crate::seq::Bytes;
 use crate::tokens::Token;
 

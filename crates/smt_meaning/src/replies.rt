@@ -1,3 +1,4 @@
+//! What is kept of the answer to a check.
 use crate::reports::Report;
 use crate::seq::Seq;
 use crate::values::Interp;

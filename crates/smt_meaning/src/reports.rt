@@ -1,3 +1,4 @@
+//! What a worker shows that ended without an answer: its units, or where a number left the range.
 use crate::clauses::{Atom, Clause};
 use crate::seq::Seq;
 use crate::terms::TermId;

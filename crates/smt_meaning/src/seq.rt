@@ -1,3 +1,4 @@
+//! Lists that cross the borders of crates: small types over vectors, which contracts see as lists.
 ghost use Rattle.std.specs.Prelude.{◌≡◌, ◌++◌, ◌∷◌, [], length, OnOk, OnErr, IfOk};
 
 use std::alloc::{AllocError, Global};

@@ -1,3 +1,5 @@
+//! The settings of a run.
+
 /// What the words of the command line set for a run.
 #[derive(Clone, Copy, Debug, PartialEq, Eq, Drop)]
 pub struct Settings {

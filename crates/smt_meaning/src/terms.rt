@@ -1,3 +1,4 @@
+//! The heads of terms: numerals, operators of the theories Core and Ints, symbols by their numbers.
 use crate::values::SymId;
 
 /// A term's place in the list of trees that its stack keeps, from 0.

@@ -1,3 +1,5 @@
+//! Tokens, and s-expressions as flat lists of bytes, kinds and ends (SMT-LIB 2.6, sections 3.1 and
+//! 3.2). Nothing here is walked by recursion.
 ghost use Rattle.std.specs.Prelude.{◌≡◌, ◌+◌, ◌<◌, ◌≤◌, [], ◌∷◌, ◌++◌, Some, drop, length, slice_get, slice_index_or, slice_range, vec_len, OnOk, OnErr, IfOk};
 ghost use Rattle.std.specs.Vec.{vec_capacity};
 ghost use Rattle.smt_meaning.specs.declared.tokens.Token.{Token};

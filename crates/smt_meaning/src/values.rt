@@ -1,3 +1,4 @@
+//! Sorts, values, and interpretations as lists of finite tables.
 ghost use Rattle.std.specs.Prelude.{◌≡◌, IfOk};
 
 use crate::seq::Seq;

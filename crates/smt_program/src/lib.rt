@@ -1,5 +1,15 @@
 //! What the program does round a run: it takes the words of its command line, runs between two
 //! ends, says on a third why the run ended, and gives the status to exit with.
+//!
+//! `program`: between a source, a sink and a sink for errors there is a run as `run` says, whose
+//! status is the exit code. Where no words can be had, nothing is read, written or answered, with
+//! status 2 where they are refused and 5 for want of memory.
+//!
+//! The run's line is put into the errors by one call (none where the line is empty), unless the
+//! count of faults of that sink rose.
+//!
+//! `words_of`: from what the system gives of the command line, all words, in order; refused exactly
+//! where the system says that a word isn't UTF-8.
 #![tactic(auto)]
 
 ghost use Rattle.std.specs.Prelude.{◌≡◌, [], List, length};

@@ -1,3 +1,4 @@
+//! The line that says on standard error why a run ended.
 ghost use Rattle.std.specs.Prelude.{◌≡◌};
 ghost use Rattle.smt_program.specs.Program.{line_of};
 

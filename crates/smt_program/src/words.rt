@@ -1,3 +1,4 @@
+//! The words of the command line, as the system gives them.
 ghost use Rattle.std.specs.Prelude.{◌≡◌};
 ghost use Rattle.smt_program.specs.Words.{AreCollected, AreWords, cause_of};
 

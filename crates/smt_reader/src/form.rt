@@ -1,3 +1,4 @@
+//! The form that a word has so far (SMT-LIB 2.6, section 3.1).
 ghost use Rattle.std.specs.Prelude.{◌≡◌, ℕ, List, Some, None, if◌then◌else◌};
 ghost use Rattle.std.specs.Option.{is_some};
 ghost use Rattle.smt_reader.specs.Forms.{BeginsAs, GoesTo};

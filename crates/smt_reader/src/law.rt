@@ -1,3 +1,4 @@
+//! That an input reads in one way, as the contract of a function that does nothing.
 ghost use Rattle.std.specs.Prelude.{◌≡◌, ℕ, List};
 ghost use Rattle.smt_meaning.specs.Reading.{Answer, First, Unread, IsSettled};
 

@@ -1,4 +1,13 @@
 //! Reads s-expressions (SMT-LIB 2.6, sections 3.1 and 3.2) from bytes that come in pieces.
+//!
+//! `Reader::new`, `feed`, `finish`, `next`: however the bytes are cut into pieces, an s-expression
+//! or a fault is given as soon as it is settled, whatever bytes may follow, and is what the bytes
+//! read as.
+//!
+//! `NeedMore` comes exactly where nothing is settled yet; `End` exactly where the input has ended
+//! in white space or comments. Want of memory leaves what is unread as it was.
+//!
+//! `reads_in_one_way`: an input has at most one first answer, and at most one is settled.
 #![tactic(auto)]
 
 mod byte;

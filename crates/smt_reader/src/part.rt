@@ -1,3 +1,5 @@
+//! The lexicon as a machine: where in the input's tokens the bytes so far end, and what the next
+//! byte does (SMT-LIB 2.6, section 3.1).
 ghost use Rattle.std.specs.Prelude.{◌≡◌, Some, None, if◌then◌else◌};
 ghost use Rattle.std.specs.Option.{option_map};
 ghost use Rattle.std.specs.Str.{bytes_eq};

@@ -1,3 +1,5 @@
+//! The reader: bytes are fed in pieces, and s-expressions are given as soon as they are settled.
+//! What was read is forgotten.
 ghost use Rattle.std.specs.Prelude.{◌≡◌, ◌≤◌, ◌<◌, ◌+◌, ◌^◌, ◌++◌, [], length, drop, vec_len, OnOk, OnErr, IfOk, false, true};
 ghost use Rattle.smt_reader.specs.Reader.{AnswersRightly, Leaves};
 

@@ -1,3 +1,5 @@
+//! A scan of the unread bytes, which goes on from the byte at which it stopped; so reading takes
+//! time in proportion to the input.
 ghost use Rattle.std.specs.Prelude.{◌≡◌, ◌≤◌, ◌+◌, ◌++◌, ◌∷◌, [], List, ℕ, length, ◌<◌, true, Some, OnOk, OnErr, IfOk, IsSome};
 ghost use Rattle.smt_meaning.specs.declared.tokens.Token.{Token as TokenValue};
 ghost use Rattle.smt_meaning.specs.Reading.{IsSExpr, Opens, shapes};

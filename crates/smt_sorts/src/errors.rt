@@ -1,3 +1,4 @@
+//! Why a name isn't found or a declaration isn't added.
 use std::alloc::AllocError;
 
 /// Why a name may not be declared.

@@ -1,3 +1,4 @@
+//! Ledgers, to which a run gives each entry of its journal.
 ghost use Rattle.std.specs.Prelude.{◌≡◌, ◌∷◌, [], List, Option, OnOk, OnErr};
 ghost use Rattle.smt_meaning.specs.declared.answers.Entry.{Entry as EntryValue};
 ghost use Rattle.smt_top.specs.Ledgers.{Gains};

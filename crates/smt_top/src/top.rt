@@ -1,3 +1,5 @@
+//! A run from its words to its status: pieces are taken from the source, and whatever they settle
+//! is answered before the next is asked for.
 ghost use Rattle.std.specs.Prelude.{◌≡◌, ◌≤◌, ◌<◌, ◌↔◌, ◌^◌, ◌+◌, [], List, ℕ, length, map, IsTrue, IfErr, OnOk, false, string_bytes};
 ghost use Rattle.smt_meaning.specs.declared.settings.Settings.{Settings as SettingsValue};
 ghost use Rattle.smt_meaning.specs.declared.answers.Entry.{Entry as EntryValue};

@@ -1,3 +1,4 @@
+//! Why words give no settings.
 ghost use Rattle.std.specs.Prelude.{◌≡◌};
 
 use clap::error::ErrorKind;

@@ -1,5 +1,8 @@
 //! The settings that the words of a command line give, exactly as `clap` means them. No words of
 //! help or of a version are known, nothing is printed, and the text of an error isn't made use of.
+//!
+//! `settings`: exactly what `clap` reads of the words as words of the program's command, with its
+//! ranges and defaults; refused only where `clap` refuses them.
 #![tactic(auto)]
 
 ghost use Rattle.std.specs.Prelude.{◌≡◌, ◌≤◌, ◌<◌, ◌^◌, ◌≤ℤ◌, ◌<ℤ◌, true, pos, map};

@@ -1,4 +1,7 @@
-//! Numbers of sums of Int terms: equal sums have one number.
+//! Numbers of sums of Int terms.
+//!
+//! `SumTable`: equal sums have one number, and each number one sum. Contracts see the list of sums
+//! in the order of their numbers; want of memory changes nothing.
 #![tactic(auto)]
 
 mod hash;

@@ -1,4 +1,33 @@
-//! The tableau.
+//! The tableau, and its pivots.
+//!
+//! A tableau has variables by number, some of them basic: a basic variable has a row, which says
+//! that it is the sum of the row's entries, coefficients times variables that aren't basic
+//! (Dutertre and de Moura, A Fast Linear-Arithmetic Solver for DPLL(T), CAV 2006, section 3). Any
+//! values of the variables that aren't basic give one solution. To make another variable basic is
+//! to pivot.
+//!
+//! A pivot of a row b = .. + c * e + .. with the entering variable e solves the row for e: less b,
+//! times -1/c, it is a form that is 0 on every solution and in which e has the coefficient -1. That
+//! form without e is e's new row. Each other row that has e, with the coefficient d, has d times
+//! the form added, which takes e out and brings b in. Only rows that have e are touched: a list for
+//! each variable tells which they are (`holders`).
+//!
+//! Coefficients are fractions of 128 bits in lowest terms, and any step may leave the range. So a
+//! pivot is tried first, and then made: `try_pivot_rows` writes what each row becomes into a buffer
+//! of the row's own, `commit_rows` swaps the buffers in. So an error, for the range or for memory,
+//! changes no row, and nothing is undone; once the buffers are large enough a pivot takes no memory
+//! for rows. `try_pivot` stops before the second half.
+//!
+//! Why the solutions stay. The form is 0 on every solution of the row, so adding a multiple of it
+//! to another row changes that row on no solution; and the old row comes back from the new one in
+//! the same way. The rows are exactly `pivoted_rows` of the definition, and the range is left
+//! exactly where one of the numbers that it lists does: so what a grid's next step makes, and
+//! whether it fits, is said without speaking of this code.
+//!
+//! What a caller may rely on is said by `pivot` and `try_pivot`. `facts` tells what holds of every
+//! tableau: entries ascend by variable and aren't 0, no variable is basic twice, and no basic
+//! variable stands in a row. The lists of rows may hold places too many, where memory was wanting;
+//! whoever reads them passes over what isn't there.
 ghost use Rattle.std.specs.Prelude.{◌≡◌, ◌≢◌, ◌↔◌, ℕ, ◌+◌, ◌-◌, ◌^◌, ◌<◌, ◌≤◌, pos, true, false, [], ◌∷◌, ◌++◌, length, Contains, OnOk, OnErr, IfOk, IfErr, IfSome, IfNone, Some, None};
 ghost use Rattle.fraction128.specs.declared.ratio.Ratio.{Ratio};
 ghost use Rattle.fraction128.specs.Number.{is_zero};

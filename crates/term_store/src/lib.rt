@@ -1,8 +1,17 @@
-//! The terms of a run, each stored once. A term is seen as a tree, and named by its place in the one list of trees.
+//! The terms of a run, each stored once. A term is seen as a tree, and named by its place in the
+//! one list of trees; so the term store also files names by their hashes, and says whether a list
+//! has room for more.
 //!
-//! Names in lists, found by their hashes.
+//! `TermStore::new`, `intern`, `node`, `len`, `cut`: one id for one tree, arguments before the
+//! term. `Full` exactly where the limit is reached and the term isn't there; after want of memory
+//! the store is as before.
 //!
-//! Whether a list of terms has room for those that judging adds.
+//! `find`, `hash`, `Named`: of items whose names' hashes are filed in order, the place of the last
+//! one of a name, or that none has it; equal names have one hash.
+//!
+//! `terms_join_alike`, `questions_join_alike`, `lacks_room`: a term comes to the same sort and
+//! tree, or the same refusal, whatever terms were judged before, and those that it goes through
+//! join them in order; whether a list of terms lacks the room for others.
 #![tactic(auto)]
 
 ghost use Rattle.term_store.specs.Alike.{TermsJoinAlike, QuestionsJoinAlike};

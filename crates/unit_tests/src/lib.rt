@@ -1,12 +1,7 @@
-//! Tests of numbers, fractions and pivots.
-//!
-//! Tests of linear forms, of sums, of bounds on them and of branches.
-//!
-//! Tests of stores of clauses, of the clauses of terms, and of what follows from equalities and what they break.
-//!
-//! Tests of terms, names, sorts and atoms as they are kept, and of values and tables.
-//!
-//! Tests of bytes and words as they come in, of tokens, commands and tables, and of the texts that go out.
+//! Tests of libraries, since a crate with tests is proved twice: of numbers, fractions and pivots;
+//! of linear forms, sums, bounds and branches; of terms, names, sorts, values and tables; of
+//! clauses, equalities and what they break; of bytes, words, tokens, commands and texts. Expected
+//! values come from outside: worked rows, exact fractions, a scan.
 #![tactic(auto)]
 
 #[cfg(test)]
