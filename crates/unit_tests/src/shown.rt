@@ -1,3 +1,4 @@
+//! S-expressions and commands as texts, so that tables can compare them.
 use smt_command::command;
 use smt_meaning::language::{
     Channel, Command, Error, OptionName, OptionSetting, Parameter, WrittenSort,

@@ -1,3 +1,4 @@
+//! Four threads over one cell.
 use crate::jobs::race_of_four;
 use std::test::Fail;
 

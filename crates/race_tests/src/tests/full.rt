@@ -1,3 +1,4 @@
+//! A pool that is full, and takes again after a cut.
 ghost use Rattle.std.specs.Prelude.{◌≡◌, ◌<◌, length, IfOk};
 ghost use Rattle.race_model.specs.Shelves.{Shares};
 ghost use Rattle.race_tests.specs.Stack.{true_at, two_levels};

@@ -1,3 +1,4 @@
+//! A pool whose stack is cut.
 ghost use Rattle.std.specs.Prelude.{◌≡◌, ◌<◌, IfOk};
 ghost use Rattle.race_model.specs.Base.{base_of};
 ghost use Rattle.race_tests.specs.Proposition.{declared, raised, stated};

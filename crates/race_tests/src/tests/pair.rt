@@ -1,3 +1,4 @@
+//! Two passes that share, take and win.
 ghost use Rattle.std.specs.Prelude.{◌≡◌, IfSome};
 ghost use Rattle.race_tests.specs.Jobs.{IsReady};
 

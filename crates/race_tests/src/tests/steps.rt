@@ -1,3 +1,4 @@
+//! A race by steps of the pure machine.
 ghost use Rattle.std.specs.Prelude.{◌≡◌, [], ◌∷◌, IfOk, IfSome, IsTrue};
 ghost use Rattle.race_model.specs.Base.{base_of};
 ghost use Rattle.race_model.specs.Race.{state_of};

@@ -1,3 +1,4 @@
+//! Whole runs: words and a script in, bytes and a status out, over sources and sinks in memory.
 use ports::{CalmSink, CalmSource, MemSink, MemSource, More, OpenGate, Put, Sink, Source};
 use smt_program::{Note, run, run_within};
 use std::alloc::{AllocError, Global};

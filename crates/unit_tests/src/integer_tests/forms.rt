@@ -1,3 +1,4 @@
+//! Linear forms, folded to the ends of the range.
 use linear_forms::LinearForms;
 use smt_meaning::{Head, Operator, TermId};
 use std::alloc::{AllocError, Global};

@@ -1,3 +1,4 @@
+//! Numbers of sums.
 use smt_meaning::Summand;
 use std::alloc::AllocError;
 use std::test::Fail;

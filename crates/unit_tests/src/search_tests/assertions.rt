@@ -1,3 +1,4 @@
+//! The clauses of an assertion.
 use assertion_form::form;
 use smt_meaning::{Atom, Clause, Head, Operator, TermId};
 use std::alloc::{AllocError, Global};

@@ -1,3 +1,4 @@
+//! The orders that comparisons say of neighbours.
 use bound_clauses::{Order, Sense, add_orders};
 use smt_meaning::{Operator, TermId};
 use std::alloc::{AllocError, Global};

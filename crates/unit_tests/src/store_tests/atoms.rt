@@ -1,3 +1,4 @@
+//! Numbers of atoms.
 use atom_table::CompactAtom::{Same, Truth};
 use atom_table::{AtomTable, CompactAtom};
 use std::alloc::AllocError;

@@ -1,3 +1,4 @@
+//! The newest item of a name.
 ghost use Rattle.std.specs.Prelude.{◌<◌, ◌^◌, length};
 
 use std::alloc::Global;

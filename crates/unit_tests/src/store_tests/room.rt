@@ -1,3 +1,4 @@
+//! Whether a list of terms has room for others.
 use smt_meaning::{Head, Operator, TermId};
 use std::alloc::Global;
 use std::process::Abort;

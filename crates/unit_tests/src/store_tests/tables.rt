@@ -1,3 +1,4 @@
+//! Tables from values, and applications that clash.
 ghost use Rattle.std.specs.Prelude.{◌≡◌, [], None, false, IfOk};
 
 use model_build::{Clash, Given, build, first_clash};

@@ -1,3 +1,4 @@
+//! Terms that are stored once, and cut.
 use smt_meaning::{Head, Operator, TermId};
 use std::process::Abort;
 use std::test::Fail;

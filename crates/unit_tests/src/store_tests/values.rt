@@ -1,3 +1,4 @@
+//! Values of terms, with outcomes computed by hand, and the first part past the range.
 use model_eval::{EvalError, value, values};
 use smt_meaning::Operator::*;
 use smt_meaning::Value::{Truth, Whole};

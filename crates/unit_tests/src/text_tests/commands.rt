@@ -1,3 +1,4 @@
+//! Commands and their refusals, as a table.
 use crate::shown::judged;
 use std::alloc::{AllocError, Global};
 use std::process::Abort;

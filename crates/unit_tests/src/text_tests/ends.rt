@@ -1,3 +1,4 @@
+//! Sources and sinks: short reads, torn writes, faults.
 use ports::{
     CalmSink, CalmSource, MemSink, MemSource, More, Put, ReadSource, Sink, Source, WriteSink,
 };

@@ -1,3 +1,4 @@
+//! Gates, open and for two.
 use ports::{Gate, OpenGate, PairGate};
 use std::test::Fail;
 use std::thread::join;

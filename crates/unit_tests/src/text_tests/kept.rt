@@ -1,3 +1,4 @@
+//! Lists of tokens, terms and tables, and their copies.
 use smt_meaning::{Seq, Table, Terms, TokenView, Tokens, Value, Word};
 use std::test::Fail;
 

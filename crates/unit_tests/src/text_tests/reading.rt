@@ -1,3 +1,4 @@
+//! The lexicon and s-expressions, as tables, cut at every byte.
 ghost use Rattle.std.specs.Prelude.{◌≡◌, ◌+◌, ◌<◌, length, OnOk};
 
 use smt_meaning::{FaultKind, SExpr, TokenView, Word};

@@ -1,3 +1,4 @@
+//! Words of the command line, as a table.
 use smt_meaning::Settings;
 use smt_words::{WordsError, settings};
 use std::alloc::{AllocError, Global};
