@@ -4,8 +4,6 @@
 ; Each of a, b and c is true where that person is a knight. The first answer, `sat`, says that the
 ; two sentences can be; the values say how: A and C are knaves, and B is a knight. The second
 ; answer, `unsat`, says that there is no other way.
-;
-; Decided today: only Boolean constants stand in it.
 (set-option :print-success false)
 (set-option :produce-models true)
 (set-logic QF_UF)

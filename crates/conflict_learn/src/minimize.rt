@@ -1,5 +1,7 @@
 //! Minimization: which literals a learnt clause can do without, since they follow from its others
-//! by reasons. No contract rests on the answers, since each step left out is resolved.
+//! by reasons (Sörensson and Biere, SAT 2009). Reasons are followed to a depth of 200, and what was
+//! found is remembered within one conflict. No contract rests on the answers, since each step left
+//! out is resolved.
 ghost use Rattle.std.specs.Prelude.{◌≡◌, ◌<◌, ◌≤◌, List, All, Some, length, IfSome, OnOk};
 ghost use Rattle.conflict_learn.specs.Analysing.{step_at, KnownBy};
 

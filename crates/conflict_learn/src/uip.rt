@@ -1,5 +1,5 @@
-//! The first unique implication point: steps of the greatest depth are resolved, newest first,
-//! until one waits.
+//! The first unique implication point (Zhang, Madigan, Moskewicz and Malik, ICCAD 2001): steps of
+//! the greatest depth are resolved, newest first, until one waits.
 ghost use Rattle.std.specs.Prelude.{◌≡◌, ℕ, ◌+◌, ◌<◌, ◌≤◌, ◌⊎◌, ◌&&◌, ◌==◌, true, Bool, Some, length, IfOk, OnOk};
 ghost use Rattle.conflict_learn.specs.Analysing.{State, step_at, mark_at, is_seen, is_waiting, with_less, IsSound, IsGrounded, IsAt, IsOnly, Resolves, Comes};
 

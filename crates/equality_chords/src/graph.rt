@@ -1,4 +1,5 @@
-//! The graph of equalities, from which terms with at most two neighbours are taken one after another.
+//! The graph of equalities, from which terms with at most two neighbours are taken one after
+//! another (chords: Bryant and Velev, CAV 2000).
 ghost use Rattle.std.specs.Prelude.{◌<◌, ◌≤◌, ◌^◌, length};
 ghost use Rattle.equality_chords.specs.Chords.{AreParted};
 

@@ -1,4 +1,5 @@
-//! The next step of the search.
+//! The next step of the search, by Bland's rule: the least basic variable outside its bounds, and
+//! of its row the least variable that can bring it nearer.
 ghost use Rattle.std.specs.Prelude.{◌≡◌, ◌≢◌, ℕ, ◌+◌, ◌<◌, ◌≤◌, true, false, [], ◌∷◌, length, slice_index_or, IfOk, IfSome, IfNone, Some, None};
 ghost use Rattle.fraction128.specs.Whole.{InRange};
 ghost use Rattle.fraction128.specs.Number.{whole, is_less};

@@ -1,4 +1,4 @@
-//! One step: a move, or a pivot.
+//! One step: a move, or a pivot, whose line is kept where lines are kept.
 ghost use Rattle.std.specs.Prelude.{◌≡◌, ◌≢◌, ℕ, ◌+◌, ◌<◌, ◌≤◌, ◌↔◌, ◌++◌, true, false, take, length, OnOk, OnErr, IfOk, IfErr, Some, None};
 ghost use Rattle.fraction128.specs.declared.ratio.Ratio.{Ratio};
 ghost use Rattle.fraction128.specs.Grid.{missed, is_basic, step_fits, after, MeetsRows};
