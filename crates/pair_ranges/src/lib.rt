@@ -1,7 +1,8 @@
 //! Laws of the pairs of terms whose bound is refused, each as the contract of a function that does
 //! nothing.
 //!
-//! Whatever commands come, a refused folding is one that leaves the range.
+//! Whatever commands come, the difference of a refused pair leaves the range, or for a strict bound
+//! what the part compares does.
 #![tactic(auto)]
 
 ghost use Rattle.pair_ranges.specs.Laws.{LawfulPairsLeaveRange, RefusedPairsLeaveRange};

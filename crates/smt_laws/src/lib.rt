@@ -31,9 +31,9 @@
 //! level; an empty clause that follows shows that there is no model.
 //!
 //! Of linear terms: whatever commands came, the terms on a stack are linear, with their leaves
-//! among its terms and numerals in the range. A linear term has the value of its linear form, a
-//! normal bound that of the bound over whole numbers; a folding is judged by the same steps
-//! wherever it stands.
+//! among its terms and numerals in the range. A linear term has the value of its linear form, which
+//! is in the range where its numerals are and its folding stays there; a normal bound has the value
+//! of the bound over whole numbers.
 //!
 //! Of places and names: a tree is found again at its place; a name that is given to a term stands
 //! for the term, and its use judges again just the terms that were judged in it.
