@@ -15,8 +15,8 @@
 //! one.
 //!
 //! Of s-expressions: the tokens of a tree read back to it, and what the lexicon calls one
-//! s-expression is the list of tokens of the tree that it reads as, the other way round for each
-//! tree nested no deeper than allowed.
+//! s-expression is the list of tokens of the tree that it reads as; and the other way round for
+//! each tree nested no deeper than allowed.
 //!
 //! Of sorts: whatever commands came, the tree of an accepted term has the sort that it was judged
 //! to have, and every assertion is a Bool, also under what its levels declare. The trees that a

@@ -1,7 +1,7 @@
 //! The plain types of the solver, and in `specs/` the definitions of what they mean: of the whole
-//! language, its commands, replies and journals, and of what a report shows. Every other crate
-//! reads these; nothing is computed here. `docs/DEFINITIONS.md` has the definitions in plain words,
-//! each with its section of SMT-LIB 2.6 or its paper.
+//! language, its commands, replies and journals, and of what a report shows. The crates above read
+//! these; nothing is computed here. `docs/DEFINITIONS.md` has the definitions in plain words, each
+//! with its section of SMT-LIB 2.6 or its paper.
 //!
 //! `SExpr`, `Tokens`, `TokenView`: an s-expression is seen as its list of tokens, whose parentheses
 //! match, and kept as flat lists of bytes, kinds and ends. A token at a place is a view into them;
