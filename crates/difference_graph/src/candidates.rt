@@ -14,6 +14,8 @@ pub(crate) struct Candidates {
     earlier: Vec<u32>,
     /// By half the tag, whether one of its pair is told.
     told: Vec<bool>,
+    /// How many pairs are told.
+    count: usize,
 }
 
 /// Sets whether one of a pair of tags is told.
@@ -36,6 +38,7 @@ impl Candidates {
             edges: Vec::new(alloc),
             earlier: Vec::new(alloc),
             told: Vec::new(alloc),
+            count: 0,
         }
     }
 
@@ -58,11 +61,22 @@ impl Candidates {
     }
 
     pub(crate) fn tell(&mut self, tag: u32) {
+        if !is_marked(&self.told, tag) {
+            self.count = self.count.saturating_add(1);
+        }
         mark(&mut self.told, tag, true);
     }
 
     pub(crate) fn forget(&mut self, tag: u32) {
+        if is_marked(&self.told, tag) {
+            self.count = self.count.saturating_sub(1);
+        }
         mark(&mut self.told, tag, false);
+    }
+
+    /// Whether as many pairs are told as there are.
+    pub(crate) fn are_told(&self) -> bool {
+        self.count >= self.edges.len() / 2
     }
 
     /// Adds the open ones that lead to a node.

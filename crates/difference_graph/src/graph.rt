@@ -2,13 +2,17 @@
 use crate::candidates::Candidates;
 use crate::edge::{Edge, edge_at, short, tags_of};
 use crate::nodes::{Node, grow, node_at, put_node};
-use crate::reach::{Reach, Way};
+use crate::reach::Reach;
 use crate::repair::{Ending, Repair, cycle_tags};
+use crate::way::Way;
 use std::alloc::{AllocError, Global};
 use std::marker::Model;
 
 /// How many candidates that follow from one edge are given.
 const GIVEN: usize = 8;
+
+/// How many steps that searches for paths may take are saved up at most.
+const SAVED: u64 = 65_536;
 
 /// What becomes of an edge.
 #[derive(Drop)]
@@ -42,6 +46,8 @@ pub struct DifferenceGraph {
     along: Reach,
     against: Reach,
     open: Vec<Edge>,
+    /// How many edges all searches for paths may walk.
+    allowed: u64,
 }
 
 impl Model for DifferenceGraph {
@@ -95,6 +101,7 @@ impl DifferenceGraph {
             along: Reach::new(alloc, Way::Along),
             against: Reach::new(alloc, Way::Against),
             open: Vec::new(alloc),
+            allowed: 0,
         }
     }
 
@@ -148,10 +155,13 @@ impl DifferenceGraph {
         ensures err { OnErr result (self.new ≡ self.old) }
     {
         self.know(edge)?;
-        match self
-            .repair
-            .meet(&self.edges, &self.earlier_out, &mut self.nodes, edge)?
-        {
+        match self.repair.meet(
+            &self.edges,
+            &self.earlier_out,
+            &self.earlier_into,
+            &mut self.nodes,
+            edge,
+        )? {
             Ending::Met => {
                 self.take(edge)?;
                 Ok(Asserted::Taken)
@@ -288,14 +298,16 @@ impl DifferenceGraph {
     {
         self.along
             .run(&self.edges, &self.earlier_out, &self.nodes, edge.to)?;
-        self.against
-            .run(&self.edges, &self.earlier_into, &self.nodes, edge.from)?;
         self.open.clear();
         for node in &self.along.order {
             let node = node_at(&self.nodes, *node);
             self.candidates.open_to(node, &mut self.open)?;
         }
-        Ok(())
+        if self.open.is_empty() {
+            return Ok(());
+        }
+        self.against
+            .run(&self.edges, &self.earlier_into, &self.nodes, edge.from)
     }
 
     /// Whether the path by an edge shows a candidate.
@@ -322,6 +334,24 @@ impl DifferenceGraph {
             }
         }
         Ok(found)
+    }
+
+    /// How many edges searches for paths have walked.
+    fn walked(&self) -> u64 {
+        self.along.walked.saturating_add(self.against.walked)
+    }
+
+    /// Lets searches for paths walk so many edges more.
+    pub fn allow(&mut self, steps: u64)
+        ensures { self.new ≡ self.old }
+    {
+        let most = self.walked().saturating_add(SAVED);
+        self.allowed = self.allowed.saturating_add(steps).min(most);
+    }
+
+    /// Whether a path is worth looking for: a candidate is open, and edges may be walked.
+    pub fn looks(&self) -> bool {
+        self.walked() < self.allowed && !self.candidates.are_told()
     }
 
     /// Open candidates that follow by short paths through the edge at a place. It promises nothing of those that it doesn't give.

@@ -15,6 +15,7 @@ mod nodes;
 mod queue;
 mod reach;
 mod repair;
+mod way;
 
 pub use edge::Edge;
 pub use graph::{Asserted, DifferenceGraph, Implied};

@@ -2,17 +2,14 @@
 use crate::edge::{Edge, NONE, edge_at, word};
 use crate::nodes::{Node, node_at};
 use crate::queue::{Queue, Waiting};
+use crate::way::Way;
 use std::alloc::{AllocError, Global};
 
 /// How many nodes are reached.
 const NODES: u32 = 32;
 
-/// A way along the edges, or against them.
-#[derive(Clone, Copy, PartialEq, Eq, Drop)]
-pub(crate) enum Way {
-    Along,
-    Against,
-}
+/// How many edges of a node are walked, the newest first. The bounds of all variables are edges at one node, which may have thousands.
+const EDGES: u32 = 64;
 
 /// How far a node is, and by which edge it is reached.
 #[derive(Clone, Copy, Drop)]
@@ -39,6 +36,8 @@ pub(crate) struct Reach {
     /// The nodes reached, nearest first.
     pub(crate) order: Vec<u32>,
     queue: Queue,
+    /// How many edges were walked in all rounds.
+    pub(crate) walked: u64,
 }
 
 fn reached_at(by_node: &[Reached], node: u32) -> Reached {
@@ -73,22 +72,7 @@ impl Reach {
             by_node: Vec::new(alloc),
             order: Vec::new(alloc),
             queue: Queue::new(alloc),
-        }
-    }
-
-    /// The node that an edge leads to, this way.
-    fn end_of(&self, edge: Edge) -> u32 {
-        match self.way {
-            Way::Along => edge.to,
-            Way::Against => edge.from,
-        }
-    }
-
-    /// The newest edge of a node, this way.
-    fn newest(&self, node: Node) -> u32 {
-        match self.way {
-            Way::Along => node.out,
-            Way::Against => node.into,
+            walked: 0,
         }
     }
 
@@ -124,6 +108,24 @@ impl Reach {
         self.queue.push(length.saturating_neg(), node)
     }
 
+    /// Takes the path that an edge at a place lengthens.
+    fn walk(
+        &mut self,
+        nodes: &[Node],
+        edge: Edge,
+        place: u32,
+        length: i64,
+    ) -> Result<(), AllocError> {
+        self.walked = self.walked.saturating_add(1);
+        let Some(slack) = slack_of(nodes, edge) else {
+            return Ok(());
+        };
+        match length.checked_add(slack) {
+            Some(longer) => self.offer(self.way.end_of(edge), longer, place),
+            None => Ok(()),
+        }
+    }
+
     /// Goes on from a node at a length by its edges.
     fn go_on(
         &mut self,
@@ -133,17 +135,12 @@ impl Reach {
         start: u32,
         length: i64,
     ) -> Result<(), AllocError> {
-        let mut place = self.newest(node_at(nodes, start));
-        for _ in 0..edges.len() {
+        let mut place = self.way.newest(node_at(nodes, start));
+        for _ in 0..EDGES {
             let Some(edge) = edge_at(edges, place) else {
                 return Ok(());
             };
-            if let Some(slack) = slack_of(nodes, edge) {
-                if let Some(longer) = length.checked_add(slack) {
-                    let end = self.end_of(edge);
-                    self.offer(end, longer, place)?;
-                }
-            }
+            self.walk(nodes, edge, place, length)?;
             place = word(earlier, place);
         }
         Ok(())

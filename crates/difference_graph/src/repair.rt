@@ -1,10 +1,11 @@
-//! Numbers that meet one edge more, by falling as little as they must (S. Cotton and O. Maler, Fast and Flexible Difference Constraint Propagation for DPLL(T), 2006).
+//! Numbers that meet one edge more, by falling as little as they must (S. Cotton and O. Maler, Fast and Flexible Difference Constraint Propagation for DPLL(T), 2006), or by rising, which is the same with edges and signs turned.
 ghost use Rattle.std.specs.Prelude.{IfOk};
 ghost use Rattle.difference_graph.specs.Edges.{AreTagsWith};
 
 use crate::edge::{Edge, edge_at, short, tags_of, word};
 use crate::nodes::{Node, node_at, put_node, put_number};
 use crate::queue::{Queue, Waiting};
+use crate::way::Way;
 use std::alloc::{AllocError, Global};
 
 /// How a repair ends.
@@ -28,12 +29,13 @@ pub(crate) struct Former {
 /// The lists of a repair, for the next one.
 #[derive(Drop)]
 pub(crate) struct Repair {
+    way: Way,
     queue: Queue,
     formers: Vec<Former>,
     round: u32,
 }
 
-/// By how much the number of an edge's end is to fall.
+/// By how much the number of an edge's end is to fall, or that of its start to rise.
 fn fall_of(from: i64, to: i64, weight: i64) -> Option<i64> {
     to.checked_sub(from.checked_add(weight)?)
 }
@@ -42,9 +44,27 @@ impl Repair {
     /// It takes no memory.
     pub(crate) fn new(alloc: Global) -> Self {
         Repair {
+            way: Way::Along,
             queue: Queue::new(alloc),
             formers: Vec::new(alloc),
             round: 0,
+        }
+    }
+
+    /// By how much an edge is missed, where the node that it comes from, this way, has this number.
+    fn missed(&self, nodes: &[Node], edge: Edge, number: i64) -> Option<i64> {
+        let end = node_at(nodes, self.way.end_of(edge)).number;
+        match self.way {
+            Way::Along => fall_of(number, end, edge.weight),
+            Way::Against => fall_of(end, number, edge.weight),
+        }
+    }
+
+    /// The number of a node that has moved as it was asked. None where it leaves the range.
+    fn moved(&self, node: Node) -> Option<i64> {
+        match self.way {
+            Way::Along => node.number.checked_sub(node.fall),
+            Way::Against => node.number.checked_add(node.fall),
         }
     }
 
@@ -72,10 +92,10 @@ impl Repair {
         self.queue.push(fall, place)
     }
 
-    /// Lets the number of a node fall. None where it leaves the range.
+    /// Moves the number of a node. None where it leaves the range.
     fn lower(&mut self, nodes: &mut [Node], place: u32) -> Result<Option<i64>, AllocError> {
         let node = node_at(nodes, place);
-        let Some(number) = node.number.checked_sub(node.fall) else {
+        let Some(number) = self.moved(node) else {
             return Ok(None);
         };
         self.formers.push(Former {
@@ -91,7 +111,7 @@ impl Repair {
         Ok(Some(number))
     }
 
-    /// Asks for the fall that an edge wants, where the edge's start has this number. None where a number leaves the range; whether the fall comes round to the goal.
+    /// Asks for the fall that an edge wants, where the node that it comes from has this number. None where a number leaves the range; whether the fall comes round to the goal.
     fn follow(
         &mut self,
         nodes: &mut [Node],
@@ -100,15 +120,15 @@ impl Repair {
         number: i64,
         goal: u32,
     ) -> Result<Option<bool>, AllocError> {
-        let end = node_at(nodes, edge.to);
-        let Some(fall) = fall_of(number, end.number, edge.weight) else {
+        let Some(fall) = self.missed(nodes, edge, number) else {
             return Ok(None);
         };
         if fall <= 0 {
             return Ok(Some(false));
         }
-        self.ask(nodes, edge.to, fall, place)?;
-        Ok(Some(edge.to == goal))
+        let end = self.way.end_of(edge);
+        self.ask(nodes, end, fall, place)?;
+        Ok(Some(end == goal))
     }
 
     /// Asks for the falls that the edges from a node want.
@@ -121,7 +141,7 @@ impl Repair {
         number: i64,
         goal: u32,
     ) -> Result<Option<bool>, AllocError> {
-        let mut place = node_at(nodes, start).out;
+        let mut place = self.way.newest(node_at(nodes, start));
         for _ in 0..edges.len() {
             let Some(edge) = edge_at(edges, place) else {
                 return Ok(Some(false));
@@ -135,7 +155,7 @@ impl Repair {
         Ok(Some(false))
     }
 
-    /// Lets a node's number fall, if it is still to, and goes on from there.
+    /// Moves a node's number, if it is still to, and goes on from there.
     fn settle(
         &mut self,
         edges: &[Edge],
@@ -154,7 +174,7 @@ impl Repair {
         }
     }
 
-    /// Lets numbers fall until none has to.
+    /// Moves numbers until none has to.
     fn run(
         &mut self,
         edges: &[Edge],
@@ -175,7 +195,7 @@ impl Repair {
         Ok(Ending::Beyond)
     }
 
-    /// Gives the numbers back that have fallen.
+    /// Gives the numbers back that have moved.
     fn restore(&mut self, nodes: &mut [Node]) {
         for former in &self.formers {
             put_number(nodes, former.node, former.number);
@@ -186,7 +206,8 @@ impl Repair {
     pub(crate) fn meet(
         &mut self,
         edges: &[Edge],
-        earlier: &[u32],
+        earlier_out: &[u32],
+        earlier_into: &[u32],
         nodes: &mut [Node],
         edge: Edge,
     ) -> Result<Ending, AllocError> {
@@ -201,11 +222,16 @@ impl Repair {
         self.queue.clear();
         self.formers.clear();
         self.round = self.round.wrapping_add(1);
-        self.ask(nodes, edge.to, fall, short(edges.len()))?;
+        self.way = Way::to_meet(nodes, edge);
+        self.ask(nodes, self.way.end_of(edge), fall, short(edges.len()))?;
         if edge.from == edge.to {
             return Ok(Ending::Cycle);
         }
-        let ending = self.run(edges, earlier, nodes, edge.from);
+        let earlier = match self.way {
+            Way::Along => earlier_out,
+            Way::Against => earlier_into,
+        };
+        let ending = self.run(edges, earlier, nodes, self.way.start_of(edge));
         match ending {
             Ok(Ending::Met) => {}
             _ => self.restore(nodes),
@@ -214,7 +240,7 @@ impl Repair {
     }
 }
 
-/// The edges by which a fall came from the end of an edge to its start, in order.
+/// The edges by which a repair came from one end of an edge to the other, in order.
 fn way_round(
     alloc: Global,
     edges: &[Edge],
@@ -222,9 +248,11 @@ fn way_round(
     edge: Edge,
 ) -> Result<Vec<u32>, AllocError> {
     let mut places = Vec::new(alloc);
-    let mut node = edge.from;
+    let way = Way::to_meet(nodes, edge);
+    let goal = way.end_of(edge);
+    let mut node = way.start_of(edge);
     for _ in 0..nodes.len() {
-        if node == edge.to {
+        if node == goal {
             break;
         }
         let place = node_at(nodes, node).via;
@@ -232,13 +260,15 @@ fn way_round(
             break;
         };
         places.push(place)?;
-        node = before.from;
+        node = way.start_of(before);
     }
-    places.reverse();
+    if way == Way::Along {
+        places.reverse();
+    }
     Ok(places)
 }
 
-/// The tags of the edges by which a fall came from the end of an edge to its start, in order, and that of the edge.
+/// The tags of the edges by which a repair came from one end of an edge to the other, in order, and that of the edge.
 pub(crate) fn cycle_tags(
     alloc: Global,
     edges: &[Edge],

@@ -7,6 +7,12 @@ use difference_graph::{Asserted, DifferenceGraph, Edge, Implied};
 use literals::Literal;
 use std::alloc::{AllocError, Global};
 
+/// How many edges a call may walk to find paths, where all bounds told are differences: the graph's numbers alone tell then whether they can be met.
+const STEPS: u64 = 16;
+
+/// How many, where sums are to be looked at too. That costs more, and a path may save it.
+const STEPS_BESIDE_SUMS: u64 = 1024;
+
 /// What was taken before a literal.
 #[derive(Clone, Copy, Drop)]
 struct Mark {
@@ -122,6 +128,16 @@ impl Differences {
         Ok(None)
     }
 
+    /// Lets paths be looked for a little more.
+    fn allow_paths(&mut self) {
+        let steps = if self.others == 0 {
+            STEPS
+        } else {
+            STEPS_BESIDE_SUMS
+        };
+        self.graph.allow(steps);
+    }
+
     /// Takes what the log has more. The tags of the first cycle, where there is one.
     pub(crate) fn take(
         &mut self,
@@ -140,15 +156,16 @@ impl Differences {
             }
             self.marks.push(mark)?;
         }
+        self.allow_paths();
         Ok(None)
     }
 
-    /// What follows from the next edge that wasn't looked round yet. None where each was.
+    /// What follows from the next edge that wasn't looked round yet. None where each was, or paths aren't worth looking for.
     pub(crate) fn next_implied(
         &mut self,
         alloc: Global,
     ) -> Result<Option<Vec<Implied>>, AllocError> {
-        if self.seen >= self.graph.len() {
+        if self.seen >= self.graph.len() || !self.graph.looks() {
             return Ok(None);
         }
         let place = self.seen;
