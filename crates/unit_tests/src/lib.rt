@@ -1,23 +1,35 @@
-//! Tests of numbers, fractions and pivots.
+//! Tests of single calls, each a table with outcomes from elsewhere: numbers, terms, clauses, conflicts, bytes and words.
 //!
-//! Tests of linear forms, of sums, of bounds on them and of branches.
-//!
-//! Tests of stores of clauses, of the clauses of terms, and of what follows from equalities and what they break.
-//!
-//! Tests of terms, names, sorts and atoms as they are kept, and of values and tables.
-//!
-//! Tests of bytes and words as they come in, of tokens, commands and tables, and of the texts that go out.
+//! What a script reaches is tested by the runs of the program; here stands what no script tells apart, or no program calls.
 #![tactic(auto)]
 
 #[cfg(test)]
-mod integer_tests;
+mod assertions;
 #[cfg(test)]
-mod number_tests;
+mod bounds;
 #[cfg(test)]
-mod search_tests;
+mod clauses;
 #[cfg(test)]
-mod shown;
+mod conflicts;
 #[cfg(test)]
-mod store_tests;
+mod ends;
 #[cfg(test)]
-mod text_tests;
+mod equalities;
+#[cfg(test)]
+mod fractions;
+#[cfg(test)]
+mod gates;
+#[cfg(test)]
+mod pairs;
+#[cfg(test)]
+mod pivots;
+#[cfg(test)]
+mod reading;
+#[cfg(test)]
+mod rows;
+#[cfg(test)]
+mod terms;
+#[cfg(test)]
+mod values;
+#[cfg(test)]
+mod words;
