@@ -1,7 +1,7 @@
 use crate::seq::Bytes;
 
 /// A channel for output (SMT-LIB 2.6, section 4.1.7).
-#[derive(Clone, Copy, PartialEq, Eq, Debug, Drop)]
+#[derive(Clone, Copy, PartialEq, Eq, Drop)]
 pub enum Channel {
     /// `"stdout"`
     Stdout,
@@ -10,7 +10,7 @@ pub enum Channel {
 }
 
 /// An option (SMT-LIB 2.6, section 4.1.7).
-#[derive(Clone, Copy, PartialEq, Eq, Debug, Drop)]
+#[derive(Clone, Copy, PartialEq, Eq, Drop)]
 pub enum OptionName {
     PrintSuccess,
     RegularOutputChannel,
@@ -25,7 +25,7 @@ pub enum OptionName {
 }
 
 /// An option with the value that it is to have.
-#[derive(Clone, Copy, PartialEq, Eq, Debug, Drop)]
+#[derive(Clone, Copy, PartialEq, Eq, Drop)]
 pub enum OptionSetting {
     PrintSuccess(bool),
     /// The only regular channel is `"stdout"`.
@@ -40,7 +40,7 @@ pub enum OptionSetting {
 }
 
 /// The options' values. The regular channel is always `"stdout"`.
-#[derive(Clone, Copy, PartialEq, Eq, Debug, Drop)]
+#[derive(Clone, Copy, PartialEq, Eq, Drop)]
 pub struct Options {
     pub print_success: bool,
     pub diagnostic_output_channel: Channel,
@@ -53,7 +53,7 @@ pub struct Options {
 }
 
 /// What `get-option` answers.
-#[derive(Debug, Drop)]
+#[derive(Drop)]
 pub enum OptionValue {
     Truth(bool),
     Number(i128),
@@ -61,7 +61,7 @@ pub enum OptionValue {
 }
 
 /// A piece of information (SMT-LIB 2.6, section 4.1.8).
-#[derive(Clone, Copy, PartialEq, Eq, Debug, Drop)]
+#[derive(Clone, Copy, PartialEq, Eq, Drop)]
 pub enum InfoName {
     Name,
     Version,
@@ -72,7 +72,7 @@ pub enum InfoName {
 }
 
 /// Why a check was answered by `unknown` (SMT-LIB 2.6, section 4.1.8).
-#[derive(Clone, Copy, PartialEq, Eq, Debug, Drop)]
+#[derive(Clone, Copy, PartialEq, Eq, Drop)]
 pub enum UnknownReason {
     /// Memory was wanting.
     Memout,
@@ -80,7 +80,7 @@ pub enum UnknownReason {
 }
 
 /// What `get-info` answers.
-#[derive(Clone, Copy, PartialEq, Eq, Debug, Drop)]
+#[derive(Clone, Copy, PartialEq, Eq, Drop)]
 pub enum Info {
     Name,
     Version,
