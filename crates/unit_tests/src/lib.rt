@@ -26,6 +26,8 @@ mod pivots;
 #[cfg(test)]
 mod reading;
 #[cfg(test)]
+mod room;
+#[cfg(test)]
 mod rows;
 #[cfg(test)]
 mod terms;
