@@ -7,7 +7,7 @@ use bound_table::SumBound;
 use smt_meaning::TermId;
 
 /// An atom that has a number. The sum of a bound is given by its number.
-#[derive(Clone, Copy, PartialEq, Eq, Debug, Drop)]
+#[derive(Clone, Copy, PartialEq, Eq, Drop)]
 pub enum NumberedAtom {
     /// The value of a Bool term.
     Truth(TermId),

@@ -6,7 +6,7 @@ use smt_meaning::TermId;
 use term_store::mix;
 
 /// An atom over the places of a list of terms, without a list of its own.
-#[derive(Clone, Copy, PartialEq, Eq, Debug, Drop)]
+#[derive(Clone, Copy, PartialEq, Eq, Drop)]
 pub enum CompactAtom {
     /// The value of a Bool term.
     Truth(TermId),

@@ -13,7 +13,7 @@ use pair_bounds::Limit;
 use std::alloc::AllocError;
 
 /// A literal that says that the sum of a group is at most a threshold.
-#[derive(Clone, Copy, PartialEq, Eq, PartialOrd, Ord, Debug, Drop)]
+#[derive(Clone, Copy, PartialEq, Eq, PartialOrd, Ord, Drop)]
 pub(crate) struct Link {
     pub(crate) group: u32,
     pub(crate) threshold: i128,

@@ -9,7 +9,7 @@ use literals::Literal;
 use std::alloc::{AllocError, Global};
 
 /// A bound of a sum: the number of its atom, and what the sum is at most.
-#[derive(Clone, Copy, PartialEq, Eq, Debug)]
+#[derive(Clone, Copy, PartialEq, Eq)]
 pub struct Bound {
     pub number: u32,
     pub threshold: i128,

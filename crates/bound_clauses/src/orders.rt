@@ -6,7 +6,7 @@ use smt_meaning::{Operator, TermId};
 use std::alloc::AllocError;
 
 /// How a term stands to another.
-#[derive(Clone, Copy, PartialEq, Eq, Debug)]
+#[derive(Clone, Copy, PartialEq, Eq)]
 pub enum Sense {
     /// At most as great.
     NotAbove,
@@ -15,7 +15,7 @@ pub enum Sense {
 }
 
 /// That the value of a term is at most that of another, or less.
-#[derive(Clone, Copy, PartialEq, Eq, Debug)]
+#[derive(Clone, Copy, PartialEq, Eq)]
 pub struct Order {
     pub sense: Sense,
     pub lesser: TermId,

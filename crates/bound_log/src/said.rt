@@ -10,7 +10,7 @@ use sum_bounds::{SumBounds, SumVariable};
 use tableau::Failure;
 
 /// What an atom says of sums.
-#[derive(Clone, Copy, Debug, Drop)]
+#[derive(Clone, Copy, Drop)]
 pub enum Said {
     /// Nothing.
     Nothing,

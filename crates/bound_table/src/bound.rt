@@ -6,7 +6,7 @@ use sum_table::mix_number;
 use term_store::mix;
 
 /// That a sum, given by its number, is at most a threshold.
-#[derive(Clone, Copy, PartialEq, Eq, Debug, Drop)]
+#[derive(Clone, Copy, PartialEq, Eq, Drop)]
 pub struct SumBound {
     pub sum: u32,
     pub threshold: i128,

@@ -11,7 +11,7 @@ use smt_meaning::{Head, Operator, Sort, TermId};
 use std::alloc::AllocError;
 
 /// An atom of a part.
-#[derive(Clone, Copy, PartialEq, Eq, Debug)]
+#[derive(Clone, Copy, PartialEq, Eq)]
 pub enum PartAtom {
     /// The value of a Bool term.
     Truth(TermId),

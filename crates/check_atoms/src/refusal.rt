@@ -4,7 +4,7 @@ use smt_meaning::TermId;
 use std::alloc::AllocError;
 
 /// Why the atoms of a stack aren't numbered.
-#[derive(Clone, Copy, PartialEq, Eq, Debug)]
+#[derive(Clone, Copy, PartialEq, Eq)]
 pub enum Refusal {
     /// Folding the term at this place leaves the range.
     Term(TermId),

@@ -4,7 +4,7 @@ use smt_meaning::TermId;
 use std::alloc::AllocError;
 
 /// Why the first clauses can't be kept.
-#[derive(Clone, Copy, PartialEq, Eq, Debug, Drop)]
+#[derive(Clone, Copy, PartialEq, Eq, Drop)]
 pub enum FirstError {
     /// The clauses of the part at this place can't be put.
     Part(TermId, PartError),

@@ -7,7 +7,7 @@ use bound_table::SumBound;
 use smt_meaning::Summand;
 
 /// That the number of a node is at most so much above that of another. Node 0 has the number 0, and each term has the node after its place.
-#[derive(Clone, Copy, PartialEq, Eq, Debug, Drop)]
+#[derive(Clone, Copy, PartialEq, Eq, Drop)]
 pub struct Difference {
     pub from: u32,
     pub to: u32,

@@ -5,7 +5,7 @@ ghost use Rattle.difference_graph.specs.Edges.{AreTags};
 use std::alloc::{AllocError, Global};
 
 /// That the number of a node is at most so much above that of another. Tags come in pairs, `2 n` and `2 n + 1`, of which one excludes the other.
-#[derive(Clone, Copy, PartialEq, Eq, Debug, Drop)]
+#[derive(Clone, Copy, PartialEq, Eq, Drop)]
 pub struct Edge {
     pub from: u32,
     pub to: u32,

@@ -4,7 +4,7 @@ use std::alloc::{AllocError, AllocFailed};
 use term_store::InternError;
 
 /// Why no term comes out.
-#[derive(Debug, Drop)]
+#[derive(Drop)]
 pub enum JudgeError {
     /// The term is refused.
     Refused(Refusal),

@@ -50,14 +50,14 @@ use term_store::{Named, TermStore};
 use value::Value;
 
 /// A term that was judged: its place in the list of terms, and its sort.
-#[derive(Clone, Copy, PartialEq, Eq, Debug, Drop)]
+#[derive(Clone, Copy, PartialEq, Eq, Drop)]
 pub struct TypedTerm {
     pub id: TermId,
     pub sort: Sort,
 }
 
 /// A parameter of a definition.
-#[derive(Debug, Drop)]
+#[derive(Drop)]
 pub struct Parameter {
     pub name: Bytes,
     pub sort: Sort,

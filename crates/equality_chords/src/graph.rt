@@ -11,7 +11,7 @@ use stack_atoms::StackAtoms;
 use std::alloc::{AllocError, Global};
 
 /// The numbers of three equalities between three terms.
-#[derive(Clone, Copy, Debug, Drop)]
+#[derive(Clone, Copy, Drop)]
 pub struct Triangle {
     pub first: u32,
     pub second: u32,

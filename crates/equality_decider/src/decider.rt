@@ -15,7 +15,7 @@ use std::alloc::{AllocError, Global};
 use theory_port::{Decider, Verdict};
 
 /// Decides the checks of stacks without integers: Booleans, declared sorts and functions over them. Each check begins anew, and where there is no limit of units, memory alone ends it without an answer.
-#[derive(Clone, Copy, Debug, Drop)]
+#[derive(Clone, Copy, Drop)]
 pub struct Alone;
 
 impl Decider for Alone {
@@ -38,7 +38,7 @@ impl Decider for Alone {
 }
 
 /// Decides the same checks by the same search, which without a limit of units forgets learnt clauses of more than 8 literals that it doesn't use.
-#[derive(Clone, Copy, Debug, Drop)]
+#[derive(Clone, Copy, Drop)]
 pub struct Forgetful;
 
 impl Decider for Forgetful {

@@ -2,7 +2,7 @@
 use smt_meaning::Settings;
 
 /// Which learnt clauses a search keeps.
-#[derive(Clone, Copy, Debug, PartialEq, Eq, Drop)]
+#[derive(Clone, Copy, PartialEq, Eq, Drop)]
 pub(crate) enum Keeping {
     /// All of them.
     All,

@@ -19,7 +19,7 @@ use std::alloc::{AllocError, AllocFailed};
 use term_store::TermStore;
 
 /// Why exact values aren't shown to be those of terms.
-#[derive(Clone, Copy, PartialEq, Eq, Debug, Drop)]
+#[derive(Clone, Copy, PartialEq, Eq, Drop)]
 pub enum Unshown {
     /// An operator makes another value, or a test that is made has no answer.
     Other,

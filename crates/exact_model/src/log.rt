@@ -14,7 +14,7 @@ use std::alloc::{AllocError, Global};
 use term_store::TermStore;
 
 /// What a log is under tables.
-#[derive(Clone, Copy, PartialEq, Eq, Debug, Drop)]
+#[derive(Clone, Copy, PartialEq, Eq, Drop)]
 pub enum Verdict {
     /// Each literal is true.
     AllTrue,

@@ -8,7 +8,7 @@ use smt_meaning::{Atom, Seq, Sum, Summand, TermId};
 use std::alloc::{AllocError, Global};
 
 /// A whole number, and two bounds of which exactly one holds of a whole term.
-#[derive(Debug, Drop)]
+#[derive(Drop)]
 pub struct Sides {
     /// The greatest whole number that is at most the value.
     pub floor: i128,

@@ -16,7 +16,7 @@ pub(crate) struct Coefficient {
 }
 
 /// Why a folding stops.
-#[derive(Clone, Copy, PartialEq, Eq, Debug, Drop)]
+#[derive(Clone, Copy, PartialEq, Eq, Drop)]
 pub(crate) enum Stop {
     /// A number leaves the range.
     Range,

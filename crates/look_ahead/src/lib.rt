@@ -21,7 +21,7 @@ use smt_meaning::{Refusal, SExpr};
 use std::alloc::{AllocError, Global};
 
 /// Why the form of a term isn't accepted.
-#[derive(Debug, Drop)]
+#[derive(Drop)]
 pub enum LookError {
     /// The term is refused.
     Refused(Refusal),

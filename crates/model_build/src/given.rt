@@ -2,7 +2,7 @@
 use smt_meaning::{TermId, Value};
 
 /// What a place of a store is given.
-#[derive(Clone, Copy, PartialEq, Eq, Debug, Drop)]
+#[derive(Clone, Copy, PartialEq, Eq, Drop)]
 pub enum Given {
     /// The place isn't marked.
     Unmarked,
@@ -13,7 +13,7 @@ pub enum Given {
 }
 
 /// Two applications that no table gives what they are given.
-#[derive(Clone, Copy, PartialEq, Eq, Debug, Drop)]
+#[derive(Clone, Copy, PartialEq, Eq, Drop)]
 pub struct Clash {
     pub first: TermId,
     pub second: TermId,

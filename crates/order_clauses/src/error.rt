@@ -4,7 +4,7 @@ use smt_meaning::TermId;
 use std::alloc::{AllocError, AllocFailed};
 
 /// Why the clauses of a part can't be put.
-#[derive(Clone, Copy, PartialEq, Eq, Debug, Drop)]
+#[derive(Clone, Copy, PartialEq, Eq, Drop)]
 pub enum PartError {
     /// An atom of the clauses has no number.
     Missing,

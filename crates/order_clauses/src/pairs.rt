@@ -6,7 +6,7 @@ use smt_meaning::{Operator, TermId};
 use std::alloc::AllocError;
 
 /// Two terms that are compared.
-#[derive(Clone, Copy, PartialEq, Eq, Debug, Drop)]
+#[derive(Clone, Copy, PartialEq, Eq, Drop)]
 pub(crate) struct Pair {
     pub(crate) left: TermId,
     pub(crate) right: TermId,

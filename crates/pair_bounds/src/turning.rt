@@ -11,7 +11,7 @@ ghost use Rattle.pair_bounds.specs.Turning.{is_turned, negation_of, turned, limi
 use smt_meaning::Summand;
 
 /// What a sum is at most, or at least.
-#[derive(Clone, Copy, PartialEq, Eq, Debug, Drop)]
+#[derive(Clone, Copy, PartialEq, Eq, Drop)]
 pub enum Limit {
     AtMost(i128),
     AtLeast(i128),

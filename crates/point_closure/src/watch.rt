@@ -3,7 +3,7 @@ ghost use Rattle.std.specs.Prelude.{◌≡◌, ◌<◌, ℕ, Bool, false, length
 ghost use Rattle.point_closure.specs.Rest.{watch_at, must_differ as watched_must_differ};
 
 /// What a pair of points is watched for.
-#[derive(Clone, Copy, PartialEq, Eq, Debug, Drop)]
+#[derive(Clone, Copy, PartialEq, Eq, Drop)]
 pub enum Watched {
     /// The truth values: they differ without a reason.
     Truths,

@@ -88,7 +88,7 @@ impl Source for CalmSource {
 }
 
 /// A sink that never fails. It takes all bytes, keeps none of them, and tells nothing.
-#[derive(Clone, Copy, Debug, Drop)]
+#[derive(Clone, Copy, Drop)]
 pub struct CalmSink;
 
 impl Sink for CalmSink {

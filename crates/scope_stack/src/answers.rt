@@ -3,7 +3,7 @@ use smt_meaning::{Refusal, SExpr, Sort, TermId};
 use std::alloc::{AllocError, AllocFailed};
 
 /// A command that isn't refused.
-#[derive(Clone, Copy, PartialEq, Eq, Debug, Drop)]
+#[derive(Clone, Copy, PartialEq, Eq, Drop)]
 pub enum Carried {
     /// It is carried out.
     Done,
@@ -12,7 +12,7 @@ pub enum Carried {
 }
 
 /// Why a command isn't carried out.
-#[derive(Debug, Drop)]
+#[derive(Drop)]
 pub enum StackError {
     /// It is judged to be refused.
     Refused(Refusal),
@@ -43,14 +43,14 @@ impl<T: Drop> From<AllocFailed<T>> for StackError {
 }
 
 /// A term that is asserted: as it is written, and the place of its tree.
-#[derive(Debug, Drop)]
+#[derive(Drop)]
 pub struct Assertion {
     pub text: SExpr,
     pub term: TermId,
 }
 
 /// A term whose value is asked for: the place of its tree, and its sort.
-#[derive(Clone, Copy, PartialEq, Eq, Debug, Drop)]
+#[derive(Clone, Copy, PartialEq, Eq, Drop)]
 pub struct Asked {
     pub term: TermId,
     pub sort: Sort,

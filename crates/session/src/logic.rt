@@ -5,7 +5,7 @@ ghost use Rattle.smt_meaning.specs.State.{logics};
 ghost use Rattle.session.specs.Logics.{logic_name};
 
 /// A logic (SMT-LIB 2.6, section 5.5). All are treated alike.
-#[derive(Clone, Copy, PartialEq, Eq, Debug, Drop)]
+#[derive(Clone, Copy, PartialEq, Eq, Drop)]
 pub enum Logic {
     QfUflia,
     QfUf,

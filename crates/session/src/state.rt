@@ -41,7 +41,7 @@ impl Model for Session {
 }
 
 /// What a command comes to.
-#[derive(Debug, Drop)]
+#[derive(Drop)]
 pub struct Done {
     pub reply: Reply,
     /// What the journal keeps with the reply.

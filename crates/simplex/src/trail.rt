@@ -7,7 +7,7 @@ use std::alloc::{AllocError, Global};
 use std::marker::Model;
 
 /// A bound that is set, with its tag.
-#[derive(Clone, Copy, PartialEq, Eq, Debug, Drop)]
+#[derive(Clone, Copy, PartialEq, Eq, Drop)]
 pub struct Set {
     pub variable: u32,
     pub side: Side,
@@ -16,7 +16,7 @@ pub struct Set {
 }
 
 /// The number and the tag of a bound that stands.
-#[derive(Clone, Copy, PartialEq, Eq, Debug, Drop)]
+#[derive(Clone, Copy, PartialEq, Eq, Drop)]
 pub struct Held {
     pub number: i128,
     pub tag: u32,

@@ -8,7 +8,7 @@ use crate::tokens::SExpr;
 use crate::values::Interp;
 
 /// A value as it is printed.
-#[derive(Debug, Drop)]
+#[derive(Drop)]
 pub enum PrintedValue {
     Truth(bool),
     Whole(i128),
@@ -17,21 +17,21 @@ pub enum PrintedValue {
 }
 
 /// A term as it was given, and its value.
-#[derive(Debug, Drop)]
+#[derive(Drop)]
 pub struct TermValue {
     pub term: SExpr,
     pub value: PrintedValue,
 }
 
 /// The value at a list of arguments, as it is printed.
-#[derive(Debug, Drop)]
+#[derive(Drop)]
 pub struct PrintedRow {
     pub arguments: Seq<PrintedValue>,
     pub value: PrintedValue,
 }
 
 /// A function of a model as it is printed: its name, the names of its sorts, its rows and its default.
-#[derive(Debug, Drop)]
+#[derive(Drop)]
 pub struct PrintedFunction {
     pub name: Bytes,
     pub arguments: Seq<Bytes>,
@@ -41,7 +41,7 @@ pub struct PrintedFunction {
 }
 
 /// A reply (SMT-LIB 2.6, section 4.1), with all that its text prints.
-#[derive(Debug, Drop)]
+#[derive(Drop)]
 pub enum Reply {
     /// The command was carried out, and `:print-success` is on after it.
     Success,
@@ -61,7 +61,7 @@ pub enum Reply {
 }
 
 /// The modes (SMT-LIB 2.6, section 4.1.3).
-#[derive(Debug, Drop)]
+#[derive(Drop)]
 pub enum Mode {
     Start,
     Assert,
@@ -73,7 +73,7 @@ pub enum Mode {
 }
 
 /// An entry of the journal: what was answered to one s-expression, or to a fault.
-#[derive(Debug, Drop)]
+#[derive(Drop)]
 pub struct Entry {
     /// Counted from 0.
     pub number: u64,

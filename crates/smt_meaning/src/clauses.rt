@@ -9,7 +9,7 @@ pub type AtomId = u64;
 pub type ClauseId = u64;
 
 /// A coefficient and the Int term that it multiplies.
-#[derive(Clone, Copy, PartialEq, Eq, Debug, Drop)]
+#[derive(Clone, Copy, PartialEq, Eq, Drop)]
 pub struct Summand {
     pub coefficient: i128,
     pub term: TermId,
@@ -19,7 +19,7 @@ pub struct Summand {
 pub type Sum = Seq<Summand>;
 
 /// An atom over the places of a list of terms.
-#[derive(Debug, Drop)]
+#[derive(Drop)]
 pub enum Atom {
     /// The value of a Bool term.
     Truth(TermId),
@@ -30,14 +30,14 @@ pub enum Atom {
 }
 
 /// An atom, or its negation.
-#[derive(Debug, Drop)]
+#[derive(Drop)]
 pub struct Literal {
     pub atom: Atom,
     pub positive: bool,
 }
 
 /// A disjunction of literals, with the level of the stack from which it follows.
-#[derive(Debug, Drop)]
+#[derive(Drop)]
 pub struct Clause {
     pub literals: Seq<Literal>,
     pub level: u16,

@@ -4,7 +4,7 @@ use crate::seq::{Bytes, Seq};
 use crate::tokens::SExpr;
 
 /// A sort as it is written.
-#[derive(Debug, Drop)]
+#[derive(Drop)]
 pub enum WrittenSort {
     /// A symbol.
     Name(Bytes),
@@ -13,14 +13,14 @@ pub enum WrittenSort {
 }
 
 /// A parameter of a definition, with its sort as it is written.
-#[derive(Debug, Drop)]
+#[derive(Drop)]
 pub struct Parameter {
     pub name: Bytes,
     pub sort: WrittenSort,
 }
 
 /// A command (SMT-LIB 2.6, section 4.2), judged from an s-expression alone. Its terms and sorts are as they are written, and its numbers are at most 2^127 - 1.
-#[derive(Debug, Drop)]
+#[derive(Drop)]
 pub enum Command {
     /// `(set-logic name)`
     SetLogic(Bytes),

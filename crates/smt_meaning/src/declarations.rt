@@ -10,14 +10,14 @@ use crate::values::{Sort, SymId};
 use std::marker::Model;
 
 /// The rank of a function symbol (SMT-LIB 2.6, section 5.2): the sorts of its arguments and of its result.
-#[derive(Debug, Drop)]
+#[derive(Drop)]
 pub struct Rank {
     pub arguments: Seq<Sort>,
     pub result: Sort,
 }
 
 /// The body of a definition, with terms of its own.
-#[derive(Debug, Drop)]
+#[derive(Drop)]
 pub struct Body {
     terms: Terms,
     place: TermId,
@@ -65,7 +65,7 @@ impl Body {
 }
 
 /// What is declared or defined under a name.
-#[derive(Debug, Drop)]
+#[derive(Drop)]
 pub struct Declaration {
     id: SymId,
     name: Bytes,

@@ -5,7 +5,7 @@ use crate::seq::Bytes;
 use crate::tokens::FaultKind;
 
 /// An error (SMT-LIB 2.6, section 4.1.1), with all that its text prints.
-#[derive(Debug, Drop)]
+#[derive(Drop)]
 pub enum Error {
     /// E1 to E4: the input can't be read on from this byte, counted from 0.
     Fault(FaultKind, u64),

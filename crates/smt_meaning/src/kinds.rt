@@ -6,7 +6,7 @@ ghost use Rattle.smt_meaning.specs.Flat.{token_of};
 use crate::tokens::{TokenView, Word};
 
 /// What a token is, beside its bytes.
-#[derive(Clone, Copy, Debug, Drop)]
+#[derive(Clone, Copy, Drop)]
 pub enum Kind {
     Enter,
     Leave,

@@ -10,14 +10,14 @@ use std::marker::Model;
 use std::sync::Arc;
 
 /// A term: its head, and the places of its arguments in a list where they stand before it.
-#[derive(Debug, Drop)]
+#[derive(Drop)]
 pub struct Node {
     pub head: Head,
     pub arguments: Seq<TermId>,
 }
 
 /// A part of a list of terms, which several lists may share.
-#[derive(Debug, Drop)]
+#[derive(Drop)]
 pub struct Layer {
     nodes: Arc<Vec<Node>>,
 }
@@ -56,7 +56,7 @@ impl Layer {
 }
 
 /// A list of terms, each after its arguments, which contracts see as the list of their trees.
-#[derive(Debug, Drop)]
+#[derive(Drop)]
 pub struct Terms {
     layers: Vec<Layer>,
 }

@@ -2,7 +2,7 @@
 use crate::seq::Bytes;
 
 /// A channel for output (SMT-LIB 2.6, section 4.1.7).
-#[derive(Clone, Copy, PartialEq, Eq, Debug, Drop)]
+#[derive(Clone, Copy, PartialEq, Eq, Drop)]
 pub enum Channel {
     /// `"stdout"`
     Stdout,
@@ -11,7 +11,7 @@ pub enum Channel {
 }
 
 /// An option (SMT-LIB 2.6, section 4.1.7).
-#[derive(Clone, Copy, PartialEq, Eq, Debug, Drop)]
+#[derive(Clone, Copy, PartialEq, Eq, Drop)]
 pub enum OptionName {
     PrintSuccess,
     RegularOutputChannel,
@@ -26,7 +26,7 @@ pub enum OptionName {
 }
 
 /// An option with the value that it is to have.
-#[derive(Clone, Copy, PartialEq, Eq, Debug, Drop)]
+#[derive(Clone, Copy, PartialEq, Eq, Drop)]
 pub enum OptionSetting {
     PrintSuccess(bool),
     /// The only regular channel is `"stdout"`.
@@ -41,7 +41,7 @@ pub enum OptionSetting {
 }
 
 /// The options' values. The regular channel is always `"stdout"`.
-#[derive(Clone, Copy, PartialEq, Eq, Debug, Drop)]
+#[derive(Clone, Copy, PartialEq, Eq, Drop)]
 pub struct Options {
     pub print_success: bool,
     pub diagnostic_output_channel: Channel,
@@ -54,7 +54,7 @@ pub struct Options {
 }
 
 /// What `get-option` answers.
-#[derive(Debug, Drop)]
+#[derive(Drop)]
 pub enum OptionValue {
     Truth(bool),
     Number(i128),
@@ -62,7 +62,7 @@ pub enum OptionValue {
 }
 
 /// A piece of information (SMT-LIB 2.6, section 4.1.8).
-#[derive(Clone, Copy, PartialEq, Eq, Debug, Drop)]
+#[derive(Clone, Copy, PartialEq, Eq, Drop)]
 pub enum InfoName {
     Name,
     Version,
@@ -73,7 +73,7 @@ pub enum InfoName {
 }
 
 /// Why a check was answered by `unknown` (SMT-LIB 2.6, section 4.1.8).
-#[derive(Clone, Copy, PartialEq, Eq, Debug, Drop)]
+#[derive(Clone, Copy, PartialEq, Eq, Drop)]
 pub enum UnknownReason {
     /// Memory was wanting.
     Memout,
@@ -81,7 +81,7 @@ pub enum UnknownReason {
 }
 
 /// What `get-info` answers.
-#[derive(Clone, Copy, PartialEq, Eq, Debug, Drop)]
+#[derive(Clone, Copy, PartialEq, Eq, Drop)]
 pub enum Info {
     Name,
     Version,

@@ -3,7 +3,7 @@ use crate::seq::Bytes;
 use crate::tokens::Token;
 
 /// Why a term, or a command that works on the stack, is refused.
-#[derive(Debug, Drop)]
+#[derive(Drop)]
 pub enum Refusal {
     /// E5: a numeral past 128 bits.
     NumeralTooLarge,

@@ -4,7 +4,7 @@ use crate::seq::Seq;
 use crate::values::Interp;
 
 /// What is kept with a reply.
-#[derive(Debug, Drop)]
+#[derive(Drop)]
 pub enum Kept {
     Nothing,
     /// With `sat`: an interpretation that makes every assertion true.

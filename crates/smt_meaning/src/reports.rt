@@ -6,7 +6,7 @@ use crate::values::Interp;
 use fraction128::{Grid, Line};
 
 /// A unit of a worker's work, by which the work of a check is limited.
-#[derive(Debug, Drop)]
+#[derive(Drop)]
 pub enum Unit {
     /// It learnt a clause.
     Learnt(Clause),
@@ -17,7 +17,7 @@ pub enum Unit {
 }
 
 /// Where a number left the range.
-#[derive(Debug, Drop)]
+#[derive(Drop)]
 pub enum RangeSeen {
     /// Folding this part, or a pair that it compares.
     Coefficient(TermId),
@@ -32,7 +32,7 @@ pub enum RangeSeen {
 }
 
 /// Why a worker ended without an answer.
-#[derive(Debug, Drop)]
+#[derive(Drop)]
 pub enum Cause {
     /// It had spent these units, oldest first, and might spend no more.
     Units(Seq<Unit>),
@@ -43,7 +43,7 @@ pub enum Cause {
 }
 
 /// What a worker shows that ended without an answer.
-#[derive(Debug, Drop)]
+#[derive(Drop)]
 pub struct Report {
     /// Counted from 0.
     pub worker: u8,

@@ -13,7 +13,7 @@ use std::alloc::{AllocError, Global};
 use std::marker::Model;
 
 /// A reserved word that may stand in a term (SMT-LIB 2.6, section 3.1).
-#[derive(Clone, Copy, PartialEq, Eq, Debug, Drop)]
+#[derive(Clone, Copy, PartialEq, Eq, Drop)]
 pub enum Word {
     /// `!`
     Exclamation,
@@ -34,7 +34,7 @@ pub enum Word {
 }
 
 /// A token of the input (SMT-LIB 2.6, section 3.1). A quoted symbol is the same as the plain one with its bytes.
-#[derive(Debug, Drop)]
+#[derive(Drop)]
 pub enum Token {
     /// `(`
     Enter,
@@ -59,7 +59,7 @@ pub enum Token {
 }
 
 /// A token whose bytes stand elsewhere.
-#[derive(Clone, Copy, Debug, Drop)]
+#[derive(Clone, Copy, Drop)]
 pub enum TokenView<'a> {
     /// `(`
     Enter,
@@ -124,7 +124,7 @@ impl Token {
 }
 
 /// A list of tokens in the making. Their bytes stand one after another, so that a token takes no memory of its own.
-#[derive(Debug, Drop)]
+#[derive(Drop)]
 pub struct Tokens {
     bytes: Vec<u8>,
     kinds: Vec<Kind>,
@@ -270,7 +270,7 @@ fn push_within<T: Drop>(items: &mut Vec<T>, value: T)
 }
 
 /// One s-expression (SMT-LIB 2.6, section 3.2): a list of tokens with matched parentheses.
-#[derive(Debug, Drop)]
+#[derive(Drop)]
 pub struct SExpr {
     tokens: Tokens,
 }
@@ -327,7 +327,7 @@ impl SExpr {
 }
 
 /// Why the input can't be read on.
-#[derive(Clone, Copy, Debug, PartialEq, Eq, Drop)]
+#[derive(Clone, Copy, PartialEq, Eq, Drop)]
 pub enum FaultKind {
     /// A byte that can't stand where it stands.
     Character,

@@ -26,14 +26,14 @@ pub enum Value {
 }
 
 /// The value at a list of arguments.
-#[derive(Debug, Drop)]
+#[derive(Drop)]
 pub struct Row {
     pub arguments: Seq<Value>,
     pub value: Value,
 }
 
 /// A function: its rows, and the default at other arguments.
-#[derive(Debug, Drop)]
+#[derive(Drop)]
 pub struct Table {
     pub symbol: SymId,
     pub rows: Seq<Row>,

@@ -7,7 +7,7 @@ ghost use Rattle.smt_reader.specs.Parts.{form_token};
 use crate::byte::{is_binary_digit, is_digit, is_hex_digit, is_symbol_byte};
 
 /// The form that a word has so far (SMT-LIB 2.6, section 3.1).
-#[derive(Clone, Copy, Debug, PartialEq, Eq, Drop)]
+#[derive(Clone, Copy, PartialEq, Eq, Drop)]
 pub enum Form {
     /// A simple symbol or a reserved word.
     Simple,

@@ -22,7 +22,7 @@ pub use reader::Reader;
 use smt_meaning::{FaultKind, SExpr};
 
 /// What a reader finds next.
-#[derive(Debug, Drop)]
+#[derive(Drop)]
 pub enum Next {
     /// An s-expression (SMT-LIB 2.6, section 3.2), which the reader has then read.
     Ready(SExpr),

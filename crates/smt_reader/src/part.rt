@@ -16,7 +16,7 @@ use crate::form::Form;
 use smt_meaning::{TokenView, Word};
 
 /// Where in the input's tokens the bytes so far end.
-#[derive(Clone, Copy, Debug, PartialEq, Eq, Drop)]
+#[derive(Clone, Copy, PartialEq, Eq, Drop)]
 pub enum Part {
     /// Between tokens.
     Blank,
@@ -33,7 +33,7 @@ pub enum Part {
 }
 
 /// What a byte does in a part of a token.
-#[derive(Clone, Copy, Debug, PartialEq, Eq, Drop)]
+#[derive(Clone, Copy, PartialEq, Eq, Drop)]
 pub enum Turn {
     /// It is `(`.
     Enters,
@@ -54,7 +54,7 @@ pub enum Turn {
 }
 
 /// What the end of the input does in a part of a token.
-#[derive(Clone, Copy, Debug, PartialEq, Eq, Drop)]
+#[derive(Clone, Copy, PartialEq, Eq, Drop)]
 pub enum Ending {
     /// No token is there.
     Bare,
@@ -67,7 +67,7 @@ pub enum Ending {
 }
 
 /// How far bytes were passed over.
-#[derive(Clone, Copy, Debug, Drop)]
+#[derive(Clone, Copy, Drop)]
 pub struct Run {
     /// How many bytes were passed over.
     pub passed: usize,
@@ -78,7 +78,7 @@ pub struct Run {
 }
 
 /// What one byte does, be it a turn or not.
-#[derive(Clone, Copy, Debug, PartialEq, Eq, Drop)]
+#[derive(Clone, Copy, PartialEq, Eq, Drop)]
 enum Step {
     /// It goes on in the same token, comment or white space, which has then been read up to this part.
     Stays(Part),

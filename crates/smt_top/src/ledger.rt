@@ -30,7 +30,7 @@ impl Ledger for Seq<Entry> {
 }
 
 /// A ledger that keeps no entry, and tells none: what a run needs of memory then doesn't grow with its length.
-#[derive(Clone, Copy, Debug, Drop)]
+#[derive(Clone, Copy, Drop)]
 pub struct Forgetting;
 
 impl Ledger for Forgetting {

@@ -56,7 +56,7 @@ pub struct Ended {
 }
 
 /// What cut a run off.
-#[derive(Clone, Copy, Debug, PartialEq, Eq, Drop)]
+#[derive(Clone, Copy, PartialEq, Eq, Drop)]
 pub enum Halt {
     Memory,
     ReadFault,

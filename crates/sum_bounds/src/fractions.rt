@@ -9,7 +9,7 @@ use fraction128::{Column, Fraction, Summand};
 use simplex::Simplex;
 
 /// A variable of a term whose value isn't whole, and the greatest whole number that is at most the value.
-#[derive(Clone, Copy, Debug, Drop)]
+#[derive(Clone, Copy, Drop)]
 pub struct FractionalLeaf {
     pub variable: u32,
     pub term: u32,

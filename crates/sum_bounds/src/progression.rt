@@ -72,7 +72,7 @@ fn factors_of(left: i128, right: i128) -> Factors
 }
 
 /// The numbers whose product with the scale is the start plus a multiple of the step.
-#[derive(Clone, Copy, Debug)]
+#[derive(Clone, Copy)]
 pub struct Progression {
     scale: i128,
     step: i128,

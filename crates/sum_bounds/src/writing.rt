@@ -14,7 +14,7 @@ use tableau::Part;
 use term_store::HashIndex;
 
 /// The variable of a sum, or of its negation where the sum's first coefficient is negative.
-#[derive(Clone, Copy, PartialEq, Eq, Debug, Drop)]
+#[derive(Clone, Copy, PartialEq, Eq, Drop)]
 pub struct SumVariable {
     pub variable: u32,
     pub turned: bool,

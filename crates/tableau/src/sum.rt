@@ -17,7 +17,7 @@ use std::alloc::Global;
 use std::mem;
 
 /// A coefficient and the variable that it multiplies.
-#[derive(Clone, Copy, PartialEq, Eq, Debug, Drop)]
+#[derive(Clone, Copy, PartialEq, Eq, Drop)]
 pub struct Part {
     pub coefficient: i128,
     pub variable: u32,

@@ -6,7 +6,7 @@ use smt_meaning::{Interp, Report, Seq, Settings};
 use std::alloc::{AllocError, Global};
 
 /// What is found of the assertions of a stack.
-#[derive(Debug, Drop)]
+#[derive(Drop)]
 pub enum Verdict {
     /// They have this model.
     Sat(Interp),

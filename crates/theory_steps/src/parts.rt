@@ -21,7 +21,7 @@ pub struct Parts<'s> {
 }
 
 /// Two Ints whose equality is to get a number.
-#[derive(Clone, Copy, PartialEq, Eq, Debug, Drop)]
+#[derive(Clone, Copy, PartialEq, Eq, Drop)]
 pub struct Pair {
     pub left: TermId,
     pub right: TermId,

@@ -1,18 +1,37 @@
-//! Tests of libraries, since a crate with tests is proved twice: of numbers, fractions and pivots;
-//! of linear forms, sums, bounds and branches; of terms, names, sorts, values and tables; of
-//! clauses, equalities and what they break; of bytes, words, tokens, commands and texts. Expected
-//! values come from outside: worked rows, exact fractions, a scan.
+//! Tests of single calls, each a table with outcomes from elsewhere: numbers, terms, clauses, conflicts, bytes and words.
+//!
+//! What a script reaches is tested by the runs of the program; here stands what no script tells apart, or no program calls.
 #![tactic(auto)]
 
 #[cfg(test)]
-mod integer_tests;
+mod assertions;
 #[cfg(test)]
-mod number_tests;
+mod bounds;
 #[cfg(test)]
-mod search_tests;
+mod clauses;
 #[cfg(test)]
-mod shown;
+mod conflicts;
 #[cfg(test)]
-mod store_tests;
+mod ends;
 #[cfg(test)]
-mod text_tests;
+mod equalities;
+#[cfg(test)]
+mod fractions;
+#[cfg(test)]
+mod gates;
+#[cfg(test)]
+mod pairs;
+#[cfg(test)]
+mod pivots;
+#[cfg(test)]
+mod reading;
+#[cfg(test)]
+mod room;
+#[cfg(test)]
+mod rows;
+#[cfg(test)]
+mod terms;
+#[cfg(test)]
+mod values;
+#[cfg(test)]
+mod words;

@@ -16,7 +16,7 @@ use theory_port::{Decider, Verdict};
 
 /// Decides the checks of all stacks: those without integers by the closure of congruence alone, others by the theory of equality and whole numbers.
 /// Each check begins anew.
-#[derive(Clone, Copy, Debug, Drop)]
+#[derive(Clone, Copy, Drop)]
 pub struct Whole;
 
 /// Decides a check of a stack with integers.

@@ -1,5 +1,0 @@
-use Rattle.congruence.specs.Recorded.{IsRecorded}
-use Rattle.unit_tests.proofs.search_tests.conflicts.take_all.Given as goal
-
-abbrev pub invariant-loop-at : goal.invariant-loop-at
-invariant-loop-at g l = IsRecorded l.congruence

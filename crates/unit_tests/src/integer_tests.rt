@@ -1,5 +1,0 @@
-mod bounds;
-mod forms;
-mod pairs;
-mod sums;
-mod thresholds;

@@ -1,3 +1,0 @@
-mod fractions;
-mod pivots;
-mod rows;

@@ -1,7 +1,0 @@
-mod assertions;
-mod bounds;
-mod classes;
-mod clauses;
-mod conflicts;
-mod equalities;
-mod scans;
