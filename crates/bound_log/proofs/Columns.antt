@@ -1,5 +1,5 @@
 -- The sums that variables stand for, from state to state.
-use Rattle.std.proofs.Common.{◌≡◌, ℕ, ◌<◌, ◌⊎◌, inl, inr, List, [], ◌∷◌, ◌++◌, length, get_or, ℤ, pos, refl, sym, ap, ◌∙◌, subst, arith}
+use Rattle.std.proofs.Common.{◌≡◌, ◌≢◌, ℕ, ◌<◌, ◌⊎◌, inl, inr, List, [], ◌∷◌, ◌++◌, length, get_or, ℤ, pos, refl, sym, ap, ◌∙◌, subst, arith}
 use Rattle.std.specs.Prelude.{All, Contains}
 use Rattle.std.proofs.lemmas.Bool.{cases_lt}
 use Rattle.std.proofs.lemmas.List.{length_push, length-map, get_or-map, get_or_default, get_or_append_left, get_or_push}
@@ -71,7 +71,7 @@ as_part ps = inr refl
 
 more_atoms : (table : List Atom) (a : Atom) (c : Column) → IsColumnOf table c → IsColumnOf (table ++ a ∷ []) c
 more_atoms table a c (inl h) = inl (record { terms = h.terms; most = h.most; part = h.part; atom = Contains-append_left table (a ∷ []) (AtMost h.terms h.most) h.atom; among = h.among; sum_is = h.sum_is })
-more_atoms table a c (inr h) = inr (record { terms = h.terms; most = h.most; atom = Contains-append_left table (a ∷ []) (AtMost h.terms h.most) h.atom; sum_is = h.sum_is })
+more_atoms table a c (inr h) = inr (record { terms = h.terms; most = h.most; atom = Contains-append_left table (a ∷ []) (AtMost h.terms h.most) h.atom; filled = h.filled; sum_is = h.sum_is })
 
 plain_one : Summand → GridSummand
 plain_one p = record { coefficient = p.coefficient; term = p.term }
@@ -86,30 +86,33 @@ of_plain ps q (k, lt, e) =
       ap (λ (x : GridSummand). x.term) (sym e ∙ get_or-map (λ (p : Summand). let r : GridSummand = record { coefficient = p.coefficient; term = p.term } in r) ps k d q short),
     )
 
-part_of : (table : List Atom) (ps : List Summand) (k : ℤ) (c : Column) → IsPartIn (plain ps) c.sum → IsColumnOf (table ++ AtMost ps k ∷ []) c
-part_of table ps k c (inl (q, among, e)) =
+pub not_empty : (ps : List Summand) → 0 < length ps → ps ≢ []
+not_empty ps lt e = absurd (omega (arith, lt, ap (length {A = Summand}) e))
+
+part_of : (table : List Atom) (ps : List Summand) (k : ℤ) (c : Column) → ps ≢ [] → IsPartIn (plain ps) c.sum → IsColumnOf (table ++ AtMost ps k ∷ []) c
+part_of table ps k c some (inl (q, among, e)) =
     let p = of_plain ps q among in
     inl (record { terms = ps; most = k; part = p.0; atom = Contains-push table (AtMost ps k); among = p.1; sum_is = e ∙ ap leaf p.2 })
-part_of table ps k c (inr e) = inr (record { terms = ps; most = k; atom = Contains-push table (AtMost ps k); sum_is = e })
+part_of table ps k c some (inr e) = inr (record { terms = ps; most = k; atom = Contains-push table (AtMost ps k); filled = some; sum_is = e })
 
 -- a column is told by its sum
 by_sum : (table : List Atom) (c d : Column) → d.sum ≡ c.sum → IsColumnOf table c → IsColumnOf table d
 by_sum table c d e h = subst (λ ps. IsLeafOf table ps ⊎ IsSumOf table ps) (sym e) h
 
-pub columns_more : (s u : State) (ps : List Summand) (k : ℤ) → AddsSums (IsPartIn (plain ps)) s.bounds u.bounds → AddsColumns s (AtMost ps k) u
-columns_more s u ps k adds table h i d lt =
+pub columns_more : (s u : State) (ps : List Summand) (k : ℤ) → ps ≢ [] → AddsSums (IsPartIn (plain ps)) s.bounds u.bounds → AddsColumns s (AtMost ps k) u
+columns_more s u ps k some adds table h i d lt =
     subst (IsColumnOf (table ++ AtMost ps k ∷ [])) (get_or_default u.bounds.columns i no_column d lt)
     (elim (adds i lt) [
       | inl w ↦
           by_sum (table ++ AtMost ps k ∷ []) (column_in s.bounds.columns i) (column_in u.bounds.columns i) w.1
           (more_atoms table (AtMost ps k) (column_in s.bounds.columns i) (h i no_column w.0))
-      | inr p ↦ part_of table ps k (column_in u.bounds.columns i) p
+      | inr p ↦ part_of table ps k (column_in u.bounds.columns i) some p
     ])
 
 -- a term alone more, as an atom on it has
 pub columns_leaf : (s u : State) (term : ℕ) (k : ℤ) → AddsSums (λ qs. qs ≡ leaf term) s.bounds u.bounds → AddsColumns s (term_at_most term k) u
 columns_leaf s u term k adds =
-    columns_more s u (summand term (pos 1) ∷ []) k (adds_weaker (λ qs. qs ≡ leaf term) (IsPartIn (plain (summand term (pos 1) ∷ []))) s.bounds u.bounds (λ qs e. inr e) adds)
+    columns_more s u (summand term (pos 1) ∷ []) k (λ e. cc) (adds_weaker (λ qs. qs ≡ leaf term) (IsPartIn (plain (summand term (pos 1) ∷ []))) s.bounds u.bounds (λ qs e. inr e) adds)
 
 -- where columns stay, also under an atom more
 pub columns_other : (s u : State) (a : Atom) → u.bounds ≡ s.bounds → AddsColumns s a u

@@ -88,7 +88,7 @@ pub implied_by : (s : State) (l : Signed) (c : Lemma) → l.atom < length s.said
 implied_by s l c known is_open tried =
     record {
       lemma = λ ds t knows log told.
-          let with_it : TheoryState = record { reading = t.reading; log = t.log ++ l ∷ [] } in
+          let with_it : TheoryState = record { reading = t.reading; log = t.log ++ l ∷ []; variables = t.variables } in
           let open_there : IsOpenIn t.log l = subst (λ (ls : List Signed). IsOpenIn ls l) (sym log) is_open in
           let within : l.atom < length t.reading.table = subst (λ n. l.atom < n) knows.as_many known in
           let at_one_level : IsToldAtOneLevel ds with_it = record {

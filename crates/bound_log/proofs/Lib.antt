@@ -10,3 +10,4 @@ pub mod Lines
 pub mod Implying
 pub mod Runs
 pub mod Pivots
+pub mod KeptVariables

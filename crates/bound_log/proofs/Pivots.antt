@@ -1,9 +1,9 @@
 -- The lines of a check's pivots are over known atoms.
-use Rattle.std.proofs.Common.{◌≡◌, ◌∙◌, ℕ, ◌<◌, ◌≤◌, ◌⊎◌, inl, inr, ℤ, Bool, true, false, List, [], ◌∷◌, length, Option, Some, None, refl, sym, subst}
-use Rattle.std.specs.Prelude.{All, Contains}
+use Rattle.std.proofs.Common.{◌≡◌, ◌∙◌, ℕ, ◌<◌, ◌≤◌, ◌⊎◌, inl, inr, ℤ, Bool, true, false, List, [], ◌∷◌, length, Option, Some, None, refl, sym, ap, subst}
+use Rattle.std.specs.Prelude.{Contains}
 use Rattle.std.proofs.lemmas.Bool.{cases_lt}
 use Rattle.std.proofs.lemmas.List.{get_or_past}
-use Rattle.std.proofs.lemmas.List.Elements.{All-nil, All-contains}
+use Rattle.std.proofs.lemmas.List.Elements.{All-contains}
 use Rattle.fraction128.specs.Whole.{InRange}
 use Rattle.fraction128.specs.declared.Column.{Column}
 use Rattle.fraction128.specs.declared.Grid.{Grid}
@@ -11,23 +11,26 @@ use Rattle.fraction128.specs.declared.Line.{Line}
 use Rattle.fraction128.specs.declared.Side.{Side}
 use Rattle.fraction128.specs.declared.Side.TheVariants.{Lower, Upper}
 use Rattle.fraction128.specs.Grid.{Step, any_crossed, next_step}
-use Rattle.fraction128.specs.Lines.{IsPivotLine, IsSoundLine}
-use Rattle.simplex_steps.specs.Law.{Runs, lines_of}
+use Rattle.fraction128.specs.Lines.{HasBasis, basis_along}
+use Rattle.simplex_steps.specs.Law.{Runs, RunsFit, lines_of}
+use Rattle.search_port.specs.Pivots.{ArePivotsFrom}
 use Rattle.smt_meaning.specs.declared.clauses.Atom.{Atom}
 use Rattle.smt_meaning.specs.CheckAtoms.{IsBoundOf}
 use Rattle.tableau.specs.Table.{Table}
 use Rattle.simplex_steps.specs.State.{grid_of, column_in, no_column, IsRanged, AreRanged}
 use Rattle.simplex_steps.specs.Run.{KeepsLines, kept_lines}
 use Rattle.simplex_steps.proofs.Sound.{lawful}
+use Rattle.simplex_steps.proofs.LineLemmas.{no_lines}
 use Rattle.sum_bounds.specs.Bounds as Bounds
 use Rattle.sum_bounds.specs.Bounds.{Told}
 use Rattle.sum_bounds.specs.Origins.{bound_on, IsOfTold}
-use Rattle.bound_log.specs.Told.{State, IsState}
+use Rattle.bound_log.specs.Told.{State, IsState, column_sums}
+use Rattle.bound_log.specs.Pending.{plain_grid}
 use Rattle.bound_log.specs.Atoms.{Knows}
 use Rattle.bound_log.specs.Resting.{AreResting}
 use Rattle.bound_log.specs.Pivots.{AddsPivots}
 use Rattle.bound_log.proofs.Lines.{sound_grid}
-use Rattle.bound_log.proofs.Runs.{nonzero_rows, sound_lines, as_many_lines}
+use Rattle.bound_log.proofs.Runs.{lines_are_pivots, as_many_lines}
 
 -- ---- bounds in the range
 
@@ -50,41 +53,41 @@ are_ranged b state origins i = by_order (cases_lt i (length b.columns))
 none_next : (t : Table) (cs : List Column) (s : Step) → any_crossed cs ≡ true → next_step (grid_of t cs) ≡ Some s → ⊥
 none_next t cs s e next = let none : next_step (grid_of t cs) ≡ None = rw e refl in let z : None ≡ Some s = sym none ∙ next in absurd (cc)
 
-lines_over : (table : List Atom) (s : State) (h : Grid) (ss : List Step) → IsState s → IsOfTold s.bounds → AreResting s.bounds s.said → Knows table s → Runs (grid_of s.bounds.table s.bounds.columns) ss h
-    → All (IsSoundLine (IsBoundOf (Contains table))) (lines_of (grid_of s.bounds.table s.bounds.columns) ss)
-lines_over table s h [] state origins rests knows runs = All-nil (IsSoundLine (IsBoundOf (Contains table)))
-lines_over table s h (z ∷ zs) state origins rests knows runs = by_crossing (any_crossed s.bounds.columns) refl
+pivots_over : (table : List Atom) (s : State) (h : Grid) (ss : List Step) (is : ℕ → Bool) → IsState s → IsOfTold s.bounds → AreResting s.bounds s.said → Knows table s → Runs (plain_grid s) ss h → RunsFit (plain_grid s) ss
+    → HasBasis is (plain_grid s) → ArePivotsFrom (column_sums s) (IsBoundOf (Contains table)) is (lines_of (plain_grid s) ss)
+pivots_over table s h [] is state origins rests knows runs fits basis = tt
+pivots_over table s h (z ∷ zs) is state origins rests knows runs fits basis = by_crossing (any_crossed s.bounds.columns) refl
   where
-    g : Grid
-    g = grid_of s.bounds.table s.bounds.columns
-
-    by_crossing : (v : Bool) → any_crossed s.bounds.columns ≡ v → All (IsSoundLine (IsBoundOf (Contains table))) (lines_of (grid_of s.bounds.table s.bounds.columns) (z ∷ zs))
+    by_crossing : (v : Bool) → any_crossed s.bounds.columns ≡ v → ArePivotsFrom (column_sums s) (IsBoundOf (Contains table)) is (lines_of (plain_grid s) (z ∷ zs))
     by_crossing true e = absurd (none_next s.bounds.table s.bounds.columns z e runs.0)
     by_crossing false e =
-        sound_lines (IsBoundOf (Contains table)) g h (z ∷ zs) (lawful s.bounds.table s.bounds.columns origins.table (record { solution = state.bounds.solution; ranged = are_ranged s.bounds state.bounds origins; uncrossed = e }))
-        (sound_grid table s state origins rests knows) (nonzero_rows s.bounds.table.rows origins.table.nonzero) runs
+        let ranged = are_ranged s.bounds state.bounds origins in
+        lines_are_pivots (column_sums s) (IsBoundOf (Contains table)) (plain_grid s) h (z ∷ zs) is
+        (lawful s.bounds.table s.bounds.columns origins.table (record { solution = state.bounds.solution; ranged = ranged; uncrossed = e })) ranged (sound_grid table s state origins rests knows) runs fits basis
 
-kept_all : (P : Line → Type 0) (keep : Bool) (g : Grid) (ss : List Step) → All P (lines_of g ss) → All P (kept_lines keep g ss)
-kept_all P true g ss h = h
-kept_all P false g ss h = All-nil P
-
-kept_each : (keep : Bool) (g : Grid) (ss : List Step) → keep ≡ true → length (kept_lines keep g ss) ≡ length (lines_of g ss)
-kept_each true g ss e = refl
-kept_each false g ss e = absurd (cc)
+lines_kept : (keep : Bool) (g : Grid) (ss : List Step) → keep ≡ true → kept_lines keep g ss ≡ lines_of g ss
+lines_kept true g ss e = refl
+lines_kept false g ss e = absurd (cc)
 
 kept_none : (keep : Bool) (g : Grid) (ss : List Step) → keep ≡ false → kept_lines keep g ss ≡ []
 kept_none true g ss e = absurd (cc)
 kept_none false g ss e = refl
 
-pub adds_pivots : (s : State) (keep : Bool) (made : ℕ) (h : Grid) (before now : List Line) → IsState s → IsOfTold s.bounds → AreResting s.bounds s.said
-    → KeepsLines keep made (grid_of s.bounds.table s.bounds.columns) h before now → AddsPivots s keep made before now
-adds_pivots s keep made h before now state origins rests lines =
-    let g : Grid = grid_of s.bounds.table s.bounds.columns in
+pub adds_pivots : (s u : State) (keep : Bool) (made : ℕ) (before now : List Line) → IsState s → IsOfTold s.bounds → AreResting s.bounds s.said → KeepsLines keep made (plain_grid s) (plain_grid u) before now
+    → AddsPivots s u keep made before now
+adds_pivots s u keep made before now state origins rests lines =
+    let g : Grid = plain_grid s in
     record {
       added = kept_lines keep g lines.steps;
       is = lines.kept;
-      count = λ e. kept_each keep g lines.steps e ∙ as_many_lines g lines.steps ∙ lines.count;
+      count = λ e. ap length (lines_kept keep g lines.steps e) ∙ as_many_lines g lines.steps ∙ lines.count;
       none = λ e. kept_none keep g lines.steps e;
-      by_rule = kept_all IsPivotLine keep g lines.steps lines.pivots;
-      sound = λ table knows. kept_all (IsSoundLine (IsBoundOf (Contains table))) keep g lines.steps (lines_over table s h lines.steps state origins rests knows lines.runs);
+      pivots = λ e table is knows basis.
+          subst (ArePivotsFrom (column_sums s) (IsBoundOf (Contains table)) is) (sym (lines_kept keep g lines.steps e))
+          (pivots_over table s (plain_grid u) lines.steps is state origins rests knows lines.runs lines.fits basis);
+      basis = λ e is basis. subst (λ ls. HasBasis (basis_along is ls) (plain_grid u)) (sym (lines_kept keep g lines.steps e)) (lines.basis is basis);
     }
+
+-- where there is no pivot the basis stays
+pub basis_stays : (keep : Bool) (made : ℕ) (g h : Grid) (before now : List Line) (is : ℕ → Bool) → KeepsLines keep made g h before now → made ≡ 0 → HasBasis is g → HasBasis is h
+basis_stays keep made g h before now is lines none basis = subst (λ ls. HasBasis (basis_along is ls) h) (no_lines g lines.steps (lines.count ∙ none)) (lines.basis is basis)

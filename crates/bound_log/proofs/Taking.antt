@@ -3,6 +3,7 @@ use Rattle.std.proofs.Common.{◌≡◌, ◌<◌, Bool, true, false, ◌&&◌, L
 use Rattle.std.specs.Prelude.{Result, Ok, Err, IfErr, IsErrAnd}
 use Rattle.fraction128.specs.Whole.{InRange, is_in_range}
 use Rattle.fraction128.specs.declared.Grid.{Grid}
+use Rattle.fraction128.specs.declared.Summand.{Summand as GridSummand}
 use Rattle.fraction128.specs.declared.Pending.{Pending}
 use Rattle.fraction128.specs.Grid.{take, take_fits, number_fits, column_of, turned}
 use Rattle.fraction128.specs.Lines.{Bounding, IsSoundGrid}
@@ -75,5 +76,21 @@ fails_to_tell s l e less is_past table ps k knows is = by (said_at s.said l.atom
 
 -- ---- a bound pending
 
-pub sound_pending : (B : Bounding) (g : Grid) (p : Pending) → IsSoundGrid B g → IsSoundGrid B (with_pending g p)
-sound_pending B g p h = record { identities = h.identities; meets = h.meets; bounded = h.bounded; resting = h.resting }
+pub sound_pending : (sums : List (List GridSummand)) (B : Bounding) (g : Grid) (p : Pending) → IsSoundGrid sums B g → IsSoundGrid sums B (with_pending g p)
+sound_pending sums B g p h = record {
+  columns = h.columns;
+  rows = record {
+    each = λ m d lt. let r = h.rows.each m d lt in record {
+      known = r.known;
+      ascending = r.ascending;
+      entries = λ n e ln. let w = r.entries n e ln in record { fraction = w.fraction; nonzero = w.nonzero; known = w.known; free = w.free };
+    };
+    apart = h.rows.apart;
+  };
+  identities = h.identities;
+  independent = h.independent;
+  fractions = h.fractions;
+  meets = h.meets;
+  bounded = h.bounded;
+  resting = h.resting;
+}

@@ -1,5 +1,5 @@
 -- The sums that variables stand for, as those of a table's atoms.
-use Rattle.std.specs.Prelude.{◌≡◌, ℕ, ◌<◌, ◌⊎◌, List, [], ◌∷◌, ◌++◌, length, ℤ, All, Contains}
+use Rattle.std.specs.Prelude.{◌≡◌, ◌≢◌, ℕ, ◌<◌, ◌⊎◌, List, [], ◌∷◌, ◌++◌, length, ℤ, All, Contains}
 use Rattle.fraction128.specs.declared.Column.{Column}
 use Rattle.fraction128.specs.declared.Summand.{Summand as GridSummand}
 use Rattle.fraction128.specs.Grid.{leaf, turned}
@@ -20,11 +20,12 @@ pub record IsLeafOf (table : List Atom) (sum : List GridSummand) : Type 0 where
   pub among : Contains terms part
   pub sum_is : sum ≡ leaf part.term
 
--- the sum is that of an atom, or its negation
+-- the sum is that of an atom, or its negation, and isn't empty
 pub record IsSumOf (table : List Atom) (sum : List GridSummand) : Type 0 where
   pub terms : List Summand
   pub most : ℤ
   pub atom : Contains table (AtMost terms most)
+  pub filled : terms ≢ []
   pub sum_is : sum ≡ turned (plain terms)
 
 abbrev pub IsColumnOf : List Atom → Column → Type 0

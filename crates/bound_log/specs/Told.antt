@@ -1,5 +1,7 @@
 -- Literals told in order, and the bounds on sums that they say.
-use Rattle.std.specs.Prelude.{◌≡◌, ℕ, ◌<◌, ◌≤◌, ◌^◌, List, [], ◌∷◌, ◌++◌, length, take, slice_index_or, All}
+use Rattle.std.specs.Prelude.{◌≡◌, ◌≢◌, ℕ, ◌<◌, ◌≤◌, ◌^◌, List, [], ◌∷◌, ◌++◌, map, length, take, slice_index_or, All, AllPairs}
+use Rattle.fraction128.specs.declared.Summand.{Summand}
+use Rattle.fraction128.specs.declared.Column.{Column}
 use Rattle.fraction128.specs.Whole.{InRange}
 use Rattle.tableau.specs.declared.failure.Failure.{Failure}
 use Rattle.literals.specs.Signed.{Signed}
@@ -16,6 +18,10 @@ pub record State : Type 0 where
   pub said : List Said
   -- the literals told, oldest first
   pub log : List Signed
+
+-- the sums of the variables, in order
+abbrev pub column_sums : State → List (List Summand)
+column_sums s = map (λ (c : Column). c.sum) s.bounds.columns
 
 abbrev pub said_at : List Said → ℕ → Said
 said_at said n = slice_index_or said n Nothing
@@ -52,6 +58,10 @@ pub record IsState (s : State) : Type 0 where
   pub known : All (IsKnown (length s.bounds.columns)) s.said
   pub numbered : AreNumbered (length s.said) s.log
   pub told : s.bounds.told ≡ all_told s.said s.log
+
+-- no sum has two variables
+abbrev pub SumsAreApart : Type 0
+SumsAreApart = (s : State) → IsState s → AllPairs (λ (ps qs : List Summand). ps ≢ qs) (column_sums s)
 
 -- ---- how they are kept
 

@@ -4,6 +4,7 @@ ghost use Rattle.search_port.specs.State.{IsOpenIn};
 ghost use Rattle.literals.specs.Signed.{Signed};
 ghost use Rattle.bound_log.specs.Atoms.{KnowsTheSame};
 ghost use Rattle.bound_log.specs.Columns.{KeepsColumns};
+ghost use Rattle.bound_log.specs.Growth.{KeepsVariables};
 ghost use Rattle.bound_log.specs.Implied.{IsTried, IsImplied};
 
 use crate::log::BoundLog;
@@ -28,6 +29,7 @@ fn try_literal(bounds: &mut BoundLog, alloc: Global, literal: Literal) -> Option
     requires numbered { literal.atom < length bounds.old.said }
     ensures stays { KnowsTheSame bounds.old bounds.new }
     ensures columns { KeepsColumns bounds.old bounds.new }
+    ensures variables { KeepsVariables bounds.old bounds.new }
     ensures log { bounds.new.log ≡ bounds.old.log }
     ensures said { bounds.new.said ≡ bounds.old.said }
     ensures clause { IfSome result (IsTried bounds.old literal) }
@@ -53,6 +55,7 @@ impl BoundLog {
         requires open { (l : Signed) → l.atom ≡ atom → IsOpenIn self.old.log l }
         ensures stays { KnowsTheSame self.old self.new }
         ensures columns { KeepsColumns self.old self.new }
+        ensures variables { KeepsVariables self.old self.new }
         ensures log { self.new.log ≡ self.old.log }
         ensures clause { IfSome result (IsImplied self.old) }
     {

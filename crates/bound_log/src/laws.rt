@@ -1,4 +1,5 @@
 //! Laws on literals told, as contracts of functions that do nothing.
+ghost use Rattle.bound_log.specs.Told.{SumsAreApart};
 ghost use Rattle.bound_log.specs.Values.{BoundsAreTold, MetAreTrue, WholesHold};
 
 use sum_bounds::wholes_meet;
@@ -18,4 +19,9 @@ pub fn wholes_hold()
 /// Each such literal is true under an interpretation that gives the terms of its sum these numbers.
 pub fn met_are_true()
     ensures { MetAreTrue }
+{}
+
+/// No sum has two variables.
+pub fn sums_are_apart()
+    ensures { SumsAreApart }
 {}

@@ -32,7 +32,7 @@ mod room;
 mod said;
 mod variables;
 
-pub use laws::{bounds_are_told, met_are_true, wholes_hold};
+pub use laws::{bounds_are_told, met_are_true, sums_are_apart, wholes_hold};
 pub use log::BoundLog;
 pub use report::{Report, Reported};
 pub use said::Said;

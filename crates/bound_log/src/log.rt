@@ -2,11 +2,11 @@
 ghost use Rattle.std.specs.Prelude.{◌≡◌, ◌+◌, ◌<◌, ◌≤◌, ◌^◌, ◌↔◌, IsTrue, false, [], ◌∷◌, ◌++◌, map, take, length, All, Bool, Contains, List, ℤ, OnOk, OnErr, IfOk, IfErr, IfSome, IfNone};
 ghost use Rattle.fraction128.specs.Whole.{InRange};
 ghost use Rattle.fraction128.specs.Grid.{turned};
-ghost use Rattle.fraction128.specs.Lines.{IsBranchLine, IsSoundGrid, IsSoundLine, NextFails};
+ghost use Rattle.fraction128.specs.Lines.{IsBranchLine, IsRowIn, IsSoundGrid, NextFails};
 ghost use Rattle.simplex_steps.specs.Law.{KeepsResting};
 ghost use Rattle.tableau.specs.Failing.{IsRange};
 ghost use Rattle.simplex_steps.specs.State.{grid_of};
-ghost use Rattle.simplex_steps.specs.Run.{IsRun, KeepsLines};
+ghost use Rattle.simplex_steps.specs.Run.{AreWithin, IsRun, KeepsLines};
 ghost use Rattle.simplex.specs.State.{KeepsValues};
 ghost use Rattle.smt_meaning.specs.declared.clauses.Atom.{Atom};
 ghost use Rattle.smt_meaning.specs.declared.clauses.Atom.TheVariants.{AtMost};
@@ -15,10 +15,10 @@ ghost use Rattle.smt_meaning.specs.CheckAtoms.{IsBoundOf, told};
 ghost use Rattle.sum_bounds.specs.Bounds.{leaf_values, sum_fits, IsFirstIn, AreWhole};
 ghost use Rattle.sum_bounds.specs.Clauses.{plain};
 ghost use Rattle.sum_bounds.specs.Written.{HasLeaf};
-ghost use Rattle.bound_log.specs.Told.{said_at, told_by, IsKnown, IsPast, IsState, IsTold, IsUndone};
+ghost use Rattle.bound_log.specs.Told.{column_sums, said_at, told_by, IsKnown, IsPast, IsState, IsTold, IsUndone};
 ghost use Rattle.bound_log.specs.Atoms.{SaysNothing, Knows, KnowsTheSame, KnowsOneMore};
 ghost use Rattle.bound_log.specs.Columns.{KeepsColumns, AddsColumns};
-ghost use Rattle.bound_log.specs.Growth.{IsGrown, IsProper};
+ghost use Rattle.bound_log.specs.Growth.{GrowsVariables, IsGrown, IsProper, KeepsVariables};
 ghost use Rattle.bound_log.specs.Pending.{plain_grid, with_pending, FailsToTake, FailsToTell};
 ghost use Rattle.bound_log.specs.Pivots.{AddsPivots};
 ghost use Rattle.bound_log.specs.Reporting.{Judges, SpendsRoom, IsClause};
@@ -155,6 +155,7 @@ impl BoundLog {
         ensures said { self.new.said ≡ self.old.said }
         ensures stays { KnowsTheSame self.old self.new }
         ensures columns { (k : ℤ) → AddsColumns self.old (term_at_most term k) self.new }
+        ensures variables { GrowsVariables self.old self.new }
     {
         add_leaf(&mut self.bounds, alloc, term)
     }
@@ -164,6 +165,7 @@ impl BoundLog {
         ensures ok { OnOk result (self.new ≡ record self.old { said = self.old.said ++ Nothing ∷ [] }) }
         ensures knows { OnOk result ((a : Atom) → SaysNothing a → KnowsOneMore self.old a self.new) }
         ensures columns { (a : Atom) → AddsColumns self.old a self.new }
+        ensures variables { GrowsVariables self.old self.new }
         ensures err { OnErr result (self.new ≡ self.old) }
     {
         add(&mut self.said, Said::Nothing)?;
@@ -188,6 +190,7 @@ impl BoundLog {
         ensures stays { OnErr result (KnowsTheSame self.old self.new) }
         ensures range { IfErr result (λ e. IsRange e → sum_fits self.new.bounds.table self.new.bounds.columns (turned (plain sum.now)) ≡ false) }
         ensures columns { AddsColumns self.old (AtMost sum.now threshold) self.new }
+        ensures variables { GrowsVariables self.old self.new }
         ensures fails { IfErr result (λ e. IsRange e → (holds : Bool) → FailsToTake self.new sum.now threshold holds) }
     {
         if sum.is_empty() {
@@ -209,6 +212,7 @@ impl BoundLog {
         ensures range { IfErr result (λ e. IsRange e → IsPast (said_at self.old.said literal.atom) literal e) }
         ensures err { OnErr result (self.new ≡ self.old) }
         ensures columns { KeepsColumns self.old self.new }
+        ensures variables { KeepsVariables self.old self.new }
         ensures fails { IfErr result (λ e. IsRange e → FailsToTell self.old literal) }
     {
         let said = said_of(&self.said, literal.atom());
@@ -227,6 +231,7 @@ impl BoundLog {
         ensures undone { IsUndone self.old count self.new }
         ensures stays { KnowsTheSame self.old self.new }
         ensures columns { KeepsColumns self.old self.new }
+        ensures variables { KeepsVariables self.old self.new }
     {
         if count < self.starts.len() {
             self.bounds.undo_to(start_of(&self.starts, count));
@@ -235,7 +240,7 @@ impl BoundLog {
         }
     }
 
-    /// Moves values until the terms' values meet all bounds told, or finds a clause that the log breaks, or a step that doesn't fit or is a pivot past the room. Where lines are kept, that of each pivot is added: it is by Bland's rule, in a row over known atoms.
+    /// Moves values until the terms' values meet all bounds told, or finds a clause that the log breaks, or a step that doesn't fit or is a pivot past the room. Where lines are kept, that of each pivot is added: it is by Bland's rule, in a grid over known atoms, and from the basis that those before it leave.
     pub fn check(&mut self, alloc: Global, kept: &mut PivotLines, room: u64) -> Reported
         ensures run { IsRun self.old.bounds.table self.old.bounds.columns self.new.bounds.table self.new.bounds.columns result.pivots }
         ensures log { self.new.log ≡ self.old.log }
@@ -248,7 +253,8 @@ impl BoundLog {
         ensures lines { KeepsLines kept.old.keep result.pivots (grid_of self.old.bounds.table self.old.bounds.columns) (grid_of self.new.bounds.table self.new.bounds.columns) kept.old.lines.items kept.new.lines.items }
         ensures keep { kept.new.keep ≡ kept.old.keep }
         ensures rests { KeepsResting (grid_of self.old.bounds.table self.old.bounds.columns) (grid_of self.new.bounds.table self.new.bounds.columns) }
-        ensures pivots { AddsPivots self.old kept.old.keep result.pivots kept.old.lines.items kept.new.lines.items }
+        ensures sums { column_sums self.new ≡ column_sums self.old }
+        ensures pivots { AddsPivots self.old self.new kept.old.keep result.pivots kept.old.lines.items kept.new.lines.items }
     {
         conflicts_are_valid();
         self.bounds.facts();
@@ -299,11 +305,12 @@ impl BoundLog {
         self.bounds.first_fraction()
     }
 
-    /// The row of the first variable of a term whose value isn't whole, as a line: its other variables are 0 or at numbers that known atoms or their complements say.
+    /// The row of the first variable of a term whose value isn't whole, as a line, where all values lie within their bounds: its other variables are 0 or at numbers that known atoms or their complements say.
     pub fn branch_line(&self, alloc: Global, leaf: FractionalLeaf) -> Result<Line, AllocError>
-        requires { IsFirstIn self.now.bounds.columns leaf }
+        requires first { IsFirstIn self.now.bounds.columns leaf }
+        requires within { AreWithin self.now.bounds.columns }
         ensures branches { IfOk result (IsBranchLine leaf.term leaf.floor) }
-        ensures sound { IfOk result (λ l. (table : List Atom) → Knows table self.now → IsSoundLine (IsBoundOf (Contains table)) l) }
+        ensures row { IfOk result (λ l. (table : List Atom) → Knows table self.now → IsRowIn (column_sums self.now) (IsBoundOf (Contains table)) l) }
     {
         self.bounds.facts();
         self.bounds.origins();
@@ -313,7 +320,7 @@ impl BoundLog {
     /// The rows and the variables, with their bounds and values, as a grid with nothing pending.
     pub fn grid(&self, alloc: Global) -> Result<Grid, AllocError>
         ensures exact { IfOk result (λ g. g ≡ plain_grid self.now) }
-        ensures sound { IfOk result (λ g. (table : List Atom) → Knows table self.now → IsSoundGrid (IsBoundOf (Contains table)) g) }
+        ensures sound { IfOk result (λ g. (table : List Atom) → Knows table self.now → IsSoundGrid (column_sums self.now) (IsBoundOf (Contains table)) g) }
     {
         self.bounds.facts();
         self.bounds.origins();
@@ -329,7 +336,7 @@ impl BoundLog {
         holds: bool,
     ) -> Result<Grid, AllocError>
         ensures exact { IfOk result (λ g. g ≡ with_pending (plain_grid self.now) (told sum.now number holds)) }
-        ensures sound { IfOk result (λ g. (table : List Atom) → Knows table self.now → IsSoundGrid (IsBoundOf (Contains table)) g) }
+        ensures sound { IfOk result (λ g. (table : List Atom) → Knows table self.now → IsSoundGrid (column_sums self.now) (IsBoundOf (Contains table)) g) }
         ensures fails { IfOk result (λ g. FailsToTake self.now sum.now number holds → NextFails g) }
     {
         self.bounds.facts();

@@ -5,6 +5,7 @@ ghost use Rattle.fraction128.specs.Grid.{column_of, leaf, turned};
 ghost use Rattle.fraction128.specs.declared.Summand.{Summand as SummandValue};
 ghost use Rattle.tableau.specs.Failing.{IsRange};
 ghost use Rattle.sum_bounds.specs.Bounds.{StandsFor, IsSum, sum_fits};
+ghost use Rattle.sum_bounds.specs.Bases.{AddsBases};
 ghost use Rattle.sum_bounds.specs.Written.{HasLeaf};
 ghost use Rattle.bound_log.specs.Growth.{IsGrown};
 ghost use Rattle.bound_log.specs.Columns.{IsLeafIn, IsPartIn, AddsSums};
@@ -19,6 +20,7 @@ use tableau::Failure;
 pub(crate) fn add_leaf(bounds: &mut SumBounds, alloc: Global, term: u32) -> Result<(), AllocError>
     ensures grown { IsGrown bounds.old bounds.new }
     ensures still { AreStill bounds.old bounds.new }
+    ensures bases { AddsBases bounds.old bounds.new }
     ensures sums { AddsSums (λ ps. ps ≡ leaf term) bounds.old bounds.new }
     ensures leaf { OnOk result (HasLeaf bounds.new.columns term) }
 {
@@ -33,6 +35,7 @@ pub(crate) fn add_leaf(bounds: &mut SumBounds, alloc: Global, term: u32) -> Resu
 fn add_leaves(bounds: &mut SumBounds, alloc: Global, sum: &[Summand]) -> Result<(), AllocError>
     ensures grown { IsGrown bounds.old bounds.new }
     ensures still { AreStill bounds.old bounds.new }
+    ensures bases { AddsBases bounds.old bounds.new }
     ensures sums { AddsSums (IsLeafIn sum.now) bounds.old bounds.new }
     ensures leaves { OnOk result (All (λ (p : SummandValue). HasLeaf bounds.new.columns p.term) sum.now) }
 {
@@ -51,6 +54,7 @@ pub(crate) fn variable_of(
     requires { All (λ (p : SummandValue). InRange p.coefficient × (p.coefficient ≢ pos 0)) sum.now }
     ensures grown { IsGrown bounds.old bounds.new }
     ensures still { AreStill bounds.old bounds.new }
+    ensures bases { AddsBases bounds.old bounds.new }
     ensures sums { AddsSums (IsPartIn sum.now) bounds.old bounds.new }
     ensures ok { IfOk result (StandsFor bounds.new sum.now) }
     ensures range { IfErr result (λ e. IsRange e → sum_fits bounds.new.table bounds.new.columns (turned sum.now) ≡ false) }

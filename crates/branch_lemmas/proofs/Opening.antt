@@ -18,7 +18,7 @@ use Rattle.search_port.specs.State.{atom_at}
 use Rattle.simplex_steps.specs.State.{values}
 use Rattle.sum_bounds.specs.declared.fractions.FractionalLeaf.{FractionalLeaf}
 use Rattle.sum_bounds.specs.Bounds.{told_bound, told_side, told_number, MeetsSide, Meets, sums, leaf_values, IsFirstIn}
-use Rattle.sum_bounds.proofs.Leaves.{leaf_found}
+use Rattle.simplex.proofs.Leaves.{leaf_found}
 use Rattle.bound_log.specs.Told.{State, IsState}
 use Rattle.bound_log.specs.Atoms.{Knows}
 use Rattle.bound_log.specs.Values.{MeetsAll, IsToldOf, BoundsAreTold}

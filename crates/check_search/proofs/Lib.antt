@@ -1,7 +1,6 @@
 pub mod Deciding
 pub mod Lists
 pub mod Numbers
-pub mod RowChanges
 pub mod SameStack
 pub mod Showing
 pub mod Units

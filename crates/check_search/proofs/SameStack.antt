@@ -1,16 +1,12 @@
 -- What a check shows of a stack, where other levels have the same declarations and assertions.
 use Rattle.std.proofs.Common.{◌≡◌, false, inl, inr, ℕ, List, [], ◌∷◌, All, Contains, subst, sym, ap, ◌∙◌}
 use Rattle.std.specs.Prelude.{ℤ, Some, flat_map, neg_ℤ}
+use Rattle.std.proofs.lemmas.List.{append-nil}
 use Rattle.std.proofs.lemmas.List.Elements.{All-weaker}
 use Rattle.fraction128.specs.declared.Summand.{Summand as GridSummand}
-use Rattle.fraction128.specs.declared.Column.{Column}
-use Rattle.fraction128.specs.declared.Member.{Member}
 use Rattle.fraction128.specs.declared.Grid.{Grid}
 use Rattle.fraction128.specs.declared.Line.{Line}
-use Rattle.fraction128.specs.declared.Side.{Side}
-use Rattle.fraction128.specs.declared.Side.TheVariants.{Lower, Upper}
-use Rattle.fraction128.specs.Grid.{column_at}
-use Rattle.fraction128.specs.Lines.{Bounding, IsBoundedBy, IsResting, IsSoundLine, IsSoundGrid}
+use Rattle.fraction128.specs.Lines.{IsSoundGrid, IsRowIn}
 use Rattle.smt_meaning.specs.declared.values.Sort.TheVariants.{Int as Ints}
 use Rattle.smt_meaning.specs.declared.values.Table.{Table}
 use Rattle.smt_meaning.specs.declared.clauses.Atom.{Atom}
@@ -25,22 +21,19 @@ use Rattle.smt_meaning.specs.Comparisons.{compared_fits}
 use Rattle.smt_meaning.specs.Stack.{Frame, signature_of, assertions_of, Satisfies}
 use Rattle.smt_meaning.specs.Atoms.{pair_atoms, atoms_of, stack_atoms, stack_atoms_are}
 use Rattle.smt_meaning.specs.Boxes.{IsInBox, asserted_atoms, said_atoms, conjuncts, term_at_most, negation_at_most}
-use Rattle.smt_meaning.specs.CheckAtoms.{IsPartOfStack, IsIntPart, IsLeaf, ComparesParts, BoundsInBox, IsFirstAtom, IsBoundOf, IsBranch, WithBranch, WithBranches, EachIsBranch, IsCheckAtom, AreBranches}
-use Rattle.search_port.proofs.Pivots.{bounded_by, resting_by, bound_by, line_over}
-use Rattle.smt_meaning.specs.Ranges.{LeavesInPart, LeavesInPair, IsIntArgument, LeavesInArgument, LeavesInModel, IsKnownColumn, IsOnAtom, LeavesInStep, LeavesRange}
-
--- ---- lines and grids under more bounds
-
-module _ (B C : Bounding) (more : (sum : List GridSummand) (side : Side) (k : ℤ) → B sum side k → C sum side k) where
-  grid_by : (g : Grid) → IsSoundGrid B g → IsSoundGrid C g
-  grid_by g h = record {
-    identities = h.identities;
-    meets = h.meets;
-    bounded = λ i l. bounded_by B C more (column_at g i) (h.bounded i l);
-    resting = λ i l e. resting_by B C more (column_at g i) (h.resting i l e);
-  }
+use Rattle.smt_meaning.specs.CheckAtoms.{IsPartOfStack, IsIntPart, IsLeaf, ComparesParts, BoundsInBox, IsFirstAtom, IsBoundOf, IsBranch, WithBranch, WithBranches, EachIsBranch, IsCheckAtom, AreBranches, IsKnownSum, AreCheckSums}
+use Rattle.smt_meaning.specs.Report.{IsPastRange}
+use Rattle.search_port.proofs.Pivots.{grid_by, row_by, bound_by}
+use Rattle.smt_meaning.specs.Ranges.{LeavesInPart, LeavesInPair, IsIntArgument, LeavesInArgument, LeavesInModel, IsOnAtom, LeavesInStep, LeavesRange}
 
 -- ---- more atoms
+
+module _ (Is Js : Atom → Type 0) (more : (a : Atom) → Is a → Js a) (sums : List (List GridSummand)) where
+  pub grid_over : (g : Grid) → IsSoundGrid sums (IsBoundOf Is) g → IsSoundGrid sums (IsBoundOf Js) g
+  grid_over g h = subst (λ xs. IsSoundGrid xs (IsBoundOf Js) g) (append-nil sums) (grid_by (IsBoundOf Is) (IsBoundOf Js) (bound_by Is Js more) sums [] g h)
+
+  row_over : (l : Line) → IsRowIn sums (IsBoundOf Is) l → IsRowIn sums (IsBoundOf Js) l
+  row_over l h = subst (λ xs. IsRowIn xs (IsBoundOf Js) l) (append-nil sums) (row_by (IsBoundOf Is) (IsBoundOf Js) (bound_by Is Js more) sums [] l h)
 
 module _ (Is Js : Atom → Type 0) (more : (a : Atom) → Is a → Js a) where
   with_branch_by : (l : Line) (a : Atom) → WithBranch Is l a → WithBranch Js l a
@@ -106,25 +99,34 @@ module _ (ts : List Tree) (fs gs : List Frame) (signature : signature_of fs ≡ 
   pub check_atom_by : (branches : List Line) (a : Atom) → IsCheckAtom ts fs branches a → IsCheckAtom ts gs branches a
   check_atom_by branches a h = with_branches_by (IsFirstAtom ts fs) (IsFirstAtom ts gs) first_by branches a h
 
-  branch_by : (Is Js : Atom → Type 0) → ((a : Atom) → Is a → Js a) → (l : Line) → IsBranch ts fs Is l → IsBranch ts gs Js l
-  branch_by Is Js more l h = record {
-    term = h.term;
-    floor = h.floor;
-    leaf = leaf_by h.term h.leaf;
-    row = line_over Is Js more l h.row;
-    branches = h.branches;
-  }
+  known_by : (ps : List GridSummand) → IsKnownSum ts fs ps → IsKnownSum ts gs ps
+  known_by ps (IsKnownSum.of_leaf t h e) = IsKnownSum.of_leaf t (leaf_by t h) e
+  known_by ps (IsKnownSum.of_atom qs k h e) = IsKnownSum.of_atom qs k (first_by (AtMost qs k) h) e
 
-  each_by : (Is Js : Atom → Type 0) → ((a : Atom) → Is a → Js a) → (ls : List Line) → EachIsBranch ts fs Is ls → EachIsBranch ts gs Js ls
-  each_by Is Js more [] h = tt
-  each_by Is Js more (l ∷ ls) h = (branch_by Is Js more l h.0, each_by (WithBranch Is l) (WithBranch Js l) (with_branch_by Is Js more l) ls h.1)
+  pub sums_by : (sums : List (List GridSummand)) → AreCheckSums ts fs sums → AreCheckSums ts gs sums
+  sums_by sums h = record { apart = h.apart; filled = h.filled; known = All-weaker (IsKnownSum ts fs) (IsKnownSum ts gs) known_by sums h.known }
 
-  pub branches_by : (branches : List Line) → AreBranches ts fs branches → AreBranches ts gs branches
-  branches_by branches h = each_by (IsFirstAtom ts fs) (IsFirstAtom ts gs) first_by branches h
+  module _ (sums : List (List GridSummand)) where
+    branch_by : (Is Js : Atom → Type 0) → ((a : Atom) → Is a → Js a) → (l : Line) → IsBranch ts fs sums Is l → IsBranch ts gs sums Js l
+    branch_by Is Js more l h = record {
+      term = h.term;
+      floor = h.floor;
+      is_leaf = leaf_by h.term h.is_leaf;
+      row = row_over Is Js more sums l h.row;
+      branches = h.branches;
+    }
+
+    each_by : (Is Js : Atom → Type 0) → ((a : Atom) → Is a → Js a) → (ls : List Line) → EachIsBranch ts fs sums Is ls → EachIsBranch ts gs sums Js ls
+    each_by Is Js more [] h = tt
+    each_by Is Js more (l ∷ ls) h = (branch_by Is Js more l h.0, each_by (WithBranch Is l) (WithBranch Js l) (with_branch_by Is Js more l) ls h.1)
+
+    pub branches_by : (branches : List Line) → AreBranches ts fs sums branches → AreBranches ts gs sums branches
+    branches_by branches h = each_by (IsFirstAtom ts fs) (IsFirstAtom ts gs) first_by branches h
 
 -- ---- where a number leaves the range
 
-module _ (ts : List Tree) (fs gs : List Frame) (signature : signature_of fs ≡ signature_of gs) (assertions : assertions_of fs ≡ assertions_of gs) (Is Js : Atom → Type 0) (more : (a : Atom) → Is a → Js a) where
+module _ (ts : List Tree) (fs gs : List Frame) (signature : signature_of fs ≡ signature_of gs) (assertions : assertions_of fs ≡ assertions_of gs) (Is Js : Atom → Type 0) (more : (a : Atom) → Is a → Js a)
+    (sums : List (List GridSummand)) where
   in_part_by : (place : ℕ) → LeavesInPart ts fs place → LeavesInPart ts gs place
   in_part_by place h = record {
     tree = h.tree;
@@ -151,18 +153,18 @@ module _ (ts : List Tree) (fs gs : List Frame) (signature : signature_of fs ≡ 
     int = int_part_by ts fs gs signature assertions t place h.int;
   }
 
-  in_argument_by : (place : ℕ) (g : Grid) → LeavesInArgument ts fs Is place g → LeavesInArgument ts gs Js place g
+  in_argument_by : (place : ℕ) (g : Grid) → LeavesInArgument ts fs sums Is place g → LeavesInArgument ts gs sums Js place g
   in_argument_by place g h = record {
     tree = h.tree;
     argument = int_argument_by h.tree place h.argument;
-    grid = grid_by (IsBoundOf Is) (IsBoundOf Js) (bound_by Is Js more) g h.grid;
+    grid = grid_over Is Js more sums g h.grid;
     within = h.within;
     numbers = h.numbers;
     values = h.values;
     outside = h.outside;
   }
 
-  in_model_by : (i : List Table) (place : ℕ) (g : Grid) → LeavesInModel ts fs Is i place g → LeavesInModel ts gs Js i place g
+  in_model_by : (i : List Table) (place : ℕ) (g : Grid) → LeavesInModel ts fs sums Is i place g → LeavesInModel ts gs sums Js i place g
   in_model_by i place g h = record {
     tree = h.tree;
     part = part_by ts fs gs signature assertions h.tree h.part;
@@ -170,30 +172,34 @@ module _ (ts : List Tree) (fs gs : List Frame) (signature : signature_of fs ≡ 
     tables = subst (λ (ds : List Declaration). AreTablesFor ds i) signature h.tables;
     holds = subst (λ (us : List Tree). All (Satisfies (meaning i)) us) assertions h.holds;
     outside = h.outside;
-    grid = grid_by (IsBoundOf Is) (IsBoundOf Js) (bound_by Is Js more) g h.grid;
+    grid = grid_over Is Js more sums g h.grid;
     values = λ t p part leaf. h.values t p (int_part_by ts gs fs (sym signature) (sym assertions) t p part) (leaf_by ts gs fs (sym signature) (sym assertions) p leaf);
   }
 
-  column_by : (c : Column) → IsKnownColumn ts fs Is c → IsKnownColumn ts gs Js c
-  column_by c (inl (t, leaf, e)) = inl (t, leaf_by ts fs gs signature assertions t leaf, e)
-  column_by c (inr (ps, k, a, e)) = inr (ps, k, more (AtMost ps k) a, e)
-
-  in_step_by : (g : Grid) → LeavesInStep ts fs Is g → LeavesInStep ts gs Js g
+  in_step_by : (g : Grid) → LeavesInStep ts fs sums Is g → LeavesInStep ts gs sums Js g
   in_step_by g h = record {
-    columns = All-weaker (IsKnownColumn ts fs Is) (IsKnownColumn ts gs Js) column_by g.columns h.columns;
-    grid = grid_by (IsBoundOf Is) (IsBoundOf Js) (bound_by Is Js more) g h.grid;
+    grid = grid_over Is Js more sums g h.grid;
     pending = λ p e. (let o : IsOnAtom Is p = h.pending p e in record { terms = o.terms; atom = more (AtMost o.terms p.number) o.atom; sum_is = o.sum_is });
     next = h.next;
   }
 
-  leaves_by : (seen : RangeSeen) → LeavesRange ts fs Is seen → LeavesRange ts gs Js seen
+  leaves_by : (seen : RangeSeen) → LeavesRange ts fs sums Is seen → LeavesRange ts gs sums Js seen
   leaves_by (Coefficient t) h = in_part_by t h
   leaves_by (Pair s t) h = in_pair_by s t h
   leaves_by (Argument t g) h = in_argument_by t g h
   leaves_by (Step g) h = in_step_by g h
   leaves_by (Model i t g) h = in_model_by i t g h
 
-pub range_by : (ts : List Tree) (fs gs : List Frame) → signature_of fs ≡ signature_of gs → assertions_of fs ≡ assertions_of gs → (branches : List Line) (seen : RangeSeen)
-    → LeavesRange ts fs (IsCheckAtom ts fs branches) seen → LeavesRange ts gs (IsCheckAtom ts gs branches) seen
-range_by ts fs gs signature assertions branches seen h =
-    leaves_by ts fs gs signature assertions (IsCheckAtom ts fs branches) (IsCheckAtom ts gs branches) (check_atom_by ts fs gs signature assertions branches) seen h
+pub range_by : (ts : List Tree) (fs gs : List Frame) → signature_of fs ≡ signature_of gs → assertions_of fs ≡ assertions_of gs → (sums : List (List GridSummand)) (branches : List Line) (seen : RangeSeen)
+    → LeavesRange ts fs sums (IsCheckAtom ts fs branches) seen → LeavesRange ts gs sums (IsCheckAtom ts gs branches) seen
+range_by ts fs gs signature assertions sums branches seen h =
+    leaves_by ts fs gs signature assertions (IsCheckAtom ts fs branches) (IsCheckAtom ts gs branches) (check_atom_by ts fs gs signature assertions branches) sums seen h
+
+pub past_by : (ts : List Tree) (fs gs : List Frame) → signature_of fs ≡ signature_of gs → assertions_of fs ≡ assertions_of gs → (branches : List Line) (seen : RangeSeen)
+    → IsPastRange ts fs branches seen → IsPastRange ts gs branches seen
+past_by ts fs gs signature assertions branches seen h = record {
+  sums = h.sums;
+  known = sums_by ts fs gs signature assertions h.sums h.known;
+  are_branches = branches_by ts fs gs signature assertions h.sums branches h.are_branches;
+  leaves = range_by ts fs gs signature assertions h.sums branches seen h.leaves;
+}

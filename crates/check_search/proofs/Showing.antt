@@ -1,12 +1,14 @@
 -- What a search over a stack shows where it ends without an answer.
 use Rattle.std.proofs.Common.{◌≡◌, inl, inr, ◌⊎◌, ℕ, suc, ◌+◌, ◌<◌, Bool, true, false, not, List, [], ◌∷◌, ◌++◌, map, length, All, Contains, get_or, subst, sym, ap, ◌∙◌, arith, refl}
-use Rattle.std.specs.Prelude.{ℤ, Option, Some, None, IfSome, MatchBool}
+use Rattle.std.specs.Prelude.{ℤ, Option, Some, None, IfSome}
 use Rattle.std.specs.List.{range_with_len}
-use Rattle.std.proofs.lemmas.List.{length-map, length-append, map-append}
+use Rattle.std.proofs.lemmas.List.{append-nil, length-map, length-append}
 use Rattle.std.proofs.lemmas.List.Elements.{All-nil, All-weaker, All-contains, Contains-append_right}
 use Rattle.literals.specs.Signed.{Signed}
 use Rattle.clause_store.specs.Stored.{Kept, Stored}
 use Rattle.fraction128.specs.declared.Line.{Line}
+use Rattle.fraction128.specs.declared.Summand.{Summand}
+use Rattle.fraction128.specs.Lines.{Bounding, IsPivotIn, basis_along, exchanged, first_basis}
 use Rattle.smt_meaning.specs.declared.clauses.Atom.{Atom}
 use Rattle.smt_meaning.specs.declared.clauses.Atom.TheVariants.{Truth}
 use Rattle.smt_meaning.specs.declared.clauses.Literal.{Literal}
@@ -16,9 +18,9 @@ use Rattle.smt_meaning.specs.Term.{Tree}
 use Rattle.smt_meaning.specs.Stack.{Frame, assertions_of, depth}
 use Rattle.smt_meaning.specs.StackCommand.{Stack}
 use Rattle.smt_meaning.specs.Atoms.{stack_atoms}
-use Rattle.smt_meaning.specs.CheckAtoms.{IsCheckAtom}
+use Rattle.smt_meaning.specs.CheckAtoms.{IsBoundOf, IsCheckAtom}
 use Rattle.smt_meaning.specs.Ranges.{LeavesRange}
-use Rattle.smt_meaning.specs.Report.{IsPivot, IsUnit, IsUnlisted, AreUnits, is_unlimited, most_units}
+use Rattle.smt_meaning.specs.Report.{IsUnit, AreUnits, basis_after, is_unlimited, most_units}
 use Rattle.scope_stack.specs.Shown.{IsLawful}
 use Rattle.search_port.specs.State.{Reading, TheoryState, IsGrown, atom_at}
 use Rattle.search_port.specs.Showing.{IsShowing}
@@ -26,21 +28,22 @@ use Rattle.search_port.specs.Spending.{Spending}
 use Rattle.search_port.specs.Valid.{FollowsAt, FollowsAsWritten}
 use Rattle.search_port.specs.Forcing.{ForcesByNumbers, ForcesInTurn}
 use Rattle.search_port.specs.Calls.{IsNoPivot, numbers}
+use Rattle.search_port.specs.Pivots.{AreBasic, ArePivots, ArePivotsFrom, pivot_lines}
 use Rattle.search_port.specs.declared.shown.Showing.{Showing}
 use Rattle.search_port.specs.declared.budget.Spent.{Spent}
 use Rattle.search_port.specs.declared.budget.Spent.TheVariants.{Learnt, Numbered, Pivot}
 use Rattle.search_port.proofs.Forcing.{in_map}
-use Rattle.search_port.proofs.Pivots.{line_over}
+use Rattle.search_port.proofs.Pivots.{bound_by, pivots_by}
 use Rattle.smt_laws.specs.Flat.{flat, FlatSaysTheSame}
 use Rattle.check_atoms.specs.Laws.{IsSameOfBools}
 use Rattle.part_clauses.specs.First.{ForcesParts, IsAsserted, IsForced, written_literal}
 use Rattle.check_clauses.specs.First.{reading_of, IsFirst}
 use Rattle.cdcl_core.specs.Search.{literal_lists}
 use Rattle.cdcl_core.specs.Turns.{AreNew, IsShown, IsOfTheory, Searches}
-use Rattle.check_search.specs.Shown.{HasStackAtoms, unit_of, IsOfNumbers, NumbersNoBools, ChangeRows, ShowsUnits}
+use Rattle.check_search.specs.Shown.{HasStackAtoms, unit_of, IsOfNumbers, NumbersNoBools, ShowsUnits}
 use Rattle.check_search.proofs.Lists.{Cut, cut, IsAfter, in_order, all_of, at_any, first_or_later, front_in, in_middle}
 use Rattle.check_search.proofs.Numbers.{same_front}
-use Rattle.check_search.proofs.SameStack.{check_atom_by, branches_by, range_by}
+use Rattle.check_search.proofs.SameStack.{check_atom_by, branches_by, range_by, sums_by}
 use Rattle.check_search.proofs.Units.{IsLast, learnt, newly_numbered, new_at, new_front, numbers_of_both}
 
 -- the laws that are cited
@@ -67,26 +70,52 @@ budget_of limit b k v e most counts = record {
 
 -- ---- what a theory shows, by the levels of the stack
 
-seen_by : FlatSaysTheSame → (s : Stack) (branches : List Line) (seen : Option RangeSeen)
-    → IfSome seen (LeavesRange s.trees (flat s.frames) (IsCheckAtom s.trees (flat s.frames) branches)) → IfSome seen (LeavesRange s.trees s.frames (IsCheckAtom s.trees s.frames branches))
-seen_by flatly s branches None h = tt
-seen_by flatly s branches (Some seen) h = range_by s.trees (flat s.frames) s.frames (flatly s.frames).signature (flatly s.frames).assertions branches seen h
+seen_by : FlatSaysTheSame → (s : Stack) (sums : List (List Summand)) (branches : List Line) (seen : Option RangeSeen)
+    → IfSome seen (LeavesRange s.trees (flat s.frames) sums (IsCheckAtom s.trees (flat s.frames) branches)) → IfSome seen (LeavesRange s.trees s.frames sums (IsCheckAtom s.trees s.frames branches))
+seen_by flatly s sums branches None h = tt
+seen_by flatly s sums branches (Some seen) h = range_by s.trees (flat s.frames) s.frames (flatly s.frames).signature (flatly s.frames).assertions sums branches seen h
 
-abbrev pub by_levels : Stack → Reading → Reading
-by_levels s q = record { trees = s.trees; frames = s.frames; table = q.table; closed = q.closed }
+abbrev with_levels : List Tree → List Frame → TheoryState → TheoryState
+with_levels ts fs t = record { reading = record { trees = ts; frames = fs; table = t.reading.table; closed = t.reading.closed }; log = t.log; variables = t.variables }
 
-pub shown_by_levels : FlatSaysTheSame → (s : Stack) (q : Reading) (x : Showing) → q.trees ≡ s.trees → q.frames ≡ flat s.frames → IsShowing q x → IsShowing (by_levels s q) x
-shown_by_levels flatly s q x trees frames h =
-    let flatly_shown : IsShowing (record { trees = s.trees; frames = flat s.frames; table = q.table; closed = q.closed }) x =
-    subst (λ (fs : List Frame). IsShowing (record { trees = s.trees; frames = fs; table = q.table; closed = q.closed }) x) frames
-    (subst (λ (ts : List Tree). IsShowing (record { trees = ts; frames = q.frames; table = q.table; closed = q.closed }) x) trees h) in
+abbrev pub by_levels : Stack → TheoryState → TheoryState
+by_levels s t = with_levels s.trees s.frames t
+
+pub shown_by_levels : FlatSaysTheSame → (s : Stack) (t : TheoryState) (x : Showing) → t.reading.trees ≡ s.trees → t.reading.frames ≡ flat s.frames → IsShowing t x → IsShowing (by_levels s t) x
+shown_by_levels flatly s t x trees frames h =
+    let flatly_shown : IsShowing (with_levels s.trees (flat s.frames) t) x =
+    subst (λ (fs : List Frame). IsShowing (with_levels s.trees fs t) x) frames (subst (λ (ts : List Tree). IsShowing (with_levels ts t.reading.frames t) x) trees h) in
     record {
-      branches = branches_by s.trees (flat s.frames) s.frames (flatly s.frames).signature (flatly s.frames).assertions x.branches flatly_shown.branches;
+      sums = sums_by s.trees (flat s.frames) s.frames (flatly s.frames).signature (flatly s.frames).assertions t.variables.sums flatly_shown.sums;
+      branches = branches_by s.trees (flat s.frames) s.frames (flatly s.frames).signature (flatly s.frames).assertions t.variables.sums x.branches flatly_shown.branches;
       atoms = All-weaker (IsCheckAtom s.trees (flat s.frames) x.branches) (IsCheckAtom s.trees s.frames x.branches)
-          (check_atom_by s.trees (flat s.frames) s.frames (flatly s.frames).signature (flatly s.frames).assertions x.branches) q.table flatly_shown.atoms;
+          (check_atom_by s.trees (flat s.frames) s.frames (flatly s.frames).signature (flatly s.frames).assertions x.branches) t.reading.table flatly_shown.atoms;
       different = flatly_shown.different;
-      seen = seen_by flatly s x.branches x.seen flatly_shown.seen;
+      seen = seen_by flatly s t.variables.sums x.branches x.seen flatly_shown.seen;
     }
+
+-- ---- pivots among written units
+
+lines_both : (us vs : List Spent) → pivot_lines (us ++ vs) ≡ pivot_lines us ++ pivot_lines vs
+lines_both [] vs = refl
+lines_both (Learnt c ∷ us) vs = lines_both us vs
+lines_both (Numbered n ∷ us) vs = lines_both us vs
+lines_both (Pivot l ∷ us) vs = ap (λ (ls : List Line). l ∷ ls) (lines_both us vs)
+
+basis_written : (table : List Atom) (level : ℕ) (us : List Spent) (is : ℕ → Bool) → basis_along is (pivot_lines us) ≡ basis_after is (map (unit_of table level) us)
+basis_written table level [] is = refl
+basis_written table level (Learnt c ∷ us) is = basis_written table level us is
+basis_written table level (Numbered n ∷ us) is = basis_written table level us is
+basis_written table level (Pivot l ∷ us) is = basis_written table level us (exchanged l is)
+
+-- the pivot after some
+pivot_at : (sums : List (List Summand)) (B : Bounding) (is : ℕ → Bool) (before after : List Line) (l : Line) → ArePivotsFrom sums B is (before ++ l ∷ after) → IsPivotIn sums B (basis_along is before) l
+pivot_at sums B is [] after l h = h.0
+pivot_at sums B is (m ∷ before) after l h = pivot_at sums B (exchanged m is) before after l h.1
+
+pivot_over : (Is Js : Atom → Type 0) → ((a : Atom) → Is a → Js a) → (sums : List (List Summand)) (is : ℕ → Bool) (l : Line) → IsPivotIn sums (IsBoundOf Is) is l → IsPivotIn sums (IsBoundOf Js) is l
+pivot_over Is Js more sums is l h =
+    subst (λ xs. IsPivotIn xs (IsBoundOf Js) is l) (append-nil sums) (pivots_by (IsBoundOf Is) (IsBoundOf Js) (bound_by Is Js more) sums [] (l ∷ []) is is (λ i lt. refl) (h, tt)).0
 
 -- ---- the first clauses by a longer table
 
@@ -164,7 +193,7 @@ has_number (Numbered n ∷ us) m h =
     number_is e = ap number_of e
 
 module _ (laws : Laws) (s : Stack) (stored new : Stored) (lawful : IsLawful s) (limit : ℤ) (t u : TheoryState) (b c : Spending) (first : IsFirst s t.reading.table stored)
-    (all : HasStackAtoms s t.reading.table) (begins : t.reading ≡ reading_of s t.reading.table) (budget : IsBudget limit b)
+    (all : HasStackAtoms s t.reading.table) (begins : t.reading ≡ reading_of s t.reading.table) (basis : AreBasic (first_basis t.variables.sums) t.variables) (budget : IsBudget limit b)
     (run : Searches false stored new t u b c) where
   abbrev more : List Atom
   more = run.turns.grown.more
@@ -184,8 +213,11 @@ module _ (laws : Laws) (s : Stack) (stored new : Stored) (lawful : IsLawful s) (
   of_stack : (a : Atom) → Contains (stack_atoms s.trees s.frames) a → ((m : ℕ) × (m < length t.reading.table) × (atom_at u.reading.table m ≡ a)) ⊎ IsSameOfBools s a
   of_stack a h = elim (all a h) [ inl k ↦ inl (first_number a k) | inr b ↦ inr b ]
 
-  module _ (x : Showing) (shown : IsShowing (by_levels s u.reading) x) (others : All (NumbersNoBools s) (map (unit_of u.reading.table (depth s.frames)) c.units))
-      (change : ChangeRows (map (unit_of u.reading.table (depth s.frames)) c.units)) where
+  -- where there is a limit, the pivots go on from the basis before any
+  are_pivots : is_unlimited limit ≡ false → ArePivots u c.units
+  are_pivots counted = run.turns.pivots (budget.keeps ∙ ap not counted) (subst (λ (us : List Spent). ArePivots t us) (sym budget.units) (record { lines = tt; basis = basis }))
+
+  module _ (x : Showing) (shown : IsShowing (by_levels s u) x) (others : All (NumbersNoBools s) (map (unit_of u.reading.table (depth s.frames)) c.units)) where
     last : IsLast s x.branches stored u.reading
     last = record {
       trees = trees_stay s t.reading u.reading begins run.turns.grown;
@@ -200,7 +232,7 @@ module _ (laws : Laws) (s : Stack) (stored new : Stored) (lawful : IsLawful s) (
     }
 
     one_unit : (before after : List Spent) (y : Spent) → c.units ≡ before ++ y ∷ after
-        → IsUnit s.trees s.frames x.branches limit 0 (map (unit_of u.reading.table (depth s.frames)) before) (unit_of u.reading.table (depth s.frames) y)
+        → IsUnit s.trees s.frames u.variables.sums x.branches limit 0 (map (unit_of u.reading.table (depth s.frames)) before) (unit_of u.reading.table (depth s.frames) y)
     one_unit before after (Numbered n) e =
         let here : Contains c.units (Numbered n) = subst (λ us. Contains us (Numbered n)) (sym e) (in_middle before after (Numbered n)) in
         let order : IsAfter (length t.reading.table) n (numbers before) =
@@ -218,22 +250,30 @@ module _ (laws : Laws) (s : Stack) (stored new : Stored) (lawful : IsLawful s) (
         (new_front stored.clauses [] before (Learnt d ∷ after) news) (new_at stored.clauses [] before after (Learnt d) news)
     one_unit before after (Pivot l) e =
         let here : Contains c.units (Pivot l) = subst (λ us. Contains us (Pivot l)) (sym e) (in_middle before after (Pivot l)) in
-        let is : IsShown u.reading (Pivot l) = All-contains (IsShown u.reading) c.units (Pivot l) shown_all here in
         let counted : is_unlimited limit ≡ false = limited IsNoPivot b.keeps_lines (is_unlimited limit) b.units c.units (Pivot l) budget.keeps budget.units run.turns.spends.no_pivots here (λ h. h) in
-        let written : List Spent → List ShownUnit = map (unit_of u.reading.table (depth s.frames)) in
-        subst (λ v. MatchBool v (IsUnlisted s.trees s.frames l) (IsPivot s.trees s.frames x.branches (written before) l)) (sym counted) (record {
-          row = line_over (Contains u.reading.table) (IsCheckAtom s.trees s.frames x.branches) (λ a k. All-contains (IsCheckAtom s.trees s.frames x.branches) u.reading.table a shown.atoms k) l is.row;
-          by_rule = is.by_rule;
-          others = λ m newest. change (written before) (written after) l m (ap written e ∙ map-append (unit_of u.reading.table (depth s.frames)) before (Pivot l ∷ after)) newest;
-        })
+        let sums = u.variables.sums in
+        let lines : ArePivotsFrom sums (IsBoundOf (Contains u.reading.table)) (first_basis sums) (pivot_lines before ++ l ∷ pivot_lines after) =
+        subst (λ ls. ArePivotsFrom sums (IsBoundOf (Contains u.reading.table)) (first_basis sums) ls) (ap pivot_lines e ∙ lines_both before (Pivot l ∷ after)) (are_pivots counted).lines in
+        record {
+          costs = counted;
+          pivots = subst (λ is. IsPivotIn sums (IsBoundOf (IsCheckAtom s.trees s.frames x.branches)) is l) (basis_written u.reading.table (depth s.frames) before (first_basis sums))
+              (pivot_over (Contains u.reading.table) (IsCheckAtom s.trees s.frames x.branches) (λ a k. All-contains (IsCheckAtom s.trees s.frames x.branches) u.reading.table a shown.atoms k) sums
+              (basis_along (first_basis sums) (pivot_lines before)) l (pivot_at sums (IsBoundOf (Contains u.reading.table)) (first_basis sums) (pivot_lines before) (pivot_lines after) l lines));
+        }
 
-    are_units : AreUnits s.trees s.frames x.branches limit 0 (map (unit_of u.reading.table (depth s.frames)) c.units)
+    are_units : AreUnits s.trees s.frames u.variables.sums x.branches limit 0 (map (unit_of u.reading.table (depth s.frames)) c.units)
     are_units before after y e =
         let r : Cut (unit_of u.reading.table (depth s.frames)) c.units before after y = cut (unit_of u.reading.table (depth s.frames)) c.units before after y e in
-        subst (λ (us : List ShownUnit). IsUnit s.trees s.frames x.branches limit 0 us y) r.front_is
-        (subst (IsUnit s.trees s.frames x.branches limit 0 (map (unit_of u.reading.table (depth s.frames)) r.front)) r.one_is (one_unit r.front r.back r.one r.is))
+        subst (λ (us : List ShownUnit). IsUnit s.trees s.frames u.variables.sums x.branches limit 0 us y) r.front_is
+        (subst (IsUnit s.trees s.frames u.variables.sums x.branches limit 0 (map (unit_of u.reading.table (depth s.frames)) r.front)) r.one_is (one_unit r.front r.back r.one r.is))
 
-  pub shows_units : length c.units ≡ c.limit → ShowsUnits s limit u.reading c.units
-  shows_units spent x h others change =
-      let shown : IsShowing (by_levels s u.reading) x = shown_by_levels laws.flatly s u.reading x (trees_stay s t.reading u.reading begins run.turns.grown) (frames_stay s t.reading u.reading begins run.turns.grown) h in
-      (length-map c.units (unit_of u.reading.table (depth s.frames)) ∙ (spent ∙ (run.turns.limit ∙ budget.limit_is)), shown.branches, are_units x shown others change)
+  pub shows_units : length c.units ≡ c.limit → ShowsUnits s limit u c.units
+  shows_units spent x h others =
+      let shown : IsShowing (by_levels s u) x = shown_by_levels laws.flatly s u x (trees_stay s t.reading u.reading begins run.turns.grown) (frames_stay s t.reading u.reading begins run.turns.grown) h in
+      record {
+        count = length-map c.units (unit_of u.reading.table (depth s.frames)) ∙ (spent ∙ (run.turns.limit ∙ budget.limit_is));
+        sums = u.variables.sums;
+        known = shown.sums;
+        are_branches = shown.branches;
+        units = are_units x shown others;
+      }

@@ -1,8 +1,6 @@
 -- What a search asks of its first atoms, and what its worker shows of the units that it has spent.
 use Rattle.std.specs.Prelude.{◌≡◌, ◌⊎◌, ℕ, ℤ, ◌<◌, List, ◌∷◌, ◌++◌, map, Option, Some, All, Contains}
 use Rattle.literals.specs.Signed.{Signed}
-use Rattle.fraction128.specs.declared.Line.{Line}
-use Rattle.fraction128.specs.Lines.{HaveOthers}
 use Rattle.smt_meaning.specs.declared.clauses.Atom.{Atom}
 use Rattle.smt_meaning.specs.declared.clauses.Clause.{Clause}
 use Rattle.smt_meaning.specs.declared.reports.Unit.{Unit as ShownUnit}
@@ -11,8 +9,8 @@ use Rattle.smt_meaning.specs.declared.reports.Cause.TheVariants.{Units}
 use Rattle.smt_meaning.specs.Stack.{depth}
 use Rattle.smt_meaning.specs.StackCommand.{Stack}
 use Rattle.smt_meaning.specs.Atoms.{stack_atoms}
-use Rattle.smt_meaning.specs.Report.{last_pivot, Shows}
-use Rattle.search_port.specs.State.{Reading, atom_at}
+use Rattle.smt_meaning.specs.Report.{Shows}
+use Rattle.search_port.specs.State.{TheoryState, atom_at}
 use Rattle.search_port.specs.Showing.{IsShowing}
 use Rattle.search_port.specs.declared.budget.Spent.{Spent}
 use Rattle.search_port.specs.declared.budget.Spent.TheVariants.{Learnt, Numbered, Pivot}
@@ -46,12 +44,7 @@ NumbersNoBools s (Shown.Learnt c) = Unit {0}
 NumbersNoBools s (Shown.Numbered a) = IsSameOfBools s a → ⊥
 NumbersNoBools s (Shown.Pivot l) = Unit {0}
 
--- each pivot has another basic variable than the one before it
-abbrev pub ChangeRows : List ShownUnit → Type 0
-ChangeRows us = (before after : List ShownUnit) (l m : Line) → us ≡ before ++ Shown.Pivot l ∷ after → last_pivot before ≡ Some m → HaveOthers m l
-
--- with what a theory of this reading shows, its worker shows that these are all units that it may spend, their clauses at the level of the whole stack, if they number no equality of Bools, and
--- each pivot has another basic variable than the one before it
-abbrev pub ShowsUnits : Stack → ℤ → Reading → List Spent → Type 0
-ShowsUnits s limit q us =
-    (t : Showing) → IsShowing q t → All (NumbersNoBools s) (map (unit_of q.table (depth s.frames)) us) → ChangeRows (map (unit_of q.table (depth s.frames)) us) → Shows s.trees s.frames limit 0 t.branches (Units (map (unit_of q.table (depth s.frames)) us))
+-- with what a theory in this state shows, its worker shows that these are all units that it may spend, their clauses at the level of the whole stack, if they number no equality of Bools
+abbrev pub ShowsUnits : Stack → ℤ → TheoryState → List Spent → Type 0
+ShowsUnits s limit t us =
+    (x : Showing) → IsShowing t x → All (NumbersNoBools s) (map (unit_of t.reading.table (depth s.frames)) us) → Shows s.trees s.frames limit 0 x.branches (Units (map (unit_of t.reading.table (depth s.frames)) us))

@@ -4,6 +4,8 @@ ghost use Rattle.scope_stack.specs.declared.answers.Assertion.{Assertion as Asse
 ghost use Rattle.smt_meaning.specs.Interpretation.{AreTablesFor, meaning};
 ghost use Rattle.smt_meaning.specs.Stack.{signature_of, Holds};
 ghost use Rattle.smt_meaning.specs.Report.{is_unlimited, most_units};
+ghost use Rattle.fraction128.specs.Lines.{first_basis};
+ghost use Rattle.search_port.specs.Pivots.{AreBasic};
 ghost use Rattle.theory_port.specs.Verdicts.{IsVerdict};
 ghost use Rattle.cdcl_core.specs.Search.{AreAgreed};
 ghost use Rattle.check_clauses.specs.First.{reading_of, IsFirst};
@@ -81,7 +83,7 @@ fn model(
     }
 }
 
-/// Searches from the first clauses on, with a theory that was told nothing: a model of all of them under which each number is in the range is one of the
+/// Searches from the first clauses on, with a theory that was told nothing and made no pivot: a model of all of them under which each number is in the range is one of the
 /// assertions, and where the empty clause follows, they have none. Where the search ends otherwise, its worker shows why. An `Err` is for want of memory.
 pub fn search<T: Shown>(
     alloc: Global,
@@ -93,6 +95,7 @@ pub fn search<T: Shown>(
     requires first { IsFirst stack.now (T.state theory).reading.table store }
     requires reading { (T.state theory).reading ≡ reading_of stack.now (T.state theory).reading.table }
     requires untold { (T.state theory).log ≡ [] }
+    requires basis { AreBasic (first_basis (T.state theory).variables.sums) (T.state theory).variables }
     requires agreed { AreAgreed T.agrees (T.state theory).reading store.clauses }
     requires all { HasStackAtoms stack.now (T.state theory).reading.table }
     ensures { IfOk result (IsVerdict stack.now.trees stack.now.frames settings.now.units) }

@@ -1,13 +1,11 @@
 //! What is answered where a search ended on its way.
 ghost use Rattle.std.specs.Prelude.{◌≡◌, [], length, All, IfOk};
-ghost use Rattle.smt_meaning.specs.CheckAtoms.{IsCheckAtom};
-ghost use Rattle.smt_meaning.specs.Ranges.{LeavesRange};
+ghost use Rattle.smt_meaning.specs.Report.{IsPastRange};
 ghost use Rattle.smt_laws.specs.Flat.{flat};
 ghost use Rattle.theory_port.specs.Verdicts.{IsVerdict};
 ghost use Rattle.check_search.specs.Shown.{IsOfNumbers, ShowsUnits};
 
 use crate::bools::some_numbers_bools;
-use crate::pivots::some_row_twice;
 use crate::shown::{report, write_units};
 use scope_stack::Stack;
 use search_port::{Budget, Showing, Shown};
@@ -16,8 +14,8 @@ use smt_meaning::{Cause, RangeSeen, Seq, Settings};
 use std::alloc::{AllocError, Global};
 use theory_port::Verdict;
 
-/// The answer where all units are spent: its worker shows them, and the branches of the theory. A unit that is an equality of Bools shows nothing new, since the stack has that atom,
-/// nor does a second pivot of one row at once; a theory of integers spends none of these.
+/// The answer where all units are spent: its worker shows them, and the branches of the theory. A unit that is an equality of Bools shows nothing new, since the stack has that atom;
+/// a theory of integers spends none of these.
 pub(crate) fn all_spent<T: Shown>(
     alloc: Global,
     stack: &Stack,
@@ -28,15 +26,11 @@ pub(crate) fn all_spent<T: Shown>(
     requires trees { (T.state theory).reading.trees ≡ stack.now.trees }
     requires frames { (T.state theory).reading.frames ≡ flat stack.now.frames }
     requires numbers { All (IsOfNumbers (length (T.state theory).reading.table)) budget.units }
-    requires spent { ShowsUnits stack.now settings.now.units (T.state theory).reading budget.units }
+    requires spent { ShowsUnits stack.now settings.now.units (T.state theory) budget.units }
     ensures { IfOk result (IsVerdict stack.now.trees stack.now.frames settings.now.units) }
 {
     let units = write_units(alloc, &theory, stack.depth(), budget.into_units())?;
-    let written = units.as_slice();
-    if some_numbers_bools(stack.sorts(), written) {
-        return stopped(alloc, stack, settings, theory);
-    }
-    if some_row_twice(written) {
+    if some_numbers_bools(stack.sorts(), units.as_slice()) {
         return stopped(alloc, stack, settings, theory);
     }
     let shown = theory.show();
@@ -69,7 +63,7 @@ pub fn out_of_range(
     settings: &Settings,
     seen: RangeSeen,
 ) -> Result<Verdict, AllocError>
-    requires { LeavesRange stack.now.trees (flat stack.now.frames) (IsCheckAtom stack.now.trees (flat stack.now.frames) []) seen }
+    requires { IsPastRange stack.now.trees (flat stack.now.frames) [] seen }
     ensures { IfOk result (IsVerdict stack.now.trees stack.now.frames settings.now.units) }
 {
     flat_says_the_same();

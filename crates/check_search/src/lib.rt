@@ -18,7 +18,6 @@
 mod bools;
 mod decide;
 mod ending;
-mod pivots;
 mod shown;
 mod still;
 

@@ -5,14 +5,14 @@ use Rattle.smt_meaning.specs.declared.clauses.Atom.{Atom}
 use Rattle.smt_meaning.specs.declared.clauses.Atom.TheVariants.{Truth, AtMost, Same}
 use Rattle.smt_meaning.specs.Stack.{signature_of}
 use Rattle.smt_meaning.specs.StackCommand.{Stack}
-use Rattle.search_port.specs.State.{TheoryState}
+use Rattle.search_port.specs.State.{TheoryState, no_variables}
 use Rattle.search_port.specs.Valid.{IsOf}
 use Rattle.smt_laws.specs.Flat.{flat}
 use Rattle.stack_atoms.specs.Atoms.{is_bool_at}
 
 -- the levels of a stack are read as one, and atoms may be added
 abbrev pub state_of : Stack → List Atom → List Signed → TheoryState
-state_of s table log = record { reading = record { trees = s.trees; frames = flat s.frames; table = table; closed = false }; log = log }
+state_of s table log = record { reading = record { trees = s.trees; frames = flat s.frames; table = table; closed = false }; log = log; variables = no_variables }
 
 -- the truth of a Bool, or the equality of two terms of the stack; of bounds it asks nothing
 abbrev pub IsOfTerms : Stack → Atom → Type 0

@@ -5,6 +5,8 @@ use Rattle.std.specs.List.{range_with_len}
 use Rattle.std.proofs.lemmas.List.{length-map}
 use Rattle.std.proofs.lemmas.List.Elements.{All-nil, All-contains, Contains-append_left, Contains-append_right, Contains-push, Contains-get_or}
 use Rattle.clause_store.specs.Stored.{Kept, Stored}
+use Rattle.fraction128.specs.declared.Summand.{Summand}
+use Rattle.fraction128.specs.Lines.{AreSums}
 use Rattle.smt_meaning.specs.declared.clauses.Atom.{Atom}
 use Rattle.smt_meaning.specs.declared.reports.Unit.{Unit as ShownUnit}
 use Rattle.smt_meaning.specs.declared.reports.Cause.TheVariants.{Units}
@@ -69,6 +71,10 @@ budget_of limit b k v e most counts = record {
   keeps = ap (λ (x : Spending). x.keeps_lines) e;
 }
 
+-- where there are no variables
+no_sums : (Known : List Summand → Type 0) → AreSums Known []
+no_sums Known = record { apart = λ i j d l m. absurd (omega (arith, m)); filled = All-nil _; known = All-nil _ }
+
 front_in : (P : Spent → Type 0) (us vs : List Spent) → All P (us ++ vs) → All P us
 front_in P us vs h k d lt = All-contains P (us ++ vs) (get_or us k d) h (Contains-append_left us vs (get_or us k d) (Contains-get_or us k d lt))
 
@@ -94,7 +100,7 @@ module _ (laws : Laws) (s : Stack) (marks : List Bool) (table : List Atom) (stor
   is_limited : is_unlimited limit ≡ false
   is_limited = limited limit (is_unlimited limit) b c refl budget are_learnt run.turns.spends.free run.turns.limit spent
 
-  one_unit : (before after : List Spent) (x : Spent) → c.units ≡ before ++ x ∷ after → IsUnit s.trees s.frames [] limit 0 (map (unit_of table (depth s.frames)) before) (unit_of table (depth s.frames) x)
+  one_unit : (before after : List Spent) (x : Spent) → c.units ≡ before ++ x ∷ after → IsUnit s.trees s.frames [] [] limit 0 (map (unit_of table (depth s.frames)) before) (unit_of table (depth s.frames) x)
   one_unit before after (Numbered n) e =
       absurd (All-contains IsLearntUnit (before ++ Numbered n ∷ after) (Numbered n) (subst (λ us. All IsLearntUnit us) e are_learnt)
       (Contains-append_right before (Numbered n ∷ after) (Numbered n) (Contains-append_left (Numbered n ∷ []) after (Numbered n) (Contains-push [] (Numbered n)))))
@@ -111,11 +117,11 @@ module _ (laws : Laws) (s : Stack) (marks : List Bool) (table : List Atom) (stor
       (front_in (IsShown u.reading) before (Learnt d ∷ after) shown) (All-contains (IsShown u.reading) (before ++ Learnt d ∷ after) (Learnt d) shown here)
       (new_front false stored.clauses [] before (Learnt d ∷ after) news) (new_at false stored.clauses [] before after (Learnt d) news)
 
-  are_units : AreUnits s.trees s.frames [] limit 0 (map (unit_of table (depth s.frames)) c.units)
+  are_units : AreUnits s.trees s.frames [] [] limit 0 (map (unit_of table (depth s.frames)) c.units)
   are_units before after x e =
       let r : Cut (unit_of table (depth s.frames)) c.units before after x = cut (unit_of table (depth s.frames)) c.units before after x e in
-      subst (λ us. IsUnit s.trees s.frames [] limit 0 us x) r.front_is
-      (subst (IsUnit s.trees s.frames [] limit 0 (map (unit_of table (depth s.frames)) r.front)) r.one_is (one_unit r.front r.back r.one r.is))
+      subst (λ us. IsUnit s.trees s.frames [] [] limit 0 us x) r.front_is
+      (subst (IsUnit s.trees s.frames [] [] limit 0 (map (unit_of table (depth s.frames)) r.front)) r.one_is (one_unit r.front r.back r.one r.is))
 
   of_numbers : (x : Spent) → IsLearntUnit x × IsShown u.reading x → IsOfNumbers (length table) x
   of_numbers (Learnt d) h =
@@ -126,5 +132,11 @@ module _ (laws : Laws) (s : Stack) (marks : List Bool) (table : List Atom) (stor
   pub are_shown : AreShown s limit table c.units
   are_shown = record {
     numbers_of = λ k d lt. of_numbers (get_or c.units k d) (are_learnt k d lt, shown_all k d lt);
-    shows = (length-map c.units (unit_of table (depth s.frames)) ∙ (spent ∙ (run.turns.limit ∙ budget.limit_is)), tt, are_units);
+    shows = record {
+      count = length-map c.units (unit_of table (depth s.frames)) ∙ (spent ∙ (run.turns.limit ∙ budget.limit_is));
+      sums = [];
+      known = no_sums _;
+      are_branches = tt;
+      units = are_units;
+    };
   }

@@ -4,13 +4,13 @@ use Rattle.literals.specs.Signed.{Signed}
 use Rattle.smt_meaning.specs.declared.clauses.Atom.{Atom}
 use Rattle.smt_meaning.specs.declared.clauses.Atom.TheVariants.{Truth, AtMost, Same}
 use Rattle.smt_meaning.specs.StackCommand.{Stack}
-use Rattle.search_port.specs.State.{TheoryState}
+use Rattle.search_port.specs.State.{TheoryState, no_variables}
 use Rattle.smt_laws.specs.Flat.{flat}
 use Rattle.stack_atoms.specs.OfStack.{AreOfStack}
 
 -- the levels of a stack are read as one
 abbrev pub state_of : Stack → List Atom → List Signed → TheoryState
-state_of s table log = record { reading = record { trees = s.trees; frames = flat s.frames; table = table; closed = true }; log = log }
+state_of s table log = record { reading = record { trees = s.trees; frames = flat s.frames; table = table; closed = true }; log = log; variables = no_variables }
 
 -- it is no bound of a sum
 abbrev pub IsPlain : Atom → Type 0

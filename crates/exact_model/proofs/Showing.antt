@@ -3,6 +3,7 @@ use Rattle.std.proofs.Common.{◌≡◌, ℕ, ◌<◌, ◌&&◌, Bool, true, fal
 use Rattle.std.specs.Prelude.{IsTrue, Some}
 use Rattle.std.proofs.lemmas.List.Elements.{All-weaker, All-map}
 use Rattle.fraction128.specs.Number.{whole}
+use Rattle.fraction128.specs.declared.Summand.{Summand}
 use Rattle.fraction128.specs.declared.Grid.{Grid}
 use Rattle.fraction128.specs.Lines.{IsSoundGrid}
 use Rattle.smt_meaning.specs.declared.values.Value.{Value}
@@ -103,9 +104,9 @@ module _ (flat_law : FlatSaysTheSame) (s : Stack) (marks : List Bool) (known : L
       let v : value (meaning tables) t ≡ listed vs p = ap (value (meaning tables)) (sym a.1) ∙ give p a.0 ∙ leaf_listed s.trees known vs forms p less leaf in
       subst (λ (w : Value). HasValue g p (whole (number_of w))) (sym v) (have p less (record { within = less; marked = a.0; is_int = int; leaf = leaf }))
 
-  pub in_model : (Is : Atom → Type 0) (place : ℕ) → AreTablesFor (signature_of s.frames) tables → IsUnfit s.trees marks tables place → IsSoundGrid (IsBoundOf Is) g
-      → LeavesInModel s.trees (flat s.frames) Is tables place g
-  in_model Is place are unfit sound = record {
+  pub in_model : (sums : List (List Summand)) (Is : Atom → Type 0) (place : ℕ) → AreTablesFor (signature_of s.frames) tables → IsUnfit s.trees marks tables place → IsSoundGrid sums (IsBoundOf Is) g
+      → LeavesInModel s.trees (flat s.frames) sums Is tables place g
+  in_model sums Is place are unfit sound = record {
     tree = tree_at s.trees place;
     part = flat_part (tree_at s.trees place) (of_assertions place unfit.marked);
     place_is = place_of-is (tree_at s.trees place) s.trees place (different_of s.trees lawful.in_order) unfit.within refl;

@@ -11,6 +11,7 @@ ghost use Rattle.linear_forms.specs.Table.{AreForms};
 ghost use Rattle.model_eval.specs.Walk.{is_marked};
 ghost use Rattle.model_build.specs.Parts.{AreSortedParts};
 ghost use Rattle.exact_model.specs.Exact.{AreListed};
+ghost use Rattle.bound_log.specs.Told.{column_sums};
 ghost use Rattle.bound_log.specs.Atoms.{Knows};
 ghost use Rattle.bound_log.specs.Pending.{plain_grid};
 ghost use Rattle.exact_model.specs.Leaves.{HaveLeafValues};
@@ -49,7 +50,7 @@ fn shown_by(
     requires linear { (p : ℕ) → is_marked marks.now p ≡ true → IsTrue (is_linear (tree_at stack.now.trees p)) }
     requires listed { AreListed stack.now.trees forms.now values.now }
     requires have { HaveLeafValues stack.now marks.now (plain_grid bounds.now) (length stack.now.trees) values.now }
-    ensures { IfOk result (λ m. (table : List Atom) → Knows table bounds.now → LeavesInModel stack.now.trees (flat stack.now.frames) (Contains table) m.tables m.place m.grid) }
+    ensures { IfOk result (λ m. (table : List Atom) → Knows table bounds.now → LeavesInModel stack.now.trees (flat stack.now.frames) (column_sums bounds.now) (Contains table) m.tables m.place m.grid) }
 {
     flat_says_the_same();
     stack.laws();
@@ -82,7 +83,7 @@ pub fn shown_in_model(
     requires forms { AreForms stack.now.trees forms.now }
     requires truths { length values.now.truths.now ≡ length stack.now.trees }
     requires elements { length values.now.elements.now ≡ length stack.now.trees }
-    ensures { IfOk result (λ m. (table : List Atom) → Knows table bounds.now → LeavesInModel stack.now.trees (flat stack.now.frames) (Contains table) m.tables m.place m.grid) }
+    ensures { IfOk result (λ m. (table : List Atom) → Knows table bounds.now → LeavesInModel stack.now.trees (flat stack.now.frames) (column_sums bounds.now) (Contains table) m.tables m.place m.grid) }
 {
     let listed = listed_values(alloc, stack, marks, bounds, values)?;
     let found = shown_by(alloc, stack, marks, forms, bounds, &listed)?;

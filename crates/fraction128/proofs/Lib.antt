@@ -17,5 +17,6 @@ pub mod ExactSteps
 pub mod FieldLaws
 mod NumberMeaningExamples
 pub mod RowValue
+pub mod SumValues
 mod GridMeaningExamples
 pub mod Places

@@ -1,6 +1,7 @@
 -- Lines, which are rows of a grid with the columns of their variables, and what lines and grids show of a search.
-use Rattle.std.specs.Prelude.{◌≡◌, ◌≢◌, ℕ, ◌<◌, ◌⊎◌, Bool, true, false, List, [], ◌∷◌, map, length, ℤ, pos, ◌+ℤ◌, ◌*ℤ◌, ◌<ℤ◌, ◌≤ℤ◌, Option, Some, None, All, Contains}
+use Rattle.std.specs.Prelude.{◌≡◌, ◌≢◌, ℕ, ◌+◌, ◌<◌, ◌≤◌, ◌⊎◌, Bool, true, false, not, ◌==◌, if◌then◌else◌, List, [], ◌∷◌, map, length, slice_index_or, ℤ, pos, ◌+ℤ◌, ◌*ℤ◌, ◌<ℤ◌, ◌≤ℤ◌, Option, Some, None, All, AllPairs, Contains}
 use Rattle.fraction128.specs.declared.ratio.Ratio.{Ratio}
+use Rattle.fraction128.specs.Ratio.{IsFraction}
 use Rattle.fraction128.specs.Number.{whole, SameNumber, unreduced_sum, unreduced_product}
 use Rattle.fraction128.specs.declared.Summand.{Summand}
 use Rattle.fraction128.specs.declared.Entry.{Entry}
@@ -11,7 +12,7 @@ use Rattle.fraction128.specs.declared.Member.{Member}
 use Rattle.fraction128.specs.declared.Line.{Line}
 use Rattle.fraction128.specs.declared.Side.{Side}
 use Rattle.fraction128.specs.declared.Side.TheVariants.{Lower, Upper}
-use Rattle.fraction128.specs.Grid.{Step, MeetsRows, column_at, value_at, row_of, is_basic, entries_of, is_below, is_above, helps, leaf, next_step, step_fits}
+use Rattle.fraction128.specs.Grid.{Step, pivot, MeetsRows, WithinBounds, column_at, value_at, row_of, is_basic, entries_of, is_below, is_above, helps, leaf, same_sum, next_step, step_fits}
 
 -- ---- sums of terms
 
@@ -23,6 +24,22 @@ sum_value w (p ∷ ps) = unreduced_sum (unreduced_product (whole p.coefficient) 
 -- all values have positive denominators
 abbrev pub IsPositive : (ℕ → Ratio) → Type 0
 IsPositive v = (i : ℕ) → 0 < (v i).denominator
+
+-- ---- the sums of variables
+
+-- the sum of a variable, where the sums of all variables are listed
+abbrev pub sum_of_variable : List (List Summand) → ℕ → List Summand
+sum_of_variable sums i = slice_index_or sums i []
+
+-- the sums of the variables of a check, which are known ones: no sum has two variables, and none is empty
+pub record AreSums (Known : List Summand → Type 0) (sums : List (List Summand)) : Type 0 where
+  pub apart : AllPairs (λ (ps qs : List Summand). ps ≢ qs) sums
+  pub filled : All (λ (ps : List Summand). ps ≢ []) sums
+  pub known : All Known sums
+
+-- the column of a variable has the variable's sum
+abbrev pub HasSum : List (List Summand) → ℕ → Column → Type 0
+HasSum sums i c = (i < length sums) × (c.sum ≡ sum_of_variable sums i)
 
 -- ---- rows, values and bounds
 
@@ -39,9 +56,43 @@ pub record IsBoundedBy (B : Bounding) (c : Column) : Type 0 where
 abbrev pub IsResting : Bounding → Column → Type 0
 IsResting B c = (c.value ≡ whole (pos 0)) ⊎ ((s : Side) × (k : ℤ) × (c.value ≡ whole k) × B c.sum s k)
 
--- each row is an identity between the sums of its variables, whatever values the terms have; the values meet the rows; each bound is such a number; what isn't basic is 0 or such a number
-pub record IsSoundGrid (B : Bounding) (g : Grid) : Type 0 where
+-- the numbers ascend, from i on
+abbrev pub AscendFrom : ℕ → List ℕ → Type 0
+AscendFrom i [] = Unit {0}
+AscendFrom i (j ∷ js) = (i ≤ j) × AscendFrom (j + 1) js
+
+-- a fraction in lowest terms other than 0, with a variable that has a column and isn't basic
+pub record IsEntry (g : Grid) (e : Entry) : Type 0 where
+  pub fraction : IsFraction e.coefficient
+  pub nonzero : e.coefficient.numerator ≢ pos 0
+  pub known : e.variable < length g.columns
+  pub free : is_basic g.rows e.variable ≡ false
+
+-- the row of a variable, over variables that aren't basic, each once and in ascending order
+pub record IsRow (g : Grid) (r : TableRow) : Type 0 where
+  pub known : r.basic < length g.columns
+  pub ascending : AscendFrom 0 (map (λ (e : Entry). e.variable) r.entries)
+  pub entries : All (IsEntry g) r.entries
+
+-- no variable has two rows
+pub record AreRows (g : Grid) : Type 0 where
+  pub each : All (IsRow g) g.rows
+  pub apart : AllPairs (λ (q r : TableRow). q.basic ≢ r.basic) g.rows
+
+-- the sums of the variables that aren't basic are independent: whatever values are wanted for these, some values of the terms give each of them its own
+abbrev pub AreIndependent : Grid → Type 0
+AreIndependent g =
+    (v : ℕ → Ratio) → IsPositive v
+    → (w : ℕ → Ratio) × IsPositive w × ((i : ℕ) → i < length g.columns → is_basic g.rows i ≡ false → SameNumber (sum_value w (column_at g i).sum) (v i))
+
+-- a grid of these variables: each row is an identity between the sums of its variables, whatever values the terms have, and what isn't basic is independent; the values, in lowest terms, meet the rows;
+-- each bound is such a number; what isn't basic is 0 or such a number
+pub record IsSoundGrid (sums : List (List Summand)) (B : Bounding) (g : Grid) : Type 0 where
+  pub columns : (i : ℕ) → i < length g.columns → HasSum sums i (column_at g i)
+  pub rows : AreRows g
   pub identities : (w : ℕ → Ratio) → IsPositive w → MeetsRows g.rows (λ i. sum_value w (column_at g i).sum)
+  pub independent : AreIndependent g
+  pub fractions : (i : ℕ) → i < length g.columns → IsFraction (value_at g i)
   pub meets : MeetsRows g.rows (value_at g)
   pub bounded : (i : ℕ) → i < length g.columns → IsBoundedBy B (column_at g i)
   pub resting : (i : ℕ) → i < length g.columns → is_basic g.rows i ≡ false → IsResting B (column_at g i)
@@ -83,14 +134,53 @@ pub record IsIdentity (b : Member) (ms : List Member) : Type 0 where
   pub identity : (w : ℕ → Ratio) → IsPositive w → SameNumber (sum_value w b.column.sum) (members_value (λ m. sum_value w m.column.sum) ms)
   pub meets : SameNumber b.column.value (members_value (λ m. m.column.value) ms)
 
--- a line by the rules on rows, values and bounds: an identity that the values meet, with bounds that are such numbers; what isn't basic is 0 or such a number
-pub record IsSoundLine (B : Bounding) (l : Line) : Type 0 where
-  pub basic : Member
-  pub is_basic : l.basic ≡ Some basic
-  pub row : IsIdentity basic l.entries
-  pub bounded : IsBoundedBy B basic.column
-  pub entries_bounded : All (λ (m : Member). IsBoundedBy B m.column) l.entries
-  pub resting : All (λ (m : Member). IsResting B m.column) l.entries
+-- ---- which variables are basic
+
+-- the sum is a term alone
+abbrev pub is_leaf_sum : List Summand → Bool
+is_leaf_sum [] = false
+is_leaf_sum (p ∷ ps) = same_sum (p ∷ ps) (leaf p.term)
+
+-- before any pivot, those whose sum isn't a term alone
+abbrev pub first_basis : List (List Summand) → ℕ → Bool
+first_basis sums i = not (is_leaf_sum (sum_of_variable sums i))
+
+-- after a pivot, the variable that moves in the place of the one whose row it was
+abbrev pub exchanged : Line → (ℕ → Bool) → ℕ → Bool
+exchanged l is i = by_line l.basic l.moves
+  where
+    by_line : Option Member → Option ℕ → Bool
+    by_line (Some b) (Some c) = if i == c then true else if i == b.variable then false else is i
+    by_line (Some b) None = is i
+    by_line None moves = is i
+
+-- after the pivots of these lines
+abbrev pub basis_along : (ℕ → Bool) → List Line → ℕ → Bool
+basis_along is [] = is
+basis_along is (l ∷ ls) = basis_along (exchanged l is) ls
+
+abbrev pub HasBasis : (ℕ → Bool) → Grid → Type 0
+HasBasis is g = (i : ℕ) → i < length g.columns → is_basic g.rows i ≡ is i
+
+-- the line is that of the next step of such a grid, where these variables are basic
+pub record IsPivotIn (sums : List (List Summand)) (B : Bounding) (is : ℕ → Bool) (l : Line) : Type 0 where
+  pub grid : Grid
+  pub sound : IsSoundGrid sums B grid
+  pub basis : HasBasis is grid
+  pub leaves : ℕ
+  pub number : ℤ
+  pub enters : ℕ
+  pub next : next_step grid ≡ Some (pivot leaves number enters)
+  pub line : l ≡ pivot_line grid leaves enters
+
+-- the line is the row of a variable in such a grid, all of whose values lie within their bounds
+pub record IsRowIn (sums : List (List Summand)) (B : Bounding) (l : Line) : Type 0 where
+  pub grid : Grid
+  pub sound : IsSoundGrid sums B grid
+  pub within : All WithinBounds grid.columns
+  pub variable : ℕ
+  pub basic : is_basic grid.rows variable ≡ true
+  pub line : l ≡ line_of grid variable None
 
 -- ---- pivots
 

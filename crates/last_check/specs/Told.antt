@@ -5,7 +5,7 @@ use Rattle.smt_meaning.specs.declared.clauses.Atom.{Atom}
 use Rattle.smt_meaning.specs.Term.{Tree}
 use Rattle.smt_meaning.specs.Stack.{Frame, signature_of}
 use Rattle.smt_meaning.specs.StackCommand.{Stack}
-use Rattle.search_port.specs.State.{TheoryState, IsConsistent}
+use Rattle.search_port.specs.State.{TheoryState, IsConsistent, no_variables}
 use Rattle.search_port.specs.Calls.{JudgedBy}
 use Rattle.search_port.specs.declared.bare.Judged.{Judged}
 use Rattle.search_port.specs.declared.bare.Judged.TheVariants.{Fine, Conflict}
@@ -14,7 +14,7 @@ use Rattle.literal_steps.specs.Clauses.{IsToldAtOneLevel}
 
 -- a log of literals over these atoms, to which none is added
 abbrev pub told : List Tree → List Atom → List Signed → List Frame → TheoryState
-told trees table log frames = record { reading = record { trees = trees; frames = frames; table = table; closed = true }; log = log }
+told trees table log frames = record { reading = record { trees = trees; frames = frames; table = table; closed = true }; log = log; variables = no_variables }
 
 -- each numbered atom is told, with one sign alone
 pub record IsWholeLog (table : List Atom) (log : List Signed) : Type 0 where

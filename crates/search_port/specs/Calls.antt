@@ -1,13 +1,10 @@
 -- The laws of a theory's calls.
 use Rattle.std.specs.Prelude.{◌≡◌, ℕ, ◌+◌, ◌<◌, ◌≤◌, true, false, List, [], ◌∷◌, ◌++◌, length, All, Contains}
 use Rattle.std.specs.List.{range_with_len}
-use Rattle.fraction128.specs.declared.Line.{Line}
-use Rattle.fraction128.specs.Lines.{IsSoundLine, IsPivotLine}
 use Rattle.literals.specs.Signed.{Signed, literal_true}
 use Rattle.smt_meaning.specs.declared.values.Table.{Table}
 use Rattle.smt_meaning.specs.Interpretation.{AreTablesFor, meaning}
 use Rattle.smt_meaning.specs.Stack.{signature_of}
-use Rattle.smt_meaning.specs.CheckAtoms.{IsBoundOf}
 use Rattle.search_port.specs.State.{Reading, TheoryState, IsGrown, truth, AllFalseIn, IsPressing, IsMadeTrue}
 use Rattle.search_port.specs.Valid.{IsTheoryClause}
 use Rattle.search_port.specs.Spending.{Spending}
@@ -27,16 +24,11 @@ use Rattle.search_port.specs.declared.theory.Checked.TheVariants.{Fine, Conflict
 
 -- ---- units
 
--- a pivot by Bland's rule, in a row over numbered atoms
-pub record IsPivot (r : Reading) (l : Line) : Type 0 where
-  pub row : IsSoundLine (IsBoundOf (Contains r.table)) l
-  pub by_rule : IsPivotLine l
-
 -- a unit that a theory may spend: an atom that is newly numbered, or a pivot
 abbrev pub IsTheoryUnit : Reading → Reading → Spent → Type 0
 IsTheoryUnit old new (Learnt c) = ⊥
 IsTheoryUnit old new (Numbered n) = (length old.table ≤ n) × (n < length new.table)
-IsTheoryUnit old new (Pivot l) = IsPivot new l
+IsTheoryUnit old new (Pivot l) = Unit {0}
 
 abbrev pub IsNoPivot : Spent → Type 0
 IsNoPivot (Learnt c) = Unit {0}

@@ -1,6 +1,7 @@
 -- What a theory is about, and what it was told.
-use Rattle.std.specs.Prelude.{◌≡◌, ℕ, ◌++◌, Bool, true, List, [], map, slice_index_or, Contains, All, ◌⊎◌, ◌<◌, length}
+use Rattle.std.specs.Prelude.{◌≡◌, ℕ, ◌++◌, Bool, true, List, [], map, slice_index_or, Contains, All, ◌⊎◌, ◌<◌, length, Option, Some}
 use Rattle.literals.specs.Signed.{Signed, opposite}
+use Rattle.fraction128.specs.declared.Summand.{Summand}
 use Rattle.smt_meaning.specs.declared.clauses.Atom.{Atom}
 use Rattle.smt_meaning.specs.declared.clauses.Atom.TheVariants.{Truth}
 use Rattle.smt_meaning.specs.declared.clauses.Literal.{Literal}
@@ -16,10 +17,22 @@ pub record Reading : Type 0 where
   -- no atom is added
   pub closed : Bool
 
+-- the variables of a theory's grid
+pub record Variables : Type 0 where
+  -- the sum of each
+  pub sums : List (List Summand)
+  -- whether each is basic; nothing where the theory has stopped for want of memory
+  pub basic : Option (List Bool)
+
+-- where there is no grid
+abbrev pub no_variables : Variables
+no_variables = record { sums = []; basic = Some [] }
+
 pub record TheoryState : Type 0 where
   pub reading : Reading
   -- the literals asserted, oldest first
   pub log : List Signed
+  pub variables : Variables
 
 -- the atom of this number
 abbrev pub atom_at : List Atom → ℕ → Atom

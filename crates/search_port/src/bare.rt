@@ -18,7 +18,7 @@ pub trait About: Drop {
     ghost use Rattle.literals.specs.Signed.{Signed};
     ghost use Rattle.smt_meaning.specs.Term.{Tree};
     ghost use Rattle.smt_meaning.specs.Stack.{Frame};
-    ghost use Rattle.search_port.specs.State.{IsConsistent, IsFull, TheoryState, truths_reading};
+    ghost use Rattle.search_port.specs.State.{IsConsistent, IsFull, TheoryState, no_variables, truths_reading};
     ghost use Rattle.search_port.specs.Calls.{ArePressing, JudgedBy};
 
     ghost trees: { Self → List Tree };
@@ -39,7 +39,7 @@ pub trait About: Drop {
         requires within { All (λ (l : Signed). l.atom < length atoms.now) asserted.now }
         requires full { IsFull (truths_reading (trees self.now) (frames self.now) atoms.now) asserted.now }
         requires consistent { IsConsistent asserted.now }
-        ensures { IfOk result (JudgedBy (record { reading = truths_reading (trees self.now) (frames self.now) atoms.now; log = asserted.now })) };
+        ensures { IfOk result (JudgedBy (record { reading = truths_reading (trees self.now) (frames self.now) atoms.now; log = asserted.now; variables = no_variables })) };
 
     /// Clauses of terms that these truths break, or that they decide but for one truth that is open. An `Err` is for want of memory.
     fn infer(
@@ -50,7 +50,7 @@ pub trait About: Drop {
     ) -> Result<Seq<Lemma>, AllocError>
         requires numbered { atoms.now ≡ numbered self.now }
         requires within { All (λ (l : Signed). l.atom < length atoms.now) asserted.now }
-        ensures { IfOk result (ArePressing (record { reading = truths_reading (trees self.now) (frames self.now) atoms.now; log = asserted.now })) };
+        ensures { IfOk result (ArePressing (record { reading = truths_reading (trees self.now) (frames self.now) atoms.now; log = asserted.now; variables = no_variables })) };
 }
 
 /// What is found of the truths of terms.
@@ -107,9 +107,9 @@ fn found(clauses: Seq<Lemma>) -> Inferred
 }
 
 impl<A: About> Theory for Bare<A> {
-    ghost use Rattle.search_port.specs.State.{IsTruth, TheoryState, truths_reading};
+    ghost use Rattle.search_port.specs.State.{IsTruth, TheoryState, no_variables, truths_reading};
 
-    ghost state = { λ s. record { reading = truths_reading (A.trees s.about) (A.frames s.about) s.atoms.items; log = s.asserted.items } };
+    ghost state = { λ s. record { reading = truths_reading (A.trees s.about) (A.frames s.about) s.atoms.items; log = s.asserted.items; variables = no_variables } };
 
     ghost takes = { λ s. IsTruth };
 

@@ -26,5 +26,5 @@ pub trait Shown: Theory {
 
     /// Its branches, over which its atoms are atoms of the check, no two the same; and where a number left the range.
     fn show(self) -> Showing
-        ensures { IsShowing (Self.state self).reading result };
+        ensures { IsShowing (Self.state self) result };
 }

@@ -3,6 +3,7 @@ ghost use Rattle.std.specs.Prelude.{◌≡◌, ℕ, ◌<◌, ◌≤◌, List, Al
 ghost use Rattle.smt_meaning.specs.declared.clauses.Atom.{Atom};
 ghost use Rattle.search_port.specs.State.{IsConsistent, IsFull, IsOpenIn, Reading, TheoryState};
 ghost use Rattle.search_port.specs.Calls.{AssertedBy, CheckedBy, Goes, InferredBy};
+ghost use Rattle.search_port.specs.Pivots.{KeepsPivots};
 ghost use Rattle.literals.specs.Signed.{Signed};
 
 use crate::budget::{Budget, Cause, Lemma};
@@ -48,7 +49,7 @@ pub enum Checked {
 
 /// A theory beside the clauses: it is told literals in order, and finds conflicts, lemmas and models.
 pub trait Theory: Drop {
-    /// What it is about, and the literals asserted.
+    /// What it is about, the literals asserted, and the variables of its grid.
     ghost state: { Self → TheoryState };
 
     /// The atoms that it takes.
@@ -75,6 +76,7 @@ pub trait Theory: Drop {
     /// Asks for what it finds early. Quiet promises nothing.
     fn propagate(&mut self, budget: &mut Budget) -> Inferred
         ensures goes { Goes (state self.old) (state self.new) budget.old budget.new }
+        ensures pivots { KeepsPivots (state self.old) (state self.new) budget.old budget.new }
         ensures found { InferredBy (state self.new) budget.old budget.new result };
 
     /// Asks for a model, or for what forbids one.
@@ -83,6 +85,7 @@ pub trait Theory: Drop {
         requires consistent { IsConsistent (state self.old).log }
         requires agreed { agrees (state self.old).reading (state self.old).log }
         ensures goes { Goes (state self.old) (state self.new) budget.old budget.new }
+        ensures pivots { KeepsPivots (state self.old) (state self.new) budget.old budget.new }
         ensures found { CheckedBy (state self.new) budget.old budget.new result };
 
     /// Takes back the newest literals, and keeps so many.

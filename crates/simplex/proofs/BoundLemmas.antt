@@ -5,6 +5,7 @@ use Rattle.std.proofs.lemmas.Bool.{cases_lt}
 use Rattle.std.specs.Prelude.{ℤ, int_lt, IfSome}
 use Rattle.fraction128.specs.declared.ratio.Ratio.{Ratio}
 use Rattle.fraction128.specs.Whole.{InRange}
+use Rattle.fraction128.specs.Ratio.{IsFraction}
 use Rattle.fraction128.specs.Number.{SameNumber, unreduced_sum, unreduced_product}
 use Rattle.fraction128.specs.declared.Entry.{Entry}
 use Rattle.fraction128.specs.declared.TableRow.{TableRow}
@@ -52,7 +53,7 @@ pub solution_kept : (t : Table) (cs ds : List Column) → IsSolution t cs → Ke
 solution_kept t cs ds s keeps =
     record {
       count = keeps.count ∙ s.count;
-      positive = λ i. subst (λ (x : Ratio). 0 < x.denominator) (sym (keeps.each i).value) (s.positive i);
+      fractions = λ i. subst IsFraction (sym (keeps.each i).value) (s.fractions i);
       meets = rows_met t.rows (values cs) (values ds) (λ i. sym (keeps.each i).value) s.meets;
     }
 

@@ -4,6 +4,7 @@ use Rattle.std.proofs.lemmas.List.{get_or_append_left, get_or_push, get_or_defau
 use Rattle.std.proofs.lemmas.Bool.{cases_lt}
 use Rattle.fraction128.specs.declared.ratio.Ratio.{Ratio}
 use Rattle.fraction128.specs.Number.{whole, SameNumber, unreduced_sum, unreduced_product}
+use Rattle.fraction128.specs.Ratio.{IsFraction}
 use Rattle.fraction128.specs.Listed.{fused}
 use Rattle.fraction128.proofs.RingEquations.{var, sum, product, nothing, solve}
 use Rattle.fraction128.proofs.RationalRing.{number, rational_sum, rational_zero-is, rationals}
@@ -19,6 +20,7 @@ use Rattle.tableau.specs.Table.{Table, IsTable, IsOpenRow, row_at, no_row}
 use Rattle.tableau.proofs.Coefficients.{Below}
 use Rattle.tableau.proofs.PivotedRows.{below_all}
 use Rattle.tableau.proofs.Shape.{nonzero_positive}
+use Rattle.tableau.proofs.Absent.{zero_fraction}
 use Rattle.simplex.specs.declared.trail.Set.{Set}
 use Rattle.simplex.specs.Trail.{Trail, number_of, no_set}
 use Rattle.simplex.proofs.TrailLemmas.{tightest_past}
@@ -68,10 +70,6 @@ value_number v x (e ∷ es) fv fx p =
     ∙ solve rationals (number x ∷ number e.coefficient ∷ number (v e.variable) ∷ dot (λ i. number (v i)) es ∷ [])
     (sum (sum (var 0) (product (var 1) (var 2))) (var 3)) (sum (var 0) (sum (product (var 1) (var 2)) (var 3))) refl
 
-value_positive : (v : ℕ → Ratio) (x : Ratio) (es : List Entry) → ((i : ℕ) → 0 < (v i).denominator) → 0 < x.denominator → ArePositive es → 0 < (entries_value v x es).denominator
-value_positive v x [] fv fx p = fx
-value_positive v x (e ∷ es) fv fx p = value_positive v (fused x e.coefficient (v e.variable)) es fv (fused_positive x e.coefficient (v e.variable) fx p.0 (fv e.variable)) p.1
-
 -- ---- one more column
 
 before_end : (cs : List Column) (c : Column) (i : ℕ) → i < length cs → column_in (cs ++ c ∷ []) i ≡ column_in cs i
@@ -80,16 +78,16 @@ before_end cs c i lt = get_or_append_left cs (c ∷ []) no_column i lt
 at_end : (cs : List Column) (c : Column) → column_in (cs ++ c ∷ []) (length cs) ≡ c
 at_end cs c = get_or_push cs c no_column (length cs) refl
 
-grown_positive : (cs : List Column) (c : Column) → ((i : ℕ) → 0 < (values cs i).denominator) → 0 < c.value.denominator → (i : ℕ) → 0 < (values (cs ++ c ∷ []) i).denominator
-grown_positive cs c h fc i = by_order (cases_lt i (length cs))
+grown_fractions : (cs : List Column) (c : Column) → ((i : ℕ) → IsFraction (values cs i)) → IsFraction c.value → (i : ℕ) → IsFraction (values (cs ++ c ∷ []) i)
+grown_fractions cs c h fc i = by_order (cases_lt i (length cs))
   where
-    by_order : (i < length cs) ⊎ (length cs ≤ i) → 0 < (values (cs ++ c ∷ []) i).denominator
-    by_order (inl l) = subst (λ (x : Column). 0 < x.value.denominator) (sym (before_end cs c i l)) (h i)
+    by_order : (i < length cs) ⊎ (length cs ≤ i) → IsFraction (values (cs ++ c ∷ []) i)
+    by_order (inl l) = subst (λ (x : Column). IsFraction x.value) (sym (before_end cs c i l)) (h i)
     by_order (inr le) = on (cases_lt (length cs) i)
       where
-        on : (length cs < i) ⊎ (i ≤ length cs) → 0 < (values (cs ++ c ∷ []) i).denominator
-        on (inl more_) = subst (λ (x : Column). 0 < x.value.denominator) (sym (get_or_past (cs ++ c ∷ []) i no_column (omega (arith, more_, length-append cs (c ∷ []))))) (omega arith)
-        on (inr most) = let e : length cs ≡ i = omega (arith, le, most) in subst (λ n. 0 < (values (cs ++ c ∷ []) n).denominator) e (subst (λ (x : Column). 0 < x.value.denominator) (sym (at_end cs c)) fc)
+        on : (length cs < i) ⊎ (i ≤ length cs) → IsFraction (values (cs ++ c ∷ []) i)
+        on (inl more_) = subst (λ (x : Column). IsFraction x.value) (sym (get_or_past (cs ++ c ∷ []) i no_column (omega (arith, more_, length-append cs (c ∷ []))))) zero_fraction
+        on (inr most) = let e : length cs ≡ i = omega (arith, le, most) in subst (λ n. IsFraction (values (cs ++ c ∷ []) n)) e (subst (λ (x : Column). IsFraction x.value) (sym (at_end cs c)) fc)
 
 old_rows : (t : Table) (cs : List Column) (c : Column) → IsTable t → IsSolution t cs → MeetsRows t.rows (values (cs ++ c ∷ []))
 old_rows t cs c facts s k d lt = subst (λ r. MeetsRow (values (cs ++ c ∷ [])) r) (get_or_default t.rows k no_row d lt) met
@@ -103,16 +101,16 @@ old_rows t cs c facts s k d lt = subst (λ r. MeetsRow (values (cs ++ c ∷ []))
         subst (λ x. SameNumber x (row_value (values (cs ++ c ∷ [])) r.entries)) (same r.basic (facts.basics k lt))
         (subst (SameNumber (values cs r.basic)) (row_below (values cs) (values (cs ++ c ∷ [])) t.count r.entries (below_all t.count r.entries (λ j le. facts.known j k le lt)) same) (s.meets k no_row lt))
 
-pub grown_free : (t : Table) (cs : List Column) (c : Column) → IsTable t → IsSolution t cs → 0 < c.value.denominator → IsSolution (record { count = t.count + 1; rows = t.rows }) (cs ++ c ∷ [])
+pub grown_free : (t : Table) (cs : List Column) (c : Column) → IsTable t → IsSolution t cs → IsFraction c.value → IsSolution (record { count = t.count + 1; rows = t.rows }) (cs ++ c ∷ [])
 grown_free t cs c facts s fc =
-    record { count = let e = s.count in omega (arith, e, length-append cs (c ∷ [])); positive = grown_positive cs c s.positive fc; meets = old_rows t cs c facts s }
+    record { count = let e = s.count in omega (arith, e, length-append cs (c ∷ [])); fractions = grown_fractions cs c s.fractions fc; meets = old_rows t cs c facts s }
 
-pub grown_row : (t : Table) (cs : List Column) (c : Column) (es : List Entry) → IsTable t → IsSolution t cs → IsOpenRow t es → c.value ≡ entries_value (values cs) (whole (pos 0)) es
+pub grown_row : (t : Table) (cs : List Column) (c : Column) (es : List Entry) → IsTable t → IsSolution t cs → IsOpenRow t es → c.value ≡ entries_value (values cs) (whole (pos 0)) es → IsFraction c.value
     → IsSolution (with_row t (record { basic = t.count; entries = es })) (cs ++ c ∷ [])
-grown_row t cs c es facts s open_row is =
+grown_row t cs c es facts s open_row is fc =
     record {
       count = let e = s.count in omega (arith, e, length-append cs (c ∷ []));
-      positive = positive;
+      fractions = fractions;
       meets = λ k d lt. by_order k d lt (cases_lt k (length t.rows));
     }
   where
@@ -122,14 +120,14 @@ grown_row t cs c es facts s open_row is =
     fp : ArePositive es
     fp = nonzero_positive es open_row.nonzero
 
-    fc : 0 < c.value.denominator
-    fc = subst (λ (x : Ratio). 0 < x.denominator) (sym is) (value_positive (values cs) (whole (pos 0)) es s.positive (omega arith) fp)
-
     w : ℕ → Ratio
     w = values (cs ++ c ∷ [])
 
+    fractions : (i : ℕ) → IsFraction (w i)
+    fractions = grown_fractions cs c s.fractions fc
+
     positive : (i : ℕ) → 0 < (w i).denominator
-    positive = grown_positive cs c s.positive fc
+    positive i = (fractions i).positive
 
     same : (i : ℕ) → i < t.count → values cs i ≡ w i
     same i li = ap (λ (x : Column). x.value) (sym (before_end cs c i (let e = s.count in omega (arith, li, e))))
@@ -206,7 +204,7 @@ on_cases (Err e) p q w f g = g w
 pub core_none : IsCore (record { count = 0; rows = [] }) [] (record { count = 0; bounds = [] })
 core_none =
     record {
-      solution = record { count = refl; positive = λ i. subst (λ (x : Column). 0 < x.value.denominator) (sym (get_or_past [] i no_column (omega arith))) (omega arith); meets = λ k d lt. absurd (omega (arith, lt)) };
+      solution = record { count = refl; fractions = λ i. subst (λ (x : Column). IsFraction x.value) (sym (get_or_past [] i no_column (omega arith))) zero_fraction; meets = λ k d lt. absurd (omega (arith, lt)) };
       count = omega arith;
       bounded = λ i lt. absurd (omega (arith, lt));
       known = λ k lt. absurd (omega (arith, lt));

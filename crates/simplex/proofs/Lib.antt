@@ -1,6 +1,7 @@
 pub mod BoundLemmas
 pub mod GrowLemmas
 pub mod TrailLemmas
-pub mod SumValues
 pub mod WrittenSums
 pub mod Meaning
+pub mod Leaves
+pub mod Free

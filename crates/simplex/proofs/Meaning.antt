@@ -19,7 +19,7 @@ use Rattle.tableau.proofs.PivotedRows.{below_all}
 use Rattle.simplex_steps.specs.State.{column_in, no_column}
 use Rattle.fraction128.specs.Lines.{sum_value, IsPositive}
 use Rattle.simplex.specs.Sums.{column_values, AgreeOnLeaves, IsMeant, AreMatched, NoneMean, LeavesKeep, RowsKeep, RunsKeep}
-use Rattle.simplex.proofs.SumValues.{terms_dot, sum_positive_value, number_sum_value, number_leaf}
+use Rattle.fraction128.proofs.SumValues.{terms_dot, sum_positive_value, number_sum_value, number_leaf}
 use Rattle.simplex.proofs.WrittenSums.{parts_dot, row_positive, row_dot}
 
 -- ---- rows whose variables have the same values

@@ -1,16 +1,16 @@
 -- Columns that stand for sums of terms: the solutions of the rows are the valuations that give each its sum's value.
-use Rattle.std.specs.Prelude.{◌≡◌, ℕ, ◌<◌, List, [], ◌∷◌, ◌++◌, length}
+use Rattle.std.specs.Prelude.{◌≡◌, ◌≢◌, ℕ, ◌<◌, List, [], ◌∷◌, ◌++◌, length, AllPairs}
 use Rattle.fraction128.specs.declared.ratio.Ratio.{Ratio}
 use Rattle.fraction128.specs.Number.{SameNumber}
 use Rattle.fraction128.specs.declared.Summand.{Summand}
 use Rattle.fraction128.specs.declared.TableRow.{TableRow}
 use Rattle.fraction128.specs.declared.Column.{Column}
 use Rattle.fraction128.specs.Grid.{MeetsRows, leaf}
-use Rattle.fraction128.specs.Lines.{sum_value, IsPositive}
+use Rattle.fraction128.specs.Lines.{sum_value, IsPositive, AreIndependent}
 use Rattle.tableau.specs.declared.sum.Part.{Part}
 use Rattle.tableau.specs.Table.{Table, IsTable}
 use Rattle.tableau.specs.Written.{AreParts, parts_row}
-use Rattle.simplex_steps.specs.State.{column_in}
+use Rattle.simplex_steps.specs.State.{column_in, grid_of, IsSolution}
 use Rattle.simplex_steps.specs.Run.{IsRun}
 
 -- the value of each column's sum
@@ -46,3 +46,11 @@ RowsKeep =
 
 abbrev pub RunsKeep : Type 0
 RunsKeep = (t : Table) (cs : List Column) (u : Table) (ds : List Column) (n : ℕ) → IsMeant t.rows cs → IsRun t cs u ds n → IsMeant u.rows ds
+
+-- no sum has two variables
+abbrev pub HaveOwnSums : List Column → Type 0
+HaveOwnSums cs = AllPairs (λ (c d : Column). c.sum ≢ d.sum) cs
+
+-- where columns stand for sums of terms, those that aren't basic are independent
+abbrev pub MeantAreFree : Type 0
+MeantAreFree = (t : Table) (cs : List Column) → IsTable t → IsSolution t cs → IsMeant t.rows cs → HaveOwnSums cs → AreIndependent (grid_of t cs)

@@ -12,7 +12,7 @@
 //! value of its sum; new leaves, new rows and next steps keep that.
 #![tactic(auto)]
 
-ghost use Rattle.simplex.specs.Sums.{NoneMean, LeavesKeep, RowsKeep, RunsKeep};
+ghost use Rattle.simplex.specs.Sums.{NoneMean, LeavesKeep, RowsKeep, RunsKeep, MeantAreFree};
 
 mod grid;
 mod state;
@@ -28,4 +28,9 @@ pub fn sums_stay()
     ensures leaves { LeavesKeep }
     ensures rows { RowsKeep }
     ensures runs { RunsKeep }
+{}
+
+/// Where a tableau's columns stand for sums of terms, those that aren't basic are independent.
+pub fn meant_are_free()
+    ensures { MeantAreFree }
 {}

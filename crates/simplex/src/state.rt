@@ -1,6 +1,7 @@
 //! The state, and the calls on it.
 ghost use Rattle.std.specs.Prelude.{◌≡◌, ℕ, ◌+◌, ◌-◌, ◌^◌, ◌<◌, ◌≤◌, pos, true, false, [], ◌∷◌, ◌++◌, map, take, length, slice_index_or, slice_set, ℤ, OnOk, OnErr, IfOk, IfErr, IfSome, IfNone, Some, None};
 ghost use Rattle.fraction128.specs.Number.{whole};
+ghost use Rattle.fraction128.specs.Ratio.{IsFraction};
 ghost use Rattle.fraction128.specs.Whole.{InRange};
 ghost use Rattle.simplex.specs.Trail.{tightest, number_of, set_at};
 ghost use Rattle.fraction128.specs.Grid.{entries_value, entries_value_fits, leaf};
@@ -141,6 +142,7 @@ fn sum_of_leaf(alloc: Global, term: u32) -> Result<Sum, AllocError>
 fn value_of(columns: &Vec<Column>, entries: &Vec<Entry>) -> Result<Fraction, Range>
     requires { KnownEntries (length columns.now.items) entries.now.items }
     ensures value { IfOk result (λ x. x ≡ entries_value (values columns.now.items) (whole (pos 0)) entries.now.items) }
+    ensures fraction { IfOk result IsFraction }
     ensures fits { OnOk result (entries_value_fits (values columns.now.items) (whole (pos 0)) entries.now.items ≡ true) }
     ensures range { OnErr result (entries_value_fits (values columns.now.items) (whole (pos 0)) entries.now.items ≡ false) }
 {
@@ -152,6 +154,7 @@ fn value_of(columns: &Vec<Column>, entries: &Vec<Entry>) -> Result<Fraction, Ran
             columns[entry.variable as usize].value,
         )?;
     }
+    let _value = value.ratio();
     Ok(value)
 }
 

@@ -267,7 +267,7 @@ moved_exact t cs i k facts s lt =
     dist = distance k (values cs i)
 
     fd : 0 < dist.denominator
-    fd = sum_positive (whole k) (negation_of (values cs i)) (omega arith) (s.positive i)
+    fd = sum_positive (whole k) (negation_of (values cs i)) (omega arith) (s.fractions i).positive
 
     by_test : (j : ℕ) (z : Bool) → eqb j i ≡ z → values (moved_to t.rows cs i k) j ≡ moved_value (grid_of t cs) i k j
     by_test j true e =
@@ -305,7 +305,7 @@ pivoted_exact t cs place k c facts s lt known h =
 
     fd : 0 < dist.denominator
     fd =
-        product_positive (distance k (values cs b)) (reciprocal_of a) (sum_positive (whole k) (negation_of (values cs b)) (omega arith) (s.positive b))
+        product_positive (distance k (values cs b)) (reciprocal_of a) (sum_positive (whole k) (negation_of (values cs b)) (omega arith) (s.fractions b).positive)
         (reciprocal_positive a (entry_nonzero c (row_at t.rows place).entries (facts.ascending place lt) h))
 
     same_distance : dist ≡ pivot_distance (grid_of t cs) b k c

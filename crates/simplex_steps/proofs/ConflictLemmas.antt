@@ -265,10 +265,10 @@ row_conflict t cs place k rises bs facts s lt target none e =
 
     by_side : (r : Bool) → IsTarget (column_in cs b) k r → NoneHelps cs r es → Apart t.rows (stops cs r b es)
     by_side true q h v fv mv met =
-        apart_up v cs (row_at t.rows place) fv s.positive (nonzero_positive es (facts.nonzero place lt)) (mv place no_row lt) (s.meets place no_row lt) h
+        apart_up v cs (row_at t.rows place) fv (λ i. (s.fractions i).positive) (nonzero_positive es (facts.nonzero place lt)) (mv place no_row lt) (s.meets place no_row lt) h
         (ap (λ o. is_less (values cs b) (whole (number_or_none o))) (q.below refl) ∙ q.side) met
     by_side false q h v fv mv met =
-        apart_down v cs (row_at t.rows place) fv s.positive (nonzero_positive es (facts.nonzero place lt)) (mv place no_row lt) (s.meets place no_row lt) h
+        apart_down v cs (row_at t.rows place) fv (λ i. (s.fractions i).positive) (nonzero_positive es (facts.nonzero place lt)) (mv place no_row lt) (s.meets place no_row lt) h
         (ap (λ o. is_less (whole (number_or_none o)) (values cs b)) (q.above refl).0 ∙ (q.above refl).1) met
 
 -- ---- bounds that cross

@@ -14,3 +14,8 @@ pub mod Spans
 pub mod Keeping
 pub mod Lines
 pub mod Resting
+pub mod Independent
+pub mod Bases
+pub mod TableRows
+pub mod StepFractions
+pub mod SoundSteps

@@ -8,16 +8,16 @@ use Rattle.fraction128.specs.declared.Grid.{Grid}
 use Rattle.fraction128.specs.declared.Member.{Member}
 use Rattle.fraction128.specs.declared.Line.{Line}
 use Rattle.fraction128.specs.Grid.{Step, take, move, pivot, next_step, after, entries_of}
-use Rattle.fraction128.specs.Lines.{pivot_line, IsSeries}
+use Rattle.fraction128.specs.Lines.{pivot_line}
 use Rattle.simplex_steps.specs.Law.{Runs, pivots, lines_of, IsLawful, KeepsResting}
-use Rattle.simplex_steps.proofs.Lines.{lines_are_pivots, lines_go_on}
+use Rattle.simplex_steps.proofs.Independent.{runs_exchange}
 use Rattle.simplex_steps.proofs.Resting.{runs_rest}
 use Rattle.tableau.specs.Table.{Table, IsTable, row_at}
 use Rattle.simplex_steps.specs.State.{grid_of, member_in}
 use Rattle.simplex_steps.specs.declared.find.Turn.{Turn}
 use Rattle.simplex_steps.specs.Run.{Reaches, IsTurn, IsAdvanced, Records, KeepsLines, kept_lines, turn_lines}
 use Rattle.simplex_steps.proofs.Columns.{row_of_basic}
-use Rattle.simplex_steps.proofs.Sound.{runs_append, pivots_append}
+use Rattle.simplex_steps.proofs.Sound.{runs_append, fits_append, pivots_append}
 
 pub line_made : (t : Table) (cs : List Column) (place b c : ℕ) (x : Ratio) (m : Member) (es : List Entry) (ms : List Member) → IsTable t → place < length t.rows → b ≡ (row_at t.rows place).basic → x ≡ whole (pos 1)
     → m ≡ member_in cs (record { variable = b; coefficient = x }) → es ≡ (row_at t.rows place).entries → ms ≡ map (member_in cs) es
@@ -29,7 +29,7 @@ line_made t cs place b c x m es ms facts lt b_is x_is m_is es_is ms_is =
 
 -- ---- lines of runs
 
-no_lines : (g : Grid) (ss : List Step) → pivots ss ≡ 0 → lines_of g ss ≡ []
+pub no_lines : (g : Grid) (ss : List Step) → pivots ss ≡ 0 → lines_of g ss ≡ []
 no_lines g [] e = refl
 no_lines g (take p ∷ ss) e = no_lines (after g (take p)) ss e
 no_lines g (move i k ∷ ss) e = no_lines (after g (move i k)) ss e
@@ -66,12 +66,13 @@ records_reach keep g h ls r =
     record {
       steps = r.steps;
       runs = r.runs;
+      fits = r.fits;
       count = r.count;
       kept = sym (ap (λ xs. ls ++ cond keep xs []) (no_lines g r.steps r.count) ∙ ap (λ xs. ls ++ xs) (none_kept keep) ∙ nothing_after ls);
     }
 
 pub records_none : (keep : Bool) (g : Grid) (ls : List Line) → Records keep 0 g g ls ls
-records_none keep g ls = records_reach keep g g ls (record { steps = []; runs = refl; count = refl })
+records_none keep g ls = records_reach keep g g ls (record { steps = []; runs = refl; fits = tt; count = refl })
 
 pub records_turn : (keep : Bool) (t u : Table) (cs ds : List Column) (ls ms : List Line) (turn : Turn) → IsTurn t cs turn → IsAdvanced t cs u ds → ms ≡ ls ++ turn_lines keep t cs turn → Records keep 1 (grid_of t cs) (grid_of u ds) ls ms
 records_turn keep t u cs ds ls ms turn is made e =
@@ -79,6 +80,7 @@ records_turn keep t u cs ds ls ms turn is made e =
     record {
       steps = r.steps;
       runs = r.runs;
+      fits = r.fits;
       count = r.count;
       kept = e ∙ ap (λ xs. ls ++ cond keep xs []) (sym (one_line (grid_of t cs) (grid_of u ds) r.steps (row_at t.rows turn.place).basic turn.number turn.entering r.runs r.count is.next));
     }
@@ -88,6 +90,7 @@ records_through keep m n g h k ls ms ns p q =
     record {
       steps = p.steps ++ q.steps;
       runs = runs_append g h k p.steps q.steps p.runs q.runs;
+      fits = fits_append g h p.steps q.steps p.runs p.fits q.fits;
       count = pivots_append p.steps q.steps ∙ ap₂ ◌+◌ p.count q.count;
       kept = q.kept ∙ ap (λ xs. xs ++ kept_lines keep h q.steps) p.kept ∙ append_assoc ls (kept_lines keep g p.steps) (kept_lines keep h q.steps)
           ∙ ap (λ xs. ls ++ xs) (both keep) ∙ ap (λ xs. ls ++ cond keep xs []) (sym (lines_append g h p.steps q.steps p.runs));
@@ -105,10 +108,10 @@ keeps_lines keep n g h ls ms law r =
     record {
       steps = r.steps;
       runs = r.runs;
+      fits = r.fits;
       count = r.count;
       kept = r.kept;
-      pivots = lines_are_pivots g h r.steps law r.runs;
-      series = λ e s. subst (IsSeries h.rows) (sym (r.kept ∙ ap (λ z. ls ++ cond z (lines_of g r.steps) []) e)) (lines_go_on g h r.steps ls law r.runs s);
+      basis = λ is b. runs_exchange g h r.steps is law r.runs b;
     }
 
 pub keeps_none : (keep : Bool) (g : Grid) (ls : List Line) → KeepsLines keep 0 g g ls ls
@@ -116,10 +119,10 @@ keeps_none keep g ls =
     record {
       steps = [];
       runs = refl;
+      fits = tt;
       count = refl;
       kept = sym (ap (λ xs. ls ++ xs) (none_kept keep) ∙ nothing_after ls);
-      pivots = λ k d lt. absurd (omega (arith, lt));
-      series = λ e s. s;
+      basis = λ is b. b;
     }
 
 pub rests : (keep : Bool) (n : ℕ) (g h : Grid) (ls ms : List Line) → IsLawful g → Records keep n g h ls ms → KeepsResting g h

@@ -348,6 +348,93 @@ solves_after n rows p c U s v solves k lk' = by_row (same_or_not (basic_at rows 
         (λ j l h. solve rationals (entry_at rows k j ∷ entry_at rows k c ∷ number (scaled_entry rows b c j) ∷ U j ∷ []) (sum (product (var 0) (var 3)) (product (var 1) (product (var 2) (var 3)))) (product (sum (var 0) (product (var 1) (var 2))) (var 3)) refl
         ∙ ap (λ y. rational_product y (U j)) (sym (entry_after n rows p c k j s f lk (omega (arith, h)) ∙ number_other n rows p c k j s f lk x)))
 
+-- what solves the rows after it solved those before
+pub solves_before : (n : ℕ) (rows : List TableRow) (p c : ℕ) (U : ℕ → Rational) → Shape n rows → IsPivot n rows p c → Solves n (pivoted_rows n rows (basic_at rows p) c) U → Solves n rows U
+solves_before n rows p c U s v solves k lk = by_row (same_or_not (basic_at rows k) b)
+  where
+    b : ℕ
+    b = basic_at rows p
+
+    f : Facts n rows p c
+    f = facts n rows p c s v
+
+    T : Rational
+    T = number (factor rows b c)
+
+    after : {m : ℕ} → m < length rows → m < length (pivoted_rows n rows b c)
+    after {m} h = subst (λ q. m < q) (sym (length_after n rows b c)) h
+
+    pick : (j : ℕ) → rational_product (only c j) (U j) ≡ rational_product (only c j) (U c)
+    pick j = by_test (eqb c j) refl
+      where
+        by_test : (z : Bool) → eqb c j ≡ z → rational_product (cond z rational_one rational_zero) (U j) ≡ rational_product (cond z rational_one rational_zero) (U c)
+        by_test true e = ap (λ i. rational_product rational_one (U i)) (sym (eqb-true c j e))
+        by_test false e = solve rationals (U j ∷ U c ∷ []) (product nothing (var 0)) (product nothing (var 1)) refl
+
+    scaled : Rational
+    scaled = span 0 n (λ j. rational_product (number (scaled_entry rows b c j)) (U j))
+
+    -- the row of c after it: the scaled form and c itself
+    entered : U c ≡ rational_sum scaled (U c)
+    entered =
+        ap U (sym (basic_entered n rows p c v.in_rows)) ∙ solves p (after v.in_rows)
+        ∙ span_same 0 n (λ j. rational_product (entry_at (pivoted_rows n rows b c) p j) (U j)) (λ j. rational_sum (rational_product (number (scaled_entry rows b c j)) (U j)) (rational_product (only c j) (U c)))
+        (λ j l h. ap (λ y. rational_product y (U j)) (entry_after n rows p c p j s f v.in_rows (omega (arith, h)) ∙ number_solved n rows p c p j v f refl)
+        ∙ solve rationals (number (scaled_entry rows b c j) ∷ only c j ∷ U j ∷ []) (product (sum (var 0) (var 1)) (var 2)) (sum (product (var 0) (var 2)) (product (var 1) (var 2))) refl
+        ∙ ap (rational_sum (rational_product (number (scaled_entry rows b c j)) (U j))) (pick j))
+        ∙ span_sum 0 n (λ j. rational_product (number (scaled_entry rows b c j)) (U j)) (λ j. rational_product (only c j) (U c))
+        ∙ ap (rational_sum scaled) (span_only 0 n c (U c) (omega arith) (let q = v.known in omega (arith, q)))
+
+    zero_form : scaled ≡ rational_zero
+    zero_form =
+        solve rationals (scaled ∷ U c ∷ []) (var 0) (sum (sum (var 0) (var 1)) (minus (var 1))) refl
+        ∙ ap (λ x. rational_sum x (rational_negation (U c))) (sym entered)
+        ∙ solve rationals (U c ∷ []) (sum (var 0) (minus (var 0))) nothing refl
+
+    -- the row of b before it
+    row : Rational
+    row = span 0 n (λ j. rational_product (entry_at rows p j) (U j))
+
+    by_test : (j : ℕ) (z : Bool) → eqb b j ≡ z
+        → rational_product (rational_product T (rational_sum (entry_at rows p j) (rational_negation (cond z rational_one rational_zero)))) (U j)
+        ≡ rational_product T (rational_sum (rational_product (entry_at rows p j) (U j)) (rational_product (cond z rational_one rational_zero) (rational_negation (U b))))
+    by_test j true e =
+        solve rationals (T ∷ entry_at rows p j ∷ U j ∷ []) (product (product (var 0) (sum (var 1) (minus unit))) (var 2)) (product (var 0) (sum (product (var 1) (var 2)) (product unit (minus (var 2))))) refl
+        ∙ ap (λ i. rational_product T (rational_sum (rational_product (entry_at rows p j) (U j)) (rational_product rational_one (rational_negation (U i))))) (sym (eqb-true b j e))
+    by_test j false e =
+        solve rationals (T ∷ entry_at rows p j ∷ U j ∷ U b ∷ []) (product (product (var 0) (sum (var 1) (minus nothing))) (var 2)) (product (var 0) (sum (product (var 1) (var 2)) (product nothing (minus (var 3))))) refl
+
+    scaled_is : scaled ≡ rational_product T (rational_sum row (rational_negation (U b)))
+    scaled_is =
+        span_same 0 n (λ j. rational_product (number (scaled_entry rows b c j)) (U j)) (λ j. rational_product T (rational_sum (rational_product (entry_at rows p j) (U j)) (rational_product (only b j) (rational_negation (U b)))))
+        (λ j l h. ap (λ x. rational_product x (U j)) (scaled_number n rows p c f j) ∙ by_test j (eqb b j) refl)
+        ∙ span_product 0 n T (λ j. rational_sum (rational_product (entry_at rows p j) (U j)) (rational_product (only b j) (rational_negation (U b))))
+        ∙ ap (rational_product T)
+        (span_sum 0 n (λ j. rational_product (entry_at rows p j) (U j)) (λ j. rational_product (only b j) (rational_negation (U b)))
+        ∙ ap (rational_sum row) (span_only 0 n b (rational_negation (U b)) (omega arith) (let q = s.basics p v.in_rows in omega (arith, q))))
+
+    -- the factor times the entry of c is -1
+    left : U b ≡ row
+    left =
+        solve rationals (U b ∷ row ∷ []) (var 0) (sum (var 1) (product (minus unit) (sum (var 1) (minus (var 0))))) refl
+        ∙ ap (λ x. rational_sum row (rational_product x (rational_sum row (rational_negation (U b))))) (sym f.inverse)
+        ∙ solve rationals (row ∷ U b ∷ entry_at rows p c ∷ T ∷ []) (sum (var 0) (product (product (var 2) (var 3)) (sum (var 0) (minus (var 1))))) (sum (var 0) (product (var 2) (product (var 3) (sum (var 0) (minus (var 1)))))) refl
+        ∙ ap (λ x. rational_sum row (rational_product (entry_at rows p c) x)) (sym scaled_is ∙ zero_form)
+        ∙ solve rationals (row ∷ entry_at rows p c ∷ []) (sum (var 0) (product (var 1) nothing)) (var 0) refl
+
+    by_row : (basic_at rows k ≡ b) ⊎ (basic_at rows k ≢ b) → U (basic_at rows k) ≡ span 0 n (λ j. rational_product (entry_at rows k j) (U j))
+    by_row (inl x) =
+        let same : k ≡ p = s.distinct k p lk v.in_rows x in
+        subst (λ m. U (basic_at rows m) ≡ span 0 n (λ j. rational_product (entry_at rows m j) (U j))) (sym same) left
+    by_row (inr x) =
+        ap U (sym (basic_stays n rows p c k lk x)) ∙ solves k (after lk)
+        ∙ span_same 0 n (λ j. rational_product (entry_at (pivoted_rows n rows b c) k j) (U j)) (λ j. rational_sum (rational_product (entry_at rows k j) (U j)) (rational_product (entry_at rows k c) (rational_product (number (scaled_entry rows b c j)) (U j))))
+        (λ j l h. ap (λ y. rational_product y (U j)) (entry_after n rows p c k j s f lk (omega (arith, h)) ∙ number_other n rows p c k j s f lk x)
+        ∙ solve rationals (entry_at rows k j ∷ entry_at rows k c ∷ number (scaled_entry rows b c j) ∷ U j ∷ []) (product (sum (var 0) (product (var 1) (var 2))) (var 3)) (sum (product (var 0) (var 3)) (product (var 1) (product (var 2) (var 3)))) refl)
+        ∙ span_sum 0 n (λ j. rational_product (entry_at rows k j) (U j)) (λ j. rational_product (entry_at rows k c) (rational_product (number (scaled_entry rows b c j)) (U j)))
+        ∙ ap (rational_sum (span 0 n (λ j. rational_product (entry_at rows k j) (U j)))) (span_product 0 n (entry_at rows k c) (λ j. rational_product (number (scaled_entry rows b c j)) (U j)) ∙ ap (rational_product (entry_at rows k c)) zero_form)
+        ∙ solve rationals (span 0 n (λ j. rational_product (entry_at rows k j) (U j)) ∷ entry_at rows k c ∷ []) (sum (var 0) (product (var 1) nothing)) (var 0) refl
+
 -- numbers that differ by a multiple of one variable that isn't basic
 pub solves_shifted : (n : ℕ) (rows : List TableRow) (c : ℕ) (D : Rational) (U W : ℕ → Rational) → Shape n rows → c < n → ((k : ℕ) → k < length rows → basic_at rows k ≢ c) → Solves n rows U
     → ((k : ℕ) → k < length rows → W (basic_at rows k) ≡ rational_sum (U (basic_at rows k)) (rational_product (entry_at rows k c) D)) → W c ≡ rational_sum (U c) D

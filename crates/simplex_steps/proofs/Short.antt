@@ -428,7 +428,7 @@ short n (pivot b k c ∷ ss) g h good run =
 
 -- ---- the premises
 
-positive_row : (es : List Entry) → ArePositive es → RowValue.ArePositive es
+pub positive_row : (es : List Entry) → ArePositive es → RowValue.ArePositive es
 positive_row [] h = tt
 positive_row (e ∷ es) h = (h.0, positive_row es h.1)
 

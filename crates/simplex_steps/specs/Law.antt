@@ -1,6 +1,6 @@
 -- Runs of next steps of a grid, and how many pivots they have.
-use Rattle.std.specs.Prelude.{◌≡◌, ℕ, suc, ◌+◌, ◌^◌, ◌<◌, ◌≤◌, ◌⊎◌, true, false, List, [], ◌∷◌, ◌++◌, length, slice_index_or, ℤ, Option, Some, None, All}
-use Rattle.fraction128.specs.Number.{whole, is_zero}
+use Rattle.std.specs.Prelude.{◌≡◌, ℕ, Bool, suc, ◌+◌, ◌^◌, ◌<◌, ◌≤◌, ◌⊎◌, true, false, List, [], ◌∷◌, ◌++◌, length, slice_index_or, ℤ, Option, Some, None, All}
+use Rattle.fraction128.specs.Number.{whole, is_zero, SameNumber}
 use Rattle.fraction128.specs.declared.Entry.{Entry}
 use Rattle.fraction128.specs.declared.TableRow.{TableRow}
 use Rattle.fraction128.specs.declared.Column.{Column}
@@ -8,8 +8,8 @@ use Rattle.fraction128.specs.declared.Grid.{Grid}
 use Rattle.fraction128.specs.declared.ratio.Ratio.{Ratio}
 use Rattle.fraction128.specs.declared.Member.{Member}
 use Rattle.fraction128.specs.declared.Line.{Line}
-use Rattle.fraction128.specs.Grid.{Step, take, move, pivot, coefficient, value_at, column_at, is_basic, entries_of, row_of, missed, any_crossed, next_step, after, MeetsRows}
-use Rattle.fraction128.specs.Lines.{sum_value, IsPositive, basic_member, line_of, pivot_line, IsIdentity, IsPivotLine, IsSeries}
+use Rattle.fraction128.specs.Grid.{Step, take, move, pivot, coefficient, cell, value_at, column_at, is_basic, entries_of, row_of, missed, any_crossed, next_step, step_fits, after, MeetsRows}
+use Rattle.fraction128.specs.Lines.{sum_value, IsPositive, AreIndependent, HasBasis, exchanged, basis_along, basic_member, line_of, pivot_line, IsIdentity, IsPivotLine, IsSeries}
 
 abbrev pub no_row : TableRow
 no_row = record { basic = 0; entries = [] }
@@ -40,6 +40,11 @@ pub record IsGrid (g : Grid) : Type 0 where
 abbrev pub Runs : Grid → List Step → Grid → Type 0
 Runs g [] h = g ≡ h
 Runs g (s ∷ ss) h = (next_step g ≡ Some s) × Runs (after g s) ss h
+
+-- the numbers of each step fit the grid that those before it make
+abbrev pub RunsFit : Grid → List Step → Type 0
+RunsFit g [] = Unit {0}
+RunsFit g (s ∷ ss) = (step_fits g s ≡ true) × RunsFit (after g s) ss
 
 -- how many pivots there are among the steps
 abbrev pub pivots : List Step → ℕ
@@ -121,3 +126,48 @@ KeepsResting g h = (j : ℕ) → j < length h.columns → is_basic h.rows j ≡ 
 
 abbrev pub RunsRest : Type 0
 RunsRest = (g h : Grid) (ss : List Step) → IsLawful g → Runs g ss h → KeepsResting g h
+
+-- ---- independent sums
+
+-- the rows are identities between the sums of their variables
+abbrev pub AreIdentities : Grid → Type 0
+AreIdentities g = (w : ℕ → Ratio) → IsPositive w → MeetsRows g.rows (λ i. sum_value w (column_at g i).sum)
+
+-- each solution of the rows comes from values of the terms
+abbrev pub ComeFromTerms : Grid → Type 0
+ComeFromTerms g =
+    (v : ℕ → Ratio) → IsPositive v → MeetsRows g.rows v → (w : ℕ → Ratio) × IsPositive w × ((i : ℕ) → i < length g.columns → SameNumber (sum_value w (column_at g i).sum) (v i))
+
+-- where each solution comes from values of the terms, the sums of what isn't basic are independent
+abbrev pub SolutionsAreFree : Type 0
+SolutionsAreFree = (g : Grid) → IsGrid g → ComeFromTerms g → AreIndependent g
+
+-- and where they are, and the rows are identities, each solution comes from values of the terms
+abbrev pub FreeAreSolutions : Type 0
+FreeAreSolutions = (g : Grid) → IsGrid g → AreIdentities g → AreIndependent g → ComeFromTerms g
+
+-- a pivot keeps them independent
+abbrev pub PivotsKeepFree : Type 0
+PivotsKeepFree =
+    (g : Grid) (b : ℕ) (k : ℤ) (c : ℕ) → IsLawful g → next_step g ≡ Some (pivot b k c) → AreIdentities g → AreIndependent g
+    → AreIdentities (after g (pivot b k c)) × AreIndependent (after g (pivot b k c))
+
+-- so does a move
+abbrev pub MovesKeepFree : Type 0
+MovesKeepFree = (g : Grid) (i : ℕ) (k : ℤ) → AreIdentities g → AreIndependent g → AreIdentities (after g (move i k)) × AreIndependent (after g (move i k))
+
+-- the line of a pivot tells which variables are basic after it
+abbrev pub PivotsExchange : Type 0
+PivotsExchange =
+    (g : Grid) (b : ℕ) (k : ℤ) (c : ℕ) (is : ℕ → Bool) → IsLawful g → next_step g ≡ Some (pivot b k c) → HasBasis is g → HasBasis (exchanged (pivot_line g b c) is) (after g (pivot b k c))
+
+-- and the lines of a run tell it at its end
+abbrev pub RunsExchange : Type 0
+RunsExchange = (g h : Grid) (ss : List Step) (is : ℕ → Bool) → IsLawful g → Runs g ss h → HasBasis is g → HasBasis (basis_along is (lines_of g ss)) h
+
+-- a basis determines its rows: grids of the same sums in which the same variables are basic have the same coefficients
+abbrev pub BasesDetermine : Type 0
+BasesDetermine =
+    (g h : Grid) → IsGrid g → IsGrid h → length h.columns ≡ length g.columns → ((i : ℕ) → (column_at h i).sum ≡ (column_at g i).sum)
+    → ((i : ℕ) → i < length g.columns → is_basic h.rows i ≡ is_basic g.rows i) → AreIdentities g → AreIdentities h → AreIndependent g
+    → (b j : ℕ) → b < length g.columns → j < length g.columns → is_basic g.rows b ≡ true → SameNumber (cell h.rows b j) (cell g.rows b j)

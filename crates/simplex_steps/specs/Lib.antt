@@ -3,3 +3,4 @@ pub mod Moved
 pub mod Conflict
 pub mod Run
 pub mod Law
+pub mod TableRows

@@ -1,13 +1,13 @@
 -- Runs of steps, and how they end.
-use Rattle.std.specs.Prelude.{◌≡◌, ℕ, ℤ, ◌<◌, ◌↔◌, Bool, true, List, [], ◌∷◌, ◌++◌, length, Some, None, All, if◌then◌else◌}
+use Rattle.std.specs.Prelude.{◌≡◌, ℕ, ℤ, ◌<◌, ◌↔◌, Bool, true, List, [], ◌∷◌, ◌++◌, length, Some, None, if◌then◌else◌}
 use Rattle.fraction128.specs.declared.ratio.Ratio.{Ratio}
 use Rattle.fraction128.specs.Whole.{InRange}
 use Rattle.fraction128.specs.declared.Column.{Column}
 use Rattle.fraction128.specs.declared.Grid.{Grid}
 use Rattle.fraction128.specs.Grid.{Step, pivot, next_step, step_fits, WithinBounds, MeetsRows}
 use Rattle.fraction128.specs.declared.Line.{Line}
-use Rattle.fraction128.specs.Lines.{NextFails, IsPivotLine, IsSeries, pivot_line}
-use Rattle.simplex_steps.specs.Law.{Runs, pivots, lines_of}
+use Rattle.fraction128.specs.Lines.{NextFails, HasBasis, basis_along, pivot_line}
+use Rattle.simplex_steps.specs.Law.{Runs, RunsFit, pivots, lines_of}
 use Rattle.tableau.specs.Table.{Table, row_at}
 use Rattle.tableau.specs.Staged.{HasEntry}
 use Rattle.simplex_steps.specs.declared.find.Turn.{Turn}
@@ -26,10 +26,11 @@ use Rattle.simplex_steps.specs.Conflict.{IsRowConflict, IsConflict}
 abbrev pub AreWithin : List Column → Type 0
 AreWithin cs = (i : ℕ) → i < length cs → WithinBounds (column_in cs i)
 
--- next steps, n of them pivots, lead from g to h
+-- next steps that fit, n of them pivots, lead from g to h
 pub record Reaches (n : ℕ) (g h : Grid) : Type 0 where
   pub steps : List Step
   pub runs : Runs g steps h
+  pub fits : RunsFit g steps
   pub count : pivots steps ≡ n
 
 -- the next step of the grid is a pivot that fits
@@ -102,21 +103,22 @@ pub record IsRun (t : Table) (cs : List Column) (u : Table) (ds : List Column) (
 abbrev pub kept_lines : Bool → Grid → List Step → List Line
 kept_lines keep g ss = if keep then lines_of g ss else []
 
--- next steps, n of them pivots, lead from g to h; where lines are kept, those of the pivots come after the lines before
+-- next steps that fit, n of them pivots, lead from g to h; where lines are kept, those of the pivots come after the lines before
 pub record Records (keep : Bool) (n : ℕ) (g h : Grid) (before now : List Line) : Type 0 where
   pub steps : List Step
   pub runs : Runs g steps h
+  pub fits : RunsFit g steps
   pub count : pivots steps ≡ n
   pub kept : now ≡ before ++ kept_lines keep g steps
 
--- the same, where each of the new lines is a pivot by Bland's rule, and neighbours differ in the basic variable
+-- the same, where the lines of the pivots tell which variables are basic at the end
 pub record KeepsLines (keep : Bool) (n : ℕ) (g h : Grid) (before now : List Line) : Type 0 where
   pub steps : List Step
   pub runs : Runs g steps h
+  pub fits : RunsFit g steps
   pub count : pivots steps ≡ n
   pub kept : now ≡ before ++ kept_lines keep g steps
-  pub pivots : All IsPivotLine (lines_of g steps)
-  pub series : keep ≡ true → IsSeries g.rows before → IsSeries h.rows now
+  pub basis : (is : ℕ → Bool) → HasBasis is g → HasBasis (basis_along is (lines_of g steps)) h
 
 -- the line of a turn, where lines are kept
 abbrev pub turn_lines : Bool → Table → List Column → Turn → List Line

@@ -1,6 +1,7 @@
 -- Rows with the columns of their variables, as a grid with nothing pending.
 use Rattle.std.specs.Prelude.{◌≡◌, ◌≢◌, ℕ, ◌<◌, ◌≤◌, false, List, length, slice_index_or, Option, Some, None, ℤ, pos, []}
 use Rattle.fraction128.specs.declared.ratio.Ratio.{Ratio}
+use Rattle.fraction128.specs.Ratio.{IsFraction}
 use Rattle.fraction128.specs.Whole.{InRange}
 use Rattle.fraction128.specs.Number.{whole}
 use Rattle.fraction128.specs.declared.Column.{Column}
@@ -27,10 +28,10 @@ values cs i = (column_in cs i).value
 abbrev pub member_in : List Column → Entry → Member
 member_in cs e = record { variable = e.variable; coefficient = e.coefficient; column = column_in cs e.variable }
 
--- the values are numbers that meet the rows
+-- the values are fractions that meet the rows
 pub record IsSolution (t : Table) (cs : List Column) : Type 0 where
   pub count : length cs ≡ t.count
-  pub positive : (i : ℕ) → 0 < (values cs i).denominator
+  pub fractions : (i : ℕ) → IsFraction (values cs i)
   pub meets : MeetsRows t.rows (values cs)
 
 abbrev pub IsRanged : Option ℤ → Type 0

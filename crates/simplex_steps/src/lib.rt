@@ -33,7 +33,8 @@
 //! basic before and has the value that it had.
 #![tactic(auto)]
 
-ghost use Rattle.simplex_steps.specs.Law.{RunsAreShort, StepsKeep, MovesSettle, PivotsSettle, LinesArePivots, LinesGoOn, LinesAreRows, RunsRest};
+ghost use Rattle.simplex_steps.specs.Law.{RunsAreShort, StepsKeep, MovesSettle, PivotsSettle, LinesArePivots, LinesGoOn, LinesAreRows, RunsRest, SolutionsAreFree, FreeAreSolutions, PivotsKeepFree, MovesKeepFree, PivotsExchange, RunsExchange, BasesDetermine};
+ghost use Rattle.simplex_steps.specs.TableRows.{TablesHaveRows};
 
 mod bounds;
 mod conflict;
@@ -69,4 +70,28 @@ pub fn lines_are_pivots()
 /// After a run what isn't basic stands at one of its bounds, or it wasn't basic before and has the value that it had.
 pub fn values_rest()
     ensures { RunsRest }
+{}
+
+/// The sums of what isn't basic are independent exactly where each solution of the rows comes from values of the terms, and next steps keep them so.
+pub fn sums_stay_independent()
+    ensures solutions { SolutionsAreFree }
+    ensures free { FreeAreSolutions }
+    ensures pivots { PivotsKeepFree }
+    ensures moves { MovesKeepFree }
+{}
+
+/// The line of a pivot tells which variables are basic after it, and the lines of a run tell it at its end.
+pub fn pivots_exchange()
+    ensures one { PivotsExchange }
+    ensures runs { RunsExchange }
+{}
+
+/// Where the sums of what isn't basic are independent, the basis determines the rows.
+pub fn bases_determine_rows()
+    ensures { BasesDetermine }
+{}
+
+/// A tableau's rows are rows of its grid.
+pub fn tables_have_rows()
+    ensures { TablesHaveRows }
 {}

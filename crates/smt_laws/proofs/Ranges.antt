@@ -17,7 +17,7 @@ use Rattle.smt_meaning.specs.Stack.{Frame}
 use Rattle.smt_meaning.specs.Boxes.{IsInBox, asserted_atoms, term_at_most, negation_at_most}
 use Rattle.smt_meaning.specs.Report.{Shows}
 use Rattle.smt_laws.proofs.Told.{false_true}
-use Rattle.smt_laws.proofs.Reports.{in_head, in_cases, none_in}
+use Rattle.smt_laws.proofs.Reports.{in_head, in_cases, no_sums, none_in}
 
 abbrev tree_x : Tree
 tree_x = node (Function 0) none
@@ -116,12 +116,14 @@ trees_past = numeral (pos 2) ∷ numeral greatest_number ∷ doubled ∷ tree_x 
 
 -- the product's coefficient leaves the range
 product_leaves : Shows trees_past (asserts compared) (pos 0) 0 [] (Range (Coefficient 2))
-product_leaves = (
-  tt,
-  record {
+product_leaves = record {
+  sums = [];
+  known = no_sums _;
+  are_branches = tt;
+  leaves = record {
     tree = doubled;
     part = record { assertion = compared; asserted = in_head compared []; part = inr (inl (inl refl)) };
     place_is = refl;
     leaves = inl refl;
-  },
-)
+  };
+}

@@ -2,6 +2,8 @@
 use Rattle.std.proofs.Common.{◌≡◌, ℕ, Bool, true, false, List, [], ◌∷◌, refl, sym, ap, ◌∙◌, subst, inl, inr, ◌⊎◌, arith, pos, All, map, None, Some}
 use Rattle.std.proofs.lemmas.List.Elements.{All-nil, All-cons, All-head, Contains-push, Contains-append_left, Contains-append_right, Contains-append_cases, Contains-push_cases}
 use Rattle.std.specs.Prelude.{codes, Contains, length}
+use Rattle.fraction128.specs.declared.Summand.{Summand}
+use Rattle.fraction128.specs.Lines.{AreSums}
 use Rattle.smt_meaning.specs.declared.values.Sort.TheVariants.{Bool as Truths}
 use Rattle.smt_meaning.specs.declared.options.UnknownReason.TheVariants.{Memout, Incomplete}
 use Rattle.smt_meaning.specs.declared.terms.Head.TheVariants.{Symbol as Function}
@@ -135,10 +137,14 @@ no_equality c = elim (in_cases (Truth 0) p_is_q (Truth 1 ∷ []) c) [
   | inr d ↦ elim (in_cases (Truth 1) p_is_q [] d) [ inl e ↦ false_true (ap is_same e) | inr f ↦ none_in p_is_q f ]
 ]
 
+-- where there are no variables
+pub no_sums : (Known : List Summand → Type 0) → AreSums Known []
+no_sums Known = record { apart = λ i j d l m. absurd (omega (arith, m)); filled = All-nil _; known = All-nil _ }
+
 -- that p is q is an atom of the check, which wasn't numbered at its start
-one_unit : AreUnits both_asserted.stack.trees both_asserted.stack.frames [] (pos 1) 0 (Numbered p_is_q ∷ [])
+one_unit : AreUnits both_asserted.stack.trees both_asserted.stack.frames [] [] (pos 1) 0 (Numbered p_is_q ∷ [])
 one_unit =
-    one_more_unit both_asserted.stack.trees both_asserted.stack.frames [] (pos 1) 0 [] (Numbered p_is_q) (no_units both_asserted.stack.trees both_asserted.stack.frames [] (pos 1) 0)
+    one_more_unit both_asserted.stack.trees both_asserted.stack.frames [] [] (pos 1) 0 [] (Numbered p_is_q) (no_units both_asserted.stack.trees both_asserted.stack.frames [] [] (pos 1) 0)
     (
     record {
       of_check = inr (inl (
@@ -164,7 +170,7 @@ units_may_end = (
   record {
     one_each = refl;
     shown =
-        All-cons ShownHere (without_units (Numbered p_is_q ∷ [])) [] (refl, tt, one_unit) (All-nil _);
+        All-cons ShownHere (without_units (Numbered p_is_q ∷ [])) [] (record { count = refl; sums = []; known = no_sums _; are_branches = tt; units = one_unit }) (All-nil _);
   },
   refl,
 )
@@ -174,4 +180,4 @@ fewer_show_nothing : (new : State) → MayReply every both_asserted CheckSat Unk
 unfolding MayReply effect
 fewer_show_nothing new h =
     let shown : All ShownHere (without_units [] ∷ []) = subst (All ShownHere) (sym (ap kept_reports h.1)) h.2.shown in
-    absurd (omega (arith, (All-head ShownHere (without_units []) [] shown).0))
+    absurd (omega (arith, (All-head ShownHere (without_units []) [] shown).count))

@@ -5,8 +5,8 @@ use Rattle.fraction128.specs.declared.Pending.{Pending}
 use Rattle.fraction128.specs.declared.Side.{Side}
 use Rattle.fraction128.specs.declared.Side.TheVariants.{Lower, Upper}
 use Rattle.fraction128.specs.declared.Line.{Line}
-use Rattle.fraction128.specs.Grid.{turned, bound_number, bounds_above}
-use Rattle.fraction128.specs.Lines.{IsSoundLine, IsBranchLine}
+use Rattle.fraction128.specs.Grid.{leaf, turned, bound_number, bounds_above}
+use Rattle.fraction128.specs.Lines.{AreSums, IsRowIn, IsBranchLine}
 use Rattle.smt_meaning.specs.declared.values.Sort.TheVariants.{Int as Ints}
 use Rattle.smt_meaning.specs.declared.terms.Operator.TheVariants.{Add, Subtract, Multiply}
 use Rattle.smt_meaning.specs.declared.terms.Head.{Head}
@@ -101,12 +101,12 @@ pub record IsBoundOf (Is : Atom → Type 0) (sum : List GridSummand) (side : Sid
 abbrev pub branch_atoms : ℕ → ℤ → List Atom
 branch_atoms t k = term_at_most t k ∷ negation_at_most t (neg_ℤ k -ℤ pos 1) ∷ []
 
--- a line over these atoms, whose basic variable is a leaf with a value that isn't whole
-pub record IsBranch (ts : List Tree) (frames : List Frame) (Is : Atom → Type 0) (l : Line) : Type 0 where
+-- a line of these variables over these atoms: the row of a leaf whose value isn't whole, where all values lie within their bounds
+pub record IsBranch (ts : List Tree) (frames : List Frame) (sums : List (List GridSummand)) (Is : Atom → Type 0) (l : Line) : Type 0 where
   pub term : ℕ
   pub floor : ℤ
-  pub leaf : IsLeaf ts frames term
-  pub row : IsSoundLine (IsBoundOf Is) l
+  pub is_leaf : IsLeaf ts frames term
+  pub row : IsRowIn sums (IsBoundOf Is) l
   pub branches : IsBranchLine term floor l
 
 -- an atom that the branch adds
@@ -125,14 +125,23 @@ WithBranches Is [] a = Is a
 WithBranches Is (l ∷ ls) a = WithBranches (WithBranch Is l) ls a
 
 -- each branch is one over the atoms before it
-abbrev pub EachIsBranch : List Tree → List Frame → (Atom → Type 0) → List Line → Type 0
-EachIsBranch ts frames Is [] = Unit {0}
-EachIsBranch ts frames Is (l ∷ ls) = IsBranch ts frames Is l × EachIsBranch ts frames (WithBranch Is l) ls
+abbrev pub EachIsBranch : List Tree → List Frame → List (List GridSummand) → (Atom → Type 0) → List Line → Type 0
+EachIsBranch ts frames sums Is [] = Unit {0}
+EachIsBranch ts frames sums Is (l ∷ ls) = IsBranch ts frames sums Is l × EachIsBranch ts frames sums (WithBranch Is l) ls
 
--- ---- the atoms of a check with these branches
+-- ---- the atoms of a check with these branches, and the sums of its variables
 
 abbrev pub IsCheckAtom : List Tree → List Frame → List Line → Atom → Type 0
 IsCheckAtom ts frames branches a = WithBranches (IsFirstAtom ts frames) branches a
 
-abbrev pub AreBranches : List Tree → List Frame → List Line → Type 0
-AreBranches ts frames branches = EachIsBranch ts frames (IsFirstAtom ts frames) branches
+abbrev pub AreBranches : List Tree → List Frame → List (List GridSummand) → List Line → Type 0
+AreBranches ts frames sums branches = EachIsBranch ts frames sums (IsFirstAtom ts frames) branches
+
+-- a leaf alone, or the sum of an atom before any branch, or of its negation: the atoms of branches are on leaves alone
+pub data IsKnownSum (ts : List Tree) (frames : List Frame) (ps : List GridSummand) : Type 0 where
+  of_leaf : (t : ℕ) → IsLeaf ts frames t → ps ≡ leaf t → IsKnownSum ts frames ps
+  of_atom : (qs : List Summand) (k : ℤ) → IsFirstAtom ts frames (AtMost qs k) → ps ≡ turned (grid_sum qs) → IsKnownSum ts frames ps
+
+-- the sums of the variables of a check, one table for all its grids and rows
+abbrev pub AreCheckSums : List Tree → List Frame → List (List GridSummand) → Type 0
+AreCheckSums ts frames sums = AreSums (IsKnownSum ts frames) sums

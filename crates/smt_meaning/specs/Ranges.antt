@@ -4,9 +4,9 @@ use Rattle.fraction128.specs.declared.ratio.Ratio.{Ratio}
 use Rattle.fraction128.specs.Number.{whole, SameNumber}
 use Rattle.fraction128.specs.Whole.{is_in_range}
 use Rattle.fraction128.specs.declared.Pending.{Pending}
-use Rattle.fraction128.specs.declared.Column.{Column}
+use Rattle.fraction128.specs.declared.Summand.{Summand as GridSummand}
 use Rattle.fraction128.specs.declared.Grid.{Grid}
-use Rattle.fraction128.specs.Grid.{WithinBounds, leaf, turned, value_at, variable_of}
+use Rattle.fraction128.specs.Grid.{WithinBounds, value_at, variable_of}
 use Rattle.fraction128.specs.Lines.{IsSoundGrid, NextFails}
 use Rattle.smt_meaning.specs.declared.values.Table.{Table}
 use Rattle.smt_meaning.specs.declared.terms.Head.TheVariants.{Symbol}
@@ -65,32 +65,27 @@ pub record IsIntArgument (ts : List Tree) (frames : List Frame) (t : Tree) (plac
   pub int : IsIntPart ts frames t place
 
 -- the grid gives the leaves of the argument whole values, at which its form has a value past the range
-pub record LeavesInArgument (ts : List Tree) (frames : List Frame) (Is : Atom → Type 0) (place : ℕ) (g : Grid) : Type 0 where
+pub record LeavesInArgument (ts : List Tree) (frames : List Frame) (sums : List (List GridSummand)) (Is : Atom → Type 0) (place : ℕ) (g : Grid) : Type 0 where
   pub tree : Tree
   pub argument : IsIntArgument ts frames tree place
-  pub grid : IsSoundGrid (IsBoundOf Is) g
+  pub grid : IsSoundGrid sums (IsBoundOf Is) g
   pub within : All WithinBounds g.columns
   pub numbers : ℕ → ℤ
   pub values : All (λ (t : Tree). HasValue g (place_of t ts) (whole (numbers (place_of t ts)))) (leaves tree)
   pub outside : is_in_range (form_at numbers (linear_form ts tree)) ≡ false
 
 -- each assertion is true under the tables, the grid gives the leaves their values under them, and a number of the part's value leaves the range
-pub record LeavesInModel (ts : List Tree) (frames : List Frame) (Is : Atom → Type 0) (i : List Table) (place : ℕ) (g : Grid) : Type 0 where
+pub record LeavesInModel (ts : List Tree) (frames : List Frame) (sums : List (List GridSummand)) (Is : Atom → Type 0) (i : List Table) (place : ℕ) (g : Grid) : Type 0 where
   pub tree : Tree
   pub part : IsPartOfStack frames tree
   pub place_is : place_of tree ts ≡ place
   pub tables : AreTablesFor (signature_of frames) i
   pub holds : Holds (meaning i) frames
   pub outside : fits (meaning i) tree ≡ false
-  pub grid : IsSoundGrid (IsBoundOf Is) g
+  pub grid : IsSoundGrid sums (IsBoundOf Is) g
   pub values : (t : Tree) (p : ℕ) → IsIntPart ts frames t p → IsLeaf ts frames p → HasValue g p (whole (number_of (value (meaning i) t)))
 
 -- ---- steps
-
--- the column is of a leaf, or of the sum of an atom or its negation
-abbrev pub IsKnownColumn : List Tree → List Frame → (Atom → Type 0) → Column → Type 0
-IsKnownColumn ts frames Is c =
-    ((t : ℕ) × IsLeaf ts frames t × (c.sum ≡ leaf t)) ⊎ ((ps : List Summand) × (k : ℤ) × Is (AtMost ps k) × (c.sum ≡ turned (grid_sum ps)))
 
 -- the bound that waits to be taken in is on an atom
 pub record IsOnAtom (Is : Atom → Type 0) (p : Pending) : Type 0 where
@@ -99,17 +94,16 @@ pub record IsOnAtom (Is : Atom → Type 0) (p : Pending) : Type 0 where
   pub sum_is : p.sum ≡ grid_sum terms
 
 -- the next step of the grid leaves the range
-pub record LeavesInStep (ts : List Tree) (frames : List Frame) (Is : Atom → Type 0) (g : Grid) : Type 0 where
-  pub columns : All (IsKnownColumn ts frames Is) g.columns
-  pub grid : IsSoundGrid (IsBoundOf Is) g
+pub record LeavesInStep (ts : List Tree) (frames : List Frame) (sums : List (List GridSummand)) (Is : Atom → Type 0) (g : Grid) : Type 0 where
+  pub grid : IsSoundGrid sums (IsBoundOf Is) g
   pub pending : (p : Pending) → g.pending ≡ Some p → IsOnAtom Is p
   pub next : NextFails g
 
--- ---- any of these
+-- ---- any of these, where the variables have these sums
 
-abbrev pub LeavesRange : List Tree → List Frame → (Atom → Type 0) → RangeSeen → Type 0
-LeavesRange ts frames Is (Coefficient t) = LeavesInPart ts frames t
-LeavesRange ts frames Is (Pair s t) = LeavesInPair ts frames s t
-LeavesRange ts frames Is (Argument t g) = LeavesInArgument ts frames Is t g
-LeavesRange ts frames Is (Step g) = LeavesInStep ts frames Is g
-LeavesRange ts frames Is (Model i t g) = LeavesInModel ts frames Is i t g
+abbrev pub LeavesRange : List Tree → List Frame → List (List GridSummand) → (Atom → Type 0) → RangeSeen → Type 0
+LeavesRange ts frames sums Is (Coefficient t) = LeavesInPart ts frames t
+LeavesRange ts frames sums Is (Pair s t) = LeavesInPair ts frames s t
+LeavesRange ts frames sums Is (Argument t g) = LeavesInArgument ts frames sums Is t g
+LeavesRange ts frames sums Is (Step g) = LeavesInStep ts frames sums Is g
+LeavesRange ts frames sums Is (Model i t g) = LeavesInModel ts frames sums Is i t g

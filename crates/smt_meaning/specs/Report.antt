@@ -1,5 +1,5 @@
 -- What a worker shows that ended a check without an answer: the units that it spent, each of which did something new, or where a number left the range.
-use Rattle.std.specs.Prelude.{◌≡◌, ◌≢◌, ◌⊎◌, ℕ, zero, suc, ◌^◌, ◌≤◌, min, Bool, true, false, not, List, [], ◌∷◌, ◌++◌, map, length, ℤ, pos, int_le, unsigned_abs, Option, Some, None, All, AllPairs, Contains, MatchBool, if◌then◌else◌}
+use Rattle.std.specs.Prelude.{◌≡◌, ◌≢◌, ◌⊎◌, ℕ, zero, suc, ◌^◌, ◌≤◌, min, Bool, true, false, not, List, [], ◌∷◌, ◌++◌, map, length, ℤ, pos, int_le, unsigned_abs, All, AllPairs, Contains, if◌then◌else◌}
 use Rattle.std.specs.List.{list_any, range_with_len}
 use Rattle.std.proofs.Common.{refl, subst, inl, inr}
 use Rattle.smt_meaning.specs.declared.options.UnknownReason.{UnknownReason}
@@ -11,7 +11,9 @@ use Rattle.smt_meaning.specs.declared.clauses.Atom.TheVariants.{Truth}
 use Rattle.smt_meaning.specs.declared.clauses.Literal.{Literal}
 use Rattle.smt_meaning.specs.declared.clauses.Clause.{Clause}
 use Rattle.fraction128.specs.declared.Line.{Line}
-use Rattle.fraction128.specs.Lines.{IsSoundLine, IsPivotLine, HaveOthers, empty_line}
+use Rattle.fraction128.specs.Lines.{IsPivotIn, first_basis, exchanged}
+use Rattle.fraction128.specs.declared.Summand.{Summand as GridSummand}
+use Rattle.smt_meaning.specs.declared.reports.RangeSeen.{RangeSeen}
 use Rattle.smt_meaning.specs.declared.reports.Unit.{Unit as Spent}
 use Rattle.smt_meaning.specs.declared.reports.Unit.TheVariants.{Learnt, Numbered, Pivot}
 use Rattle.smt_meaning.specs.declared.reports.Cause.{Cause}
@@ -23,7 +25,7 @@ use Rattle.smt_meaning.specs.Stack.{Frame, signature_of, assertions_of}
 use Rattle.smt_meaning.specs.Follows.{Follows}
 use Rattle.smt_meaning.specs.Atoms.{stack_atoms}
 pub use Rattle.smt_meaning.specs.CheckAtoms.{IsPartOfStack, ComparesParts, IsCheckAtom}
-use Rattle.smt_meaning.specs.CheckAtoms.{IsLeaf, IsBoundOf, AreBranches}
+use Rattle.smt_meaning.specs.CheckAtoms.{IsBoundOf, AreBranches, AreCheckSums}
 use Rattle.smt_meaning.specs.Ranges.{LeavesRange}
 use Rattle.smt_meaning.specs.Forced.{Sign, Forces, IsClauseOf, literals_of}
 
@@ -90,38 +92,27 @@ pub record IsNumbered (ts : List Tree) (frames : List Frame) (branches : List Li
   pub not_of_stack : Contains (stack_atoms ts frames) a → ⊥
   pub new : Contains earlier (Numbered a) → ⊥
 
--- the line of the newest pivot
-abbrev pub last_pivot : List Spent → Option Line
-last_pivot [] = None
-last_pivot (u ∷ us) = newer (last_pivot us) u
-  where
-    newer : Option Line → Spent → Option Line
-    newer (Some l) u = Some l
-    newer None (Pivot l) = Some l
-    newer None (Learnt c) = None
-    newer None (Numbered a) = None
+-- which variables are basic after the pivots among these units
+abbrev pub basis_after : (ℕ → Bool) → List Spent → ℕ → Bool
+basis_after is [] = is
+basis_after is (Pivot l ∷ us) = basis_after (exchanged l is) us
+basis_after is (Learnt c ∷ us) = basis_after is us
+basis_after is (Numbered a ∷ us) = basis_after is us
 
--- a pivot by Bland's rule in a row over atoms of the check, of another basic variable than the pivot before it
-pub record IsPivot (ts : List Tree) (frames : List Frame) (branches : List Line) (earlier : List Spent) (l : Line) : Type 0 where
-  pub row : IsSoundLine (IsBoundOf (IsCheckAtom ts frames branches)) l
-  pub by_rule : IsPivotLine l
-  pub others : (m : Line) → last_pivot earlier ≡ Some m → HaveOthers m l
+-- a pivot by Bland's rule, over atoms of the check, from the basis that those before it left; without a limit it is no unit
+pub record IsPivot (ts : List Tree) (frames : List Frame) (sums : List (List GridSummand)) (branches : List Line) (limit : ℤ) (earlier : List Spent) (l : Line) : Type 0 where
+  pub costs : is_unlimited limit ≡ false
+  pub pivots : IsPivotIn sums (IsBoundOf (IsCheckAtom ts frames branches)) (basis_after (first_basis sums) earlier) l
 
--- without a limit no lines are kept
-pub record IsUnlisted (ts : List Tree) (frames : List Frame) (l : Line) : Type 0 where
-  pub term : ℕ
-  pub leaf : IsLeaf ts frames term
-  pub empty : l ≡ empty_line
-
-abbrev pub IsUnit : List Tree → List Frame → List Line → ℤ → ℕ → List Spent → Spent → Type 0
-IsUnit ts frames branches limit worker earlier (Learnt c) = IsLearnt ts frames branches limit worker earlier c
-IsUnit ts frames branches limit worker earlier (Numbered a) = IsNumbered ts frames branches earlier a
-IsUnit ts frames branches limit worker earlier (Pivot l) = MatchBool (is_unlimited limit) (IsUnlisted ts frames l) (IsPivot ts frames branches earlier l)
+abbrev pub IsUnit : List Tree → List Frame → List (List GridSummand) → List Line → ℤ → ℕ → List Spent → Spent → Type 0
+IsUnit ts frames sums branches limit worker earlier (Learnt c) = IsLearnt ts frames branches limit worker earlier c
+IsUnit ts frames sums branches limit worker earlier (Numbered a) = IsNumbered ts frames branches earlier a
+IsUnit ts frames sums branches limit worker earlier (Pivot l) = IsPivot ts frames sums branches limit earlier l
 
 -- each unit is one after those before it
-abbrev pub AreUnits : List Tree → List Frame → List Line → ℤ → ℕ → List Spent → Type 0
-AreUnits ts frames branches limit worker us =
-    (before after : List Spent) (u : Spent) → us ≡ before ++ u ∷ after → IsUnit ts frames branches limit worker before u
+abbrev pub AreUnits : List Tree → List Frame → List (List GridSummand) → List Line → ℤ → ℕ → List Spent → Type 0
+AreUnits ts frames sums branches limit worker us =
+    (before after : List Spent) (u : Spent) → us ≡ before ++ u ∷ after → IsUnit ts frames sums branches limit worker before u
 
 -- a list that ends in one more, cut before one of its items: at the last one, or before it
 last_or_before : {X : Type 0} (us before after : List X) (u v : X) → us ++ u ∷ [] ≡ before ++ v ∷ after
@@ -134,24 +125,39 @@ last_or_before (x ∷ us) (b ∷ before) after u v e =
     let first : x ≡ b = cc in let rest : us ++ u ∷ [] ≡ before ++ v ∷ after = cc in
     elim (last_or_before us before after u v rest) [ inl (same, last) ↦ inl (cc, last) | inr (more, same) ↦ inr (more, cc) ]
 
-pub no_units : (ts : List Tree) (frames : List Frame) (branches : List Line) (limit : ℤ) (worker : ℕ) → AreUnits ts frames branches limit worker []
-no_units ts frames branches limit worker [] after u e = cc
-no_units ts frames branches limit worker (b ∷ before) after u e = cc
+pub no_units : (ts : List Tree) (frames : List Frame) (sums : List (List GridSummand)) (branches : List Line) (limit : ℤ) (worker : ℕ) → AreUnits ts frames sums branches limit worker []
+no_units ts frames sums branches limit worker [] after u e = cc
+no_units ts frames sums branches limit worker (b ∷ before) after u e = cc
 
-pub one_more_unit : (ts : List Tree) (frames : List Frame) (branches : List Line) (limit : ℤ) (worker : ℕ) (us : List Spent) (u : Spent)
-    → AreUnits ts frames branches limit worker us → IsUnit ts frames branches limit worker us u → AreUnits ts frames branches limit worker (us ++ u ∷ [])
-one_more_unit ts frames branches limit worker us u each one before after v e =
+pub one_more_unit : (ts : List Tree) (frames : List Frame) (sums : List (List GridSummand)) (branches : List Line) (limit : ℤ) (worker : ℕ) (us : List Spent) (u : Spent)
+    → AreUnits ts frames sums branches limit worker us → IsUnit ts frames sums branches limit worker us u → AreUnits ts frames sums branches limit worker (us ++ u ∷ [])
+one_more_unit ts frames sums branches limit worker us u each one before after v e =
     elim (last_or_before us before after u v e) [
-      | inl (same, last) ↦ subst (λ x. IsUnit ts frames branches limit worker before x) last (subst (λ xs. IsUnit ts frames branches limit worker xs u) same one)
+      | inl (same, last) ↦ subst (λ x. IsUnit ts frames sums branches limit worker before x) last (subst (λ xs. IsUnit ts frames sums branches limit worker xs u) same one)
       | inr (rest, same) ↦ each before rest v same
     ]
 
 -- ---- reports
 
+-- these branches and units are those of a check whose variables have one table of sums
+pub record AreAllSpent (ts : List Tree) (frames : List Frame) (limit : ℤ) (worker : ℕ) (branches : List Line) (us : List Spent) : Type 0 where
+  pub count : length us ≡ most_units limit
+  pub sums : List (List GridSummand)
+  pub known : AreCheckSums ts frames sums
+  pub are_branches : AreBranches ts frames sums branches
+  pub units : AreUnits ts frames sums branches limit worker us
+
+-- so are these branches and what leaves the range
+pub record IsPastRange (ts : List Tree) (frames : List Frame) (branches : List Line) (seen : RangeSeen) : Type 0 where
+  pub sums : List (List GridSummand)
+  pub known : AreCheckSums ts frames sums
+  pub are_branches : AreBranches ts frames sums branches
+  pub leaves : LeavesRange ts frames sums (IsCheckAtom ts frames branches) seen
+
 -- all units are spent, a number left the range, or memory was wanting
 abbrev pub Shows : List Tree → List Frame → ℤ → ℕ → List Line → Cause → Type 0
-Shows ts frames limit worker branches (Units us) = (length us ≡ most_units limit) × AreBranches ts frames branches × AreUnits ts frames branches limit worker us
-Shows ts frames limit worker branches (Range seen) = AreBranches ts frames branches × LeavesRange ts frames (IsCheckAtom ts frames branches) seen
+Shows ts frames limit worker branches (Units us) = AreAllSpent ts frames limit worker branches us
+Shows ts frames limit worker branches (Range seen) = IsPastRange ts frames branches seen
 Shows ts frames limit worker branches Memory = Unit {0}
 
 -- one report of each worker, in order from 0

@@ -5,7 +5,8 @@ use Rattle.simplex.specs.State as Simplex
 use Rattle.simplex.specs.declared.state.Verdict.{Verdict}
 use Rattle.sum_bounds.specs.declared.finding.Finding.{Finding}
 use Rattle.sum_bounds.specs.declared.finding.Finding.TheVariants.{Fits}
-use Rattle.sum_bounds.specs.Bounds.{AllMet, AreApart, IsCore, Judges, told_of}
+use Rattle.simplex.specs.Sums.{HaveOwnSums}
+use Rattle.sum_bounds.specs.Bounds.{AllMet, IsCore, Judges, told_of}
 use Rattle.sum_bounds.specs.Finding.{IsFound}
 use Rattle.sum_bounds.proofs.Values.{within_from_met, sums_meet}
 use Rattle.sum_bounds.proofs.Conflicts.{state_of, judged, met_where_fits}
@@ -19,6 +20,6 @@ checked s u keys count was now v f core state keeps h found fits =
     (j, core_kept s u keys count was now core keeps.count (λ i. (keeps.each i).sum) (λ e. met_where_fits u state f (fits e) j))
 
 -- a clean state fits
-pub clean_fits : (s : Simplex.State) → Simplex.IsState s → AreApart s.columns → AllMet s.columns (map told_of s.bounds) → Judges (state_of s) Fits
+pub clean_fits : (s : Simplex.State) → Simplex.IsState s → HaveOwnSums s.columns → AllMet s.columns (map told_of s.bounds) → Judges (state_of s) Fits
 clean_fits s state apart met =
     (within_from_met s.columns s.bounds state.bounded met, sums_meet (state_of s) s.bounds refl state.solution state.meant apart state.known met)

@@ -15,15 +15,15 @@ use Rattle.simplex.specs.Trail.{tightest, number_of, set_at, no_set}
 use Rattle.literals.specs.Signed.{Signed, opposite, unpacked}
 use Rattle.simplex_steps.specs.State.{column_in}
 use Rattle.simplex_steps.specs.Conflict.{Stands, MeetsBound, IsConflict as IsRowConflict}
-use Rattle.simplex.specs.Sums.{column_values}
-use Rattle.simplex.proofs.SumValues.{sum_positive_value}
+use Rattle.simplex.specs.Sums.{HaveOwnSums, column_values}
+use Rattle.fraction128.proofs.SumValues.{sum_positive_value}
 use Rattle.simplex.specs.State as Simplex
 use Rattle.simplex.specs.State.{HasBounds, tag_in, tag_or, IsTagged, SpendsRoom as SpendsSimplex}
 use Rattle.simplex.specs.declared.state.Verdict.{Verdict}
 use Rattle.simplex.specs.declared.state.Verdict.TheVariants.{Fits as AllFit, Conflict as Clash, Range as NoFit, UnitsSpent as Spent, Memory as NoMemory}
 use Rattle.sum_bounds.specs.declared.finding.Finding.{Finding}
 use Rattle.sum_bounds.specs.declared.finding.Finding.TheVariants.{Fits, Conflict, Range, UnitsSpent, Memory}
-use Rattle.sum_bounds.specs.Bounds.{Told, State, told_of, MeetsSide, Meets, IsConflict, AllMet, AreApart, Judges, SpendsRoom}
+use Rattle.sum_bounds.specs.Bounds.{Told, State, told_of, MeetsSide, Meets, IsConflict, AllMet, Judges, SpendsRoom}
 use Rattle.sum_bounds.specs.Complements.{IsClauseOf, complement}
 use Rattle.sum_bounds.specs.Finding.{IsFound, IsConflictOf}
 use Rattle.sum_bounds.proofs.Tightest.{IsAmong, tightest_among}
@@ -157,7 +157,7 @@ conflict_of s tags ls state tagged clause =
 abbrev pub state_of : Simplex.State → State
 state_of s = record { table = s.table; columns = s.columns; told = map told_of s.bounds }
 
-pub judged : (s : Simplex.State) (v : Verdict) (f : Finding) → Simplex.IsState s → AreApart s.columns → Simplex.Judges s v → IsFound v f → Judges (state_of s) f
+pub judged : (s : Simplex.State) (v : Verdict) (f : Finding) → Simplex.IsState s → HaveOwnSums s.columns → Simplex.Judges s v → IsFound v f → Judges (state_of s) f
 judged s AllFit f state apart h e =
     subst (Judges (state_of s)) (sym e)
     (h.1, sums_meet (state_of s) s.bounds refl state.solution state.meant apart state.known (met_from_within s.columns s.bounds state.bounded state.known h.1))

@@ -13,12 +13,13 @@ use Rattle.simplex_steps.specs.State.{column_in, no_column, values}
 use Rattle.simplex.specs.State as Simplex
 use Rattle.simplex.specs.State.{KeepsValues, AreKnown}
 use Rattle.sum_bounds.specs.Hash.{sum_hash}
-use Rattle.sum_bounds.specs.Bounds.{Told, told_of, told_bound, told_side, told_number, MeetsSide, AllMet, AreApart, sum_hashes, IsCore}
+use Rattle.simplex.specs.Sums.{HaveOwnSums}
+use Rattle.sum_bounds.specs.Bounds.{Told, told_of, told_bound, told_side, told_number, MeetsSide, AllMet, sum_hashes, IsCore}
 use Rattle.sum_bounds.proofs.Sums.{same_lists}
 
 -- ---- columns with the same sums
 
-pub apart_kept : (cs ds : List Column) → length ds ≡ length cs → ((i : ℕ) → (column_in ds i).sum ≡ (column_in cs i).sum) → AreApart cs → AreApart ds
+pub apart_kept : (cs ds : List Column) → length ds ≡ length cs → ((i : ℕ) → (column_in ds i).sum ≡ (column_in cs i).sum) → HaveOwnSums cs → HaveOwnSums ds
 apart_kept cs ds count h apart i j d lt lj same =
     apart i j no_column lt (omega (arith, lj, count))
     (sym (h i) ∙ ap (λ (c : Column). c.sum) (get_or_default ds i no_column d (omega (arith, lt, lj))) ∙ same ∙ sym (ap (λ (c : Column). c.sum) (get_or_default ds j no_column d lj)) ∙ h j)
@@ -83,7 +84,7 @@ told_pushed bs us b told l i turned k e old tag v s n =
 
 -- ---- one column more
 
-pub apart_push : (cs : List Column) (c : Column) → AreApart cs → ((i : ℕ) → i < length cs → (column_in cs i).sum ≢ c.sum) → AreApart (cs ++ c ∷ [])
+pub apart_push : (cs : List Column) (c : Column) → HaveOwnSums cs → ((i : ℕ) → i < length cs → (column_in cs i).sum ≢ c.sum) → HaveOwnSums (cs ++ c ∷ [])
 apart_push cs c apart none =
     all_pairs_push (λ (a b : Column). a.sum ≢ b.sum) cs c apart (λ k d lt same. none k lt (ap (λ (x : Column). x.sum) (get_or_default cs k no_column d lt) ∙ same))
 
@@ -106,7 +107,7 @@ core_grown s u keys now_keys count clean c core known columns bounds hashed none
     record {
       hashed = hashed;
       counted = let e = core.counted in let f = ap length columns in omega (arith, e, f, length-append s.columns (c ∷ []));
-      apart = subst AreApart (sym columns) (apart_push s.columns c core.apart none);
+      apart = subst HaveOwnSums (sym columns) (apart_push s.columns c core.apart none);
       clean = λ e.
           subst (λ cs. AllMet cs (map told_of u.bounds)) (sym columns)
           (subst (λ bs. AllMet (s.columns ++ c ∷ []) (map told_of bs)) (sym bounds) (met_push s.columns c s.bounds known (core.clean e)));

@@ -12,3 +12,4 @@ pub mod Checks
 pub mod WholeRows
 pub mod Origins
 mod Steps
+pub mod Bases

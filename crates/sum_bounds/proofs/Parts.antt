@@ -11,18 +11,18 @@ use Rattle.fraction128.specs.declared.Column.{Column}
 use Rattle.fraction128.specs.declared.TableRow.{TableRow}
 use Rattle.fraction128.specs.Grid.{is_turned, turned, every, fused_fits, written, written_fits, written_variable, variable_of, entries_from, sum_row, no_coefficients, leaf}
 use Rattle.tableau.specs.Written.{IsPart, AreParts, parts_written, parts_fit, parts_row}
-use Rattle.simplex.specs.Sums.{AreMatched}
+use Rattle.simplex.specs.Sums.{HaveOwnSums, AreMatched}
 use Rattle.simplex_steps.specs.State.{column_in}
-use Rattle.sum_bounds.specs.Bounds.{AreApart, IsSum}
+use Rattle.sum_bounds.specs.Bounds.{IsSum}
 use Rattle.sum_bounds.specs.Written.{part_in, turned_summand, IsKnown, HasLeaf}
 use Rattle.sum_bounds.proofs.Sums.{turned_is}
-use Rattle.sum_bounds.proofs.Leaves.{leaf_found}
+use Rattle.simplex.proofs.Leaves.{leaf_found}
 
-pub has_variable : (cs : List Column) (term : ℕ) → AreApart cs → HasLeaf cs term → (variable_of cs term < length cs) × ((column_in cs (variable_of cs term)).sum ≡ leaf term)
+pub has_variable : (cs : List Column) (term : ℕ) → HaveOwnSums cs → HasLeaf cs term → (variable_of cs term < length cs) × ((column_in cs (variable_of cs term)).sum ≡ leaf term)
 has_variable cs term apart (i, lt, e) =
     subst (λ n. (n < length cs) × ((column_in cs n).sum ≡ leaf term)) (sym (leaf_found cs term i apart lt e)) (lt, e)
 
-pub are_parts : (cs : List Column) (n : ℕ) (ps : List Summand) → AreApart cs → length cs ≡ n → IsSum cs ps → AreParts n (map (part_in cs) ps)
+pub are_parts : (cs : List Column) (n : ℕ) (ps : List Summand) → HaveOwnSums cs → length cs ≡ n → IsSum cs ps → AreParts n (map (part_in cs) ps)
 are_parts cs n ps apart count h k lt =
     let short : k < length ps = omega (arith, lt, length-map ps (part_in cs)) in
     let d : Summand = record { coefficient = pos 0; term = 0 } in
@@ -32,7 +32,7 @@ are_parts cs n ps apart count h k lt =
     subst (IsPart n) (sym (get_or-map (part_in cs) ps k d (record { coefficient = pos 0; variable = 0 }) short))
     (record { known = let l = v.0 in omega (arith, l, count); in_range = known.in_range; nonzero = known.nonzero })
 
-pub are_matched : (cs : List Column) (ps : List Summand) → AreApart cs → IsSum cs ps → AreMatched cs ps (map (part_in cs) ps)
+pub are_matched : (cs : List Column) (ps : List Summand) → HaveOwnSums cs → IsSum cs ps → AreMatched cs ps (map (part_in cs) ps)
 are_matched cs [] apart h = tt
 are_matched cs (p ∷ ps) apart h =
     (refl, (has_variable cs p.term apart (All-head (IsKnown cs) p ps h).leaf).1, are_matched cs ps apart (All-tail (IsKnown cs) p ps h))

@@ -16,10 +16,10 @@ use Rattle.simplex.specs.declared.trail.Held.{Held}
 use Rattle.simplex.specs.Trail.{tightest, number_of, set_at, no_set}
 use Rattle.simplex_steps.specs.State.{column_in, values, IsSolution}
 use Rattle.simplex_steps.specs.Run.{AreWithin}
-use Rattle.simplex.specs.Sums.{IsMeant}
-use Rattle.simplex.proofs.SumValues.{sum_positive_value}
+use Rattle.simplex.specs.Sums.{HaveOwnSums, IsMeant}
+use Rattle.fraction128.proofs.SumValues.{sum_positive_value}
 use Rattle.simplex.specs.State.{HasBounds, AreKnown}
-use Rattle.sum_bounds.specs.Bounds.{Told, State, told_of, MeetsSide, Meets, AllMet, AreApart, sums, leaf_values}
+use Rattle.sum_bounds.specs.Bounds.{Told, State, told_of, MeetsSide, Meets, AllMet, sums, leaf_values}
 use Rattle.sum_bounds.proofs.Tightest.{IsAmong, tightest_among, tightest_least, meets_looser}
 use Rattle.sum_bounds.proofs.Leaves.{sum_values}
 
@@ -107,15 +107,15 @@ pub meets_same : (s : Side) (k : ℤ) (x y : Ratio) → 0 < x.denominator → 0 
 meets_same Lower k x y fx fy e h = sym (less_respects x y (whole k) (whole k) fx fy (omega arith) (omega arith) e refl) ∙ h
 meets_same Upper k x y fx fy e h = sym (less_respects (whole k) (whole k) x y (omega arith) (omega arith) fx fy refl e) ∙ h
 
-pub sums_meet : (s : State) (bs : List Set) → s.told ≡ map told_of bs → IsSolution s.table s.columns → IsMeant s.table.rows s.columns → AreApart s.columns → AreKnown (length s.columns) bs
+pub sums_meet : (s : State) (bs : List Set) → s.told ≡ map told_of bs → IsSolution s.table s.columns → IsMeant s.table.rows s.columns → HaveOwnSums s.columns → AreKnown (length s.columns) bs
     → AllMet s.columns s.told → All (Meets (sums s) (leaf_values s)) s.told
 sums_meet s bs told solution meant apart known met k d lt =
     let t = get_or s.told k d in
     let short : k < length bs = omega (arith, lt, ap length told, length-map bs told_of) in
     let is : t ≡ told_of (set_at bs k) = ap (λ ts. get_or ts k d) told ∙ get_or-map told_of bs k no_set d short in
     let in_columns : t.variable < length s.columns = subst (λ (u : Told). u.variable < length s.columns) (sym is) (known k short).0 in
-    meets_same t.side t.number (values s.columns t.variable) (sum_value (leaf_values s) (sums s t.variable)) (solution.positive t.variable)
-    (sum_positive_value (leaf_values s) (sums s t.variable) (λ term. solution.positive (variable_of s.columns term)))
+    meets_same t.side t.number (values s.columns t.variable) (sum_value (leaf_values s) (sums s t.variable)) (solution.fractions t.variable).positive
+    (sum_positive_value (leaf_values s) (sums s t.variable) (λ term. (solution.fractions (variable_of s.columns term)).positive))
     (sum_values s.table s.columns solution meant apart t.variable in_columns) (met k d lt)
 
 -- bounds told are of variables, and their numbers lie in the range

@@ -16,7 +16,7 @@ use Rattle.tableau.specs.Table.{Table}
 use Rattle.simplex.specs.declared.trail.Set.{Set}
 use Rattle.literals.specs.Signed.{Signed, opposite, unpacked}
 use Rattle.simplex_steps.specs.State.{grid_of, column_in, values, IsSolution}
-use Rattle.simplex.specs.Sums.{IsMeant}
+use Rattle.simplex.specs.Sums.{IsMeant, HaveOwnSums}
 use Rattle.simplex_steps.specs.Run.{AreWithin, NextPivotFits}
 use Rattle.simplex.specs.State as Simplex
 use Rattle.sum_bounds.specs.declared.writing.SumVariable.{SumVariable}
@@ -112,10 +112,6 @@ pub record StandsFor (s : State) (ps : List Summand) (v : SumVariable) : Type 0 
   pub sign : v.turned ≡ is_turned ps
   pub sum : sums s v.variable ≡ turned ps
 
--- no sum has two variables
-abbrev pub AreApart : List Column → Type 0
-AreApart cs = AllPairs (λ (c d : Column). c.sum ≢ d.sum) cs
-
 -- each term of the sum has a variable, and the coefficients are numbers of the range other than 0
 abbrev pub IsSum : List Column → List Summand → Type 0
 IsSum cs ps = All (IsKnown cs) ps
@@ -186,7 +182,7 @@ AllMet cs told = All (λ (t : Told). MeetsSide t.side t.number (values cs t.vari
 pub record IsCore (s : Simplex.State) (keys : List ℕ) (count : ℕ) (is_clean : Bool) : Type 0 where
   pub hashed : keys ≡ sum_hashes s.columns
   pub counted : count ≡ length s.columns
-  pub apart : AreApart s.columns
+  pub apart : HaveOwnSums s.columns
   pub clean : is_clean ≡ true → AllMet s.columns (map told_of s.bounds)
 
 -- the values meet the rows, the solutions of the rows are the valuations that give each variable its sum's value, the bounds told are of variables, and no sum has two
@@ -194,4 +190,4 @@ pub record IsState (s : State) : Type 0 where
   pub solution : IsSolution s.table s.columns
   pub meant : IsMeant s.table.rows s.columns
   pub known : All (λ (t : Told). (t.variable < length s.columns) × InRange t.number) s.told
-  pub apart : AreApart s.columns
+  pub apart : HaveOwnSums s.columns

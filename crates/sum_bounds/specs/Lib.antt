@@ -4,6 +4,7 @@ pub mod Complements
 pub mod Finding
 pub mod Bounds
 pub mod Kept
+pub mod Bases
 pub mod Clauses
 pub mod Wholes
 pub mod Origins

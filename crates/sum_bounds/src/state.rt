@@ -8,10 +8,12 @@ ghost use Rattle.tableau.specs.Failing.{IsRange};
 ghost use Rattle.simplex_steps.specs.State.{column_in, grid_of, values};
 ghost use Rattle.simplex_steps.specs.Run.{IsRun, KeepsLines};
 ghost use Rattle.simplex.specs.State.{IsState as IsSimplex, KeepsValues};
-ghost use Rattle.sum_bounds.specs.Bounds.{sums, leaf_values, sum_hashes, told_bound, MeetsSide, IsPastEnd, AreApart, IsSum, StandsFor, with_leaf, with_sum, sum_fits, Judges, SpendsRoom, IsFirstIn, AreWhole, IsState};
+ghost use Rattle.simplex.specs.Sums.{HaveOwnSums};
+ghost use Rattle.sum_bounds.specs.Bounds.{sums, leaf_values, sum_hashes, told_bound, MeetsSide, IsPastEnd, IsSum, StandsFor, with_leaf, with_sum, sum_fits, Judges, SpendsRoom, IsFirstIn, AreWhole, IsState};
 ghost use Rattle.sum_bounds.specs.Written.{HasLeaf};
 ghost use Rattle.sum_bounds.specs.Wholes.{IsWholeConflict};
 ghost use Rattle.sum_bounds.specs.Kept.{IsGrownByLeaf, IsGrownBySum};
+ghost use Rattle.sum_bounds.specs.Bases.{AddsBases};
 ghost use Rattle.sum_bounds.specs.Origins.{IsOfTold};
 
 use crate::finding::{Checked, Finding, finding_of};
@@ -69,7 +71,7 @@ fn add_sum(
     requires keys { keys.old ≡ sum_hashes simplex.old.columns }
     requires count { count ≡ length simplex.old.columns }
     requires room { count < 2 ^ 32 - 1 }
-    requires apart { AreApart simplex.old.columns }
+    requires apart { HaveOwnSums simplex.old.columns }
     requires sum { IsSum simplex.old.columns sum }
     ensures ok { OnOk result (IsGrownBySum simplex.old simplex.new keys.new sum) }
     ensures range { IfErr result (λ e. IsRange e → sum_fits simplex.old.table simplex.old.columns sum ≡ false) }
@@ -197,6 +199,7 @@ impl SumBounds {
         ensures known { IfOk result (λ i. i < length self.new.columns) }
         ensures sum { IfOk result (λ i. sums self.new i ≡ leaf term) }
         ensures same { OnOk result ((self.new ≡ self.old) ⊎ (self.new ≡ with_leaf self.old term)) }
+        ensures bases { AddsBases self.old self.new }
         ensures err { OnErr result (self.new ≡ self.old) }
     {
         let alone = [Summand {
@@ -206,6 +209,7 @@ impl SumBounds {
         if let Some(variable) = find(&self.simplex, &self.keys, &alone) {
             return Ok(variable);
         }
+        self.simplex.facts();
         let variable = self.count;
         add_leaf(&mut self.simplex, &mut self.keys, alloc, term, variable)?;
         self.count += 1;
@@ -218,6 +222,7 @@ impl SumBounds {
         requires room { length self.old.columns < 2 ^ 32 - 1 }
         ensures ok { IfOk result (StandsFor self.new sum.now) }
         ensures same { OnOk result ((self.new ≡ self.old) ⊎ (self.new ≡ with_sum self.old (turned sum.now))) }
+        ensures bases { AddsBases self.old self.new }
         ensures range { IfErr result (λ e. IsRange e → sum_fits self.old.table self.old.columns (turned sum.now) ≡ false) }
         ensures lacks { IfErr result (λ e. IsRange e → column_of self.old.columns (turned sum.now) ≡ None) }
         ensures err { OnErr result (self.new ≡ self.old) }

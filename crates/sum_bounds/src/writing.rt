@@ -3,7 +3,8 @@ ghost use Rattle.std.specs.Prelude.{◌≡◌, ◌≢◌, ℕ, ◌<◌, pos, map
 ghost use Rattle.fraction128.specs.Whole.{InRange};
 ghost use Rattle.fraction128.specs.Grid.{is_turned, turned, leaf};
 ghost use Rattle.simplex_steps.specs.State.{column_in};
-ghost use Rattle.sum_bounds.specs.Bounds.{sum_hashes, AreApart, IsSum};
+ghost use Rattle.simplex.specs.Sums.{HaveOwnSums};
+ghost use Rattle.sum_bounds.specs.Bounds.{sum_hashes, IsSum};
 ghost use Rattle.sum_bounds.specs.Written.{turned_summand, part_in, HasLeaf};
 
 use crate::lookup::find;
@@ -61,7 +62,7 @@ pub(crate) fn turned_sum(alloc: Global, sum: &[Summand]) -> Result<Sum, AllocErr
 /// A summand with the variable of its term in the term's place.
 fn part_of(simplex: &Simplex, keys: &HashIndex, summand: Summand) -> Part
     requires keys { keys.now ≡ sum_hashes simplex.now.columns }
-    requires apart { AreApart simplex.now.columns }
+    requires apart { HaveOwnSums simplex.now.columns }
     requires leaf { HasLeaf simplex.now.columns summand.term }
     ensures { result ≡ part_in simplex.now.columns summand }
 {
@@ -83,7 +84,7 @@ pub(crate) fn parts_of(
     sum: &[Summand],
 ) -> Result<Vec<Part>, AllocError>
     requires keys { keys.now ≡ sum_hashes simplex.now.columns }
-    requires apart { AreApart simplex.now.columns }
+    requires apart { HaveOwnSums simplex.now.columns }
     requires sum { IsSum simplex.now.columns sum.now }
     ensures { IfOk result (λ ps. ps.items ≡ map (part_in simplex.now.columns) sum.now) }
 {

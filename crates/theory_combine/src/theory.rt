@@ -19,32 +19,35 @@ pub struct Combined<'s> {
 
 impl<'s> Model for Combined<'s> {
     ghost use Rattle.search_port.specs.State.{TheoryState};
-    ghost use Rattle.theory_steps.specs.Progress.{state, AreParts, IsProgress};
+    ghost use Rattle.theory_steps.specs.Progress.{full_state, AreParts, IsProgress};
     ghost use Rattle.theory_combine.specs.StateCode.{state_code};
 
     ghost Value = { TheoryState };
 
     ghost coded = { state_code };
 
-    ghost view = { λ c. state c.parts c.progress };
+    ghost view = { λ c. full_state c.parts c.progress };
 
     ghost invariant = { λ c. AreParts c.parts × IsProgress c.parts c.progress };
 }
 
 impl<'s> Combined<'s> {
-    ghost use Rattle.std.specs.Prelude.{◌≡◌, [], IfOk, IfErr};
+    ghost use Rattle.std.specs.Prelude.{◌≡◌, [], None, IfOk, IfErr};
+    ghost use Rattle.fraction128.specs.Lines.{first_basis};
+    ghost use Rattle.search_port.specs.Pivots.{AreBasic};
     ghost use Rattle.stack_atoms.specs.Marks.{AreStackParts};
     ghost use Rattle.check_atoms.specs.OfStack.{AreCheckAtoms};
     ghost use Rattle.linear_forms.specs.Table.{AreForms};
     ghost use Rattle.closure_log.specs.Seen.{state_of};
     ghost use Rattle.theory_steps.specs.Begin.{IsBegun};
+    ghost use Rattle.theory_steps.specs.Columns.{variables_of};
     ghost use Rattle.theory_steps.specs.Errors.{IsErrorSeen};
 
     /// The theory of what is begun.
     fn start(alloc: Global, stack: &'s Stack, parts: CheckAtoms, begun: Begun) -> Self
         requires forms { AreForms stack.now.trees parts.forms }
         requires begun { IsBegun stack.now parts.marks.items parts.atoms begun }
-        ensures { result ≡ state_of stack.now parts.atoms.atoms [] }
+        ensures { result ≡ record (state_of stack.now parts.atoms.atoms []) { variables = variables_of None begun.held.bounds } }
     {
         Combined {
             parts: Parts {
@@ -66,14 +69,16 @@ impl<'s> Combined<'s> {
         }
     }
 
-    /// Nothing is told of the parts of a stack and their atoms. An `Err` is for want of memory, of which a stack of 2^32 - 3 terms or more leaves none, or shows
+    /// Nothing is told of the parts of a stack and their atoms, and no pivot was made. An `Err` is for want of memory, of which a stack of 2^32 - 3 terms or more leaves none, or shows
     /// that a row of an atom leaves the range.
     pub fn new(alloc: Global, stack: &'s Stack, parts: CheckAtoms) -> Result<Self, BoundError>
         requires marks { AreStackParts stack.now parts.marks.items }
         requires atoms { AreCheckAtoms stack.now parts.marks.items parts.atoms.atoms }
         requires forms { AreForms stack.now.trees parts.forms }
-        ensures ok { IfOk result (λ theory. theory ≡ state_of stack.now parts.atoms.atoms []) }
-        ensures err { IfErr result (IsErrorSeen stack.now []) }
+        ensures reading { IfOk result (λ theory. theory.reading ≡ (state_of stack.now parts.atoms.atoms []).reading) }
+        ensures log { IfOk result (λ theory. theory.log ≡ []) }
+        ensures basis { IfOk result (λ theory. AreBasic (first_basis theory.variables.sums) theory.variables) }
+        ensures err { IfErr result (IsErrorSeen stack.now) }
     {
         match begin(alloc, stack, &parts.marks, &parts.atoms) {
             Ok(begun) => Ok(Combined::start(alloc, stack, parts, begun)),

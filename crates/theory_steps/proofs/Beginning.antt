@@ -1,14 +1,16 @@
 -- The parts of a stack and their atoms, before anything is told.
-use Rattle.std.proofs.Common.{◌∙◌, ℕ, ◌+◌, ◌<◌, ◌^◌, Bool, List, ◌∷◌, [], length, All, sym, ap, subst}
-use Rattle.std.specs.Prelude.{slice_index_or, None}
+use Rattle.std.proofs.Common.{◌∙◌, ℕ, ◌+◌, ◌<◌, ◌^◌, Bool, List, ◌∷◌, [], length, All, ◌≢◌, sym, ap, subst}
+use Rattle.std.specs.Prelude.{AllPairs, slice_index_or, None}
 use Rattle.std.proofs.lemmas.List.{get_or_default}
-use Rattle.std.proofs.lemmas.List.Elements.{All-head, All-tail, All-weaker}
+use Rattle.std.proofs.lemmas.List.Elements.{All-head, All-nil, All-tail, All-weaker}
+use Rattle.fraction128.specs.declared.Summand.{Summand}
 use Rattle.smt_meaning.specs.declared.values.Sort.{Sort}
 use Rattle.smt_meaning.specs.declared.values.Sort.TheVariants.{Bool as Truths, Int as Ints}
 use Rattle.smt_meaning.specs.declared.clauses.Atom.{Atom}
 use Rattle.smt_meaning.specs.declared.clauses.Atom.TheVariants.{Truth, Same, AtMost}
 use Rattle.smt_meaning.specs.Clause.{atom_places}
 use Rattle.smt_meaning.specs.Signature.{is_bool}
+use Rattle.smt_meaning.specs.CheckAtoms.{AreCheckSums, IsLeaf}
 use Rattle.smt_meaning.specs.Stack.{signature_of}
 use Rattle.smt_meaning.specs.StackCommand.{Stack}
 use Rattle.smt_meaning.specs.TreeShape.{is_linear}
@@ -25,11 +27,17 @@ use Rattle.check_clauses.specs.Shapes.{AreFlags}
 use Rattle.check_clauses.proofs.Parts as Parts
 use Rattle.model_build.specs.Parts.{AreSortedParts}
 use Rattle.closure_log.specs.Seen.{IsOfTerms, IsSetting}
+use Rattle.theory_steps.specs.declared.errors.BoundError.{BoundError}
+use Rattle.theory_steps.specs.declared.errors.BoundError.TheVariants.{Memory, Range}
 use Rattle.theory_steps.specs.Begin.{IsTruthOfBool}
+use Rattle.theory_steps.specs.Columns.{with_leaves}
+use Rattle.theory_steps.specs.Errors.{IsErrorIn, IsErrorSeen, IsSumIn}
 use Rattle.theory_steps.specs.Pairs.{HaveReadable}
 use Rattle.theory_steps.specs.Shown.{AreShown}
 use Rattle.theory_steps.proofs.Comparing.{first_atoms, over_leaves}
 use Rattle.theory_steps.proofs.Marking.{marked_is_of}
+use Rattle.theory_steps.proofs.Past.{step_left}
+use Rattle.theory_steps.proofs.Sums.{check_sums}
 
 module _ (s : Stack) (marks : List Bool) (law : IsLawful s) (parts : AreStackParts s marks) (table : List Atom) (atoms : AreCheckAtoms s marks table) (sorts : List Sort) (sorted : AreSorts (signature_of s.frames) s.trees (length s.trees) sorts) where
   pub sorted_parts : AreSortedParts (signature_of s.frames) s.trees marks
@@ -60,11 +68,25 @@ module _ (s : Stack) (marks : List Bool) (law : IsLawful s) (parts : AreStackPar
         All-weaker (λ (a : Atom). All (IsMarked marks) (atom_places a)) (IsOf s.trees (flat s.frames)) (λ a m. marked_is_of symbols flat_law s marks sorted_parts a m) table atoms.over_parts;
   }
 
--- nothing is seen, and there is no branch
-pub begins_shown : FlatSaysTheSame → AtomsAreOfStack → (s : Stack) (marks : List Bool) (table : List Atom) → IsLawful s → AreStackParts s marks → AreCheckAtoms s marks table → AreShown s [] None table
-begins_shown flat_law stack_law s marks table lawful parts atoms = record {
-  branches = tt;
-  atoms = first_atoms flat_law s table (stack_law s marks table lawful parts atoms);
-  seen = tt;
-  leaves = over_leaves flat_law s table atoms.leaves;
-}
+module _ (flat_law : FlatSaysTheSame) (stack_law : AtomsAreOfStack) (s : Stack) (marks : List Bool) (table : List Atom) (lawful : IsLawful s) (parts : AreStackParts s marks) (atoms : AreCheckAtoms s marks table) where
+  -- the sums of leaves and of the first atoms are of the check
+  pub begins_known : (own : List ℕ) → All (IsLeaf s.trees (flat s.frames)) own → (sums : List (List Summand)) → AllPairs (λ (ps qs : List Summand). ps ≢ qs) sums → All (IsSumIn (with_leaves own table)) sums
+      → AreCheckSums s.trees (flat s.frames) sums
+  begins_known own leaves sums apart h =
+      check_sums s [] [] tt table (first_atoms flat_law s table (stack_law s marks table lawful parts atoms)) (over_leaves flat_law s table atoms.leaves) own leaves sums apart h
+
+  -- nothing is seen, and there is no branch
+  pub begins_shown : (sums : List (List Summand)) → AreCheckSums s.trees (flat s.frames) sums → AreShown s sums [] None table
+  begins_shown sums known = record {
+    sums_known = known;
+    branches = tt;
+    atoms = first_atoms flat_law s table (stack_law s marks table lawful parts atoms);
+    seen = tt;
+    leaves = over_leaves flat_law s table atoms.leaves;
+  }
+
+  pub error_seen : (e : BoundError) → IsErrorIn table e → IsErrorSeen s e
+  error_seen Memory h = tt
+  error_seen (Range g) h =
+      let known : AreCheckSums s.trees (flat s.frames) h.sums = begins_known [] (All-nil (IsLeaf s.trees (flat s.frames))) h.sums h.apart h.columns in
+      record { sums = h.sums; known = known; are_branches = tt; leaves = step_left s h.sums [] None table (begins_shown h.sums known) g h.past }

@@ -1,19 +1,18 @@
 -- One branch more.
-use Rattle.std.proofs.Common.{List, [], ◌∷◌, ◌++◌, ℤ, inl, inr}
-use Rattle.std.proofs.lemmas.List.Elements.{All-weaker}
+use Rattle.std.proofs.Common.{List, [], ◌∷◌, ◌++◌, ℤ, inl, inr, subst}
+use Rattle.std.proofs.lemmas.List.{append-nil}
 use Rattle.fraction128.specs.declared.Summand.{Summand as GridSummand}
-use Rattle.fraction128.specs.declared.Side.{Side}
-use Rattle.fraction128.specs.declared.Side.TheVariants.{Lower, Upper}
-use Rattle.fraction128.specs.declared.Column.{Column}
-use Rattle.fraction128.specs.declared.Member.{Member}
 use Rattle.fraction128.specs.declared.Line.{Line}
 use Rattle.fraction128.specs.declared.Grid.{Grid}
-use Rattle.fraction128.specs.Grid.{column_at}
-use Rattle.fraction128.specs.Lines.{IsBoundedBy, IsResting, IsSoundGrid, IsSoundLine}
+use Rattle.fraction128.specs.Lines.{Bounding, IsSoundGrid, IsRowIn}
 use Rattle.smt_meaning.specs.declared.clauses.Atom.{Atom}
+use Rattle.smt_meaning.specs.declared.reports.RangeSeen.{RangeSeen}
+use Rattle.smt_meaning.specs.declared.reports.RangeSeen.TheVariants.{Coefficient, Pair, Argument, Step, Model}
 use Rattle.smt_meaning.specs.Term.{Tree}
 use Rattle.smt_meaning.specs.Stack.{Frame}
 use Rattle.smt_meaning.specs.CheckAtoms.{IsBoundOf, IsBranch, IsOfBranch, WithBranch, WithBranches, EachIsBranch}
+use Rattle.smt_meaning.specs.Ranges.{LeavesRange}
+use Rattle.search_port.proofs.Pivots.{grid_by, row_by, bound_by}
 
 -- ---- lists of branches
 
@@ -33,38 +32,56 @@ with_newest Is [] l a h = inr h
 with_newest Is (m ∷ ls) l a h = with_newest (WithBranch Is m) ls l a h
 
 -- the newest is a branch over the atoms with those before it
-pub each_more : (ts : List Tree) (frames : List Frame) (Is : Atom → Type 0) (ls : List Line) (l : Line) → EachIsBranch ts frames Is ls → IsBranch ts frames (WithBranches Is ls) l
-    → EachIsBranch ts frames Is (ls ++ l ∷ [])
-each_more ts frames Is [] l each one = (one, tt)
-each_more ts frames Is (m ∷ ls) l each one = (each.0, each_more ts frames (WithBranch Is m) ls l each.1 one)
+pub each_more : (ts : List Tree) (frames : List Frame) (sums : List (List GridSummand)) (Is : Atom → Type 0) (ls : List Line) (l : Line) → EachIsBranch ts frames sums Is ls
+    → IsBranch ts frames sums (WithBranches Is ls) l → EachIsBranch ts frames sums Is (ls ++ l ∷ [])
+each_more ts frames sums Is [] l each one = (one, tt)
+each_more ts frames sums Is (m ∷ ls) l each one = (each.0, each_more ts frames sums (WithBranch Is m) ls l each.1 one)
 
--- ---- lines over fewer atoms
+-- ---- grids and rows over more atoms
 
-module _ (P Q : Atom → Type 0) (f : (a : Atom) → P a → Q a) where
-  bound_of : (sum : List GridSummand) (side : Side) (k : ℤ) → IsBoundOf P sum side k → IsBoundOf Q sum side k
-  bound_of sum side k h = record { terms = h.terms; most = h.most; positive = h.positive; atom = f _ h.atom; sum_is = h.sum_is; side_is = h.side_is; number_is = h.number_is }
+module _ (P Q : Atom → Type 0) (f : (a : Atom) → P a → Q a) (sums : List (List GridSummand)) where
+  pub grid_over : (g : Grid) → IsSoundGrid sums (IsBoundOf P) g → IsSoundGrid sums (IsBoundOf Q) g
+  grid_over g h = subst (λ xs. IsSoundGrid xs (IsBoundOf Q) g) (append-nil sums) (grid_by (IsBoundOf P) (IsBoundOf Q) (bound_by P Q f) sums [] g h)
 
-  bounded : (c : Column) → IsBoundedBy (IsBoundOf P) c → IsBoundedBy (IsBoundOf Q) c
-  bounded c h = record { lower = λ k e. bound_of c.sum Lower k (h.lower k e); upper = λ k e. bound_of c.sum Upper k (h.upper k e) }
+  pub row_over : (l : Line) → IsRowIn sums (IsBoundOf P) l → IsRowIn sums (IsBoundOf Q) l
+  row_over l h = subst (λ xs. IsRowIn xs (IsBoundOf Q) l) (append-nil sums) (row_by (IsBoundOf P) (IsBoundOf Q) (bound_by P Q f) sums [] l h)
 
-  resting : (c : Column) → IsResting (IsBoundOf P) c → IsResting (IsBoundOf Q) c
-  resting c (inl h) = inl h
-  resting c (inr h) = inr (h.0, h.1, h.2, bound_of c.sum h.0 h.1 h.3)
+-- ---- with more variables
 
-  pub line_over : (l : Line) → IsSoundLine (IsBoundOf P) l → IsSoundLine (IsBoundOf Q) l
-  line_over l h = record {
-    basic = h.basic;
-    is_basic = h.is_basic;
-    row = h.row;
-    bounded = bounded h.basic.column h.bounded;
-    entries_bounded = All-weaker (λ (m : Member). IsBoundedBy (IsBoundOf P) m.column) (λ (m : Member). IsBoundedBy (IsBoundOf Q) m.column) (λ (m : Member) b. bounded m.column b) l.entries h.entries_bounded;
-    resting = All-weaker (λ (m : Member). IsResting (IsBoundOf P) m.column) (λ (m : Member). IsResting (IsBoundOf Q) m.column) (λ (m : Member) b. resting m.column b) l.entries h.resting;
+module _ (sums more : List (List GridSummand)) where
+  pub grid_longer : (B : Bounding) (g : Grid) → IsSoundGrid sums B g → IsSoundGrid (sums ++ more) B g
+  grid_longer B g h = grid_by B B (λ sum side k b. b) sums more g h
+
+  row_longer : (B : Bounding) (l : Line) → IsRowIn sums B l → IsRowIn (sums ++ more) B l
+  row_longer B l h = row_by B B (λ sum side k b. b) sums more l h
+
+  pub each_longer : (ts : List Tree) (frames : List Frame) (Is : Atom → Type 0) (ls : List Line) → EachIsBranch ts frames sums Is ls → EachIsBranch ts frames (sums ++ more) Is ls
+  each_longer ts frames Is [] h = tt
+  each_longer ts frames Is (l ∷ ls) h = (
+    record { term = h.0.term; floor = h.0.floor; is_leaf = h.0.is_leaf; row = row_longer (IsBoundOf Is) l h.0.row; branches = h.0.branches },
+    each_longer ts frames (WithBranch Is l) ls h.1,
+  )
+
+  pub range_longer : (ts : List Tree) (frames : List Frame) (Is : Atom → Type 0) (seen : RangeSeen) → LeavesRange ts frames sums Is seen → LeavesRange ts frames (sums ++ more) Is seen
+  range_longer ts frames Is (Coefficient t) h = h
+  range_longer ts frames Is (Pair s t) h = h
+  range_longer ts frames Is (Argument t g) h = record {
+    tree = h.tree;
+    argument = h.argument;
+    grid = grid_longer (IsBoundOf Is) g h.grid;
+    within = h.within;
+    numbers = h.numbers;
+    values = h.values;
+    outside = h.outside;
   }
-
-  pub grid_over : (g : Grid) → IsSoundGrid (IsBoundOf P) g → IsSoundGrid (IsBoundOf Q) g
-  grid_over g h = record {
-    identities = h.identities;
-    meets = h.meets;
-    bounded = λ i less. bounded (column_at g i) (h.bounded i less);
-    resting = λ i less free. resting (column_at g i) (h.resting i less free);
+  range_longer ts frames Is (Step g) h = record { grid = grid_longer (IsBoundOf Is) g h.grid; pending = h.pending; next = h.next }
+  range_longer ts frames Is (Model i t g) h = record {
+    tree = h.tree;
+    part = h.part;
+    place_is = h.place_is;
+    tables = h.tables;
+    holds = h.holds;
+    outside = h.outside;
+    grid = grid_longer (IsBoundOf Is) g h.grid;
+    values = h.values;
   }

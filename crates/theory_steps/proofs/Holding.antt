@@ -20,7 +20,6 @@ use Rattle.bound_log.specs.Reporting.{IsClause}
 use Rattle.theory_steps.specs.declared.held.Held.{Held}
 use Rattle.theory_steps.specs.declared.held.Met.{Met}
 use Rattle.theory_steps.specs.declared.held.Met.TheVariants.{Fits, Conflict, Past, Spent, Ended}
-use Rattle.theory_steps.specs.Columns.{with_leaves}
 use Rattle.theory_steps.specs.Held.{IsHeld, IsMet, IsMetBy}
 
 pub at_one_level : FlatSaysTheSame → (s : Stack) (table : List Atom) (h : Held) → IsSetting s table → IsHeld s table h → IsToldAtOneLevel (signature_of s.frames) (state_of s table h.closure.log.items)
@@ -36,11 +35,11 @@ at_one_level flat_law s table h setting held =
 
 -- what the bounds have is a conflict of what is held, or a grid of its atoms
 pub met : FlatSaysTheSame → (s : Stack) (table : List Atom) (h : Held) (b : State) (m : Met) → IsSetting s table → (held : IsHeld s table h) → Knows table b → b.log ≡ h.bounds.log
-    → IsMetBy b table (with_leaves held.columns.own table) m → IsMet (state_of s table h.closure.log.items) m
-met flat_law s table h b Fits setting held knows log by = tt
+    → IsMetBy b table m → IsMet b (state_of s table h.closure.log.items) m
+met flat_law s table h b Fits setting held knows log by = by
 met flat_law s table h b (Conflict c) setting held knows log by =
     by.conflict (signature_of s.frames) (state_of s table h.closure.log.items) knows (sym (log ∙ held.same)) (at_one_level flat_law s table h setting held)
-met flat_law s table h b (Past g) setting held knows log by = record { own = held.columns.own; leaves = held.columns.leaves; past = by }
+met flat_law s table h b (Past g) setting held knows log by = by
 met flat_law s table h b Spent setting held knows log by = tt
 met flat_law s table h b Ended setting held knows log by = tt
 

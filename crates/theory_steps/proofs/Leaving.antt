@@ -31,7 +31,8 @@ use Rattle.term_store.proofs.PlaceLemmas.{place_of-is}
 use Rattle.smt_laws.specs.Flat.{flat, FlatSaysTheSame}
 use Rattle.check_clauses.proofs.Parts.{picked_is}
 use Rattle.model_eval.specs.Walk.{is_marked}
-use Rattle.sum_bounds.specs.Bounds.{State, AreApart, leaf_values}
+use Rattle.simplex.specs.Sums.{HaveOwnSums}
+use Rattle.sum_bounds.specs.Bounds.{State, leaf_values}
 use Rattle.sum_bounds.proofs.Parts.{has_variable}
 use Rattle.bound_log.specs.Values.{numbers_of}
 use Rattle.bound_log.specs.Told as Told
@@ -101,7 +102,7 @@ within_both c low high = ap₂ (λ (a b : Bool). if a then c.lower else if b the
 number_same : (n : ℤ) (d : ℕ) → d ≡ 1 → n *ℤ pos 1 ≡ n *ℤ pos d
 number_same n d e = ap (λ k. n *ℤ pos k) (sym e)
 
-has_value : (s : Told.State) → AreApart s.bounds.columns → (term : ℕ) → HasWhole s.bounds term → HasValue (plain_grid s) term (whole (numbers_of s.bounds term))
+has_value : (s : Told.State) → HaveOwnSums s.bounds.columns → (term : ℕ) → HasWhole s.bounds term → HasValue (plain_grid s) term (whole (numbers_of s.bounds term))
 has_value s apart term h = record {
   within = (has_variable s.bounds.columns term apart h.leaf).0;
   value = number_same (leaf_values s.bounds term).numerator (leaf_values s.bounds term).denominator h.is_whole;
@@ -148,12 +149,12 @@ module _ (flat_law : FlatSaysTheSame) (s : Stack) (marks : List Bool) (of_assert
       }
 
 -- of the check
-pub argument_left : (s : Stack) (rows : List Line) (left : Option RangeSeen) (table : List Atom) → AreShown s rows left table → (b : Told.State) (p : ℕ) (g : Grid) → AreApart b.bounds.columns → g ≡ plain_grid b
-    → IsSoundGrid (IsBoundOf (Contains table)) g → All WithinBounds g.columns → IsPastArgument s b.bounds p → LeavesInArgument s.trees (flat s.frames) (IsOfCheck s rows) p g
-argument_left s rows left table shown b p g apart exact sound within h = record {
+pub argument_left : (s : Stack) (b : Told.State) (rows : List Line) (left : Option RangeSeen) (table : List Atom) → AreShown s (Told.column_sums b) rows left table → (p : ℕ) (g : Grid) → HaveOwnSums b.bounds.columns → g ≡ plain_grid b
+    → IsSoundGrid (Told.column_sums b) (IsBoundOf (Contains table)) g → All WithinBounds g.columns → IsPastArgument s b.bounds p → LeavesInArgument s.trees (flat s.frames) (Told.column_sums b) (IsOfCheck s rows) p g
+argument_left s b rows left table shown p g apart exact sound within h = record {
   tree = tree_at s.trees p;
   argument = h.argument;
-  grid = grid_over (Contains table) (IsOfCheck s rows) (λ a c. All-contains (IsOfCheck s rows) table a shown.atoms c) g sound;
+  grid = grid_over (Contains table) (IsOfCheck s rows) (λ a c. All-contains (IsOfCheck s rows) table a shown.atoms c) (Told.column_sums b) g sound;
   within = within;
   numbers = numbers_of b.bounds;
   values =

@@ -1,10 +1,12 @@
 pub mod Beginning
 pub mod Branching
+pub mod Calling
 pub mod Comparing
 pub mod Cycling
 pub mod Fitting
 pub mod Following
 pub mod Going
+pub mod Growing
 pub mod Holding
 pub mod Leaving
 pub mod Marking
@@ -15,5 +17,6 @@ pub mod Past
 pub mod Rows
 pub mod Saying
 pub mod Spending
+pub mod Sums
 pub mod Telling
 pub mod Tying

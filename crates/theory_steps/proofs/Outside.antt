@@ -2,6 +2,7 @@
 use Rattle.std.proofs.Common.{List, Contains}
 use Rattle.std.proofs.lemmas.List.Elements.{All-contains}
 use Rattle.std.specs.Prelude.{ℕ, Option}
+use Rattle.fraction128.specs.declared.Summand.{Summand as GridSummand}
 use Rattle.fraction128.specs.declared.Grid.{Grid}
 use Rattle.fraction128.specs.declared.Line.{Line}
 use Rattle.smt_meaning.specs.declared.values.Table.{Table}
@@ -13,15 +14,15 @@ use Rattle.smt_laws.specs.Flat.{flat}
 use Rattle.theory_steps.specs.Shown.{AreShown, IsOfCheck}
 use Rattle.theory_steps.proofs.Branching.{grid_over}
 
-pub model_left : (s : Stack) (rows : List Line) (left : Option RangeSeen) (table : List Atom) → AreShown s rows left table → (tables : List Table) (place : ℕ) (g : Grid)
-    → LeavesInModel s.trees (flat s.frames) (Contains table) tables place g → LeavesInModel s.trees (flat s.frames) (IsOfCheck s rows) tables place g
-model_left s rows left table shown tables place g h = record {
+pub model_left : (s : Stack) (sums : List (List GridSummand)) (rows : List Line) (left : Option RangeSeen) (table : List Atom) → AreShown s sums rows left table → (tables : List Table) (place : ℕ) (g : Grid)
+    → LeavesInModel s.trees (flat s.frames) sums (Contains table) tables place g → LeavesInModel s.trees (flat s.frames) sums (IsOfCheck s rows) tables place g
+model_left s sums rows left table shown tables place g h = record {
   tree = h.tree;
   part = h.part;
   place_is = h.place_is;
   tables = h.tables;
   holds = h.holds;
   outside = h.outside;
-  grid = grid_over (Contains table) (IsOfCheck s rows) (λ a c. All-contains (IsOfCheck s rows) table a shown.atoms c) g h.grid;
+  grid = grid_over (Contains table) (IsOfCheck s rows) (λ a c. All-contains (IsOfCheck s rows) table a shown.atoms c) sums g h.grid;
   values = h.values;
 }

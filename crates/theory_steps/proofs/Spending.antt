@@ -1,14 +1,17 @@
 -- Pivots that are spent, and what follows them in a call.
-use Rattle.std.specs.Prelude.{All, Option}
+use Rattle.std.specs.Prelude.{All, Contains, Option, Some, None}
 use Rattle.std.specs.List.{range_with_len}
-use Rattle.std.proofs.Common.{◌≡◌, ◌∙◌, ℕ, ◌+◌, ◌≤◌, Bool, true, false, List, [], ◌∷◌, ◌++◌, take, min, length, append_assoc, refl, sym, ap, subst, arith}
-use Rattle.std.proofs.lemmas.List.{append-nil, length-append, length-map, length-take}
-use Rattle.std.proofs.lemmas.List.Elements.{All-weaker, All-append, All-map, All-take}
+use Rattle.std.proofs.Common.{◌≡◌, ◌∙◌, ℕ, ◌+◌, ◌≤◌, Bool, true, false, List, [], ◌∷◌, ◌++◌, take, drop, min, length, append_assoc, refl, sym, ap, ap₂, subst, arith}
+use Rattle.std.proofs.lemmas.List.{append-nil, length-append, length-map, length-take, take_at, take-append-drop}
+use Rattle.std.proofs.lemmas.List.Elements.{All-weaker, All-append, All-map}
 use Rattle.fraction128.specs.declared.Line.{Line}
+use Rattle.fraction128.specs.Lines.{HasBasis, basis_along, first_basis}
+use Rattle.smt_meaning.specs.declared.clauses.Atom.{Atom}
+use Rattle.smt_meaning.specs.CheckAtoms.{IsBoundOf}
 use Rattle.literals.specs.Signed.{Signed}
 use Rattle.search_port.specs.State.{Reading, TheoryState, IsGrown, IsPressing, IsMadeTrue}
 use Rattle.search_port.specs.Spending.{Spending}
-use Rattle.search_port.specs.Calls.{Goes, IsPivot, IsNoPivot, IsTheoryUnit, AreNews, InferredBy, CheckedBy, numbers}
+use Rattle.search_port.specs.Calls.{Goes, IsNoPivot, IsTheoryUnit, AreNews, InferredBy, CheckedBy, numbers}
 use Rattle.search_port.specs.declared.budget.Lemma.{Lemma}
 use Rattle.search_port.specs.declared.budget.Spent.{Spent}
 use Rattle.search_port.specs.declared.budget.Spent.TheVariants.{Learnt, Numbered, Pivot}
@@ -16,10 +19,11 @@ use Rattle.search_port.specs.declared.theory.Inferred.{Inferred}
 use Rattle.search_port.specs.declared.theory.Inferred.TheVariants.{Quiet, Conflict as InferConflict, Lemmas as InferLemmas, Ended as InferEnded}
 use Rattle.search_port.specs.declared.theory.Checked.{Checked}
 use Rattle.search_port.specs.declared.theory.Checked.TheVariants.{Fine, Conflict as CheckConflict, Lemmas as CheckLemmas, Ended as CheckEnded}
-use Rattle.search_port.proofs.Pivots.{pivot_grown}
+use Rattle.search_port.specs.Pivots.{pivot_lines, ArePivotsFrom, AreBasic, KeepsPivots}
 use Rattle.bound_log.specs.declared.report.Report.{Report}
 use Rattle.bound_log.specs.declared.report.Report.TheVariants.{UnitsSpent}
-use Rattle.bound_log.specs.Told.{State}
+use Rattle.bound_log.specs.Told.{State, column_sums}
+use Rattle.bound_log.specs.Pending.{plain_grid}
 use Rattle.bound_log.specs.Atoms.{Knows}
 use Rattle.bound_log.specs.Pivots.{AddsPivots}
 use Rattle.bound_log.specs.Reporting.{SpendsRoom}
@@ -32,15 +36,19 @@ use Rattle.theory_steps.specs.declared.parts.Progress.{Progress}
 use Rattle.theory_steps.specs.Held.{IsHeld}
 use Rattle.theory_steps.specs.Numbering.{table_of}
 use Rattle.theory_steps.specs.Pivots.{ArePivotsOf, pivot_units, SpendsPivots}
-use Rattle.theory_steps.specs.Progress.{state, IsUnderWay, Went}
-use Rattle.theory_steps.proofs.Going.{went_still}
+use Rattle.theory_steps.specs.Columns.{variables_of}
+use Rattle.theory_steps.specs.Shown.{AreShown}
+use Rattle.theory_steps.specs.Progress.{full_state, state, IsUnderWay, Went}
+use Rattle.theory_steps.proofs.Going.{full_of, held_under_way, to_progress}
+use Rattle.theory_steps.proofs.Growing.{first_pivots, lines_grown, lines_pivoted, none_told, pivots_made}
 
 -- ---- the lines of a check
 
-pub are_pivots : (t : TheoryState) (b : State) (keep : Bool) (made room : ℕ) (r : Report) (m : Meeting) → Knows t.reading.table b → AddsPivots b keep made [] m.lines.items → made ≤ room → SpendsRoom room made r → (m.met ≡ MetSpent → r ≡ UnitsSpent)
-    → ArePivotsOf t keep room m
-are_pivots t b keep made room r m knows adds most spends ended = record {
-  pivots = subst (All (IsPivot t.reading)) (sym adds.is) (λ k d lt. record { row = adds.sound t.reading.table knows k d lt; by_rule = adds.by_rule k d lt });
+pub are_pivots : (old new : State) (table : List Atom) (keep : Bool) (made room : ℕ) (r : Report) (m : Meeting) → Knows table old → AddsPivots old new keep made [] m.lines.items → made ≤ room → SpendsRoom room made r
+    → (m.met ≡ MetSpent → r ≡ UnitsSpent) → ArePivotsOf old new table keep room m
+are_pivots old new table keep made room r m knows adds most spends ended = record {
+  pivots = λ e is has. subst (λ ls. ArePivotsFrom (column_sums old) (IsBoundOf (Contains table)) is ls) (sym adds.is) (adds.pivots e table is knows has);
+  basis = λ e is has. subst (λ ls. HasBasis (basis_along is ls) (plain_grid new)) (sym adds.is) (adds.basis e is has);
   within = by keep refl;
   none = λ e. adds.is ∙ adds.none e;
   spent = λ e w. ap length adds.is ∙ adds.count e ∙ subst (SpendsRoom room made) (ended w) spends;
@@ -74,7 +82,7 @@ none_numbered t b c h =
 unit_later : (r q : Reading) → IsGrown r q → (u : Spent) → IsTheoryUnit r r u → IsTheoryUnit r q u
 unit_later r q g (Learnt c) h = absurd h
 unit_later r q g (Numbered n) h = let past = h.0 in let below = h.1 in absurd (omega (arith, past, below))
-unit_later r q g (Pivot l) h = pivot_grown r q g l h
+unit_later r q g (Pivot l) h = tt
 
 with_units : Spending → List Spent → Spending
 with_units b us = record b { units = us }
@@ -105,6 +113,7 @@ pub went_then : (p : Parts) (old middle new : Progress) (b c d : Spending) → s
 went_then p old middle new b c d same h k = (
   k.0,
   goes_after (state p old) (state p new) b c d (subst (λ (t : TheoryState). Goes (state p old) t b c) same h.1) (subst (λ (t : TheoryState). Goes t (state p new) c d) same k.1),
+  λ e x. k.2 (ap (λ (y : Spending). y.keeps_lines) h.1.budget ∙ e) (h.2 e x),
 )
 
 pub units_rise : (t u : TheoryState) (b c : Spending) → Goes t u b c → length b.units ≤ length c.units
@@ -131,8 +140,8 @@ checked_before t b c d (CheckEnded cause) less h = h
 not_false : true ≡ false → ⊥
 not_false e = cc
 
-goes_pivots : (t : TheoryState) (b c : Spending) (ls : List Line) → SpendsPivots ls b c → All (IsPivot t.reading) ls → length b.units + length ls ≤ b.bound → b.keeps_lines ≡ true → Goes t t b c
-goes_pivots t b c ls spends pivots room keeps =
+goes_pivots : (t : TheoryState) (b c : Spending) (ls : List Line) → SpendsPivots ls b c → length b.units + length ls ≤ b.bound → b.keeps_lines ≡ true → Goes t t b c
+goes_pivots t b c ls spends room keeps =
     let first = take spends.count ls in
     let as_many : length (pivot_units first) ≡ length first = length-map first Pivot in
     let few : length first ≡ min spends.count (length ls) = length-take spends.count ls in
@@ -141,25 +150,62 @@ goes_pivots t b c ls spends pivots room keeps =
       log = refl;
       added = pivot_units first;
       budget = spends.is;
-      units = All-map (IsTheoryUnit t.reading t.reading) Pivot first (All-take (IsPivot t.reading) spends.count ls pivots);
+      units = All-map (IsTheoryUnit t.reading t.reading) Pivot first (λ k d lt. tt);
       in_bound = omega (arith, as_many, few, room);
       no_pivots = λ e. absurd (not_false (sym keeps ∙ e));
       numbered = pivots_number_none first;
       paid = omega arith;
     }
 
-pub went_pivots : (p : Parts) (old new : Progress) (b c : Spending) (ls : List Line) → state p new ≡ state p old → IsUnderWay p new → SpendsPivots ls b c → All (IsPivot (state p new).reading) ls
-    → length b.units + length ls ≤ b.bound → b.keeps_lines ≡ true → Went p old new b c
-went_pivots p old new b c ls same under_way spends pivots room keeps = (
-  (went_still p new b under_way (omega (arith, room))).0,
-  subst (λ (t : TheoryState). Goes t (state p new) b c) same (goes_pivots (state p new) b c ls spends pivots room keeps),
-)
-
--- the bounds were met by so many pivots, the first of which are spent
+-- the bounds were met by so many pivots, all of which are spent
 pub went_by_units : (p : Parts) (w : Progress) (h : Held) (b c : Spending) (room : ℕ) (m : Meeting) → IsUnderWay p w → IsHeld p.stack.now w.atoms.atoms h → h.closure.log.items ≡ w.held.closure.log.items
-    → ArePivotsOf (state_of p.stack.now w.atoms.atoms h.closure.log.items) true room m → length b.units + room ≡ b.bound → SpendsPivots m.lines.items b c → b.keeps_lines ≡ true → Went p w (record w { held = h }) b c
-went_by_units p w h b c room m u held log are rest spends keeps =
-    let pivots = subst (λ (o : Option ℕ). All (IsPivot (state_of p.stack.now (table_of o w.atoms.atoms) h.closure.log.items).reading) m.lines.items) (sym u.2) are.pivots in
+    → column_sums h.bounds ≡ column_sums w.held.bounds → ArePivotsOf w.held.bounds h.bounds w.atoms.atoms true room m → length b.units + room ≡ b.bound → SpendsPivots m.lines.items b c
+    → c.units ≡ b.units ++ pivot_units m.lines.items → b.keeps_lines ≡ true → Went p w (record w { held = h }) b c
+went_by_units p w h b c room m u held log sums are rest spends all keeps =
     let within : length m.lines.items ≤ room = are.within in
-    went_pivots p w (record w { held = h }) b c m.lines.items (ap (λ (ls : List Signed). state_of p.stack.now (table_of w.lost w.atoms.atoms) ls) log)
-    (u.0, record { setting = u.1.setting; marked = u.1.marked; held = held }, u.2, u.3) spends pivots (omega (arith, within, rest)) keeps
+    let lines : pivot_lines c.units ≡ pivot_lines b.units ++ m.lines.items = ap pivot_lines all ∙ lines_pivoted b.units m.lines.items in (
+      to_progress p (record w { held = h }) (held_under_way p w h u held sums),
+      subst (λ (ls : List Signed). Goes (state p w) (state_of p.stack.now (table_of w.lost w.atoms.atoms) ls) b c) (sym log) (goes_pivots (state p w) b c m.lines.items spends (omega (arith, within, rest)) keeps),
+      subst (λ (o : Option ℕ). KeepsPivots (full_of p.stack.now o w.atoms.atoms w.held.closure.log.items w.held.bounds) (full_of p.stack.now o w.atoms.atoms h.closure.log.items h.bounds) b c) (sym u.2)
+          (λ e x.
+          (let r = pivots_made w.atoms.atoms w.held.bounds h.bounds (pivot_lines b.units) m.lines.items sums (are.pivots refl) (are.basis refl) x.lines x.basis in
+          record {
+            lines = subst (λ ls. ArePivotsFrom (column_sums h.bounds) (IsBoundOf (Contains w.atoms.atoms)) (first_basis (column_sums h.bounds)) ls) (sym lines) r.0;
+            basis = subst (λ ls. AreBasic (basis_along (first_basis (column_sums h.bounds)) ls) (variables_of None h.bounds)) (sym lines) r.1;
+          })),
+    )
+
+-- memory was wanting for one of them, and nothing more is held
+pub went_unspent : (p : Parts) (w : Progress) (h : Held) (b c : Spending) (room n : ℕ) (m : Meeting) → IsUnderWay p w → IsHeld p.stack.now w.atoms.atoms h → h.closure.log.items ≡ w.held.closure.log.items
+    → column_sums h.bounds ≡ column_sums w.held.bounds → ArePivotsOf w.held.bounds h.bounds w.atoms.atoms true room m → length b.units + room ≡ b.bound → SpendsPivots m.lines.items b c
+    → n ≡ length w.atoms.atoms → b.keeps_lines ≡ true → Went p w (record w { held = h; lost = Some n }) b c
+went_unspent p w h b c room n m u held log sums are rest spends count keeps =
+    let within : length m.lines.items ≤ room = are.within in
+    let first : List Line = take spends.count m.lines.items in
+    let table : table_of w.lost w.atoms.atoms ≡ take n w.atoms.atoms = ap (λ (o : Option ℕ). table_of o w.atoms.atoms) u.2 ∙ sym (ap (λ k. take k w.atoms.atoms) count ∙ take_all w.atoms.atoms) in
+    let same : state p w ≡ state_of p.stack.now (take n w.atoms.atoms) h.closure.log.items = ap₂ (λ (t : List Atom) (ls : List Signed). state_of p.stack.now t ls) table (sym log) in
+    let lines : pivot_lines c.units ≡ pivot_lines b.units ++ first = ap (λ (d : Spending). pivot_lines d.units) spends.is ∙ lines_pivoted b.units first in
+    let shown : AreShown p.stack.now (column_sums h.bounds) w.branches w.seen (take n w.atoms.atoms) =
+    subst (λ (t : List Atom). AreShown p.stack.now (column_sums h.bounds) w.branches w.seen t) (sym (ap (λ k. take k w.atoms.atoms) count ∙ take_all w.atoms.atoms))
+    (subst (λ xs. AreShown p.stack.now xs w.branches w.seen w.atoms.atoms) (sym sums) u.3) in
+    let over : (a : Atom) → Contains w.atoms.atoms a → Contains (take n w.atoms.atoms) a =
+    λ a k. subst (λ (t : List Atom). Contains t a) (sym (ap (λ j. take j w.atoms.atoms) count ∙ take_all w.atoms.atoms)) k in (
+      (u.0, omega (arith, count), shown),
+      subst (λ (t : TheoryState). Goes (state p w) t b c) same (goes_pivots (state p w) b c m.lines.items spends (omega (arith, within, rest)) keeps),
+      subst (λ (o : Option ℕ). KeepsPivots (full_of p.stack.now o w.atoms.atoms w.held.closure.log.items w.held.bounds) (full_state p (record w { held = h; lost = Some n })) b c) (sym u.2)
+          (λ e x.
+          (let r = pivots_made w.atoms.atoms w.held.bounds h.bounds (pivot_lines b.units) m.lines.items sums (are.pivots refl) (are.basis refl) x.lines x.basis in
+          let fewer : ArePivotsFrom (column_sums h.bounds) (IsBoundOf (Contains w.atoms.atoms)) (first_basis (column_sums h.bounds)) (pivot_lines b.units ++ first) =
+          first_pivots (column_sums h.bounds) (IsBoundOf (Contains w.atoms.atoms)) (first_basis (column_sums h.bounds)) (pivot_lines b.units ++ first) (drop spends.count m.lines.items)
+          (subst (λ ls. ArePivotsFrom (column_sums h.bounds) (IsBoundOf (Contains w.atoms.atoms)) (first_basis (column_sums h.bounds)) ls)
+          (ap (λ ls. pivot_lines b.units ++ ls) (sym (take-append-drop spends.count m.lines.items)) ∙ sym (append_assoc (pivot_lines b.units) first (drop spends.count m.lines.items))) r.0) in
+          record {
+            lines =
+                lines_grown w.atoms.atoms (take n w.atoms.atoms) over (column_sums h.bounds) [] (column_sums h.bounds) (pivot_lines c.units) (sym (append-nil (column_sums h.bounds)))
+                (subst (λ ls. ArePivotsFrom (column_sums h.bounds) (IsBoundOf (Contains w.atoms.atoms)) (first_basis (column_sums h.bounds)) ls) (sym lines) fewer);
+            basis = none_told (basis_along (first_basis (column_sums h.bounds)) (pivot_lines c.units)) h.bounds n;
+          })),
+    )
+  where
+    take_all : (xs : List Atom) → take (length xs) xs ≡ xs
+    take_all xs = ap (λ ys. take (length xs) ys) (sym (append-nil xs)) ∙ take_at xs [] (length xs) refl

@@ -1,5 +1,6 @@
 -- What a search begins with: truths are of Bools, by the sorts that are kept, nothing is told, and there is no branch.
 use Rattle.std.specs.Prelude.{◌≡◌, ℕ, ◌<◌, Bool, List, [], length, slice_index_or, None}
+use Rattle.fraction128.specs.Lines.{HasBasis, first_basis}
 use Rattle.smt_meaning.specs.declared.values.Sort.{Sort}
 use Rattle.smt_meaning.specs.declared.values.Sort.TheVariants.{Bool as Truths, Int as Ints}
 use Rattle.smt_meaning.specs.declared.clauses.Atom.{Atom}
@@ -10,6 +11,8 @@ use Rattle.model_build.specs.Parts.{AreSortedParts}
 use Rattle.atom_numbers.specs.Atoms.{Atoms}
 use Rattle.atom_numbers.specs.declared.atom.NumberedAtom.{NumberedAtom}
 use Rattle.atom_numbers.specs.declared.atom.NumberedAtom.TheVariants.{Truth, Same, Bound}
+use Rattle.bound_log.specs.Told.{column_sums}
+use Rattle.bound_log.specs.Pending.{plain_grid}
 use Rattle.theory_steps.specs.declared.start.Begun.{Begun}
 use Rattle.theory_steps.specs.Numbering.{IsWhole}
 use Rattle.theory_steps.specs.Pairs.{HaveReadable}
@@ -29,11 +32,12 @@ IsTruthOfBool sorts (TruthAtom p) = IsBoolPlace sorts p
 IsTruthOfBool sorts (SameAtom p q) = Unit {0}
 IsTruthOfBool sorts (AtMost sum k) = Unit {0}
 
--- nothing is told of the parts of a stack and their atoms
+-- nothing is told of the parts of a stack and their atoms, and no pivot was made
 pub record IsBegun (s : Stack) (marks : List Bool) (atoms : Atoms) (b : Begun) : Type 0 where
   pub parts : AreSortedParts (signature_of s.frames) s.trees marks
   pub readable : HaveReadable s.trees marks b.readable.items
   pub of_assertions : AreOfAssertions s marks
   pub whole : IsWhole s marks atoms b.held
   pub log : b.held.closure.log.items ≡ []
-  pub shown : AreShown s [] None atoms.atoms
+  pub shown : AreShown s (column_sums b.held.bounds) [] None atoms.atoms
+  pub basis : HasBasis (first_basis (column_sums b.held.bounds)) (plain_grid b.held.bounds)

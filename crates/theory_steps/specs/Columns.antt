@@ -1,11 +1,14 @@
 -- The variables of bounds, as those of leaves and of a table's atoms.
-use Rattle.std.specs.Prelude.{ℕ, List, map, ◌++◌, pos, All}
+use Rattle.std.specs.List.{range_with_len}
+use Rattle.std.specs.Prelude.{ℕ, Bool, List, map, length, ◌++◌, pos, All, Option, Some, None}
+use Rattle.fraction128.specs.Grid.{is_basic}
 use Rattle.smt_meaning.specs.declared.clauses.Atom.{Atom}
 use Rattle.smt_meaning.specs.StackCommand.{Stack}
 use Rattle.smt_meaning.specs.Boxes.{term_at_most}
 use Rattle.smt_meaning.specs.CheckAtoms.{IsLeaf}
 use Rattle.smt_laws.specs.Flat.{flat}
-use Rattle.bound_log.specs.Told.{State}
+use Rattle.search_port.specs.State.{Variables}
+use Rattle.bound_log.specs.Told.{State, column_sums}
 use Rattle.bound_log.specs.Columns.{HasColumnsOf}
 
 -- a bound on the leaf alone
@@ -21,3 +24,15 @@ pub record HasKnownColumns (s : Stack) (table : List Atom) (b : State) : Type 0 
   pub own : List ℕ
   pub leaves : All (IsLeaf s.trees (flat s.frames)) own
   pub columns : HasColumnsOf (with_leaves own table) b
+
+-- whether each variable is basic
+abbrev pub basic_flags : State → List Bool
+basic_flags b = map (is_basic b.bounds.table.rows) (range_with_len 0 (length (column_sums b)))
+
+-- what is told of the variables: once an atom was lost, no longer which are basic
+abbrev pub variables_of : Option ℕ → State → Variables
+variables_of lost b = record { sums = column_sums b; basic = by_loss lost }
+  where
+    by_loss : Option ℕ → Option (List Bool)
+    by_loss None = Some (basic_flags b)
+    by_loss (Some n) = None

@@ -7,13 +7,14 @@ use Rattle.search_port.specs.Calls.{IsConflict}
 use Rattle.closure_log.specs.Told.{IsTold}
 use Rattle.closure_log.specs.Places.{ArePlaces}
 use Rattle.bound_log.specs.Atoms.{Knows}
-use Rattle.bound_log.specs.Told.{State}
+use Rattle.simplex_steps.specs.Run.{AreWithin}
+use Rattle.bound_log.specs.Told.{State, column_sums}
 use Rattle.bound_log.specs.Reporting.{IsClause}
 use Rattle.theory_steps.specs.declared.held.Held.{Held}
 use Rattle.theory_steps.specs.declared.held.Met.{Met}
 use Rattle.theory_steps.specs.declared.held.Met.TheVariants.{Fits, Conflict, Past, Spent, Ended}
 use Rattle.theory_steps.specs.Columns.{HasKnownColumns}
-use Rattle.theory_steps.specs.Errors.{IsPastOver, IsPastOf}
+use Rattle.theory_steps.specs.Errors.{IsPastOver}
 
 -- the closure and the bounds are told the same literals of these atoms
 pub record IsHeld (s : Stack) (table : List Atom) (h : Held) : Type 0 where
@@ -24,18 +25,18 @@ pub record IsHeld (s : Stack) (table : List Atom) (h : Held) : Type 0 where
   pub told_at : ArePlaces h.closure.log.items h.scan.places.items
   pub columns : HasKnownColumns s table h.bounds
 
--- a clause that the bounds break is a conflict, and a grid that is past the range is one of the table
-abbrev pub IsMet : TheoryState → Met → Type 0
-IsMet t Fits = Unit {0}
-IsMet t (Conflict c) = IsConflict t c
-IsMet t (Past g) = IsPastOf t.reading.trees t.reading.frames t.reading.table g
-IsMet t Spent = Unit {0}
-IsMet t Ended = Unit {0}
+-- where all bounds are met the values are within them, a clause that the bounds break is a conflict, and a grid that is past the range is one of the table
+abbrev pub IsMet : State → TheoryState → Met → Type 0
+IsMet b t Fits = AreWithin b.bounds.columns
+IsMet b t (Conflict c) = IsConflict t c
+IsMet b t (Past g) = IsPastOver (column_sums b) t.reading.table g
+IsMet b t Spent = Unit {0}
+IsMet b t Ended = Unit {0}
 
--- the same of what the bounds have, for each table that they know and the atoms of all their variables
-abbrev pub IsMetBy : State → List Atom → List Atom → Met → Type 0
-IsMetBy b table all Fits = Unit {0}
-IsMetBy b table all (Conflict c) = IsClause b c
-IsMetBy b table all (Past g) = IsPastOver table all g
-IsMetBy b table all Spent = Unit {0}
-IsMetBy b table all Ended = Unit {0}
+-- the same of what the bounds have, for each table that they know
+abbrev pub IsMetBy : State → List Atom → Met → Type 0
+IsMetBy b table Fits = AreWithin b.bounds.columns
+IsMetBy b table (Conflict c) = IsClause b c
+IsMetBy b table (Past g) = IsPastOver (column_sums b) table g
+IsMetBy b table Spent = Unit {0}
+IsMetBy b table Ended = Unit {0}

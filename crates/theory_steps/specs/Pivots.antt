@@ -1,18 +1,23 @@
 -- Pivots as units of a check of the bounds.
-use Rattle.std.specs.Prelude.{◌≡◌, ℕ, ◌≤◌, Bool, true, false, List, [], ◌++◌, map, take, length, All}
+use Rattle.std.specs.Prelude.{◌≡◌, ℕ, ◌≤◌, Bool, true, false, List, [], ◌++◌, map, take, length, Contains}
 use Rattle.fraction128.specs.declared.Line.{Line}
-use Rattle.search_port.specs.State.{TheoryState}
+use Rattle.fraction128.specs.Lines.{HasBasis, basis_along}
+use Rattle.smt_meaning.specs.declared.clauses.Atom.{Atom}
+use Rattle.smt_meaning.specs.CheckAtoms.{IsBoundOf}
 use Rattle.search_port.specs.Spending.{Spending}
-use Rattle.search_port.specs.Calls.{IsPivot}
+use Rattle.search_port.specs.Pivots.{ArePivotsFrom}
 use Rattle.search_port.specs.declared.budget.Spent.{Spent as SpentUnit}
 use Rattle.search_port.specs.declared.budget.Spent.TheVariants.{Pivot}
+use Rattle.bound_log.specs.Told.{State, column_sums}
+use Rattle.bound_log.specs.Pending.{plain_grid}
 use Rattle.theory_steps.specs.declared.held.Met.{Met}
 use Rattle.theory_steps.specs.declared.held.Met.TheVariants.{Fits, Conflict, Past, Spent, Ended}
 use Rattle.theory_steps.specs.declared.held.Meeting.{Meeting}
 
--- where lines are kept, those of at most so many pivots over numbered atoms, and of so many where there was no room for another
-pub record ArePivotsOf (t : TheoryState) (keep : Bool) (room : ℕ) (m : Meeting) : Type 0 where
-  pub pivots : All (IsPivot t.reading) m.lines.items
+-- where lines are kept, those of at most so many pivots over these atoms from the old bounds to the new ones, and of so many where there was no room for another
+pub record ArePivotsOf (old new : State) (table : List Atom) (keep : Bool) (room : ℕ) (m : Meeting) : Type 0 where
+  pub pivots : keep ≡ true → (is : ℕ → Bool) → HasBasis is (plain_grid old) → ArePivotsFrom (column_sums old) (IsBoundOf (Contains table)) is m.lines.items
+  pub basis : keep ≡ true → (is : ℕ → Bool) → HasBasis is (plain_grid old) → HasBasis (basis_along is m.lines.items) (plain_grid new)
   pub within : length m.lines.items ≤ room
   pub none : keep ≡ false → m.lines.items ≡ []
   pub spent : keep ≡ true → m.met ≡ Spent → length m.lines.items ≡ room

@@ -4,11 +4,14 @@ use Rattle.smt_meaning.specs.Stack.{signature_of}
 use Rattle.search_port.specs.State.{TheoryState}
 use Rattle.search_port.specs.Spending.{Spending}
 use Rattle.search_port.specs.Calls.{Goes}
+use Rattle.search_port.specs.Pivots.{KeepsPivots}
 use Rattle.linear_forms.specs.Table.{AreForms}
 use Rattle.model_build.specs.Parts.{AreSortedParts}
 use Rattle.closure_log.specs.Seen.{state_of}
+use Rattle.bound_log.specs.Told.{column_sums}
 use Rattle.theory_steps.specs.declared.parts.Parts.{Parts}
 use Rattle.theory_steps.specs.declared.parts.Progress.{Progress}
+use Rattle.theory_steps.specs.Columns.{variables_of}
 use Rattle.theory_steps.specs.Numbering.{table_of, IsNumbered, IsWhole}
 use Rattle.theory_steps.specs.Pairs.{HaveReadable}
 use Rattle.theory_steps.specs.Shown.{AreOfAssertions, AreShown}
@@ -23,17 +26,22 @@ AreParts p =
 abbrev pub state : Parts → Progress → TheoryState
 state p w = state_of p.stack.now (table_of w.lost w.atoms.atoms) w.held.closure.log.items
 
+-- and the variables of the bounds
+abbrev pub full_state : Parts → Progress → TheoryState
+full_state p w = record { reading = (state p w).reading; log = (state p w).log; variables = variables_of w.lost w.held.bounds }
+
 -- linear forms of the terms, what is numbered and held, and what can be shown of it
 abbrev pub IsProgress : Parts → Progress → Type 0
 IsProgress p w =
     AreForms p.stack.now.trees w.forms × IsNumbered p.stack.now p.marks.items w.lost w.atoms w.held
-    × AreShown p.stack.now w.branches w.seen (table_of w.lost w.atoms.atoms)
+    × AreShown p.stack.now (column_sums w.held.bounds) w.branches w.seen (table_of w.lost w.atoms.atoms)
 
 -- and no atom was lost
 abbrev pub IsUnderWay : Parts → Progress → Type 0
 IsUnderWay p w =
-    AreForms p.stack.now.trees w.forms × IsWhole p.stack.now p.marks.items w.atoms w.held × (w.lost ≡ None) × AreShown p.stack.now w.branches w.seen w.atoms.atoms
+    AreForms p.stack.now.trees w.forms × IsWhole p.stack.now p.marks.items w.atoms w.held × (w.lost ≡ None)
+    × AreShown p.stack.now (column_sums w.held.bounds) w.branches w.seen w.atoms.atoms
 
 -- what a call that may spend units leaves
 abbrev pub Went : Parts → Progress → Progress → Spending → Spending → Type 0
-Went p old new b c = IsProgress p new × Goes (state p old) (state p new) b c
+Went p old new b c = IsProgress p new × Goes (state p old) (state p new) b c × KeepsPivots (full_state p old) (full_state p new) b c

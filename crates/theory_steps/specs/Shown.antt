@@ -1,5 +1,6 @@
 -- What a search can show of its atoms, and where a number left the range.
 use Rattle.std.specs.Prelude.{◌≡◌, ℕ, ◌<◌, Bool, true, List, length, All, Option, Some, IfSome}
+use Rattle.fraction128.specs.declared.Summand.{Summand as GridSummand}
 use Rattle.fraction128.specs.declared.Line.{Line}
 use Rattle.smt_meaning.specs.declared.values.Sort.TheVariants.{Int as Ints}
 use Rattle.smt_meaning.specs.declared.clauses.Atom.{Atom}
@@ -8,7 +9,7 @@ use Rattle.smt_meaning.specs.Term.{tree_at}
 use Rattle.smt_meaning.specs.Signature.{tree_sort}
 use Rattle.smt_meaning.specs.Stack.{signature_of}
 use Rattle.smt_meaning.specs.StackCommand.{Stack}
-use Rattle.smt_meaning.specs.CheckAtoms.{IsPartOfStack, IsCheckAtom, IsLeaf, AreBranches, is_leaf}
+use Rattle.smt_meaning.specs.CheckAtoms.{IsPartOfStack, IsCheckAtom, IsLeaf, AreBranches, AreCheckSums, is_leaf}
 use Rattle.smt_meaning.specs.Ranges.{LeavesRange}
 use Rattle.smt_laws.specs.Flat.{flat}
 use Rattle.check_atoms.specs.OfStack.{bound_terms}
@@ -22,19 +23,20 @@ AreOfAssertions s marks = (p : ℕ) → is_marked marks p ≡ true → IsPartOfS
 abbrev pub IsOfCheck : Stack → List Line → Atom → Type 0
 IsOfCheck s branches a = IsCheckAtom s.trees (flat s.frames) branches a
 
--- it leaves the range over the atoms of the check with these branches
-abbrev pub IsLeft : Stack → List Line → RangeSeen → Type 0
-IsLeft s branches seen = LeavesRange s.trees (flat s.frames) (IsCheckAtom s.trees (flat s.frames) branches) seen
+-- it leaves the range over variables of these sums and the atoms of the check with these branches
+abbrev pub IsLeft : Stack → List (List GridSummand) → List Line → RangeSeen → Type 0
+IsLeft s sums branches seen = LeavesRange s.trees (flat s.frames) sums (IsCheckAtom s.trees (flat s.frames) branches) seen
 
 -- the sum of a bound is over leaves
 abbrev pub IsOverLeaves : Stack → Atom → Type 0
 IsOverLeaves s a = All (IsLeaf s.trees (flat s.frames)) (bound_terms a)
 
--- the branches are such, the atoms are of the check with them and over leaves, and what was seen to leave the range does
-pub record AreShown (s : Stack) (rows : List Line) (left : Option RangeSeen) (table : List Atom) : Type 0 where
-  pub branches : AreBranches s.trees (flat s.frames) rows
+-- the variables are of sums of the check, the branches are over them, the atoms are of the check with the branches and over leaves, and what was seen to leave the range does
+pub record AreShown (s : Stack) (sums : List (List GridSummand)) (rows : List Line) (left : Option RangeSeen) (table : List Atom) : Type 0 where
+  pub sums_known : AreCheckSums s.trees (flat s.frames) sums
+  pub branches : AreBranches s.trees (flat s.frames) sums rows
   pub atoms : All (IsOfCheck s rows) table
-  pub seen : IfSome left (IsLeft s rows)
+  pub seen : IfSome left (IsLeft s sums rows)
   pub leaves : All (IsOverLeaves s) table
 
 -- an atom that may get a number

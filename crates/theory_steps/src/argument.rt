@@ -6,6 +6,7 @@ ghost use Rattle.smt_meaning.specs.Term.{Tree, tree_at};
 ghost use Rattle.smt_meaning.specs.Linear.{linear_form};
 ghost use Rattle.term_store.specs.Terms.{AreDifferent};
 ghost use Rattle.linear_forms.specs.Table.{AreForms};
+ghost use Rattle.bound_log.specs.Told.{column_sums};
 ghost use Rattle.model_eval.specs.Walk.{is_marked};
 ghost use Rattle.theory_steps.specs.Argument.{HasWhole, HaveWhole, AreListed, pair_by, IsPastAt, IsPastInt, IsSymbol, IsPastArgument};
 ghost use Rattle.theory_steps.specs.Progress.{AreParts, IsUnderWay};
@@ -244,7 +245,7 @@ pub(crate) fn argument_seen(
     requires under_way { IsUnderWay parts.now progress.now }
     requires first { clash.first < length parts.now.stack.now.trees }
     requires second { clash.second < length parts.now.stack.now.trees }
-    ensures { IfSome result (IsLeft parts.now.stack.now progress.now.branches) }
+    ensures { IfSome result (IsLeft parts.now.stack.now (column_sums progress.now.held.bounds) progress.now.branches) }
 {
     progress.held.bounds.facts();
     let Ok(grid) = progress.held.bounds.grid(parts.alloc) else {

@@ -6,7 +6,8 @@ ghost use Rattle.smt_meaning.specs.Linear.{summand};
 ghost use Rattle.smt_meaning.specs.Boxes.{term_at_most};
 ghost use Rattle.sum_bounds.specs.Bounds.{IsFirstIn};
 ghost use Rattle.bound_log.specs.Growth.{IsProper};
-ghost use Rattle.theory_steps.specs.Progress.{state, AreParts, IsUnderWay, Went};
+ghost use Rattle.simplex_steps.specs.Run.{AreWithin};
+ghost use Rattle.theory_steps.specs.Progress.{full_state, state, AreParts, IsUnderWay, Went};
 ghost use Rattle.theory_steps.specs.Shown.{IsOfCheck, IsMarkedLeaf};
 ghost use Rattle.theory_steps.specs.Steps.{IsStep};
 
@@ -64,9 +65,10 @@ fn keep_row(
     requires parts { AreParts parts.now }
     requires leaf { IsMarkedLeaf parts.now.stack.now parts.now.marks.items leaf.term }
     requires first { IsFirstIn progress.old.held.bounds.bounds.columns leaf }
+    requires within { AreWithin progress.old.held.bounds.bounds.columns }
     ensures under_way { IsUnderWay parts.now progress.new }
     ensures atoms { progress.new.atoms ≡ progress.old.atoms }
-    ensures same { state parts.now progress.new ≡ state parts.now progress.old }
+    ensures same { full_state parts.now progress.new ≡ full_state parts.now progress.old }
     ensures of_check { OnOk result (IsOfCheck parts.now.stack.now progress.new.branches (term_at_most leaf.term leaf.floor)) }
 {
     flat_says_the_same();
@@ -86,6 +88,7 @@ pub(crate) fn branch(
     requires parts { AreParts parts.now }
     requires under_way { IsUnderWay parts.now progress.old }
     requires first { IsFirstIn progress.old.held.bounds.bounds.columns leaf }
+    requires within { AreWithin progress.old.held.bounds.bounds.columns }
     ensures went { Went parts.now progress.old progress.new budget.old budget.new }
     ensures step { IsStep (state parts.now progress.new) budget.old budget.new result }
 {

@@ -1,8 +1,9 @@
 //! The calls of a search. Once an atom was lost nothing more is told.
 ghost use Rattle.std.specs.Prelude.{◌≡◌, ◌<◌, ◌≤◌, length, take};
 ghost use Rattle.search_port.specs.State.{IsOpenIn};
-ghost use Rattle.search_port.specs.Calls.{AssertedBy, CheckedBy, InferredBy};
-ghost use Rattle.theory_steps.specs.Progress.{state, AreParts, IsProgress, Went};
+ghost use Rattle.search_port.specs.Calls.{AssertedBy, CheckedBy, Goes, InferredBy};
+ghost use Rattle.search_port.specs.Pivots.{KeepsPivots};
+ghost use Rattle.theory_steps.specs.Progress.{full_state, state, AreParts, IsProgress};
 
 use crate::errors::seen_of;
 use crate::held::{tell_both, undo_both};
@@ -18,7 +19,7 @@ pub fn tell(parts: &Parts<'_>, progress: &mut Progress, literal: Literal) -> Ass
     requires numbered { literal.atom < length (state parts.now progress.old).reading.table }
     requires open { IsOpenIn (state parts.now progress.old).log literal }
     ensures progress { IsProgress parts.now progress.new }
-    ensures answer { AssertedBy (state parts.now progress.old) (state parts.now progress.new) literal result }
+    ensures answer { AssertedBy (full_state parts.now progress.old) (full_state parts.now progress.new) literal result }
 {
     match progress.lost {
         Some(_) => Asserted::Ended(Cause::Memory),
@@ -46,8 +47,10 @@ pub fn tell(parts: &Parts<'_>, progress: &mut Progress, literal: Literal) -> Ass
 pub fn look(parts: &Parts<'_>, progress: &mut Progress, budget: &mut Budget) -> Inferred
     requires parts { AreParts parts.now }
     requires progress { IsProgress parts.now progress.old }
-    ensures went { Went parts.now progress.old progress.new budget.old budget.new }
-    ensures found { InferredBy (state parts.now progress.new) budget.old budget.new result }
+    ensures progress { IsProgress parts.now progress.new }
+    ensures goes { Goes (full_state parts.now progress.old) (full_state parts.now progress.new) budget.old budget.new }
+    ensures pivots { KeepsPivots (full_state parts.now progress.old) (full_state parts.now progress.new) budget.old budget.new }
+    ensures found { InferredBy (full_state parts.now progress.new) budget.old budget.new result }
 {
     let _spent = budget.room();
     match progress.lost {
@@ -61,8 +64,10 @@ pub fn look(parts: &Parts<'_>, progress: &mut Progress, budget: &mut Budget) -> 
 pub fn check(parts: &Parts<'_>, progress: &mut Progress, budget: &mut Budget) -> Checked
     requires parts { AreParts parts.now }
     requires progress { IsProgress parts.now progress.old }
-    ensures went { Went parts.now progress.old progress.new budget.old budget.new }
-    ensures found { CheckedBy (state parts.now progress.new) budget.old budget.new result }
+    ensures progress { IsProgress parts.now progress.new }
+    ensures goes { Goes (full_state parts.now progress.old) (full_state parts.now progress.new) budget.old budget.new }
+    ensures pivots { KeepsPivots (full_state parts.now progress.old) (full_state parts.now progress.new) budget.old budget.new }
+    ensures found { CheckedBy (full_state parts.now progress.new) budget.old budget.new result }
 {
     let _spent = budget.room();
     match progress.lost {
@@ -76,7 +81,7 @@ pub fn undo_to(parts: &Parts<'_>, progress: &mut Progress, count: usize)
     requires progress { IsProgress parts.now progress.old }
     requires told { count ≤ length (state parts.now progress.old).log }
     ensures progress { IsProgress parts.now progress.new }
-    ensures undone { state parts.now progress.new ≡ record (state parts.now progress.old) { log = take count (state parts.now progress.old).log } }
+    ensures undone { full_state parts.now progress.new ≡ record (full_state parts.now progress.old) { log = take count (state parts.now progress.old).log } }
 {
     match progress.lost {
         Some(_) => progress.held.closure.log.truncate(count),

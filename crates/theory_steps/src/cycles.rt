@@ -53,6 +53,7 @@ pub(crate) fn meet_differences(
     requires held { IsHeld stack.now atoms.now.atoms held.old }
     ensures held { IsHeld stack.now atoms.now.atoms held.new }
     ensures log { held.new.closure.log.items ≡ held.old.closure.log.items }
+    ensures bounds { held.new.bounds ≡ held.old.bounds }
     ensures clause { IfOk result (λ o. IfSome o (IsConflict (state_of stack.now atoms.now.atoms held.new.closure.log.items))) }
 {
     match held
@@ -124,6 +125,7 @@ fn follow_paths(
     requires held { IsHeld stack.now atoms.now.atoms held.old }
     ensures held { IsHeld stack.now atoms.now.atoms held.new }
     ensures log { held.new.closure.log.items ≡ held.old.closure.log.items }
+    ensures bounds { held.new.bounds ≡ held.old.bounds }
     ensures found { IfOk result (λ cs. All (IsPressingLemma (state_of stack.now atoms.now.atoms held.new.closure.log.items)) cs.items) }
 {
     let mut clauses = Vec::new(alloc);
@@ -150,6 +152,7 @@ fn follow_known(
     requires held { IsHeld stack.now atoms.now.atoms held.old }
     ensures held { IsHeld stack.now atoms.now.atoms held.new }
     ensures log { held.new.closure.log.items ≡ held.old.closure.log.items }
+    ensures bounds { held.new.bounds ≡ held.old.bounds }
     ensures found { IfOk result (λ o. (b c : Spending) → IfSome o (InferredBy (state_of stack.now atoms.now.atoms held.new.closure.log.items) b c)) }
 {
     if let Some(clause) = meet_differences(alloc, held, stack, atoms)? {
@@ -173,6 +176,7 @@ pub(crate) fn follow_differences(
     requires held { IsHeld stack.now atoms.now.atoms held.old }
     ensures held { IsHeld stack.now atoms.now.atoms held.new }
     ensures log { held.new.closure.log.items ≡ held.old.closure.log.items }
+    ensures bounds { held.new.bounds ≡ held.old.bounds }
     ensures found { (b c : Spending) → IfSome result (InferredBy (state_of stack.now atoms.now.atoms held.new.closure.log.items) b c) }
 {
     match follow_known(alloc, held, stack, atoms) {

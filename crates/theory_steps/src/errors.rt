@@ -5,8 +5,9 @@ ghost use Rattle.smt_meaning.specs.declared.clauses.Atom.{Atom};
 ghost use Rattle.smt_meaning.specs.declared.clauses.Atom.TheVariants.{AtMost};
 ghost use Rattle.tableau.specs.Failing.{IsRange};
 ghost use Rattle.bound_log.specs.Atoms.{Knows, KnowsOneMore, SaysNothing};
-ghost use Rattle.bound_log.specs.Columns.{AddsColumns, HasColumnsOf};
-ghost use Rattle.bound_log.specs.Growth.{IsProper};
+ghost use Rattle.bound_log.specs.Told.{column_sums};
+ghost use Rattle.bound_log.specs.Columns.{AddsColumns};
+ghost use Rattle.bound_log.specs.Growth.{GrowsVariables, IsProper};
 ghost use Rattle.bound_log.specs.Pending.{FailsToTake, FailsToTell};
 ghost use Rattle.theory_steps.specs.Errors.{IsErrorOver, IsErrorAt, seen_of};
 
@@ -58,7 +59,7 @@ fn error_of(
     failure: Failure,
 ) -> BoundError
     requires { IsRange failure → FailsToTake bounds.now sum.now number holds }
-    ensures { (known table all : List Atom) → Knows known bounds.now → ((a : Atom) → Contains known a → Contains table a) → HasColumnsOf all bounds.now → Contains table (AtMost sum.now number) → IsErrorOver table all result }
+    ensures { (known table : List Atom) → Knows known bounds.now → ((a : Atom) → Contains known a → Contains table a) → Contains table (AtMost sum.now number) → IsErrorOver (column_sums bounds.now) table result }
 {
     match failure {
         Failure::Memory => BoundError::Memory,
@@ -80,8 +81,9 @@ pub(crate) fn know_bound(
     requires threshold { InRange threshold }
     ensures knows { OnOk result (KnowsOneMore bounds.old (AtMost sum.now threshold) bounds.new) }
     ensures columns { AddsColumns bounds.old (AtMost sum.now threshold) bounds.new }
+    ensures variables { GrowsVariables bounds.old bounds.new }
     ensures log { bounds.new.log ≡ bounds.old.log }
-    ensures err { IfErr result (IsErrorAt bounds.old (AtMost sum.now threshold)) }
+    ensures err { IfErr result (IsErrorAt bounds.old bounds.new (AtMost sum.now threshold)) }
 {
     match bounds.know_bound(alloc, sum, threshold) {
         Ok(()) => Ok(()),
@@ -93,8 +95,9 @@ pub(crate) fn know_bound(
 pub(crate) fn know_other(bounds: &mut BoundLog) -> Result<(), BoundError>
     ensures knows { OnOk result ((a : Atom) → SaysNothing a → KnowsOneMore bounds.old a bounds.new) }
     ensures columns { (a : Atom) → AddsColumns bounds.old a bounds.new }
+    ensures variables { GrowsVariables bounds.old bounds.new }
     ensures log { bounds.new.log ≡ bounds.old.log }
-    ensures err { (a : Atom) → IfErr result (IsErrorAt bounds.old a) }
+    ensures err { (a : Atom) → IfErr result (IsErrorAt bounds.old bounds.new a) }
 {
     bounds.know_other()?;
     Ok(())
@@ -111,7 +114,7 @@ pub(crate) fn untold(
     requires numbered { literal.atom < length atoms.now.atoms }
     requires knows { Knows atoms.now.atoms bounds.now }
     requires fails { IsRange failure → FailsToTell bounds.now literal }
-    ensures { (all : List Atom) → HasColumnsOf all bounds.now → IsErrorOver atoms.now.atoms all result }
+    ensures { IsErrorOver (column_sums bounds.now) atoms.now.atoms result }
 {
     let number = literal.atom();
     match atoms.atom(number) {

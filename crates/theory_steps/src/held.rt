@@ -5,12 +5,13 @@ ghost use Rattle.search_port.specs.State.{IsOpenIn};
 ghost use Rattle.search_port.specs.Calls.{AssertedBy, InferredBy};
 ghost use Rattle.search_port.specs.Spending.{Spending};
 ghost use Rattle.bound_log.specs.Atoms.{Knows};
-ghost use Rattle.bound_log.specs.Columns.{HasColumnsOf};
+ghost use Rattle.bound_log.specs.Told.{column_sums};
+ghost use Rattle.bound_log.specs.Growth.{KeepsVariables};
 ghost use Rattle.bound_log.specs.Reporting.{Judges};
 ghost use Rattle.bound_log.specs.declared.report.Report.TheVariants.{UnitsSpent};
-ghost use Rattle.smt_laws.specs.Flat.{flat};
+ghost use Rattle.simplex_steps.specs.Run.{AreWithin};
 ghost use Rattle.closure_log.specs.Seen.{state_of, IsSetting};
-ghost use Rattle.theory_steps.specs.Errors.{IsErrorOf};
+ghost use Rattle.theory_steps.specs.Errors.{IsErrorOver};
 ghost use Rattle.theory_steps.specs.Held.{IsHeld, IsMet, IsMetBy};
 ghost use Rattle.theory_steps.specs.Pivots.{ArePivotsOf};
 ghost use Rattle.theory_steps.specs.declared.held.Met.TheVariants.{Spent};
@@ -83,7 +84,8 @@ pub(crate) fn tell_both(
     ensures held { IsHeld stack.now atoms.now.atoms held.new }
     ensures answer { IfOk result (AssertedBy (state_of stack.now atoms.now.atoms held.old.closure.log.items) (state_of stack.now atoms.now.atoms held.new.closure.log.items) literal) }
     ensures stays { OnErr result (held.new.closure.log.items ≡ held.old.closure.log.items) }
-    ensures err { IfErr result (IsErrorOf stack.now.trees (flat stack.now.frames) atoms.now.atoms) }
+    ensures variables { KeepsVariables held.old.bounds held.new.bounds }
+    ensures err { IfErr result (IsErrorOver (column_sums held.new.bounds) atoms.now.atoms) }
 {
     let place = held.closure.log.len();
     match held.bounds.tell(literal) {
@@ -108,6 +110,7 @@ pub(crate) fn undo_both(held: &mut Held, stack: &Stack, atoms: &AtomNumbers, cou
     requires { IsHeld stack.now atoms.now.atoms held.old }
     ensures held { IsHeld stack.now atoms.now.atoms held.new }
     ensures log { held.new.closure.log.items ≡ take count held.old.closure.log.items }
+    ensures variables { KeepsVariables held.old.bounds held.new.bounds }
 {
     held.closure.undo_to(stack, atoms, count);
     held.bounds.undo_to(count);
@@ -123,7 +126,7 @@ pub(crate) fn leads(held: &Held) -> bool {
 /// What a report says, with the grid where a number left the range.
 fn met_by(alloc: Global, bounds: &BoundLog, report: Report) -> Met
     requires { Judges bounds.now report }
-    ensures met { (table all : List Atom) → Knows table bounds.now → HasColumnsOf all bounds.now → IsMetBy bounds.now table all result }
+    ensures met { (table : List Atom) → Knows table bounds.now → IsMetBy bounds.now table result }
     ensures spent { result ≡ Spent → report ≡ UnitsSpent }
 {
     match report {
@@ -151,8 +154,9 @@ pub(crate) fn meet_bounds(
     requires held { IsHeld stack.now atoms.now.atoms held.old }
     ensures held { IsHeld stack.now atoms.now.atoms held.new }
     ensures log { held.new.closure.log.items ≡ held.old.closure.log.items }
-    ensures met { IsMet (state_of stack.now atoms.now.atoms held.new.closure.log.items) result.met }
-    ensures lines { ArePivotsOf (state_of stack.now atoms.now.atoms held.new.closure.log.items) keep room result }
+    ensures sums { column_sums held.new.bounds ≡ column_sums held.old.bounds }
+    ensures met { IsMet held.new.bounds (state_of stack.now atoms.now.atoms held.new.closure.log.items) result.met }
+    ensures lines { ArePivotsOf held.old.bounds held.new.bounds atoms.now.atoms keep room result }
 {
     flat_says_the_same();
     let mut kept = PivotLines {
@@ -165,11 +169,12 @@ pub(crate) fn meet_bounds(
     Meeting { met, lines }
 }
 
-/// A clause that the bounds break over whole numbers, where a row shows one. That it fits says nothing more.
+/// A clause that the bounds break over whole numbers, where a row shows one, of values within all bounds. That it fits says nothing more.
 pub(crate) fn meet_wholes(alloc: Global, held: &Held, stack: &Stack, atoms: &AtomNumbers) -> Met
     requires setting { IsSetting stack.now atoms.now.atoms }
     requires held { IsHeld stack.now atoms.now.atoms held.now }
-    ensures { IsMet (state_of stack.now atoms.now.atoms held.now.closure.log.items) result }
+    requires within { AreWithin held.now.bounds.bounds.columns }
+    ensures { IsMet held.now.bounds (state_of stack.now atoms.now.atoms held.now.closure.log.items) result }
 {
     flat_says_the_same();
     let Ok(found) = held.bounds.whole_conflict(alloc) else {
@@ -193,6 +198,7 @@ pub(crate) fn follow(
     requires held { IsHeld stack.now atoms.now.atoms held.old }
     ensures held { IsHeld stack.now atoms.now.atoms held.new }
     ensures log { held.new.closure.log.items ≡ held.old.closure.log.items }
+    ensures bounds { held.new.bounds ≡ held.old.bounds }
     ensures found { (b c : Spending) → InferredBy (state_of stack.now atoms.now.atoms held.new.closure.log.items) b c result }
 {
     infer(alloc, &held.closure, &mut held.scan, stack, atoms, guide)

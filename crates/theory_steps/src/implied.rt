@@ -4,6 +4,7 @@ ghost use Rattle.search_port.specs.Calls.{InferredBy};
 ghost use Rattle.search_port.specs.Spending.{Spending};
 ghost use Rattle.search_port.specs.State.{TheoryState};
 ghost use Rattle.literal_steps.specs.Implied.{IsPressingLemma};
+ghost use Rattle.bound_log.specs.Growth.{KeepsVariables};
 ghost use Rattle.closure_log.specs.Seen.{state_of, IsSetting};
 ghost use Rattle.theory_steps.specs.Held.{IsHeld};
 
@@ -53,6 +54,7 @@ fn look_at(
     requires numbered { atom < length atoms.now.atoms }
     ensures held { IsHeld stack.now atoms.now.atoms held.new }
     ensures log { held.new.closure.log.items ≡ held.old.closure.log.items }
+    ensures variables { KeepsVariables held.old.bounds held.new.bounds }
     ensures found { IfSome result (IsPressingLemma (state_of stack.now atoms.now.atoms held.new.closure.log.items)) }
 {
     flat_says_the_same();
@@ -85,6 +87,7 @@ pub(crate) fn follow_rows(
     requires held { IsHeld stack.now atoms.now.atoms held.old }
     ensures held { IsHeld stack.now atoms.now.atoms held.new }
     ensures log { held.new.closure.log.items ≡ held.old.closure.log.items }
+    ensures variables { KeepsVariables held.old.bounds held.new.bounds }
     ensures found { (b c : Spending) → InferredBy (state_of stack.now atoms.now.atoms held.new.closure.log.items) b c result }
 {
     let mut clauses = Vec::new(alloc);

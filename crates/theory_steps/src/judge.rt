@@ -1,6 +1,7 @@
 //! What is found between decisions, and where every atom has a truth value.
 ghost use Rattle.std.specs.Prelude.{◌<◌, length};
 ghost use Rattle.search_port.specs.Calls.{CheckedBy, InferredBy};
+ghost use Rattle.simplex_steps.specs.Run.{AreWithin};
 ghost use Rattle.sum_bounds.specs.Bounds.{IsFirstIn};
 ghost use Rattle.theory_steps.specs.Held.{IsMet};
 ghost use Rattle.theory_steps.specs.Pivots.{SpendsAll};
@@ -53,6 +54,7 @@ fn make_whole(
     requires parts { AreParts parts.now }
     requires under_way { IsUnderWay parts.now progress.old }
     requires first { IsFirstIn progress.old.held.bounds.bounds.columns leaf }
+    requires within { AreWithin progress.old.held.bounds.bounds.columns }
     ensures went { Went parts.now progress.old progress.new budget.old budget.new }
     ensures found { CheckedBy (state parts.now progress.new) budget.old budget.new result }
 {
@@ -151,6 +153,7 @@ fn try_model(parts: &Parts<'_>, progress: &mut Progress, budget: &mut Budget) ->
 fn judge_values(parts: &Parts<'_>, progress: &mut Progress, budget: &mut Budget) -> Checked
     requires parts { AreParts parts.now }
     requires under_way { IsUnderWay parts.now progress.old }
+    requires within { AreWithin progress.old.held.bounds.bounds.columns }
     ensures went { Went parts.now progress.old progress.new budget.old budget.new }
     ensures found { CheckedBy (state parts.now progress.new) budget.old budget.new result }
 {
@@ -164,7 +167,7 @@ fn judge_values(parts: &Parts<'_>, progress: &mut Progress, budget: &mut Budget)
 fn judge_met(parts: &Parts<'_>, progress: &mut Progress, budget: &mut Budget, met: Met) -> Checked
     requires parts { AreParts parts.now }
     requires under_way { IsUnderWay parts.now progress.old }
-    requires met { IsMet (state parts.now progress.old) met }
+    requires met { IsMet progress.old.held.bounds (state parts.now progress.old) met }
     requires spent { SpendsAll budget.old met }
     ensures went { Went parts.now progress.old progress.new budget.old budget.new }
     ensures found { CheckedBy (state parts.now progress.new) budget.old budget.new result }
@@ -189,8 +192,10 @@ fn judge_sums(parts: &Parts<'_>, progress: &mut Progress, budget: &mut Budget) -
     ensures went { Went parts.now progress.old progress.new budget.old budget.new }
     ensures found { CheckedBy (state parts.now progress.new) budget.old budget.new result }
 {
-    let met = meet_within(parts, progress, budget);
-    judge_met(parts, progress, budget, met)
+    match meet_within(parts, progress, budget) {
+        Ok(met) => judge_met(parts, progress, budget, met),
+        Err(_) => Checked::Ended(Cause::Memory),
+    }
 }
 
 /// A last check where the numbers of a graph meet all bounds, which are differences: they may be those of a model, or else the rows of sums are looked at.
@@ -267,7 +272,7 @@ fn look_at_rows(parts: &Parts<'_>, progress: &mut Progress, budget: &Budget) -> 
 fn look_at_met(parts: &Parts<'_>, progress: &mut Progress, budget: &Budget, met: Met) -> Inferred
     requires parts { AreParts parts.now }
     requires under_way { IsUnderWay parts.now progress.old }
-    requires met { IsMet (state parts.now progress.old) met }
+    requires met { IsMet progress.old.held.bounds (state parts.now progress.old) met }
     requires spent { SpendsAll budget.now met }
     ensures went { Went parts.now progress.old progress.new budget.now budget.now }
     ensures found { InferredBy (state parts.now progress.new) budget.now budget.now result }
@@ -292,8 +297,10 @@ fn look_at_sums(parts: &Parts<'_>, progress: &mut Progress, budget: &mut Budget)
     ensures went { Went parts.now progress.old progress.new budget.old budget.new }
     ensures found { InferredBy (state parts.now progress.new) budget.old budget.new result }
 {
-    let met = meet_within(parts, progress, budget);
-    look_at_met(parts, progress, budget, met)
+    match meet_within(parts, progress, budget) {
+        Ok(met) => look_at_met(parts, progress, budget, met),
+        Err(_) => Inferred::Ended(Cause::Memory),
+    }
 }
 
 /// What the bounds show between decisions: differences alone, where all of them are that.

@@ -2,9 +2,11 @@
 ghost use Rattle.std.specs.Prelude.{◌≡◌, ◌+◌, ◌<◌, ◌≤◌, ◌∷◌, ◌++◌, [], length, take, Contains, IfErr, OnOk, OnErr, None};
 ghost use Rattle.search_port.specs.Calls.{EndsBy};
 ghost use Rattle.bound_log.specs.Atoms.{KnowsOneMore};
+ghost use Rattle.bound_log.specs.Told.{column_sums};
 ghost use Rattle.bound_log.specs.Columns.{AddsColumns};
-ghost use Rattle.smt_laws.specs.Flat.{flat};
-ghost use Rattle.theory_steps.specs.Errors.{IsErrorAt, IsErrorOf};
+ghost use Rattle.bound_log.specs.Growth.{GrowsVariables};
+ghost use Rattle.theory_steps.specs.Columns.{HasKnownColumns};
+ghost use Rattle.theory_steps.specs.Errors.{IsErrorAt, IsErrorOver};
 ghost use Rattle.theory_steps.specs.Numbering.{atom_of, IsNew, IsProperAtom, IsWhole};
 ghost use Rattle.theory_steps.specs.Progress.{state, IsUnderWay, Went};
 ghost use Rattle.theory_steps.specs.Shown.{IsToShow};
@@ -14,7 +16,7 @@ use crate::held::Held;
 use crate::parts::{Pair, Parts, Progress};
 use atom_numbers::AtomNumbers;
 use atom_table::CompactAtom;
-use bound_log::BoundLog;
+use bound_log::{BoundLog, sums_are_apart};
 use closure_log::what_was_told_stays;
 use search_port::{Budget, Cause, Spent};
 use smt_meaning::Summand;
@@ -57,8 +59,9 @@ fn know(alloc: Global, bounds: &mut BoundLog, atom: &NewAtom) -> Result<(), Boun
     requires { IsProperAtom atom.now }
     ensures knows { OnOk result (KnowsOneMore bounds.old (atom_of atom.now) bounds.new) }
     ensures columns { AddsColumns bounds.old (atom_of atom.now) bounds.new }
+    ensures variables { GrowsVariables bounds.old bounds.new }
     ensures log { bounds.new.log ≡ bounds.old.log }
-    ensures err { IfErr result (IsErrorAt bounds.old (atom_of atom.now)) }
+    ensures err { IfErr result (IsErrorAt bounds.old bounds.new (atom_of atom.now)) }
 {
     match atom {
         NewAtom::Equality(_) => know_other(bounds),
@@ -81,7 +84,9 @@ fn add(
     ensures front { take (length atoms.old.atoms) atoms.new.atoms ≡ atoms.old.atoms }
     ensures within { length atoms.old.atoms ≤ length atoms.new.atoms }
     ensures log { held.new.closure.log.items ≡ held.old.closure.log.items }
-    ensures err { IfErr result (IsErrorOf parts.now.stack.now.trees (flat parts.now.stack.now.frames) (atoms.old.atoms ++ atom_of atom.now ∷ [])) }
+    ensures columns { HasKnownColumns parts.now.stack.now (atoms.old.atoms ++ atom_of atom.now ∷ []) held.new.bounds }
+    ensures variables { GrowsVariables held.old.bounds held.new.bounds }
+    ensures err { IfErr result (IsErrorOver (column_sums held.new.bounds) (atoms.old.atoms ++ atom_of atom.now ∷ [])) }
 {
     what_was_told_stays();
     number(atoms, atom)?;
@@ -111,7 +116,10 @@ pub(crate) fn number_new(
         return Err(Cause::Units);
     }
     let count = progress.atoms.len() as u32;
-    match add(parts, &mut progress.atoms, &mut progress.held, atom) {
+    let added = add(parts, &mut progress.atoms, &mut progress.held, atom);
+    progress.held.bounds.facts();
+    sums_are_apart();
+    match added {
         Err(error) => {
             progress.seen = seen_of(error);
             progress.lost = Some(count);

@@ -9,6 +9,7 @@ ghost use Rattle.atom_table.specs.Numbers.{IsAt};
 ghost use Rattle.linear_forms.specs.Table.{AreForms};
 ghost use Rattle.linear_forms.specs.Differences.{Refuses};
 ghost use Rattle.pair_bounds.specs.Pairs.{at_most_fits};
+ghost use Rattle.bound_log.specs.Told.{column_sums};
 ghost use Rattle.bound_log.specs.Growth.{IsProper};
 ghost use Rattle.theory_steps.specs.Pairs.{IsFit, IsRefused, IsSought, IsWanted};
 ghost use Rattle.theory_steps.specs.Progress.{state, AreParts, IsUnderWay, Went};
@@ -215,7 +216,7 @@ fn seen_of(
     requires left { IsFit parts.now.stack.now parts.now.marks.items pair.left }
     requires right { IsFit parts.now.stack.now parts.now.marks.items pair.right }
     requires refused { Refuses parts.now.stack.now.trees (at_most_fits parts.now.stack.now.trees) pair.left pair.right error }
-    ensures { IfSome result (IsLeft parts.now.stack.now progress.now.branches) }
+    ensures { IfSome result (IsLeft parts.now.stack.now (column_sums progress.now.held.bounds) progress.now.branches) }
 {
     flat_says_the_same();
     match error {

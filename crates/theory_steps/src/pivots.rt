@@ -1,12 +1,11 @@
 //! Pivots as units: where the budget keeps lines, bounds are met by no more pivots than may be spent, and each is spent.
-ghost use Rattle.std.specs.Prelude.{◌≡◌, ◌+◌, ◌≤◌, true, length, OnOk};
+ghost use Rattle.std.specs.Prelude.{◌≡◌, ◌+◌, ◌≤◌, ◌++◌, true, false, length, OnOk, IfOk};
 ghost use Rattle.theory_steps.specs.Held.{IsMet};
-ghost use Rattle.theory_steps.specs.Pivots.{SpendsAll, SpendsPivots};
+ghost use Rattle.theory_steps.specs.Pivots.{pivot_units, SpendsAll, SpendsPivots};
 ghost use Rattle.theory_steps.specs.Progress.{state, AreParts, IsUnderWay, Went};
 
 use crate::held::{Meeting, Met, meet_bounds};
 use crate::parts::{Parts, Progress};
-use crate::step::stays;
 use fraction128::Line;
 use search_port::{Budget, Spent};
 use std::alloc::AllocError;
@@ -16,6 +15,7 @@ fn spend_pivots(budget: &mut Budget, lines: Vec<Line>) -> Result<(), AllocError>
     requires { length budget.old.units + length lines.items ≤ budget.old.bound }
     ensures spent { SpendsPivots lines.items budget.old budget.new }
     ensures all { OnOk result (length budget.new.units ≡ length budget.old.units + length lines.items) }
+    ensures every { OnOk result (budget.new.units ≡ budget.old.units ++ pivot_units lines.items) }
 {
     for line in lines {
         budget.spend(Spent::Pivot(line))?;
@@ -27,12 +27,14 @@ fn spend_pivots(budget: &mut Budget, lines: Vec<Line>) -> Result<(), AllocError>
 fn meet_freely(parts: &Parts<'_>, progress: &mut Progress, budget: &Budget) -> Met
     requires parts { AreParts parts.now }
     requires under_way { IsUnderWay parts.now progress.old }
+    requires keeps { budget.now.keeps_lines ≡ false }
     ensures went { Went parts.now progress.old progress.new budget.now budget.now }
     ensures same { state parts.now progress.new ≡ state parts.now progress.old }
     ensures under_way { IsUnderWay parts.now progress.new }
-    ensures met { IsMet (state parts.now progress.new) result }
+    ensures met { IsMet progress.new.held.bounds (state parts.now progress.new) result }
     ensures spent { SpendsAll budget.now result }
 {
+    let _spent = budget.room();
     let Meeting { met, lines: _ } = meet_bounds(
         parts.alloc,
         &mut progress.held,
@@ -41,23 +43,26 @@ fn meet_freely(parts: &Parts<'_>, progress: &mut Progress, budget: &Budget) -> M
         false,
         u64::MAX,
     );
-    stays(parts, progress, budget);
     match met {
         Met::Spent => Met::Ended,
         other => other,
     }
 }
 
-/// Meets the bounds by at most as many pivots as there is room for, and spends each.
-fn meet_by_units(parts: &Parts<'_>, progress: &mut Progress, budget: &mut Budget) -> Met
+/// Meets the bounds by at most as many pivots as there is room for, and spends each. After an `Err`, for want of memory, nothing is told or numbered from then on.
+fn meet_by_units(
+    parts: &Parts<'_>,
+    progress: &mut Progress,
+    budget: &mut Budget,
+) -> Result<Met, AllocError>
     requires parts { AreParts parts.now }
     requires under_way { IsUnderWay parts.now progress.old }
     requires keeps { budget.old.keeps_lines ≡ true }
     ensures went { Went parts.now progress.old progress.new budget.old budget.new }
-    ensures same { state parts.now progress.new ≡ state parts.now progress.old }
-    ensures under_way { IsUnderWay parts.now progress.new }
-    ensures met { IsMet (state parts.now progress.new) result }
-    ensures spent { SpendsAll budget.new result }
+    ensures same { OnOk result (state parts.now progress.new ≡ state parts.now progress.old) }
+    ensures under_way { OnOk result (IsUnderWay parts.now progress.new) }
+    ensures met { IfOk result (IsMet progress.new.held.bounds (state parts.now progress.new)) }
+    ensures spent { IfOk result (SpendsAll budget.new) }
 {
     let room = budget.room();
     let Meeting { met, lines } = meet_bounds(
@@ -69,24 +74,32 @@ fn meet_by_units(parts: &Parts<'_>, progress: &mut Progress, budget: &mut Budget
         room,
     );
     match spend_pivots(budget, lines) {
-        Ok(()) => met,
-        Err(_) => Met::Ended,
+        Ok(()) => Ok(met),
+        Err(error) => {
+            progress.lost = Some(progress.atoms.len() as u32);
+            Err(error)
+        }
     }
 }
 
-/// Moves values until all bounds are met, or finds a clause that they break. Where the budget keeps lines each pivot is a unit.
-pub(crate) fn meet_within(parts: &Parts<'_>, progress: &mut Progress, budget: &mut Budget) -> Met
+/// Moves values until all bounds are met, or finds a clause that they break. Where the budget keeps lines each pivot is a unit. After an `Err`, for want of memory,
+/// nothing is told or numbered from then on.
+pub(crate) fn meet_within(
+    parts: &Parts<'_>,
+    progress: &mut Progress,
+    budget: &mut Budget,
+) -> Result<Met, AllocError>
     requires parts { AreParts parts.now }
     requires under_way { IsUnderWay parts.now progress.old }
     ensures went { Went parts.now progress.old progress.new budget.old budget.new }
-    ensures same { state parts.now progress.new ≡ state parts.now progress.old }
-    ensures under_way { IsUnderWay parts.now progress.new }
-    ensures met { IsMet (state parts.now progress.new) result }
-    ensures spent { SpendsAll budget.new result }
+    ensures same { OnOk result (state parts.now progress.new ≡ state parts.now progress.old) }
+    ensures under_way { OnOk result (IsUnderWay parts.now progress.new) }
+    ensures met { IfOk result (IsMet progress.new.held.bounds (state parts.now progress.new)) }
+    ensures spent { IfOk result (SpendsAll budget.new) }
 {
     if budget.keeps_lines() {
         meet_by_units(parts, progress, budget)
     } else {
-        meet_freely(parts, progress, budget)
+        Ok(meet_freely(parts, progress, budget))
     }
 }

@@ -2,7 +2,7 @@
 ghost use Rattle.std.specs.Prelude.{◌≡◌, ◌<◌, length, IfOk};
 ghost use Rattle.search_port.specs.State.{atom_at};
 ghost use Rattle.search_port.specs.Showing.{IsShowing};
-ghost use Rattle.theory_steps.specs.Progress.{state, IsProgress};
+ghost use Rattle.theory_steps.specs.Progress.{full_state, state, IsProgress};
 
 use crate::parts::{Parts, Progress};
 use atom_numbers::{AtomNumbers, NumberedAtom};
@@ -49,7 +49,7 @@ pub fn written(
 /// The branches, with which the atoms are those of a check, and where a number left the range.
 pub fn show(parts: &Parts<'_>, progress: Progress) -> Showing
     requires { IsProgress parts.now progress }
-    ensures { IsShowing (state parts.now progress).reading result }
+    ensures { IsShowing (full_state parts.now progress) result }
 {
     progress.atoms.are_apart();
     Showing {

@@ -1,5 +1,6 @@
 //! What a search begins with, before anything is told.
 ghost use Rattle.std.specs.Prelude.{◌≡◌, ℕ, ◌<◌, List, [], true, length, All, IfOk, IfErr, OnOk, slice_index_or};
+ghost use Rattle.fraction128.specs.Lines.{HasBasis, first_basis};
 ghost use Rattle.smt_meaning.specs.declared.values.Sort.TheVariants.{Bool as Truths, Int as Ints};
 ghost use Rattle.smt_meaning.specs.declared.clauses.Atom.{Atom};
 ghost use Rattle.smt_meaning.specs.Stack.{signature_of};
@@ -9,11 +10,14 @@ ghost use Rattle.stack_atoms.specs.Marks.{AreStackParts};
 ghost use Rattle.check_atoms.specs.Numbering.{IsNormal};
 ghost use Rattle.check_atoms.specs.OfStack.{AreCheckAtoms};
 ghost use Rattle.model_build.specs.Parts.{AreSortedParts};
+ghost use Rattle.bound_log.specs.Told.{column_sums};
 ghost use Rattle.bound_log.specs.Atoms.{Knows, KnowsOneMore, KnowsTheSame};
 ghost use Rattle.bound_log.specs.Columns.{AddsColumns, HasColumnsOf};
+ghost use Rattle.bound_log.specs.Growth.{GrowsVariables};
+ghost use Rattle.bound_log.specs.Pending.{plain_grid};
 ghost use Rattle.theory_steps.specs.Begin.{IsOfBool, IsTruthOfBool, IsBegun};
 ghost use Rattle.theory_steps.specs.Columns.{HasKnownColumns};
-ghost use Rattle.theory_steps.specs.Errors.{IsErrorAt, IsErrorOver, IsErrorSeen};
+ghost use Rattle.theory_steps.specs.Errors.{IsErrorAt, IsErrorIn, IsErrorSeen};
 ghost use Rattle.theory_steps.specs.Shown.{AreOfAssertions};
 
 use crate::differences::Differences;
@@ -21,7 +25,7 @@ use crate::errors::{BoundError, know_bound, know_other};
 use crate::held::{Held, Looked};
 use crate::leaves::is_marked_leaf;
 use atom_numbers::{AtomNumbers, NumberedAtom};
-use bound_log::BoundLog;
+use bound_log::{BoundLog, sums_are_apart};
 use check_atoms::atoms_are_of_stack;
 use check_clauses::linear_terms;
 use closure_log::{ClosureLog, Guide, Scan};
@@ -51,8 +55,9 @@ fn learn(
     requires normal { All (IsNormal (length stack.now.trees)) atoms.now.atoms }
     ensures knows { OnOk result (KnowsOneMore bounds.old (atom_at atoms.now.atoms number) bounds.new) }
     ensures columns { AddsColumns bounds.old (atom_at atoms.now.atoms number) bounds.new }
+    ensures variables { GrowsVariables bounds.old bounds.new }
     ensures log { bounds.new.log ≡ bounds.old.log }
-    ensures err { IfErr result (IsErrorAt bounds.old (atom_at atoms.now.atoms number)) }
+    ensures err { IfErr result (IsErrorAt bounds.old bounds.new (atom_at atoms.now.atoms number)) }
 {
     let _known = stack.terms();
     match atoms.atom(number) {
@@ -69,11 +74,15 @@ fn bounds_of(alloc: Global, stack: &Stack, atoms: &AtomNumbers) -> Result<BoundL
     ensures knows { IfOk result (λ b. Knows atoms.now.atoms b) }
     ensures columns { IfOk result (λ b. HasColumnsOf atoms.now.atoms b) }
     ensures log { IfOk result (λ b. b.log ≡ []) }
-    ensures err { IfErr result (IsErrorOver atoms.now.atoms atoms.now.atoms) }
+    ensures basis { IfOk result (λ b. HasBasis (first_basis (column_sums b)) (plain_grid b)) }
+    ensures err { IfErr result (IsErrorIn atoms.now.atoms) }
 {
+    sums_are_apart();
     let mut bounds = BoundLog::new(alloc);
     for number in 0..atoms.len() {
-        learn(alloc, stack, atoms, &mut bounds, number as u32)?;
+        let learnt = learn(alloc, stack, atoms, &mut bounds, number as u32);
+        bounds.facts();
+        learnt?;
     }
     Ok(bounds)
 }
@@ -91,6 +100,7 @@ fn add_if_leaf(
     requires different { AreDifferent stack.now.trees }
     ensures knows { KnowsTheSame bounds.old bounds.new }
     ensures columns { (table : List Atom) → HasKnownColumns stack.now table bounds.old → HasKnownColumns stack.now table bounds.new }
+    ensures basis { HasBasis (first_basis (column_sums bounds.old)) (plain_grid bounds.old) → HasBasis (first_basis (column_sums bounds.new)) (plain_grid bounds.new) }
     ensures log { bounds.new.log ≡ bounds.old.log }
 {
     flat_says_the_same();
@@ -112,6 +122,7 @@ fn add_leaves(
     requires different { AreDifferent stack.now.trees }
     ensures knows { KnowsTheSame bounds.old bounds.new }
     ensures columns { (table : List Atom) → HasKnownColumns stack.now table bounds.old → HasKnownColumns stack.now table bounds.new }
+    ensures basis { HasBasis (first_basis (column_sums bounds.old)) (plain_grid bounds.old) → HasBasis (first_basis (column_sums bounds.new)) (plain_grid bounds.new) }
     ensures log { bounds.new.log ≡ bounds.old.log }
 {
     for place in 0..stack.terms().len() {
@@ -165,12 +176,14 @@ fn begin_with(
     requires knows { Knows atoms.now.atoms bounds }
     requires columns { HasKnownColumns stack.now atoms.now.atoms bounds }
     requires log { bounds.log ≡ [] }
+    requires basis { HasBasis (first_basis (column_sums bounds)) (plain_grid bounds) }
     ensures { IfOk result (IsBegun stack.now marks.now atoms.now) }
 {
     stack.laws();
     symbols_are_declared();
     flat_says_the_same();
     atoms_are_of_stack();
+    sums_are_apart();
     if stack.terms().len() >= u32::MAX - 2 {
         return Err(AllocError);
     }
@@ -181,6 +194,7 @@ fn begin_with(
     let guide = Guide::new(alloc, stack)?;
     let closure = ClosureLog::new(alloc, stack)?;
     add_leaves(alloc, stack, marks, &mut bounds)?;
+    bounds.facts();
     let mut scan = Scan::new(alloc);
     scan.grow(atoms.len())?;
     Ok(Begun {
@@ -209,7 +223,7 @@ pub fn begin(
     requires marks { AreStackParts stack.now marks.now }
     requires atoms { AreCheckAtoms stack.now marks.now atoms.now.atoms }
     ensures begun { IfOk result (IsBegun stack.now marks.now atoms.now) }
-    ensures err { IfErr result (IsErrorSeen stack.now []) }
+    ensures err { IfErr result (IsErrorSeen stack.now) }
 {
     stack.laws();
     flat_says_the_same();

@@ -3,8 +3,8 @@ ghost use Rattle.std.specs.Prelude.{◌<◌, length, Contains, All, IfSome};
 ghost use Rattle.fraction128.specs.Whole.{InRange};
 ghost use Rattle.smt_meaning.specs.declared.clauses.Atom.TheVariants.{AtMost};
 ghost use Rattle.bound_log.specs.Growth.{IsProper};
-ghost use Rattle.smt_laws.specs.Flat.{flat};
-ghost use Rattle.theory_steps.specs.Errors.{IsPastOf};
+ghost use Rattle.bound_log.specs.Told.{column_sums};
+ghost use Rattle.theory_steps.specs.Errors.{IsPastOver};
 ghost use Rattle.theory_steps.specs.Progress.{state, AreParts, IsUnderWay, Went};
 ghost use Rattle.theory_steps.specs.Shown.{IsOfCheck, IsLeft, IsMarkedLeaf};
 ghost use Rattle.theory_steps.specs.Steps.{IsStep};
@@ -75,7 +75,7 @@ pub(crate) fn stop_seeing(
     seen: Option<RangeSeen>,
 ) -> Step
     requires under_way { IsUnderWay parts.now progress.old }
-    requires seen { IfSome seen (IsLeft parts.now.stack.now progress.old.branches) }
+    requires seen { IfSome seen (IsLeft parts.now.stack.now (column_sums progress.old.held.bounds) progress.old.branches) }
     ensures went { Went parts.now progress.old progress.new budget.now budget.now }
     ensures step { IsStep (state parts.now progress.new) budget.now budget.now result }
 {
@@ -92,7 +92,7 @@ pub(crate) fn stop_past(
     grid: Grid,
 ) -> Step
     requires under_way { IsUnderWay parts.now progress.old }
-    requires past { IsPastOf parts.now.stack.now.trees (flat parts.now.stack.now.frames) progress.old.atoms.atoms grid }
+    requires past { IsPastOver (column_sums progress.old.held.bounds) progress.old.atoms.atoms grid }
     ensures went { Went parts.now progress.old progress.new budget.now budget.now }
     ensures step { IsStep (state parts.now progress.new) budget.now budget.now result }
 {

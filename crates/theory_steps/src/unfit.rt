@@ -2,6 +2,7 @@
 ghost use Rattle.std.specs.Prelude.{◌≡◌, ℕ, true, Contains, IfOk};
 ghost use Rattle.smt_meaning.specs.Ranges.{LeavesInModel};
 ghost use Rattle.smt_laws.specs.Flat.{flat};
+ghost use Rattle.bound_log.specs.Told.{column_sums};
 ghost use Rattle.model_eval.specs.Walk.{is_marked};
 ghost use Rattle.theory_steps.specs.Progress.{state, AreParts, IsUnderWay, Went};
 ghost use Rattle.theory_steps.specs.Steps.{IsStep};
@@ -37,7 +38,7 @@ fn are_readable(marks: &[bool], readable: &[bool]) -> bool
 fn in_model(parts: &Parts<'_>, progress: &Progress) -> Result<InModel, Unshown>
     requires parts { AreParts parts.now }
     requires under_way { IsUnderWay parts.now progress.now }
-    ensures { IfOk result (λ m. LeavesInModel parts.now.stack.now.trees (flat parts.now.stack.now.frames) (Contains progress.now.atoms.atoms) m.tables m.place m.grid) }
+    ensures { IfOk result (λ m. LeavesInModel parts.now.stack.now.trees (flat parts.now.stack.now.frames) (column_sums progress.now.held.bounds) (Contains progress.now.atoms.atoms) m.tables m.place m.grid) }
 {
     if !are_readable(&parts.marks, &parts.readable) {
         return Err(Unshown::Other);

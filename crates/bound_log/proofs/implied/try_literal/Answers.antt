@@ -1,6 +1,8 @@
-use Rattle.std.proofs.Common.{◌∙◌, subst}
+use Rattle.std.proofs.Common.{◌∙◌, subst, arith}
 use Rattle.bound_log.specs.Reporting.{Judges}
 use Rattle.bound_log.proofs.Implying.{if_some, tried_by}
+use Rattle.bound_log.proofs.KeptVariables.{kept_through}
+use Rattle.bound_log.proofs.Pivots.{basis_stays}
 use Rattle.bound_log.proofs.implied.try_literal.Goals as goal
 
 pub returns-clause-clause : goal.returns-clause-clause
@@ -12,3 +14,12 @@ returns-clause-clause c =
 
 pub returns-clause-columns : goal.returns-clause-columns
 returns-clause-columns c = λ table has. c.undo_to.ensures.columns table (c.check-report.ensures.columns table (c.tell.ensures.columns table has))
+
+pub returns-clause-variables : goal.returns-clause-variables
+returns-clause-variables c =
+    let checked = c.check-report in
+    kept_through c.args.bounds.now checked.new.self c.undo_to.new.self
+    (kept_through c.args.bounds.now c.tell.new.self checked.new.self c.tell.ensures.variables (record {
+      sums = checked.ensures.sums;
+      basis = λ is basis. basis_stays _ checked.result.pivots _ _ _ _ is checked.ensures.lines (omega (arith, checked.ensures.most)) basis;
+    })) c.undo_to.ensures.variables

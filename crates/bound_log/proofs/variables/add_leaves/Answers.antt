@@ -1,4 +1,4 @@
-use Rattle.std.proofs.Common.{take, subst}
+use Rattle.std.proofs.Common.{refl, take, subst}
 use Rattle.std.specs.Prelude.{All}
 use Rattle.std.proofs.lemmas.List.{take_all}
 use Rattle.std.proofs.lemmas.List.Elements.{All-nil, All-more}
@@ -8,10 +8,17 @@ use Rattle.bound_log.proofs.Growing.{grown_self, grown_through, leaves_kept}
 use Rattle.bound_log.specs.Columns.{IsLeafIn}
 use Rattle.bound_log.proofs.Columns.{adds_self, adds_through, leaf_added}
 use Rattle.bound_log.proofs.Resting.{still_self, still_through}
+use Rattle.sum_bounds.proofs.Bases.{bases_same, bases_through}
 use Rattle.bound_log.proofs.variables.add_leaves.Goals as goal
 
 pub loop-summand-init : goal.loop-summand-init
-loop-summand-init c = (grown_self c.args.bounds.now, still_self c.args.bounds.now, adds_self (IsLeafIn c.args.sum.now) c.args.bounds.now, All-nil (λ (p : Summand). HasLeaf c.args.bounds.now.columns p.term))
+loop-summand-init c = (
+  grown_self c.args.bounds.now,
+  still_self c.args.bounds.now,
+  adds_self (IsLeafIn c.args.sum.now) c.args.bounds.now,
+  All-nil (λ (p : Summand). HasLeaf c.args.bounds.now.columns p.term),
+  bases_same c.args.bounds.now c.args.bounds.now refl,
+)
 
 pub loop-summand-preserved : goal.loop-summand-preserved
 loop-summand-preserved c =
@@ -25,6 +32,7 @@ loop-summand-preserved c =
           (leaf_added c.args.sum.now i _ old new c.loop-summand-test.true c.add_leaf.ensures.sums),
       All-more (λ (p : Summand). HasLeaf new.columns p.term) c.args.sum.now i _ c.loop-summand-test.true
           (leaves_kept old new (take i c.args.sum.now) grown c.loop-summand.invariant.3) c.in_ok-add_leaf.ensures.leaf,
+      bases_through c.args.bounds.now old new c.loop-summand.invariant.4 c.add_leaf.ensures.bases,
     )
 
 pub returns-clause-leaves : goal.returns-clause-leaves
@@ -40,3 +48,6 @@ returns-in_err-add_leaf-clause-sums c =
 
 pub returns-clause-sums : goal.returns-clause-sums
 returns-clause-sums c = c.loop-summand.invariant.2
+
+pub returns-in_err-add_leaf-clause-bases : goal.returns-in_err-add_leaf-clause-bases
+returns-in_err-add_leaf-clause-bases c = bases_through c.args.bounds.now c.loop-summand.bounds c.add_leaf.new.bounds c.loop-summand.invariant.4 c.add_leaf.ensures.bases

@@ -2,6 +2,7 @@ use Rattle.fraction128.specs.Grid.{turned}
 use Rattle.bound_log.specs.Columns.{IsPartIn}
 use Rattle.bound_log.proofs.Columns.{adds_through, adds_sum, adds_leaves, as_part}
 use Rattle.bound_log.proofs.Resting.{still_through, still_by_sum, in_either}
+use Rattle.sum_bounds.proofs.Bases.{bases_through}
 use Rattle.bound_log.proofs.variables.variable_of.Goals as goal
 
 pub returns-clause-still : goal.returns-clause-still
@@ -22,3 +23,6 @@ returns-in_err-add_leaves-clause-sums c = adds_leaves c.args.sum.now c.args.boun
 
 pub returns-then-count-eq4294967295-clause-sums : goal.returns-then-count-eq4294967295-clause-sums
 returns-then-count-eq4294967295-clause-sums c = adds_leaves c.args.sum.now c.args.bounds.now c.add_leaves.new.bounds c.add_leaves.ensures.sums
+
+pub returns-clause-bases : goal.returns-clause-bases
+returns-clause-bases c = bases_through c.args.bounds.now c.add_leaves.new.bounds c.sum.new.self c.add_leaves.ensures.bases c.sum.ensures.bases

@@ -63,7 +63,7 @@ all_spent-requires-clause-spent g c =
     let s = c.args.stack.now in
     let after : TheoryState = g.T.Theory.state c.solve.new.theory in
     shows_units (record { as_written = c.follows_as_written.ensures; by_numbers = c.forces_by_numbers.ensures; in_turn = c.forces_in_turn.ensures; flatly = c.flat_says_the_same.ensures }) s c.args.store
-    c.solve.new.store c.laws.ensures c.args.settings.now.units (g.T.Theory.state c.args.theory) after c.new-budget.result c.solve.new.budget c.requires.first c.requires.all c.requires.reading
+    c.solve.new.store c.laws.ensures c.args.settings.now.units (g.T.Theory.state c.args.theory) after c.new-budget.result c.solve.new.budget c.requires.first c.requires.all c.requires.reading c.requires.basis
     (budget_of c.args.settings.now.units c.new-budget.result c.units_within-limit.result _ c.new-budget.ensures c.units_within-limit.ensures c.has_limit-limited.ensures) c.in-Ended-Units.ensures.run
     (subst (λ (e : Cause). EndsSearch after.reading c.solve.new.budget NoHook e) c.in-Ended-Units.field-0-is c.in-Ended-Units.ensures.outcome)
 

@@ -5,7 +5,7 @@ use Rattle.smt_meaning.specs.Stack.{depth}
 use Rattle.smt_meaning.specs.Report.{Shows}
 use Rattle.search_port.specs.State.{Reading}
 use Rattle.search_port.specs.declared.budget.Spent.{Spent}
-use Rattle.check_search.specs.Shown.{unit_of, NumbersNoBools, ChangeRows}
+use Rattle.check_search.specs.Shown.{unit_of, NumbersNoBools}
 use Rattle.check_search.proofs.ending.all_spent.Goals as goal
 
 pub returns : goal.returns
@@ -18,8 +18,7 @@ returns g c =
     ap (λ (us : List Spent). map (unit_of q.table (depth s.frames)) us) c.into_units.ensures in
     let same : c.in_ok-units.units ≡ map (unit_of q.table (depth s.frames)) c.args.budget.units = c.in_ok-units.ensures ∙ deep ∙ spent in
     let others : All (NumbersNoBools s) c.in_ok-units.units =
-    subst (λ (us : List ShownUnit). All (NumbersNoBools s) us) c.as_slice-written.ensures (c.some_numbers_bools.ensures s c.sorts.ensures c.if-some_numbers_bools.false) in
-    let change : ChangeRows c.in_ok-units.units = subst ChangeRows c.as_slice-written.ensures (c.some_row_twice.ensures c.if-some_row_twice.false) in
+    subst (λ (us : List ShownUnit). All (NumbersNoBools s) us) c.as_slice.ensures (c.some_numbers_bools.ensures s c.sorts.ensures c.if-some_numbers_bools.false) in
     c.report.ensures s.trees s.frames c.args.settings.now.units
     (subst (λ (us : List ShownUnit). Shows s.trees s.frames c.args.settings.now.units 0 c.show-shown.result.branches (Units us)) (sym same)
-    (c.requires.spent c.show-shown.result c.show-shown.ensures (subst (λ (us : List ShownUnit). All (NumbersNoBools s) us) same others) (subst ChangeRows same change)))
+    (c.requires.spent c.show-shown.result c.show-shown.ensures (subst (λ (us : List ShownUnit). All (NumbersNoBools s) us) same others)))

@@ -10,10 +10,14 @@ use Rattle.check_search.proofs.ending.stopped.Goals as goal
 pub returns-in-Some : goal.returns-in-Some
 returns-in-Some g c =
     let s = c.args.stack.now in
-    let q = (g.T.Theory.state c.args.theory).reading in
-    let shown : IsShowing (by_levels s q) c.show-branches.result = shown_by_levels c.flat_says_the_same.ensures s q c.show-branches.result c.requires.trees c.requires.frames c.show-branches.ensures in
-    c.report.ensures s.trees s.frames c.args.settings.now.units
-    (shown.branches, subst (λ (o : Option RangeSeen). IfSome o (LeavesRange s.trees s.frames (IsCheckAtom s.trees s.frames c.show-branches.result.branches))) c.in-Some.is shown.seen)
+    let t = g.T.Theory.state c.args.theory in
+    let shown : IsShowing (by_levels s t) c.show-branches.result = shown_by_levels c.flat_says_the_same.ensures s t c.show-branches.result c.requires.trees c.requires.frames c.show-branches.ensures in
+    c.report.ensures s.trees s.frames c.args.settings.now.units (record {
+      sums = t.variables.sums;
+      known = shown.sums;
+      are_branches = shown.branches;
+      leaves = subst (λ (o : Option RangeSeen). IfSome o (LeavesRange s.trees s.frames t.variables.sums (IsCheckAtom s.trees s.frames c.show-branches.result.branches))) c.in-Some.is shown.seen;
+    })
 
 pub returns-in-None : goal.returns-in-None
 returns-in-None g c = c.report-in-None.ensures c.args.stack.now.trees c.args.stack.now.frames c.args.settings.now.units tt

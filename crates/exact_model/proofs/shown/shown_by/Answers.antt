@@ -2,6 +2,7 @@ use Rattle.std.proofs.Common.{◌≡◌, ◌<◌, length, List, All, Contains, a
 use Rattle.fraction128.specs.declared.Grid.{Grid}
 use Rattle.smt_meaning.specs.Term.{Tree}
 use Rattle.scope_stack.specs.declared.answers.Assertion.{Assertion}
+use Rattle.bound_log.specs.Told.{column_sums}
 use Rattle.bound_log.specs.Pending.{plain_grid}
 use Rattle.exact_model.specs.Leaves.{HaveLeafValues}
 use Rattle.exact_model.specs.Shown.{IsTrueIn, IsUnfit}
@@ -30,4 +31,4 @@ returns c = λ table knows.
     let have : HaveLeafValues s marks c.in_ok-grid.grid (length s.trees) vs =
     subst (λ (g : Grid). HaveLeafValues s marks g (length s.trees) vs) (sym c.in_ok-grid.ensures.exact) c.requires.have in
     in_model c.flat_says_the_same.ensures s marks c.args.forms.now vs c.in_ok-tables.tables c.assertions-assertions.result.now c.in_ok-grid.grid c.laws.ensures c.requires.parts c.requires.of_assertions
-    c.requires.listed.forms c.assertions-assertions.ensures are_true c.in_ok-tables.ensures.values have (Contains table) c.in_ok-place.place c.in_ok-tables.ensures.tables unfit (c.in_ok-grid.ensures.sound table knows)
+    c.requires.listed.forms c.assertions-assertions.ensures are_true c.in_ok-tables.ensures.values have (column_sums c.args.bounds.now) (Contains table) c.in_ok-place.place c.in_ok-tables.ensures.tables unfit (c.in_ok-grid.ensures.sound table knows)

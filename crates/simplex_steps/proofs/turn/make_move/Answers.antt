@@ -3,10 +3,10 @@ use Rattle.std.proofs.lemmas.Result.{on_ok_weaker}
 use Rattle.fraction128.specs.Whole.{InRange}
 use Rattle.fraction128.proofs.Integers.{same_bits}
 use Rattle.tableau.proofs.RowLemmas.{if_err_then}
-use Rattle.simplex_steps.specs.Moved.{moved_to, moved_fits}
+use Rattle.simplex_steps.specs.Moved.{moved_fits}
 use Rattle.simplex_steps.specs.State.{column_in}
 use Rattle.simplex_steps.proofs.Next.{missed_ranged}
-use Rattle.simplex_steps.proofs.Sound.{move_made, move_fails}
+use Rattle.simplex_steps.proofs.Sound.{move_done, move_fails}
 use Rattle.simplex_steps.proofs.turn.make_move.Goals as goal
 
 pub move_columns-requires-clause-number : goal.move_columns-requires-clause-number
@@ -19,37 +19,33 @@ pub returns-clause-reaches : goal.returns-clause-reaches
 returns-clause-reaches c =
     let r = c.requires.sound.ranged c.args.variable in
     let same = same_bits c.args.number (missed_ranged (column_in c.args.columns.now c.args.variable) c.args.number r.0 r.1 c.requires.outside) in
-    on_ok_weaker c.move_columns.result
-    (λ e. (move_made c.args.tableau.now c.args.columns.now c.move_columns.new.columns c.args.variable c.args.number c.facts.ensures c.requires.sound c.requires.known c.requires.free c.requires.outside c.requires.settled
-    (subst (λ n. c.move_columns.new.columns ≡ moved_to c.args.tableau.now.rows c.args.columns.now c.args.variable n) same e)).reaches)
-    c.move_columns.ensures.ok
+    on_ok_weaker c.move_columns.result (λ m. m.reaches)
+    (move_done c.move_columns.result c.args.tableau.now c.args.columns.now c.move_columns.new.columns c.args.variable c.args.number _ c.facts.ensures c.requires.sound c.requires.known c.requires.free c.requires.outside
+    c.requires.settled same c.move_columns.ensures.ok c.move_columns.ensures.fits)
 
 pub returns-clause-sound : goal.returns-clause-sound
 returns-clause-sound c =
     let r = c.requires.sound.ranged c.args.variable in
     let same = same_bits c.args.number (missed_ranged (column_in c.args.columns.now c.args.variable) c.args.number r.0 r.1 c.requires.outside) in
-    on_ok_weaker c.move_columns.result
-    (λ e. (move_made c.args.tableau.now c.args.columns.now c.move_columns.new.columns c.args.variable c.args.number c.facts.ensures c.requires.sound c.requires.known c.requires.free c.requires.outside c.requires.settled
-    (subst (λ n. c.move_columns.new.columns ≡ moved_to c.args.tableau.now.rows c.args.columns.now c.args.variable n) same e)).sound)
-    c.move_columns.ensures.ok
+    on_ok_weaker c.move_columns.result (λ m. m.sound)
+    (move_done c.move_columns.result c.args.tableau.now c.args.columns.now c.move_columns.new.columns c.args.variable c.args.number _ c.facts.ensures c.requires.sound c.requires.known c.requires.free c.requires.outside
+    c.requires.settled same c.move_columns.ensures.ok c.move_columns.ensures.fits)
 
 pub returns-clause-settled : goal.returns-clause-settled
 returns-clause-settled c =
     let r = c.requires.sound.ranged c.args.variable in
     let same = same_bits c.args.number (missed_ranged (column_in c.args.columns.now c.args.variable) c.args.number r.0 r.1 c.requires.outside) in
-    on_ok_weaker c.move_columns.result
-    (λ e. (move_made c.args.tableau.now c.args.columns.now c.move_columns.new.columns c.args.variable c.args.number c.facts.ensures c.requires.sound c.requires.known c.requires.free c.requires.outside c.requires.settled
-    (subst (λ n. c.move_columns.new.columns ≡ moved_to c.args.tableau.now.rows c.args.columns.now c.args.variable n) same e)).settled)
-    c.move_columns.ensures.ok
+    on_ok_weaker c.move_columns.result (λ m. m.settled)
+    (move_done c.move_columns.result c.args.tableau.now c.args.columns.now c.move_columns.new.columns c.args.variable c.args.number _ c.facts.ensures c.requires.sound c.requires.known c.requires.free c.requires.outside
+    c.requires.settled same c.move_columns.ensures.ok c.move_columns.ensures.fits)
 
 pub returns-clause-bounds : goal.returns-clause-bounds
 returns-clause-bounds c =
     let r = c.requires.sound.ranged c.args.variable in
     let same = same_bits c.args.number (missed_ranged (column_in c.args.columns.now c.args.variable) c.args.number r.0 r.1 c.requires.outside) in
-    on_ok_weaker c.move_columns.result
-    (λ e. (move_made c.args.tableau.now c.args.columns.now c.move_columns.new.columns c.args.variable c.args.number c.facts.ensures c.requires.sound c.requires.known c.requires.free c.requires.outside c.requires.settled
-    (subst (λ n. c.move_columns.new.columns ≡ moved_to c.args.tableau.now.rows c.args.columns.now c.args.variable n) same e)).bounds)
-    c.move_columns.ensures.ok
+    on_ok_weaker c.move_columns.result (λ m. m.bounds)
+    (move_done c.move_columns.result c.args.tableau.now c.args.columns.now c.move_columns.new.columns c.args.variable c.args.number _ c.facts.ensures c.requires.sound c.requires.known c.requires.free c.requires.outside
+    c.requires.settled same c.move_columns.ensures.ok c.move_columns.ensures.fits)
 
 pub returns-clause-range : goal.returns-clause-range
 returns-clause-range c =

@@ -5,7 +5,7 @@ use Rattle.std.specs.Prelude.{IfSome}
 use Rattle.fraction128.specs.Grid.{leaf}
 use Rattle.tableau.specs.declared.sum.Part.{Part}
 use Rattle.simplex_steps.specs.State.{column_in}
-use Rattle.sum_bounds.proofs.Leaves.{leaf_found}
+use Rattle.simplex.proofs.Leaves.{leaf_found}
 use Rattle.sum_bounds.proofs.writing.part_of.Goals as goal
 
 pub returns : goal.returns

@@ -15,5 +15,5 @@ pub returns : goal.returns
 returns c =
     let w = c.args.progress.now in
     let yes : c.are_within.result ≡ true = search rules in
-    argument_left c.args.parts.now.stack.now w.branches w.seen w.atoms.atoms c.requires.under_way.3 w.held.bounds c.in_ok-place.place c.in-Ok.grid c.facts.ensures.bounds.apart c.in-Ok.ensures.exact
+    argument_left c.args.parts.now.stack.now w.held.bounds w.branches w.seen w.atoms.atoms c.requires.under_way.3 c.in_ok-place.place c.in-Ok.grid c.facts.ensures.bounds.apart c.in-Ok.ensures.exact
     (c.in-Ok.ensures.sound w.atoms.atoms c.requires.under_way.1.held.knows) (subst (All WithinBounds) c.as_slice.ensures (c.are_within.ensures yes)) c.in_ok-place.ensures

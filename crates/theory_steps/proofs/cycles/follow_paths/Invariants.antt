@@ -8,5 +8,6 @@ abbrev pub invariant-loop-turn : goal.invariant-loop-turn
 invariant-loop-turn l = record {
   held : IsHeld l.stack l.atoms.atoms l.held;
   log : l.held.closure.log.items ≡ l.initial.held.closure.log.items;
+  bounds : l.held.bounds ≡ l.initial.held.bounds;
   found : All (IsPressingLemma (state_of l.stack l.atoms.atoms l.held.closure.log.items)) l.clauses.items;
 }

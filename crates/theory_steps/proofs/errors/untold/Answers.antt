@@ -21,11 +21,11 @@ error_of-requires c = λ r.
     (c.requires.fails r table sum k c.requires.knows (ap (atom_at table) (sym c.atom-number.ensures) ∙ same)))
 
 pub returns-in-Bound : goal.returns-in-Bound
-returns-in-Bound c = λ all columns.
+returns-in-Bound c =
     let table = c.args.atoms.now.atoms in
     let k = c.in-Bound.bound.threshold in
     let sum = c.sum.result.now in
     let fits : SFits w128 k = search rules in
     let same : atom_at table c.atom-number.result ≡ AtMost sum k = c.in-Bound.ensures.atom.1 (Truth 0) ∙ ap (λ (ps : List Summand). AtMost ps k) (c.sum.ensures.1 []) in
-    c.error_of.ensures table table all c.requires.knows (λ a h. h) columns
+    c.error_of.ensures table table c.requires.knows (λ a h. h)
     (subst (λ (z : ℤ). Contains table (AtMost sum z)) (sym (to_z-of_z w128 k fits)) (subst (Contains table) same (Contains-get_or table c.atom-number.result (Truth 0) c.in-Bound.ensures.atom.0)))

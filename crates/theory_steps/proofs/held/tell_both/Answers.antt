@@ -6,10 +6,9 @@ use Rattle.bound_log.specs.Pending.{FailsToTell}
 use Rattle.closure_log.specs.Seen.{state_of}
 use Rattle.closure_log.specs.Places.{ArePlaces}
 use Rattle.theory_steps.specs.declared.held.Held.{Held}
-use Rattle.theory_steps.specs.Columns.{with_leaves}
 use Rattle.theory_steps.specs.Held.{IsHeld}
 use Rattle.theory_steps.proofs.Holding.{ended_same, front_of}
-use Rattle.theory_steps.proofs.Past.{error_with}
+use Rattle.theory_steps.proofs.Growing.{keeps_both}
 use Rattle.theory_steps.proofs.Telling.{keeps_known, told_more}
 use Rattle.theory_steps.proofs.held.tell_both.Goals as goal
 
@@ -61,9 +60,7 @@ returns-in-Err-clause-held c =
     subst (λ (b : State). IsHeld c.args.stack.now c.args.atoms.now.atoms (record old { bounds = b })) (sym c.in-Err.ensures.err) c.requires.held
 
 pub returns-in-Err-clause-err : goal.returns-in-Err-clause-err
-returns-in-Err-clause-err c =
-    let s = c.args.stack.now in
-    let table = c.args.atoms.now.atoms in
-    let columns = c.requires.held.columns in
-    let all = with_leaves columns.own table in
-    error_with s table columns.own columns.leaves c.untold.result (c.untold.ensures all (c.tell.ensures.columns all columns.columns))
+returns-in-Err-clause-err c = c.untold.ensures
+
+pub returns-in-Ended-clause-variables : goal.returns-in-Ended-clause-variables
+returns-in-Ended-clause-variables c = keeps_both c.args.held.now.bounds c.tell.new.self c.undo_to.new.self c.tell.ensures.variables c.undo_to.ensures.variables

@@ -1,12 +1,13 @@
 use Rattle.std.proofs.Common.{◌∙◌, ◌++◌, ◌∷◌, [], refl}
-use Rattle.smt_laws.specs.Flat.{flat}
+use Rattle.bound_log.specs.Told.{column_sums}
 use Rattle.bound_log.proofs.Taking.{err_is}
 use Rattle.theory_steps.specs.declared.errors.BoundError.TheVariants.{Memory}
 use Rattle.theory_steps.specs.declared.held.Held.{Held}
-use Rattle.theory_steps.specs.Errors.{IsErrorOf}
+use Rattle.theory_steps.specs.Errors.{IsErrorOver}
 use Rattle.theory_steps.specs.Numbering.{atom_of}
 use Rattle.theory_steps.proofs.Numbers.{whole_more}
-use Rattle.theory_steps.proofs.Past.{error_added}
+use Rattle.theory_steps.proofs.Growing.{grows_none}
+use Rattle.theory_steps.proofs.Telling.{adds_known, known_more}
 use Rattle.theory_steps.proofs.numbering.add.Goals as goal
 
 pub returns-clause-whole : goal.returns-clause-whole
@@ -17,19 +18,33 @@ returns-clause-whole c =
 
 pub returns-in_err-number-clause-err : goal.returns-in_err-number-clause-err
 returns-in_err-number-clause-err c =
-    let s = c.args.parts.now.stack.now in
-    err_is c.from_residual.result Memory (IsErrorOf s.trees (flat s.frames) (c.args.atoms.now.atoms ++ atom_of c.args.atom.now ∷ [])) c.from_residual.ensures.1 tt
+    err_is c.from_residual.result Memory (IsErrorOver (column_sums c.args.held.now.bounds) (c.args.atoms.now.atoms ++ atom_of c.args.atom.now ∷ [])) c.from_residual.ensures.1 tt
 
 pub returns-in_err-know-clause-err : goal.returns-in_err-know-clause-err
 returns-in_err-know-clause-err c =
-    let s = c.args.parts.now.stack.now in
     let table = c.args.atoms.now.atoms in
     let a = atom_of c.args.atom.now in
-    let held = c.requires.whole.held in
-    err_is c.from_residual-in_err-know.result c.in_err-know.field-0.0 (IsErrorOf s.trees (flat s.frames) (table ++ a ∷ [])) c.from_residual-in_err-know.ensures.1
-    (error_added s table a c.args.held.now.bounds c.in_err-know.field-0.0 held.knows held.columns c.in_err-know.ensures.err)
+    err_is c.from_residual-in_err-know.result c.in_err-know.field-0.0 (IsErrorOver (column_sums c.know.new.bounds) (table ++ a ∷ [])) c.from_residual-in_err-know.ensures.1
+    (c.in_err-know.ensures.err table c.requires.whole.held.knows)
 
 pub returns-in_err-grow-clause-err : goal.returns-in_err-grow-clause-err
 returns-in_err-grow-clause-err c =
-    let s = c.args.parts.now.stack.now in
-    err_is c.from_residual-in_err-grow.result Memory (IsErrorOf s.trees (flat s.frames) (c.args.atoms.now.atoms ++ atom_of c.args.atom.now ∷ [])) c.from_residual-in_err-grow.ensures.1 tt
+    err_is c.from_residual-in_err-grow.result Memory (IsErrorOver (column_sums c.know.new.bounds) (c.args.atoms.now.atoms ++ atom_of c.args.atom.now ∷ [])) c.from_residual-in_err-grow.ensures.1 tt
+
+pub returns-in_err-number-clause-columns : goal.returns-in_err-number-clause-columns
+returns-in_err-number-clause-columns c = known_more c.args.parts.now.stack.now c.args.atoms.now.atoms (atom_of c.args.atom.now) c.args.held.now.bounds c.requires.whole.held.columns
+
+pub returns-in_err-know-clause-columns : goal.returns-in_err-know-clause-columns
+returns-in_err-know-clause-columns c =
+    adds_known c.args.parts.now.stack.now c.args.atoms.now.atoms (atom_of c.args.atom.now) c.args.held.now.bounds c.know.new.bounds c.know.ensures.columns c.requires.whole.held.columns
+
+pub returns-in_err-grow-clause-columns : goal.returns-in_err-grow-clause-columns
+returns-in_err-grow-clause-columns c =
+    adds_known c.args.parts.now.stack.now c.args.atoms.now.atoms (atom_of c.args.atom.now) c.args.held.now.bounds c.know.new.bounds c.know.ensures.columns c.requires.whole.held.columns
+
+pub returns-clause-columns : goal.returns-clause-columns
+returns-clause-columns c =
+    adds_known c.args.parts.now.stack.now c.args.atoms.now.atoms (atom_of c.args.atom.now) c.args.held.now.bounds c.know.new.bounds c.know.ensures.columns c.requires.whole.held.columns
+
+pub returns-in_err-number-clause-variables : goal.returns-in_err-number-clause-variables
+returns-in_err-number-clause-variables c = grows_none c.args.held.now.bounds

@@ -5,6 +5,7 @@ pub returns : goal.returns
 returns c =
     let shown = c.requires.2 in
     record {
+      sums = shown.sums_known;
       branches = shown.branches;
       atoms = shown.atoms;
       different = own_numbers c.args.progress.lost c.args.progress.atoms.atoms c.are_apart.ensures;

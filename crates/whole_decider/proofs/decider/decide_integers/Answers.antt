@@ -1,6 +1,6 @@
 use Rattle.std.proofs.Common.{◌⊎◌, ◌∙◌, List, Contains, sym, ap, subst}
 use Rattle.smt_meaning.specs.declared.clauses.Atom.{Atom}
-use Rattle.search_port.specs.State.{TheoryState}
+use Rattle.search_port.specs.State.{Reading}
 use Rattle.check_atoms.specs.declared.atoms.CheckAtoms.{CheckAtoms}
 use Rattle.check_atoms.specs.Laws.{IsSameOfBools}
 use Rattle.whole_decider.proofs.decider.decide_integers.Goals as goal
@@ -11,4 +11,4 @@ search-requires-clause-all c =
     let first = c.atoms_are_first.ensures s c.in-Ok.parts.marks.items c.in-Ok.parts.atoms.atoms c.laws.ensures c.in-Ok.ensures.parts c.in-Ok.ensures.atoms in
     λ a among.
     subst (λ (table : List Atom). Contains table a ⊎ IsSameOfBools s a)
-    (sym (ap (λ (t : TheoryState). t.reading.table) c.in-Ok-new.ensures.ok ∙ ap (λ (p : CheckAtoms). p.atoms.atoms) c.check_clauses.ensures.same)) (first.0.all a among)
+    (sym (ap (λ (r : Reading). r.table) c.in-Ok-new.ensures.reading ∙ ap (λ (p : CheckAtoms). p.atoms.atoms) c.check_clauses.ensures.same)) (first.0.all a among)

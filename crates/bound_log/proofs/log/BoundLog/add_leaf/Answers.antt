@@ -8,6 +8,8 @@ use Rattle.bound_log.proofs.Resting.{resting_still}
 use Rattle.bound_log.proofs.Growing.{keeps_where_grown, fewer}
 use Rattle.bound_log.proofs.Knowing.{knows_kept}
 use Rattle.bound_log.proofs.Columns.{columns_leaf}
+use Rattle.bound_log.specs.Growth.{GrowsVariables}
+use Rattle.bound_log.proofs.KeptVariables.{grows}
 use Rattle.bound_log.proofs.log.BoundLog.add_leaf.Goals as goal
 
 pub invariant_of-self : goal.invariant_of-self
@@ -34,3 +36,10 @@ returns-clause-columns c = λ k.
     let old : State = record { bounds = s.bounds; said = s.said.items; log = s.log.items } in
     let new : State = record { bounds = b; said = s.said.items; log = s.log.items } in
     subst (λ (o : State). AddsColumns o (term_at_most c.args.term k) new) c.self.view_is (columns_leaf old new c.args.term k c.add_leaf.ensures.sums)
+
+pub returns-clause-variables : goal.returns-clause-variables
+returns-clause-variables c =
+    let s = c.self.inside in
+    let old : State = record { bounds = s.bounds; said = s.said.items; log = s.log.items } in
+    let new : State = record { bounds = c.add_leaf.new.bounds; said = s.said.items; log = s.log.items } in
+    subst (λ (o : State). GrowsVariables o new) c.self.view_is (grows old new c.add_leaf.ensures.grown c.add_leaf.ensures.bases)

@@ -1,6 +1,5 @@
-use Rattle.std.proofs.Common.{◌≤◌, length, arith, subst}
-use Rattle.simplex_steps.specs.State.{grid_of}
-use Rattle.bound_log.specs.Told.{State, IsState}
+use Rattle.std.proofs.Common.{◌≡◌, ◌≤◌, length, arith, subst}
+use Rattle.bound_log.specs.Told.{State, IsState, column_sums}
 use Rattle.bound_log.specs.Columns.{KeepsColumns}
 use Rattle.bound_log.specs.Pivots.{AddsPivots}
 use Rattle.bound_log.proofs.Telling.{core_kept, state_is}
@@ -8,6 +7,7 @@ use Rattle.bound_log.proofs.Breaking.{judged}
 use Rattle.bound_log.proofs.Resting.{resting_run}
 use Rattle.bound_log.proofs.Columns.{columns_by_bounds}
 use Rattle.bound_log.proofs.Pivots.{adds_pivots}
+use Rattle.bound_log.proofs.KeptVariables.{sums_by_bounds}
 use Rattle.bound_log.proofs.log.BoundLog.check.Goals as goal
 
 pub returns-clause-judges : goal.returns-clause-judges
@@ -37,12 +37,20 @@ returns-clause-columns c =
     let new : State = record { bounds = c.check-finding.new.self; said = s.said.items; log = s.log.items } in
     subst (λ (o : State). KeepsColumns o new) c.self.view_is (columns_by_bounds old new c.check-finding.ensures.run.bounds)
 
+pub returns-clause-sums : goal.returns-clause-sums
+returns-clause-sums c =
+    let s = c.self.inside in
+    let old : State = record { bounds = s.bounds; said = s.said.items; log = s.log.items } in
+    let new : State = record { bounds = c.check-finding.new.self; said = s.said.items; log = s.log.items } in
+    subst (λ (o : State). column_sums new ≡ column_sums o) c.self.view_is (sums_by_bounds old new c.check-finding.ensures.run.bounds)
+
 pub returns-clause-pivots : goal.returns-clause-pivots
 returns-clause-pivots c =
     let s = c.self.inside in
     let old : State = record { bounds = s.bounds; said = s.said.items; log = s.log.items } in
     let kept = c.args.kept.now in
     let checked = c.check-finding in
+    let new : State = record { bounds = checked.new.self; said = s.said.items; log = s.log.items } in
     let state : IsState old = state_is s.bounds s.said.items s.log.items s.starts.items c.facts.ensures c.self.invariant.0 in
-    subst (λ (o : State). AddsPivots o kept.keep checked.result.pivots kept.lines.items checked.new.kept.lines.items) c.self.view_is
-    (adds_pivots old kept.keep checked.result.pivots (grid_of checked.new.self.table checked.new.self.columns) kept.lines.items checked.new.kept.lines.items state c.origins.ensures c.self.invariant.1 checked.ensures.lines)
+    subst (λ (o : State). AddsPivots o new kept.keep checked.result.pivots kept.lines.items checked.new.kept.lines.items) c.self.view_is
+    (adds_pivots old new kept.keep checked.result.pivots kept.lines.items checked.new.kept.lines.items state c.origins.ensures c.self.invariant.1 checked.ensures.lines)

@@ -20,7 +20,9 @@ use Rattle.bound_log.proofs.Knowing.{knows_more, knows_kept, says_nothing}
 use Rattle.bound_log.specs.Columns.{AddsColumns, IsPartIn, AddsSums}
 use Rattle.bound_log.specs.Pending.{FailsToTake}
 use Rattle.bound_log.proofs.Taking.{err_is, fails_to_take}
-use Rattle.bound_log.proofs.Columns.{columns_other, columns_more}
+use Rattle.bound_log.proofs.Columns.{not_empty, columns_other, columns_more}
+use Rattle.bound_log.specs.Growth.{GrowsVariables}
+use Rattle.bound_log.proofs.KeptVariables.{grows, grows_self}
 use Rattle.bound_log.proofs.log.BoundLog.know_bound.Goals as goal
 
 pub invariant_of-self-then-is_empty : goal.invariant_of-self-then-is_empty
@@ -127,7 +129,7 @@ returns-in_err-of-clause-columns c =
     let old : State = record { bounds = s.bounds; said = s.said.items; log = s.log.items } in
     let new : State = record { bounds = b; said = s.said.items; log = s.log.items } in
     let adds : AddsSums (IsPartIn (plain c.args.sum.now)) s.bounds b = subst (λ (ps : List Summand). AddsSums (IsPartIn ps) s.bounds b) (c.deref.ensures.value ∙ c.in_ok-terms.ensures) c.variable_of.ensures.sums in
-    subst (λ (o : State). AddsColumns o (AtMost c.args.sum.now c.args.threshold) new) c.self.view_is (columns_more old new c.args.sum.now c.args.threshold adds)
+    subst (λ (o : State). AddsColumns o (AtMost c.args.sum.now c.args.threshold) new) c.self.view_is (columns_more old new c.args.sum.now c.args.threshold (not_empty c.args.sum.now (search rules)) adds)
 
 pub returns-in_err-of-clause-fails : goal.returns-in_err-of-clause-fails
 returns-in_err-of-clause-fails c =
@@ -147,7 +149,7 @@ returns-in_err-add-2-clause-columns c =
     let old : State = record { bounds = s.bounds; said = s.said.items; log = s.log.items } in
     let new : State = record { bounds = b; said = c.add-2.new.said.items; log = s.log.items } in
     let adds : AddsSums (IsPartIn (plain c.args.sum.now)) s.bounds b = subst (λ (ps : List Summand). AddsSums (IsPartIn ps) s.bounds b) (c.deref.ensures.value ∙ c.in_ok-terms.ensures) c.variable_of.ensures.sums in
-    subst (λ (o : State). AddsColumns o (AtMost c.args.sum.now c.args.threshold) new) c.self.view_is (columns_more old new c.args.sum.now c.args.threshold adds)
+    subst (λ (o : State). AddsColumns o (AtMost c.args.sum.now c.args.threshold) new) c.self.view_is (columns_more old new c.args.sum.now c.args.threshold (not_empty c.args.sum.now (search rules)) adds)
 
 pub returns-clause-columns : goal.returns-clause-columns
 returns-clause-columns c =
@@ -156,4 +158,41 @@ returns-clause-columns c =
     let old : State = record { bounds = s.bounds; said = s.said.items; log = s.log.items } in
     let new : State = record { bounds = b; said = c.add-2.new.said.items; log = s.log.items } in
     let adds : AddsSums (IsPartIn (plain c.args.sum.now)) s.bounds b = subst (λ (ps : List Summand). AddsSums (IsPartIn ps) s.bounds b) (c.deref.ensures.value ∙ c.in_ok-terms.ensures) c.variable_of.ensures.sums in
-    subst (λ (o : State). AddsColumns o (AtMost c.args.sum.now c.args.threshold) new) c.self.view_is (columns_more old new c.args.sum.now c.args.threshold adds)
+    subst (λ (o : State). AddsColumns o (AtMost c.args.sum.now c.args.threshold) new) c.self.view_is (columns_more old new c.args.sum.now c.args.threshold (not_empty c.args.sum.now (search rules)) adds)
+
+pub returns-in_err-add-clause-variables : goal.returns-in_err-add-clause-variables
+returns-in_err-add-clause-variables c =
+    let s = c.self.inside in
+    grows_self c.args.self.now (record { bounds = s.bounds; said = c.add.new.said.items; log = s.log.items }) (ap (λ (o : State). o.bounds) c.self.view_is)
+
+pub returns-then-is_empty-clause-variables : goal.returns-then-is_empty-clause-variables
+returns-then-is_empty-clause-variables c =
+    let s = c.self.inside in
+    grows_self c.args.self.now (record { bounds = s.bounds; said = c.add.new.said.items; log = s.log.items }) (ap (λ (o : State). o.bounds) c.self.view_is)
+
+pub returns-in_err-terms-clause-variables : goal.returns-in_err-terms-clause-variables
+returns-in_err-terms-clause-variables c = grows_self c.args.self.now c.args.self.now refl
+
+pub returns-in_err-of-clause-variables : goal.returns-in_err-of-clause-variables
+returns-in_err-of-clause-variables c =
+    let s = c.self.inside in
+    let b = c.variable_of.new.bounds in
+    let old : State = record { bounds = s.bounds; said = s.said.items; log = s.log.items } in
+    let new : State = record { bounds = b; said = s.said.items; log = s.log.items } in
+    subst (λ (o : State). GrowsVariables o new) c.self.view_is (grows old new c.variable_of.ensures.grown c.variable_of.ensures.bases)
+
+pub returns-in_err-add-2-clause-variables : goal.returns-in_err-add-2-clause-variables
+returns-in_err-add-2-clause-variables c =
+    let s = c.self.inside in
+    let b = c.variable_of.new.bounds in
+    let old : State = record { bounds = s.bounds; said = s.said.items; log = s.log.items } in
+    let new : State = record { bounds = b; said = c.add-2.new.said.items; log = s.log.items } in
+    subst (λ (o : State). GrowsVariables o new) c.self.view_is (grows old new c.variable_of.ensures.grown c.variable_of.ensures.bases)
+
+pub returns-clause-variables : goal.returns-clause-variables
+returns-clause-variables c =
+    let s = c.self.inside in
+    let b = c.variable_of.new.bounds in
+    let old : State = record { bounds = s.bounds; said = s.said.items; log = s.log.items } in
+    let new : State = record { bounds = b; said = c.add-2.new.said.items; log = s.log.items } in
+    subst (λ (o : State). GrowsVariables o new) c.self.view_is (grows old new c.variable_of.ensures.grown c.variable_of.ensures.bases)

@@ -7,6 +7,7 @@ use Rattle.bound_log.proofs.Growing.{keeps_self}
 use Rattle.bound_log.proofs.Resting.{resting_more}
 use Rattle.bound_log.proofs.Knowing.{knows_more}
 use Rattle.bound_log.proofs.Columns.{columns_other}
+use Rattle.bound_log.proofs.KeptVariables.{grows_self}
 use Rattle.bound_log.proofs.log.BoundLog.know_other.Goals as goal
 
 pub invariant_of-self-2 : goal.invariant_of-self-2
@@ -34,3 +35,13 @@ returns-clause-columns c = λ a.
     let s = c.self.inside in
     let new : State = record { bounds = s.bounds; said = c.add.new.said.items; log = s.log.items } in
     columns_other c.args.self.now new a (ap (λ (o : State). o.bounds) c.self.view_is)
+
+pub returns-in_err-add-clause-variables : goal.returns-in_err-add-clause-variables
+returns-in_err-add-clause-variables c =
+    let s = c.self.inside in
+    grows_self c.args.self.now (record { bounds = s.bounds; said = c.add.new.said.items; log = s.log.items }) (ap (λ (o : State). o.bounds) c.self.view_is)
+
+pub returns-clause-variables : goal.returns-clause-variables
+returns-clause-variables c =
+    let s = c.self.inside in
+    grows_self c.args.self.now (record { bounds = s.bounds; said = c.add.new.said.items; log = s.log.items }) (ap (λ (o : State). o.bounds) c.self.view_is)

@@ -2,7 +2,7 @@ use Rattle.std.proofs.Common.{sym, subst}
 use Rattle.std.specs.Prelude.{Contains}
 use Rattle.fraction128.specs.Lines.{IsSoundGrid}
 use Rattle.smt_meaning.specs.CheckAtoms.{IsBoundOf}
-use Rattle.bound_log.specs.Told.{State, IsState}
+use Rattle.bound_log.specs.Told.{State, IsState, column_sums}
 use Rattle.bound_log.specs.Atoms.{Knows}
 use Rattle.bound_log.proofs.Telling.{state_is}
 use Rattle.bound_log.proofs.Lines.{sound_grid}
@@ -14,5 +14,6 @@ returns-clause-sound c = λ table knows.
     let s = c.self.inside in
     let now : State = record { bounds = s.bounds; said = s.said.items; log = s.log.items } in
     let state : IsState now = state_is s.bounds s.said.items s.log.items s.starts.items c.facts.ensures c.self.invariant.0 in
-    sound_pending (IsBoundOf (Contains table)) c.in_ok-columns.field-0 _
-    (subst (IsSoundGrid (IsBoundOf (Contains table))) (sym c.in_ok-columns.ensures) (sound_grid table now state c.origins.ensures c.self.invariant.1 (subst (Knows table) (sym c.self.view_is) knows)))
+    sound_pending (column_sums c.args.self.now) (IsBoundOf (Contains table)) c.in_ok-columns.field-0 _
+    (subst (λ (o : State). IsSoundGrid (column_sums o) (IsBoundOf (Contains table)) c.in_ok-columns.field-0) c.self.view_is
+    (subst (IsSoundGrid (column_sums now) (IsBoundOf (Contains table))) (sym c.in_ok-columns.ensures) (sound_grid table now state c.origins.ensures c.self.invariant.1 (subst (Knows table) (sym c.self.view_is) knows))))

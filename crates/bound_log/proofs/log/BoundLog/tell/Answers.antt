@@ -8,6 +8,8 @@ use Rattle.bound_log.proofs.Telling.{core_told}
 use Rattle.bound_log.proofs.Resting.{resting_still, still_values}
 use Rattle.bound_log.proofs.Columns.{columns_by_values}
 use Rattle.bound_log.proofs.Taking.{err_is, fails_to_tell}
+use Rattle.bound_log.specs.Growth.{KeepsVariables}
+use Rattle.bound_log.proofs.KeptVariables.{kept_by_values}
 use Rattle.bound_log.proofs.log.BoundLog.tell.Goals as goal
 
 pub invariant_of-self-2 : goal.invariant_of-self-2
@@ -41,3 +43,19 @@ returns-in_err-tell_said-clause-fails c =
     (λ r.
     subst (λ (o : State). FailsToTell o l) c.self.view_is
     (fails_to_tell old l c.in_err-tell_said.field-0.0 number (subst (λ (d : Said). IsPast d l c.in_err-tell_said.field-0.0) said (c.in_err-tell_said.ensures.range r))))
+
+pub returns-in_err-tell_said-clause-variables : goal.returns-in_err-tell_said-clause-variables
+returns-in_err-tell_said-clause-variables c =
+    let s = c.self.inside in
+    let t = c.tell_said.new in
+    let old : State = record { bounds = s.bounds; said = s.said.items; log = s.log.items } in
+    let new : State = record { bounds = t.bounds; said = s.said.items; log = t.log.items } in
+    subst (λ (o : State). KeepsVariables o new) c.self.view_is (kept_by_values old new c.tell_said.ensures.table c.tell_said.ensures.values)
+
+pub returns-clause-variables : goal.returns-clause-variables
+returns-clause-variables c =
+    let s = c.self.inside in
+    let t = c.tell_said.new in
+    let old : State = record { bounds = s.bounds; said = s.said.items; log = s.log.items } in
+    let new : State = record { bounds = t.bounds; said = s.said.items; log = t.log.items } in
+    subst (λ (o : State). KeepsVariables o new) c.self.view_is (kept_by_values old new c.tell_said.ensures.table c.tell_said.ensures.values)

@@ -1,7 +1,10 @@
-use Rattle.std.proofs.Common.{rules, ◌≡◌, ◌<◌, length, take}
+use Rattle.std.proofs.Common.{rules, ◌≡◌, ◌<◌, length, take, subst}
 use Rattle.std.specs.Prelude.{slice_index_or}
 use Rattle.bound_log.proofs.Telling.{core_undone}
 use Rattle.bound_log.proofs.Resting.{resting_still, still_values}
+use Rattle.bound_log.specs.Told.{State}
+use Rattle.bound_log.specs.Growth.{KeepsVariables}
+use Rattle.bound_log.proofs.KeptVariables.{kept_by_values}
 use Rattle.bound_log.proofs.log.BoundLog.undo_to.Goals as goal
 
 pub invariant_of-self : goal.invariant_of-self
@@ -17,3 +20,10 @@ invariant_of-self c =
           c.undo_to.ensures.told is is_starts,
       resting_still s.bounds c.undo_to.new.self s.said.items (still_values s.bounds c.undo_to.new.self c.undo_to.ensures.table c.undo_to.ensures.values) c.self.invariant.1,
     )
+
+pub returns-then-count-len-clause-variables : goal.returns-then-count-len-clause-variables
+returns-then-count-len-clause-variables c =
+    let s = c.self.inside in
+    let old : State = record { bounds = s.bounds; said = s.said.items; log = s.log.items } in
+    let new : State = record { bounds = c.undo_to.new.self; said = s.said.items; log = c.truncate.new.self.items } in
+    subst (λ (o : State). KeepsVariables o new) c.self.view_is (kept_by_values old new c.undo_to.ensures.table c.undo_to.ensures.values)

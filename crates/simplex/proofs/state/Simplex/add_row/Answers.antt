@@ -30,7 +30,7 @@ invariant_of-self-2 c =
     (λ e f. subst (λ u. IsCore u c.append.new.columns.items c.add_variable.new.self) (sym e)
     (subst (λ ds. IsCore (with_row t (record { basic = t.count; entries = c.in_ok-entries.entries.items })) ds c.add_variable.new.self) (sym f)
     (core_grown t (with_row t (record { basic = t.count; entries = c.in_ok-entries.entries.items })) cs c.self.inside.trail c.add_variable.new.self c.args.sum c.in_ok-value.value c.self.invariant
-    (grown_row t cs column c.in_ok-entries.entries.items c.facts.ensures c.self.invariant.solution c.in_ok-entries.ensures.ok.open_row c.in_ok-value.ensures.value)
+    (grown_row t cs column c.in_ok-entries.entries.items c.facts.ensures c.self.invariant.solution c.in_ok-entries.ensures.ok.open_row c.in_ok-value.ensures.value c.in_ok-value.ensures.fraction)
     meant (omega (arith, more_)) same)))
     (λ e. subst (λ u. IsCore u c.append.new.columns.items c.add_variable.new.self) (sym e.0)
     (subst (λ ds. IsCore t ds c.add_variable.new.self) (sym e.1) (core_same t cs c.self.inside.trail c.add_variable.new.self c.self.invariant (omega (arith, more_)) same)))

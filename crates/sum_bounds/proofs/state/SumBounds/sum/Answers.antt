@@ -8,7 +8,10 @@ use Rattle.tableau.specs.Failing.{IsRange}
 use Rattle.simplex_steps.specs.State.{values}
 use Rattle.simplex.specs.State.{new_column}
 use Rattle.sum_bounds.specs.Bounds.{State, IsSum}
+use Rattle.sum_bounds.specs.Bases.{AddsBases}
+use Rattle.sum_bounds.proofs.Conflicts.{state_of}
 use Rattle.sum_bounds.proofs.Leaves.{column_none}
+use Rattle.sum_bounds.proofs.Bases.{not_leaf, grown_by_sum}
 use Rattle.sum_bounds.proofs.Parts.{turned_known}
 use Rattle.sum_bounds.proofs.Growth.{core_grown}
 use Rattle.sum_bounds.proofs.state.SumBounds.sum.Goals as goal
@@ -37,3 +40,12 @@ returns-in_err-add_sum-clause-lacks c =
     let none = column_none cs c.in_ok-kept.kept (λ i lt same. c.in_default.ensures.none i lt (same ∙ sym c.as_slice.ensures)) in
     any_err c.from_residual-in_err-add_sum.result (λ e. IsRange e → column_of c.args.self.now.columns (turned c.args.sum.now) ≡ None)
     (λ e r. subst (λ (s : State). column_of s.columns (turned c.args.sum.now) ≡ None) c.self.view_is (subst (λ (ps : List Summand). column_of cs ps ≡ None) c.in_ok-kept.ensures none))
+
+pub returns-clause-bases : goal.returns-clause-bases
+returns-clause-bases c =
+    let s = c.self.inside.simplex in
+    let kept = c.in_ok-kept.kept in
+    let known =
+    turned_known s.columns c.args.sum.now kept c.in_ok-kept.ensures (subst (λ (cs : List Column). IsSum cs c.args.sum.now) (sym (ap (λ (s : State). s.columns) c.self.view_is)) c.requires.sum) in
+    let none = not_leaf s.columns kept known (λ i lt same. c.in_default.ensures.none i lt (same ∙ sym c.as_slice.ensures)) in
+    subst (λ (s : State). AddsBases s (state_of c.add_sum.new.simplex)) c.self.view_is (grown_by_sum s c.add_sum.new.simplex c.add_sum.new.keys kept c.in_ok-add_sum.ensures.ok none)

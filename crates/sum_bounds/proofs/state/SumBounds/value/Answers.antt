@@ -3,7 +3,7 @@ use Rattle.fraction128.specs.declared.Column.{Column}
 use Rattle.fraction128.specs.Grid.{variable_of}
 use Rattle.simplex_steps.specs.State.{values}
 use Rattle.sum_bounds.specs.Bounds.{State, leaf_values}
-use Rattle.sum_bounds.proofs.Leaves.{leaf_found}
+use Rattle.simplex.proofs.Leaves.{leaf_found}
 use Rattle.sum_bounds.proofs.state.SumBounds.value.Goals as goal
 
 pub returns-clause-some : goal.returns-clause-some

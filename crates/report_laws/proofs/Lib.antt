@@ -1,0 +1,6 @@
+mod Listed
+mod OneLeaf
+mod Five
+mod Past
+mod Sum
+mod Chain

@@ -1,0 +1,42 @@
+-- The stack of (assert (<= 5 x)).
+use Rattle.std.specs.Prelude.{◌≡◌, ℕ, ℤ, pos, false, List, [], ◌∷◌, ◌++◌, None, codes}
+use Rattle.fraction128.specs.declared.Line.{Line}
+use Rattle.smt_meaning.specs.declared.values.Sort.TheVariants.{Int as Ints}
+use Rattle.smt_meaning.specs.declared.terms.Operator.TheVariants.{AtMost as IsAtMost}
+use Rattle.smt_meaning.specs.declared.terms.Head.TheVariants.{Numeral, Theory, Symbol as Function}
+use Rattle.smt_meaning.specs.declared.reports.Unit.{Unit as Spent}
+use Rattle.smt_meaning.specs.declared.reports.Unit.TheVariants.{Pivot}
+use Rattle.smt_meaning.specs.declared.reports.RangeSeen.{RangeSeen}
+use Rattle.smt_meaning.specs.declared.reports.Cause.TheVariants.{Units, Range}
+use Rattle.smt_meaning.specs.Declaration.{Declaration}
+use Rattle.smt_meaning.specs.Term.{Tree, node, none, more}
+use Rattle.smt_meaning.specs.Stack.{Frame}
+use Rattle.smt_meaning.specs.Report.{Shows}
+
+abbrev pub x : Tree
+x = node (Function 0) none
+
+abbrev pub five : Tree
+five = node (Numeral (pos 5)) none
+
+abbrev pub low : Tree
+low = node (Theory IsAtMost) (more five (more x none))
+
+abbrev pub trees : List Tree
+trees = five ∷ x ∷ low ∷ []
+
+abbrev pub constant_x : Declaration
+constant_x = record { id = 0; name = codes "x"; rank = record { arguments = []; result = Ints }; body = None; is_sort = false }
+
+abbrev pub frames : List Frame
+frames = record { declared = constant_x ∷ []; asserted = record { text = []; term = low } ∷ [] } ∷ []
+
+-- no worker shows that a number left the range, by whatever cause, under any limit and with any branches
+abbrev pub NoneLeaves : Type 0
+NoneLeaves = (limit : ℤ) (worker : ℕ) (branches : List Line) (seen : RangeSeen) → Shows trees frames limit worker branches (Range seen) → ⊥
+
+-- no unit is a pivot, and there are no branches
+abbrev pub NoUnits : Type 0
+NoUnits =
+    (limit : ℤ) (worker : ℕ) (branches : List Line) (us : List Spent) → Shows trees frames limit worker branches (Units us)
+    → (branches ≡ []) × ((before after : List Spent) (l : Line) → us ≡ before ++ Pivot l ∷ after → ⊥)
