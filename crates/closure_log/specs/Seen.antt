@@ -1,5 +1,5 @@
 -- What a log of literals on the atoms of a stack is read by.
-use Rattle.std.specs.Prelude.{◌≡◌, ℕ, ◌+◌, ◌<◌, ◌^◌, true, false, List, length, All}
+use Rattle.std.specs.Prelude.{◌≡◌, ◌+◌, ◌<◌, ◌^◌, true, false, List, length, All}
 use Rattle.literals.specs.Signed.{Signed}
 use Rattle.smt_meaning.specs.declared.clauses.Atom.{Atom}
 use Rattle.smt_meaning.specs.declared.clauses.Atom.TheVariants.{Truth, AtMost, Same}

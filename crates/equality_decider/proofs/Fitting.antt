@@ -1,17 +1,16 @@
 -- A term without integers fits: no number stands in it.
-use Rattle.std.proofs.Common.{◌≡◌, ◌≢◌, ℕ, Bool, true, false, ◌&&◌, not, List, [], ◌∷◌, Option, Some, None, subst, sym, ap, ◌∙◌, refl, arith}
-use Rattle.std.specs.Prelude.{IsTrue, if◌then◌else◌}
+use Rattle.std.proofs.Common.{◌≡◌, ◌≢◌, Bool, true, false, ◌&&◌, not, List, Option, Some, None, subst, refl}
+use Rattle.std.specs.Prelude.{if◌then◌else◌}
 use Rattle.smt_meaning.specs.declared.values.Sort.{Sort}
 use Rattle.smt_meaning.specs.declared.values.Sort.TheVariants.{Bool as Truths, Int as Ints, Free}
 use Rattle.smt_meaning.specs.declared.values.Value.{Value}
 use Rattle.smt_meaning.specs.declared.values.Value.TheVariants.{Truth, Whole, Element}
-use Rattle.smt_meaning.specs.declared.terms.Operator.{Operator}
 use Rattle.smt_meaning.specs.declared.terms.Operator.TheVariants.{True, False, Not, And, Or, Xor, Implies, Equal, Distinct, Ite, Add, Subtract, Multiply, AtMost, Less, AtLeast, Greater}
 use Rattle.smt_meaning.specs.declared.terms.Head.{Head}
 use Rattle.smt_meaning.specs.declared.terms.Head.TheVariants.{Numeral, Theory, Symbol, Place}
 use Rattle.smt_meaning.specs.Declaration.{Declaration}
-use Rattle.smt_meaning.specs.Term.{Tree, Trees, node, none, more, Interpretation, value, values, apply, fits, all_fit, head_fits, in_range, all_in_range, partials}
-use Rattle.smt_meaning.specs.Signature.{tree_sort, tree_sorts, with_sorts, cons_sort, head_sort, operator_sort, stands_with, if_so, all_of, is_int}
+use Rattle.smt_meaning.specs.Term.{Tree, Trees, node, none, more, Interpretation, value, values, fits, all_fit, head_fits, in_range, all_in_range, partials}
+use Rattle.smt_meaning.specs.Signature.{tree_sort, tree_sorts, with_sorts, cons_sort, head_sort, if_so, is_int}
 use Rattle.smt_meaning.specs.Interpretation.{has_sort, Interprets}
 use Rattle.smt_laws.specs.TermLaws.{ValueHasItsSort}
 use Rattle.smt_meaning.specs.Kinds.{has_no_int, have_no_int}

@@ -1,10 +1,9 @@
 -- The numbered atoms are atoms of the check.
-use Rattle.std.proofs.Common.{◌≡◌, inl, inr, ℕ, zero, suc, ◌+◌, ◌<◌, ◌≤◌, Bool, true, false, List, [], ◌∷◌, ◌++◌, length, All, Contains, subst, sym, ap, ◌∙◌, arith, refl, flat_map}
+use Rattle.std.proofs.Common.{◌≡◌, inl, inr, ℕ, zero, suc, ◌<◌, Bool, true, false, List, [], ◌∷◌, ◌++◌, length, Contains, subst, sym, arith, refl, flat_map}
 use Rattle.std.specs.Prelude.{if◌then◌else◌, slice_index_or}
-use Rattle.std.proofs.lemmas.List.Elements.{All-contains, Contains-append_left, Contains-append_right, Contains-append_cases, Contains-push, Contains-push_cases}
+use Rattle.std.proofs.lemmas.List.Elements.{Contains-append_left, Contains-append_right, Contains-append_cases, Contains-push, Contains-push_cases}
 use Rattle.smt_meaning.specs.declared.clauses.Atom.{Atom}
 use Rattle.smt_meaning.specs.declared.clauses.Atom.TheVariants.{Truth, AtMost, Same}
-use Rattle.smt_meaning.specs.declared.terms.Head.{Head}
 use Rattle.smt_meaning.specs.Declaration.{Declaration}
 use Rattle.smt_meaning.specs.Term.{Tree, Trees, node, none, more, tree_at}
 use Rattle.smt_meaning.specs.Parts.{IsPart, IsPartOfOne, AreInOrder}
@@ -13,12 +12,12 @@ use Rattle.smt_meaning.specs.Signature.{tree_sort, is_bool, is_int}
 use Rattle.smt_meaning.specs.Stack.{Frame, signature_of, assertions_of}
 use Rattle.smt_meaning.specs.StackCommand.{Stack}
 use Rattle.smt_meaning.specs.Atoms.{truth_atom, comparison_atoms, atoms_of, atoms_of_all, pair_atoms, at_most_atom, stack_atoms, stack_atoms_are}
-use Rattle.smt_meaning.specs.Report.{IsPartOfStack, IsCheckAtom, ComparesParts}
+use Rattle.smt_meaning.specs.Report.{IsPartOfStack, IsCheckAtom}
 use Rattle.scope_stack.specs.Shown.{IsLawful}
 use Rattle.term_store.specs.Terms.{AreDifferent}
 use Rattle.term_store.proofs.PlaceLemmas.{place_of-is}
 use Rattle.stack_atoms.specs.Parts.{IsMarked}
-use Rattle.stack_atoms.specs.Atoms.{IsPartAtom, AreComparable, is_bool_at}
+use Rattle.stack_atoms.specs.Atoms.{IsPartAtom}
 use Rattle.stack_atoms.specs.OfStack.{AreOfStack}
 use Rattle.equality_decider.proofs.Numbers.{IsPlain}
 

@@ -1,14 +1,13 @@
 -- What a search over a stack shows where all its units are spent.
-use Rattle.std.proofs.Common.{◌≡◌, inl, inr, ℕ, ◌^◌, ◌<◌, ◌≤◌, Bool, true, false, not, List, [], ◌∷◌, ◌++◌, map, length, All, Contains, get_or, subst, sym, ap, ◌∙◌, arith, refl}
+use Rattle.std.proofs.Common.{◌≡◌, ℕ, ◌^◌, Bool, true, false, not, List, [], ◌∷◌, ◌++◌, map, length, All, Contains, get_or, subst, sym, ap, ◌∙◌, arith, refl}
 use Rattle.std.specs.Prelude.{ℤ, if◌then◌else◌, min, unsigned_abs}
 use Rattle.std.specs.List.{range_with_len}
 use Rattle.std.proofs.lemmas.List.{length-map}
 use Rattle.std.proofs.lemmas.List.Elements.{All-nil, All-contains, Contains-append_left, Contains-append_right, Contains-push, Contains-get_or}
-use Rattle.clause_store.specs.Stored.{Kept, Stored}
+use Rattle.clause_store.specs.Stored.{Stored}
 use Rattle.fraction128.specs.declared.Summand.{Summand}
 use Rattle.fraction128.specs.Lines.{AreSums}
 use Rattle.smt_meaning.specs.declared.clauses.Atom.{Atom}
-use Rattle.smt_meaning.specs.declared.reports.Unit.{Unit as ShownUnit}
 use Rattle.smt_meaning.specs.declared.reports.Cause.TheVariants.{Units}
 use Rattle.smt_meaning.specs.Stack.{depth}
 use Rattle.smt_meaning.specs.StackCommand.{Stack}

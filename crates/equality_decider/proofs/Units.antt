@@ -1,9 +1,9 @@
 -- What the units of a search show.
-use Rattle.std.proofs.Common.{◌≡◌, ◌≢◌, inl, inr, ◌⊎◌, ℕ, ◌+◌, ◌-◌, ◌^◌, ◌<◌, ◌≤◌, Bool, true, false, not, List, [], ◌∷◌, ◌++◌, map, length, take, All, Contains, get_or, subst, sym, ap, ◌∙◌, arith, refl, append_assoc}
-use Rattle.std.specs.Prelude.{ℤ, AllPairs, IsTrue}
+use Rattle.std.proofs.Common.{◌≡◌, ◌≢◌, inl, inr, ℕ, ◌+◌, ◌-◌, ◌<◌, ◌≤◌, Bool, true, false, List, [], ◌∷◌, ◌++◌, map, length, All, Contains, get_or, subst, sym, ap, ◌∙◌, arith, refl, append_assoc}
+use Rattle.std.specs.Prelude.{ℤ, AllPairs}
 use Rattle.std.proofs.lemmas.List.{take_all, append-nil}
 use Rattle.std.proofs.lemmas.List.Kept.{AllPairs-cons}
-use Rattle.std.proofs.lemmas.List.Elements.{All-nil, All-cons, All-head, All-tail, All-weaker, All-contains, All-map, Contains-append_left, Contains-append_right, Contains-append_cases, Contains-push, Contains-push_cases, Contains-get_or}
+use Rattle.std.proofs.lemmas.List.Elements.{All-nil, All-cons, All-head, All-tail, All-weaker, All-contains, All-map, Contains-append_cases, Contains-push_cases, Contains-get_or}
 use Rattle.literals.specs.Signed.{Signed, opposite}
 use Rattle.clause_store.specs.Stored.{Kept, Stored}
 use Rattle.smt_meaning.specs.declared.clauses.Atom.{Atom}
@@ -12,25 +12,22 @@ use Rattle.smt_meaning.specs.declared.clauses.Literal.{Literal}
 use Rattle.smt_meaning.specs.declared.clauses.Clause.{Clause}
 use Rattle.smt_meaning.specs.declared.reports.Unit.{Unit as ShownUnit}
 use Rattle.smt_meaning.specs.declared.reports.Unit.TheVariants as Shown
-use Rattle.smt_meaning.specs.declared.terms.Head.TheVariants.{Theory}
 use Rattle.smt_meaning.specs.Declaration.{Declaration}
-use Rattle.smt_meaning.specs.Term.{Tree, Trees, node, tree_at, Interpretation}
+use Rattle.smt_meaning.specs.Term.{Tree}
 use Rattle.smt_meaning.specs.TreeShape.{place_of}
 use Rattle.smt_meaning.specs.Interpretation.{Interprets}
-use Rattle.smt_meaning.specs.Stack.{Frame, signature_of, assertions_of, up_to, depth, Holds, Satisfies}
+use Rattle.smt_meaning.specs.Stack.{Frame, signature_of, assertions_of, up_to, depth, Satisfies}
 use Rattle.smt_meaning.specs.StackCommand.{Stack}
 use Rattle.smt_meaning.specs.Follows.{Follows, FollowsFrom, follows, follows_from}
 use Rattle.smt_meaning.specs.Clause.{clause_symbols}
 use Rattle.smt_meaning.specs.Forced.{Sign, Forces, literals_of}
 use Rattle.smt_meaning.specs.Forced.Reaches.{start, unit}
-use Rattle.smt_meaning.specs.Report.{IsPartOfStack, IsCheckAtom, IsPartClause, IsAsserted as IsAssertedClause, IsEarlier, IsGiven, IsLearnt, is_unlimited}
+use Rattle.smt_meaning.specs.Report.{IsCheckAtom, IsPartClause, IsAsserted as IsAssertedClause, IsEarlier, IsGiven, IsLearnt, is_unlimited}
 use Rattle.scope_stack.specs.Shown.{IsLawful}
-use Rattle.term_store.specs.Terms.{AreDifferent}
-use Rattle.term_store.proofs.PlaceLemmas.{place_of-is}
 use Rattle.conflict_learn.specs.Learning.{HaveOwnAtoms}
 use Rattle.search_port.specs.State.{Reading, atom_at, written}
-use Rattle.search_port.specs.Valid.{IsOver, FollowsAt, FollowsAsWritten}
-use Rattle.search_port.specs.Forcing.{negation, numbered, ForcesByNumbers, ForcesInTurn, IsForcedBy}
+use Rattle.search_port.specs.Valid.{FollowsAsWritten}
+use Rattle.search_port.specs.Forcing.{numbered, ForcesByNumbers, ForcesInTurn, IsForcedBy}
 use Rattle.search_port.specs.Calls.{IsNoPivot, numbers}
 use Rattle.search_port.specs.declared.budget.Lemma.{Lemma}
 use Rattle.search_port.specs.declared.budget.Spent.{Spent}
@@ -43,7 +40,7 @@ use Rattle.stack_atoms.specs.OfStack.{AreOfStack, HasPlace}
 use Rattle.part_clauses.specs.First.{IsAsserted, IsFirst, IsForced, written_literal, unit as unit_clause}
 use Rattle.cdcl_core.specs.Search.{literal_lists}
 use Rattle.cdcl_core.specs.Turns.{AreNew, IsNewUnit, IsUnforced, IsShown, IsOfTheory}
-use Rattle.equality_decider.specs.Shown.{clause_of, unit_of, IsOfNumbers}
+use Rattle.equality_decider.specs.Shown.{clause_of, unit_of}
 use Rattle.equality_decider.proofs.Numbers.{IsPlain, number_in, number_again, one_number}
 use Rattle.equality_decider.proofs.Parts.{check_atom, plain_atom, place_again}
 

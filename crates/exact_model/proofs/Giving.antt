@@ -1,6 +1,6 @@
 -- What is given exactly can be given, and tables that are made of it give exact values.
 use Rattle.std.proofs.Common.{◌≡◌, ℕ, ◌<◌, ◌≤◌, Bool, true, false, List, [], ◌∷◌, length, map, All, refl, sym, ap, subst, ◌∙◌, inl, inr, arith}
-use Rattle.std.specs.Prelude.{◌⊎◌, Some, slice_index_or, if◌then◌else◌}
+use Rattle.std.specs.Prelude.{◌⊎◌, slice_index_or, if◌then◌else◌}
 use Rattle.std.proofs.lemmas.Bool.{cases_lt}
 use Rattle.std.proofs.lemmas.List.{get_or_past}
 use Rattle.std.proofs.lemmas.List.Elements.{All-nil, All-cons, All-head, All-tail}
@@ -18,14 +18,14 @@ use Rattle.smt_meaning.specs.CheckAtoms.{is_leaf, is_leaf_head}
 use Rattle.term_store.specs.Terms.{AreDifferent}
 use Rattle.model_build.specs.declared.given.Given.{Given}
 use Rattle.model_build.specs.declared.given.Given.TheVariants.{Unmarked, InRange, PastRange}
-use Rattle.model_build.specs.Given.{given_at, is_marked, is_past, head_of, arguments_of, givens, IsApplication}
+use Rattle.model_build.specs.Given.{given_at, is_marked, head_of, arguments_of, givens}
 use Rattle.model_build.specs.Building.{is_given_of, IsGivenOf, AreGiven, AreValues, GiveValues}
 use Rattle.model_build.proofs.Reading.{givens-pick}
 use Rattle.stack_atoms.specs.Parts.{IsMarked}
 use Rattle.scope_stack.specs.Facts.{AreSorts}
 use Rattle.model_build.specs.Parts.{AreSortedParts}
 use Rattle.model_build.proofs.Placing.{arguments_picked}
-use Rattle.exact_model.specs.Exact.{exact, exact_at, given_of, is_marked_in, AreGivenExactly}
+use Rattle.exact_model.specs.Exact.{exact, exact_at, given_of, AreGivenExactly}
 use Rattle.exact_model.specs.Shown.{GiveExactValues}
 
 pub mark_within : (marks : List Bool) (p : ℕ) → IsMarked marks p → p < length marks

@@ -1,9 +1,8 @@
 -- Values of leaves, listed one after another.
-use Rattle.std.proofs.Common.{◌≡◌, ℕ, ◌+◌, ◌<◌, ◌≤◌, Bool, true, false, List, [], ◌∷◌, ◌++◌, length, sym, ap, subst, ◌∙◌, inl, inr, arith, refl}
+use Rattle.std.proofs.Common.{◌≡◌, ℕ, ◌+◌, ◌<◌, ◌≤◌, Bool, true, false, List, [], ◌∷◌, ◌++◌, length, sym, ap, subst, ◌∙◌, inl, inr, arith}
 use Rattle.std.specs.Prelude.{◌⊎◌, ℤ, pos, ◌*ℤ◌, slice_index_or}
 use Rattle.std.proofs.lemmas.Bool.{cases_lt}
 use Rattle.std.proofs.lemmas.List.{get_or_push, get_or_append_left}
-use Rattle.std.proofs.lemmas.Int.{ints}
 use Rattle.fraction128.specs.declared.ratio.Ratio.{Ratio}
 use Rattle.fraction128.specs.Number.{whole, SameNumber}
 use Rattle.fraction128.specs.declared.Grid.{Grid}
@@ -18,14 +17,13 @@ use Rattle.smt_meaning.specs.CheckAtoms.{is_leaf}
 use Rattle.smt_meaning.specs.Ranges.{HasValue}
 use Rattle.scope_stack.specs.Facts.{AreSorts}
 use Rattle.model_eval.specs.Walk.{is_marked}
-use Rattle.sum_bounds.specs.Bounds as Bounds
 use Rattle.sum_bounds.specs.Bounds.{leaf_values}
 use Rattle.sum_bounds.specs.Written.{HasLeaf}
 use Rattle.sum_bounds.proofs.Parts.{has_variable}
 use Rattle.bound_log.specs.Told.{State, IsState}
 use Rattle.bound_log.specs.Pending.{plain_grid}
 use Rattle.exact_model.specs.Exact.{listed}
-use Rattle.exact_model.specs.Leaves.{IsIntLeaf, HasLeafValue, HaveLeafValues}
+use Rattle.exact_model.specs.Leaves.{HasLeafValue, HaveLeafValues}
 
 same_whole : (x : Ratio) (n : ℤ) → x.denominator ≡ 1 → n ≡ x.numerator → SameNumber x (whole n)
 same_whole x n one e = ap (λ z. z *ℤ pos 1) (sym e) ∙ ap (λ d. n *ℤ pos d) (sym one)

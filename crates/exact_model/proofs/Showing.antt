@@ -1,27 +1,24 @@
 -- A model that shows where a number leaves the range.
-use Rattle.std.proofs.Common.{◌≡◌, ℕ, ◌<◌, ◌&&◌, Bool, true, false, List, [], ◌∷◌, length, map, All, Contains, refl, sym, ap, subst, ◌∙◌, arith}
-use Rattle.std.specs.Prelude.{IsTrue, Some}
+use Rattle.std.proofs.Common.{◌≡◌, ℕ, ◌<◌, ◌&&◌, Bool, true, false, List, length, All, Contains, refl, sym, ap, subst, ◌∙◌}
+use Rattle.std.specs.Prelude.{Some}
 use Rattle.std.proofs.lemmas.List.Elements.{All-weaker, All-map}
 use Rattle.fraction128.specs.Number.{whole}
 use Rattle.fraction128.specs.declared.Summand.{Summand}
 use Rattle.fraction128.specs.declared.Grid.{Grid}
 use Rattle.fraction128.specs.Lines.{IsSoundGrid}
 use Rattle.smt_meaning.specs.declared.values.Value.{Value}
-use Rattle.smt_meaning.specs.declared.values.Value.TheVariants.{Truth}
 use Rattle.smt_meaning.specs.declared.values.Table.{Table}
 use Rattle.smt_meaning.specs.declared.values.Sort.TheVariants.{Int as Ints}
 use Rattle.smt_meaning.specs.declared.clauses.Atom.{Atom}
-use Rattle.smt_meaning.specs.declared.terms.Head.{Head}
 use Rattle.smt_meaning.specs.Declaration.{Declaration}
-use Rattle.smt_meaning.specs.Term.{Tree, Trees, node, tree_at, value, values, truth_of, number_of, fits, all_fit, head_fits, Interpretation}
+use Rattle.smt_meaning.specs.Term.{Tree, node, tree_at, value, values, truth_of, number_of, fits, all_fit, head_fits, Interpretation}
 use Rattle.smt_meaning.specs.TreeShape.{place_of}
 use Rattle.smt_meaning.specs.Interpretation.{meaning, AreTablesFor}
 use Rattle.smt_meaning.specs.Signature.{tree_sort}
-use Rattle.smt_meaning.specs.Stack.{Frame, signature_of, assertions_of, Satisfies, Holds}
+use Rattle.smt_meaning.specs.Stack.{signature_of, Satisfies, Holds}
 use Rattle.smt_meaning.specs.StackCommand.{Stack}
-use Rattle.smt_meaning.specs.CheckAtoms.{IsPartOfStack, IsIntPart, IsLeaf, IsBoundOf, is_leaf, is_leaf_head}
+use Rattle.smt_meaning.specs.CheckAtoms.{IsPartOfStack, IsIntPart, IsLeaf, IsBoundOf, is_leaf}
 use Rattle.smt_meaning.specs.Ranges.{HasValue, LeavesInModel}
-use Rattle.term_store.specs.Terms.{tree_with, AreDifferent}
 use Rattle.term_store.proofs.PlaceLemmas.{place_of-is}
 use Rattle.smt_laws.specs.Flat.{flat, SaysTheSame, FlatSaysTheSame}
 use Rattle.scope_stack.specs.declared.answers.Assertion.{Assertion}
@@ -35,7 +32,7 @@ use Rattle.model_eval.specs.Walk.{is_marked}
 use Rattle.model_eval.specs.Unfit.{fits_alone}
 use Rattle.exact_model.specs.Exact.{exact_at, listed}
 use Rattle.exact_model.proofs.Heads.{leaf_value}
-use Rattle.exact_model.specs.Leaves.{IsIntLeaf, HaveLeafValues}
+use Rattle.exact_model.specs.Leaves.{HaveLeafValues}
 use Rattle.exact_model.specs.Shown.{GiveExactValues, IsTrueAt, IsTrueIn, IsUnfit}
 use Rattle.exact_model.proofs.Giving.{mark_within, different_of}
 

@@ -1,5 +1,5 @@
 -- Values of the Int leaves of a stack's assertions, as a grid has them.
-use Rattle.std.specs.Prelude.{◌≡◌, ℕ, ◌<◌, Bool, true, List, length, Some, slice_index_or}
+use Rattle.std.specs.Prelude.{◌≡◌, ℕ, ◌<◌, Bool, true, List, length, Some}
 use Rattle.fraction128.specs.Number.{whole}
 use Rattle.fraction128.specs.declared.Grid.{Grid}
 use Rattle.smt_meaning.specs.declared.values.Value.{Value}

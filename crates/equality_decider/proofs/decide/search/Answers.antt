@@ -1,12 +1,11 @@
-use Rattle.std.proofs.Common.{◌≡◌, ℕ, ◌<◌, List, All, map, length, ap, sym, subst, refl, ◌∙◌, [], false}
-use Rattle.smt_meaning.specs.Stack.{depth}
+use Rattle.std.proofs.Common.{sym, subst, [], false}
 use Rattle.search_port.specs.State.{Reading, TheoryState, IsGrown}
 use Rattle.search_port.specs.declared.budget.Cause.{Cause}
 use Rattle.smt_laws.specs.Flat.{flat}
 use Rattle.part_clauses.specs.First.{reading_of}
 use Rattle.cdcl_core.specs.Turns.{EndsSearch, NoHook, Searches}
 use Rattle.equality_decider.proofs.Deciding.{heard, model_left, none_left}
-use Rattle.equality_decider.proofs.Showing.{AreShown, Laws, are_shown, budget_of}
+use Rattle.equality_decider.proofs.Showing.{AreShown, are_shown, budget_of}
 use Rattle.equality_decider.proofs.decide.search.Goals as goal
 
 pub solve-requires-clause-heard : goal.solve-requires-clause-heard

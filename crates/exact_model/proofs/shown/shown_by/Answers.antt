@@ -1,9 +1,8 @@
-use Rattle.std.proofs.Common.{◌≡◌, ◌<◌, length, List, All, Contains, ap, subst, sym, ◌∙◌}
+use Rattle.std.proofs.Common.{◌<◌, length, List, All, Contains, ap, subst, sym, ◌∙◌}
 use Rattle.fraction128.specs.declared.Grid.{Grid}
 use Rattle.smt_meaning.specs.Term.{Tree}
 use Rattle.scope_stack.specs.declared.answers.Assertion.{Assertion}
 use Rattle.bound_log.specs.Told.{column_sums}
-use Rattle.bound_log.specs.Pending.{plain_grid}
 use Rattle.exact_model.specs.Leaves.{HaveLeafValues}
 use Rattle.exact_model.specs.Shown.{IsTrueIn, IsUnfit}
 use Rattle.exact_model.proofs.Showing.{in_model}

@@ -1,4 +1,4 @@
-use Rattle.std.proofs.Common.{◌≡◌, take, get_or, All, subst, sym}
+use Rattle.std.proofs.Common.{take, get_or, All, subst, sym}
 use Rattle.std.proofs.lemmas.List.{take_all, take_more}
 use Rattle.std.proofs.lemmas.List.Elements.{All-push}
 use Rattle.scope_stack.specs.declared.answers.Assertion.{Assertion}

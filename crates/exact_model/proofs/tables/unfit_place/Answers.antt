@@ -1,4 +1,4 @@
-use Rattle.std.proofs.Common.{◌≡◌, ◌<◌, true, false, length, rules}
+use Rattle.std.proofs.Common.{◌≡◌, true, rules}
 use Rattle.smt_meaning.specs.Term.{tree_at}
 use Rattle.smt_meaning.specs.Interpretation.{meaning}
 use Rattle.model_eval.specs.Walk.{is_marked}
