@@ -12,7 +12,7 @@
 //! basic at the start and has its value from then.
 //!
 //! Where lines are kept, the line of each pivot comes after those before, each by the definition
-//! and of the grid at its step; neighbours differ in the basic variable, also across calls.
+//! and of the grid at its step, which fits; each goes on from the basis that the one before it left.
 //!
 //! `runs_are_short`: every run of next steps of a grid of n variables, with nothing pending, values
 //! that meet the rows and bounds that don't cross, has fewer than 3^n pivots: so the simplex method
