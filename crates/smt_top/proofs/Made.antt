@@ -1,5 +1,5 @@
 -- A script that is made and fed whole.
-use Rattle.std.proofs.Common.{◌≡◌, ◌∙◌, ℕ, ◌+◌, true, List, [], ◌++◌, length, arith, refl, sym, ap, subst}
+use Rattle.std.proofs.Common.{◌≡◌, ◌∙◌, ℕ, ◌+◌, true, List, [], ◌++◌, length, arith, refl, sym, ap, ap₂, subst, false}
 use Rattle.ports.specs.Flow.{SinkTold}
 use Rattle.smt_meaning.specs.declared.settings.Settings.{Settings}
 use Rattle.smt_meaning.specs.Reading.{Unread}
@@ -12,6 +12,12 @@ use Rattle.smt_top.specs.declared.top.Halt.TheVariants.{Memory}
 use Rattle.smt_top.proofs.Written.{Writes-none}
 use Rattle.smt_top.proofs.Turns.{not_true}
 use Rattle.smt_top.proofs.Runs.{made_took, none_so_far}
+
+-- a reader that was fed all of the input
+pub fed_reader : (old mid new : Unread) (piece bytes : List ℕ) → old ≡ record { place = 0; bytes = []; finished = false } → mid ≡ record old { bytes = old.bytes ++ piece } → new ≡ record mid { finished = true }
+    → piece ≡ bytes → new ≡ record { place = 0; bytes = bytes; finished = true }
+fed_reader old mid new piece bytes begun fed over is =
+    over ∙ ap (λ (u : Unread). record u { finished = true }) (fed ∙ ap₂ (λ (u : Unread) (p : List ℕ). record u { bytes = u.bytes ++ p }) begun is)
 
 module _ (decided : Decided) where
   begins_whole : (s : Settings) (r : Run) (bytes : List ℕ) → r.reader ≡ record { place = 0; bytes = bytes; finished = true } → r.session ≡ start s → r.journal ≡ [] → HasAnswered decided s bytes r

@@ -239,26 +239,18 @@ pub fn run_through<S: Source, K: Sink, G: Gate, L: Ledger>(
 {
     let _ = gate;
     match Invocation::from_words(alloc, words) {
-        Ok(
-            Invocation {
-                settings,
-                generated: None,
-            },
-        ) => {
-            let mut server = Server::new(alloc, &settings);
-            let end = drive(alloc, budget, source, sink, ledger, &mut Whole, &mut server);
-            finish(end, server.is_faulty)
-        }
-        Ok(
-            Invocation {
-                settings,
-                generated: Some(generated),
-            },
-        ) => {
-            let mut server = Server::new(alloc, &settings);
-            let end = serve_made(alloc, generated, sink, ledger, &mut Whole, &mut server);
-            finish(end, server.is_faulty)
-        }
+        Ok(invocation) => match invocation.generated {
+            None => {
+                let mut server = Server::new(alloc, &invocation.settings);
+                let end = drive(alloc, budget, source, sink, ledger, &mut Whole, &mut server);
+                finish(end, server.is_faulty)
+            }
+            Some(generated) => {
+                let mut server = Server::new(alloc, &invocation.settings);
+                let end = serve_made(alloc, generated, sink, ledger, &mut Whole, &mut server);
+                finish(end, server.is_faulty)
+            }
+        },
         Err(error) => unbegun(error),
     }
 }

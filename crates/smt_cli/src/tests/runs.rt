@@ -106,7 +106,7 @@ fn keeps_the_journal(rt: HostRuntime) -> Result<(), Fail> {
 }
 
 /// Words with `gen`, the status at the end, and the last line that is written after four rounds of answers. Nothing is written where the words are refused.
-static MADE: [(&'static str, u8, &'static [u8]); 6] = [
+static MADE: [(&'static str, u8, &'static [u8]); 7] = [
     (
         "smt_cli --workers 2 gen --seed 1 --size 3",
         0,
@@ -121,6 +121,11 @@ static MADE: [(&'static str, u8, &'static [u8]); 6] = [
         "smt_cli gen --seed 7 --size 20",
         0,
         b"\"size 20 sat 8 unsat 4\"\n",
+    ),
+    (
+        "smt_cli --workers 1 gen --seed 7 --size 200",
+        0,
+        b"\"size 200 sat 8 unsat 4\"\n",
     ),
     ("smt_cli gen --seed 7 --size 0", 2, b""),
     ("smt_cli gen --seed 7 --size 2001", 2, b""),
