@@ -7,12 +7,12 @@ use Rattle.smt_top.specs.declared.top.Note.{Note}
 use Rattle.smt_top.specs.declared.top.Note.TheVariants.{Fine, Words, ReadFault, WriteFault, NoMemory, TooLong}
 use Rattle.smt_top.specs.declared.top.Ended.{Ended}
 use Rattle.smt_top.specs.Progress.{Ends, Writes, calls_for}
-use Rattle.smt_top.specs.Ended.{Ran, IsUnbegun, MatchesStatus}
+use Rattle.smt_top.specs.Ended.{RanUnder, IsUnbegun, MatchesStatus}
 
 -- The line on standard error that says why a run ended.
 abbrev pub line_of : Note → List ℕ
 line_of Fine = []
-line_of Words = codes "usage: smt_cli [--workers 1..16] [--units U] [--share 0..64] [--seed K]\n"
+line_of Words = codes "usage: smt_cli [--workers 1..16] [--units U] [--share 0..64] [--seed K] [gen --seed K --size 1..2000]\n"
 line_of ReadFault = codes "read failed\n"
 line_of WriteFault = codes "write failed\n"
 line_of NoMemory = codes "out of memory\n"
@@ -32,5 +32,5 @@ pub record IsIdle (error : WordsError) (e : Ends) (ended : Ended) : Type 0 where
 
 -- A run under these words, or none where they can't be had.
 abbrev pub IsServed : {A B : Type 0} → Result (Vec (String A) B) WordsError → Ends → Ended → Type 0
-IsServed (Ok words) e ended = Ran every_stack (2 ^ 40) (map string_bytes words.items) e ended
+IsServed (Ok words) e ended = RanUnder every_stack (2 ^ 40) (map string_bytes words.items) e ended
 IsServed (Err error) e ended = IsIdle error e ended

@@ -11,7 +11,7 @@ pub(crate) fn line(note: Note) -> &'static str
     match note {
         Note::Fine => "",
         Note::Words => {
-            "usage: smt_cli [--workers 1..16] [--units U] [--share 0..64] [--seed K]\n"
+            "usage: smt_cli [--workers 1..16] [--units U] [--share 0..64] [--seed K] [gen --seed K --size 1..2000]\n"
         }
         Note::ReadFault => "read failed\n",
         Note::WriteFault => "write failed\n",

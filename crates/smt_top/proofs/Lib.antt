@@ -4,3 +4,4 @@ mod Turns
 mod Servings
 mod Driving
 mod Runs
+mod Made

@@ -1,5 +1,5 @@
 -- What a run comes to.
-use Rattle.std.proofs.Common.{◌≡◌, ◌<◌, ◌⊎◌, inl, inr, ℕ, true, false, List, [], arith, refl, sym, ◌∙◌, ap, subst, Ok, Err, Option, Some, None, Result, ◌↔◌}
+use Rattle.std.proofs.Common.{◌≡◌, ◌<◌, ◌⊎◌, inl, inr, ℕ, true, false, List, [], ◌+◌, length, append-nil, arith, refl, sym, ◌∙◌, ap, subst, Ok, Err, Option, Some, None, Result, ◌↔◌}
 use Rattle.std.specs.Prelude.{IfSome}
 use Rattle.std.specs.Io.KnownBytes.{Consumes}
 use Rattle.smt_meaning.specs.Reading.{Unread}
@@ -8,13 +8,15 @@ use Rattle.smt_meaning.specs.MayReply.{Decided}
 use Rattle.smt_meaning.specs.LegalJournal.{beginning, IsLegal, IsLegalSoFar, AnswersSettled}
 use Rattle.smt_meaning.specs.declared.answers.Entry.{Entry}
 use Rattle.smt_meaning.specs.declared.settings.Settings.{Settings}
+use Rattle.script_gen.specs.Script.{script}
+use Rattle.smt_words.specs.declared.Generated.{Generated}
 use Rattle.smt_words.specs.Words.{are_taken, settings_of}
 use Rattle.smt_words.specs.Causes.{IsCause}
 use Rattle.smt_words.specs.declared.error.WordsError.{WordsError}
 use Rattle.smt_words.specs.declared.error.WordsError.TheVariants.{Refused, Memory as WordsMemory}
 use Rattle.ports.specs.Flow.{SourceTold, SinkTold}
 use Rattle.smt_top.specs.Progress.{Run, Ends, Took, HasAnswered, Stands, SoFar, Over, CutOff, WrittenAtHalt, NoneSettled, IsWritten, IsFaulty, between}
-use Rattle.smt_top.specs.Ended.{Ran, StatusOf, MatchesStatus, IsUnbegun}
+use Rattle.smt_top.specs.Ended.{Ran, RanBy, RanMade, StatusOf, MatchesStatus, IsUnbegun, made_of}
 use Rattle.smt_top.specs.declared.serving.Stage.{Stage}
 use Rattle.smt_top.specs.declared.serving.Stage.TheVariants.{Asks, Complete}
 use Rattle.smt_top.specs.declared.top.Halt.{Halt}
@@ -135,7 +137,7 @@ module _ (decided : Decided) where
   none_took : (source : SourceTold) (sink : SinkTold) → Took (between source sink source sink) [] 0
   none_took source sink = record { bytes = Consumes-none source.left; calls = RoseBy-none source.given }
 
-  none_so_far : (s : Settings) (input : List ℕ) → IsLegalSoFar decided s input []
+  pub none_so_far : (s : Settings) (input : List ℕ) → IsLegalSoFar decided s input []
   unfolding IsLegalSoFar
   none_so_far s input = inl (beginning s input, refl)
 
@@ -144,21 +146,21 @@ module _ (decided : Decided) where
   none_for_all s (Some all) = none_so_far s all
 
   -- a run that has ended before it began
-  pub unbegun : (budget : ℕ) (words : List (List ℕ)) (source : SourceTold) (sink : SinkTold) (ended : Ended) (error : WordsError)
-      → IsUnbegun error ended.status → IsCause words error → MatchesStatus ended.note ended.status → ended.journal ≡ [] → Ran decided budget words (between source sink source sink) ended
-  unbegun budget words source sink ended error status cause note none = record {
-    input = [];
+  unbegun_at : (budget : ℕ) (words : List (List ℕ)) (e : Ends) (input : List ℕ) (ended : Ended) (error : WordsError) → Took e input 0 → IsWritten e.sink e.sink_now []
+      → IsUnbegun error ended.status → IsCause words error → MatchesStatus ended.note ended.status → ended.journal ≡ [] → Ran decided budget words e ended
+  unbegun_at budget words e input ended error took whole status cause note none = record {
+    input = input;
     given = 0;
-    took = none_took source sink;
+    took = took;
     within = omega arith;
     legal = λ h. absurd (not_low error ended.status status h);
     legal_for_all = λ h. absurd (not_low error ended.status status h);
     over = λ h. absurd (not_low error ended.status status h);
     error = λ h. absurd (not_low error ended.status status h);
-    legal_so_far = rw none (none_so_far (settings_of words) []);
-    legal_so_far_for_all = rw none (none_for_all (settings_of words) source.left);
+    legal_so_far = rw none (none_so_far (settings_of words) input);
+    legal_so_far_for_all = rw none (none_for_all (settings_of words) e.source.left);
     settled = λ h. absurd (not_fault error ended.status status h);
-    whole = λ _. rw none (Writes-none sink);
+    whole = λ _. rw none whole;
     torn = λ h. absurd (not_four error ended.status status h);
     note = note;
     words_refused = λ h. refused_by error ended.status status cause h;
@@ -188,6 +190,32 @@ module _ (decided : Decided) where
     either : (error : WordsError) (status : ℕ) → IsUnbegun error status → (status ≡ 2) ⊎ (status ≡ 5)
     either Refused status is = inl is
     either WordsMemory status is = inr is
+
+  -- what a run of a script that is made takes
+  pub made_took : (bytes : List ℕ) (sink sink_now : SinkTold) → Took (made_of bytes sink sink_now) bytes 0
+  made_took bytes sink sink_now = record { bytes = sym (append-nil bytes); calls = tt }
+
+  -- such a run never fails to read, and its input isn't too long
+  pub ran_made : (words : List (List ℕ)) (bytes : List ℕ) (e : Ends) (ended : Ended) → e.source_now ≡ e.source → Ran decided (length bytes + 1) words (made_of bytes e.sink e.sink_now) ended → RanMade decided words bytes e ended
+  ran_made words bytes e ended unasked r = record {
+    unasked = unasked;
+    ran = r;
+    unfailing = λ h. absurd (omega (arith, (r.read h).0));
+    not_long = λ h.
+        let all : bytes ≡ r.input = r.took.bytes ∙ append-nil r.input in
+        let same : length bytes ≡ length r.input = ap length all in
+        absurd (omega (arith, same, (r.long h).1));
+  }
+
+  -- under words that give no settings
+  pub unbegun : (made : Option Generated) (budget : ℕ) (words : List (List ℕ)) (source : SourceTold) (sink : SinkTold) (ended : Ended) (error : WordsError)
+      → IsUnbegun error ended.status → IsCause words error → MatchesStatus ended.note ended.status → ended.journal ≡ [] → RanBy made decided budget words (between source sink source sink) ended
+  unbegun None budget words source sink ended error status cause note none =
+      unbegun_at budget words (between source sink source sink) [] ended error (none_took source sink) (Writes-none sink) status cause note none
+  unbegun (Some g) budget words source sink ended error status cause note none =
+      let bytes = script g.seed g.size in
+      ran_made words bytes (between source sink source sink) ended refl
+      (unbegun_at (length bytes + 1) words (made_of bytes sink sink) bytes ended error (made_took bytes sink sink) (Writes-none sink) status cause note none)
 
   -- a run that begins
   pub begun : (settings : Settings) (source : SourceTold) (sink : SinkTold) (r : Run) → r.reader ≡ record { place = 0; bytes = []; finished = false } → r.session ≡ start settings → r.journal ≡ []

@@ -1,5 +1,5 @@
 -- How a run ends.
-use Rattle.std.specs.Prelude.{◌≡◌, ℕ, ◌≤◌, ◌<◌, ◌⊎◌, false, List, [], Option, Result, Ok, Err, length, IfSome, ◌↔◌}
+use Rattle.std.specs.Prelude.{◌≡◌, ℕ, ◌≤◌, ◌<◌, ◌+◌, ◌⊎◌, false, List, [], Option, Some, None, Result, Ok, Err, length, IfSome, ◌↔◌}
 use Rattle.smt_meaning.specs.declared.answers.Entry.{Entry}
 use Rattle.smt_top.specs.declared.serving.Stop.{Stop}
 use Rattle.smt_top.specs.declared.serving.Stop.TheVariants.{Memory as StopMemory, WriteFault as StopWriteFault}
@@ -9,14 +9,16 @@ use Rattle.smt_top.specs.declared.top.Halt.{Halt}
 use Rattle.smt_top.specs.declared.top.Halt.TheVariants.{Memory, ReadFault, WriteFault}
 use Rattle.smt_top.specs.declared.top.Note.{Note}
 use Rattle.smt_top.specs.declared.top.Note.TheVariants.{Fine, Words, ReadFault as ReadNote, WriteFault as WriteNote, NoMemory, TooLong as LongNote}
-use Rattle.ports.specs.Flow.{Rose}
+use Rattle.ports.specs.Flow.{Rose, SinkTold}
 use Rattle.smt_meaning.specs.MayReply.{Decided}
 use Rattle.smt_meaning.specs.LegalJournal.{IsLegal, IsLegalSoFar, AnswersSettled, journal_text}
-use Rattle.smt_words.specs.Words.{are_taken, settings_of}
+use Rattle.smt_words.specs.Words.{are_taken, generated_of, settings_of}
+use Rattle.smt_words.specs.declared.Generated.{Generated}
+use Rattle.script_gen.specs.Script.{script}
 use Rattle.smt_words.specs.declared.error.WordsError.{WordsError}
 use Rattle.smt_words.specs.declared.error.WordsError.TheVariants.{Refused, Memory as WordsMemory}
 use Rattle.smt_top.specs.Ledgers.{Gains}
-use Rattle.smt_top.specs.Progress.{Ends, Took, IsDone, IsWritten, IsTorn, IsFaulty}
+use Rattle.smt_top.specs.Progress.{Ends, Took, IsDone, IsWritten, IsTorn, IsFaulty, between}
 use Rattle.smt_top.specs.declared.top.Ended.{Ended}
 use Rattle.smt_top.specs.declared.top.Outcome.{Outcome}
 
@@ -74,6 +76,26 @@ pub record Ran (decided : Decided) (budget : ℕ) (words : List (List ℕ)) (e :
   -- Of the calls within the budget each gave a byte or more, and another would be made.
   pub long : ended.status ≡ 6 → (given ≡ budget) × (budget ≤ length input)
 
+-- The ends of a run of a script that is made: its bytes come in the place of the source's, all of them and without a fault.
+abbrev pub made_of : List ℕ → SinkTold → SinkTold → Ends
+made_of bytes sink sink_now = between (record { left = Some bytes; given = None; faults = 0 }) sink (record { left = Some []; given = None; faults = 0 }) sink_now
+
+-- What a run of a script that is made comes to. The source is as it was; and since no call asks for more, any budget will do.
+pub record RanMade (decided : Decided) (words : List (List ℕ)) (bytes : List ℕ) (e : Ends) (ended : Ended) : Type 0 where
+  pub unasked : e.source_now ≡ e.source
+  pub ran : Ran decided (length bytes + 1) words (made_of bytes e.sink e.sink_now) ended
+  pub unfailing : ended.status ≡ 3 → ⊥
+  pub not_long : ended.status ≡ 6 → ⊥
+
+-- The same by the numbers of `gen`, if there are any.
+abbrev pub RanBy : Option Generated → Decided → ℕ → List (List ℕ) → Ends → Ended → Type 0
+RanBy None decided budget words e ended = Ran decided budget words e ended
+RanBy (Some g) decided budget words e ended = RanMade decided words (script g.seed g.size) e ended
+
+-- What a run under these words comes to: a run of what the source gives or, with `gen`, of the script that is made.
+abbrev pub RanUnder : Decided → ℕ → List (List ℕ) → Ends → Ended → Type 0
+RanUnder decided budget words e ended = RanBy (generated_of words) decided budget words e ended
+
 -- A run that ended so, with this journal.
 abbrev pub ended_with : Outcome → List Entry → Ended
 ended_with outcome journal = record { status = outcome.status; journal = journal; note = outcome.note }
@@ -82,7 +104,7 @@ ended_with outcome journal = record { status = outcome.status; journal = journal
 pub record RanThrough {K : Type 0} (decided : Decided) (budget : ℕ) (words : List (List ℕ)) (e : Ends) (outcome : Outcome) (sink sink_now : K)
     (kept kept_now : Option (List Entry)) : Type 0 where
   pub journal : List Entry
-  pub ran : Ran decided budget words e (ended_with outcome journal)
+  pub ran : RanUnder decided budget words e (ended_with outcome journal)
   pub gained : Gains kept journal kept_now
   pub silent : journal_text journal ≡ [] → sink_now ≡ sink
   pub unread : are_taken words ≡ false → journal ≡ []

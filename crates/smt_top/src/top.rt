@@ -1,21 +1,25 @@
 //! A run from its words to its status: pieces are taken from the source, and whatever they settle
 //! is answered before the next is asked for.
-ghost use Rattle.std.specs.Prelude.{◌≡◌, ◌≤◌, ◌<◌, ◌↔◌, ◌^◌, ◌+◌, [], List, ℕ, length, map, IsTrue, IfErr, OnOk, false, string_bytes};
+ghost use Rattle.std.specs.Prelude.{◌≡◌, ◌≤◌, ◌<◌, ◌↔◌, ◌^◌, ◌+◌, [], List, ℕ, length, map, IsTrue, IfErr, OnOk, Some, false, string_bytes};
 ghost use Rattle.smt_meaning.specs.declared.settings.Settings.{Settings as SettingsValue};
 ghost use Rattle.smt_meaning.specs.declared.answers.Entry.{Entry as EntryValue};
 ghost use Rattle.smt_meaning.specs.LegalJournal.{journal_text};
 ghost use Rattle.smt_meaning.specs.MayReply.{Decided};
-ghost use Rattle.smt_words.specs.Words.{are_taken};
+ghost use Rattle.smt_meaning.specs.State.{start};
+ghost use Rattle.smt_words.specs.Words.{are_taken, generated_of};
+ghost use Rattle.smt_words.specs.declared.Generated.{Generated as GeneratedValue};
+ghost use Rattle.script_gen.specs.Script.{script as made};
 ghost use Rattle.whole_decider.specs.Taken.{every_stack};
 ghost use Rattle.smt_top.specs.Progress.{Advances, CutOff, Driven, Ends, NoneSettled, SoFar, Tallies, at_source, between, run_of};
-ghost use Rattle.smt_top.specs.Ended.{IsUnbegun, MatchesStatus, Ran, RanThrough, StatusOf};
+ghost use Rattle.smt_top.specs.Ended.{IsUnbegun, MatchesStatus, RanThrough, RanUnder, StatusOf, made_of};
 
 use crate::ledger::Ledger;
 use crate::serving::{Server, Stage, Stop};
 use ports::{Gate, More, Sink, Source};
+use script_gen::script;
 use smt_meaning::Seq;
 use smt_meaning::language::Entry;
-use smt_words::{WordsError, settings};
+use smt_words::{Generated, Invocation, WordsError};
 use std::alloc::{AllocError, Global};
 use theory_port::Decider;
 use whole_decider::Whole;
@@ -116,6 +120,29 @@ fn drive<S: Source, K: Sink, L: Ledger, D: Decider>(
     Ok(stage)
 }
 
+/// Makes a script, and answers it to its end, to an exit or to a fault.
+#[tactic(none)]
+fn serve_made<K: Sink, L: Ledger, D: Decider>(
+    alloc: Global,
+    generated: Generated,
+    sink: &mut K,
+    ledger: &mut L,
+    decider: &mut D,
+    server: &mut Server,
+) -> Result<Stage, Halt>
+    requires size { (1 ≤ generated.size) × (generated.size ≤ 2000) }
+    requires reader { server.old.reader ≡ record { place = 0; bytes = []; finished = false } }
+    requires session { server.old.session ≡ start server.old.session.settings }
+    requires tally { Tallies server.old [] }
+    ensures { Driven D.decides server.old.session.settings result (made_of (made generated.seed generated.size) (K.told sink.old) (K.told sink.new))
+        (length (made generated.seed generated.size) + 1) server.new sink.old sink.new (L.entries ledger.old) (L.entries ledger.new) }
+{
+    let text = script(alloc, generated.seed, generated.size)?;
+    server.reader.feed(text.as_bytes())?;
+    server.reader.finish();
+    advance(alloc, sink, ledger, decider, server)
+}
+
 /// Answers all that is ready.
 fn advance<K: Sink, L: Ledger, D: Decider>(
     alloc: Global,
@@ -155,7 +182,7 @@ fn take_more<S: Source>(source: &mut S, buf: &mut [u8], server: &mut Server) -> 
     Ok(())
 }
 
-/// Runs the script that the source gives, and writes the replies to the sink: what a run comes to is said by `Ran`. The words are those of the command line, of which the first is the program's name; where they are refused, nothing is read or written.
+/// Runs the script that the source gives, or with the word `gen` one that is made, and writes the replies to the sink: what a run comes to is said by `RanUnder`. The words are those of the command line, of which the first is the program's name; where they are refused, nothing is read or written.
 pub fn run<S: Source, K: Sink, G: Gate>(
     alloc: Global,
     words: &Vec<String>,
@@ -163,8 +190,9 @@ pub fn run<S: Source, K: Sink, G: Gate>(
     sink: &mut K,
     gate: &G,
 ) -> Ended
-    ensures ran { Ran every_stack (2 ^ 40) (map string_bytes words.now.items) (between (S.told source.old) (K.told sink.old) (S.told source.new) (K.told sink.new)) result }
+    ensures ran { RanUnder every_stack (2 ^ 40) (map string_bytes words.now.items) (between (S.told source.old) (K.told sink.old) (S.told source.new) (K.told sink.new)) result }
     ensures untouched { are_taken (map string_bytes words.now.items) ≡ false → (source.new ≡ source.old) × (sink.new ≡ sink.old) × (result.journal ≡ []) }
+    ensures unasked { (g : GeneratedValue) → generated_of (map string_bytes words.now.items) ≡ Some g → source.new ≡ source.old }
     ensures silent { journal_text result.journal ≡ [] → sink.new ≡ sink.old }
 {
     run_within(alloc, 1 << 40, words, source, sink, gate)
@@ -180,8 +208,9 @@ pub fn run_within<S: Source, K: Sink, G: Gate>(
     gate: &G,
 ) -> Ended
     requires { budget ≤ 2 ^ 40 }
-    ensures ran { Ran every_stack budget (map string_bytes words.now.items) (between (S.told source.old) (K.told sink.old) (S.told source.new) (K.told sink.new)) result }
+    ensures ran { RanUnder every_stack budget (map string_bytes words.now.items) (between (S.told source.old) (K.told sink.old) (S.told source.new) (K.told sink.new)) result }
     ensures untouched { are_taken (map string_bytes words.now.items) ≡ false → (source.new ≡ source.old) × (sink.new ≡ sink.old) × (result.journal ≡ []) }
+    ensures unasked { (g : GeneratedValue) → generated_of (map string_bytes words.now.items) ≡ Some g → source.new ≡ source.old }
     ensures silent { journal_text result.journal ≡ [] → sink.new ≡ sink.old }
 {
     let mut journal = Seq::new(alloc);
@@ -208,14 +237,22 @@ pub fn run_through<S: Source, K: Sink, G: Gate, L: Ledger>(
     ensures ran { RanThrough every_stack budget (map string_bytes words.now.items) (between (S.told source.old) (K.told sink.old) (S.told source.new) (K.told sink.new)) result
         sink.old sink.new (L.entries ledger.old) (L.entries ledger.new) }
     ensures untouched { are_taken (map string_bytes words.now.items) ≡ false → (source.new ≡ source.old) × (sink.new ≡ sink.old) × (ledger.new ≡ ledger.old) }
+    ensures unasked { (g : GeneratedValue) → generated_of (map string_bytes words.now.items) ≡ Some g → source.new ≡ source.old }
 {
     let _ = gate;
-    match settings(alloc, words) {
-        Ok(settings) => {
-            let mut server = Server::new(alloc, &settings);
-            let end = drive(alloc, budget, source, sink, ledger, &mut Whole, &mut server);
-            finish(end, server.is_faulty)
-        }
+    match Invocation::from_words(alloc, words) {
+        Ok(invocation) => match invocation.generated {
+            None => {
+                let mut server = Server::new(alloc, &invocation.settings);
+                let end = drive(alloc, budget, source, sink, ledger, &mut Whole, &mut server);
+                finish(end, server.is_faulty)
+            }
+            Some(generated) => {
+                let mut server = Server::new(alloc, &invocation.settings);
+                let end = serve_made(alloc, generated, sink, ledger, &mut Whole, &mut server);
+                finish(end, server.is_faulty)
+            }
+        },
         Err(error) => unbegun(error),
     }
 }

@@ -7,11 +7,13 @@ use Rattle.clap.specs.ValueTests.{accepts}
 use Rattle.clap.specs.Values.{refused_kind}
 use Rattle.clap.specs.Matches.{count_text}
 use Rattle.clap.specs.Facts.{parser_of_value, unwrap_or_range}
-use Rattle.clap.specs.Walk.{Held, Names, Row, Rule, Step, Text, Waiting, Walk, action_of, arg_by_id, arg_by_index, arg_by_long, arg_by_short, attached_value, count_of, has_row, is_pending, most_values, reacted, settled, subcommand_met, takes_several, takes_values, values_or_missing, walked, word_met, next, trailing, subcommand, value}
+use Rattle.clap.specs.Walk.{Held, Names, Row, Rule, Step, Text, Waiting, Walk, action_of, arg_by_id, arg_by_index, arg_by_long, arg_by_short, attached_value, count_of, has_row, is_pending, most_values, reacted, settled, finished, subcommand_met, takes_several, takes_values, values_or_missing, walk, walk_from, walked, word_met, next, trailing, subcommand, value}
+use Rattle.std.specs.List.{list_all, list_any}
+use Rattle.clap.specs.Facts.{explicit_source}
 use Rattle.clap.specs.Simple.{Shape}
 use Rattle.clap.specs.Kinds.{Kinds, or_else, range_kinds, value_kinds}
-use Rattle.clap.specs.Takes.{action_passes, bundle_passes, bundle_step_passes, count_passes, flag_word_passes, flags_pass, long_passes, option_passes, other_passes, positional_passes, react_passes, set_passes, settle_passes, short_passes, step_passes, turn_passes, use_passes, value_passes, values_pass, walk_passes, word_passes}
-use Rattle.clap.specs.Faults.{action_fault, bundle_fault, bundle_step_fault, count_fault, flag_word_fault, flags_fault, long_fault, option_fault, other_fault, positional_fault, react_fault, repeat_fault, set_fault, settle_fault, short_fault, step_fault, stray_fault, turn_fault, use_fault, values_fault, walk_fault, word_fault}
+use Rattle.clap.specs.Takes.{default_passes, is_given, is_valid, level_passes, action_passes, bundle_passes, bundle_step_passes, count_passes, flag_word_passes, flags_pass, long_passes, option_passes, other_passes, positional_passes, react_passes, set_passes, settle_passes, short_passes, step_passes, turn_passes, use_passes, value_passes, values_pass, walk_passes, word_passes}
+use Rattle.clap.specs.Faults.{check_fault, defaults_fault, has_free_rules, level_fault, action_fault, bundle_fault, bundle_step_fault, count_fault, flag_word_fault, flags_fault, long_fault, option_fault, other_fault, positional_fault, react_fault, repeat_fault, set_fault, settle_fault, short_fault, step_fault, stray_fault, turn_fault, use_fault, values_fault, walk_fault, word_fault}
 use Rattle.clap.specs.declared.error.kind.ErrorKind.{ErrorKind}
 use Rattle.clap.specs.declared.error.kind.ErrorKind.TheVariants.{InvalidSubcommand, TooFewValues, TooManyValues, UnknownArgument, WrongNumberOfValues}
 use Rattle.clap.specs.declared.builder.action.ArgAction.{ArgAction}
@@ -38,7 +40,7 @@ excused false b e = refl
 
 -- ---- values
 
-value_takes : (a : Rule) (t : Text) → value_kinds a.ignore_case (parser_of_value a.parser) t ≡ [] → value_passes a t ≡ true
+pub value_takes : (a : Rule) (t : Text) → value_kinds a.ignore_case (parser_of_value a.parser) t ≡ [] → value_passes a t ≡ true
 value_takes a t e = go (accepts a.ignore_case (parser_of_value a.parser) t) e
   where
     go : (b : Bool) → cond b [] (refused_kind (parser_of_value a.parser) ∷ []) ≡ [] → b ≡ true
@@ -76,7 +78,7 @@ action_takes action.HelpShort again a vs rows e = cc
 action_takes action.HelpLong again a vs rows e = cc
 action_takes action.Version again a vs rows e = cc
 
-range_takes : (least most n : ℕ) → range_kinds least most n ≡ [] → (nat_le least n ≡ true) × (nat_le n most ≡ true)
+pub range_takes : (least most n : ℕ) → range_kinds least most n ≡ [] → (nat_le least n ≡ true) × (nat_le n most ≡ true)
 range_takes least most n e = go (least == most) refl (unless (nat_lt 0 least && n == 0) _ _ _ e).1
   where
     one : (b : Bool) → (least == n) ≡ b → least ≡ most → cond b [] (WrongNumberOfValues ∷ []) ≡ [] → (nat_le least n ≡ true) × (nat_le n most ≡ true)
@@ -225,3 +227,55 @@ walk_takes s names w [] e = refl
 walk_takes s names w (word ∷ rest) e =
     let each = parts (turn_fault s names w word) (walk_fault s names (walked s.rules names w word) rest) e in
     joined _ _ (turn_takes s names w word each.0) (walk_takes s names (walked s.rules names w word) rest each.1)
+
+-- ---- after the walk
+
+either_false : (a b : Bool) → (a || b) ≡ false → (a ≡ false) × (b ≡ false)
+either_false true b e = cc
+either_false false b e = (refl, e)
+
+help_is_not_due : (a b given : Bool) → (not b && (a && not given)) ≡ false → (not a || (b || given)) ≡ true
+help_is_not_due false b given e = refl
+help_is_not_due true true given e = refl
+help_is_not_due true false true e = refl
+help_is_not_due true false false e = cc
+
+has_what_is_due : (a b : Bool) → (not b && a) ≡ false → (not a || b) ≡ true
+has_what_is_due true true e = refl
+has_what_is_due true false e = cc
+has_what_is_due false b e = refl
+
+none_missing : (given : Rule → Bool) (rules : List Rule) → list_any (λ a. a.required && not (given a)) rules ≡ false → list_all (λ a. not a.required || given a) rules ≡ true
+none_missing given [] e = refl
+none_missing given (a ∷ rules) e =
+    let each = either_false (a.required && not (given a)) _ e in
+    joined _ _ (excused a.required (given a) each.0) (none_missing given rules each.1)
+
+negated_or : (n missing given : Bool) → (not n && missing) ≡ false → (missing ≡ false → given ≡ true) → (n || given) ≡ true
+negated_or true missing given e then_given = refl
+negated_or false missing given e then_given = then_given e
+
+valid_takes : (s : Shape) (rows : List Row) (b : Bool) → has_free_rules s ≡ true → check_fault s rows b ≡ [] → is_valid s rows b ≡ true
+valid_takes s rows b free e =
+    let given = list_any (λ r. explicit_source r.source) rows in
+    let missing = list_any (λ a. a.required && not (is_given a.id rows)) s.rules in
+    let help = unless (not b && (s.arg_required_else_help && not given)) _ _ _ e in
+    let below = unless (not b && s.subcommand_required) _ _ _ help.1 in
+    let needed = unless (not (s.subcommand_negates_reqs && b) && missing) _ _ _ below.1 in
+    joined _ _ (help_is_not_due s.arg_required_else_help b given help.0)
+    (joined _ _ (has_what_is_due s.subcommand_required b below.0)
+    (joined _ _ free (negated_or (s.subcommand_negates_reqs && b) missing _ needed.0 (none_missing (λ a. is_given a.id rows) s.rules))))
+
+-- a level at which nothing fails passes, and nothing fails below it
+pub level_takes : (s : Shape) (names : Names) (h : Held) (words : List Text) (b : Bool) (below : Kinds) → list_all default_passes s.rules ≡ true → has_free_rules s ≡ true
+    → level_fault s names h words b below ≡ [] → (below ≡ []) × (level_passes s names h words b ≡ true)
+level_takes s names h words b below defaults free none =
+    let end = (walk s.rules names h words).held in
+    let walked = parts (walk_fault s names (walk_from h) words) _ none in
+    let entered = parts below _ walked.1 in
+    let settled_and = parts (settle_fault s.rules s.args_override_self end) _ entered.1 in
+    let checked = parts (defaults_fault (settled s.rules end).rows s.rules) _ settled_and.1 in (
+      entered.0,
+      joined _ _ (walk_takes s names (walk_from h) words walked.0)
+          (joined _ _ (settle_takes s.rules s.args_override_self end settled_and.0) (joined _ _ defaults (valid_takes s (finished s.rules end) b free checked.1))),
+    )

@@ -1,3 +1,4 @@
-mod FaultsTake
 mod Numbers
+mod FaultsTake
+mod Generator
 mod Options

@@ -1,5 +1,5 @@
 -- What a parse of the program gives of its options.
-use Rattle.std.proofs.Common.{cond, unwrap_or, IsSome, ◌^◌, ◌≡◌, ◌∙◌, ◌<◌, ◌≤◌, ℕ, Bool, zero, suc, true, false, refl, sym, ap, subst, inl, inr, codes, List, [], ◌∷◌, map, length, Option, Some, None, is_some, option_map, find, arith, Result, Ok, Err, IfErr, IsErrAnd, pos, true≢false}
+use Rattle.std.proofs.Common.{cond, unwrap_or, IsSome, ◌^◌, ◌≡◌, ◌∙◌, ◌<◌, ◌≤◌, ℕ, Bool, zero, suc, true, false, refl, sym, ap, ap₂, subst, inl, inr, codes, List, [], ◌∷◌, map, length, Option, Some, None, is_some, option_map, find, arith, Result, Ok, Err, IfErr, IsErrAnd, pos, true≢false}
 use Rattle.std.specs.List.{All, list_all, slice_index_or}
 use Rattle.std.specs.Str.{bytes_eq}
 use Rattle.std.specs.Borrow.{Bor}
@@ -12,10 +12,10 @@ use Rattle.clap.specs.Values.{Accepts, read_as, reading_of}
 use Rattle.clap.specs.Matches.{ReadsOne, found_of, matched_of, one_text}
 use Rattle.clap.specs.Facts.{Entry, EntryPasses, WantsDefault, args_of, least_values, unwrap_or_range, groups_of, parser_of, parser_of_value}
 use Rattle.clap.specs.Built.{IsAuto, IsParsedFrom, SameRules}
-use Rattle.clap.specs.Walk.{Row, Rule, Text, one_of, rows_of, rule_of, texts, nothing_held, walk, walk_from}
-use Rattle.clap.specs.Simple.{App, IsSimple, is_ready, is_ready_leaf, app_of, argument_words, built, is_simple}
-use Rattle.clap.specs.Takes.{level_passes}
-use Rattle.clap.specs.Faults.{fault_of, level_fault, settle_fault, walk_fault}
+use Rattle.clap.specs.Walk.{Row, Rule, Text, one_of, rows_of, rule_of, texts, nothing_held, walk}
+use Rattle.smt_words.specs.declared.Generated.{Generated}
+use Rattle.clap.specs.Simple.{HasMatchesOf, subcommand_rows_of, App, IsSimple, is_ready, is_ready_leaf, app_of, argument_words, built, entered, is_simple, names_of, subcommand_of}
+use Rattle.clap.specs.Faults.{entered_fault, fault_of, is_simple_and_free}
 use Rattle.clap.specs.declared.builder.action.ArgAction.TheVariants.{Set, Count}
 use Rattle.clap.specs.declared.error.kind.ErrorKind.{ErrorKind}
 use Rattle.clap.specs.declared.error.kind.ErrorKind.TheVariants.{OutOfMemory}
@@ -31,26 +31,23 @@ use Rattle.clap.specs.declared.parser.matches.MatchedArg.{MatchedArg}
 use Rattle.clap.specs.declared.parser.matches.Found.{Found}
 use Rattle.clap.specs.declared.builder.value_parser.Reading.{Reading}
 use Rattle.clap.proofs.CallerLemmas.{default_present, entry_by_id, same_rules_by_id}
-use Rattle.clap.proofs.FaultLemmas.{leaf_fault}
-use Rattle.clap.proofs.TakesLemmas.{each_rule, leaf_takes}
+use Rattle.clap.proofs.TakesLemmas.{each_rule}
+use Rattle.clap.proofs.ValueTestLemmas.{accepts-Accepts}
 use Rattle.clap.proofs.SimpleLemmas.{is_nil, ready_simple}
 use Rattle.clap.proofs.WalkLemmas.{both, one_text-rows}
 use Rattle.smt_words.specs.Words.{are_taken, natural, number_in, option, program}
 use Rattle.smt_words.proofs.Numbers.{Reads, from_signed, from_unsigned}
-use Rattle.smt_words.proofs.FaultsTake.{joined, parts, settle_takes, walk_takes}
+use Rattle.smt_words.proofs.FaultsTake.{joined, level_takes}
+use Rattle.smt_words.proofs.Generator.{Given, entered_takes, given, needed_rule}
 
 -- where nothing fails, the words are taken
 pub taken_without_fault : (words : List Text) → fault_of program words ≡ [] → are_taken words ≡ true
 taken_without_fault words none =
-    let s = (built program).top in
+    let a = built program in
     let rest = argument_words program words in
-    let held = (walk s.rules [] nothing_held rest).held in
-    let level : level_fault s [] nothing_held rest false [] ≡ [] = sym (leaf_fault (built program) nothing_held rest refl) ∙ none in
-    let words_and = parts (walk_fault s [] (walk_from nothing_held) rest) _ level in
-    let end_and = parts (settle_fault s.rules s.args_override_self held) _ words_and.1 in
-    let passes : level_passes s [] nothing_held rest false ≡ true =
-    joined _ _ (walk_takes s [] (walk_from nothing_held) rest words_and.0) (joined _ _ (settle_takes s.rules s.args_override_self held end_and.0) refl) in
-    joined (is_simple program) _ refl (leaf_takes (built program) nothing_held rest refl passes)
+    let stop = (walk a.top.rules (names_of a) nothing_held rest).stopped in
+    let level = level_takes a.top (names_of a) nothing_held rest (is_some (entered a stop)) (entered_fault a stop) refl refl none in
+    joined (is_simple program) _ refl (joined _ _ (entered_takes stop level.0) level.1)
 
 -- ---- the arguments of a command by their rules
 
@@ -306,6 +303,40 @@ module _ (c : Command) (m : ArgMatches) (is : app_of c ≡ program) (p : IsParse
   pub seed_number : GetsOne m (codes "seed") 64 r → IsNumber m (codes "seed") 0 18446744073709551615 r
   seed_number gets = large_number m (codes "seed") 0 18446744073709551615 64 r gets (omega arith)
       (has_text c m is p 3 (codes "seed") (codes "0") natural first (omega arith) (λ r. refl) refl refl refl)
+
+-- the same of the matches of `gen`
+module _ (words : List Text) (m : ArgMatches) (r : Option ℕ) (none : fault_of program words ≡ []) (is : Some (rows_of (found_of m)) ≡ option_map (λ (p : Text × List Row). p.1) (subcommand_of program words)) where
+  has_given : (w : Bool) (name : Text) (q : ValueParser) → (needed_rule w).id ≡ name → parser_of_value (needed_rule w).parser ≡ q → (needed_rule w).ignore_case ≡ false → Given w (rows_of (found_of m)) → HasText m name q
+  has_given w name q id parser case g =
+      (g.0, rw (← id, ← parser) (one_text-rows (found_of m) (needed_rule w).id ∙ g.1), rw (← parser, ← case) (accepts-Accepts (needed_rule w).ignore_case (parser_of_value (needed_rule w).parser) g.0 g.2))
+
+  pub given_seed : GetsOne m (codes "seed") 64 r → IsNumber m (codes "seed") 0 18446744073709551615 r
+  given_seed gets = large_number m (codes "seed") 0 18446744073709551615 64 r gets (omega arith)
+      (has_given true (codes "seed") natural refl refl refl (given words (rows_of (found_of m)) none (sym is) true))
+
+  pub given_size : GetsOne m (codes "size") 32 r → IsNumber m (codes "size") 1 2000 r
+  given_size gets = small_number m (codes "size") 1 2000 32 r gets (omega arith)
+      (has_given false (codes "size") (vp.Signed (pos 1) (pos 2000)) refl refl refl (given words (rows_of (found_of m)) none (sym is) false))
+
+-- what a parse tells of the subcommand
+pub parsed_subcommand : (c : Command) (m : ArgMatches) (raw words : List Text) → app_of c ≡ program → raw ≡ words → HasMatchesOf (app_of c) raw m
+    → (is_simple_and_free (app_of c) ≡ true → fault_of (app_of c) raw ≡ []) → (fault_of program words ≡ []) × (subcommand_rows_of m ≡ subcommand_of program words)
+parsed_subcommand c m raw words is same matches none =
+    (sym (ap₂ fault_of is same) ∙ none (ap is_simple_and_free is), (matches (ap is_simple is)).1 ∙ ap₂ subcommand_of is same)
+
+abbrev generated_from : Option (Text × List Row) → Option Generated
+generated_from = option_map (λ p. record { seed = number_in p.1 (codes "seed"); size = number_in p.1 (codes "size") })
+
+pub generated_is : (o : Option (Text × List Row)) (rows : List Row) (seed size : ℕ) → Some rows ≡ option_map (λ (p : Text × List Row). p.1) o
+    → seed ≡ number_in rows (codes "seed") → size ≡ number_in rows (codes "size") → ◌≡◌ {A = Option Generated} (Some (record { seed = seed; size = size })) (generated_from o)
+generated_is None rows seed size same a b = cc
+generated_is (Some p) rows seed size same a b =
+    let here : rows ≡ p.1 = ap (λ x. unwrap_or x []) same in
+    ap₂ (λ x y. Some (record { seed = x; size = y })) (a ∙ ap (λ rs. number_in rs (codes "seed")) here) (b ∙ ap (λ rs. number_in rs (codes "size")) here)
+
+pub none_generated : (o : Option (Text × List Row)) → ◌≡◌ {A = Option (List Row)} None (option_map (λ (p : Text × List Row). p.1) o) → ◌≡◌ {A = Option Generated} None (generated_from o)
+none_generated None same = refl
+none_generated (Some p) same = cc
 
 -- the value that was read is the number in the matches
 pub value_is : (m : ArgMatches) (name : Text) (low high : ℕ) (r : Option ℕ) (v : ℕ) (rows : List Row) → IsNumber m name low high r → r ≡ Some v → rows_of (found_of m) ≡ rows

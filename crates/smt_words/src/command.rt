@@ -1,13 +1,13 @@
 //! The command as `clap` sees it.
 ghost use Rattle.std.specs.Prelude.{◌≡◌, false, IfOk};
 ghost use Rattle.clap.specs.Words.{app_of, rule_of};
-ghost use Rattle.smt_words.specs.Words.{option, program};
+ghost use Rattle.smt_words.specs.Words.{generator, needed, option, program};
 
 use clap::builder::ValueParser;
 use clap::{Arg, ArgAction, Command, value_parser};
 use std::alloc::{AllocError, Global};
 
-/// The program's command, without help and version.
+/// The program's command, without words for help and version.
 pub(crate) fn command<'a>(alloc: Global) -> Result<Command<'a>, AllocError>
     ensures { IfOk result (λ c. app_of c ≡ program) }
 {
@@ -15,13 +15,25 @@ pub(crate) fn command<'a>(alloc: Global) -> Result<Command<'a>, AllocError>
     let units = option(alloc, "units", "0", value_parser!(u64));
     let share = option(alloc, "share", "8", value_parser!(u8).range(0..=64));
     let seed = option(alloc, "seed", "0", value_parser!(u64));
+    let generator = generator(alloc)?;
     Command::new(alloc, "smt_cli")
         .disable_help_flag(true)
         .disable_version_flag(true)
+        .disable_help_subcommand(true)
         .arg(workers)?
         .arg(units)?
         .arg(share)?
-        .arg(seed)
+        .arg(seed)?
+        .subcommand(generator)
+}
+
+/// The subcommand `gen`.
+fn generator<'a>(alloc: Global) -> Result<Command<'a>, AllocError>
+    ensures { IfOk result (λ c. app_of c ≡ generator) }
+{
+    let seed = needed(alloc, "seed", value_parser!(u64));
+    let size = needed(alloc, "size", value_parser!(u32).range(1..=2000));
+    Command::new(alloc, "gen").arg(seed)?.arg(size)
 }
 
 /// The option `--name`, with one value.
@@ -34,4 +46,16 @@ fn option<'a>(alloc: Global, name: &'a str, default: &'a str, parser: ValueParse
         .action(ArgAction::Set)
         .value_parser(parser)
         .default_value(default)
+}
+
+/// The option `--name`, which has to be given, with one value.
+fn needed<'a>(alloc: Global, name: &'a str, parser: ValueParser<'a>) -> Arg<'a>
+    ensures rule { rule_of result ≡ needed name.entry.now parser.entry }
+    ensures local { result.global ≡ false }
+{
+    Arg::new(alloc, name)
+        .long(name)
+        .action(ArgAction::Set)
+        .value_parser(parser)
+        .required(true)
 }

@@ -64,7 +64,7 @@ fn outcome(
     let words = words(alloc, given);
     let mut source = MemSource::new(script.to_vec(alloc)?, 9, Vec::new(alloc));
     let mut sink = MemSink::new(alloc, 60, Vec::new(alloc))?;
-    let mut errors = MemSink::new(alloc, 99, Vec::new(alloc))?;
+    let mut errors = MemSink::new(alloc, 120, Vec::new(alloc))?;
     let code = program(alloc, &words, &mut source, &mut sink, &mut errors);
     Ok((
         format!(in alloc; "{code:?}")?,
@@ -73,7 +73,8 @@ fn outcome(
     ))
 }
 
-const USAGE: &[u8] = b"usage: smt_cli [--workers 1..16] [--units U] [--share 0..64] [--seed K]\n";
+const USAGE: &[u8] =
+    b"usage: smt_cli [--workers 1..16] [--units U] [--share 0..64] [--seed K] [gen --seed K --size 1..2000]\n";
 
 /// Words, a script, what the program exits with, what it writes, and what it says.
 static ENDS: [(
@@ -82,7 +83,7 @@ static ENDS: [(
     &'static str,
     &'static [u8],
     &'static [u8],
-); 4] = [
+); 5] = [
     (
         &[b"smt_cli", b"--seed=7"],
         b"(check-sat)",
@@ -99,6 +100,13 @@ static ENDS: [(
     ),
     (
         &[b"smt_cli", b"--workers=0"],
+        b"(check-sat)",
+        "ExitCode(unix_exit_status(2))",
+        b"",
+        USAGE,
+    ),
+    (
+        &[b"smt_cli", b"gen", b"--seed", b"7"],
         b"(check-sat)",
         "ExitCode(unix_exit_status(2))",
         b"",

@@ -106,6 +106,63 @@ fn keeps_the_journal(rt: HostRuntime) -> Result<(), Fail> {
     Ok(())
 }
 
+/// Words with `gen`, the status at the end, and the last line that is written after four rounds of answers. Nothing is written where the words are refused.
+static MADE: [(&'static str, u8, &'static [u8]); 7] = [
+    (
+        "smt_cli --workers 2 gen --seed 1 --size 3",
+        0,
+        b"\"size 3 sat 8 unsat 4\"\n",
+    ),
+    (
+        "smt_cli gen --seed 7 --size 20",
+        0,
+        b"\"size 20 sat 8 unsat 4\"\n",
+    ),
+    (
+        "smt_cli gen --seed 7 --size 20",
+        0,
+        b"\"size 20 sat 8 unsat 4\"\n",
+    ),
+    (
+        "smt_cli --workers 1 gen --seed 7 --size 200",
+        0,
+        b"\"size 200 sat 8 unsat 4\"\n",
+    ),
+    ("smt_cli gen --seed 7 --size 0", 2, b""),
+    ("smt_cli gen --seed 7 --size 2001", 2, b""),
+    ("smt_cli gen --seed 7", 2, b""),
+];
+
+/// What a run writes that ends with this line, if there is one.
+fn replies(alloc: Global, last: &[u8]) -> Result<Vec<u8>, AllocError> {
+    let mut replies = Vec::new(alloc);
+    if last.is_empty() {
+        return Ok(replies);
+    }
+    for _ in 0..4 {
+        replies.extend_from_slice(b"sat\nunsat\nsat\n")?;
+    }
+    replies.extend_from_slice(last)?;
+    Ok(replies)
+}
+
+#[test]
+fn answers_scripts_that_are_made(rt: HostRuntime) -> Result<(), Fail> {
+    let alloc = rt.alloc();
+    for row in MADE.iter() {
+        let (line, status, last) = *row;
+        let words = words_of(alloc, line)?;
+        let mut source = MemSource::new(b"(check-sat)".to_vec(alloc)?, 4, Vec::new(alloc));
+        let mut sink = MemSink::new(alloc, 200, Vec::new(alloc))?;
+        let ended = run_within(alloc, 1, &words, &mut source, &mut sink, &OpenGate);
+        assert_eq!(rt; ended.status, status, "{line}");
+        assert_eq!(rt; sink.written(), replies(alloc, last)?.as_slice(), "{line}");
+        let mut left = [0; 20];
+        assert_eq!(rt; source.more(left.as_mut_slice()), More::Got(4), "{line}");
+    }
+    Ok(())
+}
+
 /// A source that notes at each call how many bytes have been written by then.
 #[derive(Drop)]
 struct Watching<'a> {

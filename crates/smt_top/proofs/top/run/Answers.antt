@@ -8,3 +8,6 @@ returns-clause-untouched g c = c.run_within.ensures.untouched
 
 pub returns-clause-silent : goal.returns-clause-silent
 returns-clause-silent g c = c.run_within.ensures.silent
+
+pub returns-clause-unasked : goal.returns-clause-unasked
+returns-clause-unasked g c = c.run_within.ensures.unasked

@@ -2,7 +2,7 @@ use Rattle.std.proofs.Common.{sym, ap, ◌∙◌, subst, map, string_bytes}
 use Rattle.smt_meaning.specs.LegalJournal.{journal_text}
 use Rattle.whole_decider.specs.Taken.{every_stack}
 use Rattle.smt_top.specs.Progress.{between}
-use Rattle.smt_top.specs.Ended.{Ran, ended_with}
+use Rattle.smt_top.specs.Ended.{RanUnder, ended_with}
 use Rattle.smt_top.proofs.Servings.{gained_all}
 use Rattle.smt_top.proofs.top.run_within.Goals as goal
 
@@ -10,7 +10,7 @@ pub returns-clause-ran : goal.returns-clause-ran
 returns-clause-ran g c =
     let r = c.run_through-outcome.ensures.ran in
     let e = between (g.S.Source.told c.args.source.now) (g.K.Sink.told c.args.sink.now) (g.S.Source.told c.run_through-outcome.new.source) (g.K.Sink.told c.run_through-outcome.new.sink) in
-    subst (λ j. Ran every_stack c.args.budget (map string_bytes c.args.words.now.items) e (ended_with c.run_through-outcome.result j)) (gained_all _ _ _ c.new-journal.ensures r.gained) r.ran
+    subst (λ j. RanUnder every_stack c.args.budget (map string_bytes c.args.words.now.items) e (ended_with c.run_through-outcome.result j)) (gained_all _ _ _ c.new-journal.ensures r.gained) r.ran
 
 pub returns-clause-untouched : goal.returns-clause-untouched
 returns-clause-untouched g c no' =
@@ -22,3 +22,6 @@ pub returns-clause-silent : goal.returns-clause-silent
 returns-clause-silent g c none =
     let r = c.run_through-outcome.ensures.ran in
     r.silent (ap journal_text (gained_all _ _ _ c.new-journal.ensures r.gained) ∙ none)
+
+pub returns-clause-unasked : goal.returns-clause-unasked
+returns-clause-unasked g c made is = c.run_through-outcome.ensures.unasked made is

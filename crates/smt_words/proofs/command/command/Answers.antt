@@ -1,9 +1,10 @@
 use Rattle.std.proofs.Common.{true, ap, ap₂, codes, pos, ◌∙◌, ◌≡◌}
 use Rattle.std.proofs.lemmas.Result.{IfOk-weaker}
-use Rattle.clap.specs.Words.{app_of, rule_of, with_rule}
+use Rattle.clap.specs.Words.{App, app_of, rule_of, with_rule, with_subcommand}
 use Rattle.clap.specs.Simple.{app_of_fields, on_top}
+use Rattle.clap.proofs.SimpleLemmas.{plain_fields}
 use Rattle.clap.specs.declared.builder.value_parser.ValueParser.TheVariants as vp
-use Rattle.smt_words.specs.Words.{bare, natural, option}
+use Rattle.smt_words.specs.Words.{bare, generator, natural, option}
 use Rattle.smt_words.proofs.command.command.Goals as goal
 
 -- the command with the first option, then the second, and so on
@@ -21,9 +22,14 @@ returns c =
     c.option-seed.ensures.rule ∙ ap (option (codes "seed") (codes "0")) c.value_parser-4.ensures in
     let helpless : app_of c.disable_help_flag.result ≡ on_top (λ s. record s { disable_help_flag = true }) (app_of c.new-3.result) = ap app_of_fields c.disable_help_flag.ensures in
     let nameless : app_of c.disable_version_flag.result ≡ on_top (λ s. record s { disable_version_flag = true }) (app_of c.disable_help_flag.result) = ap app_of_fields c.disable_version_flag.ensures in
-    let bare_is : app_of c.disable_version_flag.result ≡ bare =
-    nameless ∙ ap (on_top (λ s. record s { disable_version_flag = true })) (helpless ∙ ap (on_top (λ s. record s { disable_help_flag = true })) c.new-3.ensures.app) in
+    let topicless : app_of c.disable_help_subcommand.result ≡ on_top (λ s. record s { disable_help_subcommand = true }) (app_of c.disable_version_flag.result) = ap app_of_fields c.disable_help_subcommand.ensures in
+    let bare_is : app_of c.disable_help_subcommand.result ≡ bare =
+    topicless ∙ ap (on_top (λ s. record s { disable_help_subcommand = true }))
+    (nameless ∙ ap (on_top (λ s. record s { disable_version_flag = true })) (helpless ∙ ap (on_top (λ s. record s { disable_help_flag = true })) c.new-3.ensures.app)) in
     let first = c.in_ok-arg.ensures.shape c.option-workers.ensures.local ∙ ap₂ with_rule bare_is workers in
     let second = c.in_ok-arg-2.ensures.shape c.option-units.ensures.local ∙ ap₂ with_rule first units in
     let third = c.in_ok-arg-3.ensures.shape c.option-share.ensures.local ∙ ap₂ with_rule second share in
-    IfOk-weaker c.arg-4.result _ _ (λ r added. added.shape c.option-seed.ensures.local ∙ ap₂ with_rule third seed) c.arg-4.ensures
+    let fourth = c.in_ok-arg-4.ensures.shape c.option-seed.ensures.local ∙ ap₂ with_rule third seed in
+    let sub : app_of c.in_ok-generator.generator ≡ generator = c.in_ok-generator.ensures in
+    let local = (plain_fields c.in_ok-generator.generator (ap (λ (a : App). a.top.is_plain) sub)).globals in
+    IfOk-weaker c.subcommand.result _ _ (λ r added. added.shape local ∙ ap₂ with_subcommand fourth (ap (λ (a : App). a.top) sub)) c.subcommand.ensures
