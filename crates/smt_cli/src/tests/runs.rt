@@ -158,7 +158,8 @@ fn answers_scripts_that_are_made(rt: HostRuntime) -> Result<(), Fail> {
         assert_eq!(rt; ended.status, status, "{line}");
         assert_eq!(rt; sink.written(), replies(alloc, last)?.as_slice(), "{line}");
         let mut left = [0; 20];
-        assert_eq!(rt; source.more(left.as_mut_slice()), More::Got(4), "{line}");
+        let unread = matches!(source.more(left.as_mut_slice()), More::Got(4));
+        assert!(rt; unread, "{line}");
     }
     Ok(())
 }
