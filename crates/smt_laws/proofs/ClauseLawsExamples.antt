@@ -87,7 +87,7 @@ divisor = refl
 -- ---- the atoms of an assertion
 
 abbrev declared : ℕ → Sort → Declaration
-declared id s = record { id = id; name = []; rank = record { arguments = []; result = s }; body = None; is_sort = false }
+declared id s = record { id = id; name = []; rank = record { arguments = []; result = s }; body = None; is_sort = false; is_name = false }
 
 abbrev signature : List Declaration
 signature = declared 0 Ints ∷ declared 1 Ints ∷ declared 2 Truths ∷ []

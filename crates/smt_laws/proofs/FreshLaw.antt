@@ -1,15 +1,15 @@
 -- No id stands twice in the signature of a stack.
-use Rattle.std.proofs.Common.{◌≡◌, ℕ, zero, suc, ◌+◌, ◌-◌, ◌<◌, List, [], ◌∷◌, ◌++◌, All, take, drop, length, sym, ap, ◌∙◌, refl, subst, arith, Option, Some, None, append_assoc, append-nil}
-use Rattle.std.specs.Prelude.{◌≢◌, replicate}
+use Rattle.std.proofs.Common.{◌≡◌, ℕ, zero, suc, ◌+◌, ◌-◌, ◌<◌, List, [], ◌∷◌, ◌++◌, All, take, drop, length, sym, ap, ◌∙◌, refl, subst, arith, Bool, true, false, Option, Some, None, append_assoc, append-nil}
+use Rattle.std.specs.Prelude.{◌≢◌, replicate, filter, if◌then◌else◌}
 use Rattle.std.proofs.lemmas.Grind.{flat_map-append}
 use Rattle.std.proofs.lemmas.List.{take-append-drop}
 use Rattle.std.proofs.Math.Seq.{drop-append_seam}
-use Rattle.std.proofs.lemmas.List.Elements.{All-nil, All-cons, All-head, All-tail, All-append, All-weaker}
+use Rattle.std.proofs.lemmas.List.Elements.{All-nil, All-cons, All-head, All-tail, All-append, All-weaker, All-filter}
 use Rattle.smt_meaning.specs.Declaration.{Declaration}
 use Rattle.smt_meaning.specs.Signature.{HasNoIdTwice}
 use Rattle.smt_meaning.specs.Sorts.{Scope, Outcome, done, refused, Judging}
-use Rattle.smt_meaning.specs.Stack.{Frame, Assertion, signature_of, depth, on_top, pushed, empty_frame}
-use Rattle.smt_meaning.specs.StackCommand.{Stack, start, Change, declares, asserts, pushes, pops, asks, clears, begins_again, is_unsupported, stack_command, scope_of, judged, new_declarations, changed, after_outcome, after_command, after, after_all}
+use Rattle.smt_meaning.specs.Stack.{Frame, Assertion, signature_of, depth, on_top, at_base, with_declared, stays, base_of, cleared, pushed, empty_frame}
+use Rattle.smt_meaning.specs.StackCommand.{Stack, start, Change, declares, asserts, pushes, pops, asks, assumes, sets, clears, begins_again, is_unsupported, stack_command, scope_of, judged, new_declarations, changed, after_outcome, after_command, after, after_all}
 use Rattle.smt_meaning.specs.declared.commands.Command.{Command}
 use Rattle.smt_laws.specs.TermLaws.{NoIdTwice}
 use Rattle.smt_laws.proofs.Keeping.{Invariant, Kept, KeepsIfSome, command_keeps}
@@ -50,6 +50,55 @@ distinct_prefix (d ∷ ds) es h = (All-prefix (λ (e : Declaration). d.id ≢ e.
 fresh_prefix : (n : ℕ) (ds es : List Declaration) → Fresh n (ds ++ es) → Fresh n ds
 fresh_prefix n ds es h = record { distinct = distinct_prefix ds es h.distinct; below = All-prefix (λ (d : Declaration). d.id < n) ds es h.below }
 
+All-suffix : (P : Declaration → Type 0) (ds es : List Declaration) → All P (ds ++ es) → All P es
+All-suffix P [] es h = h
+All-suffix P (d ∷ ds) es h = All-suffix P ds es (All-tail P d (ds ++ es) h)
+
+distinct_suffix : (ds es : List Declaration) → HasNoIdTwice (ds ++ es) → HasNoIdTwice es
+distinct_suffix [] es h = h
+distinct_suffix (d ∷ ds) es h = distinct_suffix ds es h.1
+
+-- one more in front of another part
+distinct_between : (d : Declaration) (ds es : List Declaration) → All (λ (e : Declaration). d.id ≢ e.id) (ds ++ es) → HasNoIdTwice (ds ++ es) → HasNoIdTwice (ds ++ d ∷ es)
+distinct_between d [] es h k = (h, k)
+distinct_between d (e ∷ ds) es h k =
+    let other : d.id ≢ e.id = All-head (λ (f : Declaration). d.id ≢ f.id) e (ds ++ es) h in (
+      All-append (λ (f : Declaration). e.id ≢ f.id) ds (d ∷ es) (All-prefix (λ (f : Declaration). e.id ≢ f.id) ds es k.0)
+          (All-cons (λ (f : Declaration). e.id ≢ f.id) d es (λ same. other (sym same)) (All-suffix (λ (f : Declaration). e.id ≢ f.id) ds es k.0)),
+      distinct_between d ds es (All-tail (λ (f : Declaration). d.id ≢ f.id) e (ds ++ es) h) k.1,
+    )
+
+All-swap : (P : Declaration → Type 0) (ds es : List Declaration) → All P (ds ++ es) → All P (es ++ ds)
+All-swap P ds es h = All-append P es ds (All-suffix P ds es h) (All-prefix P ds es h)
+
+distinct_swap : (ds es : List Declaration) → HasNoIdTwice (ds ++ es) → HasNoIdTwice (es ++ ds)
+distinct_swap [] es h = subst HasNoIdTwice (sym (append-nil es)) h
+distinct_swap (d ∷ ds) es h = distinct_between d es ds (All-swap (λ (e : Declaration). d.id ≢ e.id) ds es h.0) (distinct_swap ds es h.1)
+
+All-move : (P : Declaration → Type 0) (front ds es : List Declaration) → All P (front ++ (ds ++ es)) → All P (front ++ (es ++ ds))
+All-move P front ds es h = All-append P front (es ++ ds) (All-prefix P front (ds ++ es) h) (All-swap P ds es (All-suffix P front (ds ++ es) h))
+
+distinct_move : (front ds es : List Declaration) → HasNoIdTwice (front ++ (ds ++ es)) → HasNoIdTwice (front ++ (es ++ ds))
+distinct_move [] ds es h = distinct_swap ds es h
+distinct_move (d ∷ front) ds es h = (All-move (λ (e : Declaration). d.id ≢ e.id) front ds es h.0, distinct_move front ds es h.1)
+
+-- parts that change places, behind others
+fresh_move : (n : ℕ) (front ds es : List Declaration) → Fresh n (front ++ (ds ++ es)) → Fresh n (front ++ (es ++ ds))
+fresh_move n front ds es h = record { distinct = distinct_move front ds es h.distinct; below = All-move (λ (d : Declaration). d.id < n) front ds es h.below }
+
+distinct_step : (d : Declaration) (ds : List Declaration) (b : Bool) → All (λ (e : Declaration). d.id ≢ e.id) (filter stays ds) → HasNoIdTwice (filter stays ds)
+    → HasNoIdTwice (if b then d ∷ filter stays ds else filter stays ds)
+distinct_step d ds true h k = (h, k)
+distinct_step d ds false h k = k
+
+distinct_filter : (ds : List Declaration) → HasNoIdTwice ds → HasNoIdTwice (filter stays ds)
+distinct_filter [] h = tt
+distinct_filter (d ∷ ds) h = distinct_step d ds (stays d) (All-filter stays (λ (e : Declaration). d.id ≢ e.id) ds h.0) (distinct_filter ds h.1)
+
+-- those that stay
+fresh_filter : (n : ℕ) (ds : List Declaration) → Fresh n ds → Fresh n (filter stays ds)
+fresh_filter n ds h = record { distinct = distinct_filter ds h.distinct; below = All-filter stays (λ (d : Declaration). d.id < n) ds h.below }
+
 -- ---- the signature before, and what was declared behind it
 
 -- ids are fresh, and the signature begins with these declarations
@@ -81,6 +130,26 @@ fresh_on_top : (n : ℕ) (ds : List Declaration) (xs : List Assertion) (frames :
 fresh_on_top n ds xs [] h = nothing_fresh n
 fresh_on_top n ds xs (f ∷ frames) h = subst (Fresh n) (sym (on_top_signature ds xs f frames)) h
 
+-- declarations of level 0 stand before those of the levels above
+fresh_at_base : (n : ℕ) (ds : List Declaration) (frames : List Frame) → Fresh n (signature_of frames ++ ds) → Fresh n (signature_of (at_base ds frames))
+fresh_at_base n ds [] h = nothing_fresh n
+fresh_at_base n ds (f ∷ frames) h =
+    subst (Fresh n) (sym (append_assoc f.declared ds (signature_of frames)))
+    (fresh_move n f.declared (signature_of frames) ds (subst (Fresh n) (append_assoc f.declared (signature_of frames) ds) h))
+
+fresh_declared : (n : ℕ) (b : Bool) (ds : List Declaration) (frames : List Frame) → Fresh n (signature_of frames ++ ds) → Fresh n (signature_of (with_declared b ds frames))
+fresh_declared n true ds frames h = fresh_at_base n ds frames h
+fresh_declared n false ds frames h = fresh_on_top n ds [] frames h
+
+fresh_base : (n : ℕ) (frames : List Frame) → Fresh n (signature_of frames) → Fresh n (signature_of (base_of frames))
+fresh_base n [] h = nothing_fresh n
+fresh_base n (f ∷ frames) h =
+    subst (Fresh n) (sym (append-nil (filter stays f.declared))) (fresh_filter n f.declared (fresh_prefix n f.declared (signature_of frames) h))
+
+fresh_cleared : (n : ℕ) (b : Bool) (frames : List Frame) → Fresh n (signature_of frames) → Fresh n (signature_of (cleared b frames))
+fresh_cleared n true frames h = fresh_base n frames h
+fresh_cleared n false frames h = nothing_fresh n
+
 -- what was declared on the way, behind what was there
 joined_again : (s : Stack) (c : Scope) (names : List Declaration) → c.signature ≡ signature_of s.frames ++ names → c.signature ≡ signature_of s.frames ++ new_declarations s c
 joined_again s c names e =
@@ -98,13 +167,15 @@ popped_signature : (k : ℕ) (frames : List Frame) → signature_of frames ≡ s
 popped_signature k frames = ap signature_of (sym (take-append-drop k frames)) ∙ flat_map-append (λ (f : Frame). f.declared) (take k frames) (drop k frames)
 
 changed_fresh : (s : Stack) (change : Change) (c : Scope) → FreshStack s → Fresh c.given c.signature → (names : List Declaration) → c.signature ≡ signature_of s.frames ++ names → FreshStack (changed s change c)
-changed_fresh s declares c f g names e = fresh_on_top c.given (new_declarations s c) [] s.frames (subst (Fresh c.given) (joined_again s c names e) g)
+changed_fresh s declares c f g names e = fresh_declared c.given s.global (new_declarations s c) s.frames (subst (Fresh c.given) (joined_again s c names e) g)
 changed_fresh s (asserts a) c f g names e = fresh_on_top c.given (new_declarations s c) (a ∷ []) s.frames (subst (Fresh c.given) (joined_again s c names e) g)
 changed_fresh s (pushes n) c f g names e = subst (Fresh s.given) (sym (pushed_signature n s.frames)) f
 changed_fresh s (pops n) c f g names e =
     fresh_prefix s.given _ (signature_of (drop (length s.frames - n) s.frames)) (subst (Fresh s.given) (popped_signature (length s.frames - n) s.frames) f)
 changed_fresh s (asks ts) c f g names e = f
-changed_fresh s clears c f g names e = nothing_fresh s.given
+changed_fresh s (assumes xs) c f g names e = f
+changed_fresh s (sets o) c f g names e = f
+changed_fresh s clears c f g names e = fresh_cleared s.given s.global s.frames f
 changed_fresh s begins_again c f g names e = nothing_fresh 0
 changed_fresh s is_unsupported c f g names e = f
 

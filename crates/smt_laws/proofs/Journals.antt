@@ -82,7 +82,7 @@ incomplete = refl
 -- ---- no more ids
 
 abbrev no_ids_left : State
-no_ids_left = record (start settings) { stack = record { frames = start_frames; given = 4294967295; trees = [] } }
+no_ids_left = record (start settings) { stack = record { frames = start_frames; given = 4294967295; trees = []; global = false } }
 
 no_more_symbols : effect no_ids_left (DeclareConst (codes "x") (Name (codes "Bool"))) ≡ denied (Refused (codes "declare-const") TooManySymbols)
 unfolding effect judged ◌>>=◌ ◌>>◌ return refuse require required the_scope declare
@@ -97,7 +97,7 @@ abbrev no_stack : Decided
 no_stack frames = false
 
 abbrev p : Declaration
-p = record { id = 0; name = codes "p"; rank = record { arguments = []; result = Truths }; body = None; is_sort = false }
+p = record { id = 0; name = codes "p"; rank = record { arguments = []; result = Truths }; body = None; is_sort = false; is_name = false }
 
 abbrev p_tree : Tree
 p_tree = node (Function 0) none
@@ -110,7 +110,7 @@ asserting ds n ts t =
     record (start settings) {
       logic = Some (codes "QF_UFLIA");
       mode = In.Assert;
-      stack = record { frames = record { declared = ds; asserted = record { text = ts; term = t } ∷ [] } ∷ []; given = n; trees = t ∷ [] };
+      stack = record { frames = record { declared = ds; asserted = record { text = ts; term = t } ∷ [] } ∷ []; given = n; trees = t ∷ []; global = false };
     }
 
 abbrev asserting_p : State

@@ -12,12 +12,12 @@ use Rattle.smt_meaning.specs.declared.refusals.Refusal.{Refusal}
 use Rattle.smt_meaning.specs.Term.{Tree, Trees}
 use Rattle.smt_meaning.specs.Sexp.{Sexp, Sexps, word, group, end, ◌▸◌, sexp}
 use Rattle.smt_meaning.specs.Sorts.{Scope, Outcome, done, refused, Judging, go_on, ◌>>=◌, ◌>>◌, return, refuse, require, required, the_scope, with_all, note, found, declare, declare_in, most_symbols, Typed, Variable, Rules, Known, variable, operator, function, unknown, known, can_be_applied, judge_application, judge_bare, judge_symbol, judge_operator, judge_token, check_bindings, none_twice, bound_names, name_by, judge_attributes, either, judge, judge_all, judge_bindings}
-use Rattle.smt_meaning.specs.StackCommand.{Change, declares, clears, begins_again, is_unsupported, judge_sort, judge_sorts, new_sort_name, new_function_name, declare_new_sort, declare_sort, define_sort, declare_function, judge_parameters, apart, in_body, judge_body, define_function, require_room, in_assert, assert_term, in_question, judge_terms, judge_questions, stack_command}
+use Rattle.smt_meaning.specs.StackCommand.{Change, declares, sets, clears, begins_again, is_unsupported, judge_sort, judge_sorts, new_sort_name, new_function_name, declare_new_sort, declare_sort, define_sort, declare_function, judge_parameters, apart, in_body, judge_body, define_function, require_room, in_assert, assert_term, in_question, judge_terms, judge_questions, assume_terms, stack_command}
 use Rattle.smt_meaning.specs.declared.commands.WrittenSort.{WrittenSort}
 use Rattle.smt_meaning.specs.declared.commands.WrittenSort.TheVariants.{Name, Applied}
 use Rattle.smt_meaning.specs.declared.commands.Parameter.{Parameter}
 use Rattle.smt_meaning.specs.declared.commands.Command.{Command}
-use Rattle.smt_meaning.specs.declared.commands.Command.TheVariants.{DeclareSort, DefineSort, DeclareConst, DeclareFun, DefineFun, Assert, Push, Pop, GetValue, ResetAssertions, Reset}
+use Rattle.smt_meaning.specs.declared.commands.Command.TheVariants.{SetOption, DeclareSort, DefineSort, DeclareConst, DeclareFun, DefineFun, Assert, CheckSatAssuming, Push, Pop, GetValue, ResetAssertions, Reset}
 
 -- ---- a property of scopes
 
@@ -238,6 +238,10 @@ module _ {P : Scope → Type 0} (i : Invariant P) where
   questions_keeping : (ts : List (List Token)) → Keeping P (judge_questions ts)
   questions_keeping ts = bind_keeping (terms_keeping ts) (λ bs. next_keeping room_keeping (return_keeping bs))
 
+  assume_keeping : (level : ℕ) (ts : List (List Token)) → Keeping P (assume_terms level ts)
+  assume_keeping level ts =
+      bind_keeping (terms_keeping ts) (λ bs. next_keeping (require_keeping _ _) (next_keeping room_keeping (next_keeping (require_keeping _ _) (return_keeping _))))
+
   -- ---- the fold
 
   abbrev pub KeepsIfSome : Option (ℕ → Judging Change) → Type 0
@@ -245,6 +249,7 @@ module _ {P : Scope → Type 0} (i : Invariant P) where
   KeepsIfSome (Some m) = (level : ℕ) → Keeping P (m level)
 
   pub command_keeps : (c : Command) → KeepsIfSome (stack_command c)
+  command_keeps (SetOption o) = λ level. return_keeping (sets o)
   command_keeps (DeclareSort n arity) = λ level. declare_sort_keeping n arity
   command_keeps (DefineSort n ps s) = λ level. define_sort_keeping n ps s
   command_keeps (DeclareConst n s) = λ level. function_keeping n [] s
@@ -252,6 +257,7 @@ module _ {P : Scope → Type 0} (i : Invariant P) where
   command_keeps (DefineFun n ps s t) = λ level. defined_keeping n ps s t
   command_keeps (Assert t) = λ level. assert_keeping t
   command_keeps (GetValue ts) = λ level. bind_keeping (questions_keeping ts) (λ bs. return_keeping _)
+  command_keeps (CheckSatAssuming ts) = λ level. assume_keeping level ts
   command_keeps (Push n) = λ level. next_keeping (require_keeping _ _) (return_keeping _)
   command_keeps (Pop n) = λ level. next_keeping (require_keeping _ _) (return_keeping _)
   command_keeps ResetAssertions = λ level. return_keeping clears

@@ -8,13 +8,13 @@ use Rattle.smt_meaning.specs.declared.errors.Error.{Error}
 use Rattle.smt_meaning.specs.declared.errors.Error.TheVariants.{OptionTooLate, OptionIsOff, ValueTooLarge}
 use Rattle.smt_meaning.specs.declared.options.Options.{Options}
 use Rattle.smt_meaning.specs.declared.options.OptionName.{OptionName}
-use Rattle.smt_meaning.specs.declared.options.OptionName.TheVariants.{ProduceModels, ProduceAssertions}
+use Rattle.smt_meaning.specs.declared.options.OptionName.TheVariants.{ProduceModels, ProduceAssertions, ProduceAssignments}
 use Rattle.smt_meaning.specs.declared.options.OptionSetting.{OptionSetting}
 use Rattle.smt_meaning.specs.declared.options.UnknownReason.{UnknownReason}
 use Rattle.smt_meaning.specs.declared.options.InfoName.{InfoName}
 use Rattle.smt_meaning.specs.declared.options.InfoName.TheVariants as Asked
 use Rattle.smt_meaning.specs.declared.commands.Command.{Command}
-use Rattle.smt_meaning.specs.declared.commands.Command.TheVariants.{SetLogic, SetOption, GetOption, SetInfo, GetInfo, Echo, Exit, Reset, ResetAssertions, DeclareSort, DefineSort, DeclareConst, DeclareFun, DefineFun, Assert, CheckSat, Push, Pop, GetValue, GetModel, GetAssertions, LeftOut}
+use Rattle.smt_meaning.specs.declared.commands.Command.TheVariants.{SetLogic, SetOption, GetOption, SetInfo, GetInfo, Echo, Exit, Reset, ResetAssertions, DeclareSort, DefineSort, DeclareConst, DeclareFun, DefineFun, Assert, CheckSat, CheckSatAssuming, Push, Pop, GetValue, GetModel, GetAssertions, GetAssignment, LeftOut}
 use Rattle.smt_meaning.specs.declared.answers.Entry.{Entry}
 use Rattle.smt_meaning.specs.declared.answers.Mode.{Mode}
 use Rattle.smt_meaning.specs.declared.answers.Mode.TheVariants as In
@@ -26,16 +26,16 @@ use Rattle.smt_meaning.specs.Signature.{is_one_of}
 use Rattle.smt_meaning.specs.Interpretation.{meaning}
 use Rattle.smt_meaning.specs.Sorts.{Outcome, done, refused, Judging}
 use Rattle.smt_meaning.specs.Stack.{Frame, signature_of}
-use Rattle.smt_meaning.specs.StackCommand.{Stack, Change, declares, asserts, pushes, pops, clears, begins_again, is_unsupported, asks, stack_command, judged, changed}
+use Rattle.smt_meaning.specs.StackCommand.{Stack, Change, declares, asserts, pushes, pops, clears, begins_again, is_unsupported, asks, assumes, sets, stack_command, judged, changed}
 use Rattle.smt_meaning.specs.Command.{command}
-use Rattle.smt_meaning.specs.State.{State, Effect, denied, left_out, accepted, answered, checked, effect, provided, set_logic, set_option_in, start_option, reason_unknown, get_info, stack_effect, on_stack, with_stack, get_value, judged_values, valued, get_model, kept_model, logics, is_start, asserting, with_logic, set, all_fit, term_values, printed_functions, texts_of}
+use Rattle.smt_meaning.specs.State.{State, checked_frames, Effect, denied, left_out, accepted, answered, checked, effect, provided, set_logic, set_option_in, with_option, start_option, reason_unknown, get_info, stack_effect, on_stack, with_stack, get_value, judged_values, valued, get_model, get_assignment, kept_model, check_assuming, assuming, logics, is_start, asserting, with_logic, all_fit, term_values, printed_functions, named_truths, texts_of}
 use Rattle.smt_meaning.specs.Report.{reason_of}
 use Rattle.smt_meaning.specs.MayReply.{Decided, IsExactly, IsModel, MayCome, MayDecide, MayReply, MayReplyTo, Replies}
 use Rattle.smt_meaning.specs.LegalJournal.{Moment, beginning, Runs}
 use Rattle.smt_laws.specs.LanguageLaws.{ModeFits}
 
 abbrev Sound : State → Type 0
-Sound s = ModeFits s.mode s.logic s.stack.frames
+Sound s = ModeFits s.mode s.logic (checked_frames s)
 
 -- a logic is set
 abbrev HasLogic : Option (List ℕ) → Type 0
@@ -55,8 +55,8 @@ provided_sound true e f h = h
 provided_sound false e f h = tt
 
 -- a state by its parts
-abbrev parts : Settings → Option (List ℕ) → Mode → Options → Stack → State
-parts settings l m o k = record { settings = settings; logic = l; mode = m; options = o; stack = k }
+abbrev parts : Settings → Option (List ℕ) → Mode → Options → Stack → List Frame → State
+parts settings l m o k a = record { settings = settings; logic = l; mode = m; options = o; stack = k; above = a }
 
 known_logic_sound : (x : Bool) (s : State) (n : List ℕ) → SoundEffect (if x then accepted (asserting (record s { logic = Some n })) else left_out)
 known_logic_sound true s n = tt
@@ -68,7 +68,7 @@ set_logic_sound s n None = known_logic_sound (is_one_of n logics) s n
 
 set_option_sound : (s : State) (o : OptionSetting) (n : Option OptionName) → Sound s → SoundEffect (set_option_in s o n)
 set_option_sound s o None h = h
-set_option_sound s o (Some n) h = provided_sound (is_start s.mode) (OptionTooLate n) (accepted (record s { options = set o s.options })) h
+set_option_sound s o (Some n) h = provided_sound (is_start s.mode) (OptionTooLate n) (accepted (with_option o s)) h
 
 reason_sound : (s : State) (m : Mode) → Sound s → SoundEffect (reason_unknown s m)
 reason_sound s In.Start h = tt
@@ -86,33 +86,35 @@ get_info_sound s Asked.AssertionStackLevels h = h
 get_info_sound s Asked.ReasonUnknown h = reason_sound s s.mode h
 
 -- after a change to the stack the mode is assert, with a logic
-asserting_sound : (settings : Settings) (l : Option (List ℕ)) (m : Mode) (o : Options) (k new : Stack)
-    → Sound (asserting (record (with_logic (parts settings l m o k)) { stack = new }))
-asserting_sound settings None m o k new = tt
-asserting_sound settings (Some n) m o k new = tt
+asserting_sound : (settings : Settings) (l : Option (List ℕ)) (m : Mode) (o : Options) (k new : Stack) (a : List Frame)
+    → Sound (asserting (record (with_logic (parts settings l m o k a)) { stack = new }))
+asserting_sound settings None m o k new a = tt
+asserting_sound settings (Some n) m o k new a = tt
 
 -- without a logic the mode is start
-clears_sound : (settings : Settings) (l : Option (List ℕ)) (m : Mode) (o : Options) (k new : Stack)
-    → Sound (parts settings l m o k) → Sound (with_stack (parts settings l m o k) clears new)
-clears_sound settings None In.Start o k new h = tt
-clears_sound settings None In.Assert o k new h = absurd h
-clears_sound settings None (In.Sat i) o k new h = absurd h
-clears_sound settings None (In.Unknown r) o k new h = absurd h
-clears_sound settings None In.Unsat o k new h = absurd h
-clears_sound settings (Some n) In.Start o k new h = absurd h
-clears_sound settings (Some n) In.Assert o k new h = tt
-clears_sound settings (Some n) (In.Sat i) o k new h = tt
-clears_sound settings (Some n) (In.Unknown r) o k new h = tt
-clears_sound settings (Some n) In.Unsat o k new h = tt
+clears_sound : (settings : Settings) (l : Option (List ℕ)) (m : Mode) (o : Options) (k new : Stack) (a : List Frame)
+    → Sound (parts settings l m o k a) → Sound (with_stack (parts settings l m o k a) clears new)
+clears_sound settings None In.Start o k new a h = tt
+clears_sound settings None In.Assert o k new a h = absurd h
+clears_sound settings None (In.Sat i) o k new a h = absurd h
+clears_sound settings None (In.Unknown r) o k new a h = absurd h
+clears_sound settings None In.Unsat o k new a h = absurd h
+clears_sound settings (Some n) In.Start o k new a h = absurd h
+clears_sound settings (Some n) In.Assert o k new a h = tt
+clears_sound settings (Some n) (In.Sat i) o k new a h = tt
+clears_sound settings (Some n) (In.Unknown r) o k new a h = tt
+clears_sound settings (Some n) In.Unsat o k new a h = tt
 
 on_stack_sound : (s : State) (n : List ℕ) (o : Outcome Change) → Sound s → SoundEffect (on_stack s n o)
 on_stack_sound s n (refused r) h = tt
-on_stack_sound s n (done declares c) h = asserting_sound s.settings s.logic s.mode s.options s.stack (changed s.stack declares c)
-on_stack_sound s n (done (asserts a) c) h = asserting_sound s.settings s.logic s.mode s.options s.stack (changed s.stack (asserts a) c)
-on_stack_sound s n (done (pushes k) c) h = asserting_sound s.settings s.logic s.mode s.options s.stack (changed s.stack (pushes k) c)
-on_stack_sound s n (done (pops k) c) h = asserting_sound s.settings s.logic s.mode s.options s.stack (changed s.stack (pops k) c)
-on_stack_sound s n (done (asks ts) c) h = asserting_sound s.settings s.logic s.mode s.options s.stack (changed s.stack (asks ts) c)
-on_stack_sound s n (done clears c) h = clears_sound s.settings s.logic s.mode s.options s.stack (changed s.stack clears c) h
+on_stack_sound s n (done declares c) h = asserting_sound s.settings s.logic s.mode s.options s.stack (changed s.stack declares c) s.above
+on_stack_sound s n (done (asserts a) c) h = asserting_sound s.settings s.logic s.mode s.options s.stack (changed s.stack (asserts a) c) s.above
+on_stack_sound s n (done (pushes k) c) h = asserting_sound s.settings s.logic s.mode s.options s.stack (changed s.stack (pushes k) c) s.above
+on_stack_sound s n (done (pops k) c) h = asserting_sound s.settings s.logic s.mode s.options s.stack (changed s.stack (pops k) c) s.above
+on_stack_sound s n (done (asks ts) c) h = asserting_sound s.settings s.logic s.mode s.options s.stack (changed s.stack (asks ts) c) s.above
+on_stack_sound s n (done (assumes xs) c) h = asserting_sound s.settings s.logic s.mode s.options s.stack (changed s.stack (assumes xs) c) s.above
+on_stack_sound s n (done (sets x) c) h = asserting_sound s.settings s.logic s.mode s.options s.stack (changed s.stack (sets x) c) s.above
+on_stack_sound s n (done clears c) h = clears_sound s.settings s.logic s.mode s.options s.stack (changed s.stack clears c) s.above h
 on_stack_sound s n (done begins_again c) h = tt
 on_stack_sound s n (done is_unsupported c) h = tt
 
@@ -129,6 +131,8 @@ valued_sound s i ts (done declares c) h = tt
 valued_sound s i ts (done (asserts a) c) h = tt
 valued_sound s i ts (done (pushes k) c) h = tt
 valued_sound s i ts (done (pops k) c) h = tt
+valued_sound s i ts (done (assumes xs) c) h = tt
+valued_sound s i ts (done (sets x) c) h = tt
 valued_sound s i ts (done clears c) h = tt
 valued_sound s i ts (done begins_again c) h = tt
 valued_sound s i ts (done is_unsupported c) h = tt
@@ -149,14 +153,37 @@ get_model_sound s (Some i) h =
     provided_sound s.options.produce_models (OptionIsOff ProduceModels)
     (answered (Given.Model (printed_functions (signature_of s.stack.frames) (signature_of s.stack.frames) i)) s) h
 
-with_logic_sound : (settings : Settings) (l : Option (List ℕ)) (m : Mode) (o : Options) (k : Stack)
-    → Sound (parts settings l m o k) → Sound (with_logic (parts settings l m o k))
-with_logic_sound settings None m o k h = tt
-with_logic_sound settings (Some n) m o k h = h
+get_assignment_sound : (s : State) (m : Option (List Table)) → Sound s → SoundEffect (get_assignment s m)
+get_assignment_sound s None h = tt
+get_assignment_sound s (Some i) h =
+    provided_sound s.options.produce_assignments (OptionIsOff ProduceAssignments)
+    (answered (Given.Assignment (named_truths (meaning i) (signature_of s.stack.frames))) s) h
 
-with_logic_has : (settings : Settings) (l : Option (List ℕ)) (m : Mode) (o : Options) (k : Stack) → HasLogic (with_logic (parts settings l m o k)).logic
-with_logic_has settings None m o k = tt
-with_logic_has settings (Some n) m o k = tt
+with_logic_sound : (settings : Settings) (l : Option (List ℕ)) (m : Mode) (o : Options) (k : Stack) (a : List Frame)
+    → Sound (parts settings l m o k a) → Sound (with_logic (parts settings l m o k a))
+with_logic_sound settings None m o k a h = tt
+with_logic_sound settings (Some n) m o k a h = h
+
+with_logic_has : (settings : Settings) (l : Option (List ℕ)) (m : Mode) (o : Options) (k : Stack) (a : List Frame) → HasLogic (with_logic (parts settings l m o k a)).logic
+with_logic_has settings None m o k a = tt
+with_logic_has settings (Some n) m o k a = tt
+
+assuming_sound : (s : State) (o : Outcome Change) → SoundEffect (assuming s o)
+assuming_sound s (refused r) = tt
+assuming_sound s (done (assumes xs) c) = with_logic_has s.settings s.logic s.mode s.options s.stack s.above
+assuming_sound s (done declares c) = tt
+assuming_sound s (done (asserts a) c) = tt
+assuming_sound s (done (pushes k) c) = tt
+assuming_sound s (done (pops k) c) = tt
+assuming_sound s (done (asks ts) c) = tt
+assuming_sound s (done (sets x) c) = tt
+assuming_sound s (done clears c) = tt
+assuming_sound s (done begins_again c) = tt
+assuming_sound s (done is_unsupported c) = tt
+
+check_assuming_sound : (s : State) (c : Option (ℕ → Judging Change)) → SoundEffect (check_assuming s c)
+check_assuming_sound s None = tt
+check_assuming_sound s (Some c) = assuming_sound s (judged c s.stack)
 
 effect_sound : (s : State) (c : Command) → Sound s → SoundEffect (effect s c)
 unfolding effect
@@ -175,14 +202,16 @@ effect_sound s (DeclareConst n w) h = stack_sound s (codes "declare-const") (sta
 effect_sound s (DeclareFun n ws w) h = stack_sound s (codes "declare-fun") (stack_command (DeclareFun n ws w)) h
 effect_sound s (DefineFun n ps w t) h = stack_sound s (codes "define-fun") (stack_command (DefineFun n ps w t)) h
 effect_sound s (Assert t) h = stack_sound s (codes "assert") (stack_command (Assert t)) h
-effect_sound s CheckSat h = with_logic_has s.settings s.logic s.mode s.options s.stack
+effect_sound s CheckSat h = with_logic_has s.settings s.logic s.mode s.options s.stack s.above
+effect_sound s (CheckSatAssuming ts) h = check_assuming_sound s (stack_command (CheckSatAssuming ts))
 effect_sound s (Push n) h = stack_sound s (codes "push") (stack_command (Push n)) h
 effect_sound s (Pop n) h = stack_sound s (codes "pop") (stack_command (Pop n)) h
 effect_sound s (GetValue ts) h = get_value_sound s ts (kept_model s.mode) h
 effect_sound s GetModel h = get_model_sound s (kept_model s.mode) h
 effect_sound s GetAssertions h =
     provided_sound s.options.produce_assertions (OptionIsOff ProduceAssertions)
-    (answered (Given.Assertions (flat_map texts_of s.stack.frames)) (with_logic s)) (with_logic_sound s.settings s.logic s.mode s.options s.stack h)
+    (answered (Given.Assertions (flat_map texts_of s.stack.frames)) (with_logic s)) (with_logic_sound s.settings s.logic s.mode s.options s.stack s.above h)
+effect_sound s GetAssignment h = get_assignment_sound s (kept_model s.mode) h
 effect_sound s LeftOut h = tt
 
 -- ---- what a command leaves is sound
@@ -203,18 +232,19 @@ unsat_sound None frames h = absurd h
 unsat_sound (Some n) frames h = tt
 
 decided_sound : (s : State) (r : Reply) (kept : Kept) (new : State) → HasLogic s.logic → MayDecide s r kept new → Sound new
-decided_sound s Given.Sat kept new h d = as_sound (record s { mode = In.Sat d.0 }) new d.3 (model_sound s.logic d.0 s.stack.frames h d.2)
-decided_sound s Given.Unsat kept new h d = as_sound (record s { mode = In.Unsat }) new d.2 (unsat_sound s.logic s.stack.frames h)
+decided_sound s Given.Sat kept new h d = as_sound (record s { mode = In.Sat d.0 }) new d.3 (model_sound s.logic d.0 (checked_frames s) h d.2)
+decided_sound s Given.Unsat kept new h d = as_sound (record s { mode = In.Unsat }) new d.2 (unsat_sound s.logic (checked_frames s) h)
 decided_sound s Given.Success kept new h d = absurd d
 decided_sound s Given.Silent kept new h d = absurd d
 decided_sound s Given.Unsupported kept new h d = absurd d
-decided_sound s Given.Unknown kept new h d = as_sound (record s { mode = In.Unknown (reason_of d.0) }) new d.3 (unknown_sound s.logic (reason_of d.0) s.stack.frames h)
+decided_sound s Given.Unknown kept new h d = as_sound (record s { mode = In.Unknown (reason_of d.0) }) new d.3 (unknown_sound s.logic (reason_of d.0) (checked_frames s) h)
 decided_sound s (Given.Echo t) kept new h d = absurd d
 decided_sound s (Given.Option v) kept new h d = absurd d
 decided_sound s (Given.Info i) kept new h d = absurd d
 decided_sound s (Given.Values vs) kept new h d = absurd d
 decided_sound s (Given.Model fs) kept new h d = absurd d
 decided_sound s (Given.Assertions ts) kept new h d = absurd d
+decided_sound s (Given.Assignment vs) kept new h d = absurd d
 decided_sound s (Given.Error e) kept new h d = absurd d
 
 check_sound : (x : Bool) (old s : State) (r : Reply) (kept : Kept) (new : State) → Sound old → HasLogic s.logic
@@ -227,7 +257,7 @@ comes_sound decided old (denied e) r kept new h g i = as_sound old new i.new_is 
 comes_sound decided old left_out r kept new h g i = as_sound old new i.new_is h
 comes_sound decided old (accepted s) r kept new h g i = as_sound s new i.new_is g
 comes_sound decided old (answered a s) r kept new h g i = as_sound s new i.new_is g
-comes_sound decided old (checked s) r kept new h g i = check_sound (decided s.stack.frames) old s r kept new h g i
+comes_sound decided old (checked s) r kept new h g i = check_sound (decided (checked_frames s)) old s r kept new h g i
 
 command_sound : (decided : Decided) (old : State) (c : Result Command Error) (r : Reply) (kept : Kept) (new : State) → Sound old → MayReplyTo decided old c r kept new → Sound new
 unfolding MayReply

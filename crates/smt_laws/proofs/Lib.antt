@@ -12,6 +12,7 @@ mod Written
 mod TermLawsExamples
 pub mod Keeping
 pub mod FreshLaw
+mod Questions
 pub mod Among
 mod PlacesLaw
 mod Signatures
@@ -43,6 +44,8 @@ mod Numbers
 mod Propositional
 mod Reports
 mod Ranges
+mod Assumptions
+mod Assumed
 pub mod FlatLaw
 mod Each
 mod Shapes

@@ -41,7 +41,7 @@ resets = refl
 
 -- a model is kept while the mode is sat
 models : wrong_replies
-    (quiet_finds (a_model [] ∷ []) "(check-sat)(set-option :verbosity 1)(echo \"\")(assert x)(check-sat-assuming (x))(get-value (1))(set-logic ALL)(push)(get-value (1))" "sat\n\"\"\n(error \"E13 unknown symbol: x\")\nunsupported\n((1 1))\n(error \"E10 logic already set\")\n(error \"E20 no model\")\n"
+    (quiet_finds (a_model [] ∷ []) "(check-sat)(set-option :verbosity 1)(echo \"\")(assert x)(check-sat-assuming (x))(get-proof)(get-value (1))(set-logic ALL)(push)(get-value (1))" "sat\n\"\"\n(error \"E13 unknown symbol: x\")\n(error \"E13 unknown symbol: x\")\nunsupported\n((1 1))\n(error \"E10 logic already set\")\n(error \"E20 no model\")\n"
     ∷ quiet_finds (a_model [] ∷ []) "(check-sat)(assert true)(get-model)" "sat\n(error \"E20 no model\")\n"
     ∷ quiet_finds (a_model [] ∷ []) "(check-sat)(declare-const x Int)(get-model)" "sat\n(error \"E20 no model\")\n"
     ∷ quiet_finds (a_model [] ∷ []) "(check-sat)(define-sort S () Int)(get-model)" "sat\n(error \"E20 no model\")\n"

@@ -9,16 +9,16 @@ use Rattle.smt_meaning.specs.declared.options.Channel.TheVariants.{Stdout, Stder
 use Rattle.smt_meaning.specs.declared.options.OptionName.{OptionName}
 use Rattle.smt_meaning.specs.declared.options.OptionName.TheVariants as Named
 use Rattle.smt_meaning.specs.declared.options.OptionSetting.{OptionSetting}
-use Rattle.smt_meaning.specs.declared.options.OptionSetting.TheVariants.{PrintSuccess, RegularOutputChannel, DiagnosticOutputChannel, Verbosity, ReproducibleResourceLimit, RandomSeed, ProduceModels, ProduceAssertions, InteractiveMode}
+use Rattle.smt_meaning.specs.declared.options.OptionSetting.TheVariants.{PrintSuccess, RegularOutputChannel, DiagnosticOutputChannel, Verbosity, ReproducibleResourceLimit, RandomSeed, ProduceModels, ProduceAssertions, InteractiveMode, ProduceAssignments, GlobalDeclarations}
 use Rattle.smt_meaning.specs.declared.options.InfoName.{InfoName}
 use Rattle.smt_meaning.specs.declared.commands.WrittenSort.{WrittenSort}
 use Rattle.smt_meaning.specs.declared.commands.Parameter.{Parameter}
 use Rattle.smt_meaning.specs.declared.commands.Command.{Command}
-use Rattle.smt_meaning.specs.declared.commands.Command.TheVariants.{SetOption, Exit, Reset, ResetAssertions, DeclareSort, CheckSat, Push, Pop, GetModel, GetAssertions, LeftOut}
+use Rattle.smt_meaning.specs.declared.commands.Command.TheVariants.{SetOption, Exit, Reset, ResetAssertions, DeclareSort, CheckSat, Push, Pop, GetModel, GetAssertions, GetAssignment, LeftOut}
 use Rattle.smt_meaning.specs.Sexp.{Sexp, Sexps, word, group, end, ◌▸◌}
 use Rattle.smt_meaning.specs.Signature.{look_up}
 use Rattle.smt_meaning.specs.Sorts.{decimal, is_small}
-use Rattle.smt_meaning.specs.Command.{Form, forms, formed, within, command, with_numeral, truth_setting, numeral_setting, regular_channel, diagnostic_channel, setting, setting_of, get_option_of, get_info_of, option_names, info_names, bare, set_logic, set_option, get_option, set_info, get_info, echo, declare_sort, define_sort, define_sort_of, declare_const, declare_const_of, declare_fun, declare_fun_of, define_fun, define_fun_of, assert_form, levels, get_value, each, symbol, written_sort, parameter}
+use Rattle.smt_meaning.specs.Command.{Form, forms, formed, within, command, with_numeral, truth_setting, numeral_setting, regular_channel, diagnostic_channel, setting, setting_of, get_option_of, get_info_of, option_names, info_names, bare, set_logic, set_option, get_option, set_info, get_info, echo, declare_sort, define_sort, define_sort_of, declare_const, declare_const_of, declare_fun, declare_fun_of, define_fun, define_fun_of, assert_form, levels, get_value, check_sat_assuming, each, symbol, written_sort, parameter}
 use Rattle.smt_laws.specs.LanguageLaws.{HasWrittenNumbers, SetsWritten}
 
 abbrev Good : Result Command Refusal → Type 0
@@ -72,6 +72,8 @@ setting_good Named.RandomSeed x = numeral_setting_good RandomSeed (λ k h. (k, r
 setting_good Named.ProduceModels x = truth_setting_good ProduceModels (λ b. tt) x
 setting_good Named.ProduceAssertions x = truth_setting_good ProduceAssertions (λ b. tt) x
 setting_good Named.InteractiveMode x = truth_setting_good InteractiveMode (λ b. tt) x
+setting_good Named.ProduceAssignments x = truth_setting_good ProduceAssignments (λ b. tt) x
+setting_good Named.GlobalDeclarations x = truth_setting_good GlobalDeclarations (λ b. tt) x
 
 setting_of_good : (o : Option OptionName) (x : Sexp) → Good (setting_of o x)
 setting_of_good None x = tt
@@ -170,6 +172,10 @@ get_value_good : (ss : Sexps) → Good (get_value ss)
 get_value_good (group (t ▸ ts) ▸ end) = tt
 get_value_good _ = tt
 
+assuming_good : (ss : Sexps) → Good (check_sat_assuming ss)
+assuming_good (group ts ▸ end) = tt
+assuming_good _ = tt
+
 -- ---- the table of forms
 
 AllGood : List (List ℕ × Form) → Type 0
@@ -221,9 +227,9 @@ forms_good = (
                                         (
                                           bare_good GetAssertions tt,
                                           (
-                                            λ ss. tt,
+                                            assuming_good,
                                             (
-                                              λ ss. tt,
+                                              bare_good GetAssignment tt,
                                               (
                                                 λ ss. tt,
                                                 (λ ss. tt, (λ ss. tt, (λ ss. tt, (λ ss. tt, (λ ss. tt, (λ ss. tt, tt)))))),

@@ -23,7 +23,7 @@ abbrev tree_x : Tree
 tree_x = node (Function 0) none
 
 abbrev whole_constant : Declaration
-whole_constant = record { id = 0; name = codes "x"; rank = record { arguments = []; result = Ints }; body = None; is_sort = false }
+whole_constant = record { id = 0; name = codes "x"; rank = record { arguments = []; result = Ints }; body = None; is_sort = false; is_name = false }
 
 abbrev numeral : ℤ → Tree
 numeral n = node (Numeral n) none

@@ -34,7 +34,7 @@ every frames = true
 -- ---- two constants that are asserted, under a limit of one unit
 
 abbrev truth_constant : ℕ → List ℕ → Declaration
-truth_constant id n = record { id = id; name = n; rank = record { arguments = []; result = Truths }; body = None; is_sort = false }
+truth_constant id n = record { id = id; name = n; rank = record { arguments = []; result = Truths }; body = None; is_sort = false; is_name = false }
 
 abbrev p_tree : Tree
 p_tree = node (Function 0) none
@@ -55,6 +55,7 @@ both_asserted =
         } ∷ [];
         given = 2;
         trees = p_tree ∷ q_tree ∷ [];
+        global = false;
       };
     }
 

@@ -49,7 +49,7 @@ script =
     ∷ []
 
 abbrev declared : List ℕ → ℕ → List Sort → Sort → Declaration
-declared n id ss s = record { id = id; name = n; rank = record { arguments = ss; result = s }; body = None; is_sort = false }
+declared n id ss s = record { id = id; name = n; rank = record { arguments = ss; result = s }; body = None; is_sort = false; is_name = false }
 
 abbrev place : Tree
 place = node (Place 0) none
@@ -66,11 +66,11 @@ times t u = node (Theory Multiply) (more t (more u none))
 -- the signature that it leaves
 abbrev signature : List Declaration
 signature =
-    record { id = 0; name = codes "S"; rank = record { arguments = []; result = Free 0 }; body = None; is_sort = true }
+    record { id = 0; name = codes "S"; rank = record { arguments = []; result = Free 0 }; body = None; is_sort = true; is_name = false }
     ∷ declared (codes "x") 1 [] Ints ∷ declared (codes "y") 2 [] Ints ∷ declared (codes "p") 3 [] Truths ∷ declared (codes "q") 4 [] Truths
     ∷ declared (codes "a") 5 [] (Free 0) ∷ declared (codes "f") 6 (Ints ∷ []) Ints
-    ∷ record { id = 7; name = codes "d"; rank = record { arguments = Ints ∷ []; result = Ints }; body = Some (record { terms = place ∷ number 1 ∷ plus place (number 1) ∷ []; term = plus place (number 1) }); is_sort = false }
-    ∷ record { id = 8; name = codes "square"; rank = record { arguments = Ints ∷ []; result = Ints }; body = Some (record { terms = place ∷ times place place ∷ []; term = times place place }); is_sort = false }
+    ∷ record { id = 7; name = codes "d"; rank = record { arguments = Ints ∷ []; result = Ints }; body = Some (record { terms = place ∷ number 1 ∷ plus place (number 1) ∷ []; term = plus place (number 1) }); is_sort = false; is_name = false }
+    ∷ record { id = 8; name = codes "square"; rank = record { arguments = Ints ∷ []; result = Ints }; body = Some (record { terms = place ∷ times place place ∷ []; term = times place place }); is_sort = false; is_name = false }
     ∷ []
 
 script_declares : signature_of (after_all start (commands script)).frames ≡ signature
@@ -291,7 +291,7 @@ answer_of (done c s) = taken
 answer_of (refused r) = denies r
 
 abbrev after_script : Stack
-after_script = record { frames = record { declared = signature; asserted = [] } ∷ []; given = 9; trees = [] }
+after_script = record { frames = record { declared = signature; asserted = [] } ∷ []; given = 9; trees = []; global = false }
 
 abbrev answered : Option (ℕ → Judging Change) → Answer
 answered None = not_of_the_stack
@@ -361,3 +361,19 @@ folded : map counted (after_all after_script (commands (call (codes "push") (two
     ≡ (10 ∷ 1 ∷ 2 ∷ 10 ∷ []) ∷ (10 ∷ 1 ∷ 1 ∷ 11 ∷ []) ∷ (9 ∷ 0 ∷ 0 ∷ 9 ∷ []) ∷ (0 ∷ 0 ∷ 0 ∷ 10 ∷ []) ∷ (0 ∷ 0 ∷ 0 ∷ 0 ∷ []) ∷ []
 unfolding ◌>>=◌ ◌>>◌ return refuse require required the_scope note found declare judge_body judged command
 folded = refl
+
+abbrev globally : Sexp
+globally = call (codes "set-option") (keyword (codes "global-declarations") ∷ symbol (codes "true") ∷ [])
+
+abbrev declare_z : Sexp
+declare_z = call (codes "declare-const") (z ∷ int ∷ [])
+
+-- where declarations are global, a pop and `reset-assertions` take names alone away, until the option is off or all begins again
+folded_globally : map counted (after_all after_script (commands (globally ∷ call (codes "push") [] ∷ declare_z ∷ assert_named ∷ []))
+    ∷ after_all after_script (commands (globally ∷ call (codes "push") [] ∷ declare_z ∷ assert_named ∷ call (codes "pop") [] ∷ []))
+    ∷ after_all after_script (commands (globally ∷ assert_named ∷ call (codes "push") [] ∷ declare_z ∷ call (codes "reset-assertions") [] ∷ []))
+    ∷ after_all after_script (commands (globally ∷ call (codes "reset") [] ∷ call (codes "push") [] ∷ declare_z ∷ call (codes "pop") [] ∷ []))
+    ∷ after_all after_script (commands (call (codes "push") [] ∷ declare_z ∷ call (codes "pop") [] ∷ [])) ∷ [])
+    ≡ (11 ∷ 1 ∷ 1 ∷ 11 ∷ []) ∷ (10 ∷ 0 ∷ 0 ∷ 11 ∷ []) ∷ (10 ∷ 0 ∷ 0 ∷ 11 ∷ []) ∷ (0 ∷ 0 ∷ 0 ∷ 1 ∷ []) ∷ (9 ∷ 0 ∷ 0 ∷ 10 ∷ []) ∷ []
+unfolding ◌>>=◌ ◌>>◌ return refuse require required the_scope note found declare judge_body judged command
+folded_globally = refl

@@ -6,12 +6,12 @@ use Rattle.smt_meaning.specs.declared.values.Table.{Table}
 use Rattle.smt_meaning.specs.declared.errors.Error.{Error}
 use Rattle.smt_meaning.specs.declared.errors.Error.TheVariants.{OptionTooLate, OptionIsOff, ValueTooLarge}
 use Rattle.smt_meaning.specs.declared.options.OptionName.{OptionName}
-use Rattle.smt_meaning.specs.declared.options.OptionName.TheVariants.{ProduceModels, ProduceAssertions}
+use Rattle.smt_meaning.specs.declared.options.OptionName.TheVariants.{ProduceModels, ProduceAssertions, ProduceAssignments}
 use Rattle.smt_meaning.specs.declared.options.OptionSetting.{OptionSetting}
 use Rattle.smt_meaning.specs.declared.options.InfoName.{InfoName}
 use Rattle.smt_meaning.specs.declared.options.InfoName.TheVariants as Asked
 use Rattle.smt_meaning.specs.declared.commands.Command.{Command}
-use Rattle.smt_meaning.specs.declared.commands.Command.TheVariants.{SetLogic, SetOption, GetOption, SetInfo, GetInfo, Echo, Exit, Reset, ResetAssertions, DeclareSort, DefineSort, DeclareConst, DeclareFun, DefineFun, Assert, CheckSat, Push, Pop, GetValue, GetModel, GetAssertions, LeftOut}
+use Rattle.smt_meaning.specs.declared.commands.Command.TheVariants.{SetLogic, SetOption, GetOption, SetInfo, GetInfo, Echo, Exit, Reset, ResetAssertions, DeclareSort, DefineSort, DeclareConst, DeclareFun, DefineFun, Assert, CheckSat, CheckSatAssuming, Push, Pop, GetValue, GetModel, GetAssertions, GetAssignment, LeftOut}
 use Rattle.smt_meaning.specs.declared.answers.Mode.{Mode}
 use Rattle.smt_meaning.specs.declared.answers.Mode.TheVariants as In
 use Rattle.smt_meaning.specs.declared.answers.Reply.{Reply}
@@ -22,10 +22,10 @@ use Rattle.smt_meaning.specs.Signature.{is_one_of}
 use Rattle.smt_meaning.specs.Interpretation.{meaning}
 use Rattle.smt_meaning.specs.Stack.{signature_of}
 use Rattle.smt_meaning.specs.Sorts.{Outcome, done, refused, Judging}
-use Rattle.smt_meaning.specs.StackCommand.{Change, declares, asserts, pushes, pops, clears, begins_again, is_unsupported, asks, stack_command, judged, changed}
+use Rattle.smt_meaning.specs.StackCommand.{Change, declares, asserts, pushes, pops, clears, begins_again, is_unsupported, asks, assumes, sets, stack_command, judged, changed}
 use Rattle.smt_meaning.specs.Command.{command}
 use Rattle.smt_meaning.specs.State
-use Rattle.smt_meaning.specs.State.{Effect, denied, left_out, accepted, answered, checked, effect, provided, set_logic, set_option_in, start_option, reason_unknown, get_info, stack_effect, on_stack, get_value, judged_values, valued, get_model, get_assertions, kept_model, logics, is_start, asserting, with_logic, set, all_fit, term_values, printed_functions, texts_of}
+use Rattle.smt_meaning.specs.State.{checked_frames, Effect, denied, left_out, accepted, answered, checked, effect, provided, set_logic, set_option_in, with_option, start_option, reason_unknown, get_info, stack_effect, on_stack, get_value, judged_values, valued, get_model, get_assertions, get_assignment, kept_model, check_assuming, assuming, logics, is_start, asserting, with_logic, all_fit, term_values, printed_functions, named_truths, texts_of}
 use Rattle.smt_meaning.specs.MayReply.{Decided, IsExactly, MayCome, MayDecide, MayReply, MayReplyTo, Replies, success}
 use Rattle.smt_laws.specs.LanguageLaws.{HasOneReply, ChangesNothing}
 
@@ -37,6 +37,7 @@ is_answer (Given.Info i) = true
 is_answer (Given.Values vs) = true
 is_answer (Given.Model fs) = true
 is_answer (Given.Assertions ts) = true
+is_answer (Given.Assignment vs) = true
 is_answer _ = false
 
 -- an effect that comes to one reply, or to a check where that may be
@@ -49,6 +50,7 @@ is_told b (checked s) = b
 
 abbrev is_check : Command → Bool
 is_check CheckSat = true
+is_check (CheckSatAssuming ts) = true
 is_check _ = false
 
 provided_told : (b x : Bool) (e : Error) (f : Effect) → is_told b f ≡ true → is_told b (provided x e f) ≡ true
@@ -65,7 +67,7 @@ set_logic_told b s n None = known_logic_told b (is_one_of n logics) (asserting (
 
 set_option_told : (b : Bool) (s : State.State) (o : OptionSetting) (n : Option OptionName) → is_told b (set_option_in s o n) ≡ true
 set_option_told b s o None = refl
-set_option_told b s o (Some n) = provided_told b (is_start s.mode) (OptionTooLate n) (accepted (record s { options = set o s.options })) refl
+set_option_told b s o (Some n) = provided_told b (is_start s.mode) (OptionTooLate n) (accepted (with_option o s)) refl
 
 reason_told : (b : Bool) (s : State.State) (m : Mode) → is_told b (reason_unknown s m) ≡ true
 reason_told b s In.Start = refl
@@ -89,6 +91,8 @@ on_stack_told b s n (done (asserts a) c) = refl
 on_stack_told b s n (done (pushes k) c) = refl
 on_stack_told b s n (done (pops k) c) = refl
 on_stack_told b s n (done (asks ts) c) = refl
+on_stack_told b s n (done (assumes xs) c) = refl
+on_stack_told b s n (done (sets x) c) = refl
 on_stack_told b s n (done clears c) = refl
 on_stack_told b s n (done begins_again c) = refl
 on_stack_told b s n (done is_unsupported c) = refl
@@ -106,6 +110,8 @@ valued_told b s i ts (done declares c) = refl
 valued_told b s i ts (done (asserts a) c) = refl
 valued_told b s i ts (done (pushes k) c) = refl
 valued_told b s i ts (done (pops k) c) = refl
+valued_told b s i ts (done (assumes xs) c) = refl
+valued_told b s i ts (done (sets x) c) = refl
 valued_told b s i ts (done clears c) = refl
 valued_told b s i ts (done begins_again c) = refl
 valued_told b s i ts (done is_unsupported c) = refl
@@ -123,6 +129,29 @@ get_model_told b s None = refl
 get_model_told b s (Some i) =
     provided_told b s.options.produce_models (OptionIsOff ProduceModels)
     (answered (Given.Model (printed_functions (signature_of s.stack.frames) (signature_of s.stack.frames) i)) s) refl
+
+get_assignment_told : (b : Bool) (s : State.State) (m : Option (List Table)) → is_told b (get_assignment s m) ≡ true
+get_assignment_told b s None = refl
+get_assignment_told b s (Some i) =
+    provided_told b s.options.produce_assignments (OptionIsOff ProduceAssignments)
+    (answered (Given.Assignment (named_truths (meaning i) (signature_of s.stack.frames))) s) refl
+
+assuming_told : (s : State.State) (o : Outcome Change) → is_told true (assuming s o) ≡ true
+assuming_told s (refused r) = refl
+assuming_told s (done (assumes xs) c) = refl
+assuming_told s (done declares c) = refl
+assuming_told s (done (asserts a) c) = refl
+assuming_told s (done (pushes k) c) = refl
+assuming_told s (done (pops k) c) = refl
+assuming_told s (done (asks ts) c) = refl
+assuming_told s (done (sets x) c) = refl
+assuming_told s (done clears c) = refl
+assuming_told s (done begins_again c) = refl
+assuming_told s (done is_unsupported c) = refl
+
+check_assuming_told : (s : State.State) (c : Option (ℕ → Judging Change)) → is_told true (check_assuming s c) ≡ true
+check_assuming_told s None = refl
+check_assuming_told s (Some c) = assuming_told s (judged c s.stack)
 
 effect_told : (s : State.State) (c : Command) → is_told (is_check c) (effect s c) ≡ true
 unfolding effect
@@ -142,6 +171,7 @@ effect_told s (DeclareFun n ws w) = stack_told false s (codes "declare-fun") (st
 effect_told s (DefineFun n ps w t) = stack_told false s (codes "define-fun") (stack_command (DefineFun n ps w t))
 effect_told s (Assert t) = stack_told false s (codes "assert") (stack_command (Assert t))
 effect_told s CheckSat = refl
+effect_told s (CheckSatAssuming ts) = check_assuming_told s (stack_command (CheckSatAssuming ts))
 effect_told s (Push n) = stack_told false s (codes "push") (stack_command (Push n))
 effect_told s (Pop n) = stack_told false s (codes "pop") (stack_command (Pop n))
 effect_told s (GetValue ts) = get_value_told false s ts (kept_model s.mode)
@@ -149,13 +179,15 @@ effect_told s GetModel = get_model_told false s (kept_model s.mode)
 effect_told s GetAssertions =
     provided_told false s.options.produce_assertions (OptionIsOff ProduceAssertions)
     (answered (Given.Assertions (flat_map texts_of s.stack.frames)) (with_logic s)) refl
+effect_told s GetAssignment = get_assignment_told false s (kept_model s.mode)
 effect_told s LeftOut = refl
 
 -- ---- one reply
 
-not_check : (c : Command) → c ≢ CheckSat → is_check c ≡ false
-not_check CheckSat h = absurd (h refl)
-not_check c h = refl
+not_check : (c : Command) → c ≢ CheckSat → ((ts : List (List Token)) → c ≢ CheckSatAssuming ts) → is_check c ≡ false
+not_check CheckSat h k = absurd (h refl)
+not_check (CheckSatAssuming ts) h k = absurd (k ts refl)
+not_check c h k = refl
 
 abbrev only_false : Bool → Type 0
 only_false true = ⊥
@@ -177,10 +209,10 @@ one_of decided old (accepted t) h = record { reply = success t; new = t; may = �
 one_of decided old (answered a t) h = record { reply = a; new = t; may = λ r kept s i. i; only = λ r kept s i. i }
 one_of decided old (checked t) h = false_true h
 
-pub one : (decided : Decided) (old : State.State) (c : Command) → c ≢ CheckSat → HasOneReply decided old c
+pub one : (decided : Decided) (old : State.State) (c : Command) → c ≢ CheckSat → ((ts : List (List Token)) → c ≢ CheckSatAssuming ts) → HasOneReply decided old c
 unfolding MayReply
-one decided old c h =
-    let o = one_of decided old (effect old c) (sym (ap (λ b. is_told b (effect old c)) (not_check c h)) ∙ effect_told old c) in
+one decided old c h k =
+    let o = one_of decided old (effect old c) (sym (ap (λ b. is_told b (effect old c)) (not_check c h k)) ∙ effect_told old c) in
     record { reply = o.reply; new = o.new; may = o.may; only = o.only }
 
 -- ---- nothing changes
@@ -208,7 +240,7 @@ changes_nothing decided old (denied e) h r a b u kept new i = i.new_is
 changes_nothing decided old left_out h r a b u kept new i = i.new_is
 changes_nothing decided old (accepted s) h r a b u kept new i = false_true (sym b ∙ ap is_success i.reply_is ∙ success_is s.options.print_success)
 changes_nothing decided old (answered t s) h r a b u kept new i = false_true (sym a ∙ ap is_answer i.reply_is ∙ h)
-changes_nothing decided old (checked s) h r a b u kept new i = in_check (decided s.stack.frames) i
+changes_nothing decided old (checked s) h r a b u kept new i = in_check (decided (checked_frames s)) i
   where
     in_check : (x : Bool) → MatchBool x (MayDecide s r kept new) (IsExactly Given.Unsupported old r kept new) → new ≡ old
     in_check true j = absurd (u s kept new j)

@@ -5,7 +5,7 @@ use Rattle.smt_meaning.specs.declared.errors.Error.{Error as ErrorReply}
 use Rattle.smt_meaning.specs.declared.commands.Command.{Command}
 use Rattle.smt_meaning.specs.declared.options.OptionSetting.{OptionSetting}
 use Rattle.smt_meaning.specs.declared.options.OptionSetting.TheVariants.{Verbosity, ReproducibleResourceLimit, RandomSeed}
-use Rattle.smt_meaning.specs.declared.commands.Command.TheVariants.{SetOption, DeclareSort, CheckSat, Push, Pop}
+use Rattle.smt_meaning.specs.declared.commands.Command.TheVariants.{SetOption, DeclareSort, CheckSat, CheckSatAssuming, Push, Pop}
 use Rattle.smt_meaning.specs.declared.settings.Settings.{Settings}
 use Rattle.smt_meaning.specs.declared.answers.Entry.{Entry}
 use Rattle.smt_meaning.specs.declared.answers.Mode.{Mode}
@@ -16,8 +16,8 @@ use Rattle.smt_meaning.specs.declared.replies.Kept.{Kept}
 use Rattle.smt_meaning.specs.Sexp.{Sexp}
 use Rattle.smt_meaning.specs.Sorts.{is_small}
 use Rattle.smt_meaning.specs.Command.{command}
-use Rattle.smt_meaning.specs.State.{State}
-use Rattle.smt_meaning.specs.Stack.{Frame}
+use Rattle.smt_meaning.specs.State.{State, checked_frames, frame_of}
+use Rattle.smt_meaning.specs.Stack.{Assertion, Frame, on_top, pushed, popped}
 use Rattle.smt_meaning.specs.MayReply.{Decided, MayReply, Replies, IsExactly, IsModel}
 use Rattle.smt_meaning.specs.LegalJournal.{Moment, beginning, Runs}
 use Rattle.smt_meaning.specs.Text.{text, line}
@@ -31,7 +31,7 @@ pub record HasOneReply (decided : Decided) (old : State) (c : Command) : Type 0 
 
 -- a command that is no check has one reply
 abbrev pub OneReply : Type 0
-OneReply = (decided : Decided) (old : State) (c : Command) → c ≢ CheckSat → HasOneReply decided old c
+OneReply = (decided : Decided) (old : State) (c : Command) → c ≢ CheckSat → ((ts : List (List Token)) → c ≢ CheckSatAssuming ts) → HasOneReply decided old c
 
 -- an error and `unsupported` change nothing
 pub record ChangesNothing (decided : Decided) (old : State) (ts : List Token) (kept : Kept) (new : State) : Type 0 where
@@ -49,7 +49,7 @@ IsLine bytes = (front : List ℕ) × (last : ℕ) × (bytes ≡ line (front ++ l
 abbrev pub TextEndsInOneLine : Type 0
 TextEndsInOneLine = (r : Reply) → ((r ≡ Silent) × (text r ≡ [])) ⊎ IsLine (text r)
 
--- outside the start mode a logic is set, and a model that is kept is one of the stack
+-- outside the start mode a logic is set, and a model that is kept is one of the levels of the last check
 abbrev pub ModeFits : Mode → Option (List ℕ) → List Frame → Type 0
 ModeFits In.Start None frames = Unit {0}
 ModeFits In.Start (Some n) frames = ⊥
@@ -63,7 +63,7 @@ ModeFits _ None frames = ⊥
 abbrev pub ModeHolds : Type 0
 ModeHolds =
     (decided : Decided) (settings : Settings) (input : List ℕ) (entries : List Entry) (m : Moment)
-    → Runs decided (beginning settings input) entries m → ModeFits m.state.mode m.state.logic m.state.stack.frames
+    → Runs decided (beginning settings input) entries m → ModeFits m.state.mode m.state.logic (checked_frames m.state)
 
 -- a number that a script writes: at most 2^127 - 1, and not below 0
 abbrev pub IsWritten : ℤ → Type 0
@@ -85,3 +85,17 @@ HasWrittenNumbers _ = Unit {0}
 
 abbrev pub NumbersAreWritten : Type 0
 NumbersAreWritten = (x : Sexp) (c : Command) → command x ≡ Ok c → HasWrittenNumbers c
+
+-- the levels of such a check are what a push and the assertions make of a stack that has a level, and a pop takes the assumptions away
+pub record IsLevelOfAssumptions (frames : List Frame) (xs : List Assertion) : Type 0 where
+  pub there : on_top [] xs (pushed 1 frames) ≡ frames ++ frame_of xs ∷ []
+  pub gone : popped 1 (frames ++ frame_of xs ∷ []) ≡ frames
+
+abbrev pub AssumptionsAreALevel : Type 0
+AssumptionsAreALevel = (frames : List Frame) (xs : List Assertion) → IsLevelOfAssumptions frames xs
+
+-- after a check under assumptions the levels are those before it, whatever was answered
+abbrev pub AssumptionsGo : Type 0
+AssumptionsGo =
+    (decided : Decided) (old : State) (ts : List (List Token)) (reply : Reply) (kept : Kept) (new : State)
+    → MayReply decided old (CheckSatAssuming ts) reply kept new → new.stack.frames ≡ old.stack.frames

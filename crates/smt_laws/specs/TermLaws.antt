@@ -12,7 +12,7 @@ use Rattle.smt_meaning.specs.Reading.{IsSExpr, most_open}
 use Rattle.smt_meaning.specs.Signature.{tree_sort, HasNoIdTwice}
 use Rattle.smt_meaning.specs.Sorts.{Scope, done, Typed, Variable, Rules, judge}
 use Rattle.smt_meaning.specs.Stack.{signature_of}
-use Rattle.smt_meaning.specs.StackCommand.{start, after_all}
+use Rattle.smt_meaning.specs.StackCommand.{start, after_all, in_assert, in_question}
 use Rattle.smt_meaning.specs.Environment.{Environment, term_value}
 use Rattle.smt_meaning.specs.Interpretation.{Interprets, has_sort, meaning, AreTablesFor}
 use Rattle.smt_meaning.specs.Clause.{symbols}
@@ -70,3 +70,7 @@ NoIdTwice = (cs : List Command) → HasNoIdTwice (signature_of (after_all start 
 -- the test for equal trees is true exactly where they are one tree
 abbrev pub TreeEqualityDecides : Type 0
 TreeEqualityDecides = (t u : Tree) → (tree_eq t u ≡ true → t ≡ u) × (t ≡ u → tree_eq t u ≡ true)
+
+-- a term that is accepted as a question is accepted alike in an assertion
+abbrev pub QuestionsAreAssertions : Type 0
+QuestionsAreAssertions = (vs : List Variable) (x : Sexp) (s t : Scope) (a : Typed) → judge in_question vs x s ≡ done a t → judge in_assert vs x s ≡ done a t

@@ -1,7 +1,7 @@
 //! Laws of the definitions of commands, replies and their texts, each as the contract of a function that does nothing.
-ghost use Rattle.smt_laws.specs.LanguageLaws.{ModeHolds, NumbersAreWritten, OneReply, RefusalChangesNothing, TextEndsInOneLine};
+ghost use Rattle.smt_laws.specs.LanguageLaws.{AssumptionsAreALevel, AssumptionsGo, ModeHolds, NumbersAreWritten, OneReply, RefusalChangesNothing, TextEndsInOneLine};
 
-/// Where a command is no check, exactly one reply may be given, and one state be left.
+/// Where a command is no check, without assumptions or with, exactly one reply may be given, and one state be left.
 pub fn one_reply()
     ensures { OneReply }
 {}
@@ -16,7 +16,8 @@ pub fn text_ends_in_one_line()
     ensures { TextEndsInOneLine }
 {}
 
-/// In every state that a journal comes to, a logic is set exactly outside the start mode, and a model that is kept makes every assertion of the stack true.
+/// In every state that a journal comes to, a logic is set exactly outside the start mode, and a model that is kept makes every assertion of the stack true, and every assumption of the
+/// last check.
 pub fn mode_holds()
     ensures { ModeHolds }
 {}
@@ -24,4 +25,14 @@ pub fn mode_holds()
 /// The numbers of a command that an s-expression is are at most 2^127 - 1, and none is below 0.
 pub fn numbers_are_written()
     ensures { NumbersAreWritten }
+{}
+
+/// After a check under assumptions the stack has the levels that it had before, whatever was answered.
+pub fn assumptions_go()
+    ensures { AssumptionsGo }
+{}
+
+/// The levels of such a check are what a push and the assertions of the assumptions make of the stack's; a pop gives these back.
+pub fn assumptions_are_a_level()
+    ensures { AssumptionsAreALevel }
 {}

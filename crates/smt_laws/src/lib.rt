@@ -59,7 +59,8 @@ pub use clauses::{
 };
 pub use flat::flat_says_the_same;
 pub use language::{
-    mode_holds, numbers_are_written, one_reply, refusal_changes_nothing, text_ends_in_one_line,
+    assumptions_are_a_level, assumptions_go, mode_holds, numbers_are_written, one_reply,
+    refusal_changes_nothing, text_ends_in_one_line,
 };
 pub use linear::{
     assertions_are_linear, folded_forms_fit, leaves_are_among_the_trees, leaves_are_parts,
@@ -70,9 +71,9 @@ pub use sorts::{
     parts_are_among_the_trees, sorts_are_the_same_below, symbols_are_declared, trees_are_in_order,
 };
 pub use terms::{
-    body_has_the_terms_value, no_id_twice, s_expressions_read_back, tables_interpret,
-    tokens_read_back, tree_equality_decides, tree_has_the_terms_value, trees_are_s_expressions,
-    value_depends_on_symbols, value_has_its_sort,
+    body_has_the_terms_value, no_id_twice, questions_are_assertions, s_expressions_read_back,
+    tables_interpret, tokens_read_back, tree_equality_decides, tree_has_the_terms_value,
+    trees_are_s_expressions, value_depends_on_symbols, value_has_its_sort,
 };
 pub use walk::{
     annotation_form_is_read, annotation_form_stays, closed_trees_stay, definitions_are_noted_once,

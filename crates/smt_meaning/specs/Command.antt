@@ -10,14 +10,14 @@ use Rattle.smt_meaning.specs.declared.options.Channel.TheVariants.{Stdout, Stder
 use Rattle.smt_meaning.specs.declared.options.OptionName.{OptionName}
 use Rattle.smt_meaning.specs.declared.options.OptionName.TheVariants as Named
 use Rattle.smt_meaning.specs.declared.options.OptionSetting.{OptionSetting}
-use Rattle.smt_meaning.specs.declared.options.OptionSetting.TheVariants.{PrintSuccess, RegularOutputChannel, DiagnosticOutputChannel, Verbosity, ReproducibleResourceLimit, RandomSeed, ProduceModels, ProduceAssertions, InteractiveMode}
+use Rattle.smt_meaning.specs.declared.options.OptionSetting.TheVariants.{PrintSuccess, RegularOutputChannel, DiagnosticOutputChannel, Verbosity, ReproducibleResourceLimit, RandomSeed, ProduceModels, ProduceAssertions, InteractiveMode, ProduceAssignments, GlobalDeclarations}
 use Rattle.smt_meaning.specs.declared.options.InfoName.{InfoName}
 use Rattle.smt_meaning.specs.declared.options.InfoName.TheVariants.{Name as NameInfo, Version, Authors, ErrorBehavior, AssertionStackLevels, ReasonUnknown}
 use Rattle.smt_meaning.specs.declared.commands.WrittenSort.{WrittenSort}
 use Rattle.smt_meaning.specs.declared.commands.WrittenSort.TheVariants.{Name, Applied}
 use Rattle.smt_meaning.specs.declared.commands.Parameter.{Parameter}
 use Rattle.smt_meaning.specs.declared.commands.Command.{Command}
-use Rattle.smt_meaning.specs.declared.commands.Command.TheVariants.{SetLogic, SetOption, GetOption, SetInfo, GetInfo, Echo, Exit, Reset, ResetAssertions, DeclareSort, DefineSort, DeclareConst, DeclareFun, DefineFun, Assert, CheckSat, Push, Pop, GetValue, GetModel, GetAssertions, LeftOut}
+use Rattle.smt_meaning.specs.declared.commands.Command.TheVariants.{SetLogic, SetOption, GetOption, SetInfo, GetInfo, Echo, Exit, Reset, ResetAssertions, DeclareSort, DefineSort, DeclareConst, DeclareFun, DefineFun, Assert, CheckSat, CheckSatAssuming, Push, Pop, GetValue, GetModel, GetAssertions, GetAssignment, LeftOut}
 use Rattle.smt_meaning.specs.Sexp.{Sexp, Sexps, word, group, end, ◌▸◌, tokens}
 use Rattle.smt_meaning.specs.Signature.{look_up}
 use Rattle.smt_meaning.specs.Sorts.{decimal, is_small}
@@ -79,6 +79,8 @@ option_word Named.RandomSeed = codes "random-seed"
 option_word Named.ProduceModels = codes "produce-models"
 option_word Named.ProduceAssertions = codes "produce-assertions"
 option_word Named.InteractiveMode = codes "interactive-mode"
+option_word Named.ProduceAssignments = codes "produce-assignments"
+option_word Named.GlobalDeclarations = codes "global-declarations"
 
 abbrev pub with_word : OptionName → List ℕ × OptionName
 with_word o = (option_word o, o)
@@ -86,7 +88,8 @@ with_word o = (option_word o, o)
 abbrev pub option_names : List (List ℕ × OptionName)
 option_names =
     map with_word (Named.PrintSuccess ∷ Named.RegularOutputChannel ∷ Named.DiagnosticOutputChannel ∷ Named.Verbosity
-    ∷ Named.ReproducibleResourceLimit ∷ Named.RandomSeed ∷ Named.ProduceModels ∷ Named.ProduceAssertions ∷ Named.InteractiveMode ∷ [])
+    ∷ Named.ReproducibleResourceLimit ∷ Named.RandomSeed ∷ Named.ProduceModels ∷ Named.ProduceAssertions ∷ Named.InteractiveMode
+    ∷ Named.ProduceAssignments ∷ Named.GlobalDeclarations ∷ [])
 
 -- the symbol true or false
 abbrev pub truth_setting : (Bool → OptionSetting) → Sexp → Result Command Refusal
@@ -122,6 +125,8 @@ setting Named.RandomSeed = numeral_setting RandomSeed
 setting Named.ProduceModels = truth_setting ProduceModels
 setting Named.ProduceAssertions = truth_setting ProduceAssertions
 setting Named.InteractiveMode = truth_setting InteractiveMode
+setting Named.ProduceAssignments = truth_setting ProduceAssignments
+setting Named.GlobalDeclarations = truth_setting GlobalDeclarations
 
 abbrev pub info_names : List (List ℕ × InfoName)
 info_names =
@@ -237,6 +242,11 @@ abbrev pub get_value : Form
 get_value (group (t ▸ ts) ▸ end) = Ok (GetValue (tokens t ∷ terms ts))
 get_value _ = wrong
 
+-- (term ..)
+abbrev pub check_sat_assuming : Form
+check_sat_assuming (group ts ▸ end) = Ok (CheckSatAssuming (terms ts))
+check_sat_assuming _ = wrong
+
 -- anything
 abbrev pub left_out : Form
 left_out ss = Ok LeftOut
@@ -251,7 +261,7 @@ forms =
     ∷ (codes "declare-fun", declare_fun) ∷ (codes "define-fun", define_fun) ∷ (codes "assert", assert_form)
     ∷ (codes "check-sat", bare CheckSat) ∷ (codes "push", levels Push) ∷ (codes "pop", levels Pop)
     ∷ (codes "get-value", get_value) ∷ (codes "get-model", bare GetModel) ∷ (codes "get-assertions", bare GetAssertions)
-    ∷ (codes "check-sat-assuming", left_out) ∷ (codes "get-assignment", left_out) ∷ (codes "get-proof", left_out)
+    ∷ (codes "check-sat-assuming", check_sat_assuming) ∷ (codes "get-assignment", bare GetAssignment) ∷ (codes "get-proof", left_out)
     ∷ (codes "get-unsat-core", left_out) ∷ (codes "get-unsat-assumptions", left_out) ∷ (codes "define-fun-rec", left_out)
     ∷ (codes "define-funs-rec", left_out) ∷ (codes "declare-datatype", left_out) ∷ (codes "declare-datatypes", left_out) ∷ []
 

@@ -17,3 +17,5 @@ pub record Declaration : Type 0 where
   pub body : Option Body
   -- sorts and functions have separate tables of names
   pub is_sort : Bool
+  -- `:named` gave the name, which goes with its assertion
+  pub is_name : Bool

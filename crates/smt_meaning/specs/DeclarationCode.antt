@@ -35,7 +35,7 @@ coded_body = code_by (List Tree × Tree) (coded× coded_trees coded_tree) (λ (b
 
 abbrev pub coded_declaration : Coded Declaration
 coded_declaration =
-    code_by (ℕ × (List ℕ × (Rank × (Option Body × Bool)))) (coded× coded_ℕ (coded× (coded_list coded_ℕ) (coded× coded_rank (coded× (coded_option coded_body) coded_bool))))
-    (λ (d : Declaration). (d.id, (d.name, (d.rank, (d.body, d.is_sort)))))
-    (λ p. record { id = p.0; name = p.1.0; rank = p.1.1.0; body = p.1.1.1.0; is_sort = p.1.1.1.1 })
+    code_by (ℕ × (List ℕ × (Rank × (Option Body × (Bool × Bool))))) (coded× coded_ℕ (coded× (coded_list coded_ℕ) (coded× coded_rank (coded× (coded_option coded_body) (coded× coded_bool coded_bool)))))
+    (λ (d : Declaration). (d.id, (d.name, (d.rank, (d.body, (d.is_sort, d.is_name))))))
+    (λ p. record { id = p.0; name = p.1.0; rank = p.1.1.0; body = p.1.1.1.0; is_sort = p.1.1.1.1.0; is_name = p.1.1.1.1.1 })
     (λ d. refl)

@@ -16,7 +16,7 @@ use Rattle.smt_meaning.specs.Stack.{Frame, signature_of, assertions_of, Holds, H
 use Rattle.smt_meaning.specs.Report.{AreReports, deciding_workers, reason_of}
 use Rattle.smt_meaning.specs.Sexp.{sexp}
 use Rattle.smt_meaning.specs.Command.{command}
-use Rattle.smt_meaning.specs.State.{State, Effect, denied, left_out, accepted, answered, checked, effect}
+use Rattle.smt_meaning.specs.State.{State, checked_frames, Effect, denied, left_out, accepted, answered, checked, effect}
 
 -- the stacks of which checks are decided
 abbrev pub Decided : Type 0
@@ -31,13 +31,13 @@ pub record IsModel (frames : List Frame) (i : List Table) : Type 0 where
   pub holds : Holds (meaning i) frames
   pub fits : All (Fits (meaning i)) (assertions_of frames)
 
--- what may be answered to a check that is decided
+-- what may be answered to a check that is decided: of the stack's levels, and that of the assumptions above them
 abbrev pub MayDecide : State → Reply → Kept → State → Type 0
-MayDecide s Given.Sat kept new = (i : List Table) × (kept ≡ Model i) × IsModel s.stack.frames i × (new ≡ record s { mode = In.Sat i })
-MayDecide s Given.Unsat kept new = (kept ≡ Nothing) × HasNoModel s.stack.frames × (new ≡ record s { mode = In.Unsat })
+MayDecide s Given.Sat kept new = (i : List Table) × (kept ≡ Model i) × IsModel (checked_frames s) i × (new ≡ record s { mode = In.Sat i })
+MayDecide s Given.Unsat kept new = (kept ≡ Nothing) × HasNoModel (checked_frames s) × (new ≡ record s { mode = In.Unsat })
 MayDecide s Given.Unknown kept new =
     (rs : List Report) × (kept ≡ Reports rs)
-    × AreReports deciding_workers s.stack.trees s.stack.frames s.options.reproducible_resource_limit rs
+    × AreReports deciding_workers s.stack.trees (checked_frames s) s.options.reproducible_resource_limit rs
     × (new ≡ record s { mode = In.Unknown (reason_of rs) })
 MayDecide s _ kept new = ⊥
 
@@ -57,7 +57,7 @@ MayCome decided old left_out reply kept new = IsExactly Given.Unsupported old re
 MayCome decided old (accepted s) reply kept new = IsExactly (success s) s reply kept new
 MayCome decided old (answered r s) reply kept new = IsExactly r s reply kept new
 MayCome decided old (checked s) reply kept new =
-    MatchBool (decided s.stack.frames) (MayDecide s reply kept new) (IsExactly Given.Unsupported old reply kept new)
+    MatchBool (decided (checked_frames s)) (MayDecide s reply kept new) (IsExactly Given.Unsupported old reply kept new)
 
 -- in the old state the command may be answered so, and leave the new state
 unfoldable pub MayReply : Decided → State → Command → Reply → Kept → State → Type 0

@@ -290,7 +290,7 @@ body_of t = record { terms = with_parts [] t; term = t }
 -- a definition without parameters
 abbrev pub name_declaration : ℕ → List ℕ → Typed → Declaration
 name_declaration id n t =
-    record { id = id; name = n; rank = record { arguments = []; result = t.sort }; body = Some (body_of t.tree); is_sort = false }
+    record { id = id; name = n; rank = record { arguments = []; result = t.sort }; body = Some (body_of t.tree); is_sort = false; is_name = true }
 
 -- how many ids there are
 abbrev pub most_symbols : ℕ

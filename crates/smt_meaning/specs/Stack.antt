@@ -1,5 +1,5 @@
 -- The stack of levels, and what it says (SMT-LIB 2.6, sections 4.1.4 and 5.3).
-use Rattle.std.specs.Prelude.{ℕ, ◌+◌, ◌-◌, List, [], ◌∷◌, ◌++◌, map, take, length, flat_map, replicate, IsTrue, All}
+use Rattle.std.specs.Prelude.{ℕ, ◌+◌, ◌-◌, Bool, true, false, not, List, [], ◌∷◌, ◌++◌, map, filter, take, length, flat_map, replicate, IsTrue, All}
 use Rattle.smt_meaning.specs.declared.tokens.Token.{Token}
 use Rattle.smt_meaning.specs.Declaration.{Declaration}
 use Rattle.smt_meaning.specs.Term.{Tree, Interpretation, value, truth_of}
@@ -62,6 +62,29 @@ abbrev pub on_top : List Declaration → List Assertion → List Frame → List 
 on_top ds xs [] = []
 on_top ds xs (f ∷ []) = record { declared = f.declared ++ ds; asserted = f.asserted ++ xs } ∷ []
 on_top ds xs (f ∷ g ∷ frames) = f ∷ on_top ds xs (g ∷ frames)
+
+-- level 0 gains declarations
+abbrev pub at_base : List Declaration → List Frame → List Frame
+at_base ds [] = []
+at_base ds (f ∷ frames) = record f { declared = f.declared ++ ds } ∷ frames
+
+-- where declarations are global, level 0 gains them, at whatever depth; else the newest level does
+abbrev pub with_declared : Bool → List Declaration → List Frame → List Frame
+with_declared true ds frames = at_base ds frames
+with_declared false ds frames = on_top ds [] frames
+
+abbrev pub stays : Declaration → Bool
+stays d = not d.is_name
+
+-- level 0 alone, without its assertions and the names that went with them
+abbrev pub base_of : List Frame → List Frame
+base_of [] = start_frames
+base_of (f ∷ frames) = record { declared = filter stays f.declared; asserted = [] } ∷ []
+
+-- what `reset-assertions` leaves: where declarations are global, those of level 0
+abbrev pub cleared : Bool → List Frame → List Frame
+cleared true frames = base_of frames
+cleared false frames = start_frames
 
 abbrev pub pushed : ℕ → List Frame → List Frame
 pushed n frames = frames ++ replicate n empty_frame

@@ -1,5 +1,5 @@
 -- What a command does to the stack: the fold of the accepted commands (SMT-LIB 2.6, sections 4.2.2 to 4.2.4).
-use Rattle.std.specs.Prelude.{◌≡◌, refl, ℕ, ◌+◌, true, false, not, nat_le, List, [], ◌∷◌, map, length, drop, ℤ, pos, unsigned_abs, Option, Some, None, bytes_eq, codes, if◌then◌else◌}
+use Rattle.std.specs.Prelude.{◌≡◌, refl, ℕ, ◌+◌, Bool, true, false, not, nat_le, nat_lt, List, [], ◌∷◌, map, length, drop, ℤ, pos, unsigned_abs, Option, Some, None, bytes_eq, codes, if◌then◌else◌}
 use Rattle.smt_meaning.specs.declared.values.Sort.{Sort}
 use Rattle.smt_meaning.specs.declared.values.Sort.TheVariants.{Bool as Truths, Int as Ints, Free}
 use Rattle.smt_meaning.specs.declared.terms.Head.TheVariants.{Place}
@@ -9,34 +9,42 @@ use Rattle.smt_meaning.specs.declared.refusals.Refusal.TheVariants.{AlreadyDecla
 use Rattle.smt_meaning.specs.declared.commands.WrittenSort.{WrittenSort}
 use Rattle.smt_meaning.specs.declared.commands.WrittenSort.TheVariants.{Name, Applied}
 use Rattle.smt_meaning.specs.declared.commands.Parameter.{Parameter}
+use Rattle.smt_meaning.specs.declared.options.OptionSetting.{OptionSetting}
+use Rattle.smt_meaning.specs.declared.options.OptionSetting.TheVariants.{GlobalDeclarations}
 use Rattle.smt_meaning.specs.declared.commands.Command.{Command}
-use Rattle.smt_meaning.specs.declared.commands.Command.TheVariants.{DeclareSort, DefineSort, DeclareConst, DeclareFun, DefineFun, Assert, Push, Pop, GetValue, ResetAssertions, Reset}
+use Rattle.smt_meaning.specs.declared.commands.Command.TheVariants.{SetOption, DeclareSort, DefineSort, DeclareConst, DeclareFun, DefineFun, Assert, CheckSatAssuming, Push, Pop, GetValue, ResetAssertions, Reset}
 use Rattle.smt_meaning.specs.Declaration.{Declaration, Body}
 use Rattle.smt_meaning.specs.Term.{Tree, node, none, int_eq}
 use Rattle.smt_meaning.specs.Sexp.{sexp}
-use Rattle.smt_meaning.specs.Signature.{is_one_of, is_some, find_function, find_sort, reserved_functions, reserved_sorts, sort_eq}
-use Rattle.smt_meaning.specs.Sorts.{Scope, Outcome, done, refused, Judging, ◌>>=◌, ◌>>◌, return, refuse, require, required, the_scope, declare, Typed, Variable, Rules, not_before, judge}
-use Rattle.smt_meaning.specs.Stack.{Assertion, Frame, signature_of, start_frames, depth, on_top, pushed, popped}
+use Rattle.smt_meaning.specs.Signature.{is_one_of, is_some, find_function, find_sort, reserved_functions, reserved_sorts, sort_eq, all_of}
+use Rattle.smt_meaning.specs.Sorts.{Scope, Outcome, done, refused, Judging, ◌>>=◌, ◌>>◌, return, refuse, require, required, the_scope, declare, Typed, sorts_of, Variable, Rules, not_before, judge}
+use Rattle.smt_meaning.specs.Stack.{Assertion, Frame, signature_of, start_frames, depth, on_top, with_declared, cleared, pushed, popped}
 
--- the frames by levels, how many ids were given, and the different trees that were judged, both since the start or the last `reset`
+-- the frames by levels, how many ids were given, and the different trees that were judged, both since the start or the last `reset`; and whether
+-- declarations are global
 pub record Stack : Type 0 where
   pub frames : List Frame
   pub given : ℕ
   pub trees : List Tree
+  pub global : Bool
 
 abbrev pub start : Stack
-start = record { frames = start_frames; given = 0; trees = [] }
+start = record { frames = start_frames; given = 0; trees = []; global = false }
 
 -- what an accepted command does
 pub data Change : Type 0 where
-  -- what was declared joins the newest level
+  -- what was declared joins the newest level, or level 0 where declarations are global
   declares : Change
-  -- so do the names that the term gives, and the assertion
+  -- the names that the term gives join the newest level, and so does the assertion
   asserts : (assertion : Assertion) → Change
   pushes : (levels : ℕ) → Change
   pops : (levels : ℕ) → Change
   -- the terms whose values are asked for
   asks : (terms : List Typed) → Change
+  -- what a check assumes
+  assumes : (assumptions : List Assertion) → Change
+  -- an option is set, of which the stack heeds `:global-declarations` alone
+  sets : (option : OptionSetting) → Change
   -- `reset-assertions`
   clears : Change
   -- `reset`
@@ -85,11 +93,11 @@ new_function_name n = do
 
 abbrev pub sort_declaration : ℕ → List ℕ → Sort → Declaration
 sort_declaration id n s =
-    record { id = id; name = n; rank = record { arguments = []; result = s }; body = None; is_sort = true }
+    record { id = id; name = n; rank = record { arguments = []; result = s }; body = None; is_sort = true; is_name = false }
 
 abbrev pub function_declaration : ℕ → List ℕ → List Sort → Sort → Option Body → Declaration
 function_declaration id n ss s body =
-    record { id = id; name = n; rank = record { arguments = ss; result = s }; body = body; is_sort = false }
+    record { id = id; name = n; rank = record { arguments = ss; result = s }; body = body; is_sort = false; is_name = false }
 
 abbrev pub declare_new_sort : List ℕ → Judging Change
 declare_new_sort n = do
@@ -213,6 +221,24 @@ ask_terms ts = do
 abbrev pub most_levels : ℕ
 most_levels = 65535
 
+-- ---- assumptions
+
+abbrev pub assertions_from : List (List Token) → List Typed → List Assertion
+assertions_from [] us = []
+assertions_from (t ∷ ts) [] = []
+assertions_from (t ∷ ts) (a ∷ us) = record { text = t; term = a.tree } ∷ assertions_from ts us
+
+-- terms of sort Bool, for which there is room in one more level
+abbrev pub assume_terms : ℕ → List (List Token) → Judging Change
+assume_terms level ts = do
+  terms ← judge_terms ts
+  require (all_of Truths (sorts_of terms)) NotBool
+  require_room
+  require (nat_lt level most_levels) TooManyLevels
+  return (assumes (assertions_from ts terms))
+
+-- ---- moves
+
 abbrev pub push_levels : ℕ → ℕ → Judging Change
 push_levels level n = do
   require (nat_le (level + n) most_levels) TooManyLevels
@@ -225,8 +251,14 @@ pop_levels level n = do
 
 -- ---- the fold
 
+-- whether declarations are global, after a setting
+abbrev pub set_global : OptionSetting → Bool → Bool
+set_global (GlobalDeclarations b) old = b
+set_global o old = old
+
 -- how a command is judged at a depth, where it is one of the stack's
 abbrev pub stack_command : Command → Option (ℕ → Judging Change)
+stack_command (SetOption o) = Some (λ level. return (sets o))
 stack_command (DeclareSort n arity) = Some (λ level. declare_sort n arity)
 stack_command (DefineSort n ps s) = Some (λ level. define_sort n ps s)
 stack_command (DeclareConst n s) = Some (λ level. declare_function n [] s)
@@ -234,6 +266,7 @@ stack_command (DeclareFun n ss s) = Some (λ level. declare_function n ss s)
 stack_command (DefineFun n ps s t) = Some (λ level. define_function n ps s t)
 stack_command (Assert t) = Some (λ level. assert_term t)
 stack_command (GetValue ts) = Some (λ level. ask_terms ts)
+stack_command (CheckSatAssuming ts) = Some (λ level. assume_terms level ts)
 -- the number of a command is never below 0
 stack_command (Push n) = Some (λ level. push_levels level (unsigned_abs n))
 stack_command (Pop n) = Some (λ level. pop_levels level (unsigned_abs n))
@@ -257,12 +290,15 @@ abbrev pub new_declarations : Stack → Scope → List Declaration
 new_declarations s c = drop (length (signature_of s.frames)) c.signature
 
 abbrev pub changed : Stack → Change → Scope → Stack
-changed s declares c = record { frames = on_top (new_declarations s c) [] s.frames; given = c.given; trees = c.trees }
-changed s (asserts a) c = record { frames = on_top (new_declarations s c) (a ∷ []) s.frames; given = c.given; trees = c.trees }
+changed s declares c = record s { frames = with_declared s.global (new_declarations s c) s.frames; given = c.given; trees = c.trees }
+changed s (asserts a) c = record s { frames = on_top (new_declarations s c) (a ∷ []) s.frames; given = c.given; trees = c.trees }
 changed s (pushes n) c = record s { frames = pushed n s.frames }
 changed s (pops n) c = record s { frames = popped n s.frames }
 changed s (asks terms) c = record s { trees = c.trees }
-changed s clears c = record s { frames = start_frames }
+-- their level stands above the stack for the check alone
+changed s (assumes xs) c = record s { trees = c.trees }
+changed s (sets o) c = record s { global = set_global o s.global }
+changed s clears c = record s { frames = cleared s.global s.frames }
 changed s begins_again c = start
 changed s is_unsupported c = s
 

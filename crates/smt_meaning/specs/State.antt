@@ -1,5 +1,5 @@
 -- What a run has come to, and what each command does to it (SMT-LIB 2.6, sections 4.1 and 4.2).
-use Rattle.std.specs.Prelude.{ℕ, ◌∷◌, pos, Bool, true, false, List, [], codes, map, flat_map, Option, Some, None, nat_eq, ◌&&◌, if◌then◌else◌}
+use Rattle.std.specs.Prelude.{ℕ, ◌∷◌, pos, Bool, true, false, List, [], ◌++◌, codes, map, flat_map, Option, Some, None, nat_eq, ◌&&◌, if◌then◌else◌}
 use Rattle.smt_meaning.specs.declared.values.Sort.{Sort}
 use Rattle.smt_meaning.specs.declared.values.Sort.TheVariants.{Bool as Truths, Int as Ints, Free}
 use Rattle.smt_meaning.specs.declared.values.Value.{Value}
@@ -8,7 +8,7 @@ use Rattle.smt_meaning.specs.declared.values.Row.{Row}
 use Rattle.smt_meaning.specs.declared.values.Table.{Table}
 use Rattle.smt_meaning.specs.declared.settings.Settings.{Settings}
 use Rattle.smt_meaning.specs.declared.tokens.Token.{Token}
-use Rattle.smt_meaning.specs.Declaration.{Declaration}
+use Rattle.smt_meaning.specs.Declaration.{Declaration, Body}
 use Rattle.smt_meaning.specs.declared.errors.Error.{Error}
 use Rattle.smt_meaning.specs.declared.errors.Error.TheVariants.{NoUnknownAnswer, LogicAlreadySet, OptionTooLate, NoModel, OptionIsOff, ValueTooLarge, Refused}
 use Rattle.smt_meaning.specs.declared.options.Channel.{Channel}
@@ -24,31 +24,38 @@ use Rattle.smt_meaning.specs.declared.options.InfoName.{InfoName}
 use Rattle.smt_meaning.specs.declared.options.InfoName.TheVariants as Asked
 use Rattle.smt_meaning.specs.declared.options.Info.TheVariants.{Name, Version, Authors, ErrorBehavior, AssertionStackLevels, ReasonUnknown}
 use Rattle.smt_meaning.specs.declared.commands.Command.{Command}
-use Rattle.smt_meaning.specs.declared.commands.Command.TheVariants.{SetLogic, SetOption, GetOption, SetInfo, GetInfo, Echo, Exit, Reset, ResetAssertions, DeclareSort, DefineSort, DeclareConst, DeclareFun, DefineFun, Assert, CheckSat, Push, Pop, GetValue, GetModel, GetAssertions, LeftOut}
+use Rattle.smt_meaning.specs.declared.commands.Command.TheVariants.{SetLogic, SetOption, GetOption, SetInfo, GetInfo, Echo, Exit, Reset, ResetAssertions, DeclareSort, DefineSort, DeclareConst, DeclareFun, DefineFun, Assert, CheckSat, CheckSatAssuming, Push, Pop, GetValue, GetModel, GetAssertions, GetAssignment, LeftOut}
 use Rattle.smt_meaning.specs.declared.answers.Mode.{Mode}
 use Rattle.smt_meaning.specs.declared.answers.Mode.TheVariants as In
 use Rattle.smt_meaning.specs.declared.answers.PrintedValue.{PrintedValue}
 use Rattle.smt_meaning.specs.declared.answers.PrintedValue.TheVariants as Printed
 use Rattle.smt_meaning.specs.declared.answers.TermValue.{TermValue}
+use Rattle.smt_meaning.specs.declared.answers.NamedTruth.{NamedTruth}
 use Rattle.smt_meaning.specs.declared.answers.PrintedRow.{PrintedRow}
 use Rattle.smt_meaning.specs.declared.answers.PrintedFunction.{PrintedFunction}
 use Rattle.smt_meaning.specs.declared.answers.Reply.{Reply}
 use Rattle.smt_meaning.specs.declared.answers.Reply.TheVariants as Given
-use Rattle.smt_meaning.specs.Term.{Interpretation, value, fits}
-use Rattle.smt_meaning.specs.Signature.{is_one_of, is_symbol}
+use Rattle.smt_meaning.specs.Term.{Interpretation, value, truth_of, fits}
+use Rattle.smt_meaning.specs.Signature.{is_one_of, is_symbol, sort_eq}
 use Rattle.smt_meaning.specs.Interpretation.{meaning}
 use Rattle.smt_meaning.specs.Sorts.{Outcome, done, refused, Judging, Typed}
 use Rattle.smt_meaning.specs.Stack.{Assertion, Frame, signature_of, depth}
-use Rattle.smt_meaning.specs.StackCommand.{Stack, Change, declares, asserts, pushes, pops, clears, begins_again, is_unsupported, asks, stack_command, judged, changed}
+use Rattle.smt_meaning.specs.StackCommand.{Stack, Change, declares, asserts, pushes, pops, clears, begins_again, is_unsupported, asks, assumes, sets, stack_command, scope_of, judged, changed}
 use Rattle.smt_meaning.specs.StackCommand as Stacks
 
--- the settings of the words, the logic once it is set, the mode with the model that is kept, the options and the stack
+-- the settings of the words, the logic once it is set, the mode with the model that is kept, the options, the stack, and what stood above it at the
+-- last check: the level of the assumptions, where there was one
 pub record State : Type 0 where
   pub settings : Settings
   pub logic : Option (List ℕ)
   pub mode : Mode
   pub options : Options
   pub stack : Stack
+  pub above : List Frame
+
+-- the levels of the last check, while the stack is as it was then
+abbrev pub checked_frames : State → List Frame
+checked_frames s = s.stack.frames ++ s.above
 
 -- ---- options
 
@@ -62,6 +69,7 @@ options_at_start s =
       random_seed = pos s.seed;
       produce_models = false;
       produce_assertions = false;
+      produce_assignments = false;
     }
 
 abbrev pub set : OptionSetting → Options → Options
@@ -74,6 +82,9 @@ set (Set.RandomSeed n) o = record o { random_seed = n }
 set (Set.ProduceModels b) o = record o { produce_models = b }
 set (Set.ProduceAssertions b) o = record o { produce_assertions = b }
 set (Set.InteractiveMode b) o = record o { produce_assertions = b }
+set (Set.ProduceAssignments b) o = record o { produce_assignments = b }
+-- it is the stack's
+set (Set.GlobalDeclarations b) o = o
 
 -- an option that is set at the start alone
 abbrev pub start_option : OptionSetting → Option OptionName
@@ -81,27 +92,32 @@ start_option (Set.RandomSeed n) = Some Named.RandomSeed
 start_option (Set.ProduceModels b) = Some Named.ProduceModels
 start_option (Set.ProduceAssertions b) = Some Named.ProduceAssertions
 start_option (Set.InteractiveMode b) = Some Named.InteractiveMode
+start_option (Set.ProduceAssignments b) = Some Named.ProduceAssignments
+start_option (Set.GlobalDeclarations b) = Some Named.GlobalDeclarations
 start_option _ = None
 
 abbrev pub channel_name : Channel → List ℕ
 channel_name Stdout = codes "stdout"
 channel_name Stderr = codes "stderr"
 
-abbrev pub option_value : Options → OptionName → OptionValue
-option_value o Named.PrintSuccess = Shown.Truth o.print_success
-option_value o Named.RegularOutputChannel = Shown.Text (channel_name Stdout)
-option_value o Named.DiagnosticOutputChannel = Shown.Text (channel_name o.diagnostic_output_channel)
-option_value o Named.Verbosity = Shown.Number o.verbosity
-option_value o Named.ReproducibleResourceLimit = Shown.Number o.reproducible_resource_limit
-option_value o Named.RandomSeed = Shown.Number o.random_seed
-option_value o Named.ProduceModels = Shown.Truth o.produce_models
-option_value o Named.ProduceAssertions = Shown.Truth o.produce_assertions
-option_value o Named.InteractiveMode = Shown.Truth o.produce_assertions
+-- the value of an option, where declarations are global or not
+abbrev pub option_value : Options → Bool → OptionName → OptionValue
+option_value o global Named.PrintSuccess = Shown.Truth o.print_success
+option_value o global Named.RegularOutputChannel = Shown.Text (channel_name Stdout)
+option_value o global Named.DiagnosticOutputChannel = Shown.Text (channel_name o.diagnostic_output_channel)
+option_value o global Named.Verbosity = Shown.Number o.verbosity
+option_value o global Named.ReproducibleResourceLimit = Shown.Number o.reproducible_resource_limit
+option_value o global Named.RandomSeed = Shown.Number o.random_seed
+option_value o global Named.ProduceModels = Shown.Truth o.produce_models
+option_value o global Named.ProduceAssertions = Shown.Truth o.produce_assertions
+option_value o global Named.InteractiveMode = Shown.Truth o.produce_assertions
+option_value o global Named.ProduceAssignments = Shown.Truth o.produce_assignments
+option_value o global Named.GlobalDeclarations = Shown.Truth global
 
 -- ---- the start, and logics
 
 abbrev pub start : Settings → State
-start s = record { settings = s; logic = None; mode = In.Start; options = options_at_start s; stack = Stacks.start }
+start s = record { settings = s; logic = None; mode = In.Start; options = options_at_start s; stack = Stacks.start; above = [] }
 
 -- the logics, which are all treated alike
 abbrev pub logics : List (List ℕ)
@@ -167,6 +183,19 @@ abbrev pub all_fit : Interpretation → List Typed → Bool
 all_fit I [] = true
 all_fit I (a ∷ rest) = fits I a.tree && all_fit I rest
 
+-- the value of a name's term, which is Bool
+abbrev pub truth_of_body : Interpretation → Option Body → Bool
+truth_of_body I None = false
+truth_of_body I (Some b) = truth_of (value I b.term)
+
+abbrev pub is_truth_name : Declaration → Bool
+is_truth_name d = d.is_name && sort_eq d.rank.result Truths
+
+-- the names of Bool terms, in the order in which they were given, each with the value of its term
+abbrev pub named_truths : Interpretation → List Declaration → List NamedTruth
+named_truths I [] = []
+named_truths I (d ∷ ds) = if is_truth_name d then record { name = d.name; value = truth_of_body I d.body } ∷ named_truths I ds else named_truths I ds
+
 abbrev pub texts_of : Frame → List (List Token)
 texts_of f = map (λ (a : Assertion). a.text) f.asserted
 
@@ -181,12 +210,12 @@ pub data Effect : Type 0 where
   accepted : (new : State) → Effect
   -- this reply, and this state
   answered : (reply : Reply) (new : State) → Effect
-  -- a check, of which this state is judged
+  -- a check of this state: of its stack, and what stands above
   checked : (new : State) → Effect
 
 -- in the mode of assertions
 abbrev pub asserting : State → State
-asserting s = record s { mode = In.Assert }
+asserting s = record s { mode = In.Assert; above = [] }
 
 -- it must hold, or this is the error
 abbrev pub provided : Bool → Error → Effect → Effect
@@ -203,9 +232,12 @@ abbrev pub is_start : Mode → Bool
 is_start In.Start = true
 is_start _ = false
 
+abbrev pub with_option : OptionSetting → State → State
+with_option o s = record s { options = set o s.options; stack = changed s.stack (sets o) (scope_of s.stack) }
+
 abbrev pub set_option_in : State → OptionSetting → Option OptionName → Effect
-set_option_in s o None = accepted (record s { options = set o s.options })
-set_option_in s o (Some n) = provided (is_start s.mode) (OptionTooLate n) (accepted (record s { options = set o s.options }))
+set_option_in s o None = accepted (with_option o s)
+set_option_in s o (Some n) = provided (is_start s.mode) (OptionTooLate n) (accepted (with_option o s))
 
 -- why the last check was answered by unknown, where it was
 abbrev pub reason_unknown : State → Mode → Effect
@@ -268,17 +300,43 @@ get_model s (Some i) =
     provided s.options.produce_models (OptionIsOff Named.ProduceModels)
     (answered (Given.Model (printed_functions (signature_of s.stack.frames) (signature_of s.stack.frames) i)) s)
 
+abbrev pub get_assignment : State → Option (List Table) → Effect
+get_assignment s None = denied NoModel
+get_assignment s (Some i) =
+    provided s.options.produce_assignments (OptionIsOff Named.ProduceAssignments)
+    (answered (Given.Assignment (named_truths (meaning i) (signature_of s.stack.frames))) s)
+
 abbrev pub get_assertions : State → Effect
 get_assertions s =
     provided s.options.produce_assertions (OptionIsOff Named.ProduceAssertions)
     (answered (Given.Assertions (flat_map texts_of s.stack.frames)) (with_logic s))
+
+-- ---- checks
+
+abbrev pub frame_of : List Assertion → Frame
+frame_of xs = record { declared = []; asserted = xs }
+
+-- a check of the stack with these levels above it
+abbrev pub checks : State → Stack → List Frame → Effect
+checks s new above = checked (record (with_logic s) { stack = new; above = above })
+
+-- a level above the stack asserts the assumptions; their trees join the list
+abbrev pub assuming : State → Outcome Change → Effect
+assuming s (refused r) = denied (Refused (codes "check-sat-assuming") r)
+assuming s (done (assumes xs) c) = checks s (changed s.stack (assumes xs) c) (frame_of xs ∷ [])
+-- nothing else comes of it
+assuming s (done _ c) = left_out
+
+abbrev pub check_assuming : State → Option (ℕ → Judging Change) → Effect
+check_assuming s None = left_out
+check_assuming s (Some c) = assuming s (judged c s.stack)
 
 -- ---- commands
 
 unfoldable pub effect : State → Command → Effect
 effect s (SetLogic n) = set_logic s n s.logic
 effect s (SetOption o) = set_option_in s o (start_option o)
-effect s (GetOption o) = answered (Given.Option (option_value s.options o)) s
+effect s (GetOption o) = answered (Given.Option (option_value s.options s.stack.global o)) s
 effect s SetInfo = accepted s
 effect s (GetInfo i) = get_info s i
 effect s (Echo t) = answered (Given.Echo t) s
@@ -291,10 +349,12 @@ effect s (DeclareConst n w) = stack_effect s (codes "declare-const") (stack_comm
 effect s (DeclareFun n ws w) = stack_effect s (codes "declare-fun") (stack_command (DeclareFun n ws w))
 effect s (DefineFun n ps w t) = stack_effect s (codes "define-fun") (stack_command (DefineFun n ps w t))
 effect s (Assert t) = stack_effect s (codes "assert") (stack_command (Assert t))
-effect s CheckSat = checked (with_logic s)
+effect s CheckSat = checks s s.stack []
+effect s (CheckSatAssuming ts) = check_assuming s (stack_command (CheckSatAssuming ts))
 effect s (Push n) = stack_effect s (codes "push") (stack_command (Push n))
 effect s (Pop n) = stack_effect s (codes "pop") (stack_command (Pop n))
 effect s (GetValue ts) = get_value s ts (kept_model s.mode)
 effect s GetModel = get_model s (kept_model s.mode)
 effect s GetAssertions = get_assertions s
+effect s GetAssignment = get_assignment s (kept_model s.mode)
 effect s LeftOut = left_out

@@ -18,6 +18,7 @@ use Rattle.smt_meaning.specs.declared.options.Info.TheVariants.{Name, Version, A
 use Rattle.smt_meaning.specs.declared.answers.PrintedValue.{PrintedValue}
 use Rattle.smt_meaning.specs.declared.answers.PrintedValue.TheVariants.{Truth, Whole, Element}
 use Rattle.smt_meaning.specs.declared.answers.TermValue.{TermValue}
+use Rattle.smt_meaning.specs.declared.answers.NamedTruth.{NamedTruth}
 use Rattle.smt_meaning.specs.declared.answers.PrintedRow.{PrintedRow}
 use Rattle.smt_meaning.specs.declared.answers.PrintedFunction.{PrintedFunction}
 use Rattle.smt_meaning.specs.declared.answers.Reply.{Reply}
@@ -111,6 +112,10 @@ value_text (Element n s) = listed (codes "as" ∷ symbol_text (element_name n s)
 -- (t v)
 abbrev pub term_value_text : TermValue → List ℕ
 term_value_text v = listed (tokens_text v.term ∷ value_text v.value ∷ [])
+
+-- (n v)
+abbrev pub named_truth_text : NamedTruth → List ℕ
+named_truth_text v = listed (symbol_text v.name ∷ truth_text v.value ∷ [])
 
 -- ---- models
 
@@ -218,4 +223,5 @@ text (Given.Info i) = line (info_text i)
 text (Given.Values vs) = line (listed (map term_value_text vs))
 text (Given.Model fs) = line (listed (map function_text fs))
 text (Given.Assertions ts) = line (listed (map tokens_text ts))
+text (Given.Assignment vs) = line (listed (map named_truth_text vs))
 text (Given.Error e) = line (listed (codes "error" ∷ literal (error_text e) ∷ []))

@@ -40,6 +40,13 @@ pub struct PrintedFunction {
     pub default: PrintedValue,
 }
 
+/// A name that `:named` gave to a Bool term, and the term's value.
+#[derive(Debug, Drop)]
+pub struct NamedTruth {
+    pub name: Bytes,
+    pub value: bool,
+}
+
 /// A reply (SMT-LIB 2.6, section 4.1), with all that its text prints.
 #[derive(Drop)]
 pub enum Reply {
@@ -57,6 +64,7 @@ pub enum Reply {
     Values(Seq<TermValue>),
     Model(Seq<PrintedFunction>),
     Assertions(Seq<SExpr>),
+    Assignment(Seq<NamedTruth>),
     Error(Error),
 }
 

@@ -50,6 +50,8 @@ pub enum Command {
     /// `(assert term)`
     Assert(SExpr),
     CheckSat,
+    /// `(check-sat-assuming (term ..))`
+    CheckSatAssuming(Seq<SExpr>),
     /// `(push n)`, where n is 1 if it isn't written.
     Push(i128),
     /// `(pop n)`, where n is 1 if it isn't written.
@@ -58,6 +60,7 @@ pub enum Command {
     GetValue(Seq<SExpr>),
     GetModel,
     GetAssertions,
+    GetAssignment,
     /// A command of the standard, an option, an output channel or a piece of information that is left out: it is answered `unsupported`.
     LeftOut,
 }

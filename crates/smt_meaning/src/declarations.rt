@@ -72,6 +72,7 @@ pub struct Declaration {
     rank: Rank,
     body: Option<Body>,
     is_sort: bool,
+    is_name: bool,
 }
 
 impl Model for Declaration {
@@ -82,13 +83,13 @@ impl Model for Declaration {
 
     ghost coded = { coded_declaration };
 
-    ghost view = { λ d. record { id = d.id; name = d.name; rank = d.rank; body = d.body; is_sort = d.is_sort } };
+    ghost view = { λ d. record { id = d.id; name = d.name; rank = d.rank; body = d.body; is_sort = d.is_sort; is_name = d.is_name } };
 }
 
 impl Declaration {
     /// A sort of this name, which stands for a sort.
     pub fn sort(id: SymId, name: Bytes, rank: Rank) -> Self
-        ensures { result ≡ record { id = id; name = name; rank = rank; body = None; is_sort = true } }
+        ensures { result ≡ record { id = id; name = name; rank = rank; body = None; is_sort = true; is_name = false } }
     {
         Declaration {
             id,
@@ -96,12 +97,13 @@ impl Declaration {
             rank,
             body: None,
             is_sort: true,
+            is_name: false,
         }
     }
 
     /// A function of this name and rank, defined where it has a body.
     pub fn function(id: SymId, name: Bytes, rank: Rank, body: Option<Body>) -> Self
-        ensures { result ≡ record { id = id; name = name; rank = rank; body = body; is_sort = false } }
+        ensures { result ≡ record { id = id; name = name; rank = rank; body = body; is_sort = false; is_name = false } }
     {
         Declaration {
             id,
@@ -109,6 +111,21 @@ impl Declaration {
             rank,
             body,
             is_sort: false,
+            is_name: false,
+        }
+    }
+
+    /// A name that `:named` gives to a term, which is its body.
+    pub fn name_of_term(id: SymId, name: Bytes, rank: Rank, body: Body) -> Self
+        ensures { result ≡ record { id = id; name = name; rank = rank; body = Some body; is_sort = false; is_name = true } }
+    {
+        Declaration {
+            id,
+            name,
+            rank,
+            body: Some(body),
+            is_sort: false,
+            is_name: true,
         }
     }
 
@@ -149,6 +166,13 @@ impl Declaration {
         ensures { result ≡ self.now.is_sort }
     {
         self.is_sort
+    }
+
+    /// Whether `:named` gave the name, which then goes with its assertion.
+    pub fn is_name(&self) -> bool
+        ensures { result ≡ self.now.is_name }
+    {
+        self.is_name
     }
 
     /// Whether it is a declared function, which has no body.

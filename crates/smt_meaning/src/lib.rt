@@ -43,7 +43,7 @@ pub use values::{Interp, Row, Sort, SymId, Table, Value};
 /// The commands and replies of the language.
 pub mod language {
     pub use crate::answers::{
-        Entry, Mode, PrintedFunction, PrintedRow, PrintedValue, Reply, TermValue,
+        Entry, Mode, NamedTruth, PrintedFunction, PrintedRow, PrintedValue, Reply, TermValue,
     };
     pub use crate::commands::{Command, Parameter, WrittenSort};
     pub use crate::errors::Error;

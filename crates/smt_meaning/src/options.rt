@@ -23,6 +23,8 @@ pub enum OptionName {
     ProduceAssertions,
     /// The older name of `:produce-assertions`.
     InteractiveMode,
+    ProduceAssignments,
+    GlobalDeclarations,
 }
 
 /// An option with the value that it is to have.
@@ -38,9 +40,11 @@ pub enum OptionSetting {
     ProduceModels(bool),
     ProduceAssertions(bool),
     InteractiveMode(bool),
+    ProduceAssignments(bool),
+    GlobalDeclarations(bool),
 }
 
-/// The options' values. The regular channel is always `"stdout"`.
+/// The options' values. The regular channel is always `"stdout"`, and the stack knows whether declarations are global.
 #[derive(Clone, Copy, PartialEq, Eq, Drop)]
 pub struct Options {
     pub print_success: bool,
@@ -51,6 +55,7 @@ pub struct Options {
     pub produce_models: bool,
     /// `:produce-assertions`, which `:interactive-mode` names too.
     pub produce_assertions: bool,
+    pub produce_assignments: bool,
 }
 
 /// What `get-option` answers.
