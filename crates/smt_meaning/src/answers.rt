@@ -41,7 +41,7 @@ pub struct PrintedFunction {
 }
 
 /// A name that `:named` gave to a Bool term, and the term's value.
-#[derive(Debug, Drop)]
+#[derive(Drop)]
 pub struct NamedTruth {
     pub name: Bytes,
     pub value: bool,
