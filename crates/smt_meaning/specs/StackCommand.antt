@@ -1,5 +1,5 @@
 -- What a command does to the stack: the fold of the accepted commands (SMT-LIB 2.6, sections 4.2.2 to 4.2.4).
-use Rattle.std.specs.Prelude.{◌≡◌, refl, ℕ, ◌+◌, Bool, true, false, not, nat_le, nat_lt, List, [], ◌∷◌, map, length, drop, ℤ, pos, unsigned_abs, Option, Some, None, bytes_eq, codes, if◌then◌else◌}
+use Rattle.std.specs.Prelude.{◌≡◌, refl, ℕ, ◌+◌, Bool, true, false, not, nat_eq, nat_le, nat_lt, List, [], ◌∷◌, map, length, drop, ℤ, pos, unsigned_abs, Option, Some, None, bytes_eq, codes, if◌then◌else◌}
 use Rattle.smt_meaning.specs.declared.values.Sort.{Sort}
 use Rattle.smt_meaning.specs.declared.values.Sort.TheVariants.{Bool as Truths, Int as Ints, Free}
 use Rattle.smt_meaning.specs.declared.terms.Head.TheVariants.{Place}
@@ -251,10 +251,10 @@ pop_levels level n = do
 
 -- ---- the fold
 
--- whether declarations are global, after a setting
-abbrev pub set_global : OptionSetting → Bool → Bool
-set_global (GlobalDeclarations b) old = b
-set_global o old = old
+-- whether declarations are global, after a setting at a depth: it is heeded where no level stands above 0, as at the start
+abbrev pub set_global : OptionSetting → ℕ → Bool → Bool
+set_global (GlobalDeclarations b) level old = if nat_eq level 0 then b else old
+set_global o level old = old
 
 -- how a command is judged at a depth, where it is one of the stack's
 abbrev pub stack_command : Command → Option (ℕ → Judging Change)
@@ -297,7 +297,7 @@ changed s (pops n) c = record s { frames = popped n s.frames }
 changed s (asks terms) c = record s { trees = c.trees }
 -- their level stands above the stack for the check alone
 changed s (assumes xs) c = record s { trees = c.trees }
-changed s (sets o) c = record s { global = set_global o s.global }
+changed s (sets o) c = record s { global = set_global o (depth s.frames) s.global }
 changed s clears c = record s { frames = cleared s.global s.frames }
 changed s begins_again c = start
 changed s is_unsupported c = s
