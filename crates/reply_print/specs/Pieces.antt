@@ -28,12 +28,13 @@ solver_words =
 abbrev pub stack_words : List (List ℕ)
 stack_words =
     codes "declare-sort" ∷ codes "define-sort" ∷ codes "declare-const" ∷ codes "declare-fun" ∷ codes "define-fun" ∷ codes "assert"
-    ∷ codes "check-sat" ∷ codes "push" ∷ codes "pop" ∷ codes "get-value" ∷ codes "get-model" ∷ codes "get-assertions" ∷ []
+    ∷ codes "check-sat" ∷ codes "push" ∷ codes "pop" ∷ codes "get-value" ∷ codes "get-model" ∷ codes "get-assertions"
+    ∷ codes "check-sat-assuming" ∷ codes "get-assignment" ∷ []
 
 -- the commands that are left out
 abbrev pub left_out_words : List (List ℕ)
 left_out_words =
-    codes "check-sat-assuming" ∷ codes "get-assignment" ∷ codes "get-proof" ∷ codes "get-unsat-core" ∷ codes "get-unsat-assumptions"
+    codes "get-proof" ∷ codes "get-unsat-core" ∷ codes "get-unsat-assumptions"
     ∷ codes "define-fun-rec" ∷ codes "define-funs-rec" ∷ codes "declare-datatype" ∷ codes "declare-datatypes" ∷ []
 
 -- ---- tokens

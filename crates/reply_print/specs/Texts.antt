@@ -1,7 +1,7 @@
 -- Which replies have a text that never varies, and the text of an error.
 use Rattle.std.specs.Prelude.{⊤, ℕ, List, [], ◌∷◌, codes}
 use Rattle.smt_meaning.specs.declared.answers.Reply.{Reply}
-use Rattle.smt_meaning.specs.declared.answers.Reply.TheVariants.{Success, Silent, Unsupported, Sat, Unsat, Unknown, Echo, Option, Info, Values, Model, Assertions, Error as Failed}
+use Rattle.smt_meaning.specs.declared.answers.Reply.TheVariants.{Success, Silent, Unsupported, Sat, Unsat, Unknown, Echo, Option, Info, Values, Model, Assertions, Assignment, Error as Failed}
 use Rattle.smt_meaning.specs.declared.errors.Error.{Error}
 use Rattle.smt_meaning.specs.Text.{listed, literal, error_text}
 
@@ -19,6 +19,7 @@ HasFixedText (Info info) = ⊥
 HasFixedText (Values values) = ⊥
 HasFixedText (Model functions) = ⊥
 HasFixedText (Assertions terms) = ⊥
+HasFixedText (Assignment truths) = ⊥
 HasFixedText (Failed error) = ⊥
 
 -- (error "..")

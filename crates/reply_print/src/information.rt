@@ -66,5 +66,7 @@ pub fn option_word(option: OptionName) -> &'static [u8]
         OptionName::ProduceModels => b"produce-models",
         OptionName::ProduceAssertions => b"produce-assertions",
         OptionName::InteractiveMode => b"interactive-mode",
+        OptionName::ProduceAssignments => b"produce-assignments",
+        OptionName::GlobalDeclarations => b"global-declarations",
     }
 }

@@ -185,6 +185,8 @@ fn is_stack_command(name: &[u8]) -> bool
             b"get-value",
             b"get-model",
             b"get-assertions",
+            b"check-sat-assuming",
+            b"get-assignment",
         ],
     )
 }
@@ -196,9 +198,7 @@ fn is_left_out(name: &[u8]) -> bool
     is_one_of(
         name,
         &[
-            b"check-sat-assuming".as_slice(),
-            b"get-assignment",
-            b"get-proof",
+            b"get-proof".as_slice(),
             b"get-unsat-core",
             b"get-unsat-assumptions",
             b"define-fun-rec",

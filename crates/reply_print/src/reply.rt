@@ -55,6 +55,7 @@ fn content(alloc: Global, reply: &Reply, out: &mut Bytes) -> Result<(), AllocErr
         Reply::Values(values) => list(alloc, values.as_slice(), out),
         Reply::Model(functions) => list(alloc, functions.as_slice(), out),
         Reply::Assertions(terms) => list(alloc, terms.as_slice(), out),
+        Reply::Assignment(truths) => list(alloc, truths.as_slice(), out),
         Reply::Error(error) => error_reply(alloc, error, out),
         _ => unreachable!(),
     }

@@ -1,6 +1,6 @@
 //! Values (SMT-LIB 2.6, section 4.2.6).
 ghost use Rattle.std.specs.Prelude.{◌≡◌, ◌++◌, OnOk, IfOk};
-ghost use Rattle.smt_meaning.specs.Text.{truth_text, element_name as name_of_element, value_text, term_value_text};
+ghost use Rattle.smt_meaning.specs.Text.{truth_text, element_name as name_of_element, value_text, term_value_text, named_truth_text};
 ghost use Rattle.smt_meaning.specs.declared.answers.PrintedValue.TheVariants.{Element};
 
 use crate::list::Print;
@@ -8,7 +8,7 @@ use crate::name::symbol;
 use crate::number::{integer, natural};
 use crate::s_expression::s_expression;
 use smt_meaning::Bytes;
-use smt_meaning::language::{PrintedValue, TermValue};
+use smt_meaning::language::{NamedTruth, PrintedValue, TermValue};
 use std::alloc::{AllocError, Global};
 
 /// Appends `true` or `false`.
@@ -65,6 +65,18 @@ impl Print for TermValue {
         s_expression(&self.term, out)?;
         out.push(b' ')?;
         value(alloc, &self.value, out)?;
+        out.push(b')')
+    }
+}
+
+impl Print for NamedTruth {
+    ghost text = { named_truth_text };
+
+    fn print(&self, _: Global, out: &mut Bytes) -> Result<(), AllocError> {
+        out.push(b'(')?;
+        symbol(self.name.as_slice(), out)?;
+        out.push(b' ')?;
+        truth(self.value, out)?;
         out.push(b')')
     }
 }

@@ -82,6 +82,8 @@ list_is_wrong Named.RandomSeed ss = refl
 list_is_wrong Named.ProduceModels ss = refl
 list_is_wrong Named.ProduceAssertions ss = refl
 list_is_wrong Named.InteractiveMode ss = refl
+list_is_wrong Named.ProduceAssignments ss = refl
+list_is_wrong Named.GlobalDeclarations ss = refl
 
 abbrev inside : Option (Option Token) → Option Token
 inside (Some w) = w

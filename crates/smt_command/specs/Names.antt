@@ -1,7 +1,7 @@
 -- The names of commands, in groups.
 use Rattle.std.specs.Prelude.{ℕ, List, [], ◌∷◌, ◌++◌, map, codes}
 use Rattle.smt_command.specs.declared.names.CommandName.{CommandName}
-use Rattle.smt_command.specs.declared.names.CommandName.TheVariants.{SetLogic, SetOption, GetOption, SetInfo, GetInfo, Echo, Exit, Reset, ResetAssertions, DeclareSort, DefineSort, DeclareConst, DeclareFun, DefineFun, Assert, CheckSat, Push, Pop, GetValue, GetModel, GetAssertions, LeftOut}
+use Rattle.smt_command.specs.declared.names.CommandName.TheVariants.{SetLogic, SetOption, GetOption, SetInfo, GetInfo, Echo, Exit, Reset, ResetAssertions, DeclareSort, DefineSort, DeclareConst, DeclareFun, DefineFun, Assert, CheckSat, Push, Pop, GetValue, GetModel, GetAssertions, CheckSatAssuming, GetAssignment, LeftOut}
 
 abbrev pub setting_names : List (List ℕ × CommandName)
 setting_names =
@@ -21,11 +21,11 @@ stack_names =
 
 abbrev pub answer_names : List (List ℕ × CommandName)
 answer_names =
-    (codes "get-value", GetValue) ∷ (codes "get-model", GetModel) ∷ (codes "get-assertions", GetAssertions) ∷ []
+    (codes "get-value", GetValue) ∷ (codes "get-model", GetModel) ∷ (codes "get-assertions", GetAssertions) ∷ (codes "check-sat-assuming", CheckSatAssuming) ∷ (codes "get-assignment", GetAssignment) ∷ []
 
 abbrev pub left_out_names : List (List ℕ)
 left_out_names =
-    codes "check-sat-assuming" ∷ codes "get-assignment" ∷ codes "get-proof" ∷ codes "get-unsat-core" ∷ codes "get-unsat-assumptions" ∷ codes "define-fun-rec" ∷ codes "define-funs-rec" ∷ codes "declare-datatype" ∷ codes "declare-datatypes" ∷ []
+    codes "get-proof" ∷ codes "get-unsat-core" ∷ codes "get-unsat-assumptions" ∷ codes "define-fun-rec" ∷ codes "define-funs-rec" ∷ codes "declare-datatype" ∷ codes "declare-datatypes" ∷ []
 
 abbrev pub left_out : List ℕ → List ℕ × CommandName
 left_out n = (n, LeftOut)

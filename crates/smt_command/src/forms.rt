@@ -1,7 +1,7 @@
 //! The forms of the commands' arguments (SMT-LIB 2.6, section 3.9).
 ghost use Rattle.std.specs.Prelude.{◌≡◌, IfOk};
 ghost use Rattle.smt_meaning.specs.declared.commands.Command.TheVariants.{DeclareSort, Push, Pop};
-ghost use Rattle.smt_meaning.specs.Command.{bare, levels, with_numeral, set_logic, echo, declare_sort, define_sort, declare_const, declare_fun, define_fun, assert_form, get_value};
+ghost use Rattle.smt_meaning.specs.Command.{bare, levels, with_numeral, set_logic, echo, declare_sort, define_sort, declare_const, declare_fun, define_fun, assert_form, get_value, check_sat_assuming};
 ghost use Rattle.smt_command.specs.Arguments.{left};
 ghost use Rattle.smt_command.specs.Values.{level_count, with_body};
 
@@ -256,4 +256,20 @@ pub fn get_value(
         return Ok(Err(Refusal::WrongArguments));
     }
     Ok(Ok(Command::GetValue(lists::terms(alloc, inside)?)))
+}
+
+/// The command `check-sat-assuming` with these arguments: a list of terms, which may be empty.
+pub fn check_sat_assuming(
+    alloc: Global,
+    mut arguments: Arguments<'_>,
+) -> Result<Result<Command, Refusal>, AllocError>
+    ensures { IfOk result (λ r. r ≡ check_sat_assuming (left arguments.entry)) }
+{
+    let Some(inside) = arguments.list() else {
+        return Ok(Err(Refusal::WrongArguments));
+    };
+    if !arguments.is_end() {
+        return Ok(Err(Refusal::WrongArguments));
+    }
+    Ok(Ok(Command::CheckSatAssuming(lists::terms(alloc, inside)?)))
 }

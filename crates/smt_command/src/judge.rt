@@ -61,6 +61,8 @@ fn formed(
         CommandName::GetValue => forms::get_value(alloc, arguments),
         CommandName::GetModel => Ok(forms::bare(Command::GetModel, &arguments)),
         CommandName::GetAssertions => Ok(forms::bare(Command::GetAssertions, &arguments)),
+        CommandName::CheckSatAssuming => forms::check_sat_assuming(alloc, arguments),
+        CommandName::GetAssignment => Ok(forms::bare(Command::GetAssignment, &arguments)),
         CommandName::LeftOut => Ok(Ok(Command::LeftOut)),
     }
 }

@@ -30,6 +30,8 @@ pub enum CommandName {
     GetValue,
     GetModel,
     GetAssertions,
+    CheckSatAssuming,
+    GetAssignment,
     /// A command of the standard that is answered `unsupported`, whatever its arguments are.
     LeftOut,
 }
@@ -131,7 +133,7 @@ fn stack_name(name: &[u8]) -> Option<CommandName>
     }
 }
 
-/// A command that asks for what a check has found.
+/// A command that asks for what a check has found, for the assertions, or for a check under assumptions.
 fn answer_name(name: &[u8]) -> Option<CommandName>
     ensures { result ≡ look_up name.now answer_names }
 {
@@ -141,6 +143,10 @@ fn answer_name(name: &[u8]) -> Option<CommandName>
         Some(CommandName::GetModel)
     } else if name == b"get-assertions".as_slice() {
         Some(CommandName::GetAssertions)
+    } else if name == b"check-sat-assuming".as_slice() {
+        Some(CommandName::CheckSatAssuming)
+    } else if name == b"get-assignment".as_slice() {
+        Some(CommandName::GetAssignment)
     } else {
         None
     }
@@ -150,9 +156,7 @@ fn answer_name(name: &[u8]) -> Option<CommandName>
 fn is_left_out(name: &[u8]) -> bool
     ensures { result ≡ is_one_of name.now left_out_names }
 {
-    name == b"check-sat-assuming".as_slice()
-        || name == b"get-assignment".as_slice()
-        || name == b"get-proof".as_slice()
+    name == b"get-proof".as_slice()
         || name == b"get-unsat-core".as_slice()
         || name == b"get-unsat-assumptions".as_slice()
         || name == b"define-fun-rec".as_slice()
@@ -183,6 +187,10 @@ pub fn option_name(keyword: &[u8]) -> Option<OptionName>
         Some(OptionName::ProduceAssertions)
     } else if keyword == b"interactive-mode".as_slice() {
         Some(OptionName::InteractiveMode)
+    } else if keyword == b"produce-assignments".as_slice() {
+        Some(OptionName::ProduceAssignments)
+    } else if keyword == b"global-declarations".as_slice() {
+        Some(OptionName::GlobalDeclarations)
     } else {
         None
     }

@@ -103,6 +103,8 @@ fn setting(name: OptionName, value: Option<TokenView<'_>>) -> Result<Command, Re
         OptionName::ProduceModels => set(OptionSetting::ProduceModels(truth(value)?)),
         OptionName::ProduceAssertions => set(OptionSetting::ProduceAssertions(truth(value)?)),
         OptionName::InteractiveMode => set(OptionSetting::InteractiveMode(truth(value)?)),
+        OptionName::ProduceAssignments => set(OptionSetting::ProduceAssignments(truth(value)?)),
+        OptionName::GlobalDeclarations => set(OptionSetting::GlobalDeclarations(truth(value)?)),
     }
 }
 
