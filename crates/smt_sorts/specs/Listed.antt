@@ -1,5 +1,5 @@
 -- How declarations are kept: in order, each with its level, and found by the hashes of their names.
-use Rattle.std.specs.Prelude.{◌≡◌, refl, ℕ, ◌/◌, ◌^◌, ◌<◌, ◌&&◌, Bool, not, List, [], ◌∷◌, map, take, length, Option, Some, None, bytes_eq, nat_eq, if◌then◌else◌, AllPairs, get_or, slice_index}
+use Rattle.std.specs.Prelude.{◌≡◌, refl, ℕ, ◌/◌, ◌^◌, ◌<◌, ◌≤◌, ◌&&◌, Bool, not, List, [], ◌∷◌, ◌++◌, map, take, drop, insert, length, Option, Some, None, bytes_eq, nat_eq, if◌then◌else◌, AllPairs, get_or}
 use Rattle.std.specs.Coded.{Coded, code_by, coded×, coded_ℕ, coded_list}
 use Rattle.term_store.specs.Hash.{words_state}
 use Rattle.smt_meaning.specs.Declaration.{Declaration}
@@ -20,6 +20,17 @@ listed_code =
 -- the first of them
 abbrev pub first_listed : ℕ → Listed → Listed
 first_listed n a = record { declarations = take n a.declarations; levels = take n a.levels }
+
+-- one more at a place
+abbrev pub inserted : ℕ → Declaration → ℕ → Listed → Listed
+inserted n d l a = record { declarations = insert a.declarations n d; levels = insert a.levels n l }
+
+-- without those from one place to before another
+abbrev pub without_range : ℕ → ℕ → Listed → Listed
+without_range m n a = record {
+  declarations = take m a.declarations ++ drop n a.declarations;
+  levels = take m a.levels ++ drop n a.levels;
+}
 
 -- ---- names
 
@@ -51,14 +62,14 @@ name_hash n = words_state 5 n / 2 ^ 32
 abbrev pub hash_of : Declaration → ℕ
 hash_of d = name_hash d.name
 
-pub record IsListed (ds : List Declaration) (levels hashes : List ℕ) : Type 0 where
+-- the first of them stand in the index
+pub record IsListed (ds : List Declaration) (levels hashes : List ℕ) (indexed : ℕ) : Type 0 where
   pub size : length levels ≡ length ds
   pub apart : AllPairs AreApart ds
-  pub hashed : hashes ≡ map hash_of ds
+  pub within : indexed ≤ length ds
+  pub hashed : hashes ≡ map hash_of (take indexed ds)
 
--- a declaration with this id has this level
-pub record IsListedAt (a : Listed) (id l : ℕ) : Type 0 where
-  pub place : ℕ
-  pub within : place < length a.declarations
-  pub id_is : (d : Declaration) → (get_or a.declarations place d).id ≡ id
-  pub level : slice_index a.levels place ≡ l
+-- the declaration at a place has this id
+pub record IsPlaceOf (ds : List Declaration) (id place : ℕ) : Type 0 where
+  pub within : place < length ds
+  pub id_is : (d : Declaration) → (get_or ds place d).id ≡ id

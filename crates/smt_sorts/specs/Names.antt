@@ -3,10 +3,12 @@ use Rattle.std.specs.Prelude.{◌≡◌, ◌≢◌, refl, ℕ, ◌+◌, ◌-◌,
 use Rattle.std.specs.Coded.{Coded, code_by, coded×, coded_ℕ, coded_list}
 use Rattle.smt_meaning.specs.declared.values.Sort.{Sort}
 use Rattle.smt_meaning.specs.declared.values.Sort.TheVariants.{Free}
-use Rattle.smt_meaning.specs.Declaration.{Declaration}
+use Rattle.smt_meaning.specs.Declaration.{Declaration, Body}
+use Rattle.smt_meaning.specs.declared.declarations.Rank.{Rank}
 use Rattle.smt_meaning.specs.DeclarationCode.{coded_declaration}
 use Rattle.smt_meaning.specs.Signature.{is_one_of, find_function, find_sort, reserved_functions, reserved_sorts, HasNoIdTwice}
 use Rattle.smt_meaning.specs.Sorts.{most_symbols}
+use Rattle.smt_meaning.specs.Stack.{stays}
 use Rattle.smt_sorts.specs.declared.errors.NameError.{NameError}
 use Rattle.smt_sorts.specs.declared.errors.NameError.TheVariants.{Reserved, AlreadyDeclared}
 
@@ -48,8 +50,18 @@ on_newest es [] = []
 on_newest es (ds ∷ []) = (ds ++ es) ∷ []
 on_newest es (ds ∷ fs ∷ rest) = ds ∷ on_newest es (fs ∷ rest)
 
-abbrev pub with_declaration : Declaration → Names → Names
-with_declaration d t = record { levels = on_newest (d ∷ []) t.levels; given = t.given + 1 }
+-- level 0 gains declarations
+abbrev pub on_base : List Declaration → List (List Declaration) → List (List Declaration)
+on_base es [] = []
+on_base es (ds ∷ rest) = (ds ++ es) ∷ rest
+
+-- where declarations are global, level 0 gains them, at whatever depth; else the newest level does
+abbrev pub gaining : Bool → List Declaration → List (List Declaration) → List (List Declaration)
+gaining true es dss = on_base es dss
+gaining false es dss = on_newest es dss
+
+abbrev pub with_declaration : Bool → Declaration → Names → Names
+with_declaration global d t = record { levels = gaining global (d ∷ []) t.levels; given = t.given + 1 }
 
 abbrev pub with_levels : ℕ → Names → Names
 with_levels n t = record t { levels = t.levels ++ replicate n [] }
@@ -68,10 +80,22 @@ cut_to ids t = record { levels = map (λ (ds : List Declaration). filter (has_id
 abbrev pub cleared : Names → Names
 cleared t = record t { levels = [] ∷ [] }
 
+-- level 0 alone, without the names that went with assertions
+abbrev pub base_of : List (List Declaration) → List (List Declaration)
+base_of [] = [] ∷ []
+base_of (ds ∷ rest) = filter stays ds ∷ []
+
+abbrev pub based : Names → Names
+based t = record t { levels = base_of t.levels }
+
 -- a new sort where none is given
 abbrev pub sort_or_new : Option Sort → ℕ → Sort
 sort_or_new None id = Free id
 sort_or_new (Some s) id = s
+
+-- the definition that a name of a term is
+abbrev pub named_term : ℕ → List ℕ → Rank → Body → Declaration
+named_term id n r b = record { id = id; name = n; rank = r; body = Some b; is_sort = false; is_name = true }
 
 -- ---- names that may be declared
 

@@ -1,7 +1,7 @@
 //! Places in lists that rise.
 ghost use Rattle.std.specs.Prelude.{◌≡◌, ◌<◌, ◌≤◌, length, take, drop, Some, None, IfSome, IfNone, All, AllPairs};
 ghost use Rattle.smt_meaning.specs.Declaration.{Declaration as DeclarationValue};
-ghost use Rattle.smt_sorts.specs.Listed.{first_that, has_id, IsListedAt};
+ghost use Rattle.smt_sorts.specs.Listed.{first_that, has_id, IsPlaceOf};
 
 use smt_meaning::{Declaration, SymId};
 
@@ -25,29 +25,10 @@ pub(crate) fn below_id(declarations: &[Declaration], id: SymId) -> usize
     declarations.partition_point(|declaration| declaration.id() < id)
 }
 
-/// The declaration with this id.
-pub(crate) fn with_id(declarations: &[Declaration], id: SymId) -> Option<&Declaration>
+/// The place of the declaration with this id, where ids rise.
+fn find(declarations: &[Declaration], id: SymId) -> Option<usize>
     requires { AllPairs (λ (d e : DeclarationValue). d.id < e.id) declarations.now }
-    ensures some { IfSome result (λ d. first_that (has_id id) declarations.now ≡ Some d.now) }
-    ensures none { IfNone result (first_that (has_id id) declarations.now ≡ None) }
-{
-    let place = below_id(declarations, id);
-    if place == declarations.len() {
-        return None;
-    }
-    let declaration = &declarations[place];
-    if declaration.id() == id {
-        Some(declaration)
-    } else {
-        None
-    }
-}
-
-/// The level of the declaration with this id.
-pub(crate) fn level_with_id(declarations: &[Declaration], levels: &[u32], id: SymId) -> Option<u32>
-    requires order { AllPairs (λ (d e : DeclarationValue). d.id < e.id) declarations.now }
-    requires size { length levels.now ≡ length declarations.now }
-    ensures some { IfSome result (IsListedAt (record { declarations = declarations.now; levels = levels.now }) id) }
+    ensures some { IfSome result (IsPlaceOf declarations.now id) }
     ensures none { IfNone result (first_that (has_id id) declarations.now ≡ None) }
 {
     let place = below_id(declarations, id);
@@ -55,8 +36,26 @@ pub(crate) fn level_with_id(declarations: &[Declaration], levels: &[u32], id: Sy
         return None;
     }
     if declarations[place].id() == id {
-        Some(levels[place])
+        Some(place)
     } else {
         None
+    }
+}
+
+/// The place of the declaration with this id, where ids rise along the first declarations, so many, and along the others.
+pub(crate) fn with_id(declarations: &[Declaration], base: usize, id: SymId) -> Option<usize>
+    requires within { base ≤ length declarations.now }
+    requires base { AllPairs (λ (d e : DeclarationValue). d.id < e.id) (take base declarations.now) }
+    requires above { AllPairs (λ (d e : DeclarationValue). d.id < e.id) (drop base declarations.now) }
+    ensures some { IfSome result (IsPlaceOf declarations.now id) }
+    ensures none { IfNone result (first_that (has_id id) declarations.now ≡ None) }
+{
+    let (first, rest) = declarations.split_at(base);
+    match find(first, id) {
+        Some(place) => Some(place),
+        None => match find(rest, id) {
+            Some(place) => Some(base + place),
+            None => None,
+        },
     }
 }

@@ -1,5 +1,5 @@
 //! The table of names.
-ghost use Rattle.std.specs.Prelude.{◌≡◌, ◌+◌, ◌^◌, ◌<◌, ◌↔◌, ◌++◌, ◌∷◌, [], length, OnOk, OnErr, IfOk, IfErr, IfSome, IfNone, None, Some};
+ghost use Rattle.std.specs.Prelude.{◌≡◌, ◌+◌, ◌^◌, ◌<◌, ◌↔◌, ◌++◌, ◌∷◌, [], length, OnOk, OnErr, IfOk, IfErr, IfSome, IfNone, None, Some, true, false};
 ghost use Rattle.smt_meaning.specs.Signature.{is_one_of, find_function, find_sort, function_with_id, reserved_functions, reserved_sorts, HasNoIdTwice};
 ghost use Rattle.smt_meaning.specs.Sorts.{most_symbols};
 ghost use Rattle.smt_meaning.specs.StackCommand.{declared_sort, sort_named, sort_declaration, function_declaration};
@@ -14,10 +14,11 @@ use smt_meaning::{Body, Bytes, Declaration, Rank, Seq, Sort, SymId};
 use std::alloc::{AllocError, Global};
 use std::marker::Model;
 
-/// What is declared and defined, by levels, and how many ids were given. Ids are given in order, from 0.
+/// What is declared and defined, by levels, and how many ids were given. Ids are given in order, from 0. The declarations of level 0 come first, so many.
 #[derive(Drop)]
 pub struct Table {
     entries: Entries,
+    base: usize,
     count: u32,
     given: SymId,
     kept: Option<Kept>,
@@ -35,7 +36,7 @@ impl Model for Table {
 
     ghost view = { λ a. record { levels = levels_of a.count a.entries; given = a.given } };
 
-    ghost invariant = { λ a. IsLeveled a.count a.given a.entries × IsKept a.given a.entries.declarations a.kept };
+    ghost invariant = { λ a. IsLeveled a.count a.given a.base a.entries × IsKept a.given a.entries.declarations a.kept };
 }
 
 /// The name of a declaration, where it is that of a sort, else nothing.
@@ -50,7 +51,7 @@ fn name_if_sort(declaration: &Declaration) -> &[u8]
 }
 
 impl Table {
-    ghost use Rattle.smt_sorts.specs.Names.{Names, signature, no_names, with_declaration, with_levels, without_levels, cut_to, cleared, sort_or_new, IsNewFunction, IsNewSort, IsCause, IsTable, HasGained, IsLevelOf};
+    ghost use Rattle.smt_sorts.specs.Names.{Names, signature, no_names, with_declaration, with_levels, without_levels, cut_to, cleared, based, named_term, sort_or_new, IsNewFunction, IsNewSort, IsCause, IsTable, HasGained, IsLevelOf};
     ghost use Rattle.smt_sorts.specs.Workshop.{IsOf, IsOfAny};
 
     /// No name, on level 0. It takes no memory.
@@ -59,6 +60,7 @@ impl Table {
     {
         Table {
             entries: Entries::new(alloc),
+            base: 0,
             count: 1,
             given: 0,
             kept: None,
@@ -133,7 +135,11 @@ impl Table {
         ensures none { IfNone result (first_that (has_id id) (signature self.now) ≡ None) }
         ensures apart { HasNoIdTwice (signature self.now) }
     {
-        places::with_id(self.entries.declarations(), id)
+        let declarations = self.entries.declarations();
+        match places::with_id(declarations, self.base, id) {
+            Some(place) => Some(&declarations[place]),
+            None => None,
+        }
     }
 
     /// The function with this id.
@@ -155,7 +161,10 @@ impl Table {
         ensures within { IfSome result (λ l. l < length self.now.levels) }
         ensures none { IfNone result (first_that (has_id id) (signature self.now) ≡ None) }
     {
-        places::level_with_id(self.entries.declarations(), self.entries.levels(), id)
+        match places::with_id(self.entries.declarations(), self.base, id) {
+            Some(place) => Some(self.entries.levels()[place]),
+            None => None,
+        }
     }
 
     /// The name of the sort with this id, empty where there is none.
@@ -210,33 +219,65 @@ impl Table {
         }
     }
 
-    /// Adds a declaration with the next id on the newest level. An `Err`, for want of memory, changes nothing.
-    fn add(&mut self, declaration: Declaration) -> Result<(), AllocError>
+    /// Adds a declaration with the next id on level 0. An `Err`, for want of memory, changes nothing.
+    fn add_at_base(&mut self, declaration: Declaration) -> Result<(), AllocError>
         requires id { declaration.id ≡ self.old.given }
         requires room { self.old.given < most_symbols }
         requires new { first_that (is_named (kind_of declaration.is_sort) declaration.name) (signature self.old) ≡ None }
-        ensures ok { OnOk result (self.new ≡ with_declaration declaration self.old) }
-        ensures signature { OnOk result (signature self.new ≡ signature self.old ++ declaration ∷ []) }
+        ensures ok { OnOk result (self.new ≡ with_declaration true declaration self.old) }
         ensures err { OnErr result (self.new ≡ self.old) }
     {
         let given = self.given + 1;
-        self.entries.push(declaration, self.count - 1)?;
+        self.entries.insert(self.base, declaration, 0)?;
+        self.base += 1;
         self.given = given;
         Ok(())
     }
 
-    /// Declares a sort on the newest level: a new one, or a name for one. `TooManySymbols` comes exactly where no id is left. An `Err` changes nothing.
+    /// Adds a declaration with the next id on the newest level, where that is above level 0. An `Err`, for want of memory, changes nothing.
+    fn add_above(&mut self, declaration: Declaration) -> Result<(), AllocError>
+        requires above { 1 < length self.old.levels }
+        requires id { declaration.id ≡ self.old.given }
+        requires room { self.old.given < most_symbols }
+        requires new { first_that (is_named (kind_of declaration.is_sort) declaration.name) (signature self.old) ≡ None }
+        ensures ok { OnOk result (self.new ≡ with_declaration false declaration self.old) }
+        ensures err { OnErr result (self.new ≡ self.old) }
+    {
+        let given = self.given + 1;
+        let place = self.entries.declarations().len();
+        self.entries.insert(place, declaration, self.count - 1)?;
+        self.given = given;
+        Ok(())
+    }
+
+    /// Adds a declaration with the next id, on level 0 where it is global and else on the newest level. An `Err`, for want of memory, changes nothing.
+    fn add(&mut self, declaration: Declaration, global: bool) -> Result<(), AllocError>
+        requires id { declaration.id ≡ self.old.given }
+        requires room { self.old.given < most_symbols }
+        requires new { first_that (is_named (kind_of declaration.is_sort) declaration.name) (signature self.old) ≡ None }
+        ensures ok { OnOk result (self.new ≡ with_declaration global declaration self.old) }
+        ensures some_level { 0 < length self.old.levels }
+        ensures err { OnErr result (self.new ≡ self.old) }
+    {
+        if global || self.levels() == 1 {
+            self.add_at_base(declaration)
+        } else {
+            self.add_above(declaration)
+        }
+    }
+
+    /// Declares a sort: a new one, or a name for one. It joins level 0 where it is global, and else the newest level. `TooManySymbols` comes exactly where no
+    /// id is left. An `Err` changes nothing.
     pub fn add_sort(
         &mut self,
         alloc: Global,
         name: &[u8],
         sort: Option<Sort>,
+        global: bool,
     ) -> Result<SymId, AddError>
         requires { find_sort name.now (signature self.old) ≡ None }
         ensures id { IfOk result (λ id. id ≡ self.old.given) }
-        ensures ok { OnOk result (self.new ≡ with_declaration (sort_declaration self.old.given name.now (sort_or_new sort self.old.given)) self.old) }
-        ensures signature { OnOk result (signature self.new ≡ signature self.old ++ sort_declaration self.old.given name.now (sort_or_new sort self.old.given) ∷ []) }
-        ensures gained { OnOk result ((t : Names) → HasGained t self.old → HasGained t self.new) }
+        ensures ok { OnOk result (self.new ≡ with_declaration global (sort_declaration self.old.given name.now (sort_or_new sort self.old.given)) self.old) }
         ensures full { (result ≡ Err AddError.TooManySymbols) ↔ (self.old.given ≡ most_symbols) }
         ensures err { OnErr result (self.new ≡ self.old) }
     {
@@ -246,29 +287,51 @@ impl Table {
             arguments: Seq::new(alloc),
             result: sort.unwrap_or(Sort::Free(id)),
         };
-        self.add(Declaration::sort(id, name, rank))?;
+        self.add(Declaration::sort(id, name, rank), global)?;
         Ok(id)
     }
 
-    /// Declares or defines a function on the newest level. `TooManySymbols` comes exactly where no id is left. An `Err` changes nothing.
+    /// Declares or defines a function. It joins level 0 where it is global, and else the newest level. `TooManySymbols` comes exactly where no id is left. An
+    /// `Err` changes nothing.
     pub fn add_function(
         &mut self,
         alloc: Global,
         name: &[u8],
         rank: Rank,
         body: Option<Body>,
+        global: bool,
     ) -> Result<SymId, AddError>
         requires { find_function name.now (signature self.old) ≡ None }
         ensures id { IfOk result (λ id. id ≡ self.old.given) }
-        ensures ok { OnOk result (self.new ≡ with_declaration (function_declaration self.old.given name.now rank.arguments rank.result body) self.old) }
-        ensures signature { OnOk result (signature self.new ≡ signature self.old ++ function_declaration self.old.given name.now rank.arguments rank.result body ∷ []) }
+        ensures ok { OnOk result (self.new ≡ with_declaration global (function_declaration self.old.given name.now rank.arguments rank.result body) self.old) }
+        ensures full { (result ≡ Err AddError.TooManySymbols) ↔ (self.old.given ≡ most_symbols) }
+        ensures err { OnErr result (self.new ≡ self.old) }
+    {
+        let id = self.next_id()?;
+        let name = Bytes::copy(alloc, name)?;
+        self.add(Declaration::function(id, name, rank, body), global)?;
+        Ok(id)
+    }
+
+    /// Defines a name that `:named` gives to a term, on the newest level. `TooManySymbols` comes exactly where no id is left. An `Err` changes nothing.
+    pub fn add_name(
+        &mut self,
+        alloc: Global,
+        name: &[u8],
+        rank: Rank,
+        body: Body,
+    ) -> Result<SymId, AddError>
+        requires { find_function name.now (signature self.old) ≡ None }
+        ensures id { IfOk result (λ id. id ≡ self.old.given) }
+        ensures ok { OnOk result (self.new ≡ with_declaration false (named_term self.old.given name.now rank body) self.old) }
+        ensures signature { OnOk result (signature self.new ≡ signature self.old ++ named_term self.old.given name.now rank body ∷ []) }
         ensures gained { OnOk result ((t : Names) → HasGained t self.old → HasGained t self.new) }
         ensures full { (result ≡ Err AddError.TooManySymbols) ↔ (self.old.given ≡ most_symbols) }
         ensures err { OnErr result (self.new ≡ self.old) }
     {
         let id = self.next_id()?;
         let name = Bytes::copy(alloc, name)?;
-        self.add(Declaration::function(id, name, rank, body))?;
+        self.add(Declaration::name_of_term(id, name, rank, body), false)?;
         Ok(id)
     }
 
@@ -312,8 +375,12 @@ impl Table {
         ensures value { self.new ≡ cut_to ids self.old }
         ensures restored { (t : Names) → t.given ≡ ids → HasGained t self.old → self.new ≡ t }
     {
-        let len = places::below_id(self.entries.declarations(), ids);
+        let (first, rest) = self.entries.declarations().split_at(self.base);
+        let base = places::below_id(first, ids);
+        let len = self.base + places::below_id(rest, ids);
         self.entries.truncate(len);
+        self.entries.remove(base, self.base);
+        self.base = base;
         self.given = self.given.min(ids);
         self.kept = None;
     }
@@ -323,6 +390,18 @@ impl Table {
         ensures { self.new ≡ cleared self.old }
     {
         self.entries.truncate(0);
+        self.base = 0;
+        self.count = 1;
+        self.kept = None;
+    }
+
+    /// Takes away every level but level 0, and from that the names that went with assertions. The ids stay given. It takes no memory.
+    pub fn clear_to_base(&mut self)
+        ensures { self.new ≡ based self.old }
+    {
+        self.entries.truncate(self.base);
+        self.entries.remove_names();
+        self.base = self.entries.declarations().len();
         self.count = 1;
         self.kept = None;
     }
@@ -332,6 +411,7 @@ impl Table {
         ensures { self.new ≡ no_names }
     {
         self.entries.truncate(0);
+        self.base = 0;
         self.count = 1;
         self.kept = None;
         self.given = 0;
