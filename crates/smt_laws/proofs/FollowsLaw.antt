@@ -1,5 +1,5 @@
 -- What follows from frames follows from more of them, and is read alike by more trees.
-use Rattle.std.proofs.Common.{ℕ, zero, suc, ◌+◌, ◌-◌, ◌<◌, ◌≤◌, List, [], ◌∷◌, ◌++◌, take, length, arith}
+use Rattle.std.proofs.Common.{ℕ, Bool, true, false, zero, suc, ◌+◌, ◌-◌, ◌<◌, ◌≤◌, List, [], ◌∷◌, ◌++◌, take, length, arith}
 use Rattle.std.specs.Prelude.{flat_map, replicate}
 use Rattle.std.proofs.lemmas.List.{take-append-le, take-take}
 use Rattle.std.proofs.lemmas.List.Elements.{All-weaker}
@@ -7,7 +7,7 @@ use Rattle.smt_meaning.specs.Declaration.{Declaration}
 use Rattle.smt_meaning.specs.declared.clauses.Clause.{Clause}
 use Rattle.smt_meaning.specs.Term.{Tree}
 use Rattle.smt_meaning.specs.Interpretation.{IsFunctionFor, Interprets}
-use Rattle.smt_meaning.specs.Stack.{Frame, Assertion, Satisfies, signature_of, assertions_of, terms_of, on_top, pushed, popped, empty_frame}
+use Rattle.smt_meaning.specs.Stack.{Frame, Assertion, Satisfies, signature_of, assertions_of, terms_of, on_top, at_base, with_declared, pushed, popped, empty_frame}
 use Rattle.smt_meaning.specs.Clause.{clause_symbols}
 use Rattle.smt_meaning.specs.Follows.{FollowsFrom, Follows}
 use Rattle.smt_laws.proofs.Included.{Included, All-included, included_same, included_left, included_append, included_map}
@@ -69,6 +69,18 @@ on_top_extends ds xs n frames = record {
   assertions = on_top_included terms_of ds xs (λ f. included_map (λ (a : Assertion). a.term) f.asserted (f.asserted ++ xs) (included_left f.asserted xs)) n frames;
 }
 
+at_base_extends : (ds : List Declaration) (n : ℕ) (frames : List Frame) → Extends (take n frames) (take n (at_base ds frames))
+at_base_extends ds zero frames = record { signature = included_same []; assertions = included_same [] }
+at_base_extends ds (suc n) [] = record { signature = included_same []; assertions = included_same [] }
+at_base_extends ds (suc n) (f ∷ frames) = record {
+  signature = included_append f.declared (f.declared ++ ds) _ _ (included_left f.declared ds) (included_same (signature_of (take n frames)));
+  assertions = included_same (assertions_of (f ∷ take n frames));
+}
+
+declared_extends : (b : Bool) (ds : List Declaration) (n : ℕ) (frames : List Frame) → Extends (take n frames) (take n (with_declared b ds frames))
+declared_extends true ds n frames = at_base_extends ds n frames
+declared_extends false ds n frames = on_top_extends ds [] n frames
+
 -- ---- after commands
 
 pub after_push : (ts : List Tree) (frames : List Frame) (l n : ℕ) (c : Clause) → l < length frames → Follows ts frames l c → Follows ts (pushed n frames) l c
@@ -86,3 +98,7 @@ after_pop ts frames l n c h f = rw (take-take (l + 1) (length frames - n) frames
 pub above : (ts : List Tree) (frames : List Frame) (l m : ℕ) (c : Clause) → l ≤ m → Follows ts frames l c → Follows ts frames m c
 unfolding Follows
 above ts frames l m c h f = follows_more ts _ _ c (take_extends (l + 1) (m + 1) frames (omega arith)) f
+
+pub after_declared : (ts : List Tree) (frames : List Frame) (l : ℕ) (c : Clause) (b : Bool) (ds : List Declaration) → Follows ts frames l c → Follows ts (with_declared b ds frames) l c
+unfolding Follows
+after_declared ts frames l c b ds f = follows_more ts _ _ c (declared_extends b ds (l + 1) frames) f

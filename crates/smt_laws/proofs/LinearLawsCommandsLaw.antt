@@ -7,12 +7,12 @@ use Rattle.smt_meaning.specs.Declaration.{Declaration}
 use Rattle.smt_meaning.specs.Term.{Tree, node, none}
 use Rattle.smt_meaning.specs.Sexp.{sexp}
 use Rattle.smt_meaning.specs.Sorts.{Scope, Outcome, done, refused, Judging, ◌>>◌, return, declare, Typed, Variable, judge}
-use Rattle.smt_meaning.specs.StackCommand.{Change, declares, clears, begins_again, is_unsupported, judge_sort, judge_sorts, new_sort_name, new_function_name, declare_new_sort, declare_sort, define_sort, declare_function, judge_parameters, Bodied, apart, in_body, judge_body, define_function, require_room, in_assert, assert_term, in_question, judge_terms, judge_questions, ask_terms, stack_command}
+use Rattle.smt_meaning.specs.StackCommand.{Change, declares, sets, clears, begins_again, is_unsupported, judge_sort, judge_sorts, new_sort_name, new_function_name, declare_new_sort, declare_sort, define_sort, declare_function, judge_parameters, Bodied, apart, in_body, judge_body, define_function, require_room, in_assert, assert_term, in_question, judge_terms, judge_questions, ask_terms, assume_terms, stack_command}
 use Rattle.smt_meaning.specs.declared.commands.WrittenSort.{WrittenSort}
 use Rattle.smt_meaning.specs.declared.commands.WrittenSort.TheVariants.{Name, Applied}
 use Rattle.smt_meaning.specs.declared.commands.Parameter.{Parameter}
 use Rattle.smt_meaning.specs.declared.commands.Command.{Command}
-use Rattle.smt_meaning.specs.declared.commands.Command.TheVariants.{DeclareSort, DefineSort, DeclareConst, DeclareFun, DefineFun, Assert, Push, Pop, GetValue, ResetAssertions, Reset}
+use Rattle.smt_meaning.specs.declared.commands.Command.TheVariants.{SetOption, DeclareSort, DefineSort, DeclareConst, DeclareFun, DefineFun, Assert, CheckSatAssuming, Push, Pop, GetValue, ResetAssertions, Reset}
 use Rattle.smt_laws.proofs.Among.{Among, among_first, among_rest}
 use Rattle.smt_laws.proofs.Each.{Each}
 use Rattle.smt_laws.proofs.Shapes.{Small}
@@ -145,6 +145,13 @@ questions_give ts s g =
 ask_gives : (ts : List (List Token)) (s : Scope) → Good true s → Gives true s (ask_terms ts) Nothing
 ask_gives ts s g = bind_gives true s _ _ Nothing Nothing (questions_give ts s g) (λ terms t f e k. return_gives true t _ Nothing tt)
 
+assume_gives : (level : ℕ) (ts : List (List Token)) (s : Scope) → Good true s → Gives true s (assume_terms level ts) Nothing
+assume_gives level ts s g =
+    bind_gives true s _ _ Nothing Nothing (terms_give ts s g)
+    (λ terms t f e k. next_gives true t _ _ _ Nothing (require_gives true t _ _)
+    (λ a u d m l. next_gives true u _ _ _ Nothing (room_gives u)
+    (λ b v h i p. next_gives true v _ _ _ Nothing (require_gives true v _ _) (λ c w j o q. return_gives true w _ Nothing tt))))
+
 -- ---- each command
 
 abbrev pub KeepsIfSome : Option (ℕ → Judging Change) → Type 0
@@ -152,6 +159,7 @@ KeepsIfSome None = Unit {0}
 KeepsIfSome (Some m) = (level : ℕ) (s : Scope) → Good true s → Gives true s (m level) Nothing
 
 pub command_keeps : (c : Command) → KeepsIfSome (stack_command c)
+command_keeps (SetOption o) = λ level s g. return_gives true s (sets o) Nothing tt
 command_keeps (DeclareSort n arity) = λ level s g. declare_sort_gives n arity s
 command_keeps (DefineSort n ps x) = λ level s g. define_sort_gives n ps x s
 command_keeps (DeclareConst n x) = λ level s g. function_gives n [] x s
@@ -159,6 +167,7 @@ command_keeps (DeclareFun n ss x) = λ level s g. function_gives n ss x s
 command_keeps (DefineFun n ps x t) = λ level s g. defined_gives n ps x t s
 command_keeps (Assert t) = λ level s g. assert_gives t s g
 command_keeps (GetValue ts) = λ level s g. ask_gives ts s g
+command_keeps (CheckSatAssuming ts) = λ level s g. assume_gives level ts s g
 command_keeps (Push n) = λ level s g. next_gives true s _ _ _ Nothing (require_gives true s _ _) (λ a t f e k. return_gives true t _ Nothing tt)
 command_keeps (Pop n) = λ level s g. next_gives true s _ _ _ Nothing (require_gives true s _ _) (λ a t f e k. return_gives true t _ Nothing tt)
 command_keeps ResetAssertions = λ level s g. return_gives true s clears Nothing tt

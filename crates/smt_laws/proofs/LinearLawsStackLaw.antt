@@ -1,10 +1,10 @@
 -- Whatever commands come: the stack's trees are linear, and their numerals are in the range.
-use Rattle.std.proofs.Common.{ℕ, zero, suc, ◌-◌, List, [], ◌∷◌, take, drop, length, refl, true, Option, Some, None}
-use Rattle.std.specs.Prelude.{replicate}
+use Rattle.std.proofs.Common.{ℕ, zero, suc, ◌-◌, List, [], ◌∷◌, take, drop, length, refl, Bool, true, false, Option, Some, None}
+use Rattle.std.specs.Prelude.{replicate, filter, if◌then◌else◌}
 use Rattle.smt_meaning.specs.Declaration.{Declaration}
 use Rattle.smt_meaning.specs.Sorts.{Scope, Outcome, done, refused, Judging}
-use Rattle.smt_meaning.specs.Stack.{Frame, Assertion, signature_of, depth, on_top, pushed, empty_frame}
-use Rattle.smt_meaning.specs.StackCommand.{Stack, start, Change, declares, asserts, asks, pushes, pops, clears, begins_again, is_unsupported, stack_command, scope_of, judged, new_declarations, changed, after_outcome, after_command, after, after_all}
+use Rattle.smt_meaning.specs.Stack.{Frame, Assertion, signature_of, depth, on_top, at_base, with_declared, stays, base_of, cleared, pushed, empty_frame}
+use Rattle.smt_meaning.specs.StackCommand.{Stack, start, Change, declares, asserts, asks, assumes, sets, pushes, pops, clears, begins_again, is_unsupported, stack_command, scope_of, judged, new_declarations, changed, after_outcome, after_command, after, after_all}
 use Rattle.smt_meaning.specs.declared.commands.Command.{Command}
 use Rattle.smt_laws.specs.LinearLaws.{TreesAreLinear, NumeralsAreInRange}
 use Rattle.smt_laws.proofs.Each.{Each, each_all}
@@ -32,6 +32,24 @@ stand_on_top ds xs [] h k = tt
 stand_on_top ds xs (f ∷ []) h k = (all_stand_append f.declared ds h.0 k, tt)
 stand_on_top ds xs (f ∷ g ∷ frames) h k = (h.0, stand_on_top ds xs (g ∷ frames) h.1 k)
 
+stand_declared : (b : Bool) (ds : List Declaration) (frames : List Frame) → FramesStand frames → AllStand ds → FramesStand (with_declared b ds frames)
+stand_declared true ds [] h k = tt
+stand_declared true ds (f ∷ frames) h k = (all_stand_append f.declared ds h.0 k, h.1)
+stand_declared false ds frames h k = stand_on_top ds [] frames h k
+
+stand_filter : (ds : List Declaration) → AllStand ds → AllStand (filter stays ds)
+stand_filter [] h = tt
+stand_filter (d ∷ ds) h = by_cases (stays d)
+  where
+    by_cases : (b : Bool) → AllStand (if b then d ∷ filter stays ds else filter stays ds)
+    by_cases true = (h.0, stand_filter ds h.1)
+    by_cases false = stand_filter ds h.1
+
+stand_cleared : (b : Bool) (frames : List Frame) → FramesStand frames → FramesStand (cleared b frames)
+stand_cleared true [] h = (tt, tt)
+stand_cleared true (f ∷ frames) h = (stand_filter f.declared h.0, tt)
+stand_cleared false frames h = (tt, tt)
+
 stand_take : (k : ℕ) (frames : List Frame) → FramesStand frames → FramesStand (take k frames)
 stand_take zero frames h = tt
 stand_take (suc k) [] h = tt
@@ -55,21 +73,23 @@ record GoodStack (s : Stack) : Type 0 where
 good_scope : (s : Stack) → GoodStack s → Good true (scope_of s)
 good_scope s f = record { bodies = signature_stands s.frames f.bodies; small = f.small; linear = λ e. f.linear }
 
-grown : (s : Stack) (c : Scope) (xs : List Assertion) → GoodStack s → Good true c
-    → GoodStack (record { frames = on_top (new_declarations s c) xs s.frames; given = c.given; trees = c.trees })
-grown s c xs f g = record {
-  bodies = stand_on_top (new_declarations s c) xs s.frames f.bodies (drop_stands (length (signature_of s.frames)) c.signature g.bodies);
+changed_good : (s : Stack) (change : Change) (c : Scope) → GoodStack s → Good true c → GoodStack (changed s change c)
+changed_good s declares c f g = record {
+  bodies = stand_declared s.global (new_declarations s c) s.frames f.bodies (drop_stands (length (signature_of s.frames)) c.signature g.bodies);
   small = g.small;
   linear = g.linear refl;
 }
-
-changed_good : (s : Stack) (change : Change) (c : Scope) → GoodStack s → Good true c → GoodStack (changed s change c)
-changed_good s declares c f g = grown s c [] f g
-changed_good s (asserts a) c f g = grown s c (a ∷ []) f g
+changed_good s (asserts a) c f g = record {
+  bodies = stand_on_top (new_declarations s c) (a ∷ []) s.frames f.bodies (drop_stands (length (signature_of s.frames)) c.signature g.bodies);
+  small = g.small;
+  linear = g.linear refl;
+}
 changed_good s (pushes n) c f g = record { bodies = stand_pushed n s.frames f.bodies; small = f.small; linear = f.linear }
 changed_good s (pops n) c f g = record { bodies = stand_take (length s.frames - n) s.frames f.bodies; small = f.small; linear = f.linear }
 changed_good s (asks ts) c f g = record { bodies = f.bodies; small = g.small; linear = g.linear refl }
-changed_good s clears c f g = record { bodies = (tt, tt); small = f.small; linear = f.linear }
+changed_good s (assumes xs) c f g = record { bodies = f.bodies; small = g.small; linear = g.linear refl }
+changed_good s (sets o) c f g = record { bodies = f.bodies; small = f.small; linear = f.linear }
+changed_good s clears c f g = record { bodies = stand_cleared s.global s.frames f.bodies; small = f.small; linear = f.linear }
 changed_good s begins_again c f g = record { bodies = (tt, tt); small = tt; linear = tt }
 changed_good s is_unsupported c f g = f
 

@@ -8,7 +8,7 @@ use Rattle.smt_meaning.specs.Term.{Tree, Trees, node, none, more, tree_at}
 use Rattle.smt_meaning.specs.TreeShape.{tree_eq, is_among, place_of, with_tree, with_parts, with_all_parts}
 use Rattle.smt_meaning.specs.Parts.{IsPart, IsPartOfOne, IsOneOf, IsArgument, StandsBelow, AreInOrder}
 use Rattle.smt_meaning.specs.Sorts.{Scope, Outcome, done, refused, Judging, with_all}
-use Rattle.smt_meaning.specs.StackCommand.{Stack, start, Change, declares, asserts, asks, pushes, pops, clears, begins_again, is_unsupported, stack_command, scope_of, judged, changed, after_outcome, after_command, after, after_all}
+use Rattle.smt_meaning.specs.StackCommand.{Stack, start, Change, declares, asserts, asks, assumes, sets, pushes, pops, clears, begins_again, is_unsupported, stack_command, scope_of, judged, changed, after_outcome, after_command, after, after_all}
 use Rattle.smt_meaning.specs.Stack.{depth}
 use Rattle.smt_laws.proofs.Keeping.{Invariant, Kept, KeepsIfSome, command_keeps}
 use Rattle.smt_laws.proofs.SameTree.{found_again, tree_eq-true}
@@ -175,6 +175,8 @@ changed_ordered : (s : Stack) (change : Change) (c : Scope) → Ordered [] s.tre
 changed_ordered s declares c h k = k
 changed_ordered s (asserts a) c h k = k
 changed_ordered s (asks ts) c h k = k
+changed_ordered s (assumes xs) c h k = k
+changed_ordered s (sets o) c h k = h
 changed_ordered s (pushes n) c h k = h
 changed_ordered s (pops n) c h k = h
 changed_ordered s clears c h k = h

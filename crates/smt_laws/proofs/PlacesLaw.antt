@@ -1,5 +1,5 @@
 -- The sort of a tree whose parameters have sorts: it stays under a later signature, and when arguments are put in.
-use Rattle.std.proofs.Common.{◌≡◌, ℕ, zero, suc, List, [], ◌∷◌, ◌++◌, ap, sym, subst, ◌∙◌, refl, Bool, true, false, ◌&&◌, not, Option, Some, None, nat_eq, append_assoc, append-nil}
+use Rattle.std.proofs.Common.{◌≡◌, ℕ, zero, suc, List, [], ◌∷◌, ◌++◌, ap, sym, subst, ◌∙◌, refl, Bool, true, false, ◌&&◌, not, Option, Some, None, nat_eq, append-nil}
 use Rattle.std.specs.Prelude.{if◌then◌else◌}
 use Rattle.smt_meaning.specs.declared.values.Sort.{Sort}
 use Rattle.smt_meaning.specs.declared.terms.Head.{Head}
@@ -7,7 +7,8 @@ use Rattle.smt_meaning.specs.declared.terms.Head.TheVariants.{Numeral, Theory, S
 use Rattle.smt_meaning.specs.Declaration.{Declaration}
 use Rattle.smt_meaning.specs.Term.{Tree, Trees, node, none, more}
 use Rattle.smt_meaning.specs.TreeShape.{argument, put, put_all, put_at}
-use Rattle.smt_meaning.specs.Signature.{function_with_id, symbol_sort, head_sort, cons_sort, with_sorts, tree_sort, tree_sorts}
+use Rattle.smt_meaning.specs.Signature.{function_with_id, is_symbol, sorts_eq, symbol_sort, head_sort, cons_sort, with_sorts, tree_sort, tree_sorts}
+use Rattle.smt_laws.proofs.Both.{and_left}
 
 abbrev pub place_sort : List Sort → ℕ → Option Sort
 place_sort [] k = None
@@ -51,47 +52,63 @@ mutual
 
 -- ---- later signatures
 
+-- each declared function of the one is found again, by its id, in the other
 abbrev pub LaterThan : List Declaration → List Declaration → Type 0
-LaterThan ds es = (names : List Declaration) × (es ≡ ds ++ names)
+LaterThan ds es = (f : ℕ) (d : Declaration) → function_with_id f ds ≡ Some d → is_symbol d ≡ true → function_with_id f es ≡ Some d
 
 pub later_self : (ds : List Declaration) → LaterThan ds ds
-later_self ds = ([], sym (append-nil ds))
+later_self ds f d e s = e
 
 pub later_still : (ds es fs : List Declaration) → LaterThan ds es → LaterThan es fs → LaterThan ds fs
-later_still ds es fs h k = (h.0 ++ k.0, k.1 ∙ ap (λ xs. xs ++ k.0) h.1 ∙ append_assoc ds h.0 k.0)
+later_still ds es fs h k f d e s = k f d (h f d e s) s
 
-symbol_step : (d : Declaration) (o p : Option Declaration) (ss : List Sort) (s : Sort) (b : Bool) → (symbol_sort o ss ≡ Some s → symbol_sort p ss ≡ Some s)
-    → symbol_sort (if b then Some d else o) ss ≡ Some s → symbol_sort (if b then Some d else p) ss ≡ Some s
-symbol_step d o p ss s true h e = e
-symbol_step d o p ss s false h e = h e
+found_step : (x d : Declaration) (o p : Option Declaration) (b : Bool) → (o ≡ Some d → p ≡ Some d) → (if b then Some x else o) ≡ Some d → (if b then Some x else p) ≡ Some d
+found_step x d o p true h e = e
+found_step x d o p false h e = h e
 
-symbol_later : (f : ℕ) (ds es : List Declaration) (ss : List Sort) (s : Sort) → symbol_sort (function_with_id f ds) ss ≡ Some s → symbol_sort (function_with_id f (ds ++ es)) ss ≡ Some s
-symbol_later f [] es ss s e = absurd (cc)
-symbol_later f (d ∷ ds) es ss s e =
-    symbol_step d (function_with_id f ds) (function_with_id f (ds ++ es)) ss s (nat_eq f d.id && not d.is_sort) (symbol_later f ds es ss s) e
+-- behind others
+pub later_front : (ys ds es : List Declaration) → LaterThan ds es → LaterThan (ys ++ ds) (ys ++ es)
+later_front [] ds es l f d e s = l f d e s
+later_front (y ∷ ys) ds es l f d e s =
+    found_step y d (function_with_id f (ys ++ ds)) (function_with_id f (ys ++ es)) (nat_eq f y.id && not y.is_sort) (λ k. later_front ys ds es l f d k s) e
 
-head_later : (ds es : List Declaration) (ps : List Sort) (h : Head) (ss : List Sort) (s : Sort) → head_at ds ps h ss ≡ Some s → head_at (ds ++ es) ps h ss ≡ Some s
-head_later ds es ps (Numeral n) [] s e = e
-head_later ds es ps (Numeral n) (x ∷ xs) s e = e
-head_later ds es ps (Theory o) ss s e = e
-head_later ds es ps (Symbol f) ss s e = symbol_later f ds es ss s e
-head_later ds es ps (Place k) ss s e = e
+nothing_later : (es : List Declaration) → LaterThan [] es
+nothing_later es f d e s = absurd (cc)
+
+-- more stand behind
+pub later_more : (ds es : List Declaration) → LaterThan ds (ds ++ es)
+later_more ds es = subst (λ xs. LaterThan xs (ds ++ es)) (append-nil ds) (later_front ds [] es (nothing_later es))
+
+true_if : (b : Bool) (r s : Sort) → (if b then Some r else None) ≡ Some s → b ≡ true
+true_if true r s e = refl
+true_if false r s e = absurd (cc)
+
+has_symbol : (d : Declaration) (ss : List Sort) (s : Sort) → symbol_sort (Some d) ss ≡ Some s → is_symbol d ≡ true
+has_symbol d ss s e = and_left (is_symbol d) (sorts_eq ss d.rank.arguments) (true_if (is_symbol d && sorts_eq ss d.rank.arguments) d.rank.result s e)
+
+symbol_later : (f : ℕ) (ds es : List Declaration) (ss : List Sort) (s : Sort) → LaterThan ds es → symbol_sort (function_with_id f ds) ss ≡ Some s → symbol_sort (function_with_id f es) ss ≡ Some s
+symbol_later f ds es ss s l e = go (function_with_id f ds) refl e
+  where
+    go : (o : Option Declaration) → function_with_id f ds ≡ o → symbol_sort o ss ≡ Some s → symbol_sort (function_with_id f es) ss ≡ Some s
+    go None p q = absurd (cc)
+    go (Some d) p q = subst (λ o. symbol_sort o ss ≡ Some s) (sym (l f d p (has_symbol d ss s q))) q
+
+head_later : (ds es : List Declaration) (ps : List Sort) (h : Head) (ss : List Sort) (s : Sort) → LaterThan ds es → head_at ds ps h ss ≡ Some s → head_at es ps h ss ≡ Some s
+head_later ds es ps (Numeral n) [] s l e = e
+head_later ds es ps (Numeral n) (x ∷ xs) s l e = e
+head_later ds es ps (Theory o) ss s l e = e
+head_later ds es ps (Symbol f) ss s l e = symbol_later f ds es ss s l e
+head_later ds es ps (Place k) ss s l e = e
 
 mutual
-  sort_after : (ds es : List Declaration) (ps : List Sort) (t : Tree) (s : Sort) → HasSort ds ps t s → HasSort (ds ++ es) ps t s
-  sort_after ds es ps (node h us) s w = (w.0, (sorts_after ds es ps us w.0 w.1.0, head_later ds es ps h w.0 s w.1.1))
+  pub sort_later : (ds es : List Declaration) (ps : List Sort) (t : Tree) (s : Sort) → LaterThan ds es → HasSort ds ps t s → HasSort es ps t s
+  sort_later ds es ps (node h us) s l w = (w.0, (sorts_later ds es ps us w.0 l w.1.0, head_later ds es ps h w.0 s l w.1.1))
 
-  sorts_after : (ds es : List Declaration) (ps : List Sort) (us : Trees) (ss : List Sort) → HaveSorts ds ps us ss → HaveSorts (ds ++ es) ps us ss
-  sorts_after ds es ps none [] w = tt
-  sorts_after ds es ps none (s ∷ ss) w = w
-  sorts_after ds es ps (more u us) [] w = w
-  sorts_after ds es ps (more u us) (s ∷ ss) w = (sort_after ds es ps u s w.0, sorts_after ds es ps us ss w.1)
-
-pub sort_later : (ds es : List Declaration) (ps : List Sort) (t : Tree) (s : Sort) → LaterThan ds es → HasSort ds ps t s → HasSort es ps t s
-sort_later ds es ps t s l w = subst (λ fs. HasSort fs ps t s) (sym l.1) (sort_after ds l.0 ps t s w)
-
-pub sorts_later : (ds es : List Declaration) (ps : List Sort) (us : Trees) (ss : List Sort) → LaterThan ds es → HaveSorts ds ps us ss → HaveSorts es ps us ss
-sorts_later ds es ps us ss l w = subst (λ fs. HaveSorts fs ps us ss) (sym l.1) (sorts_after ds l.0 ps us ss w)
+  pub sorts_later : (ds es : List Declaration) (ps : List Sort) (us : Trees) (ss : List Sort) → LaterThan ds es → HaveSorts ds ps us ss → HaveSorts es ps us ss
+  sorts_later ds es ps none [] l w = tt
+  sorts_later ds es ps none (s ∷ ss) l w = w
+  sorts_later ds es ps (more u us) [] l w = w
+  sorts_later ds es ps (more u us) (s ∷ ss) l w = (sort_later ds es ps u s l w.0, sorts_later ds es ps us ss l w.1)
 
 -- ---- arguments put in
 

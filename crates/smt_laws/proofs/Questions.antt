@@ -6,7 +6,7 @@ use Rattle.smt_meaning.specs.declared.tokens.Token.{Token}
 use Rattle.smt_meaning.specs.declared.tokens.Token.TheVariants.{Numeral, Symbol, Reserved, Keyword}
 use Rattle.smt_meaning.specs.declared.tokens.Word.TheVariants.{Exclamation, Let}
 use Rattle.smt_meaning.specs.Sexp.{Sexp, Sexps, word, group, end, ◌▸◌}
-use Rattle.smt_meaning.specs.Sorts.{Scope, Outcome, done, refused, Judging, go_on, ◌>>=◌, ◌>>◌, return, refuse, require, the_scope, Typed, Variable, Known, variable, operator, function, unknown, known, can_be_applied, judge_application, judge_bare, judge_token, head_number, judge_head, judge_divisible, check_bindings, bound_names, has_free, variable_names, name_by, judge_attributes, either, judge, judge_all, judge_bindings}
+use Rattle.smt_meaning.specs.Sorts.{Scope, Outcome, done, refused, Judging, go_on, ◌>>=◌, ◌>>◌, return, refuse, require, the_scope, Typed, Variable, Known, variable, operator, function, unknown, known, can_be_applied, judge_application, judge_bare, judge_token, check_bindings, bound_names, has_free, variable_names, name_by, judge_attributes, either, judge, judge_all, judge_bindings}
 use Rattle.smt_meaning.specs.StackCommand.{in_assert, in_question}
 use Rattle.smt_laws.specs.TermLaws.{QuestionsAreAssertions}
 
@@ -86,11 +86,6 @@ application_same n unknown ts = self _
 application_same n (operator o) ts = self _
 application_same n (function d) ts = self _
 
-divisible_same : (n : ℕ) (ts : List Typed) → Same (judge_divisible in_question n ts) (judge_divisible in_assert n ts)
-divisible_same n [] = self _
-divisible_same n (a ∷ []) = self _
-divisible_same n (a ∷ b ∷ ts) = self _
-
 token_same : (vs : List Variable) (t : Token) → Same (judge_token in_question vs t) (judge_token in_assert vs t)
 token_same vs (Symbol n) = bind_same (self the_scope) (λ s. bare_same n (known vs n s))
 token_same vs (Numeral cs) = self _
@@ -108,7 +103,6 @@ mutual
   judge_same vs (group (word (Reserved w) ▸ _)) = self _
   judge_same vs (group (word (Symbol n) ▸ ss)) =
       bind_same (self the_scope) (λ s. next_same (self (can_be_applied n (known vs n s))) (bind_same (all_same vs ss) (application_same n (known vs n s))))
-  judge_same vs (group (group hs ▸ ss)) = bind_same (self (judge_head (head_number hs))) (λ n. bind_same (all_same vs ss) (divisible_same n))
   judge_same vs (group _) = self _
 
   all_same : (vs : List Variable) (ss : Sexps) → Same (judge_all in_question vs ss) (judge_all in_assert vs ss)

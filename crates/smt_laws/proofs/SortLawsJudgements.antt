@@ -9,101 +9,128 @@ use Rattle.smt_laws.proofs.Among.{Among, kept_with_all, among_with_all}
 use Rattle.smt_laws.proofs.PlacesLaw.{HasSort, LaterThan, later_self, later_still, sort_later}
 use Rattle.smt_laws.proofs.Signatures.{Usable, Good, good_more}
 
--- the signature only grows, and not at all where nothing may be named; the trees stay
-pub record After (naming : Bool) (s t : Scope) : Type 0 where
-  pub later : LaterThan s.signature t.signature
+-- what a judgement may declare: nothing where nothing may be named, else names of terms
+abbrev pub Naming : Bool → Declaration → Type 0
+Naming true d = is_symbol d ≡ false
+Naming false d = ⊥
+
+-- the signature only grows at its end, by what may be declared; the trees stay
+pub record After (may : Declaration → Type 0) (s t : Scope) : Type 0 where
+  pub names : List Declaration
+  pub behind : t.signature ≡ s.signature ++ names
+  pub allowed : All may names
   pub kept : (u : Tree) → Among u s.trees → Among u t.trees
-  pub same : naming ≡ false → t.signature ≡ s.signature
+  pub later : LaterThan s.signature t.signature
 
-pub after_self : (b : Bool) (s : Scope) → After b s s
-after_self b s = record { later = later_self s.signature; kept = λ u h. h; same = λ e. refl }
-
-pub after_still : (b : Bool) (s t u : Scope) → After b s t → After b t u → After b s u
-after_still b s t u h k = record {
-  later = later_still s.signature t.signature u.signature h.later k.later;
-  kept = λ x m. k.kept x (h.kept x m);
-  same = λ e. k.same e ∙ h.same e;
+pub grows : (may : Declaration → Type 0) (s t : Scope) (names : List Declaration) → t.signature ≡ s.signature ++ names → All may names
+    → ((u : Tree) → Among u s.trees → Among u t.trees) → After may s t
+grows may s t names e all kept = record {
+  names = names;
+  behind = e;
+  allowed = all;
+  kept = kept;
+  later = subst (LaterThan s.signature) (sym e) (later_more s.signature names);
 }
 
-abbrev pub Ends : {A : Type 0} → Bool → Scope → (A → Scope → Type 0) → Outcome A → Type 0
-Ends b s P (done a t) = (Good t.given t.signature × After b s t) × P a t
-Ends b s P (refused r) = Unit {0}
+pub after_self : (may : Declaration → Type 0) (s : Scope) → After may s s
+after_self may s = grows may s s [] (sym (append-nil s.signature)) (All-nil may) (λ u h. h)
 
-pub record Gives {A : Type 0} (b : Bool) (s : Scope) (m : Judging A) (P : A → Scope → Type 0) : Type 0 where
-  pub gives : Good s.given s.signature → Ends b s P (m s)
+pub after_still : (may : Declaration → Type 0) (s t u : Scope) → After may s t → After may t u → After may s u
+after_still may s t u h k =
+    grows may s u (h.names ++ k.names) (k.behind ∙ ap (λ ds. ds ++ k.names) h.behind ∙ append_assoc s.signature h.names k.names)
+    (All-append may h.names k.names h.allowed k.allowed) (λ x m. k.kept x (h.kept x m))
+
+-- more may be declared
+pub after_wider : (may might : Declaration → Type 0) (s t : Scope) → ((d : Declaration) → may d → might d) → After may s t → After might s t
+after_wider may might s t w h = grows might s t h.names h.behind (All-weaker may might w h.names h.allowed) h.kept
+
+-- where nothing may be declared the signature stays
+pub nothing_more : (s t : Scope) → After (Naming false) s t → t.signature ≡ s.signature
+nothing_more s t h = go h.names h.behind h.allowed
+  where
+    go : (names : List Declaration) → t.signature ≡ s.signature ++ names → All (Naming false) names → t.signature ≡ s.signature
+    go [] e a = e ∙ append-nil s.signature
+    go (d ∷ names) e a = absurd (All-head (Naming false) d names a)
+
+abbrev pub Ends : {A : Type 0} → (Declaration → Type 0) → Scope → (A → Scope → Type 0) → Outcome A → Type 0
+Ends may s P (done a t) = (Good t.given t.signature × After may s t) × P a t
+Ends may s P (refused r) = Unit {0}
+
+pub record Gives {A : Type 0} (may : Declaration → Type 0) (s : Scope) (m : Judging A) (P : A → Scope → Type 0) : Type 0 where
+  pub gives : Good s.given s.signature → Ends may s P (m s)
 
 abbrev pub Nothing : {A : Type 0} → A → Scope → Type 0
 Nothing a t = Unit {0}
 
-further : {B : Type 0} (b : Bool) (s t : Scope) (Q : B → Scope → Type 0) → After b s t → (y : Outcome B) → Ends b t Q y → Ends b s Q y
-further b s t Q e (done a u) w = ((w.0.0, after_still b s t u e w.0.1), w.1)
-further b s t Q e (refused r) w = tt
+further : {B : Type 0} (may : Declaration → Type 0) (s t : Scope) (Q : B → Scope → Type 0) → After may s t → (y : Outcome B) → Ends may t Q y → Ends may s Q y
+further may s t Q e (done a u) w = ((w.0.0, after_still may s t u e w.0.1), w.1)
+further may s t Q e (refused r) w = tt
 
-after_go_on : {A B : Type 0} (b : Bool) (s : Scope) (P : A → Scope → Type 0) (Q : B → Scope → Type 0) (x : Outcome A) (k : A → Judging B) → Ends b s P x
-    → ((a : A) (t : Scope) → Good t.given t.signature → After b s t → P a t → Gives b t (k a) Q) → Ends b s Q (go_on x k)
-after_go_on b s P Q (done a t) k h g = further b s t Q h.0.1 (k a t) ((g a t h.0.0 h.0.1 h.1).gives h.0.0)
-after_go_on b s P Q (refused r) k h g = tt
+after_go_on : {A B : Type 0} (may : Declaration → Type 0) (s : Scope) (P : A → Scope → Type 0) (Q : B → Scope → Type 0) (x : Outcome A) (k : A → Judging B) → Ends may s P x
+    → ((a : A) (t : Scope) → Good t.given t.signature → After may s t → P a t → Gives may t (k a) Q) → Ends may s Q (go_on x k)
+after_go_on may s P Q (done a t) k h g = further may s t Q h.0.1 (k a t) ((g a t h.0.0 h.0.1 h.1).gives h.0.0)
+after_go_on may s P Q (refused r) k h g = tt
 
-pub bind_gives : {A B : Type 0} (b : Bool) (s : Scope) (m : Judging A) (k : A → Judging B) (P : A → Scope → Type 0) (Q : B → Scope → Type 0)
-    → Gives b s m P → ((a : A) (t : Scope) → Good t.given t.signature → After b s t → P a t → Gives b t (k a) Q) → Gives b s (m >>= k) Q
+pub bind_gives : {A B : Type 0} (may : Declaration → Type 0) (s : Scope) (m : Judging A) (k : A → Judging B) (P : A → Scope → Type 0) (Q : B → Scope → Type 0)
+    → Gives may s m P → ((a : A) (t : Scope) → Good t.given t.signature → After may s t → P a t → Gives may t (k a) Q) → Gives may s (m >>= k) Q
 unfolding ◌>>=◌
-bind_gives b s m k P Q h g = record { gives = λ f. after_go_on b s P Q (m s) k (h.gives f) g }
+bind_gives may s m k P Q h g = record { gives = λ f. after_go_on may s P Q (m s) k (h.gives f) g }
 
-pub next_gives : {A B : Type 0} (b : Bool) (s : Scope) (m : Judging A) (n : Judging B) (P : A → Scope → Type 0) (Q : B → Scope → Type 0)
-    → Gives b s m P → ((a : A) (t : Scope) → Good t.given t.signature → After b s t → P a t → Gives b t n Q) → Gives b s (m >> n) Q
+pub next_gives : {A B : Type 0} (may : Declaration → Type 0) (s : Scope) (m : Judging A) (n : Judging B) (P : A → Scope → Type 0) (Q : B → Scope → Type 0)
+    → Gives may s m P → ((a : A) (t : Scope) → Good t.given t.signature → After may s t → P a t → Gives may t n Q) → Gives may s (m >> n) Q
 unfolding ◌>>◌
-next_gives b s m n P Q h g = record { gives = λ f. after_go_on b s P Q (m s) (λ a. n) (h.gives f) g }
+next_gives may s m n P Q h g = record { gives = λ f. after_go_on may s P Q (m s) (λ a. n) (h.gives f) g }
 
-pub return_gives : {A : Type 0} (b : Bool) (s : Scope) (a : A) (P : A → Scope → Type 0) → P a s → Gives b s (return a) P
+pub return_gives : {A : Type 0} (may : Declaration → Type 0) (s : Scope) (a : A) (P : A → Scope → Type 0) → P a s → Gives may s (return a) P
 unfolding return
-return_gives b s a P h = record { gives = λ f. ((f, after_self b s), h) }
+return_gives may s a P h = record { gives = λ f. ((f, after_self may s), h) }
 
-pub refuse_gives : {A : Type 0} (b : Bool) (s : Scope) (r : Refusal) (P : A → Scope → Type 0) → Gives b s (refuse r) P
+pub refuse_gives : {A : Type 0} (may : Declaration → Type 0) (s : Scope) (r : Refusal) (P : A → Scope → Type 0) → Gives may s (refuse r) P
 unfolding refuse
-refuse_gives b s r P = record { gives = λ f. tt }
+refuse_gives may s r P = record { gives = λ f. tt }
 
-pub require_gives : (b : Bool) (s : Scope) (c : Bool) (r : Refusal) → Gives b s (require c r) (λ a t. c ≡ true)
+pub require_gives : (may : Declaration → Type 0) (s : Scope) (c : Bool) (r : Refusal) → Gives may s (require c r) (λ a t. c ≡ true)
 unfolding require return refuse
-require_gives b s c r = by_cases c
+require_gives may s c r = by_cases c
   where
-    by_cases : (d : Bool) → Gives b s (require d r) (λ a t. d ≡ true)
-    by_cases true = record { gives = λ f. ((f, after_self b s), refl) }
+    by_cases : (d : Bool) → Gives may s (require d r) (λ a t. d ≡ true)
+    by_cases true = record { gives = λ f. ((f, after_self may s), refl) }
     by_cases false = record { gives = λ f. tt }
 
-pub required_gives : {A : Type 0} (b : Bool) (s : Scope) (o : Option A) (r : Refusal) → Gives b s (required o r) (λ a t. o ≡ Some a)
+pub required_gives : {A : Type 0} (may : Declaration → Type 0) (s : Scope) (o : Option A) (r : Refusal) → Gives may s (required o r) (λ a t. o ≡ Some a)
 unfolding required return refuse
-required_gives b s None r = record { gives = λ f. tt }
-required_gives b s (Some a) r = record { gives = λ f. ((f, after_self b s), refl) }
+required_gives may s None r = record { gives = λ f. tt }
+required_gives may s (Some a) r = record { gives = λ f. ((f, after_self may s), refl) }
 
-pub scope_then : {A : Type 0} (b : Bool) (s : Scope) (k : Scope → Judging A) (P : A → Scope → Type 0) → Gives b s (k s) P → Gives b s (the_scope >>= k) P
+pub scope_then : {A : Type 0} (may : Declaration → Type 0) (s : Scope) (k : Scope → Judging A) (P : A → Scope → Type 0) → Gives may s (k s) P → Gives may s (the_scope >>= k) P
 unfolding ◌>>=◌ the_scope
-scope_then b s k P h = record { gives = h.gives }
+scope_then may s k P h = record { gives = h.gives }
 
 -- a term's tree has its sort, and stands among the trees
 abbrev pub Fine : List Sort → Typed → Scope → Type 0
 Fine ps a t = HasSort t.signature ps a.tree a.sort × Among a.tree t.trees
 
-pub fine_after : (b : Bool) (ps : List Sort) (a : Typed) (s t : Scope) → After b s t → Fine ps a s → Fine ps a t
-fine_after b ps a s t e h = (sort_later s.signature t.signature ps a.tree a.sort e.later h.0, e.kept a.tree h.1)
+pub fine_after : (may : Declaration → Type 0) (ps : List Sort) (a : Typed) (s t : Scope) → After may s t → Fine ps a s → Fine ps a t
+fine_after may ps a s t e h = (sort_later s.signature t.signature ps a.tree a.sort e.later h.0, e.kept a.tree h.1)
 
-pub note_found : (b : Bool) (ps : List Sort) (s : Scope) (us : List Tree) (u : Tree) (x : Sort) → HasSort s.signature ps u x → Among u us → Gives b s (note us >> found u x) (Fine ps)
+pub note_found : (may : Declaration → Type 0) (ps : List Sort) (s : Scope) (us : List Tree) (u : Tree) (x : Sort) → HasSort s.signature ps u x → Among u us → Gives may s (note us >> found u x) (Fine ps)
 unfolding ◌>>◌ note found
-note_found b ps s us u x h m = record {
+note_found may ps s us u x h m = record {
   gives = λ f. (
     (f, record { later = later_self s.signature; kept = λ y k. kept_with_all y s.trees us k; same = λ e. refl }),
     (h, among_with_all u s.trees us m),
   );
 }
 
-pub declare_gives : (b : Bool) (s : Scope) (d : ℕ → Declaration) → b ≡ true → ((n : ℕ) → (d n).id ≡ n)
-    → ((n : ℕ) → All (λ (e : Declaration). e.id < n) s.signature → (d n).is_sort ≡ false → Usable (s.signature ++ d n ∷ []) (d n)) → Gives b s (declare d) Nothing
+pub declare_gives : (may : Declaration → Type 0) (s : Scope) (d : ℕ → Declaration) → b ≡ true → ((n : ℕ) → (d n).id ≡ n)
+    → ((n : ℕ) → All (λ (e : Declaration). e.id < n) s.signature → (d n).is_sort ≡ false → Usable (s.signature ++ d n ∷ []) (d n)) → Gives may s (declare d) Nothing
 unfolding declare
-declare_gives b s d may own u = record { gives = λ f. go f (nat_lt s.given most_symbols) }
+declare_gives may s d may own u = record { gives = λ f. go f (nat_lt s.given most_symbols) }
   where
     no : true ≡ false → s.signature ++ d s.given ∷ [] ≡ s.signature
     no e = absurd (cc)
 
-    go : Good s.given s.signature → (c : Bool) → Ends b s Nothing (declare_in (d s.given) c s)
+    go : Good s.given s.signature → (c : Bool) → Ends may s Nothing (declare_in (d s.given) c s)
     go f true = (
       (
         good_more s.given s.signature (d s.given) (own s.given) f (u s.given f.below),
@@ -113,9 +140,9 @@ declare_gives b s d may own u = record { gives = λ f. go f (nat_lt s.given most
     )
     go f false = tt
 
-pub weaken : {A : Type 0} (b : Bool) (s : Scope) (m : Judging A) (P Q : A → Scope → Type 0) → ((a : A) (t : Scope) → After b s t → P a t → Q a t) → Gives b s m P → Gives b s m Q
+pub weaken : {A : Type 0} (may : Declaration → Type 0) (s : Scope) (m : Judging A) (P Q : A → Scope → Type 0) → ((a : A) (t : Scope) → After may s t → P a t → Q a t) → Gives may s m P → Gives may s m Q
 weaken {A} b s m P Q f h = record { gives = λ g. go (m s) (h.gives g) }
   where
-    go : (x : Outcome A) → Ends b s P x → Ends b s Q x
+    go : (x : Outcome A) → Ends may s P x → Ends may s Q x
     go (done a t) k = (k.0, f a t k.0.1 k.1)
     go (refused r) k = tt

@@ -1,5 +1,5 @@
 -- Laws of what follows from a stack, of linear forms and of normal bounds.
-use Rattle.std.specs.Prelude.{◌≡◌, ℕ, ◌+◌, ◌<◌, ◌≤◌, max, List, [], ◌∷◌, ◌++◌, length, ℤ, int_le, IsTrue, All, true, false, Some}
+use Rattle.std.specs.Prelude.{◌≡◌, ℕ, ◌+◌, ◌<◌, ◌≤◌, max, List, [], ◌∷◌, ◌++◌, length, Bool, ℤ, int_le, IsTrue, All, true, false, Some}
 use Rattle.smt_meaning.specs.Declaration.{Declaration}
 use Rattle.smt_meaning.specs.declared.clauses.Summand.{Summand}
 use Rattle.smt_meaning.specs.declared.clauses.Atom.{Atom}
@@ -9,7 +9,7 @@ use Rattle.smt_meaning.specs.Term.{Tree, none, tree_at, Interpretation, value, n
 use Rattle.smt_meaning.specs.TreeShape.{is_linear, is_among, place_of, with_parts}
 use Rattle.smt_meaning.specs.Signature.{tree_sort}
 use Rattle.smt_meaning.specs.Sorts.{Typed, name_declaration, applied, applied_trees}
-use Rattle.smt_meaning.specs.Stack.{Frame, Assertion, HasNoModel, on_top, pushed, popped}
+use Rattle.smt_meaning.specs.Stack.{Frame, Assertion, HasNoModel, on_top, with_declared, pushed, popped}
 use Rattle.smt_meaning.specs.Clause.{atom_true, sum_value}
 use Rattle.smt_meaning.specs.Follows.{Follows}
 use Rattle.smt_meaning.specs.Linear.{form_value, linear_form, leaves}
@@ -26,6 +26,11 @@ StillFollowsAfterPush =
 abbrev pub StillFollowsAfterMore : Type 0
 StillFollowsAfterMore =
     (ts : List Tree) (frames : List Frame) (l : ℕ) (c : Clause) (ds : List Declaration) (xs : List Assertion) → Follows ts frames l c → Follows ts (on_top ds xs frames) l c
+
+-- after declarations, which level 0 gains where they are global
+abbrev pub StillFollowsAfterDeclared : Type 0
+StillFollowsAfterDeclared =
+    (ts : List Tree) (frames : List Frame) (l : ℕ) (c : Clause) (global : Bool) (ds : List Declaration) → Follows ts frames l c → Follows ts (with_declared global ds frames) l c
 
 -- after a pop that leaves its level
 abbrev pub StillFollowsAfterPop : Type 0

@@ -1,5 +1,5 @@
 //! Laws of what follows from a stack, of linear forms, of normal bounds and of places in lists of trees, each as the contract of a function that does nothing.
-ghost use Rattle.smt_laws.specs.ClauseLaws.{EmptyClauseShowsNoModel, LinearFormHasValue, NameStandsForTerm, NormalBoundHasValue, ResolventFollows, StillFollowsAbove, StillFollowsAfterMore, StillFollowsAfterPop, StillFollowsAfterPush, StillFollowsWithTrees, TreeIsFoundAgain};
+ghost use Rattle.smt_laws.specs.ClauseLaws.{EmptyClauseShowsNoModel, LinearFormHasValue, NameStandsForTerm, NormalBoundHasValue, ResolventFollows, StillFollowsAbove, StillFollowsAfterDeclared, StillFollowsAfterMore, StillFollowsAfterPop, StillFollowsAfterPush, StillFollowsWithTrees, TreeIsFoundAgain};
 
 /// A clause that follows at a level still follows there after pushes.
 pub fn still_follows_after_push()
@@ -9,6 +9,11 @@ pub fn still_follows_after_push()
 /// A clause that follows still follows after declarations and assertions.
 pub fn still_follows_after_more()
     ensures { StillFollowsAfterMore }
+{}
+
+/// A clause that follows still follows after declarations, also where they are global and level 0 gains them.
+pub fn still_follows_after_declared()
+    ensures { StillFollowsAfterDeclared }
 {}
 
 /// A clause that follows at a level still follows there after a pop that leaves the level.

@@ -53,9 +53,9 @@ mod walk;
 
 pub use clauses::{
     empty_clause_shows_no_model, linear_form_has_value, name_stands_for_term,
-    normal_bound_has_value, resolvent_follows, still_follows_above, still_follows_after_more,
-    still_follows_after_pop, still_follows_after_push, still_follows_with_trees,
-    tree_is_found_again,
+    normal_bound_has_value, resolvent_follows, still_follows_above, still_follows_after_declared,
+    still_follows_after_more, still_follows_after_pop, still_follows_after_push,
+    still_follows_with_trees, tree_is_found_again,
 };
 pub use flat::flat_says_the_same;
 pub use language::{
