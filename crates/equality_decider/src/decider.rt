@@ -35,6 +35,8 @@ impl Decider for Alone {
     ) -> Result<Verdict, AllocError> {
         check(alloc, Keeping::All, stack, settings)
     }
+
+    fn cut_to(&mut self, _level: i32) {}
 }
 
 /// Decides the same checks by the same search, which without a limit of units forgets learnt clauses of more than 8 literals that it doesn't use.
@@ -58,6 +60,8 @@ impl Decider for Forgetful {
     ) -> Result<Verdict, AllocError> {
         check(alloc, Keeping::Used, stack, settings)
     }
+
+    fn cut_to(&mut self, _level: i32) {}
 }
 
 /// Numbers the atoms of the stack, and searches from its first clauses on.

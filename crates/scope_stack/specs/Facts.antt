@@ -1,5 +1,5 @@
 -- What is kept beside the terms of a stack, by their places.
-use Rattle.std.specs.Prelude.{◌≡◌, ℕ, ◌<◌, ◌≤◌, max, List, [], ◌∷◌, map, length, All, Contains, Some, slice_index, slice_index_or}
+use Rattle.std.specs.Prelude.{◌≡◌, ℕ, ◌<◌, ◌≤◌, max, Bool, List, [], ◌∷◌, map, length, All, Contains, Some, slice_index, slice_index_or}
 use Rattle.smt_meaning.specs.declared.values.Sort.{Sort}
 use Rattle.smt_meaning.specs.declared.values.Sort.TheVariants.{Bool as Truths, Int as Ints}
 use Rattle.smt_meaning.specs.declared.terms.Operator.{Operator}
@@ -78,7 +78,7 @@ pub record HaveLevels (t : Names) (trees : List Tree) (count : ℕ) (levels : Li
 -- ---- beside a stack
 
 -- the sorts and the levels of all terms are kept
-pub record IsKept (t : Names) (store : Terms) (xss : List (List Assertion)) (rs : List Sort) (ls : List ℕ) : Type 0 where
-  pub stack : IsStack t store xss
+pub record IsKept (g : Bool) (t : Names) (store : Terms) (xss : List (List Assertion)) (rs : List Sort) (ls : List ℕ) : Type 0 where
+  pub stack : IsStack g t store xss
   pub facts : AreFacts t store.trees (length store.trees) rs
   pub levels : HaveLevels t store.trees (length store.trees) ls

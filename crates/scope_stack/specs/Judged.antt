@@ -1,5 +1,5 @@
 -- What judging comes to in code: a value, or an error that is the refusal.
-use Rattle.std.specs.Prelude.{◌≡◌, ℕ, ◌<◌, List, [], ◌∷◌, ◌++◌, length, All, true, Result, Ok, Err}
+use Rattle.std.specs.Prelude.{◌≡◌, ℕ, ◌<◌, List, [], ◌∷◌, ◌++◌, map, length, All, Bool, true, false, Result, Ok, Err}
 use Rattle.elaborate.specs.declared.error.JudgeError.{JudgeError}
 use Rattle.elaborate.specs.declared.error.JudgeError.TheVariants.{Refused as TermRefused, Memory as NoRoom}
 use Rattle.elaborate.specs.declared.Parameter.{Parameter}
@@ -11,17 +11,19 @@ use Rattle.smt_meaning.specs.declared.commands.WrittenSort.{WrittenSort}
 use Rattle.smt_meaning.specs.declared.commands.Parameter.{Parameter as WrittenParameter}
 use Rattle.smt_meaning.specs.declared.refusals.Refusal.{Refusal}
 use Rattle.smt_meaning.specs.declared.refusals.Refusal.TheVariants.{ReservedName, AlreadyDeclared as DeclaredBefore, SortsDiffer, TooManySymbols, TooManyTerms}
-use Rattle.smt_meaning.specs.Declaration.{Body}
+use Rattle.smt_meaning.specs.Declaration.{Declaration, Body}
 use Rattle.smt_meaning.specs.Term.{Tree}
 use Rattle.smt_meaning.specs.Signature.{sort_eq}
 use Rattle.smt_meaning.specs.Sorts.{Scope, Outcome, done, refused, Judging, go_on, ◌>>=◌, ◌>>◌, return, require, Variable, not_before}
-use Rattle.smt_meaning.specs.StackCommand.{Change, declares, asks, is_unsupported, most_terms, judge_sort, judge_sorts, judge_parameters, judge_body, judge_terms, ask_terms}
+use Rattle.smt_meaning.specs.StackCommand.{Change, declares, asks, assumes, is_unsupported, most_terms, assume_terms, judge_sort, judge_sorts, judge_parameters, judge_body, judge_terms, ask_terms}
 use Rattle.smt_sorts.specs.declared.errors.NameError.{NameError}
 use Rattle.smt_sorts.specs.declared.errors.NameError.TheVariants.{Reserved, AlreadyDeclared}
 use Rattle.smt_sorts.specs.declared.errors.AddError.{AddError}
 use Rattle.smt_sorts.specs.declared.errors.AddError.TheVariants.{TooManySymbols as TooMany, Memory as NoMemory}
-use Rattle.smt_sorts.specs.Names.{Names, signature, HasGained}
+use Rattle.smt_sorts.specs.Names.{Names, signature, with_declaration, IsTable, HasGained}
 use Rattle.scope_stack.specs.declared.answers.Asked.{Asked}
+use Rattle.scope_stack.specs.declared.answers.Assertion.{Assertion}
+use Rattle.scope_stack.specs.Inside.{asserted_by, IsWithin}
 use Rattle.scope_stack.specs.declared.answers.Carried.{Carried}
 use Rattle.scope_stack.specs.declared.answers.Carried.TheVariants.{Done, Unsupported}
 use Rattle.scope_stack.specs.declared.answers.StackError.{StackError}
@@ -66,9 +68,16 @@ Causes m t e = (ts : List Tree) → IsCause e (m (scope_by t ts))
 abbrev pub Adds : {A : Type 0} → Judging A → Names → A → Names → Type 0
 Adds m old a new = (ts : List Tree) → m (scope_by old ts) ≡ done a (scope_by new ts)
 
-pub record HasDeclared (m : Judging Change) (old new : Names) : Type 0 where
-  pub adds : Adds m old declares new
-  pub gained : HasGained old new
+-- the step adds a declaration, which joins the newest level of names, or level 0 where declarations are global
+pub record HasAdded {A : Type 0} (m : Judging A) (a : A) (global : Bool) (old new : Names) : Type 0 where
+  pub table : IsTable old
+  pub declaration : Declaration
+  pub id : declaration.id ≡ old.given
+  pub adds : Adds m old a (with_declaration false declaration old)
+  pub new_is : new ≡ with_declaration global declaration old
+
+abbrev pub HasDeclared : Judging Change → Bool → Names → Names → Type 0
+HasDeclared m global old new = HasAdded m declares global old new
 
 pub record IsUnsupported (m : Judging Change) (old new : Names) : Type 0 where
   pub gives : Gives m old is_unsupported
@@ -79,10 +88,10 @@ pub record IsFailed (m : Judging Change) (e : StackError) (old new : Names) : Ty
   pub same : new ≡ old
 
 -- what comes of a declaration
-abbrev pub Declares : Judging Change → Names → Result Carried StackError → Names → Type 0
-Declares m old (Ok Done) new = HasDeclared m old new
-Declares m old (Ok Unsupported) new = IsUnsupported m old new
-Declares m old (Err e) new = IsFailed m e old new
+abbrev pub Declares : Judging Change → Bool → Names → Result Carried StackError → Names → Type 0
+Declares m global old (Ok Done) new = HasDeclared m global old new
+Declares m global old (Ok Unsupported) new = IsUnsupported m old new
+Declares m global old (Err e) new = IsFailed m e old new
 
 abbrev pub name_refusal : NameError → List ℕ → Refusal
 name_refusal Reserved n = ReservedName n
@@ -146,6 +155,20 @@ pub record IsAsking (t : Names) (ts : List Tree) (all : List (List Token)) (term
   pub within : All (λ (a : Asked). a.term < length us) terms
   pub gained : (v : Names) → HasGained v t → HasGained v u
   pub longer : IsLonger ts us
+
+abbrev pub sort_asked : Asked → Sort
+sort_asked a = a.sort
+
+-- the assertions of texts, whose terms stand at these places
+abbrev pub assertions_by : List (List Token) → List Asked → List Assertion
+assertions_by [] terms = []
+assertions_by (t ∷ ts) [] = []
+assertions_by (t ∷ ts) (a ∷ terms) = record { text = t; term = a.term } ∷ assertions_by ts terms
+
+-- the texts are judged to be these assumptions
+pub record AreAssumed (depth : ℕ) (texts : List (List Token)) (s : Scope) (xs : List Assertion) (names : Names) (us : List Tree) : Type 0 where
+  pub is_judged : assume_terms depth texts s ≡ done (assumes (map (asserted_by us) xs)) (scope_by names us)
+  pub within : All (IsWithin us) xs
 
 -- the texts are judged to be these terms
 pub record AreJudged (texts : List (List Token)) (s : Scope) (terms : List Asked) (us : List Tree) : Type 0 where

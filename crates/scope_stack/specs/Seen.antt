@@ -1,5 +1,5 @@
 -- What a check sees of a stack, and the stack that a part of its terms is of.
-use Rattle.std.specs.Prelude.{◌≡◌, ◌+◌, ◌≤◌, ◌<◌, ℕ, List, map, length, All, slice_index}
+use Rattle.std.specs.Prelude.{◌≡◌, ◌+◌, ◌≤◌, ◌<◌, ℕ, Bool, List, map, length, All, slice_index}
 use Rattle.smt_meaning.specs.declared.values.Sort.{Sort}
 use Rattle.smt_meaning.specs.Declaration.{Declaration}
 use Rattle.smt_meaning.specs.Term.{Tree, tree_at}
@@ -23,9 +23,9 @@ pub record AreAssertions (t : Names) (store : Terms) (xss : List (List Assertion
   pub within : All (IsWithin store.trees) (all_of xss)
 
 -- a lawful stack, with the sorts and the levels of all terms
-pub record IsSeen (t : Names) (store : Terms) (xss : List (List Assertion)) (rs : List Sort) (ls : List ℕ) : Type 0 where
+pub record IsSeen (g : Bool) (t : Names) (store : Terms) (xss : List (List Assertion)) (rs : List Sort) (ls : List ℕ) : Type 0 where
   pub stack : AreAssertions t store xss
-  pub lawful : IsLawful (stack_by t store.trees xss)
+  pub lawful : IsLawful (stack_by g t store.trees xss)
   pub facts : AreFacts t store.trees (length store.trees) rs
   pub levels : HaveLevels t store.trees (length store.trees) ls
 
@@ -35,7 +35,7 @@ names_of s = record { levels = map (λ (f : Frame). f.declared) s.frames; given 
 
 -- with these terms and assertions its names make a stack of the same levels
 pub record IsPartOf (s : Stack) (store : Terms) (xss : List (List Assertion)) (rs : List Sort) (ls : List ℕ) : Type 0 where
-  pub kept : IsKept (names_of s) store xss rs ls
+  pub kept : IsKept s.global (names_of s) store xss rs ls
   pub frames : s.frames ≡ frames_by store.trees (names_of s).levels xss
 
 -- ---- copies

@@ -1,6 +1,6 @@
 -- A stack as numbers and lists: how a proof stores one. No definition speaks of it.
-use Rattle.std.specs.Prelude.{◌≡◌, ℕ, zero, suc, List, [], ◌∷◌, refl}
-use Rattle.std.specs.Coded.{Coded, code_by, coded×, coded_ℕ, coded_list}
+use Rattle.std.specs.Prelude.{◌≡◌, ℕ, zero, suc, Bool, List, [], ◌∷◌, refl}
+use Rattle.std.specs.Coded.{Coded, code_by, coded×, coded_ℕ, coded_bool, coded_list}
 use Rattle.std.proofs.Common.{ap}
 use Rattle.smt_meaning.specs.declared.tokens.Word.{Word}
 use Rattle.smt_meaning.specs.declared.tokens.Word.TheVariants.{Exclamation, Underscore, As, Let, Exists, Forall, Match, Par}
@@ -97,7 +97,7 @@ coded_frame =
 
 abbrev pub coded_stack : Coded Stack
 coded_stack =
-    code_by (List Frame × (ℕ × List Tree)) (coded× (coded_list coded_frame) (coded× coded_ℕ coded_trees))
-    (λ (s : Stack). (s.frames, (s.given, s.trees)))
-    (λ p. record { frames = p.0; given = p.1.0; trees = p.1.1 })
+    code_by (List Frame × (ℕ × (List Tree × Bool))) (coded× (coded_list coded_frame) (coded× coded_ℕ (coded× coded_trees coded_bool)))
+    (λ (s : Stack). (s.frames, (s.given, (s.trees, s.global))))
+    (λ p. record { frames = p.0; given = p.1.0; trees = p.1.1.0; global = p.1.1.1 })
     (λ s. refl)

@@ -101,6 +101,19 @@ impl Asserted {
         Ok(())
     }
 
+    /// Adds a level with these assertions. An `Err`, for want of memory, changes nothing.
+    pub fn add_level(&mut self, assertions: Vec<Assertion>) -> Result<(), AllocError>
+        ensures ok { OnOk result (self.new ≡ self.old ++ assertions.items ∷ []) }
+        ensures err { OnErr result (self.new ≡ self.old) }
+    {
+        let start = self.items.len();
+        let mut assertions = assertions;
+        self.starts.reserve(1)?;
+        self.items.append(&mut assertions)?;
+        self.starts.push_reserved(start);
+        Ok(())
+    }
+
     /// Adds so many levels. An `Err`, for want of memory, changes nothing.
     pub fn push(&mut self, levels: usize) -> Result<(), AllocError>
         ensures ok { OnOk result (self.new ≡ self.old ++ replicate levels []) }

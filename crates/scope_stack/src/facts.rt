@@ -1,5 +1,5 @@
 //! What is kept beside the terms, by their places.
-ghost use Rattle.std.specs.Prelude.{◌≡◌, ◌<◌, ◌≤◌, [], ◌∷◌, length, take, All, OnOk, OnErr, IfSome, slice_index, slice_index_or};
+ghost use Rattle.std.specs.Prelude.{◌≡◌, ◌<◌, ◌≤◌, [], ◌∷◌, ◌++◌, length, take, All, OnOk, OnErr, IfSome, slice_index, slice_index_or};
 ghost use Rattle.smt_meaning.specs.declared.values.Sort.TheVariants.{Bool as Truths};
 ghost use Rattle.smt_meaning.specs.Term.{tree_at};
 ghost use Rattle.scope_stack.specs.Facts.{AreFacts, HaveLevels, IsFact, IsLeast, IsResult, IsTermLevel, greatest_of, made_sort as made_by};
@@ -203,6 +203,30 @@ impl TermFacts {
         self.sorts.truncate(len as usize);
         self.levels.truncate(len as usize);
     }
+}
+
+/// Adds a level with these assertions, whose terms were judged, and what is kept beside the terms from a place on. An `Err`, for want of memory, may leave some of it.
+pub(crate) fn add_level(
+    table: &Table,
+    terms: &TermStore,
+    from: TermId,
+    facts: &mut TermFacts,
+    asserted: &mut Asserted,
+    assertions: Vec<Assertion>,
+) -> Result<(), AllocError>
+    requires within { from ≤ length terms.now.trees }
+    requires few { length table.now.levels ≤ 65536 }
+    requires facts { AreFacts table.now terms.now.trees from facts.old.sorts.items }
+    requires levels { HaveLevels table.now terms.now.trees from facts.old.levels.items }
+    ensures ok { OnOk result (asserted.new ≡ asserted.old ++ assertions.items ∷ []) }
+    ensures err { OnErr result (asserted.new ≡ asserted.old) }
+    ensures facts { OnOk result (AreFacts table.now terms.now.trees (length terms.now.trees) facts.new.sorts.items) }
+    ensures levels { OnOk result (HaveLevels table.now terms.now.trees (length terms.now.trees) facts.new.levels.items) }
+    ensures kept { take from facts.new.sorts.items ≡ facts.old.sorts.items }
+    ensures levels_kept { take from facts.new.levels.items ≡ facts.old.levels.items }
+{
+    facts.extend(table, terms, from)?;
+    asserted.add_level(assertions)
 }
 
 /// Adds an assertion whose term was judged, and what is kept beside the terms from a place on. An `Err`, for want of memory, may leave some of it.

@@ -3,11 +3,11 @@ ghost use Rattle.std.specs.Prelude.{◌≡◌, [], length};
 ghost use Rattle.elaborate.specs.Judged.{IsCauseOf};
 ghost use Rattle.smt_meaning.specs.Sexp.{sexp};
 ghost use Rattle.smt_meaning.specs.Sorts.{judge, with_all};
-ghost use Rattle.smt_meaning.specs.StackCommand.{ask_terms, assert_term, in_assert};
+ghost use Rattle.smt_meaning.specs.StackCommand.{ask_terms, assert_term, assume_terms, in_assert};
 ghost use Rattle.scope_stack.specs.Judged.{IsCause, IsRoomError, scope_by};
 
 use crate::answers::StackError;
-use crate::term::{is_bool, judge_error, judge_terms};
+use crate::term::{are_bool, is_bool, judge_error, judge_terms};
 use elaborate::JudgeError;
 use smt_meaning::{Refusal, SExpr};
 use smt_sorts::Table;
@@ -102,6 +102,59 @@ fn crowded_questions(
             table.cut_ids(ids);
             error
         }
+    }
+}
+
+/// The error of assumptions whose terms weren't judged among the terms for want of room or memory: they are judged apart from them.
+fn crowded_assumptions(
+    alloc: Global,
+    texts: &[SExpr],
+    depth: u16,
+    table: &mut Table,
+    terms: &mut TermStore,
+) -> StackError
+    requires { terms.old.limit ≡ 4294967295 }
+    ensures causes { IsCause result (assume_terms depth texts.now (scope_by table.old terms.old.trees)) }
+    ensures table { table.new ≡ table.old }
+    ensures terms { terms.new ≡ terms.old }
+{
+    questions_join_alike();
+    let ids = table.ids();
+    let mut apart = TermStore::new(alloc, MOST_APART);
+    match judge_terms(alloc, texts, table, &mut apart) {
+        Ok(asked) => {
+            table.cut_ids(ids);
+            if are_bool(asked.as_slice()) {
+                room_error(alloc, &apart, terms)
+            } else {
+                StackError::Refused(Refusal::NotBool)
+            }
+        }
+        Err(error) => {
+            table.cut_ids(ids);
+            error
+        }
+    }
+}
+
+/// The error of assumptions whose terms come to this error.
+pub(crate) fn assumption_error(
+    alloc: Global,
+    error: StackError,
+    texts: &[SExpr],
+    depth: u16,
+    table: &mut Table,
+    terms: &mut TermStore,
+) -> StackError
+    requires limit { terms.old.limit ≡ 4294967295 }
+    requires cause { IsCause error (assume_terms depth texts.now (scope_by table.old terms.old.trees)) }
+    ensures causes { IsCause result (assume_terms depth texts.now (scope_by table.old terms.old.trees)) }
+    ensures table { table.new ≡ table.old }
+    ensures terms { terms.new ≡ terms.old }
+{
+    match error {
+        StackError::Refused(refusal) => StackError::Refused(refusal),
+        StackError::Memory => crowded_assumptions(alloc, texts, depth, table, terms),
     }
 }
 

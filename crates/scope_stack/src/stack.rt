@@ -4,9 +4,9 @@ ghost use Rattle.std.specs.Prelude.{◌≡◌, ◌≤◌, ◌<◌, unsigned_abs,
 use crate::answers::{Asked, Assertion, Carried, StackError};
 use crate::asserted::Asserted;
 use crate::declare;
-use crate::facts::{TermFacts, add_assertion};
+use crate::facts::{TermFacts, add_assertion, add_level};
 use crate::few::{Few, few_terms};
-use crate::term::{judge_assertion, judge_questions};
+use crate::term::{judge_assertion, judge_assumptions, judge_questions};
 use smt_laws::{
     assertions_are_truths, no_id_twice, parts_are_among_the_trees, tree_equality_decides,
     trees_are_in_order,
@@ -31,6 +31,7 @@ pub struct ScopeStack {
     terms: TermStore,
     asserted: Asserted,
     facts: TermFacts,
+    global: bool,
 }
 
 impl Model for ScopeStack {
@@ -44,9 +45,9 @@ impl Model for ScopeStack {
     ghost use Rattle.scope_stack.specs.Inside.{stack_by};
     ghost use Rattle.scope_stack.specs.Facts.{IsKept};
 
-    ghost view = { λ s. stack_by s.table s.terms.trees s.asserted };
+    ghost view = { λ s. stack_by s.global s.table s.terms.trees s.asserted };
 
-    ghost invariant = { λ s. IsKept s.table s.terms s.asserted s.facts.sorts.items s.facts.levels.items };
+    ghost invariant = { λ s. IsKept s.global s.table s.terms s.asserted s.facts.sorts.items s.facts.levels.items };
 }
 
 /// The size of a count that is at most so large.
@@ -63,13 +64,14 @@ fn at_most(count: i128, most: u32) -> Option<u32>
 }
 
 impl ScopeStack {
-    ghost use Rattle.std.specs.Prelude.{◌≡◌, ◌≤◌, ◌≢◌, [], unsigned_abs, length, List, IfOk, IfErr, Some, None};
-    ghost use Rattle.smt_meaning.specs.Stack.{depth, signature_of, start_frames};
+    ghost use Rattle.std.specs.Prelude.{◌≡◌, ◌≤◌, ◌≢◌, [], ℕ, unsigned_abs, length, List, IfOk, IfErr, Some, None};
+    ghost use Rattle.smt_meaning.specs.Stack.{depth, signature_of, cleared, Assertion as Asserted};
     ghost use Rattle.smt_meaning.specs.State.{name_of_sort};
     ghost use Rattle.smt_meaning.specs.declared.tokens.Token.{Token};
     ghost use Rattle.scope_stack.specs.declared.answers.Asked.{Asked};
-    ghost use Rattle.smt_meaning.specs.StackCommand.{Stack as StackValue, start, declare_sort, define_sort, declare_function, define_function, assert_term, push_levels, pop_levels};
-    ghost use Rattle.scope_stack.specs.Carries.{Carries, Answers, IsAsked, IsAfterQuestion};
+    ghost use Rattle.smt_meaning.specs.declared.options.OptionSetting.TheVariants.{GlobalDeclarations};
+    ghost use Rattle.smt_meaning.specs.StackCommand.{Stack as StackValue, start, changed, scope_of, sets, declare_sort, define_sort, declare_function, define_function, assert_term, push_levels, pop_levels};
+    ghost use Rattle.scope_stack.specs.Carries.{Carries, Answers, IsAsked, IsAfterQuestion, Assumes, IsAssumed, IsUnderAssumptions};
     ghost use Rattle.scope_stack.specs.Inside.{IsReached};
     ghost use Rattle.scope_stack.specs.Shown.{AreAsserted};
 
@@ -82,6 +84,7 @@ impl ScopeStack {
             terms: TermStore::new(alloc, MOST_TERMS),
             asserted: Asserted::new(alloc),
             facts: TermFacts::new(alloc),
+            global: false,
         }
     }
 
@@ -130,7 +133,7 @@ impl ScopeStack {
     ) -> Result<Carried, StackError>
         ensures { Carries (λ level. declare_sort name.now arity) self.old result self.new }
     {
-        declare::declare_sort(alloc, &mut self.table, name, arity)
+        declare::declare_sort(alloc, &mut self.table, name, arity, self.global)
     }
 
     /// `(define-sort name (parameter ..) sort)` (section 4.2.3).
@@ -143,7 +146,7 @@ impl ScopeStack {
     ) -> Result<Carried, StackError>
         ensures { Carries (λ level. define_sort name.now parameters.now sort.now) self.old result self.new }
     {
-        declare::define_sort(alloc, &mut self.table, name, parameters, sort)
+        declare::define_sort(alloc, &mut self.table, name, parameters, sort, self.global)
     }
 
     /// `(declare-fun name (argument ..) sort)`, and `(declare-const name sort)`, where there is no argument (section 4.2.3).
@@ -156,7 +159,7 @@ impl ScopeStack {
     ) -> Result<Carried, StackError>
         ensures { Carries (λ level. declare_function name.now arguments.now sort.now) self.old result self.new }
     {
-        declare::declare_function(alloc, &mut self.table, name, arguments, sort)
+        declare::declare_function(alloc, &mut self.table, name, arguments, sort, self.global)
     }
 
     /// `(define-fun name (parameter ..) sort body)` (section 4.2.3).
@@ -170,7 +173,15 @@ impl ScopeStack {
     ) -> Result<Carried, StackError>
         ensures { Carries (λ level. define_function name.now parameters.now sort.now body.now) self.old result self.new }
     {
-        declare::define_function(alloc, &mut self.table, name, parameters, sort, body)
+        declare::define_function(
+            alloc,
+            &mut self.table,
+            name,
+            parameters,
+            sort,
+            body,
+            self.global,
+        )
     }
 
     /// `(assert term)` (section 4.2.4).
@@ -228,6 +239,56 @@ impl ScopeStack {
         self.facts.cut(terms);
     }
 
+    /// The terms of `(check-sat-assuming (term ..))` (section 4.2.5): a level above the stack asserts them, until it is withdrawn or taken back.
+    pub fn assume(&mut self, alloc: Global, terms: &[SExpr]) -> Result<(), StackError>
+        ensures { Assumes terms.now self.old result self.new }
+    {
+        let count = self.terms.len();
+        let depth = self.depth();
+        let assumed = judge_assumptions(alloc, terms, depth, &mut self.table, &mut self.terms)?;
+        match add_level(
+            &self.table,
+            &self.terms,
+            count,
+            &mut self.facts,
+            &mut self.asserted,
+            assumed,
+        ) {
+            Ok(()) => {
+                self.table.push(1);
+                Ok(())
+            }
+            Err(_) => {
+                self.terms.cut(count);
+                self.facts.cut(count);
+                Err(StackError::Memory)
+            }
+        }
+    }
+
+    /// Takes the level of assumptions away. Their terms stay among the terms. It takes no memory.
+    pub fn withdraw(&mut self)
+        requires { (terms : ℕ) × IsUnderAssumptions terms self.old }
+        ensures { (texts : List (List Token)) (assumed : List Asserted) (t : StackValue) → IsAssumed texts assumed t self.old → self.new ≡ record t { trees = self.old.trees } }
+    {
+        self.asserted.pop(1);
+        self.table.pop(1);
+    }
+
+    /// Takes the level of assumptions away, with their terms, before which there were so many. It takes no memory.
+    pub fn take_back(&mut self, terms: u32)
+        requires { IsUnderAssumptions terms self.old }
+        ensures { (texts : List (List Token)) (assumed : List Asserted) (t : StackValue) → length t.trees ≡ terms → IsAssumed texts assumed t self.old → self.new ≡ t }
+    {
+        tree_equality_decides();
+        trees_are_in_order();
+        parts_are_among_the_trees();
+        self.asserted.pop(1);
+        self.table.pop(1);
+        self.terms.cut(terms);
+        self.facts.cut(terms);
+    }
+
     /// `(push count)` (section 4.2.2).
     pub fn push(&mut self, _alloc: Global, count: i128) -> Result<Carried, StackError>
         ensures { Carries (λ level. push_levels level (unsigned_abs count)) self.old result self.new }
@@ -255,11 +316,32 @@ impl ScopeStack {
         Ok(Carried::Done)
     }
 
-    /// `(reset-assertions)` (section 4.2.2). It takes no memory.
-    pub fn reset_assertions(&mut self)
-        ensures { self.new ≡ record self.old { frames = start_frames } }
+    /// Whether declarations are global.
+    pub fn global(&self) -> bool
+        ensures { result ≡ self.now.global }
     {
-        self.table.clear();
+        self.global
+    }
+
+    /// `(set-option :global-declarations global)` (section 4.1.7): it is heeded where no level stands above level 0. It takes no memory.
+    pub fn set_global(&mut self, global: bool)
+        ensures { self.new ≡ changed self.old (sets (GlobalDeclarations global)) (scope_of self.old) }
+    {
+        if self.depth() == 0 {
+            self.global = global;
+        }
+    }
+
+    /// `(reset-assertions)` (section 4.2.2): where declarations are global, those of level 0 stay. It takes no memory.
+    pub fn reset_assertions(&mut self)
+        ensures { self.new ≡ record self.old { frames = cleared self.old.global self.old.frames } }
+    {
+        let _ = self.table.ids();
+        if self.global {
+            self.table.clear_to_base();
+        } else {
+            self.table.clear();
+        }
         self.asserted.clear();
     }
 
@@ -271,6 +353,7 @@ impl ScopeStack {
         self.terms.cut(0);
         self.facts.cut(0);
         self.asserted.clear();
+        self.global = false;
     }
 
     /// All that a check may see of it. It takes no memory.
@@ -287,12 +370,14 @@ impl ScopeStack {
             terms,
             asserted,
             facts,
+            global,
         } = self;
         Stack {
             table,
             terms,
             asserted,
             facts,
+            global,
         }
     }
 
@@ -306,12 +391,14 @@ impl ScopeStack {
             terms,
             asserted,
             facts,
+            global,
         } = stack;
         ScopeStack {
             table,
             terms,
             asserted,
             facts,
+            global,
         }
     }
 
@@ -329,6 +416,7 @@ impl ScopeStack {
             terms,
             asserted,
             facts,
+            global,
         } = self;
         match few_terms(alloc, &table, &terms, &asserted) {
             Ok(few) => {
@@ -337,6 +425,7 @@ impl ScopeStack {
                     terms: few.terms,
                     asserted: few.asserted,
                     facts: few.facts,
+                    global,
                 };
                 Ok(Part {
                     stack,
@@ -350,6 +439,7 @@ impl ScopeStack {
                 terms,
                 asserted,
                 facts,
+                global,
             }),
         }
     }
@@ -362,6 +452,7 @@ pub struct Stack {
     terms: TermStore,
     asserted: Asserted,
     facts: TermFacts,
+    global: bool,
 }
 
 impl Model for Stack {
@@ -375,9 +466,9 @@ impl Model for Stack {
     ghost use Rattle.scope_stack.specs.Inside.{stack_by};
     ghost use Rattle.scope_stack.specs.Seen.{IsSeen};
 
-    ghost view = { λ s. stack_by s.table s.terms.trees s.asserted };
+    ghost view = { λ s. stack_by s.global s.table s.terms.trees s.asserted };
 
-    ghost invariant = { λ s. IsSeen s.table s.terms s.asserted s.facts.sorts.items s.facts.levels.items };
+    ghost invariant = { λ s. IsSeen s.global s.table s.terms s.asserted s.facts.sorts.items s.facts.levels.items };
 }
 
 impl Stack {
@@ -392,6 +483,13 @@ impl Stack {
         ensures { result ≡ depth self.now.frames }
     {
         self.asserted.depth() as u16
+    }
+
+    /// Whether declarations are global.
+    pub fn global(&self) -> bool
+        ensures { result ≡ self.now.global }
+    {
+        self.global
     }
 
     /// The terms. Their list is the stack's.
@@ -466,7 +564,7 @@ impl Model for Part {
     ghost use Rattle.scope_stack.specs.Inside.{stack_by};
     ghost use Rattle.scope_stack.specs.Seen.{names_of, IsPartOf};
 
-    ghost view = { λ p. stack_by (names_of p.stack) p.terms.trees p.asserted };
+    ghost view = { λ p. stack_by p.stack.global (names_of p.stack) p.terms.trees p.asserted };
 
     ghost invariant = { λ p. IsPartOf p.stack p.terms p.asserted p.facts.sorts.items p.facts.levels.items };
 }
@@ -491,12 +589,13 @@ impl Part {
             asserted,
             facts,
         } = self;
-        let Stack { table, .. } = stack;
+        let Stack { table, global, .. } = stack;
         ScopeStack {
             table,
             terms,
             asserted,
             facts,
+            global,
         }
     }
 }

@@ -37,4 +37,7 @@ pub trait Decider {
     ) -> Result<Verdict, AllocError>
         requires { decides stack.now.frames ≡ true }
         ensures { IfOk result (IsVerdict stack.now.trees stack.now.frames settings.now.units) };
+
+    /// Forgets what it keeps of levels above this one, so that they may go; at -1 all that it keeps. It takes no memory.
+    fn cut_to(&mut self, level: i32);
 }

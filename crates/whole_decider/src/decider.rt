@@ -67,4 +67,6 @@ impl Decider for Whole {
             decide_integers(alloc, stack, settings)
         }
     }
+
+    fn cut_to(&mut self, _level: i32) {}
 }
