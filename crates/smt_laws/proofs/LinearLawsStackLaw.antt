@@ -3,7 +3,7 @@ use Rattle.std.proofs.Common.{ℕ, zero, suc, ◌-◌, List, [], ◌∷◌, take
 use Rattle.std.specs.Prelude.{replicate, filter, if◌then◌else◌}
 use Rattle.smt_meaning.specs.Declaration.{Declaration}
 use Rattle.smt_meaning.specs.Sorts.{Scope, Outcome, done, refused, Judging}
-use Rattle.smt_meaning.specs.Stack.{Frame, Assertion, signature_of, depth, on_top, at_base, with_declared, stays, base_of, cleared, pushed, empty_frame}
+use Rattle.smt_meaning.specs.Stack.{Frame, Assertion, signature_of, depth, on_top, with_declared, stays, cleared, pushed, empty_frame}
 use Rattle.smt_meaning.specs.StackCommand.{Stack, start, Change, declares, asserts, asks, assumes, sets, pushes, pops, clears, begins_again, is_unsupported, stack_command, scope_of, judged, new_declarations, changed, after_outcome, after_command, after, after_all}
 use Rattle.smt_meaning.specs.declared.commands.Command.{Command}
 use Rattle.smt_laws.specs.LinearLaws.{TreesAreLinear, NumeralsAreInRange}
@@ -39,11 +39,11 @@ stand_declared false ds frames h k = stand_on_top ds [] frames h k
 
 stand_filter : (ds : List Declaration) → AllStand ds → AllStand (filter stays ds)
 stand_filter [] h = tt
-stand_filter (d ∷ ds) h = by_cases (stays d)
+stand_filter (d ∷ ds) h = by_cases (stand_filter ds h.1) (stays d)
   where
-    by_cases : (b : Bool) → AllStand (if b then d ∷ filter stays ds else filter stays ds)
-    by_cases true = (h.0, stand_filter ds h.1)
-    by_cases false = stand_filter ds h.1
+    by_cases : AllStand (filter stays ds) → (b : Bool) → AllStand (if b then d ∷ filter stays ds else filter stays ds)
+    by_cases k true = (h.0, k)
+    by_cases k false = k
 
 stand_cleared : (b : Bool) (frames : List Frame) → FramesStand frames → FramesStand (cleared b frames)
 stand_cleared true [] h = (tt, tt)

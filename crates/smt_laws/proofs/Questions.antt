@@ -1,5 +1,5 @@
 -- A term that is accepted as a question is accepted alike in an assertion: only `:named` tells the two apart.
-use Rattle.std.proofs.Common.{◌≡◌, ℕ, List, [], ◌∷◌, ◌++◌, refl, sym, subst, Bool, true, false}
+use Rattle.std.proofs.Common.{◌≡◌, ℕ, List, ◌∷◌, ◌++◌, refl, sym, subst, Bool, true, false}
 use Rattle.std.specs.Prelude.{codes, bytes_eq}
 use Rattle.smt_meaning.specs.declared.terms.Operator.TheVariants.{True, False}
 use Rattle.smt_meaning.specs.declared.tokens.Token.{Token}

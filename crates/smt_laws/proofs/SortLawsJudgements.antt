@@ -1,12 +1,14 @@
 -- What holds after each step of a judgement, where it isn't refused.
-use Rattle.std.proofs.Common.{◌≡◌, ℕ, ◌<◌, List, [], ◌∷◌, ◌++◌, All, sym, ◌∙◌, refl, Bool, true, false, Option, Some, None, nat_lt}
+use Rattle.std.proofs.Common.{◌≡◌, ℕ, ◌+◌, ◌<◌, List, [], ◌∷◌, ◌++◌, All, ap, sym, subst, ◌∙◌, refl, Bool, true, false, Option, Some, None, nat_lt, append_assoc, append-nil}
+use Rattle.std.proofs.lemmas.List.Elements.{All-nil, All-cons, All-head, All-append, All-weaker}
 use Rattle.smt_meaning.specs.declared.values.Sort.{Sort}
 use Rattle.smt_meaning.specs.Declaration.{Declaration}
 use Rattle.smt_meaning.specs.declared.refusals.Refusal.{Refusal}
 use Rattle.smt_meaning.specs.Term.{Tree}
-use Rattle.smt_meaning.specs.Sorts.{Scope, Outcome, done, refused, Judging, go_on, ◌>>=◌, ◌>>◌, return, refuse, require, required, the_scope, note, found, declare, declare_in, most_symbols, Typed}
+use Rattle.smt_meaning.specs.Signature.{is_symbol}
+use Rattle.smt_meaning.specs.Sorts.{Scope, Outcome, done, refused, Judging, go_on, ◌>>=◌, ◌>>◌, return, refuse, require, required, the_scope, with_all, note, found, declare, declare_in, most_symbols, Typed}
 use Rattle.smt_laws.proofs.Among.{Among, kept_with_all, among_with_all}
-use Rattle.smt_laws.proofs.PlacesLaw.{HasSort, LaterThan, later_self, later_still, sort_later}
+use Rattle.smt_laws.proofs.PlacesLaw.{HasSort, LaterThan, later_more, sort_later}
 use Rattle.smt_laws.proofs.Signatures.{Usable, Good, good_more}
 
 -- what a judgement may declare: nothing where nothing may be named, else names of terms
@@ -117,32 +119,31 @@ pub note_found : (may : Declaration → Type 0) (ps : List Sort) (s : Scope) (us
 unfolding ◌>>◌ note found
 note_found may ps s us u x h m = record {
   gives = λ f. (
-    (f, record { later = later_self s.signature; kept = λ y k. kept_with_all y s.trees us k; same = λ e. refl }),
+    (f, grows may s (record s { trees = with_all s.trees us }) [] (sym (append-nil s.signature)) (All-nil may) (λ y k. kept_with_all y s.trees us k)),
     (h, among_with_all u s.trees us m),
   );
 }
 
-pub declare_gives : (may : Declaration → Type 0) (s : Scope) (d : ℕ → Declaration) → b ≡ true → ((n : ℕ) → (d n).id ≡ n)
+pub declare_gives : (may : Declaration → Type 0) (s : Scope) (d : ℕ → Declaration) → ((n : ℕ) → may (d n)) → ((n : ℕ) → (d n).id ≡ n)
     → ((n : ℕ) → All (λ (e : Declaration). e.id < n) s.signature → (d n).is_sort ≡ false → Usable (s.signature ++ d n ∷ []) (d n)) → Gives may s (declare d) Nothing
 unfolding declare
-declare_gives may s d may own u = record { gives = λ f. go f (nat_lt s.given most_symbols) }
+declare_gives may s d allowed own u = record { gives = λ f. go f (nat_lt s.given most_symbols) }
   where
-    no : true ≡ false → s.signature ++ d s.given ∷ [] ≡ s.signature
-    no e = absurd (cc)
-
     go : Good s.given s.signature → (c : Bool) → Ends may s Nothing (declare_in (d s.given) c s)
     go f true = (
       (
         good_more s.given s.signature (d s.given) (own s.given) f (u s.given f.below),
-        record { later = (d s.given ∷ [], refl); kept = λ y k. k; same = λ e. no (sym may ∙ e) },
+        grows may s (record s { signature = s.signature ++ d s.given ∷ []; given = s.given + 1 }) (d s.given ∷ []) refl (All-cons may (d s.given) [] (allowed s.given) (All-nil may)) (λ y k. k),
       ),
       tt,
     )
     go f false = tt
 
-pub weaken : {A : Type 0} (may : Declaration → Type 0) (s : Scope) (m : Judging A) (P Q : A → Scope → Type 0) → ((a : A) (t : Scope) → After may s t → P a t → Q a t) → Gives may s m P → Gives may s m Q
-weaken {A} b s m P Q f h = record { gives = λ g. go (m s) (h.gives g) }
+-- less is known of the value, and more might have been declared
+pub weaken : {A : Type 0} (may might : Declaration → Type 0) (s : Scope) (m : Judging A) (P Q : A → Scope → Type 0) → ((d : Declaration) → may d → might d)
+    → ((a : A) (t : Scope) → After may s t → P a t → Q a t) → Gives may s m P → Gives might s m Q
+weaken {A} may might s m P Q w f h = record { gives = λ g. go (m s) (h.gives g) }
   where
-    go : (x : Outcome A) → Ends may s P x → Ends may s Q x
-    go (done a t) k = (k.0, f a t k.0.1 k.1)
+    go : (x : Outcome A) → Ends may s P x → Ends might s Q x
+    go (done a t) k = ((k.0.0, after_wider may might s t w k.0.1), f a t k.0.1 k.1)
     go (refused r) k = tt
