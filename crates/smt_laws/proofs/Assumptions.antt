@@ -1,9 +1,9 @@
 -- Checks under assumptions, declarations that stay, and assignments.
 use Prim.Native.String.{String}
 use Rattle.std.proofs.Common.{◌≡◌, ℕ, true, false, List, [], ◌∷◌, map, length, refl}
-use Rattle.std.specs.Prelude.{codes}
+use Rattle.std.specs.Prelude.{ℤ, pos, codes}
 use Rattle.smt_meaning.specs.declared.values.Table.{Table}
-use Rattle.smt_meaning.specs.declared.values.Value.TheVariants.{Truth}
+use Rattle.smt_meaning.specs.declared.values.Value.TheVariants.{Truth, Whole}
 use Rattle.smt_meaning.specs.declared.reports.Cause.TheVariants.{Memory}
 use Rattle.smt_meaning.specs.declared.reports.Report.{Report}
 use Rattle.smt_meaning.specs.Stack.{Frame, signature_of, assertions_of}
@@ -21,6 +21,9 @@ is_so f = record { symbol = f; rows = []; default = Truth true }
 
 abbrev is_not : ℕ → Table
 is_not f = record { symbol = f; rows = []; default = Truth false }
+
+abbrev is_number : ℕ → ℤ → Table
+is_number f n = record { symbol = f; rows = []; default = Whole n }
 
 abbrev without_memory : Report
 without_memory = record { worker = 0; cause = Memory; branches = [] }
@@ -63,6 +66,7 @@ assignments : wrong_replies
     ∷ quiet_finds (a_model [] ∷ a_model [] ∷ []) "(set-option :produce-assignments true)(assert (= (! 1 :named one) 1))(check-sat)(get-assignment)(define-fun yes () Bool true)(assert (! yes :named |a b|))(check-sat-assuming (true))(get-assignment)" "sat\n()\nsat\n((|a b| true))\n"
     ∷ quiet_finds (a_model (is_so 0 ∷ []) ∷ []) "(set-option :produce-assignments true)(set-option :global-declarations true)(push)(declare-const p Bool)(assert (! p :named a))(push)(assert (! true :named b))(pop)(declare-const q Bool)(assert (! (or p q) :named c))(check-sat)(get-assignment)" "sat\n((a true) (c true))\n"
     ∷ quiet_finds (a_model [] ∷ no_model ∷ []) "(get-assignment)(check-sat)(get-assignment)(check-sat)(get-assignment)(get-assignment 1)" "(error \"E20 no model\")\nsat\n(error \"E21 option is off: :produce-assignments\")\nunsat\n(error \"E20 no model\")\n(error \"E8 wrong arguments: get-assignment\")\n"
+    ∷ quiet_finds (a_model (is_number 0 (pos 170141183460469231731687303715884105727) ∷ []) ∷ a_model (is_number 0 (pos 1) ∷ []) ∷ []) "(set-option :produce-assignments true)(declare-const x Int)(assert (let ((y (! (= (+ x x) 2) :named a))) true))(check-sat)(get-assignment)(check-sat)(get-assignment)(get-value ((+ x x)))" "sat\n(error \"E22 value past 128 bits\")\nsat\n((a true))\n(((+ x x) 2))\n"
     ∷ says_so "(get-option :produce-assignments)(set-option :produce-assignments x)(set-option :produce-assignments true)(get-option :produce-assignments)(set-logic ALL)(set-option :produce-assignments false)" "false\n(error \"E8 wrong arguments: set-option\")\nsuccess\ntrue\nsuccess\n(error \"E11 option too late: :produce-assignments\")\n" ∷ [])
     ≡ []
 unfolding text_rest mark_rest quoted_rest lexeme comment_rest is_word_byte is_symbol_byte is_printable word_token ◌>>=◌ ◌>>◌ return refuse require required the_scope note found declare judge_body judged digits command effect symbol_text text

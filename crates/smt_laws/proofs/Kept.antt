@@ -1,5 +1,5 @@
 -- In every state that a journal comes to, the mode fits the logic and the stack.
-use Rattle.std.proofs.Common.{◌≡◌, ℕ, Bool, true, false, List, [], ◌∷◌, sym, subst, Option, Some, None, Result, Ok, Err}
+use Rattle.std.proofs.Common.{◌≡◌, refl, ℕ, Bool, true, false, List, [], ◌∷◌, sym, subst, Option, Some, None, Result, Ok, Err}
 use Rattle.std.specs.Prelude.{MatchBool, flat_map, codes, if◌then◌else◌}
 use Rattle.smt_meaning.specs.declared.tokens.Token.{Token}
 use Rattle.smt_meaning.specs.declared.values.Table.{Table}
@@ -25,17 +25,17 @@ use Rattle.smt_meaning.specs.Sexp.{sexp}
 use Rattle.smt_meaning.specs.Signature.{is_one_of}
 use Rattle.smt_meaning.specs.Interpretation.{meaning}
 use Rattle.smt_meaning.specs.Sorts.{Outcome, done, refused, Judging}
-use Rattle.smt_meaning.specs.Stack.{Frame, signature_of}
+use Rattle.smt_meaning.specs.Stack.{Frame, signature_of, depth, cleared}
 use Rattle.smt_meaning.specs.StackCommand.{Stack, Change, declares, asserts, pushes, pops, clears, begins_again, is_unsupported, asks, assumes, sets, stack_command, judged, changed}
 use Rattle.smt_meaning.specs.Command.{command}
-use Rattle.smt_meaning.specs.State.{State, checked_frames, Effect, denied, left_out, accepted, answered, checked, effect, provided, set_logic, set_option_in, with_option, start_option, reason_unknown, get_info, stack_effect, on_stack, with_stack, get_value, judged_values, valued, get_model, get_assignment, kept_model, check_assuming, assuming, logics, is_start, asserting, with_logic, all_fit, term_values, printed_functions, named_truths, texts_of}
+use Rattle.smt_meaning.specs.State.{State, checked_frames, Effect, denied, left_out, accepted, answered, checked, effect, provided, set_logic, set_option_in, with_option, start_option, reason_unknown, get_info, stack_effect, on_stack, with_stack, get_value, judged_values, valued, get_model, get_assignment, kept_model, check_assuming, assuming, logics, is_start, asserting, with_logic, all_fit, term_values, printed_functions, named_truths, named_fit, texts_of}
 use Rattle.smt_meaning.specs.Report.{reason_of}
 use Rattle.smt_meaning.specs.MayReply.{Decided, IsExactly, IsModel, MayCome, MayDecide, MayReply, MayReplyTo, Replies}
 use Rattle.smt_meaning.specs.LegalJournal.{Moment, beginning, Runs}
 use Rattle.smt_laws.specs.LanguageLaws.{ModeFits}
 
 abbrev Sound : State → Type 0
-Sound s = ModeFits s.mode s.logic (checked_frames s)
+Sound s = ModeFits s.mode s.logic (depth s.stack.frames) (checked_frames s)
 
 -- a logic is set
 abbrev HasLogic : Option (List ℕ) → Type 0
@@ -92,18 +92,23 @@ asserting_sound settings None m o k new a = tt
 asserting_sound settings (Some n) m o k new a = tt
 
 -- without a logic the mode is start
-clears_sound : (settings : Settings) (l : Option (List ℕ)) (m : Mode) (o : Options) (k new : Stack) (a : List Frame)
+cleared_depth : (b : Bool) (frames : List Frame) → depth (cleared b frames) ≡ 0
+cleared_depth true [] = refl
+cleared_depth true (f ∷ frames) = refl
+cleared_depth false frames = refl
+
+clears_sound : (settings : Settings) (l : Option (List ℕ)) (m : Mode) (o : Options) (k new : Stack) (a : List Frame) → depth new.frames ≡ 0
     → Sound (parts settings l m o k a) → Sound (with_stack (parts settings l m o k a) clears new)
-clears_sound settings None In.Start o k new a h = tt
-clears_sound settings None In.Assert o k new a h = absurd h
-clears_sound settings None (In.Sat i) o k new a h = absurd h
-clears_sound settings None (In.Unknown r) o k new a h = absurd h
-clears_sound settings None In.Unsat o k new a h = absurd h
-clears_sound settings (Some n) In.Start o k new a h = absurd h
-clears_sound settings (Some n) In.Assert o k new a h = tt
-clears_sound settings (Some n) (In.Sat i) o k new a h = tt
-clears_sound settings (Some n) (In.Unknown r) o k new a h = tt
-clears_sound settings (Some n) In.Unsat o k new a h = tt
+clears_sound settings None In.Start o k new a e h = e
+clears_sound settings None In.Assert o k new a e h = absurd h
+clears_sound settings None (In.Sat i) o k new a e h = absurd h
+clears_sound settings None (In.Unknown r) o k new a e h = absurd h
+clears_sound settings None In.Unsat o k new a e h = absurd h
+clears_sound settings (Some n) In.Start o k new a e h = absurd h
+clears_sound settings (Some n) In.Assert o k new a e h = tt
+clears_sound settings (Some n) (In.Sat i) o k new a e h = tt
+clears_sound settings (Some n) (In.Unknown r) o k new a e h = tt
+clears_sound settings (Some n) In.Unsat o k new a e h = tt
 
 on_stack_sound : (s : State) (n : List ℕ) (o : Outcome Change) → Sound s → SoundEffect (on_stack s n o)
 on_stack_sound s n (refused r) h = tt
@@ -114,8 +119,8 @@ on_stack_sound s n (done (pops k) c) h = asserting_sound s.settings s.logic s.mo
 on_stack_sound s n (done (asks ts) c) h = asserting_sound s.settings s.logic s.mode s.options s.stack (changed s.stack (asks ts) c) s.above
 on_stack_sound s n (done (assumes xs) c) h = asserting_sound s.settings s.logic s.mode s.options s.stack (changed s.stack (assumes xs) c) s.above
 on_stack_sound s n (done (sets x) c) h = asserting_sound s.settings s.logic s.mode s.options s.stack (changed s.stack (sets x) c) s.above
-on_stack_sound s n (done clears c) h = clears_sound s.settings s.logic s.mode s.options s.stack (changed s.stack clears c) s.above h
-on_stack_sound s n (done begins_again c) h = tt
+on_stack_sound s n (done clears c) h = clears_sound s.settings s.logic s.mode s.options s.stack (changed s.stack clears c) s.above (cleared_depth s.stack.global s.stack.frames) h
+on_stack_sound s n (done begins_again c) h = refl
 on_stack_sound s n (done is_unsupported c) h = tt
 
 stack_sound : (s : State) (n : List ℕ) (c : Option (ℕ → Judging Change)) → Sound s → SoundEffect (stack_effect s n c)
@@ -157,7 +162,9 @@ get_assignment_sound : (s : State) (m : Option (List Table)) → Sound s → Sou
 get_assignment_sound s None h = tt
 get_assignment_sound s (Some i) h =
     provided_sound s.options.produce_assignments (OptionIsOff ProduceAssignments)
-    (answered (Given.Assignment (named_truths (meaning i) (signature_of s.stack.frames))) s) h
+    (provided (named_fit (meaning i) (signature_of s.stack.frames)) ValueTooLarge (answered (Given.Assignment (named_truths (meaning i) (signature_of s.stack.frames))) s))
+    (provided_sound (named_fit (meaning i) (signature_of s.stack.frames)) ValueTooLarge
+    (answered (Given.Assignment (named_truths (meaning i) (signature_of s.stack.frames))) s) h)
 
 with_logic_sound : (settings : Settings) (l : Option (List ℕ)) (m : Mode) (o : Options) (k : Stack) (a : List Frame)
     → Sound (parts settings l m o k a) → Sound (with_logic (parts settings l m o k a))
@@ -219,25 +226,25 @@ effect_sound s LeftOut h = tt
 as_sound : (s new : State) → new ≡ s → Sound s → Sound new
 as_sound s new e h = subst Sound (sym e) h
 
-model_sound : (l : Option (List ℕ)) (i : List Table) (frames : List Frame) → HasLogic l → IsModel frames i → ModeFits (In.Sat i) l frames
-model_sound None i frames h m = absurd h
-model_sound (Some n) i frames h m = m
+model_sound : (l : Option (List ℕ)) (i : List Table) (level : ℕ) (frames : List Frame) → HasLogic l → IsModel frames i → ModeFits (In.Sat i) l level frames
+model_sound None i level frames h m = absurd h
+model_sound (Some n) i level frames h m = m
 
-unknown_sound : (l : Option (List ℕ)) (r : UnknownReason) (frames : List Frame) → HasLogic l → ModeFits (In.Unknown r) l frames
-unknown_sound None r frames h = absurd h
-unknown_sound (Some n) r frames h = tt
+unknown_sound : (l : Option (List ℕ)) (r : UnknownReason) (level : ℕ) (frames : List Frame) → HasLogic l → ModeFits (In.Unknown r) l level frames
+unknown_sound None r level frames h = absurd h
+unknown_sound (Some n) r level frames h = tt
 
-unsat_sound : (l : Option (List ℕ)) (frames : List Frame) → HasLogic l → ModeFits In.Unsat l frames
-unsat_sound None frames h = absurd h
-unsat_sound (Some n) frames h = tt
+unsat_sound : (l : Option (List ℕ)) (level : ℕ) (frames : List Frame) → HasLogic l → ModeFits In.Unsat l level frames
+unsat_sound None level frames h = absurd h
+unsat_sound (Some n) level frames h = tt
 
 decided_sound : (s : State) (r : Reply) (kept : Kept) (new : State) → HasLogic s.logic → MayDecide s r kept new → Sound new
-decided_sound s Given.Sat kept new h d = as_sound (record s { mode = In.Sat d.0 }) new d.3 (model_sound s.logic d.0 (checked_frames s) h d.2)
-decided_sound s Given.Unsat kept new h d = as_sound (record s { mode = In.Unsat }) new d.2 (unsat_sound s.logic (checked_frames s) h)
+decided_sound s Given.Sat kept new h d = as_sound (record s { mode = In.Sat d.0 }) new d.3 (model_sound s.logic d.0 (depth s.stack.frames) (checked_frames s) h d.2)
+decided_sound s Given.Unsat kept new h d = as_sound (record s { mode = In.Unsat }) new d.2 (unsat_sound s.logic (depth s.stack.frames) (checked_frames s) h)
 decided_sound s Given.Success kept new h d = absurd d
 decided_sound s Given.Silent kept new h d = absurd d
 decided_sound s Given.Unsupported kept new h d = absurd d
-decided_sound s Given.Unknown kept new h d = as_sound (record s { mode = In.Unknown (reason_of d.0) }) new d.3 (unknown_sound s.logic (reason_of d.0) (checked_frames s) h)
+decided_sound s Given.Unknown kept new h d = as_sound (record s { mode = In.Unknown (reason_of d.0) }) new d.3 (unknown_sound s.logic (reason_of d.0) (depth s.stack.frames) (checked_frames s) h)
 decided_sound s (Given.Echo t) kept new h d = absurd d
 decided_sound s (Given.Option v) kept new h d = absurd d
 decided_sound s (Given.Info i) kept new h d = absurd d
@@ -275,4 +282,4 @@ runs_sound decided old (entry ∷ entries) new h r =
 
 pub journal_sound : (decided : Decided) (settings : Settings) (input : List ℕ) (entries : List Entry) (m : Moment)
     → Runs decided (beginning settings input) entries m → Sound m.state
-journal_sound decided settings input entries m r = runs_sound decided (beginning settings input) entries m tt r
+journal_sound decided settings input entries m r = runs_sound decided (beginning settings input) entries m refl r

@@ -25,7 +25,7 @@ use Rattle.smt_meaning.specs.Sorts.{Outcome, done, refused, Judging}
 use Rattle.smt_meaning.specs.StackCommand.{Change, declares, asserts, pushes, pops, clears, begins_again, is_unsupported, asks, assumes, sets, stack_command, judged, changed}
 use Rattle.smt_meaning.specs.Command.{command}
 use Rattle.smt_meaning.specs.State
-use Rattle.smt_meaning.specs.State.{checked_frames, Effect, denied, left_out, accepted, answered, checked, effect, provided, set_logic, set_option_in, with_option, start_option, reason_unknown, get_info, stack_effect, on_stack, get_value, judged_values, valued, get_model, get_assertions, get_assignment, kept_model, check_assuming, assuming, logics, is_start, asserting, with_logic, all_fit, term_values, printed_functions, named_truths, texts_of}
+use Rattle.smt_meaning.specs.State.{checked_frames, Effect, denied, left_out, accepted, answered, checked, effect, provided, set_logic, set_option_in, with_option, start_option, reason_unknown, get_info, stack_effect, on_stack, get_value, judged_values, valued, get_model, get_assertions, get_assignment, kept_model, check_assuming, assuming, logics, is_start, asserting, with_logic, all_fit, term_values, printed_functions, named_truths, named_fit, texts_of}
 use Rattle.smt_meaning.specs.MayReply.{Decided, IsExactly, MayCome, MayDecide, MayReply, MayReplyTo, Replies, success}
 use Rattle.smt_laws.specs.LanguageLaws.{HasOneReply, ChangesNothing}
 
@@ -134,7 +134,9 @@ get_assignment_told : (b : Bool) (s : State.State) (m : Option (List Table)) →
 get_assignment_told b s None = refl
 get_assignment_told b s (Some i) =
     provided_told b s.options.produce_assignments (OptionIsOff ProduceAssignments)
-    (answered (Given.Assignment (named_truths (meaning i) (signature_of s.stack.frames))) s) refl
+    (provided (named_fit (meaning i) (signature_of s.stack.frames)) ValueTooLarge (answered (Given.Assignment (named_truths (meaning i) (signature_of s.stack.frames))) s))
+    (provided_told b (named_fit (meaning i) (signature_of s.stack.frames)) ValueTooLarge
+    (answered (Given.Assignment (named_truths (meaning i) (signature_of s.stack.frames))) s) refl)
 
 assuming_told : (s : State.State) (o : Outcome Change) → is_told true (assuming s o) ≡ true
 assuming_told s (refused r) = refl

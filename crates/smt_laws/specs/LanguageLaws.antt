@@ -17,7 +17,7 @@ use Rattle.smt_meaning.specs.Sexp.{Sexp}
 use Rattle.smt_meaning.specs.Sorts.{is_small}
 use Rattle.smt_meaning.specs.Command.{command}
 use Rattle.smt_meaning.specs.State.{State, checked_frames, frame_of}
-use Rattle.smt_meaning.specs.Stack.{Assertion, Frame, on_top, pushed, popped}
+use Rattle.smt_meaning.specs.Stack.{Assertion, Frame, depth, on_top, pushed, popped}
 use Rattle.smt_meaning.specs.MayReply.{Decided, MayReply, Replies, IsExactly, IsModel}
 use Rattle.smt_meaning.specs.LegalJournal.{Moment, beginning, Runs}
 use Rattle.smt_meaning.specs.Text.{text, line}
@@ -49,21 +49,21 @@ IsLine bytes = (front : List ℕ) × (last : ℕ) × (bytes ≡ line (front ++ l
 abbrev pub TextEndsInOneLine : Type 0
 TextEndsInOneLine = (r : Reply) → ((r ≡ Silent) × (text r ≡ [])) ⊎ IsLine (text r)
 
--- outside the start mode a logic is set, and a model that is kept is one of the levels of the last check
-abbrev pub ModeFits : Mode → Option (List ℕ) → List Frame → Type 0
-ModeFits In.Start None frames = Unit {0}
-ModeFits In.Start (Some n) frames = ⊥
-ModeFits In.Assert (Some n) frames = Unit {0}
-ModeFits (In.Sat i) (Some n) frames = IsModel frames i
-ModeFits (In.Unknown r) (Some n) frames = Unit {0}
-ModeFits In.Unsat (Some n) frames = Unit {0}
-ModeFits _ None frames = ⊥
+-- in the start mode no level stands above 0; outside it a logic is set, and a model that is kept is one of the levels of the last check
+abbrev pub ModeFits : Mode → Option (List ℕ) → ℕ → List Frame → Type 0
+ModeFits In.Start None level frames = level ≡ 0
+ModeFits In.Start (Some n) level frames = ⊥
+ModeFits In.Assert (Some n) level frames = Unit {0}
+ModeFits (In.Sat i) (Some n) level frames = IsModel frames i
+ModeFits (In.Unknown r) (Some n) level frames = Unit {0}
+ModeFits In.Unsat (Some n) level frames = Unit {0}
+ModeFits _ None level frames = ⊥
 
 -- so it is in every state that a journal comes to
 abbrev pub ModeHolds : Type 0
 ModeHolds =
     (decided : Decided) (settings : Settings) (input : List ℕ) (entries : List Entry) (m : Moment)
-    → Runs decided (beginning settings input) entries m → ModeFits m.state.mode m.state.logic (checked_frames m.state)
+    → Runs decided (beginning settings input) entries m → ModeFits m.state.mode m.state.logic (depth m.state.stack.frames) (checked_frames m.state)
 
 -- a number that a script writes: at most 2^127 - 1, and not below 0
 abbrev pub IsWritten : ℤ → Type 0

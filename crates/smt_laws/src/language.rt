@@ -16,7 +16,7 @@ pub fn text_ends_in_one_line()
     ensures { TextEndsInOneLine }
 {}
 
-/// In every state that a journal comes to, a logic is set exactly outside the start mode, and a model that is kept makes every assertion of the stack true, and every assumption of the
+/// In every state that a journal comes to, a logic is set exactly outside the start mode, in which no level stands above 0, and a model that is kept makes every assertion of the stack true, and every assumption of the
 /// last check.
 pub fn mode_holds()
     ensures { ModeHolds }

@@ -5,9 +5,11 @@
 //! left. An error, and `unsupported`, leave the state as it was. A reply's bytes end in one line
 //! feed, and only a success that isn't printed has none.
 //!
-//! Of states that a journal comes to: a logic is set exactly outside the start mode. A model that
-//! is kept makes every assertion of the stack true, with every number on the way in the range. The
-//! numbers of a command are at most 2^127 - 1 and not below 0.
+//! Of states that a journal comes to: a logic is set exactly outside the start mode, in which no
+//! level stands above 0. A model that is kept makes every assertion of the stack true, and every
+//! assumption of the last check, with every number on the way in the range. The numbers of a
+//! command are at most 2^127 - 1 and not below 0. After a check under assumptions the levels are
+//! those before it.
 //!
 //! Of terms: a well-sorted term has a value of its sort, which depends on its symbols alone; the
 //! tables for a signature interpret it; the value of an accepted term by cases on its text, also

@@ -196,6 +196,15 @@ abbrev pub named_truths : Interpretation → List Declaration → List NamedTrut
 named_truths I [] = []
 named_truths I (d ∷ ds) = if is_truth_name d then record { name = d.name; value = truth_of_body I d.body } ∷ named_truths I ds else named_truths I ds
 
+-- the partial results of a name's term are within the range: it may stand in a part of its assertion that isn't asserted
+abbrev pub body_fits : Interpretation → Option Body → Bool
+body_fits I None = true
+body_fits I (Some b) = fits I b.term
+
+abbrev pub named_fit : Interpretation → List Declaration → Bool
+named_fit I [] = true
+named_fit I (d ∷ ds) = if is_truth_name d then body_fits I d.body && named_fit I ds else named_fit I ds
+
 abbrev pub texts_of : Frame → List (List Token)
 texts_of f = map (λ (a : Assertion). a.text) f.asserted
 
@@ -304,7 +313,8 @@ abbrev pub get_assignment : State → Option (List Table) → Effect
 get_assignment s None = denied NoModel
 get_assignment s (Some i) =
     provided s.options.produce_assignments (OptionIsOff Named.ProduceAssignments)
-    (answered (Given.Assignment (named_truths (meaning i) (signature_of s.stack.frames))) s)
+    (provided (named_fit (meaning i) (signature_of s.stack.frames)) ValueTooLarge
+    (answered (Given.Assignment (named_truths (meaning i) (signature_of s.stack.frames))) s))
 
 abbrev pub get_assertions : State → Effect
 get_assertions s =
