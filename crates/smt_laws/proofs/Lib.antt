@@ -46,6 +46,8 @@ mod Reports
 mod Ranges
 mod Assumptions
 mod Assumed
+mod Asked
+mod AssumedCommands
 pub mod FlatLaw
 mod Each
 mod Shapes

@@ -1,11 +1,11 @@
 -- Laws of the definitions of commands and replies.
-use Rattle.std.specs.Prelude.{◌≡◌, ◌≢◌, ◌⊎◌, ℕ, List, [], ◌∷◌, ◌++◌, ℤ, pos, IsTrue, Option, Some, None, Ok}
+use Rattle.std.specs.Prelude.{◌≡◌, ◌≢◌, ◌⊎◌, ℕ, List, [], ◌∷◌, ◌++◌, map, ℤ, pos, IsTrue, Option, Some, None, Ok}
 use Rattle.smt_meaning.specs.declared.tokens.Token.{Token}
 use Rattle.smt_meaning.specs.declared.errors.Error.{Error as ErrorReply}
 use Rattle.smt_meaning.specs.declared.commands.Command.{Command}
 use Rattle.smt_meaning.specs.declared.options.OptionSetting.{OptionSetting}
 use Rattle.smt_meaning.specs.declared.options.OptionSetting.TheVariants.{Verbosity, ReproducibleResourceLimit, RandomSeed}
-use Rattle.smt_meaning.specs.declared.commands.Command.TheVariants.{SetOption, DeclareSort, CheckSat, CheckSatAssuming, Push, Pop}
+use Rattle.smt_meaning.specs.declared.commands.Command.TheVariants.{SetOption, DeclareSort, Assert, CheckSat, CheckSatAssuming, Push, Pop}
 use Rattle.smt_meaning.specs.declared.settings.Settings.{Settings}
 use Rattle.smt_meaning.specs.declared.answers.Entry.{Entry}
 use Rattle.smt_meaning.specs.declared.answers.Mode.{Mode}
@@ -14,7 +14,8 @@ use Rattle.smt_meaning.specs.declared.answers.Reply.{Reply}
 use Rattle.smt_meaning.specs.declared.answers.Reply.TheVariants.{Silent, Unsupported, Error}
 use Rattle.smt_meaning.specs.declared.replies.Kept.{Kept}
 use Rattle.smt_meaning.specs.Sexp.{Sexp}
-use Rattle.smt_meaning.specs.Sorts.{is_small}
+use Rattle.smt_meaning.specs.Sorts.{is_small, Scope, done}
+use Rattle.smt_meaning.specs.StackCommand.{start, assumes, assume_terms, judged, changed, after_all}
 use Rattle.smt_meaning.specs.Command.{command}
 use Rattle.smt_meaning.specs.State.{State, checked_frames, frame_of}
 use Rattle.smt_meaning.specs.Stack.{Assertion, Frame, depth, on_top, pushed, popped}
@@ -93,6 +94,12 @@ pub record IsLevelOfAssumptions (frames : List Frame) (xs : List Assertion) : Ty
 
 abbrev pub AssumptionsAreALevel : Type 0
 AssumptionsAreALevel = (frames : List Frame) (xs : List Assertion) → IsLevelOfAssumptions frames xs
+
+-- and by commands: a push, and the assumptions as assertions, make of a stack what the check sees
+abbrev pub AssumptionsAreCommands : Type 0
+AssumptionsAreCommands =
+    (cs : List Command) (texts : List (List Token)) (xs : List Assertion) (c : Scope) → judged (λ level. assume_terms level texts) (after_all start cs) ≡ done (assumes xs) c
+    → after_all start (cs ++ Push (pos 1) ∷ map Assert texts) ≡ record (changed (after_all start cs) (assumes xs) c) { frames = (after_all start cs).frames ++ frame_of xs ∷ [] }
 
 -- after a check under assumptions the levels are those before it, whatever was answered
 abbrev pub AssumptionsGo : Type 0

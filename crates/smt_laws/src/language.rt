@@ -1,5 +1,5 @@
 //! Laws of the definitions of commands, replies and their texts, each as the contract of a function that does nothing.
-ghost use Rattle.smt_laws.specs.LanguageLaws.{AssumptionsAreALevel, AssumptionsGo, ModeHolds, NumbersAreWritten, OneReply, RefusalChangesNothing, TextEndsInOneLine};
+ghost use Rattle.smt_laws.specs.LanguageLaws.{AssumptionsAreALevel, AssumptionsAreCommands, AssumptionsGo, ModeHolds, NumbersAreWritten, OneReply, RefusalChangesNothing, TextEndsInOneLine};
 
 /// Where a command is no check, without assumptions or with, exactly one reply may be given, and one state be left.
 pub fn one_reply()
@@ -30,6 +30,11 @@ pub fn numbers_are_written()
 /// After a check under assumptions the stack has the levels that it had before, whatever was answered.
 pub fn assumptions_go()
     ensures { AssumptionsGo }
+{}
+
+/// What a check under assumptions sees is the stack after a push and the assumptions as assertions.
+pub fn assumptions_are_commands()
+    ensures { AssumptionsAreCommands }
 {}
 
 /// The levels of such a check are what a push and the assertions of the assumptions make of the stack's; a pop gives these back.

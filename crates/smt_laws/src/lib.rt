@@ -8,8 +8,8 @@
 //! Of states that a journal comes to: a logic is set exactly outside the start mode, in which no
 //! level stands above 0. A model that is kept makes every assertion of the stack true, and every
 //! assumption of the last check, with every number on the way in the range. The numbers of a
-//! command are at most 2^127 - 1 and not below 0. After a check under assumptions the levels are
-//! those before it.
+//! command are at most 2^127 - 1 and not below 0. A check under assumptions sees the stack after a
+//! push and the assumptions as assertions; after it the levels are those before it.
 //!
 //! Of terms: a well-sorted term has a value of its sort, which depends on its symbols alone; the
 //! tables for a signature interpret it; the value of an accepted term by cases on its text, also
@@ -61,8 +61,8 @@ pub use clauses::{
 };
 pub use flat::flat_says_the_same;
 pub use language::{
-    assumptions_are_a_level, assumptions_go, mode_holds, numbers_are_written, one_reply,
-    refusal_changes_nothing, text_ends_in_one_line,
+    assumptions_are_a_level, assumptions_are_commands, assumptions_go, mode_holds,
+    numbers_are_written, one_reply, refusal_changes_nothing, text_ends_in_one_line,
 };
 pub use linear::{
     assertions_are_linear, folded_forms_fit, leaves_are_among_the_trees, leaves_are_parts,
