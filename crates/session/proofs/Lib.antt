@@ -1,4 +1,7 @@
 pub mod Stacks
+pub mod Unders
+pub mod Storing
+pub mod Answered
 pub mod Prints
 pub mod Replies
 pub mod Values

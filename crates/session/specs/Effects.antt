@@ -1,7 +1,7 @@
 -- What a command that is no check comes to: its reply and the state after it.
 use Rattle.std.specs.Prelude.{◌≡◌, ℕ, ℤ, Bool, true, false, List, codes, Result}
 use Rattle.smt_meaning.specs.declared.commands.Command.{Command}
-use Rattle.smt_meaning.specs.declared.commands.Command.TheVariants.{DeclareSort, DefineSort, DeclareConst, DeclareFun, DefineFun, Assert, Push, Pop}
+use Rattle.smt_meaning.specs.declared.commands.Command.TheVariants.{DeclareSort, DefineSort, DeclareConst, DeclareFun, DefineFun, Assert, CheckSat, CheckSatAssuming, Push, Pop}
 use Rattle.smt_meaning.specs.declared.answers.Reply.{Reply}
 use Rattle.smt_meaning.specs.declared.answers.Reply.TheVariants as Given
 use Rattle.smt_meaning.specs.declared.tokens.Token.{Token}
@@ -19,6 +19,11 @@ Comes left_out old reply new = (reply ≡ Given.Unsupported) × (new ≡ old)
 Comes (accepted s) old reply new = (reply ≡ success s) × (new ≡ s)
 Comes (answered r s) old reply new = (reply ≡ r) × (new ≡ s)
 Comes (checked s) old reply new = ⊥
+
+abbrev pub is_check : Command → Bool
+is_check CheckSat = true
+is_check (CheckSatAssuming ts) = true
+is_check _ = false
 
 -- the commands that the stack carries out or refuses
 abbrev pub is_carried : Command → Bool

@@ -5,7 +5,10 @@
 //! memory changes nothing.
 #![tactic(auto)]
 
+mod answer;
 mod asked;
+mod assignment;
+mod assuming;
 mod carry;
 mod checks;
 mod found;

@@ -18,10 +18,11 @@ pub fn options_at_start(settings: &Settings) -> Options
         random_seed: i128::from(settings.seed),
         produce_models: false,
         produce_assertions: false,
+        produce_assignments: false,
     }
 }
 
-/// The options' values once one is set.
+/// The options' values once one is set. Whether declarations are global is the stack's.
 pub fn with_setting(options: Options, setting: OptionSetting) -> Options
     ensures { result ≡ set_option setting options }
 {
@@ -41,6 +42,8 @@ pub fn with_setting(options: Options, setting: OptionSetting) -> Options
         OptionSetting::ProduceAssertions(on) | OptionSetting::InteractiveMode(on) => {
             options.produce_assertions = on;
         }
+        OptionSetting::ProduceAssignments(on) => options.produce_assignments = on,
+        OptionSetting::GlobalDeclarations(_) => {}
     }
     options
 }
@@ -54,17 +57,20 @@ pub fn start_option(setting: OptionSetting) -> Option<OptionName>
         OptionSetting::ProduceModels(_) => Some(OptionName::ProduceModels),
         OptionSetting::ProduceAssertions(_) => Some(OptionName::ProduceAssertions),
         OptionSetting::InteractiveMode(_) => Some(OptionName::InteractiveMode),
+        OptionSetting::ProduceAssignments(_) => Some(OptionName::ProduceAssignments),
+        OptionSetting::GlobalDeclarations(_) => Some(OptionName::GlobalDeclarations),
         _ => None,
     }
 }
 
-/// The value of an option.
+/// The value of an option, where declarations are global or not.
 pub fn option_value(
     alloc: Global,
     options: &Options,
+    global: bool,
     option: OptionName,
 ) -> Result<OptionValue, AllocError>
-    ensures { IfOk result (λ v. v ≡ value_of options.now option) }
+    ensures { IfOk result (λ v. v ≡ value_of options.now global option) }
 {
     Ok(match option {
         OptionName::PrintSuccess => OptionValue::Truth(options.print_success),
@@ -81,6 +87,8 @@ pub fn option_value(
         OptionName::ProduceAssertions | OptionName::InteractiveMode => {
             OptionValue::Truth(options.produce_assertions)
         }
+        OptionName::ProduceAssignments => OptionValue::Truth(options.produce_assignments),
+        OptionName::GlobalDeclarations => OptionValue::Truth(global),
     })
 }
 

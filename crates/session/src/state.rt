@@ -2,23 +2,27 @@
 ghost use Rattle.std.specs.Prelude.{◌≡◌};
 ghost use Rattle.smt_meaning.specs.State.{is_start as is_start_mode};
 
+use crate::answer::answer_of;
 use crate::asked::values_of;
+use crate::assignment::named_truths;
+use crate::assuming::{Assumed, check_under};
 use crate::carry::{carry, refused, word};
-use crate::checks::{in_force, reason_of};
+use crate::checks::in_force;
 use crate::found::found;
 use crate::logic::Logic;
 use crate::options::{option_value, options_at_start, start_option, with_setting};
 use crate::printed::{printed_functions, texts_of};
-use scope_stack::{Carried, ScopeStack, StackError};
+use model_eval::EvalError;
+use scope_stack::{Assertion, Carried, ScopeStack, StackError};
 use smt_meaning::language::{
     Command, Error, Info, InfoName, Mode, OptionName, OptionSetting, Options, Reply,
 };
-use smt_meaning::{Bytes, Kept, SExpr, Settings};
+use smt_meaning::{Bytes, Kept, SExpr, Seq, Settings};
 use std::alloc::{AllocError, Global};
 use std::marker::Model;
-use theory_port::{Decider, Verdict};
+use theory_port::Decider;
 
-/// The state of a run: the settings of the words, the logic once it is set, the mode with the model that is kept, the options and the stack.
+/// The state of a run: the settings of the words, the logic once it is set, the mode with the model that is kept, the options, the stack, and what stood above it at the last check.
 #[derive(Drop)]
 pub struct Session {
     settings: Settings,
@@ -26,18 +30,23 @@ pub struct Session {
     mode: Mode,
     options: Options,
     stack: ScopeStack,
+    /// The assumptions of the last check, where it had any.
+    above: Option<Seq<Assertion>>,
 }
 
 impl Model for Session {
     ghost use Rattle.smt_meaning.specs.State.{State};
     ghost use Rattle.session.specs.Logics.{named};
     ghost use Rattle.session.specs.StateCode.{coded_state};
+    ghost use Rattle.session.specs.Above.{above_by, AreAbove};
 
     ghost Value = { State };
 
     ghost coded = { coded_state };
 
-    ghost view = { λ s. record { settings = s.settings; logic = named s.logic; mode = s.mode; options = s.options; stack = s.stack } };
+    ghost view = { λ s. record { settings = s.settings; logic = named s.logic; mode = s.mode; options = s.options; stack = s.stack; above = above_by s.stack.trees s.above } };
+
+    ghost invariant = { λ s. AreAbove s.stack.trees s.above };
 }
 
 /// What a command comes to.
@@ -52,12 +61,13 @@ pub struct Done {
 
 impl Session {
     ghost use Rattle.std.specs.Prelude.{◌≡◌, ◌≢◌, ◌↔◌, IfOk, OnErr, IsTrue};
-    ghost use Rattle.std.specs.Prelude.{codes};
-    ghost use Rattle.smt_meaning.specs.State.{start, with_logic, asserting, set_logic, set_option_in, start_option, option_value, reason_unknown, get_info, stack_effect, checked, effect, kept_model, get_value, get_model, get_assertions};
+    ghost use Rattle.std.specs.Prelude.{codes, [], IsFalse};
+    ghost use Rattle.smt_meaning.specs.State.{start, with_logic, asserting, set_logic, set_option_in, start_option, option_value, reason_unknown, get_info, stack_effect, checks, check_assuming, effect, kept_model, get_value, get_model, get_assertions, get_assignment};
     ghost use Rattle.smt_meaning.specs.StackCommand.{stack_command};
-    ghost use Rattle.session.specs.Effects.{Comes, is_carried, word_of};
+    ghost use Rattle.session.specs.Effects.{Comes, is_carried, is_check, word_of};
     ghost use Rattle.smt_meaning.specs.MayReply.{MayReply, MayCome, success};
-    ghost use Rattle.smt_meaning.specs.declared.commands.Command.TheVariants.{Exit, Reset, ResetAssertions, CheckSat};
+    ghost use Rattle.smt_meaning.specs.declared.commands.Command.TheVariants.{Exit, Reset, ResetAssertions, CheckSatAssuming};
+    ghost use Rattle.session.specs.Above.{above_by, AreAbove};
 
     /// The state at the start of a run. It takes no memory.
     pub fn new(alloc: Global, settings: &Settings) -> Self
@@ -69,6 +79,7 @@ impl Session {
             mode: Mode::Start,
             options: options_at_start(settings),
             stack: ScopeStack::new(alloc),
+            above: None,
         }
     }
 
@@ -101,17 +112,32 @@ impl Session {
     {
         match command {
             Command::CheckSat => self.check(alloc, decider),
+            Command::CheckSatAssuming(terms) => {
+                self.check_assuming(alloc, terms.as_slice(), decider)
+            }
             _ => {
                 let reply = self.answer(alloc, command)?;
+                self.cut(command, decider);
                 Ok((reply, Kept::Nothing))
             }
+        }
+    }
+
+    /// Has the decider forget what a command took from under it.
+    fn cut<D: Decider>(&self, command: &Command, decider: &mut D) {
+        match command {
+            Command::SetOption(OptionSetting::GlobalDeclarations(_))
+            | Command::Reset
+            | Command::ResetAssertions => decider.cut_to(-1),
+            Command::Pop(_) => decider.cut_to(i32::from(self.stack.depth())),
+            _ => {}
         }
     }
 
     /// Answers a command that is no check.
     #[tactic(auto, unfolding(smt_meaning::specs::State::effect))]
     fn answer(&mut self, alloc: Global, command: &Command) -> Result<Reply, AllocError>
-        requires { command.now ≢ CheckSat }
+        requires { IsFalse (is_check command.now) }
         ensures ok { IfOk result (λ r. Comes (effect self.old command.now) self.old r self.new) }
         ensures err { OnErr result (self.new ≡ self.old) }
     {
@@ -127,8 +153,9 @@ impl Session {
             Command::GetValue(terms) => self.get_value(alloc, terms.as_slice()),
             Command::GetModel => self.get_model(alloc),
             Command::GetAssertions => self.get_assertions(alloc),
+            Command::GetAssignment => self.get_assignment(alloc),
             Command::LeftOut => Ok(Reply::Unsupported),
-            Command::CheckSat => unreachable!(),
+            Command::CheckSat | Command::CheckSatAssuming(_) => unreachable!(),
             _ => self.on_stack(alloc, command),
         }
     }
@@ -159,6 +186,23 @@ impl Session {
         }
         let functions = printed_functions(alloc, &self.stack, model.as_slice())?;
         Ok(Reply::Model(functions))
+    }
+
+    /// `(get-assignment)`
+    fn get_assignment(&self, alloc: Global) -> Result<Reply, AllocError>
+        ensures { IfOk result (λ r. Comes (get_assignment self.now (kept_model self.now.mode)) self.now r self.now) }
+    {
+        let Mode::Sat(model) = &self.mode else {
+            return Ok(Reply::Error(Error::NoModel));
+        };
+        if !self.options.produce_assignments {
+            return Ok(Reply::Error(Error::OptionIsOff(OptionName::ProduceAssignments)));
+        }
+        match named_truths(alloc, model, self.stack.declarations()) {
+            Ok(truths) => Ok(Reply::Assignment(truths)),
+            Err(EvalError::Range(_)) => Ok(Reply::Error(Error::ValueTooLarge)),
+            Err(EvalError::Memory) => Err(AllocError),
+        }
     }
 
     /// `(get-assertions)`
@@ -195,12 +239,16 @@ impl Session {
         }
     }
 
-    /// Enters the mode of assertions.
-    fn enter_assertions(&mut self)
-        ensures { self.new ≡ asserting (with_logic self.old) }
+    /// Enters a mode in which a logic is set, where this stood above the stack at the last check.
+    fn enter(&mut self, mode: Mode, above: Option<Seq<Assertion>>)
+        requires { AreAbove self.old.stack.trees above }
+        ensures { self.new ≡ record (with_logic self.old) { mode = mode; above = above_by self.old.stack.trees above } }
     {
-        self.need_logic();
-        self.mode = Mode::Assert;
+        if self.logic.is_none() {
+            self.logic = Some(Logic::QfUflia);
+        }
+        self.mode = mode;
+        self.above = above;
     }
 
     /// `(set-logic name)`
@@ -215,6 +263,7 @@ impl Session {
         };
         self.logic = Some(logic);
         self.mode = Mode::Assert;
+        self.above = None;
         self.success()
     }
 
@@ -227,15 +276,19 @@ impl Session {
                 return Reply::Error(Error::OptionTooLate(option));
             }
         }
+        if let OptionSetting::GlobalDeclarations(global) = setting {
+            self.stack.set_global(global);
+        }
         self.options = with_setting(self.options, setting);
         self.success()
     }
 
     /// `(get-option :option)`
     fn get_option(&self, alloc: Global, option: OptionName) -> Result<Reply, AllocError>
-        ensures { IfOk result (λ r. r ≡ Reply.Option (option_value self.now.options option)) }
+        ensures { IfOk result (λ r. r ≡ Reply.Option (option_value self.now.options self.now.stack.global option)) }
     {
-        Ok(Reply::Option(option_value(alloc, &self.options, option)?))
+        let global = self.stack.global();
+        Ok(Reply::Option(option_value(alloc, &self.options, global, option)?))
     }
 
     /// `(get-info :keyword)`
@@ -273,7 +326,8 @@ impl Session {
     {
         match carry(alloc, command, &mut self.stack) {
             Ok(Carried::Done) => {
-                self.enter_assertions();
+                self.above = None;
+                self.enter(Mode::Assert, None);
                 Ok(self.success())
             }
             Ok(Carried::Unsupported) => Ok(Reply::Unsupported),
@@ -288,6 +342,7 @@ impl Session {
         ensures { Comes (stack_effect self.old (codes "reset") (stack_command Reset)) self.old result self.new }
     {
         self.stack.reset();
+        self.above = None;
         self.logic = None;
         self.mode = Mode::Start;
         self.options = options_at_start(&self.settings);
@@ -302,6 +357,7 @@ impl Session {
         self.stack.reset_assertions();
         if !is_start(&self.mode) {
             self.mode = Mode::Assert;
+            self.above = None;
         }
         self.success()
     }
@@ -312,31 +368,48 @@ impl Session {
         alloc: Global,
         decider: &mut D,
     ) -> Result<(Reply, Kept), AllocError>
-        ensures ok { IfOk result (λ answer. MayCome D.decides self.old (checked (with_logic self.old)) answer.0 answer.1 self.new) }
+        ensures ok { IfOk result (λ answer. MayCome D.decides self.old (checks self.old self.old.stack []) answer.0 answer.1 self.new) }
         ensures err { OnErr result (self.new ≡ self.old) }
     {
         let settings = in_force(&self.settings, &self.options);
         let Some(verdict) = found(alloc, decider, &settings, &mut self.stack)? else {
             return Ok((Reply::Unsupported, Kept::Nothing));
         };
-        match verdict {
-            Verdict::Sat(model) => {
-                let kept = model.copy_tables(alloc)?;
-                self.need_logic();
-                self.mode = Mode::Sat(model);
-                Ok((Reply::Sat, Kept::Model(kept)))
+        let answer = answer_of(alloc, verdict)?;
+        self.enter(answer.mode, None);
+        Ok((answer.reply, answer.kept))
+    }
+
+    /// `(check-sat-assuming (term ..))`
+    fn check_assuming<D: Decider>(
+        &mut self,
+        alloc: Global,
+        terms: &[SExpr],
+        decider: &mut D,
+    ) -> Result<(Reply, Kept), AllocError>
+        ensures ok { IfOk result (λ answer. MayCome D.decides self.old (check_assuming self.old (stack_command (CheckSatAssuming terms.now))) answer.0 answer.1 self.new) }
+        ensures err { OnErr result (self.new ≡ self.old) }
+    {
+        let settings = in_force(&self.settings, &self.options);
+        match check_under(alloc, decider, &settings, &mut self.stack, terms) {
+            Ok(
+                Some(
+                    Assumed {
+                        answer,
+                        assumptions,
+                    },
+                ),
+            ) => {
+                self.above = None;
+                self.enter(answer.mode, Some(assumptions));
+                Ok((answer.reply, answer.kept))
             }
-            Verdict::Unsat => {
-                self.need_logic();
-                self.mode = Mode::Unsat;
-                Ok((Reply::Unsat, Kept::Nothing))
+            Ok(None) => Ok((Reply::Unsupported, Kept::Nothing)),
+            Err(StackError::Refused(why)) => {
+                let reply = refused(alloc, b"check-sat-assuming", why)?;
+                Ok((reply, Kept::Nothing))
             }
-            Verdict::Unknown(reports) => {
-                let reason = reason_of(reports.as_slice());
-                self.need_logic();
-                self.mode = Mode::Unknown(reason);
-                Ok((Reply::Unknown, Kept::Reports(reports)))
-            }
+            Err(StackError::Memory) => Err(AllocError),
         }
     }
 }

@@ -1,0 +1,17 @@
+-- What stood above the stack at the last check: the level of the assumptions, where there was one.
+use Rattle.std.specs.Prelude.{List, [], ◌∷◌, map, All, Option, Some, None}
+use Rattle.smt_meaning.specs.Term.{Tree}
+use Rattle.smt_meaning.specs.Stack.{Frame}
+use Rattle.smt_meaning.specs.State.{frame_of}
+use Rattle.scope_stack.specs.declared.answers.Assertion.{Assertion}
+use Rattle.scope_stack.specs.Inside.{asserted_by, IsWithin}
+
+-- the level of these assumptions, whose terms stand at places of the list
+abbrev pub above_by : List Tree → Option (List Assertion) → List Frame
+above_by ts None = []
+above_by ts (Some xs) = frame_of (map (asserted_by ts) xs) ∷ []
+
+-- their places are among the trees
+abbrev pub AreAbove : List Tree → Option (List Assertion) → Type 0
+AreAbove ts None = Unit {0}
+AreAbove ts (Some xs) = All (IsWithin ts) xs

@@ -1,0 +1,18 @@
+-- What a check of a stack under assumptions comes to.
+use Rattle.std.specs.Prelude.{◌≡◌, ℕ, ℤ, Bool, true, List, map, drop, flat_map, All}
+use Rattle.smt_meaning.specs.Term.{tree_at}
+use Rattle.smt_meaning.specs.Stack.{Frame, assertions_of}
+use Rattle.smt_meaning.specs.StackCommand.{Stack}
+use Rattle.smt_meaning.specs.State.{State, checked_frames, texts_of}
+use Rattle.scope_stack.specs.declared.answers.Assertion.{Assertion}
+use Rattle.scope_stack.specs.Inside.{IsWithin}
+use Rattle.session.specs.declared.assuming.Assumed.{Assumed}
+use Rattle.session.specs.Assumed.{Answers}
+
+-- the stack is taken and its check answered, and these are the assertions after so many, each by its text and the place of its term
+pub record IsAnsweredUnder (decided : List Frame → Bool) (limit : ℤ) (below : ℕ) (s : Stack) (a : Assumed) : Type 0 where
+  pub taken : decided s.frames ≡ true
+  pub answer : (t : State) → t.stack.trees ≡ s.trees → checked_frames t ≡ s.frames → t.options.reproducible_resource_limit ≡ limit → Answers t a.answer
+  pub texts : map (λ (x : Assertion). x.text) a.assumptions ≡ drop below (flat_map texts_of s.frames)
+  pub terms : map (λ (x : Assertion). tree_at s.trees x.term) a.assumptions ≡ drop below (assertions_of s.frames)
+  pub within : All (IsWithin s.trees) a.assumptions
