@@ -1,9 +1,8 @@
 -- A small race on the definitions: a clause of a level that is popped goes with it.
-use Rattle.std.proofs.Common.{◌≡◌, ℕ, ◌+◌, ◌<◌, Bool, true, false, List, [], ◌∷◌, ◌++◌, length, refl, arith, All, Contains}
+use Rattle.std.proofs.Common.{◌≡◌, Bool, true, false, [], ◌∷◌, refl, arith, All}
 use Rattle.std.specs.Prelude.{codes, not, IsTrue, None, Some}
 use Rattle.std.proofs.lemmas.List.Elements.{All-nil, All-cons}
 use Rattle.smt_meaning.specs.declared.clauses.Clause.{Clause}
-use Rattle.smt_meaning.specs.declared.clauses.Literal.{Literal}
 use Rattle.smt_meaning.specs.declared.clauses.Atom.TheVariants.{Truth}
 use Rattle.smt_meaning.specs.declared.tokens.Token.TheVariants.{Enter, Leave, Symbol}
 use Rattle.smt_meaning.specs.declared.terms.Head.TheVariants.{Theory, Symbol as Function}
@@ -11,17 +10,14 @@ use Rattle.smt_meaning.specs.declared.terms.Operator.TheVariants.{Not}
 use Rattle.smt_meaning.specs.declared.values.Sort.TheVariants.{Bool as Truths}
 use Rattle.smt_meaning.specs.Declaration.{Declaration}
 use Rattle.smt_meaning.specs.Term.{Tree, node, none, more, Interpretation, value, truth_of}
-use Rattle.smt_meaning.specs.Sexp.{sexp}
-use Rattle.smt_meaning.specs.Sorts.{judge, done, Scope, ◌>>=◌, ◌>>◌, return, refuse, require, required, the_scope, note, found}
-use Rattle.smt_meaning.specs.StackCommand.{in_assert}
-use Rattle.race_model.specs.declared.event.Entry.{Entry}
+use Rattle.smt_meaning.specs.Sorts.{◌>>=◌, ◌>>◌, return, refuse, require, required, the_scope, note, found}
 use Rattle.race_model.specs.declared.event.Premise.TheVariants.{Asserted}
 use Rattle.race_model.specs.declared.event.Event.{Event}
 use Rattle.race_model.specs.declared.event.Event.TheVariants.{Learn, Share, TakeBatch, Pop, Push, Assert}
 use Rattle.race_model.specs.Race.{State, IsBoolTerm, Supports, IsShown, Passes, IsRace, after, fresh_worker, worker_at}
 
 abbrev p : Declaration
-p = record { id = 0; name = codes "p"; rank = record { arguments = []; result = Truths }; body = None; is_sort = false }
+p = record { id = 0; name = codes "p"; rank = record { arguments = []; result = Truths }; body = None; is_sort = false; is_name = false }
 
 abbrev p_tree : Tree
 p_tree = node (Function 0) none
@@ -36,6 +32,7 @@ first = record {
   entries = [];
   workers = fresh_worker ∷ fresh_worker ∷ [];
   winner = None;
+  global = false;
 }
 
 abbrev states : Event

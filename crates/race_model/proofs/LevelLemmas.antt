@@ -1,10 +1,10 @@
 -- Levels read as frames.
-use Rattle.std.proofs.Common.{◌≡◌, ℕ, zero, suc, ◌+◌, ◌-◌, ◌<◌, ◌≤◌, List, [], ◌∷◌, ◌++◌, map, take, length, replicate, set, get_or, arith, refl, ap, ◌∙◌, sym, Bool, true, false, ◌||◌, ◌&&◌, append_assoc}
-use Rattle.std.specs.Prelude.{nat_eq}
+use Rattle.std.proofs.Common.{◌≡◌, ℕ, zero, suc, ◌+◌, ◌<◌, ◌≤◌, List, [], ◌∷◌, ◌++◌, map, take, length, replicate, set, get_or, arith, refl, ap, ◌∙◌, sym, Bool, true, false, ◌||◌, ◌&&◌, append_assoc, append-nil}
+use Rattle.std.specs.Prelude.{nat_eq, Result, Ok, Err, OnOk}
 use Rattle.std.proofs.lemmas.List.{map-append}
 use Rattle.smt_meaning.specs.Declaration.{Declaration}
 use Rattle.smt_meaning.specs.Term.{Tree}
-use Rattle.smt_meaning.specs.Stack.{Frame, Assertion, signature_of, on_top, empty_frame, pushed}
+use Rattle.smt_meaning.specs.Stack.{Frame, Assertion, signature_of, on_top, at_base, with_declared, empty_frame, pushed}
 use Rattle.race_model.specs.declared.event.Formula.{Formula}
 use Rattle.race_model.specs.declared.levels.Level.{Level}
 use Rattle.race_model.specs.Base.{frame_of, assertion_of, declared_in}
@@ -85,6 +85,42 @@ gained ts (l ∷ n ∷ ls) (suc k) m ds fs e d a = rest_of (set (n ∷ ls) k m) 
     rest_of : (xs : List Level) → map (frame_of ts) xs ≡ on_top ds (map (assertion_of ts) fs) (frame_of ts n ∷ map (frame_of ts) ls)
         → map (frame_of ts) (l ∷ xs) ≡ on_top ds (map (assertion_of ts) fs) (frame_of ts l ∷ frame_of ts n ∷ map (frame_of ts) ls)
     rest_of xs h = ap (λ gs. frame_of ts l ∷ gs) h
+
+-- level 0 has gained declarations, and the last level, which is another, names and formulas
+pub gained_apart : (ts : List Tree) (ls : List Level) (k : ℕ) (none base newest : Level) (ds ns : List Declaration) (fs : List Formula) → 1 < length ls → k + 1 ≡ length ls
+    → base.declared ≡ (get_or ls 0 base).declared ++ ds → base.asserted ≡ (get_or ls 0 base).asserted
+    → newest.declared ≡ (get_or ls k newest).declared ++ ns → newest.asserted ≡ (get_or ls k newest).asserted ++ fs
+    → map (frame_of ts) (set (set (set ls 0 none) k newest) 0 base) ≡ on_top ns (map (assertion_of ts) fs) (at_base ds (map (frame_of ts) ls))
+gained_apart ts [] k none base newest ds ns fs more e bd ba nd na = absurd (omega arith)
+gained_apart ts (l ∷ []) k none base newest ds ns fs more e bd ba nd na = absurd (omega arith)
+gained_apart ts (l ∷ n ∷ ls) zero none base newest ds ns fs more e bd ba nd na = absurd (omega arith)
+gained_apart ts (l ∷ n ∷ ls) (suc k) none base newest ds ns fs more e bd ba nd na =
+    λ i. record { declared = bd i; asserted = ap (map (assertion_of ts)) ba i } ∷ gained ts (n ∷ ls) k newest ns fs (omega arith) nd na i
+
+pub on_ok_both : {A E : Type 0} (r : Result A E) (P Q R : Type 0) → (P → Q → R) → OnOk r P → OnOk r Q → OnOk r R
+on_ok_both (Ok a) P Q R f p q = f p q
+on_ok_both (Err e) P Q R f p q = tt
+
+-- another level is the same
+pub other_level : (ls : List Level) (k : ℕ) (none d : Level) → 0 < k → get_or (set ls 0 none) k d ≡ get_or ls k d
+other_level [] k none d more = refl
+other_level (l ∷ ls) zero none d more = absurd (omega arith)
+other_level (l ∷ ls) (suc k) none d more = refl
+
+-- the newest level gains declarations, and then the rest: all at once
+pub both_on_top : (ds ns : List Declaration) (xs : List Assertion) (frames : List Frame) → on_top (ds ++ ns) xs frames ≡ on_top ns xs (on_top ds [] frames)
+both_on_top ds ns xs [] = refl
+both_on_top ds ns xs (f ∷ []) =
+    λ i. record { declared = sym (append_assoc f.declared ds ns) i; asserted = ap (λ ys. ys ++ xs) (sym (append-nil f.asserted)) i } ∷ []
+both_on_top ds ns xs (f ∷ g ∷ []) = ap (λ fs. f ∷ fs) (both_on_top ds ns xs (g ∷ []))
+both_on_top ds ns xs (f ∷ g ∷ h ∷ frames) = ap (λ fs. f ∷ fs) (both_on_top ds ns xs (g ∷ h ∷ frames))
+
+-- so too where they are global, but no level stands above 0
+pub at_newest : (global : Bool) (ds ns : List Declaration) (xs : List Assertion) (frames : List Frame) → (global ≡ true → length frames ≤ 1) → on_top (ds ++ ns) xs frames ≡ on_top ns xs (with_declared global ds frames)
+at_newest false ds ns xs frames few = both_on_top ds ns xs frames
+at_newest true ds ns xs [] few = refl
+at_newest true ds ns xs (f ∷ []) few = ap (λ es. record { declared = es; asserted = f.asserted ++ xs } ∷ []) (sym (append_assoc f.declared ds ns))
+at_newest true ds ns xs (f ∷ g ∷ frames) few = let q : length (f ∷ g ∷ frames) ≤ 1 = few refl in absurd (omega arith)
 
 pub found_in : (i : ℕ) (all rest tail : List Level) (l : Level) → rest ≡ l ∷ tail → has_id i (declared_in all) ≡ has_id i (declared_in rest) → has_id i l.declared ≡ true → true ≡ has_id i (declared_in all)
 found_in i all rest tail l e h is_so =

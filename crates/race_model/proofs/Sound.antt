@@ -1,18 +1,18 @@
 -- Every event keeps a state sound, and so does the beginning of a next race.
-use Rattle.std.proofs.Common.{◌≡◌, ℕ, zero, suc, ◌+◌, ◌-◌, ◌<◌, ◌≤◌, List, [], ◌∷◌, ◌++◌, map, take, drop, length, replicate, All, subst, ap, arith, refl, Bool, true, sym, Contains, Some, None, Option, add-one}
+use Rattle.std.proofs.Common.{◌≡◌, ℕ, zero, suc, ◌+◌, ◌-◌, ◌<◌, ◌≤◌, List, [], ◌∷◌, ◌++◌, take, drop, length, replicate, All, subst, ap, arith, refl, Bool, true, false, sym, Contains, add-one}
 use Rattle.std.specs.List.{AllZip}
 use Rattle.std.specs.Prelude.{filter, nat_lt, slice_get, IfSome}
 use Rattle.std.proofs.lemmas.Bool.Decides.{nat_tests}
 use Rattle.std.proofs.Math.ListN.{get_or-append}
-use Rattle.std.proofs.lemmas.List.{get_or-append-add, take-append-le, length-append, length-take-le, take-take, take-append-drop}
+use Rattle.std.proofs.lemmas.List.{get_or-append-add, length-append, length-take-le, take-take, take-append-drop}
 use Rattle.std.proofs.lemmas.List.Elements.{All-nil, All-cons, All-head, All-tail, All-weaker, All-contains, All-append, All-set, All-get_or, All-push, All-map, All-drop, All-filter, filter_passes, filter-append}
 use Rattle.smt_meaning.specs.Declaration.{Declaration}
 use Rattle.smt_meaning.specs.declared.clauses.Clause.{Clause}
 use Rattle.smt_meaning.specs.Term.{Tree, Interpretation}
 use Rattle.smt_meaning.specs.Interpretation.{Interprets}
-use Rattle.smt_meaning.specs.Stack.{Frame, Assertion, Satisfies, Holds, HasNoModel, signature_of, assertions_of, terms_of, up_to, on_top, pushed, popped, empty_frame}
+use Rattle.smt_meaning.specs.Stack.{Frame, Assertion, Satisfies, Holds, HasNoModel, signature_of, assertions_of, terms_of, up_to, on_top, with_declared, pushed, empty_frame}
 use Rattle.smt_meaning.specs.Follows.{Follows, FollowsFrom, follows, follows_from}
-use Rattle.smt_laws.specs.ClauseLaws.{StillFollowsAfterPush, StillFollowsAfterMore, StillFollowsAfterPop, StillFollowsAbove, StillFollowsWithTrees, EmptyClauseShowsNoModel}
+use Rattle.smt_laws.specs.ClauseLaws.{StillFollowsAfterPush, StillFollowsAfterDeclared, StillFollowsAfterMore, StillFollowsAfterPop, StillFollowsAbove, StillFollowsWithTrees, EmptyClauseShowsNoModel}
 use Rattle.race_model.specs.declared.event.Entry.{Entry}
 use Rattle.race_model.specs.declared.event.Premise.{Premise}
 use Rattle.race_model.specs.declared.event.Premise.TheVariants.{Known, Asserted}
@@ -20,7 +20,7 @@ use Rattle.race_model.specs.declared.event.Event.{Event}
 use Rattle.race_model.specs.declared.event.Event.TheVariants.{Learn, Share, TakeBatch, Win, End, Push, Pop, Assert}
 use Rattle.race_model.specs.declared.state.Worker.{Worker}
 use Rattle.race_model.specs.Base.{Base}
-use Rattle.race_model.specs.Race.{State, worker_at, nobody, IsRunning, terms_at, Supports, PremiseTrue, IsShown, Allowed, after, after_cut, asserted_by, entries_below, cut_worker, fresh_worker, IsRace, IsRun, IsStart, no_race, race, BeginsAgain, BeginsAfter}
+use Rattle.race_model.specs.Race.{State, worker_at, nobody, IsRunning, terms_at, Supports, PremiseTrue, IsShown, Allowed, after, after_cut, asserted_by, with_additions, entries_below, cut_worker, fresh_worker, IsRace, IsRun, IsStart, no_race, race, BeginsAgain, BeginsAfter}
 use Rattle.race_model.specs.Laws.{IsSound, IsSoundState}
 
 -- ---- lists
@@ -55,6 +55,18 @@ module _ (more : StillFollowsAfterMore) where
   sound_after_more b ds xs c h = record {
     follows = more b.trees b.frames c.level c ds xs h.follows;
     within = rw (length-on_top ds xs b.frames) h.within;
+  }
+
+length-declared : (b : Bool) (ds : List Declaration) (frames : List Frame) → length (with_declared b ds frames) ≡ length frames
+length-declared true ds [] = refl
+length-declared true ds (f ∷ frames) = refl
+length-declared false ds frames = length-on_top ds [] frames
+
+module _ (declared : StillFollowsAfterDeclared) where
+  pub sound_after_declared : (b : Base) (global : Bool) (ds : List Declaration) (c : Clause) → IsSound b c → IsSound (record b { frames = with_declared global ds b.frames }) c
+  sound_after_declared b global ds c h = record {
+    follows = declared b.trees b.frames c.level c global ds h.follows;
+    within = rw (length-declared global ds b.frames) h.within;
   }
 
 module _ (pop : StillFollowsAfterPop) where
@@ -121,7 +133,7 @@ module _ (above : StillFollowsAbove) where
 
 -- ---- events
 
-module _ (push : StillFollowsAfterPush) (more : StillFollowsAfterMore) (pop : StillFollowsAfterPop) (above : StillFollowsAbove) where
+module _ (push : StillFollowsAfterPush) (declared : StillFollowsAfterDeclared) (more : StillFollowsAfterMore) (pop : StillFollowsAfterPop) (above : StillFollowsAbove) where
   pub cut_keeps : (s : State) (n : ℕ) → n ≤ length s.base.frames → IsSoundState s → IsSoundState (after_cut n s)
   cut_keeps s n short h = record {
     entries = filter_all (λ (e : Entry). nat_lt e.clause.level n) _ _ (λ e below sound. sound_after_cut pop s.base n e.clause (grind (arith, nat_tests)) short sound) s.entries h.entries;
@@ -165,7 +177,9 @@ module _ (push : StillFollowsAfterPush) (more : StillFollowsAfterMore) (pop : St
   }
   step_keeps s (Push n) m h = in_more s _ (sound_after_push push s.base n) h
   step_keeps s (Pop n) m h = cut_keeps s (length s.base.frames - n) (omega arith) h
-  step_keeps s (Assert a) m h = in_more s _ (sound_after_more more s.base (a.declared ++ a.named) (asserted_by s a)) h
+  step_keeps s (Assert a) m h =
+      in_more s _ (λ c sound.
+      sound_after_more more (record s.base { frames = with_additions s a }) a.named (asserted_by s a) c (sound_after_declared declared s.base s.global a.declared c sound)) h
 
 -- ---- races
 

@@ -1,5 +1,5 @@
 -- Levels whose terms are named by their places in a list of trees, read as the frames of a stack.
-use Rattle.std.specs.Prelude.{ℕ, List, [], ◌∷◌, ◌++◌, map}
+use Rattle.std.specs.Prelude.{List, [], ◌∷◌, ◌++◌, map}
 use Rattle.smt_meaning.specs.Declaration.{Declaration}
 use Rattle.smt_meaning.specs.Term.{Tree, tree_at}
 use Rattle.smt_meaning.specs.Stack.{Assertion, Frame}

@@ -1,9 +1,9 @@
 -- A sound state, and that every run keeps states sound.
-use Rattle.std.specs.Prelude.{◌≡◌, ℕ, ◌<◌, ◌≤◌, List, [], ◌++◌, length, take, All}
+use Rattle.std.specs.Prelude.{◌≡◌, ℕ, Bool, ◌<◌, ◌≤◌, List, [], ◌++◌, length, take, All}
 use Rattle.smt_meaning.specs.declared.clauses.Clause.{Clause}
 use Rattle.smt_meaning.specs.Declaration.{Declaration}
 use Rattle.smt_meaning.specs.Term.{Tree}
-use Rattle.smt_meaning.specs.Stack.{Assertion, HasNoModel, up_to, on_top, pushed}
+use Rattle.smt_meaning.specs.Stack.{Assertion, HasNoModel, up_to, on_top, with_declared, pushed}
 use Rattle.smt_meaning.specs.Follows.{Follows}
 use Rattle.race_model.specs.declared.event.Entry.{Entry}
 use Rattle.race_model.specs.declared.event.Event.{Event}
@@ -31,6 +31,11 @@ SoundAfterPush = (b : Base) (n : ℕ) (c : Clause) → IsSound b c → IsSound (
 -- after declarations and assertions,
 abbrev pub SoundAfterAssert : Type 0
 SoundAfterAssert = (b : Base) (ds : List Declaration) (xs : List Assertion) (c : Clause) → IsSound b c → IsSound (record b { frames = on_top ds xs b.frames }) c
+
+-- after declarations, which level 0 gains where they are global,
+abbrev pub SoundAfterDeclared : Type 0
+SoundAfterDeclared =
+    (b : Base) (global : Bool) (ds : List Declaration) (c : Clause) → IsSound b c → IsSound (record b { frames = with_declared global ds b.frames }) c
 
 -- where the levels below n stay, and its own is one of them,
 abbrev pub SoundAfterCut : Type 0

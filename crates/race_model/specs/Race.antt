@@ -9,7 +9,7 @@ use Rattle.smt_meaning.specs.Term.{Tree, Interpretation}
 use Rattle.smt_meaning.specs.Sexp.{sexp}
 use Rattle.smt_meaning.specs.Interpretation.{Interprets}
 use Rattle.smt_meaning.specs.Sorts.{Scope, done, judge}
-use Rattle.smt_meaning.specs.Stack.{Assertion, Frame, Satisfies, signature_of, assertions_of, terms_of, depth, up_to, on_top, pushed, popped}
+use Rattle.smt_meaning.specs.Stack.{Assertion, Frame, Satisfies, signature_of, assertions_of, terms_of, depth, up_to, on_top, with_declared, pushed}
 use Rattle.smt_meaning.specs.StackCommand.{in_assert}
 use Rattle.smt_meaning.specs.Clause.{ClauseTrue, clause_symbols, places}
 use Rattle.smt_meaning.specs.Follows.{declared_ids}
@@ -30,9 +30,11 @@ pub record State : Type 0 where
   pub entries : List Entry
   pub workers : List Worker
   pub winner : Option ℕ
+  -- declarations and definitions join level 0; no event changes this
+  pub global : Bool
 
 abbrev pub state_of : RaceState → State
-state_of s = record { base = base_of s.levels; entries = s.entries.items; workers = s.workers.items; winner = s.winner }
+state_of s = record { base = base_of s.levels; entries = s.entries.items; workers = s.workers.items; winner = s.winner; global = s.global }
 
 -- the most entries that a race has
 abbrev pub most_entries : ℕ
@@ -75,7 +77,7 @@ pub record IsShown (s : State) (ps : List Premise) (c : Clause) : Type 0 where
   pub declared : All (Contains (declared_ids (up_to c.level s.base.frames))) (clause_symbols s.base.trees c)
   pub within : All (λ i. i < length s.base.trees) (places c.literals)
 
--- ---- what joins the newest level
+-- ---- what joins the levels
 
 abbrev pub has_id : ℕ → List Declaration → Bool
 has_id i [] = false
@@ -98,9 +100,13 @@ pub record IsBoolTerm (ds : List Declaration) (text : List Token) (t : Tree) (na
   pub judged : judge in_assert [] (sexp text) (record { signature = ds; given = given; trees = [] }) ≡ done (record { tree = t; sort = Truths }) after
   pub names_are : after.signature ≡ ds ++ names
 
+-- the frames with the declarations and definitions of an addition
+abbrev pub with_additions : State → Addition → List Frame
+with_additions s a = with_declared s.global a.declared s.base.frames
+
 abbrev pub IsStated : State → Addition → Option Formula → Type 0
 IsStated s a None = a.named ≡ []
-IsStated s a (Some f) = IsBoolTerm (signature_of s.base.frames ++ a.declared) f.text (assertion_of s.base.trees f).term a.named
+IsStated s a (Some f) = IsBoolTerm (signature_of (with_additions s a)) f.text (assertion_of s.base.trees f).term a.named
 
 -- ---- when an event is a step
 
@@ -151,6 +157,7 @@ after_cut n s = record {
   entries = entries_below n s.entries;
   workers = map (cut_worker n s.entries) s.workers;
   winner = s.winner;
+  global = s.global;
 }
 
 -- a formula that is there or not, as a list
@@ -170,7 +177,7 @@ after s (Win w) = record s { winner = Some w }
 after s (End w) = with_worker s w (record (worker_at s w) { ended = true })
 after s (Push n) = with_frames s (pushed n s.base.frames)
 after s (Pop n) = after_cut (length s.base.frames - n) s
-after s (Assert a) = with_frames s (on_top (a.declared ++ a.named) (asserted_by s a) s.base.frames)
+after s (Assert a) = with_frames s (on_top a.named (asserted_by s a) (with_additions s a))
 
 -- it was a step, or it is none and nothing changed
 abbrev pub StepTells : State → Event → Bool → State → Type 0
@@ -196,13 +203,14 @@ pub record BeginsAfter (s t : State) : Type 0 where
   pub trees : (more : List Tree) × (t.base.trees ≡ s.base.trees ++ more)
   pub entries : t.entries ≡ s.entries
   pub winner : t.winner ≡ None
+  pub global : t.global ≡ s.global
   pub workers : AllZip BeginsAgain s.workers t.workers
 
 -- a worker that has no clause, has read nothing and is at work
 abbrev pub fresh_worker : Worker
 fresh_worker = record { own = []; mark = 0; ended = false }
 
--- the first race begins with no assertion, entry or own clause
+-- the first race begins with no assertion, entry or own clause, and whether declarations are global is one for the whole run
 pub record IsStart (s : State) : Type 0 where
   pub asserted : assertions_of s.base.frames ≡ []
   pub entries : s.entries ≡ []

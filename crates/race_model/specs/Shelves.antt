@@ -1,5 +1,5 @@
 -- What the calls of a shared pool of clauses do.
-use Rattle.std.specs.Prelude.{◌≡◌, ℕ, ◌+◌, ◌<◌, ◌≤◌, List, [], ◌∷◌, ◌++◌, length, replicate, None}
+use Rattle.std.specs.Prelude.{◌≡◌, ℕ, Bool, ◌+◌, ◌<◌, ◌≤◌, List, [], ◌∷◌, ◌++◌, length, replicate, None}
 use Rattle.smt_meaning.specs.declared.clauses.Clause.{Clause}
 use Rattle.race_model.specs.declared.event.Entry.{Entry}
 use Rattle.race_model.specs.declared.shelf.Told.{Told}
@@ -16,6 +16,8 @@ pub record ShelfState : Type 0 where
   -- so many ends, and so many shares, take no memory
   pub room : ℕ
   pub spare : ℕ
+  -- whether declarations are global
+  pub global : Bool
 
 -- all but the room is the same
 pub record IsSame (s t : ShelfState) : Type 0 where
@@ -24,6 +26,7 @@ pub record IsSame (s t : ShelfState) : Type 0 where
   pub ended : t.ended ≡ s.ended
   pub room : s.room ≤ t.room
   pub spare : s.spare ≤ t.spare
+  pub global : t.global ≡ s.global
 
 -- one entry more
 pub record Adds (e : Entry) (s t : ShelfState) : Type 0 where
@@ -32,6 +35,7 @@ pub record Adds (e : Entry) (s t : ShelfState) : Type 0 where
   pub ended : t.ended ≡ s.ended
   pub room : s.room ≤ t.room
   pub spare : s.spare ≤ t.spare + 1
+  pub global : t.global ≡ s.global
 
 -- the clause stands at its place, or comes back: exactly where the shelf is full, or for want of memory where there is no spare room
 abbrev pub Shares : ℕ → Clause → ShelfState → ShelfState → Told → Type 0
@@ -49,6 +53,7 @@ pub record Begins (n : ℕ) (s t : ShelfState) : Type 0 where
   pub entries : t.entries ≡ s.entries
   pub ended : t.ended ≡ []
   pub room : n ≤ t.room
+  pub global : t.global ≡ s.global
 
 -- the worker has ended
 pub record Ends (w : ℕ) (s t : ShelfState) : Type 0 where
@@ -56,7 +61,8 @@ pub record Ends (w : ℕ) (s t : ShelfState) : Type 0 where
   pub entries : t.entries ≡ s.entries
   pub ended : t.ended ≡ s.ended ++ w ∷ []
   pub room : s.room ≤ t.room + 1
+  pub global : t.global ≡ s.global
 
 -- the state in which a race of n workers over the shelf begins
 abbrev pub racing : ℕ → ShelfState → State
-racing n s = record { base = s.base; entries = s.entries; workers = replicate n fresh_worker; winner = None }
+racing n s = record { base = s.base; entries = s.entries; workers = replicate n fresh_worker; winner = None; global = s.global }

@@ -24,7 +24,7 @@ pub struct Formula {
     pub term: TermId,
 }
 
-/// What joins the newest level: declarations and definitions, and perhaps an assertion with the names that it gives.
+/// What joins the newest level: declarations and definitions, and perhaps an assertion with the names that it gives. Where declarations are global, level 0 gains the declarations and definitions.
 #[derive(Drop)]
 pub struct Addition {
     pub declared: Seq<Declaration>,
@@ -49,6 +49,6 @@ pub enum Event {
     Push(u16),
     /// So many levels go.
     Pop(u16),
-    /// The newest level gains.
+    /// The newest level gains, or level 0 and it.
     Assert(Addition),
 }

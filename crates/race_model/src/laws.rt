@@ -1,9 +1,10 @@
 //! Laws of races, each as the contract of a function that does nothing.
-ghost use Rattle.race_model.specs.Laws.{EmptyOwnClauseRefutes, EveryRunIsSound, FirstStateIsSound, NextRaceBeginsSound, RaceKeepsSound, SoundAfterAssert, SoundAfterCut, SoundAfterPush, SoundWithTrees, StepKeepsSound};
+ghost use Rattle.race_model.specs.Laws.{EmptyOwnClauseRefutes, EveryRunIsSound, FirstStateIsSound, NextRaceBeginsSound, RaceKeepsSound, SoundAfterAssert, SoundAfterCut, SoundAfterDeclared, SoundAfterPush, SoundWithTrees, StepKeepsSound};
 
 use smt_laws::{
-    empty_clause_shows_no_model, still_follows_above, still_follows_after_more,
-    still_follows_after_pop, still_follows_after_push, still_follows_with_trees,
+    empty_clause_shows_no_model, still_follows_above, still_follows_after_declared,
+    still_follows_after_more, still_follows_after_pop, still_follows_after_push,
+    still_follows_with_trees,
 };
 
 /// A clause that follows at its level still does after a push.
@@ -18,6 +19,13 @@ pub fn sound_after_assert()
     ensures { SoundAfterAssert }
 {
     still_follows_after_more();
+}
+
+/// A clause that follows at its level still does after declarations, also where they are global and level 0 gains them.
+pub fn sound_after_declared()
+    ensures { SoundAfterDeclared }
+{
+    still_follows_after_declared();
 }
 
 /// A clause that follows at its level still does where that level stays.
@@ -44,6 +52,7 @@ pub fn step_keeps_sound()
     ensures { StepKeepsSound }
 {
     still_follows_after_push();
+    still_follows_after_declared();
     still_follows_after_more();
     still_follows_after_pop();
     still_follows_above();

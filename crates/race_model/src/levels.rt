@@ -2,7 +2,7 @@
 ghost use Rattle.std.specs.Prelude.{◌≡◌, ◌+◌, ◌<◌, ◌++◌, [], ◌∷◌, length, map, take, replicate, OnOk, OnErr};
 ghost use Rattle.race_model.specs.Base.{base_of, assertion_of, declared_in};
 ghost use Rattle.race_model.specs.Race.{has_id, is_new, are_new, terms_at, formulas_of};
-ghost use Rattle.smt_meaning.specs.Stack.{depth, signature_of, pushed, on_top};
+ghost use Rattle.smt_meaning.specs.Stack.{depth, signature_of, pushed, on_top, at_base, with_declared};
 
 use crate::event::{Addition, Formula};
 use crate::shelf::Framed;
@@ -66,6 +66,41 @@ impl Level {
         self.asserted = Seq::from_vec(asserted);
         if room { Ok(()) } else { Err(AllocError) }
     }
+}
+
+// One level gains the declarations of an addition, and a newer one the rest, or, for want of memory, neither anything.
+fn gain_both(
+    alloc: Global,
+    base: &mut Level,
+    newest: &mut Level,
+    addition: Addition,
+) -> Result<(), AllocError>
+    ensures base { OnOk result ((base.new.declared ≡ base.old.declared ++ addition.declared) × (base.new.asserted ≡ base.old.asserted)) }
+    ensures newest { OnOk result ((newest.new.declared ≡ newest.old.declared ++ addition.named) × (newest.new.asserted ≡ newest.old.asserted ++ formulas_of addition.formula)) }
+    ensures err { OnErr result ((base.new ≡ base.old) × (newest.new ≡ newest.old)) }
+{
+    let Addition {
+        declared,
+        formula,
+        named,
+    } = addition;
+    let mut declared = declared.into_vec();
+    let mut all = mem::replace(&mut base.declared, Seq::new(alloc)).into_vec();
+    let mut gained = all.reserve(declared.len());
+    if gained.is_ok() {
+        let rest = Addition {
+            declared: Seq::new(alloc),
+            formula,
+            named,
+        };
+        gained = newest.gain(alloc, rest);
+    }
+    if gained.is_ok() {
+        let appended = all.append(&mut declared);
+        prove!(appended.is_ok());
+    }
+    base.declared = Seq::from_vec(all);
+    gained
 }
 
 fn has_in_levels(levels: &[Level], id: SymId) -> bool
@@ -154,8 +189,8 @@ impl Levels {
         self.levels.truncate(count);
     }
 
-    /// The newest level gains all of an addition. An `Err`, for want of memory, changes nothing.
-    pub fn gain(&mut self, alloc: Global, addition: Addition) -> Result<(), AllocError>
+    // The newest level gains all of an addition. An `Err`, for want of memory, changes nothing.
+    fn gain_newest(&mut self, alloc: Global, addition: Addition) -> Result<(), AllocError>
         requires { 0 < length (base_of self.old).frames }
         ensures terms { self.new.terms ≡ self.old.terms }
         ensures ok { OnOk result ((base_of self.new).frames ≡ on_top (addition.declared ++ addition.named) (map (assertion_of self.old.terms) (formulas_of addition.formula)) (base_of self.old).frames) }
@@ -163,6 +198,43 @@ impl Levels {
     {
         let last = self.levels.len() - 1;
         self.levels[last].gain(alloc, addition)
+    }
+
+    // Level 0 gains the declarations of an addition, and the newest level, which is another, the rest.
+    fn gain_apart(&mut self, alloc: Global, addition: Addition) -> Result<(), AllocError>
+        requires { 1 < length (base_of self.old).frames }
+        ensures terms { self.new.terms ≡ self.old.terms }
+        ensures ok { OnOk result ((base_of self.new).frames ≡ on_top addition.named (map (assertion_of self.old.terms) (formulas_of addition.formula)) (at_base addition.declared (base_of self.old).frames)) }
+        ensures err { OnErr result ((base_of self.new).frames ≡ (base_of self.old).frames) }
+    {
+        let last = self.levels.len() - 1;
+        let empty = Level {
+            declared: Seq::new(alloc),
+            asserted: Seq::new(alloc),
+        };
+        let mut base = mem::replace(&mut self.levels[0], empty);
+        let gained = gain_both(alloc, &mut base, &mut self.levels[last], addition);
+        self.levels[0] = base;
+        gained
+    }
+
+    /// The newest level gains all of an addition; where declarations are global, level 0 gains those of it. An `Err`, for want of memory, changes nothing.
+    pub fn gain(
+        &mut self,
+        alloc: Global,
+        addition: Addition,
+        global: bool,
+    ) -> Result<(), AllocError>
+        requires { 0 < length (base_of self.old).frames }
+        ensures terms { self.new.terms ≡ self.old.terms }
+        ensures ok { OnOk result ((base_of self.new).frames ≡ on_top addition.named (map (assertion_of self.old.terms) (formulas_of addition.formula)) (with_declared global addition.declared (base_of self.old).frames)) }
+        ensures err { OnErr result ((base_of self.new).frames ≡ (base_of self.old).frames) }
+    {
+        if global && self.levels.len() > 1 {
+            self.gain_apart(alloc, addition)
+        } else {
+            self.gain_newest(alloc, addition)
+        }
     }
 }
 

@@ -10,6 +10,9 @@
 //! Laws: the first state is sound; each step, each race in any order of its events, and the
 //! beginning of a next race keep it sound.
 //!
+//! Where declarations are global, level 0 gains those of an assertion's event, and the newest level
+//! the names and the assertion.
+//!
 //! So over every run an entry or own clause follows from levels that still stand, at or below its
 //! own, each mark is at most the number of entries, and no popped assertion supports a later
 //! answer. An empty own clause shows that the levels up to its own have no model.
@@ -26,8 +29,8 @@ pub use clause::{copy_clause, has_clause, is_same_clause};
 pub use event::{Addition, Entry, Event, Formula, Premise};
 pub use laws::{
     empty_own_clause_refutes, every_run_is_sound, first_state_is_sound, next_race_begins_sound,
-    race_keeps_sound, sound_after_assert, sound_after_cut, sound_after_push, sound_with_trees,
-    step_keeps_sound,
+    race_keeps_sound, sound_after_assert, sound_after_cut, sound_after_declared, sound_after_push,
+    sound_with_trees, step_keeps_sound,
 };
 pub use levels::{Level, Levels};
 pub use shelf::{Framed, Shelf, Told};

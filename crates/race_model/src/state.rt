@@ -31,6 +31,8 @@ pub struct RaceState {
     pub entries: Vec<Entry>,
     pub workers: Vec<Worker>,
     pub winner: Option<u8>,
+    /// Whether declarations and definitions join level 0. No event changes it.
+    pub global: bool,
 }
 
 // How many of the entries have a level below `count`.
@@ -231,7 +233,7 @@ impl RaceState {
         if self.levels.len() == 0 || !self.levels.is_new(&addition) {
             return Ok(false);
         }
-        self.levels.gain(alloc, addition)?;
+        self.levels.gain(alloc, addition, self.global)?;
         Ok(true)
     }
 

@@ -1,4 +1,4 @@
-use Rattle.std.proofs.Common.{◌≡◌, ◌≤◌, length, take, ◌-◌, ℕ, ◌<◌}
+use Rattle.std.proofs.Common.{◌≡◌, ◌≤◌, length, ◌-◌, ℕ, ◌<◌}
 use Rattle.std.specs.Prelude.{slice_index_or}
 use Rattle.smt_meaning.specs.declared.clauses.Summand.{Summand}
 use Rattle.race_model.proofs.clause.are_same_sums.Given as goal

@@ -1,5 +1,4 @@
 use Rattle.std.proofs.Common.{◌≡◌, length}
-use Rattle.race_model.specs.Base.{declared_in}
 use Rattle.race_model.specs.Race.{has_id}
 use Rattle.race_model.proofs.levels.has.Given as goal
 

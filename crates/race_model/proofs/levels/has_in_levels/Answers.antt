@@ -1,4 +1,4 @@
-use Rattle.std.proofs.Common.{rules, sym, ◌∙◌}
+use Rattle.std.proofs.Common.{rules}
 use Rattle.race_model.proofs.LevelLemmas.{found_in, not_in_first}
 use Rattle.race_model.proofs.levels.has_in_levels.Goals as goal
 

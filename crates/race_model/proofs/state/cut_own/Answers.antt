@@ -1,4 +1,4 @@
-use Rattle.std.proofs.Common.{rules, ap, ◌∙◌, ℕ}
+use Rattle.std.proofs.Common.{rules, ap, ◌∙◌}
 use Rattle.std.specs.Prelude.{nat_lt}
 use Rattle.std.proofs.lemmas.Fn.{filter_same}
 use Rattle.smt_meaning.specs.declared.clauses.Clause.{Clause}

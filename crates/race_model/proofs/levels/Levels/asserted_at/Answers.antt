@@ -1,4 +1,4 @@
-use Rattle.std.proofs.Common.{rules, ◌≡◌, ◌<◌, ◌≤◌, ◌∙◌, length, arith}
+use Rattle.std.proofs.Common.{◌<◌, ◌≤◌, ◌∙◌, length, arith}
 use Rattle.race_model.proofs.LevelLemmas.{at_level, at_no_level}
 use Rattle.race_model.proofs.levels.Levels.asserted_at.Goals as goal
 

@@ -1,7 +1,5 @@
-use Rattle.std.proofs.Common.{rules, ◌≡◌, ◌++◌, replicate, [], List, subst, sym, ap, ◌∙◌, arith, map}
-use Rattle.race_model.specs.declared.levels.Level.{Level}
+use Rattle.std.proofs.Common.{◌≡◌, ◌++◌, replicate, [], ap, ◌∙◌, arith, map}
 use Rattle.race_model.specs.Base.{frame_of}
-use Rattle.smt_meaning.specs.Stack.{pushed}
 use Rattle.race_model.proofs.LevelLemmas.{pushed_is}
 use Rattle.race_model.proofs.levels.Levels.push.Goals as goal
 

@@ -1,11 +1,10 @@
-use Rattle.std.proofs.Common.{rules, ap, ◌∙◌, ◌≡◌, ◌≤◌, ◌-◌, length, take, map, arith, List}
+use Rattle.std.proofs.Common.{rules, ap, ◌∙◌, ◌≡◌, ◌≤◌, ◌-◌, length, take, map, arith}
 use Rattle.std.specs.Prelude.{nat_lt}
 use Rattle.std.specs.Vec.{with_items}
 use Rattle.std.proofs.lemmas.List.{with_items_is}
 use Rattle.std.proofs.lemmas.Fn.{filter_same}
 use Rattle.smt_meaning.specs.Stack.{depth}
 use Rattle.race_model.specs.declared.event.Entry.{Entry}
-use Rattle.race_model.specs.declared.state.Worker.{Worker}
 use Rattle.race_model.specs.Base.{base_of}
 use Rattle.race_model.specs.Race.{cut_worker, entries_below}
 use Rattle.race_model.proofs.state.RaceState.pop.Goals as goal
@@ -30,5 +29,6 @@ returns c =
         entries = entries i;
         workers = workers i;
         winner = s.winner;
+        global = s.global;
       }),
     )
