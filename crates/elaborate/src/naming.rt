@@ -112,7 +112,7 @@ fn define(
         arguments: Seq::new(alloc),
         result: value.sort,
     };
-    match table.add_function(alloc, name, rank, Some(body)) {
+    match table.add_name(alloc, name, rank, body) {
         Ok(_) => Ok(()),
         Err(AddError::TooManySymbols) => Err(JudgeError::Refused(Refusal::TooManySymbols)),
         Err(AddError::Memory) => Err(JudgeError::Memory),

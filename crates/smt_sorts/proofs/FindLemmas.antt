@@ -1,5 +1,5 @@
 -- The first declaration that passes a test, and the walk along the places of a hash that finds it.
-use Rattle.std.proofs.Common.{◌≡◌, ℕ, zero, suc, ◌<◌, ◌≤◌, Bool, true, false, not, List, [], ◌∷◌, length, get_or, map, All, Some, None, refl, sym, ap, ◌∙◌, inl, inr, arith}
+use Rattle.std.proofs.Common.{◌≡◌, ℕ, zero, suc, ◌<◌, ◌≤◌, Bool, true, false, not, List, [], ◌∷◌, ◌++◌, length, get_or, map, All, Option, Some, None, refl, sym, ap, ◌∙◌, inl, inr, arith}
 use Rattle.std.specs.Prelude.{if◌then◌else◌, bytes_eq, AllPairs}
 use Rattle.std.proofs.lemmas.List.{get_or-map, length-map}
 use Rattle.std.proofs.lemmas.List.Elements.{All-head, All-tail}
@@ -35,6 +35,21 @@ pub none_passes : (p : Declaration → Bool) (ds : List Declaration) → first_t
 none_passes p [] e k d short = absurd (omega arith)
 none_passes p (f ∷ ds) e zero d short = (none_here p f ds (p f) e).0
 none_passes p (f ∷ ds) e (suc k) d short = none_passes p ds (none_here p f ds (p f) e).1 k d (omega arith)
+
+-- in two lists, one behind the other
+pub first_behind : (p : Declaration → Bool) (ds es : List Declaration) → first_that p ds ≡ None → first_that p (ds ++ es) ≡ first_that p es
+first_behind p [] es none = refl
+first_behind p (d ∷ ds) es none =
+    let here = none_here p d ds (p d) none in
+    ap (λ b. if b then Some d else first_that p (ds ++ es)) here.0 ∙ first_behind p ds es here.1
+
+some_stays : (d e : Declaration) (b : Bool) (o o' : Option Declaration) → (o ≡ Some e → o' ≡ Some e) → (if b then Some d else o) ≡ Some e → (if b then Some d else o') ≡ Some e
+some_stays d e true o o' h k = k
+some_stays d e false o o' h k = h k
+
+pub first_before : (p : Declaration → Bool) (ds es : List Declaration) (e : Declaration) → first_that p ds ≡ Some e → first_that p (ds ++ es) ≡ Some e
+first_before p [] es e found = absurd (cc)
+first_before p (d ∷ ds) es e found = some_stays d e (p d) (first_that p ds) (first_that p (ds ++ es)) (first_before p ds es e) found
 
 -- ---- names
 

@@ -1,14 +1,16 @@
 -- Lists of levels: what the newest gains, and the levels of a list of declarations.
-use Rattle.std.proofs.Common.{◌≡◌, ◌≢◌, ℕ, zero, suc, ◌+◌, ◌<◌, ◌≤◌, Bool, true, false, List, [], ◌∷◌, ◌++◌, length, map, take, drop, replicate, All, refl, ap, sym, ◌∙◌, subst, inl, inr, arith, append_assoc, append-nil, add-one}
-use Rattle.std.specs.Prelude.{filter, nat_eq, nat_lt, AllPairs}
+use Rattle.std.proofs.Common.{◌≡◌, ◌≢◌, ℕ, zero, suc, ◌+◌, ◌<◌, ◌≤◌, Bool, true, false, List, [], ◌∷◌, ◌++◌, length, map, take, drop, replicate, All, refl, ap, ap₂, sym, ◌∙◌, subst, inl, inr, arith, append_assoc, append-nil, add-one}
+use Rattle.std.specs.Prelude.{filter, insert, nat_eq, nat_lt, AllPairs}
 use Rattle.std.proofs.lemmas.Bool.{cases_lt, lt-ltb, le-ltb, eq-eqb, ne_eqb}
-use Rattle.std.proofs.lemmas.List.{length-take, length_push, take-append-drop, take-append-le, take_all, replicate_more, map-append}
+use Rattle.std.proofs.lemmas.List.{length-take, length-drop, length_push, take-append-drop, take-append-le, take_all, replicate_more, map-append}
 use Rattle.std.proofs.lemmas.List.Concat.{flat_map-append}
 use Rattle.std.proofs.lemmas.List.Elements.{All-head, All-tail, All-nil, All-cons, All-weaker, filter-append}
 use Rattle.smt_meaning.specs.Declaration.{Declaration}
-use Rattle.smt_sorts.specs.Names.{all_of_levels, on_newest, has_id_below}
+use Rattle.smt_meaning.specs.Stack.{stays}
+use Rattle.smt_sorts.specs.Names.{all_of_levels, on_newest, on_base, base_of, has_id_below}
 use Rattle.smt_sorts.specs.Leveled.{cons_if, at_level, levels_from}
 use Rattle.smt_sorts.proofs.CutLemmas.{filter-kept, filter-gone}
+use Rattle.smt_sorts.proofs.PairLemmas.{AllPairs-head, AllPairs-tail}
 
 -- ---- the newest level
 
@@ -136,14 +138,101 @@ cut_level ids l p ks ds size below above =
     (filter-gone ids (at_level l (drop p ks) (drop p ds)) (at_level-all (λ (d : Declaration). ids ≤ d.id) l (drop p ks) (drop p ds) above))
     ∙ append-nil (at_level l (take p ks) (take p ds))
 
+-- the first of those up to a place, and the first of those from it on
+abbrev pub both : {X : Type 0} → ℕ → ℕ → ℕ → List X → List X
+both base b m xs = take b (take base xs) ++ take m (drop base xs)
+
+-- up to a place and from it on, the declarations of later ids are taken away
+pub record IsCut (ids base b m : ℕ) (ds : List Declaration) : Type 0 where
+  pub base_below : All (λ (d : Declaration). d.id < ids) (take b (take base ds))
+  pub base_above : All (λ (d : Declaration). ids ≤ d.id) (drop b (take base ds))
+  pub below : All (λ (d : Declaration). d.id < ids) (take m (drop base ds))
+  pub above : All (λ (d : Declaration). ids ≤ d.id) (drop m (drop base ds))
+
+cut_both : (ids l base b m : ℕ) (ks : List ℕ) (ds : List Declaration) → length ks ≡ length ds → IsCut ids base b m ds
+    → at_level l (both base b m ks) (both base b m ds) ≡ filter (has_id_below ids) (at_level l ks ds)
+cut_both ids l base b m ks ds size h =
+    let first_size : length (take base ks) ≡ length (take base ds) = omega (arith, length-take base ks, length-take base ds) in
+    let last_size : length (drop base ks) ≡ length (drop base ds) = omega (arith, length-drop base ks, length-drop base ds) in
+    at_level-append l (take b (take base ks)) (take m (drop base ks)) (take b (take base ds)) (take m (drop base ds)) (omega (arith, length-take b (take base ks), length-take b (take base ds)))
+    ∙ ap₂ (λ es fs. es ++ fs) (sym (cut_level ids l b (take base ks) (take base ds) first_size h.base_below h.base_above)) (sym (cut_level ids l m (drop base ks) (drop base ds) last_size h.below h.above))
+    ∙ sym (filter-append (has_id_below ids) (at_level l (take base ks) (take base ds)) (at_level l (drop base ks) (drop base ds)))
+    ∙ ap (filter (has_id_below ids)) (sym (at_level-split l base ks ds size))
+
 -- the levels without the declarations of later ids
-pub levels_from-cut : (ids n p : ℕ) (ks : List ℕ) (ds : List Declaration) → length ks ≡ length ds → All (λ (d : Declaration). d.id < ids) (take p ds)
-    → All (λ (d : Declaration). ids ≤ d.id) (drop p ds) → levels_from n (take p ks) (take p ds) ≡ map (λ (fs : List Declaration). filter (has_id_below ids) fs) (levels_from n ks ds)
-levels_from-cut ids zero p ks ds size below above = refl
-levels_from-cut ids (suc n) p ks ds size below above =
-    ap (λ dss. dss ++ at_level n (take p ks) (take p ds) ∷ []) (levels_from-cut ids n p ks ds size below above)
-    ∙ ap (λ fs. map (λ (es : List Declaration). filter (has_id_below ids) es) (levels_from n ks ds) ++ fs ∷ []) (sym (cut_level ids n p ks ds size below above))
+pub levels_from-cut : (ids n base b m : ℕ) (ks : List ℕ) (ds : List Declaration) → length ks ≡ length ds → IsCut ids base b m ds
+    → levels_from n (both base b m ks) (both base b m ds) ≡ map (λ (fs : List Declaration). filter (has_id_below ids) fs) (levels_from n ks ds)
+levels_from-cut ids zero base b m ks ds size h = refl
+levels_from-cut ids (suc n) base b m ks ds size h =
+    ap (λ dss. dss ++ at_level n (both base b m ks) (both base b m ds) ∷ []) (levels_from-cut ids n base b m ks ds size h)
+    ∙ ap (λ fs. map (λ (es : List Declaration). filter (has_id_below ids) es) (levels_from n ks ds) ++ fs ∷ []) (cut_both ids n base b m ks ds size h)
     ∙ sym (map-append (λ (es : List Declaration). filter (has_id_below ids) es) (levels_from n ks ds) (at_level n ks ds ∷ []))
+
+-- ---- level 0
+
+on_base-append : (es : List Declaration) (dss fss : List (List Declaration)) → 0 < length dss → on_base es (dss ++ fss) ≡ on_base es dss ++ fss
+on_base-append es [] fss some = absurd (omega arith)
+on_base-append es (ds ∷ dss) fss some = refl
+
+base_of-append : (dss fss : List (List Declaration)) → 0 < length dss → base_of (dss ++ fss) ≡ base_of dss
+base_of-append [] fss some = absurd (omega arith)
+base_of-append (ds ∷ dss) fss some = refl
+
+pub newest_is_base : (es : List Declaration) (dss : List (List Declaration)) → length dss ≡ 1 → on_base es dss ≡ on_newest es dss
+newest_is_base es [] one = absurd (omega arith)
+newest_is_base es (ds ∷ []) one = refl
+newest_is_base es (ds ∷ fs ∷ rest) one = absurd (omega arith)
+
+pub all_of-newest : (es : List Declaration) (dss : List (List Declaration)) → 0 < length dss → all_of_levels (on_newest es dss) ≡ all_of_levels dss ++ es
+all_of-newest es [] some = absurd (omega arith)
+all_of-newest es (ds ∷ []) some = append-nil (ds ++ es) ∙ ap (λ fs. fs ++ es) (sym (append-nil ds))
+all_of-newest es (ds ∷ fs ∷ rest) some = ap (λ gs. ds ++ gs) (all_of-newest es (fs ∷ rest) (omega arith)) ∙ sym (append_assoc ds (all_of_levels (fs ∷ rest)) es)
+
+none_at_base : (ks : List ℕ) (ds : List Declaration) → All (λ k. 1 ≤ k) ks → at_level 0 ks ds ≡ []
+none_at_base ks ds above = at_level-other 0 ks ds (All-weaker (λ k. 1 ≤ k) (λ k. k ≢ 0) (λ k h e. omega arith) ks above)
+
+pub all_at_base : (ks : List ℕ) (ds : List Declaration) → length ks ≡ length ds → All (λ k. k < 1) ks → at_level 0 ks ds ≡ ds
+all_at_base [] [] size below = refl
+all_at_base [] (d ∷ ds) size below = absurd (omega arith)
+all_at_base (k ∷ ks) [] size below = absurd (omega arith)
+all_at_base (k ∷ ks) (d ∷ ds) size below =
+    let zero' : k < 1 = All-head (λ j. j < 1) k ks below in
+    ap (λ b. cons_if b d (at_level 0 ks ds)) (eq-eqb k 0 (omega arith)) ∙ ap (λ fs. d ∷ fs) (all_at_base ks ds (omega arith) (All-tail (λ j. j < 1) k ks below))
+
+-- level 0 holds the first declarations
+pub at_base : (p : ℕ) (ks : List ℕ) (ds : List Declaration) → length ks ≡ length ds → All (λ k. k < 1) (take p ks) → All (λ k. 1 ≤ k) (drop p ks) → at_level 0 ks ds ≡ take p ds
+at_base p ks ds size below above =
+    at_level-split 0 p ks ds size
+    ∙ ap₂ (λ es fs. es ++ fs) (all_at_base (take p ks) (take p ds) (omega (arith, length-take p ks, length-take p ds)) below) (none_at_base (drop p ks) (drop p ds) above)
+    ∙ append-nil (take p ds)
+
+above_stays : (l p : ℕ) (ks : List ℕ) (ds : List Declaration) (d : Declaration) → length ks ≡ length ds → at_level (suc l) (insert ks p 0) (insert ds p d) ≡ at_level (suc l) ks ds
+above_stays l p ks ds d size =
+    at_level-append (suc l) (take p ks) (0 ∷ drop p ks) (take p ds) (d ∷ drop p ds) (omega (arith, length-take p ks, length-take p ds))
+    ∙ ap (λ b. at_level (suc l) (take p ks) (take p ds) ++ cons_if b d (at_level (suc l) (drop p ks) (drop p ds))) (ne_eqb 0 (suc l) (λ e. omega arith))
+    ∙ sym (at_level-split (suc l) p ks ds size)
+
+base_gains : (p : ℕ) (ks : List ℕ) (ds : List Declaration) (d : Declaration) → length ks ≡ length ds → All (λ k. 1 ≤ k) (drop p ks) → at_level 0 (insert ks p 0) (insert ds p d) ≡ at_level 0 ks ds ++ d ∷ []
+base_gains p ks ds d size above =
+    let none : at_level 0 (drop p ks) (drop p ds) ≡ [] = none_at_base (drop p ks) (drop p ds) above in
+    at_level-append 0 (take p ks) (0 ∷ drop p ks) (take p ds) (d ∷ drop p ds) (omega (arith, length-take p ks, length-take p ds))
+    ∙ ap (λ fs. at_level 0 (take p ks) (take p ds) ++ d ∷ fs) none
+    ∙ ap (λ fs. fs ++ d ∷ []) (sym (at_level-split 0 p ks ds size ∙ ap (λ fs. at_level 0 (take p ks) (take p ds) ++ fs) none ∙ append-nil (at_level 0 (take p ks) (take p ds))))
+
+-- one declaration more, on level 0
+pub levels_from-base : (n p : ℕ) (ks : List ℕ) (ds : List Declaration) (d : Declaration) → length ks ≡ length ds → All (λ k. 1 ≤ k) (drop p ks)
+    → levels_from (suc n) (insert ks p 0) (insert ds p d) ≡ on_base (d ∷ []) (levels_from (suc n) ks ds)
+levels_from-base zero p ks ds d size above = ap (λ fs. fs ∷ []) (base_gains p ks ds d size above)
+levels_from-base (suc n) p ks ds d size above =
+    ap (λ dss. dss ++ at_level (suc n) (insert ks p 0) (insert ds p d) ∷ []) (levels_from-base n p ks ds d size above)
+    ∙ ap (λ fs. on_base (d ∷ []) (levels_from (suc n) ks ds) ++ fs ∷ []) (above_stays n p ks ds d size)
+    ∙ sym (on_base-append (d ∷ []) (levels_from (suc n) ks ds) (at_level (suc n) ks ds ∷ []) (omega (arith, length-levels_from (suc n) ks ds)))
+
+-- level 0 alone
+pub levels_from-based : (n : ℕ) (ks : List ℕ) (ds : List Declaration) → base_of (levels_from (suc n) ks ds) ≡ filter stays (at_level 0 ks ds) ∷ []
+levels_from-based zero ks ds = refl
+levels_from-based (suc n) ks ds =
+    base_of-append (levels_from (suc n) ks ds) (at_level (suc n) ks ds ∷ []) (omega (arith, length-levels_from (suc n) ks ds)) ∙ levels_from-based n ks ds
 
 -- ---- the levels hold each declaration once, in order
 
@@ -164,12 +253,6 @@ below_level-all n [] (d ∷ ds) size below = absurd (omega arith)
 below_level-all n (k ∷ ks) [] size below = refl
 below_level-all n (k ∷ ks) (d ∷ ds) size below =
     ap (λ b. cons_if b d (below_level n ks ds)) (lt-ltb k n (All-head (λ j. j < n) k ks below)) ∙ ap (λ fs. d ∷ fs) (below_level-all n ks ds (omega arith) (All-tail (λ j. j < n) k ks below))
-
-AllPairs-tail : {X : Type 0} (R : X → X → Type 0) (x : X) (xs : List X) → AllPairs R (x ∷ xs) → AllPairs R xs
-AllPairs-tail R x xs h i j d less short = h (suc i) (suc j) d (omega arith) (omega arith)
-
-AllPairs-head : {X : Type 0} (R : X → X → Type 0) (x : X) (xs : List X) → AllPairs R (x ∷ xs) → All (R x) xs
-AllPairs-head R x xs h j d short = h 0 (suc j) d (omega arith) (omega arith)
 
 below_level-more : (n : ℕ) (ks : List ℕ) (ds : List Declaration) → AllPairs (λ j k. j ≤ k) ks → below_level (suc n) ks ds ≡ below_level n ks ds ++ at_level n ks ds
 below_level-more n [] ds order = refl

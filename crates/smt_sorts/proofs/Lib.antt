@@ -1,8 +1,9 @@
-mod CutLemmas
 mod FindLemmas
+mod PairLemmas
 mod ListedLemmas
+mod CutLemmas
 mod LevelLemmas
 mod TableLemmas
 mod PlaceLemmas
-mod WhereLemmas
 mod KeptLemmas
+mod WhereLemmas

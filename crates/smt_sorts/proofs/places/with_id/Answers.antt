@@ -1,15 +1,12 @@
-use Rattle.std.proofs.Common.{arith}
-use Rattle.smt_sorts.proofs.PlaceLemmas.{first_with_id, none_with_id, none_behind}
+use Rattle.std.proofs.Common.{◌≡◌, take, drop, None, sym, ap, ◌∙◌}
+use Rattle.std.proofs.lemmas.List.{take-append-drop}
+use Rattle.smt_sorts.specs.Listed.{first_that, has_id}
+use Rattle.smt_sorts.proofs.FindLemmas.{first_behind}
 use Rattle.smt_sorts.proofs.places.with_id.Goals as goal
 
-pub returns-then-place-declarations-clause-none : goal.returns-then-place-declarations-clause-none
-returns-then-place-declarations-clause-none c = none_behind c.args.declarations.now c.args.id c.below_id-place.result c.below_id-place.ensures.below (omega arith)
-
-pub returns-then-id-clause-some : goal.returns-then-id-clause-some
-returns-then-id-clause-some c =
-    first_with_id c.args.declarations.now c.args.id c.below_id-place.result c.index-declarations-place.result c.below_id-place.ensures.below (omega arith) c.index-declarations-place.is (omega arith)
-
-pub returns-else-id-clause-none : goal.returns-else-id-clause-none
-returns-else-id-clause-none c =
-    none_with_id c.args.declarations.now c.args.id c.below_id-place.result c.index-declarations-place.result c.requires c.below_id-place.ensures.below c.below_id-place.ensures.above (omega arith) c.index-declarations-place.is
-    (λ e. omega arith)
+pub returns-in-None-find-clause-none : goal.returns-in-None-find-clause-none
+returns-in-None-find-clause-none c =
+    let first : first_that (has_id c.args.id) (take c.args.base c.args.declarations.now) ≡ None = rw c.split_at.ensures.front at c.in-None.ensures.none in
+    let rest : first_that (has_id c.args.id) (drop c.args.base c.args.declarations.now) ≡ None = rw c.split_at.ensures.back at c.in-None-find.ensures.none in
+    ap (first_that (has_id c.args.id)) (sym (take-append-drop c.args.base c.args.declarations.now))
+    ∙ first_behind (has_id c.args.id) (take c.args.base c.args.declarations.now) (drop c.args.base c.args.declarations.now) first ∙ rest
