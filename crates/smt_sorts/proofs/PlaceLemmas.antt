@@ -10,7 +10,7 @@ use Rattle.smt_meaning.specs.Declaration.{Declaration}
 use Rattle.smt_meaning.specs.Signature.{HasNoIdTwice, find_function, find_sort, function_with_id}
 use Rattle.smt_meaning.specs.State.{name_of_sort}
 use Rattle.smt_sorts.specs.declared.entries.Kind.TheVariants.{Function, Sort}
-use Rattle.smt_sorts.specs.Listed.{is_named, first_that, has_id, name_if_sort}
+use Rattle.smt_sorts.specs.Listed.{is_named, first_that, has_id, name_if_sort, IsPlaceOf}
 use Rattle.smt_sorts.proofs.FindLemmas.{first_at, first_none}
 
 -- ---- where a list that rises passes a bound
@@ -39,10 +39,10 @@ id_before ds id i k d below within less =
     let here : (get_or ds k d).id < id = rw (get_or-take i ds k d less) at there in
     ne_eqb id (get_or ds k d).id (λ e. omega arith)
 
-pub first_with_id : (ds : List Declaration) (id i : ℕ) (d : Declaration) → All (λ (e : Declaration). e.id < id) (take i ds) → i < length ds → d ≡ get_or ds i d → d.id ≡ id
-    → first_that (has_id id) ds ≡ Some d
-first_with_id ds id i d below short here same =
-    first_at (has_id id) ds i d short (ap (has_id id) (sym here) ∙ eq-eqb id d.id (sym same)) (λ k less. id_before ds id i k d below (omega arith) less) ∙ ap Some (sym here)
+pub first_at_place : (ds : List Declaration) (id i : ℕ) (d : Declaration) → AllPairs (λ (e f : Declaration). e.id ≢ f.id) ds → IsPlaceOf ds id i → d ≡ get_or ds i d → first_that (has_id id) ds ≡ Some d
+first_at_place ds id i d apart at here =
+    first_at (has_id id) ds i d at.within (eq-eqb id (get_or ds i d).id (sym (at.id_is d)))
+    (λ k less. ne_eqb id (get_or ds k d).id (λ same. apart k i d less at.within (sym same ∙ sym (at.id_is d)))) ∙ ap Some (sym here)
 
 pub none_with_id : (ds : List Declaration) (id i : ℕ) (d : Declaration) → AllPairs (λ (e f : Declaration). e.id < f.id) ds → All (λ (e : Declaration). e.id < id) (take i ds)
     → All (λ (e : Declaration). id ≤ e.id) (drop i ds) → i < length ds → d ≡ get_or ds i d → d.id ≢ id → first_that (has_id id) ds ≡ None

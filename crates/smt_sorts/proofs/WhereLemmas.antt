@@ -1,12 +1,12 @@
 -- The level of what has an id.
-use Rattle.std.proofs.Common.{◌≡◌, ℕ, zero, suc, ◌+◌, ◌<◌, ◌≤◌, Bool, true, false, List, [], ◌∷◌, length, get_or, map, Contains, slice_index, None, refl, sym, ◌∙◌, subst, inl, inr, arith}
+use Rattle.std.proofs.Common.{◌≡◌, ◌≢◌, ℕ, zero, suc, ◌+◌, ◌<◌, ◌≤◌, Bool, true, false, List, [], ◌∷◌, length, get_or, map, Contains, slice_index, None, refl, sym, ◌∙◌, subst, inl, inr, arith}
 use Rattle.std.specs.Prelude.{nat_lt, AllPairs}
 use Rattle.std.proofs.lemmas.Bool.{cases_lt, lt-ltb, ltb-true}
 use Rattle.std.proofs.lemmas.List.Elements.{All-nil, All-cons, All-contains, Contains-append_cases, Contains-append_right}
 use Rattle.smt_meaning.specs.declared.values.Sort.TheVariants.{Bool as Truths}
 use Rattle.smt_meaning.specs.Declaration.{Declaration}
 use Rattle.smt_sorts.specs.Names.{IsLevelOf}
-use Rattle.smt_sorts.specs.Listed.{Listed, IsListedAt}
+use Rattle.smt_sorts.specs.Listed.{Listed, IsPlaceOf}
 use Rattle.smt_sorts.specs.Leveled.{cons_if, levels_of, IsLeveled}
 use Rattle.smt_sorts.proofs.LevelLemmas.{below_level, all_of-up_to}
 use Rattle.smt_sorts.proofs.TableLemmas.{length-levels_of}
@@ -59,31 +59,29 @@ stands_at m (k ∷ ks) (d ∷ ds) f c = stands_in_if m k ks d ds (below_level m 
 -- ---- the level of an id
 
 -- one id stands at one place
-one_place : (ds : List Declaration) (i j : ℕ) (d : Declaration) → AllPairs (λ (e f : Declaration). e.id < f.id) ds → i < length ds → j < length ds → (get_or ds i d).id ≡ (get_or ds j d).id → i ≡ j
-one_place ds i j d rise short within same =
+one_place : (ds : List Declaration) (i j : ℕ) (d : Declaration) → AllPairs (λ (e f : Declaration). e.id ≢ f.id) ds → i < length ds → j < length ds → (get_or ds i d).id ≡ (get_or ds j d).id → i ≡ j
+one_place ds i j d apart short within same =
     elim (cases_lt i j) [
-      | inl less ↦ let l : (get_or ds i d).id < (get_or ds j d).id = rise i j d less within in absurd (omega arith)
+      | inl less ↦ absurd (apart i j d less within same)
       | inr above ↦
           elim (cases_lt j i) [
-            | inl less ↦ let l : (get_or ds j d).id < (get_or ds i d).id = rise j i d less short in absurd (omega arith)
+            | inl less ↦ absurd (apart j i d less short (sym same))
             | inr equal ↦ omega arith
           ]
     ]
 
-module _ (count given : ℕ) (a : Listed) (f l : ℕ) (h : IsLeveled count given a) (at : IsListedAt a f l) where
+module _ (count given base : ℕ) (a : Listed) (f p l : ℕ) (h : IsLeveled count given base a) (at : IsPlaceOf a.declarations f p) (level : slice_index a.levels p ≡ l) where
   any : Declaration
-  any = record { id = 0; name = []; rank = record { arguments = []; result = Truths }; body = None; is_sort = true }
+  any = record { id = 0; name = []; rank = record { arguments = []; result = Truths }; body = None; is_sort = true; is_name = false }
 
   declared_there : Contains (ids (below_level (l + 1) a.levels a.declarations)) f
   declared_there =
-      let level : slice_index a.levels at.place ≡ l = at.level in
-      subst (Contains (ids (below_level (l + 1) a.levels a.declarations))) (at.id_is any) (stands_below (l + 1) a.levels a.declarations at.place any h.size at.within (omega (arith, level)))
+      subst (Contains (ids (below_level (l + 1) a.levels a.declarations))) (at.id_is any) (stands_below (l + 1) a.levels a.declarations p any h.size at.within (omega (arith, level)))
 
   least_there : (k : ℕ) → StandsAt (k + 1) a.levels a.declarations f → l ≤ k
   least_there k s =
-      let same : s.place ≡ at.place = one_place a.declarations s.place at.place any h.ids_rise s.within at.within (s.id_is any ∙ sym (at.id_is any)) in
-      let level : slice_index a.levels at.place ≡ l = at.level in
-      let less : slice_index a.levels at.place < k + 1 = subst (λ p. slice_index a.levels p < k + 1) same s.less in
+      let same : s.place ≡ p = one_place a.declarations s.place p any h.ids_apart s.within at.within (s.id_is any ∙ sym (at.id_is any)) in
+      let less : slice_index a.levels p < k + 1 = subst (λ p. slice_index a.levels p < k + 1) same s.less in
       omega (arith, level, less)
 
   pub level_is : IsLevelOf (levels_of count a) f l
@@ -95,8 +93,7 @@ module _ (count given : ℕ) (a : Listed) (f l : ℕ) (h : IsLeveled count given
 
   pub level_within : l < length (levels_of count a)
   level_within =
-      let level : slice_index a.levels at.place ≡ l = at.level in
       let size : length a.levels ≡ length a.declarations = h.size in
-      let short : at.place < length a.declarations = at.within in
-      let less : slice_index a.levels at.place < count = h.within at.place 0 (omega (arith, size, short)) in
+      let short : p < length a.declarations = at.within in
+      let less : slice_index a.levels p < count = h.within p 0 (omega (arith, size, short)) in
       omega (arith, level, less, length-levels_of count a)

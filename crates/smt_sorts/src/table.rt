@@ -228,8 +228,10 @@ impl Table {
         ensures err { OnErr result (self.new ≡ self.old) }
     {
         let given = self.given + 1;
+        let _ = self.entries.declarations().len();
+        let base = self.base + 1;
         self.entries.insert(self.base, declaration, 0)?;
-        self.base += 1;
+        self.base = base;
         self.given = given;
         Ok(())
     }
@@ -259,7 +261,11 @@ impl Table {
         ensures some_level { 0 < length self.old.levels }
         ensures err { OnErr result (self.new ≡ self.old) }
     {
-        if global || self.levels() == 1 {
+        let _ = self.ids();
+        if global {
+            return self.add_at_base(declaration);
+        }
+        if self.levels() == 1 {
             self.add_at_base(declaration)
         } else {
             self.add_above(declaration)

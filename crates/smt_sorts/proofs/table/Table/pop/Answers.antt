@@ -1,10 +1,8 @@
 use Rattle.std.proofs.Common.{◌≡◌, ◌-◌, ◌<◌, length, take, arith, ap, sym, subst, ◌∙◌}
-use Rattle.smt_sorts.proofs.TableLemmas.{length-levels_of, IsLeveled-first, levels_of-fewer}
+use Rattle.smt_sorts.proofs.TableLemmas.{length-levels_of, IsLeveled-fewer, levels_of-fewer}
 use Rattle.smt_sorts.proofs.KeptLemmas.{kept_take}
 use Rattle.smt_sorts.specs.Names.{Names}
-use Rattle.std.proofs.lemmas.List.Elements.{All-take}
 use Rattle.smt_sorts.specs.Leveled.{levels_of}
-use Rattle.smt_meaning.specs.Declaration.{Declaration}
 use Rattle.smt_sorts.proofs.table.Table.pop.Goals as goal
 
 pub overflow_sub-self : goal.overflow_sub-self
@@ -19,9 +17,9 @@ invariant_of-self c =
     let size : length (levels_of c.self.inside.count c.self.inside.entries) ≡ c.self.inside.count = length-levels_of c.self.inside.count c.self.inside.entries in
     let few = c.self.invariant.0.few_levels in
     let below = rw c.levels.ensures.value at c.below_level-len.ensures.below in
+    let above = rw c.levels.ensures.value at c.below_level-len.ensures.above in
     rw c.truncate.ensures (
-      (IsLeveled-first c.self.inside.count c.self.inside.given (c.self.inside.count - c.args.levels) c.self.inside.given c.below_level-len.result c.self.inside.entries c.self.invariant.0 (omega arith) (omega arith) c.self.invariant.0.few_ids below
-          (All-take (λ (d : Declaration). d.id < c.self.inside.given) c.below_level-len.result c.self.inside.entries.declarations c.self.invariant.0.ids_given)),
+      IsLeveled-fewer c.self.inside.count c.self.inside.given c.self.inside.base (c.self.inside.count - c.args.levels) c.below_level-len.result c.self.inside.entries c.self.invariant.0 (omega arith) (omega arith) below above,
       kept_take c.self.inside.given c.below_level-len.result c.self.inside.entries.declarations c.self.inside.kept c.self.invariant.1,
     )
 
@@ -32,5 +30,5 @@ returns c =
     let above = rw c.levels.ensures.value at c.below_level-len.ensures.above in
     rw (c.truncate.ensures, ← c.self.view_is)
     (ap (λ dss. record { levels = dss; given = c.self.inside.given })
-    (levels_of-fewer c.self.inside.count c.self.inside.given (c.self.inside.count - c.args.levels) c.below_level-len.result c.self.inside.entries c.self.invariant.0 (omega arith) above
+    (levels_of-fewer c.self.inside.count c.self.inside.given c.self.inside.base (c.self.inside.count - c.args.levels) c.below_level-len.result c.self.inside.entries c.self.invariant.0 (omega arith) above
     ∙ ap (λ n. take (n - c.args.levels) (levels_of c.self.inside.count c.self.inside.entries)) (sym size)))
