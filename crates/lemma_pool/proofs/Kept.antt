@@ -7,7 +7,7 @@ use Rattle.std.proofs.lemmas.List.{length-take-le, length-append, length-replica
 use Rattle.std.proofs.lemmas.List.Elements.{All-weaker, All-filter, filter_passes}
 use Rattle.smt_meaning.specs.declared.clauses.Clause.{Clause}
 use Rattle.smt_meaning.specs.Declaration.{Declaration}
-use Rattle.smt_meaning.specs.Stack.{Frame, Assertion, depth, up_to, on_top, pushed, empty_frame}
+use Rattle.smt_meaning.specs.Stack.{Frame, Assertion, depth, up_to, on_top, with_declared, pushed, empty_frame}
 use Rattle.smt_meaning.specs.Clause.{clause_symbols}
 use Rattle.smt_meaning.specs.Follows.{declared_ids, follows, follows_from}
 use Rattle.race_model.specs.declared.event.Entry.{Entry}
@@ -16,8 +16,8 @@ use Rattle.race_model.specs.declared.event.Addition.{Addition}
 use Rattle.race_model.specs.declared.event.Event.TheVariants.{Push, Pop, Assert}
 use Rattle.race_model.specs.Race.{entries_below, asserted_by}
 use Rattle.race_model.specs.Shelves.{ShelfState, racing}
-use Rattle.race_model.specs.Laws.{IsSound, SoundAfterPush, SoundAfterAssert, SoundAfterCut, SoundWithTrees}
-use Rattle.lemma_pool.specs.Pools.{Growth, levels, members, grown, Grows, cut_base, is_one_of, IsKnown, IsCut, IsStep, IsSameButBase, on_base, with_more}
+use Rattle.race_model.specs.Laws.{IsSound, SoundAfterPush, SoundAfterDeclared, SoundAfterAssert, SoundAfterCut, SoundWithTrees}
+use Rattle.lemma_pool.specs.Pools.{Growth, levels, declarations, members, grown, Grows, cut_base, is_one_of, IsKnown, IsCut, IsStep, IsSameButBase, on_base, with_more}
 
 take_all : (fs : List Frame) (n : ℕ) → n ≡ length fs → take n fs ≡ fs
 take_all [] zero e = refl
@@ -28,10 +28,11 @@ take_all (f ∷ fs) (suc n) e = ap (λ gs. f ∷ gs) (take_all fs n (omega arith
 pub whole : (b : Base) (n : ℕ) → n ≡ length b.frames → cut_base n b ≡ b
 whole b n e = λ i. record { trees = b.trees; frames = take_all b.frames n e i }
 
-module _ (push : SoundAfterPush) (more : SoundAfterAssert) (trees : SoundWithTrees) where
+module _ (push : SoundAfterPush) (declared : SoundAfterDeclared) (more : SoundAfterAssert) (trees : SoundWithTrees) where
   sound_grown : (gs : List Growth) (b : Base) (c : Clause) → IsSound b c → IsSound (record b { frames = grown gs b.frames }) c
   sound_grown [] b c h = h
   sound_grown (levels n ∷ gs) b c h = sound_grown gs _ c (push b n c h)
+  sound_grown (declarations global ds ∷ gs) b c h = sound_grown gs _ c (declared b global ds c h)
   sound_grown (members ds xs ∷ gs) b c h = sound_grown gs _ c (more b ds xs c h)
 
   sound_after : (b d : Base) → Grows b d → (c : Clause) → IsSound b c → IsSound d c
@@ -156,7 +157,7 @@ push_grows s n d h = record {
 
 pub assert_grows : (s : ShelfState) (a : Addition) (d : Base) → IsStep (Assert a) s (on_base d s) → Grows s.base d
 assert_grows s a d h = record {
-  steps = members (a.declared ++ a.named) (asserted_by (racing 0 (with_more h.more s)) a) ∷ [];
+  steps = declarations s.global a.declared ∷ members a.named (asserted_by (racing 0 (with_more h.more s)) a) ∷ [];
   frames = ap (λ (b : Base). b.frames) h.base;
   more = h.more;
   trees = ap (λ (b : Base). b.trees) h.base;
@@ -170,17 +171,25 @@ length_on_top ds xs [] = refl
 length_on_top ds xs (f ∷ []) = refl
 length_on_top ds xs (f ∷ g ∷ fs) = let t = length_on_top ds xs (g ∷ fs) in omega arith
 
+length_declared : (b : Bool) (ds : List Declaration) (fs : List Frame) → length (with_declared b ds fs) ≡ length fs
+length_declared true ds [] = refl
+length_declared true ds (f ∷ fs) = refl
+length_declared false ds fs = length_on_top ds [] fs
+
 pub push_levels : (s : ShelfState) (n : ℕ) (d : Base) → IsStep (Push n) s (on_base d s) → length d.frames ≡ length s.base.frames + n
 push_levels s n d h = ap (λ (b : Base). length b.frames) h.base ∙ length_pushed n s.base.frames
 
 pub assert_levels : (s : ShelfState) (a : Addition) (d : Base) → IsStep (Assert a) s (on_base d s) → length d.frames ≡ length s.base.frames
-assert_levels s a d h = ap (λ (b : Base). length b.frames) h.base ∙ length_on_top (a.declared ++ a.named) (asserted_by (racing 0 (with_more h.more s)) a) s.base.frames
+assert_levels s a d h =
+    ap (λ (b : Base). length b.frames) h.base
+    ∙ length_on_top a.named (asserted_by (racing 0 (with_more h.more s)) a) (with_declared s.global a.declared s.base.frames)
+    ∙ length_declared s.global a.declared s.base.frames
 
 pub push_step : (s t : ShelfState) (n : ℕ) (d : Base) → IsStep (Push n) s (on_base d s) → t.base ≡ d → IsSameButBase s t → IsStep (Push n) s t
-push_step s t n d h e same = record { more = h.more; allowed = h.allowed; base = e ∙ h.base; entries = same.entries; ended = same.ended; room = same.room }
+push_step s t n d h e same = record { more = h.more; allowed = h.allowed; base = e ∙ h.base; entries = same.entries; ended = same.ended; room = same.room; global = same.global }
 
 pub assert_step : (s t : ShelfState) (a : Addition) (d : Base) → IsStep (Assert a) s (on_base d s) → t.base ≡ d → IsSameButBase s t → IsStep (Assert a) s t
-assert_step s t a d h e same = record { more = h.more; allowed = h.allowed; base = e ∙ h.base; entries = same.entries; ended = same.ended; room = same.room }
+assert_step s t a d h e same = record { more = h.more; allowed = h.allowed; base = e ∙ h.base; entries = same.entries; ended = same.ended; room = same.room; global = same.global }
 
 pub pop_step : (s t : ShelfState) (n : ℕ) → n ≤ depth s.base.frames → IsCut (length s.base.frames - n) s t → IsStep (Pop n) s t
 pop_step s t n le h = record {
@@ -190,4 +199,5 @@ pop_step s t n le h = record {
   entries = h.entries;
   ended = h.ended;
   room = h.room;
+  global = h.global;
 }

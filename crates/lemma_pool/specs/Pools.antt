@@ -4,7 +4,7 @@ use Rattle.smt_meaning.specs.Declaration.{Declaration}
 use Rattle.smt_meaning.specs.declared.clauses.Clause.{Clause}
 use Rattle.smt_meaning.specs.Term.{Tree, Interpretation}
 use Rattle.smt_meaning.specs.Interpretation.{Interprets}
-use Rattle.smt_meaning.specs.Stack.{Frame, Assertion, Holds, signature_of, up_to, on_top, pushed}
+use Rattle.smt_meaning.specs.Stack.{Frame, Assertion, Holds, signature_of, up_to, on_top, with_declared, pushed}
 use Rattle.smt_meaning.specs.Clause.{ClauseTrue, clause_symbols, places}
 use Rattle.smt_meaning.specs.Follows.{declared_ids}
 use Rattle.race_model.specs.declared.event.Addition.{Addition}
@@ -21,12 +21,15 @@ cut_base n b = record b { frames = take n b.frames }
 -- what a stack gains
 pub data Growth : Type 0 where
   levels : (count : ℕ) → Growth
+  -- declarations, on level 0 where they are global, else on the newest level
+  declarations : (global : Bool) (declared : List Declaration) → Growth
   -- declarations and assertions, on the newest level
   members : (declared : List Declaration) (asserted : List Assertion) → Growth
 
 abbrev pub grown : List Growth → List Frame → List Frame
 grown [] fs = fs
 grown (levels n ∷ gs) fs = grown gs (pushed n fs)
+grown (declarations b ds ∷ gs) fs = grown gs (with_declared b ds fs)
 grown (members ds xs ∷ gs) fs = grown gs (on_top ds xs fs)
 
 -- by pushes, declarations and assertions the one becomes the other; the list of trees may have gone on
@@ -42,6 +45,7 @@ pub record IsSameButBase (s t : ShelfState) : Type 0 where
   pub ended : t.ended ≡ s.ended
   pub room : t.room ≡ s.room
   pub spare : t.spare ≡ s.spare
+  pub global : t.global ≡ s.global
 
 -- the levels below n stay, with their entries
 pub record IsCut (n : ℕ) (s t : ShelfState) : Type 0 where
@@ -49,6 +53,7 @@ pub record IsCut (n : ℕ) (s t : ShelfState) : Type 0 where
   pub entries : t.entries ≡ entries_below n s.entries
   pub ended : t.ended ≡ s.ended
   pub room : t.room ≡ s.room
+  pub global : t.global ≡ s.global
 
 -- the same pool on another base
 abbrev pub on_base : Base → ShelfState → ShelfState
@@ -66,8 +71,9 @@ pub record IsStep (e : Event) (s t : ShelfState) : Type 0 where
   pub entries : t.entries ≡ (after (racing 0 (with_more more s)) e).entries
   pub ended : t.ended ≡ s.ended
   pub room : t.room ≡ s.room
+  pub global : t.global ≡ s.global
 
--- the newest level gains declarations, definitions and names, and perhaps an assertion
+-- declarations and definitions join the newest level, or level 0 where they are global, and perhaps an assertion with its names joins the newest level
 abbrev pub IsAsserted : ShelfState → ShelfState → Type 0
 IsAsserted s t = (a : Addition) × IsStep (Assert a) s t
 

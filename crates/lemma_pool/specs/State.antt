@@ -12,4 +12,5 @@ state_of {K} {G} p = record {
   ended = p.ended.items;
   room = p.room;
   spare = vec_capacity p.entries - vec_len p.entries;
+  global = p.global;
 }

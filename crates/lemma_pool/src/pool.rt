@@ -1,6 +1,6 @@
 //! The pool: clauses in the order in which they were shared, with who shared them. It keeps no
 //! history of the race; that is told by the contract of `race_cell` alone.
-ghost use Rattle.std.specs.Prelude.{◌≡◌, ◌+◌, ◌-◌, ◌≤◌, [], All, IfOk, OnOk, length, min, vec_len, vec_capacity};
+ghost use Rattle.std.specs.Prelude.{◌≡◌, ◌+◌, ◌-◌, ◌≤◌, false, [], All, IfOk, OnOk, length, min, vec_len, vec_capacity};
 ghost use Rattle.smt_meaning.specs.Stack.{depth};
 ghost use Rattle.race_model.specs.declared.event.Entry.{Entry};
 ghost use Rattle.race_model.specs.Shelves.{IsSame};
@@ -9,8 +9,8 @@ ghost use Rattle.lemma_pool.specs.Pools.{cut_base, Grows, IsAsserted, IsCut, IsK
 ghost use Rattle.std.proofs.Props.{props};
 
 use race_model::{
-    Entry, Framed, Shelf, Told, copy_clause, sound_after_assert, sound_after_cut, sound_after_push,
-    sound_with_trees,
+    Entry, Framed, Shelf, Told, copy_clause, sound_after_assert, sound_after_cut,
+    sound_after_declared, sound_after_push, sound_with_trees,
 };
 use smt_meaning::Clause;
 use std::alloc::{AllocError, Global};
@@ -30,6 +30,7 @@ pub struct Pool<K: Framed> {
     room: u64,
     stack: Snapshot<K>,
     levels: u64,
+    global: bool,
     ghost roomy: { vec_len ended + room ≤ vec_capacity ended },
     ghost standing: { levels ≤ length (K.base stack.value).frames },
     ghost known: { All (λ (e : Entry). IsKnown (cut_base levels (K.base stack.value)) e.clause) entries.items } by { Prim.hlevel props },
@@ -68,7 +69,7 @@ impl<K: Framed> Pool<K> {
 
     /// An empty pool, on no level of the stack. It takes no memory.
     pub fn new(alloc: Global, stack: &K) -> Self
-        ensures { state_of result ≡ record { base = cut_base 0 (K.base stack.now); entries = []; ended = []; room = 0; spare = 0 } }
+        ensures { state_of result ≡ record { base = cut_base 0 (K.base stack.now); entries = []; ended = []; room = 0; spare = 0; global = false } }
     {
         Pool {
             alloc,
@@ -77,7 +78,23 @@ impl<K: Framed> Pool<K> {
             room: 0,
             stack: Snapshot::of(stack),
             levels: 0,
+            global: false,
         }
+    }
+
+    /// Whether declarations are global, so that level 0 gains them.
+    pub fn global(&self) -> bool
+        ensures { result ≡ (state_of self.now).global }
+    {
+        self.global
+    }
+
+    /// Says whether declarations are global, of a pool that stands on no level. It takes no memory.
+    pub fn set_global(&mut self, global: bool)
+        requires { length (state_of self.old).base.frames ≡ 0 }
+        ensures { state_of self.new ≡ record (state_of self.old) { global = global } }
+    {
+        self.global = global;
     }
 
     /// Makes room for so many more entries. An `Err`, for want of memory, changes nothing.
@@ -97,6 +114,7 @@ impl<K: Framed> Pool<K> {
     {
         sound_after_push();
         sound_after_assert();
+        sound_after_declared();
         sound_with_trees();
         self.stack = Snapshot::of(stack);
         self.levels = levels;
@@ -113,7 +131,7 @@ impl<K: Framed> Pool<K> {
         self.follow(stack, levels);
     }
 
-    /// The newest level has gained declarations, definitions and names, and perhaps an assertion, and the stack is this one. It takes no memory.
+    /// The newest level has gained declarations, definitions and names, and perhaps an assertion, or level 0 the declarations and definitions where they are global, and the stack is this one. It takes no memory.
     pub fn assert(&mut self, stack: &K)
         requires { IsAsserted (state_of self.old) (on_base (K.base stack.now) (state_of self.old)) }
         ensures step { IsAsserted (state_of self.old) (state_of self.new) }

@@ -17,7 +17,7 @@ invariant_of-self g c =
       standing = subst (λ z. c.args.levels ≤ length (base z).frames) (sym c.of.ensures) within;
       known = subst (λ z. All (λ (e : Entry). IsKnown (cut_base c.args.levels (base z)) e.clause) p.entries.items) (sym c.of.ensures)
           (all_known (cut_base c.args.levels new) p.entries.items
-          (still_sound c.sound_after_push.ensures c.sound_after_assert.ensures c.sound_with_trees.ensures old new c.args.levels p.entries.items c.requires.grows size (all_sound old p.entries.items p.known)));
+          (still_sound c.sound_after_push.ensures c.sound_after_declared.ensures c.sound_after_assert.ensures c.sound_with_trees.ensures old new c.args.levels p.entries.items c.requires.grows size (all_sound old p.entries.items p.known)));
     }
 
 pub returns-clause-base : goal.returns-clause-base

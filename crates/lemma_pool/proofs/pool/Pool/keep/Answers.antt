@@ -33,4 +33,5 @@ returns g c =
       entries = filter_same _ (λ (e : Entry). nat_lt e.clause.level c.args.count) _ (λ x t f' k. search rules) _ _ c.retain.ensures.filtered;
       ended = refl;
       room = refl;
+      global = refl;
     }
