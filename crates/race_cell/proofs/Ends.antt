@@ -62,8 +62,8 @@ module _ {S : Type 0} (state : S → ShelfState) where
       }
 
 module _ {S : Type 0} (state : S → ShelfState) where
-  pub ended : (b : ShelfState) (n : ℕ) (cs : List Claim) (y z : S) → AtEnd state b n cs y → (state z).entries ≡ (state y).entries → (state z).base ≡ (state y).base → (state z).ended ≡ (state y).ended ++ numbers_from 0 n → Ended state b n cs z
-  ended b n cs y z e same base more =
+  pub ended : (b : ShelfState) (n : ℕ) (cs : List Claim) (y z : S) → AtEnd state b n cs y → (state z).entries ≡ (state y).entries → (state z).base ≡ (state y).base → (state z).global ≡ (state y).global → (state z).ended ≡ (state y).ended ++ numbers_from 0 n → Ended state b n cs z
+  ended b n cs y z e same base global more =
       let r = whole_race b n e.winner e.at e.log e.legal e.won.0 in
       record {
         log = e.log;
@@ -73,6 +73,7 @@ module _ {S : Type 0} (state : S → ShelfState) where
         legal = r.1;
         entries = same ∙ (e.shelf.held ∙ sym r.3);
         base = base ∙ (e.shelf.based ∙ sym r.2);
+        global = global ∙ (e.shelf.global ∙ sym r.4);
         ended = more ∙ ap (λ l. l ++ numbers_from 0 n) e.shelf.ended;
         each = e.each;
       }

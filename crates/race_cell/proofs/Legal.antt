@@ -115,15 +115,15 @@ shown s c sound =
 abbrev AtWork : Worker → Type 0
 AtWork x = x.ended ≡ false
 
-abbrev at : Base → List Entry → List Worker → Option ℕ → State
-at b xs ws o = record { base = b; entries = xs; workers = ws; winner = o }
+abbrev at : Bool → Base → List Entry → List Worker → Option ℕ → State
+at g b xs ws o = record { base = b; entries = xs; workers = ws; winner = o; global = g }
 
 race-append : (es fs : List Event) (s t u : State) → IsRace s es t → IsRace t fs u → IsRace s (es ++ fs) u
 race-append [] fs s t u h g = subst (λ z. IsRace z fs u) h g
 race-append (e ∷ es) fs s t u h g = (h.0, race-append es fs (after s e) t u h.1 g)
 
-running : (b : Base) (xs : List Entry) (ws : List Worker) (o : Option ℕ) (w : ℕ) → w < length ws → All AtWork ws → IsRunning (at b xs ws o) w
-running b xs ws o w lt all = (lt, All-get_or AtWork ws w nobody lt all)
+running : (g : Bool) (b : Base) (xs : List Entry) (ws : List Worker) (o : Option ℕ) (w : ℕ) → w < length ws → All AtWork ws → IsRunning (at g b xs ws o) w
+running g b xs ws o w lt all = (lt, All-get_or AtWork ws w nobody lt all)
 
 own_after : (ws : List Worker) (w : ℕ) (x : Worker) → w < length ws → get_or (set ws w x) w nobody ≡ x
 own_after [] w x lt = absurd (omega arith)
@@ -142,48 +142,48 @@ events-append b [] bs = refl
 events-append b (a ∷ acts) bs = ap (λ es. events_of b a ++ es) (events-append b acts bs) ∙ sym (append_assoc (events_of b a) (events_in b acts) (events_in b bs))
 
 -- shares and batches
-work : (b : Base) (n : ℕ) (o : Option ℕ) (acts : List Action) (xs : List Entry) (ws : List Worker) → Works b n xs acts → length ws ≡ n → All AtWork ws
-    → (vs : List Worker) × IsRace (at b xs ws o) (events_in b acts) (at b (entries_after xs acts) vs o) × (length vs ≡ n) × All AtWork vs
-work b n o [] xs ws h size all = (ws, refl, size, all)
-work b n o (Share w c ∷ acts) xs ws h size all =
+work : (g : Bool) (b : Base) (n : ℕ) (o : Option ℕ) (acts : List Action) (xs : List Entry) (ws : List Worker) → Works b n xs acts → length ws ≡ n → All AtWork ws
+    → (vs : List Worker) × IsRace (at g b xs ws o) (events_in b acts) (at g b (entries_after xs acts) vs o) × (length vs ≡ n) × All AtWork vs
+work g b n o [] xs ws h size all = (ws, refl, size, all)
+work g b n o (Share w c ∷ acts) xs ws h size all =
     let x = get_or ws w nobody in
     let y : Worker = record x { own = x.own ++ c ∷ [] } in
     let vs = set ws w y in
     let lt : w < length ws = omega (arith, h.0) in
-    let goes : IsRunning (at b xs ws o) w = running b xs ws o w lt all in
+    let goes : IsRunning (at g b xs ws o) w = running g b xs ws o w lt all in
     let all' : All AtWork vs = All-set AtWork ws w y goes.1 all in
     let size' : length vs ≡ n = length-set ws w y ∙ size in
     let lt' : w < length vs = omega arith in
     let owns : Contains (get_or vs w nobody).own c = subst (λ (z : Worker). Contains z.own c) (sym (own_after ws w y lt)) (Contains-push x.own c) in
-    let t = work b n o acts (xs ++ record { clause = c; worker = w } ∷ []) vs h.2 size' all' in (
+    let t = work g b n o acts (xs ++ record { clause = c; worker = w } ∷ []) vs h.2 size' all' in (
       t.0,
       (
-        ((goes, h.1.1.within, supported (at b xs ws o) w c.level), shown (at b xs ws o) c h.1.1),
-        (((running b xs vs o w lt' all', h.1.0, owns), tt), t.1),
+        ((goes, h.1.1.within, supported (at g b xs ws o) w c.level), shown (at g b xs ws o) c h.1.1),
+        (((running g b xs vs o w lt' all', h.1.0, owns), tt), t.1),
       ),
       t.2,
       t.3,
     )
-work b n o (TakeBatch w ∷ acts) xs ws h size all =
+work g b n o (TakeBatch w ∷ acts) xs ws h size all =
     let x = get_or ws w nobody in
     let y : Worker = record { own = x.own ++ map (λ (e : Entry). e.clause) (drop x.mark xs); mark = length xs; ended = x.ended } in
     let lt : w < length ws = omega (arith, h.0) in
-    let goes : IsRunning (at b xs ws o) w = running b xs ws o w lt all in
-    let t = work b n o acts xs (set ws w y) h.2 (length-set ws w y ∙ size) (All-set AtWork ws w y goes.1 all) in
+    let goes : IsRunning (at g b xs ws o) w = running g b xs ws o w lt all in
+    let t = work g b n o acts xs (set ws w y) h.2 (length-set ws w y ∙ size) (All-set AtWork ws w y goes.1 all) in
     (t.0, ((goes, tt), t.1), t.2, t.3)
-work b n o (Win w ∷ acts) xs ws h size all = absurd h.1
-work b n o (End w ∷ acts) xs ws h size all = absurd h.1
+work g b n o (Win w ∷ acts) xs ws h size all = absurd h.1
+work g b n o (End w ∷ acts) xs ws h size all = absurd h.1
 
 -- ends of all from w on
-ends : (b : Base) (o : Option ℕ) (xs : List Entry) (w k : ℕ) (ws : List Worker) → w + k ≡ length ws → ((v : ℕ) → w ≤ v → v < length ws → (get_or ws v nobody).ended ≡ false)
-    → (vs : List Worker) × IsRace (at b xs ws o) (events_in b (ends_from w k)) (at b xs vs o)
-ends b o xs w zero ws size open-ones = (ws, refl)
-ends b o xs w (suc k) ws size open-ones =
+ends : (g : Bool) (b : Base) (o : Option ℕ) (xs : List Entry) (w k : ℕ) (ws : List Worker) → w + k ≡ length ws → ((v : ℕ) → w ≤ v → v < length ws → (get_or ws v nobody).ended ≡ false)
+    → (vs : List Worker) × IsRace (at g b xs ws o) (events_in b (ends_from w k)) (at g b xs vs o)
+ends g b o xs w zero ws size open-ones = (ws, refl)
+ends g b o xs w (suc k) ws size open-ones =
     let x = get_or ws w nobody in
     let y : Worker = record x { ended = true } in
     let vs = set ws w y in
     let same : length vs ≡ length ws = length-set ws w y in
-    let t = ends b o xs (suc w) k vs (omega arith)
+    let t = ends g b o xs (suc w) k vs (omega arith)
     (λ v le lt. (ap (λ (z : Worker). z.ended) (other_after ws w v y (λ h. omega arith)) ∙ open-ones v (omega arith) (omega arith))) in
     let lt : w < length ws = omega arith in
     (t.0, (((lt, open-ones w (omega arith) lt), tt), t.1))
@@ -212,24 +212,24 @@ winner_of (suc w) = Some w
 
 -- the work, with the win among it
 played : (b : ShelfState) (n winner moment : ℕ) (log : List Action) → Works b.base n b.entries log → winner ≤ n
-    → (vs : List Worker) × IsRace (racing n b) (events_in b.base (history winner moment log)) (at b.base (entries_after b.entries log) vs (winner_of winner)) × (length vs ≡ n) × All AtWork vs
+    → (vs : List Worker) × IsRace (racing n b) (events_in b.base (history winner moment log)) (at b.global b.base (entries_after b.entries log) vs (winner_of winner)) × (length vs ≡ n) × All AtWork vs
 played b n zero moment log works le =
-    work b.base n None log b.entries (replicate n fresh_worker) works (length-replicate n fresh_worker) (All-replicate AtWork n fresh_worker refl)
+    work b.global b.base n None log b.entries (replicate n fresh_worker) works (length-replicate n fresh_worker) (All-replicate AtWork n fresh_worker refl)
 played b n (suc w) moment log works le =
     let front = take moment log in
     let back = drop moment log in
     let cut = works-cut b.base n b.entries front back (subst (Works b.base n b.entries) (sym (take-append-drop moment log)) works) in
-    let one = work b.base n None front b.entries (replicate n fresh_worker) cut.0 (length-replicate n fresh_worker) (All-replicate AtWork n fresh_worker refl) in
-    let two = work b.base n (Some w) back (entries_after b.entries front) one.0 cut.1 one.2 one.3 in
+    let one = work b.global b.base n None front b.entries (replicate n fresh_worker) cut.0 (length-replicate n fresh_worker) (All-replicate AtWork n fresh_worker refl) in
+    let two = work b.global b.base n (Some w) back (entries_after b.entries front) one.0 cut.1 one.2 one.3 in
     let lt : w < length one.0 = let size = one.2 in omega arith in
-    let here = at b.base (entries_after b.entries front) one.0 None in
-    let won : IsRace here (events_in b.base (Win w ∷ back)) (at b.base (entries_after (entries_after b.entries front) back) two.0 (Some w)) =
-    (((running b.base (entries_after b.entries front) one.0 None w lt one.3, refl), tt), two.1) in
-    let last : at b.base (entries_after (entries_after b.entries front) back) two.0 (Some w) ≡ at b.base (entries_after b.entries log) two.0 (Some w) =
-    ap (λ xs. at b.base xs two.0 (Some w)) (sym (entries-cut b.entries front back) ∙ ap (entries_after b.entries) (take-append-drop moment log)) in (
+    let here = at b.global b.base (entries_after b.entries front) one.0 None in
+    let won : IsRace here (events_in b.base (Win w ∷ back)) (at b.global b.base (entries_after (entries_after b.entries front) back) two.0 (Some w)) =
+    (((running b.global b.base (entries_after b.entries front) one.0 None w lt one.3, refl), tt), two.1) in
+    let last : at b.global b.base (entries_after (entries_after b.entries front) back) two.0 (Some w) ≡ at b.global b.base (entries_after b.entries log) two.0 (Some w) =
+    ap (λ xs. at b.global b.base xs two.0 (Some w)) (sym (entries-cut b.entries front back) ∙ ap (entries_after b.entries) (take-append-drop moment log)) in (
       two.0,
       subst (λ z. IsRace (racing n b) (events_in b.base (front ++ Win w ∷ back)) z) last
-          (subst (λ es. IsRace (racing n b) es (at b.base (entries_after (entries_after b.entries front) back) two.0 (Some w))) (sym (events-append b.base front (Win w ∷ back)))
+          (subst (λ es. IsRace (racing n b) es (at b.global b.base (entries_after (entries_after b.entries front) back) two.0 (Some w))) (sym (events-append b.base front (Win w ∷ back)))
           (race-append (events_in b.base front) (events_in b.base (Win w ∷ back)) (racing n b) here _ one.1 won)),
       two.2,
       two.3,
@@ -237,13 +237,14 @@ played b n (suc w) moment log works le =
 
 -- and then the ends of all
 pub whole_race : (b : ShelfState) (n winner moment : ℕ) (log : List Action) → Works b.base n b.entries log → winner ≤ n
-    → (t : State) × IsRace (racing n b) (events_in b.base (history winner moment log ++ ends_from 0 n)) t × (t.base ≡ b.base) × (t.entries ≡ entries_after b.entries log)
+    → (t : State) × IsRace (racing n b) (events_in b.base (history winner moment log ++ ends_from 0 n)) t × (t.base ≡ b.base) × (t.entries ≡ entries_after b.entries log) × (t.global ≡ b.global)
 whole_race b n winner moment log works le =
     let p = played b n winner moment log works le in
-    let e = ends b.base (winner_of winner) (entries_after b.entries log) 0 n p.0 (let size = p.2 in omega arith) (λ v from lt. All-get_or AtWork p.0 v nobody lt p.3) in (
-      at b.base (entries_after b.entries log) e.0 (winner_of winner),
-      subst (λ es. IsRace (racing n b) es (at b.base (entries_after b.entries log) e.0 (winner_of winner))) (sym (events-append b.base (history winner moment log) (ends_from 0 n)))
+    let e = ends b.global b.base (winner_of winner) (entries_after b.entries log) 0 n p.0 (let size = p.2 in omega arith) (λ v from lt. All-get_or AtWork p.0 v nobody lt p.3) in (
+      at b.global b.base (entries_after b.entries log) e.0 (winner_of winner),
+      subst (λ es. IsRace (racing n b) es (at b.global b.base (entries_after b.entries log) e.0 (winner_of winner))) (sym (events-append b.base (history winner moment log) (ends_from 0 n)))
           (race-append (events_in b.base (history winner moment log)) (events_in b.base (ends_from 0 n)) (racing n b) _ _ p.1 e.1),
+      refl,
       refl,
       refl,
     )

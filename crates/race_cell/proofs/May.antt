@@ -85,6 +85,7 @@ module _ {S : Type 0} (state : S → ShelfState) where
           held = e.entries ∙ (ap (λ (z : ShelfState). z.entries) (sym same) ∙ h.2.held);
           based = e.base ∙ (ap (λ (z : ShelfState). z.base) (sym same) ∙ h.2.based);
           ended = e.ended ∙ (ap (λ (z : ShelfState). z.ended) (sym same) ∙ h.2.ended);
+          global = e.global ∙ (ap (λ (z : ShelfState). z.global) (sym same) ∙ h.2.global);
           room = omega arith;
         },
       )
@@ -110,6 +111,7 @@ module _ {S : Type 0} (state : S → ShelfState) where
           held = a.entries ∙ (ap (λ l. l ++ record { clause = clause; worker = worker } ∷ []) (before m h y is) ∙ sym (entries_after-share (base_in state m.0.base).entries (claim m.0).seen worker clause));
           based = a.base ∙ same_base m h y is;
           ended = a.ended ∙ (ap (λ (z : ShelfState). z.ended) (sym same) ∙ h.2.ended);
+          global = a.global ∙ (ap (λ (z : ShelfState). z.global) (sym same) ∙ h.2.global);
           room = omega arith;
         },
         (few, sound),
@@ -144,6 +146,7 @@ module _ {S : Type 0} (state : S → ShelfState) where
             held = here ∙ sym (entries_after-batch (base_in state m.0.base).entries (claim m.0).seen (claim m.0).worker);
             based = same_base m h y is;
             ended = ap (λ (z : ShelfState). z.ended) (sym same) ∙ h.2.ended;
+            global = ap (λ (z : ShelfState). z.global) (sym same) ∙ h.2.global;
             room = omega arith;
           },
           tt,

@@ -45,7 +45,7 @@ module _ {S : Type 0} (state : S → ShelfState) where
     winner = 0;
     at = 0;
     words = refl;
-    slot = inl (refl, (y, refl, record { held = refl; based = refl; ended = refl; room = omega arith }));
+    slot = inl (refl, (y, refl, record { held = refl; based = refl; ended = refl; room = omega arith; global = refl }));
     won = (omega arith, omega arith);
     legal = tt;
     room = roomy;

@@ -45,7 +45,7 @@ abbrev pub holder : {S : Type 0} → View S → ℕ
 holder v = weight v.holds
 
 abbrev pub no_shelf : ShelfState
-no_shelf = record { base = record { trees = []; frames = [] }; entries = []; ended = []; room = 0; spare = 0 }
+no_shelf = record { base = record { trees = []; frames = [] }; entries = []; ended = []; room = 0; spare = 0; global = false }
 
 -- the state of the shelf as the race began
 abbrev pub base_in : {S : Type 0} → (S → ShelfState) → Maybe S → ShelfState
@@ -82,6 +82,7 @@ module _ {S : Type 0} (state : S → ShelfState) where
     pub based : (state y).base ≡ b.base
     pub ended : (state y).ended ≡ b.ended
     pub room : b.room ≤ (state y).room
+    pub global : (state y).global ≡ b.global
 
   -- the slot is at home with all actions, or out
   abbrev pub Slot : ShelfState → ℕ → List Action → List (Option S) → Type 0
@@ -219,5 +220,6 @@ module _ {S : Type 0} (state : S → ShelfState) where
     pub legal : IsRace (racing n b) (events_in b.base (history winner at log ++ ends_from 0 n)) last
     pub entries : (state y).entries ≡ last.entries
     pub base : (state y).base ≡ last.base
+    pub global : (state y).global ≡ last.global
     pub ended : (state y).ended ≡ b.ended ++ numbers_from 0 n
     pub each : (i : ℕ) (c : Claim) → get_elem? claims i ≡ some c → FitsClaim n log winner at c

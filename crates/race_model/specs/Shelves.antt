@@ -43,9 +43,9 @@ Shares w c s t (Shared place) = Adds (record { clause = c; worker = w }) s t × 
 Shares w c s t (Full back) = IsSame s t × (most_entries ≤ length s.entries) × (back ≡ c)
 Shares w c s t (Memory back) = IsSame s t × (s.spare ≡ 0) × (back ≡ c)
 
--- the clauses and what they follow from are the same
+-- the clauses and what they follow from are the same, and whether declarations are global
 abbrev pub KeepsClauses : ShelfState → ShelfState → Type 0
-KeepsClauses s t = (t.base ≡ s.base) × (t.entries ≡ s.entries)
+KeepsClauses s t = (t.base ≡ s.base) × (t.entries ≡ s.entries) × (t.global ≡ s.global)
 
 -- nobody has ended, and so many ends take no memory
 pub record Begins (n : ℕ) (s t : ShelfState) : Type 0 where
