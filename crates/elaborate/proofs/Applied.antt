@@ -192,7 +192,7 @@ and_true true = refl
 and_true false = refl
 
 abbrev with_body : Declaration → Option Body → Declaration
-with_body d o = record { id = d.id; name = d.name; rank = d.rank; body = o; is_sort = d.is_sort }
+with_body d o = record { id = d.id; name = d.name; rank = d.rank; body = o; is_sort = d.is_sort; is_name = d.is_name }
 
 plain_symbol : (r : Rules) (d : Declaration) (us : Trees) (s : Scope)
     → judge_symbol r (with_body d None) us s ≡ (require (not r.closed || are_linear us) NotLinear >> (note (node (Function d.id) us ∷ []) >> found (node (Function d.id) us) d.rank.result)) s

@@ -11,10 +11,9 @@ use Rattle.smt_meaning.specs.Term.{Tree, tree_at}
 use Rattle.smt_meaning.specs.Sexp.{Sexps, open_lists_of, sexp, IsSexp}
 use Rattle.smt_meaning.specs.Signature.{is_one_of, is_some, find_function, reserved_functions}
 use Rattle.smt_meaning.specs.Sorts.{Scope, Outcome, done, refused, Judging, go_on, ◌>>=◌, ◌>>◌, return, refuse, require, the_scope, Typed, Variable, Rules, variable_names, body_of, name_declaration, most_symbols, declare_in, declare, name_term, judge}
-use Rattle.smt_meaning.specs.StackCommand.{function_declaration}
 use Rattle.smt_sorts.specs.declared.errors.AddError.{AddError}
 use Rattle.smt_sorts.specs.declared.errors.AddError.TheVariants.{TooManySymbols as TooMany}
-use Rattle.smt_sorts.specs.Names.{Names, signature, with_declaration}
+use Rattle.smt_sorts.specs.Names.{Names, signature, named_term, with_declaration}
 use Rattle.smt_laws.specs.Walk.{Frame as Meant, attributes, has_free_first, on_words, step, run, finish}
 use Rattle.smt_laws.specs.TermWalkLaws.{WalkGivesTheJudgement}
 use Rattle.look_ahead.specs.Ahead.{ahead}
@@ -88,13 +87,14 @@ failed e = Err e
 no_error : (i : ℕ) (e : AddError) → (let x : Result ℕ AddError = Ok i in x ≡ Err e) → ⊥
 no_error i e h = cc
 
-pub declared : (n : List ℕ) (ts : List Tree) (v : Value) (t u : Names) (ss : List Sort) (b : Option Body) (i : ℕ) → t.given ≤ most_symbols → ((let x : Result ℕ AddError = Ok i in x ≡ Err TooMany) ↔ (t.given ≡ most_symbols)) → ss ≡ []
-    → b ≡ Some (body_of (tree_at ts v.id)) → u ≡ with_declaration (function_declaration t.given n ss v.sort b) t → signature u ≡ signature t ++ function_declaration t.given n ss v.sort b ∷ []
+pub declared : (n : List ℕ) (ts : List Tree) (v : Value) (t u : Names) (ss : List Sort) (b : Body) (i : ℕ) → t.given ≤ most_symbols → ((let x : Result ℕ AddError = Ok i in x ≡ Err TooMany) ↔ (t.given ≡ most_symbols)) → ss ≡ []
+    → b ≡ body_of (tree_at ts v.id) → u ≡ with_declaration false (named_term t.given n (record { arguments = ss; result = v.sort }) b) t
+    → signature u ≡ signature t ++ named_term t.given n (record { arguments = ss; result = v.sort }) b ∷ []
     → NameComes (declare (λ id. name_declaration id n (typed ts v))) (scope_of t ts) (scope_of u ts) (Ok tt)
 unfolding declare
 declared n ts v t u ss b i few full none body made all =
     let lt : t.given < most_symbols = strictly t.given most_symbols few (λ e. no_error i TooMany (full.1 e)) in
-    let same : function_declaration t.given n ss v.sort b ≡ name_declaration t.given n (typed ts v) = ap₂ (λ xs o. function_declaration t.given n xs v.sort o) none body in
+    let same : named_term t.given n (record { arguments = ss; result = v.sort }) b ≡ name_declaration t.given n (typed ts v) = ap₂ (λ xs o. named_term t.given n (record { arguments = xs; result = v.sort }) o) none body in
     let more' : signature u ≡ signature t ++ name_declaration t.given n (typed ts v) ∷ [] = all ∙ ap (λ d. signature t ++ d ∷ []) same in
     let given : u.given ≡ t.given + 1 = ap (λ (z : Names). z.given) made in (
       declared_in (name_declaration t.given n (typed ts v)) (nat_lt t.given most_symbols) (scope_of t ts) (below t.given most_symbols lt)
