@@ -21,7 +21,7 @@ abbrev pub not_name : List ℕ
 not_name = 110 ∷ 111 ∷ 116 ∷ []
 
 abbrev pub p : Declaration
-p = record { id = 0; name = p_name; rank = record { arguments = []; result = Truths }; body = None; is_sort = false }
+p = record { id = 0; name = p_name; rank = record { arguments = []; result = Truths }; body = None; is_sort = false; is_name = false }
 
 abbrev pub p_tree : Tree
 p_tree = node (Function 0) none

@@ -28,7 +28,7 @@ fn state_p(alloc: Global, levels: &mut Levels, pool: &mut Pool<Levels>) -> Resul
     ensures levels { IfOk result (λ _. base_of levels.new ≡ stated) }
     ensures pool { IfOk result (λ _. (⟦<Pool<Levels> as Shelf>⟧.state pool.new).base ≡ stated) }
 {
-    levels.gain(alloc, assertion(alloc, word(alloc, b"p")?, 0))?;
+    levels.gain(alloc, assertion(alloc, word(alloc, b"p")?, 0), false)?;
     pool.assert(levels);
     Ok(())
 }

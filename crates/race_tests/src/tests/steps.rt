@@ -71,6 +71,7 @@ pub fn race_of_two(alloc: Global, levels: Levels) -> Result<RaceState, AllocErro
         entries: Vec::new(alloc),
         workers,
         winner: None,
+        global: false,
     })
 }
 
