@@ -33,7 +33,7 @@ abbrev pub trees : List Tree
 trees = x ∷ end ∷ below ∷ above ∷ []
 
 abbrev pub constant_x : Declaration
-constant_x = record { id = 0; name = codes "x"; rank = record { arguments = []; result = Ints }; body = None; is_sort = false }
+constant_x = record { id = 0; name = codes "x"; rank = record { arguments = []; result = Ints }; body = None; is_sort = false; is_name = false }
 
 abbrev pub frames : List Frame
 frames = record { declared = constant_x ∷ []; asserted = record { text = []; term = above } ∷ [] } ∷ []

@@ -47,7 +47,7 @@ abbrev pub trees : List Tree
 trees = x ∷ y ∷ end ∷ sum ∷ low ∷ []
 
 abbrev pub constant : ℕ → List ℕ → Declaration
-constant i name = record { id = i; name = name; rank = record { arguments = []; result = Ints }; body = None; is_sort = false }
+constant i name = record { id = i; name = name; rank = record { arguments = []; result = Ints }; body = None; is_sort = false; is_name = false }
 
 abbrev pub frames : List Frame
 frames = record { declared = constant 0 (codes "x") ∷ constant 1 (codes "y") ∷ []; asserted = record { text = []; term = low } ∷ [] } ∷ []
