@@ -1,9 +1,10 @@
 -- What a refused command declared is taken back.
 use Rattle.std.proofs.Common.{◌≡◌, ℕ, ◌<◌, ◌≤◌, min, true, false, cond, List, [], ◌∷◌, ◌++◌, map, refl, ap, ◌∙◌, arith, All, append-nil}
 use Rattle.std.specs.Prelude.{filter}
-use Rattle.std.proofs.lemmas.List.Elements.{All-head, All-tail, All-cons, All-nil, filter-append}
+use Rattle.std.proofs.lemmas.List.Elements.{All-head, All-tail, filter-append}
 use Rattle.std.proofs.lemmas.Bool.Decides.{nat_tests}
 use Rattle.smt_meaning.specs.Declaration.{Declaration}
+use Rattle.smt_sorts.proofs.PairLemmas.{All-first, All-last}
 use Rattle.smt_sorts.specs.Names.{Names, all_of_levels, on_newest, has_id_below, cut_to, HasGained}
 
 below_is : (n : ℕ) (d : Declaration) → d.id < n → has_id_below n d ≡ true
@@ -24,26 +25,18 @@ filter-gone n (d ∷ ds) h =
     ap (λ b. cond b (d ∷ filter (has_id_below n) ds) (filter (has_id_below n) ds)) (above_is n d (All-head (λ (e : Declaration). n ≤ e.id) d ds h))
     ∙ filter-gone n ds (All-tail (λ (e : Declaration). n ≤ e.id) d ds h)
 
-pub All-left : (P : Declaration → Type 0) (ds es : List Declaration) → All P (ds ++ es) → All P ds
-All-left P [] es h = All-nil P
-All-left P (d ∷ ds) es h = All-cons P d ds (All-head P d (ds ++ es) h) (All-left P ds es (All-tail P d (ds ++ es) h))
-
-pub All-right : (P : Declaration → Type 0) (ds es : List Declaration) → All P (ds ++ es) → All P es
-All-right P [] es h = h
-All-right P (d ∷ ds) es h = All-right P ds es (All-tail P d (ds ++ es) h)
-
 pub cut-on_newest : (n : ℕ) (es : List Declaration) (dss : List (List Declaration)) → All (λ (d : Declaration). d.id < n) (all_of_levels dss) → All (λ (d : Declaration). n ≤ d.id) es
     → map (λ (ds : List Declaration). filter (has_id_below n) ds) (on_newest es dss) ≡ dss
 cut-on_newest n es [] below later = refl
 cut-on_newest n es (ds ∷ []) below later =
     ap (λ fs. fs ∷ [])
     (filter-append (has_id_below n) ds es
-    ∙ ap (λ fs. fs ++ filter (has_id_below n) es) (filter-kept n ds (All-left (λ (d : Declaration). d.id < n) ds [] below))
+    ∙ ap (λ fs. fs ++ filter (has_id_below n) es) (filter-kept n ds (All-first (λ (d : Declaration). d.id < n) ds [] below))
     ∙ ap (λ fs. ds ++ fs) (filter-gone n es later) ∙ append-nil ds)
 cut-on_newest n es (ds ∷ fs ∷ rest) below later =
     ap (λ gs. gs ∷ map (λ (hs : List Declaration). filter (has_id_below n) hs) (on_newest es (fs ∷ rest)))
-    (filter-kept n ds (All-left (λ (d : Declaration). d.id < n) ds (all_of_levels (fs ∷ rest)) below))
-    ∙ ap (λ gs. ds ∷ gs) (cut-on_newest n es (fs ∷ rest) (All-right (λ (d : Declaration). d.id < n) ds (all_of_levels (fs ∷ rest)) below) later)
+    (filter-kept n ds (All-first (λ (d : Declaration). d.id < n) ds (all_of_levels (fs ∷ rest)) below))
+    ∙ ap (λ gs. ds ∷ gs) (cut-on_newest n es (fs ∷ rest) (All-last (λ (d : Declaration). d.id < n) ds (all_of_levels (fs ∷ rest)) below) later)
 
 -- to the ids that were given before: as before
 pub cut_to-gained : (t now : Names) → HasGained t now → cut_to t.given now ≡ t

@@ -6,7 +6,7 @@ use Rattle.smt_sorts.specs.declared.workshop.Kept.{Kept}
 use Rattle.smt_sorts.specs.Names.{Names, signature}
 use Rattle.smt_sorts.specs.Listed.{Listed}
 use Rattle.smt_sorts.specs.Leveled.{levels_of, IsLeveled}
-use Rattle.smt_sorts.specs.Workshop.{IsOf, IsOfAny, IsKept, IsWorkshopOf}
+use Rattle.smt_sorts.specs.Workshop.{IsOf, IsOfAny, IsKept}
 use Rattle.smt_sorts.proofs.TableLemmas.{signature_is}
 
 of_append : (ds es : List Declaration) (k : Kept) → IsOf ds k → IsOf es k → IsOf (ds ++ es) k

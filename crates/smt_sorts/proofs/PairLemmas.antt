@@ -1,7 +1,7 @@
 -- Facts of the elements of a list and of its pairs, where an element is put in or some are taken out.
-use Rattle.std.proofs.Common.{◌≡◌, ℕ, zero, suc, ◌+◌, ◌<◌, ◌≤◌, List, [], ◌∷◌, ◌++◌, length, take, drop, All, sym, ap, ◌∙◌, subst, arith, append_assoc, length-append}
+use Rattle.std.proofs.Common.{◌≡◌, ℕ, suc, ◌+◌, ◌≤◌, List, [], ◌∷◌, ◌++◌, length, take, drop, All, sym, ap, ◌∙◌, subst, arith, append_assoc, length-append}
 use Rattle.std.specs.Prelude.{AllPairs, insert}
-use Rattle.std.proofs.lemmas.List.{length-take, length-drop, length_push, take-append-drop, take-append-le, take-take, take_all, drop_at, drop-append-le, drop-take}
+use Rattle.std.proofs.lemmas.List.{length-take, length-drop, length_push, take-append-drop, take-append-le, take-take, take_all, drop_at, drop-take}
 use Rattle.std.proofs.lemmas.List.Elements.{All-nil, All-cons, All-head, All-tail, All-append, All-take, All-drop}
 use Rattle.std.proofs.lemmas.List.Kept.{AllPairs-cons}
 
@@ -22,11 +22,11 @@ AllPairs-append R (x ∷ xs) ys left right across =
     AllPairs-cons R x (xs ++ ys) (All-append (R x) xs ys (AllPairs-head R x xs left) (All-head (λ z. All (R z) ys) x xs across))
     (AllPairs-append R xs ys (AllPairs-tail R x xs left) right (All-tail (λ z. All (R z) ys) x xs across))
 
-All-first : {X : Type 0} (P : X → Type 0) (xs ys : List X) → All P (xs ++ ys) → All P xs
+pub All-first : {X : Type 0} (P : X → Type 0) (xs ys : List X) → All P (xs ++ ys) → All P xs
 All-first P [] ys h = All-nil P
 All-first P (x ∷ xs) ys h = All-cons P x xs (All-head P x (xs ++ ys) h) (All-first P xs ys (All-tail P x (xs ++ ys) h))
 
-All-last : {X : Type 0} (P : X → Type 0) (xs ys : List X) → All P (xs ++ ys) → All P ys
+pub All-last : {X : Type 0} (P : X → Type 0) (xs ys : List X) → All P (xs ++ ys) → All P ys
 All-last P [] ys h = h
 All-last P (x ∷ xs) ys h = All-last P xs ys (All-tail P x (xs ++ ys) h)
 
@@ -66,9 +66,8 @@ all_across R y (x ∷ xs) ys new old =
 
 pub AllPairs-insert : {X : Type 0} (R : X → X → Type 0) (xs : List X) (n : ℕ) (y : X) → AllPairs R xs → All (λ x. R x y) (take n xs) → All (R y) (drop n xs) → AllPairs R (insert xs n y)
 AllPairs-insert R xs n y h before after =
-    let both = parted R n xs h in
     AllPairs-append R (take n xs) (y ∷ drop n xs) (AllPairs-take R n xs h) (AllPairs-cons R y (drop n xs) after (AllPairs-drop R n xs h))
-    (all_across R y (take n xs) (drop n xs) before (AllPairs-across R (take n xs) (drop n xs) both))
+    (all_across R y (take n xs) (drop n xs) before (AllPairs-across R (take n xs) (drop n xs) (parted R n xs h)))
 
 insert_split : {X : Type 0} (xs : List X) (n : ℕ) (y : X) → insert xs n y ≡ (take n xs ++ y ∷ []) ++ drop n xs
 insert_split xs n y = sym (append_assoc (take n xs) (y ∷ []) (drop n xs))

@@ -1,7 +1,7 @@
 -- A table's declarations with their levels: what is true of each table, and what each call leaves.
 use Rattle.std.proofs.Common.{◌≡◌, ◌≢◌, ℕ, zero, suc, ◌+◌, ◌-◌, ◌^◌, ◌<◌, ◌≤◌, min, Bool, true, false, List, [], ◌∷◌, ◌++◌, length, get_or, map, take, drop, replicate, All, None, refl, ap, ap₂, sym, ◌∙◌, subst, arith, append_assoc, append-nil, inl, inr, lit<}
 use Rattle.std.specs.Prelude.{AllPairs, filter, insert}
-use Rattle.std.proofs.lemmas.List.{length-take, length-drop, length_push, get_or-take, get_or-drop, take-take, take_all, drop_all, take-append-le, drop-append-le, drop-take}
+use Rattle.std.proofs.lemmas.List.{length-take, length-drop, get_or-take, get_or-drop, take-take, take_all, drop_all, take-append-le, drop-append-le, drop-take}
 use Rattle.std.proofs.lemmas.Bool.{cases_lt}
 use Rattle.std.proofs.lemmas.List.Edits.{length-insert, insert_end}
 use Rattle.std.proofs.lemmas.List.Elements.{All-nil, All-append, All-push, All-weaker, All-take, All-drop, All-filter}
@@ -14,10 +14,9 @@ use Rattle.smt_meaning.specs.Stack.{stays}
 use Rattle.smt_sorts.specs.Names.{Names, all_of_levels, signature, on_newest, on_base, base_of, gaining, with_declaration, has_id_below, AreApart, IsTable, HasGained}
 use Rattle.smt_sorts.specs.Listed.{Listed, first_listed, inserted, without_range, is_named, kind_of, first_that}
 use Rattle.smt_sorts.specs.Leveled.{at_level, levels_of, IsLeveled}
-use Rattle.smt_sorts.proofs.FindLemmas.{none_passes, apart_unnamed}
-use Rattle.smt_sorts.proofs.PairLemmas.{AllPairs-nil, AllPairs-head, AllPairs-tail, AllPairs-take, AllPairs-drop, AllPairs-insert, AllPairs-without, All-insert, All-without, take_inserted, drop_inserted, length-without, take_without, drop_without, without_first}
+use Rattle.smt_sorts.proofs.PairLemmas.{AllPairs-nil, AllPairs-head, AllPairs-tail, AllPairs-take, AllPairs-insert, AllPairs-without, All-insert, All-without, take_inserted, drop_inserted, length-without, take_without, drop_without, without_first}
 use Rattle.smt_sorts.proofs.ListedLemmas.{apart-insert, length-filter_le}
-use Rattle.smt_sorts.proofs.LevelLemmas.{on_newest-nil, on_newest-on_newest, newest_is_base, all_of-newest, length-levels_from, levels_from-push, levels_from-base, levels_from-based, levels_from-more, levels_from-fewer, levels_from-cut, all_of-levels_from, all_at_base, at_base, both, IsCut}
+use Rattle.smt_sorts.proofs.LevelLemmas.{on_newest-nil, on_newest-on_newest, newest_is_base, all_of-newest, length-levels_from, levels_from-push, levels_from-base, levels_from-based, levels_from-more, levels_from-fewer, levels_from-cut, all_of-levels_from, all_at_base, at_base, IsCut}
 
 -- ---- what is true of each table
 

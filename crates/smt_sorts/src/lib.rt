@@ -5,8 +5,9 @@
 //! `E12`, each exactly where it should; `TooManySymbols` exactly where 4,294,967,295 numbers were
 //! given. A refused command leaves the table as it was.
 //!
-//! A declaration joins the newest level alone, and levels go with their names, without memory. The
-//! table tells what has an id, and the least level with it.
+//! A declaration joins the newest level, or level 0 where it is global, and levels go with their
+//! names, without memory. Level 0 alone can be kept, without the names that went with assertions.
+//! The table tells what has an id, and the least level with it.
 #![tactic(auto)]
 
 mod entries;

@@ -1,4 +1,4 @@
-use Rattle.std.proofs.Common.{◌≡◌, ◌-◌, ◌≤◌, ◌++◌, take, drop}
+use Rattle.std.proofs.Common.{◌≡◌, ◌≤◌, ◌++◌, take, drop}
 use Rattle.smt_sorts.proofs.entries.remove.Given as goal
 
 abbrev pub invariant-loop-place : goal.invariant-loop-place

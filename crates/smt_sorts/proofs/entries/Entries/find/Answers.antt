@@ -1,4 +1,4 @@
-use Rattle.std.proofs.Common.{◌≡◌, take, drop, Some, None, ap, sym, ◌∙◌}
+use Rattle.std.proofs.Common.{take, drop, ap, sym, ◌∙◌}
 use Rattle.std.proofs.lemmas.List.{take-append-drop}
 use Rattle.term_store.proofs.StoreLemmas.{some_with, none_with}
 use Rattle.smt_sorts.specs.Listed.{is_named, first_that}

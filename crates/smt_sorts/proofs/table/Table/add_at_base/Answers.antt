@@ -1,4 +1,4 @@
-use Rattle.std.proofs.Common.{◌≡◌, ◌+◌, ◌<◌, [], ◌∷◌, length, arith, sym, ap, subst}
+use Rattle.std.proofs.Common.{◌≡◌, ◌+◌, ◌<◌, length, arith, sym, ap, subst}
 use Rattle.smt_sorts.proofs.TableLemmas.{new_inside, IsLeveled-base, levels_of-base}
 use Rattle.smt_sorts.proofs.KeptLemmas.{kept_insert}
 use Rattle.smt_sorts.specs.Names.{Names}

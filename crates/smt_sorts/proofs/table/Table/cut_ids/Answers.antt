@@ -1,6 +1,4 @@
-use Rattle.std.proofs.Common.{◌≡◌, ◌≤◌, length, take, min, sym, ap, subst, ◌∙◌, arith}
-use Rattle.std.proofs.lemmas.List.{length-take}
-use Rattle.smt_sorts.proofs.LevelLemmas.{IsCut}
+use Rattle.std.proofs.Common.{min, sym, ap, ◌∙◌, arith}
 use Rattle.smt_sorts.proofs.TableLemmas.{IsLeveled-cut, levels_of-cut}
 use Rattle.smt_sorts.specs.Names.{cut_to}
 use Rattle.smt_sorts.proofs.CutLemmas.{cut_to-gained}
