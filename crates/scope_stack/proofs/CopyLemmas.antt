@@ -196,30 +196,32 @@ all_parts us (x ∷ xs) order h =
 
 -- ---- a part of a stack
 
-pub seen_of_few : (t : Names) (store few : Terms) (xss yss : List (List Assertion)) (rs : List Sort) (ls : List ℕ) → AreAssertions t store xss → IsLawful (stack_by t store.trees xss)
-    → IsFew t store.trees xss few yss rs ls → IsSeen t few yss rs ls
-seen_of_few t store few xss yss rs ls h lawful f =
-    let many : length yss ≡ length t.levels = f.moved.as_many ∙ h.as_many in
-    let same : frames_by few.trees t.levels yss ≡ frames_by store.trees t.levels xss = f.moved.frames t.levels in
-    record {
-      stack = record { limit = f.limit; as_many = many; some = h.some; few = h.few; within = f.moved.within };
-      lawful = record {
-        no_id_twice = subst (λ (fs : List Frame). HasNoIdTwice (signature_of fs)) (sym same) lawful.no_id_twice;
-        truths = subst (λ (fs : List Frame). All (λ (u : Tree). tree_sort (signature_of fs) u ≡ Some Truths) (assertions_of fs)) (sym same) lawful.truths;
-        in_order = f.in_order;
-        parts = subst (All (λ (u : Tree). (v : Tree) → IsPart v u → IsTrue (is_among v few.trees))) (shown_terms few.trees t.levels yss many) (all_parts few.trees (all_of yss) f.in_order f.moved.within);
-      };
-      facts = f.facts;
-      levels = f.levels;
-    }
+-- where declarations are global or not
+module _ {global : Bool} where
+  pub seen_of_few : (t : Names) (store few : Terms) (xss yss : List (List Assertion)) (rs : List Sort) (ls : List ℕ) → AreAssertions t store xss → IsLawful (stack_by global t store.trees xss)
+      → IsFew t store.trees xss few yss rs ls → IsSeen global t few yss rs ls
+  seen_of_few t store few xss yss rs ls h lawful f =
+      let many : length yss ≡ length t.levels = f.moved.as_many ∙ h.as_many in
+      let same : frames_by few.trees t.levels yss ≡ frames_by store.trees t.levels xss = f.moved.frames t.levels in
+      record {
+        stack = record { limit = f.limit; as_many = many; some = h.some; few = h.few; within = f.moved.within };
+        lawful = record {
+          no_id_twice = subst (λ (fs : List Frame). HasNoIdTwice (signature_of fs)) (sym same) lawful.no_id_twice;
+          truths = subst (λ (fs : List Frame). All (λ (u : Tree). tree_sort (signature_of fs) u ≡ Some Truths) (assertions_of fs)) (sym same) lawful.truths;
+          in_order = f.in_order;
+          parts = subst (All (λ (u : Tree). (v : Tree) → IsPart v u → IsTrue (is_among v few.trees))) (shown_terms few.trees t.levels yss many) (all_parts few.trees (all_of yss) f.in_order f.moved.within);
+        };
+        facts = f.facts;
+        levels = f.levels;
+      }
 
-pub part_of_few : (t : Names) (store few : Terms) (xss yss : List (List Assertion)) (rs qs : List Sort) (ls ms : List ℕ) → IsKept t store xss rs ls → IsFew t store.trees xss few yss qs ms
-    → IsPartOf (stack_by t few.trees yss) store xss rs ls
-part_of_few t store few xss yss rs qs ls ms h f =
-    record {
-      kept = subst (λ n. IsKept n store xss rs ls) (sym (names_back t few.trees yss)) h;
-      frames = f.moved.frames t.levels ∙ ap (λ (n : Names). frames_by store.trees n.levels xss) (sym (names_back t few.trees yss));
-    }
+  pub part_of_few : (t : Names) (store few : Terms) (xss yss : List (List Assertion)) (rs qs : List Sort) (ls ms : List ℕ) → IsKept global t store xss rs ls → IsFew t store.trees xss few yss qs ms
+      → IsPartOf (stack_by global t few.trees yss) store xss rs ls
+  part_of_few t store few xss yss rs qs ls ms h f =
+      record {
+        kept = subst (λ n. IsKept global n store xss rs ls) (sym (names_back global t few.trees yss)) h;
+        frames = f.moved.frames t.levels ∙ ap (λ (n : Names). frames_by store.trees n.levels xss) (sym (names_back global t few.trees yss));
+      }
 
-pub whole_of_few : (t : Names) (store few : Terms) (xss yss : List (List Assertion)) → stack_by (names_of (stack_by t few.trees yss)) store.trees xss ≡ stack_by t store.trees xss
-whole_of_few t store few xss yss = ap (λ n. stack_by n store.trees xss) (names_back t few.trees yss)
+  pub whole_of_few : (t : Names) (store few : Terms) (xss yss : List (List Assertion)) → stack_by global (names_of (stack_by global t few.trees yss)) store.trees xss ≡ stack_by global t store.trees xss
+  whole_of_few t store few xss yss = ap (λ n. stack_by global n store.trees xss) (names_back global t few.trees yss)

@@ -7,13 +7,14 @@ use Rattle.smt_meaning.specs.declared.refusals.Refusal.TheVariants.{TooManySymbo
 use Rattle.smt_meaning.specs.declared.commands.WrittenSort.{WrittenSort}
 use Rattle.smt_meaning.specs.Declaration.{Declaration}
 use Rattle.smt_meaning.specs.Term.{Tree, int_eq}
-use Rattle.smt_meaning.specs.Sorts.{Scope, done, refused, return, declare, declare_in, most_symbols}
+use Rattle.smt_meaning.specs.Sorts.{Scope, Judging, done, refused, return, declare, declare_in, most_symbols}
 use Rattle.smt_meaning.specs.StackCommand.{declares, is_unsupported, declare_sort, define_sort, new_sort_name, new_function_name, judge_sort, judge_sorts, sort_declaration, function_declaration, declare_new_sort, define_new_sort, declare_function}
 use Rattle.smt_sorts.specs.declared.errors.AddError.{AddError}
 use Rattle.smt_sorts.specs.declared.errors.AddError.TheVariants.{TooManySymbols as TooMany, Memory as NoMemory}
-use Rattle.smt_sorts.specs.Names.{Names, signature}
+use Rattle.smt_sorts.specs.Names.{Names, signature, with_declaration, IsTable}
 use Rattle.scope_stack.specs.declared.answers.StackError.{StackError}
-use Rattle.scope_stack.specs.Judged.{scope_by, IsCause, Gives, Causes, Adds, IfTooMany}
+use Rattle.scope_stack.specs.Judged.{scope_by, IsCause, Gives, Causes, Adds, HasAdded, IfTooMany}
+use Rattle.scope_stack.proofs.FrameLemmas.{newest_signature}
 use Rattle.scope_stack.proofs.Steps.{bind_done, next_done, return_done, bind_cause, next_cause, bind_then, next_then}
 
 -- ---- one declaration more
@@ -35,6 +36,20 @@ unfolding declare
 declare_adds d t u lt e f ts =
     declared_in (d t.given) (nat_lt t.given most_symbols) (scope_by t ts) (below t.given most_symbols lt)
     ∙ ap₂ (λ ds n. done tt (record { signature = ds; given = n; trees = ts })) (sym e) (sym f)
+
+pub declare_added : (d : ℕ → Declaration) (global : Bool) (t u : Names) → IsTable t → (d t.given).id ≡ t.given → t.given < most_symbols → u ≡ with_declaration global (d t.given) t
+    → HasAdded (declare d) tt global t u
+declare_added d global t u table i lt e = record {
+  table = table;
+  declaration = d t.given;
+  id = i;
+  adds = declare_adds d t (with_declaration false (d t.given) t) lt (newest_signature (d t.given ∷ []) t.levels table.nonempty) refl;
+  new_is = e;
+}
+
+-- what a later step makes of a declaration
+pub added_on : {A B : Type 0} {m : Judging A} {n : Judging B} {a : A} {b : B} (global : Bool) (t u : Names) → HasAdded m a global t u → ((v : Names) → Adds m t a v → Adds n t b v) → HasAdded n b global t u
+added_on global t u h k = record { table = h.table; declaration = h.declaration; id = h.id; adds = k (with_declaration false h.declaration t) h.adds; new_is = h.new_is }
 
 pub declare_full : (d : ℕ → Declaration) (t : Names) (ts : List Tree) → t.given ≡ most_symbols → declare d (scope_by t ts) ≡ refused TooManySymbols
 unfolding declare

@@ -1,5 +1,5 @@
 -- What is kept beside the terms stays right as terms and declarations come and go.
-use Rattle.std.proofs.Common.{◌≡◌, ◌∙◌, ◌⊎◌, inl, inr, sym, refl, ap, subst, ℕ, zero, suc, ◌+◌, ◌-◌, ◌<◌, ◌≤◌, List, [], ◌∷◌, ◌++◌, All, take, drop, length, replicate, arith, not, ◌&&◌, Option, Some, None, nat_eq, Result, Ok, Err, Bool, true, false, append-nil, slice_index, slice_index_or}
+use Rattle.std.proofs.Common.{◌≡◌, ◌≢◌, ◌∙◌, append_assoc, filter, ◌⊎◌, inl, inr, sym, refl, ap, subst, ℕ, zero, suc, ◌+◌, ◌-◌, ◌<◌, ◌≤◌, List, [], ◌∷◌, ◌++◌, All, take, drop, length, replicate, arith, not, ◌&&◌, Option, Some, None, nat_eq, Result, Ok, Err, Bool, true, false, append-nil, slice_index, slice_index_or}
 use Rattle.std.specs.Prelude.{ℤ, if◌then◌else◌}
 use Rattle.std.proofs.lemmas.Bool.{ne_eqb, eqb-true}
 use Rattle.std.proofs.lemmas.Grind.{flat_map-append}
@@ -13,11 +13,12 @@ use Rattle.smt_meaning.specs.declared.terms.Head.TheVariants.{Numeral, Theory, S
 use Rattle.smt_meaning.specs.Declaration.{Declaration}
 use Rattle.smt_meaning.specs.Term.{Tree, Trees, node, none, more, tree_at}
 use Rattle.smt_meaning.specs.Nodes.{pick}
-use Rattle.smt_meaning.specs.Signature.{function_with_id, is_symbol, sorts_eq, symbol_sort, head_sort, cons_sort, with_sorts, tree_sort, tree_sorts}
+use Rattle.smt_meaning.specs.Stack.{stays}
+use Rattle.smt_meaning.specs.Signature.{HasNoIdTwice, function_with_id, is_symbol, sorts_eq, symbol_sort, head_sort, cons_sort, with_sorts, tree_sort, tree_sorts}
 use Rattle.smt_meaning.specs.Clause.{symbols, symbols_of, head_symbols}
 use Rattle.smt_meaning.specs.StackCommand.{Change}
 use Rattle.smt_meaning.specs.Sorts.{Judging}
-use Rattle.smt_sorts.specs.Names.{Names, all_of_levels, signature, with_levels, without_levels, cleared, HasGained}
+use Rattle.smt_sorts.specs.Names.{Names, all_of_levels, signature, gaining, with_declaration, with_levels, without_levels, cleared, base_of, based, HasGained}
 use Rattle.smt_laws.proofs.Both.{and_left}
 use Rattle.term_store.specs.Terms.{Terms, tree_with}
 use Rattle.elaborate.specs.Values.{IsLonger}
@@ -28,7 +29,7 @@ use Rattle.scope_stack.specs.declared.answers.StackError.{StackError}
 use Rattle.scope_stack.specs.Judged.{Declares}
 use Rattle.scope_stack.specs.Facts.{HasGivenSymbols, IsResult, IsFact, AreFacts, IsKept, made_sort}
 use Rattle.scope_stack.proofs.FrameLemmas.{tree_at-longer}
-use Rattle.scope_stack.proofs.SortLemmas.{HasArguments, arguments_of, the_some, theory_sort, last_or_before, sorts_more, sort_still}
+use Rattle.scope_stack.proofs.SortLemmas.{HasArguments, arguments_of, the_some, theory_sort, last_or_before, sorts_more, sort_still, StillFound, found_longer, found_filtered}
 
 -- ---- declarations with later ids
 
@@ -45,6 +46,26 @@ same_symbol : (f n : ℕ) (ds es : List Declaration) → AreLater n es → f < n
 same_symbol f n [] es h lt = none_later f n es h lt
 same_symbol f n (d ∷ ds) es h lt = ap (λ o. if nat_eq f d.id && not d.is_sort then Some d else o) (same_symbol f n ds es h lt)
 
+same_behind : (f : ℕ) (ds es fs : List Declaration) → function_with_id f es ≡ function_with_id f fs → function_with_id f (ds ++ es) ≡ function_with_id f (ds ++ fs)
+same_behind f [] es fs h = h
+same_behind f (d ∷ ds) es fs h = ap (λ o. if nat_eq f d.id && not d.is_sort then Some d else o) (same_behind f ds es fs h)
+
+same_before_all : (f n : ℕ) (d : Declaration) (ds : List Declaration) → n ≤ d.id → f < n → function_with_id f (d ∷ ds) ≡ function_with_id f ds
+same_before_all f n d ds h lt = ap (λ b. if b && not d.is_sort then Some d else function_with_id f ds) (ne_eqb f d.id (λ q. omega arith))
+
+-- a later declaration, wherever it joins
+same_joined : (f n : ℕ) (d : Declaration) (ds es : List Declaration) → n ≤ d.id → f < n → function_with_id f ((ds ++ d ∷ []) ++ es) ≡ function_with_id f (ds ++ es)
+same_joined f n d ds es h lt = ap (function_with_id f) (append_assoc ds (d ∷ []) es) ∙ same_behind f ds (d ∷ es) es (same_before_all f n d es h lt)
+
+same_gaining : (f n : ℕ) (global : Bool) (d : Declaration) (dss : List (List Declaration)) → n ≤ d.id → f < n
+    → function_with_id f (all_of_levels (gaining global (d ∷ []) dss)) ≡ function_with_id f (all_of_levels dss)
+same_gaining f n true d [] h lt = refl
+same_gaining f n true d (ds ∷ dss) h lt = same_joined f n d ds (all_of_levels dss) h lt
+same_gaining f n false d [] h lt = refl
+same_gaining f n false d (ds ∷ []) h lt = same_joined f n d ds [] h lt
+same_gaining f n false d (ds ∷ es ∷ dss) h lt =
+    same_behind f ds (all_of_levels (gaining false (d ∷ []) (es ∷ dss))) (all_of_levels (es ∷ dss)) (same_gaining f n false d (es ∷ dss) h lt)
+
 pub below_left : (P : ℕ → Type 0) (xs ys : List ℕ) → All P (xs ++ ys) → All P xs
 below_left P [] ys h = All-nil P
 below_left P (x ∷ xs) ys h = All-cons P x xs (All-head P x (xs ++ ys) h) (below_left P xs ys (All-tail P x (xs ++ ys) h))
@@ -53,26 +74,26 @@ pub below_right : (P : ℕ → Type 0) (xs ys : List ℕ) → All P (xs ++ ys) �
 below_right P [] ys h = h
 below_right P (x ∷ xs) ys h = below_right P xs ys (All-tail P x (xs ++ ys) h)
 
-module _ (n : ℕ) (ds es : List Declaration) (later : AreLater n es) where
-  same_head : (h : Head) (o : Option (List Sort)) → All (λ f. f < n) (head_symbols h) → with_sorts (ds ++ es) h o ≡ with_sorts ds h o
+module _ (n : ℕ) (us ds : List Declaration) (same : (f : ℕ) → f < n → function_with_id f us ≡ function_with_id f ds) where
+  same_head : (h : Head) (o : Option (List Sort)) → All (λ f. f < n) (head_symbols h) → with_sorts us h o ≡ with_sorts ds h o
   same_head h None a = refl
   same_head (Numeral k) (Some []) a = refl
   same_head (Numeral k) (Some (s ∷ ss)) a = refl
   same_head (Theory o) (Some ss) a = refl
-  same_head (Symbol f) (Some ss) a = ap (λ d. symbol_sort d ss) (same_symbol f n ds es later (All-head (λ f. f < n) f [] a))
+  same_head (Symbol f) (Some ss) a = ap (λ d. symbol_sort d ss) (same f (All-head (λ f. f < n) f [] a))
   same_head (Place k) (Some ss) a = refl
 
   mutual
-    same_sort : (t : Tree) → HasGivenSymbols n t → tree_sort (ds ++ es) t ≡ tree_sort ds t
-    same_sort (node h us) a =
-        ap (with_sorts (ds ++ es) h) (same_sorts us (below_right (λ f. f < n) (head_symbols h) (symbols_of us) a))
-        ∙ same_head h (tree_sorts ds us) (below_left (λ f. f < n) (head_symbols h) (symbols_of us) a)
+    same_sort : (t : Tree) → HasGivenSymbols n t → tree_sort us t ≡ tree_sort ds t
+    same_sort (node h ts) a =
+        ap (with_sorts us h) (same_sorts ts (below_right (λ f. f < n) (head_symbols h) (symbols_of ts) a))
+        ∙ same_head h (tree_sorts ds ts) (below_left (λ f. f < n) (head_symbols h) (symbols_of ts) a)
 
-    same_sorts : (us : Trees) → All (λ f. f < n) (symbols_of us) → tree_sorts (ds ++ es) us ≡ tree_sorts ds us
+    same_sorts : (ts : Trees) → All (λ f. f < n) (symbols_of ts) → tree_sorts us ts ≡ tree_sorts ds ts
     same_sorts none a = refl
-    same_sorts (more t us) a =
-        ap (λ o. cons_sort o (tree_sorts (ds ++ es) us)) (same_sort t (below_left (λ f. f < n) (symbols t) (symbols_of us) a))
-        ∙ ap (cons_sort (tree_sort ds t)) (same_sorts us (below_right (λ f. f < n) (symbols t) (symbols_of us) a))
+    same_sorts (more t ts) a =
+        ap (λ o. cons_sort o (tree_sorts us ts)) (same_sort t (below_left (λ f. f < n) (symbols t) (symbols_of ts) a))
+        ∙ ap (cons_sort (tree_sort ds t)) (same_sorts ts (below_right (λ f. f < n) (symbols t) (symbols_of ts) a))
 
 -- a function that is found has an id that was given
 found_given : (f n : ℕ) (ds : List Declaration) (d : Declaration) → function_with_id f ds ≡ Some d → All (λ (e : Declaration). e.id < n) ds → f < n
@@ -187,26 +208,35 @@ facts_taken t ts m rs h =
 
 -- ---- more declarations, and fewer
 
-pub facts_gained : (t u : Names) (ts : List Tree) (n : ℕ) (rs : List Sort) → HasGained t u → AreFacts t ts n rs → AreFacts u ts n rs
-facts_gained t u ts n rs g h =
-    let given : t.given ≤ u.given = g.given in
-    record {
-      given = λ p lt. All-weaker (λ f. f < t.given) (λ f. f < u.given) (λ f l. omega arith) (symbols (tree_at ts p)) (h.given p lt);
-      sorts = record {
-        size = h.sorts.size;
-        each = λ p s lt e. h.sorts.each p s lt
-            (sym (same_sort t.given (signature t) g.gained g.later (tree_at ts p) (h.given p lt)) ∙ subst (λ ds. tree_sort ds (tree_at ts p) ≡ Some s) g.all e);
-      };
-    }
+-- where what was declared before is found as before
+facts_same : (t u : Names) (ts : List Tree) (n : ℕ) (rs : List Sort) → ((f : ℕ) → f < t.given → function_with_id f (signature u) ≡ function_with_id f (signature t)) → t.given ≤ u.given
+    → AreFacts t ts n rs → AreFacts u ts n rs
+facts_same t u ts n rs same le h = record {
+  given = λ p lt. All-weaker (λ f. f < t.given) (λ f. f < u.given) (λ f l. omega (arith, le)) (symbols (tree_at ts p)) (h.given p lt);
+  sorts = record {
+    size = h.sorts.size;
+    each = λ p s lt e. h.sorts.each p s lt (sym (same_sort t.given (signature u) (signature t) same (tree_at ts p) (h.given p lt)) ∙ e);
+  };
+}
 
-facts_fewer : (t u : Names) (es : List Declaration) (ts : List Tree) (n : ℕ) (rs : List Sort) → u.given ≡ t.given → signature t ≡ signature u ++ es → AreFacts t ts n rs → AreFacts u ts n rs
-facts_fewer t u es ts n rs g e h = record {
+pub facts_gained : (t u : Names) (ts : List Tree) (n : ℕ) (rs : List Sort) → HasGained t u → AreFacts t ts n rs → AreFacts u ts n rs
+facts_gained t u ts n rs g h = facts_same t u ts n rs (λ f lt. ap (function_with_id f) g.all ∙ same_symbol f t.given (signature t) g.gained g.later lt) g.given h
+
+facts_declared : (t : Names) (global : Bool) (d : Declaration) (ts : List Tree) (n : ℕ) (rs : List Sort) → d.id ≡ t.given → AreFacts t ts n rs → AreFacts (with_declaration global d t) ts n rs
+facts_declared t global d ts n rs e h = facts_same t (with_declaration global d t) ts n rs (λ f lt. same_gaining f t.given global d t.levels (omega (arith, e)) lt) (omega arith) h
+
+-- where what is found now was found before
+facts_found : (t u : Names) (ts : List Tree) (n : ℕ) (rs : List Sort) → u.given ≡ t.given → StillFound (signature u) (signature t) → AreFacts t ts n rs → AreFacts u ts n rs
+facts_found t u ts n rs g e h = record {
   given = λ p lt. subst (λ k. HasGivenSymbols k (tree_at ts p)) (sym g) (h.given p lt);
   sorts = record {
     size = h.sorts.size;
-    each = λ p s lt k. h.sorts.each p s lt (subst (λ ds. tree_sort ds (tree_at ts p) ≡ Some s) (sym e) (sort_still (signature u) es (tree_at ts p) s k));
+    each = λ p s lt k. h.sorts.each p s lt (sort_still (signature u) (signature t) e (tree_at ts p) s k);
   };
 }
+
+facts_fewer : (t u : Names) (es : List Declaration) (ts : List Tree) (n : ℕ) (rs : List Sort) → u.given ≡ t.given → signature t ≡ signature u ++ es → AreFacts t ts n rs → AreFacts u ts n rs
+facts_fewer t u es ts n rs g e h = facts_found t u ts n rs g (subst (StillFound (signature u)) (sym e) (found_longer (signature u) es)) h
 
 no_declarations : (n : ℕ) → all_of_levels (replicate n []) ≡ []
 no_declarations zero = refl
@@ -227,12 +257,30 @@ facts_popped t k ts n rs h =
 pub facts_cleared : (t : Names) (ts : List Tree) (n : ℕ) (rs : List Sort) → AreFacts t ts n rs → AreFacts (cleared t) ts n rs
 facts_cleared t ts n rs h = facts_fewer t (cleared t) (signature t) ts n rs refl refl h
 
+no_id_before : (ds es : List Declaration) → HasNoIdTwice (ds ++ es) → HasNoIdTwice ds
+no_id_before [] es h = tt
+no_id_before (d ∷ ds) es h = (all_first (λ (e : Declaration). d.id ≢ e.id) ds es h.0, no_id_before ds es h.1)
+  where
+    all_first : (P : Declaration → Type 0) (xs ys : List Declaration) → All P (xs ++ ys) → All P xs
+    all_first P [] ys a = All-nil P
+    all_first P (x ∷ xs) ys a = All-cons P x xs (All-head P x (xs ++ ys) a) (all_first P xs ys (All-tail P x (xs ++ ys) a))
+
+found_at_base : (dss : List (List Declaration)) → HasNoIdTwice (all_of_levels dss) → StillFound (all_of_levels (base_of dss)) (all_of_levels dss)
+found_at_base [] h f ss s e = e
+found_at_base (ds ∷ dss) h f ss s e =
+    found_longer ds (all_of_levels dss) f ss s
+    (found_filtered stays ds (no_id_before ds (all_of_levels dss) h) f ss s
+    (subst (λ fs. symbol_sort (function_with_id f fs) ss ≡ Some s) (append-nil (filter stays ds)) e))
+
+pub facts_based : (t : Names) (ts : List Tree) (n : ℕ) (rs : List Sort) → HasNoIdTwice (signature t) → AreFacts t ts n rs → AreFacts (based t) ts n rs
+facts_based t ts n rs apart h = facts_found t (based t) ts n rs refl (found_at_base t.levels apart) h
+
 -- ---- commands
 
-pub declared_facts : (c : Judging Change) (t u : Names) (r : Result Carried StackError) (ts : List Tree) (n : ℕ) (rs : List Sort) → Declares c t r u → AreFacts t ts n rs → AreFacts u ts n rs
-declared_facts c t u (Ok Done) ts n rs d h = facts_gained t u ts n rs d.gained h
-declared_facts c t u (Ok Unsupported) ts n rs d h = subst (λ v. AreFacts v ts n rs) (sym d.same) h
-declared_facts c t u (Err e) ts n rs d h = subst (λ v. AreFacts v ts n rs) (sym d.same) h
+pub declared_facts : (c : Judging Change) (global : Bool) (t u : Names) (r : Result Carried StackError) (ts : List Tree) (n : ℕ) (rs : List Sort) → Declares c global t r u → AreFacts t ts n rs → AreFacts u ts n rs
+declared_facts c global t u (Ok Done) ts n rs d h = subst (λ v. AreFacts v ts n rs) (sym d.new_is) (facts_declared t global d.declaration ts n rs d.id h)
+declared_facts c global t u (Ok Unsupported) ts n rs d h = subst (λ v. AreFacts v ts n rs) (sym d.same) h
+declared_facts c global t u (Err e) ts n rs d h = subst (λ v. AreFacts v ts n rs) (sym d.same) h
 
 -- what is kept of the terms before, where terms and declarations joined
 pub facts_before : (t u : Names) (old now : Terms) (n : ℕ) (rs : List Sort) → n ≡ length old.trees → HasGained t u → IsLonger old.trees now.trees → AreFacts t old.trees (length old.trees) rs
@@ -250,9 +298,9 @@ asked_before t u old now n rs e g l h =
     (subst (λ v. AreFacts v (old.trees ++ l.0) (length old.trees) rs) (sym g) (facts_longer t old.trees l.0 (length old.trees) rs (omega arith) h)))
 
 -- what a command that failed leaves is as before
-pub kept_again : (t u : Names) (old now : Terms) (xss yss : List (List Assertion)) (rs ss : List Sort) (ls ks : List ℕ) → IsKept t old xss rs ls → u ≡ t → now ≡ old → yss ≡ xss → ss ≡ rs → ks ≡ ls
-    → IsKept u now yss ss ks
-kept_again t u old now xss yss rs ss ls ks h e f g k l =
-    subst (λ v. IsKept v now yss ss ks) (sym e)
-    (subst (λ (store : Terms). IsKept t store yss ss ks) (sym f)
-    (subst (λ zss. IsKept t old zss ss ks) (sym g) (subst (λ qs. IsKept t old xss qs ks) (sym k) (subst (λ js. IsKept t old xss rs js) (sym l) h))))
+pub kept_again : {b : Bool} (t u : Names) (old now : Terms) (xss yss : List (List Assertion)) (rs ss : List Sort) (ls ks : List ℕ) → IsKept b t old xss rs ls → u ≡ t → now ≡ old → yss ≡ xss → ss ≡ rs → ks ≡ ls
+    → IsKept b u now yss ss ks
+kept_again {b = b} t u old now xss yss rs ss ls ks h e f g k l =
+    subst (λ v. IsKept b v now yss ss ks) (sym e)
+    (subst (λ (store : Terms). IsKept b t store yss ss ks) (sym f)
+    (subst (λ zss. IsKept b t old zss ss ks) (sym g) (subst (λ qs. IsKept b t old xss qs ks) (sym k) (subst (λ js. IsKept b t old xss rs js) (sym l) h))))

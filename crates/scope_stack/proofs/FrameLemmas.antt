@@ -1,13 +1,13 @@
 -- What becomes of the frames as their parts change.
-use Rattle.std.proofs.Common.{◌≡◌, ◌∙◌, refl, ap, ap₂, ℕ, zero, suc, ◌+◌, ◌<◌, List, [], ◌∷◌, ◌++◌, map, take, length, replicate, flat_map, arith, All}
+use Rattle.std.proofs.Common.{◌≡◌, ◌∙◌, sym, refl, ap, ap₂, append_assoc, ℕ, zero, suc, ◌+◌, ◌<◌, Bool, true, false, List, [], ◌∷◌, ◌++◌, map, take, length, replicate, flat_map, arith, All}
 use Rattle.std.proofs.lemmas.List.{append-nil, map-append, length-append}
 use Rattle.std.proofs.lemmas.List.Elements.{All-nil, All-cons, All-head, All-tail, All-append, All-weaker}
 use Rattle.smt_meaning.specs.declared.tokens.Token.{Token}
 use Rattle.smt_meaning.specs.Declaration.{Declaration}
 use Rattle.smt_meaning.specs.Term.{Tree, tree_at}
-use Rattle.smt_meaning.specs.Stack.{Assertion as Asserted, signature_of, assertions_of, on_top, empty_frame}
-use Rattle.smt_meaning.specs.State.{texts_of}
-use Rattle.smt_sorts.specs.Names.{all_of_levels, on_newest}
+use Rattle.smt_meaning.specs.Stack.{Assertion as Asserted, signature_of, assertions_of, on_top, with_declared, base_of, empty_frame}
+use Rattle.smt_meaning.specs.State.{frame_of, texts_of}
+use Rattle.smt_sorts.specs.Names.{all_of_levels, on_newest, gaining, base_of as names_base_of}
 use Rattle.scope_stack.specs.declared.answers.Assertion.{Assertion}
 use Rattle.scope_stack.specs.Pieces.{all_of, on_last}
 use Rattle.scope_stack.specs.Inside.{asserted_by, frame_by, frames_by, IsWithin}
@@ -35,6 +35,33 @@ frames-newest ts es ys (ds ∷ []) (xs ∷ []) e = ap (λ zs. record { declared 
 frames-newest ts es ys (ds ∷ []) (xs ∷ zs ∷ xss) e = absurd (omega (arith, e))
 frames-newest ts es ys (ds ∷ fs ∷ dss) (xs ∷ []) e = absurd (omega (arith, e))
 frames-newest ts es ys (ds ∷ fs ∷ dss) (xs ∷ zs ∷ xss) e = ap (λ r. frame_by ts ds xs ∷ r) (frames-newest ts es ys (fs ∷ dss) (zs ∷ xss) (omega (arith, e)))
+
+pub newest_signature : (es : List Declaration) (dss : List (List Declaration)) → 0 < length dss → all_of_levels (on_newest es dss) ≡ all_of_levels dss ++ es
+newest_signature es [] h = absurd (omega (arith, h))
+newest_signature es (ds ∷ []) h = append-nil (ds ++ es) ∙ ap (λ xs. xs ++ es) (sym (append-nil ds))
+newest_signature es (ds ∷ fs ∷ rest) h = ap (λ xs. ds ++ xs) (newest_signature es (fs ∷ rest) (omega arith)) ∙ sym (append_assoc ds (all_of_levels (fs ∷ rest)) es)
+
+-- level 0 gains declarations, or the newest level
+pub frames-gaining : (global : Bool) (ts : List Tree) (es : List Declaration) (dss : List (List Declaration)) (xss : List (List Assertion)) → length xss ≡ length dss
+    → frames_by ts (gaining global es dss) xss ≡ with_declared global es (frames_by ts dss xss)
+frames-gaining true ts es [] xss e = refl
+frames-gaining true ts es (ds ∷ dss) [] e = absurd (omega (arith, e))
+frames-gaining true ts es (ds ∷ dss) (xs ∷ xss) e = refl
+frames-gaining false ts es dss xss e = ap (λ yss. frames_by ts (on_newest es dss) yss) (sym (on_last_none xss)) ∙ frames-newest ts es [] dss xss e
+
+-- one more level
+pub frames-above : (ts : List Tree) (ys : List Assertion) (dss : List (List Declaration)) (xss : List (List Assertion)) → length xss ≡ length dss
+    → frames_by ts (dss ++ replicate 1 []) (xss ++ ys ∷ []) ≡ frames_by ts dss xss ++ frame_of (map (asserted_by ts) ys) ∷ []
+frames-above ts ys [] [] e = refl
+frames-above ts ys [] (xs ∷ xss) e = absurd (omega (arith, e))
+frames-above ts ys (ds ∷ dss) [] e = absurd (omega (arith, e))
+frames-above ts ys (ds ∷ dss) (xs ∷ xss) e = ap (λ r. frame_by ts ds xs ∷ r) (frames-above ts ys dss xss (omega (arith, e)))
+
+-- level 0 alone
+pub frames-base : (ts : List Tree) (dss : List (List Declaration)) (xss : List (List Assertion)) → frames_by ts (names_base_of dss) ([] ∷ []) ≡ base_of (frames_by ts dss xss)
+frames-base ts [] xss = refl
+frames-base ts (ds ∷ dss) [] = refl
+frames-base ts (ds ∷ dss) (xs ∷ xss) = refl
 
 pub frames-pushed : (ts : List Tree) (n : ℕ) (dss : List (List Declaration)) (xss : List (List Assertion)) → length xss ≡ length dss
     → frames_by ts (dss ++ replicate n []) (xss ++ replicate n []) ≡ frames_by ts dss xss ++ replicate n empty_frame
@@ -90,6 +117,11 @@ within-last ts ys [] h g = h
 within-last ts ys (xs ∷ []) h g = All-append (IsWithin ts) (xs ++ ys) [] (All-append (IsWithin ts) xs ys (all_left (IsWithin ts) xs [] h) g) (All-nil (IsWithin ts))
 within-last ts ys (xs ∷ zs ∷ rest) h g =
     All-append (IsWithin ts) xs (all_of (on_last ys (zs ∷ rest))) (all_left (IsWithin ts) xs (all_of (zs ∷ rest)) h) (within-last ts ys (zs ∷ rest) (all_right (IsWithin ts) xs (all_of (zs ∷ rest)) h) g)
+
+pub within-above : (ts : List Tree) (ys : List Assertion) (xss : List (List Assertion)) → All (IsWithin ts) (all_of xss) → All (IsWithin ts) ys → All (IsWithin ts) (all_of (xss ++ ys ∷ []))
+within-above ts ys [] h g = All-append (IsWithin ts) ys [] g (All-nil (IsWithin ts))
+within-above ts ys (xs ∷ xss) h g =
+    All-append (IsWithin ts) xs (all_of (xss ++ ys ∷ [])) (all_left (IsWithin ts) xs (all_of xss) h) (within-above ts ys xss (all_right (IsWithin ts) xs (all_of xss) h) g)
 
 pub within-pushed : (ts : List Tree) (n : ℕ) (xss : List (List Assertion)) → All (IsWithin ts) (all_of xss) → All (IsWithin ts) (all_of (xss ++ replicate n []))
 within-pushed ts zero [] h = h

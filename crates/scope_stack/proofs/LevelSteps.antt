@@ -1,5 +1,5 @@
 -- The levels of terms stay right as terms and declarations come and go.
-use Rattle.std.proofs.Common.{Result, Ok, Err, ◌≡◌, ◌∙◌, ◌⊎◌, inl, inr, sym, refl, ap, subst, ℕ, zero, suc, ◌+◌, ◌-◌, ◌<◌, ◌≤◌, max, List, [], ◌∷◌, ◌++◌, map, take, length, replicate, All, Contains, arith, slice_index}
+use Rattle.std.proofs.Common.{Result, Ok, Err, ◌≡◌, ◌∙◌, ◌⊎◌, inl, inr, sym, refl, ap, subst, ℕ, zero, suc, ◌+◌, ◌-◌, ◌<◌, ◌≤◌, max, Bool, true, false, if◌then◌else◌, filter, List, [], ◌∷◌, ◌++◌, map, take, length, replicate, All, Contains, arith, slice_index}
 use Rattle.std.proofs.lemmas.List.{map-append, length-take, get_or_append_left, get_or_push, get_or-take, length_push}
 use Rattle.std.proofs.lemmas.List.Elements.{All-nil, All-cons, All-head, All-tail, All-append, All-weaker, All-contains, Contains-append_cases, Contains-append_left, Contains-append_right}
 use Rattle.smt_meaning.specs.declared.terms.Head.{Head}
@@ -9,9 +9,9 @@ use Rattle.smt_meaning.specs.Nodes.{pick}
 use Rattle.smt_meaning.specs.Clause.{symbols, symbols_of, head_symbols}
 use Rattle.smt_meaning.specs.Follows.{declared_ids}
 use Rattle.smt_meaning.specs.Sorts.{Judging}
-use Rattle.smt_meaning.specs.Stack.{up_to}
+use Rattle.smt_meaning.specs.Stack.{up_to, stays}
 use Rattle.smt_meaning.specs.StackCommand.{Change}
-use Rattle.smt_sorts.specs.Names.{Names, all_of_levels, signature, on_newest, with_levels, without_levels, cleared, ids_up_to, HasGained, IsLevelOf}
+use Rattle.smt_sorts.specs.Names.{Names, all_of_levels, signature, on_newest, on_base, gaining, with_declaration, base_of, based, with_levels, without_levels, cleared, ids_up_to, HasGained, IsLevelOf}
 use Rattle.term_store.specs.Terms.{Terms, tree_with}
 use Rattle.elaborate.specs.Values.{IsLonger}
 use Rattle.scope_stack.specs.declared.answers.Assertion.{Assertion}
@@ -109,6 +109,17 @@ sub_newest es (suc n) (ds ∷ gs ∷ rest) f c =
       | inr b ↦ in_right ds (all_of_levels (take n (on_newest es (gs ∷ rest)))) f (sub_newest es n (gs ∷ rest) f b)
     ]
 
+-- ---- what level 0 gains
+
+sub_base : (es : List Declaration) (n : ℕ) (dss : List (List Declaration)) (f : ℕ) → Contains (ids_in n dss) f → Contains (ids_in n (on_base es dss)) f
+sub_base es zero dss f c = in_none f c
+sub_base es (suc n) [] f c = c
+sub_base es (suc n) (ds ∷ rest) f c =
+    elim (in_either ds (all_of_levels (take n rest)) f c) [
+      | inl a ↦ in_left (ds ++ es) (all_of_levels (take n rest)) f (in_left ds es f a)
+      | inr b ↦ in_right (ds ++ es) (all_of_levels (take n rest)) f b
+    ]
+
 module _ (given : ℕ) (es : List Declaration) (later : AreLater given es) where
   not_later : {A : Type 0} (f : ℕ) → f < given → Contains (ids es) f → A
   not_later f lt c = absurd (let h : given ≤ f = All-contains (λ k. given ≤ k) (ids es) f (later_ids es later) c in omega (arith, h, lt))
@@ -131,6 +142,29 @@ module _ (given : ℕ) (es : List Declaration) (later : AreLater given es) where
         | inr b ↦ in_right ds (all_of_levels (take n (gs ∷ rest))) f (before_newest n (gs ∷ rest) f lt b)
       ]
 
+  either_before : (ds fs : List Declaration) (f : ℕ) → f < given → Contains (ids ((ds ++ es) ++ fs)) f → Contains (ids (ds ++ fs)) f
+  either_before ds fs f lt c =
+      elim (in_either (ds ++ es) fs f c) [
+        | inl a ↦ elim (in_either ds es f a) [ inl b ↦ in_left ds fs f b | inr b ↦ not_later f lt b ]
+        | inr b ↦ in_right ds fs f b
+      ]
+
+  before_base : (n : ℕ) (dss : List (List Declaration)) (f : ℕ) → f < given → Contains (ids_in n (on_base es dss)) f → Contains (ids_in n dss) f
+  before_base zero dss f lt c = in_none f c
+  before_base (suc n) [] f lt c = c
+  before_base (suc n) (ds ∷ rest) f lt c = either_before ds (all_of_levels (take n rest)) f lt c
+
+  before_gaining : (global : Bool) (dss : List (List Declaration)) (f : ℕ) → f < given → Contains (ids (all_of_levels (gaining global es dss))) f → Contains (ids (all_of_levels dss)) f
+  before_gaining true [] f lt c = c
+  before_gaining true (ds ∷ rest) f lt c = either_before ds (all_of_levels rest) f lt c
+  before_gaining false [] f lt c = c
+  before_gaining false (ds ∷ []) f lt c = either_before ds [] f lt c
+  before_gaining false (ds ∷ gs ∷ rest) f lt c =
+      elim (in_either ds (all_of_levels (gaining false es (gs ∷ rest))) f c) [
+        | inl a ↦ in_left ds (all_of_levels (gs ∷ rest)) f a
+        | inr b ↦ in_right ds (all_of_levels (gs ∷ rest)) f (before_gaining false (gs ∷ rest) f lt b)
+      ]
+
   before_all : (ds : List Declaration) (f : ℕ) → f < given → Contains (ids (ds ++ es)) f → Contains (ids ds) f
   before_all ds f lt c = elim (in_either ds es f c) [ inl a ↦ a | inr b ↦ not_later f lt b ]
 
@@ -147,18 +181,41 @@ known t k = ids_up_to k t.levels
 abbrev known_at_all : Names → List ℕ
 known_at_all t = ids (signature t)
 
-level_gained : (t u : Names) (v : Tree) (l : ℕ) → HasGained t u → HasGivenSymbols t.given v → IsTermLevel t v l → IsTermLevel u v l
-level_gained t u v l g given h declared =
-    let at : IsLeast (known t) (symbols v) l =
-    h (all_with (λ f. f < t.given) (Contains (known_at_all u)) (Contains (known_at_all t)) (symbols v)
-    (λ f lt c. before_all t.given g.gained g.later (signature t) f lt (subst (λ ds. Contains (ids ds) f) g.all c)) given declared) in
+-- what was declared keeps its level
+record KeepLevels (t u : Names) : Type 0 where
+  known_still : (k f : ℕ) → Contains (known t k) f → Contains (known u k) f
+  known_before : (k f : ℕ) → f < t.given → Contains (known u k) f → Contains (known t k) f
+  all_before : (f : ℕ) → f < t.given → Contains (known_at_all u) f → Contains (known_at_all t) f
+
+level_stays : (t u : Names) (v : Tree) (l : ℕ) → KeepLevels t u → HasGivenSymbols t.given v → IsTermLevel t v l → IsTermLevel u v l
+level_stays t u v l g given h declared =
+    let at : IsLeast (known t) (symbols v) l = h (all_with (λ f. f < t.given) (Contains (known_at_all u)) (Contains (known_at_all t)) (symbols v) g.all_before given declared) in
     record {
-      declared = All-weaker (Contains (known t l)) (Contains (known u l)) (λ f c. subst (λ dss. Contains (ids_in (l + 1) dss) f) (sym g.levels) (sub_newest g.gained (l + 1) t.levels f c)) (symbols v) at.declared;
-      least = λ k all.
-          at.least k
-          (all_with (λ f. f < t.given) (Contains (known u k)) (Contains (known t k)) (symbols v)
-          (λ f lt c. before_newest t.given g.gained g.later (k + 1) t.levels f lt (subst (λ dss. Contains (ids_in (k + 1) dss) f) g.levels c)) given all);
+      declared = All-weaker (Contains (known t l)) (Contains (known u l)) (g.known_still l) (symbols v) at.declared;
+      least = λ k all. at.least k (all_with (λ f. f < t.given) (Contains (known u k)) (Contains (known t k)) (symbols v) (g.known_before k) given all);
     }
+
+gained_keep : (t u : Names) → HasGained t u → KeepLevels t u
+gained_keep t u g = record {
+  known_still = λ k f c. subst (λ dss. Contains (ids_in (k + 1) dss) f) (sym g.levels) (sub_newest g.gained (k + 1) t.levels f c);
+  known_before = λ k f lt c. before_newest t.given g.gained g.later (k + 1) t.levels f lt (subst (λ dss. Contains (ids_in (k + 1) dss) f) g.levels c);
+  all_before = λ f lt c. before_all t.given g.gained g.later (signature t) f lt (subst (λ ds. Contains (ids ds) f) g.all c);
+}
+
+one_later : (n : ℕ) (d : Declaration) → d.id ≡ n → AreLater n (d ∷ [])
+one_later n d e = All-cons (λ (e : Declaration). n ≤ e.id) d [] (omega (arith, e)) (All-nil (λ (e : Declaration). n ≤ e.id))
+
+declared_keep : (t : Names) (global : Bool) (d : Declaration) → d.id ≡ t.given → KeepLevels t (with_declaration global d t)
+declared_keep t true d e = record {
+  known_still = λ k f c. sub_base (d ∷ []) (k + 1) t.levels f c;
+  known_before = λ k f lt c. before_base t.given (d ∷ []) (one_later t.given d e) (k + 1) t.levels f lt c;
+  all_before = λ f lt c. before_gaining t.given (d ∷ []) (one_later t.given d e) true t.levels f lt c;
+}
+declared_keep t false d e = record {
+  known_still = λ k f c. sub_newest (d ∷ []) (k + 1) t.levels f c;
+  known_before = λ k f lt c. before_newest t.given (d ∷ []) (one_later t.given d e) (k + 1) t.levels f lt c;
+  all_before = λ f lt c. before_gaining t.given (d ∷ []) (one_later t.given d e) false t.levels f lt c;
+}
 
 level_pushed : (t : Names) (k : ℕ) (v : Tree) (l : ℕ) → IsTermLevel t v l → IsTermLevel (with_levels k t) v l
 level_pushed t k v l h declared =
@@ -191,6 +248,50 @@ level_cleared t v l h declared =
       least = λ k all. at.least k (All-weaker (Contains []) (Contains (known t k)) (λ f c. in_none f c) (symbols v) declared);
     }
 
+-- ---- level 0 alone, without names
+
+none_taken : {A : Type 0} (n f : ℕ) → Contains (ids_in n []) f → A
+none_taken zero f c = in_none f c
+none_taken (suc n) f c = in_none f c
+
+in_filter_by : (p : Declaration → Bool) (d : Declaration) (ds : List Declaration) (f : ℕ) (b : Bool) → (Contains (ids (filter p ds)) f → Contains (ids ds) f)
+    → Contains (ids (if b then d ∷ filter p ds else filter p ds)) f → Contains (ids (d ∷ ds)) f
+in_filter_by p d ds f true h c = elim (in_either (d ∷ []) (filter p ds) f c) [ inl a ↦ in_left (d ∷ []) ds f a | inr b ↦ in_right (d ∷ []) ds f (h b) ]
+in_filter_by p d ds f false h c = in_right (d ∷ []) ds f (h c)
+
+in_filter : (p : Declaration → Bool) (ds : List Declaration) (f : ℕ) → Contains (ids (filter p ds)) f → Contains (ids ds) f
+in_filter p [] f c = c
+in_filter p (d ∷ ds) f c = in_filter_by p d ds f (p d) (in_filter p ds f) c
+
+sub_base_of : (n : ℕ) (dss : List (List Declaration)) (f : ℕ) → Contains (ids_in n (base_of dss)) f → Contains (ids_in n dss) f
+sub_base_of zero dss f c = in_none f c
+sub_base_of (suc n) [] f c = elim (in_either [] (all_of_levels (take n [])) f c) [ inl a ↦ in_none f a | inr b ↦ none_taken n f b ]
+sub_base_of (suc n) (ds ∷ rest) f c =
+    elim (in_either (filter stays ds) (all_of_levels (take n [])) f c) [
+      | inl a ↦ in_left ds (all_of_levels (take n rest)) f (in_filter stays ds f a)
+      | inr b ↦ none_taken n f b
+    ]
+
+all_base_of : (dss : List (List Declaration)) (f : ℕ) → Contains (ids (all_of_levels (base_of dss))) f → Contains (ids (all_of_levels dss)) f
+all_base_of [] f c = c
+all_base_of (ds ∷ rest) f c =
+    elim (in_either (filter stays ds) [] f c) [ inl a ↦ in_left ds (all_of_levels rest) f (in_filter stays ds f a) | inr b ↦ in_none f b ]
+
+at_base_of : (n : ℕ) (dss : List (List Declaration)) (f : ℕ) → Contains (ids (all_of_levels (base_of dss))) f → Contains (ids_in (suc n) (base_of dss)) f
+at_base_of n [] f c = in_none f c
+at_base_of n (ds ∷ rest) f c =
+    elim (in_either (filter stays ds) [] f c) [ inl a ↦ in_left (filter stays ds) (all_of_levels (take n [])) f a | inr b ↦ in_none f b ]
+
+level_based : (t : Names) (v : Tree) (l : ℕ) → IsTermLevel t v l → IsTermLevel (based t) v l
+level_based t v l h declared =
+    let at : IsLeast (known t) (symbols v) l = h (All-weaker (Contains (known_at_all (based t))) (Contains (known_at_all t)) (λ f c. all_base_of t.levels f c) (symbols v) declared) in
+    let up : suc l ≡ l + 1 = omega arith in
+    record {
+      declared = All-weaker (Contains (known_at_all (based t))) (Contains (known (based t) l))
+          (λ f c. subst (λ n. Contains (ids_in n (base_of t.levels)) f) up (at_base_of l t.levels f c)) (symbols v) declared;
+      least = λ k all. at.least k (All-weaker (Contains (known (based t) k)) (Contains (known t k)) (λ f c. sub_base_of (k + 1) t.levels f c) (symbols v) all);
+    }
+
 -- ---- the levels of terms
 
 pub no_levels : (t : Names) (trees : List Tree) → HaveLevels t trees 0 []
@@ -221,7 +322,14 @@ levels_taken t ts m ls h =
     }
 
 pub levels_gained : (t u : Names) (ts : List Tree) (n : ℕ) (ls : List ℕ) → HasGained t u → ((p : ℕ) → p < n → HasGivenSymbols t.given (tree_at ts p)) → HaveLevels t ts n ls → HaveLevels u ts n ls
-levels_gained t u ts n ls g given h = record { size = h.size; each = λ p lt. level_gained t u (tree_at ts p) (slice_index ls p) g (given p lt) (h.each p lt) }
+levels_gained t u ts n ls g given h = record { size = h.size; each = λ p lt. level_stays t u (tree_at ts p) (slice_index ls p) (gained_keep t u g) (given p lt) (h.each p lt) }
+
+levels_declared : (t : Names) (global : Bool) (d : Declaration) (ts : List Tree) (n : ℕ) (ls : List ℕ) → d.id ≡ t.given → ((p : ℕ) → p < n → HasGivenSymbols t.given (tree_at ts p))
+    → HaveLevels t ts n ls → HaveLevels (with_declaration global d t) ts n ls
+levels_declared t global d ts n ls e given h = record {
+  size = h.size;
+  each = λ p lt. level_stays t (with_declaration global d t) (tree_at ts p) (slice_index ls p) (declared_keep t global d e) (given p lt) (h.each p lt);
+}
 
 pub levels_pushed : (t : Names) (k : ℕ) (ts : List Tree) (n : ℕ) (ls : List ℕ) → HaveLevels t ts n ls → HaveLevels (with_levels k t) ts n ls
 levels_pushed t k ts n ls h = record { size = h.size; each = λ p lt. level_pushed t k (tree_at ts p) (slice_index ls p) (h.each p lt) }
@@ -231,6 +339,9 @@ levels_popped t k ts n ls h = record { size = h.size; each = λ p lt. level_take
 
 pub levels_cleared : (t : Names) (ts : List Tree) (n : ℕ) (ls : List ℕ) → HaveLevels t ts n ls → HaveLevels (cleared t) ts n ls
 levels_cleared t ts n ls h = record { size = h.size; each = λ p lt. level_cleared t (tree_at ts p) (slice_index ls p) (h.each p lt) }
+
+pub levels_based : (t : Names) (ts : List Tree) (n : ℕ) (ls : List ℕ) → HaveLevels t ts n ls → HaveLevels (based t) ts n ls
+levels_based t ts n ls h = record { size = h.size; each = λ p lt. level_based t (tree_at ts p) (slice_index ls p) (h.each p lt) }
 
 -- ---- the level of a term by those of its arguments
 
@@ -298,11 +409,11 @@ one_symbol t f l h = record { declared = All-cons (Contains (known t l)) f [] h.
 
 -- ---- commands
 
-pub declared_levels : (c : Judging Change) (t u : Names) (r : Result Carried StackError) (ts : List Tree) (n : ℕ) (ls : List ℕ) → Declares c t r u
+pub declared_levels : (c : Judging Change) (global : Bool) (t u : Names) (r : Result Carried StackError) (ts : List Tree) (n : ℕ) (ls : List ℕ) → Declares c global t r u
     → ((p : ℕ) → p < n → HasGivenSymbols t.given (tree_at ts p)) → HaveLevels t ts n ls → HaveLevels u ts n ls
-declared_levels c t u (Ok Done) ts n ls d given h = levels_gained t u ts n ls d.gained given h
-declared_levels c t u (Ok Unsupported) ts n ls d given h = subst (λ v. HaveLevels v ts n ls) (sym d.same) h
-declared_levels c t u (Err e) ts n ls d given h = subst (λ v. HaveLevels v ts n ls) (sym d.same) h
+declared_levels c global t u (Ok Done) ts n ls d given h = subst (λ v. HaveLevels v ts n ls) (sym d.new_is) (levels_declared t global d.declaration ts n ls d.id given h)
+declared_levels c global t u (Ok Unsupported) ts n ls d given h = subst (λ v. HaveLevels v ts n ls) (sym d.same) h
+declared_levels c global t u (Err e) ts n ls d given h = subst (λ v. HaveLevels v ts n ls) (sym d.same) h
 
 pub levels_before : (t u : Names) (old now : Terms) (n : ℕ) (ls : List ℕ) → n ≡ length old.trees → HasGained t u → IsLonger old.trees now.trees
     → ((p : ℕ) → p < length old.trees → HasGivenSymbols t.given (tree_at old.trees p)) → HaveLevels t old.trees (length old.trees) ls → HaveLevels u now.trees n ls

@@ -11,6 +11,7 @@ pub mod GainLemmas
 pub mod TermSteps
 pub mod ParameterSteps
 pub mod BackLemmas
+pub mod AssumeLemmas
 mod RoomSteps
 pub mod SortLemmas
 pub mod FactLemmas

@@ -98,3 +98,14 @@ pub cuts-cut : (at end n : ℕ) (ss : List ℕ) → AreCuts at end ss → AreCut
 cuts-cut at end zero [] h = h
 cuts-cut at end (suc n) [] h = (h, cuts_at_end end n)
 cuts-cut at end n (s ∷ ss) h = (h.0, cuts-cut s end n ss h.1)
+
+-- one more piece
+
+on_last_new : {A : Type 0} (ys : List A) (xss : List (List A)) → on_last ys (xss ++ [] ∷ []) ≡ xss ++ ys ∷ []
+on_last_new ys [] = refl
+on_last_new ys (xs ∷ []) = refl
+on_last_new ys (xs ∷ zs ∷ rest) = ap (λ r. xs ∷ r) (on_last_new ys (zs ∷ rest))
+
+pub pieces-above : {A : Type 0} (at : ℕ) (xs ys : List A) (ss : List ℕ) (end : ℕ) → at + length xs ≡ end → AreCuts at end ss → pieces at (xs ++ ys) (ss ++ end ∷ []) ≡ pieces at xs ss ++ ys ∷ []
+pieces-above at xs ys ss end e h =
+    pieces-more at xs ys (ss ++ end ∷ []) end e (cuts-cut at end 1 ss h) ∙ ap (on_last ys) (pieces-cut at xs ss end 1 e h) ∙ on_last_new ys (pieces at xs ss)

@@ -23,7 +23,7 @@ use Rattle.scope_stack.proofs.TermSteps.{assert_not_bool, assert_cause, question
 above : (a b : ℕ) → b < a → nat_le a b ≡ false
 above a b lt = grind (arith, leb_tells)
 
-room_refused : (s : Scope) → most_terms < length s.trees → require_room s ≡ refused TooManyTerms
+pub room_refused : (s : Scope) → most_terms < length s.trees → require_room s ≡ refused TooManyTerms
 room_refused s lt = scope_done _ s ∙ require_refused (nat_le (length s.trees) most_terms) _ s (above (length s.trees) most_terms lt)
 
 assert_full : (t : List Token) (s u : Scope) (a : Typed) → judge in_assert [] (sexp t) s ≡ done a u → sort_eq a.sort Truths ≡ true → most_terms < length u.trees → assert_term t s ≡ refused TooManyTerms
@@ -33,10 +33,10 @@ ask_full : (xs : List (List Token)) (s u : Scope) (terms : List Typed) → judge
 ask_full xs s u terms h lt = bind_refused _ _ s _ (bind_done _ _ s u terms h ∙ next_refused _ _ u _ (room_refused u lt))
 
 -- what comes of judging apart comes of judging over the stack's trees
-done_over : {A : Type 0} (m : Judging A) → JoinsAlike m → (t u : Names) (ts us : List Tree) (a : A) → m (scope_by t []) ≡ done a (scope_by u us) → m (scope_by t ts) ≡ done a (scope_by u (with_all ts us))
+pub done_over : {A : Type 0} (m : Judging A) → JoinsAlike m → (t u : Names) (ts us : List Tree) (a : A) → m (scope_by t []) ≡ done a (scope_by u us) → m (scope_by t ts) ≡ done a (scope_by u (with_all ts us))
 done_over m law t u ts us a e = subst (λ o. Alike ts o (m (scope_by t ts))) e (law (signature t) t.given ts)
 
-refused_over : {A : Type 0} (m : Judging A) → JoinsAlike m → (t : Names) (ts : List Tree) (o : Outcome A) (e : StackError) → m (scope_by t []) ≡ o → IsCause e o → IsCause e (m (scope_by t ts))
+pub refused_over : {A : Type 0} (m : Judging A) → JoinsAlike m → (t : Names) (ts : List Tree) (o : Outcome A) (e : StackError) → m (scope_by t []) ≡ o → IsCause e o → IsCause e (m (scope_by t ts))
 refused_over m law t ts o (Refused r) e h = subst (λ x. Alike ts x (m (scope_by t ts))) (e ∙ h) (law (signature t) t.given ts)
 refused_over m law t ts o Memory e h = tt
 

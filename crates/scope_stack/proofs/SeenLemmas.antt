@@ -1,5 +1,5 @@
 -- What a check sees of a stack.
-use Rattle.std.proofs.Common.{◌≡◌, ◌∙◌, refl, ap, ap₂, sym, subst, ℕ, zero, suc, ◌+◌, ◌-◌, ◌<◌, List, [], ◌∷◌, ◌++◌, map, take, drop, length, arith, All}
+use Rattle.std.proofs.Common.{◌≡◌, ◌∙◌, refl, ap, ap₂, sym, subst, Bool, ℕ, zero, suc, ◌+◌, ◌-◌, ◌<◌, List, [], ◌∷◌, ◌++◌, map, take, drop, length, arith, All}
 use Rattle.smt_meaning.specs.declared.values.Sort.{Sort}
 use Rattle.smt_meaning.specs.Declaration.{Declaration}
 use Rattle.smt_meaning.specs.Term.{Tree, tree_at}
@@ -15,15 +15,15 @@ use Rattle.scope_stack.specs.Facts.{IsKept}
 use Rattle.scope_stack.specs.Seen.{AreAssertions, IsSeen, names_of, IsPartOf}
 use Rattle.scope_stack.proofs.LawLemmas.{reached_lawful}
 
-pub assertions_of_kept : (t : Names) (store : Terms) (xss : List (List Assertion)) → IsStack t store xss → AreAssertions t store xss
+pub assertions_of_kept : {global : Bool} (t : Names) (store : Terms) (xss : List (List Assertion)) → IsStack global t store xss → AreAssertions t store xss
 assertions_of_kept t store xss h = record { limit = h.limit; as_many = h.as_many; some = h.some; few = h.few; within = h.within }
 
-pub seen_of_kept : (t : Names) (store : Terms) (xss : List (List Assertion)) (rs : List Sort) (ls : List ℕ) → IsKept t store xss rs ls
-    → NoIdTwice → AssertionsAreTruths → TreesAreInOrder → PartsAreAmongTheTrees → IsSeen t store xss rs ls
-seen_of_kept t store xss rs ls h ids truths order parts =
+pub seen_of_kept : {global : Bool} (t : Names) (store : Terms) (xss : List (List Assertion)) (rs : List Sort) (ls : List ℕ) → IsKept global t store xss rs ls
+    → NoIdTwice → AssertionsAreTruths → TreesAreInOrder → PartsAreAmongTheTrees → IsSeen global t store xss rs ls
+seen_of_kept {global = global} t store xss rs ls h ids truths order parts =
     record {
       stack = assertions_of_kept t store xss h.stack;
-      lawful = reached_lawful (stack_by t store.trees xss) h.stack.reached ids truths order parts;
+      lawful = reached_lawful (stack_by global t store.trees xss) h.stack.reached ids truths order parts;
       facts = h.facts;
       levels = h.levels;
     }
@@ -34,12 +34,14 @@ declared_frames ts (ds ∷ dss) [] = ap (λ r. ds ∷ r) (declared_frames ts dss
 declared_frames ts (ds ∷ dss) (xs ∷ xss) = ap (λ r. ds ∷ r) (declared_frames ts dss xss)
 
 -- the names of a stack are those that it is made by
-pub names_back : (t : Names) (ts : List Tree) (xss : List (List Assertion)) → names_of (stack_by t ts xss) ≡ t
-names_back t ts xss = ap (λ dss. record { levels = dss; given = t.given }) (declared_frames ts t.levels xss)
+pub names_back : (global : Bool) (t : Names) (ts : List Tree) (xss : List (List Assertion)) → names_of (stack_by global t ts xss) ≡ t
+names_back global t ts xss = ap (λ dss. record { levels = dss; given = t.given }) (declared_frames ts t.levels xss)
 
-pub kept_again_by : (t : Names) (ts : List Tree) (yss : List (List Assertion)) (s : Stack) (store : Terms) (xss : List (List Assertion)) (rs : List Sort) (ls : List ℕ)
-    → stack_by t ts yss ≡ s → IsPartOf s store xss rs ls → IsKept t store xss rs ls
-kept_again_by t ts yss s store xss rs ls e h = subst (λ n. IsKept n store xss rs ls) (names_back t ts yss) (subst (λ u. IsKept (names_of u) store xss rs ls) (sym e) h.kept)
+-- where declarations are global or not
+module _ {global : Bool} where
+  pub kept_again_by : (t : Names) (ts : List Tree) (yss : List (List Assertion)) (s : Stack) (store : Terms) (xss : List (List Assertion)) (rs : List Sort) (ls : List ℕ)
+      → stack_by global t ts yss ≡ s → IsPartOf s store xss rs ls → IsKept global t store xss rs ls
+  kept_again_by t ts yss s store xss rs ls e h = subst (λ n. IsKept global n store xss rs ls) (names_back global t ts yss) (subst (λ (u : Stack). IsKept u.global (names_of u) store xss rs ls) (sym e) h.kept)
 
-pub names_again : (t : Names) (ts : List Tree) (yss : List (List Assertion)) (s : Stack) → stack_by t ts yss ≡ s → names_of s ≡ t
-names_again t ts yss s e = subst (λ u. names_of u ≡ t) e (names_back t ts yss)
+  pub names_again : (t : Names) (ts : List Tree) (yss : List (List Assertion)) (s : Stack) → stack_by global t ts yss ≡ s → names_of s ≡ t
+  names_again t ts yss s e = subst (λ u. names_of u ≡ t) e (names_back global t ts yss)

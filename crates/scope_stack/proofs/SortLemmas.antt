@@ -1,6 +1,8 @@
 -- The sort of a term by those of its arguments, and where it stays.
-use Rattle.std.proofs.Common.{◌≡◌, ◌⊎◌, inl, inr, ℕ, zero, suc, ◌<◌, ◌+◌, Bool, true, false, not, ◌&&◌, nat_eq, List, [], ◌∷◌, ◌++◌, Option, Some, None, length, All, slice_index, slice_index_or, subst, sym, ap, ◌∙◌, arith, refl}
+use Rattle.std.proofs.Common.{◌≡◌, ◌≢◌, ◌⊎◌, inl, inr, ℕ, zero, suc, ◌<◌, ◌+◌, Bool, true, false, not, ◌&&◌, nat_eq, List, [], ◌∷◌, ◌++◌, Option, Some, None, filter, length, All, slice_index, slice_index_or, subst, sym, ap, ◌∙◌, arith, refl}
 use Rattle.std.specs.Prelude.{if◌then◌else◌}
+use Rattle.std.proofs.lemmas.Bool.{ne_eqb, eqb-true}
+use Rattle.std.proofs.lemmas.List.Elements.{All-head, All-tail}
 use Rattle.std.proofs.lemmas.List.{get_or_append_left, get_or_push, length_push}
 use Rattle.smt_meaning.specs.declared.values.Sort.{Sort}
 use Rattle.smt_meaning.specs.declared.values.Sort.TheVariants.{Bool as Truths, Int as Ints}
@@ -11,7 +13,8 @@ use Rattle.smt_meaning.specs.declared.terms.Head.TheVariants.{Numeral, Theory, S
 use Rattle.smt_meaning.specs.Declaration.{Declaration}
 use Rattle.smt_meaning.specs.Term.{Tree, Trees, node, none, more, tree_at}
 use Rattle.smt_meaning.specs.Nodes.{pick}
-use Rattle.smt_meaning.specs.Signature.{tree_sort, tree_sorts, head_sort, with_sorts, cons_sort, operator_sort, ite_sort, if_so, all_of, all_the_same, sort_eq, stands_with, function_with_id, symbol_sort}
+use Rattle.smt_meaning.specs.Signature.{tree_sort, tree_sorts, head_sort, with_sorts, cons_sort, operator_sort, ite_sort, if_so, all_of, all_the_same, sort_eq, stands_with, function_with_id, symbol_sort, HasNoIdTwice}
+use Rattle.smt_laws.proofs.Both.{and_left}
 use Rattle.term_store.specs.Terms.{tree_with}
 use Rattle.scope_stack.specs.Facts.{AreSorts, made_sort}
 
@@ -134,32 +137,62 @@ module _ (ds : List Declaration) (trees : List Tree) where
 
 -- ---- more declarations
 
+-- what is found by its id among the ones is found again among the others
+abbrev pub StillFound : List Declaration → List Declaration → Type 0
+StillFound us ds = (f : ℕ) (ss : List Sort) (s : Sort) → symbol_sort (function_with_id f us) ss ≡ Some s → symbol_sort (function_with_id f ds) ss ≡ Some s
+
 symbol_step : (d : Declaration) (o p : Option Declaration) (ss : List Sort) (s : Sort) (b : Bool) → (symbol_sort o ss ≡ Some s → symbol_sort p ss ≡ Some s)
     → symbol_sort (if b then Some d else o) ss ≡ Some s → symbol_sort (if b then Some d else p) ss ≡ Some s
 symbol_step d o p ss s true h e = e
 symbol_step d o p ss s false h e = h e
 
-symbol_still : (f : ℕ) (ds es : List Declaration) (ss : List Sort) (s : Sort) → symbol_sort (function_with_id f ds) ss ≡ Some s → symbol_sort (function_with_id f (ds ++ es)) ss ≡ Some s
-symbol_still f [] es ss s e = absurd cc
-symbol_still f (d ∷ ds) es ss s e =
-    symbol_step d (function_with_id f ds) (function_with_id f (ds ++ es)) ss s (nat_eq f d.id && not d.is_sort) (symbol_still f ds es ss s) e
+pub found_longer : (ds es : List Declaration) → StillFound ds (ds ++ es)
+found_longer [] es f ss s e = absurd cc
+found_longer (d ∷ ds) es f ss s e =
+    symbol_step d (function_with_id f ds) (function_with_id f (ds ++ es)) ss s (nat_eq f d.id && not d.is_sort) (found_longer ds es f ss s) e
 
-head_still : (ds es : List Declaration) (h : Head) (ss : List Sort) (s : Sort) → head_sort ds h ss ≡ Some s → head_sort (ds ++ es) h ss ≡ Some s
-head_still ds es (Numeral n) [] s e = e
-head_still ds es (Numeral n) (r ∷ rs) s e = e
-head_still ds es (Theory o) ss s e = e
-head_still ds es (Symbol f) ss s e = symbol_still f ds es ss s e
-head_still ds es (Place k) ss s e = e
+-- nothing is found by an id that none has
+none_found : (f : ℕ) (ds : List Declaration) → All (λ (e : Declaration). f ≢ e.id) ds → function_with_id f ds ≡ None
+none_found f [] h = refl
+none_found f (d ∷ ds) h =
+    ap (λ b. if b && not d.is_sort then Some d else function_with_id f ds) (ne_eqb f d.id (All-head (λ (e : Declaration). f ≢ e.id) d ds h))
+    ∙ none_found f ds (All-tail (λ (e : Declaration). f ≢ e.id) d ds h)
 
-mutual
-  -- a term that has a sort has it under more declarations too
-  pub sort_still : (ds es : List Declaration) (t : Tree) (s : Sort) → tree_sort ds t ≡ Some s → tree_sort (ds ++ es) t ≡ Some s
-  sort_still ds es (node h us) s e =
-      let a : HasArguments ds h us s = arguments_of ds h us s e in
-      ap (with_sorts (ds ++ es) h) (sorts_still ds es us a.sorts a.are) ∙ head_still ds es h a.sorts s a.made
+not_here : (f : ℕ) (d : Declaration) (ds : List Declaration) (ss : List Sort) (s : Sort) (b : Bool) → (nat_eq f d.id && not d.is_sort) ≡ b → All (λ (e : Declaration). d.id ≢ e.id) ds
+    → symbol_sort (function_with_id f ds) ss ≡ Some s → symbol_sort (if b then Some d else function_with_id f ds) ss ≡ Some s
+not_here f d ds ss s false p h e = e
+not_here f d ds ss s true p h e =
+    let same : f ≡ d.id = eqb-true f d.id (and_left (nat_eq f d.id) (not d.is_sort) p) in
+    let none' : function_with_id f ds ≡ None = none_found f ds (subst (λ n. All (λ (e : Declaration). n ≢ e.id) ds) (sym same) h) in
+    let bad : symbol_sort None ss ≡ Some s = subst (λ o. symbol_sort o ss ≡ Some s) none' e in
+    absurd cc
 
-  sorts_still : (ds es : List Declaration) (us : Trees) (ss : List Sort) → tree_sorts ds us ≡ Some ss → tree_sorts (ds ++ es) us ≡ Some ss
-  sorts_still ds es none ss e = e
-  sorts_still ds es (more u us) ss e =
-      let f : HasFirst ds u us ss = first_of ds u us ss e in
-      ap (λ o. cons_sort o (tree_sorts (ds ++ es) us)) (sort_still ds es u f.first f.here) ∙ ap (cons_sort (Some f.first)) (sorts_still ds es us f.rest f.later) ∙ ap Some (sym f.are)
+kept_found : (p : Declaration → Bool) (d : Declaration) (ds : List Declaration) (b : Bool) → All (λ (e : Declaration). d.id ≢ e.id) ds → StillFound (filter p ds) ds
+    → StillFound (if b then d ∷ filter p ds else filter p ds) (d ∷ ds)
+kept_found p d ds true h g f ss s e = symbol_step d (function_with_id f (filter p ds)) (function_with_id f ds) ss s (nat_eq f d.id && not d.is_sort) (g f ss s) e
+kept_found p d ds false h g f ss s e = not_here f d ds ss s (nat_eq f d.id && not d.is_sort) refl h (g f ss s e)
+
+pub found_filtered : (p : Declaration → Bool) (ds : List Declaration) → HasNoIdTwice ds → StillFound (filter p ds) ds
+found_filtered p [] h = λ f ss s e. e
+found_filtered p (d ∷ ds) h = kept_found p d ds (p d) h.0 (found_filtered p ds h.1)
+
+head_still : (us ds : List Declaration) → StillFound us ds → (h : Head) (ss : List Sort) (s : Sort) → head_sort us h ss ≡ Some s → head_sort ds h ss ≡ Some s
+head_still us ds g (Numeral n) [] s e = e
+head_still us ds g (Numeral n) (r ∷ rs) s e = e
+head_still us ds g (Theory o) ss s e = e
+head_still us ds g (Symbol f) ss s e = g f ss s e
+head_still us ds g (Place k) ss s e = e
+
+module _ (us ds : List Declaration) (g : StillFound us ds) where
+  mutual
+    -- a term that has a sort has it where its symbols are found again
+    pub sort_still : (t : Tree) (s : Sort) → tree_sort us t ≡ Some s → tree_sort ds t ≡ Some s
+    sort_still (node h ts) s e =
+        let a : HasArguments us h ts s = arguments_of us h ts s e in
+        ap (with_sorts ds h) (sorts_still ts a.sorts a.are) ∙ head_still us ds g h a.sorts s a.made
+
+    sorts_still : (ts : Trees) (ss : List Sort) → tree_sorts us ts ≡ Some ss → tree_sorts ds ts ≡ Some ss
+    sorts_still none ss e = e
+    sorts_still (more t ts) ss e =
+        let f : HasFirst us t ts ss = first_of us t ts ss e in
+        ap (λ o. cons_sort o (tree_sorts ds ts)) (sort_still t f.first f.here) ∙ ap (cons_sort (Some f.first)) (sorts_still ts f.rest f.later) ∙ ap Some (sym f.are)

@@ -91,6 +91,7 @@ pub record IsAssumed (texts : List (List Token)) (assumed : List Assertion) (old
   pub scope : Scope
   pub is_judged : judged (assumption texts) old ≡ done (assumes assumed) scope
   pub new_is : new ≡ under assumed (changed old (assumes assumed) scope)
+  pub some : 0 < length old.frames
   pub reached : IsReached old
   pub longer : IsLonger old.trees new.trees
 

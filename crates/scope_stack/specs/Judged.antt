@@ -15,7 +15,7 @@ use Rattle.smt_meaning.specs.Declaration.{Declaration, Body}
 use Rattle.smt_meaning.specs.Term.{Tree}
 use Rattle.smt_meaning.specs.Signature.{sort_eq}
 use Rattle.smt_meaning.specs.Sorts.{Scope, Outcome, done, refused, Judging, go_on, ◌>>=◌, ◌>>◌, return, require, Variable, not_before}
-use Rattle.smt_meaning.specs.StackCommand.{Change, declares, asks, assumes, is_unsupported, most_terms, assume_terms, judge_sort, judge_sorts, judge_parameters, judge_body, judge_terms, ask_terms}
+use Rattle.smt_meaning.specs.StackCommand.{Change, declares, asks, assumes, is_unsupported, most_terms, most_levels, assume_terms, judge_sort, judge_sorts, judge_parameters, judge_body, judge_terms, ask_terms}
 use Rattle.smt_sorts.specs.declared.errors.NameError.{NameError}
 use Rattle.smt_sorts.specs.declared.errors.NameError.TheVariants.{Reserved, AlreadyDeclared}
 use Rattle.smt_sorts.specs.declared.errors.AddError.{AddError}
@@ -169,6 +169,7 @@ assertions_by (t ∷ ts) (a ∷ terms) = record { text = t; term = a.term } ∷ 
 pub record AreAssumed (depth : ℕ) (texts : List (List Token)) (s : Scope) (xs : List Assertion) (names : Names) (us : List Tree) : Type 0 where
   pub is_judged : assume_terms depth texts s ≡ done (assumes (map (asserted_by us) xs)) (scope_by names us)
   pub within : All (IsWithin us) xs
+  pub room : depth < most_levels
 
 -- the texts are judged to be these terms
 pub record AreJudged (texts : List (List Token)) (s : Scope) (terms : List Asked) (us : List Tree) : Type 0 where

@@ -8,8 +8,8 @@ use crate::facts::{TermFacts, add_assertion, add_level};
 use crate::few::{Few, few_terms};
 use crate::term::{judge_assertion, judge_assumptions, judge_questions};
 use smt_laws::{
-    assertions_are_truths, no_id_twice, parts_are_among_the_trees, tree_equality_decides,
-    trees_are_in_order,
+    assertions_are_truths, assumptions_are_commands, no_id_twice, parts_are_among_the_trees,
+    tree_equality_decides, trees_are_in_order,
 };
 use smt_meaning::language::{Parameter, WrittenSort};
 use smt_meaning::{Bytes, Declaration, Refusal, SExpr, Seq, Sort, SymId};
@@ -65,7 +65,7 @@ fn at_most(count: i128, most: u32) -> Option<u32>
 
 impl ScopeStack {
     ghost use Rattle.std.specs.Prelude.{◌≡◌, ◌≤◌, ◌≢◌, [], ℕ, unsigned_abs, length, List, IfOk, IfErr, Some, None};
-    ghost use Rattle.smt_meaning.specs.Stack.{depth, signature_of, cleared, Assertion as Asserted};
+    ghost use Rattle.smt_meaning.specs.Stack.{depth, signature_of, cleared, Assertion as Assumption};
     ghost use Rattle.smt_meaning.specs.State.{name_of_sort};
     ghost use Rattle.smt_meaning.specs.declared.tokens.Token.{Token};
     ghost use Rattle.scope_stack.specs.declared.answers.Asked.{Asked};
@@ -243,6 +243,7 @@ impl ScopeStack {
     pub fn assume(&mut self, alloc: Global, terms: &[SExpr]) -> Result<(), StackError>
         ensures { Assumes terms.now self.old result self.new }
     {
+        assumptions_are_commands();
         let count = self.terms.len();
         let depth = self.depth();
         let assumed = judge_assumptions(alloc, terms, depth, &mut self.table, &mut self.terms)?;
@@ -269,7 +270,7 @@ impl ScopeStack {
     /// Takes the level of assumptions away. Their terms stay among the terms. It takes no memory.
     pub fn withdraw(&mut self)
         requires { (terms : ℕ) × IsUnderAssumptions terms self.old }
-        ensures { (texts : List (List Token)) (assumed : List Asserted) (t : StackValue) → IsAssumed texts assumed t self.old → self.new ≡ record t { trees = self.old.trees } }
+        ensures { (texts : List (List Token)) (assumed : List Assumption) (t : StackValue) → IsAssumed texts assumed t self.old → self.new ≡ record t { trees = self.old.trees } }
     {
         self.asserted.pop(1);
         self.table.pop(1);
@@ -278,7 +279,7 @@ impl ScopeStack {
     /// Takes the level of assumptions away, with their terms, before which there were so many. It takes no memory.
     pub fn take_back(&mut self, terms: u32)
         requires { IsUnderAssumptions terms self.old }
-        ensures { (texts : List (List Token)) (assumed : List Asserted) (t : StackValue) → length t.trees ≡ terms → IsAssumed texts assumed t self.old → self.new ≡ t }
+        ensures { (texts : List (List Token)) (assumed : List Assumption) (t : StackValue) → length t.trees ≡ terms → IsAssumed texts assumed t self.old → self.new ≡ t }
     {
         tree_equality_decides();
         trees_are_in_order();
@@ -337,12 +338,12 @@ impl ScopeStack {
         ensures { self.new ≡ record self.old { frames = cleared self.old.global self.old.frames } }
     {
         let _ = self.table.ids();
+        self.asserted.clear();
         if self.global {
             self.table.clear_to_base();
         } else {
             self.table.clear();
         }
-        self.asserted.clear();
     }
 
     /// `(reset)` (section 4.2.1). It takes no memory.

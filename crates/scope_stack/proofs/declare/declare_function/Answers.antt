@@ -1,6 +1,6 @@
 use Rattle.std.proofs.Common.{refl}
 use Rattle.std.proofs.lemmas.Result.{err_from_is_err_and}
-use Rattle.scope_stack.proofs.DeclareSteps.{function_adds, function_name_cause, function_arguments_cause, function_result_cause, function_add_cause}
+use Rattle.scope_stack.proofs.DeclareSteps.{added_on, function_adds, function_name_cause, function_arguments_cause, function_result_cause, function_add_cause}
 use Rattle.scope_stack.proofs.declare.declare_function.Goals as goal
 
 pub returns-in_err-new_function_name : goal.returns-in_err-new_function_name
@@ -35,8 +35,6 @@ returns-in_err-add_function c =
 
 pub returns : goal.returns
 returns c =
-    record {
-      adds = function_adds c.args.name.now c.args.arguments.now c.args.sort.now c.args.table.now c.add_function.new.table c.in_ok-arguments.arguments c.in_ok-result.result c.in_ok-new_function_name.ensures.gives
-          c.in_ok-arguments.ensures.gives c.in_ok-result.ensures.gives c.in_ok-add_function.ensures.adds;
-      gained = c.in_ok-add_function.ensures.gained;
-    }
+    added_on c.args.global c.args.table.now c.add_function.new.table c.in_ok-add_function.ensures.added
+    (λ v k. function_adds c.args.name.now c.args.arguments.now c.args.sort.now c.args.table.now v c.in_ok-arguments.arguments c.in_ok-result.result c.in_ok-new_function_name.ensures.gives
+    c.in_ok-arguments.ensures.gives c.in_ok-result.ensures.gives k)

@@ -1,6 +1,6 @@
 use Rattle.std.proofs.Common.{refl}
 use Rattle.std.proofs.lemmas.Result.{err_from_is_err_and}
-use Rattle.scope_stack.proofs.DeclareSteps.{new_sort_adds, new_sort_name_cause, new_sort_add_cause}
+use Rattle.scope_stack.proofs.DeclareSteps.{added_on, new_sort_adds, new_sort_name_cause, new_sort_add_cause}
 use Rattle.scope_stack.proofs.declare.declare_new_sort.Goals as goal
 
 pub returns-in_err-new_sort_name-clause-err : goal.returns-in_err-new_sort_name-clause-err
@@ -16,4 +16,4 @@ returns-in_err-add_sort-clause-err c =
 
 pub returns-clause-adds : goal.returns-clause-adds
 returns-clause-adds c =
-    record { adds = new_sort_adds c.args.name.now c.args.table.now c.add_sort.new.table c.in_ok-new_sort_name.ensures.gives c.in_ok-add_sort.ensures.adds; gained = c.in_ok-add_sort.ensures.gained }
+    added_on c.args.global c.args.table.now c.add_sort.new.table c.in_ok-add_sort.ensures.added (λ v k. new_sort_adds c.args.name.now c.args.table.now v c.in_ok-new_sort_name.ensures.gives k)

@@ -1,6 +1,6 @@
 use Rattle.std.proofs.Common.{refl}
 use Rattle.std.proofs.lemmas.Result.{err_from_is_err_and}
-use Rattle.scope_stack.proofs.DeclareSteps.{sort_adds, sort_name_cause, sort_sort_cause, sort_add_cause}
+use Rattle.scope_stack.proofs.DeclareSteps.{added_on, sort_adds, sort_name_cause, sort_sort_cause, sort_add_cause}
 use Rattle.scope_stack.proofs.declare.define_new_sort.Goals as goal
 
 pub returns-in_err-new_sort_name-clause-err : goal.returns-in_err-new_sort_name-clause-err
@@ -25,7 +25,5 @@ returns-in_err-add_sort-clause-err c =
 
 pub returns-clause-adds : goal.returns-clause-adds
 returns-clause-adds c =
-    record {
-      adds = sort_adds c.args.name.now c.args.sort.now c.args.table.now c.add_sort.new.table c.in_ok-sort.sort c.in_ok-new_sort_name.ensures.gives c.in_ok-sort.ensures.gives c.in_ok-add_sort.ensures.adds;
-      gained = c.in_ok-add_sort.ensures.gained;
-    }
+    added_on c.args.global c.args.table.now c.add_sort.new.table c.in_ok-add_sort.ensures.added
+    (λ v k. sort_adds c.args.name.now c.args.sort.now c.args.table.now v c.in_ok-sort.sort c.in_ok-new_sort_name.ensures.gives c.in_ok-sort.ensures.gives k)

@@ -4,6 +4,7 @@ use Rattle.elaborate.specs.Judged.{variables_of}
 use Rattle.smt_meaning.specs.Sorts.{declare}
 use Rattle.smt_meaning.specs.StackCommand.{function_declaration, sorts_of_variables}
 use Rattle.scope_stack.specs.Judged.{Adds, Causes, IsBody, body_of_sort, sort_of}
+use Rattle.scope_stack.proofs.DeclareSteps.{added_on}
 use Rattle.scope_stack.proofs.ParameterSteps.{sorts_same, definition_adds, definition_name_cause, definition_parameters_cause, definition_sort_cause, definition_body_cause, definition_add_cause}
 use Rattle.scope_stack.proofs.declare.define_with.Goals as goal
 
@@ -67,11 +68,8 @@ pub returns : goal.returns
 returns c =
     let arguments : c.from_vec-arguments.result ≡ sorts_of_variables (variables_of c.in_ok-parameters.parameters.items) =
     c.from_vec-arguments.ensures ∙ c.in_ok-sorts_of.ensures ∙ ap (λ qs. map sort_of qs) c.as_slice-2.ensures.value ∙ sym (sorts_same c.in_ok-parameters.parameters.items) in
-    record {
-      adds = definition_adds c.args.name.now c.args.parameters.now c.args.sort.now c.args.body.now c.args.table.now c.add_definition.new.table (variables_of c.in_ok-parameters.parameters.items)
-          c.in_ok-result.result c.in_ok-judged.judged.body c.in_ok-new_function_name.ensures.gives c.in_ok-parameters.ensures.gives c.in_ok-result.ensures.gives
-          (subst (λ qs. IsBody (variables_of qs) c.args.body.now c.in_ok-result.result c.args.table.now c.in_ok-judged.judged.body) c.as_slice.ensures.value c.in_ok-judged.ensures.gives)
-          (subst (λ rs. Adds (declare (λ id. function_declaration id c.args.name.now rs c.in_ok-result.result (Some c.in_ok-judged.judged.body))) c.args.table.now tt c.add_definition.new.table) arguments
-          c.in_ok-add_definition.ensures.adds);
-      gained = c.in_ok-add_definition.ensures.gained;
-    }
+    added_on c.args.global c.args.table.now c.add_definition.new.table c.in_ok-add_definition.ensures.added
+    (λ v k. definition_adds c.args.name.now c.args.parameters.now c.args.sort.now c.args.body.now c.args.table.now v (variables_of c.in_ok-parameters.parameters.items)
+    c.in_ok-result.result c.in_ok-judged.judged.body c.in_ok-new_function_name.ensures.gives c.in_ok-parameters.ensures.gives c.in_ok-result.ensures.gives
+    (subst (λ qs. IsBody (variables_of qs) c.args.body.now c.in_ok-result.result c.args.table.now c.in_ok-judged.judged.body) c.as_slice.ensures.value c.in_ok-judged.ensures.gives)
+    (subst (λ rs. Adds (declare (λ id. function_declaration id c.args.name.now rs c.in_ok-result.result (Some c.in_ok-judged.judged.body))) c.args.table.now tt v) arguments k))

@@ -1,4 +1,5 @@
-use Rattle.std.proofs.Common.{◌∙◌, ap, sym}
+use Rattle.std.proofs.Common.{◌∙◌, ap, ap₂, sym}
+use Rattle.smt_meaning.specs.StackCommand.{Stack}
 use Rattle.scope_stack.specs.Inside.{stack_by}
 use Rattle.scope_stack.proofs.SeenLemmas.{kept_again_by, names_again}
 use Rattle.scope_stack.proofs.stack.Part.whole.Goals as goal
@@ -10,5 +11,6 @@ invariant_of-result c =
 
 pub returns : goal.returns
 returns c =
-    ap (λ n. stack_by n c.self.inside.terms.trees c.self.inside.asserted) (sym (names_again c.stack.inside.table c.stack.inside.terms.trees c.stack.inside.asserted c.self.inside.stack c.stack.view_is))
+    ap₂ (λ b n. stack_by b n c.self.inside.terms.trees c.self.inside.asserted) (ap (λ (s : Stack). s.global) c.stack.view_is)
+    (sym (names_again c.stack.inside.table c.stack.inside.terms.trees c.stack.inside.asserted c.self.inside.stack c.stack.view_is))
     ∙ c.self.view_is

@@ -10,7 +10,7 @@ pub returns-in_err-asked : goal.returns-in_err-asked
 returns-in_err-asked c =
     let p = err_from_is_err_and c.from_residual.result c.from_residual.ensures.1 in
     rw (← c.self.view_is, p.1, p.2)
-    (failed_answers c.args.terms.now c.self.inside.table c.judge_questions.new.table c.self.inside.terms c.judge_questions.new.terms c.self.inside.asserted _ c.in_err-asked.ensures.causes
+    (failed_answers c.self.inside.global c.args.terms.now c.self.inside.table c.judge_questions.new.table c.self.inside.terms c.judge_questions.new.terms c.self.inside.asserted _ c.in_err-asked.ensures.causes
     c.in_err-asked.ensures.table c.in_err-asked.ensures.err)
 
 pub extend-requires-clause-facts : goal.extend-requires-clause-facts
@@ -32,12 +32,12 @@ invariant_of-self-in-Ok c =
       facts = c.in-Ok.ensures.facts;
       levels = c.in-Ok.ensures.levels;
       stack =
-          asked_keeps c.args.terms.now c.self.inside.table c.judge_questions.new.table c.self.inside.terms c.judge_questions.new.terms c.self.inside.asserted c.in_ok-asked.asked c.self.invariant.stack
+          asked_keeps c.self.inside.global c.args.terms.now c.self.inside.table c.judge_questions.new.table c.self.inside.terms c.judge_questions.new.terms c.self.inside.asserted c.in_ok-asked.asked c.self.invariant.stack
           c.in_ok-asked.ensures.gives c.in_ok-asked.ensures.table c.in_ok-asked.ensures.longer c.in_ok-asked.ensures.limit;
     }
 
 pub returns-in-Ok : goal.returns-in-Ok
 returns-in-Ok c =
     rw (← c.self.view_is)
-    (asked_answers c.args.terms.now c.self.inside.table c.judge_questions.new.table c.self.inside.terms c.judge_questions.new.terms c.self.inside.asserted c.in_ok-asked.asked c.self.invariant.stack
+    (asked_answers c.self.inside.global c.args.terms.now c.self.inside.table c.judge_questions.new.table c.self.inside.terms c.judge_questions.new.terms c.self.inside.asserted c.in_ok-asked.asked c.self.invariant.stack
     c.in_ok-asked.ensures.gives c.in_ok-asked.ensures.table c.in_ok-asked.ensures.longer)

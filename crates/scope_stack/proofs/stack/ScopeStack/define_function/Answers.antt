@@ -10,15 +10,15 @@ pub invariant_of-self : goal.invariant_of-self
 invariant_of-self c =
     record {
       stack =
-          declared_keeps (DefineFun c.args.name.now c.args.parameters.now c.args.sort.now c.args.body.now) (define_function c.args.name.now c.args.parameters.now c.args.sort.now c.args.body.now) refl
+          declared_keeps c.self.inside.global (DefineFun c.args.name.now c.args.parameters.now c.args.sort.now c.args.body.now) (define_function c.args.name.now c.args.parameters.now c.args.sort.now c.args.body.now) refl
           c.self.inside.table c.define_function.new.table c.self.inside.terms c.self.inside.asserted c.define_function.result c.self.invariant.stack c.define_function.ensures;
       facts =
-          declared_facts (define_function c.args.name.now c.args.parameters.now c.args.sort.now c.args.body.now) c.self.inside.table c.define_function.new.table c.define_function.result c.self.inside.terms.trees (length c.self.inside.terms.trees) c.self.inside.facts.sorts.items c.define_function.ensures c.self.invariant.facts;
-      levels = declared_levels (define_function c.args.name.now c.args.parameters.now c.args.sort.now c.args.body.now) c.self.inside.table c.define_function.new.table c.define_function.result c.self.inside.terms.trees (length c.self.inside.terms.trees) c.self.inside.facts.levels.items c.define_function.ensures c.self.invariant.facts.given c.self.invariant.levels;
+          declared_facts (define_function c.args.name.now c.args.parameters.now c.args.sort.now c.args.body.now) c.self.inside.global c.self.inside.table c.define_function.new.table c.define_function.result c.self.inside.terms.trees (length c.self.inside.terms.trees) c.self.inside.facts.sorts.items c.define_function.ensures c.self.invariant.facts;
+      levels = declared_levels (define_function c.args.name.now c.args.parameters.now c.args.sort.now c.args.body.now) c.self.inside.global c.self.inside.table c.define_function.new.table c.define_function.result c.self.inside.terms.trees (length c.self.inside.terms.trees) c.self.inside.facts.levels.items c.define_function.ensures c.self.invariant.facts.given c.self.invariant.levels;
     }
 
 pub returns : goal.returns
 returns c =
     rw (← c.self.view_is)
-    (declared_carries (define_function c.args.name.now c.args.parameters.now c.args.sort.now c.args.body.now) c.self.inside.table c.define_function.new.table c.self.inside.terms c.self.inside.asserted
+    (declared_carries c.self.inside.global (define_function c.args.name.now c.args.parameters.now c.args.sort.now c.args.body.now) c.self.inside.table c.define_function.new.table c.self.inside.terms c.self.inside.asserted
     c.define_function.result c.self.invariant.stack c.define_function.ensures)
