@@ -1,5 +1,5 @@
 -- What follows still does as a pool's levels come and go.
-use Rattle.std.proofs.Common.{◌≡◌, ℕ, zero, suc, ◌+◌, ◌-◌, ◌<◌, ◌≤◌, min, List, [], ◌∷◌, ◌++◌, take, length, get_or, All, Contains, Bool, true, false, eq-eqb, subst, sym, ap, ◌∙◌, refl, arith}
+use Rattle.std.proofs.Common.{◌≡◌, ℕ, zero, suc, ◌+◌, ◌-◌, ◌<◌, ◌≤◌, min, List, [], ◌∷◌, take, length, get_or, All, Contains, Bool, true, false, eq-eqb, subst, sym, ap, ◌∙◌, refl, arith}
 use Rattle.std.specs.Prelude.{filter, replicate, nat_lt, ◌==◌, ◌||◌, IsTrue}
 use Rattle.std.proofs.lemmas.Bool.{eqb-true}
 use Rattle.std.proofs.lemmas.Bool.Decides.{nat_tests}
