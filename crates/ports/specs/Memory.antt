@@ -18,10 +18,12 @@ pub record SourceState : Type 0 where
   pub given : ℕ
   pub faults : ℕ
 
--- A sink: the bytes written, for how many there is room in all, and the rest as in a source, but for what a call gave.
+-- A sink: the bytes written, for how many there is room in all, how many bytes a call that fails takes at most, and the rest as in a source, but for
+-- what a call gave.
 pub record SinkState : Type 0 where
   pub written : List ℕ
   pub room : ℕ
+  pub cut : ℕ
   pub fails : List ℕ
   pub calls : ℕ
   pub faults : ℕ
@@ -44,7 +46,7 @@ source_after s answer =
 
 -- How many of this many bytes the next call takes.
 abbrev pub sink_takes : SinkState → ℕ → ℕ
-sink_takes s size = if fails_next s.fails s.calls then 0 else min size (s.room - length s.written)
+sink_takes s size = min (if fails_next s.fails s.calls then min size s.cut else size) (s.room - length s.written)
 
 -- What the next call answers to this many bytes.
 abbrev pub sink_answer : SinkState → ℕ → Put

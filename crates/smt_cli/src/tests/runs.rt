@@ -15,17 +15,18 @@ fn words_of(alloc: Global, line: &str) -> Result<Vec<String>, AllocError> {
 }
 
 /// What becomes of a script that comes in pieces, where these calls of the source and of the sink
-/// fail. No call has the number 0.
+/// fail, and that of the sink takes so many bytes. No call has the number 0.
 fn outcome(
     alloc: Global,
     script: &[u8],
     piece: usize,
     read_fails: u64,
     write_fails: u64,
+    cut: usize,
 ) -> Result<(u8, Vec<u8>), AllocError> {
     let words = words_of(alloc, "smt_cli")?;
     let mut source = MemSource::new(script.to_vec(alloc)?, piece, vec![in alloc; read_fails]?);
-    let mut sink = MemSink::new(alloc, 200, vec![in alloc; write_fails]?)?;
+    let mut sink = MemSink::torn(alloc, 200, vec![in alloc; write_fails]?, cut)?;
     let ended = run(alloc, &words, &mut source, &mut sink, &OpenGate);
     Ok((ended.status, sink.written().to_vec(alloc)?))
 }
@@ -61,7 +62,7 @@ fn answers_scripts(rt: HostRuntime) -> Result<(), Fail> {
     for row in SCRIPTS.iter() {
         let (script, status, want) = *row;
         for piece in [1, 4096] {
-            let (ended, written) = outcome(rt.alloc(), script, piece, 0, 0)?;
+            let (ended, written) = outcome(rt.alloc(), script, piece, 0, 0, 0)?;
             assert_eq!(rt; ended, status);
             assert_eq!(rt; written.as_slice(), want);
         }
@@ -69,16 +70,32 @@ fn answers_scripts(rt: HostRuntime) -> Result<(), Fail> {
     Ok(())
 }
 
+/// For a script of 37 bytes in pieces of 7: the calls of the source and of the sink that fail, how many bytes the sink then takes, the status at the end, and
+/// what is written.
+static FAULTS: [(u64, u64, usize, u8, &'static [u8]); 12] = [
+    (1, 0, 0, 3, b""),
+    (2, 0, 0, 3, b""),
+    (3, 0, 0, 3, b""),
+    (4, 0, 0, 3, b"success\n"),
+    (5, 0, 0, 3, b"success\n"),
+    (6, 0, 0, 3, b"success\nsat\n"),
+    (7, 0, 0, 0, b"success\nsat\nsuccess\n"),
+    (0, 1, 0, 4, b""),
+    (0, 2, 0, 4, b"success\n"),
+    (0, 3, 0, 4, b"success\nsat\n"),
+    (0, 2, 2, 4, b"success\nsa"),
+    (0, 2, 9, 4, b"success\nsat\n"),
+];
+
 #[test]
 fn stops_at_faults(rt: HostRuntime) -> Result<(), Fail> {
-    let alloc = rt.alloc();
     let script = b"(set-logic QF_UFLIA)(check-sat)(exit)";
-    let (ended, written) = outcome(alloc, script, 99, 0, 3)?;
-    assert_eq!(rt; ended, 4);
-    assert_eq!(rt; written.as_slice(), b"success\nsat\n".as_slice());
-    let (ended, written) = outcome(alloc, b"(set-logic QF_UF)(check-sat)", 17, 2, 0)?;
-    assert_eq!(rt; ended, 3);
-    assert_eq!(rt; written.as_slice(), b"success\n".as_slice());
+    for row in FAULTS.iter() {
+        let (read_fails, write_fails, cut, status, want) = *row;
+        let (ended, written) = outcome(rt.alloc(), script, 7, read_fails, write_fails, cut)?;
+        assert_eq!(rt; ended, status);
+        assert_eq!(rt; written.as_slice(), want);
+    }
     Ok(())
 }
 
