@@ -1,8 +1,8 @@
 -- Copies of terms, and assertions that are made of them.
-use Rattle.std.proofs.Common.{slice_set, replicate, ◌≡◌, ◌≢◌, ◌∙◌, refl, ap, ap₂, sym, subst, ℕ, zero, suc, ◌+◌, ◌-◌, ◌<◌, ◌≤◌, Bool, true, false, List, [], ◌∷◌, ◌++◌, map, take, drop, length, get_or, slice_index, ◌⊎◌, arith, All, inl, inr, IsTrue, Some}
+use Rattle.std.proofs.Common.{slice_set, replicate, ◌≡◌, ◌≢◌, ◌∙◌, refl, ap, ap₂, sym, subst, ℕ, zero, suc, ◌+◌, ◌-◌, ◌<◌, ◌≤◌, Bool, true, false, List, [], ◌∷◌, ◌++◌, map, take, drop, length, slice_index, ◌⊎◌, arith, All, inl, inr, IsTrue, Some}
 use Rattle.std.specs.Prelude.{if◌then◌else◌}
 use Rattle.std.proofs.lemmas.List.{take-map, length_push, get_or_push, map-append, length-set, length-replicate, get_or-replicate, get_or-set_same, get_or-set_other}
-use Rattle.std.proofs.lemmas.List.Elements.{All-head, All-tail, All-nil, All-cons, All-contains, All-weaker}
+use Rattle.std.proofs.lemmas.List.Elements.{All-head, All-tail, All-nil, All-cons, All-weaker}
 use Rattle.smt_meaning.specs.declared.values.Sort.{Sort}
 use Rattle.smt_meaning.specs.declared.values.Sort.TheVariants.{Bool as Truths}
 use Rattle.smt_meaning.specs.declared.terms.Head.{Head}
@@ -19,7 +19,7 @@ use Rattle.term_store.proofs.NodeLemmas.{places_same}
 use Rattle.term_store.proofs.PlaceLemmas.{among_at}
 use Rattle.scope_stack.specs.declared.answers.Assertion.{Assertion}
 use Rattle.scope_stack.specs.Pieces.{pieces, all_of}
-use Rattle.scope_stack.specs.Inside.{asserted_by, frame_by, frames_by, stack_by, IsWithin}
+use Rattle.scope_stack.specs.Inside.{asserted_by, frames_by, stack_by, IsWithin}
 use Rattle.scope_stack.specs.Facts.{IsKept}
 use Rattle.scope_stack.specs.Shown.{IsLawful}
 use Rattle.scope_stack.specs.Seen.{AreAssertions, IsSeen, IsFew, names_of, IsPartOf, IsCopied, Copies, AreCopies, AreMoved}

@@ -1,8 +1,8 @@
 -- What a check sees of a stack.
-use Rattle.std.proofs.Common.{◌≡◌, ◌∙◌, refl, ap, ap₂, sym, subst, Bool, ℕ, zero, suc, ◌+◌, ◌-◌, ◌<◌, List, [], ◌∷◌, ◌++◌, map, take, drop, length, arith, All}
+use Rattle.std.proofs.Common.{◌≡◌, refl, ap, sym, subst, Bool, ℕ, List, [], ◌∷◌, map}
 use Rattle.smt_meaning.specs.declared.values.Sort.{Sort}
 use Rattle.smt_meaning.specs.Declaration.{Declaration}
-use Rattle.smt_meaning.specs.Term.{Tree, tree_at}
+use Rattle.smt_meaning.specs.Term.{Tree}
 use Rattle.smt_meaning.specs.Stack.{Frame}
 use Rattle.smt_meaning.specs.StackCommand.{Stack}
 use Rattle.smt_sorts.specs.Names.{Names}

@@ -1,8 +1,8 @@
-use Rattle.std.proofs.Common.{◌∙◌, ◌≡◌, ◌<◌, ◌≤◌, length, arith, sym, ap, take, map, All, subst, slice_index, ◌++◌, ◌∷◌, [], ◌+◌}
+use Rattle.std.proofs.Common.{◌∙◌, ◌≡◌, ◌<◌, length, arith, sym, ap, take, subst, slice_index, ◌++◌, ◌∷◌, [], ◌+◌}
 use Rattle.std.proofs.lemmas.List.{take_more}
 use Rattle.std.proofs.lemmas.List.Elements.{All-push, All-get_or}
 use Rattle.scope_stack.specs.declared.answers.Assertion.{Assertion}
-use Rattle.scope_stack.specs.Inside.{asserted_by, IsWithin}
+use Rattle.scope_stack.specs.Inside.{IsWithin}
 use Rattle.scope_stack.proofs.CopyLemmas.{moved_next}
 use Rattle.scope_stack.proofs.asserted.move_all.Goals as goal
 

@@ -1,4 +1,4 @@
-use Rattle.std.proofs.Common.{◌≡◌, ◌∙◌, ◌<◌, ◌≤◌, ap, sym, subst, length, All, true, arith}
+use Rattle.std.proofs.Common.{◌≡◌, ◌∙◌, ap, true}
 use Rattle.term_store.specs.Terms.{Terms}
 use Rattle.scope_stack.proofs.CopyLemmas.{copied_next}
 use Rattle.scope_stack.proofs.copy.copy_term.Goals as goal

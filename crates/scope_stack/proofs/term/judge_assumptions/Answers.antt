@@ -1,6 +1,6 @@
 use Rattle.std.proofs.Common.{◌≡◌, ◌∙◌, sym}
 use Rattle.smt_meaning.specs.StackCommand.{assume_terms}
-use Rattle.scope_stack.specs.Judged.{IsCause, scope_by}
+use Rattle.scope_stack.specs.Judged.{IsCause}
 use Rattle.scope_stack.proofs.TermSteps.{cut_back}
 use Rattle.scope_stack.proofs.RoomSteps.{before, still}
 use Rattle.scope_stack.proofs.term.judge_assumptions.Goals as goal

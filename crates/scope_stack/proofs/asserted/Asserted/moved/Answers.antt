@@ -1,4 +1,4 @@
-use Rattle.std.proofs.Common.{◌≡◌, ◌∙◌, sym, subst, ap, map, All, List}
+use Rattle.std.proofs.Common.{◌∙◌, sym, subst, ap, map, All, List}
 use Rattle.scope_stack.specs.declared.answers.Assertion.{Assertion}
 use Rattle.scope_stack.specs.Pieces.{all_of, pieces}
 use Rattle.scope_stack.specs.Inside.{asserted_by, IsWithin}

@@ -11,7 +11,7 @@ use Rattle.scope_stack.proofs.stack.ScopeStack.declare_sort.Goals as goal
 
 pub invariant_of-self : goal.invariant_of-self
 invariant_of-self c =
-    let d : Declares (declare_sort c.args.name.now c.args.arity) c.self.inside.table c.declare_sort.result c.declare_sort.new.table = rw (to_z-of_z w128 c.args.arity c.ranges.arity) at c.declare_sort.ensures in
+    let d : Declares (declare_sort c.args.name.now c.args.arity) c.self.inside.global c.self.inside.table c.declare_sort.result c.declare_sort.new.table = rw (to_z-of_z w128 c.args.arity c.ranges.arity) at c.declare_sort.ensures in
     record {
       stack =
           declared_keeps c.self.inside.global (DeclareSort c.args.name.now c.args.arity) (declare_sort c.args.name.now c.args.arity) refl c.self.inside.table c.declare_sort.new.table c.self.inside.terms c.self.inside.asserted
@@ -23,6 +23,6 @@ invariant_of-self c =
 
 pub returns : goal.returns
 returns c =
-    let d : Declares (declare_sort c.args.name.now c.args.arity) c.self.inside.table c.declare_sort.result c.declare_sort.new.table = rw (to_z-of_z w128 c.args.arity c.ranges.arity) at c.declare_sort.ensures in
+    let d : Declares (declare_sort c.args.name.now c.args.arity) c.self.inside.global c.self.inside.table c.declare_sort.result c.declare_sort.new.table = rw (to_z-of_z w128 c.args.arity c.ranges.arity) at c.declare_sort.ensures in
     rw (← c.self.view_is)
     (declared_carries c.self.inside.global (declare_sort c.args.name.now c.args.arity) c.self.inside.table c.declare_sort.new.table c.self.inside.terms c.self.inside.asserted c.declare_sort.result c.self.invariant.stack d)

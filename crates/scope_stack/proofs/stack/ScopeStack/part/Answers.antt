@@ -1,5 +1,4 @@
 use Rattle.std.proofs.Common.{◌∙◌}
-use Rattle.scope_stack.specs.Inside.{stack_by}
 use Rattle.scope_stack.proofs.LawLemmas.{reached_lawful}
 use Rattle.scope_stack.proofs.SeenLemmas.{assertions_of_kept}
 use Rattle.scope_stack.proofs.CopyLemmas.{seen_of_few, part_of_few, whole_of_few}
