@@ -5,6 +5,13 @@
 //! `unsupported`, or is refused exactly as it is judged; then nothing changes, and no declaration,
 //! name, term or number of it stays.
 //!
+//! The terms that a check assumes stand on a level of their own above the stack, which is then what
+//! a push and their assertions would make of it. The level goes with the check: its terms stay
+//! among the terms, or are taken back too, and the stack is as it was.
+//!
+//! Where declarations are global, level 0 gains them at whatever depth, and `reset-assertions`
+//! keeps all of level 0 but the names that `:named` gave.
+//!
 //! `Stack`: beside the terms stand, by place, their sorts (of a term that has one it is this one)
 //! and their levels (of a term whose symbols are declared the least one with all of them). It is
 //! also what a pool of clauses stands on.
