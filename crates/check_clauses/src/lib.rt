@@ -2,8 +2,8 @@
 //! operator does, and that the assertions are true.
 //!
 //! `check_clauses`: in the store that a search begins with each clause follows, each assertion is
-//! one, of each part the clauses of its operator are kept, and together they force every node
-//! clause of every part.
+//! one, of each part the clauses of its operator are kept, the longer ones with what negations
+//! negate, and together they force every node clause of every part.
 #![tactic(auto)]
 
 mod bools;
@@ -13,6 +13,7 @@ mod keep;
 mod laws;
 mod nodes;
 mod shapes;
+mod turn;
 
 pub use clauses::check_clauses;
 pub use error::FirstError;

@@ -1,7 +1,7 @@
 -- The clauses of a node and of an assertion follow.
 use Rattle.std.proofs.Common.{◌≡◌, inl, inr, ℕ, zero, suc, ◌<◌, Bool, true, false, not, ◌||◌, List, [], ◌∷◌, ◌++◌, map, length, All, Contains, Some, slice_index_or, subst, sym, ap, ◌∙◌, arith, refl}
 use Rattle.std.proofs.lemmas.List.Elements.{All-nil, All-cons, All-head, All-tail, All-append, All-weaker, All-contains, All-same}
-use Rattle.literals.specs.Signed.{Signed, opposite, sign, literal_true, some_true}
+use Rattle.literals.specs.Signed.{Signed, opposite}
 use Rattle.smt_meaning.specs.declared.values.Value.{Value}
 use Rattle.smt_meaning.specs.declared.values.Value.TheVariants.{Truth as TruthValue, Whole, Element}
 use Rattle.smt_meaning.specs.declared.values.Sort.{Sort}
@@ -32,10 +32,11 @@ use Rattle.stack_atoms.specs.Parts.{IsMarked, HasNoIntSort}
 use Rattle.stack_atoms.specs.Atoms.{IsPartAtom}
 use Rattle.stack_atoms.specs.OfStack.{AreOfStack}
 use Rattle.stack_atoms.proofs.Marking.{below}
-use Rattle.part_clauses.specs.Turned.{Negates, IsTurned, AreTurned}
+use Rattle.part_clauses.specs.Turned.{Negates, AreTurned}
 use Rattle.part_clauses.specs.Numbers.{AreNumbers}
 use Rattle.part_clauses.specs.First.{reading_of, unit, IsClause}
 use Rattle.part_clauses.proofs.Numbering.{numbers_within}
+use Rattle.part_clauses.proofs.Turning.{some_turned}
 
 pub place_within : (s : Stack) (marks : List Bool) (table : List Atom) (p : ℕ) → AreOfStack s marks table → IsMarked marks p → p < length s.trees
 place_within s marks table p atoms m = let short : p < length marks = below marks p m in let size : length marks ≡ length s.trees = atoms.parts.size in omega arith
@@ -158,38 +159,13 @@ module _ (same : FlatSaysTheSame) (declared : SymbolsAreDeclared) (s : Stack) (m
     negation_is : (I : Interpretation) → Interprets (signature_of s.frames) I → (n m : ℕ) → Negates s.trees table n m → truth (reading_of s table) I n ≡ not (truth (reading_of s table) I m)
     negation_is I i n m h = node_is I i n h.place Not (h.argument ∷ []) (m ∷ []) h.atom h.node (h.negated, tt)
 
-    turned_sign : (b c p q : Bool) → b ≡ not c → q ≡ not p → sign p b ≡ sign q c
-    turned_sign true true p q e f = cc
-    turned_sign true false true true e f = cc
-    turned_sign true false true false e f = refl
-    turned_sign true false false true e f = refl
-    turned_sign true false false false e f = cc
-    turned_sign false true true true e f = cc
-    turned_sign false true true false e f = refl
-    turned_sign false true false true e f = refl
-    turned_sign false true false false e f = cc
-    turned_sign false false p q e f = cc
-
-    one_turned : (I : Interpretation) → Interprets (signature_of s.frames) I → (l m : Signed) → IsTurned s.trees table l m
-        → literal_true (truth (reading_of s table) I) l ≡ literal_true (truth (reading_of s table) I) m
-    one_turned I i l m (inl e) = ap (literal_true (truth (reading_of s table) I)) e
-    one_turned I i l m (inr h) = turned_sign (truth (reading_of s table) I l.atom) (truth (reading_of s table) I m.atom) l.positive m.positive (negation_is I i l.atom m.atom h.0) h.1
-
-    some_turned : (I : Interpretation) → Interprets (signature_of s.frames) I → (ls ms : List Signed) → AreTurned s.trees table ls ms
-        → some_true (truth (reading_of s table) I) ls ≡ some_true (truth (reading_of s table) I) ms
-    some_turned I i [] [] h = refl
-    some_turned I i [] (m ∷ ms) h = absurd h
-    some_turned I i (l ∷ ls) [] h = absurd h
-    some_turned I i (l ∷ ls) (m ∷ ms) h =
-        ap (λ b. b || some_true (truth (reading_of s table) I) ls) (one_turned I i l m h.0) ∙ ap (λ b. literal_true (truth (reading_of s table) I) m || b) (some_turned I i ls ms h.1)
-
     -- a clause follows with what negations negate
     pub turned_is : (ls ms : List Signed) → IsClause (reading_of s table) 0 ls → AreTurned s.trees table ls ms → All (λ (l : Signed). l.atom < length table) ms
         → ((l : Signed) → Contains ms l → Contains ms (opposite l) → ⊥) → IsClause (reading_of s table) 0 ms
     turned_is ls ms c t inside p = record {
       over = over ms inside p;
       follows = record {
-        true_wherever = λ I i holds. sym (some_turned I (subst (λ (ds : List Declaration). Interprets ds I) signature_is i) ls ms t) ∙ c.follows.true_wherever I i holds;
+        true_wherever = λ I i holds. sym (some_turned s.trees table (truth (reading_of s table) I) (negation_is I (subst (λ (ds : List Declaration). Interprets ds I) signature_is i)) ls ms t) ∙ c.follows.true_wherever I i holds;
         at_level = at_level ms inside;
       };
     }

@@ -1,9 +1,10 @@
 -- The kept clauses of a node force the clauses of its term.
-use Rattle.std.proofs.Common.{◌≡◌, ℕ, ◌<◌, Bool, true, List, map, length, get_or, All, Contains, subst, sym, ap, ◌∙◌, arith}
-use Rattle.std.proofs.lemmas.List.Elements.{All-weaker, All-contains}
+use Rattle.std.proofs.Common.{◌≡◌, ℕ, ◌<◌, Bool, true, List, [], ◌∷◌, map, length, get_or, All, Contains, subst, sym, ap, ◌∙◌, arith}
+use Rattle.std.proofs.lemmas.List.Elements.{All-nil, All-cons, All-weaker, All-contains}
 use Rattle.literals.specs.Signed.{Signed}
 use Rattle.clause_store.specs.Stored.{Kept}
 use Rattle.smt_meaning.specs.declared.terms.Operator.{Operator}
+use Rattle.smt_meaning.specs.declared.terms.Operator.TheVariants.{Not}
 use Rattle.smt_meaning.specs.declared.terms.Head.TheVariants.{Theory}
 use Rattle.smt_meaning.specs.declared.clauses.Atom.{Atom}
 use Rattle.smt_meaning.specs.declared.clauses.Atom.TheVariants.{Truth as TruthAtom}
@@ -19,7 +20,7 @@ use Rattle.smt_meaning.specs.StackCommand.{Stack}
 use Rattle.term_store.specs.Terms.{tree_with}
 use Rattle.clause_form.specs.NodeClauses.{node_clauses}
 use Rattle.clause_form.specs.NodeClausesLaws.{NodeClausesForce}
-use Rattle.clause_form.specs.Node.{NodeClausesHold}
+use Rattle.clause_form.specs.Node.{NodeClausesHold, literals_of_node}
 use Rattle.assertion_form.specs.Renamed.{NodeClausesRenamed}
 use Rattle.atom_table.specs.Numbers.{IsAt}
 use Rattle.stack_atoms.specs.Parts.{IsMarked, HasNoIntSort}
@@ -29,9 +30,10 @@ use Rattle.stack_atoms.proofs.Places.{IsAt as StandsAt, Picked, part_at}
 use Rattle.part_clauses.specs.Turned.{IsKeptTurned}
 use Rattle.part_clauses.specs.Numbers.{HasNode, HasTerm, HasPart}
 use Rattle.part_clauses.specs.First.{IsForced, ForcesParts}
-use Rattle.part_clauses.proofs.Numbering.{number_of, found, numbers_are}
+use Rattle.part_clauses.proofs.Numbering.{number_of, found, contained, numbers_are}
 use Rattle.part_clauses.proofs.Following.{place_within, truth_part}
-use Rattle.part_clauses.proofs.Turning.{forces_turned}
+use Rattle.search_port.proofs.Forcing.{in_map}
+use Rattle.part_clauses.proofs.Turning.{one_number, KeepNegations, forces_turned}
 use Rattle.part_clauses.proofs.NodeForcing.{places_picked, head_of, arguments_same, fits_of, IsBoolNode, is_node, arguments_at, HasClauseAt, clause_at, HasNumber, numbered, each_numbered, forces_numbered, is_forced}
 
 module _ (s : Stack) (marks : List Bool) (table : List Atom) (order : AreInOrder s.trees) (atoms : AreOfStack s marks table) where
@@ -51,6 +53,28 @@ module _ (s : Stack) (marks : List Bool) (table : List Atom) (order : AreInOrder
 
     inside_trees : (n p : ℕ) → IsAt table n (TruthAtom p) → p < length s.trees
     inside_trees n p h = place_within s marks table p atoms (truth_part s marks table n p atoms h).0
+
+    -- ---- negations
+
+    negations_kept : ((n : ℕ) → n < length table → HasPart s.trees table clauses n) → KeepNegations s.trees table clauses
+    negations_kept parts n m h =
+        let place : h.place < length s.trees = inside_trees n h.place h.atom in
+        let below : h.argument < length s.trees = inside_trees m h.argument h.negated in
+        let term : HasTerm s.trees table clauses n h.place = parts n h.atom.0 h.place (h.atom.1 (TruthAtom 0)) in
+        let tree : tree_with s.trees term.head term.arguments ≡ tree_with s.trees (Theory Not) (h.argument ∷ []) = sym term.tree ∙ h.node in
+        let heads : term.head ≡ Theory Not = head_of term.head (Theory Not) (pick s.trees term.arguments) (pick s.trees (h.argument ∷ [])) tree in
+        let one_below : All (λ i. i < length s.trees) (h.argument ∷ []) = All-cons (λ i. i < length s.trees) h.argument [] below (All-nil (λ i. i < length s.trees)) in
+        let each_below : All (λ i. i < length s.trees) term.arguments = All-weaker (λ i. i < h.place) (λ i. i < length s.trees) (λ i l. omega arith) term.arguments term.earlier in
+        let same : term.arguments ≡ h.argument ∷ [] =
+        told term.arguments (h.argument ∷ []) each_below one_below (arguments_same term.head (Theory Not) (pick s.trees term.arguments) (pick s.trees (h.argument ∷ [])) tree) in
+        let numbered : All (λ i. Contains table (TruthAtom i)) (h.argument ∷ []) =
+        All-cons (λ i. Contains table (TruthAtom i)) h.argument [] (contained table m (TruthAtom h.argument) h.negated) (All-nil (λ i. Contains table (TruthAtom i))) in
+        let has : HasNode s.trees table clauses n Not (h.argument ∷ []) =
+        subst (HasNode s.trees table clauses n Not) same (term.kept Not heads (subst (All (λ i. Contains table (TruthAtom i))) (sym same) numbered)) in
+        let numbers : has.numbers ≡ m ∷ [] = one_number table h.argument has.numbers m atoms.atoms.apart has.are h.negated in
+        subst (λ xs. All (IsKeptTurned s.trees table clauses) (literals_of_node Not n xs)) numbers has.kept
+
+    -- ---- the clauses of a part
 
     part_forced : (p : ℕ) (o : Operator) (us : Trees) (ss : List Sign) → IsMarked marks p → tree_at s.trees p ≡ node (Theory o) us
         → IsClauseOf s.trees ds o us ss → ((n : ℕ) → n < length table → HasPart s.trees table clauses n)
@@ -76,7 +100,7 @@ module _ (s : Stack) (marks : List Bool) (table : List Atom) (order : AreInOrder
         let kept : (d : List Signed) → Contains (map (map (numbered table)) (node_clauses o p is)) d → IsKeptTurned s.trees table clauses d =
         each_numbered table rename (IsKeptTurned s.trees table clauses) (length s.trees) p o is has.numbers inside (numbers_are table is has.numbers atoms.atoms.apart has.are) has.kept in
         is_forced table known p o is ss other clause.clause own numbers
-        (forces_turned s.trees table atoms.atoms.apart told inside_trees clauses parts (map (map (numbered table)) (node_clauses o p is)) kept (map (numbered table) ss)
+        (forces_turned s.trees table clauses (negations_kept parts) known (λ x. in_map (λ (k : Kept). k.literals) clauses x) (map (map (numbered table)) (node_clauses o p is)) kept (map (numbered table) ss)
         (forces_numbered table force p o is ss (fits_of s.trees ds o is is_so.stands clause.has) other clause.clause))
 
     stands_at : (t : Tree) → IsPartOfStack s.frames t → StandsAt s.trees marks t
