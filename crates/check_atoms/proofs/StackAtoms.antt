@@ -27,7 +27,7 @@ use Rattle.stack_atoms.proofs.Places.{Picked, picked}
 use Rattle.bound_clauses.specs.Laws.{OrdersAreComparisons}
 use Rattle.check_atoms.specs.PartAtoms.{atom_of, by_sort, truth_by_sort, sort_of}
 use Rattle.check_atoms.specs.OfStack.{IsNode, part_atoms, IsAtomOfPart, AreCheckAtoms}
-use Rattle.check_atoms.specs.Laws.{AtomsAreOfStack, IsSameOfBools, StackAtomsAreNumbered}
+use Rattle.check_atoms.specs.Laws.{IsSameOfBools, StackAtomsAreNumbered}
 use Rattle.check_atoms.proofs.Related.{IsKept, part_related}
 
 -- ---- a part's own atoms, and those of a term
@@ -92,7 +92,7 @@ module _ (s : Stack) (marks : List Bool) (atoms : List Atom) (lawful : IsLawful 
   different : AreDifferent ts
   different j k less within e = let same : j ≡ k = lawful.in_order.different j k (omega (arith, less, within)) within e in omega (arith, same, less)
 
-  again : (p : ℕ) → Inside p → place_of (tree_at ts p) ts ≡ p
+  pub again : (p : ℕ) → Inside p → place_of (tree_at ts p) ts ≡ p
   again p h = place_of-is (tree_at ts p) ts p different h refl
 
   -- what the definition says of two terms, by their places
@@ -203,9 +203,6 @@ module _ (s : Stack) (marks : List Bool) (atoms : List Atom) (lawful : IsLawful 
       let f = from_flat (atoms_of ts ds) (assertions_of s.frames) a (subst (λ xs. Contains xs a) (stack_atoms_are ts s.frames) c) in
       let d = down ts ds a f.0 f.2 in
       tree_numbered d.0 a (record { assertion = f.0; asserted = f.1; part = d.1 }) d.2
-
-pub atoms_of_stack : OrdersAreComparisons → AtomsAreOfStack
-atoms_of_stack compares s marks atoms lawful parts are = λ k d l. of_stack s marks atoms lawful parts are compares (get_or atoms k d) (are.only (get_or atoms k d) (Contains-get_or atoms k d l))
 
 pub all_numbered : OrdersAreComparisons → StackAtomsAreNumbered
 all_numbered compares s marks atoms lawful parts are = λ k d l.

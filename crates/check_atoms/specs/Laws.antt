@@ -27,11 +27,6 @@ use Rattle.bound_clauses.specs.Laws.{orders}
 use Rattle.check_atoms.specs.PartAtoms.{atom_of, sort_of, neighbours, each_two, with_branches}
 use Rattle.check_atoms.specs.OfStack.{IsNode, AreCheckAtoms, IsRefused}
 
--- each numbered atom is one of the stack's
-abbrev pub AtomsAreOfStack : Type 0
-AtomsAreOfStack =
-    (s : Stack) (marks : List Bool) (atoms : List Atom) → IsLawful s → AreStackParts s marks → AreCheckAtoms s marks atoms → All (Contains (stack_atoms s.trees s.frames)) atoms
-
 -- the equality of two Bools
 pub record IsSameOfBools (s : Stack) (a : Atom) : Type 0 where
   pub left : ℕ
@@ -39,7 +34,7 @@ pub record IsSameOfBools (s : Stack) (a : Atom) : Type 0 where
   pub atom : a ≡ Same left right
   pub bool : is_bool (tree_sort (signature_of s.frames) (tree_at s.trees left)) ≡ true
 
--- and each of the stack's is numbered, but for the equalities of Bools
+-- each of the stack's atoms is numbered, but for the equalities of Bools
 abbrev pub StackAtomsAreNumbered : Type 0
 StackAtomsAreNumbered =
     (s : Stack) (marks : List Bool) (atoms : List Atom) → IsLawful s → AreStackParts s marks → AreCheckAtoms s marks atoms
