@@ -29,7 +29,9 @@ use Rattle.part_clauses.specs.Numbers.{AreNumbers}
 use Rattle.part_clauses.specs.First.{unit, IsClause}
 use Rattle.part_clauses.specs.Turned.{Negates, AreTurned}
 use Rattle.part_clauses.proofs.Numbering.{numbers_within}
+use Rattle.part_clauses.specs.Triangles.{IsEquality, Joins}
 use Rattle.part_clauses.proofs.Turning.{some_turned}
+use Rattle.part_clauses.proofs.Triangular.{implies_clause, implies_within, implies_true, no_pair_here}
 use Rattle.check_clauses.specs.First.{reading_of}
 
 module _ (same : FlatSaysTheSame) (s : Stack) (table : List Atom) (declared : All (IsOf s.trees s.frames) table) where
@@ -107,6 +109,17 @@ module _ (same : FlatSaysTheSame) (s : Stack) (table : List Atom) (declared : Al
       at_level = at_level ms within;
     };
   }
+
+  -- ---- triangles
+
+  pub triangle_follows : (a b c i j k l x y : ℕ) → IsEquality s.trees table a i j → IsEquality s.trees table b k l → IsEquality s.trees table c x y → Joins i j k l x y → (a ≡ c → ⊥) → (b ≡ c → ⊥)
+      → IsClause (reading_of s table) 0 (implies_clause a b c)
+  triangle_follows a b c i j k l x y p q r joins n m =
+      let within : All (λ (z : Signed). z.atom < length table) (implies_clause a b c) = implies_within s.trees table a b c i j k l x y p q r in
+      record {
+        over = over (implies_clause a b c) within (no_pair_here a b c n m);
+        follows = record { true_wherever = λ I z holds. implies_true s.trees table a b c i j k l x y p q r joins I; at_level = at_level (implies_clause a b c) within };
+      }
 
   module _ (sorted : ValueHasItsSort) where
     abbrev IsBool : ℕ → Type 0
