@@ -20,7 +20,7 @@ use Rattle.smt_meaning.specs.StackCommand.{Stack}
 use Rattle.smt_meaning.specs.Atoms.{stack_atoms}
 use Rattle.smt_meaning.specs.CheckAtoms.{IsBoundOf, IsCheckAtom}
 use Rattle.smt_meaning.specs.Ranges.{LeavesRange}
-use Rattle.smt_meaning.specs.Report.{IsUnit, AreUnits, basis_after, is_unlimited, most_units}
+use Rattle.smt_meaning.specs.Report.{IsPastRange, IsUnit, AreUnits, basis_after, is_unlimited, most_units}
 use Rattle.scope_stack.specs.Shown.{IsLawful}
 use Rattle.search_port.specs.State.{Reading, TheoryState, IsGrown, atom_at}
 use Rattle.search_port.specs.Showing.{IsShowing}
@@ -92,6 +92,18 @@ shown_by_levels flatly s t x trees frames h =
           (check_atom_by s.trees (flat s.frames) s.frames (flatly s.frames).signature (flatly s.frames).assertions x.branches) t.reading.table flatly_shown.atoms;
       different = flatly_shown.different;
       seen = seen_by flatly s t.variables.sums x.branches x.seen flatly_shown.seen;
+    }
+
+-- what the theory has seen leave the range
+pub past_range : FlatSaysTheSame → (s : Stack) (t : TheoryState) (x : Showing) (seen : RangeSeen) → t.reading.trees ≡ s.trees → t.reading.frames ≡ flat s.frames → IsShowing t x → x.seen ≡ Some seen
+    → IsPastRange s.trees s.frames x.branches seen
+past_range flatly s t x seen trees frames h is =
+    let shown : IsShowing (by_levels s t) x = shown_by_levels flatly s t x trees frames h in
+    record {
+      sums = t.variables.sums;
+      known = shown.sums;
+      are_branches = shown.branches;
+      leaves = subst (λ (o : Option RangeSeen). IfSome o (LeavesRange s.trees s.frames t.variables.sums (IsCheckAtom s.trees s.frames x.branches))) is shown.seen;
     }
 
 -- ---- pivots among written units

@@ -1,5 +1,5 @@
 -- What a search asks of its first atoms, and what its worker shows of the units that it has spent.
-use Rattle.std.specs.Prelude.{◌≡◌, ◌⊎◌, ℕ, ℤ, ◌<◌, List, ◌∷◌, ◌++◌, map, Option, Some, All, Contains}
+use Rattle.std.specs.Prelude.{◌⊎◌, ℕ, ℤ, ◌<◌, List, map, All, Contains}
 use Rattle.literals.specs.Signed.{Signed}
 use Rattle.smt_meaning.specs.declared.clauses.Atom.{Atom}
 use Rattle.smt_meaning.specs.declared.clauses.Clause.{Clause}

@@ -1,6 +1,8 @@
 //! The decider.
-ghost use Rattle.std.specs.Prelude.{IfOk};
+ghost use Rattle.std.specs.Prelude.{◌≡◌, IfOk};
+ghost use Rattle.smt_meaning.specs.Kinds.{has_no_integers};
 ghost use Rattle.theory_port.specs.Verdicts.{IsVerdict};
+ghost use Rattle.check_search.specs.Endings.{MemoryAloneEnds};
 
 use check_atoms::{atoms_are_first, numbered};
 use check_clauses::check_clauses;
@@ -19,9 +21,16 @@ use theory_port::{Decider, Verdict};
 #[derive(Clone, Copy, Drop)]
 pub struct Whole;
 
-/// Decides a check of a stack with integers.
-fn decide_integers(alloc: Global, stack: &Stack, settings: &Settings) -> Result<Verdict, AllocError>
-    ensures { IfOk result (IsVerdict stack.now.trees stack.now.frames settings.now.units) }
+/// Decides a check by the theory of equality and whole numbers. Without a limit and without an Int memory alone ends it.
+fn decide_whole(
+    alloc: Global,
+    stack: &Stack,
+    settings: &Settings,
+    is_integer_free: bool,
+) -> Result<Verdict, AllocError>
+    requires integers { is_integer_free ≡ has_no_integers stack.now.frames }
+    ensures verdict { IfOk result (IsVerdict stack.now.trees stack.now.frames settings.now.units) }
+    ensures memory { IfOk result (MemoryAloneEnds stack.now.frames settings.now.units) }
 {
     stack.laws();
     atoms_are_first();
@@ -36,7 +45,7 @@ fn decide_integers(alloc: Global, stack: &Stack, settings: &Settings) -> Result<
         return unknown(alloc, stack, settings);
     };
     match Combined::new(alloc, stack, parts) {
-        Ok(theory) => search(alloc, stack, settings, theory, store),
+        Ok(theory) => search(alloc, stack, settings, is_integer_free, theory, store),
         Err(BoundError::Memory) => unknown(alloc, stack, settings),
         Err(BoundError::Range(grid)) => {
             out_of_range(alloc, stack, settings, RangeSeen::Step(grid))
@@ -64,7 +73,7 @@ impl Decider for Whole {
         if taken {
             plain.decide(alloc, stack, settings)
         } else {
-            decide_integers(alloc, stack, settings)
+            decide_whole(alloc, stack, settings, taken)
         }
     }
 }

@@ -3,7 +3,7 @@ use Rattle.smt_meaning.specs.declared.clauses.Atom.{Atom}
 use Rattle.search_port.specs.State.{Reading}
 use Rattle.check_atoms.specs.declared.atoms.CheckAtoms.{CheckAtoms}
 use Rattle.check_atoms.specs.Laws.{IsSameOfBools}
-use Rattle.whole_decider.proofs.decider.decide_integers.Goals as goal
+use Rattle.whole_decider.proofs.decider.decide_whole.Goals as goal
 
 pub search-requires-clause-all : goal.search-requires-clause-all
 search-requires-clause-all c =
