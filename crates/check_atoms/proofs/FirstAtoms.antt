@@ -31,7 +31,7 @@ use Rattle.bound_clauses.specs.Orders.{atom_of as order_atom, both_orders, order
 use Rattle.bound_clauses.specs.Laws.{OrdersAreComparisons}
 use Rattle.check_atoms.specs.declared.part.PartAtom.{PartAtom}
 use Rattle.check_atoms.specs.declared.part.PartAtom.TheVariants.{Truth, Same, Bound}
-use Rattle.check_atoms.specs.PartAtoms.{atom_of, by_sort, truth_by_sort, pair, with_branches, compared, compared_by_head, of_part, sort_of}
+use Rattle.check_atoms.specs.PartAtoms.{atom_of, by_sort, alone_by_sort, truth_by_sort, pair, alone, with_branches, compared, compared_by_head, of_part, sort_of}
 use Rattle.check_atoms.specs.OfStack.{IsAtomOfPart, ComparesMarked, AreCheckAtoms, part_atoms}
 use Rattle.check_atoms.specs.Laws.{IsSameOfBools, AreFirstAtoms, AtomsAreFirst}
 use Rattle.check_atoms.proofs.PartPlaces.{equal_all, two_all}
@@ -59,6 +59,15 @@ module _ (f : ℕ → Option Sort) where
   by_sort_unlike (Some Ints) i j e = All-cons IsUnlike (Same i j) (map Bound (both_orders i j)) (ap is_bool e) (bounds_unlike (both_orders i j))
   by_sort_unlike (Some (Free n)) i j e = All-cons IsUnlike (Same i j) [] (ap is_bool e) (All-nil IsUnlike)
 
+  alone_unlike : (r : Option Sort) (i j : ℕ) → f i ≡ r → All IsUnlike (alone_by_sort r i j)
+  alone_unlike None i j e = by_sort_unlike None i j e
+  alone_unlike (Some Truths) i j e = All-nil IsUnlike
+  alone_unlike (Some Ints) i j e = by_sort_unlike (Some Ints) i j e
+  alone_unlike (Some (Free n)) i j e = All-nil IsUnlike
+
+  single_unlike : (i j : ℕ) → All IsUnlike (alone f i j)
+  single_unlike i j = alone_unlike (f i) i j refl
+
   pair_unlike : (i j : ℕ) → All IsUnlike (pair f i j)
   pair_unlike i j = by_sort_unlike (f i) i j refl
 
@@ -69,12 +78,12 @@ module _ (f : ℕ → Option Sort) where
   truth_unlike (Some (Free n)) p = All-nil IsUnlike
 
   branches_unlike : (p : ℕ) (is : List ℕ) → All IsUnlike (with_branches f p is)
-  branches_unlike p (c ∷ i ∷ j ∷ []) = All-append IsUnlike (pair f p i) (pair f p j) (pair_unlike p i) (pair_unlike p j)
+  branches_unlike p (c ∷ i ∷ j ∷ []) = All-append IsUnlike (alone f p i) (alone f p j) (single_unlike p i) (single_unlike p j)
   branches_unlike p is = All-nil IsUnlike
 
   compared_unlike : (o : Operator) (p : ℕ) (is : List ℕ) → All IsUnlike (compared f o p is)
-  compared_unlike Equal p is = equal_all (λ i. Unit {0}) IsUnlike f (λ i j h g. pair_unlike i j) is (any is)
-  compared_unlike Distinct p is = two_all (λ i. Unit {0}) IsUnlike f (λ i j h g. pair_unlike i j) is (any is)
+  compared_unlike Equal p is = equal_all (λ i. Unit {0}) IsUnlike f (λ i j h g. pair_unlike i j) (λ i j h g. single_unlike i j) is (any is)
+  compared_unlike Distinct p is = two_all (λ i. Unit {0}) IsUnlike f (λ i j h g. pair_unlike i j) (λ i j h g. single_unlike i j) is (any is)
   compared_unlike Ite p is = branches_unlike p is
   compared_unlike o p is = bounds_unlike (order_atoms o is)
 

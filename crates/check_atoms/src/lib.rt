@@ -3,10 +3,11 @@
 //!
 //! `numbered`: the atoms of a stack's parts, each once: truths, equalities, and bounds in normal
 //! form; or exactly which folding leaves the range. They are all atoms that the definition gives the
-//! stack, but for the equalities of Bools. Beside them stand chords among the equalities (Bryant and
-//! Velev, CAV 2000): atoms that say that the two neighbours of a term are equal, each of two parts of
-//! one declared sort, so that a search can say so in one literal; which, and which triangles are
-//! given, is free.
+//! stack, but for equalities of a sort that isn't Int: none of Bools, and of a declared sort none of
+//! two terms that are compared alone, and of an `ite`, since truths say as much. Beside them stand
+//! chords among the equalities (Bryant and Velev, CAV 2000): atoms that say that the two neighbours
+//! of a term are equal, each of two parts of one declared sort, so that a search can say so in one
+//! literal; which, and which triangles are given, is free.
 #![tactic(auto)]
 
 mod atoms;

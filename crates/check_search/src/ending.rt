@@ -7,7 +7,7 @@ ghost use Rattle.theory_port.specs.Verdicts.{IsVerdict};
 ghost use Rattle.check_search.specs.Endings.{MemoryAloneEnds};
 ghost use Rattle.check_search.specs.Shown.{IsOfNumbers, ShowsUnits};
 
-use crate::bools::some_numbers_bools;
+use crate::equalities::some_numbers_no_ints;
 use crate::limits::has_limit;
 use crate::plain::nothing_leaves_range;
 use crate::shown::{report, write_units};
@@ -18,7 +18,7 @@ use smt_meaning::{Cause, RangeSeen, Seq, Settings};
 use std::alloc::{AllocError, Global};
 use theory_port::Verdict;
 
-/// The answer where all units are spent: its worker shows them, and the branches of the theory. A unit that is an equality of Bools shows nothing new, since the stack has that atom;
+/// The answer where all units are spent: its worker shows them, and the branches of the theory. A unit that is an equality of terms of a sort that isn't Int may show nothing new, since the stack may have that atom;
 /// a theory of integers spends none of these. Without a limit and without an Int the room for more units is wanting.
 pub(crate) fn all_spent<T: Shown>(
     alloc: Global,
@@ -40,7 +40,7 @@ pub(crate) fn all_spent<T: Shown>(
         return stopped(alloc, stack, settings, theory);
     }
     let units = write_units(alloc, &theory, stack.depth(), budget.into_units())?;
-    if some_numbers_bools(stack.sorts(), units.as_slice()) {
+    if some_numbers_no_ints(stack.sorts(), units.as_slice()) {
         return stopped(alloc, stack, settings, theory);
     }
     let shown = theory.show();

@@ -15,7 +15,7 @@
 //! that before it.
 #![tactic(auto)]
 
-mod bools;
+mod equalities;
 mod decide;
 mod ending;
 mod limits;
