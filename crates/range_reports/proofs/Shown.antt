@@ -1,12 +1,9 @@
 -- What a refusal shows.
-use Rattle.std.proofs.Common.{◌≡◌, ℕ, List, [], ◌∷◌, All, ℤ, arith, refl, subst, sym}
-use Rattle.std.proofs.lemmas.List.Elements.{All-nil, All-cons}
+use Rattle.std.proofs.Common.{ℕ, List, [], All, ℤ, arith}
+use Rattle.std.proofs.lemmas.List.Elements.{All-nil}
 use Rattle.fraction128.specs.declared.Summand.{Summand}
 use Rattle.fraction128.specs.Lines.{AreSums}
-use Rattle.std.specs.Prelude.{IsTrue, Result, Ok, Err, IfOk}
-use Rattle.std.specs.declared.alloc.AllocError.{AllocError}
-use Rattle.smt_meaning.specs.declared.reports.Cause.TheVariants.{Memory as WantOfMemory}
-use Rattle.smt_meaning.specs.declared.reports.Report.{Report}
+use Rattle.std.specs.Prelude.{IsTrue}
 use Rattle.smt_meaning.specs.declared.reports.RangeSeen.{RangeSeen}
 use Rattle.smt_meaning.specs.declared.reports.RangeSeen.TheVariants.{Coefficient}
 use Rattle.smt_meaning.specs.Term.{Tree}
@@ -22,9 +19,7 @@ use Rattle.check_atoms.specs.declared.refusal.Refusal.TheVariants.{Term, Pair, M
 use Rattle.check_atoms.specs.OfStack.{IsRefused}
 use Rattle.check_atoms.specs.Laws.{RefusedTermLeavesRange, PairLeavesRange}
 use Rattle.pair_ranges.specs.Laws.{LawfulPairsLeaveRange}
-use Rattle.theory_port.specs.declared.decider.Verdict.{Verdict}
-use Rattle.check_search.specs.Endings.{EndsByMemory, MemoryAloneEnds, NothingLeavesRange}
-use Rattle.range_reports.specs.Causes.{pair_seen, cause_of, only_report}
+use Rattle.range_reports.specs.Causes.{pair_seen, cause_of}
 
 pair_shown : (s : Stack) (part : ℕ) (sense : Sense) (left right : ℕ) → PairLeavesRange s part sense left right
     → LeavesRange s.trees s.frames [] (IsCheckAtom s.trees s.frames []) (pair_seen part sense left right)
@@ -44,16 +39,3 @@ shown term pairs s limit (Term place) lawful numerals r = without_variables s (C
 shown term pairs s limit (Pair part o) lawful numerals r =
     without_variables s (pair_seen part o.sense o.lesser o.greater) (pair_shown s part o.sense o.lesser o.greater (pairs s part o lawful numerals r))
 shown term pairs s limit Memory lawful numerals r = tt
-
-memory_report : EndsByMemory (only_report WantOfMemory)
-memory_report = All-cons (λ (r : Report). r.cause ≡ WantOfMemory) (record { worker = 0; cause = WantOfMemory; branches = [] }) [] refl (All-nil (λ (r : Report). r.cause ≡ WantOfMemory))
-
--- where no part is an Int, only want of memory is shown
-pub alone : NothingLeavesRange → (s : Stack) (limit : ℤ) (e : Refusal) → IsLawful s → Shows s.trees s.frames limit 0 [] (cause_of e) → MemoryAloneEnds s.frames limit (only_report (cause_of e))
-alone law s limit (Term place) lawful shown = λ free unlimited. absurd (law s [] (Coefficient place) lawful free shown)
-alone law s limit (Pair part o) lawful shown = λ free unlimited. absurd (law s [] (pair_seen part o.sense o.lesser o.greater) lawful free shown)
-alone law s limit Memory lawful shown = λ free unlimited. memory_report
-
-pub of_verdict : (P : Verdict → Type 0) (v : Verdict) (r : Result Verdict AllocError) → P v → IfOk r (λ w. w ≡ v) → IfOk r P
-of_verdict P v (Ok w) h e = subst P (sym e) h
-of_verdict P v (Err e) h k = tt
