@@ -27,7 +27,7 @@ use Rattle.search_port.specs.State.{truth_atoms}
 use Rattle.clause_form.specs.NodeClauses.{node_clauses}
 use Rattle.clause_form.specs.NodeClausesLaws.{NodeClausesForce}
 use Rattle.clause_form.proofs.More.{forces_more}
-use Rattle.assertion_form.specs.Renamed.{NodeClausesRenamed}
+use Rattle.clause_form.specs.Renamed.{NodeClausesRenamed}
 use Rattle.clause_form.specs.Node.{literals_of_node}
 use Rattle.atom_table.specs.Numbers.{IsAt}
 use Rattle.stack_atoms.specs.Parts.{IsMarked}

@@ -13,7 +13,6 @@ ghost use Rattle.part_clauses.specs.First.{IsAsserted, IsBegun};
 ghost use Rattle.check_clauses.specs.First.{reading_of, IsFirst, IsRefused, HasParts};
 
 use crate::error::FirstError;
-use crate::keep::keep;
 use crate::laws::kept_parts_are_forced;
 use crate::nodes::keep_parts;
 use crate::triangles::keep_triangles;
@@ -22,6 +21,7 @@ use atom_table::CompactAtom;
 use check_atoms::CheckAtoms;
 use clause_store::store::Store;
 use literals::Literal;
+use part_clauses::keep;
 use scope_stack::{Assertion, Stack};
 use smt_laws::flat_says_the_same;
 use smt_meaning::{Sort, TermId};

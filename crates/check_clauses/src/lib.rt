@@ -10,7 +10,6 @@
 mod bools;
 mod clauses;
 mod error;
-mod keep;
 mod laws;
 mod nodes;
 mod shapes;

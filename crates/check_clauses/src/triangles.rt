@@ -7,11 +7,11 @@ ghost use Rattle.part_clauses.specs.First.{IsBegun};
 ghost use Rattle.check_clauses.specs.First.{reading_of};
 ghost use Rattle.part_clauses.specs.Triangles.{IsEquality, Joins};
 
-use crate::keep::keep;
 use atom_numbers::{AtomNumbers, NumberedAtom};
 use check_atoms::Triangle;
 use clause_store::store::Store;
 use literals::Literal;
+use part_clauses::keep;
 use scope_stack::Stack;
 use smt_laws::flat_says_the_same;
 use smt_meaning::{Head, Operator, TermId};

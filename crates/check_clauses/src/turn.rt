@@ -10,12 +10,12 @@ ghost use Rattle.part_clauses.specs.First.{IsBegun, IsClause};
 ghost use Rattle.check_clauses.specs.First.{reading_of};
 ghost use Rattle.part_clauses.specs.Turned.{Negates, IsTurned, AreTurned, IsKeptTurned};
 
-use crate::keep::keep;
 use atom_numbers::{AtomNumbers, NumberedAtom};
 use atom_table::CompactAtom;
 use clause_form::Clauses;
 use clause_store::store::Store;
 use literals::Literal;
+use part_clauses::keep;
 use scope_stack::Stack;
 use smt_laws::flat_says_the_same;
 use smt_meaning::{Head, Operator, TermId};

@@ -10,8 +10,8 @@ use clause_store::store::Store;
 use literals::Literal;
 use std::alloc::AllocError;
 
-/// Keeps a clause.
-pub(crate) fn keep(store: &mut Store, literals: &[Literal]) -> Result<(), AllocError>
+/// Keeps a clause. An `Err` is for want of memory.
+pub fn keep(store: &mut Store, literals: &[Literal]) -> Result<(), AllocError>
     requires { All (λ (l : Signed). l.atom < store.old.trail.atoms) literals.now }
     ensures begun { OnOk result ((q : Reading) → IsBegun q store.old → IsClause q 0 literals.now → IsBegun q store.new) }
     ensures stay { (c : Kept) → Contains store.old.clauses c → Contains store.new.clauses c }
@@ -22,8 +22,8 @@ pub(crate) fn keep(store: &mut Store, literals: &[Literal]) -> Result<(), AllocE
     Ok(())
 }
 
-/// Keeps the clauses of a list.
-pub(crate) fn keep_all(store: &mut Store, clauses: &Clauses) -> Result<(), AllocError>
+/// Keeps the clauses of a list. An `Err` is for want of memory.
+pub fn keep_all(store: &mut Store, clauses: &Clauses) -> Result<(), AllocError>
     requires { All (All (λ (l : Signed). l.atom < store.old.trail.atoms)) clauses.now }
     ensures begun { OnOk result ((q : Reading) → IsBegun q store.old → All (IsClause q 0) clauses.now → IsBegun q store.new) }
     ensures stay { (c : Kept) → Contains store.old.clauses c → Contains store.new.clauses c }
