@@ -1,4 +1,4 @@
--- The first clauses of a search over a stack with integers: what each says follows from the stack, the assertions are among them, and they force the clauses of each part.
+-- The first clauses of a search over a stack: what each says follows from the stack, the assertions are among them, and they force the clauses of each part.
 use Rattle.std.specs.Prelude.{◌≡◌, ℕ, false, Bool, List, ◌∷◌, map, All}
 use Rattle.clause_store.specs.Stored.{Kept, Stored}
 use Rattle.smt_meaning.specs.declared.values.Sort.{Sort}

@@ -1,5 +1,5 @@
-//! The first clauses of a search over a stack with integers: those that say of each part what its
-//! operator does, and that the assertions are true.
+//! The first clauses of a search over a stack: those that say of each part what its operator does,
+//! and that the assertions are true.
 //!
 //! `check_clauses`: in the store that a search begins with each clause follows, also that two
 //! equalities of a triangle give the third. Each assertion is one, of each part the clauses of its

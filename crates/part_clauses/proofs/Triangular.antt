@@ -12,15 +12,9 @@ use Rattle.smt_meaning.specs.declared.terms.Operator.TheVariants.{Equal}
 use Rattle.smt_meaning.specs.declared.terms.Head.TheVariants.{Theory}
 use Rattle.smt_meaning.specs.Term.{Tree, Interpretation, tree_at, value, truth_of, same_value, int_eq, bool_eq}
 use Rattle.smt_meaning.specs.Clause.{atom_true}
-use Rattle.smt_meaning.specs.StackCommand.{Stack}
 use Rattle.term_store.specs.Terms.{tree_with}
-use Rattle.smt_laws.specs.SortLaws.{SymbolsAreDeclared}
-use Rattle.smt_laws.specs.Flat.{FlatSaysTheSame}
 use Rattle.search_port.specs.State.{atom_at}
-use Rattle.stack_atoms.specs.OfStack.{AreOfStack}
-use Rattle.part_clauses.specs.First.{reading_of, IsClause}
 use Rattle.part_clauses.specs.Triangles.{IsEquality, Joins}
-use Rattle.part_clauses.proofs.Following.{over, at_level}
 
 -- ---- the equality of two terms as a term
 
@@ -133,16 +127,3 @@ module _ (trees : List Tree) (table : List Atom) (a b c i j k l x y : ℕ) (p : 
       (λ e f. r.says I ∙ same_where (value I (tree_at trees x)) (value I (tree_at trees y))
       (joins (λ w. value I (tree_at trees w)) (one_value (value I (tree_at trees i)) (value I (tree_at trees j)) (sym (p.says I) ∙ e))
       (one_value (value I (tree_at trees k)) (value I (tree_at trees l)) (sym (q.says I) ∙ f))))
-
-module _ (same : FlatSaysTheSame) (declared : SymbolsAreDeclared) (s : Stack) (marks : List Bool) (table : List Atom) (atoms : AreOfStack s marks table) where
-  pub triangle_follows : (a b c i j k l x y : ℕ) → IsEquality s.trees table a i j → IsEquality s.trees table b k l → IsEquality s.trees table c x y → Joins i j k l x y → (a ≡ c → ⊥) → (b ≡ c → ⊥)
-      → IsClause (reading_of s table) 0 (implies_clause a b c)
-  triangle_follows a b c i j k l x y p q r joins n m =
-      let within : All (λ (z : Signed). z.atom < length table) (implies_clause a b c) = implies_within s.trees table a b c i j k l x y p q r in
-      record {
-        over = over same declared s marks table atoms (implies_clause a b c) within (no_pair_here a b c n m);
-        follows = record {
-          true_wherever = λ I z holds. implies_true s.trees table a b c i j k l x y p q r joins I;
-          at_level = at_level same declared s marks table atoms (implies_clause a b c) within;
-        };
-      }

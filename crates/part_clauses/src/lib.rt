@@ -6,6 +6,6 @@
 //! `keep`, `keep_all`: a clause is kept, and what was kept stays.
 #![tactic(auto)]
 
-mod keep;
+mod storing;
 
-pub use keep::{keep, keep_all};
+pub use storing::{keep, keep_all};

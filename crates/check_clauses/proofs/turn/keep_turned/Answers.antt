@@ -7,8 +7,7 @@ use Rattle.part_clauses.specs.First.{HasClause, IsBegun, IsClause}
 use Rattle.part_clauses.specs.Turned.{AreTurned, IsKeptTurned}
 use Rattle.part_clauses.proofs.Keeping.{known_clause, on_ok}
 use Rattle.check_clauses.proofs.Following.{turned_is}
-use Rattle.part_clauses.proofs.Comparing.{no_pair_at}
-use Rattle.part_clauses.proofs.Turning.{kept_so}
+use Rattle.part_clauses.proofs.Turning.{kept_so, no_pair_at}
 use Rattle.check_clauses.specs.First.{reading_of}
 use Rattle.check_clauses.proofs.turn.keep_turned.Goals as goal
 

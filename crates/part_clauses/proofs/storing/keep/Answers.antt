@@ -1,7 +1,7 @@
 use Rattle.std.proofs.Common.{refl}
 use Rattle.clause_store.specs.Stored.{Kept}
 use Rattle.part_clauses.proofs.Keeping.{begun_more, has}
-use Rattle.part_clauses.proofs.keep.keep.Goals as goal
+use Rattle.part_clauses.proofs.storing.keep.Goals as goal
 
 pub returns-clause-begun : goal.returns-clause-begun
 returns-clause-begun c = λ q b k.

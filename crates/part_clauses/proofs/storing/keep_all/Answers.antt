@@ -4,7 +4,7 @@ use Rattle.std.proofs.lemmas.List.Elements.{All-more, All-weaker}
 use Rattle.literals.specs.Signed.{Signed}
 use Rattle.part_clauses.specs.First.{HasClause, IsClause}
 use Rattle.part_clauses.proofs.Keeping.{clause_stays}
-use Rattle.part_clauses.proofs.keep.keep_all.Goals as goal
+use Rattle.part_clauses.proofs.storing.keep_all.Goals as goal
 
 pub loop-i-preserved : goal.loop-i-preserved
 loop-i-preserved c =

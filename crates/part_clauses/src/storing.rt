@@ -1,4 +1,4 @@
-//! Keeping clauses.
+//! Keeping clauses in a store.
 ghost use Rattle.std.specs.Prelude.{◌≡◌, ◌<◌, All, Contains, OnOk};
 ghost use Rattle.literals.specs.Signed.{Signed};
 ghost use Rattle.clause_store.specs.Stored.{Kept};

@@ -2,7 +2,7 @@ use Rattle.std.proofs.Common.{◌≡◌, All, Contains, take}
 use Rattle.clause_store.specs.Stored.{Kept}
 use Rattle.search_port.specs.State.{Reading}
 use Rattle.part_clauses.specs.First.{HasClause, IsBegun, IsClause}
-use Rattle.kept_axioms.proofs.keep.keep_all.Given as goal
+use Rattle.part_clauses.proofs.storing.keep_all.Given as goal
 
 abbrev pub invariant-loop-i : goal.invariant-loop-i
 invariant-loop-i l = record {
