@@ -15,9 +15,9 @@
 //! that before it.
 #![tactic(auto)]
 
-mod equalities;
 mod decide;
 mod ending;
+mod equalities;
 mod limits;
 mod plain;
 mod shown;
