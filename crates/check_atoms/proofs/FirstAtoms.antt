@@ -1,5 +1,5 @@
 -- The numbered atoms are those that a check begins with.
-use Rattle.std.proofs.Common.{◌≡◌, inl, ℕ, Bool, true, false, List, [], ◌∷◌, Some, map, get_or, All, Contains, subst, sym, ap, ap₂, ◌∙◌, refl, flat_map}
+use Rattle.std.proofs.Common.{◌≡◌, inl, inr, ℕ, ◌<◌, Bool, true, false, List, [], ◌∷◌, Some, map, length, get_or, All, Contains, subst, sym, ap, ap₂, ◌∙◌, refl, flat_map, arith}
 use Rattle.std.specs.Prelude.{Option, None, ℤ}
 use Rattle.std.proofs.lemmas.List.Elements.{All-nil, All-cons, All-append, All-map, All-contains, Contains-get_or}
 use Rattle.smt_meaning.specs.declared.values.Sort.{Sort}
@@ -13,14 +13,17 @@ use Rattle.smt_meaning.specs.declared.clauses.Atom.{Atom}
 use Rattle.smt_meaning.specs.declared.clauses.Atom.TheVariants.{Truth as TruthAtom, Same as SameAtom}
 use Rattle.smt_meaning.specs.Declaration.{Declaration}
 use Rattle.smt_meaning.specs.Term.{Tree, tree_at}
-use Rattle.smt_meaning.specs.Signature.{is_bool}
+use Rattle.smt_meaning.specs.TreeShape.{place_of}
+use Rattle.smt_meaning.specs.Signature.{tree_sort, is_bool}
 use Rattle.smt_meaning.specs.Stack.{Frame, signature_of, assertions_of}
 use Rattle.smt_meaning.specs.StackCommand.{Stack}
-use Rattle.smt_meaning.specs.CheckAtoms.{IsPartOfStack, IsFirstAtom}
+use Rattle.smt_meaning.specs.CheckAtoms.{IsPartOfStack, ComparesParts, IsFirstAtom}
 use Rattle.smt_meaning.specs.Atoms.{normal_bound, atoms_of, stack_atoms, stack_atoms_are}
 use Rattle.smt_laws.specs.Flat.{flat, FlatSaysTheSame}
 use Rattle.scope_stack.specs.Shown.{IsLawful}
+use Rattle.stack_atoms.specs.Parts.{IsMarked}
 use Rattle.stack_atoms.specs.Marks.{AreStackParts}
+use Rattle.stack_atoms.proofs.Marking.{below}
 use Rattle.bound_clauses.specs.declared.orders.Sense.{Sense}
 use Rattle.bound_clauses.specs.declared.orders.Sense.TheVariants.{NotAbove, Below}
 use Rattle.bound_clauses.specs.declared.orders.Order.{Order}
@@ -28,11 +31,11 @@ use Rattle.bound_clauses.specs.Orders.{atom_of as order_atom, both_orders, order
 use Rattle.bound_clauses.specs.Laws.{OrdersAreComparisons}
 use Rattle.check_atoms.specs.declared.part.PartAtom.{PartAtom}
 use Rattle.check_atoms.specs.declared.part.PartAtom.TheVariants.{Truth, Same, Bound}
-use Rattle.check_atoms.specs.PartAtoms.{atom_of, by_sort, truth_by_sort, pair, with_branches, compared, compared_by_head, of_part, sort_of}
-use Rattle.check_atoms.specs.OfStack.{IsAtomOfPart, AreCheckAtoms, part_atoms}
+use Rattle.check_atoms.specs.PartAtoms.{atom_of, by_sort, alone_by_sort, truth_by_sort, pair, alone, with_branches, compared, compared_by_head, of_part, sort_of}
+use Rattle.check_atoms.specs.OfStack.{IsAtomOfPart, ComparesMarked, AreCheckAtoms, part_atoms}
 use Rattle.check_atoms.specs.Laws.{IsSameOfBools, AreFirstAtoms, AtomsAreFirst}
 use Rattle.check_atoms.proofs.PartPlaces.{equal_all, two_all}
-use Rattle.check_atoms.proofs.StackAtoms.{of_stack, numbered}
+use Rattle.check_atoms.proofs.StackAtoms.{again as place_again, of_stack, numbered}
 
 -- ---- no equality of two Bools is numbered
 
@@ -56,6 +59,15 @@ module _ (f : ℕ → Option Sort) where
   by_sort_unlike (Some Ints) i j e = All-cons IsUnlike (Same i j) (map Bound (both_orders i j)) (ap is_bool e) (bounds_unlike (both_orders i j))
   by_sort_unlike (Some (Free n)) i j e = All-cons IsUnlike (Same i j) [] (ap is_bool e) (All-nil IsUnlike)
 
+  alone_unlike : (r : Option Sort) (i j : ℕ) → f i ≡ r → All IsUnlike (alone_by_sort r i j)
+  alone_unlike None i j e = by_sort_unlike None i j e
+  alone_unlike (Some Truths) i j e = All-nil IsUnlike
+  alone_unlike (Some Ints) i j e = by_sort_unlike (Some Ints) i j e
+  alone_unlike (Some (Free n)) i j e = All-nil IsUnlike
+
+  single_unlike : (i j : ℕ) → All IsUnlike (alone f i j)
+  single_unlike i j = alone_unlike (f i) i j refl
+
   pair_unlike : (i j : ℕ) → All IsUnlike (pair f i j)
   pair_unlike i j = by_sort_unlike (f i) i j refl
 
@@ -66,12 +78,12 @@ module _ (f : ℕ → Option Sort) where
   truth_unlike (Some (Free n)) p = All-nil IsUnlike
 
   branches_unlike : (p : ℕ) (is : List ℕ) → All IsUnlike (with_branches f p is)
-  branches_unlike p (c ∷ i ∷ j ∷ []) = All-append IsUnlike (pair f p i) (pair f p j) (pair_unlike p i) (pair_unlike p j)
+  branches_unlike p (c ∷ i ∷ j ∷ []) = All-append IsUnlike (alone f p i) (alone f p j) (single_unlike p i) (single_unlike p j)
   branches_unlike p is = All-nil IsUnlike
 
   compared_unlike : (o : Operator) (p : ℕ) (is : List ℕ) → All IsUnlike (compared f o p is)
-  compared_unlike Equal p is = equal_all (λ i. Unit {0}) IsUnlike f (λ i j h g. pair_unlike i j) is (any is)
-  compared_unlike Distinct p is = two_all (λ i. Unit {0}) IsUnlike f (λ i j h g. pair_unlike i j) is (any is)
+  compared_unlike Equal p is = equal_all (λ i. Unit {0}) IsUnlike f (λ i j h g. pair_unlike i j) (λ i j h g. single_unlike i j) is (any is)
+  compared_unlike Distinct p is = two_all (λ i. Unit {0}) IsUnlike f (λ i j h g. pair_unlike i j) (λ i j h g. single_unlike i j) is (any is)
   compared_unlike Ite p is = branches_unlike p is
   compared_unlike o p is = bounds_unlike (order_atoms o is)
 
@@ -111,6 +123,11 @@ module _ (s : Stack) where
   all_other : (xs : List PartAtom) → All (IsUnlike sort_there) xs → All IsOther (map (atom_of s.trees) xs)
   all_other xs h = All-map IsOther (atom_of s.trees) xs (λ k d l. other (get_or xs k d) (h k d l))
 
+  chord_other : (marks : List Bool) (a : Atom) → ComparesMarked s marks a → IsOther a
+  chord_other marks a o b =
+      let same : o.left ≡ b.left = same_left o.left o.right b.left b.right (sym o.atom ∙ b.atom) in
+      true_or_false (is_bool (sort_there b.left)) b.bool (ap (λ k. is_bool (sort_there k)) (sym same) ∙ ap is_bool o.left_sort)
+
   no_bools : (marks : List Bool) (a : Atom) → IsAtomOfPart s marks a → IsOther a
   no_bools marks a o =
       All-contains IsOther (map (atom_of s.trees) (part_atoms s o.place o.head o.arguments)) a
@@ -127,14 +144,35 @@ module _ (s : Stack) where
     part_there : (t : Tree) → IsPartOfStack s.frames t → IsPartOfStack frames t
     part_there t p = record { assertion = p.assertion; asserted = subst (λ ts. Contains ts p.assertion) (sym assertions) p.asserted; part = p.part }
 
+    inside : (p : ℕ) → IsMarked marks p → p < length s.trees
+    inside p m = let short : p < length marks = below marks p m in omega (arith, short, are.size)
+
+    chord_there : (a : Atom) → ComparesMarked s marks a → ComparesParts s.trees frames a
+    chord_there a o =
+        let left = tree_at s.trees o.left in
+        let right = tree_at s.trees o.right in
+        let again : (p : ℕ) → IsMarked marks p → place_of (tree_at s.trees p) s.trees ≡ p = λ p m. place_again s marks atoms lawful parts are compares p (inside p m) in
+        let is : SameAtom (place_of left s.trees) (place_of right s.trees) ≡ a = ap₂ SameAtom (again o.left o.left_marked) (again o.right o.right_marked) ∙ sym o.atom in
+        record {
+          left = left;
+          right = right;
+          left_part = part_there left (parts.only o.left o.left_marked);
+          right_part = part_there right (parts.only o.right o.right_marked);
+          one_sort = subst (λ ds. tree_sort ds left ≡ tree_sort ds right) (sym signature) (o.left_sort ∙ sym o.right_sort);
+          among = (0, omega arith, is);
+        }
+
     first_there : (a : Atom) → Contains atoms a → IsFirstAtom s.trees frames a
-    first_there a c = inl (subst (λ xs. Contains xs a) (sym same_atoms) (of_stack s marks atoms lawful parts are compares a (are.only a c)))
+    first_there a c = elim (are.only a c) [
+      | inl own ↦ inl (subst (λ xs. Contains xs a) (sym same_atoms) (of_stack s marks atoms lawful parts are compares a own))
+      | inr chord ↦ inr (inl (chord_there a chord))
+    ]
 
     pub first_by : AreFirstAtoms s frames marks atoms
     first_by = record {
       first = λ k d l. first_there (get_or atoms k d) (Contains-get_or atoms k d l);
       all = λ a c. numbered s marks atoms lawful parts are compares a (subst (λ xs. Contains xs a) same_atoms c);
-      no_bools = λ a c. no_bools marks a (are.only a c);
+      no_bools = λ a c. elim (are.only a c) [ inl own ↦ no_bools marks a own | inr chord ↦ chord_other marks a chord ];
       parts = λ p m. part_there (tree_at s.trees p) (parts.only p m);
     }
 

@@ -18,7 +18,7 @@ use Rattle.bound_clauses.specs.declared.orders.Sense.TheVariants.{NotAbove}
 use Rattle.bound_clauses.specs.Orders.{order, both_orders, order_atoms}
 use Rattle.check_atoms.specs.declared.part.PartAtom.{PartAtom}
 use Rattle.check_atoms.specs.declared.part.PartAtom.TheVariants.{Truth, Same, Bound}
-use Rattle.check_atoms.specs.PartAtoms.{sort_of, by_sort, truth_by_sort, pair, compared, compared_by_head, of_part}
+use Rattle.check_atoms.specs.PartAtoms.{sort_of, by_sort, alone_by_sort, truth_by_sort, pair, alone, compared, compared_by_head, of_part}
 use Rattle.check_atoms.proofs.PartPlaces.{IsOver, orders_over, equal_all, two_all}
 
 rest_is_empty : (xs : List Sort) → Some [] ≡ Some xs → xs ≡ []
@@ -46,7 +46,16 @@ module _ (ds : List Declaration) (ts : List Tree) where
       (All-cons IsIntBound (Bound (order NotAbove i j)) (Bound (order NotAbove j i) ∷ []) (e, g refl) (All-cons IsIntBound (Bound (order NotAbove j i)) [] (g refl, e) (All-nil IsIntBound)))
   pair_int (Some (Free n)) i j e g = All-cons IsIntBound (Same i j) [] tt (All-nil IsIntBound)
 
+  alone_int : (r : Option Sort) (i j : ℕ) → sort_of ds ts i ≡ r → (r ≡ Some Ints → IsIntAt j) → All IsIntBound (alone_by_sort r i j)
+  alone_int None i j e g = pair_int None i j e g
+  alone_int (Some Truths) i j e g = All-nil IsIntBound
+  alone_int (Some Ints) i j e g = pair_int (Some Ints) i j e g
+  alone_int (Some (Free n)) i j e g = All-nil IsIntBound
+
   -- of two terms of one sort
+  one_alone : (r : Sort) (i j : ℕ) → sort_of ds ts i ≡ Some r → sort_of ds ts j ≡ Some r → All IsIntBound (alone (sort_of ds ts) i j)
+  one_alone r i j h g = alone_int (sort_of ds ts i) i j refl (λ e. g ∙ sym h ∙ e)
+
   one_pair : (r : Sort) (i j : ℕ) → sort_of ds ts i ≡ Some r → sort_of ds ts j ≡ Some r → All IsIntBound (pair (sort_of ds ts) i j)
   one_pair r i j h g = pair_int (sort_of ds ts i) i j refl (λ e. g ∙ sym h ∙ e)
 
@@ -68,7 +77,7 @@ module _ (ds : List Declaration) (ts : List Tree) where
       record { sort = f.first; each = All-cons (λ j. sort_of ds ts j ≡ Some f.first) i is f.here (all_of_one ds ts f.first is f.rest f.later b) }
 
   branches_int : (p c i j : ℕ) (ss : List Sort) (s : Sort) → sort_of ds ts p ≡ Some s → tree_sorts ds (pick ts (c ∷ i ∷ j ∷ [])) ≡ Some ss → ite_sort ss ≡ Some s
-      → All IsIntBound (pair (sort_of ds ts) p i ++ pair (sort_of ds ts) p j)
+      → All IsIntBound (alone (sort_of ds ts) p i ++ alone (sort_of ds ts) p j)
   branches_int p c i j ss s h e made =
       let f : HasFirst ds (tree_at ts c) (pick ts (i ∷ j ∷ [])) ss = first_of ds (tree_at ts c) (pick ts (i ∷ j ∷ [])) ss e in
       let g : HasFirst ds (tree_at ts i) (pick ts (j ∷ [])) f.rest = first_of ds (tree_at ts i) (pick ts (j ∷ [])) f.rest f.later in
@@ -79,7 +88,7 @@ module _ (ds : List Declaration) (ts : List Tree) where
       let left : g.first ≡ s = if_so_is (sort_eq f.first Truths && sort_eq g.first k.first) g.first s m in
       let right : g.first ≡ k.first =
       sort_is g.first k.first (right_true (sort_eq f.first Truths) (sort_eq g.first k.first) (if_so_true (sort_eq f.first Truths && sort_eq g.first k.first) g.first s m)) in
-      All-append IsIntBound (pair (sort_of ds ts) p i) (pair (sort_of ds ts) p j) (one_pair s p i h (g.here ∙ ap Some left)) (one_pair s p j h (k.here ∙ ap Some (sym right ∙ left)))
+      All-append IsIntBound (alone (sort_of ds ts) p i) (alone (sort_of ds ts) p j) (one_alone s p i h (g.here ∙ ap Some left)) (one_alone s p j h (k.here ∙ ap Some (sym right ∙ left)))
 
   orders_int : (o : Operator) (is : List ℕ) (ss : List Sort) → tree_sorts ds (pick ts is) ≡ Some ss → all_of Ints ss ≡ true → All IsIntBound (map Bound (order_atoms o is))
   orders_int o is ss e a = All-weaker (IsOver IsIntAt) IsIntBound over_int (map Bound (order_atoms o is)) (orders_over IsIntAt o is (all_of_one ds ts Ints is ss e a))
@@ -88,10 +97,10 @@ module _ (ds : List Declaration) (ts : List Tree) where
       → All IsIntBound (compared (sort_of ds ts) o p is)
   compared_int Equal p is ss s h e made =
       let one = one_sort is ss e (if_so_true (all_the_same ss) Truths s made) in
-      equal_all (λ i. sort_of ds ts i ≡ Some one.sort) IsIntBound (sort_of ds ts) (λ i j. one_pair one.sort i j) is one.each
+      equal_all (λ i. sort_of ds ts i ≡ Some one.sort) IsIntBound (sort_of ds ts) (λ i j. one_pair one.sort i j) (λ i j. one_alone one.sort i j) is one.each
   compared_int Distinct p is ss s h e made =
       let one = one_sort is ss e (if_so_true (all_the_same ss) Truths s made) in
-      two_all (λ i. sort_of ds ts i ≡ Some one.sort) IsIntBound (sort_of ds ts) (λ i j. one_pair one.sort i j) is one.each
+      two_all (λ i. sort_of ds ts i ≡ Some one.sort) IsIntBound (sort_of ds ts) (λ i j. one_pair one.sort i j) (λ i j. one_alone one.sort i j) is one.each
   compared_int Ite p (c ∷ i ∷ j ∷ []) ss s h e made = branches_int p c i j ss s h e made
   compared_int Ite p is ss s h e made = All-nil IsIntBound
   compared_int AtMost p is ss s h e made = orders_int AtMost is ss e (if_so_true (all_of Ints ss) Truths s made)

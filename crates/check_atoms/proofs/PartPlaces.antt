@@ -13,7 +13,7 @@ use Rattle.bound_clauses.specs.declared.orders.Sense.TheVariants.{NotAbove, Belo
 use Rattle.bound_clauses.specs.Orders.{order, both_orders, rising, falling, order_atoms}
 use Rattle.check_atoms.specs.declared.part.PartAtom.{PartAtom}
 use Rattle.check_atoms.specs.declared.part.PartAtom.TheVariants.{Truth, Same, Bound}
-use Rattle.check_atoms.specs.PartAtoms.{by_sort, truth_by_sort, pair, neighbours, neighbours_from, first_with, each_two, with_branches, compared, compared_by_head, of_part}
+use Rattle.check_atoms.specs.PartAtoms.{by_sort, alone_by_sort, truth_by_sort, pair, alone, neighbours_from, first_with, each_two, of_equal, of_distinct, with_branches, compared, compared_by_head, of_part}
 use Rattle.check_atoms.specs.Numbering.{IsWithin}
 
 -- ---- which places
@@ -30,6 +30,12 @@ module _ (P : ℕ → Type 0) where
   pair_over (Some Ints) i j h g =
       All-cons IsOver (Same i j) (map Bound (both_orders i j)) (h, g) (All-cons IsOver (Bound (order NotAbove i j)) (Bound (order NotAbove j i) ∷ []) (h, g) (All-cons IsOver (Bound (order NotAbove j i)) [] (g, h) (All-nil IsOver)))
   pair_over (Some (Free n)) i j h g = All-cons IsOver (Same i j) [] (h, g) (All-nil IsOver)
+
+  alone_over : (s : Option Sort) (i j : ℕ) → P i → P j → All IsOver (alone_by_sort s i j)
+  alone_over None i j h g = pair_over None i j h g
+  alone_over (Some Truths) i j h g = All-nil IsOver
+  alone_over (Some Ints) i j h g = pair_over (Some Ints) i j h g
+  alone_over (Some (Free n)) i j h g = All-nil IsOver
 
   truth_over : (s : Option Sort) (p : ℕ) → P p → All IsOver (truth_by_sort s p)
   truth_over None p h = All-nil IsOver
@@ -57,34 +63,42 @@ module _ (P : ℕ → Type 0) where
   orders_over o is g = All-nil IsOver
 
   -- what holds of the atoms of each pair holds of those of all pairs
-  module _ (Q : PartAtom → Type 0) (f : ℕ → Option Sort) (pairs : (i j : ℕ) → P i → P j → All Q (pair f i j)) where
+  module _ (Q : PartAtom → Type 0) (f : ℕ → Option Sort) (pairs : (i j : ℕ) → P i → P j → All Q (pair f i j)) (single : (i j : ℕ) → P i → P j → All Q (alone f i j)) where
     neighbours_all : (i : ℕ) (js : List ℕ) → P i → All P js → All Q (neighbours_from f i js)
     neighbours_all i [] h g = All-nil Q
     neighbours_all i (j ∷ js) h g =
         All-append Q (pair f i j) (neighbours_from f j js) (pairs i j h (All-head P j js g)) (neighbours_all j js (All-head P j js g) (All-tail P j js g))
 
-    pub equal_all : (is : List ℕ) → All P is → All Q (neighbours f is)
+    pub equal_all : (is : List ℕ) → All P is → All Q (of_equal f is)
     equal_all [] g = All-nil Q
-    equal_all (i ∷ is) g = neighbours_all i is (All-head P i is g) (All-tail P i is g)
+    equal_all (i ∷ []) g = All-nil Q
+    equal_all (i ∷ j ∷ []) g = single i j (All-head P i (j ∷ []) g) (All-head P j [] (All-tail P i (j ∷ []) g))
+    equal_all (i ∷ j ∷ k ∷ is) g = neighbours_all i (j ∷ k ∷ is) (All-head P i (j ∷ k ∷ is) g) (All-tail P i (j ∷ k ∷ is) g)
 
     first_all : (i : ℕ) (js : List ℕ) → P i → All P js → All Q (first_with f i js)
     first_all i [] h g = All-nil Q
     first_all i (j ∷ js) h g = All-append Q (pair f i j) (first_with f i js) (pairs i j h (All-head P j js g)) (first_all i js h (All-tail P j js g))
 
-    pub two_all : (is : List ℕ) → All P is → All Q (each_two f is)
+    each_two_all : (is : List ℕ) → All P is → All Q (each_two f is)
+    each_two_all [] g = All-nil Q
+    each_two_all (i ∷ is) g = All-append Q (first_with f i is) (each_two f is) (first_all i is (All-head P i is g) (All-tail P i is g)) (each_two_all is (All-tail P i is g))
+
+    pub two_all : (is : List ℕ) → All P is → All Q (of_distinct f is)
     two_all [] g = All-nil Q
-    two_all (i ∷ is) g = All-append Q (first_with f i is) (each_two f is) (first_all i is (All-head P i is g) (All-tail P i is g)) (two_all is (All-tail P i is g))
+    two_all (i ∷ []) g = each_two_all (i ∷ []) g
+    two_all (i ∷ j ∷ []) g = single i j (All-head P i (j ∷ []) g) (All-head P j [] (All-tail P i (j ∷ []) g))
+    two_all (i ∷ j ∷ k ∷ is) g = each_two_all (i ∷ j ∷ k ∷ is) g
 
   module _ (f : ℕ → Option Sort) where
     branches_over : (p : ℕ) (is : List ℕ) → P p → All P is → All IsOver (with_branches f p is)
     branches_over p (c ∷ i ∷ j ∷ []) h g =
         let r = All-tail P c (i ∷ j ∷ []) g in
-        All-append IsOver (pair f p i) (pair f p j) (pair_over (f p) p i h (All-head P i (j ∷ []) r)) (pair_over (f p) p j h (All-head P j [] (All-tail P i (j ∷ []) r)))
+        All-append IsOver (alone f p i) (alone f p j) (alone_over (f p) p i h (All-head P i (j ∷ []) r)) (alone_over (f p) p j h (All-head P j [] (All-tail P i (j ∷ []) r)))
     branches_over p is h g = All-nil IsOver
 
     compared_over : (o : Operator) (p : ℕ) (is : List ℕ) → P p → All P is → All IsOver (compared f o p is)
-    compared_over Equal p is h g = equal_all IsOver f (λ i j. pair_over (f i) i j) is g
-    compared_over Distinct p is h g = two_all IsOver f (λ i j. pair_over (f i) i j) is g
+    compared_over Equal p is h g = equal_all IsOver f (λ i j. pair_over (f i) i j) (λ i j. alone_over (f i) i j) is g
+    compared_over Distinct p is h g = two_all IsOver f (λ i j. pair_over (f i) i j) (λ i j. alone_over (f i) i j) is g
     compared_over Ite p is h g = branches_over p is h g
     compared_over o p is h g = orders_over o is g
 
@@ -122,13 +136,18 @@ module _ (f g : ℕ → Option Sort) where
   same_two (i ∷ is) es = ap₂ (λ xs ys. xs ++ ys) (same_first i is (All-head Agree i is es)) (same_two is (All-tail Agree i is es))
 
   same_branches : (p : ℕ) (is : List ℕ) → Agree p → with_branches f p is ≡ with_branches g p is
-  same_branches p (c ∷ i ∷ j ∷ []) e = ap (λ s. by_sort s p i ++ by_sort s p j) e
+  same_branches p (c ∷ i ∷ j ∷ []) e = ap (λ s. alone_by_sort s p i ++ alone_by_sort s p j) e
   same_branches p is e = refl
 
   same_compared : (o : Operator) (p : ℕ) (is : List ℕ) → Agree p → All Agree is → compared f o p is ≡ compared g o p is
   same_compared Equal p [] e es = refl
-  same_compared Equal p (i ∷ is) e es = same_neighbours i is (All-head Agree i is es) (All-tail Agree i is es)
-  same_compared Distinct p is e es = same_two is es
+  same_compared Equal p (i ∷ []) e es = refl
+  same_compared Equal p (i ∷ j ∷ []) e es = ap (λ s. alone_by_sort s i j) (All-head Agree i (j ∷ []) es)
+  same_compared Equal p (i ∷ j ∷ k ∷ is) e es = same_neighbours i (j ∷ k ∷ is) (All-head Agree i (j ∷ k ∷ is) es) (All-tail Agree i (j ∷ k ∷ is) es)
+  same_compared Distinct p [] e es = refl
+  same_compared Distinct p (i ∷ []) e es = same_two (i ∷ []) es
+  same_compared Distinct p (i ∷ j ∷ []) e es = ap (λ s. alone_by_sort s i j) (All-head Agree i (j ∷ []) es)
+  same_compared Distinct p (i ∷ j ∷ k ∷ is) e es = same_two (i ∷ j ∷ k ∷ is) es
   same_compared Ite p is e es = same_branches p is e
   same_compared o p is e es = refl
 

@@ -33,7 +33,7 @@ use Rattle.bound_clauses.specs.Orders.{order, both_orders, rising, falling}
 use Rattle.check_atoms.specs.declared.refusal.Refusal.TheVariants.{Pair, Memory}
 use Rattle.check_atoms.specs.declared.part.PartAtom.{PartAtom}
 use Rattle.check_atoms.specs.declared.part.PartAtom.TheVariants.{Truth, Same, Bound}
-use Rattle.check_atoms.specs.PartAtoms.{sort_of, by_sort, truth_by_sort, pair, compared, compared_by_head, of_part}
+use Rattle.check_atoms.specs.PartAtoms.{sort_of, by_sort, alone_by_sort, truth_by_sort, alone, compared, compared_by_head, of_part}
 use Rattle.check_atoms.specs.Numbering.{fits_by}
 use Rattle.check_atoms.specs.OfStack.{part_atoms, RefusesPart}
 use Rattle.check_atoms.specs.Laws.{PairLeavesRange, RefusedPairLeavesRange}
@@ -81,6 +81,12 @@ module _ (ts : List Tree) (ds : List Declaration) where
       (All-cons (Shows G) (Bound (order NotAbove j i)) [] (λ e f. absurd (not_below e)) (All-nil (Shows G))))
   pair_shows G (Some (Free n)) i j = All-cons (Shows G) (Same i j) [] tt (All-nil (Shows G))
 
+  alone_shows : (G : Type 0) (r : Option Sort) (i j : ℕ) → All (Shows G) (alone_by_sort r i j)
+  alone_shows G None i j = pair_shows G None i j
+  alone_shows G (Some Truths) i j = All-nil (Shows G)
+  alone_shows G (Some Ints) i j = pair_shows G (Some Ints) i j
+  alone_shows G (Some (Free n)) i j = All-nil (Shows G)
+
   truth_shows : (G : Type 0) (r : Option Sort) (p : ℕ) → All (Shows G) (truth_by_sort r p)
   truth_shows G None p = All-nil (Shows G)
   truth_shows G (Some Truths) p = All-cons (Shows G) (Truth p) [] tt (All-nil (Shows G))
@@ -113,11 +119,11 @@ module _ (ts : List Tree) (ds : List Declaration) where
   Unfit o is = comparison_fits ts ds (Theory o) (pick ts is) ≡ false
 
   compared_shows : (o : Operator) (p : ℕ) (is : List ℕ) → All (Shows (Unfit o is)) (compared (sort_of ds ts) o p is)
-  compared_shows Equal p is = equal_all (λ i. Unit {0}) (Shows (Unfit Equal is)) (sort_of ds ts) (λ i j h g. pair_shows (Unfit Equal is) (sort_of ds ts i) i j) is (λ k d l. tt)
-  compared_shows Distinct p is = two_all (λ i. Unit {0}) (Shows (Unfit Distinct is)) (sort_of ds ts) (λ i j h g. pair_shows (Unfit Distinct is) (sort_of ds ts i) i j) is (λ k d l. tt)
+  compared_shows Equal p is = equal_all (λ i. Unit {0}) (Shows (Unfit Equal is)) (sort_of ds ts) (λ i j h g. pair_shows (Unfit Equal is) (sort_of ds ts i) i j) (λ i j h g. alone_shows (Unfit Equal is) (sort_of ds ts i) i j) is (λ k d l. tt)
+  compared_shows Distinct p is = two_all (λ i. Unit {0}) (Shows (Unfit Distinct is)) (sort_of ds ts) (λ i j h g. pair_shows (Unfit Distinct is) (sort_of ds ts i) i j) (λ i j h g. alone_shows (Unfit Distinct is) (sort_of ds ts i) i j) is (λ k d l. tt)
   compared_shows Ite p (c ∷ i ∷ j ∷ []) =
-      All-append (Shows (Unfit Ite (c ∷ i ∷ j ∷ []))) (pair (sort_of ds ts) p i) (pair (sort_of ds ts) p j) (pair_shows (Unfit Ite (c ∷ i ∷ j ∷ [])) (sort_of ds ts p) p i)
-      (pair_shows (Unfit Ite (c ∷ i ∷ j ∷ [])) (sort_of ds ts p) p j)
+      All-append (Shows (Unfit Ite (c ∷ i ∷ j ∷ []))) (alone (sort_of ds ts) p i) (alone (sort_of ds ts) p j) (alone_shows (Unfit Ite (c ∷ i ∷ j ∷ [])) (sort_of ds ts p) p i)
+      (alone_shows (Unfit Ite (c ∷ i ∷ j ∷ [])) (sort_of ds ts p) p j)
   compared_shows Ite p is = All-nil (Shows (Unfit Ite is))
   compared_shows AtMost p (i ∷ is) = not_above_rising (Unfit AtMost (i ∷ is)) i is
   compared_shows Less p (i ∷ is) = rising_shows (Unfit Less (i ∷ is)) i is (λ n. n)

@@ -1,5 +1,5 @@
 -- The atoms of a part, beside those that the definition of a stack's atoms has for it.
-use Rattle.std.proofs.Common.{◌≡◌, ℕ, List, [], ◌∷◌, ◌++◌, map, All, subst, sym, ap, ◌∙◌, refl}
+use Rattle.std.proofs.Common.{◌≡◌, ℕ, List, [], ◌∷◌, ◌++◌, map, All, subst, sym, ap, ◌∙◌, refl, append-nil}
 use Rattle.std.specs.Prelude.{IsTrue}
 use Rattle.std.proofs.lemmas.List.{map-append}
 use Rattle.std.proofs.lemmas.List.Elements.{All-head, All-tail}
@@ -17,7 +17,7 @@ use Rattle.bound_clauses.specs.Orders.{order_atoms, bound_atom}
 use Rattle.bound_clauses.specs.Laws.{OrdersAreComparisons, orders}
 use Rattle.check_atoms.specs.declared.part.PartAtom.{PartAtom}
 use Rattle.check_atoms.specs.declared.part.PartAtom.TheVariants.{Bound}
-use Rattle.check_atoms.specs.PartAtoms.{atom_of, sort_of, truth_by_sort, pair, neighbours_from, first_with, each_two, compared, compared_by_head, of_part}
+use Rattle.check_atoms.specs.PartAtoms.{atom_of, sort_of, truth_by_sort, pair, alone, neighbours_from, first_with, each_two, compared, compared_by_head, of_part}
 
 module _ (ts : List Tree) (ds : List Declaration) (R : List Atom → List Atom → Type 0) (P : ℕ → Type 0) where
   -- a relation of lists that is kept where both go on
@@ -25,6 +25,7 @@ module _ (ts : List Tree) (ds : List Declaration) (R : List Atom → List Atom �
     pub same : (xs : List Atom) → R xs xs
     pub append : (xs ys us vs : List Atom) → R xs us → R ys vs → R (xs ++ ys) (us ++ vs)
     pub pairs : (i j : ℕ) → P i → P j → R (map (atom_of ts) (pair (sort_of ds ts) i j)) (pair_atoms ts ds (tree_at ts i) (tree_at ts j))
+    pub single : (i j : ℕ) → P i → P j → R (map (atom_of ts) (alone (sort_of ds ts) i j)) (pair_atoms ts ds (tree_at ts i) (tree_at ts j))
 
   module _ (k : IsKept) where
     both : (xs ys : List PartAtom) (us vs : List Atom) → R (map (atom_of ts) xs) us → R (map (atom_of ts) ys) vs → R (map (atom_of ts) (xs ++ ys)) (us ++ vs)
@@ -49,10 +50,18 @@ module _ (ts : List Tree) (ds : List Declaration) (R : List Atom → List Atom �
         (first_related i is (All-head P i is g) (All-tail P i is g)) (two_related is (All-tail P i is g))
 
     branches_related : (p c i j : ℕ) → P p → P i → P j → tree_at ts p ≡ node (Theory Ite) (pick ts (c ∷ i ∷ j ∷ []))
-        → R (map (atom_of ts) (pair (sort_of ds ts) p i ++ pair (sort_of ds ts) p j)) (comparison_atoms ts ds (Theory Ite) (pick ts (c ∷ i ∷ j ∷ [])))
+        → R (map (atom_of ts) (alone (sort_of ds ts) p i ++ alone (sort_of ds ts) p j)) (comparison_atoms ts ds (Theory Ite) (pick ts (c ∷ i ∷ j ∷ [])))
     branches_related p c i j h a b e =
-        subst (λ t. R (map (atom_of ts) (pair (sort_of ds ts) p i ++ pair (sort_of ds ts) p j)) (pair_atoms ts ds t (tree_at ts i) ++ pair_atoms ts ds t (tree_at ts j))) e
-        (both (pair (sort_of ds ts) p i) (pair (sort_of ds ts) p j) (pair_atoms ts ds (tree_at ts p) (tree_at ts i)) (pair_atoms ts ds (tree_at ts p) (tree_at ts j)) (k.pairs p i h a) (k.pairs p j h b))
+        subst (λ t. R (map (atom_of ts) (alone (sort_of ds ts) p i ++ alone (sort_of ds ts) p j)) (pair_atoms ts ds t (tree_at ts i) ++ pair_atoms ts ds t (tree_at ts j))) e
+        (both (alone (sort_of ds ts) p i) (alone (sort_of ds ts) p j) (pair_atoms ts ds (tree_at ts p) (tree_at ts i)) (pair_atoms ts ds (tree_at ts p) (tree_at ts j)) (k.single p i h a) (k.single p j h b))
+
+    -- of two terms alone
+    single_related : (i j : ℕ) → P i → P j → R (map (atom_of ts) (alone (sort_of ds ts) i j)) (pair_atoms ts ds (tree_at ts i) (tree_at ts j) ++ [])
+    single_related i j h g = subst (R (map (atom_of ts) (alone (sort_of ds ts) i j))) (sym (append-nil (pair_atoms ts ds (tree_at ts i) (tree_at ts j)))) (k.single i j h g)
+
+    -- and with nothing after them, as `distinct` has them
+    two_single : (i j : ℕ) → P i → P j → R (map (atom_of ts) (alone (sort_of ds ts) i j)) (of_pairs (pair_atoms ts ds) (pick ts (i ∷ j ∷ [])))
+    two_single i j h g = subst (R (map (atom_of ts) (alone (sort_of ds ts) i j))) (sym (append-nil (pair_atoms ts ds (tree_at ts i) (tree_at ts j) ++ []))) (single_related i j h g)
 
     map_bounds : (os : List Order) → map (atom_of ts) (map Bound os) ≡ map (bound_atom ts) os
     map_bounds [] = refl
@@ -65,8 +74,13 @@ module _ (ts : List Tree) (ds : List Declaration) (R : List Atom → List Atom �
     compared_related : OrdersAreComparisons → (o : Operator) (p : ℕ) (is : List ℕ) → P p → All P is → tree_at ts p ≡ node (Theory o) (pick ts is)
         → R (map (atom_of ts) (compared (sort_of ds ts) o p is)) (comparison_atoms ts ds (Theory o) (pick ts is))
     compared_related law Equal p [] h g e = k.same []
-    compared_related law Equal p (i ∷ is) h g e = neighbours_related i is (All-head P i is g) (All-tail P i is g)
-    compared_related law Distinct p is h g e = two_related is g
+    compared_related law Equal p (i ∷ []) h g e = k.same []
+    compared_related law Equal p (i ∷ j ∷ []) h g e = single_related i j (All-head P i (j ∷ []) g) (All-head P j [] (All-tail P i (j ∷ []) g))
+    compared_related law Equal p (i ∷ j ∷ l ∷ is) h g e = neighbours_related i (j ∷ l ∷ is) (All-head P i (j ∷ l ∷ is) g) (All-tail P i (j ∷ l ∷ is) g)
+    compared_related law Distinct p [] h g e = k.same []
+    compared_related law Distinct p (i ∷ []) h g e = two_related (i ∷ []) g
+    compared_related law Distinct p (i ∷ j ∷ []) h g e = two_single i j (All-head P i (j ∷ []) g) (All-head P j [] (All-tail P i (j ∷ []) g))
+    compared_related law Distinct p (i ∷ j ∷ l ∷ is) h g e = two_related (i ∷ j ∷ l ∷ is) g
     compared_related law Ite p (c ∷ i ∷ j ∷ []) h g e =
         let r = All-tail P c (i ∷ j ∷ []) g in branches_related p c i j h (All-head P i (j ∷ []) r) (All-head P j [] (All-tail P i (j ∷ []) r)) e
     compared_related law Ite p [] h g e = k.same []

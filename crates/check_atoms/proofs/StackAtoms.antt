@@ -1,5 +1,5 @@
 -- The numbered atoms are the stack's.
-use Rattle.std.proofs.Common.{◌≡◌, ◌⊎◌, inl, inr, ℕ, ◌<◌, Bool, List, [], ◌∷◌, ◌++◌, Some, map, length, get_or, All, Contains, subst, sym, ap, ap₂, ◌∙◌, refl, arith, flat_map}
+use Rattle.std.proofs.Common.{◌≡◌, ◌≢◌, ◌⊎◌, inl, inr, ℕ, ◌<◌, Bool, List, [], ◌∷◌, ◌++◌, Some, map, length, get_or, All, Contains, subst, sym, ap, ap₂, ◌∙◌, refl, arith, flat_map}
 use Rattle.std.specs.Prelude.{Option, None, if◌then◌else◌}
 use Rattle.std.proofs.lemmas.List.Elements.{All-nil, All-cons, All-append, All-weaker, All-contains, All-contains_itself, Contains-get_or, Contains-append_left, Contains-append_right, Contains-append_cases, Contains-push_cases}
 use Rattle.smt_meaning.specs.declared.values.Sort.{Sort}
@@ -25,9 +25,9 @@ use Rattle.stack_atoms.specs.Marks.{AreStackParts}
 use Rattle.stack_atoms.proofs.Marking.{below}
 use Rattle.stack_atoms.proofs.Places.{Picked, picked}
 use Rattle.bound_clauses.specs.Laws.{OrdersAreComparisons}
-use Rattle.check_atoms.specs.PartAtoms.{atom_of, by_sort, truth_by_sort, sort_of}
+use Rattle.check_atoms.specs.PartAtoms.{atom_of, by_sort, alone_by_sort, truth_by_sort, sort_of}
 use Rattle.check_atoms.specs.OfStack.{IsNode, part_atoms, IsAtomOfPart, AreCheckAtoms}
-use Rattle.check_atoms.specs.Laws.{AtomsAreOfStack, IsSameOfBools, StackAtomsAreNumbered}
+use Rattle.check_atoms.specs.Laws.{IsSameOfNoInts, StackAtomsAreNumbered}
 use Rattle.check_atoms.proofs.Related.{IsKept, part_related}
 
 -- ---- a part's own atoms, and those of a term
@@ -92,7 +92,7 @@ module _ (s : Stack) (marks : List Bool) (atoms : List Atom) (lawful : IsLawful 
   different : AreDifferent ts
   different j k less within e = let same : j ≡ k = lawful.in_order.different j k (omega (arith, less, within)) within e in omega (arith, same, less)
 
-  again : (p : ℕ) → Inside p → place_of (tree_at ts p) ts ≡ p
+  pub again : (p : ℕ) → Inside p → place_of (tree_at ts p) ts ≡ p
   again p h = place_of-is (tree_at ts p) ts p different h refl
 
   -- what the definition says of two terms, by their places
@@ -128,6 +128,12 @@ module _ (s : Stack) (marks : List Bool) (atoms : List Atom) (lawful : IsLawful 
   pair_held (Some Ints) i j = All-contains_itself (stated (Some Ints) i j)
   pair_held (Some (Free n)) i j = All-contains_itself (stated (Some (Free n)) i j)
 
+  alone_held : (r : Option Sort) (i j : ℕ) → Holds (map (atom_of ts) (alone_by_sort r i j)) (stated r i j)
+  alone_held None i j = pair_held None i j
+  alone_held (Some Truths) i j = All-nil (Contains (stated (Some Truths) i j))
+  alone_held (Some Ints) i j = pair_held (Some Ints) i j
+  alone_held (Some (Free n)) i j = All-nil (Contains (stated (Some (Free n)) i j))
+
   held : IsKept ts ds Holds Inside
   held = record {
     same = All-contains_itself;
@@ -135,6 +141,7 @@ module _ (s : Stack) (marks : List Bool) (atoms : List Atom) (lawful : IsLawful 
         All-append (Contains (us ++ vs)) xs ys (All-weaker (Contains us) (Contains (us ++ vs)) (λ x c. Contains-append_left us vs x c) xs a)
         (All-weaker (Contains vs) (Contains (us ++ vs)) (λ x c. Contains-append_right us vs x c) ys b);
     pairs = λ i j h g. subst (Holds (map (atom_of ts) (by_sort (sort_of ds ts i) i j))) (pair_stated i j h g) (pair_held (sort_of ds ts i) i j);
+    single = λ i j h g. subst (Holds (map (atom_of ts) (alone_by_sort (sort_of ds ts i) i j))) (pair_stated i j h g) (alone_held (sort_of ds ts i) i j);
   }
 
   own_is : (p : ℕ) (h : Head) (us : Trees) → tree_at ts p ≡ node h us → truth_atom ts ds (tree_at ts p) ++ comparison_atoms ts ds h us ≡ own ts ds (node h us)
@@ -149,10 +156,10 @@ module _ (s : Stack) (marks : List Bool) (atoms : List Atom) (lawful : IsLawful 
       let here = All-contains (Contains (truth_atom ts ds (tree_at ts o.place) ++ comparison_atoms ts ds o.head us)) (map (atom_of ts) (part_atoms s o.place o.head o.arguments)) a all o.among in
       in_stack (node o.head us) a (subst (IsPartOfStack s.frames) tree (parts.only o.place o.marked)) (subst (λ xs. Contains xs a) (own_is o.place o.head us tree) here)
 
-  -- ---- each of the stack's is numbered, but for equalities of Bools
+  -- ---- each of the stack's is numbered, but for equalities of terms of a sort that isn't Int
 
   abbrev Numbered : List Atom → Atom → Type 0
-  Numbered xs a = Contains xs a ⊎ IsSameOfBools s a
+  Numbered xs a = Contains xs a ⊎ IsSameOfNoInts s a
 
   abbrev Gives : List Atom → List Atom → Type 0
   Gives xs ys = All (Numbered xs) ys
@@ -164,11 +171,26 @@ module _ (s : Stack) (marks : List Bool) (atoms : List Atom) (lawful : IsLawful 
   more_numbered xs zs a f (inl c) = inl (f a c)
   more_numbered xs zs a f (inr b) = inr b
 
+  left_out : (i j : ℕ) (r : Sort) → tree_sort ds (tree_at ts i) ≡ Some r → r ≢ Ints → Gives [] (SameAtom i j ∷ [])
+  left_out i j r e other = All-cons (Numbered []) (SameAtom i j) [] (inr (record { left = i; right = j; sort = r; atom = refl; has_sort = e; no_int = other })) (All-nil (Numbered []))
+
+  no_truths : Truths ≢ Ints
+  no_truths e = cc
+
+  no_free : (n : ℕ) → Free n ≢ Ints
+  no_free n e = cc
+
   pair_given : (r : Option Sort) (i j : ℕ) → tree_sort ds (tree_at ts i) ≡ r → Gives (map (atom_of ts) (by_sort r i j)) (stated r i j)
   pair_given None i j e = gives_itself (stated None i j)
-  pair_given (Some Truths) i j e = All-cons (Numbered []) (SameAtom i j) [] (inr (record { left = i; right = j; atom = refl; bool = ap is_bool e })) (All-nil (Numbered []))
+  pair_given (Some Truths) i j e = left_out i j Truths e no_truths
   pair_given (Some Ints) i j e = gives_itself (stated (Some Ints) i j)
   pair_given (Some (Free n)) i j e = gives_itself (stated (Some (Free n)) i j)
+
+  alone_given : (r : Option Sort) (i j : ℕ) → tree_sort ds (tree_at ts i) ≡ r → Gives (map (atom_of ts) (alone_by_sort r i j)) (stated r i j)
+  alone_given None i j e = pair_given None i j e
+  alone_given (Some Truths) i j e = left_out i j Truths e no_truths
+  alone_given (Some Ints) i j e = pair_given (Some Ints) i j e
+  alone_given (Some (Free n)) i j e = left_out i j (Free n) e (no_free n)
 
   given : IsKept ts ds Gives Inside
   given = record {
@@ -177,6 +199,7 @@ module _ (s : Stack) (marks : List Bool) (atoms : List Atom) (lawful : IsLawful 
         All-append (Numbered (xs ++ ys)) us vs (All-weaker (Numbered xs) (Numbered (xs ++ ys)) (λ x c. more_numbered xs (xs ++ ys) x (λ y d. Contains-append_left xs ys y d) c) us a)
         (All-weaker (Numbered ys) (Numbered (xs ++ ys)) (λ x c. more_numbered ys (xs ++ ys) x (λ y d. Contains-append_right xs ys y d) c) vs b);
     pairs = λ i j h g. subst (Gives (map (atom_of ts) (by_sort (sort_of ds ts i) i j))) (pair_stated i j h g) (pair_given (sort_of ds ts i) i j refl);
+    single = λ i j h g. subst (Gives (map (atom_of ts) (alone_by_sort (sort_of ds ts i) i j))) (pair_stated i j h g) (alone_given (sort_of ds ts i) i j refl);
   }
 
   node_numbered : (p : ℕ) (h : Head) (is : List ℕ) (a : Atom) → IsMarked marks p → IsNode ts p h is → Contains (own ts ds (node h (pick ts is))) a → Numbered atoms a
@@ -203,9 +226,6 @@ module _ (s : Stack) (marks : List Bool) (atoms : List Atom) (lawful : IsLawful 
       let f = from_flat (atoms_of ts ds) (assertions_of s.frames) a (subst (λ xs. Contains xs a) (stack_atoms_are ts s.frames) c) in
       let d = down ts ds a f.0 f.2 in
       tree_numbered d.0 a (record { assertion = f.0; asserted = f.1; part = d.1 }) d.2
-
-pub atoms_of_stack : OrdersAreComparisons → AtomsAreOfStack
-atoms_of_stack compares s marks atoms lawful parts are = λ k d l. of_stack s marks atoms lawful parts are compares (get_or atoms k d) (are.only (get_or atoms k d) (Contains-get_or atoms k d l))
 
 pub all_numbered : OrdersAreComparisons → StackAtomsAreNumbered
 all_numbered compares s marks atoms lawful parts are = λ k d l.

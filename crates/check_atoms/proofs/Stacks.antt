@@ -1,7 +1,7 @@
 -- The atoms of one part more, and of all parts.
-use Rattle.std.proofs.Common.{◌≡◌, inl, inr, ℕ, ◌<◌, ◌≤◌, ◌+◌, ◌^◌, Bool, true, false, List, [], ◌∷◌, Some, map, length, get_or, All, Contains, subst, sym, ap, ◌∙◌, refl, arith}
+use Rattle.std.proofs.Common.{◌≡◌, inl, inr, ℕ, ◌<◌, ◌≤◌, ◌+◌, ◌^◌, Bool, true, false, List, [], ◌∷◌, ◌++◌, Some, map, length, get_or, All, Contains, subst, sym, ap, ◌∙◌, refl, arith}
 use Rattle.std.specs.Prelude.{slice_index_or}
-use Rattle.std.proofs.lemmas.List.Elements.{All-nil, All-cons, All-head, All-tail, All-append, All-weaker, All-contains, Contains-get_or}
+use Rattle.std.proofs.lemmas.List.Elements.{All-nil, All-cons, All-head, All-tail, All-append, All-push, All-weaker, All-contains, Contains-get_or, Contains-append_left, Contains-push_cases}
 use Rattle.smt_meaning.specs.declared.values.Sort.{Sort}
 use Rattle.smt_meaning.specs.declared.values.Sort.TheVariants.{Bool as Truths}
 use Rattle.smt_meaning.specs.declared.terms.Head.{Head}
@@ -19,6 +19,7 @@ use Rattle.smt_meaning.specs.StackCommand.{Stack}
 use Rattle.term_store.specs.Terms.{tree_with, AreDifferent}
 use Rattle.term_store.proofs.PlaceLemmas.{place_of-is}
 use Rattle.atom_table.specs.Numbers.{AreApart}
+use Rattle.atom_numbers.specs.Atoms.{Numbers}
 use Rattle.smt_laws.specs.SortLaws.{SymbolsAreDeclared}
 use Rattle.search_port.specs.Valid.{IsOf}
 use Rattle.scope_stack.specs.Facts.{AreSorts}
@@ -34,7 +35,8 @@ use Rattle.check_atoms.specs.declared.part.PartAtom.{PartAtom}
 use Rattle.check_atoms.specs.declared.part.PartAtom.TheVariants.{Truth, Same, Bound}
 use Rattle.check_atoms.specs.PartAtoms.{atom_of, of_part, sort_of, sort_in}
 use Rattle.check_atoms.specs.Numbering.{IsNormal, Adds, RefusesOne}
-use Rattle.check_atoms.specs.OfStack.{IsNode, part_atoms, IsAtomOfPart, AreCheckAtoms, AreAtomsBelow, IsRefused}
+use Rattle.check_atoms.specs.OfStack.{IsNode, part_atoms, IsAtomOfPart, ComparesMarked, AreCheckAtoms, AreAtomsBelow, IsRefused}
+use Rattle.check_atoms.specs.Chords.{MayCompare}
 use Rattle.smt_meaning.specs.declared.clauses.Atom.TheVariants.{Truth as TruthAtom, Same as SameAtom, AtMost}
 use Rattle.smt_meaning.specs.Clause.{sum_places}
 use Rattle.smt_meaning.specs.CheckAtoms.{is_leaf, IsLeaf}
@@ -193,13 +195,54 @@ module _ (s : Stack) (marks : List Bool) (law : IsLawful s) (parts : AreMarkedFr
           size = parts.size;
           few = few;
           apart = apart;
-          only = b.only;
+          only = λ a c. inl (b.only a c);
           each = λ p h is m n. b.each p h is n.within m n;
           bounds = b.bounds;
           over_parts = over;
           leaves = λ k d l. (over_leaves (get_or atoms k d) (b.only (get_or atoms k d) (Contains-get_or atoms k d l))).leaves;
           declared = All-weaker (λ (a : Atom). All (IsMarked marks) (atom_places a)) (IsOf s.trees s.frames) is_of atoms over;
         }
+
+    -- the equality of two parts of one declared sort more
+    grown : (i j : ℕ) (old new : List Atom) → ComparesMarked s marks (SameAtom i j) → IsMarked marks i → IsMarked marks j → length new ≤ 2 ^ 31 → AreApart new → new ≡ old ++ SameAtom i j ∷ []
+        → AreCheckAtoms s marks old → AreCheckAtoms s marks new
+    grown i j old new compares left right few apart e a =
+        let places : All (IsMarked marks) (i ∷ j ∷ []) = All-cons (IsMarked marks) i (j ∷ []) left (All-cons (IsMarked marks) j [] right (All-nil (IsMarked marks))) in
+        let both = old ++ SameAtom i j ∷ [] in
+        let all_of : (P : Atom → Type 0) → All P old → P (SameAtom i j) → All P new = λ P h k. subst (All P) (sym e) (All-push P old (SameAtom i j) h k) in
+        record {
+          size = a.size;
+          few = few;
+          apart = apart;
+          only = λ x c. elim (Contains-push_cases old (SameAtom i j) x (subst (λ xs. Contains xs x) e c)) [
+            | inl before ↦ a.only x before
+            | inr here ↦ inr (subst (ComparesMarked s marks) here compares)
+          ];
+          each = λ p h is m n. All-weaker (Contains old) (Contains new) (λ x c. subst (λ xs. Contains xs x) (sym e) (Contains-append_left old (SameAtom i j ∷ []) x c))
+              (map (atom_of s.trees) (part_atoms s p h is)) (a.each p h is m n);
+          bounds = all_of (IsNormal (length s.trees)) a.bounds tt;
+          over_parts = all_of (λ (x : Atom). All (IsMarked marks) (atom_places x)) a.over_parts places;
+          leaves = all_of (λ (x : Atom). All (IsLeaf s.trees s.frames) (bound_terms x)) a.leaves (All-nil (IsLeaf s.trees s.frames));
+          declared = all_of (IsOf s.trees s.frames) a.declared (is_of (SameAtom i j) places);
+        }
+
+    pub chord_more : (sorts : List Sort) (i j n : ℕ) (old new : List Atom) → AreSorts ds s.trees (length s.trees) sorts → MayCompare sorts marks i j → Numbers old new (SameAtom i j) n
+        → length new ≤ 2 ^ 31 → AreApart new → AreCheckAtoms s marks old → AreCheckAtoms s marks new
+    chord_more sorts i j n old new sorted may numbers few apart a = elim numbers.others [
+      | inl same ↦ subst (AreCheckAtoms s marks) (sym same) a
+      | inr added ↦
+          grown i j old new
+          (record {
+            left = i;
+            right = j;
+            sort = may.sort.sort;
+            left_marked = may.left;
+            right_marked = may.right;
+            left_sort = sym (sort_there sorts sorted i may.left) ∙ ap Some may.sort.left_is;
+            right_sort = sym (sort_there sorts sorted j may.right) ∙ ap Some may.sort.right_is;
+            atom = refl;
+          }) may.left may.right few apart added.0 a
+    ]
 
 pub no_atoms : (s : Stack) (marks : List Bool) → AreAtomsBelow s marks 0 []
 no_atoms s marks = record { bounds = All-nil (IsNormal (length s.trees)); only = λ a c. absurd (none a c); each = λ p h is l m n. absurd (omega arith) }

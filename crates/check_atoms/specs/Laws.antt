@@ -1,5 +1,7 @@
 -- What holds of the numbered atoms, and of a refusal.
-use Rattle.std.specs.Prelude.{◌≡◌, ◌⊎◌, ℕ, Bool, true, List, map, All, Contains, IsTrue}
+use Rattle.std.specs.Prelude.{◌≡◌, ◌≢◌, ◌⊎◌, ℕ, Bool, true, Some, List, map, All, Contains, IsTrue}
+use Rattle.smt_meaning.specs.declared.values.Sort.{Sort}
+use Rattle.smt_meaning.specs.declared.values.Sort.TheVariants.{Int as Ints}
 use Rattle.smt_meaning.specs.declared.terms.Operator.{Operator}
 use Rattle.smt_meaning.specs.declared.terms.Operator.TheVariants.{Equal, Distinct, Ite}
 use Rattle.smt_meaning.specs.declared.terms.Head.{Head}
@@ -24,13 +26,8 @@ use Rattle.bound_clauses.specs.declared.orders.Order.{Order}
 use Rattle.check_atoms.specs.declared.refusal.Refusal.TheVariants.{Term, Pair}
 use Rattle.bound_clauses.specs.Orders.{order_atoms, bound_atom}
 use Rattle.bound_clauses.specs.Laws.{orders}
-use Rattle.check_atoms.specs.PartAtoms.{atom_of, sort_of, neighbours, each_two, with_branches}
+use Rattle.check_atoms.specs.PartAtoms.{atom_of, sort_of, of_equal, of_distinct, with_branches}
 use Rattle.check_atoms.specs.OfStack.{IsNode, AreCheckAtoms, IsRefused}
-
--- each numbered atom is one of the stack's
-abbrev pub AtomsAreOfStack : Type 0
-AtomsAreOfStack =
-    (s : Stack) (marks : List Bool) (atoms : List Atom) → IsLawful s → AreStackParts s marks → AreCheckAtoms s marks atoms → All (Contains (stack_atoms s.trees s.frames)) atoms
 
 -- the equality of two Bools
 pub record IsSameOfBools (s : Stack) (a : Atom) : Type 0 where
@@ -39,16 +36,26 @@ pub record IsSameOfBools (s : Stack) (a : Atom) : Type 0 where
   pub atom : a ≡ Same left right
   pub bool : is_bool (tree_sort (signature_of s.frames) (tree_at s.trees left)) ≡ true
 
--- and each of the stack's is numbered, but for the equalities of Bools
+-- the equality of two terms of a sort that isn't Int
+pub record IsSameOfNoInts (s : Stack) (a : Atom) : Type 0 where
+  pub left : ℕ
+  pub right : ℕ
+  pub sort : Sort
+  pub atom : a ≡ Same left right
+  pub has_sort : tree_sort (signature_of s.frames) (tree_at s.trees left) ≡ Some sort
+  pub no_int : sort ≢ Ints
+
+-- each of the stack's atoms is numbered, but for equalities of terms of a sort that isn't Int
 abbrev pub StackAtomsAreNumbered : Type 0
 StackAtomsAreNumbered =
     (s : Stack) (marks : List Bool) (atoms : List Atom) → IsLawful s → AreStackParts s marks → AreCheckAtoms s marks atoms
-    → All (λ (a : Atom). Contains atoms a ⊎ IsSameOfBools s a) (stack_atoms s.trees s.frames)
+    → All (λ (a : Atom). Contains atoms a ⊎ IsSameOfNoInts s a) (stack_atoms s.trees s.frames)
 
--- by these levels each numbered atom is one that a check begins with, each of theirs is numbered but for the equalities of Bools, of which none is, and the marked terms are parts
+-- by these levels each numbered atom is one that a check begins with, no equality of Bools is, each of the stack's is numbered but for equalities of terms of a sort that isn't Int, and the marked
+-- terms are parts
 pub record AreFirstAtoms (s : Stack) (frames : List Frame) (marks : List Bool) (atoms : List Atom) : Type 0 where
   pub first : All (IsFirstAtom s.trees frames) atoms
-  pub all : (a : Atom) → Contains (stack_atoms s.trees frames) a → Contains atoms a ⊎ IsSameOfBools s a
+  pub all : (a : Atom) → Contains (stack_atoms s.trees frames) a → Contains atoms a ⊎ IsSameOfNoInts s a
   pub no_bools : (a : Atom) → Contains atoms a → IsSameOfBools s a → ⊥
   pub parts : (p : ℕ) → IsMarked marks p → IsPartOfStack frames (tree_at s.trees p)
 
@@ -72,11 +79,11 @@ RefusedPairLeavesRange =
     (s : Stack) (part : ℕ) (o : Order) → IsLawful s → form_fits (linear_form s.trees (tree_at s.trees o.lesser)) ≡ true → IsRefused s (Pair part o)
     → PairLeavesRange s part o.sense o.lesser o.greater
 
--- what is numbered for a part with this operator: the bounds of a comparison, and the atoms of each two terms that it compares
+-- what is numbered for a part with this operator: the bounds of a comparison, and the atoms of the terms that it compares
 pub record HasNumbers (s : Stack) (atoms : List Atom) (p : ℕ) (o : Operator) (is : List ℕ) : Type 0 where
   pub comparison : IsTrue (orders o) → All (Contains atoms) (map (bound_atom s.trees) (order_atoms o is))
-  pub equality : o ≡ Equal → All (Contains atoms) (map (atom_of s.trees) (neighbours (sort_of (signature_of s.frames) s.trees) is))
-  pub different : o ≡ Distinct → All (Contains atoms) (map (atom_of s.trees) (each_two (sort_of (signature_of s.frames) s.trees) is))
+  pub equality : o ≡ Equal → All (Contains atoms) (map (atom_of s.trees) (of_equal (sort_of (signature_of s.frames) s.trees) is))
+  pub different : o ≡ Distinct → All (Contains atoms) (map (atom_of s.trees) (of_distinct (sort_of (signature_of s.frames) s.trees) is))
   pub choice : o ≡ Ite → All (Contains atoms) (map (atom_of s.trees) (with_branches (sort_of (signature_of s.frames) s.trees) p is))
 
 abbrev pub PartsHaveNumbers : Type 0

@@ -2,3 +2,4 @@ pub mod PartAtoms
 pub mod Numbering
 pub mod OfStack
 pub mod Laws
+pub mod Chords

@@ -1,5 +1,6 @@
 -- The atoms that are numbered for the check of a stack.
-use Rattle.std.specs.Prelude.{◌≡◌, ◌⊎◌, ℕ, ◌<◌, ◌≤◌, ◌^◌, Bool, List, [], map, length, All, Contains}
+use Rattle.std.specs.Prelude.{◌≡◌, ◌⊎◌, ℕ, ◌<◌, ◌≤◌, ◌^◌, Bool, List, [], Some, map, length, All, Contains}
+use Rattle.smt_meaning.specs.declared.values.Sort.TheVariants.{Free}
 use Rattle.smt_meaning.specs.declared.terms.Head.{Head}
 use Rattle.smt_meaning.specs.declared.clauses.Atom.{Atom}
 use Rattle.smt_meaning.specs.declared.clauses.Atom.TheVariants.{Truth, Same, AtMost}
@@ -38,18 +39,29 @@ pub record IsAtomOfPart (s : Stack) (marks : List Bool) (a : Atom) : Type 0 wher
   pub term : IsNode s.trees place head arguments
   pub among : Contains (map (atom_of s.trees) (part_atoms s place head arguments)) a
 
+-- the equality of two parts of one declared sort
+pub record ComparesMarked (s : Stack) (marks : List Bool) (a : Atom) : Type 0 where
+  pub left : ℕ
+  pub right : ℕ
+  pub sort : ℕ
+  pub left_marked : IsMarked marks left
+  pub right_marked : IsMarked marks right
+  pub left_sort : sort_of (signature_of s.frames) s.trees left ≡ Some (Free sort)
+  pub right_sort : sort_of (signature_of s.frames) s.trees right ≡ Some (Free sort)
+  pub atom : a ≡ Same left right
+
 -- the terms of a bound's sum
 abbrev pub bound_terms : Atom → List ℕ
 bound_terms (Truth p) = []
 bound_terms (Same i j) = []
 bound_terms (AtMost sum k) = sum_places sum
 
--- exactly the atoms of the parts are numbered, each once, and they are over parts and over what the stack declares
+-- the atoms of the parts are numbered, and beside them at most equalities of parts of one declared sort, each once; they are over parts and over what the stack declares
 pub record AreCheckAtoms (s : Stack) (marks : List Bool) (atoms : List Atom) : Type 0 where
   pub size : length marks ≡ length s.trees
   pub few : length atoms ≤ 2 ^ 31
   pub apart : AreApart atoms
-  pub only : (a : Atom) → Contains atoms a → IsAtomOfPart s marks a
+  pub only : (a : Atom) → Contains atoms a → IsAtomOfPart s marks a ⊎ ComparesMarked s marks a
   pub each : (p : ℕ) (h : Head) (is : List ℕ) → IsMarked marks p → IsNode s.trees p h is → All (Contains atoms) (map (atom_of s.trees) (part_atoms s p h is))
   pub bounds : All (IsNormal (length s.trees)) atoms
   pub over_parts : All (λ (a : Atom). All (IsMarked marks) (atom_places a)) atoms

@@ -1,7 +1,7 @@
 -- The atoms of a part, by the places of its arguments.
 use Rattle.std.specs.Prelude.{ℕ, List, [], ◌∷◌, ◌++◌, map, Option, Some, slice_index_or}
 use Rattle.smt_meaning.specs.declared.values.Sort.{Sort}
-use Rattle.smt_meaning.specs.declared.values.Sort.TheVariants.{Bool as Truths, Int as Ints}
+use Rattle.smt_meaning.specs.declared.values.Sort.TheVariants.{Bool as Truths, Int as Ints, Free}
 use Rattle.smt_meaning.specs.declared.terms.Operator.{Operator}
 use Rattle.smt_meaning.specs.declared.terms.Operator.TheVariants.{Equal, Distinct, Ite}
 use Rattle.smt_meaning.specs.declared.terms.Head.{Head}
@@ -29,6 +29,11 @@ by_sort (Some Truths) i j = []
 by_sort (Some Ints) i j = Same i j ∷ map Bound (both_orders i j)
 by_sort s i j = Same i j ∷ []
 
+-- of two that are compared alone, or of an `ite` and a branch: the same, but of elements none, since the truth of the comparison or of the condition says all
+abbrev pub alone_by_sort : Option Sort → ℕ → ℕ → List PartAtom
+alone_by_sort (Some (Free n)) i j = []
+alone_by_sort s i j = by_sort s i j
+
 abbrev pub truth_by_sort : Option Sort → ℕ → List PartAtom
 truth_by_sort (Some Truths) p = Truth p ∷ []
 truth_by_sort s p = []
@@ -36,6 +41,9 @@ truth_by_sort s p = []
 module _ (sort_at : ℕ → Option Sort) where
   abbrev pub pair : ℕ → ℕ → List PartAtom
   pair i j = by_sort (sort_at i) i j
+
+  abbrev pub alone : ℕ → ℕ → List PartAtom
+  alone i j = alone_by_sort (sort_at i) i j
 
   -- of each place and the next
   abbrev pub neighbours_from : ℕ → List ℕ → List PartAtom
@@ -56,15 +64,25 @@ module _ (sort_at : ℕ → Option Sort) where
   each_two [] = []
   each_two (i ∷ is) = first_with i is ++ each_two is
 
+  -- of the arguments of `=`
+  abbrev pub of_equal : List ℕ → List PartAtom
+  of_equal (i ∷ j ∷ []) = alone i j
+  of_equal is = neighbours is
+
+  -- of those of `distinct`
+  abbrev pub of_distinct : List ℕ → List PartAtom
+  of_distinct (i ∷ j ∷ []) = alone i j
+  of_distinct is = each_two is
+
   -- of an `ite` with each branch
   abbrev pub with_branches : ℕ → List ℕ → List PartAtom
-  with_branches p (c ∷ i ∷ j ∷ []) = pair p i ++ pair p j
+  with_branches p (c ∷ i ∷ j ∷ []) = alone p i ++ alone p j
   with_branches p is = []
 
   -- those that compare the arguments of the term at a place
   abbrev pub compared : Operator → ℕ → List ℕ → List PartAtom
-  compared Equal p is = neighbours is
-  compared Distinct p is = each_two is
+  compared Equal p is = of_equal is
+  compared Distinct p is = of_distinct is
   compared Ite p is = with_branches p is
   compared o p is = map Bound (order_atoms o is)
 

@@ -8,6 +8,7 @@ ghost use Rattle.stack_atoms.specs.Marks.{AreMarkedFrom, AreStackParts};
 ghost use Rattle.check_atoms.specs.declared.part.PartAtom.{PartAtom as PartAtomValue};
 ghost use Rattle.check_atoms.specs.OfStack.{AreCheckAtoms, AreAtomsBelow, IsRefused};
 
+use crate::graph::{Triangle, chords};
 use crate::number::number_all;
 use crate::part::{PartAtom, add_part};
 use crate::parts::marks;
@@ -25,8 +26,11 @@ use std::alloc::Global;
 pub struct CheckAtoms {
     /// Which terms are parts of the assertions, by their places.
     pub marks: Vec<bool>,
-    /// The atoms of the parts: the truth of each that is a Bool, and what compares the arguments of comparisons, of equalities and of choices.
+    /// The atoms of the parts: the truth of each that is a Bool, and what compares the arguments of comparisons, of equalities and of choices; and the equalities of
+    /// chords.
     pub atoms: AtomNumbers,
+    /// Triangles of equalities, by the numbers of their atoms.
+    pub triangles: Vec<Triangle>,
     /// The linear forms of the stack's terms.
     pub forms: LinearForms,
 }
@@ -94,8 +98,8 @@ fn number_parts(
     Ok(())
 }
 
-/// Marks the parts of the assertions, folds the stack's terms, and numbers the atoms of the parts. An `Err` says which folding leaves the range, or that memory is
-/// wanting.
+/// Marks the parts of the assertions, folds the stack's terms, and numbers the atoms of the parts and the chords of their equalities. An `Err` says which folding leaves
+/// the range, or that memory is wanting.
 pub fn numbered(alloc: Global, stack: &Stack) -> Result<CheckAtoms, Refusal>
     ensures parts { IfOk result (λ atoms. AreStackParts stack.now atoms.marks.items) }
     ensures atoms { IfOk result (λ atoms. AreCheckAtoms stack.now atoms.marks.items atoms.atoms.atoms) }
@@ -116,9 +120,11 @@ pub fn numbered(alloc: Global, stack: &Stack) -> Result<CheckAtoms, Refusal>
     number_parts(stack, &marks, &mut forms, &mut atoms, &mut lists)?;
     atoms.are_few();
     atoms.are_apart();
+    let triangles = chords(alloc, stack, &marks, &mut atoms)?;
     Ok(CheckAtoms {
         marks,
         atoms,
+        triangles,
         forms,
     })
 }

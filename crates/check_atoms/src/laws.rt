@@ -1,24 +1,17 @@
 //! What holds of the numbered atoms and of a refusal, as contracts of functions that do nothing.
-ghost use Rattle.check_atoms.specs.Laws.{AtomsAreOfStack, StackAtomsAreNumbered, AtomsAreFirst, PartsHaveNumbers, TruthsHaveNumbers, RefusedTermLeavesRange, RefusedPairLeavesRange};
+ghost use Rattle.check_atoms.specs.Laws.{StackAtomsAreNumbered, AtomsAreFirst, PartsHaveNumbers, TruthsHaveNumbers, RefusedTermLeavesRange, RefusedPairLeavesRange};
 
 use bound_clauses::orders_are_comparisons;
 use smt_laws::flat_says_the_same;
 
-/// Each numbered atom is one of the stack's.
-pub fn atoms_are_of_stack()
-    ensures { AtomsAreOfStack }
-{
-    orders_are_comparisons();
-}
-
-/// Each of the stack's atoms is numbered, but for the equalities of Bools.
+/// Each of the stack's atoms is numbered, but for equalities of terms of a sort that isn't Int.
 pub fn stack_atoms_are_numbered()
     ensures { StackAtomsAreNumbered }
 {
     orders_are_comparisons();
 }
 
-/// Each numbered atom is one that a check begins with, and each of the stack's is numbered, but for the equalities of Bools, of which none is.
+/// Each numbered atom is one that a check begins with, none of them an equality of Bools, and each of the stack's is numbered, but for equalities of terms of a sort that isn't Int.
 pub fn atoms_are_first()
     ensures { AtomsAreFirst }
 {

@@ -4,7 +4,7 @@ ghost use Rattle.smt_meaning.specs.declared.values.Sort.TheVariants.{Int as Ints
 ghost use Rattle.bound_clauses.specs.declared.orders.Sense.TheVariants.{NotAbove};
 ghost use Rattle.bound_clauses.specs.Orders.{order_atoms};
 ghost use Rattle.check_atoms.specs.declared.part.PartAtom.TheVariants.{Bound as BoundAtom};
-ghost use Rattle.check_atoms.specs.PartAtoms.{sort_in, truth_by_sort, by_sort, pair, neighbours, neighbours_from, first_with, each_two, with_branches, compared, of_part};
+ghost use Rattle.check_atoms.specs.PartAtoms.{sort_in, truth_by_sort, by_sort, pair, alone, neighbours_from, first_with, each_two, of_equal, of_distinct, with_branches, compared, of_part};
 
 use bound_clauses::{Order, Sense, add_orders};
 use smt_meaning::{Head, Operator, Sort, TermId};
@@ -76,6 +76,22 @@ fn add_pair(
     }
 }
 
+/// Adds the atoms of two terms that are compared alone, or of an `ite` and a branch, by the sort of the first: of Ints alone.
+fn add_alone(
+    atoms: &mut Vec<PartAtom>,
+    sorts: &[Sort],
+    left: TermId,
+    right: TermId,
+) -> Result<(), AllocError>
+    requires { left < length sorts.now }
+    ensures { OnOk result (atoms.new.items ≡ atoms.old.items ++ alone (sort_in sorts.now) left right) }
+{
+    match sorts[left as usize] {
+        Sort::Int => add_integers(atoms, left, right),
+        Sort::Bool | Sort::Free(_) => Ok(()),
+    }
+}
+
 /// Adds the atoms of each place and the next.
 fn add_neighbours(
     atoms: &mut Vec<PartAtom>,
@@ -139,8 +155,8 @@ fn add_branches(
     if arguments.len() != 3 {
         return Ok(());
     }
-    add_pair(atoms, sorts, place, arguments[1])?;
-    add_pair(atoms, sorts, place, arguments[2])
+    add_alone(atoms, sorts, place, arguments[1])?;
+    add_alone(atoms, sorts, place, arguments[2])
 }
 
 /// Adds bounds.
@@ -167,18 +183,34 @@ fn add_comparison(
     add_bounds(atoms, orders)
 }
 
-/// Adds the atoms that compare the neighbours among these.
+/// Adds the atoms that compare the arguments of `=`.
 fn add_equal(
     atoms: &mut Vec<PartAtom>,
     sorts: &[Sort],
     arguments: &[TermId],
 ) -> Result<(), AllocError>
     requires { All (λ i. i < length sorts.now) arguments.now }
-    ensures { OnOk result (atoms.new.items ≡ atoms.old.items ++ neighbours (sort_in sorts.now) arguments.now) }
+    ensures { OnOk result (atoms.new.items ≡ atoms.old.items ++ of_equal (sort_in sorts.now) arguments.now) }
 {
     match arguments {
         [] => Ok(()),
+        [left, right] => add_alone(atoms, sorts, *left, *right),
         [first, others @ ..] => add_neighbours(atoms, sorts, *first, others),
+    }
+}
+
+/// Adds the atoms that compare the arguments of `distinct`.
+fn add_distinct(
+    atoms: &mut Vec<PartAtom>,
+    sorts: &[Sort],
+    arguments: &[TermId],
+) -> Result<(), AllocError>
+    requires { All (λ i. i < length sorts.now) arguments.now }
+    ensures { OnOk result (atoms.new.items ≡ atoms.old.items ++ of_distinct (sort_in sorts.now) arguments.now) }
+{
+    match arguments {
+        [left, right] => add_alone(atoms, sorts, *left, *right),
+        _ => add_each_two(atoms, sorts, arguments),
     }
 }
 
@@ -197,7 +229,7 @@ fn add_compared(
 {
     match operator {
         Operator::Equal => add_equal(atoms, sorts, arguments),
-        Operator::Distinct => add_each_two(atoms, sorts, arguments),
+        Operator::Distinct => add_distinct(atoms, sorts, arguments),
         Operator::Ite => add_branches(atoms, sorts, place, arguments),
         _ => add_comparison(atoms, orders, operator, arguments),
     }

@@ -27,7 +27,11 @@ use Rattle.atom_table.specs.Numbers.{IsAt}
 use Rattle.order_clauses.specs.Sound.{IsSound, AreSound}
 use Rattle.part_clauses.specs.Numbers.{AreNumbers}
 use Rattle.part_clauses.specs.First.{unit, IsClause}
+use Rattle.part_clauses.specs.Turned.{Negates, AreTurned}
 use Rattle.part_clauses.proofs.Numbering.{numbers_within}
+use Rattle.part_clauses.specs.Triangles.{IsEquality, Joins}
+use Rattle.part_clauses.proofs.Turning.{some_turned}
+use Rattle.part_clauses.proofs.Triangular.{implies_clause, implies_within, implies_true, no_pair_here}
 use Rattle.check_clauses.specs.First.{reading_of}
 
 module _ (same : FlatSaysTheSame) (s : Stack) (table : List Atom) (declared : All (IsOf s.trees s.frames) table) where
@@ -89,6 +93,33 @@ module _ (same : FlatSaysTheSame) (s : Stack) (table : List Atom) (declared : Al
 
   truth_is : (I : Interpretation) (n p : ℕ) → IsAt table n (Truth p) → truth (reading_of s table) I n ≡ truth_of (value I (tree_at s.trees p))
   truth_is I n p h = ap (atom_true s.trees I) (h.1 (Truth 0))
+
+  -- ---- negations
+
+  negation_is : (I : Interpretation) (n m : ℕ) → Negates s.trees table n m → truth (reading_of s table) I n ≡ not (truth (reading_of s table) I m)
+  negation_is I n m h = truth_is I n h.place h.atom ∙ (ap (λ (u : Tree). truth_of (value I u)) h.node ∙ ap not (sym (truth_is I m h.argument h.negated)))
+
+  -- a clause follows with what negations negate
+  pub turned_is : (ls ms : List Signed) → IsClause (reading_of s table) 0 ls → AreTurned s.trees table ls ms → All (λ (l : Signed). l.atom < length table) ms
+      → ((l : Signed) → Contains ms l → Contains ms (opposite l) → ⊥) → IsClause (reading_of s table) 0 ms
+  turned_is ls ms c t within p = record {
+    over = over ms within p;
+    follows = record {
+      true_wherever = λ I i holds. sym (some_turned s.trees table (truth (reading_of s table) I) (negation_is I) ls ms t) ∙ c.follows.true_wherever I i holds;
+      at_level = at_level ms within;
+    };
+  }
+
+  -- ---- triangles
+
+  pub triangle_follows : (a b c i j k l x y : ℕ) → IsEquality s.trees table a i j → IsEquality s.trees table b k l → IsEquality s.trees table c x y → Joins i j k l x y → (a ≡ c → ⊥) → (b ≡ c → ⊥)
+      → IsClause (reading_of s table) 0 (implies_clause a b c)
+  triangle_follows a b c i j k l x y p q r joins n m =
+      let within : All (λ (z : Signed). z.atom < length table) (implies_clause a b c) = implies_within s.trees table a b c i j k l x y p q r in
+      record {
+        over = over (implies_clause a b c) within (no_pair_here a b c n m);
+        follows = record { true_wherever = λ I z holds. implies_true s.trees table a b c i j k l x y p q r joins I; at_level = at_level (implies_clause a b c) within };
+      }
 
   module _ (sorted : ValueHasItsSort) where
     abbrev IsBool : ℕ → Type 0

@@ -1,11 +1,12 @@
 -- The kept clauses of the parts force each clause of a part.
-use Rattle.std.proofs.Common.{◌≡◌, ℕ, ◌<◌, Bool, true, List, [], ◌∷◌, map, length, get_or, All, Contains, subst, sym, ap, ◌∙◌, arith}
-use Rattle.std.proofs.lemmas.List.Elements.{All-nil, All-cons, All-contains}
+use Rattle.std.proofs.Common.{◌≡◌, ℕ, ◌<◌, Bool, true, List, [], ◌∷◌, map, length, get_or, All, Contains, subst, sym, ap, ◌∙◌, arith, refl}
+use Rattle.std.proofs.lemmas.List.Elements.{All-nil, All-cons, All-head, All-contains}
 use Rattle.literals.specs.Signed.{Signed, opposite}
 use Rattle.clause_store.specs.Stored.{Kept}
 use Rattle.smt_meaning.specs.declared.values.Sort.{Sort}
 use Rattle.smt_meaning.specs.declared.values.Sort.TheVariants.{Bool as Truths}
 use Rattle.smt_meaning.specs.declared.terms.Operator.{Operator}
+use Rattle.smt_meaning.specs.declared.terms.Operator.TheVariants.{Not}
 use Rattle.smt_meaning.specs.declared.terms.Head.{Head}
 use Rattle.smt_meaning.specs.declared.terms.Head.TheVariants.{Theory}
 use Rattle.smt_meaning.specs.declared.clauses.Atom.{Atom}
@@ -15,6 +16,7 @@ use Rattle.smt_meaning.specs.Term.{Tree, Trees, node, tree_at}
 use Rattle.smt_meaning.specs.Nodes.{pick}
 use Rattle.smt_meaning.specs.Parts.{IsOneOf, IsArgument, AreInOrder}
 use Rattle.smt_meaning.specs.Signature.{tree_sort, is_bool}
+use Rattle.smt_meaning.specs.Clause.{atom_places}
 use Rattle.smt_meaning.specs.Forced.{Sign, IsClauseOf}
 use Rattle.smt_meaning.specs.Stack.{signature_of}
 use Rattle.smt_meaning.specs.StackCommand.{Stack}
@@ -25,8 +27,9 @@ use Rattle.search_port.specs.State.{truth_atoms}
 use Rattle.clause_form.specs.NodeClauses.{node_clauses}
 use Rattle.clause_form.specs.NodeClausesLaws.{NodeClausesForce}
 use Rattle.clause_form.proofs.More.{forces_more}
-use Rattle.assertion_form.specs.Renamed.{NodeClausesRenamed}
+use Rattle.clause_form.specs.Renamed.{NodeClausesRenamed}
 use Rattle.clause_form.specs.Node.{literals_of_node}
+use Rattle.atom_table.specs.Numbers.{IsAt}
 use Rattle.stack_atoms.specs.Parts.{IsMarked}
 use Rattle.stack_atoms.specs.Atoms.{is_bool_at}
 use Rattle.stack_atoms.specs.Marks.{AreStackParts}
@@ -35,8 +38,10 @@ use Rattle.check_atoms.specs.OfStack.{AreCheckAtoms}
 use Rattle.order_clauses.specs.Clauses.{sort_at}
 use Rattle.order_clauses.specs.Sound.{HasSort}
 use Rattle.part_clauses.specs.Numbers.{AreNumbers}
-use Rattle.part_clauses.specs.First.{HasClause, IsForced, ForcesParts}
-use Rattle.part_clauses.proofs.Numbering.{number_of, found, contained, number_is, numbers_are}
+use Rattle.part_clauses.specs.First.{IsForced, ForcesParts}
+use Rattle.part_clauses.specs.Turned.{IsKeptTurned}
+use Rattle.part_clauses.proofs.Numbering.{number_of, found, one_place, contained, number_is, numbers_are}
+use Rattle.part_clauses.proofs.Turning.{one_number, KeepNegations, forces_turned}
 use Rattle.part_clauses.proofs.NodeForcing.{fits_of, is_bool_sort, IsBoolNode, is_node, arguments_at, HasClauseAt, clause_at, HasNumber, numbered, each_numbered, forces_numbered, is_forced}
 use Rattle.check_clauses.specs.First.{AreBools, HasTruths, HasParts}
 use Rattle.check_clauses.specs.Laws.{KeptPartsAreForced, MoreForceParts}
@@ -68,21 +73,42 @@ module _ (s : Stack) (marks : List Bool) (sorts : List Sort) (table : List Atom)
 
   module _ (force : NodeClausesForce) (rename : NodeClausesRenamed) (clauses : List Kept) (has : HasParts s marks sorts table clauses) (known : List (List Signed))
       (among : (c : Kept) → Contains clauses c → Contains known c.literals) where
-    in_known : (ls : List Signed) → HasClause clauses ls → Contains known ls
-    in_known ls h = subst (Contains known) h.literals (among h.kept h.among)
+    bools_at : (p : ℕ) (is : List ℕ) → IsMarked marks p → All (IsMarked marks) is → is_bool_at ds s.trees p ≡ true → All (λ i. is_bool_at ds s.trees i ≡ true) is → AreBools sorts (p ∷ is)
+    bools_at p is m ms b bs = All-cons (λ q. sort_at sorts q ≡ Truths) p is (listed_bool p m b) (λ k d l. listed_bool (get_or is k d) (ms k d l) (bs k d l))
+
+    -- a numbered truth is one of a part
+    marked_at : (n p : ℕ) → IsAt table n (Truth p) → IsMarked marks p
+    marked_at n p at = All-head (IsMarked marks) p [] (subst (λ (a : Atom). All (IsMarked marks) (atom_places a)) (at.1 (Truth 0)) (atoms.over_parts n (Truth 0) at.0))
+
+    -- the clauses of a negation are kept
+    negations : KeepNegations s.trees table clauses
+    negations n m h =
+        let p = h.place in
+        let is = h.argument ∷ [] in
+        let here : IsMarked marks p = marked_at n p h.atom in
+        let marked : All (IsMarked marks) is = All-cons (IsMarked marks) h.argument [] (marked_at m h.argument h.negated) (All-nil (IsMarked marks)) in
+        let inside : All (λ i. i < length s.trees) is = λ k d l. within s marks law parts atoms.size (get_or is k d) (marked k d l) in
+        let is_so : IsBoolNode ds s.trees Not is = is_node ds s.trees Not is (sort_at sorts p) (sym (ap (tree_sort ds) h.node) ∙ sort_there p here) refl in
+        let bool : is_bool_at ds s.trees p ≡ true = ap (λ t. is_bool (tree_sort ds t)) h.node ∙ is_so.bool in
+        let part = has p Not is here (record { within = within s marks law parts atoms.size p here; tree = h.node; arguments = inside }) in
+        let truths : HasTruths s.trees table clauses p Not is = part.of_bools (bools_at p is here marked bool is_so.bools) in
+        let own : truths.number ≡ n = one_place table truths.number n (Truth p) atoms.apart truths.here h.atom in
+        let others : truths.numbers ≡ m ∷ [] = one_number table h.argument truths.numbers m atoms.apart truths.are h.negated in
+        subst (λ xs. All (IsKeptTurned s.trees table clauses) (literals_of_node Not n xs)) others
+        (subst (λ t. All (IsKeptTurned s.trees table clauses) (literals_of_node Not t truths.numbers)) own truths.kept)
 
     -- the kept clauses of a node of Bools force a clause of it
     truths_force : (p : ℕ) (o : Operator) (is : List ℕ) (ss : List Sign) → p < length s.trees → All (λ i. i < length s.trees) is → tree_at s.trees p ≡ tree_with s.trees (Theory o) is
-        → HasTruths table clauses p o is → IsBoolNode ds s.trees o is → HasClauseAt s.trees law.in_order ds o p is ss → IsForced table known ss
+        → HasTruths s.trees table clauses p o is → IsBoolNode ds s.trees o is → HasClauseAt s.trees law.in_order ds o p is ss → IsForced table known ss
     truths_force p o is ss here inside tree h is_so c =
         let other : Contains is p → ⊥ = not_own s.trees law.in_order p (Theory o) is here tree in
         let own : HasNumber table p = found table p (contained table h.number (Truth p) h.here) in
         let number : h.number ≡ number_of table p = number_is table h.number p atoms.apart h.here in
-        let kept : All (HasClause clauses) (literals_of_node o (number_of table p) h.numbers) = subst (λ n. All (HasClause clauses) (literals_of_node o n h.numbers)) number h.kept in
-        let each : (d : List Signed) → Contains (map (map (numbered table)) (node_clauses o p is)) d → HasClause clauses d =
-        each_numbered table rename (HasClause clauses) (length s.trees) p o is h.numbers inside (numbers_are table is h.numbers atoms.apart h.are) kept in
+        let kept : All (IsKeptTurned s.trees table clauses) (literals_of_node o (number_of table p) h.numbers) = subst (λ n. All (IsKeptTurned s.trees table clauses) (literals_of_node o n h.numbers)) number h.kept in
+        let each : (d : List Signed) → Contains (map (map (numbered table)) (node_clauses o p is)) d → IsKeptTurned s.trees table clauses d =
+        each_numbered table rename (IsKeptTurned s.trees table clauses) (length s.trees) p o is h.numbers inside (numbers_are table is h.numbers atoms.apart h.are) kept in
         is_forced table known p o is ss other c.clause own (numbers_found table is h.numbers h.are)
-        (forces_more opposite (map (map (numbered table)) (node_clauses o p is)) known (map (numbered table) ss) (λ d k. in_known d (each d k))
+        (forces_turned s.trees table clauses negations known among (map (map (numbered table)) (node_clauses o p is)) each (map (numbered table) ss)
         (forces_numbered table force p o is ss (fits_of s.trees ds o is is_so.stands c.has) other c.clause))
 
     part_forced : (p : ℕ) (o : Operator) (us : Trees) (ss : List Sign) (is : List ℕ) → IsMarked marks p → tree_at s.trees p ≡ node (Theory o) us → All (λ i. i < length s.trees) is
@@ -93,8 +119,7 @@ module _ (s : Stack) (marks : List Bool) (sorts : List Sort) (table : List Atom)
         let is_so : IsBoolNode ds s.trees o is = is_node ds s.trees o is (sort_at sorts p) (sym (ap (tree_sort ds) tree) ∙ sort_there p m) clause.has in
         let bool : is_bool_at ds s.trees p ≡ true = ap (λ t. is_bool (tree_sort ds t)) tree ∙ is_so.bool in
         let marked : All (IsMarked marks) is = arguments_marked s marks law parts atoms.size p (Theory o) is m tree inside in
-        let bools : AreBools sorts (p ∷ is) =
-        All-cons (λ q. sort_at sorts q ≡ Truths) p is (listed_bool p m bool) (λ k d l. listed_bool (get_or is k d) (marked k d l) (is_so.bools k d l)) in
+        let bools : AreBools sorts (p ∷ is) = bools_at p is m marked bool is_so.bools in
         let part = has p o is m (record { within = here; tree = tree; arguments = inside }) in
         truths_force p o is ss here inside tree (part.of_bools bools) is_so clause
 

@@ -21,21 +21,22 @@ use Rattle.stack_atoms.specs.Parts.{IsMarked}
 use Rattle.stack_atoms.proofs.Marking.{same_arguments}
 use Rattle.check_atoms.specs.OfStack.{IsNode}
 use Rattle.part_clauses.specs.First.{HasClause}
-use Rattle.part_clauses.proofs.Keeping.{clause_stays}
+use Rattle.part_clauses.proofs.Keeping.{clause_stays, all_turned_stay}
 use Rattle.check_clauses.specs.First.{HasTruths, HasPart, HasPartAt, HasParts}
 
 module _ (old new : List Kept) (stay : (c : Kept) → Contains old c → Contains new c) where
   all_stay : (cs : List (List Signed)) → All (HasClause old) cs → All (HasClause new) cs
   all_stay cs h = All-weaker (HasClause old) (HasClause new) (clause_stays old new stay) cs h
 
-  truths_stay : (table : List Atom) (p : ℕ) (o : Operator) (is : List ℕ) → HasTruths table old p o is → HasTruths table new p o is
-  truths_stay table p o is h = record { number = h.number; numbers = h.numbers; here = h.here; are = h.are; kept = all_stay (literals_of_node o h.number h.numbers) h.kept }
+  truths_stay : (trees : List Tree) (table : List Atom) (p : ℕ) (o : Operator) (is : List ℕ) → HasTruths trees table old p o is → HasTruths trees table new p o is
+  truths_stay trees table p o is h =
+      record { number = h.number; numbers = h.numbers; here = h.here; are = h.are; kept = all_turned_stay trees table old new (literals_of_node o h.number h.numbers) stay h.kept }
 
   pub part_stays : (s : Stack) (marks : List Bool) (sorts : List Sort) (table : List Atom) (p : ℕ) → HasPartAt s marks sorts table old p → HasPartAt s marks sorts table new p
   part_stays s marks sorts table p h = λ o is m n.
       let part : HasPart s sorts table old p o is = h o is m n in
       record {
-        of_bools = λ all. truths_stay table p o is (part.of_bools all);
+        of_bools = λ all. truths_stay s.trees table p o is (part.of_bools all);
         of_others = λ none. all_stay (part_clauses_of sorts s.trees table o p is) (part.of_others none);
       }
 

@@ -1,4 +1,4 @@
--- The first clauses of a search over a stack with integers: what each says follows from the stack, the assertions are among them, and they force the clauses of each part.
+-- The first clauses of a search over a stack: what each says follows from the stack, the assertions are among them, and they force the clauses of each part.
 use Rattle.std.specs.Prelude.{◌≡◌, ℕ, false, Bool, List, ◌∷◌, map, All}
 use Rattle.clause_store.specs.Stored.{Kept, Stored}
 use Rattle.smt_meaning.specs.declared.values.Sort.{Sort}
@@ -7,7 +7,7 @@ use Rattle.smt_meaning.specs.declared.terms.Operator.{Operator}
 use Rattle.smt_meaning.specs.declared.terms.Head.TheVariants.{Theory}
 use Rattle.smt_meaning.specs.declared.clauses.Atom.{Atom}
 use Rattle.smt_meaning.specs.declared.clauses.Atom.TheVariants.{Truth}
-use Rattle.smt_meaning.specs.Term.{tree_at}
+use Rattle.smt_meaning.specs.Term.{Tree, tree_at}
 use Rattle.smt_meaning.specs.TreeShape.{is_linear}
 use Rattle.smt_meaning.specs.Stack.{assertions_of}
 use Rattle.smt_meaning.specs.StackCommand.{Stack}
@@ -22,6 +22,7 @@ use Rattle.order_clauses.specs.Errors.{IsCause}
 use Rattle.clause_form.specs.Node.{literals_of_node}
 use Rattle.atom_table.specs.Numbers.{IsAt}
 use Rattle.part_clauses.specs.Numbers.{AreNumbers}
+use Rattle.part_clauses.specs.Turned.{IsKeptTurned}
 use Rattle.part_clauses.specs.First.{IsBegun, IsAsserted, HasClause, ForcesParts}
 use Rattle.check_clauses.specs.declared.error.FirstError.{FirstError}
 use Rattle.check_clauses.specs.declared.error.FirstError.TheVariants.{Part, NotLinear, Memory}
@@ -36,13 +37,13 @@ pub record IsFirst (s : Stack) (table : List Atom) (stored : Stored) : Type 0 wh
   pub assertions : All (IsAsserted s.trees table stored.clauses) (assertions_of s.frames)
   pub forced : ForcesParts s table (map (λ (c : Kept). c.literals) stored.clauses)
 
--- the clauses of a node with this operator, over the truths of it and of its arguments, are kept
-pub record HasTruths (table : List Atom) (clauses : List Kept) (place : ℕ) (o : Operator) (is : List ℕ) : Type 0 where
+-- the clauses of a node with this operator, over the truths of it and of its arguments, are kept, the longer ones perhaps with what negations negate
+pub record HasTruths (trees : List Tree) (table : List Atom) (clauses : List Kept) (place : ℕ) (o : Operator) (is : List ℕ) : Type 0 where
   pub number : ℕ
   pub numbers : List ℕ
   pub here : IsAt table number (Truth place)
   pub are : AreNumbers table (truth_atoms is) numbers
-  pub kept : All (HasClause clauses) (literals_of_node o number numbers)
+  pub kept : All (IsKeptTurned trees table clauses) (literals_of_node o number numbers)
 
 -- by the listed sorts it and these are Bools
 abbrev pub AreBools : List Sort → List ℕ → Type 0
@@ -50,7 +51,7 @@ AreBools sorts ps = All (λ p. sort_at sorts p ≡ Truths) ps
 
 -- the clauses of the term at a place are kept: of a node of Bools those of its operator over their truths, of another those that tie it to what it compares or chooses
 pub record HasPart (s : Stack) (sorts : List Sort) (table : List Atom) (clauses : List Kept) (place : ℕ) (o : Operator) (is : List ℕ) : Type 0 where
-  pub of_bools : AreBools sorts (place ∷ is) → HasTruths table clauses place o is
+  pub of_bools : AreBools sorts (place ∷ is) → HasTruths s.trees table clauses place o is
   pub of_others : (AreBools sorts (place ∷ is) → ⊥) → All (HasClause clauses) (part_clauses_of sorts s.trees table o place is)
 
 -- so are those of the term at this place, if it is a part with an operator

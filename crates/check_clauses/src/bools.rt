@@ -15,11 +15,12 @@ ghost use Rattle.part_clauses.specs.First.{IsBegun};
 ghost use Rattle.part_clauses.specs.Numbers.{AreNumbers};
 ghost use Rattle.check_clauses.specs.First.{reading_of, AreBools, HasTruths};
 
-use crate::keep::keep_all;
+use crate::turn::keep_all_turned;
 use atom_numbers::AtomNumbers;
 use atom_table::CompactAtom;
 use clause_form::{Clauses, Room, node_clauses_hold, put_node};
 use clause_store::store::Store;
+use literals::Literal;
 use scope_stack::Stack;
 use smt_laws::{flat_says_the_same, value_has_its_sort};
 use smt_meaning::{Operator, Sort, TermId};
@@ -30,6 +31,7 @@ use std::alloc::{AllocError, Global};
 pub(crate) struct Space {
     numbers: Vec<u32>,
     clauses: Clauses,
+    turned: Vec<Literal>,
     room: Room,
 }
 
@@ -38,6 +40,7 @@ impl Space {
         Space {
             numbers: Vec::new(alloc),
             clauses: Clauses::new(alloc),
+            turned: Vec::new(alloc),
             room: Room::new(alloc),
         }
     }
@@ -120,7 +123,7 @@ pub(crate) fn keep_bools(
     requires begun { IsBegun (reading_of stack.now atoms.now.atoms) store.old }
     ensures begun { OnOk result (IsBegun (reading_of stack.now atoms.now.atoms) store.new) }
     ensures stay { (c : Kept) → Contains store.old.clauses c → Contains store.new.clauses c }
-    ensures has { OnOk result (HasTruths atoms.now.atoms store.new.clauses place operator arguments.now) }
+    ensures has { OnOk result (HasTruths stack.now.trees atoms.now.atoms store.new.clauses place operator arguments.now) }
 {
     node_clauses_hold();
     value_has_its_sort();
@@ -138,5 +141,5 @@ pub(crate) fn keep_bools(
         number,
         &space.numbers,
     )?;
-    keep_all(store, &space.clauses)
+    keep_all_turned(stack, atoms, store, &space.clauses, &mut space.turned)
 }

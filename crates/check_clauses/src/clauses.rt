@@ -13,14 +13,15 @@ ghost use Rattle.part_clauses.specs.First.{IsAsserted, IsBegun};
 ghost use Rattle.check_clauses.specs.First.{reading_of, IsFirst, IsRefused, HasParts};
 
 use crate::error::FirstError;
-use crate::keep::keep;
 use crate::laws::kept_parts_are_forced;
 use crate::nodes::keep_parts;
+use crate::triangles::keep_triangles;
 use atom_numbers::AtomNumbers;
 use atom_table::CompactAtom;
 use check_atoms::CheckAtoms;
 use clause_store::store::Store;
 use literals::Literal;
+use part_clauses::keep;
 use scope_stack::{Assertion, Stack};
 use smt_laws::flat_says_the_same;
 use smt_meaning::{Sort, TermId};
@@ -71,8 +72,8 @@ fn keep_assertions(
 }
 
 /// The clauses that a search begins with, at level 0: of each part that is a node of Bools those of its operator over their truths, of each other part those that tie
-/// it to what it compares or chooses, and for each assertion the clause that it is true. They force the clauses of each part. An `Err` says that memory is wanting, or which part's clauses can't be put
-/// and why. The atoms and the forms stay as they are.
+/// it to what it compares or chooses, and for each assertion the clause that it is true. They force the clauses of each part. Of each triangle that is one, two
+/// equalities give the third. An `Err` says that memory is wanting, or which part's clauses can't be put and why. The atoms and the forms stay as they are.
 pub fn check_clauses(
     alloc: Global,
     stack: &Stack,
@@ -92,6 +93,7 @@ pub fn check_clauses(
     kept_parts_are_forced();
     let mut store = Store::new(alloc);
     store.reserve(parts.atoms.len() as u32)?;
+    keep_triangles(stack, &parts.atoms, &parts.triangles, &mut store)?;
     keep_parts(
         alloc,
         stack,

@@ -1,8 +1,7 @@
 //! What the first clauses are for, as contracts of functions that do nothing.
 ghost use Rattle.check_clauses.specs.Laws.{FirstClausesSayAssertions, SignatureStays, EmptyClauseMeansNoModel, KeptPartsAreForced, MoreForceParts};
 
-use assertion_form::node_clauses_are_renamed;
-use clause_form::node_clauses_force;
+use clause_form::{node_clauses_are_renamed, node_clauses_force};
 use smt_laws::flat_says_the_same;
 
 /// What makes the first clauses true makes the assertions true, also where the search has numbered more atoms.

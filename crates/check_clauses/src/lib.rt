@@ -1,18 +1,20 @@
-//! The first clauses of a search over a stack with integers: those that say of each part what its
-//! operator does, and that the assertions are true.
+//! The first clauses of a search over a stack: those that say of each part what its operator does,
+//! and that the assertions are true.
 //!
-//! `check_clauses`: in the store that a search begins with each clause follows, each assertion is
-//! one, of each part the clauses of its operator are kept, and together they force every node
-//! clause of every part.
+//! `check_clauses`: in the store that a search begins with each clause follows, also that two
+//! equalities of a triangle give the third. Each assertion is one, of each part the clauses of its
+//! operator are kept, the longer ones with what negations negate, and together they force every
+//! node clause of every part.
 #![tactic(auto)]
 
 mod bools;
 mod clauses;
 mod error;
-mod keep;
 mod laws;
 mod nodes;
 mod shapes;
+mod triangles;
+mod turn;
 
 pub use clauses::check_clauses;
 pub use error::FirstError;

@@ -22,13 +22,13 @@ ghost use Rattle.check_clauses.specs.Shapes.{AreFlags};
 
 use crate::bools::{Space as BoolSpace, are_bools, keep_bools};
 use crate::error::FirstError;
-use crate::keep::keep_all;
 use crate::shapes::linear_terms;
 use atom_numbers::AtomNumbers;
 use clause_form::Clauses;
 use clause_store::store::Store;
 use linear_forms::LinearForms;
 use order_clauses::{PartError, Space as PartSpace, put_part};
+use part_clauses::keep_all;
 use scope_stack::Stack;
 use smt_laws::flat_says_the_same;
 use smt_meaning::{Head, Operator, Sort, TermId};

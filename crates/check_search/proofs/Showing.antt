@@ -20,7 +20,7 @@ use Rattle.smt_meaning.specs.StackCommand.{Stack}
 use Rattle.smt_meaning.specs.Atoms.{stack_atoms}
 use Rattle.smt_meaning.specs.CheckAtoms.{IsBoundOf, IsCheckAtom}
 use Rattle.smt_meaning.specs.Ranges.{LeavesRange}
-use Rattle.smt_meaning.specs.Report.{IsUnit, AreUnits, basis_after, is_unlimited, most_units}
+use Rattle.smt_meaning.specs.Report.{IsPastRange, IsUnit, AreUnits, basis_after, is_unlimited, most_units}
 use Rattle.scope_stack.specs.Shown.{IsLawful}
 use Rattle.search_port.specs.State.{Reading, TheoryState, IsGrown, atom_at}
 use Rattle.search_port.specs.Showing.{IsShowing}
@@ -35,12 +35,12 @@ use Rattle.search_port.specs.declared.budget.Spent.TheVariants.{Learnt, Numbered
 use Rattle.search_port.proofs.Forcing.{in_map}
 use Rattle.search_port.proofs.Pivots.{bound_by, pivots_by}
 use Rattle.smt_laws.specs.Flat.{flat, FlatSaysTheSame}
-use Rattle.check_atoms.specs.Laws.{IsSameOfBools}
+use Rattle.check_atoms.specs.Laws.{IsSameOfNoInts}
 use Rattle.part_clauses.specs.First.{ForcesParts, IsAsserted, IsForced, written_literal}
 use Rattle.check_clauses.specs.First.{reading_of, IsFirst}
 use Rattle.cdcl_core.specs.Search.{literal_lists}
 use Rattle.cdcl_core.specs.Turns.{AreNew, IsShown, IsOfTheory, Searches}
-use Rattle.check_search.specs.Shown.{HasStackAtoms, unit_of, IsOfNumbers, NumbersNoBools, ShowsUnits}
+use Rattle.check_search.specs.Shown.{HasStackAtoms, unit_of, IsOfNumbers, NumbersIntsAlone, ShowsUnits}
 use Rattle.check_search.proofs.Lists.{Cut, cut, IsAfter, in_order, all_of, at_any, first_or_later, front_in, in_middle}
 use Rattle.check_search.proofs.Numbers.{same_front}
 use Rattle.check_search.proofs.SameStack.{check_atom_by, branches_by, range_by, sums_by}
@@ -92,6 +92,18 @@ shown_by_levels flatly s t x trees frames h =
           (check_atom_by s.trees (flat s.frames) s.frames (flatly s.frames).signature (flatly s.frames).assertions x.branches) t.reading.table flatly_shown.atoms;
       different = flatly_shown.different;
       seen = seen_by flatly s t.variables.sums x.branches x.seen flatly_shown.seen;
+    }
+
+-- what the theory has seen leave the range
+pub past_range : FlatSaysTheSame → (s : Stack) (t : TheoryState) (x : Showing) (seen : RangeSeen) → t.reading.trees ≡ s.trees → t.reading.frames ≡ flat s.frames → IsShowing t x → x.seen ≡ Some seen
+    → IsPastRange s.trees s.frames x.branches seen
+past_range flatly s t x seen trees frames h is =
+    let shown : IsShowing (by_levels s t) x = shown_by_levels flatly s t x trees frames h in
+    record {
+      sums = t.variables.sums;
+      known = shown.sums;
+      are_branches = shown.branches;
+      leaves = subst (λ (o : Option RangeSeen). IfSome o (LeavesRange s.trees s.frames t.variables.sums (IsCheckAtom s.trees s.frames x.branches))) is shown.seen;
     }
 
 -- ---- pivots among written units
@@ -210,14 +222,14 @@ module _ (laws : Laws) (s : Stack) (stored new : Stored) (lawful : IsLawful s) (
   first_number : (a : Atom) → Contains t.reading.table a → (m : ℕ) × (m < length t.reading.table) × (atom_at u.reading.table m ≡ a)
   first_number a k = (k.0, k.1, ap (λ (xs : List Atom). atom_at xs k.0) table_is ∙ same_front t.reading.table more k.0 k.1 ∙ at_any t.reading.table k.0 (Truth 0) a k.1 ∙ k.2)
 
-  of_stack : (a : Atom) → Contains (stack_atoms s.trees s.frames) a → ((m : ℕ) × (m < length t.reading.table) × (atom_at u.reading.table m ≡ a)) ⊎ IsSameOfBools s a
+  of_stack : (a : Atom) → Contains (stack_atoms s.trees s.frames) a → ((m : ℕ) × (m < length t.reading.table) × (atom_at u.reading.table m ≡ a)) ⊎ IsSameOfNoInts s a
   of_stack a h = elim (all a h) [ inl k ↦ inl (first_number a k) | inr b ↦ inr b ]
 
   -- where there is a limit, the pivots go on from the basis before any
   are_pivots : is_unlimited limit ≡ false → ArePivots u c.units
   are_pivots counted = run.turns.pivots (budget.keeps ∙ ap not counted) (subst (λ (us : List Spent). ArePivots t us) (sym budget.units) (record { lines = tt; basis = basis }))
 
-  module _ (x : Showing) (shown : IsShowing (by_levels s u) x) (others : All (NumbersNoBools s) (map (unit_of u.reading.table (depth s.frames)) c.units)) where
+  module _ (x : Showing) (shown : IsShowing (by_levels s u) x) (others : All (NumbersIntsAlone s) (map (unit_of u.reading.table (depth s.frames)) c.units)) where
     last : IsLast s x.branches stored u.reading
     last = record {
       trees = trees_stay s t.reading u.reading begins run.turns.grown;
@@ -238,7 +250,7 @@ module _ (laws : Laws) (s : Stack) (stored new : Stored) (lawful : IsLawful s) (
         let order : IsAfter (length t.reading.table) n (numbers before) =
         in_order (numbers before) (numbers after) n (length t.reading.table) (length more) (sym (numbers_of_both before (Numbered n ∷ after)) ∙ ap numbers (sym e) ∙ numbers_are) in
         newly_numbered s x.branches stored u.reading last lawful (length t.reading.table) of_stack n order.from (All-contains (IsShown u.reading) c.units (Numbered n) shown_all here)
-        (All-contains (NumbersNoBools s) (map (unit_of u.reading.table (depth s.frames)) c.units) (unit_of u.reading.table (depth s.frames) (Numbered n)) others
+        (All-contains (NumbersIntsAlone s) (map (unit_of u.reading.table (depth s.frames)) c.units) (unit_of u.reading.table (depth s.frames) (Numbered n)) others
         (in_map (unit_of u.reading.table (depth s.frames)) c.units (Numbered n) here)) before
         (λ m among. All-contains (λ k. k < n) (numbers before) m order.greater (has_number before m among)) (depth s.frames)
     one_unit before after (Learnt d) e =

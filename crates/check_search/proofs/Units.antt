@@ -40,7 +40,7 @@ use Rattle.search_port.specs.declared.budget.Spent.TheVariants.{Learnt, Numbered
 use Rattle.search_port.proofs.Forcing.{ComesBy, from_map, in_map}
 use Rattle.clause_form.proofs.More.{forces_more}
 use Rattle.smt_laws.specs.Flat.{flat, FlatSaysTheSame, SaysTheSame}
-use Rattle.check_atoms.specs.Laws.{IsSameOfBools}
+use Rattle.check_atoms.specs.Laws.{IsSameOfNoInts}
 use Rattle.part_clauses.specs.First.{ForcesParts, IsAsserted, IsForced, written_literal, unit as unit_clause}
 use Rattle.cdcl_core.specs.Search.{literal_lists}
 use Rattle.cdcl_core.specs.Turns.{AreNew, IsNewUnit, IsUnforced, IsShown}
@@ -246,8 +246,8 @@ module _ (s : Stack) (branches : List Line) (stored : Stored) (q : Reading) (las
   abbrev pub HasFirstNumber : ℕ → Atom → Type 0
   HasFirstNumber first a = (m : ℕ) × (m < first) × (atom_at q.table m ≡ a)
 
-  module _ (first : ℕ) (of_stack : (a : Atom) → Contains (stack_atoms s.trees s.frames) a → HasFirstNumber first a ⊎ IsSameOfBools s a) (n : ℕ) (from : first ≤ n) (within : n < length q.table)
-      (other : IsSameOfBools s (atom_at q.table n) → ⊥) where
+  module _ (first : ℕ) (of_stack : (a : Atom) → Contains (stack_atoms s.trees s.frames) a → HasFirstNumber first a ⊎ IsSameOfNoInts s a) (n : ℕ) (from : first ≤ n) (within : n < length q.table)
+      (other : IsSameOfNoInts s (atom_at q.table n) → ⊥) where
     not_of_first : HasFirstNumber first (atom_at q.table n) → ⊥
     not_of_first h =
         let below : h.0 < first = h.1 in

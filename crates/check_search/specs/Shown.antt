@@ -1,5 +1,5 @@
 -- What a search asks of its first atoms, and what its worker shows of the units that it has spent.
-use Rattle.std.specs.Prelude.{◌≡◌, ◌⊎◌, ℕ, ℤ, ◌<◌, List, ◌∷◌, ◌++◌, map, Option, Some, All, Contains}
+use Rattle.std.specs.Prelude.{◌⊎◌, ℕ, ℤ, ◌<◌, List, map, All, Contains}
 use Rattle.literals.specs.Signed.{Signed}
 use Rattle.smt_meaning.specs.declared.clauses.Atom.{Atom}
 use Rattle.smt_meaning.specs.declared.clauses.Clause.{Clause}
@@ -15,12 +15,12 @@ use Rattle.search_port.specs.Showing.{IsShowing}
 use Rattle.search_port.specs.declared.budget.Spent.{Spent}
 use Rattle.search_port.specs.declared.budget.Spent.TheVariants.{Learnt, Numbered, Pivot}
 use Rattle.search_port.specs.declared.shown.Showing.{Showing}
-use Rattle.check_atoms.specs.Laws.{IsSameOfBools}
+use Rattle.check_atoms.specs.Laws.{IsSameOfNoInts}
 use Rattle.part_clauses.specs.First.{written_literal}
 
--- each atom of the assertions has a number, but for equalities of Bools
+-- each atom of the assertions has a number, but for equalities of terms of a sort that isn't Int
 abbrev pub HasStackAtoms : Stack → List Atom → Type 0
-HasStackAtoms s table = (a : Atom) → Contains (stack_atoms s.trees s.frames) a → Contains table a ⊎ IsSameOfBools s a
+HasStackAtoms s table = (a : Atom) → Contains (stack_atoms s.trees s.frames) a → Contains table a ⊎ IsSameOfNoInts s a
 
 -- ---- units with their atoms written out
 
@@ -38,13 +38,13 @@ IsOfNumbers n (Learnt c) = All (λ (l : Signed). l.atom < n) c.literals
 IsOfNumbers n (Numbered k) = k < n
 IsOfNumbers n (Pivot l) = Unit {0}
 
--- the unit numbers no equality of Bools
-abbrev pub NumbersNoBools : Stack → ShownUnit → Type 0
-NumbersNoBools s (Shown.Learnt c) = Unit {0}
-NumbersNoBools s (Shown.Numbered a) = IsSameOfBools s a → ⊥
-NumbersNoBools s (Shown.Pivot l) = Unit {0}
+-- an equality that the unit numbers is one of Ints
+abbrev pub NumbersIntsAlone : Stack → ShownUnit → Type 0
+NumbersIntsAlone s (Shown.Learnt c) = Unit {0}
+NumbersIntsAlone s (Shown.Numbered a) = IsSameOfNoInts s a → ⊥
+NumbersIntsAlone s (Shown.Pivot l) = Unit {0}
 
--- with what a theory in this state shows, its worker shows that these are all units that it may spend, their clauses at the level of the whole stack, if they number no equality of Bools
+-- with what a theory in this state shows, its worker shows that these are all units that it may spend, their clauses at the level of the whole stack, if they number no equality but of Ints
 abbrev pub ShowsUnits : Stack → ℤ → TheoryState → List Spent → Type 0
 ShowsUnits s limit t us =
-    (x : Showing) → IsShowing t x → All (NumbersNoBools s) (map (unit_of t.reading.table (depth s.frames)) us) → Shows s.trees s.frames limit 0 x.branches (Units (map (unit_of t.reading.table (depth s.frames)) us))
+    (x : Showing) → IsShowing t x → All (NumbersIntsAlone s) (map (unit_of t.reading.table (depth s.frames)) us) → Shows s.trees s.frames limit 0 x.branches (Units (map (unit_of t.reading.table (depth s.frames)) us))

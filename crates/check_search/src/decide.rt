@@ -1,17 +1,19 @@
 //! The search.
-ghost use Rattle.std.specs.Prelude.{◌≡◌, [], not, map, IfOk};
+ghost use Rattle.std.specs.Prelude.{◌≡◌, [], map, IfOk};
 ghost use Rattle.scope_stack.specs.declared.answers.Assertion.{Assertion as AssertionOf};
 ghost use Rattle.smt_meaning.specs.Interpretation.{AreTablesFor, meaning};
 ghost use Rattle.smt_meaning.specs.Stack.{signature_of, Holds};
-ghost use Rattle.smt_meaning.specs.Report.{is_unlimited, most_units};
+ghost use Rattle.smt_meaning.specs.Kinds.{has_no_integers};
 ghost use Rattle.fraction128.specs.Lines.{first_basis};
 ghost use Rattle.search_port.specs.Pivots.{AreBasic};
 ghost use Rattle.theory_port.specs.Verdicts.{IsVerdict};
 ghost use Rattle.cdcl_core.specs.Search.{AreAgreed};
 ghost use Rattle.check_clauses.specs.First.{reading_of, IsFirst};
+ghost use Rattle.check_search.specs.Endings.{EndsByMemory, MemoryAloneEnds};
 ghost use Rattle.check_search.specs.Shown.{HasStackAtoms};
 
 use crate::ending::{all_spent, stopped};
+use crate::limits::{has_limit, units_within};
 use crate::shown::unknown;
 use crate::still::Still;
 use cdcl_core::fresh_stands;
@@ -24,35 +26,10 @@ use search_order::Order;
 use search_port::{
     Budget, Cause as Ending, Shown, follows_as_written, forces_by_numbers, forces_in_turn,
 };
-use smt_laws::flat_says_the_same;
+use smt_laws::{flat_says_the_same, tables_interpret, value_has_its_sort};
 use smt_meaning::{Interp, Settings, TermId};
 use std::alloc::{AllocError, Global};
 use theory_port::Verdict;
-
-/// The most units of work of a check.
-const MOST_UNITS: u64 = 1 << 40;
-
-/// Whether there is a limit: under one learnt clauses and pivots are units too, and lines of pivots are kept.
-fn has_limit(settings: &Settings) -> bool
-    ensures { result ≡ not (is_unlimited settings.now.units) }
-{
-    settings.units > 0
-}
-
-/// How many units of work a check may spend under the limit in force, of which 0 stands for none.
-fn units_within(settings: &Settings) -> u64
-    ensures { result ≡ most_units settings.now.units }
-{
-    if settings.units <= 0 {
-        return MOST_UNITS;
-    }
-    let units = settings.units.unsigned_abs();
-    if units < 1 << 40 {
-        units as u64
-    } else {
-        MOST_UNITS
-    }
-}
 
 /// The places of the assertions.
 fn places_of(alloc: Global, assertions: &[Assertion]) -> Result<Vec<TermId>, AllocError>
@@ -65,17 +42,26 @@ fn places_of(alloc: Global, assertions: &[Assertion]) -> Result<Vec<TermId>, All
     Ok(places)
 }
 
-/// Tables that make the assertions true, if each number on the way is in the range.
+/// Tables that make the assertions true, if each number on the way is in the range. Where no part is an Int there is no number.
 fn model(
     alloc: Global,
     stack: &Stack,
     settings: &Settings,
+    is_integer_free: bool,
     tables: Interp,
 ) -> Result<Verdict, AllocError>
+    requires integers { is_integer_free ≡ has_no_integers stack.now.frames }
     requires tables { AreTablesFor (signature_of stack.now.frames) tables }
     requires holds { Holds (meaning tables) stack.now.frames }
-    ensures { IfOk result (IsVerdict stack.now.trees stack.now.frames settings.now.units) }
+    ensures verdict { IfOk result (IsVerdict stack.now.trees stack.now.frames settings.now.units) }
+    ensures memory { IfOk result EndsByMemory }
 {
+    if is_integer_free {
+        stack.laws();
+        tables_interpret();
+        value_has_its_sort();
+        return Ok(Verdict::Sat(tables));
+    }
     let places = places_of(alloc, stack.assertions())?;
     match values(alloc, &tables, stack.terms(), &places) {
         Ok(_) => Ok(Verdict::Sat(tables)),
@@ -84,21 +70,25 @@ fn model(
 }
 
 /// Searches from the first clauses on, with a theory that was told nothing and made no pivot: a model of all of them under which each number is in the range is one of the
-/// assertions, and where the empty clause follows, they have none. Where the search ends otherwise, its worker shows why. An `Err` is for want of memory.
+/// assertions, and where the empty clause follows, they have none. Where the search ends otherwise, its worker shows why: want of memory, if there is no limit and no part is an Int.
+/// An `Err` is for want of memory.
 pub fn search<T: Shown>(
     alloc: Global,
     stack: &Stack,
     settings: &Settings,
+    is_integer_free: bool,
     mut theory: T,
     mut store: Store,
 ) -> Result<Verdict, AllocError>
+    requires integers { is_integer_free ≡ has_no_integers stack.now.frames }
     requires first { IsFirst stack.now (T.state theory).reading.table store }
     requires reading { (T.state theory).reading ≡ reading_of stack.now (T.state theory).reading.table }
     requires untold { (T.state theory).log ≡ [] }
     requires basis { AreBasic (first_basis (T.state theory).variables.sums) (T.state theory).variables }
     requires agreed { AreAgreed T.agrees (T.state theory).reading store.clauses }
     requires all { HasStackAtoms stack.now (T.state theory).reading.table }
-    ensures { IfOk result (IsVerdict stack.now.trees stack.now.frames settings.now.units) }
+    ensures verdict { IfOk result (IsVerdict stack.now.trees stack.now.frames settings.now.units) }
+    ensures memory { IfOk result (MemoryAloneEnds stack.now.frames settings.now.units) }
 {
     stack.laws();
     first_clauses_say_assertions();
@@ -123,9 +113,16 @@ pub fn search<T: Shown>(
         &mut budget,
         &mut still,
     ) {
-        Outcome::Full(tables) => model(alloc, stack, settings, tables),
+        Outcome::Full(tables) => model(alloc, stack, settings, is_integer_free, tables),
         Outcome::False(_) => Ok(Verdict::Unsat),
-        Outcome::Ended(Ending::Units) => all_spent(alloc, stack, settings, theory, budget),
+        Outcome::Ended(Ending::Units) => all_spent(
+            alloc,
+            stack,
+            settings,
+            is_integer_free,
+            theory,
+            budget,
+        ),
         Outcome::Ended(Ending::Memory) => stopped(alloc, stack, settings, theory),
         Outcome::Ended(Ending::Cancelled(_)) => unreachable!(),
     }

@@ -1,11 +1,15 @@
 //! What is answered where a search ended on its way.
 ghost use Rattle.std.specs.Prelude.{◌≡◌, [], length, All, IfOk};
+ghost use Rattle.smt_meaning.specs.Kinds.{has_no_integers};
 ghost use Rattle.smt_meaning.specs.Report.{IsPastRange};
 ghost use Rattle.smt_laws.specs.Flat.{flat};
 ghost use Rattle.theory_port.specs.Verdicts.{IsVerdict};
+ghost use Rattle.check_search.specs.Endings.{MemoryAloneEnds};
 ghost use Rattle.check_search.specs.Shown.{IsOfNumbers, ShowsUnits};
 
-use crate::bools::some_numbers_bools;
+use crate::equalities::some_numbers_no_ints;
+use crate::limits::has_limit;
+use crate::plain::nothing_leaves_range;
 use crate::shown::{report, write_units};
 use scope_stack::Stack;
 use search_port::{Budget, Showing, Shown};
@@ -14,23 +18,29 @@ use smt_meaning::{Cause, RangeSeen, Seq, Settings};
 use std::alloc::{AllocError, Global};
 use theory_port::Verdict;
 
-/// The answer where all units are spent: its worker shows them, and the branches of the theory. A unit that is an equality of Bools shows nothing new, since the stack has that atom;
-/// a theory of integers spends none of these.
+/// The answer where all units are spent: its worker shows them, and the branches of the theory. A unit that is an equality of terms of a sort that isn't Int may show nothing new, since the stack may have that atom;
+/// a theory of integers spends none of these. Without a limit and without an Int the room for more units is wanting.
 pub(crate) fn all_spent<T: Shown>(
     alloc: Global,
     stack: &Stack,
     settings: &Settings,
+    is_integer_free: bool,
     theory: T,
     budget: Budget,
 ) -> Result<Verdict, AllocError>
+    requires integers { is_integer_free ≡ has_no_integers stack.now.frames }
     requires trees { (T.state theory).reading.trees ≡ stack.now.trees }
     requires frames { (T.state theory).reading.frames ≡ flat stack.now.frames }
     requires numbers { All (IsOfNumbers (length (T.state theory).reading.table)) budget.units }
     requires spent { ShowsUnits stack.now settings.now.units (T.state theory) budget.units }
-    ensures { IfOk result (IsVerdict stack.now.trees stack.now.frames settings.now.units) }
+    ensures verdict { IfOk result (IsVerdict stack.now.trees stack.now.frames settings.now.units) }
+    ensures memory { IfOk result (MemoryAloneEnds stack.now.frames settings.now.units) }
 {
+    if is_integer_free && !has_limit(settings) {
+        return stopped(alloc, stack, settings, theory);
+    }
     let units = write_units(alloc, &theory, stack.depth(), budget.into_units())?;
-    if some_numbers_bools(stack.sorts(), units.as_slice()) {
+    if some_numbers_no_ints(stack.sorts(), units.as_slice()) {
         return stopped(alloc, stack, settings, theory);
     }
     let shown = theory.show();
@@ -46,9 +56,12 @@ pub(crate) fn stopped<T: Shown>(
 ) -> Result<Verdict, AllocError>
     requires trees { (T.state theory).reading.trees ≡ stack.now.trees }
     requires frames { (T.state theory).reading.frames ≡ flat stack.now.frames }
-    ensures { IfOk result (IsVerdict stack.now.trees stack.now.frames settings.now.units) }
+    ensures verdict { IfOk result (IsVerdict stack.now.trees stack.now.frames settings.now.units) }
+    ensures memory { IfOk result (MemoryAloneEnds stack.now.frames settings.now.units) }
 {
+    stack.laws();
     flat_says_the_same();
+    nothing_leaves_range();
     let Showing { branches, seen } = theory.show();
     match seen {
         Some(seen) => report(alloc, Cause::Range(seen), branches),
@@ -64,9 +77,12 @@ pub fn out_of_range(
     seen: RangeSeen,
 ) -> Result<Verdict, AllocError>
     requires { IsPastRange stack.now.trees (flat stack.now.frames) [] seen }
-    ensures { IfOk result (IsVerdict stack.now.trees stack.now.frames settings.now.units) }
+    ensures verdict { IfOk result (IsVerdict stack.now.trees stack.now.frames settings.now.units) }
+    ensures memory { IfOk result (MemoryAloneEnds stack.now.frames settings.now.units) }
 {
+    stack.laws();
     flat_says_the_same();
+    nothing_leaves_range();
     let branches = Seq::new(alloc);
     report(alloc, Cause::Range(seen), branches)
 }

@@ -15,12 +15,15 @@
 //! that before it.
 #![tactic(auto)]
 
-mod bools;
 mod decide;
 mod ending;
+mod equalities;
+mod limits;
+mod plain;
 mod shown;
 mod still;
 
 pub use decide::search;
 pub use ending::out_of_range;
+pub use plain::nothing_leaves_range;
 pub use shown::unknown;

@@ -3,8 +3,10 @@ ghost use Rattle.std.specs.Prelude.{◌≡◌, ◌<◌, ℤ, List, length, map, 
 ghost use Rattle.literals.specs.Signed.{Signed};
 ghost use Rattle.smt_meaning.specs.Term.{Tree};
 ghost use Rattle.smt_meaning.specs.Stack.{Frame};
+ghost use Rattle.smt_meaning.specs.declared.reports.Cause.TheVariants.{Memory};
 ghost use Rattle.smt_meaning.specs.Report.{Shows};
 ghost use Rattle.theory_port.specs.Verdicts.{IsVerdict};
+ghost use Rattle.check_search.specs.Endings.{EndsByMemory};
 ghost use Rattle.check_search.specs.Shown.{clause_of, unit_of, IsOfNumbers};
 
 use fraction128::Line;
@@ -83,7 +85,8 @@ pub(crate) fn report(
     cause: Cause,
     branches: Seq<Line>,
 ) -> Result<Verdict, AllocError>
-    ensures { (ts : List Tree) (frames : List Frame) (limit : ℤ) → Shows ts frames limit 0 branches cause → IfOk result (IsVerdict ts frames limit) }
+    ensures verdict { (ts : List Tree) (frames : List Frame) (limit : ℤ) → Shows ts frames limit 0 branches cause → IfOk result (IsVerdict ts frames limit) }
+    ensures memory { cause ≡ Memory → IfOk result EndsByMemory }
 {
     let mut reports = Seq::new(alloc);
     reports.push(Report {
@@ -96,7 +99,8 @@ pub(crate) fn report(
 
 /// The answer that is left where memory is wanting: its one worker shows so.
 pub fn unknown(alloc: Global, stack: &Stack, settings: &Settings) -> Result<Verdict, AllocError>
-    ensures { IfOk result (IsVerdict stack.now.trees stack.now.frames settings.now.units) }
+    ensures verdict { IfOk result (IsVerdict stack.now.trees stack.now.frames settings.now.units) }
+    ensures memory { IfOk result EndsByMemory }
 {
     let branches = Seq::new(alloc);
     report(alloc, Cause::Memory, branches)

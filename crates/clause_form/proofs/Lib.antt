@@ -9,6 +9,7 @@ pub mod Ternary
 pub mod Forcing
 pub mod More
 pub mod Deciding
+pub mod Renaming
 pub mod Signs
 pub mod TrueClauses
 pub mod Over

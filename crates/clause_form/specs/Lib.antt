@@ -2,6 +2,7 @@ pub mod Parts
 pub mod Node
 pub mod Plain
 pub mod ForcedClausesLaws
+pub mod Renamed
 pub mod Signs
 pub mod NodeClauses
 pub mod WideClauses

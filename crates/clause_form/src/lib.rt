@@ -23,7 +23,7 @@ mod laws;
 mod list;
 mod node;
 
-pub use forced_clauses::{more_force_as_much, node_clauses_force};
+pub use forced_clauses::{more_force_as_much, node_clauses_are_renamed, node_clauses_force};
 pub use gates::Room;
 pub use laws::{node_clauses_decide, node_clauses_hold};
 pub use list::Clauses;

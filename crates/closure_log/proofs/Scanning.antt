@@ -1,6 +1,6 @@
 -- Where literals stand in a log.
 use Rattle.std.proofs.Common.{◌≡◌, ◌≢◌, ℕ, ◌<◌, ◌≤◌, ◌⊎◌, Bool, true, false, not, List, [], ◌∷◌, ◌++◌, length, take, min, Contains, refl, sym, ap, ◌∙◌, subst, inl, inr, arith}
-use Rattle.std.specs.Prelude.{zero, suc, ◌-◌, replicate, slice_index_or, slice_set}
+use Rattle.std.specs.Prelude.{zero, suc, ◌-◌, replicate, slice_index_or, slice_set, Option, Some, None, IfNone}
 use Rattle.std.proofs.lemmas.Bool.{cases_lt}
 use Rattle.std.proofs.lemmas.List.{length-take, length_push, get_or_append_left, get_or_push, get_or-take, get_or_default, get_or_past, get_or-append_right, get_or-set_same, get_or-set_other}
 use Rattle.literals.specs.Signed.{Signed, opposite}
@@ -93,3 +93,7 @@ same_with_zeros places more a = elim (cases_lt a (length places)) [
 -- zeros at the end change no place
 pub places_grown : (log : List Signed) (places : List ℕ) (more : ℕ) → ArePlaces log places → ArePlaces log (places ++ replicate more zero)
 places_grown log places more h = record { at = λ j m less is. same_with_zeros places more m.atom ∙ h.at j m less is }
+
+pub where_none : {A P : Type 0} (o : Option A) → o ≡ None → IfNone o P → P
+where_none None e h = h
+where_none (Some a) e h = absurd cc

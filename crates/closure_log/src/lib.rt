@@ -18,5 +18,5 @@ mod told;
 pub use implied::{infer, inferred, keep};
 pub use laws::what_was_told_stays;
 pub use said::Guide;
-pub use scan::{Scan, is_open};
+pub use scan::{Scan, is_open, told_of};
 pub use told::ClosureLog;

@@ -1,5 +1,5 @@
 //! Which atoms are open, and how far a scan over them has come.
-ghost use Rattle.std.specs.Prelude.{◌≡◌, ℕ, ◌<◌, ◌≤◌, true, [], ◌∷◌, ◌++◌, List, length, take, Contains, IfSome, OnOk, OnErr};
+ghost use Rattle.std.specs.Prelude.{◌≡◌, ℕ, ◌<◌, ◌≤◌, true, [], ◌∷◌, ◌++◌, List, length, take, Contains, IfSome, IfNone, OnOk, OnErr};
 ghost use Rattle.literals.specs.Signed.{Signed};
 ghost use Rattle.search_port.specs.State.{IsOpenIn};
 ghost use Rattle.closure_log.specs.Places.{ArePlaces};
@@ -23,17 +23,30 @@ pub struct Scan {
     pub(crate) explanation: Explanation,
 }
 
+/// The literal that the log has of an atom.
+pub fn told_of(places: &[usize], log: &[Literal], atom: u32) -> Option<Literal>
+    requires places { ArePlaces log.now places.now }
+    requires within { atom < length places.now }
+    ensures some { IfSome result (λ l. (l.atom ≡ atom) × Contains log.now l) }
+    ensures none { IfNone result ((l : Signed) → l.atom ≡ atom → IsOpenIn log.now l) }
+{
+    let place = places[atom as usize];
+    if place >= log.len() {
+        return None;
+    }
+    if log[place].atom() == atom {
+        return Some(log[place]);
+    }
+    None
+}
+
 /// Whether an atom isn't in the log, with either sign.
 pub fn is_open(places: &[usize], log: &[Literal], atom: u32) -> bool
     requires places { ArePlaces log.now places.now }
     requires within { atom < length places.now }
     ensures { result ≡ true → (l : Signed) → l.atom ≡ atom → IsOpenIn log.now l }
 {
-    let place = places[atom as usize];
-    if place >= log.len() {
-        return true;
-    }
-    log[place].atom() != atom
+    told_of(places, log, atom).is_none()
 }
 
 impl Scan {

@@ -227,8 +227,8 @@ equality_part_decided decided v log ts table int o p is h consistent fits made =
     (All-right (IsMadeTrue log) (flat_map (tie ts table int) qs) last made)
 
 pub choice_part_decided : EqualityIsDecided → ChoicePartIsDecided
-choice_part_decided decided v log ts table int p c i j consistent condition fits made =
+choice_part_decided decided v log ts table p c i j consistent condition fits made =
     let qs : List Pair = pair p i ∷ pair p j ∷ [] in
     let last : List (List Signed) = choice_clauses (truth_number table c) (same_number table (pair p i)) (same_number table (pair p j)) in
     chosen decided v log consistent ts table p c i j (truth_of (v c)) condition
-    (pairs_given decided v log consistent ts table int qs fits (All-left (IsMadeTrue log) (flat_map (tie ts table int) qs) last made)) (All-right (IsMadeTrue log) (flat_map (tie ts table int) qs) last made)
+    (pairs_given decided v log consistent ts table true qs fits (All-left (IsMadeTrue log) (flat_map (tie ts table true) qs) last made)) (All-right (IsMadeTrue log) (flat_map (tie ts table true) qs) last made)

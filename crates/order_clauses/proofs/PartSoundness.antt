@@ -1,6 +1,6 @@
 -- The clauses of each part are sound.
-use Rattle.std.proofs.Common.{◌≡◌, ℕ, true, false, List, [], ◌∷◌, All, Contains, refl}
-use Rattle.std.specs.Prelude.{IsTrue, Some}
+use Rattle.std.proofs.Common.{◌≡◌, ℕ, Bool, true, false, List, [], ◌∷◌, length, All, Contains, refl}
+use Rattle.std.specs.Prelude.{IsTrue, Some, nat_eq, if◌then◌else◌}
 use Rattle.std.proofs.lemmas.List.Elements.{All-cons, All-nil, All-head, All-tail}
 use Rattle.smt_meaning.specs.declared.values.Sort.{Sort}
 use Rattle.smt_meaning.specs.declared.values.Sort.TheVariants.{Bool as Truths, Int as Ints, Free}
@@ -15,7 +15,7 @@ use Rattle.smt_meaning.specs.Nodes.{pick}
 use Rattle.smt_laws.specs.TermLaws.{ValueHasItsSort}
 use Rattle.equality_clauses.specs.Laws.{compares, ComparisonIsTied, ComparisonIsOver, ChoiceIsTied, ChoiceIsOver, InterpretationAgrees}
 use Rattle.bound_clauses.specs.Laws.{IsReadable, OrderIsOver, EqualityIsOver, ConstantIsOver, OrderClausesAreTrue, EqualityClausesAreTrue, ConstantHasValue}
-use Rattle.order_clauses.specs.Clauses.{sort_at, unless_bool, equality_part, choice_part, part_clauses_of}
+use Rattle.order_clauses.specs.Clauses.{sort_at, by_sort, of_ints, equality_part, choice_part, part_clauses_of}
 use Rattle.order_clauses.specs.Needed.{atoms_of_equality, atoms_of_choice, atoms_of_part}
 use Rattle.order_clauses.specs.Sound.{HasSort, IsSound, AreSound}
 use Rattle.order_clauses.proofs.Sorting.{equal_ints, distinct_ints, choice_ints}
@@ -44,23 +44,25 @@ module _ (laws : Laws) (ds : List Declaration) (ts : List Tree) (table : List At
   AreInts is = All (λ i. tree_sort ds (tree_at ts i) ≡ Some Ints) is
 
   of_equality : (o : Operator) (p : ℕ) (is : List ℕ) (s : Sort) → IsTrue (compares o) → All (IsReadable ts) is → (s ≡ Ints → AreInts is) → tree_at ts p ≡ node (Theory o) (pick ts is)
-      → All (Contains table) (unless_bool s (λ int. atoms_of_equality ts int o p is)) → AreSound ds ts table (unless_bool s (λ int. equality_part ts table int o p is))
+      → All (Contains table) (by_sort s (length is) (λ int. atoms_of_equality ts int o p is)) → AreSound ds ts table (by_sort s (length is) (λ int. equality_part ts table int o p is))
   of_equality o p is Truths h readable ints e has = All-nil (IsSound ds ts table)
   of_equality o p is Ints h readable ints e has =
       equality_sound ds ts table laws.constant_over laws.constant_value laws.value_sort laws.equality_over laws.equality_true laws.comparison_tied laws.comparison_over laws.agrees true o p is h
       readable (λ _. ints refl) e has
-  of_equality o p is (Free a) h readable ints e has =
-      equality_sound ds ts table laws.constant_over laws.constant_value laws.value_sort laws.equality_over laws.equality_true laws.comparison_tied laws.comparison_over laws.agrees false o p is h
-      readable (λ x. no_int (AreInts is) x) e has
+  of_equality o p is (Free a) h readable ints e has = unless_two (nat_eq (length is) 2) has
+    where
+      unless_two : (two : Bool) → All (Contains table) (if two then [] else atoms_of_equality ts false o p is) → AreSound ds ts table (if two then [] else equality_part ts table false o p is)
+      unless_two true k = All-nil (IsSound ds ts table)
+      unless_two false k =
+          equality_sound ds ts table laws.constant_over laws.constant_value laws.value_sort laws.equality_over laws.equality_true laws.comparison_tied laws.comparison_over laws.agrees false o p is h
+          readable (λ x. no_int (AreInts is) x) e k
 
   of_choice : (p c i j : ℕ) (s : Sort) → All (IsReadable ts) (p ∷ i ∷ j ∷ []) → (s ≡ Ints → AreInts (p ∷ i ∷ j ∷ [])) → tree_at ts p ≡ node (Theory Ite) (pick ts (c ∷ i ∷ j ∷ []))
-      → All (Contains table) (unless_bool s (λ int. atoms_of_choice ts int p c i j)) → AreSound ds ts table (unless_bool s (λ int. choice_part ts table int p c i j))
+      → All (Contains table) (of_ints s (atoms_of_choice ts p c i j)) → AreSound ds ts table (of_ints s (choice_part ts table p c i j))
   of_choice p c i j Truths readable ints e has = All-nil (IsSound ds ts table)
   of_choice p c i j Ints readable ints e has =
-      choice_sound ds ts table laws.constant_over laws.constant_value laws.value_sort laws.equality_over laws.equality_true laws.choice_tied laws.choice_over true p c i j readable (λ _. ints refl) e has
-  of_choice p c i j (Free a) readable ints e has =
-      choice_sound ds ts table laws.constant_over laws.constant_value laws.value_sort laws.equality_over laws.equality_true laws.choice_tied laws.choice_over false p c i j readable
-      (λ x. no_int (AreInts (p ∷ i ∷ j ∷ [])) x) e has
+      choice_sound ds ts table laws.constant_over laws.constant_value laws.value_sort laws.equality_over laws.equality_true laws.choice_tied laws.choice_over p c i j readable (ints refl) e has
+  of_choice p c i j (Free a) readable ints e has = All-nil (IsSound ds ts table)
 
   pub part_sound : (o : Operator) (p : ℕ) (is : List ℕ) → tree_at ts p ≡ node (Theory o) (pick ts is) → All (HasSort ds ts sorts) (p ∷ is) → All (IsReadable ts) (p ∷ is)
       → All (Contains table) (atoms_of_part sorts ts o p is) → AreSound ds ts table (part_clauses_of sorts ts table o p is)

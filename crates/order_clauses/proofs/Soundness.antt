@@ -268,19 +268,19 @@ module _ (ds : List Declaration) (ts : List Tree) (table : List Atom) where
           (λ I i. (tied o (value_at ts I) (λ n. atom_true ts I (atom_at table n)) t ns is h (agrees ts I (atom_at table) o ns is (numbers_read table same_atom qs sames ∙ pairs_atoms o is))).0
           (ap (atom_true ts I) (number_read table (Truth p) truth) ∙ ap (λ u. truth_of (value I u)) e ∙ ap (λ vs. truth_of (operate o vs)) (values_picked ts I is))))
 
-      pub choice_sound : ChoiceIsTied → ChoiceIsOver → (int : Bool) (p c i j : ℕ) → All (IsReadable ts) (p ∷ i ∷ j ∷ []) → (int ≡ true → All (λ k. tree_sort ds (tree_at ts k) ≡ Some Ints) (p ∷ i ∷ j ∷ []))
-          → tree_at ts p ≡ node (Theory Ite) (pick ts (c ∷ i ∷ j ∷ [])) → All (Contains table) (atoms_of_choice ts int p c i j) → AreSound ds ts table (choice_part ts table int p c i j)
-      choice_sound tied choice_over int p c i j readable ints e has =
+      pub choice_sound : ChoiceIsTied → ChoiceIsOver → (p c i j : ℕ) → All (IsReadable ts) (p ∷ i ∷ j ∷ []) → All (λ k. tree_sort ds (tree_at ts k) ≡ Some Ints) (p ∷ i ∷ j ∷ [])
+          → tree_at ts p ≡ node (Theory Ite) (pick ts (c ∷ i ∷ j ∷ [])) → All (Contains table) (atoms_of_choice ts p c i j) → AreSound ds ts table (choice_part ts table p c i j)
+      choice_sound tied choice_over p c i j readable ints e has =
           let qs : List Pair = pair p i ∷ pair p j ∷ [] in
-          let truth : Contains table (Truth c) = All-head (Contains table) (Truth c) (flat_map (atoms_of_pair ts int) qs) has in
-          let rest : All (Contains table) (flat_map (atoms_of_pair ts int) qs) = All-tail (Contains table) (Truth c) (flat_map (atoms_of_pair ts int) qs) has in
-          let sames : All (λ q. Contains table (same_atom q)) qs = sames_known ts table int qs rest in
+          let truth : Contains table (Truth c) = All-head (Contains table) (Truth c) (flat_map (atoms_of_pair ts true) qs) has in
+          let rest : All (Contains table) (flat_map (atoms_of_pair ts true) qs) = All-tail (Contains table) (Truth c) (flat_map (atoms_of_pair ts true) qs) has in
+          let sames : All (λ q. Contains table (same_atom q)) qs = sames_known ts table true qs rest in
           let first : Contains table (Same p i) = All-head (λ q. Contains table (same_atom q)) (pair p i) (pair p j ∷ []) sames in
           let second : Contains table (Same p j) = All-head (λ q. Contains table (same_atom q)) (pair p j) [] (All-tail (λ q. Contains table (same_atom q)) (pair p i) (pair p j ∷ []) sames) in
           let t : ℕ = truth_number table c in
           let f : ℕ = same_number table (pair p i) in
           let s : ℕ = same_number table (pair p j) in
-          All-append (IsSound ds ts table) (flat_map (tie ts table int) qs) (choice_clauses t f s) (ties_sound int qs (choice_pairs int p i j readable ints) rest)
+          All-append (IsSound ds ts table) (flat_map (tie ts table true) qs) (choice_clauses t f s) (ties_sound true qs (choice_pairs p i j readable ints) rest)
           (sound_all (t ∷ f ∷ s ∷ []) (choice_clauses t f s)
           (choice_over t f s (number_apart table (Truth c) (Same p i) truth first (λ k. cc)) (number_apart table (Truth c) (Same p j) truth second (λ k. cc)))
           (All-cons (λ m. m < length table) t (f ∷ s ∷ []) (number_within table (Truth c) truth)
@@ -290,13 +290,13 @@ module _ (ds : List Declaration) (ts : List Tree) (table : List Atom) where
           (ap (atom_true ts I) (number_read table (Truth c) truth)) (ap (atom_true ts I) (number_read table (Same p i) first)) (ap (atom_true ts I) (number_read table (Same p j) second))).0
           (ap (value I) e)))
         where
-          choice_pairs : (b : Bool) (p i j : ℕ) → All (IsReadable ts) (p ∷ i ∷ j ∷ []) → (b ≡ true → All (λ k. tree_sort ds (tree_at ts k) ≡ Some Ints) (p ∷ i ∷ j ∷ [])) → All (IsReadablePair b) (pair p i ∷ pair p j ∷ [])
-          choice_pairs b p i j r s =
+          choice_pairs : (p i j : ℕ) → All (IsReadable ts) (p ∷ i ∷ j ∷ []) → All (λ k. tree_sort ds (tree_at ts k) ≡ Some Ints) (p ∷ i ∷ j ∷ []) → All (IsReadablePair true) (pair p i ∷ pair p j ∷ [])
+          choice_pairs p i j r s =
               let at_p : IsReadable ts p = All-head (IsReadable ts) p (i ∷ j ∷ []) r in
               let at_i : IsReadable ts i = All-head (IsReadable ts) i (j ∷ []) (All-tail (IsReadable ts) p (i ∷ j ∷ []) r) in
               let at_j : IsReadable ts j = All-head (IsReadable ts) j [] (All-tail (IsReadable ts) i (j ∷ []) (All-tail (IsReadable ts) p (i ∷ j ∷ []) r)) in
-              All-cons (IsReadablePair b) (pair p i) (pair p j ∷ [])
-              ((at_p, at_i), λ e. (All-contains (λ k. tree_sort ds (tree_at ts k) ≡ Some Ints) (p ∷ i ∷ j ∷ []) p (s e) (0, omega arith, refl), All-contains (λ k. tree_sort ds (tree_at ts k) ≡ Some Ints) (p ∷ i ∷ j ∷ []) i (s e) (1, omega arith, refl)))
-              (All-cons (IsReadablePair b) (pair p j) []
-              ((at_p, at_j), λ e. (All-contains (λ k. tree_sort ds (tree_at ts k) ≡ Some Ints) (p ∷ i ∷ j ∷ []) p (s e) (0, omega arith, refl), All-contains (λ k. tree_sort ds (tree_at ts k) ≡ Some Ints) (p ∷ i ∷ j ∷ []) j (s e) (2, omega arith, refl)))
-              (All-nil (IsReadablePair b)))
+              All-cons (IsReadablePair true) (pair p i) (pair p j ∷ [])
+              ((at_p, at_i), λ e. (All-contains (λ k. tree_sort ds (tree_at ts k) ≡ Some Ints) (p ∷ i ∷ j ∷ []) p s (0, omega arith, refl), All-contains (λ k. tree_sort ds (tree_at ts k) ≡ Some Ints) (p ∷ i ∷ j ∷ []) i s (1, omega arith, refl)))
+              (All-cons (IsReadablePair true) (pair p j) []
+              ((at_p, at_j), λ e. (All-contains (λ k. tree_sort ds (tree_at ts k) ≡ Some Ints) (p ∷ i ∷ j ∷ []) p s (0, omega arith, refl), All-contains (λ k. tree_sort ds (tree_at ts k) ≡ Some Ints) (p ∷ i ∷ j ∷ []) j s (2, omega arith, refl)))
+              (All-nil (IsReadablePair true)))

@@ -1,6 +1,6 @@
 -- The atoms of a part are among those of its stack.
-use Rattle.std.proofs.Common.{◌≡◌, ℕ, Bool, true, false, ◌&&◌, List, [], ◌∷◌, ◌++◌, map, All, Contains, refl, sym, ap, subst, ◌∙◌}
-use Rattle.std.specs.Prelude.{flat_map, IsTrue, Some, if◌then◌else◌}
+use Rattle.std.proofs.Common.{◌≡◌, ℕ, Bool, true, false, ◌&&◌, List, [], ◌∷◌, ◌++◌, length, map, All, Contains, refl, sym, ap, subst, ◌∙◌}
+use Rattle.std.specs.Prelude.{flat_map, IsTrue, Some, nat_eq, if◌then◌else◌}
 use Rattle.std.proofs.lemmas.List.Elements.{All-cons, All-nil, All-head, All-tail, All-append}
 use Rattle.smt_meaning.specs.declared.values.Sort.{Sort}
 use Rattle.smt_meaning.specs.declared.values.Sort.TheVariants.{Bool as Truths, Int as Ints, Free}
@@ -18,7 +18,7 @@ use Rattle.smt_meaning.specs.Atoms.{pair_atoms, of_neighbours_from, of_first_wit
 use Rattle.bound_clauses.specs.Orders.{order_atoms, bound_atom}
 use Rattle.bound_clauses.specs.Laws.{orders, OrdersAreComparisons}
 use Rattle.order_clauses.specs.Pairs.{pair, neighbours, with_each, each_two, pairs_of, orders_of_pair}
-use Rattle.order_clauses.specs.Clauses.{sort_at, unless_bool}
+use Rattle.order_clauses.specs.Clauses.{sort_at, by_sort, of_ints}
 use Rattle.order_clauses.specs.Needed.{atoms_of_order, atoms_of_pair, atoms_of_equality, atoms_of_choice, HaveTruths, PartAtomsAreOfStack}
 use Rattle.order_clauses.specs.Sound.{HasSort}
 use Rattle.order_clauses.proofs.Soundness.{All-left, All-right}
@@ -106,16 +106,20 @@ module _ (compared : OrdersAreComparisons) (ds : List Declaration) (ts : List Tr
   of_order o p is h truth has = All-cons (Contains table) (Truth p) (map (bound_atom ts) (order_atoms o is)) truth (subst (All (Contains table)) (compared ts ds o is h) has)
 
   of_sort : (s : Sort) (o : Operator) (p : ℕ) (is : List ℕ) → Contains table (Truth p) → ((int : Bool) → (int ≡ true → s ≡ Ints) → All (Contains table) (flat_map (atoms_of_pair ts int) (pairs_of o is)))
-      → All (Contains table) (unless_bool s (λ int. atoms_of_equality ts int o p is))
+      → All (Contains table) (by_sort s (length is) (λ int. atoms_of_equality ts int o p is))
   of_sort Truths o p is t f = All-nil (Contains table)
   of_sort Ints o p is t f = All-cons (Contains table) (Truth p) (flat_map (atoms_of_pair ts true) (pairs_of o is)) t (f true (λ x. refl))
-  of_sort (Free a) o p is t f = All-cons (Contains table) (Truth p) (flat_map (atoms_of_pair ts false) (pairs_of o is)) t (f false (λ x. no_int (Free a ≡ Ints) x))
+  of_sort (Free a) o p is t f = unless_two (nat_eq (length is) 2)
+    where
+      unless_two : (two : Bool) → All (Contains table) (if two then [] else atoms_of_equality ts false o p is)
+      unless_two true = All-nil (Contains table)
+      unless_two false = All-cons (Contains table) (Truth p) (flat_map (atoms_of_pair ts false) (pairs_of o is)) t (f false (λ x. no_int (Free a ≡ Ints) x))
 
-  of_choice : (p c i j : ℕ) (s : Sort) → Contains table (Truth c) → ((int : Bool) → (int ≡ true → s ≡ Ints) → All (Contains table) (flat_map (atoms_of_pair ts int) (pair p i ∷ pair p j ∷ [])))
-      → All (Contains table) (unless_bool s (λ int. atoms_of_choice ts int p c i j))
+  of_choice : (p c i j : ℕ) (s : Sort) → Contains table (Truth c) → (s ≡ Ints → All (Contains table) (flat_map (atoms_of_pair ts true) (pair p i ∷ pair p j ∷ [])))
+      → All (Contains table) (of_ints s (atoms_of_choice ts p c i j))
   of_choice p c i j Truths t f = All-nil (Contains table)
-  of_choice p c i j Ints t f = All-cons (Contains table) (Truth c) (flat_map (atoms_of_pair ts true) (pair p i ∷ pair p j ∷ [])) t (f true (λ x. refl))
-  of_choice p c i j (Free a) t f = All-cons (Contains table) (Truth c) (flat_map (atoms_of_pair ts false) (pair p i ∷ pair p j ∷ [])) t (f false (λ x. no_int (Free a ≡ Ints) x))
+  of_choice p c i j Ints t f = All-cons (Contains table) (Truth c) (flat_map (atoms_of_pair ts true) (pair p i ∷ pair p j ∷ [])) t (f refl)
+  of_choice p c i j (Free a) t f = All-nil (Contains table)
 
   -- a term with this operator is a Bool, where the operator asks a test of the sorts
   is_bool_by : (o : Operator) (b : Bool) (p : ℕ) (is : List ℕ) → tree_at ts p ≡ node (Theory o) (pick ts is) → All (HasSort ds ts sorts) (p ∷ is)
@@ -166,9 +170,9 @@ part_atoms compared ds ts sorts table Ite p (c ∷ i ∷ j ∷ []) e sorted plac
     let both : All (Contains table) (first ++ second) =
     subst (λ t. All (Contains table) (pair_atoms ts ds t (tree_at ts i) ++ pair_atoms ts ds t (tree_at ts j))) (sym e) has in
     of_choice compared ds ts sorts table p c i j (sort_at sorts p) truth
-    (λ int h.
-    let int_p : int ≡ true → IsInt ds ts table p = λ x. own ∙ ap Some (h x) in
-    All-append (Contains table) (atoms_of_pair ts int (pair p i)) (atoms_of_pair ts int (pair p j) ++ [])
-    (of_pair ds ts table int p i place_p place_i int_p (All-left (Contains table) first second both))
-    (All-append (Contains table) (atoms_of_pair ts int (pair p j)) [] (of_pair ds ts table int p j place_p place_j int_p (All-right (Contains table) first second both)) (All-nil (Contains table))))
+    (λ h.
+    let int_p : true ≡ true → IsInt ds ts table p = λ x. own ∙ ap Some h in
+    All-append (Contains table) (atoms_of_pair ts true (pair p i)) (atoms_of_pair ts true (pair p j) ++ [])
+    (of_pair ds ts table true p i place_p place_i int_p (All-left (Contains table) first second both))
+    (All-append (Contains table) (atoms_of_pair ts true (pair p j)) [] (of_pair ds ts table true p j place_p place_j int_p (All-right (Contains table) first second both)) (All-nil (Contains table))))
 part_atoms compared ds ts sorts table o p is e sorted placed truths has = All-nil (Contains table)

@@ -1,5 +1,5 @@
 -- The clauses of the parts of a stack that compare Ints, and of equalities and choices of terms that are no Bools, over the numbers that a table gives.
-use Rattle.std.specs.Prelude.{ℕ, Bool, true, false, List, [], ◌∷◌, ◌++◌, map, flat_map, pos, int_le, slice_index_or, if◌then◌else◌}
+use Rattle.std.specs.Prelude.{ℕ, Bool, true, false, List, [], ◌∷◌, ◌++◌, length, map, flat_map, nat_eq, pos, int_le, slice_index_or, if◌then◌else◌}
 use Rattle.literals.specs.Signed.{Signed}
 use Rattle.smt_meaning.specs.declared.values.Sort.{Sort}
 use Rattle.smt_meaning.specs.declared.values.Sort.TheVariants.{Bool as Truths, Int as Ints, Free}
@@ -62,34 +62,39 @@ abbrev pub equality_part : List Tree → List Atom → Bool → Operator → ℕ
 equality_part ts table int o p is =
     flat_map (tie ts table int) (pairs_of o is) ++ comparison_clauses o (truth_number table p) (map (same_number table) (pairs_of o is))
 
--- an `ite` that is no Bool, with this condition and these branches, over its equalities with these
-abbrev pub choice_part : List Tree → List Atom → Bool → ℕ → ℕ → ℕ → ℕ → List (List Signed)
-choice_part ts table int p c i j =
-    flat_map (tie ts table int) (pair p i ∷ pair p j ∷ []) ++ choice_clauses (truth_number table c) (same_number table (pair p i)) (same_number table (pair p j))
+-- an `ite` that is an Int, with this condition and these branches, over its equalities with these
+abbrev pub choice_part : List Tree → List Atom → ℕ → ℕ → ℕ → ℕ → List (List Signed)
+choice_part ts table p c i j =
+    flat_map (int_tie ts table) (pair p i ∷ pair p j ∷ []) ++ choice_clauses (truth_number table c) (same_number table (pair p i)) (same_number table (pair p j))
 
 -- ---- parts
 
 abbrev pub sort_at : List Sort → ℕ → Sort
 sort_at sorts p = slice_index_or sorts p Truths
 
--- what is said of terms of a sort that isn't Bool, by whether it is Int
-abbrev pub unless_bool : {A : Type 0} → Sort → (Bool → List A) → List A
-unless_bool Truths f = []
-unless_bool Ints f = f true
-unless_bool (Free s) f = f false
+-- what is said of so many terms of this sort that are compared, by whether it is Int: of Bools nothing, and of two elements nothing, since the truth of their comparison says it
+abbrev pub by_sort : {A : Type 0} → Sort → ℕ → (Bool → List A) → List A
+by_sort Truths n f = []
+by_sort Ints n f = f true
+by_sort (Free s) n f = if nat_eq n 2 then [] else f false
+
+-- of Ints alone
+abbrev pub of_ints : {A : Type 0} → Sort → List A → List A
+of_ints Ints xs = xs
+of_ints s xs = []
 
 -- of `=` and `distinct`, by the sort of the first argument
 abbrev pub equality_clauses_of : List Sort → List Tree → List Atom → Operator → ℕ → List ℕ → List (List Signed)
 equality_clauses_of sorts ts table o p [] = []
-equality_clauses_of sorts ts table o p (i ∷ is) = unless_bool (sort_at sorts i) (λ int. equality_part ts table int o p (i ∷ is))
+equality_clauses_of sorts ts table o p (i ∷ is) = by_sort (sort_at sorts i) (length (i ∷ is)) (λ int. equality_part ts table int o p (i ∷ is))
 
--- of `ite`, by its own
+-- of `ite`, by its own: of an element the truth of the condition says all
 abbrev pub choice_clauses_of : List Sort → List Tree → List Atom → ℕ → List ℕ → List (List Signed)
-choice_clauses_of sorts ts table p (c ∷ i ∷ j ∷ []) = unless_bool (sort_at sorts p) (λ int. choice_part ts table int p c i j)
+choice_clauses_of sorts ts table p (c ∷ i ∷ j ∷ []) = of_ints (sort_at sorts p) (choice_part ts table p c i j)
 choice_clauses_of sorts ts table p is = []
 
--- by the sorts of places, the clauses of the term at a place with this operator and the arguments at these places: of a comparison of Ints, and of `=`, `distinct`
--- and `ite` of terms that are no Bools; of other terms none
+-- by the sorts of places, the clauses of the term at a place with this operator and the arguments at these places: of a comparison of Ints, of `=` and `distinct` of
+-- Ints, and of more than two terms of a declared sort, and of `ite` of Ints; of other terms none
 abbrev pub part_clauses_of : List Sort → List Tree → List Atom → Operator → ℕ → List ℕ → List (List Signed)
 part_clauses_of sorts ts table AtMost p is = order_part ts table AtMost p is
 part_clauses_of sorts ts table Less p is = order_part ts table Less p is

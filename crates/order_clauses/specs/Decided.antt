@@ -56,8 +56,8 @@ EqualityPartIsDecided =
     (v : ℕ → Value) (log : List Signed) (ts : List Tree) (table : List Atom) (int : Bool) (o : Operator) (p : ℕ) (is : List ℕ) → IsTrue (compares o) → IsConsistent log
     → FitsTerms v log ts table int (pairs_of o is) → All (IsMadeTrue log) (equality_part ts table int o p is) → IsGiven log (truth_number table p) (truth_of (operate o (map v is)))
 
--- and each `ite` has the value of the branch that is taken
+-- and each `ite` that is an Int has the value of the branch that is taken
 abbrev pub ChoicePartIsDecided : Type 0
 ChoicePartIsDecided =
-    (v : ℕ → Value) (log : List Signed) (ts : List Tree) (table : List Atom) (int : Bool) (p c i j : ℕ) → IsConsistent log → IsGiven log (truth_number table c) (truth_of (v c))
-    → FitsTerms v log ts table int (pair p i ∷ pair p j ∷ []) → All (IsMadeTrue log) (choice_part ts table int p c i j) → v p ≡ operate Ite (v c ∷ v i ∷ v j ∷ [])
+    (v : ℕ → Value) (log : List Signed) (ts : List Tree) (table : List Atom) (p c i j : ℕ) → IsConsistent log → IsGiven log (truth_number table c) (truth_of (v c))
+    → FitsTerms v log ts table true (pair p i ∷ pair p j ∷ []) → All (IsMadeTrue log) (choice_part ts table p c i j) → v p ≡ operate Ite (v c ∷ v i ∷ v j ∷ [])

@@ -1,5 +1,5 @@
 -- The atoms that the clauses of a part are over, and the orders whose bounds are among them.
-use Rattle.std.specs.Prelude.{◌≡◌, ℕ, Bool, List, [], ◌∷◌, map, flat_map, All, Contains, Some, if◌then◌else◌}
+use Rattle.std.specs.Prelude.{◌≡◌, ℕ, Bool, true, List, [], ◌∷◌, length, map, flat_map, All, Contains, Some, if◌then◌else◌}
 use Rattle.smt_meaning.specs.declared.terms.Operator.{Operator}
 use Rattle.smt_meaning.specs.declared.terms.Operator.TheVariants.{Equal, Distinct, Ite, AtMost, Less, AtLeast, Greater}
 use Rattle.smt_meaning.specs.declared.terms.Head.TheVariants.{Theory}
@@ -17,7 +17,7 @@ use Rattle.bound_clauses.specs.declared.orders.Order.{Order}
 use Rattle.bound_clauses.specs.Orders.{order_atoms, bound_atom}
 use Rattle.order_clauses.specs.declared.pairs.Pair.{Pair}
 use Rattle.order_clauses.specs.Pairs.{pair, pairs_of, same_atom, orders_of_pair}
-use Rattle.order_clauses.specs.Clauses.{sort_at, unless_bool}
+use Rattle.order_clauses.specs.Clauses.{sort_at, by_sort, of_ints}
 
 -- ---- orders
 
@@ -26,10 +26,10 @@ orders_tied int q = if int then orders_of_pair q else []
 
 abbrev pub orders_of_equality : List Sort → Operator → List ℕ → List Order
 orders_of_equality sorts o [] = []
-orders_of_equality sorts o (i ∷ is) = unless_bool (sort_at sorts i) (λ int. flat_map (orders_tied int) (pairs_of o (i ∷ is)))
+orders_of_equality sorts o (i ∷ is) = by_sort (sort_at sorts i) (length (i ∷ is)) (λ int. flat_map (orders_tied int) (pairs_of o (i ∷ is)))
 
 abbrev pub orders_of_choice : List Sort → ℕ → List ℕ → List Order
-orders_of_choice sorts p (c ∷ i ∷ j ∷ []) = unless_bool (sort_at sorts p) (λ int. flat_map (orders_tied int) (pair p i ∷ pair p j ∷ []))
+orders_of_choice sorts p (c ∷ i ∷ j ∷ []) = of_ints (sort_at sorts p) (flat_map orders_of_pair (pair p i ∷ pair p j ∷ []))
 orders_of_choice sorts p is = []
 
 abbrev pub orders_of_part : List Sort → Operator → ℕ → List ℕ → List Order
@@ -53,15 +53,15 @@ atoms_of_pair ts int q = same_atom q ∷ map (bound_atom ts) (orders_tied int q)
 abbrev pub atoms_of_equality : List Tree → Bool → Operator → ℕ → List ℕ → List Atom
 atoms_of_equality ts int o p is = Truth p ∷ flat_map (atoms_of_pair ts int) (pairs_of o is)
 
-abbrev pub atoms_of_choice : List Tree → Bool → ℕ → ℕ → ℕ → ℕ → List Atom
-atoms_of_choice ts int p c i j = Truth c ∷ flat_map (atoms_of_pair ts int) (pair p i ∷ pair p j ∷ [])
+abbrev pub atoms_of_choice : List Tree → ℕ → ℕ → ℕ → ℕ → List Atom
+atoms_of_choice ts p c i j = Truth c ∷ flat_map (atoms_of_pair ts true) (pair p i ∷ pair p j ∷ [])
 
 abbrev pub equality_atoms_of : List Sort → List Tree → Operator → ℕ → List ℕ → List Atom
 equality_atoms_of sorts ts o p [] = []
-equality_atoms_of sorts ts o p (i ∷ is) = unless_bool (sort_at sorts i) (λ int. atoms_of_equality ts int o p (i ∷ is))
+equality_atoms_of sorts ts o p (i ∷ is) = by_sort (sort_at sorts i) (length (i ∷ is)) (λ int. atoms_of_equality ts int o p (i ∷ is))
 
 abbrev pub choice_atoms_of : List Sort → List Tree → ℕ → List ℕ → List Atom
-choice_atoms_of sorts ts p (c ∷ i ∷ j ∷ []) = unless_bool (sort_at sorts p) (λ int. atoms_of_choice ts int p c i j)
+choice_atoms_of sorts ts p (c ∷ i ∷ j ∷ []) = of_ints (sort_at sorts p) (atoms_of_choice ts p c i j)
 choice_atoms_of sorts ts p is = []
 
 abbrev pub atoms_of_part : List Sort → List Tree → Operator → ℕ → List ℕ → List Atom

@@ -30,7 +30,7 @@ pub fn equality_part_is_decided()
     equality_is_decided();
 }
 
-/// An `ite` then has the value of the branch that its condition takes.
+/// An `ite` that is an Int then has the value of the branch that its condition takes.
 pub fn choice_part_is_decided()
     ensures { ChoicePartIsDecided }
 {

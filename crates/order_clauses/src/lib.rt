@@ -1,5 +1,6 @@
-//! The clauses of parts of a stack that compare Ints, and of equalities and choices of terms that
-//! are no Bools, over atoms that have numbers.
+//! The clauses of parts of a stack that compare Ints or choose one, and of `=` and `distinct` of
+//! more than two terms of a declared sort, over atoms that have numbers. What two such terms alone
+//! say, and an `ite` of one, a closure of congruence reads from truths.
 //!
 //! `put_part`: exactly the clauses of comparisons, equalities, `distinct` and choices over the
 //! numbers of a table, true under every interpretation. A log that makes them true, with bounds

@@ -7,7 +7,7 @@ ghost use Rattle.smt_meaning.specs.Nodes.{pick};
 ghost use Rattle.linear_forms.specs.Table.{AreForms};
 ghost use Rattle.bound_clauses.specs.Orders.{order_atoms};
 ghost use Rattle.bound_clauses.specs.Laws.{IsReadable};
-ghost use Rattle.order_clauses.specs.Pairs.{pair, pairs_of};
+ghost use Rattle.order_clauses.specs.Pairs.{pair, pairs_of, orders_of_pair};
 ghost use Rattle.order_clauses.specs.Clauses.{order_part, equality_part, choice_part, equality_clauses_of, choice_clauses_of, part_clauses_of};
 ghost use Rattle.order_clauses.specs.Needed.{orders_tied, orders_of_equality, orders_of_choice, orders_of_part, atoms_of_order, atoms_of_equality, atoms_of_choice, equality_atoms_of, choice_atoms_of, atoms_of_part};
 ghost use Rattle.order_clauses.specs.Sound.{HasSort, AreSound};
@@ -128,13 +128,12 @@ fn put_equality_part(
     Ok(())
 }
 
-/// Adds the clauses of an `ite` that is no Bool, with this condition and these branches.
+/// Adds the clauses of an `ite` that is an Int, with this condition and these branches.
 fn put_choice_part(
     clauses: &mut Clauses,
     space: &mut Space,
     forms: &mut LinearForms,
     atoms: &AtomNumbers,
-    are_ints: bool,
     place: TermId,
     condition: TermId,
     first: TermId,
@@ -145,9 +144,9 @@ fn put_choice_part(
     requires place { place < length trees }
     requires first { first < length trees }
     requires second { second < length trees }
-    ensures put { OnOk result (clauses.new ≡ clauses.old ++ choice_part trees atoms.now.atoms are_ints place condition first second) }
-    ensures has { OnOk result (All (Contains atoms.now.atoms) (atoms_of_choice trees are_ints place condition first second)) }
-    ensures cause { IfErr result (λ e. IsCause trees atoms.now.atoms (flat_map (orders_tied are_ints) (pair place first ∷ pair place second ∷ [])) (atoms_of_choice trees are_ints place condition first second) e) }
+    ensures put { OnOk result (clauses.new ≡ clauses.old ++ choice_part trees atoms.now.atoms place condition first second) }
+    ensures has { OnOk result (All (Contains atoms.now.atoms) (atoms_of_choice trees place condition first second)) }
+    ensures cause { IfErr result (λ e. IsCause trees atoms.now.atoms (flat_map orders_of_pair (pair place first ∷ pair place second ∷ [])) (atoms_of_choice trees place condition first second) e) }
     ensures same { forms.new ≡ forms.old }
 {
     let number = find_truth(atoms, condition)?;
@@ -159,13 +158,13 @@ fn put_choice_part(
         left: place,
         right: second,
     };
-    let first = put_tie(clauses, forms, atoms, &mut space.sum, are_ints, with_first)?;
-    let second = put_tie(clauses, forms, atoms, &mut space.sum, are_ints, with_second)?;
+    let first = put_tie(clauses, forms, atoms, &mut space.sum, true, with_first)?;
+    let second = put_tie(clauses, forms, atoms, &mut space.sum, true, with_second)?;
     put_choice(clauses, number, first, second)?;
     Ok(())
 }
 
-/// Adds the clauses of `=` or `distinct`, unless it is of Bools.
+/// Adds the clauses of `=` or `distinct`, unless it is of Bools, or of two terms of a declared sort.
 fn put_equality_of(
     clauses: &mut Clauses,
     space: &mut Space,
@@ -192,6 +191,7 @@ fn put_equality_of(
             Sort::Int => put_equality_part(
                 clauses, space, forms, atoms, true, place, operator, arguments,
             ),
+            Sort::Free(_) if arguments.len() == 2 => Ok(()),
             Sort::Free(_) => put_equality_part(
                 clauses, space, forms, atoms, false, place, operator, arguments,
             ),
@@ -199,7 +199,7 @@ fn put_equality_of(
     }
 }
 
-/// Adds the clauses of an `ite`, unless it is a Bool.
+/// Adds the clauses of an `ite`, if it is an Int.
 fn put_choice_of(
     clauses: &mut Clauses,
     space: &mut Space,
@@ -221,13 +221,10 @@ fn put_choice_of(
 {
     match arguments {
         [condition, first, second] => match sorts[place as usize] {
-            Sort::Bool => Ok(()),
             Sort::Int => put_choice_part(
-                clauses, space, forms, atoms, true, place, *condition, *first, *second,
+                clauses, space, forms, atoms, place, *condition, *first, *second,
             ),
-            Sort::Free(_) => put_choice_part(
-                clauses, space, forms, atoms, false, place, *condition, *first, *second,
-            ),
+            Sort::Bool | Sort::Free(_) => Ok(()),
         },
         _ => Ok(()),
     }
@@ -266,8 +263,8 @@ fn put(
     }
 }
 
-/// Adds the clauses of the term at a place, which has this operator and the terms at these places as its arguments: of a comparison of Ints, and of `=`, `distinct`
-/// and `ite` of terms that are no Bools; of other terms none. They are over the table's numbers. The forms of the terms are known, and so are their sorts, by place.
+/// Adds the clauses of the term at a place, which has this operator and the terms at these places as its arguments: of a comparison of Ints, of `=` and `distinct` of Ints,
+/// and of more than two terms of a declared sort, and of `ite` of Ints; of other terms none. They are over the table's numbers. The forms of the terms are known, and so are their sorts, by place.
 /// `Missing` says that an atom that the clauses are over has no number, `Term` and `Pair` that folding a bound of the part leaves the range, and `Memory` that memory
 /// is wanting. An `Err` says nothing of the clauses.
 pub fn put_part(

@@ -1,30 +1,19 @@
 -- One clause more in a store.
-use Rattle.std.proofs.Common.{◌≡◌, ◌⊎◌, inl, inr, ℕ, zero, suc, ◌+◌, ◌<◌, ◌≤◌, Bool, Some, refl, arith, List, [], ◌∷◌, ◌++◌, map, length, take, get_or, All, Contains, slice_index_or, subst, sym, ap, ◌∙◌}
+use Rattle.std.proofs.Common.{◌≡◌, ℕ, ◌+◌, ◌<◌, ◌≤◌, List, [], ◌∷◌, ◌++◌, map, length, take, get_or, All, Contains, slice_index_or, subst, sym, ap, ◌∙◌}
 use Rattle.std.specs.Prelude.{Result, Ok, Err, OnOk, ⊤}
 use Rattle.std.specs.declared.alloc.AllocError.{AllocError}
 use Rattle.std.proofs.Math.ListN.{get_or-map}
 use Rattle.std.proofs.lemmas.List.{length-map, get_or_default, take_all}
-use Rattle.std.proofs.lemmas.List.Elements.{All-push, All-more, All-weaker, All-same, All-map, All-contains, Contains-append_left, Contains-push, Contains-get_or}
+use Rattle.std.proofs.lemmas.List.Elements.{All-push, All-more, All-weaker, All-same, All-map, Contains-append_left, Contains-push, Contains-get_or}
 use Rattle.literals.specs.Signed.{Signed}
 use Rattle.clause_store.specs.Stored.{Kept, Stored}
 use Rattle.smt_meaning.specs.declared.clauses.Atom.{Atom}
 use Rattle.smt_meaning.specs.Term.{Tree, tree_at}
-use Rattle.smt_meaning.specs.declared.clauses.Atom.TheVariants.{Truth}
-use Rattle.smt_meaning.specs.declared.values.Sort.TheVariants.{Bool as Truths}
-use Rattle.smt_meaning.specs.declared.terms.Operator.{Operator}
-use Rattle.smt_meaning.specs.declared.terms.Head.{Head}
-use Rattle.smt_meaning.specs.declared.terms.Head.TheVariants.{Theory}
-use Rattle.smt_meaning.specs.Signature.{tree_sort, is_bool}
-use Rattle.clause_form.specs.Node.{literals_of_node}
-use Rattle.stack_atoms.specs.Parts.{IsMarked}
-use Rattle.stack_atoms.specs.OfStack.{HasPlace, AreOfStack}
-use Rattle.stack_atoms.proofs.Marking.{below}
 use Rattle.part_clauses.specs.Turned.{IsKeptTurned}
-use Rattle.part_clauses.specs.Numbers.{HasNode, HasTerm, HasPart}
-use Rattle.smt_meaning.specs.Stack.{signature_of, assertions_of}
+use Rattle.smt_meaning.specs.Stack.{assertions_of}
 use Rattle.smt_meaning.specs.StackCommand.{Stack}
 use Rattle.scope_stack.specs.declared.answers.Assertion.{Assertion}
-use Rattle.scope_stack.specs.Shown.{AreAsserted, IsLawful}
+use Rattle.scope_stack.specs.Shown.{AreAsserted}
 use Rattle.search_port.specs.State.{Reading}
 use Rattle.part_clauses.specs.First.{IsClause, IsBegun, HasClause, IsAsserted}
 
@@ -108,55 +97,3 @@ turned_stays trees table old new stay ls h = record { turned = h.turned; are = h
 
 pub all_turned_stay : (trees : List Tree) (table : List Atom) (old new : List Kept) (cs : List (List Signed)) → ((c : Kept) → Contains old c → Contains new c) → All (IsKeptTurned trees table old) cs → All (IsKeptTurned trees table new) cs
 all_turned_stay trees table old new cs stay h = All-weaker (IsKeptTurned trees table old) (IsKeptTurned trees table new) (turned_stays trees table old new stay) cs h
-
-node_stays : (trees : List Tree) (table : List Atom) (old new : List Kept) (n : ℕ) (o : Operator) (is : List ℕ) → ((c : Kept) → Contains old c → Contains new c) → HasNode trees table old n o is → HasNode trees table new n o is
-node_stays trees table old new n o is stay h = record {
-  numbers = h.numbers;
-  are = h.are;
-  kept = all_turned_stay trees table old new (literals_of_node o n h.numbers) stay h.kept;
-}
-
-pub part_stays : (trees : List Tree) (table : List Atom) (old new : List Kept) (n : ℕ) → ((c : Kept) → Contains old c → Contains new c) → HasPart trees table old n → HasPart trees table new n
-part_stays trees table old new n stay h = λ p e.
-    let term : HasTerm trees table old n p = h p e in
-    record {
-      head = term.head;
-      arguments = term.arguments;
-      tree = term.tree;
-      earlier = term.earlier;
-      kept = λ o same all. node_stays trees table old new n o term.arguments stay (term.kept o same all);
-    }
-
-pub last_or_before : (n k : ℕ) → k < n + 1 → (k < n) ⊎ (n ≡ k)
-last_or_before zero zero h = inr refl
-last_or_before zero (suc k) h = absurd (omega arith)
-last_or_before (suc n) zero h = inl (omega arith)
-last_or_before (suc n) (suc k) h = elim (last_or_before n k (omega arith)) [ inl l ↦ inl (omega arith) | inr e ↦ inr (ap suc e) ]
-
--- ---- the assertions are numbered
-
-assertion_numbered : (s : Stack) (marks : List Bool) (table : List Atom) (p : ℕ) → AreOfStack s marks table → IsLawful s → p < length s.trees → Contains (assertions_of s.frames) (tree_at s.trees p)
-    → Contains table (Truth p)
-assertion_numbered s marks table p atoms law h c =
-    let a : HasPlace s.trees marks (tree_at s.trees p) = All-contains (HasPlace s.trees marks) (assertions_of s.frames) (tree_at s.trees p) atoms.assertions c in
-    let short : a.place < length marks = below marks a.place a.marked in
-    let size : length marks ≡ length s.trees = atoms.parts.size in
-    let same : a.place ≡ p = law.in_order.different a.place p (omega arith) h a.tree in
-    let sort : tree_sort (signature_of s.frames) (tree_at s.trees p) ≡ Some Truths =
-    All-contains (λ (t : Tree). tree_sort (signature_of s.frames) t ≡ Some Truths) (assertions_of s.frames) (tree_at s.trees p) law.truths c in
-    atoms.atoms.truths p (subst (IsMarked marks) same a.marked) (ap is_bool sort)
-
-pub all_numbered : (s : Stack) (xs : List Assertion) (marks : List Bool) (table : List Atom) → AreOfStack s marks table → IsLawful s → AreAsserted s xs → All (λ (a : Assertion). Contains table (Truth a.term)) xs
-all_numbered s xs marks table atoms law h =
-    let among : All (λ (a : Assertion). Contains (assertions_of s.frames) (tree_at s.trees a.term)) xs = are_assertions s xs h in
-    λ k d l. assertion_numbered s marks table (get_or xs k d).term atoms law (h.within k d l) (among k d l)
-
-pub theory_same : (h : Head) (o p : Operator) → h ≡ Theory o → h ≡ Theory p → o ≡ p
-theory_same h o p e f = let both : Theory o ≡ Theory p = sym e ∙ f in cc
-
-pub truth_same : (p q : ℕ) → Truth p ≡ Truth q → p ≡ q
-truth_same p q e = cc
-
-pub any_ok : (r : Result ⊤ AllocError) (P : Type 0) → P → OnOk r P
-any_ok (Ok u) P p = p
-any_ok (Err e) P p = tt

@@ -1,8 +1,5 @@
 pub mod Keeping
 pub mod Numbering
-pub mod Following
 pub mod Turning
 pub mod NodeForcing
-pub mod Forcing
-pub mod Comparing
 pub mod Triangular

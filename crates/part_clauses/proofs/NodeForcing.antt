@@ -27,7 +27,7 @@ use Rattle.clause_form.specs.NodeClauses.{node_clauses}
 use Rattle.clause_form.specs.WideClauses.{wide_clauses}
 use Rattle.clause_form.specs.NodeClausesLaws.{fits_node, NodeClausesForce}
 use Rattle.clause_form.specs.Node.{signed, literals_of_node}
-use Rattle.assertion_form.specs.Renamed.{renamed, Apart, NodeClausesRenamed}
+use Rattle.clause_form.specs.Renamed.{renamed, Apart, NodeClausesRenamed}
 use Rattle.search_port.proofs.Forcing.{ComesBy, from_map, in_map, forces_renamed}
 use Rattle.atom_table.specs.Numbers.{IsAt}
 use Rattle.stack_atoms.specs.Atoms.{is_bool_at}

@@ -3,24 +3,18 @@ use Rattle.std.proofs.Common.{◌≡◌, ℕ, zero, suc, ◌<◌, Bool, true, fa
 use Rattle.std.specs.Prelude.{pos, negsuc, ℤ}
 use Rattle.std.proofs.lemmas.Bool.{eqb-true}
 use Rattle.std.proofs.lemmas.List.Elements.{All-nil, All-cons}
-use Rattle.literals.specs.Signed.{Signed, opposite}
+use Rattle.literals.specs.Signed.{Signed, opposite, some_true}
 use Rattle.smt_meaning.specs.declared.values.Value.{Value}
 use Rattle.smt_meaning.specs.declared.values.Value.TheVariants.{Truth as TruthValue, Whole, Element}
 use Rattle.smt_meaning.specs.declared.clauses.Atom.{Atom}
 use Rattle.smt_meaning.specs.declared.clauses.Atom.TheVariants.{Truth, Same}
 use Rattle.smt_meaning.specs.declared.terms.Operator.TheVariants.{Equal}
 use Rattle.smt_meaning.specs.declared.terms.Head.TheVariants.{Theory}
-use Rattle.smt_meaning.specs.Term.{Tree, tree_at, value, truth_of, same_value, int_eq, bool_eq}
+use Rattle.smt_meaning.specs.Term.{Tree, Interpretation, tree_at, value, truth_of, same_value, int_eq, bool_eq}
 use Rattle.smt_meaning.specs.Clause.{atom_true}
-use Rattle.smt_meaning.specs.StackCommand.{Stack}
 use Rattle.term_store.specs.Terms.{tree_with}
-use Rattle.smt_laws.specs.SortLaws.{SymbolsAreDeclared}
-use Rattle.smt_laws.specs.Flat.{FlatSaysTheSame}
-use Rattle.search_port.specs.State.{atom_at, truth}
-use Rattle.stack_atoms.specs.OfStack.{AreOfStack}
-use Rattle.part_clauses.specs.First.{reading_of, IsClause}
+use Rattle.search_port.specs.State.{atom_at}
 use Rattle.part_clauses.specs.Triangles.{IsEquality, Joins}
-use Rattle.part_clauses.proofs.Following.{over, at_level}
 
 -- ---- the equality of two terms as a term
 
@@ -95,7 +89,7 @@ not_true false h = cc
 abbrev pub implies_clause : ℕ → ℕ → ℕ → List Signed
 implies_clause a b c = record { atom = a; positive = false } ∷ record { atom = b; positive = false } ∷ record { atom = c; positive = true } ∷ []
 
-no_pair_here : (a b c : ℕ) → (a ≡ c → ⊥) → (b ≡ c → ⊥) → (l : Signed) → Contains (implies_clause a b c) l → Contains (implies_clause a b c) (opposite l) → ⊥
+pub no_pair_here : (a b c : ℕ) → (a ≡ c → ⊥) → (b ≡ c → ⊥) → (l : Signed) → Contains (implies_clause a b c) l → Contains (implies_clause a b c) (opposite l) → ⊥
 no_pair_here a b c n m l x y = at x.0 y.0 x.1 y.1 x.2 y.2
   where
     signs : (p q : Signed) → p ≡ l → q ≡ opposite l → p.positive ≡ q.positive → ⊥
@@ -119,22 +113,17 @@ no_pair_here a b c n m l x y = at x.0 y.0 x.1 y.1 x.2 y.2
     at (suc (suc zero)) (suc (suc (suc j))) h k e f = absurd (omega arith)
     at (suc (suc (suc i))) j h k e f = absurd (omega arith)
 
-module _ (same : FlatSaysTheSame) (declared : SymbolsAreDeclared) (s : Stack) (marks : List Bool) (table : List Atom) (atoms : AreOfStack s marks table) where
-  pub triangle_follows : (a b c i j k l x y : ℕ) → IsEquality s.trees table a i j → IsEquality s.trees table b k l → IsEquality s.trees table c x y → Joins i j k l x y → (a ≡ c → ⊥) → (b ≡ c → ⊥)
-      → IsClause (reading_of s table) 0 (implies_clause a b c)
-  triangle_follows a b c i j k l x y p q r joins n m =
-      let within : All (λ (z : Signed). z.atom < length table) (implies_clause a b c) =
+module _ (trees : List Tree) (table : List Atom) (a b c i j k l x y : ℕ) (p : IsEquality trees table a i j) (q : IsEquality trees table b k l) (r : IsEquality trees table c x y) where
+  pub implies_within : All (λ (z : Signed). z.atom < length table) (implies_clause a b c)
+  implies_within =
       All-cons (λ (z : Signed). z.atom < length table) (record { atom = a; positive = false }) (record { atom = b; positive = false } ∷ record { atom = c; positive = true } ∷ []) p.within
       (All-cons (λ (z : Signed). z.atom < length table) (record { atom = b; positive = false }) (record { atom = c; positive = true } ∷ []) q.within
-      (All-cons (λ (z : Signed). z.atom < length table) (record { atom = c; positive = true }) [] r.within (All-nil (λ (z : Signed). z.atom < length table)))) in
-      record {
-        over = over same declared s marks table atoms (implies_clause a b c) within (no_pair_here a b c n m);
-        follows = record {
-          true_wherever = λ I z holds.
-              implied (truth (reading_of s table) I a) (truth (reading_of s table) I b) (truth (reading_of s table) I c)
-              (λ e f. r.says I ∙ same_where (value I (tree_at s.trees x)) (value I (tree_at s.trees y))
-              (joins (λ w. value I (tree_at s.trees w)) (one_value (value I (tree_at s.trees i)) (value I (tree_at s.trees j)) (sym (p.says I) ∙ e))
-              (one_value (value I (tree_at s.trees k)) (value I (tree_at s.trees l)) (sym (q.says I) ∙ f))));
-          at_level = at_level same declared s marks table atoms (implies_clause a b c) within;
-        };
-      }
+      (All-cons (λ (z : Signed). z.atom < length table) (record { atom = c; positive = true }) [] r.within (All-nil (λ (z : Signed). z.atom < length table))))
+
+  -- every interpretation makes it true
+  pub implies_true : Joins i j k l x y → (I : Interpretation) → some_true (λ n. atom_true trees I (atom_at table n)) (implies_clause a b c) ≡ true
+  implies_true joins I =
+      implied (atom_true trees I (atom_at table a)) (atom_true trees I (atom_at table b)) (atom_true trees I (atom_at table c))
+      (λ e f. r.says I ∙ same_where (value I (tree_at trees x)) (value I (tree_at trees y))
+      (joins (λ w. value I (tree_at trees w)) (one_value (value I (tree_at trees i)) (value I (tree_at trees j)) (sym (p.says I) ∙ e))
+      (one_value (value I (tree_at trees k)) (value I (tree_at trees l)) (sym (q.says I) ∙ f))))

@@ -1,26 +1,21 @@
 -- What is forced by clauses with what negations negate.
-use Rattle.std.proofs.Common.{◌≡◌, inl, inr, ℕ, ◌<◌, ◌≤◌, Bool, true, false, not, List, [], ◌∷◌, ◌++◌, map, length, All, Contains, subst, sym, ap, ◌∙◌, arith, refl}
-use Rattle.std.proofs.lemmas.List.Elements.{All-nil, All-cons, All-contains, All-weaker, Contains-append_left, Contains-append_right, Contains-append_cases, Contains-push, Contains-push_cases}
-use Rattle.literals.specs.Signed.{Signed, opposite}
+use Rattle.std.proofs.Common.{◌≡◌, inl, inr, ℕ, zero, suc, ◌<◌, ◌≤◌, Bool, true, false, not, ◌||◌, List, [], ◌∷◌, ◌++◌, map, length, All, Contains, slice_index_or, subst, sym, ap, ◌∙◌, arith, refl}
+use Rattle.std.proofs.lemmas.List.Elements.{All-contains, Contains-append_left, Contains-append_right, Contains-append_cases, Contains-push, Contains-push_cases}
+use Rattle.literals.specs.Signed.{Signed, opposite, sign, literal_true, some_true}
 use Rattle.clause_store.specs.Stored.{Kept}
 use Rattle.smt_meaning.specs.declared.terms.Operator.TheVariants.{Not}
-use Rattle.smt_meaning.specs.declared.terms.Head.{Head}
-use Rattle.smt_meaning.specs.declared.terms.Head.TheVariants.{Theory}
 use Rattle.smt_meaning.specs.declared.clauses.Atom.{Atom}
 use Rattle.smt_meaning.specs.declared.clauses.Atom.TheVariants.{Truth}
-use Rattle.smt_meaning.specs.Term.{Tree, Trees, node}
-use Rattle.smt_meaning.specs.Nodes.{pick}
+use Rattle.smt_meaning.specs.Term.{Tree}
 use Rattle.smt_meaning.specs.Forced.{Reaches, Conflicts, Forces}
 use Rattle.smt_meaning.specs.Forced.Reaches.{start, unit}
-use Rattle.term_store.specs.Terms.{tree_with}
-use Rattle.clause_form.specs.Node.{literals_of_node}
+use Rattle.clause_form.specs.Node.{HasNoAtomTwice, literals_of_node}
 use Rattle.search_port.specs.State.{truth_atoms}
-use Rattle.search_port.proofs.Forcing.{in_map}
 use Rattle.atom_table.specs.Numbers.{IsAt, AreApart}
 use Rattle.part_clauses.specs.First.{HasClause}
 use Rattle.part_clauses.specs.Turned.{Negates, IsTurned, AreTurned, IsKeptTurned}
-use Rattle.part_clauses.specs.Numbers.{AreNumbers, HasNode, HasTerm, HasPart}
-use Rattle.part_clauses.proofs.Numbering.{one_place, contained}
+use Rattle.part_clauses.specs.Numbers.{AreNumbers}
+use Rattle.part_clauses.proofs.Numbering.{one_place}
 
 abbrev yes : ℕ → Signed
 yes n = record { atom = n; positive = true }
@@ -43,13 +38,35 @@ both_clauses : (n m : ℕ) → (Contains (literals_of_node Not n (m ∷ [])) (ye
 unfolding literals_of_node
 both_clauses n m = (in_first (yes n ∷ yes m ∷ []) ((no n ∷ no m ∷ []) ∷ []), in_second (yes n ∷ yes m ∷ []) (no n ∷ no m ∷ []) [])
 
-head_of : (h k : Head) (ts us : Trees) → node h ts ≡ node k us → h ≡ k
-head_of h k ts us e = cc
-
-one_number : (table : List Atom) (p : ℕ) (ns : List ℕ) (m : ℕ) → AreApart table → AreNumbers table (truth_atoms (p ∷ [])) ns → IsAt table m (Truth p) → ns ≡ m ∷ []
+pub one_number : (table : List Atom) (p : ℕ) (ns : List ℕ) (m : ℕ) → AreApart table → AreNumbers table (truth_atoms (p ∷ [])) ns → IsAt table m (Truth p) → ns ≡ m ∷ []
 one_number table p [] m apart h at = absurd h
 one_number table p (n ∷ []) m apart h at = ap (λ k. k ∷ []) (one_place table n m (Truth p) apart h.0 at)
 one_number table p (n ∷ k ∷ ns) m apart h at = absurd h.1
+
+-- ---- a turned clause says the same
+
+turned_sign : (b c p q : Bool) → b ≡ not c → q ≡ not p → sign p b ≡ sign q c
+turned_sign true true p q e f = cc
+turned_sign true false true true e f = cc
+turned_sign true false true false e f = refl
+turned_sign true false false true e f = refl
+turned_sign true false false false e f = cc
+turned_sign false true true true e f = cc
+turned_sign false true true false e f = refl
+turned_sign false true false true e f = refl
+turned_sign false true false false e f = cc
+turned_sign false false p q e f = cc
+
+module _ (trees : List Tree) (table : List Atom) (f : ℕ → Bool) (negation : (n m : ℕ) → Negates trees table n m → f n ≡ not (f m)) where
+  one_turned : (l m : Signed) → IsTurned trees table l m → literal_true f l ≡ literal_true f m
+  one_turned l m (inl e) = ap (literal_true f) e
+  one_turned l m (inr h) = turned_sign (f l.atom) (f m.atom) l.positive m.positive (negation l.atom m.atom h.0) h.1
+
+  pub some_turned : (ls ms : List Signed) → AreTurned trees table ls ms → some_true f ls ≡ some_true f ms
+  some_turned [] [] h = refl
+  some_turned [] (m ∷ ms) h = absurd h
+  some_turned (l ∷ ls) [] h = absurd h
+  some_turned (l ∷ ls) (m ∷ ms) h = ap (λ b. b || some_true f ls) (one_turned l m h.0) ∙ ap (λ b. literal_true f m || b) (some_turned ls ms h.1)
 
 -- ---- literals of turned clauses
 
@@ -115,54 +132,29 @@ opposite_turned trees table l m (inr h) = inr (h.0, ap not h.1)
 signed_is : (l : Signed) (b : Bool) → l.positive ≡ b → l ≡ record { atom = l.atom; positive = b }
 signed_is l b e = ap (λ c. record { atom = l.atom; positive = c }) e
 
-arguments_same : (h k : Head) (ts us : Trees) → node h ts ≡ node k us → ts ≡ us
-arguments_same h k ts us e = cc
+-- the clauses of each negation whose argument has a number are kept so
+abbrev pub KeepNegations : List Tree → List Atom → List Kept → Type 0
+KeepNegations trees table clauses = (n m : ℕ) → Negates trees table n m → All (IsKeptTurned trees table clauses) (literals_of_node Not n (m ∷ []))
 
--- places are told apart by their trees
-abbrev AreTold : List Tree → Type 0
-AreTold trees = (is js : List ℕ) → All (λ i. i < length trees) is → All (λ i. i < length trees) js → pick trees is ≡ pick trees js → is ≡ js
-
-module _ (trees : List Tree) (table : List Atom) (apart : AreApart table) (told : AreTold trees) (inside : (n p : ℕ) → IsAt table n (Truth p) → p < length trees)
-    (clauses : List Kept) (parts : (n : ℕ) → n < length table → HasPart trees table clauses n) where
-  abbrev known : List (List Signed)
-  known = map (λ (c : Kept). c.literals) clauses
-
+module _ (trees : List Tree) (table : List Atom) (clauses : List Kept) (negations : KeepNegations trees table clauses) (known : List (List Signed)) (among : (c : Kept) → Contains clauses c → Contains known c.literals) where
   abbrev Reached : List Signed → Signed → Type 0
   Reached given l = Reaches opposite known given l
 
   kept_known : (ls : List Signed) → HasClause clauses ls → Contains known ls
-  kept_known ls h = subst (Contains known) h.literals (in_map (λ (c : Kept). c.literals) clauses h.kept h.among)
+  kept_known ls h = subst (Contains known) h.literals (among h.kept h.among)
 
   short_known : (ls : List Signed) → length ls ≤ 2 → IsKeptTurned trees table clauses ls → Contains known ls
   short_known ls h k = kept_known ls (subst (HasClause clauses) (sym (k.short h)) k.kept)
 
   -- ---- the clauses of a negation
 
-  node_kept : (n m : ℕ) → Negates trees table n m → All (IsKeptTurned trees table clauses) (literals_of_node Not n (m ∷ []))
-  node_kept n m h =
-      let place : h.place < length trees = inside n h.place h.atom in
-      let below : h.argument < length trees = inside m h.argument h.negated in
-      let term : HasTerm trees table clauses n h.place = parts n h.atom.0 h.place (h.atom.1 (Truth 0)) in
-      let tree : tree_with trees term.head term.arguments ≡ tree_with trees (Theory Not) (h.argument ∷ []) = sym term.tree ∙ h.node in
-      let heads : term.head ≡ Theory Not = head_of term.head (Theory Not) (pick trees term.arguments) (pick trees (h.argument ∷ [])) tree in
-      let one_below : All (λ i. i < length trees) (h.argument ∷ []) = All-cons (λ i. i < length trees) h.argument [] below (All-nil (λ i. i < length trees)) in
-      let each_below : All (λ i. i < length trees) term.arguments = All-weaker (λ i. i < h.place) (λ i. i < length trees) (λ i l. omega arith) term.arguments term.earlier in
-      let same : term.arguments ≡ h.argument ∷ [] =
-      told term.arguments (h.argument ∷ []) each_below one_below (arguments_same term.head (Theory Not) (pick trees term.arguments) (pick trees (h.argument ∷ [])) tree) in
-      let numbered : All (λ i. Contains table (Truth i)) (h.argument ∷ []) =
-      All-cons (λ i. Contains table (Truth i)) h.argument [] (contained table m (Truth h.argument) h.negated) (All-nil (λ i. Contains table (Truth i))) in
-      let has : HasNode trees table clauses n Not (h.argument ∷ []) =
-      subst (HasNode trees table clauses n Not) same (term.kept Not heads (subst (All (λ i. Contains table (Truth i))) (sym same) numbered)) in
-      let numbers : has.numbers ≡ m ∷ [] = one_number table h.argument has.numbers m apart has.are h.negated in
-      subst (λ xs. All (IsKeptTurned trees table clauses) (literals_of_node Not n xs)) numbers has.kept
-
   either : (n m : ℕ) → Negates trees table n m → Contains known (yes n ∷ yes m ∷ [])
   either n m h =
-      short_known (yes n ∷ yes m ∷ []) (omega arith) (All-contains (IsKeptTurned trees table clauses) (literals_of_node Not n (m ∷ [])) (yes n ∷ yes m ∷ []) (node_kept n m h) (both_clauses n m).0)
+      short_known (yes n ∷ yes m ∷ []) (omega arith) (All-contains (IsKeptTurned trees table clauses) (literals_of_node Not n (m ∷ [])) (yes n ∷ yes m ∷ []) (negations n m h) (both_clauses n m).0)
 
   not_both : (n m : ℕ) → Negates trees table n m → Contains known (no n ∷ no m ∷ [])
   not_both n m h =
-      short_known (no n ∷ no m ∷ []) (omega arith) (All-contains (IsKeptTurned trees table clauses) (literals_of_node Not n (m ∷ [])) (no n ∷ no m ∷ []) (node_kept n m h) (both_clauses n m).1)
+      short_known (no n ∷ no m ∷ []) (omega arith) (All-contains (IsKeptTurned trees table clauses) (literals_of_node Not n (m ∷ [])) (no n ∷ no m ∷ []) (negations n m h) (both_clauses n m).1)
 
   -- ---- what is reached with a literal is reached with the other
 
@@ -229,3 +221,16 @@ module _ (trees : List Tree) (table : List Atom) (apart : AreApart table) (told 
     | inl r ↦ inl (reached cs held (map opposite (before ++ after)) r)
     | inr c ↦ inr (conflicts cs held (map opposite (before ++ after)) c)
   ]
+
+-- ---- no atom has both signs
+
+not_opposite : (b : Bool) → b ≡ not b → ⊥
+not_opposite true h = cc
+not_opposite false h = cc
+
+pub no_pair_at : (ls : List Signed) → HasNoAtomTwice ls → (l : Signed) (j k : ℕ) → j < length ls → k < length ls → slice_index_or ls j l ≡ l → slice_index_or ls k (opposite l) ≡ opposite l → ⊥
+no_pair_at [] h l j k a b p q = absurd (omega arith)
+no_pair_at (m ∷ ls) h l zero zero a b p q = not_opposite l.positive (ap (λ (x : Signed). x.positive) (sym p ∙ q))
+no_pair_at (m ∷ ls) h l zero (suc k) a b p q = h.0 k (opposite l) (omega arith) (ap (λ (x : Signed). x.atom) p ∙ sym (ap (λ (x : Signed). x.atom) q))
+no_pair_at (m ∷ ls) h l (suc j) zero a b p q = h.0 j l (omega arith) (ap (λ (x : Signed). x.atom) q ∙ sym (ap (λ (x : Signed). x.atom) p))
+no_pair_at (m ∷ ls) h l (suc j) (suc k) a b p q = no_pair_at ls h.1 l j k (omega arith) (omega arith) p q

@@ -1,4 +1,4 @@
--- The first clauses of a search: what each says follows from the stack, the assertions are among them, and they force the clauses of each part.
+-- Clauses that are kept and follow, the assertions among them, and what they force.
 use Rattle.std.specs.Prelude.{◌≡◌, ℕ, ◌<◌, true, List, [], ◌∷◌, map, length, All, Contains}
 use Rattle.literals.specs.Signed.{Signed, opposite}
 use Rattle.clause_store.specs.Stored.{Kept, Stored}
@@ -10,15 +10,10 @@ use Rattle.smt_meaning.specs.declared.clauses.Literal.{Literal}
 use Rattle.smt_meaning.specs.Forced.{Sign, Forces, IsClauseOf, literals_of}
 use Rattle.smt_meaning.specs.Report.{IsPartOfStack}
 use Rattle.smt_meaning.specs.Term.{Tree, Trees, node, tree_at}
-use Rattle.smt_meaning.specs.Stack.{signature_of, assertions_of}
+use Rattle.smt_meaning.specs.Stack.{signature_of}
 use Rattle.smt_meaning.specs.StackCommand.{Stack}
 use Rattle.search_port.specs.State.{Reading, atom_at}
 use Rattle.search_port.specs.Valid.{IsOver, FollowsAt}
-use Rattle.smt_laws.specs.Flat.{flat}
-
--- by what the clauses are read: the atom of each number, and all levels of the stack as one
-abbrev pub reading_of : Stack → List Atom → Reading
-reading_of s table = record { trees = s.trees; frames = flat s.frames; table = table; closed = true }
 
 -- a clause over the numbered atoms that follows at this level
 pub record IsClause (q : Reading) (level : ℕ) (ls : List Signed) : Type 0 where
@@ -67,9 +62,3 @@ pub record IsForced (table : List Atom) (known : List (List Signed)) (ss : List 
 abbrev pub ForcesParts : Stack → List Atom → List (List Signed) → Type 0
 ForcesParts s table known =
     (o : Operator) (us : Trees) (ss : List Sign) → IsPartOfStack s.frames (node (Theory o) us) → IsClauseOf s.trees (signature_of s.frames) o us ss → IsForced table known ss
-
--- each assertion is a clause, and the clauses of each part are forced
-pub record IsFirst (s : Stack) (table : List Atom) (stored : Stored) : Type 0 where
-  pub begun : IsBegun (reading_of s table) stored
-  pub assertions : All (IsAsserted s.trees table stored.clauses) (assertions_of s.frames)
-  pub forced : ForcesParts s table (map (λ (c : Kept). c.literals) stored.clauses)

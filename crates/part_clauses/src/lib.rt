@@ -1,16 +1,11 @@
-//! The first clauses of a search over a stack without integers: those that say of each part what
-//! its operator does, and that the assertions are true.
+//! The words of the first clauses of a search, and how these clauses are kept.
 //!
-//! `part_clauses`: each clause that is kept is over these atoms and follows from the stack, also
-//! that two equalities of a triangle give the third. That each assertion is true is one of them;
-//! together they force every node clause of every part.
+//! A first clause is over the numbered atoms and follows from the stack. That each assertion is
+//! true is one of them, and together they force the clauses of every part.
+//!
+//! `keep`, `keep_all`: a clause is kept, and what was kept stays.
 #![tactic(auto)]
 
-mod clauses;
-mod keep;
-mod nodes;
-mod numbers;
-mod triangles;
-mod turn;
+mod storing;
 
-pub use clauses::part_clauses;
+pub use storing::{keep, keep_all};

@@ -5,11 +5,13 @@ ghost use Rattle.smt_meaning.specs.Report.{Shows};
 ghost use Rattle.smt_laws.specs.Numerals.{numerals_fit};
 ghost use Rattle.theory_port.specs.Verdicts.{IsVerdict};
 ghost use Rattle.check_atoms.specs.OfStack.{IsRefused};
+ghost use Rattle.check_search.specs.Endings.{MemoryAloneEnds};
 ghost use Rattle.range_reports.specs.Causes.{pair_seen, cause_of, only_report};
 
 use crate::numerals::numerals_fit;
 use bound_clauses::{Order, Sense};
 use check_atoms::{Refusal, refused_term_leaves_range};
+use check_search::nothing_leaves_range;
 use pair_ranges::lawful_pairs_leave_range;
 use scope_stack::Stack;
 use smt_meaning::{Cause, RangeSeen, Report, Seq, Settings, TermId};
@@ -58,7 +60,7 @@ fn unknown(
 }
 
 /// The answer to a check whose atoms aren't numbered: its one worker shows where folding left the range, or that memory was wanting. On a stack with a numeral
-/// outside the range, which no commands make, it shows want of memory. An `Err` is for want of memory.
+/// outside the range, which no commands make, it shows want of memory. Without a limit and without an Int it shows want of memory alone. An `Err` is for want of memory.
 pub fn refused(
     alloc: Global,
     stack: &Stack,
@@ -68,8 +70,10 @@ pub fn refused(
     requires { IsRefused stack.now refusal }
     ensures verdict { IfOk result (IsVerdict stack.now.trees stack.now.frames settings.now.units) }
     ensures cause { All (λ (t : Tree). IsTrue (numerals_fit t)) stack.now.trees → IfOk result (λ v. v ≡ only_report (cause_of refusal)) }
+    ensures memory { IfOk result (MemoryAloneEnds stack.now.frames settings.now.units) }
 {
     stack.laws();
+    nothing_leaves_range();
     refused_term_leaves_range();
     lawful_pairs_leave_range();
     if !numerals_fit(stack.terms()) {

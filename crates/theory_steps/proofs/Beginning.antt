@@ -22,7 +22,7 @@ use Rattle.smt_laws.specs.Flat.{flat, FlatSaysTheSame}
 use Rattle.stack_atoms.specs.Parts.{IsMarked}
 use Rattle.stack_atoms.specs.Marks.{AreStackParts}
 use Rattle.check_atoms.specs.OfStack.{AreCheckAtoms}
-use Rattle.check_atoms.specs.Laws.{AtomsAreOfStack}
+use Rattle.check_atoms.specs.Laws.{AtomsAreFirst}
 use Rattle.check_clauses.specs.Shapes.{AreFlags}
 use Rattle.check_clauses.proofs.Parts as Parts
 use Rattle.model_build.specs.Parts.{AreSortedParts}
@@ -34,7 +34,7 @@ use Rattle.theory_steps.specs.Columns.{with_leaves}
 use Rattle.theory_steps.specs.Errors.{IsErrorIn, IsErrorSeen, IsSumIn}
 use Rattle.theory_steps.specs.Pairs.{HaveReadable}
 use Rattle.theory_steps.specs.Shown.{AreShown}
-use Rattle.theory_steps.proofs.Comparing.{first_atoms, over_leaves}
+use Rattle.theory_steps.proofs.Comparing.{over_leaves}
 use Rattle.theory_steps.proofs.Marking.{marked_is_of}
 use Rattle.theory_steps.proofs.Past.{step_left}
 use Rattle.theory_steps.proofs.Sums.{check_sums}
@@ -68,19 +68,19 @@ module _ (s : Stack) (marks : List Bool) (law : IsLawful s) (parts : AreStackPar
         All-weaker (λ (a : Atom). All (IsMarked marks) (atom_places a)) (IsOf s.trees (flat s.frames)) (λ a m. marked_is_of symbols flat_law s marks sorted_parts a m) table atoms.over_parts;
   }
 
-module _ (flat_law : FlatSaysTheSame) (stack_law : AtomsAreOfStack) (s : Stack) (marks : List Bool) (table : List Atom) (lawful : IsLawful s) (parts : AreStackParts s marks) (atoms : AreCheckAtoms s marks table) where
+module _ (flat_law : FlatSaysTheSame) (first_law : AtomsAreFirst) (s : Stack) (marks : List Bool) (table : List Atom) (lawful : IsLawful s) (parts : AreStackParts s marks) (atoms : AreCheckAtoms s marks table) where
   -- the sums of leaves and of the first atoms are of the check
   pub begins_known : (own : List ℕ) → All (IsLeaf s.trees (flat s.frames)) own → (sums : List (List Summand)) → AllPairs (λ (ps qs : List Summand). ps ≢ qs) sums → All (IsSumIn (with_leaves own table)) sums
       → AreCheckSums s.trees (flat s.frames) sums
   begins_known own leaves sums apart h =
-      check_sums s [] [] tt table (first_atoms flat_law s table (stack_law s marks table lawful parts atoms)) (over_leaves flat_law s table atoms.leaves) own leaves sums apart h
+      check_sums s [] [] tt table (first_law s marks table lawful parts atoms).1.first (over_leaves flat_law s table atoms.leaves) own leaves sums apart h
 
   -- nothing is seen, and there is no branch
   pub begins_shown : (sums : List (List Summand)) → AreCheckSums s.trees (flat s.frames) sums → AreShown s sums [] None table
   begins_shown sums known = record {
     sums_known = known;
     branches = tt;
-    atoms = first_atoms flat_law s table (stack_law s marks table lawful parts atoms);
+    atoms = (first_law s marks table lawful parts atoms).1.first;
     seen = tt;
     leaves = over_leaves flat_law s table atoms.leaves;
   }

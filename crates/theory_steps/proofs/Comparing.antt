@@ -1,6 +1,6 @@
 -- Atoms that compare two parts, and foldings of parts that leave the range.
 use Rattle.std.proofs.Common.{◌≡◌, ◌∙◌, ℕ, ◌<◌, ◌&&◌, Bool, true, false, List, [], ◌∷◌, Some, length, All, Contains, refl, sym, ap, ap₂, subst, inl, inr, ◌⊎◌, arith}
-use Rattle.std.specs.Prelude.{Option, flat_map, if◌then◌else◌}
+use Rattle.std.specs.Prelude.{Option, if◌then◌else◌}
 use Rattle.std.proofs.lemmas.List.Elements.{All-nil, All-weaker}
 use Rattle.fraction128.specs.declared.Line.{Line}
 use Rattle.smt_meaning.specs.declared.values.Sort.{Sort}
@@ -14,7 +14,7 @@ use Rattle.smt_meaning.specs.Signature.{tree_sort, is_int}
 use Rattle.smt_meaning.specs.Linear.{linear_form, form_fits, folding_fits}
 use Rattle.smt_meaning.specs.Clause.{sum_places}
 use Rattle.smt_meaning.specs.Comparisons.{pair_fits}
-use Rattle.smt_meaning.specs.Atoms.{pair_atoms, at_most_atom, atoms_of, stack_atoms, stack_atoms_are}
+use Rattle.smt_meaning.specs.Atoms.{pair_atoms, at_most_atom}
 use Rattle.smt_meaning.specs.Stack.{signature_of}
 use Rattle.smt_meaning.specs.StackCommand.{Stack}
 use Rattle.smt_meaning.specs.CheckAtoms.{IsPartOfStack, IsIntPart, IsLeaf, ComparesParts, IsFirstAtom}
@@ -153,15 +153,6 @@ flat_leaf flat_law s p h =
       };
       is = h.is;
     }
-
-stack_atoms_same : FlatSaysTheSame → (s : Stack) → stack_atoms s.trees (flat s.frames) ≡ stack_atoms s.trees s.frames
-stack_atoms_same flat_law s =
-    let same : SaysTheSame s.frames = flat_law s.frames in
-    stack_atoms_are s.trees (flat s.frames) ∙ ap₂ (λ (ds : List Declaration) (us : List Tree). flat_map (atoms_of s.trees ds) us) same.signature same.assertions ∙ sym (stack_atoms_are s.trees s.frames)
-
-pub first_atoms : FlatSaysTheSame → (s : Stack) (table : List Atom) → All (Contains (stack_atoms s.trees s.frames)) table → All (IsOfCheck s []) table
-first_atoms flat_law s table h =
-    All-weaker (Contains (stack_atoms s.trees s.frames)) (IsOfCheck s []) (λ a c. inl (subst (λ (xs : List Atom). Contains xs a) (sym (stack_atoms_same flat_law s)) c)) table h
 
 pub over_leaves : FlatSaysTheSame → (s : Stack) (table : List Atom) → All (λ (a : Atom). All (IsLeaf s.trees s.frames) (bound_terms a)) table → All (IsOverLeaves s) table
 over_leaves flat_law s table h =

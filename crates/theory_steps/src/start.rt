@@ -26,7 +26,7 @@ use crate::held::{Held, Looked};
 use crate::leaves::is_marked_leaf;
 use atom_numbers::{AtomNumbers, NumberedAtom};
 use bound_log::{BoundLog, sums_are_apart};
-use check_atoms::atoms_are_of_stack;
+use check_atoms::atoms_are_first;
 use check_clauses::linear_terms;
 use closure_log::{ClosureLog, Guide, Scan};
 use scope_stack::Stack;
@@ -182,7 +182,7 @@ fn begin_with(
     stack.laws();
     symbols_are_declared();
     flat_says_the_same();
-    atoms_are_of_stack();
+    atoms_are_first();
     sums_are_apart();
     if stack.terms().len() >= u32::MAX - 2 {
         return Err(AllocError);
@@ -227,7 +227,7 @@ pub fn begin(
 {
     stack.laws();
     flat_says_the_same();
-    atoms_are_of_stack();
+    atoms_are_first();
     let bounds = bounds_of(alloc, stack, atoms)?;
     let begun = begin_with(alloc, stack, marks, atoms, bounds)?;
     Ok(begun)

@@ -1,30 +1,32 @@
 //! The decider.
 ghost use Rattle.std.specs.Prelude.{IfOk};
 ghost use Rattle.theory_port.specs.Verdicts.{IsVerdict};
+ghost use Rattle.check_search.specs.Endings.{MemoryAloneEnds};
 
 use check_atoms::{atoms_are_first, numbered};
 use check_clauses::check_clauses;
 use check_search::{out_of_range, search, unknown};
-use equality_decider::Alone;
 use kept_axioms::keep_axioms;
 use range_reports::refused;
 use scope_stack::Stack;
 use smt_meaning::{RangeSeen, Settings};
+use stack_atoms::takes;
 use std::alloc::{AllocError, Global};
 use theory_combine::{BoundError, Combined};
 use theory_port::{Decider, Verdict};
 
-/// Decides the checks of all stacks: those without integers by the closure of congruence alone, others by the theory of equality and whole numbers.
-/// Each check begins anew.
+/// Decides the checks of all stacks by the theory of equality and whole numbers. Each check begins anew.
 #[derive(Clone, Copy, Drop)]
 pub struct Whole;
 
-/// Decides a check of a stack with integers.
-fn decide_integers(alloc: Global, stack: &Stack, settings: &Settings) -> Result<Verdict, AllocError>
-    ensures { IfOk result (IsVerdict stack.now.trees stack.now.frames settings.now.units) }
+/// Numbers the atoms of the stack, and searches from its first clauses on. Where there is no limit and no part is an Int, memory alone ends the check without an answer.
+fn check(alloc: Global, stack: &Stack, settings: &Settings) -> Result<Verdict, AllocError>
+    ensures verdict { IfOk result (IsVerdict stack.now.trees stack.now.frames settings.now.units) }
+    ensures memory { IfOk result (MemoryAloneEnds stack.now.frames settings.now.units) }
 {
     stack.laws();
     atoms_are_first();
+    let is_integer_free = takes(alloc, stack)?;
     let mut parts = match numbered(alloc, stack) {
         Ok(parts) => parts,
         Err(refusal) => return refused(alloc, stack, settings, refusal),
@@ -36,7 +38,7 @@ fn decide_integers(alloc: Global, stack: &Stack, settings: &Settings) -> Result<
         return unknown(alloc, stack, settings);
     };
     match Combined::new(alloc, stack, parts) {
-        Ok(theory) => search(alloc, stack, settings, theory, store),
+        Ok(theory) => search(alloc, stack, settings, is_integer_free, theory, store),
         Err(BoundError::Memory) => unknown(alloc, stack, settings),
         Err(BoundError::Range(grid)) => {
             out_of_range(alloc, stack, settings, RangeSeen::Step(grid))
@@ -58,14 +60,11 @@ impl Decider for Whole {
         alloc: Global,
         stack: &Stack,
         settings: &Settings,
-    ) -> Result<Verdict, AllocError> {
-        let mut plain = Alone;
-        let taken = plain.takes(alloc, stack)?;
-        if taken {
-            plain.decide(alloc, stack, settings)
-        } else {
-            decide_integers(alloc, stack, settings)
-        }
+    ) -> Result<Verdict, AllocError>
+        ensures verdict { IfOk result (IsVerdict stack.now.trees stack.now.frames settings.now.units) }
+        ensures memory { IfOk result (MemoryAloneEnds stack.now.frames settings.now.units) }
+    {
+        check(alloc, stack, settings)
     }
 
     fn cut_to(&mut self, _level: i32) {}

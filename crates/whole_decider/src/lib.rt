@@ -1,11 +1,11 @@
 //! Decides the checks of all stacks.
 //!
-//! `Whole` takes every stack: those without integers go to `equality_decider`, others are searched
-//! over `theory_combine`. `sat` comes with tables under which the evaluator finds every assertion
-//! true and each number in the range, `unsat` where the empty clause follows.
+//! `Whole` takes every stack, and searches over `theory_combine`. `sat` comes with tables that make
+//! every assertion true, with each number in the range, `unsat` where the empty clause follows.
 //!
 //! Else comes a report of worker 0: where folding left the range while the atoms were numbered, or
 //! the row of a first atom did, what the search shows where it ended, or that memory is wanting.
+//! Without a limit of units and without an Int it is want of memory alone.
 #![tactic(auto)]
 
 mod decider;

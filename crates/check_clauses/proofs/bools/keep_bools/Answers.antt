@@ -3,11 +3,11 @@ use Rattle.std.proofs.lemmas.List.Elements.{All-weaker, All-tail}
 use Rattle.literals.specs.Signed.{Signed}
 use Rattle.clause_form.specs.Node.{literals_of_node}
 use Rattle.smt_meaning.specs.declared.clauses.Atom.TheVariants.{Truth}
-use Rattle.search_port.specs.State.{Reading, truth_atoms}
-use Rattle.part_clauses.specs.First.{IsBegun, IsClause, HasClause}
+use Rattle.search_port.specs.State.{truth_atoms}
+use Rattle.part_clauses.specs.Turned.{IsKeptTurned}
 use Rattle.part_clauses.proofs.Numbering.{numbers_within}
-use Rattle.part_clauses.proofs.Keeping.{known, on_ok}
-use Rattle.check_clauses.specs.First.{reading_of, HasTruths}
+use Rattle.part_clauses.proofs.Keeping.{on_ok}
+use Rattle.check_clauses.specs.First.{HasTruths}
 use Rattle.check_clauses.proofs.Following.{clauses_are}
 use Rattle.check_clauses.proofs.bools.keep_bools.Goals as goal
 
@@ -27,38 +27,25 @@ put_node-requires-clause-arguments c =
     (All-weaker (λ n. n < length c.args.atoms.now.atoms) (λ n. n < 2 ^ 31) (λ n l. omega arith) c.truth_numbers.new.numbers.items
     (numbers_within c.args.atoms.now.atoms (truth_atoms c.args.arguments.now) c.truth_numbers.new.numbers.items c.in_ok-truth_numbers.ensures))
 
-pub keep_all-requires : goal.keep_all-requires
-keep_all-requires c =
-    let s = c.args.stack.now in
-    let table = c.args.atoms.now.atoms in
-    let clauses : All (IsClause (reading_of s table) 0) c.put_node.new.clauses =
-    clauses_are c.flat_says_the_same.ensures s table c.requires.declared c.value_has_its_sort.ensures c.node_clauses_hold.ensures c.in-Some.number c.args.place c.args.operator c.args.arguments.now
+pub keep_all_turned-requires-clause-follow : goal.keep_all_turned-requires-clause-follow
+keep_all_turned-requires-clause-follow c =
+    clauses_are c.flat_says_the_same.ensures c.args.stack.now c.args.atoms.now.atoms c.requires.declared c.value_has_its_sort.ensures c.node_clauses_hold.ensures c.in-Some.number c.args.place c.args.operator c.args.arguments.now
     c.truth_numbers.new.numbers.items c.deref.result.now c.clear.new.self c.put_node.new.clauses c.requires.sorted c.in-Some.ensures.some c.requires.node c.requires.earlier c.in_ok-truth_numbers.ensures
-    c.deref.ensures.value c.clear.ensures c.in_ok-put_node.ensures in
-    known (reading_of s table) c.args.store.now c.put_node.new.clauses c.requires.begun clauses
-
-pub returns-clause-begun : goal.returns-clause-begun
-returns-clause-begun c =
-    let s = c.args.stack.now in
-    let table = c.args.atoms.now.atoms in
-    let clauses : All (IsClause (reading_of s table) 0) c.put_node.new.clauses =
-    clauses_are c.flat_says_the_same.ensures s table c.requires.declared c.value_has_its_sort.ensures c.node_clauses_hold.ensures c.in-Some.number c.args.place c.args.operator c.args.arguments.now
-    c.truth_numbers.new.numbers.items c.deref.result.now c.clear.new.self c.put_node.new.clauses c.requires.sorted c.in-Some.ensures.some c.requires.node c.requires.earlier c.in_ok-truth_numbers.ensures
-    c.deref.ensures.value c.clear.ensures c.in_ok-put_node.ensures in
-    on_ok c.keep_all.result ((q : Reading) → IsBegun q c.args.store.now → All (IsClause q 0) c.put_node.new.clauses → IsBegun q c.keep_all.new.store)
-    (IsBegun (reading_of s table) c.keep_all.new.store) c.keep_all.ensures.begun (λ h. h (reading_of s table) c.requires.begun clauses)
+    c.deref.ensures.value c.clear.ensures c.in_ok-put_node.ensures
 
 pub returns-clause-has : goal.returns-clause-has
 returns-clause-has c =
+    let trees = c.args.stack.now.trees in
     let table = c.args.atoms.now.atoms in
     let numbers = c.truth_numbers.new.numbers.items in
+    let clauses = c.keep_all_turned.new.store.clauses in
     let same : c.put_node.new.clauses ≡ literals_of_node c.args.operator c.in-Some.number numbers =
     c.in_ok-put_node.ensures ∙ (ap (λ (cs : List (List Signed)). cs ++ literals_of_node c.args.operator c.in-Some.number c.deref.result.now) c.clear.ensures ∙ ap (literals_of_node c.args.operator c.in-Some.number) c.deref.ensures.value) in
-    on_ok c.keep_all.result (All (HasClause c.keep_all.new.store.clauses) c.put_node.new.clauses) (HasTruths table c.keep_all.new.store.clauses c.args.place c.args.operator c.args.arguments.now) c.keep_all.ensures.has
+    on_ok c.keep_all_turned.result (All (IsKeptTurned trees table clauses) c.put_node.new.clauses) (HasTruths trees table clauses c.args.place c.args.operator c.args.arguments.now) c.keep_all_turned.ensures.has
     (λ all. record {
       number = c.in-Some.number;
       numbers = numbers;
       here = c.in-Some.ensures.some;
       are = c.in_ok-truth_numbers.ensures;
-      kept = subst (All (HasClause c.keep_all.new.store.clauses)) same all;
+      kept = subst (All (IsKeptTurned trees table clauses)) same all;
     })

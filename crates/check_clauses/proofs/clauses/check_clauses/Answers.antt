@@ -17,7 +17,7 @@ keep_assertions-requires-clause-asserted c = are_assertions c.args.stack.now c.a
 pub returns-clause-parts : goal.returns-clause-parts
 returns-clause-parts c = λ p.
     part_stays c.keep_parts.new.store.clauses c.keep_assertions.new.store.clauses c.keep_assertions.ensures.stay c.args.stack.now c.args.parts.now.marks.items c.args.sorts.now c.args.parts.now.atoms.atoms p
-    (subst (λ (ms : List Bool). HasPartAt c.args.stack.now ms c.args.sorts.now c.args.parts.now.atoms.atoms c.keep_parts.new.store.clauses p) c.deref.ensures.value (c.in_ok-keep_parts.ensures.has p))
+    (subst (λ (ms : List Bool). HasPartAt c.args.stack.now ms c.args.sorts.now c.args.parts.now.atoms.atoms c.keep_parts.new.store.clauses p) c.deref-2.ensures.value (c.in_ok-keep_parts.ensures.has p))
 
 pub returns-clause-first : goal.returns-clause-first
 returns-clause-first c =

@@ -37,8 +37,8 @@ model-requires-clause-holds g c =
     let grown : IsGrown (reading_of s before.table) after = subst (λ (r : Reading). IsGrown r after) c.requires.reading c.in-Full.ensures.run.turns.grown in
     holds c.first_clauses_say_assertions.ensures s before.table c.args.store after c.solve.new.store.clauses c.in-Full.tables c.requires.first grown c.in-Full.ensures.run.stay c.in-Full.ensures.outcome
 
-pub returns-in-False : goal.returns-in-False
-returns-in-False g c =
+pub returns-in-False-clause-verdict : goal.returns-in-False-clause-verdict
+returns-in-False-clause-verdict g c =
     let s = c.args.stack.now in
     let before : Reading = (g.T.Theory.state c.args.theory).reading in
     let after : Reading = (g.T.Theory.state c.solve.new.theory).reading in

@@ -13,7 +13,7 @@ returns-in_err-bounds-clause-err c =
     let s = c.args.stack.now in
     let e = c.in_err-bounds.field-0.0 in
     err_is c.from_residual.result e (IsErrorSeen s) c.from_residual.ensures.1
-    (error_seen c.flat_says_the_same.ensures c.atoms_are_of_stack.ensures s c.args.marks.now c.args.atoms.now.atoms c.laws.ensures c.requires.marks c.requires.atoms e c.in_err-bounds.ensures.err)
+    (error_seen c.flat_says_the_same.ensures c.atoms_are_first.ensures s c.args.marks.now c.args.atoms.now.atoms c.laws.ensures c.requires.marks c.requires.atoms e c.in_err-bounds.ensures.err)
 
 pub begin_with-requires-clause-columns : goal.begin_with-requires-clause-columns
 begin_with-requires-clause-columns c =

@@ -36,8 +36,8 @@ returns c =
       log = c.in_ok-closure.ensures.log;
       of_assertions = c.requires.marks.only;
       shown =
-          begins_shown c.flat_says_the_same.ensures c.atoms_are_of_stack.ensures c.args.stack.now c.args.marks.now c.args.atoms.now.atoms c.laws.ensures c.requires.marks c.requires.atoms (column_sums bounds)
-          (begins_known c.flat_says_the_same.ensures c.atoms_are_of_stack.ensures c.args.stack.now c.args.marks.now c.args.atoms.now.atoms c.laws.ensures c.requires.marks c.requires.atoms columns.own columns.leaves
+          begins_shown c.flat_says_the_same.ensures c.atoms_are_first.ensures c.args.stack.now c.args.marks.now c.args.atoms.now.atoms c.laws.ensures c.requires.marks c.requires.atoms (column_sums bounds)
+          (begins_known c.flat_says_the_same.ensures c.atoms_are_first.ensures c.args.stack.now c.args.marks.now c.args.atoms.now.atoms c.laws.ensures c.requires.marks c.requires.atoms columns.own columns.leaves
           (column_sums bounds) (c.sums_are_apart.ensures bounds c.facts.ensures) (sums_in (with_leaves columns.own c.args.atoms.now.atoms) bounds columns.columns));
       basis = c.add_leaves.ensures.basis c.requires.basis;
     }

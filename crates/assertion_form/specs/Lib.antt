@@ -1,4 +1,0 @@
-pub mod Given
-pub mod Form
-pub mod Reading
-pub mod Renamed

@@ -1,6 +1,0 @@
-pub mod Going
-pub mod Pressing
-pub mod Saying
-pub mod Scanning
-pub mod Setting
-pub mod Telling

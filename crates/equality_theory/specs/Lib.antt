@@ -1,5 +1,0 @@
-pub mod Places
-pub mod Said
-pub mod Seen
-pub mod StateCode
-pub mod Told

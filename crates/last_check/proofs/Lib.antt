@@ -1,4 +1,0 @@
-pub mod Nodes
-pub mod Made
-pub mod True
-pub mod End

@@ -1,9 +1,0 @@
-pub mod Operating
-pub mod Sorting
-pub mod Lists
-pub mod Adding
-pub mod Looking
-pub mod Telling
-pub mod Connecting
-pub mod Comparing
-pub mod Judging

@@ -1,0 +1,5 @@
+pub mod Clausing
+pub mod Odd
+pub mod Reading
+pub mod Telling
+pub mod Wide

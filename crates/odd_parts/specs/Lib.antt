@@ -1,0 +1,4 @@
+pub mod Laws
+pub mod Odd
+pub mod Parts
+pub mod Read

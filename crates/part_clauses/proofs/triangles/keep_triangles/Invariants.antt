@@ -1,5 +1,0 @@
-use Rattle.part_clauses.specs.First.{reading_of, IsBegun}
-use Rattle.part_clauses.proofs.triangles.keep_triangles.Given as goal
-
-abbrev pub invariant-loop-triangle : goal.invariant-loop-triangle
-invariant-loop-triangle l = IsBegun (reading_of l.stack l.atoms.table) l.store

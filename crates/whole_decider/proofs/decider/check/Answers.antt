@@ -1,0 +1,14 @@
+use Rattle.std.proofs.Common.{◌⊎◌, ◌∙◌, List, Contains, sym, ap, subst}
+use Rattle.smt_meaning.specs.declared.clauses.Atom.{Atom}
+use Rattle.search_port.specs.State.{Reading}
+use Rattle.check_atoms.specs.declared.atoms.CheckAtoms.{CheckAtoms}
+use Rattle.check_atoms.specs.Laws.{IsSameOfNoInts}
+use Rattle.whole_decider.proofs.decider.check.Goals as goal
+
+pub search-requires-clause-all : goal.search-requires-clause-all
+search-requires-clause-all c =
+    let s = c.args.stack.now in
+    let first = c.atoms_are_first.ensures s c.in-Ok.parts.marks.items c.in-Ok.parts.atoms.atoms c.laws.ensures c.in-Ok.ensures.parts c.in-Ok.ensures.atoms in
+    λ a among.
+    subst (λ (table : List Atom). Contains table a ⊎ IsSameOfNoInts s a)
+    (sym (ap (λ (r : Reading). r.table) c.in-Ok-new.ensures.reading ∙ ap (λ (p : CheckAtoms). p.atoms.atoms) c.check_clauses.ensures.same)) (first.0.all a among)
