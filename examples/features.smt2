@@ -1,8 +1,9 @@
 ; Which features of a product can be built together? Each question is a check under assumptions, over rules that stay.
 ; Declarations are global, so what a level declares is still there when its rules are gone; names tell of a plan which of its
 ; points it keeps.
-; The answers: the plain product can be built; encrypted search can't, since it needs an index that encryption excludes; offline
-; use alone can, and then it has storage of at most 64 units, which the last check finds too little for offline maps.
+; The answers: the plain product can be built; encrypted search can't, since search needs an index, which is never made of
+; secrets; offline use can, without search, and the names tell that it keeps all three points. Maps offline can't, as 100 tiles
+; don't fit; without maps 16 units of storage do. Once the level's rules are gone, a thousand tiles do fit: its constant stays.
 (set-option :print-success false)
 (set-option :produce-models true)
 (set-option :produce-assignments true)
@@ -30,5 +31,4 @@
 (check-sat-assuming (offline (not maps) (= storage 16)))
 (get-value (storage offline))
 (pop 1)
-; The level's rules are gone, its constant isn't.
 (check-sat-assuming ((= tiles 1000) maps offline))
