@@ -1,10 +1,9 @@
 #!/usr/bin/env bash
-# The time and the peak memory of deciding Boolean scripts by the program, which keeps every learnt clause, and by the search that forgets, beside z3 on the same scripts and minisat on the same clauses, each where it is there.
-# Use: bench/boolean.sh [SMT_CLI [FORGETTING_CHECKS [SECONDS]]], at the top of the repository.
+# The time and the peak memory of deciding Boolean scripts by the program, which keeps every learnt clause, beside z3 on the same scripts and minisat on the same clauses, each where it is there.
+# Use: bench/boolean.sh [SMT_CLI [SECONDS]], at the top of the repository.
 set -eu
 program=${1:-crates/smt_cli/out/smt_cli}
-forgetting=${2:-crates/forgetting_checks/out/forgetting_checks}
-limit=${3:-20}
+limit=${2:-20}
 folder=$(mktemp -d)
 trap 'rm -rf "$folder"' EXIT
 python3 - "$folder" << 'END'
@@ -98,7 +97,7 @@ measure() {
     most=$(tail -n 1 "$folder/kilobytes")
 }
 solvers=()
-for solver in "$program" "$forgetting" z3 minisat; do
+for solver in "$program" z3 minisat; do
     command -v "$solver" > /dev/null && solvers+=("$solver")
 done
 for script in "$folder"/*.smt2; do
