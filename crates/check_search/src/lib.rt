@@ -1,5 +1,5 @@
-//! The search over the first clauses of a stack with integers, and what it shows where it ends
-//! without an answer.
+//! The search over the first clauses of a stack, and what it shows where it ends without an
+//! answer.
 //!
 //! `search`: from first clauses that force the clauses of the parts, and any theory that was told
 //! nothing and shows how its atoms came: tables that make every assertion true, that there is no
