@@ -2,5 +2,4 @@ pub mod Sorting
 pub mod Integers
 pub mod Marking
 pub mod Places
-pub mod Numbering
 pub mod Taking

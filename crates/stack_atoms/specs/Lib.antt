@@ -1,5 +1,4 @@
 pub mod Parts
 pub mod Atoms
 pub mod Marks
-pub mod Numbers
 pub mod OfStack
