@@ -1,12 +1,27 @@
 -- What a command that is no check comes to is one of the replies that may be given.
-use Rattle.std.proofs.Common.{refl}
+use Rattle.std.proofs.Common.{◌≡◌, ◌∙◌, ◌++◌, ◌∷◌, [], ℕ, ℤ, List, Option, Some, None, true, false, refl, ap, sym, subst, append-nil}
+use Rattle.std.specs.Prelude.{codes}
 use Rattle.smt_meaning.specs.declared.answers.Reply.{Reply}
 use Rattle.smt_meaning.specs.declared.replies.Kept.TheVariants.{Nothing}
 use Rattle.smt_meaning.specs.declared.commands.Command.{Command}
-use Rattle.smt_meaning.specs.declared.commands.Command.TheVariants.{CheckSat}
-use Rattle.smt_meaning.specs.State.{State, Effect, denied, left_out, accepted, answered, checked, effect, with_logic}
-use Rattle.smt_meaning.specs.MayReply.{Decided, MayCome, MayReply}
+use Rattle.smt_meaning.specs.declared.commands.Command.TheVariants.{CheckSat, CheckSatAssuming}
+use Rattle.smt_meaning.specs.State.{State, Effect, denied, left_out, accepted, answered, checked, effect, with_logic, in_logic, checks, assuming, check_assuming, checked_frames, frame_of}
+use Rattle.smt_meaning.specs.MayReply.{Decided, MayCome, MayDecide, MayReply}
 use Rattle.smt_meaning.specs.declared.replies.Kept.{Kept}
+use Rattle.smt_meaning.specs.declared.answers.Reply.TheVariants as Given
+use Rattle.smt_meaning.specs.declared.errors.Error.TheVariants.{Refused as RefusedIn}
+use Rattle.smt_meaning.specs.declared.refusals.Refusal.{Refusal}
+use Rattle.smt_meaning.specs.declared.options.Options.{Options}
+use Rattle.smt_meaning.specs.declared.tokens.Token.{Token}
+use Rattle.smt_meaning.specs.Stack.{Frame}
+use Rattle.smt_meaning.specs.StackCommand.{Stack, assumes, judged, changed, stack_command}
+use Rattle.scope_stack.specs.Carries.{IsRefused, assumption}
+use Rattle.theory_port.specs.declared.decider.Verdict.{Verdict}
+use Rattle.theory_port.specs.Verdicts.{IsVerdict}
+use Rattle.session.specs.declared.answer.Answer.{Answer}
+use Rattle.session.specs.declared.assuming.Assumed.{Assumed}
+use Rattle.session.specs.Above.{above_by}
+use Rattle.session.specs.Assumed.{IsAnswerBy, IsAnswerTo, IsCheckedUnder, IsNotTakenUnder}
 use Rattle.session.specs.Effects.{Comes}
 
 comes_is : (decided : Decided) (old : State) (e : Effect) (reply : Reply) (new : State) → Comes e old reply new → MayCome decided old e reply Nothing new
@@ -22,6 +37,67 @@ unfolding MayReply
 answered_so decided old c reply new h = comes_is decided old (effect old c) reply new h
 
 pub checked_so : (decided : Decided) (old : State) (reply : Reply) (kept : Kept) (new : State)
-    → MayCome decided old (checked (with_logic old)) reply kept new → MayReply decided old CheckSat reply kept new
+    → MayCome decided old (checks old old.stack []) reply kept new → MayReply decided old CheckSat reply kept new
 unfolding MayReply effect
 checked_so decided old reply kept new h = h
+
+pub assumed_so : (decided : Decided) (old : State) (ts : List (List Token)) (reply : Reply) (kept : Kept) (new : State)
+    → MayCome decided old (check_assuming old (stack_command (CheckSatAssuming ts))) reply kept new → MayReply decided old (CheckSatAssuming ts) reply kept new
+unfolding MayReply effect
+assumed_so decided old ts reply kept new h = h
+
+-- ---- checks
+
+options_stay : (l : Option (List ℕ)) (s : State) → (in_logic l s).options ≡ s.options
+options_stay None s = refl
+options_stay (Some n) s = refl
+
+-- a check of this stack, with these levels above it, is answered so
+pub decided_so : (decided : Decided) (old : State) (stack : Stack) (above : List Frame) (limit : ℤ) (a : Answer) (new : State)
+    → decided (stack.frames ++ above) ≡ true → IsAnswerTo stack above limit a → old.options.reproducible_resource_limit ≡ limit
+    → new ≡ record (with_logic old) { mode = a.mode; stack = stack; above = above } → MayCome decided old (checks old stack above) a.reply a.kept new
+decided_so decided old stack above limit a new taken answers lim e =
+    rw taken (subst (MayDecide (record (with_logic old) { stack = stack; above = above }) a.reply a.kept) (sym e)
+    (answers (record (with_logic old) { stack = stack; above = above }) refl refl (ap (λ (o : Options). o.reproducible_resource_limit) (options_stay old.logic old) ∙ lim)))
+
+-- or isn't taken
+pub not_taken_so : (decided : Decided) (old : State) (stack : Stack) (above : List Frame) (new : State) → decided (stack.frames ++ above) ≡ false → new ≡ old
+    → MayCome decided old (checks old stack above) Given.Unsupported Nothing new
+not_taken_so decided old stack above new left e = rw left (record { reply_is = refl; kept_is = refl; new_is = e })
+
+-- what is found of the stack alone answers its check
+pub alone : (stack : Stack) (limit : ℤ) (v : Verdict) (a : Answer) → IsVerdict stack.trees stack.frames limit v → IsAnswerBy v a → IsAnswerTo stack [] limit a
+alone stack limit v a h answers = λ s same none lim.
+    let frames : checked_frames s ≡ stack.frames = ap (λ (t : Stack). t.frames ++ s.above) same ∙ ap (λ fs. stack.frames ++ fs) none ∙ append-nil stack.frames in
+    answers s (subst (λ l. IsVerdict s.stack.trees (checked_frames s) l v) (sym lim)
+    (subst (λ fs. IsVerdict s.stack.trees fs limit v) (sym frames) (subst (λ us. IsVerdict us stack.frames limit v) (sym (ap (λ (t : Stack). t.trees) same)) h)))
+
+-- ---- checks under assumptions
+
+comes_of : (decided : Decided) (old : State) (e f : Effect) (reply : Reply) (kept : Kept) (new : State) → e ≡ f → MayCome decided old f reply kept new → MayCome decided old e reply kept new
+comes_of decided old e f reply kept new same h = subst (λ x. MayCome decided old x reply kept new) (sym same) h
+
+pub under_so : (decided : Decided) (old : State) (ts : List (List Token)) (limit : ℤ) (a : Assumed) (stack : Stack) (new : State) → IsCheckedUnder decided limit ts old.stack a stack
+    → old.options.reproducible_resource_limit ≡ limit
+    → new ≡ record (with_logic old) { mode = a.answer.mode; stack = stack; above = above_by stack.trees (Some a.assumptions) }
+    → MayCome decided old (check_assuming old (stack_command (CheckSatAssuming ts))) a.answer.reply a.answer.kept new
+under_so decided old ts limit a stack new k lim e =
+    let above : above_by stack.trees (Some a.assumptions) ≡ frame_of k.assumed ∷ [] = ap (λ xs. frame_of xs ∷ []) k.assumptions in
+    let frames : stack.frames ≡ old.stack.frames = ap (λ (s : Stack). s.frames) k.new_is in
+    comes_of decided old (assuming old (judged (assumption ts) old.stack)) (checks old stack (frame_of k.assumed ∷ [])) a.answer.reply a.answer.kept new
+    (ap (assuming old) k.is_judged ∙ ap (λ (s : Stack). checks old s (frame_of k.assumed ∷ [])) (sym k.new_is))
+    (decided_so decided old stack (frame_of k.assumed ∷ []) limit a.answer new (ap (λ fs. decided (fs ++ frame_of k.assumed ∷ [])) frames ∙ k.taken) k.answer lim
+    (e ∙ ap (λ fs. record (with_logic old) { mode = a.answer.mode; stack = stack; above = fs }) above))
+
+pub not_under_so : (decided : Decided) (old : State) (ts : List (List Token)) (stack : Stack) (new : State) → IsNotTakenUnder decided ts old.stack stack → new ≡ old
+    → MayCome decided old (check_assuming old (stack_command (CheckSatAssuming ts))) Given.Unsupported Nothing new
+not_under_so decided old ts stack new k e =
+    comes_of decided old (assuming old (judged (assumption ts) old.stack)) (checks old (changed old.stack (assumes k.assumed) k.scope) (frame_of k.assumed ∷ [])) Given.Unsupported Nothing new
+    (ap (assuming old) k.is_judged) (not_taken_so decided old (changed old.stack (assumes k.assumed) k.scope) (frame_of k.assumed ∷ []) new k.left e)
+
+pub refused_under_so : (decided : Decided) (old : State) (ts : List (List Token)) (why : Refusal) (stack : Stack) (reply : Reply) (new : State) → IsRefused (assumption ts) why old.stack stack → new ≡ old
+    → reply ≡ Given.Error (RefusedIn (codes "check-sat-assuming") why)
+    → MayCome decided old (check_assuming old (stack_command (CheckSatAssuming ts))) reply Nothing new
+refused_under_so decided old ts why stack reply new k e r =
+    comes_of decided old (assuming old (judged (assumption ts) old.stack)) (denied (RefusedIn (codes "check-sat-assuming") why)) reply Nothing new
+    (ap (assuming old) k.is_judged) (record { reply_is = r; kept_is = refl; new_is = e })
