@@ -132,14 +132,16 @@ check_so decided old mid stack found before limit v a o new same stays is some a
     (e ∙ ap (λ (s : State). record (with_logic s) { mode = a.mode; above = [] }) m ∙ entered old found before [] a.mode
     ∙ ap (λ (s : Stack). record (with_logic old) { mode = a.mode; stack = s; above = [] }) (stays ∙ same))
 
-pub assumed_ok : (decided : Decided) (old mid : State) (stack found : Stack) (ts : List (List Token)) (limit : ℤ) (o : Option Assumed) (a : Assumed) (new : State)
+pub assumed_ok : (decided : Decided) (old mid : State) (stack found : Stack) (ts : List (List Token)) (limit : ℤ) (o : Option Assumed) (a : Assumed) (reply : Reply) (kept : Kept) (new : State)
     → stack ≡ old.stack → ChecksUnder decided limit ts stack (Ok o) found → o ≡ Some a → limit ≡ old.options.reproducible_resource_limit
     → mid ≡ record old { stack = found; above = [] } → new ≡ record (with_logic mid) { mode = a.answer.mode; above = above_by found.trees (Some a.assumptions) }
-    → MayCome decided old (check_assuming old (stack_command (CheckSatAssuming ts))) a.answer.reply a.answer.kept new
-assumed_ok decided old mid stack found ts limit o a new same is some lim m e =
-    let k : IsCheckedUnder decided limit ts stack a found = subst (λ p. ChecksUnder decided limit ts stack (Ok p) found) some is in
-    under_so decided old ts limit a found new (subst (λ (s : Stack). IsCheckedUnder decided limit ts s a found) same k) (sym lim)
-    (e ∙ ap (λ (s : State). record (with_logic s) { mode = a.answer.mode; above = above_by found.trees (Some a.assumptions) }) m ∙ entered old found [] (above_by found.trees (Some a.assumptions)) a.answer.mode)
+    → reply ≡ a.answer.reply → kept ≡ a.answer.kept → MayCome decided old (check_assuming old (stack_command (CheckSatAssuming ts))) reply kept new
+assumed_ok decided old mid stack found ts limit o a reply kept new same is some lim m e r k =
+    let under : IsCheckedUnder decided limit ts stack a found = subst (λ p. ChecksUnder decided limit ts stack (Ok p) found) some is in
+    subst (λ x. MayCome decided old (check_assuming old (stack_command (CheckSatAssuming ts))) x kept new) (sym r)
+    (subst (λ x. MayCome decided old (check_assuming old (stack_command (CheckSatAssuming ts))) a.answer.reply x new) (sym k)
+    (under_so decided old ts limit a found new (subst (λ (s : Stack). IsCheckedUnder decided limit ts s a found) same under) (sym lim)
+    (e ∙ ap (λ (s : State). record (with_logic s) { mode = a.answer.mode; above = above_by found.trees (Some a.assumptions) }) m ∙ entered old found [] (above_by found.trees (Some a.assumptions)) a.answer.mode)))
 
 pub assumed_reply : (decided : Decided) (old : State) (c : Command) (ts us : List (List Token)) (reply : Reply) (kept : Kept) (new : State) → c ≡ CheckSatAssuming ts → us ≡ ts
     → MayCome decided old (check_assuming old (stack_command (CheckSatAssuming us))) reply kept new → MayReply decided old c reply kept new
