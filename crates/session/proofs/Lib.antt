@@ -1,4 +1,5 @@
 pub mod Stacks
+pub mod Aboves
 pub mod Unders
 pub mod Storing
 pub mod Answered

@@ -1,13 +1,35 @@
 -- What a command that is no check comes to is one of the replies that may be given.
-use Rattle.std.proofs.Common.{refl}
+use Rattle.std.proofs.Common.{◌≡◌, ◌∙◌, ◌++◌, ◌∷◌, [], ℕ, ℤ, List, Option, Some, None, true, false, refl, ap, sym, subst, append-nil}
+use Rattle.std.specs.Prelude.{codes, Ok}
 use Rattle.smt_meaning.specs.declared.answers.Reply.{Reply}
 use Rattle.smt_meaning.specs.declared.replies.Kept.TheVariants.{Nothing}
 use Rattle.smt_meaning.specs.declared.commands.Command.{Command}
-use Rattle.smt_meaning.specs.declared.commands.Command.TheVariants.{CheckSat}
-use Rattle.smt_meaning.specs.State.{State, Effect, denied, left_out, accepted, answered, checked, effect, with_logic}
-use Rattle.smt_meaning.specs.MayReply.{Decided, MayCome, MayReply}
+use Rattle.smt_meaning.specs.declared.commands.Command.TheVariants.{CheckSat, CheckSatAssuming}
+use Rattle.smt_meaning.specs.State.{State, Effect, denied, left_out, accepted, answered, checked, effect, with_logic, in_logic, checks, assuming, check_assuming, checked_frames, frame_of, get_value, kept_model, valued, provided}
+use Rattle.smt_meaning.specs.MayReply.{Decided, MayCome, MayDecide, MayReply}
 use Rattle.smt_meaning.specs.declared.replies.Kept.{Kept}
-use Rattle.session.specs.Effects.{Comes}
+use Rattle.smt_meaning.specs.declared.answers.Reply.TheVariants as Given
+use Rattle.smt_meaning.specs.declared.errors.Error.TheVariants.{Refused as RefusedIn, OptionIsOff}
+use Rattle.smt_meaning.specs.declared.answers.Mode.{Mode}
+use Rattle.smt_meaning.specs.declared.refusals.Refusal.{Refusal}
+use Rattle.smt_meaning.specs.declared.options.Options.{Options}
+use Rattle.smt_meaning.specs.declared.tokens.Token.{Token}
+use Rattle.smt_meaning.specs.Stack.{Frame}
+use Rattle.smt_meaning.specs.StackCommand.{Stack, assumes, judged, changed, stack_command}
+use Rattle.scope_stack.specs.Carries.{IsRefused, assumption, question}
+use Rattle.theory_port.specs.declared.decider.Verdict.{Verdict}
+use Rattle.theory_port.specs.Verdicts.{IsVerdict}
+use Rattle.session.specs.declared.answer.Answer.{Answer}
+use Rattle.session.specs.declared.assuming.Assumed.{Assumed}
+use Rattle.smt_meaning.specs.declared.values.Table.{Table}
+use Rattle.smt_meaning.specs.declared.answers.Mode.TheVariants as In
+use Rattle.smt_meaning.specs.declared.options.OptionName.TheVariants as Named
+use Rattle.scope_stack.specs.declared.answers.Assertion.{Assertion}
+use Rattle.session.specs.Found.{IsFound}
+use Rattle.session.proofs.Aboves.{above_stays}
+use Rattle.session.specs.Above.{above_by, AreAbove, StandIn}
+use Rattle.session.specs.Assumed.{IsAnswerBy, IsAnswerTo, IsCheckedUnder, IsNotTakenUnder, ChecksUnder}
+use Rattle.session.specs.Effects.{Comes, ComesOfQuestion}
 
 comes_is : (decided : Decided) (old : State) (e : Effect) (reply : Reply) (new : State) → Comes e old reply new → MayCome decided old e reply Nothing new
 comes_is decided old (denied e) reply new h = record { reply_is = h.0; kept_is = refl; new_is = h.1 }
@@ -22,6 +44,118 @@ unfolding MayReply
 answered_so decided old c reply new h = comes_is decided old (effect old c) reply new h
 
 pub checked_so : (decided : Decided) (old : State) (reply : Reply) (kept : Kept) (new : State)
-    → MayCome decided old (checked (with_logic old)) reply kept new → MayReply decided old CheckSat reply kept new
+    → MayCome decided old (checks old old.stack []) reply kept new → MayReply decided old CheckSat reply kept new
 unfolding MayReply effect
 checked_so decided old reply kept new h = h
+
+pub assumed_so : (decided : Decided) (old : State) (ts : List (List Token)) (reply : Reply) (kept : Kept) (new : State)
+    → MayCome decided old (check_assuming old (stack_command (CheckSatAssuming ts))) reply kept new → MayReply decided old (CheckSatAssuming ts) reply kept new
+unfolding MayReply effect
+assumed_so decided old ts reply kept new h = h
+
+-- ---- checks
+
+options_stay : (l : Option (List ℕ)) (s : State) → (in_logic l s).options ≡ s.options
+options_stay None s = refl
+options_stay (Some n) s = refl
+
+entered_by : (l : Option (List ℕ)) (s : State) (stack : Stack) (before above : List Frame) (m : Mode)
+    → record (in_logic l (record s { stack = stack; above = before })) { mode = m; above = above } ≡ record (in_logic l s) { mode = m; stack = stack; above = above }
+entered_by None s stack before above m = refl
+entered_by (Some n) s stack before above m = refl
+
+-- the state after a mode is entered, where the stack is another already
+pub entered : (s : State) (stack : Stack) (before above : List Frame) (m : Mode)
+    → record (with_logic (record s { stack = stack; above = before })) { mode = m; above = above } ≡ record (with_logic s) { mode = m; stack = stack; above = above }
+entered s stack before above m = entered_by s.logic s stack before above m
+
+-- a check of this stack, with these levels above it, is answered so
+pub decided_so : (decided : Decided) (old : State) (stack : Stack) (above : List Frame) (limit : ℤ) (a : Answer) (new : State)
+    → decided (stack.frames ++ above) ≡ true → IsAnswerTo stack above limit a → old.options.reproducible_resource_limit ≡ limit
+    → new ≡ record (with_logic old) { mode = a.mode; stack = stack; above = above } → MayCome decided old (checks old stack above) a.reply a.kept new
+decided_so decided old stack above limit a new taken answers lim e =
+    rw taken (subst (MayDecide (record (with_logic old) { stack = stack; above = above }) a.reply a.kept) (sym e)
+    (answers (record (with_logic old) { stack = stack; above = above }) refl refl (ap (λ (o : Options). o.reproducible_resource_limit) (options_stay old.logic old) ∙ lim)))
+
+-- or isn't taken
+pub not_taken_so : (decided : Decided) (old : State) (stack : Stack) (above : List Frame) (new : State) → decided (stack.frames ++ above) ≡ false → new ≡ old
+    → MayCome decided old (checks old stack above) Given.Unsupported Nothing new
+not_taken_so decided old stack above new left e = rw left (record { reply_is = refl; kept_is = refl; new_is = e })
+
+-- what is found of the stack alone answers its check
+pub alone : (stack : Stack) (limit : ℤ) (v : Verdict) (a : Answer) → IsVerdict stack.trees stack.frames limit v → IsAnswerBy v a → IsAnswerTo stack [] limit a
+alone stack limit v a h answers = λ s same none lim.
+    let frames : checked_frames s ≡ stack.frames = ap (λ (t : Stack). t.frames ++ s.above) same ∙ ap (λ fs. stack.frames ++ fs) none ∙ append-nil stack.frames in
+    answers s (subst (λ l. IsVerdict s.stack.trees (checked_frames s) l v) (sym lim)
+    (subst (λ fs. IsVerdict s.stack.trees fs limit v) (sym frames) (subst (λ us. IsVerdict us stack.frames limit v) (sym (ap (λ (t : Stack). t.trees) same)) h)))
+
+-- ---- checks under assumptions
+
+comes_of : (decided : Decided) (old : State) (e f : Effect) (reply : Reply) (kept : Kept) (new : State) → e ≡ f → MayCome decided old f reply kept new → MayCome decided old e reply kept new
+comes_of decided old e f reply kept new same h = subst (λ x. MayCome decided old x reply kept new) (sym same) h
+
+pub under_so : (decided : Decided) (old : State) (ts : List (List Token)) (limit : ℤ) (a : Assumed) (stack : Stack) (new : State) → IsCheckedUnder decided limit ts old.stack a stack
+    → old.options.reproducible_resource_limit ≡ limit
+    → new ≡ record (with_logic old) { mode = a.answer.mode; stack = stack; above = above_by stack.trees (Some a.assumptions) }
+    → MayCome decided old (check_assuming old (stack_command (CheckSatAssuming ts))) a.answer.reply a.answer.kept new
+under_so decided old ts limit a stack new k lim e =
+    let above : above_by stack.trees (Some a.assumptions) ≡ frame_of k.assumed ∷ [] = ap (λ xs. frame_of xs ∷ []) k.assumptions in
+    let frames : stack.frames ≡ old.stack.frames = ap (λ (s : Stack). s.frames) k.new_is in
+    comes_of decided old (assuming old (judged (assumption ts) old.stack)) (checks old stack (frame_of k.assumed ∷ [])) a.answer.reply a.answer.kept new
+    (ap (assuming old) k.is_judged ∙ ap (λ (s : Stack). checks old s (frame_of k.assumed ∷ [])) (sym k.new_is))
+    (decided_so decided old stack (frame_of k.assumed ∷ []) limit a.answer new (ap (λ fs. decided (fs ++ frame_of k.assumed ∷ [])) frames ∙ k.taken) k.answer lim
+    (e ∙ ap (λ fs. record (with_logic old) { mode = a.answer.mode; stack = stack; above = fs }) above))
+
+pub not_under_so : (decided : Decided) (old : State) (ts : List (List Token)) (stack : Stack) (new : State) → IsNotTakenUnder decided ts old.stack stack → new ≡ old
+    → MayCome decided old (check_assuming old (stack_command (CheckSatAssuming ts))) Given.Unsupported Nothing new
+not_under_so decided old ts stack new k e =
+    comes_of decided old (assuming old (judged (assumption ts) old.stack)) (checks old (changed old.stack (assumes k.assumed) k.scope) (frame_of k.assumed ∷ [])) Given.Unsupported Nothing new
+    (ap (assuming old) k.is_judged) (not_taken_so decided old (changed old.stack (assumes k.assumed) k.scope) (frame_of k.assumed ∷ []) new k.left e)
+
+pub refused_under_so : (decided : Decided) (old : State) (ts : List (List Token)) (why : Refusal) (stack : Stack) (reply : Reply) (new : State) → IsRefused (assumption ts) why old.stack stack → new ≡ old
+    → reply ≡ Given.Error (RefusedIn (codes "check-sat-assuming") why)
+    → MayCome decided old (check_assuming old (stack_command (CheckSatAssuming ts))) reply Nothing new
+refused_under_so decided old ts why stack reply new k e r =
+    comes_of decided old (assuming old (judged (assumption ts) old.stack)) (denied (RefusedIn (codes "check-sat-assuming") why)) reply Nothing new
+    (ap (assuming old) k.is_judged) (record { reply_is = r; kept_is = refl; new_is = e })
+
+-- ---- what the functions come to
+
+pub check_so : (decided : Decided) (old mid : State) (stack found : Stack) (before : List Frame) (limit : ℤ) (v : Verdict) (a : Answer) (o : Option Verdict) (new : State)
+    → stack ≡ old.stack → found ≡ stack → IsFound decided stack.trees stack.frames limit o → o ≡ Some v → IsAnswerBy v a → limit ≡ old.options.reproducible_resource_limit
+    → mid ≡ record old { stack = found; above = before } → new ≡ record (with_logic mid) { mode = a.mode; above = [] }
+    → MayCome decided old (checks old old.stack []) a.reply a.kept new
+check_so decided old mid stack found before limit v a o new same stays is some answers lim m e =
+    let k : IsFound decided stack.trees stack.frames limit (Some v) = subst (IsFound decided stack.trees stack.frames limit) some is in
+    let taken : decided (old.stack.frames ++ []) ≡ true = ap decided (append-nil old.stack.frames ∙ ap (λ (s : Stack). s.frames) (sym same)) ∙ k.0 in
+    decided_so decided old old.stack [] limit a new taken (subst (λ (s : Stack). IsAnswerTo s [] limit a) same (alone stack limit v a k.1 answers)) (sym lim)
+    (e ∙ ap (λ (s : State). record (with_logic s) { mode = a.mode; above = [] }) m ∙ entered old found before [] a.mode
+    ∙ ap (λ (s : Stack). record (with_logic old) { mode = a.mode; stack = s; above = [] }) (stays ∙ same))
+
+pub assumed_ok : (decided : Decided) (old mid : State) (stack found : Stack) (ts : List (List Token)) (limit : ℤ) (o : Option Assumed) (a : Assumed) (reply : Reply) (kept : Kept) (new : State)
+    → stack ≡ old.stack → ChecksUnder decided limit ts stack (Ok o) found → o ≡ Some a → limit ≡ old.options.reproducible_resource_limit
+    → mid ≡ record old { stack = found; above = [] } → new ≡ record (with_logic mid) { mode = a.answer.mode; above = above_by found.trees (Some a.assumptions) }
+    → reply ≡ a.answer.reply → kept ≡ a.answer.kept → MayCome decided old (check_assuming old (stack_command (CheckSatAssuming ts))) reply kept new
+assumed_ok decided old mid stack found ts limit o a reply kept new same is some lim m e r k =
+    let under : IsCheckedUnder decided limit ts stack a found = subst (λ p. ChecksUnder decided limit ts stack (Ok p) found) some is in
+    subst (λ x. MayCome decided old (check_assuming old (stack_command (CheckSatAssuming ts))) x kept new) (sym r)
+    (subst (λ x. MayCome decided old (check_assuming old (stack_command (CheckSatAssuming ts))) a.answer.reply x new) (sym k)
+    (under_so decided old ts limit a found new (subst (λ (s : Stack). IsCheckedUnder decided limit ts s a found) same under) (sym lim)
+    (e ∙ ap (λ (s : State). record (with_logic s) { mode = a.answer.mode; above = above_by found.trees (Some a.assumptions) }) m ∙ entered old found [] (above_by found.trees (Some a.assumptions)) a.answer.mode)))
+
+pub assumed_reply : (decided : Decided) (old : State) (c : Command) (ts us : List (List Token)) (reply : Reply) (kept : Kept) (new : State) → c ≡ CheckSatAssuming ts → us ≡ ts
+    → MayCome decided old (check_assuming old (stack_command (CheckSatAssuming us))) reply kept new → MayReply decided old c reply kept new
+assumed_reply decided old c ts us reply kept new is same h =
+    subst (λ d. MayReply decided old d reply kept new) (sym is) (assumed_so decided old ts reply kept new (subst (λ ws. MayCome decided old (check_assuming old (stack_command (CheckSatAssuming ws))) reply kept new) same h))
+
+pub asked_so : (old : State) (i : List Table) (ts us : List (List Token)) (stack found : Stack) (xs : Option (List Assertion)) (reply : Reply) (new : State)
+    → old.mode ≡ In.Sat i → old.options.produce_models ≡ true → us ≡ ts → stack ≡ old.stack → ComesOfQuestion i us stack reply found → StandIn stack.trees found.trees → AreAbove stack.trees xs
+    → old.above ≡ above_by stack.trees xs → new ≡ record old { stack = found; above = above_by found.trees xs } → Comes (get_value old ts (kept_model old.mode)) old reply new
+asked_so old i ts us stack found xs reply new mode on texts same h stand within above e =
+    let kept : above_by found.trees xs ≡ old.above = above_stays stack.trees found.trees xs stand within ∙ sym above in
+    let state : new ≡ record old { stack = found } = e ∙ ap (λ fs. record old { stack = found; above = fs }) kept in
+    let effect_is : get_value old ts (kept_model old.mode) ≡ valued old i ts (judged (question ts) old.stack) =
+    ap (λ m. get_value old ts (kept_model m)) mode ∙ ap (λ b. provided b (OptionIsOff Named.ProduceModels) (valued old i ts (judged (question ts) old.stack))) on in
+    subst (λ f. Comes f old reply new) (sym effect_is)
+    (subst (λ n. Comes (valued old i ts (judged (question ts) old.stack)) old reply n) (sym state)
+    (subst (λ ws. Comes (valued old i ws (judged (question ws) old.stack)) old reply (record old { stack = found })) texts (h old (sym same))))

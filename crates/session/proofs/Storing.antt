@@ -137,7 +137,9 @@ pub part_nodes : (ps : List (List Node)) (i : ℕ) (p ns : List Node) (ts : List
 part_nodes ps i p ns ts places t e a h =
     let split : joined ps ≡ (joined (take i ps) ++ p) ++ joined (drop (i + 1) ps) =
     ap joined (sym (take-append-drop (i + 1) ps)) ∙ joined-append (take (i + 1) ps) (drop (i + 1) ps) ∙ ap (λ ms. ms ++ joined (drop (i + 1) ps)) (ap joined t ∙ joined_push (take i ps) p) in
-    let size : length (joined (take i ps)) ≡ length places = sym (length-trees_from (joined (take i ps)) []) ∙ sym (count_stored (trees_of (joined (take i ps))) ts places h) in
+    let all : length (trees_of (joined (take i ps))) ≡ length {A = Tree} [] + length (joined (take i ps)) = length-trees_from (joined (take i ps)) [] in
+    let stored : length places ≡ length (trees_of (joined (take i ps))) = count_stored (trees_of (joined (take i ps))) ts places h in
+    let size : length (joined (take i ps)) ≡ length places = omega (arith, all, stored) in
     subst (λ ms. AreNodesAfter (length places) ms) (sym e) (subst (λ m. AreNodesAfter m p) size (middle (joined (take i ps)) p (joined (drop (i + 1) ps)) (subst AreNodes split a)))
 
 -- after one more part

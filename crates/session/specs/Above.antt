@@ -1,6 +1,6 @@
 -- What stood above the stack at the last check: the level of the assumptions, where there was one.
-use Rattle.std.specs.Prelude.{List, [], ◌∷◌, map, All, Option, Some, None}
-use Rattle.smt_meaning.specs.Term.{Tree}
+use Rattle.std.specs.Prelude.{◌≡◌, ℕ, ◌<◌, List, [], ◌∷◌, map, length, All, Option, Some, None}
+use Rattle.smt_meaning.specs.Term.{Tree, tree_at}
 use Rattle.smt_meaning.specs.Stack.{Frame}
 use Rattle.smt_meaning.specs.State.{frame_of}
 use Rattle.scope_stack.specs.declared.answers.Assertion.{Assertion}
@@ -15,3 +15,7 @@ above_by ts (Some xs) = frame_of (map (asserted_by ts) xs) ∷ []
 abbrev pub AreAbove : List Tree → Option (List Assertion) → Type 0
 AreAbove ts None = Unit {0}
 AreAbove ts (Some xs) = All (IsWithin ts) xs
+
+-- each tree of the one list stands at the same place of the other
+abbrev pub StandIn : List Tree → List Tree → Type 0
+StandIn ts us = (i : ℕ) → i < length ts → (i < length us) × (tree_at us i ≡ tree_at ts i)

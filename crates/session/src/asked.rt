@@ -4,6 +4,7 @@ ghost use Rattle.smt_meaning.specs.Interpretation.{meaning};
 ghost use Rattle.smt_meaning.specs.Stack.{signature_of};
 ghost use Rattle.smt_meaning.specs.State.{all_fit, term_values as values_of_terms};
 ghost use Rattle.scope_stack.specs.Carries.{typed_by};
+ghost use Rattle.session.specs.Above.{StandIn};
 ghost use Rattle.session.specs.Effects.{ComesOfQuestion};
 ghost use Rattle.session.specs.Shown.{IsUnfit};
 
@@ -23,6 +24,7 @@ pub fn values_of(
     terms: &[SExpr],
 ) -> Result<Reply, AllocError>
     ensures ok { IfOk result (λ r. ComesOfQuestion model.now terms.now stack.old r stack.new) }
+    ensures trees { StandIn stack.old.trees stack.new.trees }
     ensures err { OnErr result (stack.new ≡ stack.old) }
 {
     let count = stack.terms().len();

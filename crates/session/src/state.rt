@@ -392,14 +392,11 @@ impl Session {
     {
         let settings = in_force(&self.settings, &self.options);
         match check_under(alloc, decider, &settings, &mut self.stack, terms) {
-            Ok(
-                Some(
-                    Assumed {
-                        answer,
-                        assumptions,
-                    },
-                ),
-            ) => {
+            Ok(Some(assumed)) => {
+                let Assumed {
+                    answer,
+                    assumptions,
+                } = assumed;
                 self.above = None;
                 self.enter(answer.mode, Some(assumptions));
                 Ok((answer.reply, answer.kept))
