@@ -7,19 +7,18 @@ use Rattle.std.proofs.lemmas.Grind.{flat_map-append}
 use Rattle.std.proofs.Math.Seq.{drop-append_seam}
 use Rattle.smt_meaning.specs.declared.tokens.Token.{Token}
 use Rattle.smt_meaning.specs.Term.{Tree, tree_at}
-use Rattle.smt_meaning.specs.Sorts.{Scope, done}
 use Rattle.smt_meaning.specs.Stack.{Assertion as Asserted, Frame, terms_of, assertions_of}
-use Rattle.smt_meaning.specs.StackCommand.{Stack, assumes, judged, changed}
+use Rattle.smt_meaning.specs.StackCommand.{Stack}
 use Rattle.smt_meaning.specs.State.{State, frame_of, checked_frames, texts_of}
 use Rattle.scope_stack.specs.declared.answers.Assertion.{Assertion}
-use Rattle.scope_stack.specs.Carries.{IsAssumed, under, assumption}
+use Rattle.scope_stack.specs.Carries.{IsAssumed}
 use Rattle.scope_stack.specs.Inside.{asserted_by, IsWithin}
 use Rattle.scope_stack.specs.Shown.{AreAsserted}
 use Rattle.theory_port.specs.declared.decider.Verdict.{Verdict}
 use Rattle.theory_port.specs.Verdicts.{IsVerdict}
 use Rattle.session.specs.declared.answer.Answer.{Answer}
 use Rattle.session.specs.declared.assuming.Assumed.{Assumed}
-use Rattle.session.specs.Assumed.{IsAnswerBy, IsAnswerTo, IsCheckedUnder, IsNotTakenUnder}
+use Rattle.session.specs.Assumed.{IsAnswerBy, IsCheckedUnder, IsNotTakenUnder}
 use Rattle.session.specs.Under.{IsAnsweredUnder}
 
 -- ---- what is found of the stack under assumptions

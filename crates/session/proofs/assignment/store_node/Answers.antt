@@ -1,7 +1,6 @@
-use Rattle.std.proofs.Common.{◌≡◌, ◌∙◌, ap, sym, subst, map, slice_index, List, ℕ, All, ◌<◌, length}
+use Rattle.std.proofs.Common.{◌≡◌, ◌∙◌, ap, sym, subst, map, slice_index, All, ◌<◌, length}
 use Rattle.term_store.specs.Terms.{Terms}
 use Rattle.session.specs.Stored.{AreStored}
-use Rattle.smt_meaning.specs.Term.{tree_at}
 use Rattle.session.proofs.Storing.{all_within_at, one_stored}
 use Rattle.session.proofs.assignment.store_node.Goals as goal
 

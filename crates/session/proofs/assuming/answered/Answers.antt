@@ -1,4 +1,4 @@
-use Rattle.std.proofs.Common.{◌≡◌, ◌∙◌, ◌-◌, subst, drop, length, arith, length-drop, Some}
+use Rattle.std.proofs.Common.{◌∙◌, ◌-◌, subst, drop, length, arith, length-drop, Some}
 use Rattle.std.proofs.lemmas.List.{take_all}
 use Rattle.smt_meaning.specs.StackCommand.{Stack}
 use Rattle.scope_stack.specs.Shown.{AreAsserted}

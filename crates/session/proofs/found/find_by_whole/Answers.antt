@@ -1,4 +1,4 @@
-use Rattle.std.proofs.Common.{◌≡◌, ◌∙◌, subst, IfOk}
+use Rattle.std.proofs.Common.{◌∙◌, subst, IfOk}
 use Rattle.smt_meaning.specs.StackCommand.{Stack}
 use Rattle.session.specs.Found.{IsFound}
 use Rattle.session.proofs.found.find_by_whole.Goals as goal

@@ -1,4 +1,4 @@
-use Rattle.std.proofs.Common.{◌≡◌, ◌∙◌, ap, [], rules}
+use Rattle.std.proofs.Common.{◌∙◌, ap, [], rules}
 use Rattle.smt_meaning.specs.declared.settings.Settings.{Settings}
 use Rattle.smt_meaning.specs.State.{State}
 use Rattle.session.specs.Logics.{named}
