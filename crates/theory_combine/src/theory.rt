@@ -1,9 +1,10 @@
 //! The theory.
 use check_atoms::CheckAtoms;
 use literals::Literal;
+use odd_parts::wide_xors;
 use scope_stack::Stack;
 use search_port::{Asserted, Budget, Checked, Inferred, Showing, Shown, Theory};
-use smt_meaning::{Atom, Seq};
+use smt_meaning::{Atom, Seq, TermId};
 use std::alloc::{AllocError, Global};
 use std::marker::Model;
 use theory_steps::{
@@ -39,13 +40,21 @@ impl<'s> Combined<'s> {
     ghost use Rattle.check_atoms.specs.OfStack.{AreCheckAtoms};
     ghost use Rattle.linear_forms.specs.Table.{AreForms};
     ghost use Rattle.closure_log.specs.Seen.{state_of};
+    ghost use Rattle.odd_parts.specs.Parts.{AreWideXors};
     ghost use Rattle.theory_steps.specs.Begin.{IsBegun};
     ghost use Rattle.theory_steps.specs.Columns.{variables_of};
     ghost use Rattle.theory_steps.specs.Errors.{IsErrorSeen};
 
     /// The theory of what is begun.
-    fn start(alloc: Global, stack: &'s Stack, parts: CheckAtoms, begun: Begun) -> Self
+    fn start(
+        alloc: Global,
+        stack: &'s Stack,
+        parts: CheckAtoms,
+        wide_xors: Vec<TermId>,
+        begun: Begun,
+    ) -> Self
         requires forms { AreForms stack.now.trees parts.forms }
+        requires wide_xors { AreWideXors stack.now.trees parts.marks.items wide_xors.items }
         requires begun { IsBegun stack.now parts.marks.items parts.atoms begun }
         ensures { result ≡ record (state_of stack.now parts.atoms.atoms []) { variables = variables_of None begun.held.bounds } }
     {
@@ -55,6 +64,7 @@ impl<'s> Combined<'s> {
                 stack,
                 marks: parts.marks,
                 readable: begun.readable,
+                wide_xors,
                 guide: begun.guide,
             },
             progress: Progress {
@@ -80,8 +90,9 @@ impl<'s> Combined<'s> {
         ensures basis { IfOk result (λ theory. AreBasic (first_basis theory.variables.sums) theory.variables) }
         ensures err { IfErr result (IsErrorSeen stack.now) }
     {
+        let wide_xors = wide_xors(alloc, stack, &parts.marks)?;
         match begin(alloc, stack, &parts.marks, &parts.atoms) {
-            Ok(begun) => Ok(Combined::start(alloc, stack, parts, begun)),
+            Ok(begun) => Ok(Combined::start(alloc, stack, parts, wide_xors, begun)),
             Err(error) => Err(error),
         }
     }

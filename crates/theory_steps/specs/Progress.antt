@@ -9,6 +9,7 @@ use Rattle.linear_forms.specs.Table.{AreForms}
 use Rattle.model_build.specs.Parts.{AreSortedParts}
 use Rattle.closure_log.specs.Seen.{state_of}
 use Rattle.bound_log.specs.Told.{column_sums}
+use Rattle.odd_parts.specs.Parts.{AreWideXors}
 use Rattle.theory_steps.specs.declared.parts.Parts.{Parts}
 use Rattle.theory_steps.specs.declared.parts.Progress.{Progress}
 use Rattle.theory_steps.specs.Columns.{variables_of}
@@ -16,11 +17,11 @@ use Rattle.theory_steps.specs.Numbering.{table_of, IsNumbered, IsWhole}
 use Rattle.theory_steps.specs.Pairs.{HaveReadable}
 use Rattle.theory_steps.specs.Shown.{AreOfAssertions, AreShown}
 
--- the parts of a stack's assertions, and which of them bounds can read
+-- the parts of a stack's assertions, which of them bounds can read, and which are wide `xor`s
 abbrev pub AreParts : Parts → Type 0
 AreParts p =
     AreSortedParts (signature_of p.stack.now.frames) p.stack.now.trees p.marks.items × HaveReadable p.stack.now.trees p.marks.items p.readable.items
-    × AreOfAssertions p.stack.now p.marks.items
+    × AreOfAssertions p.stack.now p.marks.items × AreWideXors p.stack.now.trees p.marks.items p.wide_xors.items
 
 -- the atoms that are told of, and what was told
 abbrev pub state : Parts → Progress → TheoryState

@@ -23,6 +23,7 @@ use bound_log::{BoundLog, Report, Reported};
 use closure_log::{ClosureLog, Guide, Scan, infer};
 use fraction128::{Grid, Line};
 use literals::Literal;
+use odd_parts::Watches;
 use scope_stack::Stack;
 use search_port::{Asserted, Inferred, Lemma};
 use simplex::PivotLines;
@@ -44,6 +45,7 @@ pub struct Looked {
     /// The atom after the one whose bound was looked at last.
     pub next: usize,
     pub differences: Differences,
+    pub watches: Watches,
 }
 
 /// What a check of the bounds finds.

@@ -20,6 +20,7 @@ use crate::pivots::meet_within;
 use crate::step::{Step, stays, stop_past, stop_seeing};
 use crate::unfit::stop_unfit;
 use crate::wanted::want;
+use crate::xors::{follow_xors, judge_xors};
 use model_build::Clash;
 use search_port::{Budget, Cause, Checked, Inferred};
 use sum_bounds::FractionalLeaf;
@@ -224,8 +225,8 @@ fn judge_numbers(parts: &Parts<'_>, progress: &mut Progress, budget: &mut Budget
     }
 }
 
-/// A last check: by differences alone, where all bounds are that, or else by the rows of sums.
-pub(crate) fn judge(parts: &Parts<'_>, progress: &mut Progress, budget: &mut Budget) -> Checked
+/// A last check of the bounds: by differences alone, where all of them are that, or else by the rows of sums.
+fn judge_bounds(parts: &Parts<'_>, progress: &mut Progress, budget: &mut Budget) -> Checked
     requires parts { AreParts parts.now }
     requires under_way { IsUnderWay parts.now progress.old }
     ensures went { Went parts.now progress.old progress.new budget.old budget.new }
@@ -248,6 +249,27 @@ pub(crate) fn judge(parts: &Parts<'_>, progress: &mut Progress, budget: &mut Bud
                 judge_sums(parts, progress, budget)
             }
         }
+    }
+}
+
+/// A last check: of the wide `xor`s, and then of the bounds.
+pub(crate) fn judge(parts: &Parts<'_>, progress: &mut Progress, budget: &mut Budget) -> Checked
+    requires parts { AreParts parts.now }
+    requires under_way { IsUnderWay parts.now progress.old }
+    ensures went { Went parts.now progress.old progress.new budget.old budget.new }
+    ensures found { CheckedBy (state parts.now progress.new) budget.old budget.new result }
+{
+    stays(parts, progress, budget);
+    let found = judge_xors(
+        parts.alloc,
+        &progress.held,
+        parts.stack,
+        &progress.atoms,
+        &parts.wide_xors,
+    );
+    match found {
+        Some(checked) => checked,
+        None => judge_bounds(parts, progress, budget),
     }
 }
 
@@ -323,7 +345,28 @@ fn look_at_bounds(parts: &Parts<'_>, progress: &mut Progress, budget: &mut Budge
     }
 }
 
-/// Clauses that follow between decisions: by equality, or else by bounds.
+/// Clauses that follow between decisions: of wide `xor`s, or else by bounds.
+fn look_at_xors(parts: &Parts<'_>, progress: &mut Progress, budget: &mut Budget) -> Inferred
+    requires parts { AreParts parts.now }
+    requires under_way { IsUnderWay parts.now progress.old }
+    ensures went { Went parts.now progress.old progress.new budget.old budget.new }
+    ensures found { InferredBy (state parts.now progress.new) budget.old budget.new result }
+{
+    let found = follow_xors(
+        parts.alloc,
+        &mut progress.held,
+        parts.stack,
+        &progress.atoms,
+        &parts.wide_xors,
+    );
+    stays(parts, progress, budget);
+    match found {
+        Inferred::Quiet => look_at_bounds(parts, progress, budget),
+        other => other,
+    }
+}
+
+/// Clauses that follow between decisions: by equality, of wide `xor`s, or else by bounds.
 fn follow_all(parts: &Parts<'_>, progress: &mut Progress, budget: &mut Budget) -> Inferred
     requires parts { AreParts parts.now }
     requires under_way { IsUnderWay parts.now progress.old }
@@ -339,7 +382,7 @@ fn follow_all(parts: &Parts<'_>, progress: &mut Progress, budget: &mut Budget) -
     );
     stays(parts, progress, budget);
     match found {
-        Inferred::Quiet => look_at_bounds(parts, progress, budget),
+        Inferred::Quiet => look_at_xors(parts, progress, budget),
         other => other,
     }
 }

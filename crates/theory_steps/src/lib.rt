@@ -44,6 +44,7 @@ mod step;
 mod unfit;
 mod values;
 mod wanted;
+mod xors;
 
 pub use calls::{check, look, tell, undo_to};
 pub use differences::Differences;

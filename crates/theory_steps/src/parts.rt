@@ -17,6 +17,8 @@ pub struct Parts<'s> {
     pub marks: Vec<bool>,
     /// Which terms are linear, with their leaves among the terms.
     pub readable: Vec<bool>,
+    /// The parts that are wide `xor`s, which have no first clauses.
+    pub wide_xors: Vec<TermId>,
     pub guide: Guide,
 }
 

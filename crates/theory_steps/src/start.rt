@@ -29,6 +29,7 @@ use bound_log::{BoundLog, sums_are_apart};
 use check_atoms::atoms_are_first;
 use check_clauses::linear_terms;
 use closure_log::{ClosureLog, Guide, Scan};
+use odd_parts::Watches;
 use scope_stack::Stack;
 use smt_laws::{flat_says_the_same, symbols_are_declared};
 use smt_meaning::Sort;
@@ -207,6 +208,7 @@ fn begin_with(
             looked: Looked {
                 next: 0,
                 differences: Differences::new(alloc),
+                watches: Watches::new(alloc),
             },
         },
     })
