@@ -6,7 +6,7 @@ use Rattle.literals.specs.Signed.{Signed, opposite}
 use Rattle.search_port.specs.State.{TheoryState, IsFalseIn, AllFalseIn, IsOpenIn, IsPressing, IsConsistent}
 use Rattle.search_port.specs.Calls.{IsConflict}
 use Rattle.search_port.specs.declared.budget.Lemma.{Lemma}
-use Rattle.literal_steps.specs.Clauses.{IsToldAtOneLevel}
+use Rattle.congruence.specs.Clauses.{IsToldAtOneLevel}
 use Rattle.bound_log.specs.Told.{State}
 use Rattle.bound_log.specs.Atoms.{Knows}
 use Rattle.bound_log.specs.Reporting.{IsClause}

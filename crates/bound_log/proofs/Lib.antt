@@ -11,3 +11,5 @@ pub mod Implying
 pub mod Runs
 pub mod Pivots
 pub mod KeptVariables
+pub mod Lemmas
+pub mod Opening

@@ -5,7 +5,7 @@ use Rattle.smt_meaning.specs.Declaration.{Declaration}
 use Rattle.search_port.specs.State.{TheoryState, IsPressing}
 use Rattle.search_port.specs.Calls.{IsLemma, IsConflict}
 use Rattle.search_port.specs.declared.budget.Lemma.{Lemma}
-use Rattle.literal_steps.specs.Clauses.{IsToldAtOneLevel}
+use Rattle.congruence.specs.Clauses.{IsToldAtOneLevel}
 use Rattle.bound_log.specs.Told.{State}
 use Rattle.bound_log.specs.Atoms.{Knows}
 

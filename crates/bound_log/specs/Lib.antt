@@ -8,3 +8,5 @@ pub mod Values
 pub mod Reporting
 pub mod Implied
 pub mod Pivots
+pub mod Clauses
+pub mod Sides

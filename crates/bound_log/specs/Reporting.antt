@@ -7,7 +7,7 @@ use Rattle.search_port.specs.Calls.{IsConflict}
 use Rattle.search_port.specs.declared.budget.Lemma.{Lemma}
 use Rattle.fraction128.specs.Lines.{NextFails}
 use Rattle.congruence.specs.Reasons.{NoneTwice}
-use Rattle.literal_steps.specs.Clauses.{IsToldAtOneLevel, IsFalseClause}
+use Rattle.congruence.specs.Clauses.{IsToldAtOneLevel, IsFalseClause}
 use Rattle.simplex_steps.specs.State.{grid_of}
 use Rattle.simplex_steps.specs.Run.{AreWithin, NextPivotFits}
 use Rattle.sum_bounds.specs.declared.finding.Finding.{Finding}

@@ -21,8 +21,16 @@
 //! `implied`: of an open atom, where it gives one, a clause that is true under every
 //! interpretation, whose literals are false in the log but at most one, which is open; what is told
 //! stays.
+//!
+//! Lemmas on whole numbers: the two clauses of a branch, and those that tie the equality of two
+//! Ints to both bounds of their difference.
+//!
+//! `branch_lemmas`, `tie_lemmas`, `sides_are_open`: these are clauses of the theory; a branch of a
+//! value that isn't whole is on no literal told.
 #![tactic(auto)]
 
+mod branches;
+mod clause;
 mod implied;
 mod laws;
 mod log;
@@ -30,9 +38,14 @@ mod plain;
 mod report;
 mod room;
 mod said;
+mod sides;
+mod ties;
 mod variables;
 
+pub use branches::branch_lemmas;
 pub use laws::{bounds_are_told, met_are_true, sums_are_apart, wholes_hold};
 pub use log::BoundLog;
 pub use report::{Report, Reported};
 pub use said::Said;
+pub use sides::sides_are_open;
+pub use ties::tie_lemmas;

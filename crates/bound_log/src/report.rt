@@ -1,8 +1,8 @@
 //! What a check reports.
 ghost use Rattle.bound_log.specs.Reporting.{HasNoneTwice, IsReport};
 
+use congruence::lemma_with;
 use fraction128::Range;
-use literal_steps::lemma_with;
 use search_port::Lemma;
 use sum_bounds::Finding;
 

@@ -6,12 +6,12 @@ use Rattle.std.proofs.lemmas.List.Elements.{All-nil, All-cons, All-append, All-w
 use Rattle.smt_meaning.specs.declared.clauses.Atom.{Atom}
 use Rattle.smt_meaning.specs.Term.{Tree}
 use Rattle.smt_meaning.specs.declared.clauses.Summand.{Summand}
-use Rattle.atom_table.specs.Compact.{atom_of as core_atom}
-use Rattle.atom_table.specs.declared.compact.CompactAtom.{CompactAtom}
-use Rattle.atom_table.specs.declared.compact.CompactAtom.TheVariants.{Truth, Same}
+use Rattle.atom_form.specs.Compact.{atom_of as core_atom}
+use Rattle.atom_form.specs.declared.compact.CompactAtom.{CompactAtom}
+use Rattle.atom_form.specs.declared.compact.CompactAtom.TheVariants.{Truth, Same}
 use Rattle.linear_forms.specs.Sums.{IsSum}
 use Rattle.pair_bounds.specs.Pairs.{IsBound}
-use Rattle.atom_numbers.specs.Atoms.{Numbers}
+use Rattle.atom_form.specs.AtomNumbersAtoms.{Numbers}
 use Rattle.check_atoms.specs.declared.refusal.Refusal.{Refusal}
 use Rattle.check_atoms.specs.declared.part.PartAtom.{PartAtom}
 use Rattle.check_atoms.specs.declared.part.PartAtom.TheVariants.{Bound}

@@ -21,9 +21,9 @@ use Rattle.smt_meaning.specs.CheckAtoms.{IsPartOfStack, ComparesParts, IsFirstAt
 use Rattle.smt_meaning.specs.Atoms.{normal_bound, atoms_of, stack_atoms, stack_atoms_are}
 use Rattle.smt_laws.specs.Flat.{flat, FlatSaysTheSame}
 use Rattle.scope_stack.specs.Shown.{IsLawful}
-use Rattle.stack_atoms.specs.Parts.{IsMarked}
-use Rattle.stack_atoms.specs.Marks.{AreStackParts}
-use Rattle.stack_atoms.proofs.Marking.{below}
+use Rattle.check_atoms.specs.Parts.{IsMarked}
+use Rattle.check_atoms.specs.Marks.{AreStackParts}
+use Rattle.check_atoms.proofs.Marking.{below}
 use Rattle.bound_clauses.specs.declared.orders.Sense.{Sense}
 use Rattle.bound_clauses.specs.declared.orders.Sense.TheVariants.{NotAbove, Below}
 use Rattle.bound_clauses.specs.declared.orders.Order.{Order}

@@ -13,7 +13,7 @@ use Rattle.smt_meaning.specs.Term.{Tree, node, none, tree_at}
 use Rattle.smt_meaning.specs.Nodes.{pick}
 use Rattle.smt_meaning.specs.Signature.{tree_sort, tree_sorts, operator_sort, ite_sort, if_so, all_of, all_the_same, sort_eq, stands_with}
 use Rattle.scope_stack.proofs.SortLemmas.{HasArguments, arguments_of, HasFirst, first_of, stands_so, if_so_is}
-use Rattle.stack_atoms.proofs.Sorting.{right_true, sort_is, if_so_true, all_of_one}
+use Rattle.check_atoms.proofs.Sorting.{right_true, sort_is, if_so_true, all_of_one}
 use Rattle.bound_clauses.specs.declared.orders.Sense.TheVariants.{NotAbove}
 use Rattle.bound_clauses.specs.Orders.{order, both_orders, order_atoms}
 use Rattle.check_atoms.specs.declared.part.PartAtom.{PartAtom}

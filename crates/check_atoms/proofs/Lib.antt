@@ -9,3 +9,11 @@ mod Refused
 mod RefusedPair
 mod PartNumbers
 mod FirstAtoms
+pub mod Sorting
+pub mod StackAtomsIntegers
+pub mod Marking
+pub mod StackAtomsPlaces
+pub mod Taking
+mod RefusedPairs
+mod Readable
+mod ReadablePartsPlaces

@@ -15,7 +15,7 @@ use Rattle.smt_meaning.specs.Term.{Tree}
 use Rattle.smt_meaning.specs.Signature.{is_bool}
 use Rattle.smt_meaning.specs.Stack.{signature_of}
 use Rattle.smt_meaning.specs.StackCommand.{Stack}
-use Rattle.stack_atoms.specs.Parts.{IsMarked}
+use Rattle.check_atoms.specs.Parts.{IsMarked}
 use Rattle.bound_clauses.specs.declared.orders.Order.{Order}
 use Rattle.bound_clauses.specs.Orders.{order_atoms, bound_atom}
 use Rattle.bound_clauses.specs.Laws.{orders}

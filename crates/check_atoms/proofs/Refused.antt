@@ -12,7 +12,7 @@ use Rattle.smt_meaning.specs.StackCommand.{Stack}
 use Rattle.term_store.specs.Terms.{AreDifferent}
 use Rattle.term_store.proofs.PlaceLemmas.{place_of-is}
 use Rattle.scope_stack.specs.Shown.{IsLawful}
-use Rattle.stack_atoms.proofs.Marking.{part_of_part}
+use Rattle.check_atoms.proofs.Marking.{part_of_part}
 use Rattle.linear_forms.specs.Table.{FoldsOutside, IsOutside}
 use Rattle.check_atoms.specs.declared.refusal.Refusal.TheVariants.{Term, Memory}
 use Rattle.check_atoms.specs.declared.part.PartAtom.TheVariants.{Bound}

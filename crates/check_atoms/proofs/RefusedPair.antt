@@ -22,8 +22,8 @@ use Rattle.smt_meaning.specs.Stack.{signature_of, assertions_of}
 use Rattle.smt_meaning.specs.StackCommand.{Stack}
 use Rattle.term_store.proofs.PlaceLemmas.{place_of-is}
 use Rattle.scope_stack.specs.Shown.{IsLawful}
-use Rattle.stack_atoms.proofs.Sorting.{HasSort, part_has_sort}
-use Rattle.stack_atoms.proofs.Marking.{part_of_part}
+use Rattle.check_atoms.proofs.Sorting.{HasSort, part_has_sort}
+use Rattle.check_atoms.proofs.Marking.{part_of_part}
 use Rattle.linear_forms.specs.Differences.{difference_fits, LeavesRangeTogether}
 use Rattle.pair_bounds.specs.Pairs.{threshold_below}
 use Rattle.bound_clauses.specs.declared.orders.Sense.{Sense}

@@ -20,10 +20,10 @@ use Rattle.smt_meaning.specs.Atoms.{at_most_atom, pair_atoms, comparison_atoms, 
 use Rattle.term_store.specs.Terms.{AreDifferent}
 use Rattle.term_store.proofs.PlaceLemmas.{place_of-is}
 use Rattle.scope_stack.specs.Shown.{IsLawful}
-use Rattle.stack_atoms.specs.Parts.{IsMarked}
-use Rattle.stack_atoms.specs.Marks.{AreStackParts}
-use Rattle.stack_atoms.proofs.Marking.{below}
-use Rattle.stack_atoms.proofs.Places.{Picked, picked}
+use Rattle.check_atoms.specs.Parts.{IsMarked}
+use Rattle.check_atoms.specs.Marks.{AreStackParts}
+use Rattle.check_atoms.proofs.Marking.{below}
+use Rattle.check_atoms.proofs.StackAtomsPlaces.{Picked, picked}
 use Rattle.bound_clauses.specs.Laws.{OrdersAreComparisons}
 use Rattle.check_atoms.specs.PartAtoms.{atom_of, by_sort, alone_by_sort, truth_by_sort, sort_of}
 use Rattle.check_atoms.specs.OfStack.{IsNode, part_atoms, IsAtomOfPart, AreCheckAtoms}

@@ -18,18 +18,18 @@ use Rattle.smt_meaning.specs.Stack.{signature_of, assertions_of}
 use Rattle.smt_meaning.specs.StackCommand.{Stack}
 use Rattle.term_store.specs.Terms.{tree_with, AreDifferent}
 use Rattle.term_store.proofs.PlaceLemmas.{place_of-is}
-use Rattle.atom_table.specs.Numbers.{AreApart}
-use Rattle.atom_numbers.specs.Atoms.{Numbers}
+use Rattle.atom_form.specs.AtomTableNumbers.{AreApart}
+use Rattle.atom_form.specs.AtomNumbersAtoms.{Numbers}
 use Rattle.smt_laws.specs.SortLaws.{SymbolsAreDeclared}
 use Rattle.search_port.specs.Valid.{IsOf}
 use Rattle.scope_stack.specs.Facts.{AreSorts}
 use Rattle.scope_stack.specs.Shown.{IsLawful}
 use Rattle.scope_stack.proofs.SortLemmas.{last_or_before}
-use Rattle.stack_atoms.specs.Parts.{IsMarked}
-use Rattle.stack_atoms.specs.Marks.{AreMarkedFrom}
-use Rattle.stack_atoms.proofs.Sorting.{HasSort, part_has_sort}
-use Rattle.stack_atoms.proofs.Marking.{below, same_arguments}
-use Rattle.stack_atoms.proofs.Places.{part_at}
+use Rattle.check_atoms.specs.Parts.{IsMarked}
+use Rattle.check_atoms.specs.Marks.{AreMarkedFrom}
+use Rattle.check_atoms.proofs.Sorting.{HasSort, part_has_sort}
+use Rattle.check_atoms.proofs.Marking.{below, same_arguments}
+use Rattle.check_atoms.proofs.StackAtomsPlaces.{part_at}
 use Rattle.check_atoms.specs.declared.refusal.Refusal.{Refusal}
 use Rattle.check_atoms.specs.declared.part.PartAtom.{PartAtom}
 use Rattle.check_atoms.specs.declared.part.PartAtom.TheVariants.{Truth, Same, Bound}
@@ -41,7 +41,7 @@ use Rattle.smt_meaning.specs.declared.clauses.Atom.TheVariants.{Truth as TruthAt
 use Rattle.smt_meaning.specs.Clause.{sum_places}
 use Rattle.smt_meaning.specs.CheckAtoms.{is_leaf, IsLeaf}
 use Rattle.bound_clauses.specs.Orders.{bound_atom}
-use Rattle.stack_atoms.proofs.Marking.{part_of_part}
+use Rattle.check_atoms.proofs.Marking.{part_of_part}
 use Rattle.check_atoms.specs.OfStack.{bound_terms}
 use Rattle.check_atoms.proofs.Integers.{IsIntBound, part_int}
 use Rattle.check_atoms.proofs.Sums.{IsInt, bound_places}

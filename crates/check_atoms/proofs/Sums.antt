@@ -14,7 +14,7 @@ use Rattle.smt_meaning.specs.Declaration.{Declaration}
 use Rattle.smt_meaning.specs.Signature.{tree_sort, tree_sorts, operator_sort, if_so, all_of, sort_eq, stands_with}
 use Rattle.smt_meaning.specs.CheckAtoms.{is_leaf}
 use Rattle.scope_stack.proofs.SortLemmas.{HasArguments, arguments_of, HasFirst, first_of, stands_so}
-use Rattle.stack_atoms.proofs.Sorting.{left_true, right_true, sort_is, if_so_true}
+use Rattle.check_atoms.proofs.Sorting.{left_true, right_true, sort_is, if_so_true}
 use Rattle.smt_meaning.specs.Parts.{IsPart, IsPartOfOne}
 use Rattle.smt_meaning.specs.Clause.{sum_places, atom_places}
 use Rattle.smt_meaning.specs.Linear.{Form, summand, is_zero, unless_zero, placed, with_term, sums_added, each_times, sum_times, form_plus, form_minus, form_product, fold_forms, folded, difference_form, linear_form, linear_forms}

@@ -2,7 +2,7 @@
 use Rattle.std.specs.Prelude.{◌≡◌, ℕ, Bool, List, slice_index_or}
 use Rattle.smt_meaning.specs.declared.values.Sort.{Sort}
 use Rattle.smt_meaning.specs.declared.values.Sort.TheVariants.{Bool as Truths, Free}
-use Rattle.stack_atoms.specs.Parts.{IsMarked}
+use Rattle.check_atoms.specs.Parts.{IsMarked}
 
 -- both are one declared sort
 pub record HaveDeclaredSort (left right : Sort) : Type 0 where

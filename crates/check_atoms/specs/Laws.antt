@@ -18,8 +18,8 @@ use Rattle.smt_meaning.specs.CheckAtoms.{IsPartOfStack, IsFirstAtom}
 use Rattle.smt_meaning.specs.Ranges.{LeavesInPart, LeavesInPair}
 use Rattle.smt_laws.specs.Flat.{flat}
 use Rattle.scope_stack.specs.Shown.{IsLawful}
-use Rattle.stack_atoms.specs.Parts.{IsMarked}
-use Rattle.stack_atoms.specs.Marks.{AreStackParts}
+use Rattle.check_atoms.specs.Parts.{IsMarked}
+use Rattle.check_atoms.specs.Marks.{AreStackParts}
 use Rattle.bound_clauses.specs.declared.orders.Sense.{Sense}
 use Rattle.bound_clauses.specs.declared.orders.Sense.TheVariants.{NotAbove, Below}
 use Rattle.bound_clauses.specs.declared.orders.Order.{Order}

@@ -3,3 +3,9 @@ pub mod Numbering
 pub mod OfStack
 pub mod Laws
 pub mod Chords
+pub mod Parts
+pub mod Atoms
+pub mod Marks
+pub mod StackAtomsOfStack
+pub mod PairRangesLaws
+pub mod ReadablePartsLaws

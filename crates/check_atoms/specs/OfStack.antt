@@ -11,9 +11,9 @@ use Rattle.smt_meaning.specs.Stack.{signature_of}
 use Rattle.smt_meaning.specs.StackCommand.{Stack}
 use Rattle.smt_meaning.specs.Report.{IsPartOfStack}
 use Rattle.term_store.specs.Terms.{tree_with}
-use Rattle.atom_table.specs.Numbers.{AreApart}
+use Rattle.atom_form.specs.AtomTableNumbers.{AreApart}
 use Rattle.search_port.specs.Valid.{IsOf}
-use Rattle.stack_atoms.specs.Parts.{IsMarked}
+use Rattle.check_atoms.specs.Parts.{IsMarked}
 use Rattle.check_atoms.specs.declared.refusal.Refusal.{Refusal}
 use Rattle.check_atoms.specs.declared.refusal.Refusal.TheVariants.{Memory}
 use Rattle.check_atoms.specs.declared.part.PartAtom.{PartAtom}

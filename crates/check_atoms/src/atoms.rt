@@ -3,8 +3,8 @@ ghost use Rattle.std.specs.Prelude.{◌≡◌, ℕ, ◌+◌, ◌<◌, length, On
 ghost use Rattle.smt_meaning.specs.Stack.{signature_of};
 ghost use Rattle.scope_stack.specs.Facts.{AreSorts};
 ghost use Rattle.linear_forms.specs.Table.{AreForms};
-ghost use Rattle.stack_atoms.specs.Parts.{IsMarked};
-ghost use Rattle.stack_atoms.specs.Marks.{AreMarkedFrom, AreStackParts};
+ghost use Rattle.check_atoms.specs.Parts.{IsMarked};
+ghost use Rattle.check_atoms.specs.Marks.{AreMarkedFrom, AreStackParts};
 ghost use Rattle.check_atoms.specs.declared.part.PartAtom.{PartAtom as PartAtomValue};
 ghost use Rattle.check_atoms.specs.OfStack.{AreCheckAtoms, AreAtomsBelow, IsRefused};
 
@@ -13,7 +13,7 @@ use crate::number::number_all;
 use crate::part::{PartAtom, add_part};
 use crate::parts::marks;
 use crate::refusal::Refusal;
-use atom_numbers::AtomNumbers;
+use atom_form::AtomNumbers;
 use bound_clauses::Order;
 use linear_forms::LinearForms;
 use scope_stack::Stack;

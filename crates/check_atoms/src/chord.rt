@@ -1,12 +1,11 @@
 //! One chord.
 ghost use Rattle.std.specs.Prelude.{◌≡◌, true};
 ghost use Rattle.smt_laws.specs.SortLaws.{SymbolsAreDeclared};
-ghost use Rattle.stack_atoms.specs.Marks.{AreMarkedFrom};
+ghost use Rattle.check_atoms.specs.Marks.{AreMarkedFrom};
 ghost use Rattle.check_atoms.specs.OfStack.{AreCheckAtoms};
 ghost use Rattle.check_atoms.specs.Chords.{HaveDeclaredSort, MayCompare};
 
-use atom_numbers::AtomNumbers;
-use atom_table::CompactAtom;
+use atom_form::{AtomNumbers, CompactAtom};
 use scope_stack::Stack;
 use smt_laws::symbols_are_declared;
 use smt_meaning::{Sort, TermId};

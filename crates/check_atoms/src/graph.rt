@@ -1,11 +1,11 @@
 //! The graph of equalities, from which terms with at most two neighbours are taken one after
 //! another (chords: Bryant and Velev, CAV 2000).
 ghost use Rattle.std.specs.Prelude.{◌<◌, length};
-ghost use Rattle.stack_atoms.specs.Marks.{AreMarkedFrom};
+ghost use Rattle.check_atoms.specs.Marks.{AreMarkedFrom};
 ghost use Rattle.check_atoms.specs.OfStack.{AreCheckAtoms};
 
 use crate::chord::{is_declared, number_chord};
-use atom_numbers::{AtomNumbers, NumberedAtom};
+use atom_form::{AtomNumbers, NumberedAtom};
 use scope_stack::Stack;
 use smt_meaning::{Head, Operator, Sort, TermId};
 use std::alloc::{AllocError, Global};

@@ -8,7 +8,20 @@
 //! chords among the equalities (Bryant and Velev, CAV 2000): atoms that say that the two neighbours
 //! of a term are equal, each of two parts of one declared sort, so that a search can say so in one
 //! literal; which, and which triangles are given, is free.
+//!
+//! `takes`: whether a stack is without integers, exactly.
+//!
+//! Laws, each as the contract of a function that does nothing: whatever commands come, the
+//! difference of a refused pair leaves the range, or for a strict bound what the part compares does;
+//! the bounds of a stack's parts can be read at the places at which the parts of its assertions
+//! stand, and so have the values of what they compare.
+//!
+//! In `specs/`: what marks of parts are, and the atoms of parts (the truth of each that is a Bool,
+//! the equality of two of one sort).
 #![tactic(auto)]
+
+ghost use Rattle.check_atoms.specs.PairRangesLaws.{LawfulPairsLeaveRange, RefusedPairsLeaveRange};
+ghost use Rattle.check_atoms.specs.ReadablePartsLaws.{LawfulPartsAreReadable, LawfulPlacesAreReadable, PartsAreReadable, PlacesAreReadable};
 
 mod atoms;
 mod chord;
@@ -18,6 +31,7 @@ mod number;
 mod part;
 mod parts;
 mod refusal;
+mod stack_atoms;
 
 pub use atoms::{CheckAtoms, numbered};
 pub use graph::Triangle;
@@ -27,3 +41,60 @@ pub use laws::{
 };
 pub use part::PartAtom;
 pub use refusal::Refusal;
+use smt_laws::{
+    assertions_are_linear, assertions_are_truths, leaves_are_among_the_trees, leaves_are_parts,
+    no_id_twice, numerals_are_in_range, parts_are_among_the_trees, placed_forms_fit,
+    trees_are_in_order, trees_are_linear,
+};
+pub use stack_atoms::takes;
+
+/// On a stack that commands give, the difference of a refused pair leaves the range, or for a strict bound what the part compares does.
+pub fn refused_pairs_leave_range()
+    ensures { RefusedPairsLeaveRange }
+{
+    lawful_pairs_leave_range();
+    numerals_are_in_range();
+    no_id_twice();
+    assertions_are_truths();
+    trees_are_in_order();
+    parts_are_among_the_trees();
+}
+
+/// The same of each lawful stack whose numerals are in the range.
+pub fn lawful_pairs_leave_range()
+    ensures { LawfulPairsLeaveRange }
+{
+    placed_forms_fit();
+    refused_pair_leaves_range();
+}
+
+/// Where a part of an assertion stands on a stack that commands give, bounds can be read: the tree is linear, and its leaves are among the stack's trees.
+pub fn parts_are_readable()
+    ensures { PartsAreReadable }
+{
+    assertions_are_linear();
+    leaves_are_among_the_trees();
+}
+
+/// The same of each lawful stack whose trees are linear.
+pub fn lawful_parts_are_readable()
+    ensures { LawfulPartsAreReadable }
+{
+    leaves_are_parts();
+}
+
+/// At each place of a stack that commands give bounds can be read.
+pub fn places_are_readable()
+    ensures { PlacesAreReadable }
+{
+    leaves_are_parts();
+    trees_are_in_order();
+    trees_are_linear();
+}
+
+/// The same of each lawful stack whose trees are linear.
+pub fn lawful_places_are_readable()
+    ensures { LawfulPlacesAreReadable }
+{
+    leaves_are_parts();
+}

@@ -1,7 +1,7 @@
 //! The numbers of atoms of parts.
 ghost use Rattle.std.specs.Prelude.{◌≡◌, ℕ, ◌<◌, [], ◌∷◌, length, map, List, All, OnOk, IfOk, IfErr, ◌⊎◌};
 ghost use Rattle.smt_meaning.specs.Term.{Tree};
-ghost use Rattle.atom_table.specs.Compact.{atom_of as core_atom};
+ghost use Rattle.atom_form.specs.Compact.{atom_of as core_atom};
 ghost use Rattle.linear_forms.specs.Table.{AreForms};
 ghost use Rattle.linear_forms.specs.Differences.{KnowsForms, Refuses};
 ghost use Rattle.pair_bounds.specs.Pairs.{IsBound};
@@ -12,8 +12,7 @@ ghost use Rattle.check_atoms.specs.Numbering.{Adds, fits_by, RefusesOrder, Refus
 
 use crate::part::PartAtom;
 use crate::refusal::Refusal;
-use atom_numbers::AtomNumbers;
-use atom_table::CompactAtom;
+use atom_form::{AtomNumbers, CompactAtom};
 use bound_clauses::{Order, Sense};
 use linear_forms::{DifferenceError, LinearForms};
 use pair_bounds::{at_most, below};

@@ -1,8 +1,8 @@
 //! Which terms of a stack are parts of its assertions.
 ghost use Rattle.std.specs.Prelude.{◌≡◌, ℕ, ◌+◌, ◌<◌, length, map, All, IfOk};
 ghost use Rattle.scope_stack.specs.Shown.{AreAsserted};
-ghost use Rattle.stack_atoms.specs.Parts.{IsMarked};
-ghost use Rattle.stack_atoms.specs.Marks.{MarksAlso, AreMarkedFrom, AreMarked};
+ghost use Rattle.check_atoms.specs.Parts.{IsMarked};
+ghost use Rattle.check_atoms.specs.Marks.{MarksAlso, AreMarkedFrom, AreMarked};
 
 use scope_stack::{Assertion, Stack};
 use smt_meaning::TermId;

@@ -13,7 +13,7 @@ use Rattle.equal_points.specs.declared.step.Step.{Step}
 use Rattle.congruence.specs.declared.congruence.Congruence.{Congruence}
 use Rattle.congruence.specs.Reasons.{reason_at}
 use Rattle.equal_points.specs.Explained.{step_at}
-use Rattle.literal_steps.specs.Justified.{IsJustified, AreJustified}
+use Rattle.congruence.specs.Justified.{IsJustified, AreJustified}
 use Rattle.closure_log.specs.Laws.{StaysTold}
 use Rattle.closure_log.specs.Told.{IsTold}
 

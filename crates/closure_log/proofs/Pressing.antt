@@ -12,7 +12,7 @@ use Rattle.search_port.specs.declared.budget.Lemma.{Lemma}
 use Rattle.smt_laws.specs.Flat.{FlatSaysTheSame}
 use Rattle.equal_points.specs.declared.step.Step.{Step}
 use Rattle.congruence.specs.declared.congruence.Congruence.{Congruence}
-use Rattle.literal_steps.specs.Implied.{IsPressingLemma, Presses}
+use Rattle.congruence.specs.Implied.{IsPressingLemma, Presses}
 use Rattle.closure_log.specs.Seen.{state_of, IsSetting}
 use Rattle.closure_log.specs.Said.{AreSaid}
 use Rattle.closure_log.specs.Told.{IsTold}

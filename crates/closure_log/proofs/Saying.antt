@@ -14,10 +14,10 @@ use Rattle.term_store.specs.Terms.{tree_with}
 use Rattle.search_port.specs.State.{atom_at}
 use Rattle.equal_points.specs.declared.step.Step.{Step}
 use Rattle.point_closure.specs.Whole.{IsWithin}
-use Rattle.stack_atoms.specs.Atoms.{is_bool_at}
-use Rattle.literal_steps.specs.Steps.{equal_terms, truth_step, pair_step, neighbours_equal, all_equal, pair_steps, equality_steps, node_steps, branch_step, choice_steps}
-use Rattle.literal_steps.specs.Justified.{IsJustified}
-use Rattle.literal_steps.specs.Laws.{TruthIsJustified, SamenessIsJustified, NodeStepsAreJustified, ChoiceStepsAreJustified}
+use Rattle.check_atoms.specs.Atoms.{is_bool_at}
+use Rattle.congruence.specs.Steps.{equal_terms, truth_step, pair_step, neighbours_equal, all_equal, pair_steps, equality_steps, node_steps, branch_step, choice_steps}
+use Rattle.congruence.specs.Justified.{IsJustified}
+use Rattle.congruence.specs.Laws.{TruthIsJustified, SamenessIsJustified, NodeStepsAreJustified, ChoiceStepsAreJustified}
 use Rattle.closure_log.specs.Said.{AreSaidBy, AreSaid}
 
 -- ---- among the points

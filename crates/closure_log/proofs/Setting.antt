@@ -5,14 +5,14 @@ use Rattle.smt_meaning.specs.declared.clauses.Atom.{Atom}
 use Rattle.smt_meaning.specs.declared.clauses.Atom.TheVariants.{Truth, Same}
 use Rattle.smt_meaning.specs.Stack.{signature_of}
 use Rattle.smt_meaning.specs.StackCommand.{Stack}
-use Rattle.atom_table.specs.Numbers.{IsAt}
+use Rattle.atom_form.specs.AtomTableNumbers.{IsAt}
 use Rattle.search_port.specs.State.{atom_at}
 use Rattle.smt_laws.specs.Flat.{SaysTheSame, FlatSaysTheSame}
 use Rattle.congruence.specs.declared.congruence.Congruence.{Congruence}
 use Rattle.congruence.specs.Recorded.{IsConflict as IsClash}
-use Rattle.stack_atoms.specs.Atoms.{is_bool_at}
-use Rattle.literal_steps.specs.Clauses.{IsFalseClause, IsToldAtOneLevel}
-use Rattle.literal_steps.specs.Laws.{ClashIsFalseClause}
+use Rattle.check_atoms.specs.Atoms.{is_bool_at}
+use Rattle.congruence.specs.Clauses.{IsFalseClause, IsToldAtOneLevel}
+use Rattle.congruence.specs.Laws.{ClashIsFalseClause}
 use Rattle.closure_log.specs.Seen.{state_of, IsOfTerms, IsSetting}
 use Rattle.closure_log.specs.Told.{IsTold}
 

@@ -18,8 +18,8 @@ use Rattle.congruence.specs.declared.congruence.Congruence.{Congruence}
 use Rattle.congruence.specs.Reading.{AreSeen}
 use Rattle.congruence.specs.Reasons.{reason_at}
 use Rattle.congruence.specs.Recorded.{IsRecorded}
-use Rattle.literal_steps.specs.Justified.{IsJustified, AreJustified}
-use Rattle.literal_steps.specs.Reasoned.{IsReasoned, IsPartly}
+use Rattle.congruence.specs.Justified.{IsJustified, AreJustified}
+use Rattle.congruence.specs.Reasoned.{IsReasoned, IsPartly}
 use Rattle.closure_log.specs.Told.{IsMark, IsTold, IsReady}
 
 -- ---- lists

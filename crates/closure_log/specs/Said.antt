@@ -8,8 +8,8 @@ use Rattle.smt_meaning.specs.Term.{Tree}
 use Rattle.search_port.specs.State.{atom_at}
 use Rattle.equal_points.specs.declared.step.Step.{Step}
 use Rattle.point_closure.specs.Whole.{IsWithin}
-use Rattle.stack_atoms.specs.Atoms.{is_bool_at}
-use Rattle.literal_steps.specs.Justified.{IsJustified}
+use Rattle.check_atoms.specs.Atoms.{is_bool_at}
+use Rattle.congruence.specs.Justified.{IsJustified}
 
 -- whatever literal tells that a Bool term has this truth justifies the steps, and they are among the points of the terms
 pub record AreSaidBy (ts : List Tree) (t : ℕ) (v : Bool) (steps : List Step) : Type 0 where

@@ -8,7 +8,7 @@ use Rattle.smt_meaning.specs.StackCommand.{Stack}
 use Rattle.search_port.specs.State.{TheoryState, no_variables}
 use Rattle.search_port.specs.Valid.{IsOf}
 use Rattle.smt_laws.specs.Flat.{flat}
-use Rattle.stack_atoms.specs.Atoms.{is_bool_at}
+use Rattle.check_atoms.specs.Atoms.{is_bool_at}
 
 -- the levels of a stack are read as one, and atoms may be added
 abbrev pub state_of : Stack → List Atom → List Signed → TheoryState

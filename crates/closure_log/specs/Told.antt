@@ -13,7 +13,7 @@ use Rattle.congruence.specs.Reading.{AreSeen}
 use Rattle.congruence.specs.Recorded.{IsRecorded}
 use Rattle.equal_points.specs.Closure.{AreRead}
 use Rattle.smt_meaning.specs.Term.{Tree}
-use Rattle.literal_steps.specs.Reasoned.{IsReasoned}
+use Rattle.congruence.specs.Reasoned.{IsReasoned}
 
 -- the reasons of the first so many steps are among the first so many literals
 pub record IsMark (log reasons : List Signed) (count start : ℕ) : Type 0 where

@@ -6,12 +6,12 @@ ghost use Rattle.closure_log.specs.Said.{AreSaidBy, AreSaid};
 ghost use Rattle.closure_log.specs.Seen.{IsSetting};
 
 use crate::choices::{Choices, is_bool, watched};
-use atom_numbers::{AtomNumbers, NumberedAtom};
-use equal_points::Step;
-use literal_steps::{
+use atom_form::{AtomNumbers, NumberedAtom};
+use congruence::{
     add_choice_steps, add_node_steps, add_pair_step, add_truth_step, choice_steps_are_justified,
     node_steps_are_justified, sameness_is_justified, truth_is_justified,
 };
+use equal_points::Step;
 use literals::Literal;
 use scope_stack::Stack;
 use smt_meaning::{Sort, TermId};

@@ -8,10 +8,9 @@ ghost use Rattle.congruence.specs.Reasons.{NoneTwice};
 ghost use Rattle.closure_log.specs.Told.{IsTold, IsReady, HasNoneTwice};
 
 use crate::said::{Extent, Guide, say};
-use atom_numbers::AtomNumbers;
-use congruence::{Congruence, Explanation};
+use atom_form::AtomNumbers;
+use congruence::{Congruence, Explanation, clash_is_false_clause, lemma_with, record_all};
 use equal_points::Step;
-use literal_steps::{clash_is_false_clause, lemma_with, record_all};
 use literals::Literal;
 use scope_stack::Stack;
 use search_port::{Asserted, Cause, Lemma};

@@ -1,3 +1,10 @@
 pub mod ReadingLemmas
 pub mod ConflictLemmas
 pub mod OnceLemmas
+pub mod Values
+pub mod Justifying
+pub mod Reasoning
+pub mod Clausing
+pub mod Implying
+pub mod Declared
+pub mod Recording

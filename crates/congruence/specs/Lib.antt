@@ -1,3 +1,9 @@
 pub mod Reasons
 pub mod Reading
 pub mod Recorded
+pub mod Steps
+pub mod Justified
+pub mod Clauses
+pub mod Implied
+pub mod Reasoned
+pub mod Laws

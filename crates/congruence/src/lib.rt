@@ -16,14 +16,85 @@
 //! `each_once`, `Explanation`: in each of these lists no literal stands twice.
 //!
 //! `watch`: two points are watched for a literal; points, steps and reasons stay.
+//!
+//! What literals say of terms, as steps of a closure, and the clauses that reasons of steps give.
+//!
+//! `add_truth_step`, `add_pair_step`, `add_node_steps`, `add_choice_steps`, `record_all`: exactly
+//! the steps that a literal says of terms; what is recorded for reasons that justify it stays
+//! justified, on an error too.
+//!
+//! `add_reasons`, `lemma_of`, `lemma_with`, and 7 laws: each such step holds under every
+//! interpretation that makes its literal true. A clash of justified steps is a clause that is true
+//! under every interpretation, and false where the reasons are told; so are clauses with the
+//! reasons of an equality. A clause that is made of a list has each literal once.
+//!
+//! `implied_clause`: where a step that the negation of a literal says can't hold (its points are
+//! equal though it says that they differ, or one has the truth value that the other isn't), the
+//! clause "the literal, or not the reasons", true under every interpretation.
+//!
+//! The other literals of that clause are false where the literal is open; none stands twice; there
+//! is no clause where there are more reasons than so many.
 #![tactic(auto)]
 
+ghost use Rattle.congruence.specs.Laws.{AtomsAreDeclared, ChoiceStepsAreJustified, ClashIsFalseClause, NodeStepsAreJustified, ReasonsMakeEqual, SamenessIsJustified, TruthIsJustified};
+
+mod clause;
 mod congruence;
 mod differing;
 mod explanation;
+mod implied;
 mod reading;
 mod reasons;
+mod record;
+mod steps;
 
+pub use clause::{add_reasons, lemma_of, lemma_with};
 pub use congruence::Congruence;
 pub use explanation::Explanation;
+pub use implied::implied_clause;
 pub use reasons::each_once;
+pub use record::record_all;
+pub use steps::{add_choice_steps, add_node_steps, add_pair_step, add_truth_step};
+
+/// The truth of a Bool term justifies that it has this truth value.
+pub fn truth_is_justified()
+    ensures { TruthIsJustified }
+{
+    smt_laws::value_has_its_sort();
+}
+
+/// The equality of two terms justifies that their points are equal, or differ.
+pub fn sameness_is_justified()
+    ensures { SamenessIsJustified }
+{}
+
+/// The truth of a term justifies what it says of the term's arguments.
+pub fn node_steps_are_justified()
+    ensures { NodeStepsAreJustified }
+{}
+
+/// The truth of a condition justifies what it says of a choice.
+pub fn choice_steps_are_justified()
+    ensures { ChoiceStepsAreJustified }
+{}
+
+/// Where the reasons of an equality are true, its points have one value.
+pub fn reasons_make_equal()
+    ensures { ReasonsMakeEqual }
+{
+    equal_points::equal_points_have_one_value();
+}
+
+/// The clause that justified steps break is true everywhere, and false where their reasons are told.
+pub fn clash_is_false_clause()
+    ensures { ClashIsFalseClause }
+{
+    equal_points::equal_points_have_one_value();
+}
+
+/// The atoms of the parts of a check are over what the signature declares.
+pub fn atoms_are_declared()
+    ensures { AtomsAreDeclared }
+{
+    smt_laws::symbols_are_declared();
+}

@@ -19,7 +19,7 @@ use Rattle.smt_meaning.specs.declared.clauses.Atom.TheVariants.{Truth, AtMost, S
 use Rattle.smt_meaning.specs.Term.{Tree, tree_at, value, Interpretation, number_of, truth_of, same_value}
 use Rattle.smt_meaning.specs.Clause.{atom_true, atom_places, sum_places, sum_value}
 use Rattle.smt_meaning.specs.Interpretation.{meaning}
-use Rattle.atom_table.specs.Numbers.{IsAt}
+use Rattle.atom_form.specs.AtomTableNumbers.{IsAt}
 use Rattle.search_port.specs.State.{atom_at, truth}
 use Rattle.model_eval.specs.Walk.{is_marked}
 use Rattle.exact_model.specs.Places.{value_at, AreValues}

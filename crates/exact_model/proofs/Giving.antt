@@ -21,7 +21,7 @@ use Rattle.model_build.specs.declared.given.Given.TheVariants.{Unmarked, InRange
 use Rattle.model_build.specs.Given.{given_at, is_marked, head_of, arguments_of, givens}
 use Rattle.model_build.specs.Building.{is_given_of, IsGivenOf, AreGiven, AreValues, GiveValues}
 use Rattle.model_build.proofs.Reading.{givens-pick}
-use Rattle.stack_atoms.specs.Parts.{IsMarked}
+use Rattle.check_atoms.specs.Parts.{IsMarked}
 use Rattle.scope_stack.specs.Facts.{AreSorts}
 use Rattle.model_build.specs.Parts.{AreSortedParts}
 use Rattle.model_build.proofs.Placing.{arguments_picked}

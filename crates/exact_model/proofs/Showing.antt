@@ -23,9 +23,9 @@ use Rattle.term_store.proofs.PlaceLemmas.{place_of-is}
 use Rattle.smt_laws.specs.Flat.{flat, SaysTheSame, FlatSaysTheSame}
 use Rattle.scope_stack.specs.declared.answers.Assertion.{Assertion}
 use Rattle.scope_stack.specs.Shown.{AreAsserted, IsLawful}
-use Rattle.stack_atoms.specs.Parts.{IsMarked}
-use Rattle.stack_atoms.specs.Marks.{AreStackParts}
-use Rattle.stack_atoms.proofs.Places.{stack_parts}
+use Rattle.check_atoms.specs.Parts.{IsMarked}
+use Rattle.check_atoms.specs.Marks.{AreStackParts}
+use Rattle.check_atoms.proofs.StackAtomsPlaces.{stack_parts}
 use Rattle.model_build.specs.Parts.{AreSortedParts}
 use Rattle.linear_forms.specs.Table.{Known, IsLinked, AreForms}
 use Rattle.model_eval.specs.Walk.{is_marked}

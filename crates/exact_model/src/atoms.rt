@@ -6,7 +6,7 @@ ghost use Rattle.search_port.specs.State.{atom_at};
 ghost use Rattle.exact_model.specs.Atoms.{atom_true_by, truth_by, HasPlacesBelow};
 
 use crate::log_value_sums::is_at_most;
-use atom_numbers::{AtomNumbers, NumberedAtom};
+use atom_form::{AtomNumbers, NumberedAtom};
 use literals::Literal;
 use smt_meaning::Value;
 use std::alloc::AllocError;

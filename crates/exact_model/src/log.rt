@@ -6,7 +6,7 @@ ghost use Rattle.exact_model.specs.Verdict.{IsVerdictBy, IsVerdict};
 
 use crate::atoms::makes_true;
 use crate::values::evaluated;
-use atom_numbers::AtomNumbers;
+use atom_form::AtomNumbers;
 use literals::Literal;
 use model_eval::EvalError;
 use smt_meaning::{Interp, TermId, Value};

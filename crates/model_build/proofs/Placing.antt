@@ -17,8 +17,8 @@ use Rattle.model_build.specs.declared.given.Given.TheVariants.{Unmarked, InRange
 use Rattle.model_build.specs.Given.{given_at, is_marked, is_past, arguments_of, givens, IsApplication}
 use Rattle.model_build.specs.Building.{is_given_of, IsGivenOf, AreGiven}
 use Rattle.model_build.proofs.Reading.{givens-pick}
-use Rattle.stack_atoms.specs.Parts.{IsMarked}
-use Rattle.stack_atoms.proofs.Places.{Picked, picked}
+use Rattle.check_atoms.specs.Parts.{IsMarked}
+use Rattle.check_atoms.proofs.StackAtomsPlaces.{Picked, picked}
 use Rattle.scope_stack.specs.Facts.{AreSorts}
 use Rattle.model_build.specs.Parts.{AreSortedParts}
 use Rattle.model_build.specs.WorkedOut.{is_worked_out, worked_out, IsWorkedOut, AreWorkedOut}

@@ -6,7 +6,7 @@ use Rattle.smt_meaning.specs.Declaration.{Declaration}
 use Rattle.smt_meaning.specs.Term.{Tree, tree_at}
 use Rattle.smt_meaning.specs.Signature.{tree_sort}
 use Rattle.term_store.specs.Terms.{tree_with}
-use Rattle.stack_atoms.specs.Parts.{IsMarked}
+use Rattle.check_atoms.specs.Parts.{IsMarked}
 
 -- terms with a sort, and with each its arguments
 pub record AreSortedParts (ds : List Declaration) (trees : List Tree) (marks : List Bool) : Type 0 where

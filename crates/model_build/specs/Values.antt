@@ -14,7 +14,7 @@ use Rattle.model_build.specs.declared.given.Given.{Given}
 use Rattle.model_build.specs.declared.given.Given.TheVariants.{Unmarked, InRange}
 use Rattle.model_build.specs.Given.{given_at, head_of}
 use Rattle.model_build.specs.Building.{is_given_of}
-use Rattle.stack_atoms.specs.Parts.{IsMarked}
+use Rattle.check_atoms.specs.Parts.{IsMarked}
 use Rattle.model_build.specs.WorkedOut.{is_worked_out, worked_out, IsWorkedOut}
 
 -- the number, or the least in the range

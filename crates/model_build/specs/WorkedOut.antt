@@ -15,7 +15,7 @@ use Rattle.term_store.specs.Terms.{tree_with}
 use Rattle.model_build.specs.declared.given.Given.{Given}
 use Rattle.model_build.specs.declared.given.Given.TheVariants.{Unmarked, InRange, PastRange}
 use Rattle.model_build.specs.Given.{given_at}
-use Rattle.stack_atoms.specs.Parts.{IsMarked}
+use Rattle.check_atoms.specs.Parts.{IsMarked}
 
 -- the value isn't chosen: it is a numeral's, or made of those of the arguments
 abbrev pub is_worked_out : Head → Bool

@@ -6,7 +6,7 @@ ghost use Rattle.scope_stack.specs.Facts.{AreSorts};
 ghost use Rattle.model_build.specs.declared.given.Given.TheVariants.{InRange};
 ghost use Rattle.model_build.specs.Given.{given_at};
 ghost use Rattle.model_build.specs.Building.{is_given_of, AreGiven};
-ghost use Rattle.stack_atoms.specs.Parts.{IsMarked};
+ghost use Rattle.check_atoms.specs.Parts.{IsMarked};
 ghost use Rattle.model_build.specs.Parts.{AreSortedParts};
 ghost use Rattle.model_build.specs.Values.{HaveValues, in_the_range, chosen, IsPlaceGiven, IsNextWorkedOut, GiveChosen, GiveNoOthers};
 ghost use Rattle.model_build.specs.WorkedOut.{is_worked_out, worked_out, AreWorkedOut};

@@ -13,11 +13,11 @@ use Rattle.search_port.specs.State.{TheoryState}
 use Rattle.search_port.specs.Calls.{IsConflict}
 use Rattle.search_port.specs.declared.budget.Lemma.{Lemma}
 use Rattle.congruence.specs.Reasons.{HaveTheSame}
-use Rattle.stack_atoms.specs.Atoms.{is_bool_at}
-use Rattle.literal_steps.specs.Clauses.{IsTrueEverywhere, IsFalseClause, IsToldAtOneLevel}
-use Rattle.literal_steps.specs.Implied.{IsPressingLemma}
-use Rattle.literal_steps.proofs.Reasoning.{same_valid}
-use Rattle.literal_steps.proofs.Implying.{press}
+use Rattle.check_atoms.specs.Atoms.{is_bool_at}
+use Rattle.congruence.specs.Clauses.{IsTrueEverywhere, IsFalseClause, IsToldAtOneLevel}
+use Rattle.congruence.specs.Implied.{IsPressingLemma}
+use Rattle.congruence.proofs.Reasoning.{same_valid}
+use Rattle.congruence.proofs.Implying.{press}
 use Rattle.closure_log.specs.Seen.{state_of, IsSetting}
 use Rattle.closure_log.proofs.Setting.{truth_bool}
 use Rattle.odd_parts.specs.Odd.{HasAgainst}

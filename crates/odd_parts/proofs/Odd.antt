@@ -17,9 +17,9 @@ use Rattle.smt_meaning.specs.Clause.{atom_true}
 use Rattle.smt_meaning.specs.Interpretation.{has_sort, Interprets}
 use Rattle.smt_meaning.specs.Signature.{tree_sort, is_bool}
 use Rattle.smt_laws.specs.TermLaws.{ValueHasItsSort}
-use Rattle.stack_atoms.specs.Atoms.{is_bool_at}
-use Rattle.literal_steps.specs.Justified.{truth_by}
-use Rattle.literal_steps.proofs.Reasoning.{each_false, true_unless}
+use Rattle.check_atoms.specs.Atoms.{is_bool_at}
+use Rattle.congruence.specs.Justified.{truth_by}
+use Rattle.congruence.proofs.Reasoning.{each_false, true_unless}
 use Rattle.odd_parts.specs.Odd.{is_odd, IsXor, IsAgainst, HasAgainst}
 use Rattle.odd_parts.specs.Laws.{OddClauseIsTrue}
 

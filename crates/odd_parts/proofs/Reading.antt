@@ -9,9 +9,9 @@ use Rattle.literals.specs.Signed.{Signed, opposite}
 use Rattle.smt_meaning.specs.declared.clauses.Atom.{Atom}
 use Rattle.smt_meaning.specs.declared.clauses.Atom.TheVariants.{Truth}
 use Rattle.smt_meaning.specs.Term.{xor}
-use Rattle.atom_table.specs.Numbers.{IsAt, AreApart}
+use Rattle.atom_form.specs.AtomTableNumbers.{IsAt, AreApart}
 use Rattle.search_port.specs.State.{IsFalseIn, AllFalseIn, IsOpenIn}
-use Rattle.literal_steps.proofs.Reasoning.{twice}
+use Rattle.congruence.proofs.Reasoning.{twice}
 use Rattle.odd_parts.specs.Odd.{is_odd, HasAgainst}
 use Rattle.odd_parts.specs.Parts.{TellsTruth}
 use Rattle.odd_parts.specs.Read.{IsUntold, IsOpenTruth, IsToldTruth, assumed, counted, AreAgainst, HasOpen, IsRead}

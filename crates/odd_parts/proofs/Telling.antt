@@ -6,7 +6,7 @@ use Rattle.literals.specs.Signed.{Signed, opposite}
 use Rattle.smt_meaning.specs.declared.clauses.Atom.{Atom}
 use Rattle.smt_meaning.specs.declared.clauses.Atom.TheVariants.{Truth}
 use Rattle.smt_meaning.specs.Term.{Tree}
-use Rattle.atom_table.specs.Numbers.{AreApart}
+use Rattle.atom_form.specs.AtomTableNumbers.{AreApart}
 use Rattle.search_port.specs.State.{AllFalseIn, IsFalseIn, IsConsistent}
 use Rattle.odd_parts.specs.Odd.{is_odd, HasAgainst}
 use Rattle.odd_parts.specs.Parts.{IsWideXor, TellsTruth, KeepsXorAt}

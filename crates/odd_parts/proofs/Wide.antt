@@ -9,7 +9,7 @@ use Rattle.smt_meaning.specs.declared.terms.Head.TheVariants.{Theory}
 use Rattle.smt_meaning.specs.Nodes.{pick}
 use Rattle.smt_meaning.specs.Term.{Tree, Trees, node, more, none, tree_at}
 use Rattle.term_store.specs.Terms.{tree_with, AreDifferent}
-use Rattle.stack_atoms.specs.Parts.{IsMarked}
+use Rattle.check_atoms.specs.Parts.{IsMarked}
 use Rattle.odd_parts.specs.Parts.{IsWideXor, AreWideXorsBelow, AreWideXors}
 
 one_place : (ts : List Tree) (i j : ℕ) → AreDifferent ts → i < length ts → j < length ts → tree_at ts i ≡ tree_at ts j → i ≡ j

@@ -5,7 +5,7 @@ use Rattle.literals.specs.Signed.{Signed}
 use Rattle.smt_meaning.specs.declared.clauses.Atom.{Atom}
 use Rattle.smt_meaning.specs.Declaration.{Declaration}
 use Rattle.smt_meaning.specs.Term.{Tree}
-use Rattle.literal_steps.specs.Clauses.{IsTrueEverywhere}
+use Rattle.congruence.specs.Clauses.{IsTrueEverywhere}
 use Rattle.odd_parts.specs.Odd.{is_odd, IsXor, HasAgainst}
 
 -- truths of a `xor` and of its arguments of which an odd count is true are none that an interpretation gives: a clause against each of them is true

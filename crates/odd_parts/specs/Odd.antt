@@ -8,8 +8,8 @@ use Rattle.smt_meaning.specs.declared.terms.Head.TheVariants.{Theory}
 use Rattle.smt_meaning.specs.Declaration.{Declaration}
 use Rattle.smt_meaning.specs.Term.{Tree, tree_at, xor}
 use Rattle.term_store.specs.Terms.{tree_with}
-use Rattle.atom_table.specs.Numbers.{IsAt}
-use Rattle.stack_atoms.specs.Atoms.{is_bool_at}
+use Rattle.atom_form.specs.AtomTableNumbers.{IsAt}
+use Rattle.check_atoms.specs.Atoms.{is_bool_at}
 
 -- whether an odd count of these truths is true
 abbrev pub is_odd : List Bool → Bool

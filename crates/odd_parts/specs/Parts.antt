@@ -8,9 +8,9 @@ use Rattle.smt_meaning.specs.declared.terms.Operator.TheVariants.{Xor}
 use Rattle.smt_meaning.specs.declared.terms.Head.TheVariants.{Theory}
 use Rattle.smt_meaning.specs.Term.{Tree, tree_at}
 use Rattle.term_store.specs.Terms.{tree_with}
-use Rattle.atom_table.specs.Numbers.{IsAt}
+use Rattle.atom_form.specs.AtomTableNumbers.{IsAt}
 use Rattle.search_port.specs.State.{IsConsistent}
-use Rattle.stack_atoms.specs.Parts.{IsMarked}
+use Rattle.check_atoms.specs.Parts.{IsMarked}
 use Rattle.closure_log.specs.Places.{ArePlaces}
 use Rattle.odd_parts.specs.Odd.{is_odd}
 

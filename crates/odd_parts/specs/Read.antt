@@ -6,11 +6,11 @@ use Rattle.smt_meaning.specs.declared.clauses.Atom.{Atom}
 use Rattle.smt_meaning.specs.declared.clauses.Atom.TheVariants.{Truth}
 use Rattle.smt_meaning.specs.Term.{xor}
 use Rattle.smt_meaning.specs.StackCommand.{Stack}
-use Rattle.atom_table.specs.Numbers.{IsAt}
+use Rattle.atom_form.specs.AtomTableNumbers.{IsAt}
 use Rattle.search_port.specs.State.{IsOpenIn, AllFalseIn}
 use Rattle.search_port.specs.Calls.{IsConflict}
 use Rattle.search_port.specs.declared.budget.Lemma.{Lemma}
-use Rattle.literal_steps.specs.Implied.{IsPressingLemma}
+use Rattle.congruence.specs.Implied.{IsPressingLemma}
 use Rattle.closure_log.specs.Seen.{state_of, IsSetting}
 use Rattle.odd_parts.specs.declared.read.Said.{Said}
 use Rattle.odd_parts.specs.declared.read.Said.TheVariants.{Nothing, Open, Told}

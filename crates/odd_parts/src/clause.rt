@@ -1,15 +1,15 @@
 //! The clause of a wide `xor`, where all of its terms are told but at most one.
 ghost use Rattle.std.specs.Prelude.{◌≡◌, true, List, ℕ, IfSome, IfNone, IfOk, MatchOption};
 ghost use Rattle.search_port.specs.Calls.{IsConflict};
-ghost use Rattle.literal_steps.specs.Implied.{IsPressingLemma};
+ghost use Rattle.congruence.specs.Implied.{IsPressingLemma};
 ghost use Rattle.closure_log.specs.Seen.{state_of, IsSetting};
 ghost use Rattle.odd_parts.specs.Parts.{IsWideXor, IsPlacedLog, KeepsXorAt, KeepsXors};
 ghost use Rattle.odd_parts.specs.Read.{PressesWhereRead, IsFalseWhereRead};
 
 use crate::laws::odd_clause_is_true;
 use crate::read::{Read, read_part};
-use atom_numbers::AtomNumbers;
-use literal_steps::lemma_of;
+use atom_form::AtomNumbers;
+use congruence::lemma_of;
 use literals::Literal;
 use scope_stack::Stack;
 use search_port::Lemma;

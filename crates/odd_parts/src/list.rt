@@ -1,13 +1,12 @@
 //! The wide `xor`s of a stack, and clauses of those that come to press.
 ghost use Rattle.std.specs.Prelude.{◌≡◌, ◌+◌, List, ℕ, false, IfOk, IfSome, OnOk};
-ghost use Rattle.literal_steps.specs.Implied.{IsPressingLemma};
-ghost use Rattle.stack_atoms.specs.Parts.{IsMarked};
+ghost use Rattle.congruence.specs.Implied.{IsPressingLemma};
+ghost use Rattle.check_atoms.specs.Parts.{IsMarked};
 ghost use Rattle.closure_log.specs.Seen.{state_of, IsSetting};
 ghost use Rattle.odd_parts.specs.Parts.{IsWideXor, AreWideXorsBelow, AreWideXors, IsPlacedLog};
 
 use crate::clause::{pressing, wide_arguments};
-use atom_numbers::AtomNumbers;
-use atom_table::CompactAtom;
+use atom_form::{AtomNumbers, CompactAtom};
 use closure_log::{is_open, keep};
 use literals::Literal;
 use scope_stack::Stack;
@@ -147,7 +146,7 @@ fn look(
 
 impl Watches {
     ghost use Rattle.std.specs.Prelude.{◌<◌, length, All, IfOk, IfSome};
-    ghost use Rattle.literal_steps.specs.Implied.{IsPressingLemma};
+    ghost use Rattle.congruence.specs.Implied.{IsPressingLemma};
     ghost use Rattle.closure_log.specs.Seen.{state_of, IsSetting};
     ghost use Rattle.odd_parts.specs.Parts.{IsPlacedLog};
 

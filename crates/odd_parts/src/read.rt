@@ -5,8 +5,7 @@ ghost use Rattle.smt_meaning.specs.Term.{xor};
 ghost use Rattle.odd_parts.specs.Parts.{IsPlacedLog};
 ghost use Rattle.odd_parts.specs.Read.{IsUntold, LacksOne, IsOpenTruth, IsToldTruth, IsSaid, IsRead};
 
-use atom_numbers::AtomNumbers;
-use atom_table::CompactAtom;
+use atom_form::{AtomNumbers, CompactAtom};
 use closure_log::told_of;
 use literals::Literal;
 use smt_meaning::TermId;

@@ -7,3 +7,6 @@ pub mod Steps
 pub mod PartSoundness
 pub mod Deciding
 pub mod Stacked
+pub mod Gathering
+pub mod Ordering
+pub mod Reaching

@@ -6,7 +6,7 @@ use Rattle.smt_meaning.specs.declared.clauses.Summand.{Summand}
 use Rattle.smt_meaning.specs.declared.clauses.Atom.{Atom}
 use Rattle.smt_meaning.specs.declared.clauses.Atom.TheVariants.{Truth, AtMost, Same}
 use Rattle.smt_meaning.specs.Term.{int_eq}
-use Rattle.atom_table.specs.Numbers.{IsAt, AreApart}
+use Rattle.atom_form.specs.AtomTableNumbers.{IsAt, AreApart}
 use Rattle.order_clauses.specs.Numbers.{sum_eq, atom_eq, number_in}
 
 -- ---- equal atoms

@@ -7,7 +7,7 @@ use Rattle.smt_meaning.specs.declared.terms.Operator.TheVariants.{Ite}
 use Rattle.smt_meaning.specs.declared.clauses.Atom.{Atom}
 use Rattle.smt_meaning.specs.Term.{Tree, operate, truth_of, same_value}
 use Rattle.search_port.specs.State.{IsConsistent, IsMadeTrue}
-use Rattle.atom_table.specs.Numbers.{IsAt}
+use Rattle.atom_form.specs.AtomTableNumbers.{IsAt}
 use Rattle.equality_clauses.specs.Ties.{literal}
 use Rattle.equality_clauses.specs.Laws.{compares}
 use Rattle.bound_clauses.specs.declared.orders.Order.{Order}

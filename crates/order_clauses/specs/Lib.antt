@@ -5,3 +5,7 @@ pub mod Needed
 pub mod Sound
 pub mod Errors
 pub mod Decided
+pub mod Links
+pub mod Axioms
+pub mod Gathered
+pub mod Reached

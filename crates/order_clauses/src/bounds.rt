@@ -10,7 +10,7 @@ ghost use Rattle.order_clauses.specs.Errors.{RefusesOrder, IsCause};
 
 use crate::error::PartError;
 use crate::find::find_bound;
-use atom_numbers::AtomNumbers;
+use atom_form::AtomNumbers;
 use bound_clauses::{Order, Sense, put_constant};
 use clause_form::Clauses;
 use linear_forms::{DifferenceError, LinearForms};

@@ -7,8 +7,7 @@ ghost use Rattle.order_clauses.specs.Clauses.{truth_number, same_number};
 
 use crate::error::PartError;
 use crate::pairs::Pair;
-use atom_numbers::AtomNumbers;
-use atom_table::CompactAtom;
+use atom_form::{AtomNumbers, CompactAtom};
 use smt_meaning::{Summand, TermId};
 
 /// The number of the truth of a term, or `Missing`.

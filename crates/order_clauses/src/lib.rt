@@ -5,16 +5,28 @@
 //! `put_part`: exactly the clauses of comparisons, equalities, `distinct` and choices over the
 //! numbers of a table, true under every interpretation. A log that makes them true, with bounds
 //! that fit the values, gives the operator's value.
+//!
+//! The clauses between the bounds of a table that are on one sum or on its negation: each implies
+//! the next, in the order of their thresholds.
+//!
+//! `put_all_axioms`: the clauses between neighbours, true everywhere; propagation over them gives
+//! all that follows from one bound.
 #![tactic(auto)]
 
+mod axioms;
+mod bound_axioms_laws;
 mod bounds;
 mod error;
 mod find;
+mod gather;
 mod laws;
+mod links;
 mod pairs;
 mod parts;
 mod ties;
 
+pub use axioms::put_all_axioms;
+pub use bound_axioms_laws::axioms_reach_all;
 pub use error::PartError;
 pub use laws::{
     choice_part_is_decided, equality_part_is_decided, numbers_are_found, order_part_is_decided,

@@ -18,7 +18,7 @@ use crate::error::PartError;
 use crate::find::find_truth;
 use crate::pairs::{Pair, add_pairs};
 use crate::ties::{put_tie, put_ties};
-use atom_numbers::AtomNumbers;
+use atom_form::AtomNumbers;
 use bound_clauses::{
     Order, add_orders, constant_has_value, constant_is_over, equality_clauses_are_true,
     equality_is_over, order_clauses_are_true, order_is_over, put_order,

@@ -14,7 +14,7 @@ use crate::bounds::put_bound;
 use crate::error::PartError;
 use crate::find::find_same;
 use crate::pairs::Pair;
-use atom_numbers::AtomNumbers;
+use atom_form::AtomNumbers;
 use bound_clauses::{Order, Sense, put_equality};
 use clause_form::Clauses;
 use linear_forms::LinearForms;

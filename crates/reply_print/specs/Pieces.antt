@@ -31,7 +31,7 @@ stack_words =
     ∷ codes "check-sat" ∷ codes "push" ∷ codes "pop" ∷ codes "get-value" ∷ codes "get-model" ∷ codes "get-assertions"
     ∷ codes "check-sat-assuming" ∷ codes "get-assignment" ∷ []
 
--- the commands that are left out
+-- the commands that ask why there is no model, and those that are left out
 abbrev pub left_out_words : List (List ℕ)
 left_out_words =
     codes "get-proof" ∷ codes "get-unsat-core" ∷ codes "get-unsat-assumptions"

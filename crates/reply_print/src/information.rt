@@ -68,5 +68,7 @@ pub fn option_word(option: OptionName) -> &'static [u8]
         OptionName::InteractiveMode => b"interactive-mode",
         OptionName::ProduceAssignments => b"produce-assignments",
         OptionName::GlobalDeclarations => b"global-declarations",
+        OptionName::ProduceUnsatCores => b"produce-unsat-cores",
+        OptionName::ProduceUnsatAssumptions => b"produce-unsat-assumptions",
     }
 }

@@ -6,8 +6,9 @@ ghost use Rattle.smt_meaning.specs.Signature.{is_one_of as is_among};
 ghost use Rattle.smt_meaning.specs.Text.{symbol_text, literal as literal_text, keyword_text, quotes_doubled, is_plain as is_plain_name, further_reserved_words};
 ghost use Rattle.reply_print.specs.Pieces.{term_words, constant_words, solver_words, stack_words, left_out_words};
 
+use crate::list::Print;
 use smt_meaning::Bytes;
-use std::alloc::AllocError;
+use std::alloc::{AllocError, Global};
 
 /// Appends a symbol: plainly, or between bars.
 #[tactic(auto, unfolding(smt_meaning::specs::Text::symbol_text))]
@@ -20,6 +21,14 @@ pub fn symbol(name: &[u8], out: &mut Bytes) -> Result<(), AllocError>
     out.push(b'|')?;
     out.append(name)?;
     out.push(b'|')
+}
+
+impl Print for Bytes {
+    ghost text = { symbol_text };
+
+    fn print(&self, _: Global, out: &mut Bytes) -> Result<(), AllocError> {
+        symbol(self.as_slice(), out)
+    }
 }
 
 /// Appends a keyword with its colon.
@@ -127,7 +136,10 @@ fn is_reserved(name: &[u8]) -> bool
 fn is_further_reserved(name: &[u8]) -> bool
     ensures { result ≡ is_among name.now further_reserved_words }
 {
-    names_constants(name) || is_solver_command(name) || is_stack_command(name) || is_left_out(name)
+    names_constants(name)
+        || is_solver_command(name)
+        || is_stack_command(name)
+        || asks_why_or_is_left_out(name)
 }
 
 /// Whether it is a word for a kind of constants.
@@ -191,8 +203,8 @@ fn is_stack_command(name: &[u8]) -> bool
     )
 }
 
-/// Whether it names a command that is left out.
-fn is_left_out(name: &[u8]) -> bool
+/// Whether it names a command that asks why there is no model, or one that is left out.
+fn asks_why_or_is_left_out(name: &[u8]) -> bool
     ensures { result ≡ is_among name.now left_out_words }
 {
     is_one_of(

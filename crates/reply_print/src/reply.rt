@@ -1,12 +1,13 @@
 //! The text of a whole reply: what each kind of reply prints, and its line feed.
 ghost use Rattle.std.specs.Prelude.{◌≡◌, ◌↔◌, ◌++◌, [], ◌∷◌, map, IsSome, IfSome, OnOk, OnErr};
 ghost use Rattle.smt_meaning.specs.Text.{text as text_of, listed};
-ghost use Rattle.reply_print.specs.Texts.{HasFixedText, error_reply_text};
+ghost use Rattle.reply_print.specs.Texts.{HasFixedText, error_reply_text, minimum_text};
 
 use crate::error::message;
 use crate::information::{information, option_value};
 use crate::list::{Print, parts};
 use crate::name::literal;
+use crate::number::integer;
 use smt_meaning::Bytes;
 use smt_meaning::language::{Error, Reply};
 use std::alloc::{AllocError, Global};
@@ -56,6 +57,9 @@ fn content(alloc: Global, reply: &Reply, out: &mut Bytes) -> Result<(), AllocErr
         Reply::Model(functions) => list(alloc, functions.as_slice(), out),
         Reply::Assertions(terms) => list(alloc, terms.as_slice(), out),
         Reply::Assignment(truths) => list(alloc, truths.as_slice(), out),
+        Reply::UnsatCore(names) => list(alloc, names.as_slice(), out),
+        Reply::UnsatAssumptions(terms) => list(alloc, terms.as_slice(), out),
+        Reply::Minimum(value) => minimum(*value, out),
         Reply::Error(error) => error_reply(alloc, error, out),
         _ => unreachable!(),
     }
@@ -67,6 +71,15 @@ fn list<T: Print>(alloc: Global, items: &[T], out: &mut Bytes) -> Result<(), All
 {
     out.push(b'(')?;
     parts(alloc, items, out)?;
+    out.push(b')')
+}
+
+/// Appends a least value.
+fn minimum(value: i128, out: &mut Bytes) -> Result<(), AllocError>
+    ensures { OnOk result (out.new ≡ out.old ++ minimum_text value) }
+{
+    out.append(b"(minimum ")?;
+    integer(value, out)?;
     out.push(b')')
 }
 

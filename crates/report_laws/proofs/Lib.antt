@@ -4,3 +4,4 @@ mod Five
 mod Past
 mod Sum
 mod Chain
+mod Cores

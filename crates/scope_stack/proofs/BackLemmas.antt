@@ -66,7 +66,7 @@ unfolding IsReached
 reached_parts law s h = subst (λ (t : Stack). All (HasPartsAmong t.trees) (assertions_of t.frames)) h.1 (law h.0)
 
 -- the last of a list goes
-without_last : (fs : List Frame) (f : Frame) → take (length (fs ++ f ∷ []) - 1) (fs ++ f ∷ []) ≡ fs
+pub without_last : (fs : List Frame) (f : Frame) → take (length (fs ++ f ∷ []) - 1) (fs ++ f ∷ []) ≡ fs
 without_last fs f = take_at fs (f ∷ []) (length (fs ++ f ∷ []) - 1) (let e : length (fs ++ f ∷ []) ≡ length fs + length (f ∷ []) = length-append fs (f ∷ []) in omega (arith, e))
 
 -- where declarations are global or not

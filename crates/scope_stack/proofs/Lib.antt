@@ -19,3 +19,5 @@ pub mod LevelSteps
 mod KeptSteps
 pub mod SeenLemmas
 pub mod CopyLemmas
+pub mod ThinLemmas
+pub mod RaiseLemmas

@@ -7,3 +7,5 @@ pub mod Shown
 pub mod Facts
 pub mod Kept
 pub mod Seen
+pub mod Trials
+pub mod Raised

@@ -1,5 +1,7 @@
 //! Assertions by levels.
-ghost use Rattle.std.specs.Prelude.{◌≡◌, ◌+◌, ◌-◌, ◌<◌, ◌++◌, ◌∷◌, [], length, take, replicate, map, All, IfOk, OnOk, OnErr};
+ghost use Rattle.std.specs.Prelude.{◌≡◌, ◌+◌, ◌-◌, ◌<◌, ◌++◌, ◌∷◌, [], length, take, replicate, map, All, IfOk, OnOk, OnErr, slice_index, if◌then◌else◌};
+ghost use Rattle.smt_meaning.specs.Keeping.{kept_from};
+ghost use Rattle.scope_stack.specs.Trials.{marks, kept_levels, AreCounts};
 ghost use Rattle.scope_stack.specs.Inside.{asserted_by, IsWithin};
 ghost use Rattle.scope_stack.specs.Pieces.{all_of, on_last};
 ghost use Rattle.scope_stack.specs.Seen.{AreCopies, AreMoved};
@@ -63,6 +65,75 @@ fn move_all(
         }
         let text = assertion.text.copy(alloc)?;
         moved.push(Assertion { text, term: place })?;
+    }
+    Ok(moved)
+}
+
+/// How many of one are kept.
+fn one_if(kept: bool) -> usize
+    ensures { result ≡ (if kept then 1 else 0) }
+{
+    usize::from(kept)
+}
+
+/// For each number of marks from 0 on, how many of the first ones are true.
+fn counts_of(alloc: Global, kept: &[bool]) -> Result<Vec<usize>, AllocError>
+    ensures { IfOk result (λ v. AreCounts kept.now v.items) }
+{
+    let mut counts = Vec::new(alloc);
+    let mut count = 0;
+    counts.push(count)?;
+    for place in 0..kept.len() {
+        count += one_if(kept[place]);
+        counts.push(count)?;
+    }
+    Ok(counts)
+}
+
+/// Copies an assertion, if it is kept.
+fn copy_if(
+    alloc: Global,
+    copies: &mut Vec<Assertion>,
+    assertion: &Assertion,
+    kept: bool,
+) -> Result<(), AllocError>
+    ensures { OnOk result (copies.new.items ≡ (if kept then copies.old.items ++ assertion.now ∷ [] else copies.old.items)) }
+{
+    if !kept {
+        return Ok(());
+    }
+    let text = assertion.text.copy(alloc)?;
+    copies.push(Assertion {
+        text,
+        term: assertion.term,
+    })?;
+    Ok(())
+}
+
+/// Copies of the assertions that are kept.
+fn copy_kept(
+    alloc: Global,
+    assertions: &[Assertion],
+    kept: &[bool],
+) -> Result<Vec<Assertion>, AllocError>
+    requires { length kept.now ≡ length assertions.now }
+    ensures { IfOk result (λ v. v.items ≡ kept_from (marks kept.now) 0 assertions.now) }
+{
+    let mut copies = Vec::new(alloc);
+    for place in 0..assertions.len() {
+        copy_if(alloc, &mut copies, &assertions[place], kept[place])?;
+    }
+    Ok(copies)
+}
+
+/// Where the levels start that started at these places, by the counts of what is kept before each.
+fn starts_by(alloc: Global, starts: &[usize], counts: &[usize]) -> Result<Vec<usize>, AllocError>
+    requires { All (λ s. s < length counts.now) starts.now }
+    ensures { IfOk result (λ v. v.items ≡ map (slice_index counts.now) starts.now) }
+{
+    let mut moved = Vec::new(alloc);
+    for start in starts {
+        moved.push(counts[*start])?;
     }
     Ok(moved)
 }
@@ -142,6 +213,17 @@ impl Asserted {
     {
         self.items.clear();
         self.starts.clear();
+    }
+
+    /// Copies of the assertions that are kept, by levels.
+    pub(crate) fn kept(&self, alloc: Global, kept: &[bool]) -> Result<Asserted, AllocError>
+        requires { length kept.now ≡ length (all_of self.now) }
+        ensures { IfOk result (λ a. a ≡ kept_levels (marks kept.now) 0 self.now) }
+    {
+        let counts = counts_of(alloc, kept)?;
+        let items = copy_kept(alloc, &self.items, kept)?;
+        let starts = starts_by(alloc, &self.starts, &counts)?;
+        Ok(Asserted { items, starts })
     }
 
     /// The same assertions by levels, where the term at each place has moved to that of its copy. An `Err` is for want of memory, or where a term has no copy.

@@ -19,6 +19,10 @@
 //! `Part`: a check sees all of a stack, or a part: the same levels, and terms that make a lawful
 //! stack with them, so that those of the assertions are among them. That there are no others, no
 //! clause says. The whole comes back as it was.
+//!
+//! `Trial`: of a stack some assertions may be left out, by their places among all of them, and put
+//! back, without memory. A check sees the same terms and levels with copies of the others, and the
+//! whole comes back as it was.
 #![tactic(auto)]
 
 mod answers;
@@ -32,6 +36,8 @@ mod judge;
 mod room;
 mod stack;
 mod term;
+mod trial;
 
 pub use answers::{Asked, Assertion, Carried, StackError};
 pub use stack::{Part, ScopeStack, Stack};
+pub use trial::{Thinned, Trial};

@@ -14,7 +14,7 @@ use smt_laws::{
 use smt_meaning::language::{Parameter, WrittenSort};
 use smt_meaning::{Bytes, Declaration, Refusal, SExpr, Seq, Sort, SymId};
 use smt_sorts::Table;
-use std::alloc::Global;
+use std::alloc::{AllocError, Global};
 use std::marker::Model;
 use term_store::TermStore;
 
@@ -73,7 +73,7 @@ impl ScopeStack {
     ghost use Rattle.smt_meaning.specs.StackCommand.{Stack as StackValue, start, changed, scope_of, sets, declare_sort, define_sort, declare_function, define_function, assert_term, push_levels, pop_levels};
     ghost use Rattle.scope_stack.specs.Carries.{Carries, Answers, IsAsked, IsAfterQuestion, Assumes, IsAssumed, IsUnderAssumptions};
     ghost use Rattle.scope_stack.specs.Inside.{IsReached};
-    ghost use Rattle.scope_stack.specs.Shown.{AreAsserted};
+    ghost use Rattle.scope_stack.specs.Shown.{AreAsserted, IsLawful};
 
     /// Level 0 alone, with nothing in it. It takes no memory.
     pub fn new(alloc: Global) -> Self
@@ -237,6 +237,17 @@ impl ScopeStack {
         parts_are_among_the_trees();
         self.terms.cut(terms);
         self.facts.cut(terms);
+    }
+
+    /// What is true of it.
+    pub fn laws(&self)
+        ensures { IsLawful self.now }
+    {
+        no_id_twice();
+        assertions_are_truths();
+        trees_are_in_order();
+        parts_are_among_the_trees();
+        let _ = self.terms.len();
     }
 
     /// The terms of `(check-sat-assuming (term ..))` (section 4.2.5): a level above the stack asserts them, until it is withdrawn or taken back.
@@ -449,11 +460,11 @@ impl ScopeStack {
 /// What a check sees of a stack: its levels with their declarations and assertions, and terms, those of the assertions among them.
 #[derive(Drop)]
 pub struct Stack {
-    table: Table,
-    terms: TermStore,
-    asserted: Asserted,
-    facts: TermFacts,
-    global: bool,
+    pub(crate) table: Table,
+    pub(crate) terms: TermStore,
+    pub(crate) asserted: Asserted,
+    pub(crate) facts: TermFacts,
+    pub(crate) global: bool,
 }
 
 impl Model for Stack {
@@ -473,7 +484,12 @@ impl Model for Stack {
 }
 
 impl Stack {
-    ghost use Rattle.std.specs.Prelude.{◌≡◌, length, IfSome, IfNone, Some, None};
+    ghost use Rattle.std.specs.Prelude.{◌≡◌, length, map, List, OnOk, OnErr, IfSome, IfNone, Some, None};
+    ghost use Rattle.smt_meaning.specs.StackCommand.{Stack as StackValue};
+    ghost use Rattle.smt_meaning.specs.Stack.{Assertion as Assumption};
+    ghost use Rattle.scope_stack.specs.Carries.{under};
+    ghost use Rattle.scope_stack.specs.Inside.{asserted_by};
+    ghost use Rattle.scope_stack.specs.Raised.{MayAssertAbove, StandsAbove};
     ghost use Rattle.smt_meaning.specs.Signature.{function_with_id};
     ghost use Rattle.smt_meaning.specs.Stack.{depth, signature_of};
     ghost use Rattle.scope_stack.specs.Shown.{AreAsserted, IsLawful};
@@ -542,6 +558,27 @@ impl Stack {
         ensures { IsLawful self.now }
     {
         let _ = &self.terms;
+    }
+
+    /// Adds a level above, with these assertions. An `Err`, for want of memory, changes nothing.
+    pub fn raise(&mut self, assertions: Seq<Assertion>) -> Result<(), AllocError>
+        requires { MayAssertAbove assertions self.old }
+        ensures ok { OnOk result (self.new ≡ under (map (asserted_by self.old.trees) assertions) self.old) }
+        ensures stands { OnOk result (StandsAbove self.new) }
+        ensures err { OnErr result (self.new ≡ self.old) }
+    {
+        self.asserted.add_level(assertions.into_vec())?;
+        self.table.push(1);
+        Ok(())
+    }
+
+    /// Takes a level away that stands above. It takes no memory.
+    pub fn lower(&mut self)
+        requires { StandsAbove self.old }
+        ensures { (xs : List Assumption) (t : StackValue) → self.old ≡ under xs t → self.new ≡ t }
+    {
+        self.asserted.pop(1);
+        self.table.pop(1);
     }
 }
 

@@ -1,11 +1,13 @@
 -- What stood above the stack stays while its terms stay.
-use Rattle.std.proofs.Common.{◌≡◌, ◌+◌, ◌<◌, List, [], ◌∷◌, ◌++◌, map, length, ap, sym, subst, ◌∙◌, refl, arith, All, Option, Some, None}
+use Rattle.std.proofs.Common.{◌≡◌, ◌+◌, ◌<◌, List, [], ◌∷◌, ◌++◌, map, length, ap, sym, subst, ◌∙◌, refl, arith, All}
 use Rattle.std.proofs.lemmas.List.{get_or_append_left, length-append}
 use Rattle.std.proofs.lemmas.List.Elements.{All-head, All-tail, All-nil, All-cons}
 use Rattle.smt_meaning.specs.Term.{Tree, tree_at}
 use Rattle.smt_meaning.specs.State.{frame_of}
 use Rattle.scope_stack.specs.declared.answers.Assertion.{Assertion}
 use Rattle.scope_stack.specs.Inside.{asserted_by, IsWithin}
+use Rattle.session.specs.declared.above.Above.{Above}
+use Rattle.session.specs.declared.above.Above.TheVariants.{Nothing, Assumed}
 use Rattle.session.specs.Above.{above_by, AreAbove, StandIn}
 
 asserted_stay : (ts us : List Tree) (xs : List Assertion) → StandIn ts us → All (IsWithin ts) xs → map (asserted_by us) xs ≡ map (asserted_by ts) xs
@@ -18,13 +20,13 @@ within_stay : (ts us : List Tree) (xs : List Assertion) → StandIn ts us → Al
 within_stay ts us [] h a = All-nil (IsWithin us)
 within_stay ts us (x ∷ xs) h a = All-cons (IsWithin us) x xs (h x.term (All-head (IsWithin ts) x xs a)).0 (within_stay ts us xs h (All-tail (IsWithin ts) x xs a))
 
-pub above_stays : (ts us : List Tree) (o : Option (List Assertion)) → StandIn ts us → AreAbove ts o → above_by us o ≡ above_by ts o
-above_stays ts us None h a = refl
-above_stays ts us (Some xs) h a = ap (λ ys. frame_of ys ∷ []) (asserted_stay ts us xs h a)
+pub above_stays : (ts us : List Tree) (o : Above) → StandIn ts us → AreAbove ts o → above_by us o ≡ above_by ts o
+above_stays ts us Nothing h a = refl
+above_stays ts us (Assumed xs) h a = ap (λ ys. frame_of ys ∷ []) (asserted_stay ts us xs h a)
 
-pub are_above_stays : (ts us : List Tree) (o : Option (List Assertion)) → StandIn ts us → AreAbove ts o → AreAbove us o
-are_above_stays ts us None h a = tt
-are_above_stays ts us (Some xs) h a = within_stay ts us xs h a
+pub are_above_stays : (ts us : List Tree) (o : Above) → StandIn ts us → AreAbove ts o → AreAbove us o
+are_above_stays ts us Nothing h a = tt
+are_above_stays ts us (Assumed xs) h a = within_stay ts us xs h a
 
 -- where trees joined at the end
 pub stand_longer : (ts us rest : List Tree) → us ≡ ts ++ rest → StandIn ts us

@@ -7,3 +7,8 @@ pub mod Prints
 pub mod Replies
 pub mod Values
 pub mod Questions
+pub mod Refutes
+pub mod CoreCandidates
+pub mod Reduces
+pub mod Raising
+pub mod Listing

@@ -1,15 +1,17 @@
 -- What a command that is no check comes to is one of the replies that may be given.
-use Rattle.std.proofs.Common.{◌≡◌, ◌∙◌, ◌++◌, ◌∷◌, [], ℕ, ℤ, List, Option, Some, None, true, false, refl, ap, sym, subst, append-nil}
+use Rattle.std.proofs.Common.{◌≡◌, ◌∙◌, ◌++◌, ◌∷◌, [], ℕ, ℤ, Bool, List, Option, Some, None, true, false, refl, ap, sym, subst, append-nil}
 use Rattle.std.specs.Prelude.{codes, Ok}
 use Rattle.smt_meaning.specs.declared.answers.Reply.{Reply}
-use Rattle.smt_meaning.specs.declared.replies.Kept.TheVariants.{Nothing}
+use Rattle.smt_meaning.specs.declared.replies.Kept.TheVariants.{Nothing, Core}
 use Rattle.smt_meaning.specs.declared.commands.Command.{Command}
-use Rattle.smt_meaning.specs.declared.commands.Command.TheVariants.{CheckSat, CheckSatAssuming}
-use Rattle.smt_meaning.specs.State.{State, Effect, denied, left_out, accepted, answered, checked, effect, with_logic, in_logic, checks, assuming, check_assuming, checked_frames, frame_of, get_value, kept_model, valued, provided}
+use Rattle.smt_meaning.specs.declared.commands.Command.TheVariants.{CheckSat, CheckSatAssuming, GetUnsatCore, GetUnsatAssumptions}
+use Rattle.smt_meaning.specs.State.{State, Effect, denied, left_out, accepted, answered, checked, minimizes, reduces, effect, with_logic, in_logic, checks, assuming, check_assuming, checked_frames, frame_of, get_value, kept_model, valued, provided, named, assumed, is_unsat, get_unsat_core, get_unsat_assumptions}
 use Rattle.smt_meaning.specs.MayReply.{Decided, MayCome, MayDecide, MayReply}
+use Rattle.smt_meaning.specs.Core.{IsCore, core_reply}
+use Rattle.smt_meaning.specs.declared.replies.Held.{Held}
 use Rattle.smt_meaning.specs.declared.replies.Kept.{Kept}
 use Rattle.smt_meaning.specs.declared.answers.Reply.TheVariants as Given
-use Rattle.smt_meaning.specs.declared.errors.Error.TheVariants.{Refused as RefusedIn, OptionIsOff}
+use Rattle.smt_meaning.specs.declared.errors.Error.TheVariants.{Refused as RefusedIn, OptionIsOff, NotUnsat}
 use Rattle.smt_meaning.specs.declared.answers.Mode.{Mode}
 use Rattle.smt_meaning.specs.declared.refusals.Refusal.{Refusal}
 use Rattle.smt_meaning.specs.declared.options.Options.{Options}
@@ -24,9 +26,10 @@ use Rattle.session.specs.declared.assuming.Assumed.{Assumed}
 use Rattle.smt_meaning.specs.declared.values.Table.{Table}
 use Rattle.smt_meaning.specs.declared.answers.Mode.TheVariants as In
 use Rattle.smt_meaning.specs.declared.options.OptionName.TheVariants as Named
-use Rattle.scope_stack.specs.declared.answers.Assertion.{Assertion}
-use Rattle.session.specs.Found.{IsFound}
+use Rattle.theory_port.specs.Found.{IsFound}
 use Rattle.session.proofs.Aboves.{above_stays}
+use Rattle.session.specs.declared.above.Above.{Above}
+use Rattle.session.specs.declared.above.Above.TheVariants.{Assumed as AssumedAbove}
 use Rattle.session.specs.Above.{above_by, AreAbove, StandIn}
 use Rattle.session.specs.Assumed.{IsAnswerBy, IsAnswerTo, IsCheckedUnder, IsNotTakenUnder, ChecksUnder}
 use Rattle.session.specs.Effects.{Comes, ComesOfQuestion}
@@ -37,6 +40,8 @@ comes_is decided old left_out reply new h = record { reply_is = h.0; kept_is = r
 comes_is decided old (accepted s) reply new h = record { reply_is = h.0; kept_is = refl; new_is = h.1 }
 comes_is decided old (answered r s) reply new h = record { reply_is = h.0; kept_is = refl; new_is = h.1 }
 comes_is decided old (checked s) reply new h = absurd h
+comes_is decided old (minimizes text t s) reply new h = absurd h
+comes_is decided old (reduces among) reply new h = absurd h
 
 pub answered_so : (decided : Decided) (old : State) (c : Command) (reply : Reply) (new : State) → Comes (effect old c) old reply new
     → MayReply decided old c reply Nothing new
@@ -59,15 +64,15 @@ options_stay : (l : Option (List ℕ)) (s : State) → (in_logic l s).options �
 options_stay None s = refl
 options_stay (Some n) s = refl
 
-entered_by : (l : Option (List ℕ)) (s : State) (stack : Stack) (before above : List Frame) (m : Mode)
-    → record (in_logic l (record s { stack = stack; above = before })) { mode = m; above = above } ≡ record (in_logic l s) { mode = m; stack = stack; above = above }
-entered_by None s stack before above m = refl
-entered_by (Some n) s stack before above m = refl
+entered_by : (l : Option (List ℕ)) (s : State) (stack : Stack) (early m : Mode) (before above : List Frame)
+    → record (in_logic l (record s { mode = early; stack = stack; above = before })) { mode = m; above = above } ≡ record (in_logic l s) { mode = m; stack = stack; above = above }
+entered_by None s stack early m before above = refl
+entered_by (Some n) s stack early m before above = refl
 
--- the state after a mode is entered, where the stack is another already
-pub entered : (s : State) (stack : Stack) (before above : List Frame) (m : Mode)
-    → record (with_logic (record s { stack = stack; above = before })) { mode = m; above = above } ≡ record (with_logic s) { mode = m; stack = stack; above = above }
-entered s stack before above m = entered_by s.logic s stack before above m
+-- the state after a mode is entered, where the stack and the mode are others already
+pub entered : (s : State) (stack : Stack) (early m : Mode) (before above : List Frame)
+    → record (with_logic (record s { mode = early; stack = stack; above = before })) { mode = m; above = above } ≡ record (with_logic s) { mode = m; stack = stack; above = above }
+entered s stack early m before above = entered_by s.logic s stack early m before above
 
 -- a check of this stack, with these levels above it, is answered so
 pub decided_so : (decided : Decided) (old : State) (stack : Stack) (above : List Frame) (limit : ℤ) (a : Answer) (new : State)
@@ -96,10 +101,10 @@ comes_of decided old e f reply kept new same h = subst (λ x. MayCome decided ol
 
 pub under_so : (decided : Decided) (old : State) (ts : List (List Token)) (limit : ℤ) (a : Assumed) (stack : Stack) (new : State) → IsCheckedUnder decided limit ts old.stack a stack
     → old.options.reproducible_resource_limit ≡ limit
-    → new ≡ record (with_logic old) { mode = a.answer.mode; stack = stack; above = above_by stack.trees (Some a.assumptions) }
+    → new ≡ record (with_logic old) { mode = a.answer.mode; stack = stack; above = above_by stack.trees (AssumedAbove a.assumptions) }
     → MayCome decided old (check_assuming old (stack_command (CheckSatAssuming ts))) a.answer.reply a.answer.kept new
 under_so decided old ts limit a stack new k lim e =
-    let above : above_by stack.trees (Some a.assumptions) ≡ frame_of k.assumed ∷ [] = ap (λ xs. frame_of xs ∷ []) k.assumptions in
+    let above : above_by stack.trees (AssumedAbove a.assumptions) ≡ frame_of k.assumed ∷ [] = ap (λ xs. frame_of xs ∷ []) k.assumptions in
     let frames : stack.frames ≡ old.stack.frames = ap (λ (s : Stack). s.frames) k.new_is in
     comes_of decided old (assuming old (judged (assumption ts) old.stack)) (checks old stack (frame_of k.assumed ∷ [])) a.answer.reply a.answer.kept new
     (ap (assuming old) k.is_judged ∙ ap (λ (s : Stack). checks old s (frame_of k.assumed ∷ [])) (sym k.new_is))
@@ -121,34 +126,34 @@ refused_under_so decided old ts why stack reply new k e r =
 
 -- ---- what the functions come to
 
-pub check_so : (decided : Decided) (old mid : State) (stack found : Stack) (before : List Frame) (limit : ℤ) (v : Verdict) (a : Answer) (o : Option Verdict) (new : State)
+pub check_so : (decided : Decided) (old mid : State) (stack found : Stack) (limit : ℤ) (v : Verdict) (a : Answer) (o : Option Verdict) (new : State)
     → stack ≡ old.stack → found ≡ stack → IsFound decided stack.trees stack.frames limit o → o ≡ Some v → IsAnswerBy v a → limit ≡ old.options.reproducible_resource_limit
-    → mid ≡ record old { stack = found; above = before } → new ≡ record (with_logic mid) { mode = a.mode; above = [] }
+    → mid ≡ record old { mode = In.Assert; stack = found; above = [] } → new ≡ record (with_logic mid) { mode = a.mode; above = [] }
     → MayCome decided old (checks old old.stack []) a.reply a.kept new
-check_so decided old mid stack found before limit v a o new same stays is some answers lim m e =
+check_so decided old mid stack found limit v a o new same stays is some answers lim m e =
     let k : IsFound decided stack.trees stack.frames limit (Some v) = subst (IsFound decided stack.trees stack.frames limit) some is in
     let taken : decided (old.stack.frames ++ []) ≡ true = ap decided (append-nil old.stack.frames ∙ ap (λ (s : Stack). s.frames) (sym same)) ∙ k.0 in
     decided_so decided old old.stack [] limit a new taken (subst (λ (s : Stack). IsAnswerTo s [] limit a) same (alone stack limit v a k.1 answers)) (sym lim)
-    (e ∙ ap (λ (s : State). record (with_logic s) { mode = a.mode; above = [] }) m ∙ entered old found before [] a.mode
+    (e ∙ ap (λ (s : State). record (with_logic s) { mode = a.mode; above = [] }) m ∙ entered old found In.Assert a.mode [] []
     ∙ ap (λ (s : Stack). record (with_logic old) { mode = a.mode; stack = s; above = [] }) (stays ∙ same))
 
 pub assumed_ok : (decided : Decided) (old mid : State) (stack found : Stack) (ts : List (List Token)) (limit : ℤ) (o : Option Assumed) (a : Assumed) (reply : Reply) (kept : Kept) (new : State)
     → stack ≡ old.stack → ChecksUnder decided limit ts stack (Ok o) found → o ≡ Some a → limit ≡ old.options.reproducible_resource_limit
-    → mid ≡ record old { stack = found; above = [] } → new ≡ record (with_logic mid) { mode = a.answer.mode; above = above_by found.trees (Some a.assumptions) }
+    → mid ≡ record old { mode = In.Assert; stack = found; above = [] } → new ≡ record (with_logic mid) { mode = a.answer.mode; above = above_by found.trees (AssumedAbove a.assumptions) }
     → reply ≡ a.answer.reply → kept ≡ a.answer.kept → MayCome decided old (check_assuming old (stack_command (CheckSatAssuming ts))) reply kept new
 assumed_ok decided old mid stack found ts limit o a reply kept new same is some lim m e r k =
     let under : IsCheckedUnder decided limit ts stack a found = subst (λ p. ChecksUnder decided limit ts stack (Ok p) found) some is in
     subst (λ x. MayCome decided old (check_assuming old (stack_command (CheckSatAssuming ts))) x kept new) (sym r)
     (subst (λ x. MayCome decided old (check_assuming old (stack_command (CheckSatAssuming ts))) a.answer.reply x new) (sym k)
     (under_so decided old ts limit a found new (subst (λ (s : Stack). IsCheckedUnder decided limit ts s a found) same under) (sym lim)
-    (e ∙ ap (λ (s : State). record (with_logic s) { mode = a.answer.mode; above = above_by found.trees (Some a.assumptions) }) m ∙ entered old found [] (above_by found.trees (Some a.assumptions)) a.answer.mode)))
+    (e ∙ ap (λ (s : State). record (with_logic s) { mode = a.answer.mode; above = above_by found.trees (AssumedAbove a.assumptions) }) m ∙ entered old found In.Assert a.answer.mode [] (above_by found.trees (AssumedAbove a.assumptions)))))
 
 pub assumed_reply : (decided : Decided) (old : State) (c : Command) (ts us : List (List Token)) (reply : Reply) (kept : Kept) (new : State) → c ≡ CheckSatAssuming ts → us ≡ ts
     → MayCome decided old (check_assuming old (stack_command (CheckSatAssuming us))) reply kept new → MayReply decided old c reply kept new
 assumed_reply decided old c ts us reply kept new is same h =
     subst (λ d. MayReply decided old d reply kept new) (sym is) (assumed_so decided old ts reply kept new (subst (λ ws. MayCome decided old (check_assuming old (stack_command (CheckSatAssuming ws))) reply kept new) same h))
 
-pub asked_so : (old : State) (i : List Table) (ts us : List (List Token)) (stack found : Stack) (xs : Option (List Assertion)) (reply : Reply) (new : State)
+pub asked_so : (old : State) (i : List Table) (ts us : List (List Token)) (stack found : Stack) (xs : Above) (reply : Reply) (new : State)
     → old.mode ≡ In.Sat i → old.options.produce_models ≡ true → us ≡ ts → stack ≡ old.stack → ComesOfQuestion i us stack reply found → StandIn stack.trees found.trees → AreAbove stack.trees xs
     → old.above ≡ above_by stack.trees xs → new ≡ record old { stack = found; above = above_by found.trees xs } → Comes (get_value old ts (kept_model old.mode)) old reply new
 asked_so old i ts us stack found xs reply new mode on texts same h stand within above e =
@@ -159,3 +164,54 @@ asked_so old i ts us stack found xs reply new mode on texts same h stand within 
     subst (λ f. Comes f old reply new) (sym effect_is)
     (subst (λ n. Comes (valued old i ts (judged (question ts) old.stack)) old reply n) (sym state)
     (subst (λ ws. Comes (valued old i ws (judged (question ws) old.stack)) old reply (record old { stack = found })) texts (h old (sym same))))
+
+-- ---- the commands for cores
+
+pub core_reply_so : (decided : Decided) (old : State) (c : Command) (reply : Reply) (kept : Kept) (new : State) → c ≡ GetUnsatCore → MayCome decided old (get_unsat_core old) reply kept new → MayReply decided old c reply kept new
+unfolding MayReply effect
+core_reply_so decided old c reply kept new is h = subst (λ d. MayReply decided old d reply kept new) (sym is) h
+
+pub assumptions_reply_so : (decided : Decided) (old : State) (c : Command) (reply : Reply) (kept : Kept) (new : State) → c ≡ GetUnsatAssumptions → MayCome decided old (get_unsat_assumptions old) reply kept new
+    → MayReply decided old c reply kept new
+unfolding MayReply effect
+assumptions_reply_so decided old c reply kept new is h = subst (λ d. MayReply decided old d reply kept new) (sym is) h
+
+-- ---- cores
+
+pub core_not_unsat : (decided : Decided) (old : State) (new : State) → is_unsat old.mode ≡ false → new ≡ old → MayCome decided old (get_unsat_core old) (Given.Error NotUnsat) Nothing new
+core_not_unsat decided old new m e = rw m (record { reply_is = refl; kept_is = refl; new_is = e })
+
+core_effect : (old : State) (b : Bool) → is_unsat old.mode ≡ true → old.options.produce_unsat_cores ≡ b → get_unsat_core old ≡ provided b (OptionIsOff Named.ProduceUnsatCores) (reduces named)
+core_effect old b m o =
+    ap (λ a. provided a NotUnsat (provided old.options.produce_unsat_cores (OptionIsOff Named.ProduceUnsatCores) (reduces named))) m
+    ∙ ap (λ a. provided a (OptionIsOff Named.ProduceUnsatCores) (reduces named)) o
+
+pub core_off : (decided : Decided) (old : State) (new : State) → is_unsat old.mode ≡ true → old.options.produce_unsat_cores ≡ false → new ≡ old
+    → MayCome decided old (get_unsat_core old) (Given.Error (OptionIsOff Named.ProduceUnsatCores)) Nothing new
+core_off decided old new m o e =
+    comes_of decided old (get_unsat_core old) (denied (OptionIsOff Named.ProduceUnsatCores)) (Given.Error (OptionIsOff Named.ProduceUnsatCores)) Nothing new (core_effect old false m o)
+    (record { reply_is = refl; kept_is = refl; new_is = e })
+
+pub core_given : (decided : Decided) (old : State) (hs : List Held) (reply : Reply) (kept : Kept) (new : State) → is_unsat old.mode ≡ true → old.options.produce_unsat_cores ≡ true → new ≡ old
+    → IsCore named old hs → reply ≡ core_reply named old hs → kept ≡ Core hs → MayCome decided old (get_unsat_core old) reply kept new
+core_given decided old hs reply kept new m o e core r k = comes_of decided old (get_unsat_core old) (reduces named) reply kept new (core_effect old true m o) (hs, k, core, r, e)
+
+pub assumptions_not_unsat : (decided : Decided) (old : State) (new : State) → is_unsat old.mode ≡ false → new ≡ old → MayCome decided old (get_unsat_assumptions old) (Given.Error NotUnsat) Nothing new
+assumptions_not_unsat decided old new m e = rw m (record { reply_is = refl; kept_is = refl; new_is = e })
+
+assumptions_effect : (old : State) (b : Bool) → is_unsat old.mode ≡ true → old.options.produce_unsat_assumptions ≡ b
+    → get_unsat_assumptions old ≡ provided b (OptionIsOff Named.ProduceUnsatAssumptions) (reduces assumed)
+assumptions_effect old b m o =
+    ap (λ a. provided a NotUnsat (provided old.options.produce_unsat_assumptions (OptionIsOff Named.ProduceUnsatAssumptions) (reduces assumed))) m
+    ∙ ap (λ a. provided a (OptionIsOff Named.ProduceUnsatAssumptions) (reduces assumed)) o
+
+pub assumptions_off : (decided : Decided) (old : State) (new : State) → is_unsat old.mode ≡ true → old.options.produce_unsat_assumptions ≡ false → new ≡ old
+    → MayCome decided old (get_unsat_assumptions old) (Given.Error (OptionIsOff Named.ProduceUnsatAssumptions)) Nothing new
+assumptions_off decided old new m o e =
+    comes_of decided old (get_unsat_assumptions old) (denied (OptionIsOff Named.ProduceUnsatAssumptions)) (Given.Error (OptionIsOff Named.ProduceUnsatAssumptions)) Nothing new
+    (assumptions_effect old false m o) (record { reply_is = refl; kept_is = refl; new_is = e })
+
+pub assumptions_given : (decided : Decided) (old : State) (hs : List Held) (reply : Reply) (kept : Kept) (new : State) → is_unsat old.mode ≡ true → old.options.produce_unsat_assumptions ≡ true → new ≡ old
+    → IsCore assumed old hs → reply ≡ core_reply assumed old hs → kept ≡ Core hs → MayCome decided old (get_unsat_assumptions old) reply kept new
+assumptions_given decided old hs reply kept new m o e core r k =
+    comes_of decided old (get_unsat_assumptions old) (reduces assumed) reply kept new (assumptions_effect old true m o) (hs, k, core, r, e)

@@ -6,7 +6,7 @@ use Rattle.smt_meaning.specs.declared.errors.Error.TheVariants.{Refused as Refus
 use Rattle.smt_meaning.specs.declared.answers.Reply.{Reply}
 use Rattle.smt_meaning.specs.declared.answers.Reply.TheVariants as Given
 use Rattle.smt_meaning.specs.declared.commands.Command.{Command}
-use Rattle.smt_meaning.specs.declared.commands.Command.TheVariants.{SetLogic, SetOption, GetOption, SetInfo, GetInfo, Echo, Exit, Reset, ResetAssertions, DeclareSort, DefineSort, DeclareConst, DeclareFun, DefineFun, Assert, CheckSat, CheckSatAssuming, Push, Pop, GetValue, GetModel, GetAssertions, GetAssignment, LeftOut}
+use Rattle.smt_meaning.specs.declared.commands.Command.TheVariants.{SetLogic, SetOption, GetOption, SetInfo, GetInfo, Echo, Exit, Reset, ResetAssertions, DeclareSort, DefineSort, DeclareConst, DeclareFun, DefineFun, Assert, CheckSat, CheckSatAssuming, Push, Pop, GetValue, GetModel, GetAssertions, GetAssignment, GetUnsatCore, GetUnsatAssumptions, Minimize, LeftOut}
 use Rattle.smt_meaning.specs.Sorts.{Scope, done, Judging, return}
 use Rattle.smt_meaning.specs.StackCommand.{Stack, Change, declares, asserts, pushes, pops, asks, assumes, sets, clears, begins_again, is_unsupported, judged, changed, stack_command}
 use Rattle.smt_meaning.specs.Stack.{cleared as cleared_frames}
@@ -89,6 +89,9 @@ is_command (GetValue ts) h = cc
 is_command GetModel h = cc
 is_command GetAssertions h = cc
 is_command GetAssignment h = cc
+is_command GetUnsatCore h = cc
+is_command GetUnsatAssumptions h = cc
+is_command (Minimize t) h = cc
 is_command LeftOut h = cc
 
 -- ---- the commands that begin again

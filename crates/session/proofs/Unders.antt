@@ -1,5 +1,5 @@
 -- Checks under assumptions, step by step.
-use Rattle.std.proofs.Common.{◌≡◌, ℕ, ◌≤◌, ℤ, Bool, true, false, List, [], ◌∷◌, ◌++◌, map, drop, length, ap, sym, subst, ◌∙◌, refl, arith, All, append-nil}
+use Rattle.std.proofs.Common.{◌≡◌, ℕ, ◌+◌, ◌<◌, ◌≤◌, ℤ, Bool, true, false, List, [], ◌∷◌, ◌++◌, map, drop, length, ap, sym, subst, ◌∙◌, refl, arith, All, append-nil}
 use Rattle.std.specs.Prelude.{flat_map}
 use Rattle.std.proofs.lemmas.List.{drop-map, length-map, length-append}
 use Rattle.std.proofs.lemmas.List.Elements.{All-drop}
@@ -7,19 +7,24 @@ use Rattle.std.proofs.lemmas.Grind.{flat_map-append}
 use Rattle.std.proofs.Math.Seq.{drop-append_seam}
 use Rattle.smt_meaning.specs.declared.tokens.Token.{Token}
 use Rattle.smt_meaning.specs.Term.{Tree, tree_at}
-use Rattle.smt_meaning.specs.Stack.{Assertion as Asserted, Frame, terms_of, assertions_of}
-use Rattle.smt_meaning.specs.StackCommand.{Stack}
+use Rattle.smt_meaning.specs.Stack.{Assertion as Asserted, Frame, HasNoModel, depth, terms_of, assertions_of}
+use Rattle.smt_meaning.specs.StackCommand.{Stack, most_levels}
 use Rattle.smt_meaning.specs.State.{State, frame_of, checked_frames, texts_of}
 use Rattle.scope_stack.specs.declared.answers.Assertion.{Assertion}
-use Rattle.scope_stack.specs.Carries.{IsAssumed}
+use Rattle.scope_stack.specs.Carries.{IsAssumed, under}
+use Rattle.scope_stack.specs.Raised.{MayAssertAbove}
 use Rattle.scope_stack.specs.Inside.{asserted_by, IsWithin}
-use Rattle.scope_stack.specs.Shown.{AreAsserted}
+use Rattle.scope_stack.specs.Shown.{AreAsserted, IsLawful}
 use Rattle.theory_port.specs.declared.decider.Verdict.{Verdict}
+use Rattle.theory_port.specs.declared.decider.Verdict.TheVariants.{Unsat}
 use Rattle.theory_port.specs.Verdicts.{IsVerdict}
 use Rattle.session.specs.declared.answer.Answer.{Answer}
 use Rattle.session.specs.declared.assuming.Assumed.{Assumed}
 use Rattle.session.specs.Assumed.{IsAnswerBy, IsCheckedUnder, IsNotTakenUnder}
 use Rattle.session.specs.Under.{IsAnsweredUnder}
+use Rattle.session.specs.declared.above.Above.TheVariants.{Assumed as AssumedAbove}
+use Rattle.session.specs.Refuted.{IsRefuted, WhereUnsat}
+use Rattle.session.proofs.Refutes.{where_unsat}
 
 -- ---- what is found of the stack under assumptions
 
@@ -34,13 +39,16 @@ many_asserted s xs h = sym (length-map xs (λ (a : Assertion). tree_at s.trees a
 
 pub answered_under : (decided : List Frame → Bool) (limit : ℤ) (below : ℕ) (s : Stack) (v : Verdict) (a : Answer) (xs ys : List Assertion)
     → decided s.frames ≡ true → IsVerdict s.trees s.frames limit v → IsAnswerBy v a → AreAsserted s xs → ys ≡ drop below xs
+    → depth s.frames ≤ most_levels → IsLawful s → WhereUnsat a.mode (v ≡ Unsat)
     → IsAnsweredUnder decided limit below s (record { answer = a; assumptions = ys })
-answered_under decided limit below s v a xs ys taken verdict answers asserted e = record {
+answered_under decided limit below s v a xs ys taken verdict answers asserted e deep lawful unsat = record {
   taken = taken;
   answer = λ t trees frames lim. answers t (verdict_at v t s.trees s.frames limit trees frames lim verdict);
   texts = ap (map (λ (x : Assertion). x.text)) e ∙ sym (drop-map (λ (x : Assertion). x.text) below xs) ∙ ap (drop below) asserted.texts;
   terms = ap (map (λ (x : Assertion). tree_at s.trees x.term)) e ∙ sym (drop-map (λ (x : Assertion). tree_at s.trees x.term) below xs) ∙ ap (drop below) asserted.terms;
   within = subst (All (IsWithin s.trees)) (sym e) (All-drop (IsWithin s.trees) below xs asserted.within);
+  depth_fits = deep;
+  refuted = where_unsat a.mode (v ≡ Unsat) (HasNoModel s.frames × IsLawful s) (λ u. (subst (IsVerdict s.trees s.frames limit) u verdict, lawful)) unsat;
 }
 
 -- ---- the assumptions
@@ -80,6 +88,22 @@ below_within texts assumed old mid xs h k =
     longer : (ts us : List Tree) → length ts ≤ length (ts ++ us)
     longer ts us = rw length-append (omega arith)
 
+-- ---- what is known once it is refuted
+
+-- the assumptions may stand above the stack again
+again_above : (assumed : List Asserted) (old new mid : Stack) (xs : List Assertion) → new ≡ record old { trees = mid.trees } → mid ≡ under assumed new → map (asserted_by new.trees) xs ≡ assumed → All (IsWithin new.trees) xs
+    → depth mid.frames ≤ most_levels → 0 < length new.frames → IsLawful mid → MayAssertAbove xs new
+again_above assumed old new mid xs e m same within deep some lawful =
+    let more' : length mid.frames ≡ length new.frames + 1 = ap (λ (s : Stack). length s.frames) m ∙ length-append new.frames (frame_of assumed ∷ []) in
+    record { within = within; lawful = subst IsLawful (m ∙ ap (λ ys. under ys new) (sym same)) lawful; room = omega (arith, more', deep, some) }
+
+refuted_again : (assumed : List Asserted) (old new mid : Stack) (xs : List Assertion) → new ≡ record old { trees = mid.trees } → mid ≡ under assumed new → map (asserted_by new.trees) xs ≡ assumed → All (IsWithin new.trees) xs
+    → depth mid.frames ≤ most_levels → 0 < length new.frames → HasNoModel mid.frames × IsLawful mid → IsRefuted new (AssumedAbove xs)
+refuted_again assumed old new mid xs e m same within deep some k = record {
+  none = subst HasNoModel (ap (λ (s : Stack). s.frames) m ∙ ap (λ ys. new.frames ++ frame_of ys ∷ []) (sym same)) k.0;
+  again = again_above assumed old new mid xs e m same within deep some k.1;
+}
+
 -- ---- the whole
 
 pub checked_under : (decided : List Frame → Bool) (limit : ℤ) (texts : List (List Token)) (assumed : List Asserted) (old mid new : Stack) (xs : List Assertion) (a : Assumed)
@@ -90,18 +114,23 @@ checked_under decided limit texts assumed old mid new xs a h k u e =
     let trees : mid.trees ≡ k.scope.trees = ap (λ (s : Stack). s.trees) k.new_is in
     let new_trees : new.trees ≡ mid.trees = ap (λ (s : Stack). s.trees) e in
     let new_frames : new.frames ≡ old.frames = ap (λ (s : Stack). s.frames) e in
+    let same : map (asserted_by new.trees) a.assumptions ≡ assumed =
+    same_assertions new.trees a.assumptions assumed
+    (u.texts ∙ ap (λ fs. drop (length xs) (flat_map texts_of fs)) frames ∙ above texts_of old.frames (frame_of assumed) (length xs) (texts_count old xs h))
+    (ap (λ ts. map (λ (x : Assertion). tree_at ts x.term) a.assumptions) new_trees
+    ∙ u.terms ∙ ap (λ fs. drop (length xs) (assertions_of fs)) frames ∙ above terms_of old.frames (frame_of assumed) (length xs) (many_asserted old xs h)) in
+    let within : All (IsWithin new.trees) a.assumptions = subst (λ ts. All (IsWithin ts) a.assumptions) (sym new_trees) u.within in
+    let mid_is : mid ≡ under assumed new = k.new_is ∙ ap (under assumed) (ap (λ ts. record old { trees = ts }) (sym trees) ∙ sym e) in
     record {
       assumed = assumed;
       scope = k.scope;
       is_judged = k.is_judged;
       new_is = e ∙ ap (λ ts. record old { trees = ts }) trees;
-      assumptions =
-          same_assertions new.trees a.assumptions assumed
-          (u.texts ∙ ap (λ fs. drop (length xs) (flat_map texts_of fs)) frames ∙ above texts_of old.frames (frame_of assumed) (length xs) (texts_count old xs h))
-          (ap (λ ts. map (λ (x : Assertion). tree_at ts x.term) a.assumptions) new_trees
-          ∙ u.terms ∙ ap (λ fs. drop (length xs) (assertions_of fs)) frames ∙ above terms_of old.frames (frame_of assumed) (length xs) (many_asserted old xs h));
-      within = subst (λ ts. All (IsWithin ts) a.assumptions) (sym new_trees) u.within;
+      assumptions = same;
+      within = within;
       taken = ap decided (sym frames) ∙ u.taken;
+      refuted = where_unsat a.answer.mode (HasNoModel mid.frames × IsLawful mid) (IsRefuted new (AssumedAbove a.assumptions))
+          (refuted_again assumed old new mid a.assumptions e mid_is same within u.depth_fits (subst (λ fs. 0 < length fs) (sym new_frames) k.some)) u.refuted;
       answer = λ s stack above' lim.
           u.answer s (ap (λ (t : Stack). t.trees) stack ∙ new_trees)
           (ap (λ (t : Stack). t.frames ++ s.above) stack ∙ ap (λ fs. fs ++ s.above) new_frames ∙ ap (λ fs. old.frames ++ fs) above' ∙ sym frames) lim;

@@ -14,6 +14,8 @@ use Rattle.theory_port.specs.declared.decider.Verdict.{Verdict}
 use Rattle.theory_port.specs.Verdicts.{IsVerdict}
 use Rattle.session.specs.declared.answer.Answer.{Answer}
 use Rattle.session.specs.declared.assuming.Assumed.{Assumed}
+use Rattle.session.specs.declared.above.Above.TheVariants.{Assumed as AssumedAbove}
+use Rattle.session.specs.Refuted.{IsRefuted, WhereUnsat}
 
 -- in this state a check may be answered so
 abbrev pub Answers : State → Answer → Type 0
@@ -37,6 +39,7 @@ pub record IsCheckedUnder (decided : List Frame → Bool) (limit : ℤ) (texts :
   pub within : All (IsWithin new.trees) a.assumptions
   pub taken : decided (old.frames ++ frame_of assumed ∷ []) ≡ true
   pub answer : IsAnswerTo new (frame_of assumed ∷ []) limit a.answer
+  pub refuted : WhereUnsat a.answer.mode (IsRefuted new (AssumedAbove a.assumptions))
 
 -- the terms are judged to be assumed, but their level isn't taken
 pub record IsNotTakenUnder (decided : List Frame → Bool) (texts : List (List Token)) (old new : Stack) : Type 0 where

@@ -1,12 +1,12 @@
--- What a command that is no check comes to: its reply and the state after it.
+-- What a command that doesn't ask the decider comes to: its reply and the state after it.
 use Rattle.std.specs.Prelude.{◌≡◌, ℕ, ℤ, Bool, true, false, List, codes, Result}
 use Rattle.smt_meaning.specs.declared.commands.Command.{Command}
-use Rattle.smt_meaning.specs.declared.commands.Command.TheVariants.{DeclareSort, DefineSort, DeclareConst, DeclareFun, DefineFun, Assert, CheckSat, CheckSatAssuming, Push, Pop}
+use Rattle.smt_meaning.specs.declared.commands.Command.TheVariants.{DeclareSort, DefineSort, DeclareConst, DeclareFun, DefineFun, Assert, CheckSat, CheckSatAssuming, Push, Pop, GetUnsatCore, GetUnsatAssumptions}
 use Rattle.smt_meaning.specs.declared.answers.Reply.{Reply}
 use Rattle.smt_meaning.specs.declared.answers.Reply.TheVariants as Given
 use Rattle.smt_meaning.specs.declared.tokens.Token.{Token}
 use Rattle.smt_meaning.specs.declared.values.Table.{Table}
-use Rattle.smt_meaning.specs.State.{State, Effect, denied, left_out, accepted, answered, checked, valued}
+use Rattle.smt_meaning.specs.State.{State, Effect, denied, left_out, accepted, answered, checked, minimizes, reduces, valued}
 use Rattle.smt_meaning.specs.MayReply.{success}
 use Rattle.smt_meaning.specs.StackCommand.{Stack, declare_sort, judged}
 use Rattle.scope_stack.specs.declared.answers.Carried.{Carried}
@@ -19,10 +19,15 @@ Comes left_out old reply new = (reply ≡ Given.Unsupported) × (new ≡ old)
 Comes (accepted s) old reply new = (reply ≡ success s) × (new ≡ s)
 Comes (answered r s) old reply new = (reply ≡ r) × (new ≡ s)
 Comes (checked s) old reply new = ⊥
+Comes (minimizes text t s) old reply new = ⊥
+Comes (reduces among) old reply new = ⊥
 
+-- the commands that ask the decider
 abbrev pub is_check : Command → Bool
 is_check CheckSat = true
 is_check (CheckSatAssuming ts) = true
+is_check GetUnsatCore = true
+is_check GetUnsatAssumptions = true
 is_check _ = false
 
 -- the commands that the stack carries out or refuses

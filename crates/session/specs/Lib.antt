@@ -2,9 +2,10 @@ pub mod Logics
 pub mod Shown
 pub mod StateCode
 pub mod Above
+pub mod Refuted
+pub mod Reduced
 pub mod Effects
 pub mod Heeded
-pub mod Found
 pub mod Assumed
 pub mod Under
 pub mod Stored

@@ -1,11 +1,13 @@
 -- What a check of a stack under assumptions comes to.
-use Rattle.std.specs.Prelude.{◌≡◌, ℕ, ℤ, Bool, true, List, map, drop, flat_map, All}
+use Rattle.std.specs.Prelude.{◌≡◌, ◌≤◌, ℕ, ℤ, Bool, true, List, map, drop, flat_map, All}
 use Rattle.smt_meaning.specs.Term.{tree_at}
-use Rattle.smt_meaning.specs.Stack.{Frame, assertions_of}
-use Rattle.smt_meaning.specs.StackCommand.{Stack}
+use Rattle.smt_meaning.specs.Stack.{Frame, HasNoModel, assertions_of, depth}
+use Rattle.smt_meaning.specs.StackCommand.{Stack, most_levels}
 use Rattle.smt_meaning.specs.State.{State, checked_frames, texts_of}
 use Rattle.scope_stack.specs.declared.answers.Assertion.{Assertion}
 use Rattle.scope_stack.specs.Inside.{IsWithin}
+use Rattle.scope_stack.specs.Shown.{IsLawful}
+use Rattle.session.specs.Refuted.{WhereUnsat}
 use Rattle.session.specs.declared.assuming.Assumed.{Assumed}
 use Rattle.session.specs.Assumed.{Answers}
 
@@ -16,3 +18,5 @@ pub record IsAnsweredUnder (decided : List Frame → Bool) (limit : ℤ) (below 
   pub texts : map (λ (x : Assertion). x.text) a.assumptions ≡ drop below (flat_map texts_of s.frames)
   pub terms : map (λ (x : Assertion). tree_at s.trees x.term) a.assumptions ≡ drop below (assertions_of s.frames)
   pub within : All (IsWithin s.trees) a.assumptions
+  pub depth_fits : depth s.frames ≤ most_levels
+  pub refuted : WhereUnsat a.answer.mode (HasNoModel s.frames × IsLawful s)

@@ -1,6 +1,8 @@
 //! What a check comes to, by what is found of it.
-ghost use Rattle.std.specs.Prelude.{IfOk};
+ghost use Rattle.std.specs.Prelude.{◌≡◌, IfOk};
+ghost use Rattle.theory_port.specs.declared.decider.Verdict.TheVariants.{Unsat};
 ghost use Rattle.session.specs.Assumed.{IsAnswerBy};
+ghost use Rattle.session.specs.Refuted.{WhereUnsat};
 
 use crate::checks::reason_of;
 use smt_meaning::Kept;
@@ -19,7 +21,8 @@ pub struct Answer {
 /// What a check comes to, of which this is found. An `Err` is for want of memory.
 #[tactic(auto, using(crate::proofs::Answered::sat_answers, crate::proofs::Answered::unsat_answers, crate::proofs::Answered::unknown_answers))]
 pub(crate) fn answer_of(alloc: Global, verdict: Verdict) -> Result<Answer, AllocError>
-    ensures { IfOk result (IsAnswerBy verdict) }
+    ensures answer { IfOk result (IsAnswerBy verdict) }
+    ensures refuted { IfOk result (λ a. WhereUnsat a.mode (verdict ≡ Unsat)) }
 {
     match verdict {
         Verdict::Sat(model) => {

@@ -5,11 +5,10 @@ ghost use Rattle.session.specs.Assumed.{ChecksUnder};
 ghost use Rattle.session.specs.Under.{IsAnsweredUnder};
 
 use crate::answer::{Answer, answer_of};
-use crate::found::found;
 use scope_stack::{Assertion, ScopeStack, StackError};
 use smt_meaning::{SExpr, Seq, Settings};
 use std::alloc::{AllocError, Global};
-use theory_port::Decider;
+use theory_port::{Decider, found};
 
 /// What a check under assumptions comes to, and the assumptions.
 #[derive(Drop)]
@@ -19,7 +18,7 @@ pub struct Assumed {
 }
 
 /// Copies of assertions.
-fn copied(alloc: Global, assertions: &[Assertion]) -> Result<Seq<Assertion>, AllocError>
+pub(crate) fn copied(alloc: Global, assertions: &[Assertion]) -> Result<Seq<Assertion>, AllocError>
     ensures { IfOk result (λ v. v ≡ assertions.now) }
 {
     let mut out = Seq::new(alloc);
@@ -45,6 +44,8 @@ fn answered<D: Decider>(
     ensures stays { stack.new ≡ stack.old }
     ensures answered { IfOk result (λ r. MatchOption r (D.decides stack.old.frames ≡ false) (IsAnsweredUnder D.decides settings.now.units below stack.old)) }
 {
+    let _ = stack.depth();
+    stack.laws();
     let Some(verdict) = found(alloc, decider, settings, stack)? else {
         return Ok(None);
     };

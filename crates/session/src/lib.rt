@@ -5,13 +5,14 @@
 //! memory changes nothing.
 #![tactic(auto)]
 
+mod above;
 mod answer;
 mod asked;
 mod assignment;
 mod assuming;
 mod carry;
 mod checks;
-mod found;
+mod cores;
 mod logic;
 mod options;
 mod printed;

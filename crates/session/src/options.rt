@@ -19,6 +19,8 @@ pub fn options_at_start(settings: &Settings) -> Options
         produce_models: false,
         produce_assertions: false,
         produce_assignments: false,
+        produce_unsat_cores: false,
+        produce_unsat_assumptions: false,
     }
 }
 
@@ -44,6 +46,8 @@ pub fn with_setting(options: Options, setting: OptionSetting) -> Options
         }
         OptionSetting::ProduceAssignments(on) => options.produce_assignments = on,
         OptionSetting::GlobalDeclarations(_) => {}
+        OptionSetting::ProduceUnsatCores(on) => options.produce_unsat_cores = on,
+        OptionSetting::ProduceUnsatAssumptions(on) => options.produce_unsat_assumptions = on,
     }
     options
 }
@@ -59,6 +63,8 @@ pub fn start_option(setting: OptionSetting) -> Option<OptionName>
         OptionSetting::InteractiveMode(_) => Some(OptionName::InteractiveMode),
         OptionSetting::ProduceAssignments(_) => Some(OptionName::ProduceAssignments),
         OptionSetting::GlobalDeclarations(_) => Some(OptionName::GlobalDeclarations),
+        OptionSetting::ProduceUnsatCores(_) => Some(OptionName::ProduceUnsatCores),
+        OptionSetting::ProduceUnsatAssumptions(_) => Some(OptionName::ProduceUnsatAssumptions),
         _ => None,
     }
 }
@@ -89,6 +95,10 @@ pub fn option_value(
         }
         OptionName::ProduceAssignments => OptionValue::Truth(options.produce_assignments),
         OptionName::GlobalDeclarations => OptionValue::Truth(global),
+        OptionName::ProduceUnsatCores => OptionValue::Truth(options.produce_unsat_cores),
+        OptionName::ProduceUnsatAssumptions => {
+            OptionValue::Truth(options.produce_unsat_assumptions)
+        }
     })
 }
 

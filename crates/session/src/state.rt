@@ -1,26 +1,27 @@
 //! What a run has come to.
 ghost use Rattle.std.specs.Prelude.{◌≡◌};
-ghost use Rattle.smt_meaning.specs.State.{is_start as is_start_mode};
+ghost use Rattle.smt_meaning.specs.State.{is_start as is_start_mode, is_unsat as is_unsat_mode};
 
+use crate::above::Above;
 use crate::answer::answer_of;
 use crate::asked::values_of;
 use crate::assignment::named_truths;
 use crate::assuming::{Assumed, check_under};
 use crate::carry::{carry, refused, word};
 use crate::checks::in_force;
-use crate::found::found;
+use crate::cores::{core_of, named_places, names_of, places_from, texts_above, texts_held};
 use crate::logic::Logic;
 use crate::options::{option_value, options_at_start, start_option, with_setting};
 use crate::printed::{printed_functions, texts_of};
 use model_eval::EvalError;
-use scope_stack::{Assertion, Carried, ScopeStack, StackError};
+use scope_stack::{Carried, ScopeStack, StackError};
 use smt_meaning::language::{
     Command, Error, Info, InfoName, Mode, OptionName, OptionSetting, Options, Reply,
 };
-use smt_meaning::{Bytes, Kept, SExpr, Seq, Settings};
+use smt_meaning::{Bytes, Held, Kept, SExpr, Seq, Settings};
 use std::alloc::{AllocError, Global};
 use std::marker::Model;
-use theory_port::Decider;
+use theory_port::{Decider, found};
 
 /// The state of a run: the settings of the words, the logic once it is set, the mode with the model that is kept, the options, the stack, and what stood above it at the last check.
 #[derive(Drop)]
@@ -30,8 +31,7 @@ pub struct Session {
     mode: Mode,
     options: Options,
     stack: ScopeStack,
-    /// The assumptions of the last check, where it had any.
-    above: Option<Seq<Assertion>>,
+    above: Above,
 }
 
 impl Model for Session {
@@ -39,6 +39,7 @@ impl Model for Session {
     ghost use Rattle.session.specs.Logics.{named};
     ghost use Rattle.session.specs.StateCode.{coded_state};
     ghost use Rattle.session.specs.Above.{above_by, AreAbove};
+    ghost use Rattle.session.specs.Refuted.{IsRefuted, WhereUnsat};
 
     ghost Value = { State };
 
@@ -46,7 +47,7 @@ impl Model for Session {
 
     ghost view = { λ s. record { settings = s.settings; logic = named s.logic; mode = s.mode; options = s.options; stack = s.stack; above = above_by s.stack.trees s.above } };
 
-    ghost invariant = { λ s. AreAbove s.stack.trees s.above };
+    ghost invariant = { λ s. AreAbove s.stack.trees s.above × WhereUnsat s.mode (IsRefuted s.stack s.above) };
 }
 
 /// What a command comes to.
@@ -62,12 +63,18 @@ pub struct Done {
 impl Session {
     ghost use Rattle.std.specs.Prelude.{◌≡◌, ◌≢◌, ◌↔◌, IfOk, OnErr, IsTrue};
     ghost use Rattle.std.specs.Prelude.{codes, [], IsFalse};
-    ghost use Rattle.smt_meaning.specs.State.{start, with_logic, asserting, set_logic, set_option_in, start_option, option_value, reason_unknown, get_info, stack_effect, checks, check_assuming, effect, kept_model, get_value, get_model, get_assertions, get_assignment};
+    ghost use Rattle.smt_meaning.specs.State.{start, with_logic, asserting, set_logic, set_option_in, start_option, option_value, reason_unknown, get_info, stack_effect, checks, check_assuming, effect, kept_model, get_value, get_model, get_assertions, get_assignment, checked_frames, get_unsat_core, get_unsat_assumptions};
+    ghost use Rattle.std.specs.Prelude.{length};
+    ghost use Rattle.smt_meaning.specs.Core.{IsReduced, checked_trees};
+    ghost use Rattle.smt_meaning.specs.Stack.{assertions_of};
+    ghost use Rattle.smt_meaning.specs.declared.answers.Mode.TheVariants as In;
+    ghost use Rattle.goal_search.specs.Tries.{AreCandidates};
     ghost use Rattle.smt_meaning.specs.StackCommand.{stack_command};
     ghost use Rattle.session.specs.Effects.{Comes, is_carried, is_check, word_of};
     ghost use Rattle.smt_meaning.specs.MayReply.{MayReply, MayCome, success};
     ghost use Rattle.smt_meaning.specs.declared.commands.Command.TheVariants.{Exit, Reset, ResetAssertions, CheckSatAssuming};
     ghost use Rattle.session.specs.Above.{above_by, AreAbove};
+    ghost use Rattle.session.specs.Refuted.{IsRefuted, WhereUnsat};
 
     /// The state at the start of a run. It takes no memory.
     pub fn new(alloc: Global, settings: &Settings) -> Self
@@ -79,7 +86,7 @@ impl Session {
             mode: Mode::Start,
             options: options_at_start(settings),
             stack: ScopeStack::new(alloc),
-            above: None,
+            above: Above::Nothing,
         }
     }
 
@@ -115,6 +122,8 @@ impl Session {
             Command::CheckSatAssuming(terms) => {
                 self.check_assuming(alloc, terms.as_slice(), decider)
             }
+            Command::GetUnsatCore => self.get_unsat_core(alloc, decider),
+            Command::GetUnsatAssumptions => self.get_unsat_assumptions(alloc, decider),
             _ => {
                 let reply = self.answer(alloc, command)?;
                 self.cut(command, decider);
@@ -154,8 +163,11 @@ impl Session {
             Command::GetModel => self.get_model(alloc),
             Command::GetAssertions => self.get_assertions(alloc),
             Command::GetAssignment => self.get_assignment(alloc),
-            Command::LeftOut => Ok(Reply::Unsupported),
-            Command::CheckSat | Command::CheckSatAssuming(_) => unreachable!(),
+            Command::LeftOut | Command::Minimize(_) => Ok(Reply::Unsupported),
+            Command::CheckSat
+            | Command::CheckSatAssuming(_)
+            | Command::GetUnsatCore
+            | Command::GetUnsatAssumptions => unreachable!(),
             _ => self.on_stack(alloc, command),
         }
     }
@@ -240,8 +252,9 @@ impl Session {
     }
 
     /// Enters a mode in which a logic is set, where this stood above the stack at the last check.
-    fn enter(&mut self, mode: Mode, above: Option<Seq<Assertion>>)
-        requires { AreAbove self.old.stack.trees above }
+    fn enter(&mut self, mode: Mode, above: Above)
+        requires above { AreAbove self.old.stack.trees above }
+        requires refuted { WhereUnsat mode (IsRefuted self.old.stack above) }
         ensures { self.new ≡ record (with_logic self.old) { mode = mode; above = above_by self.old.stack.trees above } }
     {
         if self.logic.is_none() {
@@ -263,7 +276,7 @@ impl Session {
         };
         self.logic = Some(logic);
         self.mode = Mode::Assert;
-        self.above = None;
+        self.above = Above::Nothing;
         self.success()
     }
 
@@ -326,8 +339,9 @@ impl Session {
     {
         match carry(alloc, command, &mut self.stack) {
             Ok(Carried::Done) => {
-                self.above = None;
-                self.enter(Mode::Assert, None);
+                self.mode = Mode::Assert;
+                self.above = Above::Nothing;
+                self.enter(Mode::Assert, Above::Nothing);
                 Ok(self.success())
             }
             Ok(Carried::Unsupported) => Ok(Reply::Unsupported),
@@ -342,7 +356,7 @@ impl Session {
         ensures { Comes (stack_effect self.old (codes "reset") (stack_command Reset)) self.old result self.new }
     {
         self.stack.reset();
-        self.above = None;
+        self.above = Above::Nothing;
         self.logic = None;
         self.mode = Mode::Start;
         self.options = options_at_start(&self.settings);
@@ -357,9 +371,80 @@ impl Session {
         self.stack.reset_assertions();
         if !is_start(&self.mode) {
             self.mode = Mode::Assert;
-            self.above = None;
+            self.above = Above::Nothing;
         }
         self.success()
+    }
+
+    /// `(get-unsat-core)`
+    #[tactic(auto, using(crate::proofs::Replies::core_not_unsat, crate::proofs::Replies::core_off))]
+    fn get_unsat_core<D: Decider>(
+        &mut self,
+        alloc: Global,
+        decider: &mut D,
+    ) -> Result<(Reply, Kept), AllocError>
+        ensures ok { IfOk result (λ answer. MayCome D.decides self.old (get_unsat_core self.old) answer.0 answer.1 self.new) }
+        ensures err { OnErr result (self.new ≡ self.old) }
+    {
+        if !is_unsat(&self.mode) {
+            return Ok((Reply::Error(Error::NotUnsat), Kept::Nothing));
+        }
+        if !self.options.produce_unsat_cores {
+            let off = Error::OptionIsOff(OptionName::ProduceUnsatCores);
+            return Ok((Reply::Error(off), Kept::Nothing));
+        }
+        let places = named_places(alloc, self.stack.assertions())?;
+        let held = self.core(alloc, &places, decider)?;
+        let names = names_of(alloc, self.stack.assertions(), held.as_slice())?;
+        Ok((Reply::UnsatCore(names), Kept::Core(held)))
+    }
+
+    /// `(get-unsat-assumptions)`
+    #[tactic(auto, using(crate::proofs::Replies::assumptions_not_unsat, crate::proofs::Replies::assumptions_off))]
+    fn get_unsat_assumptions<D: Decider>(
+        &mut self,
+        alloc: Global,
+        decider: &mut D,
+    ) -> Result<(Reply, Kept), AllocError>
+        ensures ok { IfOk result (λ answer. MayCome D.decides self.old (get_unsat_assumptions self.old) answer.0 answer.1 self.new) }
+        ensures err { OnErr result (self.new ≡ self.old) }
+    {
+        if !is_unsat(&self.mode) {
+            return Ok((Reply::Error(Error::NotUnsat), Kept::Nothing));
+        }
+        if !self.options.produce_unsat_assumptions {
+            let off = Error::OptionIsOff(OptionName::ProduceUnsatAssumptions);
+            return Ok((Reply::Error(off), Kept::Nothing));
+        }
+        let below = self.stack.assertions().len();
+        let texts = texts_above(alloc, &self.above)?;
+        let places = places_from(alloc, below, texts.len())?;
+        let held = self.core(alloc, &places, decider)?;
+        let texts = texts_held(alloc, texts.as_slice(), below, held.as_slice())?;
+        Ok((Reply::UnsatAssumptions(texts), Kept::Core(held)))
+    }
+
+    /// The candidates at these places that are held in a core of the last check.
+    fn core<D: Decider>(
+        &mut self,
+        alloc: Global,
+        places: &[u64],
+        decider: &mut D,
+    ) -> Result<Seq<Held>, AllocError>
+        requires mode { self.old.mode ≡ In.Unsat }
+        requires candidates { AreCandidates 0 (length (assertions_of (checked_frames self.old))) places.now }
+        ensures stays { self.new ≡ self.old }
+        ensures core { IfOk result (IsReduced (checked_trees self.old) (checked_frames self.old) self.old.options.reproducible_resource_limit places.now) }
+    {
+        let settings = in_force(&self.settings, &self.options);
+        core_of(
+            alloc,
+            decider,
+            &settings,
+            &mut self.stack,
+            &self.above,
+            places,
+        )
     }
 
     /// `(check-sat)`
@@ -376,7 +461,9 @@ impl Session {
             return Ok((Reply::Unsupported, Kept::Nothing));
         };
         let answer = answer_of(alloc, verdict)?;
-        self.enter(answer.mode, None);
+        self.mode = Mode::Assert;
+        self.above = Above::Nothing;
+        self.enter(answer.mode, Above::Nothing);
         Ok((answer.reply, answer.kept))
     }
 
@@ -397,8 +484,9 @@ impl Session {
                     answer,
                     assumptions,
                 } = assumed;
-                self.above = None;
-                self.enter(answer.mode, Some(assumptions));
+                self.mode = Mode::Assert;
+                self.above = Above::Nothing;
+                self.enter(answer.mode, Above::Assumed(assumptions));
                 Ok((answer.reply, answer.kept))
             }
             Ok(None) => Ok((Reply::Unsupported, Kept::Nothing)),
@@ -415,4 +503,10 @@ fn is_start(mode: &Mode) -> bool
     ensures { result ≡ is_start_mode mode.now }
 {
     matches!(mode, Mode::Start)
+}
+
+fn is_unsat(mode: &Mode) -> bool
+    ensures { result ≡ is_unsat_mode mode.now }
+{
+    matches!(mode, Mode::Unsat)
 }

@@ -6,3 +6,4 @@ pub mod LookUps
 pub mod OptionForms
 pub mod Judged
 pub mod FunctionForm
+mod NamingSteps

@@ -84,6 +84,8 @@ list_is_wrong Named.ProduceAssertions ss = refl
 list_is_wrong Named.InteractiveMode ss = refl
 list_is_wrong Named.ProduceAssignments ss = refl
 list_is_wrong Named.GlobalDeclarations ss = refl
+list_is_wrong Named.ProduceUnsatCores ss = refl
+list_is_wrong Named.ProduceUnsatAssumptions ss = refl
 
 abbrev inside : Option (Option Token) → Option Token
 inside (Some w) = w

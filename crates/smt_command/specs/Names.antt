@@ -1,7 +1,7 @@
 -- The names of commands, in groups.
 use Rattle.std.specs.Prelude.{ℕ, List, [], ◌∷◌, ◌++◌, map, codes}
 use Rattle.smt_command.specs.declared.names.CommandName.{CommandName}
-use Rattle.smt_command.specs.declared.names.CommandName.TheVariants.{SetLogic, SetOption, GetOption, SetInfo, GetInfo, Echo, Exit, Reset, ResetAssertions, DeclareSort, DefineSort, DeclareConst, DeclareFun, DefineFun, Assert, CheckSat, Push, Pop, GetValue, GetModel, GetAssertions, CheckSatAssuming, GetAssignment, LeftOut}
+use Rattle.smt_command.specs.declared.names.CommandName.TheVariants.{SetLogic, SetOption, GetOption, SetInfo, GetInfo, Echo, Exit, Reset, ResetAssertions, DeclareSort, DefineSort, DeclareConst, DeclareFun, DefineFun, Assert, CheckSat, Push, Pop, GetValue, GetModel, GetAssertions, CheckSatAssuming, GetAssignment, GetUnsatCore, GetUnsatAssumptions, LeftOut}
 
 abbrev pub setting_names : List (List ℕ × CommandName)
 setting_names =
@@ -23,13 +23,17 @@ abbrev pub answer_names : List (List ℕ × CommandName)
 answer_names =
     (codes "get-value", GetValue) ∷ (codes "get-model", GetModel) ∷ (codes "get-assertions", GetAssertions) ∷ (codes "check-sat-assuming", CheckSatAssuming) ∷ (codes "get-assignment", GetAssignment) ∷ []
 
+abbrev pub refutation_names : List (List ℕ × CommandName)
+refutation_names =
+    (codes "get-proof", LeftOut) ∷ (codes "get-unsat-core", GetUnsatCore) ∷ (codes "get-unsat-assumptions", GetUnsatAssumptions) ∷ []
+
 abbrev pub left_out_names : List (List ℕ)
 left_out_names =
-    codes "get-proof" ∷ codes "get-unsat-core" ∷ codes "get-unsat-assumptions" ∷ codes "define-fun-rec" ∷ codes "define-funs-rec" ∷ codes "declare-datatype" ∷ codes "declare-datatypes" ∷ []
+    codes "define-fun-rec" ∷ codes "define-funs-rec" ∷ codes "declare-datatype" ∷ codes "declare-datatypes" ∷ []
 
 abbrev pub left_out : List ℕ → List ℕ × CommandName
 left_out n = (n, LeftOut)
 
 -- every command with its name
 unfoldable pub command_names : List (List ℕ × CommandName)
-command_names = setting_names ++ (session_names ++ (declaration_names ++ (stack_names ++ (answer_names ++ map left_out left_out_names))))
+command_names = setting_names ++ (session_names ++ (declaration_names ++ (stack_names ++ (answer_names ++ (refutation_names ++ map left_out left_out_names)))))

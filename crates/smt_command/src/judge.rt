@@ -63,6 +63,10 @@ fn formed(
         CommandName::GetAssertions => Ok(forms::bare(Command::GetAssertions, &arguments)),
         CommandName::CheckSatAssuming => forms::check_sat_assuming(alloc, arguments),
         CommandName::GetAssignment => Ok(forms::bare(Command::GetAssignment, &arguments)),
+        CommandName::GetUnsatCore => Ok(forms::bare(Command::GetUnsatCore, &arguments)),
+        CommandName::GetUnsatAssumptions => {
+            Ok(forms::bare(Command::GetUnsatAssumptions, &arguments))
+        }
         CommandName::LeftOut => Ok(Ok(Command::LeftOut)),
     }
 }

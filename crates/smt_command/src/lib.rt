@@ -1,7 +1,8 @@
 //! Judges an s-expression as a command (SMT-LIB 2.6, section 4.2): which command it is, or why it
 //! is none.
 //!
-//! `command`: what an s-expression is as a command, or its error, exactly.
+//! `command`: what an s-expression is as a command, or its error, exactly. `name_of_whole`: the
+//! name that `:named` gives to the whole of a term, exactly.
 #![tactic(auto)]
 
 mod arguments;
@@ -9,7 +10,9 @@ mod forms;
 mod judge;
 mod lists;
 mod names;
+mod naming;
 mod number;
 mod settings;
 
 pub use judge::command;
+pub use naming::name_of_whole;

@@ -2,7 +2,7 @@
 ghost use Rattle.std.specs.Prelude.{◌≡◌};
 ghost use Rattle.smt_meaning.specs.Signature.{look_up, is_one_of};
 ghost use Rattle.smt_meaning.specs.Command.{option_names, info_names};
-ghost use Rattle.smt_command.specs.Names.{command_names, setting_names, session_names, declaration_names, stack_names, answer_names, left_out_names};
+ghost use Rattle.smt_command.specs.Names.{command_names, setting_names, session_names, declaration_names, stack_names, answer_names, refutation_names, left_out_names};
 
 use smt_meaning::language::{InfoName, OptionName};
 
@@ -32,6 +32,8 @@ pub enum CommandName {
     GetAssertions,
     CheckSatAssuming,
     GetAssignment,
+    GetUnsatCore,
+    GetUnsatAssumptions,
     /// A command of the standard that is answered `unsupported`, whatever its arguments are.
     LeftOut,
 }
@@ -53,6 +55,9 @@ pub fn command_name(name: &[u8]) -> Option<CommandName>
         return Some(found);
     }
     if let Some(found) = answer_name(name) {
+        return Some(found);
+    }
+    if let Some(found) = refutation_name(name) {
         return Some(found);
     }
     if is_left_out(name) {
@@ -152,14 +157,26 @@ fn answer_name(name: &[u8]) -> Option<CommandName>
     }
 }
 
+/// A command that asks why a check has found no model. A proof isn't given.
+fn refutation_name(name: &[u8]) -> Option<CommandName>
+    ensures { result ≡ look_up name.now refutation_names }
+{
+    if name == b"get-proof".as_slice() {
+        Some(CommandName::LeftOut)
+    } else if name == b"get-unsat-core".as_slice() {
+        Some(CommandName::GetUnsatCore)
+    } else if name == b"get-unsat-assumptions".as_slice() {
+        Some(CommandName::GetUnsatAssumptions)
+    } else {
+        None
+    }
+}
+
 /// Whether it is the name of a command of the standard that is left out.
 fn is_left_out(name: &[u8]) -> bool
     ensures { result ≡ is_one_of name.now left_out_names }
 {
-    name == b"get-proof".as_slice()
-        || name == b"get-unsat-core".as_slice()
-        || name == b"get-unsat-assumptions".as_slice()
-        || name == b"define-fun-rec".as_slice()
+    name == b"define-fun-rec".as_slice()
         || name == b"define-funs-rec".as_slice()
         || name == b"declare-datatype".as_slice()
         || name == b"declare-datatypes".as_slice()
@@ -191,6 +208,10 @@ pub fn option_name(keyword: &[u8]) -> Option<OptionName>
         Some(OptionName::ProduceAssignments)
     } else if keyword == b"global-declarations".as_slice() {
         Some(OptionName::GlobalDeclarations)
+    } else if keyword == b"produce-unsat-cores".as_slice() {
+        Some(OptionName::ProduceUnsatCores)
+    } else if keyword == b"produce-unsat-assumptions".as_slice() {
+        Some(OptionName::ProduceUnsatAssumptions)
     } else {
         None
     }

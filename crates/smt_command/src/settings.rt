@@ -105,6 +105,10 @@ fn setting(name: OptionName, value: Option<TokenView<'_>>) -> Result<Command, Re
         OptionName::InteractiveMode => set(OptionSetting::InteractiveMode(truth(value)?)),
         OptionName::ProduceAssignments => set(OptionSetting::ProduceAssignments(truth(value)?)),
         OptionName::GlobalDeclarations => set(OptionSetting::GlobalDeclarations(truth(value)?)),
+        OptionName::ProduceUnsatCores => set(OptionSetting::ProduceUnsatCores(truth(value)?)),
+        OptionName::ProduceUnsatAssumptions => {
+            set(OptionSetting::ProduceUnsatAssumptions(truth(value)?))
+        }
     }
 }
 

@@ -34,7 +34,7 @@ pub among_append : (t : Tree) (ts us : List Tree) → Among t ts → Among t (ts
 among_append t [] us h = absurd (cc)
 among_append t (x ∷ ts) us h = among_cases (λ y. Among y (x ∷ ts ++ us)) t x ts (among_first x (ts ++ us)) (λ k. among_rest t x (ts ++ us) (among_append t ts us k)) h
 
-among_last : (t : Tree) (us : List Tree) → Among t (us ++ t ∷ [])
+pub among_last : (t : Tree) (us : List Tree) → Among t (us ++ t ∷ [])
 among_last t [] = among_one t
 among_last t (u ∷ us) = among_rest t u (us ++ t ∷ []) (among_last t us)
 

@@ -158,6 +158,9 @@ decided_levels old s (Given.Values vs) kept new h d = absurd d
 decided_levels old s (Given.Model fs) kept new h d = absurd d
 decided_levels old s (Given.Assertions ts) kept new h d = absurd d
 decided_levels old s (Given.Assignment vs) kept new h d = absurd d
+decided_levels old s (Given.UnsatCore ns) kept new h d = absurd d
+decided_levels old s (Given.UnsatAssumptions ts) kept new h d = absurd d
+decided_levels old s (Given.Minimum v) kept new h d = absurd d
 decided_levels old s (Given.Error e) kept new h d = absurd d
 
 check_levels : (x : Bool) (old s : State) (r : Reply) (kept : Kept) (new : State) → SameLevels old s

@@ -12,14 +12,11 @@ use Rattle.smt_meaning.specs.declared.clauses.Summand.{Summand}
 use Rattle.smt_meaning.specs.Term.{Tree, Interpretation, number_of}
 use Rattle.smt_meaning.specs.Clause.{sum_value, value_at, atom_true}
 use Rattle.smt_meaning.specs.Atoms.{sum_gcd, divided, each_divided, normal_bound}
+use Rattle.smt_meaning.specs.ProofRules.{DividesEach}
 use Rattle.fraction128.proofs.Divisors.{IsGcd-gcd_of}
 use Rattle.fraction128.proofs.Ring.{times-sum, times_assoc}
 
 -- ---- the greatest common divisor
-
-abbrev DividesEach : ℕ → List Summand → Type 0
-DividesEach g [] = Unit {0}
-DividesEach g (p ∷ ps) = (g ∣ unsigned_abs p.coefficient) × DividesEach g ps
 
 weaker : (g h : ℕ) (ps : List Summand) → g ∣ h → DividesEach h ps → DividesEach g ps
 weaker g h [] d e = tt
@@ -105,7 +102,7 @@ zero_floor : (k : ℤ) → int_le (pos 0) (divided k (pos 0)) ≡ int_le (pos 0)
 zero_floor (pos a) = leb-zero (a / 0) ∙ sym (leb-zero a)
 zero_floor (negsuc a) = refl
 
-bound_at : (ts : List Tree) (I : Interpretation) (g : ℕ) (ps : List Summand) (k : ℤ) → DividesEach g ps
+pub bound_at : (ts : List Tree) (I : Interpretation) (g : ℕ) (ps : List Summand) (k : ℤ) → DividesEach g ps
     → int_le (sum_value ts I (each_divided (pos g) ps)) (divided k (pos g)) ≡ int_le (sum_value ts I ps) k
 bound_at ts I zero ps k h =
     ap (λ z. int_le z (divided k (pos 0))) (no_divisor ts I ps h) ∙ zero_floor k

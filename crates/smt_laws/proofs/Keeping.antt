@@ -12,12 +12,12 @@ use Rattle.smt_meaning.specs.declared.refusals.Refusal.{Refusal}
 use Rattle.smt_meaning.specs.Term.{Tree, Trees}
 use Rattle.smt_meaning.specs.Sexp.{Sexp, Sexps, word, group, end, ◌▸◌, sexp}
 use Rattle.smt_meaning.specs.Sorts.{Scope, Outcome, done, refused, Judging, go_on, ◌>>=◌, ◌>>◌, return, refuse, require, required, the_scope, with_all, note, found, declare, declare_in, most_symbols, Typed, Variable, Rules, Known, variable, operator, function, unknown, known, can_be_applied, judge_application, judge_bare, judge_symbol, judge_operator, judge_token, check_bindings, none_twice, bound_names, name_by, judge_attributes, either, judge, judge_all, judge_bindings}
-use Rattle.smt_meaning.specs.StackCommand.{Change, declares, sets, clears, begins_again, is_unsupported, judge_sort, judge_sorts, new_sort_name, new_function_name, declare_new_sort, declare_sort, define_sort, declare_function, judge_parameters, apart, in_body, judge_body, define_function, require_room, in_assert, assert_term, in_question, judge_terms, judge_questions, assume_terms, stack_command}
+use Rattle.smt_meaning.specs.StackCommand.{Change, declares, sets, clears, begins_again, is_unsupported, judge_sort, judge_sorts, new_sort_name, new_function_name, declare_new_sort, declare_sort, define_sort, declare_function, judge_parameters, apart, in_body, judge_body, define_function, require_room, in_assert, assert_term, in_question, judge_terms, judge_questions, assume_terms, minimize_term, stack_command}
 use Rattle.smt_meaning.specs.declared.commands.WrittenSort.{WrittenSort}
 use Rattle.smt_meaning.specs.declared.commands.WrittenSort.TheVariants.{Name, Applied}
 use Rattle.smt_meaning.specs.declared.commands.Parameter.{Parameter}
 use Rattle.smt_meaning.specs.declared.commands.Command.{Command}
-use Rattle.smt_meaning.specs.declared.commands.Command.TheVariants.{SetOption, DeclareSort, DefineSort, DeclareConst, DeclareFun, DefineFun, Assert, CheckSatAssuming, Push, Pop, GetValue, ResetAssertions, Reset}
+use Rattle.smt_meaning.specs.declared.commands.Command.TheVariants.{SetOption, DeclareSort, DefineSort, DeclareConst, DeclareFun, DefineFun, Assert, CheckSatAssuming, Push, Pop, GetValue, ResetAssertions, Reset, Minimize}
 
 -- ---- a property of scopes
 
@@ -242,6 +242,11 @@ module _ {P : Scope → Type 0} (i : Invariant P) where
   assume_keeping level ts =
       bind_keeping (terms_keeping ts) (λ bs. next_keeping (require_keeping _ _) (next_keeping room_keeping (next_keeping (require_keeping _ _) (return_keeping _))))
 
+  minimize_keeping : (level : ℕ) (t : List Token) → Keeping P (minimize_term level t)
+  minimize_keeping level t =
+      bind_keeping (judge_keeping in_question [] (sexp t))
+      (λ a. next_keeping (require_keeping _ _) (bind_keeping scope_keeping (λ s. next_keeping (require_keeping _ _) (next_keeping (require_keeping _ _) (return_keeping _)))))
+
   -- ---- the fold
 
   abbrev pub KeepsIfSome : Option (ℕ → Judging Change) → Type 0
@@ -262,4 +267,5 @@ module _ {P : Scope → Type 0} (i : Invariant P) where
   command_keeps (Pop n) = λ level. next_keeping (require_keeping _ _) (return_keeping _)
   command_keeps ResetAssertions = λ level. return_keeping clears
   command_keeps Reset = λ level. return_keeping begins_again
+  command_keeps (Minimize t) = λ level. minimize_keeping level t
   command_keeps _ = tt

@@ -1,26 +1,29 @@
 -- In every state that a journal comes to, the mode fits the logic and the stack.
 use Rattle.std.proofs.Common.{◌≡◌, refl, ℕ, Bool, true, false, List, [], ◌∷◌, sym, subst, Option, Some, None, Result, Ok, Err}
-use Rattle.std.specs.Prelude.{MatchBool, flat_map, codes, if◌then◌else◌}
+use Rattle.std.specs.Prelude.{MatchBool, ◌++◌, flat_map, codes, if◌then◌else◌}
 use Rattle.smt_meaning.specs.declared.tokens.Token.{Token}
 use Rattle.smt_meaning.specs.declared.values.Table.{Table}
 use Rattle.smt_meaning.specs.declared.settings.Settings.{Settings}
 use Rattle.smt_meaning.specs.declared.errors.Error.{Error}
-use Rattle.smt_meaning.specs.declared.errors.Error.TheVariants.{OptionTooLate, OptionIsOff, ValueTooLarge}
+use Rattle.smt_meaning.specs.declared.errors.Error.TheVariants.{OptionTooLate, OptionIsOff, ValueTooLarge, NotUnsat}
 use Rattle.smt_meaning.specs.declared.options.Options.{Options}
 use Rattle.smt_meaning.specs.declared.options.OptionName.{OptionName}
-use Rattle.smt_meaning.specs.declared.options.OptionName.TheVariants.{ProduceModels, ProduceAssertions, ProduceAssignments}
+use Rattle.smt_meaning.specs.declared.options.OptionName.TheVariants.{ProduceModels, ProduceAssertions, ProduceAssignments, ProduceUnsatCores, ProduceUnsatAssumptions}
 use Rattle.smt_meaning.specs.declared.options.OptionSetting.{OptionSetting}
 use Rattle.smt_meaning.specs.declared.options.UnknownReason.{UnknownReason}
 use Rattle.smt_meaning.specs.declared.options.InfoName.{InfoName}
 use Rattle.smt_meaning.specs.declared.options.InfoName.TheVariants as Asked
 use Rattle.smt_meaning.specs.declared.commands.Command.{Command}
-use Rattle.smt_meaning.specs.declared.commands.Command.TheVariants.{SetLogic, SetOption, GetOption, SetInfo, GetInfo, Echo, Exit, Reset, ResetAssertions, DeclareSort, DefineSort, DeclareConst, DeclareFun, DefineFun, Assert, CheckSat, CheckSatAssuming, Push, Pop, GetValue, GetModel, GetAssertions, GetAssignment, LeftOut}
+use Rattle.smt_meaning.specs.declared.commands.Command.TheVariants.{SetLogic, SetOption, GetOption, SetInfo, GetInfo, Echo, Exit, Reset, ResetAssertions, DeclareSort, DefineSort, DeclareConst, DeclareFun, DefineFun, Assert, CheckSat, CheckSatAssuming, Push, Pop, GetValue, GetModel, GetAssertions, GetAssignment, GetUnsatCore, GetUnsatAssumptions, Minimize, LeftOut}
 use Rattle.smt_meaning.specs.declared.answers.Entry.{Entry}
 use Rattle.smt_meaning.specs.declared.answers.Mode.{Mode}
 use Rattle.smt_meaning.specs.declared.answers.Mode.TheVariants as In
 use Rattle.smt_meaning.specs.declared.answers.Reply.{Reply}
 use Rattle.smt_meaning.specs.declared.answers.Reply.TheVariants as Given
 use Rattle.smt_meaning.specs.declared.replies.Kept.{Kept}
+use Rattle.smt_meaning.specs.Term.{Tree}
+use Rattle.smt_meaning.specs.Goal.{is_itself}
+use Rattle.smt_meaning.specs.Least.{IsModelFor}
 use Rattle.smt_meaning.specs.Sexp.{sexp}
 use Rattle.smt_meaning.specs.Signature.{is_one_of}
 use Rattle.smt_meaning.specs.Interpretation.{meaning}
@@ -28,9 +31,9 @@ use Rattle.smt_meaning.specs.Sorts.{Outcome, done, refused, Judging}
 use Rattle.smt_meaning.specs.Stack.{Frame, signature_of, depth, cleared}
 use Rattle.smt_meaning.specs.StackCommand.{Stack, Change, declares, asserts, pushes, pops, clears, begins_again, is_unsupported, asks, assumes, sets, stack_command, judged, changed}
 use Rattle.smt_meaning.specs.Command.{command}
-use Rattle.smt_meaning.specs.State.{State, checked_frames, Effect, denied, left_out, accepted, answered, checked, effect, provided, set_logic, set_option_in, with_option, start_option, reason_unknown, get_info, stack_effect, on_stack, with_stack, get_value, judged_values, valued, get_model, get_assignment, kept_model, check_assuming, assuming, logics, is_start, asserting, with_logic, all_fit, term_values, printed_functions, named_truths, named_fit, texts_of}
+use Rattle.smt_meaning.specs.State.{State, checked_frames, Effect, denied, left_out, accepted, answered, checked, minimizes, reduces, named, assumed, minimize, minimizing, is_unsat, frame_of, effect, provided, set_logic, set_option_in, with_option, start_option, reason_unknown, get_info, stack_effect, on_stack, with_stack, get_value, judged_values, valued, get_model, get_assignment, kept_model, check_assuming, assuming, logics, is_start, asserting, with_logic, all_fit, term_values, printed_functions, named_truths, named_fit, texts_of}
 use Rattle.smt_meaning.specs.Report.{reason_of}
-use Rattle.smt_meaning.specs.MayReply.{Decided, IsExactly, IsModel, MayCome, MayDecide, MayReply, MayReplyTo, Replies}
+use Rattle.smt_meaning.specs.MayReply.{Decided, IsExactly, IsModel, MayCome, MayDecide, MayMinimize, MayReply, MayReplyTo, Replies}
 use Rattle.smt_meaning.specs.LegalJournal.{Moment, beginning, Runs}
 use Rattle.smt_laws.specs.LanguageLaws.{ModeFits}
 
@@ -42,6 +45,10 @@ abbrev HasLogic : Option (List ℕ) → Type 0
 HasLogic None = ⊥
 HasLogic (Some n) = Unit {0}
 
+-- (= t t) stands above the stack
+abbrev IsAskedState : State → List Token → Tree → Type 0
+IsAskedState s text t = HasLogic s.logic × (s.above ≡ frame_of (is_itself text t ∷ []) ∷ [])
+
 -- what an effect leaves is sound
 abbrev SoundEffect : Effect → Type 0
 SoundEffect (denied e) = Unit {0}
@@ -49,6 +56,8 @@ SoundEffect left_out = Unit {0}
 SoundEffect (accepted s) = Sound s
 SoundEffect (answered r s) = Sound s
 SoundEffect (checked s) = HasLogic s.logic
+SoundEffect (minimizes text t s) = IsAskedState s text t
+SoundEffect (reduces among) = Unit {0}
 
 provided_sound : (x : Bool) (e : Error) (f : Effect) → SoundEffect f → SoundEffect (provided x e f)
 provided_sound true e f h = h
@@ -192,6 +201,25 @@ check_assuming_sound : (s : State) (c : Option (ℕ → Judging Change)) → Sou
 check_assuming_sound s None = tt
 check_assuming_sound s (Some c) = assuming_sound s (judged c s.stack)
 
+minimizing_sound : (s : State) (t : List Token) (o : Outcome Change) → SoundEffect (minimizing s t o)
+minimizing_sound s t (refused r) = tt
+minimizing_sound s t (done (asks []) c) = tt
+minimizing_sound s t (done (asks (a ∷ [])) c) = (with_logic_has s.settings s.logic s.mode s.options s.stack s.above, refl)
+minimizing_sound s t (done (asks (a ∷ b ∷ rest)) c) = tt
+minimizing_sound s t (done (assumes xs) c) = tt
+minimizing_sound s t (done declares c) = tt
+minimizing_sound s t (done (asserts a) c) = tt
+minimizing_sound s t (done (pushes k) c) = tt
+minimizing_sound s t (done (pops k) c) = tt
+minimizing_sound s t (done (sets x) c) = tt
+minimizing_sound s t (done clears c) = tt
+minimizing_sound s t (done begins_again c) = tt
+minimizing_sound s t (done is_unsupported c) = tt
+
+minimize_sound : (s : State) (t : List Token) (c : Option (ℕ → Judging Change)) → SoundEffect (minimize s t c)
+minimize_sound s t None = tt
+minimize_sound s t (Some c) = minimizing_sound s t (judged c s.stack)
+
 effect_sound : (s : State) (c : Command) → Sound s → SoundEffect (effect s c)
 unfolding effect
 effect_sound s (SetLogic n) h = set_logic_sound s n s.logic
@@ -219,6 +247,13 @@ effect_sound s GetAssertions h =
     provided_sound s.options.produce_assertions (OptionIsOff ProduceAssertions)
     (answered (Given.Assertions (flat_map texts_of s.stack.frames)) (with_logic s)) (with_logic_sound s.settings s.logic s.mode s.options s.stack s.above h)
 effect_sound s GetAssignment h = get_assignment_sound s (kept_model s.mode) h
+effect_sound s GetUnsatCore h =
+    provided_sound (is_unsat s.mode) NotUnsat (provided s.options.produce_unsat_cores (OptionIsOff ProduceUnsatCores) (reduces named))
+    (provided_sound s.options.produce_unsat_cores (OptionIsOff ProduceUnsatCores) (reduces named) tt)
+effect_sound s GetUnsatAssumptions h =
+    provided_sound (is_unsat s.mode) NotUnsat (provided s.options.produce_unsat_assumptions (OptionIsOff ProduceUnsatAssumptions) (reduces assumed))
+    (provided_sound s.options.produce_unsat_assumptions (OptionIsOff ProduceUnsatAssumptions) (reduces assumed) tt)
+effect_sound s (Minimize t) h = tt
 effect_sound s LeftOut h = tt
 
 -- ---- what a command leaves is sound
@@ -252,7 +287,34 @@ decided_sound s (Given.Values vs) kept new h d = absurd d
 decided_sound s (Given.Model fs) kept new h d = absurd d
 decided_sound s (Given.Assertions ts) kept new h d = absurd d
 decided_sound s (Given.Assignment vs) kept new h d = absurd d
+decided_sound s (Given.UnsatCore ns) kept new h d = absurd d
+decided_sound s (Given.UnsatAssumptions ts) kept new h d = absurd d
+decided_sound s (Given.Minimum v) kept new h d = absurd d
 decided_sound s (Given.Error e) kept new h d = absurd d
+
+minimum_sound : (s : State) (text : List Token) (t : Tree) (i : List Table) → HasLogic s.logic → s.above ≡ frame_of (is_itself text t ∷ []) ∷ []
+    → IsModelFor s.stack.frames text t i → ModeFits (In.Sat i) s.logic (depth s.stack.frames) (checked_frames s)
+minimum_sound s text t i h a m = model_sound s.logic i (depth s.stack.frames) (checked_frames s) h (subst (λ fs. IsModel (s.stack.frames ++ fs) i) (sym a) m)
+
+minimized_sound : (s : State) (text : List Token) (t : Tree) (r : Reply) (kept : Kept) (new : State) → IsAskedState s text t → MayMinimize s text t r kept new → Sound new
+minimized_sound s text t (Given.Minimum v) kept new h d = as_sound (record s { mode = In.Sat d.0 }) new d.3 (minimum_sound s text t d.0 h.0 h.1 d.2.model)
+minimized_sound s text t Given.Unsat kept new h d = as_sound (record s { mode = In.Unsat }) new d.2 (unsat_sound s.logic (depth s.stack.frames) (checked_frames s) h.0)
+minimized_sound s text t Given.Unknown kept new h d =
+    as_sound (record s { mode = In.Unknown (reason_of d.0.reports) }) new d.3 (unknown_sound s.logic (reason_of d.0.reports) (depth s.stack.frames) (checked_frames s) h.0)
+minimized_sound s text t Given.Sat kept new h d = absurd d
+minimized_sound s text t Given.Success kept new h d = absurd d
+minimized_sound s text t Given.Silent kept new h d = absurd d
+minimized_sound s text t Given.Unsupported kept new h d = absurd d
+minimized_sound s text t (Given.Echo x) kept new h d = absurd d
+minimized_sound s text t (Given.Option v) kept new h d = absurd d
+minimized_sound s text t (Given.Info i) kept new h d = absurd d
+minimized_sound s text t (Given.Values vs) kept new h d = absurd d
+minimized_sound s text t (Given.Model fs) kept new h d = absurd d
+minimized_sound s text t (Given.Assertions ts) kept new h d = absurd d
+minimized_sound s text t (Given.Assignment vs) kept new h d = absurd d
+minimized_sound s text t (Given.UnsatCore ns) kept new h d = absurd d
+minimized_sound s text t (Given.UnsatAssumptions ts) kept new h d = absurd d
+minimized_sound s text t (Given.Error e) kept new h d = absurd d
 
 check_sound : (x : Bool) (old s : State) (r : Reply) (kept : Kept) (new : State) → Sound old → HasLogic s.logic
     → MatchBool x (MayDecide s r kept new) (IsExactly Given.Unsupported old r kept new) → Sound new
@@ -264,6 +326,8 @@ comes_sound decided old (denied e) r kept new h g i = as_sound old new i.new_is 
 comes_sound decided old left_out r kept new h g i = as_sound old new i.new_is h
 comes_sound decided old (accepted s) r kept new h g i = as_sound s new i.new_is g
 comes_sound decided old (answered a s) r kept new h g i = as_sound s new i.new_is g
+comes_sound decided old (minimizes text t s) r kept new h g i = minimized_sound s text t r kept new g i
+comes_sound decided old (reduces among) r kept new h g i = as_sound old new i.4 h
 comes_sound decided old (checked s) r kept new h g i = check_sound (decided (checked_frames s)) old s r kept new h g i
 
 command_sound : (decided : Decided) (old : State) (c : Result Command Error) (r : Reply) (kept : Kept) (new : State) → Sound old → MayReplyTo decided old c r kept new → Sound new

@@ -13,6 +13,7 @@ mod TermLawsExamples
 pub mod Keeping
 pub mod FreshLaw
 mod Questions
+mod JudgedAgain
 pub mod Among
 mod PlacesLaw
 mod Signatures
@@ -39,6 +40,7 @@ mod Modes
 mod Lines
 mod Told
 mod Kept
+mod KindLaw
 mod Journals
 mod Numbers
 mod Propositional
@@ -65,3 +67,15 @@ mod UseLemmas
 mod AgainLemmas
 mod FormLemmas
 mod TodoLemmas
+mod ProofTerms
+mod ProofFacts
+mod ProofResolving
+mod ProofAdding
+mod ProofRounding
+mod ProofAlike
+mod ProofLinking
+mod ProofForms
+mod ProofEquality
+mod ProofRunning
+mod ProofTests
+mod ProofExamples

@@ -75,11 +75,11 @@ sum_times_value ts I (pos zero) ps = sym (zero-*ℤ (sum_value ts I ps))
 sum_times_value ts I (pos (suc n)) ps = each_times_value ts I (pos (suc n)) ps
 sum_times_value ts I (negsuc n) ps = each_times_value ts I (negsuc n) ps
 
-form_times_value : (ts : List Tree) (I : Interpretation) (k : ℤ) (f : Form) → form_value ts I (form_times k f) ≡ k *ℤ form_value ts I f
+pub form_times_value : (ts : List Tree) (I : Interpretation) (k : ℤ) (f : Form) → form_value ts I (form_times k f) ≡ k *ℤ form_value ts I f
 form_times_value ts I k f =
     ap (λ z. z +ℤ k *ℤ f.constant) (sum_times_value ts I k f.sum) ∙ sym (times-sum k (sum_value ts I f.sum) f.constant)
 
-form_plus_value : (ts : List Tree) (I : Interpretation) (f g : Form) → form_value ts I (form_plus f g) ≡ form_value ts I f +ℤ form_value ts I g
+pub form_plus_value : (ts : List Tree) (I : Interpretation) (f g : Form) → form_value ts I (form_plus f g) ≡ form_value ts I f +ℤ form_value ts I g
 form_plus_value ts I f g =
     ap (λ z. z +ℤ (f.constant +ℤ g.constant)) (sums_added_value ts I f.sum g.sum)
     ∙ regroup (sum_value ts I f.sum) (sum_value ts I g.sum) f.constant g.constant
@@ -87,11 +87,11 @@ form_plus_value ts I f g =
     regroup : (a b c d : ℤ) → (a +ℤ b) +ℤ (c +ℤ d) ≡ (a +ℤ c) +ℤ (b +ℤ d)
     regroup a b c d = omega (arith, ints)
 
-minus_one : (z : ℤ) → negsuc 0 *ℤ z ≡ neg_ℤ z
+pub minus_one : (z : ℤ) → negsuc 0 *ℤ z ≡ neg_ℤ z
 minus_one (pos n) = ap (λ m. neg_ℤ (pos m)) (omega arith)
 minus_one (negsuc n) = ap pos (omega arith)
 
-form_minus_value : (ts : List Tree) (I : Interpretation) (f g : Form) → form_value ts I (form_minus f g) ≡ form_value ts I f -ℤ form_value ts I g
+pub form_minus_value : (ts : List Tree) (I : Interpretation) (f g : Form) → form_value ts I (form_minus f g) ≡ form_value ts I f -ℤ form_value ts I g
 form_minus_value ts I f g =
     form_plus_value ts I f (form_times (negsuc 0) g) ∙ ap (λ z. form_value ts I f +ℤ z) (form_times_value ts I (negsuc 0) g ∙ minus_one (form_value ts I g))
 

@@ -7,12 +7,12 @@ use Rattle.smt_meaning.specs.Declaration.{Declaration}
 use Rattle.smt_meaning.specs.Term.{Tree, node, none}
 use Rattle.smt_meaning.specs.Sexp.{sexp}
 use Rattle.smt_meaning.specs.Sorts.{Scope, Outcome, done, refused, Judging, ◌>>◌, return, declare, Typed, Variable, judge}
-use Rattle.smt_meaning.specs.StackCommand.{Change, declares, sets, clears, begins_again, is_unsupported, judge_sort, judge_sorts, new_sort_name, new_function_name, declare_new_sort, declare_sort, define_sort, declare_function, judge_parameters, Bodied, apart, in_body, judge_body, define_function, require_room, in_assert, assert_term, in_question, judge_terms, judge_questions, ask_terms, assume_terms, stack_command}
+use Rattle.smt_meaning.specs.StackCommand.{Change, declares, sets, clears, begins_again, is_unsupported, judge_sort, judge_sorts, new_sort_name, new_function_name, declare_new_sort, declare_sort, define_sort, declare_function, judge_parameters, Bodied, apart, in_body, judge_body, define_function, require_room, in_assert, assert_term, in_question, judge_terms, judge_questions, ask_terms, assume_terms, minimize_term, stack_command}
 use Rattle.smt_meaning.specs.declared.commands.WrittenSort.{WrittenSort}
 use Rattle.smt_meaning.specs.declared.commands.WrittenSort.TheVariants.{Name, Applied}
 use Rattle.smt_meaning.specs.declared.commands.Parameter.{Parameter}
 use Rattle.smt_meaning.specs.declared.commands.Command.{Command}
-use Rattle.smt_meaning.specs.declared.commands.Command.TheVariants.{SetOption, DeclareSort, DefineSort, DeclareConst, DeclareFun, DefineFun, Assert, CheckSatAssuming, Push, Pop, GetValue, ResetAssertions, Reset}
+use Rattle.smt_meaning.specs.declared.commands.Command.TheVariants.{SetOption, DeclareSort, DefineSort, DeclareConst, DeclareFun, DefineFun, Assert, CheckSatAssuming, Push, Pop, GetValue, ResetAssertions, Reset, Minimize}
 use Rattle.smt_laws.proofs.Among.{Among, among_first, among_rest}
 use Rattle.smt_laws.proofs.Each.{Each}
 use Rattle.smt_laws.proofs.Shapes.{Small}
@@ -152,6 +152,14 @@ assume_gives level ts s g =
     (λ a u d m l. next_gives true u _ _ _ Nothing (room_gives u)
     (λ b v h i p. next_gives true v _ _ _ Nothing (require_gives true v _ _) (λ c w j o q. return_gives true w _ Nothing tt))))
 
+minimize_gives : (level : ℕ) (t : List Token) (s : Scope) → Good true s → Gives true s (minimize_term level t) Nothing
+minimize_gives level t s g =
+    bind_gives true s _ _ Fine Nothing (judge_gives in_question [] (sexp t) s g tt)
+    (λ a u f e k. next_gives true u _ _ _ Nothing (require_gives true u _ _)
+    (λ b v d m l. scope_then true v _ Nothing
+    (next_gives true v _ _ _ Nothing (require_gives true v _ _)
+    (λ c w h i p. next_gives true w _ _ _ Nothing (require_gives true w _ _) (λ x y j o q. return_gives true y _ Nothing tt)))))
+
 -- ---- each command
 
 abbrev pub KeepsIfSome : Option (ℕ → Judging Change) → Type 0
@@ -172,4 +180,5 @@ command_keeps (Push n) = λ level s g. next_gives true s _ _ _ Nothing (require_
 command_keeps (Pop n) = λ level s g. next_gives true s _ _ _ Nothing (require_gives true s _ _) (λ a t f e k. return_gives true t _ Nothing tt)
 command_keeps ResetAssertions = λ level s g. return_gives true s clears Nothing tt
 command_keeps Reset = λ level s g. return_gives true s begins_again Nothing tt
+command_keeps (Minimize t) = λ level s g. minimize_gives level t s g
 command_keeps _ = tt

@@ -8,7 +8,7 @@ use Rattle.smt_meaning.specs.declared.options.Info.{Info}
 use Rattle.smt_meaning.specs.declared.options.Info.TheVariants.{Name, Version, Authors, ErrorBehavior, AssertionStackLevels, ReasonUnknown}
 use Rattle.smt_meaning.specs.declared.answers.Reply.{Reply}
 use Rattle.smt_meaning.specs.declared.answers.Reply.TheVariants as Given
-use Rattle.smt_meaning.specs.Text.{named_truth_text, text, line, listed, spaced, literal, quotes_doubled, option_text, info_text, reason_text, tokens_text, term_value_text, function_text, error_text}
+use Rattle.smt_meaning.specs.Text.{named_truth_text, text, line, listed, spaced, literal, quotes_doubled, option_text, info_text, reason_text, tokens_text, term_value_text, function_text, error_text, symbol_text, integer_text}
 use Rattle.smt_laws.specs.LanguageLaws.{IsLine}
 
 -- ---- bytes that end in another byte than a line feed
@@ -98,5 +98,8 @@ ends_in_one_line (Given.Values vs) = inr (as_line (listed (map term_value_text v
 ends_in_one_line (Given.Model fs) = inr (as_line (listed (map function_text fs)) (closed_list (map function_text fs)))
 ends_in_one_line (Given.Assertions ts) = inr (as_line (listed (map tokens_text ts)) (closed_list (map tokens_text ts)))
 ends_in_one_line (Given.Assignment vs) = inr (as_line (listed (map named_truth_text vs)) (closed_list (map named_truth_text vs)))
+ends_in_one_line (Given.UnsatCore ns) = inr (as_line (listed (map symbol_text ns)) (closed_list (map symbol_text ns)))
+ends_in_one_line (Given.UnsatAssumptions ts) = inr (as_line (listed (map tokens_text ts)) (closed_list (map tokens_text ts)))
+ends_in_one_line (Given.Minimum n) = inr (as_line (listed (codes "minimum" ∷ integer_text n ∷ [])) (closed_list (codes "minimum" ∷ integer_text n ∷ [])))
 ends_in_one_line (Given.Error e) =
     inr (as_line (listed (codes "error" ∷ literal (error_text e) ∷ [])) (closed_list (codes "error" ∷ literal (error_text e) ∷ [])))

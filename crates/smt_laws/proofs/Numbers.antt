@@ -9,12 +9,12 @@ use Rattle.smt_meaning.specs.declared.options.Channel.TheVariants.{Stdout, Stder
 use Rattle.smt_meaning.specs.declared.options.OptionName.{OptionName}
 use Rattle.smt_meaning.specs.declared.options.OptionName.TheVariants as Named
 use Rattle.smt_meaning.specs.declared.options.OptionSetting.{OptionSetting}
-use Rattle.smt_meaning.specs.declared.options.OptionSetting.TheVariants.{PrintSuccess, RegularOutputChannel, DiagnosticOutputChannel, Verbosity, ReproducibleResourceLimit, RandomSeed, ProduceModels, ProduceAssertions, InteractiveMode, ProduceAssignments, GlobalDeclarations}
+use Rattle.smt_meaning.specs.declared.options.OptionSetting.TheVariants.{PrintSuccess, RegularOutputChannel, DiagnosticOutputChannel, Verbosity, ReproducibleResourceLimit, RandomSeed, ProduceModels, ProduceAssertions, InteractiveMode, ProduceAssignments, GlobalDeclarations, ProduceUnsatCores, ProduceUnsatAssumptions}
 use Rattle.smt_meaning.specs.declared.options.InfoName.{InfoName}
 use Rattle.smt_meaning.specs.declared.commands.WrittenSort.{WrittenSort}
 use Rattle.smt_meaning.specs.declared.commands.Parameter.{Parameter}
 use Rattle.smt_meaning.specs.declared.commands.Command.{Command}
-use Rattle.smt_meaning.specs.declared.commands.Command.TheVariants.{SetOption, Exit, Reset, ResetAssertions, DeclareSort, CheckSat, Push, Pop, GetModel, GetAssertions, GetAssignment, LeftOut}
+use Rattle.smt_meaning.specs.declared.commands.Command.TheVariants.{SetOption, Exit, Reset, ResetAssertions, DeclareSort, CheckSat, Push, Pop, GetModel, GetAssertions, GetAssignment, GetUnsatCore, GetUnsatAssumptions, Minimize, LeftOut}
 use Rattle.smt_meaning.specs.Sexp.{Sexp, Sexps, word, group, end, ◌▸◌}
 use Rattle.smt_meaning.specs.Signature.{look_up}
 use Rattle.smt_meaning.specs.Sorts.{decimal, is_small}
@@ -74,6 +74,8 @@ setting_good Named.ProduceAssertions x = truth_setting_good ProduceAssertions (�
 setting_good Named.InteractiveMode x = truth_setting_good InteractiveMode (λ b. tt) x
 setting_good Named.ProduceAssignments x = truth_setting_good ProduceAssignments (λ b. tt) x
 setting_good Named.GlobalDeclarations x = truth_setting_good GlobalDeclarations (λ b. tt) x
+setting_good Named.ProduceUnsatCores x = truth_setting_good ProduceUnsatCores (λ b. tt) x
+setting_good Named.ProduceUnsatAssumptions x = truth_setting_good ProduceUnsatAssumptions (λ b. tt) x
 
 setting_of_good : (o : Option OptionName) (x : Sexp) → Good (setting_of o x)
 setting_of_good None x = tt
@@ -232,7 +234,7 @@ forms_good = (
                                               bare_good GetAssignment tt,
                                               (
                                                 λ ss. tt,
-                                                (λ ss. tt, (λ ss. tt, (λ ss. tt, (λ ss. tt, (λ ss. tt, (λ ss. tt, tt)))))),
+                                                (bare_good GetUnsatCore tt, (bare_good GetUnsatAssumptions tt, (λ ss. tt, (λ ss. tt, (λ ss. tt, (λ ss. tt, tt)))))),
                                               ),
                                             ),
                                           ),

@@ -19,7 +19,7 @@ not_commands : wrong_replies
     ∷ says_so "(bar)" "(error \"E7 unknown command: bar\")\n"
     ∷ says_so "(|a b|)" "(error \"E7 unknown command: |a b|\")\n"
     ∷ says_so "(|let| x)" "(error \"E7 unknown command: |let|\")\n"
-    ∷ says_so "(minimize x)" "(error \"E7 unknown command: minimize\")\n"
+    ∷ says_so "(maximize x)" "(error \"E7 unknown command: maximize\")\n"
     ∷ says_so "(|check-sat| 1)" "(error \"E8 wrong arguments: check-sat\")\n" ∷ [])
     ≡ []
 unfolding text_rest mark_rest quoted_rest lexeme comment_rest is_word_byte is_symbol_byte is_printable word_token ◌>>=◌ ◌>>◌ return refuse require required the_scope note found declare judge_body judged digits command effect symbol_text text

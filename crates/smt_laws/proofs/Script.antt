@@ -1,6 +1,6 @@
 -- Scripts as they are written, and the bytes that answer them, for the examples.
 use Prim.Native.String.{String}
-use Rattle.std.specs.Prelude.{ℕ, pos, List, [], ◌∷◌, ◌++◌, Result, Ok, Err, bytes_eq, codes, if◌then◌else◌}
+use Rattle.std.specs.Prelude.{ℕ, ℤ, pos, List, [], ◌∷◌, ◌++◌, Result, Ok, Err, bytes_eq, codes, if◌then◌else◌}
 use Rattle.smt_meaning.specs.declared.tokens.Token.{Token}
 use Rattle.smt_meaning.specs.declared.values.Table.{Table}
 use Rattle.smt_meaning.specs.declared.settings.Settings.{Settings}
@@ -10,10 +10,12 @@ use Rattle.smt_meaning.specs.declared.answers.Mode.TheVariants as In
 use Rattle.smt_meaning.specs.declared.answers.Reply.{Reply}
 use Rattle.smt_meaning.specs.declared.answers.Reply.TheVariants as Given
 use Rattle.smt_meaning.specs.declared.reports.Report.{Report}
+use Rattle.smt_meaning.specs.declared.replies.Held.{Held}
 use Rattle.smt_meaning.specs.Reading.{Lexeme, token, lexeme}
 use Rattle.smt_meaning.specs.Sexp.{Sexps, end, ◌▸◌, open_lists_of}
 use Rattle.smt_meaning.specs.Command.{command}
-use Rattle.smt_meaning.specs.State.{State, Effect, denied, left_out, accepted, answered, checked, effect, start}
+use Rattle.smt_meaning.specs.State.{State, Candidates, Effect, denied, left_out, accepted, answered, checked, minimizes, reduces, effect, start}
+use Rattle.smt_meaning.specs.Core.{core_reply}
 use Rattle.smt_meaning.specs.Report.{reason_of}
 use Rattle.smt_meaning.specs.MayReply.{success}
 use Rattle.smt_meaning.specs.Text.{text}
@@ -44,6 +46,8 @@ pub data Found : Type 0 where
   a_model : (i : List Table) → Found
   no_model : Found
   no_answer : (rs : List Report) → Found
+  a_minimum : (v : ℤ) (i : List Table) → Found
+  a_core : (held : List Held) → Found
 
 -- the state that a script has come to, what its next checks find, and the bytes of the replies so far
 pub record Run : Type 0 where
@@ -59,10 +63,20 @@ abbrev pub says : Run → Reply → State → Run
 says r reply s = record r { state = s; written = r.written ++ text reply }
 
 abbrev pub decides : Run → State → List Found → Run
+decides r s (a_minimum v i ∷ rest) = r
+decides r s (a_core hs ∷ rest) = r
 decides r s [] = r
 decides r s (a_model i ∷ rest) = record { state = record s { mode = In.Sat i }; found = rest; written = r.written ++ text Given.Sat }
 decides r s (no_answer rs ∷ rest) = record { state = record s { mode = In.Unknown (reason_of rs) }; found = rest; written = r.written ++ text Given.Unknown }
 decides r s (no_model ∷ rest) = record { state = record s { mode = In.Unsat }; found = rest; written = r.written ++ text Given.Unsat }
+
+abbrev pub minimum_of : Run → State → List Found → Run
+minimum_of r s (a_minimum v i ∷ rest) = record { state = record s { mode = In.Sat i }; found = rest; written = r.written ++ text (Given.Minimum v) }
+minimum_of r s found = decides r s found
+
+abbrev pub core_of : Run → Candidates → List Found → Run
+core_of r among (a_core hs ∷ rest) = record { state = r.state; found = rest; written = r.written ++ text (core_reply among r.state hs) }
+core_of r among found = r
 
 abbrev pub comes : Run → Effect → Run
 comes r (denied e) = says r (Given.Error e) r.state
@@ -70,6 +84,8 @@ comes r left_out = says r Given.Unsupported r.state
 comes r (accepted s) = says r (success s) s
 comes r (answered reply s) = says r reply s
 comes r (checked s) = decides r s r.found
+comes r (minimizes text t s) = minimum_of r s r.found
+comes r (reduces among) = core_of r among r.found
 
 abbrev pub runs : Run → Sexps → Run
 runs r end = r

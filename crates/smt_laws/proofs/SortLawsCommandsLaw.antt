@@ -11,12 +11,12 @@ use Rattle.smt_meaning.specs.Term.{Tree, node, none}
 use Rattle.smt_meaning.specs.Sexp.{sexp}
 use Rattle.smt_meaning.specs.Signature.{is_symbol}
 use Rattle.smt_meaning.specs.Sorts.{Scope, Outcome, done, refused, Judging, ◌>>◌, return, declare, Typed, Variable, judge}
-use Rattle.smt_meaning.specs.StackCommand.{Change, declares, asserts, sets, clears, begins_again, is_unsupported, judge_sort, judge_sorts, new_sort_name, new_function_name, sort_declaration, function_declaration, declare_new_sort, declare_sort, define_sort, declare_function, judge_parameters, Bodied, apart, in_body, judge_body, sorts_of_variables, define_function, require_room, in_assert, assert_term, in_question, judge_terms, judge_questions, ask_terms, assume_terms, stack_command}
+use Rattle.smt_meaning.specs.StackCommand.{Change, declares, asserts, sets, clears, begins_again, is_unsupported, judge_sort, judge_sorts, new_sort_name, new_function_name, sort_declaration, function_declaration, declare_new_sort, declare_sort, define_sort, declare_function, judge_parameters, Bodied, apart, in_body, judge_body, sorts_of_variables, define_function, require_room, in_assert, assert_term, in_question, judge_terms, judge_questions, ask_terms, assume_terms, minimize_term, stack_command}
 use Rattle.smt_meaning.specs.declared.commands.WrittenSort.{WrittenSort}
 use Rattle.smt_meaning.specs.declared.commands.WrittenSort.TheVariants.{Name, Applied}
 use Rattle.smt_meaning.specs.declared.commands.Parameter.{Parameter}
 use Rattle.smt_meaning.specs.declared.commands.Command.{Command}
-use Rattle.smt_meaning.specs.declared.commands.Command.TheVariants.{SetOption, DeclareSort, DefineSort, DeclareConst, DeclareFun, DefineFun, Assert, CheckSatAssuming, Push, Pop, GetValue, ResetAssertions, Reset}
+use Rattle.smt_meaning.specs.declared.commands.Command.TheVariants.{SetOption, DeclareSort, DefineSort, DeclareConst, DeclareFun, DefineFun, Assert, CheckSatAssuming, Push, Pop, GetValue, ResetAssertions, Reset, Minimize}
 use Rattle.smt_laws.proofs.Among.{Among, among_first, among_rest}
 use Rattle.smt_laws.proofs.PlacesLaw.{place_sort, HasSort, sort_later}
 use Rattle.smt_laws.proofs.Signatures.{sort_eq-sound, Usable, Good, symbol_usable, defined_usable}
@@ -209,6 +209,14 @@ assume_gives level ts s g =
     (λ a u d m l. next_gives Declaring u _ _ _ Plain (room_gives Declaring u)
     (λ b v h i p. next_gives Declaring v _ _ _ Plain (require_gives Declaring v _ _) (λ c w j o q. return_gives Declaring w _ Plain tt))))
 
+minimize_gives : (level : ℕ) (t : List Token) (s : Scope) → Good s.given s.signature → Gives Declaring s (minimize_term level t) Plain
+minimize_gives level t s g =
+    bind_gives Declaring s _ _ Nothing Plain (unnamed s _ (Fine []) (judge_gives in_question [] (λ e. refl) [] (sexp t) s g tt))
+    (λ a u f e k. next_gives Declaring u _ _ _ Plain (require_gives Declaring u _ _)
+    (λ b v d m l. scope_then Declaring v _ Plain
+    (next_gives Declaring v _ _ _ Plain (require_gives Declaring v _ _)
+    (λ c w h i p. next_gives Declaring w _ _ _ Plain (require_gives Declaring w _ _) (λ x y j o q. return_gives Declaring y _ Plain tt)))))
+
 -- ---- each command
 
 abbrev pub KeepsIfSome : Option (ℕ → Judging Change) → Type 0
@@ -236,4 +244,5 @@ command_keeps (Push n) = λ level s g. plain s _ (next_gives Declaring s _ _ _ P
 command_keeps (Pop n) = λ level s g. plain s _ (next_gives Declaring s _ _ _ Plain (require_gives Declaring s _ _) (λ a t f e k. return_gives Declaring t _ Plain tt))
 command_keeps ResetAssertions = λ level s g. plain s _ (return_gives Declaring s clears Plain tt)
 command_keeps Reset = λ level s g. plain s _ (return_gives Declaring s begins_again Plain tt)
+command_keeps (Minimize t) = λ level s g. plain s _ (minimize_gives level t s g)
 command_keeps _ = tt

@@ -44,7 +44,7 @@ on_elements = record { symbol = 3; rows = record { arguments = Element 0 ∷ [];
 
 option_values : wrong_replies
     (says_so "(get-option :print-success)(get-option :regular-output-channel)(get-option :diagnostic-output-channel)(get-option :verbosity)(get-option :reproducible-resource-limit)(get-option :random-seed)(get-option :produce-models)(get-option :produce-assertions)(get-option :interactive-mode)" "true\n\"stdout\"\n\"stderr\"\n0\n0\n0\nfalse\nfalse\nfalse\n"
-    ∷ says_so "(get-option :unknown)(get-option :produce-proofs)(get-option :produce-unsat-cores)" "unsupported\nunsupported\nunsupported\n"
+    ∷ says_so "(get-option :unknown)(get-option :produce-proofs)(get-option :produce-unsat-cores)(get-option :produce-unsat-assumptions)" "unsupported\nunsupported\nfalse\nfalse\n"
     ∷ says_so "(set-option :print-success true)(set-option :print-success false)(get-option :print-success)(set-option :print-success true)" "success\nfalse\nsuccess\n"
     ∷ quiet "(set-option :verbosity 12)(set-option :diagnostic-output-channel \"stdout\")(set-option :regular-output-channel \"stdout\")(set-option :reproducible-resource-limit 7)(set-option :random-seed 0)(set-option :produce-models true)(set-option :interactive-mode true)(get-option :verbosity)(get-option :diagnostic-output-channel)(get-option :regular-output-channel)(get-option :reproducible-resource-limit)(get-option :random-seed)(get-option :produce-models)(get-option :produce-assertions)(get-option :interactive-mode)" "12\n\"stdout\"\n\"stdout\"\n7\n0\ntrue\ntrue\ntrue\n"
     ∷ quiet "(set-option :interactive-mode true)(set-option :produce-assertions false)(get-option :interactive-mode)" "false\n"
@@ -69,7 +69,7 @@ echoes = refl
 
 -- what is answered unsupported whatever its arguments
 left_out : wrong_replies
-    (says_so "(get-proof)(get-unsat-core)(get-unsat-assumptions 1)(define-fun-rec f)(define-funs-rec)(declare-datatype)(declare-datatypes 1 2)(set-logic QF_UF)" "unsupported\nunsupported\nunsupported\nunsupported\nunsupported\nunsupported\nunsupported\nsuccess\n" ∷ [])
+    (says_so "(get-proof)(define-fun-rec f)(define-funs-rec)(declare-datatype)(declare-datatypes 1 2)(set-logic QF_UF)" "unsupported\nunsupported\nunsupported\nunsupported\nunsupported\nsuccess\n" ∷ [])
     ≡ []
 unfolding text_rest mark_rest quoted_rest lexeme comment_rest is_word_byte is_symbol_byte is_printable word_token ◌>>=◌ ◌>>◌ return refuse require required the_scope note found declare judge_body judged digits command effect symbol_text text
 left_out = refl

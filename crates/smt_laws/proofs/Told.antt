@@ -1,22 +1,23 @@
 -- What a command comes to is no error that changes the state, and one reply where it is no check.
-use Rattle.std.proofs.Common.{◌≡◌, ◌≢◌, ◌∙◌, ℕ, Bool, true, false, List, refl, ap, sym, subst, Option, Some, None, Result, Ok, Err}
+use Rattle.std.proofs.Common.{◌≡◌, ◌≢◌, ◌∙◌, ℕ, Bool, true, false, List, [], ◌∷◌, refl, ap, sym, subst, Option, Some, None, Result, Ok, Err}
 use Rattle.std.specs.Prelude.{MatchBool, flat_map, if◌then◌else◌, codes}
 use Rattle.smt_meaning.specs.declared.tokens.Token.{Token}
 use Rattle.smt_meaning.specs.declared.values.Table.{Table}
 use Rattle.smt_meaning.specs.declared.errors.Error.{Error}
-use Rattle.smt_meaning.specs.declared.errors.Error.TheVariants.{OptionTooLate, OptionIsOff, ValueTooLarge}
+use Rattle.smt_meaning.specs.declared.errors.Error.TheVariants.{OptionTooLate, OptionIsOff, ValueTooLarge, NotUnsat}
 use Rattle.smt_meaning.specs.declared.options.OptionName.{OptionName}
-use Rattle.smt_meaning.specs.declared.options.OptionName.TheVariants.{ProduceModels, ProduceAssertions, ProduceAssignments}
+use Rattle.smt_meaning.specs.declared.options.OptionName.TheVariants.{ProduceModels, ProduceAssertions, ProduceAssignments, ProduceUnsatCores, ProduceUnsatAssumptions}
 use Rattle.smt_meaning.specs.declared.options.OptionSetting.{OptionSetting}
 use Rattle.smt_meaning.specs.declared.options.InfoName.{InfoName}
 use Rattle.smt_meaning.specs.declared.options.InfoName.TheVariants as Asked
 use Rattle.smt_meaning.specs.declared.commands.Command.{Command}
-use Rattle.smt_meaning.specs.declared.commands.Command.TheVariants.{SetLogic, SetOption, GetOption, SetInfo, GetInfo, Echo, Exit, Reset, ResetAssertions, DeclareSort, DefineSort, DeclareConst, DeclareFun, DefineFun, Assert, CheckSat, CheckSatAssuming, Push, Pop, GetValue, GetModel, GetAssertions, GetAssignment, LeftOut}
+use Rattle.smt_meaning.specs.declared.commands.Command.TheVariants.{SetLogic, SetOption, GetOption, SetInfo, GetInfo, Echo, Exit, Reset, ResetAssertions, DeclareSort, DefineSort, DeclareConst, DeclareFun, DefineFun, Assert, CheckSat, CheckSatAssuming, Push, Pop, GetValue, GetModel, GetAssertions, GetAssignment, GetUnsatCore, GetUnsatAssumptions, Minimize, LeftOut}
 use Rattle.smt_meaning.specs.declared.answers.Mode.{Mode}
 use Rattle.smt_meaning.specs.declared.answers.Mode.TheVariants as In
 use Rattle.smt_meaning.specs.declared.answers.Reply.{Reply}
 use Rattle.smt_meaning.specs.declared.answers.Reply.TheVariants as Given
 use Rattle.smt_meaning.specs.declared.replies.Kept.{Kept}
+use Rattle.smt_meaning.specs.Term.{Tree}
 use Rattle.smt_meaning.specs.Sexp.{sexp}
 use Rattle.smt_meaning.specs.Signature.{is_one_of}
 use Rattle.smt_meaning.specs.Interpretation.{meaning}
@@ -25,9 +26,9 @@ use Rattle.smt_meaning.specs.Sorts.{Outcome, done, refused, Judging}
 use Rattle.smt_meaning.specs.StackCommand.{Change, declares, asserts, pushes, pops, clears, begins_again, is_unsupported, asks, assumes, sets, stack_command, judged, changed}
 use Rattle.smt_meaning.specs.Command.{command}
 use Rattle.smt_meaning.specs.State
-use Rattle.smt_meaning.specs.State.{checked_frames, Effect, denied, left_out, accepted, answered, checked, effect, provided, set_logic, set_option_in, with_option, start_option, reason_unknown, get_info, stack_effect, on_stack, get_value, judged_values, valued, get_model, get_assertions, get_assignment, kept_model, check_assuming, assuming, logics, is_start, asserting, with_logic, all_fit, term_values, printed_functions, named_truths, named_fit, texts_of}
-use Rattle.smt_meaning.specs.MayReply.{Decided, IsExactly, MayCome, MayDecide, MayReply, MayReplyTo, Replies, success}
-use Rattle.smt_laws.specs.LanguageLaws.{HasOneReply, ChangesNothing}
+use Rattle.smt_meaning.specs.State.{checked_frames, Effect, denied, left_out, accepted, answered, checked, minimizes, reduces, named, assumed, minimize, minimizing, is_unsat, effect, provided, set_logic, set_option_in, with_option, start_option, reason_unknown, get_info, stack_effect, on_stack, get_value, judged_values, valued, get_model, get_assertions, get_assignment, kept_model, check_assuming, assuming, logics, is_start, asserting, with_logic, all_fit, term_values, printed_functions, named_truths, named_fit, texts_of}
+use Rattle.smt_meaning.specs.MayReply.{Decided, IsExactly, MayCome, MayDecide, MayMinimize, MayReply, MayReplyTo, Replies, success}
+use Rattle.smt_laws.specs.LanguageLaws.{HasOneReply, ChangesNothing, is_search}
 
 -- a reply that tells something
 abbrev is_answer : Reply → Bool
@@ -47,11 +48,8 @@ is_told b left_out = true
 is_told b (accepted s) = true
 is_told b (answered r s) = is_answer r
 is_told b (checked s) = b
-
-abbrev is_check : Command → Bool
-is_check CheckSat = true
-is_check (CheckSatAssuming ts) = true
-is_check _ = false
+is_told b (minimizes text t s) = b
+is_told b (reduces among) = b
 
 provided_told : (b x : Bool) (e : Error) (f : Effect) → is_told b f ≡ true → is_told b (provided x e f) ≡ true
 provided_told b true e f h = h
@@ -155,7 +153,26 @@ check_assuming_told : (s : State.State) (c : Option (ℕ → Judging Change)) �
 check_assuming_told s None = refl
 check_assuming_told s (Some c) = assuming_told s (judged c s.stack)
 
-effect_told : (s : State.State) (c : Command) → is_told (is_check c) (effect s c) ≡ true
+minimizing_told : (s : State.State) (t : List Token) (o : Outcome Change) → is_told true (minimizing s t o) ≡ true
+minimizing_told s t (refused r) = refl
+minimizing_told s t (done (asks []) c) = refl
+minimizing_told s t (done (asks (a ∷ [])) c) = refl
+minimizing_told s t (done (asks (a ∷ b ∷ rest)) c) = refl
+minimizing_told s t (done (assumes xs) c) = refl
+minimizing_told s t (done declares c) = refl
+minimizing_told s t (done (asserts a) c) = refl
+minimizing_told s t (done (pushes k) c) = refl
+minimizing_told s t (done (pops k) c) = refl
+minimizing_told s t (done (sets x) c) = refl
+minimizing_told s t (done clears c) = refl
+minimizing_told s t (done begins_again c) = refl
+minimizing_told s t (done is_unsupported c) = refl
+
+minimize_told : (s : State.State) (t : List Token) (c : Option (ℕ → Judging Change)) → is_told true (minimize s t c) ≡ true
+minimize_told s t None = refl
+minimize_told s t (Some c) = minimizing_told s t (judged c s.stack)
+
+effect_told : (s : State.State) (c : Command) → is_told (is_search c) (effect s c) ≡ true
 unfolding effect
 effect_told s (SetLogic n) = set_logic_told false s n s.logic
 effect_told s (SetOption o) = set_option_told false s o (start_option o)
@@ -182,14 +199,16 @@ effect_told s GetAssertions =
     provided_told false s.options.produce_assertions (OptionIsOff ProduceAssertions)
     (answered (Given.Assertions (flat_map texts_of s.stack.frames)) (with_logic s)) refl
 effect_told s GetAssignment = get_assignment_told false s (kept_model s.mode)
+effect_told s GetUnsatCore =
+    provided_told true (is_unsat s.mode) NotUnsat (provided s.options.produce_unsat_cores (OptionIsOff ProduceUnsatCores) (reduces named))
+    (provided_told true s.options.produce_unsat_cores (OptionIsOff ProduceUnsatCores) (reduces named) refl)
+effect_told s GetUnsatAssumptions =
+    provided_told true (is_unsat s.mode) NotUnsat (provided s.options.produce_unsat_assumptions (OptionIsOff ProduceUnsatAssumptions) (reduces assumed))
+    (provided_told true s.options.produce_unsat_assumptions (OptionIsOff ProduceUnsatAssumptions) (reduces assumed) refl)
+effect_told s (Minimize t) = refl
 effect_told s LeftOut = refl
 
 -- ---- one reply
-
-not_check : (c : Command) → c ≢ CheckSat → ((ts : List (List Token)) → c ≢ CheckSatAssuming ts) → is_check c ≡ false
-not_check CheckSat h k = absurd (h refl)
-not_check (CheckSatAssuming ts) h k = absurd (k ts refl)
-not_check c h k = refl
 
 abbrev only_false : Bool → Type 0
 only_false true = ⊥
@@ -210,11 +229,13 @@ one_of decided old left_out h = record { reply = Given.Unsupported; new = old; m
 one_of decided old (accepted t) h = record { reply = success t; new = t; may = λ r kept s i. i; only = λ r kept s i. i }
 one_of decided old (answered a t) h = record { reply = a; new = t; may = λ r kept s i. i; only = λ r kept s i. i }
 one_of decided old (checked t) h = false_true h
+one_of decided old (minimizes text t s) h = false_true h
+one_of decided old (reduces among) h = false_true h
 
-pub one : (decided : Decided) (old : State.State) (c : Command) → c ≢ CheckSat → ((ts : List (List Token)) → c ≢ CheckSatAssuming ts) → HasOneReply decided old c
+pub one : (decided : Decided) (old : State.State) (c : Command) → is_search c ≡ false → HasOneReply decided old c
 unfolding MayReply
-one decided old c h k =
-    let o = one_of decided old (effect old c) (sym (ap (λ b. is_told b (effect old c)) (not_check c h k)) ∙ effect_told old c) in
+one decided old c h =
+    let o = one_of decided old (effect old c) (sym (ap (λ b. is_told b (effect old c)) h) ∙ effect_told old c) in
     record { reply = o.reply; new = o.new; may = o.may; only = o.only }
 
 -- ---- nothing changes
@@ -225,6 +246,8 @@ told_at_all b left_out h = refl
 told_at_all b (accepted s) h = refl
 told_at_all b (answered r s) h = h
 told_at_all b (checked s) h = refl
+told_at_all b (minimizes text t s) h = refl
+told_at_all b (reduces among) h = refl
 
 abbrev is_success : Reply → Bool
 is_success Given.Success = true
@@ -237,32 +260,35 @@ success_is false = refl
 
 -- a reply that neither tells something nor is a success
 changes_nothing : (decided : Decided) (old : State.State) (f : Effect) → is_told true f ≡ true → (r : Reply) → is_answer r ≡ false → is_success r ≡ false
-    → ((s : State.State) (kept : Kept) (new : State.State) → MayDecide s r kept new → ⊥) → (kept : Kept) (new : State.State) → MayCome decided old f r kept new → new ≡ old
-changes_nothing decided old (denied e) h r a b u kept new i = i.new_is
-changes_nothing decided old left_out h r a b u kept new i = i.new_is
-changes_nothing decided old (accepted s) h r a b u kept new i = false_true (sym b ∙ ap is_success i.reply_is ∙ success_is s.options.print_success)
-changes_nothing decided old (answered t s) h r a b u kept new i = false_true (sym a ∙ ap is_answer i.reply_is ∙ h)
-changes_nothing decided old (checked s) h r a b u kept new i = in_check (decided (checked_frames s)) i
+    → ((s : State.State) (kept : Kept) (new : State.State) → MayDecide s r kept new → ⊥)
+    → ((s : State.State) (text : List Token) (t : Tree) (kept : Kept) (new : State.State) → MayMinimize s text t r kept new → ⊥) → (kept : Kept) (new : State.State) → MayCome decided old f r kept new → new ≡ old
+changes_nothing decided old (denied e) h r a b u m kept new i = i.new_is
+changes_nothing decided old left_out h r a b u m kept new i = i.new_is
+changes_nothing decided old (accepted s) h r a b u m kept new i = false_true (sym b ∙ ap is_success i.reply_is ∙ success_is s.options.print_success)
+changes_nothing decided old (answered t s) h r a b u m kept new i = false_true (sym a ∙ ap is_answer i.reply_is ∙ h)
+changes_nothing decided old (minimizes text t s) h r a b u m kept new i = absurd (m s text t kept new i)
+changes_nothing decided old (reduces among) h r a b u m kept new i = i.4
+changes_nothing decided old (checked s) h r a b u m kept new i = in_check (decided (checked_frames s)) i
   where
     in_check : (x : Bool) → MatchBool x (MayDecide s r kept new) (IsExactly Given.Unsupported old r kept new) → new ≡ old
     in_check true j = absurd (u s kept new j)
     in_check false j = j.new_is
 
 told : (old : State.State) (c : Command) → is_told true (effect old c) ≡ true
-told old c = told_at_all (is_check c) (effect old c) (effect_told old c)
+told old c = told_at_all (is_search c) (effect old c) (effect_told old c)
 
 after_error : (decided : Decided) (old : State.State) (c : Result Command Error) (e : Error) (kept : Kept) (new : State.State)
     → MayReplyTo decided old c (Given.Error e) kept new → new ≡ old
 unfolding MayReply
 after_error decided old (Ok c) e kept new i =
-    changes_nothing decided old (effect old c) (told old c) (Given.Error e) refl refl (λ s k n j. j) kept new i
+    changes_nothing decided old (effect old c) (told old c) (Given.Error e) refl refl (λ s k n j. j) (λ s x t k n j. j) kept new i
 after_error decided old (Err d) e kept new i = i.new_is
 
 after_unsupported : (decided : Decided) (old : State.State) (c : Result Command Error) (kept : Kept) (new : State.State)
     → MayReplyTo decided old c Given.Unsupported kept new → new ≡ old
 unfolding MayReply
 after_unsupported decided old (Ok c) kept new i =
-    changes_nothing decided old (effect old c) (told old c) Given.Unsupported refl refl (λ s k n j. j) kept new i
+    changes_nothing decided old (effect old c) (told old c) Given.Unsupported refl refl (λ s k n j. j) (λ s x t k n j. j) kept new i
 after_unsupported decided old (Err d) kept new i = i.new_is
 
 pub unchanged : (decided : Decided) (old : State.State) (ts : List Token) (kept : Kept) (new : State.State) → ChangesNothing decided old ts kept new

@@ -1,11 +1,11 @@
 -- Laws of the definitions of commands and replies.
-use Rattle.std.specs.Prelude.{◌≡◌, ◌≢◌, ◌⊎◌, ℕ, List, [], ◌∷◌, ◌++◌, map, ℤ, pos, IsTrue, Option, Some, None, Ok}
+use Rattle.std.specs.Prelude.{◌≡◌, ◌≢◌, ◌⊎◌, ℕ, Bool, true, false, List, [], ◌∷◌, ◌++◌, map, ℤ, pos, IsTrue, Option, Some, None, Ok}
 use Rattle.smt_meaning.specs.declared.tokens.Token.{Token}
 use Rattle.smt_meaning.specs.declared.errors.Error.{Error as ErrorReply}
 use Rattle.smt_meaning.specs.declared.commands.Command.{Command}
 use Rattle.smt_meaning.specs.declared.options.OptionSetting.{OptionSetting}
 use Rattle.smt_meaning.specs.declared.options.OptionSetting.TheVariants.{Verbosity, ReproducibleResourceLimit, RandomSeed}
-use Rattle.smt_meaning.specs.declared.commands.Command.TheVariants.{SetOption, DeclareSort, Assert, CheckSat, CheckSatAssuming, Push, Pop}
+use Rattle.smt_meaning.specs.declared.commands.Command.TheVariants.{SetOption, DeclareSort, Assert, CheckSat, CheckSatAssuming, GetUnsatCore, GetUnsatAssumptions, Minimize, Push, Pop}
 use Rattle.smt_meaning.specs.declared.settings.Settings.{Settings}
 use Rattle.smt_meaning.specs.declared.answers.Entry.{Entry}
 use Rattle.smt_meaning.specs.declared.answers.Mode.{Mode}
@@ -30,9 +30,18 @@ pub record HasOneReply (decided : Decided) (old : State) (c : Command) : Type 0 
   pub may : (r : Reply) (kept : Kept) (s : State) → IsExactly reply new r kept s → MayReply decided old c r kept s
   pub only : (r : Reply) (kept : Kept) (s : State) → MayReply decided old c r kept s → IsExactly reply new r kept s
 
--- a command that is no check has one reply
+-- a check, and a question for a least value or for a core
+abbrev pub is_search : Command → Bool
+is_search CheckSat = true
+is_search (CheckSatAssuming ts) = true
+is_search (Minimize t) = true
+is_search GetUnsatCore = true
+is_search GetUnsatAssumptions = true
+is_search _ = false
+
+-- all other commands have one reply
 abbrev pub OneReply : Type 0
-OneReply = (decided : Decided) (old : State) (c : Command) → c ≢ CheckSat → ((ts : List (List Token)) → c ≢ CheckSatAssuming ts) → HasOneReply decided old c
+OneReply = (decided : Decided) (old : State) (c : Command) → is_search c ≡ false → HasOneReply decided old c
 
 -- an error and `unsupported` change nothing
 pub record ChangesNothing (decided : Decided) (old : State) (ts : List Token) (kept : Kept) (new : State) : Type 0 where

@@ -1,6 +1,7 @@
 pub mod TermLaws
 pub mod SortLaws
 pub mod ClauseLaws
+pub mod KindLaws
 pub mod LanguageLaws
 pub mod Flat
 pub mod Numerals
@@ -11,3 +12,4 @@ pub mod Uses
 pub mod Again
 pub mod Form
 pub mod Todo
+pub mod ProofLaws

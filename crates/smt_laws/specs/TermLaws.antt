@@ -1,5 +1,5 @@
 -- Laws of the definitions of terms.
-use Rattle.std.specs.Prelude.{◌≡◌, ℕ, ◌≤◌, List, [], map, Some, IsTrue, Contains, true}
+use Rattle.std.specs.Prelude.{◌≡◌, ℕ, ◌≤◌, List, [], ◌++◌, map, Some, IsTrue, Contains, true}
 use Rattle.smt_meaning.specs.declared.values.Sort.{Sort}
 use Rattle.smt_meaning.specs.declared.values.Value.{Value}
 use Rattle.smt_meaning.specs.declared.values.Table.{Table}
@@ -70,6 +70,16 @@ NoIdTwice = (cs : List Command) → HasNoIdTwice (signature_of (after_all start 
 -- the test for equal trees is true exactly where they are one tree
 abbrev pub TreeEqualityDecides : Type 0
 TreeEqualityDecides = (t u : Tree) → (tree_eq t u ≡ true → t ≡ u) × (t ≡ u → tree_eq t u ≡ true)
+
+-- trees joined the list at its end; and whatever joins it later, the term is judged alike again and adds none
+pub record IsJudgedAgain (vs : List Variable) (x : Sexp) (s t : Scope) (a : Typed) : Type 0 where
+  pub joined : List Tree
+  pub grown : t ≡ record s { trees = s.trees ++ joined }
+  pub again : (later : List Tree) → judge in_question vs x (record t { trees = t.trees ++ later }) ≡ done a (record t { trees = t.trees ++ later })
+
+-- so it is with each term that is accepted as a question
+abbrev pub JudgedAgain : Type 0
+JudgedAgain = (vs : List Variable) (x : Sexp) (s t : Scope) (a : Typed) → judge in_question vs x s ≡ done a t → IsJudgedAgain vs x s t a
 
 -- a term that is accepted as a question is accepted alike in an assertion
 abbrev pub QuestionsAreAssertions : Type 0

@@ -1,7 +1,7 @@
 //! Laws of the definitions of commands, replies and their texts, each as the contract of a function that does nothing.
 ghost use Rattle.smt_laws.specs.LanguageLaws.{AssumptionsAreALevel, AssumptionsAreCommands, AssumptionsGo, ModeHolds, NumbersAreWritten, OneReply, RefusalChangesNothing, TextEndsInOneLine};
 
-/// Where a command is no check, without assumptions or with, exactly one reply may be given, and one state be left.
+/// Where a command is no check, without assumptions or with, and no question for a least value or a core, exactly one reply may be given, and one state be left.
 pub fn one_reply()
     ensures { OneReply }
 {}

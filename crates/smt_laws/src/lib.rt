@@ -32,10 +32,15 @@
 //! pop to its level, at greater levels and with more terms. A resolvent follows at the greater
 //! level; an empty clause that follows shows that there is no model.
 //!
+//! Of kinds: where each assertion is propositional, no part of one is an Int.
+//!
 //! Of linear terms: whatever commands came, the terms on a stack are linear, with their leaves
 //! among its terms and numerals in the range. A linear term has the value of its linear form, which
 //! is in the range where its numerals are and its folding stays there; a normal bound has the value
 //! of the bound over whole numbers.
+//!
+//! Of proofs: an interpretation that makes the assertions true that a proof names makes each of its
+//! clauses true; so where a good proof stands, the assertions that it names have no model.
 //!
 //! Of places and names: a tree is found again at its place; a name that is given to a term stands
 //! for the term, and its use judges again just the terms that were judged in it.
@@ -47,8 +52,10 @@
 
 mod clauses;
 mod flat;
+mod kinds;
 mod language;
 mod linear;
+mod proof;
 mod sorts;
 mod terms;
 mod walk;
@@ -60,6 +67,7 @@ pub use clauses::{
     still_follows_with_trees, tree_is_found_again,
 };
 pub use flat::flat_says_the_same;
+pub use kinds::propositional_has_no_integers;
 pub use language::{
     assumptions_are_a_level, assumptions_are_commands, assumptions_go, mode_holds,
     numbers_are_written, one_reply, refusal_changes_nothing, text_ends_in_one_line,
@@ -68,14 +76,18 @@ pub use linear::{
     assertions_are_linear, folded_forms_fit, leaves_are_among_the_trees, leaves_are_parts,
     numerals_are_in_range, placed_forms_fit, trees_are_linear,
 };
+pub use proof::{
+    good_proof_leaves_no_model, named_assertions_have_no_model, proof_clauses_are_true,
+};
 pub use sorts::{
     accepted_term_has_its_sort, assertions_are_truths, assertions_are_truths_at_their_levels,
     parts_are_among_the_trees, sorts_are_the_same_below, symbols_are_declared, trees_are_in_order,
 };
 pub use terms::{
-    body_has_the_terms_value, no_id_twice, questions_are_assertions, s_expressions_read_back,
-    tables_interpret, tokens_read_back, tree_equality_decides, tree_has_the_terms_value,
-    trees_are_s_expressions, value_depends_on_symbols, value_has_its_sort,
+    body_has_the_terms_value, judged_again, no_id_twice, questions_are_assertions,
+    s_expressions_read_back, tables_interpret, tokens_read_back, tree_equality_decides,
+    tree_has_the_terms_value, trees_are_s_expressions, value_depends_on_symbols,
+    value_has_its_sort,
 };
 pub use walk::{
     annotation_form_is_read, annotation_form_stays, closed_trees_stay, definitions_are_noted_once,

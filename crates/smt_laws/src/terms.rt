@@ -1,5 +1,5 @@
 //! Laws of the definitions of terms, each as the contract of a function that does nothing.
-ghost use Rattle.smt_laws.specs.TermLaws.{BodyHasTheTermsValue, NoIdTwice, QuestionsAreAssertions, SExprsReadBack, SexpsAreSExprs, TablesInterpret, TokensReadBack, TreeEqualityDecides, TreeHasTheTermsValue, ValueDependsOnSymbols, ValueHasItsSort};
+ghost use Rattle.smt_laws.specs.TermLaws.{BodyHasTheTermsValue, JudgedAgain, NoIdTwice, QuestionsAreAssertions, SExprsReadBack, SexpsAreSExprs, TablesInterpret, TokensReadBack, TreeEqualityDecides, TreeHasTheTermsValue, ValueDependsOnSymbols, ValueHasItsSort};
 
 /// A term that has a sort has a value of that sort, under each interpretation of the signature.
 pub fn value_has_its_sort()
@@ -54,4 +54,9 @@ pub fn tree_equality_decides()
 /// A term that is accepted where a question may stand is accepted in an assertion, with the same tree, and changes the scope alike.
 pub fn questions_are_assertions()
     ensures { QuestionsAreAssertions }
+{}
+
+/// A term that was judged as a question is judged alike again, whatever trees joined the list meanwhile, and adds none.
+pub fn judged_again()
+    ensures { JudgedAgain }
 {}

@@ -10,14 +10,14 @@ use Rattle.smt_meaning.specs.declared.options.Channel.TheVariants.{Stdout, Stder
 use Rattle.smt_meaning.specs.declared.options.OptionName.{OptionName}
 use Rattle.smt_meaning.specs.declared.options.OptionName.TheVariants as Named
 use Rattle.smt_meaning.specs.declared.options.OptionSetting.{OptionSetting}
-use Rattle.smt_meaning.specs.declared.options.OptionSetting.TheVariants.{PrintSuccess, RegularOutputChannel, DiagnosticOutputChannel, Verbosity, ReproducibleResourceLimit, RandomSeed, ProduceModels, ProduceAssertions, InteractiveMode, ProduceAssignments, GlobalDeclarations}
+use Rattle.smt_meaning.specs.declared.options.OptionSetting.TheVariants.{PrintSuccess, RegularOutputChannel, DiagnosticOutputChannel, Verbosity, ReproducibleResourceLimit, RandomSeed, ProduceModels, ProduceAssertions, InteractiveMode, ProduceAssignments, GlobalDeclarations, ProduceUnsatCores, ProduceUnsatAssumptions}
 use Rattle.smt_meaning.specs.declared.options.InfoName.{InfoName}
 use Rattle.smt_meaning.specs.declared.options.InfoName.TheVariants.{Name as NameInfo, Version, Authors, ErrorBehavior, AssertionStackLevels, ReasonUnknown}
 use Rattle.smt_meaning.specs.declared.commands.WrittenSort.{WrittenSort}
 use Rattle.smt_meaning.specs.declared.commands.WrittenSort.TheVariants.{Name, Applied}
 use Rattle.smt_meaning.specs.declared.commands.Parameter.{Parameter}
 use Rattle.smt_meaning.specs.declared.commands.Command.{Command}
-use Rattle.smt_meaning.specs.declared.commands.Command.TheVariants.{SetLogic, SetOption, GetOption, SetInfo, GetInfo, Echo, Exit, Reset, ResetAssertions, DeclareSort, DefineSort, DeclareConst, DeclareFun, DefineFun, Assert, CheckSat, CheckSatAssuming, Push, Pop, GetValue, GetModel, GetAssertions, GetAssignment, LeftOut}
+use Rattle.smt_meaning.specs.declared.commands.Command.TheVariants.{SetLogic, SetOption, GetOption, SetInfo, GetInfo, Echo, Exit, Reset, ResetAssertions, DeclareSort, DefineSort, DeclareConst, DeclareFun, DefineFun, Assert, CheckSat, CheckSatAssuming, Push, Pop, GetValue, GetModel, GetAssertions, GetAssignment, GetUnsatCore, GetUnsatAssumptions, LeftOut}
 use Rattle.smt_meaning.specs.Sexp.{Sexp, Sexps, word, group, end, ◌▸◌, tokens}
 use Rattle.smt_meaning.specs.Signature.{look_up}
 use Rattle.smt_meaning.specs.Sorts.{decimal, is_small}
@@ -81,6 +81,8 @@ option_word Named.ProduceAssertions = codes "produce-assertions"
 option_word Named.InteractiveMode = codes "interactive-mode"
 option_word Named.ProduceAssignments = codes "produce-assignments"
 option_word Named.GlobalDeclarations = codes "global-declarations"
+option_word Named.ProduceUnsatCores = codes "produce-unsat-cores"
+option_word Named.ProduceUnsatAssumptions = codes "produce-unsat-assumptions"
 
 abbrev pub with_word : OptionName → List ℕ × OptionName
 with_word o = (option_word o, o)
@@ -89,7 +91,7 @@ abbrev pub option_names : List (List ℕ × OptionName)
 option_names =
     map with_word (Named.PrintSuccess ∷ Named.RegularOutputChannel ∷ Named.DiagnosticOutputChannel ∷ Named.Verbosity
     ∷ Named.ReproducibleResourceLimit ∷ Named.RandomSeed ∷ Named.ProduceModels ∷ Named.ProduceAssertions ∷ Named.InteractiveMode
-    ∷ Named.ProduceAssignments ∷ Named.GlobalDeclarations ∷ [])
+    ∷ Named.ProduceAssignments ∷ Named.GlobalDeclarations ∷ Named.ProduceUnsatCores ∷ Named.ProduceUnsatAssumptions ∷ [])
 
 -- the symbol true or false
 abbrev pub truth_setting : (Bool → OptionSetting) → Sexp → Result Command Refusal
@@ -127,6 +129,8 @@ setting Named.ProduceAssertions = truth_setting ProduceAssertions
 setting Named.InteractiveMode = truth_setting InteractiveMode
 setting Named.ProduceAssignments = truth_setting ProduceAssignments
 setting Named.GlobalDeclarations = truth_setting GlobalDeclarations
+setting Named.ProduceUnsatCores = truth_setting ProduceUnsatCores
+setting Named.ProduceUnsatAssumptions = truth_setting ProduceUnsatAssumptions
 
 abbrev pub info_names : List (List ℕ × InfoName)
 info_names =
@@ -251,9 +255,9 @@ check_sat_assuming _ = wrong
 abbrev pub left_out : Form
 left_out ss = Ok LeftOut
 
--- each command's name, and the form of its arguments
-abbrev pub forms : List (List ℕ × Form)
-forms =
+-- the standard's commands: each one's name, and the form of its arguments
+abbrev pub standard_forms : List (List ℕ × Form)
+standard_forms =
     (codes "set-logic", set_logic) ∷ (codes "set-option", set_option) ∷ (codes "get-option", get_option)
     ∷ (codes "set-info", set_info) ∷ (codes "get-info", get_info) ∷ (codes "echo", echo)
     ∷ (codes "exit", bare Exit) ∷ (codes "reset", bare Reset) ∷ (codes "reset-assertions", bare ResetAssertions)
@@ -262,8 +266,12 @@ forms =
     ∷ (codes "check-sat", bare CheckSat) ∷ (codes "push", levels Push) ∷ (codes "pop", levels Pop)
     ∷ (codes "get-value", get_value) ∷ (codes "get-model", bare GetModel) ∷ (codes "get-assertions", bare GetAssertions)
     ∷ (codes "check-sat-assuming", check_sat_assuming) ∷ (codes "get-assignment", bare GetAssignment) ∷ (codes "get-proof", left_out)
-    ∷ (codes "get-unsat-core", left_out) ∷ (codes "get-unsat-assumptions", left_out) ∷ (codes "define-fun-rec", left_out)
+    ∷ (codes "get-unsat-core", bare GetUnsatCore) ∷ (codes "get-unsat-assumptions", bare GetUnsatAssumptions) ∷ (codes "define-fun-rec", left_out)
     ∷ (codes "define-funs-rec", left_out) ∷ (codes "declare-datatype", left_out) ∷ (codes "declare-datatypes", left_out) ∷ []
+
+-- so far there are no others
+abbrev pub forms : List (List ℕ × Form)
+forms = standard_forms
 
 -- ---- s-expressions
 

@@ -1,5 +1,5 @@
 -- Which replies a command may get, and what it leaves (SMT-LIB 2.6, sections 4.1 and 4.2).
-use Rattle.std.specs.Prelude.{◌≡◌, Bool, List, Result, Ok, Err, All, IsTrue, MatchBool, if◌then◌else◌}
+use Rattle.std.specs.Prelude.{◌≡◌, Bool, List, Result, Ok, Err, MatchBool, if◌then◌else◌}
 use Rattle.smt_meaning.specs.declared.tokens.Token.{Token}
 use Rattle.smt_meaning.specs.declared.values.Table.{Table}
 use Rattle.smt_meaning.specs.declared.errors.Error.{Error}
@@ -8,28 +8,23 @@ use Rattle.smt_meaning.specs.declared.answers.Mode.TheVariants as In
 use Rattle.smt_meaning.specs.declared.answers.Reply.{Reply}
 use Rattle.smt_meaning.specs.declared.answers.Reply.TheVariants as Given
 use Rattle.smt_meaning.specs.declared.replies.Kept.{Kept}
-use Rattle.smt_meaning.specs.declared.replies.Kept.TheVariants.{Nothing, Model, Reports}
+use Rattle.smt_meaning.specs.declared.replies.Kept.TheVariants.{Nothing, Model, Reports, Core, Best as KeptBest}
+use Rattle.smt_meaning.specs.declared.replies.Held.{Held}
+use Rattle.smt_meaning.specs.declared.replies.Best.{Best}
 use Rattle.smt_meaning.specs.declared.reports.Report.{Report}
-use Rattle.smt_meaning.specs.Term.{Tree, Interpretation, fits}
-use Rattle.smt_meaning.specs.Interpretation.{meaning, AreTablesFor}
-use Rattle.smt_meaning.specs.Stack.{Frame, signature_of, assertions_of, Holds, HasNoModel}
+use Rattle.smt_meaning.specs.Term.{Tree}
+use Rattle.smt_meaning.specs.Stack.{Frame, HasNoModel}
 use Rattle.smt_meaning.specs.Report.{AreReports, deciding_workers, reason_of}
 use Rattle.smt_meaning.specs.Sexp.{sexp}
 use Rattle.smt_meaning.specs.Command.{command}
-use Rattle.smt_meaning.specs.State.{State, checked_frames, Effect, denied, left_out, accepted, answered, checked, effect}
+use Rattle.smt_meaning.specs.State.{State, Candidates, checked_frames, Effect, denied, left_out, accepted, answered, checked, minimizes, reduces, effect}
+pub use Rattle.smt_meaning.specs.Model.{Fits, IsModel}
+use Rattle.smt_meaning.specs.Core.{IsCore, core_reply}
+use Rattle.smt_meaning.specs.Least.{IsMinimum, IsBest}
 
 -- the stacks of which checks are decided
 abbrev pub Decided : Type 0
 Decided = List Frame → Bool
-
-abbrev pub Fits : Interpretation → Tree → Type 0
-Fits I t = IsTrue (fits I t)
-
--- the tables make every assertion true, and every number on the way is in the range
-pub record IsModel (frames : List Frame) (i : List Table) : Type 0 where
-  pub tables : AreTablesFor (signature_of frames) i
-  pub holds : Holds (meaning i) frames
-  pub fits : All (Fits (meaning i)) (assertions_of frames)
 
 -- what may be answered to a check that is decided: of the stack's levels, and that of the assumptions above them
 abbrev pub MayDecide : State → Reply → Kept → State → Type 0
@@ -47,6 +42,21 @@ pub record IsExactly (should : Reply) (state : State) (reply : Reply) (kept : Ke
   pub kept_is : kept ≡ Nothing
   pub new_is : new ≡ state
 
+-- what may be answered to the question for a least value in this state: the least value, or that the stack has no model, or the best that was found
+abbrev pub MayMinimize : State → List Token → Tree → Reply → Kept → State → Type 0
+MayMinimize s text t (Given.Minimum v) kept new =
+    (i : List Table) × (kept ≡ Model i) × IsMinimum s.stack.frames text t v i × (new ≡ record s { mode = In.Sat i })
+MayMinimize s text t Given.Unsat kept new = (kept ≡ Nothing) × HasNoModel s.stack.frames × (new ≡ record s { mode = In.Unsat })
+MayMinimize s text t Given.Unknown kept new =
+    (b : Best) × (kept ≡ KeptBest b)
+    × IsBest s.stack.trees s.stack.frames s.options.reproducible_resource_limit text t b
+    × (new ≡ record s { mode = In.Unknown (reason_of b.reports) })
+MayMinimize s text t _ kept new = ⊥
+
+-- what may be answered to the question for a core: the candidates that are held
+abbrev pub MayReduce : Candidates → State → Reply → Kept → State → Type 0
+MayReduce among s reply kept new = (hs : List Held) × (kept ≡ Core hs) × IsCore among s hs × (reply ≡ core_reply among s hs) × (new ≡ s)
+
 -- success, where it is printed in the state after the command
 abbrev pub success : State → Reply
 success new = if new.options.print_success then Given.Success else Given.Silent
@@ -58,6 +68,8 @@ MayCome decided old (accepted s) reply kept new = IsExactly (success s) s reply 
 MayCome decided old (answered r s) reply kept new = IsExactly r s reply kept new
 MayCome decided old (checked s) reply kept new =
     MatchBool (decided (checked_frames s)) (MayDecide s reply kept new) (IsExactly Given.Unsupported old reply kept new)
+MayCome decided old (minimizes text t s) reply kept new = MayMinimize s text t reply kept new
+MayCome decided old (reduces among) reply kept new = MayReduce among old reply kept new
 
 -- in the old state the command may be answered so, and leave the new state
 unfoldable pub MayReply : Decided → State → Command → Reply → Kept → State → Type 0

@@ -240,6 +240,10 @@ Completes n single = n ≡ 0
 abbrev pub IsSExpr : List Token → Type 0
 IsSExpr tokens = (front : List Shape) × (n : ℕ) × (last : Shape) × (shapes tokens ≡ front ++ last ∷ []) × Opens 0 front n × Completes n last
 
+-- Inside a list the tokens are an s-expression too.
+abbrev pub IsInner : List Token → Type 0
+IsInner tokens = IsSExpr (Enter ∷ (tokens ++ Leave ∷ []))
+
 -- Reading
 
 -- What comes first in an input: an s-expression, a fault at a place, or its end.

@@ -12,7 +12,7 @@ use Rattle.smt_meaning.specs.declared.commands.Parameter.{Parameter}
 use Rattle.smt_meaning.specs.declared.options.OptionSetting.{OptionSetting}
 use Rattle.smt_meaning.specs.declared.options.OptionSetting.TheVariants.{GlobalDeclarations}
 use Rattle.smt_meaning.specs.declared.commands.Command.{Command}
-use Rattle.smt_meaning.specs.declared.commands.Command.TheVariants.{SetOption, DeclareSort, DefineSort, DeclareConst, DeclareFun, DefineFun, Assert, CheckSatAssuming, Push, Pop, GetValue, ResetAssertions, Reset}
+use Rattle.smt_meaning.specs.declared.commands.Command.TheVariants.{SetOption, DeclareSort, DefineSort, DeclareConst, DeclareFun, DefineFun, Assert, CheckSatAssuming, Push, Pop, GetValue, ResetAssertions, Reset, Minimize}
 use Rattle.smt_meaning.specs.Declaration.{Declaration, Body}
 use Rattle.smt_meaning.specs.Term.{Tree, node, none, int_eq}
 use Rattle.smt_meaning.specs.Sexp.{sexp}
@@ -237,6 +237,22 @@ assume_terms level ts = do
   require (nat_lt level most_levels) TooManyLevels
   return (assumes (assertions_from ts terms))
 
+-- ---- least values
+
+-- how many terms more than the goal's there must be room for: those of what is asked of it
+abbrev pub asked_terms : ℕ
+asked_terms = 8
+
+-- a term of sort Int, for which there is room in one more level
+abbrev pub minimize_term : ℕ → List Token → Judging Change
+minimize_term level t = do
+  a ← judge in_question [] (sexp t)
+  require (sort_eq a.sort Ints) (SortsDiffer (codes "minimize"))
+  s ← the_scope
+  require (nat_le (length s.trees + asked_terms) most_terms) TooManyTerms
+  require (nat_lt level most_levels) TooManyLevels
+  return (asks (a ∷ []))
+
 -- ---- moves
 
 abbrev pub push_levels : ℕ → ℕ → Judging Change
@@ -267,6 +283,7 @@ stack_command (DefineFun n ps s t) = Some (λ level. define_function n ps s t)
 stack_command (Assert t) = Some (λ level. assert_term t)
 stack_command (GetValue ts) = Some (λ level. ask_terms ts)
 stack_command (CheckSatAssuming ts) = Some (λ level. assume_terms level ts)
+stack_command (Minimize t) = Some (λ level. minimize_term level t)
 -- the number of a command is never below 0
 stack_command (Push n) = Some (λ level. push_levels level (unsigned_abs n))
 stack_command (Pop n) = Some (λ level. pop_levels level (unsigned_abs n))

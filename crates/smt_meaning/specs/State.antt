@@ -10,7 +10,7 @@ use Rattle.smt_meaning.specs.declared.settings.Settings.{Settings}
 use Rattle.smt_meaning.specs.declared.tokens.Token.{Token}
 use Rattle.smt_meaning.specs.Declaration.{Declaration, Body}
 use Rattle.smt_meaning.specs.declared.errors.Error.{Error}
-use Rattle.smt_meaning.specs.declared.errors.Error.TheVariants.{NoUnknownAnswer, LogicAlreadySet, OptionTooLate, NoModel, OptionIsOff, ValueTooLarge, Refused}
+use Rattle.smt_meaning.specs.declared.errors.Error.TheVariants.{NoUnknownAnswer, LogicAlreadySet, OptionTooLate, NoModel, NotUnsat, OptionIsOff, ValueTooLarge, Refused}
 use Rattle.smt_meaning.specs.declared.options.Channel.{Channel}
 use Rattle.smt_meaning.specs.declared.options.Channel.TheVariants.{Stdout, Stderr}
 use Rattle.smt_meaning.specs.declared.options.Options.{Options}
@@ -24,7 +24,7 @@ use Rattle.smt_meaning.specs.declared.options.InfoName.{InfoName}
 use Rattle.smt_meaning.specs.declared.options.InfoName.TheVariants as Asked
 use Rattle.smt_meaning.specs.declared.options.Info.TheVariants.{Name, Version, Authors, ErrorBehavior, AssertionStackLevels, ReasonUnknown}
 use Rattle.smt_meaning.specs.declared.commands.Command.{Command}
-use Rattle.smt_meaning.specs.declared.commands.Command.TheVariants.{SetLogic, SetOption, GetOption, SetInfo, GetInfo, Echo, Exit, Reset, ResetAssertions, DeclareSort, DefineSort, DeclareConst, DeclareFun, DefineFun, Assert, CheckSat, CheckSatAssuming, Push, Pop, GetValue, GetModel, GetAssertions, GetAssignment, LeftOut}
+use Rattle.smt_meaning.specs.declared.commands.Command.TheVariants.{SetLogic, SetOption, GetOption, SetInfo, GetInfo, Echo, Exit, Reset, ResetAssertions, DeclareSort, DefineSort, DeclareConst, DeclareFun, DefineFun, Assert, CheckSat, CheckSatAssuming, Push, Pop, GetValue, GetModel, GetAssertions, GetAssignment, GetUnsatCore, GetUnsatAssumptions, Minimize, LeftOut}
 use Rattle.smt_meaning.specs.declared.answers.Mode.{Mode}
 use Rattle.smt_meaning.specs.declared.answers.Mode.TheVariants as In
 use Rattle.smt_meaning.specs.declared.answers.PrintedValue.{PrintedValue}
@@ -35,11 +35,12 @@ use Rattle.smt_meaning.specs.declared.answers.PrintedRow.{PrintedRow}
 use Rattle.smt_meaning.specs.declared.answers.PrintedFunction.{PrintedFunction}
 use Rattle.smt_meaning.specs.declared.answers.Reply.{Reply}
 use Rattle.smt_meaning.specs.declared.answers.Reply.TheVariants as Given
-use Rattle.smt_meaning.specs.Term.{Interpretation, value, truth_of, fits}
+use Rattle.smt_meaning.specs.Term.{Tree, Interpretation, value, truth_of, fits}
 use Rattle.smt_meaning.specs.Signature.{is_one_of, is_symbol, sort_eq}
 use Rattle.smt_meaning.specs.Interpretation.{meaning}
 use Rattle.smt_meaning.specs.Sorts.{Outcome, done, refused, Judging, Typed}
 use Rattle.smt_meaning.specs.Stack.{Assertion, Frame, signature_of, depth}
+use Rattle.smt_meaning.specs.Goal.{is_itself}
 use Rattle.smt_meaning.specs.StackCommand.{Stack, Change, declares, asserts, pushes, pops, clears, begins_again, is_unsupported, asks, assumes, sets, stack_command, scope_of, judged, changed}
 use Rattle.smt_meaning.specs.StackCommand as Stacks
 
@@ -70,6 +71,8 @@ options_at_start s =
       produce_models = false;
       produce_assertions = false;
       produce_assignments = false;
+      produce_unsat_cores = false;
+      produce_unsat_assumptions = false;
     }
 
 abbrev pub set : OptionSetting → Options → Options
@@ -83,6 +86,8 @@ set (Set.ProduceModels b) o = record o { produce_models = b }
 set (Set.ProduceAssertions b) o = record o { produce_assertions = b }
 set (Set.InteractiveMode b) o = record o { produce_assertions = b }
 set (Set.ProduceAssignments b) o = record o { produce_assignments = b }
+set (Set.ProduceUnsatCores b) o = record o { produce_unsat_cores = b }
+set (Set.ProduceUnsatAssumptions b) o = record o { produce_unsat_assumptions = b }
 -- it is the stack's
 set (Set.GlobalDeclarations b) o = o
 
@@ -94,6 +99,8 @@ start_option (Set.ProduceAssertions b) = Some Named.ProduceAssertions
 start_option (Set.InteractiveMode b) = Some Named.InteractiveMode
 start_option (Set.ProduceAssignments b) = Some Named.ProduceAssignments
 start_option (Set.GlobalDeclarations b) = Some Named.GlobalDeclarations
+start_option (Set.ProduceUnsatCores b) = Some Named.ProduceUnsatCores
+start_option (Set.ProduceUnsatAssumptions b) = Some Named.ProduceUnsatAssumptions
 start_option _ = None
 
 abbrev pub channel_name : Channel → List ℕ
@@ -113,6 +120,8 @@ option_value o global Named.ProduceAssertions = Shown.Truth o.produce_assertions
 option_value o global Named.InteractiveMode = Shown.Truth o.produce_assertions
 option_value o global Named.ProduceAssignments = Shown.Truth o.produce_assignments
 option_value o global Named.GlobalDeclarations = Shown.Truth global
+option_value o global Named.ProduceUnsatCores = Shown.Truth o.produce_unsat_cores
+option_value o global Named.ProduceUnsatAssumptions = Shown.Truth o.produce_unsat_assumptions
 
 -- ---- the start, and logics
 
@@ -208,6 +217,13 @@ named_fit I (d ∷ ds) = if is_truth_name d then body_fits I d.body && named_fit
 abbrev pub texts_of : Frame → List (List Token)
 texts_of f = map (λ (a : Assertion). a.text) f.asserted
 
+-- which assertions a core is taken from
+pub data Candidates : Type 0 where
+  -- those of the stack that have a name; all others stay
+  named : Candidates
+  -- the assumptions of the last check; those of the stack stay
+  assumed : Candidates
+
 -- ---- what a command comes to
 
 pub data Effect : Type 0 where
@@ -221,6 +237,10 @@ pub data Effect : Type 0 where
   answered : (reply : Reply) (new : State) → Effect
   -- a check of this state: of its stack, and what stands above
   checked : (new : State) → Effect
+  -- the least value of a term, as it is written and as a tree, in this state, above whose stack (= t t) stands
+  minimizes : (text : List Token) (goal : Tree) (new : State) → Effect
+  -- a core of the last check, among these of its assertions; nothing changes
+  reduces : (among : Candidates) → Effect
 
 -- in the mode of assertions
 abbrev pub asserting : State → State
@@ -341,6 +361,33 @@ abbrev pub check_assuming : State → Option (ℕ → Judging Change) → Effect
 check_assuming s None = left_out
 check_assuming s (Some c) = assuming s (judged c s.stack)
 
+-- ---- least values
+
+-- (= t t) stands above the stack, as for a check that assumes it; the goal's trees alone join the list
+abbrev pub minimizing : State → List Token → Outcome Change → Effect
+minimizing s t (refused r) = denied (Refused (codes "minimize") r)
+minimizing s t (done (asks (a ∷ [])) c) =
+    minimizes t a.tree (record (with_logic s) { stack = changed s.stack (asks (a ∷ [])) c; above = frame_of (is_itself t a.tree ∷ []) ∷ [] })
+-- nothing else comes of it
+minimizing s t (done _ c) = left_out
+
+abbrev pub minimize : State → List Token → Option (ℕ → Judging Change) → Effect
+minimize s t None = left_out
+minimize s t (Some c) = minimizing s t (judged c s.stack)
+
+-- ---- cores
+
+abbrev pub is_unsat : Mode → Bool
+is_unsat In.Unsat = true
+is_unsat _ = false
+
+abbrev pub get_unsat_core : State → Effect
+get_unsat_core s = provided (is_unsat s.mode) NotUnsat (provided s.options.produce_unsat_cores (OptionIsOff Named.ProduceUnsatCores) (reduces named))
+
+abbrev pub get_unsat_assumptions : State → Effect
+get_unsat_assumptions s =
+    provided (is_unsat s.mode) NotUnsat (provided s.options.produce_unsat_assumptions (OptionIsOff Named.ProduceUnsatAssumptions) (reduces assumed))
+
 -- ---- commands
 
 unfoldable pub effect : State → Command → Effect
@@ -367,4 +414,8 @@ effect s (GetValue ts) = get_value s ts (kept_model s.mode)
 effect s GetModel = get_model s (kept_model s.mode)
 effect s GetAssertions = get_assertions s
 effect s GetAssignment = get_assignment s (kept_model s.mode)
+effect s GetUnsatCore = get_unsat_core s
+effect s GetUnsatAssumptions = get_unsat_assumptions s
+-- no s-expression is this command so far
+effect s (Minimize t) = left_out
 effect s LeftOut = left_out

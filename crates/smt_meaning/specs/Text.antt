@@ -26,7 +26,7 @@ use Rattle.smt_meaning.specs.declared.answers.Reply.TheVariants as Given
 use Rattle.smt_meaning.specs.Reading.{is_simple_symbol, reserved_word, spelling}
 use Rattle.smt_meaning.specs.Sexp.{Sexp, Sexps, word, group, end, ◌▸◌, sexp}
 use Rattle.smt_meaning.specs.Signature.{is_one_of, is_some}
-use Rattle.smt_meaning.specs.Command.{Form, forms, option_word}
+use Rattle.smt_meaning.specs.Command.{Form, standard_forms, option_word}
 
 -- ---- lists
 
@@ -44,7 +44,7 @@ listed ts = 40 ∷ (spaced ts ++ 41 ∷ [])
 -- the standard's further reserved words: five, and the names of commands
 abbrev pub further_reserved_words : List (List ℕ)
 further_reserved_words =
-    codes "BINARY" ∷ codes "DECIMAL" ∷ codes "HEXADECIMAL" ∷ codes "NUMERAL" ∷ codes "STRING" ∷ map (λ (p : List ℕ × Form). p.0) forms
+    codes "BINARY" ∷ codes "DECIMAL" ∷ codes "HEXADECIMAL" ∷ codes "NUMERAL" ∷ codes "STRING" ∷ map (λ (p : List ℕ × Form). p.0) standard_forms
 
 abbrev pub is_plain : List ℕ → Bool
 is_plain n = is_simple_symbol n && not (is_some (reserved_word n)) && not (is_one_of n further_reserved_words)
@@ -224,4 +224,7 @@ text (Given.Values vs) = line (listed (map term_value_text vs))
 text (Given.Model fs) = line (listed (map function_text fs))
 text (Given.Assertions ts) = line (listed (map tokens_text ts))
 text (Given.Assignment vs) = line (listed (map named_truth_text vs))
+text (Given.UnsatCore ns) = line (listed (map symbol_text ns))
+text (Given.UnsatAssumptions ts) = line (listed (map tokens_text ts))
+text (Given.Minimum n) = line (listed (codes "minimum" ∷ integer_text n ∷ []))
 text (Given.Error e) = line (listed (codes "error" ∷ literal (error_text e) ∷ []))

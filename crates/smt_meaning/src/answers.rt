@@ -65,6 +65,11 @@ pub enum Reply {
     Model(Seq<PrintedFunction>),
     Assertions(Seq<SExpr>),
     Assignment(Seq<NamedTruth>),
+    /// The names of assertions.
+    UnsatCore(Seq<Bytes>),
+    UnsatAssumptions(Seq<SExpr>),
+    /// The least value of a term.
+    Minimum(i128),
     Error(Error),
 }
 

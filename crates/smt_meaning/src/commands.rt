@@ -1,7 +1,7 @@
 //! Commands, as they are read from an s-expression alone (SMT-LIB 2.6, section 4.2).
 use crate::options::{InfoName, OptionName, OptionSetting};
 use crate::seq::{Bytes, Seq};
-use crate::tokens::SExpr;
+use crate::tokens::{Inner, SExpr};
 
 /// A sort as it is written.
 #[derive(Drop)]
@@ -61,6 +61,10 @@ pub enum Command {
     GetModel,
     GetAssertions,
     GetAssignment,
+    GetUnsatCore,
+    GetUnsatAssumptions,
+    /// `(minimize term)`, a command of this project's own.
+    Minimize(Inner),
     /// A command of the standard, an option, an output channel or a piece of information that is left out: it is answered `unsupported`.
     LeftOut,
 }

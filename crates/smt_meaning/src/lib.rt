@@ -5,7 +5,10 @@
 //!
 //! `SExpr`, `Tokens`, `TokenView`: an s-expression is seen as its list of tokens, whose parentheses
 //! match, and kept as flat lists of bytes, kinds and ends. A token at a place is a view into them;
-//! a part or a copy is a list of its own. `push` adds exactly the token or changes nothing.
+//! a part or a copy is a list of its own. `push` adds exactly the token or changes nothing. `Inner`
+//! is one that may stand in a list.
+//!
+//! `Proof`, `Step`: what a proof says that the assertions have no model; `IsGood` is what makes it one.
 //!
 //! `Seq`, `Terms`, `Declaration`, `Body`: small lists whose value is a list, and a declaration or
 //! definition as the record that the definitions speak of.
@@ -19,6 +22,7 @@ mod errors;
 mod kinds;
 mod nodes;
 mod options;
+mod proof;
 mod refusals;
 mod replies;
 mod reports;
@@ -31,13 +35,14 @@ mod values;
 pub use clauses::{Atom, AtomId, Clause, ClauseId, Literal, Sum, Summand};
 pub use declarations::{Body, Declaration, Rank};
 pub use nodes::{Layer, Node, Terms};
+pub use proof::{Proof, Step, StepId, Weighted};
 pub use refusals::Refusal;
-pub use replies::Kept;
+pub use replies::{Best, Held, Kept, Reason};
 pub use reports::{Cause, RangeSeen, Report, Unit};
 pub use seq::{Bytes, Seq};
 pub use settings::Settings;
 pub use terms::{Head, Operator, TermId};
-pub use tokens::{FaultKind, SExpr, Token, TokenView, Tokens, Word};
+pub use tokens::{FaultKind, Inner, SExpr, Token, TokenView, Tokens, Word};
 pub use values::{Interp, Row, Sort, SymId, Table, Value};
 
 /// The commands and replies of the language.

@@ -25,6 +25,8 @@ pub enum OptionName {
     InteractiveMode,
     ProduceAssignments,
     GlobalDeclarations,
+    ProduceUnsatCores,
+    ProduceUnsatAssumptions,
 }
 
 /// An option with the value that it is to have.
@@ -42,6 +44,8 @@ pub enum OptionSetting {
     InteractiveMode(bool),
     ProduceAssignments(bool),
     GlobalDeclarations(bool),
+    ProduceUnsatCores(bool),
+    ProduceUnsatAssumptions(bool),
 }
 
 /// The options' values. The regular channel is always `"stdout"`, and the stack knows whether declarations are global.
@@ -56,6 +60,8 @@ pub struct Options {
     /// `:produce-assertions`, which `:interactive-mode` names too.
     pub produce_assertions: bool,
     pub produce_assignments: bool,
+    pub produce_unsat_cores: bool,
+    pub produce_unsat_assumptions: bool,
 }
 
 /// What `get-option` answers.

@@ -3,7 +3,7 @@
 ghost use Rattle.std.specs.Prelude.{◌≡◌, ◌+◌, ◌<◌, ◌≤◌, [], ◌∷◌, ◌++◌, Some, drop, length, slice_get, slice_index_or, slice_range, vec_len, OnOk, OnErr, IfOk};
 ghost use Rattle.std.specs.Vec.{vec_capacity};
 ghost use Rattle.smt_meaning.specs.declared.tokens.Token.{Token};
-ghost use Rattle.smt_meaning.specs.Reading.{IsSExpr};
+ghost use Rattle.smt_meaning.specs.Reading.{IsInner, IsSExpr};
 ghost use Rattle.smt_meaning.specs.Seen.{seen};
 ghost use Rattle.smt_meaning.specs.Flat.{start_from};
 
@@ -323,6 +323,43 @@ impl SExpr {
         ensures { IfOk result (λ s. s ≡ self.now) }
     {
         self.part(alloc, 0, self.len())
+    }
+}
+
+/// An s-expression that may stand in a list: with parentheses around it it is one too.
+#[derive(Drop)]
+pub struct Inner {
+    sexpr: SExpr,
+}
+
+impl Model for Inner {
+    ghost use Rattle.std.specs.Prelude.{List};
+    ghost use Rattle.smt_meaning.specs.declared.tokens.Token.{Token};
+
+    ghost Value = { List Token };
+
+    ghost use Rattle.smt_meaning.specs.Reading.{IsInner};
+
+    ghost view = { λ s. s.sexpr };
+
+    ghost invariant = { λ s. IsInner s.sexpr };
+}
+
+impl Inner {
+    /// Of an s-expression that may.
+    pub fn new(sexpr: SExpr) -> Self
+        requires { IsInner sexpr }
+        ensures { result ≡ sexpr }
+    {
+        Inner { sexpr }
+    }
+
+    /// The s-expression.
+    pub fn sexpr(&self) -> &SExpr
+        ensures same { result.now ≡ self.now }
+        ensures inner { IsInner self.now }
+    {
+        &self.sexpr
     }
 }
 

@@ -36,7 +36,7 @@ impl<'s> Combined<'s> {
     ghost use Rattle.std.specs.Prelude.{◌≡◌, [], None, IfOk, IfErr};
     ghost use Rattle.fraction128.specs.Lines.{first_basis};
     ghost use Rattle.search_port.specs.Pivots.{AreBasic};
-    ghost use Rattle.stack_atoms.specs.Marks.{AreStackParts};
+    ghost use Rattle.check_atoms.specs.Marks.{AreStackParts};
     ghost use Rattle.check_atoms.specs.OfStack.{AreCheckAtoms};
     ghost use Rattle.linear_forms.specs.Table.{AreForms};
     ghost use Rattle.closure_log.specs.Seen.{state_of};

@@ -38,6 +38,10 @@ pub trait Decider {
         requires { decides stack.now.frames ≡ true }
         ensures { IfOk result (IsVerdict stack.now.trees stack.now.frames settings.now.units) };
 
+    /// It takes every stack: also one without some assertions of another, and one with a level more.
+    fn takes_all(&self)
+        ensures { (frames : List Frame) → decides frames ≡ true };
+
     /// Forgets what it keeps of levels above this one, so that they may go; at -1 all that it keeps. It takes no memory.
     fn cut_to(&mut self, level: i32);
 }

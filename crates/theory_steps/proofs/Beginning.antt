@@ -19,12 +19,12 @@ use Rattle.scope_stack.specs.Facts.{AreSorts}
 use Rattle.scope_stack.specs.Shown.{IsLawful}
 use Rattle.search_port.specs.Valid.{IsOf}
 use Rattle.smt_laws.specs.Flat.{flat, FlatSaysTheSame}
-use Rattle.stack_atoms.specs.Parts.{IsMarked}
-use Rattle.stack_atoms.specs.Marks.{AreStackParts}
+use Rattle.check_atoms.specs.Parts.{IsMarked}
+use Rattle.check_atoms.specs.Marks.{AreStackParts}
 use Rattle.check_atoms.specs.OfStack.{AreCheckAtoms}
 use Rattle.check_atoms.specs.Laws.{AtomsAreFirst}
-use Rattle.check_clauses.specs.Shapes.{AreFlags}
-use Rattle.check_clauses.proofs.Parts as Parts
+use Rattle.first_clauses.specs.Shapes.{AreFlags}
+use Rattle.first_clauses.proofs.Parts as Parts
 use Rattle.model_build.specs.Parts.{AreSortedParts}
 use Rattle.closure_log.specs.Seen.{IsOfTerms, IsSetting}
 use Rattle.theory_steps.specs.declared.errors.BoundError.{BoundError}

@@ -22,7 +22,7 @@ use Rattle.smt_meaning.specs.Ranges.{LeavesInPart, LeavesInPair}
 use Rattle.term_store.specs.Terms.{AreDifferent}
 use Rattle.term_store.proofs.PlaceLemmas.{place_of-is}
 use Rattle.smt_laws.specs.Flat.{flat, SaysTheSame, FlatSaysTheSame}
-use Rattle.stack_atoms.proofs.Marking.{part_of_part}
+use Rattle.check_atoms.proofs.Marking.{part_of_part}
 use Rattle.check_atoms.specs.OfStack.{bound_terms}
 use Rattle.linear_forms.specs.Table.{FoldsOutside, IsOutside}
 use Rattle.linear_forms.specs.Differences.{difference_fits, LeavesRangeTogether}

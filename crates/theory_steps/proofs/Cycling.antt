@@ -9,9 +9,9 @@ use Rattle.search_port.specs.State.{IsOpenIn}
 use Rattle.search_port.specs.Calls.{IsConflict}
 use Rattle.search_port.specs.declared.budget.Lemma.{Lemma}
 use Rattle.smt_laws.specs.Flat.{FlatSaysTheSame}
-use Rattle.literal_steps.specs.Implied.{IsPressingLemma}
+use Rattle.congruence.specs.Implied.{IsPressingLemma}
 use Rattle.closure_log.specs.Seen.{state_of, IsSetting}
-use Rattle.difference_clauses.specs.Clauses.{IsBroken, IsImpliedBy}
+use Rattle.difference_logic.specs.Clauses.{IsBroken, IsImpliedBy}
 use Rattle.theory_steps.specs.declared.held.Held.{Held}
 use Rattle.theory_steps.specs.Held.{IsHeld}
 use Rattle.theory_steps.proofs.Holding.{at_one_level}

@@ -6,7 +6,7 @@ use Rattle.smt_meaning.specs.Stack.{signature_of}
 use Rattle.smt_meaning.specs.StackCommand.{Stack}
 use Rattle.search_port.specs.declared.budget.Lemma.{Lemma}
 use Rattle.smt_laws.specs.Flat.{FlatSaysTheSame}
-use Rattle.literal_steps.specs.Implied.{IsPressingLemma}
+use Rattle.congruence.specs.Implied.{IsPressingLemma}
 use Rattle.closure_log.specs.Seen.{state_of, IsSetting}
 use Rattle.bound_log.specs.Implied.{IsImplied}
 use Rattle.theory_steps.specs.declared.held.Held.{Held}

@@ -17,7 +17,7 @@ use Rattle.search_port.specs.Spending.{Spending}
 use Rattle.search_port.specs.Calls.{Goes, IsNoPivot, IsTheoryUnit}
 use Rattle.search_port.specs.Pivots.{pivot_lines, KeepsPivots}
 use Rattle.search_port.specs.declared.budget.Spent.TheVariants.{Numbered}
-use Rattle.atom_numbers.specs.Atoms.{Atoms}
+use Rattle.atom_form.specs.AtomNumbersAtoms.{Atoms}
 use Rattle.bound_log.specs.Told.{State, column_sums}
 use Rattle.bound_log.specs.Growth.{GrowsVariables, KeepsVariables}
 use Rattle.closure_log.specs.Seen.{state_of}

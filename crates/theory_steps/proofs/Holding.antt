@@ -12,7 +12,7 @@ use Rattle.search_port.specs.declared.budget.Cause.TheVariants.{Units, Memory, C
 use Rattle.search_port.specs.declared.theory.Asserted.TheVariants.{Ended as AssertEnded}
 use Rattle.search_port.specs.declared.budget.Lemma.{Lemma}
 use Rattle.smt_laws.specs.Flat.{SaysTheSame, FlatSaysTheSame}
-use Rattle.literal_steps.specs.Clauses.{IsToldAtOneLevel}
+use Rattle.congruence.specs.Clauses.{IsToldAtOneLevel}
 use Rattle.closure_log.specs.Seen.{state_of, IsSetting}
 use Rattle.bound_log.specs.Told.{State}
 use Rattle.bound_log.specs.Atoms.{Knows}

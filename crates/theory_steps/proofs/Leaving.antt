@@ -29,7 +29,7 @@ use Rattle.smt_meaning.specs.Ranges.{HasValue, LeavesInArgument, sum_at}
 use Rattle.term_store.specs.Terms.{tree_with, AreDifferent}
 use Rattle.term_store.proofs.PlaceLemmas.{place_of-is}
 use Rattle.smt_laws.specs.Flat.{flat, FlatSaysTheSame}
-use Rattle.check_clauses.proofs.Parts.{picked_is}
+use Rattle.first_clauses.proofs.Parts.{picked_is}
 use Rattle.model_eval.specs.Walk.{is_marked}
 use Rattle.simplex.specs.Sums.{HaveOwnSums}
 use Rattle.sum_bounds.specs.Bounds.{State, leaf_values}

@@ -6,7 +6,7 @@ use Rattle.smt_meaning.specs.declared.clauses.Atom.{Atom}
 use Rattle.smt_meaning.specs.StackCommand.{Stack}
 use Rattle.search_port.specs.Valid.{IsOf}
 use Rattle.smt_laws.specs.Flat.{flat}
-use Rattle.atom_numbers.specs.Atoms.{Atoms}
+use Rattle.atom_form.specs.AtomNumbersAtoms.{Atoms}
 use Rattle.exact_model.specs.Atoms.{HasMarkedPlaces}
 use Rattle.closure_log.specs.declared.told.ClosureLog.{ClosureLog}
 use Rattle.closure_log.specs.Laws.{StaysTold}

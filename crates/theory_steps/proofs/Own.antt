@@ -5,7 +5,7 @@ use Rattle.std.proofs.lemmas.Bool.{cases_lt}
 use Rattle.std.proofs.lemmas.List.{length-take, get_or-take}
 use Rattle.smt_meaning.specs.declared.clauses.Atom.{Atom}
 use Rattle.smt_meaning.specs.declared.clauses.Atom.TheVariants.{Truth}
-use Rattle.atom_table.specs.Numbers.{AreApart}
+use Rattle.atom_form.specs.AtomTableNumbers.{AreApart}
 use Rattle.search_port.specs.State.{atom_at}
 use Rattle.theory_steps.specs.Numbering.{table_of}
 

@@ -8,7 +8,7 @@ use Rattle.smt_meaning.specs.declared.clauses.Atom.{Atom}
 use Rattle.smt_meaning.specs.declared.clauses.Atom.TheVariants.{Truth, AtMost}
 use Rattle.smt_meaning.specs.Follows.{declared_ids}
 use Rattle.smt_meaning.specs.Stack.{Frame, up_to}
-use Rattle.atom_table.specs.Numbers.{IsAt}
+use Rattle.atom_form.specs.AtomTableNumbers.{IsAt}
 use Rattle.search_port.specs.State.{Reading, atom_at}
 use Rattle.search_port.specs.Valid.{IsOf}
 use Rattle.search_port.specs.Calls.{IsLemma}

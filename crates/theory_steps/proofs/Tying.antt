@@ -16,14 +16,14 @@ use Rattle.smt_meaning.specs.Stack.{signature_of}
 use Rattle.smt_meaning.specs.StackCommand.{Stack}
 use Rattle.smt_laws.specs.TermLaws.{ValueHasItsSort}
 use Rattle.smt_laws.specs.Flat.{FlatSaysTheSame}
-use Rattle.atom_table.specs.Numbers.{IsAt}
-use Rattle.atom_numbers.specs.Atoms.{Atoms}
+use Rattle.atom_form.specs.AtomTableNumbers.{IsAt}
+use Rattle.atom_form.specs.AtomNumbersAtoms.{Atoms}
 use Rattle.search_port.specs.State.{TheoryState, atom_at}
 use Rattle.search_port.specs.Calls.{IsLemma}
 use Rattle.search_port.specs.declared.budget.Lemma.{Lemma}
-use Rattle.literal_steps.specs.Clauses.{IsToldAtOneLevel}
+use Rattle.congruence.specs.Clauses.{IsToldAtOneLevel}
 use Rattle.bound_clauses.specs.Laws.{IsNumber}
-use Rattle.branch_lemmas.specs.Clauses.{AreTied}
+use Rattle.bound_log.specs.Clauses.{AreTied}
 use Rattle.closure_log.specs.Seen.{state_of}
 use Rattle.model_eval.specs.Walk.{is_marked}
 use Rattle.exact_model.specs.Atoms.{HasMarkedPlaces}

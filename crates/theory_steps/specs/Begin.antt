@@ -8,9 +8,9 @@ use Rattle.smt_meaning.specs.declared.clauses.Atom.TheVariants.{Truth as TruthAt
 use Rattle.smt_meaning.specs.Stack.{signature_of}
 use Rattle.smt_meaning.specs.StackCommand.{Stack}
 use Rattle.model_build.specs.Parts.{AreSortedParts}
-use Rattle.atom_numbers.specs.Atoms.{Atoms}
-use Rattle.atom_numbers.specs.declared.atom.NumberedAtom.{NumberedAtom}
-use Rattle.atom_numbers.specs.declared.atom.NumberedAtom.TheVariants.{Truth, Same, Bound}
+use Rattle.atom_form.specs.AtomNumbersAtoms.{Atoms}
+use Rattle.atom_form.specs.declared.atom.NumberedAtom.{NumberedAtom}
+use Rattle.atom_form.specs.declared.atom.NumberedAtom.TheVariants.{Truth, Same, Bound}
 use Rattle.bound_log.specs.Told.{column_sums}
 use Rattle.bound_log.specs.Pending.{plain_grid}
 use Rattle.theory_steps.specs.declared.start.Begun.{Begun}

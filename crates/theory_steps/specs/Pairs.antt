@@ -8,7 +8,7 @@ use Rattle.smt_meaning.specs.Stack.{signature_of}
 use Rattle.smt_meaning.specs.StackCommand.{Stack}
 use Rattle.smt_meaning.specs.Signature.{tree_sort}
 use Rattle.smt_meaning.specs.Term.{Tree, tree_at}
-use Rattle.atom_table.specs.Numbers.{IsAt}
+use Rattle.atom_form.specs.AtomTableNumbers.{IsAt}
 use Rattle.linear_forms.specs.Differences.{Refuses}
 use Rattle.pair_bounds.specs.Pairs.{at_most_fits}
 use Rattle.bound_clauses.specs.Laws.{IsReadable}

@@ -1,7 +1,7 @@
 -- How a search goes on.
 use Rattle.std.specs.Prelude.{ℕ, ◌<◌, List, length, All}
 use Rattle.smt_meaning.specs.declared.clauses.Atom.{Atom}
-use Rattle.atom_table.specs.Numbers.{IsAt}
+use Rattle.atom_form.specs.AtomTableNumbers.{IsAt}
 use Rattle.search_port.specs.State.{Reading, TheoryState}
 use Rattle.search_port.specs.declared.budget.Lemma.{Lemma}
 use Rattle.search_port.specs.Calls.{IsLemma, EndsBy, InferredBy, CheckedBy}

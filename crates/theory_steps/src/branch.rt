@@ -15,7 +15,7 @@ use crate::leaves::is_leaf;
 use crate::numbering::NewBound;
 use crate::parts::{Parts, Progress};
 use crate::step::{Step, go_on_with_bound, stop};
-use atom_numbers::AtomNumbers;
+use atom_form::AtomNumbers;
 use search_port::Budget;
 use smt_laws::flat_says_the_same;
 use smt_meaning::{Summand, TermId};

@@ -2,16 +2,15 @@
 ghost use Rattle.std.specs.Prelude.{◌≡◌, All, OnOk, IfOk, IfSome};
 ghost use Rattle.search_port.specs.Calls.{IsConflict, InferredBy};
 ghost use Rattle.search_port.specs.Spending.{Spending};
-ghost use Rattle.literal_steps.specs.Implied.{IsPressingLemma};
+ghost use Rattle.congruence.specs.Implied.{IsPressingLemma};
 ghost use Rattle.closure_log.specs.Seen.{state_of, IsSetting};
 ghost use Rattle.theory_steps.specs.Held.{IsHeld};
 
 use crate::differences::literal_of;
 use crate::held::Held;
-use atom_numbers::AtomNumbers;
+use atom_form::AtomNumbers;
 use closure_log::{inferred, is_open, keep};
-use difference_clauses::{broken, implied, told_literals};
-use difference_graph::Implied;
+use difference_logic::{ImpliedEdge, broken, implied, told_literals};
 use scope_stack::Stack;
 use search_port::{Cause, Inferred, Lemma};
 use smt_laws::flat_says_the_same;
@@ -72,7 +71,7 @@ fn shown(
     held: &Held,
     stack: &Stack,
     atoms: &AtomNumbers,
-    found: &Implied,
+    found: &ImpliedEdge,
 ) -> Result<Option<Lemma>, AllocError>
     requires setting { IsSetting stack.now atoms.now.atoms }
     requires held { IsHeld stack.now atoms.now.atoms held.now }
@@ -101,7 +100,7 @@ fn add_shown(
     held: &Held,
     stack: &Stack,
     atoms: &AtomNumbers,
-    all: &[Implied],
+    all: &[ImpliedEdge],
 ) -> Result<(), AllocError>
     requires setting { IsSetting stack.now atoms.now.atoms }
     requires held { IsHeld stack.now atoms.now.atoms held.now }

@@ -1,9 +1,8 @@
 //! Differences among what is told, as edges of a graph. It guides a search, and no contract speaks of what it has.
 ghost use Rattle.std.specs.Prelude.{◌<◌, length, IfSome};
 
-use atom_numbers::{AtomNumbers, NumberedAtom};
-use difference_clauses::difference_of;
-use difference_graph::{Asserted, DifferenceGraph, Edge, Implied};
+use atom_form::{AtomNumbers, NumberedAtom};
+use difference_logic::{Asserted, DifferenceGraph, Edge, ImpliedEdge, difference_of};
 use literals::Literal;
 use std::alloc::{AllocError, Global};
 
@@ -164,7 +163,7 @@ impl Differences {
     pub(crate) fn next_implied(
         &mut self,
         alloc: Global,
-    ) -> Result<Option<Vec<Implied>>, AllocError> {
+    ) -> Result<Option<Vec<ImpliedEdge>>, AllocError> {
         if self.seen >= self.graph.len() || !self.graph.looks() {
             return Ok(None);
         }

@@ -11,7 +11,7 @@ ghost use Rattle.bound_log.specs.Growth.{GrowsVariables, IsProper};
 ghost use Rattle.bound_log.specs.Pending.{FailsToTake, FailsToTell};
 ghost use Rattle.theory_steps.specs.Errors.{IsErrorOver, IsErrorAt, seen_of};
 
-use atom_numbers::{AtomNumbers, NumberedAtom};
+use atom_form::{AtomNumbers, NumberedAtom};
 use bound_log::BoundLog;
 use fraction128::Grid;
 use literals::Literal;

@@ -18,7 +18,7 @@ ghost use Rattle.theory_steps.specs.declared.held.Met.TheVariants.{Spent};
 
 use crate::differences::Differences;
 use crate::errors::{BoundError, untold};
-use atom_numbers::AtomNumbers;
+use atom_form::AtomNumbers;
 use bound_log::{BoundLog, Report, Reported};
 use closure_log::{ClosureLog, Guide, Scan, infer};
 use fraction128::{Grid, Line};

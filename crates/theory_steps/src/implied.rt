@@ -3,13 +3,13 @@ ghost use Rattle.std.specs.Prelude.{◌≡◌, ◌<◌, length, IfSome};
 ghost use Rattle.search_port.specs.Calls.{InferredBy};
 ghost use Rattle.search_port.specs.Spending.{Spending};
 ghost use Rattle.search_port.specs.State.{TheoryState};
-ghost use Rattle.literal_steps.specs.Implied.{IsPressingLemma};
+ghost use Rattle.congruence.specs.Implied.{IsPressingLemma};
 ghost use Rattle.bound_log.specs.Growth.{KeepsVariables};
 ghost use Rattle.closure_log.specs.Seen.{state_of, IsSetting};
 ghost use Rattle.theory_steps.specs.Held.{IsHeld};
 
 use crate::held::Held;
-use atom_numbers::AtomNumbers;
+use atom_form::AtomNumbers;
 use closure_log::{inferred, is_open, keep};
 use scope_stack::Stack;
 use search_port::{Cause, Inferred, Lemma};

@@ -9,7 +9,7 @@ ghost use Rattle.theory_steps.specs.Found.{IsFound};
 
 use crate::held::Held;
 use crate::values::values_of;
-use atom_numbers::AtomNumbers;
+use atom_form::AtomNumbers;
 use exact_model::{Verdict, tables_make_true};
 use model_build::{Clash, Given, Modelled, PlaceValues, given_values, model_from};
 use scope_stack::Stack;

@@ -1,6 +1,6 @@
 //! What a search is about, and what it keeps.
 use crate::held::Held;
-use atom_numbers::AtomNumbers;
+use atom_form::AtomNumbers;
 use closure_log::Guide;
 use fraction128::Line;
 use linear_forms::LinearForms;

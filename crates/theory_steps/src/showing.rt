@@ -5,7 +5,7 @@ ghost use Rattle.search_port.specs.Showing.{IsShowing};
 ghost use Rattle.theory_steps.specs.Progress.{full_state, state, IsProgress};
 
 use crate::parts::{Parts, Progress};
-use atom_numbers::{AtomNumbers, NumberedAtom};
+use atom_form::{AtomNumbers, NumberedAtom};
 use search_port::Showing;
 use smt_meaning::{Atom, Seq, Summand};
 use std::alloc::{AllocError, Global};

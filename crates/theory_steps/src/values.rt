@@ -5,7 +5,7 @@ ghost use Rattle.congruence.specs.Recorded.{IsRecorded};
 ghost use Rattle.theory_steps.specs.Held.{IsHeld};
 
 use crate::held::{Held, leads};
-use atom_numbers::{AtomNumbers, NumberedAtom};
+use atom_form::{AtomNumbers, NumberedAtom};
 use congruence::Congruence;
 use literals::Literal;
 use scope_stack::Stack;

@@ -7,7 +7,7 @@ ghost use Rattle.odd_parts.specs.Parts.{KeepsXors};
 ghost use Rattle.theory_steps.specs.Held.{IsHeld};
 
 use crate::held::Held;
-use atom_numbers::AtomNumbers;
+use atom_form::AtomNumbers;
 use closure_log::inferred;
 use odd_parts::broken;
 use scope_stack::Stack;

@@ -1,1 +1,2 @@
+pub mod Boolean
 pub mod Taken

@@ -1,19 +1,18 @@
 //! The decider.
 ghost use Rattle.std.specs.Prelude.{IfOk};
 ghost use Rattle.theory_port.specs.Verdicts.{IsVerdict};
-ghost use Rattle.check_search.specs.Endings.{MemoryAloneEnds};
+ghost use Rattle.worker.specs.Endings.{MemoryAloneEnds};
+ghost use Rattle.whole_decider.specs.Boolean.{MemoryAloneEndsBoolean};
 
-use check_atoms::{atoms_are_first, numbered};
-use check_clauses::check_clauses;
-use check_search::{out_of_range, search, unknown};
-use kept_axioms::keep_axioms;
-use range_reports::refused;
+use check_atoms::{atoms_are_first, numbered, takes};
+use first_clauses::{check_clauses, keep_axioms};
 use scope_stack::Stack;
+use smt_laws::propositional_has_no_integers;
 use smt_meaning::{RangeSeen, Settings};
-use stack_atoms::takes;
 use std::alloc::{AllocError, Global};
 use theory_combine::{BoundError, Combined};
 use theory_port::{Decider, Verdict};
+use worker::{out_of_range, refused, search, unknown};
 
 /// Decides the checks of all stacks by the theory of equality and whole numbers. Each check begins anew.
 #[derive(Clone, Copy, Drop)]
@@ -63,9 +62,13 @@ impl Decider for Whole {
     ) -> Result<Verdict, AllocError>
         ensures verdict { IfOk result (IsVerdict stack.now.trees stack.now.frames settings.now.units) }
         ensures memory { IfOk result (MemoryAloneEnds stack.now.frames settings.now.units) }
+        ensures boolean { IfOk result (MemoryAloneEndsBoolean stack.now.frames settings.now.units) }
     {
+        propositional_has_no_integers();
         check(alloc, stack, settings)
     }
+
+    fn takes_all(&self) {}
 
     fn cut_to(&mut self, _level: i32) {}
 }

@@ -37,6 +37,8 @@ impl Decider for Noting {
         Whole.decide(alloc, stack, settings)
     }
 
+    fn takes_all(&self) {}
+
     fn cut_to(&mut self, level: i32) {
         let _kept = self.levels.push(level);
     }

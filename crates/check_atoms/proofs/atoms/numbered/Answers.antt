@@ -1,5 +1,5 @@
 use Rattle.std.proofs.Common.{List, Bool, length, subst, sym}
-use Rattle.stack_atoms.proofs.Places.{stack_parts}
+use Rattle.check_atoms.proofs.StackAtomsPlaces.{stack_parts}
 use Rattle.check_atoms.specs.OfStack.{AreCheckAtoms, AreAtomsBelow}
 use Rattle.check_atoms.proofs.Stacks.{all_atoms}
 use Rattle.check_atoms.proofs.atoms.numbered.Goals as goal

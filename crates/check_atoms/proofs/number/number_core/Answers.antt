@@ -1,4 +1,4 @@
-use Rattle.atom_table.specs.Compact.{atom_of}
+use Rattle.atom_form.specs.Compact.{atom_of}
 use Rattle.check_atoms.proofs.Adding.{adds_one, core_is_normal}
 use Rattle.check_atoms.proofs.number.number_core.Goals as goal
 

@@ -2,7 +2,7 @@ use Rattle.std.proofs.Common.{ap₂, subst, ◌∙◌, length, refl}
 use Rattle.smt_meaning.specs.declared.clauses.Atom.TheVariants.{AtMost}
 use Rattle.fraction128.proofs.Integers.{same_bits}
 use Rattle.bound_clauses.specs.Orders.{bound_atom}
-use Rattle.atom_numbers.specs.Atoms.{Numbers}
+use Rattle.atom_form.specs.AtomNumbersAtoms.{Numbers}
 use Rattle.check_atoms.proofs.Adding.{adds_one, normal_bound}
 use Rattle.check_atoms.proofs.number.number_order.Goals as goal
 

@@ -1,5 +1,5 @@
 use Rattle.std.proofs.Common.{take}
-use Rattle.stack_atoms.specs.Marks.{MarksAlso}
+use Rattle.check_atoms.specs.Marks.{MarksAlso}
 use Rattle.check_atoms.proofs.parts.mark_all.Given as goal
 
 abbrev pub invariant-loop-place : goal.invariant-loop-place

@@ -2,7 +2,7 @@ use Rattle.std.proofs.Common.{◌≡◌, ◌<◌, List, true, false, length, sli
 use Rattle.std.proofs.lemmas.List.{get_or_read}
 use Rattle.smt_meaning.specs.Term.{Tree, tree_at}
 use Rattle.term_store.specs.Terms.{tree_with}
-use Rattle.stack_atoms.proofs.Marking.{parts_marked}
+use Rattle.check_atoms.proofs.Marking.{parts_marked}
 use Rattle.check_atoms.proofs.parts.mark_arguments.Goals as goal
 
 pub returns-then-index-clause-parts : goal.returns-then-index-clause-parts

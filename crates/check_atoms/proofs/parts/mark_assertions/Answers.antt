@@ -1,4 +1,4 @@
-use Rattle.stack_atoms.proofs.Marking.{assertion_also}
+use Rattle.check_atoms.proofs.Marking.{assertion_also}
 use Rattle.check_atoms.proofs.parts.mark_assertions.Goals as goal
 
 pub loop-assertion-preserved : goal.loop-assertion-preserved

@@ -1,6 +1,6 @@
 use Rattle.std.proofs.Common.{take, map}
 use Rattle.scope_stack.specs.declared.answers.Assertion.{Assertion}
-use Rattle.stack_atoms.specs.Marks.{MarksAlso}
+use Rattle.check_atoms.specs.Marks.{MarksAlso}
 use Rattle.check_atoms.proofs.parts.mark_assertions.Given as goal
 
 abbrev pub invariant-loop-assertion : goal.invariant-loop-assertion

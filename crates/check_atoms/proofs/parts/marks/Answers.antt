@@ -1,6 +1,6 @@
 use Rattle.std.proofs.Common.{◌≡◌, ◌≤◌, false, length, replicate, rules}
-use Rattle.stack_atoms.specs.Marks.{AreMarked}
-use Rattle.stack_atoms.proofs.Marking.{marks_begun}
+use Rattle.check_atoms.specs.Marks.{AreMarked}
+use Rattle.check_atoms.proofs.Marking.{marks_begun}
 use Rattle.check_atoms.proofs.parts.marks.Goals as goal
 
 pub loop-id-init : goal.loop-id-init

@@ -1,5 +1,5 @@
 use Rattle.std.proofs.Common.{◌≤◌, length}
-use Rattle.stack_atoms.specs.Marks.{AreMarked}
+use Rattle.check_atoms.specs.Marks.{AreMarked}
 use Rattle.check_atoms.proofs.parts.marks.Given as goal
 
 abbrev pub invariant-loop-id : goal.invariant-loop-id

@@ -1,7 +1,7 @@
 use Rattle.std.proofs.Common.{rules, ◌≡◌, ◌∷◌, ◌++◌, [], List, All, sym, subst}
 use Rattle.std.proofs.lemmas.List.Elements.{All-push}
 use Rattle.search_port.specs.declared.budget.Lemma.{Lemma}
-use Rattle.literal_steps.specs.Implied.{IsPressingLemma}
+use Rattle.congruence.specs.Implied.{IsPressingLemma}
 use Rattle.closure_log.proofs.implied.keep.Goals as goal
 
 pub returns-in_ok-push-in-Some : goal.returns-in_ok-push-in-Some

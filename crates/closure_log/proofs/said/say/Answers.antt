@@ -5,7 +5,7 @@ use Rattle.smt_meaning.specs.Term.{Tree}
 use Rattle.search_port.specs.State.{atom_at}
 use Rattle.smt_meaning.specs.Stack.{signature_of}
 use Rattle.equal_points.specs.declared.step.Step.{Step}
-use Rattle.literal_steps.specs.Steps.{pair_step}
+use Rattle.congruence.specs.Steps.{pair_step}
 use Rattle.closure_log.specs.Said.{AreSaid}
 use Rattle.closure_log.proofs.Saying.{same_told}
 use Rattle.closure_log.proofs.Setting.{atom_is, truth_within, left_within, right_within}

@@ -1,7 +1,7 @@
 use Rattle.std.proofs.Common.{◌≡◌, ◌+◌, List, length, subst, sym, ◌∙◌, rules}
 use Rattle.std.specs.Prelude.{slice_index_or}
 use Rattle.smt_meaning.specs.declared.values.Sort.TheVariants.{Bool as Truths, Int as Ints}
-use Rattle.stack_atoms.specs.Parts.{IsMarked}
+use Rattle.check_atoms.specs.Parts.{IsMarked}
 use Rattle.smt_meaning.specs.Term.{Tree}
 use Rattle.smt_meaning.specs.Stack.{signature_of}
 use Rattle.model_build.specs.declared.given.Given.{Given}

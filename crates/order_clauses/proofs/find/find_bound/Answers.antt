@@ -2,7 +2,7 @@ use Rattle.std.proofs.Common.{subst}
 use Rattle.std.specs.Int.{w128}
 use Rattle.std.proofs.lemmas.Int.{to_z-of_z}
 use Rattle.smt_meaning.specs.declared.clauses.Atom.TheVariants.{AtMost}
-use Rattle.atom_table.specs.Numbers.{IsAt}
+use Rattle.atom_form.specs.AtomTableNumbers.{IsAt}
 use Rattle.order_clauses.proofs.Numbering.{number_is}
 use Rattle.order_clauses.proofs.find.find_bound.Goals as goal
 

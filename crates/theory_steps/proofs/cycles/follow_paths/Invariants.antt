@@ -1,5 +1,5 @@
 use Rattle.std.proofs.Common.{◌≡◌, All}
-use Rattle.literal_steps.specs.Implied.{IsPressingLemma}
+use Rattle.congruence.specs.Implied.{IsPressingLemma}
 use Rattle.closure_log.specs.Seen.{state_of}
 use Rattle.theory_steps.specs.Held.{IsHeld}
 use Rattle.theory_steps.proofs.cycles.follow_paths.Given as goal

@@ -1,7 +1,7 @@
 use Rattle.std.proofs.Common.{◌∙◌, List, All, sym, subst}
 use Rattle.literals.specs.Signed.{Signed}
 use Rattle.search_port.specs.State.{TheoryState}
-use Rattle.literal_steps.specs.Implied.{IsPressingLemma}
+use Rattle.congruence.specs.Implied.{IsPressingLemma}
 use Rattle.closure_log.specs.Seen.{state_of}
 use Rattle.theory_steps.proofs.Growing.{keeps_both}
 use Rattle.theory_steps.proofs.implied.follow_rows.Goals as goal

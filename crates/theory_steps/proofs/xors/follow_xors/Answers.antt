@@ -1,6 +1,6 @@
 use Rattle.std.proofs.Common.{List, All, subst}
 use Rattle.literals.specs.Signed.{Signed}
-use Rattle.literal_steps.specs.Implied.{IsPressingLemma}
+use Rattle.congruence.specs.Implied.{IsPressingLemma}
 use Rattle.closure_log.specs.Seen.{state_of}
 use Rattle.theory_steps.proofs.xors.follow_xors.Goals as goal
 

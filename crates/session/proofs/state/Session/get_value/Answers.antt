@@ -10,7 +10,7 @@ returns-clause-ok c =
     let s = c.self.inside in
     IfOk-weaker c.values_of.result _ _
     (λ r h. asked_so c.args.self.now c.in-Sat.model c.args.terms.now c.args.terms.now s.stack c.values_of.new.stack s.above r _
-    (search rules) (search rules) refl (ap (λ (t : State). t.stack) c.self.view_is) h c.values_of.ensures.trees c.self.invariant
+    (search rules) (search rules) refl (ap (λ (t : State). t.stack) c.self.view_is) h c.values_of.ensures.trees c.self.invariant.0
     (sym (ap (λ (t : State). t.above) c.self.view_is))
     (ap (λ (t : State). record t { stack = c.values_of.new.stack; above = above_by c.values_of.new.stack.trees s.above }) c.self.view_is))
     c.values_of.ensures.ok

@@ -1,5 +1,5 @@
 use Rattle.std.proofs.lemmas.Result.{IfOk-weaker}
-use Rattle.session.proofs.Replies.{assumed_reply}
+use Rattle.session.proofs.Replies.{assumed_reply, core_reply_so, assumptions_reply_so}
 use Rattle.session.proofs.state.Session.respond.Goals as goal
 
 pub returns-in-CheckSatAssuming-clause-ok : goal.returns-in-CheckSatAssuming-clause-ok
@@ -7,3 +7,15 @@ returns-in-CheckSatAssuming-clause-ok g c =
     IfOk-weaker c.check_assuming.result _ _
     (λ a h. assumed_reply g.D.Decider.decides c.args.self.now c.args.command.now c.in-CheckSatAssuming.terms c.as_slice.result.now a.0 a.1 c.check_assuming.new.self c.in-CheckSatAssuming.is c.as_slice.ensures h)
     c.check_assuming.ensures.ok
+
+pub returns-in-GetUnsatCore-clause-ok : goal.returns-in-GetUnsatCore-clause-ok
+returns-in-GetUnsatCore-clause-ok g c =
+    IfOk-weaker c.get_unsat_core.result _ _
+    (λ a h. core_reply_so g.D.Decider.decides c.args.self.now c.args.command.now a.0 a.1 c.get_unsat_core.new.self c.in-GetUnsatCore.is h)
+    c.get_unsat_core.ensures.ok
+
+pub returns-in-GetUnsatAssumptions-clause-ok : goal.returns-in-GetUnsatAssumptions-clause-ok
+returns-in-GetUnsatAssumptions-clause-ok g c =
+    IfOk-weaker c.get_unsat_assumptions.result _ _
+    (λ a h. assumptions_reply_so g.D.Decider.decides c.args.self.now c.args.command.now a.0 a.1 c.get_unsat_assumptions.new.self c.in-GetUnsatAssumptions.is h)
+    c.get_unsat_assumptions.ensures.ok

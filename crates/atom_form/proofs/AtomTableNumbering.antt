@@ -1,0 +1,93 @@
+-- The search for an atom, and an atom more.
+use Rattle.std.proofs.Common.{◌≡◌, ◌≢◌, ℕ, Bool, true, false, ◌-◌, ◌<◌, ◌≤◌, List, [], ◌∷◌, ◌++◌, length, get_or, map, sym, ap, subst, ◌∙◌, inl, inr, arith}
+use Rattle.std.specs.Prelude.{AllPairs, Contains, ◌⊎◌}
+use Rattle.std.proofs.lemmas.Bool.{cases_lt}
+use Rattle.std.proofs.lemmas.List.{get_or_default, get_or-map, length-map, map-append, length_push, get_or_push}
+use Rattle.std.proofs.lemmas.List.Quantifiers.{all_pairs_push}
+use Rattle.term_store.specs.Latest.{last_place}
+use Rattle.atom_form.specs.declared.compact.CompactAtom.{CompactAtom}
+use Rattle.atom_form.specs.declared.compact.CompactAtom.TheVariants.{Truth, Same}
+use Rattle.atom_form.specs.Compact.{atom_of, atom_hash}
+use Rattle.atom_form.specs.AtomTableNumbers.{IsAt, Numbered, IsTable, AreApart}
+use Rattle.atom_form.proofs.Links.{IsLink, Goes, goes, goes_on}
+
+-- one atom, kept in one way
+pub atom_of-apart : (a b : CompactAtom) → atom_of a ≡ atom_of b → a ≡ b
+atom_of-apart (Truth p) (Truth q) e = cc
+atom_of-apart (Truth p) (Same q r) e = cc
+atom_of-apart (Same p q) (Truth r) e = cc
+atom_of-apart (Same p q) (Same r s) e = cc
+
+-- the atom isn't at a place from the link on
+pub record Passed (atoms : List CompactAtom) (keys : List ℕ) (a : CompactAtom) (hash link : ℕ) : Type 0 where
+  pub is_link : IsLink keys hash link
+  pub passed : (k : ℕ) (d : CompactAtom) → link ≤ k → k < length atoms → get_or atoms k d ≢ a
+
+module _ (atoms : List CompactAtom) (keys : List ℕ) (a : CompactAtom) (hash : ℕ) (hashed : keys ≡ map atom_hash atoms) (is_hash : hash ≡ atom_hash a) where
+  length-keys : length keys ≡ length atoms
+  length-keys = ap length hashed ∙ length-map atoms atom_hash
+
+  key_at : (k : ℕ) (d : CompactAtom) → k < length atoms → get_or atoms k d ≡ a → get_or keys k 0 ≡ hash
+  key_at k d h e = ap (λ xs. get_or xs k 0) hashed ∙ get_or-map atom_hash atoms k d 0 h ∙ ap atom_hash e ∙ sym is_hash
+
+  pub passed_start : (link : ℕ) → link ≡ last_place keys hash (length keys) → Passed atoms keys a hash link
+  passed_start link e =
+      let g = goes keys hash (length keys) link (omega arith) e in
+      record { is_link = g.is_link; passed = λ k d above less same. g.others k above (omega (arith, length-keys)) (key_at k d less same) }
+
+  pub passed_on : (link next : ℕ) (x : CompactAtom) (b : Bool) → Passed atoms keys a hash link → 0 < link → (get_or atoms (link - 1) x ≡ a → b ≡ true) → b ≡ false
+      → next ≡ last_place keys (get_or keys (link - 1) 0) (link - 1) → Passed atoms keys a hash next × (next < link)
+  passed_on link next x b p some found not_found e =
+      let g = goes_on keys hash link next p.is_link some e in
+      let down = g.down in
+      (record { is_link = g.is_link; passed = λ k d above less same. by g k d above less same (cases_lt k (link - 1)) (cases_lt k link) }, omega arith)
+    where
+      by : Goes keys hash (link - 1) next → (k : ℕ) (d : CompactAtom) → next ≤ k → k < length atoms → get_or atoms k d ≡ a → (k < link - 1) ⊎ (link - 1 ≤ k) → (k < link) ⊎ (link ≤ k) → ⊥
+      by g k d above less same (inl below) u = g.others k above below (key_at k d less same)
+      by g k d above less same (inr from) (inl below) =
+          let here : link - 1 ≡ k = omega arith in
+          let t : b ≡ true = found (ap (λ n. get_or atoms n x) here ∙ get_or_default atoms k x d less ∙ same) in
+          let f : true ≡ false = sym t ∙ not_found in
+          cc
+      by g k d above less same (inr from) (inr beyond) = p.passed k d beyond less same
+
+  pub passed_all : (link : ℕ) → Passed atoms keys a hash link → link ≤ 0 → Contains atoms a → ⊥
+  passed_all link p none (k, h, e) = p.passed k a (omega arith) h e
+
+-- ---- in the words of atoms
+
+pub contains_kept : (atoms : List CompactAtom) (a : CompactAtom) → Contains (map atom_of atoms) (atom_of a) → Contains atoms a
+contains_kept atoms a (k, h, e) =
+    let short : k < length atoms = omega (arith, length-map atoms atom_of) in
+    (k, short, atom_of-apart (get_or atoms k a) a (sym (get_or-map atom_of atoms k a (atom_of a) short) ∙ e))
+
+pub is_at : (atoms : List CompactAtom) (k : ℕ) (a : CompactAtom) → k < length atoms → ((d : CompactAtom) → get_or atoms k d ≡ a) → IsAt (map atom_of atoms) k (atom_of a)
+is_at atoms k a h e = (omega (arith, length-map atoms atom_of), λ d. get_or-map atom_of atoms k a d h ∙ ap atom_of (e a))
+
+pub read_at : (atoms : List CompactAtom) (k : ℕ) (a : CompactAtom) → k < length atoms → a ≡ get_or atoms k a → IsAt (map atom_of atoms) k (atom_of a)
+read_at atoms k a h e = is_at atoms k a h (λ d. get_or_default atoms k d a h ∙ sym e)
+
+pub table_push : (atoms : List CompactAtom) (keys : List ℕ) (a : CompactAtom) (hash : ℕ) → IsTable atoms keys → hash ≡ atom_hash a → (Contains atoms a → ⊥)
+    → IsTable (atoms ++ a ∷ []) (keys ++ hash ∷ [])
+table_push atoms keys a hash t e new = record {
+  hashed = ap (λ xs. xs ++ hash ∷ []) t.hashed ∙ ap (λ h. map atom_hash atoms ++ h ∷ []) e ∙ sym (map-append atom_hash atoms (a ∷ []));
+  apart = all_pairs_push (λ (x y : CompactAtom). x ≢ y) atoms a t.apart (λ k d h same. new (k, h, get_or_default atoms k a d h ∙ same));
+}
+
+pub table_apart : (atoms : List CompactAtom) (keys : List ℕ) → IsTable atoms keys → AreApart (map atom_of atoms)
+table_apart atoms keys t i j d h g same =
+    let short : j < length atoms = omega (arith, length-map atoms atom_of) in
+    apart_at atoms t.apart i j h short (λ x. get_or-map atom_of atoms i x d (omega arith)) (λ x. get_or-map atom_of atoms j x d short) same
+  where
+    apart_at : (xs : List CompactAtom) → AllPairs (λ (x y : CompactAtom). x ≢ y) xs → (i j : ℕ) → i < j → j < length xs
+        → ((x : CompactAtom) → get_or (map atom_of atoms) i d ≡ atom_of (get_or xs i x)) → ((x : CompactAtom) → get_or (map atom_of atoms) j d ≡ atom_of (get_or xs j x))
+        → get_or (map atom_of atoms) i d ≡ get_or (map atom_of atoms) j d → ⊥
+    apart_at xs apart i j h g ei ej same =
+        apart i j (Truth 0) h g (atom_of-apart (get_or xs i (Truth 0)) (get_or xs j (Truth 0)) (sym (ei (Truth 0)) ∙ same ∙ ej (Truth 0)))
+
+pub numbered_new : (old new : List CompactAtom) (a : CompactAtom) (n : ℕ) → n ≡ length old → new ≡ old ++ a ∷ [] → (Contains old a → ⊥) → Numbered (map atom_of old) (map atom_of new) (atom_of a) n true
+numbered_new old new a n size e none = record {
+  at = subst (λ xs. IsAt (map atom_of xs) n (atom_of a)) (sym e) (is_at (old ++ a ∷ []) n a (omega (arith, size, length_push old a)) (λ d. get_or_push old a d n (sym size)));
+  added = λ t. (ap (map atom_of) e ∙ map-append atom_of old (a ∷ []), λ c. none (contains_kept old a c));
+  same = λ f. absurd (let x : true ≡ false = f in cc);
+}

@@ -1,3 +1,0 @@
-mod Results
-mod Keys
-mod Tables

@@ -1,8 +1,0 @@
-use Rattle.atom_table.proofs.Numbering.{Passed}
-use Rattle.atom_table.proofs.table.find.Given as goal
-
-abbrev pub invariant-loop-link : goal.invariant-loop-link
-invariant-loop-link l = Passed l.atoms l.keys l.atom l.hash l.link
-
-abbrev pub decreases-loop-link : goal.decreases-loop-link
-decreases-loop-link l = l.link

@@ -1,3 +1,0 @@
-pub mod Gathering
-pub mod Ordering
-pub mod Reaching

@@ -1,4 +1,0 @@
-pub mod Links
-pub mod Axioms
-pub mod Gathered
-pub mod Reached

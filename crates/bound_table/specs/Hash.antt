@@ -1,9 +1,0 @@
--- A hash of a bound. No public contract speaks of it.
-use Rattle.std.specs.Prelude.{ℕ, ◌/◌, ◌^◌}
-use Rattle.term_store.specs.Hash.{mixed}
-use Rattle.sum_table.specs.Hash.{number_state}
-use Rattle.bound_table.specs.declared.bound.SumBound.{SumBound}
-
--- the upper half of the last state
-unfoldable pub bound_hash : SumBound → ℕ
-bound_hash b = number_state (mixed 1 b.sum) b.threshold / 2 ^ 32

@@ -1,3 +1,0 @@
-pub mod Hash
-pub mod Numbers
-pub mod Atoms

@@ -1,5 +1,0 @@
-use Rattle.check_clauses.proofs.Deciding.{same_signature}
-use Rattle.check_clauses.proofs.laws.signature_stays.Goals as goal
-
-pub returns : goal.returns
-returns c = same_signature c.flat_says_the_same.ensures

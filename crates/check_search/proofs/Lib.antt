@@ -1,9 +1,0 @@
-pub mod Deciding
-pub mod Free
-pub mod Lists
-pub mod Memory
-pub mod Numbers
-pub mod Ranges
-pub mod SameStack
-pub mod Showing
-pub mod Units

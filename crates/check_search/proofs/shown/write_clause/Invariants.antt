@@ -1,6 +1,0 @@
-use Rattle.std.proofs.Common.{◌≡◌, ◌++◌, drop, map}
-use Rattle.part_clauses.specs.First.{written_literal}
-use Rattle.check_search.proofs.shown.write_clause.Given as goal
-
-abbrev pub invariant-loop-literal : goal.invariant-loop-literal
-invariant-loop-literal g l = (l.written ++ map (written_literal (g.T.Theory.state l.theory).reading.table) (drop l.literal-index l.literals)) ≡ map (written_literal (g.T.Theory.state l.theory).reading.table) l.literals

@@ -1,3 +1,0 @@
-mod Units
-mod Saying
-mod Clausing

@@ -1,0 +1,4 @@
+mod Tagging
+mod Units
+mod Saying
+mod Clausing

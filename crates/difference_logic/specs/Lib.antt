@@ -1,0 +1,3 @@
+pub mod Edges
+pub mod Differences
+pub mod Clauses

@@ -1,0 +1,13 @@
+pub mod PartClausesKeeping
+pub mod Numbering
+pub mod Turning
+pub mod NodeForcing
+pub mod Triangular
+pub mod Following
+pub mod Shaped
+pub mod Parts
+pub mod Asserting
+pub mod Deciding
+pub mod CheckClausesKeeping
+pub mod Forcing
+mod Sound

@@ -1,0 +1,55 @@
+use Rattle.std.proofs.Common.{◌≡◌, ◌∷◌, All, refl}
+use Rattle.std.proofs.lemmas.List.Elements.{All-cons, All-tail}
+use Rattle.smt_meaning.specs.declared.values.Sort.TheVariants.{Bool as Truths}
+use Rattle.smt_meaning.specs.declared.terms.Head.TheVariants.{Theory}
+use Rattle.smt_meaning.specs.Stack.{signature_of}
+use Rattle.bound_clauses.specs.Laws.{IsReadable}
+use Rattle.check_atoms.specs.Parts.{IsMarked}
+use Rattle.order_clauses.specs.Clauses.{sort_at}
+use Rattle.order_clauses.specs.Sound.{HasSort}
+use Rattle.first_clauses.specs.CheckClausesFirst.{AreBools}
+use Rattle.first_clauses.proofs.Parts.{arguments_marked, has_sort, bool_sort, all_readable, truth_numbered}
+use Rattle.first_clauses.proofs.nodes.keep_node.Goals as goal
+
+pub keep_bools-requires-clause-numbered : goal.keep_bools-requires-clause-numbered
+keep_bools-requires-clause-numbered c =
+    let s = c.args.stack.now in
+    let r = c.requires in
+    let marks = c.args.marks.now in
+    let table = c.args.atoms.now.atoms in
+    let is = c.args.arguments.now in
+    let marked : All (IsMarked marks) is = arguments_marked s marks c.laws.ensures r.parts r.atoms.size c.args.place (Theory c.args.operator) is r.marked r.node.tree r.node.arguments in
+    let all : All (IsMarked marks) (c.args.place ∷ is) = All-cons (IsMarked marks) c.args.place is r.marked marked in
+    let sort = bool_sort s marks c.laws.ensures r.parts r.atoms.size c.args.sorts.now r.sorts in
+    let numbered = truth_numbered s marks c.laws.ensures r.parts r.atoms.size table c.args.forms.now r.atoms r.forms in
+    λ k d l. numbered _ (all k d l) (sort _ (all k d l) (c.are_bools.ensures.yes c.if-are_bools.true k d l))
+
+pub keep_bools-requires-clause-sorted : goal.keep_bools-requires-clause-sorted
+keep_bools-requires-clause-sorted c =
+    let s = c.args.stack.now in
+    let r = c.requires in
+    let marks = c.args.marks.now in
+    let is = c.args.arguments.now in
+    let marked : All (IsMarked marks) is = arguments_marked s marks c.laws.ensures r.parts r.atoms.size c.args.place (Theory c.args.operator) is r.marked r.node.tree r.node.arguments in
+    let bools : AreBools c.args.sorts.now is = All-tail (λ p. sort_at c.args.sorts.now p ≡ Truths) c.args.place is (c.are_bools.ensures.yes c.if-are_bools.true) in
+    λ k d l. bool_sort s marks c.laws.ensures r.parts r.atoms.size c.args.sorts.now r.sorts _ (marked k d l) (bools k d l)
+
+pub keep_compared-requires : goal.keep_compared-requires
+keep_compared-requires c =
+    let s = c.args.stack.now in
+    let r = c.requires in
+    let marks = c.args.marks.now in
+    let is = c.args.arguments.now in
+    let marked : All (IsMarked marks) is = arguments_marked s marks c.laws.ensures r.parts r.atoms.size c.args.place (Theory c.args.operator) is r.marked r.node.tree r.node.arguments in
+    let sort = has_sort s marks c.laws.ensures r.parts r.atoms.size c.args.sorts.now r.sorts in
+    let sorted : All (HasSort (signature_of s.frames) s.trees c.args.sorts.now) (c.args.place ∷ is) =
+    All-cons (HasSort (signature_of s.frames) s.trees c.args.sorts.now) c.args.place is (sort c.args.place r.marked) (λ k d l. sort _ (marked k d l)) in
+    let readable : All (IsReadable s.trees) (c.args.place ∷ is) =
+    all_readable s marks c.laws.ensures r.parts r.atoms.size c.args.place (Theory c.args.operator) is r.marked r.node.tree r.node.arguments r.linear in
+    (refl, (r.atoms.declared, (r.forms, (r.node, (r.sorts.size, (sorted, (readable, r.begun)))))))
+
+pub returns-then-are_bools-clause-has : goal.returns-then-are_bools-clause-has
+returns-then-are_bools-clause-has c = record {
+  of_bools = λ all. c.in_ok-keep_bools.ensures.has;
+  of_others = λ none. absurd (none (c.are_bools.ensures.yes c.if-are_bools.true));
+}

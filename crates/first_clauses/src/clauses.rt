@@ -1,0 +1,107 @@
+//! The clauses, in a store.
+ghost use Rattle.std.specs.Prelude.{◌≡◌, ◌<◌, length, All, Contains, IfOk, IfErr, OnOk};
+ghost use Rattle.clause_store.specs.Stored.{Kept};
+ghost use Rattle.smt_meaning.specs.declared.clauses.Atom.TheVariants.{Truth};
+ghost use Rattle.smt_meaning.specs.Term.{tree_at};
+ghost use Rattle.smt_meaning.specs.Stack.{signature_of, assertions_of};
+ghost use Rattle.search_port.specs.Valid.{IsOf};
+ghost use Rattle.scope_stack.specs.Facts.{AreSorts};
+ghost use Rattle.linear_forms.specs.Table.{AreForms};
+ghost use Rattle.check_atoms.specs.Marks.{AreStackParts};
+ghost use Rattle.check_atoms.specs.OfStack.{AreCheckAtoms};
+ghost use Rattle.first_clauses.specs.PartClausesFirst.{IsAsserted, IsBegun};
+ghost use Rattle.first_clauses.specs.CheckClausesFirst.{reading_of, IsFirst, IsRefused, HasParts};
+
+use crate::error::FirstError;
+use crate::keep;
+use crate::laws::kept_parts_are_forced;
+use crate::nodes::keep_parts;
+use crate::triangles::keep_triangles;
+use atom_form::{AtomNumbers, CompactAtom};
+use check_atoms::CheckAtoms;
+use clause_store::store::Store;
+use literals::Literal;
+use scope_stack::{Assertion, Stack};
+use smt_laws::flat_says_the_same;
+use smt_meaning::{Sort, TermId};
+use std::alloc::{AllocError, Global};
+
+/// Keeps the clause that a term is true that is asserted.
+fn keep_assertion(
+    stack: &Stack,
+    atoms: &AtomNumbers,
+    store: &mut Store,
+    term: TermId,
+) -> Result<(), AllocError>
+    requires declared { All (IsOf stack.now.trees stack.now.frames) atoms.now.atoms }
+    requires numbered { Contains atoms.now.atoms (Truth term) }
+    requires asserted { Contains (assertions_of stack.now.frames) (tree_at stack.now.trees term) }
+    requires begun { IsBegun (reading_of stack.now atoms.now.atoms) store.old }
+    ensures begun { OnOk result (IsBegun (reading_of stack.now atoms.now.atoms) store.new) }
+    ensures stay { (c : Kept) → Contains store.old.clauses c → Contains store.new.clauses c }
+    ensures has { OnOk result (IsAsserted stack.now.trees atoms.now.atoms store.new.clauses (tree_at stack.now.trees term)) }
+{
+    flat_says_the_same();
+    atoms.are_few();
+    let Some(number) = atoms.find(CompactAtom::Truth(term)) else {
+        unreachable!()
+    };
+    keep(store, &[Literal::new(number, true)])
+}
+
+/// Keeps the clauses that the assertions are true.
+fn keep_assertions(
+    stack: &Stack,
+    assertions: &[Assertion],
+    atoms: &AtomNumbers,
+    store: &mut Store,
+) -> Result<(), AllocError>
+    requires declared { All (IsOf stack.now.trees stack.now.frames) atoms.now.atoms }
+    requires numbered { All (λ (a : _). Contains atoms.now.atoms (Truth a.term)) assertions.now }
+    requires asserted { All (λ (a : _). Contains (assertions_of stack.now.frames) (tree_at stack.now.trees a.term)) assertions.now }
+    requires begun { IsBegun (reading_of stack.now atoms.now.atoms) store.old }
+    ensures begun { OnOk result (IsBegun (reading_of stack.now atoms.now.atoms) store.new) }
+    ensures stay { (c : Kept) → Contains store.old.clauses c → Contains store.new.clauses c }
+    ensures has { OnOk result (All (λ (a : _). IsAsserted stack.now.trees atoms.now.atoms store.new.clauses (tree_at stack.now.trees a.term)) assertions.now) }
+{
+    for assertion in assertions {
+        keep_assertion(stack, atoms, store, assertion.term)?;
+    }
+    Ok(())
+}
+
+/// The clauses that a search begins with, at level 0: of each part that is a node of Bools those of its operator over their truths, of each other part those that tie
+/// it to what it compares or chooses, and for each assertion the clause that it is true. They force the clauses of each part. Of each triangle that is one, two
+/// equalities give the third. An `Err` says that memory is wanting, or which part's clauses can't be put and why. The atoms and the forms stay as they are.
+pub fn check_clauses(
+    alloc: Global,
+    stack: &Stack,
+    sorts: &[Sort],
+    parts: &mut CheckAtoms,
+) -> Result<Store, FirstError>
+    requires sorts { AreSorts (signature_of stack.now.frames) stack.now.trees (length stack.now.trees) sorts.now }
+    requires parts { AreStackParts stack.now parts.old.marks.items }
+    requires atoms { AreCheckAtoms stack.now parts.old.marks.items parts.old.atoms.atoms }
+    requires forms { AreForms stack.now.trees parts.old.forms }
+    ensures first { IfOk result (IsFirst stack.now parts.old.atoms.atoms) }
+    ensures parts { IfOk result (λ store. HasParts stack.now parts.old.marks.items sorts.now parts.old.atoms.atoms store.clauses) }
+    ensures refused { IfErr result (IsRefused stack.now parts.old.marks.items sorts.now parts.old.atoms.atoms) }
+    ensures same { parts.new ≡ parts.old }
+{
+    stack.laws();
+    kept_parts_are_forced();
+    let mut store = Store::new(alloc);
+    store.reserve(parts.atoms.len() as u32)?;
+    keep_triangles(stack, &parts.atoms, &parts.triangles, &mut store)?;
+    keep_parts(
+        alloc,
+        stack,
+        &parts.marks,
+        sorts,
+        &mut parts.forms,
+        &parts.atoms,
+        &mut store,
+    )?;
+    keep_assertions(stack, stack.assertions(), &parts.atoms, &mut store)?;
+    Ok(store)
+}

@@ -1,0 +1,37 @@
+//! What the first clauses are for, as contracts of functions that do nothing.
+ghost use Rattle.first_clauses.specs.Laws.{FirstClausesSayAssertions, SignatureStays, EmptyClauseMeansNoModel, KeptPartsAreForced, MoreForceParts};
+
+use clause_form::{node_clauses_are_renamed, node_clauses_force};
+use smt_laws::flat_says_the_same;
+
+/// What makes the first clauses true makes the assertions true, also where the search has numbered more atoms.
+pub fn first_clauses_say_assertions()
+    ensures { FirstClausesSayAssertions }
+{}
+
+/// The signature by which the clauses are read is the stack's, also where the search has numbered more atoms.
+pub fn signature_stays()
+    ensures { SignatureStays }
+{
+    flat_says_the_same();
+}
+
+/// Where the empty clause follows, the stack has no model, also where the search has numbered more atoms.
+pub fn empty_clause_means_no_model()
+    ensures { EmptyClauseMeansNoModel }
+{
+    flat_says_the_same();
+}
+
+/// The kept clauses of the parts, among whatever others, force each clause that is true of a part's operator.
+pub fn kept_parts_are_forced()
+    ensures { KeptPartsAreForced }
+{
+    node_clauses_force();
+    node_clauses_are_renamed();
+}
+
+/// Where fewer clauses force those of the parts, more do.
+pub fn more_force_parts()
+    ensures { MoreForceParts }
+{}

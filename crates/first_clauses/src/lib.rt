@@ -1,0 +1,37 @@
+//! The first clauses of a search over a stack: those that say of each part what its operator does,
+//! that the assertions are true, and how the bounds of its atoms are ordered.
+//!
+//! A first clause is over the numbered atoms and follows from the stack. That each assertion is
+//! true is one of them, and together they force the clauses of every part.
+//!
+//! `check_clauses`: in the store that a search begins with each clause follows, also that two
+//! equalities of a triangle give the third. Each assertion is one, of each part the clauses of its
+//! operator are kept, the longer ones with what negations negate, and together they force every
+//! node clause of every part.
+//!
+//! `keep_axioms`: the axioms of the bounds of a check stand among its first clauses; what is kept
+//! still follows, what was kept stays, and what forced the clauses of the parts still does.
+//!
+//! `keep`, `keep_all`: a clause is kept, and what was kept stays.
+#![tactic(auto)]
+
+mod bools;
+mod clauses;
+mod error;
+mod kept_axioms_keep;
+mod laws;
+mod nodes;
+mod shapes;
+mod storing;
+mod triangles;
+mod turn;
+
+pub use clauses::check_clauses;
+pub use error::FirstError;
+pub use kept_axioms_keep::keep_axioms;
+pub use laws::{
+    empty_clause_means_no_model, first_clauses_say_assertions, kept_parts_are_forced,
+    more_force_parts, signature_stays,
+};
+pub use shapes::linear_terms;
+pub use storing::{keep, keep_all};

@@ -1,0 +1,221 @@
+//! The clauses of the parts.
+ghost use Rattle.std.specs.Prelude.{◌≡◌, ◌<◌, ◌∷◌, true, List, length, All, Contains, OnOk, IfErr};
+ghost use Rattle.clause_store.specs.Stored.{Kept};
+ghost use Rattle.order_clauses.specs.Clauses.{part_clauses_of};
+ghost use Rattle.smt_meaning.specs.declared.terms.Head.TheVariants.{Theory};
+ghost use Rattle.smt_meaning.specs.Term.{Tree, tree_at};
+ghost use Rattle.smt_meaning.specs.TreeShape.{is_linear};
+ghost use Rattle.smt_meaning.specs.Stack.{signature_of};
+ghost use Rattle.search_port.specs.Valid.{IsOf};
+ghost use Rattle.scope_stack.specs.Facts.{AreSorts};
+ghost use Rattle.linear_forms.specs.Table.{AreForms};
+ghost use Rattle.bound_clauses.specs.Laws.{IsReadable};
+ghost use Rattle.check_atoms.specs.Parts.{IsMarked};
+ghost use Rattle.check_atoms.specs.Marks.{AreStackParts};
+ghost use Rattle.check_atoms.specs.OfStack.{IsNode, AreCheckAtoms};
+ghost use Rattle.order_clauses.specs.Needed.{orders_of_part, atoms_of_part};
+ghost use Rattle.order_clauses.specs.Sound.{HasSort};
+ghost use Rattle.order_clauses.specs.Errors.{IsCause};
+ghost use Rattle.first_clauses.specs.PartClausesFirst.{IsBegun, HasClause};
+ghost use Rattle.first_clauses.specs.CheckClausesFirst.{reading_of, IsRefused, HasPart, HasPartAt, HasParts};
+ghost use Rattle.first_clauses.specs.Shapes.{AreFlags};
+
+use crate::bools::{Space as BoolSpace, are_bools, keep_bools};
+use crate::error::FirstError;
+use crate::keep_all;
+use crate::shapes::linear_terms;
+use atom_form::AtomNumbers;
+use clause_form::Clauses;
+use clause_store::store::Store;
+use linear_forms::LinearForms;
+use order_clauses::{PartError, Space as PartSpace, put_part};
+use scope_stack::Stack;
+use smt_laws::flat_says_the_same;
+use smt_meaning::{Head, Operator, Sort, TermId};
+use std::alloc::Global;
+
+/// Lists that are used again for each part.
+#[derive(Drop)]
+struct Space {
+    bools: BoolSpace,
+    parts: PartSpace,
+    clauses: Clauses,
+}
+
+/// Keeps the clauses of a part that compares Ints or terms of a declared sort, or chooses between such terms.
+fn keep_compared(
+    stack: &Stack,
+    sorts: &[Sort],
+    forms: &mut LinearForms,
+    atoms: &AtomNumbers,
+    space: &mut Space,
+    store: &mut Store,
+    place: TermId,
+    operator: Operator,
+    arguments: &[TermId],
+) -> Result<(), PartError>
+    ghost trees: { List Tree }
+    requires same_trees { trees ≡ stack.now.trees }
+    requires declared { All (IsOf stack.now.trees stack.now.frames) atoms.now.atoms }
+    requires forms { AreForms trees forms.old }
+    requires node { IsNode trees place (Theory operator) arguments.now }
+    requires size { length sorts.now ≡ length trees }
+    requires sorted { All (HasSort (signature_of stack.now.frames) trees sorts.now) (place ∷ arguments.now) }
+    requires readable { All (IsReadable trees) (place ∷ arguments.now) }
+    requires begun { IsBegun (reading_of stack.now atoms.now.atoms) store.old }
+    ensures begun { OnOk result (IsBegun (reading_of stack.now atoms.now.atoms) store.new) }
+    ensures stay { (c : Kept) → Contains store.old.clauses c → Contains store.new.clauses c }
+    ensures has { OnOk result (All (HasClause store.new.clauses) (part_clauses_of sorts.now trees atoms.now.atoms operator place arguments.now)) }
+    ensures cause { IfErr result (λ e. IsCause trees atoms.now.atoms (orders_of_part sorts.now operator place arguments.now) (atoms_of_part sorts.now trees operator place arguments.now) e) }
+    ensures same { forms.new ≡ forms.old }
+{
+    flat_says_the_same();
+    space.clauses.clear();
+    put_part(
+        &mut space.clauses,
+        &mut space.parts,
+        forms,
+        atoms,
+        sorts,
+        place,
+        operator,
+        arguments,
+    )?;
+    keep_all(store, &space.clauses)?;
+    Ok(())
+}
+
+/// Keeps the clauses of a marked part with this operator.
+fn keep_node(
+    stack: &Stack,
+    marks: &[bool],
+    sorts: &[Sort],
+    forms: &mut LinearForms,
+    atoms: &AtomNumbers,
+    space: &mut Space,
+    store: &mut Store,
+    place: TermId,
+    operator: Operator,
+    arguments: &[TermId],
+) -> Result<(), FirstError>
+    requires parts { AreStackParts stack.now marks.now }
+    requires atoms { AreCheckAtoms stack.now marks.now atoms.now.atoms }
+    requires sorts { AreSorts (signature_of stack.now.frames) stack.now.trees (length stack.now.trees) sorts.now }
+    requires forms { AreForms stack.now.trees forms.old }
+    requires marked { IsMarked marks.now place }
+    requires linear { is_linear (tree_at stack.now.trees place) ≡ true }
+    requires node { IsNode stack.now.trees place (Theory operator) arguments.now }
+    requires earlier { All (λ i. i < place) arguments.now }
+    requires begun { IsBegun (reading_of stack.now atoms.now.atoms) store.old }
+    ensures begun { OnOk result (IsBegun (reading_of stack.now atoms.now.atoms) store.new) }
+    ensures stay { (c : Kept) → Contains store.old.clauses c → Contains store.new.clauses c }
+    ensures has { OnOk result (HasPart stack.now sorts.now atoms.now.atoms store.new.clauses place operator arguments.now) }
+    ensures err { IfErr result (IsRefused stack.now marks.now sorts.now atoms.now.atoms) }
+    ensures same { forms.new ≡ forms.old }
+{
+    stack.laws();
+    if are_bools(sorts, place, arguments) {
+        keep_bools(
+            stack,
+            atoms,
+            &mut space.bools,
+            store,
+            place,
+            operator,
+            arguments,
+        )?;
+        return Ok(());
+    }
+    match keep_compared(
+        stack, sorts, forms, atoms, space, store, place, operator, arguments,
+    ) {
+        Ok(()) => Ok(()),
+        Err(error) => Err(FirstError::Part(place, error)),
+    }
+}
+
+/// Keeps the clauses of the term at a place, if it is a part.
+fn keep_place(
+    stack: &Stack,
+    marks: &[bool],
+    sorts: &[Sort],
+    linear: &[bool],
+    forms: &mut LinearForms,
+    atoms: &AtomNumbers,
+    space: &mut Space,
+    store: &mut Store,
+    place: TermId,
+) -> Result<(), FirstError>
+    requires parts { AreStackParts stack.now marks.now }
+    requires atoms { AreCheckAtoms stack.now marks.now atoms.now.atoms }
+    requires sorts { AreSorts (signature_of stack.now.frames) stack.now.trees (length stack.now.trees) sorts.now }
+    requires linear { AreFlags is_linear stack.now.trees (length stack.now.trees) linear.now }
+    requires forms { AreForms stack.now.trees forms.old }
+    requires within { place < length stack.now.trees }
+    requires begun { IsBegun (reading_of stack.now atoms.now.atoms) store.old }
+    ensures begun { OnOk result (IsBegun (reading_of stack.now atoms.now.atoms) store.new) }
+    ensures stay { (c : Kept) → Contains store.old.clauses c → Contains store.new.clauses c }
+    ensures has { OnOk result (HasPartAt stack.now marks.now sorts.now atoms.now.atoms store.new.clauses place) }
+    ensures err { IfErr result (IsRefused stack.now marks.now sorts.now atoms.now.atoms) }
+    ensures same { forms.new ≡ forms.old }
+{
+    stack.laws();
+    if !marks[place as usize] {
+        return Ok(());
+    }
+    if !linear[place as usize] {
+        return Err(FirstError::NotLinear(place));
+    }
+    let node = stack.terms().node(place);
+    match node.head {
+        Head::Theory(operator) => keep_node(
+            stack,
+            marks,
+            sorts,
+            forms,
+            atoms,
+            space,
+            store,
+            place,
+            operator,
+            node.arguments,
+        ),
+        Head::Numeral(_) => Ok(()),
+        Head::Symbol(_) => Ok(()),
+        Head::Place(_) => Ok(()),
+    }
+}
+
+/// Keeps the clauses of all parts.
+pub(crate) fn keep_parts(
+    alloc: Global,
+    stack: &Stack,
+    marks: &[bool],
+    sorts: &[Sort],
+    forms: &mut LinearForms,
+    atoms: &AtomNumbers,
+    store: &mut Store,
+) -> Result<(), FirstError>
+    requires parts { AreStackParts stack.now marks.now }
+    requires atoms { AreCheckAtoms stack.now marks.now atoms.now.atoms }
+    requires sorts { AreSorts (signature_of stack.now.frames) stack.now.trees (length stack.now.trees) sorts.now }
+    requires forms { AreForms stack.now.trees forms.old }
+    requires begun { IsBegun (reading_of stack.now atoms.now.atoms) store.old }
+    ensures begun { OnOk result (IsBegun (reading_of stack.now atoms.now.atoms) store.new) }
+    ensures has { OnOk result (HasParts stack.now marks.now sorts.now atoms.now.atoms store.new.clauses) }
+    ensures err { IfErr result (IsRefused stack.now marks.now sorts.now atoms.now.atoms) }
+    ensures same { forms.new ≡ forms.old }
+{
+    let linear = linear_terms(alloc, stack.terms())?;
+    let mut space = Space {
+        bools: BoolSpace::new(alloc),
+        parts: PartSpace::new(alloc),
+        clauses: Clauses::new(alloc),
+    };
+    for place in 0..stack.terms().len() {
+        keep_place(
+            stack, marks, sorts, &linear, forms, atoms, &mut space, store, place,
+        )?;
+    }
+    Ok(())
+}

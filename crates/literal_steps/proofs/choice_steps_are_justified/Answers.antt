@@ -1,5 +1,0 @@
-use Rattle.literal_steps.proofs.Justifying.{choice_justified}
-use Rattle.literal_steps.proofs.choice_steps_are_justified.Goals as goal
-
-pub returns : goal.returns
-returns c = choice_justified

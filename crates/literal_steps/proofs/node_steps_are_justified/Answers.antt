@@ -1,5 +1,0 @@
-use Rattle.literal_steps.proofs.Justifying.{node_justified}
-use Rattle.literal_steps.proofs.node_steps_are_justified.Goals as goal
-
-pub returns : goal.returns
-returns c = node_justified

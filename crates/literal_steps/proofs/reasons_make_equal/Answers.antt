@@ -1,5 +1,0 @@
-use Rattle.literal_steps.proofs.Reasoning.{reasons_equal}
-use Rattle.literal_steps.proofs.reasons_make_equal.Goals as goal
-
-pub returns : goal.returns
-returns c = reasons_equal c.equal_points_have_one_value.ensures

@@ -1,5 +1,0 @@
-use Rattle.literal_steps.proofs.Justifying.{truth_justified}
-use Rattle.literal_steps.proofs.truth_is_justified.Goals as goal
-
-pub returns : goal.returns
-returns c = truth_justified c.value_has_its_sort.ensures

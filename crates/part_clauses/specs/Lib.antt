@@ -1,4 +1,0 @@
-pub mod First
-pub mod Turned
-pub mod Numbers
-pub mod Triangles

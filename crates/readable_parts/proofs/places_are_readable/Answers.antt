@@ -1,5 +1,0 @@
-use Rattle.readable_parts.proofs.Places.{places_readable}
-use Rattle.readable_parts.proofs.places_are_readable.Goals as goal
-
-pub returns : goal.returns
-returns c = places_readable c.leaves_are_parts.ensures c.trees_are_in_order.ensures c.trees_are_linear.ensures

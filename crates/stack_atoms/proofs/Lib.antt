@@ -1,5 +1,0 @@
-pub mod Sorting
-pub mod Integers
-pub mod Marking
-pub mod Places
-pub mod Taking

@@ -1,4 +1,0 @@
-pub mod Parts
-pub mod Atoms
-pub mod Marks
-pub mod OfStack

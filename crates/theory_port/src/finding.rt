@@ -1,0 +1,95 @@
+//! What a decider finds of a stack. It is shown the terms of the assertions alone, where these are few, and the whole stack where that doesn't settle the check: a report speaks of all terms.
+ghost use Rattle.std.specs.Prelude.{◌≡◌, Bool, List, ℤ, IfOk};
+ghost use Rattle.smt_meaning.specs.Term.{Tree};
+ghost use Rattle.smt_meaning.specs.Stack.{Frame};
+ghost use Rattle.theory_port.specs.Found.{IsFound, IsSettled};
+
+use crate::decider::{Decider, Verdict};
+use scope_stack::{ScopeStack, Stack};
+use smt_meaning::Settings;
+use std::alloc::{AllocError, Global};
+use std::mem;
+
+/// What is found of a stack as a check sees it. `None` where the decider doesn't take it; an `Err` is for want of memory.
+fn find<D: Decider>(
+    alloc: Global,
+    decider: &mut D,
+    settings: &Settings,
+    stack: &Stack,
+) -> Result<Option<Verdict>, AllocError>
+    ensures { IfOk result (IsFound D.decides stack.now.trees stack.now.frames settings.now.units) }
+{
+    let taken = decider.takes(alloc, stack)?;
+    if taken {
+        Ok(Some(decider.decide(alloc, stack, settings)?))
+    } else {
+        Ok(None)
+    }
+}
+
+/// A model, or that there is none, if it was found.
+fn settled(found: Option<Verdict>) -> Option<Verdict>
+    ensures { (decided : List Frame → Bool) (ts : List Tree) (frames : List Frame) (limit : ℤ) → IsFound decided ts frames limit found → IsSettled decided frames result }
+{
+    match found? {
+        Verdict::Sat(model) => Some(Verdict::Sat(model)),
+        Verdict::Unsat => Some(Verdict::Unsat),
+        Verdict::Unknown(_) => None,
+    }
+}
+
+/// What is found of the terms of the assertions alone, if it settles the check. An `Err` is for want of memory.
+fn find_by_part<D: Decider>(
+    alloc: Global,
+    decider: &mut D,
+    settings: &Settings,
+    stack: &mut ScopeStack,
+) -> Result<Option<Verdict>, AllocError>
+    ensures stays { stack.new ≡ stack.old }
+    ensures found { IfOk result (IsSettled D.decides stack.old.frames) }
+{
+    let whole = mem::replace(stack, ScopeStack::new(alloc));
+    match whole.part(alloc) {
+        Err(whole) => {
+            *stack = whole;
+            Ok(None)
+        }
+        Ok(part) => {
+            let found = find(alloc, decider, settings, part.stack());
+            *stack = part.whole();
+            Ok(settled(found?))
+        }
+    }
+}
+
+/// What is found of the whole stack. `None` where the decider doesn't take it; an `Err` is for want of memory.
+fn find_by_whole<D: Decider>(
+    alloc: Global,
+    decider: &mut D,
+    settings: &Settings,
+    stack: &mut ScopeStack,
+) -> Result<Option<Verdict>, AllocError>
+    ensures stays { stack.new ≡ stack.old }
+    ensures found { IfOk result (IsFound D.decides stack.old.trees stack.old.frames settings.now.units) }
+{
+    let seen = mem::replace(stack, ScopeStack::new(alloc)).into_stack();
+    let found = find(alloc, decider, settings, &seen);
+    *stack = ScopeStack::of(seen);
+    found
+}
+
+/// What is found of a stack, which stays as it is. `None` where the decider doesn't take it; an `Err` is for want of memory.
+pub fn found<D: Decider>(
+    alloc: Global,
+    decider: &mut D,
+    settings: &Settings,
+    stack: &mut ScopeStack,
+) -> Result<Option<Verdict>, AllocError>
+    ensures stays { stack.new ≡ stack.old }
+    ensures found { IfOk result (IsFound D.decides stack.old.trees stack.old.frames settings.now.units) }
+{
+    match find_by_part(alloc, decider, settings, stack)? {
+        Some(verdict) => Ok(Some(verdict)),
+        None => find_by_whole(alloc, decider, settings, stack),
+    }
+}

@@ -1,0 +1,82 @@
+-- How a search begins, and what its outcome says of the assertions.
+use Rattle.std.proofs.Common.{◌≡◌, ℕ, zero, suc, ◌<◌, ◌≤◌, false, List, [], ◌∷◌, map, length, get_or, All, subst, sym, arith, refl}
+use Rattle.std.specs.Prelude.{IsTrue}
+use Rattle.std.proofs.lemmas.List.Elements.{All-weaker, All-same, All-map}
+use Rattle.clause_store.specs.Stored.{Kept, Stored}
+use Rattle.smt_meaning.specs.declared.values.Table.{Table}
+use Rattle.smt_meaning.specs.declared.clauses.Atom.{Atom}
+use Rattle.smt_meaning.specs.Declaration.{Declaration}
+use Rattle.smt_meaning.specs.Term.{tree_at, Interpretation, fits}
+use Rattle.smt_meaning.specs.Interpretation.{AreTablesFor, meaning}
+use Rattle.smt_meaning.specs.MayReply.{Fits}
+use Rattle.smt_meaning.specs.Stack.{signature_of, assertions_of, Holds}
+use Rattle.smt_meaning.specs.StackCommand.{Stack}
+use Rattle.scope_stack.specs.declared.answers.Assertion.{Assertion}
+use Rattle.scope_stack.specs.Shown.{AreAsserted}
+use Rattle.search_port.specs.State.{Reading, TheoryState, IsGrown}
+use Rattle.search_port.specs.Valid.{IsOver, FollowsAt}
+use Rattle.cdcl_core.specs.Search.{IsFresh, IsModel, AreAmong}
+use Rattle.smt_laws.specs.Flat.{flat}
+use Rattle.first_clauses.specs.PartClausesFirst.{IsClause}
+use Rattle.first_clauses.specs.CheckClausesFirst.{reading_of, IsFirst}
+use Rattle.first_clauses.specs.Laws.{FirstClausesSayAssertions, SignatureStays}
+
+-- ---- the start
+
+at_most : (m n : ℕ) → m ≡ n → m ≤ n
+at_most m n e = omega (arith, e)
+
+pub fresh : (s : Stack) (table : List Atom) (stored : Stored) (t : TheoryState) → IsFirst s table stored → t.reading ≡ reading_of s table → t.log ≡ [] → IsFresh stored t
+fresh s table stored t f r l =
+    let over : All (λ (c : Kept). IsOver stored.trail.atoms c.literals) stored.clauses =
+    All-weaker (λ (c : Kept). IsClause (reading_of s table) c.level c.literals) (λ (c : Kept). IsOver stored.trail.atoms c.literals)
+    (λ c h. subst (λ n. IsOver n c.literals) (sym f.begun.atoms) h.over) stored.clauses f.begun.clauses in
+    let follow : All (λ (c : Kept). FollowsAt (reading_of s table) c.level c.literals) stored.clauses =
+    All-weaker (λ (c : Kept). IsClause (reading_of s table) c.level c.literals) (λ (c : Kept). FollowsAt (reading_of s table) c.level c.literals) (λ c h. h.follows) stored.clauses f.begun.clauses in
+    record {
+      steps = f.begun.steps;
+      depth = f.begun.depth;
+      log = l;
+      numbered = subst (λ (q : Reading). stored.trail.atoms ≤ length q.table) (sym r) (at_most stored.trail.atoms (length table) f.begun.atoms);
+      over = over;
+      follow = subst (λ (q : Reading). All (λ (c : Kept). FollowsAt q c.level c.literals) stored.clauses) (sym r) follow;
+    }
+
+-- a hook that knows no atom hears of them
+pub heard : (s : Stack) (table : List Atom) → IsGrown (record { trees = s.trees; frames = flat s.frames; table = []; closed = false }) (reading_of s table)
+heard s table = record { more = table; is = refl; none = λ e. absurd cc; stays = λ e. absurd cc }
+
+-- ---- a model
+
+pub tables_for : SignatureStays → (s : Stack) (table : List Atom) (q : Reading) (clauses : List Kept) (tables : List Table) → IsGrown (reading_of s table) q → IsModel q clauses tables
+    → AreTablesFor (signature_of s.frames) tables
+tables_for law s table q clauses tables g m = subst (λ (ds : List Declaration). AreTablesFor ds tables) (law s table q g) m.tables_for
+
+pub holds : FirstClausesSayAssertions → (s : Stack) (table : List Atom) (first : Stored) (q : Reading) (clauses : List Kept) (tables : List Table) → IsFirst s table first → IsGrown (reading_of s table) q
+    → AreAmong first.clauses clauses → IsModel q clauses tables → Holds (meaning tables) s.frames
+holds law s table first q clauses tables f g among m = law s table first q (meaning tables) f g (λ c k. m.makes_true c (among c k))
+
+-- ---- the assertions fit
+
+pub places_within : (s : Stack) (xs : List Assertion) (ps : List ℕ) → AreAsserted s xs → ps ≡ map (λ (a : Assertion). a.term) xs → All (λ t. t < length s.trees) ps
+places_within s xs ps h e = All-same (λ t. t < length s.trees) ps (map (λ (a : Assertion). a.term) xs) e (All-map (λ t. t < length s.trees) (λ (a : Assertion). a.term) xs h.within)
+
+from_map : (P : ℕ → Type 0) (xs : List Assertion) → All P (map (λ (a : Assertion). a.term) xs) → All (λ (a : Assertion). P a.term) xs
+from_map P xs h = λ k d l. subst P (at xs k d) (h k d.term (longer xs k l))
+  where
+    at : (ys : List Assertion) (k : ℕ) (d : Assertion) → get_or (map (λ (a : Assertion). a.term) ys) k d.term ≡ (get_or ys k d).term
+    at [] k d = refl
+    at (y ∷ ys) zero d = refl
+    at (y ∷ ys) (suc k) d = at ys k d
+
+    longer : (ys : List Assertion) (k : ℕ) → k < length ys → k < length (map (λ (a : Assertion). a.term) ys)
+    longer [] k l = l
+    longer (y ∷ ys) zero l = omega arith
+    longer (y ∷ ys) (suc k) l = let rest = longer ys k (omega (arith, l)) in omega (arith, rest)
+
+pub all_fit : (s : Stack) (I : Interpretation) (xs : List Assertion) (ps : List ℕ) → AreAsserted s xs → ps ≡ map (λ (a : Assertion). a.term) xs → All (λ t. IsTrue (fits I (tree_at s.trees t))) ps
+    → All (Fits I) (assertions_of s.frames)
+all_fit s I xs ps h e f =
+    All-same (Fits I) (assertions_of s.frames) (map (λ (a : Assertion). tree_at s.trees a.term) xs) (sym h.terms)
+    (All-map (Fits I) (λ (a : Assertion). tree_at s.trees a.term) xs
+    (from_map (λ t. IsTrue (fits I (tree_at s.trees t))) xs (All-same (λ t. IsTrue (fits I (tree_at s.trees t))) (map (λ (a : Assertion). a.term) xs) ps (sym e) f)))

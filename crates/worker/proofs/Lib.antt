@@ -1,0 +1,11 @@
+pub mod Deciding
+pub mod Free
+pub mod Lists
+pub mod Memory
+pub mod Numbers
+pub mod Ranges
+pub mod SameStack
+pub mod Showing
+pub mod Units
+mod Fitting
+mod RefusalShown

@@ -1,0 +1,76 @@
+use Rattle.std.proofs.Common.{subst, sym, ap, [], false}
+use Rattle.search_port.specs.State.{Reading, TheoryState, IsGrown}
+use Rattle.search_port.specs.Spending.{Spending}
+use Rattle.search_port.specs.declared.budget.Cause.{Cause}
+use Rattle.smt_laws.specs.Flat.{flat}
+use Rattle.first_clauses.specs.CheckClausesFirst.{reading_of}
+use Rattle.cdcl_core.specs.Turns.{EndsSearch, NoHook}
+use Rattle.worker.proofs.Deciding.{fresh, heard, tables_for, holds}
+use Rattle.worker.proofs.Showing.{budget_of, frames_stay, of_numbers, shows_units, trees_stay}
+use Rattle.worker.proofs.decide.search.Goals as goal
+
+pub solve-requires-clause-stands : goal.solve-requires-clause-stands
+solve-requires-clause-stands g c =
+    let s = c.args.stack.now in
+    let t = g.T.Theory.state c.args.theory in
+    c.fresh_stands.ensures c.args.store t (fresh s t.reading.table c.args.store t c.requires.first c.requires.reading c.requires.untold)
+
+pub solve-requires-clause-heard : goal.solve-requires-clause-heard
+solve-requires-clause-heard g c =
+    let s = c.args.stack.now in
+    let before : Reading = (g.T.Theory.state c.args.theory).reading in
+    subst (IsGrown (record { trees = s.trees; frames = flat s.frames; table = []; closed = false })) (sym c.requires.reading) (heard s before.table)
+
+pub model-requires-clause-tables : goal.model-requires-clause-tables
+model-requires-clause-tables g c =
+    let s = c.args.stack.now in
+    let before : Reading = (g.T.Theory.state c.args.theory).reading in
+    let after : Reading = (g.T.Theory.state c.solve.new.theory).reading in
+    let grown : IsGrown (reading_of s before.table) after = subst (λ (r : Reading). IsGrown r after) c.requires.reading c.in-Full.ensures.run.turns.grown in
+    tables_for c.signature_stays.ensures s before.table after c.solve.new.store.clauses c.in-Full.tables grown c.in-Full.ensures.outcome
+
+pub model-requires-clause-holds : goal.model-requires-clause-holds
+model-requires-clause-holds g c =
+    let s = c.args.stack.now in
+    let before : Reading = (g.T.Theory.state c.args.theory).reading in
+    let after : Reading = (g.T.Theory.state c.solve.new.theory).reading in
+    let grown : IsGrown (reading_of s before.table) after = subst (λ (r : Reading). IsGrown r after) c.requires.reading c.in-Full.ensures.run.turns.grown in
+    holds c.first_clauses_say_assertions.ensures s before.table c.args.store after c.solve.new.store.clauses c.in-Full.tables c.requires.first grown c.in-Full.ensures.run.stay c.in-Full.ensures.outcome
+
+pub returns-in-False-clause-verdict : goal.returns-in-False-clause-verdict
+returns-in-False-clause-verdict g c =
+    let s = c.args.stack.now in
+    let before : Reading = (g.T.Theory.state c.args.theory).reading in
+    let after : Reading = (g.T.Theory.state c.solve.new.theory).reading in
+    let grown : IsGrown (reading_of s before.table) after = subst (λ (r : Reading). IsGrown r after) c.requires.reading c.in-False.ensures.run.turns.grown in
+    c.empty_clause_means_no_model.ensures s before.table after c.in-False.field-0 grown c.in-False.ensures.outcome
+
+pub all_spent-requires-clause-trees : goal.all_spent-requires-clause-trees
+all_spent-requires-clause-trees g c =
+    trees_stay c.args.stack.now (g.T.Theory.state c.args.theory).reading (g.T.Theory.state c.solve.new.theory).reading c.requires.reading c.in-Ended-Units.ensures.run.turns.grown
+
+pub all_spent-requires-clause-frames : goal.all_spent-requires-clause-frames
+all_spent-requires-clause-frames g c =
+    frames_stay c.args.stack.now (g.T.Theory.state c.args.theory).reading (g.T.Theory.state c.solve.new.theory).reading c.requires.reading c.in-Ended-Units.ensures.run.turns.grown
+
+pub all_spent-requires-clause-numbers : goal.all_spent-requires-clause-numbers
+all_spent-requires-clause-numbers g c =
+    of_numbers (g.T.Theory.state c.args.theory).reading (g.T.Theory.state c.solve.new.theory).reading c.new-budget.result c.solve.new.budget (ap (λ (b : Spending). b.units) c.new-budget.ensures)
+    c.in-Ended-Units.ensures.run.turns.shown
+
+pub all_spent-requires-clause-spent : goal.all_spent-requires-clause-spent
+all_spent-requires-clause-spent g c =
+    let s = c.args.stack.now in
+    let after : TheoryState = g.T.Theory.state c.solve.new.theory in
+    shows_units (record { as_written = c.follows_as_written.ensures; by_numbers = c.forces_by_numbers.ensures; in_turn = c.forces_in_turn.ensures; flatly = c.flat_says_the_same.ensures }) s c.args.store
+    c.solve.new.store c.laws.ensures c.args.settings.now.units (g.T.Theory.state c.args.theory) after c.new-budget.result c.solve.new.budget c.requires.first c.requires.all c.requires.reading c.requires.basis
+    (budget_of c.args.settings.now.units c.new-budget.result c.units_within-limit.result _ c.new-budget.ensures c.units_within-limit.ensures c.has_limit-limited.ensures) c.in-Ended-Units.ensures.run
+    (subst (λ (e : Cause). EndsSearch after.reading c.solve.new.budget NoHook e) c.in-Ended-Units.field-0-is c.in-Ended-Units.ensures.outcome)
+
+pub stopped-requires-clause-trees : goal.stopped-requires-clause-trees
+stopped-requires-clause-trees g c =
+    trees_stay c.args.stack.now (g.T.Theory.state c.args.theory).reading (g.T.Theory.state c.solve.new.theory).reading c.requires.reading c.in-Ended-Memory.ensures.run.turns.grown
+
+pub stopped-requires-clause-frames : goal.stopped-requires-clause-frames
+stopped-requires-clause-frames g c =
+    frames_stay c.args.stack.now (g.T.Theory.state c.args.theory).reading (g.T.Theory.state c.solve.new.theory).reading c.requires.reading c.in-Ended-Memory.ensures.run.turns.grown

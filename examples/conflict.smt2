@@ -1,0 +1,31 @@
+; Why can't a plan be carried out? Each wish has a name, and the core names wishes that can't all be met together, with none of
+; them to spare: leave any one of them out, and the rest of the plan can be done.
+; The answers: the plan has no model, and its core is the small budget, the two rooms and the price of a room; the team's size and
+; the date have nothing to do with it. With one room the rest is possible. Of the further wishes that are only assumed, a third room
+; alone rules the plan out.
+(set-option :print-success false)
+(set-option :produce-unsat-cores true)
+(set-option :produce-unsat-assumptions true)
+(set-logic QF_LIA)
+(declare-const rooms Int)
+(declare-const price Int)
+(declare-const budget Int)
+(declare-const team Int)
+(declare-const day Int)
+(define-fun costs () Int (+ price (ite (<= 2 rooms) price 0)))
+(assert (! (<= 1 team 8) :named small-team))
+(push 1)
+(assert (! (<= budget 150) :named small-budget))
+(assert (! (<= 2 rooms) :named two-rooms))
+(assert (! (<= 80 price) :named price-of-a-room))
+(assert (! (<= 1 day 5) :named weekday))
+(assert (<= costs budget))
+(check-sat)
+(get-unsat-core)
+(pop 1)
+(assert (! (<= budget 200) :named larger-budget))
+(assert (! (<= 80 price) :named same-price))
+(assert (<= (* 80 rooms) budget))
+(check-sat-assuming ((= rooms 1) (<= budget 150)))
+(check-sat-assuming ((= team 8) (= rooms 3) (= day 2)))
+(get-unsat-assumptions)
