@@ -1,5 +1,6 @@
 -- What is written after one more reply.
 use Rattle.std.proofs.Common.{arith, ◌≡◌, ℕ, ◌+◌, List, [], ◌∷◌, ◌++◌, take, append_assoc, Option, Some, None, Result, Ok, Err, refl, sym, ap, subst, ◌∙◌, append-nil, zero-add}
+use Rattle.std.specs.Prelude.{IsErrAnd}
 use Rattle.std.proofs.lemmas.Grind.{flat_map-append}
 use Rattle.std.proofs.lemmas.List.Sums.{sum_by-append}
 use Rattle.std.specs.Io.KnownBytes.{Appends}
@@ -7,7 +8,8 @@ use Rattle.ports.specs.Flow.{SinkTold, RoseBy, raised_by}
 use Rattle.smt_meaning.specs.LegalJournal.{journal_text}
 use Rattle.smt_meaning.specs.Text.{text}
 use Rattle.smt_meaning.specs.declared.answers.Entry.{Entry}
-use Rattle.smt_top.specs.Progress.{calls_for, journal_calls, Writes, IsWritten, IsTorn, PutAfter, WrittenAfter, given}
+use Rattle.smt_top.specs.Progress.{calls_for, journal_calls, Tallies, Writes, IsWritten, IsTorn, PutAfter, WrittenAfter, given}
+use Rattle.smt_top.specs.declared.serving.Server.{Server}
 use Rattle.smt_top.specs.declared.serving.Stop.{Stop}
 use Rattle.smt_top.specs.declared.serving.Stop.TheVariants.{Memory as StopMemory, WriteFault as StopWriteFault}
 
@@ -94,3 +96,13 @@ pub given_put : {T : Type 0} (r : Result T Stop) (old new : SinkTold) (bytes : L
 given_put (Ok x) old new bytes e p = refl
 given_put (Err StopMemory) old new bytes e p = absurd p
 given_put (Err StopWriteFault) old new bytes e p = refl
+
+-- memory was wanting before the entry was given
+pub tally_kept : {T : Type 0} (r : Result T Stop) (server : Server) (j : List Entry) (e : Entry) → IsErrAnd r (λ why. why ≡ StopMemory) → Tallies server j → Tallies server (j ++ given r e)
+tally_kept (Ok x) server j e is h = absurd is
+tally_kept {T} (Err why) server j e is h = subst (λ (y : Stop). Tallies server (j ++ given {T = T} (Err y) e)) (sym is) (subst (λ (k : List Entry). Tallies server k) (sym (append-nil j)) h)
+
+pub written_kept : {T : Type 0} (r : Result T Stop) (before now : SinkTold) (j : List Entry) (e : Entry) → IsErrAnd r (λ why. why ≡ StopMemory) → IsWritten before now j → WrittenAfter r before now (j ++ given r e)
+written_kept (Ok x) before now j e is h = absurd is
+written_kept {T} (Err why) before now j e is h =
+    subst (λ (y : Stop). WrittenAfter {T = T} (Err y) before now (j ++ given {T = T} (Err y) e)) (sym is) (subst (λ (k : List Entry). IsWritten before now k) (sym (append-nil j)) h)
