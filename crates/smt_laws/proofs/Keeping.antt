@@ -12,6 +12,7 @@ use Rattle.smt_meaning.specs.declared.refusals.Refusal.{Refusal}
 use Rattle.smt_meaning.specs.Term.{Tree, Trees}
 use Rattle.smt_meaning.specs.Sexp.{Sexp, Sexps, word, group, end, ◌▸◌, sexp}
 use Rattle.smt_meaning.specs.Sorts.{Scope, Outcome, done, refused, Judging, go_on, ◌>>=◌, ◌>>◌, return, refuse, require, required, the_scope, with_all, note, found, declare, declare_in, most_symbols, Typed, Variable, Rules, Known, variable, operator, function, unknown, known, can_be_applied, judge_application, judge_bare, judge_symbol, judge_operator, judge_token, check_bindings, none_twice, bound_names, name_by, judge_attributes, either, judge, judge_all, judge_bindings}
+use Rattle.smt_meaning.specs.Goal.{pair_text}
 use Rattle.smt_meaning.specs.StackCommand.{Change, declares, sets, clears, begins_again, is_unsupported, judge_sort, judge_sorts, new_sort_name, new_function_name, declare_new_sort, declare_sort, define_sort, declare_function, judge_parameters, apart, in_body, judge_body, define_function, require_room, in_assert, assert_term, in_question, judge_terms, judge_questions, assume_terms, minimize_term, stack_command}
 use Rattle.smt_meaning.specs.declared.commands.WrittenSort.{WrittenSort}
 use Rattle.smt_meaning.specs.declared.commands.WrittenSort.TheVariants.{Name, Applied}
@@ -245,7 +246,7 @@ module _ {P : Scope → Type 0} (i : Invariant P) where
   minimize_keeping : (level : ℕ) (t : List Token) → Keeping P (minimize_term level t)
   minimize_keeping level t =
       bind_keeping (judge_keeping in_question [] (sexp t))
-      (λ a. next_keeping (require_keeping _ _) (bind_keeping scope_keeping (λ s. next_keeping (require_keeping _ _) (next_keeping (require_keeping _ _) (return_keeping _)))))
+      (λ a. next_keeping (require_keeping _ _) (bind_keeping scope_keeping (λ s. next_keeping (require_keeping _ _) (assume_keeping level (pair_text (codes "=") t t ∷ [])))))
 
   -- ---- the fold
 

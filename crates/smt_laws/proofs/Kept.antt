@@ -203,10 +203,10 @@ check_assuming_sound s (Some c) = assuming_sound s (judged c s.stack)
 
 minimizing_sound : (s : State) (t : List Token) (o : Outcome Change) → SoundEffect (minimizing s t o)
 minimizing_sound s t (refused r) = tt
-minimizing_sound s t (done (asks []) c) = tt
-minimizing_sound s t (done (asks (a ∷ [])) c) = (with_logic_has s.settings s.logic s.mode s.options s.stack s.above, refl)
-minimizing_sound s t (done (asks (a ∷ b ∷ rest)) c) = tt
-minimizing_sound s t (done (assumes xs) c) = tt
+minimizing_sound s t (done (assumes []) c) = tt
+minimizing_sound s t (done (assumes (a ∷ [])) c) = (with_logic_has s.settings s.logic s.mode s.options s.stack s.above, refl)
+minimizing_sound s t (done (assumes (a ∷ b ∷ rest)) c) = tt
+minimizing_sound s t (done (asks ts) c) = tt
 minimizing_sound s t (done declares c) = tt
 minimizing_sound s t (done (asserts a) c) = tt
 minimizing_sound s t (done (pushes k) c) = tt
@@ -253,7 +253,7 @@ effect_sound s GetUnsatCore h =
 effect_sound s GetUnsatAssumptions h =
     provided_sound (is_unsat s.mode) NotUnsat (provided s.options.produce_unsat_assumptions (OptionIsOff ProduceUnsatAssumptions) (reduces assumed))
     (provided_sound s.options.produce_unsat_assumptions (OptionIsOff ProduceUnsatAssumptions) (reduces assumed) tt)
-effect_sound s (Minimize t) h = tt
+effect_sound s (Minimize t) h = minimize_sound s t (stack_command (Minimize t))
 effect_sound s LeftOut h = tt
 
 -- ---- what a command leaves is sound

@@ -1,12 +1,13 @@
 -- Commands keep the trees linear, and their numerals in the range.
 use Rattle.std.proofs.Common.{◌≡◌, ℕ, ◌+◌, List, [], ◌∷◌, ◌++◌, map, subst, sym, refl, Bool, true, false, Option, Some, None, append_assoc}
-use Rattle.std.specs.Prelude.{ℤ, if◌then◌else◌}
+use Rattle.std.specs.Prelude.{ℤ, codes, if◌then◌else◌}
 use Rattle.smt_meaning.specs.declared.terms.Head.TheVariants.{Place}
 use Rattle.smt_meaning.specs.declared.tokens.Token.{Token}
 use Rattle.smt_meaning.specs.Declaration.{Declaration}
 use Rattle.smt_meaning.specs.Term.{Tree, node, none}
 use Rattle.smt_meaning.specs.Sexp.{sexp}
 use Rattle.smt_meaning.specs.Sorts.{Scope, Outcome, done, refused, Judging, ◌>>◌, return, declare, Typed, Variable, judge}
+use Rattle.smt_meaning.specs.Goal.{pair_text}
 use Rattle.smt_meaning.specs.StackCommand.{Change, declares, sets, clears, begins_again, is_unsupported, judge_sort, judge_sorts, new_sort_name, new_function_name, declare_new_sort, declare_sort, define_sort, declare_function, judge_parameters, Bodied, apart, in_body, judge_body, define_function, require_room, in_assert, assert_term, in_question, judge_terms, judge_questions, ask_terms, assume_terms, minimize_term, stack_command}
 use Rattle.smt_meaning.specs.declared.commands.WrittenSort.{WrittenSort}
 use Rattle.smt_meaning.specs.declared.commands.WrittenSort.TheVariants.{Name, Applied}
@@ -156,9 +157,7 @@ minimize_gives : (level : ℕ) (t : List Token) (s : Scope) → Good true s → 
 minimize_gives level t s g =
     bind_gives true s _ _ Fine Nothing (judge_gives in_question [] (sexp t) s g tt)
     (λ a u f e k. next_gives true u _ _ _ Nothing (require_gives true u _ _)
-    (λ b v d m l. scope_then true v _ Nothing
-    (next_gives true v _ _ _ Nothing (require_gives true v _ _)
-    (λ c w h i p. next_gives true w _ _ _ Nothing (require_gives true w _ _) (λ x y j o q. return_gives true y _ Nothing tt)))))
+    (λ b v d m l. scope_then true v _ Nothing (next_gives true v _ _ _ Nothing (require_gives true v _ _) (λ c w h i p. assume_gives level (pair_text (codes "=") t t ∷ []) w h))))
 
 -- ---- each command
 

@@ -18,7 +18,7 @@ use Rattle.smt_meaning.specs.declared.commands.Command.TheVariants.{SetOption, E
 use Rattle.smt_meaning.specs.Sexp.{Sexp, Sexps, word, group, end, ◌▸◌}
 use Rattle.smt_meaning.specs.Signature.{look_up}
 use Rattle.smt_meaning.specs.Sorts.{decimal, is_small}
-use Rattle.smt_meaning.specs.Command.{Form, forms, formed, within, command, with_numeral, truth_setting, numeral_setting, regular_channel, diagnostic_channel, setting, setting_of, get_option_of, get_info_of, option_names, info_names, bare, set_logic, set_option, get_option, set_info, get_info, echo, declare_sort, define_sort, define_sort_of, declare_const, declare_const_of, declare_fun, declare_fun_of, define_fun, define_fun_of, assert_form, levels, get_value, check_sat_assuming, each, symbol, written_sort, parameter}
+use Rattle.smt_meaning.specs.Command.{Form, forms, formed, within, command, with_numeral, truth_setting, numeral_setting, regular_channel, diagnostic_channel, setting, setting_of, get_option_of, get_info_of, option_names, info_names, bare, set_logic, set_option, get_option, set_info, get_info, echo, declare_sort, define_sort, define_sort_of, declare_const, declare_const_of, declare_fun, declare_fun_of, define_fun, define_fun_of, assert_form, levels, get_value, check_sat_assuming, minimize, each, symbol, written_sort, parameter}
 use Rattle.smt_laws.specs.LanguageLaws.{HasWrittenNumbers, SetsWritten}
 
 abbrev Good : Result Command Refusal → Type 0
@@ -178,6 +178,10 @@ assuming_good : (ss : Sexps) → Good (check_sat_assuming ss)
 assuming_good (group ts ▸ end) = tt
 assuming_good _ = tt
 
+minimize_good : (ss : Sexps) → Good (minimize ss)
+minimize_good (t ▸ end) = tt
+minimize_good _ = tt
+
 -- ---- the table of forms
 
 AllGood : List (List ℕ × Form) → Type 0
@@ -234,7 +238,7 @@ forms_good = (
                                               bare_good GetAssignment tt,
                                               (
                                                 λ ss. tt,
-                                                (bare_good GetUnsatCore tt, (bare_good GetUnsatAssumptions tt, (λ ss. tt, (λ ss. tt, (λ ss. tt, (λ ss. tt, tt)))))),
+                                                (bare_good GetUnsatCore tt, (bare_good GetUnsatAssumptions tt, (λ ss. tt, (λ ss. tt, (λ ss. tt, (λ ss. tt, (minimize_good, tt))))))),
                                               ),
                                             ),
                                           ),

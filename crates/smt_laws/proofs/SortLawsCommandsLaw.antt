@@ -1,6 +1,6 @@
 -- Commands keep the signature's functions usable, and assert terms of the sort Bool.
 use Rattle.std.proofs.Common.{◌≡◌, ℕ, ◌+◌, ◌<◌, List, [], ◌∷◌, ◌++◌, All, map, length, sym, subst, ◌∙◌, refl, Bool, true, false, Option, Some, None, append_assoc}
-use Rattle.std.specs.Prelude.{ℤ, if◌then◌else◌}
+use Rattle.std.specs.Prelude.{ℤ, codes, if◌then◌else◌}
 use Rattle.std.proofs.lemmas.List.{length-append}
 use Rattle.smt_meaning.specs.declared.values.Sort.{Sort}
 use Rattle.smt_meaning.specs.declared.values.Sort.TheVariants.{Bool as Truths, Free}
@@ -11,6 +11,7 @@ use Rattle.smt_meaning.specs.Term.{Tree, node, none}
 use Rattle.smt_meaning.specs.Sexp.{sexp}
 use Rattle.smt_meaning.specs.Signature.{is_symbol}
 use Rattle.smt_meaning.specs.Sorts.{Scope, Outcome, done, refused, Judging, ◌>>◌, return, declare, Typed, Variable, judge}
+use Rattle.smt_meaning.specs.Goal.{pair_text}
 use Rattle.smt_meaning.specs.StackCommand.{Change, declares, asserts, sets, clears, begins_again, is_unsupported, judge_sort, judge_sorts, new_sort_name, new_function_name, sort_declaration, function_declaration, declare_new_sort, declare_sort, define_sort, declare_function, judge_parameters, Bodied, apart, in_body, judge_body, sorts_of_variables, define_function, require_room, in_assert, assert_term, in_question, judge_terms, judge_questions, ask_terms, assume_terms, minimize_term, stack_command}
 use Rattle.smt_meaning.specs.declared.commands.WrittenSort.{WrittenSort}
 use Rattle.smt_meaning.specs.declared.commands.WrittenSort.TheVariants.{Name, Applied}
@@ -213,9 +214,7 @@ minimize_gives : (level : ℕ) (t : List Token) (s : Scope) → Good s.given s.s
 minimize_gives level t s g =
     bind_gives Declaring s _ _ Nothing Plain (unnamed s _ (Fine []) (judge_gives in_question [] (λ e. refl) [] (sexp t) s g tt))
     (λ a u f e k. next_gives Declaring u _ _ _ Plain (require_gives Declaring u _ _)
-    (λ b v d m l. scope_then Declaring v _ Plain
-    (next_gives Declaring v _ _ _ Plain (require_gives Declaring v _ _)
-    (λ c w h i p. next_gives Declaring w _ _ _ Plain (require_gives Declaring w _ _) (λ x y j o q. return_gives Declaring y _ Plain tt)))))
+    (λ b v d m l. scope_then Declaring v _ Plain (next_gives Declaring v _ _ _ Plain (require_gives Declaring v _ _) (λ c w h i p. assume_gives level (pair_text (codes "=") t t ∷ []) w h))))
 
 -- ---- each command
 

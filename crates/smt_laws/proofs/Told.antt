@@ -155,10 +155,10 @@ check_assuming_told s (Some c) = assuming_told s (judged c s.stack)
 
 minimizing_told : (s : State.State) (t : List Token) (o : Outcome Change) → is_told true (minimizing s t o) ≡ true
 minimizing_told s t (refused r) = refl
-minimizing_told s t (done (asks []) c) = refl
-minimizing_told s t (done (asks (a ∷ [])) c) = refl
-minimizing_told s t (done (asks (a ∷ b ∷ rest)) c) = refl
-minimizing_told s t (done (assumes xs) c) = refl
+minimizing_told s t (done (assumes []) c) = refl
+minimizing_told s t (done (assumes (a ∷ [])) c) = refl
+minimizing_told s t (done (assumes (a ∷ b ∷ rest)) c) = refl
+minimizing_told s t (done (asks ts) c) = refl
 minimizing_told s t (done declares c) = refl
 minimizing_told s t (done (asserts a) c) = refl
 minimizing_told s t (done (pushes k) c) = refl
@@ -205,7 +205,7 @@ effect_told s GetUnsatCore =
 effect_told s GetUnsatAssumptions =
     provided_told true (is_unsat s.mode) NotUnsat (provided s.options.produce_unsat_assumptions (OptionIsOff ProduceUnsatAssumptions) (reduces assumed))
     (provided_told true s.options.produce_unsat_assumptions (OptionIsOff ProduceUnsatAssumptions) (reduces assumed) refl)
-effect_told s (Minimize t) = refl
+effect_told s (Minimize t) = minimize_told s t (stack_command (Minimize t))
 effect_told s LeftOut = refl
 
 -- ---- one reply

@@ -1,5 +1,5 @@
 -- What an s-expression is as a command, or why it is none (SMT-LIB 2.6, section 4.2).
-use Rattle.std.specs.Prelude.{ℕ, ℤ, pos, Bool, true, false, List, [], ◌∷◌, map, Option, Some, None, Result, Ok, Err, bytes_eq, codes, if◌then◌else◌}
+use Rattle.std.specs.Prelude.{ℕ, ℤ, pos, Bool, true, false, List, [], ◌∷◌, map, ◌++◌, Option, Some, None, Result, Ok, Err, bytes_eq, codes, if◌then◌else◌}
 use Rattle.smt_meaning.specs.declared.tokens.Token.{Token}
 use Rattle.smt_meaning.specs.declared.tokens.Token.TheVariants.{Numeral, Text, Symbol, Keyword}
 use Rattle.smt_meaning.specs.declared.refusals.Refusal.{Refusal}
@@ -17,7 +17,7 @@ use Rattle.smt_meaning.specs.declared.commands.WrittenSort.{WrittenSort}
 use Rattle.smt_meaning.specs.declared.commands.WrittenSort.TheVariants.{Name, Applied}
 use Rattle.smt_meaning.specs.declared.commands.Parameter.{Parameter}
 use Rattle.smt_meaning.specs.declared.commands.Command.{Command}
-use Rattle.smt_meaning.specs.declared.commands.Command.TheVariants.{SetLogic, SetOption, GetOption, SetInfo, GetInfo, Echo, Exit, Reset, ResetAssertions, DeclareSort, DefineSort, DeclareConst, DeclareFun, DefineFun, Assert, CheckSat, CheckSatAssuming, Push, Pop, GetValue, GetModel, GetAssertions, GetAssignment, GetUnsatCore, GetUnsatAssumptions, LeftOut}
+use Rattle.smt_meaning.specs.declared.commands.Command.TheVariants.{SetLogic, SetOption, GetOption, SetInfo, GetInfo, Echo, Exit, Reset, ResetAssertions, DeclareSort, DefineSort, DeclareConst, DeclareFun, DefineFun, Assert, CheckSat, CheckSatAssuming, Push, Pop, GetValue, GetModel, GetAssertions, GetAssignment, GetUnsatCore, GetUnsatAssumptions, Minimize, LeftOut}
 use Rattle.smt_meaning.specs.Sexp.{Sexp, Sexps, word, group, end, ◌▸◌, tokens}
 use Rattle.smt_meaning.specs.Signature.{look_up}
 use Rattle.smt_meaning.specs.Sorts.{decimal, is_small}
@@ -235,6 +235,11 @@ abbrev pub assert_form : Form
 assert_form (t ▸ end) = Ok (Assert (tokens t))
 assert_form _ = wrong
 
+-- term
+abbrev pub minimize : Form
+minimize (t ▸ end) = Ok (Minimize (tokens t))
+minimize _ = wrong
+
 -- nothing, which means 1, or a numeral
 abbrev pub levels : (ℤ → Command) → Form
 levels c end = Ok (c (pos 1))
@@ -269,9 +274,9 @@ standard_forms =
     ∷ (codes "get-unsat-core", bare GetUnsatCore) ∷ (codes "get-unsat-assumptions", bare GetUnsatAssumptions) ∷ (codes "define-fun-rec", left_out)
     ∷ (codes "define-funs-rec", left_out) ∷ (codes "declare-datatype", left_out) ∷ (codes "declare-datatypes", left_out) ∷ []
 
--- so far there are no others
+-- and the question for a least value, which is no command of the standard
 abbrev pub forms : List (List ℕ × Form)
-forms = standard_forms
+forms = standard_forms ++ (codes "minimize", minimize) ∷ []
 
 -- ---- s-expressions
 

@@ -29,6 +29,11 @@ pair_tree o t u = node (Theory o) (more t (more u none))
 abbrev pub is_itself : List Token → Tree → Assertion
 is_itself text t = record { text = pair_text (codes "=") text text; term = pair_tree Equal t t }
 
+-- the goal of (= t t)
+abbrev pub goal_of : Tree → Tree
+goal_of (node h (more t us)) = t
+goal_of (node h none) = node h none
+
 -- (<= t k)
 abbrev pub is_at_most : List Token → Tree → ℤ → Assertion
 is_at_most text t k = record { text = pair_text (codes "<=") text (number_text k); term = pair_tree AtMost t (number_tree k) }

@@ -16,6 +16,7 @@ use Rattle.smt_meaning.specs.declared.commands.Command.TheVariants.{SetOption, D
 use Rattle.smt_meaning.specs.Declaration.{Declaration, Body}
 use Rattle.smt_meaning.specs.Term.{Tree, node, none, int_eq}
 use Rattle.smt_meaning.specs.Sexp.{sexp}
+use Rattle.smt_meaning.specs.Goal.{pair_text}
 use Rattle.smt_meaning.specs.Signature.{is_one_of, is_some, find_function, find_sort, reserved_functions, reserved_sorts, sort_eq, all_of}
 use Rattle.smt_meaning.specs.Sorts.{Scope, Outcome, done, refused, Judging, ◌>>=◌, ◌>>◌, return, refuse, require, required, the_scope, declare, Typed, sorts_of, Variable, Rules, not_before, judge}
 use Rattle.smt_meaning.specs.Stack.{Assertion, Frame, signature_of, start_frames, depth, on_top, with_declared, cleared, pushed, popped}
@@ -243,15 +244,14 @@ assume_terms level ts = do
 abbrev pub asked_terms : ℕ
 asked_terms = 8
 
--- a term of sort Int, for which there is room in one more level
+-- a term t of sort Int; then (= t t) is assumed
 abbrev pub minimize_term : ℕ → List Token → Judging Change
 minimize_term level t = do
   a ← judge in_question [] (sexp t)
   require (sort_eq a.sort Ints) (SortsDiffer (codes "minimize"))
   s ← the_scope
   require (nat_le (length s.trees + asked_terms) most_terms) TooManyTerms
-  require (nat_lt level most_levels) TooManyLevels
-  return (asks (a ∷ []))
+  assume_terms level (pair_text (codes "=") t t ∷ [])
 
 -- ---- moves
 

@@ -40,7 +40,7 @@ use Rattle.smt_meaning.specs.Signature.{is_one_of, is_symbol, sort_eq}
 use Rattle.smt_meaning.specs.Interpretation.{meaning}
 use Rattle.smt_meaning.specs.Sorts.{Outcome, done, refused, Judging, Typed}
 use Rattle.smt_meaning.specs.Stack.{Assertion, Frame, signature_of, depth}
-use Rattle.smt_meaning.specs.Goal.{is_itself}
+use Rattle.smt_meaning.specs.Goal.{is_itself, goal_of}
 use Rattle.smt_meaning.specs.StackCommand.{Stack, Change, declares, asserts, pushes, pops, clears, begins_again, is_unsupported, asks, assumes, sets, stack_command, scope_of, judged, changed}
 use Rattle.smt_meaning.specs.StackCommand as Stacks
 
@@ -363,11 +363,11 @@ check_assuming s (Some c) = assuming s (judged c s.stack)
 
 -- ---- least values
 
--- (= t t) stands above the stack, as for a check that assumes it; the goal's trees alone join the list
+-- as for a check that assumes (= t t): it stands above the stack, and its trees join the list
 abbrev pub minimizing : State → List Token → Outcome Change → Effect
 minimizing s t (refused r) = denied (Refused (codes "minimize") r)
-minimizing s t (done (asks (a ∷ [])) c) =
-    minimizes t a.tree (record (with_logic s) { stack = changed s.stack (asks (a ∷ [])) c; above = frame_of (is_itself t a.tree ∷ []) ∷ [] })
+minimizing s t (done (assumes (a ∷ [])) c) =
+    minimizes t (goal_of a.term) (record (with_logic s) { stack = changed s.stack (assumes (a ∷ [])) c; above = frame_of (is_itself t (goal_of a.term) ∷ []) ∷ [] })
 -- nothing else comes of it
 minimizing s t (done _ c) = left_out
 
@@ -416,6 +416,5 @@ effect s GetAssertions = get_assertions s
 effect s GetAssignment = get_assignment s (kept_model s.mode)
 effect s GetUnsatCore = get_unsat_core s
 effect s GetUnsatAssumptions = get_unsat_assumptions s
--- no s-expression is this command so far
-effect s (Minimize t) = left_out
+effect s (Minimize t) = minimize s t (stack_command (Minimize t))
 effect s LeftOut = left_out
