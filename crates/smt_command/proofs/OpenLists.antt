@@ -16,7 +16,7 @@ IsSome (x ∷ rest) = Unit {0}
 
 abbrev pub AllFine : List Sexps → Type 0
 AllFine [] = Unit {0}
-AllFine (x ∷ rest) = (are_proper x ≡ true) × (deepest x ≤ most_open) × AllFine rest
+AllFine (x ∷ rest) = (are_proper x ≡ true) × (deepest x + length rest ≤ most_open) × AllFine rest
 
 pub record Fine (lists : List Sexps) : Type 0 where
   pub some : IsSome lists

@@ -1,16 +1,16 @@
 -- The tokens of the next s-expression.
-use Rattle.std.proofs.Common.{◌≡◌, ⊎_elim, ℕ, ◌-◌, ◌≤◌, ◌<◌, List, [], ◌∷◌, ◌++◌, drop, take, length, length-append, length-drop, sym, ap, subst, ◌∙◌, refl, arith, true, false, Some, append_assoc}
+use Rattle.std.proofs.Common.{◌≡◌, ⊎_elim, ℕ, ◌-◌, ◌≤◌, ◌<◌, List, [], ◌∷◌, ◌++◌, drop, take, length, length-append, length-drop, sym, ap, subst, ◌∙◌, refl, arith, true, false, Some, append_assoc, append-nil}
 use Rattle.std.proofs.lemmas.Bool.{cases_lt}
 use Rattle.std.proofs.Math.Seq.{take-append_seam}
 use Rattle.std.specs.List.{slice_range}
 use Rattle.smt_meaning.specs.declared.tokens.Token.{Token}
 use Rattle.smt_meaning.specs.declared.tokens.Token.TheVariants.{Enter, Leave, Numeral, Decimal, Hex, Binary, Text, Symbol, Reserved, Keyword}
-use Rattle.smt_meaning.specs.Reading.{IsSExpr}
-use Rattle.smt_meaning.specs.Sexp.{Sexp, Sexps, word, group, end, ◌▸◌, tokens, tokens_of, before, open_lists_of, is_proper, are_proper}
-use Rattle.smt_laws.proofs.Both.{and_left}
+use Rattle.smt_meaning.specs.Reading.{IsSExpr, IsInner, most_open}
+use Rattle.smt_meaning.specs.Sexp.{Sexp, Sexps, word, group, end, ◌▸◌, tokens, tokens_of, before, open_lists_of, is_proper, are_proper, nested}
+use Rattle.smt_laws.proofs.Both.{and_left, and_both}
 use Rattle.smt_laws.proofs.SExprLaw.{are_sexprs}
 use Rattle.smt_command.specs.declared.arguments.Arguments.{Arguments}
-use Rattle.smt_command.specs.Arguments.{left, innermost, open_lists, is_end, rest_of, first_by, term}
+use Rattle.smt_command.specs.Arguments.{left, innermost, open_lists, IsInList, is_end, rest_of, first_by, term}
 use Rattle.smt_command.proofs.OpenLists.{Fine, IsSome, fine_at, some_before}
 use Rattle.smt_command.proofs.Left.{IsBehind, left_past, left_lists}
 
@@ -46,6 +46,11 @@ written_back : (ts : List Token) → IsSome (open_lists_of ts) → written (open
 written_back [] h = refl
 written_back (t ∷ ts) h = written_before t (open_lists_of ts) h ∙ ap (λ us. t ∷ us) (written_back ts (some_before t (open_lists_of ts) h))
 
+-- an s-expression that may stand in a list
+inner_of : (s : Sexp) → is_proper s ≡ true → nested s < most_open → IsInner (tokens s)
+inner_of s p h =
+    subst (λ ts. IsSExpr (Enter ∷ (ts ++ Leave ∷ []))) (append-nil (tokens s)) (are_sexprs (group (s ▸ end)) (and_both (is_proper s) true p refl) (omega (arith, h)))
+
 -- ---- what stands before the lists that are left behind the next s-expression
 
 record Splits (lists : List Sexps) (before behind : List Token) : Type 0 where
@@ -53,6 +58,7 @@ record Splits (lists : List Sexps) (before behind : List Token) : Type 0 where
   pub first : first_by term (innermost lists) ≡ Some (tokens tree)
   pub split : before ≡ tokens tree ++ behind
   pub is_sexpr : IsSExpr (tokens tree)
+  pub inner : 2 ≤ length lists → IsInner (tokens tree)
 
 splits : (lists lists' : List Sexps) (ts us : List Token) → written lists ≡ ts → written lists' ≡ us → Fine lists → false ≡ is_end (innermost lists)
     → lists' ≡ rest_of (innermost lists) ∷ drop 1 lists → Splits lists ts us
@@ -63,6 +69,7 @@ splits ((s ▸ x) ∷ rest) lists' ts us p q f e b = record {
   first = refl;
   split = sym p ∙ written_more s x rest ∙ ap (λ w. tokens s ++ w) (sym (ap written b) ∙ q);
   is_sexpr = are_sexprs s (and_left (is_proper s) (are_proper x) f.all.0) (omega (arith, f.all.1));
+  inner = λ l. inner_of s (and_left (is_proper s) (are_proper x) f.all.0) (omega (arith, f.all.1, l));
 }
 
 same_part : (front rest all : List Token) (n : ℕ) → all ≡ front ++ rest → n ≡ length front → take n all ≡ front
@@ -78,6 +85,7 @@ not_past a h = ⊎_elim (λ l. l) (λ l. absurd (differ (h ∙ ap is_end (left_p
 pub record IsPart (a b : Arguments) : Type 0 where
   pub first : first_by term (left a) ≡ Some (slice_range b.sexpr.now a.place b.place)
   pub matched : IsSExpr (slice_range b.sexpr.now a.place b.place)
+  pub inner : IsInList a → IsInner (slice_range b.sexpr.now a.place b.place)
 
 part_of : (a b : Arguments) (ts : List Token) → a.sexpr.now ≡ ts → b.sexpr.now ≡ ts → IsSExpr ts → false ≡ is_end (left a) → IsBehind a b → a.place ≤ b.place → b.place ≤ length ts → IsPart a b
 unfolding open_lists
@@ -98,6 +106,7 @@ part_of a b ts p q m e h o w =
     record {
       first = ap (first_by term) (left_lists a) ∙ ap (λ l. first_by term (innermost l)) la ∙ s.first ∙ ap Some (sym whole);
       matched = subst IsSExpr (sym whole) s.is_sexpr;
+      inner = λ l. subst IsInner (sym whole) (s.inner (subst (λ x. 2 ≤ length x) la l));
     }
 
 pub is_part : (a b : Arguments) → b.sexpr.now ≡ a.sexpr.now → IsSExpr a.sexpr.now → false ≡ is_end (left a) → IsBehind a b → a.place ≤ b.place

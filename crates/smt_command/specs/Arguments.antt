@@ -1,5 +1,5 @@
 -- The s-expressions that are left to read of a list.
-use Rattle.std.specs.Prelude.{ℕ, ◌+◌, ◌-◌, List, [], ◌∷◌, drop, Bool, true, false, Option, Some, None}
+use Rattle.std.specs.Prelude.{ℕ, ◌+◌, ◌-◌, ◌≤◌, List, [], ◌∷◌, drop, length, Bool, true, false, Option, Some, None}
 use Rattle.smt_meaning.specs.declared.tokens.Token.{Token}
 use Rattle.smt_meaning.specs.declared.tokens.Token.TheVariants.{Enter, Leave, Numeral, Text, Keyword}
 use Rattle.smt_meaning.specs.Sexp.{Sexp, Sexps, word, group, end, ◌▸◌, open_lists_of, tokens}
@@ -8,6 +8,10 @@ use Rattle.smt_command.specs.declared.arguments.Arguments.{Arguments}
 -- the lists that are open at the place, the innermost first
 unfoldable pub open_lists : Arguments → List Sexps
 open_lists a = open_lists_of (drop a.place a.sexpr.now)
+
+-- a list is open at the place, and not the whole alone
+abbrev pub IsInList : Arguments → Type 0
+IsInList a = 2 ≤ length (open_lists a)
 
 abbrev pub innermost : List Sexps → Sexps
 innermost [] = end

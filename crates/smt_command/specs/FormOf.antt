@@ -1,6 +1,6 @@
 -- The form of each command's arguments.
 use Rattle.smt_meaning.specs.declared.commands.Command.TheVariants.{Exit, Reset, ResetAssertions, CheckSat, Push, Pop, GetModel, GetAssertions, GetAssignment, GetUnsatCore, GetUnsatAssumptions}
-use Rattle.smt_meaning.specs.Command.{Form, bare, levels, set_logic, set_option, get_option, set_info, get_info, echo, declare_sort, define_sort, declare_const, declare_fun, define_fun, assert_form, get_value, check_sat_assuming, left_out}
+use Rattle.smt_meaning.specs.Command.{Form, bare, levels, set_logic, set_option, get_option, set_info, get_info, echo, declare_sort, define_sort, declare_const, declare_fun, define_fun, assert_form, get_value, check_sat_assuming, minimize, left_out}
 use Rattle.smt_command.specs.declared.names.CommandName.{CommandName}
 use Rattle.smt_command.specs.declared.names.CommandName.TheVariants as Named
 
@@ -30,4 +30,5 @@ form_of Named.CheckSatAssuming = check_sat_assuming
 form_of Named.GetAssignment = bare GetAssignment
 form_of Named.GetUnsatCore = bare GetUnsatCore
 form_of Named.GetUnsatAssumptions = bare GetUnsatAssumptions
+form_of Named.Minimize = minimize
 form_of Named.LeftOut = left_out

@@ -1,7 +1,7 @@
 -- The names of commands, in groups.
 use Rattle.std.specs.Prelude.{ℕ, List, [], ◌∷◌, ◌++◌, map, codes}
 use Rattle.smt_command.specs.declared.names.CommandName.{CommandName}
-use Rattle.smt_command.specs.declared.names.CommandName.TheVariants.{SetLogic, SetOption, GetOption, SetInfo, GetInfo, Echo, Exit, Reset, ResetAssertions, DeclareSort, DefineSort, DeclareConst, DeclareFun, DefineFun, Assert, CheckSat, Push, Pop, GetValue, GetModel, GetAssertions, CheckSatAssuming, GetAssignment, GetUnsatCore, GetUnsatAssumptions, LeftOut}
+use Rattle.smt_command.specs.declared.names.CommandName.TheVariants.{SetLogic, SetOption, GetOption, SetInfo, GetInfo, Echo, Exit, Reset, ResetAssertions, DeclareSort, DefineSort, DeclareConst, DeclareFun, DefineFun, Assert, CheckSat, Push, Pop, GetValue, GetModel, GetAssertions, CheckSatAssuming, GetAssignment, GetUnsatCore, GetUnsatAssumptions, Minimize, LeftOut}
 
 abbrev pub setting_names : List (List ℕ × CommandName)
 setting_names =
@@ -34,6 +34,10 @@ left_out_names =
 abbrev pub left_out : List ℕ → List ℕ × CommandName
 left_out n = (n, LeftOut)
 
+-- no command of the standard
+abbrev pub goal_names : List (List ℕ × CommandName)
+goal_names = (codes "minimize", Minimize) ∷ []
+
 -- every command with its name
 unfoldable pub command_names : List (List ℕ × CommandName)
-command_names = setting_names ++ (session_names ++ (declaration_names ++ (stack_names ++ (answer_names ++ (refutation_names ++ map left_out left_out_names)))))
+command_names = setting_names ++ (session_names ++ (declaration_names ++ (stack_names ++ (answer_names ++ (refutation_names ++ (map left_out left_out_names ++ goal_names))))))

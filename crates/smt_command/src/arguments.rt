@@ -1,14 +1,14 @@
 //! The arguments of a command, taken off a list of tokens one after another.
-ghost use Rattle.std.specs.Prelude.{◌≡◌, ◌+◌, ◌^◌, ◌∷◌, ◌<◌, ◌≤◌, Some, drop, length, slice_range, IfOk, OnOk, OnSome, IfNone, IsTrue};
+ghost use Rattle.std.specs.Prelude.{◌≡◌, ◌+◌, ◌^◌, ◌∷◌, ◌<◌, ◌≤◌, Some, drop, length, slice_range, IfOk, OnOk, OnSome, IfSome, IfNone, IsTrue};
 ghost use Rattle.std.specs.Option.{option_map, option_copied};
-ghost use Rattle.smt_meaning.specs.Reading.{IsSExpr};
+ghost use Rattle.smt_meaning.specs.Reading.{IsSExpr, IsInner};
 ghost use Rattle.smt_meaning.specs.Seen.{seen};
 ghost use Rattle.smt_meaning.specs.Sexp.{end, ◌▸◌, sexp, open_lists_of};
 ghost use Rattle.smt_meaning.specs.Command.{symbol, written_sort, parameter};
-ghost use Rattle.smt_command.specs.Arguments.{open_lists, left, is_end, rest_of, depth_behind, first_by, token_in, keyword, numeral, text, parts, term};
+ghost use Rattle.smt_command.specs.Arguments.{open_lists, IsInList, left, is_end, rest_of, depth_behind, first_by, token_in, keyword, numeral, text, parts, term};
 
 use smt_meaning::language::{Parameter, WrittenSort};
-use smt_meaning::{SExpr, Seq, TokenView};
+use smt_meaning::{Inner, SExpr, Seq, TokenView};
 use std::alloc::{AllocError, Global};
 
 /// What is left to read of a list: the s-expressions from a place on, to the list's end. Past the end there is nothing.
@@ -55,7 +55,8 @@ impl<'a> Arguments<'a> {
 
     /// What stands in the next s-expression, where it is a list.
     pub fn enter(&self) -> Option<Arguments<'a>>
-        ensures { option_map left result ≡ first_by parts (left self.now) }
+        ensures parts { option_map left result ≡ first_by parts (left self.now) }
+        ensures inside { IfSome result IsInList }
     {
         if self.place >= self.sexpr.len() {
             return None;
@@ -95,6 +96,7 @@ impl<'a> Arguments<'a> {
         ensures name { option_copied result ≡ first_by symbol (left self.old) }
         ensures read { OnSome result (left self.new ≡ rest_of (left self.old)) }
         ensures kept { IfNone result (left self.new ≡ left self.old) }
+        ensures inside { IsInList self.old → IsInList self.new }
     {
         match self.peek() {
             Some(TokenView::Symbol(name)) => {
@@ -160,6 +162,7 @@ impl<'a> Arguments<'a> {
     /// The next s-expression as one of its own, which is read. An `Err` is want of memory.
     pub fn term(&mut self, alloc: Global) -> Result<Option<SExpr>, AllocError>
         ensures term { IfOk result (λ r. r ≡ first_by term (left self.old)) }
+        ensures inner { IfOk result (λ r. IfSome r (λ t. IsInList self.old → IsInner t)) }
         ensures read { OnOk result (left self.new ≡ rest_of (left self.old)) }
     {
         if self.is_end() {
@@ -169,6 +172,18 @@ impl<'a> Arguments<'a> {
         self.skip();
         let term = self.sexpr.part(alloc, from, self.place)?;
         Ok(Some(term))
+    }
+
+    /// The next s-expression of a list as one that may stand in a list, which is read. An `Err` is want of memory.
+    pub fn inner(&mut self, alloc: Global) -> Result<Option<Inner>, AllocError>
+        requires { IsInList self.old }
+        ensures term { IfOk result (λ r. r ≡ first_by term (left self.old)) }
+        ensures read { OnOk result (left self.new ≡ rest_of (left self.old)) }
+    {
+        let Some(term) = self.term(alloc)? else {
+            return Ok(None);
+        };
+        Ok(Some(Inner::new(term)))
     }
 }
 

@@ -1,15 +1,15 @@
 //! The forms of the commands' arguments (SMT-LIB 2.6, section 3.9).
 ghost use Rattle.std.specs.Prelude.{◌≡◌, IfOk};
 ghost use Rattle.smt_meaning.specs.declared.commands.Command.TheVariants.{DeclareSort, Push, Pop};
-ghost use Rattle.smt_meaning.specs.Command.{bare, levels, with_numeral, set_logic, echo, declare_sort, define_sort, declare_const, declare_fun, define_fun, assert_form, get_value, check_sat_assuming};
-ghost use Rattle.smt_command.specs.Arguments.{left};
+ghost use Rattle.smt_meaning.specs.Command.{bare, levels, with_numeral, set_logic, echo, declare_sort, define_sort, declare_const, declare_fun, define_fun, assert_form, get_value, check_sat_assuming, minimize};
+ghost use Rattle.smt_command.specs.Arguments.{left, IsInList};
 ghost use Rattle.smt_command.specs.Values.{level_count, with_body};
 
 use crate::arguments::Arguments;
 use crate::lists;
 use crate::number::number;
 use smt_meaning::language::{Command, Parameter};
-use smt_meaning::{Bytes, Refusal, Seq};
+use smt_meaning::{Bytes, Inner, Refusal, Seq};
 use std::alloc::{AllocError, Global};
 
 /// A command without arguments.
@@ -272,4 +272,21 @@ pub fn check_sat_assuming(
         return Ok(Err(Refusal::WrongArguments));
     }
     Ok(Ok(Command::CheckSatAssuming(lists::terms(alloc, inside)?)))
+}
+
+/// The command `minimize` with these arguments: a term, which stands in the command and so may stand in a list.
+pub fn minimize(
+    alloc: Global,
+    mut arguments: Arguments<'_>,
+) -> Result<Result<Command, Refusal>, AllocError>
+    requires { IsInList arguments }
+    ensures { IfOk result (λ r. r ≡ minimize (left arguments.entry)) }
+{
+    let Some(term) = arguments.inner(alloc)? else {
+        return Ok(Err(Refusal::WrongArguments));
+    };
+    if !arguments.is_end() {
+        return Ok(Err(Refusal::WrongArguments));
+    }
+    Ok(Ok(Command::Minimize(term)))
 }

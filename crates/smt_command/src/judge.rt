@@ -2,7 +2,7 @@
 ghost use Rattle.std.specs.Prelude.{◌≡◌, IfOk};
 ghost use Rattle.smt_meaning.specs.Command.{command};
 ghost use Rattle.smt_meaning.specs.Sexp.{sexp};
-ghost use Rattle.smt_command.specs.Arguments.{left};
+ghost use Rattle.smt_command.specs.Arguments.{left, IsInList};
 ghost use Rattle.smt_command.specs.FormOf.{form_of};
 
 use crate::arguments::Arguments;
@@ -37,6 +37,7 @@ fn formed(
     name: CommandName,
     arguments: Arguments<'_>,
 ) -> Result<Result<Command, Refusal>, AllocError>
+    requires { IsInList arguments }
     ensures { IfOk result (λ r. r ≡ form_of name (left arguments.entry)) }
 {
     match name {
@@ -67,6 +68,7 @@ fn formed(
         CommandName::GetUnsatAssumptions => {
             Ok(forms::bare(Command::GetUnsatAssumptions, &arguments))
         }
+        CommandName::Minimize => forms::minimize(alloc, arguments),
         CommandName::LeftOut => Ok(Ok(Command::LeftOut)),
     }
 }

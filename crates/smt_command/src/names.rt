@@ -2,7 +2,7 @@
 ghost use Rattle.std.specs.Prelude.{◌≡◌};
 ghost use Rattle.smt_meaning.specs.Signature.{look_up, is_one_of};
 ghost use Rattle.smt_meaning.specs.Command.{option_names, info_names};
-ghost use Rattle.smt_command.specs.Names.{command_names, setting_names, session_names, declaration_names, stack_names, answer_names, refutation_names, left_out_names};
+ghost use Rattle.smt_command.specs.Names.{command_names, setting_names, session_names, declaration_names, stack_names, answer_names, refutation_names, left_out_names, goal_names};
 
 use smt_meaning::language::{InfoName, OptionName};
 
@@ -34,6 +34,8 @@ pub enum CommandName {
     GetAssignment,
     GetUnsatCore,
     GetUnsatAssumptions,
+    /// The question for a least value, which is no command of the standard.
+    Minimize,
     /// A command of the standard that is answered `unsupported`, whatever its arguments are.
     LeftOut,
 }
@@ -63,7 +65,7 @@ pub fn command_name(name: &[u8]) -> Option<CommandName>
     if is_left_out(name) {
         return Some(CommandName::LeftOut);
     }
-    None
+    goal_name(name)
 }
 
 /// A command that sets or answers something outside the stack.
@@ -180,6 +182,17 @@ fn is_left_out(name: &[u8]) -> bool
         || name == b"define-funs-rec".as_slice()
         || name == b"declare-datatype".as_slice()
         || name == b"declare-datatypes".as_slice()
+}
+
+/// The command that asks for a least value.
+fn goal_name(name: &[u8]) -> Option<CommandName>
+    ensures { result ≡ look_up name.now goal_names }
+{
+    if name == b"minimize".as_slice() {
+        Some(CommandName::Minimize)
+    } else {
+        None
+    }
 }
 
 /// The option that a keyword names (SMT-LIB 2.6, section 4.1.7).

@@ -1,12 +1,12 @@
 use Rattle.std.proofs.Common.{◌∙◌, ◌++◌, List, ℕ, map, refl}
 use Rattle.smt_command.specs.declared.names.CommandName.{CommandName}
 use Rattle.smt_command.specs.declared.names.CommandName.TheVariants.{LeftOut}
-use Rattle.smt_command.specs.Names.{command_names, setting_names, session_names, declaration_names, stack_names, answer_names, refutation_names, left_out_names, left_out}
+use Rattle.smt_command.specs.Names.{command_names, setting_names, session_names, declaration_names, stack_names, answer_names, refutation_names, left_out_names, goal_names, left_out}
 use Rattle.smt_command.proofs.LookUps.{past, here, among, not_among}
 use Rattle.smt_command.proofs.names.command_name.Goals as goal
 
 abbrev behind_refutation : List (List ℕ × CommandName)
-behind_refutation = map left_out left_out_names
+behind_refutation = map left_out left_out_names ++ goal_names
 
 abbrev behind_answer : List (List ℕ × CommandName)
 behind_answer = refutation_names ++ behind_refutation
@@ -71,7 +71,7 @@ returns-in-Some-refutation_name c =
 pub returns-then-is_left_out : goal.returns-then-is_left_out
 unfolding command_names
 returns-then-is_left_out c =
-    among c.args.name.now left_out LeftOut left_out_names (λ m. refl) c.if-is_left_out.ensures
+    here c.args.name.now (map left_out left_out_names) goal_names LeftOut (among c.args.name.now left_out LeftOut left_out_names (λ m. refl) c.if-is_left_out.ensures)
     ∙ past c.args.name.now refutation_names behind_refutation c.in_default-refutation_name.ensures
     ∙ past c.args.name.now answer_names behind_answer c.in_default-answer_name.ensures
     ∙ past c.args.name.now stack_names behind_stack c.in_default-stack_name.ensures
@@ -82,7 +82,8 @@ returns-then-is_left_out c =
 pub returns : goal.returns
 unfolding command_names
 returns c =
-    not_among c.args.name.now left_out LeftOut left_out_names (λ m. refl) c.if-is_left_out.ensures
+    c.goal_name.ensures
+    ∙ past c.args.name.now (map left_out left_out_names) goal_names (not_among c.args.name.now left_out LeftOut left_out_names (λ m. refl) c.if-is_left_out.ensures)
     ∙ past c.args.name.now refutation_names behind_refutation c.in_default-refutation_name.ensures
     ∙ past c.args.name.now answer_names behind_answer c.in_default-answer_name.ensures
     ∙ past c.args.name.now stack_names behind_stack c.in_default-stack_name.ensures

@@ -1,4 +1,5 @@
-use Rattle.std.proofs.Common.{◌<◌, length, ap, sym, ◌∙◌, arith, Some}
+use Rattle.std.proofs.Common.{◌<◌, length, ap, sym, subst, ◌∙◌, arith, Some}
+use Rattle.smt_meaning.specs.Reading.{IsInner}
 use Rattle.smt_command.proofs.Parts.{is_part, not_past}
 use Rattle.smt_command.proofs.arguments.Arguments.term.Goals as goal
 
@@ -16,3 +17,8 @@ pub returns-clause-term : goal.returns-clause-term
 returns-clause-term c =
     let s = c.skip.ensures in
     ap Some c.in_ok-term.ensures ∙ sym (is_part c.args.self.now c.skip.new.self s.same s.matched c.if-is_end.ensures s.lists s.order s.within).first
+
+pub returns-clause-inner : goal.returns-clause-inner
+returns-clause-inner c =
+    let s = c.skip.ensures in
+    λ l. subst IsInner (sym c.in_ok-term.ensures) ((is_part c.args.self.now c.skip.new.self s.same s.matched c.if-is_end.ensures s.lists s.order s.within).inner l)
