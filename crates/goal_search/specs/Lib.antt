@@ -1,1 +1,4 @@
 pub mod Tries
+pub mod Goals
+pub mod Asks
+pub mod Points

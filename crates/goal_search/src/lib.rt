@@ -4,8 +4,22 @@
 //! out. With them alone there is no model, and each of them has its reason: a model of what is left
 //! without it, or what each worker shows that didn't find one. The stack is as before, also where
 //! memory is wanting.
+//!
+//! `least`: the least value of an Int term in the models of a stack, with a model that has it; that
+//! there is no model; or the best value that was found, with what each worker shows of the next
+//! bound. The stack is as before, and the checks, as `least` counts them, are at most 300.
+//!
+//! `itself`, `asks_are_assumed`: the text `(= t t)`; what is asked of a goal is judged to be its
+//! assertions, and their terms join the list.
 #![tactic(auto)]
 
+mod descent;
+mod minimum;
+mod point;
+mod question;
 mod reduce;
+mod text;
 
+pub use minimum::{Found, LeastValue, least};
 pub use reduce::core;
+pub use text::{Ask, asks_are_assumed, itself};

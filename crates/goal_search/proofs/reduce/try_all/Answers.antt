@@ -1,4 +1,4 @@
-use Rattle.std.proofs.Common.{◌≡◌, ◌∙◌, ◌+◌, ap, sym, subst, refl, slice_index, arith}
+use Rattle.std.proofs.Common.{◌∙◌, ◌+◌, sym, subst, refl, slice_index}
 use Rattle.smt_meaning.specs.StackCommand.{Stack}
 use Rattle.goal_search.specs.Tries.{IsTried}
 use Rattle.goal_search.proofs.Trying.{IsStage, first_stage, next_marked, next_stage, last_stage}

@@ -1,4 +1,4 @@
-use Rattle.std.proofs.Common.{◌≡◌, ◌∙◌, ap, subst, slice_set, true, false}
+use Rattle.std.proofs.Common.{◌∙◌, ap, subst, slice_set, true, false}
 use Rattle.smt_meaning.specs.Keeping.{keeping}
 use Rattle.scope_stack.specs.Trials.{Trial, marks}
 use Rattle.theory_port.specs.Verdicts.{IsVerdict}
