@@ -12,3 +12,6 @@ pub mod CoreCandidates
 pub mod Reduces
 pub mod Raising
 pub mod Listing
+pub mod GoalSteps
+pub mod LeastSteps
+pub mod Itself

@@ -18,7 +18,7 @@ use Rattle.scope_stack.specs.Raised.{MayAssertAbove}
 use Rattle.session.specs.declared.above.Above.TheVariants.{Assumed}
 use Rattle.session.specs.Reduced.{IsReducedUnder}
 
-of_right : {A : Type 0} (P : A → Type 0) (xs ys : List A) → All P (xs ++ ys) → All P ys
+pub of_right : {A : Type 0} (P : A → Type 0) (xs ys : List A) → All P (xs ++ ys) → All P ys
 of_right P [] ys h = h
 of_right P (x ∷ xs) ys h = of_right P xs ys (All-tail P x (xs ++ ys) h)
 
@@ -35,10 +35,10 @@ mutual
   parts_stay ts none k = refl
   parts_stay ts (more u us) k = ap (λ xs. with_all_parts xs us) (part_stays ts u (λ v p. k v (inl p))) ∙ parts_stay ts us (λ v p. k v (inr p))
 
-abbrev AreAmong : List Tree → Tree → Type 0
+abbrev pub AreAmong : List Tree → Tree → Type 0
 AreAmong ts t = (u : Tree) → IsPart u t → IsTrue (is_among u ts)
 
-all_stay : (ts us : List Tree) → All (AreAmong ts) us → with_all ts us ≡ ts
+pub all_stay : (ts us : List Tree) → All (AreAmong ts) us → with_all ts us ≡ ts
 all_stay ts [] h = refl
 all_stay ts (u ∷ us) h = ap (λ xs. with_all xs us) (part_stays ts u (All-head (AreAmong ts) u us h)) ∙ all_stay ts us (All-tail (AreAmong ts) u us h)
 

@@ -4,9 +4,9 @@ use Rattle.std.specs.Prelude.{codes, Ok}
 use Rattle.smt_meaning.specs.declared.answers.Reply.{Reply}
 use Rattle.smt_meaning.specs.declared.replies.Kept.TheVariants.{Nothing, Core}
 use Rattle.smt_meaning.specs.declared.commands.Command.{Command}
-use Rattle.smt_meaning.specs.declared.commands.Command.TheVariants.{CheckSat, CheckSatAssuming, GetUnsatCore, GetUnsatAssumptions}
-use Rattle.smt_meaning.specs.State.{State, Effect, denied, left_out, accepted, answered, checked, minimizes, reduces, effect, with_logic, in_logic, checks, assuming, check_assuming, checked_frames, frame_of, get_value, kept_model, valued, provided, named, assumed, is_unsat, get_unsat_core, get_unsat_assumptions}
-use Rattle.smt_meaning.specs.MayReply.{Decided, MayCome, MayDecide, MayReply}
+use Rattle.smt_meaning.specs.declared.commands.Command.TheVariants.{CheckSat, CheckSatAssuming, GetUnsatCore, GetUnsatAssumptions, Minimize}
+use Rattle.smt_meaning.specs.State.{State, Effect, denied, left_out, accepted, answered, checked, minimizes, reduces, effect, with_logic, in_logic, checks, assuming, check_assuming, minimizing, minimize, checked_frames, frame_of, get_value, kept_model, valued, provided, named, assumed, is_unsat, get_unsat_core, get_unsat_assumptions}
+use Rattle.smt_meaning.specs.MayReply.{Decided, MayCome, MayDecide, MayMinimize, MayReply}
 use Rattle.smt_meaning.specs.Core.{IsCore, core_reply}
 use Rattle.smt_meaning.specs.declared.replies.Held.{Held}
 use Rattle.smt_meaning.specs.declared.replies.Kept.{Kept}
@@ -33,6 +33,9 @@ use Rattle.session.specs.declared.above.Above.TheVariants.{Assumed as AssumedAbo
 use Rattle.session.specs.Above.{above_by, AreAbove, StandIn}
 use Rattle.session.specs.Assumed.{IsAnswerBy, IsAnswerTo, IsCheckedUnder, IsNotTakenUnder, ChecksUnder}
 use Rattle.session.specs.Effects.{Comes, ComesOfQuestion}
+use Rattle.session.specs.Minimized.{IsMinimizedUnder, minimization}
+use Rattle.smt_meaning.specs.Goal.{is_itself}
+use Rattle.smt_meaning.specs.Term.{Tree, tree_at}
 
 comes_is : (decided : Decided) (old : State) (e : Effect) (reply : Reply) (new : State) → Comes e old reply new → MayCome decided old e reply Nothing new
 comes_is decided old (denied e) reply new h = record { reply_is = h.0; kept_is = refl; new_is = h.1 }
@@ -164,6 +167,44 @@ asked_so old i ts us stack found xs reply new mode on texts same h stand within 
     subst (λ f. Comes f old reply new) (sym effect_is)
     (subst (λ n. Comes (valued old i ts (judged (question ts) old.stack)) old reply n) (sym state)
     (subst (λ ws. Comes (valued old i ws (judged (question ws) old.stack)) old reply (record old { stack = found })) texts (h old (sym same))))
+
+-- ---- least values
+
+minimum_so : (decided : Decided) (old : State) (text : List Token) (limit : ℤ) (a : Assumed) (stack : Stack) (new : State) → IsMinimizedUnder limit text old.stack a stack
+    → old.options.reproducible_resource_limit ≡ limit
+    → new ≡ record (with_logic old) { mode = a.answer.mode; stack = stack; above = above_by stack.trees (AssumedAbove a.assumptions) }
+    → MayCome decided old (minimize old text (stack_command (Minimize text))) a.answer.reply a.answer.kept new
+minimum_so decided old text limit a stack new k lim e =
+    let t : Tree = tree_at k.mid.trees k.place in
+    let level : List Frame = frame_of (is_itself text t ∷ []) ∷ [] in
+    let there : State = record (with_logic old) { stack = stack; above = level } in
+    let stack_is : record old.stack { trees = stack.trees } ≡ stack =
+    ap (λ (s : Stack). record s { trees = stack.trees }) (sym k.goal.is_asked.new_is) ∙ ap (λ ts. record k.mid { trees = ts }) (ap (λ (s : Stack). s.trees) k.minimized.above.new_is) ∙ sym k.minimized.above.new_is in
+    comes_of decided old (minimize old text (stack_command (Minimize text))) (minimizes text t there) a.answer.reply a.answer.kept new
+    (ap (minimizing old text) (k.goal.is_judged ∙ k.minimized.above.is_judged) ∙ ap (λ (s : Stack). minimizes text t (record (with_logic old) { stack = s; above = level })) stack_is)
+    (subst (MayMinimize there text t a.answer.reply a.answer.kept) (sym (e ∙ ap (λ xs. record (with_logic old) { mode = a.answer.mode; stack = stack; above = frame_of xs ∷ [] }) k.minimized.above.assumptions))
+    (k.minimized.answer there refl (ap (λ (o : Options). o.reproducible_resource_limit) (options_stay old.logic old) ∙ lim)))
+
+pub minimum_ok : (decided : Decided) (old mid : State) (stack found : Stack) (text : List Token) (limit : ℤ) (a : Assumed) (reply : Reply) (kept : Kept) (new : State)
+    → stack ≡ old.stack → IsMinimizedUnder limit text stack a found → limit ≡ old.options.reproducible_resource_limit
+    → mid ≡ record old { mode = In.Assert; stack = found; above = [] } → new ≡ record (with_logic mid) { mode = a.answer.mode; above = above_by found.trees (AssumedAbove a.assumptions) }
+    → reply ≡ a.answer.reply → kept ≡ a.answer.kept → MayCome decided old (minimize old text (stack_command (Minimize text))) reply kept new
+minimum_ok decided old mid stack found text limit a reply kept new same is lim m e r k =
+    subst (λ x. MayCome decided old (minimize old text (stack_command (Minimize text))) x kept new) (sym r)
+    (subst (λ x. MayCome decided old (minimize old text (stack_command (Minimize text))) a.answer.reply x new) (sym k)
+    (minimum_so decided old text limit a found new (subst (λ (s : Stack). IsMinimizedUnder limit text s a found) same is) (sym lim)
+    (e ∙ ap (λ (s : State). record (with_logic s) { mode = a.answer.mode; above = above_by found.trees (AssumedAbove a.assumptions) }) m ∙ entered old found In.Assert a.answer.mode [] (above_by found.trees (AssumedAbove a.assumptions)))))
+
+pub minimum_refused : (decided : Decided) (old : State) (text : List Token) (why : Refusal) (stack : Stack) (reply : Reply) (new : State) → IsRefused (minimization text) why old.stack stack → new ≡ old
+    → reply ≡ Given.Error (RefusedIn (codes "minimize") why) → MayCome decided old (minimize old text (stack_command (Minimize text))) reply Nothing new
+minimum_refused decided old text why stack reply new k e r =
+    comes_of decided old (minimize old text (stack_command (Minimize text))) (denied (RefusedIn (codes "minimize") why)) reply Nothing new (ap (minimizing old text) k.is_judged)
+    (record { reply_is = r; kept_is = refl; new_is = e })
+
+pub minimum_reply : (decided : Decided) (old : State) (c : Command) (text : List Token) (reply : Reply) (kept : Kept) (new : State) → c ≡ Minimize text
+    → MayCome decided old (minimize old text (stack_command (Minimize text))) reply kept new → MayReply decided old c reply kept new
+unfolding MayReply effect
+minimum_reply decided old c text reply kept new is h = subst (λ d. MayReply decided old d reply kept new) (sym is) h
 
 -- ---- the commands for cores
 

@@ -53,7 +53,7 @@ answered_under decided limit below s v a xs ys taken verdict answers asserted e 
 
 -- ---- the assumptions
 
-same_assertions : (ts : List Tree) (xs : List Assertion) (as' : List Asserted) → map (λ (x : Assertion). x.text) xs ≡ map (λ (a : Asserted). a.text) as'
+pub same_assertions : (ts : List Tree) (xs : List Assertion) (as' : List Asserted) → map (λ (x : Assertion). x.text) xs ≡ map (λ (a : Asserted). a.text) as'
     → map (λ (x : Assertion). tree_at ts x.term) xs ≡ map (λ (a : Asserted). a.term) as' → map (asserted_by ts) xs ≡ as'
 same_assertions ts [] [] e f = refl
 same_assertions ts [] (a ∷ as') e f = absurd (cc)
@@ -69,12 +69,12 @@ same_assertions ts (x ∷ xs) (a ∷ as') e f =
     heads f g h = cc
 
 -- what stands after those below
-above : {A : Type 0} (f : Frame → List A) (frames : List Frame) (g : Frame) (below : ℕ) → below ≡ length (flat_map f frames)
+pub above : {A : Type 0} (f : Frame → List A) (frames : List Frame) (g : Frame) (below : ℕ) → below ≡ length (flat_map f frames)
     → drop below (flat_map f (frames ++ g ∷ [])) ≡ f g
 above f frames g below e =
     ap (drop below) (flat_map-append f frames (g ∷ [])) ∙ ap (λ n. drop n (flat_map f frames ++ (f g ++ []))) e ∙ drop-append_seam (flat_map f frames) (f g ++ []) ∙ append-nil (f g)
 
-texts_count : (s : Stack) (xs : List Assertion) → AreAsserted s xs → length xs ≡ length (flat_map texts_of s.frames)
+pub texts_count : (s : Stack) (xs : List Assertion) → AreAsserted s xs → length xs ≡ length (flat_map texts_of s.frames)
 texts_count s xs h = sym (length-map xs (λ (a : Assertion). a.text)) ∙ ap length h.texts
 
 pub below_within : (texts : List (List Token)) (assumed : List Asserted) (old mid : Stack) (xs : List Assertion) → AreAsserted old xs → IsAssumed texts assumed old mid → length xs ≤ length (assertions_of mid.frames)
@@ -91,7 +91,7 @@ below_within texts assumed old mid xs h k =
 -- ---- what is known once it is refuted
 
 -- the assumptions may stand above the stack again
-again_above : (assumed : List Asserted) (old new mid : Stack) (xs : List Assertion) → new ≡ record old { trees = mid.trees } → mid ≡ under assumed new → map (asserted_by new.trees) xs ≡ assumed → All (IsWithin new.trees) xs
+pub again_above : (assumed : List Asserted) (old new mid : Stack) (xs : List Assertion) → new ≡ record old { trees = mid.trees } → mid ≡ under assumed new → map (asserted_by new.trees) xs ≡ assumed → All (IsWithin new.trees) xs
     → depth mid.frames ≤ most_levels → 0 < length new.frames → IsLawful mid → MayAssertAbove xs new
 again_above assumed old new mid xs e m same within deep some lawful =
     let more' : length mid.frames ≡ length new.frames + 1 = ap (λ (s : Stack). length s.frames) m ∙ length-append new.frames (frame_of assumed ∷ []) in

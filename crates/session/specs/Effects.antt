@@ -1,7 +1,7 @@
 -- What a command that doesn't ask the decider comes to: its reply and the state after it.
 use Rattle.std.specs.Prelude.{◌≡◌, ℕ, ℤ, Bool, true, false, List, codes, Result}
 use Rattle.smt_meaning.specs.declared.commands.Command.{Command}
-use Rattle.smt_meaning.specs.declared.commands.Command.TheVariants.{DeclareSort, DefineSort, DeclareConst, DeclareFun, DefineFun, Assert, CheckSat, CheckSatAssuming, Push, Pop, GetUnsatCore, GetUnsatAssumptions}
+use Rattle.smt_meaning.specs.declared.commands.Command.TheVariants.{DeclareSort, DefineSort, DeclareConst, DeclareFun, DefineFun, Assert, CheckSat, CheckSatAssuming, Push, Pop, GetUnsatCore, GetUnsatAssumptions, Minimize}
 use Rattle.smt_meaning.specs.declared.answers.Reply.{Reply}
 use Rattle.smt_meaning.specs.declared.answers.Reply.TheVariants as Given
 use Rattle.smt_meaning.specs.declared.tokens.Token.{Token}
@@ -28,6 +28,7 @@ is_check CheckSat = true
 is_check (CheckSatAssuming ts) = true
 is_check GetUnsatCore = true
 is_check GetUnsatAssumptions = true
+is_check (Minimize t) = true
 is_check _ = false
 
 -- the commands that the stack carries out or refuses

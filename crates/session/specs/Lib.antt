@@ -8,4 +8,5 @@ pub mod Effects
 pub mod Heeded
 pub mod Assumed
 pub mod Under
+pub mod Minimized
 pub mod Stored

@@ -14,6 +14,8 @@ mod carry;
 mod checks;
 mod cores;
 mod logic;
+mod minimizing;
+mod negated;
 mod options;
 mod printed;
 mod state;

@@ -11,6 +11,7 @@ use crate::carry::{carry, refused, word};
 use crate::checks::in_force;
 use crate::cores::{core_of, named_places, names_of, places_from, texts_above, texts_held};
 use crate::logic::Logic;
+use crate::minimizing::minimize_under;
 use crate::options::{option_value, options_at_start, start_option, with_setting};
 use crate::printed::{printed_functions, texts_of};
 use model_eval::EvalError;
@@ -18,7 +19,7 @@ use scope_stack::{Carried, ScopeStack, StackError};
 use smt_meaning::language::{
     Command, Error, Info, InfoName, Mode, OptionName, OptionSetting, Options, Reply,
 };
-use smt_meaning::{Bytes, Held, Kept, SExpr, Seq, Settings};
+use smt_meaning::{Bytes, Held, Inner, Kept, SExpr, Seq, Settings};
 use std::alloc::{AllocError, Global};
 use std::marker::Model;
 use theory_port::{Decider, found};
@@ -63,7 +64,7 @@ pub struct Done {
 impl Session {
     ghost use Rattle.std.specs.Prelude.{◌≡◌, ◌≢◌, ◌↔◌, IfOk, OnErr, IsTrue};
     ghost use Rattle.std.specs.Prelude.{codes, [], IsFalse};
-    ghost use Rattle.smt_meaning.specs.State.{start, with_logic, asserting, set_logic, set_option_in, start_option, option_value, reason_unknown, get_info, stack_effect, checks, check_assuming, effect, kept_model, get_value, get_model, get_assertions, get_assignment, checked_frames, get_unsat_core, get_unsat_assumptions};
+    ghost use Rattle.smt_meaning.specs.State.{start, with_logic, asserting, set_logic, set_option_in, start_option, option_value, reason_unknown, get_info, stack_effect, checks, check_assuming, minimize, effect, kept_model, get_value, get_model, get_assertions, get_assignment, checked_frames, get_unsat_core, get_unsat_assumptions};
     ghost use Rattle.std.specs.Prelude.{length};
     ghost use Rattle.smt_meaning.specs.Core.{IsReduced, checked_trees};
     ghost use Rattle.smt_meaning.specs.Stack.{assertions_of};
@@ -72,7 +73,7 @@ impl Session {
     ghost use Rattle.smt_meaning.specs.StackCommand.{stack_command};
     ghost use Rattle.session.specs.Effects.{Comes, is_carried, is_check, word_of};
     ghost use Rattle.smt_meaning.specs.MayReply.{MayReply, MayCome, success};
-    ghost use Rattle.smt_meaning.specs.declared.commands.Command.TheVariants.{Exit, Reset, ResetAssertions, CheckSatAssuming};
+    ghost use Rattle.smt_meaning.specs.declared.commands.Command.TheVariants.{Exit, Reset, ResetAssertions, CheckSatAssuming, Minimize};
     ghost use Rattle.session.specs.Above.{above_by, AreAbove};
     ghost use Rattle.session.specs.Refuted.{IsRefuted, WhereUnsat};
 
@@ -124,6 +125,7 @@ impl Session {
             }
             Command::GetUnsatCore => self.get_unsat_core(alloc, decider),
             Command::GetUnsatAssumptions => self.get_unsat_assumptions(alloc, decider),
+            Command::Minimize(term) => self.minimize(alloc, term, decider),
             _ => {
                 let reply = self.answer(alloc, command)?;
                 self.cut(command, decider);
@@ -163,11 +165,12 @@ impl Session {
             Command::GetModel => self.get_model(alloc),
             Command::GetAssertions => self.get_assertions(alloc),
             Command::GetAssignment => self.get_assignment(alloc),
-            Command::LeftOut | Command::Minimize(_) => Ok(Reply::Unsupported),
+            Command::LeftOut => Ok(Reply::Unsupported),
             Command::CheckSat
             | Command::CheckSatAssuming(_)
             | Command::GetUnsatCore
-            | Command::GetUnsatAssumptions => unreachable!(),
+            | Command::GetUnsatAssumptions
+            | Command::Minimize(_) => unreachable!(),
             _ => self.on_stack(alloc, command),
         }
     }
@@ -492,6 +495,36 @@ impl Session {
             Ok(None) => Ok((Reply::Unsupported, Kept::Nothing)),
             Err(StackError::Refused(why)) => {
                 let reply = refused(alloc, b"check-sat-assuming", why)?;
+                Ok((reply, Kept::Nothing))
+            }
+            Err(StackError::Memory) => Err(AllocError),
+        }
+    }
+
+    /// `(minimize term)`
+    fn minimize<D: Decider>(
+        &mut self,
+        alloc: Global,
+        text: &Inner,
+        decider: &mut D,
+    ) -> Result<(Reply, Kept), AllocError>
+        ensures ok { IfOk result (λ answer. MayCome D.decides self.old (minimize self.old text.now (stack_command (Minimize text.now))) answer.0 answer.1 self.new) }
+        ensures err { OnErr result (self.new ≡ self.old) }
+    {
+        let settings = in_force(&self.settings, &self.options);
+        match minimize_under(alloc, decider, &settings, &mut self.stack, text) {
+            Ok(assumed) => {
+                let Assumed {
+                    answer,
+                    assumptions,
+                } = assumed;
+                self.mode = Mode::Assert;
+                self.above = Above::Nothing;
+                self.enter(answer.mode, Above::Assumed(assumptions));
+                Ok((answer.reply, answer.kept))
+            }
+            Err(StackError::Refused(why)) => {
+                let reply = refused(alloc, b"minimize", why)?;
                 Ok((reply, Kept::Nothing))
             }
             Err(StackError::Memory) => Err(AllocError),

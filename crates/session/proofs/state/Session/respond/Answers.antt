@@ -1,5 +1,5 @@
 use Rattle.std.proofs.lemmas.Result.{IfOk-weaker}
-use Rattle.session.proofs.Replies.{assumed_reply, core_reply_so, assumptions_reply_so}
+use Rattle.session.proofs.Replies.{assumed_reply, core_reply_so, assumptions_reply_so, minimum_reply}
 use Rattle.session.proofs.state.Session.respond.Goals as goal
 
 pub returns-in-CheckSatAssuming-clause-ok : goal.returns-in-CheckSatAssuming-clause-ok
@@ -19,3 +19,9 @@ returns-in-GetUnsatAssumptions-clause-ok g c =
     IfOk-weaker c.get_unsat_assumptions.result _ _
     (λ a h. assumptions_reply_so g.D.Decider.decides c.args.self.now c.args.command.now a.0 a.1 c.get_unsat_assumptions.new.self c.in-GetUnsatAssumptions.is h)
     c.get_unsat_assumptions.ensures.ok
+
+pub returns-in-Minimize-clause-ok : goal.returns-in-Minimize-clause-ok
+returns-in-Minimize-clause-ok g c =
+    IfOk-weaker c.minimize.result _ _
+    (λ a h. minimum_reply g.D.Decider.decides c.args.self.now c.args.command.now c.in-Minimize.term a.0 a.1 c.minimize.new.self c.in-Minimize.is h)
+    c.minimize.ensures.ok
