@@ -5,3 +5,4 @@ mod Past
 mod Sum
 mod Chain
 mod Cores
+mod Minimum

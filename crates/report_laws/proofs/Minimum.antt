@@ -1,0 +1,102 @@
+-- What is known of the least value of x on the stack of (assert (<= 5 x)).
+use Rattle.std.proofs.Common.{◌≡◌, ℕ, ℤ, pos, Bool, true, false, List, [], ◌∷◌, Some, None, refl, subst, arith, ◌&&◌}
+use Rattle.std.specs.Prelude.{◌≤ℤ◌, ◌<ℤ◌, int_le, IsTrue}
+use Rattle.std.proofs.lemmas.Int.{ints}
+use Rattle.std.proofs.lemmas.List.Elements.{All-nil, All-cons, All-head}
+use Rattle.smt_meaning.specs.declared.values.Table.{Table}
+use Rattle.smt_meaning.specs.declared.reports.Report.{Report}
+use Rattle.smt_meaning.specs.Term.{Tree, Interpretation, number_of, value, truth_of}
+use Rattle.smt_meaning.specs.Interpretation.{Interprets, IsFunctionFor, meaning}
+use Rattle.smt_meaning.specs.Stack.{Frame, Satisfies}
+use Rattle.smt_meaning.specs.Model.{Fits}
+use Rattle.smt_meaning.specs.Goal.{is_itself, least_number}
+use Rattle.smt_meaning.specs.Least.{IsModelFor, value_in}
+use Rattle.smt_meaning.specs.Report.{AreReports, AreAllSpent, Shows, deciding_workers}
+use Rattle.report_laws.specs.Five.{x, low, frames, constant_x}
+use Rattle.report_laws.specs.Cores.{nothing_spent}
+use Rattle.report_laws.specs.Minimum.{text, x_is, FiveIsLeast, NothingElseIsLeast, wanted_memory, SevenMayBeBest, NoBoundFromAbove, NoModelWithoutBound, NothingBelowFive, NothingSpentIsNoBest}
+
+-- ---- the assertion, and that x is itself
+
+abbrev itself : Tree
+itself = (is_itself text x).term
+
+at_least_five : (v : ℤ) → IsTrue (int_le (pos 5) v && true) → pos 5 ≤ℤ v
+at_least_five v h = by (int_le (pos 5) v) refl h
+  where
+    by : (b : Bool) → int_le (pos 5) v ≡ b → IsTrue (b && true) → pos 5 ≤ℤ v
+    by true e w = grind (arith, ints)
+    by false e w = absurd (cc)
+
+holding : (J : Interpretation) → IsTrue (truth_of (value J low)) → pos 5 ≤ℤ number_of (value J x)
+holding J h = at_least_five (number_of (J 0 [])) h
+
+model_above : (i : List Table) → IsModelFor frames text x i → pos 5 ≤ℤ value_in i x
+model_above i m = holding (meaning i) (All-head (Satisfies (meaning i)) low (itself ∷ []) m.holds)
+
+-- ---- models
+
+model_of : (v : ℤ) → IsTrue (truth_of (value (meaning (x_is v)) low)) → IsTrue (truth_of (value (meaning (x_is v)) itself))
+    → Fits (meaning (x_is v)) low → Fits (meaning (x_is v)) itself → IsModelFor frames text x (x_is v)
+model_of v h j f g = record {
+  tables = (record { symbol = refl; rows = All-nil _; default = refl; no_two = λ i j d k l. absurd (omega (arith, l)); constants = λ e. refl }, tt);
+  holds = All-cons (Satisfies (meaning (x_is v))) low (itself ∷ []) h (All-cons (Satisfies (meaning (x_is v))) itself [] j (All-nil (Satisfies (meaning (x_is v)))));
+  fits = All-cons (Fits (meaning (x_is v))) low (itself ∷ []) f (All-cons (Fits (meaning (x_is v))) itself [] g (All-nil (Fits (meaning (x_is v)))));
+}
+
+-- ---- least values
+
+pub five_is_least : FiveIsLeast
+five_is_least = record {
+  model = model_of (pos 5) refl refl refl refl;
+  value_is = refl;
+  least = λ J interprets h. holding J (All-head (Satisfies J) low [] h);
+}
+
+pub nothing_else : NothingElseIsLeast
+unfolding Interprets
+nothing_else v i m =
+    let low_bound : pos 5 ≤ℤ v = subst (λ n. pos 5 ≤ℤ n) m.value_is (model_above i m.model) in
+    let high_bound : v ≤ℤ pos 5 =
+    m.least (meaning (x_is (pos 5))) (All-cons (IsFunctionFor (meaning (x_is (pos 5)))) constant_x [] (λ s vs hs. refl) (All-nil (IsFunctionFor (meaning (x_is (pos 5))))))
+    (All-cons (Satisfies (meaning (x_is (pos 5)))) low [] refl (All-nil (Satisfies (meaning (x_is (pos 5)))))) in
+    omega (arith, ints, low_bound, high_bound)
+
+-- ---- the best that is known
+
+memory_wanted : (ts : List Tree) (fs : List Frame) (limit : ℤ) → AreReports deciding_workers ts fs limit (wanted_memory ∷ [])
+memory_wanted ts fs limit = record {
+  one_each = refl;
+  shown = All-cons (λ (r : Report). Shows ts fs limit r.worker r.branches r.cause) wanted_memory [] tt (All-nil (λ (r : Report). Shows ts fs limit r.worker r.branches r.cause));
+}
+
+pub seven_may_be : SevenMayBeBest
+seven_may_be limit = (model_of (pos 7) refl refl refl refl, six_below, memory_wanted _ _ limit)
+  where
+    six_below : pos 6 <ℤ pos 7
+    six_below = grind (arith, ints)
+
+pub no_bound_from_above : NoBoundFromAbove
+no_bound_from_above limit i b rs h r = absurd (omega (arith, ints, h, r.1))
+
+pub no_model_without_bound : NoModelWithoutBound
+no_model_without_bound limit i rs r = absurd (apart (value_in i x) (model_above i r.0) r.1)
+  where
+    apart : (v : ℤ) → pos 5 ≤ℤ v → v ≡ least_number → ⊥
+    apart v h e = let below : pos 5 ≤ℤ least_number = subst (λ n. pos 5 ≤ℤ n) e h in absurd (grind (arith, ints))
+
+pub nothing_below : NothingBelowFive
+nothing_below limit i None rs r = model_above i r.0
+nothing_below limit i (Some b) rs r = model_above i r.0
+
+unspent : (ts : List Tree) (fs : List Frame) → AreReports deciding_workers ts fs (pos 5) (nothing_spent ∷ []) → ⊥
+unspent ts fs r =
+    let spent : AreAllSpent ts fs (pos 5) 0 [] [] = All-head (λ (t : Report). Shows ts fs (pos 5) t.worker t.branches t.cause) nothing_spent [] r.shown in
+    let none_spent : ◌≡◌ {A = ℕ} 0 5 = spent.count in
+    absurd (omega (arith, none_spent))
+
+pub nothing_spent_is_none : NothingSpentIsNoBest
+nothing_spent_is_none None None r = unspent _ _ r
+nothing_spent_is_none None (Some b) r = absurd r
+nothing_spent_is_none (Some i) None r = unspent _ _ r.2
+nothing_spent_is_none (Some i) (Some b) r = unspent _ _ r.2
