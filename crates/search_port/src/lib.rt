@@ -9,6 +9,8 @@
 //! where lines are kept, pivots by Bland's rule in rows over numbered atoms. `Bare` is the theory
 //! of truths alone, over whoever knows about terms.
 //!
+//! `Named`: the atom of each number, written out, and the number of each atom that has one.
+//!
 //! `Shown`: what a theory shows at the end of a search: its branches, over which its atoms are
 //! atoms of the check, no two the same, and where a number left the range, if that ended it.
 //!
@@ -30,7 +32,7 @@ mod theory;
 
 pub use bare::{About, Bare, Judged};
 pub use budget::{Budget, Cause, Lemma, Spent};
-pub use shown::{Showing, Shown};
+pub use shown::{Named, Showing, Shown};
 pub use theory::{Asserted, Checked, Inferred, Theory};
 
 /// A clause over numbers follows exactly where the clause with its atoms written out does.

@@ -14,7 +14,7 @@ use Rattle.smt_meaning.specs.Sexp.{Sexp, Sexps, word, group, end, ◌▸◌, sex
 use Rattle.smt_meaning.specs.Signature.{is_some}
 use Rattle.smt_meaning.specs.Stack.{Frame, HasNoModel, assertions_of}
 use Rattle.smt_meaning.specs.Sorts.{with_all}
-use Rattle.smt_meaning.specs.Report.{AreReports, deciding_workers}
+use Rattle.smt_meaning.specs.Report.{AreReports}
 use Rattle.smt_meaning.specs.State.{State, Candidates, named, assumed, checked_frames, texts_of}
 use Rattle.smt_meaning.specs.Model.{IsModel}
 use Rattle.smt_meaning.specs.Keeping.{keeping, is_in, core_keeps, trial_keeps}
@@ -22,19 +22,19 @@ use Rattle.smt_meaning.specs.Keeping.{keeping, is_in, core_keeps, trial_keeps}
 -- ---- the trials
 
 -- the levels have this model, or each worker shows why it found none
-abbrev pub IsReason : List Tree → List Frame → ℤ → Reason → Type 0
-IsReason ts frames limit (Model i) = IsModel frames i
-IsReason ts frames limit (Reports rs) = AreReports deciding_workers ts frames limit rs
+abbrev pub IsReason : ℕ → List Tree → List Frame → ℤ → Reason → Type 0
+IsReason workers ts frames limit (Model i) = IsModel frames i
+IsReason workers ts frames limit (Reports rs) = AreReports workers ts frames limit rs
 
 abbrev pub places : List Held → List ℕ
 places hs = map (λ (h : Held). h.place) hs
 
 -- Of the candidates, by their places, these are held, in their order: with them alone the levels have no model, and each has a reason of the levels without it and without
 -- the candidates before it that aren't held.
-pub record IsReduced (ts : List Tree) (frames : List Frame) (limit : ℤ) (candidates : List ℕ) (hs : List Held) : Type 0 where
+pub record IsReduced (workers : ℕ) (ts : List Tree) (frames : List Frame) (limit : ℤ) (candidates : List ℕ) (hs : List Held) : Type 0 where
   pub listed : filter (is_in (places hs)) candidates ≡ places hs
   pub enough : HasNoModel (keeping (core_keeps candidates (places hs)) frames)
-  pub reasons : All (λ (h : Held). IsReason ts (keeping (trial_keeps candidates (places hs) h.place) frames) limit h.why) hs
+  pub reasons : All (λ (h : Held). IsReason workers ts (keeping (trial_keeps candidates (places hs) h.place) frames) limit h.why) hs
 
 -- ---- names of assertions
 
@@ -89,4 +89,4 @@ core_reply assumed s hs = UnsatAssumptions (map (λ (h : Held). text_at (checked
 
 -- these candidates are held
 abbrev pub IsCore : Candidates → State → List Held → Type 0
-IsCore among s hs = IsReduced (checked_trees s) (checked_frames s) s.options.reproducible_resource_limit (places_of among s) hs
+IsCore among s hs = IsReduced s.settings.workers (checked_trees s) (checked_frames s) s.options.reproducible_resource_limit (places_of among s) hs

@@ -1,5 +1,5 @@
 -- The least value of a term in the models of levels, or what is known of it.
-use Rattle.std.specs.Prelude.{◌≡◌, ℤ, ◌≤ℤ◌, ◌<ℤ◌, List, [], ◌∷◌, ◌++◌, map, Option, Some, None}
+use Rattle.std.specs.Prelude.{◌≡◌, ℕ, ℤ, ◌≤ℤ◌, ◌<ℤ◌, List, [], ◌∷◌, ◌++◌, map, Option, Some, None}
 use Rattle.smt_meaning.specs.declared.tokens.Token.{Token}
 use Rattle.smt_meaning.specs.declared.values.Table.{Table}
 use Rattle.smt_meaning.specs.declared.reports.Report.{Report}
@@ -9,7 +9,7 @@ use Rattle.smt_meaning.specs.Interpretation.{Interprets, meaning}
 use Rattle.smt_meaning.specs.Sorts.{with_all}
 use Rattle.smt_meaning.specs.Stack.{Assertion, Frame, signature_of, Holds}
 use Rattle.smt_meaning.specs.State.{frame_of}
-use Rattle.smt_meaning.specs.Report.{AreReports, deciding_workers}
+use Rattle.smt_meaning.specs.Report.{AreReports}
 use Rattle.smt_meaning.specs.Goal.{is_itself, is_at_most, is_below, least_number}
 use Rattle.smt_meaning.specs.Model.{IsModel}
 
@@ -21,8 +21,8 @@ abbrev pub terms_asked : List Assertion → List Tree
 terms_asked xs = map (λ (a : Assertion). a.term) xs
 
 -- it isn't found whether the levels with what is asked for have a model: the terms that are new in it come last among those that the reports speak of
-abbrev pub IsUnfound : List Tree → List Frame → ℤ → List Assertion → List Report → Type 0
-IsUnfound ts frames limit xs rs = AreReports deciding_workers (with_all ts (terms_asked xs)) (asking frames xs) limit rs
+abbrev pub IsUnfound : ℕ → List Tree → List Frame → ℤ → List Assertion → List Report → Type 0
+IsUnfound workers ts frames limit xs rs = AreReports workers (with_all ts (terms_asked xs)) (asking frames xs) limit rs
 
 abbrev pub value_in : List Table → Tree → ℤ
 value_in i t = number_of (value (meaning i) t)
@@ -39,13 +39,13 @@ pub record IsMinimum (frames : List Frame) (text : List Token) (t : Tree) (v : �
 
 -- Nothing was found; or a model, and nothing was found of a bound below its value; or a model in which the term has the least number of the range for its value, and
 -- nothing was found of a value below that.
-abbrev pub IsBestBy : List Tree → List Frame → ℤ → List Token → Tree → Option (List Table) → Option ℤ → List Report → Type 0
-IsBestBy ts frames limit text t None None rs = IsUnfound ts frames limit (is_itself text t ∷ []) rs
-IsBestBy ts frames limit text t None (Some b) rs = ⊥
-IsBestBy ts frames limit text t (Some i) (Some b) rs =
-    IsModelFor frames text t i × (b <ℤ value_in i t) × IsUnfound ts frames limit (is_itself text t ∷ is_at_most text t b ∷ []) rs
-IsBestBy ts frames limit text t (Some i) None rs =
-    IsModelFor frames text t i × (value_in i t ≡ least_number) × IsUnfound ts frames limit (is_itself text t ∷ is_below text t least_number ∷ []) rs
+abbrev pub IsBestBy : ℕ → List Tree → List Frame → ℤ → List Token → Tree → Option (List Table) → Option ℤ → List Report → Type 0
+IsBestBy workers ts frames limit text t None None rs = IsUnfound workers ts frames limit (is_itself text t ∷ []) rs
+IsBestBy workers ts frames limit text t None (Some b) rs = ⊥
+IsBestBy workers ts frames limit text t (Some i) (Some b) rs =
+    IsModelFor frames text t i × (b <ℤ value_in i t) × IsUnfound workers ts frames limit (is_itself text t ∷ is_at_most text t b ∷ []) rs
+IsBestBy workers ts frames limit text t (Some i) None rs =
+    IsModelFor frames text t i × (value_in i t ≡ least_number) × IsUnfound workers ts frames limit (is_itself text t ∷ is_below text t least_number ∷ []) rs
 
-abbrev pub IsBest : List Tree → List Frame → ℤ → List Token → Tree → Best → Type 0
-IsBest ts frames limit text t b = IsBestBy ts frames limit text t b.model b.bound b.reports
+abbrev pub IsBest : ℕ → List Tree → List Frame → ℤ → List Token → Tree → Best → Type 0
+IsBest workers ts frames limit text t b = IsBestBy workers ts frames limit text t b.model b.bound b.reports

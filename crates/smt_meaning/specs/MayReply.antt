@@ -14,7 +14,7 @@ use Rattle.smt_meaning.specs.declared.replies.Best.{Best}
 use Rattle.smt_meaning.specs.declared.reports.Report.{Report}
 use Rattle.smt_meaning.specs.Term.{Tree}
 use Rattle.smt_meaning.specs.Stack.{Frame, HasNoModel}
-use Rattle.smt_meaning.specs.Report.{AreReports, deciding_workers, reason_of}
+use Rattle.smt_meaning.specs.Report.{AreReports, reason_of}
 use Rattle.smt_meaning.specs.Sexp.{sexp}
 use Rattle.smt_meaning.specs.Command.{command}
 use Rattle.smt_meaning.specs.State.{State, Candidates, checked_frames, Effect, denied, left_out, accepted, answered, checked, minimizes, reduces, effect}
@@ -32,7 +32,7 @@ MayDecide s Given.Sat kept new = (i : List Table) × (kept ≡ Model i) × IsMod
 MayDecide s Given.Unsat kept new = (kept ≡ Nothing) × HasNoModel (checked_frames s) × (new ≡ record s { mode = In.Unsat })
 MayDecide s Given.Unknown kept new =
     (rs : List Report) × (kept ≡ Reports rs)
-    × AreReports deciding_workers s.stack.trees (checked_frames s) s.options.reproducible_resource_limit rs
+    × AreReports s.settings.workers s.stack.trees (checked_frames s) s.options.reproducible_resource_limit rs
     × (new ≡ record s { mode = In.Unknown (reason_of rs) })
 MayDecide s _ kept new = ⊥
 
@@ -49,7 +49,7 @@ MayMinimize s text t (Given.Minimum v) kept new =
 MayMinimize s text t Given.Unsat kept new = (kept ≡ Nothing) × HasNoModel s.stack.frames × (new ≡ record s { mode = In.Unsat })
 MayMinimize s text t Given.Unknown kept new =
     (b : Best) × (kept ≡ KeptBest b)
-    × IsBest s.stack.trees s.stack.frames s.options.reproducible_resource_limit text t b
+    × IsBest s.settings.workers s.stack.trees s.stack.frames s.options.reproducible_resource_limit text t b
     × (new ≡ record s { mode = In.Unknown (reason_of b.reports) })
 MayMinimize s text t _ kept new = ⊥
 

@@ -165,10 +165,6 @@ pub record AreReports (workers : ℕ) (ts : List Tree) (frames : List Frame) (li
   pub one_each : map (λ (r : Report). r.worker) rs ≡ range_with_len 0 workers
   pub shown : All (λ (r : Report). Shows ts frames limit r.worker r.branches r.cause) rs
 
--- how many workers decide a check
-abbrev pub deciding_workers : ℕ
-deciding_workers = 1
-
 -- ---- the reason of an unknown answer
 
 abbrev pub wants_memory : Report → Bool
