@@ -42,9 +42,10 @@ p_tree = node (Function 0) none
 abbrev q_tree : Tree
 q_tree = node (Function 1) none
 
-abbrev both_asserted : State
-both_asserted =
-    record (start settings) {
+-- with so many workers
+abbrev both_asserted_by : ℕ → State
+both_asserted_by workers =
+    record (start (record settings { workers = workers })) {
       logic = Some (codes "QF_UFLIA");
       mode = In.Assert;
       options = record (start settings).options { reproducible_resource_limit = pos 1 };
@@ -58,6 +59,9 @@ both_asserted =
         global = false;
       };
     }
+
+abbrev both_asserted : State
+both_asserted = both_asserted_by 1
 
 abbrev ShownHere : Report → Type 0
 ShownHere r = Shows both_asserted.stack.trees both_asserted.stack.frames (pos 1) r.worker r.branches r.cause
@@ -101,6 +105,22 @@ none_show_nothing : (new : State) → MayReply every both_asserted CheckSat Unkn
 unfolding MayReply effect
 none_show_nothing new h =
     let numbers : [] ≡ 0 ∷ [] = ap (map (λ (r : Report). r.worker)) (ap kept_reports h.1) ∙ h.2.one_each in
+    absurd (omega (arith, ap (length {A = ℕ}) numbers))
+
+-- each worker of the words shows something, in order
+both_may_end : MayReply every (both_asserted_by 2) CheckSat Unknown (Reports (without_memory 0 ∷ without_memory 1 ∷ [])) (record (both_asserted_by 2) { mode = In.Unknown Memout })
+unfolding MayReply effect
+both_may_end = (
+  without_memory 0 ∷ without_memory 1 ∷ [],
+  refl,
+  record { one_each = refl; shown = All-cons ShownHere (without_memory 0) (without_memory 1 ∷ []) tt (All-cons ShownHere (without_memory 1) [] tt (All-nil _)) },
+  refl,
+)
+
+one_of_two_shows_nothing : (new : State) → MayReply every (both_asserted_by 2) CheckSat Unknown (Reports (without_memory 0 ∷ [])) new → ⊥
+unfolding MayReply effect
+one_of_two_shows_nothing new h =
+    let numbers : map (λ (r : Report). r.worker) (without_memory 0 ∷ []) ≡ 0 ∷ 1 ∷ [] = ap (map (λ (r : Report). r.worker)) (ap kept_reports h.1) ∙ h.2.one_each in
     absurd (omega (arith, ap (length {A = ℕ}) numbers))
 
 -- ---- units
