@@ -1,5 +1,6 @@
 -- Calls of a hook, one between any two units.
-use Rattle.std.proofs.Common.{◌≡◌, ℕ, ◌+◌, ◌<◌, ◌≤◌, ◌⊎◌, min, MatchBool, Bool, true, false, List, [], ◌∷◌, ◌++◌, All, Contains, length, ap, subst, ◌∙◌, inl, inr, arith}
+use Rattle.std.proofs.Common.{◌≡◌, ℕ, ◌+◌, ◌<◌, ◌≤◌, ◌⊎◌, min, MatchBool, Bool, true, false, List, [], ◌∷◌, ◌++◌, All, Contains, length, ap, subst, sym, ◌∙◌, refl, inl, inr, arith}
+use Rattle.std.specs.Prelude.{nat_le}
 use Rattle.std.proofs.lemmas.List.{length-append}
 use Rattle.std.proofs.lemmas.List.Elements.{All-nil, All-push, All-weaker, Contains-append_left, Contains-push}
 use Rattle.search_port.specs.State.{TheoryState}
@@ -8,66 +9,99 @@ use Rattle.search_port.specs.Spending.{Spending}
 use Rattle.search_port.specs.declared.budget.Lemma.{Lemma}
 use Rattle.search_port.specs.declared.budget.Spent.{Spent as SpentUnit}
 use Rattle.search_port.specs.declared.budget.Spent.TheVariants.{Learnt as SpentLearnt}
-use Rattle.cdcl_core.specs.Turns.{HeardBetween, IsAccounted, IsPartly}
+use Rattle.cdcl_core.specs.Turns.{GainsBy, GainsByOne, GainsOne, HeardBetween, IsAccounted, IsPartly}
+use Rattle.cdcl_core.specs.declared.turn.Turn.{Turn}
+use Rattle.cdcl_core.specs.declared.turn.Turn.TheVariants.{GoOn, Spent as SpentTurn, Full, False, Ended}
+
+-- a call at this number of units
+abbrev pub HasCall : List Spending → ℕ → Type 0
+HasCall calls n = (c : Spending) × Contains calls c × (length c.units ≡ n)
+
+-- the units of a budget are between those of two others
+abbrev pub IsBetween : Spending → Spending → Spending → Type 0
+IsBetween old new c = (length old.units ≤ length c.units) × (length c.units ≤ length new.units)
+
+-- from one call to the next there is at most one clause more to be shared, and none after the last
+abbrev pub ComesTo : List Lemma → List Spending → List Lemma → Type 0
+ComesTo cs [] ds = ds ≡ cs
+ComesTo cs (b ∷ bs) ds = GainsOne cs b.short × ComesTo b.short bs ds
+
+comes-push : (cs : List Lemma) (bs : List Spending) (ds : List Lemma) (b : Spending) → ComesTo cs bs ds → GainsOne ds b.short → ComesTo cs (bs ++ b ∷ []) b.short
+comes-push cs [] ds b h g = (subst (λ xs. GainsOne xs b.short) h g, refl)
+comes-push cs (a ∷ bs) ds b h g = (h.0, comes-push a.short bs ds b h.1 g)
+
+comes-on : (cs : List Lemma) (bs : List Spending) (ds es : List Lemma) → ComesTo cs bs ds → es ≡ ds → ComesTo cs bs es
+comes-on cs bs ds es h e = subst (λ xs. ComesTo cs bs xs) (sym e) h
+
+comes-end : (cs : List Lemma) (bs : List Spending) (ds es : List Lemma) → ComesTo cs bs ds → GainsOne ds es → GainsByOne cs bs es
+comes-end cs [] ds es h g = subst (λ xs. GainsOne xs es) h g
+comes-end cs (a ∷ bs) ds es h g = (h.0, comes-end a.short bs ds es h.1 g)
 
 -- so far: one at each number of units above the first
-pub record Heard (Led : List ℕ → Type 0) (old now : ℕ) : Type 0 where
-  pub calls : List ℕ
+pub record Heard (Led : List Spending → Type 0) (old now : Spending) : Type 0 where
+  pub calls : List Spending
   pub led : Led calls
-  pub each : (n : ℕ) → old < n → n ≤ now → Contains calls n
-  pub within : All (λ n. old ≤ n × n ≤ now) calls
+  pub each : (n : ℕ) → length old.units < n → n ≤ length now.units → HasCall calls n
+  pub within : All (IsBetween old now) calls
+  pub shares : ComesTo old.short calls now.short
 
-pub heard-none : (Led : List ℕ → Type 0) (a : ℕ) → Led [] → Heard Led a a
-heard-none Led a h = record { calls = []; led = h; each = λ n lt le. absurd (omega arith); within = All-nil (λ n. a ≤ n × n ≤ a) }
+pub heard-none : (Led : List Spending → Type 0) (a : Spending) → Led [] → Heard Led a a
+heard-none Led a h = record { calls = []; led = h; each = λ n lt le. absurd (omega arith); within = All-nil (IsBetween a a); shares = refl }
 
-within-more : (old now new : ℕ) (calls : List ℕ) → now ≤ new → All (λ n. old ≤ n × n ≤ now) calls → All (λ n. old ≤ n × n ≤ new) calls
-within-more old now new calls le h = All-weaker (λ n. old ≤ n × n ≤ now) (λ n. old ≤ n × n ≤ new) (λ n w. more n w.0 w.1) calls h
+within-more : (old now new : Spending) (calls : List Spending) → length now.units ≤ length new.units → All (IsBetween old now) calls → All (IsBetween old new) calls
+within-more old now new calls le h = All-weaker (IsBetween old now) (IsBetween old new) (λ c w. more (length c.units) w.0 w.1) calls h
   where
-    more : (n : ℕ) → old ≤ n → n ≤ now → old ≤ n × n ≤ new
+    more : (n : ℕ) → length old.units ≤ n → n ≤ length now.units → (length old.units ≤ n) × (n ≤ length new.units)
     more n a b = (a, omega arith)
 
 -- a call at the next number of units, or at the same one
-pub heard-call : (Led Led2 : List ℕ → Type 0) (old now new : ℕ) → old ≤ now → now ≤ new → new ≤ now + 1 → Heard Led old now
-    → ((calls : List ℕ) → Led calls → Led2 (calls ++ new ∷ [])) → Heard Led2 old new
-heard-call Led Led2 old now new above le next h more = record {
+pub heard-call : (Led Led2 : List Spending → Type 0) (old now new : Spending) → length old.units ≤ length now.units → length now.units ≤ length new.units → length new.units ≤ length now.units + 1 → GainsOne now.short new.short → Heard Led old now
+    → ((calls : List Spending) → Led calls → Led2 (calls ++ new ∷ [])) → Heard Led2 old new
+heard-call Led Led2 old now new above le next gains h more = record {
   calls = h.calls ++ new ∷ [];
   led = more h.calls h.led;
   each = each;
-  within = All-push (λ n. old ≤ n × n ≤ new) h.calls new (within-more old now new h.calls le h.within) (omega arith, omega arith);
+  within = All-push (IsBetween old new) h.calls new (within-more old now new h.calls le h.within) (omega arith, omega arith);
+  shares = comes-push old.short h.calls now.short new h.shares gains;
 }
   where
-    by_place : (n : ℕ) → old < n → (n ≤ now) ⊎ (new ≡ n) → Contains (h.calls ++ new ∷ []) n
-    by_place n lt (inl e) = Contains-append_left h.calls (new ∷ []) n (h.each n lt e)
-    by_place n lt (inr e) = subst (λ (k : ℕ). Contains (h.calls ++ new ∷ []) k) e (Contains-push h.calls new)
+    earlier : (n : ℕ) → HasCall h.calls n → HasCall (h.calls ++ new ∷ []) n
+    earlier n k = (k.0, Contains-append_left h.calls (new ∷ []) k.0 k.1, k.2)
 
-    place : (n : ℕ) → n ≤ new → (n ≤ now) ⊎ (new ≡ n)
+    by_place : (n : ℕ) → length old.units < n → (n ≤ length now.units) ⊎ (length new.units ≡ n) → HasCall (h.calls ++ new ∷ []) n
+    by_place n lt (inl e) = earlier n (h.each n lt e)
+    by_place n lt (inr e) = (new, Contains-push h.calls new, e)
+
+    place : (n : ℕ) → n ≤ length new.units → (n ≤ length now.units) ⊎ (length new.units ≡ n)
     place n e = grind arith
 
-    each : (n : ℕ) → old < n → n ≤ new → Contains (h.calls ++ new ∷ []) n
+    each : (n : ℕ) → length old.units < n → n ≤ length new.units → HasCall (h.calls ++ new ∷ []) n
     each n lt e = by_place n lt (place n e)
 
--- none where no unit is spent
-pub heard-on : (Led : List ℕ → Type 0) (old now new : ℕ) → now ≤ new → new ≤ now → Heard Led old now → Heard Led old new
-heard-on Led old now new le ge h = record {
+-- none where nothing is spent or learnt
+pub heard-on : (Led : List Spending → Type 0) (old now new : Spending) → length now.units ≤ length new.units → length new.units ≤ length now.units → new.short ≡ now.short → Heard Led old now → Heard Led old new
+heard-on Led old now new le ge same h = record {
   calls = h.calls;
   led = h.led;
   each = each;
   within = within-more old now new h.calls le h.within;
+  shares = comes-on old.short h.calls now.short new.short h.shares same;
 }
   where
-    each : (n : ℕ) → old < n → n ≤ new → Contains h.calls n
+    each : (n : ℕ) → length old.units < n → n ≤ length new.units → HasCall h.calls n
     each n lt e = h.each n lt (omega arith)
 
--- at the end one unit more may be spent
-pub heard-end : (Led : List ℕ → Type 0) (old now new : ℕ) → now ≤ new → new ≤ now + 1 → Heard Led old now → HeardBetween Led old new
-heard-end Led old now new le next h = record {
+-- at the end one unit more may be spent, and one clause more learnt
+pub heard-end : (Led : List Spending → Type 0) (old now new : Spending) → length now.units ≤ length new.units → length new.units ≤ length now.units + 1 → GainsOne now.short new.short → Heard Led old now → HeardBetween Led old new
+heard-end Led old now new le next gains h = record {
   calls = h.calls;
   led = h.led;
   between = between;
   within = within-more old now new h.calls le h.within;
+  shares = comes-end old.short h.calls now.short new.short h.shares gains;
 }
   where
-    between : (n : ℕ) → old < n → n < new → Contains h.calls n
+    between : (n : ℕ) → length old.units < n → n < length new.units → HasCall h.calls n
     between n lt e = h.each n lt (omega arith)
 
 -- ---- units that are spent
@@ -91,3 +125,24 @@ accounted-one b c clause a = learnt-one b.counts_learnt b.units c.units clause a
 
 pub partly-none : (b c : Spending) → IsPartly b c → length c.units ≤ length b.units + 1
 partly-none b c p = let k : length c.units ≡ length b.units = ap length p.units in omega arith
+
+-- ---- clauses to be shared
+
+short-one : (v : Bool) (cs ds : List Lemma) (clause : Lemma) → MatchBool v (ds ≡ cs ++ clause ∷ []) (ds ≡ cs) → GainsOne cs ds
+short-one true cs ds clause e = inr (clause, e)
+short-one false cs ds clause e = inl e
+
+pub accounted-gains : (b c : Spending) (clause : Lemma) → IsAccounted b c clause → GainsOne b.short c.short
+accounted-gains b c clause a = short-one (nat_le (length clause.literals) b.share) b.short c.short clause a.short
+
+-- none is added by the theory
+pub called-shares : (t u : TheoryState) (b l c : Spending) → l ≡ record { units = b.units; limit = b.limit; bound = min b.limit (length b.units + 1); counts_learnt = b.counts_learnt; keeps_lines = b.keeps_lines; share = b.share; short = b.short }
+    → Goes t u l c → c.short ≡ b.short
+called-shares t u b l c e g = ap (λ (x : Spending). x.short) g.budget ∙ ap (λ (x : Spending). x.short) e
+
+pub gains-same : (r : Turn) (cs ds : List Lemma) → ds ≡ cs → GainsBy r cs ds
+gains-same GoOn cs ds e = e
+gains-same SpentTurn cs ds e = inl e
+gains-same (Full tables) cs ds e = inl e
+gains-same (False level) cs ds e = inl e
+gains-same (Ended cause) cs ds e = inl e
