@@ -1,6 +1,5 @@
 -- Calls of a hook, one between any two units.
 use Rattle.std.proofs.Common.{◌≡◌, ℕ, ◌+◌, ◌<◌, ◌≤◌, ◌⊎◌, min, MatchBool, Bool, true, false, List, [], ◌∷◌, ◌++◌, All, Contains, length, ap, subst, sym, ◌∙◌, refl, inl, inr, arith}
-use Rattle.std.specs.Prelude.{nat_le}
 use Rattle.std.proofs.lemmas.List.{length-append}
 use Rattle.std.proofs.lemmas.List.Elements.{All-nil, All-push, All-weaker, Contains-append_left, Contains-push}
 use Rattle.search_port.specs.State.{TheoryState}
@@ -9,9 +8,7 @@ use Rattle.search_port.specs.Spending.{Spending}
 use Rattle.search_port.specs.declared.budget.Lemma.{Lemma}
 use Rattle.search_port.specs.declared.budget.Spent.{Spent as SpentUnit}
 use Rattle.search_port.specs.declared.budget.Spent.TheVariants.{Learnt as SpentLearnt}
-use Rattle.cdcl_core.specs.Turns.{GainsBy, GainsByOne, GainsOne, HeardBetween, IsAccounted, IsPartly}
-use Rattle.cdcl_core.specs.declared.turn.Turn.{Turn}
-use Rattle.cdcl_core.specs.declared.turn.Turn.TheVariants.{GoOn, Spent as SpentTurn, Full, False, Ended}
+use Rattle.cdcl_core.specs.Turns.{GainsByOne, GainsOne, HeardBetween, IsAccounted, IsPartly}
 
 -- a call at this number of units
 abbrev pub HasCall : List Spending → ℕ → Type 0
@@ -125,24 +122,3 @@ accounted-one b c clause a = learnt-one b.counts_learnt b.units c.units clause a
 
 pub partly-none : (b c : Spending) → IsPartly b c → length c.units ≤ length b.units + 1
 partly-none b c p = let k : length c.units ≡ length b.units = ap length p.units in omega arith
-
--- ---- clauses to be shared
-
-short-one : (v : Bool) (cs ds : List Lemma) (clause : Lemma) → MatchBool v (ds ≡ cs ++ clause ∷ []) (ds ≡ cs) → GainsOne cs ds
-short-one true cs ds clause e = inr (clause, e)
-short-one false cs ds clause e = inl e
-
-pub accounted-gains : (b c : Spending) (clause : Lemma) → IsAccounted b c clause → GainsOne b.short c.short
-accounted-gains b c clause a = short-one (nat_le (length clause.literals) b.share) b.short c.short clause a.short
-
--- none is added by the theory
-pub called-shares : (t u : TheoryState) (b l c : Spending) → l ≡ record { units = b.units; limit = b.limit; bound = min b.limit (length b.units + 1); counts_learnt = b.counts_learnt; keeps_lines = b.keeps_lines; share = b.share; short = b.short }
-    → Goes t u l c → c.short ≡ b.short
-called-shares t u b l c e g = ap (λ (x : Spending). x.short) g.budget ∙ ap (λ (x : Spending). x.short) e
-
-pub gains-same : (r : Turn) (cs ds : List Lemma) → ds ≡ cs → GainsBy r cs ds
-gains-same GoOn cs ds e = e
-gains-same SpentTurn cs ds e = inl e
-gains-same (Full tables) cs ds e = inl e
-gains-same (False level) cs ds e = inl e
-gains-same (Ended cause) cs ds e = inl e
