@@ -39,6 +39,10 @@ pub record Grows (b c : Base) : Type 0 where
   pub more : List Tree
   pub trees : c.trees ≡ b.trees ++ more
 
+-- from no level on, by pushes, declarations and assertions, it becomes all that it is
+abbrev pub GrowsFromNothing : Type 0
+GrowsFromNothing = (b : Base) → Grows (cut_base 0 b) b
+
 -- all but what it stands on is the same
 pub record IsSameButBase (s t : ShelfState) : Type 0 where
   pub entries : t.entries ≡ s.entries

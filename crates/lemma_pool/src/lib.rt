@@ -8,6 +8,8 @@
 //! cut.
 #![tactic(auto)]
 
+mod laws;
 mod pool;
 
+pub use laws::follows_from_nothing;
 pub use pool::Pool;

@@ -1,5 +1,5 @@
 -- What the table tells at its end.
-use Rattle.std.proofs.Common.{◌≡◌, ℕ, zero, suc, ◌+◌, ◌<◌, ◌≤◌, ◌≢◌, Bool, true, false, List, [], ◌∷◌, ◌++◌, length, take, drop, sym, refl, ap, ◌∙◌, subst, ⊎_elim, arith, append_assoc, take-append-drop, map, add-one, All, length-append}
+use Rattle.std.proofs.Common.{◌≡◌, ℕ, zero, suc, ◌+◌, ◌<◌, ◌≢◌, Bool, true, false, List, [], ◌∷◌, ◌++◌, length, sym, refl, ap, ◌∙◌, subst, ⊎_elim, arith, append_assoc, map, add-one, All, length-append}
 use Rattle.std.proofs.Math.ListN.{get_or-append}
 use Rattle.std.proofs.Math.Seq.{get_or-append_seam}
 use Rattle.std.proofs.lemmas.List.{map-append}
@@ -11,15 +11,13 @@ use Rattle.race_cell.proofs.Keeps.{joins}
 use mathlib.Core.Option.{Option, none, some, some-injective}
 use lib.ListN.{get_elem?}
 use Rattle.atomic_table.specs.Table.{Final, Seen}
-use Rattle.race_cell.specs.declared.action.Action.{Action}
-use Rattle.race_cell.specs.declared.action.Action.TheVariants.{Share, TakeBatch, Win, End}
-use Rattle.race_cell.specs.Actions.{entries_after, Works, ends_from, numbers_from}
+use Rattle.race_cell.specs.Actions.{numbers_from}
 use Rattle.race_cell.proofs.Legal.{whole_race}
 use Rattle.std.specs.Prelude.{Option as Maybe}
 use Rattle.race_model.specs.Shelves.{ShelfState}
 use Rattle.race_cell.specs.declared.view.Claim.{Claim}
 use Rattle.race_cell.specs.declared.view.View.{View}
-use Rattle.race_cell.specs.Rules.{total, weight, holder, claim_count, history, IsAt, Kept, with_claims, alone, claim, joined, spent_view, AtEnd, Ended}
+use Rattle.race_cell.specs.Rules.{total, weight, holder, claim_count, IsAt, Kept, with_claims, alone, claim, joined, spent_view, AtEnd, Ended}
 use Rattle.race_cell.proofs.Lists.{terms_le}
 
 holder_or : {S : Type 0} (b : Bool) (v : View S) (vs : List (View S)) → v.holds ≡ b → 0 < holder v + total holder vs → (0 < total holder vs → (j : ℕ) × (u : View S) × (get_elem? vs j ≡ some u) × (u.holds ≡ true)) → (j : ℕ) × (u : View S) × (get_elem? (v ∷ vs) j ≡ some u) × (u.holds ≡ true)
@@ -69,6 +67,7 @@ module _ {S : Type 0} (state : S → ShelfState) where
         log = e.log;
         winner = e.winner;
         at = e.at;
+        won = e.won.0;
         last = r.0;
         legal = r.1;
         entries = same ∙ (e.shelf.held ∙ sym r.3);

@@ -1,28 +1,27 @@
 -- Shares and batches of workers, with a win among them and an end of each, are a race.
-use Rattle.std.proofs.Common.{◌≡◌, ◌≢◌, ℕ, zero, suc, ◌+◌, ◌<◌, ◌≤◌, Bool, true, false, List, [], ◌∷◌, ◌++◌, map, length, take, drop, replicate, set, get_or, sym, refl, ap, ◌∙◌, subst, arith, append_assoc, add-one, All, Contains, Option, Some, None}
+use Rattle.std.proofs.Common.{◌≡◌, ◌≢◌, ℕ, zero, suc, ◌+◌, ◌<◌, ◌≤◌, Bool, true, false, List, [], ◌∷◌, ◌++◌, map, length, take, drop, replicate, set, get_or, sym, refl, ap, ◌∙◌, subst, arith, append_assoc, All, Contains, Option, Some, None}
 use mathlib.Core.Logic.{dite}
 use native.Mathlib.Decide.{ℕ_discrete}
-use Rattle.std.specs.Prelude.{slice_get, IfSome, flat_map}
+use Rattle.std.specs.Prelude.{slice_get, IfSome}
 use Rattle.std.proofs.Math.ListN.{length-set}
-use Rattle.std.proofs.lemmas.List.{take-append-drop, length-append}
-use Rattle.std.proofs.lemmas.List.Elements.{All-nil, All-cons, All-head, All-tail, All-append, All-set, All-get_or, All-replicate, All-weaker, Contains-push}
+use Rattle.std.proofs.lemmas.List.{take-append-drop}
+use Rattle.std.proofs.lemmas.List.Elements.{All-nil, All-cons, All-head, All-tail, All-append, All-set, All-get_or, All-replicate, Contains-push}
 use Rattle.smt_meaning.specs.declared.clauses.Clause.{Clause}
 use Rattle.smt_meaning.specs.Term.{Tree, Interpretation}
-use Rattle.smt_meaning.specs.Interpretation.{Interprets}
 use Rattle.smt_meaning.specs.Stack.{Frame, Satisfies, Holds, terms_of, assertions_of, up_to}
 use Rattle.smt_meaning.specs.Follows.{follows_from}
 use Rattle.race_model.specs.declared.event.Entry.{Entry}
 use Rattle.race_model.specs.declared.event.Premise.{Premise}
-use Rattle.race_model.specs.declared.event.Premise.TheVariants.{Known, Asserted}
+use Rattle.race_model.specs.declared.event.Premise.TheVariants.{Asserted}
 use Rattle.race_model.specs.declared.event.Event.{Event}
 use Rattle.race_model.specs.declared.state.Worker.{Worker}
 use Rattle.race_model.specs.Base.{Base}
-use Rattle.race_model.specs.Race.{State, IsRace, after, worker_at, nobody, IsRunning, terms_at, Supports, PremiseTrue, IsShown, fresh_worker}
+use Rattle.race_model.specs.Race.{State, IsRace, after, nobody, IsRunning, terms_at, Supports, PremiseTrue, IsShown, fresh_worker}
 use Rattle.race_model.specs.Laws.{IsSound}
 use Rattle.race_model.specs.Shelves.{ShelfState, racing}
 use Rattle.race_cell.specs.declared.action.Action.{Action}
 use Rattle.race_cell.specs.declared.action.Action.TheVariants.{Share, TakeBatch, Win, End}
-use Rattle.race_cell.specs.Actions.{worker_of, entries_after, MayFollow, Works, ends_from, assertions_from, premises_from, premises_of, events_of, events_in}
+use Rattle.race_cell.specs.Actions.{entries_after, Works, ends_from, assertions_from, premises_from, premises_of, events_of, events_in}
 use Rattle.race_cell.specs.Rules.{history}
 
 -- ---- all assertions of some levels

@@ -5,3 +5,4 @@ pub mod Told
 pub mod Opens
 pub mod Ends
 pub mod Legal
+pub mod Winners

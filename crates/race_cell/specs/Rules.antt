@@ -216,6 +216,7 @@ module _ {S : Type 0} (state : S → ShelfState) where
     pub log : List Action
     pub winner : ℕ
     pub at : ℕ
+    pub won : winner ≤ n
     pub last : RaceState
     pub legal : IsRace (racing n b) (events_in b.base (history winner at log ++ ends_from 0 n)) last
     pub entries : (state y).entries ≡ last.entries

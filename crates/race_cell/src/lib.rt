@@ -17,6 +17,7 @@ mod action;
 mod answer;
 mod calls;
 mod finish;
+mod laws;
 mod race;
 mod rule;
 mod start;
@@ -25,5 +26,6 @@ mod view;
 
 pub use action::Action;
 pub use answer::{Batch, Raced, Sharing};
+pub use laws::{fresh_are_in_order, winner_has_won};
 pub use race::{Pass, Place, Race};
 pub use view::{Claim, View};
