@@ -1,9 +1,13 @@
 //! The theory.
+ghost use Rattle.std.specs.Prelude.{Contains, IfSome, IfNone};
+ghost use Rattle.atom_form.specs.AtomTableNumbers.{IsAt};
+
+use atom_form::{AtomNumbers, CompactAtom};
 use check_atoms::CheckAtoms;
 use literals::Literal;
 use odd_parts::wide_xors;
 use scope_stack::Stack;
-use search_port::{Asserted, Budget, Checked, Inferred, Showing, Shown, Theory};
+use search_port::{Asserted, Budget, Checked, Inferred, Named, Showing, Shown, Theory};
 use smt_meaning::{Atom, Seq, TermId};
 use std::alloc::{AllocError, Global};
 use std::marker::Model;
@@ -135,11 +139,35 @@ impl<'s> Theory for Combined<'s> {
     }
 }
 
-impl<'s> Shown for Combined<'s> {
+/// The number of an atom, if it has one.
+fn find(atoms: &AtomNumbers, atom: &Atom) -> Option<u32>
+    ensures some { IfSome result (λ k. IsAt atoms.now.atoms k atom.now) }
+    ensures none { IfNone result (Contains atoms.now.atoms atom.now → ⊥) }
+{
+    match atom {
+        Atom::Truth(place) => atoms.find(CompactAtom::Truth(*place)),
+        Atom::Same(left, right) => atoms.find(CompactAtom::Same(*left, *right)),
+        Atom::AtMost(sum, threshold) => atoms.find_bound(sum.as_slice(), *threshold),
+    }
+}
+
+impl<'s> Named for Combined<'s> {
     fn atom(&self, alloc: Global, number: u32) -> Result<Atom, AllocError> {
         written(alloc, &self.parts, &self.progress, number)
     }
 
+    fn number(&self, atom: &Atom) -> Option<u32> {
+        self.progress.atoms.are_apart();
+        let number = find(&self.progress.atoms, atom)?;
+        if number < self.atoms() {
+            Some(number)
+        } else {
+            None
+        }
+    }
+}
+
+impl<'s> Shown for Combined<'s> {
     fn show(self) -> Showing {
         let Combined { parts, progress } = self;
         show(&parts, progress)
