@@ -96,15 +96,15 @@ pub point_from : (frames : List Frame) (text : List Token) (t : Tree) (ask : Ask
 point_from frames text t ask i n h e le =
     (record { model = model_for frames text t ask i h; value_is = e; within = le }, subst (IsAsAsked ask) e (as_asked frames text t ask i h))
 
-lowered_step : (ts : List Tree) (frames : List Frame) (limit : ℤ) (text : List Token) (t : Tree) (bound : ℕ) (s : Step) → IsStep ts frames limit text t (AtMost (number_at bound)) s → IsLowered ts frames limit text t bound s
-lowered_step ts frames limit text t bound (Lower p) h = (h.0, at_within p.above bound h.1)
-lowered_step ts frames limit text t bound Nothing h = floor_from frames text t (number_at bound) h
-lowered_step ts frames limit text t bound (Unfound rs) h = h
+lowered_step : (workers : ℕ) (ts : List Tree) (frames : List Frame) (limit : ℤ) (text : List Token) (t : Tree) (bound : ℕ) (s : Step) → IsStep workers ts frames limit text t (AtMost (number_at bound)) s → IsLowered workers ts frames limit text t bound s
+lowered_step workers ts frames limit text t bound (Lower p) h = (h.0, at_within p.above bound h.1)
+lowered_step workers ts frames limit text t bound Nothing h = floor_from frames text t (number_at bound) h
+lowered_step workers ts frames limit text t bound (Unfound rs) h = h
 
-pub lowered : {E : Type 0} (ts : List Tree) (frames : List Frame) (limit : ℤ) (text : List Token) (t : Tree) (bound : ℕ) (k : ℤ) (r : Result Step E) → k ≡ number_at bound
-    → IfOk r (IsStep ts frames limit text t (AtMost k)) → IfOk r (IsLowered ts frames limit text t bound)
-lowered ts frames limit text t bound k (Ok s) e h = lowered_step ts frames limit text t bound s (subst (λ b. IsStep ts frames limit text t (AtMost b) s) e h)
-lowered ts frames limit text t bound k (Err x) e h = tt
+pub lowered : {E : Type 0} (workers : ℕ) (ts : List Tree) (frames : List Frame) (limit : ℤ) (text : List Token) (t : Tree) (bound : ℕ) (k : ℤ) (r : Result Step E) → k ≡ number_at bound
+    → IfOk r (IsStep workers ts frames limit text t (AtMost k)) → IfOk r (IsLowered workers ts frames limit text t bound)
+lowered workers ts frames limit text t bound k (Ok s) e h = lowered_step workers ts frames limit text t bound s (subst (λ b. IsStep workers ts frames limit text t (AtMost b) s) e h)
+lowered workers ts frames limit text t bound k (Err x) e h = tt
 
 -- ---- what is found
 
@@ -113,23 +113,23 @@ is_minimum : (frames : List Frame) (text : List Token) (t : Tree) (p : Point) �
 is_minimum frames text t p h least = record { model = h.model; value_is = h.value_is; least = least }
 
 -- nothing is between the floor and the value
-pub minimum_above : (ts : List Tree) (frames : List Frame) (limit : ℤ) (text : List Token) (t : Tree) (p : Point) (floor : ℕ) → IsPoint frames text t p → IsFloor frames t (number_at floor) → p.above ≤ floor + 1
-    → IsLeast ts frames limit text t (Minimum (number_at p.above) p.model)
-minimum_above ts frames limit text t p floor h none near = is_minimum frames text t p h (λ J interprets holds. at_next floor p.above (number_of (value J t)) near (none J interprets holds))
+pub minimum_above : (workers : ℕ) (ts : List Tree) (frames : List Frame) (limit : ℤ) (text : List Token) (t : Tree) (p : Point) (floor : ℕ) → IsPoint frames text t p → IsFloor frames t (number_at floor) → p.above ≤ floor + 1
+    → IsLeast workers ts frames limit text t (Minimum (number_at p.above) p.model)
+minimum_above workers ts frames limit text t p floor h none near = is_minimum frames text t p h (λ J interprets holds. at_next floor p.above (number_of (value J t)) near (none J interprets holds))
 
-pub minimum_at_bottom : (ts : List Tree) (frames : List Frame) (limit : ℤ) (text : List Token) (t : Tree) (p : Point) → IsPoint frames text t p → p.above ≡ 0 → HasNoModel (asking frames (asked text t BelowLeast))
-    → IsLeast ts frames limit text t (Minimum (number_at p.above) p.model)
-minimum_at_bottom ts frames limit text t p h e none =
+pub minimum_at_bottom : (workers : ℕ) (ts : List Tree) (frames : List Frame) (limit : ℤ) (text : List Token) (t : Tree) (p : Point) → IsPoint frames text t p → p.above ≡ 0 → HasNoModel (asking frames (asked text t BelowLeast))
+    → IsLeast workers ts frames limit text t (Minimum (number_at p.above) p.model)
+minimum_at_bottom workers ts frames limit text t p h e none =
     is_minimum frames text t p h (λ J interprets holds. subst (λ k. k ≤ℤ number_of (value J t)) (sym (at_zero p.above e)) (least_from frames text t none J interprets holds))
 
-pub best_below : (ts : List Tree) (frames : List Frame) (limit : ℤ) (text : List Token) (t : Tree) (p : Point) (bound : ℕ) (rs : List Report) → IsPoint frames text t p → bound < p.above
-    → IsUnfound ts frames limit (is_itself text t ∷ is_at_most text t (number_at bound) ∷ []) rs
-    → IsLeast ts frames limit text t (Unknown (record { model = Some p.model; bound = Some (number_at bound); reports = rs }))
-best_below ts frames limit text t p bound rs h below unfound = (h.model, subst (λ k. number_at bound <ℤ k) (sym h.value_is) (at_less bound p.above below), unfound)
+pub best_below : (workers : ℕ) (ts : List Tree) (frames : List Frame) (limit : ℤ) (text : List Token) (t : Tree) (p : Point) (bound : ℕ) (rs : List Report) → IsPoint frames text t p → bound < p.above
+    → IsUnfound workers ts frames limit (is_itself text t ∷ is_at_most text t (number_at bound) ∷ []) rs
+    → IsLeast workers ts frames limit text t (Unknown (record { model = Some p.model; bound = Some (number_at bound); reports = rs }))
+best_below workers ts frames limit text t p bound rs h below unfound = (h.model, subst (λ k. number_at bound <ℤ k) (sym h.value_is) (at_less bound p.above below), unfound)
 
-pub best_at_bottom : (ts : List Tree) (frames : List Frame) (limit : ℤ) (text : List Token) (t : Tree) (p : Point) (rs : List Report) → IsPoint frames text t p → p.above ≡ 0
-    → IsUnfound ts frames limit (asked text t BelowLeast) rs → IsLeast ts frames limit text t (Unknown (record { model = Some p.model; bound = None; reports = rs }))
-best_at_bottom ts frames limit text t p rs h e unfound = (h.model, h.value_is ∙ at_zero p.above e, unfound)
+pub best_at_bottom : (workers : ℕ) (ts : List Tree) (frames : List Frame) (limit : ℤ) (text : List Token) (t : Tree) (p : Point) (rs : List Report) → IsPoint frames text t p → p.above ≡ 0
+    → IsUnfound workers ts frames limit (asked text t BelowLeast) rs → IsLeast workers ts frames limit text t (Unknown (record { model = Some p.model; bound = None; reports = rs }))
+best_at_bottom workers ts frames limit text t p rs h e unfound = (h.model, h.value_is ∙ at_zero p.above e, unfound)
 
 pub never_lower : (frames : List Frame) (text : List Token) (t : Tree) (p : Point) → IsPoint frames text t p × IsAsAsked BelowLeast (number_at p.above) → ⊥
 never_lower frames text t p h = not_below p.above h.1
@@ -194,19 +194,19 @@ pub record IsNarrow (frames : List Frame) (text : List Token) (t : Tree) (turn :
   pub floor_none : IsFloor frames t (number_at floor)
   pub near : p.above ≤ floor + 2 ^ (128 - turn)
 
-pub narrowed_by_value : (ts : List Tree) (frames : List Frame) (limit : ℤ) (text : List Token) (t : Tree) (turn floor : ℕ) (p : Point) (gap : ℕ) (next new : Point) (new_floor : ℕ)
+pub narrowed_by_value : (workers : ℕ) (ts : List Tree) (frames : List Frame) (limit : ℤ) (text : List Token) (t : Tree) (turn floor : ℕ) (p : Point) (gap : ℕ) (next new : Point) (new_floor : ℕ)
     → IsFloor frames t (number_at floor) → p.above ≤ floor + 2 ^ (128 - turn) → turn < 128 → gap ≡ p.above - floor → new ≡ next → new_floor ≡ floor
-    → IsLowered ts frames limit text t (floor + gap / 2) (Lower next) → IsNarrow frames text t (turn + 1) new new_floor
-narrowed_by_value ts frames limit text t turn floor p gap next new new_floor none near lt e a b h = record {
+    → IsLowered workers ts frames limit text t (floor + gap / 2) (Lower next) → IsNarrow frames text t (turn + 1) new new_floor
+narrowed_by_value workers ts frames limit text t turn floor p gap next new new_floor none near lt e a b h = record {
   point = subst (IsPoint frames text t) (sym a) h.0;
   floor_none = subst (λ f. IsFloor frames t (number_at f)) (sym b) none;
   near = subst (λ (q : Point). q.above ≤ new_floor + 2 ^ (128 - (turn + 1))) (sym a) (subst (λ f. next.above ≤ f + 2 ^ (128 - (turn + 1))) (sym b) (lower_half turn floor p.above gap next.above lt near e h.1));
 }
 
-pub narrowed_by_floor : (ts : List Tree) (frames : List Frame) (limit : ℤ) (text : List Token) (t : Tree) (turn floor : ℕ) (p : Point) (gap : ℕ) (new : Point) (new_floor : ℕ)
+pub narrowed_by_floor : (workers : ℕ) (ts : List Tree) (frames : List Frame) (limit : ℤ) (text : List Token) (t : Tree) (turn floor : ℕ) (p : Point) (gap : ℕ) (new : Point) (new_floor : ℕ)
     → IsPoint frames text t p → p.above ≤ floor + 2 ^ (128 - turn) → turn < 128 → gap ≡ p.above - floor → new ≡ p → new_floor ≡ floor + gap / 2
-    → IsLowered ts frames limit text t (floor + gap / 2) Nothing → IsNarrow frames text t (turn + 1) new new_floor
-narrowed_by_floor ts frames limit text t turn floor p gap new new_floor point near lt e a b h = record {
+    → IsLowered workers ts frames limit text t (floor + gap / 2) Nothing → IsNarrow frames text t (turn + 1) new new_floor
+narrowed_by_floor workers ts frames limit text t turn floor p gap new new_floor point near lt e a b h = record {
   point = subst (IsPoint frames text t) (sym a) point;
   floor_none = subst (λ f. IsFloor frames t (number_at f)) (sym b) h;
   near = subst (λ (q : Point). q.above ≤ new_floor + 2 ^ (128 - (turn + 1))) (sym a) (subst (λ f. p.above ≤ f + 2 ^ (128 - (turn + 1))) (sym b) (upper_half turn floor p.above gap lt near e));

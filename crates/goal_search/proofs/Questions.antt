@@ -1,5 +1,5 @@
 -- One question: what is assumed for it, and the stack before it.
-use Rattle.std.proofs.Common.{◌≡◌, ◌∙◌, sym, subst, refl, List, [], ◌∷◌, ◌++◌, Bool, ℤ, Option, Some, Err}
+use Rattle.std.proofs.Common.{◌≡◌, ◌∙◌, sym, subst, refl, ℕ, List, [], ◌∷◌, ◌++◌, Bool, ℤ, Option, Some, Err}
 use Rattle.smt_meaning.specs.declared.tokens.Token.{Token}
 use Rattle.smt_meaning.specs.declared.refusals.Refusal.{Refusal}
 use Rattle.smt_meaning.specs.Sorts.{done, refused, Scope}
@@ -34,9 +34,9 @@ module _ (texts : List (List Token)) (xs : List Assertion) (s : Stack) (c : Scop
 
   -- a verdict on what stands above is one on what is judged
   pub verdict_under : (others : List (List Token)) → others ≡ texts → (assumed : List Assertion) (new : Stack) → IsAssumed others assumed s new
-      → (decided : List Frame → Bool) (limit : ℤ) (found : Option Verdict) (v : Verdict) → found ≡ Some v → IsFound decided new.trees new.frames limit found
-      → IsVerdict c.trees (s.frames ++ frame_of xs ∷ []) limit v
-  verdict_under others same assumed new h decided limit found v is f =
+      → (workers : ℕ) (decided : List Frame → Bool) (limit : ℤ) (found : Option Verdict) (v : Verdict) → found ≡ Some v → IsFound workers decided new.trees new.frames limit found
+      → IsVerdict workers c.trees (s.frames ++ frame_of xs ∷ []) limit v
+  verdict_under others same assumed new h workers decided limit found v is f =
       let e : new ≡ under xs (changed s (assumes xs) c) = stands_under assumed new (subst (λ (ts : List (List Token)). IsAssumed ts assumed s new) same h) in
-      let g : IsFound decided new.trees new.frames limit (Some v) = subst (λ (o : Option Verdict). IsFound decided new.trees new.frames limit o) is f in
-      subst (λ (n : Stack). IsVerdict n.trees n.frames limit v) e g.1
+      let g : IsFound workers decided new.trees new.frames limit (Some v) = subst (λ (o : Option Verdict). IsFound workers decided new.trees new.frames limit o) is f in
+      subst (λ (n : Stack). IsVerdict workers n.trees n.frames limit v) e g.1

@@ -69,17 +69,17 @@ abbrev at_place : Held → ℕ
 at_place h = h.place
 
 -- of all candidates these were tried, of which some are held; the next one is at this place or later
-pub record SoFar (s : Stack) (limit : ℤ) (all tried : List ℕ) (next : ℕ) (kept : List Bool) (hs : List Held) : Type 0 where
+pub record SoFar (workers : ℕ) (s : Stack) (limit : ℤ) (all tried : List ℕ) (next : ℕ) (kept : List Bool) (hs : List Held) : Type 0 where
   pub size : length kept ≡ length (assertions_of s.frames)
   pub left : (q : ℕ) → q < length kept → marks kept q ≡ core_keeps tried (places hs) q
   pub none : HasNoModel (keeping (marks kept) s.frames)
   pub listed : filter (is_in (places hs)) tried ≡ places hs
   pub below : All (λ (h : Held). h.place < next) hs
   pub tried_below : All (λ p. p < next) tried
-  pub reasons : All (λ (h : Held). IsReason s.trees (keeping (trial_keeps all (places hs) h.place) s.frames) limit h.why) hs
+  pub reasons : All (λ (h : Held). IsReason workers s.trees (keeping (trial_keeps all (places hs) h.place) s.frames) limit h.why) hs
 
-pub none_tried : (s : Stack) (limit : ℤ) (all : List ℕ) (kept : List Bool) → kept ≡ replicate (length (assertions_of s.frames)) true → HasNoModel s.frames → SoFar s limit all [] 0 kept []
-none_tried s limit all kept e h =
+pub none_tried : (workers : ℕ) (s : Stack) (limit : ℤ) (all : List ℕ) (kept : List Bool) → kept ≡ replicate (length (assertions_of s.frames)) true → HasNoModel s.frames → SoFar workers s limit all [] 0 kept []
+none_tried workers s limit all kept e h =
     record {
       size = size;
       left = λ q lt. marked q (omega (arith, lt, size));
@@ -87,7 +87,7 @@ none_tried s limit all kept e h =
       listed = refl;
       below = All-nil (λ (x : Held). x.place < 0);
       tried_below = All-nil (λ p. p < 0);
-      reasons = All-nil (λ (x : Held). IsReason s.trees (keeping (trial_keeps all [] x.place) s.frames) limit x.why);
+      reasons = All-nil (λ (x : Held). IsReason workers s.trees (keeping (trial_keeps all [] x.place) s.frames) limit x.why);
     }
   where
     size : length kept ≡ length (assertions_of s.frames)
@@ -96,8 +96,8 @@ none_tried s limit all kept e h =
     marked : (q : ℕ) → q < length (assertions_of s.frames) → marks kept q ≡ true
     marked q lt = ap (λ ks. marks ks q) e ∙ get_or-replicate {A = Bool} (length (assertions_of s.frames)) q true false lt
 
-pub all_tried : (s : Stack) (limit : ℤ) (all tried : List ℕ) (next : ℕ) (kept : List Bool) (hs : List Held) → tried ≡ all → SoFar s limit all tried next kept hs → IsReduced s.trees s.frames limit all hs
-all_tried s limit all tried next kept hs e h =
+pub all_tried : (workers : ℕ) (s : Stack) (limit : ℤ) (all tried : List ℕ) (next : ℕ) (kept : List Bool) (hs : List Held) → tried ≡ all → SoFar workers s limit all tried next kept hs → IsReduced workers s.trees s.frames limit all hs
+all_tried workers s limit all tried next kept hs e h =
     record {
       listed = subst (λ ps. filter (is_in (places hs)) ps ≡ places hs) e h.listed;
       enough = subst HasNoModel
@@ -107,7 +107,7 @@ all_tried s limit all tried next kept hs e h =
 
 -- ---- one candidate more
 
-module _ (s : Stack) (limit : ℤ) (all tried rest : List ℕ) (next c : ℕ) (kept : List Bool) (hs : List Held) (h : SoFar s limit all tried next kept hs)
+module _ (workers : ℕ) (s : Stack) (limit : ℤ) (all tried rest : List ℕ) (next c : ℕ) (kept : List Bool) (hs : List Held) (h : SoFar workers s limit all tried next kept hs)
     (order : AreCandidates next (length (assertions_of s.frames)) (c ∷ rest)) (same : all ≡ tried ++ c ∷ rest) where
   later : next ≤ c
   later = order.0
@@ -164,7 +164,7 @@ module _ (s : Stack) (limit : ℤ) (all tried rest : List ℕ) (next c : ℕ) (k
   test_of q (inr (inr l)) = inr (eq_above q c l)
 
   -- it goes
-  goes : HasNoModel (keeping (marks (slice_set kept c false)) s.frames) → SoFar s limit all (tried ++ c ∷ []) (c + 1) (slice_set kept c false) hs
+  goes : HasNoModel (keeping (marks (slice_set kept c false)) s.frames) → SoFar workers s limit all (tried ++ c ∷ []) (c + 1) (slice_set kept c false) hs
   goes none =
       record {
         size = length-set kept c false ∙ h.size;
@@ -187,7 +187,7 @@ module _ (s : Stack) (limit : ℤ) (all tried rest : List ℕ) (next c : ℕ) (k
           get_or-set_other kept c q false false (λ x. absurd_eq q x e) ∙ h.left q lt ∙ ap (λ a. not a || is_in (places hs) q) (sym (in_others tried c q e))
 
   -- it stays
-  module _ (why : Reason) (shown : IsReason s.trees (keeping (marks (slice_set kept c false)) s.frames) limit why) where
+  module _ (why : Reason) (shown : IsReason workers s.trees (keeping (marks (slice_set kept c false)) s.frames) limit why) where
     places_more : places (hs ++ record { place = c; why = why } ∷ []) ≡ places hs ++ c ∷ []
     places_more = map-append at_place hs (record { place = c; why = why } ∷ [])
 
@@ -204,7 +204,7 @@ module _ (s : Stack) (limit : ℤ) (all tried rest : List ℕ) (next c : ℕ) (k
             ap (λ b. not (nat_eq q p) && (b || core_keeps all (places hs) q)) ahead ∙ sym (ap (λ b. not (nat_eq q p) && (b || core_keeps all (places hs ++ c ∷ []) q)) ahead)
         go q (inr e) = ap (λ b. not (nat_eq q p) && (nat_lt p q || (not (is_in all q) || b))) (sym (in_others (places hs) c q e))
 
-    stays : SoFar s limit all (tried ++ c ∷ []) (c + 1) kept (hs ++ record { place = c; why = why } ∷ [])
+    stays : SoFar workers s limit all (tried ++ c ∷ []) (c + 1) kept (hs ++ record { place = c; why = why } ∷ [])
     stays =
         record {
           size = h.size;
@@ -214,7 +214,7 @@ module _ (s : Stack) (limit : ℤ) (all tried rest : List ℕ) (next c : ℕ) (k
           below = All-append (λ (x : Held). x.place < c + 1) hs (record { place = c; why = why } ∷ []) held_below
               (All-cons (λ (x : Held). x.place < c + 1) (record { place = c; why = why }) [] (omega arith) (All-nil (λ (x : Held). x.place < c + 1)));
           tried_below = further;
-          reasons = subst (λ ls. All (λ (x : Held). IsReason s.trees (keeping (trial_keeps all ls x.place) s.frames) limit x.why) (hs ++ record { place = c; why = why } ∷ [])) (sym places_more) reasons;
+          reasons = subst (λ ls. All (λ (x : Held). IsReason workers s.trees (keeping (trial_keeps all ls x.place) s.frames) limit x.why) (hs ++ record { place = c; why = why } ∷ [])) (sym places_more) reasons;
         }
       where
         left : (q : ℕ) → q < length kept → (q ≡ c) ⊎ (nat_eq q c ≡ false) → marks kept q ≡ core_keeps (tried ++ c ∷ []) (places hs ++ c ∷ []) q
@@ -229,42 +229,42 @@ module _ (s : Stack) (limit : ℤ) (all tried rest : List ℕ) (next c : ℕ) (k
             (filter_same (is_in (places hs ++ c ∷ [])) (is_in (places hs)) tried (All-weaker (λ p. p < next) (λ p. is_in (places hs ++ c ∷ []) p ≡ is_in (places hs) p) (λ p lt. front p (omega (arith, lt, later))) tried h.tried_below) ∙ h.listed)
             (in_more (places hs) c)
 
-        kept_reasons : (xs : List Held) → All (λ (x : Held). x.place < next) xs → All (λ (x : Held). IsReason s.trees (keeping (trial_keeps all (places hs) x.place) s.frames) limit x.why) xs
-            → All (λ (x : Held). IsReason s.trees (keeping (trial_keeps all (places hs ++ c ∷ []) x.place) s.frames) limit x.why) xs
-        kept_reasons [] b r = All-nil (λ (x : Held). IsReason s.trees (keeping (trial_keeps all (places hs ++ c ∷ []) x.place) s.frames) limit x.why)
+        kept_reasons : (xs : List Held) → All (λ (x : Held). x.place < next) xs → All (λ (x : Held). IsReason workers s.trees (keeping (trial_keeps all (places hs) x.place) s.frames) limit x.why) xs
+            → All (λ (x : Held). IsReason workers s.trees (keeping (trial_keeps all (places hs ++ c ∷ []) x.place) s.frames) limit x.why) xs
+        kept_reasons [] b r = All-nil (λ (x : Held). IsReason workers s.trees (keeping (trial_keeps all (places hs ++ c ∷ []) x.place) s.frames) limit x.why)
         kept_reasons (x ∷ xs) b r =
-            All-cons (λ (y : Held). IsReason s.trees (keeping (trial_keeps all (places hs ++ c ∷ []) y.place) s.frames) limit y.why) x xs
-            (subst (λ (fs : List Frame). IsReason s.trees fs limit x.why) (earlier x.place (All-head (λ (y : Held). y.place < next) x xs b))
-            (All-head (λ (y : Held). IsReason s.trees (keeping (trial_keeps all (places hs) y.place) s.frames) limit y.why) x xs r))
-            (kept_reasons xs (All-tail (λ (y : Held). y.place < next) x xs b) (All-tail (λ (y : Held). IsReason s.trees (keeping (trial_keeps all (places hs) y.place) s.frames) limit y.why) x xs r))
+            All-cons (λ (y : Held). IsReason workers s.trees (keeping (trial_keeps all (places hs ++ c ∷ []) y.place) s.frames) limit y.why) x xs
+            (subst (λ (fs : List Frame). IsReason workers s.trees fs limit x.why) (earlier x.place (All-head (λ (y : Held). y.place < next) x xs b))
+            (All-head (λ (y : Held). IsReason workers s.trees (keeping (trial_keeps all (places hs) y.place) s.frames) limit y.why) x xs r))
+            (kept_reasons xs (All-tail (λ (y : Held). y.place < next) x xs b) (All-tail (λ (y : Held). IsReason workers s.trees (keeping (trial_keeps all (places hs) y.place) s.frames) limit y.why) x xs r))
 
-        new_reason : IsReason s.trees (keeping (trial_keeps all (places hs ++ c ∷ []) c) s.frames) limit why
+        new_reason : IsReason workers s.trees (keeping (trial_keeps all (places hs ++ c ∷ []) c) s.frames) limit why
         new_reason =
-            subst (λ (fs : List Frame). IsReason s.trees fs limit why)
+            subst (λ (fs : List Frame). IsReason workers s.trees fs limit why)
             (keeping_same (marks (slice_set kept c false)) (trial_keeps all (places hs ++ c ∷ []) c) s.frames (λ q lt. trial_same (places hs ++ c ∷ []) front q (omega (arith, lt, h.size)))) shown
 
-        reasons : All (λ (x : Held). IsReason s.trees (keeping (trial_keeps all (places hs ++ c ∷ []) x.place) s.frames) limit x.why) (hs ++ record { place = c; why = why } ∷ [])
+        reasons : All (λ (x : Held). IsReason workers s.trees (keeping (trial_keeps all (places hs ++ c ∷ []) x.place) s.frames) limit x.why) (hs ++ record { place = c; why = why } ∷ [])
         reasons =
-            All-append (λ (x : Held). IsReason s.trees (keeping (trial_keeps all (places hs ++ c ∷ []) x.place) s.frames) limit x.why) hs (record { place = c; why = why } ∷ [])
+            All-append (λ (x : Held). IsReason workers s.trees (keeping (trial_keeps all (places hs ++ c ∷ []) x.place) s.frames) limit x.why) hs (record { place = c; why = why } ∷ [])
             (kept_reasons hs h.below h.reasons)
-            (All-cons (λ (x : Held). IsReason s.trees (keeping (trial_keeps all (places hs ++ c ∷ []) x.place) s.frames) limit x.why) (record { place = c; why = why }) [] new_reason
-            (All-nil (λ (x : Held). IsReason s.trees (keeping (trial_keeps all (places hs ++ c ∷ []) x.place) s.frames) limit x.why)))
+            (All-cons (λ (x : Held). IsReason workers s.trees (keeping (trial_keeps all (places hs ++ c ∷ []) x.place) s.frames) limit x.why) (record { place = c; why = why }) [] new_reason
+            (All-nil (λ (x : Held). IsReason workers s.trees (keeping (trial_keeps all (places hs ++ c ∷ []) x.place) s.frames) limit x.why)))
 
-  pub one_more_tried : (why : Option Reason) (new : List Bool) → IsTried s limit c kept why new → SoFar s limit all (tried ++ c ∷ []) (c + 1) new (hs ++ held_by c why)
+  pub one_more_tried : (why : Option Reason) (new : List Bool) → IsTried workers s limit c kept why new → SoFar workers s limit all (tried ++ c ∷ []) (c + 1) new (hs ++ held_by c why)
   one_more_tried None new t =
-      subst (λ ks. SoFar s limit all (tried ++ c ∷ []) (c + 1) ks (hs ++ [])) (sym t.1) (subst (SoFar s limit all (tried ++ c ∷ []) (c + 1) (slice_set kept c false)) (sym (append-nil hs)) (goes t.0))
-  one_more_tried (Some why) new t = subst (λ ks. SoFar s limit all (tried ++ c ∷ []) (c + 1) ks (hs ++ record { place = c; why = why } ∷ [])) (sym t.1) (stays why t.0)
+      subst (λ ks. SoFar workers s limit all (tried ++ c ∷ []) (c + 1) ks (hs ++ [])) (sym t.1) (subst (SoFar workers s limit all (tried ++ c ∷ []) (c + 1) (slice_set kept c false)) (sym (append-nil hs)) (goes t.0))
+  one_more_tried (Some why) new t = subst (λ ks. SoFar workers s limit all (tried ++ c ∷ []) (c + 1) ks (hs ++ record { place = c; why = why } ∷ [])) (sym t.1) (stays why t.0)
 
 -- ---- from the first candidate on
 
 -- the first candidates were tried, and the others are to come
-abbrev pub IsStage : Stack → ℤ → List ℕ → ℕ → List Bool → List Held → Type 0
-IsStage s limit all i kept hs = (next : ℕ) × SoFar s limit all (take i all) next kept hs × AreCandidates next (length (assertions_of s.frames)) (drop i all)
+abbrev pub IsStage : ℕ → Stack → ℤ → List ℕ → ℕ → List Bool → List Held → Type 0
+IsStage workers s limit all i kept hs = (next : ℕ) × SoFar workers s limit all (take i all) next kept hs × AreCandidates next (length (assertions_of s.frames)) (drop i all)
 
-pub first_stage : (s : Stack) (limit : ℤ) (all : List ℕ) (kept : List Bool) → AreCandidates 0 (length (assertions_of s.frames)) all → kept ≡ replicate (length (assertions_of s.frames)) true → HasNoModel s.frames → IsStage s limit all 0 kept []
-first_stage s limit all kept order e none = (0, none_tried s limit all kept e none, order)
+pub first_stage : (workers : ℕ) (s : Stack) (limit : ℤ) (all : List ℕ) (kept : List Bool) → AreCandidates 0 (length (assertions_of s.frames)) all → kept ≡ replicate (length (assertions_of s.frames)) true → HasNoModel s.frames → IsStage workers s limit all 0 kept []
+first_stage workers s limit all kept order e none = (0, none_tried workers s limit all kept e none, order)
 
-module _ (s : Stack) (limit : ℤ) (all : List ℕ) (i c : ℕ) (kept : List Bool) (hs : List Held) (lt : i < length all) (at : c ≡ get_or all i 0) (stage : IsStage s limit all i kept hs) where
+module _ (workers : ℕ) (s : Stack) (limit : ℤ) (all : List ℕ) (i c : ℕ) (kept : List Bool) (hs : List Held) (lt : i < length all) (at : c ≡ get_or all i 0) (stage : IsStage workers s limit all i kept hs) where
   ahead : drop i all ≡ c ∷ drop (i + 1) all
   ahead = drop_more all i 0 lt ∙ ap (λ x. x ∷ drop (i + 1) all) (sym at)
 
@@ -275,18 +275,18 @@ module _ (s : Stack) (limit : ℤ) (all : List ℕ) (i c : ℕ) (kept : List Boo
   parts = sym (take-append-drop i all) ∙ ap (λ xs. take i all ++ xs) ahead
 
   pub next_marked : marks kept c ≡ true
-  next_marked = marked s limit all (take i all) (drop (i + 1) all) stage.0 c kept hs stage.1 order parts
+  next_marked = marked workers s limit all (take i all) (drop (i + 1) all) stage.0 c kept hs stage.1 order parts
 
-  pub next_stage : (why : Option Reason) (new : List Bool) → IsTried s limit c kept why new → IsStage s limit all (i + 1) new (hs ++ held_by c why)
+  pub next_stage : (why : Option Reason) (new : List Bool) → IsTried workers s limit c kept why new → IsStage workers s limit all (i + 1) new (hs ++ held_by c why)
   next_stage why new t =
       let grown : take (i + 1) all ≡ take i all ++ c ∷ [] = take_more all i 0 lt ∙ ap (λ x. take i all ++ x ∷ []) (sym at) in (
         c + 1,
-        subst (λ xs. SoFar s limit all xs (c + 1) new (hs ++ held_by c why)) (sym grown) (one_more_tried s limit all (take i all) (drop (i + 1) all) stage.0 c kept hs stage.1 order parts why new t),
+        subst (λ xs. SoFar workers s limit all xs (c + 1) new (hs ++ held_by c why)) (sym grown) (one_more_tried workers s limit all (take i all) (drop (i + 1) all) stage.0 c kept hs stage.1 order parts why new t),
         order.2,
       )
 
-pub last_stage : (s : Stack) (limit : ℤ) (all : List ℕ) (i : ℕ) (kept : List Bool) (hs : List Held) → length all ≤ i → IsStage s limit all i kept hs → IsReduced s.trees s.frames limit all hs
-last_stage s limit all i kept hs le stage = all_tried s limit all (take i all) stage.0 kept hs (take_all i all le) stage.1
+pub last_stage : (workers : ℕ) (s : Stack) (limit : ℤ) (all : List ℕ) (i : ℕ) (kept : List Bool) (hs : List Held) → length all ≤ i → IsStage workers s limit all i kept hs → IsReduced workers s.trees s.frames limit all hs
+last_stage workers s limit all i kept hs le stage = all_tried workers s limit all (take i all) stage.0 kept hs (take_all i all le) stage.1
 
 -- what is left out and put back
 pub put_back : (kept : List Bool) (p : ℕ) → marks kept p ≡ true → slice_set (slice_set kept p false) p true ≡ kept

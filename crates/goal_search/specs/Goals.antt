@@ -23,7 +23,7 @@ pub record IsGoal (s : Stack) (text : List Token) (place : ℕ) : Type 0 where
   pub level : depth s.frames < most_levels
 
 -- the least value in a model, that there is no model, or the best that was found
-abbrev pub IsLeast : List Tree → List Frame → ℤ → List Token → Tree → LeastValue → Type 0
-IsLeast ts frames limit text t (Minimum v i) = IsMinimum frames text t v i
-IsLeast ts frames limit text t Unsat = HasNoModel frames
-IsLeast ts frames limit text t (Unknown b) = IsBest ts frames limit text t b
+abbrev pub IsLeast : ℕ → List Tree → List Frame → ℤ → List Token → Tree → LeastValue → Type 0
+IsLeast workers ts frames limit text t (Minimum v i) = IsMinimum frames text t v i
+IsLeast workers ts frames limit text t Unsat = HasNoModel frames
+IsLeast workers ts frames limit text t (Unknown b) = IsBest workers ts frames limit text t b

@@ -42,13 +42,13 @@ IsAsAsked (AtMost k) n = n ≤ℤ k
 IsAsAsked BelowLeast n = n <ℤ least_number
 
 -- what comes of what is asked: a model that has it, that there is none, or what each worker shows
-abbrev pub IsStep : List Tree → List Frame → ℤ → List Token → Tree → Ask → Step → Type 0
-IsStep ts frames limit text t ask (Lower p) = IsPoint frames text t p × IsAsAsked ask (number_at p.above)
-IsStep ts frames limit text t ask Nothing = HasNoModel (asking frames (asked text t ask))
-IsStep ts frames limit text t ask (Unknown rs) = IsUnfound ts frames limit (asked text t ask) rs
+abbrev pub IsStep : ℕ → List Tree → List Frame → ℤ → List Token → Tree → Ask → Step → Type 0
+IsStep workers ts frames limit text t ask (Lower p) = IsPoint frames text t p × IsAsAsked ask (number_at p.above)
+IsStep workers ts frames limit text t ask Nothing = HasNoModel (asking frames (asked text t ask))
+IsStep workers ts frames limit text t ask (Unknown rs) = IsUnfound workers ts frames limit (asked text t ask) rs
 
 -- what comes of asking for a value that is at most so far above the least number
-abbrev pub IsLowered : List Tree → List Frame → ℤ → List Token → Tree → ℕ → Step → Type 0
-IsLowered ts frames limit text t bound (Lower p) = IsPoint frames text t p × (p.above ≤ bound)
-IsLowered ts frames limit text t bound Nothing = IsFloor frames t (number_at bound)
-IsLowered ts frames limit text t bound (Unknown rs) = IsUnfound ts frames limit (is_itself text t ∷ is_at_most text t (number_at bound) ∷ []) rs
+abbrev pub IsLowered : ℕ → List Tree → List Frame → ℤ → List Token → Tree → ℕ → Step → Type 0
+IsLowered workers ts frames limit text t bound (Lower p) = IsPoint frames text t p × (p.above ≤ bound)
+IsLowered workers ts frames limit text t bound Nothing = IsFloor frames t (number_at bound)
+IsLowered workers ts frames limit text t bound (Unknown rs) = IsUnfound workers ts frames limit (is_itself text t ∷ is_at_most text t (number_at bound) ∷ []) rs

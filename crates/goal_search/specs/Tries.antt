@@ -15,15 +15,15 @@ AreCandidates first end [] = Unit {0}
 AreCandidates first end (p ∷ ps) = (first ≤ p) × (p < end) × AreCandidates (p + 1) end ps
 
 -- these levels have no model, or this is why none is found that they haven't
-abbrev pub IsAnswered : List Tree → List Frame → ℤ → Option Reason → Type 0
-IsAnswered ts frames limit None = HasNoModel frames
-IsAnswered ts frames limit (Some why) = IsReason ts frames limit why
+abbrev pub IsAnswered : ℕ → List Tree → List Frame → ℤ → Option Reason → Type 0
+IsAnswered workers ts frames limit None = HasNoModel frames
+IsAnswered workers ts frames limit (Some why) = IsReason workers ts frames limit why
 
 abbrev pub held_by : ℕ → Option Reason → List Held
 held_by place None = []
 held_by place (Some why) = record { place = place; why = why } ∷ []
 
 -- without the assertion at this place what was kept has no model, and it goes; or this is the reason why not, and it stays
-abbrev pub IsTried : Stack → ℤ → ℕ → List Bool → Option Reason → List Bool → Type 0
-IsTried s limit place old None new = HasNoModel (keeping (marks (slice_set old place false)) s.frames) × (new ≡ slice_set old place false)
-IsTried s limit place old (Some why) new = IsReason s.trees (keeping (marks (slice_set old place false)) s.frames) limit why × (new ≡ old)
+abbrev pub IsTried : ℕ → Stack → ℤ → ℕ → List Bool → Option Reason → List Bool → Type 0
+IsTried workers s limit place old None new = HasNoModel (keeping (marks (slice_set old place false)) s.frames) × (new ≡ slice_set old place false)
+IsTried workers s limit place old (Some why) new = IsReason workers s.trees (keeping (marks (slice_set old place false)) s.frames) limit why × (new ≡ old)

@@ -1,5 +1,5 @@
 //! The way down to the least value of a term.
-ghost use Rattle.std.specs.Prelude.{◌≡◌, ◌≤◌, IfOk, Some};
+ghost use Rattle.std.specs.Prelude.{◌≡◌, ◌<◌, ◌≤◌, IfOk, Some};
 ghost use Rattle.smt_meaning.specs.Term.{tree_at};
 ghost use Rattle.goal_search.specs.Goals.{IsGoal, IsLeast};
 ghost use Rattle.goal_search.specs.Points.{IsFloor, IsPoint, most_above, number_at};
@@ -43,11 +43,14 @@ fn at_least_number<D: Decider>(
     decider: &mut D,
     point: Point,
 ) -> Result<LeastValue, AllocError>
+    requires may { D.may decider.old }
+    requires workers { 0 < settings.now.workers }
     requires goal { IsGoal stack.old text.now term }
     requires point { IsPoint stack.old.frames text.now (tree_at stack.old.trees term) point }
     requires least { point.above ≡ 0 }
+    ensures still { D.may decider.new }
     ensures stays { stack.new ≡ stack.old }
-    ensures least { IfOk result (IsLeast stack.old.trees stack.old.frames settings.now.units text.now (tree_at stack.old.trees term)) }
+    ensures least { IfOk result (IsLeast settings.now.workers stack.old.trees stack.old.frames settings.now.units text.now (tree_at stack.old.trees term)) }
 {
     let step = seek(alloc, stack, text, term, Ask::BelowLeast, settings, decider)?;
     match step {
@@ -72,11 +75,14 @@ fn narrow<D: Decider>(
     mut point: Point,
     mut floor: u128,
 ) -> Result<Found, AllocError>
+    requires may { D.may decider.old }
+    requires workers { 0 < settings.now.workers }
     requires goal { IsGoal stack.old text.now term }
     requires point { IsPoint stack.old.frames text.now (tree_at stack.old.trees term) point }
     requires floor { IsFloor stack.old.frames (tree_at stack.old.trees term) (number_at floor) }
+    ensures still { D.may decider.new }
     ensures stays { stack.new ≡ stack.old }
-    ensures least { IfOk result (λ f. IsLeast stack.old.trees stack.old.frames settings.now.units text.now (tree_at stack.old.trees term) f.value) }
+    ensures least { IfOk result (λ f. IsLeast settings.now.workers stack.old.trees stack.old.frames settings.now.units text.now (tree_at stack.old.trees term) f.value) }
     ensures checks { IfOk result (λ f. f.checks ≤ 128) }
 {
     for turn in 0..128u16 {
@@ -116,10 +122,13 @@ pub(crate) fn descend<D: Decider>(
     decider: &mut D,
     mut point: Point,
 ) -> Result<Found, AllocError>
+    requires may { D.may decider.old }
+    requires workers { 0 < settings.now.workers }
     requires goal { IsGoal stack.old text.now term }
     requires point { IsPoint stack.old.frames text.now (tree_at stack.old.trees term) point }
+    ensures still { D.may decider.new }
     ensures stays { stack.new ≡ stack.old }
-    ensures least { IfOk result (λ f. IsLeast stack.old.trees stack.old.frames settings.now.units text.now (tree_at stack.old.trees term) f.value) }
+    ensures least { IfOk result (λ f. IsLeast settings.now.workers stack.old.trees stack.old.frames settings.now.units text.now (tree_at stack.old.trees term) f.value) }
     ensures checks { IfOk result (λ f. f.checks ≤ 299) }
 {
     for turn in 0..128u16 {

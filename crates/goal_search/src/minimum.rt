@@ -1,5 +1,5 @@
 //! The least value of a term: bounds on it are asked for, one below the other, until nothing is below the last model's value.
-ghost use Rattle.std.specs.Prelude.{◌≡◌, ◌≤◌, IfOk};
+ghost use Rattle.std.specs.Prelude.{◌≡◌, ◌<◌, ◌≤◌, IfOk};
 ghost use Rattle.smt_meaning.specs.Term.{tree_at};
 ghost use Rattle.goal_search.specs.Goals.{IsGoal, IsLeast};
 
@@ -38,9 +38,12 @@ pub fn least<D: Decider>(
     settings: &Settings,
     decider: &mut D,
 ) -> Result<Found, AllocError>
+    requires may { D.may decider.old }
+    requires workers { 0 < settings.now.workers }
     requires goal { IsGoal stack.old text.now term }
+    ensures still { D.may decider.new }
     ensures stays { stack.new ≡ stack.old }
-    ensures least { IfOk result (λ f. IsLeast stack.old.trees stack.old.frames settings.now.units text.now (tree_at stack.old.trees term) f.value) }
+    ensures least { IfOk result (λ f. IsLeast settings.now.workers stack.old.trees stack.old.frames settings.now.units text.now (tree_at stack.old.trees term) f.value) }
     ensures checks { IfOk result (λ f. f.checks ≤ 300) }
 {
     let step = seek(alloc, stack, text, term, Ask::Itself, settings, decider)?;

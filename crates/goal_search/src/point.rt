@@ -83,10 +83,13 @@ pub(crate) fn seek<D: Decider>(
     settings: &Settings,
     decider: &mut D,
 ) -> Result<Step, AllocError>
+    requires may { D.may decider.old }
+    requires workers { 0 < settings.now.workers }
     requires goal { IsGoal stack.old text.now term }
     requires range { IsInRange asked }
+    ensures still { D.may decider.new }
     ensures stays { stack.new ≡ stack.old }
-    ensures step { IfOk result (IsStep stack.old.trees stack.old.frames settings.now.units text.now (tree_at stack.old.trees term) asked) }
+    ensures step { IfOk result (IsStep settings.now.workers stack.old.trees stack.old.frames settings.now.units text.now (tree_at stack.old.trees term) asked) }
 {
     let verdict = ask(alloc, stack, text, term, asked, settings, decider)?;
     match verdict {
@@ -109,10 +112,13 @@ pub(crate) fn lower<D: Decider>(
     settings: &Settings,
     decider: &mut D,
 ) -> Result<Step, AllocError>
+    requires may { D.may decider.old }
+    requires workers { 0 < settings.now.workers }
     requires goal { IsGoal stack.old text.now term }
     requires bound { bound ≤ most_above }
+    ensures still { D.may decider.new }
     ensures stays { stack.new ≡ stack.old }
-    ensures lowered { IfOk result (IsLowered stack.old.trees stack.old.frames settings.now.units text.now (tree_at stack.old.trees term) bound) }
+    ensures lowered { IfOk result (IsLowered settings.now.workers stack.old.trees stack.old.frames settings.now.units text.now (tree_at stack.old.trees term) bound) }
 {
     let bound = number_at(bound);
     seek(

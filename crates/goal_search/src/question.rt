@@ -1,5 +1,5 @@
 //! One check of what is asked of a term.
-ghost use Rattle.std.specs.Prelude.{◌≡◌, IfOk};
+ghost use Rattle.std.specs.Prelude.{◌≡◌, ◌<◌, IfOk};
 ghost use Rattle.smt_meaning.specs.Least.{asking, terms_asked};
 ghost use Rattle.smt_meaning.specs.Sorts.{with_all};
 ghost use Rattle.smt_meaning.specs.Term.{tree_at};
@@ -23,10 +23,13 @@ pub(crate) fn ask<D: Decider>(
     settings: &Settings,
     decider: &mut D,
 ) -> Result<Verdict, AllocError>
+    requires may { D.may decider.old }
+    requires workers { 0 < settings.now.workers }
     requires goal { IsGoal stack.old text.now term }
     requires range { IsInRange ask }
+    ensures still { D.may decider.new }
     ensures stays { stack.new ≡ stack.old }
-    ensures verdict { IfOk result (IsVerdict (with_all stack.old.trees (terms_asked (asked text.now (tree_at stack.old.trees term) ask)))
+    ensures verdict { IfOk result (IsVerdict settings.now.workers (with_all stack.old.trees (terms_asked (asked text.now (tree_at stack.old.trees term) ask)))
         (asking stack.old.frames (asked text.now (tree_at stack.old.trees term) ask)) settings.now.units) }
 {
     asks_are_assumed();

@@ -1,5 +1,5 @@
 //! Cores: one candidate after another is left out, and goes where the others have no model without it.
-ghost use Rattle.std.specs.Prelude.{◌≡◌, ◌++◌, true, length, replicate, List, ℤ, IfOk, OnOk};
+ghost use Rattle.std.specs.Prelude.{◌≡◌, ◌++◌, ◌<◌, true, length, replicate, ℕ, List, ℤ, IfOk, OnOk};
 ghost use Rattle.smt_meaning.specs.Term.{Tree};
 ghost use Rattle.smt_meaning.specs.Core.{IsReduced};
 ghost use Rattle.smt_meaning.specs.Keeping.{keeping};
@@ -21,8 +21,11 @@ fn check<D: Decider>(
     settings: &Settings,
     decider: &mut D,
 ) -> Result<Verdict, AllocError>
+    requires may { D.may decider.old }
+    requires workers { 0 < settings.now.workers }
+    ensures still { D.may decider.new }
     ensures stays { trial.new ≡ trial.old }
-    ensures verdict { IfOk result (IsVerdict trial.old.stack.trees (keeping (marks trial.old.kept) trial.old.stack.frames) settings.now.units) }
+    ensures verdict { IfOk result (IsVerdict settings.now.workers trial.old.stack.trees (keeping (marks trial.old.kept) trial.old.stack.frames) settings.now.units) }
 {
     decider.takes_all();
     decider.cut_to(-1);
@@ -42,7 +45,7 @@ fn check<D: Decider>(
 
 /// Why what was left out of a check has to stay, unless the others have no model.
 fn reason(verdict: Verdict) -> Option<Reason>
-    ensures { (ts : List Tree) (frames : List Frame) (limit : ℤ) → IsVerdict ts frames limit verdict → IsAnswered ts frames limit result }
+    ensures { (workers : ℕ) (ts : List Tree) (frames : List Frame) (limit : ℤ) → IsVerdict workers ts frames limit verdict → IsAnswered workers ts frames limit result }
 {
     match verdict {
         Verdict::Unsat => None,
@@ -59,9 +62,12 @@ fn try_without<D: Decider>(
     settings: &Settings,
     decider: &mut D,
 ) -> Result<Option<Reason>, AllocError>
-    requires { marks trial.old.kept place ≡ true }
+    requires may { D.may decider.old }
+    requires workers { 0 < settings.now.workers }
+    requires kept { marks trial.old.kept place ≡ true }
+    ensures still { D.may decider.new }
     ensures stack { trial.new.stack ≡ trial.old.stack }
-    ensures tried { IfOk result (λ why. IsTried trial.old.stack settings.now.units place trial.old.kept why trial.new.kept) }
+    ensures tried { IfOk result (λ why. IsTried settings.now.workers trial.old.stack settings.now.units place trial.old.kept why trial.new.kept) }
 {
     trial.leave_out(place);
     let verdict = check(alloc, trial, settings, decider)?;
@@ -92,11 +98,14 @@ fn try_all<D: Decider>(
     settings: &Settings,
     decider: &mut D,
 ) -> Result<Seq<Held>, AllocError>
+    requires may { D.may decider.old }
+    requires workers { 0 < settings.now.workers }
     requires candidates { AreCandidates 0 (length (assertions_of trial.old.stack.frames)) candidates.now }
     requires whole { trial.old.kept ≡ replicate (length (assertions_of trial.old.stack.frames)) true }
     requires none { HasNoModel trial.old.stack.frames }
+    ensures still { D.may decider.new }
     ensures stack { trial.new.stack ≡ trial.old.stack }
-    ensures core { IfOk result (IsReduced trial.old.stack.trees trial.old.stack.frames settings.now.units candidates.now) }
+    ensures core { IfOk result (IsReduced settings.now.workers trial.old.stack.trees trial.old.stack.frames settings.now.units candidates.now) }
 {
     let mut held = Seq::new(alloc);
     for place in candidates {
@@ -114,10 +123,13 @@ pub fn core<D: Decider>(
     settings: &Settings,
     decider: &mut D,
 ) -> Result<Seq<Held>, AllocError>
+    requires may { D.may decider.old }
+    requires workers { 0 < settings.now.workers }
     requires candidates { AreCandidates 0 (length (assertions_of stack.old.frames)) candidates.now }
     requires none { HasNoModel stack.old.frames }
+    ensures still { D.may decider.new }
     ensures stays { stack.new ≡ stack.old }
-    ensures core { IfOk result (IsReduced stack.old.trees stack.old.frames settings.now.units candidates.now) }
+    ensures core { IfOk result (IsReduced settings.now.workers stack.old.trees stack.old.frames settings.now.units candidates.now) }
 {
     let whole = mem::replace(stack, ScopeStack::new(alloc).into_stack());
     match Trial::of(alloc, whole) {

@@ -1,6 +1,6 @@
 -- What is known of the least value of x on the stack of (assert (<= 5 x)).
-use Rattle.std.proofs.Common.{◌≡◌, ℕ, ℤ, pos, Bool, true, false, List, [], ◌∷◌, Some, None, refl, subst, arith, ◌&&◌}
-use Rattle.std.specs.Prelude.{◌≤ℤ◌, ◌<ℤ◌, int_le, IsTrue}
+use Rattle.std.proofs.Common.{◌≡◌, ℕ, ℤ, pos, Bool, true, false, List, [], ◌∷◌, Some, None, refl, ap, subst, arith, ◌&&◌}
+use Rattle.std.specs.Prelude.{◌≤ℤ◌, ◌<ℤ◌, int_le, length, IsTrue}
 use Rattle.std.proofs.lemmas.Int.{ints}
 use Rattle.std.proofs.lemmas.List.Elements.{All-nil, All-cons, All-head}
 use Rattle.smt_meaning.specs.declared.values.Table.{Table}
@@ -11,10 +11,10 @@ use Rattle.smt_meaning.specs.Stack.{Frame, Satisfies}
 use Rattle.smt_meaning.specs.Model.{Fits}
 use Rattle.smt_meaning.specs.Goal.{is_itself, least_number}
 use Rattle.smt_meaning.specs.Least.{IsModelFor, value_in}
-use Rattle.smt_meaning.specs.Report.{AreReports, AreAllSpent, Shows, deciding_workers}
+use Rattle.smt_meaning.specs.Report.{AreReports, AreAllSpent, Shows}
 use Rattle.report_laws.specs.Five.{x, low, frames, constant_x}
 use Rattle.report_laws.specs.Cores.{nothing_spent}
-use Rattle.report_laws.specs.Minimum.{text, x_is, FiveIsLeast, NothingElseIsLeast, wanted_memory, SevenMayBeBest, NoBoundFromAbove, NoModelWithoutBound, NothingBelowFive, NothingSpentIsNoBest}
+use Rattle.report_laws.specs.Minimum.{text, x_is, FiveIsLeast, NothingElseIsLeast, wanted_memory, SevenMayBeBest, SevenMayBeBestOfTwo, OneOfTwoIsNoBest, NoBoundFromAbove, NoModelWithoutBound, NothingBelowFive, NothingSpentIsNoBest}
 
 -- ---- the assertion, and that x is itself
 
@@ -64,39 +64,62 @@ nothing_else v i m =
 
 -- ---- the best that is known
 
-memory_wanted : (ts : List Tree) (fs : List Frame) (limit : ℤ) → AreReports deciding_workers ts fs limit (wanted_memory ∷ [])
+abbrev Shown : List Tree → List Frame → ℤ → Report → Type 0
+Shown ts fs limit r = Shows ts fs limit r.worker r.branches r.cause
+
+memory_wanted : (ts : List Tree) (fs : List Frame) (limit : ℤ) → AreReports 1 ts fs limit (wanted_memory 0 ∷ [])
 memory_wanted ts fs limit = record {
   one_each = refl;
-  shown = All-cons (λ (r : Report). Shows ts fs limit r.worker r.branches r.cause) wanted_memory [] tt (All-nil (λ (r : Report). Shows ts fs limit r.worker r.branches r.cause));
+  shown = All-cons (Shown ts fs limit) (wanted_memory 0) [] tt (All-nil (Shown ts fs limit));
 }
+
+both_wanted : (ts : List Tree) (fs : List Frame) (limit : ℤ) → AreReports 2 ts fs limit (wanted_memory 0 ∷ wanted_memory 1 ∷ [])
+both_wanted ts fs limit = record {
+  one_each = refl;
+  shown = All-cons (Shown ts fs limit) (wanted_memory 0) (wanted_memory 1 ∷ []) tt (All-cons (Shown ts fs limit) (wanted_memory 1) [] tt (All-nil (Shown ts fs limit)));
+}
+
+six_below : pos 6 <ℤ pos 7
+six_below = grind (arith, ints)
 
 pub seven_may_be : SevenMayBeBest
 seven_may_be limit = (model_of (pos 7) refl refl refl refl, six_below, memory_wanted _ _ limit)
-  where
-    six_below : pos 6 <ℤ pos 7
-    six_below = grind (arith, ints)
+
+pub seven_may_be_of_two : SevenMayBeBestOfTwo
+seven_may_be_of_two limit = (model_of (pos 7) refl refl refl refl, six_below, both_wanted _ _ limit)
+
+too_few_reports : (ts : List Tree) (fs : List Frame) (limit : ℤ) (r : Report) → AreReports 2 ts fs limit (r ∷ []) → ⊥
+too_few_reports ts fs limit r h =
+    let counts : ◌≡◌ {A = ℕ} 1 2 = ap (length {A = ℕ}) h.one_each in
+    absurd (omega (arith, counts))
+
+pub one_of_two_is_none : OneOfTwoIsNoBest
+one_of_two_is_none limit None None r h = too_few_reports _ _ limit r h
+one_of_two_is_none limit None (Some b) r h = absurd h
+one_of_two_is_none limit (Some i) None r h = too_few_reports _ _ limit r h.2
+one_of_two_is_none limit (Some i) (Some b) r h = too_few_reports _ _ limit r h.2
 
 pub no_bound_from_above : NoBoundFromAbove
-no_bound_from_above limit i b rs h r = absurd (omega (arith, ints, h, r.1))
+no_bound_from_above workers limit i b rs h r = absurd (omega (arith, ints, h, r.1))
 
 pub no_model_without_bound : NoModelWithoutBound
-no_model_without_bound limit i rs r = absurd (apart (value_in i x) (model_above i r.0) r.1)
+no_model_without_bound workers limit i rs r = absurd (apart (value_in i x) (model_above i r.0) r.1)
   where
     apart : (v : ℤ) → pos 5 ≤ℤ v → v ≡ least_number → ⊥
     apart v h e = let below : pos 5 ≤ℤ least_number = subst (λ n. pos 5 ≤ℤ n) e h in absurd (grind (arith, ints))
 
 pub nothing_below : NothingBelowFive
-nothing_below limit i None rs r = model_above i r.0
-nothing_below limit i (Some b) rs r = model_above i r.0
+nothing_below workers limit i None rs r = model_above i r.0
+nothing_below workers limit i (Some b) rs r = model_above i r.0
 
-unspent : (ts : List Tree) (fs : List Frame) → AreReports deciding_workers ts fs (pos 5) (nothing_spent ∷ []) → ⊥
-unspent ts fs r =
-    let spent : AreAllSpent ts fs (pos 5) 0 [] [] = All-head (λ (t : Report). Shows ts fs (pos 5) t.worker t.branches t.cause) nothing_spent [] r.shown in
+unspent : (workers : ℕ) (ts : List Tree) (fs : List Frame) (others : List Report) → AreReports workers ts fs (pos 5) (nothing_spent ∷ others) → ⊥
+unspent workers ts fs others r =
+    let spent : AreAllSpent ts fs (pos 5) 0 [] [] = All-head (Shown ts fs (pos 5)) nothing_spent others r.shown in
     let none_spent : ◌≡◌ {A = ℕ} 0 5 = spent.count in
     absurd (omega (arith, none_spent))
 
 pub nothing_spent_is_none : NothingSpentIsNoBest
-nothing_spent_is_none None None r = unspent _ _ r
-nothing_spent_is_none None (Some b) r = absurd r
-nothing_spent_is_none (Some i) None r = unspent _ _ r.2
-nothing_spent_is_none (Some i) (Some b) r = unspent _ _ r.2
+nothing_spent_is_none workers None None others r = unspent workers _ _ others r
+nothing_spent_is_none workers None (Some b) others r = absurd r
+nothing_spent_is_none workers (Some i) None others r = unspent workers _ _ others r.2
+nothing_spent_is_none workers (Some i) (Some b) others r = unspent workers _ _ others r.2

@@ -39,9 +39,9 @@ three =
 abbrev pub all_three : List ℕ
 all_three = 0 ∷ 1 ∷ 2 ∷ []
 
--- of a check with five units these are held
-abbrev pub IsCoreOfThree : List Held → Type 0
-IsCoreOfThree hs = IsReduced [] three (pos 5) all_three hs
+-- of a check by so many workers with five units these are held
+abbrev pub IsCoreOfThree : ℕ → List Held → Type 0
+IsCoreOfThree workers hs = IsReduced workers [] three (pos 5) all_three hs
 
 -- both constants have these values
 abbrev pub values : Bool → Bool → List Table
@@ -55,24 +55,24 @@ abbrev pub core : List Held
 core = held_by_model 0 (values false true) ∷ held_by_model 2 (values true true) ∷ []
 
 abbrev pub ClashIsACore : Type 0
-ClashIsACore = IsCoreOfThree core
+ClashIsACore = (workers : ℕ) → IsCoreOfThree workers core
 
 -- ---- inventions
 
 -- p alone has a model
 abbrev pub OneIsNoCore : Type 0
-OneIsNoCore = (i : List Table) → IsCoreOfThree (held_by_model 0 i ∷ []) → ⊥
+OneIsNoCore = (workers : ℕ) (i : List Table) → IsCoreOfThree workers (held_by_model 0 i ∷ []) → ⊥
 
 abbrev pub all_held : Reason → Reason → Reason → List Held
 all_held x y z = record { place = 0; why = x } ∷ record { place = 1; why = y } ∷ record { place = 2; why = z } ∷ []
 
 -- without q there is no model
 abbrev pub NoModelHoldsQ : Type 0
-NoModelHoldsQ = (x z : Reason) (i : List Table) → IsCoreOfThree (all_held x (Model i) z) → ⊥
+NoModelHoldsQ = (workers : ℕ) (x z : Reason) (i : List Table) → IsCoreOfThree workers (all_held x (Model i) z) → ⊥
 
 abbrev pub nothing_spent : Report
 nothing_spent = record { worker = 0; cause = Units []; branches = [] }
 
--- a worker that spent none of its five units shows nothing
+-- a worker that spent none of its five units shows nothing, whatever others show
 abbrev pub NoInventionHoldsQ : Type 0
-NoInventionHoldsQ = (x z : Reason) → IsCoreOfThree (all_held x (Reports (nothing_spent ∷ [])) z) → ⊥
+NoInventionHoldsQ = (workers : ℕ) (x z : Reason) (others : List Report) → IsCoreOfThree workers (all_held x (Reports (nothing_spent ∷ others)) z) → ⊥

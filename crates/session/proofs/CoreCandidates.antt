@@ -58,7 +58,7 @@ of_places P [] a = All-nil (λ (h : Held). P h.place)
 of_places P (h ∷ hs) a = All-cons (λ (x : Held). P x.place) h hs (All-head P h.place (places hs) a) (of_places P hs (All-tail P h.place (places hs) a))
 
 -- what is listed lies where the candidates do
-pub held_within : (first end : ℕ) (ts : List Tree) (frames : List Frame) (limit : ℤ) (cs : List ℕ) (hs : List Held) → AreCandidates first end cs → IsReduced ts frames limit cs hs
+pub held_within : (first end : ℕ) (ts : List Tree) (frames : List Frame) (workers : ℕ) (limit : ℤ) (cs : List ℕ) (hs : List Held) → AreCandidates first end cs → IsReduced workers ts frames limit cs hs
     → All (λ (h : Held). (first ≤ h.place) × (h.place < end)) hs
-held_within first end ts frames limit cs hs c r =
+held_within first end ts frames workers limit cs hs c r =
     of_places (λ p. (first ≤ p) × (p < end)) hs (subst (All (λ p. (first ≤ p) × (p < end))) r.listed (filtered (λ p. (first ≤ p) × (p < end)) (is_in (places hs)) cs (candidates_within first end cs c)))

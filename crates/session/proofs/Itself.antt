@@ -17,7 +17,7 @@ use Rattle.smt_meaning.specs.declared.refusals.Refusal.{Refusal}
 use Rattle.smt_meaning.specs.Goal.{is_itself, is_at_most, is_below, least_number, pair_text, pair_tree}
 use Rattle.smt_meaning.specs.Interpretation.{Interprets}
 use Rattle.smt_meaning.specs.Least.{IsBestBy, IsUnfound, asking, terms_asked}
-use Rattle.smt_meaning.specs.Report.{AreReports, deciding_workers, reason_of}
+use Rattle.smt_meaning.specs.Report.{AreReports, reason_of}
 use Rattle.smt_meaning.specs.Sorts.{Scope, Outcome, done, refused, with_all}
 use Rattle.smt_meaning.specs.Stack.{Assertion as Asserted, Frame, HasNoModel, Satisfies, no_model, no_model_is, signature_of, assertions_of, terms_of, depth}
 use Rattle.smt_meaning.specs.StackCommand.{Stack, Change, assumes, judged, most_levels, scope_of}
@@ -132,19 +132,19 @@ noted_once text t old new xs us k =
     ap (λ ts. with_all ts us) (stay_noted text t old new xs k) ∙ ap (λ ts. with_all ts us) (ap (λ (s : Stack). s.trees) k.new_is)
 
 module _ (text : List Token) (t : Tree) (old new : Stack) (xs : List Assertion) (k : IsItselfAbove text t old xs new) where
-  unfound : (frames : List Frame) (limit : ℤ) (rest : List Asserted) (rs : List Report) → IsUnfound old.trees frames limit (is_itself text t ∷ rest) rs → IsUnfound new.trees frames limit (is_itself text t ∷ rest) rs
-  unfound frames limit rest rs h = subst (λ ts. AreReports deciding_workers ts (asking frames (is_itself text t ∷ rest)) limit rs) (sym (noted_once text t old new xs (terms_asked rest) k)) h
+  unfound : (frames : List Frame) (workers : ℕ) (limit : ℤ) (rest : List Asserted) (rs : List Report) → IsUnfound workers old.trees frames limit (is_itself text t ∷ rest) rs → IsUnfound workers new.trees frames limit (is_itself text t ∷ rest) rs
+  unfound frames workers limit rest rs h = subst (λ ts. AreReports workers ts (asking frames (is_itself text t ∷ rest)) limit rs) (sym (noted_once text t old new xs (terms_asked rest) k)) h
 
-  best : (frames : List Frame) (limit : ℤ) (m : Option (List Table)) (b : Option ℤ) (rs : List Report) → IsBestBy old.trees frames limit text t m b rs → IsBestBy new.trees frames limit text t m b rs
-  best frames limit None None rs h = unfound frames limit [] rs h
-  best frames limit None (Some b) rs h = absurd h
-  best frames limit (Some i) (Some b) rs h = (h.0, h.1, unfound frames limit (is_at_most text t b ∷ []) rs h.2)
-  best frames limit (Some i) None rs h = (h.0, h.1, unfound frames limit (is_below text t least_number ∷ []) rs h.2)
+  best : (frames : List Frame) (workers : ℕ) (limit : ℤ) (m : Option (List Table)) (b : Option ℤ) (rs : List Report) → IsBestBy workers old.trees frames limit text t m b rs → IsBestBy workers new.trees frames limit text t m b rs
+  best frames workers limit None None rs h = unfound frames workers limit [] rs h
+  best frames workers limit None (Some b) rs h = absurd h
+  best frames workers limit (Some i) (Some b) rs h = (h.0, h.1, unfound frames workers limit (is_at_most text t b ∷ []) rs h.2)
+  best frames workers limit (Some i) None rs h = (h.0, h.1, unfound frames workers limit (is_below text t least_number ∷ []) rs h.2)
 
-  pub least_noted : (frames : List Frame) (limit : ℤ) (v : LeastValue) → IsLeast old.trees frames limit text t v → IsLeast new.trees frames limit text t v
-  least_noted frames limit (Minimum n i) h = h
-  least_noted frames limit Unsat h = h
-  least_noted frames limit (Unknown b) h = best frames limit b.model b.bound b.reports h
+  pub least_noted : (frames : List Frame) (workers : ℕ) (limit : ℤ) (v : LeastValue) → IsLeast workers old.trees frames limit text t v → IsLeast workers new.trees frames limit text t v
+  least_noted frames workers limit (Minimum n i) h = h
+  least_noted frames workers limit Unsat h = h
+  least_noted frames workers limit (Unknown b) h = best frames workers limit b.model b.bound b.reports h
 
 -- ---- no model
 
@@ -162,15 +162,16 @@ none_above frames xs h =
 
 -- ---- the whole
 
-pub minimized_so : (limit : ℤ) (text : List Token) (t : Tree) (old new : Stack) (v : LeastValue) (a : Answer) (xs : List Assertion) → IsLeast old.trees old.frames limit text t v → IsAnswerByLeast v a
-    → WhereUnsat a.mode (v ≡ Unsat) → IsItselfAbove text t old xs new → IsMinimized limit text t old (record { answer = a; assumptions = xs }) new
-minimized_so limit text t old new v a xs least answers unsat k =
+pub minimized_so : (workers : ℕ) (limit : ℤ) (text : List Token) (t : Tree) (old new : Stack) (v : LeastValue) (a : Answer) (xs : List Assertion) → IsLeast workers old.trees old.frames limit text t v → IsAnswerByLeast v a
+    → WhereUnsat a.mode (v ≡ Unsat) → IsItselfAbove text t old xs new → IsMinimized workers limit text t old (record { answer = a; assumptions = xs }) new
+minimized_so workers limit text t old new v a xs least answers unsat k =
     let frames : new.frames ≡ old.frames = ap (λ (s : Stack). s.frames) k.new_is in
-    let found : IsLeast new.trees new.frames limit text t v = subst (λ fs. IsLeast new.trees fs limit text t v) (sym frames) (least_noted text t old new xs k old.frames limit v least) in
+    let found : IsLeast workers new.trees new.frames limit text t v = subst (λ fs. IsLeast workers new.trees fs limit text t v) (sym frames) (least_noted text t old new xs k old.frames workers limit v least) in
     record {
       above = k;
-      answer = λ s stack lim.
-          answers s text t (subst (λ n. IsLeast s.stack.trees s.stack.frames n text t v) (sym lim) (subst (λ (z : Stack). IsLeast z.trees z.frames limit text t v) (sym stack) found));
+      answer = λ s stack crew lim.
+          answers s text t (subst (λ w. IsLeast w s.stack.trees s.stack.frames s.options.reproducible_resource_limit text t v) (sym crew)
+          (subst (λ n. IsLeast workers s.stack.trees s.stack.frames n text t v) (sym lim) (subst (λ (z : Stack). IsLeast workers z.trees z.frames limit text t v) (sym stack) found)));
       refuted = where_unsat a.mode (v ≡ Unsat) (IsRefuted new (AssumedAbove xs))
-          (λ u. record { none = none_above new.frames (map (asserted_by new.trees) xs) (subst (IsLeast new.trees new.frames limit text t) u found); again = k.again }) unsat;
+          (λ u. record { none = none_above new.frames (map (asserted_by new.trees) xs) (subst (IsLeast workers new.trees new.frames limit text t) u found); again = k.again }) unsat;
     }

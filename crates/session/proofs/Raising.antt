@@ -44,10 +44,10 @@ all_stay ts (u ∷ us) h = ap (λ xs. with_all xs us) (part_stays ts u (All-head
 
 -- ---- cores
 
-pub reduced_under : (s : Stack) (xs : List Assertion) (limit : ℤ) (cs : List ℕ) (hs : List Held) → MayAssertAbove xs s
-    → IsReduced s.trees (s.frames ++ frame_of (map (asserted_by s.trees) xs) ∷ []) limit cs hs → IsReducedUnder s (Assumed xs) limit cs hs
-reduced_under s xs limit cs hs may h =
+pub reduced_under : (s : Stack) (xs : List Assertion) (workers : ℕ) (limit : ℤ) (cs : List ℕ) (hs : List Held) → MayAssertAbove xs s
+    → IsReduced workers s.trees (s.frames ++ frame_of (map (asserted_by s.trees) xs) ∷ []) limit cs hs → IsReducedUnder s (Assumed xs) workers limit cs hs
+reduced_under s xs workers limit cs hs may h =
     let fs : List Frame = frame_of (map (asserted_by s.trees) xs) ∷ [] in
     let among : All (AreAmong s.trees) (assertions_of fs) =
     of_right (AreAmong s.trees) (assertions_of s.frames) (assertions_of fs) (subst (All (AreAmong s.trees)) (flat_map-append terms_of s.frames fs) may.lawful.parts) in
-    subst (λ ts. IsReduced ts (s.frames ++ fs) limit cs hs) (sym (all_stay s.trees (assertions_of fs) among)) h
+    subst (λ ts. IsReduced workers ts (s.frames ++ fs) limit cs hs) (sym (all_stay s.trees (assertions_of fs) among)) h

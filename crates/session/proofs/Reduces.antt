@@ -112,35 +112,35 @@ mode_unsat (Sat i) h = cc
 mode_unsat (Unknown r) h = cc
 
 -- those that are held are among the assertions of the stack
-pub held_named : (s : Stack) (xs ys : List Assertion) (ps : List ℕ) (ts : List Tree) (frames : List Frame) (limit : ℤ) (hs : List Held) → AreAsserted s xs → AreAsserted s ys → ps ≡ named_places 0 (map text xs)
-    → IsReduced ts frames limit ps hs → All (λ (h : Held). h.place < length ys) hs
-held_named s xs ys ps ts frames limit hs h k e r =
-    subst (λ n. All (λ (x : Held). x.place < n) hs) (count_asserted s xs h ∙ sym (count_asserted s ys k)) (below (length xs) hs (held_within 0 (length xs) ts frames limit ps hs (named_inside xs ps e) r))
+pub held_named : (s : Stack) (xs ys : List Assertion) (ps : List ℕ) (ts : List Tree) (frames : List Frame) (workers : ℕ) (limit : ℤ) (hs : List Held) → AreAsserted s xs → AreAsserted s ys → ps ≡ named_places 0 (map text xs)
+    → IsReduced workers ts frames limit ps hs → All (λ (h : Held). h.place < length ys) hs
+held_named s xs ys ps ts frames workers limit hs h k e r =
+    subst (λ n. All (λ (x : Held). x.place < n) hs) (count_asserted s xs h ∙ sym (count_asserted s ys k)) (below (length xs) hs (held_within 0 (length xs) ts frames workers limit ps hs (named_inside xs ps e) r))
   where
     below : (n : ℕ) (us : List Held) → All (λ (x : Held). (0 ≤ x.place) × (x.place < n)) us → All (λ (x : Held). x.place < n) us
     below n [] a = All-nil (λ (x : Held). x.place < n)
     below n (u ∷ us) a = All-cons (λ (x : Held). x.place < n) u us (All-head (λ (x : Held). (0 ≤ x.place) × (x.place < n)) u us a).1 (below n us (All-tail (λ (x : Held). (0 ≤ x.place) × (x.place < n)) u us a))
 
 pub core_answered : (decided : Decided) (old mid : State) (xs ys : List Assertion) (ps : List ℕ) (hs : List Held) (names : List (List ℕ)) → is_unsat old.mode ≡ true → old.options.produce_unsat_cores ≡ true → mid ≡ old
-    → AreAsserted old.stack xs → AreAsserted mid.stack ys → ps ≡ named_places 0 (map text xs) → IsReduced (checked_trees old) (checked_frames old) old.options.reproducible_resource_limit ps hs
+    → AreAsserted old.stack xs → AreAsserted mid.stack ys → ps ≡ named_places 0 (map text xs) → IsReduced old.settings.workers (checked_trees old) (checked_frames old) old.options.reproducible_resource_limit ps hs
     → names ≡ map (λ (h : Held). name_or_none (name_of (sexp (text_at (map text ys) h.place)))) hs → MayCome decided old (get_unsat_core old) (UnsatCore names) (Core hs) mid
 core_answered decided old mid xs ys ps hs names unsat on e h k p r n =
     let ys_of : AreAsserted old.stack ys = subst (λ (t : State). AreAsserted t.stack ys) e k in
     let places_are : ps ≡ named_places 0 (stack_texts old) = p ∙ ap (named_places 0) h.texts in
     core_given decided old hs (UnsatCore names) (Core hs) mid unsat on e
-    (subst (λ qs. IsReduced (checked_trees old) (checked_frames old) old.options.reproducible_resource_limit qs hs) places_are r)
+    (subst (λ qs. IsReduced old.settings.workers (checked_trees old) (checked_frames old) old.options.reproducible_resource_limit qs hs) places_are r)
     (ap UnsatCore (n ∙ same_names old (map text ys) hs ys_of.texts
-    (subst (λ m. All (λ (x : Held). x.place < m) hs) (sym (length-map ys text)) (held_named old.stack xs ys ps (checked_trees old) (checked_frames old) old.options.reproducible_resource_limit hs h ys_of p r))))
+    (subst (λ m. All (λ (x : Held). x.place < m) hs) (sym (length-map ys text)) (held_named old.stack xs ys ps (checked_trees old) (checked_frames old) old.settings.workers old.options.reproducible_resource_limit hs h ys_of p r))))
     refl
 
 pub assumptions_answered : (decided : Decided) (old mid : State) (xs : List Assertion) (below : ℕ) (texts found : List (List Token)) (ps : List ℕ) (hs : List Held) → is_unsat old.mode ≡ true
     → old.options.produce_unsat_assumptions ≡ true → mid ≡ old → AreAsserted old.stack xs → below ≡ length xs → texts ≡ flat_map texts_of old.above → ps ≡ range_with_len below (length texts)
-    → IsReduced (checked_trees old) (checked_frames old) old.options.reproducible_resource_limit ps hs → found ≡ map (λ (h : Held). text_at texts (h.place - below)) hs
+    → IsReduced old.settings.workers (checked_trees old) (checked_frames old) old.options.reproducible_resource_limit ps hs → found ≡ map (λ (h : Held). text_at texts (h.place - below)) hs
     → MayCome decided old (get_unsat_assumptions old) (UnsatAssumptions found) (Core hs) mid
 assumptions_answered decided old mid xs below texts found ps hs unsat on e h b t p r n =
     let count : below ≡ length (stack_texts old) = b ∙ sym (length-map xs text) ∙ ap length h.texts in
     assumptions_given decided old hs (UnsatAssumptions found) (Core hs) mid unsat on e
-    (subst (λ qs. IsReduced (checked_trees old) (checked_frames old) old.options.reproducible_resource_limit qs hs)
+    (subst (λ qs. IsReduced old.settings.workers (checked_trees old) (checked_frames old) old.options.reproducible_resource_limit qs hs)
     (p ∙ ap (λ m. range_with_len m (length texts)) count ∙ ap (λ ws. range_with_len (length (stack_texts old)) (length ws)) t) r)
-    (ap UnsatAssumptions (n ∙ same_texts old below texts hs t count (held_within below (below + length texts) (checked_trees old) (checked_frames old) old.options.reproducible_resource_limit ps hs (assumed_inside below texts ps p) r)))
+    (ap UnsatAssumptions (n ∙ same_texts old below texts hs t count (held_within below (below + length texts) (checked_trees old) (checked_frames old) old.settings.workers old.options.reproducible_resource_limit ps hs (assumed_inside below texts ps p) r)))
     refl

@@ -15,6 +15,7 @@ use Rattle.smt_meaning.specs.declared.errors.Error.TheVariants.{Refused as Refus
 use Rattle.smt_meaning.specs.declared.answers.Mode.{Mode}
 use Rattle.smt_meaning.specs.declared.refusals.Refusal.{Refusal}
 use Rattle.smt_meaning.specs.declared.options.Options.{Options}
+use Rattle.smt_meaning.specs.declared.settings.Settings.{Settings}
 use Rattle.smt_meaning.specs.declared.tokens.Token.{Token}
 use Rattle.smt_meaning.specs.Stack.{Frame}
 use Rattle.smt_meaning.specs.StackCommand.{Stack, assumes, judged, changed, stack_command}
@@ -67,6 +68,10 @@ options_stay : (l : Option (List ℕ)) (s : State) → (in_logic l s).options �
 options_stay None s = refl
 options_stay (Some n) s = refl
 
+settings_stay : (l : Option (List ℕ)) (s : State) → (in_logic l s).settings ≡ s.settings
+settings_stay None s = refl
+settings_stay (Some n) s = refl
+
 entered_by : (l : Option (List ℕ)) (s : State) (stack : Stack) (early m : Mode) (before above : List Frame)
     → record (in_logic l (record s { mode = early; stack = stack; above = before })) { mode = m; above = above } ≡ record (in_logic l s) { mode = m; stack = stack; above = above }
 entered_by None s stack early m before above = refl
@@ -78,12 +83,12 @@ pub entered : (s : State) (stack : Stack) (early m : Mode) (before above : List 
 entered s stack early m before above = entered_by s.logic s stack early m before above
 
 -- a check of this stack, with these levels above it, is answered so
-pub decided_so : (decided : Decided) (old : State) (stack : Stack) (above : List Frame) (limit : ℤ) (a : Answer) (new : State)
-    → decided (stack.frames ++ above) ≡ true → IsAnswerTo stack above limit a → old.options.reproducible_resource_limit ≡ limit
+pub decided_so : (decided : Decided) (old : State) (stack : Stack) (above : List Frame) (workers : ℕ) (limit : ℤ) (a : Answer) (new : State)
+    → decided (stack.frames ++ above) ≡ true → IsAnswerTo stack above workers limit a → old.settings.workers ≡ workers → old.options.reproducible_resource_limit ≡ limit
     → new ≡ record (with_logic old) { mode = a.mode; stack = stack; above = above } → MayCome decided old (checks old stack above) a.reply a.kept new
-decided_so decided old stack above limit a new taken answers lim e =
+decided_so decided old stack above workers limit a new taken answers crew lim e =
     rw taken (subst (MayDecide (record (with_logic old) { stack = stack; above = above }) a.reply a.kept) (sym e)
-    (answers (record (with_logic old) { stack = stack; above = above }) refl refl (ap (λ (o : Options). o.reproducible_resource_limit) (options_stay old.logic old) ∙ lim)))
+    (answers (record (with_logic old) { stack = stack; above = above }) refl refl (ap (λ (x : Settings). x.workers) (settings_stay old.logic old) ∙ crew) (ap (λ (o : Options). o.reproducible_resource_limit) (options_stay old.logic old) ∙ lim)))
 
 -- or isn't taken
 pub not_taken_so : (decided : Decided) (old : State) (stack : Stack) (above : List Frame) (new : State) → decided (stack.frames ++ above) ≡ false → new ≡ old
@@ -91,27 +96,28 @@ pub not_taken_so : (decided : Decided) (old : State) (stack : Stack) (above : Li
 not_taken_so decided old stack above new left e = rw left (record { reply_is = refl; kept_is = refl; new_is = e })
 
 -- what is found of the stack alone answers its check
-pub alone : (stack : Stack) (limit : ℤ) (v : Verdict) (a : Answer) → IsVerdict stack.trees stack.frames limit v → IsAnswerBy v a → IsAnswerTo stack [] limit a
-alone stack limit v a h answers = λ s same none lim.
+pub alone : (stack : Stack) (workers : ℕ) (limit : ℤ) (v : Verdict) (a : Answer) → IsVerdict workers stack.trees stack.frames limit v → IsAnswerBy v a → IsAnswerTo stack [] workers limit a
+alone stack workers limit v a h answers = λ s same none crew lim.
     let frames : checked_frames s ≡ stack.frames = ap (λ (t : Stack). t.frames ++ s.above) same ∙ ap (λ fs. stack.frames ++ fs) none ∙ append-nil stack.frames in
-    answers s (subst (λ l. IsVerdict s.stack.trees (checked_frames s) l v) (sym lim)
-    (subst (λ fs. IsVerdict s.stack.trees fs limit v) (sym frames) (subst (λ us. IsVerdict us stack.frames limit v) (sym (ap (λ (t : Stack). t.trees) same)) h)))
+    answers s (subst (λ w. IsVerdict w s.stack.trees (checked_frames s) s.options.reproducible_resource_limit v) (sym crew)
+    (subst (λ l. IsVerdict workers s.stack.trees (checked_frames s) l v) (sym lim)
+    (subst (λ fs. IsVerdict workers s.stack.trees fs limit v) (sym frames) (subst (λ us. IsVerdict workers us stack.frames limit v) (sym (ap (λ (t : Stack). t.trees) same)) h))))
 
 -- ---- checks under assumptions
 
 comes_of : (decided : Decided) (old : State) (e f : Effect) (reply : Reply) (kept : Kept) (new : State) → e ≡ f → MayCome decided old f reply kept new → MayCome decided old e reply kept new
 comes_of decided old e f reply kept new same h = subst (λ x. MayCome decided old x reply kept new) (sym same) h
 
-pub under_so : (decided : Decided) (old : State) (ts : List (List Token)) (limit : ℤ) (a : Assumed) (stack : Stack) (new : State) → IsCheckedUnder decided limit ts old.stack a stack
-    → old.options.reproducible_resource_limit ≡ limit
+pub under_so : (decided : Decided) (old : State) (ts : List (List Token)) (workers : ℕ) (limit : ℤ) (a : Assumed) (stack : Stack) (new : State) → IsCheckedUnder decided workers limit ts old.stack a stack
+    → old.settings.workers ≡ workers → old.options.reproducible_resource_limit ≡ limit
     → new ≡ record (with_logic old) { mode = a.answer.mode; stack = stack; above = above_by stack.trees (AssumedAbove a.assumptions) }
     → MayCome decided old (check_assuming old (stack_command (CheckSatAssuming ts))) a.answer.reply a.answer.kept new
-under_so decided old ts limit a stack new k lim e =
+under_so decided old ts workers limit a stack new k crew lim e =
     let above : above_by stack.trees (AssumedAbove a.assumptions) ≡ frame_of k.assumed ∷ [] = ap (λ xs. frame_of xs ∷ []) k.assumptions in
     let frames : stack.frames ≡ old.stack.frames = ap (λ (s : Stack). s.frames) k.new_is in
     comes_of decided old (assuming old (judged (assumption ts) old.stack)) (checks old stack (frame_of k.assumed ∷ [])) a.answer.reply a.answer.kept new
     (ap (assuming old) k.is_judged ∙ ap (λ (s : Stack). checks old s (frame_of k.assumed ∷ [])) (sym k.new_is))
-    (decided_so decided old stack (frame_of k.assumed ∷ []) limit a.answer new (ap (λ fs. decided (fs ++ frame_of k.assumed ∷ [])) frames ∙ k.taken) k.answer lim
+    (decided_so decided old stack (frame_of k.assumed ∷ []) workers limit a.answer new (ap (λ fs. decided (fs ++ frame_of k.assumed ∷ [])) frames ∙ k.taken) k.answer crew lim
     (e ∙ ap (λ fs. record (with_logic old) { mode = a.answer.mode; stack = stack; above = fs }) above))
 
 pub not_under_so : (decided : Decided) (old : State) (ts : List (List Token)) (stack : Stack) (new : State) → IsNotTakenUnder decided ts old.stack stack → new ≡ old
@@ -129,26 +135,26 @@ refused_under_so decided old ts why stack reply new k e r =
 
 -- ---- what the functions come to
 
-pub check_so : (decided : Decided) (old mid : State) (stack found : Stack) (limit : ℤ) (v : Verdict) (a : Answer) (o : Option Verdict) (new : State)
-    → stack ≡ old.stack → found ≡ stack → IsFound decided stack.trees stack.frames limit o → o ≡ Some v → IsAnswerBy v a → limit ≡ old.options.reproducible_resource_limit
+pub check_so : (decided : Decided) (old mid : State) (stack found : Stack) (workers : ℕ) (limit : ℤ) (v : Verdict) (a : Answer) (o : Option Verdict) (new : State)
+    → stack ≡ old.stack → found ≡ stack → IsFound workers decided stack.trees stack.frames limit o → o ≡ Some v → IsAnswerBy v a → workers ≡ old.settings.workers → limit ≡ old.options.reproducible_resource_limit
     → mid ≡ record old { mode = In.Assert; stack = found; above = [] } → new ≡ record (with_logic mid) { mode = a.mode; above = [] }
     → MayCome decided old (checks old old.stack []) a.reply a.kept new
-check_so decided old mid stack found limit v a o new same stays is some answers lim m e =
-    let k : IsFound decided stack.trees stack.frames limit (Some v) = subst (IsFound decided stack.trees stack.frames limit) some is in
+check_so decided old mid stack found workers limit v a o new same stays is some answers crew lim m e =
+    let k : IsFound workers decided stack.trees stack.frames limit (Some v) = subst (IsFound workers decided stack.trees stack.frames limit) some is in
     let taken : decided (old.stack.frames ++ []) ≡ true = ap decided (append-nil old.stack.frames ∙ ap (λ (s : Stack). s.frames) (sym same)) ∙ k.0 in
-    decided_so decided old old.stack [] limit a new taken (subst (λ (s : Stack). IsAnswerTo s [] limit a) same (alone stack limit v a k.1 answers)) (sym lim)
+    decided_so decided old old.stack [] workers limit a new taken (subst (λ (s : Stack). IsAnswerTo s [] workers limit a) same (alone stack workers limit v a k.1 answers)) (sym crew) (sym lim)
     (e ∙ ap (λ (s : State). record (with_logic s) { mode = a.mode; above = [] }) m ∙ entered old found In.Assert a.mode [] []
     ∙ ap (λ (s : Stack). record (with_logic old) { mode = a.mode; stack = s; above = [] }) (stays ∙ same))
 
-pub assumed_ok : (decided : Decided) (old mid : State) (stack found : Stack) (ts : List (List Token)) (limit : ℤ) (o : Option Assumed) (a : Assumed) (reply : Reply) (kept : Kept) (new : State)
-    → stack ≡ old.stack → ChecksUnder decided limit ts stack (Ok o) found → o ≡ Some a → limit ≡ old.options.reproducible_resource_limit
+pub assumed_ok : (decided : Decided) (old mid : State) (stack found : Stack) (ts : List (List Token)) (workers : ℕ) (limit : ℤ) (o : Option Assumed) (a : Assumed) (reply : Reply) (kept : Kept) (new : State)
+    → stack ≡ old.stack → ChecksUnder decided workers limit ts stack (Ok o) found → o ≡ Some a → workers ≡ old.settings.workers → limit ≡ old.options.reproducible_resource_limit
     → mid ≡ record old { mode = In.Assert; stack = found; above = [] } → new ≡ record (with_logic mid) { mode = a.answer.mode; above = above_by found.trees (AssumedAbove a.assumptions) }
     → reply ≡ a.answer.reply → kept ≡ a.answer.kept → MayCome decided old (check_assuming old (stack_command (CheckSatAssuming ts))) reply kept new
-assumed_ok decided old mid stack found ts limit o a reply kept new same is some lim m e r k =
-    let under : IsCheckedUnder decided limit ts stack a found = subst (λ p. ChecksUnder decided limit ts stack (Ok p) found) some is in
+assumed_ok decided old mid stack found ts workers limit o a reply kept new same is some crew lim m e r k =
+    let under : IsCheckedUnder decided workers limit ts stack a found = subst (λ p. ChecksUnder decided workers limit ts stack (Ok p) found) some is in
     subst (λ x. MayCome decided old (check_assuming old (stack_command (CheckSatAssuming ts))) x kept new) (sym r)
     (subst (λ x. MayCome decided old (check_assuming old (stack_command (CheckSatAssuming ts))) a.answer.reply x new) (sym k)
-    (under_so decided old ts limit a found new (subst (λ (s : Stack). IsCheckedUnder decided limit ts s a found) same under) (sym lim)
+    (under_so decided old ts workers limit a found new (subst (λ (s : Stack). IsCheckedUnder decided workers limit ts s a found) same under) (sym crew) (sym lim)
     (e ∙ ap (λ (s : State). record (with_logic s) { mode = a.answer.mode; above = above_by found.trees (AssumedAbove a.assumptions) }) m ∙ entered old found In.Assert a.answer.mode [] (above_by found.trees (AssumedAbove a.assumptions)))))
 
 pub assumed_reply : (decided : Decided) (old : State) (c : Command) (ts us : List (List Token)) (reply : Reply) (kept : Kept) (new : State) → c ≡ CheckSatAssuming ts → us ≡ ts
@@ -170,11 +176,11 @@ asked_so old i ts us stack found xs reply new mode on texts same h stand within 
 
 -- ---- least values
 
-minimum_so : (decided : Decided) (old : State) (text : List Token) (limit : ℤ) (a : Assumed) (stack : Stack) (new : State) → IsMinimizedUnder limit text old.stack a stack
-    → old.options.reproducible_resource_limit ≡ limit
+minimum_so : (decided : Decided) (old : State) (text : List Token) (workers : ℕ) (limit : ℤ) (a : Assumed) (stack : Stack) (new : State) → IsMinimizedUnder workers limit text old.stack a stack
+    → old.settings.workers ≡ workers → old.options.reproducible_resource_limit ≡ limit
     → new ≡ record (with_logic old) { mode = a.answer.mode; stack = stack; above = above_by stack.trees (AssumedAbove a.assumptions) }
     → MayCome decided old (minimize old text (stack_command (Minimize text))) a.answer.reply a.answer.kept new
-minimum_so decided old text limit a stack new k lim e =
+minimum_so decided old text workers limit a stack new k crew lim e =
     let t : Tree = tree_at k.mid.trees k.place in
     let level : List Frame = frame_of (is_itself text t ∷ []) ∷ [] in
     let there : State = record (with_logic old) { stack = stack; above = level } in
@@ -183,16 +189,16 @@ minimum_so decided old text limit a stack new k lim e =
     comes_of decided old (minimize old text (stack_command (Minimize text))) (minimizes text t there) a.answer.reply a.answer.kept new
     (ap (minimizing old text) (k.goal.is_judged ∙ k.minimized.above.is_judged) ∙ ap (λ (s : Stack). minimizes text t (record (with_logic old) { stack = s; above = level })) stack_is)
     (subst (MayMinimize there text t a.answer.reply a.answer.kept) (sym (e ∙ ap (λ xs. record (with_logic old) { mode = a.answer.mode; stack = stack; above = frame_of xs ∷ [] }) k.minimized.above.assumptions))
-    (k.minimized.answer there refl (ap (λ (o : Options). o.reproducible_resource_limit) (options_stay old.logic old) ∙ lim)))
+    (k.minimized.answer there refl (ap (λ (x : Settings). x.workers) (settings_stay old.logic old) ∙ crew) (ap (λ (o : Options). o.reproducible_resource_limit) (options_stay old.logic old) ∙ lim)))
 
-pub minimum_ok : (decided : Decided) (old mid : State) (stack found : Stack) (text : List Token) (limit : ℤ) (a : Assumed) (reply : Reply) (kept : Kept) (new : State)
-    → stack ≡ old.stack → IsMinimizedUnder limit text stack a found → limit ≡ old.options.reproducible_resource_limit
+pub minimum_ok : (decided : Decided) (old mid : State) (stack found : Stack) (text : List Token) (workers : ℕ) (limit : ℤ) (a : Assumed) (reply : Reply) (kept : Kept) (new : State)
+    → stack ≡ old.stack → IsMinimizedUnder workers limit text stack a found → workers ≡ old.settings.workers → limit ≡ old.options.reproducible_resource_limit
     → mid ≡ record old { mode = In.Assert; stack = found; above = [] } → new ≡ record (with_logic mid) { mode = a.answer.mode; above = above_by found.trees (AssumedAbove a.assumptions) }
     → reply ≡ a.answer.reply → kept ≡ a.answer.kept → MayCome decided old (minimize old text (stack_command (Minimize text))) reply kept new
-minimum_ok decided old mid stack found text limit a reply kept new same is lim m e r k =
+minimum_ok decided old mid stack found text workers limit a reply kept new same is crew lim m e r k =
     subst (λ x. MayCome decided old (minimize old text (stack_command (Minimize text))) x kept new) (sym r)
     (subst (λ x. MayCome decided old (minimize old text (stack_command (Minimize text))) a.answer.reply x new) (sym k)
-    (minimum_so decided old text limit a found new (subst (λ (s : Stack). IsMinimizedUnder limit text s a found) same is) (sym lim)
+    (minimum_so decided old text workers limit a found new (subst (λ (s : Stack). IsMinimizedUnder workers limit text s a found) same is) (sym crew) (sym lim)
     (e ∙ ap (λ (s : State). record (with_logic s) { mode = a.answer.mode; above = above_by found.trees (AssumedAbove a.assumptions) }) m ∙ entered old found In.Assert a.answer.mode [] (above_by found.trees (AssumedAbove a.assumptions)))))
 
 pub minimum_refused : (decided : Decided) (old : State) (text : List Token) (why : Refusal) (stack : Stack) (reply : Reply) (new : State) → IsRefused (minimization text) why old.stack stack → new ≡ old

@@ -28,27 +28,28 @@ use Rattle.session.proofs.Refutes.{where_unsat}
 
 -- ---- what is found of the stack under assumptions
 
-verdict_at : (v : Verdict) (t : State) (ts : List Tree) (frames : List Frame) (limit : ℤ) → t.stack.trees ≡ ts → checked_frames t ≡ frames → t.options.reproducible_resource_limit ≡ limit
-    → IsVerdict ts frames limit v → IsVerdict t.stack.trees (checked_frames t) t.options.reproducible_resource_limit v
-verdict_at v t ts frames limit a b c h =
-    subst (λ l. IsVerdict t.stack.trees (checked_frames t) l v) (sym c)
-    (subst (λ fs. IsVerdict t.stack.trees fs limit v) (sym b) (subst (λ us. IsVerdict us frames limit v) (sym a) h))
+verdict_at : (v : Verdict) (t : State) (ts : List Tree) (frames : List Frame) (workers : ℕ) (limit : ℤ) → t.stack.trees ≡ ts → checked_frames t ≡ frames → t.settings.workers ≡ workers → t.options.reproducible_resource_limit ≡ limit
+    → IsVerdict workers ts frames limit v → IsVerdict t.settings.workers t.stack.trees (checked_frames t) t.options.reproducible_resource_limit v
+verdict_at v t ts frames workers limit a b w c h =
+    subst (λ n. IsVerdict n t.stack.trees (checked_frames t) t.options.reproducible_resource_limit v) (sym w)
+    (subst (λ l. IsVerdict workers t.stack.trees (checked_frames t) l v) (sym c)
+    (subst (λ fs. IsVerdict workers t.stack.trees fs limit v) (sym b) (subst (λ us. IsVerdict workers us frames limit v) (sym a) h)))
 
 pub many_asserted : (s : Stack) (xs : List Assertion) → AreAsserted s xs → length xs ≡ length (assertions_of s.frames)
 many_asserted s xs h = sym (length-map xs (λ (a : Assertion). tree_at s.trees a.term)) ∙ ap length h.terms
 
-pub answered_under : (decided : List Frame → Bool) (limit : ℤ) (below : ℕ) (s : Stack) (v : Verdict) (a : Answer) (xs ys : List Assertion)
-    → decided s.frames ≡ true → IsVerdict s.trees s.frames limit v → IsAnswerBy v a → AreAsserted s xs → ys ≡ drop below xs
+pub answered_under : (decided : List Frame → Bool) (workers : ℕ) (limit : ℤ) (below : ℕ) (s : Stack) (v : Verdict) (a : Answer) (xs ys : List Assertion)
+    → decided s.frames ≡ true → IsVerdict workers s.trees s.frames limit v → IsAnswerBy v a → AreAsserted s xs → ys ≡ drop below xs
     → depth s.frames ≤ most_levels → IsLawful s → WhereUnsat a.mode (v ≡ Unsat)
-    → IsAnsweredUnder decided limit below s (record { answer = a; assumptions = ys })
-answered_under decided limit below s v a xs ys taken verdict answers asserted e deep lawful unsat = record {
+    → IsAnsweredUnder decided workers limit below s (record { answer = a; assumptions = ys })
+answered_under decided workers limit below s v a xs ys taken verdict answers asserted e deep lawful unsat = record {
   taken = taken;
-  answer = λ t trees frames lim. answers t (verdict_at v t s.trees s.frames limit trees frames lim verdict);
+  answer = λ t trees frames crew lim. answers t (verdict_at v t s.trees s.frames workers limit trees frames crew lim verdict);
   texts = ap (map (λ (x : Assertion). x.text)) e ∙ sym (drop-map (λ (x : Assertion). x.text) below xs) ∙ ap (drop below) asserted.texts;
   terms = ap (map (λ (x : Assertion). tree_at s.trees x.term)) e ∙ sym (drop-map (λ (x : Assertion). tree_at s.trees x.term) below xs) ∙ ap (drop below) asserted.terms;
   within = subst (All (IsWithin s.trees)) (sym e) (All-drop (IsWithin s.trees) below xs asserted.within);
   depth_fits = deep;
-  refuted = where_unsat a.mode (v ≡ Unsat) (HasNoModel s.frames × IsLawful s) (λ u. (subst (IsVerdict s.trees s.frames limit) u verdict, lawful)) unsat;
+  refuted = where_unsat a.mode (v ≡ Unsat) (HasNoModel s.frames × IsLawful s) (λ u. (subst (IsVerdict workers s.trees s.frames limit) u verdict, lawful)) unsat;
 }
 
 -- ---- the assumptions
@@ -106,10 +107,10 @@ refuted_again assumed old new mid xs e m same within deep some k = record {
 
 -- ---- the whole
 
-pub checked_under : (decided : List Frame → Bool) (limit : ℤ) (texts : List (List Token)) (assumed : List Asserted) (old mid new : Stack) (xs : List Assertion) (a : Assumed)
-    → AreAsserted old xs → IsAssumed texts assumed old mid → IsAnsweredUnder decided limit (length xs) mid a → new ≡ record old { trees = mid.trees }
-    → IsCheckedUnder decided limit texts old a new
-checked_under decided limit texts assumed old mid new xs a h k u e =
+pub checked_under : (decided : List Frame → Bool) (workers : ℕ) (limit : ℤ) (texts : List (List Token)) (assumed : List Asserted) (old mid new : Stack) (xs : List Assertion) (a : Assumed)
+    → AreAsserted old xs → IsAssumed texts assumed old mid → IsAnsweredUnder decided workers limit (length xs) mid a → new ≡ record old { trees = mid.trees }
+    → IsCheckedUnder decided workers limit texts old a new
+checked_under decided workers limit texts assumed old mid new xs a h k u e =
     let frames : mid.frames ≡ old.frames ++ frame_of assumed ∷ [] = ap (λ (s : Stack). s.frames) k.new_is in
     let trees : mid.trees ≡ k.scope.trees = ap (λ (s : Stack). s.trees) k.new_is in
     let new_trees : new.trees ≡ mid.trees = ap (λ (s : Stack). s.trees) e in
@@ -131,9 +132,9 @@ checked_under decided limit texts assumed old mid new xs a h k u e =
       taken = ap decided (sym frames) ∙ u.taken;
       refuted = where_unsat a.answer.mode (HasNoModel mid.frames × IsLawful mid) (IsRefuted new (AssumedAbove a.assumptions))
           (refuted_again assumed old new mid a.assumptions e mid_is same within u.depth_fits (subst (λ fs. 0 < length fs) (sym new_frames) k.some)) u.refuted;
-      answer = λ s stack above' lim.
+      answer = λ s stack above' crew lim.
           u.answer s (ap (λ (t : Stack). t.trees) stack ∙ new_trees)
-          (ap (λ (t : Stack). t.frames ++ s.above) stack ∙ ap (λ fs. fs ++ s.above) new_frames ∙ ap (λ fs. old.frames ++ fs) above' ∙ sym frames) lim;
+          (ap (λ (t : Stack). t.frames ++ s.above) stack ∙ ap (λ fs. fs ++ s.above) new_frames ∙ ap (λ fs. old.frames ++ fs) above' ∙ sym frames) crew lim;
     }
 
 pub not_taken_under : (decided : List Frame → Bool) (texts : List (List Token)) (assumed : List Asserted) (old mid new : Stack) → IsAssumed texts assumed old mid → decided mid.frames ≡ false → new ≡ old

@@ -1,5 +1,5 @@
 -- What comes of a check, and of one under assumptions.
-use Rattle.std.specs.Prelude.{◌≡◌, ℤ, Bool, true, false, List, [], ◌∷◌, ◌++◌, map, All, Option, Some, None, Result, Ok, Err}
+use Rattle.std.specs.Prelude.{◌≡◌, ℕ, ℤ, Bool, true, false, List, [], ◌∷◌, ◌++◌, map, All, Option, Some, None, Result, Ok, Err}
 use Rattle.smt_meaning.specs.declared.tokens.Token.{Token}
 use Rattle.smt_meaning.specs.Sorts.{Scope, done}
 use Rattle.smt_meaning.specs.Stack.{Assertion, Frame}
@@ -23,14 +23,15 @@ Answers s a = MayDecide s a.reply a.kept (record s { mode = a.mode })
 
 -- it answers each check of which this is found
 abbrev pub IsAnswerBy : Verdict → Answer → Type 0
-IsAnswerBy v a = (s : State) → IsVerdict s.stack.trees (checked_frames s) s.options.reproducible_resource_limit v → Answers s a
+IsAnswerBy v a = (s : State) → IsVerdict s.settings.workers s.stack.trees (checked_frames s) s.options.reproducible_resource_limit v → Answers s a
 
--- it answers each check of this stack with these levels above it, under this limit of units
-abbrev pub IsAnswerTo : Stack → List Frame → ℤ → Answer → Type 0
-IsAnswerTo new above limit a = (s : State) → s.stack ≡ new → s.above ≡ above → s.options.reproducible_resource_limit ≡ limit → Answers s a
+-- it answers each check of this stack with these levels above it, by so many workers, under this limit of units
+abbrev pub IsAnswerTo : Stack → List Frame → ℕ → ℤ → Answer → Type 0
+IsAnswerTo new above workers limit a =
+    (s : State) → s.stack ≡ new → s.above ≡ above → s.settings.workers ≡ workers → s.options.reproducible_resource_limit ≡ limit → Answers s a
 
 -- the terms are judged to be assumed, their level is taken, and the check is answered; their trees join the list, and these are the assumptions
-pub record IsCheckedUnder (decided : List Frame → Bool) (limit : ℤ) (texts : List (List Token)) (old : Stack) (a : Assumed) (new : Stack) : Type 0 where
+pub record IsCheckedUnder (decided : List Frame → Bool) (workers : ℕ) (limit : ℤ) (texts : List (List Token)) (old : Stack) (a : Assumed) (new : Stack) : Type 0 where
   pub assumed : List Assertion
   pub scope : Scope
   pub is_judged : judged (assumption texts) old ≡ done (assumes assumed) scope
@@ -38,7 +39,7 @@ pub record IsCheckedUnder (decided : List Frame → Bool) (limit : ℤ) (texts :
   pub assumptions : map (asserted_by new.trees) a.assumptions ≡ assumed
   pub within : All (IsWithin new.trees) a.assumptions
   pub taken : decided (old.frames ++ frame_of assumed ∷ []) ≡ true
-  pub answer : IsAnswerTo new (frame_of assumed ∷ []) limit a.answer
+  pub answer : IsAnswerTo new (frame_of assumed ∷ []) workers limit a.answer
   pub refuted : WhereUnsat a.answer.mode (IsRefuted new (AssumedAbove a.assumptions))
 
 -- the terms are judged to be assumed, but their level isn't taken
@@ -50,8 +51,8 @@ pub record IsNotTakenUnder (decided : List Frame → Bool) (texts : List (List T
   pub left : decided (old.frames ++ frame_of assumed ∷ []) ≡ false
 
 -- a check under assumptions is answered, left out or refused, or memory is wanting
-abbrev pub ChecksUnder : (List Frame → Bool) → ℤ → List (List Token) → Stack → Result (Option Assumed) StackError → Stack → Type 0
-ChecksUnder decided limit texts old (Ok (Some a)) new = IsCheckedUnder decided limit texts old a new
-ChecksUnder decided limit texts old (Ok None) new = IsNotTakenUnder decided texts old new
-ChecksUnder decided limit texts old (Err (Refused r)) new = IsRefused (assumption texts) r old new
-ChecksUnder decided limit texts old (Err Memory) new = new ≡ old
+abbrev pub ChecksUnder : (List Frame → Bool) → ℕ → ℤ → List (List Token) → Stack → Result (Option Assumed) StackError → Stack → Type 0
+ChecksUnder decided workers limit texts old (Ok (Some a)) new = IsCheckedUnder decided workers limit texts old a new
+ChecksUnder decided workers limit texts old (Ok None) new = IsNotTakenUnder decided texts old new
+ChecksUnder decided workers limit texts old (Err (Refused r)) new = IsRefused (assumption texts) r old new
+ChecksUnder decided workers limit texts old (Err Memory) new = new ≡ old

@@ -86,29 +86,29 @@ pub record IsItselfAbove (text : List Token) (t : Tree) (old : Stack) (xs : List
 -- it answers the question in each state of which this is found
 abbrev pub IsAnswerByLeast : LeastValue → Answer → Type 0
 IsAnswerByLeast v a =
-    (s : State) (text : List Token) (t : Tree) → IsLeast s.stack.trees s.stack.frames s.options.reproducible_resource_limit text t v
+    (s : State) (text : List Token) (t : Tree) → IsLeast s.settings.workers s.stack.trees s.stack.frames s.options.reproducible_resource_limit text t v
     → MayMinimize s text t a.reply a.kept (record s { mode = a.mode })
 
--- it answers the question of this stack, under this limit of units
-abbrev pub IsAnswerToLeast : Stack → ℤ → List Token → Tree → Answer → Type 0
-IsAnswerToLeast new limit text t a =
-    (s : State) → s.stack ≡ new → s.options.reproducible_resource_limit ≡ limit → MayMinimize s text t a.reply a.kept (record s { mode = a.mode })
+-- it answers the question of this stack, by so many workers, under this limit of units
+abbrev pub IsAnswerToLeast : Stack → ℕ → ℤ → List Token → Tree → Answer → Type 0
+IsAnswerToLeast new workers limit text t a =
+    (s : State) → s.stack ≡ new → s.settings.workers ≡ workers → s.options.reproducible_resource_limit ≡ limit → MayMinimize s text t a.reply a.kept (record s { mode = a.mode })
 
 -- the least value of a goal is sought, under this assumption
-pub record IsMinimized (limit : ℤ) (text : List Token) (t : Tree) (old : Stack) (a : Assumed) (new : Stack) : Type 0 where
+pub record IsMinimized (workers : ℕ) (limit : ℤ) (text : List Token) (t : Tree) (old : Stack) (a : Assumed) (new : Stack) : Type 0 where
   pub above : IsItselfAbove text t old a.assumptions new
-  pub answer : IsAnswerToLeast new limit text t a.answer
+  pub answer : IsAnswerToLeast new workers limit text t a.answer
   pub refuted : WhereUnsat a.answer.mode (IsRefuted new (AssumedAbove a.assumptions))
 
 -- the text is a goal, and its least value is sought
-pub record IsMinimizedUnder (limit : ℤ) (text : List Token) (old : Stack) (a : Assumed) (new : Stack) : Type 0 where
+pub record IsMinimizedUnder (workers : ℕ) (limit : ℤ) (text : List Token) (old : Stack) (a : Assumed) (new : Stack) : Type 0 where
   pub place : ℕ
   pub mid : Stack
   pub goal : IsGoalAsked text place old mid
-  pub minimized : IsMinimized limit text (tree_at mid.trees place) mid a new
+  pub minimized : IsMinimized workers limit text (tree_at mid.trees place) mid a new
 
 -- the question is answered or refused, or memory is wanting
-abbrev pub MinimizesUnder : ℤ → List Token → Stack → Result Assumed StackError → Stack → Type 0
-MinimizesUnder limit text old (Ok a) new = IsMinimizedUnder limit text old a new
-MinimizesUnder limit text old (Err (Refused r)) new = IsRefused (minimization text) r old new
-MinimizesUnder limit text old (Err Memory) new = new ≡ old
+abbrev pub MinimizesUnder : ℕ → ℤ → List Token → Stack → Result Assumed StackError → Stack → Type 0
+MinimizesUnder workers limit text old (Ok a) new = IsMinimizedUnder workers limit text old a new
+MinimizesUnder workers limit text old (Err (Refused r)) new = IsRefused (minimization text) r old new
+MinimizesUnder workers limit text old (Err Memory) new = new ≡ old

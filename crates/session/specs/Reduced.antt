@@ -9,8 +9,8 @@ use Rattle.session.specs.declared.above.Above.{Above}
 use Rattle.session.specs.Above.{above_by}
 
 -- these candidates are held
-abbrev pub IsReducedUnder : Stack → Above → ℤ → List ℕ → List Held → Type 0
-IsReducedUnder s a limit candidates hs = IsReduced (with_all s.trees (assertions_of (above_by s.trees a))) (s.frames ++ above_by s.trees a) limit candidates hs
+abbrev pub IsReducedUnder : Stack → Above → ℕ → ℤ → List ℕ → List Held → Type 0
+IsReducedUnder s a workers limit candidates hs = IsReduced workers (with_all s.trees (assertions_of (above_by s.trees a))) (s.frames ++ above_by s.trees a) limit candidates hs
 
 -- its place is one of so many, past those below
 abbrev pub IsHeldAmong : ℕ → ℕ → Held → Type 0

@@ -12,9 +12,9 @@ use Rattle.session.specs.declared.assuming.Assumed.{Assumed}
 use Rattle.session.specs.Assumed.{Answers}
 
 -- the stack is taken and its check answered, and these are the assertions after so many, each by its text and the place of its term
-pub record IsAnsweredUnder (decided : List Frame → Bool) (limit : ℤ) (below : ℕ) (s : Stack) (a : Assumed) : Type 0 where
+pub record IsAnsweredUnder (decided : List Frame → Bool) (workers : ℕ) (limit : ℤ) (below : ℕ) (s : Stack) (a : Assumed) : Type 0 where
   pub taken : decided s.frames ≡ true
-  pub answer : (t : State) → t.stack.trees ≡ s.trees → checked_frames t ≡ s.frames → t.options.reproducible_resource_limit ≡ limit → Answers t a.answer
+  pub answer : (t : State) → t.stack.trees ≡ s.trees → checked_frames t ≡ s.frames → t.settings.workers ≡ workers → t.options.reproducible_resource_limit ≡ limit → Answers t a.answer
   pub texts : map (λ (x : Assertion). x.text) a.assumptions ≡ drop below (flat_map texts_of s.frames)
   pub terms : map (λ (x : Assertion). tree_at s.trees x.term) a.assumptions ≡ drop below (assertions_of s.frames)
   pub within : All (IsWithin s.trees) a.assumptions

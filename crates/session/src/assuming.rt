@@ -1,5 +1,5 @@
 //! Checks under assumptions (SMT-LIB 2.6, section 4.2.5).
-ghost use Rattle.std.specs.Prelude.{◌≡◌, ◌≤◌, length, IfOk, MatchOption, false};
+ghost use Rattle.std.specs.Prelude.{◌≡◌, ◌<◌, ◌≤◌, length, IfOk, MatchOption, false};
 ghost use Rattle.smt_meaning.specs.Stack.{assertions_of};
 ghost use Rattle.session.specs.Assumed.{ChecksUnder};
 ghost use Rattle.session.specs.Under.{IsAnsweredUnder};
@@ -40,9 +40,12 @@ fn answered<D: Decider>(
     stack: &mut ScopeStack,
     below: usize,
 ) -> Result<Option<Assumed>, AllocError>
-    requires { below ≤ length (assertions_of stack.old.frames) }
+    requires may { D.may decider.old }
+    requires workers { 0 < settings.now.workers }
+    requires below { below ≤ length (assertions_of stack.old.frames) }
+    ensures still { D.may decider.new }
     ensures stays { stack.new ≡ stack.old }
-    ensures answered { IfOk result (λ r. MatchOption r (D.decides stack.old.frames ≡ false) (IsAnsweredUnder D.decides settings.now.units below stack.old)) }
+    ensures answered { IfOk result (λ r. MatchOption r (D.decides stack.old.frames ≡ false) (IsAnsweredUnder D.decides settings.now.workers settings.now.units below stack.old)) }
 {
     let _ = stack.depth();
     stack.laws();
@@ -66,7 +69,10 @@ pub(crate) fn check_under<D: Decider>(
     stack: &mut ScopeStack,
     terms: &[SExpr],
 ) -> Result<Option<Assumed>, StackError>
-    ensures { ChecksUnder D.decides settings.now.units terms.now stack.old result stack.new }
+    requires may { D.may decider.old }
+    requires workers { 0 < settings.now.workers }
+    ensures still { D.may decider.new }
+    ensures checked { ChecksUnder D.decides settings.now.workers settings.now.units terms.now stack.old result stack.new }
 {
     let count = stack.terms().len();
     let below = stack.assertions().len();

@@ -100,10 +100,13 @@ fn core_alone<D: Decider>(
     stack: &mut ScopeStack,
     candidates: &[u64],
 ) -> Result<Seq<Held>, AllocError>
+    requires may { D.may decider.old }
+    requires workers { 0 < settings.now.workers }
     requires candidates { AreCandidates 0 (length (assertions_of stack.old.frames)) candidates.now }
     requires none { HasNoModel stack.old.frames }
+    ensures still { D.may decider.new }
     ensures stays { stack.new ≡ stack.old }
-    ensures core { IfOk result (IsReduced stack.old.trees stack.old.frames settings.now.units candidates.now) }
+    ensures core { IfOk result (IsReduced settings.now.workers stack.old.trees stack.old.frames settings.now.units candidates.now) }
 {
     let mut seen = mem::replace(stack, ScopeStack::new(alloc)).into_stack();
     let held = core(alloc, &mut seen, candidates, settings, decider);
@@ -120,10 +123,13 @@ fn core_under<D: Decider>(
     assumptions: &Seq<Assertion>,
     candidates: &[u64],
 ) -> Result<Seq<Held>, AllocError>
+    requires may { D.may decider.old }
+    requires workers { 0 < settings.now.workers }
     requires refuted { IsRefuted stack.old (Above.Assumed assumptions.now) }
     requires candidates { AreCandidates 0 (length (assertions_of (stack.old.frames ++ above_by stack.old.trees (Above.Assumed assumptions.now)))) candidates.now }
+    ensures still { D.may decider.new }
     ensures stays { stack.new ≡ stack.old }
-    ensures core { IfOk result (IsReducedUnder stack.old (Above.Assumed assumptions.now) settings.now.units candidates.now) }
+    ensures core { IfOk result (IsReducedUnder stack.old (Above.Assumed assumptions.now) settings.now.workers settings.now.units candidates.now) }
 {
     let again = copied(alloc, assumptions.as_slice())?;
     let mut seen = mem::replace(stack, ScopeStack::new(alloc)).into_stack();
@@ -146,10 +152,13 @@ pub(crate) fn core_of<D: Decider>(
     above: &Above,
     candidates: &[u64],
 ) -> Result<Seq<Held>, AllocError>
+    requires may { D.may decider.old }
+    requires workers { 0 < settings.now.workers }
     requires refuted { IsRefuted stack.old above.now }
     requires candidates { AreCandidates 0 (length (assertions_of (stack.old.frames ++ above_by stack.old.trees above.now))) candidates.now }
+    ensures still { D.may decider.new }
     ensures stays { stack.new ≡ stack.old }
-    ensures core { IfOk result (IsReducedUnder stack.old above.now settings.now.units candidates.now) }
+    ensures core { IfOk result (IsReducedUnder stack.old above.now settings.now.workers settings.now.units candidates.now) }
 {
     match above {
         Above::Nothing => core_alone(alloc, decider, settings, stack, candidates),

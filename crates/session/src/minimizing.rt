@@ -1,5 +1,5 @@
 //! The question for the least value of a term: under the assumption that the term has a value.
-ghost use Rattle.std.specs.Prelude.{◌≡◌, ◌≤◌, IfOk, OnErr, length};
+ghost use Rattle.std.specs.Prelude.{◌≡◌, ◌<◌, ◌≤◌, IfOk, OnErr, length};
 ghost use Rattle.smt_meaning.specs.Stack.{assertions_of, depth};
 ghost use Rattle.smt_meaning.specs.Term.{tree_at};
 ghost use Rattle.goal_search.specs.Goals.{IsGoal};
@@ -163,8 +163,11 @@ fn minimized<D: Decider>(
     text: &Inner,
     term: TermId,
 ) -> Result<Assumed, AllocError>
-    requires { IsGoal stack.old text.now term }
-    ensures ok { IfOk result (λ a. IsMinimized settings.now.units text.now (tree_at stack.old.trees term) stack.old a stack.new) }
+    requires may { D.may decider.old }
+    requires workers { 0 < settings.now.workers }
+    requires goal { IsGoal stack.old text.now term }
+    ensures still { D.may decider.new }
+    ensures ok { IfOk result (λ a. IsMinimized settings.now.workers settings.now.units text.now (tree_at stack.old.trees term) stack.old a stack.new) }
     ensures err { OnErr result (stack.new ≡ stack.old) }
 {
     let found = least(alloc, stack, text, term, settings, decider)?;
@@ -184,7 +187,10 @@ pub(crate) fn minimize_under<D: Decider>(
     stack: &mut ScopeStack,
     text: &Inner,
 ) -> Result<Assumed, StackError>
-    ensures { MinimizesUnder settings.now.units text.now stack.old result stack.new }
+    requires may { D.may decider.old }
+    requires workers { 0 < settings.now.workers }
+    ensures still { D.may decider.new }
+    ensures sought { MinimizesUnder settings.now.workers settings.now.units text.now stack.old result stack.new }
 {
     let count = stack.terms().len();
     let term = ask_goal(alloc, stack, text)?;

@@ -1,5 +1,5 @@
 //! What a run has come to.
-ghost use Rattle.std.specs.Prelude.{◌≡◌};
+ghost use Rattle.std.specs.Prelude.{◌≡◌, ◌<◌};
 ghost use Rattle.smt_meaning.specs.State.{is_start as is_start_mode, is_unsat as is_unsat_mode};
 
 use crate::above::Above;
@@ -33,6 +33,7 @@ pub struct Session {
     options: Options,
     stack: ScopeStack,
     above: Above,
+    ghost crew: { 0 < settings.workers },
 }
 
 impl Model for Session {
@@ -62,7 +63,7 @@ pub struct Done {
 }
 
 impl Session {
-    ghost use Rattle.std.specs.Prelude.{◌≡◌, ◌≢◌, ◌↔◌, IfOk, OnErr, IsTrue};
+    ghost use Rattle.std.specs.Prelude.{◌≡◌, ◌≢◌, ◌<◌, ◌↔◌, IfOk, OnErr, IsTrue};
     ghost use Rattle.std.specs.Prelude.{codes, [], IsFalse};
     ghost use Rattle.smt_meaning.specs.State.{start, with_logic, asserting, set_logic, set_option_in, start_option, option_value, reason_unknown, get_info, stack_effect, checks, check_assuming, minimize, effect, kept_model, get_value, get_model, get_assertions, get_assignment, checked_frames, get_unsat_core, get_unsat_assumptions};
     ghost use Rattle.std.specs.Prelude.{length};
@@ -79,6 +80,7 @@ impl Session {
 
     /// The state at the start of a run. It takes no memory.
     pub fn new(alloc: Global, settings: &Settings) -> Self
+        requires { 0 < settings.now.workers }
         ensures { result ≡ start settings.now }
     {
         Session {
@@ -98,6 +100,8 @@ impl Session {
         command: &Command,
         decider: &mut D,
     ) -> Result<Done, AllocError>
+        requires may { D.may decider.old }
+        ensures still { D.may decider.new }
         ensures reply { IfOk result (λ done. MayReply D.decides self.old command.now done.reply done.kept self.new) }
         ensures stop { IfOk result (λ done. IsTrue done.stop ↔ (command.now ≡ Exit)) }
         ensures err { OnErr result (self.new ≡ self.old) }
@@ -115,6 +119,8 @@ impl Session {
         command: &Command,
         decider: &mut D,
     ) -> Result<(Reply, Kept), AllocError>
+        requires may { D.may decider.old }
+        ensures still { D.may decider.new }
         ensures ok { IfOk result (λ answer. MayReply D.decides self.old command.now answer.0 answer.1 self.new) }
         ensures err { OnErr result (self.new ≡ self.old) }
     {
@@ -135,7 +141,10 @@ impl Session {
     }
 
     /// Has the decider forget what a command took from under it.
-    fn cut<D: Decider>(&self, command: &Command, decider: &mut D) {
+    fn cut<D: Decider>(&self, command: &Command, decider: &mut D)
+        requires { D.may decider.old }
+        ensures { D.may decider.new }
+    {
         match command {
             Command::SetOption(OptionSetting::GlobalDeclarations(_))
             | Command::Reset
@@ -386,6 +395,8 @@ impl Session {
         alloc: Global,
         decider: &mut D,
     ) -> Result<(Reply, Kept), AllocError>
+        requires may { D.may decider.old }
+        ensures still { D.may decider.new }
         ensures ok { IfOk result (λ answer. MayCome D.decides self.old (get_unsat_core self.old) answer.0 answer.1 self.new) }
         ensures err { OnErr result (self.new ≡ self.old) }
     {
@@ -409,6 +420,8 @@ impl Session {
         alloc: Global,
         decider: &mut D,
     ) -> Result<(Reply, Kept), AllocError>
+        requires may { D.may decider.old }
+        ensures still { D.may decider.new }
         ensures ok { IfOk result (λ answer. MayCome D.decides self.old (get_unsat_assumptions self.old) answer.0 answer.1 self.new) }
         ensures err { OnErr result (self.new ≡ self.old) }
     {
@@ -434,10 +447,12 @@ impl Session {
         places: &[u64],
         decider: &mut D,
     ) -> Result<Seq<Held>, AllocError>
+        requires may { D.may decider.old }
         requires mode { self.old.mode ≡ In.Unsat }
         requires candidates { AreCandidates 0 (length (assertions_of (checked_frames self.old))) places.now }
+        ensures still { D.may decider.new }
         ensures stays { self.new ≡ self.old }
-        ensures core { IfOk result (IsReduced (checked_trees self.old) (checked_frames self.old) self.old.options.reproducible_resource_limit places.now) }
+        ensures core { IfOk result (IsReduced self.old.settings.workers (checked_trees self.old) (checked_frames self.old) self.old.options.reproducible_resource_limit places.now) }
     {
         let settings = in_force(&self.settings, &self.options);
         core_of(
@@ -456,6 +471,8 @@ impl Session {
         alloc: Global,
         decider: &mut D,
     ) -> Result<(Reply, Kept), AllocError>
+        requires may { D.may decider.old }
+        ensures still { D.may decider.new }
         ensures ok { IfOk result (λ answer. MayCome D.decides self.old (checks self.old self.old.stack []) answer.0 answer.1 self.new) }
         ensures err { OnErr result (self.new ≡ self.old) }
     {
@@ -477,6 +494,8 @@ impl Session {
         terms: &[SExpr],
         decider: &mut D,
     ) -> Result<(Reply, Kept), AllocError>
+        requires may { D.may decider.old }
+        ensures still { D.may decider.new }
         ensures ok { IfOk result (λ answer. MayCome D.decides self.old (check_assuming self.old (stack_command (CheckSatAssuming terms.now))) answer.0 answer.1 self.new) }
         ensures err { OnErr result (self.new ≡ self.old) }
     {
@@ -508,6 +527,8 @@ impl Session {
         text: &Inner,
         decider: &mut D,
     ) -> Result<(Reply, Kept), AllocError>
+        requires may { D.may decider.old }
+        ensures still { D.may decider.new }
         ensures ok { IfOk result (λ answer. MayCome D.decides self.old (minimize self.old text.now (stack_command (Minimize text.now))) answer.0 answer.1 self.new) }
         ensures err { OnErr result (self.new ≡ self.old) }
     {

@@ -1,5 +1,5 @@
 //! What a decider finds of a stack. It is shown the terms of the assertions alone, where these are few, and the whole stack where that doesn't settle the check: a report speaks of all terms.
-ghost use Rattle.std.specs.Prelude.{◌≡◌, Bool, List, ℤ, IfOk};
+ghost use Rattle.std.specs.Prelude.{◌≡◌, ◌<◌, ℕ, Bool, List, ℤ, IfOk};
 ghost use Rattle.smt_meaning.specs.Term.{Tree};
 ghost use Rattle.smt_meaning.specs.Stack.{Frame};
 ghost use Rattle.theory_port.specs.Found.{IsFound, IsSettled};
@@ -17,7 +17,10 @@ fn find<D: Decider>(
     settings: &Settings,
     stack: &Stack,
 ) -> Result<Option<Verdict>, AllocError>
-    ensures { IfOk result (IsFound D.decides stack.now.trees stack.now.frames settings.now.units) }
+    requires may { D.may decider.old }
+    requires workers { 0 < settings.now.workers }
+    ensures still { D.may decider.new }
+    ensures found { IfOk result (IsFound settings.now.workers D.decides stack.now.trees stack.now.frames settings.now.units) }
 {
     let taken = decider.takes(alloc, stack)?;
     if taken {
@@ -29,7 +32,7 @@ fn find<D: Decider>(
 
 /// A model, or that there is none, if it was found.
 fn settled(found: Option<Verdict>) -> Option<Verdict>
-    ensures { (decided : List Frame → Bool) (ts : List Tree) (frames : List Frame) (limit : ℤ) → IsFound decided ts frames limit found → IsSettled decided frames result }
+    ensures { (workers : ℕ) (decided : List Frame → Bool) (ts : List Tree) (frames : List Frame) (limit : ℤ) → IsFound workers decided ts frames limit found → IsSettled decided frames result }
 {
     match found? {
         Verdict::Sat(model) => Some(Verdict::Sat(model)),
@@ -45,6 +48,9 @@ fn find_by_part<D: Decider>(
     settings: &Settings,
     stack: &mut ScopeStack,
 ) -> Result<Option<Verdict>, AllocError>
+    requires may { D.may decider.old }
+    requires workers { 0 < settings.now.workers }
+    ensures still { D.may decider.new }
     ensures stays { stack.new ≡ stack.old }
     ensures found { IfOk result (IsSettled D.decides stack.old.frames) }
 {
@@ -69,8 +75,11 @@ fn find_by_whole<D: Decider>(
     settings: &Settings,
     stack: &mut ScopeStack,
 ) -> Result<Option<Verdict>, AllocError>
+    requires may { D.may decider.old }
+    requires workers { 0 < settings.now.workers }
+    ensures still { D.may decider.new }
     ensures stays { stack.new ≡ stack.old }
-    ensures found { IfOk result (IsFound D.decides stack.old.trees stack.old.frames settings.now.units) }
+    ensures found { IfOk result (IsFound settings.now.workers D.decides stack.old.trees stack.old.frames settings.now.units) }
 {
     let seen = mem::replace(stack, ScopeStack::new(alloc)).into_stack();
     let found = find(alloc, decider, settings, &seen);
@@ -85,8 +94,11 @@ pub fn found<D: Decider>(
     settings: &Settings,
     stack: &mut ScopeStack,
 ) -> Result<Option<Verdict>, AllocError>
+    requires may { D.may decider.old }
+    requires workers { 0 < settings.now.workers }
+    ensures still { D.may decider.new }
     ensures stays { stack.new ≡ stack.old }
-    ensures found { IfOk result (IsFound D.decides stack.old.trees stack.old.frames settings.now.units) }
+    ensures found { IfOk result (IsFound settings.now.workers D.decides stack.old.trees stack.old.frames settings.now.units) }
 {
     match find_by_part(alloc, decider, settings, stack)? {
         Some(verdict) => Ok(Some(verdict)),

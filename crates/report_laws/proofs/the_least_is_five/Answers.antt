@@ -1,4 +1,4 @@
-use Rattle.report_laws.proofs.Minimum.{five_is_least, nothing_else, seven_may_be, no_bound_from_above, no_model_without_bound, nothing_below, nothing_spent_is_none}
+use Rattle.report_laws.proofs.Minimum.{five_is_least, nothing_else, seven_may_be, seven_may_be_of_two, one_of_two_is_none, no_bound_from_above, no_model_without_bound, nothing_below, nothing_spent_is_none}
 use Rattle.report_laws.proofs.the_least_is_five.Goals as goal
 
 pub returns-clause-least : goal.returns-clause-least
@@ -9,6 +9,12 @@ returns-clause-other c = nothing_else
 
 pub returns-clause-best : goal.returns-clause-best
 returns-clause-best c = seven_may_be
+
+pub returns-clause-both : goal.returns-clause-both
+returns-clause-both c = seven_may_be_of_two
+
+pub returns-clause-one : goal.returns-clause-one
+returns-clause-one c = one_of_two_is_none
 
 pub returns-clause-bound : goal.returns-clause-bound
 returns-clause-bound c = no_bound_from_above

@@ -5,6 +5,7 @@ use Rattle.goal_search.proofs.descent.narrow.Given as goal
 
 abbrev pub invariant-loop-turn : goal.invariant-loop-turn
 invariant-loop-turn g l = record {
+  may : g.D.Decider.may l.decider;
   stays : l.stack ≡ l.fn.stack;
   point : IsPoint l.fn.stack.frames l.text (tree_at l.fn.stack.trees l.term) l.point;
   floor : IsFloor l.fn.stack.frames (tree_at l.fn.stack.trees l.term) (number_at l.floor);

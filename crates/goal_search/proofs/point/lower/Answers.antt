@@ -8,5 +8,5 @@ seek-requires-clause-range g c = at_in_range c.args.bound _ c.requires.bound (ca
 pub returns-clause-lowered : goal.returns-clause-lowered
 returns-clause-lowered g c =
     let old = c.args.stack.now in
-    lowered old.trees old.frames c.args.settings.now.units c.args.text.now (tree_at old.trees c.args.term) c.args.bound _ c.seek.result
+    lowered c.args.settings.now.workers old.trees old.frames c.args.settings.now.units c.args.text.now (tree_at old.trees c.args.term) c.args.bound _ c.seek.result
     (carried c.args.bound c.number_at-bound.result c.requires.bound c.number_at-bound.ensures) c.seek.ensures.step

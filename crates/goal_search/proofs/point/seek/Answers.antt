@@ -22,7 +22,7 @@ above-requires-clause-fits g c =
     let t = tree_at old.trees c.args.term in
     let xs = asked c.args.text.now t c.args.asked in
     let model : IsModel (asking old.frames xs) c.in-Sat.model =
-    subst (IsVerdict (with_all old.trees (terms_asked xs)) (asking old.frames xs) c.args.settings.now.units) c.in-Sat.is c.in_ok-verdict.ensures.verdict in
+    subst (IsVerdict c.args.settings.now.workers (with_all old.trees (terms_asked xs)) (asking old.frames xs) c.args.settings.now.units) c.in-Sat.is c.in_ok-verdict.ensures.verdict in
     subst (λ (s : Stack). IsTrue (fits (meaning c.in-Sat.model) (tree_at s.trees c.args.term))) (sym c.in_ok-verdict.ensures.stays)
     (fits_for old.frames c.args.text.now t c.in-Sat.model (model_for old.frames c.args.text.now t c.args.asked c.in-Sat.model model))
 
@@ -32,7 +32,7 @@ returns-in_ok-above-in-Sat-clause-step g c =
     let t = tree_at old.trees c.args.term in
     let xs = asked c.args.text.now t c.args.asked in
     let model : IsModel (asking old.frames xs) c.in-Sat.model =
-    subst (IsVerdict (with_all old.trees (terms_asked xs)) (asking old.frames xs) c.args.settings.now.units) c.in-Sat.is c.in_ok-verdict.ensures.verdict in
+    subst (IsVerdict c.args.settings.now.workers (with_all old.trees (terms_asked xs)) (asking old.frames xs) c.args.settings.now.units) c.in-Sat.is c.in_ok-verdict.ensures.verdict in
     point_from old.frames c.args.text.now t c.args.asked c.in-Sat.model c.in_ok-above-in-Sat.above model
     (subst (λ (s : Stack). value_in c.in-Sat.model (tree_at s.trees c.args.term) ≡ number_at c.in_ok-above-in-Sat.above) c.in_ok-verdict.ensures.stays c.in_ok-above-in-Sat.ensures.value)
     c.in_ok-above-in-Sat.ensures.within
@@ -41,10 +41,10 @@ pub returns-in-Unsat-clause-step : goal.returns-in-Unsat-clause-step
 returns-in-Unsat-clause-step g c =
     let old = c.args.stack.now in
     let xs = asked c.args.text.now (tree_at old.trees c.args.term) c.args.asked in
-    subst (IsVerdict (with_all old.trees (terms_asked xs)) (asking old.frames xs) c.args.settings.now.units) c.in-Unsat.is c.in_ok-verdict.ensures.verdict
+    subst (IsVerdict c.args.settings.now.workers (with_all old.trees (terms_asked xs)) (asking old.frames xs) c.args.settings.now.units) c.in-Unsat.is c.in_ok-verdict.ensures.verdict
 
 pub returns-in-Unknown-clause-step : goal.returns-in-Unknown-clause-step
 returns-in-Unknown-clause-step g c =
     let old = c.args.stack.now in
     let xs = asked c.args.text.now (tree_at old.trees c.args.term) c.args.asked in
-    subst (IsVerdict (with_all old.trees (terms_asked xs)) (asking old.frames xs) c.args.settings.now.units) c.in-Unknown.is c.in_ok-verdict.ensures.verdict
+    subst (IsVerdict c.args.settings.now.workers (with_all old.trees (terms_asked xs)) (asking old.frames xs) c.args.settings.now.units) c.in-Unknown.is c.in_ok-verdict.ensures.verdict

@@ -27,4 +27,4 @@ pub returns-clause-verdict : goal.returns-clause-verdict
 returns-clause-verdict g c =
     let judges = c.asks_are_assumed.ensures c.args.stack.now c.args.text.now c.args.term c.args.ask c.requires.goal c.requires.range in
     verdict_under (asked_texts c.args.text.now c.args.ask) _ c.args.stack.now _ judges c.as_slice.result.now (c.as_slice.ensures ∙ c.in_ok-texts.ensures) c.in-Ok.ensures.0 c.assume.new.self
-    c.in-Ok.ensures.1 g.D.Decider.decides c.args.settings.now.units c.in_ok-verdict.field-0 c.in-Some.verdict c.in-Some.is c.in_ok-verdict.ensures.found
+    c.in-Ok.ensures.1 c.args.settings.now.workers g.D.Decider.decides c.args.settings.now.units c.in_ok-verdict.field-0 c.in-Some.verdict c.in-Some.is c.in_ok-verdict.ensures.found

@@ -10,5 +10,5 @@ returns-in-Ok-clause-verdict g c =
     let same : c.in-Ok.thinned ≡ c.args.trial.now = c.in-Ok.ensures.ok ∙ c.replace-whole.ensures.value in
     let frames : c.stack.result.now.frames ≡ keeping (marks c.args.trial.now.kept) c.args.trial.now.stack.frames = c.stack.ensures.frames ∙ ap (λ (t : Trial). keeping (marks t.kept) t.stack.frames) same in
     let trees : c.stack.result.now.trees ≡ c.args.trial.now.stack.trees = c.stack.ensures.trees ∙ ap (λ (t : Trial). t.stack.trees) same in
-    subst (λ ts. IfOk c.decide-verdict.result (IsVerdict ts (keeping (marks c.args.trial.now.kept) c.args.trial.now.stack.frames) c.args.settings.now.units)) trees
-    (subst (λ fs. IfOk c.decide-verdict.result (IsVerdict c.stack.result.now.trees fs c.args.settings.now.units)) frames c.decide-verdict.ensures)
+    subst (λ ts. IfOk c.decide-verdict.result (IsVerdict c.args.settings.now.workers ts (keeping (marks c.args.trial.now.kept) c.args.trial.now.stack.frames) c.args.settings.now.units)) trees
+    (subst (λ fs. IfOk c.decide-verdict.result (IsVerdict c.args.settings.now.workers c.stack.result.now.trees fs c.args.settings.now.units)) frames c.decide-verdict.ensures.verdict)

@@ -44,6 +44,6 @@ returns-clause-core g c =
     raised ∙ ap (λ (s : Stack). under (map (asserted_by s.trees) c.in_ok-again.again) s) seen ∙ ap (λ (xs : List Assertion). under (map (asserted_by old.trees) xs) old) again in
     IfOk-weaker c.core-held.result _ _
     (λ hs h.
-    reduced_under old c.args.assumptions.now c.args.settings.now.units c.args.candidates.now hs c.requires.refuted.again
-    (subst (λ (s : Stack). IsReduced s.trees s.frames c.args.settings.now.units c.args.candidates.now hs) above_old h))
+    reduced_under old c.args.assumptions.now c.args.settings.now.workers c.args.settings.now.units c.args.candidates.now hs c.requires.refuted.again
+    (subst (λ (s : Stack). IsReduced c.args.settings.now.workers s.trees s.frames c.args.settings.now.units c.args.candidates.now hs) above_old h))
     c.core-held.ensures.core

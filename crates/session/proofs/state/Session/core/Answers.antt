@@ -20,7 +20,9 @@ pub returns-clause-core : goal.returns-clause-core
 returns-clause-core g c =
     IfOk-weaker c.core_of.result _ _
     (λ hs h.
-    subst (λ l. IsReduced (checked_trees c.args.self.now) (checked_frames c.args.self.now) l c.args.places.now hs)
+    subst (λ w. IsReduced w (checked_trees c.args.self.now) (checked_frames c.args.self.now) c.args.self.now.options.reproducible_resource_limit c.args.places.now hs)
+    (ap (λ (x : Settings). x.workers) c.in_force-settings.ensures ∙ ap (λ (t : State). t.settings.workers) c.self.view_is)
+    (subst (λ l. IsReduced c.in_force-settings.result.workers (checked_trees c.args.self.now) (checked_frames c.args.self.now) l c.args.places.now hs)
     (ap (λ (x : Settings). x.units) c.in_force-settings.ensures ∙ ap (λ (t : State). t.options.reproducible_resource_limit) c.self.view_is)
-    (subst (λ (t : State). IsReduced (checked_trees t) (checked_frames t) c.in_force-settings.result.units c.args.places.now hs) c.self.view_is h))
+    (subst (λ (t : State). IsReduced c.in_force-settings.result.workers (checked_trees t) (checked_frames t) c.in_force-settings.result.units c.args.places.now hs) c.self.view_is h)))
     c.core_of.ensures.core

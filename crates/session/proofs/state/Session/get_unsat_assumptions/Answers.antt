@@ -27,7 +27,7 @@ texts_held-requires g c =
     let xs = c.assertions-below.result.now in
     let texts = c.in_ok-texts.texts in
     rw (c.as_slice-2.ensures, c.as_slice.ensures)
-    (held_within (length xs) (length xs + length texts) (checked_trees t) (checked_frames t) t.options.reproducible_resource_limit c.deref.result.now c.in_ok-held.held
+    (held_within (length xs) (length xs + length texts) (checked_trees t) (checked_frames t) t.settings.workers t.options.reproducible_resource_limit c.deref.result.now c.in_ok-held.held
     (assumed_inside (length xs) texts c.deref.result.now (c.deref.ensures.value ∙ c.in_ok-places.ensures ∙ ap (range_with_len (length xs)) c.len.ensures)) c.in_ok-held.ensures.core)
 
 pub returns-clause-ok : goal.returns-clause-ok

@@ -25,7 +25,7 @@ names_of-requires g c =
     let before : AreAsserted t.stack xs = subst (λ (u : State). AreAsserted u.stack xs) c.self.view_is c.assertions.ensures in
     let after : AreAsserted t.stack ys = subst (λ (u : State). AreAsserted u.stack ys) (c.self-2.view_is ∙ c.in_ok-held.ensures.stays) c.assertions-2.ensures in
     rw (c.as_slice.ensures)
-    (held_named t.stack xs ys c.deref.result.now (checked_trees t) (checked_frames t) t.options.reproducible_resource_limit c.in_ok-held.held before after
+    (held_named t.stack xs ys c.deref.result.now (checked_trees t) (checked_frames t) t.settings.workers t.options.reproducible_resource_limit c.in_ok-held.held before after
     (c.deref.ensures.value ∙ c.in_ok-places.ensures) c.in_ok-held.ensures.core)
 
 pub returns-clause-ok : goal.returns-clause-ok

@@ -7,16 +7,17 @@ use Rattle.session.proofs.Replies.{minimum_ok}
 use Rattle.session.proofs.state.Session.minimize.Goals as goal
 
 pub enter-requires-clause-refuted : goal.enter-requires-clause-refuted
-enter-requires-clause-refuted g c = c.in-Ok.ensures.minimized.refuted
+enter-requires-clause-refuted g c = c.in-Ok.ensures.sought.minimized.refuted
 
 pub enter-requires-clause-above : goal.enter-requires-clause-above
-enter-requires-clause-above g c = c.in-Ok.ensures.minimized.above.again.within
+enter-requires-clause-above g c = c.in-Ok.ensures.sought.minimized.above.again.within
 
 pub returns-in-Ok-clause-ok : goal.returns-in-Ok-clause-ok
 returns-in-Ok-clause-ok g c =
     let s = c.self.inside in
     let mid : State = record { settings = s.settings; logic = named s.logic; mode = In.Assert; options = s.options; stack = c.minimize_under.new.stack; above = [] } in
-    minimum_ok g.D.Decider.decides c.args.self.now mid s.stack c.minimize_under.new.stack c.args.text.now c.in_force-settings.result.units c.in-Ok.assumed _ _ c.enter.new.self
-    (ap (λ (t : State). t.stack) c.self.view_is) c.in-Ok.ensures
+    minimum_ok g.D.Decider.decides c.args.self.now mid s.stack c.minimize_under.new.stack c.args.text.now c.in_force-settings.result.workers c.in_force-settings.result.units c.in-Ok.assumed _ _ c.enter.new.self
+    (ap (λ (t : State). t.stack) c.self.view_is) c.in-Ok.ensures.sought
+    (ap (λ (x : Settings). x.workers) c.in_force-settings.ensures ∙ ap (λ (t : State). t.settings.workers) c.self.view_is)
     (ap (λ (x : Settings). x.units) c.in_force-settings.ensures ∙ ap (λ (t : State). t.options.reproducible_resource_limit) c.self.view_is)
     (ap (λ (t : State). record t { mode = In.Assert; stack = c.minimize_under.new.stack; above = [] }) c.self.view_is) (search rules) (search rules) (search rules)
