@@ -1,6 +1,6 @@
 -- How a search begins, and what its outcome says of the assertions.
-use Rattle.std.proofs.Common.{◌≡◌, ℕ, zero, suc, ◌<◌, ◌≤◌, false, List, [], ◌∷◌, map, length, get_or, All, subst, sym, arith, refl}
-use Rattle.std.specs.Prelude.{IsTrue}
+use Rattle.std.proofs.Common.{◌≡◌, ℕ, zero, suc, ◌<◌, ◌≤◌, false, List, [], ◌∷◌, map, length, get_or, All, subst, sym, ap, arith, refl}
+use Rattle.std.specs.Prelude.{IsTrue, ℤ, Bool}
 use Rattle.std.proofs.lemmas.List.Elements.{All-weaker, All-same, All-map}
 use Rattle.clause_store.specs.Stored.{Kept, Stored}
 use Rattle.smt_meaning.specs.declared.values.Table.{Table}
@@ -8,7 +8,7 @@ use Rattle.smt_meaning.specs.declared.clauses.Atom.{Atom}
 use Rattle.smt_meaning.specs.Declaration.{Declaration}
 use Rattle.smt_meaning.specs.Term.{tree_at, Interpretation, fits}
 use Rattle.smt_meaning.specs.Interpretation.{AreTablesFor, meaning}
-use Rattle.smt_meaning.specs.MayReply.{Fits}
+use Rattle.smt_meaning.specs.Model.{Fits}
 use Rattle.smt_meaning.specs.Stack.{signature_of, assertions_of, Holds}
 use Rattle.smt_meaning.specs.StackCommand.{Stack}
 use Rattle.scope_stack.specs.declared.answers.Assertion.{Assertion}
@@ -16,6 +16,12 @@ use Rattle.scope_stack.specs.Shown.{AreAsserted}
 use Rattle.search_port.specs.State.{Reading, TheoryState, IsGrown}
 use Rattle.search_port.specs.Valid.{IsOver, FollowsAt}
 use Rattle.cdcl_core.specs.Search.{IsFresh, IsModel, AreAmong}
+use Rattle.search_port.specs.Spending.{Spending}
+use Rattle.search_port.specs.declared.budget.Cause.{Cause as Ending}
+use Rattle.cdcl_core.specs.Turns.{HeardBetween, NoHook}
+use Rattle.worker.specs.declared.decide.Found.{Found}
+use Rattle.worker.specs.declared.decide.Found.TheVariants.{Model, NoModel, Report, Cancelled}
+use Rattle.worker.specs.Endings.{IsFound, IsHeard}
 use Rattle.smt_laws.specs.Flat.{flat}
 use Rattle.first_clauses.specs.PartClausesFirst.{IsClause}
 use Rattle.first_clauses.specs.CheckClausesFirst.{reading_of, IsFirst}
@@ -45,6 +51,25 @@ fresh s table stored t f r l =
 -- a hook that knows no atom hears of them
 pub heard : (s : Stack) (table : List Atom) → IsGrown (record { trees = s.trees; frames = flat s.frames; table = []; closed = false }) (reading_of s table)
 heard s table = record { more = table; is = refl; none = λ e. absurd cc; stays = λ e. absurd cc }
+
+-- the calls of a hook in a search from a new budget on
+pub heard_from : (Led : List Spending → Type 0) (k share : ℕ) (v w : Bool) (b c : Spending) → b ≡ record { units = []; limit = k; bound = k; counts_learnt = v; keeps_lines = w; share = share; short = [] }
+    → HeardBetween Led b c → IsHeard share Led
+heard_from Led k share v w b c e h = record {
+  begun = b;
+  ended = c;
+  units = ap (λ (x : Spending). x.units) e;
+  short = ap (λ (x : Spending). x.short) e;
+  share_is = ap (λ (x : Spending). x.share) e;
+  heard = h;
+}
+
+-- nothing that no hook stopped was stopped by one
+pub unstopped : (s : Stack) (limit : ℤ) (w : ℕ) (stopped : Ending → Type 0) (f : Found) → IsFound s limit w NoHook f → IsFound s limit w stopped f
+unstopped s limit w stopped (Model i) h = h
+unstopped s limit w stopped NoModel h = h
+unstopped s limit w stopped (Report r) h = h
+unstopped s limit w stopped (Cancelled v) h = absurd h
 
 -- ---- a model
 

@@ -1,7 +1,6 @@
 pub mod Deciding
 pub mod Free
 pub mod Lists
-pub mod Memory
 pub mod Numbers
 pub mod Ranges
 pub mod SameStack

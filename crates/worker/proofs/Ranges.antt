@@ -20,7 +20,7 @@ use Rattle.smt_meaning.specs.Declaration.{Declaration}
 use Rattle.smt_meaning.specs.Term.{Tree, fits}
 use Rattle.smt_meaning.specs.Signature.{tree_sort}
 use Rattle.smt_meaning.specs.Interpretation.{meaning, AreTablesFor}
-use Rattle.smt_meaning.specs.MayReply.{Fits}
+use Rattle.smt_meaning.specs.Model.{Fits}
 use Rattle.smt_meaning.specs.Stack.{signature_of, assertions_of}
 use Rattle.smt_meaning.specs.StackCommand.{Stack}
 use Rattle.smt_meaning.specs.Atoms.{atoms_of, pair_atoms, stack_atoms, stack_atoms_are}

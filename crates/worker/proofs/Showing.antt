@@ -1,5 +1,5 @@
 -- What a search over a stack shows where it ends without an answer.
-use Rattle.std.proofs.Common.{◌≡◌, inl, inr, ◌⊎◌, ℕ, suc, ◌+◌, ◌<◌, Bool, true, false, not, List, [], ◌∷◌, ◌++◌, map, length, All, Contains, get_or, subst, sym, ap, ◌∙◌, arith, refl}
+use Rattle.std.proofs.Common.{◌≡◌, inl, inr, ◌⊎◌, ℕ, suc, ◌+◌, ◌<◌, Bool, true, false, not, ◌||◌, List, [], ◌∷◌, ◌++◌, map, length, All, Contains, get_or, subst, sym, ap, ◌∙◌, arith, refl}
 use Rattle.std.specs.Prelude.{ℤ, Option, Some, None, IfSome}
 use Rattle.std.specs.List.{range_with_len}
 use Rattle.std.proofs.lemmas.List.{append-nil, length-map, length-append}
@@ -44,7 +44,7 @@ use Rattle.worker.specs.Shown.{HasStackAtoms, unit_of, IsOfNumbers, NumbersIntsA
 use Rattle.worker.proofs.Lists.{Cut, cut, IsAfter, in_order, all_of, at_any, first_or_later, front_in, in_middle}
 use Rattle.worker.proofs.Numbers.{same_front}
 use Rattle.worker.proofs.SameStack.{check_atom_by, branches_by, range_by, sums_by}
-use Rattle.worker.proofs.Units.{IsLast, learnt, newly_numbered, new_at, new_front, numbers_of_both}
+use Rattle.worker.proofs.Units.{IsLast, IsOfWorker, learnt, newly_numbered, new_at, new_front, numbers_of_both}
 
 -- the laws that are cited
 pub record Laws : Type 0 where
@@ -54,19 +54,24 @@ pub record Laws : Type 0 where
   pub flatly : FlatSaysTheSame
 
 -- how a budget of this limit begins
-pub record IsBudget (limit : ℤ) (b : Spending) : Type 0 where
+pub record IsBudget (limit : ℤ) (forgets : Bool) (b : Spending) : Type 0 where
   pub units : b.units ≡ []
   pub limit_is : b.limit ≡ most_units limit
-  pub counts : b.counts_learnt ≡ not (is_unlimited limit)
+  pub counts : b.counts_learnt ≡ (not (is_unlimited limit) || forgets)
   pub keeps : b.keeps_lines ≡ not (is_unlimited limit)
 
-pub budget_of : (limit : ℤ) (b : Spending) (k : ℕ) (v : Bool) → b ≡ record { units = []; limit = k; bound = k; counts_learnt = v; keeps_lines = v; share = 0; short = [] } → k ≡ most_units limit → v ≡ not (is_unlimited limit) → IsBudget limit b
-budget_of limit b k v e most counts = record {
+pub budget_of : (limit : ℤ) (b : Spending) (k share : ℕ) (v forgets : Bool) → b ≡ record { units = []; limit = k; bound = k; counts_learnt = v || forgets; keeps_lines = v; share = share; short = [] }
+    → k ≡ most_units limit → v ≡ not (is_unlimited limit) → IsBudget limit forgets b
+budget_of limit b k share v forgets e most counts = record {
   units = ap (λ (x : Spending). x.units) e;
   limit_is = ap (λ (x : Spending). x.limit) e ∙ most;
-  counts = ap (λ (x : Spending). x.counts_learnt) e ∙ counts;
+  counts = ap (λ (x : Spending). x.counts_learnt) e ∙ ap (λ c. c || forgets) counts;
   keeps = ap (λ (x : Spending). x.keeps_lines) e ∙ counts;
 }
+
+only_first : (a b : Bool) → b ≡ false → (a || b) ≡ a
+only_first true b e = refl
+only_first false b e = e
 
 -- ---- what a theory shows, by the levels of the stack
 
@@ -204,9 +209,9 @@ has_number (Numbered n ∷ us) m h =
     number_is : Numbered n ≡ Numbered m → n ≡ m
     number_is e = ap number_of e
 
-module _ (laws : Laws) (s : Stack) (stored new : Stored) (lawful : IsLawful s) (limit : ℤ) (t u : TheoryState) (b c : Spending) (first : IsFirst s t.reading.table stored)
-    (all : HasStackAtoms s t.reading.table) (begins : t.reading ≡ reading_of s t.reading.table) (basis : AreBasic (first_basis t.variables.sums) t.variables) (budget : IsBudget limit b)
-    (run : Searches false stored new t u b c) where
+module _ (w : ℕ) (forgets : Bool) (of : IsOfWorker w forgets) (laws : Laws) (s : Stack) (stored new : Stored) (lawful : IsLawful s) (limit : ℤ) (t u : TheoryState) (b c : Spending) (first : IsFirst s t.reading.table stored)
+    (all : HasStackAtoms s t.reading.table) (begins : t.reading ≡ reading_of s t.reading.table) (basis : AreBasic (first_basis t.variables.sums) t.variables) (budget : IsBudget limit forgets b)
+    (run : Searches forgets stored new t u b c) where
   abbrev more : List Atom
   more = run.turns.grown.more
 
@@ -244,22 +249,22 @@ module _ (laws : Laws) (s : Stack) (stored new : Stored) (lawful : IsLawful s) (
     }
 
     one_unit : (before after : List Spent) (y : Spent) → c.units ≡ before ++ y ∷ after
-        → IsUnit s.trees s.frames u.variables.sums x.branches limit 0 (map (unit_of u.reading.table (depth s.frames)) before) (unit_of u.reading.table (depth s.frames) y)
+        → IsUnit s.trees s.frames u.variables.sums x.branches limit w (map (unit_of u.reading.table (depth s.frames)) before) (unit_of u.reading.table (depth s.frames) y)
     one_unit before after (Numbered n) e =
         let here : Contains c.units (Numbered n) = subst (λ us. Contains us (Numbered n)) (sym e) (in_middle before after (Numbered n)) in
         let order : IsAfter (length t.reading.table) n (numbers before) =
         in_order (numbers before) (numbers after) n (length t.reading.table) (length more) (sym (numbers_of_both before (Numbered n ∷ after)) ∙ ap numbers (sym e) ∙ numbers_are) in
-        newly_numbered s x.branches stored u.reading last lawful (length t.reading.table) of_stack n order.from (All-contains (IsShown u.reading) c.units (Numbered n) shown_all here)
+        newly_numbered w forgets of s x.branches stored u.reading last lawful (length t.reading.table) of_stack n order.from (All-contains (IsShown u.reading) c.units (Numbered n) shown_all here)
         (All-contains (NumbersIntsAlone s) (map (unit_of u.reading.table (depth s.frames)) c.units) (unit_of u.reading.table (depth s.frames) (Numbered n)) others
         (in_map (unit_of u.reading.table (depth s.frames)) c.units (Numbered n) here)) before
         (λ m among. All-contains (λ k. k < n) (numbers before) m order.greater (has_number before m among)) (depth s.frames)
     one_unit before after (Learnt d) e =
         let here : Contains c.units (Learnt d) = subst (λ us. Contains us (Learnt d)) (sym e) (in_middle before after (Learnt d)) in
-        let news : AreNew false stored.clauses [] (before ++ Learnt d ∷ after) = subst (AreNew false stored.clauses []) e (run.new_units budget.units) in
-        learnt s x.branches stored u.reading last lawful laws.as_written laws.by_numbers laws.in_turn laws.flatly limit
-        (limited IsOfTheory b.counts_learnt (is_unlimited limit) b.units c.units (Learnt d) budget.counts budget.units run.turns.spends.free here (λ h. h)) before d
+        let news : AreNew forgets stored.clauses [] (before ++ Learnt d ∷ after) = subst (AreNew forgets stored.clauses []) e (run.new_units budget.units) in
+        learnt w forgets of s x.branches stored u.reading last lawful laws.as_written laws.by_numbers laws.in_turn laws.flatly limit
+        (λ z. limited IsOfTheory b.counts_learnt (is_unlimited limit) b.units c.units (Learnt d) (budget.counts ∙ only_first (not (is_unlimited limit)) forgets (of.first z)) budget.units run.turns.spends.free here (λ h. h)) before d
         (front_in (IsShown u.reading) before (Learnt d ∷ after) (subst (λ (us : List Spent). All (IsShown u.reading) us) e shown_all)) (All-contains (IsShown u.reading) c.units (Learnt d) shown_all here)
-        (new_front stored.clauses [] before (Learnt d ∷ after) news) (new_at stored.clauses [] before after (Learnt d) news)
+        (new_front forgets stored.clauses [] before (Learnt d ∷ after) news) (new_at forgets stored.clauses [] before after (Learnt d) news)
     one_unit before after (Pivot l) e =
         let here : Contains c.units (Pivot l) = subst (λ us. Contains us (Pivot l)) (sym e) (in_middle before after (Pivot l)) in
         let counted : is_unlimited limit ≡ false = limited IsNoPivot b.keeps_lines (is_unlimited limit) b.units c.units (Pivot l) budget.keeps budget.units run.turns.spends.no_pivots here (λ h. h) in
@@ -273,13 +278,13 @@ module _ (laws : Laws) (s : Stack) (stored new : Stored) (lawful : IsLawful s) (
               (basis_along (first_basis sums) (pivot_lines before)) l (pivot_at sums (IsBoundOf (Contains u.reading.table)) (first_basis sums) (pivot_lines before) (pivot_lines after) l lines));
         }
 
-    are_units : AreUnits s.trees s.frames u.variables.sums x.branches limit 0 (map (unit_of u.reading.table (depth s.frames)) c.units)
+    are_units : AreUnits s.trees s.frames u.variables.sums x.branches limit w (map (unit_of u.reading.table (depth s.frames)) c.units)
     are_units before after y e =
         let r : Cut (unit_of u.reading.table (depth s.frames)) c.units before after y = cut (unit_of u.reading.table (depth s.frames)) c.units before after y e in
-        subst (λ (us : List ShownUnit). IsUnit s.trees s.frames u.variables.sums x.branches limit 0 us y) r.front_is
-        (subst (IsUnit s.trees s.frames u.variables.sums x.branches limit 0 (map (unit_of u.reading.table (depth s.frames)) r.front)) r.one_is (one_unit r.front r.back r.one r.is))
+        subst (λ (us : List ShownUnit). IsUnit s.trees s.frames u.variables.sums x.branches limit w us y) r.front_is
+        (subst (IsUnit s.trees s.frames u.variables.sums x.branches limit w (map (unit_of u.reading.table (depth s.frames)) r.front)) r.one_is (one_unit r.front r.back r.one r.is))
 
-  pub shows_units : length c.units ≡ c.limit → ShowsUnits s limit u c.units
+  pub shows_units : length c.units ≡ c.limit → ShowsUnits s limit w u c.units
   shows_units spent x h others =
       let shown : IsShowing (by_levels s u) x = shown_by_levels laws.flatly s u x (trees_stay s t.reading u.reading begins run.turns.grown) (frames_stay s t.reading u.reading begins run.turns.grown) h in
       record {

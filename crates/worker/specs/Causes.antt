@@ -1,11 +1,9 @@
 -- What a refusal to number atoms shows.
-use Rattle.std.specs.Prelude.{ℕ, [], ◌∷◌}
+use Rattle.std.specs.Prelude.{ℕ}
 use Rattle.smt_meaning.specs.declared.reports.RangeSeen.{RangeSeen}
 use Rattle.smt_meaning.specs.declared.reports.RangeSeen.TheVariants.{Coefficient, Pair}
 use Rattle.smt_meaning.specs.declared.reports.Cause.{Cause}
 use Rattle.smt_meaning.specs.declared.reports.Cause.TheVariants.{Range, Memory}
-use Rattle.theory_port.specs.declared.decider.Verdict.{Verdict}
-use Rattle.theory_port.specs.declared.decider.Verdict.TheVariants.{Unknown}
 use Rattle.bound_clauses.specs.declared.orders.Sense.{Sense}
 use Rattle.bound_clauses.specs.declared.orders.Sense.TheVariants.{NotAbove, Below}
 use Rattle.check_atoms.specs.declared.refusal.Refusal.{Refusal}
@@ -20,7 +18,3 @@ abbrev pub cause_of : Refusal → Cause
 cause_of (RefusedTerm place) = Range (Coefficient place)
 cause_of (RefusedPair part o) = Range (pair_seen part o.sense o.lesser o.greater)
 cause_of RefusedMemory = Memory
-
--- one worker, which never branched, shows the cause
-abbrev pub only_report : Cause → Verdict
-only_report cause = Unknown (record { worker = 0; cause = cause; branches = [] } ∷ [])

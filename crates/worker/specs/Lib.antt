@@ -1,3 +1,4 @@
 pub mod Endings
+pub mod Outcome
 pub mod Shown
 pub mod Causes

@@ -1,4 +1,4 @@
--- What a search asks of its first atoms, and what its worker shows of the units that it has spent.
+-- What a search asks of its first atoms, and what a worker shows of the units that it has spent.
 use Rattle.std.specs.Prelude.{◌⊎◌, ℕ, ℤ, ◌<◌, List, map, All, Contains}
 use Rattle.literals.specs.Signed.{Signed}
 use Rattle.smt_meaning.specs.declared.clauses.Atom.{Atom}
@@ -44,7 +44,7 @@ NumbersIntsAlone s (Shown.Learnt c) = Unit {0}
 NumbersIntsAlone s (Shown.Numbered a) = IsSameOfNoInts s a → ⊥
 NumbersIntsAlone s (Shown.Pivot l) = Unit {0}
 
--- with what a theory in this state shows, its worker shows that these are all units that it may spend, their clauses at the level of the whole stack, if they number no equality but of Ints
-abbrev pub ShowsUnits : Stack → ℤ → TheoryState → List Spent → Type 0
-ShowsUnits s limit t us =
-    (x : Showing) → IsShowing t x → All (NumbersIntsAlone s) (map (unit_of t.reading.table (depth s.frames)) us) → Shows s.trees s.frames limit 0 x.branches (Units (map (unit_of t.reading.table (depth s.frames)) us))
+-- with what a theory in this state shows, this worker shows that these are all units that it may spend, their clauses at the level of the whole stack, if they number no equality but of Ints
+abbrev pub ShowsUnits : Stack → ℤ → ℕ → TheoryState → List Spent → Type 0
+ShowsUnits s limit w t us =
+    (x : Showing) → IsShowing t x → All (NumbersIntsAlone s) (map (unit_of t.reading.table (depth s.frames)) us) → Shows s.trees s.frames limit w x.branches (Units (map (unit_of t.reading.table (depth s.frames)) us))

@@ -1,22 +1,23 @@
 //! The search.
-ghost use Rattle.std.specs.Prelude.{◌≡◌, [], map, IfOk};
+ghost use Rattle.std.specs.Prelude.{◌≡◌, [], map, IfOk, false};
 ghost use Rattle.scope_stack.specs.declared.answers.Assertion.{Assertion as AssertionOf};
 ghost use Rattle.smt_meaning.specs.Interpretation.{AreTablesFor, meaning};
 ghost use Rattle.smt_meaning.specs.Stack.{signature_of, Holds};
 ghost use Rattle.smt_meaning.specs.Kinds.{has_no_integers};
 ghost use Rattle.fraction128.specs.Lines.{first_basis};
 ghost use Rattle.search_port.specs.Pivots.{AreBasic};
-ghost use Rattle.theory_port.specs.Verdicts.{IsVerdict};
 ghost use Rattle.cdcl_core.specs.Search.{AreAgreed};
+ghost use Rattle.cdcl_core.specs.Turns.{NoHook};
+ghost use Rattle.smt_laws.specs.Flat.{flat};
 ghost use Rattle.first_clauses.specs.CheckClausesFirst.{reading_of, IsFirst};
-ghost use Rattle.worker.specs.Endings.{EndsByMemory, MemoryAloneEnds};
+ghost use Rattle.worker.specs.Endings.{IsFound, IsHeard, MemoryAloneIsFound};
 ghost use Rattle.worker.specs.Shown.{HasStackAtoms};
 
 use crate::ending::{all_spent, stopped};
 use crate::limits::{has_limit, units_within};
-use crate::shown::unknown;
-use crate::still::Still;
+use crate::report::out_of_memory;
 use cdcl_core::fresh_stands;
+use cdcl_core::hook::Hook;
 use cdcl_core::solve::{Outcome, solve};
 use clause_store::store::Store;
 use first_clauses::{empty_clause_means_no_model, first_clauses_say_assertions, signature_stays};
@@ -27,9 +28,20 @@ use search_port::{
     Budget, Cause as Ending, Shown, follows_as_written, forces_by_numbers, forces_in_turn,
 };
 use smt_laws::{flat_says_the_same, tables_interpret, value_has_its_sort};
-use smt_meaning::{Interp, Settings, TermId};
+use smt_meaning::{Interp, Report, Settings, TermId};
 use std::alloc::{AllocError, Global};
-use theory_port::Verdict;
+
+/// What a search comes to.
+#[derive(Drop)]
+pub(crate) enum Found {
+    /// These tables are a model.
+    Model(Interp),
+    NoModel,
+    /// It isn't found out, and the worker shows why.
+    Report(Report),
+    /// The hook stopped it: the worker with this number has answered.
+    Cancelled(u8),
+}
 
 /// The places of the assertions.
 fn places_of(alloc: Global, assertions: &[Assertion]) -> Result<Vec<TermId>, AllocError>
@@ -42,44 +54,52 @@ fn places_of(alloc: Global, assertions: &[Assertion]) -> Result<Vec<TermId>, All
     Ok(places)
 }
 
-/// Tables that make the assertions true, if each number on the way is in the range. Where no part is an Int there is no number.
+/// Tables that make the assertions true, if each number on the way is in the range. Where no part is an Int there is no number. Tables that can't be evaluated so end in want of memory.
 fn model(
     alloc: Global,
     stack: &Stack,
     settings: &Settings,
     is_integer_free: bool,
+    worker: u8,
     tables: Interp,
-) -> Result<Verdict, AllocError>
+) -> Found
     requires integers { is_integer_free ≡ has_no_integers stack.now.frames }
     requires tables { AreTablesFor (signature_of stack.now.frames) tables }
     requires holds { Holds (meaning tables) stack.now.frames }
-    ensures verdict { IfOk result (IsVerdict stack.now.trees stack.now.frames settings.now.units) }
-    ensures memory { IfOk result EndsByMemory }
+    ensures found { IsFound stack.now settings.now.units worker NoHook result }
+    ensures memory { MemoryAloneIsFound stack.now.frames settings.now.units result }
 {
     if is_integer_free {
         stack.laws();
         tables_interpret();
         value_has_its_sort();
-        return Ok(Verdict::Sat(tables));
+        return Found::Model(tables);
     }
-    let places = places_of(alloc, stack.assertions())?;
+    let places = match places_of(alloc, stack.assertions()) {
+        Ok(places) => places,
+        Err(_) => return Found::Report(out_of_memory(alloc, stack, settings, worker)),
+    };
     match values(alloc, &tables, stack.terms(), &places) {
-        Ok(_) => Ok(Verdict::Sat(tables)),
-        Err(_) => unknown(alloc, stack, settings),
+        Ok(_) => Found::Model(tables),
+        Err(_) => Found::Report(out_of_memory(alloc, stack, settings, worker)),
     }
 }
 
 /// Searches from the first clauses on, with a theory that was told nothing and made no pivot: a model of all of them under which each number is in the range is one of the
-/// assertions, and where the empty clause follows, they have none. Where the search ends otherwise, its worker shows why: want of memory, if there is no limit and no part is an Int.
-/// An `Err` is for want of memory.
-pub fn search<T: Shown>(
+/// assertions, and where the empty clause follows, they have none. The hook is called between any two units. Where the search ends otherwise, its worker shows why: want of memory,
+/// if there is no limit and no part is an Int.
+pub(crate) fn search<T: Shown, H: Hook<T>>(
     alloc: Global,
     stack: &Stack,
     settings: &Settings,
     is_integer_free: bool,
+    worker: u8,
     mut theory: T,
     mut store: Store,
-) -> Result<Verdict, AllocError>
+    hook: &mut H,
+) -> Found
+    requires may { H.may hook.old }
+    requires hooked { H.reading hook.old ≡ record { trees = stack.now.trees; frames = flat stack.now.frames; table = []; closed = false } }
     requires integers { is_integer_free ≡ has_no_integers stack.now.frames }
     requires first { IsFirst stack.now (T.state theory).reading.table store }
     requires reading { (T.state theory).reading ≡ reading_of stack.now (T.state theory).reading.table }
@@ -87,8 +107,9 @@ pub fn search<T: Shown>(
     requires basis { AreBasic (first_basis (T.state theory).variables.sums) (T.state theory).variables }
     requires agreed { AreAgreed T.agrees (T.state theory).reading store.clauses }
     requires all { HasStackAtoms stack.now (T.state theory).reading.table }
-    ensures verdict { IfOk result (IsVerdict stack.now.trees stack.now.frames settings.now.units) }
-    ensures memory { IfOk result (MemoryAloneEnds stack.now.frames settings.now.units) }
+    ensures found { IsFound stack.now settings.now.units worker (H.stopped hook.new) result }
+    ensures memory { MemoryAloneIsFound stack.now.frames settings.now.units result }
+    ensures heard { IsHeard settings.now.share (λ calls. H.later hook.old calls hook.new) }
 {
     stack.laws();
     first_clauses_say_assertions();
@@ -99,31 +120,34 @@ pub fn search<T: Shown>(
     follows_as_written();
     forces_by_numbers();
     forces_in_turn();
-    let mut order = Order::new(alloc, settings.seed, 0);
+    let forgets = worker > 0;
+    let mut order = Order::new(alloc, settings.seed, worker);
     let limit = units_within(settings);
     let limited = has_limit(settings);
-    let mut budget = Budget::new(alloc, limit, limited, limited, 0);
-    let mut still = Still { alloc, stack };
+    let mut budget = Budget::new(alloc, limit, limited | forgets, limited, settings.share);
     match solve(
         alloc,
         &mut order,
-        false,
+        forgets,
         &mut store,
         &mut theory,
         &mut budget,
-        &mut still,
+        hook,
     ) {
-        Outcome::Full(tables) => model(alloc, stack, settings, is_integer_free, tables),
-        Outcome::False(_) => Ok(Verdict::Unsat),
-        Outcome::Ended(Ending::Units) => all_spent(
+        Outcome::Full(tables) => model(alloc, stack, settings, is_integer_free, worker, tables),
+        Outcome::False(_) => Found::NoModel,
+        Outcome::Ended(Ending::Units) => Found::Report(all_spent(
             alloc,
             stack,
             settings,
             is_integer_free,
+            worker,
             theory,
             budget,
-        ),
-        Outcome::Ended(Ending::Memory) => stopped(alloc, stack, settings, theory),
-        Outcome::Ended(Ending::Cancelled(_)) => unreachable!(),
+        )),
+        Outcome::Ended(Ending::Memory) => {
+            Found::Report(stopped(alloc, stack, settings, worker, theory))
+        }
+        Outcome::Ended(Ending::Cancelled(other)) => Found::Cancelled(other),
     }
 }

@@ -1,22 +1,26 @@
-//! The search over the first clauses of a stack, and what it shows where it ends without an
-//! answer.
+//! The search of one worker over the first clauses of a stack, and what the worker shows where it
+//! ends without an answer.
 //!
-//! `search`: from first clauses that force the clauses of the parts, and any theory that was told
-//! nothing and shows how its atoms came: tables that make every assertion true, that there is no
-//! model, or a report.
+//! `search`: from first clauses that force the clauses of the parts, any theory that was told
+//! nothing and shows how its atoms came, and any hook that is called between units: tables that
+//! make every assertion true, that there is no model, a report, or the number of the worker with
+//! which the hook stopped it.
 //!
-//! `unknown`, `out_of_range`: where the search ended on its way, the report of worker 0: as many
-//! units as the limit in force says, with the rows at which the theory branched; or where a number
-//! left the range; or want of memory.
+//! A worker has a number. Worker 0 keeps all clauses, and without a limit what it learns costs no
+//! unit. The others forget long clauses, and all that they learn are units.
+//!
+//! A report shows as many units as the limit in force says, with the rows at which the theory
+//! branched; or where a number left the range; or want of memory. It takes no memory.
 //!
 //! A unit is a learnt clause that follows at the depth of the stack and that nothing before it
-//! forces; an atom of the check that is none of the stack's and wasn't numbered before; or, under a
-//! limit, a pivot by Bland's rule in a row over atoms of the check, of another basic variable than
-//! that before it.
+//! forces, of clauses learnt by workers but worker 0 those of at most 8 literals; an atom of the
+//! check that is none of the stack's and wasn't numbered before; or, under a limit, a pivot by
+//! Bland's rule in a row over atoms of the check, of another basic variable than that before it.
 //!
-//! `refused`: the answer to a check whose atoms are refused. The report shows the part or the pair
-//! of parts whose folding left the range, and want of memory only where memory was wanting; so too
-//! on a stack with a numeral outside the range, which no commands make.
+//! `out_of_memory`, `out_of_range`, `refused`: the reports of a worker that didn't come to search.
+//! Where its atoms are refused the report shows the part or the pair of parts whose folding left
+//! the range, and want of memory only where memory was wanting; so too on a stack with a numeral
+//! outside the range, which no commands make.
 #![tactic(auto)]
 
 mod decide;
@@ -24,13 +28,11 @@ mod ending;
 mod equalities;
 mod limits;
 mod numerals;
+mod outcome;
 mod plain;
 mod report;
 mod shown;
-mod still;
 
-pub use decide::search;
-pub use ending::out_of_range;
+pub use outcome::{Answer, Outcome};
 pub use plain::nothing_leaves_range;
-pub use report::refused;
-pub use shown::unknown;
+pub use report::{out_of_memory, out_of_range, refused};

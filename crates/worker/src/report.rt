@@ -1,21 +1,22 @@
-//! The report.
-ghost use Rattle.std.specs.Prelude.{◌≡◌, [], ◌∷◌, List, All, IsTrue, IfOk};
+//! The reports of workers that don't come to search.
+ghost use Rattle.std.specs.Prelude.{◌≡◌, [], All, IsTrue};
 ghost use Rattle.smt_meaning.specs.Term.{Tree};
-ghost use Rattle.smt_meaning.specs.Report.{Shows};
+ghost use Rattle.smt_meaning.specs.declared.reports.Cause.TheVariants.{Memory as OfMemory};
+ghost use Rattle.smt_meaning.specs.Report.{IsPastRange, Shows};
+ghost use Rattle.smt_laws.specs.Flat.{flat};
 ghost use Rattle.smt_laws.specs.Numerals.{numerals_fit};
-ghost use Rattle.theory_port.specs.Verdicts.{IsVerdict};
 ghost use Rattle.check_atoms.specs.OfStack.{IsRefused};
-ghost use Rattle.worker.specs.Endings.{MemoryAloneEnds};
-ghost use Rattle.worker.specs.Causes.{pair_seen, cause_of, only_report};
+ghost use Rattle.worker.specs.Outcome.{IsReportOf, ReportsMemory};
+ghost use Rattle.worker.specs.Causes.{pair_seen, cause_of};
 
 use crate::nothing_leaves_range;
 use crate::numerals::numerals_fit;
 use bound_clauses::{Order, Sense};
 use check_atoms::{Refusal, lawful_pairs_leave_range, refused_term_leaves_range};
 use scope_stack::Stack;
+use smt_laws::flat_says_the_same;
 use smt_meaning::{Cause, RangeSeen, Report, Seq, Settings, TermId};
-use std::alloc::{AllocError, Global};
-use theory_port::Verdict;
+use std::alloc::Global;
 
 /// What a refused pair shows.
 fn pair_seen(part: TermId, order: Order) -> RangeSeen
@@ -37,46 +38,71 @@ fn cause_of(refusal: Refusal) -> Cause
     }
 }
 
-/// The answer whose one worker shows a cause.
-fn unknown(
+/// The report of a worker that never branched, which shows a cause.
+fn plain_report(
     alloc: Global,
     stack: &Stack,
     settings: &Settings,
+    worker: u8,
     cause: Cause,
-) -> Result<Verdict, AllocError>
-    requires { Shows stack.now.trees stack.now.frames settings.now.units 0 [] cause }
-    ensures verdict { IfOk result (IsVerdict stack.now.trees stack.now.frames settings.now.units) }
-    ensures only { IfOk result (λ v. v ≡ only_report cause) }
+) -> Report
+    requires { Shows stack.now.trees stack.now.frames settings.now.units worker [] cause }
+    ensures report { IsReportOf stack.now settings.now.units worker result }
+    ensures cause { result.cause ≡ cause }
 {
-    let mut reports = Seq::new(alloc);
-    let branches = Seq::new(alloc);
-    reports.push(Report {
-        worker: 0,
+    Report {
+        worker,
         cause,
-        branches,
-    })?;
-    Ok(Verdict::Unknown(reports))
+        branches: Seq::new(alloc),
+    }
 }
 
-/// The answer to a check whose atoms aren't numbered: its one worker shows where folding left the range, or that memory was wanting. On a stack with a numeral
-/// outside the range, which no commands make, it shows want of memory. Without a limit and without an Int it shows want of memory alone. An `Err` is for want of memory.
+/// The report of a worker where memory is wanting. It takes none.
+pub fn out_of_memory(alloc: Global, stack: &Stack, settings: &Settings, worker: u8) -> Report
+    ensures report { IsReportOf stack.now settings.now.units worker result }
+    ensures memory { result.cause ≡ OfMemory }
+{
+    plain_report(alloc, stack, settings, worker, Cause::Memory)
+}
+
+/// The report of a worker that begins no search, since a number leaves the range before: it shows where.
+pub fn out_of_range(
+    alloc: Global,
+    stack: &Stack,
+    settings: &Settings,
+    worker: u8,
+    seen: RangeSeen,
+) -> Report
+    requires { IsPastRange stack.now.trees (flat stack.now.frames) [] seen }
+    ensures report { IsReportOf stack.now settings.now.units worker result }
+    ensures memory { ReportsMemory stack.now.frames settings.now.units result }
+{
+    stack.laws();
+    flat_says_the_same();
+    nothing_leaves_range();
+    plain_report(alloc, stack, settings, worker, Cause::Range(seen))
+}
+
+/// The report of a worker whose atoms aren't numbered: it shows where folding left the range, or that memory was wanting. On a stack with a numeral outside the range, which no commands make, it shows
+/// want of memory. Without a limit and without an Int it shows want of memory alone.
 pub fn refused(
     alloc: Global,
     stack: &Stack,
     settings: &Settings,
+    worker: u8,
     refusal: Refusal,
-) -> Result<Verdict, AllocError>
+) -> Report
     requires { IsRefused stack.now refusal }
-    ensures verdict { IfOk result (IsVerdict stack.now.trees stack.now.frames settings.now.units) }
-    ensures cause { All (λ (t : Tree). IsTrue (numerals_fit t)) stack.now.trees → IfOk result (λ v. v ≡ only_report (cause_of refusal)) }
-    ensures memory { IfOk result (MemoryAloneEnds stack.now.frames settings.now.units) }
+    ensures report { IsReportOf stack.now settings.now.units worker result }
+    ensures cause { All (λ (t : Tree). IsTrue (numerals_fit t)) stack.now.trees → result.cause ≡ cause_of refusal }
+    ensures memory { ReportsMemory stack.now.frames settings.now.units result }
 {
     stack.laws();
     nothing_leaves_range();
     refused_term_leaves_range();
     lawful_pairs_leave_range();
     if !numerals_fit(stack.terms()) {
-        return unknown(alloc, stack, settings, Cause::Memory);
+        return out_of_memory(alloc, stack, settings, worker);
     }
-    unknown(alloc, stack, settings, cause_of(refusal))
+    plain_report(alloc, stack, settings, worker, cause_of(refusal))
 }

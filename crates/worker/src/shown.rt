@@ -1,24 +1,15 @@
-//! What the one worker shows of the units that it has spent.
-ghost use Rattle.std.specs.Prelude.{◌≡◌, ◌<◌, ℤ, List, length, map, All, IfOk};
+//! Clauses and units with their atoms written out.
+ghost use Rattle.std.specs.Prelude.{◌≡◌, ◌<◌, length, map, All, IfOk};
 ghost use Rattle.literals.specs.Signed.{Signed};
-ghost use Rattle.smt_meaning.specs.Term.{Tree};
-ghost use Rattle.smt_meaning.specs.Stack.{Frame};
-ghost use Rattle.smt_meaning.specs.declared.reports.Cause.TheVariants.{Memory};
-ghost use Rattle.smt_meaning.specs.Report.{Shows};
-ghost use Rattle.theory_port.specs.Verdicts.{IsVerdict};
-ghost use Rattle.worker.specs.Endings.{EndsByMemory};
 ghost use Rattle.worker.specs.Shown.{clause_of, unit_of, IsOfNumbers};
 
-use fraction128::Line;
 use literals::Literal as Packed;
-use scope_stack::Stack;
-use search_port::{Shown, Spent};
-use smt_meaning::{Cause, Clause, Literal, Report, Seq, Settings, Unit};
+use search_port::{Named, Spent};
+use smt_meaning::{Clause, Literal, Seq, Unit};
 use std::alloc::{AllocError, Global};
-use theory_port::Verdict;
 
 /// A clause over numbers, with its atoms written out.
-fn write_clause<T: Shown>(
+pub(crate) fn write_clause<T: Named>(
     alloc: Global,
     theory: &T,
     level: u16,
@@ -41,7 +32,7 @@ fn write_clause<T: Shown>(
 }
 
 /// A unit with its atoms written out.
-fn write_unit<T: Shown>(
+fn write_unit<T: Named>(
     alloc: Global,
     theory: &T,
     level: u16,
@@ -63,7 +54,7 @@ fn write_unit<T: Shown>(
 }
 
 /// The units with their atoms written out, in order.
-pub(crate) fn write_units<T: Shown>(
+pub(crate) fn write_units<T: Named>(
     alloc: Global,
     theory: &T,
     level: u16,
@@ -77,31 +68,4 @@ pub(crate) fn write_units<T: Shown>(
         written.push(write_unit(alloc, theory, level, unit)?)?;
     }
     Ok(written)
-}
-
-/// The report of the one worker, with its branches.
-pub(crate) fn report(
-    alloc: Global,
-    cause: Cause,
-    branches: Seq<Line>,
-) -> Result<Verdict, AllocError>
-    ensures verdict { (ts : List Tree) (frames : List Frame) (limit : ℤ) → Shows ts frames limit 0 branches cause → IfOk result (IsVerdict ts frames limit) }
-    ensures memory { cause ≡ Memory → IfOk result EndsByMemory }
-{
-    let mut reports = Seq::new(alloc);
-    reports.push(Report {
-        worker: 0,
-        cause,
-        branches,
-    })?;
-    Ok(Verdict::Unknown(reports))
-}
-
-/// The answer that is left where memory is wanting: its one worker shows so.
-pub fn unknown(alloc: Global, stack: &Stack, settings: &Settings) -> Result<Verdict, AllocError>
-    ensures verdict { IfOk result (IsVerdict stack.now.trees stack.now.frames settings.now.units) }
-    ensures memory { IfOk result EndsByMemory }
-{
-    let branches = Seq::new(alloc);
-    report(alloc, Cause::Memory, branches)
 }

@@ -1,12 +1,15 @@
-use Rattle.std.proofs.Common.{subst, sym, ap, [], false}
+use Rattle.std.proofs.Common.{subst, sym, ap, [], false, All, refl}
+use Rattle.std.proofs.lemmas.List.Elements.{All-nil}
 use Rattle.search_port.specs.State.{Reading, TheoryState, IsGrown}
 use Rattle.search_port.specs.Spending.{Spending}
 use Rattle.search_port.specs.declared.budget.Cause.{Cause}
 use Rattle.smt_laws.specs.Flat.{flat}
 use Rattle.first_clauses.specs.CheckClausesFirst.{reading_of}
-use Rattle.cdcl_core.specs.Turns.{EndsSearch, NoHook}
-use Rattle.worker.proofs.Deciding.{fresh, heard, tables_for, holds}
+use Rattle.cdcl_core.specs.Search.{IsAddable}
+use Rattle.cdcl_core.specs.Turns.{EndsSearch}
+use Rattle.worker.proofs.Deciding.{fresh, heard, heard_from, tables_for, holds, unstopped}
 use Rattle.worker.proofs.Showing.{budget_of, frames_stay, of_numbers, shows_units, trees_stay}
+use Rattle.worker.proofs.Units.{of_worker}
 use Rattle.worker.proofs.decide.search.Goals as goal
 
 pub solve-requires-clause-stands : goal.solve-requires-clause-stands
@@ -19,7 +22,13 @@ pub solve-requires-clause-heard : goal.solve-requires-clause-heard
 solve-requires-clause-heard g c =
     let s = c.args.stack.now in
     let before : Reading = (g.T.Theory.state c.args.theory).reading in
-    subst (IsGrown (record { trees = s.trees; frames = flat s.frames; table = []; closed = false })) (sym c.requires.reading) (heard s before.table)
+    subst (λ (r : Reading). IsGrown r before) (sym c.requires.hooked)
+    (subst (IsGrown (record { trees = s.trees; frames = flat s.frames; table = []; closed = false })) (sym c.requires.reading) (heard s before.table))
+
+pub solve-requires-clause-shorts : goal.solve-requires-clause-shorts
+solve-requires-clause-shorts g c =
+    let before : Reading = (g.T.Theory.state c.args.theory).reading in
+    subst (λ (b : Spending). All (IsAddable before) b.short) (sym c.new-budget.ensures) (All-nil (IsAddable before))
 
 pub model-requires-clause-tables : goal.model-requires-clause-tables
 model-requires-clause-tables g c =
@@ -37,8 +46,11 @@ model-requires-clause-holds g c =
     let grown : IsGrown (reading_of s before.table) after = subst (λ (r : Reading). IsGrown r after) c.requires.reading c.in-Full.ensures.run.turns.grown in
     holds c.first_clauses_say_assertions.ensures s before.table c.args.store after c.solve.new.store.clauses c.in-Full.tables c.requires.first grown c.in-Full.ensures.run.stay c.in-Full.ensures.outcome
 
-pub returns-in-False-clause-verdict : goal.returns-in-False-clause-verdict
-returns-in-False-clause-verdict g c =
+pub returns-in-Full-clause-found : goal.returns-in-Full-clause-found
+returns-in-Full-clause-found g c = unstopped c.args.stack.now c.args.settings.now.units c.args.worker (g.H.Hook.stopped c.solve.new.hook) _ c.model.ensures.found
+
+pub returns-in-False-clause-found : goal.returns-in-False-clause-found
+returns-in-False-clause-found g c =
     let s = c.args.stack.now in
     let before : Reading = (g.T.Theory.state c.args.theory).reading in
     let after : Reading = (g.T.Theory.state c.solve.new.theory).reading in
@@ -62,10 +74,11 @@ pub all_spent-requires-clause-spent : goal.all_spent-requires-clause-spent
 all_spent-requires-clause-spent g c =
     let s = c.args.stack.now in
     let after : TheoryState = g.T.Theory.state c.solve.new.theory in
-    shows_units (record { as_written = c.follows_as_written.ensures; by_numbers = c.forces_by_numbers.ensures; in_turn = c.forces_in_turn.ensures; flatly = c.flat_says_the_same.ensures }) s c.args.store
+    shows_units c.args.worker _ (of_worker c.args.worker _ refl)
+    (record { as_written = c.follows_as_written.ensures; by_numbers = c.forces_by_numbers.ensures; in_turn = c.forces_in_turn.ensures; flatly = c.flat_says_the_same.ensures }) s c.args.store
     c.solve.new.store c.laws.ensures c.args.settings.now.units (g.T.Theory.state c.args.theory) after c.new-budget.result c.solve.new.budget c.requires.first c.requires.all c.requires.reading c.requires.basis
-    (budget_of c.args.settings.now.units c.new-budget.result c.units_within-limit.result _ c.new-budget.ensures c.units_within-limit.ensures c.has_limit-limited.ensures) c.in-Ended-Units.ensures.run
-    (subst (λ (e : Cause). EndsSearch after.reading c.solve.new.budget NoHook e) c.in-Ended-Units.field-0-is c.in-Ended-Units.ensures.outcome)
+    (budget_of c.args.settings.now.units c.new-budget.result c.units_within-limit.result _ _ _ c.new-budget.ensures c.units_within-limit.ensures c.has_limit-limited.ensures) c.in-Ended-Units.ensures.run
+    (subst (λ (e : Cause). EndsSearch after.reading c.solve.new.budget (g.H.Hook.stopped c.solve.new.hook) e) c.in-Ended-Units.field-0-is c.in-Ended-Units.ensures.outcome)
 
 pub stopped-requires-clause-trees : goal.stopped-requires-clause-trees
 stopped-requires-clause-trees g c =
@@ -74,3 +87,23 @@ stopped-requires-clause-trees g c =
 pub stopped-requires-clause-frames : goal.stopped-requires-clause-frames
 stopped-requires-clause-frames g c =
     frames_stay c.args.stack.now (g.T.Theory.state c.args.theory).reading (g.T.Theory.state c.solve.new.theory).reading c.requires.reading c.in-Ended-Memory.ensures.run.turns.grown
+
+pub returns-in-Full-clause-heard : goal.returns-in-Full-clause-heard
+returns-in-Full-clause-heard g c = heard_from _ _ _ _ _ c.new-budget.result c.solve.new.budget c.new-budget.ensures c.in-Full.ensures.heard
+
+pub returns-in-False-clause-heard : goal.returns-in-False-clause-heard
+returns-in-False-clause-heard g c = heard_from _ _ _ _ _ c.new-budget.result c.solve.new.budget c.new-budget.ensures c.in-False.ensures.heard
+
+pub returns-in-Ended-Units-clause-heard : goal.returns-in-Ended-Units-clause-heard
+returns-in-Ended-Units-clause-heard g c = heard_from _ _ _ _ _ c.new-budget.result c.solve.new.budget c.new-budget.ensures c.in-Ended-Units.ensures.heard
+
+pub returns-in-Ended-Memory-clause-heard : goal.returns-in-Ended-Memory-clause-heard
+returns-in-Ended-Memory-clause-heard g c = heard_from _ _ _ _ _ c.new-budget.result c.solve.new.budget c.new-budget.ensures c.in-Ended-Memory.ensures.heard
+
+pub returns-in-Ended-Cancelled-clause-heard : goal.returns-in-Ended-Cancelled-clause-heard
+returns-in-Ended-Cancelled-clause-heard g c = heard_from _ _ _ _ _ c.new-budget.result c.solve.new.budget c.new-budget.ensures c.in-Ended-Cancelled.ensures.heard
+
+pub returns-in-Ended-Cancelled-clause-found : goal.returns-in-Ended-Cancelled-clause-found
+returns-in-Ended-Cancelled-clause-found g c =
+    let after : TheoryState = g.T.Theory.state c.solve.new.theory in
+    subst (λ (e : Cause). EndsSearch after.reading c.solve.new.budget (g.H.Hook.stopped c.solve.new.hook) e) c.in-Ended-Cancelled.field-0-is c.in-Ended-Cancelled.ensures.outcome

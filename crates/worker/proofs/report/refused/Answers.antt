@@ -6,10 +6,10 @@ use Rattle.smt_laws.specs.Numerals.{numerals_fit}
 use Rattle.worker.proofs.RefusalShown.{shown}
 use Rattle.worker.proofs.report.refused.Goals as goal
 
-pub unknown-requires-2 : goal.unknown-requires-2
-unknown-requires-2 c =
+pub plain_report-requires : goal.plain_report-requires
+plain_report-requires c =
     let s = c.args.stack.now in
     let numerals : All (λ (t : Tree). IsTrue (numerals_fit t)) s.trees =
     subst (All (λ (t : Tree). IsTrue (numerals_fit t))) c.terms.ensures.trees (c.if-not-numerals_fit.ensures.yes refl) in
-    subst (Shows s.trees s.frames c.args.settings.now.units 0 []) (sym c.cause_of.ensures)
-    (shown c.refused_term_leaves_range.ensures c.lawful_pairs_leave_range.ensures s c.args.settings.now.units c.args.refusal c.laws.ensures numerals c.requires)
+    subst (Shows s.trees s.frames c.args.settings.now.units c.args.worker []) (sym c.cause_of.ensures)
+    (shown c.refused_term_leaves_range.ensures c.lawful_pairs_leave_range.ensures s c.args.settings.now.units c.args.worker c.args.refusal c.laws.ensures numerals c.requires)
