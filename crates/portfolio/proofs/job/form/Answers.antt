@@ -3,10 +3,10 @@ use Rattle.smt_meaning.specs.declared.clauses.Atom.{Atom}
 use Rattle.search_port.specs.State.{Reading}
 use Rattle.check_atoms.specs.declared.atoms.CheckAtoms.{CheckAtoms}
 use Rattle.check_atoms.specs.Laws.{IsSameOfNoInts}
-use Rattle.whole_decider.proofs.decider.check.Goals as goal
+use Rattle.portfolio.proofs.job.form.Goals as goal
 
-pub search-requires-clause-all : goal.search-requires-clause-all
-search-requires-clause-all c =
+pub run-requires-clause-all : goal.run-requires-clause-all
+run-requires-clause-all g c =
     let s = c.args.stack.now in
     let first = c.atoms_are_first.ensures s c.in-Ok.parts.marks.items c.in-Ok.parts.atoms.atoms c.laws.ensures c.in-Ok.ensures.parts c.in-Ok.ensures.atoms in
     λ a among.

@@ -1,0 +1,4 @@
+pub mod Ends
+pub mod Taken
+pub mod Jobs
+pub mod Tallies

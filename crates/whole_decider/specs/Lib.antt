@@ -1,2 +1,0 @@
-pub mod Boolean
-pub mod Taken
