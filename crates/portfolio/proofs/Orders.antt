@@ -1,8 +1,8 @@
 -- Lists of passes, jobs and claims, in the order of their workers.
-use Rattle.std.proofs.Common.{◌≡◌, ℕ, zero, suc, ◌+◌, ◌<◌, List, [], ◌∷◌, ◌++◌, map, length, get_or, sym, refl, ap, ◌∙◌, subst, arith, All}
+use Rattle.std.proofs.Common.{◌≡◌, ℕ, zero, suc, ◌+◌, ◌<◌, List, [], ◌∷◌, ◌++◌, map, length, get_or, take, drop, sym, refl, ap, ◌∙◌, subst, arith, All}
 use Rattle.std.specs.Prelude.{reverse, ℤ, Some, IsSomeAnd}
 use Rattle.std.specs.List.{range_with_len}
-use Rattle.std.proofs.lemmas.List.{append_assoc, map-append, reverse-append, length-append}
+use Rattle.std.proofs.lemmas.List.{append_assoc, append-nil, map-append, reverse-append, length-append, take_all, drop_all}
 use Rattle.std.proofs.Math.ListN.{get_or-append}
 use Rattle.std.proofs.Math.Seq.{get_or-append_seam}
 use Rattle.atomic_table.specs.Seated.{TableId}
@@ -30,6 +30,10 @@ module _ {X : Type 0} (f : X → ℕ) where
   same_map (x ∷ xs) (y ∷ ys) e h =
       ap (λ n. n ∷ map f ys) (h 0 x (omega arith)) ∙ ap (λ l. f x ∷ l) (same_map xs ys (omega (arith, e)) (λ i d lt. h (suc i) d (omega arith)))
 
+-- a slice of a whole list goes back to its place
+pub written_back : {X : Type 0} (xs ys : List X) (n : ℕ) → length ys ≡ length xs → length xs ≡ n → take n (ys ++ drop (length ys) xs) ≡ ys
+written_back xs ys n e f = ap (λ l. take n (ys ++ l)) (drop_all (length ys) xs (omega (arith, e))) ∙ (ap (take n) (append-nil ys) ∙ take_all n ys (omega (arith, e, f)))
+
 -- the last of one list comes to the front of the other, which is read backwards
 pub moves : (ws us vs : List ℕ) (w : ℕ) → ws ≡ us ++ w ∷ [] → us ++ reverse (vs ++ w ∷ []) ≡ ws ++ reverse vs
 moves ws us vs w e = ap (λ l. us ++ l) (reverse-append vs (w ∷ [])) ∙ sym (append_assoc us (w ∷ []) (reverse vs)) ∙ ap (λ l. l ++ reverse vs) (sym e)
@@ -43,24 +47,20 @@ fresh_workers : (w k : ℕ) → map claim_worker (fresh_from w k) ≡ range_with
 fresh_workers w zero = refl
 fresh_workers w (suc k) = let e : suc w ≡ w + 1 = omega arith in ap (λ l. w ∷ l) (fresh_workers (suc w) k ∙ ap (λ n. range_with_len n k) e)
 
+first_in_order : (c : Claim) (cs : List Claim) (w : ℕ) → c.worker ≡ w → ((i : ℕ) (d : Claim) → i < length cs → (get_or cs i d).worker ≡ (w + 1) + i)
+    → (i : ℕ) (d : Claim) → i < length (c ∷ cs) → (get_or (c ∷ cs) i d).worker ≡ w + i
+first_in_order c cs w first rest zero d lt = let e : w ≡ w + zero = omega arith in first ∙ e
+first_in_order c cs w first rest (suc i) d lt = let e : (w + 1) + i ≡ w + suc i = omega arith in rest i d (omega arith) ∙ e
+
 in_order_from : (cs : List Claim) (w n : ℕ) → map claim_worker cs ≡ range_with_len w n → (length cs ≡ n) × ((i : ℕ) (d : Claim) → i < length cs → (get_or cs i d).worker ≡ w + i)
 in_order_from [] w zero e = (refl, λ i d lt. absurd (omega arith))
 in_order_from [] w (suc n) e = cc
 in_order_from (c ∷ cs) w zero e = cc
-in_order_from (c ∷ cs) w (suc n) e = (ap suc rest.0, at)
-  where
-    first : c.worker ≡ w
-    first = cc
-
-    tail : map claim_worker cs ≡ range_with_len (w + 1) n
-    tail = cc
-
-    rest : (length cs ≡ n) × ((i : ℕ) (d : Claim) → i < length cs → (get_or cs i d).worker ≡ (w + 1) + i)
-    rest = in_order_from cs (w + 1) n tail
-
-    at : (i : ℕ) (d : Claim) → i < length (c ∷ cs) → (get_or (c ∷ cs) i d).worker ≡ w + i
-    at zero d lt = omega (arith, first)
-    at (suc i) d lt = let r = rest.1 i d (omega arith) in omega (arith, r)
+in_order_from (c ∷ cs) w (suc n) e =
+    let first : c.worker ≡ w = cc in
+    let tail : map claim_worker cs ≡ range_with_len (w + 1) n = cc in
+    let rest = in_order_from cs (w + 1) n tail in
+    (ap suc rest.0, first_in_order c cs w first rest.1)
 
 pub in_order : (cs : List Claim) (n : ℕ) → map claim_worker cs ≡ range_with_len 0 n → (length cs ≡ n) × AreInOrder cs
 in_order cs n e = let h = in_order_from cs 0 n e in (h.0, λ i d lt. (let r = h.1 i d lt in omega (arith, r)))

@@ -68,8 +68,8 @@ module _ (s : Stack) (limit : ℤ) where
         ap (map report_worker) r
         ∙ (map-append report_worker t.reports.items (x ∷ [])
         ∙ (ap (λ l. l ++ x.worker ∷ []) (h.complete (sym e ∙ none) (sym w ∙ nobody))
-        ∙ (ap (λ n. map claim_worker cs ++ n ∷ []) k.1 ∙ sym (map-append claim_worker cs (c ∷ [])))));
-    shown = subst (All (IsShown s limit)) (sym r) (All-push (IsShown s limit) t.reports.items x h.shown (subst (λ v. Shows s.trees s.frames limit v x.branches x.cause) (sym k.1) k.2));
+        ∙ (ap (λ n. map claim_worker cs ++ n ∷ []) k.1.0 ∙ sym (map-append claim_worker cs (c ∷ [])))));
+    shown = subst (All (IsShown s limit)) (sym r) (All-push (IsShown s limit) t.reports.items x h.shown (subst (λ v. Shows s.trees s.frames limit v x.branches x.cause) (sym k.1.0) k.1.1));
     memory = λ free unlimited. subst (All IsOfMemory) (sym r) (All-push IsOfMemory t.reports.items x (h.memory free unlimited) (m free unlimited));
   }
 
