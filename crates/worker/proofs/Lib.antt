@@ -1,3 +1,4 @@
+pub mod Carried
 pub mod Deciding
 pub mod Free
 pub mod Lists
@@ -5,6 +6,7 @@ pub mod Numbers
 pub mod Ranges
 pub mod SameStack
 pub mod Showing
+pub mod Steps
 pub mod Units
 mod Fitting
 mod RefusalShown

@@ -2,3 +2,5 @@ pub mod Endings
 pub mod Outcome
 pub mod Shown
 pub mod Causes
+pub mod Racing
+pub mod Import

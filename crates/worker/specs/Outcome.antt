@@ -9,6 +9,7 @@ use Rattle.smt_meaning.specs.Report.{Shows, is_unlimited}
 use Rattle.smt_meaning.specs.Model.{IsModel}
 use Rattle.race_cell.specs.declared.action.Action.TheVariants.{Win}
 use Rattle.race_cell.specs.declared.view.Claim.{Claim}
+use Rattle.worker.specs.declared.outcome.Answer.{Answer as AnswerValue}
 use Rattle.worker.specs.declared.outcome.Answer.TheVariants.{Sat, Unsat}
 use Rattle.worker.specs.declared.outcome.Outcome.{Outcome}
 use Rattle.worker.specs.declared.outcome.Outcome.TheVariants.{Answer, Report, Cancelled}
@@ -20,6 +21,11 @@ HasWon c = Contains c.own (Win c.worker)
 -- the report is this worker's, and shows why it found no answer
 abbrev pub IsReportOf : Stack → ℤ → ℕ → ReportValue → Type 0
 IsReportOf s limit w r = (r.worker ≡ w) × Shows s.trees s.frames limit w r.branches r.cause
+
+-- the answer is right
+abbrev pub IsRight : Stack → AnswerValue → Type 0
+IsRight s (Sat i) = IsModel s.frames i
+IsRight s Unsat = HasNoModel s.frames
 
 -- An answer is right, and comes exactly with a win. Who has not won shows why, or has read who has.
 abbrev pub IsOutcome : Stack → ℤ → Claim → Outcome → Type 0

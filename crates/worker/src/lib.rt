@@ -9,6 +9,11 @@
 //! A worker has a number. Worker 0 keeps all clauses, and without a limit what it learns costs no
 //! unit. The others forget long clauses, and all that they learn are units.
 //!
+//! `first_turn`, `run`: a worker's part in a race over the stack. Between two units it looks whether
+//! another has won, shares its next short clause at the depth of the stack, and takes a batch: of
+//! the clauses of others each whose atoms it has numbered, unless an atom stands there with both
+//! signs. It has an answer exactly where it won; else it shows why it has none, or has read who won.
+//!
 //! A report shows as many units as the limit in force says, with the rows at which the theory
 //! branched; or where a number left the range; or want of memory. It takes no memory.
 //!
@@ -26,13 +31,18 @@
 mod decide;
 mod ending;
 mod equalities;
+mod export;
+mod import;
 mod limits;
 mod numerals;
 mod outcome;
 mod plain;
+mod racer;
+mod racing;
 mod report;
 mod shown;
 
 pub use outcome::{Answer, Outcome};
 pub use plain::nothing_leaves_range;
+pub use racing::{first_turn, run};
 pub use report::{out_of_memory, out_of_range, refused};
