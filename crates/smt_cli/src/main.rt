@@ -13,5 +13,5 @@ use smt_program::start;
 use std::process::ExitCode;
 
 fn main(rt: HostRuntime) -> ExitCode {
-    start(&rt)
+    start(&rt, &rt)
 }

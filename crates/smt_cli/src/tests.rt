@@ -1,3 +1,4 @@
 mod cuts;
 mod program;
+mod races;
 mod runs;

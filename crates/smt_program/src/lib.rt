@@ -31,10 +31,12 @@ use smt_words::WordsError;
 use std::alloc::Global;
 use std::env;
 use std::process::ExitCode;
+use std::thread::Threads;
 pub use words::words_of;
 
 /// Runs the script that the source gives, where there are words of the command line. No entry is kept, so that a run may be as long as it likes.
-fn serve<S: Source, K: Sink>(
+fn serve<R: Threads + Sync, S: Source, K: Sink>(
+    rt: &R,
     alloc: Global,
     words: &Result<Vec<String>, WordsError>,
     source: &mut S,
@@ -45,6 +47,7 @@ fn serve<S: Source, K: Sink>(
 {
     match words {
         Ok(words) => run_through(
+            rt,
             alloc,
             1 << 40,
             words,
@@ -82,7 +85,8 @@ fn conclude<E: Sink>(errors: &mut E, outcome: Outcome) -> ExitCode
 /// The whole program between its ends: a run of the script that the source gives, under the words
 /// of the command line, with the replies in the sink and a line on why it ended among the errors.
 /// The code is the run's status.
-pub fn program<S: Source, K: Sink, E: Sink>(
+pub fn program<R: Threads + Sync, S: Source, K: Sink, E: Sink>(
+    rt: &R,
     alloc: Global,
     words: &Result<Vec<String>, WordsError>,
     source: &mut S,
@@ -94,15 +98,22 @@ pub fn program<S: Source, K: Sink, E: Sink>(
         × (exit_status result ≡ ended.status)
         × IsSaid (line_of ended.note) (E.told errors.old) (E.told errors.new) }
 {
-    let outcome = serve(alloc, words, source, sink);
+    let outcome = serve(rt, alloc, words, source, sink);
     conclude(errors, outcome)
 }
 
-/// The program over the standard streams.
-pub fn start(rt: &HostRuntime) -> ExitCode {
+/// The program over the standard streams. The workers of its checks are in threads of the handle.
+pub fn start<R: Threads + Sync>(threads: &R, rt: &HostRuntime) -> ExitCode {
     let words = words_of(rt.alloc(), env::args(rt));
     let mut source = ReadSource::new(rt.stdin());
     let mut sink = WriteSink::new(rt.stdout());
     let mut errors = WriteSink::new(rt.stderr());
-    program(rt.alloc(), &words, &mut source, &mut sink, &mut errors)
+    program(
+        threads,
+        rt.alloc(),
+        &words,
+        &mut source,
+        &mut sink,
+        &mut errors,
+    )
 }

@@ -1,4 +1,4 @@
 pub mod Ledgers
 pub mod Progress
 pub mod Ended
-pub use Rattle.whole_decider.specs.Taken
+pub use Rattle.portfolio.specs.Taken

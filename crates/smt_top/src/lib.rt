@@ -18,9 +18,10 @@
 //! `sat` stands only with a kept model that makes every assertion true, with every number on the
 //! way in the range; `unsat` only where no interpretation does.
 //!
-//! `unknown` stands only with a kept report, which shows as many new units of the search as the
-//! limit in force says, where a number left the range, or that memory was wanting. Every other
-//! command has exactly the reply, and leaves exactly the state, that the definitions say.
+//! `unknown` stands only with a kept report of each of the workers that the words say. Each shows
+//! as many new units of its search as the limit in force says, where a number left the range, or
+//! that memory was wanting. Every other command has exactly the reply, and leaves exactly the state,
+//! that the definitions say.
 //!
 //! Status 2 comes only where the words are refused, and where they are nothing is read, written or
 //! answered (the status is then 2, or 5 for want of memory); 3 and 4 come only where the source's

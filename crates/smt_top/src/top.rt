@@ -1,6 +1,6 @@
 //! A run from its words to its status: pieces are taken from the source, and whatever they settle
 //! is answered before the next is asked for.
-ghost use Rattle.std.specs.Prelude.{◌≡◌, ◌≤◌, ◌<◌, ◌↔◌, ◌^◌, ◌+◌, [], List, ℕ, length, map, IsTrue, IfErr, OnOk, Some, false, string_bytes};
+ghost use Rattle.std.specs.Prelude.{◌≡◌, ◌≤◌, ◌<◌, ◌↔◌, ◌^◌, ◌+◌, [], List, ℕ, length, map, IsTrue, IfErr, IfOk, OnOk, Some, false, string_bytes};
 ghost use Rattle.smt_meaning.specs.declared.settings.Settings.{Settings as SettingsValue};
 ghost use Rattle.smt_meaning.specs.declared.answers.Entry.{Entry as EntryValue};
 ghost use Rattle.smt_meaning.specs.LegalJournal.{journal_text};
@@ -9,20 +9,23 @@ ghost use Rattle.smt_meaning.specs.State.{start};
 ghost use Rattle.smt_words.specs.Words.{are_taken, generated_of};
 ghost use Rattle.smt_words.specs.declared.Generated.{Generated as GeneratedValue};
 ghost use Rattle.script_gen.specs.Script.{script as made};
-ghost use Rattle.whole_decider.specs.Taken.{every_stack};
+ghost use Rattle.portfolio.specs.Taken.{every_stack};
+ghost use Rattle.theory_port.specs.Verdicts.{IsVerdict};
 ghost use Rattle.smt_top.specs.Progress.{Advances, CutOff, Driven, Ends, NoneSettled, SoFar, Tallies, at_source, between, run_of};
 ghost use Rattle.smt_top.specs.Ended.{IsUnbegun, MatchesStatus, RanThrough, RanUnder, StatusOf, made_of};
 
 use crate::ledger::Ledger;
 use crate::serving::{Server, Stage, Stop};
+use portfolio::{By, check};
 use ports::{Gate, More, Sink, Source};
+use scope_stack::Stack;
 use script_gen::script;
-use smt_meaning::Seq;
 use smt_meaning::language::Entry;
+use smt_meaning::{Seq, Settings};
 use smt_words::{Generated, Invocation, WordsError};
 use std::alloc::{AllocError, Global};
-use theory_port::Decider;
-use whole_decider::Whole;
+use std::thread::Threads;
+use theory_port::{Decider, Verdict};
 
 /// Why a run ended.
 #[derive(Clone, Copy, Debug, PartialEq, Eq, Drop)]
@@ -102,6 +105,7 @@ fn drive<S: Source, K: Sink, L: Ledger, D: Decider>(
     decider: &mut D,
     server: &mut Server,
 ) -> Result<Stage, Halt>
+    requires may { D.may decider.old }
     requires budget { budget ≤ 2 ^ 40 }
     requires begun { SoFar D.decides server.old.session.settings (between (S.told source.old) (K.told sink.old) (S.told source.old) (K.told sink.old)) 0 (run_of server.old []) }
     requires tally { Tallies server.old [] }
@@ -130,6 +134,7 @@ fn serve_made<K: Sink, L: Ledger, D: Decider>(
     decider: &mut D,
     server: &mut Server,
 ) -> Result<Stage, Halt>
+    requires may { D.may decider.old }
     requires size { (1 ≤ generated.size) × (generated.size ≤ 2000) }
     requires reader { server.old.reader ≡ record { place = 0; bytes = []; finished = false } }
     requires session { server.old.session ≡ start server.old.session.settings }
@@ -151,9 +156,11 @@ fn advance<K: Sink, L: Ledger, D: Decider>(
     decider: &mut D,
     server: &mut Server,
 ) -> Result<Stage, Halt>
+    requires may { D.may decider.old }
     requires numbered { server.old.count ≤ server.old.reader.place }
     requires room { server.old.reader.place + length server.old.reader.bytes + 1 < 2 ^ 64 }
-    ensures { Advances D.decides result server.old server.new sink.old sink.new (K.told sink.old) (K.told sink.new) (L.entries ledger.old) (L.entries ledger.new) }
+    ensures still { D.may decider.new }
+    ensures advances { Advances D.decides result server.old server.new sink.old sink.new (K.told sink.old) (K.told sink.new) (L.entries ledger.old) (L.entries ledger.new) }
 {
     let stage = server.serve(alloc, sink, ledger, decider)?;
     Ok(stage)
@@ -183,7 +190,8 @@ fn take_more<S: Source>(source: &mut S, buf: &mut [u8], server: &mut Server) -> 
 }
 
 /// Runs the script that the source gives, or with the word `gen` one that is made, and writes the replies to the sink: what a run comes to is said by `RanUnder`. The words are those of the command line, of which the first is the program's name; where they are refused, nothing is read or written.
-pub fn run<S: Source, K: Sink, G: Gate>(
+pub fn run<R: Threads + Sync, S: Source, K: Sink, G: Gate>(
+    rt: &R,
     alloc: Global,
     words: &Vec<String>,
     source: &mut S,
@@ -195,11 +203,12 @@ pub fn run<S: Source, K: Sink, G: Gate>(
     ensures unasked { (g : GeneratedValue) → generated_of (map string_bytes words.now.items) ≡ Some g → source.new ≡ source.old }
     ensures silent { journal_text result.journal ≡ [] → sink.new ≡ sink.old }
 {
-    run_within(alloc, 1 << 40, words, source, sink, gate)
+    run_within(rt, alloc, 1 << 40, words, source, sink, gate)
 }
 
 /// `run` with another budget of calls that ask for more input, where `run` has 2^40.
-pub fn run_within<S: Source, K: Sink, G: Gate>(
+pub fn run_within<R: Threads + Sync, S: Source, K: Sink, G: Gate>(
+    rt: &R,
     alloc: Global,
     budget: u64,
     words: &Vec<String>,
@@ -214,7 +223,7 @@ pub fn run_within<S: Source, K: Sink, G: Gate>(
     ensures silent { journal_text result.journal ≡ [] → sink.new ≡ sink.old }
 {
     let mut journal = Seq::new(alloc);
-    let outcome = run_through(alloc, budget, words, source, sink, gate, &mut journal);
+    let outcome = run_through(rt, alloc, budget, words, source, sink, gate, &mut journal);
     Ended {
         status: outcome.status,
         journal,
@@ -224,7 +233,8 @@ pub fn run_within<S: Source, K: Sink, G: Gate>(
 
 /// `run_within` through any ledger: the journal is that of its entries where it tells them, and there is one where it tells none.
 #[tactic(none)]
-pub fn run_through<S: Source, K: Sink, G: Gate, L: Ledger>(
+pub fn run_through<R: Threads + Sync, S: Source, K: Sink, G: Gate, L: Ledger>(
+    rt: &R,
     alloc: Global,
     budget: u64,
     words: &Vec<String>,
@@ -239,17 +249,30 @@ pub fn run_through<S: Source, K: Sink, G: Gate, L: Ledger>(
     ensures untouched { are_taken (map string_bytes words.now.items) ≡ false → (source.new ≡ source.old) × (sink.new ≡ sink.old) × (ledger.new ≡ ledger.old) }
     ensures unasked { (g : GeneratedValue) → generated_of (map string_bytes words.now.items) ≡ Some g → source.new ≡ source.old }
 {
-    let _ = gate;
+    #[tactic(auto)]
+    let race = |stack: &Stack, settings: &Settings| -> Result<Verdict, AllocError>
+        requires { 0 < settings.now.workers }
+        ensures { IfOk result (IsVerdict settings.now.workers stack.now.trees stack.now.frames settings.now.units) }
+    { check(rt, alloc, gate, stack, settings) };
+    let mut decider = By { f: race };
     match Invocation::from_words(alloc, words) {
         Ok(invocation) => match invocation.generated {
             None => {
                 let mut server = Server::new(alloc, &invocation.settings);
-                let end = drive(alloc, budget, source, sink, ledger, &mut Whole, &mut server);
+                let end = drive(
+                    alloc,
+                    budget,
+                    source,
+                    sink,
+                    ledger,
+                    &mut decider,
+                    &mut server,
+                );
                 finish(end, server.is_faulty)
             }
             Some(generated) => {
                 let mut server = Server::new(alloc, &invocation.settings);
-                let end = serve_made(alloc, generated, sink, ledger, &mut Whole, &mut server);
+                let end = serve_made(alloc, generated, sink, ledger, &mut decider, &mut server);
                 finish(end, server.is_faulty)
             }
         },

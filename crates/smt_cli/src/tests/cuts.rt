@@ -1,4 +1,9 @@
 //! What the commands of a run tell its decider to forget.
+ghost use Rattle.std.specs.Prelude.{◌<◌, IfOk};
+ghost use Rattle.theory_port.specs.Verdicts.{IsVerdict};
+
+use portfolio::{By, check};
+use ports::OpenGate;
 use scope_stack::Stack;
 use session::Session;
 use smt_command::command;
@@ -6,23 +11,24 @@ use smt_meaning::Settings;
 use smt_reader::{Next, Reader};
 use std::alloc::{AllocError, Global};
 use std::test::Fail;
+use std::thread::Threads;
 use theory_port::{Decider, Verdict};
-use whole_decider::Whole;
 
-/// Notes the levels that it is cut to, and decides as the program does, or finds no memory.
+/// Notes the levels that a decider is cut to, which decides as it does or finds no memory.
 #[derive(Drop)]
-struct Noting {
+struct Noting<D: Decider> {
+    decider: D,
     finds_none: bool,
     levels: Vec<i32>,
 }
 
-impl Decider for Noting {
-    ghost use Rattle.whole_decider.specs.Taken.{every_stack};
+impl<D: Decider> Decider for Noting<D> {
+    ghost decides = { D.decides };
 
-    ghost decides = { every_stack };
+    ghost may = { λ n. D.may n.decider };
 
-    fn takes(&self, _alloc: Global, _stack: &Stack) -> Result<bool, AllocError> {
-        Ok(true)
+    fn takes(&self, alloc: Global, stack: &Stack) -> Result<bool, AllocError> {
+        self.decider.takes(alloc, stack)
     }
 
     fn decide(
@@ -34,13 +40,16 @@ impl Decider for Noting {
         if self.finds_none {
             return Err(AllocError);
         }
-        Whole.decide(alloc, stack, settings)
+        self.decider.decide(alloc, stack, settings)
     }
 
-    fn takes_all(&self) {}
+    fn takes_all(&self) {
+        self.decider.takes_all();
+    }
 
     fn cut_to(&mut self, level: i32) {
         let _kept = self.levels.push(level);
+        self.decider.cut_to(level);
     }
 }
 
@@ -69,9 +78,15 @@ static CUTS: [(&'static [u8], bool, &'static [i32]); 8] = [
 ];
 
 /// Carries out the commands that stand in these bytes.
-fn carry_out(alloc: Global, script: &[u8], decider: &mut Noting) -> Result<(), AllocError> {
+fn carry_out<D: Decider>(
+    alloc: Global,
+    script: &[u8],
+    decider: &mut Noting<D>,
+) -> Result<(), AllocError>
+    requires { D.may decider.old.decider }
+{
     let settings = Settings {
-        workers: 1,
+        workers: 2,
         units: 0,
         share: 8,
         seed: 0,
@@ -90,16 +105,31 @@ fn carry_out(alloc: Global, script: &[u8], decider: &mut Noting) -> Result<(), A
     Ok(())
 }
 
+/// The levels that the decider of the program is cut to, where it finds memory, by the commands in these bytes.
+fn levels_of<R: Threads + Sync>(
+    rt: &R,
+    alloc: Global,
+    script: &[u8],
+    finds_none: bool,
+) -> Result<Vec<i32>, AllocError> {
+    let race = |stack: &Stack, settings: &Settings| -> Result<Verdict, AllocError>
+        requires { 0 < settings.now.workers }
+        ensures { IfOk result (IsVerdict settings.now.workers stack.now.trees stack.now.frames settings.now.units) }
+    { check(rt, alloc, &OpenGate, stack, settings) };
+    let mut decider = Noting {
+        decider: By { f: race },
+        finds_none,
+        levels: Vec::new(alloc),
+    };
+    carry_out(alloc, script, &mut decider)?;
+    Ok(decider.levels)
+}
+
 #[test]
 fn deciders_are_cut_where_levels_go(rt: HostRuntime) -> Result<(), Fail> {
-    let alloc = rt.alloc();
     for (script, finds_none, levels) in CUTS {
-        let mut decider = Noting {
-            finds_none,
-            levels: Vec::new(alloc),
-        };
-        carry_out(alloc, script, &mut decider)?;
-        assert_eq!(rt; decider.levels.as_slice(), levels);
+        let cut = levels_of(&rt, rt.alloc(), script, finds_none)?;
+        assert_eq!(rt; cut.as_slice(), levels);
     }
     Ok(())
 }

@@ -6,6 +6,7 @@ use std::alloc::Global;
 use std::env;
 use std::env::{Env, FillError};
 use std::test::Fail;
+use std::thread::Threads;
 
 /// An environment with these words of the command line.
 #[derive(Clone, Copy)]
@@ -56,7 +57,8 @@ fn refuses_a_word_that_is_not_utf_8(rt: HostRuntime) -> Result<(), Fail> {
 }
 
 /// What the program exits with, what it wrote, and what it said.
-fn outcome(
+fn outcome<R: Threads + Sync>(
+    rt: &R,
     alloc: Global,
     given: &[&[u8]],
     script: &[u8],
@@ -65,7 +67,7 @@ fn outcome(
     let mut source = MemSource::new(script.to_vec(alloc)?, 9, Vec::new(alloc));
     let mut sink = MemSink::new(alloc, 60, Vec::new(alloc))?;
     let mut errors = MemSink::new(alloc, 120, Vec::new(alloc))?;
-    let code = program(alloc, &words, &mut source, &mut sink, &mut errors);
+    let code = program(rt, alloc, &words, &mut source, &mut sink, &mut errors);
     Ok((
         format!(in alloc; "{code:?}")?,
         sink.written().to_vec(alloc)?,
@@ -125,7 +127,7 @@ static ENDS: [(
 fn ends_with_a_status_and_a_line(rt: HostRuntime) -> Result<(), Fail> {
     for row in ENDS.iter() {
         let (given, script, code, written, said) = *row;
-        let (ended, replies, line) = outcome(rt.alloc(), given, script)?;
+        let (ended, replies, line) = outcome(&rt, rt.alloc(), given, script)?;
         assert_eq!(rt; ended.as_str(), code);
         assert_eq!(rt; replies.as_slice(), written);
         assert_eq!(rt; line.as_slice(), said);

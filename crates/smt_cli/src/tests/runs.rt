@@ -4,6 +4,7 @@ use smt_program::{Note, run, run_within};
 use std::alloc::{AllocError, Global};
 use std::cell::Cell;
 use std::test::Fail;
+use std::thread::Threads;
 
 /// The words of a line, cut at single spaces.
 fn words_of(alloc: Global, line: &str) -> Result<Vec<String>, AllocError> {
@@ -16,7 +17,8 @@ fn words_of(alloc: Global, line: &str) -> Result<Vec<String>, AllocError> {
 
 /// What becomes of a script that comes in pieces, where these calls of the source and of the sink
 /// fail, and that of the sink takes so many bytes. No call has the number 0.
-fn outcome(
+fn outcome<R: Threads + Sync>(
+    rt: &R,
     alloc: Global,
     script: &[u8],
     piece: usize,
@@ -27,7 +29,7 @@ fn outcome(
     let words = words_of(alloc, "smt_cli")?;
     let mut source = MemSource::new(script.to_vec(alloc)?, piece, vec![in alloc; read_fails]?);
     let mut sink = MemSink::torn(alloc, 200, vec![in alloc; write_fails]?, cut)?;
-    let ended = run(alloc, &words, &mut source, &mut sink, &OpenGate);
+    let ended = run(rt, alloc, &words, &mut source, &mut sink, &OpenGate);
     Ok((ended.status, sink.written().to_vec(alloc)?))
 }
 
@@ -62,7 +64,7 @@ fn answers_scripts(rt: HostRuntime) -> Result<(), Fail> {
     for row in SCRIPTS.iter() {
         let (script, status, want) = *row;
         for piece in [1, 4096] {
-            let (ended, written) = outcome(rt.alloc(), script, piece, 0, 0, 0)?;
+            let (ended, written) = outcome(&rt, rt.alloc(), script, piece, 0, 0, 0)?;
             assert_eq!(rt; ended, status);
             assert_eq!(rt; written.as_slice(), want);
         }
@@ -92,7 +94,7 @@ fn stops_at_faults(rt: HostRuntime) -> Result<(), Fail> {
     let script = b"(set-logic QF_UFLIA)(check-sat)(exit)";
     for row in FAULTS.iter() {
         let (read_fails, write_fails, cut, status, want) = *row;
-        let (ended, written) = outcome(rt.alloc(), script, 7, read_fails, write_fails, cut)?;
+        let (ended, written) = outcome(&rt, rt.alloc(), script, 7, read_fails, write_fails, cut)?;
         assert_eq!(rt; ended, status);
         assert_eq!(rt; written.as_slice(), want);
     }
@@ -105,7 +107,7 @@ fn stops_at_the_budget(rt: HostRuntime) -> Result<(), Fail> {
     let words = words_of(alloc, "smt_cli")?;
     let mut source = MemSource::new(b"(exit)".to_vec(alloc)?, 1, Vec::new(alloc));
     let mut sink = MemSink::new(alloc, 20, Vec::new(alloc))?;
-    let ended = run_within(alloc, 2, &words, &mut source, &mut sink, &OpenGate);
+    let ended = run_within(&rt, alloc, 2, &words, &mut source, &mut sink, &OpenGate);
     assert_eq!(rt; ended.status, 6);
     assert_eq!(rt; ended.note, Note::TooLong);
     assert!(rt; sink.written().is_empty());
@@ -117,7 +119,7 @@ fn keeps_the_journal(rt: HostRuntime) -> Result<(), Fail> {
     let alloc = rt.alloc();
     let words = words_of(alloc, "smt_cli --workers 2")?;
     let mut source = CalmSource::new(b"(check-sat)(check-sat)x".to_vec(alloc)?, 3);
-    let ended = run(alloc, &words, &mut source, &mut CalmSink, &OpenGate);
+    let ended = run(&rt, alloc, &words, &mut source, &mut CalmSink, &OpenGate);
     assert_eq!(rt; ended.status, 1);
     assert_eq!(rt; ended.journal.len(), 3);
     Ok(())
@@ -171,7 +173,7 @@ fn answers_scripts_that_are_made(rt: HostRuntime) -> Result<(), Fail> {
         let words = words_of(alloc, line)?;
         let mut source = MemSource::new(b"(check-sat)".to_vec(alloc)?, 4, Vec::new(alloc));
         let mut sink = MemSink::new(alloc, 200, Vec::new(alloc))?;
-        let ended = run_within(alloc, 1, &words, &mut source, &mut sink, &OpenGate);
+        let ended = run_within(&rt, alloc, 1, &words, &mut source, &mut sink, &OpenGate);
         assert_eq!(rt; ended.status, status, "{line}");
         assert_eq!(rt; sink.written(), replies(alloc, last)?.as_slice(), "{line}");
         let mut left = [0; 20];
@@ -237,7 +239,7 @@ fn answers_what_is_whole_before_it_asks_again(rt: HostRuntime) -> Result<(), Fai
         seen: Vec::new(alloc),
     };
     let mut sink = Counting { written: &written };
-    let ended = run(alloc, &words, &mut source, &mut sink, &OpenGate);
+    let ended = run(&rt, alloc, &words, &mut source, &mut sink, &OpenGate);
     assert_eq!(rt; ended.status, 0);
     assert_eq!(rt; source.seen.as_slice(), [0, 4, 8].as_slice());
     Ok(())

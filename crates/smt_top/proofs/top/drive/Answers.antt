@@ -17,6 +17,9 @@ returns-in_err-buf g c =
       stands = cut_later g.D.Decider.decides _ _ _ 0 c.args.budget _ (omega arith) (cut_at_start g.D.Decider.decides _ _ 0 _ c.requires.begun);
     })
 
+pub advance-requires-clause-may : goal.advance-requires-clause-may
+advance-requires-clause-may g c = c.requires.may
+
 pub advance-requires-clause-numbered : goal.advance-requires-clause-numbered
 advance-requires-clause-numbered g c = counts_fit g.D.Decider.decides _ _ 0 c.args.server.now [] c.requires.tally c.requires.begun
 
@@ -26,13 +29,14 @@ advance-requires-clause-room g c = omega (arith, c.requires.begun.few)
 pub returns-in_err-stage : goal.returns-in_err-stage
 returns-in_err-stage g c =
     let p = err_from_is_err_and c.from_residual-in_err-stage.result c.from_residual-in_err-stage.ensures.1 in
-    let d = driven_first g.D.Decider.decides _ _ _ _ _ _ _ _ _ _ _ c.requires.begun c.requires.tally refl c.in_err-stage.ensures in
+    let d = driven_first g.D.Decider.decides _ _ _ _ _ _ _ _ _ _ _ c.requires.begun c.requires.tally refl c.in_err-stage.ensures.advances in
     rw (p.1, p.2) (driven_by g.D.Decider.decides _ _ _ 0 c.args.budget _ _ _ _ _ d (cut_later g.D.Decider.decides _ _ _ 0 c.args.budget _ (omega arith) d.stands))
 
 pub loop-turn-init : goal.loop-turn-init
 loop-turn-init g c = record {
   buffer = omega (arith, c.in_ok-buf.ensures.len);
-  driven = driven_first g.D.Decider.decides _ _ _ _ _ _ _ _ _ _ _ c.requires.begun c.requires.tally refl c.in_ok-stage.ensures;
+  driven = driven_first g.D.Decider.decides _ _ _ _ _ _ _ _ _ _ _ c.requires.begun c.requires.tally refl c.in_ok-stage.ensures.advances;
+  may = c.in_ok-stage.ensures.still;
 }
 
 pub take_more-requires-clause-going : goal.take_more-requires-clause-going
@@ -56,6 +60,9 @@ returns-in_err-take_more-in-Asks g c =
     (driven_off g.D.Decider.decides _ _ _ _ _ _ _ _ _ d (c.in_err-take_more-in-Asks.ensures.tally d.journal d.tally) _ c.args.budget _
     (cut_later g.D.Decider.decides _ _ _ (c.loop-turn.turn + 1) c.args.budget _ (omega arith) off))
 
+pub advance-requires-in-loop-turn-clause-may : goal.advance-requires-in-loop-turn-clause-may
+advance-requires-in-loop-turn-clause-may g c = c.loop-turn.invariant.may
+
 pub advance-requires-in-loop-turn-clause-numbered : goal.advance-requires-in-loop-turn-clause-numbered
 advance-requires-in-loop-turn-clause-numbered g c =
     let d = rw c.in-Asks.is at c.loop-turn.invariant.driven in
@@ -73,7 +80,7 @@ returns-in_err-stage-2 g c =
     let p = err_from_is_err_and c.from_residual-in_err-stage-2.result c.from_residual-in_err-stage-2.ensures.1 in
     let d = rw c.in-Asks.is at c.loop-turn.invariant.driven in
     let so = c.in_ok-take_more-in-Asks.ensures.ok _ _ _ _ d.journal d.stands.0 refl in
-    let e = driven_more g.D.Decider.decides _ _ _ _ _ _ _ _ _ d (c.in_ok-take_more-in-Asks.ensures.tally d.journal d.tally) _ _ _ _ _ _ _ _ so refl c.in_err-stage-2.ensures in
+    let e = driven_more g.D.Decider.decides _ _ _ _ _ _ _ _ _ d (c.in_ok-take_more-in-Asks.ensures.tally d.journal d.tally) _ _ _ _ _ _ _ _ so refl c.in_err-stage-2.ensures.advances in
     rw (p.1, p.2) (driven_by g.D.Decider.decides _ _ _ (c.loop-turn.turn + 1) c.args.budget _ _ _ _ _ e (cut_later g.D.Decider.decides _ _ _ (c.loop-turn.turn + 1) c.args.budget _ (omega arith) e.stands))
 
 pub loop-turn-preserved : goal.loop-turn-preserved
@@ -82,7 +89,8 @@ loop-turn-preserved g c =
     let so = c.in_ok-take_more-in-Asks.ensures.ok _ _ _ _ d.journal d.stands.0 refl in
     record {
       buffer = c.loop-turn.invariant.buffer;
-      driven = driven_more g.D.Decider.decides _ _ _ _ _ _ _ _ _ d (c.in_ok-take_more-in-Asks.ensures.tally d.journal d.tally) _ _ _ _ _ _ _ _ so refl c.in_ok-stage-2.ensures;
+      driven = driven_more g.D.Decider.decides _ _ _ _ _ _ _ _ _ d (c.in_ok-take_more-in-Asks.ensures.tally d.journal d.tally) _ _ _ _ _ _ _ _ so refl c.in_ok-stage-2.ensures.advances;
+      may = c.in_ok-stage-2.ensures.still;
     }
 
 pub returns : goal.returns

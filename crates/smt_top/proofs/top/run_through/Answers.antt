@@ -1,15 +1,24 @@
-use Rattle.std.proofs.Common.{◌≡◌, true, refl, ap, sym, ◌∙◌, ◌+◌, subst, map, string_bytes, [], length, Option, Some, None}
+use Rattle.std.proofs.Common.{rules, arith, ◌≡◌, true, refl, ap, sym, ◌∙◌, ◌+◌, subst, map, string_bytes, [], length, Option, Some, None}
 use Rattle.script_gen.specs.Script.{script}
 use Rattle.smt_meaning.specs.State.{State}
 use Rattle.smt_words.specs.Words.{are_taken, generated_of, settings_of}
 use Rattle.smt_words.specs.declared.Generated.{Generated}
-use Rattle.whole_decider.specs.Taken.{every_stack}
+use Rattle.portfolio.specs.Taken.{every_stack}
 use Rattle.smt_top.specs.Progress.{Stands, between, run_of}
 use Rattle.smt_top.specs.Ended.{RanBy, ended_with, made_of}
 use Rattle.smt_top.proofs.Turns.{not_true}
 use Rattle.smt_top.proofs.Servings.{Gains-none}
 use Rattle.smt_top.proofs.Runs.{ran, ran_made, unbegun, begun}
 use Rattle.smt_top.proofs.top.run_through.Goals as goal
+
+pub new-server-requires : goal.new-server-requires
+new-server-requires g c = omega (arith, c.in-Ok.ensures.workers.0)
+
+pub new-server-requires-in-Some : goal.new-server-requires-in-Some
+new-server-requires-in-Some g c = omega (arith, c.in-Ok.ensures.workers.0)
+
+pub drive-end-requires-clause-may : goal.drive-end-requires-clause-may
+drive-end-requires-clause-may g c = search rules
 
 pub drive-end-requires-clause-budget : goal.drive-end-requires-clause-budget
 drive-end-requires-clause-budget g c = c.requires
@@ -19,6 +28,9 @@ drive-end-requires-clause-begun g c = begun every_stack c.in-Ok.invocation.setti
 
 pub drive-end-requires-clause-tally : goal.drive-end-requires-clause-tally
 drive-end-requires-clause-tally g c = c.new-server.ensures.tally
+
+pub serve_made-end-requires-clause-may : goal.serve_made-end-requires-clause-may
+serve_made-end-requires-clause-may g c = search rules
 
 pub serve_made-end-requires-clause-size : goal.serve_made-end-requires-clause-size
 serve_made-end-requires-clause-size g c = rw c.in-Some.is at c.in-Ok.ensures.size

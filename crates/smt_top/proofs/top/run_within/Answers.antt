@@ -1,6 +1,6 @@
 use Rattle.std.proofs.Common.{sym, ap, ◌∙◌, subst, map, string_bytes}
 use Rattle.smt_meaning.specs.LegalJournal.{journal_text}
-use Rattle.whole_decider.specs.Taken.{every_stack}
+use Rattle.portfolio.specs.Taken.{every_stack}
 use Rattle.smt_top.specs.Progress.{between}
 use Rattle.smt_top.specs.Ended.{RanUnder, ended_with}
 use Rattle.smt_top.proofs.Servings.{gained_all}

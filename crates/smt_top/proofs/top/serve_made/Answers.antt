@@ -39,6 +39,9 @@ returns-in_err-feed g c =
       stands = cut_unfed g.D.Decider.decides _ _ _ _ refl;
     })
 
+pub advance-requires-clause-may : goal.advance-requires-clause-may
+advance-requires-clause-may g c = c.requires.may
+
 pub advance-requires-clause-numbered : goal.advance-requires-clause-numbered
 advance-requires-clause-numbered g c = omega (arith, c.requires.tally.count)
 
@@ -58,7 +61,7 @@ returns g c =
     let told = g.K.Sink.told c.args.sink.now in
     let tally = tally_same c.args.server.now mid refl refl [] c.requires.tally in
     let so = begun_whole g.D.Decider.decides c.args.server.now.session.settings (run_of mid []) bytes told er c.requires.session refl in
-    let p = c.advance.ensures in
+    let p = c.advance.ensures.advances in
     record {
       journal = p.added;
       gained = p.gained;

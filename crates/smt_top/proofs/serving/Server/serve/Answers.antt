@@ -11,6 +11,7 @@ loop-stage-init g c = record {
   finished = refl;
   size = refl;
   later = omega arith;
+  may = c.requires.may;
 }
 
 pub loop-stage-preserved : goal.loop-stage-preserved
@@ -22,6 +23,7 @@ loop-stage-preserved g c = record {
   finished = c.in_ok-stage.ensures.finished ∙ c.loop-stage.invariant.finished;
   size = c.in_ok-stage.ensures.size ∙ c.loop-stage.invariant.size;
   later = omega (arith, c.in_ok-stage.ensures.cause, c.loop-stage.invariant.later);
+  may = c.in_ok-stage.ensures.still;
 }
 
 pub returns-in_err-stage-clause-served : goal.returns-in_err-stage-clause-served

@@ -10,6 +10,7 @@ invariant-loop-stage g l = record {
   finished : l.self.reader.finished ≡ l.fn.self.reader.finished;
   size : l.self.reader.place + length l.self.reader.bytes ≡ l.fn.self.reader.place + length l.fn.self.reader.bytes;
   later : (g.K.Sink.told l.fn.sink).faults ≤ (g.K.Sink.told l.sink).faults;
+  may : g.D.Decider.may l.decider;
 }
 
 abbrev pub decreases-loop-stage : goal.decreases-loop-stage
