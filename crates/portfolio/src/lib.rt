@@ -2,13 +2,17 @@
 //!
 //! `check`: as many workers as the settings say, over one pool of the clauses that they share. Each
 //! takes its first turn, numbers the atoms of the stack, forms its first clauses and searches by the
-//! theory of equality and whole numbers. The first that has an answer wins: `sat` with tables that
-//! make every assertion true, with each number in the range, `unsat` where the empty clause follows.
+//! theory of equality and whole numbers.
+//!
+//! The first that has an answer wins: `sat` with tables that make every assertion true, with each
+//! number in the range, `unsat` where the empty clause follows.
 //!
 //! Else comes a report of each worker, in their order: where folding left the range while the atoms
 //! were numbered, or the row of a first atom did, what the search shows where it ended, or that
-//! memory is wanting. Without a limit of units and without an Int it is want of memory alone. No
-//! worker is stopped by another one where there is no answer.
+//! memory is wanting.
+//!
+//! Without a limit of units and without an Int it is want of memory alone. No worker is stopped by
+//! another one where there is no answer. Nothing races where nothing is declared or asserted.
 //!
 //! `By`: the decider whose checks a closure makes, since only that can know of threads and the gate.
 #![tactic(auto)]
