@@ -1,5 +1,5 @@
 -- What a pass's calls add to its claim.
-use Rattle.std.proofs.Common.{◌≡◌, inl, inr, ℕ, ◌+◌, List, [], ◌∷◌, ◌++◌, All, Contains, subst, sym, ap, ◌∙◌, arith, refl, append_assoc}
+use Rattle.std.proofs.Common.{Bor, ◌≡◌, inl, inr, ℕ, ◌+◌, List, [], ◌∷◌, ◌++◌, All, Contains, subst, sym, ap, ◌∙◌, arith, refl, append_assoc}
 use Rattle.std.specs.Prelude.{Option, Some, None}
 use Rattle.std.proofs.lemmas.List.{append-nil}
 use Rattle.std.proofs.lemmas.List.Elements.{All-append, All-cons, All-nil}
@@ -22,8 +22,9 @@ use Rattle.worker.specs.declared.racer.Racer.{Racer}
 use Rattle.worker.specs.declared.outcome.Answer.{Answer}
 use Rattle.worker.specs.declared.outcome.Answer.TheVariants.{Sat, Unsat}
 use Rattle.worker.specs.declared.outcome.Outcome.TheVariants.{Answer as Answered}
+use Rattle.worker.specs.Endings.{IsHeard}
 use Rattle.worker.specs.Outcome.{HasWon, IsOutcome, IsRight}
-use Rattle.worker.specs.Racing.{Adds, IsWork, Leads, SharesNext, TakesOne, Turned}
+use Rattle.worker.specs.Racing.{Adds, IsWork, Leads, SharesNext, TakesOne, TakesTurns, Turned}
 
 pub added_both : (xs ys : List Action) (m n : ℕ) (c d e : Claim) → Adds xs m c d → Adds ys n d e → Adds (xs ++ ys) (m + n) c e
 added_both xs ys m n c d e h k =
@@ -122,11 +123,30 @@ module _ {S : Type 0} {G : Ghosts S} where
   all_go R pass each x y (b ∷ bs) h = goes_on (pass x) (pass h.0) (pass y) (each x h.0 b h.1) (all_go R pass each h.0 y bs h.2)
 
 module _ {S D : Type 0} {G : Ghosts S} where
-  pub racer_goes : (x y : Racer S D G) (calls : List Spending)
-      → Leads (λ (v : Racer S D G) (b : Spending) (w : Racer S D G). Turned (depth v.stack.now.frames) v.pass v.sent b w.pass w.sent) x calls y → Goes x.pass y.pass
-  racer_goes x y calls h =
-      all_go (λ (v : Racer S D G) (b : Spending) (w : Racer S D G). Turned (depth v.stack.now.frames) v.pass v.sent b w.pass w.sent) (λ (v : Racer S D G). v.pass)
-      (λ v w b t. one_goes (depth v.stack.now.frames) v.pass w.pass v.sent w.sent b t) x y calls h
+  -- one call of the racer's search
+  abbrev pub Called : Racer S D G → Spending → Racer S D G → Type 0
+  Called v b w = (w.stack ≡ v.stack) × Turned (depth v.stack.now.frames) v.pass v.sent b w.pass w.sent
+
+  pub racer_goes : (x y : Racer S D G) (calls : List Spending) → Leads Called x calls y → Goes x.pass y.pass
+  racer_goes x y calls h = all_go Called (λ (v : Racer S D G). v.pass) (λ v w b t. one_goes (depth v.stack.now.frames) v.pass w.pass v.sent w.sent b t.1) x y calls h
+
+  pub racer_turns : (level : ℕ) (x y : Racer S D G) (calls : List Spending) → depth x.stack.now.frames ≡ level → Leads Called x calls y
+      → TakesTurns level x.pass x.sent calls y.pass y.sent
+  racer_turns level x y [] e h = (ap (λ (v : Racer S D G). v.pass) h, ap (λ (v : Racer S D G). v.sent) h)
+  racer_turns level x y (b ∷ bs) e h =
+      let z : Racer S D G = h.0 in
+      (z.pass, z.sent, subst (λ (n : ℕ). Turned n x.pass x.sent b z.pass z.sent) e h.1.1, racer_turns level z y bs (ap (λ (s : Bor Stack). depth s.now.frames) h.1.0 ∙ e) h.2)
+
+-- what calls led to may be said in other words
+pub heard_so : (share : ℕ) (Led Said : List Spending → Type 0) → ((calls : List Spending) → Led calls → Said calls) → IsHeard share Led → IsHeard share Said
+heard_so share Led Said so h = record {
+  begun = h.begun;
+  ended = h.ended;
+  units = h.units;
+  short = h.short;
+  share_is = h.share_is;
+  heard = record { calls = h.heard.calls; led = so h.heard.calls h.heard.led; between = h.heard.between; within = h.heard.within; shares = h.heard.shares };
+}
 
 -- ---- the end
 

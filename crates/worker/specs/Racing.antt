@@ -22,6 +22,7 @@ use Rattle.race_cell.specs.declared.race.Pass.{Pass}
 use Rattle.race_cell.specs.declared.view.Claim.{Claim}
 use Rattle.race_cell.specs.Passes.{claim_of, IsSamePass}
 use Rattle.worker.specs.Shown.{clause_of}
+use Rattle.worker.specs.Endings.{IsHeard}
 use Rattle.worker.specs.declared.export.Sent.{Sent}
 use Rattle.worker.specs.declared.export.Sent.TheVariants.{Stands, Full, Waits}
 
@@ -94,3 +95,19 @@ pub record Turned {S : Type 0} {G : Ghosts S} (level : ℕ) (p : Pass S G) (sent
 -- the worker has read who has won
 abbrev pub HasRead : Claim → Cause → Type 0
 HasRead c cause = (w : ℕ) × (cause ≡ Cancelled w) × (c.found ≡ w + 1)
+
+-- turns of one worker, by the budget at each, from its pass and how many of its clauses were shared on to another pass and number
+abbrev pub TakesTurns : {S : Type 0} {G : Ghosts S} → ℕ → Pass S G → ℕ → List Spending → Pass S G → ℕ → Type 0
+TakesTurns level p sent [] q sent' = (q ≡ p) × (sent' ≡ sent)
+TakesTurns {S} {G} level p sent (b ∷ bs) q sent' = (r : Pass S G) × (n : ℕ) × Turned level p sent b r n × TakesTurns level r n bs q sent'
+
+-- at the end nothing is added, or a win
+abbrev pub MayWin : Claim → Claim → Type 0
+MayWin c d = (d.own ≡ c.own) ⊎ (d.own ≡ c.own ++ Win c.worker ∷ [])
+
+-- a worker's part in a race: between any two units of its search, and any two clauses to share, it took a turn; so it has shared the first of these clauses, in order; and then it may have won
+pub record HasRaced {S : Type 0} {G : Ghosts S} (level share : ℕ) (p q : Pass S G) : Type 0 where
+  pub last : Pass S G
+  pub sent : ℕ
+  pub turns : IsHeard share (λ calls. TakesTurns level p 0 calls last sent)
+  pub ends : MayWin (claim_of last) (claim_of q)

@@ -9,18 +9,23 @@
 //! A worker has a number. Worker 0 keeps all clauses, and without a limit what it learns costs no
 //! unit. The others forget long clauses, and all that they learn are units.
 //!
-//! `first_turn`, `run`: a worker's part in a race over the stack. Between two units it looks whether
-//! another has won, shares its next short clause at the depth of the stack, and takes a batch: of
-//! the clauses of others each whose atoms it has numbered, unless an atom stands there with both
-//! signs. It has an answer exactly where it won; else it shows why it has none, or has read who won.
+//! `first_turn`, `run`: a worker's part in a race over the stack. Between any two units, and any two
+//! clauses to be shared, it takes a turn: it looks once whether another has won, shares the next of
+//! its short clauses at the depth of the stack, or none, and takes a batch, or none.
+//!
+//! So what it has shared are the first of its short clauses, in order. Of the clauses of others it
+//! takes each whose atoms it has numbered, unless an atom stands there with both signs. It has an
+//! answer exactly where it won; else it shows why it has none, or has read who won.
 //!
 //! A report shows as many units as the limit in force says, with the rows at which the theory
 //! branched; or where a number left the range; or want of memory. It takes no memory.
 //!
 //! A unit is a learnt clause that follows at the depth of the stack and that nothing before it
-//! forces, of clauses learnt by workers but worker 0 those of at most 8 literals; an atom of the
-//! check that is none of the stack's and wasn't numbered before; or, under a limit, a pivot by
-//! Bland's rule in a row over atoms of the check, of another basic variable than that before it.
+//! forces (of clauses learnt by workers but worker 0 those of at most 8 literals); or an atom of the
+//! check that is none of the stack's and wasn't numbered before.
+//!
+//! Under a limit a pivot is one too, by Bland's rule in a row over atoms of the check, of another
+//! basic variable than that before it.
 //!
 //! `out_of_memory`, `out_of_range`, `refused`: the reports of a worker that didn't come to search.
 //! Where its atoms are refused the report shows the part or the pair of parts whose folding left

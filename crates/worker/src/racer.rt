@@ -100,6 +100,7 @@ impl<S: Shelf, G: Gate> Racer<'_, S, G> {
 }
 
 impl<S: Shelf, G: Gate> Meaning for Racer<'_, S, G> {
+    ghost use Rattle.std.specs.Prelude.{◌≡◌};
     ghost use Rattle.smt_meaning.specs.Stack.{depth};
     ghost use Rattle.race_cell.specs.Passes.{claim_of};
     ghost use Rattle.std.proofs.Common.{refl};
@@ -107,7 +108,7 @@ impl<S: Shelf, G: Gate> Meaning for Racer<'_, S, G> {
 
     ghost reading = { λ h. first_reading h.stack.now };
 
-    ghost later = { λ h calls i. Leads (λ x b y. Turned (depth x.stack.now.frames) x.pass x.sent b y.pass y.sent) h calls i };
+    ghost later = { λ h calls i. Leads (λ x b y. (y.stack ≡ x.stack) × Turned (depth x.stack.now.frames) x.pass x.sent b y.pass y.sent) h calls i };
 
     ghost stopped = { λ h. HasRead (claim_of h.pass) };
 
@@ -115,5 +116,5 @@ impl<S: Shelf, G: Gate> Meaning for Racer<'_, S, G> {
 
     ghost later_same = { λ h. refl };
 
-    ghost later_both = { λ h i j ms ns p q. leads_both (λ x b y. Turned (depth x.stack.now.frames) x.pass x.sent b y.pass y.sent) h i j ms ns p q };
+    ghost later_both = { λ h i j ms ns p q. leads_both (λ x b y. (y.stack ≡ x.stack) × Turned (depth x.stack.now.frames) x.pass x.sent b y.pass y.sent) h i j ms ns p q };
 }

@@ -11,7 +11,7 @@ ghost use Rattle.first_clauses.specs.CheckClausesFirst.{reading_of, IsFirst};
 ghost use Rattle.race_cell.specs.Passes.{base_of, claim_of, IsSamePass};
 ghost use Rattle.worker.specs.Outcome.{IsOutcome, IsRight, MemoryAloneIsReported};
 ghost use Rattle.worker.specs.Endings.{IsFound, MemoryAloneIsFound};
-ghost use Rattle.worker.specs.Racing.{first_reading, HasRead, IsWork, Turned};
+ghost use Rattle.worker.specs.Racing.{first_reading, HasRaced, HasRead, IsWork, MayWin, Turned};
 ghost use Rattle.worker.specs.Shown.{HasStackAtoms};
 
 use crate::decide::{Found, search};
@@ -52,6 +52,7 @@ fn answer<S: Shelf>(
     requires right { IsRight stack.now answer }
     ensures same { IsSamePass pass result.0 }
     ensures worker { (claim_of result.0).worker ≡ (claim_of pass).worker }
+    ensures ends { MayWin (claim_of pass) (claim_of result.0) }
     ensures outcome { IsOutcome stack.now settings.now.units (claim_of result.0) result.1 }
     ensures memory { MemoryAloneIsReported stack.now.frames settings.now.units result.1 }
 {
@@ -77,6 +78,7 @@ fn end<S: Shelf>(
     requires memory { MemoryAloneIsFound stack.now.frames settings.now.units found }
     ensures same { IsSamePass pass result.0 }
     ensures worker { (claim_of result.0).worker ≡ (claim_of pass).worker }
+    ensures ends { MayWin (claim_of pass) (claim_of result.0) }
     ensures outcome { IsOutcome stack.now settings.now.units (claim_of result.0) result.1 }
     ensures memory { MemoryAloneIsReported stack.now.frames settings.now.units result.1 }
 {
@@ -112,6 +114,7 @@ pub fn run<S: Shelf, T: Shown, G: Gate>(
     requires all { HasStackAtoms stack.now (T.state theory).reading.table }
     ensures same { IsSamePass pass result.0 }
     ensures worker { (claim_of result.0).worker ≡ (claim_of pass).worker }
+    ensures raced { HasRaced (depth stack.now.frames) settings.now.share pass result.0 }
     ensures outcome { IsOutcome stack.now settings.now.units (claim_of result.0) result.1 }
     ensures memory { MemoryAloneIsReported stack.now.frames settings.now.units result.1 }
 {
