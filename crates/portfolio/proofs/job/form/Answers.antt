@@ -9,6 +9,6 @@ pub run-requires-clause-all : goal.run-requires-clause-all
 run-requires-clause-all g c =
     let s = c.args.stack.now in
     let first = c.atoms_are_first.ensures s c.in-Ok-numbered.parts.marks.items c.in-Ok-numbered.parts.atoms.atoms c.laws.ensures c.in-Ok-numbered.ensures.parts c.in-Ok-numbered.ensures.atoms in
-    λ a among.
+    λ κs order a among.
     subst (λ (table : List Atom). Contains table a ⊎ IsSameOfNoInts s a)
     (sym (ap (λ (r : Reading). r.table) c.in-Ok-new.ensures.reading ∙ ap (λ (p : CheckAtoms). p.atoms.atoms) c.check_clauses.ensures.same)) (first.0.all a among)
