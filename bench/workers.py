@@ -1,5 +1,5 @@
 #!/usr/bin/env python3
-"""Writes forty scripts that one worker decides in some tenths of a second to some seconds, of ten families, and one of 10,000 trivial checks, into a folder. Use: bench/workers.py FOLDER [SEED]"""
+"""Writes forty scripts that one worker decides in some tenths of a second to some seconds, of ten families, and one of 10,000 trivial checks, into a folder. Use: bench/workers.py FOLDER"""
 import os
 import random
 import sys
@@ -95,16 +95,16 @@ def differences(count, ratio, r):
 
 
 def diamonds(count, r):
-    """A chain of equalities by one of two ways each, whose ends are said to differ."""
+    """A chain of equalities by one of two ways each, whose ends aren't equal."""
     lines = ["(declare-sort S 0)"] + [f"(declare-const {x}{k} S)" for k in range(count + 1) for x in "abc"]
     for k in range(count):
         ways = [f"(and (= a{k} {x}{k}) (= {x}{k} a{k + 1}))" for x in r.sample("bc", 2)]
         lines.append(f"(assert (or {' '.join(ways)}))")
-    return lines + [f"(assert (distinct a0 a{count}))", "(check-sat)"]
+    return lines + [f"(assert (not (= a0 a{count})))", "(check-sat)"]
 
 
 def quasigroup(size, holes, r):
-    """A table of a function with each element once in each row and column, where so many places of a drawn table are open; where it says so, some drawn place has another element."""
+    """A table of a function with each element once in each row and column, where so many places of a drawn table are open, one of which isn't to be filled as it was."""
     lines = ["(declare-sort S 0)", "(declare-fun f (S S) S)"] + [f"(declare-const e{k} S)" for k in range(size)]
     elements = [f"e{k}" for k in range(size)]
     lines.append(f"(assert (distinct {' '.join(elements)}))")
@@ -141,8 +141,8 @@ def idempotent(size, right, r):
     return lines + ["(check-sat)"]
 
 
-def hashes(count, functions, r):
-    """Keys in a small range that differ, with functions that keep them apart in that range, and one key more that no key's image is."""
+def hashes(count, functions, same, r):
+    """Keys in a small range that differ, functions that keep them apart in that range, and one key more that isn't the image of any by two of the functions: in the same order for each key, which can't be, or in a drawn one."""
     lines = [f"(declare-fun h{k} (Int) Int)" for k in range(functions)]
     keys = [f"x{k}" for k in range(count)]
     lines += integers(keys + ["y"])
@@ -154,7 +154,7 @@ def hashes(count, functions, r):
         lines.append(f"(assert (distinct {' '.join(images)}))")
     for x in keys:
         image = x
-        for k in r.sample(range(functions), min(functions, 2)):
+        for k in range(min(functions, 2)) if same else r.sample(range(functions), 2):
             image = f"(h{k} {image})"
         lines.append(f"(assert (distinct y {image}))")
     return lines + ["(check-sat)"]
@@ -196,26 +196,27 @@ def trivial(checks, r):
     return lines
 
 
+# each size with the seed of its draws
 FAMILIES = {
-    "pigeons": (pigeons, ((9,), (10,), (11,))),
-    "random": (drawn, ((212, 4.26), (224, 4.26), (236, 4.26), (248, 4.26), (260, 4.2))),
-    "parity": (parity, ((32,), (36,), (40,), (44,))),
-    "shop": (shop, ((10, 8, 1.0), (10, 8, 1.1), (12, 8, 1.1), (12, 10, 1.2))),
-    "differences": (differences, ((40, 6), (50, 6), (60, 5), (60, 6))),
-    "diamonds": (diamonds, ((600,), (1000,), (1400,), (2000,))),
-    "quasigroups": (quasigroup, ((9, 45), (10, 50), (11, 55), (12, 60))),
-    "idempotent": (idempotent, ((6, 0), (7, 0), (8, 0), (7, 1))),
-    "hashes": (hashes, ((5, 2), (6, 2), (6, 3), (7, 2))),
-    "verifier": (verifier, ((10, 8), (10, 10), (10, 12), (5, 16))),
+    pigeons: ((9, 1), (10, 1)),
+    drawn: ((212, 4.26, 1), (212, 4.26, 2), (224, 4.26, 1), (236, 4.26, 1), (236, 4.26, 2)),
+    parity: ((31, 1), (31, 2), (33, 2), (36, 2)),
+    shop: ((12, 8, 1.1, 2), (12, 10, 1.2, 1), (14, 8, 1.2, 2), (14, 8, 1.2, 4)),
+    differences: ((45, 6.5, 1), (45, 6.5, 2), (50, 6.5, 1), (60, 5.5, 1), (60, 6, 1)),
+    diamonds: ((400, 1), (600, 1), (1000, 1), (1500, 1)),
+    quasigroup: ((14, 130, 1), (14, 130, 2), (16, 170, 1), (16, 170, 2), (18, 210, 1)),
+    idempotent: ((10, True, 1), (12, True, 1), (13, True, 1)),
+    hashes: ((7, 1, True, 1), (32, 2, False, 1), (34, 2, False, 1), (38, 2, False, 1)),
+    verifier: ((10, 20, 1), (10, 24, 1), (20, 14, 1), (20, 16, 1)),
 }
 
 
-def main(folder, seed):
+def main(folder):
     os.makedirs(folder, exist_ok=True)
-    for family, (make, sizes) in FAMILIES.items():
-        for at, size in enumerate(sizes):
-            write(folder, f"{family}-{at}", make(*size, random.Random(f"{seed} {family} {at}")))
-    write(folder, "trivial", trivial(10000, random.Random(seed)))
+    for make, sizes in FAMILIES.items():
+        for at, (*size, seed) in enumerate(sizes):
+            write(folder, f"{make.__name__}-{at}", make(*size, random.Random(seed)))
+    write(folder, "trivial", trivial(10000, random.Random(1)))
 
 
 def write(folder, name, lines):
@@ -224,4 +225,4 @@ def write(folder, name, lines):
 
 
 if __name__ == "__main__":
-    main(sys.argv[1], sys.argv[2] if len(sys.argv) > 2 else "1")
+    main(sys.argv[1])

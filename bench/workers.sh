@@ -2,16 +2,15 @@
 # The time of the clock that checks take with 1, 2 and 4 workers, on the forty scripts that bench/workers.py makes: pigeons, random clauses, parities, job shops, difference logic, diamonds of equalities, quasigroups, hashes by
 # functions and verification conditions; and on 10,000 trivial checks. A script that isn't decided counts as SECONDS. Answers that differ are said. At the end stand the geometric means of the ratios to one worker, for each family and
 # for all. Workers need processors of their own: on a machine with other work the figures say little.
-# Use: bench/workers.sh [PROGRAM [SECONDS [SEED [WORKERS..]]]], at the top of the repository, after a build.
+# Use: bench/workers.sh [PROGRAM [SECONDS [WORKERS..]]], at the top of the repository, after a build.
 set -eu
 program=$(realpath "${1:-crates/smt_cli/out/smt_cli}")
 limit=${2:-60}
-seed=${3:-1}
-crews=("${@:4}")
+crews=("${@:3}")
 [ ${#crews[@]} -gt 0 ] || crews=(1 2 4)
 folder=$(mktemp -d)
 trap 'rm -rf "$folder"' EXIT
-python3 bench/workers.py "$folder" "$seed"
+python3 bench/workers.py "$folder"
 cd "$folder"
 printf '%-16s' script
 for crew in "${crews[@]}"; do printf ' %9s' "$crew"; done
