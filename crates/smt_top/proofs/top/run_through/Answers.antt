@@ -134,3 +134,9 @@ returns-in-Err-clause-untouched g c no' = (refl, refl, refl)
 
 pub returns-in-Err-clause-unasked : goal.returns-in-Err-clause-unasked
 returns-in-Err-clause-unasked g c made is = refl
+
+pub invariant_of-server : goal.invariant_of-server
+invariant_of-server g c = search rules
+
+pub invariant_of-server-in-Some : goal.invariant_of-server-in-Some
+invariant_of-server-in-Some g c = search rules
