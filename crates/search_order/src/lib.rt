@@ -1,9 +1,11 @@
 //! The free choices of a search: which atom is decided next and with which sign, when the decisions
 //! are taken back, and which learnt clauses are forgotten.
 //!
-//! `Order`: nothing beyond safety. No contract speaks of what is chosen.
+//! `Order`: nothing beyond safety, and no contract speaks of what is chosen. The workers of a race
+//! choose each in its own way.
 #![tactic(auto)]
 
+mod choices;
 mod heap;
 mod order;
 mod phases;

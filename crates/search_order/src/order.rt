@@ -1,4 +1,5 @@
 //! The choices of one search.
+use crate::choices::Choices;
 use crate::heap::Heap;
 use crate::phases::Phases;
 use crate::reduce::Uses;
@@ -23,39 +24,39 @@ pub struct Order {
     conflicts: u64,
     restarts: Restarts,
     uses: Uses,
-    // whether the first scores and signs are drawn
-    varied: bool,
+    choices: Choices,
     draws: Pcg32,
 }
 
 impl Order {
-    /// Of no atoms, for the worker of this number. Choices are drawn by the generator that starts at the seed plus the worker's number, on the stream of that number: now and then the sign of a decision, and but for worker 0 the first scores and signs. In worker 0 all atoms begin alike, with the negative sign.
+    /// Of no atoms, for the worker of this number, by its choices. They are drawn by the generator that starts at the seed plus the worker's number, on the stream of that number: now and then the sign of a decision, and first scores and signs where these say so.
     pub fn new(alloc: Global, seed: u64, worker: u8) -> Order {
         let stream = u64::from(worker);
+        let choices = Choices::of(worker);
         Order {
             scores: Scores::new(alloc),
             heap: Heap::new(alloc),
             phases: Phases::new(alloc),
             raised: Vec::new(alloc),
             conflicts: 0,
-            restarts: Restarts::new(),
+            restarts: Restarts::new(choices.luby),
             uses: Uses::new(alloc),
-            varied: worker > 0,
+            choices,
             draws: Pcg32::new(seed.wrapping_add(stream), stream),
         }
     }
 
     // One atom more.
     fn push(&mut self, atom: u32) -> Result<(), AllocError> {
-        let word = if self.varied {
+        let word = if self.choices.draws() {
             self.draws.next_word()
         } else {
             0
         };
-        self.phases.push(word >> 31 == 1)?;
+        self.phases.push(self.choices.first_sign(word))?;
         self.raised.push(0)?;
         self.heap.make_room()?;
-        self.scores.push(u64::from(word >> 16))?;
+        self.scores.push(self.choices.first_score(atom, word))?;
         self.heap.insert(&self.scores, atom);
         Ok(())
     }
@@ -105,10 +106,12 @@ impl Order {
         }
     }
 
-    /// A literal is taken back: its atom waits again, with this sign first.
+    /// A literal is taken back: its atom waits again, with this sign first where signs are saved.
     pub fn release(&mut self, literal: Literal) {
         let atom = literal.atom();
-        self.phases.save(atom, literal.is_positive());
+        if self.choices.saves_signs {
+            self.phases.save(atom, literal.is_positive());
+        }
         self.heap.insert(&self.scores, atom);
     }
 
@@ -141,7 +144,12 @@ impl Order {
 
     /// After a conflict: whether learnt clauses are to be forgotten.
     pub fn forgets(&mut self) -> bool {
-        self.uses.is_due()
+        self.choices.forgets && self.uses.is_due()
+    }
+
+    /// Whether atoms of clauses beside a conflict are to be raised as those in it are.
+    pub fn raises_reasons(&self) -> bool {
+        self.choices.raises_reasons
     }
 
     /// Whether the learnt clause of this id wasn't used since this was asked last.

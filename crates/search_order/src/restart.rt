@@ -1,6 +1,5 @@
 //! When all decisions are taken back: after so many conflicts as Luby's sequence 1, 1, 2, 1, 1, 2,
-//! 4, .. says, times a hundred.
-const BASE: u64 = 100;
+//! 4, .. says, times a number that each worker has.
 
 // Longer runs aren't asked for.
 const LONGEST: u64 = 1 << 40;
@@ -10,15 +9,18 @@ pub struct Restarts {
     // the run's number, from 1 on, and its factor
     run: u64,
     factor: u64,
+    // the conflicts of the shortest run
+    shortest: u64,
     left: u64,
 }
 
 impl Restarts {
-    pub fn new() -> Restarts {
+    pub fn new(shortest: u64) -> Restarts {
         Restarts {
             run: 1,
             factor: 1,
-            left: BASE,
+            shortest,
+            left: shortest,
         }
     }
 
@@ -30,7 +32,7 @@ impl Restarts {
         } else {
             self.factor = twice;
         }
-        self.left = self.factor.saturating_mul(BASE);
+        self.left = self.factor.saturating_mul(self.shortest);
     }
 
     // After a conflict: whether a new run begins.
