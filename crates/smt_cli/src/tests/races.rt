@@ -141,6 +141,51 @@ fn forced_answers_are_those_of_all_workers(rt: HostRuntime) -> Result<(), Fail> 
     Ok(())
 }
 
+/// Scripts whose replies are forced, whatever the number of workers, and what is written.
+static ROWS: [(&'static [u8], &'static [u8]); 6] = [
+    (
+        b"(set-option :print-success false)(declare-const p Bool)(assert p)(assert (not p))(check-sat)",
+        b"unsat\n",
+    ),
+    (
+        b"(set-option :print-success false)(declare-const p Bool)(assert p)(push 1)(assert (not p))(check-sat)(pop 1)(check-sat)",
+        b"unsat\nsat\n",
+    ),
+    (
+        b"(set-option :print-success false)(push 1)(declare-fun f (Int) Int)(assert (not (= (f 0) (f 0))))(check-sat)(pop 1)(declare-fun f (Bool) Bool)(assert (f true))(check-sat)",
+        b"unsat\nsat\n",
+    ),
+    (
+        b"(set-option :print-success false)(declare-fun f (Int) Int)(declare-const x Int)(declare-const y Int)(assert (<= 1 x 2))(assert (distinct (f x) (f 1)))(assert (distinct (f x) (f 2)))(check-sat)",
+        b"unsat\n",
+    ),
+    (
+        b"(set-option :print-success false)(declare-const x Int)(declare-const y Int)(assert (= x 170141183460469231731687303715884105727))(assert (= y (+ x 1)))(check-sat)(get-info :reason-unknown)",
+        b"unknown\n(:reason-unknown incomplete)\n",
+    ),
+    (
+        b"(set-option :print-success false)(declare-const p11 Bool)(declare-const p12 Bool)(declare-const p13 Bool)(declare-const p21 Bool)(declare-const p22 Bool)(declare-const p23 Bool)(declare-const p31 Bool)(declare-const p32 Bool)(declare-const p33 Bool)(declare-const p41 Bool)(declare-const p42 Bool)(declare-const p43 Bool)(assert (or p11 p12 p13))(assert (or p21 p22 p23))(assert (or p31 p32 p33))(assert (or p41 p42 p43))(assert (not (and p11 p21)))(assert (not (and p11 p31)))(assert (not (and p11 p41)))(assert (not (and p21 p31)))(assert (not (and p21 p41)))(assert (not (and p31 p41)))(assert (not (and p12 p22)))(assert (not (and p12 p32)))(assert (not (and p12 p42)))(assert (not (and p22 p32)))(assert (not (and p22 p42)))(assert (not (and p32 p42)))(assert (not (and p13 p23)))(assert (not (and p13 p33)))(assert (not (and p13 p43)))(assert (not (and p23 p33)))(assert (not (and p23 p43)))(assert (not (and p33 p43)))(check-sat)",
+        b"unsat\n",
+    ),
+];
+
+#[test]
+fn replies_are_those_of_any_number_of_workers(rt: HostRuntime) -> Result<(), Fail> {
+    let alloc = rt.alloc();
+    for workers in ["1", "2", "16"] {
+        for row in ROWS.iter() {
+            let (script, want) = *row;
+            let words = words_with(alloc, workers, "0")?;
+            let mut source = MemSource::new(script.to_vec(alloc)?, 4096, Vec::new(alloc));
+            let mut sink = MemSink::new(alloc, 200, Vec::new(alloc))?;
+            let ended = run(&rt, alloc, &words, &mut source, &mut sink, &OpenGate);
+            assert_eq!(rt; ended.status, 0, "{workers}");
+            assert_eq!(rt; sink.written(), want, "{workers}");
+        }
+    }
+    Ok(())
+}
+
 /// Scripts in whose checks two workers meet, and what is written.
 static MEETINGS: [(&'static [u8], &'static [u8]); 2] = [
     (
