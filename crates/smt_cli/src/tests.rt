@@ -1,4 +1,3 @@
-mod cuts;
 mod program;
 mod races;
 mod runs;
