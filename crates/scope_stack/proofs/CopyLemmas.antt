@@ -1,8 +1,8 @@
 -- Copies of terms, and assertions that are made of them.
-use Rattle.std.proofs.Common.{slice_set, replicate, ◌≡◌, ◌≢◌, ◌∙◌, refl, ap, ap₂, sym, subst, ℕ, zero, suc, ◌+◌, ◌-◌, ◌<◌, ◌≤◌, Bool, true, false, List, [], ◌∷◌, ◌++◌, map, take, drop, length, slice_index, ◌⊎◌, arith, All, inl, inr, IsTrue, Some}
+use Rattle.std.proofs.Common.{◌≡◌, ◌∙◌, refl, ap, ap₂, sym, subst, ℕ, zero, suc, ◌+◌, ◌-◌, ◌<◌, Bool, true, false, List, [], ◌∷◌, ◌++◌, map, take, drop, length, slice_index, ◌⊎◌, arith, All, inl, inr, IsTrue, Some}
 use Rattle.std.specs.Prelude.{if◌then◌else◌}
-use Rattle.std.proofs.lemmas.List.{take-map, length_push, get_or_push, map-append, length-set, length-replicate, get_or-replicate, get_or-set_same, get_or-set_other}
-use Rattle.std.proofs.lemmas.List.Elements.{All-head, All-tail, All-nil, All-cons, All-weaker}
+use Rattle.std.proofs.lemmas.List.{take-map, length_push, get_or_push, map-append}
+use Rattle.std.proofs.lemmas.List.Elements.{All-head, All-tail, All-nil, All-cons}
 use Rattle.smt_meaning.specs.declared.values.Sort.{Sort}
 use Rattle.smt_meaning.specs.declared.values.Sort.TheVariants.{Bool as Truths}
 use Rattle.smt_meaning.specs.declared.terms.Head.{Head}
@@ -22,7 +22,7 @@ use Rattle.scope_stack.specs.Pieces.{pieces, all_of}
 use Rattle.scope_stack.specs.Inside.{asserted_by, frames_by, stack_by, IsWithin}
 use Rattle.scope_stack.specs.Facts.{IsKept}
 use Rattle.scope_stack.specs.Shown.{IsLawful}
-use Rattle.scope_stack.specs.Seen.{AreAssertions, IsSeen, IsFew, names_of, IsPartOf, IsCopied, Copies, AreCopies, AreMoved}
+use Rattle.scope_stack.specs.Seen.{AreAssertions, IsSeen, IsFew, names_of, IsPartOf, AreCopies, AreMoved}
 use Rattle.scope_stack.proofs.FrameLemmas.{tree_at-longer, shown_terms}
 use Rattle.scope_stack.proofs.SeenLemmas.{names_back}
 use Rattle.scope_stack.proofs.PieceLemmas.{all-pieces, length-pieces}
@@ -31,16 +31,6 @@ use Rattle.scope_stack.proofs.PieceLemmas.{all-pieces, length-pieces}
 
 stands_last : (us : List Tree) (t : Tree) → tree_at (us ++ t ∷ []) (length us) ≡ t
 stands_last us t = get_or_push us t _ (length us) refl
-
-stays_with : (us : List Tree) (t x : Tree) (i : ℕ) → (i < length us) × (tree_at us i ≡ x) → (i < length (with_tree us t)) × (tree_at (with_tree us t) i ≡ x)
-stays_with us t x i h = go (is_among t us)
-  where
-    go : (b : Bool) → (i < length (if b then us else us ++ t ∷ [])) × (tree_at (if b then us else us ++ t ∷ []) i ≡ x)
-    go true = h
-    go false = (let long : length (us ++ t ∷ []) ≡ length us + 1 = length_push us t in let lt : i < length us = h.0 in omega (arith, long, lt), tree_at-longer us (t ∷ []) i h.0 ∙ h.1)
-
-pub copies_stay : (ts us : List Tree) (t : Tree) (places : List ℕ) → Copies ts us places → Copies ts (with_tree us t) places
-copies_stay ts us t places h = λ i lt below. stays_with us t (tree_at ts i) (slice_index places i) (h i lt below)
 
 -- an argument of the new tree stands among those before
 one_of_pick : (us : List Tree) (u : Tree) (is : List ℕ) → All (λ i. i < length us) is → IsOneOf u (pick us is) → StandsBelow us (length us) u
@@ -71,74 +61,53 @@ after_with us h is order within i u (inr e) k =
     (below_longer us (tree_with us h is) u (length us) (one_of_pick us u is within (subst (IsArgument u) here k)))
 
 -- where they are different, each stands after its arguments as before
-pub order_with : (us : List Tree) (h : Head) (is : List ℕ) → AreInOrder us → All (λ i. i < length us) is → AreDifferent (with_tree us (tree_with us h is)) → AreInOrder (with_tree us (tree_with us h is))
-order_with us h is order within different = go (is_among (tree_with us h is) us) different
-  where
-    go : (b : Bool) → AreDifferent (if b then us else us ++ tree_with us h is ∷ []) → AreInOrder (if b then us else us ++ tree_with us h is ∷ [])
-    go true d = order
-    go false d =
-        record {
-          different = λ i j p q e. places_same (us ++ tree_with us h is ∷ []) i j d p q e;
-          after_arguments = λ i u lt k.
-              after_with us h is order within i u (at_or_before i (length us) (let long : length (us ++ tree_with us h is ∷ []) ≡ length us + 1 = length_push us (tree_with us h is) in omega (arith, long, lt))) k;
-        }
+order_after : (us : List Tree) (h : Head) (is : List ℕ) → AreInOrder us → All (λ i. i < length us) is → AreDifferent (us ++ tree_with us h is ∷ []) → AreInOrder (us ++ tree_with us h is ∷ [])
+order_after us h is order within d =
+    record {
+      different = λ i j p q e. places_same (us ++ tree_with us h is ∷ []) i j d p q e;
+      after_arguments = λ i u lt k.
+          after_with us h is order within i u (at_or_before i (length us) (let long : length (us ++ tree_with us h is ∷ []) ≡ length us + 1 = length_push us (tree_with us h is) in omega (arith, long, lt))) k;
+    }
 
 -- ---- copies of arguments
 
-pub pick_copies : (ts us : List Tree) (places is : List ℕ) → Copies ts us places → length us ≤ 4294967295 → All (λ i. i < length places) is
-    → All (λ i. i < length us) (map (slice_index places) is) → pick us (map (slice_index places) is) ≡ pick ts is
-pick_copies ts us places [] h few within among = refl
-pick_copies ts us places (i ∷ is) h few within among =
-    let lt : i < length places = All-head (λ j. j < length places) i is within in
-    let below : slice_index places i < length us = All-head (λ j. j < length us) (slice_index places i) (map (slice_index places) is) among in
-    ap₂ more (h i lt (omega (arith, below, few))).1
-    (pick_copies ts us places is h few (All-tail (λ j. j < length places) i is within) (All-tail (λ j. j < length us) (slice_index places i) (map (slice_index places) is) among))
+pub pick_copies : (ts us : List Tree) (places js : List ℕ) → AreCopies ts us places → All (λ j. j < length us) js → pick us js ≡ pick ts (map (slice_index places) js)
+pick_copies ts us places [] c among = refl
+pick_copies ts us places (j ∷ js) c among =
+    ap₂ more (c.copies j (All-head (λ k. k < length us) j js among)) (pick_copies ts us places js c (All-tail (λ k. k < length us) j js among))
 
-pub copied_next : (ts us vs : List Tree) (n place : ℕ) (h : Head) (places is js : List ℕ) → AreCopies ts us places → length us ≤ 4294967295 → n < length ts → tree_at ts n ≡ tree_with ts h is
-    → All (λ i. i < n) is → js ≡ map (slice_index places) is → All (λ j. j < length us) js → vs ≡ with_tree us (tree_with us h js) → AreDifferent vs → IsPlace vs place (tree_with us h js)
-    → AreCopies ts vs places × IsCopied vs (tree_at ts n) place
-copied_next ts us vs n place h places is js c few inside tree within e among grown different at =
-    let known : All (λ i. i < length places) is = All-weaker (λ i. i < n) (λ i. i < length places) (λ i lt. omega (arith, lt, inside, c.size)) is within in
-    let same : pick us js ≡ pick ts is = ap (pick us) e ∙ pick_copies ts us places is c.copies few known (subst (All (λ j. j < length us)) e among) in (
-      record {
-        size = c.size;
-        copies = subst (λ ws. Copies ts ws places) (sym grown) (copies_stay ts us (tree_with us h js) places c.copies);
-        in_order = subst AreInOrder (sym grown) (order_with us h js c.in_order among (subst AreDifferent grown different));
-      },
-      λ below. (at.0, at.1 ∙ ap (node h) same ∙ sym tree),
-    )
+-- ---- one copy more
 
--- ---- one place more
-
-same_or_other : (k n : ℕ) → (k ≡ n) ⊎ (k ≢ n)
-same_or_other zero zero = inl refl
-same_or_other zero (suc n) = inr (λ e. omega (arith, e))
-same_or_other (suc k) zero = inr (λ e. omega (arith, e))
-same_or_other (suc k) (suc n) = further (same_or_other k n)
-  where
-    further : (k ≡ n) ⊎ (k ≢ n) → (suc k ≡ suc n) ⊎ (suc k ≢ suc n)
-    further (inl e) = inl (ap suc e)
-    further (inr d) = inr (λ e. d (omega (arith, e)))
-
-pub copies_next : (ts us : List Tree) (n i : ℕ) (places : List ℕ) → AreCopies ts us places → n < length ts → IsCopied us (tree_at ts n) i → AreCopies ts us (slice_set places n i)
-copies_next ts us n i places h inside at =
+copies_with : (ts us : List Tree) (t : Tree) (places : List ℕ) → AreCopies ts us places → length us < length places → tree_at ts (slice_index places (length us)) ≡ t → AreInOrder (us ++ t ∷ [])
+    → AreCopies ts (us ++ t ∷ []) places
+copies_with ts us t places c room same order =
+    let long : length (us ++ t ∷ []) ≡ length us + 1 = length_push us t in
     record {
-      size = length-set places n i ∙ h.size;
-      copies = λ k lt. one k (omega (arith, lt, length-set places n i)) (same_or_other k n);
-      in_order = h.in_order;
+      few = omega (arith, long, room);
+      copies = λ i lt. one i (at_or_before i (length us) (omega (arith, long, lt)));
+      in_order = order;
     }
   where
-    one : (k : ℕ) → k < length places → (k ≡ n) ⊎ (k ≢ n) → IsCopied us (tree_at ts k) (slice_index (slice_set places n i) k)
-    one k lt (inl e) = rw e (subst (IsCopied us (tree_at ts n)) (sym (get_or-set_same places n i 0 (omega (arith, inside, h.size)))) at)
-    one k lt (inr d) = subst (IsCopied us (tree_at ts k)) (sym (get_or-set_other places n k i 0 d)) (h.copies k lt)
+    one : (i : ℕ) → (i < length us) ⊎ (i ≡ length us) → tree_at (us ++ t ∷ []) i ≡ tree_at ts (slice_index places i)
+    one i (inl lt) = tree_at-longer us (t ∷ []) i lt ∙ c.copies i lt
+    one i (inr e) = ap (tree_at (us ++ t ∷ [])) e ∙ stands_last us t ∙ sym same ∙ ap (λ n. tree_at ts (slice_index places n)) (sym e)
 
-pub none_copied : (ts : List Tree) (n : ℕ) → n ≡ length ts → AreCopies ts [] (replicate n 4294967295)
-none_copied ts n e =
-    record {
-      size = length-replicate {A = ℕ} n 4294967295 ∙ e;
-      copies = λ i lt below. absurd (let far : slice_index (replicate n 4294967295) i ≡ 4294967295 = get_or-replicate {A = ℕ} n i 4294967295 0 (omega (arith, lt, length-replicate {A = ℕ} n 4294967295)) in omega (arith, below, far));
-      in_order = record { different = λ i j p. absurd (omega (arith, p)); after_arguments = λ i u p. absurd (omega (arith, p)) };
-    }
+pub copied_next : (ts us vs : List Tree) (place : ℕ) (h : Head) (places is js : List ℕ) → AreCopies ts us places → length us < length places
+    → tree_at ts (slice_index places (length us)) ≡ tree_with ts h is → map (slice_index places) js ≡ is → All (λ j. j < length us) js
+    → vs ≡ with_tree us (tree_with us h js) → AreDifferent vs → IsPlace vs place (tree_with us h js) → place ≡ length us
+    → AreCopies ts vs places
+copied_next ts us vs place h places is js c room tree e among grown different at next =
+    subst (λ ws. AreCopies ts ws places) (sym grown) (go (is_among new us) (subst AreDifferent grown different) (subst (λ ws. IsPlace ws place new) grown at))
+  where
+    new : Tree
+    new = tree_with us h js
+
+    same : tree_at ts (slice_index places (length us)) ≡ new
+    same = tree ∙ ap (λ ks. tree_with ts h ks) (sym e) ∙ ap (node h) (sym (pick_copies ts us places js c among))
+
+    go : (b : Bool) → AreDifferent (if b then us else us ++ new ∷ []) → IsPlace (if b then us else us ++ new ∷ []) place new → AreCopies ts (if b then us else us ++ new ∷ []) places
+    go true d p = let lt : place < length us = p.0 in absurd (omega (arith, lt, next))
+    go false d p = copies_with ts us new places c room same (order_after us h js c.in_order among d)
 
 -- ---- assertions
 

@@ -40,18 +40,10 @@ pub record IsPartOf (s : Stack) (store : Terms) (xss : List (List Assertion)) (r
 
 -- ---- copies
 
--- a tree stands at a place of a list, unless the place is past all lists of terms
-abbrev pub IsCopied : List Tree → Tree → ℕ → Type 0
-IsCopied us t i = i < most_terms → (i < length us) × (tree_at us i ≡ t)
-
--- so does each of these
-abbrev pub Copies : List Tree → List Tree → List ℕ → Type 0
-Copies ts us places = (i : ℕ) → i < length places → IsCopied us (tree_at ts i) (slice_index places i)
-
--- copies of terms, at these places of a list in order
+-- copies of the terms at the first of these places, in order
 pub record AreCopies (ts us : List Tree) (places : List ℕ) : Type 0 where
-  pub size : length places ≡ length ts
-  pub copies : Copies ts us places
+  pub few : length us ≤ length places
+  pub copies : (i : ℕ) → i < length us → tree_at us i ≡ tree_at ts (slice_index places i)
   pub in_order : AreInOrder us
 
 -- the same assertions, whose terms stand among fewer

@@ -1,5 +1,5 @@
 //! Assertions by levels.
-ghost use Rattle.std.specs.Prelude.{◌≡◌, ◌+◌, ◌-◌, ◌<◌, ◌++◌, ◌∷◌, [], length, take, replicate, map, All, IfOk, OnOk, OnErr, slice_index, if◌then◌else◌};
+ghost use Rattle.std.specs.Prelude.{◌≡◌, ◌+◌, ◌-◌, ◌<◌, ◌++◌, ◌∷◌, [], length, take, replicate, map, All, IfOk, IfSome, OnOk, OnErr, slice_index, if◌then◌else◌};
 ghost use Rattle.smt_meaning.specs.Keeping.{kept_from};
 ghost use Rattle.scope_stack.specs.Trials.{marks, kept_levels, AreCounts};
 ghost use Rattle.scope_stack.specs.Inside.{asserted_by, IsWithin};
@@ -7,7 +7,7 @@ ghost use Rattle.scope_stack.specs.Pieces.{all_of, on_last};
 ghost use Rattle.scope_stack.specs.Seen.{AreCopies, AreMoved};
 
 use crate::answers::Assertion;
-use smt_meaning::TermId;
+use crate::term_set::TermSet;
 use std::alloc::{AllocError, Global};
 use std::marker::Model;
 use term_store::TermStore;
@@ -44,29 +44,32 @@ fn extend(starts: &mut Vec<usize>, count: usize, start: usize) -> Result<(), All
     Ok(())
 }
 
-/// The assertions, where the term at each place has moved to that of its copy.
+/// The assertions, where the term at each place has moved to that of its copy. `None` where one has no copy.
 fn move_all(
     alloc: Global,
     assertions: &[Assertion],
     terms: &TermStore,
     copies: &TermStore,
-    places: &[TermId],
-) -> Result<Vec<Assertion>, AllocError>
+    needed: &TermSet,
+) -> Result<Option<Vec<Assertion>>, AllocError>
     requires within { All (IsWithin terms.now.trees) assertions.now }
-    requires places { AreCopies terms.now.trees copies.now.trees places.now }
-    ensures same { IfOk result (λ v. map (asserted_by copies.now.trees) v.items ≡ map (asserted_by terms.now.trees) assertions.now) }
-    ensures within { IfOk result (λ v. All (IsWithin copies.now.trees) v.items) }
+    requires terms { length needed.now.places.items ≡ length terms.now.trees }
+    requires copies { AreCopies terms.now.trees copies.now.trees needed.now.members.items }
+    ensures same { IfOk result (λ found. IfSome found (λ v. map (asserted_by copies.now.trees) v.items ≡ map (asserted_by terms.now.trees) assertions.now)) }
+    ensures within { IfOk result (λ found. IfSome found (λ v. All (IsWithin copies.now.trees) v.items)) }
 {
     let mut moved = Vec::new(alloc);
     for assertion in assertions {
-        let place = places[assertion.term as usize];
+        let Some(place) = needed.place(assertion.term) else {
+            return Ok(None);
+        };
         if place >= copies.len() {
-            return Err(AllocError);
+            return Ok(None);
         }
         let text = assertion.text.copy(alloc)?;
         moved.push(Assertion { text, term: place })?;
     }
-    Ok(moved)
+    Ok(Some(moved))
 }
 
 /// How many of one are kept.
@@ -226,20 +229,23 @@ impl Asserted {
         Ok(Asserted { items, starts })
     }
 
-    /// The same assertions by levels, where the term at each place has moved to that of its copy. An `Err` is for want of memory, or where a term has no copy.
+    /// The same assertions by levels, where the term at each place has moved to that of its copy. `None` where one has no copy.
     pub(crate) fn moved(
         &self,
         alloc: Global,
         terms: &TermStore,
         copies: &TermStore,
-        places: &[TermId],
-    ) -> Result<Asserted, AllocError>
+        needed: &TermSet,
+    ) -> Result<Option<Asserted>, AllocError>
         requires within { All (IsWithin terms.now.trees) (all_of self.now) }
-        requires places { AreCopies terms.now.trees copies.now.trees places.now }
-        ensures { IfOk result (AreMoved terms.now.trees copies.now.trees self.now) }
+        requires terms { length needed.now.places.items ≡ length terms.now.trees }
+        requires copies { AreCopies terms.now.trees copies.now.trees needed.now.members.items }
+        ensures { IfOk result (λ found. IfSome found (AreMoved terms.now.trees copies.now.trees self.now)) }
     {
-        let items = move_all(alloc, &self.items, terms, copies, places)?;
+        let Some(items) = move_all(alloc, &self.items, terms, copies, needed)? else {
+            return Ok(None);
+        };
         let starts = self.starts.to_vec(alloc)?;
-        Ok(Asserted { items, starts })
+        Ok(Some(Asserted { items, starts }))
     }
 }

@@ -1,112 +1,95 @@
 //! Copies of the terms that assertions need.
-ghost use Rattle.std.specs.Prelude.{◌≡◌, ◌<◌, ◌≤◌, [], true, length, map, All, IfOk, OnOk, slice_index};
-ghost use Rattle.smt_meaning.specs.Term.{tree_at};
-ghost use Rattle.smt_meaning.specs.Parts.{AreInOrder};
+ghost use Rattle.std.specs.Prelude.{◌≡◌, ◌<◌, [], true, length, map, All, IfOk, IfSome, slice_index};
 ghost use Rattle.scope_stack.specs.Inside.{IsWithin};
-ghost use Rattle.scope_stack.specs.Seen.{AreCopies, IsCopied};
+ghost use Rattle.scope_stack.specs.Seen.{AreCopies};
 
 use crate::answers::Assertion;
+use crate::term_set::TermSet;
 use smt_meaning::TermId;
 use std::alloc::{AllocError, Global};
-use term_store::TermStore;
+use term_store::{InternError, TermStore};
 
-/// Terms that were copied, and the place of each old term's copy: past the copies, where it has none.
-#[derive(Drop)]
-pub(crate) struct Copied {
-    pub terms: TermStore,
-    pub places: Vec<TermId>,
-}
-
-/// Lists a term that wasn't listed before.
-fn list(seen: &mut [bool], ids: &mut Vec<TermId>, id: TermId) -> Result<(), AllocError>
-    requires within { id < length seen.old }
-    requires listed { All (λ i. i < length seen.old) ids.old.items }
-    ensures size { length seen.new ≡ length seen.old }
-    ensures listed { All (λ i. i < length seen.old) ids.new.items }
-{
-    if !seen[id as usize] {
-        seen[id as usize] = true;
-        ids.push(id)?;
-    }
-    Ok(())
-}
-
-/// Lists those of these terms that weren't listed before.
-fn list_all(seen: &mut [bool], ids: &mut Vec<TermId>, terms: &[TermId]) -> Result<(), AllocError>
-    requires within { All (λ i. i < length seen.old) terms.now }
-    requires listed { All (λ i. i < length seen.old) ids.old.items }
-    ensures size { length seen.new ≡ length seen.old }
-    ensures listed { All (λ i. i < length seen.old) ids.new.items }
+/// Adds terms to a set.
+fn insert_all(set: &mut TermSet, terms: &[TermId]) -> Result<(), AllocError>
+    requires within { All (λ i. i < length set.old.places.items) terms.now }
+    requires members { All (λ i. i < length set.old.places.items) set.old.members.items }
+    ensures terms { length set.new.places.items ≡ length set.old.places.items }
+    ensures members { All (λ i. i < length set.old.places.items) set.new.members.items }
 {
     for term in terms {
-        list(seen, ids, *term)?;
+        set.insert(*term)?;
     }
     Ok(())
 }
 
-/// Lists the terms of assertions.
-fn list_assertions(
-    seen: &mut [bool],
-    ids: &mut Vec<TermId>,
-    assertions: &[Assertion],
-) -> Result<(), AllocError>
-    requires within { All (λ a. a.term < length seen.old) assertions.now }
-    requires listed { All (λ i. i < length seen.old) ids.old.items }
-    ensures size { length seen.new ≡ length seen.old }
-    ensures listed { All (λ i. i < length seen.old) ids.new.items }
+/// Adds the terms of assertions to a set.
+fn insert_assertions(set: &mut TermSet, assertions: &[Assertion]) -> Result<(), AllocError>
+    requires within { All (λ a. a.term < length set.old.places.items) assertions.now }
+    requires members { All (λ i. i < length set.old.places.items) set.old.members.items }
+    ensures terms { length set.new.places.items ≡ length set.old.places.items }
+    ensures members { All (λ i. i < length set.old.places.items) set.new.members.items }
 {
     for assertion in assertions {
-        list(seen, ids, assertion.term)?;
+        set.insert(assertion.term)?;
     }
     Ok(())
 }
 
-/// Lists the arguments of the terms listed, each after those before it.
-fn list_below(seen: &mut [bool], ids: &mut Vec<TermId>, terms: &TermStore) -> Result<(), AllocError>
-    requires size { length seen.old ≡ length terms.now.trees }
-    requires listed { All (λ i. i < length terms.now.trees) ids.old.items }
-    ensures listed { All (λ i. i < length terms.now.trees) ids.new.items }
+/// Adds the arguments of the members, also of those that are added, until there are more than so many members.
+fn insert_arguments(set: &mut TermSet, terms: &TermStore, most: usize) -> Result<(), AllocError>
+    requires terms { length set.old.places.items ≡ length terms.now.trees }
+    requires members { All (λ i. i < length terms.now.trees) set.old.members.items }
+    ensures terms { length set.new.places.items ≡ length terms.now.trees }
+    ensures members { All (λ i. i < length terms.now.trees) set.new.members.items }
 {
     for next in 0..terms.len() as usize {
-        if next >= ids.len() {
+        let count = set.members.len();
+        if next >= count || count > most {
             break;
         }
-        list_all(seen, ids, terms.node(ids[next]).arguments)?;
+        let id = set.members[next];
+        insert_all(set, terms.node(id).arguments)?;
     }
     Ok(())
 }
 
-/// The terms that assertions are made of, in order. No clause says which, since the copies are tested.
-pub(crate) fn needed(
-    alloc: Global,
+/// Makes a set the terms that assertions are made of, in order. False where there are more than so many. No clause says which they are, since the copies are tested.
+pub(crate) fn find_needed(
+    needed: &mut TermSet,
     terms: &TermStore,
     assertions: &[Assertion],
-) -> Result<Vec<TermId>, AllocError>
+    most: usize,
+) -> Result<bool, AllocError>
     requires { All (IsWithin terms.now.trees) assertions.now }
-    ensures { IfOk result (λ v. All (λ i. i < length terms.now.trees) v.items) }
+    ensures terms { IfOk result (λ few. few ≡ true → length needed.new.places.items ≡ length terms.now.trees) }
+    ensures members { IfOk result (λ few. few ≡ true → All (λ i. i < length terms.now.trees) needed.new.members.items) }
 {
-    let mut seen = vec![in alloc; false; terms.len() as usize]?;
-    let mut ids = Vec::new(alloc);
-    list_assertions(&mut seen, &mut ids, assertions)?;
-    list_below(&mut seen, &mut ids, terms)?;
-    ids.sort_unstable();
-    Ok(ids)
+    needed.clear(terms.len() as usize)?;
+    insert_assertions(needed, assertions)?;
+    insert_arguments(needed, terms, most)?;
+    if needed.members.len() > most {
+        return Ok(false);
+    }
+    needed.sort();
+    Ok(true)
 }
 
-/// Lists the places of copies of the terms at these places. False where one has no copy.
+/// Lists the places of copies of the terms at these places, where so many of those that are needed were copied. False where one has no copy.
 fn list_copies(
-    places: &[TermId],
+    needed: &TermSet,
     count: u32,
     arguments: &[TermId],
     copies: &mut Vec<TermId>,
 ) -> Result<bool, AllocError>
-    requires within { All (λ i. i < length places.now) arguments.now }
+    requires within { All (λ i. i < length needed.now.places.items) arguments.now }
     requires empty { copies.old.items ≡ [] }
-    ensures listed { IfOk result (λ done. done ≡ true → copies.new.items ≡ map (slice_index places.now) arguments.now) }
+    ensures listed { IfOk result (λ done. done ≡ true → map (slice_index needed.now.members.items) copies.new.items ≡ arguments.now) }
     ensures among { IfOk result (λ done. done ≡ true → All (λ i. i < count) copies.new.items) }
 {
     for argument in arguments {
-        let place = places[*argument as usize];
+        let Some(place) = needed.place(*argument) else {
+            return Ok(false);
+        };
         if place >= count {
             return Ok(false);
         }
@@ -115,53 +98,57 @@ fn list_copies(
     Ok(true)
 }
 
-/// Copies a term, where its arguments were copied, and gives its place.
-fn copy_term(
+/// Copies the next of the terms that are needed. False where there is none, or an argument of it has no copy, or it has one.
+fn copy_next(
     terms: &TermStore,
     copies: &mut TermStore,
-    places: &[TermId],
+    needed: &TermSet,
     buffer: &mut Vec<TermId>,
-    id: TermId,
-) -> Result<TermId, AllocError>
-    requires within { id < length terms.now.trees }
+) -> Result<bool, AllocError>
+    requires terms { length needed.now.places.items ≡ length terms.now.trees }
+    requires members { All (λ i. i < length terms.now.trees) needed.now.members.items }
     requires limit { copies.old.limit ≡ 4294967295 }
-    requires copies { AreCopies terms.now.trees copies.old.trees places.now }
+    requires copies { AreCopies terms.now.trees copies.old.trees needed.now.members.items }
     ensures limit { copies.new.limit ≡ copies.old.limit }
-    ensures copies { OnOk result (AreCopies terms.now.trees copies.new.trees places.now) }
-    ensures place { IfOk result (IsCopied copies.new.trees (tree_at terms.now.trees id)) }
+    ensures copies { IfOk result (λ done. done ≡ true → AreCopies terms.now.trees copies.new.trees needed.now.members.items) }
 {
-    let node = terms.node(id);
-    buffer.clear();
-    let all = list_copies(places, copies.len(), node.arguments, buffer)?;
-    if !all {
-        return Ok(u32::MAX);
+    let next = copies.len();
+    if next as usize >= needed.members.len() {
+        return Ok(false);
     }
-    let Ok(place) = copies.intern(node.head, buffer) else {
-        return Err(AllocError);
+    let node = terms.node(needed.members[next as usize]);
+    buffer.clear();
+    let all = list_copies(needed, next, node.arguments, buffer)?;
+    if !all {
+        return Ok(false);
+    }
+    let place = match copies.intern(node.head, buffer) {
+        Ok(place) => place,
+        Err(InternError::Full) => return Ok(false),
+        Err(InternError::Memory) => return Err(AllocError),
     };
     let _count = copies.len();
-    Ok(place)
+    Ok(place == next)
 }
 
-/// Copies these terms.
+/// Copies the terms that are needed, in order. `None` where one can't be copied.
 pub(crate) fn copy_terms(
     alloc: Global,
     terms: &TermStore,
-    ids: &[TermId],
-) -> Result<Copied, AllocError>
-    requires { All (λ i. i < length terms.now.trees) ids.now }
-    ensures limit { IfOk result (λ c. c.terms.limit ≡ 4294967295) }
-    ensures copies { IfOk result (λ c. AreCopies terms.now.trees c.terms.trees c.places.items) }
+    needed: &TermSet,
+) -> Result<Option<TermStore>, AllocError>
+    requires terms { length needed.now.places.items ≡ length terms.now.trees }
+    requires members { All (λ i. i < length terms.now.trees) needed.now.members.items }
+    ensures limit { IfOk result (λ found. IfSome found (λ c. c.limit ≡ 4294967295)) }
+    ensures copies { IfOk result (λ found. IfSome found (λ c. AreCopies terms.now.trees c.trees needed.now.members.items)) }
 {
     let mut copies = TermStore::new(alloc, u32::MAX);
-    let mut places = vec![in alloc; u32::MAX; terms.len() as usize]?;
     let mut buffer = Vec::new(alloc);
-    for id in ids {
-        let place = copy_term(terms, &mut copies, &places, &mut buffer, *id)?;
-        places[*id as usize] = place;
+    for _ in 0..needed.members.len() {
+        let done = copy_next(terms, &mut copies, needed, &mut buffer)?;
+        if !done {
+            return Ok(None);
+        }
     }
-    Ok(Copied {
-        terms: copies,
-        places,
-    })
+    Ok(Some(copies))
 }

@@ -1,10 +1,11 @@
 //! The terms of a stack's assertions alone.
-ghost use Rattle.std.specs.Prelude.{◌≡◌, ◌+◌, ◌≤◌, ◌<◌, length, IfOk};
+ghost use Rattle.std.specs.Prelude.{◌≡◌, ◌+◌, ◌≤◌, ◌<◌, length, IfOk, IfSome};
 ghost use Rattle.scope_stack.specs.Seen.{AreAssertions, IsFew};
 
 use crate::asserted::Asserted;
-use crate::copy::{Copied, copy_terms, needed};
+use crate::copy::{copy_terms, find_needed};
 use crate::facts::TermFacts;
+use crate::term_set::TermSet;
 use smt_sorts::Table;
 use std::alloc::{AllocError, Global};
 use term_store::TermStore;
@@ -17,30 +18,33 @@ pub(crate) struct Few {
     pub facts: TermFacts,
 }
 
-/// The terms of the assertions alone, and the same assertions by their new places. An `Err` is for want of memory, or where they are most of the terms.
+/// The terms of the assertions alone, and the same assertions by their new places. `None` where they are most of the terms. It costs no more than these terms and those that were added since the last time. An `Err` is for want of memory.
 pub(crate) fn few_terms(
     alloc: Global,
     table: &Table,
     terms: &TermStore,
     asserted: &Asserted,
-) -> Result<Few, AllocError>
+    needed: &mut TermSet,
+) -> Result<Option<Few>, AllocError>
     requires { AreAssertions table.now terms.now asserted.now }
-    ensures { IfOk result (λ f. IsFew table.now terms.now.trees asserted.now f.terms f.asserted f.facts.sorts.items f.facts.levels.items) }
+    ensures { IfOk result (λ found. IfSome found (λ f. IsFew table.now terms.now.trees asserted.now f.terms f.asserted f.facts.sorts.items f.facts.levels.items)) }
 {
-    let ids = needed(alloc, terms, asserted.all())?;
-    if ids.len() > terms.len() as usize / 2 {
-        return Err(AllocError);
+    let most = terms.len() as usize / 2;
+    let few = find_needed(needed, terms, asserted.all(), most)?;
+    if !few {
+        return Ok(None);
     }
-    let Copied {
-        terms: copies,
-        places,
-    } = copy_terms(alloc, terms, &ids)?;
-    let moved = asserted.moved(alloc, terms, &copies, &places)?;
+    let Some(copies) = copy_terms(alloc, terms, needed)? else {
+        return Ok(None);
+    };
+    let Some(moved) = asserted.moved(alloc, terms, &copies, needed)? else {
+        return Ok(None);
+    };
     let mut facts = TermFacts::new(alloc);
     facts.extend(table, &copies, 0)?;
-    Ok(Few {
+    Ok(Some(Few {
         terms: copies,
         asserted: moved,
         facts,
-    })
+    }))
 }

@@ -36,6 +36,7 @@ mod judge;
 mod room;
 mod stack;
 mod term;
+mod term_set;
 mod trial;
 
 pub use answers::{Asked, Assertion, Carried, StackError};

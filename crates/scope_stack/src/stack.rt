@@ -7,6 +7,7 @@ use crate::declare;
 use crate::facts::{TermFacts, add_assertion, add_level};
 use crate::few::{Few, few_terms};
 use crate::term::{judge_assertion, judge_assumptions, judge_questions};
+use crate::term_set::TermSet;
 use smt_laws::{
     assertions_are_truths, assumptions_are_commands, no_id_twice, parts_are_among_the_trees,
     tree_equality_decides, trees_are_in_order,
@@ -31,6 +32,8 @@ pub struct ScopeStack {
     terms: TermStore,
     asserted: Asserted,
     facts: TermFacts,
+    /// The terms that a check needs, found anew at each check.
+    needed: TermSet,
     global: bool,
 }
 
@@ -84,6 +87,7 @@ impl ScopeStack {
             terms: TermStore::new(alloc, MOST_TERMS),
             asserted: Asserted::new(alloc),
             facts: TermFacts::new(alloc),
+            needed: TermSet::new(alloc),
             global: false,
         }
     }
@@ -382,6 +386,7 @@ impl ScopeStack {
             terms,
             asserted,
             facts,
+            needed,
             global,
         } = self;
         Stack {
@@ -389,6 +394,7 @@ impl ScopeStack {
             terms,
             asserted,
             facts,
+            needed,
             global,
         }
     }
@@ -403,6 +409,7 @@ impl ScopeStack {
             terms,
             asserted,
             facts,
+            needed,
             global,
         } = stack;
         ScopeStack {
@@ -410,6 +417,7 @@ impl ScopeStack {
             terms,
             asserted,
             facts,
+            needed,
             global,
         }
     }
@@ -428,15 +436,17 @@ impl ScopeStack {
             terms,
             asserted,
             facts,
+            mut needed,
             global,
         } = self;
-        match few_terms(alloc, &table, &terms, &asserted) {
-            Ok(few) => {
+        match few_terms(alloc, &table, &terms, &asserted, &mut needed) {
+            Ok(Some(few)) => {
                 let stack = Stack {
                     table,
                     terms: few.terms,
                     asserted: few.asserted,
                     facts: few.facts,
+                    needed,
                     global,
                 };
                 Ok(Part {
@@ -446,11 +456,12 @@ impl ScopeStack {
                     facts,
                 })
             }
-            Err(_) => Err(ScopeStack {
+            Ok(None) | Err(_) => Err(ScopeStack {
                 table,
                 terms,
                 asserted,
                 facts,
+                needed,
                 global,
             }),
         }
@@ -464,6 +475,8 @@ pub struct Stack {
     pub(crate) terms: TermStore,
     pub(crate) asserted: Asserted,
     pub(crate) facts: TermFacts,
+    /// Nothing but room, for the checks to come.
+    pub(crate) needed: TermSet,
     pub(crate) global: bool,
 }
 
@@ -627,12 +640,18 @@ impl Part {
             asserted,
             facts,
         } = self;
-        let Stack { table, global, .. } = stack;
+        let Stack {
+            table,
+            needed,
+            global,
+            ..
+        } = stack;
         ScopeStack {
             table,
             terms,
             asserted,
             facts,
+            needed,
             global,
         }
     }

@@ -80,6 +80,7 @@ impl Trial {
             terms,
             asserted,
             facts,
+            needed,
             global,
         } = stack;
         match asserted.kept(alloc, &kept) {
@@ -89,6 +90,7 @@ impl Trial {
                     terms,
                     asserted: fewer,
                     facts,
+                    needed,
                     global,
                 };
                 Ok(Thinned {
@@ -103,6 +105,7 @@ impl Trial {
                     terms,
                     asserted,
                     facts,
+                    needed,
                     global,
                 };
                 Err(Trial { stack, kept })
@@ -162,6 +165,7 @@ impl Thinned {
             table,
             terms,
             facts,
+            needed,
             global,
             ..
         } = stack;
@@ -170,6 +174,7 @@ impl Thinned {
             terms,
             asserted,
             facts,
+            needed,
             global,
         };
         Trial { stack, kept }

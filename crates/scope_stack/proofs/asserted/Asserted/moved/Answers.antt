@@ -1,4 +1,4 @@
-use Rattle.std.proofs.Common.{◌∙◌, sym, subst, ap, map, All, List}
+use Rattle.std.proofs.Common.{◌≡◌, ◌∙◌, sym, subst, ap, map, All, List, IfSome}
 use Rattle.scope_stack.specs.declared.answers.Assertion.{Assertion}
 use Rattle.scope_stack.specs.Pieces.{all_of, pieces}
 use Rattle.scope_stack.specs.Inside.{asserted_by, IsWithin}
@@ -15,7 +15,11 @@ move_all-requires-clause-within c =
 
 pub returns : goal.returns
 returns c =
-    subst (λ (xss : List (List Assertion)). AreMoved c.args.terms.now.trees c.args.copies.now.trees xss (pieces 0 c.in_ok-items.items.items c.in_ok-starts.starts.items)) c.self.view_is
-    (moved_pieces c.args.terms.now.trees c.args.copies.now.trees c.self.inside.items.items c.in_ok-items.items.items c.self.inside.starts.items c.in_ok-starts.starts.items
-    (c.in_ok-items.ensures.same ∙ ap (map (asserted_by c.args.terms.now.trees)) c.deref.ensures.value) c.in_ok-items.ensures.within
+    let trees = c.args.terms.now.trees in
+    let copies = c.args.copies.now.trees in
+    let same = subst (λ found. IfSome found (λ v. map (asserted_by copies) v.items ≡ map (asserted_by trees) c.deref.result.now)) c.in-Some.is c.in_ok-items.ensures.same in
+    let within = subst (λ found. IfSome found (λ v. All (IsWithin copies) v.items)) c.in-Some.is c.in_ok-items.ensures.within in
+    subst (λ (xss : List (List Assertion)). AreMoved trees copies xss (pieces 0 c.in-Some.items.items c.in_ok-starts.starts.items)) c.self.view_is
+    (moved_pieces trees copies c.self.inside.items.items c.in-Some.items.items c.self.inside.starts.items c.in_ok-starts.starts.items
+    (same ∙ ap (map (asserted_by trees)) c.deref.ensures.value) within
     (c.in_ok-starts.ensures.items_if_clones_equal (λ x y e. e) ∙ c.deref-2.ensures.value))

@@ -1,5 +1,0 @@
-use Rattle.std.proofs.Common.{◌≡◌, ◌<◌, length, All}
-use Rattle.scope_stack.proofs.copy.list_below.Given as goal
-
-abbrev pub invariant-loop-next : goal.invariant-loop-next
-invariant-loop-next l = (length l.seen ≡ length l.terms.trees) × All (λ i. i < length l.terms.trees) l.ids.items
