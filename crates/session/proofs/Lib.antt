@@ -15,3 +15,4 @@ pub mod Listing
 pub mod GoalSteps
 pub mod LeastSteps
 pub mod Itself
+pub mod Lasts

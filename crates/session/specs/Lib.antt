@@ -10,3 +10,4 @@ pub mod Assumed
 pub mod Under
 pub mod Minimized
 pub mod Stored
+pub mod LastCheck

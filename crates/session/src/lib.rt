@@ -3,6 +3,9 @@
 //! `Session::new`, `step`: a command may be answered so in the state before, with this kept, and
 //! leaves this state, by the definition of replies. It stops exactly on an accepted `exit`; want of
 //! memory changes nothing.
+//!
+//! `Session::into_last_check`: in the modes after a check, and in no other, the stack and the
+//! assumptions of the last check.
 #![tactic(auto)]
 
 mod above;
@@ -20,4 +23,4 @@ mod options;
 mod printed;
 mod state;
 
-pub use state::{Done, Session};
+pub use state::{Done, LastCheck, Session};

@@ -1,8 +1,9 @@
 //! What a run has come to.
 ghost use Rattle.std.specs.Prelude.{◌≡◌, ◌<◌};
 ghost use Rattle.smt_meaning.specs.State.{is_start as is_start_mode, is_unsat as is_unsat_mode};
+ghost use Rattle.session.specs.LastCheck.{is_after_check as is_mode_after_check};
 
-use crate::above::Above;
+use crate::above::{Above, into_assumptions};
 use crate::answer::answer_of;
 use crate::asked::values_of;
 use crate::assignment::named_truths;
@@ -15,7 +16,7 @@ use crate::minimizing::minimize_under;
 use crate::options::{option_value, options_at_start, start_option, with_setting};
 use crate::printed::{printed_functions, texts_of};
 use model_eval::EvalError;
-use scope_stack::{Carried, ScopeStack, StackError};
+use scope_stack::{Assertion, Carried, ScopeStack, Stack, StackError};
 use smt_meaning::language::{
     Command, Error, Info, InfoName, Mode, OptionName, OptionSetting, Options, Reply,
 };
@@ -62,9 +63,18 @@ pub struct Done {
     pub stop: bool,
 }
 
+/// What the last check was of.
+#[derive(Drop)]
+pub struct LastCheck {
+    /// The stack, without the level of the assumptions.
+    pub stack: Stack,
+    /// The assumptions of the check, whose terms are the stack's.
+    pub assumptions: Seq<Assertion>,
+}
+
 impl Session {
-    ghost use Rattle.std.specs.Prelude.{◌≡◌, ◌≢◌, ◌<◌, ◌↔◌, IfOk, OnErr, IsTrue};
-    ghost use Rattle.std.specs.Prelude.{codes, [], IsFalse};
+    ghost use Rattle.std.specs.Prelude.{◌≡◌, ◌≢◌, ◌<◌, ◌↔◌, IfOk, IfSome, IfNone, OnErr, IsTrue};
+    ghost use Rattle.std.specs.Prelude.{codes, [], IsFalse, false};
     ghost use Rattle.smt_meaning.specs.State.{start, with_logic, asserting, set_logic, set_option_in, start_option, option_value, reason_unknown, get_info, stack_effect, checks, check_assuming, minimize, effect, kept_model, get_value, get_model, get_assertions, get_assignment, checked_frames, get_unsat_core, get_unsat_assumptions};
     ghost use Rattle.std.specs.Prelude.{length};
     ghost use Rattle.smt_meaning.specs.Core.{IsReduced, checked_trees};
@@ -77,6 +87,7 @@ impl Session {
     ghost use Rattle.smt_meaning.specs.declared.commands.Command.TheVariants.{Exit, Reset, ResetAssertions, CheckSatAssuming, Minimize};
     ghost use Rattle.session.specs.Above.{above_by, AreAbove};
     ghost use Rattle.session.specs.Refuted.{IsRefuted, WhereUnsat};
+    ghost use Rattle.session.specs.LastCheck.{is_after_check, IsOfLastCheck};
 
     /// The state at the start of a run. It takes no memory.
     pub fn new(alloc: Global, settings: &Settings) -> Self
@@ -109,6 +120,26 @@ impl Session {
         let (reply, kept) = self.respond(alloc, command, decider)?;
         let stop = matches!(command, Command::Exit);
         Ok(Done { reply, kept, stop })
+    }
+
+    /// What the last check was of, with what the state keeps. `None` where the mode isn't one after a check. It takes no memory.
+    pub fn into_last_check(self, alloc: Global) -> Option<LastCheck>
+        ensures some { IfSome result (λ c. IsOfLastCheck self c.stack c.assumptions) }
+        ensures none { IfNone result (is_after_check self.mode ≡ false) }
+    {
+        let Session {
+            mode,
+            stack,
+            above,
+            ..
+        } = self;
+        if !is_after_check(&mode) {
+            return None;
+        }
+        Some(LastCheck {
+            stack: stack.into_stack(),
+            assumptions: into_assumptions(alloc, above),
+        })
     }
 
     /// Answers a command.
@@ -563,4 +594,10 @@ fn is_unsat(mode: &Mode) -> bool
     ensures { result ≡ is_unsat_mode mode.now }
 {
     matches!(mode, Mode::Unsat)
+}
+
+fn is_after_check(mode: &Mode) -> bool
+    ensures { result ≡ is_mode_after_check mode.now }
+{
+    !matches!(mode, Mode::Start | Mode::Assert)
 }
