@@ -1,0 +1,88 @@
+-- Terms among those of the stack.
+use Rattle.std.proofs.Common.{◌≡◌, ℕ, zero, suc, ◌+◌, ◌<◌, Bool, true, false, List, [], ◌∷◌, ◌++◌, length, get_or, take, All, refl, ap, sym, subst, ◌∙◌, arith}
+use Rattle.std.specs.Prelude.{Option, Some, None, if◌then◌else◌}
+use Rattle.std.proofs.lemmas.List.{get_or-take, length-take-le, take_more}
+use Rattle.smt_meaning.specs.declared.terms.Head.{Head}
+use Rattle.smt_meaning.specs.Term.{Tree, Trees, node, none, more, tree_at}
+use Rattle.smt_meaning.specs.TreeShape.{is_among, with_tree, with_parts, with_all_parts, place_of}
+use Rattle.smt_laws.proofs.Among.{Among, among_append, kept_with_all_parts, among_parts}
+use Rattle.smt_laws.proofs.SameTree.{found_again}
+use Rattle.term_store.specs.Terms.{tree_with, IsPlace, IsNew, AreDifferent, AreComplete}
+use Rattle.term_store.proofs.NodeLemmas.{pick-agree}
+use Rattle.term_store.proofs.PlaceLemmas.{among_at, place_of-within, with_tree_new}
+use Rattle.proof_form.specs.declared.terms_facts.Fact.{Fact}
+use Rattle.proof_form.specs.TermFacts.{with_held, held_of}
+
+-- ---- the places of arguments
+
+pub held_push : (fs : List Fact) (is : List ℕ) (f : Fact) (i : ℕ) → held_of fs ≡ Some is → f.held ≡ Some i → held_of (fs ++ f ∷ []) ≡ Some (is ++ i ∷ [])
+held_push [] is f i e h = ap (λ o. with_held o (Some [])) h ∙ ap (λ (js : Option (List ℕ)). elim js [ None ↦ None | Some js ↦ Some (js ++ i ∷ []) ]) e
+held_push (g ∷ fs) is f i e h = by g.held (held_of fs) (λ js r. held_push fs js f i r h) e refl
+  where
+    by : (o : Option ℕ) (rest : Option (List ℕ)) → ((js : List ℕ) → held_of fs ≡ Some js → held_of (fs ++ f ∷ []) ≡ Some (js ++ i ∷ [])) → with_held o rest ≡ Some is → held_of fs ≡ rest
+        → with_held o (held_of (fs ++ f ∷ [])) ≡ Some (is ++ i ∷ [])
+    by None rest before e r = cc
+    by (Some j) None before e r = cc
+    by (Some j) (Some js) before e r =
+        let here : j ∷ js ≡ is = cc in
+        ap (with_held (Some j)) (before js r) ∙ ap (λ (xs : List ℕ). Some (xs ++ i ∷ [])) here
+
+with_none : (o : Option ℕ) → with_held o None ≡ None
+with_none None = refl
+with_none (Some i) = refl
+
+pub held_nowhere : (fs : List Fact) (k : ℕ) (d : Fact) → k < length fs → (get_or fs k d).held ≡ None → held_of fs ≡ None
+held_nowhere [] k d h e = absurd (omega arith)
+held_nowhere (f ∷ fs) zero d h e = ap (λ o. with_held o (held_of fs)) e
+held_nowhere (f ∷ fs) (suc k) d h e = ap (with_held f.held) (held_nowhere fs k d (omega arith) e) ∙ with_none f.held
+
+-- ---- a copy
+
+module _ (ts : List Tree) (k : ℕ) (h : Head) (is : List ℕ) (different : AreDifferent ts) (inside : k < length ts) (tree : tree_at ts k ≡ tree_with ts h is) (earlier : All (λ i. i < k) is) where
+  in_take : (i : ℕ) → i < k → tree_at (take k ts) i ≡ tree_at ts i
+  in_take i less = get_or-take k ts i _ less
+
+  same_tree : tree_with (take k ts) h is ≡ tree_at ts k
+  same_tree = ap (node h) (pick-agree ts (take k ts) is k in_take earlier) ∙ sym tree
+
+  new_tree : IsNew (take k ts) (tree_with (take k ts) h is)
+  new_tree i less e =
+      let size : length (take k ts) ≡ k = length-take-le k ts (omega arith) in
+      different i k (omega arith) inside (sym (in_take i (omega arith)) ∙ e ∙ same_tree)
+
+  pub copied_more : (us : List Tree) → us ≡ take k ts → with_tree us (tree_with us h is) ≡ take (k + 1) ts
+  copied_more us e =
+      ap (λ xs. with_tree xs (tree_with xs h is)) e ∙ with_tree_new (tree_with (take k ts) h is) (take k ts) new_tree
+      ∙ ap (λ t. take k ts ++ t ∷ []) same_tree ∙ sym (take_more ts k _ inside)
+
+-- ---- the parts of a complete list
+
+abbrev pub AllAmong : List Tree → Trees → Type 0
+AllAmong hs none = Unit {0}
+AllAmong hs (more v vs) = Among v hs × AllAmong hs vs
+
+all_kept : (hs ks : List Tree) (vs : Trees) → ((t : Tree) → Among t hs → Among t ks) → AllAmong hs vs → AllAmong ks vs
+all_kept hs ks none f a = tt
+all_kept hs ks (more v vs) f a = (f v a.0, all_kept hs ks vs f a.1)
+
+all_added : (hs : List Tree) (vs : Trees) → AllAmong (with_all_parts hs vs) vs
+all_added hs none = tt
+all_added hs (more v vs) = (kept_with_all_parts v (with_parts hs v) vs (among_parts v hs), all_added (with_parts hs v) vs)
+
+kept_tree : (t u : Tree) (hs : List Tree) → Among t hs → Among t (with_tree hs u)
+kept_tree t u hs a = by (is_among u hs)
+  where
+    by : (b : Bool) → Among t (if b then hs else (hs ++ u ∷ []))
+    by true = a
+    by false = among_append t hs (u ∷ []) a
+
+pub arguments_among : (hs : List Tree) (h : Head) (vs : Trees) (i : ℕ) → AreComplete hs → IsPlace hs i (node h vs) → AllAmong hs vs
+arguments_among hs h vs i complete at =
+    let e : with_parts hs (node h vs) ≡ hs = ap (with_parts hs) (sym at.1) ∙ complete i at.0 in
+    all_kept (with_all_parts hs vs) hs vs (λ t a. subst (Among t) e (kept_tree t (node h vs) (with_all_parts hs vs) a)) (all_added hs vs)
+
+pub not_among_new : (hs : List Tree) (t : Tree) → IsNew hs t → Among t hs → ⊥
+not_among_new hs t new a = new (place_of t hs) (place_of-within t hs a) (found_again t hs a)
+
+pub not_among_is_new : (hs : List Tree) (t : Tree) → is_among t hs ≡ false → IsNew hs t
+not_among_is_new hs t h i less e = let a = among_at t hs i less e in cc

@@ -1,0 +1,34 @@
+use Rattle.std.proofs.Common.{List, subst, sym, arith, rules, ◌∙◌}
+use Rattle.std.specs.Prelude.{All}
+use Rattle.std.proofs.lemmas.List.Elements.{All-contains, All-push}
+use Rattle.smt_meaning.specs.declared.clauses.Literal.{Literal}
+use Rattle.smt_meaning.specs.Proof.{IsLiteral}
+use Rattle.smt_meaning.specs.ProofRules.{differing}
+use Rattle.proof_form.specs.Kept.{AreCodesOf}
+use Rattle.proof_form.proofs.ClausesCodes.{go_on_both}
+use Rattle.proof_form.proofs.EqualitiesComes.{differing_more, differs_at, differ_at}
+use Rattle.proof_form.proofs.equalities.differing_codes.Goals as goal
+
+pub returns-then-not-branch-clause-other : goal.returns-then-not-branch-clause-other
+returns-then-not-branch-clause-other c =
+    let t = c.args.terms.now in
+    let xs = c.args.left.now in
+    let ys = c.args.right.now in
+    let i = c.loop-i.i in
+    λ e h. c.add_same.ensures.other (search rules) (All-contains (IsLiteral t.declared t.trees) (differing xs ys) (differ_at xs ys i) h (differs_at xs ys i (omega arith) c.requires))
+
+pub loop-i-preserved : goal.loop-i-preserved
+loop-i-preserved c =
+    let t = c.args.terms.now in
+    let xs = c.args.left.now in
+    let ys = c.args.right.now in
+    let i = c.loop-i.i in
+    let before = c.loop-i.invariant in
+    let more = differing_more xs ys i (omega arith) c.requires in
+    let good = c.add_same.ensures.literal (search rules) in
+    record {
+      literals = subst (λ (ls : List Literal). All (IsLiteral t.declared t.trees) ls) (sym more) (All-push (IsLiteral t.declared t.trees) _ (differ_at xs ys i) before.literals good.0);
+      codes = subst (λ (ls : List Literal). AreCodesOf c.add_same.new.clauses.atoms c.add_same.new.codes.items ls) (sym more) (good.1 _ before.codes);
+      clauses = c.add_same.ensures.clauses ∙ before.clauses;
+      atoms = go_on_both c.args.clauses.now.atoms c.loop-i.clauses.atoms c.add_same.new.clauses.atoms before.atoms c.add_same.ensures.atoms;
+    }

@@ -1,0 +1,46 @@
+//! Proofs that assertions have no model, read and judged.
+//!
+//! `judge`: an s-expression in the place of a proof is judged against the assertions of a stack:
+//! what is found of it is exactly what the definition of good proofs says, as long as no number on
+//! the way leaves the range.
+#![tactic(auto)]
+
+mod bound_codes;
+mod bound_quotients;
+mod bounds;
+mod clauses;
+mod clauses_laid;
+mod clauses_merge;
+mod equalities;
+mod farkas;
+mod farkas_entries;
+mod farkas_sums;
+mod form;
+mod form_pairs;
+mod form_parts;
+mod form_values;
+mod found;
+mod literals;
+mod read;
+mod read_apart;
+mod read_atoms;
+mod read_names;
+mod read_nodes;
+mod read_numbers;
+mod read_parts;
+mod read_steps;
+mod read_sums;
+mod resolution;
+mod steps;
+mod symbols;
+mod terms;
+mod terms_bounds;
+mod terms_facts;
+mod terms_held;
+mod terms_nodes;
+mod terms_table;
+mod verdict;
+mod whole;
+
+pub use found::Found;
+pub use whole::judge;

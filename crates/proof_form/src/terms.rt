@@ -1,0 +1,193 @@
+//! The terms of a proof: their nodes, sorts, linear forms, and which of the stack's terms they are.
+ghost use Rattle.std.specs.Prelude.{◌≡◌};
+
+use crate::terms_bounds;
+use crate::terms_held::copy;
+use crate::terms_table::TermTable;
+use scope_stack::Stack;
+use smt_meaning::{Node, Sort, Summand, TermId};
+use std::alloc::{AllocError, Global};
+use std::marker::Model;
+use term_store::Node as NodeView;
+
+/// Why a bound isn't folded.
+#[derive(Clone, Copy, PartialEq, Eq, Drop)]
+pub(crate) enum Stop {
+    /// A number leaves the range.
+    Range,
+    /// Memory is wanting.
+    Memory,
+}
+
+/// The terms of a proof so far.
+#[derive(Drop)]
+pub(crate) struct Terms<'a> {
+    stack: &'a Stack,
+    table: TermTable,
+}
+
+impl<'a> Model for Terms<'a> {
+    ghost use Rattle.smt_meaning.specs.Stack.{signature_of};
+    ghost use Rattle.smt_meaning.specs.Nodes.{trees_of};
+    ghost use Rattle.proof_form.specs.Terms.{ProofTerms};
+
+    ghost Value = { ProofTerms };
+
+    ghost use Rattle.proof_form.specs.Terms.{terms_code};
+
+    ghost coded = { terms_code };
+
+    ghost view = { λ t. record { declared = signature_of t.stack.now.frames; held = t.stack.now.trees; nodes = t.table.nodes; trees = trees_of t.table.nodes } };
+
+    ghost use Rattle.proof_form.specs.TermTable.{IsTable};
+
+    ghost invariant = { λ t. IsTable (signature_of t.stack.now.frames) t.stack.now.trees t.table };
+}
+
+impl<'a> Terms<'a> {
+    ghost use Rattle.std.specs.Prelude.{◌≡◌, ◌<◌, ◌≤◌, ◌+◌, ◌^◌, ◌↔◌, [], true, false, length, All, Ok, Err, Some, IfOk, IfErr, OnErr, IsTrue, neg_ℤ};
+    ghost use Rattle.smt_meaning.specs.Stack.{signature_of};
+    ghost use Rattle.smt_meaning.specs.declared.clauses.Atom.TheVariants.{AtMost};
+    ghost use Rattle.smt_meaning.specs.Signature.{tree_sort};
+    ghost use Rattle.smt_meaning.specs.Term.{tree_at};
+    ghost use Rattle.smt_meaning.specs.Proof.{IsTerm, AreTerms, is_leaf, node_at};
+    ghost use Rattle.smt_meaning.specs.ProofRules.{not_above, below, folded_bound};
+    ghost use Rattle.proof_form.specs.Range.{not_above_fits, less_fits};
+    ghost use Rattle.proof_form.specs.Terms.{with_term, IsBoundOf};
+
+    /// No term, beside a stack.
+    pub(crate) fn new(alloc: Global, stack: &'a Stack) -> Result<Self, AllocError>
+        ensures { IfOk result (λ t. t ≡ record { declared = signature_of stack.now.frames; held = stack.now.trees; nodes = []; trees = [] }) }
+    {
+        let held = copy(alloc, stack.terms())?;
+        Ok(Terms {
+            stack,
+            table: TermTable::new(alloc, held),
+        })
+    }
+
+    /// Adds a term, if it is one that an assertion may have. An `Err`, for want of memory as where 2^32 - 1 terms are there, changes nothing.
+    pub(crate) fn add(&mut self, _alloc: Global, node: Node) -> Result<bool, AllocError>
+        ensures term { result ≡ Ok true → IsTerm self.old.declared self.old.trees node × (self.new ≡ with_term self.old node) }
+        ensures other { result ≡ Ok false → (IsTerm self.old.declared self.old.trees node → ⊥) × (self.new ≡ self.old) }
+        ensures err { OnErr result (self.new ≡ self.old) }
+    {
+        self.table
+            .add(self.stack, node.head, node.arguments.as_slice())
+    }
+
+    /// Folds the linear forms of all terms.
+    pub(crate) fn fold(&mut self) -> Result<(), AllocError>
+        ensures { self.new ≡ self.old }
+    {
+        self.table.forms.cover(&self.table.distinct.store)
+    }
+
+    /// How many terms there are.
+    pub(crate) fn len(&self) -> usize
+        ensures count { result ≡ length self.now.nodes }
+        ensures trees { length self.now.trees ≡ length self.now.nodes }
+        ensures few { length self.now.nodes < 2 ^ 32 }
+        ensures terms { AreTerms self.now.declared self.now.nodes self.now.trees }
+    {
+        self.table.nodes.len()
+    }
+
+    /// The node of a term, as it is written.
+    pub(crate) fn node(&self, place: TermId) -> NodeView<'_>
+        requires { place < length self.now.nodes }
+        ensures node { node_at self.now.nodes place ≡ record { head = result.head; arguments = result.arguments.now } }
+        ensures earlier { All (λ i. i < place) result.arguments.now }
+    {
+        self.table.nodes.node(place as usize)
+    }
+
+    /// The sort of a term.
+    pub(crate) fn sort(&self, place: TermId) -> Sort
+        requires { place < length self.now.nodes }
+        ensures { tree_sort self.now.declared (tree_at self.now.trees place) ≡ Some result }
+    {
+        self.table.fact(place).sort
+    }
+
+    /// Whether a term is the term of the stack at this place.
+    pub(crate) fn is_held(&self, place: TermId, held: TermId) -> bool
+        requires place { place < length self.now.nodes }
+        requires held { held < length self.now.held }
+        ensures { IsTrue result ↔ (tree_at self.now.trees place ≡ tree_at self.now.held held) }
+    {
+        self.table.fact(place).held == Some(held)
+    }
+
+    /// The difference of two terms as a bound, folded and not divided: that the first is at most the second. Leaves in the list, whatever it was before, the sum.
+    pub(crate) fn difference(
+        &mut self,
+        left: TermId,
+        right: TermId,
+        sum: &mut Vec<Summand>,
+    ) -> Result<i128, Stop>
+        requires left { left < length self.old.nodes }
+        requires right { right < length self.old.nodes }
+        ensures ok { IfOk result (λ k. (not_above_fits self.old.trees left right ≡ true) × IsBoundOf (folded_bound self.old.trees left right) sum.new.items k) }
+        ensures range { result ≡ Err Stop.Range → not_above_fits self.old.trees left right ≡ false }
+        ensures same { self.new ≡ self.old }
+    {
+        let left = self.table.places[left as usize];
+        let right = self.table.places[right as usize];
+        terms_bounds::difference(
+            &mut self.table.forms,
+            &self.table.distinct,
+            left,
+            right,
+            sum,
+        )
+    }
+
+    /// That the first term is at most the second, as a bound in normal form.
+    pub(crate) fn at_most(
+        &mut self,
+        left: TermId,
+        right: TermId,
+        sum: &mut Vec<Summand>,
+    ) -> Result<i128, Stop>
+        requires left { left < length self.old.nodes }
+        requires right { right < length self.old.nodes }
+        ensures ok { IfOk result (λ k. (not_above_fits self.old.trees left right ≡ true) × IsBoundOf (not_above self.old.trees left right) sum.new.items k) }
+        ensures range { result ≡ Err Stop.Range → not_above_fits self.old.trees left right ≡ false }
+        ensures same { self.new ≡ self.old }
+    {
+        let left = self.table.places[left as usize];
+        let right = self.table.places[right as usize];
+        terms_bounds::at_most(
+            &mut self.table.forms,
+            &self.table.distinct,
+            left,
+            right,
+            sum,
+        )
+    }
+
+    /// That the first term is below the second, as a bound in normal form.
+    pub(crate) fn below(
+        &mut self,
+        left: TermId,
+        right: TermId,
+        sum: &mut Vec<Summand>,
+    ) -> Result<i128, Stop>
+        requires left { left < length self.old.nodes }
+        requires right { right < length self.old.nodes }
+        ensures ok { IfOk result (λ k. (less_fits self.old.trees left right ≡ true) × IsBoundOf (below self.old.trees left right) sum.new.items k) }
+        ensures range { result ≡ Err Stop.Range → less_fits self.old.trees left right ≡ false }
+        ensures same { self.new ≡ self.old }
+    {
+        let left = self.table.places[left as usize];
+        let right = self.table.places[right as usize];
+        terms_bounds::below(
+            &mut self.table.forms,
+            &self.table.distinct,
+            left,
+            right,
+            sum,
+        )
+    }
+}

@@ -1,0 +1,147 @@
+//! Sums over the places of trees as sums over the first terms that have them.
+ghost use Rattle.std.specs.Prelude.{◌≡◌, ◌≢◌, ◌<◌, length, take, false, IfOk, Err};
+ghost use Rattle.smt_meaning.specs.Linear.{summand as summand_of};
+ghost use Rattle.smt_meaning.specs.ProofRules.{not_above, below, folded_bound};
+ghost use Rattle.linear_forms.specs.Sums.{IsSum};
+ghost use Rattle.linear_forms.specs.Table.{AreForms};
+ghost use Rattle.proof_form.specs.TermFacts.{fact_at};
+ghost use Rattle.proof_form.specs.TermRenaming.{renamed, first_at};
+ghost use Rattle.proof_form.specs.TermTable.{IsRenamedBound};
+ghost use Rattle.proof_form.specs.Range.{not_above_fits, less_fits};
+
+use crate::terms::Stop;
+use crate::terms_facts::Fact;
+use crate::terms_table::Distinct;
+use linear_forms::{DifferenceError, LinearForms};
+use smt_meaning::{Summand, TermId};
+
+/// The first term with the tree at a place.
+fn first_at(facts: &[Fact], place: TermId) -> TermId
+    requires { place < length facts.now }
+    ensures { result ≡ first_at facts.now place }
+{
+    facts[place as usize].first
+}
+
+fn renamed(facts: &[Fact], summand: Summand) -> Summand
+    requires { summand.term < length facts.now }
+    ensures { result ≡ summand_of (first_at facts.now summand.term) summand.coefficient }
+{
+    Summand {
+        coefficient: summand.coefficient,
+        term: first_at(facts, summand.term),
+    }
+}
+
+/// Names each leaf of a sum by the first term with its tree.
+fn rename(facts: &[Fact], sum: &mut [Summand])
+    requires { IsSum (length facts.now) sum.old }
+    ensures { sum.new ≡ renamed (first_at facts.now) sum.old }
+{
+    for summand in sum.iter_mut() {
+        *summand = renamed(facts, *summand);
+    }
+}
+
+/// The same of the sum in a `Vec`.
+fn rename_all(facts: &[Fact], sum: &mut Vec<Summand>)
+    requires { IsSum (length facts.now) sum.old.items }
+    ensures { sum.new.items ≡ renamed (first_at facts.now) sum.old.items }
+{
+    rename(facts, sum);
+}
+
+/// Why a bound isn't folded: a number leaves the range wherever memory isn't wanting.
+fn stop_of(error: DifferenceError) -> Stop
+    ensures { result ≡ Stop.Range → error ≢ DifferenceError.Memory }
+{
+    match error {
+        DifferenceError::Term(_) => Stop::Range,
+        DifferenceError::Pair => Stop::Range,
+        DifferenceError::Memory => Stop::Memory,
+    }
+}
+
+/// The difference of the trees at two places as a bound, folded and not divided, over the first terms with its leaves.
+pub(crate) fn difference(
+    forms: &mut LinearForms,
+    distinct: &Distinct,
+    left: TermId,
+    right: TermId,
+    sum: &mut Vec<Summand>,
+) -> Result<i128, Stop>
+    requires forms { AreForms (take (length forms.old) distinct.now.store.trees) forms.old }
+    requires left { left < length distinct.now.store.trees }
+    requires right { right < length distinct.now.store.trees }
+    requires count { length distinct.now.facts.items ≡ length distinct.now.store.trees }
+    ensures forms { AreForms (take (length forms.new) distinct.now.store.trees) forms.new }
+    ensures ok { IfOk result (λ k. IsRenamedBound distinct.now.facts.items (not_above_fits distinct.now.store.trees left right) (folded_bound distinct.now.store.trees left right) sum.new.items k) }
+    ensures range { result ≡ Err Stop.Range → not_above_fits distinct.now.store.trees left right ≡ false }
+{
+    if forms.cover(&distinct.store).is_err() {
+        return Err(Stop::Memory);
+    }
+    match forms.difference(left, right, sum) {
+        Ok(constant) => {
+            rename_all(&distinct.facts, sum);
+            Ok(-constant)
+        }
+        Err(error) => Err(stop_of(error)),
+    }
+}
+
+/// That the tree at one place is at most the one at another, as a bound in normal form over the first terms with its leaves.
+pub(crate) fn at_most(
+    forms: &mut LinearForms,
+    distinct: &Distinct,
+    left: TermId,
+    right: TermId,
+    sum: &mut Vec<Summand>,
+) -> Result<i128, Stop>
+    requires forms { AreForms (take (length forms.old) distinct.now.store.trees) forms.old }
+    requires left { left < length distinct.now.store.trees }
+    requires right { right < length distinct.now.store.trees }
+    requires count { length distinct.now.facts.items ≡ length distinct.now.store.trees }
+    ensures forms { AreForms (take (length forms.new) distinct.now.store.trees) forms.new }
+    ensures ok { IfOk result (λ k. IsRenamedBound distinct.now.facts.items (not_above_fits distinct.now.store.trees left right) (not_above distinct.now.store.trees left right) sum.new.items k) }
+    ensures range { result ≡ Err Stop.Range → not_above_fits distinct.now.store.trees left right ≡ false }
+{
+    if forms.cover(&distinct.store).is_err() {
+        return Err(Stop::Memory);
+    }
+    match pair_bounds::at_most(forms, left, right, sum) {
+        Ok(limit) => {
+            rename_all(&distinct.facts, sum);
+            Ok(limit)
+        }
+        Err(error) => Err(stop_of(error)),
+    }
+}
+
+/// That the tree at one place is below the one at another, in the same way.
+pub(crate) fn below(
+    forms: &mut LinearForms,
+    distinct: &Distinct,
+    left: TermId,
+    right: TermId,
+    sum: &mut Vec<Summand>,
+) -> Result<i128, Stop>
+    requires forms { AreForms (take (length forms.old) distinct.now.store.trees) forms.old }
+    requires left { left < length distinct.now.store.trees }
+    requires right { right < length distinct.now.store.trees }
+    requires count { length distinct.now.facts.items ≡ length distinct.now.store.trees }
+    ensures forms { AreForms (take (length forms.new) distinct.now.store.trees) forms.new }
+    ensures ok { IfOk result (λ k. IsRenamedBound distinct.now.facts.items (less_fits distinct.now.store.trees left right) (below distinct.now.store.trees left right) sum.new.items k) }
+    ensures range { result ≡ Err Stop.Range → less_fits distinct.now.store.trees left right ≡ false }
+{
+    if forms.cover(&distinct.store).is_err() {
+        return Err(Stop::Memory);
+    }
+    match pair_bounds::below(forms, left, right, sum) {
+        Ok(limit) => {
+            rename_all(&distinct.facts, sum);
+            Ok(limit)
+        }
+        Err(error) => Err(stop_of(error)),
+    }
+}

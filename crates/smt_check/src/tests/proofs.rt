@@ -1,0 +1,1312 @@
+//! Proofs that are good, and proofs that are spoiled in one place, with what is found of each: drawn by
+//! `bench/proofs.py rust 1`, which judges them too.
+use super::{calm, outcome};
+use proof_form::Found;
+use std::alloc::Global;
+use std::process::Abort;
+use std::test::Fail;
+
+/// A script, what is found, the line, and the status.
+type Row = (&'static [u8], Found, &'static [u8], u8);
+
+/// Compares what is found of scripts.
+fn check_rows(rt: &impl Abort, alloc: Global, rows: &[Row]) -> Result<(), Fail> {
+    for row in rows.iter() {
+        let (script, found, line, status) = *row;
+        let (ended, written) = outcome(alloc, "smt_check", script, 1 << 20, calm(4096))?;
+        assert_eq!(rt; ended.found, Some(found));
+        assert_eq!(rt; ended.status, status);
+        assert_eq!(rt; written.as_slice(), line);
+    }
+    Ok(())
+}
+
+/// Good proofs.
+static ONE: [Row; 20] = [
+    (
+        b"(declare-const p Bool)(assert(not p))(check-sat-assuming(p))(get-proof)(((p)(not 0))((form 1(not(t 1))(not(t 0)))(assert 0 1)(assert 1 0)(res 0 2(not(t 0)))(res 1 3(t 1))))",
+        Found::Yes,
+        b"yes\n",
+        0,
+    ),
+    (
+        b"(push 3)(reset)(declare-const p Bool)(assert(not p))(assert(and p p))(check-sat)(get-assertions)(get-proof)(((p)(and 0 0)(not 0))((form 1(t 0)(not(t 1)))(assert 0 2)(form 2(not(t 2))(not(t 0)))(assert 1 1)(res 0 3(not(t 1)))(res 2 4(not(t 0)))(res 1 5(t 2))))",
+        Found::Yes,
+        b"yes\n",
+        0,
+    ),
+    (
+        b"(set-option :global-declarations true)(push 1)(declare-const p Bool)(declare-const q Bool)(assert false)(pop 1)(assert q)(assert(not(or q p q q)))(check-sat)(get-proof)(((q)(|p|)(or 0 1 0 0)(not 2))((form 2(not(t 0))(t 2))(assert 0 0)(assert 1 3)(form 3(not(t 3))(not(t 2)))(res 2 3(t 3))(res 0 4(t 2))(res 1 5(t 0))))\n; end",
+        Found::Yes,
+        b"yes\n",
+        0,
+    ),
+    (
+        b"(declare-const p Bool)(declare-const q Bool)(assert(not q))(assert(let((k(xor p q p)))k))(check-sat)(get-proof)(((q)(p)(xor 1 0 1)(not 0))((form 2(t 0)(not(t 2)))(assert 0 3)(form 3(not(t 3))(not(t 0)))(assert 1 2)(res 0 3(not(t 2)))(res 2 4(not(t 0)))(res 1 5(t 3))))",
+        Found::Yes,
+        b"yes\n",
+        0,
+    ),
+    (
+        b"(declare-const p Bool)(declare-const q Bool)(declare-const r Bool)(assert(not(=> p r q)))(assert(not p))(check-sat)(get-proof)(((p)(r)(q)(=> 0 1 2)(not 3)(not 0))((form 3(t 3)(t 0))(assert 0 4)(form 4(not(t 4))(not(t 3)))(assert 1 5)(form 5(not(t 5))(not(t 0)))(res 3 4(t 5))(res 0 5(t 0))(res 2 6(not(t 3)))(res 1 7(t 4))))",
+        Found::Yes,
+        b"yes\n",
+        0,
+    ),
+    (
+        b"(declare-const q Bool)(define-fun dd((k Bool))Bool(not(= k k)))(assert(dd q))(check-sat)(get-proof)(((q)(= 0 0)(not 1))((form 1(t 1)(t 1))(assert 0 2)(form 2(not(t 2))(not(t 1)))(res 1 2(t 2))(res 0 3(t 1))))",
+        Found::Yes,
+        b"yes\n",
+        0,
+    ),
+    (
+        b"(set-option :global-declarations true)(push 1)(declare-const p Bool)(declare-const q Bool)(assert false)(pop 1)(assert(distinct p q q))(check-sat)(get-proof)(((p)(q)(distinct 0 1 1))((form 2(not(t 2)))(assert 0 2)(res 0 1(not(t 2)))))",
+        Found::Yes,
+        b"yes\n",
+        0,
+    ),
+    (
+        b"(declare-const p Bool)(declare-const q Bool)(declare-const r Bool)(define-fun dd((k Bool))Bool(not(ite p k r)))(assert(dd q))(assert p)(assert q)(check-sat)(get-proof)(((p)(q)(r)(ite 0 1 2)(not 3))((form 3(t 3)(not(t 0))(not(t 1)))(assert 0 4)(form 4(not(t 4))(not(t 3)))(assert 1 0)(assert 2 1)(res 0 4(not(t 1)))(res 3 5(t 0))(res 2 6(not(t 3)))(res 1 7(t 4))))",
+        Found::Yes,
+        b"yes\n",
+        0,
+    ),
+    (
+        b"(assert(!(not true):named nn))(check-sat)(get-proof)(((true)(not 0))((form 0(t 0))(assert 0 1)(form 1(not(t 1))(not(t 0)))(res 1 2(t 1))(res 0 3(t 0))))",
+        Found::Yes,
+        b"yes\n",
+        0,
+    ),
+    (
+        b"(set-option :global-declarations true)(push 1)(assert false)(pop 1)(assert false)(check-sat)(get-proof)(((false))((form 0(not(t 0)))(assert 0 0)(res 0 1(not(t 0)))))",
+        Found::Yes,
+        b"yes\n",
+        0,
+    ),
+    (
+        b"(declare-sort U 0)(declare-const a U)(declare-const b U)(declare-const c U)(declare-const d U)(define-fun dd((k U))Bool(= a b c k))(assert(dd d))(assert(distinct a b))(check-sat)(get-proof)(((a)(b)(c)(d)(= 0 1 2 3)(distinct 0 1))((form 4(not(t 4))(s 0 1))(assert 0 4)(assert 1 5)(form 5(not(t 5))(not(s 0 1)))(res 2 3(t 5))(res 0 4(s 0 1))(res 1 5(t 4))))",
+        Found::Yes,
+        b"yes\n",
+        0,
+    ),
+    (
+        b"(declare-const a Int)(declare-const c Int)(define-fun dd((k Int))Bool(distinct k c k))(assert(dd a))(assert(= c a))(check-sat)(get-proof)(((a)(c)(distinct 0 1 0)(= 1 0))((form 2(not(t 2))(not(s 1 0)))(assert 0 2)(assert 1 3)(form 3(not(t 3))(s 1 0))(res 2 3(t 3))(res 0 4(not(s 1 0)))(res 1 5(t 2))))",
+        Found::Yes,
+        b"yes\n",
+        0,
+    ),
+    (
+        b"(set-logic QF_UFLIA)(declare-const x Int)(declare-const y Int)(get-proof 1)(assert(<= y(*(- 3)y)))(assert(not(>=(*(- 3)y)y)))(check-sat)(get-value(1))( get-proof;\n)(((y)(3)(- 1)(* 2 0)(<= 0 3)(>= 3 0)(|not| 5)(170141183460469231731687303715884105727))((form 4(not(t 4))(le((1 0))0))(assert 0 4)(assert 1 6)(form 6(not(t 6))(not(t 5)))(form 5(t 5)(not(le((1 0))0)))(res 3 4(not(t 5)))(res 2 5(t 6))(res 0 6(le((1 0))0))(refl 1)(res 1 7(t 4)))))",
+        Found::Yes,
+        b"yes\n",
+        0,
+    ),
+    (
+        b"(declare-const x Int)(declare-const y Int)(assert(let((k(<(+ y 5)3)))k))(assert(not(> 3(+ y 5))))(check-sat)(get-proof)(((y)(5)(+ 0 1)(3)(< 2 3)(> 3 2)(not 5))((form 4(not(t 4))(le((1 0))(- 3)))(assert 0 4)(assert 1 6)(form 6(not(t 6))(not(t 5)))(form 5(t 5)(not(le((1 0))(- 3))))(res 3 4(not(t 5)))(res 2 5(t 6))(res 0 6(le((1 0))(- 3)))(res 1 7(t 4))))",
+        Found::Yes,
+        b"yes\n",
+        0,
+    ),
+    (
+        b"(declare-const x Int)(declare-const y Int)(declare-const z Int)(assert(not(>= z(*(- 2)y))))(assert(<=(*(- 2)y)z))(check-sat)(get-proof)(((z)(2)(- 1)(y)(* 2 3)(>= 0 4)(not 5)(<= 4 0))((form 5(t 5)(not(le(((- 1)0)((- 2)3))0)))(assert 0 6)(form 6(not(t 6))(not(t 5)))(assert 1 7)(form 7(not(t 7))(le(((- 1)0)((- 2)3))0))(res 3 4(t 7))(res 0 5(not(le(((- 1)0)((- 2)3))0)))(res 2 6(not(t 5)))(res 1 7(t 6))))",
+        Found::Yes,
+        b"yes\n",
+        0,
+    ),
+    (
+        b"(declare-const x Int)(declare-const y Int)(declare-const z Int)(assert(!(> y x):named nn))(assert(not(< x y)))(check-sat)(get-proof)(((y)(x)(> 0 1)(< 1 0)(not 3))((form 2(not(t 2))(le(((- 1)0)(1 1))(- 1)))(assert 0 2)(assert 1 4)(form 4(not(t 4))(not(t 3)))(form 3(t 3)(not(le(((- 1)0)(1 1))(- 1))))(res 3 4(not(t 3)))(res 2 5(t 4))(res 0 6(le(((- 1)0)(1 1))(- 1)))(res 1 7(t 2))))",
+        Found::Yes,
+        b"yes\n",
+        0,
+    ),
+    (
+        b"(set-option :global-declarations true)(push 1)(declare-const x Int)(declare-const y Int)(assert false)(pop 1)(assert(= x 2))(assert(not(<= x 2)))(check-sat)(get-proof)(((x)(2)(= 0 1)(<= 0 1)(not 3))((link 0 1 0)(assert 0 2)(form 2(not(t 2))(s 0 1))(assert 1 4)(form 4(not(t 4))(not(t 3)))(form 3(t 3)(not(le((1 0))2)))(res 4 5(not(t 3)))(res 3 6(t 4))(res 0 7(le((1 0))2))(res 2 8(s 0 1))(res 1 9(t 2))))",
+        Found::Yes,
+        b"yes\n",
+        0,
+    ),
+    (
+        b"(declare-const x Int)(declare-const y Int)(assert(=(* 3 x)5))(assert(not(<= 5(* 3 x))))(minimize y)(get-proof)(((x)(3)(* 1 0)(5)(= 2 3)(<= 3 2)(not 5))((link 2 3 1)(assert 0 4)(form 4(not(t 4))(s 2 3))(round(le(((- 3)0))(- 5))3)(assert 1 6)(form 6(not(t 6))(not(t 5)))(form 5(t 5)(not(le(((- 1)0))(- 2))))(res 5 6(not(t 5)))(res 4 7(t 6))(res 3 8(le(((- 1)0))(- 2)))(res 0 9(le(((- 3)0))(- 5)))(res 2 10(s 2 3))(res 1 11(t 4))))",
+        Found::Yes,
+        b"yes\n",
+        0,
+    ),
+    (
+        b"(set-option :global-declarations true)(push 1)(declare-const x Int)(declare-const y Int)(assert false)(pop 1)(assert(<= 6(+ y 8)))(assert(<=(+ y 8)6))(assert(not(= 6(+ y 8))))(check-sat)(get-proof)(((y)(6)(8)(+ 0 2)(<= 1 3)(<= 3 1)(= 1 3)(not 6))((link 1 3 2)(assert 0 4)(form 4(not(t 4))(le(((- 1)0))2))(assert 1 5)(form 5(not(t 5))(le((1 0))(- 2)))(assert 2 7)(form 7(not(t 7))(not(t 6)))(form 6(t 6)(not(s 1 3))(not(s 1 3)))(res 6 7(not(t 6)))(res 5 8(t 7))(res 0 9(s 1 3))(res 4 10(le((1 0))(- 2)))(res 3 11(t 5))(res 2 12(le(((- 1)0))2))(res 1 13(t 4))))",
+        Found::Yes,
+        b"yes\n",
+        0,
+    ),
+    (
+        b"(set-option :global-declarations true)(push 1)(declare-const p Bool)(declare-const q Bool)(declare-fun f(Bool)Int)(assert false)(pop 1)(assert p)(assert(not(=(f p)(f true))))(check-sat)(get-proof)(((p)(true)(f 0)(f 1)(= 2 3)(not 4))((assert 0 0)(form 1(t 1))(both 0 1)(cong 2 3)(assert 1 5)(form 5(not(t 5))(not(t 4)))(form 4(t 4)(not(s 2 3))(not(s 2 3)))(res 5 6(not(t 4)))(res 4 7(t 5))(res 3 8(s 2 3))(res 2 9(s 0 1))(res 1 10(t 1))(res 0 11(t 0))))",
+        Found::Yes,
+        b"yes\n",
+        0,
+    ),
+];
+
+#[test]
+fn judges_rows_one(rt: HostRuntime) -> Result<(), Fail> {
+    check_rows(&rt, rt.alloc(), &ONE)
+}
+
+/// Good proofs.
+static TWO: [Row; 20] = [
+    (
+        b"(declare-const p Bool)(declare-const q Bool)(declare-sort U 0)(declare-fun f(Bool)U)(assert(not p))(assert(not(=(f p)(f false))))(check-sat)(get-proof)(((p)(not 0)(false)(f 0)(f 2)(= 3 4)(not 5))((assert 0 1)(form 1(not(t 1))(not(t 0)))(form 2(not(t 2)))(none 0 2)(cong 3 4)(assert 1 6)(form 6(not(t 6))(not(t 5)))(form 5(t 5)(not(s 3 4)))(res 6 7(not(t 5)))(res 5 8(t 6))(res 4 9(s 3 4))(res 3 10(s 0 2))(res 2 11(not(t 2)))(res 1 12(not(t 0)))(res 0 13(t 1))))",
+        Found::Yes,
+        b"yes\n",
+        0,
+    ),
+    (
+        b"(declare-sort U 0)(declare-const a U)(declare-const b U)(declare-const p Bool)(check-sat-assuming(p(distinct(ite p a b)a)))(get-proof)(((p)(a)(b)(ite 0 1 2)(distinct 3 1))((pick 3 0)(assert 0 0)(assert 1 4)(form 4(not(t 4))(not(s 3 1)))(res 2 3(t 4))(res 0 4(s 3 1))(res 1 5(t 0))))",
+        Found::Yes,
+        b"yes\n",
+        0,
+    ),
+    (
+        b"(set-option :global-declarations true)(push 1)(declare-const a Int)(declare-const b Int)(declare-const c Int)(assert false)(pop 1)(assert(= b a))(assert(= b c))(assert(distinct a c))(check-sat)(get-proof)(((b)(a)(= 0 1)(c)(= 0 3)(|distinct| 1 3))((assert 0 2)(form 2(not(t 2))(s 0 1))(sym 0 1)(assert 1 4)(form 4(not(t 4))(s 0 3))(trans 1 0 3)(assert 2 5)(form 5(not(t 5))(not(s 1 3)))(res 6 7(t 5))(res 5 8(s 1 3))(res 4 9(s 0 3))(res 3 10(t 4))(res 2 11(s 1 0))(res 1 12(s 0 1))(res 0 13(t 2))))",
+        Found::Yes,
+        b"yes\n",
+        0,
+    ),
+    (
+        b"(declare-const a Int)(declare-const b Int)(declare-fun f(Int)Int)(assert(= a b))(assert(not(=(f(f a))(f(f b)))))(check-sat)(get-proof)(((a)(b)(= 0 1)(f 0)(f 1)(f 3)(f 4)(= 5 6)(not 7))((assert 0 2)(form 2(not(t 2))(s 0 1))(cong 3 4)(cong 5 6)(assert 1 8)(form 8(not(t 8))(not(t 7)))(form 7(t 7)(not(s 5 6)))(res 5 6(not(t 7)))(res 4 7(t 8))(res 3 8(s 5 6))(res 2 9(s 3 4))(res 1 10(s 0 1))(res 0 11(t 2))))",
+        Found::Yes,
+        b"yes\n",
+        0,
+    ),
+    (
+        b"(set-option :global-declarations true)(push 1)(declare-sort U 0)(declare-const a U)(declare-const b U)(declare-fun g(U)Bool)(assert false)(pop 1)(assert(= a b))(assert(g a))(assert(not(g b)))(check-sat)(get-proof)(((a)(b)(= 0 1)(g 0)(g 1)(not 4))((assert 0 2)(form 2(not(t 2))(s 0 1))(cong 3 4)(truth 3 4)(assert 1 3)(assert 2 5)(form 5(not(t 5))(not(t 4)))(res 5 6(t 5))(res 3 7(t 4))(res 4 8(t 3))(res 2 9(s 3 4))(res 1 10(s 0 1))(res 0 11(t 2))))",
+        Found::Yes,
+        b"yes\n",
+        0,
+    ),
+    (
+        b"(set-option :global-declarations true)(push 1)(declare-const x Int)(declare-const y Int)(assert false)(pop 1)(assert(=(+(* 3 y)2)(* 3 x)))(check-sat)(get-proof)(((3)(y)(* 0 1)(2)(+ 2 3)(x)(* 0 5)(= 4 6))((assert 0 7)(form 7(not(t 7))(s 4 6))(link 4 6 0)(link 4 6 1)(round(le((3 1)((- 3)5))(- 2))3)(round(le(((- 3)1)(3 5))2)3)(farkas(1(not(le((1 1)((- 1)5))(- 1))))(1(not(le(((- 1)1)(1 5))0))))(res 5 6(le(((- 1)1)(1 5))0))(res 4 7(le((1 1)((- 1)5))(- 1)))(res 3 8(le(((- 3)1)(3 5))2))(res 2 9(le((3 1)((- 3)5))(- 2)))(res 1 10(s 4 6))(res 0 11(t 7))))",
+        Found::Yes,
+        b"yes\n",
+        0,
+    ),
+    (
+        b"(declare-const x Int)(declare-const y Int)(push 1)(assert false)(pop 1)(push 2)(assert(<=(+(* 4 y)(* 4 x))1))(assert(<=(+(*(- 4)y)(*(- 4)x))(- 1)))(check-sat)(get-proof)(((y)(x)(4)(* 2 0)(* 2 1)(+ 3 4)(1)(<= 5 6)(- 2)(* 8 0)(* 8 1)(+ 9 10)(- 6)(<= 11 12))((assert 0 7)(form 7(not(t 7))(le((1 0)(1 1))0))(assert 1 13)(form 13(not(t 13))(le(((- 1)0)((- 1)1))(- 1)))(farkas(4(not(le((1 0)(1 1))0)))(4(not(le(((- 1)0)((- 1)1))(- 1)))))(res 3 4(le(((- 1)0)((- 1)1))(- 1)))(res 2 5(t 13))(res 1 6(le((1 0)(1 1))0))(res 0 7(t 7))))",
+        Found::Yes,
+        b"yes\n",
+        0,
+    ),
+    (
+        b"(declare-const x Int)(assert(<=(* 8 x)6))(assert(<=(*(- 2)x)(!(- 1):named nn)))(check-sat)(get-proof)(((x)(8)(* 1 0)(6)(<= 2 3)(2)(- 5)(* 6 0)(1)(- 8)(<= 7 9))((assert 0 4)(form 4(not(t 4))(le((1 0))0))(assert 1 10)(form 10(not(t 10))(le(((- 1)0))(- 1))(le(((- 1)0))(- 1)))(farkas((/ 2 7)(not(le(((- 1)0))(- 1))))((/ 2 7)(not(le((1 0))0))))(res 3 4(le(((- 1)0))(- 1)))(res 2 5(t 10))(res 1 6(le((1 0))0))(res 0 7(t 4))))",
+        Found::Yes,
+        b"yes\n",
+        0,
+    ),
+    (
+        b"(declare-const p Bool)(declare-const q Bool)(declare-const r Bool)(assert(or(not q)r))(assert(not r))(assert(or p q))(assert(or(not p)r))(check-sat)(get-proof)(((q)(not 0)(r)(or 1 2)(not 2)(p)(or 5 0)(not 5)(or 7 2))((assert 0 3)(form 3(not(t 3))(t 1)(t 2))(form 1(not(t 1))(not(t 0)))(assert 1 4)(form 4(not(t 4))(not(t 2)))(assert 2 6)(form 6(not(t 6))(t 5)(t 0))(assert 3 8)(form 8(not(t 8))(t 7)(t 2))(form 7(not(t 7))(not(t 5)))(res 8 9(t 7))(res 7 10(t 8))(res 6 11(t 5))(res 5 12(t 6))(res 2 13(not(t 0)))(res 1 14(t 1))(res 4 15(not(t 2)))(res 3 16(t 4))(res 0 17(t 3))))",
+        Found::Yes,
+        b"yes\n",
+        0,
+    ),
+    (
+        b"(declare-const p Bool)(declare-const q Bool)(assert(=> p q))(assert p)(assert(xor p q))(check-sat)(|get-proof|)\n(((|p|)(q)(=> 0 1)(xor 0 1))((assert 0 2)(form 2(not(t 2))(not(t 0))(t 1))(assert 1 0)(assert 2 3)(form 3(not(t 3))(not(t 0))(not(t 1)))(res 3 4(t 3))(res 1 5(t 1))(res 2 6(t 0))(res 0 7(t 2))))",
+        Found::Yes,
+        b"yes\n",
+        0,
+    ),
+    (
+        b"(declare-const x Int)(declare-const y Int)(declare-fun f(Int)Int)(assert(<= x y))(assert(<= y x))(assert(not(=(f x)(f y))))(check-sat)(get-proof)(((x)(y)(<= 0 1)(<= 1 0)(f 0)(f 1)(= 4 5)(not 6))((assert 0 2)(form 2(not(t 2))(le((1 0)((- 1)1))0))(assert 1 3)(form 3(not(t 3))(le(((- 1)0)(1 1))0))(link 0 1 2)(cong 4 5)(assert 2 7)(form 7(not(t 7))(not(t 6)))(form 6(t 6)(not(s 4 5)))(res 7 8(not(t 6)))(res 6 9(t 7))(res 5 10(s 4 5))(res 4 11(s 0 1))(res 3 12(le(((- 1)0)(1 1))0))(res 2 13(t 3))(res 1 14(le((1 0)((- 1)1))0))(res 0 15(t 2))))",
+        Found::Yes,
+        b"yes\n",
+        0,
+    ),
+    (
+        b"(declare-sort U 0)(declare-const c0 U)(declare-const c1 U)(declare-const c2 U)(declare-const c3 U)(declare-const c4 U)(declare-const c5 U)(declare-const c6 U)(define-fun dd((k U))Bool(distinct c0 c1 c2 c3 c4 k c6))(assert(dd c5))(assert(= c3 c6))(check-sat)(|get-proof|)\n(((|c0|)(c1)(c2)(c3)(c4)(c5)(c6)(distinct 0 1 2 3 4 5 6)(= 3 6)(not 7))((form 7(not(t 7))(not(s 3 6)))(assert 0 7)(assert 1 8)(form 8(not(t 8))(s 3 6))(res 2 3(t 8))(res 0 4(not(s 3 6)))(refl 8)(res 1 5(t 7))))\x7f",
+        Found::Yes,
+        b"yes\n",
+        0,
+    ),
+    (
+        b"(check-sat-assuming((< 170141183460469231731687303715884105727 170141183460469231731687303715884105727)))(get-proof)(((170141183460469231731687303715884105727)(< 0 0)(not 1))((assert 0 1)(form 1(not(t 1))(le()(- 1)))(farkas((/ 1 170141183460469231731687303715884105727)(not(le()(- 1)))))(res 1 2(le()(- 1)))(refl 2)(res 0 3(t 1))))",
+        Found::Yes,
+        b"yes\n",
+        0,
+    ),
+    (
+        b";(get-proof)\n(declare-const p Bool)(exit 1)(assert(not(not p)))(assert(not p))(check-sat)(set-option :verbosity 1)(get-proof)(((p)(not 0)(not 1))((assert 0 2)(form 2(not(t 2))(not(t 1)))(assert 1 1)(res 1 2(not(t 1)))(res 0 3(t 2))))",
+        Found::Yes,
+        b"yes\n",
+        0,
+    ),
+    (
+        b"(declare-const p Bool)(declare-const q Bool)(define-fun dd()Bool(and p(not q)))(assert dd)(assert(not p))(check-sat)(get-proof)(((p)(q)(not 1)(and 0 2)(not 0))((form 3(not(t 3))(t 0))(assert 0 3)(assert 1 4)(form 4(not(t 4))(not(t 0)))(res 2 3(t 4))(res 0 4(t 0))(res 1 5(t 3))))",
+        Found::Yes,
+        b"yes\n",
+        0,
+    ),
+    (
+        b"(assert false)(reset)(declare-const p Bool)(declare-const q Bool)(pop 1)(assert(not(or p q)))(assert p)(check-sat)()(get-proof)(((p)(q)(or 0 1)(not 2))((form 2(t 2)(not(t 0)))(assert 0 3)(form 3(not(t 3))(not(t 2)))(assert 1 0)(res 0 3(not(t 0)))(res 2 4(not(t 2)))(res 1 5(t 3))))",
+        Found::Yes,
+        b"yes\n",
+        0,
+    ),
+    (
+        b"(declare-const p Bool)(declare-const q Bool)(declare-const r Bool)(assert(not p))(assert q)(check-sat-assuming((not r)(not(xor p q r))))(get-proof)(((p)(q)(r)(xor 0 1 2)(not 0)(not 2)(not 3))((form 3(t 0)(not(t 1))(t 2)(t 3))(assert 0 4)(form 4(not(t 4))(not(t 0)))(assert 1 1)(assert 2 5)(form 5(not(t 5))(not(t 2)))(assert 3 6)(form 6(not(t 6))(not(t 3))(not(t 6)))(res 6 7(t 6))(res 0 8(t 3))(res 5 9(not(t 2)))(res 4 10(t 5))(res 3 11(t 1))(res 2 12(not(t 0)))(res 1 13(t 4))))",
+        Found::Yes,
+        b"yes\n",
+        0,
+    ),
+    (
+        b"(declare-const p Bool)(declare-const q Bool)(assert(not(=> q p)))(assert(let((k p))k))(check-sat)(get-proof)(((q)(p)(=> 0 1)(not 2))((form 2(t 2)(not(t 1)))(assert 0 3)(form 3(not(t 3))(not(t 2)))(assert 1 1)(res 0 3(not(t 1)))(res 2 4(not(t 2)))(res 1 5(t 3))))",
+        Found::Yes,
+        b"yes\n",
+        0,
+    ),
+    (
+        b"(declare-const p Bool)(declare-const q Bool)(assert(not p))(assert(!(= p q p q p q):named nn))(assert q)(check-sat)(get-proof)(((p)(q)(= 0 1 0 1 0 1)(not 0))((form 2(t 0)(not(t 2))(not(t 1)))(assert 0 3)(form 3(not(t 3))(not(t 0)))(assert 1 2)(assert 2 1)(res 0 4(not(t 1)))(res 3 5(t 2))(res 2 6(not(t 0)))(res 1 7(t 3))))",
+        Found::Yes,
+        b"yes\n",
+        0,
+    ),
+    (
+        b"(set-option :global-declarations true)(push 1)(declare-const p Bool)(assert false)(pop 1)(assert(distinct p p))(check-sat)(get-proof)(((p)(distinct 0 0))((form 1(not(t 1))(not(t 1)))(assert 0 1)(res 0 1(not(t 1)))))",
+        Found::Yes,
+        b"yes\n",
+        0,
+    ),
+];
+
+#[test]
+fn judges_rows_two(rt: HostRuntime) -> Result<(), Fail> {
+    check_rows(&rt, rt.alloc(), &TWO)
+}
+
+/// Good proofs.
+static THREE: [Row; 20] = [
+    (
+        b"(declare-const p Bool)(declare-const q Bool)(assert(let((k q))(ite p k p)))(assert(not q))(check-sat)(get-proof)(((p)(q)(ite 0 1 0)(not 1))((form 2(not(t 2))(t 1))(assert 0 2)(assert 1 3)(form 3(not(t 3))(not(t 1))(not(t 3)))(res 2 3(t 3))(res 0 4(t 1))(res 1 5(t 2))))",
+        Found::Yes,
+        b"yes\n",
+        0,
+    ),
+    (
+        b"(set-option :global-declarations true)(push 1)(assert false)(pop 1)(assert(not true))(check-sat)(get-proof)(((true)(not 0))((form 0(t 0))(assert 0 1)(form 1(not(t 1))(not(t 0)))(res 1 2(t 1))(res 0 3(t 0))))",
+        Found::Yes,
+        b"yes\n",
+        0,
+    ),
+    (
+        b"(check-sat-assuming(false))(get-proof)(((false))((form 0(not(t 0))(not(t 0)))(assert 0 0)(res 0 1(not(t 0)))))",
+        Found::Yes,
+        b"yes\n",
+        0,
+    ),
+    (
+        b"(set-option :global-declarations true)(push 1)(declare-sort U 0)(declare-const a U)(declare-const b U)(assert false)(pop 1)(assert(not(= a b)))(assert(= a b))(check-sat)(get-proof)(((a)(b)(= 0 1)(not 2))((assert 0 3)(form 3(not(t 3))(not(t 2)))(assert 1 2)(res 1 2(not(t 2)))(res 0 3(t 3))))",
+        Found::Yes,
+        b"yes\n",
+        0,
+    ),
+    (
+        b"(declare-const a Int)(declare-const b Int)(declare-const c Int)(assert(not(distinct a b c)))(check-sat-assuming((distinct a b)(distinct a c)(distinct b c)))(get-proof)(((a)(b)(c)(distinct 0 1 2)(not 3)(distinct 0 1)(distinct 0 2)(distinct 1 2))((form 3(t 3)(s 0 1)(s 0 2)(s 1 2)(t 3))(assert 0 4)(form 4(not(t 4))(not(t 3)))(assert 1 5)(form 5(not(t 5))(not(s 0 1)))(assert 2 6)(form 6(not(t 6))(not(s 0 2)))(assert 3 7)(form 7(not(t 7))(not(s 1 2)))(res 7 8(t 7))(res 0 9(s 1 2))(res 6 10(not(s 0 2)))(res 5 11(t 6))(res 4 12(not(s 0 1)))(res 3 13(t 5))(res 2 14(not(t 3)))(res 1 15(t 4))))",
+        Found::Yes,
+        b"yes\n",
+        0,
+    ),
+    (
+        b"(declare-const x Int)(declare-const y Int)(declare-const z Int)(assert(let((k(+ y 6)))(<=(*(- 3)y)k)))(assert(not(>=(+ y 6)(*(- 3)y))))(check-sat)(get-proof)(((3)(- 0)(y)(* 1 2)(6)(+ 2 4)(<= 3 5)(>= 5 3)(not 7))((form 6(not(t 6))(le(((- 1)2))1))(assert 0 6)(assert 1 8)(form 8(not(t 8))(not(t 7)))(form 7(t 7)(not(le(((- 1)2))1)))(res 3 4(not(t 7)))(res 2 5(t 8))(res 0 6(le(((- 1)2))1))(res 1 7(t 6))))",
+        Found::Yes,
+        b"yes\n",
+        0,
+    ),
+    (
+        b"(declare-const x Int)(declare-const y Int)(declare-const z Int)(assert(<(!(+ y 6):named nn)y))(assert(not(> y nn)))(check-sat)(get-proof)(((y)(6)(+ 0 1)(< 2 0)(> 0 2)(not 4))((form 3(not(t 3))(le()(- 7)))(assert 0 3)(assert 1 5)(form 5(not(t 5))(not(t 4)))(form 4(t 4)(not(le()(- 7))))(res 3 4(not(t 4)))(res 2 5(t 5))(res 0 6(le()(- 7)))(res 1 7(t 3))))",
+        Found::Yes,
+        b"yes\n",
+        0,
+    ),
+    (
+        b"(declare-const x Int)(declare-const y Int)(define-fun dd()Bool(not(>=(*(- 3)x)(+ y 6))))(assert dd)(assert(<=(+ y 6)(*(- 3)x)))(check-sat)(get-proof)(((3)(- 0)(x)(* 1 2)(y)(6)(+ 4 5)(>= 3 6)(not 7)(<= 6 3)(true))((form 7(t 7)(not(le((3 2)(1 4))(- 6))))(assert 0 8)(form 8(not(t 8))(not(t 7)))(assert 1 9)(form 9(not(t 9))(le((3 2)(1 4))(- 6)))(res 3 4(t 9))(res 0 5(not(le((3 2)(1 4))(- 6))))(res 2 6(not(t 7)))(refl 0)(res 1 7(t 8))))",
+        Found::Yes,
+        b"yes\n",
+        0,
+    ),
+    (
+        b"(declare-const x Int)(declare-const y Int)(assert(not(>(+ y 3)6)))(assert(< 6(+ y 3)))(minimize x)(get-proof)(((y)(3)(+ 0 1)(6)(> 2 3)(not 4)(< 3 2)(x)(= 7 7))((form 4(t 4)(not(le(((- 1)0))(- 4))))(assert 0 5)(form 5(not(t 5))(not(t 4)))(assert 1 6)(form 6(not(t 6))(le(((- 1)0))(- 4)))(res 3 4(t 6))(res 0 5(not(le(((- 1)0))(- 4))))(res 2 6(not(t 4)))(assert 2 8)(res 1 7(t 5))))",
+        Found::Yes,
+        b"yes\n",
+        0,
+    ),
+    (
+        b"(assert false)(reset)(declare-const x Int)(declare-const y Int)(assert(not 1))(assert(= x x))(assert(not(<= x x)))(check-sat)(set-logic QF_UF)(get-proof)(((x)(= 0 0)(<= 0 0)(not 2))((link 0 0 0)(assert 0 1)(form 1(not(t 1))(s 0 0))(assert 1 3)(form 3(not(t 3))(not(t 2)))(form 2(t 2)(not(le()0)))(res 4 5(not(t 2)))(res 3 6(t 3))(res 0 7(le()0))(res 2 8(s 0 0))(res 1 9(t 1))))",
+        Found::Yes,
+        b"yes\n",
+        0,
+    ),
+    (
+        b"(declare-const x Int)(declare-const y Int)(assert(= x x))(push 1)(assert false)(pop 1)(push 1)(assert(not(<= x x)))(check-sat)(get-proof)(((x)(= 0 0)(<= 0 0)(not 2))((link 0 0 1)(assert 0 1)(form 1(not(t 1))(s 0 0))(assert 1 3)(form 3(not(t 3))(not(t 2)))(form 2(t 2)(not(le()0)))(res 4 5(not(t 2)))(res 3 6(t 3))(res 0 7(le()0))(res 2 8(s 0 0))(res 1 9(t 1))))",
+        Found::Yes,
+        b"yes\n",
+        0,
+    ),
+    (
+        b"(set-option :global-declarations true)(push 1)(declare-const x Int)(declare-const y Int)(assert false)(pop 1)(assert(<=(*(- 2)x)y))(assert(<= y(*(- 2)x)))(assert(not(=(*(- 2)x)y)))(check-sat)(get-proof)(((x)(y)(2)(- 2)(* 3 0)(<= 4 1)(<= 1 4)(= 4 1)(not 7))((link 4 1 2)(assert 0 5)(form 5(not(t 5))(le(((- 2)0)((- 1)1))0))(assert 1 6)(form 6(not(t 6))(le((2 0)(1 1))0))(assert 2 8)(form 8(not(t 8))(not(t 7)))(form 7(t 7)(not(s 4 1)))(res 6 7(not(t 7)))(res 5 8(t 8))(res 0 9(s 4 1))(res 4 10(le((2 0)(1 1))0))(res 3 11(t 6))(res 2 12(le(((- 2)0)((- 1)1))0))(res 1 13(t 5))))",
+        Found::Yes,
+        b"yes\n",
+        0,
+    ),
+    (
+        b"(declare-const p Bool)(declare-const q Bool)(declare-fun f(Bool)Int)(assert p)(assert q)(assert(not(=(f p)(f q))))(check-sat)(get-proof)(((p)(q)(f 0)(f 1)(= 2 3)(not 4))((assert 0 0)(assert 1 1)(both 0 1)(cong 2 3)(assert 2 5)(form 5(not(t 5))(not(t 4)))(form 4(t 4)(not(s 2 3)))(res 5 6(not(t 4)))(res 4 7(t 5))(res 3 8(s 2 3))(res 2 9(s 0 1))(res 1 10(t 1))(res 0 11(t 0))))",
+        Found::Yes,
+        b"yes\n",
+        0,
+    ),
+    (
+        b"(declare-const p Bool)(declare-const q Bool)(declare-fun f(Bool)Int)(assert(not p))(assert(not q))(assert(not(=(f p)(f q))))(check-sat)(get-proof)(((p)(not 0)(q)(not 2)(f 0)(f 2)(= 4 5)(not 6))((assert 0 1)(form 1(not(t 1))(not(t 0)))(assert 1 3)(form 3(not(t 3))(not(t 2)))(none 0 2)(cong 4 5)(assert 2 7)(form 7(not(t 7))(not(t 6)))(form 6(t 6)(not(s 4 5)))(res 7 8(not(t 6)))(res 6 9(t 7))(res 5 10(s 4 5))(res 4 11(s 0 2))(res 3 12(not(t 2)))(res 2 13(t 3))(res 1 14(not(t 0)))(res 0 15(t 1))))",
+        Found::Yes,
+        b"yes\n",
+        0,
+    ),
+    (
+        b"(declare-const a Int)(declare-const b Int)(declare-const p Bool)(assert(not p))(assert(distinct(ite p a b)b))(check-sat)(get-proof)(((p)(a)(b)(ite 0 1 2)(not 0)(distinct 3 2))((pick 3 1)(assert 0 4)(form 4(not(t 4))(not(t 0)))(assert 1 5)(form 5(not(t 5))(not(s 3 2)))(res 3 4(t 5))(res 0 5(s 3 2))(res 2 6(not(t 0)))(res 1 7(t 4))))",
+        Found::Yes,
+        b"yes\n",
+        0,
+    ),
+    (
+        b"(declare-const a Int)(assert(let((k a))(distinct k k)))(check-sat)(get-proof)(((a)(distinct 0 0))((refl 0)(assert 0 1)(form 1(not(t 1))(not(s 0 0)))(res 1 2(t 1))(res 0 3(s 0 0))))",
+        Found::Yes,
+        b"yes\n",
+        0,
+    ),
+    (
+        b"(declare-const a Int)(declare-const b Int)(declare-fun f(Int)Int)(define-fun dd()Bool(= a b))(assert dd)(assert(not(=(f a)(f b))))(check-sat)(get-proof)(((a)(b)(= 0 1)(f 0)(f 1)(= 3 4)(not 5))((assert 0 2)(form 2(not(t 2))(s 0 1))(cong 3 4)(assert 1 6)(form 6(not(t 6))(not(t 5)))(form 5(t 5)(not(s 3 4)))(res 4 5(not(t 5)))(res 3 6(t 6))(res 2 7(s 3 4))(res 1 8(s 0 1))(res 0 9(t 2))))",
+        Found::Yes,
+        b"yes\n",
+        0,
+    ),
+    (
+        b"(declare-sort U 0)(declare-const a U)(declare-const b U)(declare-fun g(U)Bool)(assert(let((k b))(= a k)))(assert(g b))(assert(not(g a)))(check-sat)(get-proof)(((a)(b)(= 0 1)(g 0)(g 1)(not 3))((assert 0 2)(form 2(not(t 2))(s 0 1))(cong 3 4)(sym 3 4)(truth 4 3)(assert 1 4)(assert 2 5)(form 5(not(t 5))(not(t 3)))(res 6 7(t 5))(res 4 8(t 3))(res 5 9(t 4))(res 3 10(s 4 3))(res 2 11(s 3 4))(res 1 12(s 0 1))(res 0 13(t 2))))",
+        Found::Yes,
+        b"yes\n",
+        0,
+    ),
+    (
+        b"(declare-const x Int)(declare-const y Int)(assert(=(+(* 5 y)4)(* 5 x)))(minimize x)(get-proof)(((5)(y)(* 0 1)(4)(+ 2 3)(x)(* 0 5)(= 4 6)(= 5 5))((assert 0 7)(form 7(not(t 7))(s 4 6))(link 4 6 0)(link 4 6 1)(round(le((5 1)((- 5)5))(- 4))5)(round(le(((- 5)1)(5 5))4)5)(farkas(1(not(le((1 1)((- 1)5))(- 1))))(1(not(le(((- 1)1)(1 5))0))))(res 5 6(le(((- 1)1)(1 5))0))(res 4 7(le((1 1)((- 1)5))(- 1)))(res 3 8(le(((- 5)1)(5 5))4))(res 2 9(le((5 1)((- 5)5))(- 4)))(res 1 10(s 4 6))(assert 1 8)(res 0 11(t 7))))",
+        Found::Yes,
+        b"yes\n",
+        0,
+    ),
+    (
+        b"(declare-const x Int)(declare-const y Int)(assert(>= 5(* 2 y)))(assert(let((k(<=(*(- 2)y)(- 5))))k))(check-sat)(get-proof)(((y)(5)(2)(* 2 0)(>= 1 3)(- 2)(* 5 0)(- 1)(<= 6 7))((assert 0 4)(form 4(not(t 4))(le((1 0))2))(assert 1 8)(form 8(not(t 8))(le(((- 1)0))(- 3)))(farkas(2(not(le(((- 1)0))(- 3))))(2(not(le((1 0))2))))(res 3 4(le(((- 1)0))(- 3)))(res 2 5(t 8))(res 1 6(le((1 0))2))(res 0 7(t 4))))",
+        Found::Yes,
+        b"yes\n",
+        0,
+    ),
+];
+
+#[test]
+fn judges_rows_three(rt: HostRuntime) -> Result<(), Fail> {
+    check_rows(&rt, rt.alloc(), &THREE)
+}
+
+/// Good proofs.
+static FOUR: [Row; 20] = [
+    (
+        b"(declare-const x Int)(push 2)(assert(>= 1(* 7 x)))(assert(>=(- 1)(*(- 3)x)))(push 2)(push 1)(assert false)(pop 1)(check-sat)(get-proof)(((x)(1)(7)(* 2 0)(>= 1 3)(- 1)(3)(- 6)(* 7 0)(>= 5 8))((assert 0 4)(form 4(not(t 4))(le((1 0))0))(assert 1 9)(form 9(not(t 9))(le(((- 1)0))(- 1)))(farkas((/ 3 7)(not(le((1 0))0)))((/ 3 7)(not(le(((- 1)0))(- 1)))))(res 3 4(le(((- 1)0))(- 1)))(res 2 5(t 9))(res 1 6(le((1 0))0))(res 0 7(t 4))))",
+        Found::Yes,
+        b"yes\n",
+        0,
+    ),
+    (
+        b"(declare-const p Bool)(declare-const q Bool)(assert(or p(not q)))(assert(or(not p)q))(assert(or p q))(assert(or(not p)(not q)))(check-sat)(get-proof)(((p)(q)(not 1)(or 0 2)(not 0)(or 4 1)(or 0 1)(or 4 2))((assert 0 3)(form 3(not(t 3))(t 0)(t 2))(form 2(not(t 2))(not(t 1)))(assert 1 5)(form 5(not(t 5))(t 4)(t 1))(form 4(not(t 4))(not(t 0)))(assert 2 6)(form 6(not(t 6))(t 0)(t 1))(assert 3 7)(form 7(not(t 7))(t 4)(t 2))(res 2 9(not(t 2)))(res 4 10(t 1))(res 5 11(not(t 4)))(res 2 7(not(t 1)))(res 1 13(t 2))(res 14 12(t 0))(res 8 15(t 7))(res 6 16(t 6))(res 3 17(t 5))(res 0 18(t 3))))",
+        Found::Yes,
+        b"yes\n",
+        0,
+    ),
+    (
+        b"(declare-const p Bool)(declare-const q Bool)(check-sat-assuming((=> p q)(xor p q)(not q)))(get-proof)(((p)(q)(=> 0 1)(xor 0 1)(not 1))((assert 0 2)(form 2(not(t 2))(not(t 0))(t 1))(assert 1 3)(form 3(not(t 3))(t 0)(t 1))(assert 2 4)(form 4(not(t 4))(not(t 1)))(res 1 3(not(t 0)))(res 5 6(not(t 1)))(res 4 7(t 4))(res 2 8(t 3))(res 0 9(t 2))))",
+        Found::Yes,
+        b"yes\n",
+        0,
+    ),
+    (
+        b"(declare-const x Int)(declare-const y Int)(declare-fun h(Int)Bool)(assert(<= x 4))(assert(!(>= x 4):named nn))(assert(h x))(assert(not(h 4)))(check-sat)(get-proof)(((x)(4)(<= 0 1)(>= 0 1)(h 0)(h 1)(not 5))((assert 0 2)(form 2(not(t 2))(le((1 0))4))(assert 1 3)(form 3(not(t 3))(le(((- 1)0))(- 4)))(link 0 1 2)(cong 4 5)(truth 4 5)(assert 2 4)(assert 3 6)(form 6(not(t 6))(not(t 5)))(res 8 9(t 6))(res 6 10(t 5))(res 7 11(t 4))(res 5 12(s 4 5))(res 4 13(s 0 1))(res 3 14(le(((- 1)0))(- 4)))(res 2 15(t 3))(res 1 16(le((1 0))4))(res 0 17(t 2))))",
+        Found::Yes,
+        b"yes\n",
+        0,
+    ),
+    (
+        b"(declare-sort U 0)(declare-const c0 U)(declare-const c1 U)(declare-const c2 U)(declare-const c3 U)(declare-const c4 U)(declare-const c5 U)(declare-const c6 U)(assert(let((k c6))(distinct c0 c1 c2 c3 c4 c5 k)))(assert(= c2 c6))(check-sat)(|get-proof|)\n(((c0)(c1)(c2)(c3)(c4)(|c5|)(c6)(distinct 0 1 2 3 4 5 6)(= 2 6))((form 7(not(t 7))(not(s 2 6)))(assert 0 7)(assert 1 8)(form 8(not(t 8))(s 2 6))(res 2 3(t 8))(res 0 4(not(s 2 6)))(res 1 5(t 7))))(",
+        Found::Yes,
+        b"yes\n",
+        0,
+    ),
+    (
+        b"(assert(let((k(< 170141183460469231731687303715884105727 170141183460469231731687303715884105727)))k))(check-sat)(get-proof)(((170141183460469231731687303715884105727)(< 0 0)(false))((assert 0 1)(form 1(not(t 1))(le()(- 1)))(farkas((/ 1 170141183460469231731687303715884105727)(not(le()(- 1)))))(res 1 2(le()(- 1)))(refl 2)(res 0 3(t 1))))",
+        Found::Yes,
+        b"yes\n",
+        0,
+    ),
+    (
+        b"(declare-const p Bool)(assert(not(not(!(not p):named nn))))(assert(not nn))(check-sat)(get-proof)(((p)(not 0)(not 1)(not 2)(170141183460469231731687303715884105727))((assert 0 3)(form 3(not(t 3))(not(t 2)))(assert 1 2)(res 1 2(not(t 2)))(refl 3)(res 0 3(t 3))))",
+        Found::Yes,
+        b"yes\n",
+        0,
+    ),
+    (
+        b"(declare-const p Bool)(define-fun dd()Bool(and p p))(assert(not p))(assert dd)(check-sat)(get-proof)(((p)(and 0 0)(not 0))((form 1(t 0)(not(t 1)))(assert 0 2)(form 2(not(t 2))(not(t 0)))(assert 1 1)(res 0 3(not(t 1)))(res 2 4(not(t 0)))(res 1 5(t 2))))",
+        Found::Yes,
+        b"yes\n",
+        0,
+    ),
+    (
+        b"(declare-const p Bool)(declare-const q Bool)(declare-const r Bool)(declare-const s Bool)(assert p)(check-sat-assuming((not s)(not(or p s r q))))(get-proof)(((p)(s)(r)(q)(or 0 1 2 3)(not 1)(not 4)(true))((form 4(not(t 0))(t 1)(t 4))(assert 0 0)(assert 1 5)(form 5(not(t 5))(not(t 1)))(assert 2 6)(form 6(not(t 6))(not(t 4)))(res 4 5(t 6))(res 0 6(t 4))(res 3 7(not(t 1)))(res 2 8(t 5))(refl 6)(res 1 9(t 0))))",
+        Found::Yes,
+        b"yes\n",
+        0,
+    ),
+    (
+        b"(declare-const p Bool)(declare-const q Bool)(check-sat-assuming(q(xor p q)p))(get-proof)(((q)(p)(xor 1 0))((form 2(not(t 0))(not(t 2))(not(t 1)))(assert 0 0)(assert 1 2)(assert 2 1)(res 0 3(not(t 1)))(res 2 4(t 2))(res 1 5(t 0))))",
+        Found::Yes,
+        b"yes\n",
+        0,
+    ),
+    (
+        b"(declare-const q Bool)(declare-const r Bool)(check-sat-assuming((not(=> q r r))))(get-proof)(((q)(r)(|=>| 0 1 1)(not 2))((form 2(t 2))(assert 0 3)(form 3(not(t 3))(not(t 2)))(res 1 2(t 3))(res 0 3(t 2))))\n; end",
+        Found::Yes,
+        b"yes\n",
+        0,
+    ),
+    (
+        b"(declare-const p Bool)(declare-const q Bool)(assert(not p))(assert(= q q q p))(assert q)(check-sat)(get-proof)(((p)(q)(= 1 1 1 0)(not 0))((form 2(t 0)(not(t 2))(not(t 1)))(assert 0 3)(form 3(not(t 3))(not(t 0)))(assert 1 2)(assert 2 1)(res 0 4(not(t 1)))(res 3 5(t 2))(res 2 6(not(t 0)))(res 1 7(t 3))))",
+        Found::Yes,
+        b"yes\n",
+        0,
+    ),
+    (
+        b"(declare-const p Bool)(declare-const q Bool)(push)(push 2)(push 1)(assert false)(pop 1)(assert(distinct p p p q q q))(check-sat)(get-proof)(((p)(q)(distinct 0 0 0 1 1 1))((form 2(not(t 2)))(assert 0 2)(res 0 1(not(t 2)))))",
+        Found::Yes,
+        b"yes\n",
+        0,
+    ),
+    (
+        b"(set-option :produce-models true)(declare-const p Bool)(declare-const q Bool)(get-model)(assert(not q))(assert(not p))(assert(ite(not q)q p))(check-sat)(assert)(get-proof)(((q)(p)(not 0)(ite 2 0 1)(not 1))((form 3(t 0)(t 1)(not(t 3)))(assert 0 2)(form 2(not(t 2))(not(t 0)))(assert 1 4)(form 4(not(t 4))(not(t 1)))(assert 2 3)(res 0 5(not(t 3)))(res 4 6(not(t 1)))(res 3 7(t 4))(res 2 8(not(t 0)))(res 1 9(t 2))))",
+        Found::Yes,
+        b"yes\n",
+        0,
+    ),
+    (
+        b"(set-option :produce-models true)(declare-fun and()Bool)(assert(not true))(check-sat)(get-unsat-core)(get-proof)(((true)(not 0))((form 0(t 0))(assert 0 1)(form 1(not(t 1))(not(t 0)))(res 1 2(t 1))(res 0 3(t 0))))",
+        Found::Yes,
+        b"yes\n",
+        0,
+    ),
+    (
+        b"(assert false)(check-sat)(get-proof)(((false))((form 0(not(t 0)))(assert 0 0)(res 0 1(not(t 0)))))",
+        Found::Yes,
+        b"yes\n",
+        0,
+    ),
+    (
+        b"(set-logic ALL)(declare-sort U 0)(declare-const a U)(declare-const b U)(pop 1)(assert(= a b))(assert(distinct a b))(check-sat)(check-sat)(get-proof)(((a)(b)(= 0 1)(distinct 0 1))((form 2(not(t 2))(s 0 1))(assert 0 2)(assert 1 3)(form 3(not(t 3))(not(s 0 1)))(res 2 3(t 3))(res 0 4(s 0 1))(res 1 5(t 2))))",
+        Found::Yes,
+        b"yes\n",
+        0,
+    ),
+    (
+        b"(declare-sort U 0)(declare-const a U)(declare-const b U)(declare-const c U)(assert(distinct a b c))(assert(!(= a b):named nn))(check-sat)(get-proof)(((a)(b)(c)(distinct 0 1 2)(= 0 1))((form 3(not(t 3))(not(s 0 1)))(assert 0 3)(assert 1 4)(form 4(not(t 4))(s 0 1))(res 2 3(t 4))(res 0 4(not(s 0 1)))(res 1 5(t 3))))",
+        Found::Yes,
+        b"yes\n",
+        0,
+    ),
+    (
+        b"(set-option :global-declarations true)(push 1)(declare-const x Int)(declare-const y Int)(assert false)(pop 1)(assert(not(<= 2 y(+ x 5))))(assert(>= y 2))(assert(>=(+ x 5)y))(check-sat)(get-proof)(((2)(y)(x)(5)(+ 2 3)(<= 0 1 4)(not 5)(>= 1 0)(>= 4 1))((form 5(t 5)(not(le(((- 1)1))(- 2)))(not(le((1 1)((- 1)2))5)))(assert 0 6)(form 6(not(t 6))(not(t 5)))(assert 1 7)(form 7(not(t 7))(le(((- 1)1))(- 2)))(assert 2 8)(form 8(not(t 8))(le((1 1)((- 1)2))5))(res 5 6(t 8))(res 0 7(not(le((1 1)((- 1)2))5)))(res 4 8(le(((- 1)1))(- 2)))(res 3 9(t 7))(res 2 10(not(t 5)))(res 1 11(t 6))))",
+        Found::Yes,
+        b"yes\n",
+        0,
+    ),
+    (
+        b"(declare-const x Int)(declare-const y Int)(declare-const z Int)(assert(<(+ y 8)z))(assert(let((k(> z(+ y 8))))(not k)))(check-sat)(get-proof)(((y)(8)(+ 0 1)(z)(< 2 3)(> 3 2)(|not| 5)(7))((form 4(not(t 4))(le((1 0)((- 1)3))(- 9)))(assert 0 4)(assert 1 6)(form 6(not(t 6))(not(t 5)))(form 5(t 5)(not(le((1 0)((- 1)3))(- 9))))(res 3 4(not(t 5)))(res 2 5(t 6))(res 0 6(le((1 0)((- 1)3))(- 9)))(refl 1)(res 1 7(t 4))))\x7f",
+        Found::Yes,
+        b"yes\n",
+        0,
+    ),
+];
+
+#[test]
+fn judges_rows_four(rt: HostRuntime) -> Result<(), Fail> {
+    check_rows(&rt, rt.alloc(), &FOUR)
+}
+
+/// Spoiled proofs.
+static FIVE: [Row; 20] = [
+    (
+        b"(declare-const x Int)(declare-const y Int)(declare-const z Int)(assert(not(< y x)))(assert(> x y))(check-sat)(get-proof)(((y)(x)(< 0 1)(not 2)(> 1 0))((form 2(t 2)(not(le((1 0)((- 1)1))(- 1))))(assert 0 3)(form 3(not(t 3))(not(t 2)))(assert 1 4)(form 4(le((1 0)((- 1)1))(- 1)))(res 3 4(t 4))(res 0 5(not(le((1 0)((- 1)1))(- 1))))(res 2 6(not(t 2)))(res 1 7(t 3))))",
+        Found::No(4),
+        b"no 4\n",
+        1,
+    ),
+    (
+        b"(declare-const x Int)(assert(>=(- 7)(*(- 5)x)))(assert(<=(* 2 x)3))(check-sat)(get-proof)(((x)(7)(- 1)(5)(- 3)(* 4 0)(>= 2 5)(2)(* 7 0)(3)(<= 8 9))((assert 0 6)(form 6(not(t 6))(le(((- 1)0))(- 2)))(assert 1 10)(form 10(not(t 10))(le((1 0))1))(farkas((/ 2 7)(not(le((1 0))1))))(res 3 4(le((1 0))1))(res 2 5(t 10))(res 1 6(le(((- 1)0))(- 2)))(res 0 7(t 6))))",
+        Found::No(4),
+        b"no 4\n",
+        1,
+    ),
+    (
+        b"(declare-sort U 0)(declare-const a U)(declare-const b U)(assert(= a b))(assert(let((k(distinct a b)))k))(check-sat)(get-proof)(((a)(b)(= 0 1)(distinct 0 1))((form 2(not(t 2))(s 0 1))(assert 0 2)(assert 1 3)(form 3(not(t 3))(not(t 4))(not(s 0 1)))(res 2 3(t 3))(res 0 4(s 0 1))(res 1 5(t 2))))",
+        Found::No(3),
+        b"no 3\n",
+        1,
+    ),
+    (
+        b"(set-option :global-declarations true)(push 1)(declare-const x Int)(declare-const y Int)(assert false)(pop 1)(assert(=(+(* 5 y)3)(* 5 x)))(check-sat)(get-proof)(((5)(y)(* 0 1)(3)(+ 2 3)(x)(* 0 5)(= 4 6))((assert 0 7)(form 7(not(t 7))(s 4 6))(link 4 6 0)(link 4 6 1)(round(le((5 1)((- 5)5))(- 3))5)(round(not(le(((- 5)1)(5 5))3))5)(farkas(1(not(le((1 1)((- 1)5))(- 1))))(1(not(le(((- 1)1)(1 5))0))))(res 5 6(le(((- 1)1)(1 5))0))(res 4 7(le((1 1)((- 1)5))(- 1)))(res 3 8(le(((- 5)1)(5 5))3))(res 2 9(le((5 1)((- 5)5))(- 3)))(res 1 10(s 4 6))(res 0 11(t 7))))",
+        Found::No(5),
+        b"no 5\n",
+        1,
+    ),
+    (
+        b"(declare-const x Int)(declare-const y Int)(assert(=(* 2 x)(+(* 2 y)1)))(check-sat)(get-proof)(((2)(x)(* 0 1)(y)(* 0 3)(1)(+ 4 5)(= 2 6))((assert 0 7)(form 7(not(t 7))(s 2 6))(link 2 6 0)(link 2 6 1)(round(not(le((2 1)((- 2)3))1))2)(round(le(((- 2)1)(2 3))(- 1))2)(farkas(1(not(le((1 1)((- 1)3))0)))(1(not(le(((- 1)1)(1 3))(- 1)))))(res 5 6(le(((- 1)1)(1 3))(- 1)))(res 4 7(le((1 1)((- 1)3))0))(res 3 8(le(((- 2)1)(2 3))(- 1)))(res 2 9(le((2 1)((- 2)3))1))(res 1 10(s 2 6))(res 0 11(t 7))))",
+        Found::No(4),
+        b"no 4\n",
+        1,
+    ),
+    (
+        b"(assert(< 170141183460469231731687303715884105727 170141183460469231731687303715884105727))(check-sat)(get-proof)(((170141183460469231731687303715884105727)(< 0 0))((assert 0 1)(form 1(not(t 1))(le()(- 1)))(farkas(0(not(le()(- 1)))))(res 1 2(le()(- 1)))(res 0 3(t 1))))",
+        Found::No(2),
+        b"no 2\n",
+        1,
+    ),
+    (
+        b"(declare-const x Int)(declare-const y Int)(assert(<= x(+ x 5)))(assert(<=(+ x 5)x))(assert(not(= x(+ x 5))))(check-sat)(get-proof)(((x)(5)(+ 0 1)(<= 0 2)(<= 2 0)(= 0 2)(not 5))((link 0 2 2)(assert 0 3)(form 3(not(t 3))(le()0))(assert 1 4)(form 4(not(t 4))(le()(- 5)))(assert 2 6)(form 6(not(t 6))(not(t 5)))(form 5(t 5)(not(s 0 2)))(res 6 7(not(t 5)))(res 5 8(t 6))(res 0 9(s 0 2))(res 4 10(le()(- 5)))(res 3 11(t 4))(res 2 12(le()5))(res 1 13(t 3))))",
+        Found::No(2),
+        b"no 2\n",
+        1,
+    ),
+    (
+        b"(declare-const p Bool)(declare-const q Bool)(declare-fun f(Bool)Int)(assert p)(assert q)(assert(let((k(f q)))(not(=(f p)k))))(check-sat)(get-proof)(((p)(q)(f 0)(f 1)(= 2 3)(not 4)(- 3 0))((assert 0 0)(assert 1 1)(both 0 1)(cong 2 3)(assert 2 5)(form 5(not(t 5))(not(t 4)))(form 4(t 4)(not(s 2 3)))(res 5 6(not(t 4)))(res 4 7(t 5))(res 3 8(s 2 3))(res 2 9(s 0 1))(res 1 10(t 1))(res 0 11(t 0))))",
+        Found::Node(6),
+        b"node 6\n",
+        1,
+    ),
+    (
+        b"(declare-const x Int)(declare-const y Int)(assert(= x y))(assert(not(<= y x)))(check-sat)(get-proof)(((x)(y)(= 0 1)(<= 1 5)(not 3))((link 0 1 1)(assert 0 2)(form 2(not(t 2))(s 0 1))(assert 1 4)(form 4(not(t 4))(not(t 3)))(form 3(t 3)(not(le(((- 1)0)(1 1))0)))(res 4 5(not(t 3)))(res 3 6(t 4))(res 0 7(le(((- 1)0)(1 1))0))(res 2 8(s 0 1))(res 1 9(t 2))))",
+        Found::Node(3),
+        b"node 3\n",
+        1,
+    ),
+    (
+        b"(declare-const p Bool)(declare-const q Bool)(declare-fun f(Bool)Int)(assert(not p))(assert(not q))(assert(not(=(f p)(f q))))(check-sat)(get-proof)(((p)(true 0)(q)(not 2)(f 0)(f 2)(= 4 5)(not 6))((assert 0 1)(form 1(not(t 1))(not(t 0)))(assert 1 3)(form 3(not(t 3))(not(t 2)))(none 0 2)(cong 4 5)(assert 2 7)(form 7(not(t 7))(not(t 6)))(form 6(t 6)(not(s 4 5)))(res 7 8(not(t 6)))(res 6 9(t 7))(res 5 10(s 4 5))(res 4 11(s 0 2))(res 3 12(not(t 2)))(res 2 13(t 3))(res 1 14(not(t 0)))(res 0 15(t 1))))",
+        Found::Node(1),
+        b"node 1\n",
+        1,
+    ),
+    (
+        b"(declare-const x Int)(declare-const y Int)(assert(= x x))(assert(not(<= x x)))(minimize x)(get-proof)(((x)(= 0 0)(<= 0 0)(not 2))((link 0 0 1)(assert 0 1)(form 1(not(t 1))(s 0 0))(assert 1 3)(form 3(not(t 3))(not(t 2)))(form 2(t 2)(not(le()0)))(res 4 5(not(t 2)))(res 3 6(t 3))(res 8 7(le()0))(res 2 8(s 0 0))(res 1 9(t 1))))",
+        Found::No(8),
+        b"no 8\n",
+        1,
+    ),
+    (
+        b"(assert false)(check-sat)(get-proof)(((false))((form 0(not(t 0)))(assert 0 0)(res 1 1(not(t 0)))))",
+        Found::No(2),
+        b"no 2\n",
+        1,
+    ),
+    (
+        b"(declare-const q Bool)(declare-const r Bool)(declare-const s Bool)(assert(not q))(assert r)(assert(xor s(not q)s r))(check-sat)(get-proof)(((q)(not 0)(r)(s)(xor 3 1 3 2))((form 4(not(t 1))(not(t 2))(not(t 4)))(assert 0 1)(assert 1 2)(assert 2 4)(res 0 3(not(t 4)))(res 2 4(t 2))(res 5 1(t 1))))",
+        Found::No(6),
+        b"no 6\n",
+        1,
+    ),
+    (
+        b"(declare-const x Int)(declare-const y Int)(assert(<=(* 3 x)(- 6)))(assert(<=(*(- 4)x)5))(check-sat)(get-proof)(((x)(3)(* 1 0)(6)(- 3)(<= 2 4)(4)(- 6)(* 7 0)(5)(<= 8 9))((assert 0 5)(form 5(not(t 5))(le((1 0))(- 2)))(assert 1 10)(form 10(not(t 10))(le(((- 1)0))1))(farkas(4(not(le(((- 1)0))1)))(4(not(le((1 0))(- 2)))))(res 3 4(le(((- 1)0))1))(res 2 5(t 10))(res 1 6(t 10))(res 0 7(t 5))))",
+        Found::No(7),
+        b"no 7\n",
+        1,
+    ),
+    (
+        b"(declare-const a Int)(declare-const b Int)(declare-const c Int)(assert(= b a))(assert(= b c))(assert(not(= a c)))(check-sat)(get-proof)(((b)(a)(= 0 1)(c)(= 0 3)(= 1 3)(not 5))((assert 0 2)(form 2(not(t 2))(s 0 1))(sym 0 1)(assert 2 4)(form 4(not(t 4))(s 0 3))(trans 1 0 3)(assert 2 6)(form 6(not(t 6))(not(t 5)))(form 5(t 5)(not(s 1 3)))(res 7 8(not(t 5)))(res 6 9(t 6))(res 5 10(s 1 3))(res 4 11(s 0 3))(res 3 12(t 4))(res 2 13(s 1 0))(res 1 14(s 0 1))(res 0 15(t 2))))",
+        Found::No(3),
+        b"no 3\n",
+        1,
+    ),
+    (
+        b"(declare-const p Bool)(declare-const q Bool)(declare-const r Bool)(declare-const s Bool)(declare-const u Bool)(declare-const v Bool)(declare-const w Bool)(declare-const z Bool)(assert(distinct p q r s u v w z))(check-sat)(get-proof)(((p)(q)(r)(s)(u)(v)(w)(z)(distinct 0 1 2 3 4 5 6 7))((form 8(not(t 8)))(assert 0 8)(res 0 4294967296(not(t 8)))))",
+        Found::No(2),
+        b"no 2\n",
+        1,
+    ),
+    (
+        b"(declare-const x Int)(declare-const y Int)(assert(not(< y(* 2 x)(* 3 x))))(assert(>(* 2 x)y))(assert(>(* 3 x)(* 2 x)))(check-sat)(get-proof)(((y)(2)(x)(* 1 2)(3)(* 4 2)(< 0 3 5)(not 6)(> 3 0)(> 5 3))((form 6(t 6)(not(le((1 0)((- 2)2))(- 1)))(not(le(((- 1)2))(- 1))))(assert 0 7)(form 7(not(t 7))(not(t 6)))(assert 1 8)(form 8(not(t 8))(le((1 0)((- 2)2))(- 1)))(assert 2 9)(form 9(not(t 9))(le(((- 1)2))(- 1)))(res 5 6(t 9))(res 0 7(not(le(((- 1)2))(- 1))))(res 4 8(le((1 0)((- 2)2))(- 1)))(res 3 9(t 8))(res 2 10(not(t 6)))))",
+        Found::No(12),
+        b"no 12\n",
+        1,
+    ),
+    (
+        b"(set-option :global-declarations true)(push 1)(declare-sort U 0)(declare-const a U)(declare-const b U)(declare-const p Bool)(assert false)(pop 1)(assert(not p))(assert(not(=(ite(not p)a b)a)))(check-sat)(get-proof)(((p)(not 0)(a)(b)(ite 1 2 3)(= 4 2)(not 5))((pick 4 18446744073709551616)(assert 0 1)(assert 1 6)(form 6(not(t 6))(not(t 5)))(form 5(t 5)(not(s 4 2)))(res 3 4(not(t 5)))(res 2 5(t 6))(res 0 6(s 4 2))(res 1 7(t 1))))",
+        Found::No(0),
+        b"no 0\n",
+        1,
+    ),
+    (
+        b"(declare-const x Int)(declare-const y Int)(assert(= y(+ x 2)))(assert(not(<=(+ x 2)y)))(check-sat)(get-proof)(((y)(x)(2)(+ 1 2)(= 0 3)(<= 3 0)(not 5))((link 0 3 7)(assert 0 4)(form 4(not(t 4))(s 0 3))(assert 1 6)(form 6(not(t 6))(not(t 5)))(form 5(t 5)(not(le(((- 1)0)(1 1))(- 2))))(res 4 5(not(t 5)))(res 3 6(t 6))(res 0 7(le(((- 1)0)(1 1))(- 2)))(res 2 8(s 0 3))(res 1 9(t 4))))",
+        Found::No(0),
+        b"no 0\n",
+        1,
+    ),
+    (
+        b"(declare-const a Int)(declare-const b Int)(declare-const p Bool)(assert(not p))(assert(not(=(ite(not p)a b)a)))(check-sat)(get-proof)(((p)(not 0)(a)(b)(ite 1 2 3)(= 4 2)(not 5))((pick 4 0)(assert 0 1)(assert 1 6)(form 6(not(t 6))(not(t 5)))(form 5(t 5)(not(s 4 2)))(res 3 4)(res 2 5(t 6))(res 0 6(s 4 2))(res 1 7(t 1))))",
+        Found::No(5),
+        b"no 5\n",
+        1,
+    ),
+];
+
+#[test]
+fn judges_rows_five(rt: HostRuntime) -> Result<(), Fail> {
+    check_rows(&rt, rt.alloc(), &FIVE)
+}
+
+/// Spoiled proofs.
+static SIX: [Row; 20] = [
+    (
+        b"(declare-const p Bool)(declare-const q Bool)(declare-sort U 0)(declare-fun f(Bool)U)(assert(not p))(assert(not(=(f p)(f false))))(push 2)(push 1)(assert false)(pop 1)(push)(check-sat)(get-proof)(((p)(not 0)(false)(f 0)(f 2)(= 3 4)(not 5))((assert 0 1)(form 1(not(t 1))(not(t 0)))(form 2(not(t 2)))(none 0 2)(cong 3 4)(assert 1 6)(form 6(not(t 6))(not(t 5)))(form 5(t 5)(not(s 3 4)))(res 6 7(not(t 5)))(res 5 8(t 6))(res 4 9(s 3 4))(res 3 10(s 0 2))(res 2 11(not(t 2)))(farkas(1(not(le((1 1)(1 4))0))))(res 1 12(not(t 0)))(res 0 13(t 1))))",
+        Found::No(13),
+        b"no 13\n",
+        1,
+    ),
+    (
+        b"(declare-const x Int)(declare-const y Int)(assert(=(+ x 8)y))(assert(not(<= y(+ x 8))))(check-sat)(get-proof)(((x)(y)(8)(+ 0 2)(= 3 1)(<= 1 3)(not 5))((round(le((2 3))1)2)(link 3 1 1)(assert 0 4)(form 4(not(t 4))(s 3 1))(assert 1 6)(form 6(not(t 6))(not(t 5)))(form 5(t 5)(not(le(((- 1)0)(1 1))8)))(res 4 5(not(t 5)))(res 3 6(t 6))(res 0 7(le(((- 1)0)(1 1))8))(res 2 8(s 3 1))(res 1 9(t 4))))",
+        Found::No(0),
+        b"no 0\n",
+        1,
+    ),
+    (
+        b"(declare-const p Bool)(declare-const q Bool)(declare-const r Bool)(declare-const s Bool)(assert s)(assert(not(=> p q r s)))(check-sat)(get-proof)(((s)(p)(q)(r)(=> 1 2 3 0)(not 4)(not 4))((form 4(not(t 0))(t 4))(assert 0 0)(assert 1 5)(form 5(not(t 6))(not(t 4)))(res 2 3(t 5))(res 0 4(t 4))(res 1 5(t 0))))",
+        Found::No(3),
+        b"no 3\n",
+        1,
+    ),
+    (
+        b"(declare-sort U 0)(declare-const a U)(declare-const b U)(declare-fun g(U U)U)(assert(= a b))(assert(not(=(g(g a b)a)(g(!(g b b):named nn)a))))(check-sat)(get-proof)(((a)(b)(= 0 1)(g 0 1)(g 1 1)(g 3 0)(g 4 0)(= 5 6)(not 7)(nn))((assert 0 2)(form 2(not(t 2))(s 0 1))(refl 1)(cong 3 4)(refl 0)(cong 5 6)(assert 1 8)(form 8(not(t 8))(not(t 7)))(form 7(t 7)(not(s 5 6)))(res 7 8(not(t 7)))(res 6 9(t 8))(res 5 10(s 5 6))(res 4 11(s 0 0))(res 3 12(s 3 4))(res 2 13(s 1 1))(res 1 14(s 0 1))(res 0 15(t 2))))",
+        Found::Node(9),
+        b"node 9\n",
+        1,
+    ),
+    (
+        b"(declare-const p Bool)(assert(not p))(assert(not(xor(not p)p)))(assert(not p))(check-sat)(get-proof)(((p)(not 0)(xor 1 0)(not 2))((form 2(not(t 1))(t 2)(t 0))(assert 0 1)(assert 1 3)(form 999(le((170141183460469231731687303715884105728 999))0))(form 3(not(t 3))(not(t 2)))(form 1(not(t 1))(not(t 0)))(res 0 4(t 0))(res 3 5(not(t 2)))(res 2 6(t 3))(res 1 7(t 1))))",
+        Found::Range(3),
+        b"range 3\n",
+        8,
+    ),
+    (
+        b"(declare-const x Int)(declare-const y Int)(assert(=(* 3 x)(+(* 3 y)2)))(check-sat)(get-proof)(((3)(x)(* 0 1)(y)(* 0 3)(2)(+ 4 5)(= 2 6))((assert 0 7)(form 7(not(t 7))(s 2 6))(link 2 6 0)(link 2 6 1)(round(le((3 1)((- 3)3))2)3)(round(le(((- 3)1)(3 3))(- 2))3)(farkas(1(not(le((1 1)((- 1)3))0)))(1(not(le(((- 1)1)(1 3))(- 1)))))(res 5 6(le(((- 1)1)(1 3))(- 1)))(res 4 7(le((1 1)((- 1)3))0))(res 3 8(le(((- 3)1)(3 3))(- 2)))(res 2 9(le((3 1)((- 3)3))2))(res 1 10(s 2 6))(farkas(1(le()170141183460469231731687303715884105727)))(res 0 11(t 7))))",
+        Found::Range(12),
+        b"range 12\n",
+        8,
+    ),
+    (
+        b"(declare-fun f(Int)Int)(assert(< 170141183460469231731687303715884105727 170141183460469231731687303715884105727))(check-sat)(get-proof)(((170141183460469231731687303715884105727)(< 0 0)(170141183460469231731687303715884105727)(+ 2 2)(f 3)(> 4 2))((assert 0 1)(form 1(not(t 1))(le()(- 1)))(farkas((/ 170141183460469231731687303715884105727 170141183460469231731687303715884105726)(not(le()(- 1)))))(res 1 2(le()(- 1)))(res 0 3(t 1))(link 4 2 2)))",
+        Found::Range(5),
+        b"range 5\n",
+        8,
+    ),
+    (
+        b"(declare-const x Int)(declare-const y Int)(assert(<= y(+ y 2)x))(assert(not(>=(+ y 2)y)))(get-proof)(((y)(2)(+ 0 1)(x)(<= 0 2 3)(>= 2 0)(not 5))((form 4(not(t 4))(le()2))(assert 0 4)(assert 1 6)(form 6(not(t 6))(not(t 5)))(form 5(t 5)(not(le()2)))(res 3 4(not(t 5)))(res 2 5(t 6))(res 0 6(le()2))(res 1 7(t 4))))",
+        Found::NoProof,
+        b"no proof\n",
+        7,
+    ),
+    (
+        b"(declare-const x Int)(declare-const y Int)(assert(<= y(+ y 1)))(assert(not(=(+ y 1)y)))(assert(<=(+ y 1)y))(check-sat)(get-proof)(((y)(1)(+ 0 1)(<= 2 0)(<= 0 2)(= 2 0)(not 5))((link 2 0 2)(assert 0 3)(form 3(not(t 3))(le()(- 1)))(assert 1 4)(form 4(not(t 4))(le()1))(assert 2 6)(form 6(not(t 6))(not(t 5)))(form 5(t 5)(not(s 2 0)))(res 6 7(not(t 5)))(res 5 8(t 6))(res 0 9(s 2 0))(res 4 10(le()1))(res 3 11(t 4))(res 2 12(le()(- 1)))(res 1 13(t 3))))",
+        Found::No(1),
+        b"no 1\n",
+        1,
+    ),
+    (
+        b"(declare-const x Int)(declare-const y Int)(declare-const z Int)(check-sat-assuming((>=(- 8)(*(- 4)x))(>= 1 x)))(get-proof)(((x)(8)(- 1)(4)(- 3)(* 4 0)(>= 2 5)(1)(>= 7 0))((assert 0 6)(form 6(not(t 6))(le(((- 1)0))(- 2)))(assert 1 8)(form 8(not(t 8))(le((1 0))1))(farkas((- 1 3)(not(le(((- 1)0))(- 2))))((/ 1 3)(not(le((1 0))1))))(res 3 4(le((1 0))1))(res 2 5(t 8))(res 1 6(le(((- 1)0))(- 2)))(res 0 7(t 6))))",
+        Found::No(4),
+        b"no 4\n",
+        1,
+    ),
+    (
+        b"(declare-const x Int)(declare-const y Int)(assert(= x x))(assert(not(<= x x)))(check-sat)(get-proof)(((x)(= 0 0)(<= 0 0)(not 2))((link 0 0 1)(assert 0 1)(form 1(not(t 1))(s 0 0))(assert 1 3)(form 3(not(t 3))(not(t 2)))(form 2(t 2)(not(le()1)))(res 4 5(not(t 2)))(res 3 6(t 3))(res 0 7(le()0))(res 2 8(s 0 0))(res 1 9(t 1))))",
+        Found::No(5),
+        b"no 5\n",
+        1,
+    ),
+    (
+        b"(declare-const p Bool)(declare-const q Bool)(declare-fun f(Bool)Int)(assert(not p))(assert(not(=(f p)(f false))))(check-sat)(get-proof)(((p)(not 0)(false)(f 0)(f 2)(= 3 4)(not 5)(* 4 4 4))((assert 0 1)(form 1(not(t 1))(not(t 0)))(form 2(not(t 2)))(none 0 2)(cong 3 4)(assert 1 6)(form 6(not(t 6))(not(t 5)))(form 5(t 5)(not(s 3 4)))(res 6 7(not(t 5)))(res 5 8(t 6))(res 4 9(s 3 4))(res 3 10(s 0 2))(res 2 11(not(t 2)))(res 1 12(not(t 0)))(res 0 13(t 1))))",
+        Found::Node(7),
+        b"node 7\n",
+        1,
+    ),
+    (
+        b"(declare-const q Bool)(assert(not q))(assert(= q(not q)))(assert(not q))(check-sat)(get-proof)(((q)(not 3)(= 0 1))((form 2(t 0)(not(t 2))(not(t 1)))(assert 0 1)(form 1(not(t 1))(not(t 0)))(assert 1 2)(res 0 3(not(t 2)))(res 2 4(not(t 0)))(res 1 5(t 1))))",
+        Found::Node(1),
+        b"node 1\n",
+        1,
+    ),
+    (
+        b"(declare-const x Int)(declare-const y Int)(assert(<=(* 3 x)(+ y 1)))(assert(<=(+ y 1)(* 3 x)))(assert(not(=(* 3 x)(+ y 1))))(check-sat)(get-proof)(((x)(y)(3)(* 2 0)(1)(+ 1 4)(<= 3 5)(<= 5 3)(= 3 5)(not 8))((link 3 5 2)(assert 0 6)(form 6(not(t 6))(le((3 0)((- 1)1))1))(assert 1 7)(form 7(not(t 7))(le(((- 3)0)(1 1))(- 1)))(assert 2 9 0)(form 9(not(t 9))(not(t 8)))(form 8(t 8)(not(s 3 5)))(res 6 7(not(t 8)))(res 5 8(t 9))(res 0 9(s 3 5))(res 4 10(le(((- 3)0)(1 1))(- 1)))(res 3 11(t 7))(res 2 12(le((3 0)((- 1)1))1))(res 1 13(t 6))))",
+        Found::No(5),
+        b"no 5\n",
+        1,
+    ),
+    (
+        b"(declare-const x Int)(declare-const y Int)(declare-const z Int)(assert(not(<=(+ x 6)(+ y 3))))(assert(>=(+ y 3)(+ x 6)))(check-sat)(get-proof)(((x)(6)(+ 0 1)(y)(3)(+ 3 4)(<= 2 5)(not 6)(>= 5 2))((form 6(t 6)(not(le((1 0)((- 1)3))(- 3))))(assert 0 7)(form 7(not(t 7))(not(t 6)))(sym 1 8)(assert 1 8)(form 8(not(t 8))(le((1 0)((- 1)3))(- 3)))(res 3 4(t 8))(res 0 5(not(le((1 0)((- 1)3))(- 3))))(res 2 6(not(t 6)))(res 1 7(t 7))))",
+        Found::No(3),
+        b"no 3\n",
+        1,
+    ),
+    (
+        b"(declare-const x Int)(declare-const y Int)(declare-const z Int)(assert(< 6 2 x))(assert(not(> x 2)))(check-sat)(get-proof)(((6)(2)(x)(< 0 1 2)(> 2 1)(not 4))((form 3(not(t 3))(le((340282366920938463463374607431768211456 2))(- 3)))(assert 0 3)(assert 1 5)(form 5(not(t 5))(not(t 4)))(form 4(t 4)(not(le(((- 1)2))(- 3))))(res 3 4(not(t 4)))(res 2 5(t 5))(res 0 6(le(((- 1)2))(- 3)))(res 1 7(t 3))))",
+        Found::Range(0),
+        b"range 0\n",
+        8,
+    ),
+    (
+        b"(declare-const p Bool)(declare-const q Bool)(declare-const r Bool)(declare-const s Bool)(assert(and p q r s))(assert(not q))(check-sat)(get-proof)(((p)(q)(r)(s)(and 0 1 2 3)(not 1))((form 4(not(t 4))(t 1))(assert 0 4)(assert 1 5)(form 5(not(t 5))(not(t 1)))(res 2 3(t 5))(res 0 4(t 1))(farkas(2(not(le()(- 85070591730234615865843651857942052864)))))(res 1 5(t 4))))",
+        Found::Range(6),
+        b"range 6\n",
+        8,
+    ),
+    (
+        b"(declare-const p Bool)(declare-const q Bool)(assert p)(assert q)(assert(not(and p q)))(check-sat)(push 0)(get-proof)(((p)(q)(and 0 1)(not 2))((form 2(not(t 0))(not(t 1))(t 2))(assert 0 0)(assert 1 1)(assert 2 3)(form 3(not(t 3))(not(t 2)))(res 3 4(t 3))(res 0 5(t 2))(res 2 6(t 1))(res 1 7(t 0))))",
+        Found::NoProof,
+        b"no proof\n",
+        7,
+    ),
+    (
+        b"(declare-const x Int)(declare-const y Int)(assert true)(assert(=(+(* 3 y)1)(* 3 x)))(check-sat)(get-proof)(((3)(y)(* 0 1)(1)(+ 2 3)(x)(* 0 5)(= 4 6))((assert 0 7)(form 7(not(t 7))(s 4 6))(link 4 6 0)(link 4 6 1)(round(le((3 1)((- 3)5))(- 1))3)(round(le(((- 3)1)(3 5))1)3)(farkas(1(not(le((1 1)((- 1)5))(- 1))))(1(not(le(((- 1)1)(1 5))0))))(res 5 6(le(((- 1)1)(1 5))0))(res 4 7(le((1 1)((- 1)5))(- 1)))(res 3 8(le(((- 3)1)(3 5))1))(res 2 9(le((3 1)((- 3)5))(- 1)))(res 1 10(s 4 6))(res 0 11(t 7))))",
+        Found::No(0),
+        b"no 0\n",
+        1,
+    ),
+    (
+        b"(declare-const p Bool)(declare-const q Bool)(declare-fun f(Bool)Int)(assert(not p))(assert(not(=(f p)(f false))))(check-sat)(get-proof)(((<=)(p)(not 0)(false)(f 0)(f 2)(= 3 4)(not 5))((assert 0 1)(form 1(not(t 1))(not(t 0)))(form 2(not(t 2)))(none 0 2)(cong 3 4)(assert 1 6)(form 6(not(t 6))(not(t 5)))(form 5(t 5)(not(s 3 4)))(res 6 7(not(t 5)))(res 5 8(t 6))(res 4 9(s 3 4))(res 3 10(s 0 2))(res 2 11(not(t 2)))(res 1 12(not(t 0)))(res 0 13(t 1))))",
+        Found::Node(0),
+        b"node 0\n",
+        1,
+    ),
+];
+
+#[test]
+fn judges_rows_six(rt: HostRuntime) -> Result<(), Fail> {
+    check_rows(&rt, rt.alloc(), &SIX)
+}
+
+/// Spoiled proofs.
+static SEVEN: [Row; 20] = [
+    (
+        b"(assert false)(check-sat)(get-proof)(((false))((Assert 0(not(t 0)))(assert 0 0)(res 0 1(not(t 0)))))",
+        Found::No(0),
+        b"no 0\n",
+        1,
+    ),
+    (
+        b"(declare-const x Int)(declare-const y Int)(assert(= y y))(assert(not(<= y y)))(check-sat)(get-proof)(((y)(= 0 0)(<= 0 0)(not 2))((link 0 0 1)(assert 0 1)(form 1(not(t 1))(s 0 0))(assert 1 3)(form 3(not(t 3))(not(t 2)))(form 2(t 2)(not(le()0)))(res 4 5(not(t 2)))(res 3 6(t 3))(res 0 7(le()0))(res 2 8(s 0 0))(farkas(1(not(le()(- 85070591730234615865843651857942052864))))(1(not(le()(- 85070591730234615865843651857942052864)))))(res 1 9(t 1))))",
+        Found::Range(10),
+        b"range 10\n",
+        8,
+    ),
+    (
+        b"(declare-const x Int)(declare-const y Int)(assert(not(>= x(+ x 5))))(assert(<=(+ x 5)x))(check-sat)(reset-assertions)(get-proof)(((x)(5)(+ 0 1)(>= 0 2)(not 3)(<= 2 0))((form 3(t 3)(not(le()(- 5))))(assert 0 4)(form 4(not(t 4))(not(t 3)))(assert 1 5)(form 5(not(t 5))(le()(- 5)))(res 3 4(t 5))(res 0 5(not(le()(- 5))))(res 2 6(not(t 3)))(res 1 7(t 4))))",
+        Found::NoProof,
+        b"no proof\n",
+        7,
+    ),
+    (
+        b"(declare-sort U 0)(declare-const a U)(declare-const b U)(declare-const c U)(assert(= a b c))(assert(distinct b c))(check-sat)(get-proof)(((a)(b)(c)(= 0 1 2)(distinct 1 2)(distinct 3 5))((form 3(not(t 3))(s 1 2))(assert 0 3)(assert 1 4)(form 4(not(t 4))(not(s 1 2)))(res 2 3(t 4))(res 0 4(s 1 2))(res 1 5(t 3))))",
+        Found::Node(5),
+        b"node 5\n",
+        1,
+    ),
+    (
+        b"(declare-const x Int)(declare-const y Int)(assert(not(>=(*(- 2)y)7 x)))(assert(<= 7(*(- 2)y)))(assert(<= x 7))(check-sat)(get-proof)(((2)(- 0)(y)(* 1 2)(7)(x)(>= 3 4 5)(not 6)(<= 4 3)(<= 5 4))((form 6(t 6)(not(le((1 2))(- 4)))(not(le((1 5))7)))(assert 0 7)0(assert 1 8)(form 8(not(t 8))(le((1 2))(- 4)))(assert 2 9)(form 9(not(t 9))(le((1 5))7))(res 5 6(t 9))(res 0 7(not(le((1 5))7)))(res 4 8(le((1 2))(- 4)))(res 3 9(t 8))(res 2 10(not(t 6)))(res 1 11(t 7))))",
+        Found::No(2),
+        b"no 2\n",
+        1,
+    ),
+    (
+        b"(declare-const p Bool)(declare-const q Bool)(declare-const r Bool)(declare-const s Bool)(declare-const v Bool)(assert(not s))(assert(= s p v r p q))(exit)(assert v)(check-sat)(get-proof)(((s)(p)(v)(r)(q)(= 0 1 2 3 1 4)(not 0))((form 5(t 0)(not(t 5))(not(t 2)))(assert 0 6)(form 6(not(t 6))(not(t 0)))(assert 1 5)(assert 2 2)(res 0 4(not(t 2)))(res 3 5(t 5))(res 2 6(not(t 0)))(res 1 7(t 6))))",
+        Found::NoProof,
+        b"no proof\n",
+        7,
+    ),
+    (
+        b"(declare-const p Bool)(declare-const q Bool)(assert(xor p q))(assert q)#xg(assert(= p q))(check-sat)(get-proof)(((p)(q)(xor 0 1)(= 0 1))((assert 0 2)(form 2(not(t 2))(not(t 0))(not(t 1)))(assert 1 1)(assert 2 3)(form 3(not(t 3))(t 0)(not(t 1)))(res 3 4(t 3))(res 1 5(not(t 0)))(res 2 6(t 1))(res 0 7(t 2))))",
+        Found::NoProof,
+        b"no proof\n",
+        7,
+    ),
+    (
+        b"(declare-sort U 0)(declare-const a U)(declare-const b U)(declare-const c U)(assert(= b a))(assert(= c b))(assert(not(= a c)))(check-sat)(get-proof)(((b)(a)(= 0 1)(c)(= 3 0)(= 1 3)(not 5))((assert 0 2)(form 2(not(t 2))(s 0 1))(sym 0 1)(assert 1 4)(form 4(not(t 4))(s 3 0))(sym 3 0)(trans 1 0 3)(assert 2 6)(form 6(not(t 6))(not(t 5)))(form 5(not(s 1 3)))(res 8 9(not(t 5)))(res 7 10(t 6))(res 6 11(s 1 3))(res 5 12(s 0 3))(res 4 13(s 3 0))(res 3 14(t 4))(res 2 15(s 1 0))(res 1 16(s 0 1))(res 0 17(t 2))))",
+        Found::No(9),
+        b"no 9\n",
+        1,
+    ),
+    (
+        b"(declare-const x Int)(assert(>=(- 1)(* 7 x)))(assert(>= 6 x))(assert(>=(- 6)(*(- 4)x)))(check-sat)(get-proof)(((x)(1)(- 1)(7)(* 3 0)(>= 2 4)(6)(>= 6 0)(- 6)(4)(- 9)(* 10 0)(>= 8 11))((assert 0 5)(form 5(not(t 5))(le((1 0))(- 1)))(assert 1 7)(form 7(not(t 7))(le((1 0))6))(assert 2 12)(form 12(not(t 12))(le(((- 1)0))(- 2)))(farkas((/ 3 7)(not(le((1 0))(- 1))))((/ 4 7)(not(le(((- 1)0))(- 2)))))(res 5 6(le(((- 1)0))(- 2)))(res 4 7(t 12))(res 3 8(le((1 0))6))(res 2 9(t 7))(res 1 10(le((1 0))(- 1)))(res 0 11(t 5))))",
+        Found::No(6),
+        b"no 6\n",
+        1,
+    ),
+    (
+        b"(declare-sort U 0)(declare-const a U)(declare-const b U)(declare-fun g(U)Bool)(define-fun dd()Bool(= a b))(assert dd)(assert(g a))(assert(not(g b)))(check-sat)(get-proof)(((a)(b)(= 0 1)(g 0)(g 1)(not 4))((assert 0 2)(form 2(not(t 2))(s 2 2)(s 0 1))(cong 3 4)(truth 3 4)(assert 1 3)(assert 2 5)(form 5(not(t 5))(not(t 4)))(res 5 6(t 5))(res 3 7(t 4))(res 4 8(t 3))(res 2 9(s 3 4))(res 1 10(s 0 1))(res 0 11(t 2))))",
+        Found::No(1),
+        b"no 1\n",
+        1,
+    ),
+    (
+        b"(declare-const x Int)(declare-const y Int)(assert(= y(+ x 3)))(assert(not(<= y(+ x 3))))(check-sat)(get-proof)(((y)(x)(3)(+ 1 2)(= 0 3)(<= 0 3)(not 5))((link 0 3 0)(assert 0 4)(form 4(not(t 4))(s 0 3))(assert 1 6)(form 6(not(t 6))(not(t 5)))(form 5(t 5)(not(le((1 0)((- 1)1))3)))(res 4 5(not(t 5)))(res 3 6(t 6))(res 0 7(not(le((1 0)((- 1)1))3)))(res 2 8(s 0 3))(res 1 9(t 4))))",
+        Found::No(8),
+        b"no 8\n",
+        1,
+    ),
+    (
+        b"(declare-const x Int)(declare-const y Int)(assert(=(* 5 x)(+(* 5 y)1)))(minimize y)(get-proof)(((5)(x)(* 0 1)(y)(* 0 3)(1)(+ 4 5)(= 2 6))((assert 0 7)(form 7(not(t 7))(s 2 6))(link 2 6 0)(link 2 6 1)(round(le((5 1)((- 5)3))1)5)(round(not(le(((- 5)1)(5 3))(- 1)))5)(farkas(1(not(le((1 1)((- 1)3))0)))(1(not(le(((- 1)1)(1 3))(- 1)))))(res 5 6(le(((- 1)1)(1 3))(- 1)))(res 4 7(le((1 1)((- 1)3))0))(res 3 8(le(((- 5)1)(5 3))(- 1)))(res 2 9(le((5 1)((- 5)3))1))(res 1 10(s 2 6))(res 0 11(t 7))))",
+        Found::No(5),
+        b"no 5\n",
+        1,
+    ),
+    (
+        b"(declare-const x Int)(declare-const y Int)(assert(=(+(* 5 y)1)(* 5 x)))(check-sat)(get-proof)(((5)(y)(* 0 1)(1)(+ 2 3)(x)(* 0 5)(= 4 6))((assert 0 7)(form 7(not(t 7))(s 4 6))(link 4 6 0)(link 4 6 1)(round(le((5 1)((- 5)5))(- 1))5)(round(le(((- 5)1)(5 5))1)5)(farkas(1(not(le((1 1)((- 1)5))(- 1))))((/ 1 0)(not(le(((- 1)1)(1 5))0))))(res 5 6(le(((- 1)1)(1 5))0))(res 4 7(le((1 1)((- 1)5))(- 1)))(res 3 8(le(((- 5)1)(5 5))1))(res 2 9(le((5 1)((- 5)5))(- 1)))(res 1 10(s 4 6))(res 0 11(t 7))))",
+        Found::No(6),
+        b"no 6\n",
+        1,
+    ),
+    (
+        b"(declare-const x Int)(declare-const y Int)(assert(<(+ y 1)0))(assert(not(> 0(+ y 1))))(check-sat)(get-proof)(((y)(1)(+ 0 1)(0)(< 2 3)(> 3 2)(not 5))((form 4(not(t 4))(le((0 0))(- 2)))(assert 0 4)(assert 1 6)(form 6(not(t 6))(not(t 5)))(form 5(t 5)(not(le((1 0))(- 2))))(res 3 4(not(t 5)))(res 2 5(t 6))(res 0 6(le((1 0))(- 2)))(res 1 7(t 4))))",
+        Found::No(0),
+        b"no 0\n",
+        1,
+    ),
+    (
+        b"(declare-const a Int)(declare-const b Int)(declare-const c Int)(declare-const d Int)(define-fun dd()Bool(distinct c d))(assert(= a b c d))(assert dd)(check-sat)(get-proof)(((a)(b)(c)(d)(= 0 1 2 3)(distinct 2 3)(U))((form 4(not(t 4))(s 2 3))(assert 0 4)(assert 1 5)(form 5(not(t 5))(not(s 2 3)))(res 2 3(t 5))(res 0 4(s 2 3))(res 1 5(t 4))))",
+        Found::Node(6),
+        b"node 6\n",
+        1,
+    ),
+    (
+        b"(declare-const x Int)(declare-const y Int)(declare-const z Int)(assert(not(>=(*(- 3)x)y)))(assert(<= y(*(- 3)x)))(check-sat)(get-proof)(((3)(- 0)(x)(* 1 2)(y)(>= 6 4)(not 5)(<= 4 3))((form 5(t 5)(not(le((3 2)(1 4))0)))(assert 0 6)(form 6(not(t 6))(not(t 5)))(assert 1 7)(form 7(not(t 7))(le((3 2)(1 4))0))(res 3 4(t 7))(res 0 5(not(le((3 2)(1 4))0)))(res 2 6(not(t 5)))(res 1 7(t 6))))",
+        Found::Node(5),
+        b"node 5\n",
+        1,
+    ),
+    (
+        b"(declare-const q Bool)(assert(not q))(check-sat-assuming((not(not q))(or(not q)q)))(get-proof)(((q)(not 0)(+ 1 0)(not 1))((assert 0 1)(assert 1 3)(form 3(not(t 3))(not(t 1)))(res 1 2(t 3))(res 0 3(t 1))))",
+        Found::Node(2),
+        b"node 2\n",
+        1,
+    ),
+    (
+        b"(declare-const p Bool)(declare-const q Bool)(declare-const r Bool)(assert(not r))(assert(or p q))(assert(or(not p)r))(assert(or(not q)r))(check-sat)(get-proof)(((r)(not 0)(p)(q)(or 2 3)(not 2)(or 5 0)(not 3)(or 7 0))((assert 0 1)(form 1(not(t 1))(not(t 0)))(assert 1 4)(form 4(not(t 4))(t 2)(t 3))(assert 2 6)(form 6(not(t 6))(t 5)(t 0))(form 5(not(t 5))(not(t 2)))(assert 3 8)(form 8(not(t 8))(t 7)(t 0))(form 7(not(t 7))(not(t 3)))(res 8 9(t 7))(res 7 10(t 8))(res 3 11(t 3))(res 6 12(not(t 2)))(res 5 13(t 5))(res 4 14(t 6))(res 2 19(t 4))(res 1 16(not(t 0)))(res 0 17(t 1))))",
+        Found::No(16),
+        b"no 16\n",
+        1,
+    ),
+    (
+        b"(declare-const p Bool)(declare-const q Bool)(assert q)(assert(= p(not q)q p q p))(check-sat-assuming((not p)))(get-proof)(((q)(p)(not 0)(= 1 2 0 1 0 1)(not 1))((form 3(not(t 0))(not(t 3))(t 1))(assert 0 0)(assert 1 3)(assert 2 4)(form 4(not(t 4))(not(t 1)))(res 3 4(t 4))(res 0 5(t 1))(res 2 5(t 3))(res 1 7(t 0))))",
+        Found::No(7),
+        b"no 7\n",
+        1,
+    ),
+    (
+        b"(declare-const x Int)(declare-const y Int)(assert(>=(- 9)(* 4 y)))(assert(>= 7(*(- 3)y)))(check-sat)(get-proof)(((y)(9)(- 1)(4)(* 3 0)(>= 2 4)(7)(3)(- 7)(* 8 0)(>= 6 9))((assert 0 5)(form 5(not(t 5))(le((1 0))(- 3)))(assert 1 10)(form 10(not(t 10))(le(((- 1)0))2))(farkas(3(not(le(((- 1)0))2)))(3(not(le((1 0))(- 3)))))(res 3 4(le(((- 1)0))2))(res 2 5(t 10))(res 6 1(le((1 0))(- 3)))(res 0 7(t 5))))",
+        Found::No(7),
+        b"no 7\n",
+        1,
+    ),
+];
+
+#[test]
+fn judges_rows_seven(rt: HostRuntime) -> Result<(), Fail> {
+    check_rows(&rt, rt.alloc(), &SEVEN)
+}
+
+/// Spoiled proofs.
+static EIGHT: [Row; 20] = [
+    (
+        b"(declare-sort U 0)(declare-const a U)(declare-const b U)(declare-fun g(U)Bool)(assert(= a b))(assert(g b))(assert(not(g a)))(check-sat)(get-proof)(((a)(b)(= 0 1)(g 0)(g 1)(not 3))((assert 0 2)(form 2(not(t 2))(s 0 1))(cong 3 4)(sym 3 4)(truth 4 3)(assert 1 4)(assert 2 5)(form 5(not(t 5))(not(t 3)))(res 6 7(t 5))(res 4 8(t 3))(res 5 9(t 4))(res 3 10(s 4 3))(res 2 11(le()0))(res 1 12(s 0 1))(res 0 13(t 2))))",
+        Found::No(12),
+        b"no 12\n",
+        1,
+    ),
+    (
+        b"(declare-const q Bool)(assert(not q))(assert(=(not q)q))(assert(not q))(check-sat)(get-proof)(((q)(not 0)(= 1 0))((form 2(t 0)(not(t 2))(not(t 1)))(assert 18446744073709551616 1)(form 1(not(t 1))(not(t 0)))(assert 1 2)(res 0 3(not(t 2)))(res 2 4(not(t 0)))(res 1 5(t 1))))",
+        Found::No(1),
+        b"no 1\n",
+        1,
+    ),
+    (
+        b"(declare-const p Bool)(declare-const q Bool)(define-fun dd()Bool(not(= q q(not p))))(assert(not p))(assert q)(assert dd)(check-sat)(get-proof)(((p)(not 0)(q)(= 2 2 1)(not 3))((form 4294967297(not(t 1))(not(t 2))(t 3))(assert 0 1)(assert 1 2)(assert 2 4)(form 4(not(t 4))(not(t 3)))(res 3 4(t 4))(res 0 5(t 3))(res 2 6(t 2))(res 1 7(t 1))))",
+        Found::No(0),
+        b"no 0\n",
+        1,
+    ),
+    (
+        b"(declare-sort U 0)(declare-const a U)(declare-const b U)(declare-fun g(U U)U)(assert(= a b))(assert(not(=(g(g a b)a)(g(g b b)a))))(check-sat)(get-proof)(((a)(b)(= 0 1)(g 0 1)(g 1 1)(g 3 0)(g 4 0)(= 5 6)(not 7))((assert 0 2)(form 2(not(t 2))(s 0 1))(refl 1)(cong 3 4)(refl 0)(cong 5 6)(assert 1 8)(form 8(not(t 8))(not(t 7)))(form 7(t 7)(not(s 5 6)))(res 7 8(not(t 7)))(res 6 9(t 8))(res 5 10(s 5 6))(res 4 11(s 0 0))(res 3 12(s 3 4))(res 2 13(s 1 1))(res 1 14(s 0 1))(res 0 15(t 2))(refl 2)))",
+        Found::No(18),
+        b"no 18\n",
+        1,
+    ),
+    (
+        b"(declare-const x Int)(declare-const y Int)(assert(=(+(* 2 y)1)(* 2 x)))(check-sat)(get-proof)(((2)(y)(* 0 1)(1)(+ 2 3)(x)(* 0 5)(= 4 6))((assert 0 7)(form 7(not(t 7))(s 4 6))(link 4 6 18446744073709551616)(link 4 6 1)(round(le((2 1)((- 2)5))(- 1))2)(round(le(((- 2)1)(2 5))1)2)(farkas(1(not(le((1 1)((- 1)5))(- 1))))(1(not(le(((- 1)1)(1 5))0))))(res 5 6(le(((- 1)1)(1 5))0))(res 4 7(le((1 1)((- 1)5))(- 1)))(res 3 8(le(((- 2)1)(2 5))1))(res 2 9(le((2 1)((- 2)5))(- 1)))(res 1 10(s 4 6))(res 0 11(t 7))))",
+        Found::No(2),
+        b"no 2\n",
+        1,
+    ),
+    (
+        b"(declare-const x Int)(declare-const y Int)(assert(=(+ y 2)(*(- 3)y)))(assert(not(<=(+ y 2)(*(- 3)y))))(check-sat)(get-proof)(((y)(2)(+ 0 1)(3)(- 3)(* 4 0)(= 2 5)(<= 2 5)(not 7))((link 2 5 2)(assert 0 6)(form 6(not(t 6))(s 2 5))(round(le((4 0))(- 2))4)(assert 1 8)(form 8(not(t 8))(not(t 7)))(form 7(t 7)(not(le((1 0))(- 1))))(res 5 6(not(t 7)))(res 4 7(t 8))(res 3 8(le((1 0))(- 1)))(res 0 9(le((4 0))(- 2)))(res 2 10(s 2 5))(res 1 11(t 6))))",
+        Found::No(10),
+        b"no 10\n",
+        1,
+    ),
+    (
+        b"(declare-const p Bool)(declare-const q Bool)(assert q)(assert(xor p q))(assert p)(check-sat)(get-proof)(((q)(p)(xor 1 0))((euclid 2 1)(assert 0 0)(assert 1 2)(assert 2 1)(res 0 3(not(t 1)))(res 2 4(t 2))(res 1 5(t 0))))",
+        Found::No(0),
+        b"no 0\n",
+        1,
+    ),
+    (
+        b"(declare-sort U 0)(declare-const c0 U)(declare-const c1 U)(declare-const c2 U)(declare-const c3 U)(declare-const c4 U)(assert(distinct c0 c1 c2 c3 c4))(assert(= c1 c2))(check-sat)(get-proof)(((c0)(c1)(c2)(c3)(c4)(distinct 0 1 2 3 4)(= 1 2))((form 5(not(t 5))(not(s 1 2)))(assert 0 5)(assert 1 6)(trans 0 0 5)(form 6(not(t 6))(s 1 2))(res 2 3(t 6))(res 0 4(not(s 1 2)))(res 1 5(t 5))))",
+        Found::No(3),
+        b"no 3\n",
+        1,
+    ),
+    (
+        b"(declare-const x Int)(declare-const y Int)(assert(>=(- 9)(+(* 4 y)(*(- 7)x))))(assert(<=(+(*(- 12)y)(* 21 x))26))(check-sat)(get-proof)(((y)(x)(9)(- 2)(4)(* 4 0)(7)(- 6)(* 7 1)(+ 5 8)(>= 3 9)(12)(- 11)(* 12 0)(21)(* 14 1)(+ 13 15)(26)(<= 16 17))((assert 0 10)(form 10(not(t 10))(le((4 0)((- 7)1))(- 9)))(assert 1 18)(form 18(not(t 18))(le(((- 4)0)(7 1))8))(farkas((/ 3 2)(not(le((4 0)((- 7)1))(- 9))))((/ 3 2)(not(le(((- 4)0)(7 1))8))))(farkas(1(le((1 7))1))(1(not(le((1 7))1))))(res 3 4(le(((- 4)0)(7 1))8))(res 2 5(t 18))(res 1 6(le((4 0)((- 7)1))(- 9)))(res 0 7(t 10))))",
+        Found::No(5),
+        b"no 5\n",
+        1,
+    ),
+    (
+        b"(check-sat-assuming(false))(get-proof)(((false)(false))((form 0(not(t 0)))(assert 0 0)(res 0 1(not(t 1)))))",
+        Found::No(2),
+        b"no 2\n",
+        1,
+    ),
+    (
+        b"(declare-const x Int)(declare-const y Int)(declare-fun f(Int)Int)(assert(!(>= 0 x):named nn))(assert(>= x 0))(assert(not(=(f x)(f 0))))(check-sat)(get-proof)(((x)(0)(>= 1 0)(>= 0 1)(f 0)(f 1)(= 4 5)(not 6)(nn))((assert 0 2)(form 2(not(t 2))(le((1 0))0))(assert 1 3)(form 3(not(t 3))(le(((- 1)0))0))(link 0 1 2)(cong 4 5)(assert 2 7)(form 7(not(t 7))(not(t 6)))(form 6(t 6)(not(s 4 5)))(res 7 8(not(t 6)))(res 6 9(t 7))(res 5 10(s 4 5))(res 4 11(s 0 1))(res 3 12(le(((- 1)0))0))(res 2 13(t 3))(res 1 14(le((1 0))0))(res 0 15(t 2))))",
+        Found::Node(8),
+        b"node 8\n",
+        1,
+    ),
+    (
+        b"(declare-const x Int)(declare-const y Int)(assert(=(*(- 2)y)y))(assert(not(<= y(*(- 2)y))))(check-sat)(get-proof)(((y)(2)(- 1)(* 2 0)(= 3 0)(<= 0 3)(not 5))((link 3 0 1)(assert 0 4)(form 4(not(t 4))(s 3 0))(round(le((3 0))0)3)(assert 1 6)(form 6(not(t 6))(not(t 5)))(form 5(t 5)(not(le((1 0))0)))(res 5 6(not(t 5)))(res 4 7(t 6))(res 3 8(le((1 0))0))(res 0 9(le((3 0))0))(res 2 10(s 3 0))(res 1 11(t 4))(round(not(t 0))340282366920938463463374607431768211456)))",
+        Found::Range(13),
+        b"range 13\n",
+        8,
+    ),
+    (
+        b"(declare-const x Int)(declare-const y Int)(assert(>=(- 1)(* 8 x)))(assert(<=(*(- 2)x)0))(check-sat)(get-proof)(((x)(1)(- 1)(8)(* 3 0)(>= 2 4)(2)(- 6)(* 7 0)(0)(<= 8 9))((assert 0 5)(form 5(not(t 5))(le((1 0))(- 1)))(assert 1 10)(form 10(not(t 10))(le(((- 1)0))0))(farkas(2(not(le(((- 1)0))0)))(2(not(le((1 0))(- 1)))))(res 3 4(le(((- 1)0))0))(res 2 5(t 10))(res 1 6(le((1 0))(- 1)))(farkas(1(not(le()(- 170141183460469231731687303715884105727))))(1(not(le()(- 1))))(1(not(le()170141183460469231731687303715884105727))))(res 0 7(t 5))))",
+        Found::Range(8),
+        b"range 8\n",
+        8,
+    ),
+    (
+        b"(set-option :global-declarations true)(push 1)(declare-const p Bool)(declare-const q Bool)(declare-const r Bool)(declare-fun f(Int)Int)(assert false)(pop 1)(assert p)(assert(not r))(assert(= q r p r))(check-sat)(get-proof)(((p)(r)(q)(= 2 1 0 1)(not 1)(170141183460469231731687303715884105727)(+ 5 5)(f 6)(<= 7 5))((form 3(not(t 0))(t 1)(not(t 3)))(assert 0 0)(assert 1 4)(form 4(not(t 4))(not(t 1)))(assert 2 3)(res 0 4(not(t 3)))(res 3 5(not(t 1)))(res 2 6(t 4))(res 1 7(t 0))(link 7 5 1)))",
+        Found::Range(9),
+        b"range 9\n",
+        8,
+    ),
+    (
+        b"(declare-const p Bool)(declare-const q Bool)(declare-sort U 0)(declare-fun f(Bool)U)(assert(not p))(assert(not(=(f p)(f false))))(check-sat)(get-proof)(()()",
+        Found::NoProof,
+        b"no proof\n",
+        7,
+    ),
+    (
+        b"(push 1)(assert(not true))(pop 1)(check-sat)(get-proof)(((true)(not 0))((form 0(t 0))(assert 0 1)(form 1(not(t 1))(not(t 0)))(res 1 2(t 1))(res 0 3(t 0))))",
+        Found::No(1),
+        b"no 1\n",
+        1,
+    ),
+    (
+        b"(assert(< 170141183460469231731687303715884105726 170141183460469231731687303715884105726))(check-sat)(get-proof)(((170141183460469231731687303715884105726)(< 0 0))((assert 0 1)(form 1(not(t 1))(le()(- 1)))(farkas((/ 0 1)(not(le()(- 1)))))(res 1 2(le()(- 1)))(res 0 3(t 1))))",
+        Found::No(2),
+        b"no 2\n",
+        1,
+    ),
+    (
+        b"(declare-const x Int)(declare-const y Int)(declare-const z Int)(assert(>(* 3 z)1))(assert(not(< 1(* 3 z))))(check-sat)(get-proof)(((3)(z)(* 0 1)(1)(> 2 3)(< 3 2)(not 5))((form 4(not(t 4))(le(((- 1)1)((- 1)1))(- 1)))(assert 0 4)(assert 1 6)(form 6(not(t 6))(not(t 5)))(form 5(t 5)(not(le(((- 1)1))(- 1))))(res 3 4(not(t 5)))(res 2 5(t 6))(res 0 6(le(((- 1)1))(- 1)))(res 1 7(t 4))))",
+        Found::No(0),
+        b"no 0\n",
+        1,
+    ),
+    (
+        b"(set-option :global-declarations true)(push 1)(declare-sort U 0)(declare-const a U)(declare-const b U)(declare-const p Bool)(assert false)(pop 1)(assert(not p))(assert(distinct(ite p a b)b))(check-sat)(get-proof)(((p)(a)(b)(ite 0 1 2)(not 0)(distinct 3 2)(#x1))((pick 3 1)(assert 0 4)(form 4(not(t 4))(not(t 0)))(assert 1 5)(form 5(not(t 5))(not(s 3 2)))(res 3 4(t 5))(res 0 5(s 3 2))(res 2 6(not(t 0)))(res 1 7(t 4))))",
+        Found::Node(6),
+        b"node 6\n",
+        1,
+    ),
+    (
+        b"(declare-const x Int)(declare-const y Int)(assert(=(* 5 x)(+(* 5 y)3)))(check-sat)(get-proof)(((5)(x)(* 3 1)(y)(* 0 3)(3)(+ 4 5)(= 2 6))((assert 0 7)(form 7(not(t 7))(s 2 6))(link 2 6 0)(link 2 6 1)(round(le((5 1)((- 5)3))3)5)(round(le(((- 5)1)(5 3))(- 3))5)(farkas(1(not(le((1 1)((- 1)3))0)))(1(not(le(((- 1)1)(1 3))(- 1)))))(res 5 6(le(((- 1)1)(1 3))(- 1)))(res 4 7(le((1 1)((- 1)3))0))(res 3 8(le(((- 5)1)(5 3))(- 3)))(res 2 9(le((5 1)((- 5)3))3))(res 1 10(s 2 6))(res 0 11(t 7))))",
+        Found::Node(2),
+        b"node 2\n",
+        1,
+    ),
+];
+
+#[test]
+fn judges_rows_eight(rt: HostRuntime) -> Result<(), Fail> {
+    check_rows(&rt, rt.alloc(), &EIGHT)
+}
+
+/// Spoiled proofs.
+static NINE: [Row; 20] = [
+    (
+        b"(declare-const a Int)(declare-const b Int)(declare-const d Int)(assert(!(distinct b d a):named nn))(assert(= b a))(check-sat)(get-proof)(((b)(d)(a)(distinct 0 1 2)(= 0 2))((form 3(not(t 3))(not(s 0 2)))(assert 0 3)(assert 1 4)(form(- 1)(not(t 4))(s 0 2))(res 2 3(t 4))(res 0 4(not(s 0 2)))(res 1 5(t 3))))",
+        Found::No(3),
+        b"no 3\n",
+        1,
+    ),
+    (
+        b"(declare-const x Int)(declare-const y Int)(assert(=(* 2 x)(+(* 2 y)1)))(minimize y)(get-proof)(((2)(x)(* 0 1)(y)(* 0 3)(1)(+ 4 5)(= 2 6))((assert 0 7)(form 7(not(t 7))(s 2 6))(link 2 6 0)(link 2 6 1)(round(le((2 1)((- 2)3))1)2)(round(le(((- 2)1)(2 3))(- 1))2)(farkas(1(not(le((1 1)((- 1)3))0)))(1(not(le(((- 1)1)(1 3))(- 1)))))(res 5 6(le(((- 1)1)(1 3))(- 1)))(trans 1 1 7)(res 4 7(le((1 1)((- 1)3))0))(res 3 8(le(((- 2)1)(2 3))(- 1)))(res 2 9(le((2 1)((- 2)3))1))(res 1 10(s 2 6))(res 0 11(t 7))))",
+        Found::No(8),
+        b"no 8\n",
+        1,
+    ),
+    (
+        b"(declare-const p Bool)(declare-const q Bool)(assert(not q))(assert(and p q))(check-sat)(get-proof)(((q)(p)(and 1 0)(not 0))((form 2(t 0)(not(t 2)))(assert 0 3)(form 3(not(t 3))(not(t 0)))(assert 1 2)(res 0 3(not(t 2)))(res 999 999(le()170141183460469231731687303715884105728))(res 2 4(not(t 0)))(res 1 5(t 3))))",
+        Found::Range(5),
+        b"range 5\n",
+        8,
+    ),
+    (
+        b"(declare-const x Int)(declare-const y Int)(assert(<= x x))(assert(<= x x))(assert(not(= x x)))(check-sat)(get-proof)(((x)(<= 0 0)(= 0 0)(not 2))((link 0 0 2)(assert 0 1)(form 1(not(t 1))(le()0))(assert 2 3)(form 3(not(t 3))(not(t 2)))(form 2(t 2)(not(s 0 0)))(res 4 5(not(t 2)))(res 3 6(t 3))(res 0 7(s 0 0))(res 2 8(le()0))(farkas((/ 1 85070591730234615865843651857942052864)(not(le()(- 1))))((/ 1 85070591730234615865843651857942052863)(not(le()(- 1)))))(res 1 9(t 1))))",
+        Found::Range(10),
+        b"range 10\n",
+        8,
+    ),
+    (
+        b"(declare-const p Bool)(assert(not(= p p)))(check-sat)(((p)(= 0 0)(not 1))((form 1(t 1))(assert 0 2)(form 2(not(t 2))(not(t 1)))(res 1 2(t 2))(res 0 3(t 1))))",
+        Found::NoProof,
+        b"no proof\n",
+        7,
+    ),
+    (
+        b"(declare-const x Int)(declare-const y Int)(assert(= x(+ x 2)))(check-sat-assuming((not(<= x(+ x 2)))))(check-sat)(get-proof)(((x)(2)(+ 0 1)(= 0 2)(<= 0 2)(not 4))((link 0 2 0)(assert 0 3)(form 3(not(t 3))(s 0 2))(assert 1 5)(form 5(not(t 5))(not(t 4)))(form 4(t 4)(not(le()2)))(res 4 5(not(t 4)))(res 3 6(t 5))(res 0 7(le()2))(res 2 8(s 0 2))(res 1 9(t 3))))",
+        Found::No(3),
+        b"no 3\n",
+        1,
+    ),
+    (
+        b"(declare-const a Int)(declare-const b Int)(declare-const p Bool)(assert(not(not p)))(assert(not(=(ite(not p)a b)b)))(check-sat)(get-proof)(((p)(not 0)(a)(b)(ite 1 2 3)(not 1)(= 4 3)(not 6)(1000000000000000000000000000000000000000000000000000000000000))((pick 4 1)(assert 0 5)(form 5(not(t 5))(not(t 1)))(assert 1 7)(form 7(not(t 7))(not(t 6)))(form 6(t 6)(not(s 4 3)))(res 4 5(not(t 6)))(res 3 6(t 7))(res 0 7(s 4 3))(res 2 8(not(t 1)))(res 1 9(t 5))))",
+        Found::Node(8),
+        b"node 8\n",
+        1,
+    ),
+    (
+        b"(declare-const p Bool)(declare-const q Bool)(declare-sort U 0)(declare-fun f(Bool)U)(assert p)(assert q)(assert(not(=(f p)(f q))))(check-sat)(get-proof)(((p)(q)(f 0)(f 1)(= 2 3)(not 4))((assert 0 0)(assert 1 1)(both 0 1)(cong 2 3)(assert 2 5)(form 5(not(t 5))(not(t 4)))(form 4(t 4)(not(s 2 3)))(res 5 6(not(t 4)))(res 4 7(t 5))(res 3 8(s 2 3))(res 2 9(s 0 1))(res 1 10(t 1))(res 0 11())))",
+        Found::No(12),
+        b"no 12\n",
+        1,
+    ),
+    (
+        b"(declare-const p Bool)(assert(not(not p)))(assert(not p))(check-sat)(get-proof)(((p)(not 0)(not 1)(170141183460469231731687303715884105727)(85070591730234615865843651857942052864)(1)(+ 3 5)(= 6 6))((assert 0 2)(form 2(not(t 2))(not(t 1)))(assert 1 1)(res 1 2(not(t 1)))(link 6 6 2)(res 0 3(t 2))))",
+        Found::Range(4),
+        b"range 4\n",
+        8,
+    ),
+    (
+        b"(declare-const x Int)(declare-const y Int)(assert(>=(+ y 1)5 y))(assert(not(<= 5(+ y 1))))(check-sat)(get-proof)(assert false)(check-sat)(get-proof)(((y)(1)(+ 0 1)(5)(>= 2 3 0)(<= 3 2)(not 5))((form 4(not(t 4))(le(((- 1)0))(- 4)))(assert 0 4)(assert 1 6)(form 6(not(t 6))(not(t 5)))(form 5(t 5)(not(le(((- 1)0))(- 4))))(res 3 4(not(t 5)))(res 2 5(t 6))(res 0 6(le(((- 1)0))(- 4)))(res 1 7(t 4))))",
+        Found::NoProof,
+        b"no proof\n",
+        7,
+    ),
+    (
+        b"(declare-const p Bool)(declare-const q Bool)(declare-const r Bool)(declare-const s Bool)(declare-const u Bool)(assert(not(or p q r s u)))(assert r)(check-sat)(get-proof)((((true))(p)(q)(r)(s)(u)(or 0 1 2 3 4)(not 5))((form 5(t 5)(not(t 2)))(assert 0 6)(form 6(not(t 6))(not(t 5)))(assert 1 2)(res 0 3(not(t 2)))(res 2 4(not(t 5)))(res 1 5(t 6))))",
+        Found::Node(0),
+        b"node 0\n",
+        1,
+    ),
+    (
+        b"(declare-const x Int)(declare-const y Int)(assert(=(* 3 x)(+(* 3 y)2)))(check-sat)(get-proof)(((3)(x)(* 0 1)(y)(* 0 3)(2)(+ 4 5)(= 2 6))((assert 0 7)(form 7(not(t 7))(s 2 6))(link 2 6 0)(link 2 6 1)(round(le((3 1)((- 3)3))2)3)(round(le(((- 3)1)(3 3))(- 2))3)(farkas(1(not(le((1 1)((- 1)3))0)))(1(not(le(((- 1)1)(1 3))(- 1)))))(res 5 6(le(((- 1)1)(1 3))(- 1)))(res 4 7(le((1 1)((- 1)3))0))(res 3 8(le(((- 3)1)(3 3))(- 2)))(res 2 9(le((3 1)((- 3)3))2))(res 1 10(s 2 6))(assert 0)))",
+        Found::No(12),
+        b"no 12\n",
+        1,
+    ),
+    (
+        b"(declare-const p Bool)(declare-const q Bool)(assert(or(not p)q))(assert(or p q))(assert(or(not p)(not q)))(assert(or p(not q)))(check-sat)(push 1)(get-proof)(((p)(not 0)(q)(or 1 2)(or 0 2)(not 2)(or 1 5)(or 0 5))((assert 0 3)(form 3(not(t 3))(t 1)(t 2))(form 1(not(t 1))(not(t 0)))(assert 1 4)(form 4(not(t 4))(t 0)(t 2))(assert 2 6)(form 6(not(t 6))(t 1)(t 5))(form 5(not(t 5))(not(t 2)))(assert 3 7)(form 7(not(t 7))(t 0)(t 5))(res 7 9(not(t 5)))(res 4 10(t 2))(res 2 11(not(t 0)))(res 6 7(t 5))(res 1 13(t 2))(res 14 12(t 1))(res 8 15(t 7))(res 5 16(t 6))(res 3 17(t 4))(res 0 18(t 3))))",
+        Found::NoProof,
+        b"no proof\n",
+        7,
+    ),
+    (
+        b"(declare-const x Int)(declare-const y Int)(declare-const z Int)(assert(<(+ y 1)(+ x 7)))(assert(not(>(+ x 7)(+ y 1))))(check-sat-assuming)(get-proof)(((y)(1)(+ 0 1)(x)(7)(+ 3 4)(< 2 5)(> 5 2)(not 7))((form 6(not(t 6))(le((1 0)((- 1)3))5))(assert 0 6)(assert 1 8)(form 8(not(t 8))(not(t 7)))(form 7(t 7)(not(le((1 0)((- 1)3))5)))(res 3 4(not(t 7)))(res 2 5(t 8))(res 0 6(le((1 0)((- 1)3))5))(res 1 7(t 6))))",
+        Found::NoProof,
+        b"no proof\n",
+        7,
+    ),
+    (
+        b"(declare-const p Bool)(declare-const q Bool)(declare-sort U 0)(declare-fun f(Bool)U)(assert p)(assert q)(assert(not(=(f p)(f q))))(check-sat)(get-proof)(((p)(q)(f 0)(f 1)(= 2 3)(not 4))((assert 0 0)(assert 1 1)(both 0 1)(cong 2 3)(assert 2 5)(form 5(not(t 4)))(form 4(t 4)(not(s 2 3)))(res 5 6(not(t 4)))(res 4 7(t 5))(res 3 8(s 2 3))(res 2 9(s 0 1))(res 1 10(t 1))(res 0 11(t 0))))",
+        Found::No(5),
+        b"no 5\n",
+        1,
+    ),
+    (
+        b"(declare-const x Int)(declare-const y Int)(assert(>= 7(*(- 4)x)))(assert(<=(* 3 x)(- 5)))(check-sat)(get-proof)(((x)(7)(4)(- 2)(* 3 0)(>= 1 4)(3)(* 6 0)(5)(- 8)(<= 7 9))((assert 0 5)(form 5(not(t 5))(le(((- 1)0))1))(assert 1 10)(form 10(not(t 10))(le((1 0))(- 2)))(farkas(3(not(le(((- 1)0))1))))(res 3 4(le((1 0))(- 2)))(res 2 5(t 10))(res 1 6(le(((- 1)0))1))(res 0 7(t 5))))",
+        Found::No(4),
+        b"no 4\n",
+        1,
+    ),
+    (
+        b"(declare-const p Bool)(declare-const q Bool)(declare-fun f(Bool)Int)(assert p)(assert q)(assert(not(=(f p)(f q))))(check-sat)(get-proof)(((p)(q)(f 0)(f 1)(= 2 3)(not 4))((assert 0 0)(assert 1 1)(both 0 1)(cong 2 3)(assert 2 5)(form 5(not(t 5))(not(t 4)))(form 4(t 4)(not(s 2 3))(not(t 6)))(res 5 6(not(t 4)))(res 4 7(t 5))(res 3 8(s 2 3))(res 2 9(s 0 1))(res 1 10(t 1))(res 0 11(t 0))))",
+        Found::No(6),
+        b"no 6\n",
+        1,
+    ),
+    (
+        b"(declare-const a Int)(declare-const b Int)(declare-const p Bool)(assert p)(assert(not(=(ite p a b)a)))(check-sat)(get-proof)(((p)(a)(b)(ite 0 1 2)(= 3 1)(not 4))((pick 3 0)(assert 0 0)(assert 1 5)(form 5(not(t 5))(not(t 4)))(form 4(t 4)(not(s 3 1)))(res 3 4(not(t 4)))(res 2 5(not(t 5)))(res 0 6(s 3 1))(res 1 7(t 0))))",
+        Found::No(6),
+        b"no 6\n",
+        1,
+    ),
+    (
+        b"(declare-const x Int)(declare-const y Int)(assert(=(+(* 2 y)1)(* 2 x)))(check-sat)(get-proof)(((2)(y)(* 0 1)(1)(+ 2 3)(x)(* 0 5)(= 4 6))((assert 0 7)(form 7(not(t 7))(s 4 6))(link 4 6 0)(link 4 6 1)(round(not(le((2 1)((- 2)5))(- 1)))2)(round(le(((- 2)1)(2 5))1)2)(farkas(1(not(le((1 1)((- 1)5))(- 1))))(1(not(le(((- 1)1)(1 5))0))))(res 5 6(le(((- 1)1)(1 5))0))(res 4 7(le((1 1)((- 1)5))(- 1)))(res 3 8(le(((- 2)1)(2 5))1))(res 2 9(le((2 1)((- 2)5))(- 1)))(res 1 10(s 4 6))(res 0 11(t 7))))",
+        Found::No(4),
+        b"no 4\n",
+        1,
+    ),
+    (
+        b"(declare-const x Int)(assert(<=(*(- 5)x)4))(assert(>=(- 3)x))(check-sat)(get-proof)(((x)(5)(- 1)(* 2 0)(4)(<= 3 4)(3)(- 6)(>= 7 0))((assert 0 5)(form 5(not(t 5))(le(((- 1)0))0))(assert 1 8)(form 8(not(t 8))(le((1 0))(- 3)))(farkas((/(- 1)2)(not(le(((- 1)0))0)))(1(not(le((1 0))(- 3)))))(res 3 4(le((1 0))(- 3)))(res 2 5(t 8))(res 1 6(le(((- 1)0))0))(res 0 7(t 5))))",
+        Found::No(4),
+        b"no 4\n",
+        1,
+    ),
+];
+
+#[test]
+fn judges_rows_nine(rt: HostRuntime) -> Result<(), Fail> {
+    check_rows(&rt, rt.alloc(), &NINE)
+}
+
+/// Spoiled proofs.
+static TEN: [Row; 20] = [
+    (
+        b"(declare-const x Int)(declare-const y Int)(assert(= x 1))(assert(not(<= 1 x)))(check-sat)(get-proof)(((x)(1)(= 0 1)(<= 1 0)(not 3))((link 0 1 1)(assert 0 2)(form 2(not(t 2))(s 0 1))(assert 1 4)(form 4(not(t 4))(not(t 3)))(form 3(t 3)(not(le(((- 1)2))(- 1))))(res 4 5(not(t 3)))(res 3 6(t 4))(res 0 7(le(((- 1)0))(- 1)))(res 2 8(s 0 1))(res 1 9(t 2))))",
+        Found::No(5),
+        b"no 5\n",
+        1,
+    ),
+    (
+        b"(declare-const p Bool)(declare-const q Bool)(assert(not(=> p q p)))(check-sat)(get-proof)(((p)(q)(=> 0 1 0)(not 2)(q 2))((form 2(t 2))(assert 0 3)(form 3(not(t 3))(not(t 2)))(res 1 2(t 3))(res 0 3(t 2))))",
+        Found::Node(4),
+        b"node 4\n",
+        1,
+    ),
+    (
+        b"(declare-const p Bool)(declare-const q Bool)(assert(not p))(assert(not(not p)))(assert(ite(not p)q p))(check-sat)(get-proof)(((p)(not 0)(q)(ite 1 2 0)(not 4))((assert 0 1)(assert 1 4)(form 4(not(t 4))(not(t 1)))(res 1 2(t 4))(res 0 3(t 1))))",
+        Found::Node(4),
+        b"node 4\n",
+        1,
+    ),
+    (
+        b"(declare-const p Bool)(declare-const q Bool)(declare-const r Bool)(assert(not q))(assert(ite p r q))(assert(not p))(check-sat)(get-proof)(((q)(p)(*)(ite 1 2 0)(not 0)(not 1))((form 3(t 0)(not(t 3))(t 1))(assert 0 4)(form 4(not(t 4))(not(t 0)))(assert 1 3)(assert 2 5)(form 5(not(t 5))(not(t 1)))(res 4 5(t 5))(res 0 6(t 1))(res 3 7(t 3))(res 2 8(not(t 0)))(res 1 9(t 4))))",
+        Found::Node(2),
+        b"node 2\n",
+        1,
+    ),
+    (
+        b"(assert(< 170141183460469231731687303715884105726 170141183460469231731687303715884105726))(check-sat)(get-proof)(((170141183460469231731687303715884105726)(< 0 0))((assert 0 1)(form 1(not(t 1))(le()(- 1)))(farkas(170141183460469231731687303715884105727(not(le()(- 1)))))(res 1 2(le()(- 1)))(res 0 18446744073709551616(t 1))))",
+        Found::No(4),
+        b"no 4\n",
+        1,
+    ),
+    (
+        b"(declare-const p Bool)(assert(xor p p))(check-sat)(get-proof)(((p)(xor 0 0))((form 1(not(t 1)))(assert 0 1)(res 0 0(not(t 1)))))",
+        Found::No(2),
+        b"no 2\n",
+        1,
+    ),
+    (
+        b"(set-info :status unsat)(declare-const p Bool)(declare-const q Bool)(get-model)(assert(=> p q))(assert(= p q))(assert(xor p q))(check-sat)(get-info :reason-unknown)(get-proof)(((p)(q)(=> 0 1)(= 0 1)(xor 0 1))((assert 0 2)(form 2(not(t 2))(not(t 0))(t 1))(assert 1 3)(form 3(not(t 3))(t 0)(not(t 1)))(assert 2 4)(form 4(not(t 4))(t 0)(t 1))(form 4(not(t 4))(not(t 0))(not(t 1)))(res 5 3(not(t 1)))(res 1 6(t 1))(res 8 7(not(t 0)))(res 4 9(t 4))(res 2 10(t 3))(res 0 11(t 2))))",
+        Found::No(7),
+        b"no 7\n",
+        1,
+    ),
+    (
+        b"(declare-sort U 0)(declare-const c0 U)(declare-const c1 U)(declare-const c2 U)(declare-const c3 U)(declare-const c4 U)(assert(distinct c0 c1 c2 c3 c4))(assert(= c2 c4))(check-sat)(get-proof)(((c0)(c1)(c2)(c3)(c4)(distinct 0 1 2 3 4)(= 2 4))((form 5(not(t 5))(not(s 2 4)))(assert 0 5)(assert 1 6)(form 6(not(t 6))(s 2 4))(res 2 3(t 5))(res 0 4(not(s 2 4)))(res 1 5(t 5))))",
+        Found::No(4),
+        b"no 4\n",
+        1,
+    ),
+    (
+        b"(declare-const p Bool)(declare-const q Bool)(declare-const r Bool)(declare-const s Bool)(declare-const u Bool)(declare-const v Bool)(assert(not(=> p q r s u v)))(assert(not p))(check-sat)(get-proof)(((p)(q)(r)(s)(u)(v)(=> 0 1 2 3 4 5)(not 6)(not 0))((form 6(t 6)(t 0))(assert 0 7)(form 7(not(t 7))(not(t 6)))(assert 0 8)(form 8(not(t 8))(not(t 0)))(res 3 4(t 8))(res 0 5(t 0))(res 2 6(not(t 6)))(res 1 7(t 7))))",
+        Found::No(3),
+        b"no 3\n",
+        1,
+    ),
+    (
+        b"(declare-const p Bool)(declare-const q Bool)(declare-fun f(Bool)Int)(assert p)(assert q)(assert(not(=(f p)(f q))))(check-sat)(get-proof)(((p)(q)(f 0)(f 1)(= 2 3)(not 4))((assert 0 0)(assert 1 1)(both 0 1)(cong 2 3)(assert 2 5)(form 5(not(t 5))(not(t 4)))(form 4(t 4)(not(s 2 3)))(res 5 6(not(t 4)))(res 4 7(t 5))(res 3 4294967297(s 2 3))(res 2 9(s 0 1))(res 1 10(t 1))(res 0 11(t 0))))",
+        Found::No(9),
+        b"no 9\n",
+        1,
+    ),
+    (
+        b"(declare-sort U 0)(declare-const a U)(declare-const b U)(declare-fun g(U)Bool)(assert(= a b))(assert(g a))(assert(not(g b)))(check-sat)(get-proof)(((a)(b)(= 0 1)(g 0)(g 1)(not 4))())",
+        Found::No(0),
+        b"no 0\n",
+        1,
+    ),
+    (
+        b"(declare-const x Int)(declare-const y Int)(assert(=(* 3 x)(+(* 3 y)2)))(check-sat)(get-proof)(((3)(x)(* 0 1)(y)(* 0 3)(2)(+ 4 5)(= 2 6))((assert 0 7)(form 7(not(t 7))(s 2 6))(link 2 6 0)(link 2 6 1)(round(le((3 1)((- 3)3))2)3)(round(le(((- 3)1)(3 3))(- 2))0)(farkas(1(not(le((1 1)((- 1)3))0)))(1(not(le(((- 1)1)(1 3))(- 1)))))(res 5 6(le(((- 1)1)(1 3))(- 1)))(res 4 7(le((1 1)((- 1)3))0))(res 3 8(le(((- 3)1)(3 3))(- 2)))(res 2 9(le((3 1)((- 3)3))2))(res 1 10(s 2 6))(res 0 11(t 7))))",
+        Found::No(5),
+        b"no 5\n",
+        1,
+    ),
+    (
+        b"(declare-const x Int)(declare-const y Int)(assert(=(+ x 6)(*(- 3)y)))(assert(not(<=(+ x 6)(*(- 3)y))))(check-sat)(get-proof)(((x)(y)(6)(+ 0 2)(3)(- 4)(* 5 1)(= 3 6)(<= 3 6)(not 8))((link 3 6 7)(assert 0 7)(form 7(not(t 7))(s 3 6))(assert 1 9)(form 9(not(t 9))(not(t 8)))(form 8(t 8)(not(le((1 0)(3 1))(- 6))))(res 4 5(not(t 8)))(res 3 6(t 9))(res 0 7(le((1 0)(3 1))(- 6)))(res 2 8(s 3 6))(res 1 9(t 7))))",
+        Found::No(0),
+        b"no 0\n",
+        1,
+    ),
+    (
+        b"(declare-const p Bool)(declare-const q Bool)(assert(not(not p)))(assert(xor(not p)q))(assert(not q))(check-sat)(get-proof)(((p)(not 0)(q)(xor 1 2)(not 1)(not 2))((form 3(t 1)(not(t 3))(t 2))(assert 0 4)(form 4(not(t 4))(not(t 1)))(assert 1 3)(assert 2 5)(form 5(not(t 5))(not(t 2)))(res 4 5(t 5))(res 0 6(t 2))(res 3 7(t 3))(form 5)(res 1 9(t 4))))",
+        Found::No(9),
+        b"no 9\n",
+        1,
+    ),
+    (
+        b"(declare-const a Int)(declare-const b Int)(declare-fun f(Int)Int)(assert(= a b))(assert(not(=(f a)(f b))))(check-sat)(get-proof)(((a)(b)(= 0 1)(f 0)(f 1)(= 3 4)(not 5))((assert 0 2)(form 2(not(t 2))(s 0 1))(cong 3 4)(assert 1 6)(form 6(not(t 6))(not(t 5)))(form 5(t 5)(not(s 3 4)))(res 4 5(not(t 5)))(refl 7)(res 3 6(t 6))(res 2 7(s 3 4))(res 1 8(s 0 1))(res 0 9(t 2))))",
+        Found::No(7),
+        b"no 7\n",
+        1,
+    ),
+    (
+        b"(declare-const x Int)(declare-const y Int)(assert(= 1(+ x 8)))(assert(not(<= 1(+ x 8))))(check-sat)(get-proof)(((x)(1)(8)(+ 0 2)(= 1 3)(<= 1 3)(not 5))((link 1 3 0)(assert 0 4)(form 4(not(t 4))(s 1 3))(assert 1 6)(form 6(not(t 6))(not(t 5)))(form 5(t 5)(not(le(((- 1)0))7)))(res 4 5(not(t 5)))(farkas(1(le((1 2))0))(1(not(le((1 2))0))))(res 3 6(t 6))(res 0 7(le(((- 1)0))7))(res 2 8(s 1 3))(res 1 9(t 4))))",
+        Found::No(7),
+        b"no 7\n",
+        1,
+    ),
+    (
+        b"(declare-const p Bool)(declare-const q Bool)(declare-const r Bool)(declare-const s Bool)(declare-const u Bool)(declare-const v Bool)(declare-const w Bool)(define-fun dd((k Bool))Bool(not(=> p q r s u v k)))(assert(dd w))(assert(not s))(check-sat)(get-proof)(((p)(q)(r)(s)(u)(v)(w)(=> 0 1 2 3 4 5 6)(not 7)(not 3)(s))((form 7(t 7)(t 3))(assert 0 8)(form 8(not(t 8))(not(t 7)))(assert 1 9)(form 9(not(t 9))(not(t 3)))(res 3 4(t 9))(res 0 5(t 10))(res 2 6(not(t 7)))(res 1 7(t 8))))",
+        Found::No(6),
+        b"no 6\n",
+        1,
+    ),
+    (
+        b"(declare-const x Int)(declare-const y Int)(assert(!(=(+(* 2 y)1)(* 2 x)):named nn))(check-sat)(get-proof)(((2)(y)(* 0 1)(1)(+ 2 3)(x)(* 0 5)(= 4 6)(nn))((assert 0 7)(form 7(not(t 7))(s 4 6))(link 4 6 0)(link 4 6 1)(round(le((2 1)((- 2)5))(- 1))2)(round(le(((- 2)1)(2 5))1)2)(farkas(1(not(le((1 1)((- 1)5))(- 1))))(1(not(le(((- 1)1)(1 5))0))))(res 5 6(le(((- 1)1)(1 5))0))(res 4 7(le((1 1)((- 1)5))(- 1)))(res 3 8(le(((- 2)1)(2 5))1))(res 2 9(le((2 1)((- 2)5))(- 1)))(res 1 10(s 4 6))(res 0 11(t 7))))",
+        Found::Node(8),
+        b"node 8\n",
+        1,
+    ),
+    (
+        b"(declare-const x Int)(declare-const y Int)(assert(not(>(* 2 y)(+ x 4))))(assert(<(+ x 4)(* 2 y)))(check-sat)(get-proof)(((2)(y)(* 0 1)(x)(4)(+ 3 4)(> 2 5)(not 6)(< 5 2))((form 6(t 6)(not(le(((- 2)1)(1 3))(- 5))))(assert 0 7)(form 7(not(t 7))(not(t 6)))(assert 1 8)(farkas((/ 0 170141183460469231731687303715884105728)(t 0)))(form 8(not(t 8))(le(((- 2)1)(1 3))(- 5)))(res 3 4(t 8))(res 0 5(not(le(((- 2)1)(1 3))(- 5))))(res 2 6(not(t 6)))(res 1 7(t 7))))",
+        Found::Range(4),
+        b"range 4\n",
+        8,
+    ),
+    (
+        b"(declare-const a Int)(declare-const b Int)(assert(= b a))(check-sat-assuming((not(= a b))))(get-proof)(((b)(a)(= 0 1)(= 1 0)(not 3)(170141183460469231731687303715884105727)(85070591730234615865843651857942052864)(1)(< 5 5)(- 5)(< 9 5)(> 7 5))((assert 0 2)(form 2(not(t 2))(s 0 1))(sym 0 1)(assert 1 4)(form 4(not(t 4))(not(t 3)))(form 3(t 3)(not(s 1 0)))(res 4 5(not(t 3)))(res 3 6(t 4))(res 2 7(s 1 0))(res 1 8(s 0 1))(form 10(t 10))(res 0 9(t 2))))",
+        Found::Range(10),
+        b"range 10\n",
+        8,
+    ),
+];
+
+#[test]
+fn judges_rows_ten(rt: HostRuntime) -> Result<(), Fail> {
+    check_rows(&rt, rt.alloc(), &TEN)
+}
