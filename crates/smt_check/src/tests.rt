@@ -32,7 +32,7 @@ fn outcome(
     alloc: Global,
     line: &str,
     script: &[u8],
-    budget: u64,
+    budget: u32,
     ends: Ends,
 ) -> Result<(CheckEnded, Vec<u8>), AllocError> {
     let mut words = Vec::new(alloc);
@@ -43,6 +43,6 @@ fn outcome(
     let write_fails = vec![in alloc; ends.write_fails]?;
     let mut source = MemSource::new(script.to_vec(alloc)?, ends.piece, read_fails);
     let mut sink = MemSink::torn(alloc, 60, write_fails, ends.cut)?;
-    let ended = check_within(alloc, budget, &mut source, &mut sink, &words);
+    let ended = check_within(alloc, u64::from(budget), &mut source, &mut sink, &words);
     Ok((ended, sink.written().to_vec(alloc)?))
 }

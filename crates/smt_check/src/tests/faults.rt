@@ -37,7 +37,7 @@ fn stops_at_faults(rt: HostRuntime) -> Result<(), Fail> {
 }
 
 /// Budgets of calls, and the status. The last piece settles the proof.
-static BUDGETS: [(u64, u8); 4] = [(0, 6), (1, 6), (4, 6), (5, 1)];
+static BUDGETS: [(u32, u8); 4] = [(0, 6), (1, 6), (4, 6), (5, 1)];
 
 #[test]
 fn stops_at_the_budget(rt: HostRuntime) -> Result<(), Fail> {
