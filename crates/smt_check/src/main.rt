@@ -7,10 +7,10 @@
 //! s-expression is a proof that is good for the levels of the last check; then no interpretation
 //! makes the assertions true that its steps name, and so none makes all of them true.
 //!
-//! Each line comes exactly by its case: `node n`, `no n` or `range n` where the term or the step of
+//! Each line comes in its case alone: `node n`, `no n` or `range n` where the term or the step of
 //! this number is the first that isn't by its rule, or the first whose numbers leave the range.
 //!
-//! `no proof` comes where a fault, the end or an exit stands before the proof, where it isn't two
+//! `no proof` comes only where a fault, the end or an exit stands before the proof, where it isn't two
 //! lists, and where `(get-proof)` doesn't come after a check.
 //!
 //! The frames of the last check are those of a fold of the commands, each of which is answered as
