@@ -15,6 +15,7 @@ pub mod RationalOrder
 pub mod ListedAnswers
 pub mod ExactSteps
 pub mod FieldLaws
+pub mod Divisions
 mod NumberMeaningExamples
 pub mod RowValue
 pub mod SumValues
