@@ -1,19 +1,21 @@
 -- Normal bounds, and the atoms of a stack.
-use Rattle.std.specs.Prelude.{◌≡◌, refl, ℕ, List, [], ◌∷◌, ◌++◌, map, flat_map, ℤ, pos, ◌-ℤ◌, neg_ℤ, unsigned_abs, if◌then◌else◌}
+use Rattle.std.specs.Prelude.{◌≡◌, refl, ℕ, Bool, true, Option, Some, None, List, [], ◌∷◌, ◌++◌, map, flat_map, ℤ, pos, ◌-ℤ◌, neg_ℤ, unsigned_abs, if◌then◌else◌}
 use Rattle.std.specs.Int.{int_div_euclid}
 use Rattle.fraction128.specs.Gcd.{gcd_of}
-use Rattle.smt_meaning.specs.declared.terms.Operator.TheVariants.{Equal, Distinct, Ite, AtMost as IsAtMost, Less, AtLeast, Greater}
+use Rattle.smt_meaning.specs.declared.terms.Operator.TheVariants.{Equal, Distinct, Ite, AtMost as IsAtMost, Less, AtLeast, Greater, Divide, Modulo, Absolute, Divisible}
 use Rattle.smt_meaning.specs.declared.terms.Head.{Head}
 use Rattle.smt_meaning.specs.declared.terms.Head.TheVariants.{Theory}
 use Rattle.smt_meaning.specs.Declaration.{Declaration}
 use Rattle.smt_meaning.specs.declared.clauses.Summand.{Summand}
 use Rattle.smt_meaning.specs.declared.clauses.Atom.{Atom}
 use Rattle.smt_meaning.specs.declared.clauses.Atom.TheVariants.{Truth, AtMost, Same}
+use Rattle.smt_meaning.specs.declared.clauses.Literal.{Literal}
 use Rattle.smt_meaning.specs.Term.{Tree, Trees, node, none, more}
 use Rattle.smt_meaning.specs.TreeShape.{place_of}
 use Rattle.smt_meaning.specs.Signature.{tree_sort, is_int, is_bool}
 use Rattle.smt_meaning.specs.Stack.{Frame, signature_of, assertions_of}
 use Rattle.smt_meaning.specs.Linear.{Form, summand, form_minus, linear_form}
+use Rattle.smt_meaning.specs.Division.{Limit, Row, rows_at, rows_of, combined}
 
 -- ---- normal bounds
 
@@ -53,6 +55,37 @@ at_most_atom ts s t = not_above_zero (difference_of ts s t)
 abbrev pub below_atom : List Tree → Tree → Tree → Atom
 below_atom ts s t = below_zero (difference_of ts s t)
 
+-- ---- the clauses of a division
+
+-- form <= most
+abbrev pub most_atom : Form → ℤ → Atom
+most_atom f k = normal_bound f.sum (k -ℤ f.constant)
+
+abbrev pub limit_atom : {A : Type 0} → (A → Form) → Limit A → Atom
+limit_atom form l = most_atom (combined form l.multiples) l.most
+
+abbrev pub row_atoms : {A : Type 0} → (A → Form) → Row A → List Atom
+row_atoms form r = map (limit_atom form) r.limits
+
+abbrev pub positive : Atom → Literal
+positive a = record { atom = a; positive = true }
+
+-- that the term at a place has this truth value, where a row speaks of it
+abbrev pub truth_literals : ℕ → Option Bool → List Literal
+truth_literals place None = []
+truth_literals place (Some b) = record { atom = Truth place; positive = b } ∷ []
+
+abbrev pub row_literals : List Tree → ℕ → Row Tree → List Literal
+row_literals ts place r = truth_literals place r.truth ++ map positive (row_atoms (linear_form ts) r)
+
+-- the clauses of a term's rows, in order
+abbrev pub division_clauses : List Tree → Tree → List (List Literal)
+division_clauses ts t = map (row_literals ts (place_of t ts)) (rows_of ts t)
+
+-- the bounds of a term's rows
+abbrev pub division_atoms : List Tree → Head → Trees → List Atom
+division_atoms ts h us = flat_map (row_atoms (linear_form ts)) (rows_at ts h us)
+
 -- ---- the atoms of a stack
 
 -- the equality of two terms and, for Int, both bounds on their difference
@@ -84,7 +117,7 @@ abbrev pub of_branches : (Tree → Tree → List Atom) → Tree → Trees → Li
 of_branches f t (more c (more u (more v none))) = f t u ++ f t v
 of_branches f t us = []
 
--- the atoms that compare the arguments of a sub-term
+-- the atoms that compare the arguments of a sub-term; of a division the bounds of its rows
 abbrev pub comparison_atoms : List Tree → List Declaration → Head → Trees → List Atom
 comparison_atoms ts ds (Theory Equal) us = of_neighbours (pair_atoms ts ds) us
 comparison_atoms ts ds (Theory Distinct) us = of_pairs (pair_atoms ts ds) us
@@ -93,6 +126,10 @@ comparison_atoms ts ds (Theory IsAtMost) us = of_neighbours (λ s t. at_most_ato
 comparison_atoms ts ds (Theory Less) us = of_neighbours (λ s t. below_atom ts s t ∷ []) us
 comparison_atoms ts ds (Theory AtLeast) us = of_neighbours (λ s t. at_most_atom ts t s ∷ []) us
 comparison_atoms ts ds (Theory Greater) us = of_neighbours (λ s t. below_atom ts t s ∷ []) us
+comparison_atoms ts ds (Theory Divide) us = division_atoms ts (Theory Divide) us
+comparison_atoms ts ds (Theory Modulo) us = division_atoms ts (Theory Modulo) us
+comparison_atoms ts ds (Theory Absolute) us = division_atoms ts (Theory Absolute) us
+comparison_atoms ts ds (Theory Divisible) us = division_atoms ts (Theory Divisible) us
 comparison_atoms ts ds h us = []
 
 abbrev pub truth_atom : List Tree → List Declaration → Tree → List Atom

@@ -2,7 +2,7 @@
 use Rattle.std.specs.Prelude.{ℕ, ◌+◌, Bool, true, false, not, ◌&&◌, nat_eq, List, []}
 use Rattle.std.specs.List.{list_all}
 use Rattle.smt_meaning.specs.declared.terms.Operator.{Operator}
-use Rattle.smt_meaning.specs.declared.terms.Operator.TheVariants.{Add, Subtract, Multiply, AtMost, Less, AtLeast, Greater}
+use Rattle.smt_meaning.specs.declared.terms.Operator.TheVariants.{Add, Subtract, Multiply, AtMost, Less, AtLeast, Greater, Divide, Modulo, Absolute, Divisible}
 use Rattle.smt_meaning.specs.declared.terms.Head.{Head}
 use Rattle.smt_meaning.specs.declared.terms.Head.TheVariants.{Theory, Symbol}
 use Rattle.smt_meaning.specs.Declaration.{Declaration}
@@ -20,6 +20,10 @@ is_connective AtMost = false
 is_connective Less = false
 is_connective AtLeast = false
 is_connective Greater = false
+is_connective Divide = false
+is_connective Modulo = false
+is_connective Absolute = false
+is_connective Divisible = false
 is_connective _ = true
 
 abbrev pub count_trees : Trees → ℕ

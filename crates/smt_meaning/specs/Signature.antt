@@ -3,7 +3,7 @@ use Rattle.std.specs.Prelude.{ℕ, Bool, true, false, not, ◌&&◌, nat_eq, nat
 use Rattle.smt_meaning.specs.declared.values.Sort.{Sort}
 use Rattle.smt_meaning.specs.declared.values.Sort.TheVariants.{Bool as Truths, Int as Ints, Free}
 use Rattle.smt_meaning.specs.declared.terms.Operator.{Operator}
-use Rattle.smt_meaning.specs.declared.terms.Operator.TheVariants.{True, False, Not, And, Or, Xor, Implies, Equal, Distinct, Ite, Add, Subtract, Multiply, AtMost, Less, AtLeast, Greater}
+use Rattle.smt_meaning.specs.declared.terms.Operator.TheVariants.{True, False, Not, And, Or, Xor, Implies, Equal, Distinct, Ite, Add, Subtract, Multiply, AtMost, Less, AtLeast, Greater, Divide, Modulo, Absolute, Divisible}
 use Rattle.smt_meaning.specs.declared.terms.Head.{Head}
 use Rattle.smt_meaning.specs.declared.terms.Head.TheVariants.{Numeral, Theory, Symbol, Place}
 use Rattle.smt_meaning.specs.Declaration.{Declaration}
@@ -74,6 +74,9 @@ takes Add n = nat_le 1 n
 takes Subtract n = nat_le 1 n
 takes Multiply n = nat_le 1 n
 takes Ite n = nat_eq n 3
+takes Modulo n = nat_eq n 2
+takes Absolute n = nat_eq n 1
+takes Divisible n = nat_eq n 2
 takes _ n = nat_le 2 n
 
 abbrev pub sort_eq : Sort → Sort → Bool
@@ -117,6 +120,10 @@ operator_sort AtMost ss = if_so (all_of Ints ss) Truths
 operator_sort Less ss = if_so (all_of Ints ss) Truths
 operator_sort AtLeast ss = if_so (all_of Ints ss) Truths
 operator_sort Greater ss = if_so (all_of Ints ss) Truths
+operator_sort Divide ss = if_so (all_of Ints ss) Ints
+operator_sort Modulo ss = if_so (all_of Ints ss) Ints
+operator_sort Absolute ss = if_so (all_of Ints ss) Ints
+operator_sort Divisible ss = if_so (all_of Ints ss) Truths
 operator_sort _ ss = if_so (all_of Truths ss) Truths
 
 -- ---- the sort of a tree, in which symbols stand by their ids
@@ -125,10 +132,13 @@ abbrev pub symbol_sort : Option Declaration → List Sort → Option Sort
 symbol_sort None ss = None
 symbol_sort (Some d) ss = if is_symbol d && sorts_eq ss d.rank.arguments then Some d.rank.result else None
 
--- it stands bare, or has as many arguments as it takes
+-- it stands bare, or has as many arguments as it takes; in a tree a quotient has one divisor, and a remainder and a divisibility have their quotient beside it
 abbrev pub stands_with : Operator → ℕ → Bool
 stands_with True n = nat_eq n 0
 stands_with False n = nat_eq n 0
+stands_with Divide n = nat_eq n 2
+stands_with Modulo n = nat_eq n 3
+stands_with Divisible n = nat_eq n 3
 stands_with o n = takes o n
 
 abbrev pub head_sort : List Declaration → Head → List Sort → Option Sort

@@ -5,7 +5,7 @@ use Rattle.smt_meaning.specs.declared.values.Sort.{Sort}
 use Rattle.smt_meaning.specs.declared.values.Sort.TheVariants.{Bool as Truths, Int as Ints}
 use Rattle.smt_meaning.specs.declared.terms.Operator.{Operator}
 use Rattle.smt_meaning.specs.declared.terms.Operator.TheVariants.{True, False}
-use Rattle.smt_meaning.specs.declared.terms.Head.TheVariants.{Numeral as Number, Theory, Symbol as Function}
+use Rattle.smt_meaning.specs.declared.terms.Head.TheVariants.{Numeral as Number, Symbol as Function}
 use Rattle.smt_meaning.specs.declared.tokens.Token.{Token}
 use Rattle.smt_meaning.specs.declared.tokens.Token.TheVariants.{Numeral, Decimal, Hex, Binary, Text, Symbol, Reserved, Keyword}
 use Rattle.smt_meaning.specs.declared.tokens.Word.TheVariants.{Exclamation, Let}
@@ -14,7 +14,7 @@ use Rattle.smt_meaning.specs.declared.refusals.Refusal.{Refusal}
 use Rattle.smt_meaning.specs.declared.refusals.Refusal.TheVariants.{NumeralTooLarge, WrongArguments, AlreadyDeclared, UnknownSymbol, ArgumentCount, SortsDiffer, NotLinear, ReservedName, TooManySymbols}
 use Rattle.smt_meaning.specs.Term.{Tree, Trees, node, none, more}
 use Rattle.smt_meaning.specs.Sexp.{Sexp, Sexps, word, group, end, ◌▸◌}
-use Rattle.smt_meaning.specs.TreeShape.{is_linear, is_linear_at, put, with_parts}
+use Rattle.smt_meaning.specs.TreeShape.{is_linear, is_linear_operation, operation, put, with_parts}
 use Rattle.smt_meaning.specs.Signature.{look_up, is_one_of, is_some, find_function, operators, reserved_functions, takes, operator_sort, sorts_eq}
 
 -- ---- judging: what it starts from, what it goes through and how it ends
@@ -153,9 +153,9 @@ judge_symbol r d ts = do
 
 abbrev pub judge_operator : Rules → Operator → Trees → Sort → Judging Typed
 judge_operator r o ts s = do
-  require (not r.closed || is_linear_at (Theory o) ts) NotLinear
-  note (node (Theory o) ts ∷ [])
-  found (node (Theory o) ts) s
+  require (not r.closed || is_linear_operation o ts) NotLinear
+  note (operation o ts ∷ [])
+  found (operation o ts) s
 
 -- the head is judged before the arguments
 abbrev pub can_be_applied : List ℕ → Known → Judging (Unit {0})

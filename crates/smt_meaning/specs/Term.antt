@@ -1,10 +1,11 @@
 -- Terms as trees, and the value that an interpretation gives them: Tarski's clauses.
 use Rattle.std.specs.Prelude.{ℕ, Bool, true, false, not, ◌&&◌, ◌||◌, nat_eq, List, [], ◌∷◌, ℤ, pos, negsuc, ◌+ℤ◌, ◌-ℤ◌, ◌*ℤ◌, neg_ℤ, int_le, int_lt, if◌then◌else◌, slice_index_or}
 use Rattle.fraction128.specs.Whole.{is_in_range}
+pub use Rattle.fraction128.specs.Division.{absolute, quotient, remainder}
 use Rattle.smt_meaning.specs.declared.values.Value.{Value}
 use Rattle.smt_meaning.specs.declared.values.Value.TheVariants.{Truth, Whole, Element}
 use Rattle.smt_meaning.specs.declared.terms.Operator.{Operator}
-use Rattle.smt_meaning.specs.declared.terms.Operator.TheVariants.{True, False, Not, And, Or, Xor, Implies, Equal, Distinct, Ite, Add, Subtract, Multiply, AtMost, Less, AtLeast, Greater}
+use Rattle.smt_meaning.specs.declared.terms.Operator.TheVariants.{True, False, Not, And, Or, Xor, Implies, Equal, Distinct, Ite, Add, Subtract, Multiply, AtMost, Less, AtLeast, Greater, Divide, Modulo, Absolute, Divisible}
 use Rattle.smt_meaning.specs.declared.terms.Head.{Head}
 use Rattle.smt_meaning.specs.declared.terms.Head.TheVariants.{Numeral, Theory, Symbol, Place}
 
@@ -116,6 +117,16 @@ abbrev pub difference : List Value → Value
 difference (v ∷ []) = Whole (neg_ℤ (number_of v))
 difference vs = left_assoc (on_numbers ◌-ℤ◌) vs
 
+-- `abs`
+abbrev pub magnitude : List Value → Value
+magnitude (v ∷ []) = Whole (absolute (number_of v))
+magnitude _ = Whole (pos 0)
+
+-- `mod`, by the second
+abbrev pub left_over : List Value → ℤ
+left_over (v ∷ w ∷ vs) = remainder (number_of v) (number_of w)
+left_over _ = pos 0
+
 abbrev pub int_ge : ℤ → ℤ → Bool
 int_ge m n = int_le n m
 
@@ -141,6 +152,10 @@ operate AtMost vs = Truth (chainable (compare int_le) vs)
 operate Less vs = Truth (chainable (compare int_lt) vs)
 operate AtLeast vs = Truth (chainable (compare int_ge) vs)
 operate Greater vs = Truth (chainable (compare int_gt) vs)
+operate Divide vs = left_assoc (on_numbers quotient) vs
+operate Modulo vs = Whole (left_over vs)
+operate Absolute vs = magnitude vs
+operate Divisible vs = Truth (int_eq (left_over vs) (pos 0))
 
 -- ---- the value of a term
 

@@ -3,7 +3,7 @@ use Rattle.std.specs.Prelude.{◌≡◌, ℕ, zero, suc, List, [], ◌∷◌, �
 use Rattle.std.specs.Coded.{Coded, code_by, coded×, coded_ℕ, coded_ℤ, coded_list}
 use Rattle.std.proofs.Common.{ap, ◌∙◌, append_assoc, append-nil, sym}
 use Rattle.smt_meaning.specs.declared.terms.Operator.{Operator}
-use Rattle.smt_meaning.specs.declared.terms.Operator.TheVariants.{True, False, Not, And, Or, Xor, Implies, Equal, Distinct, Ite, Add, Subtract, Multiply, AtMost, Less, AtLeast, Greater}
+use Rattle.smt_meaning.specs.declared.terms.Operator.TheVariants.{True, False, Not, And, Or, Xor, Implies, Equal, Distinct, Ite, Add, Subtract, Multiply, AtMost, Less, AtLeast, Greater, Divide, Modulo, Absolute, Divisible}
 use Rattle.smt_meaning.specs.declared.terms.Head.{Head}
 use Rattle.smt_meaning.specs.declared.terms.Head.TheVariants.{Numeral, Theory, Symbol, Place}
 use Rattle.smt_meaning.specs.Term.{Tree, Trees, node, none, more}
@@ -19,7 +19,7 @@ operator_in (suc k) (o ∷ os) = operator_in k os
 -- the operator that has this number
 abbrev pub operator_at : ℕ → Operator
 operator_at k =
-    operator_in k (True ∷ False ∷ Not ∷ And ∷ Or ∷ Xor ∷ Implies ∷ Equal ∷ Distinct ∷ Ite ∷ Add ∷ Subtract ∷ Multiply ∷ AtMost ∷ Less ∷ AtLeast ∷ Greater ∷ [])
+    operator_in k (True ∷ False ∷ Not ∷ And ∷ Or ∷ Xor ∷ Implies ∷ Equal ∷ Distinct ∷ Ite ∷ Add ∷ Subtract ∷ Multiply ∷ AtMost ∷ Less ∷ AtLeast ∷ Greater ∷ Divide ∷ Modulo ∷ Absolute ∷ Divisible ∷ [])
 
 pub operator_back : (o : Operator) → operator_at (operator_number o) ≡ o
 operator_back True = refl
@@ -39,6 +39,10 @@ operator_back AtMost = refl
 operator_back Less = refl
 operator_back AtLeast = refl
 operator_back Greater = refl
+operator_back Divide = refl
+operator_back Modulo = refl
+operator_back Absolute = refl
+operator_back Divisible = refl
 
 -- ---- heads
 

@@ -1,7 +1,7 @@
 -- What can be said of a tree without its value: whether it is another, whether it is linear, what it is with arguments put in, and which trees stand in it.
-use Rattle.std.specs.Prelude.{ℕ, zero, suc, Bool, true, false, ◌&&◌, ◌||◌, nat_eq, List, [], ◌∷◌, ◌++◌, if◌then◌else◌}
+use Rattle.std.specs.Prelude.{ℕ, zero, suc, Bool, true, false, not, ◌&&◌, ◌||◌, nat_eq, List, [], ◌∷◌, ◌++◌, pos, if◌then◌else◌}
 use Rattle.smt_meaning.specs.declared.terms.Operator.{Operator}
-use Rattle.smt_meaning.specs.declared.terms.Operator.TheVariants.{True, False, Not, And, Or, Xor, Implies, Equal, Distinct, Ite, Add, Subtract, Multiply, AtMost, Less, AtLeast, Greater}
+use Rattle.smt_meaning.specs.declared.terms.Operator.TheVariants.{True, False, Not, And, Or, Xor, Implies, Equal, Distinct, Ite, Add, Subtract, Multiply, AtMost, Less, AtLeast, Greater, Divide, Modulo, Absolute, Divisible}
 use Rattle.smt_meaning.specs.declared.terms.Head.{Head}
 use Rattle.smt_meaning.specs.declared.terms.Head.TheVariants.{Numeral, Theory, Symbol, Place}
 use Rattle.smt_meaning.specs.Term.{Tree, Trees, node, none, more, int_eq}
@@ -26,6 +26,10 @@ operator_number AtMost = 13
 operator_number Less = 14
 operator_number AtLeast = 15
 operator_number Greater = 16
+operator_number Divide = 17
+operator_number Modulo = 18
+operator_number Absolute = 19
+operator_number Divisible = 20
 
 abbrev pub head_eq : Head → Head → Bool
 head_eq (Numeral m) (Numeral n) = int_eq m n
@@ -71,12 +75,56 @@ abbrev pub at_most_one_varies : Trees → Bool
 at_most_one_varies none = true
 at_most_one_varies (more t ts) = if is_constant t then at_most_one_varies ts else are_constant ts
 
+-- a numeral other than 0, or the negation of one
+abbrev pub is_divisor : Tree → Bool
+is_divisor (node (Numeral n) none) = not (int_eq n (pos 0))
+is_divisor (node (Theory Subtract) (more (node (Numeral n) none) none)) = not (int_eq n (pos 0))
+is_divisor t = false
+
+abbrev pub are_divisors : Trees → Bool
+are_divisors none = true
+are_divisors (more t ts) = is_divisor t && are_divisors ts
+
+-- an operator may be applied to these
+abbrev pub is_linear_operation : Operator → Trees → Bool
+is_linear_operation Multiply ts = at_most_one_varies ts
+is_linear_operation Divide (more t ts) = are_divisors ts
+is_linear_operation Modulo (more t ts) = are_divisors ts
+is_linear_operation Divisible (more t ts) = are_divisors ts
+is_linear_operation o ts = true
+
+-- `div` by one divisor
+abbrev pub quotient_tree : Tree → Tree → Tree
+quotient_tree t u = node (Theory Divide) (more t (more u none))
+
+abbrev pub divided_from : Tree → Trees → Tree
+divided_from t none = t
+divided_from t (more u us) = divided_from (quotient_tree t u) us
+
+-- an operator applied: a `div` by several divisors divides from the left, by one after another; a `mod` and a divisibility have their quotient beside them
+abbrev pub operation : Operator → Trees → Tree
+operation Divide (more t ts) = divided_from t ts
+operation Modulo (more t (more u none)) = node (Theory Modulo) (more t (more u (more (quotient_tree t u) none)))
+operation Divisible (more t (more u none)) = node (Theory Divisible) (more t (more u (more (quotient_tree t u) none)))
+operation o ts = node (Theory o) ts
+
+abbrev pub is_quotient : Trees → Bool
+is_quotient (more t (more u none)) = is_divisor u
+is_quotient ts = false
+
+abbrev pub has_quotient : Trees → Bool
+has_quotient (more t (more u (more q none))) = is_divisor u && tree_eq q (quotient_tree t u)
+has_quotient ts = false
+
 abbrev pub is_linear_at : Head → Trees → Bool
 is_linear_at (Theory Multiply) ts = at_most_one_varies ts
+is_linear_at (Theory Divide) ts = is_quotient ts
+is_linear_at (Theory Modulo) ts = has_quotient ts
+is_linear_at (Theory Divisible) ts = has_quotient ts
 is_linear_at _ ts = true
 
 abbrev mutual
-  -- each product has at most one factor that isn't constant
+  -- each product has at most one factor that isn't constant, only numerals other than 0 and their negations divide, and what is left over has its quotient beside it
   pub is_linear : Tree → Bool
   is_linear (node h ts) = is_linear_at h ts && are_linear ts
 

@@ -17,7 +17,7 @@ pub enum Refusal {
     ArgumentCount(Bytes),
     /// E15: the arguments' sorts aren't the head's.
     SortsDiffer(Bytes),
-    /// E16: a product of two terms that both vary.
+    /// E16: a product of two terms that both vary, or a divisor that is no numeral other than 0, nor the negation of one.
     NotLinear,
     /// E17: the term isn't of sort Bool.
     NotBool,

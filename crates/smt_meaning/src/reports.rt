@@ -19,7 +19,7 @@ pub enum Unit {
 /// Where a number left the range.
 #[derive(Drop)]
 pub enum RangeSeen {
-    /// Folding this part, or a pair that it compares.
+    /// Folding this part, or a pair that it compares, or a clause of a division.
     Coefficient(TermId),
     /// Folding the difference of these two Int parts.
     Pair(TermId, TermId),

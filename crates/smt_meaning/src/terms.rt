@@ -34,6 +34,14 @@ pub enum Operator {
     AtLeast,
     /// `>`
     Greater,
+    /// `div`, by one divisor
+    Divide,
+    /// `mod`
+    Modulo,
+    /// `abs`
+    Absolute,
+    /// `(_ divisible n)`, with the numeral n as the second argument
+    Divisible,
 }
 
 /// What stands at the head of a term.
