@@ -30,6 +30,8 @@ pub mod MoreTrees
 pub mod ClauseLawsPartsLaw
 pub mod LinearLaw
 pub mod BoundLaw
+pub mod RowLaw
+pub mod DivisionLaw
 mod ClauseLawsExamples
 mod Propagation
 mod Script
