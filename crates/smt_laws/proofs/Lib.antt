@@ -48,13 +48,14 @@ mod Numbers
 mod Propositional
 mod Reports
 mod Ranges
+mod DivisionRows
 mod Assumptions
 mod Assumed
 mod Asked
 mod AssumedCommands
 pub mod FlatLaw
-mod Each
-mod Shapes
+pub mod Each
+pub mod Shapes
 mod LinearLawsJudgements
 mod LinearLawsTermsLaw
 mod LinearLawsCommandsLaw
@@ -69,7 +70,7 @@ mod UseLemmas
 mod AgainLemmas
 mod FormLemmas
 mod TodoLemmas
-mod ProofTerms
+pub mod ProofTerms
 mod ProofFacts
 mod ProofResolving
 mod ProofAdding
