@@ -1,19 +1,22 @@
 -- The clauses of a division are true under every interpretation.
-use Rattle.std.proofs.Common.{◌≡◌, ◌≢◌, ℕ, zero, suc, Bool, true, false, not, ◌&&◌, ◌||◌, List, [], ◌∷◌, ◌++◌, map, All, Option, Some, None, ap, sym, subst, ◌∙◌, refl, arith}
+use Rattle.std.proofs.Common.{◌≡◌, ◌≢◌, ℕ, zero, suc, Bool, true, false, not, ◌&&◌, ◌||◌, List, [], ◌∷◌, ◌++◌, map, flat_map, All, Option, Some, None, ap, sym, subst, ◌∙◌, refl, arith}
 use Rattle.std.specs.Prelude.{ℤ, pos, negsuc, ◌+ℤ◌, ◌-ℤ◌, ◌*ℤ◌, ◌≤ℤ◌, int_le, IsTrue}
+use Rattle.std.specs.List.{list_all}
 use Rattle.std.proofs.lemmas.Int.{ints}
 use Rattle.std.proofs.lemmas.List.Elements.{All-nil, All-cons, All-head, All-tail, All-map}
 use Rattle.smt_meaning.specs.declared.terms.Operator.{Operator}
 use Rattle.smt_meaning.specs.declared.terms.Operator.TheVariants.{Subtract, Divide, Modulo, Absolute, Divisible}
+use Rattle.smt_meaning.specs.declared.terms.Head.{Head}
 use Rattle.smt_meaning.specs.declared.terms.Head.TheVariants.{Numeral, Theory}
-use Rattle.smt_meaning.specs.Term.{Tree, Trees, node, none, more, Interpretation, value, number_of, truth_of, int_eq, quotient, remainder}
+use Rattle.smt_meaning.specs.Term.{Tree, Trees, node, none, more, tree_at, Interpretation, value, number_of, truth_of, int_eq, quotient, remainder}
 use Rattle.smt_meaning.specs.TreeShape.{place_of, is_among, is_linear, are_linear, is_linear_at, is_divisor, tree_eq, quotient_tree}
 use Rattle.smt_meaning.specs.Clause.{sum_value, value_at, atom_true, some_true}
 use Rattle.smt_meaning.specs.Linear.{Form, form_value, form_times, linear_form, leaves, leaves_of}
-use Rattle.smt_meaning.specs.Division.{Limit, Row, divisor_of, operator_rows, listed, combined}
+use Rattle.smt_meaning.specs.Division.{Limit, Row, divisor_of, operator_rows, rows_at, row_fits, rows_fit, listed, combined}
+use Rattle.smt_meaning.specs.Nodes.{pick}
 use Rattle.smt_meaning.specs.Atoms.{division_clauses, limit_atom, row_atoms, positive, truth_literals, row_literals}
-use Rattle.smt_laws.specs.Rows.{multiples_value, limit_holds, one_holds, truth_holds, row_holds, rows_hold}
-use Rattle.smt_laws.specs.ClauseLaws.{LimitsHaveValues, IsRowOf, DivisionClausesAreTrue}
+use Rattle.smt_laws.specs.Rows.{place_form, place_divisor, placed_literals, multiples_value, limit_holds, one_holds, truth_holds, row_holds, rows_hold}
+use Rattle.smt_laws.specs.ClauseLaws.{LimitsHaveValues, IsRowOf, DivisionRowsHold, DivisionClausesAreTrue, DivisionAtomsByPlaces, DivisionFitsByPlaces, DivisionClausesByPlaces, DivisionHoldsByPlaces}
 use Rattle.smt_laws.proofs.Both.{and_left, and_right}
 use Rattle.smt_laws.proofs.Included.{All-included, included_left, included_right}
 use Rattle.smt_laws.proofs.SameTree.{found_again, tree_eq-true}
@@ -148,29 +151,103 @@ module _ (ts : List Tree) (I : Interpretation) where
   third_is a n q h =
       ap number (tree_eq-true q (quotient_tree a n) (and_right (is_divisor n) (tree_eq q (quotient_tree a n)) h)) ∙ quotient_number a n (and_left (is_divisor n) (tree_eq q (quotient_tree a n)) h)
 
+  -- the rows of a linear term hold of the values
+  rows_valued : (h : Head) (us : Trees) → is_linear (node h us) ≡ true → rows_hold number (truth_of (value I (node h us))) (rows_at ts h us) ≡ true
+  rows_valued (Theory Divide) (more a (more n none)) l =
+      let us : Trees = more a (more n none) in
+      let d : is_divisor n ≡ true = and_left (is_linear_at (Theory Divide) us) (are_linear us) l in
+      (rows_force number (truth_of (value I (node (Theory Divide) us))) (linear_form ts n).constant (divisor_some n d)).quotient_meets (node (Theory Divide) us) a n (quotient_number a n d)
+  rows_valued (Theory Modulo) (more a (more n (more q none))) l =
+      let us : Trees = more a (more n (more q none)) in
+      let shape : (is_divisor n && tree_eq q (quotient_tree a n)) ≡ true = and_left (is_linear_at (Theory Modulo) us) (are_linear us) l in
+      let d : is_divisor n ≡ true = and_left (is_divisor n) (tree_eq q (quotient_tree a n)) shape in
+      (rows_force number (truth_of (value I (node (Theory Modulo) us))) (linear_form ts n).constant (divisor_some n d)).remainder_meets (node (Theory Modulo) us) a n q
+      (third_is a n q shape) (remainder_number a n d)
+  rows_valued (Theory Divisible) (more a (more n (more q none))) l =
+      let us : Trees = more a (more n (more q none)) in
+      let shape : (is_divisor n && tree_eq q (quotient_tree a n)) ≡ true = and_left (is_linear_at (Theory Divisible) us) (are_linear us) l in
+      let d : is_divisor n ≡ true = and_left (is_divisor n) (tree_eq q (quotient_tree a n)) shape in
+      (rows_force number (truth_of (value I (node (Theory Divisible) us))) (linear_form ts n).constant (divisor_some n d)).divisibility_meets (node (Theory Divisible) us) a n q
+      (third_is a n q shape) (ap (λ z. int_eq z (pos 0)) (remainder_number a n d))
+  rows_valued (Theory Absolute) (more a none) l =
+      (absolute_forced number (truth_of (value I (node (Theory Absolute) (more a none))))).absolute_meets (divisor_of ts (more a none)) (node (Theory Absolute) (more a none)) a refl
+  rows_valued h us l = refl
+
+  -- those of a term that is a leaf among the trees
+  leaf_true : (o : Operator) (us : Trees) → is_linear (node (Theory o) us) ≡ true → All (λ u. IsTrue (is_among u ts)) (leaves_of us) → leaves (node (Theory o) us) ≡ node (Theory o) us ∷ []
+      → is_among (node (Theory o) us) ts ≡ true → All (λ c. IsTrue (some_true ts I c)) (division_clauses ts (node (Theory o) us))
+  leaf_true o us l a e m =
+      term_true o us (truth_of (value I (node (Theory o) us))) l a e m (ap (λ u. truth_of (value I u)) (found_again (node (Theory o) us) ts m)) (rows_valued (Theory o) us l)
+
 pub clauses_true : DivisionClausesAreTrue
-clauses_true ts I (Theory Divide) (more a (more n none)) l lv m =
-    let us : Trees = more a (more n none) in
-    let d : is_divisor n ≡ true = and_left (is_linear_at (Theory Divide) us) (are_linear us) l in
-    term_true ts I Divide us (truth_of (value_at ts I (place_of (node (Theory Divide) us) ts))) l lv refl m refl
-    ((rows_force (number ts I) (truth_of (value_at ts I (place_of (node (Theory Divide) us) ts))) (linear_form ts n).constant (divisor_some ts I n d)).quotient_meets (node (Theory Divide) us) a n (quotient_number ts I a n d))
-clauses_true ts I (Theory Modulo) (more a (more n (more q none))) l lv m =
-    let us : Trees = more a (more n (more q none)) in
-    let shape : (is_divisor n && tree_eq q (quotient_tree a n)) ≡ true = and_left (is_linear_at (Theory Modulo) us) (are_linear us) l in
-    let d : is_divisor n ≡ true = and_left (is_divisor n) (tree_eq q (quotient_tree a n)) shape in
-    term_true ts I Modulo us (truth_of (value_at ts I (place_of (node (Theory Modulo) us) ts))) l lv refl m refl
-    ((rows_force (number ts I) (truth_of (value_at ts I (place_of (node (Theory Modulo) us) ts))) (linear_form ts n).constant (divisor_some ts I n d)).remainder_meets (node (Theory Modulo) us) a n q
-    (third_is ts I a n q shape) (remainder_number ts I a n d))
-clauses_true ts I (Theory Divisible) (more a (more n (more q none))) l lv m =
-    let us : Trees = more a (more n (more q none)) in
-    let shape : (is_divisor n && tree_eq q (quotient_tree a n)) ≡ true = and_left (is_linear_at (Theory Divisible) us) (are_linear us) l in
-    let d : is_divisor n ≡ true = and_left (is_divisor n) (tree_eq q (quotient_tree a n)) shape in
-    let r : ℤ = remainder (number ts I a) (linear_form ts n).constant in
-    term_true ts I Divisible us (int_eq r (pos 0)) l lv refl m
-    (ap (λ u. truth_of (value I u)) (found_again (node (Theory Divisible) us) ts m) ∙ ap (λ z. int_eq z (pos 0)) (remainder_number ts I a n d))
-    ((rows_force (number ts I) (int_eq r (pos 0)) (linear_form ts n).constant (divisor_some ts I n d)).divisibility_meets (node (Theory Divisible) us) a n q (third_is ts I a n q shape) refl)
-clauses_true ts I (Theory Absolute) (more a none) l lv m =
-    let us : Trees = more a none in
-    term_true ts I Absolute us (truth_of (value_at ts I (place_of (node (Theory Absolute) us) ts))) l lv refl m refl
-    ((absolute_forced (number ts I) (truth_of (value_at ts I (place_of (node (Theory Absolute) us) ts)))).absolute_meets (pos 0) (node (Theory Absolute) us) a refl)
-clauses_true ts I h us l lv m = All-nil (λ c. IsTrue (some_true ts I c))
+clauses_true ts I (Theory Divide) us l a m = leaf_true ts I Divide us l a refl m
+clauses_true ts I (Theory Modulo) us l a m = leaf_true ts I Modulo us l a refl m
+clauses_true ts I (Theory Divisible) us l a m = leaf_true ts I Divisible us l a refl m
+clauses_true ts I (Theory Absolute) us l a m = leaf_true ts I Absolute us l a refl m
+clauses_true ts I h us l a m = All-nil (λ c. IsTrue (some_true ts I c))
+
+pub rows_hold_of : DivisionRowsHold
+rows_hold_of ts I (node h us) l = rows_valued ts I h us l
+
+-- ---- by places
+
+module _ (ts : List Tree) where
+  atoms_placed : (o : Operator) (n : ℤ) (p : ℕ) (is : List ℕ)
+      → flat_map (row_atoms (linear_form ts)) (operator_rows o n (tree_at ts p) (listed (pick ts is))) ≡ flat_map (row_atoms (place_form ts)) (operator_rows o n p is)
+  atoms_placed Divide n p (a ∷ d ∷ []) = refl
+  atoms_placed Modulo n p (a ∷ d ∷ q ∷ []) = refl
+  atoms_placed Divisible n p (a ∷ d ∷ q ∷ []) = refl
+  atoms_placed Absolute n p (a ∷ []) = refl
+  atoms_placed o n p is = refl
+
+  fit_placed : (o : Operator) (n : ℤ) (p : ℕ) (is : List ℕ)
+      → rows_fit ts (operator_rows o n (tree_at ts p) (listed (pick ts is))) ≡ list_all (row_fits (place_form ts)) (operator_rows o n p is)
+  fit_placed Divide n p (a ∷ d ∷ []) = refl
+  fit_placed Modulo n p (a ∷ d ∷ q ∷ []) = refl
+  fit_placed Divisible n p (a ∷ d ∷ q ∷ []) = refl
+  fit_placed Absolute n p (a ∷ []) = refl
+  fit_placed o n p is = refl
+
+  clauses_placed : (o : Operator) (n : ℤ) (p : ℕ) (is : List ℕ)
+      → map (row_literals ts p) (operator_rows o n (tree_at ts p) (listed (pick ts is))) ≡ map (placed_literals ts p) (operator_rows o n p is)
+  clauses_placed Divide n p (a ∷ d ∷ []) = refl
+  clauses_placed Modulo n p (a ∷ d ∷ q ∷ []) = refl
+  clauses_placed Divisible n p (a ∷ d ∷ q ∷ []) = refl
+  clauses_placed Absolute n p (a ∷ []) = refl
+  clauses_placed o n p is = refl
+
+  hold_placed : (I : Interpretation) (truth : Bool) (o : Operator) (n : ℤ) (p : ℕ) (is : List ℕ)
+      → rows_hold (λ u. number_of (value I u)) truth (operator_rows o n (tree_at ts p) (listed (pick ts is))) ≡ rows_hold (λ i. number_of (value_at ts I i)) truth (operator_rows o n p is)
+  hold_placed I truth Divide n p (a ∷ d ∷ []) = refl
+  hold_placed I truth Modulo n p (a ∷ d ∷ q ∷ []) = refl
+  hold_placed I truth Divisible n p (a ∷ d ∷ q ∷ []) = refl
+  hold_placed I truth Absolute n p (a ∷ []) = refl
+  hold_placed I truth o n p is = refl
+
+  divisor_placed : (is : List ℕ) → divisor_of ts (pick ts is) ≡ place_divisor ts is
+  divisor_placed [] = refl
+  divisor_placed (a ∷ []) = refl
+  divisor_placed (a ∷ d ∷ is) = refl
+
+  -- the rows of the tree at a place
+  rows_placed : (o : Operator) (p : ℕ) (is : List ℕ) → tree_at ts p ≡ node (Theory o) (pick ts is)
+      → rows_at ts (Theory o) (pick ts is) ≡ operator_rows o (place_divisor ts is) (tree_at ts p) (listed (pick ts is))
+  rows_placed o p is e =
+      ap (λ n. operator_rows o n (node (Theory o) (pick ts is)) (listed (pick ts is))) (divisor_placed is) ∙ ap (λ t. operator_rows o (place_divisor ts is) t (listed (pick ts is))) (sym e)
+
+pub placed_atoms : DivisionAtomsByPlaces
+placed_atoms ts o p is e = ap (flat_map (row_atoms (linear_form ts))) (rows_placed ts o p is e) ∙ atoms_placed ts o (place_divisor ts is) p is
+
+pub placed_fits : DivisionFitsByPlaces
+placed_fits ts o p is e = ap (rows_fit ts) (rows_placed ts o p is e) ∙ fit_placed ts o (place_divisor ts is) p is
+
+pub placed_clauses : DivisionClausesByPlaces
+placed_clauses ts o p is e f =
+    ap (division_clauses ts) e ∙ ap (λ q. map (row_literals ts q) (rows_at ts (Theory o) (pick ts is))) (ap (λ t. place_of t ts) (sym e) ∙ f)
+    ∙ ap (map (row_literals ts p)) (rows_placed ts o p is e) ∙ clauses_placed ts o (place_divisor ts is) p is
+
+pub placed_rows_hold : DivisionHoldsByPlaces
+placed_rows_hold ts I o p is e l =
+    sym (ap (rows_hold (λ u. number_of (value I u)) (truth_of (value_at ts I p))) (rows_placed ts o p is e) ∙ hold_placed ts I (truth_of (value_at ts I p)) o (place_divisor ts is) p is)
+    ∙ ap (λ t. rows_hold (λ u. number_of (value I u)) (truth_of (value I t)) (rows_at ts (Theory o) (pick ts is))) e
+    ∙ rows_valued ts I (Theory o) (pick ts is) (subst (λ t. is_linear t ≡ true) e l)

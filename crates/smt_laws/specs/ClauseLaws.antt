@@ -1,24 +1,27 @@
 -- Laws of what follows from a stack, of linear forms and of normal bounds.
-use Rattle.std.specs.Prelude.{◌≡◌, ◌≢◌, ℕ, ◌+◌, ◌<◌, ◌≤◌, max, List, [], ◌∷◌, ◌++◌, length, Bool, ℤ, pos, int_le, IsTrue, All, Contains, true, false, Some}
+use Rattle.std.specs.Prelude.{◌≡◌, ◌≢◌, ℕ, ◌+◌, ◌<◌, ◌≤◌, max, List, [], ◌∷◌, ◌++◌, length, map, flat_map, Bool, ℤ, pos, int_le, IsTrue, All, Contains, true, false, Some}
 use Rattle.smt_meaning.specs.declared.terms.Operator.{Operator}
 use Rattle.smt_meaning.specs.declared.terms.Operator.TheVariants.{Divide, Modulo, Absolute, Divisible}
 use Rattle.smt_meaning.specs.declared.terms.Head.{Head}
+use Rattle.smt_meaning.specs.declared.terms.Head.TheVariants.{Theory}
+use Rattle.std.specs.List.{list_all}
 use Rattle.smt_meaning.specs.Declaration.{Declaration}
 use Rattle.smt_meaning.specs.declared.clauses.Summand.{Summand}
 use Rattle.smt_meaning.specs.declared.clauses.Atom.{Atom}
 use Rattle.smt_meaning.specs.declared.clauses.Literal.{Literal}
 use Rattle.smt_meaning.specs.declared.clauses.Clause.{Clause}
-use Rattle.smt_meaning.specs.Term.{Tree, Trees, node, none, tree_at, Interpretation, value, number_of, int_eq, absolute, quotient, remainder}
+use Rattle.smt_meaning.specs.Term.{Tree, Trees, node, none, tree_at, Interpretation, value, number_of, truth_of, int_eq, absolute, quotient, remainder}
 use Rattle.smt_meaning.specs.TreeShape.{is_linear, is_among, place_of, with_parts}
 use Rattle.smt_meaning.specs.Signature.{tree_sort}
 use Rattle.smt_meaning.specs.Sorts.{Typed, name_declaration, applied, applied_trees}
 use Rattle.smt_meaning.specs.Stack.{Frame, Assertion, HasNoModel, on_top, with_declared, pushed, popped}
-use Rattle.smt_meaning.specs.Clause.{atom_true, some_true, sum_value}
+use Rattle.smt_meaning.specs.Clause.{atom_true, some_true, sum_value, value_at}
 use Rattle.smt_meaning.specs.Follows.{Follows}
 use Rattle.smt_meaning.specs.Linear.{Form, form_value, linear_form, leaves, leaves_of}
-use Rattle.smt_meaning.specs.Division.{Limit, Row, operator_rows}
-use Rattle.smt_meaning.specs.Atoms.{normal_bound, limit_atom, division_clauses}
-use Rattle.smt_laws.specs.Rows.{limit_holds, rows_hold}
+use Rattle.smt_meaning.specs.Division.{Limit, Row, operator_rows, rows_at, rows_of, row_fits, rows_fit}
+use Rattle.smt_meaning.specs.Nodes.{pick}
+use Rattle.smt_meaning.specs.Atoms.{normal_bound, limit_atom, row_atoms, division_clauses, division_atoms}
+use Rattle.smt_laws.specs.Rows.{limit_holds, rows_hold, place_form, placed_rows, placed_literals}
 
 -- ---- a clause that follows still follows
 
@@ -130,6 +133,35 @@ abbrev pub DivisionClausesAreTrue : Type 0
 DivisionClausesAreTrue =
     (ts : List Tree) (I : Interpretation) (h : Head) (us : Trees) → IsTrue (is_linear (node h us)) → All (λ u. IsTrue (is_among u ts)) (leaves_of us) → IsTrue (is_among (node h us) ts)
     → All (λ c. IsTrue (some_true ts I c)) (division_clauses ts (node h us))
+
+-- the rows of a linear term hold of the values that an interpretation gives
+abbrev pub DivisionRowsHold : Type 0
+DivisionRowsHold =
+    (ts : List Tree) (I : Interpretation) (t : Tree) → IsTrue (is_linear t) → IsTrue (rows_hold (λ u. number_of (value I u)) (truth_of (value I t)) (rows_of ts t))
+
+-- ---- divisions, by the places of a term and of its arguments
+
+-- the term at a place has its arguments at these
+abbrev pub IsPlaced : List Tree → Operator → ℕ → List ℕ → Type 0
+IsPlaced ts o p is = tree_at ts p ≡ node (Theory o) (pick ts is)
+
+abbrev pub DivisionAtomsByPlaces : Type 0
+DivisionAtomsByPlaces =
+    (ts : List Tree) (o : Operator) (p : ℕ) (is : List ℕ) → IsPlaced ts o p is → division_atoms ts (Theory o) (pick ts is) ≡ flat_map (row_atoms (place_form ts)) (placed_rows ts o p is)
+
+abbrev pub DivisionFitsByPlaces : Type 0
+DivisionFitsByPlaces =
+    (ts : List Tree) (o : Operator) (p : ℕ) (is : List ℕ) → IsPlaced ts o p is → rows_fit ts (rows_at ts (Theory o) (pick ts is)) ≡ list_all (row_fits (place_form ts)) (placed_rows ts o p is)
+
+abbrev pub DivisionClausesByPlaces : Type 0
+DivisionClausesByPlaces =
+    (ts : List Tree) (o : Operator) (p : ℕ) (is : List ℕ) → IsPlaced ts o p is → place_of (tree_at ts p) ts ≡ p
+    → division_clauses ts (tree_at ts p) ≡ map (placed_literals ts p) (placed_rows ts o p is)
+
+abbrev pub DivisionHoldsByPlaces : Type 0
+DivisionHoldsByPlaces =
+    (ts : List Tree) (I : Interpretation) (o : Operator) (p : ℕ) (is : List ℕ) → IsPlaced ts o p is → IsTrue (is_linear (tree_at ts p))
+    → IsTrue (rows_hold (λ i. number_of (value_at ts I i)) (truth_of (value_at ts I p)) (placed_rows ts o p is))
 
 -- ---- places of trees
 

@@ -1,8 +1,13 @@
 -- What the rows of divisions say of numbers, whatever has these numbers.
-use Rattle.std.specs.Prelude.{Bool, false, ◌||◌, List, [], ◌∷◌, ℤ, pos, ◌+ℤ◌, ◌*ℤ◌, int_le, Option, Some, None}
+use Rattle.std.specs.Prelude.{ℕ, Bool, false, ◌||◌, List, [], ◌∷◌, ◌++◌, map, ℤ, pos, ◌+ℤ◌, ◌*ℤ◌, int_le, Option, Some, None}
 use Rattle.std.specs.List.{list_all}
+use Rattle.smt_meaning.specs.declared.terms.Operator.{Operator}
+use Rattle.smt_meaning.specs.declared.clauses.Literal.{Literal}
+use Rattle.smt_meaning.specs.Term.{Tree, tree_at}
 use Rattle.smt_meaning.specs.Clause.{signed}
-use Rattle.smt_meaning.specs.Division.{Limit, Row}
+use Rattle.smt_meaning.specs.Linear.{Form, linear_form}
+use Rattle.smt_meaning.specs.Division.{Limit, Row, operator_rows}
+use Rattle.smt_meaning.specs.Atoms.{positive, row_atoms, truth_literals}
 
 -- a sum of multiples
 abbrev pub multiples_value : {A : Type 0} → (A → ℤ) → List (ℤ × A) → ℤ
@@ -26,3 +31,21 @@ row_holds value truth r = truth_holds truth r.truth || one_holds value r.limits
 
 abbrev pub rows_hold : {A : Type 0} → (A → ℤ) → Bool → List (Row A) → Bool
 rows_hold value truth rows = list_all (row_holds value truth) rows
+
+-- ---- by places
+
+-- the form of the tree at a place
+abbrev pub place_form : List Tree → ℕ → Form
+place_form ts i = linear_form ts (tree_at ts i)
+
+-- the number of the second argument's form, the divisor
+abbrev pub place_divisor : List Tree → List ℕ → ℤ
+place_divisor ts (a ∷ d ∷ is) = (place_form ts d).constant
+place_divisor ts is = pos 0
+
+-- the rows of the term at a place, whose arguments stand at these
+abbrev pub placed_rows : List Tree → Operator → ℕ → List ℕ → List (Row ℕ)
+placed_rows ts o p is = operator_rows o (place_divisor ts is) p is
+
+abbrev pub placed_literals : List Tree → ℕ → Row ℕ → List Literal
+placed_literals ts p r = truth_literals p r.truth ++ map positive (row_atoms (place_form ts) r)

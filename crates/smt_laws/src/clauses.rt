@@ -1,7 +1,7 @@
 //! Laws of what follows from a stack, of linear forms, of normal bounds, of divisions and of places in lists of trees, each as the contract of a function that does nothing.
 ghost use Rattle.std.specs.Prelude.{ℕ, ℤ};
 ghost use Rattle.smt_meaning.specs.Term.{Tree};
-ghost use Rattle.smt_laws.specs.ClauseLaws.{DivisionClausesAreTrue, DivisionRowsForce, EmptyClauseShowsNoModel, LimitsHaveValues, LinearFormHasValue, NameStandsForTerm, NormalBoundHasValue, ResolventFollows, RowsAreOfTheTerm, StillFollowsAbove, StillFollowsAfterDeclared, StillFollowsAfterMore, StillFollowsAfterPop, StillFollowsAfterPush, StillFollowsWithTrees, TreeIsFoundAgain};
+ghost use Rattle.smt_laws.specs.ClauseLaws.{DivisionAtomsByPlaces, DivisionClausesAreTrue, DivisionClausesByPlaces, DivisionFitsByPlaces, DivisionHoldsByPlaces, DivisionRowsForce, DivisionRowsHold, EmptyClauseShowsNoModel, LimitsHaveValues, LinearFormHasValue, NameStandsForTerm, NormalBoundHasValue, ResolventFollows, RowsAreOfTheTerm, StillFollowsAbove, StillFollowsAfterDeclared, StillFollowsAfterMore, StillFollowsAfterPop, StillFollowsAfterPush, StillFollowsWithTrees, TreeIsFoundAgain};
 
 /// A clause that follows at a level still follows there after pushes.
 pub fn still_follows_after_push()
@@ -75,6 +75,19 @@ pub fn division_rows_force()
 /// The clauses of a division are true under every interpretation.
 pub fn division_clauses_are_true()
     ensures { DivisionClausesAreTrue }
+{}
+
+/// The rows of a division hold of the values that an interpretation gives.
+pub fn division_rows_hold()
+    ensures { DivisionRowsHold }
+{}
+
+/// The bounds of a division, whether they fit the range, its clauses and that they hold, by the places of the term and of its arguments.
+pub fn divisions_stand_by_places()
+    ensures atoms { DivisionAtomsByPlaces }
+    ensures fit { DivisionFitsByPlaces }
+    ensures clauses { DivisionClausesByPlaces }
+    ensures hold { DivisionHoldsByPlaces }
 {}
 
 /// A tree of a list stands at its place in it.
