@@ -21,6 +21,7 @@ mod SortLawsJudgements
 mod SortLawsTermsLaw
 mod SortLawsCommandsLaw
 mod SortLawsStackLaw
+mod OperationLaw
 pub mod OrderLaw
 pub mod BelowLaw
 pub mod Included

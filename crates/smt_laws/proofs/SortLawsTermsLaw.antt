@@ -151,7 +151,7 @@ two_of_three : (n : ℕ) → nat_eq (suc (suc (suc n))) 2 ≡ true → ⊥
 two_of_three n h = let q : suc (suc (suc n)) ≡ 2 = eqb-true (suc (suc (suc n))) 2 h in omega (arith, q)
 
 -- the tree of an operator that is applied has the operator's sort
-operation_sort : (ds : List Declaration) (ps : List Sort) (o : Operator) (us : Trees) (ss : List Sort) (x : Sort) → HaveSorts ds ps us ss → takes o (length ss) ≡ true
+pub operation_sort : (ds : List Declaration) (ps : List Sort) (o : Operator) (us : Trees) (ss : List Sort) (x : Sort) → HaveSorts ds ps us ss → takes o (length ss) ≡ true
     → operator_sort o ss ≡ Some x → HasSort ds ps (operation o us) x
 operation_sort ds ps True us ss x w k e = absurd (cc)
 operation_sort ds ps False us ss x w k e = absurd (cc)

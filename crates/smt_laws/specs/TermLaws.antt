@@ -1,27 +1,42 @@
 -- Laws of the definitions of terms.
-use Rattle.std.specs.Prelude.{◌≡◌, ℕ, ◌≤◌, List, [], ◌++◌, map, Some, IsTrue, Contains, true}
+use Rattle.std.specs.Prelude.{◌≡◌, ℕ, ◌≤◌, List, [], ◌++◌, map, length, All, Some, IsTrue, Contains, true}
 use Rattle.smt_meaning.specs.declared.values.Sort.{Sort}
 use Rattle.smt_meaning.specs.declared.values.Value.{Value}
 use Rattle.smt_meaning.specs.declared.values.Table.{Table}
+use Rattle.smt_meaning.specs.declared.terms.Operator.{Operator}
 use Rattle.smt_meaning.specs.declared.commands.Command.{Command}
 use Rattle.smt_meaning.specs.Declaration.{Declaration}
-use Rattle.smt_meaning.specs.Term.{Tree, Interpretation, value, value_with}
+use Rattle.smt_meaning.specs.Term.{Tree, Trees, Interpretation, value, values, value_with, operate}
 use Rattle.smt_meaning.specs.Sexp.{Sexp, tokens, sexp, IsSexp, is_proper, nested}
 use Rattle.smt_meaning.specs.declared.tokens.Token.{Token}
 use Rattle.smt_meaning.specs.Reading.{IsSExpr, most_open}
-use Rattle.smt_meaning.specs.Signature.{tree_sort, HasNoIdTwice}
-use Rattle.smt_meaning.specs.Sorts.{Scope, done, Typed, Variable, Rules, judge}
+use Rattle.smt_meaning.specs.Signature.{tree_sort, tree_sorts, takes, operator_sort, HasNoIdTwice}
+use Rattle.smt_meaning.specs.Sorts.{Scope, done, Typed, Variable, Rules, trees_of, judge}
 use Rattle.smt_meaning.specs.Stack.{signature_of}
 use Rattle.smt_meaning.specs.StackCommand.{start, after_all, in_assert, in_question}
 use Rattle.smt_meaning.specs.Environment.{Environment, term_value}
 use Rattle.smt_meaning.specs.Interpretation.{Interprets, has_sort, meaning, AreTablesFor}
 use Rattle.smt_meaning.specs.Clause.{symbols}
-use Rattle.smt_meaning.specs.TreeShape.{tree_eq}
+use Rattle.smt_meaning.specs.TreeShape.{tree_eq, is_linear, is_linear_operation, operation}
 
 -- a term that has a sort has a value of that sort
 abbrev pub ValueHasItsSort : Type 0
 ValueHasItsSort =
     (ds : List Declaration) (I : Interpretation) (t : Tree) (s : Sort) → Interprets ds I → tree_sort ds t ≡ Some s → IsTrue (has_sort (value I t) s)
+
+-- an operator that is applied to what it takes has its sort, its value, and is linear where it may be applied to linear terms
+abbrev pub OperationHasSort : Type 0
+OperationHasSort =
+    (ds : List Declaration) (o : Operator) (us : Trees) (ss : List Sort) (s : Sort) → tree_sorts ds us ≡ Some ss → IsTrue (takes o (length ss)) → operator_sort o ss ≡ Some s
+    → tree_sort ds (operation o us) ≡ Some s
+
+abbrev pub OperationHasValue : Type 0
+OperationHasValue = (I : Interpretation) (o : Operator) (us : Trees) → value I (operation o us) ≡ operate o (values I us)
+
+abbrev pub OperationIsLinear : Type 0
+OperationIsLinear =
+    (o : Operator) (ts : List Typed) → IsTrue (takes o (length ts)) → IsTrue (is_linear_operation o (trees_of ts)) → All (λ (a : Typed). IsTrue (is_linear a.tree)) ts
+    → IsTrue (is_linear (operation o (trees_of ts)))
 
 -- the tables for a signature interpret it
 abbrev pub TablesInterpret : Type 0

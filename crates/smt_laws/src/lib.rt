@@ -13,8 +13,8 @@
 //!
 //! Of terms: a well-sorted term has a value of its sort, which depends on its symbols alone; the
 //! tables for a signature interpret it; the value of an accepted term by cases on its text, also
-//! with parameters, is that of its tree. The test for equal trees is true exactly where they are
-//! one.
+//! with parameters, is that of its tree. The tree of an operator that is applied has the operator's
+//! sort and value. The test for equal trees is true exactly where they are one.
 //!
 //! Of s-expressions: the tokens of a tree read back to it, and what the lexicon calls one
 //! s-expression is the list of tokens of the tree that it reads as; and the other way round for
@@ -88,10 +88,10 @@ pub use sorts::{
     parts_are_among_the_trees, sorts_are_the_same_below, symbols_are_declared, trees_are_in_order,
 };
 pub use terms::{
-    body_has_the_terms_value, judged_again, no_id_twice, questions_are_assertions,
-    s_expressions_read_back, tables_interpret, tokens_read_back, tree_equality_decides,
-    tree_has_the_terms_value, trees_are_s_expressions, value_depends_on_symbols,
-    value_has_its_sort,
+    body_has_the_terms_value, judged_again, no_id_twice, operation_has_sort, operation_has_value,
+    operation_is_linear, questions_are_assertions, s_expressions_read_back, tables_interpret,
+    tokens_read_back, tree_equality_decides, tree_has_the_terms_value, trees_are_s_expressions,
+    value_depends_on_symbols, value_has_its_sort,
 };
 pub use walk::{
     annotation_form_is_read, annotation_form_stays, closed_trees_stay, definitions_are_noted_once,

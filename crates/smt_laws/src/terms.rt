@@ -1,9 +1,24 @@
 //! Laws of the definitions of terms, each as the contract of a function that does nothing.
-ghost use Rattle.smt_laws.specs.TermLaws.{BodyHasTheTermsValue, JudgedAgain, NoIdTwice, QuestionsAreAssertions, SExprsReadBack, SexpsAreSExprs, TablesInterpret, TokensReadBack, TreeEqualityDecides, TreeHasTheTermsValue, ValueDependsOnSymbols, ValueHasItsSort};
+ghost use Rattle.smt_laws.specs.TermLaws.{BodyHasTheTermsValue, JudgedAgain, NoIdTwice, OperationHasSort, OperationHasValue, OperationIsLinear, QuestionsAreAssertions, SExprsReadBack, SexpsAreSExprs, TablesInterpret, TokensReadBack, TreeEqualityDecides, TreeHasTheTermsValue, ValueDependsOnSymbols, ValueHasItsSort};
 
 /// A term that has a sort has a value of that sort, under each interpretation of the signature.
 pub fn value_has_its_sort()
     ensures { ValueHasItsSort }
+{}
+
+/// The tree of an operator that is applied has the operator's sort.
+pub fn operation_has_sort()
+    ensures { OperationHasSort }
+{}
+
+/// It has the operator's value.
+pub fn operation_has_value()
+    ensures { OperationHasValue }
+{}
+
+/// It is linear where the operator may be applied to linear terms.
+pub fn operation_is_linear()
+    ensures { OperationIsLinear }
 {}
 
 /// The tables of a kept model interpret the signature.
