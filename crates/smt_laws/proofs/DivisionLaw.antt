@@ -16,7 +16,7 @@ use Rattle.smt_meaning.specs.Division.{Limit, Row, divisor_of, operator_rows, ro
 use Rattle.smt_meaning.specs.Nodes.{pick}
 use Rattle.smt_meaning.specs.Atoms.{division_clauses, limit_atom, row_atoms, positive, truth_literals, row_literals}
 use Rattle.smt_laws.specs.Rows.{place_form, place_divisor, placed_literals, multiples_value, limit_holds, one_holds, truth_holds, row_holds, rows_hold}
-use Rattle.smt_laws.specs.ClauseLaws.{LimitsHaveValues, IsRowOf, DivisionRowsHold, DivisionClausesAreTrue, DivisionAtomsByPlaces, DivisionFitsByPlaces, DivisionClausesByPlaces, DivisionHoldsByPlaces}
+use Rattle.smt_laws.specs.ClauseLaws.{LimitsHaveValues, IsRowOf, DivisorIsItsNumber, DivisionRowsHold, DivisionClausesAreTrue, DivisionAtomsByPlaces, DivisionFitsByPlaces, DivisionClausesByPlaces, DivisionHoldsByPlaces}
 use Rattle.smt_laws.proofs.Both.{and_left, and_right}
 use Rattle.smt_laws.proofs.Included.{All-included, included_left, included_right}
 use Rattle.smt_laws.proofs.SameTree.{found_again, tree_eq-true}
@@ -185,6 +185,9 @@ clauses_true ts I (Theory Modulo) us l a m = leaf_true ts I Modulo us l a refl m
 clauses_true ts I (Theory Divisible) us l a m = leaf_true ts I Divisible us l a refl m
 clauses_true ts I (Theory Absolute) us l a m = leaf_true ts I Absolute us l a refl m
 clauses_true ts I h us l a m = All-nil (λ c. IsTrue (some_true ts I c))
+
+pub divisor_is : DivisorIsItsNumber
+divisor_is ts I d h = (divisor_number ts I d h, divisor_some ts I d h)
 
 pub rows_hold_of : DivisionRowsHold
 rows_hold_of ts I (node h us) l = rows_valued ts I h us l

@@ -11,7 +11,7 @@ use Rattle.smt_meaning.specs.declared.clauses.Atom.{Atom}
 use Rattle.smt_meaning.specs.declared.clauses.Literal.{Literal}
 use Rattle.smt_meaning.specs.declared.clauses.Clause.{Clause}
 use Rattle.smt_meaning.specs.Term.{Tree, Trees, node, none, tree_at, Interpretation, value, number_of, truth_of, int_eq, absolute, quotient, remainder}
-use Rattle.smt_meaning.specs.TreeShape.{is_linear, is_among, place_of, with_parts}
+use Rattle.smt_meaning.specs.TreeShape.{is_linear, is_divisor, is_among, place_of, with_parts}
 use Rattle.smt_meaning.specs.Signature.{tree_sort}
 use Rattle.smt_meaning.specs.Sorts.{Typed, name_declaration, applied, applied_trees}
 use Rattle.smt_meaning.specs.Stack.{Frame, Assertion, HasNoModel, on_top, with_declared, pushed, popped}
@@ -134,6 +134,11 @@ DivisionClausesAreTrue =
     (ts : List Tree) (I : Interpretation) (h : Head) (us : Trees) → IsTrue (is_linear (node h us)) → All (λ u. IsTrue (is_among u ts)) (leaves_of us) → IsTrue (is_among (node h us) ts)
     → All (λ c. IsTrue (some_true ts I c)) (division_clauses ts (node h us))
 
+-- a divisor has the number of its form under every interpretation, which isn't 0
+abbrev pub DivisorIsItsNumber : Type 0
+DivisorIsItsNumber =
+    (ts : List Tree) (I : Interpretation) (d : Tree) → IsTrue (is_divisor d) → (number_of (value I d) ≡ (linear_form ts d).constant) × ((linear_form ts d).constant ≢ pos 0)
+
 -- the rows of a linear term hold of the values that an interpretation gives
 abbrev pub DivisionRowsHold : Type 0
 DivisionRowsHold =
@@ -145,19 +150,23 @@ DivisionRowsHold =
 abbrev pub IsPlaced : List Tree → Operator → ℕ → List ℕ → Type 0
 IsPlaced ts o p is = tree_at ts p ≡ node (Theory o) (pick ts is)
 
+-- the bounds of its rows
 abbrev pub DivisionAtomsByPlaces : Type 0
 DivisionAtomsByPlaces =
     (ts : List Tree) (o : Operator) (p : ℕ) (is : List ℕ) → IsPlaced ts o p is → division_atoms ts (Theory o) (pick ts is) ≡ flat_map (row_atoms (place_form ts)) (placed_rows ts o p is)
 
+-- whether they fit the range
 abbrev pub DivisionFitsByPlaces : Type 0
 DivisionFitsByPlaces =
     (ts : List Tree) (o : Operator) (p : ℕ) (is : List ℕ) → IsPlaced ts o p is → rows_fit ts (rows_at ts (Theory o) (pick ts is)) ≡ list_all (row_fits (place_form ts)) (placed_rows ts o p is)
 
+-- its clauses
 abbrev pub DivisionClausesByPlaces : Type 0
 DivisionClausesByPlaces =
     (ts : List Tree) (o : Operator) (p : ℕ) (is : List ℕ) → IsPlaced ts o p is → place_of (tree_at ts p) ts ≡ p
     → division_clauses ts (tree_at ts p) ≡ map (placed_literals ts p) (placed_rows ts o p is)
 
+-- its rows hold of the values that an interpretation gives
 abbrev pub DivisionHoldsByPlaces : Type 0
 DivisionHoldsByPlaces =
     (ts : List Tree) (I : Interpretation) (o : Operator) (p : ℕ) (is : List ℕ) → IsPlaced ts o p is → IsTrue (is_linear (tree_at ts p))

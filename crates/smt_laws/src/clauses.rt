@@ -1,7 +1,7 @@
 //! Laws of what follows from a stack, of linear forms, of normal bounds, of divisions and of places in lists of trees, each as the contract of a function that does nothing.
 ghost use Rattle.std.specs.Prelude.{ℕ, ℤ};
 ghost use Rattle.smt_meaning.specs.Term.{Tree};
-ghost use Rattle.smt_laws.specs.ClauseLaws.{DivisionAtomsByPlaces, DivisionClausesAreTrue, DivisionClausesByPlaces, DivisionFitsByPlaces, DivisionHoldsByPlaces, DivisionRowsForce, DivisionRowsHold, EmptyClauseShowsNoModel, LimitsHaveValues, LinearFormHasValue, NameStandsForTerm, NormalBoundHasValue, ResolventFollows, RowsAreOfTheTerm, StillFollowsAbove, StillFollowsAfterDeclared, StillFollowsAfterMore, StillFollowsAfterPop, StillFollowsAfterPush, StillFollowsWithTrees, TreeIsFoundAgain};
+ghost use Rattle.smt_laws.specs.ClauseLaws.{DivisionAtomsByPlaces, DivisionClausesAreTrue, DivisionClausesByPlaces, DivisionFitsByPlaces, DivisionHoldsByPlaces, DivisionRowsForce, DivisionRowsHold, DivisorIsItsNumber, EmptyClauseShowsNoModel, LimitsHaveValues, LinearFormHasValue, NameStandsForTerm, NormalBoundHasValue, ResolventFollows, RowsAreOfTheTerm, StillFollowsAbove, StillFollowsAfterDeclared, StillFollowsAfterMore, StillFollowsAfterPop, StillFollowsAfterPush, StillFollowsWithTrees, TreeIsFoundAgain};
 
 /// A clause that follows at a level still follows there after pushes.
 pub fn still_follows_after_push()
@@ -75,6 +75,11 @@ pub fn division_rows_force()
 /// The clauses of a division are true under every interpretation.
 pub fn division_clauses_are_true()
     ensures { DivisionClausesAreTrue }
+{}
+
+/// A divisor is a number other than 0.
+pub fn divisor_is_its_number()
+    ensures { DivisorIsItsNumber }
 {}
 
 /// The rows of a division hold of the values that an interpretation gives.

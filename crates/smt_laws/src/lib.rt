@@ -65,10 +65,11 @@ mod walk;
 
 pub use clauses::{
     division_clauses_are_true, division_rows_force, division_rows_hold, divisions_stand_by_places,
-    empty_clause_shows_no_model, limits_have_values, linear_form_has_value, name_stands_for_term,
-    normal_bound_has_value, resolvent_follows, rows_are_of_the_term, still_follows_above,
-    still_follows_after_declared, still_follows_after_more, still_follows_after_pop,
-    still_follows_after_push, still_follows_with_trees, tree_is_found_again,
+    divisor_is_its_number, empty_clause_shows_no_model, limits_have_values, linear_form_has_value,
+    name_stands_for_term, normal_bound_has_value, resolvent_follows, rows_are_of_the_term,
+    still_follows_above, still_follows_after_declared, still_follows_after_more,
+    still_follows_after_pop, still_follows_after_push, still_follows_with_trees,
+    tree_is_found_again,
 };
 pub use flat::flat_says_the_same;
 pub use kinds::propositional_has_no_integers;
