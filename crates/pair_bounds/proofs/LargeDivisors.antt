@@ -58,24 +58,28 @@ beside ts t u q us h =
 none_true : (A : Type 0) → false ≡ true → A
 none_true A e = absurd (let x : false ≡ true = e in cc)
 
+abbrev later : List (Row Tree) → List (Row Tree)
+later [] = []
+later (r ∷ rs) = rs
+
 by_shape : (ts : List Tree) (o : Operator) (is : List ℕ) → IsTrue (divides o) → IsTrue (is_linear (node (Theory o) (pick ts is))) → (InRange (divisor_at ts is) → ⊥)
     → rows_fit ts (rows_at ts (Theory o) (pick ts is)) ≡ true → ⊥
 by_shape ts Divide [] d h out = none_true _ h
 by_shape ts Divide (a ∷ []) d h out = none_true _ h
 by_shape ts Divide (a ∷ n ∷ []) d h out =
-    first_outside ts (divisor_at ts (a ∷ n ∷ [])) out (tree_at ts a) (node (Theory Divide) (pick ts (a ∷ n ∷ []))) _ refl
+    first_outside ts (divisor_at ts (a ∷ n ∷ [])) out (tree_at ts a) (node (Theory Divide) (pick ts (a ∷ n ∷ []))) (later (rows_at ts (Theory Divide) (pick ts (a ∷ n ∷ [])))) refl
 by_shape ts Divide (a ∷ n ∷ q ∷ is) d h out = none_true _ h
 by_shape ts Modulo [] d h out = none_true _ h
 by_shape ts Modulo (a ∷ []) d h out = none_true _ h
 by_shape ts Modulo (a ∷ n ∷ []) d h out = none_true _ h
 by_shape ts Modulo (a ∷ n ∷ q ∷ []) d h out =
-    first_outside ts (divisor_at ts (a ∷ n ∷ q ∷ [])) out (tree_at ts a) (tree_at ts q) _ (beside ts (tree_at ts a) (tree_at ts n) (tree_at ts q) (pick ts (a ∷ n ∷ q ∷ [])) h)
+    first_outside ts (divisor_at ts (a ∷ n ∷ q ∷ [])) out (tree_at ts a) (tree_at ts q) (later (rows_at ts (Theory Modulo) (pick ts (a ∷ n ∷ q ∷ [])))) (beside ts (tree_at ts a) (tree_at ts n) (tree_at ts q) (pick ts (a ∷ n ∷ q ∷ [])) h)
 by_shape ts Modulo (a ∷ n ∷ q ∷ i ∷ is) d h out = none_true _ h
 by_shape ts Divisible [] d h out = none_true _ h
 by_shape ts Divisible (a ∷ []) d h out = none_true _ h
 by_shape ts Divisible (a ∷ n ∷ []) d h out = none_true _ h
 by_shape ts Divisible (a ∷ n ∷ q ∷ []) d h out =
-    first_outside ts (divisor_at ts (a ∷ n ∷ q ∷ [])) out (tree_at ts a) (tree_at ts q) _ (beside ts (tree_at ts a) (tree_at ts n) (tree_at ts q) (pick ts (a ∷ n ∷ q ∷ [])) h)
+    first_outside ts (divisor_at ts (a ∷ n ∷ q ∷ [])) out (tree_at ts a) (tree_at ts q) (later (rows_at ts (Theory Divisible) (pick ts (a ∷ n ∷ q ∷ [])))) (beside ts (tree_at ts a) (tree_at ts n) (tree_at ts q) (pick ts (a ∷ n ∷ q ∷ [])) h)
 by_shape ts Divisible (a ∷ n ∷ q ∷ i ∷ is) d h out = none_true _ h
 by_shape ts o is d h out = none_true _ d
 
