@@ -1,5 +1,5 @@
 -- What a consistent log that makes the clauses of a division true gives.
-use Rattle.std.proofs.Common.{◌≡◌, ◌≢◌, ◌⊎◌, inl, inr, ℕ, zero, suc, ◌<◌, ◌||◌, Bool, true, false, List, [], ◌∷◌, ◌++◌, map, length, All, Contains, Option, Some, None, refl, sym, ap, subst, ◌∙◌, arith}
+use Rattle.std.proofs.Common.{◌≡◌, ◌≢◌, ◌⊎◌, inl, inr, ℕ, zero, suc, ◌<◌, ◌||◌, Bool, true, false, List, [], ◌∷◌, ◌++◌, map, length, All, Contains, Option, Some, None, refl, sym, ap, subst, ◌∙◌, arith, lit<}
 use Rattle.std.specs.Prelude.{flat_map, IsTrue, ℤ, pos, negsuc, ◌-ℤ◌}
 use Rattle.std.proofs.lemmas.Bool.{eqb-true}
 use Rattle.std.proofs.lemmas.List.Elements.{All-cons, All-nil, All-head, All-tail, All-append, All-map, All-contains}
@@ -209,7 +209,7 @@ module _ (force : DivisionRowsForce ℕ) (v : ℕ → Value) (log : List Signed)
       let all = made_all v log consistent ts table p rs fits made in
       let e : Row = placed_row (always [] (pos 0)) in
       subst (λ k. IsGiven log (truth_number table p) (int_eq (remainder (number_at v a) k) (pos 0))) (sym by.0)
-      (truth_given v log consistent ts table p force n by.1 a d q (all 0 e (omega arith)) (all 1 e (omega arith)) (all 2 e (omega arith)) (all 3 e (omega arith)))
+      (truth_given v log consistent ts table p force n by.1 a d q (all 0 e (lit< tt)) (all 1 e (lit< tt)) (all 2 e (lit< tt)) (all 3 e (lit< tt)))
   of_divisibility (a ∷ d ∷ q ∷ i ∷ is) s by fits made = absurd (let e : suc (suc (suc (suc (length is)))) ≡ 3 = eqb-true (suc (suc (suc (suc (length is))))) 3 s in omega (arith, e))
 
 pub division_part_decided : DivisionRowsForce ℕ → DivisionPartIsDecided

@@ -67,24 +67,19 @@ module _ (ts : List Tree) (table : List Atom) where
     abbrev IsRight : RowLimit → Type 0
     IsRight l = signs (limit_number ts table l) ≡ limit_holds value (limit_of_row l)
 
-    numbers_true : (l : RowLimit) (o : Option RowLimit) → IsRight l → All IsRight (listed o) → one_holds value (map limit_of_row (l ∷ listed o)) ≡ true
-        → some_true signs (map yes (limit_number ts table l ∷ other_numbers ts table (limit_number ts table l) o)) ≡ true
-    numbers_true l None right others h = ap (λ b. b || false) right ∙ h
-    numbers_true l (Some k) right others h = by (nat_eq m n) refl
+    two_true : (m n : ℕ) → (signs m || (signs n || false)) ≡ true → some_true signs (map yes (m ∷ unless_same m n)) ≡ true
+    two_true m n both = by (nat_eq m n) refl
       where
-        m : ℕ
-        m = limit_number ts table l
-
-        n : ℕ
-        n = limit_number ts table k
-
-        both : (signs m || (signs n || false)) ≡ true
-        unfolding m n
-        both = ap (λ b. b || (signs (limit_number ts table k) || false)) right ∙ ap (λ b. limit_holds value (limit_of_row l) || (b || false)) (All-head IsRight k [] others) ∙ h
-
         by : (b : Bool) → nat_eq m n ≡ b → some_true signs (map yes (m ∷ (if b then [] else n ∷ []))) ≡ true
         by true e = or_again (signs m) (ap (λ i. signs m || (signs i || false)) (eqb-true m n e) ∙ both)
         by false e = both
+
+    numbers_true : (l : RowLimit) (o : Option RowLimit) → IsRight l → All IsRight (listed o) → one_holds value (map limit_of_row (l ∷ listed o)) ≡ true
+        → some_true signs (map yes (limit_number ts table l ∷ other_numbers ts table (limit_number ts table l) o)) ≡ true
+    numbers_true l None right others h = ap (λ b. b || false) right ∙ h
+    numbers_true l (Some k) right others h =
+        two_true (limit_number ts table l) (limit_number ts table k)
+        (ap (λ b. b || (signs (limit_number ts table k) || false)) right ∙ ap (λ b. limit_holds value (limit_of_row l) || (b || false)) (All-head IsRight k [] others) ∙ h)
 
     truth_true : (t : ℕ) (b : Bool) → sign b (signs t) ≡ signed b (signs t)
     truth_true t true = refl
