@@ -53,9 +53,10 @@ module _ (ts : List Tree) (table : List Atom) where
     where
       by : (b : Bool) → nat_eq m (limit_number ts table l) ≡ b → HasNoAtomTwice (map yes (m ∷ (if b then [] else limit_number ts table l ∷ [])))
       by true e = (All-nil (λ (k : Signed). m ≢ k.atom), tt)
-      by false e =
-          (All-cons (λ (k : Signed). m ≢ k.atom) (yes (limit_number ts table l)) [] (eqb-false m (limit_number ts table l) e) (All-nil (λ (k : Signed). m ≢ k.atom)),
-          (All-nil (λ (k : Signed). limit_number ts table l ≢ k.atom), tt))
+      by false e = (
+        All-cons (λ (k : Signed). m ≢ k.atom) (yes (limit_number ts table l)) [] (eqb-false m (limit_number ts table l) e) (All-nil (λ (k : Signed). m ≢ k.atom)),
+        (All-nil (λ (k : Signed). limit_number ts table l ≢ k.atom), tt),
+      )
 
   -- ---- what is true of the numbers
 
@@ -139,10 +140,12 @@ module _ (ds : List Declaration) (ts : List Tree) (table : List Atom) (is_over :
 
         by : (o : Option Bool) → All (Contains table) (row_truth_atoms p o) → HasNoAtomTwice (row_truth table p o ++ map yes (row_numbers ts table r))
         by None h = alone
-        by (Some b) h =
-            (All-map (λ (m : Signed). truth_number table p ≢ m.atom) yes (row_numbers ts table r)
-            (numbers_are ts table r (λ n. truth_number table p ≢ n)
-            (λ l c. number_apart table (Truth p) (limit_bound ts l) (All-head (Contains table) (Truth p) [] h) (bound_of l c) (λ k. let one : kind (limit_bound ts l) ≡ 1 = limit_kind l in omega (arith, one, k)))), alone)
+        by (Some b) h = (
+          All-map (λ (m : Signed). truth_number table p ≢ m.atom) yes (row_numbers ts table r)
+              (numbers_are ts table r (λ n. truth_number table p ≢ n)
+              (λ l c. number_apart table (Truth p) (limit_bound ts l) (All-head (Contains table) (Truth p) [] h) (bound_of l c) (λ k. let one : kind (limit_bound ts l) ≡ 1 = limit_kind l in omega (arith, one, k)))),
+          alone,
+        )
 
     -- the bounds have the values that the row is about, and so has the truth
     abbrev pub IsMeant : Type 0

@@ -30,7 +30,7 @@ pub use axioms::put_all_axioms;
 pub use bound_axioms_laws::axioms_reach_all;
 pub use error::PartError;
 pub use laws::{
-    choice_part_is_decided, division_part_is_decided, equality_part_is_decided, numbers_are_found, order_part_is_decided,
-    part_atoms_are_of_stack,
+    choice_part_is_decided, division_part_is_decided, equality_part_is_decided, numbers_are_found,
+    order_part_is_decided, part_atoms_are_of_stack,
 };
 pub use parts::{Space, put_part};
