@@ -4,3 +4,4 @@ pub mod Folding
 pub mod Table
 pub mod Entries
 pub mod Differences
+pub mod Multiples

@@ -9,12 +9,13 @@
 //!
 //! `LinearForms::difference`: the form of the difference of two terms, exactly the definition's
 //! where no number of the folding leaves the range; else the part at which one of the two leaves
-//! it, or that the pair does.
+//! it, or that the pair does. `LinearForms::combine`: the same of a sum of multiples of terms.
 #![tactic(auto)]
 
 mod coefficients;
 mod differences;
 mod entries;
+mod multiples;
 mod nodes;
 mod products;
 mod sums;
@@ -22,4 +23,5 @@ mod table;
 
 pub use differences::DifferenceError;
 pub use entries::LinearForm;
+pub use multiples::Multiple;
 pub use table::LinearForms;

@@ -8,6 +8,7 @@ ghost use Rattle.linear_forms.specs.Entries.{knowns, AreLaid, AreSums, IsReady, 
 use crate::coefficients::Stop;
 use crate::differences::{DifferenceError, difference};
 use crate::entries::{Entry, LinearForm, form_at};
+use crate::multiples::{Multiple, combine};
 use crate::nodes::{Work, fold_node};
 use smt_meaning::{Head, Summand, TermId};
 use std::alloc::{AllocError, Global};
@@ -15,7 +16,11 @@ use std::marker::Model;
 use term_store::TermStore;
 
 /// The form at a place, or the place of the part whose folding leaves the range.
-fn look<'a>(entries: &[Entry], all: &'a [Summand], place: usize) -> Result<LinearForm<'a>, TermId>
+pub(crate) fn look<'a>(
+    entries: &[Entry],
+    all: &'a [Summand],
+    place: usize,
+) -> Result<LinearForm<'a>, TermId>
     requires laid { AreLaid (length all.now) entries.now }
     requires place { place < length entries.now }
     ensures ok { IfOk result (λ f. known_at (knowns all.now entries.now) place ≡ record { form = form_of f.sum.now f.constant; outside = None }) }
@@ -219,6 +224,7 @@ impl LinearForms {
     ghost use Rattle.linear_forms.specs.Folding.{form_of};
     ghost use Rattle.linear_forms.specs.Table.{AreForms, HasForm, IsOutside};
     ghost use Rattle.linear_forms.specs.Differences.{difference_fits, KnowsForms, IsDifference, Refuses};
+    ghost use Rattle.linear_forms.specs.Multiples.{AreMultiples, IsCombination, RefusesMultiples};
 
     /// Nothing is known. It takes no memory.
     pub fn new(alloc: Global) -> Self
@@ -287,6 +293,28 @@ impl LinearForms {
             &mut self.work,
             left,
             right,
+            sum,
+        )
+    }
+
+    /// The sum of multiples of the terms at places, folded from the right: its constant, and in the list, whatever it was before, its sum. An `Err` says at which
+    /// part folding one of the terms leaves the range, that folding the sum does (`Pair`), or that memory is wanting; then nothing is said of the list.
+    pub fn combine(
+        &mut self,
+        multiples: &[Multiple],
+        sum: &mut Vec<Summand>,
+    ) -> Result<i128, DifferenceError>
+        requires multiples { AreMultiples (length self.old) multiples.now }
+        requires known { KnowsForms self.old }
+        ensures ok { (trees : List Tree) → AreForms trees self.old → IfOk result (λ n. IsCombination trees multiples.now (form_of sum.new.items n)) }
+        ensures err { (trees : List Tree) → AreForms trees self.old → IfErr result (λ e. RefusesMultiples trees multiples.now e) }
+        ensures same { self.new ≡ self.old }
+    {
+        combine(
+            &self.entries,
+            &self.summands,
+            &mut self.work,
+            multiples,
             sum,
         )
     }

@@ -1,3 +1,4 @@
 pub mod Sums
 pub mod Pairs
 pub mod Turning
+pub mod Rows
