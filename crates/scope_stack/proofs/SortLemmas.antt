@@ -7,7 +7,7 @@ use Rattle.std.proofs.lemmas.List.{get_or_append_left, get_or_push, length_push}
 use Rattle.smt_meaning.specs.declared.values.Sort.{Sort}
 use Rattle.smt_meaning.specs.declared.values.Sort.TheVariants.{Bool as Truths, Int as Ints}
 use Rattle.smt_meaning.specs.declared.terms.Operator.{Operator}
-use Rattle.smt_meaning.specs.declared.terms.Operator.TheVariants.{True, False, Not, And, Or, Xor, Implies, Equal, Distinct, Ite, Add, Subtract, Multiply, AtMost, Less, AtLeast, Greater}
+use Rattle.smt_meaning.specs.declared.terms.Operator.TheVariants.{True, False, Not, And, Or, Xor, Implies, Equal, Distinct, Ite, Add, Subtract, Multiply, AtMost, Less, AtLeast, Greater, Divide, Modulo, Absolute, Divisible}
 use Rattle.smt_meaning.specs.declared.terms.Head.{Head}
 use Rattle.smt_meaning.specs.declared.terms.Head.TheVariants.{Numeral, Theory, Symbol, Place}
 use Rattle.smt_meaning.specs.Declaration.{Declaration}
@@ -78,6 +78,10 @@ made_is AtMost branch ss s h b = if_so_is (all_of Ints ss) Truths s h
 made_is Less branch ss s h b = if_so_is (all_of Ints ss) Truths s h
 made_is AtLeast branch ss s h b = if_so_is (all_of Ints ss) Truths s h
 made_is Greater branch ss s h b = if_so_is (all_of Ints ss) Truths s h
+made_is Divide branch ss s h b = if_so_is (all_of Ints ss) Ints s h
+made_is Modulo branch ss s h b = if_so_is (all_of Ints ss) Ints s h
+made_is Absolute branch ss s h b = if_so_is (all_of Ints ss) Ints s h
+made_is Divisible branch ss s h b = if_so_is (all_of Ints ss) Truths s h
 
 pub last_or_before : (n k : ℕ) → k < n + 1 → (k < n) ⊎ (n ≡ k)
 last_or_before zero zero h = inr refl

@@ -3,7 +3,7 @@ use Rattle.std.specs.Prelude.{◌≡◌, ℕ, ◌<◌, ◌≤◌, max, Bool, Lis
 use Rattle.smt_meaning.specs.declared.values.Sort.{Sort}
 use Rattle.smt_meaning.specs.declared.values.Sort.TheVariants.{Bool as Truths, Int as Ints}
 use Rattle.smt_meaning.specs.declared.terms.Operator.{Operator}
-use Rattle.smt_meaning.specs.declared.terms.Operator.TheVariants.{Add, Subtract, Multiply, Ite}
+use Rattle.smt_meaning.specs.declared.terms.Operator.TheVariants.{Add, Subtract, Multiply, Ite, Divide, Modulo, Absolute}
 use Rattle.smt_meaning.specs.Declaration.{Declaration}
 use Rattle.smt_meaning.specs.Term.{Tree, tree_at}
 use Rattle.smt_meaning.specs.Signature.{function_with_id, symbol_sort, tree_sort}
@@ -25,6 +25,9 @@ abbrev pub made_sort : Operator → Sort → Sort
 made_sort Add branch = Ints
 made_sort Subtract branch = Ints
 made_sort Multiply branch = Ints
+made_sort Divide branch = Ints
+made_sort Modulo branch = Ints
+made_sort Absolute branch = Ints
 made_sort Ite branch = branch
 made_sort _ branch = Truths
 

@@ -28,7 +28,12 @@ fn made_sort(operator: Operator, branch: Sort) -> Sort
     ensures { result ≡ made_by operator branch }
 {
     match operator {
-        Operator::Add | Operator::Subtract | Operator::Multiply => Sort::Int,
+        Operator::Add
+        | Operator::Subtract
+        | Operator::Multiply
+        | Operator::Divide
+        | Operator::Modulo
+        | Operator::Absolute => Sort::Int,
         Operator::Ite => branch,
         _ => Sort::Bool,
     }
