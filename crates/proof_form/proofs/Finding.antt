@@ -1,5 +1,5 @@
 -- What is found of a proof, from what its terms and its steps come to.
-use Rattle.std.proofs.Common.{◌≡◌, ◌⊎◌, inl, inr, ℕ, List, [], ◌∷◌, ◌++◌, length, All, Option, Some, None, Result, Ok, Err, IfOk, refl, sym, ap, ◌∙◌, subst}
+use Rattle.std.proofs.Common.{◌≡◌, inl, inr, ℕ, List, [], ◌∷◌, ◌++◌, All, Some, None, Result, Ok, Err, IfOk, sym, ap, ◌∙◌, subst}
 use Rattle.std.proofs.lemmas.List.{append-nil}
 use Rattle.std.specs.declared.alloc.AllocError.{AllocError}
 use Rattle.smt_meaning.specs.declared.clauses.Literal.{Literal}
@@ -8,15 +8,14 @@ use Rattle.smt_meaning.specs.Declaration.{Declaration}
 use Rattle.smt_meaning.specs.Sexp.{Sexp, Sexps}
 use Rattle.smt_meaning.specs.Term.{Tree}
 use Rattle.smt_meaning.specs.Stack.{Frame, signature_of, assertions_of}
-use Rattle.smt_meaning.specs.Proof.{IsTerm, AreTerms}
+use Rattle.smt_meaning.specs.Proof.{AreTerms}
 use Rattle.smt_meaning.specs.ProofRules.{Gives, Runs}
-use Rattle.smt_meaning.specs.ProofReading.{node_read, step_read, lists_of, listed, AreRead, IsWrongNode}
+use Rattle.smt_meaning.specs.ProofReading.{node_read, lists_of, listed, AreRead, IsWrongNode}
 use Rattle.proof_form.specs.Range.{LeavesRange}
 use Rattle.proof_form.specs.Terms.{ProofTerms}
 use Rattle.proof_form.specs.Asserted.{asserted_at}
-use Rattle.proof_form.specs.Comes.{Stays}
 use Rattle.proof_form.specs.Found.{IsFound, ComesTo}
-use Rattle.proof_form.specs.Whole.{AreAdded, EndsAt, NodesCome, HaveRun, AreRun, EndsSo, HasEnded, StepsCome, faulty, outside, ended}
+use Rattle.proof_form.specs.Whole.{AreAdded, EndsAt, NodesCome, HaveRun, EndsSo, StepsCome, faulty, outside, ended}
 use Rattle.proof_form.specs.declared.found.Found.{Found}
 use Rattle.proof_form.specs.declared.found.Found.TheVariants.{Yes, Node as WrongNode, No, Range as OutOfRange, NoProof}
 

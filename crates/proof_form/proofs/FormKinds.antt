@@ -1,5 +1,5 @@
 -- The parts of a term by its operator, and what they make of its value.
-use Rattle.std.proofs.Common.{◌≡◌, ◌≢◌, ℕ, ◌<◌, ◌≤◌, get_or, Bool, true, false, not, ◌&&◌, ◌||◌, nat_le, List, [], ◌∷◌, map, Some, length, All, ap, sym, subst, ◌∙◌, refl, arith}
+use Rattle.std.proofs.Common.{◌≡◌, ◌≢◌, ℕ, ◌<◌, ◌≤◌, get_or, Bool, true, false, not, ◌&&◌, ◌||◌, nat_le, nat_eq, List, [], ◌∷◌, map, Some, length, All, ap, sym, subst, ◌∙◌, refl, arith}
 use Rattle.std.specs.Prelude.{if◌then◌else◌}
 use Rattle.std.specs.List.{list_all, list_any}
 use Rattle.std.proofs.lemmas.Bool.{eqb-true}
@@ -10,21 +10,20 @@ use Rattle.smt_meaning.specs.declared.values.Sort.TheVariants.{Bool as Truths, I
 use Rattle.smt_meaning.specs.declared.values.Value.{Value}
 use Rattle.smt_meaning.specs.declared.values.Value.TheVariants.{Truth as IsTruth}
 use Rattle.smt_meaning.specs.declared.terms.Operator.{Operator}
-use Rattle.smt_meaning.specs.declared.terms.Operator.TheVariants.{True, False, Not, And, Or, Xor, Implies, Equal, Distinct, Ite, Add, Subtract, Multiply, AtMost, Less, AtLeast, Greater}
+use Rattle.smt_meaning.specs.declared.terms.Operator.TheVariants.{True, False, Not, And, Or, Xor, Implies, Equal, Distinct, Ite, Add, Subtract, Multiply, AtMost, Less, AtLeast, Greater, Divide, Modulo, Absolute, Divisible}
 use Rattle.smt_meaning.specs.declared.clauses.Atom.{Atom}
 use Rattle.smt_meaning.specs.declared.clauses.Atom.TheVariants.{Truth, Same}
 use Rattle.smt_meaning.specs.Declaration.{Declaration}
 use Rattle.smt_meaning.specs.Term.{Tree, tree_at, truth_of, bool_eq, xor, implies, on_truths, fold_left, fold_right, chain_from, same_value, differ, with_each, pairwise, operate}
-use Rattle.smt_meaning.specs.Signature.{tree_sort, if_so, all_of, all_the_same}
+use Rattle.smt_meaning.specs.Signature.{tree_sort, if_so, all_of, all_the_same, operator_sort}
 use Rattle.smt_meaning.specs.Proof.{IsBoolAt, IsIntAt}
 use Rattle.smt_meaning.specs.ProofRules.{HasParts, of_bools, of_equal, of_distinct, of_at_most, of_less, of_at_least, of_greater, IsOtherAt, along, not_above, below, turned, pairs, truths, every, no_one}
-use Rattle.proof_form.specs.declared.form_values.Connective.{Connective}
 use Rattle.proof_form.specs.declared.form_values.Connective.TheVariants as connective
 use Rattle.proof_form.specs.declared.form_parts.Relation.TheVariants as relation
 use Rattle.proof_form.specs.FormValues.{itself, is_odd, implied_from, choice_of, connective_value}
 use Rattle.proof_form.specs.FormParts.{HasJust, IsOfBools, IsOfNeighbours, IsOfPairs, HasNoParts, IsKind}
 use Rattle.proof_form.specs.declared.form_parts.Kind.{Kind}
-use Rattle.proof_form.specs.Range.{neighbours_fit, neighbours_fit_from}
+use Rattle.proof_form.specs.Range.{neighbours_fit, neighbours_fit_from, bounds_fit}
 use Rattle.proof_form.proofs.FormLists.{xor_assoc, xor_false}
 use Rattle.proof_form.proofs.FormTerms.{IsSorted, IsChoice, HaveSort, bools, ints, count, one_sort, same_as_first, all_bools, all_others, choice, if_so_true}
 
@@ -165,17 +164,25 @@ module _ (ds : List Declaration) (ts : List Tree) where
   only_greater _ _ _ (of_bools {is = []} all) int = (refl, λ v. refl)
   only_greater _ _ _ (of_bools {is = i ∷ is} all) int = absurd (not_both i (All-head (IsBoolAt ds ts) i is all) (All-head (IsIntAt ds ts) i is int))
 
-  no_parts_add : (is : List ℕ) (qs : List Atom) (w : (Atom → Bool) → Bool) → HasParts ds ts Add is qs w → 0 < length is → All (IsIntAt ds ts) is → ⊥
-  no_parts_add _ _ _ (of_bools {is = []} all) l int = omega (arith, l)
-  no_parts_add _ _ _ (of_bools {is = i ∷ is} all) l int = not_both i (All-head (IsBoolAt ds ts) i is all) (All-head (IsIntAt ds ts) i is int)
+  abbrev is_of_numbers : Operator → Bool
+  is_of_numbers Add = true
+  is_of_numbers Subtract = true
+  is_of_numbers Multiply = true
+  is_of_numbers Divide = true
+  is_of_numbers Modulo = true
+  is_of_numbers Absolute = true
+  is_of_numbers Divisible = true
+  is_of_numbers _ = false
 
-  no_parts_subtract : (is : List ℕ) (qs : List Atom) (w : (Atom → Bool) → Bool) → HasParts ds ts Subtract is qs w → 0 < length is → All (IsIntAt ds ts) is → ⊥
-  no_parts_subtract _ _ _ (of_bools {is = []} all) l int = omega (arith, l)
-  no_parts_subtract _ _ _ (of_bools {is = i ∷ is} all) l int = not_both i (All-head (IsBoolAt ds ts) i is all) (All-head (IsIntAt ds ts) i is int)
-
-  no_parts_multiply : (is : List ℕ) (qs : List Atom) (w : (Atom → Bool) → Bool) → HasParts ds ts Multiply is qs w → 0 < length is → All (IsIntAt ds ts) is → ⊥
-  no_parts_multiply _ _ _ (of_bools {is = []} all) l int = omega (arith, l)
-  no_parts_multiply _ _ _ (of_bools {is = i ∷ is} all) l int = not_both i (All-head (IsBoolAt ds ts) i is all) (All-head (IsIntAt ds ts) i is int)
+  no_parts_of_ints : (o : Operator) (is : List ℕ) (qs : List Atom) (w : (Atom → Bool) → Bool) → HasParts ds ts o is qs w → is_of_numbers o ≡ true → 0 < length is → All (IsIntAt ds ts) is → ⊥
+  no_parts_of_ints _ _ _ _ (of_bools {is = []} all) e l int = omega (arith, l)
+  no_parts_of_ints _ _ _ _ (of_bools {is = i ∷ is} all) e l int = not_both i (All-head (IsBoolAt ds ts) i is all) (All-head (IsIntAt ds ts) i is int)
+  no_parts_of_ints _ _ _ _ (of_equal all) e l int = absurd cc
+  no_parts_of_ints _ _ _ _ (of_distinct all) e l int = absurd cc
+  no_parts_of_ints _ _ _ _ (of_at_most all) e l int = absurd cc
+  no_parts_of_ints _ _ _ _ (of_less all) e l int = absurd cc
+  no_parts_of_ints _ _ _ _ (of_at_least all) e l int = absurd cc
+  no_parts_of_ints _ _ _ _ (of_greater all) e l int = absurd cc
 
   -- ---- kinds
 
@@ -362,26 +369,47 @@ module _ (ds : List Declaration) (ts : List Tree) where
       let all : All (IsIntAt ds ts) is = ints_of Greater is s k (if_so_true (all_of Ints k.sorts) Truths s k.made) in
       record { just = record { has = of_greater all; only = λ qs w h. only_greater is qs w h all }; fits = refl }
 
-  one_or_more : (o : Operator) (is : List ℕ) (s : Sort) (k : IsSorted ds ts o is s) → nat_le 1 (length k.sorts) ≡ true → 0 < length is
-  one_or_more o is s k h = omega (arith, at_least 1 (length k.sorts) h, count ds ts is k.sorts k.are)
+  -- of an operator on numbers that isn't a comparison, where it takes one argument or more
+  kind_of_ints : (o : Operator) (is : List ℕ) (s r : Sort) (k : IsSorted ds ts o is s) → is_of_numbers o ≡ true → bounds_fit ts o is ≡ true → operator_sort o k.sorts ≡ if_so (all_of Ints k.sorts) r → 0 < length k.sorts
+      → HasNoParts ds ts o is
+  kind_of_ints o is s r k numbers fit sort some = record {
+    without = λ qs w h. no_parts_of_ints o is qs w h numbers (omega (arith, some, count ds ts is k.sorts k.are)) (ints_of o is s k (if_so_true (all_of Ints k.sorts) r s (sym sort ∙ k.made)));
+    fits = fit;
+  }
+
+  -- by how many arguments it takes
+  at_least_one : (n : ℕ) → nat_le 1 n ≡ true → 0 < n
+  at_least_one n h = omega (arith, at_least 1 n h)
+
+  just_one : (n : ℕ) → nat_eq n 1 ≡ true → 0 < n
+  just_one n h = omega (arith, eqb-true n 1 h)
+
+  just_two : (n : ℕ) → nat_eq n 2 ≡ true → 0 < n
+  just_two n h = omega (arith, eqb-true n 2 h)
+
+  just_three : (n : ℕ) → nat_eq n 3 ≡ true → 0 < n
+  just_three n h = omega (arith, eqb-true n 3 h)
 
   pub kind_add : (is : List ℕ) (s : Sort) → IsSorted ds ts Add is s → HasNoParts ds ts Add is
-  kind_add is s k = record {
-    without = λ qs w h. no_parts_add is qs w h (one_or_more Add is s k k.stands) (ints_of Add is s k (if_so_true (all_of Ints k.sorts) Ints s k.made));
-    fits = refl;
-  }
+  kind_add is s k = kind_of_ints Add is s Ints k refl refl refl (at_least_one (length k.sorts) k.stands)
 
   pub kind_subtract : (is : List ℕ) (s : Sort) → IsSorted ds ts Subtract is s → HasNoParts ds ts Subtract is
-  kind_subtract is s k = record {
-    without = λ qs w h. no_parts_subtract is qs w h (one_or_more Subtract is s k k.stands) (ints_of Subtract is s k (if_so_true (all_of Ints k.sorts) Ints s k.made));
-    fits = refl;
-  }
+  kind_subtract is s k = kind_of_ints Subtract is s Ints k refl refl refl (at_least_one (length k.sorts) k.stands)
 
   pub kind_multiply : (is : List ℕ) (s : Sort) → IsSorted ds ts Multiply is s → HasNoParts ds ts Multiply is
-  kind_multiply is s k = record {
-    without = λ qs w h. no_parts_multiply is qs w h (one_or_more Multiply is s k k.stands) (ints_of Multiply is s k (if_so_true (all_of Ints k.sorts) Ints s k.made));
-    fits = refl;
-  }
+  kind_multiply is s k = kind_of_ints Multiply is s Ints k refl refl refl (at_least_one (length k.sorts) k.stands)
+
+  pub kind_divide : (is : List ℕ) (s : Sort) → IsSorted ds ts Divide is s → HasNoParts ds ts Divide is
+  kind_divide is s k = kind_of_ints Divide is s Ints k refl refl refl (just_two (length k.sorts) k.stands)
+
+  pub kind_modulo : (is : List ℕ) (s : Sort) → IsSorted ds ts Modulo is s → HasNoParts ds ts Modulo is
+  kind_modulo is s k = kind_of_ints Modulo is s Ints k refl refl refl (just_three (length k.sorts) k.stands)
+
+  pub kind_absolute : (is : List ℕ) (s : Sort) → IsSorted ds ts Absolute is s → HasNoParts ds ts Absolute is
+  kind_absolute is s k = kind_of_ints Absolute is s Ints k refl refl refl (just_one (length k.sorts) k.stands)
+
+  pub kind_divisible : (is : List ℕ) (s : Sort) → IsSorted ds ts Divisible is s → HasNoParts ds ts Divisible is
+  kind_divisible is s k = kind_of_ints Divisible is s Truths k refl refl refl (just_three (length k.sorts) k.stands)
 
 -- a kind by another operator's name
 pub by_name : (ds : List Declaration) (ts : List Tree) (o p : Operator) (is : List ℕ) (s : Sort) (k : Kind) → p ≡ o → (IsSorted ds ts o is s → IsKind ds ts o is k) → IsSorted ds ts p is s → IsKind ds ts p is k

@@ -1,5 +1,5 @@
 -- From one term to the next, and from one step to the next.
-use Rattle.std.proofs.Common.{◌≡◌, ◌⊎◌, ℕ, suc, ◌<◌, ◌≤◌, ◌+◌, ◌-◌, ◌^◌, ◌==◌, Bool, true, false, List, [], ◌∷◌, ◌++◌, length, map, All, Contains, Option, Some, None, Result, Ok, Err, inl, inr, IfOk, MatchOption, slice_index_or, refl, sym, ap, ◌∙◌, subst, arith}
+use Rattle.std.proofs.Common.{◌≡◌, ℕ, suc, ◌<◌, ◌≤◌, ◌+◌, ◌-◌, ◌^◌, ◌==◌, Bool, true, false, List, [], ◌∷◌, ◌++◌, length, All, Contains, Some, Result, Ok, Err, inl, inr, IfOk, slice_index_or, refl, sym, ap, ◌∙◌, subst, arith}
 use Rattle.std.proofs.lemmas.List.Elements.{All-nil, All-push, All-contains, Contains-get_or}
 use Rattle.std.proofs.lemmas.List.{append_assoc, length-append}
 use Rattle.std.specs.declared.alloc.AllocError.{AllocError}
@@ -9,25 +9,22 @@ use Rattle.smt_meaning.specs.declared.clauses.Literal.{Literal}
 use Rattle.smt_meaning.specs.declared.proof.Step.{Step}
 use Rattle.smt_meaning.specs.Declaration.{Declaration}
 use Rattle.smt_meaning.specs.declared.tokens.Token.{Token}
-use Rattle.smt_meaning.specs.Sexp.{Sexp, Sexps, ◌▸◌, end}
+use Rattle.smt_meaning.specs.Sexp.{Sexp, ◌▸◌, end}
 use Rattle.look_ahead.specs.Ahead.{ahead}
 use Rattle.smt_meaning.specs.Term.{Tree}
-use Rattle.smt_meaning.specs.Nodes.{tree_of}
-use Rattle.smt_meaning.specs.Stack.{Frame, signature_of, assertions_of}
 use Rattle.smt_meaning.specs.Proof.{IsTerm, AreTerms, no_terms, next_term, IsLiteral}
-use Rattle.smt_meaning.specs.ProofRules.{Gives, Runs, no_steps, next_step}
-use Rattle.smt_meaning.specs.ProofReading.{node_read, step_read, lists_of, listed, AreRead, IsWrongNode}
-use Rattle.proof_form.specs.Range.{LeavesRange, RuleLeaves, numbers_fit}
-use Rattle.proof_form.specs.Reads.{IsReadStep, IsNoNode, places_near, numbers_near}
+use Rattle.smt_meaning.specs.ProofRules.{no_steps, next_step}
+use Rattle.smt_meaning.specs.ProofReading.{node_read, step_read, listed, AreRead}
+use Rattle.proof_form.specs.Range.{numbers_fit}
+use Rattle.proof_form.specs.Reads.{IsReadStep, IsNoNode, places_near}
 use Rattle.proof_form.specs.declared.read.ReadStep.TheVariants.{Wrong as ReadWrong, Large as ReadLarge}
 use Rattle.proof_form.specs.Terms.{ProofTerms, with_term}
-use Rattle.proof_form.specs.Kept.{Kept, KeepsAll, AreKept, IsKept, IsCodeOf}
+use Rattle.proof_form.specs.Kept.{Kept, KeepsAll, AreKept, IsKept}
 use Rattle.proof_form.specs.Asserted.{asserted_at}
-use Rattle.proof_form.specs.Comes.{Comes, Stays, AreLiterals, GoesOn}
-use Rattle.proof_form.specs.Found.{IsFound, ComesTo, IsGoodInRange, IsFaultyAt, IsEndless, IsOutsideAt}
-use Rattle.proof_form.specs.Whole.{HasAdded, AreAdded, EndsAt, NodesCome, StepComes, HaveRun, AreRun, IsFaulty, IsOutside, EndsSo, HasEnded, StepsCome, faulty, outside, ended}
+use Rattle.proof_form.specs.Comes.{Comes, Stays, GoesOn}
+use Rattle.proof_form.specs.Whole.{HasAdded, AreAdded, EndsAt, StepComes, AreRun, EndsSo, StepsCome, faulty, outside, ended}
 use Rattle.proof_form.specs.declared.found.Found.{Found}
-use Rattle.proof_form.specs.declared.found.Found.TheVariants.{Yes, Node as WrongNode, No, Range as OutOfRange, NoProof}
+use Rattle.proof_form.specs.declared.found.Found.TheVariants.{No, Range as OutOfRange}
 use Rattle.proof_form.specs.declared.verdict.Verdict.{Verdict}
 use Rattle.proof_form.specs.declared.verdict.Verdict.TheVariants.{Good, Wrong, Range}
 use Rattle.proof_form.proofs.Reading.{read_push, far_is_no_term, far_leaves_not, far_gives_not}

@@ -22,6 +22,7 @@ pub mod TermForms
 pub mod TermHeldLemmas
 pub mod TermFiling
 pub mod TermEntering
+pub mod TermDivisions
 pub mod TermBounds
 pub mod ClausesCodes
 pub mod ClausesPlaces

@@ -1,6 +1,6 @@
 -- A term that joins the terms of a proof.
-use Rattle.std.proofs.Common.{◌≡◌, ◌⊎◌, inl, inr, ℕ, ◌+◌, ◌<◌, ◌&&◌, false, List, [], ◌∷◌, ◌++◌, length, take, All, refl, ap, sym, subst, ◌∙◌, arith}
-use Rattle.std.specs.Prelude.{Some, None}
+use Rattle.std.proofs.Common.{◌≡◌, inl, inr, ℕ, ◌+◌, ◌<◌, ◌&&◌, true, List, [], ◌∷◌, ◌++◌, length, take, All, refl, ap, sym, subst, ◌∙◌, arith}
+use Rattle.std.specs.Prelude.{Some}
 use Rattle.std.proofs.lemmas.List.{take_all, take-append-le, take_at}
 use Rattle.smt_meaning.specs.declared.values.Sort.{Sort}
 use Rattle.smt_meaning.specs.declared.terms.Head.{Head}
@@ -8,16 +8,16 @@ use Rattle.smt_meaning.specs.declared.nodes.Node.{Node}
 use Rattle.smt_meaning.specs.Declaration.{Declaration}
 use Rattle.smt_meaning.specs.Term.{Tree, node}
 use Rattle.smt_meaning.specs.TreeShape.{is_constant_head}
-use Rattle.smt_meaning.specs.Signature.{head_sort}
 use Rattle.smt_meaning.specs.Nodes.{pick, tree_of, trees_of}
 use Rattle.smt_meaning.specs.Proof.{IsTerm, no_terms}
+use Rattle.smt_laws.proofs.Both.{and_left, and_right, and_both}
 use Rattle.term_store.specs.Terms.{tree_with}
 use Rattle.linear_forms.specs.Table.{AreForms}
 use Rattle.linear_forms.proofs.Growing.{within}
 use Rattle.proof_form.specs.declared.terms_facts.Fact.{Fact}
 use Rattle.proof_form.specs.declared.terms_table.TermTable.{TermTable}
-use Rattle.proof_form.specs.TermFacts.{facts_at, places_at, sorts_of, all_constant, is_linear_here, held_of}
-use Rattle.proof_form.specs.TermTable.{IsHeldPlace, AreFiled, IsInterned, IsEntered, IsTable, CanEnter}
+use Rattle.proof_form.specs.TermFacts.{facts_at, places_at, all_constant, is_linear_here, divides_at, held_of}
+use Rattle.proof_form.specs.TermTable.{IsHeldPlace, IsNoTerm, AreFiled, IsInterned, IsEntered, IsTable, CanEnter}
 use Rattle.proof_form.proofs.TermFiling.{AreFactsOf, sort_is, constant_is, linear_is, held_within, held_is, picked, gathered_below, gathered, trees_count, filed_more}
 
 -- ---- a tree that is taken away again
@@ -47,17 +47,24 @@ nothing_filed ds hs ns places us facts a b c d =
 
 -- ---- a term that is none
 
-pub no_term : (ds : List Declaration) (hs : List Tree) (ns : List Node) (places : List ℕ) (us : List Tree) (facts : List Fact) (head : Head) (is : List ℕ) (fs : List Fact) → AreFiled ds hs ns places us facts
-    → All (λ i. i < length ns) is → fs ≡ facts_at facts (places_at places is) → (head_sort ds head (sorts_of fs) ≡ None) ⊎ (is_linear_here head fs ≡ false)
-    → IsTerm ds (trees_of ns) (record { head = head; arguments = is }) → ⊥
-no_term ds hs ns places us facts head is fs filed below e none term = by none
+pub no_term : (ds : List Declaration) (hs : List Tree) (ns : List Node) (places : List ℕ) (us : List Tree) (facts : List Fact) (head : Head) (is seen : List ℕ) (fs : List Fact) → AreFiled ds hs ns places us facts
+    → All (λ i. i < length ns) is → seen ≡ places_at places is → fs ≡ facts_at facts (places_at places is) → IsNoTerm ds us head seen fs → IsTerm ds (trees_of ns) (record { head = head; arguments = is }) → ⊥
+no_term ds hs ns places us facts head is seen fs filed below p e none term = by none
   where
     facts_are : AreFactsOf ds hs (trees_of ns) (pick (trees_of ns) is) fs
     facts_are = subst (AreFactsOf ds hs (trees_of ns) (pick (trees_of ns) is)) (sym e) (gathered ds hs ns places us facts filed is below)
 
-    by : (head_sort ds head (sorts_of fs) ≡ None) ⊎ (is_linear_here head fs ≡ false) → ⊥
+    linear : (is_linear_here head fs && divides_at head (pick (trees_of ns) is)) ≡ true
+    linear = sym (linear_is ds hs (trees_of ns) head (pick (trees_of ns) is) fs facts_are) ∙ term.linear
+
+    by : IsNoTerm ds us head seen fs → ⊥
     by (inl h) = let s = sort_is ds hs (trees_of ns) head (pick (trees_of ns) is) fs facts_are in let t = term.has_sort in cc
-    by (inr h) = let s = linear_is ds hs (trees_of ns) head (pick (trees_of ns) is) fs facts_are in let t = term.linear in cc
+    by (inr (inl h)) = let l = and_left (is_linear_here head fs) (divides_at head (pick (trees_of ns) is)) linear in cc
+    by (inr (inr h)) =
+        let l = and_right (is_linear_here head fs) (divides_at head (pick (trees_of ns) is)) linear in
+        let same : pick us seen ≡ pick (trees_of ns) is = ap (pick us) p ∙ picked ds hs ns places us facts filed is below in
+        let s : divides_at head (pick us seen) ≡ divides_at head (pick (trees_of ns) is) = ap (divides_at head) same in
+        cc
 
 -- ---- one that is
 
@@ -80,16 +87,22 @@ module _ (ds : List Declaration) (hs : List Tree) (t : TermTable) (head : Head) 
   pub seen_below : All (λ p. p < length us) t.arguments.places.items
   seen_below = subst (All (λ p. p < length us)) (sym can.places) (gathered_below ds hs t.nodes t.places.items us t.distinct.facts.items can.table.filed is can.below)
 
+  same_arguments : pick us t.arguments.places.items ≡ pick trees is
+  same_arguments = ap (pick us) can.places ∙ picked ds hs t.nodes t.places.items us t.distinct.facts.items can.table.filed is can.below
+
+  divides_too : divides_at head (pick trees is) ≡ true
+  divides_too = ap (divides_at head) (sym same_arguments) ∙ can.may.divides
+
   pub term_is : IsTerm ds trees new_node
   term_is = record {
     earlier = subst (λ n. All (λ i. i < n) is) (sym (trees_count ds hs t.nodes t.places.items us t.distinct.facts.items can.table.filed)) can.below;
     sort = sort;
-    has_sort = sort_is ds hs trees head (pick trees is) t.arguments.facts.items facts_are ∙ can.sort_is;
-    linear = linear_is ds hs trees head (pick trees is) t.arguments.facts.items facts_are ∙ can.linear;
+    has_sort = sort_is ds hs trees head (pick trees is) t.arguments.facts.items facts_are ∙ can.may.sort_is;
+    linear = linear_is ds hs trees head (pick trees is) t.arguments.facts.items facts_are ∙ and_both (is_linear_here head t.arguments.facts.items) (divides_at head (pick trees is)) can.may.linear divides_too;
   }
 
   same_tree : tree_with us head t.arguments.places.items ≡ tree_of trees new_node
-  same_tree = ap (λ ps. node head (pick us ps)) can.places ∙ ap (node head) (picked ds hs t.nodes t.places.items us t.distinct.facts.items can.table.filed is can.below)
+  same_tree = ap (node head) same_arguments
 
   forms_kept : (vs : List Tree) (new : List Fact) (v : Tree) (f : Fact) (p : ℕ) → IsInterned us t.distinct.facts.items vs new v f p → AreForms (take (length t.forms) vs) t.forms
   forms_kept vs new v f p (inl i) = subst (λ (xs : List Tree). AreForms (take (length t.forms) xs) t.forms) (sym i.1) can.table.forms
@@ -102,7 +115,7 @@ module _ (ds : List Declaration) (hs : List Tree) (t : TermTable) (head : Head) 
     filed_as : (p : ℕ) (vs : List Tree) (new : List Fact) → IsInterned us t.distinct.facts.items vs new (tree_of trees new_node) f p → AreFiled ds hs (t.nodes ++ new_node ∷ []) (t.places.items ++ p ∷ []) vs new
     filed_as p vs new i =
         filed_more ds hs t.nodes t.places.items us t.distinct.facts.items can.table.filed new_node term_is can.room f
-        (sort_is ds hs trees head (pick trees is) t.arguments.facts.items facts_are ∙ can.sort_is ∙ ap Some (sym sort_kept))
+        (sort_is ds hs trees head (pick trees is) t.arguments.facts.items facts_are ∙ can.may.sort_is ∙ ap Some (sym sort_kept))
         (constant_is ds hs trees head (pick trees is) t.arguments.facts.items facts_are ∙ sym constant)
         first
         (held_is ds hs trees head (pick trees is) t.arguments.facts.items facts_are f.held can.table.complete (subst (λ (xs : List Tree). IsHeldPlace xs head (held_of t.arguments.facts.items) f.held) can.table.held held))

@@ -19,7 +19,7 @@ use Rattle.smt_laws.proofs.Both.{and_both}
 use Rattle.term_store.specs.Terms.{IsPlace, IsNew, AreComplete}
 use Rattle.term_store.proofs.NodeLemmas.{trees_of-push, length-trees_of, AreDifferent-push}
 use Rattle.proof_form.specs.declared.terms_facts.Fact.{Fact}
-use Rattle.proof_form.specs.TermFacts.{fact_past, fact_at, facts_at, places_at, sorts_of, all_constant, one_varies, is_linear_here, with_held, held_of, IsFact}
+use Rattle.proof_form.specs.TermFacts.{fact_past, fact_at, facts_at, places_at, sorts_of, all_constant, one_varies, is_linear_here, divides_at, with_held, held_of, IsFact}
 use Rattle.proof_form.specs.TermTable.{IsHeldPlace, AreFiled, IsInterned}
 use Rattle.proof_form.proofs.TermHeldLemmas.{AllAmong, arguments_among, not_among_new}
 
@@ -58,8 +58,12 @@ module _ (ds : List Declaration) (hs ts : List Tree) where
   linear_are (more v vs) [] a = absurd a
   linear_are (more v vs) (f ∷ fs) a = and_both (is_linear v) (are_linear vs) a.0.linear (linear_are vs fs a.1)
 
-  linear_here_is : (h : Head) (vs : Trees) (fs : List Fact) → AreFactsOf ds hs ts vs fs → is_linear_at h vs ≡ is_linear_here h fs
-  linear_here_is (Theory Multiply) vs fs a = one_varies_is vs fs a
+  with_true : (b : Bool) → b ≡ (b && true)
+  with_true true = refl
+  with_true false = refl
+
+  linear_here_is : (h : Head) (vs : Trees) (fs : List Fact) → AreFactsOf ds hs ts vs fs → is_linear_at h vs ≡ (is_linear_here h fs && divides_at h vs)
+  linear_here_is (Theory Multiply) vs fs a = one_varies_is vs fs a ∙ with_true (one_varies fs)
   linear_here_is (Theory o) vs fs a = refl
   linear_here_is (Numeral n) vs fs a = refl
   linear_here_is (Symbol f) vs fs a = refl
@@ -88,12 +92,8 @@ module _ (ds : List Declaration) (hs ts : List Tree) where
     pub constant_is : is_constant (node h vs) ≡ (is_constant_head h && all_constant fs)
     constant_is = ap (λ b. is_constant_head h && b) (constant_are vs fs a)
 
-    pub linear_is : is_linear (node h vs) ≡ is_linear_here h fs
-    linear_is = ap (λ b. is_linear_at h vs && b) (linear_are vs fs a) ∙ with_true (is_linear_at h vs) ∙ linear_here_is h vs fs a
-      where
-        with_true : (b : Bool) → (b && true) ≡ b
-        with_true true = refl
-        with_true false = refl
+    pub linear_is : is_linear (node h vs) ≡ (is_linear_here h fs && divides_at h vs)
+    linear_is = ap (λ b. is_linear_at h vs && b) (linear_are vs fs a) ∙ sym (with_true (is_linear_at h vs)) ∙ linear_here_is h vs fs a
 
     pub held_within : (is : List ℕ) → held_of fs ≡ Some is → All (λ i. i < length hs) is
     held_within is e = (subst (HaveHeld vs) e (have_held vs fs a)).1

@@ -1,5 +1,5 @@
 -- What a step comes to.
-use Rattle.std.specs.Prelude.{◌≡◌, ◌++◌, ◌∷◌, [], List, All}
+use Rattle.std.specs.Prelude.{◌++◌, ◌∷◌, [], List, All}
 use Rattle.smt_meaning.specs.declared.clauses.Literal.{Literal}
 use Rattle.smt_meaning.specs.declared.proof.Step.{Step}
 use Rattle.smt_meaning.specs.Term.{Tree}

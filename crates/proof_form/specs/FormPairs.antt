@@ -1,5 +1,5 @@
 -- The pairs of the arguments of a `distinct`: where each comes first in their list, and first in the list from its end.
-use Rattle.std.specs.Prelude.{◌≡◌, ◌≢◌, ◌<◌, ◌+◌, ◌-◌, ◌*◌, ℕ, true, false, Option, Some, None, List, length, All, AllPairs, Contains, slice_index_or}
+use Rattle.std.specs.Prelude.{◌≡◌, ◌≢◌, ◌<◌, ◌+◌, ◌-◌, ◌*◌, ℕ, true, Option, Some, None, List, length, All, AllPairs, Contains, slice_index_or}
 use Rattle.smt_meaning.specs.declared.clauses.Atom.{Atom}
 use Rattle.smt_meaning.specs.declared.clauses.Atom.TheVariants.{Truth, AtMost, Same}
 use Rattle.smt_meaning.specs.declared.clauses.Literal.{Literal}

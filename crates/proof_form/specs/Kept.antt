@@ -1,11 +1,9 @@
 -- How clauses are kept: each as an ascending list of the codes of its literals, where atoms have numbers.
-use Rattle.std.specs.Prelude.{◌≡◌, ◌<◌, ◌+◌, ◌*◌, ◌/◌, zero, suc, ℕ, Bool, true, false, List, [], ◌∷◌, ◌++◌, length, map, All, AllPairs, Contains, slice_index_or, refl}
+use Rattle.std.specs.Prelude.{◌≡◌, ◌<◌, ◌+◌, ◌*◌, ℕ, Bool, true, false, List, [], ◌∷◌, ◌++◌, length, AllPairs, Contains, slice_index_or, refl}
 use Rattle.std.specs.Coded.{Coded, code_by, coded×, coded_list, coded_ℕ}
 use Rattle.smt_meaning.specs.contracts.clauses.Atom as atom_type
 use Rattle.smt_meaning.specs.declared.clauses.Atom.{Atom}
-use Rattle.smt_meaning.specs.declared.clauses.Atom.TheVariants.{Truth}
 use Rattle.smt_meaning.specs.declared.clauses.Literal.{Literal}
-use Rattle.smt_meaning.specs.Proof.{literal}
 
 -- the atoms by their numbers, and the clauses by the numbers of their steps
 pub record Kept : Type 0 where

@@ -1,5 +1,5 @@
 -- Where the numbers of a step of a proof leave the range from -(2^127 - 1) to 2^127 - 1.
-use Rattle.std.specs.Prelude.{◌≡◌, ◌⊎◌, ◌<◌, ◌/◌, ◌^◌, zero, suc, ℕ, ℤ, pos, Bool, true, false, ◌&&◌, List, [], ◌∷◌, ◌++◌, length, All, Option, Some, None, nat_eq, nat_lt, if◌then◌else◌}
+use Rattle.std.specs.Prelude.{◌≡◌, ◌⊎◌, ◌<◌, ◌/◌, zero, suc, ℕ, ℤ, pos, Bool, true, false, ◌&&◌, List, [], ◌∷◌, ◌++◌, length, All, Option, Some, None, nat_eq, if◌then◌else◌}
 use Rattle.fraction128.specs.Whole.{is_in_range, first_outside}
 use Rattle.fraction128.specs.Gcd.{gcd_of}
 use Rattle.fraction128.specs.declared.ratio.Ratio.{Ratio}
@@ -11,17 +11,16 @@ use Rattle.smt_meaning.specs.declared.terms.Operator.TheVariants.{AtMost as IsAt
 use Rattle.smt_meaning.specs.declared.nodes.Node.{Node}
 use Rattle.smt_meaning.specs.declared.clauses.Summand.{Summand}
 use Rattle.smt_meaning.specs.declared.clauses.Atom.{Atom}
-use Rattle.smt_meaning.specs.declared.clauses.Atom.TheVariants.{Truth, AtMost, Same}
+use Rattle.smt_meaning.specs.declared.clauses.Atom.TheVariants.{AtMost}
 use Rattle.smt_meaning.specs.declared.clauses.Literal.{Literal}
 use Rattle.smt_meaning.specs.declared.proof.Weighted.{Weighted}
 use Rattle.smt_meaning.specs.declared.proof.Step.{Step}
-use Rattle.smt_meaning.specs.declared.proof.Step.TheVariants.{Assert, Form as FormStep, Pick, Euclid, Refl, Sym, Trans, Cong, Truth as TruthStep, Both, Neither, Link, Round, Farkas, Res}
+use Rattle.smt_meaning.specs.declared.proof.Step.TheVariants.{Form as FormStep, Link, Round, Farkas, Res}
 use Rattle.smt_meaning.specs.Declaration.{Declaration}
 use Rattle.smt_meaning.specs.Term.{Tree, tree_at}
 use Rattle.smt_meaning.specs.Linear.{Form, sum_fits, form_fits}
 use Rattle.smt_meaning.specs.Proof.{node_at, IsIntAt, IsLiteral}
 use Rattle.smt_meaning.specs.ProofRules.{false_bound}
-use Rattle.linear_forms.specs.Differences.{difference_fits}
 use Rattle.pair_bounds.specs.Pairs.{at_most_fits, below_fits}
 
 -- ---- numbers that are written

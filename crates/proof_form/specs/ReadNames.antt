@@ -1,5 +1,7 @@
 -- The names of steps and atoms.
 use Rattle.std.specs.Prelude.{ℕ, List, [], ◌∷◌, Option, codes}
+use Rattle.smt_meaning.specs.declared.terms.Operator.{Operator}
+use Rattle.smt_meaning.specs.declared.terms.Operator.TheVariants as operator
 use Rattle.smt_meaning.specs.declared.clauses.Atom.{Atom}
 use Rattle.smt_meaning.specs.declared.proof.Step.{Step}
 use Rattle.smt_meaning.specs.declared.proof.Step.TheVariants as Rule
@@ -10,14 +12,29 @@ use Rattle.proof_form.specs.declared.read_names.StepName.TheVariants.{Assert, Fo
 use Rattle.proof_form.specs.declared.read_names.AtomName.{AtomName}
 use Rattle.proof_form.specs.declared.read_names.AtomName.TheVariants.{Truth as IsTruth, Same, AtMost}
 
+-- the names of steps, in three parts
+abbrev pub last_step_names : List (List ℕ × StepName)
+last_step_names = (codes "none", Neither) ∷ (codes "link", Link) ∷ (codes "round", Round) ∷ (codes "farkas", Farkas) ∷ (codes "res", Res) ∷ []
+
+abbrev pub later_step_names : List (List ℕ × StepName)
+later_step_names = (codes "sym", Sym) ∷ (codes "trans", Trans) ∷ (codes "cong", Cong) ∷ (codes "truth", Truth) ∷ (codes "both", Both) ∷ last_step_names
+
 abbrev pub step_names : List (List ℕ × StepName)
-step_names =
-    (codes "assert", Assert) ∷ (codes "form", Form) ∷ (codes "pick", Pick) ∷ (codes "euclid", Euclid) ∷ (codes "refl", Refl)
-    ∷ (codes "sym", Sym) ∷ (codes "trans", Trans) ∷ (codes "cong", Cong) ∷ (codes "truth", Truth) ∷ (codes "both", Both)
-    ∷ (codes "none", Neither) ∷ (codes "link", Link) ∷ (codes "round", Round) ∷ (codes "farkas", Farkas) ∷ (codes "res", Res) ∷ []
+step_names = (codes "assert", Assert) ∷ (codes "form", Form) ∷ (codes "pick", Pick) ∷ (codes "euclid", Euclid) ∷ (codes "refl", Refl) ∷ later_step_names
 
 abbrev pub atom_names : List (List ℕ × AtomName)
 atom_names = (codes "t", IsTruth) ∷ (codes "s", Same) ∷ (codes "le", AtMost) ∷ []
+
+-- the last names of operators
+abbrev pub number_operators : List (List ℕ × Operator)
+number_operators =
+    (codes "+", operator.Add) ∷ (codes "-", operator.Subtract) ∷ (codes "*", operator.Multiply) ∷ (codes "<=", operator.AtMost) ∷ (codes "<", operator.Less)
+    ∷ (codes ">=", operator.AtLeast) ∷ (codes ">", operator.Greater) ∷ []
+
+abbrev pub later_operators : List (List ℕ × Operator)
+later_operators =
+    (codes "xor", operator.Xor) ∷ (codes "=>", operator.Implies) ∷ (codes "=", operator.Equal) ∷ (codes "distinct", operator.Distinct) ∷ (codes "ite", operator.Ite)
+    ∷ number_operators
 
 -- how what follows the name of a step is read
 abbrev pub step_form : StepName → Sexps → Option Step

@@ -1,5 +1,5 @@
 -- What is read at a place among the tokens of a proof.
-use Rattle.std.specs.Prelude.{◌≡◌, ◌<◌, ◌^◌, ℕ, Bool, true, false, ◌&&◌, List, [], ◌∷◌, All, Some, None, nat_lt}
+use Rattle.std.specs.Prelude.{◌≡◌, ◌^◌, ℕ, Bool, true, false, ◌&&◌, List, [], ◌∷◌, Some, nat_lt}
 use Rattle.smt_meaning.specs.declared.tokens.Token.{Token}
 use Rattle.smt_meaning.specs.declared.nodes.Node.{Node}
 use Rattle.smt_meaning.specs.declared.clauses.Summand.{Summand}
@@ -10,7 +10,7 @@ use Rattle.smt_meaning.specs.declared.proof.Weighted.{Weighted}
 use Rattle.smt_meaning.specs.declared.proof.Step.{Step}
 use Rattle.smt_meaning.specs.declared.proof.Step.TheVariants.{Assert, Form as FormStep, Pick, Euclid, Refl, Sym, Trans, Cong, Truth as TruthStep, Both, Neither, Link, Round, Farkas, Res}
 use Rattle.smt_meaning.specs.Declaration.{Declaration}
-use Rattle.smt_meaning.specs.Sexp.{Sexp, Sexps, ◌▸◌, end}
+use Rattle.smt_meaning.specs.Sexp.{Sexp, ◌▸◌}
 use Rattle.smt_meaning.specs.ProofReading.{node_read, step_read}
 use Rattle.look_ahead.specs.Ahead.{ahead}
 use Rattle.proof_form.specs.Range.{numbers_fit}

@@ -1,13 +1,14 @@
 -- What is kept of the different trees of a proof's terms.
-use Rattle.std.specs.Prelude.{◌≡◌, ◌<◌, ◌+◌, ◌^◌, ◌&&◌, ℕ, Bool, true, false, List, [], ◌∷◌, map, length, slice_index, slice_index_or, if◌then◌else◌, Option, Some, None, MatchOption}
+use Rattle.std.specs.Prelude.{◌≡◌, ◌<◌, ◌+◌, ◌^◌, ◌&&◌, ℕ, Bool, true, false, not, pos, List, [], ◌∷◌, map, length, slice_index, slice_index_or, if◌then◌else◌, Option, Some, None, MatchOption}
 use Rattle.smt_meaning.specs.declared.values.Sort.{Sort}
 use Rattle.smt_meaning.specs.declared.values.Sort.TheVariants.{Bool as Truths}
 use Rattle.smt_meaning.specs.declared.terms.Head.{Head}
-use Rattle.smt_meaning.specs.declared.terms.Head.TheVariants.{Theory}
-use Rattle.smt_meaning.specs.declared.terms.Operator.TheVariants.{Multiply}
+use Rattle.smt_meaning.specs.declared.terms.Head.TheVariants.{Numeral, Theory}
+use Rattle.smt_meaning.specs.declared.terms.Operator.TheVariants.{Subtract, Multiply, Divide, Modulo, Divisible}
+use Rattle.smt_meaning.specs.declared.nodes.Node.{Node}
 use Rattle.smt_meaning.specs.Declaration.{Declaration}
-use Rattle.smt_meaning.specs.Term.{Tree}
-use Rattle.smt_meaning.specs.TreeShape.{is_constant, is_linear, place_of}
+use Rattle.smt_meaning.specs.Term.{Tree, Trees, node, none, more, int_eq}
+use Rattle.smt_meaning.specs.TreeShape.{is_constant, is_linear, is_quotient, has_quotient, place_of}
 use Rattle.smt_meaning.specs.Signature.{tree_sort}
 use Rattle.term_store.specs.Terms.{IsPlace, IsNew}
 use Rattle.proof_form.specs.declared.terms_facts.Fact.{Fact}
@@ -46,6 +47,26 @@ one_varies (f ∷ fs) = if f.constant then one_varies fs else all_constant fs
 abbrev pub is_linear_here : Head → List Fact → Bool
 is_linear_here (Theory Multiply) fs = one_varies fs
 is_linear_here _ fs = true
+
+abbrev pub plain_node : Head → List ℕ → Node
+plain_node h is = record { head = h; arguments = is }
+
+-- a numeral other than 0
+abbrev pub is_nonzero : Tree → Bool
+is_nonzero (node (Numeral n) none) = not (int_eq n (pos 0))
+is_nonzero t = false
+
+-- the negation of one
+abbrev pub is_negation : Tree → Bool
+is_negation (node (Theory Subtract) (more t none)) = is_nonzero t
+is_negation t = false
+
+-- as a division of these arguments, a term is as in a tree
+abbrev pub divides_at : Head → Trees → Bool
+divides_at (Theory Divide) us = is_quotient us
+divides_at (Theory Modulo) us = has_quotient us
+divides_at (Theory Divisible) us = has_quotient us
+divides_at _ us = true
 
 -- one place more, if there are all
 abbrev pub with_held : Option ℕ → Option (List ℕ) → Option (List ℕ)

@@ -1,5 +1,5 @@
 -- The terms of a proof as they are kept: the different trees that they have are filed once, in the order of their first terms.
-use Rattle.std.specs.Prelude.{◌≡◌, ◌⊎◌, ◌<◌, ◌+◌, ◌^◌, All, ◌++◌, ◌∷◌, [], ℕ, List, length, take, slice_index, Option, Some, None, MatchOption, true, ℤ, Bool}
+use Rattle.std.specs.Prelude.{◌≡◌, ◌⊎◌, ◌<◌, ◌+◌, ◌^◌, All, ◌++◌, ◌∷◌, [], ℕ, List, length, take, slice_index, Option, Some, None, MatchOption, true, false, ℤ, Bool}
 use Rattle.fraction128.specs.Whole.{InRange}
 use Rattle.smt_meaning.specs.declared.terms.Head.{Head}
 use Rattle.smt_meaning.specs.declared.nodes.Node.{Node}
@@ -11,13 +11,13 @@ use Rattle.smt_meaning.specs.Signature.{head_sort}
 use Rattle.smt_meaning.specs.Declaration.{Declaration}
 use Rattle.smt_meaning.specs.Term.{Tree, tree_at}
 use Rattle.smt_meaning.specs.Linear.{sum_fits}
-use Rattle.smt_meaning.specs.Nodes.{trees_of}
+use Rattle.smt_meaning.specs.Nodes.{pick, trees_of}
 use Rattle.smt_meaning.specs.Proof.{AreTerms}
 use Rattle.term_store.specs.Terms.{tree_with, IsPlace, IsNew, AreDifferent, AreComplete}
 use Rattle.linear_forms.specs.Table.{AreForms}
 use Rattle.proof_form.specs.declared.terms_facts.Fact.{Fact}
 use Rattle.proof_form.specs.declared.terms_table.TermTable.{TermTable}
-use Rattle.proof_form.specs.TermFacts.{fact_at, facts_at, places_at, sorts_of, is_linear_here, IsFact}
+use Rattle.proof_form.specs.TermFacts.{fact_at, facts_at, places_at, sorts_of, is_linear_here, divides_at, IsFact}
 use Rattle.proof_form.specs.TermRenaming.{first_at, renamed_bound}
 
 -- the place of a term among these, if it is one of them, where its arguments have these places, or one of them has none
@@ -56,15 +56,24 @@ pub record IsEntered (ns : List Node) (places : List ℕ) (us : List Tree) (fact
   pub nodes : ms ≡ ns ++ record { head = head; arguments = arguments } ∷ []
   pub places_are : more' ≡ places ++ place ∷ []
 
--- a term with this head and these arguments may join the terms: it has this sort, and as a product it is linear, by what was gathered of its arguments
+-- a term with this head, and arguments at these places of which this is kept, has this sort, as a product it is linear, and as a division it is as in a tree
+pub record MayBeTerm (ds : List Declaration) (us : List Tree) (head : Head) (places : List ℕ) (facts : List Fact) (sort : Sort) : Type 0 where
+  pub sort_is : head_sort ds head (sorts_of facts) ≡ Some sort
+  pub linear : is_linear_here head facts ≡ true
+  pub divides : divides_at head (pick us places) ≡ true
+
+-- it isn't so
+abbrev pub IsNoTerm : List Declaration → List Tree → Head → List ℕ → List Fact → Type 0
+IsNoTerm ds us head places facts = (head_sort ds head (sorts_of facts) ≡ None) ⊎ (is_linear_here head facts ≡ false) ⊎ (divides_at head (pick us places) ≡ false)
+
+-- a term with this head and these arguments may join the terms, by what was gathered of its arguments
 pub record CanEnter (ds : List Declaration) (hs : List Tree) (t : TermTable) (head : Head) (arguments : List ℕ) (sort : Sort) : Type 0 where
   pub table : IsTable ds hs t
   pub room : length t.nodes + 1 < 2 ^ 32
   pub below : All (λ i. i < length t.nodes) arguments
   pub places : t.arguments.places.items ≡ places_at t.places.items arguments
   pub facts : t.arguments.facts.items ≡ facts_at t.distinct.facts.items (places_at t.places.items arguments)
-  pub sort_is : head_sort ds head (sorts_of t.arguments.facts.items) ≡ Some sort
-  pub linear : is_linear_here head t.arguments.facts.items ≡ true
+  pub may : MayBeTerm ds t.distinct.store.trees head t.arguments.places.items t.arguments.facts.items sort
 
 -- by some signature, beside the terms of some stack
 pub record MayEnter (t : TermTable) (head : Head) (arguments : List ℕ) (sort : Sort) : Type 0 where

@@ -1,5 +1,5 @@
 -- The terms of a proof as they are kept.
-use Rattle.std.specs.Prelude.{◌≡◌, ◌++◌, ◌∷◌, [], ℕ, List, true, false, ℤ, refl}
+use Rattle.std.specs.Prelude.{◌≡◌, ◌++◌, ◌∷◌, [], List, true, ℤ, refl}
 use Rattle.std.specs.Coded.{Coded, code_by, coded×, coded_list}
 use Rattle.smt_meaning.specs.contracts.nodes.Node as node_type
 use Rattle.smt_meaning.specs.DeclarationCode.{coded_declaration}

@@ -1,22 +1,33 @@
 -- A proof from its first term to its last step.
-use Rattle.std.specs.Prelude.{◌≡◌, ℕ, Bool, true, false, List, [], ◌∷◌, ◌++◌, length, All, Option, Some, None}
+use Rattle.std.specs.Prelude.{◌≡◌, ◌≤◌, ℕ, Bool, true, false, List, [], ◌∷◌, ◌++◌, length, All, Option, Some, None}
 use Rattle.smt_meaning.specs.declared.nodes.Node.{Node}
 use Rattle.smt_meaning.specs.declared.clauses.Literal.{Literal}
 use Rattle.smt_meaning.specs.declared.proof.Step.{Step}
 use Rattle.smt_meaning.specs.Declaration.{Declaration}
-use Rattle.smt_meaning.specs.Sexp.{Sexp, Sexps}
+use Rattle.smt_meaning.specs.declared.tokens.Token.{Token}
+use Rattle.smt_meaning.specs.Sexp.{Sexp, sexp}
 use Rattle.smt_meaning.specs.Term.{Tree}
 use Rattle.smt_meaning.specs.Proof.{IsTerm, AreTerms}
 use Rattle.smt_meaning.specs.ProofRules.{Runs}
-use Rattle.smt_meaning.specs.ProofReading.{node_read, step_read, listed, AreRead}
+use Rattle.smt_meaning.specs.ProofReading.{node_read, step_read, lists_of, AreRead}
+use Rattle.look_ahead.specs.Ahead.{ahead}
+use Rattle.proof_form.specs.declared.read.ListPlaces.{ListPlaces}
 use Rattle.proof_form.specs.Range.{LeavesRange}
 use Rattle.proof_form.specs.Terms.{ProofTerms, with_term}
 use Rattle.proof_form.specs.Kept.{Kept, KeepsAll}
 use Rattle.proof_form.specs.Comes.{Comes, Stays, AreLiterals}
 use Rattle.proof_form.specs.declared.found.Found.{Found}
-use Rattle.proof_form.specs.declared.found.Found.TheVariants.{Yes, Node as WrongNode, No, Range as OutOfRange, NoProof}
+use Rattle.proof_form.specs.declared.found.Found.TheVariants.{Yes, No, Range as OutOfRange}
 use Rattle.proof_form.specs.declared.verdict.Verdict.{Verdict}
 use Rattle.proof_form.specs.declared.verdict.Verdict.TheVariants.{Good, Wrong, Range}
+
+-- ---- the two lists of a proof
+
+-- its lists of terms and of steps begin at these places
+pub record AreLists (ts : List Token) (places : ListPlaces) : Type 0 where
+  pub read : lists_of (sexp ts) ≡ Some (ahead ts places.terms, ahead ts places.steps)
+  pub terms : places.terms ≤ length ts
+  pub steps : places.steps ≤ length ts
 
 -- ---- terms
 

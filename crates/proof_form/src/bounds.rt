@@ -3,10 +3,11 @@ ghost use Rattle.std.specs.Prelude.{◌≡◌, ◌<◌, ◌↔◌, ◌++◌, ◌
 ghost use Rattle.smt_meaning.specs.declared.clauses.Literal.{Literal as LiteralValue};
 ghost use Rattle.smt_meaning.specs.declared.proof.Step.TheVariants.{Link, Round};
 ghost use Rattle.smt_meaning.specs.Term.{Tree};
-ghost use Rattle.smt_meaning.specs.Proof.{AreTerms, IsIntAt};
-ghost use Rattle.smt_meaning.specs.ProofRules.{link_clause};
+ghost use Rattle.smt_meaning.specs.Proof.{AreTerms, IsIntAt, literal};
+ghost use Rattle.smt_meaning.specs.declared.clauses.Atom.TheVariants.{Same};
+ghost use Rattle.smt_meaning.specs.ProofRules.{link_clause, folded_bound};
 ghost use Rattle.proof_form.specs.Comes.{Comes};
-ghost use Rattle.proof_form.specs.Range.{numbers_fit, atom_fits, link_fits};
+ghost use Rattle.proof_form.specs.Range.{numbers_fit, atom_fits, link_fits, not_above_fits};
 ghost use Rattle.proof_form.specs.Kept.{KeepsAll};
 ghost use Rattle.proof_form.specs.BoundCodes.{HaveJoined, LinksInts, IsDivided, round_clause};
 
@@ -59,6 +60,29 @@ fn push_both(
     Ok(true)
 }
 
+/// Adds the codes of the clause that equal terms are within a bound: the difference of two others. `false`: folding it leaves the range.
+fn push_one(
+    alloc: Global,
+    terms: &mut Terms<'_>,
+    clauses: &mut Clauses,
+    codes: &mut Vec<u32>,
+    one: TermId,
+    other: TermId,
+    left: TermId,
+    right: TermId,
+) -> Result<bool, AllocError>
+    requires left { left < length terms.old.nodes }
+    requires right { right < length terms.old.nodes }
+    ensures fits { result ≡ Ok true → not_above_fits terms.old.trees left right ≡ true }
+    ensures joined { result ≡ Ok true → HaveJoined clauses.old clauses.new codes.old.items codes.new.items
+        (literal false (Same one other) ∷ literal true (folded_bound terms.old.trees left right) ∷ []) }
+    ensures outside { result ≡ Ok false → not_above_fits terms.old.trees left right ≡ false }
+    ensures same { terms.new ≡ terms.old }
+{
+    push_same(clauses, codes, false, one, other)?;
+    push_difference(alloc, terms, clauses, codes, true, left, right)
+}
+
 /// Adds the codes of the clause of a link. `false`: folding a difference leaves the range.
 fn push_link(
     alloc: Global,
@@ -79,11 +103,10 @@ fn push_link(
     if which > 1 {
         return push_both(alloc, terms, clauses, codes, left, right);
     }
-    push_same(clauses, codes, false, left, right)?;
     if which == 0 {
-        push_difference(alloc, terms, clauses, codes, true, left, right)
+        push_one(alloc, terms, clauses, codes, left, right, left, right)
     } else {
-        push_difference(alloc, terms, clauses, codes, true, right, left)
+        push_one(alloc, terms, clauses, codes, left, right, right, left)
     }
 }
 

@@ -131,6 +131,10 @@ pub(crate) fn kind_of(
         Operator::Add => Kind::NoParts,
         Operator::Subtract => Kind::NoParts,
         Operator::Multiply => Kind::NoParts,
+        Operator::Divide => Kind::NoParts,
+        Operator::Modulo => Kind::NoParts,
+        Operator::Absolute => Kind::NoParts,
+        Operator::Divisible => Kind::NoParts,
     }
 }
 

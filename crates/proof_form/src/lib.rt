@@ -35,6 +35,7 @@ mod steps;
 mod symbols;
 mod terms;
 mod terms_bounds;
+mod terms_divisions;
 mod terms_facts;
 mod terms_held;
 mod terms_nodes;

@@ -54,7 +54,11 @@ fn is_arithmetic(operator: Operator) -> bool
         | Operator::AtMost
         | Operator::Less
         | Operator::AtLeast
-        | Operator::Greater => false,
+        | Operator::Greater
+        | Operator::Divide
+        | Operator::Modulo
+        | Operator::Absolute
+        | Operator::Divisible => false,
     }
 }
 

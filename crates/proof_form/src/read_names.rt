@@ -1,7 +1,7 @@
 //! The names of steps, atoms and operators.
 ghost use Rattle.std.specs.Prelude.{◌≡◌};
 ghost use Rattle.smt_meaning.specs.Signature.{look_up, operators};
-ghost use Rattle.proof_form.specs.ReadNames.{step_names, atom_names};
+ghost use Rattle.proof_form.specs.ReadNames.{step_names, later_step_names, last_step_names, later_operators, number_operators, atom_names};
 
 use smt_meaning::Operator;
 
@@ -55,6 +55,12 @@ pub(crate) fn step_name(name: &[u8]) -> Option<StepName>
     if name == b"refl".as_slice() {
         return Some(StepName::Refl);
     }
+    later_step_name(name)
+}
+
+fn later_step_name(name: &[u8]) -> Option<StepName>
+    ensures { result ≡ look_up name.now later_step_names }
+{
     if name == b"sym".as_slice() {
         return Some(StepName::Sym);
     }
@@ -70,6 +76,12 @@ pub(crate) fn step_name(name: &[u8]) -> Option<StepName>
     if name == b"both".as_slice() {
         return Some(StepName::Both);
     }
+    last_step_name(name)
+}
+
+fn last_step_name(name: &[u8]) -> Option<StepName>
+    ensures { result ≡ look_up name.now last_step_names }
+{
     if name == b"none".as_slice() {
         return Some(StepName::Neither);
     }
@@ -123,6 +135,12 @@ pub(crate) fn operator_named(name: &[u8]) -> Option<Operator>
     if name == b"or".as_slice() {
         return Some(Operator::Or);
     }
+    later_operator(name)
+}
+
+fn later_operator(name: &[u8]) -> Option<Operator>
+    ensures { result ≡ look_up name.now later_operators }
+{
     if name == b"xor".as_slice() {
         return Some(Operator::Xor);
     }
@@ -138,6 +156,12 @@ pub(crate) fn operator_named(name: &[u8]) -> Option<Operator>
     if name == b"ite".as_slice() {
         return Some(Operator::Ite);
     }
+    number_operator(name)
+}
+
+fn number_operator(name: &[u8]) -> Option<Operator>
+    ensures { result ≡ look_up name.now number_operators }
+{
     if name == b"+".as_slice() {
         return Some(Operator::Add);
     }

@@ -67,9 +67,9 @@ impl<'a> Terms<'a> {
     }
 
     /// Adds a term, if it is one that an assertion may have. An `Err`, for want of memory as where 2^32 - 1 terms are there, changes nothing.
-    pub(crate) fn add(&mut self, _alloc: Global, node: Node) -> Result<bool, AllocError>
-        ensures term { result ≡ Ok true → IsTerm self.old.declared self.old.trees node × (self.new ≡ with_term self.old node) }
-        ensures other { result ≡ Ok false → (IsTerm self.old.declared self.old.trees node → ⊥) × (self.new ≡ self.old) }
+    pub(crate) fn add(&mut self, node: &Node) -> Result<bool, AllocError>
+        ensures term { result ≡ Ok true → IsTerm self.old.declared self.old.trees node.now × (self.new ≡ with_term self.old node.now) }
+        ensures other { result ≡ Ok false → (IsTerm self.old.declared self.old.trees node.now → ⊥) × (self.new ≡ self.old) }
         ensures err { OnErr result (self.new ≡ self.old) }
     {
         self.table

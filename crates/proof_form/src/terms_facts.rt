@@ -85,11 +85,12 @@ fn stands_with(operator: Operator, count: usize) -> bool
 {
     match operator {
         Operator::True | Operator::False => count == 0,
-        Operator::Not => count == 1,
+        Operator::Not | Operator::Absolute => count == 1,
+        Operator::Divide => count == 2,
         Operator::And | Operator::Or | Operator::Add | Operator::Subtract | Operator::Multiply => {
             count >= 1
         }
-        Operator::Ite => count == 3,
+        Operator::Ite | Operator::Modulo | Operator::Divisible => count == 3,
         Operator::Xor
         | Operator::Implies
         | Operator::Equal
@@ -108,12 +109,17 @@ fn operator_sort(operator: Operator, arguments: &[Fact]) -> Option<Sort>
         Operator::True | Operator::False => Some(Sort::Bool),
         Operator::Equal | Operator::Distinct => sort_where(are_alike(arguments), Sort::Bool),
         Operator::Ite => choice_sort(arguments),
-        Operator::Add | Operator::Subtract | Operator::Multiply => {
-            sort_where(all_have(Sort::Int, arguments), Sort::Int)
-        }
-        Operator::AtMost | Operator::Less | Operator::AtLeast | Operator::Greater => {
-            sort_where(all_have(Sort::Int, arguments), Sort::Bool)
-        }
+        Operator::Add
+        | Operator::Subtract
+        | Operator::Multiply
+        | Operator::Divide
+        | Operator::Modulo
+        | Operator::Absolute => sort_where(all_have(Sort::Int, arguments), Sort::Int),
+        Operator::AtMost
+        | Operator::Less
+        | Operator::AtLeast
+        | Operator::Greater
+        | Operator::Divisible => sort_where(all_have(Sort::Int, arguments), Sort::Bool),
         Operator::Not | Operator::And | Operator::Or | Operator::Xor | Operator::Implies => {
             sort_where(all_have(Sort::Bool, arguments), Sort::Bool)
         }
@@ -213,7 +219,11 @@ fn is_arithmetic(operator: Operator) -> bool
         | Operator::AtMost
         | Operator::Less
         | Operator::AtLeast
-        | Operator::Greater => false,
+        | Operator::Greater
+        | Operator::Divide
+        | Operator::Modulo
+        | Operator::Absolute
+        | Operator::Divisible => false,
     }
 }
 

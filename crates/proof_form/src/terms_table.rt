@@ -1,13 +1,14 @@
 //! The terms of a proof as they are kept.
-ghost use Rattle.std.specs.Prelude.{◌≡◌, ◌<◌, ◌++◌, ◌∷◌, ◌↔◌, ◌⊎◌, ◌^◌, [], true, false, length, take, map, All, IsTrue, IfOk, OnOk, OnErr, List, Ok, Err};
+ghost use Rattle.std.specs.Prelude.{◌≡◌, ◌<◌, ◌++◌, ◌∷◌, ◌↔◌, ◌⊎◌, ◌^◌, [], true, false, length, take, map, All, IsTrue, IfSome, IfNone, IfOk, OnOk, OnErr, List, Ok, Err};
 ghost use Rattle.smt_meaning.specs.Stack.{signature_of};
 ghost use Rattle.smt_meaning.specs.Declaration.{Declaration};
 ghost use Rattle.smt_meaning.specs.Nodes.{trees_of};
 ghost use Rattle.smt_meaning.specs.Proof.{IsTerm};
 ghost use Rattle.term_store.specs.Terms.{tree_with, AreComplete};
 ghost use Rattle.proof_form.specs.TermFacts.{facts_at, places_at};
-ghost use Rattle.proof_form.specs.TermTable.{IsInterned, IsEntered};
+ghost use Rattle.proof_form.specs.TermTable.{MayBeTerm, IsNoTerm, IsInterned, IsEntered};
 
+use crate::terms_divisions::divides;
 use crate::terms_facts::{Fact, is_constant, judge};
 use crate::terms_held::held_place;
 use crate::terms_nodes::WrittenNodes;
@@ -76,6 +77,24 @@ fn gather(
         arguments.facts.push(facts[place as usize])?;
     }
     Ok(())
+}
+
+/// The sort of a term that an assertion may have, by what was gathered of its arguments.
+fn judge_gathered(
+    stack: &Stack,
+    store: &TermStore,
+    head: Head,
+    arguments: &Arguments,
+) -> Option<Sort>
+    requires { All (λ p. p < length store.now.trees) arguments.now.places.items }
+    ensures some { IfSome result (λ s. MayBeTerm (signature_of stack.now.frames) store.now.trees head arguments.now.places.items arguments.now.facts.items s) }
+    ensures none { IfNone result (IsNoTerm (signature_of stack.now.frames) store.now.trees head arguments.now.places.items arguments.now.facts.items) }
+{
+    if divides(store, head, &arguments.places) {
+        judge(stack, head, &arguments.facts)
+    } else {
+        None
+    }
 }
 
 /// Takes the trees from this place on away.
@@ -247,7 +266,7 @@ impl TermTable {
             arguments,
             &mut self.arguments,
         )?;
-        match judge(stack, head, &self.arguments.facts) {
+        match judge_gathered(stack, &self.distinct.store, head, &self.arguments) {
             Some(sort) => {
                 self.enter(head, arguments, sort)?;
                 Ok(true)

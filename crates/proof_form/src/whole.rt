@@ -4,23 +4,40 @@ ghost use Rattle.smt_meaning.specs.Sexp.{Sexp, Sexps, ◌▸◌, sexp};
 ghost use Rattle.smt_meaning.specs.Stack.{Frame, signature_of, assertions_of};
 ghost use Rattle.look_ahead.specs.Ahead.{ahead, AreEnds};
 ghost use Rattle.proof_form.specs.Asserted.{asserted_at};
+ghost use Rattle.smt_meaning.specs.Declaration.{Declaration};
+ghost use Rattle.smt_meaning.specs.ProofReading.{node_read};
+ghost use Rattle.proof_form.specs.Reads.{IsNoNode};
 ghost use Rattle.proof_form.specs.Found.{IsFound};
-ghost use Rattle.proof_form.specs.Whole.{NodesCome, StepComes, StepsCome, HasAdded, EndsSo};
+ghost use Rattle.proof_form.specs.Whole.{AreLists, NodesCome, StepComes, StepsCome, HasAdded, EndsSo};
 ghost use Rattle.proof_form.specs.Kept.{KeepsAll};
 ghost use Rattle.smt_meaning.specs.declared.clauses.Literal.{Literal as LiteralValue};
 ghost use Rattle.smt_meaning.specs.ProofReading.{listed};
 
 use crate::clauses::Clauses;
 use crate::found::Found;
-use crate::read::{ReadStep, next_place, read_node, read_step, two_lists};
+use crate::read::{ListPlaces, ReadStep, next_place, read_node, read_step, two_lists};
 use crate::steps::judge_step;
 use crate::symbols::Symbols;
 use crate::terms::Terms;
 use crate::verdict::Verdict;
 use look_ahead::ends;
 use scope_stack::Stack;
-use smt_meaning::{SExpr, TermId};
+use smt_meaning::{Node, SExpr, TermId};
 use std::alloc::{AllocError, Global};
+
+/// Adds a term that was read, if it is by its rule.
+fn add_read(terms: &mut Terms<'_>, read: &Option<Node>) -> Result<bool, AllocError>
+    ensures { (ds : List Declaration) (x : Sexp) → ds ≡ terms.old.declared → MatchOption read.now (IsNoNode ds x) (λ n. node_read ds x ≡ Some n)
+        → IfOk result (HasAdded x terms.old terms.new) }
+{
+    match read {
+        Some(node) => terms.add(node),
+        None => {
+            let _few = terms.len();
+            Ok(false)
+        }
+    }
+}
 
 /// Adds the term that stands at a place, if it is by its rule.
 fn add_term(
@@ -36,13 +53,8 @@ fn add_term(
     requires declared { symbols.now ≡ terms.old.declared }
     ensures { (x : Sexp) (rest : Sexps) → ahead proof.now place ≡ x ▸ rest → IfOk result (HasAdded x terms.old terms.new) }
 {
-    match read_node(alloc, symbols, proof, ends, place)? {
-        Some(node) => terms.add(alloc, node),
-        None => {
-            let _few = terms.len();
-            Ok(false)
-        }
-    }
+    let read = read_node(alloc, symbols, proof, ends, place)?;
+    add_read(terms, &read)
 }
 
 /// Adds the terms of a list that begins at a place: `None` where all are by their rule, else the number of the first that isn't.
@@ -109,6 +121,36 @@ fn judge_at(
     }
 }
 
+/// Judges the steps of a list that begins at a place, where no clause is kept yet.
+fn judge_each(
+    alloc: Global,
+    proof: &SExpr,
+    ends: &[usize],
+    place: usize,
+    terms: &mut Terms<'_>,
+    asserted: &[TermId],
+    clauses: &mut Clauses,
+) -> Result<Found, AllocError>
+    requires ends { AreEnds proof.now ends.now }
+    requires within { place ≤ length proof.now }
+    requires asserted { All (λ i. i < length terms.old.held) asserted.now }
+    requires none { clauses.old.clauses ≡ [] }
+    ensures { IfOk result (StepsCome terms.old (asserted_at terms.old.held asserted.now) (listed (ahead proof.now place))) }
+{
+    let mut place = place;
+    let mut number: u64 = 0;
+    while let Some(next) = next_place(proof, ends, place) {
+        match judge_at(alloc, proof, ends, place, terms, asserted, clauses)? {
+            Verdict::Good => {}
+            Verdict::Wrong => return Ok(Found::No(number)),
+            Verdict::Range => return Ok(Found::Range(number)),
+        }
+        number += 1;
+        place = next;
+    }
+    Ok(end_of(clauses, number))
+}
+
 /// Judges the steps of a list that begins at a place.
 fn judge_steps(
     alloc: Global,
@@ -124,18 +166,7 @@ fn judge_steps(
     ensures { IfOk result (StepsCome terms.old (asserted_at terms.old.held asserted.now) (listed (ahead proof.now place))) }
 {
     let mut clauses = Clauses::new(alloc);
-    let mut place = place;
-    let mut number: u64 = 0;
-    while let Some(next) = next_place(proof, ends, place) {
-        match judge_at(alloc, proof, ends, place, terms, asserted, &mut clauses)? {
-            Verdict::Good => {}
-            Verdict::Wrong => return Ok(Found::No(number)),
-            Verdict::Range => return Ok(Found::Range(number)),
-        }
-        number += 1;
-        place = next;
-    }
-    Ok(end_of(&clauses, number))
+    judge_each(alloc, proof, ends, place, terms, asserted, &mut clauses)
 }
 
 /// What is found where all steps are by their rules.
@@ -165,6 +196,73 @@ fn places_of(alloc: Global, stack: &Stack, above: &[TermId]) -> Result<Vec<TermI
     Ok(places)
 }
 
+/// Judges a proof whose lists begin at these places, where there are no terms yet.
+fn judge_lists(
+    alloc: Global,
+    proof: &SExpr,
+    ends: &[usize],
+    lists: ListPlaces,
+    symbols: &Symbols<'_>,
+    terms: &mut Terms<'_>,
+    asserted: &[TermId],
+) -> Result<Found, AllocError>
+    requires ends { AreEnds proof.now ends.now }
+    requires lists { AreLists proof.now lists }
+    requires declared { symbols.now ≡ terms.old.declared }
+    requires none { terms.old ≡ record { declared = terms.old.declared; held = terms.old.held; nodes = []; trees = [] } }
+    requires asserted { All (λ i. i < length terms.old.held) asserted.now }
+    ensures { (frames : List Frame) → signature_of frames ≡ terms.old.declared → assertions_of frames ≡ asserted_at terms.old.held asserted.now
+        → IfOk result (IsFound frames (sexp proof.now)) }
+{
+    if let Some(number) = add_terms(alloc, symbols, proof, ends, lists.terms, terms)? {
+        return Ok(Found::Node(number));
+    }
+    terms.fold()?;
+    judge_steps(alloc, proof, ends, lists.steps, terms, asserted)
+}
+
+/// Judges a proof whose lists begin at these places, beside the terms of a stack.
+fn judge_beside(
+    alloc: Global,
+    stack: &Stack,
+    proof: &SExpr,
+    ends: &[usize],
+    lists: ListPlaces,
+    symbols: &Symbols<'_>,
+    asserted: &[TermId],
+) -> Result<Found, AllocError>
+    requires ends { AreEnds proof.now ends.now }
+    requires lists { AreLists proof.now lists }
+    requires declared { symbols.now ≡ signature_of stack.now.frames }
+    requires asserted { All (λ i. i < length stack.now.trees) asserted.now }
+    ensures { (frames : List Frame) → signature_of frames ≡ signature_of stack.now.frames → assertions_of frames ≡ asserted_at stack.now.trees asserted.now
+        → IfOk result (IsFound frames (sexp proof.now)) }
+{
+    let mut terms = Terms::new(alloc, stack)?;
+    judge_lists(alloc, proof, ends, lists, symbols, &mut terms, asserted)
+}
+
+/// Judges a proof whose lists begin at these places.
+fn judge_parts(
+    alloc: Global,
+    stack: &Stack,
+    above: &[TermId],
+    proof: &SExpr,
+    ends: &[usize],
+    lists: ListPlaces,
+) -> Result<Found, AllocError>
+    requires ends { AreEnds proof.now ends.now }
+    requires lists { AreLists proof.now lists }
+    requires above { All (λ i. i < length stack.now.trees) above.now }
+    ensures { (frames : List Frame) → signature_of frames ≡ signature_of stack.now.frames
+        → assertions_of frames ≡ assertions_of stack.now.frames ++ asserted_at stack.now.trees above.now
+        → IfOk result (IsFound frames (sexp proof.now)) }
+{
+    let symbols = Symbols::new(alloc, stack.declarations())?;
+    let asserted = places_of(alloc, stack, above)?;
+    judge_beside(alloc, stack, proof, ends, lists, &symbols, &asserted)
+}
+
 /// Judges an s-expression as a proof that the assertions of a stack and these terms of it, asserted above it, have no model.
 pub fn judge(
     alloc: Global,
@@ -178,15 +276,8 @@ pub fn judge(
         → IfOk result (IsFound frames (sexp proof.now)) }
 {
     let ends = ends(alloc, proof)?;
-    let Some(lists) = two_lists(proof, &ends) else {
-        return Ok(Found::NoProof);
-    };
-    let symbols = Symbols::new(alloc, stack.declarations())?;
-    let asserted = places_of(alloc, stack, above)?;
-    let mut terms = Terms::new(alloc, stack)?;
-    if let Some(number) = add_terms(alloc, &symbols, proof, &ends, lists.terms, &mut terms)? {
-        return Ok(Found::Node(number));
+    match two_lists(proof, &ends) {
+        Some(lists) => judge_parts(alloc, stack, above, proof, &ends, lists),
+        None => Ok(Found::NoProof),
     }
-    terms.fold()?;
-    judge_steps(alloc, proof, &ends, lists.steps, &mut terms, &asserted)
 }

@@ -3,7 +3,7 @@ use Rattle.proof_form.specs.declared.form_values.Connective.TheVariants as conne
 use Rattle.proof_form.specs.declared.form_parts.Relation.TheVariants as relation
 use Rattle.proof_form.specs.declared.form_parts.Kind.TheVariants.{Bools, Neighbours, NoParts}
 use Rattle.proof_form.proofs.FormTerms.{sorted}
-use Rattle.proof_form.proofs.FormKinds.{by_name, kind_true, kind_false, kind_not, kind_and, kind_or, kind_xor, kind_implies, kind_at_most, kind_less, kind_at_least, kind_greater, kind_add, kind_subtract, kind_multiply}
+use Rattle.proof_form.proofs.FormKinds.{by_name, kind_true, kind_false, kind_not, kind_and, kind_or, kind_xor, kind_implies, kind_at_most, kind_less, kind_at_least, kind_greater, kind_add, kind_subtract, kind_multiply, kind_divide, kind_modulo, kind_absolute, kind_divisible}
 use Rattle.proof_form.proofs.form_parts.kind_of.Goals as goal
 
 pub returns-in-True : goal.returns-in-True
@@ -88,4 +88,28 @@ pub returns-in-Multiply : goal.returns-in-Multiply
 returns-in-Multiply c =
     let t = c.args.terms.now in
     by_name t.declared t.trees operator.Multiply c.args.operator c.args.arguments.now c.sort-sort.result (NoParts) c.in-Multiply.is (kind_multiply t.declared t.trees c.args.arguments.now c.sort-sort.result)
+    (sorted t.declared t.nodes t.trees c.requires.terms c.args.place c.args.operator c.args.arguments.now c.sort-sort.result c.requires.within c.requires.node c.sort-sort.ensures)
+
+pub returns-in-Divide : goal.returns-in-Divide
+returns-in-Divide c =
+    let t = c.args.terms.now in
+    by_name t.declared t.trees operator.Divide c.args.operator c.args.arguments.now c.sort-sort.result (NoParts) c.in-Divide.is (kind_divide t.declared t.trees c.args.arguments.now c.sort-sort.result)
+    (sorted t.declared t.nodes t.trees c.requires.terms c.args.place c.args.operator c.args.arguments.now c.sort-sort.result c.requires.within c.requires.node c.sort-sort.ensures)
+
+pub returns-in-Modulo : goal.returns-in-Modulo
+returns-in-Modulo c =
+    let t = c.args.terms.now in
+    by_name t.declared t.trees operator.Modulo c.args.operator c.args.arguments.now c.sort-sort.result (NoParts) c.in-Modulo.is (kind_modulo t.declared t.trees c.args.arguments.now c.sort-sort.result)
+    (sorted t.declared t.nodes t.trees c.requires.terms c.args.place c.args.operator c.args.arguments.now c.sort-sort.result c.requires.within c.requires.node c.sort-sort.ensures)
+
+pub returns-in-Absolute : goal.returns-in-Absolute
+returns-in-Absolute c =
+    let t = c.args.terms.now in
+    by_name t.declared t.trees operator.Absolute c.args.operator c.args.arguments.now c.sort-sort.result (NoParts) c.in-Absolute.is (kind_absolute t.declared t.trees c.args.arguments.now c.sort-sort.result)
+    (sorted t.declared t.nodes t.trees c.requires.terms c.args.place c.args.operator c.args.arguments.now c.sort-sort.result c.requires.within c.requires.node c.sort-sort.ensures)
+
+pub returns-in-Divisible : goal.returns-in-Divisible
+returns-in-Divisible c =
+    let t = c.args.terms.now in
+    by_name t.declared t.trees operator.Divisible c.args.operator c.args.arguments.now c.sort-sort.result (NoParts) c.in-Divisible.is (kind_divisible t.declared t.trees c.args.arguments.now c.sort-sort.result)
     (sorted t.declared t.nodes t.trees c.requires.terms c.args.place c.args.operator c.args.arguments.now c.sort-sort.result c.requires.within c.requires.node c.sort-sort.ensures)

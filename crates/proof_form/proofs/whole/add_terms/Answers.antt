@@ -1,7 +1,5 @@
-use Rattle.std.proofs.Common.{◌≡◌, ◌<◌, ◌≤◌, ◌+◌, ◌-◌, ◌^◌, true, false, length, sym, ap, ◌∙◌, arith, refl, Fits, w64}
-use Rattle.smt_meaning.specs.Sexp.{Sexp}
-use Rattle.proof_form.specs.Whole.{HasAdded}
-use Rattle.proof_form.proofs.Going.{Adds, none_added, adds_on, adds_not, adds_all}
+use Rattle.std.proofs.Common.{◌<◌, ◌≤◌, ◌-◌, true, false, length, sym, ◌∙◌, arith}
+use Rattle.proof_form.proofs.Going.{none_added, adds_on, adds_not, adds_all}
 use Rattle.proof_form.proofs.whole.add_terms.Goals as goal
 
 pub loop-next-init : goal.loop-next-init

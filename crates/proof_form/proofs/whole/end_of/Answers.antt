@@ -1,4 +1,4 @@
-use Rattle.std.proofs.Common.{◌<◌, refl, arith}
+use Rattle.std.proofs.Common.{refl, arith}
 use Rattle.proof_form.proofs.Going.{ends_empty, ends_full, ends_nowhere}
 use Rattle.proof_form.proofs.whole.end_of.Goals.{else-count-gt0-via-then-count-gt0+else-is_empty, else-count-gt0-via-else-count-gt0}
 use Rattle.proof_form.proofs.whole.end_of.Goals as goal

@@ -1,4 +1,4 @@
-use Rattle.std.proofs.Common.{◌≡◌, ◌<◌, ◌≤◌, ◌^◌, length, map, arith, ◌∙◌}
+use Rattle.std.proofs.Common.{◌≡◌, length, arith}
 use Rattle.std.proofs.lemmas.List.{length-map}
 use Rattle.smt_meaning.specs.Term.{tree_at}
 use Rattle.proof_form.specs.Asserted.{asserted_at}

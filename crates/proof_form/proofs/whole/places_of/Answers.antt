@@ -1,4 +1,4 @@
-use Rattle.std.proofs.Common.{◌≤◌, length, arith}
+use Rattle.std.proofs.Common.{length, arith}
 use Rattle.proof_form.proofs.Placing.{one_more, all_placed, all_within}
 use Rattle.proof_form.proofs.whole.places_of.Goals as goal
 

@@ -22,11 +22,11 @@ returns-clause-term c = λ e.
     (let t = c.self.inside.table in
     let ds = signature_of c.self.inside.stack.now.frames in
     let hs = c.self.inside.stack.now.trees in
-    let same : (let n : Node = record { head = c.args.node.head; arguments = c.as_slice.result.now } in n) ≡ c.args.node =
-    ap (λ (is : List ℕ). let n : Node = record { head = c.args.node.head; arguments = is } in n) c.as_slice.ensures in
+    let same : (let n : Node = record { head = c.args.node.now.head; arguments = c.as_slice.result.now } in n) ≡ c.args.node.now =
+    ap (λ (is : List ℕ). let n : Node = record { head = c.args.node.now.head; arguments = is } in n) c.as_slice.ensures in
     let h = c.add.ensures.term e in
-    let term : IsTerm ds (trees_of t.nodes) c.args.node = subst (IsTerm ds (trees_of t.nodes)) same h.0 in
-    let nodes : c.add.new.self.nodes ≡ t.nodes ++ c.args.node ∷ [] = h.1 ∙ ap (λ (n : Node). t.nodes ++ n ∷ []) same in (
-      subst (λ (s : ProofTerms). IsTerm s.declared s.trees c.args.node) c.self.view_is term,
-      with_node ds hs t.nodes c.add.new.self.nodes c.args.node nodes ∙ ap (λ (s : ProofTerms). with_term s c.args.node) c.self.view_is,
+    let term : IsTerm ds (trees_of t.nodes) c.args.node.now = subst (IsTerm ds (trees_of t.nodes)) same h.0 in
+    let nodes : c.add.new.self.nodes ≡ t.nodes ++ c.args.node.now ∷ [] = h.1 ∙ ap (λ (n : Node). t.nodes ++ n ∷ []) same in (
+      subst (λ (s : ProofTerms). IsTerm s.declared s.trees c.args.node.now) c.self.view_is term,
+      with_node ds hs t.nodes c.add.new.self.nodes c.args.node.now nodes ∙ ap (λ (s : ProofTerms). with_term s c.args.node.now) c.self.view_is,
     ))

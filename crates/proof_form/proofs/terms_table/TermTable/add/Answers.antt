@@ -1,13 +1,11 @@
-use Rattle.std.proofs.Common.{rules, ◌≡◌, ◌⊎◌, ◌<◌, ◌∙◌, true, false, List, length, All, sym, ap, subst, refl, arith}
-use Rattle.std.specs.Prelude.{Some, None}
+use Rattle.std.proofs.Common.{rules, ◌≡◌, ◌<◌, ◌∙◌, true, false, List, length, All, sym, ap, subst, refl, arith}
 use Rattle.smt_meaning.specs.Stack.{signature_of}
 use Rattle.smt_meaning.specs.Nodes.{trees_of}
-use Rattle.smt_meaning.specs.Signature.{head_sort}
 use Rattle.proof_form.specs.declared.terms_facts.Fact.{Fact}
 use Rattle.proof_form.specs.declared.terms_table.TermTable.{TermTable}
-use Rattle.proof_form.specs.TermFacts.{facts_at, places_at, sorts_of, is_linear_here}
+use Rattle.proof_form.specs.TermFacts.{facts_at, places_at}
 use Rattle.proof_form.specs.TermTable.{CanEnter}
-use Rattle.proof_form.proofs.TermFiling.{trees_count, places_below}
+use Rattle.proof_form.proofs.TermFiling.{trees_count, places_below, gathered_below}
 use Rattle.proof_form.proofs.TermEntering.{no_term, term_is}
 use Rattle.proof_form.proofs.terms_table.TermTable.add.Goals as goal
 use Rattle.proof_form.proofs.terms_table.TermTable.add.Goals.{In-Some}
@@ -40,16 +38,24 @@ can c =
     let count = c.requires.filed.places_count in
     let below : All (λ i. i < c.len-count.result) c.args.arguments.now = c.are_below.ensures.0 (search rules) in
     let same : c.len-count.result ≡ length t.nodes = omega arith in
-    let some : (head_sort (signature_of c.args.stack.now.frames) c.args.head (sorts_of c.deref-3.result.now) ≡ Some c.in-Some.sort) × (is_linear_here c.args.head c.deref-3.result.now ≡ true) = c.in-Some.ensures.some in
     record {
       table = record { filed = c.requires.filed; held = c.requires.held; complete = c.requires.complete; held_different = c.requires.held_different; forms = c.requires.forms };
       room = omega arith;
       below = subst (λ n. All (λ i. i < n) c.args.arguments.now) same below;
       places = c.in_ok-gather.ensures.places ∙ ap (λ ps. places_at ps c.args.arguments.now) c.deref.ensures.value;
       facts = c.in_ok-gather.ensures.facts ∙ ap (λ fs. facts_at fs (places_at c.deref.result.now c.args.arguments.now)) c.deref-2.ensures.value ∙ ap (λ ps. facts_at t.distinct.facts.items (places_at ps c.args.arguments.now)) c.deref.ensures.value;
-      sort_is = ap (λ fs. head_sort (signature_of c.args.stack.now.frames) c.args.head (sorts_of fs)) (sym c.deref-3.ensures.value) ∙ some.0;
-      linear = ap (is_linear_here c.args.head) (sym c.deref-3.ensures.value) ∙ some.1;
+      may = c.in-Some.ensures.some;
     }
+
+pub judge_gathered-requires : goal.judge_gathered-requires
+judge_gathered-requires c =
+    let t = c.args.self.now in
+    let count = c.requires.filed.places_count in
+    let below : All (λ i. i < c.len-count.result) c.args.arguments.now = c.are_below.ensures.0 (search rules) in
+    let same : c.len-count.result ≡ length t.nodes = omega arith in
+    subst (All (λ p. p < length t.distinct.store.trees)) (sym (c.in_ok-gather.ensures.places ∙ ap (λ ps. places_at ps c.args.arguments.now) c.deref.ensures.value))
+    (gathered_below (signature_of c.args.stack.now.frames) c.args.stack.now.trees t.nodes t.places.items t.distinct.store.trees t.distinct.facts.items c.requires.filed c.args.arguments.now
+    (subst (λ n. All (λ i. i < n) c.args.arguments.now) same below))
 
 pub returns-in_err-enter-in-Some-clause-table : goal.returns-in_err-enter-in-Some-clause-table
 returns-in_err-enter-in-Some-clause-table c =
@@ -72,10 +78,11 @@ returns-in-None-clause-other c = λ _. (
       let count = c.requires.filed.places_count in
       let below : All (λ i. i < c.len-count.result) c.args.arguments.now = c.are_below.ensures.0 (search rules) in
       let same : c.len-count.result ≡ length t.nodes = omega arith in
-      let none : (head_sort (signature_of c.args.stack.now.frames) c.args.head (sorts_of c.deref-3.result.now) ≡ None) ⊎ (is_linear_here c.args.head c.deref-3.result.now ≡ false) = c.in-None.ensures.none in
-      no_term (signature_of c.args.stack.now.frames) c.args.stack.now.trees t.nodes t.places.items t.distinct.store.trees t.distinct.facts.items c.args.head c.args.arguments.now c.deref-3.result.now c.requires.filed
+      no_term (signature_of c.args.stack.now.frames) c.args.stack.now.trees t.nodes t.places.items t.distinct.store.trees t.distinct.facts.items c.args.head c.args.arguments.now
+      c.gather.new.arguments.places.items c.gather.new.arguments.facts.items c.requires.filed
       (subst (λ n. All (λ i. i < n) c.args.arguments.now) same below)
-      (c.deref-3.ensures.value ∙ c.in_ok-gather.ensures.facts ∙ ap (λ fs. facts_at fs (places_at c.deref.result.now c.args.arguments.now)) c.deref-2.ensures.value ∙ ap (λ ps. facts_at t.distinct.facts.items (places_at ps c.args.arguments.now)) c.deref.ensures.value)
-      none,
+      (c.in_ok-gather.ensures.places ∙ ap (λ ps. places_at ps c.args.arguments.now) c.deref.ensures.value)
+      (c.in_ok-gather.ensures.facts ∙ ap (λ fs. facts_at fs (places_at c.deref.result.now c.args.arguments.now)) c.deref-2.ensures.value ∙ ap (λ ps. facts_at t.distinct.facts.items (places_at ps c.args.arguments.now)) c.deref.ensures.value)
+      c.in-None.ensures.none,
   refl,
 )

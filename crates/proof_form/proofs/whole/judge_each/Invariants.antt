@@ -1,7 +1,7 @@
 use Rattle.std.proofs.Common.{◌≡◌, ◌-◌, length}
 use Rattle.proof_form.specs.Asserted.{asserted_at}
 use Rattle.proof_form.proofs.Going.{Judges}
-use Rattle.proof_form.proofs.whole.judge_steps.Given as goal
+use Rattle.proof_form.proofs.whole.judge_each.Given as goal
 
 abbrev pub invariant-loop-next : goal.invariant-loop-next
 invariant-loop-next l = (l.terms ≡ l.fn.terms) × Judges l.fn.terms (asserted_at l.fn.terms.held l.fn.asserted) l.fn.proof l.fn.place l.place l.number l.clauses
