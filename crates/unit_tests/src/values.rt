@@ -64,7 +64,7 @@ const TWO: Value = Whole(2);
 const FIVE: Value = Whole(5);
 
 /// Operators with arguments, and the values.
-static APPLIED: [(Operator, &'static [Value], Value); 22] = [
+static APPLIED: [(Operator, &'static [Value], Value); 35] = [
     (True, &[], T),
     (False, &[], F),
     (Not, &[T], F),
@@ -87,6 +87,19 @@ static APPLIED: [(Operator, &'static [Value], Value); 22] = [
     (Less, &[ONE, ONE, TWO], F),
     (AtLeast, &[FIVE, TWO, TWO], T),
     (Greater, &[FIVE, TWO, TWO], F),
+    (Divide, &[Whole(7), TWO], Whole(3)),
+    (Divide, &[Whole(-7), TWO], Whole(-4)),
+    (Divide, &[Whole(7), Whole(-2)], Whole(-3)),
+    (Divide, &[Whole(-7), Whole(-2)], Whole(4)),
+    (Divide, &[Whole(-MAX), Whole(-1)], Whole(MAX)),
+    (Modulo, &[Whole(7), TWO, Whole(3)], ONE),
+    (Modulo, &[Whole(-7), TWO, Whole(-4)], ONE),
+    (Modulo, &[Whole(-7), Whole(-2), Whole(4)], ONE),
+    (Modulo, &[Whole(-1), Whole(MAX), Whole(-1)], Whole(MAX - 1)),
+    (Absolute, &[FIVE], FIVE),
+    (Absolute, &[Whole(-MAX)], Whole(MAX)),
+    (Divisible, &[Whole(-6), TWO, Whole(-3)], T),
+    (Divisible, &[FIVE, TWO, TWO], F),
 ];
 
 #[test]
@@ -103,7 +116,7 @@ fn operators_have_their_values(rt: HostRuntime) -> Result<(), Fail> {
 }
 
 /// Terms, each after its arguments, with their values, or the first part past the range.
-static RANGES: [(Head, &'static [TermId], Result<Value, TermId>); 14] = [
+static RANGES: [(Head, &'static [TermId], Result<Value, TermId>); 18] = [
     (Head::Numeral(MAX), &[], Ok(Whole(MAX))),
     (Head::Numeral(1), &[], Ok(Whole(1))),
     (Head::Theory(Add), &[0, 1], Err(2)),
@@ -118,6 +131,10 @@ static RANGES: [(Head, &'static [TermId], Result<Value, TermId>); 14] = [
     (Head::Theory(Subtract), &[8, 0], Err(11)),
     (Head::Numeral(MAX - 1), &[], Ok(Whole(MAX - 1))),
     (Head::Theory(Subtract), &[8, 12], Ok(Whole(-MAX))),
+    (Head::Theory(Absolute), &[13], Ok(Whole(MAX))),
+    (Head::Theory(Divide), &[2, 0], Err(2)),
+    (Head::Theory(Divide), &[13, 8], Ok(Whole(MAX))),
+    (Head::Theory(Modulo), &[8, 0, 8], Ok(Whole(MAX - 1))),
 ];
 
 fn wanted(value: Result<Value, TermId>) -> Result<Value, EvalError> {
