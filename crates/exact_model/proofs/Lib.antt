@@ -1,5 +1,6 @@
 pub mod Forms
 pub mod Comparing
+mod Dividing
 pub mod Heads
 pub mod Spreading
 pub mod Deciding

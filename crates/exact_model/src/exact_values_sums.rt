@@ -67,7 +67,7 @@ pub(crate) fn number(value: Value) -> i128
 }
 
 /// A number, or its negation where the machine has it.
-fn signed(minus: bool, number: i128) -> Result<i128, Unshown>
+pub(crate) fn signed(minus: bool, number: i128) -> Result<i128, Unshown>
     ensures { IfOk result (λ n. n ≡ signed minus number) }
 {
     if !minus {
@@ -104,7 +104,7 @@ fn alone(constant: &i128, minus: bool) -> Result<(i128, i128), Unshown>
 }
 
 /// A constant and the products of pairs, where the exact sum is in the range.
-fn dot_from(constant: &i128, pairs: &[(i128, i128)]) -> Option<i128>
+pub(crate) fn dot_from(constant: &i128, pairs: &[(i128, i128)]) -> Option<i128>
     ensures some { IfSome result (λ n. (n ≡ dot_of constant.now pairs.now) × InRange n) }
     ensures none { IfNone result (InRange (dot_of constant.now pairs.now) → ⊥) }
 {
@@ -141,7 +141,7 @@ fn form<'a>(listed: &Listed<'a>, place: TermId) -> Result<LinearForm<'a>, Unshow
 }
 
 /// Adds the summands and the constant of a term's form.
-fn add_form(
+pub(crate) fn add_form(
     listed: &Listed<'_>,
     place: TermId,
     minus: bool,

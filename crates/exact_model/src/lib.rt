@@ -15,6 +15,7 @@
 #![tactic(auto)]
 
 mod atoms;
+mod divisions;
 mod exact_values_sums;
 mod given;
 mod laws;

@@ -9,6 +9,7 @@ ghost use Rattle.model_build.specs.declared.given.Given.TheVariants.{InRange};
 ghost use Rattle.exact_model.specs.Exact.{AreListed, IsSeen, exact_at};
 ghost use Rattle.exact_model.specs.Operators.{shown, connective, relation, all_exact, HasArguments, HasValueOf};
 
+use crate::divisions::{divides, test_absolute, test_quotient, test_remainder};
 use crate::exact_values_sums::{Listed, Unshown, is_less};
 use model_build::Given;
 use smt_meaning::{Operator, TermId, Value};
@@ -254,6 +255,7 @@ fn operated(
         | Operator::Less
         | Operator::AtLeast
         | Operator::Greater => chained(seen, operator, arguments, pairs),
+        Operator::Divisible => divides(seen, arguments, pairs),
         _ => Err(Unshown::Other),
     }
 }
@@ -332,6 +334,9 @@ pub(crate) fn test_operator(
 {
     match operator {
         Operator::Ite => test_choice(seen, place, arguments, pairs),
+        Operator::Divide => test_quotient(seen, place, arguments, pairs),
+        Operator::Modulo => test_remainder(seen, place, arguments, pairs),
+        Operator::Absolute => test_absolute(seen, place, arguments),
         Operator::Add | Operator::Subtract | Operator::Multiply => {
             test_sum(operator, arguments.len())?;
             Ok(())

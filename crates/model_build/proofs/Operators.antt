@@ -2,7 +2,7 @@
 use Rattle.std.proofs.Common.{◌≡◌, List, [], ◌∷◌, refl}
 use Rattle.std.specs.Prelude.{ℤ, ◌*ℤ◌, None}
 use Rattle.smt_meaning.specs.declared.terms.Operator.{Operator}
-use Rattle.smt_meaning.specs.declared.terms.Operator.TheVariants.{True, False, Not, And, Or, Xor, Implies, Equal, Distinct, Ite, Add, Subtract, Multiply, AtMost, Less, AtLeast, Greater}
+use Rattle.smt_meaning.specs.declared.terms.Operator.TheVariants.{True, False, Not, And, Or, Xor, Implies, Equal, Distinct, Ite, Add, Subtract, Multiply, AtMost, Less, AtLeast, Greater, Divide, Modulo, Absolute, Divisible}
 use Rattle.model_build.specs.declared.given.Given.{Given}
 use Rattle.model_build.specs.WorkedOut.{combined, folded}
 
@@ -24,6 +24,10 @@ times_of AtMost m n a s = refl
 times_of Less m n a s = refl
 times_of AtLeast m n a s = refl
 times_of Greater m n a s = refl
+times_of Divide m n a s = refl
+times_of Modulo m n a s = refl
+times_of Absolute m n a s = refl
+times_of Divisible m n a s = refl
 
 pub folded_none : (o : Operator) (gs : List Given) → folded o None gs ≡ None
 folded_none o [] = refl
