@@ -8,3 +8,4 @@ pub mod Unfolding
 pub mod TableLemmas
 pub mod Growing
 pub mod DifferenceLemmas
+pub mod MultipleLemmas

@@ -97,7 +97,7 @@ plus_none z = omega (arith, ints)
 pub none_plus : (z : ℤ) → pos 0 +ℤ z ≡ z
 none_plus z = omega (arith, ints)
 
-plus_comm : (y z : ℤ) → y +ℤ z ≡ z +ℤ y
+pub plus_comm : (y z : ℤ) → y +ℤ z ≡ z +ℤ y
 plus_comm y z = omega (arith, ints)
 
 new_at : (i : ℕ) (c : ℤ) (ps : List Summand) (j : ℕ) → coefficient_of ps i ≡ pos 0 → (b : Bool) → nat_eq i j ≡ b → coefficient_of (summand i c ∷ ps) j ≡ coefficient_of ps j +ℤ only_at i c j

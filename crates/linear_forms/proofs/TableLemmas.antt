@@ -88,7 +88,7 @@ forms_push ts n known new k f e l h = subst (AreFormsTo ts (n + 1)) (sym e) (rec
         subst (IsKnown ts j) (sym (get_or_push known k nothing_known j (f.size ∙ here))) (subst (λ i. IsKnown ts i k) here h)
 
 module _ (ts : List Tree) (place : ℕ) (known : List Known) (forms : AreFormsTo ts place known) where
-  known_form : (i : ℕ) → i < place → (known_at known i).outside ≡ None → HasForm ts i (known_at known i).form
+  pub known_form : (i : ℕ) → i < place → (known_at known i).outside ≡ None → HasForm ts i (known_at known i).form
   known_form i h e = subst (λ o. MatchOption o (HasForm ts i (known_at known i).form) (IsOutside ts i)) e (forms.each i h)
 
   pub known_outside : (i p : ℕ) → i < place → (known_at known i).outside ≡ Some p → IsOutside ts i p

@@ -1,14 +1,16 @@
 -- Sums of multiples of terms at places, folded from the right.
-use Rattle.std.specs.Prelude.{◌≡◌, ◌⊎◌, ℕ, ◌<◌, true, false, List, [], ◌∷◌, map, length, All, Contains, ℤ}
+use Rattle.std.specs.Prelude.{◌≡◌, ℕ, ◌<◌, true, false, List, map, length, All, Contains, Some, ℤ}
 use Rattle.fraction128.specs.Whole.{InRange}
 use Rattle.smt_meaning.specs.Term.{Tree, tree_at}
 use Rattle.smt_meaning.specs.Linear.{Form, form_fits, folding_fits, linear_form}
 use Rattle.smt_meaning.specs.Division.{combined, combined_fits}
+use Rattle.linear_forms.specs.declared.coefficients.Coefficient.{Coefficient}
 use Rattle.linear_forms.specs.declared.differences.DifferenceError.{DifferenceError}
 use Rattle.linear_forms.specs.declared.differences.DifferenceError.TheVariants.{Term, Pair, Memory}
 use Rattle.linear_forms.specs.declared.multiples.Multiple.{Multiple}
 use Rattle.linear_forms.specs.Sums.{IsSum}
-use Rattle.linear_forms.specs.Table.{IsOutside}
+use Rattle.linear_forms.specs.Folding.{Holds}
+use Rattle.linear_forms.specs.Table.{Known, known_at, IsOutside}
 
 -- the form of the term at a place
 abbrev pub form_at : List Tree → ℕ → Form
@@ -52,3 +54,30 @@ abbrev pub RefusesMultiples : List Tree → List Multiple → DifferenceError �
 RefusesMultiples ts ms (Term part) = OneIsOutside ts ms part
 RefusesMultiples ts ms Pair = LeaveRangeTogether ts ms
 RefusesMultiples ts ms Memory = Unit {0}
+
+-- ---- while they are folded. No public contract speaks of it.
+
+abbrev pub form_in : List Known → ℕ → Form
+form_in known p = (known_at known p).form
+
+-- the forms of the terms have places below a bound
+abbrev pub AreSumsOf : ℕ → List Known → List Multiple → Type 0
+AreSumsOf bound known ms = All (λ (m : Multiple). IsSum bound (form_in known m.term).sum) ms
+
+-- folding one of the terms leaves the range at this part
+pub record HasOutsideTerm (known : List Known) (ms : List Multiple) (part : ℕ) : Type 0 where
+  pub multiple : Multiple
+  pub among : Contains ms multiple
+  pub here : (known_at known multiple.term).outside ≡ Some part
+
+-- the multiples are added up
+pub record AreAddedUp (bound : ℕ) (form : ℕ → Form) (ms : List Multiple) (vs : List Coefficient) (constant : ℤ) : Type 0 where
+  pub fits : combined_fits form (multiples_of ms) ≡ true
+  pub is_sum : IsSum bound (combined form (multiples_of ms)).sum
+  pub holds : Holds vs constant (combined form (multiples_of ms))
+  pub in_range : form_fits (combined form (multiples_of ms)) ≡ true
+
+-- their sum stays in the range and is this form
+pub record IsFoldedSum (form : ℕ → Form) (ms : List Multiple) (f : Form) : Type 0 where
+  pub fits : combined_fits form (multiples_of ms) ≡ true
+  pub whole : f ≡ combined form (multiples_of ms)

@@ -38,7 +38,7 @@ impl Work {
 }
 
 /// Makes room for the coefficients of so many places.
-fn reach(values: &mut Vec<Coefficient>, count: usize) -> Result<(), AllocError>
+pub(crate) fn reach(values: &mut Vec<Coefficient>, count: usize) -> Result<(), AllocError>
     requires { AreZero values.old.items }
     ensures zero { AreZero values.new.items }
     ensures size { OnOk result (count ≤ length values.new.items) }

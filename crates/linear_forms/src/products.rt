@@ -45,7 +45,7 @@ fn scaled(out: &mut Vec<Summand>, sum: &[Summand], factor: i128) -> Result<(), S
 }
 
 /// Writes the sum of a form times a number, and gives its constant.
-fn scaled_form(
+pub(crate) fn scaled_form(
     out: &mut Vec<Summand>,
     sum: &[Summand],
     factor: i128,

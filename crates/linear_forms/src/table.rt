@@ -16,7 +16,11 @@ use std::marker::Model;
 use term_store::TermStore;
 
 /// The form at a place, or the place of the part whose folding leaves the range.
-fn look<'a>(entries: &[Entry], all: &'a [Summand], place: usize) -> Result<LinearForm<'a>, TermId>
+pub(crate) fn look<'a>(
+    entries: &[Entry],
+    all: &'a [Summand],
+    place: usize,
+) -> Result<LinearForm<'a>, TermId>
     requires laid { AreLaid (length all.now) entries.now }
     requires place { place < length entries.now }
     ensures ok { IfOk result (λ f. known_at (knowns all.now entries.now) place ≡ record { form = form_of f.sum.now f.constant; outside = None }) }

@@ -23,27 +23,36 @@ pub written_back : (items new : List Summand) (count : ℕ) → length new ≡ l
 written_back items new count e l =
     ap (λ xs. take count (new ++ xs)) (drop_all (length new) items (omega arith)) ∙ ap (take count) (append-nil new) ∙ take_all count new l
 
+-- the bound that is written where a sum was
+module _ (ts : List Tree) (sum : List Summand) (is_sum : IsSumWithin 0 (length ts) sum) where
+  pub sum_no_zero : (now : List Summand) → now ≡ sum → HaveNoZero now
+  sum_no_zero now e = subst HaveNoZero (sym e) (no_zero 0 (length ts) sum is_sum)
+
+  pub is_bound : (now new out : List Summand) (k n m : ℤ) → now ≡ sum → out ≡ new → m ≡ n → AtMost new n ≡ normal_bound now k → sum_fits new ≡ true → InRange n
+      → ((low high : ℕ) → IsSumWithin low high now → IsSumWithin low high new) → (a : Atom) → normal_bound sum k ≡ a → IsBound ts a out m
+  is_bound now new out k n m same written given bound fits in_range order a e = record {
+    atom = ap (λ xs. AtMost xs m) written ∙ ap (AtMost new) given ∙ bound ∙ ap (λ xs. normal_bound xs k) same ∙ e;
+    is_sum = subst (IsSumWithin 0 (length ts)) (sym written) (order 0 (length ts) (subst (IsSumWithin 0 (length ts)) (sym same) is_sum));
+    coefficients = ap sum_fits written ∙ fits;
+    in_range = subst InRange (sym given) in_range;
+  }
+
 module _ (ts : List Tree) (left right : ℕ) (sum : List Summand) (constant : ℤ) (d : IsDifference ts left right (form_of sum constant)) where
   pub difference_no_zero : (now : List Summand) → now ≡ sum → HaveNoZero now
-  difference_no_zero now e = subst HaveNoZero (sym e) (no_zero 0 (length ts) sum d.is_sum)
+  difference_no_zero now e = sum_no_zero ts sum d.is_sum now e
 
   module _ (now new out : List Summand) (k n m : ℤ) (same : now ≡ sum) (written : out ≡ new) (given : m ≡ n) (bound : AtMost new n ≡ normal_bound now k)
       (fits : sum_fits new ≡ true) (in_range : InRange n) (order : (low high : ℕ) → IsSumWithin low high now → IsSumWithin low high new) where
-    is_bound : (a : Atom) → normal_bound sum k ≡ a → IsBound ts a out m
-    is_bound a e = record {
-      atom = ap (λ xs. AtMost xs m) written ∙ ap (AtMost new) given ∙ bound ∙ ap (λ xs. normal_bound xs k) same ∙ e;
-      is_sum = subst (IsSumWithin 0 (length ts)) (sym written) (order 0 (length ts) (subst (IsSumWithin 0 (length ts)) (sym same) d.is_sum));
-      coefficients = ap sum_fits written ∙ fits;
-      in_range = subst InRange (sym given) in_range;
-    }
+    bounded : (a : Atom) → normal_bound sum k ≡ a → IsBound ts a out m
+    bounded a e = is_bound ts sum d.is_sum now new out k n m same written given bound fits in_range order a e
 
     pub is_at_most : k ≡ neg_ℤ constant → IsAtMost ts left right out m
-    is_at_most e = record { fits = d.fits; bound = is_bound (not_above_zero (difference_of ts (tree_at ts left) (tree_at ts right))) (ap (normal_bound sum) e ∙ ap not_above_zero d.form) }
+    is_at_most e = record { fits = d.fits; bound = bounded (not_above_zero (difference_of ts (tree_at ts left) (tree_at ts right))) (ap (normal_bound sum) e ∙ ap not_above_zero d.form) }
 
     pub is_below : k ≡ neg_ℤ constant -ℤ pos 1 → InRange k → IsBelow ts left right out m
     is_below e r = record {
       fits =
           and_both (difference_fits ts (tree_at ts left) (tree_at ts right)) (is_in_range (threshold_below (difference_of ts (tree_at ts left) (tree_at ts right)))) d.fits
           (in_range_fits (threshold_below (difference_of ts (tree_at ts left) (tree_at ts right))) (subst InRange (e ∙ ap threshold_below d.form) r));
-      bound = is_bound (below_zero (difference_of ts (tree_at ts left) (tree_at ts right))) (ap (normal_bound sum) e ∙ ap below_zero d.form);
+      bound = bounded (below_zero (difference_of ts (tree_at ts left) (tree_at ts right))) (ap (normal_bound sum) e ∙ ap below_zero d.form);
     }

@@ -1,11 +1,13 @@
 -- The rows of divisions over the places of terms.
-use Rattle.std.specs.Prelude.{◌≡◌, ℕ, ◌<◌, Bool, true, false, List, [], ◌∷◌, map, flat_map, length, All, Option, Some, None, ℤ, pos}
+use Rattle.std.specs.Prelude.{◌≡◌, ℕ, Bool, true, false, List, [], ◌∷◌, map, flat_map, All, Option, Some, None, ℤ, pos, IsTrue}
 use Rattle.std.specs.List.{list_all}
 use Rattle.fraction128.specs.Whole.{InRange}
 use Rattle.smt_meaning.specs.declared.clauses.Summand.{Summand}
 use Rattle.smt_meaning.specs.declared.terms.Operator.{Operator}
+use Rattle.smt_meaning.specs.declared.terms.Operator.TheVariants.{Divide, Modulo, Divisible}
 use Rattle.smt_meaning.specs.declared.terms.Head.TheVariants.{Theory}
 use Rattle.smt_meaning.specs.Term.{Tree, node, tree_at}
+use Rattle.smt_meaning.specs.TreeShape.{is_linear}
 use Rattle.smt_meaning.specs.Nodes.{pick}
 use Rattle.smt_meaning.specs.Linear.{folding_fits}
 use Rattle.smt_meaning.specs.Division.{Limit, Row, limit, limit_fits, row_fits, rows_fit, rows_at, operator_rows}
@@ -84,6 +86,12 @@ abbrev pub DivisorIsOutside : List Tree → List ℕ → ℕ → Type 0
 DivisorIsOutside ts (a ∷ n ∷ is) part = IsOutside ts n part
 DivisorIsOutside ts is part = ⊥
 
+-- why the divisor is refused: folding it leaves the range, or its own number does
+abbrev pub RefusesDivisor : List Tree → List ℕ → DifferenceError → Type 0
+RefusesDivisor ts is (Term part) = DivisorIsOutside ts is part
+RefusesDivisor ts is Pair = InRange (divisor_at ts is) → ⊥
+RefusesDivisor ts is Memory = ⊥
+
 -- ---- bounds
 
 -- folding the limit stays in the range and gives this bound
@@ -111,3 +119,17 @@ pub record RowsAreOf (ts : List Tree) (o : Operator) (p : ℕ) (is : List ℕ) :
 
 abbrev pub RowsAreAtoms : Type 0
 RowsAreAtoms = (ts : List Tree) (o : Operator) (p : ℕ) (is : List ℕ) → tree_at ts p ≡ node (Theory o) (pick ts is) → RowsAreOf ts o p is
+
+-- ---- a divisor that leaves the range
+
+abbrev pub divides : Operator → Bool
+divides Divide = true
+divides Modulo = true
+divides Divisible = true
+divides o = false
+
+-- where the divisor of a linear term isn't in the range, folding its rows leaves it
+abbrev pub LargeDivisorLeavesRange : Type 0
+LargeDivisorLeavesRange =
+    (ts : List Tree) (o : Operator) (p : ℕ) (is : List ℕ) → IsTrue (divides o) → tree_at ts p ≡ node (Theory o) (pick ts is) → IsTrue (is_linear (tree_at ts p))
+    → (InRange (divisor_at ts is) → ⊥) → rows_fit ts (rows_at ts (Theory o) (pick ts is)) ≡ false

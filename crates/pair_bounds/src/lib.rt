@@ -9,7 +9,8 @@
 //! `add_rows`, `row_bound`: the rows that the definition gives `div`, `mod`, `abs` and a
 //! divisibility, over places, and the bound in normal form of each limit of a row, exactly the
 //! definition's; refused exactly where folding leaves the range. `rows_are_atoms`: these bounds are
-//! the atoms that a stack has for the term.
+//! the atoms that a stack has for the term. `large_divisor_leaves_range`: with a divisor out of the
+//! range folding them leaves it.
 #![tactic(auto)]
 
 mod normal;
@@ -18,5 +19,7 @@ mod rows;
 mod turning;
 
 pub use pairs::{at_most, below};
-pub use rows::{Row, RowLimit, add_rows, divisor, row_bound, rows_are_atoms};
+pub use rows::{
+    Row, RowLimit, add_rows, divisor, large_divisor_leaves_range, row_bound, rows_are_atoms,
+};
 pub use turning::{Limit, turn};

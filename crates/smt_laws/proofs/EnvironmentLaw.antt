@@ -5,14 +5,15 @@ use Rattle.smt_meaning.specs.declared.values.Value.{Value}
 use Rattle.smt_meaning.specs.declared.values.Sort.{Sort}
 use Rattle.smt_meaning.specs.declared.values.Sort.TheVariants.{Bool as Truths}
 use Rattle.smt_meaning.specs.declared.terms.Operator.{Operator}
-use Rattle.smt_meaning.specs.declared.terms.Operator.TheVariants.{True, False}
+use Rattle.smt_meaning.specs.declared.terms.Operator.TheVariants.{True, False, Divide, Modulo, Divisible}
 use Rattle.smt_meaning.specs.declared.terms.Head.TheVariants.{Theory}
 use Rattle.smt_meaning.specs.declared.tokens.Token.{Token}
 use Rattle.smt_meaning.specs.declared.tokens.Token.TheVariants.{Numeral, Symbol, Reserved}
 use Rattle.smt_meaning.specs.declared.tokens.Word.TheVariants.{Exclamation, Let}
 use Rattle.smt_meaning.specs.Declaration.{Declaration}
 use Rattle.smt_meaning.specs.declared.refusals.Refusal.{Refusal}
-use Rattle.smt_meaning.specs.Term.{Tree, Trees, node, none, Interpretation, value, value_with, values_with}
+use Rattle.smt_meaning.specs.Term.{Tree, Trees, node, none, more, Interpretation, value, value_with, values_with, operate, fold_left, on_numbers, quotient}
+use Rattle.smt_meaning.specs.TreeShape.{quotient_tree, divided_from, operation}
 use Rattle.smt_meaning.specs.Sexp.{Sexp, Sexps, word, group, end, ◌▸◌}
 use Rattle.smt_meaning.specs.Signature.{look_up, find_function, operators}
 use Rattle.smt_meaning.specs.Sorts.{Scope, Outcome, done, refused, Judging, go_on, ◌>>=◌, ◌>>◌, return, refuse, require, required, the_scope, note, found, Typed, Variable, Rules, trees_of, find_variable, known, known_name, known_symbol, applied, applied_trees, judge_symbol, judge_operator, can_be_applied, judge_application, judge_bare, judge_numeral, decimal, judge_token, check_bindings, none_twice, bound_names, judge, judge_all, judge_bindings, has_free, variable_names}
@@ -121,10 +122,30 @@ symbol_gives s r d ts =
     next_gives s _ _ (Same s) (IsTree s (applied d ts)) (require_gives s _ _)
     (λ a t e. from_same s t _ (IsTree s (applied d ts)) e (note_found s (applied_trees d ts) (applied d ts) d.rank.result))
 
-operator_gives : (s : Scope) (r : Rules) (o : Operator) (ts : Trees) (x : Sort) → Gives s (judge_operator r o ts x) (IsTree s (node (Theory o) ts))
+operator_gives : (s : Scope) (r : Rules) (o : Operator) (ts : Trees) (x : Sort) → Gives s (judge_operator r o ts x) (IsTree s (operation o ts))
 operator_gives s r o ts x =
-    next_gives s _ _ (Same s) (IsTree s (node (Theory o) ts)) (require_gives s _ _)
-    (λ a t e. from_same s t _ (IsTree s (node (Theory o) ts)) e (note_found s (node (Theory o) ts ∷ []) (node (Theory o) ts) x))
+    next_gives s _ _ (Same s) (IsTree s (operation o ts)) (require_gives s _ _)
+    (λ a t e. from_same s t _ (IsTree s (operation o ts)) e (note_found s (operation o ts ∷ []) (operation o ts) x))
+
+-- by one divisor after another
+divided_value : (I : Interpretation) (ps : List Value) (t : Tree) (ts : Trees)
+    → value_with I ps (divided_from t ts) ≡ fold_left (on_numbers quotient) (value_with I ps t) (values_with I ps ts)
+divided_value I ps t none = refl
+divided_value I ps t (more u us) = divided_value I ps (quotient_tree t u) us
+
+-- the tree of an operator that is applied has the operator's value
+pub operation_value : (I : Interpretation) (ps : List Value) (o : Operator) (ts : Trees) → value_with I ps (operation o ts) ≡ operate o (values_with I ps ts)
+operation_value I ps Divide none = refl
+operation_value I ps Divide (more t ts) = divided_value I ps t ts
+operation_value I ps Modulo none = refl
+operation_value I ps Modulo (more t none) = refl
+operation_value I ps Modulo (more t (more u none)) = refl
+operation_value I ps Modulo (more t (more u (more w ts))) = refl
+operation_value I ps Divisible none = refl
+operation_value I ps Divisible (more t none) = refl
+operation_value I ps Divisible (more t (more u none)) = refl
+operation_value I ps Divisible (more t (more u (more w ts))) = refl
+operation_value I ps o ts = refl
 
 weaken : {A : Type 0} (s : Scope) (m : Judging A) (P Q : A → Scope → Type 0) → ((a : A) (t : Scope) → P a t → Q a t) → Gives s m P → Gives s m Q
 weaken s m P Q f h = record { gives = go (m s) h.gives }
@@ -187,7 +208,8 @@ application_gives s r n None (Some o) d ts =
     (λ a t e. from_same s t _ (Applied s (Some o) d ts) e
     (bind_gives s _ _ (Same s) (Applied s (Some o) d ts) (required_gives s _ _)
     (λ x u f. from_same s u _ (Applied s (Some o) d ts) f
-    (weaken s _ (IsTree s (node (Theory o) (trees_of ts))) (Applied s (Some o) d ts) (λ b w h. (h.0, λ p k I ps. ap (value_with I ps) h.1)) (operator_gives s r o (trees_of ts) x)))))
+    (weaken s _ (IsTree s (operation o (trees_of ts))) (Applied s (Some o) d ts) (λ b w h. (h.0, λ p k I ps. ap (value_with I ps) h.1 ∙ operation_value I ps o (trees_of ts)))
+    (operator_gives s r o (trees_of ts) x)))))
 application_gives s r n None None None ts = refuse_gives s _ _
 application_gives s r n None None (Some d) ts =
     next_gives s _ _ (Same s) (Applied s None (Some d) ts) (require_gives s _ _)

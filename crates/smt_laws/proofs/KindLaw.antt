@@ -5,7 +5,7 @@ use Rattle.std.proofs.lemmas.Bool.{eqb-true}
 use Rattle.smt_meaning.specs.declared.values.Sort.{Sort}
 use Rattle.smt_meaning.specs.declared.values.Sort.TheVariants.{Bool as Truths, Int as Ints, Free}
 use Rattle.smt_meaning.specs.declared.terms.Operator.{Operator}
-use Rattle.smt_meaning.specs.declared.terms.Operator.TheVariants.{True, False, Not, And, Or, Xor, Implies, Equal, Distinct, Ite, Add, Subtract, Multiply, AtMost, Less, AtLeast, Greater}
+use Rattle.smt_meaning.specs.declared.terms.Operator.TheVariants.{True, False, Not, And, Or, Xor, Implies, Equal, Distinct, Ite, Add, Subtract, Multiply, AtMost, Less, AtLeast, Greater, Divide, Modulo, Absolute, Divisible}
 use Rattle.smt_meaning.specs.declared.terms.Head.{Head}
 use Rattle.smt_meaning.specs.declared.terms.Head.TheVariants.{Numeral, Theory, Symbol, Place}
 use Rattle.smt_meaning.specs.Declaration.{Declaration}
@@ -77,6 +77,10 @@ connective_is_truth AtMost ts a h = absurd cc
 connective_is_truth Less ts a h = absurd cc
 connective_is_truth AtLeast ts a h = absurd cc
 connective_is_truth Greater ts a h = absurd cc
+connective_is_truth Divide ts a h = absurd cc
+connective_is_truth Modulo ts a h = absurd cc
+connective_is_truth Absolute ts a h = absurd cc
+connective_is_truth Divisible ts a h = absurd cc
 
 if_standing : (b : Bool) (s : Option Sort) → b ≡ true → (if b then s else None) ≡ s
 if_standing b s h = rw h

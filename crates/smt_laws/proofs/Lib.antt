@@ -30,6 +30,8 @@ pub mod MoreTrees
 pub mod ClauseLawsPartsLaw
 pub mod LinearLaw
 pub mod BoundLaw
+pub mod RowLaw
+pub mod DivisionLaw
 mod ClauseLawsExamples
 mod Propagation
 mod Script
@@ -46,13 +48,14 @@ mod Numbers
 mod Propositional
 mod Reports
 mod Ranges
+mod DivisionRows
 mod Assumptions
 mod Assumed
 mod Asked
 mod AssumedCommands
 pub mod FlatLaw
-mod Each
-mod Shapes
+pub mod Each
+pub mod Shapes
 mod LinearLawsJudgements
 mod LinearLawsTermsLaw
 mod LinearLawsCommandsLaw
@@ -67,7 +70,7 @@ mod UseLemmas
 mod AgainLemmas
 mod FormLemmas
 mod TodoLemmas
-mod ProofTerms
+pub mod ProofTerms
 mod ProofFacts
 mod ProofResolving
 mod ProofAdding

@@ -1,5 +1,5 @@
 -- A judged term is among the trees, each of which is linear where products are judged, and whose numerals are in the range.
-use Rattle.std.proofs.Common.{ℕ, List, [], ◌∷◌, ◌++◌, map, refl, Bool, true, false, ◌&&◌, not, Option, Some, None}
+use Rattle.std.proofs.Common.{◌≡◌, ℕ, List, [], ◌∷◌, ◌++◌, map, refl, Bool, true, false, ◌&&◌, not, Option, Some, None}
 use Rattle.std.specs.Prelude.{codes, bytes_eq, pos, if◌then◌else◌}
 use Rattle.smt_meaning.specs.declared.values.Sort.{Sort}
 use Rattle.smt_meaning.specs.declared.values.Sort.TheVariants.{Bool as Truths, Int as Ints}
@@ -11,13 +11,13 @@ use Rattle.smt_meaning.specs.declared.tokens.Token.TheVariants.{Numeral, Symbol,
 use Rattle.smt_meaning.specs.declared.tokens.Word.TheVariants.{Exclamation, Let}
 use Rattle.smt_meaning.specs.Declaration.{Declaration, Body}
 use Rattle.smt_meaning.specs.Term.{Trees, node, none}
-use Rattle.smt_meaning.specs.TreeShape.{is_linear_at, put}
+use Rattle.smt_meaning.specs.TreeShape.{is_linear_operation, operation, put}
 use Rattle.smt_meaning.specs.Sexp.{Sexp, Sexps, word, group, end, ◌▸◌}
 use Rattle.smt_meaning.specs.Signature.{look_up, find_function, operators}
 use Rattle.smt_meaning.specs.Sorts.{Scope, Judging, Typed, Variable, Rules, trees_of, Known, variable, operator, function, unknown, known, find_variable, known_name, known_symbol, applied, applied_trees, all_are_linear, judge_symbol, judge_operator, can_be_applied, judge_application, judge_bare, judge_numeral, decimal, judge_token, check_bindings, none_twice, bound_names, name_by, judge_attributes, either, judge, judge_all, judge_bindings, has_free, variable_names}
 use Rattle.smt_laws.proofs.Among.{Among, among_one, among_map, among_parts}
 use Rattle.smt_laws.proofs.Each.{Each, EachOf, of_among, each_among, each_parts}
-use Rattle.smt_laws.proofs.Shapes.{Linear, linear_up, linear_each, tested, Small, small_down, small_up, put_each_small}
+use Rattle.smt_laws.proofs.Shapes.{Linear, linear_up, linear_each, operation_linear, operation_small, tested, Small, small_down, small_up, put_each_small}
 use Rattle.smt_laws.proofs.LinearLawsJudgements.{Stands, AllStand, Good, After, Gives, Nothing, bind_gives, next_gives, return_gives, refuse_gives, require_gives, required_gives, scope_then, Fine, note_found, declare_gives}
 
 -- ---- lists of terms and of variables
@@ -120,17 +120,18 @@ symbol_gives s r d ts g h w =
     (λ a t f e k. note_found r.closed t (applied_trees d ts) (applied d ts) d.rank.result (applied_small d ts h small)
     (λ closed. linear_each (applied_trees d ts) (tested r.closed (all_are_linear (applied_trees d ts)) k closed)) (applied_among d ts h))
 
-operator_gives : (s : Scope) (r : Rules) (o : Operator) (ts : Trees) (x : Sort) → Good r.closed s → AreAmong ts s → Gives r.closed s (judge_operator r o ts x) Fine
-operator_gives s r o ts x g w =
+operator_gives : (s : Scope) (r : Rules) (o : Operator) (ts : Trees) (x : Sort) → (is_linear_operation o ts ≡ true → EachOf Linear ts → Linear (operation o ts)) → Good r.closed s → AreAmong ts s
+    → Gives r.closed s (judge_operator r o ts x) Fine
+operator_gives s r o ts x up g w =
     next_gives r.closed s _ _ _ Fine (require_gives r.closed s _ _)
-    (λ a t f e k. note_found r.closed t (node (Theory o) ts ∷ []) (node (Theory o) ts) x (small_up (Theory o) ts refl (of_among Small ts s.trees g.small w), tt)
-    (λ closed. (linear_up (Theory o) ts (tested r.closed (is_linear_at (Theory o) ts) k closed) (of_among Linear ts s.trees (g.linear closed) w), tt)) (among_one (node (Theory o) ts)))
+    (λ a t f e k. note_found r.closed t (operation o ts ∷ []) (operation o ts) x (operation_small o ts (of_among Small ts s.trees g.small w), tt)
+    (λ closed. (up (tested r.closed (is_linear_operation o ts) k closed) (of_among Linear ts s.trees (g.linear closed) w), tt)) (among_one (operation o ts)))
 
 bare_gives : (s : Scope) (r : Rules) (n : List ℕ) (k : Known) → Good r.closed s → KnownFine k s → Gives r.closed s (judge_bare r n k) Fine
 bare_gives s r n (variable a) g h = return_gives r.closed s a Fine h
 bare_gives s r n unknown g h = refuse_gives r.closed s _ _
-bare_gives s r n (operator True) g h = operator_gives s r True none Truths g tt
-bare_gives s r n (operator False) g h = operator_gives s r False none Truths g tt
+bare_gives s r n (operator True) g h = operator_gives s r True none Truths (λ l e. linear_up (Theory True) none refl e) g tt
+bare_gives s r n (operator False) g h = operator_gives s r False none Truths (λ l e. linear_up (Theory False) none refl e) g tt
 bare_gives s r n (operator _) g h = refuse_gives r.closed s _ _
 bare_gives s r n (function d) g h = next_gives r.closed s _ _ _ Fine (require_gives r.closed s _ _) (λ a t f e k. symbol_gives t r d none f h tt)
 
@@ -140,7 +141,7 @@ application_gives s r n unknown ts h w = refuse_gives r.closed s _ _
 application_gives s r n (operator o) ts h w =
     next_gives r.closed s _ _ _ Fine (require_gives r.closed s _ _)
     (λ a t g e k. bind_gives r.closed t _ _ Nothing Fine (required_gives r.closed t _ _)
-    (λ x u f m l. operator_gives u r o (trees_of ts) x f (are_among ts u (all_after ts t u m (all_after ts s t e w)))))
+    (λ x u f m l. operator_gives u r o (trees_of ts) x (operation_linear o ts k) f (are_among ts u (all_after ts t u m (all_after ts s t e w)))))
 application_gives s r n (function d) ts h w =
     next_gives r.closed s _ _ _ Fine (require_gives r.closed s _ _)
     (λ a t g e k. next_gives r.closed t _ _ _ Fine (require_gives r.closed t _ _)

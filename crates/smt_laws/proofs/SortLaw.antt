@@ -10,10 +10,10 @@ use Rattle.smt_meaning.specs.declared.values.Value.TheVariants.{Truth, Whole}
 use Rattle.smt_meaning.specs.declared.values.Sort.{Sort}
 use Rattle.smt_meaning.specs.declared.values.Sort.TheVariants.{Bool as Truths, Int as Ints, Free}
 use Rattle.smt_meaning.specs.declared.terms.Operator.{Operator}
-use Rattle.smt_meaning.specs.declared.terms.Operator.TheVariants.{True, False, Not, And, Or, Xor, Implies, Equal, Distinct, Ite, Add, Subtract, Multiply, AtMost, Less, AtLeast, Greater}
+use Rattle.smt_meaning.specs.declared.terms.Operator.TheVariants.{True, False, Not, And, Or, Xor, Implies, Equal, Distinct, Ite, Add, Subtract, Multiply, AtMost, Less, AtLeast, Greater, Divide, Modulo, Absolute, Divisible}
 use Rattle.smt_meaning.specs.declared.terms.Head.{Head}
 use Rattle.smt_meaning.specs.declared.terms.Head.TheVariants.{Numeral, Theory, Symbol, Place}
-use Rattle.smt_meaning.specs.Term.{Tree, Trees, node, none, more, Interpretation, value, values, apply, operate, fold_left, fold_right, left_assoc, right_assoc, on_truths, on_numbers, truth_of, choice, difference, negation, implies, xor}
+use Rattle.smt_meaning.specs.Term.{Tree, Trees, node, none, more, Interpretation, value, values, apply, operate, fold_left, fold_right, left_assoc, right_assoc, on_truths, on_numbers, truth_of, choice, difference, magnitude, negation, implies, xor, quotient}
 use Rattle.smt_meaning.specs.Declaration.{Declaration}
 use Rattle.smt_meaning.specs.Signature.{sort_eq, sorts_eq, all_of, if_so, ite_sort, operator_sort, is_symbol, function_with_id, symbol_sort, stands_with, head_sort, cons_sort, with_sorts, tree_sort, tree_sorts}
 use Rattle.smt_meaning.specs.Interpretation.{has_sort, have_sorts, IsFunctionFor, Interprets}
@@ -90,6 +90,17 @@ differences : (v : Value) (vs : List Value) → all_fit_sort Ints (v ∷ vs) ≡
 differences v [] h = refl
 differences v (w ∷ ws) h = left_numbers ◌-ℤ◌ v (w ∷ ws) h
 
+magnitudes : (v : Value) (vs : List Value) → all_fit_sort Ints (v ∷ vs) ≡ true → Fits (magnitude (v ∷ vs)) Ints
+magnitudes v [] h = refl
+magnitudes v (w ∷ ws) h = refl
+
+-- so many is at least one
+some_of_two : (n : ℕ) → nat_eq n 2 ≡ true → nat_le 1 n ≡ true
+some_of_two n h = ap (nat_le 1) (eqb-true n 2 h)
+
+some_of_one : (n : ℕ) → nat_eq n 1 ≡ true → nat_le 1 n ≡ true
+some_of_one n h = ap (nat_le 1) (eqb-true n 1 h)
+
 negations : (vs : List Value) → Fits (negation vs) Truths
 negations [] = refl
 negations (v ∷ []) = refl
@@ -150,6 +161,11 @@ operator_fits AtMost vs ss s b e h = of_truths _ (operate AtMost vs) s e (λ t. 
 operator_fits Less vs ss s b e h = of_truths _ (operate Less vs) s e (λ t. refl)
 operator_fits AtLeast vs ss s b e h = of_truths _ (operate AtLeast vs) s e (λ t. refl)
 operator_fits Greater vs ss s b e h = of_truths _ (operate Greater vs) s e (λ t. refl)
+operator_fits Divide vs ss s b e h =
+    of_numbers _ _ s e (λ t. not_empty vs ss (left_assoc (on_numbers quotient)) (some_of_two (length ss) b) h (λ v us. left_numbers quotient v us) (all_of_fits Ints vs ss h t))
+operator_fits Modulo vs ss s b e h = of_numbers _ (operate Modulo vs) s e (λ t. refl)
+operator_fits Absolute vs ss s b e h = of_numbers _ _ s e (λ t. not_empty vs ss magnitude (some_of_one (length ss) b) h magnitudes (all_of_fits Ints vs ss h t))
+operator_fits Divisible vs ss s b e h = of_truths _ (operate Divisible vs) s e (λ t. refl)
 
 -- ---- terms
 

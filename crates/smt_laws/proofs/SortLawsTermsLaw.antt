@@ -4,21 +4,22 @@ use Rattle.std.specs.Prelude.{codes, bytes_eq, pos, if◌then◌else◌}
 use Rattle.std.proofs.lemmas.Bool.{eqb-true}
 use Rattle.std.proofs.lemmas.List.{length-map}
 use Rattle.smt_meaning.specs.declared.values.Sort.{Sort}
-use Rattle.smt_meaning.specs.declared.values.Sort.TheVariants.{Bool as Truths, Int as Ints}
+use Rattle.smt_meaning.specs.declared.values.Sort.TheVariants.{Bool as Truths, Int as Ints, Free}
 use Rattle.smt_meaning.specs.declared.terms.Operator.{Operator}
-use Rattle.smt_meaning.specs.declared.terms.Operator.TheVariants.{True, False, Not, And, Or, Xor, Implies, Equal, Distinct, Ite, Add, Subtract, Multiply, AtMost, Less, AtLeast, Greater}
+use Rattle.smt_meaning.specs.declared.terms.Operator.TheVariants.{True, False, Not, And, Or, Xor, Implies, Equal, Distinct, Ite, Add, Subtract, Multiply, AtMost, Less, AtLeast, Greater, Divide, Modulo, Absolute, Divisible}
 use Rattle.smt_meaning.specs.declared.terms.Head.TheVariants.{Numeral as Number, Theory}
 use Rattle.smt_meaning.specs.declared.tokens.Token.{Token}
 use Rattle.smt_meaning.specs.declared.tokens.Token.TheVariants.{Numeral, Symbol, Reserved, Keyword}
 use Rattle.smt_meaning.specs.declared.tokens.Word.TheVariants.{Exclamation, Let}
 use Rattle.smt_meaning.specs.Declaration.{Declaration}
-use Rattle.smt_meaning.specs.Term.{Trees, node, none}
+use Rattle.smt_meaning.specs.Term.{Tree, Trees, node, none, more}
+use Rattle.smt_meaning.specs.TreeShape.{quotient_tree, divided_from, operation}
 use Rattle.smt_meaning.specs.Sexp.{Sexp, Sexps, word, group, end, ◌▸◌}
-use Rattle.smt_meaning.specs.Signature.{look_up, find_function, operators, takes, stands_with, operator_sort}
+use Rattle.smt_meaning.specs.Signature.{look_up, find_function, operators, takes, stands_with, operator_sort, if_so, all_of, sort_eq}
 use Rattle.smt_meaning.specs.Sorts.{Scope, Judging, Typed, Variable, Rules, trees_of, sorts_of, Known, variable, operator, function, unknown, known, find_variable, known_name, known_symbol, applied, applied_trees, judge_symbol, judge_operator, can_be_applied, judge_application, judge_bare, judge_numeral, decimal, judge_token, check_bindings, none_twice, bound_names, name_declaration, body_of, name_by, judge_attributes, either, judge, judge_all, judge_bindings, has_free, variable_names}
-use Rattle.smt_laws.proofs.Both.{and_left}
+use Rattle.smt_laws.proofs.Both.{and_left, and_right}
 use Rattle.smt_laws.proofs.Among.{Among, among_one, among_parts}
-use Rattle.smt_laws.proofs.PlacesLaw.{HasSort, HaveSorts, sort_later, sorts_later}
+use Rattle.smt_laws.proofs.PlacesLaw.{HasSort, HaveSorts, head_at, sort_later, sorts_later}
 use Rattle.smt_laws.proofs.Signatures.{sorts_eq-sound, Usable, usable_later, Good, found_usable, defined_usable}
 use Rattle.smt_laws.proofs.SortLawsJudgements.{Naming, After, Gives, Nothing, bind_gives, next_gives, return_gives, refuse_gives, require_gives, required_gives, scope_then, Fine, fine_after, note_found, declare_gives}
 
@@ -88,11 +89,11 @@ symbol_gives may ps s r d ts u w =
     u t.signature ps ts e.later (sorts_later s.signature t.signature ps ts d.rank.arguments e.later w)
     in note_found may ps t (applied_trees d ts) (applied d ts) d.rank.result h.0 h.1)
 
-operator_gives : (may : Declaration → Type 0) (ps : List Sort) (s : Scope) (r : Rules) (o : Operator) (ts : Trees) (x : Sort) → HasSort s.signature ps (node (Theory o) ts) x
+operator_gives : (may : Declaration → Type 0) (ps : List Sort) (s : Scope) (r : Rules) (o : Operator) (ts : Trees) (x : Sort) → HasSort s.signature ps (operation o ts) x
     → Gives may s (judge_operator r o ts x) (Fine ps)
 operator_gives may ps s r o ts x h =
     next_gives may s _ _ _ (Fine ps) (require_gives may s _ _)
-    (λ c t g e k. note_found may ps t (node (Theory o) ts ∷ []) (node (Theory o) ts) x (sort_later s.signature t.signature ps (node (Theory o) ts) x e.later h) (among_one (node (Theory o) ts)))
+    (λ c t g e k. note_found may ps t (operation o ts ∷ []) (operation o ts) x (sort_later s.signature t.signature ps (operation o ts) x e.later h) (among_one (operation o ts)))
 
 no_sorts : (ss : List Sort) → nat_eq (length ss) 0 ≡ true → ss ≡ []
 no_sorts [] e = refl
@@ -109,34 +110,102 @@ bare_gives may ps s r n (function d) h =
     (λ c t g e k.
     symbol_gives may ps t r d none (usable_later s.signature t.signature d e.later h) (subst (HaveSorts t.signature ps none) (sym (no_sorts d.rank.arguments k)) tt))
 
-stands_if_taken : (o : Operator) (n : ℕ) → takes o n ≡ true → stands_with o n ≡ true
-stands_if_taken True n h = absurd (cc)
-stands_if_taken False n h = absurd (cc)
-stands_if_taken Not n h = h
-stands_if_taken And n h = h
-stands_if_taken Or n h = h
-stands_if_taken Xor n h = h
-stands_if_taken Implies n h = h
-stands_if_taken Equal n h = h
-stands_if_taken Distinct n h = h
-stands_if_taken Ite n h = h
-stands_if_taken Add n h = h
-stands_if_taken Subtract n h = h
-stands_if_taken Multiply n h = h
-stands_if_taken AtMost n h = h
-stands_if_taken Less n h = h
-stands_if_taken AtLeast n h = h
-stands_if_taken Greater n h = h
+-- as it stands
+abbrev Plain : List Declaration → List Sort → Operator → Trees → List Sort → Sort → Type 0
+Plain ds ps o us ss x = stands_with o (length ss) ≡ true → HasSort ds ps (node (Theory o) us) x
+
+plain : (ds : List Declaration) (ps : List Sort) (o : Operator) (us : Trees) (ss : List Sort) (x : Sort) → HaveSorts ds ps us ss → operator_sort o ss ≡ Some x → Plain ds ps o us ss x
+plain ds ps o us ss x w e k = (ss, (w, ap (λ c. if c then operator_sort o ss else None) k ∙ e))
+
+all_ints : (b : Bool) (x s : Sort) → if_so b x ≡ Some s → (b ≡ true) × (x ≡ s)
+all_ints true x s e = (refl, cc)
+all_ints false x s e = absurd (cc)
+
+int_first : (s : Sort) (ss : List Sort) → all_of Ints (s ∷ ss) ≡ true → s ≡ Ints
+int_first Truths ss h = cc
+int_first Ints ss h = refl
+int_first (Free n) ss h = cc
+
+int_rest : (s : Sort) (ss : List Sort) → all_of Ints (s ∷ ss) ≡ true → all_of Ints ss ≡ true
+int_rest s ss h = and_right (sort_eq Ints s) (all_of Ints ss) h
+
+quotient_sort : (ds : List Declaration) (ps : List Sort) (t u : Tree) → HasSort ds ps t Ints → HasSort ds ps u Ints → HasSort ds ps (quotient_tree t u) Ints
+quotient_sort ds ps t u h k = (Ints ∷ Ints ∷ [], ((h, (k, tt)), refl))
+
+divided_sort : (ds : List Declaration) (ps : List Sort) (t : Tree) (us : Trees) (ss : List Sort) → HasSort ds ps t Ints → HaveSorts ds ps us ss → all_of Ints ss ≡ true
+    → HasSort ds ps (divided_from t us) Ints
+divided_sort ds ps t none ss h w a = h
+divided_sort ds ps t (more u us) [] h w a = absurd w
+divided_sort ds ps t (more u us) (s ∷ ss) h w a =
+    divided_sort ds ps (quotient_tree t u) us ss (quotient_sort ds ps t u h (subst (HasSort ds ps u) (int_first s ss a) w.0)) w.1 (int_rest s ss a)
+
+-- with its quotient beside it
+left_over_sort : (ds : List Declaration) (ps : List Sort) (o : Operator) (t u : Tree) (r s x : Sort) → HasSort ds ps t r → HasSort ds ps u s → all_of Ints (r ∷ s ∷ []) ≡ true
+    → head_at ds ps (Theory o) (Ints ∷ Ints ∷ Ints ∷ []) ≡ Some x → HasSort ds ps (node (Theory o) (more t (more u (more (quotient_tree t u) none)))) x
+left_over_sort ds ps o t u r s x h k a e =
+    let first : HasSort ds ps t Ints = subst (HasSort ds ps t) (int_first r (s ∷ []) a) h in
+    let second : HasSort ds ps u Ints = subst (HasSort ds ps u) (int_first s [] (int_rest r (s ∷ []) a)) k in
+    (Ints ∷ Ints ∷ Ints ∷ [], ((first, (second, (quotient_sort ds ps t u first second, tt))), e))
+
+two_of_three : (n : ℕ) → nat_eq (suc (suc (suc n))) 2 ≡ true → ⊥
+two_of_three n h = let q : suc (suc (suc n)) ≡ 2 = eqb-true (suc (suc (suc n))) 2 h in omega (arith, q)
+
+-- the tree of an operator that is applied has the operator's sort
+operation_sort : (ds : List Declaration) (ps : List Sort) (o : Operator) (us : Trees) (ss : List Sort) (x : Sort) → HaveSorts ds ps us ss → takes o (length ss) ≡ true
+    → operator_sort o ss ≡ Some x → HasSort ds ps (operation o us) x
+operation_sort ds ps True us ss x w k e = absurd (cc)
+operation_sort ds ps False us ss x w k e = absurd (cc)
+operation_sort ds ps Not us ss x w k e = plain ds ps Not us ss x w e k
+operation_sort ds ps And us ss x w k e = plain ds ps And us ss x w e k
+operation_sort ds ps Or us ss x w k e = plain ds ps Or us ss x w e k
+operation_sort ds ps Xor us ss x w k e = plain ds ps Xor us ss x w e k
+operation_sort ds ps Implies us ss x w k e = plain ds ps Implies us ss x w e k
+operation_sort ds ps Equal us ss x w k e = plain ds ps Equal us ss x w e k
+operation_sort ds ps Distinct us ss x w k e = plain ds ps Distinct us ss x w e k
+operation_sort ds ps Ite us ss x w k e = plain ds ps Ite us ss x w e k
+operation_sort ds ps Add us ss x w k e = plain ds ps Add us ss x w e k
+operation_sort ds ps Subtract us ss x w k e = plain ds ps Subtract us ss x w e k
+operation_sort ds ps Multiply us ss x w k e = plain ds ps Multiply us ss x w e k
+operation_sort ds ps AtMost us ss x w k e = plain ds ps AtMost us ss x w e k
+operation_sort ds ps Less us ss x w k e = plain ds ps Less us ss x w e k
+operation_sort ds ps AtLeast us ss x w k e = plain ds ps AtLeast us ss x w e k
+operation_sort ds ps Greater us ss x w k e = plain ds ps Greater us ss x w e k
+operation_sort ds ps Absolute us ss x w k e = plain ds ps Absolute us ss x w e k
+operation_sort ds ps Divide none [] x w k e = absurd (cc)
+operation_sort ds ps Divide none (s ∷ ss) x w k e = absurd w
+operation_sort ds ps Divide (more t us) [] x w k e = absurd w
+operation_sort ds ps Divide (more t us) (s ∷ ss) x w k e =
+    let p : (all_of Ints (s ∷ ss) ≡ true) × (Ints ≡ x) = all_ints (all_of Ints (s ∷ ss)) Ints x e in
+    subst (HasSort ds ps (divided_from t us)) p.1 (divided_sort ds ps t us ss (subst (HasSort ds ps t) (int_first s ss p.0) w.0) w.1 (int_rest s ss p.0))
+operation_sort ds ps Modulo none [] x w k e = absurd (cc)
+operation_sort ds ps Modulo none (s ∷ ss) x w k e = absurd w
+operation_sort ds ps Modulo (more t us) [] x w k e = absurd w
+operation_sort ds ps Modulo (more t none) (s ∷ []) x w k e = absurd (cc)
+operation_sort ds ps Modulo (more t none) (s ∷ r ∷ ss) x w k e = absurd w.1
+operation_sort ds ps Modulo (more t (more u us)) (s ∷ []) x w k e = absurd w.1
+operation_sort ds ps Modulo (more t (more u none)) (s ∷ r ∷ []) x w k e =
+    let p : (all_of Ints (s ∷ r ∷ []) ≡ true) × (Ints ≡ x) = all_ints (all_of Ints (s ∷ r ∷ [])) Ints x e in
+    left_over_sort ds ps Modulo t u s r x w.0 w.1.0 p.0 (ap Some p.1)
+operation_sort ds ps Modulo (more t (more u none)) (s ∷ r ∷ q ∷ ss) x w k e = absurd w.1.1
+operation_sort ds ps Modulo (more t (more u (more v us))) (s ∷ r ∷ []) x w k e = absurd w.1.1
+operation_sort ds ps Modulo (more t (more u (more v us))) (s ∷ r ∷ q ∷ ss) x w k e = absurd (two_of_three (length ss) k)
+operation_sort ds ps Divisible none [] x w k e = absurd (cc)
+operation_sort ds ps Divisible none (s ∷ ss) x w k e = absurd w
+operation_sort ds ps Divisible (more t us) [] x w k e = absurd w
+operation_sort ds ps Divisible (more t none) (s ∷ []) x w k e = absurd (cc)
+operation_sort ds ps Divisible (more t none) (s ∷ r ∷ ss) x w k e = absurd w.1
+operation_sort ds ps Divisible (more t (more u us)) (s ∷ []) x w k e = absurd w.1
+operation_sort ds ps Divisible (more t (more u none)) (s ∷ r ∷ []) x w k e =
+    let p : (all_of Ints (s ∷ r ∷ []) ≡ true) × (Truths ≡ x) = all_ints (all_of Ints (s ∷ r ∷ [])) Truths x e in
+    left_over_sort ds ps Divisible t u s r x w.0 w.1.0 p.0 (ap Some p.1)
+operation_sort ds ps Divisible (more t (more u none)) (s ∷ r ∷ q ∷ ss) x w k e = absurd w.1.1
+operation_sort ds ps Divisible (more t (more u (more v us))) (s ∷ r ∷ []) x w k e = absurd w.1.1
+operation_sort ds ps Divisible (more t (more u (more v us))) (s ∷ r ∷ q ∷ ss) x w k e = absurd (two_of_three (length ss) k)
 
 operator_has : (ps : List Sort) (t : Scope) (o : Operator) (ts : List Typed) (x : Sort) → AllFine ps ts t → takes o (length ts) ≡ true → operator_sort o (sorts_of ts) ≡ Some x
-    → HasSort t.signature ps (node (Theory o) (trees_of ts)) x
-operator_has ps t o ts x h k e = (
-  sorts_of ts,
-  (
-    have_sorts ps ts t h,
-    ap (λ c. if c then operator_sort o (sorts_of ts) else None) (ap (stands_with o) (length-map ts (λ (a : Typed). a.sort)) ∙ stands_if_taken o (length ts) k) ∙ e,
-  ),
-)
+    → HasSort t.signature ps (operation o (trees_of ts)) x
+operator_has ps t o ts x h k e =
+    operation_sort t.signature ps o (trees_of ts) (sorts_of ts) x (have_sorts ps ts t h) (ap (takes o) (length-map ts (λ (a : Typed). a.sort)) ∙ k) e
 
 all_after : (may : Declaration → Type 0) (ps : List Sort) (ts : List Typed) (s t : Scope) → After may s t → AllFine ps ts s → AllFine ps ts t
 all_after may ps [] s t e h = tt

@@ -1,5 +1,6 @@
 pub mod TermLaws
 pub mod SortLaws
+pub mod Rows
 pub mod ClauseLaws
 pub mod KindLaws
 pub mod LanguageLaws

@@ -1,5 +1,7 @@
-//! Laws of what follows from a stack, of linear forms, of normal bounds and of places in lists of trees, each as the contract of a function that does nothing.
-ghost use Rattle.smt_laws.specs.ClauseLaws.{EmptyClauseShowsNoModel, LinearFormHasValue, NameStandsForTerm, NormalBoundHasValue, ResolventFollows, StillFollowsAbove, StillFollowsAfterDeclared, StillFollowsAfterMore, StillFollowsAfterPop, StillFollowsAfterPush, StillFollowsWithTrees, TreeIsFoundAgain};
+//! Laws of what follows from a stack, of linear forms, of normal bounds, of divisions and of places in lists of trees, each as the contract of a function that does nothing.
+ghost use Rattle.std.specs.Prelude.{ℕ, ℤ};
+ghost use Rattle.smt_meaning.specs.Term.{Tree};
+ghost use Rattle.smt_laws.specs.ClauseLaws.{DivisionAtomsByPlaces, DivisionClausesAreTrue, DivisionClausesByPlaces, DivisionFitsByPlaces, DivisionHoldsByPlaces, DivisionRowsForce, DivisionRowsHold, EmptyClauseShowsNoModel, LimitsHaveValues, LinearFormHasValue, NameStandsForTerm, NormalBoundHasValue, ResolventFollows, RowsAreOfTheTerm, StillFollowsAbove, StillFollowsAfterDeclared, StillFollowsAfterMore, StillFollowsAfterPop, StillFollowsAfterPush, StillFollowsWithTrees, TreeIsFoundAgain};
 
 /// A clause that follows at a level still follows there after pushes.
 pub fn still_follows_after_push()
@@ -49,6 +51,43 @@ pub fn linear_form_has_value()
 /// Over whole numbers a normal bound has the value of the bound.
 pub fn normal_bound_has_value()
     ensures { NormalBoundHasValue }
+{}
+
+/// A bound of a sum of multiples is true exactly where it holds of their values.
+pub fn limits_have_values()
+    ensures trees { LimitsHaveValues Tree }
+    ensures places { LimitsHaveValues ℕ }
+{}
+
+/// The rows of a division are over multiples of the term and of its arguments.
+pub fn rows_are_of_the_term()
+    ensures trees { RowsAreOfTheTerm Tree }
+    ensures places { RowsAreOfTheTerm ℕ }
+{}
+
+/// Numbers that meet the rows of a division are its quotient, its remainder, whether there is none, and the absolute value; and these meet them.
+pub fn division_rows_force()
+    ensures trees { DivisionRowsForce Tree }
+    ensures places { DivisionRowsForce ℕ }
+    ensures numbers { DivisionRowsForce ℤ }
+{}
+
+/// The clauses of a division are true under every interpretation.
+pub fn division_clauses_are_true()
+    ensures { DivisionClausesAreTrue }
+{}
+
+/// The rows of a division hold of the values that an interpretation gives.
+pub fn division_rows_hold()
+    ensures { DivisionRowsHold }
+{}
+
+/// The bounds of a division, whether they fit the range, its clauses and that they hold, by the places of the term and of its arguments.
+pub fn divisions_stand_by_places()
+    ensures atoms { DivisionAtomsByPlaces }
+    ensures fit { DivisionFitsByPlaces }
+    ensures clauses { DivisionClausesByPlaces }
+    ensures hold { DivisionHoldsByPlaces }
 {}
 
 /// A tree of a list stands at its place in it.

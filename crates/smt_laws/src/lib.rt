@@ -39,6 +39,9 @@
 //! is in the range where its numerals are and its folding stays there; a normal bound has the value
 //! of the bound over whole numbers.
 //!
+//! Of divisions: the clauses of a division are true under every interpretation, and no numbers meet
+//! them but the quotient, the remainder, whether there is none, and the absolute value.
+//!
 //! Of proofs: an interpretation that makes the assertions true that a proof names makes each of its
 //! clauses true; so where a good proof stands, the assertions that it names have no model.
 //!
@@ -61,10 +64,11 @@ mod terms;
 mod walk;
 
 pub use clauses::{
-    empty_clause_shows_no_model, linear_form_has_value, name_stands_for_term,
-    normal_bound_has_value, resolvent_follows, still_follows_above, still_follows_after_declared,
-    still_follows_after_more, still_follows_after_pop, still_follows_after_push,
-    still_follows_with_trees, tree_is_found_again,
+    division_clauses_are_true, division_rows_force, division_rows_hold, divisions_stand_by_places,
+    empty_clause_shows_no_model, limits_have_values, linear_form_has_value, name_stands_for_term,
+    normal_bound_has_value, resolvent_follows, rows_are_of_the_term, still_follows_above,
+    still_follows_after_declared, still_follows_after_more, still_follows_after_pop,
+    still_follows_after_push, still_follows_with_trees, tree_is_found_again,
 };
 pub use flat::flat_says_the_same;
 pub use kinds::propositional_has_no_integers;
