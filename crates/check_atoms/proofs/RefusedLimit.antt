@@ -1,10 +1,13 @@
 -- A limit of a division that is refused.
-use Rattle.std.proofs.Common.{◌≡◌, inl, inr, ℕ, false, Contains, subst, sym, ap, ◌∙◌, refl}
+use Rattle.std.proofs.Common.{◌≡◌, inl, inr, ℕ, false, List, [], ◌∷◌, All, Contains, subst, sym, ap, ◌∙◌, refl}
+use Rattle.std.specs.Prelude.{IsTrue}
 use Rattle.std.proofs.lemmas.List.Elements.{All-contains, All-contains_itself}
 use Rattle.smt_meaning.specs.declared.terms.Operator.{Operator}
 use Rattle.smt_meaning.specs.declared.terms.Head.TheVariants.{Theory}
-use Rattle.smt_meaning.specs.Term.{node, tree_at}
+use Rattle.smt_meaning.specs.Term.{Tree, node, tree_at}
 use Rattle.smt_meaning.specs.Nodes.{pick}
+use Rattle.fraction128.specs.Whole.{is_in_range}
+use Rattle.smt_meaning.specs.Linear.{sum_fits}
 use Rattle.smt_meaning.specs.Comparisons.{compared_fits}
 use Rattle.smt_meaning.specs.Ranges.{LeavesInPart}
 use Rattle.smt_meaning.specs.Stack.{signature_of}
@@ -12,14 +15,19 @@ use Rattle.smt_meaning.specs.StackCommand.{Stack}
 use Rattle.term_store.proofs.PlaceLemmas.{place_of-is}
 use Rattle.scope_stack.specs.Shown.{IsLawful}
 use Rattle.pair_bounds.specs.declared.rows.RowLimit.{RowLimit}
-use Rattle.pair_bounds.specs.Rows.{divisor_at, RowsAreAtoms}
+use Rattle.linear_forms.specs.Multiples.{form_at}
+use Rattle.linear_forms.proofs.SumLemmas.{fits_in_range}
+use Rattle.pair_bounds.specs.Rows.{divisor_at, DivisorIsLarge, RowsAreAtoms}
+use Rattle.smt_laws.specs.Numerals.{numerals_fit}
+use Rattle.smt_laws.specs.LinearLaws.{PlacedFormsFit}
 use Rattle.check_atoms.specs.declared.refusal.Refusal.TheVariants.{Limit as RefusedLimit, Memory}
 use Rattle.check_atoms.specs.declared.part.PartAtom.{PartAtom}
 use Rattle.check_atoms.specs.declared.part.PartAtom.TheVariants.{Truth, Same, Bound, Limit}
 use Rattle.check_atoms.specs.PartAtoms.{sort_of}
 use Rattle.check_atoms.specs.Numbering.{RefusesRows}
 use Rattle.check_atoms.specs.OfStack.{part_atoms, RefusesPart}
-use Rattle.check_atoms.specs.Laws.{RefusedLimitLeavesRange}
+use Rattle.check_atoms.specs.PairRangesLaws.{LawfulLimitsLeaveRange}
+use Rattle.check_atoms.proofs.Sorting.{right_true}
 use Rattle.check_atoms.proofs.Rows.{limits_of, comparison_unfit}
 use Rattle.check_atoms.proofs.PartPlaces.{part_any}
 use Rattle.check_atoms.proofs.Refused.{different}
@@ -63,9 +71,16 @@ module _ (s : Stack) (lawful : IsLawful s) (law : RowsAreAtoms) (part : ℕ) (r 
         leaves = inr unfit;
       })
 
-pub refused_limit : RowsAreAtoms → RefusedLimitLeavesRange
-refused_limit law s part lawful (inl m) = absurd (no_memory part m)
-refused_limit law s part lawful (inr r) = elim r.atom [
+-- a divisor that is folded within the range isn't large
+not_large : (ts : List Tree) (is : List ℕ) → PlacedFormsFit → All (λ (t : Tree). IsTrue (numerals_fit t)) ts → DivisorIsLarge ts is → ⊥
+not_large ts [] fit numerals d = d
+not_large ts (i ∷ []) fit numerals d = d
+not_large ts (i ∷ j ∷ is) fit numerals d =
+    d.1 (fits_in_range (form_at ts j).constant (right_true (sum_fits (form_at ts j).sum) (is_in_range (form_at ts j).constant) (fit ts j numerals d.0)))
+
+pub lawful_limits : PlacedFormsFit → RowsAreAtoms → LawfulLimitsLeaveRange
+lawful_limits fit law s part lawful numerals (inl m) = absurd (no_memory part m)
+lawful_limits fit law s part lawful numerals (inr r) = elim r.atom [
   | inl b ↦ absurd b.refuses
-  | inr other ↦ elim other [ inl rows ↦ refused s lawful law part r rows | inr d ↦ absurd d ]
+  | inr other ↦ elim other [ inl rows ↦ refused s lawful law part r rows | inr d ↦ absurd (not_large s.trees r.arguments fit numerals d.1) ]
 ]

@@ -9,8 +9,8 @@ use Rattle.smt_laws.specs.LinearLaws.{NumeralsAreInRange, PlacedFormsFit}
 use Rattle.bound_clauses.specs.declared.orders.Order.{Order}
 use Rattle.check_atoms.specs.declared.refusal.Refusal.TheVariants.{Pair, Memory}
 use Rattle.check_atoms.specs.OfStack.{IsRefused}
-use Rattle.check_atoms.specs.Laws.{RefusedPairLeavesRange, RefusedLimitLeavesRange}
-use Rattle.check_atoms.specs.PairRangesLaws.{RefusedPairsLeaveRange, LawfulPairsLeaveRange, RefusedLimitsLeaveRange}
+use Rattle.check_atoms.specs.Laws.{RefusedPairLeavesRange}
+use Rattle.check_atoms.specs.PairRangesLaws.{RefusedPairsLeaveRange, LawfulPairsLeaveRange, LawfulLimitsLeaveRange, RefusedLimitsLeaveRange}
 
 no_memory : (part : ℕ) (o : Order) → Pair part o ≡ Memory → ⊥
 no_memory part o e = cc
@@ -30,6 +30,6 @@ pub refused_pairs : LawfulPairsLeaveRange → NumeralsAreInRange → NoIdTwice �
 refused_pairs leave numerals ids truths order parts cs part o refused =
     leave (after_all start cs) part o (record { no_id_twice = ids cs; truths = truths cs; in_order = order cs; parts = parts cs }) (numerals cs) refused
 
-pub refused_limits : RefusedLimitLeavesRange → NoIdTwice → AssertionsAreTruths → TreesAreInOrder → PartsAreAmongTheTrees → RefusedLimitsLeaveRange
-refused_limits leaves ids truths order parts cs part refused =
-    leaves (after_all start cs) part (record { no_id_twice = ids cs; truths = truths cs; in_order = order cs; parts = parts cs }) refused
+pub refused_limits : LawfulLimitsLeaveRange → NumeralsAreInRange → NoIdTwice → AssertionsAreTruths → TreesAreInOrder → PartsAreAmongTheTrees → RefusedLimitsLeaveRange
+refused_limits leaves numerals ids truths order parts cs part refused =
+    leaves (after_all start cs) part (record { no_id_twice = ids cs; truths = truths cs; in_order = order cs; parts = parts cs }) (numerals cs) refused

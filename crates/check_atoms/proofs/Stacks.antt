@@ -35,12 +35,11 @@ use Rattle.check_atoms.specs.declared.part.PartAtom.{PartAtom}
 use Rattle.check_atoms.specs.declared.part.PartAtom.TheVariants.{Truth, Same, Bound, Limit}
 use Rattle.linear_forms.specs.declared.multiples.Multiple.{Multiple}
 use Rattle.linear_forms.specs.Multiples.{form_at}
-use Rattle.pair_bounds.specs.Rows.{divisor_at, multiples, limit_of_row, DivisorIsOutside}
+use Rattle.pair_bounds.specs.Rows.{divisor_at, multiples, limit_of_row}
 use Rattle.smt_meaning.specs.Atoms.{limit_atom}
 use Rattle.check_atoms.specs.PartAtoms.{atom_of, of_part, sort_of, sort_in}
 use Rattle.check_atoms.specs.Divisors.{IsDivisorOf}
-use Rattle.check_atoms.specs.declared.refusal.Refusal.TheVariants.{Term}
-use Rattle.check_atoms.specs.Numbering.{IsNormal, Adds, RefusesOne}
+use Rattle.check_atoms.specs.Numbering.{IsNormal, Adds, RefusesOne, RefusesDivision}
 use Rattle.check_atoms.specs.OfStack.{IsNode, part_atoms, IsAtomOfPart, ComparesMarked, AreCheckAtoms, AreAtomsBelow, IsRefused}
 use Rattle.check_atoms.specs.Chords.{MayCompare}
 use Rattle.smt_meaning.specs.declared.clauses.Atom.TheVariants.{Truth as TruthAtom, Same as SameAtom, AtMost}
@@ -127,8 +126,8 @@ module _ (s : Stack) (marks : List Bool) (law : IsLawful s) (parts : AreMarkedFr
   part_refused k h is e m n (inr (inl r)) = inr (record { place = k; head = h; arguments = is; part = parts.only k m; term = n; atom = inl r })
   part_refused k h is e m n (inr (inr r)) = inr (record { place = k; head = h; arguments = is; part = parts.only k m; term = n; atom = inr (inl r) })
 
-  pub divisor_refused : (k : ℕ) (h : Head) (is : List ℕ) (part : ℕ) → IsMarked marks k → IsNode s.trees k h is → DivisorIsOutside s.trees is part → IsRefused s (Term part)
-  divisor_refused k h is part m n o = inr (record { place = k; head = h; arguments = is; part = parts.only k m; term = n; atom = inr (inr o) })
+  pub divisor_refused : (k : ℕ) (h : Head) (is : List ℕ) (e : Refusal) → IsMarked marks k → IsNode s.trees k h is → RefusesDivision s.trees k is e → IsRefused s e
+  divisor_refused k h is e m n o = inr (record { place = k; head = h; arguments = is; part = parts.only k m; term = n; atom = inr (inr o) })
 
   -- ---- the places and the symbols of the atoms
 

@@ -1,20 +1,12 @@
 -- The number by which the rows of a part divide.
-use Rattle.std.specs.Prelude.{◌≡◌, ℕ, Bool, true, false, List, Option, ℤ}
+use Rattle.std.specs.Prelude.{◌≡◌, ℕ, List, Option, ℤ}
 use Rattle.fraction128.specs.Whole.{InRange}
 use Rattle.smt_meaning.specs.declared.values.Sort.{Sort}
 use Rattle.smt_meaning.specs.declared.terms.Operator.{Operator}
-use Rattle.smt_meaning.specs.declared.terms.Operator.TheVariants.{Divide, Modulo, Divisible}
 use Rattle.smt_meaning.specs.declared.terms.Head.{Head}
 use Rattle.smt_meaning.specs.Term.{Tree}
 use Rattle.pair_bounds.specs.Rows.{divisor_at}
 use Rattle.check_atoms.specs.PartAtoms.{compared, of_part}
-
--- a term with this operator divides by its second argument
-abbrev pub divides : Operator → Bool
-divides Divide = true
-divides Modulo = true
-divides Divisible = true
-divides o = false
 
 -- the number is in the range, and with it a term with this operator and these arguments has the atoms that it has with its divisor
 pub record IsDivisorFor (ts : List Tree) (o : Operator) (is : List ℕ) (n : ℤ) : Type 0 where

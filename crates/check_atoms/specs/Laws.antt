@@ -23,7 +23,7 @@ use Rattle.check_atoms.specs.Marks.{AreStackParts}
 use Rattle.bound_clauses.specs.declared.orders.Sense.{Sense}
 use Rattle.bound_clauses.specs.declared.orders.Sense.TheVariants.{NotAbove, Below}
 use Rattle.bound_clauses.specs.declared.orders.Order.{Order}
-use Rattle.check_atoms.specs.declared.refusal.Refusal.TheVariants.{Term, Pair, Limit}
+use Rattle.check_atoms.specs.declared.refusal.Refusal.TheVariants.{Term, Pair}
 use Rattle.bound_clauses.specs.Orders.{order_atoms, bound_atom}
 use Rattle.bound_clauses.specs.Laws.{orders}
 use Rattle.pair_bounds.specs.Rows.{divisor_at}
@@ -79,10 +79,6 @@ abbrev pub RefusedPairLeavesRange : Type 0
 RefusedPairLeavesRange =
     (s : Stack) (part : ℕ) (o : Order) → IsLawful s → form_fits (linear_form s.trees (tree_at s.trees o.lesser)) ≡ true → IsRefused s (Pair part o)
     → PairLeavesRange s part o.sense o.lesser o.greater
-
--- what a part compares leaves the range where one of its limits is refused
-abbrev pub RefusedLimitLeavesRange : Type 0
-RefusedLimitLeavesRange = (s : Stack) (part : ℕ) → IsLawful s → IsRefused s (Limit part) → LeavesInPart s.trees s.frames part
 
 -- what is numbered for a part with this operator: the bounds of a comparison, the atoms of the terms that it compares, and the bounds of the rows of a division
 pub record HasNumbers (s : Stack) (atoms : List Atom) (p : ℕ) (o : Operator) (is : List ℕ) : Type 0 where

@@ -11,7 +11,7 @@ use Rattle.linear_forms.specs.declared.differences.DifferenceError.TheVariants.{
 use Rattle.linear_forms.specs.Differences.{Refuses}
 use Rattle.pair_bounds.specs.Pairs.{at_most_fits, below_fits}
 use Rattle.pair_bounds.specs.declared.rows.RowLimit.{RowLimit}
-use Rattle.pair_bounds.specs.Rows.{IsRowLimit, RefusesLimit, DivisorIsOutside}
+use Rattle.pair_bounds.specs.Rows.{IsRowLimit, RefusesLimit, RefusesDivisor}
 use Rattle.bound_clauses.specs.declared.orders.Sense.{Sense}
 use Rattle.bound_clauses.specs.declared.orders.Sense.TheVariants.{NotAbove, Below}
 use Rattle.bound_clauses.specs.declared.orders.Order.{Order}
@@ -70,12 +70,12 @@ pub record RefusesRows (ts : List Tree) (place : ℕ) (atoms : List PartAtom) (e
   pub among : Contains atoms (LimitAtom limit)
   pub refuses : RefusesRow ts place limit e
 
--- folding the divisor of a division of the terms at these places leaves the range, at this part
-abbrev pub RefusesDivisor : List Tree → List ℕ → Refusal → Type 0
-RefusesDivisor ts is (Term part) = DivisorIsOutside ts is part
-RefusesDivisor ts is (Pair p q) = ⊥
-RefusesDivisor ts is (Limit p) = ⊥
-RefusesDivisor ts is Memory = ⊥
+-- folding the divisor of a division of the terms at these places, at this place, leaves the range at this part, or its number isn't in the range
+abbrev pub RefusesDivision : List Tree → ℕ → List ℕ → Refusal → Type 0
+RefusesDivision ts place is (Term part) = RefusesDivisor ts is (FormOfTerm part)
+RefusesDivision ts place is (Pair p q) = ⊥
+RefusesDivision ts place is (Limit p) = (p ≡ place) × RefusesDivisor ts is FormOfPair
+RefusesDivision ts place is Memory = ⊥
 
 -- memory is wanting, or one of these is refused
 abbrev pub RefusesOne : List Tree → ℕ → List PartAtom → Refusal → Type 0

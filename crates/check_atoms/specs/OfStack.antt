@@ -19,7 +19,7 @@ use Rattle.check_atoms.specs.declared.refusal.Refusal.{Refusal}
 use Rattle.check_atoms.specs.declared.refusal.Refusal.TheVariants.{Memory}
 use Rattle.check_atoms.specs.declared.part.PartAtom.{PartAtom}
 use Rattle.check_atoms.specs.PartAtoms.{atom_of, of_part, sort_of}
-use Rattle.check_atoms.specs.Numbering.{IsNormal, RefusesBound, RefusesRows, RefusesDivisor}
+use Rattle.check_atoms.specs.Numbering.{IsNormal, RefusesBound, RefusesRows, RefusesDivision}
 
 -- the term at this place has this head, and its arguments are at these places
 pub record IsNode (trees : List Tree) (p : ℕ) (h : Head) (is : List ℕ) : Type 0 where
@@ -76,7 +76,7 @@ pub record RefusesPart (s : Stack) (e : Refusal) : Type 0 where
   pub arguments : List ℕ
   pub part : IsPartOfStack s.frames (tree_at s.trees place)
   pub term : IsNode s.trees place head arguments
-  pub atom : RefusesBound s.trees place (part_atoms s place head arguments) e ⊎ (RefusesRows s.trees place (part_atoms s place head arguments) e ⊎ RefusesDivisor s.trees arguments e)
+  pub atom : RefusesBound s.trees place (part_atoms s place head arguments) e ⊎ (RefusesRows s.trees place (part_atoms s place head arguments) e ⊎ RefusesDivision s.trees place arguments e)
 
 -- memory is wanting, or a bound is refused
 abbrev pub IsRefused : Stack → Refusal → Type 0

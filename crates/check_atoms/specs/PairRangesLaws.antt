@@ -26,3 +26,8 @@ LawfulPairsLeaveRange =
 abbrev pub RefusedLimitsLeaveRange : Type 0
 RefusedLimitsLeaveRange =
     (cs : List Command) (part : ℕ) → IsRefused (after_all start cs) (Limit part) → LeavesInPart (after_all start cs).trees (after_all start cs).frames part
+
+-- so it is on each lawful stack whose numerals are in the range
+abbrev pub LawfulLimitsLeaveRange : Type 0
+LawfulLimitsLeaveRange =
+    (s : Stack) (part : ℕ) → IsLawful s → All (λ (t : Tree). IsTrue (numerals_fit t)) s.trees → IsRefused s (Limit part) → LeavesInPart s.trees s.frames part

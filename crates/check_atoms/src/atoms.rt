@@ -8,7 +8,7 @@ ghost use Rattle.check_atoms.specs.Marks.{AreMarkedFrom, AreStackParts};
 ghost use Rattle.check_atoms.specs.declared.part.PartAtom.{PartAtom as PartAtomValue};
 ghost use Rattle.check_atoms.specs.OfStack.{AreCheckAtoms, AreAtomsBelow, IsRefused};
 
-use crate::divisor::divisor_of;
+use crate::divisor::{divisor_of, refusal_of_divisor};
 use crate::graph::{Triangle, chords};
 use crate::number::number_all;
 use crate::part::{Compared, PartAtom, add_part};
@@ -67,7 +67,7 @@ fn number_part(
     let node = stack.terms().node(id);
     let divisor = match divisor_of(forms, node.head, node.arguments) {
         Ok(divisor) => divisor,
-        Err(part) => return Err(Refusal::Term(part)),
+        Err(error) => return Err(refusal_of_divisor(error, id)),
     };
     lists.wanted.clear();
     add_part(

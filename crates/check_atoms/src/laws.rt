@@ -1,5 +1,5 @@
 //! What holds of the numbered atoms and of a refusal, as contracts of functions that do nothing.
-ghost use Rattle.check_atoms.specs.Laws.{StackAtomsAreNumbered, AtomsAreFirst, PartsHaveNumbers, TruthsHaveNumbers, RefusedTermLeavesRange, RefusedPairLeavesRange, RefusedLimitLeavesRange};
+ghost use Rattle.check_atoms.specs.Laws.{StackAtomsAreNumbered, AtomsAreFirst, PartsHaveNumbers, TruthsHaveNumbers, RefusedTermLeavesRange, RefusedPairLeavesRange};
 
 use bound_clauses::orders_are_comparisons;
 use pair_bounds::rows_are_atoms;
@@ -41,10 +41,3 @@ pub fn refused_term_leaves_range()
 pub fn refused_pair_leaves_range()
     ensures { RefusedPairLeavesRange }
 {}
-
-/// What a part compares leaves the range where a limit of its rows is refused.
-pub fn refused_limit_leaves_range()
-    ensures { RefusedLimitLeavesRange }
-{
-    rows_are_atoms();
-}

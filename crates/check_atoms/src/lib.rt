@@ -21,7 +21,7 @@
 //! the equality of two of one sort).
 #![tactic(auto)]
 
-ghost use Rattle.check_atoms.specs.PairRangesLaws.{LawfulPairsLeaveRange, RefusedPairsLeaveRange, RefusedLimitsLeaveRange};
+ghost use Rattle.check_atoms.specs.PairRangesLaws.{LawfulPairsLeaveRange, RefusedPairsLeaveRange, LawfulLimitsLeaveRange, RefusedLimitsLeaveRange};
 ghost use Rattle.check_atoms.specs.ReadablePartsLaws.{LawfulPartsAreReadable, LawfulPlacesAreReadable, PartsAreReadable, PlacesAreReadable};
 
 mod atoms;
@@ -38,10 +38,11 @@ mod stack_atoms;
 pub use atoms::{CheckAtoms, numbered};
 pub use graph::Triangle;
 pub use laws::{
-    atoms_are_first, parts_have_numbers, refused_limit_leaves_range, refused_pair_leaves_range,
-    refused_term_leaves_range, stack_atoms_are_numbered, truths_have_numbers,
+    atoms_are_first, parts_have_numbers, refused_pair_leaves_range, refused_term_leaves_range,
+    stack_atoms_are_numbered, truths_have_numbers,
 };
 pub use part::PartAtom;
+use pair_bounds::rows_are_atoms;
 pub use refusal::Refusal;
 use smt_laws::{
     assertions_are_linear, assertions_are_truths, leaves_are_among_the_trees, leaves_are_parts,
@@ -74,11 +75,20 @@ pub fn lawful_pairs_leave_range()
 pub fn refused_limits_leave_range()
     ensures { RefusedLimitsLeaveRange }
 {
-    refused_limit_leaves_range();
+    lawful_limits_leave_range();
+    numerals_are_in_range();
     no_id_twice();
     assertions_are_truths();
     trees_are_in_order();
     parts_are_among_the_trees();
+}
+
+/// The same of each lawful stack whose numerals are in the range.
+pub fn lawful_limits_leave_range()
+    ensures { LawfulLimitsLeaveRange }
+{
+    placed_forms_fit();
+    rows_are_atoms();
 }
 
 /// Where a part of an assertion stands on a stack that commands give, bounds can be read: the tree is linear, and its leaves are among the stack's trees.

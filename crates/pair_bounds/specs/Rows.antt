@@ -86,10 +86,15 @@ abbrev pub DivisorIsOutside : List Tree → List ℕ → ℕ → Type 0
 DivisorIsOutside ts (a ∷ n ∷ is) part = IsOutside ts n part
 DivisorIsOutside ts is part = ⊥
 
+-- folding the second argument stays in the range, and its number isn't in it
+abbrev pub DivisorIsLarge : List Tree → List ℕ → Type 0
+DivisorIsLarge ts (a ∷ n ∷ is) = (folding_fits ts (tree_at ts n) ≡ true) × (InRange (form_at ts n).constant → ⊥)
+DivisorIsLarge ts is = ⊥
+
 -- why the divisor is refused: folding it leaves the range, or its own number does
 abbrev pub RefusesDivisor : List Tree → List ℕ → DifferenceError → Type 0
 RefusesDivisor ts is (Term part) = DivisorIsOutside ts is part
-RefusesDivisor ts is Pair = InRange (divisor_at ts is) → ⊥
+RefusesDivisor ts is Pair = DivisorIsLarge ts is
 RefusesDivisor ts is Memory = ⊥
 
 -- ---- bounds
