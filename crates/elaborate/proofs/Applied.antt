@@ -5,19 +5,19 @@ use Rattle.smt_meaning.specs.declared.values.Sort.{Sort}
 use Rattle.smt_meaning.specs.declared.values.Sort.TheVariants.{Bool as Truths}
 use Rattle.smt_meaning.specs.declared.terms.Head.TheVariants.{Theory, Symbol as Function}
 use Rattle.smt_meaning.specs.declared.terms.Operator.{Operator}
-use Rattle.smt_meaning.specs.declared.terms.Operator.TheVariants.{True, False, Not, And, Or, Xor, Implies, Equal, Distinct, Ite, Add, Subtract, Multiply, AtMost, Less, AtLeast, Greater}
+use Rattle.smt_meaning.specs.declared.terms.Operator.TheVariants.{True, False, Not, And, Or, Xor, Implies, Equal, Distinct, Ite, Add, Subtract, Multiply, AtMost, Less, AtLeast, Greater, Divide, Modulo, Absolute, Divisible}
 use Rattle.smt_meaning.specs.declared.refusals.Refusal.{Refusal}
 use Rattle.smt_meaning.specs.declared.refusals.Refusal.TheVariants.{ArgumentCount, SortsDiffer, NotLinear}
 use Rattle.smt_meaning.specs.Declaration.{Declaration, Body}
 use Rattle.smt_meaning.specs.Term.{Tree, Trees, node, none, tree_at}
-use Rattle.smt_meaning.specs.TreeShape.{are_linear, is_linear_at, with_parts}
+use Rattle.smt_meaning.specs.TreeShape.{are_linear, is_linear_operation, operation, with_parts}
 use Rattle.smt_meaning.specs.Signature.{takes, stands_with, operator_sort, sorts_eq}
 use Rattle.smt_meaning.specs.Sorts.{Scope, done, refused, Judging, ◌>>=◌, ◌>>◌, return, refuse, require, required, note, found, trees_of, sorts_of, Typed, Rules, operator, function, judge_symbol, judge_operator, judge_application, judge_bare}
 use Rattle.elaborate.specs.declared.value.Value.{Value}
 use Rattle.elaborate.specs.declared.error.JudgeError.{JudgeError}
 use Rattle.elaborate.specs.declared.error.JudgeError.TheVariants.{Refused, Memory}
-use Rattle.elaborate.specs.Values.{sort_of, typed, AreValues, IsNode, Comes, IsErrorOf, is_linear_here, all_linear}
-use Rattle.elaborate.proofs.Stored.{linear_here, linears}
+use Rattle.elaborate.specs.Values.{sort_of, typed, AreValues, IsNode, IsTerm, Comes, IsErrorOf, all_linear}
+use Rattle.elaborate.proofs.Stored.{linears}
 
 abbrev at : Scope → List Tree → Scope
 at s us = record s { trees = us }
@@ -52,14 +52,14 @@ op_is r n o as' x s e f =
     ap (λ b. (require b (ArgumentCount n) >> (required (operator_sort o (sorts_of as')) (SortsDiffer n) >>= (λ y. judge_operator r o (trees_of as') y))) s) e
     ∙ ap (λ q. (required q (SortsDiffer n) >>= (λ y. judge_operator r o (trees_of as') y)) s) f
 
-op_linear : (r : Rules) (o : Operator) (us : Trees) (x : Sort) (s : Scope) → (not r.closed || is_linear_at (Theory o) us) ≡ false → judge_operator r o us x s ≡ refused NotLinear
+op_linear : (r : Rules) (o : Operator) (us : Trees) (x : Sort) (s : Scope) → (not r.closed || is_linear_operation o us) ≡ false → judge_operator r o us x s ≡ refused NotLinear
 unfolding ◌>>=◌ ◌>>◌ return refuse require note found
-op_linear r o us x s e = ap (λ b. (require b NotLinear >> (note (node (Theory o) us ∷ []) >> found (node (Theory o) us) x)) s) e
+op_linear r o us x s e = ap (λ b. (require b NotLinear >> (note (operation o us ∷ []) >> found (operation o us) x)) s) e
 
-op_done : (r : Rules) (o : Operator) (us : Trees) (x : Sort) (s : Scope) → (not r.closed || is_linear_at (Theory o) us) ≡ true
-    → judge_operator r o us x s ≡ done (record { tree = node (Theory o) us; sort = x }) (at s (with_parts s.trees (node (Theory o) us)))
+op_done : (r : Rules) (o : Operator) (us : Trees) (x : Sort) (s : Scope) → (not r.closed || is_linear_operation o us) ≡ true
+    → judge_operator r o us x s ≡ done (record { tree = operation o us; sort = x }) (at s (with_parts s.trees (operation o us)))
 unfolding ◌>>=◌ ◌>>◌ return refuse require note found
-op_done r o us x s e = ap (λ b. (require b NotLinear >> (note (node (Theory o) us ∷ []) >> found (node (Theory o) us) x)) s) e
+op_done r o us x s e = ap (λ b. (require b NotLinear >> (note (operation o us ∷ []) >> found (operation o us) x)) s) e
 
 counted : (ts : List Tree) (vs : List Value) → length (map (typed ts) vs) ≡ length vs
 counted ts [] = refl
@@ -78,16 +78,10 @@ pub operator_sorts : (r : Rules) (n : List ℕ) (o : Operator) (vs : List Value)
 operator_sorts r n o vs s us e h i k =
     comes_err (judge_application r n (operator o) (map (typed s.trees) vs)) s us (SortsDiffer n) e (op_sorts r n o (map (typed s.trees) vs) s (ap (takes o) (counted s.trees vs) ∙ h) (ap (operator_sort o) (sorted s.trees vs) ∙ i)) k
 
-pub operator_linear : (r : Rules) (n : List ℕ) (o : Operator) (vs : List Value) (x : Sort) (s : Scope) → AreValues s.trees vs → takes o (length vs) ≡ true → operator_sort o (map sort_of vs) ≡ Some x
-    → (not r.closed || is_linear_here (Theory o) vs) ≡ false → judge_application r n (operator o) (map (typed s.trees) vs) s ≡ refused NotLinear
-operator_linear r n o vs x s a h i l =
-    op_is r n o (map (typed s.trees) vs) x s (ap (takes o) (counted s.trees vs) ∙ h) (ap (operator_sort o) (sorted s.trees vs) ∙ i)
-    ∙ op_linear r o (trees_of (map (typed s.trees) vs)) x s (sym (ap (λ b. not r.closed || b) (linear_here s.trees (Theory o) vs a)) ∙ l)
-
--- what `stored` gives
-abbrev pub IsStored : Operator → Sort → List Value → List Tree → List Tree → Result Value JudgeError → Type 0
-IsStored o x vs ts us (Ok v) = IsNode (Theory o) x vs ts us v
-IsStored o x vs ts us (Err e) = e ≡ Memory
+pub operator_linear : (r : Rules) (n : List ℕ) (o : Operator) (vs : List Value) (x : Sort) (s : Scope) → takes o (length vs) ≡ true → operator_sort o (map sort_of vs) ≡ Some x
+    → (not r.closed || is_linear_operation o (trees_of (map (typed s.trees) vs))) ≡ false → judge_application r n (operator o) (map (typed s.trees) vs) s ≡ refused NotLinear
+operator_linear r n o vs x s h i l =
+    op_is r n o (map (typed s.trees) vs) x s (ap (takes o) (counted s.trees vs) ∙ h) (ap (operator_sort o) (sorted s.trees vs) ∙ i) ∙ op_linear r o (trees_of (map (typed s.trees) vs)) x s l
 
 value_is : (h : Tree) (x : Sort) (us : List Tree) (v : Value) → tree_at us v.id ≡ h → v.sort ≡ x → record { tree = h; sort = x } ≡ typed us v
 value_is h x us v e f = ap (λ t. record { tree = t; sort = x }) (sym e) ∙ ap (λ y. record { tree = tree_at us v.id; sort = y }) (sym f)
@@ -96,25 +90,26 @@ pub node_is : (h : Tree) (x : Sort) (s : Scope) (us : List Tree) (v : Value) →
     → done (record { tree = h; sort = x }) (at s (with_parts s.trees h)) ≡ done (typed us v) (at s us)
 node_is h x s us v e f g = ap (λ ts. done (record { tree = h; sort = x }) (at s ts)) (sym e) ∙ ap (λ t. done t (at s us)) (value_is h x us v f g)
 
-pub operator_stored : (r : Rules) (n : List ℕ) (o : Operator) (vs : List Value) (x : Sort) (s : Scope) (us : List Tree) (v : Value) → AreValues s.trees vs → takes o (length vs) ≡ true → operator_sort o (map sort_of vs) ≡ Some x
-    → (not r.closed || is_linear_here (Theory o) vs) ≡ true → IsNode (Theory o) x vs s.trees us v → Comes (judge_application r n (operator o) (map (typed s.trees) vs)) s us (Ok v)
-operator_stored r n o vs x s us v a h i l k = (
+operator_stored : (r : Rules) (n : List ℕ) (o : Operator) (vs : List Value) (x : Sort) (s : Scope) (us : List Tree) (v : Value) → takes o (length vs) ≡ true → operator_sort o (map sort_of vs) ≡ Some x
+    → (not r.closed || is_linear_operation o (trees_of (map (typed s.trees) vs))) ≡ true → IsTerm (operation o (trees_of (map (typed s.trees) vs))) x s.trees us v → Comes (judge_application r n (operator o) (map (typed s.trees) vs)) s us (Ok v)
+operator_stored r n o vs x s us v h i l k = (
   op_is r n o (map (typed s.trees) vs) x s (ap (takes o) (counted s.trees vs) ∙ h) (ap (operator_sort o) (sorted s.trees vs) ∙ i)
-      ∙ op_done r o (trees_of (map (typed s.trees) vs)) x s (sym (ap (λ b. not r.closed || b) (linear_here s.trees (Theory o) vs a)) ∙ l)
-      ∙ node_is (node (Theory o) (trees_of (map (typed s.trees) vs))) x s us v k.trees k.tree k.sort,
+      ∙ op_done r o (trees_of (map (typed s.trees) vs)) x s l
+      ∙ node_is (operation o (trees_of (map (typed s.trees) vs))) x s us v k.trees k.tree k.sort,
   k.value,
 )
+
+pub operator_result : (r : Rules) (n : List ℕ) (o : Operator) (vs : List Value) (x : Sort) (s : Scope) (us : List Tree) (y : Result Value JudgeError) → takes o (length vs) ≡ true → operator_sort o (map sort_of vs) ≡ Some x
+    → (not r.closed || is_linear_operation o (trees_of (map (typed s.trees) vs))) ≡ true → IfOk y (λ v. IsTerm (operation o (trees_of (map (typed s.trees) vs))) x s.trees us v) → OnErr y (y ≡ Err Memory)
+    → Comes (judge_application r n (operator o) (map (typed s.trees) vs)) s us y
+operator_result r n o vs x s us (Ok v) h i l k m = operator_stored r n o vs x s us v h i l k
+operator_result r n o vs x s us (Err e) h i l k m = memory_err (judge_application r n (operator o) (map (typed s.trees) vs)) s us e (error_is e m)
 
 -- ---- an operator that stands bare
 
 or_true : (b : Bool) → (b || true) ≡ true
 or_true true = refl
 or_true false = refl
-
-pub operator_result : (r : Rules) (n : List ℕ) (o : Operator) (vs : List Value) (x : Sort) (s : Scope) (us : List Tree) (y : Result Value JudgeError) → AreValues s.trees vs → takes o (length vs) ≡ true → operator_sort o (map sort_of vs) ≡ Some x
-    → (not r.closed || is_linear_here (Theory o) vs) ≡ true → IfOk y (λ v. IsNode (Theory o) x vs s.trees us v) → OnErr y (y ≡ Err Memory) → Comes (judge_application r n (operator o) (map (typed s.trees) vs)) s us y
-operator_result r n o vs x s us (Ok v) a h i l k m = operator_stored r n o vs x s us v a h i l k
-operator_result r n o vs x s us (Err e) a h i l k m = memory_err (judge_application r n (operator o) (map (typed s.trees) vs)) s us e (error_is e m)
 
 bare_is : (r : Rules) (n : List ℕ) (o : Operator) → stands_with o 0 ≡ true → judge_bare r n (operator o) ≡ judge_operator r o none Truths
 bare_is r n True e = refl
@@ -134,6 +129,10 @@ bare_is r n AtMost e = absurd (cc)
 bare_is r n Less e = absurd (cc)
 bare_is r n AtLeast e = absurd (cc)
 bare_is r n Greater e = absurd (cc)
+bare_is r n Divide e = absurd (cc)
+bare_is r n Modulo e = absurd (cc)
+bare_is r n Absolute e = absurd (cc)
+bare_is r n Divisible e = absurd (cc)
 
 bare_not : (r : Rules) (n : List ℕ) (o : Operator) (s : Scope) → stands_with o 0 ≡ false → judge_bare r n (operator o) s ≡ refused (ArgumentCount n)
 unfolding refuse
@@ -154,8 +153,12 @@ bare_not r n AtMost s e = refl
 bare_not r n Less s e = refl
 bare_not r n AtLeast s e = refl
 bare_not r n Greater s e = refl
+bare_not r n Divide s e = refl
+bare_not r n Modulo s e = refl
+bare_not r n Absolute s e = refl
+bare_not r n Divisible s e = refl
 
-linear_none : (o : Operator) → is_linear_at (Theory o) none ≡ true
+linear_none : (o : Operator) → is_linear_operation o none ≡ true
 linear_none True = refl
 linear_none False = refl
 linear_none Not = refl
@@ -173,6 +176,33 @@ linear_none AtMost = refl
 linear_none Less = refl
 linear_none AtLeast = refl
 linear_none Greater = refl
+linear_none Divide = refl
+linear_none Modulo = refl
+linear_none Absolute = refl
+linear_none Divisible = refl
+
+bare_tree : (o : Operator) → operation o none ≡ node (Theory o) none
+bare_tree True = refl
+bare_tree False = refl
+bare_tree Not = refl
+bare_tree And = refl
+bare_tree Or = refl
+bare_tree Xor = refl
+bare_tree Implies = refl
+bare_tree Equal = refl
+bare_tree Distinct = refl
+bare_tree Ite = refl
+bare_tree Add = refl
+bare_tree Subtract = refl
+bare_tree Multiply = refl
+bare_tree AtMost = refl
+bare_tree Less = refl
+bare_tree AtLeast = refl
+bare_tree Greater = refl
+bare_tree Divide = refl
+bare_tree Modulo = refl
+bare_tree Absolute = refl
+bare_tree Divisible = refl
 
 pub bare_refused : (r : Rules) (n : List ℕ) (o : Operator) (s : Scope) (us : List Tree) (e : JudgeError) → stands_with o 0 ≡ false → IsErrorOf (ArgumentCount n) e → Comes (judge_bare r n (operator o)) s us (Err e)
 bare_refused r n o s us e h k = comes_err (judge_bare r n (operator o)) s us (ArgumentCount n) e (bare_not r n o s h) k
@@ -180,7 +210,9 @@ bare_refused r n o s us e h k = comes_err (judge_bare r n (operator o)) s us (Ar
 pub bare_result : (r : Rules) (n : List ℕ) (o : Operator) (s : Scope) (us : List Tree) (y : Result Value JudgeError) → stands_with o 0 ≡ true → IfOk y (λ v. IsNode (Theory o) Truths [] s.trees us v) → OnErr y (y ≡ Err Memory)
     → Comes (judge_bare r n (operator o)) s us y
 bare_result r n o s us (Ok v) h k m = (
-  ap (λ j. j s) (bare_is r n o h) ∙ op_done r o none Truths s (ap (λ b. not r.closed || b) (linear_none o) ∙ or_true (not r.closed)) ∙ node_is (node (Theory o) none) Truths s us v k.trees k.tree k.sort,
+  ap (λ j. j s) (bare_is r n o h)
+      ∙ op_done r o none Truths s (ap (λ b. not r.closed || b) (linear_none o) ∙ or_true (not r.closed))
+      ∙ node_is (operation o none) Truths s us v (k.trees ∙ ap (with_parts s.trees) (sym (bare_tree o))) (k.tree ∙ sym (bare_tree o)) k.sort,
   k.value,
 )
 bare_result r n o s us (Err e) h k m = memory_err (judge_bare r n (operator o)) s us e (error_is e m)

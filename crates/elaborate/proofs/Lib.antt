@@ -4,6 +4,8 @@ pub mod Owned
 mod Left
 pub mod Flags
 pub mod Stored
+mod Dividing
+mod Operations
 pub mod Applied
 pub mod Stacks
 pub mod Numerals

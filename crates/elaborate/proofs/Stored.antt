@@ -4,14 +4,12 @@ use Rattle.std.specs.Prelude.{if◌then◌else◌}
 use Rattle.std.proofs.lemmas.List.Elements.{All-nil, All-cons}
 use Rattle.smt_meaning.specs.declared.values.Sort.{Sort}
 use Rattle.smt_meaning.specs.declared.terms.Head.{Head}
-use Rattle.smt_meaning.specs.declared.terms.Head.TheVariants.{Numeral, Theory, Symbol, Place}
-use Rattle.smt_meaning.specs.declared.terms.Operator.TheVariants.{True, False, Not, And, Or, Xor, Implies, Equal, Distinct, Ite, Add, Subtract, Multiply, AtMost, Less, AtLeast, Greater}
 use Rattle.smt_meaning.specs.Term.{Tree, node, more, tree_at}
 use Rattle.smt_meaning.specs.TreeShape.{is_constant, are_constant, is_linear, are_linear, is_constant_head, is_linear_at, at_most_one_varies, is_among, with_tree, with_parts}
 use Rattle.smt_meaning.specs.Nodes.{pick}
 use Rattle.smt_meaning.specs.Sorts.{trees_of}
 use Rattle.elaborate.specs.declared.value.Value.{Value}
-use Rattle.elaborate.specs.Values.{id_of, typed, AreValues, IsLonger, all_constant, all_linear, one_varies, is_linear_here, IsNode}
+use Rattle.elaborate.specs.Values.{id_of, typed, AreValues, IsLonger, all_constant, all_linear, one_varies, IsNode}
 
 pub ids_below : (ts : List Tree) (vs : List Value) → AreValues ts vs → All (λ i. i < length ts) (map id_of vs)
 ids_below ts [] h = All-nil (λ i. i < length ts)
@@ -29,34 +27,12 @@ pub linears : (ts : List Tree) (vs : List Value) → AreValues ts vs → all_lin
 linears ts [] h = refl
 linears ts (v ∷ vs) h = ap (λ b. b && all_linear vs) h.0.linear ∙ ap (λ b. is_linear (tree_at ts v.id) && b) (linears ts vs h.1)
 
-varying : (ts : List Tree) (vs : List Value) → AreValues ts vs → one_varies vs ≡ at_most_one_varies (trees_of (map (typed ts) vs))
+pub varying : (ts : List Tree) (vs : List Value) → AreValues ts vs → one_varies vs ≡ at_most_one_varies (trees_of (map (typed ts) vs))
 varying ts [] h = refl
 varying ts (v ∷ vs) h =
     ap (λ b. if b then one_varies vs else all_constant vs) h.0.constant
     ∙ ap (λ b. if is_constant (tree_at ts v.id) then b else all_constant vs) (varying ts vs h.1)
     ∙ ap (λ b. if is_constant (tree_at ts v.id) then at_most_one_varies (trees_of (map (typed ts) vs)) else b) (constants ts vs h.1)
-
-pub linear_here : (ts : List Tree) (h : Head) (vs : List Value) → AreValues ts vs → is_linear_here h vs ≡ is_linear_at h (trees_of (map (typed ts) vs))
-linear_here ts (Numeral n) vs a = refl
-linear_here ts (Theory True) vs a = refl
-linear_here ts (Theory False) vs a = refl
-linear_here ts (Theory Not) vs a = refl
-linear_here ts (Theory And) vs a = refl
-linear_here ts (Theory Or) vs a = refl
-linear_here ts (Theory Xor) vs a = refl
-linear_here ts (Theory Implies) vs a = refl
-linear_here ts (Theory Equal) vs a = refl
-linear_here ts (Theory Distinct) vs a = refl
-linear_here ts (Theory Ite) vs a = refl
-linear_here ts (Theory Add) vs a = refl
-linear_here ts (Theory Subtract) vs a = refl
-linear_here ts (Theory Multiply) vs a = varying ts vs a
-linear_here ts (Theory AtMost) vs a = refl
-linear_here ts (Theory Less) vs a = refl
-linear_here ts (Theory AtLeast) vs a = refl
-linear_here ts (Theory Greater) vs a = refl
-linear_here ts (Symbol f) vs a = refl
-linear_here ts (Place k) vs a = refl
 
 pub longer_with : (ts us : List Tree) (t : Tree) → us ≡ with_tree ts t → IsLonger ts us
 longer_with ts us t e = go (is_among t ts) e
@@ -69,7 +45,7 @@ pub longer_self : (ts us : List Tree) → us ≡ ts → IsLonger ts us
 longer_self ts us e = ([], e ∙ sym (append-nil ts))
 
 pub node_done : (h : Head) (s : Sort) (vs : List Value) (ts us : List Tree) (is : List ℕ) (v : Value) → AreValues ts vs → is ≡ map id_of vs → us ≡ with_parts ts (node h (pick ts is)) → v.id < length us → tree_at us v.id ≡ node h (pick ts is)
-    → v.sort ≡ s → v.constant ≡ (is_constant_head h && all_constant vs) → v.linear ≡ (is_linear_here h vs && all_linear vs) → IsNode h s vs ts us v
+    → v.sort ≡ s → v.constant ≡ (is_constant_head h && all_constant vs) → v.linear ≡ (is_linear_at h (trees_of (map (typed ts) vs)) && all_linear vs) → IsNode h s vs ts us v
 node_done h s vs ts us is v a e k within here sort c l =
     let args : pick ts is ≡ trees_of (map (typed ts) vs) = ap (pick ts) e ∙ picked ts vs in
     let tree : tree_at us v.id ≡ node h (trees_of (map (typed ts) vs)) = here ∙ ap (node h) args in
@@ -80,7 +56,6 @@ node_done h s vs ts us is v a e k within here sort c l =
       value = record {
         within = within;
         constant = c ∙ ap (λ b. is_constant_head h && b) (constants ts vs a) ∙ ap is_constant (sym tree);
-        linear =
-            l ∙ ap (λ b. b && all_linear vs) (linear_here ts h vs a) ∙ ap (λ b. is_linear_at h (trees_of (map (typed ts) vs)) && b) (linears ts vs a) ∙ ap is_linear (sym tree);
+        linear = l ∙ ap (λ b. is_linear_at h (trees_of (map (typed ts) vs)) && b) (linears ts vs a) ∙ ap is_linear (sym tree);
       };
     }

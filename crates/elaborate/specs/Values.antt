@@ -1,12 +1,12 @@
 -- What a term that is read stands for.
-use Rattle.std.specs.Prelude.{◌≡◌, ℕ, ◌<◌, Bool, true, ◌&&◌, List, [], ◌∷◌, ◌++◌, map, length, if◌then◌else◌}
+use Rattle.std.specs.Prelude.{◌≡◌, ℕ, ◌<◌, Bool, true, false, not, ◌&&◌, pos, nat_eq, List, [], ◌∷◌, ◌++◌, map, length, if◌then◌else◌}
 use Rattle.smt_meaning.specs.declared.values.Sort.{Sort}
 use Rattle.smt_meaning.specs.declared.terms.Head.{Head}
-use Rattle.smt_meaning.specs.declared.terms.Head.TheVariants.{Theory}
-use Rattle.smt_meaning.specs.declared.terms.Operator.TheVariants.{Multiply}
+use Rattle.smt_meaning.specs.declared.terms.Head.TheVariants.{Numeral, Theory}
+use Rattle.smt_meaning.specs.declared.terms.Operator.{Operator}
 use Rattle.smt_meaning.specs.declared.refusals.Refusal.{Refusal}
-use Rattle.smt_meaning.specs.Term.{Tree, node, tree_at}
-use Rattle.smt_meaning.specs.TreeShape.{is_constant, is_linear, with_parts}
+use Rattle.smt_meaning.specs.Term.{Tree, Trees, node, none, more, tree_at, int_eq}
+use Rattle.smt_meaning.specs.TreeShape.{is_constant, is_linear, are_divisors, quotient_tree, with_parts}
 use Rattle.smt_meaning.specs.Sorts.{Scope, Judging, done, refused, Typed, trees_of}
 use Rattle.term_store.specs.Terms.{Terms}
 use Rattle.elaborate.specs.declared.value.Value.{Value}
@@ -55,9 +55,21 @@ abbrev pub one_varies : List Value → Bool
 one_varies [] = true
 one_varies (v ∷ vs) = if v.constant then one_varies vs else all_constant vs
 
-abbrev pub is_linear_here : Head → List Value → Bool
-is_linear_here (Theory Multiply) vs = one_varies vs
-is_linear_here _ vs = true
+-- ---- divisors
+
+-- a numeral other than 0
+abbrev pub is_nonzero : Tree → Bool
+is_nonzero (node (Numeral n) none) = not (int_eq n (pos 0))
+is_nonzero t = false
+
+abbrev pub are_two : List ℕ → ℕ → ℕ → Bool
+are_two (i ∷ j ∷ []) m n = nat_eq i m && nat_eq j n
+are_two is m n = false
+
+-- each but the first is a divisor
+abbrev pub all_but_first_divide : Trees → Bool
+all_but_first_divide none = true
+all_but_first_divide (more t ts) = are_divisors ts
 
 -- ---- what calls come to
 
@@ -67,6 +79,18 @@ pub record IsNode (h : Head) (s : Sort) (vs : List Value) (ts us : List Tree) (v
   pub tree : tree_at us v.id ≡ node h (trees_of (map (typed ts) vs))
   pub sort : v.sort ≡ s
   pub value : IsValue us v
+
+-- the value is this term, which joined the trees with its parts unless it was there
+pub record IsTerm (t : Tree) (s : Sort) (ts us : List Tree) (v : Value) : Type 0 where
+  pub trees : us ≡ with_parts ts t
+  pub tree : tree_at us v.id ≡ t
+  pub sort : v.sort ≡ s
+  pub value : IsValue us v
+
+-- a remainder or a divisibility, with its quotient beside it
+abbrev pub with_quotient : Operator → Trees → Tree
+with_quotient o (more t (more u none)) = node (Theory o) (more t (more u (more (quotient_tree t u) none)))
+with_quotient o ts = node (Theory o) ts
 
 -- a judgement gives this result
 abbrev pub Comes : Judging Typed → Scope → List Tree → Result Value JudgeError → Type 0

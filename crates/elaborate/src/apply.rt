@@ -9,14 +9,15 @@ ghost use Rattle.elaborate.specs.Values.{AreValues, Comes, IsErrorOf, HasGrown, 
 
 use crate::definitions::apply_definition;
 use crate::error::JudgeError;
+use crate::operation::operated;
 use crate::operators::{operator_sort, same_sort, stands_bare, takes};
-use crate::value::{Value, are_linear, is_linear_here, stored};
+use crate::value::{Value, are_linear, is_linear_operation, stored};
 use smt_meaning::{Bytes, Declaration, Head, Operator, Refusal, Seq, Sort, TokenView};
 use smt_sorts::Table;
 use std::alloc::Global;
 use term_store::TermStore;
 
-/// What is allowed where a term stands: names for terms, and products that aren't linear where there are parameters.
+/// What is allowed where a term stands: names for terms, and terms that aren't linear where there are parameters.
 #[derive(Clone, Copy, Drop)]
 pub(crate) struct Rules {
     pub naming: bool,
@@ -75,13 +76,13 @@ pub(crate) fn apply_operator(
         Some(sort) => sort,
         None => return Err(wrong_sorts(alloc, name)),
     };
-    if !may_stand(rules, is_linear_here(Head::Theory(operator), arguments)) {
+    if !may_stand(rules, is_linear_operation(operator, arguments, store)) {
         return Err(JudgeError::Refused(Refusal::NotLinear));
     }
-    stored(alloc, Head::Theory(operator), sort, arguments, store)
+    operated(alloc, operator, sort, arguments, store)
 }
 
-/// Products are judged only where there are no parameters.
+/// Products and divisors are judged only where there are no parameters.
 pub(crate) fn may_stand(rules: Rules, linear: bool) -> bool
     ensures { result ≡ (not rules.closed || linear) }
 {

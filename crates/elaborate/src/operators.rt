@@ -70,7 +70,8 @@ pub(crate) fn takes(operator: Operator, count: usize) -> bool
 {
     match operator {
         Operator::True | Operator::False => false,
-        Operator::Not => count == 1,
+        Operator::Not | Operator::Absolute => count == 1,
+        Operator::Modulo | Operator::Divisible => count == 2,
         Operator::And | Operator::Or | Operator::Add | Operator::Subtract | Operator::Multiply => {
             count >= 1
         }
@@ -82,7 +83,8 @@ pub(crate) fn takes(operator: Operator, count: usize) -> bool
         | Operator::AtMost
         | Operator::Less
         | Operator::AtLeast
-        | Operator::Greater => count >= 2,
+        | Operator::Greater
+        | Operator::Divide => count >= 2,
     }
 }
 
@@ -106,7 +108,11 @@ pub(crate) fn stands_bare(operator: Operator) -> bool
         | Operator::AtMost
         | Operator::Less
         | Operator::AtLeast
-        | Operator::Greater => false,
+        | Operator::Greater
+        | Operator::Divide
+        | Operator::Modulo
+        | Operator::Absolute
+        | Operator::Divisible => false,
     }
 }
 
@@ -177,12 +183,17 @@ pub(crate) fn operator_sort(operator: Operator, arguments: &[Value]) -> Option<S
         Operator::True | Operator::False => Some(Sort::Bool),
         Operator::Equal | Operator::Distinct => sort_where(are_alike(arguments), Sort::Bool),
         Operator::Ite => choice_sort(arguments),
-        Operator::Add | Operator::Subtract | Operator::Multiply => {
-            sort_where(all_have(Sort::Int, arguments), Sort::Int)
-        }
-        Operator::AtMost | Operator::Less | Operator::AtLeast | Operator::Greater => {
-            sort_where(all_have(Sort::Int, arguments), Sort::Bool)
-        }
+        Operator::Add
+        | Operator::Subtract
+        | Operator::Multiply
+        | Operator::Divide
+        | Operator::Modulo
+        | Operator::Absolute => sort_where(all_have(Sort::Int, arguments), Sort::Int),
+        Operator::AtMost
+        | Operator::Less
+        | Operator::AtLeast
+        | Operator::Greater
+        | Operator::Divisible => sort_where(all_have(Sort::Int, arguments), Sort::Bool),
         Operator::Not | Operator::And | Operator::Or | Operator::Xor | Operator::Implies => {
             sort_where(all_have(Sort::Bool, arguments), Sort::Bool)
         }

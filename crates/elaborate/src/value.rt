@@ -1,15 +1,17 @@
 //! Terms that are read, with what the judgement of the terms around them asks for.
 ghost use Rattle.std.specs.Prelude.{◌≡◌, ◌&&◌, map, IfOk, OnErr};
-ghost use Rattle.smt_meaning.specs.TreeShape.{is_constant_head};
-ghost use Rattle.elaborate.specs.Values.{AreValues, IsNode, HasGrown, id_of, all_constant, all_linear, one_varies, is_linear_here};
+ghost use Rattle.smt_meaning.specs.TreeShape.{is_constant_head, is_linear_operation, is_linear_at};
+ghost use Rattle.smt_meaning.specs.Sorts.{trees_of};
+ghost use Rattle.elaborate.specs.Values.{AreValues, IsNode, HasGrown, id_of, typed, all_constant, all_linear, one_varies};
 
+use crate::divisors::{all_but_first_divide, has_quotient, is_quotient};
 use crate::error::JudgeError;
 use smt_meaning::{Head, Operator, Sort, TermId};
 use std::alloc::{AllocError, Global};
 use term_store::TermStore;
 
-/// A term that is read: its place, its sort, whether it is built from numerals, `+`, `-` and `*` alone, and whether each product in it has at
-/// most one factor that is not.
+/// A term that is read: its place, its sort, whether it is built from numerals, `+`, `-` and `*` alone, and whether it is linear: each product in
+/// it has at most one factor that is not, and only numerals other than 0 and their negations divide.
 #[derive(Clone, Copy, Drop)]
 pub(crate) struct Value {
     pub id: TermId,
@@ -87,18 +89,43 @@ fn is_arithmetic(operator: Operator) -> bool
         | Operator::AtMost
         | Operator::Less
         | Operator::AtLeast
-        | Operator::Greater => false,
+        | Operator::Greater
+        | Operator::Divide
+        | Operator::Modulo
+        | Operator::Absolute
+        | Operator::Divisible => false,
     }
 }
 
-/// Whether a product of these factors has at most one that isn't constant; true of other terms.
-pub(crate) fn is_linear_here(head: Head, arguments: &[Value]) -> bool
-    ensures { result ≡ is_linear_here head arguments.now }
+/// Whether an operator may be applied to these arguments: at most one factor isn't constant, and each divisor is a numeral other than 0, or the
+/// negation of one.
+pub(crate) fn is_linear_operation(
+    operator: Operator,
+    arguments: &[Value],
+    store: &TermStore,
+) -> bool
+    requires { AreValues store.now.trees arguments.now }
+    ensures { result ≡ is_linear_operation operator (trees_of (map (typed store.now.trees) arguments.now)) }
 {
-    if head == Head::Theory(Operator::Multiply) {
-        at_most_one_varies(arguments)
-    } else {
-        true
+    match operator {
+        Operator::Multiply => at_most_one_varies(arguments),
+        Operator::Divide | Operator::Modulo | Operator::Divisible => all_but_first_divide(
+            arguments, store,
+        ),
+        _ => true,
+    }
+}
+
+/// Whether a term with this head and these arguments is linear, where they are.
+fn is_linear_here(head: Head, arguments: &[Value], store: &TermStore) -> bool
+    requires { AreValues store.now.trees arguments.now }
+    ensures { result ≡ is_linear_at head (trees_of (map (typed store.now.trees) arguments.now)) }
+{
+    match head {
+        Head::Theory(Operator::Multiply) => at_most_one_varies(arguments),
+        Head::Theory(Operator::Divide) => is_quotient(arguments, store),
+        Head::Theory(Operator::Modulo | Operator::Divisible) => has_quotient(arguments, store),
+        _ => true,
     }
 }
 
@@ -108,10 +135,11 @@ fn is_constant(head: Head, arguments: &[Value]) -> bool
     is_constant_head(head) && are_constant(arguments)
 }
 
-fn is_linear(head: Head, arguments: &[Value]) -> bool
-    ensures { result ≡ (is_linear_here head arguments.now && all_linear arguments.now) }
+fn is_linear(head: Head, arguments: &[Value], store: &TermStore) -> bool
+    requires { AreValues store.now.trees arguments.now }
+    ensures { result ≡ (is_linear_at head (trees_of (map (typed store.now.trees) arguments.now)) && all_linear arguments.now) }
 {
-    is_linear_here(head, arguments) && are_linear(arguments)
+    is_linear_here(head, arguments, store) && are_linear(arguments)
 }
 
 /// Stores a term, unless it was before.
@@ -128,11 +156,12 @@ pub(crate) fn stored(
     ensures longer { HasGrown store.old store.new }
 {
     let ids = ids(alloc, arguments)?;
+    let linear = is_linear(head, arguments, store);
     let id = store.intern(head, &ids)?;
     Ok(Value {
         id,
         sort,
         constant: is_constant(head, arguments),
-        linear: is_linear(head, arguments),
+        linear,
     })
 }

@@ -1,5 +1,6 @@
 pub mod Looks
 pub mod Folds
+pub mod Quotients
 pub mod MarkLemmas
 pub mod KeepLemmas
 pub mod TableLemmas

@@ -4,9 +4,9 @@ use Rattle.smt_meaning.specs.declared.values.Value.{Value}
 use Rattle.smt_meaning.specs.declared.terms.Operator.{Operator}
 use Rattle.smt_meaning.specs.declared.terms.Head.{Head}
 use Rattle.smt_meaning.specs.declared.terms.Head.TheVariants.{Theory}
-use Rattle.smt_meaning.specs.declared.terms.Operator.TheVariants.{And, Or, Xor, Equal, Add, Subtract, Multiply, AtMost, Less, AtLeast, Greater}
+use Rattle.smt_meaning.specs.declared.terms.Operator.TheVariants.{And, Or, Xor, Equal, Add, Subtract, Multiply, AtMost, Less, AtLeast, Greater, Divide}
 use Rattle.std.specs.Prelude.{◌||◌, ◌+ℤ◌, ◌-ℤ◌, ◌*ℤ◌, int_le, int_lt}
-use Rattle.smt_meaning.specs.Term.{Tree, Interpretation, value, fits, apply, head_fits, operate, in_range, all_in_range, partials, partials_of, left_assoc, on_truths, on_numbers, xor, same_value, compare, int_ge, int_gt}
+use Rattle.smt_meaning.specs.Term.{Tree, Interpretation, value, fits, apply, head_fits, operate, in_range, all_in_range, partials, partials_of, left_assoc, on_truths, on_numbers, xor, same_value, compare, int_ge, int_gt, quotient}
 
 abbrev pub some_if : Bool → Value → Option Value
 some_if true v = Some v
@@ -29,6 +29,7 @@ binary Xor = on_truths xor
 binary Add = on_numbers ◌+ℤ◌
 binary Subtract = on_numbers ◌-ℤ◌
 binary Multiply = on_numbers ◌*ℤ◌
+binary Divide = on_numbers quotient
 binary _ = on_truths ◌&&◌
 
 abbrev pub folds : Operator → Bool
@@ -38,6 +39,7 @@ folds Xor = true
 folds Add = true
 folds Subtract = true
 folds Multiply = true
+folds Divide = true
 folds _ = false
 
 abbrev pub fitted_fold : Operator → List Value → Option Value

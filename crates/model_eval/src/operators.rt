@@ -1,6 +1,6 @@
 //! The operators of the theories Core and Ints on values, with the range of numbers kept.
 ghost use Rattle.std.specs.Prelude.{◌≡◌, IsTrue, MatchOption};
-ghost use Rattle.smt_meaning.specs.Term.{truth_of, number_of, same_value, in_range, all_in_range, chainable, pairwise, with_each, differ, right_assoc, on_truths, implies, negation, choice};
+ghost use Rattle.smt_meaning.specs.Term.{truth_of, number_of, same_value, in_range, all_in_range, chainable, pairwise, with_each, differ, right_assoc, on_truths, implies, negation, choice, quotient, remainder, left_over};
 ghost use Rattle.smt_meaning.specs.Interpretation.{meaning};
 ghost use Rattle.model_eval.specs.Fitted.{some_if, fitted_head, fitted_op, fitted_fold, binary, folds, relation, chains};
 
@@ -54,9 +54,38 @@ fn checked_number(n: Option<i128>) -> Option<Value>
     }
 }
 
+/// The quotient that leaves no negative remainder. By 0 it is -1 of a negative number, and else 0.
+fn quotient(a: i128, divisor: i128) -> i128
+    requires { IsTrue (in_range (Value.Whole a)) }
+    ensures { result ≡ quotient a divisor }
+{
+    if divisor != 0 {
+        a.div_euclid(divisor)
+    } else if a < 0 {
+        -1
+    } else {
+        0
+    }
+}
+
+/// The remainder that isn't negative. By 0 it is 0 of a negative number, and else the number itself.
+fn remainder(a: i128, divisor: i128) -> i128
+    requires { IsTrue (in_range (Value.Whole a)) }
+    ensures { result ≡ remainder a divisor }
+{
+    if divisor != 0 {
+        a.rem_euclid(divisor)
+    } else if a < 0 {
+        0
+    } else {
+        a
+    }
+}
+
 /// One step of an operator that folds from the left.
 fn step(operator: Operator, a: Value, b: Value) -> Option<Value>
-    requires { IsTrue (folds operator) }
+    requires folds { IsTrue (folds operator) }
+    requires range { IsTrue (in_range a) }
     ensures { result ≡ some_if (in_range (binary operator a b)) (binary operator a b) }
 {
     match operator {
@@ -65,6 +94,7 @@ fn step(operator: Operator, a: Value, b: Value) -> Option<Value>
         Operator::Xor => Some(Value::Truth(truth(a) != truth(b))),
         Operator::Add => checked_number(number(a).checked_add(number(b))),
         Operator::Subtract => checked_number(number(a).checked_sub(number(b))),
+        Operator::Divide => checked(Value::Whole(quotient(number(a), number(b)))),
         _ => checked_number(number(a).checked_mul(number(b))),
     }
 }
@@ -188,6 +218,27 @@ fn subtract(arguments: &[Value]) -> Option<Value>
     }
 }
 
+/// What a division of the first argument by the second leaves over.
+fn left_over(arguments: &[Value]) -> i128
+    requires { IsTrue (all_in_range arguments.now) }
+    ensures { result ≡ left_over arguments.now }
+{
+    if arguments.len() < 2 {
+        return 0;
+    }
+    remainder(number(arguments[0]), number(arguments[1]))
+}
+
+fn magnitude(arguments: &[Value]) -> Option<Value>
+    ensures { result ≡ fitted_op Operator.Absolute arguments.now }
+{
+    if arguments.len() == 1 {
+        checked_number(number(arguments[0]).checked_abs())
+    } else {
+        Some(Value::Whole(0))
+    }
+}
+
 fn operate(operator: Operator, arguments: &[Value]) -> Option<Value>
     requires { IsTrue (all_in_range arguments.now) }
     ensures { result ≡ fitted_op operator arguments.now }
@@ -200,9 +251,15 @@ fn operate(operator: Operator, arguments: &[Value]) -> Option<Value>
         Operator::Distinct => Some(Value::Truth(distinct(arguments))),
         Operator::Ite => Some(choose(arguments)),
         Operator::Subtract => subtract(arguments),
-        Operator::And | Operator::Or | Operator::Xor | Operator::Add | Operator::Multiply => fold(
-            operator, arguments,
-        ),
+        Operator::And
+        | Operator::Or
+        | Operator::Xor
+        | Operator::Add
+        | Operator::Multiply
+        | Operator::Divide => fold(operator, arguments),
+        Operator::Modulo => Some(Value::Whole(left_over(arguments))),
+        Operator::Divisible => Some(Value::Truth(left_over(arguments) == 0)),
+        Operator::Absolute => magnitude(arguments),
         _ => Some(Value::Truth(chain(operator, arguments))),
     }
 }

@@ -64,7 +64,7 @@ const TWO: Value = Whole(2);
 const FIVE: Value = Whole(5);
 
 /// Operators with arguments, and the values.
-static APPLIED: [(Operator, &'static [Value], Value); 22] = [
+static APPLIED: [(Operator, &'static [Value], Value); 43] = [
     (True, &[], T),
     (False, &[], F),
     (Not, &[T], F),
@@ -87,6 +87,27 @@ static APPLIED: [(Operator, &'static [Value], Value); 22] = [
     (Less, &[ONE, ONE, TWO], F),
     (AtLeast, &[FIVE, TWO, TWO], T),
     (Greater, &[FIVE, TWO, TWO], F),
+    (Divide, &[FIVE, TWO], TWO),
+    (Divide, &[Whole(-5), TWO], Whole(-3)),
+    (Divide, &[FIVE, Whole(-2)], Whole(-2)),
+    (Divide, &[Whole(-5), Whole(-2)], Whole(3)),
+    (Divide, &[Whole(MAX), Whole(-1)], Whole(-MAX)),
+    (Divide, &[Whole(-MAX), Whole(-1)], Whole(MAX)),
+    (Divide, &[Whole(-MAX), Whole(MAX)], Whole(-1)),
+    (Divide, &[Whole(-1), Whole(MAX)], Whole(-1)),
+    (Modulo, &[FIVE, TWO, TWO], ONE),
+    (Modulo, &[Whole(-5), TWO, Whole(-3)], ONE),
+    (Modulo, &[FIVE, Whole(-2), Whole(-2)], ONE),
+    (Modulo, &[Whole(-5), Whole(-2), Whole(3)], ONE),
+    (Modulo, &[Whole(-MAX), Whole(-1), Whole(MAX)], Whole(0)),
+    (Modulo, &[Whole(-1), Whole(MAX), Whole(-1)], Whole(MAX - 1)),
+    (Modulo, &[Whole(MAX), Whole(-MAX), Whole(-1)], Whole(0)),
+    (Divisible, &[Whole(-6), TWO, Whole(-3)], T),
+    (Divisible, &[Whole(-5), TWO, Whole(-3)], F),
+    (Divisible, &[Whole(-MAX), Whole(MAX), Whole(-1)], T),
+    (Absolute, &[FIVE], FIVE),
+    (Absolute, &[Whole(-5)], FIVE),
+    (Absolute, &[Whole(-MAX)], Whole(MAX)),
 ];
 
 #[test]

@@ -13,10 +13,10 @@ returns-in-None-clause-comes c =
 
 pub returns-then-not-may_stand-clause-comes : goal.returns-then-not-may_stand-clause-comes
 returns-then-not-may_stand-clause-comes c =
-    operator_linear (rules_of c.args.rules) c.args.name.now c.args.operator c.args.arguments.now c.in-Some.sort (scope_of c.args.table.now c.args.store.now.trees) c.requires (sym c.takes.ensures ∙ c.if-not-takes.false) (sym c.in-Some.ensures)
-    (sym (rw c.is_linear_here.ensures at c.may_stand.ensures) ∙ c.if-not-may_stand.true)
+    operator_linear (rules_of c.args.rules) c.args.name.now c.args.operator c.args.arguments.now c.in-Some.sort (scope_of c.args.table.now c.args.store.now.trees) (sym c.takes.ensures ∙ c.if-not-takes.false) (sym c.in-Some.ensures)
+    (sym (rw c.is_linear_operation.ensures at c.may_stand.ensures) ∙ c.if-not-may_stand.true)
 
 pub returns-clause-comes : goal.returns-clause-comes
 returns-clause-comes c =
-    operator_result (rules_of c.args.rules) c.args.name.now c.args.operator c.args.arguments.now c.in-Some.sort (scope_of c.args.table.now c.args.store.now.trees) c.stored.new.store.trees c.stored.result c.requires (sym c.takes.ensures ∙ c.if-not-takes.false) (sym c.in-Some.ensures)
-    (sym (rw c.is_linear_here.ensures at c.may_stand.ensures) ∙ c.if-not-may_stand.false) c.stored.ensures.ok c.stored.ensures.memory
+    operator_result (rules_of c.args.rules) c.args.name.now c.args.operator c.args.arguments.now c.in-Some.sort (scope_of c.args.table.now c.args.store.now.trees) c.operated.new.store.trees c.operated.result (sym c.takes.ensures ∙ c.if-not-takes.false) (sym c.in-Some.ensures)
+    (sym (rw c.is_linear_operation.ensures at c.may_stand.ensures) ∙ c.if-not-may_stand.false) c.operated.ensures.ok c.operated.ensures.memory

@@ -8,4 +8,4 @@ intern-requires c = subst (All (λ i. i < length c.args.store.now.trees)) (sym (
 pub returns-clause-ok : goal.returns-clause-ok
 returns-clause-ok c =
     node_done c.args.head c.args.sort c.args.arguments.now c.args.store.now.trees c.intern.new.self.trees c.deref.result.now _ c.requires (c.deref.ensures.value ∙ c.in_ok-ids.ensures) c.in_ok-id.ensures.parts c.in_ok-id.ensures.place.0 c.in_ok-id.ensures.place.1
-    refl c.is_constant.ensures c.is_linear.ensures
+    refl c.is_constant.ensures c.is_linear-linear.ensures
