@@ -4,7 +4,7 @@ use Rattle.std.specs.Prelude.{if◌then◌else◌}
 use Rattle.std.proofs.lemmas.List.{map-append, get_or_default}
 use Rattle.std.proofs.lemmas.List.Elements.{All-cons, All-nil, All-head, All-tail, All-push, All-map, All-weaker, All-contains_itself, Contains-append_right}
 use Rattle.literals.specs.Signed.{Signed}
-use Rattle.smt_meaning.specs.declared.terms.Operator.TheVariants.{True, False, Not, And, Or, Xor, Implies, Equal, Distinct, Ite, Add, Subtract, Multiply, AtMost, Less, AtLeast, Greater}
+use Rattle.smt_meaning.specs.declared.terms.Operator.TheVariants.{True, False, Not, And, Or, Xor, Implies, Equal, Distinct, Ite, Add, Subtract, Multiply, AtMost, Less, AtLeast, Greater, Divide, Modulo, Absolute, Divisible}
 use Rattle.clause_form.specs.Node.{HasNoAtomTwice}
 use Rattle.equality_clauses.specs.Once.{is_in, once}
 use Rattle.equality_clauses.specs.Ties.{literal, yes, no, joined, parity}
@@ -87,6 +87,10 @@ comparison_over AtMost t pairs new = All-nil (IsOver (t ∷ pairs))
 comparison_over Less t pairs new = All-nil (IsOver (t ∷ pairs))
 comparison_over AtLeast t pairs new = All-nil (IsOver (t ∷ pairs))
 comparison_over Greater t pairs new = All-nil (IsOver (t ∷ pairs))
+comparison_over Divide t pairs new = All-nil (IsOver (t ∷ pairs))
+comparison_over Modulo t pairs new = All-nil (IsOver (t ∷ pairs))
+comparison_over Absolute t pairs new = All-nil (IsOver (t ∷ pairs))
+comparison_over Divisible t pairs new = All-nil (IsOver (t ∷ pairs))
 
 -- ---- lists of two and of three atoms
 

@@ -8,7 +8,7 @@ use Rattle.literals.specs.Signed.{Signed, sign, some_true}
 use Rattle.smt_meaning.specs.declared.values.Value.{Value}
 use Rattle.smt_meaning.specs.declared.values.Value.TheVariants.{Truth, Whole, Element}
 use Rattle.smt_meaning.specs.declared.terms.Operator.{Operator}
-use Rattle.smt_meaning.specs.declared.terms.Operator.TheVariants.{True, False, Not, And, Or, Xor, Implies, Equal, Distinct, Ite, Add, Subtract, Multiply, AtMost, Less, AtLeast, Greater}
+use Rattle.smt_meaning.specs.declared.terms.Operator.TheVariants.{True, False, Not, And, Or, Xor, Implies, Equal, Distinct, Ite, Add, Subtract, Multiply, AtMost, Less, AtLeast, Greater, Divide, Modulo, Absolute, Divisible}
 use Rattle.smt_meaning.specs.Term.{Tree, Interpretation, operate, truth_of, same_value, int_eq, bool_eq, chain_from, with_each, pairwise, differ}
 use Rattle.smt_meaning.specs.Clause.{value_at, atom_true}
 use Rattle.equality_clauses.specs.Once.{is_in, taken, taken_all, once}
@@ -192,6 +192,10 @@ comparison_tied AtMost v a t pairs is h agree = absurd (let x : false ≡ true =
 comparison_tied Less v a t pairs is h agree = absurd (let x : false ≡ true = h in cc)
 comparison_tied AtLeast v a t pairs is h agree = absurd (let x : false ≡ true = h in cc)
 comparison_tied Greater v a t pairs is h agree = absurd (let x : false ≡ true = h in cc)
+comparison_tied Divide v a t pairs is h agree = absurd (let x : false ≡ true = h in cc)
+comparison_tied Modulo v a t pairs is h agree = absurd (let x : false ≡ true = h in cc)
+comparison_tied Absolute v a t pairs is h agree = absurd (let x : false ≡ true = h in cc)
+comparison_tied Divisible v a t pairs is h agree = absurd (let x : false ≡ true = h in cc)
 
 -- ---- `ite`
 
@@ -347,6 +351,10 @@ module _ (ts : List Tree) (I : Interpretation) where
   equalities Less is = refl
   equalities AtLeast is = refl
   equalities Greater is = refl
+  equalities Divide is = refl
+  equalities Modulo is = refl
+  equalities Absolute is = refl
+  equalities Divisible is = refl
 
 map-map : {A B : Type 0} (f : A → B) (g : ℕ → A) (ns : List ℕ) → map (λ n. f (g n)) ns ≡ map f (map g ns)
 map-map f g [] = refl

@@ -10,3 +10,7 @@ pub mod Stacked
 pub mod Gathering
 pub mod Ordering
 pub mod Reaching
+pub mod DivisionRows
+pub mod DivisionCauses
+pub mod DivisionSoundness
+pub mod DivisionDeciding

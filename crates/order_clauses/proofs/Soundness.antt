@@ -53,15 +53,15 @@ pub All-right : {A : Type 0} (P : A → Type 0) (xs ys : List A) → All P (xs +
 All-right P [] ys h = h
 All-right P (x ∷ xs) ys h = All-right P xs ys (All-tail P x (xs ++ ys) h)
 
-All-flat : {A B : Type 0} (P : A → Type 0) (Q : B → Type 0) (f : A → List B) → ((x : A) → P x → All Q (f x)) → (xs : List A) → All P xs → All Q (flat_map f xs)
+pub All-flat : {A B : Type 0} (P : A → Type 0) (Q : B → Type 0) (f : A → List B) → ((x : A) → P x → All Q (f x)) → (xs : List A) → All P xs → All Q (flat_map f xs)
 All-flat P Q f h [] all = All-nil Q
 All-flat P Q f h (x ∷ xs) all = All-append Q (f x) (flat_map f xs) (h x (All-head P x xs all)) (All-flat P Q f h xs (All-tail P x xs all))
 
-All-unflat : {A B : Type 0} (Q : B → Type 0) (f : A → List B) (xs : List A) → All Q (flat_map f xs) → All (λ x. All Q (f x)) xs
+pub All-unflat : {A B : Type 0} (Q : B → Type 0) (f : A → List B) (xs : List A) → All Q (flat_map f xs) → All (λ x. All Q (f x)) xs
 All-unflat Q f [] h = All-nil (λ x. All Q (f x))
 All-unflat Q f (x ∷ xs) h = All-cons (λ y. All Q (f y)) x xs (All-left Q (f x) (flat_map f xs) h) (All-unflat Q f xs (All-right Q (f x) (flat_map f xs) h))
 
-All-both : {A : Type 0} (P Q : A → Type 0) (xs : List A) → All P xs → All Q xs → All (λ x. P x × Q x) xs
+pub All-both : {A : Type 0} (P Q : A → Type 0) (xs : List A) → All P xs → All Q xs → All (λ x. P x × Q x) xs
 All-both P Q [] h k = All-nil (λ x. P x × Q x)
 All-both P Q (x ∷ xs) h k = All-cons (λ y. P y × Q y) x xs (All-head P x xs h, All-head Q x xs k) (All-both P Q xs (All-tail P x xs h) (All-tail Q x xs k))
 
@@ -71,7 +71,7 @@ not_opposite : (b : Bool) → b ≡ not b → ⊥
 not_opposite true h = cc
 not_opposite false h = cc
 
-no_pair_at : (ls : List Signed) → HasNoAtomTwice ls → (l : Signed) (j k : ℕ) → j < length ls → k < length ls → slice_index_or ls j l ≡ l → slice_index_or ls k (opposite l) ≡ opposite l → ⊥
+pub no_pair_at : (ls : List Signed) → HasNoAtomTwice ls → (l : Signed) (j k : ℕ) → j < length ls → k < length ls → slice_index_or ls j l ≡ l → slice_index_or ls k (opposite l) ≡ opposite l → ⊥
 no_pair_at [] h l j k a b p q = absurd (omega arith)
 no_pair_at (m ∷ ls) h l zero zero a b p q = not_opposite l.positive (ap (λ (x : Signed). x.positive) (sym p ∙ q))
 no_pair_at (m ∷ ls) h l zero (suc k) a b p q = h.0 k (opposite l) (omega arith) (ap (λ (x : Signed). x.atom) p ∙ sym (ap (λ (x : Signed). x.atom) q))
@@ -80,12 +80,12 @@ no_pair_at (m ∷ ls) h l (suc j) (suc k) a b p q = no_pair_at ls h.1 l j k (ome
 
 -- ---- kinds of atoms
 
-abbrev kind : Atom → ℕ
+abbrev pub kind : Atom → ℕ
 kind (Truth p) = 0
 kind (AtMost sum k) = 1
 kind (Same i j) = 2
 
-normal_kind : (ps : List Summand) (k : ℤ) → kind (normal_bound ps k) ≡ 1
+pub normal_kind : (ps : List Summand) (k : ℤ) → kind (normal_bound ps k) ≡ 1
 normal_kind [] k = refl
 normal_kind (p ∷ ps) k = refl
 
@@ -113,13 +113,13 @@ values_picked ts I (i ∷ is) = ap (λ vs. value_at ts I i ∷ vs) (values_picke
 -- ---- numbers of atoms of a table
 
 module _ (table : List Atom) where
-  number_read : (a : Atom) → Contains table a → atom_at table (number_in table a) ≡ a
+  pub number_read : (a : Atom) → Contains table a → atom_at table (number_in table a) ≡ a
   number_read a c = (found table a c).1 (Truth 0)
 
-  number_within : (a : Atom) → Contains table a → number_in table a < length table
+  pub number_within : (a : Atom) → Contains table a → number_in table a < length table
   number_within a c = (found table a c).0
 
-  number_apart : (a b : Atom) → Contains table a → Contains table b → (kind a ≡ kind b → ⊥) → number_in table a ≢ number_in table b
+  pub number_apart : (a b : Atom) → Contains table a → Contains table b → (kind a ≡ kind b → ⊥) → number_in table a ≢ number_in table b
   number_apart a b ca cb h e = h (ap kind (sym (number_read a ca) ∙ ap (atom_at table) e ∙ number_read b cb))
 
   module _ {X : Type 0} (f : X → Atom) where
@@ -168,7 +168,7 @@ module _ (ds : List Declaration) (ts : List Tree) (table : List Atom) where
   -- ---- bounds of the empty sum
 
   module _ (is_over : ConstantIsOver) (has_value : ConstantHasValue) where
-    constant_sound : (a : Atom) (n : ℕ) → n < length table → atom_at table n ≡ a → AreSound ds ts table (constant_of n a)
+    pub constant_sound : (a : Atom) (n : ℕ) → n < length table → atom_at table n ≡ a → AreSound ds ts table (constant_of n a)
     constant_sound (AtMost [] k) n l e =
         sound_all (n ∷ []) (constant_clauses n (int_le (pos 0) k)) (is_over n (int_le (pos 0) k)) (All-cons (λ m. m < length table) n [] l (All-nil (λ m. m < length table)))
         (λ I i. has_value ts I (atom_at table) n k e)

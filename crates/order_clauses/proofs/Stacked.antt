@@ -1,11 +1,11 @@
 -- The atoms of a part are among those of its stack.
 use Rattle.std.proofs.Common.{◌≡◌, ℕ, Bool, true, false, ◌&&◌, List, [], ◌∷◌, ◌++◌, length, map, All, Contains, refl, sym, ap, subst, ◌∙◌}
-use Rattle.std.specs.Prelude.{flat_map, IsTrue, Some, nat_eq, if◌then◌else◌}
+use Rattle.std.specs.Prelude.{flat_map, IsTrue, Option, Some, None, nat_eq, if◌then◌else◌}
 use Rattle.std.proofs.lemmas.List.Elements.{All-cons, All-nil, All-head, All-tail, All-append}
 use Rattle.smt_meaning.specs.declared.values.Sort.{Sort}
 use Rattle.smt_meaning.specs.declared.values.Sort.TheVariants.{Bool as Truths, Int as Ints, Free}
 use Rattle.smt_meaning.specs.declared.terms.Operator.{Operator}
-use Rattle.smt_meaning.specs.declared.terms.Operator.TheVariants.{Equal, Distinct, Ite, AtMost, Less, AtLeast, Greater}
+use Rattle.smt_meaning.specs.declared.terms.Operator.TheVariants.{Equal, Distinct, Ite, AtMost, Less, AtLeast, Greater, Divide, Modulo, Absolute, Divisible}
 use Rattle.smt_meaning.specs.declared.terms.Head.TheVariants.{Theory}
 use Rattle.smt_meaning.specs.declared.clauses.Atom.{Atom}
 use Rattle.smt_meaning.specs.declared.clauses.Atom.TheVariants.{Truth, Same}
@@ -14,14 +14,19 @@ use Rattle.smt_meaning.specs.Term.{Tree, node, tree_at}
 use Rattle.smt_meaning.specs.TreeShape.{place_of}
 use Rattle.smt_meaning.specs.Signature.{tree_sort, is_int, all_of, sort_eq, if_so, operator_sort}
 use Rattle.smt_meaning.specs.Nodes.{pick}
-use Rattle.smt_meaning.specs.Atoms.{pair_atoms, of_neighbours_from, of_first_with, of_pairs, comparison_atoms}
+use Rattle.smt_meaning.specs.Atoms.{limit_atom, row_atoms, division_atoms, pair_atoms, of_neighbours_from, of_first_with, of_pairs, comparison_atoms}
+use Rattle.linear_forms.specs.Multiples.{form_at}
+use Rattle.pair_bounds.specs.declared.rows.RowLimit.{RowLimit}
+use Rattle.pair_bounds.specs.declared.rows.Row.{Row}
+use Rattle.pair_bounds.specs.Rows.{limits, limit_of_row, row_of, divisor_at, placed_rows, RowsAreAtoms}
 use Rattle.bound_clauses.specs.Orders.{order_atoms, bound_atom}
 use Rattle.bound_clauses.specs.Laws.{orders, OrdersAreComparisons}
 use Rattle.order_clauses.specs.Pairs.{pair, neighbours, with_each, each_two, pairs_of, orders_of_pair}
-use Rattle.order_clauses.specs.Clauses.{sort_at, by_sort, of_ints}
-use Rattle.order_clauses.specs.Needed.{atoms_of_order, atoms_of_pair, atoms_of_equality, atoms_of_choice, HaveTruths, PartAtomsAreOfStack}
+use Rattle.order_clauses.specs.Clauses.{limit_bound, sort_at, by_sort, of_ints}
+use Rattle.order_clauses.specs.Needed.{row_truth_atoms, atoms_of_row, atoms_of_division, atoms_of_order, atoms_of_pair, atoms_of_equality, atoms_of_choice, HaveTruths, PartAtomsAreOfStack}
 use Rattle.order_clauses.specs.Sound.{HasSort}
 use Rattle.order_clauses.proofs.Soundness.{All-left, All-right}
+use Rattle.order_clauses.proofs.DivisionRows.{IsSilent, quotient_silent, remainder_silent, absolute_silent}
 use Rattle.order_clauses.proofs.Sorting.{asked, if_so_true, equal_ints, distinct_ints, and_left}
 
 module _ (ds : List Declaration) (ts : List Tree) (table : List Atom) where
@@ -132,28 +137,67 @@ module _ (compared : OrdersAreComparisons) (ds : List Declaration) (ts : List Tr
       → All (Contains table) (comparison_atoms ts ds (Theory o) (pick ts is)) → All (Contains table) (atoms_of_order ts o p is)
   at_order o p is h says e sorted truths has = of_order o p is h (own_truth p is sorted truths (is_bool_by o (all_of Ints (map (sort_at sorts) is)) p is e sorted says)) has
 
-pub part_atoms : OrdersAreComparisons → PartAtomsAreOfStack
-part_atoms compared ds ts sorts table AtMost p is e sorted placed truths has = at_order compared ds ts sorts table AtMost p is refl refl e sorted truths has
-part_atoms compared ds ts sorts table Less p is e sorted placed truths has = at_order compared ds ts sorts table Less p is refl refl e sorted truths has
-part_atoms compared ds ts sorts table AtLeast p is e sorted placed truths has = at_order compared ds ts sorts table AtLeast p is refl refl e sorted truths has
-part_atoms compared ds ts sorts table Greater p is e sorted placed truths has = at_order compared ds ts sorts table Greater p is refl refl e sorted truths has
-part_atoms compared ds ts sorts table Equal p [] e sorted placed truths has = All-nil (Contains table)
-part_atoms compared ds ts sorts table Equal p (i ∷ is) e sorted placed truths has =
+-- ---- of divisions
+
+module _ (ts : List Tree) (table : List Atom) (p : ℕ) where
+  -- the truth has a number, where the row speaks of it
+  abbrev KnowsTruth : Row → Type 0
+  KnowsTruth r = (b : Bool) → r.truth ≡ Some b → Contains table (Truth p)
+
+  truths_in : (o : Option Bool) → ((b : Bool) → o ≡ Some b → Contains table (Truth p)) → All (Contains table) (row_truth_atoms p o)
+  truths_in None h = All-nil (Contains table)
+  truths_in (Some b) h = All-cons (Contains table) (Truth p) [] (h b refl) (All-nil (Contains table))
+
+  bounds_map : (ls : List RowLimit) → All (Contains table) (map (limit_atom (form_at ts)) (map limit_of_row ls)) → All (Contains table) (map (limit_bound ts) ls)
+  bounds_map [] h = All-nil (Contains table)
+  bounds_map (l ∷ ls) h =
+      All-cons (Contains table) (limit_bound ts l) (map (limit_bound ts) ls) (All-head (Contains table) (limit_bound ts l) (map (limit_atom (form_at ts)) (map limit_of_row ls)) h)
+      (bounds_map ls (All-tail (Contains table) (limit_bound ts l) (map (limit_atom (form_at ts)) (map limit_of_row ls)) h))
+
+  rows_in : (rs : List Row) → All KnowsTruth rs → All (Contains table) (flat_map (row_atoms (form_at ts)) (map row_of rs)) → All (Contains table) (flat_map (atoms_of_row ts p) rs)
+  rows_in [] t h = All-nil (Contains table)
+  rows_in (r ∷ rs) t h =
+      let own : List Atom = row_atoms (form_at ts) (row_of r) in
+      let others : List Atom = flat_map (row_atoms (form_at ts)) (map row_of rs) in
+      All-append (Contains table) (atoms_of_row ts p r) (flat_map (atoms_of_row ts p) rs)
+      (All-append (Contains table) (row_truth_atoms p r.truth) (map (limit_bound ts) (limits r)) (truths_in r.truth (All-head KnowsTruth r rs t)) (bounds_map (limits r) (All-left (Contains table) own others h)))
+      (rows_in rs (All-tail KnowsTruth r rs t) (All-right (Contains table) own others h))
+
+  division_in : RowsAreAtoms → (o : Operator) (is : List ℕ) → tree_at ts p ≡ node (Theory o) (pick ts is) → All KnowsTruth (placed_rows o (divisor_at ts is) p is)
+      → All (Contains table) (division_atoms ts (Theory o) (pick ts is)) → All (Contains table) (atoms_of_division ts o p is)
+  division_in atoms_are o is e t h =
+      let a = atoms_are ts o p is e in
+      rows_in (placed_rows o (divisor_at ts is) p is) t
+      (subst (λ rs. All (Contains table) (flat_map (row_atoms (form_at ts)) rs)) (sym a.rows) (subst (All (Contains table)) a.atoms h))
+
+  silent_knows : (rs : List Row) → All IsSilent rs → All KnowsTruth rs
+  silent_knows rs h = λ k d l b e. absurd (some_none b (sym e ∙ h k d l))
+    where
+      some_none : (b : Bool) → Some b ≡ None → ⊥
+      some_none b e = cc
+
+pub part_atoms : OrdersAreComparisons → RowsAreAtoms → PartAtomsAreOfStack
+part_atoms compared rows ds ts sorts table AtMost p is e sorted placed truths has = at_order compared ds ts sorts table AtMost p is refl refl e sorted truths has
+part_atoms compared rows ds ts sorts table Less p is e sorted placed truths has = at_order compared ds ts sorts table Less p is refl refl e sorted truths has
+part_atoms compared rows ds ts sorts table AtLeast p is e sorted placed truths has = at_order compared ds ts sorts table AtLeast p is refl refl e sorted truths has
+part_atoms compared rows ds ts sorts table Greater p is e sorted placed truths has = at_order compared ds ts sorts table Greater p is refl refl e sorted truths has
+part_atoms compared rows ds ts sorts table Equal p [] e sorted placed truths has = All-nil (Contains table)
+part_atoms compared rows ds ts sorts table Equal p (i ∷ is) e sorted placed truths has =
     let own : HasSort ds ts sorts p = All-head (HasSort ds ts sorts) p (i ∷ is) sorted in
     let rest : All (HasSort ds ts sorts) (i ∷ is) = All-tail (HasSort ds ts sorts) p (i ∷ is) sorted in
     of_sort compared ds ts sorts table (sort_at sorts i) Equal p (i ∷ is)
     (own_truth compared ds ts sorts table p (i ∷ is) sorted truths
     (is_bool_by compared ds ts sorts table Equal (all_of (sort_at sorts i) (map (sort_at sorts) is)) p (i ∷ is) e sorted refl))
     (λ int h. of_neighbours ds ts table int i is (All-tail (IsPlaced ds ts table) p (i ∷ is) placed) (λ x. equal_ints ds ts sorts p i is e own rest (h x)) has)
-part_atoms compared ds ts sorts table Distinct p [] e sorted placed truths has = All-nil (Contains table)
-part_atoms compared ds ts sorts table Distinct p (i ∷ is) e sorted placed truths has =
+part_atoms compared rows ds ts sorts table Distinct p [] e sorted placed truths has = All-nil (Contains table)
+part_atoms compared rows ds ts sorts table Distinct p (i ∷ is) e sorted placed truths has =
     let own : HasSort ds ts sorts p = All-head (HasSort ds ts sorts) p (i ∷ is) sorted in
     let rest : All (HasSort ds ts sorts) (i ∷ is) = All-tail (HasSort ds ts sorts) p (i ∷ is) sorted in
     of_sort compared ds ts sorts table (sort_at sorts i) Distinct p (i ∷ is)
     (own_truth compared ds ts sorts table p (i ∷ is) sorted truths
     (is_bool_by compared ds ts sorts table Distinct (all_of (sort_at sorts i) (map (sort_at sorts) is)) p (i ∷ is) e sorted refl))
     (λ int h. of_each_two ds ts table int (i ∷ is) (All-tail (IsPlaced ds ts table) p (i ∷ is) placed) (λ x. distinct_ints ds ts sorts p i is e own rest (h x)) has)
-part_atoms compared ds ts sorts table Ite p (c ∷ i ∷ j ∷ []) e sorted placed truths has =
+part_atoms compared rows ds ts sorts table Ite p (c ∷ i ∷ j ∷ []) e sorted placed truths has =
     let own : HasSort ds ts sorts p = All-head (HasSort ds ts sorts) p (c ∷ i ∷ j ∷ []) sorted in
     let rest : All (HasSort ds ts sorts) (c ∷ i ∷ j ∷ []) = All-tail (HasSort ds ts sorts) p (c ∷ i ∷ j ∷ []) sorted in
     let place_p : IsPlaced ds ts table p = All-head (IsPlaced ds ts table) p (c ∷ i ∷ j ∷ []) placed in
@@ -175,4 +219,14 @@ part_atoms compared ds ts sorts table Ite p (c ∷ i ∷ j ∷ []) e sorted plac
     All-append (Contains table) (atoms_of_pair ts true (pair p i)) (atoms_of_pair ts true (pair p j) ++ [])
     (of_pair ds ts table true p i place_p place_i int_p (All-left (Contains table) first second both))
     (All-append (Contains table) (atoms_of_pair ts true (pair p j)) [] (of_pair ds ts table true p j place_p place_j int_p (All-right (Contains table) first second both)) (All-nil (Contains table))))
-part_atoms compared ds ts sorts table o p is e sorted placed truths has = All-nil (Contains table)
+part_atoms compared rows ds ts sorts table Divide p is e sorted placed truths has =
+    division_in ts table p rows Divide is e (silent_knows ts table p (placed_rows Divide (divisor_at ts is) p is) (quotient_silent (divisor_at ts is) p is)) has
+part_atoms compared rows ds ts sorts table Modulo p is e sorted placed truths has =
+    division_in ts table p rows Modulo is e (silent_knows ts table p (placed_rows Modulo (divisor_at ts is) p is) (remainder_silent (divisor_at ts is) p is)) has
+part_atoms compared rows ds ts sorts table Absolute p is e sorted placed truths has =
+    division_in ts table p rows Absolute is e (silent_knows ts table p (placed_rows Absolute (divisor_at ts is) p is) (absolute_silent (divisor_at ts is) p is)) has
+part_atoms compared rows ds ts sorts table Divisible p is e sorted placed truths has =
+    let truth : Contains table (Truth p) =
+    own_truth compared ds ts sorts table p is sorted truths (is_bool_by compared ds ts sorts table Divisible (all_of Ints (map (sort_at sorts) is)) p is e sorted refl) in
+    division_in ts table p rows Divisible is e (λ k d l b x. truth) has
+part_atoms compared rows ds ts sorts table o p is e sorted placed truths has = All-nil (Contains table)

@@ -1,11 +1,15 @@
 -- What a consistent log that makes the clauses of a part true gives.
-use Rattle.std.specs.Prelude.{◌≡◌, ℕ, Bool, true, false, List, [], ◌∷◌, map, flat_map, All, Contains, IsTrue}
+use Rattle.std.specs.Prelude.{◌≡◌, ◌≢◌, ℕ, Bool, true, false, List, [], ◌∷◌, length, map, flat_map, All, Contains, IsTrue, ℤ, pos}
 use Rattle.literals.specs.Signed.{Signed}
 use Rattle.smt_meaning.specs.declared.values.Value.{Value}
 use Rattle.smt_meaning.specs.declared.terms.Operator.{Operator}
-use Rattle.smt_meaning.specs.declared.terms.Operator.TheVariants.{Ite}
+use Rattle.smt_meaning.specs.declared.terms.Operator.TheVariants.{Ite, Absolute, Divisible}
 use Rattle.smt_meaning.specs.declared.clauses.Atom.{Atom}
-use Rattle.smt_meaning.specs.Term.{Tree, operate, truth_of, same_value}
+use Rattle.smt_meaning.specs.Term.{Tree, operate, truth_of, number_of, same_value}
+use Rattle.smt_meaning.specs.Signature.{stands_with}
+use Rattle.smt_laws.specs.Rows.{limit_holds}
+use Rattle.pair_bounds.specs.declared.rows.RowLimit.{RowLimit}
+use Rattle.pair_bounds.specs.Rows.{limit_of_row, divisor_at}
 use Rattle.search_port.specs.State.{IsConsistent, IsMadeTrue}
 use Rattle.atom_form.specs.AtomTableNumbers.{IsAt}
 use Rattle.equality_clauses.specs.Ties.{literal}
@@ -16,7 +20,8 @@ use Rattle.bound_clauses.specs.Laws.{orders, IsNumber}
 use Rattle.order_clauses.specs.declared.pairs.Pair.{Pair}
 use Rattle.order_clauses.specs.Pairs.{pair, pairs_of, orders_of_pair}
 use Rattle.order_clauses.specs.Numbers.{number_in}
-use Rattle.order_clauses.specs.Clauses.{truth_number, same_number, bound_number, order_part, equality_part, choice_part}
+use Rattle.order_clauses.specs.Clauses.{has_rows, truth_number, same_number, bound_number, limit_number, order_part, equality_part, choice_part, division_part}
+use Rattle.order_clauses.specs.Needed.{limits_of_division}
 
 -- the number of an atom that has one is where it stands
 abbrev pub NumbersAreFound : Type 0
@@ -61,3 +66,29 @@ abbrev pub ChoicePartIsDecided : Type 0
 ChoicePartIsDecided =
     (v : ℕ → Value) (log : List Signed) (ts : List Tree) (table : List Atom) (p c i j : ℕ) → IsConsistent log → IsGiven log (truth_number table c) (truth_of (v c))
     → FitsTerms v log ts table true (pair p i ∷ pair p j ∷ []) → All (IsMadeTrue log) (choice_part ts table p c i j) → v p ≡ operate Ite (v c ∷ v i ∷ v j ∷ [])
+
+-- ---- divisions
+
+abbrev pub number_at : (ℕ → Value) → ℕ → ℤ
+number_at v i = number_of (v i)
+
+-- the log gives the bounds of these limits what holds of the numbers at places
+abbrev pub FitsLimits : (ℕ → Value) → List Signed → List Tree → List Atom → List RowLimit → Type 0
+FitsLimits v log ts table ls = All (λ (l : RowLimit). IsGiven log (limit_number ts table l) (limit_holds (number_at v) (limit_of_row l))) ls
+
+-- the second argument has the number of its form as its value, which isn't 0
+abbrev pub DividesBy : (ℕ → Value) → List Tree → Operator → List ℕ → Type 0
+DividesBy v ts Absolute is = Unit {0}
+DividesBy v ts o (a ∷ d ∷ is) = (number_at v d ≡ divisor_at ts (a ∷ d ∷ is)) × (divisor_at ts (a ∷ d ∷ is) ≢ pos 0)
+DividesBy v ts o is = Unit {0}
+
+-- a divisibility has its operator's truth value in the log, and another term its operator's value
+abbrev pub HasOperatorsValue : (ℕ → Value) → List Signed → List Atom → Operator → ℕ → List ℕ → Type 0
+HasOperatorsValue v log table Divisible p is = IsGiven log (truth_number table p) (truth_of (operate Divisible (map v is)))
+HasOperatorsValue v log table o p is = IsNumber (v p) → v p ≡ operate o (map v is)
+
+-- so is each `div`, `mod`, `abs` and divisibility
+abbrev pub DivisionPartIsDecided : Type 0
+DivisionPartIsDecided =
+    (v : ℕ → Value) (log : List Signed) (ts : List Tree) (table : List Atom) (o : Operator) (p : ℕ) (is : List ℕ) → IsTrue (has_rows o) → IsTrue (stands_with o (length is)) → IsConsistent log
+    → DividesBy v ts o is → FitsLimits v log ts table (limits_of_division ts o p is) → All (IsMadeTrue log) (division_part ts table o p is) → HasOperatorsValue v log table o p is

@@ -1,16 +1,22 @@
 -- Why the clauses of a part can't be put.
-use Rattle.std.specs.Prelude.{Bool, List, All, Contains}
+use Rattle.std.specs.Prelude.{ℕ, ◌⊎◌, Bool, List, All, Contains, IsTrue}
+use Rattle.smt_meaning.specs.declared.values.Sort.{Sort}
+use Rattle.smt_meaning.specs.declared.terms.Operator.{Operator}
 use Rattle.smt_meaning.specs.declared.clauses.Atom.{Atom}
 use Rattle.smt_meaning.specs.Term.{Tree}
 use Rattle.linear_forms.specs.declared.differences.DifferenceError.{DifferenceError}
 use Rattle.linear_forms.specs.declared.differences.DifferenceError.TheVariants.{Term as DifferenceTerm, Pair as DifferencePair, Memory as DifferenceMemory}
 use Rattle.linear_forms.specs.Differences.{Refuses}
 use Rattle.pair_bounds.specs.Pairs.{at_most_fits, below_fits}
+use Rattle.pair_bounds.specs.declared.rows.RowLimit.{RowLimit}
+use Rattle.pair_bounds.specs.Rows.{RefusesDivisor, RefusesLimit}
 use Rattle.bound_clauses.specs.declared.orders.Sense.{Sense}
 use Rattle.bound_clauses.specs.declared.orders.Sense.TheVariants.{NotAbove, Below}
 use Rattle.bound_clauses.specs.declared.orders.Order.{Order}
 use Rattle.order_clauses.specs.declared.error.PartError.{PartError}
 use Rattle.order_clauses.specs.declared.error.PartError.TheVariants.{Missing, Term, Pair, Memory}
+use Rattle.order_clauses.specs.Clauses.{has_rows}
+use Rattle.order_clauses.specs.Needed.{orders_of_part, limits_of_division, atoms_of_division, atoms_of_part}
 
 -- a refusal to fold is passed on
 abbrev pub passed_on : DifferenceError → PartError
@@ -38,3 +44,41 @@ IsCause ts table os atoms Missing = All (Contains table) atoms → ⊥
 IsCause ts table os atoms (Term part) = IsRefused ts os (DifferenceTerm part)
 IsCause ts table os atoms Pair = IsRefused ts os DifferencePair
 IsCause ts table os atoms Memory = Unit {0}
+
+-- ---- of divisions
+
+-- folding the bound of one of these limits is refused
+pub record IsLimitRefused (ts : List Tree) (ls : List RowLimit) (e : DifferenceError) : Type 0 where
+  pub limit : RowLimit
+  pub among : Contains ls limit
+  pub refuses : RefusesLimit ts limit e
+
+-- why clauses over these atoms, among them the bounds of these limits, can't be put
+abbrev pub IsLimitCause : List Tree → List Atom → List RowLimit → List Atom → PartError → Type 0
+IsLimitCause ts table ls atoms Missing = All (Contains table) atoms → ⊥
+IsLimitCause ts table ls atoms (Term part) = IsLimitRefused ts ls (DifferenceTerm part)
+IsLimitCause ts table ls atoms Pair = IsLimitRefused ts ls DifferencePair
+IsLimitCause ts table ls atoms Memory = Unit {0}
+
+-- folding the divisor of the terms at these places is refused, or one of these bounds
+abbrev pub RefusesDivision : List Tree → List ℕ → List RowLimit → DifferenceError → Type 0
+RefusesDivision ts is ls e = RefusesDivisor ts is e ⊎ IsLimitRefused ts ls e
+
+abbrev pub IsDivisionCause : List Tree → List Atom → Operator → ℕ → List ℕ → PartError → Type 0
+IsDivisionCause ts table o p is Missing = All (Contains table) (atoms_of_division ts o p is) → ⊥
+IsDivisionCause ts table o p is (Term part) = RefusesDivision ts is (limits_of_division ts o p is) (DifferenceTerm part)
+IsDivisionCause ts table o p is Pair = RefusesDivision ts is (limits_of_division ts o p is) DifferencePair
+IsDivisionCause ts table o p is Memory = Unit {0}
+
+-- ---- of parts
+
+-- folding the bound of one of the orders of the term at a place is refused, or, where it is a division, its divisor or the bound of one of its limits
+abbrev pub RefusesOfPart : List Sort → List Tree → Operator → ℕ → List ℕ → DifferenceError → Type 0
+RefusesOfPart sorts ts o p is e = IsRefused ts (orders_of_part sorts o p is) e ⊎ (IsTrue (has_rows o) × RefusesDivision ts is (limits_of_division ts o p is) e)
+
+-- why the clauses of the term at a place can't be put
+abbrev pub IsPartCause : List Sort → List Tree → List Atom → Operator → ℕ → List ℕ → PartError → Type 0
+IsPartCause sorts ts table o p is Missing = All (Contains table) (atoms_of_part sorts ts o p is) → ⊥
+IsPartCause sorts ts table o p is (Term part) = RefusesOfPart sorts ts o p is (DifferenceTerm part)
+IsPartCause sorts ts table o p is Pair = RefusesOfPart sorts ts o p is DifferencePair
+IsPartCause sorts ts table o p is Memory = Unit {0}

@@ -1,7 +1,7 @@
 -- The atoms that the clauses of a part are over, and the orders whose bounds are among them.
-use Rattle.std.specs.Prelude.{◌≡◌, ℕ, Bool, true, List, [], ◌∷◌, length, map, flat_map, All, Contains, Some, if◌then◌else◌}
+use Rattle.std.specs.Prelude.{◌≡◌, ℕ, Bool, true, List, [], ◌∷◌, ◌++◌, length, map, flat_map, All, Contains, Option, Some, None, if◌then◌else◌}
 use Rattle.smt_meaning.specs.declared.terms.Operator.{Operator}
-use Rattle.smt_meaning.specs.declared.terms.Operator.TheVariants.{Equal, Distinct, Ite, AtMost, Less, AtLeast, Greater}
+use Rattle.smt_meaning.specs.declared.terms.Operator.TheVariants.{Equal, Distinct, Ite, AtMost, Less, AtLeast, Greater, Divide, Modulo, Absolute, Divisible}
 use Rattle.smt_meaning.specs.declared.terms.Head.TheVariants.{Theory}
 use Rattle.smt_meaning.specs.declared.clauses.Atom.{Atom}
 use Rattle.smt_meaning.specs.declared.clauses.Atom.TheVariants.{Truth}
@@ -13,11 +13,14 @@ use Rattle.smt_meaning.specs.TreeShape.{place_of}
 use Rattle.smt_meaning.specs.Signature.{tree_sort}
 use Rattle.smt_meaning.specs.Nodes.{pick}
 use Rattle.smt_meaning.specs.Atoms.{comparison_atoms}
+use Rattle.pair_bounds.specs.declared.rows.RowLimit.{RowLimit}
+use Rattle.pair_bounds.specs.declared.rows.Row.{Row}
+use Rattle.pair_bounds.specs.Rows.{limits, divisor_at, placed_rows}
 use Rattle.bound_clauses.specs.declared.orders.Order.{Order}
 use Rattle.bound_clauses.specs.Orders.{order_atoms, bound_atom}
 use Rattle.order_clauses.specs.declared.pairs.Pair.{Pair}
 use Rattle.order_clauses.specs.Pairs.{pair, pairs_of, same_atom, orders_of_pair}
-use Rattle.order_clauses.specs.Clauses.{sort_at, by_sort, of_ints}
+use Rattle.order_clauses.specs.Clauses.{limit_bound, sort_at, by_sort, of_ints}
 
 -- ---- orders
 
@@ -42,6 +45,10 @@ orders_of_part sorts Distinct p is = orders_of_equality sorts Distinct is
 orders_of_part sorts Ite p is = orders_of_choice sorts p is
 orders_of_part sorts o p is = []
 
+-- the limits whose bounds the clauses of a division are over
+abbrev pub limits_of_division : List Tree → Operator → ℕ → List ℕ → List RowLimit
+limits_of_division ts o p is = flat_map limits (placed_rows o (divisor_at ts is) p is)
+
 -- ---- atoms
 
 abbrev pub atoms_of_order : List Tree → Operator → ℕ → List ℕ → List Atom
@@ -64,6 +71,16 @@ abbrev pub choice_atoms_of : List Sort → List Tree → ℕ → List ℕ → Li
 choice_atoms_of sorts ts p (c ∷ i ∷ j ∷ []) = of_ints (sort_at sorts p) (atoms_of_choice ts p c i j)
 choice_atoms_of sorts ts p is = []
 
+abbrev pub row_truth_atoms : ℕ → Option Bool → List Atom
+row_truth_atoms p None = []
+row_truth_atoms p (Some b) = Truth p ∷ []
+
+abbrev pub atoms_of_row : List Tree → ℕ → Row → List Atom
+atoms_of_row ts p r = row_truth_atoms p r.truth ++ map (limit_bound ts) (limits r)
+
+abbrev pub atoms_of_division : List Tree → Operator → ℕ → List ℕ → List Atom
+atoms_of_division ts o p is = flat_map (atoms_of_row ts p) (placed_rows o (divisor_at ts is) p is)
+
 abbrev pub atoms_of_part : List Sort → List Tree → Operator → ℕ → List ℕ → List Atom
 atoms_of_part sorts ts AtMost p is = atoms_of_order ts AtMost p is
 atoms_of_part sorts ts Less p is = atoms_of_order ts Less p is
@@ -72,6 +89,10 @@ atoms_of_part sorts ts Greater p is = atoms_of_order ts Greater p is
 atoms_of_part sorts ts Equal p is = equality_atoms_of sorts ts Equal p is
 atoms_of_part sorts ts Distinct p is = equality_atoms_of sorts ts Distinct p is
 atoms_of_part sorts ts Ite p is = choice_atoms_of sorts ts p is
+atoms_of_part sorts ts Divide p is = atoms_of_division ts Divide p is
+atoms_of_part sorts ts Modulo p is = atoms_of_division ts Modulo p is
+atoms_of_part sorts ts Absolute p is = atoms_of_division ts Absolute p is
+atoms_of_part sorts ts Divisible p is = atoms_of_division ts Divisible p is
 atoms_of_part sorts ts o p is = []
 
 -- ---- they are atoms that a stack has for the part

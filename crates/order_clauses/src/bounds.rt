@@ -39,7 +39,7 @@ fn threshold_of(
 }
 
 /// Adds the clause of a bound of the empty sum; of another bound none.
-fn put_if_constant(
+pub(crate) fn put_if_constant(
     clauses: &mut Clauses,
     number: u32,
     sum: &[Summand],

@@ -8,9 +8,9 @@ use std::alloc::{AllocError, AllocFailed};
 pub enum PartError {
     /// An atom of the clauses has no number.
     Missing,
-    /// Folding one of two terms that are compared leaves the range, and it does so at the part at this place.
+    /// Folding one of two terms that are compared, or of the terms of a division, leaves the range, and it does so at the part at this place.
     Term(TermId),
-    /// Folding the bound of two terms leaves the range, and folding each of the two doesn't.
+    /// Folding the bound of two terms leaves the range, and folding each of the two doesn't; or so does a bound of a division, or its divisor by itself.
     Pair,
     /// Memory is wanting.
     Memory,

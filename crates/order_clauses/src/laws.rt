@@ -1,8 +1,10 @@
 //! What holds of the clauses, as contracts of functions that do nothing.
 ghost use Rattle.order_clauses.specs.Needed.{PartAtomsAreOfStack};
-ghost use Rattle.order_clauses.specs.Decided.{NumbersAreFound, OrderPartIsDecided, EqualityPartIsDecided, ChoicePartIsDecided};
+ghost use Rattle.order_clauses.specs.Decided.{NumbersAreFound, OrderPartIsDecided, EqualityPartIsDecided, ChoicePartIsDecided, DivisionPartIsDecided};
 
 use bound_clauses::{equality_is_decided, order_is_decided, orders_are_comparisons};
+use pair_bounds::rows_are_atoms;
+use smt_laws::division_rows_force;
 
 /// The number that the clauses have for an atom is where it stands in the table.
 pub fn numbers_are_found()
@@ -14,6 +16,7 @@ pub fn part_atoms_are_of_stack()
     ensures { PartAtomsAreOfStack }
 {
     orders_are_comparisons();
+    rows_are_atoms();
 }
 
 /// A consistent log that makes the clauses of a comparison true gives it its operator's value, where the bounds fit the values of the arguments.
@@ -35,4 +38,11 @@ pub fn choice_part_is_decided()
     ensures { ChoicePartIsDecided }
 {
     equality_is_decided();
+}
+
+/// Each `div`, `mod`, `abs` and divisibility then has its operator's value, where the bounds of its rows fit the values.
+pub fn division_part_is_decided()
+    ensures { DivisionPartIsDecided }
+{
+    division_rows_force();
 }

@@ -2,8 +2,8 @@
 //! more than two terms of a declared sort, over atoms that have numbers. What two such terms alone
 //! say, and an `ite` of one, a closure of congruence reads from truths.
 //!
-//! `put_part`: exactly the clauses of comparisons, equalities, `distinct` and choices over the
-//! numbers of a table, true under every interpretation. A log that makes them true, with bounds
+//! `put_part`: exactly the clauses of comparisons, equalities, `distinct`, choices and divisions over
+//! the numbers of a table, true under every interpretation. A log that makes them true, with bounds
 //! that fit the values, gives the operator's value.
 //!
 //! The clauses between the bounds of a table that are on one sum or on its negation: each implies
@@ -16,6 +16,7 @@
 mod axioms;
 mod bound_axioms_laws;
 mod bounds;
+mod division;
 mod error;
 mod find;
 mod gather;
@@ -29,7 +30,7 @@ pub use axioms::put_all_axioms;
 pub use bound_axioms_laws::axioms_reach_all;
 pub use error::PartError;
 pub use laws::{
-    choice_part_is_decided, equality_part_is_decided, numbers_are_found, order_part_is_decided,
-    part_atoms_are_of_stack,
+    choice_part_is_decided, division_part_is_decided, equality_part_is_decided, numbers_are_found,
+    order_part_is_decided, part_atoms_are_of_stack,
 };
 pub use parts::{Space, put_part};

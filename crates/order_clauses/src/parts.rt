@@ -9,11 +9,12 @@ ghost use Rattle.bound_clauses.specs.Orders.{order_atoms};
 ghost use Rattle.bound_clauses.specs.Laws.{IsReadable};
 ghost use Rattle.order_clauses.specs.Pairs.{pair, pairs_of, orders_of_pair};
 ghost use Rattle.order_clauses.specs.Clauses.{order_part, equality_part, choice_part, equality_clauses_of, choice_clauses_of, part_clauses_of};
-ghost use Rattle.order_clauses.specs.Needed.{orders_tied, orders_of_equality, orders_of_choice, orders_of_part, atoms_of_order, atoms_of_equality, atoms_of_choice, equality_atoms_of, choice_atoms_of, atoms_of_part};
+ghost use Rattle.order_clauses.specs.Needed.{orders_tied, orders_of_equality, orders_of_choice, atoms_of_order, atoms_of_equality, atoms_of_choice, equality_atoms_of, choice_atoms_of, atoms_of_part};
 ghost use Rattle.order_clauses.specs.Sound.{HasSort, AreSound};
-ghost use Rattle.order_clauses.specs.Errors.{IsCause};
+ghost use Rattle.order_clauses.specs.Errors.{IsCause, IsPartCause};
 
 use crate::bounds::put_bounds;
+use crate::division::put_division;
 use crate::error::PartError;
 use crate::find::find_truth;
 use crate::pairs::{Pair, add_pairs};
@@ -29,7 +30,11 @@ use equality_clauses::{
     interpretation_agrees, put_choice, put_comparison,
 };
 use linear_forms::LinearForms;
-use smt_laws::value_has_its_sort;
+use pair_bounds::{Row, rows_are_atoms};
+use smt_laws::{
+    divisions_stand_by_places, limits_have_values, linear_form_has_value, rows_are_of_the_term,
+    value_has_its_sort,
+};
 use smt_meaning::{Operator, Sort, Summand, TermId};
 use std::alloc::Global;
 
@@ -39,6 +44,7 @@ pub struct Space {
     orders: Vec<Order>,
     pairs: Vec<Pair>,
     numbers: Vec<u32>,
+    rows: Vec<Row>,
     sum: Vec<Summand>,
     lists: Lists,
 }
@@ -50,6 +56,7 @@ impl Space {
             orders: Vec::new(alloc),
             pairs: Vec::new(alloc),
             numbers: Vec::new(alloc),
+            rows: Vec::new(alloc),
             sum: Vec::new(alloc),
             lists: Lists::new(alloc),
         }
@@ -248,7 +255,7 @@ fn put(
     requires sorts { length sorts.now ≡ length trees }
     ensures put { OnOk result (clauses.new ≡ clauses.old ++ part_clauses_of sorts.now trees atoms.now.atoms operator place arguments.now) }
     ensures has { OnOk result (All (Contains atoms.now.atoms) (atoms_of_part sorts.now trees operator place arguments.now)) }
-    ensures cause { IfErr result (λ e. IsCause trees atoms.now.atoms (orders_of_part sorts.now operator place arguments.now) (atoms_of_part sorts.now trees operator place arguments.now) e) }
+    ensures cause { IfErr result (λ e. IsPartCause sorts.now trees atoms.now.atoms operator place arguments.now e) }
     ensures same { forms.new ≡ forms.old }
 {
     match operator {
@@ -259,13 +266,25 @@ fn put(
             clauses, space, forms, atoms, sorts, place, operator, arguments,
         ),
         Operator::Ite => put_choice_of(clauses, space, forms, atoms, sorts, place, arguments),
+        Operator::Divide | Operator::Modulo | Operator::Absolute | Operator::Divisible => {
+            put_division(
+                clauses,
+                &mut space.rows,
+                &mut space.sum,
+                forms,
+                atoms,
+                place,
+                operator,
+                arguments,
+            )
+        }
         _ => Ok(()),
     }
 }
 
 /// Adds the clauses of the term at a place, which has this operator and the terms at these places as its arguments: of a comparison of Ints, of `=` and `distinct` of Ints,
-/// and of more than two terms of a declared sort, and of `ite` of Ints; of other terms none. They are over the table's numbers. The forms of the terms are known, and so are their sorts, by place.
-/// `Missing` says that an atom that the clauses are over has no number, `Term` and `Pair` that folding a bound of the part leaves the range, and `Memory` that memory
+/// and of more than two terms of a declared sort, of `ite` of Ints, and of `div`, `mod`, `abs` and divisibility; of other terms none. They are over the table's numbers. The forms of the terms are known, and so are their sorts, by place.
+/// `Missing` says that an atom that the clauses are over has no number, `Term` and `Pair` that folding a bound of the part, or its divisor, leaves the range, and `Memory` that memory
 /// is wanting. An `Err` says nothing of the clauses.
 pub fn put_part(
     clauses: &mut Clauses,
@@ -288,7 +307,7 @@ pub fn put_part(
     // Where the sorts are those of the terms, and the terms are linear, the clauses are true under every interpretation.
     ensures sound { (ds : List Declaration) → All (HasSort ds trees sorts.now) (place ∷ arguments.now) → All (IsReadable trees) (place ∷ arguments.now)
         → OnOk result (AreSound ds trees atoms.now.atoms (part_clauses_of sorts.now trees atoms.now.atoms operator place arguments.now)) }
-    ensures cause { IfErr result (λ e. IsCause trees atoms.now.atoms (orders_of_part sorts.now operator place arguments.now) (atoms_of_part sorts.now trees operator place arguments.now) e) }
+    ensures cause { IfErr result (λ e. IsPartCause sorts.now trees atoms.now.atoms operator place arguments.now e) }
     ensures same { forms.new ≡ forms.old }
 {
     value_has_its_sort();
@@ -303,6 +322,11 @@ pub fn put_part(
     interpretation_agrees();
     choice_is_over();
     choice_is_tied();
+    rows_are_atoms();
+    rows_are_of_the_term();
+    linear_form_has_value();
+    limits_have_values();
+    divisions_stand_by_places();
     put(
         clauses, space, forms, atoms, sorts, place, operator, arguments,
     )

@@ -8,3 +8,6 @@ ghost-put_equality_of g a = g.trees
 
 abbrev pub ghost-put_choice_of : goal.ghost-put_choice_of
 ghost-put_choice_of g a = g.trees
+
+abbrev pub ghost-put_division : goal.ghost-put_division
+ghost-put_division g a = g.trees

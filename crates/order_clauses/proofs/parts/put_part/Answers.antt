@@ -23,6 +23,11 @@ returns-clause-sound g c = λ ds sorted readable.
       agrees = c.interpretation_agrees.ensures;
       choice_over = c.choice_is_over.ensures;
       choice_tied = c.choice_is_tied.ensures;
+      rows_atoms = c.rows_are_atoms.ensures;
+      rows_of_term = c.rows_are_of_the_term.ensures.places;
+      form_value = c.linear_form_has_value.ensures;
+      limit_value = c.limits_have_values.ensures.places;
+      rows_hold = c.divisions_stand_by_places.ensures.hold;
     } in
     IfOk-weaker c.put.result (λ _. All (Contains table) (atoms_of_part c.args.sorts.now g.trees c.args.operator c.args.place c.args.arguments.now))
     (λ _. AreSound ds g.trees table (part_clauses_of c.args.sorts.now g.trees table c.args.operator c.args.place c.args.arguments.now))
