@@ -14,7 +14,7 @@ use Rattle.pair_bounds.specs.Pairs.{IsBound}
 use Rattle.atom_form.specs.AtomNumbersAtoms.{Numbers}
 use Rattle.check_atoms.specs.declared.refusal.Refusal.{Refusal}
 use Rattle.check_atoms.specs.declared.part.PartAtom.{PartAtom}
-use Rattle.check_atoms.specs.declared.part.PartAtom.TheVariants.{Bound}
+use Rattle.check_atoms.specs.declared.part.PartAtom.TheVariants.{Bound, Limit}
 use Rattle.check_atoms.specs.PartAtoms.{atom_of}
 use Rattle.check_atoms.specs.Numbering.{IsNormal, Adds, RefusesOne}
 
@@ -55,7 +55,8 @@ only_one x y (k, h, e) = at k h e
 -- what refuses an atom of a list refuses the list
 pub refuses_more : (trees : List Tree) (place : ℕ) (atoms : List PartAtom) (x : PartAtom) (e : Refusal) → Contains atoms x → RefusesOne trees place (x ∷ []) e → RefusesOne trees place atoms e
 refuses_more trees place atoms x e c (inl m) = inl m
-refuses_more trees place atoms x e c (inr r) = inr (record { order = r.order; among = subst (Contains atoms) (only_one x (Bound r.order) r.among) c; refuses = r.refuses })
+refuses_more trees place atoms x e c (inr (inl r)) = inr (inl (record { order = r.order; among = subst (Contains atoms) (only_one x (Bound r.order) r.among) c; refuses = r.refuses }))
+refuses_more trees place atoms x e c (inr (inr r)) = inr (inr (record { limit = r.limit; among = subst (Contains atoms) (only_one x (Limit r.limit) r.among) c; refuses = r.refuses }))
 
 pub core_is_normal : (count : ℕ) (a : CompactAtom) → IsNormal count (core_atom a)
 core_is_normal count (Truth p) = tt

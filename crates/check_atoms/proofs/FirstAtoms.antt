@@ -5,7 +5,7 @@ use Rattle.std.proofs.lemmas.List.Elements.{All-nil, All-cons, All-append, All-m
 use Rattle.smt_meaning.specs.declared.values.Sort.{Sort}
 use Rattle.smt_meaning.specs.declared.values.Sort.TheVariants.{Bool as Truths, Int as Ints, Free}
 use Rattle.smt_meaning.specs.declared.terms.Operator.{Operator}
-use Rattle.smt_meaning.specs.declared.terms.Operator.TheVariants.{Equal, Distinct, Ite}
+use Rattle.smt_meaning.specs.declared.terms.Operator.TheVariants.{Equal, Distinct, Ite, Divide, Modulo, Absolute, Divisible}
 use Rattle.smt_meaning.specs.declared.terms.Head.{Head}
 use Rattle.smt_meaning.specs.declared.terms.Head.TheVariants.{Theory}
 use Rattle.smt_meaning.specs.declared.clauses.Summand.{Summand}
@@ -29,11 +29,14 @@ use Rattle.bound_clauses.specs.declared.orders.Sense.TheVariants.{NotAbove, Belo
 use Rattle.bound_clauses.specs.declared.orders.Order.{Order}
 use Rattle.bound_clauses.specs.Orders.{atom_of as order_atom, both_orders, order_atoms}
 use Rattle.bound_clauses.specs.Laws.{OrdersAreComparisons}
+use Rattle.pair_bounds.specs.declared.rows.RowLimit.{RowLimit}
+use Rattle.pair_bounds.specs.Rows.{divisor_at, RowsAreAtoms}
 use Rattle.check_atoms.specs.declared.part.PartAtom.{PartAtom}
-use Rattle.check_atoms.specs.declared.part.PartAtom.TheVariants.{Truth, Same, Bound}
+use Rattle.check_atoms.specs.declared.part.PartAtom.TheVariants.{Truth, Same, Bound, Limit}
 use Rattle.check_atoms.specs.PartAtoms.{atom_of, by_sort, alone_by_sort, truth_by_sort, pair, alone, with_branches, compared, compared_by_head, of_part, sort_of}
 use Rattle.check_atoms.specs.OfStack.{IsAtomOfPart, ComparesMarked, AreCheckAtoms, part_atoms}
 use Rattle.check_atoms.specs.Laws.{IsSameOfBools, AreFirstAtoms, AtomsAreFirst}
+use Rattle.check_atoms.proofs.Rows.{limits_of}
 use Rattle.check_atoms.proofs.PartPlaces.{equal_all, two_all}
 use Rattle.check_atoms.proofs.StackAtoms.{again as place_again, of_stack, numbered}
 
@@ -48,6 +51,7 @@ module _ (f : ℕ → Option Sort) where
   IsUnlike (Truth p) = Unit {0}
   IsUnlike (Same i j) = is_bool (f i) ≡ false
   IsUnlike (Bound o) = Unit {0}
+  IsUnlike (Limit l) = Unit {0}
 
   bounds_unlike : (os : List Order) → All IsUnlike (map Bound os)
   bounds_unlike [] = All-nil IsUnlike
@@ -81,18 +85,25 @@ module _ (f : ℕ → Option Sort) where
   branches_unlike p (c ∷ i ∷ j ∷ []) = All-append IsUnlike (alone f p i) (alone f p j) (single_unlike p i) (single_unlike p j)
   branches_unlike p is = All-nil IsUnlike
 
-  compared_unlike : (o : Operator) (p : ℕ) (is : List ℕ) → All IsUnlike (compared f o p is)
-  compared_unlike Equal p is = equal_all (λ i. Unit {0}) IsUnlike f (λ i j h g. pair_unlike i j) (λ i j h g. single_unlike i j) is (any is)
-  compared_unlike Distinct p is = two_all (λ i. Unit {0}) IsUnlike f (λ i j h g. pair_unlike i j) (λ i j h g. single_unlike i j) is (any is)
-  compared_unlike Ite p is = branches_unlike p is
-  compared_unlike o p is = bounds_unlike (order_atoms o is)
+  limits_unlike : (ls : List RowLimit) → All IsUnlike (map Limit ls)
+  limits_unlike ls = All-map IsUnlike Limit ls (λ k d l. tt)
 
-  by_head_unlike : (h : Head) (p : ℕ) (is : List ℕ) → All IsUnlike (compared_by_head f h p is)
-  by_head_unlike (Theory o) p is = compared_unlike o p is
-  by_head_unlike h p is = All-nil IsUnlike
+  compared_unlike : (n : ℤ) (o : Operator) (p : ℕ) (is : List ℕ) → All IsUnlike (compared f n o p is)
+  compared_unlike n Equal p is = equal_all (λ i. Unit {0}) IsUnlike f (λ i j h g. pair_unlike i j) (λ i j h g. single_unlike i j) is (any is)
+  compared_unlike n Distinct p is = two_all (λ i. Unit {0}) IsUnlike f (λ i j h g. pair_unlike i j) (λ i j h g. single_unlike i j) is (any is)
+  compared_unlike n Ite p is = branches_unlike p is
+  compared_unlike n Divide p is = limits_unlike (limits_of n Divide p is)
+  compared_unlike n Modulo p is = limits_unlike (limits_of n Modulo p is)
+  compared_unlike n Absolute p is = limits_unlike (limits_of n Absolute p is)
+  compared_unlike n Divisible p is = limits_unlike (limits_of n Divisible p is)
+  compared_unlike n o p is = bounds_unlike (order_atoms o is)
 
-  part_unlike : (p : ℕ) (h : Head) (is : List ℕ) → All IsUnlike (of_part f p h is)
-  part_unlike p h is = All-append IsUnlike (truth_by_sort (f p) p) (compared_by_head f h p is) (truth_unlike (f p) p) (by_head_unlike h p is)
+  by_head_unlike : (n : ℤ) (h : Head) (p : ℕ) (is : List ℕ) → All IsUnlike (compared_by_head f n h p is)
+  by_head_unlike n (Theory o) p is = compared_unlike n o p is
+  by_head_unlike n h p is = All-nil IsUnlike
+
+  part_unlike : (n : ℤ) (p : ℕ) (h : Head) (is : List ℕ) → All IsUnlike (of_part f n p h is)
+  part_unlike n p h is = All-append IsUnlike (truth_by_sort (f p) p) (compared_by_head f n h p is) (truth_unlike (f p) p) (by_head_unlike n h p is)
 
 normal_no_equality : (sum : List Summand) (k : ℤ) (i j : ℕ) → normal_bound sum k ≡ SameAtom i j → ⊥
 normal_no_equality [] k i j e = cc
@@ -119,6 +130,7 @@ module _ (s : Stack) where
   other (Truth p) h b = (let e : TruthAtom p ≡ SameAtom b.left b.right = b.atom in cc)
   other (Same i j) h b = true_or_false (is_bool (sort_there i)) (ap (λ k. is_bool (sort_there k)) (same_left i j b.left b.right b.atom) ∙ b.bool) h
   other (Bound o) h b = order_no_equality o.sense s.trees (tree_at s.trees o.lesser) (tree_at s.trees o.greater) b.left b.right b.atom
+  other (Limit l) h b = normal_no_equality _ _ b.left b.right b.atom
 
   all_other : (xs : List PartAtom) → All (IsUnlike sort_there) xs → All IsOther (map (atom_of s.trees) xs)
   all_other xs h = All-map IsOther (atom_of s.trees) xs (λ k d l. other (get_or xs k d) (h k d l))
@@ -131,11 +143,11 @@ module _ (s : Stack) where
   no_bools : (marks : List Bool) (a : Atom) → IsAtomOfPart s marks a → IsOther a
   no_bools marks a o =
       All-contains IsOther (map (atom_of s.trees) (part_atoms s o.place o.head o.arguments)) a
-      (all_other (part_atoms s o.place o.head o.arguments) (part_unlike sort_there o.place o.head o.arguments)) o.among
+      (all_other (part_atoms s o.place o.head o.arguments) (part_unlike sort_there (divisor_at s.trees o.arguments) o.place o.head o.arguments)) o.among
 
   -- ---- by levels that declare and assert the same
 
-  module _ (marks : List Bool) (atoms : List Atom) (lawful : IsLawful s) (parts : AreStackParts s marks) (are : AreCheckAtoms s marks atoms) (compares : OrdersAreComparisons) (frames : List Frame)
+  module _ (marks : List Bool) (atoms : List Atom) (lawful : IsLawful s) (parts : AreStackParts s marks) (are : AreCheckAtoms s marks atoms) (compares : OrdersAreComparisons) (rows : RowsAreAtoms) (frames : List Frame)
       (signature : signature_of frames ≡ signature_of s.frames) (assertions : assertions_of frames ≡ assertions_of s.frames) where
     same_atoms : stack_atoms s.trees frames ≡ stack_atoms s.trees s.frames
     same_atoms =
@@ -151,7 +163,7 @@ module _ (s : Stack) where
     chord_there a o =
         let left = tree_at s.trees o.left in
         let right = tree_at s.trees o.right in
-        let again : (p : ℕ) → IsMarked marks p → place_of (tree_at s.trees p) s.trees ≡ p = λ p m. place_again s marks atoms lawful parts are compares p (inside p m) in
+        let again : (p : ℕ) → IsMarked marks p → place_of (tree_at s.trees p) s.trees ≡ p = λ p m. place_again s marks atoms lawful parts are compares rows p (inside p m) in
         let is : SameAtom (place_of left s.trees) (place_of right s.trees) ≡ a = ap₂ SameAtom (again o.left o.left_marked) (again o.right o.right_marked) ∙ sym o.atom in
         record {
           left = left;
@@ -164,20 +176,20 @@ module _ (s : Stack) where
 
     first_there : (a : Atom) → Contains atoms a → IsFirstAtom s.trees frames a
     first_there a c = elim (are.only a c) [
-      | inl own ↦ inl (subst (λ xs. Contains xs a) (sym same_atoms) (of_stack s marks atoms lawful parts are compares a own))
+      | inl own ↦ inl (subst (λ xs. Contains xs a) (sym same_atoms) (of_stack s marks atoms lawful parts are compares rows a own))
       | inr chord ↦ inr (inl (chord_there a chord))
     ]
 
     pub first_by : AreFirstAtoms s frames marks atoms
     first_by = record {
       first = λ k d l. first_there (get_or atoms k d) (Contains-get_or atoms k d l);
-      all = λ a c. numbered s marks atoms lawful parts are compares a (subst (λ xs. Contains xs a) same_atoms c);
+      all = λ a c. numbered s marks atoms lawful parts are compares rows a (subst (λ xs. Contains xs a) same_atoms c);
       no_bools = λ a c. elim (are.only a c) [ inl own ↦ no_bools marks a own | inr chord ↦ chord_other marks a chord ];
       parts = λ p m. part_there (tree_at s.trees p) (parts.only p m);
     }
 
-pub first_atoms : OrdersAreComparisons → FlatSaysTheSame → AtomsAreFirst
-first_atoms compares same s marks atoms lawful parts are = (
-  first_by s marks atoms lawful parts are compares s.frames refl refl,
-  first_by s marks atoms lawful parts are compares (flat s.frames) (same s.frames).signature (same s.frames).assertions,
+pub first_atoms : OrdersAreComparisons → RowsAreAtoms → FlatSaysTheSame → AtomsAreFirst
+first_atoms compares rows same s marks atoms lawful parts are = (
+  first_by s marks atoms lawful parts are compares rows s.frames refl refl,
+  first_by s marks atoms lawful parts are compares rows (flat s.frames) (same s.frames).signature (same s.frames).assertions,
 )

@@ -1,5 +1,6 @@
 mod Adding
 mod Sums
+mod Rows
 mod PartPlaces
 mod Integers
 mod Stacks
@@ -7,6 +8,7 @@ mod Related
 mod StackAtoms
 mod Refused
 mod RefusedPair
+mod RefusedLimit
 mod PartNumbers
 mod FirstAtoms
 pub mod Sorting

@@ -1,12 +1,12 @@
 -- The numbers of a part's atoms, one kind after another.
 use Rattle.std.proofs.Common.{◌≡◌, ℕ, Bool, true, false, List, [], ◌∷◌, ◌++◌, Some, map, get_or, All, Contains, subst, sym, ap, ◌∙◌, refl}
-use Rattle.std.specs.Prelude.{Option, None, IsTrue}
+use Rattle.std.specs.Prelude.{Option, None, IsTrue, ℤ}
 use Rattle.std.proofs.lemmas.List.{map-append}
-use Rattle.std.proofs.lemmas.List.Elements.{All-contains, All-head, Contains-get_or, Contains-append_left, Contains-append_right}
+use Rattle.std.proofs.lemmas.List.Elements.{All-nil, All-contains, All-head, Contains-get_or, Contains-append_left, Contains-append_right}
 use Rattle.smt_meaning.specs.declared.values.Sort.{Sort}
 use Rattle.smt_meaning.specs.declared.values.Sort.TheVariants.{Bool as Truths, Int as Ints, Free}
 use Rattle.smt_meaning.specs.declared.terms.Operator.{Operator}
-use Rattle.smt_meaning.specs.declared.terms.Operator.TheVariants.{Equal, Distinct, Ite, AtMost, Less, AtLeast, Greater}
+use Rattle.smt_meaning.specs.declared.terms.Operator.TheVariants.{Equal, Distinct, Ite, AtMost, Less, AtLeast, Greater, Divide, Modulo, Absolute, Divisible}
 use Rattle.smt_meaning.specs.declared.terms.Head.{Head}
 use Rattle.smt_meaning.specs.declared.terms.Head.TheVariants.{Theory}
 use Rattle.smt_meaning.specs.declared.clauses.Atom.{Atom}
@@ -21,7 +21,8 @@ use Rattle.bound_clauses.specs.Orders.{order_atoms, bound_atom}
 use Rattle.bound_clauses.specs.Laws.{orders}
 use Rattle.check_atoms.specs.declared.part.PartAtom.{PartAtom}
 use Rattle.check_atoms.specs.declared.part.PartAtom.TheVariants.{Bound}
-use Rattle.check_atoms.specs.PartAtoms.{atom_of, truth_by_sort, compared, compared_by_head, sort_of}
+use Rattle.pair_bounds.specs.Rows.{divisor_at}
+use Rattle.check_atoms.specs.PartAtoms.{atom_of, truth_by_sort, of_rows, compared, compared_by_head, sort_of}
 use Rattle.check_atoms.specs.OfStack.{IsNode, AreCheckAtoms}
 use Rattle.check_atoms.specs.Laws.{HasNumbers, PartsHaveNumbers, TruthsHaveNumbers}
 
@@ -39,12 +40,21 @@ map_bounds : (ts : List Tree) (os : List Order) → map (atom_of ts) (map Bound 
 map_bounds ts [] = refl
 map_bounds ts (o ∷ os) = ap (λ xs. bound_atom ts o ∷ xs) (map_bounds ts os)
 
-compared_orders : (f : ℕ → Option Sort) (o : Operator) (p : ℕ) (is : List ℕ) → IsTrue (orders o) → compared f o p is ≡ map Bound (order_atoms o is)
-compared_orders f AtMost p is h = refl
-compared_orders f Less p is h = refl
-compared_orders f AtLeast p is h = refl
-compared_orders f Greater p is h = refl
-compared_orders f o p is h = absurd (let x : false ≡ true = h in cc)
+compared_orders : (f : ℕ → Option Sort) (n : ℤ) (o : Operator) (p : ℕ) (is : List ℕ) → IsTrue (orders o) → compared f n o p is ≡ map Bound (order_atoms o is)
+compared_orders f n AtMost p is h = refl
+compared_orders f n Less p is h = refl
+compared_orders f n AtLeast p is h = refl
+compared_orders f n Greater p is h = refl
+compared_orders f n o p is h = absurd (let x : false ≡ true = h in cc)
+
+-- another term has no rows
+rows_there : (ts : List Tree) (atoms : List Atom) (f : ℕ → Option Sort) (n : ℤ) (o : Operator) (p : ℕ) (is : List ℕ) → All (Contains atoms) (map (atom_of ts) (compared f n o p is))
+    → All (Contains atoms) (map (atom_of ts) (of_rows n o p is))
+rows_there ts atoms f n Divide p is h = h
+rows_there ts atoms f n Modulo p is h = h
+rows_there ts atoms f n Absolute p is h = h
+rows_there ts atoms f n Divisible p is h = h
+rows_there ts atoms f n o p is h = All-nil (Contains atoms)
 
 truth_there : (ts : List Tree) (atoms : List Atom) (r : Option Sort) (p : ℕ) → is_bool r ≡ true → All (Contains atoms) (map (atom_of ts) (truth_by_sort r p)) → Contains atoms (TruthAtom p)
 truth_there ts atoms None p b h = absurd (let x : false ≡ true = b in cc)
@@ -56,22 +66,23 @@ module _ (s : Stack) (marks : List Bool) (atoms : List Atom) (are : AreCheckAtom
   abbrev f : ℕ → Option Sort
   f = sort_of (signature_of s.frames) s.trees
 
-  comparisons : (h : Head) (is : List ℕ) → IsMarked marks p → IsNode s.trees p h is → All (Contains atoms) (map (atom_of s.trees) (compared_by_head f h p is))
-  comparisons h is m n = lasts s.trees atoms (truth_by_sort (f p) p) (compared_by_head f h p is) (are.each p h is m n)
+  comparisons : (h : Head) (is : List ℕ) → IsMarked marks p → IsNode s.trees p h is → All (Contains atoms) (map (atom_of s.trees) (compared_by_head f (divisor_at s.trees is) h p is))
+  comparisons h is m n = lasts s.trees atoms (truth_by_sort (f p) p) (compared_by_head f (divisor_at s.trees is) h p is) (are.each p h is m n)
 
-  of_operator : (o q : Operator) (is : List ℕ) → IsMarked marks p → IsNode s.trees p (Theory o) is → o ≡ q → All (Contains atoms) (map (atom_of s.trees) (compared f q p is))
-  of_operator o q is m n e = subst (λ r. All (Contains atoms) (map (atom_of s.trees) (compared f r p is))) e (comparisons (Theory o) is m n)
+  of_operator : (o q : Operator) (is : List ℕ) → IsMarked marks p → IsNode s.trees p (Theory o) is → o ≡ q → All (Contains atoms) (map (atom_of s.trees) (compared f (divisor_at s.trees is) q p is))
+  of_operator o q is m n e = subst (λ r. All (Contains atoms) (map (atom_of s.trees) (compared f (divisor_at s.trees is) r p is))) e (comparisons (Theory o) is m n)
 
   has_numbers : (o : Operator) (is : List ℕ) → IsMarked marks p → IsNode s.trees p (Theory o) is → HasNumbers s atoms p o is
   has_numbers o is m n = record {
-    comparison = λ h. subst (All (Contains atoms)) (ap (map (atom_of s.trees)) (compared_orders f o p is h) ∙ map_bounds s.trees (order_atoms o is)) (comparisons (Theory o) is m n);
+    comparison = λ h. subst (All (Contains atoms)) (ap (map (atom_of s.trees)) (compared_orders f (divisor_at s.trees is) o p is h) ∙ map_bounds s.trees (order_atoms o is)) (comparisons (Theory o) is m n);
     equality = of_operator o Equal is m n;
     different = of_operator o Distinct is m n;
     choice = of_operator o Ite is m n;
+    division = rows_there s.trees atoms f (divisor_at s.trees is) o p is (comparisons (Theory o) is m n);
   }
 
   has_truth : (h : Head) (is : List ℕ) → IsMarked marks p → IsNode s.trees p h is → is_bool (f p) ≡ true → Contains atoms (TruthAtom p)
-  has_truth h is m n b = truth_there s.trees atoms (f p) p b (firsts s.trees atoms (truth_by_sort (f p) p) (compared_by_head f h p is) (are.each p h is m n))
+  has_truth h is m n b = truth_there s.trees atoms (f p) p b (firsts s.trees atoms (truth_by_sort (f p) p) (compared_by_head f (divisor_at s.trees is) h p is) (are.each p h is m n))
 
 pub parts_numbered : PartsHaveNumbers
 parts_numbered s marks atoms are p o is m n = has_numbers s marks atoms are p o is m n

@@ -1,20 +1,24 @@
 -- The atoms of a part are over its place and those of its arguments.
-use Rattle.std.proofs.Common.{◌≡◌, ℕ, ◌<◌, List, [], ◌∷◌, ◌++◌, Some, map, All, ap, ap₂, refl}
-use Rattle.std.specs.Prelude.{Option, None}
-use Rattle.std.proofs.lemmas.List.Elements.{All-nil, All-cons, All-head, All-tail, All-append, All-weaker}
+use Rattle.std.proofs.Common.{◌≡◌, ℕ, ◌<◌, List, [], ◌∷◌, ◌++◌, Some, map, get_or, All, ap, ap₂, refl}
+use Rattle.std.specs.Prelude.{Option, None, ℤ}
+use Rattle.std.proofs.lemmas.List.Elements.{All-nil, All-cons, All-head, All-tail, All-append, All-map}
 use Rattle.smt_meaning.specs.declared.values.Sort.{Sort}
 use Rattle.smt_meaning.specs.declared.values.Sort.TheVariants.{Bool as Truths, Int as Ints, Free}
-use Rattle.smt_meaning.specs.declared.terms.Operator.TheVariants.{Equal, Distinct, Ite, AtMost, Less, AtLeast, Greater}
+use Rattle.smt_meaning.specs.declared.terms.Operator.TheVariants.{Equal, Distinct, Ite, AtMost, Less, AtLeast, Greater, Divide, Modulo, Absolute, Divisible}
 use Rattle.smt_meaning.specs.declared.terms.Operator.{Operator}
 use Rattle.smt_meaning.specs.declared.terms.Head.{Head}
 use Rattle.smt_meaning.specs.declared.terms.Head.TheVariants.{Theory}
+use Rattle.fraction128.specs.Whole.{InRange}
+use Rattle.pair_bounds.specs.declared.rows.RowLimit.{RowLimit}
+use Rattle.bound_clauses.specs.declared.orders.Order.{Order}
 use Rattle.bound_clauses.specs.declared.orders.Sense.{Sense}
 use Rattle.bound_clauses.specs.declared.orders.Sense.TheVariants.{NotAbove, Below}
 use Rattle.bound_clauses.specs.Orders.{order, both_orders, rising, falling, order_atoms}
 use Rattle.check_atoms.specs.declared.part.PartAtom.{PartAtom}
-use Rattle.check_atoms.specs.declared.part.PartAtom.TheVariants.{Truth, Same, Bound}
-use Rattle.check_atoms.specs.PartAtoms.{by_sort, alone_by_sort, truth_by_sort, pair, alone, neighbours_from, first_with, each_two, of_equal, of_distinct, with_branches, compared, compared_by_head, of_part}
+use Rattle.check_atoms.specs.declared.part.PartAtom.TheVariants.{Truth, Same, Bound, Limit}
+use Rattle.check_atoms.specs.PartAtoms.{by_sort, alone_by_sort, truth_by_sort, pair, alone, neighbours_from, first_with, each_two, of_equal, of_distinct, with_branches, of_rows, compared, compared_by_head, of_part}
 use Rattle.check_atoms.specs.Numbering.{IsWithin}
+use Rattle.check_atoms.proofs.Rows.{HasTerms, HasNumbers, limits_of, all_terms, all_numbers}
 
 -- ---- which places
 
@@ -23,6 +27,7 @@ module _ (P : ℕ → Type 0) where
   IsOver (Truth p) = P p
   IsOver (Same i j) = P i × P j
   IsOver (Bound o) = P o.lesser × P o.greater
+  IsOver (Limit l) = HasTerms P l
 
   pair_over : (s : Option Sort) (i j : ℕ) → P i → P j → All IsOver (by_sort s i j)
   pair_over None i j h g = All-cons IsOver (Same i j) [] (h, g) (All-nil IsOver)
@@ -96,26 +101,94 @@ module _ (P : ℕ → Type 0) where
         All-append IsOver (alone f p i) (alone f p j) (alone_over (f p) p i h (All-head P i (j ∷ []) r)) (alone_over (f p) p j h (All-head P j [] (All-tail P i (j ∷ []) r)))
     branches_over p is h g = All-nil IsOver
 
-    compared_over : (o : Operator) (p : ℕ) (is : List ℕ) → P p → All P is → All IsOver (compared f o p is)
-    compared_over Equal p is h g = equal_all IsOver f (λ i j. pair_over (f i) i j) (λ i j. alone_over (f i) i j) is g
-    compared_over Distinct p is h g = two_all IsOver f (λ i j. pair_over (f i) i j) (λ i j. alone_over (f i) i j) is g
-    compared_over Ite p is h g = branches_over p is h g
-    compared_over o p is h g = orders_over o is g
+    rows_over : (n : ℤ) (o : Operator) (p : ℕ) (is : List ℕ) → P p → All P is → All IsOver (of_rows n o p is)
+    rows_over n o p is h g = All-map IsOver Limit (limits_of n o p is) (all_terms P n o p is (λ e. h) g)
 
-    by_head_over : (h : Head) (p : ℕ) (is : List ℕ) → P p → All P is → All IsOver (compared_by_head f h p is)
-    by_head_over (Theory o) p is h g = compared_over o p is h g
-    by_head_over k p is h g = All-nil IsOver
+    compared_over : (n : ℤ) (o : Operator) (p : ℕ) (is : List ℕ) → P p → All P is → All IsOver (compared f n o p is)
+    compared_over n Equal p is h g = equal_all IsOver f (λ i j. pair_over (f i) i j) (λ i j. alone_over (f i) i j) is g
+    compared_over n Distinct p is h g = two_all IsOver f (λ i j. pair_over (f i) i j) (λ i j. alone_over (f i) i j) is g
+    compared_over n Ite p is h g = branches_over p is h g
+    compared_over n Divide p is h g = rows_over n Divide p is h g
+    compared_over n Modulo p is h g = rows_over n Modulo p is h g
+    compared_over n Absolute p is h g = rows_over n Absolute p is h g
+    compared_over n Divisible p is h g = rows_over n Divisible p is h g
+    compared_over n o p is h g = orders_over o is g
 
-    pub part_over : (p : ℕ) (h : Head) (is : List ℕ) → P p → All P is → All IsOver (of_part f p h is)
-    part_over p h is k g = All-append IsOver (truth_by_sort (f p) p) (compared_by_head f h p is) (truth_over (f p) p k) (by_head_over h p is k g)
+    by_head_over : (n : ℤ) (h : Head) (p : ℕ) (is : List ℕ) → P p → All P is → All IsOver (compared_by_head f n h p is)
+    by_head_over n (Theory o) p is h g = compared_over n o p is h g
+    by_head_over n k p is h g = All-nil IsOver
 
-over_within : (n : ℕ) (x : PartAtom) → IsOver (λ i. i < n) x → IsWithin n x
-over_within n (Truth p) h = tt
-over_within n (Same i j) h = tt
-over_within n (Bound o) h = h
+    pub part_over : (n : ℤ) (p : ℕ) (h : Head) (is : List ℕ) → P p → All P is → All IsOver (of_part f n p h is)
+    part_over n p h is k g = All-append IsOver (truth_by_sort (f p) p) (compared_by_head f n h p is) (truth_over (f p) p k) (by_head_over n h p is k g)
 
-pub part_within : (f : ℕ → Option Sort) (n p : ℕ) (h : Head) (is : List ℕ) → p < n → All (λ i. i < n) is → All (IsWithin n) (of_part f p h is)
-part_within f n p h is k g = All-weaker (IsOver (λ i. i < n)) (IsWithin n) (over_within n) (of_part f p h is) (part_over (λ i. i < n) f p h is k g)
+-- ---- what holds of each truth, equality and order holds of all atoms where it holds of the limits
+
+module _ (Q : PartAtom → Type 0) (truths : (p : ℕ) → Q (Truth p)) (sames : (i j : ℕ) → Q (Same i j)) (bounds : (o : Order) → Q (Bound o)) where
+  bounds_any : (os : List Order) → All Q (map Bound os)
+  bounds_any os = All-map Q Bound os (λ k d l. bounds (get_or os k d))
+
+  by_sort_any : (s : Option Sort) (i j : ℕ) → All Q (by_sort s i j)
+  by_sort_any None i j = All-cons Q (Same i j) [] (sames i j) (All-nil Q)
+  by_sort_any (Some Truths) i j = All-nil Q
+  by_sort_any (Some Ints) i j = All-cons Q (Same i j) (map Bound (both_orders i j)) (sames i j) (bounds_any (both_orders i j))
+  by_sort_any (Some (Free n)) i j = All-cons Q (Same i j) [] (sames i j) (All-nil Q)
+
+  alone_any : (s : Option Sort) (i j : ℕ) → All Q (alone_by_sort s i j)
+  alone_any None i j = by_sort_any None i j
+  alone_any (Some Truths) i j = All-nil Q
+  alone_any (Some Ints) i j = by_sort_any (Some Ints) i j
+  alone_any (Some (Free n)) i j = All-nil Q
+
+  truth_any : (s : Option Sort) (p : ℕ) → All Q (truth_by_sort s p)
+  truth_any None p = All-nil Q
+  truth_any (Some Truths) p = All-cons Q (Truth p) [] (truths p) (All-nil Q)
+  truth_any (Some Ints) p = All-nil Q
+  truth_any (Some (Free n)) p = All-nil Q
+
+  module _ (f : ℕ → Option Sort) (n : ℤ) (p : ℕ) where
+    abbrev pub OfLimits : Operator → List ℕ → Type 0
+    OfLimits o is = All (λ (l : RowLimit). Q (Limit l)) (limits_of n o p is)
+
+    branches_any : (is : List ℕ) → All Q (with_branches f p is)
+    branches_any (c ∷ i ∷ j ∷ []) = All-append Q (alone f p i) (alone f p j) (alone_any (f p) p i) (alone_any (f p) p j)
+    branches_any is = All-nil Q
+
+    compared_any : (o : Operator) (is : List ℕ) → OfLimits o is → All Q (compared f n o p is)
+    compared_any Equal is r = equal_all (λ i. Unit {0}) Q f (λ i j h g. by_sort_any (f i) i j) (λ i j h g. alone_any (f i) i j) is (λ k d l. tt)
+    compared_any Distinct is r = two_all (λ i. Unit {0}) Q f (λ i j h g. by_sort_any (f i) i j) (λ i j h g. alone_any (f i) i j) is (λ k d l. tt)
+    compared_any Ite is r = branches_any is
+    compared_any Divide is r = All-map Q Limit (limits_of n Divide p is) r
+    compared_any Modulo is r = All-map Q Limit (limits_of n Modulo p is) r
+    compared_any Absolute is r = All-map Q Limit (limits_of n Absolute p is) r
+    compared_any Divisible is r = All-map Q Limit (limits_of n Divisible p is) r
+    compared_any o is r = bounds_any (order_atoms o is)
+
+    by_head_any : (h : Head) (is : List ℕ) → ((o : Operator) → h ≡ Theory o → OfLimits o is) → All Q (compared_by_head f n h p is)
+    by_head_any (Theory o) is r = compared_any o is (r o refl)
+    by_head_any h is r = All-nil Q
+
+    pub part_any : (h : Head) (is : List ℕ) → ((o : Operator) → h ≡ Theory o → OfLimits o is) → All Q (of_part f n p h is)
+    part_any h is r = All-append Q (truth_by_sort (f p) p) (compared_by_head f n h p is) (truth_any (f p) p) (by_head_any h is r)
+
+-- ---- they are among the first terms, with numbers in the range
+
+abbrev IsRanged : PartAtom → Type 0
+IsRanged (Truth p) = Unit {0}
+IsRanged (Same i j) = Unit {0}
+IsRanged (Bound o) = Unit {0}
+IsRanged (Limit l) = HasNumbers l
+
+over_within : (n : ℕ) (x : PartAtom) → IsOver (λ i. i < n) x → IsRanged x → IsWithin n x
+over_within n (Truth p) h r = tt
+over_within n (Same i j) h r = tt
+over_within n (Bound o) h r = h
+over_within n (Limit l) h r = record { multiples_are = λ k d m. record { in_range = r.factors k d m; within = h k d m }; in_range = r.most }
+
+pub part_within : (f : ℕ → Option Sort) (d : ℤ) (n p : ℕ) (h : Head) (is : List ℕ) → InRange d → p < n → All (λ i. i < n) is → All (IsWithin n) (of_part f d p h is)
+part_within f d n p h is r l g =
+    let over = part_over (λ i. i < n) f d p h is l g in
+    let ranged = part_any IsRanged (λ q. tt) (λ i j. tt) (λ o. tt) f d p h is (λ o e. all_numbers d o p is r) in
+    λ k x m. over_within n (get_or (of_part f d p h is) k x) (over k x m) (ranged k x m)
 
 -- ---- only the sorts of these places count
 
@@ -139,21 +212,21 @@ module _ (f g : ℕ → Option Sort) where
   same_branches p (c ∷ i ∷ j ∷ []) e = ap (λ s. alone_by_sort s p i ++ alone_by_sort s p j) e
   same_branches p is e = refl
 
-  same_compared : (o : Operator) (p : ℕ) (is : List ℕ) → Agree p → All Agree is → compared f o p is ≡ compared g o p is
-  same_compared Equal p [] e es = refl
-  same_compared Equal p (i ∷ []) e es = refl
-  same_compared Equal p (i ∷ j ∷ []) e es = ap (λ s. alone_by_sort s i j) (All-head Agree i (j ∷ []) es)
-  same_compared Equal p (i ∷ j ∷ k ∷ is) e es = same_neighbours i (j ∷ k ∷ is) (All-head Agree i (j ∷ k ∷ is) es) (All-tail Agree i (j ∷ k ∷ is) es)
-  same_compared Distinct p [] e es = refl
-  same_compared Distinct p (i ∷ []) e es = same_two (i ∷ []) es
-  same_compared Distinct p (i ∷ j ∷ []) e es = ap (λ s. alone_by_sort s i j) (All-head Agree i (j ∷ []) es)
-  same_compared Distinct p (i ∷ j ∷ k ∷ is) e es = same_two (i ∷ j ∷ k ∷ is) es
-  same_compared Ite p is e es = same_branches p is e
-  same_compared o p is e es = refl
+  same_compared : (n : ℤ) (o : Operator) (p : ℕ) (is : List ℕ) → Agree p → All Agree is → compared f n o p is ≡ compared g n o p is
+  same_compared n Equal p [] e es = refl
+  same_compared n Equal p (i ∷ []) e es = refl
+  same_compared n Equal p (i ∷ j ∷ []) e es = ap (λ s. alone_by_sort s i j) (All-head Agree i (j ∷ []) es)
+  same_compared n Equal p (i ∷ j ∷ k ∷ is) e es = same_neighbours i (j ∷ k ∷ is) (All-head Agree i (j ∷ k ∷ is) es) (All-tail Agree i (j ∷ k ∷ is) es)
+  same_compared n Distinct p [] e es = refl
+  same_compared n Distinct p (i ∷ []) e es = same_two (i ∷ []) es
+  same_compared n Distinct p (i ∷ j ∷ []) e es = ap (λ s. alone_by_sort s i j) (All-head Agree i (j ∷ []) es)
+  same_compared n Distinct p (i ∷ j ∷ k ∷ is) e es = same_two (i ∷ j ∷ k ∷ is) es
+  same_compared n Ite p is e es = same_branches p is e
+  same_compared n o p is e es = refl
 
-  same_by_head : (h : Head) (p : ℕ) (is : List ℕ) → Agree p → All Agree is → compared_by_head f h p is ≡ compared_by_head g h p is
-  same_by_head (Theory o) p is e es = same_compared o p is e es
-  same_by_head h p is e es = refl
+  same_by_head : (n : ℤ) (h : Head) (p : ℕ) (is : List ℕ) → Agree p → All Agree is → compared_by_head f n h p is ≡ compared_by_head g n h p is
+  same_by_head n (Theory o) p is e es = same_compared n o p is e es
+  same_by_head n h p is e es = refl
 
-  pub same_part : (p : ℕ) (h : Head) (is : List ℕ) → Agree p → All Agree is → of_part f p h is ≡ of_part g p h is
-  same_part p h is e es = ap₂ (λ xs ys. xs ++ ys) (ap (λ s. truth_by_sort s p) e) (same_by_head h p is e es)
+  pub same_part : (n : ℤ) (p : ℕ) (h : Head) (is : List ℕ) → Agree p → All Agree is → of_part f n p h is ≡ of_part g n p h is
+  same_part n p h is e es = ap₂ (λ xs ys. xs ++ ys) (ap (λ s. truth_by_sort s p) e) (same_by_head n h p is e es)

@@ -1,6 +1,6 @@
 -- A term whose folding is refused.
 use Rattle.std.proofs.Common.{◌≡◌, ◌⊎◌, inl, inr, ℕ, ◌<◌, false, ◌&&◌, List, [], ◌∷◌, length, All, subst, sym, ap₂, refl, arith}
-use Rattle.std.proofs.lemmas.List.Elements.{All-nil, All-cons, All-weaker, All-contains}
+use Rattle.std.proofs.lemmas.List.Elements.{All-nil, All-cons, All-head, All-tail, All-weaker, All-contains}
 use Rattle.smt_meaning.specs.declared.terms.Head.{Head}
 use Rattle.smt_meaning.specs.Term.{Tree, node, none, tree_at}
 use Rattle.smt_meaning.specs.Nodes.{pick}
@@ -15,8 +15,11 @@ use Rattle.scope_stack.specs.Shown.{IsLawful}
 use Rattle.check_atoms.proofs.Marking.{part_of_part}
 use Rattle.linear_forms.specs.Table.{FoldsOutside, IsOutside}
 use Rattle.check_atoms.specs.declared.refusal.Refusal.TheVariants.{Term, Memory}
-use Rattle.check_atoms.specs.declared.part.PartAtom.TheVariants.{Bound}
+use Rattle.check_atoms.specs.declared.part.PartAtom.TheVariants.{Bound, Limit}
+use Rattle.linear_forms.specs.declared.multiples.Multiple.{Multiple}
+use Rattle.pair_bounds.specs.Rows.{multiples, divisor_at, DivisorIsOutside}
 use Rattle.check_atoms.specs.PartAtoms.{sort_of}
+use Rattle.check_atoms.specs.Numbering.{RefusesBound, RefusesRows}
 use Rattle.check_atoms.specs.OfStack.{part_atoms, RefusesPart}
 use Rattle.check_atoms.specs.Laws.{RefusedTermLeavesRange}
 use Rattle.check_atoms.proofs.PartPlaces.{IsOver, part_over}
@@ -64,18 +67,34 @@ module _ (s : Stack) (lawful : IsLawful s) where
           leaves = inl (folds s.trees (tree_at s.trees part) o.own);
         }
 
-    refused : LeavesInPart s.trees s.frames part
-    refused =
-        let over : IsBelow r.place r.bound.order.lesser × IsBelow r.place r.bound.order.greater =
-        All-contains (IsOver (IsBelow r.place)) (part_atoms s r.place r.head r.arguments) (Bound r.bound.order)
-        (part_over (IsBelow r.place) (sort_of (signature_of s.frames) s.trees) r.place r.head r.arguments (itself (tree_at s.trees r.place), r.term.within)
-        (all_below r.place r.head r.arguments r.term.tree r.term.arguments))
-        r.bound.among in
-        by over r.bound.refuses
+    over : All (IsOver (IsBelow r.place)) (part_atoms s r.place r.head r.arguments)
+    over =
+        part_over (IsBelow r.place) (sort_of (signature_of s.frames) s.trees) (divisor_at s.trees r.arguments) r.place r.head r.arguments (itself (tree_at s.trees r.place), r.term.within)
+        (all_below r.place r.head r.arguments r.term.tree r.term.arguments)
+
+    of_bound : RefusesBound s.trees r.place (part_atoms s r.place r.head r.arguments) (Term part) → LeavesInPart s.trees s.frames part
+    of_bound b = by (All-contains (IsOver (IsBelow r.place)) (part_atoms s r.place r.head r.arguments) (Bound b.order) over b.among) b.refuses
       where
-        by : IsBelow r.place r.bound.order.lesser × IsBelow r.place r.bound.order.greater → IsOutside s.trees r.bound.order.lesser part ⊎ IsOutside s.trees r.bound.order.greater part → LeavesInPart s.trees s.frames part
-        by over (inl o) = leaves r.bound.order.lesser over.0 o
-        by over (inr o) = leaves r.bound.order.greater over.1 o
+        by : IsBelow r.place b.order.lesser × IsBelow r.place b.order.greater → IsOutside s.trees b.order.lesser part ⊎ IsOutside s.trees b.order.greater part → LeavesInPart s.trees s.frames part
+        by under (inl o) = leaves b.order.lesser under.0 o
+        by under (inr o) = leaves b.order.greater under.1 o
+
+    of_limit : RefusesRows s.trees r.place (part_atoms s r.place r.head r.arguments) (Term part) → LeavesInPart s.trees s.frames part
+    of_limit b =
+        let under : All (λ (m : Multiple). IsBelow r.place m.term) (multiples b.limit) =
+        All-contains (IsOver (IsBelow r.place)) (part_atoms s r.place r.head r.arguments) (Limit b.limit) over b.among in
+        leaves b.refuses.multiple.term (All-contains (λ (m : Multiple). IsBelow r.place m.term) (multiples b.limit) b.refuses.multiple under b.refuses.among) b.refuses.outside
+
+    of_divisor : (is : List ℕ) → All (IsBelow r.place) is → DivisorIsOutside s.trees is part → LeavesInPart s.trees s.frames part
+    of_divisor [] h o = absurd o
+    of_divisor (i ∷ []) h o = absurd o
+    of_divisor (i ∷ j ∷ is) h o = leaves j (All-head (IsBelow r.place) j is (All-tail (IsBelow r.place) i (j ∷ is) h)) o
+
+    refused : LeavesInPart s.trees s.frames part
+    refused = elim r.atom [
+      | inl b ↦ of_bound b
+      | inr other ↦ elim other [ inl l ↦ of_limit l | inr d ↦ of_divisor r.arguments (all_below r.place r.head r.arguments r.term.tree r.term.arguments) d ]
+    ]
 
 pub refused_term : RefusedTermLeavesRange
 refused_term s part lawful (inl m) = absurd (no_memory part m)

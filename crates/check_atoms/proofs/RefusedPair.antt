@@ -1,11 +1,11 @@
 -- A pair whose bound is refused.
 use Rattle.std.proofs.Common.{◌≡◌, inl, inr, ℕ, Bool, true, false, ◌&&◌, List, [], ◌∷◌, Some, map, All, subst, sym, ap, ◌∙◌, refl}
-use Rattle.std.specs.Prelude.{Option, None}
-use Rattle.std.proofs.lemmas.List.Elements.{All-nil, All-cons, All-append, All-contains}
+use Rattle.std.specs.Prelude.{Option, None, ℤ}
+use Rattle.std.proofs.lemmas.List.Elements.{All-nil, All-cons, All-append, All-map, All-contains}
 use Rattle.fraction128.specs.Whole.{is_in_range}
 use Rattle.smt_meaning.specs.declared.values.Sort.{Sort}
 use Rattle.smt_meaning.specs.declared.values.Sort.TheVariants.{Bool as Truths, Int as Ints, Free}
-use Rattle.smt_meaning.specs.declared.terms.Operator.TheVariants.{Equal, Distinct, Ite, AtMost, Less, AtLeast, Greater}
+use Rattle.smt_meaning.specs.declared.terms.Operator.TheVariants.{Equal, Distinct, Ite, AtMost, Less, AtLeast, Greater, Divide, Modulo, Absolute, Divisible}
 use Rattle.smt_meaning.specs.declared.terms.Operator.{Operator}
 use Rattle.smt_meaning.specs.declared.terms.Head.{Head}
 use Rattle.smt_meaning.specs.declared.terms.Head.TheVariants.{Theory}
@@ -32,11 +32,14 @@ use Rattle.bound_clauses.specs.declared.orders.Order.{Order}
 use Rattle.bound_clauses.specs.Orders.{order, both_orders, rising, falling}
 use Rattle.check_atoms.specs.declared.refusal.Refusal.TheVariants.{Pair, Memory}
 use Rattle.check_atoms.specs.declared.part.PartAtom.{PartAtom}
-use Rattle.check_atoms.specs.declared.part.PartAtom.TheVariants.{Truth, Same, Bound}
+use Rattle.check_atoms.specs.declared.part.PartAtom.TheVariants.{Truth, Same, Bound, Limit}
+use Rattle.pair_bounds.specs.declared.rows.RowLimit.{RowLimit}
+use Rattle.pair_bounds.specs.Rows.{divisor_at}
 use Rattle.check_atoms.specs.PartAtoms.{sort_of, by_sort, alone_by_sort, truth_by_sort, alone, compared, compared_by_head, of_part}
-use Rattle.check_atoms.specs.Numbering.{fits_by}
+use Rattle.check_atoms.specs.Numbering.{fits_by, RefusesBound}
 use Rattle.check_atoms.specs.OfStack.{part_atoms, RefusesPart}
 use Rattle.check_atoms.specs.Laws.{PairLeavesRange, RefusedPairLeavesRange}
+use Rattle.check_atoms.proofs.Rows.{limits_of}
 use Rattle.check_atoms.proofs.PartPlaces.{IsOver, part_over, equal_all, two_all}
 use Rattle.check_atoms.proofs.Integers.{IsIntBound, part_int}
 use Rattle.check_atoms.proofs.Refused.{different, itself, IsBelow, all_below}
@@ -70,6 +73,7 @@ module _ (ts : List Tree) (ds : List Declaration) where
   abbrev Shows : Type 0 → PartAtom → Type 0
   Shows G (Truth p) = Unit {0}
   Shows G (Same i j) = Unit {0}
+  Shows G (Limit l) = Unit {0}
   Shows G (Bound o) = o.sense ≡ Below → strict_pair_fits ts (tree_at ts o.lesser) (tree_at ts o.greater) ≡ false → G
 
   pair_shows : (G : Type 0) (r : Option Sort) (i j : ℕ) → All (Shows G) (by_sort r i j)
@@ -118,39 +122,46 @@ module _ (ts : List Tree) (ds : List Declaration) where
   abbrev Unfit : Operator → List ℕ → Type 0
   Unfit o is = comparison_fits ts ds (Theory o) (pick ts is) ≡ false
 
-  compared_shows : (o : Operator) (p : ℕ) (is : List ℕ) → All (Shows (Unfit o is)) (compared (sort_of ds ts) o p is)
-  compared_shows Equal p is = equal_all (λ i. Unit {0}) (Shows (Unfit Equal is)) (sort_of ds ts) (λ i j h g. pair_shows (Unfit Equal is) (sort_of ds ts i) i j) (λ i j h g. alone_shows (Unfit Equal is) (sort_of ds ts i) i j) is (λ k d l. tt)
-  compared_shows Distinct p is = two_all (λ i. Unit {0}) (Shows (Unfit Distinct is)) (sort_of ds ts) (λ i j h g. pair_shows (Unfit Distinct is) (sort_of ds ts i) i j) (λ i j h g. alone_shows (Unfit Distinct is) (sort_of ds ts i) i j) is (λ k d l. tt)
-  compared_shows Ite p (c ∷ i ∷ j ∷ []) =
+  limits_show : (G : Type 0) (ls : List RowLimit) → All (Shows G) (map Limit ls)
+  limits_show G ls = All-map (Shows G) Limit ls (λ k d l. tt)
+
+  compared_shows : (n : ℤ) (o : Operator) (p : ℕ) (is : List ℕ) → All (Shows (Unfit o is)) (compared (sort_of ds ts) n o p is)
+  compared_shows n Equal p is = equal_all (λ i. Unit {0}) (Shows (Unfit Equal is)) (sort_of ds ts) (λ i j h g. pair_shows (Unfit Equal is) (sort_of ds ts i) i j) (λ i j h g. alone_shows (Unfit Equal is) (sort_of ds ts i) i j) is (λ k d l. tt)
+  compared_shows n Distinct p is = two_all (λ i. Unit {0}) (Shows (Unfit Distinct is)) (sort_of ds ts) (λ i j h g. pair_shows (Unfit Distinct is) (sort_of ds ts i) i j) (λ i j h g. alone_shows (Unfit Distinct is) (sort_of ds ts i) i j) is (λ k d l. tt)
+  compared_shows n Ite p (c ∷ i ∷ j ∷ []) =
       All-append (Shows (Unfit Ite (c ∷ i ∷ j ∷ []))) (alone (sort_of ds ts) p i) (alone (sort_of ds ts) p j) (alone_shows (Unfit Ite (c ∷ i ∷ j ∷ [])) (sort_of ds ts p) p i)
       (alone_shows (Unfit Ite (c ∷ i ∷ j ∷ [])) (sort_of ds ts p) p j)
-  compared_shows Ite p is = All-nil (Shows (Unfit Ite is))
-  compared_shows AtMost p (i ∷ is) = not_above_rising (Unfit AtMost (i ∷ is)) i is
-  compared_shows Less p (i ∷ is) = rising_shows (Unfit Less (i ∷ is)) i is (λ n. n)
-  compared_shows AtLeast p (i ∷ is) = not_above_falling (Unfit AtLeast (i ∷ is)) i is
-  compared_shows Greater p (i ∷ is) = falling_shows (Unfit Greater (i ∷ is)) i is (λ n. n)
-  compared_shows o p is = All-nil (Shows (Unfit o is))
+  compared_shows n Ite p is = All-nil (Shows (Unfit Ite is))
+  compared_shows n AtMost p (i ∷ is) = not_above_rising (Unfit AtMost (i ∷ is)) i is
+  compared_shows n Less p (i ∷ is) = rising_shows (Unfit Less (i ∷ is)) i is (λ n. n)
+  compared_shows n AtLeast p (i ∷ is) = not_above_falling (Unfit AtLeast (i ∷ is)) i is
+  compared_shows n Greater p (i ∷ is) = falling_shows (Unfit Greater (i ∷ is)) i is (λ n. n)
+  compared_shows n Divide p is = limits_show (Unfit Divide is) (limits_of n Divide p is)
+  compared_shows n Modulo p is = limits_show (Unfit Modulo is) (limits_of n Modulo p is)
+  compared_shows n Absolute p is = limits_show (Unfit Absolute is) (limits_of n Absolute p is)
+  compared_shows n Divisible p is = limits_show (Unfit Divisible is) (limits_of n Divisible p is)
+  compared_shows n o p is = All-nil (Shows (Unfit o is))
 
-  head_shows : (h : Head) (p : ℕ) (is : List ℕ) → All (Shows (comparison_fits ts ds h (pick ts is) ≡ false)) (compared_by_head (sort_of ds ts) h p is)
-  head_shows (Theory o) p is = compared_shows o p is
-  head_shows h p is = All-nil (Shows (comparison_fits ts ds h (pick ts is) ≡ false))
+  head_shows : (n : ℤ) (h : Head) (p : ℕ) (is : List ℕ) → All (Shows (comparison_fits ts ds h (pick ts is) ≡ false)) (compared_by_head (sort_of ds ts) n h p is)
+  head_shows n (Theory o) p is = compared_shows n o p is
+  head_shows n h p is = All-nil (Shows (comparison_fits ts ds h (pick ts is) ≡ false))
 
-  part_shows : (p : ℕ) (h : Head) (is : List ℕ) → All (Shows (comparison_fits ts ds h (pick ts is) ≡ false)) (of_part (sort_of ds ts) p h is)
-  part_shows p h is =
-      All-append (Shows (comparison_fits ts ds h (pick ts is) ≡ false)) (truth_by_sort (sort_of ds ts p) p) (compared_by_head (sort_of ds ts) h p is)
-      (truth_shows (comparison_fits ts ds h (pick ts is) ≡ false) (sort_of ds ts p) p) (head_shows h p is)
+  part_shows : (n : ℤ) (p : ℕ) (h : Head) (is : List ℕ) → All (Shows (comparison_fits ts ds h (pick ts is) ≡ false)) (of_part (sort_of ds ts) n p h is)
+  part_shows n p h is =
+      All-append (Shows (comparison_fits ts ds h (pick ts is) ≡ false)) (truth_by_sort (sort_of ds ts p) p) (compared_by_head (sort_of ds ts) n h p is)
+      (truth_shows (comparison_fits ts ds h (pick ts is) ≡ false) (sort_of ds ts p) p) (head_shows n h p is)
 
 -- ---- a refused pair
 
 no_memory : (p : ℕ) (o : Order) → Pair p o ≡ Memory → ⊥
 no_memory p o e = cc
 
-module _ (s : Stack) (lawful : IsLawful s) (part : ℕ) (given : Order) (r : RefusesPart s (Pair part given)) where
+module _ (s : Stack) (lawful : IsLawful s) (part : ℕ) (given : Order) (r : RefusesPart s (Pair part given)) (bound : RefusesBound s.trees r.place (part_atoms s r.place r.head r.arguments) (Pair part given)) where
   abbrev ds : List Declaration
   ds = signature_of s.frames
 
   abbrev o : Order
-  o = r.bound.order
+  o = bound.order
 
   sort : HasSort ds (tree_at s.trees r.place)
   sort =
@@ -159,14 +170,14 @@ module _ (s : Stack) (lawful : IsLawful s) (part : ℕ) (given : Order) (r : Ref
 
   ints : IsIntBound ds s.trees (Bound o)
   ints =
-      All-contains (IsIntBound ds s.trees) (part_atoms s r.place r.head r.arguments) (Bound o) (part_int ds s.trees r.place r.head r.arguments sort.0 sort.1 r.term.tree) r.bound.among
+      All-contains (IsIntBound ds s.trees) (part_atoms s r.place r.head r.arguments) (Bound o) (part_int ds s.trees (divisor_at s.trees r.arguments) r.place r.head r.arguments sort.0 sort.1 r.term.tree) bound.among
 
   over : IsOver (IsBelow s lawful r.place) (Bound o)
   over =
       All-contains (IsOver (IsBelow s lawful r.place)) (part_atoms s r.place r.head r.arguments) (Bound o)
-      (part_over (IsBelow s lawful r.place) (sort_of ds s.trees) r.place r.head r.arguments (itself (tree_at s.trees r.place), r.term.within)
+      (part_over (IsBelow s lawful r.place) (sort_of ds s.trees) (divisor_at s.trees r.arguments) r.place r.head r.arguments (itself (tree_at s.trees r.place), r.term.within)
       (all_below s lawful r.place r.head r.arguments r.term.tree r.term.arguments))
-      r.bound.among
+      bound.among
 
   int_part : (i : ℕ) → IsBelow s lawful r.place i → tree_sort ds (tree_at s.trees i) ≡ Some Ints → IsIntPart s.trees s.frames (tree_at s.trees i) i
   int_part i b int = record {
@@ -182,7 +193,7 @@ module _ (s : Stack) (lawful : IsLawful s) (part : ℕ) (given : Order) (r : Ref
     place_is = place_of-is (tree_at s.trees r.place) s.trees r.place (different s lawful) r.term.within refl;
     leaves = inr (subst (λ t. compared_fits s.trees ds t ≡ false) (sym r.term.tree)
         (All-contains (Shows s.trees ds (comparison_fits s.trees ds r.head (pick s.trees r.arguments) ≡ false)) (part_atoms s r.place r.head r.arguments) (Bound o)
-        (part_shows s.trees ds r.place r.head r.arguments) r.bound.among e f));
+        (part_shows s.trees ds (divisor_at s.trees r.arguments) r.place r.head r.arguments) bound.among e f));
   }
 
   by_sense : (sense : Sense) → o.sense ≡ sense → form_fits (linear_form s.trees (tree_at s.trees o.lesser)) ≡ true
@@ -199,11 +210,14 @@ module _ (s : Stack) (lawful : IsLawful s) (part : ℕ) (given : Order) (r : Ref
 
   refused : form_fits (linear_form s.trees (tree_at s.trees given.lesser)) ≡ true → PairLeavesRange s part given.sense given.lesser given.greater
   refused form =
-      let same = r.bound.refuses.1 in
-      subst (λ p. PairLeavesRange s p given.sense given.lesser given.greater) (sym r.bound.refuses.0)
+      let same = bound.refuses.1 in
+      subst (λ p. PairLeavesRange s p given.sense given.lesser given.greater) (sym bound.refuses.0)
       (subst (λ (q : Order). PairLeavesRange s r.place q.sense q.lesser q.greater) (sym same)
-      (by_sense o.sense refl (subst (λ (q : Order). form_fits (linear_form s.trees (tree_at s.trees q.lesser)) ≡ true) same form) r.bound.refuses.2))
+      (by_sense o.sense refl (subst (λ (q : Order). form_fits (linear_form s.trees (tree_at s.trees q.lesser)) ≡ true) same form) bound.refuses.2))
 
 pub refused_pair : RefusedPairLeavesRange
 refused_pair s part o lawful form (inl m) = absurd (no_memory part o m)
-refused_pair s part o lawful form (inr r) = refused s lawful part o r form
+refused_pair s part o lawful form (inr r) = elim r.atom [
+  | inl b ↦ refused s lawful part o r b form
+  | inr other ↦ elim other [ inl l ↦ absurd l.refuses | inr d ↦ absurd d ]
+]

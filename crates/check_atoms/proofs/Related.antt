@@ -3,7 +3,7 @@ use Rattle.std.proofs.Common.{◌≡◌, ℕ, List, [], ◌∷◌, ◌++◌, map
 use Rattle.std.specs.Prelude.{IsTrue}
 use Rattle.std.proofs.lemmas.List.{map-append}
 use Rattle.std.proofs.lemmas.List.Elements.{All-head, All-tail}
-use Rattle.smt_meaning.specs.declared.terms.Operator.TheVariants.{Equal, Distinct, Ite, AtMost, Less, AtLeast, Greater}
+use Rattle.smt_meaning.specs.declared.terms.Operator.TheVariants.{Equal, Distinct, Ite, AtMost, Less, AtLeast, Greater, Divide, Modulo, Absolute, Divisible}
 use Rattle.smt_meaning.specs.declared.terms.Operator.{Operator}
 use Rattle.smt_meaning.specs.declared.terms.Head.{Head}
 use Rattle.smt_meaning.specs.declared.terms.Head.TheVariants.{Theory}
@@ -11,13 +11,15 @@ use Rattle.smt_meaning.specs.declared.clauses.Atom.{Atom}
 use Rattle.smt_meaning.specs.Declaration.{Declaration}
 use Rattle.smt_meaning.specs.Term.{Tree, node, tree_at}
 use Rattle.smt_meaning.specs.Nodes.{pick}
-use Rattle.smt_meaning.specs.Atoms.{pair_atoms, of_neighbours_from, of_first_with, of_pairs, comparison_atoms, truth_atom}
+use Rattle.smt_meaning.specs.Atoms.{pair_atoms, of_neighbours_from, of_first_with, of_pairs, division_atoms, comparison_atoms, truth_atom}
 use Rattle.bound_clauses.specs.declared.orders.Order.{Order}
 use Rattle.bound_clauses.specs.Orders.{order_atoms, bound_atom}
 use Rattle.bound_clauses.specs.Laws.{OrdersAreComparisons, orders}
+use Rattle.pair_bounds.specs.Rows.{divisor_at, RowsAreAtoms}
 use Rattle.check_atoms.specs.declared.part.PartAtom.{PartAtom}
 use Rattle.check_atoms.specs.declared.part.PartAtom.TheVariants.{Bound}
-use Rattle.check_atoms.specs.PartAtoms.{atom_of, sort_of, truth_by_sort, pair, alone, neighbours_from, first_with, each_two, compared, compared_by_head, of_part}
+use Rattle.check_atoms.specs.PartAtoms.{atom_of, sort_of, truth_by_sort, pair, alone, neighbours_from, first_with, each_two, of_rows, compared, compared_by_head, of_part}
+use Rattle.check_atoms.proofs.Rows.{rows_are}
 
 module _ (ts : List Tree) (ds : List Declaration) (R : List Atom → List Atom → Type 0) (P : ℕ → Type 0) where
   -- a relation of lists that is kept where both go on
@@ -71,35 +73,43 @@ module _ (ts : List Tree) (ds : List Declaration) (R : List Atom → List Atom �
     orders_related law o is h =
         subst (λ xs. R xs (comparison_atoms ts ds (Theory o) (pick ts is))) (law ts ds o is h ∙ sym (map_bounds (order_atoms o is))) (k.same (comparison_atoms ts ds (Theory o) (pick ts is)))
 
-    compared_related : OrdersAreComparisons → (o : Operator) (p : ℕ) (is : List ℕ) → P p → All P is → tree_at ts p ≡ node (Theory o) (pick ts is)
-        → R (map (atom_of ts) (compared (sort_of ds ts) o p is)) (comparison_atoms ts ds (Theory o) (pick ts is))
-    compared_related law Equal p [] h g e = k.same []
-    compared_related law Equal p (i ∷ []) h g e = k.same []
-    compared_related law Equal p (i ∷ j ∷ []) h g e = single_related i j (All-head P i (j ∷ []) g) (All-head P j [] (All-tail P i (j ∷ []) g))
-    compared_related law Equal p (i ∷ j ∷ l ∷ is) h g e = neighbours_related i (j ∷ l ∷ is) (All-head P i (j ∷ l ∷ is) g) (All-tail P i (j ∷ l ∷ is) g)
-    compared_related law Distinct p [] h g e = k.same []
-    compared_related law Distinct p (i ∷ []) h g e = two_related (i ∷ []) g
-    compared_related law Distinct p (i ∷ j ∷ []) h g e = two_single i j (All-head P i (j ∷ []) g) (All-head P j [] (All-tail P i (j ∷ []) g))
-    compared_related law Distinct p (i ∷ j ∷ l ∷ is) h g e = two_related (i ∷ j ∷ l ∷ is) g
-    compared_related law Ite p (c ∷ i ∷ j ∷ []) h g e =
+    rows_related : RowsAreAtoms → (o : Operator) (p : ℕ) (is : List ℕ) → tree_at ts p ≡ node (Theory o) (pick ts is)
+        → R (map (atom_of ts) (of_rows (divisor_at ts is) o p is)) (division_atoms ts (Theory o) (pick ts is))
+    rows_related law o p is e = subst (λ xs. R xs (division_atoms ts (Theory o) (pick ts is))) (sym (rows_are ts law o p is e)) (k.same (division_atoms ts (Theory o) (pick ts is)))
+
+    compared_related : OrdersAreComparisons → RowsAreAtoms → (o : Operator) (p : ℕ) (is : List ℕ) → P p → All P is → tree_at ts p ≡ node (Theory o) (pick ts is)
+        → R (map (atom_of ts) (compared (sort_of ds ts) (divisor_at ts is) o p is)) (comparison_atoms ts ds (Theory o) (pick ts is))
+    compared_related law rows Equal p [] h g e = k.same []
+    compared_related law rows Equal p (i ∷ []) h g e = k.same []
+    compared_related law rows Equal p (i ∷ j ∷ []) h g e = single_related i j (All-head P i (j ∷ []) g) (All-head P j [] (All-tail P i (j ∷ []) g))
+    compared_related law rows Equal p (i ∷ j ∷ l ∷ is) h g e = neighbours_related i (j ∷ l ∷ is) (All-head P i (j ∷ l ∷ is) g) (All-tail P i (j ∷ l ∷ is) g)
+    compared_related law rows Distinct p [] h g e = k.same []
+    compared_related law rows Distinct p (i ∷ []) h g e = two_related (i ∷ []) g
+    compared_related law rows Distinct p (i ∷ j ∷ []) h g e = two_single i j (All-head P i (j ∷ []) g) (All-head P j [] (All-tail P i (j ∷ []) g))
+    compared_related law rows Distinct p (i ∷ j ∷ l ∷ is) h g e = two_related (i ∷ j ∷ l ∷ is) g
+    compared_related law rows Ite p (c ∷ i ∷ j ∷ []) h g e =
         let r = All-tail P c (i ∷ j ∷ []) g in branches_related p c i j h (All-head P i (j ∷ []) r) (All-head P j [] (All-tail P i (j ∷ []) r)) e
-    compared_related law Ite p [] h g e = k.same []
-    compared_related law Ite p (c ∷ []) h g e = k.same []
-    compared_related law Ite p (c ∷ i ∷ []) h g e = k.same []
-    compared_related law Ite p (c ∷ i ∷ j ∷ l ∷ ls) h g e = k.same []
-    compared_related law AtMost p is h g e = orders_related law AtMost is refl
-    compared_related law Less p is h g e = orders_related law Less is refl
-    compared_related law AtLeast p is h g e = orders_related law AtLeast is refl
-    compared_related law Greater p is h g e = orders_related law Greater is refl
-    compared_related law o p is h g e = k.same []
+    compared_related law rows Ite p [] h g e = k.same []
+    compared_related law rows Ite p (c ∷ []) h g e = k.same []
+    compared_related law rows Ite p (c ∷ i ∷ []) h g e = k.same []
+    compared_related law rows Ite p (c ∷ i ∷ j ∷ l ∷ ls) h g e = k.same []
+    compared_related law rows AtMost p is h g e = orders_related law AtMost is refl
+    compared_related law rows Less p is h g e = orders_related law Less is refl
+    compared_related law rows AtLeast p is h g e = orders_related law AtLeast is refl
+    compared_related law rows Greater p is h g e = orders_related law Greater is refl
+    compared_related law rows Divide p is h g e = rows_related rows Divide p is e
+    compared_related law rows Modulo p is h g e = rows_related rows Modulo p is e
+    compared_related law rows Absolute p is h g e = rows_related rows Absolute p is e
+    compared_related law rows Divisible p is h g e = rows_related rows Divisible p is e
+    compared_related law rows o p is h g e = k.same []
 
-    head_related : OrdersAreComparisons → (h : Head) (p : ℕ) (is : List ℕ) → P p → All P is → tree_at ts p ≡ node h (pick ts is)
-        → R (map (atom_of ts) (compared_by_head (sort_of ds ts) h p is)) (comparison_atoms ts ds h (pick ts is))
-    head_related law (Theory o) p is h g e = compared_related law o p is h g e
-    head_related law t p is h g e = k.same []
+    head_related : OrdersAreComparisons → RowsAreAtoms → (h : Head) (p : ℕ) (is : List ℕ) → P p → All P is → tree_at ts p ≡ node h (pick ts is)
+        → R (map (atom_of ts) (compared_by_head (sort_of ds ts) (divisor_at ts is) h p is)) (comparison_atoms ts ds h (pick ts is))
+    head_related law rows (Theory o) p is h g e = compared_related law rows o p is h g e
+    head_related law rows t p is h g e = k.same []
 
-    pub part_related : OrdersAreComparisons → (h : Head) (p : ℕ) (is : List ℕ) → P p → All P is → tree_at ts p ≡ node h (pick ts is)
+    pub part_related : OrdersAreComparisons → RowsAreAtoms → (h : Head) (p : ℕ) (is : List ℕ) → P p → All P is → tree_at ts p ≡ node h (pick ts is)
         → R (map (atom_of ts) (truth_by_sort (sort_of ds ts p) p)) (truth_atom ts ds (tree_at ts p))
-        → R (map (atom_of ts) (of_part (sort_of ds ts) p h is)) (truth_atom ts ds (tree_at ts p) ++ comparison_atoms ts ds h (pick ts is))
-    part_related law h p is m g e truth =
-        both (truth_by_sort (sort_of ds ts p) p) (compared_by_head (sort_of ds ts) h p is) (truth_atom ts ds (tree_at ts p)) (comparison_atoms ts ds h (pick ts is)) truth (head_related law h p is m g e)
+        → R (map (atom_of ts) (of_part (sort_of ds ts) (divisor_at ts is) p h is)) (truth_atom ts ds (tree_at ts p) ++ comparison_atoms ts ds h (pick ts is))
+    part_related law rows h p is m g e truth =
+        both (truth_by_sort (sort_of ds ts p) p) (compared_by_head (sort_of ds ts) (divisor_at ts is) h p is) (truth_atom ts ds (tree_at ts p)) (comparison_atoms ts ds h (pick ts is)) truth (head_related law rows h p is m g e)

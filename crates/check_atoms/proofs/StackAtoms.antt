@@ -25,6 +25,7 @@ use Rattle.check_atoms.specs.Marks.{AreStackParts}
 use Rattle.check_atoms.proofs.Marking.{below}
 use Rattle.check_atoms.proofs.StackAtomsPlaces.{Picked, picked}
 use Rattle.bound_clauses.specs.Laws.{OrdersAreComparisons}
+use Rattle.pair_bounds.specs.Rows.{RowsAreAtoms}
 use Rattle.check_atoms.specs.PartAtoms.{atom_of, by_sort, alone_by_sort, truth_by_sort, sort_of}
 use Rattle.check_atoms.specs.OfStack.{IsNode, part_atoms, IsAtomOfPart, AreCheckAtoms}
 use Rattle.check_atoms.specs.Laws.{IsSameOfNoInts, StackAtomsAreNumbered}
@@ -79,7 +80,7 @@ from_flat f (y ∷ xs) a c = elim (Contains-append_cases (f y) (flat_map f xs) a
 
 -- ---- of a stack
 
-module _ (s : Stack) (marks : List Bool) (atoms : List Atom) (lawful : IsLawful s) (parts : AreStackParts s marks) (are : AreCheckAtoms s marks atoms) (compares : OrdersAreComparisons) where
+module _ (s : Stack) (marks : List Bool) (atoms : List Atom) (lawful : IsLawful s) (parts : AreStackParts s marks) (are : AreCheckAtoms s marks atoms) (compares : OrdersAreComparisons) (rows : RowsAreAtoms) where
   abbrev ts : List Tree
   ts = s.trees
 
@@ -151,7 +152,7 @@ module _ (s : Stack) (marks : List Bool) (atoms : List Atom) (lawful : IsLawful 
   of_stack a o =
       let us = pick ts o.arguments in
       let tree : tree_at ts o.place ≡ node o.head us = o.term.tree in
-      let all = part_related ts ds Holds Inside held compares o.head o.place o.arguments o.term.within o.term.arguments tree
+      let all = part_related ts ds Holds Inside held compares rows o.head o.place o.arguments o.term.within o.term.arguments tree
       (subst (Holds (map (atom_of ts) (truth_by_sort (sort_of ds ts o.place) o.place))) (truths_are o.place o.term.within) (All-contains_itself (map (atom_of ts) (truth_by_sort (sort_of ds ts o.place) o.place)))) in
       let here = All-contains (Contains (truth_atom ts ds (tree_at ts o.place) ++ comparison_atoms ts ds o.head us)) (map (atom_of ts) (part_atoms s o.place o.head o.arguments)) a all o.among in
       in_stack (node o.head us) a (subst (IsPartOfStack s.frames) tree (parts.only o.place o.marked)) (subst (λ xs. Contains xs a) (own_is o.place o.head us tree) here)
@@ -204,7 +205,7 @@ module _ (s : Stack) (marks : List Bool) (atoms : List Atom) (lawful : IsLawful 
 
   node_numbered : (p : ℕ) (h : Head) (is : List ℕ) (a : Atom) → IsMarked marks p → IsNode ts p h is → Contains (own ts ds (node h (pick ts is))) a → Numbered atoms a
   node_numbered p h is a m n c =
-      let all = part_related ts ds Gives Inside given compares h p is n.within n.arguments n.tree
+      let all = part_related ts ds Gives Inside given compares rows h p is n.within n.arguments n.tree
       (subst (Gives (map (atom_of ts) (truth_by_sort (sort_of ds ts p) p))) (truths_are p n.within) (gives_itself (map (atom_of ts) (truth_by_sort (sort_of ds ts p) p)))) in
       more_numbered (map (atom_of ts) (part_atoms s p h is)) atoms a (λ b d. All-contains (Contains atoms) (map (atom_of ts) (part_atoms s p h is)) b (are.each p h is m n) d)
       (All-contains (Numbered (map (atom_of ts) (part_atoms s p h is))) (truth_atom ts ds (tree_at ts p) ++ comparison_atoms ts ds h (pick ts is)) a all
@@ -227,6 +228,6 @@ module _ (s : Stack) (marks : List Bool) (atoms : List Atom) (lawful : IsLawful 
       let d = down ts ds a f.0 f.2 in
       tree_numbered d.0 a (record { assertion = f.0; asserted = f.1; part = d.1 }) d.2
 
-pub all_numbered : OrdersAreComparisons → StackAtomsAreNumbered
-all_numbered compares s marks atoms lawful parts are = λ k d l.
-    numbered s marks atoms lawful parts are compares (get_or (stack_atoms s.trees s.frames) k d) (Contains-get_or (stack_atoms s.trees s.frames) k d l)
+pub all_numbered : OrdersAreComparisons → RowsAreAtoms → StackAtomsAreNumbered
+all_numbered compares rows s marks atoms lawful parts are = λ k d l.
+    numbered s marks atoms lawful parts are compares rows (get_or (stack_atoms s.trees s.frames) k d) (Contains-get_or (stack_atoms s.trees s.frames) k d l)

@@ -1,6 +1,6 @@
 -- The atoms of one part more, and of all parts.
 use Rattle.std.proofs.Common.{◌≡◌, inl, inr, ℕ, ◌<◌, ◌≤◌, ◌+◌, ◌^◌, Bool, true, false, List, [], ◌∷◌, ◌++◌, Some, map, length, get_or, All, Contains, subst, sym, ap, ◌∙◌, refl, arith}
-use Rattle.std.specs.Prelude.{slice_index_or}
+use Rattle.std.specs.Prelude.{slice_index_or, ℤ}
 use Rattle.std.proofs.lemmas.List.Elements.{All-nil, All-cons, All-head, All-tail, All-append, All-push, All-weaker, All-contains, Contains-get_or, Contains-append_left, Contains-push_cases}
 use Rattle.smt_meaning.specs.declared.values.Sort.{Sort}
 use Rattle.smt_meaning.specs.declared.values.Sort.TheVariants.{Bool as Truths}
@@ -32,9 +32,14 @@ use Rattle.check_atoms.proofs.Marking.{below, same_arguments}
 use Rattle.check_atoms.proofs.StackAtomsPlaces.{part_at}
 use Rattle.check_atoms.specs.declared.refusal.Refusal.{Refusal}
 use Rattle.check_atoms.specs.declared.part.PartAtom.{PartAtom}
-use Rattle.check_atoms.specs.declared.part.PartAtom.TheVariants.{Truth, Same, Bound}
+use Rattle.check_atoms.specs.declared.part.PartAtom.TheVariants.{Truth, Same, Bound, Limit}
+use Rattle.linear_forms.specs.declared.multiples.Multiple.{Multiple}
+use Rattle.linear_forms.specs.Multiples.{form_at}
+use Rattle.pair_bounds.specs.Rows.{divisor_at, multiples, limit_of_row}
+use Rattle.smt_meaning.specs.Atoms.{limit_atom}
 use Rattle.check_atoms.specs.PartAtoms.{atom_of, of_part, sort_of, sort_in}
-use Rattle.check_atoms.specs.Numbering.{IsNormal, Adds, RefusesOne}
+use Rattle.check_atoms.specs.Divisors.{IsDivisorOf}
+use Rattle.check_atoms.specs.Numbering.{IsNormal, Adds, RefusesOne, RefusesDivision}
 use Rattle.check_atoms.specs.OfStack.{IsNode, part_atoms, IsAtomOfPart, ComparesMarked, AreCheckAtoms, AreAtomsBelow, IsRefused}
 use Rattle.check_atoms.specs.Chords.{MayCompare}
 use Rattle.smt_meaning.specs.declared.clauses.Atom.TheVariants.{Truth as TruthAtom, Same as SameAtom, AtMost}
@@ -44,7 +49,7 @@ use Rattle.bound_clauses.specs.Orders.{bound_atom}
 use Rattle.check_atoms.proofs.Marking.{part_of_part}
 use Rattle.check_atoms.specs.OfStack.{bound_terms}
 use Rattle.check_atoms.proofs.Integers.{IsIntBound, part_int}
-use Rattle.check_atoms.proofs.Sums.{IsInt, bound_places}
+use Rattle.check_atoms.proofs.Sums.{IsInt, HaveLeaves, bound_places, limit_places}
 use Rattle.check_atoms.proofs.PartPlaces.{IsOver, part_over, same_part}
 
 head_of : (h k : Head) (ts us : Trees) → node h ts ≡ node k us → h ≡ k
@@ -73,10 +78,11 @@ module _ (s : Stack) (marks : List Bool) (law : IsLawful s) (parts : AreMarkedFr
     sort_there : (p : ℕ) → IsMarked marks p → sort_in sorts p ≡ sort_of ds s.trees p
     sort_there p m = let sort = its_sort p m in ap Some (sorted.each p sort.0 (inside p m) sort.1) ∙ sym sort.1
 
-    pub same_atoms : (p : ℕ) (h : Head) (is : List ℕ) → IsMarked marks p → IsNode s.trees p h is → of_part (sort_in sorts) p h is ≡ part_atoms s p h is
-    same_atoms p h is m n =
-        same_part (sort_in sorts) (sort_of ds s.trees) p h is (sort_there p m)
+    pub same_atoms : (d : ℤ) (p : ℕ) (h : Head) (is : List ℕ) → IsDivisorOf s.trees h is d → IsMarked marks p → IsNode s.trees p h is → of_part (sort_in sorts) d p h is ≡ part_atoms s p h is
+    same_atoms d p h is divisor m n =
+        same_part (sort_in sorts) (sort_of ds s.trees) d p h is (sort_there p m)
         (All-weaker (IsMarked marks) (λ i. sort_in sorts i ≡ sort_of ds s.trees i) sort_there is (arguments_marked p h is m n))
+        ∙ divisor.same (sort_of ds s.trees) p
 
   -- ---- one part more
 
@@ -117,7 +123,11 @@ module _ (s : Stack) (marks : List Bool) (law : IsLawful s) (parts : AreMarkedFr
 
   pub part_refused : (k : ℕ) (h : Head) (is : List ℕ) (e : Refusal) → IsMarked marks k → IsNode s.trees k h is → RefusesOne s.trees k (part_atoms s k h is) e → IsRefused s e
   part_refused k h is e m n (inl memory) = inl memory
-  part_refused k h is e m n (inr r) = inr (record { place = k; head = h; arguments = is; part = parts.only k m; term = n; bound = r })
+  part_refused k h is e m n (inr (inl r)) = inr (record { place = k; head = h; arguments = is; part = parts.only k m; term = n; atom = inl r })
+  part_refused k h is e m n (inr (inr r)) = inr (record { place = k; head = h; arguments = is; part = parts.only k m; term = n; atom = inr (inl r) })
+
+  pub divisor_refused : (k : ℕ) (h : Head) (is : List ℕ) (e : Refusal) → IsMarked marks k → IsNode s.trees k h is → RefusesDivision s.trees k is e → IsRefused s e
+  divisor_refused k h is e m n o = inr (record { place = k; head = h; arguments = is; part = parts.only k m; term = n; atom = inr (inr o) })
 
   -- ---- the places and the symbols of the atoms
 
@@ -160,6 +170,10 @@ module _ (s : Stack) (marks : List Bool) (law : IsLawful s) (parts : AreMarkedFr
   }
   has_places (Bound o) h i = bound_has (bound_atom s.trees o) (bound_places IsLeafPart s.trees ds o i.0 i.1 (leaf_there o.lesser h.0) (leaf_there o.greater h.1))
 
+  has_places (Limit l) h i =
+      bound_has (limit_atom (form_at s.trees) (limit_of_row l))
+      (limit_places IsLeafPart s.trees ds l i (All-weaker (λ (m : Multiple). IsMarked marks m.term) (λ (m : Multiple). HaveLeaves IsLeafPart s.trees ds (tree_at s.trees m.term)) (λ m k. leaf_there m.term k) (multiples l) h))
+
   each_image : (xs : List PartAtom) → All (IsOver (IsMarked marks)) xs → All (IsIntBound ds s.trees) xs → All HasPlaces (map (atom_of s.trees) xs)
   each_image [] h g = All-nil HasPlaces
   each_image (x ∷ xs) h g =
@@ -171,8 +185,8 @@ module _ (s : Stack) (marks : List Bool) (law : IsLawful s) (parts : AreMarkedFr
       let sort = its_sort p.place p.marked in
       All-contains HasPlaces (map (atom_of s.trees) (part_atoms s p.place p.head p.arguments)) a
       (each_image (part_atoms s p.place p.head p.arguments)
-      (part_over (IsMarked marks) (sort_of ds s.trees) p.place p.head p.arguments p.marked (arguments_marked p.place p.head p.arguments p.marked p.term))
-      (part_int ds s.trees p.place p.head p.arguments sort.0 sort.1 p.term.tree))
+      (part_over (IsMarked marks) (sort_of ds s.trees) (divisor_at s.trees p.arguments) p.place p.head p.arguments p.marked (arguments_marked p.place p.head p.arguments p.marked p.term))
+      (part_int ds s.trees (divisor_at s.trees p.arguments) p.place p.head p.arguments sort.0 sort.1 p.term.tree))
       p.among
 
   module _ (declares : SymbolsAreDeclared) where

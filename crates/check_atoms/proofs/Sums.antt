@@ -1,7 +1,7 @@
 -- The places of the sum of a linear form are those of leaves of its term.
 use Rattle.std.proofs.Common.{◌≡◌, inl, inr, ℕ, zero, Bool, true, false, List, [], ◌∷◌, length, All, Some, subst, sym, ap, ◌∙◌, refl}
 use Rattle.std.specs.Prelude.{ℤ, pos, negsuc, ◌+ℤ◌, neg_ℤ, ◌-ℤ◌, nat_eq, nat_lt, if◌then◌else◌}
-use Rattle.std.proofs.lemmas.List.Elements.{All-nil, All-cons}
+use Rattle.std.proofs.lemmas.List.Elements.{All-nil, All-cons, All-head, All-tail}
 use Rattle.smt_meaning.specs.declared.terms.Operator.TheVariants.{Add, Subtract, Multiply}
 use Rattle.smt_meaning.specs.declared.terms.Operator.{Operator}
 use Rattle.smt_meaning.specs.declared.terms.Head.TheVariants.{Numeral, Theory}
@@ -18,7 +18,12 @@ use Rattle.check_atoms.proofs.Sorting.{left_true, right_true, sort_is, if_so_tru
 use Rattle.smt_meaning.specs.Parts.{IsPart, IsPartOfOne}
 use Rattle.smt_meaning.specs.Clause.{sum_places, atom_places}
 use Rattle.smt_meaning.specs.Linear.{Form, summand, is_zero, unless_zero, placed, with_term, sums_added, each_times, sum_times, form_plus, form_minus, form_product, fold_forms, folded, difference_form, linear_form, linear_forms}
-use Rattle.smt_meaning.specs.Atoms.{each_divided, normal_bound, difference_of}
+use Rattle.smt_meaning.specs.Division.{combined}
+use Rattle.smt_meaning.specs.Atoms.{each_divided, normal_bound, difference_of, limit_atom}
+use Rattle.linear_forms.specs.declared.multiples.Multiple.{Multiple}
+use Rattle.linear_forms.specs.Multiples.{form_at, multiples_of}
+use Rattle.pair_bounds.specs.declared.rows.RowLimit.{RowLimit}
+use Rattle.pair_bounds.specs.Rows.{multiples, limit_of_row}
 use Rattle.bound_clauses.specs.declared.orders.Sense.{Sense}
 use Rattle.bound_clauses.specs.declared.orders.Sense.TheVariants.{NotAbove, Below}
 use Rattle.bound_clauses.specs.declared.orders.Order.{Order}
@@ -135,7 +140,7 @@ module _ (P : ℕ → Type 0) where
     normal [] k h = All-nil P
     normal (p ∷ ps) k h = quotients _ (p ∷ ps) h
 
-    abbrev HaveLeaves : Tree → Type 0
+    abbrev pub HaveLeaves : Tree → Type 0
     HaveLeaves t = (u : Tree) → IsPart u t → is_leaf u ≡ true → IsInt ds u → P (place_of u ts)
 
     difference : (s t : Tree) → IsInt ds s → IsInt ds t → HaveLeaves s → HaveLeaves t → HasPlaces (difference_of ts s t).sum
@@ -149,3 +154,21 @@ module _ (P : ℕ → Type 0) where
     pub bound_places : (o : Order) → IsInt ds (tree_at ts o.lesser) → IsInt ds (tree_at ts o.greater) → HaveLeaves (tree_at ts o.lesser) → HaveLeaves (tree_at ts o.greater)
         → All P (atom_places (bound_atom ts o))
     bound_places o i j a b = by_sense o.sense (tree_at ts o.lesser) (tree_at ts o.greater) i j a b
+
+    abbrev HasIntTerm : Multiple → Type 0
+    HasIntTerm m = IsInt ds (tree_at ts m.term)
+
+    abbrev HasLeaves : Multiple → Type 0
+    HasLeaves m = HaveLeaves (tree_at ts m.term)
+
+    multiples_places : (ms : List Multiple) → All HasIntTerm ms → All HasLeaves ms → HasPlaces (combined (form_at ts) (multiples_of ms)).sum
+    multiples_places [] i h = tt
+    multiples_places (m ∷ ms) i h =
+        both (sum_times m.factor (form_at ts m.term).sum) (combined (form_at ts) (multiples_of ms)).sum
+        (multiple m.factor (form_at ts m.term).sum (form_places (tree_at ts m.term) (All-head HasIntTerm m ms i) (All-head HasLeaves m ms h)))
+        (multiples_places ms (All-tail HasIntTerm m ms i) (All-tail HasLeaves m ms h))
+
+    -- so is each of a limit's, where those of the leaves of its terms are
+    pub limit_places : (l : RowLimit) → All HasIntTerm (multiples l) → All HasLeaves (multiples l) → All P (atom_places (limit_atom (form_at ts) (limit_of_row l)))
+    limit_places l i h =
+        normal (combined (form_at ts) (multiples_of (multiples l))).sum (l.most -ℤ (combined (form_at ts) (multiples_of (multiples l))).constant) (multiples_places (multiples l) i h)

@@ -1,4 +1,5 @@
 pub mod PartAtoms
+pub mod Divisors
 pub mod Numbering
 pub mod OfStack
 pub mod Laws

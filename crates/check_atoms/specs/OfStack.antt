@@ -11,6 +11,7 @@ use Rattle.smt_meaning.specs.Stack.{signature_of}
 use Rattle.smt_meaning.specs.StackCommand.{Stack}
 use Rattle.smt_meaning.specs.Report.{IsPartOfStack}
 use Rattle.term_store.specs.Terms.{tree_with}
+use Rattle.pair_bounds.specs.Rows.{divisor_at}
 use Rattle.atom_form.specs.AtomTableNumbers.{AreApart}
 use Rattle.search_port.specs.Valid.{IsOf}
 use Rattle.check_atoms.specs.Parts.{IsMarked}
@@ -18,7 +19,7 @@ use Rattle.check_atoms.specs.declared.refusal.Refusal.{Refusal}
 use Rattle.check_atoms.specs.declared.refusal.Refusal.TheVariants.{Memory}
 use Rattle.check_atoms.specs.declared.part.PartAtom.{PartAtom}
 use Rattle.check_atoms.specs.PartAtoms.{atom_of, of_part, sort_of}
-use Rattle.check_atoms.specs.Numbering.{IsNormal, RefusesBound}
+use Rattle.check_atoms.specs.Numbering.{IsNormal, RefusesBound, RefusesRows, RefusesDivision}
 
 -- the term at this place has this head, and its arguments are at these places
 pub record IsNode (trees : List Tree) (p : ℕ) (h : Head) (is : List ℕ) : Type 0 where
@@ -28,7 +29,7 @@ pub record IsNode (trees : List Tree) (p : ℕ) (h : Head) (is : List ℕ) : Typ
 
 -- the atoms of the term at a place
 abbrev pub part_atoms : Stack → ℕ → Head → List ℕ → List PartAtom
-part_atoms s p h is = of_part (sort_of (signature_of s.frames) s.trees) p h is
+part_atoms s p h is = of_part (sort_of (signature_of s.frames) s.trees) (divisor_at s.trees is) p h is
 
 -- an atom of a part
 pub record IsAtomOfPart (s : Stack) (marks : List Bool) (a : Atom) : Type 0 where
@@ -68,14 +69,14 @@ pub record AreCheckAtoms (s : Stack) (marks : List Bool) (atoms : List Atom) : T
   pub leaves : All (λ (a : Atom). All (IsLeaf s.trees s.frames) (bound_terms a)) atoms
   pub declared : All (IsOf s.trees s.frames) atoms
 
--- a bound that compares terms of a part is refused
+-- a bound that compares terms of a part is refused, or one of its rows, or its divisor
 pub record RefusesPart (s : Stack) (e : Refusal) : Type 0 where
   pub place : ℕ
   pub head : Head
   pub arguments : List ℕ
   pub part : IsPartOfStack s.frames (tree_at s.trees place)
   pub term : IsNode s.trees place head arguments
-  pub bound : RefusesBound s.trees place (part_atoms s place head arguments) e
+  pub atom : RefusesBound s.trees place (part_atoms s place head arguments) e ⊎ (RefusesRows s.trees place (part_atoms s place head arguments) e ⊎ RefusesDivision s.trees place arguments e)
 
 -- memory is wanting, or a bound is refused
 abbrev pub IsRefused : Stack → Refusal → Type 0

@@ -1,9 +1,9 @@
 -- The atoms of a part, by the places of its arguments.
-use Rattle.std.specs.Prelude.{ℕ, List, [], ◌∷◌, ◌++◌, map, Option, Some, slice_index_or}
+use Rattle.std.specs.Prelude.{ℕ, List, [], ◌∷◌, ◌++◌, map, flat_map, ℤ, Option, Some, slice_index_or}
 use Rattle.smt_meaning.specs.declared.values.Sort.{Sort}
 use Rattle.smt_meaning.specs.declared.values.Sort.TheVariants.{Bool as Truths, Int as Ints, Free}
 use Rattle.smt_meaning.specs.declared.terms.Operator.{Operator}
-use Rattle.smt_meaning.specs.declared.terms.Operator.TheVariants.{Equal, Distinct, Ite}
+use Rattle.smt_meaning.specs.declared.terms.Operator.TheVariants.{Equal, Distinct, Ite, Divide, Modulo, Absolute, Divisible}
 use Rattle.smt_meaning.specs.declared.terms.Head.{Head}
 use Rattle.smt_meaning.specs.declared.terms.Head.TheVariants.{Theory}
 use Rattle.smt_meaning.specs.declared.clauses.Atom.{Atom}
@@ -11,15 +11,19 @@ use Rattle.smt_meaning.specs.declared.clauses.Atom.TheVariants.{Truth as TruthAt
 use Rattle.smt_meaning.specs.Declaration.{Declaration}
 use Rattle.smt_meaning.specs.Term.{Tree, tree_at}
 use Rattle.smt_meaning.specs.Signature.{tree_sort}
+use Rattle.smt_meaning.specs.Atoms.{limit_atom}
+use Rattle.linear_forms.specs.Multiples.{form_at}
+use Rattle.pair_bounds.specs.Rows.{limits, limit_of_row, placed_rows}
 use Rattle.bound_clauses.specs.Orders.{order_atoms, both_orders, bound_atom}
 use Rattle.check_atoms.specs.declared.part.PartAtom.{PartAtom}
-use Rattle.check_atoms.specs.declared.part.PartAtom.TheVariants.{Truth, Same, Bound}
+use Rattle.check_atoms.specs.declared.part.PartAtom.TheVariants.{Truth, Same, Bound, Limit}
 
 -- the atom that it stands for
 abbrev pub atom_of : List Tree → PartAtom → Atom
 atom_of ts (Truth p) = TruthAtom p
 atom_of ts (Same i j) = SameAtom i j
 atom_of ts (Bound o) = bound_atom ts o
+atom_of ts (Limit l) = limit_atom (form_at ts) (limit_of_row l)
 
 -- ---- of two terms that are compared, by the sort of the first
 
@@ -37,6 +41,10 @@ alone_by_sort s i j = by_sort s i j
 abbrev pub truth_by_sort : Option Sort → ℕ → List PartAtom
 truth_by_sort (Some Truths) p = Truth p ∷ []
 truth_by_sort s p = []
+
+-- the bounds of the rows of a division by a number
+abbrev pub of_rows : ℤ → Operator → ℕ → List ℕ → List PartAtom
+of_rows n o p is = map Limit (flat_map limits (placed_rows o n p is))
 
 module _ (sort_at : ℕ → Option Sort) where
   abbrev pub pair : ℕ → ℕ → List PartAtom
@@ -79,20 +87,24 @@ module _ (sort_at : ℕ → Option Sort) where
   with_branches p (c ∷ i ∷ j ∷ []) = alone p i ++ alone p j
   with_branches p is = []
 
-  -- those that compare the arguments of the term at a place
-  abbrev pub compared : Operator → ℕ → List ℕ → List PartAtom
-  compared Equal p is = of_equal is
-  compared Distinct p is = of_distinct is
-  compared Ite p is = with_branches p is
-  compared o p is = map Bound (order_atoms o is)
+  -- those that compare the arguments of the term at a place; of a division by a number the bounds of its rows
+  abbrev pub compared : ℤ → Operator → ℕ → List ℕ → List PartAtom
+  compared n Equal p is = of_equal is
+  compared n Distinct p is = of_distinct is
+  compared n Ite p is = with_branches p is
+  compared n Divide p is = of_rows n Divide p is
+  compared n Modulo p is = of_rows n Modulo p is
+  compared n Absolute p is = of_rows n Absolute p is
+  compared n Divisible p is = of_rows n Divisible p is
+  compared n o p is = map Bound (order_atoms o is)
 
-  abbrev pub compared_by_head : Head → ℕ → List ℕ → List PartAtom
-  compared_by_head (Theory o) p is = compared o p is
-  compared_by_head h p is = []
+  abbrev pub compared_by_head : ℤ → Head → ℕ → List ℕ → List PartAtom
+  compared_by_head n (Theory o) p is = compared n o p is
+  compared_by_head n h p is = []
 
   -- and the truth of the term, if it is a Bool
-  abbrev pub of_part : ℕ → Head → List ℕ → List PartAtom
-  of_part p h is = truth_by_sort (sort_at p) p ++ compared_by_head h p is
+  abbrev pub of_part : ℤ → ℕ → Head → List ℕ → List PartAtom
+  of_part n p h is = truth_by_sort (sort_at p) p ++ compared_by_head n h p is
 
 -- the sort of the term at a place
 abbrev pub sort_of : List Declaration → List Tree → ℕ → Option Sort

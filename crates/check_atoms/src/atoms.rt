@@ -8,13 +8,13 @@ ghost use Rattle.check_atoms.specs.Marks.{AreMarkedFrom, AreStackParts};
 ghost use Rattle.check_atoms.specs.declared.part.PartAtom.{PartAtom as PartAtomValue};
 ghost use Rattle.check_atoms.specs.OfStack.{AreCheckAtoms, AreAtomsBelow, IsRefused};
 
+use crate::divisor::{divisor_of, refusal_of_divisor};
 use crate::graph::{Triangle, chords};
 use crate::number::number_all;
-use crate::part::{PartAtom, add_part};
+use crate::part::{Compared, PartAtom, add_part};
 use crate::parts::marks;
 use crate::refusal::Refusal;
 use atom_form::AtomNumbers;
-use bound_clauses::Order;
 use linear_forms::LinearForms;
 use scope_stack::Stack;
 use smt_laws::symbols_are_declared;
@@ -39,7 +39,7 @@ pub struct CheckAtoms {
 #[derive(Drop)]
 struct Lists {
     wanted: Vec<PartAtom>,
-    orders: Vec<Order>,
+    compared: Compared,
     sum: Vec<Summand>,
 }
 
@@ -65,11 +65,16 @@ fn number_part(
         return Ok(());
     }
     let node = stack.terms().node(id);
+    let divisor = match divisor_of(forms, node.head, node.arguments) {
+        Ok(divisor) => divisor,
+        Err(error) => return Err(refusal_of_divisor(error, id)),
+    };
     lists.wanted.clear();
     add_part(
         &mut lists.wanted,
-        &mut lists.orders,
+        &mut lists.compared,
         stack.sorts(),
+        divisor,
         id,
         node.head,
         node.arguments,
@@ -114,7 +119,7 @@ pub fn numbered(alloc: Global, stack: &Stack) -> Result<CheckAtoms, Refusal>
     let mut atoms = AtomNumbers::new(alloc);
     let mut lists = Lists {
         wanted: Vec::new(alloc),
-        orders: Vec::new(alloc),
+        compared: Compared::new(alloc),
         sum: Vec::new(alloc),
     };
     number_parts(stack, &marks, &mut forms, &mut atoms, &mut lists)?;

@@ -2,6 +2,7 @@
 ghost use Rattle.check_atoms.specs.Laws.{StackAtomsAreNumbered, AtomsAreFirst, PartsHaveNumbers, TruthsHaveNumbers, RefusedTermLeavesRange, RefusedPairLeavesRange};
 
 use bound_clauses::orders_are_comparisons;
+use pair_bounds::rows_are_atoms;
 use smt_laws::flat_says_the_same;
 
 /// Each of the stack's atoms is numbered, but for equalities of terms of a sort that isn't Int.
@@ -9,6 +10,7 @@ pub fn stack_atoms_are_numbered()
     ensures { StackAtomsAreNumbered }
 {
     orders_are_comparisons();
+    rows_are_atoms();
 }
 
 /// Each numbered atom is one that a check begins with, none of them an equality of Bools, and each of the stack's is numbered, but for equalities of terms of a sort that isn't Int.
@@ -16,6 +18,7 @@ pub fn atoms_are_first()
     ensures { AtomsAreFirst }
 {
     orders_are_comparisons();
+    rows_are_atoms();
     flat_says_the_same();
 }
 

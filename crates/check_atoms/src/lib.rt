@@ -12,7 +12,8 @@
 //! `takes`: whether a stack is without integers, exactly.
 //!
 //! Laws, each as the contract of a function that does nothing: whatever commands come, the
-//! difference of a refused pair leaves the range, or for a strict bound what the part compares does;
+//! difference of a refused pair leaves the range, or for a strict bound or a limit of a division what
+//! the part compares does;
 //! the bounds of a stack's parts can be read at the places at which the parts of its assertions
 //! stand, and so have the values of what they compare.
 //!
@@ -20,11 +21,12 @@
 //! the equality of two of one sort).
 #![tactic(auto)]
 
-ghost use Rattle.check_atoms.specs.PairRangesLaws.{LawfulPairsLeaveRange, RefusedPairsLeaveRange};
+ghost use Rattle.check_atoms.specs.PairRangesLaws.{LawfulPairsLeaveRange, RefusedPairsLeaveRange, LawfulLimitsLeaveRange, RefusedLimitsLeaveRange};
 ghost use Rattle.check_atoms.specs.ReadablePartsLaws.{LawfulPartsAreReadable, LawfulPlacesAreReadable, PartsAreReadable, PlacesAreReadable};
 
 mod atoms;
 mod chord;
+mod divisor;
 mod graph;
 mod laws;
 mod number;
@@ -40,6 +42,7 @@ pub use laws::{
     stack_atoms_are_numbered, truths_have_numbers,
 };
 pub use part::PartAtom;
+use pair_bounds::rows_are_atoms;
 pub use refusal::Refusal;
 use smt_laws::{
     assertions_are_linear, assertions_are_truths, leaves_are_among_the_trees, leaves_are_parts,
@@ -66,6 +69,26 @@ pub fn lawful_pairs_leave_range()
 {
     placed_forms_fit();
     refused_pair_leaves_range();
+}
+
+/// On a stack that commands give, what a part compares leaves the range where a limit of its rows is refused.
+pub fn refused_limits_leave_range()
+    ensures { RefusedLimitsLeaveRange }
+{
+    lawful_limits_leave_range();
+    numerals_are_in_range();
+    no_id_twice();
+    assertions_are_truths();
+    trees_are_in_order();
+    parts_are_among_the_trees();
+}
+
+/// The same of each lawful stack whose numerals are in the range.
+pub fn lawful_limits_leave_range()
+    ensures { LawfulLimitsLeaveRange }
+{
+    placed_forms_fit();
+    rows_are_atoms();
 }
 
 /// Where a part of an assertion stands on a stack that commands give, bounds can be read: the tree is linear, and its leaves are among the stack's trees.

@@ -5,17 +5,20 @@ ghost use Rattle.atom_form.specs.Compact.{atom_of as core_atom};
 ghost use Rattle.linear_forms.specs.Table.{AreForms};
 ghost use Rattle.linear_forms.specs.Differences.{KnowsForms, Refuses};
 ghost use Rattle.pair_bounds.specs.Pairs.{IsBound};
+ghost use Rattle.pair_bounds.specs.Rows.{limit_of_row, IsRowLimit, RefusesLimit};
+ghost use Rattle.linear_forms.specs.Multiples.{form_at};
+ghost use Rattle.smt_meaning.specs.Atoms.{limit_atom};
 ghost use Rattle.bound_clauses.specs.Orders.{bound_atom};
 ghost use Rattle.check_atoms.specs.declared.refusal.Refusal.TheVariants.{Memory};
 ghost use Rattle.check_atoms.specs.PartAtoms.{atom_of};
-ghost use Rattle.check_atoms.specs.Numbering.{Adds, fits_by, RefusesOrder, RefusesOne, IsWithin};
+ghost use Rattle.check_atoms.specs.Numbering.{Adds, fits_by, RefusesOrder, RefusesRow, RefusesOne, IsWithin};
 
 use crate::part::PartAtom;
 use crate::refusal::Refusal;
 use atom_form::{AtomNumbers, CompactAtom};
 use bound_clauses::{Order, Sense};
 use linear_forms::{DifferenceError, LinearForms};
-use pair_bounds::{at_most, below};
+use pair_bounds::{RowLimit, at_most, below, row_bound};
 use smt_meaning::{Summand, TermId};
 
 /// Numbers a truth or an equality.
@@ -79,6 +82,38 @@ fn number_order(
     Ok(())
 }
 
+fn refusal_of_limit(error: DifferenceError, part: TermId, limit: RowLimit) -> Refusal
+    ensures { (trees : List Tree) → RefusesLimit trees limit error → (result ≡ Memory) ⊎ RefusesRow trees part limit result }
+{
+    match error {
+        DifferenceError::Term(place) => Refusal::Term(place),
+        DifferenceError::Pair => Refusal::Limit(part),
+        DifferenceError::Memory => Refusal::Memory,
+    }
+}
+
+/// Numbers the bound of a limit, for a part.
+fn number_limit(
+    forms: &mut LinearForms,
+    atoms: &mut AtomNumbers,
+    sum: &mut Vec<Summand>,
+    part: TermId,
+    limit: RowLimit,
+) -> Result<(), Refusal>
+    requires limit { IsRowLimit (length forms.old) limit }
+    requires known { KnowsForms forms.old }
+    ensures ok { (trees : List Tree) → AreForms trees forms.old → OnOk result (Adds (length trees) atoms.old.atoms (limit_atom (form_at trees) (limit_of_row limit) ∷ []) atoms.new.atoms) }
+    ensures err { (trees : List Tree) → AreForms trees forms.old → IfErr result (λ e. (e ≡ Memory) ⊎ RefusesRow trees part limit e) }
+    ensures same { forms.new ≡ forms.old }
+{
+    let threshold = match row_bound(forms, limit, sum) {
+        Ok(threshold) => threshold,
+        Err(error) => return Err(refusal_of_limit(error, part, limit)),
+    };
+    let _number = atoms.number_bound(sum, threshold)?;
+    Ok(())
+}
+
 /// Numbers an atom of a part.
 fn number_atom(
     forms: &mut LinearForms,
@@ -97,6 +132,7 @@ fn number_atom(
         PartAtom::Truth(place) => number_core(atoms, CompactAtom::Truth(place)),
         PartAtom::Same(left, right) => number_core(atoms, CompactAtom::Same(left, right)),
         PartAtom::Bound(order) => number_order(forms, atoms, sum, part, order),
+        PartAtom::Limit(limit) => number_limit(forms, atoms, sum, part, limit),
     }
 }
 

@@ -1,14 +1,17 @@
 //! Which atoms a part has.
-ghost use Rattle.std.specs.Prelude.{◌≡◌, ◌<◌, ◌++◌, length, map, All, Some, OnOk};
+ghost use Rattle.std.specs.Prelude.{◌≡◌, ◌<◌, ◌++◌, length, map, flat_map, All, Some, OnOk};
+ghost use Rattle.fraction128.specs.Whole.{InRange};
 ghost use Rattle.smt_meaning.specs.declared.values.Sort.TheVariants.{Int as Ints};
 ghost use Rattle.bound_clauses.specs.declared.orders.Sense.TheVariants.{NotAbove};
 ghost use Rattle.bound_clauses.specs.Orders.{order_atoms};
-ghost use Rattle.check_atoms.specs.declared.part.PartAtom.TheVariants.{Bound as BoundAtom};
-ghost use Rattle.check_atoms.specs.PartAtoms.{sort_in, truth_by_sort, by_sort, pair, alone, neighbours_from, first_with, each_two, of_equal, of_distinct, with_branches, compared, of_part};
+ghost use Rattle.pair_bounds.specs.Rows.{limits};
+ghost use Rattle.check_atoms.specs.declared.part.PartAtom.TheVariants.{Bound as BoundAtom, Limit as LimitAtom};
+ghost use Rattle.check_atoms.specs.PartAtoms.{sort_in, truth_by_sort, by_sort, pair, alone, neighbours_from, first_with, each_two, of_equal, of_distinct, with_branches, of_rows, compared, of_part};
 
 use bound_clauses::{Order, Sense, add_orders};
+use pair_bounds::{Row, RowLimit, add_rows};
 use smt_meaning::{Head, Operator, Sort, TermId};
-use std::alloc::AllocError;
+use std::alloc::{AllocError, Global};
 
 /// An atom of a part.
 #[derive(Clone, Copy, PartialEq, Eq)]
@@ -19,6 +22,24 @@ pub enum PartAtom {
     Same(TermId, TermId),
     /// The bound that says an order of two Int terms.
     Bound(Order),
+    /// The bound of a limit of a division.
+    Limit(RowLimit),
+}
+
+/// Lists that are used again for each part.
+#[derive(Drop)]
+pub(crate) struct Compared {
+    orders: Vec<Order>,
+    rows: Vec<Row>,
+}
+
+impl Compared {
+    pub(crate) fn new(alloc: Global) -> Self {
+        Compared {
+            orders: Vec::new(alloc),
+            rows: Vec::new(alloc),
+        }
+    }
 }
 
 fn not_above(lesser: TermId, greater: TermId) -> PartAtom
@@ -183,6 +204,47 @@ fn add_comparison(
     add_bounds(atoms, orders)
 }
 
+/// Adds the bounds of a row.
+fn add_row(atoms: &mut Vec<PartAtom>, row: Row) -> Result<(), AllocError>
+    ensures { OnOk result (atoms.new.items ≡ atoms.old.items ++ map LimitAtom (limits row)) }
+{
+    atoms.push(PartAtom::Limit(row.limit))?;
+    match row.other {
+        Some(other) => {
+            atoms.push(PartAtom::Limit(other))?;
+            Ok(())
+        }
+        None => Ok(()),
+    }
+}
+
+/// Adds the bounds of rows.
+fn add_limits(atoms: &mut Vec<PartAtom>, rows: &[Row]) -> Result<(), AllocError>
+    ensures { OnOk result (atoms.new.items ≡ atoms.old.items ++ map LimitAtom (flat_map limits rows.now)) }
+{
+    for row in rows {
+        add_row(atoms, *row)?;
+    }
+    Ok(())
+}
+
+/// Adds the bounds of the rows of a division by a number.
+fn add_division(
+    atoms: &mut Vec<PartAtom>,
+    rows: &mut Vec<Row>,
+    operator: Operator,
+    divisor: i128,
+    place: TermId,
+    arguments: &[TermId],
+) -> Result<(), AllocError>
+    requires { InRange divisor }
+    ensures { OnOk result (atoms.new.items ≡ atoms.old.items ++ of_rows divisor operator place arguments.now) }
+{
+    rows.clear();
+    add_rows(rows, operator, divisor, place, arguments)?;
+    add_limits(atoms, rows)
+}
+
 /// Adds the atoms that compare the arguments of `=`.
 fn add_equal(
     atoms: &mut Vec<PartAtom>,
@@ -214,43 +276,52 @@ fn add_distinct(
     }
 }
 
-/// Adds the atoms that compare the arguments of a term.
+/// Adds the atoms that compare the arguments of a term; of a division by a number the bounds of its rows.
 fn add_compared(
     atoms: &mut Vec<PartAtom>,
-    orders: &mut Vec<Order>,
+    space: &mut Compared,
     sorts: &[Sort],
+    divisor: i128,
     place: TermId,
     operator: Operator,
     arguments: &[TermId],
 ) -> Result<(), AllocError>
+    requires divisor { InRange divisor }
     requires place { place < length sorts.now }
     requires arguments { All (λ i. i < length sorts.now) arguments.now }
-    ensures { OnOk result (atoms.new.items ≡ atoms.old.items ++ compared (sort_in sorts.now) operator place arguments.now) }
+    ensures { OnOk result (atoms.new.items ≡ atoms.old.items ++ compared (sort_in sorts.now) divisor operator place arguments.now) }
 {
     match operator {
         Operator::Equal => add_equal(atoms, sorts, arguments),
         Operator::Distinct => add_distinct(atoms, sorts, arguments),
         Operator::Ite => add_branches(atoms, sorts, place, arguments),
-        _ => add_comparison(atoms, orders, operator, arguments),
+        Operator::Divide | Operator::Modulo | Operator::Absolute | Operator::Divisible => {
+            add_division(atoms, &mut space.rows, operator, divisor, place, arguments)
+        }
+        _ => add_comparison(atoms, &mut space.orders, operator, arguments),
     }
 }
 
-/// Adds the atoms of a part: its truth, if it is a Bool, and those that compare its arguments.
+/// Adds the atoms of a part: its truth, if it is a Bool, and those that compare its arguments, or the bounds of its rows by this divisor.
 pub(crate) fn add_part(
     atoms: &mut Vec<PartAtom>,
-    orders: &mut Vec<Order>,
+    space: &mut Compared,
     sorts: &[Sort],
+    divisor: i128,
     place: TermId,
     head: Head,
     arguments: &[TermId],
 ) -> Result<(), AllocError>
+    requires divisor { InRange divisor }
     requires place { place < length sorts.now }
     requires arguments { All (λ i. i < length sorts.now) arguments.now }
-    ensures { OnOk result (atoms.new.items ≡ atoms.old.items ++ of_part (sort_in sorts.now) place head arguments.now) }
+    ensures { OnOk result (atoms.new.items ≡ atoms.old.items ++ of_part (sort_in sorts.now) divisor place head arguments.now) }
 {
     add_truth(atoms, sorts, place)?;
     match head {
-        Head::Theory(operator) => add_compared(atoms, orders, sorts, place, operator, arguments),
+        Head::Theory(operator) => {
+            add_compared(atoms, space, sorts, divisor, place, operator, arguments)
+        }
         _ => Ok(()),
     }
 }

@@ -10,6 +10,8 @@ pub enum Refusal {
     Term(TermId),
     /// The part at this place compares two terms, whose foldings stay in the range; folding the bound that says this order of them doesn't.
     Pair(TermId, Order),
+    /// The part at this place is a division of terms whose foldings stay in the range; folding a limit of its rows doesn't, or its divisor isn't in the range.
+    Limit(TermId),
     /// Memory is wanting, as where there are more than 2^31 atoms.
     Memory,
 }

@@ -24,8 +24,8 @@ fn is_nonzero(term: TermId, store: &TermStore) -> bool
     }
 }
 
-/// A numeral other than 0, or the negation of one.
-fn is_divisor(term: TermId, store: &TermStore) -> bool
+/// Whether the term at a place is a numeral other than 0, or the negation of one.
+pub fn is_divisor(term: TermId, store: &TermStore) -> bool
     requires { term < length store.now.trees }
     ensures { result ≡ is_divisor (tree_at store.now.trees term) }
 {
@@ -94,8 +94,8 @@ pub(crate) fn has_quotient(arguments: &[Value], store: &TermStore) -> bool
     is_divisor(divisor, store) && is_quotient_of(quotient, number, divisor, store)
 }
 
-/// A term is the quotient of another by a third.
-fn is_quotient_of(term: TermId, number: TermId, divisor: TermId, store: &TermStore) -> bool
+/// Whether the term at a place is the quotient of another by a third.
+pub fn is_quotient_of(term: TermId, number: TermId, divisor: TermId, store: &TermStore) -> bool
     requires term { term < length store.now.trees }
     requires number { number < length store.now.trees }
     requires divisor { divisor < length store.now.trees }

@@ -3,6 +3,9 @@
 //!
 //! `term`, `body`: exactly what judging the term gives, with the names that it gives and the terms
 //! that it adds. A refusal or want of memory leaves names and terms as they were.
+//!
+//! `is_divisor`, `is_quotient_of`: whether a stored term may divide, and whether it is the quotient of
+//! two others.
 #![tactic(auto)]
 
 ghost use Rattle.std.specs.Prelude.{◌≡◌, ◌<◌, [], List, length, IfOk, IfErr, OnOk, OnErr};
@@ -42,6 +45,7 @@ mod walk;
 
 use apply::Rules;
 use bodies::typed_body;
+pub use divisors::{is_divisor, is_quotient_of};
 pub use error::JudgeError;
 use look_ahead::ends;
 use naming::judge_named;

@@ -7,7 +7,7 @@ use Rattle.literals.specs.Signed.{Signed, opposite}
 use Rattle.smt_meaning.specs.declared.values.Sort.{Sort}
 use Rattle.smt_meaning.specs.declared.values.Sort.TheVariants.{Bool as Truths, Int as Ints, Free}
 use Rattle.smt_meaning.specs.declared.terms.Operator.{Operator}
-use Rattle.smt_meaning.specs.declared.terms.Operator.TheVariants.{True, False, Not, And, Or, Xor, Implies, Equal, Distinct, Ite, Add, Subtract, Multiply, AtMost, Less, AtLeast, Greater}
+use Rattle.smt_meaning.specs.declared.terms.Operator.TheVariants.{True, False, Not, And, Or, Xor, Implies, Equal, Distinct, Ite, Add, Subtract, Multiply, AtMost, Less, AtLeast, Greater, Divide, Modulo, Absolute, Divisible}
 use Rattle.smt_meaning.specs.declared.terms.Head.{Head}
 use Rattle.smt_meaning.specs.declared.terms.Head.TheVariants.{Theory}
 use Rattle.smt_meaning.specs.declared.clauses.Atom.{Atom}
@@ -93,6 +93,10 @@ fits_of trees ds AtMost is s h = cc
 fits_of trees ds Less is s h = cc
 fits_of trees ds AtLeast is s h = cc
 fits_of trees ds Greater is s h = cc
+fits_of trees ds Divide is s h = cc
+fits_of trees ds Modulo is s h = cc
+fits_of trees ds Absolute is s h = cc
+fits_of trees ds Divisible is s h = cc
 
 pub head_of : (h k : Head) (ts us : Trees) → node h ts ≡ node k us → h ≡ k
 head_of h k ts us e = cc
@@ -173,6 +177,10 @@ made_bool ds AtMost us ss r h t e = absurd cc
 made_bool ds Less us ss r h t e = absurd cc
 made_bool ds AtLeast us ss r h t e = absurd cc
 made_bool ds Greater us ss r h t e = absurd cc
+made_bool ds Divide us ss r h t e = absurd cc
+made_bool ds Modulo us ss r h t e = absurd cc
+made_bool ds Absolute us ss r h t e = absurd cc
+made_bool ds Divisible us ss r h t e = absurd cc
 
 no_places : (is : List ℕ) → nat_eq (length is) 0 ≡ true → is ≡ []
 no_places [] h = refl
@@ -214,6 +222,10 @@ module _ (ds : List Declaration) (trees : List Tree) where
   bools_of Less is ss r e h s t b = absurd cc
   bools_of AtLeast is ss r e h s t b = absurd cc
   bools_of Greater is ss r e h s t b = absurd cc
+  bools_of Divide is ss r e h s t b = absurd cc
+  bools_of Modulo is ss r e h s t b = absurd cc
+  bools_of Absolute is ss r e h s t b = absurd cc
+  bools_of Divisible is ss r e h s t b = absurd cc
 
   sorts_count : (is : List ℕ) (ss : List Sort) → tree_sorts ds (pick trees is) ≡ Some ss → length ss ≡ length is
   sorts_count [] ss e = let same : [] ≡ ss = cc in sym (ap length same)

@@ -1,12 +1,12 @@
 -- Which terms are constant, and which are linear.
-use Rattle.std.proofs.Common.{◌≡◌, inl, inr, ℕ, zero, suc, ◌<◌, ◌+◌, Bool, true, false, ◌&&◌, List, [], ◌∷◌, ◌++◌, length, All, subst, ap, sym, ◌∙◌, refl, arith}
+use Rattle.std.proofs.Common.{◌≡◌, ◌≢◌, inl, inr, ℕ, zero, suc, ◌<◌, ◌+◌, Bool, true, false, ◌&&◌, List, [], ◌∷◌, ◌++◌, length, All, subst, ap, sym, ◌∙◌, refl, arith}
 use Rattle.std.specs.Prelude.{if◌then◌else◌}
 use Rattle.std.proofs.lemmas.List.Elements.{All-nil, All-cons, All-head, All-tail, All-append}
 use Rattle.smt_meaning.specs.declared.terms.Head.{Head}
 use Rattle.smt_meaning.specs.declared.terms.Head.TheVariants.{Numeral, Theory, Symbol, Place}
-use Rattle.smt_meaning.specs.declared.terms.Operator.TheVariants.{True, False, Not, And, Or, Xor, Implies, Equal, Distinct, Ite, Add, Subtract, Multiply, AtMost, Less, AtLeast, Greater}
+use Rattle.smt_meaning.specs.declared.terms.Operator.TheVariants.{True, False, Not, And, Or, Xor, Implies, Equal, Distinct, Ite, Add, Subtract, Multiply, AtMost, Less, AtLeast, Greater, Divide, Modulo, Absolute, Divisible}
 use Rattle.smt_meaning.specs.Term.{Tree, Trees, node, none, more, tree_at}
-use Rattle.smt_meaning.specs.TreeShape.{is_constant, are_constant, is_linear, are_linear, is_constant_head, is_linear_at, at_most_one_varies}
+use Rattle.smt_meaning.specs.TreeShape.{is_constant, are_constant, is_linear, are_linear, is_constant_head, is_linear_at, at_most_one_varies, is_quotient, has_quotient}
 use Rattle.smt_meaning.specs.Nodes.{pick}
 use Rattle.smt_meaning.specs.Parts.{IsPart, IsPartOfOne}
 use Rattle.smt_meaning.specs.Linear.{leaves, leaves_of, leaves_at}
@@ -29,7 +29,7 @@ module _ (trees : List Tree) (constant : List Bool) (count : ℕ) (c : AreFlags 
       ∙ ap (λ b. if is_constant (tree_at trees i) then b else all_at constant is) (varying is (All-tail (λ j. j < count) i is h))
       ∙ ap (λ b. if is_constant (tree_at trees i) then at_most_one_varies (pick trees is) else b) (constants is (All-tail (λ j. j < count) i is h))
 
-  linear_here : (h : Head) (is : List ℕ) → All (λ i. i < count) is → is_linear_here constant h is ≡ is_linear_at h (pick trees is)
+  linear_here : (h : Head) (is : List ℕ) → All (λ i. i < count) is → is_linear_here trees constant h is ≡ is_linear_at h (pick trees is)
   linear_here (Numeral n) is a = refl
   linear_here (Theory True) is a = refl
   linear_here (Theory False) is a = refl
@@ -48,6 +48,10 @@ module _ (trees : List Tree) (constant : List Bool) (count : ℕ) (c : AreFlags 
   linear_here (Theory Less) is a = refl
   linear_here (Theory AtLeast) is a = refl
   linear_here (Theory Greater) is a = refl
+  linear_here (Theory Divide) is a = refl
+  linear_here (Theory Modulo) is a = refl
+  linear_here (Theory Absolute) is a = refl
+  linear_here (Theory Divisible) is a = refl
   linear_here (Symbol f) is a = refl
   linear_here (Place k) is a = refl
 
@@ -87,7 +91,7 @@ constant_more trees constant k h is b c e below f =
     one_flag is_constant trees k constant b c (f ∙ ap (λ x. is_constant_head h && x) (constants trees constant k c is below) ∙ sym (ap is_constant e))
 
 pub linear_more : (trees : List Tree) (constant linear : List Bool) (k : ℕ) (h : Head) (is : List ℕ) (b : Bool) → AreFlags is_constant trees k constant → AreFlags is_linear trees k linear
-    → tree_at trees k ≡ tree_with trees h is → All (λ i. i < k) is → b ≡ (is_linear_here constant h is && all_at linear is) → AreFlags is_linear trees (k + 1) (linear ++ b ∷ [])
+    → tree_at trees k ≡ tree_with trees h is → All (λ i. i < k) is → b ≡ (is_linear_here trees constant h is && all_at linear is) → AreFlags is_linear trees (k + 1) (linear ++ b ∷ [])
 linear_more trees constant linear k h is b c l e below f =
     one_flag is_linear trees k linear b l
     (f ∙ ap (λ x. x && all_at linear is) (linear_here trees constant k c h is below) ∙ ap (λ x. is_linear_at h (pick trees is) && x) (linears trees linear k l is below) ∙ sym (ap is_linear e))
@@ -132,6 +136,10 @@ module _ (P : Tree → Type 0) where
   by_head (Theory Less) t inner here rest = All-cons P t [] here (All-nil P)
   by_head (Theory AtLeast) t inner here rest = All-cons P t [] here (All-nil P)
   by_head (Theory Greater) t inner here rest = All-cons P t [] here (All-nil P)
+  by_head (Theory Divide) t inner here rest = All-cons P t [] here (All-nil P)
+  by_head (Theory Modulo) t inner here rest = All-cons P t [] here (All-nil P)
+  by_head (Theory Absolute) t inner here rest = All-cons P t [] here (All-nil P)
+  by_head (Theory Divisible) t inner here rest = All-cons P t [] here (All-nil P)
   by_head (Symbol f) t inner here rest = All-cons P t [] here (All-nil P)
   by_head (Place k) t inner here rest = All-cons P t [] here (All-nil P)
 
@@ -142,3 +150,18 @@ module _ (P : Tree → Type 0) where
     each_leaf_of : (ts : Trees) → ((u : Tree) → IsPartOfOne u ts → P u) → All P (leaves_of ts)
     each_leaf_of none f = All-nil P
     each_leaf_of (more t us) f = All-append P (leaves t) (leaves_of us) (each_leaf t (λ u q. f u (inl q))) (each_leaf_of us (λ u q. f u (inr q)))
+
+-- ---- how many arguments a division has
+
+pub no_quotient : (trees : List Tree) (is : List ℕ) → length is ≢ 2 → false ≡ is_quotient (pick trees is)
+no_quotient trees [] h = refl
+no_quotient trees (i ∷ []) h = refl
+no_quotient trees (i ∷ j ∷ []) h = absurd (h refl)
+no_quotient trees (i ∷ j ∷ k ∷ is) h = refl
+
+pub no_quotient_beside : (trees : List Tree) (is : List ℕ) → length is ≢ 3 → false ≡ has_quotient (pick trees is)
+no_quotient_beside trees [] h = refl
+no_quotient_beside trees (i ∷ []) h = refl
+no_quotient_beside trees (i ∷ j ∷ []) h = refl
+no_quotient_beside trees (i ∷ j ∷ k ∷ []) h = absurd (h refl)
+no_quotient_beside trees (i ∷ j ∷ k ∷ l ∷ is) h = refl

@@ -17,8 +17,7 @@ use Rattle.check_atoms.specs.Parts.{IsMarked}
 use Rattle.check_atoms.specs.OfStack.{IsNode}
 use Rattle.order_clauses.specs.declared.error.PartError.{PartError}
 use Rattle.order_clauses.specs.Clauses.{sort_at, part_clauses_of}
-use Rattle.order_clauses.specs.Needed.{orders_of_part, atoms_of_part}
-use Rattle.order_clauses.specs.Errors.{IsCause}
+use Rattle.order_clauses.specs.Errors.{IsPartCause}
 use Rattle.clause_form.specs.Node.{literals_of_node}
 use Rattle.atom_form.specs.AtomTableNumbers.{IsAt}
 use Rattle.first_clauses.specs.Numbers.{AreNumbers}
@@ -68,7 +67,7 @@ pub record RefusesPart (s : Stack) (marks : List Bool) (sorts : List Sort) (tabl
   pub operator : Operator
   pub arguments : List ℕ
   pub term : IsNode s.trees place (Theory operator) arguments
-  pub cause : IsCause s.trees table (orders_of_part sorts operator place arguments) (atoms_of_part sorts s.trees operator place arguments) e
+  pub cause : IsPartCause sorts s.trees table operator place arguments e
 
 -- the part at this place isn't linear
 pub record IsNotLinear (s : Stack) (marks : List Bool) (place : ℕ) : Type 0 where

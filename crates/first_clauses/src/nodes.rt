@@ -13,9 +13,8 @@ ghost use Rattle.bound_clauses.specs.Laws.{IsReadable};
 ghost use Rattle.check_atoms.specs.Parts.{IsMarked};
 ghost use Rattle.check_atoms.specs.Marks.{AreStackParts};
 ghost use Rattle.check_atoms.specs.OfStack.{IsNode, AreCheckAtoms};
-ghost use Rattle.order_clauses.specs.Needed.{orders_of_part, atoms_of_part};
 ghost use Rattle.order_clauses.specs.Sound.{HasSort};
-ghost use Rattle.order_clauses.specs.Errors.{IsCause};
+ghost use Rattle.order_clauses.specs.Errors.{IsPartCause};
 ghost use Rattle.first_clauses.specs.PartClausesFirst.{IsBegun, HasClause};
 ghost use Rattle.first_clauses.specs.CheckClausesFirst.{reading_of, IsRefused, HasPart, HasPartAt, HasParts};
 ghost use Rattle.first_clauses.specs.Shapes.{AreFlags};
@@ -42,7 +41,7 @@ struct Space {
     clauses: Clauses,
 }
 
-/// Keeps the clauses of a part that compares Ints or terms of a declared sort, or chooses between such terms.
+/// Keeps the clauses of a part that compares Ints or terms of a declared sort, chooses between such terms, or divides.
 fn keep_compared(
     stack: &Stack,
     sorts: &[Sort],
@@ -66,7 +65,7 @@ fn keep_compared(
     ensures begun { OnOk result (IsBegun (reading_of stack.now atoms.now.atoms) store.new) }
     ensures stay { (c : Kept) → Contains store.old.clauses c → Contains store.new.clauses c }
     ensures has { OnOk result (All (HasClause store.new.clauses) (part_clauses_of sorts.now trees atoms.now.atoms operator place arguments.now)) }
-    ensures cause { IfErr result (λ e. IsCause trees atoms.now.atoms (orders_of_part sorts.now operator place arguments.now) (atoms_of_part sorts.now trees operator place arguments.now) e) }
+    ensures cause { IfErr result (λ e. IsPartCause sorts.now trees atoms.now.atoms operator place arguments.now e) }
     ensures same { forms.new ≡ forms.old }
 {
     flat_says_the_same();

@@ -1,12 +1,12 @@
 -- Sorted terms without integers: no number stands in them, none of them is folded or compared as a number, and no atom of theirs is a bound.
 use Rattle.std.proofs.Common.{◌≡◌, ◌≢◌, inl, inr, ℕ, Bool, true, false, ◌&&◌, not, List, [], ◌∷◌, ◌++◌, All, subst, sym, ap, ◌∙◌, refl}
-use Rattle.std.specs.Prelude.{Option, Some, None, if◌then◌else◌, nat_le, length}
+use Rattle.std.specs.Prelude.{Option, Some, None, if◌then◌else◌, nat_le, nat_eq, length}
 use Rattle.std.proofs.lemmas.List.Elements.{All-nil, All-cons, All-append}
 use Rattle.smt_meaning.specs.declared.values.Sort.{Sort}
 use Rattle.smt_meaning.specs.declared.values.Sort.TheVariants.{Bool as Truths, Int as Ints, Free}
 use Rattle.smt_meaning.specs.declared.values.Value.{Value}
 use Rattle.smt_meaning.specs.declared.values.Value.TheVariants.{Truth as TruthValue, Whole, Element}
-use Rattle.smt_meaning.specs.declared.terms.Operator.TheVariants.{True, False, Not, And, Or, Xor, Implies, Equal, Distinct, Ite, Add, Subtract, Multiply, AtMost as IsAtMost, Less, AtLeast, Greater}
+use Rattle.smt_meaning.specs.declared.terms.Operator.TheVariants.{True, False, Not, And, Or, Xor, Implies, Equal, Distinct, Ite, Add, Subtract, Multiply, AtMost as IsAtMost, Less, AtLeast, Greater, Divide, Modulo, Absolute, Divisible}
 use Rattle.smt_meaning.specs.declared.terms.Head.{Head}
 use Rattle.smt_meaning.specs.declared.terms.Head.TheVariants.{Numeral, Theory, Symbol, Place}
 use Rattle.smt_meaning.specs.declared.clauses.Atom.{Atom}
@@ -140,16 +140,18 @@ first_int true r Ints ss e = refl
 first_int true r (Free n) ss e = absurd cc
 first_int false r s ss e = absurd cc
 
--- two or more terms without integers are no numbers
-no_numbers : (ds : List Declaration) (us : Trees) (r : Sort) (f : AreFree ds us) → (if nat_le 2 (length f.sorts) then if_so (all_of Ints f.sorts) Truths else None) ≡ Some r → ⊥
-no_numbers ds none r f e =
+-- terms without integers, one or more, are no numbers
+no_numbers : (ds : List Declaration) (stands : ℕ → Bool) → stands 0 ≡ false → (us : Trees) (r : Sort) (f : AreFree ds us)
+    → (if stands (length f.sorts) then if_so (all_of Ints f.sorts) Truths else None) ≡ Some r → ⊥
+no_numbers ds stands bare none r f e =
     let none_is : [] ≡ f.sorts = cc in
-    let nothing : None ≡ Some r = subst (λ (ss : List Sort). (if nat_le 2 (length ss) then if_so (all_of Ints ss) Truths else None) ≡ Some r) (sym none_is) e in cc
-no_numbers ds (more u us) r f e =
+    let at : (if stands 0 then if_so true Truths else None) ≡ Some r = subst (λ (ss : List Sort). (if stands (length ss) then if_so (all_of Ints ss) Truths else None) ≡ Some r) (sym none_is) e in
+    let nothing : None ≡ Some r = subst (λ (b : Bool). (if b then if_so true Truths else None) ≡ Some r) bare at in cc
+no_numbers ds stands bare (more u us) r f e =
     let b : AreBoth ds u us f.sorts = both ds u us f in
-    let at : (if nat_le 2 (length (b.sort ∷ b.sorts)) then if_so (all_of Ints (b.sort ∷ b.sorts)) Truths else None) ≡ Some r =
-    subst (λ (ss : List Sort). (if nat_le 2 (length ss) then if_so (all_of Ints ss) Truths else None) ≡ Some r) b.are e in
-    other_sort ds u b.sort (first ds u us f).free b.first (first_int (nat_le 2 (length (b.sort ∷ b.sorts))) r b.sort b.sorts at)
+    let at : (if stands (length (b.sort ∷ b.sorts)) then if_so (all_of Ints (b.sort ∷ b.sorts)) Truths else None) ≡ Some r =
+    subst (λ (ss : List Sort). (if stands (length ss) then if_so (all_of Ints ss) Truths else None) ≡ Some r) b.are e in
+    other_sort ds u b.sort (first ds u us f).free b.first (first_int (stands (length (b.sort ∷ b.sorts))) r b.sort b.sorts at)
 
 kind : (ds : List Declaration) (h : Head) (us : Trees) (s : Sort) (f : AreFree ds us) → head_sort ds h f.sorts ≡ Some s → s ≢ Ints → Kind h
 kind ds (Numeral n) us s f e d = quiet (record { folds = λ fs. refl; partial = λ vs. refl; compares = λ ts ds us. refl; atoms = λ ts ds us. refl })
@@ -168,10 +170,14 @@ kind ds (Theory Ite) us s f e d = choice refl
 kind ds (Theory Add) us s f e d = absurd (d (ints_of _ _ s e))
 kind ds (Theory Subtract) us s f e d = absurd (d (ints_of _ _ s e))
 kind ds (Theory Multiply) us s f e d = absurd (d (ints_of _ _ s e))
-kind ds (Theory IsAtMost) us s f e d = absurd (no_numbers ds us s f e)
-kind ds (Theory Less) us s f e d = absurd (no_numbers ds us s f e)
-kind ds (Theory AtLeast) us s f e d = absurd (no_numbers ds us s f e)
-kind ds (Theory Greater) us s f e d = absurd (no_numbers ds us s f e)
+kind ds (Theory IsAtMost) us s f e d = absurd (no_numbers ds (λ n. nat_le 2 n) refl us s f e)
+kind ds (Theory Less) us s f e d = absurd (no_numbers ds (λ n. nat_le 2 n) refl us s f e)
+kind ds (Theory AtLeast) us s f e d = absurd (no_numbers ds (λ n. nat_le 2 n) refl us s f e)
+kind ds (Theory Greater) us s f e d = absurd (no_numbers ds (λ n. nat_le 2 n) refl us s f e)
+kind ds (Theory Divide) us s f e d = absurd (d (ints_of _ _ s e))
+kind ds (Theory Modulo) us s f e d = absurd (d (ints_of _ _ s e))
+kind ds (Theory Absolute) us s f e d = absurd (d (ints_of _ _ s e))
+kind ds (Theory Divisible) us s f e d = absurd (no_numbers ds (λ n. nat_eq n 3) refl us s f e)
 
 kind_of : (ds : List Declaration) (h : Head) (us : Trees) → IsFree ds (node h us) → Kind h
 unfolding arguments of_head

@@ -15,10 +15,10 @@ use Rattle.scope_stack.specs.Shown.{IsLawful}
 use Rattle.bound_clauses.specs.declared.orders.Sense.{Sense}
 use Rattle.bound_clauses.specs.declared.orders.Sense.TheVariants.{NotAbove, Below}
 use Rattle.check_atoms.specs.declared.refusal.Refusal.{Refusal}
-use Rattle.check_atoms.specs.declared.refusal.Refusal.TheVariants.{Term, Pair, Memory}
+use Rattle.check_atoms.specs.declared.refusal.Refusal.TheVariants.{Term, Pair, Limit, Memory}
 use Rattle.check_atoms.specs.OfStack.{IsRefused}
 use Rattle.check_atoms.specs.Laws.{RefusedTermLeavesRange, PairLeavesRange}
-use Rattle.check_atoms.specs.PairRangesLaws.{LawfulPairsLeaveRange}
+use Rattle.check_atoms.specs.PairRangesLaws.{LawfulPairsLeaveRange, LawfulLimitsLeaveRange}
 use Rattle.worker.specs.Causes.{pair_seen, cause_of}
 
 pair_shown : (s : Stack) (part : ℕ) (sense : Sense) (left right : ℕ) → PairLeavesRange s part sense left right
@@ -33,9 +33,10 @@ no_sums Known = record { apart = λ i j d l m. absurd (omega (arith, m)); filled
 without_variables : (s : Stack) (seen : RangeSeen) → LeavesRange s.trees s.frames [] (IsCheckAtom s.trees s.frames []) seen → IsPastRange s.trees s.frames [] seen
 without_variables s seen h = record { sums = []; known = no_sums _; are_branches = tt; leaves = h }
 
-pub shown : RefusedTermLeavesRange → LawfulPairsLeaveRange → (s : Stack) (limit : ℤ) (w : ℕ) (e : Refusal) → IsLawful s → All (λ (t : Tree). IsTrue (numerals_fit t)) s.trees → IsRefused s e
+pub shown : RefusedTermLeavesRange → LawfulPairsLeaveRange → LawfulLimitsLeaveRange → (s : Stack) (limit : ℤ) (w : ℕ) (e : Refusal) → IsLawful s → All (λ (t : Tree). IsTrue (numerals_fit t)) s.trees → IsRefused s e
     → Shows s.trees s.frames limit w [] (cause_of e)
-shown term pairs s limit w (Term place) lawful numerals r = without_variables s (Coefficient place) (term s place lawful r)
-shown term pairs s limit w (Pair part o) lawful numerals r =
+shown term pairs limits s limit w (Term place) lawful numerals r = without_variables s (Coefficient place) (term s place lawful r)
+shown term pairs limits s limit w (Pair part o) lawful numerals r =
     without_variables s (pair_seen part o.sense o.lesser o.greater) (pair_shown s part o.sense o.lesser o.greater (pairs s part o lawful numerals r))
-shown term pairs s limit w Memory lawful numerals r = tt
+shown term pairs limits s limit w (Limit part) lawful numerals r = without_variables s (Coefficient part) (limits s part lawful numerals r)
+shown term pairs limits s limit w Memory lawful numerals r = tt

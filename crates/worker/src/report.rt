@@ -12,7 +12,9 @@ ghost use Rattle.worker.specs.Causes.{pair_seen, cause_of};
 use crate::nothing_leaves_range;
 use crate::numerals::numerals_fit;
 use bound_clauses::{Order, Sense};
-use check_atoms::{Refusal, lawful_pairs_leave_range, refused_term_leaves_range};
+use check_atoms::{
+    Refusal, lawful_limits_leave_range, lawful_pairs_leave_range, refused_term_leaves_range,
+};
 use scope_stack::Stack;
 use smt_laws::flat_says_the_same;
 use smt_meaning::{Cause, RangeSeen, Report, Seq, Settings, TermId};
@@ -34,6 +36,7 @@ fn cause_of(refusal: Refusal) -> Cause
     match refusal {
         Refusal::Term(place) => Cause::Range(RangeSeen::Coefficient(place)),
         Refusal::Pair(part, order) => Cause::Range(pair_seen(part, order)),
+        Refusal::Limit(part) => Cause::Range(RangeSeen::Coefficient(part)),
         Refusal::Memory => Cause::Memory,
     }
 }
@@ -101,6 +104,7 @@ pub fn refused(
     nothing_leaves_range();
     refused_term_leaves_range();
     lawful_pairs_leave_range();
+    lawful_limits_leave_range();
     if !numerals_fit(stack.terms()) {
         return out_of_memory(alloc, stack, settings, worker);
     }

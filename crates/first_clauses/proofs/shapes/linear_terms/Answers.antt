@@ -11,8 +11,8 @@ loop-place-preserved c =
     let places = c.node-node.result.arguments.now in
     let constant = c.loop-place.constant.items in
     let linear = c.loop-place.linear.items in
-    let linear_there : c.is_linear-is_linear_there.result ≡ (is_linear_here constant head places && all_at linear places) =
-    c.is_linear-is_linear_there.ensures ∙ ap (λ (fs : List Bool). is_linear_here fs head places && all_at c.deref-in-loop-place.result.now places) c.deref.ensures.value ∙ ap (λ (fs : List Bool). is_linear_here constant head places && all_at fs places) c.deref-in-loop-place.ensures.value in
+    let linear_there : c.is_linear-is_linear_there.result ≡ (is_linear_here trees constant head places && all_at linear places) =
+    c.is_linear-is_linear_there.ensures ∙ ap (λ (fs : List Bool). is_linear_here trees fs head places && all_at c.deref-in-loop-place.result.now places) c.deref.ensures.value ∙ ap (λ (fs : List Bool). is_linear_here trees constant head places && all_at fs places) c.deref-in-loop-place.ensures.value in
     let constant_there : c.is_constant-is_constant_there.result ≡ (is_constant_head head && all_at constant places) = search rules in
     let pushed_linear : c.push.new.self.items ≡ linear ++ c.is_linear-is_linear_there.result ∷ [] = search rules in
     let pushed_constant : c.push-in-loop-place.new.self.items ≡ constant ++ c.is_constant-is_constant_there.result ∷ [] = search rules in
