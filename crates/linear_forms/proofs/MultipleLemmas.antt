@@ -1,6 +1,6 @@
 -- Sums of multiples, folded from the right.
-use Rattle.std.proofs.Common.{◌≡◌, ◌⊎◌, inl, inr, ℕ, zero, suc, ◌+◌, ◌<◌, ◌≤◌, true, false, ◌&&◌, List, [], ◌∷◌, length, get_or, drop, All, Contains, None, Some, Result, Ok, Err, subst, sym, ap, ◌∙◌, refl, arith}
-use Rattle.std.specs.Prelude.{ℤ, pos, ◌+ℤ◌, IfOk}
+use Rattle.std.proofs.Common.{◌≡◌, ◌⊎◌, inl, inr, ℕ, zero, suc, ◌+◌, ◌<◌, ◌≤◌, true, false, ◌&&◌, List, [], ◌∷◌, length, get_or, drop, All, Contains, None, subst, sym, ap, ◌∙◌, refl, arith}
+use Rattle.std.specs.Prelude.{ℤ, pos, ◌+ℤ◌}
 use Rattle.std.proofs.lemmas.List.{drop_more}
 use Rattle.std.proofs.lemmas.List.Elements.{All-head, All-tail}
 use Rattle.fraction128.specs.Whole.{InRange}
@@ -14,7 +14,7 @@ use Rattle.linear_forms.specs.declared.multiples.Multiple.{Multiple}
 use Rattle.linear_forms.specs.Sums.{coefficient_of, IsSum}
 use Rattle.linear_forms.specs.Scratch.{AreRanged, AreZero, AreTouched, HasCoefficients, IsAdded, LeavesRange}
 use Rattle.linear_forms.specs.Folding.{form_of, Holds}
-use Rattle.linear_forms.specs.Table.{Known, known_at, AreForms, HasForm, IsOutside}
+use Rattle.linear_forms.specs.Table.{Known, known_at, AreForms, HasForm}
 use Rattle.linear_forms.specs.Differences.{KnowsForms}
 use Rattle.linear_forms.specs.Multiples.{form_at, multiples_of, IsMultiple, AreMultiples, IsCombination, OneIsOutside, LeaveRangeTogether, form_in, AreSumsOf, HasOutsideTerm, AreAddedUp, IsFoldedSum}
 use Rattle.linear_forms.proofs.SumLemmas.{plus_comm, sums_added_sum, sums_added_at, sum_times_sum, to_higher}

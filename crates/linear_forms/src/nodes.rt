@@ -1,5 +1,5 @@
 //! The form of a node from those of its arguments.
-ghost use Rattle.std.specs.Prelude.{◌≡◌, ◌+◌, ◌<◌, ◌≤◌, [], length, true, false, All, OnOk, IfOk};
+ghost use Rattle.std.specs.Prelude.{◌≡◌, ◌<◌, ◌≤◌, [], length, true, false, All, OnOk, IfOk};
 ghost use Rattle.smt_meaning.specs.Linear.{sum_fits, head_folding_fits, folded, folded_fits, form_product, number_form};
 ghost use Rattle.linear_forms.specs.Scratch.{AreZero, AreTouched};
 ghost use Rattle.linear_forms.specs.Folding.{form_of, combined_form, combined_fits, IsFolded, leaf_at};

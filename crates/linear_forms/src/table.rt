@@ -272,8 +272,8 @@ impl LinearForms {
         look(&self.entries, &self.summands, place as usize)
     }
 
-    /// The difference of the terms at two places, the first less the second: its constant, and in the list, whatever it was before, its sum. An `Err` says which of
-    /// the three foldings leaves the range, or that memory is wanting; then nothing is said of the list.
+    /// The difference of the terms at two places, the first less the second: its constant, and in the list, whatever it was before, its sum. An `Err` says
+    /// which of the three foldings leaves the range, or that memory is wanting; then nothing is said of the list.
     pub fn difference(
         &mut self,
         left: TermId,
@@ -297,8 +297,8 @@ impl LinearForms {
         )
     }
 
-    /// The sum of multiples of the terms at places, folded from the right: its constant, and in the list, whatever it was before, its sum. An `Err` says at which
-    /// part folding one of the terms leaves the range, that folding the sum does (`Pair`), or that memory is wanting; then nothing is said of the list.
+    /// The sum of multiples of the terms at places, folded from the right: its constant, and in the list, whatever it was before, its sum. An `Err` says at
+    /// which part folding one of the terms leaves the range, that folding the sum does (`Pair`), or that memory is wanting; then nothing is said of the list.
     pub fn combine(
         &mut self,
         multiples: &[Multiple],

@@ -1,5 +1,5 @@
 -- Why the clauses of divisions can't be put, and their numbers.
-use Rattle.std.proofs.Common.{◌≡◌, inl, inr, ℕ, zero, suc, ◌<◌, ◌≤◌, ◌^◌, Bool, true, false, nat_eq, List, [], ◌∷◌, map, length, get_or, All, Contains, Result, Ok, Err, Option, Some, None, refl, sym, ap, subst, arith}
+use Rattle.std.proofs.Common.{◌≡◌, inl, inr, ℕ, ◌<◌, ◌≤◌, ◌^◌, Bool, true, false, nat_eq, List, [], ◌∷◌, map, length, get_or, All, Contains, Result, Ok, Err, Option, Some, None, sym, subst, arith}
 use Rattle.std.specs.Prelude.{flat_map, IfErr, IsTrue, if◌then◌else◌}
 use Rattle.std.proofs.lemmas.List.Elements.{All-cons, All-nil, All-head, All-tail, Contains-append_left, Contains-append_right}
 use Rattle.smt_meaning.specs.declared.values.Sort.{Sort}
@@ -11,7 +11,7 @@ use Rattle.pair_bounds.specs.declared.rows.Row.{Row}
 use Rattle.pair_bounds.specs.Rows.{listed, limits}
 use Rattle.order_clauses.specs.declared.error.PartError.{PartError}
 use Rattle.order_clauses.specs.declared.error.PartError.TheVariants.{Missing, Term, Pair, Memory}
-use Rattle.order_clauses.specs.Clauses.{has_rows, limit_bound, limit_number, unless_same, other_numbers}
+use Rattle.order_clauses.specs.Clauses.{has_rows, limit_bound, limit_number, other_numbers}
 use Rattle.order_clauses.specs.Needed.{orders_of_part, limits_of_division, row_truth_atoms, atoms_of_row, atoms_of_division, atoms_of_part}
 use Rattle.order_clauses.specs.Errors.{IsCause, IsLimitCause, IsDivisionCause, IsPartCause}
 use Rattle.order_clauses.proofs.Causes.{here, Contains-flat_map, narrower}

@@ -1,9 +1,9 @@
 -- The clauses of divisions are sound.
-use Rattle.std.proofs.Common.{◌≡◌, ◌≢◌, ℕ, zero, ◌<◌, ◌&&◌, ◌||◌, Bool, true, false, nat_eq, not, List, [], ◌∷◌, ◌++◌, map, length, get_or, All, Contains, Option, Some, None, refl, sym, ap, subst, ◌∙◌, arith}
-use Rattle.std.specs.Prelude.{flat_map, IsTrue, ℤ, if◌then◌else◌}
+use Rattle.std.proofs.Common.{◌≡◌, ◌≢◌, ℕ, zero, ◌<◌, ◌||◌, Bool, true, false, nat_eq, List, [], ◌∷◌, ◌++◌, map, length, get_or, All, Contains, Option, Some, None, refl, sym, ap, subst, ◌∙◌, arith}
+use Rattle.std.specs.Prelude.{IsTrue, ℤ, if◌then◌else◌}
 use Rattle.std.proofs.lemmas.Bool.{eqb-true, eqb-false}
 use Rattle.std.proofs.lemmas.List.Elements.{All-cons, All-nil, All-head, All-tail, All-append, All-map, All-weaker, All-contains, Contains-append_right}
-use Rattle.literals.specs.Signed.{Signed, sign, literal_true, some_true}
+use Rattle.literals.specs.Signed.{Signed, sign, some_true}
 use Rattle.smt_laws.proofs.Both.{and_left, and_right}
 use Rattle.smt_laws.specs.ClauseLaws.{LinearFormHasValue, LimitsHaveValues, IsRowOf, RowsAreOfTheTerm, DivisionHoldsByPlaces}
 use Rattle.smt_laws.specs.Rows.{limit_holds, one_holds, truth_holds, row_holds, rows_hold}
@@ -16,7 +16,7 @@ use Rattle.smt_meaning.specs.Term.{Tree, node, tree_at, Interpretation, number_o
 use Rattle.smt_meaning.specs.Nodes.{pick}
 use Rattle.smt_meaning.specs.Clause.{value_at, atom_true, signed}
 use Rattle.smt_meaning.specs.Linear.{form_value}
-use Rattle.smt_meaning.specs.Division.{Limit, Row as LimitRow, operator_rows}
+use Rattle.smt_meaning.specs.Division.{Limit, operator_rows}
 use Rattle.search_port.specs.State.{atom_at}
 use Rattle.clause_form.specs.Node.{HasNoAtomTwice}
 use Rattle.linear_forms.specs.Multiples.{form_at}
@@ -28,7 +28,7 @@ use Rattle.bound_clauses.specs.Laws.{IsReadable, ConstantIsOver, ConstantHasValu
 use Rattle.order_clauses.specs.Clauses.{limit_bound, limit_number, of_limit, of_other, unless_same, other_numbers, row_numbers, row_truth, row_clause, row_part, truth_number, division_part}
 use Rattle.order_clauses.specs.Needed.{row_truth_atoms, atoms_of_row, atoms_of_division}
 use Rattle.order_clauses.specs.Sound.{IsSound, AreSound}
-use Rattle.order_clauses.proofs.Soundness.{All-unmap, All-left, All-flat, All-unflat, All-both, no_pair_at, number_read, number_within, number_apart, kind, normal_kind, constant_sound}
+use Rattle.order_clauses.proofs.Soundness.{All-unmap, All-flat, All-unflat, no_pair_at, number_read, number_within, number_apart, kind, normal_kind, constant_sound}
 use Rattle.order_clauses.proofs.DivisionCauses.{truths_of_row, bounds_of_row}
 
 -- ---- the numbers of a row

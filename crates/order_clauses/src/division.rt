@@ -3,7 +3,7 @@ ghost use Rattle.std.specs.Prelude.{◌≡◌, ◌<◌, ◌^◌, [], ◌∷◌, 
 ghost use Rattle.smt_meaning.specs.declared.clauses.Atom.TheVariants.{AtMost as BoundAtom};
 ghost use Rattle.smt_meaning.specs.Term.{Tree};
 ghost use Rattle.linear_forms.specs.Table.{AreForms};
-ghost use Rattle.pair_bounds.specs.Rows.{listed, limits, IsRowLimit, IsRow, RefusesLimit, divisor_at, placed_rows};
+ghost use Rattle.pair_bounds.specs.Rows.{listed, limits, IsRowLimit, IsRow, RefusesLimit};
 ghost use Rattle.equality_clauses.specs.Ties.{yes};
 ghost use Rattle.order_clauses.specs.Clauses.{limit_bound, limit_number, of_limit, of_other, unless_same, other_numbers, row_truth, row_part, division_part};
 ghost use Rattle.order_clauses.specs.Needed.{row_truth_atoms, atoms_of_row, atoms_of_division};

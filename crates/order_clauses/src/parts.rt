@@ -282,10 +282,11 @@ fn put(
     }
 }
 
-/// Adds the clauses of the term at a place, which has this operator and the terms at these places as its arguments: of a comparison of Ints, of `=` and `distinct` of Ints,
-/// and of more than two terms of a declared sort, of `ite` of Ints, and of `div`, `mod`, `abs` and divisibility; of other terms none. They are over the table's numbers. The forms of the terms are known, and so are their sorts, by place.
-/// `Missing` says that an atom that the clauses are over has no number, `Term` and `Pair` that folding a bound of the part, or its divisor, leaves the range, and `Memory` that memory
-/// is wanting. An `Err` says nothing of the clauses.
+/// Adds the clauses of the term at a place, which has this operator and the terms at these places as its arguments: of a comparison of Ints, of `=` and
+/// `distinct` of Ints, and of more than two terms of a declared sort, of `ite` of Ints, and of `div`, `mod`, `abs` and divisibility; of other terms none. They
+/// are over the table's numbers. The forms of the terms are known, and so are their sorts, by place. `Missing` says that an atom that the clauses are over has
+/// no number, `Term` and `Pair` that folding a bound of the part, or its divisor, leaves the range, and `Memory` that memory is wanting. An `Err` says nothing
+/// of the clauses.
 pub fn put_part(
     clauses: &mut Clauses,
     space: &mut Space,

@@ -1,5 +1,5 @@
 -- A divisor that isn't in the range.
-use Rattle.std.proofs.Common.{◌≡◌, ◌≢◌, ℕ, zero, suc, true, false, ◌&&◌, List, [], ◌∷◌, subst, sym, ap, ◌∙◌, refl, lit<, arith, ◌*◌}
+use Rattle.std.proofs.Common.{◌≡◌, ◌≢◌, ℕ, suc, true, false, ◌&&◌, List, [], ◌∷◌, subst, sym, ap, ◌∙◌, refl, lit<, arith, ◌*◌}
 use Rattle.std.specs.Prelude.{ℤ, pos, negsuc, ◌-ℤ◌, ◌*ℤ◌, neg_ℤ, IsTrue}
 use Rattle.std.specs.List.{list_all}
 use Rattle.fraction128.specs.Whole.{InRange, is_in_range}
@@ -11,7 +11,7 @@ use Rattle.smt_meaning.specs.declared.terms.Head.TheVariants.{Theory}
 use Rattle.smt_meaning.specs.Term.{Tree, Trees, node, tree_at}
 use Rattle.smt_meaning.specs.TreeShape.{is_linear, are_linear, is_divisor, quotient_tree, tree_eq}
 use Rattle.smt_meaning.specs.Nodes.{pick}
-use Rattle.smt_meaning.specs.Linear.{Form, summand, form_times, form_fits, sum_fits, sum_times, linear_form, leaf_form}
+use Rattle.smt_meaning.specs.Linear.{Form, form_times, form_fits, sum_fits, sum_times, linear_form, leaf_form}
 use Rattle.smt_meaning.specs.Division.{Row, limit, always, beyond, combined, combined_fits, limit_fits, row_fits, rows_fit, rows_at}
 use Rattle.linear_forms.proofs.SumLemmas.{fits_in_range}
 use Rattle.linear_forms.proofs.FoldLemmas.{false_if}

@@ -1,8 +1,8 @@
 -- The rows of divisions over places, and their bounds.
-use Rattle.std.proofs.Common.{◌≡◌, ℕ, zero, suc, ◌<◌, ◌^◌, true, false, ◌&&◌, List, [], ◌∷◌, ◌++◌, length, map, All, OnOk, Ok, Err, Result, subst, sym, ap, ◌∙◌, refl, arith, lit<}
+use Rattle.std.proofs.Common.{◌≡◌, ℕ, zero, suc, ◌<◌, ◌^◌, List, [], ◌∷◌, ◌++◌, map, All, OnOk, Ok, Err, Result, subst, sym, ap, ◌∙◌, arith, lit<}
 use Rattle.std.specs.Prelude.{ℤ, pos, negsuc, ◌-ℤ◌, neg_ℤ, unsigned_abs}
 use Rattle.std.proofs.lemmas.Int.{ints}
-use Rattle.std.proofs.lemmas.List.Elements.{All-cons, All-nil, All-head, All-tail, All-append}
+use Rattle.std.proofs.lemmas.List.Elements.{All-cons, All-nil, All-append}
 use Rattle.fraction128.specs.Whole.{InRange, is_in_range}
 use Rattle.fraction128.specs.Division.{absolute}
 use Rattle.smt_laws.proofs.Both.{and_both, and_right}
@@ -13,7 +13,6 @@ use Rattle.smt_meaning.specs.Term.{Tree}
 use Rattle.smt_meaning.specs.Linear.{Form}
 use Rattle.smt_meaning.specs.Division.{Row, limit, always, beyond, left_by, limit_fits, combined, combined_fits, quotient_rows, remainder_rows, divisible_rows, absolute_rows}
 use Rattle.smt_meaning.specs.Atoms.{normal_bound, most_atom, limit_atom}
-use Rattle.linear_forms.specs.declared.multiples.Multiple.{Multiple}
 use Rattle.linear_forms.specs.Folding.{form_of}
 use Rattle.linear_forms.specs.Multiples.{form_at, multiples_of, IsMultiple, IsCombination}
 use Rattle.linear_forms.proofs.SumLemmas.{in_range_fits, fits_in_range}

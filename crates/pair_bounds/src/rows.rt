@@ -229,8 +229,8 @@ fn add_of_term(
     }
 }
 
-/// Adds the rows of the term at a place, which has this operator and the terms at these places as its arguments: of `div`, `mod` and a divisibility by a divisor,
-/// and of `abs`; of other terms none.
+/// Adds the rows of the term at a place, which has this operator and the terms at these places as its arguments: of `div`, `mod` and a divisibility by a
+/// divisor, and of `abs`; of other terms none.
 pub fn add_rows(
     rows: &mut Vec<Row>,
     operator: Operator,
@@ -274,9 +274,9 @@ fn combine(
     }
 }
 
-/// A limit as a bound in normal form: gives the threshold, and leaves in the list, whatever it was before, the sum that is at most the threshold. An `Err` says where
-/// folding one of the terms, or the sum of the multiples, or the number that bounds it leaves the range (`Term`, `Pair`), or that memory is wanting; then nothing is
-/// said of the list.
+/// A limit as a bound in normal form: gives the threshold, and leaves in the list, whatever it was before, the sum that is at most the threshold. An `Err` says
+/// where folding one of the terms, or the sum of the multiples, or the number that bounds it leaves the range (`Term`, `Pair`), or that memory is wanting; then
+/// nothing is said of the list.
 pub fn row_bound(
     forms: &mut LinearForms,
     limit: RowLimit,

@@ -4,7 +4,6 @@ use Rattle.std.specs.Int.{w128}
 use Rattle.std.proofs.lemmas.Int.{to_z-of_z}
 use Rattle.fraction128.specs.Whole.{InRange}
 use Rattle.fraction128.proofs.Integers.{same_bits}
-use Rattle.smt_meaning.specs.declared.clauses.Summand.{Summand}
 use Rattle.smt_meaning.specs.Linear.{Form, form_times, form_fits}
 use Rattle.linear_forms.specs.Sums.{IsSum}
 use Rattle.linear_forms.specs.Scratch.{IsAdded, LeavesRange}

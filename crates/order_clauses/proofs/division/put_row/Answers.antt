@@ -1,4 +1,4 @@
-use Rattle.std.proofs.Common.{◌<◌, ◌≤◌, ◌^◌, ◌∷◌, map, length, Contains, All, sym, subst}
+use Rattle.std.proofs.Common.{◌<◌, ◌≤◌, ◌^◌, map, length, Contains, All, sym, subst}
 use Rattle.std.proofs.lemmas.List.Elements.{All-cons, All-tail, All-append}
 use Rattle.std.proofs.lemmas.Result.{err_from_is_err_and}
 use Rattle.linear_forms.specs.Table.{AreForms}
