@@ -169,7 +169,6 @@ module _ (s : Stack) (marks : List Bool) (law : IsLawful s) (parts : AreMarkedFr
     leaves = All-nil (IsLeaf s.trees s.frames);
   }
   has_places (Bound o) h i = bound_has (bound_atom s.trees o) (bound_places IsLeafPart s.trees ds o i.0 i.1 (leaf_there o.lesser h.0) (leaf_there o.greater h.1))
-
   has_places (Limit l) h i =
       bound_has (limit_atom (form_at s.trees) (limit_of_row l))
       (limit_places IsLeafPart s.trees ds l i (All-weaker (λ (m : Multiple). IsMarked marks m.term) (λ (m : Multiple). HaveLeaves IsLeafPart s.trees ds (tree_at s.trees m.term)) (λ m k. leaf_there m.term k) (multiples l) h))

@@ -41,8 +41,8 @@ pub use laws::{
     atoms_are_first, parts_have_numbers, refused_pair_leaves_range, refused_term_leaves_range,
     stack_atoms_are_numbered, truths_have_numbers,
 };
-pub use part::PartAtom;
 use pair_bounds::rows_are_atoms;
+pub use part::PartAtom;
 pub use refusal::Refusal;
 use smt_laws::{
     assertions_are_linear, assertions_are_truths, leaves_are_among_the_trees, leaves_are_parts,
