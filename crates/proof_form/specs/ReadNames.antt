@@ -29,7 +29,8 @@ atom_names = (codes "t", IsTruth) ∷ (codes "s", Same) ∷ (codes "le", AtMost)
 abbrev pub number_operators : List (List ℕ × Operator)
 number_operators =
     (codes "+", operator.Add) ∷ (codes "-", operator.Subtract) ∷ (codes "*", operator.Multiply) ∷ (codes "<=", operator.AtMost) ∷ (codes "<", operator.Less)
-    ∷ (codes ">=", operator.AtLeast) ∷ (codes ">", operator.Greater) ∷ []
+    ∷ (codes ">=", operator.AtLeast) ∷ (codes ">", operator.Greater) ∷ (codes "div", operator.Divide) ∷ (codes "mod", operator.Modulo)
+    ∷ (codes "abs", operator.Absolute) ∷ []
 
 abbrev pub later_operators : List (List ℕ × Operator)
 later_operators =

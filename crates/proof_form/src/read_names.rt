@@ -183,5 +183,14 @@ fn number_operator(name: &[u8]) -> Option<Operator>
     if name == b">".as_slice() {
         return Some(Operator::Greater);
     }
+    if name == b"div".as_slice() {
+        return Some(Operator::Divide);
+    }
+    if name == b"mod".as_slice() {
+        return Some(Operator::Modulo);
+    }
+    if name == b"abs".as_slice() {
+        return Some(Operator::Absolute);
+    }
     None
 }

@@ -50,6 +50,7 @@ mod Propositional
 mod Reports
 mod Ranges
 mod DivisionRows
+mod Divisions
 mod Assumptions
 mod Assumed
 mod Asked

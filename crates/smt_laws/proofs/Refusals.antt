@@ -117,7 +117,7 @@ names : wrong_replies
     ∷ quiet "(assert (let ((x 1) (x 2)) true))" "(error \"E12 name already declared: x\")\n"
     ∷ quiet "(assert (! true :named n))(assert (! true :named n))" "(error \"E12 name already declared: n\")\n"
     ∷ quiet "(assert x)(assert (f 1))(declare-const y Nope)(declare-const y (Array Int Int))(declare-fun f (Nope) Int)(define-fun f ((y Nope)) Int 1)(define-sort T () Nope)" "(error \"E13 unknown symbol: x\")\n(error \"E13 unknown symbol: f\")\n(error \"E13 unknown symbol: Nope\")\n(error \"E13 unknown symbol: Array\")\n(error \"E13 unknown symbol: Nope\")\n(error \"E13 unknown symbol: Nope\")\n(error \"E13 unknown symbol: Nope\")\n"
-    ∷ quiet "(assert |a b|)(assert |let|)(assert 1.5)(assert |1.5|)(assert #x1F)(assert #b01)(assert \"a\")(assert |\"a\"|)(assert \"\")(assert (forall ((x Int)) true))(assert (|forall| 1))(assert (div 1 1))" "(error \"E13 unknown symbol: |a b|\")\n(error \"E13 unknown symbol: |let|\")\n(error \"E13 unknown symbol: 1.5\")\n(error \"E13 unknown symbol: |1.5|\")\n(error \"E13 unknown symbol: #x1F\")\n(error \"E13 unknown symbol: #b01\")\n(error \"E13 unknown symbol: \"\"a\"\"\")\n(error \"E13 unknown symbol: |\"\"a\"\"|\")\n(error \"E13 unknown symbol: \"\"\"\"\")\n(error \"E13 unknown symbol: forall\")\n(error \"E13 unknown symbol: |forall|\")\n(error \"E13 unknown symbol: div\")\n"
+    ∷ quiet "(assert |a b|)(assert |let|)(assert 1.5)(assert |1.5|)(assert #x1F)(assert #b01)(assert \"a\")(assert |\"a\"|)(assert \"\")(assert (forall ((x Int)) true))(assert (|forall| 1))(assert (rem 1 1))" "(error \"E13 unknown symbol: |a b|\")\n(error \"E13 unknown symbol: |let|\")\n(error \"E13 unknown symbol: 1.5\")\n(error \"E13 unknown symbol: |1.5|\")\n(error \"E13 unknown symbol: #x1F\")\n(error \"E13 unknown symbol: #b01\")\n(error \"E13 unknown symbol: \"\"a\"\"\")\n(error \"E13 unknown symbol: |\"\"a\"\"|\")\n(error \"E13 unknown symbol: \"\"\"\"\")\n(error \"E13 unknown symbol: forall\")\n(error \"E13 unknown symbol: |forall|\")\n(error \"E13 unknown symbol: rem\")\n"
     ∷ quiet "(declare-sort Bool 0)(define-sort Int () Bool)(declare-const + Int)(declare-fun div () Int)(define-fun => () Int 1)(assert (! true :named true))(declare-const Bool Bool)(declare-sort + 0)" "(error \"E24 reserved name: Bool\")\n(error \"E24 reserved name: Int\")\n(error \"E24 reserved name: +\")\n(error \"E24 reserved name: div\")\n(error \"E24 reserved name: =>\")\n(error \"E24 reserved name: true\")\n" ∷ [])
     ≡ []
 unfolding text_rest mark_rest quoted_rest lexeme comment_rest is_word_byte is_symbol_byte is_printable word_token ◌>>=◌ ◌>>◌ return refuse require required the_scope note found declare judge_body judged digits command effect symbol_text text

@@ -104,7 +104,7 @@ tokens : asserted (symbol (codes "true") ∷ symbol (codes "false") ∷ greatest
     ∷ text (codes "ab") ∷ text (34 ∷ []) ∷ keyword (codes "k") ∷ word (Reserved Let) ∷ word (Reserved Par) ∷ x ∷ a ∷ symbol (codes "nope") ∷ symbol (codes "f") ∷ symbol (codes "not") ∷ symbol (codes "div") ∷ [])
     ≡ sorted Truths ∷ sorted Truths ∷ sorted Ints ∷ denied NumeralTooLarge ∷ denied (UnknownSymbol (Decimal (codes "1.5"))) ∷ denied (UnknownSymbol (Hex (codes "#x1F"))) ∷ denied (UnknownSymbol (Binary (codes "#b01")))
     ∷ denied (UnknownSymbol (Text (codes "ab"))) ∷ denied (UnknownSymbol (Text (34 ∷ []))) ∷ denied WrongArguments ∷ denied WrongArguments ∷ denied WrongArguments ∷ sorted Ints ∷ sorted (Free 0)
-    ∷ denied (UnknownSymbol (Name (codes "nope"))) ∷ denied (ArgumentCount (codes "f")) ∷ denied (ArgumentCount (codes "not")) ∷ denied (UnknownSymbol (Name (codes "div"))) ∷ []
+    ∷ denied (UnknownSymbol (Name (codes "nope"))) ∷ denied (ArgumentCount (codes "f")) ∷ denied (ArgumentCount (codes "not")) ∷ denied (ArgumentCount (codes "div")) ∷ []
 unfolding ◌>>=◌ ◌>>◌ return refuse require required the_scope note found declare
 tokens = refl
 

@@ -1,5 +1,5 @@
 -- The signature: the declared and defined sorts and functions, and the ranks of the theories' functions (SMT-LIB 2.6, sections 3.7 and 5.2; theories Core and Ints).
-use Rattle.std.specs.Prelude.{ℕ, Bool, true, false, not, ◌&&◌, nat_eq, nat_le, List, [], ◌∷◌, ◌++◌, map, length, if◌then◌else◌, Option, Some, None, bytes_eq, codes, All, ◌≢◌}
+use Rattle.std.specs.Prelude.{ℕ, Bool, true, false, not, ◌&&◌, nat_eq, nat_le, List, [], ◌∷◌, map, length, if◌then◌else◌, Option, Some, None, bytes_eq, codes, All, ◌≢◌}
 use Rattle.smt_meaning.specs.declared.values.Sort.{Sort}
 use Rattle.smt_meaning.specs.declared.values.Sort.TheVariants.{Bool as Truths, Int as Ints, Free}
 use Rattle.smt_meaning.specs.declared.terms.Operator.{Operator}
@@ -54,11 +54,11 @@ operators =
     (codes "true", True) ∷ (codes "false", False) ∷ (codes "not", Not) ∷ (codes "and", And) ∷ (codes "or", Or)
     ∷ (codes "xor", Xor) ∷ (codes "=>", Implies) ∷ (codes "=", Equal) ∷ (codes "distinct", Distinct) ∷ (codes "ite", Ite)
     ∷ (codes "+", Add) ∷ (codes "-", Subtract) ∷ (codes "*", Multiply) ∷ (codes "<=", AtMost) ∷ (codes "<", Less)
-    ∷ (codes ">=", AtLeast) ∷ (codes ">", Greater) ∷ []
+    ∷ (codes ">=", AtLeast) ∷ (codes ">", Greater) ∷ (codes "div", Divide) ∷ (codes "mod", Modulo) ∷ (codes "abs", Absolute) ∷ []
 
 -- the names that no script may declare
 abbrev pub reserved_functions : List (List ℕ)
-reserved_functions = map (λ (p : List ℕ × Operator). p.0) operators ++ codes "div" ∷ codes "mod" ∷ codes "abs" ∷ []
+reserved_functions = map (λ (p : List ℕ × Operator). p.0) operators
 
 abbrev pub reserved_sorts : List (List ℕ)
 reserved_sorts = codes "Bool" ∷ codes "Int" ∷ []
