@@ -12,11 +12,11 @@ pub returns-in-Some : goal.returns-in-Some
 returns-in-Some c = λ frames same asserted.
     let t = c.args.terms.now in
     let ts = c.args.proof.now in
-    found_wrong frames (sexp ts) (ahead ts c.args.lists.terms) (ahead ts c.args.lists.steps) t.declared t.held t c.add_terms.new.terms c.in-Some.number c.requires.none same c.requires.lists.read (rw c.in-Some.is at c.in_ok-add_terms.ensures)
+    found_wrong frames (sexp ts) (ahead ts c.args.lists.terms) (ahead ts c.args.lists.steps) t.declared t.held t c.add_terms.new.terms c.in-Some.number c.requires.none same c.requires.lists.read (rw c.in-Some.is at c.in_ok-number.ensures)
 
 pub returns : goal.returns
 returns c = λ frames same asserted.
     let t = c.args.terms.now in
     let ts = c.args.proof.now in
     found_rest frames (sexp ts) (ahead ts c.args.lists.terms) (ahead ts c.args.lists.steps) t.declared t.held t c.add_terms.new.terms c.fold.new.self c.args.asserted.now c.judge_steps.result c.requires.none same c.requires.lists.read
-    (rw c.in_default.is at c.in_ok-add_terms.ensures) c.fold.ensures (sym asserted) c.judge_steps.ensures
+    (rw c.in_default.is at c.in_ok-number.ensures) c.fold.ensures (sym asserted) c.judge_steps.ensures
