@@ -1,0 +1,188 @@
+#!/usr/bin/env python3
+"""Scripts with `div`, `mod` and `abs` by numerals, with answers from elsewhere.
+
+divisions.py values         a script of values over both signs and the ends of the range, and the replies that it must give (values.smt2, values.out)
+divisions.py drawn P S N    N drawn scripts of seed S to the program P: each answer against z3's, each model's values against the definition
+divisions.py speed P        the measured families, beside z3 and cvc5: seconds each, or a dash past ten
+"""
+import random
+import subprocess
+import sys
+import time
+
+MAX = 2**127 - 1
+
+
+def quotient(a, n):
+    """The q of a = n * q + r with 0 <= r < |n|."""
+    q = abs(a) // abs(n)
+    r = abs(a) - q * abs(n)
+    if a < 0:
+        q, r = (-q, 0) if r == 0 else (-q - 1, abs(n) - r)
+    assert 0 <= r < abs(n)
+    return (q, r) if n > 0 else (-q, r)
+
+
+def number(n):
+    return str(n) if n >= 0 else f"(- {-n})"
+
+
+def values():
+    numbers = [0, 1, 2, 3, 5, 6, 7, 12, 100, 2**31, 2**64 + 1, MAX - 1, MAX]
+    numbers += [-n for n in numbers if n]
+    divisors = [n for n in (1, 2, 3, 7, 2**32, MAX - 1, MAX)]
+    divisors += [-n for n in divisors]
+    asked, told = [], []
+    for a in numbers:
+        for n in divisors:
+            q, r = quotient(a, n)
+            term = f"(div {number(a)} {number(n)})", f"(mod {number(a)} {number(n)})"
+            asked += term
+            told += [f"({term[0]} {number(q)})", f"({term[1]} {number(r)})"]
+        asked.append(f"(abs {number(a)})")
+        told.append(f"((abs {number(a)}) {number(abs(a))})")
+    with open("values.smt2", "w", encoding="utf-8") as it:
+        print("(set-option :print-success false)\n(set-option :produce-models true)\n(check-sat)", file=it)
+        for term in asked:
+            print(f"(get-value ({term}))", file=it)
+    with open("values.out", "w", encoding="utf-8") as it:
+        print("sat", file=it)
+        for line in told:
+            print(f"({line})", file=it)
+    print(len(asked), "values")
+
+
+def drawn_term(random, depth):
+    """An Int term over x, y and z, and the function of the three that it is."""
+    kind = random.randrange(9 if depth else 2)
+    if kind == 0:
+        at = random.randrange(3)
+        return "xyz"[at], lambda v: v[at]
+    if kind == 1:
+        n = random.randint(-9, 9)
+        return number(n), lambda v: n
+    s, f = drawn_term(random, depth - 1)
+    if kind in (2, 3):
+        t, g = drawn_term(random, depth - 1)
+        return (f"(+ {s} {t})", lambda v: f(v) + g(v)) if kind == 2 else (f"(- {s} {t})", lambda v: f(v) - g(v))
+    if kind == 4:
+        n = random.randint(-4, 4)
+        return f"(* {number(n)} {s})", lambda v: n * f(v)
+    if kind == 5:
+        return f"(abs {s})", lambda v: abs(f(v))
+    n = random.choice([n for n in range(-9, 10) if n])
+    if kind == 6:
+        return f"(mod {s} {number(n)})", lambda v: quotient(f(v), n)[1]
+    if kind == 7:
+        return f"(div {s} {number(n)})", lambda v: quotient(f(v), n)[0]
+    m = random.choice([n for n in range(-5, 6) if n])
+    return f"(div {s} {number(n)} {number(m)})", lambda v: quotient(quotient(f(v), n)[0], m)[0]
+
+
+def drawn_atom(random):
+    op = random.choice(["=", "<=", "<", "distinct"])
+    s, f = drawn_term(random, 3)
+    t, g = drawn_term(random, 2)
+    holds = {"=": lambda a, b: a == b, "<=": lambda a, b: a <= b, "<": lambda a, b: a < b, "distinct": lambda a, b: a != b}[op]
+    return f"({op} {s} {t})", lambda v: holds(f(v), g(v))
+
+
+def drawn(program, seed, count):
+    picks = random.Random(seed)
+    wrong = told = sats = 0
+    for at in range(count):
+        bound = picks.choice([5, 20, 100])
+        asserted = []
+        for _ in range(picks.randint(1, 5)):
+            atoms = [drawn_atom(picks) for _ in range(picks.randint(1, 2))]
+            asserted.append(("(or " + " ".join(a for a, _ in atoms) + ")" if len(atoms) > 1 else atoms[0][0], [h for _, h in atoms]))
+        script = "(set-option :print-success false)\n(set-option :produce-models true)\n(set-logic QF_UFLIA)\n"
+        script += "".join(f"(declare-const {n} Int)(assert (<= (- {bound}) {n} {bound}))\n" for n in "xyz")
+        script += "".join(f"(assert {a})\n" for a, _ in asserted) + "(check-sat)\n"
+        ours = subprocess.run([*program.split()], input=script + "(get-value (x y z))\n", capture_output=True, text=True, timeout=120).stdout.split("\n")
+        other = subprocess.run(["z3", "-in", "-T:60"], input=script.replace("QF_UFLIA", "QF_LIA"), capture_output=True, text=True, timeout=120).stdout.split("\n")
+        ok = ours[0] == other[0]
+        if ok and ours[0] == "sat":
+            sats += 1
+            words = ours[1].replace("(- ", "-").replace("(", " ").replace(")", " ").split()
+            v = [int(words[1]), int(words[3]), int(words[5])]
+            ok = all(abs(n) <= bound for n in v) and all(any(h(v) for h in hs) for _, hs in asserted)
+        told += ok
+        if not ok:
+            wrong += 1
+            print(f"script {at}: {ours[:2]} and not {other[:1]}")
+            with open(f"wrong{seed}-{at}.smt2", "w", encoding="utf-8") as it:
+                it.write(script)
+    print(f"{told} of {count} as they must be ({sats} sat), {wrong} not")
+    return wrong
+
+
+def counter(steps, modulo, holds):
+    """A counter from 0, one more each step, modulo a number; where it stands after the steps, or elsewhere."""
+    lines = ["(declare-const c0 Int)(assert (= c0 0))"]
+    for i in range(steps):
+        lines.append(f"(declare-const c{i+1} Int)(assert (= c{i+1} (mod (+ c{i} 1) {modulo})))")
+    end = steps % modulo
+    lines.append(f"(assert (= c{steps} {end}))" if holds else f"(assert (distinct c{steps} {end}))")
+    return "\n".join(lines)
+
+
+def free_counter(steps, modulo):
+    """The same, each step one or two more as a Bool says: it comes to modulo - 1."""
+    lines = ["(declare-const c0 Int)(assert (= c0 0))"]
+    for i in range(steps):
+        lines.append(f"(declare-const b{i} Bool)(declare-const c{i+1} Int)(assert (= c{i+1} (mod (+ c{i} (ite b{i} 1 2)) {modulo})))")
+    lines.append(f"(assert (= c{steps} {modulo - 1}))")
+    return "\n".join(lines)
+
+
+def hashed(words, target):
+    """A hash of so many bytes modulo 2^16 that comes to a number."""
+    lines = ["(declare-const h0 Int)(assert (= h0 17))"]
+    for i in range(words):
+        lines.append(f"(declare-const w{i} Int)(assert (<= 0 w{i} 255))(declare-const h{i+1} Int)(assert (= h{i+1} (mod (+ (* 31 h{i}) w{i}) 65536)))")
+    lines.append(f"(assert (= h{words} {target}))")
+    return "\n".join(lines)
+
+
+def calendar(days, weekday):
+    """A day of a year of months of 30 days that is such a day of the week."""
+    return f"""(declare-const d Int)(assert (<= 0 d {days}))(declare-const year Int)(declare-const month Int)(declare-const day Int)
+(assert (= year (div d 365)))(assert (= month (div (mod d 365) 30)))(assert (= day (mod (mod d 365) 30)))
+(assert (= (mod d 7) {weekday}))(assert (= day 12))(assert (= month 6))(assert (>= year 3))"""
+
+
+FAMILIES = (
+    [(f"counter {m}, 50 steps, forced", counter(50, m, False)) for m in (2, 3, 5, 7)]
+    + [(f"counter {m}, 50 steps, held", counter(50, m, True)) for m in (2, 3, 5, 7)]
+    + [(f"free counter {m}, 12 steps", free_counter(12, m)) for m in (3, 5, 7)]
+    + [(f"hash of {n}", hashed(n, t)) for n, t in ((2, 16432), (3, 4242), (4, 60000))]
+    + [(f"calendar {w}", calendar(10000, w)) for w in (0, 3)]
+    + [("7 x = 5 mod 31", "(declare-const x Int)(assert (<= 0 x 1000))(assert (= (mod (* 7 x) 31) 5))"), ("6 x = 5 mod 9", "(declare-const x Int)(assert (<= 0 x 100000))(assert (= (mod (* 6 x) 9) 5))")]
+)
+
+
+def timed(words, script):
+    start = time.time()
+    try:
+        got = subprocess.run(words, input=script, capture_output=True, text=True, timeout=10).stdout.split("\n")[0]
+    except subprocess.TimeoutExpired:
+        return "-", 10.0
+    return got, time.time() - start
+
+
+def speed(program):
+    print(f"{'script':34} {'ours':>14} {'z3':>14} {'cvc5':>14}")
+    for name, body in FAMILIES:
+        script = "(set-option :print-success false)\n(set-logic QF_LIA)\n" + body + "\n(check-sat)\n"
+        told = [timed(words, script) for words in (program.split(), ["z3", "-in"], ["cvc5", "--lang", "smt2", "-"])]
+        print(f"{name:34} " + " ".join(f"{a:>7} {s:6.2f}" for a, s in told), flush=True)
+
+
+if __name__ == "__main__":
+    if sys.argv[1] == "values":
+        values()
+    elif sys.argv[1] == "drawn":
+        sys.exit(drawn(sys.argv[2], int(sys.argv[3]), int(sys.argv[4])) > 0)
+    else:
+        speed(sys.argv[2])
