@@ -289,6 +289,46 @@ fn with_neighbours(alloc: Global, stack: &Stack, graph: &Graph) -> Result<Vec<Te
     Ok(places)
 }
 
+/// The two terms of a `distinct` of two, if the atom is one.
+fn apart(stack: &Stack, atoms: &AtomNumbers, number: u32) -> Option<(TermId, TermId)>
+    requires { number < length atoms.now.atoms }
+{
+    match atoms.atom(number) {
+        NumberedAtom::Bound(_) | NumberedAtom::Same(_, _) => None,
+        NumberedAtom::Truth(place) => {
+            if place >= stack.terms().len() {
+                return None;
+            }
+            let node = stack.terms().node(place);
+            if node.head == Head::Theory(Operator::Distinct) && node.arguments.len() == 2 {
+                Some((node.arguments[0], node.arguments[1]))
+            } else {
+                None
+            }
+        }
+    }
+}
+
+/// Numbers the equality of each two terms that a `distinct` of two compares.
+fn number_apart(
+    stack: &Stack,
+    marks: &[bool],
+    atoms: &mut AtomNumbers,
+) -> Result<(), AllocError>
+    requires parts { AreMarkedFrom stack.now 0 marks.now }
+    requires atoms { AreCheckAtoms stack.now marks.now atoms.old.atoms }
+    ensures { AreCheckAtoms stack.now marks.now atoms.new.atoms }
+{
+    for number in 0..atoms.len() {
+        if let Some((left, right)) = apart(stack, atoms, number as u32) {
+            if left != right {
+                let _number = number_chord(stack, marks, atoms, left, right)?;
+            }
+        }
+    }
+    Ok(())
+}
+
 /// Numbers the equalities of the two neighbours of terms that have two, one term after another, and gives the triangles. An `Err`, for want of memory, keeps the atoms that are numbered.
 pub(crate) fn chords(
     alloc: Global,
@@ -304,6 +344,7 @@ pub(crate) fn chords(
     if !stack.sorts().iter().any(|sort| is_declared(*sort)) {
         return Ok(triangles);
     }
+    number_apart(stack, marks, atoms)?;
     let mut graph = graph_of(alloc, stack, atoms)?;
     let mut waiting = with_neighbours(alloc, stack, &graph)?;
     for _turn in 0..u64::MAX {
