@@ -3,6 +3,8 @@
 
 divisions.py values         a script of values over both signs and the ends of the range, and the replies that it must give (values.smt2, values.out)
 divisions.py drawn P S N    N drawn scripts of seed S to the program P: each answer against z3's, each model's values against the definition
+divisions.py stored S N     the lines that the stored run of smt_cli has of divisions, and the replies (stored.smt2, stored.out): rows by hand, values, and N drawn
+                            scripts of seed S with z3's answers
 divisions.py speed P        the measured families, beside z3 and cvc5: seconds each, or a dash past ten
 """
 import random
@@ -28,19 +30,7 @@ def number(n):
 
 
 def values():
-    numbers = [0, 1, 2, 3, 5, 6, 7, 12, 100, 2**31, 2**64 + 1, MAX - 1, MAX]
-    numbers += [-n for n in numbers if n]
-    divisors = [n for n in (1, 2, 3, 7, 2**32, MAX - 1, MAX)]
-    divisors += [-n for n in divisors]
-    asked, told = [], []
-    for a in numbers:
-        for n in divisors:
-            q, r = quotient(a, n)
-            term = f"(div {number(a)} {number(n)})", f"(mod {number(a)} {number(n)})"
-            asked += term
-            told += [f"({term[0]} {number(q)})", f"({term[1]} {number(r)})"]
-        asked.append(f"(abs {number(a)})")
-        told.append(f"((abs {number(a)}) {number(abs(a))})")
+    asked, told = terms([0, 1, 2, 3, 5, 6, 7, 12, 100, 2**31, 2**64 + 1, MAX - 1, MAX], [1, 2, 3, 7, 2**32, MAX - 1, MAX])
     with open("values.smt2", "w", encoding="utf-8") as it:
         print("(set-option :print-success false)\n(set-option :produce-models true)\n(check-sat)", file=it)
         for term in asked:
@@ -50,6 +40,22 @@ def values():
         for line in told:
             print(f"({line})", file=it)
     print(len(asked), "values")
+
+
+def terms(numbers, divisors):
+    """Terms over these and their negations, and what `get-value` says of each."""
+    numbers = numbers + [-n for n in numbers if n]
+    divisors = divisors + [-n for n in divisors]
+    asked, told = [], []
+    for a in numbers:
+        for n in divisors:
+            q, r = quotient(a, n)
+            term = f"(div {number(a)} {number(n)})", f"(mod {number(a)} {number(n)})"
+            asked += term
+            told += [f"({term[0]} {number(q)})", f"({term[1]} {number(r)})"]
+        asked.append(f"(abs {number(a)})")
+        told.append(f"((abs {number(a)}) {number(abs(a))})")
+    return asked, told
 
 
 def drawn_term(random, depth):
@@ -87,18 +93,51 @@ def drawn_atom(random):
     return f"({op} {s} {t})", lambda v: holds(f(v), g(v))
 
 
+def drawn_script(picks):
+    """The bound of the three constants, what is asserted of them, and the declarations and assertions."""
+    bound = picks.choice([5, 20, 100])
+    asserted = []
+    for _ in range(picks.randint(1, 5)):
+        atoms = [drawn_atom(picks) for _ in range(picks.randint(1, 2))]
+        asserted.append(("(or " + " ".join(a for a, _ in atoms) + ")" if len(atoms) > 1 else atoms[0][0], [h for _, h in atoms]))
+    script = "".join(f"(declare-const {n} Int)(assert (<= (- {bound}) {n} {bound}))\n" for n in "xyz")
+    return bound, asserted, script + "".join(f"(assert {a})\n" for a, _ in asserted) + "(check-sat)\n"
+
+
+def stored(seed, count):
+    begin = "(reset)\n(set-option :print-success false)\n(set-option :reproducible-resource-limit 0)\n(set-option :produce-models true)\n"
+    lines = ["; Divisions: rows by hand, and what is refused."]
+    lines += [begin + "(declare-const x Int)(assert (= x (- 7)))(check-sat)(get-value ((div x 2) (mod x 2) (div x (- 2)) (mod x (- 2)) (abs x) (div 100 7 2)))"]
+    told = ["success", "sat", "(((div x 2) (- 4)) ((mod x 2) 1) ((div x (- 2)) 4) ((mod x (- 2)) 1) ((abs x) 7) ((div 100 7 2) 7))"]
+    lines += [begin + "(declare-const x Int)(assert (and (<= 0 x 10) (= (mod x 3) 2) (= (mod x 5) 0)))(check-sat)(get-value (x))"]
+    told += ["success", "sat", "((x 5))"]
+    lines += [begin + "(declare-const x Int)(assert (= x (div x 0)))(assert (= x (mod x 2 3)))(assert ((_ divisible 0) x))(assert (= 1 (div x x)))(assert (= 1 (* x (div 4 2))))"]
+    told += ["success", '(error "E16 not linear")', '(error "E14 number of arguments: mod")', '(error "E8 wrong arguments: assert")', '(error "E16 not linear")', '(error "E16 not linear")']
+    asked, values = terms([0, 1, 5, 7, 100, 2**64 + 1, MAX], [1, 2, 3, 7, 2**32, MAX])
+    lines += ["; Values over both signs and at the ends of the range.", begin + "(check-sat)"] + [f"(get-value ({term}))" for term in asked]
+    told += ["success", "sat"] + [f"({value})" for value in values]
+    lines += [f"; {count} drawn scripts with divisions; the answers are another solver's."]
+    picks = random.Random(seed)
+    for _ in range(count):
+        script = drawn_script(picks)[2]
+        lines += [begin + script.rstrip("\n")]
+        answer = subprocess.run(["z3", "-in", "-T:60"], input="(set-logic QF_LIA)\n" + script, capture_output=True, text=True, timeout=120).stdout.split("\n")[0]
+        told += ["success", answer]
+    lines += ["(reset)"]
+    told += ["success"]
+    with open("stored.smt2", "w", encoding="utf-8") as it:
+        print("\n".join(lines), file=it)
+    with open("stored.out", "w", encoding="utf-8") as it:
+        print("\n".join(told), file=it)
+    print(len(asked), "values,", told.count("sat"), "sat,", told.count("unsat"), "unsat")
+
+
 def drawn(program, seed, count):
     picks = random.Random(seed)
     wrong = told = sats = 0
     for at in range(count):
-        bound = picks.choice([5, 20, 100])
-        asserted = []
-        for _ in range(picks.randint(1, 5)):
-            atoms = [drawn_atom(picks) for _ in range(picks.randint(1, 2))]
-            asserted.append(("(or " + " ".join(a for a, _ in atoms) + ")" if len(atoms) > 1 else atoms[0][0], [h for _, h in atoms]))
-        script = "(set-option :print-success false)\n(set-option :produce-models true)\n(set-logic QF_UFLIA)\n"
-        script += "".join(f"(declare-const {n} Int)(assert (<= (- {bound}) {n} {bound}))\n" for n in "xyz")
-        script += "".join(f"(assert {a})\n" for a, _ in asserted) + "(check-sat)\n"
+        bound, asserted, script = drawn_script(picks)
+        script = "(set-option :print-success false)\n(set-option :produce-models true)\n(set-logic QF_UFLIA)\n" + script
         ours = subprocess.run([*program.split()], input=script + "(get-value (x y z))\n", capture_output=True, text=True, timeout=120).stdout.split("\n")
         other = subprocess.run(["z3", "-in", "-T:60"], input=script.replace("QF_UFLIA", "QF_LIA"), capture_output=True, text=True, timeout=120).stdout.split("\n")
         ok = ours[0] == other[0]
@@ -155,8 +194,8 @@ def calendar(days, weekday):
 FAMILIES = (
     [(f"counter {m}, 50 steps, forced", counter(50, m, False)) for m in (2, 3, 5, 7)]
     + [(f"counter {m}, 50 steps, held", counter(50, m, True)) for m in (2, 3, 5, 7)]
-    + [(f"free counter {m}, 12 steps", free_counter(12, m)) for m in (3, 5, 7)]
-    + [(f"hash of {n}", hashed(n, t)) for n, t in ((2, 16432), (3, 4242), (4, 60000))]
+    + [(f"free counter {m}, {n} steps", free_counter(n, m)) for m in (3, 7) for n in (12, 50)]
+    + [(f"hash of {n}", hashed(n, t)) for n, t in ((2, 16432), (3, 4242), (4, 60000), (8, 12345), (16, 54321))]
     + [(f"calendar {w}", calendar(10000, w)) for w in (0, 3)]
     + [("7 x = 5 mod 31", "(declare-const x Int)(assert (<= 0 x 1000))(assert (= (mod (* 7 x) 31) 5))"), ("6 x = 5 mod 9", "(declare-const x Int)(assert (<= 0 x 100000))(assert (= (mod (* 6 x) 9) 5))")]
 )
@@ -182,6 +221,8 @@ def speed(program):
 if __name__ == "__main__":
     if sys.argv[1] == "values":
         values()
+    elif sys.argv[1] == "stored":
+        stored(int(sys.argv[2]), int(sys.argv[3]))
     elif sys.argv[1] == "drawn":
         sys.exit(drawn(sys.argv[2], int(sys.argv[3]), int(sys.argv[4])) > 0)
     else:
