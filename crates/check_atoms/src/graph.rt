@@ -289,6 +289,91 @@ fn with_neighbours(alloc: Global, stack: &Stack, graph: &Graph) -> Result<Vec<Te
     Ok(places)
 }
 
+/// The two terms that a `distinct` compares alone, where this atom is the truth of one.
+fn apart(stack: &Stack, atoms: &AtomNumbers, number: usize) -> Option<(TermId, TermId)> {
+    if number >= atoms.len() {
+        return None;
+    }
+    match atoms.atom(number as u32) {
+        NumberedAtom::Bound(_) | NumberedAtom::Same(_, _) => None,
+        NumberedAtom::Truth(place) => {
+            if place >= stack.terms().len() {
+                return None;
+            }
+            let node = stack.terms().node(place);
+            if node.head == Head::Theory(Operator::Distinct) && node.arguments.len() == 2 {
+                Some((node.arguments[0], node.arguments[1]))
+            } else {
+                None
+            }
+        }
+    }
+}
+
+/// Terms in more `distinct`s of two than this are left alone: of a clique every pair would have an equality.
+const FEW: u32 = 2;
+
+fn count_one(counts: &mut Vec<u32>, place: TermId) {
+    if (place as usize) < counts.len() {
+        counts[place as usize] = counts[place as usize].saturating_add(1);
+    }
+}
+
+/// By place: in how many `distinct`s of two a term stands.
+fn counts_apart(alloc: Global, stack: &Stack, atoms: &AtomNumbers) -> Result<Vec<u32>, AllocError> {
+    let mut counts = vec![in alloc; 0; stack.terms().len() as usize]?;
+    for number in 0..atoms.len() {
+        if let Some((left, right)) = apart(stack, atoms, number) {
+            count_one(&mut counts, left);
+            count_one(&mut counts, right);
+        }
+    }
+    Ok(counts)
+}
+
+fn are_few(counts: &[u32], place: TermId) -> bool {
+    (place as usize) < counts.len() && counts[place as usize] <= FEW
+}
+
+/// Numbers the equality of two terms of a declared sort that a `distinct` compares alone, so that it is an edge as others are.
+fn number_apart(
+    stack: &Stack,
+    marks: &[bool],
+    atoms: &mut AtomNumbers,
+    counts: &[u32],
+    number: usize,
+) -> Result<(), AllocError>
+    requires parts { AreMarkedFrom stack.now 0 marks.now }
+    requires atoms { AreCheckAtoms stack.now marks.now atoms.old.atoms }
+    ensures { AreCheckAtoms stack.now marks.now atoms.new.atoms }
+{
+    match apart(stack, atoms, number) {
+        Some((left, right)) if left != right && are_few(counts, left) && are_few(counts, right) => {
+            let _number = number_chord(stack, marks, atoms, left, right)?;
+            Ok(())
+        }
+        _ => Ok(()),
+    }
+}
+
+/// The same of each `distinct` of two.
+fn number_all_apart(
+    alloc: Global,
+    stack: &Stack,
+    marks: &[bool],
+    atoms: &mut AtomNumbers,
+) -> Result<(), AllocError>
+    requires parts { AreMarkedFrom stack.now 0 marks.now }
+    requires atoms { AreCheckAtoms stack.now marks.now atoms.old.atoms }
+    ensures { AreCheckAtoms stack.now marks.now atoms.new.atoms }
+{
+    let counts = counts_apart(alloc, stack, atoms)?;
+    for number in 0..atoms.len() {
+        number_apart(stack, marks, atoms, &counts, number)?;
+    }
+    Ok(())
+}
+
 /// Numbers the equalities of the two neighbours of terms that have two, one term after another, and gives the triangles. An `Err`, for want of memory, keeps the atoms that are numbered.
 pub(crate) fn chords(
     alloc: Global,
@@ -304,6 +389,7 @@ pub(crate) fn chords(
     if !stack.sorts().iter().any(|sort| is_declared(*sort)) {
         return Ok(triangles);
     }
+    number_all_apart(alloc, stack, marks, atoms)?;
     let mut graph = graph_of(alloc, stack, atoms)?;
     let mut waiting = with_neighbours(alloc, stack, &graph)?;
     for _turn in 0..u64::MAX {
