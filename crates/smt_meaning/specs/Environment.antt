@@ -3,6 +3,7 @@ use Rattle.std.specs.Prelude.{ℕ, false, List, [], ◌∷◌, ◌++◌, pos, if
 use Rattle.smt_meaning.specs.declared.values.Value.{Value}
 use Rattle.smt_meaning.specs.declared.values.Value.TheVariants.{Truth, Whole}
 use Rattle.smt_meaning.specs.declared.terms.Operator.{Operator}
+use Rattle.smt_meaning.specs.declared.terms.Operator.TheVariants.{Divisible}
 use Rattle.smt_meaning.specs.declared.tokens.Token.{Token}
 use Rattle.smt_meaning.specs.declared.tokens.Token.TheVariants.{Numeral, Symbol, Reserved}
 use Rattle.smt_meaning.specs.declared.tokens.Word.TheVariants.{Exclamation, Let}
@@ -10,7 +11,7 @@ use Rattle.smt_meaning.specs.Declaration.{Declaration}
 use Rattle.smt_meaning.specs.Term.{Interpretation, operate, value_with}
 use Rattle.smt_meaning.specs.Sexp.{Sexp, Sexps, word, group, end, ◌▸◌}
 use Rattle.smt_meaning.specs.Signature.{look_up, find_function, operators}
-use Rattle.smt_meaning.specs.Sorts.{decimal}
+use Rattle.smt_meaning.specs.Sorts.{decimal, head_number}
 
 -- ---- the value of a name
 
@@ -53,12 +54,18 @@ token_value ds I env (Symbol n) = value_or (bound_value n env) (function_value d
 token_value ds I env (Numeral cs) = Whole (pos (decimal cs))
 token_value ds I env _ = Truth false
 
+-- whether the number of a head divides
+abbrev pub divisible_value : Option ℕ → List Value → Value
+divisible_value (Some n) (v ∷ []) = operate Divisible (v ∷ Whole (pos n) ∷ [])
+divisible_value _ vs = Truth false
+
 abbrev mutual
   pub term_value : List Declaration → Interpretation → Environment → Sexp → Value
   term_value ds I env (word t) = token_value ds I env t
   term_value ds I env (group (word (Reserved Let) ▸ group bs ▸ b ▸ end)) = term_value ds I (binding_values ds I env bs ++ env) b
   term_value ds I env (group (word (Reserved Exclamation) ▸ t ▸ rest)) = term_value ds I env t
   term_value ds I env (group (word (Symbol n) ▸ ss)) = function_value ds I n (term_values ds I env ss)
+  term_value ds I env (group (group hs ▸ ss)) = divisible_value (head_number hs) (term_values ds I env ss)
   term_value ds I env (group ss) = Truth false
 
   pub term_values : List Declaration → Interpretation → Environment → Sexps → List Value

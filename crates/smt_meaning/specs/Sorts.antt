@@ -4,18 +4,18 @@ use Rattle.fraction128.specs.Whole.{is_in_range}
 use Rattle.smt_meaning.specs.declared.values.Sort.{Sort}
 use Rattle.smt_meaning.specs.declared.values.Sort.TheVariants.{Bool as Truths, Int as Ints}
 use Rattle.smt_meaning.specs.declared.terms.Operator.{Operator}
-use Rattle.smt_meaning.specs.declared.terms.Operator.TheVariants.{True, False}
+use Rattle.smt_meaning.specs.declared.terms.Operator.TheVariants.{True, False, Divisible}
 use Rattle.smt_meaning.specs.declared.terms.Head.TheVariants.{Numeral as Number, Symbol as Function}
 use Rattle.smt_meaning.specs.declared.tokens.Token.{Token}
 use Rattle.smt_meaning.specs.declared.tokens.Token.TheVariants.{Numeral, Decimal, Hex, Binary, Text, Symbol, Reserved, Keyword}
-use Rattle.smt_meaning.specs.declared.tokens.Word.TheVariants.{Exclamation, Let}
+use Rattle.smt_meaning.specs.declared.tokens.Word.TheVariants.{Exclamation, Underscore, Let}
 use Rattle.smt_meaning.specs.Declaration.{Declaration, Body}
 use Rattle.smt_meaning.specs.declared.refusals.Refusal.{Refusal}
 use Rattle.smt_meaning.specs.declared.refusals.Refusal.TheVariants.{NumeralTooLarge, WrongArguments, AlreadyDeclared, UnknownSymbol, ArgumentCount, SortsDiffer, NotLinear, ReservedName, TooManySymbols}
 use Rattle.smt_meaning.specs.Term.{Tree, Trees, node, none, more}
 use Rattle.smt_meaning.specs.Sexp.{Sexp, Sexps, word, group, end, ◌▸◌}
 use Rattle.smt_meaning.specs.TreeShape.{is_linear, is_linear_operation, operation, put, with_parts}
-use Rattle.smt_meaning.specs.Signature.{look_up, is_one_of, is_some, find_function, operators, reserved_functions, takes, operator_sort, sorts_eq}
+use Rattle.smt_meaning.specs.Signature.{look_up, is_one_of, is_some, find_function, operators, reserved_functions, takes, operator_sort, sort_eq, sorts_eq}
 
 -- ---- judging: what it starts from, what it goes through and how it ends
 
@@ -216,6 +216,27 @@ judge_token r vs (Binary cs) = refuse (UnknownSymbol (Binary cs))
 judge_token r vs (Text cs) = refuse (UnknownSymbol (Text cs))
 judge_token r vs _ = refuse WrongArguments
 
+-- ---- (_ divisible n)
+
+-- the number of such a head
+abbrev pub head_number : Sexps → Option ℕ
+head_number (word (Reserved Underscore) ▸ word (Symbol d) ▸ word (Numeral cs) ▸ end) = if bytes_eq d (codes "divisible") then Some (decimal cs) else None
+head_number _ = None
+
+-- it is at least 1
+abbrev pub judge_head : Option ℕ → Judging ℕ
+judge_head None = refuse WrongArguments
+judge_head (Some n) = do
+  require (nat_le 1 n) WrongArguments
+  require (is_small n) NumeralTooLarge
+  return n
+
+abbrev pub judge_divisible : Rules → ℕ → List Typed → Judging Typed
+judge_divisible r n (a ∷ []) = do
+  require (sort_eq a.sort Ints) (SortsDiffer (codes "divisible"))
+  judge_operator r Divisible (more a.tree (more (node (Number (pos n)) none) none)) Truths
+judge_divisible r n ts = refuse (ArgumentCount (codes "divisible"))
+
 -- ---- `let`
 
 abbrev pub cons_name : List ℕ → Option (List (List ℕ)) → Option (List (List ℕ))
@@ -272,6 +293,7 @@ abbrev mutual
   has_free ns (group (word (Reserved Let) ▸ group bs ▸ b ▸ end)) =
       binding_has_free ns bs || has_free (without (names_or_none (bound_names bs)) ns) b
   has_free ns (group (word (Reserved Exclamation) ▸ t ▸ rest)) = has_free ns t
+  has_free ns (group (group hs ▸ ss)) = some_has_free ns ss
   has_free ns (group ss) = some_has_free ns ss
 
   pub some_has_free : List (List ℕ) → Sexps → Bool
@@ -347,6 +369,10 @@ abbrev mutual
     can_be_applied n (known vs n s)
     ts ← judge_all r vs ss
     judge_application r n (known vs n s) ts
+  judge r vs (group (group hs ▸ ss)) = do
+    n ← judge_head (head_number hs)
+    ts ← judge_all r vs ss
+    judge_divisible r n ts
   judge r vs (group _) = refuse WrongArguments
 
   pub judge_all : Rules → List Variable → Sexps → Judging (List Typed)
