@@ -5,7 +5,7 @@ use Rattle.smt_meaning.specs.declared.tokens.Token.TheVariants.{Enter, Leave, Sy
 use Rattle.smt_meaning.specs.declared.tokens.Word.TheVariants.{Exclamation, Let}
 use Rattle.smt_meaning.specs.declared.refusals.Refusal.TheVariants.{WrongArguments, UnknownSymbol}
 use Rattle.smt_meaning.specs.Sexp.{Sexp, Sexps, word, group, end, ◌▸◌, open_lists_of}
-use Rattle.smt_meaning.specs.Sorts.{Judging, ◌>>=◌, ◌>>◌, return, refuse, require, the_scope, Typed, Variable, Rules, Known, known, can_be_applied, judge_application, judge_token, bound_names, check_bindings, are_attributes, has_free, name_by, name_term, judge_attributes, variable_names, judge, judge_all}
+use Rattle.smt_meaning.specs.Sorts.{Judging, ◌>>=◌, ◌>>◌, return, refuse, require, the_scope, Typed, Variable, Rules, Known, known, can_be_applied, judge_application, judge_token, head_number, judge_head, judge_divisible, bound_names, check_bindings, are_attributes, has_free, name_by, name_term, judge_attributes, variable_names, judge, judge_all}
 
 -- ---- where the reading of a term stands
 
@@ -18,6 +18,10 @@ pub data Frame : Type 0 where
   opened : Frame
   -- after the head and some arguments
   application : (name : List ℕ) (head : Known) (arguments : List Typed) → Frame
+  -- in a head that divides by this number, in so many lists of it
+  dividing : (number : ℕ) (depth : ℕ) → Frame
+  -- after such a head and some arguments
+  division : (number : ℕ) (arguments : List Typed) → Frame
   -- after `(let`
   let_open : Frame
   -- among the bindings, after some
@@ -50,6 +54,7 @@ variables (_ ∷ fs) = variables fs
 abbrev pub given : Frame → Typed → Frame
 given (whole vs) a = answer a
 given (application n k ts) a = application n k (ts ++ a ∷ [])
+given (division n ts) a = division n (ts ++ a ∷ [])
 given (binding xs n) a = bound_to xs n a
 given (body xs) a = result a
 given (annotation o) a = attributes a o 0
@@ -100,12 +105,19 @@ attributes_of r a o zero (rest ∷ lists) = judge_attributes r o a rest >> retur
 attributes_of r a o (suc d) (rest ∷ lists) = attributes_of r a o d lists
 attributes_of r a o d [] = refuse WrongArguments
 
+abbrev pub after_head : Rules → List Variable → ℕ → ℕ → List Sexps → Judging Typed
+after_head r vs n zero (hs ∷ (ss ∷ lists)) = judge_all r vs ss >>= judge_divisible r n
+after_head r vs n (suc d) (l ∷ lists) = after_head r vs n d lists
+after_head r vs n d _ = refuse WrongArguments
+
 -- the term of the innermost list
 abbrev pub yields : Rules → Frame → List Variable → List Sexps → Judging Typed
 yields r (whole us) vs ((x ▸ rest) ∷ lists) = judge r us x
 yields r (answer a) vs lists = return a
 yields r opened vs (ss ∷ lists) = judge r vs (group ss)
 yields r (application n k ts) vs (ss ∷ lists) = judge_all r vs ss >>= (λ us. judge_application r n k (ts ++ us))
+yields r (dividing n d) vs lists = after_head r vs n d lists
+yields r (division n ts) vs (ss ∷ lists) = judge_all r vs ss >>= (λ us. judge_divisible r n (ts ++ us))
 yields r let_open vs ((group bs ▸ rest) ∷ lists) = with_taken r vs [] bs (rest ∷ lists)
 yields r (bindings xs) vs (bs ∷ lists) = with_taken r vs xs bs lists
 yields r (binding_open xs) vs (p ∷ lists) = with_binding r vs xs (one_binding r vs p) lists
@@ -127,6 +139,7 @@ drop_lists (suc n) (l ∷ lists) = drop_lists n lists
 abbrev pub below : Frame → List Sexps → List Sexps
 below (whole vs) lists = []
 below (answer a) lists = []
+below (dividing n d) lists = drop_lists (suc (suc d)) lists
 below (bindings xs) lists = drop_lists 2 lists
 below (binding_open xs) lists = drop_lists 3 lists
 below (binding xs n) lists = drop_lists 3 lists
@@ -160,21 +173,28 @@ abbrev pub has_free_first : List Variable → Sexps → Bool
 has_free_first vs (t ▸ rest) = has_free (variable_names vs) t
 has_free_first vs end = false
 
-abbrev pub on_enter : List Frame → Judging (List Frame)
-on_enter (whole vs ∷ fs) = return (opened ∷ whole vs ∷ fs)
-on_enter (answer a ∷ fs) = return (answer a ∷ fs)
-on_enter (application n k ts ∷ fs) = return (opened ∷ application n k ts ∷ fs)
-on_enter (let_open ∷ fs) = return (bindings [] ∷ fs)
-on_enter (bindings xs ∷ fs) = return (binding_open xs ∷ fs)
-on_enter (binding xs n ∷ fs) = return (opened ∷ binding xs n ∷ fs)
-on_enter (body xs ∷ fs) = return (opened ∷ body xs ∷ fs)
-on_enter (annotation o ∷ fs) = return (opened ∷ annotation o ∷ fs)
-on_enter (attributes a o d ∷ fs) = return (attributes a o (suc d) ∷ fs)
-on_enter _ = refuse WrongArguments
+-- a list begins, and what is ahead of it in that list
+abbrev pub on_enter : List Frame → Sexps → Judging (List Frame)
+on_enter (whole vs ∷ fs) ahead = return (opened ∷ whole vs ∷ fs)
+on_enter (answer a ∷ fs) ahead = return (answer a ∷ fs)
+on_enter (opened ∷ fs) ahead = judge_head (head_number ahead) >>= (λ n. return (dividing n 0 ∷ fs))
+on_enter (application n k ts ∷ fs) ahead = return (opened ∷ application n k ts ∷ fs)
+on_enter (dividing n d ∷ fs) ahead = return (dividing n (suc d) ∷ fs)
+on_enter (division n ts ∷ fs) ahead = return (opened ∷ division n ts ∷ fs)
+on_enter (let_open ∷ fs) ahead = return (bindings [] ∷ fs)
+on_enter (bindings xs ∷ fs) ahead = return (binding_open xs ∷ fs)
+on_enter (binding xs n ∷ fs) ahead = return (opened ∷ binding xs n ∷ fs)
+on_enter (body xs ∷ fs) ahead = return (opened ∷ body xs ∷ fs)
+on_enter (annotation o ∷ fs) ahead = return (opened ∷ annotation o ∷ fs)
+on_enter (attributes a o d ∷ fs) ahead = return (attributes a o (suc d) ∷ fs)
+on_enter _ ahead = refuse WrongArguments
 
 abbrev pub on_leave : Rules → List Frame → Judging (List Frame)
 on_leave r (answer a ∷ fs) = return (answer a ∷ fs)
 on_leave r (application n k ts ∷ fs) = judge_application r n k ts >>= (λ a. return (give a fs))
+on_leave r (dividing n zero ∷ fs) = return (division n [] ∷ fs)
+on_leave r (dividing n (suc d) ∷ fs) = return (dividing n d ∷ fs)
+on_leave r (division n ts ∷ fs) = judge_divisible r n ts >>= (λ a. return (give a fs))
 on_leave r (bindings xs ∷ fs) = return (body xs ∷ fs)
 on_leave r (bound_to xs n a ∷ fs) = return (bindings (xs ++ record { name = n; term = a } ∷ []) ∷ fs)
 on_leave r (result a ∷ fs) = return (give a fs)
@@ -211,6 +231,8 @@ on_word r (whole us) vs t ahead = judge_token r us t >>= (λ a. return (answer a
 on_word r (answer a) vs t ahead = return (answer a)
 on_word r opened vs t ahead = on_head r vs t ahead
 on_word r (application n k ts) vs t ahead = judge_token r vs t >>= (λ a. return (application n k (ts ++ a ∷ [])))
+on_word r (dividing n d) vs t ahead = return (dividing n d)
+on_word r (division n ts) vs t ahead = judge_token r vs t >>= (λ a. return (division n (ts ++ a ∷ [])))
 on_word r (binding_open xs) vs t ahead = on_bound_name xs t
 on_word r (binding xs n) vs t ahead = judge_token r vs t >>= (λ a. return (bound_to xs n a))
 on_word r (body xs) vs t ahead = judge_token r (xs ++ vs) t >>= (λ a. return (result a))
@@ -230,7 +252,7 @@ first_list (l ∷ lists) = l
 
 -- the frames after a token, from what is left of the open lists after it
 abbrev pub step : Rules → List Frame → Token → List Sexps → Judging (List Frame)
-step r fs Enter lists = on_enter fs
+step r fs Enter lists = on_enter fs (first_list lists)
 step r fs Leave lists = on_leave r fs
 step r fs t lists = on_words r fs t (first_list lists)
 
