@@ -11,7 +11,7 @@ use Rattle.smt_meaning.specs.Term.{Tree, Trees, node, tree_at}
 use Rattle.smt_meaning.specs.TreeShape.{is_among}
 use Rattle.smt_meaning.specs.Linear.{leaves, leaves_of}
 use Rattle.smt_meaning.specs.Nodes.{pick, tree_of}
-use Rattle.smt_meaning.specs.Proof.{AreTerms, no_terms, next_term}
+use Rattle.proof_meaning.specs.Proof.{AreTerms, no_terms, next_term}
 use Rattle.smt_laws.proofs.Among.{among_append, among_last}
 
 abbrev pub AreAmong : List Tree → List Tree → Type 0

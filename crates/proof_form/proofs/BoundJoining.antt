@@ -6,7 +6,7 @@ use Rattle.std.proofs.lemmas.Nat.Gcd.{dvd_of_mod-eq-zero, mod-eq-zero_of_dvd}
 use Rattle.std.proofs.lemmas.List.{drop_more, drop_all}
 use Rattle.smt_meaning.specs.declared.clauses.Literal.{Literal}
 use Rattle.smt_meaning.specs.declared.clauses.Summand.{Summand}
-use Rattle.smt_meaning.specs.ProofRules.{DividesEach}
+use Rattle.smt_meaning.specs.Atoms.{DividesEach}
 use Rattle.proof_form.specs.Kept.{Kept, KeepsAll, AreCodesOf, IsCodeOf}
 use Rattle.proof_form.specs.BoundCodes.{HaveJoined}
 use Rattle.proof_form.proofs.FarkasKeeping.{no_codes, one_more}

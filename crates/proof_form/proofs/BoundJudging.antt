@@ -9,20 +9,22 @@ use Rattle.smt_meaning.specs.declared.clauses.Summand.{Summand}
 use Rattle.smt_meaning.specs.declared.clauses.Atom.{Atom}
 use Rattle.smt_meaning.specs.declared.clauses.Atom.TheVariants.{AtMost, Same}
 use Rattle.smt_meaning.specs.declared.clauses.Literal.{Literal}
-use Rattle.smt_meaning.specs.declared.proof.Step.TheVariants.{Link, Round}
+use Rattle.proof_meaning.specs.declared.proof.Step.TheVariants.{Link, Round}
 use Rattle.smt_meaning.specs.Declaration.{Declaration}
 use Rattle.smt_meaning.specs.Term.{Tree}
 use Rattle.smt_meaning.specs.Linear.{summand, sum_fits}
 use Rattle.smt_meaning.specs.Atoms.{divided, each_divided}
-use Rattle.smt_meaning.specs.Proof.{AreTerms, IsSummand, IsAtom, IsLiteral, IsIntAt, literal}
-use Rattle.smt_meaning.specs.ProofRules.{DividesEach, IsRound, IsLink, folded_bound, link_clause}
+use Rattle.proof_meaning.specs.Proof.{AreTerms, IsSummand, IsAtom, IsLiteral, IsIntAt, literal}
+use Rattle.smt_meaning.specs.Atoms.{DividesEach}
+use Rattle.proof_meaning.specs.Rules.{IsRound, IsLink, folded_bound, link_clause}
 use Rattle.proof_form.specs.declared.verdict.Verdict.TheVariants.{Good, Wrong, Range}
 use Rattle.proof_form.specs.Comes.{Comes, Stays}
 use Rattle.proof_form.specs.Kept.{Kept, KeepsAll}
 use Rattle.fraction128.specs.Whole.{InRange, is_in_range}
 use Rattle.smt_laws.proofs.Both.{and_left, and_right}
 use Rattle.linear_forms.proofs.SumLemmas.{fits_in_range}
-use Rattle.proof_form.specs.Range.{numbers_fit, atom_fits, is_small, link_fits, LinkLeaves}
+use Rattle.proof_read.specs.Written.{numbers_fit, atom_fits, is_small}
+use Rattle.proof_form.specs.Range.{link_fits, LinkLeaves}
 use Rattle.proof_form.specs.Terms.{ProofTerms}
 use Rattle.proof_form.specs.BoundCodes.{LinksInts, IsDivided, round_clause}
 use Rattle.proof_form.proofs.BoundLeaves.{folded_atom}

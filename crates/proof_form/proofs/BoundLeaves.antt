@@ -18,8 +18,8 @@ use Rattle.smt_meaning.specs.Term.{Tree, Trees, node, none, more, tree_at}
 use Rattle.smt_meaning.specs.TreeShape.{tree_eq, is_among, place_of}
 use Rattle.smt_meaning.specs.Linear.{Form, form_times, form_plus, form_minus, form_product, fold_forms, folded, difference_form, number_form, leaf_form, linear_form, linear_forms, leaves, leaves_of, sums_added}
 use Rattle.smt_meaning.specs.Atoms.{difference_of}
-use Rattle.smt_meaning.specs.Proof.{AreTerms, IsSummand, IsAtom, IsIntAt, is_leaf}
-use Rattle.smt_meaning.specs.ProofRules.{folded_bound}
+use Rattle.proof_meaning.specs.Proof.{AreTerms, IsSummand, IsAtom, IsIntAt, is_leaf}
+use Rattle.proof_meaning.specs.Rules.{folded_bound}
 use Rattle.smt_laws.proofs.Both.{and_left, and_right}
 use Rattle.smt_laws.proofs.Included.{All-included, included_left, included_right}
 use Rattle.smt_laws.proofs.SameTree.{found_again}

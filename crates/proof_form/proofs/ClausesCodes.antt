@@ -5,8 +5,8 @@ use Rattle.std.proofs.lemmas.List.{append-nil, append_assoc, get_or_append_left,
 use Rattle.std.proofs.lemmas.List.Elements.{Contains-append_left, Contains-append_right, Contains-append_cases}
 use Rattle.smt_meaning.specs.declared.clauses.Atom.{Atom}
 use Rattle.smt_meaning.specs.declared.clauses.Literal.{Literal}
-use Rattle.smt_meaning.specs.Proof.{literal}
-use Rattle.smt_meaning.specs.ProofRules.{clause_at}
+use Rattle.proof_meaning.specs.Proof.{literal}
+use Rattle.proof_meaning.specs.Rules.{clause_at}
 use Rattle.atom_form.specs.AtomNumbersAtoms.{Numbers}
 use Rattle.proof_form.specs.Kept.{Kept, IsCodeOf, AreCodesOf, IsKept, AreKept, KeepsAll, GoOn, sign_code}
 use Rattle.proof_form.specs.ClausesLaid.{IsSetOf}

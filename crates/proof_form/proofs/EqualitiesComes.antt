@@ -3,11 +3,12 @@ use Rattle.std.proofs.Common.{◌≡◌, ℕ, zero, suc, true, false, ◌+◌, �
 use Rattle.std.specs.Prelude.{All, Contains}
 use Rattle.std.proofs.lemmas.Bool.{false≢true}
 use Rattle.smt_meaning.specs.declared.clauses.Literal.{Literal}
-use Rattle.smt_meaning.specs.declared.proof.Step.{Step}
+use Rattle.proof_meaning.specs.declared.proof.Step.{Step}
 use Rattle.smt_meaning.specs.Term.{Tree}
-use Rattle.smt_meaning.specs.Proof.{IsLiteral, negated, are_same}
-use Rattle.smt_meaning.specs.ProofRules.{IsByRule, differing}
-use Rattle.proof_form.specs.Range.{RuleLeaves, numbers_fit}
+use Rattle.proof_meaning.specs.Proof.{IsLiteral, negated, are_same}
+use Rattle.proof_meaning.specs.Rules.{IsByRule, differing}
+use Rattle.proof_read.specs.Written.{numbers_fit}
+use Rattle.proof_form.specs.Range.{RuleLeaves}
 use Rattle.proof_form.specs.Terms.{ProofTerms}
 use Rattle.proof_form.specs.Kept.{Kept, KeepsAll, AreCodesOf, GoOn}
 use Rattle.proof_form.specs.Comes.{Comes, Stays}

@@ -5,7 +5,7 @@ use Rattle.std.specs.List.{filter}
 use Rattle.std.specs.List.Sorted.{IsNonDecreasingBy}
 use Rattle.fraction128.specs.declared.ratio.Ratio.{Ratio}
 use Rattle.fraction128.specs.Number.{whole, is_positive, is_zero}
-use Rattle.smt_meaning.specs.declared.proof.Weighted.{Weighted}
+use Rattle.proof_meaning.specs.declared.proof.Weighted.{Weighted}
 use Rattle.smt_laws.proofs.Both.{and_left, and_right, and_both}
 use Rattle.proof_form.specs.declared.farkas_entries.Entry.{Entry}
 use Rattle.proof_form.specs.declared.verdict.Verdict.{Verdict}

@@ -7,18 +7,19 @@ use Rattle.fraction128.specs.Whole.{InRange, is_in_range}
 use Rattle.smt_meaning.specs.declared.clauses.Summand.{Summand}
 use Rattle.smt_meaning.specs.declared.clauses.Atom.{Atom}
 use Rattle.smt_meaning.specs.declared.clauses.Atom.TheVariants.{AtMost, Truth, Same}
-use Rattle.smt_meaning.specs.declared.proof.Weighted.{Weighted}
+use Rattle.proof_meaning.specs.declared.proof.Weighted.{Weighted}
 use Rattle.smt_meaning.specs.Declaration.{Declaration}
 use Rattle.smt_meaning.specs.Term.{Tree}
 use Rattle.smt_meaning.specs.Linear.{Form, summand, sum_fits, sums_added, each_times, sum_times}
-use Rattle.smt_meaning.specs.Proof.{IsSummand, IsAtom}
-use Rattle.smt_meaning.specs.ProofRules.{false_bound}
+use Rattle.proof_meaning.specs.Proof.{IsSummand, IsAtom}
+use Rattle.proof_meaning.specs.Rules.{false_bound}
 use Rattle.smt_laws.proofs.Both.{and_left, and_right, and_both}
 use Rattle.smt_laws.proofs.LinearLaw.{minus_one}
 use Rattle.linear_forms.specs.Sums.{coefficient_of, IsSumWithin, IsSum, signed}
 use Rattle.linear_forms.proofs.FoldLemmas.{negated_in_range}
 use Rattle.linear_forms.proofs.SumLemmas.{sums_added_sum, sums_added_at, same_sums, sum_times_sum, plus_none, fits_in_range, in_range_fits}
-use Rattle.proof_form.specs.Range.{atom_fits, is_small, weights_fit, form_of_weighted, IsWeighted}
+use Rattle.proof_read.specs.Written.{atom_fits, is_small, weights_fit}
+use Rattle.proof_form.specs.Range.{form_of_weighted, IsWeighted}
 use Rattle.proof_form.specs.FarkasSums.{IsMultiple, AreMultiples, signed_sum, atom_sum, atom_constant, weighted_sum}
 
 -- ---- signed sums

@@ -2,17 +2,18 @@
 use Rattle.std.proofs.Common.{◌≡◌, inl, inr, ℕ, true, false, List, [], ◌∷◌, ◌++◌, All, sym, subst, ◌∙◌, refl, Option, Some, None}
 use Rattle.std.proofs.lemmas.List.Elements.{All-nil, All-cons, All-head, All-tail}
 use Rattle.smt_meaning.specs.declared.clauses.Literal.{Literal}
-use Rattle.smt_meaning.specs.declared.proof.Weighted.{Weighted}
-use Rattle.smt_meaning.specs.declared.proof.Step.TheVariants.{Farkas}
+use Rattle.proof_meaning.specs.declared.proof.Weighted.{Weighted}
+use Rattle.proof_meaning.specs.declared.proof.Step.TheVariants.{Farkas}
 use Rattle.smt_meaning.specs.Declaration.{Declaration}
 use Rattle.smt_meaning.specs.Term.{Tree}
 use Rattle.smt_meaning.specs.Linear.{Form}
-use Rattle.smt_meaning.specs.Proof.{IsLiteral}
-use Rattle.smt_meaning.specs.ProofRules.{add_times, total, AreScaled, IsFarkas}
+use Rattle.proof_meaning.specs.Proof.{IsLiteral}
+use Rattle.proof_meaning.specs.Rules.{add_times, total, AreScaled, IsFarkas}
 use Rattle.proof_form.specs.declared.verdict.Verdict.TheVariants.{Good, Wrong, Range}
 use Rattle.proof_form.specs.Comes.{Comes, Stays}
 use Rattle.proof_form.specs.Kept.{Kept, KeepsAll}
-use Rattle.proof_form.specs.Range.{numbers_fit, IsWeighted, form_of_weighted, FarkasLeaves}
+use Rattle.proof_read.specs.Written.{numbers_fit}
+use Rattle.proof_form.specs.Range.{IsWeighted, form_of_weighted, FarkasLeaves}
 use Rattle.proof_form.specs.Terms.{ProofTerms}
 use Rattle.proof_form.specs.FarkasSums.{ComeTo, literals_of}
 

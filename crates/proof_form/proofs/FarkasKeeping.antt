@@ -5,7 +5,7 @@ use Rattle.std.proofs.lemmas.List.{take_more, take_all, map-append}
 use Rattle.std.proofs.lemmas.List.Elements.{Contains-push, Contains-push_cases, Contains-append_left}
 use Rattle.smt_meaning.specs.declared.clauses.Atom.{Atom}
 use Rattle.smt_meaning.specs.declared.clauses.Literal.{Literal}
-use Rattle.smt_meaning.specs.declared.proof.Weighted.{Weighted}
+use Rattle.proof_meaning.specs.declared.proof.Weighted.{Weighted}
 use Rattle.proof_form.specs.Kept.{Kept, KeepsAll, IsCodeOf, AreCodesOf}
 use Rattle.proof_form.specs.FarkasSums.{literals_of}
 

@@ -6,7 +6,7 @@ use Rattle.fraction128.specs.declared.ratio.Ratio.{Ratio}
 use Rattle.fraction128.specs.Listed.{sum_of}
 use Rattle.fraction128.specs.Number.{whole}
 use Rattle.smt_meaning.specs.declared.clauses.Summand.{Summand}
-use Rattle.smt_meaning.specs.declared.proof.Weighted.{Weighted}
+use Rattle.proof_meaning.specs.declared.proof.Weighted.{Weighted}
 use Rattle.smt_meaning.specs.Linear.{summand}
 use Rattle.linear_forms.specs.Sums.{signed}
 use Rattle.proof_form.specs.Range.{multiplier}

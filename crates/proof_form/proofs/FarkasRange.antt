@@ -9,7 +9,7 @@ use Rattle.fraction128.specs.declared.ratio.Ratio.{Ratio}
 use Rattle.fraction128.specs.Listed.{sum_of, sum_steps, product_steps}
 use Rattle.fraction128.specs.Number.{whole}
 use Rattle.smt_meaning.specs.declared.clauses.Summand.{Summand}
-use Rattle.smt_meaning.specs.declared.proof.Weighted.{Weighted}
+use Rattle.proof_meaning.specs.declared.proof.Weighted.{Weighted}
 use Rattle.smt_meaning.specs.Linear.{Form, sum_fits, form_fits}
 use Rattle.smt_laws.proofs.Both.{and_left, and_right, and_both}
 use Rattle.proof_form.specs.Range.{AddsFit, of_leaf, multiplier, leaf_multiples, constant_multiples, leaf_terms, constant_terms, FormFits}

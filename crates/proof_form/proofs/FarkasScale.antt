@@ -17,9 +17,9 @@ use Rattle.fraction128.proofs.RationalOrder.{mul_mono, mul_strict, none_times}
 use Rattle.fraction128.proofs.ExactSteps.{sum_same, sum_positive, product_same, product_positive}
 use Rattle.smt_meaning.specs.declared.clauses.Summand.{Summand}
 use Rattle.smt_meaning.specs.declared.clauses.Literal.{Literal}
-use Rattle.smt_meaning.specs.declared.proof.Weighted.{Weighted}
+use Rattle.proof_meaning.specs.declared.proof.Weighted.{Weighted}
 use Rattle.smt_meaning.specs.Linear.{Form, sums_added, sum_times, form_plus, form_times, number_form}
-use Rattle.smt_meaning.specs.ProofRules.{add_times, total, AreScaled, IsFarkas}
+use Rattle.proof_meaning.specs.Rules.{add_times, total, AreScaled, IsFarkas}
 use Rattle.linear_forms.specs.Sums.{coefficient_of, IsSumWithin, IsSum}
 use Rattle.linear_forms.proofs.SumLemmas.{at_first, past_first, same_sums, sums_added_sum, sums_added_at, sum_times_sum, sum_times_at}
 use Rattle.proof_form.specs.Range.{lowest, multiplier, of_leaf, leaf_multiples, leaf_terms}

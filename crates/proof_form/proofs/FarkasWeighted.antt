@@ -4,12 +4,12 @@ use Rattle.std.specs.Prelude.{IsTrue}
 use Rattle.std.proofs.lemmas.Bool.{ltb-true}
 use Rattle.smt_meaning.specs.declared.clauses.Atom.{Atom}
 use Rattle.smt_meaning.specs.declared.clauses.Atom.TheVariants.{AtMost, Truth, Same}
-use Rattle.smt_meaning.specs.declared.proof.Weighted.{Weighted}
+use Rattle.proof_meaning.specs.declared.proof.Weighted.{Weighted}
 use Rattle.smt_meaning.specs.Declaration.{Declaration}
 use Rattle.smt_meaning.specs.Term.{Tree}
 use Rattle.smt_meaning.specs.Linear.{Form}
-use Rattle.smt_meaning.specs.Proof.{IsLiteral}
-use Rattle.smt_meaning.specs.ProofRules.{false_bound}
+use Rattle.proof_meaning.specs.Proof.{IsLiteral}
+use Rattle.proof_meaning.specs.Rules.{false_bound}
 use Rattle.smt_laws.proofs.Both.{and_left, and_right}
 use Rattle.proof_form.specs.Range.{IsWeighted}
 use Rattle.proof_form.specs.FarkasSums.{is_bound, multiplies_bound}

@@ -3,14 +3,14 @@ use Rattle.std.proofs.Common.{◌≡◌, inl, inr, ℕ, List, [], ◌∷◌, ◌
 use Rattle.std.proofs.lemmas.List.{append-nil}
 use Rattle.std.specs.declared.alloc.AllocError.{AllocError}
 use Rattle.smt_meaning.specs.declared.clauses.Literal.{Literal}
-use Rattle.smt_meaning.specs.declared.proof.Step.{Step}
+use Rattle.proof_meaning.specs.declared.proof.Step.{Step}
 use Rattle.smt_meaning.specs.Declaration.{Declaration}
 use Rattle.smt_meaning.specs.Sexp.{Sexp, Sexps}
 use Rattle.smt_meaning.specs.Term.{Tree}
 use Rattle.smt_meaning.specs.Stack.{Frame, signature_of, assertions_of}
-use Rattle.smt_meaning.specs.Proof.{AreTerms}
-use Rattle.smt_meaning.specs.ProofRules.{Gives, Runs}
-use Rattle.smt_meaning.specs.ProofReading.{node_read, lists_of, listed, AreRead, IsWrongNode}
+use Rattle.proof_meaning.specs.Proof.{AreTerms}
+use Rattle.proof_meaning.specs.Rules.{Gives, Runs}
+use Rattle.proof_meaning.specs.Reading.{node_read, lists_of, listed, AreRead, IsWrongNode}
 use Rattle.proof_form.specs.Range.{LeavesRange}
 use Rattle.proof_form.specs.Terms.{ProofTerms}
 use Rattle.proof_form.specs.Asserted.{asserted_at}

@@ -16,8 +16,8 @@ use Rattle.smt_meaning.specs.declared.clauses.Atom.TheVariants.{Truth, Same}
 use Rattle.smt_meaning.specs.Declaration.{Declaration}
 use Rattle.smt_meaning.specs.Term.{Tree, tree_at, truth_of, bool_eq, xor, implies, on_truths, fold_left, fold_right, chain_from, same_value, differ, with_each, pairwise, operate}
 use Rattle.smt_meaning.specs.Signature.{tree_sort, if_so, all_of, all_the_same, operator_sort}
-use Rattle.smt_meaning.specs.Proof.{IsBoolAt, IsIntAt}
-use Rattle.smt_meaning.specs.ProofRules.{HasParts, of_bools, of_equal, of_distinct, of_at_most, of_less, of_at_least, of_greater, IsOtherAt, along, not_above, below, turned, pairs, truths, every, no_one}
+use Rattle.proof_meaning.specs.Proof.{IsBoolAt, IsIntAt}
+use Rattle.proof_meaning.specs.Rules.{HasParts, of_bools, of_equal, of_distinct, of_at_most, of_less, of_at_least, of_greater, IsOtherAt, along, not_above, below, turned, pairs, truths, every, no_one}
 use Rattle.proof_form.specs.declared.form_values.Connective.TheVariants as connective
 use Rattle.proof_form.specs.declared.form_parts.Relation.TheVariants as relation
 use Rattle.proof_form.specs.FormValues.{itself, is_odd, implied_from, choice_of, connective_value}

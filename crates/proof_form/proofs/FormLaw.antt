@@ -9,8 +9,8 @@ use Rattle.smt_meaning.specs.declared.clauses.Atom.TheVariants.{Truth}
 use Rattle.smt_meaning.specs.declared.clauses.Literal.{Literal}
 use Rattle.smt_meaning.specs.Declaration.{Declaration}
 use Rattle.smt_meaning.specs.Term.{Tree}
-use Rattle.smt_meaning.specs.Proof.{node_at}
-use Rattle.smt_meaning.specs.ProofRules.{HasParts, IsForm, every, no_one, pairs, along}
+use Rattle.proof_meaning.specs.Proof.{node_at}
+use Rattle.proof_meaning.specs.Rules.{HasParts, IsForm, every, no_one, pairs, along}
 use Rattle.proof_form.specs.declared.verdict.Verdict.{Verdict}
 use Rattle.proof_form.specs.declared.verdict.Verdict.TheVariants.{Good, Wrong, Range}
 use Rattle.proof_form.specs.declared.form_values.Connective.{Connective}

@@ -12,7 +12,7 @@ use Rattle.smt_meaning.specs.declared.clauses.Atom.TheVariants.{Truth, AtMost, S
 use Rattle.smt_meaning.specs.declared.clauses.Literal.{Literal}
 use Rattle.smt_meaning.specs.Term.{int_eq}
 use Rattle.smt_meaning.specs.Clause.{signed}
-use Rattle.smt_meaning.specs.ProofRules.{some_by}
+use Rattle.proof_meaning.specs.Rules.{some_by}
 use Rattle.proof_form.specs.declared.form_values.Connective.{Connective}
 use Rattle.proof_form.specs.Kept.{Kept, sign_code, IsCodeOf, AreCodesOf, AreApart}
 use Rattle.proof_form.specs.FormValues.{connective_value, AreFalse, IsAmong, IsAlways, IsSometimesFalse}

@@ -8,7 +8,7 @@ use Rattle.smt_meaning.specs.declared.clauses.Atom.TheVariants.{Truth}
 use Rattle.smt_meaning.specs.declared.clauses.Summand.{Summand}
 use Rattle.smt_meaning.specs.Term.{Tree}
 use Rattle.smt_meaning.specs.Atoms.{normal_bound}
-use Rattle.smt_meaning.specs.ProofRules.{along, along_from}
+use Rattle.proof_meaning.specs.Rules.{along, along_from}
 use Rattle.proof_form.specs.declared.form_parts.Relation.{Relation}
 use Rattle.proof_form.specs.declared.form_parts.Relation.TheVariants.{Equal, AtMost as IsAtMost, Less, AtLeast, Greater}
 use Rattle.proof_form.specs.Range.{neighbours_fit, neighbours_fit_from}

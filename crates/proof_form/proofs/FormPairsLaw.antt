@@ -5,8 +5,8 @@ use Rattle.std.proofs.lemmas.List.Elements.{All-head, All-tail, All-weaker, All-
 use Rattle.smt_meaning.specs.declared.clauses.Atom.{Atom}
 use Rattle.smt_meaning.specs.declared.clauses.Atom.TheVariants.{Truth, Same, AtMost}
 use Rattle.smt_meaning.specs.declared.clauses.Literal.{Literal}
-use Rattle.smt_meaning.specs.ProofRules.{pairs, no_one}
-use Rattle.smt_meaning.specs.Proof.{literal}
+use Rattle.proof_meaning.specs.Rules.{pairs, no_one}
+use Rattle.proof_meaning.specs.Proof.{literal}
 use Rattle.proof_form.specs.Kept.{sign_code, IsCodeOf, AreCodesOf, AreApart}
 use Rattle.proof_form.specs.FormValues.{chosen, AreFalse, HasNoClash, IsFree, IsGiven}
 use Rattle.proof_form.specs.FormParts.{IsNumberOf, AreOnParts, AreTrueBy}

@@ -8,8 +8,8 @@ use Rattle.std.proofs.lemmas.List.Elements.{All-push, All-weaker, Contains-push,
 use Rattle.std.proofs.lemmas.List.Quantifiers.{all_pairs_push}
 use Rattle.smt_meaning.specs.declared.clauses.Atom.{Atom}
 use Rattle.smt_meaning.specs.declared.clauses.Atom.TheVariants.{Same}
-use Rattle.smt_meaning.specs.ProofRules.{pairs, with_others}
-use Rattle.smt_meaning.specs.Proof.{literal}
+use Rattle.proof_meaning.specs.Rules.{pairs, with_others}
+use Rattle.proof_meaning.specs.Proof.{literal}
 use Rattle.proof_form.specs.Kept.{Kept}
 use Rattle.proof_form.specs.FormParts.{Extends}
 use Rattle.proof_form.specs.FormPairs.{IsFirstPlace, AreFirstPlaces, IsPairBy, IsBackward, IsPositive, HasPairs}

@@ -14,8 +14,8 @@ use Rattle.smt_meaning.specs.Declaration.{Declaration}
 use Rattle.smt_meaning.specs.Term.{Tree, Trees, node, none, more, tree_at}
 use Rattle.smt_meaning.specs.Nodes.{pick, tree_of}
 use Rattle.smt_meaning.specs.Signature.{tree_sort, tree_sorts, with_sorts, cons_sort, operator_sort, ite_sort, if_so, all_of, all_the_same, sort_eq, stands_with}
-use Rattle.smt_meaning.specs.Proof.{AreTerms, no_terms, next_term, IsTerm, node_at, IsBoolAt, IsIntAt}
-use Rattle.smt_meaning.specs.ProofRules.{IsOtherAt}
+use Rattle.proof_meaning.specs.Proof.{AreTerms, no_terms, next_term, IsTerm, node_at, IsBoolAt, IsIntAt}
+use Rattle.proof_meaning.specs.Rules.{IsOtherAt}
 
 -- ---- the tree of a term
 

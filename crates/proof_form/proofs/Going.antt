@@ -6,18 +6,18 @@ use Rattle.std.specs.declared.alloc.AllocError.{AllocError}
 use Rattle.smt_meaning.specs.declared.nodes.Node.{Node}
 use Rattle.smt_meaning.specs.declared.clauses.Atom.{Atom}
 use Rattle.smt_meaning.specs.declared.clauses.Literal.{Literal}
-use Rattle.smt_meaning.specs.declared.proof.Step.{Step}
+use Rattle.proof_meaning.specs.declared.proof.Step.{Step}
 use Rattle.smt_meaning.specs.Declaration.{Declaration}
 use Rattle.smt_meaning.specs.declared.tokens.Token.{Token}
 use Rattle.smt_meaning.specs.Sexp.{Sexp, ◌▸◌, end}
 use Rattle.look_ahead.specs.Ahead.{ahead}
 use Rattle.smt_meaning.specs.Term.{Tree}
-use Rattle.smt_meaning.specs.Proof.{IsTerm, AreTerms, no_terms, next_term, IsLiteral}
-use Rattle.smt_meaning.specs.ProofRules.{no_steps, next_step}
-use Rattle.smt_meaning.specs.ProofReading.{node_read, step_read, listed, AreRead}
-use Rattle.proof_form.specs.Range.{numbers_fit}
-use Rattle.proof_form.specs.Reads.{IsReadStep, IsNoNode, places_near}
-use Rattle.proof_form.specs.declared.read.ReadStep.TheVariants.{Wrong as ReadWrong, Large as ReadLarge}
+use Rattle.proof_meaning.specs.Proof.{IsTerm, AreTerms, no_terms, next_term, IsLiteral}
+use Rattle.proof_meaning.specs.Rules.{no_steps, next_step}
+use Rattle.proof_meaning.specs.Reading.{node_read, step_read, listed, AreRead}
+use Rattle.proof_read.specs.Written.{numbers_fit}
+use Rattle.proof_read.specs.Reads.{IsReadStep, IsNoNode, places_near}
+use Rattle.proof_read.specs.declared.read.ReadStep.TheVariants.{Wrong as ReadWrong, Large as ReadLarge}
 use Rattle.proof_form.specs.Terms.{ProofTerms, with_term}
 use Rattle.proof_form.specs.Kept.{Kept, KeepsAll, AreKept, IsKept}
 use Rattle.proof_form.specs.Asserted.{asserted_at}

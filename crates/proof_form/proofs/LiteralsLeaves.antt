@@ -11,7 +11,7 @@ use Rattle.smt_meaning.specs.Declaration.{Declaration}
 use Rattle.smt_meaning.specs.Term.{Tree, node, none, tree_at}
 use Rattle.smt_meaning.specs.TreeShape.{is_constant_head}
 use Rattle.smt_meaning.specs.Nodes.{tree_of}
-use Rattle.smt_meaning.specs.Proof.{AreTerms, no_terms, next_term, node_at, is_leaf}
+use Rattle.proof_meaning.specs.Proof.{AreTerms, no_terms, next_term, node_at, is_leaf}
 
 abbrev no_tree : Tree
 no_tree = node (Theory False) none

@@ -6,17 +6,17 @@ use Rattle.smt_meaning.specs.declared.clauses.Summand.{Summand}
 use Rattle.smt_meaning.specs.declared.clauses.Atom.{Atom}
 use Rattle.smt_meaning.specs.declared.clauses.Atom.TheVariants.{Truth, AtMost, Same}
 use Rattle.smt_meaning.specs.declared.clauses.Literal.{Literal}
-use Rattle.smt_meaning.specs.declared.proof.Weighted.{Weighted}
-use Rattle.smt_meaning.specs.declared.proof.Step.{Step}
-use Rattle.smt_meaning.specs.declared.proof.Step.TheVariants.{Assert, Form as FormStep, Pick, Euclid, Refl, Sym, Trans, Cong, Truth as TruthStep, Both, Neither, Link, Round, Farkas, Res}
+use Rattle.proof_meaning.specs.declared.proof.Weighted.{Weighted}
+use Rattle.proof_meaning.specs.declared.proof.Step.{Step}
+use Rattle.proof_meaning.specs.declared.proof.Step.TheVariants.{Assert, Form as FormStep, Pick, Euclid, Refl, Sym, Trans, Cong, Truth as TruthStep, Both, Neither, Link, Round, Farkas, Res}
 use Rattle.smt_meaning.specs.Declaration.{Declaration}
 use Rattle.smt_meaning.specs.Sexp.{Sexp}
 use Rattle.smt_meaning.specs.Term.{Tree}
-use Rattle.smt_meaning.specs.Proof.{IsTerm, IsSummand, IsLiteral, IsAtom, literal, negated, is_true, are_same}
-use Rattle.smt_meaning.specs.ProofRules.{Gives, clause_at, sym_clause, trans_clause, truth_clause, both_clause, neither_clause}
-use Rattle.smt_meaning.specs.ProofReading.{AreRead}
+use Rattle.proof_meaning.specs.Proof.{IsTerm, IsSummand, IsLiteral, IsAtom, literal, negated, is_true, are_same}
+use Rattle.proof_meaning.specs.Rules.{Gives, clause_at, sym_clause, trans_clause, truth_clause, both_clause, neither_clause}
+use Rattle.proof_meaning.specs.Reading.{AreRead}
 use Rattle.proof_form.specs.Range.{RuleLeaves, IsWeighted}
-use Rattle.proof_form.specs.Reads.{is_term_number, is_step_number, leaves_near, atom_near, literals_near, weights_near, numbers_near, places_near}
+use Rattle.proof_read.specs.Reads.{is_term_number, is_step_number, leaves_near, atom_near, literals_near, weights_near, numbers_near, places_near}
 use Rattle.proof_form.specs.Terms.{ProofTerms}
 use Rattle.proof_form.specs.Comes.{AreLiterals}
 

@@ -5,10 +5,10 @@ use Rattle.std.proofs.lemmas.Bool.{false≢true, cases_lt, cases_eq}
 use Rattle.std.proofs.lemmas.List.Elements.{All-contains, All-get_or, Contains-get_or, Contains-append_left, Contains-append_right, Contains-push}
 use Rattle.smt_meaning.specs.declared.clauses.Atom.{Atom}
 use Rattle.smt_meaning.specs.declared.clauses.Literal.{Literal}
-use Rattle.smt_meaning.specs.declared.proof.Step.TheVariants.{Res}
+use Rattle.proof_meaning.specs.declared.proof.Step.TheVariants.{Res}
 use Rattle.smt_meaning.specs.Term.{Tree}
-use Rattle.smt_meaning.specs.Proof.{IsLiteral, literal, negated}
-use Rattle.smt_meaning.specs.ProofRules.{IsResolution, IsEarlierResolution, clause_at}
+use Rattle.proof_meaning.specs.Proof.{IsLiteral, literal, negated}
+use Rattle.proof_meaning.specs.Rules.{IsResolution, IsEarlierResolution, clause_at}
 use Rattle.proof_form.specs.Terms.{ProofTerms}
 use Rattle.proof_form.specs.Kept.{Kept, KeepsAll, IsCodeOf, AreCodesOf, IsKept, AreApart, sign_code}
 use Rattle.proof_form.specs.Comes.{Comes, GoesOn, Stays, AreLiterals}

@@ -15,8 +15,8 @@ use Rattle.smt_meaning.specs.TreeShape.{place_of}
 use Rattle.smt_meaning.specs.Linear.{Form, folding_fits, sum_fits}
 use Rattle.smt_meaning.specs.Atoms.{difference_of, at_most_atom, below_atom}
 use Rattle.smt_meaning.specs.Nodes.{pick, tree_of, trees_of}
-use Rattle.smt_meaning.specs.Proof.{AreTerms, no_terms, next_term, node_at}
-use Rattle.smt_meaning.specs.ProofRules.{not_above, below, folded_bound}
+use Rattle.proof_meaning.specs.Proof.{AreTerms, no_terms, next_term, node_at}
+use Rattle.proof_meaning.specs.Rules.{not_above, below, folded_bound}
 use Rattle.smt_laws.proofs.Among.{Among, among_append, among_last}
 use Rattle.smt_laws.proofs.SameTree.{found_again}
 use Rattle.term_store.proofs.PlaceLemmas.{place_of-within, place_of-is}

@@ -9,7 +9,7 @@ use Rattle.smt_meaning.specs.Declaration.{Declaration}
 use Rattle.smt_meaning.specs.Term.{Tree, node}
 use Rattle.smt_meaning.specs.TreeShape.{is_constant_head}
 use Rattle.smt_meaning.specs.Nodes.{pick, tree_of, trees_of}
-use Rattle.smt_meaning.specs.Proof.{IsTerm, no_terms}
+use Rattle.proof_meaning.specs.Proof.{IsTerm, no_terms}
 use Rattle.smt_laws.proofs.Both.{and_left, and_right, and_both}
 use Rattle.term_store.specs.Terms.{tree_with}
 use Rattle.linear_forms.specs.Table.{AreForms}

@@ -13,7 +13,7 @@ use Rattle.smt_meaning.specs.Term.{Tree, Trees, node, none, more, tree_at}
 use Rattle.smt_meaning.specs.TreeShape.{tree_eq, place_of, is_constant_head, is_constant, are_constant, at_most_one_varies, is_linear_at, is_linear, are_linear}
 use Rattle.smt_meaning.specs.Signature.{cons_sort, with_sorts, head_sort, tree_sort, tree_sorts}
 use Rattle.smt_meaning.specs.Nodes.{pick, tree_of, trees_of}
-use Rattle.smt_meaning.specs.Proof.{IsTerm, AreTerms, next_term}
+use Rattle.proof_meaning.specs.Proof.{IsTerm, AreTerms, next_term}
 use Rattle.smt_laws.proofs.SameTree.{tree_eq-true, tree_eq-self}
 use Rattle.smt_laws.proofs.Both.{and_both}
 use Rattle.term_store.specs.Terms.{IsPlace, IsNew, AreComplete}

@@ -4,8 +4,8 @@ use Rattle.smt_meaning.specs.declared.clauses.Literal.{Literal}
 use Rattle.smt_meaning.specs.declared.clauses.Summand.{Summand}
 use Rattle.smt_meaning.specs.declared.clauses.Atom.TheVariants.{AtMost}
 use Rattle.smt_meaning.specs.Atoms.{divided, each_divided}
-use Rattle.smt_meaning.specs.Proof.{IsIntAt, literal}
-use Rattle.smt_meaning.specs.ProofRules.{DividesEach}
+use Rattle.proof_meaning.specs.Proof.{IsIntAt, literal}
+use Rattle.smt_meaning.specs.Atoms.{DividesEach}
 use Rattle.proof_form.specs.Terms.{ProofTerms}
 use Rattle.proof_form.specs.Kept.{Kept, KeepsAll, AreCodesOf}
 

@@ -1,10 +1,10 @@
 -- What a step comes to.
 use Rattle.std.specs.Prelude.{◌++◌, ◌∷◌, [], List, All}
 use Rattle.smt_meaning.specs.declared.clauses.Literal.{Literal}
-use Rattle.smt_meaning.specs.declared.proof.Step.{Step}
+use Rattle.proof_meaning.specs.declared.proof.Step.{Step}
 use Rattle.smt_meaning.specs.Term.{Tree}
-use Rattle.smt_meaning.specs.Proof.{IsLiteral}
-use Rattle.smt_meaning.specs.ProofRules.{Gives}
+use Rattle.proof_meaning.specs.Proof.{IsLiteral}
+use Rattle.proof_meaning.specs.Rules.{Gives}
 use Rattle.proof_form.specs.Range.{LeavesRange}
 use Rattle.proof_form.specs.Terms.{ProofTerms}
 use Rattle.proof_form.specs.Kept.{Kept, KeepsAll}

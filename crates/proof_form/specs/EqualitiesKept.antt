@@ -2,8 +2,8 @@
 use Rattle.std.specs.Prelude.{◌++◌, ◌∷◌, [], ℕ, List, All}
 use Rattle.smt_meaning.specs.declared.clauses.Literal.{Literal}
 use Rattle.smt_meaning.specs.declared.nodes.Node.{Node}
-use Rattle.smt_meaning.specs.Proof.{IsLiteral, node_at, are_same}
-use Rattle.smt_meaning.specs.ProofRules.{differing}
+use Rattle.proof_meaning.specs.Proof.{IsLiteral, node_at, are_same}
+use Rattle.proof_meaning.specs.Rules.{differing}
 use Rattle.proof_form.specs.Terms.{ProofTerms}
 use Rattle.proof_form.specs.Kept.{Kept, KeepsAll}
 use Rattle.proof_form.specs.declared.verdict.Verdict.{Verdict}

@@ -9,9 +9,9 @@ use Rattle.smt_meaning.specs.declared.clauses.Summand.{Summand}
 use Rattle.smt_meaning.specs.declared.clauses.Atom.{Atom}
 use Rattle.smt_meaning.specs.declared.clauses.Atom.TheVariants.{AtMost}
 use Rattle.smt_meaning.specs.declared.clauses.Literal.{Literal}
-use Rattle.smt_meaning.specs.declared.proof.Weighted.{Weighted}
+use Rattle.proof_meaning.specs.declared.proof.Weighted.{Weighted}
 use Rattle.smt_meaning.specs.Linear.{summand, sum_fits}
-use Rattle.smt_meaning.specs.ProofRules.{IsFarkas}
+use Rattle.proof_meaning.specs.Rules.{IsFarkas}
 use Rattle.linear_forms.specs.Sums.{IsSum, signed}
 use Rattle.proof_form.specs.Range.{multiplier, SumsFit}
 use Rattle.proof_form.specs.declared.farkas_entries.Entry.{Entry}

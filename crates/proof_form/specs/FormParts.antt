@@ -7,7 +7,7 @@ use Rattle.smt_meaning.specs.declared.clauses.Atom.TheVariants.{Truth, Same}
 use Rattle.smt_meaning.specs.declared.clauses.Literal.{Literal}
 use Rattle.smt_meaning.specs.Declaration.{Declaration}
 use Rattle.smt_meaning.specs.Term.{Tree, operate, truth_of}
-use Rattle.smt_meaning.specs.ProofRules.{HasParts, IsForm, along, not_above, below, turned, pairs, truths, every, no_one, some_by}
+use Rattle.proof_meaning.specs.Rules.{HasParts, IsForm, along, not_above, below, turned, pairs, truths, every, no_one, some_by}
 use Rattle.proof_form.specs.declared.verdict.Verdict.{Verdict}
 use Rattle.proof_form.specs.declared.verdict.Verdict.TheVariants.{Good, Wrong, Range}
 use Rattle.proof_form.specs.declared.form_values.Connective.{Connective}

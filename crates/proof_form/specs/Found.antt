@@ -2,13 +2,13 @@
 use Rattle.std.specs.Prelude.{◌≡◌, ◌⊎◌, ℕ, List, [], ◌∷◌, ◌++◌, length, All, Some, None}
 use Rattle.smt_meaning.specs.declared.nodes.Node.{Node}
 use Rattle.smt_meaning.specs.declared.clauses.Literal.{Literal}
-use Rattle.smt_meaning.specs.declared.proof.Step.{Step}
+use Rattle.proof_meaning.specs.declared.proof.Step.{Step}
 use Rattle.smt_meaning.specs.Sexp.{Sexp, Sexps}
 use Rattle.smt_meaning.specs.Term.{Tree}
 use Rattle.smt_meaning.specs.Stack.{Frame, signature_of, assertions_of}
-use Rattle.smt_meaning.specs.Proof.{AreTerms}
-use Rattle.smt_meaning.specs.ProofRules.{Gives, Runs}
-use Rattle.smt_meaning.specs.ProofReading.{node_read, step_read, lists_of, listed, AreRead, IsWrongNode}
+use Rattle.proof_meaning.specs.Proof.{AreTerms}
+use Rattle.proof_meaning.specs.Rules.{Gives, Runs}
+use Rattle.proof_meaning.specs.Reading.{node_read, step_read, lists_of, listed, AreRead, IsWrongNode}
 use Rattle.proof_form.specs.Range.{LeavesRange}
 use Rattle.proof_form.specs.declared.found.Found.{Found}
 use Rattle.proof_form.specs.declared.found.Found.TheVariants.{Yes, Node as WrongNode, No, Range, NoProof}

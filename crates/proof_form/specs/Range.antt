@@ -1,5 +1,6 @@
 -- Where the numbers of a step of a proof leave the range from -(2^127 - 1) to 2^127 - 1.
-use Rattle.std.specs.Prelude.{◌≡◌, ◌⊎◌, ◌<◌, ◌/◌, zero, suc, ℕ, ℤ, pos, Bool, true, false, ◌&&◌, List, [], ◌∷◌, ◌++◌, length, All, Option, Some, None, nat_eq, if◌then◌else◌}
+use Rattle.std.specs.Prelude.{◌≡◌, ◌⊎◌, ◌<◌, ◌/◌, zero, suc, ℕ, ℤ, pos, Bool, true, false, ◌&&◌, List, [], ◌∷◌, ◌++◌, length, All, slice_get, Option, Some, None, nat_eq, if◌then◌else◌}
+use Rattle.std.specs.List.{list_all}
 use Rattle.fraction128.specs.Whole.{is_in_range, first_outside}
 use Rattle.fraction128.specs.Gcd.{gcd_of}
 use Rattle.fraction128.specs.declared.ratio.Ratio.{Ratio}
@@ -13,40 +14,17 @@ use Rattle.smt_meaning.specs.declared.clauses.Summand.{Summand}
 use Rattle.smt_meaning.specs.declared.clauses.Atom.{Atom}
 use Rattle.smt_meaning.specs.declared.clauses.Atom.TheVariants.{AtMost}
 use Rattle.smt_meaning.specs.declared.clauses.Literal.{Literal}
-use Rattle.smt_meaning.specs.declared.proof.Weighted.{Weighted}
-use Rattle.smt_meaning.specs.declared.proof.Step.{Step}
-use Rattle.smt_meaning.specs.declared.proof.Step.TheVariants.{Form as FormStep, Link, Round, Farkas, Res}
+use Rattle.proof_meaning.specs.declared.proof.Weighted.{Weighted}
+use Rattle.proof_meaning.specs.declared.proof.Step.{Step}
+use Rattle.proof_meaning.specs.declared.proof.Step.TheVariants.{Form as FormStep, Euclid, Link, Round, Farkas, Res}
 use Rattle.smt_meaning.specs.Declaration.{Declaration}
 use Rattle.smt_meaning.specs.Term.{Tree, tree_at}
-use Rattle.smt_meaning.specs.Linear.{Form, sum_fits, form_fits}
-use Rattle.smt_meaning.specs.Proof.{node_at, IsIntAt, IsLiteral}
-use Rattle.smt_meaning.specs.ProofRules.{false_bound}
+use Rattle.smt_meaning.specs.Linear.{Form, folding_fits, form_fits}
+use Rattle.smt_meaning.specs.Division.{Limit, Row, limit_fits}
+use Rattle.proof_meaning.specs.Proof.{node_at, IsIntAt, IsLiteral}
+use Rattle.proof_meaning.specs.Rules.{form_at, HasRows, false_bound}
+use Rattle.proof_read.specs.Written.{numbers_fit}
 use Rattle.pair_bounds.specs.Pairs.{at_most_fits, below_fits}
-
--- ---- numbers that are written
-
-abbrev pub is_small : ℕ → Bool
-is_small n = is_in_range (pos n)
-
-abbrev pub atom_fits : Atom → Bool
-atom_fits (AtMost ps k) = sum_fits ps && is_in_range k
-atom_fits a = true
-
-abbrev pub literals_fit : List Literal → Bool
-literals_fit [] = true
-literals_fit (l ∷ ls) = atom_fits l.atom && literals_fit ls
-
-abbrev pub weights_fit : List Weighted → Bool
-weights_fit [] = true
-weights_fit (w ∷ ws) = (is_small w.numerator && (is_small w.denominator && atom_fits w.literal.atom)) && weights_fit ws
-
--- coefficients, limits, multipliers and divisors that a step writes are in the range
-abbrev pub numbers_fit : Step → Bool
-numbers_fit (FormStep i ls) = literals_fit ls
-numbers_fit (Round l g) = atom_fits l.atom && is_small g
-numbers_fit (Farkas ws) = weights_fit ws
-numbers_fit (Res p q l) = atom_fits l.atom
-numbers_fit s = true
 
 -- ---- comparisons and links
 
@@ -91,6 +69,28 @@ pub record LinkLeaves (ds : List Declaration) (ts : List Tree) (i j which : ℕ)
   pub left : IsIntAt ds ts i
   pub right : IsIntAt ds ts j
   pub outside : link_fits ts i j which ≡ false
+
+-- ---- divisions
+
+abbrev pub terms_fit : List Tree → List (ℤ × ℕ) → Bool
+terms_fit ts [] = true
+terms_fit ts (m ∷ ms) = folding_fits ts (tree_at ts m.1) && terms_fit ts ms
+
+-- folding the terms of a limit, and its multiples of them, stays in the range
+abbrev pub limit_stays : List Tree → Limit ℕ → Bool
+limit_stays ts l = terms_fit ts l.multiples && limit_fits (form_at ts) l
+
+abbrev pub row_stays : List Tree → Row ℕ → Bool
+row_stays ts r = list_all (limit_stays ts) r.limits
+
+-- folding the row of this number leaves it
+pub record EuclidLeaves (ns : List Node) (ts : List Tree) (i n : ℕ) : Type 0 where
+  pub within : i < length ns
+  pub rows : List (Row ℕ)
+  pub has : HasRows ts i (node_at ns i).head (node_at ns i).arguments rows
+  pub row : Row ℕ
+  pub row_is : slice_get rows n ≡ Some row
+  pub outside : row_stays ts row ≡ false
 
 -- ---- multiples of bounds: each leaf's multiples are added in the order in which they are written, and so are the constants
 
@@ -158,6 +158,7 @@ pub record FarkasLeaves (ds : List Declaration) (ts : List Tree) (ws : List Weig
 
 abbrev pub RuleLeaves : List Declaration → List Node → List Tree → Step → Type 0
 RuleLeaves ds ns ts (FormStep i ls) = FormLeaves ds ns ts i ls
+RuleLeaves ds ns ts (Euclid i n) = EuclidLeaves ns ts i n
 RuleLeaves ds ns ts (Link i j n) = LinkLeaves ds ts i j n
 RuleLeaves ds ns ts (Farkas ws) = FarkasLeaves ds ts ws
 RuleLeaves ds ns ts s = ⊥

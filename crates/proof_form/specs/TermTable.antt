@@ -12,7 +12,7 @@ use Rattle.smt_meaning.specs.Declaration.{Declaration}
 use Rattle.smt_meaning.specs.Term.{Tree, tree_at}
 use Rattle.smt_meaning.specs.Linear.{sum_fits}
 use Rattle.smt_meaning.specs.Nodes.{pick, trees_of}
-use Rattle.smt_meaning.specs.Proof.{AreTerms}
+use Rattle.proof_meaning.specs.Proof.{AreTerms}
 use Rattle.term_store.specs.Terms.{tree_with, IsPlace, IsNew, AreDifferent, AreComplete}
 use Rattle.linear_forms.specs.Table.{AreForms}
 use Rattle.proof_form.specs.declared.terms_facts.Fact.{Fact}

@@ -2,16 +2,16 @@
 use Rattle.std.specs.Prelude.{◌≡◌, ◌≤◌, ℕ, Bool, true, false, List, [], ◌∷◌, ◌++◌, length, All, Option, Some, None}
 use Rattle.smt_meaning.specs.declared.nodes.Node.{Node}
 use Rattle.smt_meaning.specs.declared.clauses.Literal.{Literal}
-use Rattle.smt_meaning.specs.declared.proof.Step.{Step}
+use Rattle.proof_meaning.specs.declared.proof.Step.{Step}
 use Rattle.smt_meaning.specs.Declaration.{Declaration}
 use Rattle.smt_meaning.specs.declared.tokens.Token.{Token}
 use Rattle.smt_meaning.specs.Sexp.{Sexp, sexp}
 use Rattle.smt_meaning.specs.Term.{Tree}
-use Rattle.smt_meaning.specs.Proof.{IsTerm, AreTerms}
-use Rattle.smt_meaning.specs.ProofRules.{Runs}
-use Rattle.smt_meaning.specs.ProofReading.{node_read, step_read, lists_of, AreRead}
+use Rattle.proof_meaning.specs.Proof.{IsTerm, AreTerms}
+use Rattle.proof_meaning.specs.Rules.{Runs}
+use Rattle.proof_meaning.specs.Reading.{node_read, step_read, lists_of, AreRead}
 use Rattle.look_ahead.specs.Ahead.{ahead}
-use Rattle.proof_form.specs.declared.read.ListPlaces.{ListPlaces}
+use Rattle.proof_read.specs.declared.read.ListPlaces.{ListPlaces}
 use Rattle.proof_form.specs.Range.{LeavesRange}
 use Rattle.proof_form.specs.Terms.{ProofTerms, with_term}
 use Rattle.proof_form.specs.Kept.{Kept, KeepsAll}

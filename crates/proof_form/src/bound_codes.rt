@@ -1,8 +1,8 @@
 //! The codes of the clauses of bounds.
 ghost use Rattle.std.specs.Prelude.{◌≡◌, ◌<◌, ◌∷◌, [], length, true, false, Ok, OnOk};
 ghost use Rattle.smt_meaning.specs.declared.clauses.Atom.TheVariants.{AtMost, Same};
-ghost use Rattle.smt_meaning.specs.Proof.{literal};
-ghost use Rattle.smt_meaning.specs.ProofRules.{folded_bound};
+ghost use Rattle.proof_meaning.specs.Proof.{literal};
+ghost use Rattle.proof_meaning.specs.Rules.{folded_bound};
 ghost use Rattle.proof_form.specs.Range.{not_above_fits};
 ghost use Rattle.proof_form.specs.BoundCodes.{HaveJoined};
 

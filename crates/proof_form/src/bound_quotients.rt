@@ -3,7 +3,7 @@ ghost use Rattle.std.specs.Prelude.{◌≡◌, ◌<◌, ◌↔◌, true, pos, �
 ghost use Rattle.std.specs.Int.{◌∣◌};
 ghost use Rattle.smt_meaning.specs.Linear.{summand as summand_of, sum_fits};
 ghost use Rattle.smt_meaning.specs.Atoms.{divided, each_divided};
-ghost use Rattle.smt_meaning.specs.ProofRules.{DividesEach};
+ghost use Rattle.smt_meaning.specs.Atoms.{DividesEach};
 
 use smt_meaning::Summand;
 use std::alloc::{AllocError, Global};

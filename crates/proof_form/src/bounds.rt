@@ -1,13 +1,14 @@
 //! Equalities of Ints as bounds, and bounds divided.
 ghost use Rattle.std.specs.Prelude.{◌≡◌, ◌<◌, ◌↔◌, ◌++◌, ◌∷◌, [], length, List, Ok, IfOk, OnOk, IsTrue, true, false, pos, ◌<ℤ◌};
 ghost use Rattle.smt_meaning.specs.declared.clauses.Literal.{Literal as LiteralValue};
-ghost use Rattle.smt_meaning.specs.declared.proof.Step.TheVariants.{Link, Round};
+ghost use Rattle.proof_meaning.specs.declared.proof.Step.TheVariants.{Link, Round};
 ghost use Rattle.smt_meaning.specs.Term.{Tree};
-ghost use Rattle.smt_meaning.specs.Proof.{AreTerms, IsIntAt, literal};
+ghost use Rattle.proof_meaning.specs.Proof.{AreTerms, IsIntAt, literal};
 ghost use Rattle.smt_meaning.specs.declared.clauses.Atom.TheVariants.{Same};
-ghost use Rattle.smt_meaning.specs.ProofRules.{link_clause, folded_bound};
+ghost use Rattle.proof_meaning.specs.Rules.{link_clause, folded_bound};
 ghost use Rattle.proof_form.specs.Comes.{Comes};
-ghost use Rattle.proof_form.specs.Range.{numbers_fit, atom_fits, link_fits, not_above_fits};
+ghost use Rattle.proof_read.specs.Written.{numbers_fit, atom_fits};
+ghost use Rattle.proof_form.specs.Range.{link_fits, not_above_fits};
 ghost use Rattle.proof_form.specs.Kept.{KeepsAll};
 ghost use Rattle.proof_form.specs.BoundCodes.{HaveJoined, LinksInts, IsDivided, round_clause};
 

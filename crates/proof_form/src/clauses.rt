@@ -2,7 +2,7 @@
 ghost use Rattle.std.specs.Prelude.{◌≡◌, ◌≢◌, ◌<◌, ◌+◌, ◌*◌, ◌^◌, IfOk, OnOk, length};
 ghost use Rattle.atom_form.specs.Compact.{atom_of};
 ghost use Rattle.smt_meaning.specs.declared.clauses.Atom.TheVariants.{AtMost as BoundAtom};
-ghost use Rattle.smt_meaning.specs.Proof.{literal};
+ghost use Rattle.proof_meaning.specs.Proof.{literal};
 ghost use Rattle.proof_form.specs.Kept.{IsCodeOf, GoOn, sign_code};
 ghost use Rattle.proof_form.specs.ClausesLaid.{IsLaid, clauses_in};
 ghost use Rattle.proof_form.specs.ClausesMerged.{IsResolved};
@@ -104,7 +104,7 @@ impl Clauses {
     ghost use Rattle.std.specs.Prelude.{◌≡◌, ◌≢◌, ◌<◌, ◌++◌, ◌∷◌, ℕ, List, [], length, Ok, IfOk, OnOk, slice_index_or};
     ghost use Rattle.smt_meaning.specs.declared.clauses.Literal.{Literal as LiteralValue};
     ghost use Rattle.smt_meaning.specs.declared.clauses.Atom.TheVariants.{Truth, Same, AtMost};
-    ghost use Rattle.smt_meaning.specs.Proof.{literal};
+    ghost use Rattle.proof_meaning.specs.Proof.{literal};
     ghost use Rattle.proof_form.specs.Kept.{Kept, AreCodesOf, IsCodeOf, KeepsAll, GoOn, AreApart};
     ghost use Rattle.proof_form.specs.ClausesMerged.{IsResolved};
 

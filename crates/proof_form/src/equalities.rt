@@ -1,13 +1,13 @@
 //! The rules of equality and truth, of `ite`, and of assertions.
 ghost use Rattle.std.specs.Prelude.{◌≡◌, ◌<◌, ◌↔◌, ◌∷◌, ◌++◌, [], ℕ, List, length, true, false, Ok, All, IfOk, IfSome, IfNone, IsTrue};
-ghost use Rattle.smt_meaning.specs.declared.proof.Step.TheVariants.{Assert, Pick, Refl, Sym, Trans, Cong, Truth, Both, Neither};
+ghost use Rattle.proof_meaning.specs.declared.proof.Step.TheVariants.{Assert, Pick, Refl, Sym, Trans, Cong, Truth, Both, Neither};
 ghost use Rattle.smt_meaning.specs.declared.terms.Head.TheVariants.{Theory};
 ghost use Rattle.smt_meaning.specs.declared.terms.Operator.TheVariants.{Ite as IteOperator};
 ghost use Rattle.smt_meaning.specs.declared.clauses.Atom.TheVariants.{Truth as TruthAtom, Same};
 ghost use Rattle.smt_meaning.specs.declared.clauses.Literal.{Literal as LiteralValue};
 ghost use Rattle.smt_meaning.specs.Term.{Tree};
-ghost use Rattle.smt_meaning.specs.Proof.{IsLiteral, literal, node_at};
-ghost use Rattle.smt_meaning.specs.ProofRules.{differing};
+ghost use Rattle.proof_meaning.specs.Proof.{IsLiteral, literal, node_at};
+ghost use Rattle.proof_meaning.specs.Rules.{differing};
 ghost use Rattle.proof_form.specs.Asserted.{asserted_at};
 ghost use Rattle.proof_form.specs.Comes.{Comes};
 ghost use Rattle.proof_form.specs.Kept.{AreCodesOf, GoOn};

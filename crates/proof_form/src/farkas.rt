@@ -2,10 +2,11 @@
 ghost use Rattle.std.specs.Prelude.{◌≡◌, ◌++◌, ◌∷◌, ◌&&◌, [], List, All, IfOk, OnOk, IsTrue, ◌↔◌, true};
 ghost use Rattle.fraction128.specs.Number.{is_positive};
 ghost use Rattle.smt_meaning.specs.declared.clauses.Literal.{Literal as LiteralValue};
-ghost use Rattle.smt_meaning.specs.declared.proof.Step.TheVariants.{Farkas};
+ghost use Rattle.proof_meaning.specs.declared.proof.Step.TheVariants.{Farkas};
 ghost use Rattle.smt_meaning.specs.Term.{Tree};
 ghost use Rattle.proof_form.specs.Comes.{Comes};
-ghost use Rattle.proof_form.specs.Range.{numbers_fit, IsWeighted};
+ghost use Rattle.proof_read.specs.Written.{numbers_fit};
+ghost use Rattle.proof_form.specs.Range.{IsWeighted};
 ghost use Rattle.proof_form.specs.Kept.{KeepsAll};
 ghost use Rattle.proof_form.specs.FarkasSums.{AreMultiples, ComeTo, is_bound, multiplies_bound, literals_of, verdict_by};
 
@@ -16,7 +17,8 @@ use crate::literals::is_literal;
 use crate::terms::Terms;
 use crate::verdict::Verdict;
 use fraction128::Fraction;
-use smt_meaning::{Atom, Weighted};
+use proof_meaning::Weighted;
+use smt_meaning::Atom;
 use std::alloc::{AllocError, Global};
 
 /// Whether an atom is a bound.

@@ -10,7 +10,8 @@ ghost use Rattle.proof_form.specs.Range.{lowest};
 ghost use Rattle.proof_form.specs.FarkasSums.{IsMultiple, AreMultiples, signed_sum, signed_limit, sum_inside, multiple, multiple_inside, limit_inside, entries_of, multiples_inside, AfterPart, AfterParts};
 
 use fraction128::Fraction;
-use smt_meaning::{Atom, Summand, TermId, Weighted};
+use proof_meaning::Weighted;
+use smt_meaning::{Atom, Summand, TermId};
 use std::alloc::AllocError;
 
 /// A multiple of a leaf.

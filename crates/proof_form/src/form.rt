@@ -1,12 +1,12 @@
 //! What the truth values of a term's parts say of its own.
 ghost use Rattle.std.specs.Prelude.{◌≡◌, ◌<◌, List, length, All, Contains, IfOk, true};
-ghost use Rattle.smt_meaning.specs.declared.proof.Step.TheVariants.{Form};
+ghost use Rattle.proof_meaning.specs.declared.proof.Step.TheVariants.{Form};
 ghost use Rattle.smt_meaning.specs.declared.clauses.Atom.TheVariants.{Truth};
 ghost use Rattle.smt_meaning.specs.declared.terms.Head.TheVariants.{Theory};
-ghost use Rattle.smt_meaning.specs.Proof.{AreTerms, node_at};
+ghost use Rattle.proof_meaning.specs.Proof.{AreTerms, node_at};
 ghost use Rattle.smt_meaning.specs.Term.{Tree};
 ghost use Rattle.proof_form.specs.Comes.{Comes};
-ghost use Rattle.proof_form.specs.Range.{numbers_fit};
+ghost use Rattle.proof_read.specs.Written.{numbers_fit};
 ghost use Rattle.proof_form.specs.Kept.{AreCodesOf};
 ghost use Rattle.proof_form.specs.FormValues.{AreNumbers};
 ghost use Rattle.proof_form.specs.FormParts.{IsNumberOf, IsConcluded, IsJudgedForm};

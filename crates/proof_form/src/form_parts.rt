@@ -4,8 +4,8 @@ ghost use Rattle.smt_meaning.specs.declared.terms.Head.TheVariants.{Theory};
 ghost use Rattle.smt_meaning.specs.declared.terms.Operator.TheVariants.{Equal as IsEqual, Distinct as IsDistinct, Ite as IsIte};
 ghost use Rattle.smt_meaning.specs.declared.values.Sort.TheVariants.{Bool as Truths};
 ghost use Rattle.smt_meaning.specs.declared.clauses.Atom.TheVariants.{Truth, Same, AtMost};
-ghost use Rattle.smt_meaning.specs.Proof.{AreTerms, node_at};
-ghost use Rattle.smt_meaning.specs.ProofRules.{along, not_above, below};
+ghost use Rattle.proof_meaning.specs.Proof.{AreTerms, node_at};
+ghost use Rattle.proof_meaning.specs.Rules.{along, not_above, below};
 ghost use Rattle.proof_form.specs.Range.{neighbours_fit, not_above_fits, less_fits};
 ghost use Rattle.proof_form.specs.FormParts.{relation_atom, relation_fits, IsKind, IsNumberOf, AreNumbersOf, IsNumbered, Extends};
 

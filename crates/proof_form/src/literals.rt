@@ -6,7 +6,7 @@ ghost use Rattle.smt_meaning.specs.declared.clauses.Atom.TheVariants.{Same};
 ghost use Rattle.smt_meaning.specs.declared.clauses.Literal.{Literal as LiteralValue};
 ghost use Rattle.smt_meaning.specs.Term.{tree_at};
 ghost use Rattle.smt_meaning.specs.TreeShape.{is_arithmetic, is_constant_head};
-ghost use Rattle.smt_meaning.specs.Proof.{IsLiteral, IsAtom, IsSummand, IsBoolAt, IsIntAt, is_leaf};
+ghost use Rattle.proof_meaning.specs.Proof.{IsLiteral, IsAtom, IsSummand, IsBoolAt, IsIntAt, is_leaf};
 ghost use Rattle.proof_form.specs.Kept.{AreCodesOf, IsCodeOf, KeepsAll, GoOn};
 
 use crate::clauses::Clauses;

@@ -1,9 +1,9 @@
 //! Resolution.
 ghost use Rattle.std.specs.Prelude.{◌≡◌, ◌<◌, List, IfOk, true};
-ghost use Rattle.smt_meaning.specs.declared.proof.Step.TheVariants.{Res};
+ghost use Rattle.proof_meaning.specs.declared.proof.Step.TheVariants.{Res};
 ghost use Rattle.smt_meaning.specs.Term.{Tree};
 ghost use Rattle.proof_form.specs.Comes.{Comes};
-ghost use Rattle.proof_form.specs.Range.{numbers_fit};
+ghost use Rattle.proof_read.specs.Written.{numbers_fit};
 ghost use Rattle.proof_form.specs.ResolutionCodes.{IsOpposite};
 
 use crate::clauses::Clauses;

@@ -2,7 +2,7 @@
 ghost use Rattle.std.specs.Prelude.{◌≡◌, ◌<◌, true, length, All, IfOk};
 ghost use Rattle.proof_form.specs.Asserted.{asserted_at};
 ghost use Rattle.proof_form.specs.Comes.{Comes};
-ghost use Rattle.proof_form.specs.Range.{numbers_fit};
+ghost use Rattle.proof_read.specs.Written.{numbers_fit};
 
 use crate::bounds::{judge_link, judge_round};
 use crate::clauses::Clauses;
@@ -15,7 +15,8 @@ use crate::form::judge_form;
 use crate::resolution::judge_resolution;
 use crate::terms::Terms;
 use crate::verdict::Verdict;
-use smt_meaning::{Step, TermId};
+use proof_meaning::Step;
+use smt_meaning::TermId;
 use std::alloc::{AllocError, Global};
 
 /// Judges a step whose numbers are in the range; the assertions are terms of the stack, in order. Where it is by its rule, its clause is kept.

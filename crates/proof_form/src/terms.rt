@@ -50,8 +50,8 @@ impl<'a> Terms<'a> {
     ghost use Rattle.smt_meaning.specs.declared.clauses.Atom.TheVariants.{AtMost};
     ghost use Rattle.smt_meaning.specs.Signature.{tree_sort};
     ghost use Rattle.smt_meaning.specs.Term.{tree_at};
-    ghost use Rattle.smt_meaning.specs.Proof.{IsTerm, AreTerms, is_leaf, node_at};
-    ghost use Rattle.smt_meaning.specs.ProofRules.{not_above, below, folded_bound};
+    ghost use Rattle.proof_meaning.specs.Proof.{IsTerm, AreTerms, is_leaf, node_at};
+    ghost use Rattle.proof_meaning.specs.Rules.{not_above, below, folded_bound};
     ghost use Rattle.proof_form.specs.Range.{not_above_fits, less_fits};
     ghost use Rattle.proof_form.specs.Terms.{with_term, IsBoundOf};
 

@@ -1,7 +1,7 @@
 //! Sums over the places of trees as sums over the first terms that have them.
 ghost use Rattle.std.specs.Prelude.{◌≡◌, ◌≢◌, ◌<◌, length, take, false, IfOk, Err};
 ghost use Rattle.smt_meaning.specs.Linear.{summand as summand_of};
-ghost use Rattle.smt_meaning.specs.ProofRules.{not_above, below, folded_bound};
+ghost use Rattle.proof_meaning.specs.Rules.{not_above, below, folded_bound};
 ghost use Rattle.linear_forms.specs.Sums.{IsSum};
 ghost use Rattle.linear_forms.specs.Table.{AreForms};
 ghost use Rattle.proof_form.specs.TermFacts.{fact_at};

@@ -65,7 +65,7 @@ fn append(
 
 impl WrittenNodes {
     ghost use Rattle.std.specs.Prelude.{◌≡◌, ◌<◌, ◌++◌, ◌∷◌, [], length, OnOk, OnErr};
-    ghost use Rattle.smt_meaning.specs.Proof.{node_at};
+    ghost use Rattle.proof_meaning.specs.Proof.{node_at};
 
     /// No node. It takes no memory.
     pub(crate) fn new(alloc: Global) -> Self

@@ -3,7 +3,7 @@ ghost use Rattle.std.specs.Prelude.{◌≡◌, ◌<◌, ◌++◌, ◌∷◌, ◌
 ghost use Rattle.smt_meaning.specs.Stack.{signature_of};
 ghost use Rattle.smt_meaning.specs.Declaration.{Declaration};
 ghost use Rattle.smt_meaning.specs.Nodes.{trees_of};
-ghost use Rattle.smt_meaning.specs.Proof.{IsTerm};
+ghost use Rattle.proof_meaning.specs.Proof.{IsTerm};
 ghost use Rattle.term_store.specs.Terms.{tree_with, AreComplete};
 ghost use Rattle.proof_form.specs.TermFacts.{facts_at, places_at};
 ghost use Rattle.proof_form.specs.TermTable.{MayBeTerm, IsNoTerm, IsInterned, IsEntered};
@@ -184,7 +184,7 @@ impl TermTable {
     ghost use Rattle.smt_meaning.specs.Term.{Tree};
     ghost use Rattle.smt_meaning.specs.Stack.{signature_of};
     ghost use Rattle.smt_meaning.specs.Nodes.{trees_of};
-    ghost use Rattle.smt_meaning.specs.Proof.{IsTerm};
+    ghost use Rattle.proof_meaning.specs.Proof.{IsTerm};
     ghost use Rattle.proof_form.specs.TermTable.{IsTable, CanEnter, MayEnter};
 
     /// No term, beside those of a stack. It takes no memory.

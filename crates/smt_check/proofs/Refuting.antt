@@ -2,15 +2,15 @@
 use Rattle.std.proofs.Common.{◌≡◌, ◌∙◌, List, [], ◌∷◌, ◌++◌, append-nil, refl, sym, ap, subst, Option, Some, None}
 use Rattle.std.specs.Prelude.{unwrap_or}
 use Rattle.smt_meaning.specs.declared.nodes.Node.{Node}
-use Rattle.smt_meaning.specs.declared.proof.Step.{Step}
-use Rattle.smt_meaning.specs.declared.proof.Proof.{Proof}
+use Rattle.proof_meaning.specs.declared.proof.Step.{Step}
+use Rattle.proof_meaning.specs.declared.proof.Proof.{Proof}
 use Rattle.smt_meaning.specs.Declaration.{Declaration}
 use Rattle.smt_meaning.specs.Command.{each}
 use Rattle.smt_meaning.specs.Sexp.{Sexp, Sexps, word, group, end, ◌▸◌}
 use Rattle.smt_meaning.specs.Stack.{Frame, signature_of}
-use Rattle.smt_meaning.specs.ProofReading.{with, lists_of, listed, AreRead, proof_read, node_read, step_read}
-use Rattle.smt_meaning.specs.ProofRules.{IsGood}
-use Rattle.smt_laws.specs.ProofLaws.{NamedAssertionsHaveNoModel, GoodProofLeavesNoModel}
+use Rattle.proof_meaning.specs.Reading.{with, lists_of, listed, AreRead, proof_read, node_read, step_read}
+use Rattle.proof_meaning.specs.Rules.{IsGood}
+use Rattle.proof_meaning.specs.Laws.{NamedAssertionsHaveNoModel, GoodProofLeavesNoModel}
 use Rattle.proof_form.specs.Found.{IsGoodInRange}
 use Rattle.smt_check.specs.Checked.{Refutes}
 

@@ -2,16 +2,16 @@
 use Rattle.std.specs.Prelude.{◌≡◌, ◌⊎◌, ◌↔◌, ◌≤◌, ◌<◌, ℕ, Bool, true, List, [], ◌++◌, length, take, Option, Some, None, IfSome}
 use Rattle.std.specs.Io.KnownBytes.{Appends, Consumes, IsAtEnd}
 use Rattle.smt_meaning.specs.declared.tokens.Token.{Token}
-use Rattle.smt_meaning.specs.declared.proof.Proof.{Proof}
+use Rattle.proof_meaning.specs.declared.proof.Proof.{Proof}
 use Rattle.smt_meaning.specs.Reading.{MayFollow}
 use Rattle.smt_meaning.specs.Sexp.{Sexp, sexp}
 use Rattle.smt_meaning.specs.Stack.{Frame, HasNoModel, signature_of}
 use Rattle.smt_meaning.specs.State.{State, checked_frames}
 use Rattle.smt_meaning.specs.Term.{Interpretation}
 use Rattle.smt_meaning.specs.Interpretation.{Interprets}
-use Rattle.smt_meaning.specs.ProofReading.{proof_read}
-use Rattle.smt_meaning.specs.ProofRules.{IsGood}
-use Rattle.smt_laws.specs.ProofLaws.{MakesNamedTrue}
+use Rattle.proof_meaning.specs.Reading.{proof_read}
+use Rattle.proof_meaning.specs.Rules.{IsGood}
+use Rattle.proof_meaning.specs.Laws.{MakesNamedTrue}
 use Rattle.ports.specs.Flow.{SourceTold, SinkTold, Rose, RoseBy}
 use Rattle.proof_form.specs.declared.found.Found.{Found}
 use Rattle.proof_form.specs.declared.found.Found.TheVariants.{Yes, NoProof}

@@ -18,7 +18,7 @@ use ports::{Put, Sink, Source};
 use proof_form::{Found, judge};
 use scope_stack::Assertion;
 use session::{LastCheck, Session};
-use smt_laws::{good_proof_leaves_no_model, named_assertions_have_no_model};
+use proof_meaning::{good_proof_leaves_no_model, named_assertions_have_no_model};
 use smt_meaning::{SExpr, Settings, TermId};
 use std::alloc::{AllocError, Global};
 

@@ -11,8 +11,7 @@ use Rattle.std.proofs.Math.IntN.{*ℤ-zero, zero-*ℤ}
 use Rattle.smt_meaning.specs.declared.clauses.Summand.{Summand}
 use Rattle.smt_meaning.specs.Term.{Tree, Interpretation, number_of}
 use Rattle.smt_meaning.specs.Clause.{sum_value, value_at, atom_true}
-use Rattle.smt_meaning.specs.Atoms.{sum_gcd, divided, each_divided, normal_bound}
-use Rattle.smt_meaning.specs.ProofRules.{DividesEach}
+use Rattle.smt_meaning.specs.Atoms.{sum_gcd, divided, each_divided, DividesEach, normal_bound}
 use Rattle.fraction128.proofs.Divisors.{IsGcd-gcd_of}
 use Rattle.fraction128.proofs.Ring.{times-sum, times_assoc}
 

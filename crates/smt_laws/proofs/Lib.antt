@@ -8,7 +8,7 @@ pub mod SameTree
 pub mod JudgeLaw
 pub mod BodyLaw
 pub mod EnvironmentLaw
-mod Written
+pub mod Written
 mod TermLawsExamples
 pub mod Keeping
 pub mod FreshLaw
@@ -35,7 +35,7 @@ pub mod RowLaw
 pub mod DivisionLaw
 mod ClauseLawsExamples
 mod Propagation
-mod Script
+pub mod Script
 mod Refusals
 mod Orders
 mod Texts
@@ -72,15 +72,3 @@ mod UseLemmas
 mod AgainLemmas
 mod FormLemmas
 mod TodoLemmas
-pub mod ProofTerms
-mod ProofFacts
-mod ProofResolving
-mod ProofAdding
-mod ProofRounding
-mod ProofAlike
-mod ProofLinking
-mod ProofForms
-mod ProofEquality
-mod ProofRunning
-mod ProofTests
-mod ProofExamples

@@ -13,4 +13,3 @@ pub mod Uses
 pub mod Again
 pub mod Form
 pub mod Todo
-pub mod ProofLaws

@@ -42,9 +42,6 @@
 //! Of divisions: the clauses of a division are true under every interpretation, and no numbers meet
 //! them but the quotient, the remainder, whether there is none, and the absolute value.
 //!
-//! Of proofs: an interpretation that makes the assertions true that a proof names makes each of its
-//! clauses true; so where a good proof stands, the assertions that it names have no model.
-//!
 //! Of places and names: a tree is found again at its place; a name that is given to a term stands
 //! for the term, and its use judges again just the terms that were judged in it.
 //!
@@ -58,7 +55,6 @@ mod flat;
 mod kinds;
 mod language;
 mod linear;
-mod proof;
 mod sorts;
 mod terms;
 mod walk;
@@ -80,9 +76,6 @@ pub use language::{
 pub use linear::{
     assertions_are_linear, folded_forms_fit, leaves_are_among_the_trees, leaves_are_parts,
     numerals_are_in_range, placed_forms_fit, trees_are_linear,
-};
-pub use proof::{
-    good_proof_leaves_no_model, named_assertions_have_no_model, proof_clauses_are_true,
 };
 pub use sorts::{
     accepted_term_has_its_sort, assertions_are_truths, assertions_are_truths_at_their_levels,

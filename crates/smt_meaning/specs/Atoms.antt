@@ -1,6 +1,6 @@
 -- Normal bounds, and the atoms of a stack.
 use Rattle.std.specs.Prelude.{◌≡◌, refl, ℕ, Bool, true, Option, Some, None, List, [], ◌∷◌, ◌++◌, map, flat_map, ℤ, pos, ◌-ℤ◌, neg_ℤ, unsigned_abs, if◌then◌else◌}
-use Rattle.std.specs.Int.{int_div_euclid}
+use Rattle.std.specs.Int.{int_div_euclid, ◌∣◌}
 use Rattle.fraction128.specs.Gcd.{gcd_of}
 use Rattle.smt_meaning.specs.declared.terms.Operator.TheVariants.{Equal, Distinct, Ite, AtMost as IsAtMost, Less, AtLeast, Greater, Divide, Modulo, Absolute, Divisible}
 use Rattle.smt_meaning.specs.declared.terms.Head.{Head}
@@ -29,6 +29,11 @@ divided a b = int_div_euclid a b
 
 abbrev pub each_divided : ℤ → List Summand → List Summand
 each_divided g ps = map (λ (p : Summand). summand p.term (divided p.coefficient g)) ps
+
+-- a number divides each coefficient
+abbrev pub DividesEach : ℕ → List Summand → Type 0
+DividesEach g [] = Unit {0}
+DividesEach g (p ∷ ps) = (g ∣ unsigned_abs p.coefficient) × DividesEach g ps
 
 -- sum <= k, divided by the greatest common divisor of the coefficients; an empty sum stays as it is
 abbrev pub normal_bound : List Summand → ℤ → Atom

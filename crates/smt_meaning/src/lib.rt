@@ -8,8 +8,6 @@
 //! a part or a copy is a list of its own. `push` adds exactly the token or changes nothing. `Inner`
 //! is one that may stand in a list.
 //!
-//! `Proof`, `Step`: what a proof says that the assertions have no model; `IsGood` is what makes it one.
-//!
 //! `Seq`, `Terms`, `Declaration`, `Body`: small lists whose value is a list, and a declaration or
 //! definition as the record that the definitions speak of.
 #![tactic(auto)]
@@ -22,7 +20,6 @@ mod errors;
 mod kinds;
 mod nodes;
 mod options;
-mod proof;
 mod refusals;
 mod replies;
 mod reports;
@@ -35,7 +32,6 @@ mod values;
 pub use clauses::{Atom, AtomId, Clause, ClauseId, Literal, Sum, Summand};
 pub use declarations::{Body, Declaration, Rank};
 pub use nodes::{Layer, Node, Terms};
-pub use proof::{Proof, Step, StepId, Weighted};
 pub use refusals::Refusal;
 pub use replies::{Best, Held, Kept, Reason};
 pub use reports::{Cause, RangeSeen, Report, Unit};

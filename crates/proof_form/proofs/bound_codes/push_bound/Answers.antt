@@ -3,7 +3,7 @@ use Rattle.std.specs.Prelude.{ℤ}
 use Rattle.std.specs.Int.{w128}
 use Rattle.std.proofs.lemmas.Int.{to_z-of_z}
 use Rattle.smt_meaning.specs.declared.clauses.Atom.TheVariants.{AtMost}
-use Rattle.smt_meaning.specs.Proof.{literal}
+use Rattle.proof_meaning.specs.Proof.{literal}
 use Rattle.proof_form.specs.Kept.{IsCodeOf}
 use Rattle.proof_form.proofs.BoundJoining.{joined_one}
 use Rattle.proof_form.proofs.bound_codes.push_bound.Goals as goal

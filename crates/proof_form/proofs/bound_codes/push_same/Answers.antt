@@ -1,5 +1,5 @@
 use Rattle.smt_meaning.specs.declared.clauses.Atom.TheVariants.{Same}
-use Rattle.smt_meaning.specs.Proof.{literal}
+use Rattle.proof_meaning.specs.Proof.{literal}
 use Rattle.proof_form.proofs.BoundJoining.{joined_one}
 use Rattle.proof_form.proofs.bound_codes.push_same.Goals as goal
 

@@ -1,5 +1,5 @@
 use Rattle.std.proofs.Common.{Ok, ap, arith}
-use Rattle.smt_meaning.specs.ProofRules.{link_clause}
+use Rattle.proof_meaning.specs.Rules.{link_clause}
 use Rattle.proof_form.proofs.BoundJoining.{joined_all}
 use Rattle.proof_form.proofs.BoundJudging.{link_good}
 use Rattle.proof_form.proofs.bounds.judge_link.Goals as goal

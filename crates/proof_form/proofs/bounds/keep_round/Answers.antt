@@ -5,7 +5,7 @@ use Rattle.std.proofs.lemmas.Int.{to_z-of_z}
 use Rattle.smt_meaning.specs.declared.clauses.Atom.TheVariants.{AtMost}
 use Rattle.smt_meaning.specs.declared.clauses.Summand.{Summand}
 use Rattle.smt_meaning.specs.Atoms.{divided, each_divided}
-use Rattle.smt_meaning.specs.Proof.{literal}
+use Rattle.proof_meaning.specs.Proof.{literal}
 use Rattle.linear_forms.proofs.TableLemmas.{on_ok}
 use Rattle.proof_form.specs.BoundCodes.{HaveJoined, round_clause}
 use Rattle.proof_form.proofs.BoundJoining.{joined_two, joined_all}

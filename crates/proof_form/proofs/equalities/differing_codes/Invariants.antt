@@ -1,7 +1,7 @@
 use Rattle.std.proofs.Common.{◌≡◌, take}
 use Rattle.std.specs.Prelude.{All}
-use Rattle.smt_meaning.specs.Proof.{IsLiteral}
-use Rattle.smt_meaning.specs.ProofRules.{differing}
+use Rattle.proof_meaning.specs.Proof.{IsLiteral}
+use Rattle.proof_meaning.specs.Rules.{differing}
 use Rattle.proof_form.specs.Kept.{AreCodesOf, GoOn}
 use Rattle.proof_form.proofs.equalities.differing_codes.Given as goal
 

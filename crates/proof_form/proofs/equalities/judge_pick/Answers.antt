@@ -1,5 +1,5 @@
 use Rattle.std.proofs.Common.{refl}
-use Rattle.smt_meaning.specs.declared.proof.Step.TheVariants.{Pick}
+use Rattle.proof_meaning.specs.declared.proof.Step.TheVariants.{Pick}
 use Rattle.proof_form.proofs.EqualitiesComes.{stays, comes_wrong}
 use Rattle.proof_form.proofs.equalities.judge_pick.Goals as goal
 

@@ -1,7 +1,7 @@
 use Rattle.std.proofs.Common.{Ok, ap, sym, subst, map}
 use Rattle.std.proofs.lemmas.Result.{IfOk-weaker}
 use Rattle.smt_meaning.specs.declared.clauses.Atom.TheVariants.{Truth}
-use Rattle.smt_meaning.specs.ProofRules.{along}
+use Rattle.proof_meaning.specs.Rules.{along}
 use Rattle.proof_form.specs.declared.form_values.Connective.TheVariants.{And}
 use Rattle.proof_form.specs.FormParts.{AreNumbersOf, IsConcluded, IsJudgedForm, relation_atom}
 use Rattle.proof_form.specs.FormPairs.{IsConcludedPairs}

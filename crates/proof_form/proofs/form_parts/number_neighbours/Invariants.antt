@@ -1,5 +1,5 @@
 use Rattle.std.proofs.Common.{◌≡◌, true, take}
-use Rattle.smt_meaning.specs.ProofRules.{along}
+use Rattle.proof_meaning.specs.Rules.{along}
 use Rattle.proof_form.specs.Range.{neighbours_fit}
 use Rattle.proof_form.specs.FormParts.{AreNumbersOf, Extends, relation_atom, relation_fits}
 use Rattle.proof_form.proofs.form_parts.number_neighbours.Given as goal

@@ -1,5 +1,5 @@
 use Rattle.std.specs.List.{AllWithin}
-use Rattle.smt_meaning.specs.Proof.{IsSummand}
+use Rattle.proof_meaning.specs.Proof.{IsSummand}
 use Rattle.proof_form.proofs.literals.are_summands.Given as goal
 
 abbrev pub invariant-loop-summand : goal.invariant-loop-summand

@@ -1,6 +1,6 @@
 use Rattle.std.proofs.Common.{subst, arith, rules, ◌∙◌}
 use Rattle.std.proofs.lemmas.List.Elements.{All-more}
-use Rattle.smt_meaning.specs.Proof.{IsLiteral}
+use Rattle.proof_meaning.specs.Proof.{IsLiteral}
 use Rattle.proof_form.proofs.ClausesCodes.{kept_on, go_on_both, codes_more}
 use Rattle.proof_form.proofs.literals.codes_of.Goals as goal
 

@@ -1,6 +1,6 @@
 use Rattle.std.proofs.Common.{◌≡◌, take}
 use Rattle.std.specs.Prelude.{All}
-use Rattle.smt_meaning.specs.Proof.{IsLiteral}
+use Rattle.proof_meaning.specs.Proof.{IsLiteral}
 use Rattle.proof_form.specs.Kept.{AreCodesOf, GoOn}
 use Rattle.proof_form.proofs.literals.codes_of.Given as goal
 

@@ -3,7 +3,7 @@ use Rattle.std.specs.Prelude.{IsTrue, ◌↔◌}
 use Rattle.smt_meaning.specs.declared.clauses.Summand.{Summand}
 use Rattle.smt_meaning.specs.declared.clauses.Atom.{Atom}
 use Rattle.smt_meaning.specs.declared.clauses.Atom.TheVariants.{AtMost}
-use Rattle.smt_meaning.specs.Proof.{IsAtom}
+use Rattle.proof_meaning.specs.Proof.{IsAtom}
 use Rattle.proof_form.proofs.literals.is_literal.Goals as goal
 
 pub returns-in-AtMost : goal.returns-in-AtMost

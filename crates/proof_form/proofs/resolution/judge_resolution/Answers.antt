@@ -1,6 +1,6 @@
 use Rattle.std.proofs.Common.{◌<◌, List, [], length, get_or, inl, inr, arith}
 use Rattle.smt_meaning.specs.Term.{Tree}
-use Rattle.smt_meaning.specs.declared.proof.Step.TheVariants.{Res}
+use Rattle.proof_meaning.specs.declared.proof.Step.TheVariants.{Res}
 use Rattle.proof_form.proofs.EqualitiesComes.{stays}
 use Rattle.proof_form.proofs.ResolutionComes.{resolves, resolves_none, lacks_left, lacks_right, opposites_differ, has_none, has_one}
 use Rattle.proof_form.proofs.resolution.judge_resolution.Goals as goal

@@ -1,7 +1,7 @@
 use Rattle.std.proofs.Common.{List, sym, ap, ◌∙◌}
 use Rattle.smt_meaning.specs.declared.clauses.Literal.{Literal}
-use Rattle.smt_meaning.specs.declared.proof.Step.TheVariants as Rule
-use Rattle.smt_meaning.specs.declared.proof.Weighted.{Weighted}
+use Rattle.proof_meaning.specs.declared.proof.Step.TheVariants as Rule
+use Rattle.proof_meaning.specs.declared.proof.Weighted.{Weighted}
 use Rattle.proof_form.specs.Asserted.{asserted_at}
 use Rattle.proof_form.proofs.Going.{as_step}
 use Rattle.proof_form.proofs.steps.judge_step.Goals as goal

@@ -1,6 +1,6 @@
 use Rattle.std.proofs.Common.{◌≡◌, ◌∙◌, is_err, false, sym}
 use Rattle.fraction128.proofs.Integers.{same_bits}
-use Rattle.smt_meaning.specs.ProofRules.{not_above}
+use Rattle.proof_meaning.specs.Rules.{not_above}
 use Rattle.term_store.proofs.StoreLemmas.{at_ok}
 use Rattle.linear_forms.specs.Table.{AreForms}
 use Rattle.proof_form.specs.Range.{not_above_fits}

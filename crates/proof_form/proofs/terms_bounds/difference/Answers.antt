@@ -1,6 +1,6 @@
 use Rattle.std.proofs.Common.{◌≡◌, ◌∙◌, is_err, false, sym, rules}
 use Rattle.std.specs.Prelude.{neg_ℤ}
-use Rattle.smt_meaning.specs.ProofRules.{folded_bound}
+use Rattle.proof_meaning.specs.Rules.{folded_bound}
 use Rattle.term_store.proofs.StoreLemmas.{at_ok}
 use Rattle.linear_forms.specs.Folding.{form_of}
 use Rattle.linear_forms.specs.Table.{AreForms}

@@ -4,7 +4,7 @@ use Rattle.smt_meaning.specs.Declaration.{Declaration}
 use Rattle.smt_meaning.specs.Stack.{signature_of}
 use Rattle.smt_meaning.specs.Term.{Tree}
 use Rattle.smt_meaning.specs.Nodes.{trees_of}
-use Rattle.smt_meaning.specs.Proof.{IsTerm}
+use Rattle.proof_meaning.specs.Proof.{IsTerm}
 use Rattle.term_store.proofs.NodeLemmas.{trees_of-push}
 use Rattle.proof_form.specs.Terms.{ProofTerms, with_term}
 use Rattle.proof_form.proofs.terms.Terms.add.Goals as goal

@@ -2,7 +2,7 @@ use Rattle.std.proofs.Common.{◌≡◌, ◌<◌, length, sym, subst, true, fals
 use Rattle.std.specs.Prelude.{slice_index}
 use Rattle.std.proofs.lemmas.List.{get_or_read}
 use Rattle.smt_meaning.specs.Stack.{signature_of}
-use Rattle.smt_meaning.specs.ProofRules.{below}
+use Rattle.proof_meaning.specs.Rules.{below}
 use Rattle.proof_form.specs.Range.{less_fits}
 use Rattle.proof_form.specs.Terms.{ProofTerms, IsBoundOf}
 use Rattle.proof_form.proofs.TermBounds.{below_lifted_at, less_unfit_at, if_ok}

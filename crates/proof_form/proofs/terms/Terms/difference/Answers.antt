@@ -2,7 +2,7 @@ use Rattle.std.proofs.Common.{◌≡◌, ◌<◌, length, sym, subst, true, fals
 use Rattle.std.specs.Prelude.{slice_index}
 use Rattle.std.proofs.lemmas.List.{get_or_read}
 use Rattle.smt_meaning.specs.Stack.{signature_of}
-use Rattle.smt_meaning.specs.ProofRules.{folded_bound}
+use Rattle.proof_meaning.specs.Rules.{folded_bound}
 use Rattle.proof_form.specs.Range.{not_above_fits}
 use Rattle.proof_form.specs.Terms.{ProofTerms, IsBoundOf}
 use Rattle.proof_form.proofs.TermBounds.{difference_lifted_at, unfit_at, if_ok}

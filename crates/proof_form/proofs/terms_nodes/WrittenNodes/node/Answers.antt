@@ -1,7 +1,7 @@
 use Rattle.std.proofs.Common.{◌≡◌, ◌<◌, ◌≤◌, length, arith, sym, ap, ◌∙◌, subst}
 use Rattle.proof_form.specs.declared.terms_nodes.Entry.{Entry}
 use Rattle.proof_form.specs.TermNodes.{plain, written}
-use Rattle.smt_meaning.specs.Proof.{node_at}
+use Rattle.proof_meaning.specs.Proof.{node_at}
 use Rattle.proof_form.proofs.TermNodeLemmas.{length-written, written_at}
 use Rattle.proof_form.proofs.terms_nodes.WrittenNodes.node.Goals as goal
 

@@ -1,5 +1,0 @@
-use Rattle.proof_form.proofs.ReadCompareLemmas.{Compares}
-use Rattle.proof_form.proofs.read_apart.compare.Given as goal
-
-abbrev pub invariant-loop-place : goal.invariant-loop-place
-invariant-loop-place l = Compares l.count l.left l.right l.place l.lead

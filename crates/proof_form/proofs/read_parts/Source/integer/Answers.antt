@@ -1,9 +1,0 @@
-use mir.Syntax.{w128}
-use Rattle.std.proofs.lemmas.Int.{to_z-of_z}
-use Rattle.proof_form.proofs.ReadIntegerLemmas.{takes_integer}
-use Rattle.proof_form.proofs.read_parts.Source.integer.Goals as goal
-
-pub returns-in-Some-clause-reads : goal.returns-in-Some-clause-reads
-returns-in-Some-clause-reads c =
-    rw (to_z-of_z w128 c.not_negative.result (record { sfits = c.not_negative.type_inv }))
-    (takes_integer _ _ _ _ _ _ c.in-Some.ensures c.not_negative.ensures.place c.not_negative.ensures.notes)

@@ -1,5 +1,0 @@
-use Rattle.proof_form.proofs.ReadStepForms.{reads_pair}
-use Rattle.proof_form.proofs.read_parts.Source.pair_step.Goals as goal
-
-pub returns : goal.returns
-returns c = reads_pair _ _ _ _ _ _ _ c.pair_of.ensures c.in_ok-left.ensures

@@ -1,7 +1,0 @@
-use Rattle.std.proofs.Common.{rules, sym}
-use Rattle.proof_form.proofs.ReadStepForms.{fills_quotient}
-use Rattle.proof_form.proofs.read_parts.Source.quotient.Goals as goal
-
-pub returns : goal.returns
-returns c =
-    fills_quotient _ _ _ _ _ c.in_ok-name.name.now _ _ c.in_ok-name.ensures (search rules) c.in_ok-numerator.ensures c.in_ok-denominator.ensures (sym c.if-not-is_end.ensures)

@@ -1,0 +1,12 @@
+pub mod Terms
+mod Facts
+mod Resolving
+mod Adding
+mod Rounding
+mod Alike
+mod Linking
+mod Forms
+mod Equality
+mod Running
+mod Tests
+mod Examples

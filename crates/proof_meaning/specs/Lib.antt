@@ -1,0 +1,4 @@
+pub mod Proof
+pub mod Rules
+pub mod Reading
+pub mod Laws

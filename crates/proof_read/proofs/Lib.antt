@@ -1,0 +1,15 @@
+pub mod ReadLemmas
+pub mod ReadNumberLemmas
+pub mod ReadIntegerLemmas
+pub mod ReadForms
+pub mod ReadSumForms
+pub mod ReadApartLemmas
+pub mod ReadOrderLemmas
+pub mod ReadNodeForms
+pub mod ReadArrange
+pub mod ReadLeafLemmas
+pub mod ReadCompareLemmas
+pub mod ReadNamedForms
+pub mod ReadAtomForms
+pub mod ReadStepForms
+pub mod SymbolLemmas

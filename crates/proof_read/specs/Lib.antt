@@ -1,0 +1,12 @@
+pub mod Written
+pub mod Reads
+pub mod ReadParts
+pub mod ReadNumbers
+pub mod ReadNames
+pub mod ReadSums
+pub mod ReadApart
+pub mod ReadAtoms
+pub mod ReadSteps
+pub mod ReadNodes
+pub mod ReadOut
+pub mod SymbolTable

@@ -1,0 +1,196 @@
+//! The numbers that a proof writes.
+ghost use Rattle.std.specs.Prelude.{◌≡◌, ◌+◌, ◌-◌, ◌*◌, ◌^◌, ◌<◌, ◌≤◌, ◌↔◌, pos, Some, None, IfSome, MatchOption};
+ghost use Rattle.fraction128.specs.Whole.{is_in_range};
+ghost use Rattle.smt_meaning.specs.Sorts.{decimal};
+ghost use Rattle.proof_meaning.specs.Reading.{number, integer, below_zero};
+ghost use Rattle.look_ahead.specs.Ahead.{ahead, AreEnds};
+ghost use Rattle.proof_read.specs.Written.{is_small};
+ghost use Rattle.proof_read.specs.Reads.{is_term_number, is_step_number};
+ghost use Rattle.proof_read.specs.ReadParts.{Reads, Notes, any, first_by};
+ghost use Rattle.proof_read.specs.ReadNumbers.{WrittenBelow, NotesNegative, integer_in_list};
+
+use crate::read_parts::{Progress, Source};
+use proof_meaning::StepId;
+use smt_meaning::TermId;
+
+/// The number that digits write, where it is below 2^64.
+fn short_decimal(digits: &[u8]) -> Option<u64>
+    ensures { WrittenBelow (2 ^ 64) digits.now result }
+{
+    let mut number: u64 = 0;
+    for digit in digits {
+        match short_with_digit(number, *digit) {
+            Some(next) => number = next,
+            None => return None,
+        }
+    }
+    Some(number)
+}
+
+/// The number with one digit more, where it is below 2^64.
+fn short_with_digit(number: u64, digit: u8) -> Option<u64>
+    ensures { MatchOption result (2 ^ 64 ≤ 10 * number + (digit - 48)) (λ n. (n ≡ 10 * number + (digit - 48)) × (n < 2 ^ 64)) }
+{
+    let tens = number.checked_mul(10)?;
+    tens.checked_add(u64::from(digit.saturating_sub(48)))
+}
+
+/// The number that digits write, where it is below 2^127.
+pub(crate) fn decimal(digits: &[u8]) -> Option<u128>
+    ensures { WrittenBelow (2 ^ 127) digits.now result }
+{
+    match short_decimal(digits) {
+        Some(number) => Some(u128::from(number)),
+        None => long_decimal(digits),
+    }
+}
+
+fn long_decimal(digits: &[u8]) -> Option<u128>
+    ensures { WrittenBelow (2 ^ 127) digits.now result }
+{
+    let mut number: u128 = 0;
+    for digit in digits {
+        match long_with_digit(number, *digit) {
+            Some(next) => number = next,
+            None => return None,
+        }
+    }
+    Some(number)
+}
+
+/// The number with one digit more, where it is below 2^127.
+fn long_with_digit(number: u128, digit: u8) -> Option<u128>
+    ensures { MatchOption result (2 ^ 127 ≤ 10 * number + (digit - 48)) (λ n. (n ≡ 10 * number + (digit - 48)) × (n < 2 ^ 127)) }
+{
+    let tens = number.checked_mul(10)?;
+    let larger = tens.checked_add(u128::from(digit.saturating_sub(48)))?;
+    if larger >= 1 << 127 {
+        return None;
+    }
+    Some(larger)
+}
+
+/// The number of a term, where it is one that a term may have.
+fn term_number(digits: &[u8]) -> Option<TermId>
+    ensures { WrittenBelow (2 ^ 32) digits.now result }
+{
+    match short_decimal(digits) {
+        Some(number) if number <= u64::from(u32::MAX) => Some(number as u32),
+        Some(_) => None,
+        None => None,
+    }
+}
+
+/// A number from 0 on, where it is in the range.
+fn not_negative(at: &mut Progress, digits: &[u8]) -> i128
+    ensures notes { Notes is_in_range any at.old result at.new (pos (decimal digits.now)) }
+    ensures place { at.new.place ≡ at.old.place }
+    ensures zero { (result ≡ pos 0) ↔ (decimal digits.now ≡ 0) }
+{
+    match decimal(digits) {
+        Some(number) => number as i128,
+        None => {
+            at.fits = false;
+            i128::MAX
+        }
+    }
+}
+
+/// A number below 0, of which these digits write the absolute value; none where they write 0.
+fn negative(at: &mut Progress, digits: &[u8]) -> Option<i128>
+    ensures notes { NotesNegative (below_zero (decimal digits.now)) at.old at.new result }
+    ensures place { at.new.place ≡ at.old.place }
+    ensures zero { IfSome result (λ n. n ≡ pos 0 → ⊥) }
+{
+    match decimal(digits) {
+        Some(number) => {
+            if number == 0 {
+                return None;
+            }
+            Some(-(number as i128))
+        }
+        None => {
+            at.fits = false;
+            Some(-i128::MAX)
+        }
+    }
+}
+
+impl Source<'_> {
+    /// The number of a term.
+    pub(crate) fn term(&self, at: &mut Progress) -> Option<TermId>
+        requires { AreEnds self.now.proof.now self.now.ends.now }
+        ensures { Reads self.now.proof.now number any is_term_number at.old at.new result }
+    {
+        let digits = self.digits(at)?;
+        match term_number(digits) {
+            Some(number) => Some(number),
+            None => {
+                at.near = false;
+                Some(0)
+            }
+        }
+    }
+
+    /// The number of a step, or of anything else that there can't be more of.
+    pub(crate) fn count(&self, at: &mut Progress) -> Option<StepId>
+        requires { AreEnds self.now.proof.now self.now.ends.now }
+        ensures { Reads self.now.proof.now number any is_step_number at.old at.new result }
+    {
+        let digits = self.digits(at)?;
+        match short_decimal(digits) {
+            Some(number) => Some(number),
+            None => {
+                at.near = false;
+                Some(0)
+            }
+        }
+    }
+
+    /// A number that a rule counts with.
+    pub(crate) fn number(&self, at: &mut Progress) -> Option<u128>
+        requires { AreEnds self.now.proof.now self.now.ends.now }
+        ensures { Reads self.now.proof.now number is_small any at.old at.new result }
+    {
+        let digits = self.digits(at)?;
+        match decimal(digits) {
+            Some(number) => Some(number),
+            None => {
+                at.fits = false;
+                Some(0)
+            }
+        }
+    }
+
+    /// An integer, `n` or `(- n)`. It is 0 exactly where 0 is written.
+    pub(crate) fn integer(&self, at: &mut Progress) -> Option<i128>
+        requires { AreEnds self.now.proof.now self.now.ends.now }
+        ensures reads { Reads self.now.proof.now integer is_in_range any at.old at.new result }
+        ensures zero { IfSome result (λ n. (n ≡ pos 0) ↔ (first_by integer (ahead self.now.proof.now at.old.place) ≡ Some (pos 0))) }
+    {
+        match self.digits(at) {
+            Some(digits) => Some(not_negative(at, digits)),
+            None => self.negated(at),
+        }
+    }
+
+    /// An integer below 0, `(- n)`.
+    fn negated(&self, at: &mut Progress) -> Option<i128>
+        requires { AreEnds self.now.proof.now self.now.ends.now }
+        ensures reads { Reads self.now.proof.now integer_in_list is_in_range any at.old at.new result }
+        ensures zero { IfSome result (λ n. n ≡ pos 0 → ⊥) }
+    {
+        let close = self.enter(at)?;
+        let name = self.symbol(at)?;
+        if name != b"-".as_slice() {
+            return None;
+        }
+        let digits = self.digits(at)?;
+        if !self.is_end(at.place) {
+            return None;
+        }
+        let number = negative(at, digits)?;
+        at.place = close + 1;
+        Some(number)
+    }
+}

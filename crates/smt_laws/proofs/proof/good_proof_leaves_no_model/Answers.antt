@@ -1,5 +1,0 @@
-use Rattle.smt_laws.proofs.ProofRunning.{good_refutes}
-use Rattle.smt_laws.proofs.proof.good_proof_leaves_no_model.Goals as goal
-
-pub returns : goal.returns
-returns c = good_refutes c.named_assertions_have_no_model.ensures
