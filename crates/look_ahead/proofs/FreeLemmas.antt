@@ -18,7 +18,7 @@ use Rattle.look_ahead.specs.declared.free.Job.TheVariants.{Rest, First, Inside, 
 use Rattle.look_ahead.specs.declared.lets.LetPlaces.{LetPlaces}
 use Rattle.look_ahead.specs.declared.free.Form.{Form}
 use Rattle.look_ahead.specs.declared.free.Form.TheVariants.{Other}
-use Rattle.look_ahead.specs.Ahead.{ahead}
+use Rattle.look_ahead.specs.Ahead.{ahead, IsList}
 use Rattle.smt_laws.specs.Walk.{has_free_first}
 use Rattle.look_ahead.proofs.LetLemmas.{names_append}
 use Rattle.look_ahead.specs.Lets.{is_let, HasLet, names_of}
@@ -79,6 +79,13 @@ inside_other ts i js ks plain f =
     subst (Replaces ts (Inside i ∷ reverse js)) (sym (one_pushed js ks (Rest i) f))
     (record { same = λ ns hidden. ap (λ b. b || todo ts ns hidden (reverse js)) (plain (without hidden ns)); less = omega arith })
 
+pub inside_head : (ts : List Token) (i close : ℕ) (js ks : List Job) → IsList ts i close → ks ≡ js ++ Rest (close + 1) ∷ []
+    → Replaces ts (Inside i ∷ reverse js) (reverse ks)
+inside_head ts i close js ks h f =
+    let heavy : weights (ahead ts i) ≡ weights (group (ahead ts (i + 1)) ▸ ahead ts (close + 1)) = ap weights h.is in
+    subst (Replaces ts (Inside i ∷ reverse js)) (sym (one_pushed js ks (Rest (close + 1)) f))
+    (record { same = λ ns hidden. ap (λ x. has_free (without hidden ns) (group x) || todo ts ns hidden (reverse js)) h.is; less = omega arith })
+
 pub word_has_form : (ts : List Token) (i : ℕ) (v : TokenView) (f : Form) → (i < length ts) × (ahead ts i ≡ word (seen v) ▸ ahead ts (i + 1)) → f ≡ form_of (seen v) → FormAt ts i f
 word_has_form ts i v f h e = subst (FormAt ts i) (sym e) (go v h)
   where
@@ -94,9 +101,6 @@ no_form _ h = refl
 
 pub end_has_form : (ts : List Token) (i : ℕ) → ahead ts i ≡ end → (ns : List (List ℕ)) → has_free ns (group (ahead ts i)) ≡ some_has_free ns (ahead ts i)
 end_has_form ts i e ns = subst (λ l. has_free ns (group l) ≡ some_has_free ns l) (sym e) refl
-
-pub list_has_form : (ts : List Token) (i : ℕ) (g rest : Sexps) → ahead ts i ≡ group g ▸ rest → (ns : List (List ℕ)) → has_free ns (group (ahead ts i)) ≡ some_has_free ns (ahead ts i)
-list_has_form ts i g rest e ns = subst (λ l. has_free ns (group l) ≡ some_has_free ns l) (sym e) refl
 
 malformed : (ns : List (List ℕ)) (l : Sexps) → is_let l ≡ false → has_free ns (group (word (Reserved Let) ▸ l)) ≡ some_has_free ns (word (Reserved Let) ▸ l)
 malformed ns (group bs ▸ b ▸ end) e = absurd (cc)

@@ -6,10 +6,10 @@ use Rattle.smt_meaning.specs.Sorts.{bound_names, names_or_none, without, has_fre
 use Rattle.smt_meaning.specs.declared.tokens.Token.TheVariants.{Reserved}
 use Rattle.smt_meaning.specs.declared.tokens.Word.TheVariants.{Exclamation, Let as LetWord}
 use Rattle.look_ahead.specs.declared.free.Form.{Form}
-use Rattle.look_ahead.specs.declared.free.Form.TheVariants.{Let, Annotation, Other}
+use Rattle.look_ahead.specs.declared.free.Form.TheVariants.{Let, Annotation, Head, Other}
 use Rattle.look_ahead.specs.declared.free.Job.{Job}
 use Rattle.look_ahead.specs.declared.free.Job.TheVariants.{Rest, First, Inside, Bindings, Body, Unhide}
-use Rattle.look_ahead.specs.Ahead.{ahead}
+use Rattle.look_ahead.specs.Ahead.{ahead, IsList}
 
 abbrev pub first_free : List (List ℕ) → Sexps → Bool
 first_free ns end = false
@@ -91,4 +91,5 @@ form_of _ = Other
 abbrev pub FormAt : List Token → ℕ → Form → Type 0
 FormAt ts i Let = (i < length ts) × (ahead ts i ≡ word (Reserved LetWord) ▸ ahead ts (i + 1))
 FormAt ts i Annotation = (i < length ts) × (ahead ts i ≡ word (Reserved Exclamation) ▸ ahead ts (i + 1))
+FormAt ts i (Head close) = IsList ts i close
 FormAt ts i Other = (ns : List (List ℕ)) → has_free ns (group (ahead ts i)) ≡ some_has_free ns (ahead ts i)

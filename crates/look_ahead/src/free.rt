@@ -56,6 +56,8 @@ fn look_through_rest(
 pub(crate) enum Form {
     Let,
     Annotation,
+    /// A list that stands as its head, up to its `)`.
+    Head(usize),
     Other,
 }
 
@@ -91,11 +93,11 @@ fn form_at(term: &SExpr, ends: &[usize], place: usize) -> Form
     match part_at(term, ends, place) {
         Part::End => Form::Other,
         Part::Word(token) => token_form(token),
-        Part::List(_) => Form::Other,
+        Part::List(close) => Form::Head(close),
     }
 }
 
-/// A list, from its inside.
+/// A list, from its inside. Nothing of a list that stands as its head is free.
 fn look_inside(
     term: &SExpr,
     ends: &[usize],
@@ -109,6 +111,10 @@ fn look_inside(
         Form::Let => look_into_let(term, ends, place, jobs),
         Form::Annotation => {
             jobs.push(Job::First(place + 1))?;
+            Ok(())
+        }
+        Form::Head(close) => {
+            jobs.push(Job::Rest(close + 1))?;
             Ok(())
         }
         Form::Other => {

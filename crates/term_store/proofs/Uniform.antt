@@ -1,17 +1,19 @@
 -- Judging joins its trees to any list alike.
 use Rattle.std.proofs.Common.{◌≡◌, ℕ, List, [], ◌∷◌, ◌++◌, refl, ap, sym, subst, ◌∙◌, Bool, true, false, Option, Some, None, nat_lt}
-use Rattle.std.specs.Prelude.{codes, bytes_eq}
+use Rattle.std.specs.Prelude.{pos, codes, bytes_eq}
 use Rattle.smt_meaning.specs.declared.values.Sort.{Sort}
+use Rattle.smt_meaning.specs.declared.values.Sort.TheVariants.{Bool as Truths}
 use Rattle.smt_meaning.specs.declared.terms.Operator.{Operator}
-use Rattle.smt_meaning.specs.declared.terms.Operator.TheVariants.{True, False}
+use Rattle.smt_meaning.specs.declared.terms.Operator.TheVariants.{True, False, Divisible}
+use Rattle.smt_meaning.specs.declared.terms.Head.TheVariants.{Numeral as Number}
 use Rattle.smt_meaning.specs.declared.tokens.Token.{Token}
 use Rattle.smt_meaning.specs.declared.tokens.Token.TheVariants.{Numeral, Symbol, Reserved, Keyword}
 use Rattle.smt_meaning.specs.declared.tokens.Word.TheVariants.{Exclamation, Let}
 use Rattle.smt_meaning.specs.Declaration.{Declaration}
 use Rattle.smt_meaning.specs.declared.refusals.Refusal.{Refusal}
-use Rattle.smt_meaning.specs.Term.{Tree, Trees}
+use Rattle.smt_meaning.specs.Term.{Tree, Trees, node, none, more}
 use Rattle.smt_meaning.specs.Sexp.{Sexp, Sexps, word, group, end, ◌▸◌, sexp}
-use Rattle.smt_meaning.specs.Sorts.{Scope, Outcome, done, refused, Judging, go_on, ◌>>=◌, ◌>>◌, return, refuse, require, required, the_scope, with_all, note, found, declare, declare_in, most_symbols, Typed, Variable, Rules, Known, variable, operator, function, unknown, known, can_be_applied, judge_application, judge_bare, judge_symbol, judge_operator, judge_token, check_bindings, none_twice, bound_names, name_by, judge_attributes, either, judge, judge_all, judge_bindings}
+use Rattle.smt_meaning.specs.Sorts.{Scope, Outcome, done, refused, Judging, go_on, ◌>>=◌, ◌>>◌, return, refuse, require, required, the_scope, with_all, note, found, declare, declare_in, most_symbols, Typed, Variable, Rules, Known, variable, operator, function, unknown, known, can_be_applied, judge_application, judge_bare, judge_symbol, judge_operator, judge_token, head_number, judge_head, judge_divisible, check_bindings, none_twice, bound_names, name_by, judge_attributes, either, judge, judge_all, judge_bindings}
 use Rattle.smt_meaning.specs.StackCommand.{in_question, judge_terms}
 use Rattle.term_store.specs.Alike.{scope_at, Alike, JoinsAlike, TermsJoinAlike, QuestionsJoinAlike}
 use Rattle.term_store.proofs.Joining.{joined}
@@ -117,6 +119,15 @@ token_uniform r vs (Symbol n) = scope_then (λ s. judge_bare r n (known vs n s))
 token_uniform r vs (Numeral cs) = next_uniform (require_uniform _ _) (next_uniform (note_uniform _) (found_uniform _ _))
 token_uniform r vs _ = refuse_uniform _ _
 
+head_uniform : (o : Option ℕ) → Uniform (judge_head o)
+head_uniform None = refuse_uniform _ _
+head_uniform (Some n) = next_uniform (require_uniform _ _) (next_uniform (require_uniform _ _) (return_uniform n))
+
+divisible_uniform : (r : Rules) (n : ℕ) (ts : List Typed) → Uniform (judge_divisible r n ts)
+divisible_uniform r n [] = refuse_uniform _ _
+divisible_uniform r n (a ∷ []) = next_uniform (require_uniform _ _) (operator_uniform r Divisible (more a.tree (more (node (Number (pos n)) none) none)) Truths)
+divisible_uniform r n (a ∷ b ∷ ts) = refuse_uniform _ _
+
 none_twice_uniform : (before ns : List (List ℕ)) → Uniform (none_twice before ns)
 none_twice_uniform before [] = return_uniform tt
 none_twice_uniform before (n ∷ ns) = next_uniform (require_uniform _ _) (none_twice_uniform (n ∷ before) ns)
@@ -155,6 +166,8 @@ mutual
   judge_uniform r vs (group (word (Symbol n) ▸ ss)) =
       scope_then (λ s. can_be_applied n (known vs n s) >> (judge_all r vs ss >>= λ ts. judge_application r n (known vs n s) ts)) (λ ds i ts. refl) (λ s.
       next_uniform (applied_uniform n (known vs n s)) (bind_uniform (all_uniform r vs ss) (application_uniform r n (known vs n s))))
+  judge_uniform r vs (group (group hs ▸ ss)) =
+      bind_uniform (head_uniform (head_number hs)) (λ n. bind_uniform (all_uniform r vs ss) (divisible_uniform r n))
   judge_uniform r vs (group _) = refuse_uniform _ _
 
   all_uniform : (r : Rules) (vs : List Variable) (ss : Sexps) → Uniform (judge_all r vs ss)
