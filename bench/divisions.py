@@ -1,5 +1,5 @@
 #!/usr/bin/env python3
-"""Scripts with `div`, `mod` and `abs` by numerals, with answers from elsewhere.
+"""Scripts with `div`, `mod`, `abs` and `(_ divisible n)` by numerals, with answers from elsewhere.
 
 divisions.py values         a script of values over both signs and the ends of the range, and the replies that it must give (values.smt2, values.out)
 divisions.py drawn P S N    N drawn scripts of seed S to the program P: each answer against z3's, each model's values against the definition
@@ -53,6 +53,9 @@ def terms(numbers, divisors):
             term = f"(div {number(a)} {number(n)})", f"(mod {number(a)} {number(n)})"
             asked += term
             told += [f"({term[0]} {number(q)})", f"({term[1]} {number(r)})"]
+            if n > 0:
+                asked.append(f"((_ divisible {n}) {number(a)})")
+                told.append(f"(((_ divisible {n}) {number(a)}) {'true' if r == 0 else 'false'})")
         asked.append(f"(abs {number(a)})")
         told.append(f"((abs {number(a)}) {number(abs(a))})")
     return asked, told
@@ -86,7 +89,13 @@ def drawn_term(random, depth):
 
 
 def drawn_atom(random):
-    op = random.choice(["=", "<=", "<", "distinct"])
+    op = random.choice(["=", "<=", "<", "distinct", "divisible", "not divisible"])
+    if op.endswith("divisible"):
+        n = random.randint(1, 9)
+        s, f = drawn_term(random, 3)
+        if op == "divisible":
+            return f"((_ divisible {n}) {s})", lambda v: quotient(f(v), n)[1] == 0
+        return f"(not ((_ divisible {n}) {s}))", lambda v: quotient(f(v), n)[1] != 0
     s, f = drawn_term(random, 3)
     t, g = drawn_term(random, 2)
     holds = {"=": lambda a, b: a == b, "<=": lambda a, b: a <= b, "<": lambda a, b: a < b, "distinct": lambda a, b: a != b}[op]
@@ -104,15 +113,46 @@ def drawn_script(picks):
     return bound, asserted, script + "".join(f"(assert {a})\n" for a, _ in asserted) + "(check-sat)\n"
 
 
+# Scripts by hand, with what they must give.
+ROWS = [
+    (
+        "(declare-const x Int)(assert (= x (- 7)))(check-sat)(get-value ((div x 2) (mod x 2) (div x (- 2)) (mod x (- 2)) (abs x) ((_ divisible 7) x) (div 100 7 2)))",
+        ["sat", "(((div x 2) (- 4)) ((mod x 2) 1) ((div x (- 2)) 4) ((mod x (- 2)) 1) ((abs x) 7) (((_ divisible 7) x) true) ((div 100 7 2) 7))"],
+    ),
+    ("(declare-const x Int)(assert (and (<= 0 x 10) (= (mod x 3) 2) ((_ divisible 5) x)))(check-sat)(get-value (x))", ["sat", "((x 5))"]),
+    (
+        "(declare-const x Int)(assert (= x (div x 0)))(assert (= x (mod x 2 3)))(assert ((_ divisible 0) x))(assert (= 1 (div x x)))(assert (= 1 (* x (div 4 2))))",
+        ['(error "E16 not linear")', '(error "E14 number of arguments: mod")', '(error "E8 wrong arguments: assert")', '(error "E16 not linear")', '(error "E16 not linear")'],
+    ),
+    (
+        "(declare-const x Int)(assert ((_ divisible) x))(assert ((_ divisible 3 3) x))(assert ((_ divisible x) x))(assert ((_ divides 3) x))(assert ((_ divisible 170141183460469231731687303715884105728) y))"
+        "(assert ((_ divisible 170141183460469231731687303715884105728 1) y))(assert ((_ divisible 0) y))(assert (_ divisible 3))(assert ((_ divisible 3) y))(assert ((_ divisible 3)))(assert ((_ divisible 3) x x))"
+        "(assert ((_ divisible 3) true))(assert ((_ divisible 3) ((_ divisible 2) x)))(assert ((_ divisible 3) (* x x)))(assert (() x))(assert ((as divisible Bool) x))",
+        ['(error "E8 wrong arguments: assert")'] * 4
+        + ['(error "E5 numeral past 128 bits")']
+        + ['(error "E8 wrong arguments: assert")'] * 2
+        + ['(error "E13 unknown symbol: _")', '(error "E13 unknown symbol: y")']
+        + ['(error "E14 number of arguments: divisible")'] * 2
+        + ['(error "E15 sorts differ: divisible")'] * 2
+        + ['(error "E16 not linear")']
+        + ['(error "E8 wrong arguments: assert")'] * 2,
+    ),
+    (
+        "(declare-const divisible Int)(define-fun even ((y Int)) Bool ((_ |divisible| 2) y))(assert (let ((n 3)) (! ((_ divisible 2) 4) :named two)))(assert (xor (even divisible) (even (+ divisible 1))))(check-sat)"
+        "(assert (= (even divisible) (even (+ divisible 1))))(check-sat)(get-value (two))",
+        ["sat", "unsat", '(error "E20 not in sat mode")'],
+    ),
+    ("(declare-const x Int)(assert (and ((_ divisible 6) x) ((_ divisible 10) x) (not ((_ divisible 30) x)) (<= (- 1000) x 1000)))(check-sat)", ["unsat"]),
+    ("(declare-const x Int)(assert (and ((_ divisible 4) x) ((_ divisible 6) x) (not ((_ divisible 24) x)) (< 0 x 30)))(check-sat)(get-value (x))", ["sat", "((x 12))"]),
+]
+
+
 def stored(seed, count):
     begin = "(reset)\n(set-option :print-success false)\n(set-option :reproducible-resource-limit 0)\n(set-option :produce-models true)\n"
     lines = ["; Divisions: rows by hand, and what is refused."]
-    lines += [begin + "(declare-const x Int)(assert (= x (- 7)))(check-sat)(get-value ((div x 2) (mod x 2) (div x (- 2)) (mod x (- 2)) (abs x) (div 100 7 2)))"]
-    told = ["success", "sat", "(((div x 2) (- 4)) ((mod x 2) 1) ((div x (- 2)) 4) ((mod x (- 2)) 1) ((abs x) 7) ((div 100 7 2) 7))"]
-    lines += [begin + "(declare-const x Int)(assert (and (<= 0 x 10) (= (mod x 3) 2) (= (mod x 5) 0)))(check-sat)(get-value (x))"]
-    told += ["success", "sat", "((x 5))"]
-    lines += [begin + "(declare-const x Int)(assert (= x (div x 0)))(assert (= x (mod x 2 3)))(assert ((_ divisible 0) x))(assert (= 1 (div x x)))(assert (= 1 (* x (div 4 2))))"]
-    told += ["success", '(error "E16 not linear")', '(error "E14 number of arguments: mod")', '(error "E8 wrong arguments: assert")', '(error "E16 not linear")', '(error "E16 not linear")']
+    for script, replies in ROWS:
+        lines.append(begin + script)
+        told += ["success", *replies]
     asked, values = terms([0, 1, 5, 7, 100, 2**64 + 1, MAX], [1, 2, 3, 7, 2**32, MAX])
     lines += ["; Values over both signs and at the ends of the range.", begin + "(check-sat)"] + [f"(get-value ({term}))" for term in asked]
     told += ["success", "sat"] + [f"({value})" for value in values]
