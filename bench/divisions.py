@@ -140,7 +140,7 @@ ROWS = [
     (
         "(declare-const divisible Int)(define-fun even ((y Int)) Bool ((_ |divisible| 2) y))(assert (let ((n 3)) (! ((_ divisible 2) 4) :named two)))(assert (xor (even divisible) (even (+ divisible 1))))(check-sat)"
         "(assert (= (even divisible) (even (+ divisible 1))))(check-sat)(get-value (two))",
-        ["sat", "unsat", '(error "E20 not in sat mode")'],
+        ["sat", "unsat", '(error "E20 no model")'],
     ),
     ("(declare-const x Int)(assert (and ((_ divisible 6) x) ((_ divisible 10) x) (not ((_ divisible 30) x)) (<= (- 1000) x 1000)))(check-sat)", ["unsat"]),
     ("(declare-const x Int)(assert (and ((_ divisible 4) x) ((_ divisible 6) x) (not ((_ divisible 24) x)) (< 0 x 30)))(check-sat)(get-value (x))", ["sat", "((x 12))"]),
