@@ -8,6 +8,7 @@ divisions.py stored S N     the lines that the stored run of smt_cli has of divi
 divisions.py speed P        the measured families, beside z3 and cvc5: seconds each, or a dash past ten
 """
 import random
+import re
 import subprocess
 import sys
 import time
@@ -88,6 +89,20 @@ def drawn_term(random, depth):
     return f"(div {s} {number(n)} {number(m)})", lambda v: quotient(quotient(f(v), n)[0], m)[0]
 
 
+HEAD = re.compile(r"\(\(_ divisible (\d+)\) ")
+
+
+def by_remainder(script):
+    """The script with each divisibility as a remainder of 0, for a solver that doesn't read the head."""
+    while found := HEAD.search(script):
+        at, depth = found.end(), 1
+        while depth:
+            depth += {"(": 1, ")": -1}.get(script[at], 0)
+            at += 1
+        script = f"{script[:found.start()]}(= 0 (mod {script[found.end():at - 1]} {found[1]})){script[at:]}"
+    return script
+
+
 def drawn_atom(random):
     op = random.choice(["=", "<=", "<", "distinct", "divisible", "not divisible"])
     if op.endswith("divisible"):
@@ -149,7 +164,7 @@ ROWS = [
 
 def stored(seed, count):
     begin = "(reset)\n(set-option :print-success false)\n(set-option :reproducible-resource-limit 0)\n(set-option :produce-models true)\n"
-    lines = ["; Divisions: rows by hand, and what is refused."]
+    lines, told = ["; Divisions: rows by hand, and what is refused."], []
     for script, replies in ROWS:
         lines.append(begin + script)
         told += ["success", *replies]
@@ -161,7 +176,7 @@ def stored(seed, count):
     for _ in range(count):
         script = drawn_script(picks)[2]
         lines += [begin + script.rstrip("\n")]
-        answer = subprocess.run(["z3", "-in", "-T:60"], input="(set-logic QF_LIA)\n" + script, capture_output=True, text=True, timeout=120).stdout.split("\n")[0]
+        answer = subprocess.run(["z3", "-in", "-T:60"], input="(set-logic QF_LIA)\n" + by_remainder(script), capture_output=True, text=True, timeout=120).stdout.split("\n")[0]
         told += ["success", answer]
     lines += ["(reset)"]
     told += ["success"]
@@ -179,7 +194,7 @@ def drawn(program, seed, count):
         bound, asserted, script = drawn_script(picks)
         script = "(set-option :print-success false)\n(set-option :produce-models true)\n(set-logic QF_UFLIA)\n" + script
         ours = subprocess.run([*program.split()], input=script + "(get-value (x y z))\n", capture_output=True, text=True, timeout=120).stdout.split("\n")
-        other = subprocess.run(["z3", "-in", "-T:60"], input=script.replace("QF_UFLIA", "QF_LIA"), capture_output=True, text=True, timeout=120).stdout.split("\n")
+        other = subprocess.run(["z3", "-in", "-T:60"], input=by_remainder(script.replace("QF_UFLIA", "QF_LIA")), capture_output=True, text=True, timeout=120).stdout.split("\n")
         ok = ours[0] == other[0]
         if ok and ours[0] == "sat":
             sats += 1
