@@ -4,4 +4,5 @@ pub mod Quotients
 pub mod MarkLemmas
 pub mod KeepLemmas
 pub mod TableLemmas
+pub mod AscentLemmas
 pub mod RowLemmas

@@ -1,17 +1,16 @@
 -- A row that is found by the hash of its arguments.
 use Rattle.std.proofs.Common.{◌≡◌, ◌≢◌, ℕ, zero, suc, ◌-◌, ◌<◌, ◌≤◌, ℤ, pos, negsuc, Bool, true, false, List, [], ◌∷◌, ◌++◌, length, drop, get_or, refl, sym, ap, subst, ◌∙◌, inl, inr, arith}
-use Rattle.std.specs.Prelude.{◌&&◌, slice_get, map, Option, Some, IfSome}
+use Rattle.std.specs.Prelude.{◌&&◌, slice_get, IfSome}
 use Rattle.std.proofs.lemmas.Bool.{cases_eq, cases_lt, eqb-true}
 use Rattle.std.proofs.lemmas.List.{get_or_append_left, get_or_push, length_push}
 use Rattle.smt_meaning.specs.declared.values.Row.{Row}
-use Rattle.smt_meaning.specs.declared.values.Table.{Table}
 use Rattle.smt_meaning.specs.declared.values.Value.{Value}
 use Rattle.smt_meaning.specs.declared.values.Value.TheVariants.{Truth, Whole, Element}
 use Rattle.smt_meaning.specs.Term.{same_value, int_eq}
 use Rattle.smt_meaning.specs.Interpretation.{same_values, look}
 use Rattle.term_store.specs.Latest.{latest, last_place}
 use Rattle.term_store.proofs.LatestLemmas.{latest_here, latest_skips, latest_le, latest_sent, latest_again}
-use Rattle.model_eval.specs.Rows.{values_hash, row_hashes, row_index}
+use Rattle.model_eval.specs.Rows.{values_hash, row_hashes}
 
 -- ---- equal values
 
@@ -170,10 +169,3 @@ seeks_next rs default vs link next r s some e h last =
       less = omega arith;
       seeks = seeks_from rs default vs j next (omega arith) last' (sym (look_past at.row (drop (length rs - j) rs) default vs (ap (λ (x : Row). same_values vs x.arguments) (sym is) ∙ h)) ∙ rest);
     }
-
--- ---- the indexes of tables
-
-pub index_is : (ts : List Table) (i : ℕ) (t : Table) (o : Option (List ℕ)) → slice_get ts i ≡ Some t → slice_get (map row_index ts) i ≡ Some o → o ≡ row_index t
-index_is [] i t o e e' = absurd cc
-index_is (x ∷ ts) zero t o e e' = let same : x ≡ t = cc in let same' : row_index x ≡ o = cc in sym same' ∙ ap row_index same
-index_is (x ∷ ts) (suc i) t o e e' = index_is ts i t o e e'

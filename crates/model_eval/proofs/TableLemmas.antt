@@ -91,7 +91,7 @@ new_by place false o (Some i) same none = refl
 pub place_new : (at : ℕ → Option ℕ) (symbol q place : ℕ) → is_some (at symbol) ≡ false → cond (nat_eq symbol q) (Some place) (at q) ≡ place_with (at q) (nat_eq symbol q) place
 place_new at symbol q place none = new_by place (nat_eq symbol q) (at symbol) (at q) (λ e. ap at (sym (eqb-true symbol q e))) none
 
-take_one : (xs : List Table) (i : ℕ) (t : Table) → slice_get xs i ≡ Some t → take (suc i) xs ≡ take i xs ++ t ∷ []
+pub take_one : (xs : List Table) (i : ℕ) (t : Table) → slice_get xs i ≡ Some t → take (suc i) xs ≡ take i xs ++ t ∷ []
 take_one [] i t e = absurd cc
 take_one (x ∷ xs) zero t e = let same : x ≡ t = cc in ap (λ (y : Table). y ∷ []) same
 take_one (x ∷ xs) (suc i) t e = ap (λ (ys : List Table). x ∷ ys) (take_one xs i t e)

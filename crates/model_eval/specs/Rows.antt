@@ -1,9 +1,8 @@
 -- How a row of a table is found by a hash of its arguments. No public contract speaks of it.
-use Rattle.std.specs.Prelude.{ℕ, ℤ, pos, ◌/◌, ◌%◌, ◌^◌, ◌||◌, Bool, List, [], ◌∷◌, ◌++◌, Option, Some, None, length, nat_lt, int_lt, unsigned_abs, if◌then◌else◌}
+use Rattle.std.specs.Prelude.{ℕ, ℤ, pos, ◌/◌, ◌%◌, ◌^◌, ◌||◌, Bool, List, [], ◌∷◌, ◌++◌, nat_lt, int_lt, unsigned_abs, if◌then◌else◌}
 use Rattle.smt_meaning.specs.declared.values.Value.{Value}
 use Rattle.smt_meaning.specs.declared.values.Value.TheVariants.{Truth, Whole, Element}
 use Rattle.smt_meaning.specs.declared.values.Row.{Row}
-use Rattle.smt_meaning.specs.declared.values.Table.{Table}
 use Rattle.term_store.specs.Hash.{mixed}
 
 abbrev pub truth_word : Bool → ℕ
@@ -34,6 +33,3 @@ row_hashes (r ∷ rs) = row_hashes rs ++ values_hash r.arguments ∷ []
 -- few rows are scanned, and so are more than an index holds
 abbrev pub is_scanned : ℕ → Bool
 is_scanned count = nat_lt count 8 || nat_lt 0xffff_fffe count
-
-abbrev pub row_index : Table → Option (List ℕ)
-row_index t = if is_scanned (length t.rows) then None else Some (row_hashes t.rows)

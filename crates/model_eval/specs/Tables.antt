@@ -1,7 +1,7 @@
 -- Where the table of a symbol stands.
-use Rattle.std.specs.Prelude.{◌≡◌, ℕ, suc, Bool, true, false, List, [], ◌∷◌, Option, Some, None, map, nat_eq}
+use Rattle.std.specs.Prelude.{◌≡◌, ℕ, suc, Bool, true, false, List, [], ◌∷◌, Option, Some, None, ◌<◌, AllPairs, nat_eq, slice_get}
 use Rattle.smt_meaning.specs.declared.values.Table.{Table}
-use Rattle.model_eval.specs.Rows.{row_index}
+use Rattle.model_eval.specs.Rows.{row_hashes}
 
 -- here, or one place further than in the rest
 abbrev pub here_or_later : Bool → Option ℕ → Option ℕ
@@ -20,7 +20,14 @@ place_with (Some i) same place = Some i
 place_with None true place = Some place
 place_with None false place = None
 
--- each symbol has the place of its first table, and each table the index of its rows
-pub record IsFiled (tables : List Table) (places : ℕ → Option ℕ) (indexes : List (Option (List ℕ))) : Type 0 where
-  pub placed : (symbol : ℕ) → places symbol ≡ first_place tables symbol
-  pub indexed : indexes ≡ map row_index tables
+-- each table's symbol is below those of the later tables
+abbrev pub Ascend : List Table → Type 0
+Ascend tables = AllPairs (λ (t u : Table). t.symbol < u.symbol) tables
+
+-- each symbol has the place of its first table
+abbrev pub ArePlaces : List Table → (ℕ → Option ℕ) → Type 0
+ArePlaces tables places = (symbol : ℕ) → places symbol ≡ first_place tables symbol
+
+-- what is kept for a place is the hashes of the rows of the table there
+abbrev pub AreIndexes : List Table → (ℕ → Option (List ℕ)) → Type 0
+AreIndexes tables indexes = (place : ℕ) (t : Table) (hashes : List ℕ) → slice_get tables place ≡ Some t → indexes place ≡ Some hashes → hashes ≡ row_hashes t.rows

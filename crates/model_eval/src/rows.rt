@@ -1,7 +1,7 @@
 //! The rows of a table, found by a hash of their arguments.
-ghost use Rattle.std.specs.Prelude.{◌≡◌, ◌+◌, ◌<◌, ◌^◌, length, map, slice_get, Some, IfOk, IfSome};
+ghost use Rattle.std.specs.Prelude.{◌≡◌, ◌+◌, ◌<◌, ◌^◌, length, slice_get, IfOk, IfSome};
 ghost use Rattle.smt_meaning.specs.Interpretation.{same_values, look};
-ghost use Rattle.model_eval.specs.Rows.{truth_word, number_state, value_state, values_state, values_hash, row_hashes, is_scanned, row_index};
+ghost use Rattle.model_eval.specs.Rows.{truth_word, number_state, value_state, values_state, values_hash, row_hashes, is_scanned};
 
 use crate::operators::same;
 use smt_meaning::{Row, Table, Value};
@@ -73,7 +73,7 @@ fn hash_at(rows: &[Row], place: usize) -> u32
 }
 
 /// The hashes of the rows, the last row's first, so that of equal rows the first is found.
-fn hashed(alloc: Global, rows: &[Row]) -> Result<HashIndex, AllocError>
+pub(crate) fn hashed(alloc: Global, rows: &[Row]) -> Result<HashIndex, AllocError>
     requires { length rows.now + 1 < 2 ^ 32 }
     ensures { IfOk result (λ hashes. hashes ≡ row_hashes rows.now) }
 {
@@ -87,36 +87,10 @@ fn hashed(alloc: Global, rows: &[Row]) -> Result<HashIndex, AllocError>
 }
 
 /// Whether rows of this number are scanned.
-fn scanned(count: usize) -> bool
+pub(crate) fn scanned(count: usize) -> bool
     ensures { result ≡ is_scanned count }
 {
     count < 8 || count > 0xffff_fffe
-}
-
-/// The index of a table's rows, unless they are scanned.
-fn indexed(alloc: Global, table: &Table) -> Result<Option<HashIndex>, AllocError>
-    ensures { IfOk result (λ index. index ≡ row_index table.now) }
-{
-    let rows = table.rows.as_slice();
-    if scanned(rows.len()) {
-        return Ok(None);
-    }
-    Ok(Some(hashed(alloc, rows)?))
-}
-
-/// The index of each table's rows.
-pub(crate) fn indexes_of(
-    alloc: Global,
-    tables: &[Table],
-) -> Result<Vec<Option<HashIndex>>, AllocError>
-    ensures { IfOk result (λ indexes. indexes.items ≡ map row_index tables.now) }
-{
-    let mut indexes = Vec::new(alloc);
-    for table in tables {
-        let index = indexed(alloc, table)?;
-        indexes.push(index)?;
-    }
-    Ok(indexes)
 }
 
 /// The value of the first row with these arguments, by a scan.
@@ -147,9 +121,9 @@ fn find(rows: &[Row], index: &HashIndex, default: Value, arguments: &[Value]) ->
     default
 }
 
-/// The value of a function at these arguments.
-pub(crate) fn value_in(table: &Table, index: &Option<HashIndex>, arguments: &[Value]) -> Value
-    requires { index.now ≡ row_index table.now }
+/// The value of a function at these arguments, by an index of its rows or by a scan.
+pub(crate) fn value_in(table: &Table, index: Option<&HashIndex>, arguments: &[Value]) -> Value
+    requires { IfSome index (λ i. i.now ≡ row_hashes table.now.rows) }
     ensures { result ≡ look table.now.rows table.now.default arguments.now }
 {
     let rows = table.rows.as_slice();

@@ -1,7 +1,7 @@
 use Rattle.std.proofs.Common.{◌∙◌, ap, nat_eq}
 use Rattle.model_eval.specs.Tables.{place_with}
 use Rattle.model_eval.proofs.TableLemmas.{place_more}
-use Rattle.model_eval.proofs.tables.places_of.Goals as goal
+use Rattle.model_eval.proofs.tables.noted.Goals as goal
 
 pub loop-i-preserved : goal.loop-i-preserved
 loop-i-preserved c q =
