@@ -35,7 +35,7 @@ pub(crate) fn wrong_count(alloc: Global, name: &[u8]) -> JudgeError
 }
 
 /// The arguments' sorts aren't the head's.
-fn wrong_sorts(alloc: Global, name: &[u8]) -> JudgeError
+pub(crate) fn wrong_sorts(alloc: Global, name: &[u8]) -> JudgeError
     ensures { IsErrorOf (Refusal.SortsDiffer name.now) result }
 {
     match Bytes::copy(alloc, name) {
