@@ -388,7 +388,7 @@ LeavesBy r tokens s w f rest m =
 list_given : (r : Rules) (tokens : List Token) (w w' : Walk) (f : Frame) (m : Judging Typed) (rest : List Frame) (v : Value) (s : Scope) (us : List Tree) → LeavesBy r tokens s w f rest m → outside w.bindings f ≡ w.bindings → IsLonger s.trees us
     → Stands s w → w.answer ≡ None → w.frames ≡ f ∷ rest → Comes m s us (Ok v) → Given (popped w rest) v w' → StepComes (on_leave r (walk_of tokens s w)) s tokens (record s { trees = us }) w' (Ok tt)
 unfolding return
-list_given r tokens w w' f m rest v s us by o l st e h k g =
+list_given r tokens w w' f m rest v s us leaves o l st e h k g =
     let u : Scope = record s { trees = us } in
     let grown : Grown s u = grown_trees s us l in
     let small : Stands s (popped w rest) = rest_stands s w f rest e h o st in (

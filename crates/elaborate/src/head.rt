@@ -158,11 +158,7 @@ fn divisor_written(digits: &[u8]) -> Result<u128, JudgeError>
 }
 
 /// The number by which a head divides, whose list's inside begins at a place.
-pub(crate) fn divisor_head(
-    term: &SExpr,
-    ends: &[usize],
-    place: usize,
-) -> Result<u128, JudgeError>
+pub(crate) fn divisor_head(term: &SExpr, ends: &[usize], place: usize) -> Result<u128, JudgeError>
     requires ends { AreEnds term.now ends.now }
     requires within { place ≤ length term.now }
     ensures { IsDivisorHead (head_number (ahead term.now place)) result }

@@ -137,7 +137,14 @@ pub(crate) fn divisible_by(
     let _ = store.len();
     let divisor = stored(alloc, numeral(divisor), Sort::Int, &[], store)?;
     let _ = store.len();
-    left_by(alloc, Operator::Divisible, Sort::Bool, number, divisor, store)
+    left_by(
+        alloc,
+        Operator::Divisible,
+        Sort::Bool,
+        number,
+        divisor,
+        store,
+    )
 }
 
 /// The term of an operator with these arguments.

@@ -110,22 +110,20 @@ fn enter_form(alloc: Global, walk: &mut Walk) -> Result<(), JudgeError>
 }
 
 /// `(` that begins the head of a list, before a place.
-fn enter_head(
-    term: &SExpr,
-    ends: &[usize],
-    place: usize,
-    walk: &mut Walk,
-) -> Result<(), JudgeError>
+fn enter_head(term: &SExpr, ends: &[usize], place: usize, walk: &mut Walk) -> Result<(), JudgeError>
     requires ends { AreEnds term.now ends.now }
     requires within { place ≤ length term.now }
     requires kind { is_head (kind_of walk.old.answer walk.old.frames) ≡ true }
     ensures { (s : Scope) → Stands s walk.old → StepComes (on_enter (walk_of term.now s walk.old) (ahead term.now place)) s term.now s walk.new result }
 {
     match divisor_head(term, ends, place) {
-        Ok(number) => match walk.frames.pop() {
-            Some(_) => push(walk, Frame::Dividing(number, 0)),
-            None => Err(JudgeError::Memory),
-        },
+        Ok(number) => {
+            let frame = Frame::Dividing(number, 0);
+            match walk.frames.pop() {
+                Some(_) => push(walk, frame),
+                None => Err(JudgeError::Memory),
+            }
+        }
         Err(error) => Err(error),
     }
 }
