@@ -1,10 +1,12 @@
 -- What judging a question leaves of a scope: it declares nothing, and its trees join the list.
 use Rattle.std.proofs.Common.{◌≡◌, ℕ, ◌+◌, ◌≤◌, List, [], ◌∷◌, ◌++◌, length, refl, ◌∙◌, Bool, true, false, Option, Some, None, arith}
-use Rattle.std.specs.Prelude.{codes, bytes_eq, if◌then◌else◌}
+use Rattle.std.specs.Prelude.{pos, codes, bytes_eq, if◌then◌else◌}
 use Rattle.std.proofs.lemmas.List.{length-append}
 use Rattle.smt_meaning.specs.declared.values.Sort.{Sort}
+use Rattle.smt_meaning.specs.declared.values.Sort.TheVariants.{Bool as Truths}
 use Rattle.smt_meaning.specs.declared.terms.Operator.{Operator}
-use Rattle.smt_meaning.specs.declared.terms.Operator.TheVariants.{True, False}
+use Rattle.smt_meaning.specs.declared.terms.Operator.TheVariants.{True, False, Divisible}
+use Rattle.smt_meaning.specs.declared.terms.Head.TheVariants.{Numeral as Number}
 use Rattle.smt_meaning.specs.declared.tokens.Token.{Token}
 use Rattle.smt_meaning.specs.declared.tokens.Token.TheVariants.{Numeral, Symbol, Reserved, Keyword}
 use Rattle.smt_meaning.specs.declared.tokens.Word.TheVariants.{Exclamation, Let}
@@ -13,7 +15,7 @@ use Rattle.smt_meaning.specs.Declaration.{Declaration}
 use Rattle.smt_meaning.specs.Term.{Tree, Trees, node, none, more}
 use Rattle.smt_meaning.specs.TreeShape.{is_among, with_tree, with_parts, with_all_parts}
 use Rattle.smt_meaning.specs.Sexp.{Sexp, Sexps, word, group, end, ◌▸◌}
-use Rattle.smt_meaning.specs.Sorts.{Scope, Outcome, done, refused, Judging, go_on, ◌>>=◌, ◌>>◌, return, refuse, require, required, the_scope, with_all, note, found, Typed, Variable, Known, variable, operator, function, unknown, known, can_be_applied, judge_application, judge_bare, judge_symbol, judge_operator, judge_token, check_bindings, none_twice, bound_names, has_free, variable_names, name_by, judge_attributes, either, judge, judge_all, judge_bindings}
+use Rattle.smt_meaning.specs.Sorts.{Scope, Outcome, done, refused, Judging, go_on, ◌>>=◌, ◌>>◌, return, refuse, require, required, the_scope, with_all, note, found, Typed, Variable, Known, variable, operator, function, unknown, known, can_be_applied, judge_application, judge_bare, judge_symbol, judge_operator, judge_token, head_number, judge_head, judge_divisible, check_bindings, none_twice, bound_names, has_free, variable_names, name_by, judge_attributes, either, judge, judge_all, judge_bindings}
 use Rattle.smt_meaning.specs.StackCommand.{in_question}
 
 -- nothing is declared, and no tree goes
@@ -145,6 +147,15 @@ token_leaves vs (Symbol n) = bind_leaves scope_leaves (λ s. bare_leaves n (know
 token_leaves vs (Numeral cs) = next_leaves (require_leaves _ _) (next_leaves (note_leaves _) (found_leaves _ _))
 token_leaves vs _ = refuse_leaves _ _
 
+head_leaves : (o : Option ℕ) → Leaving (judge_head o)
+head_leaves None = refuse_leaves _ _
+head_leaves (Some n) = next_leaves (require_leaves _ _) (next_leaves (require_leaves _ _) (return_leaves n))
+
+divisible_leaves : (n : ℕ) (ts : List Typed) → Leaving (judge_divisible in_question n ts)
+divisible_leaves n [] = refuse_leaves _ _
+divisible_leaves n (a ∷ []) = next_leaves (require_leaves _ _) (operator_leaves Divisible (more a.tree (more (node (Number (pos n)) none) none)) Truths)
+divisible_leaves n (a ∷ b ∷ ts) = refuse_leaves _ _
+
 none_twice_leaves : (before ns : List (List ℕ)) → Leaving (none_twice before ns)
 none_twice_leaves before [] = return_leaves tt
 none_twice_leaves before (n ∷ ns) = next_leaves (require_leaves _ _) (none_twice_leaves (n ∷ before) ns)
@@ -183,6 +194,7 @@ mutual
   judge_leaves vs (group (word (Reserved w) ▸ _)) = refuse_leaves _ _
   judge_leaves vs (group (word (Symbol n) ▸ ss)) =
       bind_leaves scope_leaves (λ s. next_leaves (applied_leaves n (known vs n s)) (bind_leaves (all_leave vs ss) (application_leaves n (known vs n s))))
+  judge_leaves vs (group (group hs ▸ ss)) = bind_leaves (head_leaves (head_number hs)) (λ n. bind_leaves (all_leave vs ss) (divisible_leaves n))
   judge_leaves vs (group _) = refuse_leaves _ _
 
   all_leave : (vs : List Variable) (ss : Sexps) → Leaving (judge_all in_question vs ss)

@@ -1,12 +1,12 @@
 -- The tree of an accepted term has the value of the term.
 use Rattle.std.proofs.Common.{◌≡◌, ℕ, List, [], ◌∷◌, ◌++◌, ap, sym, ◌∙◌, refl, subst, Bool, true, false, ◌&&◌, not, Option, Some, None, append_assoc, append-nil}
-use Rattle.std.specs.Prelude.{bytes_eq, if◌then◌else◌}
+use Rattle.std.specs.Prelude.{pos, bytes_eq, if◌then◌else◌}
 use Rattle.smt_meaning.specs.declared.values.Value.{Value}
 use Rattle.smt_meaning.specs.declared.values.Sort.{Sort}
 use Rattle.smt_meaning.specs.declared.values.Sort.TheVariants.{Bool as Truths}
 use Rattle.smt_meaning.specs.declared.terms.Operator.{Operator}
 use Rattle.smt_meaning.specs.declared.terms.Operator.TheVariants.{True, False, Divide, Modulo, Divisible}
-use Rattle.smt_meaning.specs.declared.terms.Head.TheVariants.{Theory}
+use Rattle.smt_meaning.specs.declared.terms.Head.TheVariants.{Numeral as Number, Theory}
 use Rattle.smt_meaning.specs.declared.tokens.Token.{Token}
 use Rattle.smt_meaning.specs.declared.tokens.Token.TheVariants.{Numeral, Symbol, Reserved}
 use Rattle.smt_meaning.specs.declared.tokens.Word.TheVariants.{Exclamation, Let}
@@ -16,8 +16,8 @@ use Rattle.smt_meaning.specs.Term.{Tree, Trees, node, none, more, Interpretation
 use Rattle.smt_meaning.specs.TreeShape.{quotient_tree, divided_from, operation}
 use Rattle.smt_meaning.specs.Sexp.{Sexp, Sexps, word, group, end, ◌▸◌}
 use Rattle.smt_meaning.specs.Signature.{look_up, find_function, operators}
-use Rattle.smt_meaning.specs.Sorts.{Scope, Outcome, done, refused, Judging, go_on, ◌>>=◌, ◌>>◌, return, refuse, require, required, the_scope, note, found, Typed, Variable, Rules, trees_of, find_variable, known, known_name, known_symbol, applied, applied_trees, judge_symbol, judge_operator, can_be_applied, judge_application, judge_bare, judge_numeral, decimal, judge_token, check_bindings, none_twice, bound_names, judge, judge_all, judge_bindings, has_free, variable_names}
-use Rattle.smt_meaning.specs.Environment.{Environment, bound_value, declared_value, operator_or_declared, function_value, value_or, term_value, term_values, binding_values}
+use Rattle.smt_meaning.specs.Sorts.{Scope, Outcome, done, refused, Judging, go_on, ◌>>=◌, ◌>>◌, return, refuse, require, required, the_scope, note, found, Typed, Variable, Rules, trees_of, find_variable, known, known_name, known_symbol, applied, applied_trees, judge_symbol, judge_operator, can_be_applied, judge_application, judge_bare, judge_numeral, decimal, judge_token, head_number, judge_head, judge_divisible, check_bindings, none_twice, bound_names, judge, judge_all, judge_bindings, has_free, variable_names}
+use Rattle.smt_meaning.specs.Environment.{Environment, bound_value, declared_value, operator_or_declared, function_value, value_or, divisible_value, term_value, term_values, binding_values}
 use Rattle.smt_laws.specs.TermLaws.{environment_of}
 use Rattle.smt_laws.proofs.JudgeLaw.{Growing, Grows, attributes_growing}
 use Rattle.smt_laws.proofs.BodyLaw.{applied_value}
@@ -218,6 +218,30 @@ application_gives s r n None None (Some d) ts =
     (λ b u f. from_same s u _ (Applied s None (Some d) ts) f
     (weaken s _ (IsTree s (applied d (trees_of ts))) (Applied s None (Some d) ts) (λ c w h. (h.0, λ p k I ps. declared_same I ps c.tree d (trees_of ts) p k h.1)) (symbol_gives s r d (trees_of ts))))))
 
+-- ---- (_ divisible n)
+
+head_gives : (s : Scope) (o : Option ℕ) → Gives s (judge_head o) (λ n t. (t ≡ s) × (o ≡ Some n))
+head_gives s None = refuse_gives s _ _
+head_gives s (Some n) =
+    next_gives s _ _ (Same s) (λ m t. (t ≡ s) × (Some n ≡ Some m)) (require_gives s _ _)
+    (λ a t e. from_same s t _ (λ m u. (u ≡ s) × (Some n ≡ Some m)) e
+    (next_gives s _ _ (Same s) (λ m u. (u ≡ s) × (Some n ≡ Some m)) (require_gives s _ _)
+    (λ b u f. from_same s u _ (λ m w. (w ≡ s) × (Some n ≡ Some m)) f (return_gives s n (λ m w. (w ≡ s) × (Some n ≡ Some m)) (refl, refl)))))
+
+-- such an application says whether the number divides
+abbrev DividesSo : Scope → ℕ → List Typed → Typed → Scope → Type 0
+DividesSo s n ts a t =
+    (t.signature ≡ s.signature) × ((I : Interpretation) (ps : List Value) → value_with I ps a.tree ≡ divisible_value (Some n) (values_with I ps (trees_of ts)))
+
+divisible_gives : (s : Scope) (r : Rules) (n : ℕ) (ts : List Typed) → Gives s (judge_divisible r n ts) (DividesSo s n ts)
+divisible_gives s r n [] = refuse_gives s _ _
+divisible_gives s r n (a ∷ []) =
+    let arguments : Trees = more a.tree (more (node (Number (pos n)) none) none) in
+    next_gives s _ _ (Same s) (DividesSo s n (a ∷ [])) (require_gives s _ _)
+    (λ b t e. from_same s t _ (DividesSo s n (a ∷ [])) e
+    (weaken s _ (IsTree s (operation Divisible arguments)) (DividesSo s n (a ∷ [])) (λ c w h. (h.0, λ I ps. ap (value_with I ps) h.1)) (operator_gives s r Divisible arguments Truths)))
+divisible_gives s r n (a ∷ b ∷ ts) = refuse_gives s _ _
+
 can_be_applied_gives : (s : Scope) (n : List ℕ) (v : Option Typed) (o : Option Operator) (d : Option Declaration) → Gives s (can_be_applied n (known_name v (known_symbol o d))) (Same s)
 can_be_applied_gives s n (Some v) o d = refuse_gives s _ _
 can_be_applied_gives s n None (Some o) d = return_gives s tt (Same s) refl
@@ -334,6 +358,16 @@ mutual
             ∙ ap (function_value ds I n) (h.1 ds (later_same u w ds k.0 l) I ps),
       ))
       (application_gives u r n (find_variable n vs) (look_up n operators) (find_function n s.signature) ts)))))
+  judge_means r vs (group (group hs ▸ xs)) s =
+      bind_gives s _ _ (λ n t. (t ≡ s) × (head_number hs ≡ Some n)) (Means s vs (group (group hs ▸ xs))) (head_gives s (head_number hs))
+      (λ n t e. from_same s t _ (Means s vs (group (group hs ▸ xs))) e.0
+      (bind_gives s _ _ (MeanAll s vs xs) (Means s vs (group (group hs ▸ xs))) (all_mean r vs xs s)
+      (λ ts u h. weaken u _ (DividesSo u n ts) (Means s vs (group (group hs ▸ xs)))
+      (λ c w k. (
+        later_still s u w.signature h.0 (unchanged u w k.0),
+        λ ds l I ps. k.1 I ps ∙ ap (divisible_value (Some n)) (h.1 ds (later_same u w ds k.0 l) I ps) ∙ ap (λ o. divisible_value o (term_values ds I (environment_of I ps vs) xs)) (sym e.1),
+      ))
+      (divisible_gives u r n ts))))
   judge_means r vs (group _) s = refuse_gives s _ _
 
   all_mean : (r : Rules) (vs : List Variable) (xs : Sexps) (s : Scope) → Gives s (judge_all r vs xs) (MeanAll s vs xs)

@@ -1,11 +1,12 @@
 -- A term that was judged where no name is given is judged alike again, and notes no tree.
 use Rattle.std.proofs.Common.{◌≡◌, ◌∙◌, ℕ, List, [], ◌∷◌, ◌++◌, refl, ap, sym, subst, Bool, true, false, Option, Some, None, append_assoc, append-nil}
-use Rattle.std.specs.Prelude.{codes, bytes_eq, if◌then◌else◌}
+use Rattle.std.specs.Prelude.{pos, codes, bytes_eq, if◌then◌else◌}
 use Rattle.smt_meaning.specs.declared.refusals.Refusal.{Refusal}
 use Rattle.smt_meaning.specs.declared.values.Sort.{Sort}
 use Rattle.smt_meaning.specs.declared.values.Sort.TheVariants.{Bool as Truths}
 use Rattle.smt_meaning.specs.declared.terms.Operator.{Operator}
-use Rattle.smt_meaning.specs.declared.terms.Operator.TheVariants.{True, False}
+use Rattle.smt_meaning.specs.declared.terms.Operator.TheVariants.{True, False, Divisible}
+use Rattle.smt_meaning.specs.declared.terms.Head.TheVariants.{Numeral as Number}
 use Rattle.smt_meaning.specs.declared.tokens.Token.{Token}
 use Rattle.smt_meaning.specs.declared.tokens.Token.TheVariants.{Numeral, Symbol, Reserved, Keyword}
 use Rattle.smt_meaning.specs.declared.tokens.Word.TheVariants.{Exclamation, Let}
@@ -14,7 +15,7 @@ use Rattle.smt_meaning.specs.Term.{Tree, Trees, node, none, more}
 use Rattle.smt_meaning.specs.TreeShape.{is_among, with_tree, with_parts, with_all_parts}
 use Rattle.smt_meaning.specs.Sexp.{Sexp, Sexps, word, group, end, ◌▸◌}
 use Rattle.smt_meaning.specs.Signature.{look_up, find_function, operators}
-use Rattle.smt_meaning.specs.Sorts.{Scope, Outcome, done, refused, Judging, go_on, ◌>>=◌, ◌>>◌, return, refuse, require, required, either, the_scope, note, with_all, found, Typed, Variable, Rules, Known, variable, operator, function, unknown, known, known_name, known_symbol, find_variable, can_be_applied, judge_application, judge_operator, judge_symbol, judge_bare, judge_token, judge_attributes, name_by, has_free, variable_names, bound_names, check_bindings, none_twice, judge, judge_all, judge_bindings}
+use Rattle.smt_meaning.specs.Sorts.{Scope, Outcome, done, refused, Judging, go_on, ◌>>=◌, ◌>>◌, return, refuse, require, required, either, the_scope, note, with_all, found, Typed, Variable, Rules, Known, variable, operator, function, unknown, known, known_name, known_symbol, find_variable, can_be_applied, judge_application, judge_operator, judge_symbol, judge_bare, judge_token, head_number, judge_head, judge_divisible, judge_attributes, name_by, has_free, variable_names, bound_names, check_bindings, none_twice, judge, judge_all, judge_bindings}
 use Rattle.smt_meaning.specs.StackCommand.{in_question}
 use Rattle.smt_laws.specs.TermLaws.{JudgedAgain}
 use Rattle.smt_laws.proofs.AgainLemmas.{noted_once}
@@ -213,6 +214,15 @@ token_steady r vs (Symbol n) = scope_steady _ (λ s t e. ap (judge_bare r n) (kn
 token_steady r vs (Numeral cs) = next_steady (require_steady _ _) (next_steady (note_steady _) (found_steady _ _))
 token_steady r vs _ = refuse_steady _
 
+number_steady : (o : Option ℕ) → Steady (judge_head o)
+number_steady None = refuse_steady _
+number_steady (Some n) = next_steady (require_steady _ _) (next_steady (require_steady _ _) (return_steady n))
+
+divisible_steady : (r : Rules) (n : ℕ) (ts : List Typed) → Steady (judge_divisible r n ts)
+divisible_steady r n [] = refuse_steady _
+divisible_steady r n (a ∷ []) = next_steady (require_steady _ _) (operator_steady r Divisible (more a.tree (more (node (Number (pos n)) none) none)) Truths)
+divisible_steady r n (a ∷ b ∷ ts) = refuse_steady _
+
 twice_steady : (before ns : List (List ℕ)) → Steady (none_twice before ns)
 twice_steady before [] = return_steady tt
 twice_steady before (n ∷ ns) = next_steady (require_steady _ _) (twice_steady (n ∷ before) ns)
@@ -235,6 +245,7 @@ mutual
   judge_steady vs (group (word (Symbol n) ▸ ss)) =
       scope_steady _ (λ s t e. ap (λ k. can_be_applied n k >> (judge_all in_question vs ss >>= judge_application in_question n k)) (known_same vs n s t e))
       (λ s. next_steady (head_steady n (known vs n s)) (bind_steady (all_steady vs ss) (application_steady in_question n (known vs n s))))
+  judge_steady vs (group (group hs ▸ ss)) = bind_steady (number_steady (head_number hs)) (λ n. bind_steady (all_steady vs ss) (divisible_steady in_question n))
   judge_steady vs (group _) = refuse_steady _
 
   all_steady : (vs : List Variable) (ss : Sexps) → Steady (judge_all in_question vs ss)

@@ -1,17 +1,19 @@
 -- What noting trees and declaring symbols keep, judging terms and commands keeps.
 use Rattle.std.proofs.Common.{◌≡◌, ℕ, ◌+◌, List, [], ◌∷◌, ◌++◌, map, refl, Bool, true, false, Option, Some, None, nat_lt}
-use Rattle.std.specs.Prelude.{ℤ, codes, bytes_eq, if◌then◌else◌}
+use Rattle.std.specs.Prelude.{ℤ, pos, codes, bytes_eq, if◌then◌else◌}
 use Rattle.smt_meaning.specs.declared.values.Sort.{Sort}
+use Rattle.smt_meaning.specs.declared.values.Sort.TheVariants.{Bool as Truths}
 use Rattle.smt_meaning.specs.declared.terms.Operator.{Operator}
-use Rattle.smt_meaning.specs.declared.terms.Operator.TheVariants.{True, False}
+use Rattle.smt_meaning.specs.declared.terms.Operator.TheVariants.{True, False, Divisible}
+use Rattle.smt_meaning.specs.declared.terms.Head.TheVariants.{Numeral as Number}
 use Rattle.smt_meaning.specs.declared.tokens.Token.{Token}
 use Rattle.smt_meaning.specs.declared.tokens.Token.TheVariants.{Numeral, Symbol, Reserved, Keyword}
 use Rattle.smt_meaning.specs.declared.tokens.Word.TheVariants.{Exclamation, Let}
 use Rattle.smt_meaning.specs.Declaration.{Declaration}
 use Rattle.smt_meaning.specs.declared.refusals.Refusal.{Refusal}
-use Rattle.smt_meaning.specs.Term.{Tree, Trees}
+use Rattle.smt_meaning.specs.Term.{Tree, Trees, node, none, more}
 use Rattle.smt_meaning.specs.Sexp.{Sexp, Sexps, word, group, end, ◌▸◌, sexp}
-use Rattle.smt_meaning.specs.Sorts.{Scope, Outcome, done, refused, Judging, go_on, ◌>>=◌, ◌>>◌, return, refuse, require, required, the_scope, with_all, note, found, declare, declare_in, most_symbols, Typed, Variable, Rules, Known, variable, operator, function, unknown, known, can_be_applied, judge_application, judge_bare, judge_symbol, judge_operator, judge_token, check_bindings, none_twice, bound_names, name_by, judge_attributes, either, judge, judge_all, judge_bindings}
+use Rattle.smt_meaning.specs.Sorts.{Scope, Outcome, done, refused, Judging, go_on, ◌>>=◌, ◌>>◌, return, refuse, require, required, the_scope, with_all, note, found, declare, declare_in, most_symbols, Typed, Variable, Rules, Known, variable, operator, function, unknown, known, can_be_applied, judge_application, judge_bare, judge_symbol, judge_operator, judge_token, head_number, judge_head, judge_divisible, check_bindings, none_twice, bound_names, name_by, judge_attributes, either, judge, judge_all, judge_bindings}
 use Rattle.smt_meaning.specs.Goal.{pair_text}
 use Rattle.smt_meaning.specs.StackCommand.{Change, declares, sets, clears, begins_again, is_unsupported, judge_sort, judge_sorts, new_sort_name, new_function_name, declare_new_sort, declare_sort, define_sort, declare_function, judge_parameters, apart, in_body, judge_body, define_function, require_room, in_assert, assert_term, in_question, judge_terms, judge_questions, assume_terms, minimize_term, stack_command}
 use Rattle.smt_meaning.specs.declared.commands.WrittenSort.{WrittenSort}
@@ -121,6 +123,15 @@ module _ {P : Scope → Type 0} (i : Invariant P) where
   token_keeping r vs (Numeral cs) = next_keeping (require_keeping _ _) (next_keeping (note_keeping _) (found_keeping _ _))
   token_keeping r vs _ = refuse_keeping _ _
 
+  head_keeping : (o : Option ℕ) → Keeping P (judge_head o)
+  head_keeping None = refuse_keeping _ _
+  head_keeping (Some n) = next_keeping (require_keeping _ _) (next_keeping (require_keeping _ _) (return_keeping n))
+
+  divisible_keeping : (r : Rules) (n : ℕ) (ts : List Typed) → Keeping P (judge_divisible r n ts)
+  divisible_keeping r n [] = refuse_keeping _ _
+  divisible_keeping r n (a ∷ []) = next_keeping (require_keeping _ _) (operator_keeping r Divisible (more a.tree (more (node (Number (pos n)) none) none)) Truths)
+  divisible_keeping r n (a ∷ b ∷ ts) = refuse_keeping _ _
+
   none_twice_keeping : (before ns : List (List ℕ)) → Keeping P (none_twice before ns)
   none_twice_keeping before [] = return_keeping tt
   none_twice_keeping before (n ∷ ns) = next_keeping (require_keeping _ _) (none_twice_keeping (n ∷ before) ns)
@@ -159,6 +170,8 @@ module _ {P : Scope → Type 0} (i : Invariant P) where
     judge_keeping r vs (group (word (Symbol n) ▸ ss)) =
         bind_keeping scope_keeping (λ s.
         next_keeping (applied_keeping n (known vs n s)) (bind_keeping (all_keeping r vs ss) (application_keeping r n (known vs n s))))
+    judge_keeping r vs (group (group hs ▸ ss)) =
+        bind_keeping (head_keeping (head_number hs)) (λ n. bind_keeping (all_keeping r vs ss) (divisible_keeping r n))
     judge_keeping r vs (group _) = refuse_keeping _ _
 
     all_keeping : (r : Rules) (vs : List Variable) (ss : Sexps) → Keeping P (judge_all r vs ss)

@@ -4,20 +4,20 @@ use Rattle.std.specs.Prelude.{codes, bytes_eq, pos, if◌then◌else◌}
 use Rattle.smt_meaning.specs.declared.values.Sort.{Sort}
 use Rattle.smt_meaning.specs.declared.values.Sort.TheVariants.{Bool as Truths, Int as Ints}
 use Rattle.smt_meaning.specs.declared.terms.Operator.{Operator}
-use Rattle.smt_meaning.specs.declared.terms.Operator.TheVariants.{True, False}
+use Rattle.smt_meaning.specs.declared.terms.Operator.TheVariants.{True, False, Divisible}
 use Rattle.smt_meaning.specs.declared.terms.Head.TheVariants.{Numeral as Number, Theory, Symbol as Function}
 use Rattle.smt_meaning.specs.declared.tokens.Token.{Token}
 use Rattle.smt_meaning.specs.declared.tokens.Token.TheVariants.{Numeral, Symbol, Reserved, Keyword}
 use Rattle.smt_meaning.specs.declared.tokens.Word.TheVariants.{Exclamation, Let}
 use Rattle.smt_meaning.specs.Declaration.{Declaration, Body}
-use Rattle.smt_meaning.specs.Term.{Trees, node, none}
+use Rattle.smt_meaning.specs.Term.{Tree, Trees, node, none, more}
 use Rattle.smt_meaning.specs.TreeShape.{is_linear_operation, operation, put}
 use Rattle.smt_meaning.specs.Sexp.{Sexp, Sexps, word, group, end, ◌▸◌}
 use Rattle.smt_meaning.specs.Signature.{look_up, find_function, operators}
-use Rattle.smt_meaning.specs.Sorts.{Scope, Judging, Typed, Variable, Rules, trees_of, Known, variable, operator, function, unknown, known, find_variable, known_name, known_symbol, applied, applied_trees, all_are_linear, judge_symbol, judge_operator, can_be_applied, judge_application, judge_bare, judge_numeral, decimal, judge_token, check_bindings, none_twice, bound_names, name_by, judge_attributes, either, judge, judge_all, judge_bindings, has_free, variable_names}
+use Rattle.smt_meaning.specs.Sorts.{Scope, Judging, Typed, Variable, Rules, trees_of, Known, variable, operator, function, unknown, known, find_variable, known_name, known_symbol, applied, applied_trees, all_are_linear, judge_symbol, judge_operator, can_be_applied, judge_application, judge_bare, judge_numeral, decimal, judge_token, is_small, head_number, judge_head, judge_divisible, check_bindings, none_twice, bound_names, name_by, judge_attributes, either, judge, judge_all, judge_bindings, has_free, variable_names}
 use Rattle.smt_laws.proofs.Among.{Among, among_one, among_map, among_parts}
 use Rattle.smt_laws.proofs.Each.{Each, EachOf, of_among, each_among, each_parts}
-use Rattle.smt_laws.proofs.Shapes.{Linear, linear_up, linear_each, operation_linear, operation_small, tested, Small, small_down, small_up, put_each_small}
+use Rattle.smt_laws.proofs.Shapes.{Linear, linear_up, linear_each, operation_linear, left_over_linear, operation_small, tested, Small, small_down, small_up, put_each_small}
 use Rattle.smt_laws.proofs.LinearLawsJudgements.{Stands, AllStand, Good, After, Gives, Nothing, bind_gives, next_gives, return_gives, refuse_gives, require_gives, required_gives, scope_then, Fine, note_found, declare_gives}
 
 -- ---- lists of terms and of variables
@@ -120,12 +120,17 @@ symbol_gives s r d ts g h w =
     (λ a t f e k. note_found r.closed t (applied_trees d ts) (applied d ts) d.rank.result (applied_small d ts h small)
     (λ closed. linear_each (applied_trees d ts) (tested r.closed (all_are_linear (applied_trees d ts)) k closed)) (applied_among d ts h))
 
+operation_gives : (s : Scope) (r : Rules) (o : Operator) (ts : Trees) (x : Sort) → EachOf Small ts → (r.closed ≡ true → is_linear_operation o ts ≡ true → Linear (operation o ts))
+    → Gives r.closed s (judge_operator r o ts x) Fine
+operation_gives s r o ts x small up =
+    next_gives r.closed s _ _ _ Fine (require_gives r.closed s _ _)
+    (λ a t f e k. note_found r.closed t (operation o ts ∷ []) (operation o ts) x (operation_small o ts small, tt)
+    (λ closed. (up closed (tested r.closed (is_linear_operation o ts) k closed), tt)) (among_one (operation o ts)))
+
+-- of terms that were judged
 operator_gives : (s : Scope) (r : Rules) (o : Operator) (ts : Trees) (x : Sort) → (is_linear_operation o ts ≡ true → EachOf Linear ts → Linear (operation o ts)) → Good r.closed s → AreAmong ts s
     → Gives r.closed s (judge_operator r o ts x) Fine
-operator_gives s r o ts x up g w =
-    next_gives r.closed s _ _ _ Fine (require_gives r.closed s _ _)
-    (λ a t f e k. note_found r.closed t (operation o ts ∷ []) (operation o ts) x (operation_small o ts (of_among Small ts s.trees g.small w), tt)
-    (λ closed. (up (tested r.closed (is_linear_operation o ts) k closed) (of_among Linear ts s.trees (g.linear closed) w), tt)) (among_one (operation o ts)))
+operator_gives s r o ts x up g w = operation_gives s r o ts x (of_among Small ts s.trees g.small w) (λ closed l. up l (of_among Linear ts s.trees (g.linear closed) w))
 
 bare_gives : (s : Scope) (r : Rules) (n : List ℕ) (k : Known) → Good r.closed s → KnownFine k s → Gives r.closed s (judge_bare r n k) Fine
 bare_gives s r n (variable a) g h = return_gives r.closed s a Fine h
@@ -200,6 +205,24 @@ token_gives s r vs (Symbol n) g h = scope_then r.closed s (λ u. judge_bare r n 
 token_gives s r vs (Numeral cs) g h = numeral_gives r.closed s (decimal cs)
 token_gives s r vs _ g h = refuse_gives r.closed s _ _
 
+-- ---- (_ divisible n)
+
+head_gives : (c : Bool) (s : Scope) (o : Option ℕ) → Gives c s (judge_head o) (λ n t. is_small n ≡ true)
+head_gives c s None = refuse_gives c s _ _
+head_gives c s (Some n) =
+    next_gives c s _ _ _ (λ m t. is_small m ≡ true) (require_gives c s _ _)
+    (λ a t g e k. next_gives c t _ _ _ (λ m u. is_small m ≡ true) (require_gives c t _ _) (λ b u f d small. return_gives c u n (λ m v. is_small m ≡ true) small))
+
+divisible_gives : (s : Scope) (r : Rules) (n : ℕ) (ts : List Typed) → is_small n ≡ true → Good r.closed s → AllFine ts s → Gives r.closed s (judge_divisible r n ts) Fine
+divisible_gives s r n [] small g w = refuse_gives r.closed s _ _
+divisible_gives s r n (a ∷ []) small g w =
+    let number : Tree = node (Number (pos n)) none in
+    next_gives r.closed s _ _ _ Fine (require_gives r.closed s _ _)
+    (λ b t f e k. operation_gives t r Divisible (more a.tree (more number none)) Truths
+    ((of_among Small (trees_of (a ∷ [])) s.trees g.small (are_among (a ∷ []) s w)).0, (small_up (Number (pos n)) none small tt, tt))
+    (λ closed l. left_over_linear Divisible a.tree number (λ q. q) l (of_among Linear (trees_of (a ∷ [])) s.trees (g.linear closed) (are_among (a ∷ []) s w)).0 refl))
+divisible_gives s r n (a ∷ b ∷ ts) small g w = refuse_gives r.closed s _ _
+
 mutual
   pub judge_gives : (r : Rules) (vs : List Variable) (x : Sexp) (s : Scope) → Good r.closed s → VariablesFine vs s → Gives r.closed s (judge r vs x) Fine
   judge_gives r vs (word t) s g h = token_gives s r vs t g h
@@ -220,6 +243,9 @@ mutual
       (next_gives r.closed s _ _ _ Fine (can_be_applied_gives r.closed s n (known vs n s))
       (λ y t f e k. bind_gives r.closed t _ _ AllFine Fine (all_give r vs xs t f (variables_after vs s t e h))
       (λ ts u d m l. application_gives u r n (known vs n s) ts (known_after (known vs n s) t u m (known_after (known vs n s) s t e (known_fine r.closed n vs s g h))) l)))
+  judge_gives r vs (group (group hs ▸ xs)) s g h =
+      bind_gives r.closed s _ _ _ Fine (head_gives r.closed s (head_number hs))
+      (λ n t f e small. bind_gives r.closed t _ _ AllFine Fine (all_give r vs xs t f (variables_after vs s t e h)) (λ ts u d m l. divisible_gives u r n ts small d l))
   judge_gives r vs (group _) s g h = refuse_gives r.closed s _ _
 
   pub all_give : (r : Rules) (vs : List Variable) (xs : Sexps) (s : Scope) → Good r.closed s → VariablesFine vs s → Gives r.closed s (judge_all r vs xs) AllFine

@@ -14,7 +14,7 @@ use Rattle.smt_meaning.specs.declared.options.InfoName.{InfoName}
 use Rattle.smt_meaning.specs.declared.commands.WrittenSort.{WrittenSort}
 use Rattle.smt_meaning.specs.declared.commands.Parameter.{Parameter}
 use Rattle.smt_meaning.specs.declared.commands.Command.{Command}
-use Rattle.smt_meaning.specs.declared.commands.Command.TheVariants.{SetOption, Exit, Reset, ResetAssertions, DeclareSort, CheckSat, Push, Pop, GetModel, GetAssertions, GetAssignment, GetUnsatCore, GetUnsatAssumptions, Minimize, LeftOut}
+use Rattle.smt_meaning.specs.declared.commands.Command.TheVariants.{SetOption, Exit, Reset, ResetAssertions, DeclareSort, CheckSat, Push, Pop, GetModel, GetAssertions, GetAssignment, GetUnsatCore, GetUnsatAssumptions, LeftOut}
 use Rattle.smt_meaning.specs.Sexp.{Sexp, Sexps, word, group, end, ◌▸◌}
 use Rattle.smt_meaning.specs.Signature.{look_up}
 use Rattle.smt_meaning.specs.Sorts.{decimal, is_small}

@@ -32,7 +32,8 @@ others : map leaves_propositional
     ∷ "(declare-fun f (Bool) Bool)(assert (f true))"
     ∷ "(declare-sort S 0)(declare-const a S)(declare-const p Bool)(assert p)(push)(assert (or p (distinct a a)))"
     ∷ "(declare-const x Int)(declare-const p Bool)(assert (= (ite p x 1) 2))"
-    ∷ "(assert (= (div 4 2) (mod 4 3) (abs 1)))" ∷ [])
-    ≡ false ∷ false ∷ false ∷ false ∷ false ∷ false ∷ []
+    ∷ "(assert (= (div 4 2) (mod 4 3) (abs 1)))"
+    ∷ "(assert ((_ divisible 2) 4))" ∷ [])
+    ≡ false ∷ false ∷ false ∷ false ∷ false ∷ false ∷ false ∷ []
 unfolding text_rest mark_rest quoted_rest lexeme comment_rest is_word_byte is_symbol_byte is_printable word_token ◌>>=◌ ◌>>◌ return refuse require required the_scope note found declare judge_body judged digits command effect symbol_text text
 others = refl

@@ -1,12 +1,12 @@
 -- A term that is accepted as a question is accepted alike in an assertion: only `:named` tells the two apart.
-use Rattle.std.proofs.Common.{◌≡◌, ℕ, List, ◌∷◌, ◌++◌, refl, sym, subst, Bool, true, false}
+use Rattle.std.proofs.Common.{◌≡◌, ℕ, List, [], ◌∷◌, ◌++◌, refl, sym, subst, Bool, true, false}
 use Rattle.std.specs.Prelude.{codes, bytes_eq}
 use Rattle.smt_meaning.specs.declared.terms.Operator.TheVariants.{True, False}
 use Rattle.smt_meaning.specs.declared.tokens.Token.{Token}
 use Rattle.smt_meaning.specs.declared.tokens.Token.TheVariants.{Numeral, Symbol, Reserved, Keyword}
 use Rattle.smt_meaning.specs.declared.tokens.Word.TheVariants.{Exclamation, Let}
 use Rattle.smt_meaning.specs.Sexp.{Sexp, Sexps, word, group, end, ◌▸◌}
-use Rattle.smt_meaning.specs.Sorts.{Scope, Outcome, done, refused, Judging, go_on, ◌>>=◌, ◌>>◌, return, refuse, require, the_scope, Typed, Variable, Known, variable, operator, function, unknown, known, can_be_applied, judge_application, judge_bare, judge_token, check_bindings, bound_names, has_free, variable_names, name_by, judge_attributes, either, judge, judge_all, judge_bindings}
+use Rattle.smt_meaning.specs.Sorts.{Scope, Outcome, done, refused, Judging, go_on, ◌>>=◌, ◌>>◌, return, refuse, require, the_scope, Typed, Variable, Known, variable, operator, function, unknown, known, can_be_applied, judge_application, judge_bare, judge_token, head_number, judge_head, judge_divisible, check_bindings, bound_names, has_free, variable_names, name_by, judge_attributes, either, judge, judge_all, judge_bindings}
 use Rattle.smt_meaning.specs.StackCommand.{in_assert, in_question}
 use Rattle.smt_laws.specs.TermLaws.{QuestionsAreAssertions}
 
@@ -91,6 +91,11 @@ token_same vs (Symbol n) = bind_same (self the_scope) (λ s. bare_same n (known 
 token_same vs (Numeral cs) = self _
 token_same vs _ = self _
 
+divisible_same : (n : ℕ) (ts : List Typed) → Same (judge_divisible in_question n ts) (judge_divisible in_assert n ts)
+divisible_same n [] = self _
+divisible_same n (a ∷ []) = self _
+divisible_same n (a ∷ b ∷ ts) = self _
+
 mutual
   judge_same : (vs : List Variable) (x : Sexp) → Same (judge in_question vs x) (judge in_assert vs x)
   judge_same vs (word t) = token_same vs t
@@ -103,6 +108,7 @@ mutual
   judge_same vs (group (word (Reserved w) ▸ _)) = self _
   judge_same vs (group (word (Symbol n) ▸ ss)) =
       bind_same (self the_scope) (λ s. next_same (self (can_be_applied n (known vs n s))) (bind_same (all_same vs ss) (application_same n (known vs n s))))
+  judge_same vs (group (group hs ▸ ss)) = bind_same (self (judge_head (head_number hs))) (λ n. bind_same (all_same vs ss) (divisible_same n))
   judge_same vs (group _) = self _
 
   all_same : (vs : List Variable) (ss : Sexps) → Same (judge_all in_question vs ss) (judge_all in_assert vs ss)

@@ -7,7 +7,7 @@ use Rattle.smt_meaning.specs.declared.tokens.Word.TheVariants.{Exclamation, Let}
 use Rattle.smt_meaning.specs.declared.refusals.Refusal.{Refusal}
 use Rattle.smt_meaning.specs.Sexp.{Sexp, Sexps, word, group, end, ◌▸◌}
 use Rattle.smt_meaning.specs.Sorts.{Scope, Outcome, done, refused, Judging, go_on, ◌>>=◌, ◌>>◌, return, refuse, Typed, Variable, Rules}
-use Rattle.smt_laws.specs.Walk.{Frame, whole, answer, opened, application, let_open, bindings, binding_open, binding, bound_to, body, result, annotation, attributes, naming, variables, given, give, drop_lists, on_enter, on_leave, on_head, on_word, on_words, on_attribute, after_keyword, on_name, on_bound_name, Waits, Fits}
+use Rattle.smt_laws.specs.Walk.{Frame, whole, answer, opened, application, dividing, division, let_open, bindings, binding_open, binding, bound_to, body, result, annotation, attributes, naming, variables, given, give, drop_lists, on_enter, on_leave, on_head, on_word, on_words, on_attribute, after_keyword, on_name, on_bound_name, Waits, Fits}
 
 -- ---- what holds of each value that comes out
 
@@ -53,6 +53,8 @@ fits_given (whole vs) fs a lists h = h
 fits_given (answer b) fs a lists h = absurd h
 fits_given opened fs a lists h = h
 fits_given (application n k ts) fs a lists h = h
+fits_given (dividing n d) fs a lists h = h
+fits_given (division n ts) fs a lists h = h
 fits_given let_open fs a lists h = h
 fits_given (bindings xs) fs a lists h = h
 fits_given (binding_open xs) fs a lists h = h
@@ -79,12 +81,14 @@ not_last x q lists e = absurd (cc)
 more_lists : (l m : Sexps) (lists : List Sexps) → l ∷ m ∷ lists ≡ end ∷ [] → ⊥
 more_lists l m lists e = absurd (cc)
 
-pub enter_fits : (fs : List Frame) (inner outer : Sexps) (lists : List Sexps) → Fits fs ((group inner ▸ outer) ∷ lists) → Gives (λ gs. Fits gs (inner ∷ outer ∷ lists)) (on_enter fs)
+pub enter_fits : (fs : List Frame) (inner outer : Sexps) (lists : List Sexps) → Fits fs ((group inner ▸ outer) ∷ lists) → Gives (λ gs. Fits gs (inner ∷ outer ∷ lists)) (on_enter fs inner)
 enter_fits [] inner outer lists h = absurd h
 enter_fits (whole vs ∷ fs) inner outer lists h = gives_return _ _ (h.0, last_is _ _ outer lists h.1.1)
 enter_fits (answer a ∷ fs) inner outer lists h = absurd (not_last _ _ _ h.1)
-enter_fits (opened ∷ fs) inner outer lists h = gives_refuse _ _
+enter_fits (opened ∷ fs) inner outer lists h = gives_bind _ _ _ (λ n. gives_return _ _ h)
 enter_fits (application n k ts ∷ fs) inner outer lists h = gives_return _ _ h
+enter_fits (dividing n d ∷ fs) inner outer lists h = gives_return _ _ h
+enter_fits (division n ts ∷ fs) inner outer lists h = gives_return _ _ h
 enter_fits (let_open ∷ fs) inner outer lists h = gives_return _ _ h
 enter_fits (bindings xs ∷ fs) inner outer lists h = gives_return _ _ h
 enter_fits (binding_open xs ∷ fs) inner outer lists h = gives_refuse _ _
@@ -102,6 +106,9 @@ leave_fits r (whole vs ∷ fs) inner lists h = gives_refuse _ _
 leave_fits r (answer a ∷ fs) inner lists h = absurd (more_lists _ _ _ h.1)
 leave_fits r (opened ∷ fs) inner lists h = gives_refuse _ _
 leave_fits r (application n k ts ∷ fs) inner lists h = gives_bind _ _ _ (λ a. gives_return _ _ (fits_give fs a (inner ∷ lists) h))
+leave_fits r (dividing n zero ∷ fs) inner lists h = gives_return _ _ h
+leave_fits r (dividing n (suc d) ∷ fs) inner lists h = gives_return _ _ h
+leave_fits r (division n ts ∷ fs) inner lists h = gives_bind _ _ _ (λ a. gives_return _ _ (fits_give fs a (inner ∷ lists) h))
 leave_fits r (let_open ∷ fs) inner lists h = gives_refuse _ _
 leave_fits r (bindings xs ∷ fs) inner lists h = gives_return _ _ h
 leave_fits r (binding_open xs ∷ fs) inner lists h = gives_refuse _ _
@@ -143,6 +150,8 @@ word_gives r (whole us) fs t inner lists h = gives_bind _ _ _ (λ a. gives_retur
 word_gives r (answer a) fs t inner lists h = absurd (not_last _ _ _ h.1)
 word_gives r opened fs t inner lists h = head_fits r fs (variables fs) t inner lists h
 word_gives r (application n k ts) fs t inner lists h = gives_bind _ _ _ (λ a. gives_return _ _ h)
+word_gives r (dividing n d) fs t inner lists h = gives_return _ _ h
+word_gives r (division n ts) fs t inner lists h = gives_bind _ _ _ (λ a. gives_return _ _ h)
 word_gives r let_open fs t inner lists h = gives_refuse _ _
 word_gives r (bindings xs) fs t inner lists h = gives_refuse _ _
 word_gives r (binding_open xs) fs t inner lists h = bound_name_fits xs fs t inner lists h
@@ -167,6 +176,8 @@ never_waits (whole vs ∷ fs) h = absurd (cc)
 never_waits (answer a ∷ fs) h = h
 never_waits (opened ∷ fs) h = never_waits fs h
 never_waits (application n k ts ∷ fs) h = never_waits fs h
+never_waits (dividing n d ∷ fs) h = never_waits fs h
+never_waits (division n ts ∷ fs) h = never_waits fs h
 never_waits (let_open ∷ fs) h = never_waits fs h
 never_waits (bindings xs ∷ fs) h = never_waits fs h
 never_waits (binding_open xs ∷ fs) h = never_waits fs h
@@ -184,6 +195,8 @@ never_fits (whole vs ∷ fs) h = absurd (cc)
 never_fits (answer a ∷ fs) h = absurd (cc)
 never_fits (opened ∷ fs) h = never_waits fs h
 never_fits (application n k ts ∷ fs) h = never_waits fs h
+never_fits (dividing n d ∷ fs) h = never_waits fs h
+never_fits (division n ts ∷ fs) h = never_waits fs h
 never_fits (let_open ∷ fs) h = never_waits fs h
 never_fits (bindings xs ∷ fs) h = never_waits fs h
 never_fits (binding_open xs ∷ fs) h = never_waits fs h
@@ -206,6 +219,8 @@ at_end (whole vs ∷ fs) h = absurd (cc)
 at_end (answer a ∷ fs) h = (a, ap (λ gs. answer a ∷ gs) h.0)
 at_end (opened ∷ fs) h = absurd (never_waits fs h)
 at_end (application n k ts ∷ fs) h = absurd (never_waits fs h)
+at_end (dividing n d ∷ fs) h = absurd (never_waits fs h)
+at_end (division n ts ∷ fs) h = absurd (never_waits fs h)
 at_end (let_open ∷ fs) h = absurd (never_waits fs h)
 at_end (bindings xs ∷ fs) h = absurd (never_waits fs h)
 at_end (binding_open xs ∷ fs) h = absurd (never_waits fs h)

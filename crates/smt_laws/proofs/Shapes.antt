@@ -82,7 +82,7 @@ divided_linear t none d h k = h
 divided_linear t (more u us) d h k =
     divided_linear (quotient_tree t u) us (and_right (is_divisor u) (are_divisors us) d) (quotient_linear t u (and_left (is_divisor u) (are_divisors us) d) h k.0) k.1
 
-left_over_linear : (o : Operator) (t u : Tree) → (has_quotient (more t (more u (more (quotient_tree t u) none))) ≡ true → is_linear_at (Theory o) (more t (more u (more (quotient_tree t u) none))) ≡ true)
+pub left_over_linear : (o : Operator) (t u : Tree) → (has_quotient (more t (more u (more (quotient_tree t u) none))) ≡ true → is_linear_at (Theory o) (more t (more u (more (quotient_tree t u) none))) ≡ true)
     → are_divisors (more u none) ≡ true → Linear t → Linear u → Linear (node (Theory o) (more t (more u (more (quotient_tree t u) none))))
 left_over_linear o t u shape d h k =
     let divisor : is_divisor u ≡ true = and_left (is_divisor u) true d in

@@ -16,11 +16,11 @@ use Rattle.smt_meaning.specs.Term.{Tree, Trees, node, none, more}
 use Rattle.smt_meaning.specs.TreeShape.{quotient_tree, divided_from, operation}
 use Rattle.smt_meaning.specs.Sexp.{Sexp, Sexps, word, group, end, ◌▸◌}
 use Rattle.smt_meaning.specs.Signature.{look_up, find_function, operators, takes, stands_with, operator_sort, if_so, all_of, sort_eq}
-use Rattle.smt_meaning.specs.Sorts.{Scope, Judging, Typed, Variable, Rules, trees_of, sorts_of, Known, variable, operator, function, unknown, known, find_variable, known_name, known_symbol, applied, applied_trees, judge_symbol, judge_operator, can_be_applied, judge_application, judge_bare, judge_numeral, decimal, judge_token, check_bindings, none_twice, bound_names, name_declaration, body_of, name_by, judge_attributes, either, judge, judge_all, judge_bindings, has_free, variable_names}
+use Rattle.smt_meaning.specs.Sorts.{Scope, Judging, Typed, Variable, Rules, trees_of, sorts_of, Known, variable, operator, function, unknown, known, find_variable, known_name, known_symbol, applied, applied_trees, judge_symbol, judge_operator, can_be_applied, judge_application, judge_bare, judge_numeral, decimal, judge_token, head_number, judge_head, judge_divisible, check_bindings, none_twice, bound_names, name_declaration, body_of, name_by, judge_attributes, either, judge, judge_all, judge_bindings, has_free, variable_names}
 use Rattle.smt_laws.proofs.Both.{and_left, and_right}
 use Rattle.smt_laws.proofs.Among.{Among, among_one, among_parts}
 use Rattle.smt_laws.proofs.PlacesLaw.{HasSort, HaveSorts, head_at, sort_later, sorts_later}
-use Rattle.smt_laws.proofs.Signatures.{sorts_eq-sound, Usable, usable_later, Good, found_usable, defined_usable}
+use Rattle.smt_laws.proofs.Signatures.{sort_eq-sound, sorts_eq-sound, Usable, usable_later, Good, found_usable, defined_usable}
 use Rattle.smt_laws.proofs.SortLawsJudgements.{Naming, After, Gives, Nothing, bind_gives, next_gives, return_gives, refuse_gives, require_gives, required_gives, scope_then, Fine, fine_after, note_found, declare_gives}
 
 -- ---- lists of terms and of variables
@@ -283,6 +283,23 @@ token_gives may ps s r vs (Symbol n) g h = scope_then may s (λ u. judge_bare r 
 token_gives may ps s r vs (Numeral cs) g h = numeral_gives may ps s (decimal cs)
 token_gives may ps s r vs _ g h = refuse_gives may s _ _
 
+-- ---- (_ divisible n)
+
+head_gives : (may : Declaration → Type 0) (s : Scope) (o : Option ℕ) → Gives may s (judge_head o) Nothing
+head_gives may s None = refuse_gives may s _ _
+head_gives may s (Some n) =
+    next_gives may s _ _ _ Nothing (require_gives may s _ _) (λ c t g e k. next_gives may t _ _ _ Nothing (require_gives may t _ _) (λ d u f m l. return_gives may u n Nothing tt))
+
+divisible_gives : (may : Declaration → Type 0) (ps : List Sort) (s : Scope) (r : Rules) (n : ℕ) (ts : List Typed) → AllFine ps ts s → Gives may s (judge_divisible r n ts) (Fine ps)
+divisible_gives may ps s r n [] w = refuse_gives may s _ _
+divisible_gives may ps s r n (a ∷ []) w =
+    let number : Tree = node (Number (pos n)) none in
+    next_gives may s _ _ _ (Fine ps) (require_gives may s _ _)
+    (λ c t g e k. operator_gives may ps t r Divisible (more a.tree (more number none)) Truths
+    (left_over_sort t.signature ps Divisible a.tree number Ints Ints Truths
+    (subst (HasSort t.signature ps a.tree) (sort_eq-sound a.sort Ints k) (fine_after may ps a s t e w.0).0) ([], (tt, refl)) refl refl))
+divisible_gives may ps s r n (a ∷ b ∷ ts) w = refuse_gives may s _ _
+
 mutual
   pub judge_gives : (r : Rules) (ps : List Sort) (c : r.naming ≡ true → ps ≡ []) (vs : List Variable) (x : Sexp) (s : Scope) → Good s.given s.signature → VariablesFine ps vs s
       → Gives (Naming r.naming) s (judge r vs x) (Fine ps)
@@ -305,6 +322,10 @@ mutual
       (λ y t f e k. bind_gives (Naming r.naming) t _ _ (AllFine ps) (Fine ps) (all_give r ps c vs xs t f (variables_after (Naming r.naming) ps vs s t e h))
       (λ ts u d m l.
       application_gives (Naming r.naming) ps u r n (known vs n s) ts (known_after (Naming r.naming) ps (known vs n s) t u m (known_after (Naming r.naming) ps (known vs n s) s t e (known_fine ps n vs s g h))) l)))
+  judge_gives r ps c vs (group (group hs ▸ xs)) s g h =
+      bind_gives (Naming r.naming) s _ _ Nothing (Fine ps) (head_gives (Naming r.naming) s (head_number hs))
+      (λ n t f e k. bind_gives (Naming r.naming) t _ _ (AllFine ps) (Fine ps) (all_give r ps c vs xs t f (variables_after (Naming r.naming) ps vs s t e h))
+      (λ ts u d m l. divisible_gives (Naming r.naming) ps u r n ts l))
   judge_gives r ps c vs (group _) s g h = refuse_gives (Naming r.naming) s _ _
 
   pub all_give : (r : Rules) (ps : List Sort) (c : r.naming ≡ true → ps ≡ []) (vs : List Variable) (xs : Sexps) (s : Scope) → Good s.given s.signature → VariablesFine ps vs s

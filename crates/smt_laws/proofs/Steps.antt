@@ -7,8 +7,8 @@ use Rattle.smt_meaning.specs.declared.tokens.Word.TheVariants.{Exclamation, Let}
 use Rattle.smt_meaning.specs.declared.refusals.Refusal.{Refusal}
 use Rattle.smt_meaning.specs.declared.refusals.Refusal.TheVariants.{WrongArguments}
 use Rattle.smt_meaning.specs.Sexp.{Sexp, Sexps, word, group, end, ◌▸◌}
-use Rattle.smt_meaning.specs.Sorts.{Scope, Judging, ◌>>=◌, ◌>>◌, return, refuse, require, the_scope, Typed, Variable, Rules, Known, known, can_be_applied, judge_application, judge_attributes, judge, judge_all, judge_token, judge_bindings, bound_names, cons_name, check_bindings, are_attributes, either, name_by, name_term}
-use Rattle.smt_laws.specs.Walk.{Frame, whole, answer, opened, application, let_open, bindings, binding_open, binding, bound_to, body, result, annotation, attributes, naming, variables, given, give, taken, one_binding, in_body, with_taken, with_binding, attributes_of, yields, below, resume, continue, on_enter, on_leave, on_head, on_words, on_attribute, after_keyword, on_name, on_bound_name, check_let, check_annotation, has_free_first}
+use Rattle.smt_meaning.specs.Sorts.{Scope, Judging, ◌>>=◌, ◌>>◌, return, refuse, require, the_scope, Typed, Variable, Rules, Known, known, can_be_applied, judge_application, judge_attributes, judge, judge_all, judge_token, head_number, judge_head, judge_divisible, judge_bindings, bound_names, cons_name, check_bindings, are_attributes, either, name_by, name_term}
+use Rattle.smt_laws.specs.Walk.{Frame, whole, answer, opened, application, dividing, division, let_open, bindings, binding_open, binding, bound_to, body, result, annotation, attributes, naming, variables, given, give, taken, one_binding, in_body, with_taken, with_binding, attributes_of, after_head, yields, below, resume, continue, on_enter, on_leave, on_head, on_words, on_attribute, after_keyword, on_name, on_bound_name, check_let, check_annotation, has_free_first}
 use Rattle.smt_laws.proofs.Monad.{Same, self, equal, other, both, bind_same, assoc, next_is, return_then, then_return, refuse_then}
 
 -- what comes of a token: the frames after it, with what is left then
@@ -29,6 +29,13 @@ reads_application r n k ts vs x rest lists =
     (bind_same (self (judge r vs x))
     (λ a. both (assoc (judge_all r vs rest) _ _)
     (bind_same (self (judge_all r vs rest)) (λ us. both (return_then (a ∷ us) _) (equal _ _ (ap (judge_application r n k) (sym (append_assoc ts (a ∷ []) us))))))))
+
+reads_division : (r : Rules) (n : ℕ) (ts : List Typed) (vs : List Variable) (x : Sexp) (rest : Sexps) (lists : List Sexps) → reads r (division n ts) vs vs x rest lists
+reads_division r n ts vs x rest lists =
+    both (assoc (judge r vs x) _ _)
+    (bind_same (self (judge r vs x))
+    (λ a. both (assoc (judge_all r vs rest) _ _)
+    (bind_same (self (judge_all r vs rest)) (λ us. both (return_then (a ∷ us) _) (equal _ _ (ap (judge_divisible r n) (sym (append_assoc ts (a ∷ []) us))))))))
 
 reads_binding : (r : Rules) (xs : List Variable) (n : List ℕ) (vs : List Variable) (x : Sexp) (rest : Sexps) (lists : List Sexps) → reads r (binding xs n) vs vs x rest lists
 reads_binding r xs n vs x rest [] = assoc (judge r vs x) _ _
@@ -60,6 +67,14 @@ moved r g fs lists y b h e =
     both (bind_same h (λ a. self (resume r fs b a)))
     (both (equal _ _ (ap (λ c. yields r g (variables fs) lists >>= resume r fs c) (sym e))) (other (return_then (g ∷ fs) _)))
 
+-- a list of frames in place of it
+moved_by : {A : Type 0} (r : Rules) (m : Judging A) (g : A → Frame) (fs : List Frame) (lists : List Sexps) (y : Judging Typed) (b : List Sexps)
+    → Same y (m >>= (λ a. yields r (g a) (variables fs) lists)) → ((a : A) → below (g a) lists ≡ b) → After r (y >>= resume r fs b) (m >>= (λ a. return (g a ∷ fs))) lists
+moved_by r m g fs lists y b h e =
+    both (bind_same h (λ a. self (resume r fs b a)))
+    (both (assoc m _ _)
+    (both (bind_same (self m) (λ a. both (equal _ _ (ap (λ c. yields r (g a) (variables fs) lists >>= resume r fs c) (sym (e a)))) (other (return_then (g a ∷ fs) _)))) (other (assoc m _ _))))
+
 -- nothing more
 stopped : (r : Rules) (lists : List Sexps) (y : Judging Typed) (k : Typed → Judging Typed) (e : Refusal) → Same y (refuse e) → After r (y >>= k) (refuse e) lists
 stopped r lists y k e h = both (bind_same h (λ a. self (k a))) (both (refuse_then e _) (other (refuse_then e _)))
@@ -78,6 +93,8 @@ same_below (whole vs) a lists = refl
 same_below (answer b) a lists = refl
 same_below opened a lists = refl
 same_below (application n k ts) a lists = refl
+same_below (dividing n d) a lists = refl
+same_below (division n ts) a lists = refl
 same_below let_open a lists = refl
 same_below (bindings xs) a lists = refl
 same_below (binding_open xs) a lists = refl
@@ -167,14 +184,23 @@ binding_refused : (r : Rules) (vs xs : List Variable) (ls : List Sexps) → Same
 binding_refused r vs xs [] = refuse_then WrongArguments _
 binding_refused r vs xs (l ∷ ls) = refuse_then WrongArguments _
 
+-- ---- in a head that divides nothing is judged
+
+skipped_in_head : (r : Rules) (vs : List Variable) (n d : ℕ) (l m : Sexps) (lists : List Sexps) → Same (after_head r vs n d (l ∷ lists)) (after_head r vs n d (m ∷ lists))
+skipped_in_head r vs n zero l m [] = self _
+skipped_in_head r vs n zero l m (ss ∷ lists) = self _
+skipped_in_head r vs n (suc d) l m lists = self _
+
 -- ---- `(`
 
-pub enter_step : (r : Rules) (fs : List Frame) (inner outer : Sexps) (lists : List Sexps) → After r (continue r fs ((group inner ▸ outer) ∷ lists)) (on_enter fs) (inner ∷ outer ∷ lists)
+pub enter_step : (r : Rules) (fs : List Frame) (inner outer : Sexps) (lists : List Sexps) → After r (continue r fs ((group inner ▸ outer) ∷ lists)) (on_enter fs inner) (inner ∷ outer ∷ lists)
 enter_step r [] inner outer lists = other (refuse_then WrongArguments _)
 enter_step r (whole vs ∷ fs) inner outer lists = entered r (whole vs) fs inner outer lists (reads_whole r vs (variables fs) (group inner) outer lists) refl
 enter_step r (answer a ∷ fs) inner outer lists = other (return_then (answer a ∷ fs) _)
-enter_step r (opened ∷ fs) inner outer lists = stopped r _ _ _ WrongArguments (self _)
+enter_step r (opened ∷ fs) inner outer lists = moved_by r (judge_head (head_number inner)) (λ n. dividing n 0) fs _ _ lists (self _) (λ n. refl)
 enter_step r (application n k ts ∷ fs) inner outer lists = entered r (application n k ts) fs inner outer lists (reads_application r n k ts (variables fs) (group inner) outer lists) refl
+enter_step r (dividing n d ∷ fs) inner outer lists = moved r (dividing n (suc d)) fs _ _ _ (skipped_in_head r (variables fs) n d (group inner ▸ outer) outer lists) refl
+enter_step r (division n ts ∷ fs) inner outer lists = entered r (division n ts) fs inner outer lists (reads_division r n ts (variables fs) (group inner) outer lists) refl
 enter_step r (let_open ∷ fs) inner outer lists = moved r (bindings []) fs _ _ lists (self _) refl
 enter_step r (bindings xs ∷ fs) inner outer lists = moved r (binding_open xs) fs _ _ _ one_more refl
   where
@@ -207,6 +233,10 @@ leave_step r (answer a ∷ fs) inner lists = other (return_then (answer a ∷ fs
 leave_step r (opened ∷ fs) inner lists = stopped r _ _ _ WrongArguments (self _)
 leave_step r (application n k ts ∷ fs) inner lists =
     left r (judge_application r n k ts) fs (inner ∷ lists) _ (both (return_then [] _) (equal _ _ (ap (judge_application r n k) (append-nil ts))))
+leave_step r (dividing n zero ∷ fs) inner lists = moved r (division n []) fs _ _ _ (self _) refl
+leave_step r (dividing n (suc d) ∷ fs) inner lists = moved r (dividing n d) fs _ _ _ (self _) refl
+leave_step r (division n ts ∷ fs) inner lists =
+    left r (judge_divisible r n ts) fs (inner ∷ lists) _ (both (return_then [] _) (equal _ _ (ap (judge_divisible r n) (append-nil ts))))
 leave_step r (let_open ∷ fs) inner lists = stopped r _ _ _ WrongArguments (self _)
 leave_step r (bindings xs ∷ fs) inner lists =
     moved r (body xs) fs _ _ _ (both (return_then [] _) (equal _ _ (ap (λ zs. in_body r (zs ++ variables fs) (inner ∷ lists)) (append-nil xs)))) refl
@@ -273,6 +303,11 @@ word_step r (answer a ∷ fs) t inner lists = other (both (bind_same (return_the
 word_step r (opened ∷ fs) t inner lists = head_step r fs t inner lists
 word_step r (application n k ts ∷ fs) t inner lists =
     told r (judge_token r (variables fs) t) (λ a. application n k (ts ++ a ∷ [])) fs _ _ lists (reads_application r n k ts (variables fs) (word t) inner lists) (λ a. refl)
+word_step r (dividing n d ∷ fs) t inner lists =
+    both (moved r (dividing n d) fs (inner ∷ lists) _ _ (skipped_in_head r (variables fs) n d (word t ▸ inner) inner lists) refl)
+    (bind_same (other (return_then (dividing n d) _)) (λ gs. self _))
+word_step r (division n ts ∷ fs) t inner lists =
+    told r (judge_token r (variables fs) t) (λ a. division n (ts ++ a ∷ [])) fs _ _ lists (reads_division r n ts (variables fs) (word t) inner lists) (λ a. refl)
 word_step r (let_open ∷ fs) t inner lists = stopped_word r fs _ _ _ WrongArguments (self _)
 word_step r (bindings xs ∷ fs) t inner lists = stopped_word r fs _ _ _ WrongArguments (refuse_then WrongArguments _)
 word_step r (binding_open xs ∷ fs) t inner lists = bound_name_step r xs fs t inner lists

@@ -1,5 +1,5 @@
 -- What a command comes to is no error that changes the state, and one reply where it is no check.
-use Rattle.std.proofs.Common.{◌≡◌, ◌≢◌, ◌∙◌, ℕ, Bool, true, false, List, [], ◌∷◌, refl, ap, sym, subst, Option, Some, None, Result, Ok, Err}
+use Rattle.std.proofs.Common.{◌≡◌, ◌∙◌, ℕ, Bool, true, false, List, [], ◌∷◌, refl, ap, sym, subst, Option, Some, None, Result, Ok, Err}
 use Rattle.std.specs.Prelude.{MatchBool, flat_map, if◌then◌else◌, codes}
 use Rattle.smt_meaning.specs.declared.tokens.Token.{Token}
 use Rattle.smt_meaning.specs.declared.values.Table.{Table}

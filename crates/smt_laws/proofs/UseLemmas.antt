@@ -64,6 +64,7 @@ mutual
       ap (λ x. x || has_free (without (names_or_none (bound_names bs)) ns) b) (bindings_same m ns vs bs h)
       ∙ ap (λ x. bindings_use_outer m vs bs || x) (free_same m (without (names_or_none (bound_names bs)) ns) (names_or_none (bound_names bs) ++ vs) b (marks_inside m (names_or_none (bound_names bs)) ns vs h))
   free_same m ns vs (group (word (Reserved Exclamation) ▸ t ▸ rest)) h = free_same m ns vs t h
+  free_same m ns vs (group (group hs ▸ ss)) h = some_same m ns vs ss h
   free_same m ns vs (group ss) h = some_same m ns vs ss h
 
   some_same : (m : ℕ) (ns vs : List (List ℕ)) (ss : Sexps) → Marks m ns vs → some_has_free ns ss ≡ some_use_outer m vs ss
@@ -84,6 +85,7 @@ mutual
   nothing_free (word _) = refl
   nothing_free (group (word (Reserved Let) ▸ group bs ▸ b ▸ end)) = ap (λ x. x || has_free [] b) (no_binding_free bs) ∙ nothing_free b
   nothing_free (group (word (Reserved Exclamation) ▸ t ▸ rest)) = nothing_free t
+  nothing_free (group (group hs ▸ ss)) = none_free ss
   nothing_free (group ss) = none_free ss
 
   none_free : (ss : Sexps) → some_has_free [] ss ≡ false
