@@ -4,6 +4,7 @@ use Rattle.std.specs.Prelude.{Result, Ok, Err, OnOk, OnErr, nat_eq, if◌then◌
 use Rattle.std.proofs.lemmas.Bool.Decides.{nat_tests}
 use Rattle.std.proofs.lemmas.List.{map-append, take-append-drop}
 use Rattle.smt_meaning.specs.declared.tokens.Token.{Token}
+use Rattle.smt_meaning.specs.declared.refusals.Refusal.{Refusal}
 use Rattle.smt_meaning.specs.declared.refusals.Refusal.TheVariants.{WrongArguments}
 use Rattle.smt_meaning.specs.declared.terms.Operator.{Operator}
 use Rattle.smt_meaning.specs.Term.{Tree}
@@ -313,11 +314,9 @@ pub enter_head : (ahead : Sexps) (tokens : List Token) (s : Scope) (w w' : Walk)
 enter_head ahead tokens s w w' n rest y e h i j k st =
     replaced_push (λ fs. on_enter fs ahead) tokens s w w' Opened (Dividing n 0) rest y e h i j (enter_divides ahead tokens s w.bindings n rest (k.0 s)) (λ u. k.1) st
 
-pub enter_not : (ahead : Sexps) (tokens : List Token) (s : Scope) (w w' : Walk) (rest : List Frame) (x : JudgeError) → w.answer ≡ None → w.frames ≡ Opened ∷ rest → IsDivisorHead (head_number ahead) (Err x)
-    → StepComes (on_enter (walk_of tokens s w) ahead) s tokens s w' (Err x)
-enter_not ahead tokens s w w' rest (Refused x) e h k =
-    ap (λ fs. on_enter fs ahead s) (shown_is tokens s w (Opened ∷ rest) e h) ∙ head_entered ahead tokens s w.bindings rest (refused x) (k s)
-enter_not ahead tokens s w w' rest Memory e h k = tt
+pub enter_not : (ahead : Sexps) (tokens : List Token) (s : Scope) (w w' : Walk) (rest : List Frame) (x : Refusal) → w.answer ≡ None → w.frames ≡ Opened ∷ rest → IsDivisorHead (head_number ahead) (Err x)
+    → StepComes (on_enter (walk_of tokens s w) ahead) s tokens s w' (Err (Refused x))
+enter_not ahead tokens s w w' rest x e h k = ap (λ fs. on_enter fs ahead s) (shown_is tokens s w (Opened ∷ rest) e h) ∙ head_entered ahead tokens s w.bindings rest (refused x) (k s)
 
 -- ---- `)`
 

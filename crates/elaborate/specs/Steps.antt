@@ -2,6 +2,7 @@
 use Rattle.std.specs.Prelude.{◌≡◌, ℕ, zero, suc, Bool, true, false, List, [], ◌∷◌, Option, Some, None, nat_eq, if◌then◌else◌, bytes_eq, codes, Result, Ok, Err}
 use Rattle.smt_meaning.specs.declared.tokens.Token.{Token}
 use Rattle.smt_meaning.specs.declared.tokens.Token.TheVariants.{Enter, Leave, Symbol, Keyword}
+use Rattle.smt_meaning.specs.declared.refusals.Refusal.{Refusal}
 use Rattle.smt_meaning.specs.declared.refusals.Refusal.TheVariants.{WrongArguments}
 use Rattle.smt_meaning.specs.Sexp.{Sexps}
 use Rattle.smt_meaning.specs.Sorts.{Scope, done, refused, Judging, judge_head}
@@ -145,10 +146,9 @@ IsAnnotationHead l p (Err (Refused r)) = (s : Scope) → check_annotation l s �
 IsAnnotationHead l p (Err Memory) = Unit {0}
 
 -- what is ahead of a list that is a head
-abbrev pub IsDivisorHead : Option ℕ → Result ℕ JudgeError → Type 0
+abbrev pub IsDivisorHead : Option ℕ → Result ℕ Refusal → Type 0
 IsDivisorHead o (Ok n) = ((s : Scope) → judge_head o s ≡ done n s) × IsDivisor n
-IsDivisorHead o (Err (Refused r)) = (s : Scope) → judge_head o s ≡ refused r
-IsDivisorHead o (Err Memory) = Unit {0}
+IsDivisorHead o (Err r) = (s : Scope) → judge_head o s ≡ refused r
 
 -- after a `)` in a head that divides, in so many lists of it
 abbrev pub out_of_head : ℕ → ℕ → Frame

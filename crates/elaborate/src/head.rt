@@ -142,29 +142,29 @@ pub(crate) fn list_head(
 }
 
 /// The number that these digits write, where a head may divide by it: at least 1.
-fn divisor_written(digits: &[u8]) -> Result<u128, JudgeError>
+fn divisor_written(digits: &[u8]) -> Result<u128, Refusal>
     ensures { IsDivisorHead (Some (decimal digits.now)) result }
 {
     match number(digits) {
         Some(number) => {
             if number == 0 {
-                Err(JudgeError::Refused(Refusal::WrongArguments))
+                Err(Refusal::WrongArguments)
             } else {
                 Ok(number)
             }
         }
-        None => Err(JudgeError::Refused(Refusal::NumeralTooLarge)),
+        None => Err(Refusal::NumeralTooLarge),
     }
 }
 
 /// The number by which a head divides, whose list's inside begins at a place.
-pub(crate) fn divisor_head(term: &SExpr, ends: &[usize], place: usize) -> Result<u128, JudgeError>
+pub(crate) fn divisor_head(term: &SExpr, ends: &[usize], place: usize) -> Result<u128, Refusal>
     requires ends { AreEnds term.now ends.now }
     requires within { place ≤ length term.now }
     ensures { IsDivisorHead (head_number (ahead term.now place)) result }
 {
     match divisor(term, ends, place) {
         Some(digits) => divisor_written(digits),
-        None => Err(JudgeError::Refused(Refusal::WrongArguments)),
+        None => Err(Refusal::WrongArguments),
     }
 }

@@ -124,7 +124,7 @@ fn enter_head(term: &SExpr, ends: &[usize], place: usize, walk: &mut Walk) -> Re
                 None => Err(JudgeError::Memory),
             }
         }
-        Err(error) => Err(error),
+        Err(why) => Err(JudgeError::Refused(why)),
     }
 }
 

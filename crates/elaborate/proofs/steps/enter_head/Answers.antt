@@ -10,4 +10,4 @@ returns-in-Some c = λ s st.
 pub returns-in-Err : goal.returns-in-Err
 returns-in-Err c = λ s st.
     (let k = head_rest c.args.walk.now c.requires.kind in
-    enter_not (ahead c.args.term.now c.args.place) c.args.term.now s c.args.walk.now c.args.walk.now k.0 c.in-Err.error (none_is_head c.args.walk.now.answer c.args.walk.now.frames c.requires.kind) k.1 c.in-Err.ensures)
+    enter_not (ahead c.args.term.now c.args.place) c.args.term.now s c.args.walk.now c.args.walk.now k.0 c.in-Err.why (none_is_head c.args.walk.now.answer c.args.walk.now.frames c.requires.kind) k.1 c.in-Err.ensures)
