@@ -56,7 +56,7 @@ op_linear : (r : Rules) (o : Operator) (us : Trees) (x : Sort) (s : Scope) → (
 unfolding ◌>>=◌ ◌>>◌ return refuse require note found
 op_linear r o us x s e = ap (λ b. (require b NotLinear >> (note (operation o us ∷ []) >> found (operation o us) x)) s) e
 
-op_done : (r : Rules) (o : Operator) (us : Trees) (x : Sort) (s : Scope) → (not r.closed || is_linear_operation o us) ≡ true
+pub op_done : (r : Rules) (o : Operator) (us : Trees) (x : Sort) (s : Scope) → (not r.closed || is_linear_operation o us) ≡ true
     → judge_operator r o us x s ≡ done (record { tree = operation o us; sort = x }) (at s (with_parts s.trees (operation o us)))
 unfolding ◌>>=◌ ◌>>◌ return refuse require note found
 op_done r o us x s e = ap (λ b. (require b NotLinear >> (note (operation o us ∷ []) >> found (operation o us) x)) s) e
@@ -107,7 +107,7 @@ operator_result r n o vs x s us (Err e) h i l k m = memory_err (judge_applicatio
 
 -- ---- an operator that stands bare
 
-or_true : (b : Bool) → (b || true) ≡ true
+pub or_true : (b : Bool) → (b || true) ≡ true
 or_true true = refl
 or_true false = refl
 

@@ -97,7 +97,7 @@ value_within ts [] i d h k = absurd (omega arith)
 value_within ts (v ∷ vs) zero d h k = h.0
 value_within ts (v ∷ vs) (suc i) d h k = value_within ts vs i d h.1 (omega arith)
 
-not_zero : (n : ℤ) → n ≢ pos 0 → int_eq n (pos 0) ≡ false
+pub not_zero : (n : ℤ) → n ≢ pos 0 → int_eq n (pos 0) ≡ false
 not_zero (pos zero) h = absurd (h refl)
 not_zero (pos (suc n)) h = ne_eqb (suc n) 0 (λ k. omega arith)
 not_zero (negsuc n) h = refl

@@ -6,11 +6,11 @@ use Rattle.smt_meaning.specs.declared.terms.Operator.{Operator}
 use Rattle.smt_meaning.specs.Term.{Tree}
 use Rattle.smt_meaning.specs.Signature.{find_function}
 use Rattle.smt_meaning.specs.Sorts.{Scope, known_symbol}
-use Rattle.smt_laws.specs.Walk.{application, given as given_to, give as given_all}
+use Rattle.smt_laws.specs.Walk.{application, division, given as given_to, give as given_all}
 use Rattle.elaborate.specs.declared.value.Value.{Value}
 use Rattle.elaborate.specs.declared.frame.Binding.{Binding}
 use Rattle.elaborate.specs.declared.frame.Frame.{Frame}
-use Rattle.elaborate.specs.declared.frame.Frame.TheVariants.{Application, Bound, BoundTo, Body, Done, Annotation, Attributes}
+use Rattle.elaborate.specs.declared.frame.Frame.TheVariants.{Application, Division, Bound, BoundTo, Body, Done, Annotation, Attributes}
 use Rattle.elaborate.specs.declared.frame.Walk.{Walk}
 use Rattle.elaborate.specs.Values.{typed, IsValue, AreValues}
 use Rattle.elaborate.specs.Frames.{frame_of, outside, frames_of, stack_of, AreBound, AllHold, AnswerHolds}
@@ -24,6 +24,13 @@ values_more ts (x ∷ vs) v h k = (h.0, values_more ts vs v h.1 k)
 pub given_application : (n : List ℕ) (o : Option Operator) (vs ws : List Value) (v : Value) → ws ≡ vs ++ v ∷ [] → IsGiven (Application n o vs) v (Application n o ws)
 given_application n o vs ws v e = record {
   given = λ tokens s bs. ap (application n (known_symbol o (find_function n s.signature))) (ap (map (typed s.trees)) e ∙ map-append (typed s.trees) vs (v ∷ []));
+  outer = λ bs. refl;
+  holds = λ s h k. (h.0, subst (AreValues s.trees) (sym e) (values_more s.trees vs v h.1 k));
+}
+
+pub given_division : (n : ℕ) (vs ws : List Value) (v : Value) → ws ≡ vs ++ v ∷ [] → IsGiven (Division n vs) v (Division n ws)
+given_division n vs ws v e = record {
+  given = λ tokens s bs. ap (division n) (ap (map (typed s.trees)) e ∙ map-append (typed s.trees) vs (v ∷ []));
   outer = λ bs. refl;
   holds = λ s h k. (h.0, subst (AreValues s.trees) (sym e) (values_more s.trees vs v h.1 k));
 }

@@ -10,11 +10,11 @@ use Rattle.smt_meaning.specs.TreeShape.{is_constant, is_linear}
 use Rattle.smt_meaning.specs.Sexp.{open_lists_of}
 use Rattle.smt_meaning.specs.Signature.{find_function}
 use Rattle.smt_meaning.specs.Sorts.{Scope, Typed, known_symbol}
-use Rattle.smt_laws.specs.Walk.{whole, answer, application, bindings, binding_open, binding, bound_to, body, result, annotation, attributes, naming, has_free_first, first_list}
+use Rattle.smt_laws.specs.Walk.{whole, answer, application, division, bindings, binding_open, binding, bound_to, body, result, annotation, attributes, naming, has_free_first, first_list}
 use Rattle.elaborate.specs.declared.value.Value.{Value}
 use Rattle.elaborate.specs.declared.frame.Binding.{Binding}
 use Rattle.elaborate.specs.declared.frame.Frame.{Frame}
-use Rattle.elaborate.specs.declared.frame.Frame.TheVariants.{Opened, Application, LetOpen, Bindings, BindingOpen, Bound, BoundTo, Body, Done, Annotation, Attributes, Naming}
+use Rattle.elaborate.specs.declared.frame.Frame.TheVariants.{Opened, Application, Dividing, Division, LetOpen, Bindings, BindingOpen, Bound, BoundTo, Body, Done, Annotation, Attributes, Naming}
 use Rattle.elaborate.specs.declared.frame.Walk.{Walk}
 use Rattle.elaborate.specs.Values.{typed, IsValue, AreValues, IsLonger}
 use Rattle.elaborate.specs.Frames.{variable_at, is_open_at, frame_of, outside, frames_of, stack_of, walk_of, AreBound, IsHead, Holds, AllHold, AnswerHolds, Stands}
@@ -66,6 +66,8 @@ pub bound_outside : (ts : List Tree) (bs : List Binding) (f : Frame) → AreBoun
 bound_outside ts bs (Body k) h = bound_drop ts k bs h
 bound_outside ts bs Opened h = h
 bound_outside ts bs (Application n o vs) h = h
+bound_outside ts bs (Dividing n d) h = h
+bound_outside ts bs (Division n vs) h = h
 bound_outside ts bs LetOpen h = h
 bound_outside ts bs (Bindings xs) h = h
 bound_outside ts bs (BindingOpen xs) h = h
@@ -107,6 +109,8 @@ still_head n None s u (Some d) g e h = subst (IsHead None) (sym (ap (find_functi
 pub holds_grows : (s u : Scope) (f : Frame) → Grown s u → Holds s f → Holds u f
 holds_grows s u Opened g h = tt
 holds_grows s u (Application n o vs) g h = (still_head n o s u (find_function n s.signature) g refl h.0, values_grow s.trees u.trees vs g.trees h.1)
+holds_grows s u (Dividing n d) g h = h
+holds_grows s u (Division n vs) g h = (h.0, values_grow s.trees u.trees vs g.trees h.1)
 holds_grows s u LetOpen g h = tt
 holds_grows s u (Bindings xs) g h = bound_grows s.trees u.trees xs g.trees h
 holds_grows s u (BindingOpen xs) g h = bound_grows s.trees u.trees xs g.trees h
@@ -125,6 +129,8 @@ frame_same : (tokens : List Token) (s u : Scope) (bs : List Binding) (f : Frame)
 frame_same tokens s u bs Opened g b h = refl
 frame_same tokens s u bs (Application n o vs) g b h =
     ap (λ k. application n k (map (typed u.trees) vs)) (head_same n o s u g h.0) ∙ ap (application n (known_symbol o (find_function n s.signature))) (typeds_same s.trees u.trees vs g.trees h.1)
+frame_same tokens s u bs (Dividing n d) g b h = refl
+frame_same tokens s u bs (Division n vs) g b h = ap (division n) (typeds_same s.trees u.trees vs g.trees h.1)
 frame_same tokens s u bs LetOpen g b h = refl
 frame_same tokens s u bs (Bindings xs) g b h = ap bindings (variables_same s.trees u.trees xs g.trees h)
 frame_same tokens s u bs (BindingOpen xs) g b h = ap binding_open (variables_same s.trees u.trees xs g.trees h)

@@ -12,14 +12,14 @@ use Rattle.smt_laws.specs.Walk.{body, bindings, binding, give as given_all, on_l
 use Rattle.elaborate.specs.declared.value.Value.{Value}
 use Rattle.elaborate.specs.declared.frame.Binding.{Binding as Pair}
 use Rattle.elaborate.specs.declared.frame.Frame.{Frame}
-use Rattle.elaborate.specs.declared.frame.Frame.TheVariants.{Bindings, BindingOpen, Bound, BoundTo, Body, Done, Attributes, Naming}
+use Rattle.elaborate.specs.declared.frame.Frame.TheVariants.{Dividing, Division, Bindings, BindingOpen, Bound, BoundTo, Body, Done, Attributes, Naming}
 use Rattle.elaborate.specs.declared.frame.Walk.{Walk}
 use Rattle.elaborate.specs.declared.error.JudgeError.{JudgeError}
 use Rattle.elaborate.specs.declared.error.JudgeError.TheVariants.{Refused, Memory}
 use Rattle.elaborate.specs.Values.{typed, IsValue}
-use Rattle.elaborate.specs.Frames.{variable_at, is_open_at, frames_of, walk_of, AreBound, Holds, AllHold, Stands}
-use Rattle.elaborate.specs.Steps.{kind_of, attribute_kind, takes_word, Given, StepComes, is_named, is_symbol, IsNoName}
-use Rattle.elaborate.proofs.Moves.{popped, shown_is, error_is, step_memory, no, not_zero}
+use Rattle.elaborate.specs.Frames.{variable_at, is_open_at, frames_of, walk_of, AreBound, IsDivisor, Holds, AllHold, Stands}
+use Rattle.elaborate.specs.Steps.{kind_of, attribute_kind, takes_word, Given, StepComes, is_named, is_symbol, out_of_head, IsNoName}
+use Rattle.elaborate.proofs.Moves.{popped, shown_is, error_is, step_memory, replaced_push, no, not_zero}
 
 -- ---- `)`
 
@@ -83,6 +83,29 @@ pub leave_value : (r : Rules) (tokens : List Token) (s : Scope) (bs : List Pair)
 unfolding return
 leave_value r tokens s bs v p d e rest h = subst (λ x. on_leave r (frames_of tokens s bs (Attributes v p x ∷ rest)) s ≡ done (frames_of tokens s bs (Attributes v p e ∷ rest)) s) (sym h) refl
 
+leave_dividing : (r : Rules) (tokens : List Token) (s : Scope) (bs : List Pair) (n d : ℕ) (rest : List Frame) → on_leave r (frames_of tokens s bs (Dividing n d ∷ rest)) s ≡ done (frames_of tokens s bs (out_of_head n d ∷ rest)) s
+unfolding return
+leave_dividing r tokens s bs n zero rest = refl
+leave_dividing r tokens s bs n (suc d) rest = refl
+
+out_holds : (s : Scope) (n d : ℕ) → IsDivisor n → Holds s (out_of_head n d)
+out_holds s n zero h = (h, tt)
+out_holds s n (suc d) h = h
+
+pub leave_head : (r : Rules) (tokens : List Token) (s : Scope) (w w' : Walk) (n d : ℕ) (g : Frame) (rest : List Frame) (y : Result (Unit {0}) JudgeError) → w.answer ≡ None → w.frames ≡ Dividing n d ∷ rest → g ≡ out_of_head n d
+    → OnOk y (w' ≡ record { answer = w.answer; frames = g ∷ rest; bindings = w.bindings }) → OnErr y (y ≡ Err Memory) → Stands s w → StepComes (on_leave r (walk_of tokens s w)) s tokens s w' y
+leave_head r tokens s w w' n d g rest y e h o i j st =
+    replaced_push (on_leave r) tokens s w w' (Dividing n d) g rest y e h i j
+    (leave_dividing r tokens s w.bindings n d rest ∙ ap (λ f. done (frames_of tokens s w.bindings (f ∷ rest)) s) (sym o)) (λ k. subst (Holds s) (sym o) (out_holds s n d k)) st
+
+pub out_less : (n d e : ℕ) → 1 ≤ d → e ≡ d - 1 → Dividing n e ≡ out_of_head n d
+out_less n zero e h k = absurd (omega arith)
+out_less n (suc d) e h k = let same : e ≡ d = omega arith in ap (Dividing n) same
+
+pub out_done : (n d : ℕ) (vs : List Value) → (1 ≤ d → ⊥) → vs ≡ [] → Division n vs ≡ out_of_head n d
+out_done n zero vs h k = ap (Division n) k
+out_done n (suc d) vs h k = absurd (h (omega arith))
+
 -- ---- other tokens
 
 pub name_bound : (r : Rules) (tokens : List Token) (s : Scope) (bs xs : List Pair) (rest : List Frame) (n m : List ℕ) (t : Token) (ahead : Sexps) → t ≡ Symbol m → n ≡ m
@@ -129,7 +152,7 @@ attribute_word r tokens s bs v p rest t ahead = ap (λ g. done (g ∷ frames_of 
 pub depth_is : (d : ℕ) → takes_word (attribute_kind d) ≡ true → d ≡ 0
 depth_is zero e = refl
 depth_is (suc d) e =
-    absurd (no (ap (λ b. takes_word (if b then Rattle.elaborate.specs.declared.walk.Kind.TheVariants.Attribute else Rattle.elaborate.specs.declared.walk.Kind.TheVariants.AttributeValue)) (sym (not_zero d)) ∙ e))
+    absurd (no (ap (λ b. takes_word (if b then Rattle.elaborate.specs.declared.walk.Kind.TheVariants.Attribute else Rattle.elaborate.specs.declared.walk.Kind.TheVariants.Passed)) (sym (not_zero d)) ∙ e))
 
 pub attribute_depth : (w : Walk) (v : Value) (p d : ℕ) (rest : List Frame) → w.answer ≡ None → w.frames ≡ Attributes v p d ∷ rest → takes_word (kind_of w.answer w.frames) ≡ true → d ≡ 0
 attribute_depth w v p d rest e h k = depth_is d (ap (λ o. takes_word (kind_of o (Attributes v p d ∷ rest))) (sym e) ∙ ap (λ fs. takes_word (kind_of w.answer fs)) (sym h) ∙ k)

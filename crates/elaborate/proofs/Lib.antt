@@ -22,3 +22,4 @@ pub mod Bodied
 pub mod PartCopies
 pub mod Named
 mod FiledLemmas
+mod Divisible

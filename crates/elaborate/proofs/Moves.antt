@@ -4,23 +4,24 @@ use Rattle.std.specs.Prelude.{Result, Ok, Err, OnOk, OnErr, nat_eq, if◌then◌
 use Rattle.std.proofs.lemmas.Bool.Decides.{nat_tests}
 use Rattle.std.proofs.lemmas.List.{map-append, take-append-drop}
 use Rattle.smt_meaning.specs.declared.tokens.Token.{Token}
+use Rattle.smt_meaning.specs.declared.refusals.Refusal.{Refusal}
 use Rattle.smt_meaning.specs.declared.refusals.Refusal.TheVariants.{WrongArguments}
 use Rattle.smt_meaning.specs.declared.terms.Operator.{Operator}
 use Rattle.smt_meaning.specs.Term.{Tree}
 use Rattle.smt_meaning.specs.Sexp.{Sexps}
 use Rattle.smt_meaning.specs.Signature.{find_function}
-use Rattle.smt_meaning.specs.Sorts.{Scope, Outcome, done, refused, Judging, go_on, ◌>>=◌, return, refuse, Typed, Rules, known_symbol, judge_token, judge_application}
-use Rattle.smt_laws.specs.Walk.{Frame as Meant, whole, opened, variables, given as given_to, give as given_all, on_enter, on_leave, on_words, on_head}
+use Rattle.smt_meaning.specs.Sorts.{Scope, Outcome, done, refused, Judging, go_on, ◌>>=◌, return, refuse, Typed, Rules, known_symbol, judge_token, judge_application, judge_head, head_number, judge_divisible}
+use Rattle.smt_laws.specs.Walk.{Frame as Meant, whole, opened, dividing, variables, given as given_to, give as given_all, on_enter, on_leave, on_words, on_head}
 use Rattle.elaborate.specs.declared.value.Value.{Value}
 use Rattle.elaborate.specs.declared.frame.Binding.{Binding as Pair}
 use Rattle.elaborate.specs.declared.frame.Frame.{Frame}
-use Rattle.elaborate.specs.declared.frame.Frame.TheVariants.{Opened, Application, LetOpen, Bindings, BindingOpen, Bound, BoundTo, Body, Done, Annotation, Attributes, Naming}
+use Rattle.elaborate.specs.declared.frame.Frame.TheVariants.{Opened, Application, Dividing, Division, LetOpen, Bindings, BindingOpen, Bound, BoundTo, Body, Done, Annotation, Attributes, Naming}
 use Rattle.elaborate.specs.declared.frame.Walk.{Walk}
 use Rattle.elaborate.specs.declared.error.JudgeError.{JudgeError}
 use Rattle.elaborate.specs.declared.error.JudgeError.TheVariants.{Refused, Memory}
 use Rattle.elaborate.specs.Values.{typed, AreValues, IsLonger, Comes}
-use Rattle.elaborate.specs.Frames.{variable_at, frame_of, outside, frames_of, stack_of, walk_of, AreBound, Holds, AllHold, AnswerHolds, Stands}
-use Rattle.elaborate.specs.Steps.{kind_of, attribute_kind, is_answered, is_past, awaits_term, is_argument, is_head, takes_list, takes_word, may_end, Given, StepComes, IsFrame, FrameComes}
+use Rattle.elaborate.specs.Frames.{variable_at, frame_of, outside, frames_of, stack_of, walk_of, AreBound, IsDivisor, Holds, AllHold, AnswerHolds, Stands}
+use Rattle.elaborate.specs.Steps.{kind_of, attribute_kind, is_answered, is_past, awaits_term, is_argument, is_divided, is_head, takes_list, takes_word, may_end, Given, StepComes, IsFrame, FrameComes, IsDivisorHead}
 use Rattle.elaborate.proofs.Grow.{Grown, walk_same, stands_grows}
 
 pub vars_of : (tokens : List Token) (s : Scope) (bs : List Pair) (fs : List Frame) → variables (frames_of tokens s bs fs) ≡ map (variable_at s.trees) bs
@@ -29,6 +30,8 @@ vars_of tokens s bs (Body k ∷ fs) =
     ap (λ vs. map (variable_at s.trees) (take k bs) ++ vs) (vars_of tokens s (drop k bs) fs) ∙ sym (map-append (variable_at s.trees) (take k bs) (drop k bs)) ∙ ap (map (variable_at s.trees)) (take-append-drop k bs)
 vars_of tokens s bs (Opened ∷ fs) = vars_of tokens s bs fs
 vars_of tokens s bs (Application n q vs ∷ fs) = vars_of tokens s bs fs
+vars_of tokens s bs (Dividing n d ∷ fs) = vars_of tokens s bs fs
+vars_of tokens s bs (Division n vs ∷ fs) = vars_of tokens s bs fs
 vars_of tokens s bs (LetOpen ∷ fs) = vars_of tokens s bs fs
 vars_of tokens s bs (Bindings xs ∷ fs) = vars_of tokens s bs fs
 vars_of tokens s bs (BindingOpen xs ∷ fs) = vars_of tokens s bs fs
@@ -46,6 +49,10 @@ none_awaits_term (Some v) fs e = absurd (cc)
 pub none_is_argument : (o : Option Value) (fs : List Frame) → is_argument (kind_of o fs) ≡ true → o ≡ None
 none_is_argument None fs e = refl
 none_is_argument (Some v) fs e = absurd (cc)
+
+pub none_is_divided : (o : Option Value) (fs : List Frame) → is_divided (kind_of o fs) ≡ true → o ≡ None
+none_is_divided None fs e = refl
+none_is_divided (Some v) fs e = absurd (cc)
 
 pub none_is_head : (o : Option Value) (fs : List Frame) → is_head (kind_of o fs) ≡ true → o ≡ None
 none_is_head None fs e = refl
@@ -70,20 +77,20 @@ pub no : false ≡ true → ⊥
 no e = cc
 
 -- an attribute's kind is none of these
-attribute_no : (p : Rattle.elaborate.specs.declared.walk.Kind.Kind → Bool) → p Rattle.elaborate.specs.declared.walk.Kind.TheVariants.Attribute ≡ false → p Rattle.elaborate.specs.declared.walk.Kind.TheVariants.AttributeValue ≡ false
+attribute_no : (p : Rattle.elaborate.specs.declared.walk.Kind.Kind → Bool) → p Rattle.elaborate.specs.declared.walk.Kind.TheVariants.Attribute ≡ false → p Rattle.elaborate.specs.declared.walk.Kind.TheVariants.Passed ≡ false
     → (d : ℕ) → p (attribute_kind d) ≡ true → ⊥
 attribute_no p a b d e = go (nat_eq d 0) e
   where
-    go : (c : Bool) → p (if c then Rattle.elaborate.specs.declared.walk.Kind.TheVariants.Attribute else Rattle.elaborate.specs.declared.walk.Kind.TheVariants.AttributeValue) ≡ true → ⊥
+    go : (c : Bool) → p (if c then Rattle.elaborate.specs.declared.walk.Kind.TheVariants.Attribute else Rattle.elaborate.specs.declared.walk.Kind.TheVariants.Passed) ≡ true → ⊥
     go true h = no (sym a ∙ h)
     go false h = no (sym b ∙ h)
 
 -- an attribute's kind is one of these
-attribute_yes : (p : Rattle.elaborate.specs.declared.walk.Kind.Kind → Bool) → p Rattle.elaborate.specs.declared.walk.Kind.TheVariants.Attribute ≡ true → p Rattle.elaborate.specs.declared.walk.Kind.TheVariants.AttributeValue ≡ true
+attribute_yes : (p : Rattle.elaborate.specs.declared.walk.Kind.Kind → Bool) → p Rattle.elaborate.specs.declared.walk.Kind.TheVariants.Attribute ≡ true → p Rattle.elaborate.specs.declared.walk.Kind.TheVariants.Passed ≡ true
     → (d : ℕ) → p (attribute_kind d) ≡ false → ⊥
 attribute_yes p a b d e = go (nat_eq d 0) e
   where
-    go : (c : Bool) → p (if c then Rattle.elaborate.specs.declared.walk.Kind.TheVariants.Attribute else Rattle.elaborate.specs.declared.walk.Kind.TheVariants.AttributeValue) ≡ false → ⊥
+    go : (c : Bool) → p (if c then Rattle.elaborate.specs.declared.walk.Kind.TheVariants.Attribute else Rattle.elaborate.specs.declared.walk.Kind.TheVariants.Passed) ≡ false → ⊥
     go true h = no (sym h ∙ a)
     go false h = no (sym h ∙ b)
 
@@ -130,6 +137,10 @@ term_word r tokens s None bs (Opened ∷ fs) t ahead e = absurd (cc)
 term_word r tokens s None bs (Application n q vs ∷ fs) t ahead e =
     term_shown (frame_of tokens s bs (Application n q vs)) (frames_of tokens s (outside bs (Application n q vs)) fs) (judge_token r (variables (frames_of tokens s bs (Application n q vs ∷ fs))) t s)
     ∙ ap (λ ys. go_on (judge_token r ys t s) (λ a. return (given_to (frame_of tokens s bs (Application n q vs)) a ∷ frames_of tokens s (outside bs (Application n q vs)) fs))) (vars_of tokens s bs (Application n q vs ∷ fs))
+term_word r tokens s None bs (Dividing n d ∷ fs) t ahead e = absurd (cc)
+term_word r tokens s None bs (Division n vs ∷ fs) t ahead e =
+    term_shown (frame_of tokens s bs (Division n vs)) (frames_of tokens s (outside bs (Division n vs)) fs) (judge_token r (variables (frames_of tokens s bs (Division n vs ∷ fs))) t s)
+    ∙ ap (λ ys. go_on (judge_token r ys t s) (λ a. return (given_to (frame_of tokens s bs (Division n vs)) a ∷ frames_of tokens s (outside bs (Division n vs)) fs))) (vars_of tokens s bs (Division n vs ∷ fs))
 term_word r tokens s None bs (LetOpen ∷ fs) t ahead e = absurd (cc)
 term_word r tokens s None bs (Bindings xs ∷ fs) t ahead e = absurd (cc)
 term_word r tokens s None bs (BindingOpen xs ∷ fs) t ahead e = absurd (cc)
@@ -172,67 +183,73 @@ word_refused r tokens w w' t ahead s us u Memory k h = tt
 
 -- ---- `(`
 
-pub enter_answered : (tokens : List Token) (s : Scope) (o : Option Value) (bs : List Pair) (fs : List Frame) → is_answered (kind_of o fs) ≡ true → on_enter (stack_of tokens s o bs fs) s ≡ done (stack_of tokens s o bs fs) s
+pub enter_answered : (ahead : Sexps) (tokens : List Token) (s : Scope) (o : Option Value) (bs : List Pair) (fs : List Frame) → is_answered (kind_of o fs) ≡ true → on_enter (stack_of tokens s o bs fs) ahead s ≡ done (stack_of tokens s o bs fs) s
 unfolding return
-enter_answered tokens s (Some v) bs fs e = refl
-enter_answered tokens s None bs [] e = absurd (cc)
-enter_answered tokens s None bs (Opened ∷ fs) e = absurd (cc)
-enter_answered tokens s None bs (Application n q vs ∷ fs) e = absurd (cc)
-enter_answered tokens s None bs (LetOpen ∷ fs) e = absurd (cc)
-enter_answered tokens s None bs (Bindings xs ∷ fs) e = absurd (cc)
-enter_answered tokens s None bs (BindingOpen xs ∷ fs) e = absurd (cc)
-enter_answered tokens s None bs (Bound xs n ∷ fs) e = absurd (cc)
-enter_answered tokens s None bs (BoundTo xs n v ∷ fs) e = absurd (cc)
-enter_answered tokens s None bs (Body k ∷ fs) e = absurd (cc)
-enter_answered tokens s None bs (Done v ∷ fs) e = absurd (cc)
-enter_answered tokens s None bs (Annotation p ∷ fs) e = absurd (cc)
-enter_answered tokens s None bs (Attributes v p d ∷ fs) e = absurd (attribute_no is_answered refl refl d e)
-enter_answered tokens s None bs (Naming v p ∷ fs) e = absurd (cc)
+enter_answered ahead tokens s (Some v) bs fs e = refl
+enter_answered ahead tokens s None bs [] e = absurd (cc)
+enter_answered ahead tokens s None bs (Opened ∷ fs) e = absurd (cc)
+enter_answered ahead tokens s None bs (Application n q vs ∷ fs) e = absurd (cc)
+enter_answered ahead tokens s None bs (Dividing n d ∷ fs) e = absurd (cc)
+enter_answered ahead tokens s None bs (Division n vs ∷ fs) e = absurd (cc)
+enter_answered ahead tokens s None bs (LetOpen ∷ fs) e = absurd (cc)
+enter_answered ahead tokens s None bs (Bindings xs ∷ fs) e = absurd (cc)
+enter_answered ahead tokens s None bs (BindingOpen xs ∷ fs) e = absurd (cc)
+enter_answered ahead tokens s None bs (Bound xs n ∷ fs) e = absurd (cc)
+enter_answered ahead tokens s None bs (BoundTo xs n v ∷ fs) e = absurd (cc)
+enter_answered ahead tokens s None bs (Body k ∷ fs) e = absurd (cc)
+enter_answered ahead tokens s None bs (Done v ∷ fs) e = absurd (cc)
+enter_answered ahead tokens s None bs (Annotation p ∷ fs) e = absurd (cc)
+enter_answered ahead tokens s None bs (Attributes v p d ∷ fs) e = absurd (attribute_no is_answered refl refl d e)
+enter_answered ahead tokens s None bs (Naming v p ∷ fs) e = absurd (cc)
 
-enter_term : (tokens : List Token) (s : Scope) (o : Option Value) (bs : List Pair) (fs : List Frame) → awaits_term (kind_of o fs) ≡ true → on_enter (stack_of tokens s o bs fs) s ≡ done (opened ∷ stack_of tokens s o bs fs) s
+enter_term : (ahead : Sexps) (tokens : List Token) (s : Scope) (o : Option Value) (bs : List Pair) (fs : List Frame) → awaits_term (kind_of o fs) ≡ true → on_enter (stack_of tokens s o bs fs) ahead s ≡ done (opened ∷ stack_of tokens s o bs fs) s
 unfolding return
-enter_term tokens s (Some v) bs fs e = absurd (cc)
-enter_term tokens s None bs [] e = refl
-enter_term tokens s None bs (Opened ∷ fs) e = absurd (cc)
-enter_term tokens s None bs (Application n q vs ∷ fs) e = refl
-enter_term tokens s None bs (LetOpen ∷ fs) e = absurd (cc)
-enter_term tokens s None bs (Bindings xs ∷ fs) e = absurd (cc)
-enter_term tokens s None bs (BindingOpen xs ∷ fs) e = absurd (cc)
-enter_term tokens s None bs (Bound xs n ∷ fs) e = refl
-enter_term tokens s None bs (BoundTo xs n v ∷ fs) e = absurd (cc)
-enter_term tokens s None bs (Body k ∷ fs) e = refl
-enter_term tokens s None bs (Done v ∷ fs) e = absurd (cc)
-enter_term tokens s None bs (Annotation p ∷ fs) e = refl
-enter_term tokens s None bs (Attributes v p d ∷ fs) e = absurd (attribute_no awaits_term refl refl d e)
-enter_term tokens s None bs (Naming v p ∷ fs) e = absurd (cc)
+enter_term ahead tokens s (Some v) bs fs e = absurd (cc)
+enter_term ahead tokens s None bs [] e = refl
+enter_term ahead tokens s None bs (Opened ∷ fs) e = absurd (cc)
+enter_term ahead tokens s None bs (Application n q vs ∷ fs) e = refl
+enter_term ahead tokens s None bs (Dividing n d ∷ fs) e = absurd (cc)
+enter_term ahead tokens s None bs (Division n vs ∷ fs) e = refl
+enter_term ahead tokens s None bs (LetOpen ∷ fs) e = absurd (cc)
+enter_term ahead tokens s None bs (Bindings xs ∷ fs) e = absurd (cc)
+enter_term ahead tokens s None bs (BindingOpen xs ∷ fs) e = absurd (cc)
+enter_term ahead tokens s None bs (Bound xs n ∷ fs) e = refl
+enter_term ahead tokens s None bs (BoundTo xs n v ∷ fs) e = absurd (cc)
+enter_term ahead tokens s None bs (Body k ∷ fs) e = refl
+enter_term ahead tokens s None bs (Done v ∷ fs) e = absurd (cc)
+enter_term ahead tokens s None bs (Annotation p ∷ fs) e = refl
+enter_term ahead tokens s None bs (Attributes v p d ∷ fs) e = absurd (attribute_no awaits_term refl refl d e)
+enter_term ahead tokens s None bs (Naming v p ∷ fs) e = absurd (cc)
 
-pub enter_refused : (tokens : List Token) (s : Scope) (o : Option Value) (bs : List Pair) (fs : List Frame) → is_answered (kind_of o fs) ≡ false → awaits_term (kind_of o fs) ≡ false → takes_list (kind_of o fs) ≡ false
-    → on_enter (stack_of tokens s o bs fs) s ≡ refused WrongArguments
+pub enter_refused : (ahead : Sexps) (tokens : List Token) (s : Scope) (o : Option Value) (bs : List Pair) (fs : List Frame) → is_answered (kind_of o fs) ≡ false → awaits_term (kind_of o fs) ≡ false → takes_list (kind_of o fs) ≡ false → is_head (kind_of o fs) ≡ false
+    → on_enter (stack_of tokens s o bs fs) ahead s ≡ refused WrongArguments
 unfolding refuse
-enter_refused tokens s (Some v) bs fs e f g = absurd (cc)
-enter_refused tokens s None bs [] e f g = absurd (cc)
-enter_refused tokens s None bs (Opened ∷ fs) e f g = refl
-enter_refused tokens s None bs (Application n q vs ∷ fs) e f g = absurd (cc)
-enter_refused tokens s None bs (LetOpen ∷ fs) e f g = absurd (cc)
-enter_refused tokens s None bs (Bindings xs ∷ fs) e f g = absurd (cc)
-enter_refused tokens s None bs (BindingOpen xs ∷ fs) e f g = refl
-enter_refused tokens s None bs (Bound xs n ∷ fs) e f g = absurd (cc)
-enter_refused tokens s None bs (BoundTo xs n v ∷ fs) e f g = refl
-enter_refused tokens s None bs (Body k ∷ fs) e f g = absurd (cc)
-enter_refused tokens s None bs (Done v ∷ fs) e f g = refl
-enter_refused tokens s None bs (Annotation p ∷ fs) e f g = absurd (cc)
-enter_refused tokens s None bs (Attributes v p d ∷ fs) e f g = absurd (attribute_yes takes_list refl refl d g)
-enter_refused tokens s None bs (Naming v p ∷ fs) e f g = refl
+enter_refused ahead tokens s (Some v) bs fs e f g h = absurd (cc)
+enter_refused ahead tokens s None bs [] e f g h = absurd (cc)
+enter_refused ahead tokens s None bs (Opened ∷ fs) e f g h = absurd (cc)
+enter_refused ahead tokens s None bs (Application n q vs ∷ fs) e f g h = absurd (cc)
+enter_refused ahead tokens s None bs (Dividing n d ∷ fs) e f g h = absurd (cc)
+enter_refused ahead tokens s None bs (Division n vs ∷ fs) e f g h = absurd (cc)
+enter_refused ahead tokens s None bs (LetOpen ∷ fs) e f g h = absurd (cc)
+enter_refused ahead tokens s None bs (Bindings xs ∷ fs) e f g h = absurd (cc)
+enter_refused ahead tokens s None bs (BindingOpen xs ∷ fs) e f g h = refl
+enter_refused ahead tokens s None bs (Bound xs n ∷ fs) e f g h = absurd (cc)
+enter_refused ahead tokens s None bs (BoundTo xs n v ∷ fs) e f g h = refl
+enter_refused ahead tokens s None bs (Body k ∷ fs) e f g h = absurd (cc)
+enter_refused ahead tokens s None bs (Done v ∷ fs) e f g h = refl
+enter_refused ahead tokens s None bs (Annotation p ∷ fs) e f g h = absurd (cc)
+enter_refused ahead tokens s None bs (Attributes v p d ∷ fs) e f g h = absurd (attribute_yes takes_list refl refl d g)
+enter_refused ahead tokens s None bs (Naming v p ∷ fs) e f g h = refl
 
 -- a frame more
 opened_on : (tokens : List Token) (s : Scope) (o : Option Value) (bs : List Pair) (fs : List Frame) → o ≡ None → stack_of tokens s o bs (Opened ∷ fs) ≡ opened ∷ stack_of tokens s o bs fs
 opened_on tokens s None bs fs e = refl
 opened_on tokens s (Some v) bs fs e = absurd (cc)
 
-pub enter_opened : (tokens : List Token) (s : Scope) (w w' : Walk) → Stands s w → awaits_term (kind_of w.answer w.frames) ≡ true → w' ≡ record { answer = w.answer; frames = Opened ∷ w.frames; bindings = w.bindings }
-    → (on_enter (walk_of tokens s w) s ≡ done (walk_of tokens s w') s) × Stands s w'
-enter_opened tokens s w w' st k e = (
-  enter_term tokens s w.answer w.bindings w.frames k ∙ ap (λ fs. done fs s) (sym (opened_on tokens s w.answer w.bindings w.frames (none_awaits_term w.answer w.frames k)))
+pub enter_opened : (ahead : Sexps) (tokens : List Token) (s : Scope) (w w' : Walk) → Stands s w → awaits_term (kind_of w.answer w.frames) ≡ true → w' ≡ record { answer = w.answer; frames = Opened ∷ w.frames; bindings = w.bindings }
+    → (on_enter (walk_of tokens s w) ahead s ≡ done (walk_of tokens s w') s) × Stands s w'
+enter_opened ahead tokens s w w' st k e = (
+  enter_term ahead tokens s w.answer w.bindings w.frames k ∙ ap (λ fs. done fs s) (sym (opened_on tokens s w.answer w.bindings w.frames (none_awaits_term w.answer w.frames k)))
       ∙ ap (λ x. done (walk_of tokens s x) s) (sym e),
   subst (Stands s) (sym e) (record { answer = st.answer; frames = (tt, st.frames); bindings = st.bindings }),
 )
@@ -260,22 +277,46 @@ top_is w f g rest e h = e ∙ ap (λ x. x ∷ rest) h
 pub no_bindings : (s : Scope) (xs : List Pair) → xs ≡ [] → AreBound s.trees xs
 no_bindings s xs e = subst (AreBound s.trees) (sym e) tt
 
-pub enter_let : (tokens : List Token) (s : Scope) (bs xs : List Pair) (rest : List Frame) → xs ≡ [] → on_enter (frames_of tokens s bs (LetOpen ∷ rest)) s ≡ done (frames_of tokens s bs (Bindings xs ∷ rest)) s
+pub enter_let : (ahead : Sexps) (tokens : List Token) (s : Scope) (bs xs : List Pair) (rest : List Frame) → xs ≡ [] → on_enter (frames_of tokens s bs (LetOpen ∷ rest)) ahead s ≡ done (frames_of tokens s bs (Bindings xs ∷ rest)) s
 unfolding return
-enter_let tokens s bs xs rest e = subst (λ ys. on_enter (frames_of tokens s bs (LetOpen ∷ rest)) s ≡ done (frames_of tokens s bs (Bindings ys ∷ rest)) s) (sym e) refl
+enter_let ahead tokens s bs xs rest e = subst (λ ys. on_enter (frames_of tokens s bs (LetOpen ∷ rest)) ahead s ≡ done (frames_of tokens s bs (Bindings ys ∷ rest)) s) (sym e) refl
 
-pub enter_binding : (tokens : List Token) (s : Scope) (bs : List Pair) (xs : List Pair) (rest : List Frame) → on_enter (frames_of tokens s bs (Bindings xs ∷ rest)) s ≡ done (frames_of tokens s bs (BindingOpen xs ∷ rest)) s
+pub enter_binding : (ahead : Sexps) (tokens : List Token) (s : Scope) (bs : List Pair) (xs : List Pair) (rest : List Frame) → on_enter (frames_of tokens s bs (Bindings xs ∷ rest)) ahead s ≡ done (frames_of tokens s bs (BindingOpen xs ∷ rest)) s
 unfolding return
-enter_binding tokens s bs xs rest = refl
+enter_binding ahead tokens s bs xs rest = refl
 
-pub enter_value : (tokens : List Token) (s : Scope) (bs : List Pair) (v : Value) (p d e : ℕ) (rest : List Frame) → e ≡ suc d → on_enter (frames_of tokens s bs (Attributes v p d ∷ rest)) s ≡ done (frames_of tokens s bs (Attributes v p e ∷ rest)) s
+pub enter_value : (ahead : Sexps) (tokens : List Token) (s : Scope) (bs : List Pair) (v : Value) (p d e : ℕ) (rest : List Frame) → e ≡ suc d → on_enter (frames_of tokens s bs (Attributes v p d ∷ rest)) ahead s ≡ done (frames_of tokens s bs (Attributes v p e ∷ rest)) s
 unfolding return
-enter_value tokens s bs v p d e rest h = subst (λ x. on_enter (frames_of tokens s bs (Attributes v p d ∷ rest)) s ≡ done (frames_of tokens s bs (Attributes v p x ∷ rest)) s) (sym h) refl
+enter_value ahead tokens s bs v p d e rest h = subst (λ x. on_enter (frames_of tokens s bs (Attributes v p d ∷ rest)) ahead s ≡ done (frames_of tokens s bs (Attributes v p x ∷ rest)) s) (sym h) refl
 
-pub enter_push : (tokens : List Token) (s : Scope) (w w' : Walk) (y : Result (Unit {0}) JudgeError) → Stands s w → awaits_term (kind_of w.answer w.frames) ≡ true
-    → OnOk y (w' ≡ record { answer = w.answer; frames = Opened ∷ w.frames; bindings = w.bindings }) → OnErr y (y ≡ Err Memory) → StepComes (on_enter (walk_of tokens s w)) s tokens s w' y
-enter_push tokens s w w' (Ok x) st k h j = enter_opened tokens s w w' st k h
-enter_push tokens s w w' (Err x) st k h j = step_memory (on_enter (walk_of tokens s w)) s tokens s w' x (error_is x j)
+pub enter_push : (ahead : Sexps) (tokens : List Token) (s : Scope) (w w' : Walk) (y : Result (Unit {0}) JudgeError) → Stands s w → awaits_term (kind_of w.answer w.frames) ≡ true
+    → OnOk y (w' ≡ record { answer = w.answer; frames = Opened ∷ w.frames; bindings = w.bindings }) → OnErr y (y ≡ Err Memory) → StepComes (on_enter (walk_of tokens s w) ahead) s tokens s w' y
+enter_push ahead tokens s w w' (Ok x) st k h j = enter_opened ahead tokens s w w' st k h
+enter_push ahead tokens s w w' (Err x) st k h j = step_memory (on_enter (walk_of tokens s w) ahead) s tokens s w' x (error_is x j)
+
+pub enter_deeper : (ahead : Sexps) (tokens : List Token) (s : Scope) (bs : List Pair) (n d e : ℕ) (rest : List Frame) → e ≡ suc d → on_enter (frames_of tokens s bs (Dividing n d ∷ rest)) ahead s ≡ done (frames_of tokens s bs (Dividing n e ∷ rest)) s
+unfolding return
+enter_deeper ahead tokens s bs n d e rest h = subst (λ x. on_enter (frames_of tokens s bs (Dividing n d ∷ rest)) ahead s ≡ done (frames_of tokens s bs (Dividing n x ∷ rest)) s) (sym h) refl
+
+head_entered : (ahead : Sexps) (tokens : List Token) (s : Scope) (bs : List Pair) (rest : List Frame) (x : Outcome ℕ) → judge_head (head_number ahead) s ≡ x
+    → on_enter (frames_of tokens s bs (Opened ∷ rest)) ahead s ≡ go_on x (λ n. return (dividing n 0 ∷ frames_of tokens s bs rest))
+unfolding ◌>>=◌
+head_entered ahead tokens s bs rest x e = ap (λ y. go_on y (λ n. return (dividing n 0 ∷ frames_of tokens s bs rest))) e
+
+enter_divides : (ahead : Sexps) (tokens : List Token) (s : Scope) (bs : List Pair) (n : ℕ) (rest : List Frame) → judge_head (head_number ahead) s ≡ done n s
+    → on_enter (frames_of tokens s bs (Opened ∷ rest)) ahead s ≡ done (frames_of tokens s bs (Dividing n 0 ∷ rest)) s
+unfolding return
+enter_divides ahead tokens s bs n rest e = head_entered ahead tokens s bs rest (done n s) e
+
+pub enter_head : (ahead : Sexps) (tokens : List Token) (s : Scope) (w w' : Walk) (n : ℕ) (rest : List Frame) (y : Result (Unit {0}) JudgeError) → w.answer ≡ None → w.frames ≡ Opened ∷ rest
+    → OnOk y (w' ≡ record { answer = w.answer; frames = Dividing n 0 ∷ rest; bindings = w.bindings }) → OnErr y (y ≡ Err Memory) → IsDivisorHead (head_number ahead) (Ok n) → Stands s w
+    → StepComes (on_enter (walk_of tokens s w) ahead) s tokens s w' y
+enter_head ahead tokens s w w' n rest y e h i j k st =
+    replaced_push (λ fs. on_enter fs ahead) tokens s w w' Opened (Dividing n 0) rest y e h i j (enter_divides ahead tokens s w.bindings n rest (k.0 s)) (λ u. k.1) st
+
+pub enter_not : (ahead : Sexps) (tokens : List Token) (s : Scope) (w w' : Walk) (rest : List Frame) (x : Refusal) → w.answer ≡ None → w.frames ≡ Opened ∷ rest → IsDivisorHead (head_number ahead) (Err x)
+    → StepComes (on_enter (walk_of tokens s w) ahead) s tokens s w' (Err (Refused x))
+enter_not ahead tokens s w w' rest x e h k = ap (λ fs. on_enter fs ahead s) (shown_is tokens s w (Opened ∷ rest) e h) ∙ head_entered ahead tokens s w.bindings rest (refused x) (k s)
 
 -- ---- `)`
 
@@ -285,6 +326,8 @@ leave_answered r tokens s (Some v) bs fs e = refl
 leave_answered r tokens s None bs [] e = absurd (cc)
 leave_answered r tokens s None bs (Opened ∷ fs) e = absurd (cc)
 leave_answered r tokens s None bs (Application n q vs ∷ fs) e = absurd (cc)
+leave_answered r tokens s None bs (Dividing n d ∷ fs) e = absurd (cc)
+leave_answered r tokens s None bs (Division n vs ∷ fs) e = absurd (cc)
 leave_answered r tokens s None bs (LetOpen ∷ fs) e = absurd (cc)
 leave_answered r tokens s None bs (Bindings xs ∷ fs) e = absurd (cc)
 leave_answered r tokens s None bs (BindingOpen xs ∷ fs) e = absurd (cc)
@@ -296,23 +339,25 @@ leave_answered r tokens s None bs (Annotation p ∷ fs) e = absurd (cc)
 leave_answered r tokens s None bs (Attributes v p d ∷ fs) e = absurd (attribute_no is_answered refl refl d e)
 leave_answered r tokens s None bs (Naming v p ∷ fs) e = absurd (cc)
 
-pub leave_refused : (r : Rules) (tokens : List Token) (s : Scope) (o : Option Value) (bs : List Pair) (fs : List Frame) → is_answered (kind_of o fs) ≡ false → is_argument (kind_of o fs) ≡ false → may_end (kind_of o fs) ≡ false
+pub leave_refused : (r : Rules) (tokens : List Token) (s : Scope) (o : Option Value) (bs : List Pair) (fs : List Frame) → is_answered (kind_of o fs) ≡ false → is_argument (kind_of o fs) ≡ false → is_divided (kind_of o fs) ≡ false → may_end (kind_of o fs) ≡ false
     → on_leave r (stack_of tokens s o bs fs) s ≡ refused WrongArguments
 unfolding refuse
-leave_refused r tokens s (Some v) bs fs e f g = absurd (cc)
-leave_refused r tokens s None bs [] e f g = refl
-leave_refused r tokens s None bs (Opened ∷ fs) e f g = refl
-leave_refused r tokens s None bs (Application n q vs ∷ fs) e f g = absurd (cc)
-leave_refused r tokens s None bs (LetOpen ∷ fs) e f g = refl
-leave_refused r tokens s None bs (Bindings xs ∷ fs) e f g = absurd (cc)
-leave_refused r tokens s None bs (BindingOpen xs ∷ fs) e f g = refl
-leave_refused r tokens s None bs (Bound xs n ∷ fs) e f g = refl
-leave_refused r tokens s None bs (BoundTo xs n v ∷ fs) e f g = absurd (cc)
-leave_refused r tokens s None bs (Body k ∷ fs) e f g = refl
-leave_refused r tokens s None bs (Done v ∷ fs) e f g = absurd (cc)
-leave_refused r tokens s None bs (Annotation p ∷ fs) e f g = refl
-leave_refused r tokens s None bs (Attributes v p d ∷ fs) e f g = absurd (attribute_yes may_end refl refl d g)
-leave_refused r tokens s None bs (Naming v p ∷ fs) e f g = refl
+leave_refused r tokens s (Some v) bs fs e f g h = absurd (cc)
+leave_refused r tokens s None bs [] e f g h = refl
+leave_refused r tokens s None bs (Opened ∷ fs) e f g h = refl
+leave_refused r tokens s None bs (Application n q vs ∷ fs) e f g h = absurd (cc)
+leave_refused r tokens s None bs (Dividing n d ∷ fs) e f g h = absurd (cc)
+leave_refused r tokens s None bs (Division n vs ∷ fs) e f g h = absurd (cc)
+leave_refused r tokens s None bs (LetOpen ∷ fs) e f g h = refl
+leave_refused r tokens s None bs (Bindings xs ∷ fs) e f g h = absurd (cc)
+leave_refused r tokens s None bs (BindingOpen xs ∷ fs) e f g h = refl
+leave_refused r tokens s None bs (Bound xs n ∷ fs) e f g h = refl
+leave_refused r tokens s None bs (BoundTo xs n v ∷ fs) e f g h = absurd (cc)
+leave_refused r tokens s None bs (Body k ∷ fs) e f g h = refl
+leave_refused r tokens s None bs (Done v ∷ fs) e f g h = absurd (cc)
+leave_refused r tokens s None bs (Annotation p ∷ fs) e f g h = refl
+leave_refused r tokens s None bs (Attributes v p d ∷ fs) e f g h = absurd (attribute_yes may_end refl refl d h)
+leave_refused r tokens s None bs (Naming v p ∷ fs) e f g h = refl
 
 -- without its innermost frame
 abbrev pub popped : Walk → List Frame → Walk
@@ -324,31 +369,60 @@ application_left : (r : Rules) (n : List ℕ) (q : Option Operator) (vs : List V
 unfolding ◌>>=◌
 application_left r n q vs tokens s bs rest x e = ap (λ y. go_on y (λ a. return (given_all a (frames_of tokens s bs rest)))) e
 
+division_left : (r : Rules) (n : ℕ) (vs : List Value) (tokens : List Token) (s : Scope) (bs : List Pair) (rest : List Frame) (x : Outcome Typed) → judge_divisible r n (map (typed s.trees) vs) s ≡ x
+    → on_leave r (frames_of tokens s bs (Division n vs ∷ rest)) s ≡ go_on x (λ a. return (given_all a (frames_of tokens s bs rest)))
+unfolding ◌>>=◌
+division_left r n vs tokens s bs rest x e = ap (λ y. go_on y (λ a. return (given_all a (frames_of tokens s bs rest)))) e
+
 rest_stands : (s : Scope) (w : Walk) (f : Frame) (rest : List Frame) → w.answer ≡ None → w.frames ≡ f ∷ rest → outside w.bindings f ≡ w.bindings → Stands s w → Stands s (popped w rest)
 rest_stands s w f rest e h o st =
     let holds : AllHold s (f ∷ rest) = subst (AllHold s) h st.frames in
     record { answer = st.answer; frames = holds.1; bindings = st.bindings }
 
+-- the end of a list whose term is judged so
+abbrev LeavesBy : Rules → List Token → Scope → Walk → Frame → List Frame → Judging Typed → Type 0
+LeavesBy r tokens s w f rest m =
+    (x : Outcome Typed) → m s ≡ x → on_leave r (frames_of tokens s w.bindings (f ∷ rest)) s ≡ go_on x (λ a. return (given_all a (frames_of tokens s w.bindings rest)))
+
+list_given : (r : Rules) (tokens : List Token) (w w' : Walk) (f : Frame) (m : Judging Typed) (rest : List Frame) (v : Value) (s : Scope) (us : List Tree) → LeavesBy r tokens s w f rest m → outside w.bindings f ≡ w.bindings → IsLonger s.trees us
+    → Stands s w → w.answer ≡ None → w.frames ≡ f ∷ rest → Comes m s us (Ok v) → Given (popped w rest) v w' → StepComes (on_leave r (walk_of tokens s w)) s tokens (record s { trees = us }) w' (Ok tt)
+unfolding return
+list_given r tokens w w' f m rest v s us leaves o l st e h k g =
+    let u : Scope = record s { trees = us } in
+    let grown : Grown s u = grown_trees s us l in
+    let small : Stands s (popped w rest) = rest_stands s w f rest e h o st in (
+      ap (λ fs. on_leave r fs s) (shown_is tokens s w (f ∷ rest) e h)
+          ∙ leaves _ k.0
+          ∙ ap (λ fs. done (given_all (typed us v) fs) u) (sym (shown_is tokens s (popped w rest) rest e refl) ∙ sym (walk_same tokens s u (popped w rest) grown small))
+          ∙ ap (λ fs. done fs u) (sym (g.walk tokens u)),
+      g.stands u (stands_grows s u (popped w rest) grown small) k.1,
+    )
+
+list_not : (r : Rules) (tokens : List Token) (w w' : Walk) (f : Frame) (m : Judging Typed) (rest : List Frame) (s : Scope) (us : List Tree) (u : Scope) (x : JudgeError) → LeavesBy r tokens s w f rest m → w.answer ≡ None → w.frames ≡ f ∷ rest
+    → Comes m s us (Err x) → StepComes (on_leave r (walk_of tokens s w)) s tokens u w' (Err x)
+list_not r tokens w w' f m rest s us u (Refused x) leaves e h k = ap (λ fs. on_leave r fs s) (shown_is tokens s w (f ∷ rest) e h) ∙ leaves _ k
+list_not r tokens w w' f m rest s us u Memory leaves e h k = tt
+
 pub leave_given : (r : Rules) (tokens : List Token) (w w' : Walk) (n : List ℕ) (q : Option Operator) (vs : List Value) (rest : List Frame) (v : Value) (s : Scope) (us : List Tree) → IsLonger s.trees us → Stands s w → w.answer ≡ None
     → w.frames ≡ Application n q vs ∷ rest → Comes (judge_application r n (known_symbol q (find_function n s.signature)) (map (typed s.trees) vs)) s us (Ok v) → Given (popped w rest) v w'
     → StepComes (on_leave r (walk_of tokens s w)) s tokens (record s { trees = us }) w' (Ok tt)
-unfolding return
 leave_given r tokens w w' n q vs rest v s us l st e h k m =
-    let u : Scope = record s { trees = us } in
-    let g : Grown s u = grown_trees s us l in
-    let small : Stands s (popped w rest) = rest_stands s w (Application n q vs) rest e h refl st in (
-      ap (λ fs. on_leave r fs s) (shown_is tokens s w (Application n q vs ∷ rest) e h)
-          ∙ application_left r n q vs tokens s w.bindings rest _ k.0
-          ∙ ap (λ fs. done (given_all (typed us v) fs) u) (sym (shown_is tokens s (popped w rest) rest e refl) ∙ sym (walk_same tokens s u (popped w rest) g small))
-          ∙ ap (λ fs. done fs u) (sym (m.walk tokens u)),
-      m.stands u (stands_grows s u (popped w rest) g small) k.1,
-    )
+    list_given r tokens w w' (Application n q vs) (judge_application r n (known_symbol q (find_function n s.signature)) (map (typed s.trees) vs)) rest v s us (λ x f. application_left r n q vs tokens s w.bindings rest x f) refl l st e h k m
 
 pub leave_not : (r : Rules) (tokens : List Token) (w w' : Walk) (n : List ℕ) (q : Option Operator) (vs : List Value) (rest : List Frame) (s : Scope) (us : List Tree) (u : Scope) (x : JudgeError) → w.answer ≡ None
     → w.frames ≡ Application n q vs ∷ rest → Comes (judge_application r n (known_symbol q (find_function n s.signature)) (map (typed s.trees) vs)) s us (Err x) → StepComes (on_leave r (walk_of tokens s w)) s tokens u w' (Err x)
-leave_not r tokens w w' n q vs rest s us u (Refused x) e h k =
-    ap (λ fs. on_leave r fs s) (shown_is tokens s w (Application n q vs ∷ rest) e h) ∙ application_left r n q vs tokens s w.bindings rest _ k
-leave_not r tokens w w' n q vs rest s us u Memory e h k = tt
+leave_not r tokens w w' n q vs rest s us u x e h k =
+    list_not r tokens w w' (Application n q vs) (judge_application r n (known_symbol q (find_function n s.signature)) (map (typed s.trees) vs)) rest s us u x (λ y f. application_left r n q vs tokens s w.bindings rest y f) e h k
+
+pub division_given : (r : Rules) (tokens : List Token) (w w' : Walk) (n : ℕ) (vs : List Value) (rest : List Frame) (v : Value) (s : Scope) (us : List Tree) → IsLonger s.trees us → Stands s w → w.answer ≡ None → w.frames ≡ Division n vs ∷ rest
+    → Comes (judge_divisible r n (map (typed s.trees) vs)) s us (Ok v) → Given (popped w rest) v w' → StepComes (on_leave r (walk_of tokens s w)) s tokens (record s { trees = us }) w' (Ok tt)
+division_given r tokens w w' n vs rest v s us l st e h k m =
+    list_given r tokens w w' (Division n vs) (judge_divisible r n (map (typed s.trees) vs)) rest v s us (λ x f. division_left r n vs tokens s w.bindings rest x f) refl l st e h k m
+
+pub division_not : (r : Rules) (tokens : List Token) (w w' : Walk) (n : ℕ) (vs : List Value) (rest : List Frame) (s : Scope) (us : List Tree) (u : Scope) (x : JudgeError) → w.answer ≡ None → w.frames ≡ Division n vs ∷ rest
+    → Comes (judge_divisible r n (map (typed s.trees) vs)) s us (Err x) → StepComes (on_leave r (walk_of tokens s w)) s tokens u w' (Err x)
+division_not r tokens w w' n vs rest s us u x e h k =
+    list_not r tokens w w' (Division n vs) (judge_divisible r n (map (typed s.trees) vs)) rest s us u x (λ y f. division_left r n vs tokens s w.bindings rest y f) e h k
 
 -- ---- other tokens
 
@@ -359,6 +433,8 @@ word_past r tokens s (Some v) bs fs t ahead e = refl
 word_past r tokens s None bs [] t ahead e = absurd (cc)
 word_past r tokens s None bs (Opened ∷ fs) t ahead e = absurd (cc)
 word_past r tokens s None bs (Application n q vs ∷ fs) t ahead e = absurd (cc)
+word_past r tokens s None bs (Dividing n d ∷ fs) t ahead e = refl
+word_past r tokens s None bs (Division n vs ∷ fs) t ahead e = absurd (cc)
 word_past r tokens s None bs (LetOpen ∷ fs) t ahead e = absurd (cc)
 word_past r tokens s None bs (Bindings xs ∷ fs) t ahead e = absurd (cc)
 word_past r tokens s None bs (BindingOpen xs ∷ fs) t ahead e = absurd (cc)
@@ -378,6 +454,8 @@ word_wrong r tokens s (Some v) bs fs t ahead e f g h = absurd (cc)
 word_wrong r tokens s None bs [] t ahead e f g h = absurd (cc)
 word_wrong r tokens s None bs (Opened ∷ fs) t ahead e f g h = absurd (cc)
 word_wrong r tokens s None bs (Application n q vs ∷ fs) t ahead e f g h = absurd (cc)
+word_wrong r tokens s None bs (Dividing n d ∷ fs) t ahead e f g h = absurd (cc)
+word_wrong r tokens s None bs (Division n vs ∷ fs) t ahead e f g h = absurd (cc)
 word_wrong r tokens s None bs (LetOpen ∷ fs) t ahead e f g h = refl
 word_wrong r tokens s None bs (Bindings xs ∷ fs) t ahead e f g h = refl
 word_wrong r tokens s None bs (BindingOpen xs ∷ fs) t ahead e f g h = absurd (cc)
@@ -388,7 +466,7 @@ word_wrong r tokens s None bs (Done v ∷ fs) t ahead e f g h = refl
 word_wrong r tokens s None bs (Annotation p ∷ fs) t ahead e f g h = absurd (cc)
 word_wrong r tokens s None bs (Attributes v p zero ∷ fs) t ahead e f g h = absurd (cc)
 word_wrong r tokens s None bs (Attributes v p (suc d) ∷ fs) t ahead e f g h =
-    absurd (no (sym e ∙ ap (λ b. is_past (if b then Rattle.elaborate.specs.declared.walk.Kind.TheVariants.Attribute else Rattle.elaborate.specs.declared.walk.Kind.TheVariants.AttributeValue)) (not_zero d)))
+    absurd (no (sym e ∙ ap (λ b. is_past (if b then Rattle.elaborate.specs.declared.walk.Kind.TheVariants.Attribute else Rattle.elaborate.specs.declared.walk.Kind.TheVariants.Passed)) (not_zero d)))
 word_wrong r tokens s None bs (Naming v p ∷ fs) t ahead e f g h = absurd (cc)
 
 -- ---- the head of a list
@@ -401,6 +479,8 @@ head_rest w e = go w.answer w.frames e
     go None [] e = absurd (cc)
     go None (Opened ∷ fs) e = (fs, refl)
     go None (Application n q vs ∷ fs) e = absurd (cc)
+    go None (Dividing n d ∷ fs) e = absurd (cc)
+    go None (Division n vs ∷ fs) e = absurd (cc)
     go None (LetOpen ∷ fs) e = absurd (cc)
     go None (Bindings xs ∷ fs) e = absurd (cc)
     go None (BindingOpen xs ∷ fs) e = absurd (cc)
@@ -446,3 +526,6 @@ head_not r tokens s w w' rest t ahead Memory e h k = tt
 
 pub top_values : (s : Scope) (w : Walk) (n : List ℕ) (q : Option Operator) (vs : List Value) (rest : List Frame) → w.frames ≡ Application n q vs ∷ rest → Stands s w → AreValues s.trees vs
 top_values s w n q vs rest e st = let holds : AllHold s (Application n q vs ∷ rest) = subst (AllHold s) e st.frames in holds.0.1
+
+pub divided_holds : (s : Scope) (w : Walk) (n : ℕ) (vs : List Value) (rest : List Frame) → w.frames ≡ Division n vs ∷ rest → Stands s w → IsDivisor n × AreValues s.trees vs
+divided_holds s w n vs rest e st = let holds : AllHold s (Division n vs ∷ rest) = subst (AllHold s) e st.frames in holds.0

@@ -12,7 +12,7 @@ use Rattle.smt_laws.specs.TermWalkLaws.{WalkGivesTheJudgement}
 use Rattle.elaborate.specs.declared.value.Value.{Value}
 use Rattle.elaborate.specs.declared.frame.Binding.{Binding}
 use Rattle.elaborate.specs.declared.frame.Frame.{Frame}
-use Rattle.elaborate.specs.declared.frame.Frame.TheVariants.{Opened, Application, LetOpen, Bindings, BindingOpen, Bound, BoundTo, Body, Done, Annotation, Attributes, Naming}
+use Rattle.elaborate.specs.declared.frame.Frame.TheVariants.{Opened, Application, Dividing, Division, LetOpen, Bindings, BindingOpen, Bound, BoundTo, Body, Done, Annotation, Attributes, Naming}
 use Rattle.elaborate.specs.declared.frame.Walk.{Walk}
 use Rattle.elaborate.specs.declared.error.JudgeError.{JudgeError}
 use Rattle.elaborate.specs.declared.error.JudgeError.TheVariants.{Refused, Memory}
@@ -30,7 +30,7 @@ same_step m n s tokens u w y e h = subst (λ k. StepComes k s tokens u w y) (sym
 the_same : (t u : Token) (ts us : List Token) (xs : List Token) → xs ≡ t ∷ ts → xs ≡ u ∷ us → t ≡ u
 the_same t u ts us xs e f = let k : t ∷ ts ≡ u ∷ us = sym e ∙ f in cc
 
-is_enter : (r : Rules) (fs : List Meant) (t : Token) (lists : List Sexps) → class_of t ≡ Opening → step r fs t lists ≡ on_enter fs
+is_enter : (r : Rules) (fs : List Meant) (t : Token) (lists : List Sexps) → class_of t ≡ Opening → step r fs t lists ≡ on_enter fs (first_list lists)
 is_enter r fs Enter lists e = refl
 is_enter r fs Leave lists e = absurd (cc)
 is_enter r fs (Numeral cs) lists e = absurd (cc)
@@ -67,10 +67,10 @@ is_word r fs (Reserved cs) lists e = refl
 is_word r fs (Keyword cs) lists e = refl
 
 pub step_enter : (r : Rules) (fs : List Meant) (t v : Token) (ts us xs : List Token) (lists : List Sexps) (s : Scope) (tokens : List Token) (u : Scope) (w : Walk) (y : Result (Unit {0}) JudgeError) → xs ≡ t ∷ ts → xs ≡ v ∷ us → class_of v ≡ Opening
-    → StepComes (on_enter fs) s tokens u w y → StepComes (step r fs t lists) s tokens u w y
+    → StepComes (on_enter fs (first_list lists)) s tokens u w y → StepComes (step r fs t lists) s tokens u w y
 step_enter r fs t v ts us xs lists s tokens u w y e f k h =
     let same : t ≡ v = the_same t v ts us xs e f in
-    subst (λ x. StepComes (step r fs x lists) s tokens u w y) (sym same) (same_step (step r fs v lists) (on_enter fs) s tokens u w y (is_enter r fs v lists k) h)
+    subst (λ x. StepComes (step r fs x lists) s tokens u w y) (sym same) (same_step (step r fs v lists) (on_enter fs (first_list lists)) s tokens u w y (is_enter r fs v lists k) h)
 
 pub step_leave : (r : Rules) (fs : List Meant) (t v : Token) (ts us xs : List Token) (lists : List Sexps) (s : Scope) (tokens : List Token) (u : Scope) (w : Walk) (y : Result (Unit {0}) JudgeError) → xs ≡ t ∷ ts → xs ≡ v ∷ us → class_of v ≡ Closing
     → StepComes (on_leave r fs) s tokens u w y → StepComes (step r fs t lists) s tokens u w y
@@ -153,6 +153,8 @@ unfinished tokens u (Some x) bs fs e = absurd (cc)
 unfinished tokens u None bs [] e = refl
 unfinished tokens u None bs (Opened ∷ fs) e = refl
 unfinished tokens u None bs (Application n q vs ∷ fs) e = refl
+unfinished tokens u None bs (Dividing n d ∷ fs) e = refl
+unfinished tokens u None bs (Division n vs ∷ fs) e = refl
 unfinished tokens u None bs (LetOpen ∷ fs) e = refl
 unfinished tokens u None bs (Bindings xs ∷ fs) e = refl
 unfinished tokens u None bs (BindingOpen xs ∷ fs) e = refl

@@ -1,17 +1,17 @@
 -- What the frames of the reading of a term stand for.
-use Rattle.std.specs.Prelude.{ℕ, Bool, List, [], ◌∷◌, map, take, drop, Option, Some, None, if◌then◌else◌, bytes_eq}
+use Rattle.std.specs.Prelude.{◌≡◌, ℕ, ◌≤◌, Bool, true, List, [], ◌∷◌, map, take, drop, Option, Some, None, if◌then◌else◌, bytes_eq}
 use Rattle.smt_meaning.specs.declared.tokens.Token.{Token}
 use Rattle.smt_meaning.specs.declared.terms.Operator.{Operator}
 use Rattle.smt_meaning.specs.Declaration.{Declaration}
 use Rattle.smt_meaning.specs.Term.{Tree}
 use Rattle.smt_meaning.specs.Sexp.{open_lists_of}
 use Rattle.smt_meaning.specs.Signature.{find_function}
-use Rattle.smt_meaning.specs.Sorts.{Scope, Variable, known_symbol}
-use Rattle.smt_laws.specs.Walk.{Frame as Meant, whole, answer, opened, application, let_open, bindings, binding_open, binding, bound_to, body, result, annotation, attributes, naming, has_free_first, first_list}
+use Rattle.smt_meaning.specs.Sorts.{Scope, Variable, known_symbol, is_small}
+use Rattle.smt_laws.specs.Walk.{Frame as Meant, whole, answer, opened, application, dividing, division, let_open, bindings, binding_open, binding, bound_to, body, result, annotation, attributes, naming, has_free_first, first_list}
 use Rattle.elaborate.specs.declared.value.Value.{Value}
 use Rattle.elaborate.specs.declared.frame.Binding.{Binding}
 use Rattle.elaborate.specs.declared.frame.Frame.{Frame}
-use Rattle.elaborate.specs.declared.frame.Frame.TheVariants.{Opened, Application, LetOpen, Bindings, BindingOpen, Bound, BoundTo, Body, Done, Annotation, Attributes, Naming}
+use Rattle.elaborate.specs.declared.frame.Frame.TheVariants.{Opened, Application, Dividing, Division, LetOpen, Bindings, BindingOpen, Bound, BoundTo, Body, Done, Annotation, Attributes, Naming}
 use Rattle.elaborate.specs.declared.frame.Walk.{Walk}
 use Rattle.elaborate.specs.Values.{typed, IsValue, AreValues}
 
@@ -30,6 +30,8 @@ is_open_at tokens ts bs p = has_free_first (map (variable_at ts) bs) (first_list
 abbrev pub frame_of : List Token → Scope → List Binding → Frame → Meant
 frame_of tokens s bs Opened = opened
 frame_of tokens s bs (Application n o vs) = application n (known_symbol o (find_function n s.signature)) (map (typed s.trees) vs)
+frame_of tokens s bs (Dividing n d) = dividing n d
+frame_of tokens s bs (Division n vs) = division n (map (typed s.trees) vs)
 frame_of tokens s bs LetOpen = let_open
 frame_of tokens s bs (Bindings xs) = bindings (map (variable_at s.trees) xs)
 frame_of tokens s bs (BindingOpen xs) = binding_open (map (variable_at s.trees) xs)
@@ -70,9 +72,16 @@ IsHead (Some o) d = Unit {0}
 IsHead None (Some d) = Unit {0}
 IsHead None None = ⊥
 
+-- a head may divide by this number
+pub record IsDivisor (n : ℕ) : Type 0 where
+  pub positive : 1 ≤ n
+  pub small : is_small n ≡ true
+
 abbrev pub Holds : Scope → Frame → Type 0
 Holds s Opened = Unit {0}
 Holds s (Application n o vs) = IsHead o (find_function n s.signature) × AreValues s.trees vs
+Holds s (Dividing n d) = IsDivisor n
+Holds s (Division n vs) = IsDivisor n × AreValues s.trees vs
 Holds s LetOpen = Unit {0}
 Holds s (Bindings xs) = AreBound s.trees xs
 Holds s (BindingOpen xs) = AreBound s.trees xs

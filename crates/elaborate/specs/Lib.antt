@@ -8,3 +8,4 @@ pub mod Parts
 pub mod Naming
 pub mod Filed
 pub mod Own
+pub mod Operators

@@ -1,31 +1,34 @@
 -- The steps of the reading of a term.
-use Rattle.std.specs.Prelude.{◌≡◌, ℕ, Bool, true, false, List, [], ◌∷◌, Option, Some, None, nat_eq, if◌then◌else◌, bytes_eq, codes, Result, Ok, Err}
+use Rattle.std.specs.Prelude.{◌≡◌, ℕ, zero, suc, Bool, true, false, List, [], ◌∷◌, Option, Some, None, nat_eq, if◌then◌else◌, bytes_eq, codes, Result, Ok, Err}
 use Rattle.smt_meaning.specs.declared.tokens.Token.{Token}
 use Rattle.smt_meaning.specs.declared.tokens.Token.TheVariants.{Enter, Leave, Symbol, Keyword}
+use Rattle.smt_meaning.specs.declared.refusals.Refusal.{Refusal}
 use Rattle.smt_meaning.specs.declared.refusals.Refusal.TheVariants.{WrongArguments}
 use Rattle.smt_meaning.specs.Sexp.{Sexps}
-use Rattle.smt_meaning.specs.Sorts.{Scope, done, refused, Judging}
+use Rattle.smt_meaning.specs.Sorts.{Scope, done, refused, Judging, judge_head}
 use Rattle.smt_laws.specs.Walk.{Frame as Meant, given as given_to, give as given_all, check_let, check_annotation}
 use Rattle.elaborate.specs.declared.value.Value.{Value}
 use Rattle.elaborate.specs.declared.frame.Binding.{Binding as Pair}
 use Rattle.elaborate.specs.declared.frame.Frame.{Frame}
-use Rattle.elaborate.specs.declared.frame.Frame.TheVariants.{Opened, Application, LetOpen, Bindings, BindingOpen, Bound, BoundTo, Body, Done, Annotation, Attributes, Naming}
+use Rattle.elaborate.specs.declared.frame.Frame.TheVariants.{Opened, Application, Dividing, Division, LetOpen, Bindings, BindingOpen, Bound, BoundTo, Body, Done, Annotation, Attributes, Naming}
 use Rattle.elaborate.specs.declared.frame.Walk.{Walk}
 use Rattle.elaborate.specs.declared.walk.Kind.{Kind}
-use Rattle.elaborate.specs.declared.walk.Kind.TheVariants.{Answered, Whole, Argument, Term, Head, LetList, Binding, BoundName, BindingEnd, LetEnd, Attribute, AttributeValue, Name}
+use Rattle.elaborate.specs.declared.walk.Kind.TheVariants.{Answered, Whole, Argument, Divided, Term, Head, LetList, Binding, BoundName, BindingEnd, LetEnd, Attribute, Passed, Name}
 use Rattle.elaborate.specs.declared.error.JudgeError.{JudgeError}
 use Rattle.elaborate.specs.declared.error.JudgeError.TheVariants.{Refused, Memory}
 use Rattle.elaborate.specs.declared.steps.Class.{Class}
 use Rattle.elaborate.specs.declared.steps.Class.TheVariants.{Opening, Closing, Word}
 use Rattle.elaborate.specs.Values.{typed, IsValue}
-use Rattle.elaborate.specs.Frames.{frame_of, outside, walk_of, Holds, Stands}
+use Rattle.elaborate.specs.Frames.{frame_of, outside, walk_of, IsDivisor, Holds, Stands}
 
 abbrev pub attribute_kind : ℕ → Kind
-attribute_kind d = if nat_eq d 0 then Attribute else AttributeValue
+attribute_kind d = if nat_eq d 0 then Attribute else Passed
 
 abbrev pub kind_of_frame : Frame → Kind
 kind_of_frame Opened = Head
 kind_of_frame (Application n o vs) = Argument
+kind_of_frame (Dividing n d) = Passed
+kind_of_frame (Division n vs) = Divided
 kind_of_frame LetOpen = LetList
 kind_of_frame (Bindings xs) = Binding
 kind_of_frame (BindingOpen xs) = BoundName
@@ -47,6 +50,7 @@ kind_of None (f ∷ fs) = kind_of_frame f
 abbrev pub awaits_term : Kind → Bool
 awaits_term Whole = true
 awaits_term Argument = true
+awaits_term Divided = true
 awaits_term Term = true
 awaits_term _ = false
 
@@ -57,12 +61,16 @@ is_answered _ = false
 -- the token is passed over
 abbrev pub is_past : Kind → Bool
 is_past Answered = true
-is_past AttributeValue = true
+is_past Passed = true
 is_past _ = false
 
 abbrev pub is_argument : Kind → Bool
 is_argument Argument = true
 is_argument _ = false
+
+abbrev pub is_divided : Kind → Bool
+is_divided Divided = true
+is_divided _ = false
 
 abbrev pub is_head : Kind → Bool
 is_head Head = true
@@ -73,7 +81,7 @@ abbrev pub takes_list : Kind → Bool
 takes_list LetList = true
 takes_list Binding = true
 takes_list Attribute = true
-takes_list AttributeValue = true
+takes_list Passed = true
 takes_list _ = false
 
 -- a token that is no term may come next
@@ -89,7 +97,7 @@ may_end Binding = true
 may_end BindingEnd = true
 may_end LetEnd = true
 may_end Attribute = true
-may_end AttributeValue = true
+may_end Passed = true
 may_end _ = false
 
 abbrev pub class_of : Token → Class
@@ -136,6 +144,16 @@ abbrev pub IsAnnotationHead : Sexps → ℕ → Result Frame JudgeError → Type
 IsAnnotationHead l p (Ok g) = (g ≡ Annotation p) × ((s : Scope) → check_annotation l s ≡ done tt s)
 IsAnnotationHead l p (Err (Refused r)) = (s : Scope) → check_annotation l s ≡ refused r
 IsAnnotationHead l p (Err Memory) = Unit {0}
+
+-- what is ahead of a list that is a head
+abbrev pub IsDivisorHead : Option ℕ → Result ℕ Refusal → Type 0
+IsDivisorHead o (Ok n) = ((s : Scope) → judge_head o s ≡ done n s) × IsDivisor n
+IsDivisorHead o (Err r) = (s : Scope) → judge_head o s ≡ refused r
+
+-- after a `)` in a head that divides, in so many lists of it
+abbrev pub out_of_head : ℕ → ℕ → Frame
+out_of_head n zero = Division n []
+out_of_head n (suc d) = Dividing n d
 
 -- a keyword that names a term
 abbrev pub is_named : Token → Bool

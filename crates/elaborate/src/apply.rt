@@ -3,13 +3,14 @@ ghost use Rattle.std.specs.Prelude.{◌≡◌, ◌||◌, ◌&&◌, map, not, len
 ghost use Rattle.smt_meaning.specs.Seen.{seen};
 ghost use Rattle.smt_meaning.specs.Signature.{sorts_eq, find_function};
 ghost use Rattle.smt_sorts.specs.Names.{signature};
-ghost use Rattle.smt_meaning.specs.Sorts.{judge_application, judge_bare, judge_symbol, known_symbol, trees_of, operator as theory, function};
+ghost use Rattle.smt_meaning.specs.Sorts.{judge_application, judge_bare, judge_symbol, judge_divisible, known_symbol, trees_of, operator as theory, function};
 ghost use Rattle.elaborate.specs.Judged.{scope_of, rules_of};
 ghost use Rattle.elaborate.specs.Values.{AreValues, Comes, IsErrorOf, HasGrown, sort_of, typed};
+ghost use Rattle.elaborate.specs.Frames.{IsDivisor};
 
 use crate::definitions::apply_definition;
 use crate::error::JudgeError;
-use crate::operation::operated;
+use crate::operation::{divisible_by, operated};
 use crate::operators::{operator_sort, same_sort, stands_bare, takes};
 use crate::value::{Value, are_linear, is_linear_operation, stored};
 use smt_meaning::{Bytes, Declaration, Head, Operator, Refusal, Seq, Sort, TokenView};
@@ -35,7 +36,7 @@ pub(crate) fn wrong_count(alloc: Global, name: &[u8]) -> JudgeError
 }
 
 /// The arguments' sorts aren't the head's.
-fn wrong_sorts(alloc: Global, name: &[u8]) -> JudgeError
+pub(crate) fn wrong_sorts(alloc: Global, name: &[u8]) -> JudgeError
     ensures { IsErrorOf (Refusal.SortsDiffer name.now) result }
 {
     match Bytes::copy(alloc, name) {
@@ -80,6 +81,30 @@ pub(crate) fn apply_operator(
         return Err(JudgeError::Refused(Refusal::NotLinear));
     }
     operated(alloc, operator, sort, arguments, store)
+}
+
+/// A head that divides by a number, with its arguments.
+pub(crate) fn apply_divisible(
+    alloc: Global,
+    rules: Rules,
+    number: u128,
+    arguments: &[Value],
+    table: &Table,
+    store: &mut TermStore,
+) -> Result<Value, JudgeError>
+    requires values { AreValues store.old.trees arguments.now }
+    requires divisor { IsDivisor number }
+    ensures comes { Comes (judge_divisible (rules_of rules) number (map (typed store.old.trees) arguments.now)) (scope_of table.now store.old.trees) store.new.trees result }
+    ensures longer { HasGrown store.old store.new }
+{
+    let _ = (rules.closed, table.ids());
+    if arguments.len() != 1 {
+        return Err(wrong_count(alloc, b"divisible".as_slice()));
+    }
+    if !same_sort(arguments[0].sort, Sort::Int) {
+        return Err(wrong_sorts(alloc, b"divisible".as_slice()));
+    }
+    divisible_by(alloc, arguments[0], number, store)
 }
 
 /// Products and divisors are judged only where there are no parameters.

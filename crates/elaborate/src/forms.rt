@@ -7,7 +7,7 @@ ghost use Rattle.smt_meaning.specs.Sorts.{Scope, Rules as RulesValue};
 ghost use Rattle.smt_laws.specs.Walk.{on_leave, on_words};
 ghost use Rattle.elaborate.specs.Judged.{rules_of};
 ghost use Rattle.elaborate.specs.Frames.{walk_of, Stands};
-ghost use Rattle.elaborate.specs.Steps.{kind_of, takes_word, is_named, IsNoName, StepComes};
+ghost use Rattle.elaborate.specs.Steps.{kind_of, takes_word, is_named, out_of_head, IsNoName, StepComes};
 
 use crate::apply::Rules;
 use crate::bindings::Bindings;
@@ -43,8 +43,18 @@ fn with_binding(
     Ok(bound)
 }
 
+/// The frame after a `)` in a head that divides, in so many lists of it.
+fn out_of_head(alloc: Global, number: u128, depth: usize) -> Frame
+    ensures { result ≡ out_of_head number depth }
+{
+    match depth.checked_sub(1) {
+        Some(less) => Frame::Dividing(number, less),
+        None => Frame::Division(number, Seq::new(alloc)),
+    }
+}
+
 /// `)` that ends no application.
-pub(crate) fn leave_form(walk: &mut Walk) -> Result<(), JudgeError>
+pub(crate) fn leave_form(alloc: Global, walk: &mut Walk) -> Result<(), JudgeError>
     requires none { walk.old.answer ≡ None }
     ensures { (tokens : List TokenValue) (s : Scope) (r : RulesValue) → Stands s walk.old → StepComes (on_leave r (walk_of tokens s walk.old)) s tokens s walk.new result }
 {
@@ -61,6 +71,7 @@ pub(crate) fn leave_form(walk: &mut Walk) -> Result<(), JudgeError>
             Ok(()) => Ok(()),
             Err(_) => Err(JudgeError::Memory),
         },
+        Some(Frame::Dividing(number, depth)) => push(walk, out_of_head(alloc, number, depth)),
         Some(Frame::Attributes(value, place, depth)) => match depth.checked_sub(1) {
             Some(less) => push(walk, Frame::Attributes(value, place, less)),
             None => match give(walk, value) {

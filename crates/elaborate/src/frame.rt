@@ -18,6 +18,10 @@ pub(crate) enum Frame {
     Opened,
     /// After a name, which is an operator or a declared function, and some arguments.
     Application(Bytes, Option<Operator>, Seq<Value>),
+    /// In a head that divides by a number, in so many lists of it.
+    Dividing(u128, usize),
+    /// After such a head and some arguments.
+    Division(u128, Seq<Value>),
     /// After `(let`.
     LetOpen,
     /// Among the bindings of a `let`, after some.

@@ -1,21 +1,23 @@
 //! The head of a list.
-ghost use Rattle.std.specs.Prelude.{◌≡◌, ◌+◌, ◌≤◌, List, [], map, length, IfOk, OnErr};
+ghost use Rattle.std.specs.Prelude.{◌≡◌, ◌+◌, ◌≤◌, List, [], map, length, Some, IfOk, OnErr};
 ghost use Rattle.smt_meaning.specs.declared.tokens.Token.{Token as TokenValue};
 ghost use Rattle.smt_meaning.specs.Seen.{seen};
 ghost use Rattle.smt_meaning.specs.Sexp.{Sexps};
 ghost use Rattle.smt_meaning.specs.Term.{Tree};
+ghost use Rattle.smt_meaning.specs.Sorts.{decimal, head_number};
 ghost use Rattle.smt_laws.specs.Walk.{on_head};
 ghost use Rattle.look_ahead.specs.Ahead.{ahead, AreEnds};
 ghost use Rattle.elaborate.specs.Judged.{scope_of, rules_of};
 ghost use Rattle.elaborate.specs.Frames.{variable_at};
-ghost use Rattle.elaborate.specs.Steps.{FrameComes, IsLetHead, IsAnnotationHead};
+ghost use Rattle.elaborate.specs.Steps.{FrameComes, IsLetHead, IsAnnotationHead, IsDivisorHead};
 
 use crate::apply::{Rules, unknown, wrong_count};
 use crate::bindings::Bindings;
 use crate::error::JudgeError;
 use crate::frame::Frame;
+use crate::numeral::number;
 use crate::operators::operator_named;
-use look_ahead::{LookError, check_annotation, check_let};
+use look_ahead::{LookError, check_annotation, check_let, divisor};
 use smt_meaning::{Bytes, Operator, Refusal, SExpr, Seq, TokenView, Word};
 use smt_sorts::Table;
 use std::alloc::Global;
@@ -136,5 +138,33 @@ pub(crate) fn list_head(
         TokenView::Binary(_) => Err(JudgeError::Refused(Refusal::WrongArguments)),
         TokenView::Text(_) => Err(JudgeError::Refused(Refusal::WrongArguments)),
         TokenView::Keyword(_) => Err(JudgeError::Refused(Refusal::WrongArguments)),
+    }
+}
+
+/// The number that these digits write, where a head may divide by it: at least 1.
+fn divisor_written(digits: &[u8]) -> Result<u128, Refusal>
+    ensures { IsDivisorHead (Some (decimal digits.now)) result }
+{
+    match number(digits) {
+        Some(number) => {
+            if number == 0 {
+                Err(Refusal::WrongArguments)
+            } else {
+                Ok(number)
+            }
+        }
+        None => Err(Refusal::NumeralTooLarge),
+    }
+}
+
+/// The number by which a head divides, whose list's inside begins at a place.
+pub(crate) fn divisor_head(term: &SExpr, ends: &[usize], place: usize) -> Result<u128, Refusal>
+    requires ends { AreEnds term.now ends.now }
+    requires within { place ≤ length term.now }
+    ensures { IsDivisorHead (head_number (ahead term.now place)) result }
+{
+    match divisor(term, ends, place) {
+        Some(digits) => divisor_written(digits),
+        None => Err(Refusal::WrongArguments),
     }
 }

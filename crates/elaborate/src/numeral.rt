@@ -25,10 +25,10 @@ fn with_digit(number: u128, digit: u8) -> Option<u128>
     }
 }
 
-/// The head of the number that these digits write, where it is at most 2^127 - 1.
-pub(crate) fn numeral(digits: &[u8]) -> Option<Head>
-    ensures some { IfSome result (λ h. h ≡ Head.Numeral (pos (decimal digits.now))) }
-    ensures small { IfSome result (λ h. is_small (decimal digits.now) ≡ true) }
+/// The number that these digits write, where it is at most 2^127 - 1.
+pub(crate) fn number(digits: &[u8]) -> Option<u128>
+    ensures some { IfSome result (λ n. n ≡ decimal digits.now) }
+    ensures small { IfSome result (λ n. is_small n ≡ true) }
     ensures none { IfNone result (is_small (decimal digits.now) ≡ false) }
 {
     let mut number: u128 = 0;
@@ -38,5 +38,13 @@ pub(crate) fn numeral(digits: &[u8]) -> Option<Head>
             None => return None,
         }
     }
-    Some(Head::Numeral(number as i128))
+    Some(number)
+}
+
+/// The head of a numeral's term.
+pub(crate) fn numeral(number: u128) -> Head
+    requires { is_small number ≡ true }
+    ensures { result ≡ Head.Numeral (pos number) }
+{
+    Head::Numeral(number as i128)
 }

@@ -1,11 +1,12 @@
 //! An operator applied to arguments, with the quotients that its term has.
-ghost use Rattle.std.specs.Prelude.{◌≡◌, [], ◌∷◌, List, map, IfOk, OnErr};
-ghost use Rattle.smt_meaning.specs.Term.{Tree, tree_at};
+ghost use Rattle.std.specs.Prelude.{◌≡◌, [], ◌∷◌, List, map, pos, true, IfOk, OnErr};
+ghost use Rattle.smt_meaning.specs.Term.{Tree, node, none, more, tree_at};
 ghost use Rattle.smt_meaning.specs.TreeShape.{operation, quotient_tree, divided_from, with_parts};
-ghost use Rattle.smt_meaning.specs.Sorts.{trees_of};
+ghost use Rattle.smt_meaning.specs.Sorts.{trees_of, is_small};
 ghost use Rattle.elaborate.specs.Values.{AreValues, IsTerm, HasGrown, typed, with_quotient};
 
 use crate::error::JudgeError;
+use crate::numeral::numeral;
 use crate::value::{Value, stored};
 use smt_meaning::{Head, Operator, Sort};
 use std::alloc::Global;
@@ -118,6 +119,32 @@ fn divided_by_all(
             store,
         ),
     }
+}
+
+/// Whether a number divides a term: its numeral is stored before the quotient.
+pub(crate) fn divisible_by(
+    alloc: Global,
+    number: Value,
+    divisor: u128,
+    store: &mut TermStore,
+) -> Result<Value, JudgeError>
+    requires number { AreValues store.old.trees (number ∷ []) }
+    requires small { is_small divisor ≡ true }
+    ensures ok { IfOk result (λ v. IsTerm (operation Operator.Divisible (more (tree_at store.old.trees number.id) (more (node (Head.Numeral (pos divisor)) none) none))) Sort.Bool store.old.trees store.new.trees v) }
+    ensures memory { OnErr result (result ≡ Err JudgeError.Memory) }
+    ensures longer { HasGrown store.old store.new }
+{
+    let _ = store.len();
+    let divisor = stored(alloc, numeral(divisor), Sort::Int, &[], store)?;
+    let _ = store.len();
+    left_by(
+        alloc,
+        Operator::Divisible,
+        Sort::Bool,
+        number,
+        divisor,
+        store,
+    )
 }
 
 /// The term of an operator with these arguments.

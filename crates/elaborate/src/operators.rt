@@ -2,6 +2,7 @@
 ghost use Rattle.std.specs.Prelude.{◌≡◌, map};
 ghost use Rattle.smt_meaning.specs.Signature.{look_up, operators, takes, stands_with, sort_eq, all_of, all_the_same, ite_sort, if_so, operator_sort};
 ghost use Rattle.elaborate.specs.Values.{sort_of};
+ghost use Rattle.elaborate.specs.Operators.{later_operators, number_operators};
 
 use crate::value::Value;
 use smt_meaning::{Operator, Sort};
@@ -25,6 +26,12 @@ pub(crate) fn operator_named(name: &[u8]) -> Option<Operator>
     if name == b"or".as_slice() {
         return Some(Operator::Or);
     }
+    later_operator(name)
+}
+
+fn later_operator(name: &[u8]) -> Option<Operator>
+    ensures { result ≡ look_up name.now later_operators }
+{
     if name == b"xor".as_slice() {
         return Some(Operator::Xor);
     }
@@ -40,6 +47,12 @@ pub(crate) fn operator_named(name: &[u8]) -> Option<Operator>
     if name == b"ite".as_slice() {
         return Some(Operator::Ite);
     }
+    number_operator(name)
+}
+
+fn number_operator(name: &[u8]) -> Option<Operator>
+    ensures { result ≡ look_up name.now number_operators }
+{
     if name == b"+".as_slice() {
         return Some(Operator::Add);
     }

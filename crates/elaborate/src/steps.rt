@@ -10,17 +10,17 @@ ghost use Rattle.smt_laws.specs.Walk.{step, on_words, on_enter, on_leave};
 ghost use Rattle.elaborate.specs.Judged.{scope_of, rules_of};
 ghost use Rattle.elaborate.specs.Values.{HasGrown};
 ghost use Rattle.elaborate.specs.Frames.{walk_of, Stands};
-ghost use Rattle.elaborate.specs.Steps.{class_of, kind_of, awaits_term, is_argument, is_head, StepComes};
+ghost use Rattle.elaborate.specs.Steps.{class_of, kind_of, awaits_term, is_argument, is_divided, is_head, StepComes};
 
-use crate::apply::{Rules, apply_name};
+use crate::apply::{Rules, apply_divisible, apply_name};
 use crate::error::JudgeError;
 use crate::forms::{leave_form, word_form};
 use crate::frame::{Frame, Walk};
-use crate::head::list_head;
+use crate::head::{divisor_head, list_head};
 use crate::token::judge_token;
 use crate::walk::{
-    awaits_term, give, is_answered, is_argument, is_head, is_past, may_end, push, takes_list,
-    takes_word, what_comes,
+    awaits_term, give, is_answered, is_argument, is_divided, is_head, is_past, may_end, push,
+    takes_list, takes_word, what_comes,
 };
 use smt_meaning::{Refusal, SExpr, Seq, TokenView};
 use smt_sorts::Table;
@@ -89,10 +89,10 @@ fn word_term(
     }
 }
 
-/// `(` that begins no term.
+/// `(` that begins neither a term nor a head.
 fn enter_form(alloc: Global, walk: &mut Walk) -> Result<(), JudgeError>
     requires { walk.old.answer ≡ None }
-    ensures { (tokens : List TokenValue) (s : Scope) → Stands s walk.old → StepComes (on_enter (walk_of tokens s walk.old)) s tokens s walk.new result }
+    ensures { (tokens : List TokenValue) (s : Scope) (ahead : Sexps) → Stands s walk.old → StepComes (on_enter (walk_of tokens s walk.old) ahead) s tokens s walk.new result }
 {
     match walk.frames.pop() {
         Some(Frame::LetOpen) => push(walk, Frame::Bindings(Seq::new(alloc))),
@@ -101,13 +101,44 @@ fn enter_form(alloc: Global, walk: &mut Walk) -> Result<(), JudgeError>
             Some(deeper) => push(walk, Frame::Attributes(value, place, deeper)),
             None => Err(JudgeError::Memory),
         },
+        Some(Frame::Dividing(number, depth)) => match depth.checked_add(1) {
+            Some(deeper) => push(walk, Frame::Dividing(number, deeper)),
+            None => Err(JudgeError::Memory),
+        },
         _ => Err(JudgeError::Memory),
     }
 }
 
-/// `(`
-fn enter(alloc: Global, walk: &mut Walk) -> Result<(), JudgeError>
-    ensures { (tokens : List TokenValue) (s : Scope) → Stands s walk.old → StepComes (on_enter (walk_of tokens s walk.old)) s tokens s walk.new result }
+/// `(` that begins the head of a list, before a place.
+fn enter_head(term: &SExpr, ends: &[usize], place: usize, walk: &mut Walk) -> Result<(), JudgeError>
+    requires ends { AreEnds term.now ends.now }
+    requires within { place ≤ length term.now }
+    requires kind { is_head (kind_of walk.old.answer walk.old.frames) ≡ true }
+    ensures { (s : Scope) → Stands s walk.old → StepComes (on_enter (walk_of term.now s walk.old) (ahead term.now place)) s term.now s walk.new result }
+{
+    match divisor_head(term, ends, place) {
+        Ok(number) => {
+            let frame = Frame::Dividing(number, 0);
+            match walk.frames.pop() {
+                Some(_) => push(walk, frame),
+                None => Err(JudgeError::Memory),
+            }
+        }
+        Err(why) => Err(JudgeError::Refused(why)),
+    }
+}
+
+/// `(`, before a place.
+fn enter(
+    alloc: Global,
+    term: &SExpr,
+    ends: &[usize],
+    place: usize,
+    walk: &mut Walk,
+) -> Result<(), JudgeError>
+    requires ends { AreEnds term.now ends.now }
+    requires within { place ≤ length term.now }
+    ensures { (s : Scope) → Stands s walk.old → StepComes (on_enter (walk_of term.now s walk.old) (ahead term.now place)) s term.now s walk.new result }
 {
     let kind = what_comes(walk);
     if is_answered(kind) {
@@ -118,6 +149,9 @@ fn enter(alloc: Global, walk: &mut Walk) -> Result<(), JudgeError>
     }
     if takes_list(kind) {
         return enter_form(alloc, walk);
+    }
+    if is_head(kind) {
+        return enter_head(term, ends, place, walk);
     }
     Err(JudgeError::Refused(Refusal::WrongArguments))
 }
@@ -149,6 +183,33 @@ fn leave_application(
     }
 }
 
+/// The end of a list whose head divides by a number.
+fn leave_division(
+    alloc: Global,
+    rules: Rules,
+    walk: &mut Walk,
+    table: &Table,
+    store: &mut TermStore,
+) -> Result<(), JudgeError>
+    requires stands { Stands (scope_of table.now store.old.trees) walk.old }
+    requires kind { is_divided (kind_of walk.old.answer walk.old.frames) ≡ true }
+    ensures comes { (tokens : List TokenValue) → StepComes (on_leave (rules_of rules) (walk_of tokens (scope_of table.now store.old.trees) walk.old)) (scope_of table.now store.old.trees) tokens (scope_of table.now store.new.trees) walk.new result }
+    ensures longer { HasGrown store.old store.new }
+{
+    match walk.frames.pop() {
+        Some(Frame::Division(number, arguments)) => {
+            match apply_divisible(alloc, rules, number, arguments.as_slice(), table, store) {
+                Ok(value) => match give(walk, value) {
+                    Ok(()) => Ok(()),
+                    Err(_) => Err(JudgeError::Memory),
+                },
+                Err(error) => Err(error),
+            }
+        }
+        _ => Err(JudgeError::Memory),
+    }
+}
+
 /// `)`
 fn leave(
     alloc: Global,
@@ -168,8 +229,11 @@ fn leave(
     if is_argument(kind) {
         return leave_application(alloc, rules, walk, table, store);
     }
+    if is_divided(kind) {
+        return leave_division(alloc, rules, walk, table, store);
+    }
     if may_end(kind) {
-        return leave_form(walk);
+        return leave_form(alloc, walk);
     }
     Err(JudgeError::Refused(Refusal::WrongArguments))
 }
@@ -260,12 +324,10 @@ pub(crate) fn step(
     ensures longer { HasGrown store.old store.new }
 {
     let token = term.token(place);
+    let next = place + 1;
     match class_of(token) {
-        Class::Opening => enter(alloc, walk),
+        Class::Opening => enter(alloc, term, ends, next, walk),
         Class::Closing => leave(alloc, rules, walk, table, store),
-        Class::Word => {
-            let next = place + 1;
-            word(alloc, rules, term, ends, next, token, walk, table, store)
-        }
+        Class::Word => word(alloc, rules, term, ends, next, token, walk, table, store),
     }
 }

@@ -12,7 +12,7 @@ ghost use Rattle.elaborate.specs.Frames.{AreBound, variable_at};
 use crate::apply::{Rules, bare_function, bare_operator, unknown};
 use crate::bindings::Bindings;
 use crate::error::JudgeError;
-use crate::numeral::numeral;
+use crate::numeral::{number, numeral};
 use crate::operators::operator_named;
 use crate::value::{Value, stored};
 use smt_meaning::{Refusal, Sort, TokenView};
@@ -31,8 +31,8 @@ fn judge_numeral(
     ensures longer { HasGrown store.old store.new }
 {
     let _ = table.ids();
-    match numeral(digits) {
-        Some(head) => stored(alloc, head, Sort::Int, &[], store),
+    match number(digits) {
+        Some(number) => stored(alloc, numeral(number), Sort::Int, &[], store),
         None => Err(JudgeError::Refused(Refusal::NumeralTooLarge)),
     }
 }

@@ -2,7 +2,7 @@
 ghost use Rattle.std.specs.Prelude.{◌≡◌, ◌∷◌, List, None, true, drop, IfOk, OnOk, OnErr};
 ghost use Rattle.elaborate.specs.declared.frame.Binding.{Binding as BindingValue};
 ghost use Rattle.elaborate.specs.Frames.{outside};
-ghost use Rattle.elaborate.specs.Steps.{kind_of, kind_of_frame, attribute_kind, is_answered, is_past, awaits_term, is_argument, is_head, takes_list, takes_word, may_end, IsGiven, Given};
+ghost use Rattle.elaborate.specs.Steps.{kind_of, kind_of_frame, attribute_kind, is_answered, is_past, awaits_term, is_argument, is_divided, is_head, takes_list, takes_word, may_end, IsGiven, Given};
 
 use crate::error::JudgeError;
 use crate::frame::{Frame, Walk};
@@ -18,6 +18,8 @@ pub(crate) enum Kind {
     Whole,
     /// An argument, or `)`.
     Argument,
+    /// The term that a number divides, or `)`.
+    Divided,
     /// A term.
     Term,
     /// The head of a list.
@@ -34,8 +36,8 @@ pub(crate) enum Kind {
     LetEnd,
     /// An attribute, or `)`.
     Attribute,
-    /// A part of an attribute's value.
-    AttributeValue,
+    /// A part of an attribute's value, or of a head that divides.
+    Passed,
     /// The name of a term.
     Name,
 }
@@ -46,6 +48,8 @@ fn frame_kind(frame: &Frame) -> Kind
     match frame {
         Frame::Opened => Kind::Head,
         Frame::Application(_, _, _) => Kind::Argument,
+        Frame::Dividing(_, _) => Kind::Passed,
+        Frame::Division(_, _) => Kind::Divided,
         Frame::LetOpen => Kind::LetList,
         Frame::Bindings(_) => Kind::Binding,
         Frame::BindingOpen(_) => Kind::BoundName,
@@ -65,7 +69,7 @@ fn attribute_kind(depth: usize) -> Kind
     if depth == 0 {
         Kind::Attribute
     } else {
-        Kind::AttributeValue
+        Kind::Passed
     }
 }
 
@@ -90,6 +94,8 @@ fn bound_by(frame: &Frame) -> usize
         Frame::Body(count) => *count,
         Frame::Opened => 0,
         Frame::Application(_, _, _) => 0,
+        Frame::Dividing(_, _) => 0,
+        Frame::Division(_, _) => 0,
         Frame::LetOpen => 0,
         Frame::Bindings(_) => 0,
         Frame::BindingOpen(_) => 0,
@@ -110,6 +116,10 @@ fn given(frame: Frame, value: Value) -> Result<Frame, AllocError>
         Frame::Application(name, operator, mut arguments) => {
             arguments.push(value)?;
             Ok(Frame::Application(name, operator, arguments))
+        }
+        Frame::Division(number, mut arguments) => {
+            arguments.push(value)?;
+            Ok(Frame::Division(number, arguments))
         }
         Frame::Bound(bindings, name) => Ok(Frame::BoundTo(bindings, name, value)),
         Frame::Body(_) => Ok(Frame::Done(value)),
@@ -167,6 +177,7 @@ pub(crate) fn is_answered(kind: Kind) -> bool
         Kind::Answered => true,
         Kind::Whole => false,
         Kind::Argument => false,
+        Kind::Divided => false,
         Kind::Term => false,
         Kind::Head => false,
         Kind::LetList => false,
@@ -175,7 +186,7 @@ pub(crate) fn is_answered(kind: Kind) -> bool
         Kind::BindingEnd => false,
         Kind::LetEnd => false,
         Kind::Attribute => false,
-        Kind::AttributeValue => false,
+        Kind::Passed => false,
         Kind::Name => false,
     }
 }
@@ -188,6 +199,7 @@ pub(crate) fn is_past(kind: Kind) -> bool
         Kind::Answered => true,
         Kind::Whole => false,
         Kind::Argument => false,
+        Kind::Divided => false,
         Kind::Term => false,
         Kind::Head => false,
         Kind::LetList => false,
@@ -196,7 +208,7 @@ pub(crate) fn is_past(kind: Kind) -> bool
         Kind::BindingEnd => false,
         Kind::LetEnd => false,
         Kind::Attribute => false,
-        Kind::AttributeValue => true,
+        Kind::Passed => true,
         Kind::Name => false,
     }
 }
@@ -209,6 +221,7 @@ pub(crate) fn awaits_term(kind: Kind) -> bool
         Kind::Answered => false,
         Kind::Whole => true,
         Kind::Argument => true,
+        Kind::Divided => true,
         Kind::Term => true,
         Kind::Head => false,
         Kind::LetList => false,
@@ -217,7 +230,7 @@ pub(crate) fn awaits_term(kind: Kind) -> bool
         Kind::BindingEnd => false,
         Kind::LetEnd => false,
         Kind::Attribute => false,
-        Kind::AttributeValue => false,
+        Kind::Passed => false,
         Kind::Name => false,
     }
 }
@@ -230,6 +243,7 @@ pub(crate) fn is_argument(kind: Kind) -> bool
         Kind::Answered => false,
         Kind::Whole => false,
         Kind::Argument => true,
+        Kind::Divided => false,
         Kind::Term => false,
         Kind::Head => false,
         Kind::LetList => false,
@@ -238,7 +252,29 @@ pub(crate) fn is_argument(kind: Kind) -> bool
         Kind::BindingEnd => false,
         Kind::LetEnd => false,
         Kind::Attribute => false,
-        Kind::AttributeValue => false,
+        Kind::Passed => false,
+        Kind::Name => false,
+    }
+}
+
+/// The term that a number divides may come next.
+pub(crate) fn is_divided(kind: Kind) -> bool
+    ensures { result ≡ is_divided kind }
+{
+    match kind {
+        Kind::Answered => false,
+        Kind::Whole => false,
+        Kind::Argument => false,
+        Kind::Divided => true,
+        Kind::Term => false,
+        Kind::Head => false,
+        Kind::LetList => false,
+        Kind::Binding => false,
+        Kind::BoundName => false,
+        Kind::BindingEnd => false,
+        Kind::LetEnd => false,
+        Kind::Attribute => false,
+        Kind::Passed => false,
         Kind::Name => false,
     }
 }
@@ -251,6 +287,7 @@ pub(crate) fn is_head(kind: Kind) -> bool
         Kind::Answered => false,
         Kind::Whole => false,
         Kind::Argument => false,
+        Kind::Divided => false,
         Kind::Term => false,
         Kind::Head => true,
         Kind::LetList => false,
@@ -259,7 +296,7 @@ pub(crate) fn is_head(kind: Kind) -> bool
         Kind::BindingEnd => false,
         Kind::LetEnd => false,
         Kind::Attribute => false,
-        Kind::AttributeValue => false,
+        Kind::Passed => false,
         Kind::Name => false,
     }
 }
@@ -272,6 +309,7 @@ pub(crate) fn takes_list(kind: Kind) -> bool
         Kind::Answered => false,
         Kind::Whole => false,
         Kind::Argument => false,
+        Kind::Divided => false,
         Kind::Term => false,
         Kind::Head => false,
         Kind::LetList => true,
@@ -280,7 +318,7 @@ pub(crate) fn takes_list(kind: Kind) -> bool
         Kind::BindingEnd => false,
         Kind::LetEnd => false,
         Kind::Attribute => true,
-        Kind::AttributeValue => true,
+        Kind::Passed => true,
         Kind::Name => false,
     }
 }
@@ -293,6 +331,7 @@ pub(crate) fn takes_word(kind: Kind) -> bool
         Kind::Answered => false,
         Kind::Whole => false,
         Kind::Argument => false,
+        Kind::Divided => false,
         Kind::Term => false,
         Kind::Head => false,
         Kind::LetList => false,
@@ -301,7 +340,7 @@ pub(crate) fn takes_word(kind: Kind) -> bool
         Kind::BindingEnd => false,
         Kind::LetEnd => false,
         Kind::Attribute => true,
-        Kind::AttributeValue => false,
+        Kind::Passed => false,
         Kind::Name => true,
     }
 }
@@ -314,6 +353,7 @@ pub(crate) fn may_end(kind: Kind) -> bool
         Kind::Answered => false,
         Kind::Whole => false,
         Kind::Argument => false,
+        Kind::Divided => false,
         Kind::Term => false,
         Kind::Head => false,
         Kind::LetList => false,
@@ -322,7 +362,7 @@ pub(crate) fn may_end(kind: Kind) -> bool
         Kind::BindingEnd => true,
         Kind::LetEnd => true,
         Kind::Attribute => true,
-        Kind::AttributeValue => true,
+        Kind::Passed => true,
         Kind::Name => false,
     }
 }

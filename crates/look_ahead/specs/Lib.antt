@@ -2,3 +2,4 @@ pub mod Ahead
 pub mod Marks
 pub mod Lets
 pub mod Free
+pub mod Heads

@@ -1,17 +1,20 @@
-//! What is ahead of a place among the tokens of a term: the form of a `let` and of an annotation,
-//! and whether a term has a free variable. Each call steps over what it need not read, so that all
-//! calls for one term together take time linear in its tokens.
+//! What is ahead of a place among the tokens of a term: the form of a `let`, of an annotation and of
+//! a head that divides, and whether a term has a free variable. Each call steps over what it need
+//! not read, so that all calls for one term together take time linear in its tokens.
 //!
 //! `ends`, `check_let`, `check_annotation`, `has_free_first`: the forms of `let` and `!` before
 //! their terms are read, exactly as they are judged.
+//!
+//! `divisor`: the number of a head `(_ divisible n)`, where the head has this form.
 #![tactic(auto)]
 
-ghost use Rattle.std.specs.Prelude.{◌≡◌, ◌≤◌, List, length, OnOk, IfOk, IfErr};
-ghost use Rattle.smt_meaning.specs.Sorts.{Scope, Variable, done, variable_names};
+ghost use Rattle.std.specs.Prelude.{◌≡◌, ◌≤◌, List, length, Some, None, OnOk, IfOk, IfErr, IfSome, IfNone};
+ghost use Rattle.smt_meaning.specs.Sorts.{Scope, Variable, done, variable_names, decimal, head_number};
 ghost use Rattle.smt_laws.specs.Walk.{check_let, check_annotation, has_free_first};
 ghost use Rattle.look_ahead.specs.Ahead.{ahead, AreEnds, checked, IsWhyNoLet};
 
 mod free;
+mod heads;
 mod lets;
 mod marks;
 mod parts;
@@ -58,6 +61,16 @@ pub fn check_annotation(term: &SExpr, ends: &[usize], place: usize) -> bool
     ensures { (s : Scope) → check_annotation (ahead term.now place) s ≡ checked result s }
 {
     parts::is_annotation(term, ends, place)
+}
+
+/// The digits of the number of a head `(_ divisible n)`, whose list's inside begins at a place (SMT-LIB 2.6, theory Ints).
+pub fn divisor<'a>(term: &'a SExpr, ends: &[usize], place: usize) -> Option<&'a [u8]>
+    requires ends { AreEnds term.now ends.now }
+    requires within { place ≤ length term.now }
+    ensures some { IfSome result (λ d. head_number (ahead term.now place) ≡ Some (decimal d.now)) }
+    ensures none { IfNone result (head_number (ahead term.now place) ≡ None) }
+{
+    heads::number(term, ends, place)
 }
 
 /// Whether one of the names occurs free in the term at a place.

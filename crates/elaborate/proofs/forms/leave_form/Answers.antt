@@ -1,9 +1,9 @@
 use Rattle.std.proofs.Common.{sym, subst}
 use Rattle.smt_laws.specs.Walk.{on_leave}
-use Rattle.elaborate.specs.declared.frame.Frame.TheVariants.{Bindings, BoundTo, Done, Attributes}
+use Rattle.elaborate.specs.declared.frame.Frame.TheVariants.{Dividing, Bindings, BoundTo, Done, Attributes}
 use Rattle.elaborate.specs.Frames.{AreBound}
 use Rattle.elaborate.proofs.Moves.{top_is, replaced_push}
-use Rattle.elaborate.proofs.Lets.{bound_more, leave_binding, leave_bindings, given_on, leave_done, leave_attributes, leave_value, none_left, one_less}
+use Rattle.elaborate.proofs.Lets.{bound_more, leave_binding, leave_bindings, given_on, leave_done, leave_attributes, leave_value, none_left, one_less, leave_head}
 use Rattle.elaborate.proofs.forms.leave_form.Goals as goal
 
 pub returns-in-Ok : goal.returns-in-Ok
@@ -32,3 +32,8 @@ pub returns-in-Ok-give-2 : goal.returns-in-Ok-give-2
 returns-in-Ok-give-2 c = λ tokens s r st.
     given_on r tokens s c.args.walk.now c.give-in-None.new.walk (Attributes c.in-Some-Attributes.value c.in-Some-Attributes.place c.in-Some-Attributes.depth) c.pop.new.self c.in-Some-Attributes.value c.requires.none (top_is c.args.walk.now c.in-Some-Attributes.field-0 (Attributes c.in-Some-Attributes.value c.in-Some-Attributes.place c.in-Some-Attributes.depth) c.pop.new.self c.in-Some-Attributes.ensures.some c.in-Some-Attributes.field-0-is)
     (leave_attributes r tokens s c.args.walk.now.bindings c.in-Some-Attributes.value c.in-Some-Attributes.place c.in-Some-Attributes.depth c.pop.new.self (none_left c.in-Some-Attributes.depth c.in-None.ensures)) (λ h. h) c.in-Ok-give-2.ensures st
+
+pub returns-in-Some-Dividing : goal.returns-in-Some-Dividing
+returns-in-Some-Dividing c = λ tokens s r st.
+    leave_head r tokens s c.args.walk.now c.push-in-Some-Dividing.new.walk c.in-Some-Dividing.number c.in-Some-Dividing.depth c.out_of_head.result c.pop.new.self c.push-in-Some-Dividing.result c.requires.none
+    (top_is c.args.walk.now c.in-Some-Dividing.field-0 (Dividing c.in-Some-Dividing.number c.in-Some-Dividing.depth) c.pop.new.self c.in-Some-Dividing.ensures.some c.in-Some-Dividing.field-0-is) c.out_of_head.ensures c.push-in-Some-Dividing.ensures.ok c.push-in-Some-Dividing.ensures.memory st

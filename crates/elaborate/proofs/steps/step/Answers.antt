@@ -10,7 +10,7 @@ use Rattle.elaborate.proofs.steps.step.Goals as goal
 pub returns-in-Opening-clause-comes : goal.returns-in-Opening-clause-comes
 returns-in-Opening-clause-comes c = λ t e.
     step_enter (rules_of c.args.rules) (walk_of c.args.term.now (scope_of c.args.table.now c.args.store.now.trees) c.args.walk.now) t (seen c.token-token.result) (drop (c.args.place + 1) c.args.term.now) (drop (c.args.place + 1) c.args.term.now) (drop c.args.place c.args.term.now) (open_lists_of (drop (c.args.place + 1) c.args.term.now)) (scope_of c.args.table.now c.args.store.now.trees) c.args.term.now (scope_of c.args.table.now c.args.store.now.trees) c.enter.new.walk c.enter.result e c.token-token.ensures.rest
-    (sym c.in-Opening.ensures) (c.enter.ensures c.args.term.now (scope_of c.args.table.now c.args.store.now.trees) c.requires.stands)
+    (sym c.in-Opening.ensures) (c.enter.ensures (scope_of c.args.table.now c.args.store.now.trees) c.requires.stands)
 
 pub returns-in-Closing-clause-comes : goal.returns-in-Closing-clause-comes
 returns-in-Closing-clause-comes c = λ t e.

@@ -1,4 +1,7 @@
-use Rattle.smt_meaning.specs.Sorts.{decimal}
+use Rattle.std.proofs.Common.{◌≡◌, ap, subst, ◌∙◌, true}
+use Rattle.std.specs.Prelude.{pos}
+use Rattle.smt_meaning.specs.declared.terms.Head.TheVariants.{Numeral}
+use Rattle.smt_meaning.specs.Sorts.{decimal, is_small}
 use Rattle.elaborate.specs.Judged.{scope_of}
 use Rattle.elaborate.proofs.Names.{numeral_large, numeral_result}
 use Rattle.elaborate.proofs.token.judge_numeral.Goals as goal
@@ -8,4 +11,4 @@ returns-in-None-clause-comes c = numeral_large (decimal c.args.digits.now) (scop
 
 pub returns-in-Some-clause-comes : goal.returns-in-Some-clause-comes
 returns-in-Some-clause-comes c =
-    numeral_result (decimal c.args.digits.now) c.in-Some.head (scope_of c.args.table.now c.args.store.now.trees) c.stored.new.store.trees c.stored.result c.in-Some.ensures.some c.in-Some.ensures.small c.stored.ensures.ok c.stored.ensures.memory
+    numeral_result (decimal c.args.digits.now) c.numeral.result (scope_of c.args.table.now c.args.store.now.trees) c.stored.new.store.trees c.stored.result (c.numeral.ensures ∙ ap (λ n. Numeral (pos n)) c.in-Some.ensures.some) (subst (λ n. is_small n ≡ true) c.in-Some.ensures.some c.in-Some.ensures.small) c.stored.ensures.ok c.stored.ensures.memory
