@@ -4,10 +4,9 @@ ghost use Rattle.smt_meaning.specs.TreeShape.{is_constant, is_linear, is_constan
 ghost use Rattle.smt_meaning.specs.Nodes.{pick};
 ghost use Rattle.first_clauses.specs.Shapes.{all_at, one_varies, is_linear_here, AreFlags};
 
-use elaborate::{is_divisor, is_quotient_of};
 use smt_meaning::{Head, Operator, TermId};
 use std::alloc::{AllocError, Global};
-use term_store::TermStore;
+use term_store::{TermStore, is_divisor, is_quotient_of};
 
 /// Whether each of these places has its flag.
 fn are_all(flags: &[bool], places: &[TermId]) -> bool

@@ -8,3 +8,4 @@ mod SeekLemmas
 mod Joining
 mod Uniform
 mod RoomLemmas
+mod DivisorLemmas

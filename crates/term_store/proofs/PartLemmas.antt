@@ -1,10 +1,10 @@
 -- The parts of the trees of a list of nodes are in the list.
-use Rattle.std.proofs.Common.{◌≡◌, ℕ, zero, suc, ◌<◌, length, get_or, arith, List, [], ◌∷◌, All, ap, sym, ◌∙◌, refl}
+use Rattle.std.proofs.Common.{◌≡◌, ℕ, zero, suc, ◌<◌, length, get_or, arith, List, [], ◌∷◌, All, ap, ◌∙◌, refl}
 use Rattle.std.proofs.lemmas.List.Elements.{All-head, All-tail}
 use Rattle.smt_meaning.specs.declared.terms.Head.{Head}
 use Rattle.smt_meaning.specs.declared.terms.Head.TheVariants.{Numeral}
 use Rattle.smt_meaning.specs.declared.nodes.Node.{Node}
-use Rattle.smt_meaning.specs.Term.{Tree, node, tree_at}
+use Rattle.smt_meaning.specs.Term.{Tree, tree_at}
 use Rattle.smt_meaning.specs.TreeShape.{with_tree, with_parts, with_all_parts}
 use Rattle.smt_meaning.specs.Nodes.{pick, trees_of, AreNodes}
 use Rattle.std.specs.Prelude.{pos}

@@ -5,3 +5,4 @@ pub mod Latest
 pub mod Newest
 pub mod Alike
 pub mod Room
+pub mod Divisors

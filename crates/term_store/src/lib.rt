@@ -9,6 +9,9 @@
 //! `find`, `hash`, `Named`: of items whose names' hashes are filed in order, the place of the last
 //! one of a name, or that none has it; equal names have one hash.
 //!
+//! `is_divisor`, `is_quotient_of`: whether a stored term is a numeral other than 0 or the negation
+//! of one, and whether it is the quotient of one stored term by another.
+//!
 //! `terms_join_alike`, `questions_join_alike`, `lacks_room`: a term comes to the same sort and
 //! tree, or the same refusal, whatever terms were judged before, and those that it goes through
 //! join them in order; whether a list of terms lacks the room for others.
@@ -16,12 +19,14 @@
 
 ghost use Rattle.term_store.specs.Alike.{TermsJoinAlike, QuestionsJoinAlike};
 
+mod divisors;
 mod index;
 mod lookup;
 mod room;
 mod store;
 mod term_store_hash;
 
+pub use divisors::{is_divisor, is_quotient_of};
 pub use index::HashIndex;
 pub use lookup::{Named, find, hash};
 pub use room::lacks_room;
