@@ -22,6 +22,7 @@ ghost use Rattle.smt_meaning.specs.Signature.{HasNoIdTwice};
 ghost use Rattle.smt_meaning.specs.Interpretation.{AreTablesFor};
 ghost use Rattle.model_build.specs.Given.{IsClash, HasNoClash};
 ghost use Rattle.model_build.specs.Building.{AreGiven, GiveValues};
+ghost use Rattle.model_build.specs.Keys.{AreFirst};
 
 mod applications;
 mod firsts;
@@ -35,7 +36,7 @@ mod value_model_given;
 use firsts::{Firsts, collect};
 pub use given::{Clash, Given};
 pub use model::{Modelled, model_from};
-use smt_meaning::{Declaration, Interp};
+use smt_meaning::{Declaration, Interp, TermId};
 use std::alloc::{AllocError, Global};
 use tables::tables_of;
 use term_store::TermStore;
@@ -69,8 +70,25 @@ pub fn build(
     ensures tables { IfOk result (AreTablesFor declarations.now) }
     ensures values { IfOk result (GiveValues store.now.trees given.now) }
 {
-    let _known = store.len();
     let mut firsts = Firsts::new(alloc);
     let _none = collect(store, given, &mut firsts)?;
-    tables_of(alloc, store, given, &firsts.places, declarations)
+    tables_from(alloc, store, declarations, given, &firsts.places)
+}
+
+/// The tables that are made of the first applications of a store in which no two clash.
+fn tables_from(
+    alloc: Global,
+    store: &TermStore,
+    declarations: &[Declaration],
+    given: &[Given],
+    firsts: &[TermId],
+) -> Result<Interp, AllocError>
+    requires ids { HasNoIdTwice declarations.now }
+    requires given { AreGiven declarations.now store.now.trees given.now }
+    requires first { AreFirst store.now.trees given.now (length store.now.trees) firsts.now }
+    ensures tables { IfOk result (AreTablesFor declarations.now) }
+    ensures values { IfOk result (GiveValues store.now.trees given.now) }
+{
+    let _known = store.len();
+    tables_of(alloc, store, given, firsts, declarations)
 }

@@ -4,7 +4,8 @@ ghost use Rattle.smt_meaning.specs.Stack.{signature_of};
 ghost use Rattle.model_build.specs.Building.{AreGiven};
 ghost use Rattle.model_build.specs.Modelled.{IsModelled};
 
-use crate::{Clash, Given, build, first_clash};
+use crate::firsts::{Firsts, collect};
+use crate::{Clash, Given, tables_from};
 use scope_stack::Stack;
 use smt_meaning::Interp;
 use std::alloc::{AllocError, Global};
@@ -26,9 +27,10 @@ pub fn model_from(alloc: Global, stack: &Stack, given: &[Given]) -> Result<Model
 {
     stack.laws();
     let store = stack.terms();
-    if let Some(clash) = first_clash(alloc, store, given)? {
+    let mut firsts = Firsts::new(alloc);
+    if let Some(clash) = collect(store, given, &mut firsts)? {
         return Ok(Modelled::Clash(clash));
     }
-    let tables = build(alloc, store, stack.declarations(), given)?;
+    let tables = tables_from(alloc, store, stack.declarations(), given, &firsts.places)?;
     Ok(Modelled::Tables(tables))
 }

@@ -132,11 +132,11 @@ pub(crate) fn tables_of(
     ensures { IfOk result (λ ts. ts ≡ tables_of store.now.trees given.now firsts.now declarations.now) }
 {
     let symbols = symbols_of(alloc, store, given, firsts)?;
-    let mut tables = Seq::new(alloc);
+    let mut tables = Vec::with_capacity(alloc, declarations.len())?;
     for declaration in declarations {
         if declaration.is_symbol() {
             tables.push(table_of(alloc, store, given, firsts, &symbols, declaration)?)?;
         }
     }
-    Ok(tables)
+    Ok(Seq::from_vec(tables))
 }

@@ -12,8 +12,9 @@ loop-declaration-preserved c =
     c.loop-declaration-test.true c.declaration-item.is in
     elim c.if-is_symbol.branch [
       | then-is_symbol+in_ok-table_of+in_ok-push w ↦
-          w.tables-is ∙ w.in_ok-push.ensures.ok ∙ ap (λ xs. xs ++ w.in_ok-table_of.field-0 ∷ []) c.loop-declaration.invariant
+          rw w.tables-is
+          (w.in_ok-push.ensures.items ∙ ap (λ xs. xs ++ w.in_ok-table_of.field-0 ∷ []) c.loop-declaration.invariant
           ∙ ap (λ (t : Table). tables_of c.args.store.now.trees c.args.given.now c.args.firsts.now (take c.loop-declaration.declaration-index c.args.declarations.now) ++ t ∷ []) w.in_ok-table_of.ensures
-          ∙ sym (more' ∙ chosen (is_symbol c.declaration-item.result) _ _ (sym c.is_symbol.ensures ∙ w.if-is_symbol.true))
-      | else-is_symbol w ↦ w.tables-is ∙ c.loop-declaration.invariant ∙ sym (more' ∙ passed (is_symbol c.declaration-item.result) _ _ (sym c.is_symbol.ensures ∙ w.if-is_symbol.false))
+          ∙ sym (more' ∙ chosen (is_symbol c.declaration-item.result) _ _ (sym c.is_symbol.ensures ∙ w.if-is_symbol.true)))
+      | else-is_symbol w ↦ rw w.tables-is (c.loop-declaration.invariant ∙ sym (more' ∙ passed (is_symbol c.declaration-item.result) _ _ (sym c.is_symbol.ensures ∙ w.if-is_symbol.false)))
     ]
