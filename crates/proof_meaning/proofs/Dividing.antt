@@ -64,20 +64,17 @@ module _ (ts : List Tree) (I : Interpretation) where
           both_or _ (some_true (map meant ts) I (map positive (row_atoms (form_at ts) r))) _ (one_holds (number_at ts I) r.limits) refl (limits_value r.limits h)
 
 -- one of the rows
+some_row : (r s : Row ℕ) → Some r ≡ Some s → r ≡ s
+some_row r s e = cc
+
 row_of : (value : ℕ → ℤ) (truth : Bool) (rows : List (Row ℕ)) (n : ℕ) (r : Row ℕ) → rows_hold value truth rows ≡ true → slice_get rows n ≡ Some r → row_holds value truth r ≡ true
 row_of value truth [] n r h e = absurd (cc)
 row_of value truth (s ∷ rows) zero r h e = subst (λ x. row_holds value truth x ≡ true) (some_row s r e) (and_left (row_holds value truth s) (rows_hold value truth rows) h)
-  where
-    some_row : (x y : Row ℕ) → Some x ≡ Some y → x ≡ y
-    some_row x y k = cc
 row_of value truth (s ∷ rows) (suc n) r h e = row_of value truth rows n r (and_right (row_holds value truth s) (rows_hold value truth rows) h) e
 
 all_row_of : (P : ℕ → Type 0) (rows : List (Row ℕ)) (n : ℕ) (r : Row ℕ) → All (IsRowOf P) rows → slice_get rows n ≡ Some r → IsRowOf P r
 all_row_of P [] n r h e = absurd (cc)
 all_row_of P (s ∷ rows) zero r h e = subst (IsRowOf P) (some_row s r e) (All-head (IsRowOf P) s rows h)
-  where
-    some_row : (x y : Row ℕ) → Some x ≡ Some y → x ≡ y
-    some_row x y k = cc
 all_row_of P (s ∷ rows) (suc n) r h e = all_row_of P rows n r (All-tail (IsRowOf P) s rows h) e
 
 -- ---- the terms that a table speaks of

@@ -1,6 +1,6 @@
 -- Each rule of proofs on an example, and inventions that no rule gives. The terms: p, q, (not p), (and p q), x, y, (ite p x y), (f x), (f y), (= x y), 2, (* 2 x), (<= (* 2 x) y).
 use Prim.Native.String.{String}
-use Rattle.std.proofs.Common.{◌≡◌, ℕ, ◌<◌, Bool, true, false, not, ◌&&◌, ◌||◌, nat_lt, List, [], ◌∷◌, ◌++◌, length, All, Contains, ◌⊎◌, inl, inr, Option, Some, None, ap, sym, subst, ◌∙◌, refl, arith}
+use Rattle.std.proofs.Common.{◌≡◌, ℕ, ◌<◌, Bool, true, false, not, ◌&&◌, ◌||◌, nat_lt, List, [], ◌∷◌, ◌++◌, length, All, Contains, ◌⊎◌, inl, inr, Some, None, ap, sym, subst, ◌∙◌, refl, arith}
 use Rattle.std.specs.Prelude.{IsTrue, ℤ, pos, negsuc, ◌<ℤ◌, if◌then◌else◌, nat_eq, map, codes}
 use Rattle.std.proofs.lemmas.Int.{ints}
 use Rattle.std.proofs.lemmas.Nat.Gcd.{dvd_refl}
@@ -8,7 +8,7 @@ use Rattle.std.proofs.lemmas.List.Elements.{All-nil, All-cons, All-head, All-tai
 use Rattle.std.proofs.lemmas.List.Kept.{AllPairs-cons}
 use Rattle.fraction128.specs.Gcd.{gcd_of}
 use Rattle.smt_meaning.specs.declared.values.Sort.{Sort}
-use Rattle.smt_meaning.specs.declared.values.Sort.TheVariants.{Bool as Truths, Int as Ints, Free}
+use Rattle.smt_meaning.specs.declared.values.Sort.TheVariants.{Bool as Truths, Int as Ints}
 use Rattle.smt_meaning.specs.declared.values.Value.{Value}
 use Rattle.smt_meaning.specs.declared.values.Value.TheVariants.{Truth as IsTruth, Whole, Element}
 use Rattle.smt_meaning.specs.declared.terms.Head.{Head}
@@ -36,7 +36,7 @@ use Rattle.smt_meaning.specs.Stack.{Frame, signature_of, assertions_of}
 use Rattle.smt_meaning.specs.Reading.{text_rest, mark_rest, quoted_rest, lexeme, comment_rest, is_word_byte, is_symbol_byte, is_printable, word_token}
 use Rattle.smt_laws.proofs.Script.{script}
 use Rattle.smt_laws.proofs.Written.{parts}
-use Rattle.proof_meaning.proofs.Tests.{are_terms, terms, less}
+use Rattle.proof_meaning.proofs.Tests.{are_terms, terms, less, bool_sort, int_sort, other_than_zero}
 use Rattle.proof_meaning.proofs.Running.{alone_true}
 
 abbrev declared : ℕ → List Sort → Sort → Declaration
@@ -88,21 +88,6 @@ at_most ps k = literal true (AtMost ps k)
 
 abbrev Ascend : Summand → Summand → Type 0
 Ascend l m = l.term < m.term
-
-bool_sort : (o : Option Sort) → is_bool o ≡ true → o ≡ Some Truths
-bool_sort (Some Truths) h = refl
-bool_sort (Some Ints) h = let e : false ≡ true = h in cc
-bool_sort (Some (Free k)) h = let e : false ≡ true = h in cc
-bool_sort None h = let e : false ≡ true = h in cc
-
-int_sort : (o : Option Sort) → is_int o ≡ true → o ≡ Some Ints
-int_sort (Some Ints) h = refl
-int_sort (Some Truths) h = let e : false ≡ true = h in cc
-int_sort (Some (Free k)) h = let e : false ≡ true = h in cc
-int_sort None h = let e : false ≡ true = h in cc
-
-other_than_zero : (c : ℤ) → is_zero c ≡ false → c ≡ pos 0 → ⊥
-other_than_zero c h e = let f : true ≡ false = ap is_zero (sym e) ∙ h in cc
 
 abbrev is_negation : Tree → Bool
 is_negation (node (Theory Not) us) = true

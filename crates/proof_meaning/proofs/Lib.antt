@@ -13,3 +13,4 @@ mod Dividing
 mod Running
 mod Tests
 mod Examples
+mod Divisions
