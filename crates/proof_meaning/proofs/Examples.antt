@@ -1,6 +1,6 @@
 -- Each rule of proofs on an example, and inventions that no rule gives. The terms: p, q, (not p), (and p q), x, y, (ite p x y), (f x), (f y), (= x y), 2, (* 2 x), (<= (* 2 x) y).
 use Prim.Native.String.{String}
-use Rattle.std.proofs.Common.{◌≡◌, ℕ, ◌<◌, Bool, true, false, not, ◌&&◌, ◌||◌, nat_lt, List, [], ◌∷◌, ◌++◌, length, All, Contains, ◌⊎◌, inl, inr, Option, Some, None, ap, sym, subst, ◌∙◌, refl, arith}
+use Rattle.std.proofs.Common.{◌≡◌, ℕ, ◌<◌, Bool, true, false, not, ◌&&◌, ◌||◌, nat_lt, List, [], ◌∷◌, ◌++◌, length, All, Contains, ◌⊎◌, inl, inr, Some, None, ap, sym, subst, ◌∙◌, refl, arith}
 use Rattle.std.specs.Prelude.{IsTrue, ℤ, pos, negsuc, ◌<ℤ◌, if◌then◌else◌, nat_eq, map, codes}
 use Rattle.std.proofs.lemmas.Int.{ints}
 use Rattle.std.proofs.lemmas.Nat.Gcd.{dvd_refl}
@@ -8,7 +8,7 @@ use Rattle.std.proofs.lemmas.List.Elements.{All-nil, All-cons, All-head, All-tai
 use Rattle.std.proofs.lemmas.List.Kept.{AllPairs-cons}
 use Rattle.fraction128.specs.Gcd.{gcd_of}
 use Rattle.smt_meaning.specs.declared.values.Sort.{Sort}
-use Rattle.smt_meaning.specs.declared.values.Sort.TheVariants.{Bool as Truths, Int as Ints, Free}
+use Rattle.smt_meaning.specs.declared.values.Sort.TheVariants.{Bool as Truths, Int as Ints}
 use Rattle.smt_meaning.specs.declared.values.Value.{Value}
 use Rattle.smt_meaning.specs.declared.values.Value.TheVariants.{Truth as IsTruth, Whole, Element}
 use Rattle.smt_meaning.specs.declared.terms.Head.{Head}
@@ -24,10 +24,10 @@ use Rattle.smt_meaning.specs.Declaration.{Declaration}
 use Rattle.smt_meaning.specs.Interpretation.{Interprets, interprets, IsFunctionFor, has_sort}
 use Rattle.smt_meaning.specs.Term.{Tree, Interpretation, node, none, more, tree_at}
 use Rattle.smt_meaning.specs.Nodes.{trees_of}
-use Rattle.smt_meaning.specs.Signature.{tree_sort, is_bool, is_int}
+use Rattle.smt_meaning.specs.Signature.{is_bool, is_int}
 use Rattle.smt_meaning.specs.Clause.{some_true}
 use Rattle.smt_meaning.specs.Linear.{summand, is_zero}
-use Rattle.proof_meaning.specs.Proof.{AreTerms, IsLiteral, IsSummand, IsBoolAt, IsIntAt, is_leaf, literal, negated, is_true, are_same}
+use Rattle.proof_meaning.specs.Proof.{term_sort, meant, AreTerms, IsLiteral, IsSummand, IsBoolAt, IsIntAt, is_leaf, literal, negated, is_true, are_same}
 use Rattle.proof_meaning.specs.Rules.{Gives, IsForm, of_bools, of_at_most, AreScaled, IsResolution, Runs, no_steps, next_step, IsGood}
 use Rattle.proof_meaning.specs.Reading.{literal_read, step_read, node_read, proof_read, listed, IsYes, IsWrongStep, HasNoEnd}
 use Rattle.proof_meaning.specs.declared.proof.Proof.{Proof}
@@ -36,7 +36,7 @@ use Rattle.smt_meaning.specs.Stack.{Frame, signature_of, assertions_of}
 use Rattle.smt_meaning.specs.Reading.{text_rest, mark_rest, quoted_rest, lexeme, comment_rest, is_word_byte, is_symbol_byte, is_printable, word_token}
 use Rattle.smt_laws.proofs.Script.{script}
 use Rattle.smt_laws.proofs.Written.{parts}
-use Rattle.proof_meaning.proofs.Tests.{are_terms, terms, less}
+use Rattle.proof_meaning.proofs.Tests.{are_terms, terms, less, bool_sort, int_sort, other_than_zero}
 use Rattle.proof_meaning.proofs.Running.{alone_true}
 
 abbrev declared : ℕ → List Sort → Sort → Declaration
@@ -89,33 +89,18 @@ at_most ps k = literal true (AtMost ps k)
 abbrev Ascend : Summand → Summand → Type 0
 Ascend l m = l.term < m.term
 
-bool_sort : (o : Option Sort) → is_bool o ≡ true → o ≡ Some Truths
-bool_sort (Some Truths) h = refl
-bool_sort (Some Ints) h = let e : false ≡ true = h in cc
-bool_sort (Some (Free k)) h = let e : false ≡ true = h in cc
-bool_sort None h = let e : false ≡ true = h in cc
-
-int_sort : (o : Option Sort) → is_int o ≡ true → o ≡ Some Ints
-int_sort (Some Ints) h = refl
-int_sort (Some Truths) h = let e : false ≡ true = h in cc
-int_sort (Some (Free k)) h = let e : false ≡ true = h in cc
-int_sort None h = let e : false ≡ true = h in cc
-
-other_than_zero : (c : ℤ) → is_zero c ≡ false → c ≡ pos 0 → ⊥
-other_than_zero c h e = let f : true ≡ false = ap is_zero (sym e) ∙ h in cc
-
 abbrev is_negation : Tree → Bool
 is_negation (node (Theory Not) us) = true
 is_negation t = false
 
 -- ---- a step that gives a clause, and the tests by which literals are over terms of the right sorts
 
-bool_at : (i : ℕ) → nat_lt i (length trees) ≡ true → is_bool (tree_sort signature (tree_at trees i)) ≡ true → IsBoolAt signature trees i
-bool_at i h k = (less i (length trees) h, bool_sort (tree_sort signature (tree_at trees i)) k)
+bool_at : (i : ℕ) → nat_lt i (length trees) ≡ true → is_bool (term_sort signature (tree_at trees i)) ≡ true → IsBoolAt signature trees i
+bool_at i h k = (less i (length trees) h, bool_sort (term_sort signature (tree_at trees i)) k)
 
-leaf_at : (i : ℕ) (c : ℤ) → nat_lt i (length trees) ≡ true → is_int (tree_sort signature (tree_at trees i)) ≡ true → is_leaf (tree_at trees i) ≡ true → is_zero c ≡ false
+leaf_at : (i : ℕ) (c : ℤ) → nat_lt i (length trees) ≡ true → is_int (term_sort signature (tree_at trees i)) ≡ true → is_leaf (tree_at trees i) ≡ true → is_zero c ≡ false
     → IsSummand signature trees (summand i c)
-leaf_at i c h k leaf e = record { int = (less i (length trees) h, int_sort (tree_sort signature (tree_at trees i)) k); leaf = leaf; not_zero = other_than_zero c e }
+leaf_at i c h k leaf e = record { int = (less i (length trees) h, int_sort (term_sort signature (tree_at trees i)) k); leaf = leaf; not_zero = other_than_zero c e }
 
 abbrev IsLit : Literal → Type 0
 IsLit l = IsLiteral signature trees l
@@ -138,7 +123,7 @@ p_is = bool_at 0 refl refl
 q_is : IsLit q
 q_is = bool_at 1 refl refl
 
-same_is : (i j : ℕ) → nat_lt i (length trees) ≡ true → nat_lt j (length trees) ≡ true → tree_sort signature (tree_at trees i) ≡ tree_sort signature (tree_at trees j) → IsLit (are_same i j)
+same_is : (i j : ℕ) → nat_lt i (length trees) ≡ true → nat_lt j (length trees) ≡ true → term_sort signature (tree_at trees i) ≡ term_sort signature (tree_at trees j) → IsLit (are_same i j)
 same_is i j h k e = (less i (length trees) h, less j (length trees) k, e)
 
 -- ---- assertions: p is the second
@@ -389,10 +374,6 @@ res_keeps g = elim (All-head Only p [] (g.by_rule).gives.only) [
       | inr e ↦ (let f : false ≡ true = ap (λ (l : Literal). l.positive) e in cc)
     ]
 
--- ---- division: no operator of the language has a table
-euclid_of_none : (i n : ℕ) (ls : List Literal) → GivesHere [] (Rule.Euclid i n) ls → ⊥
-euclid_of_none i n ls g = g.by_rule
-
 -- ---- inventions: what some interpretation makes false no step gives where no clause stands before and nothing is asserted
 
 abbrev own : List Value → Value
@@ -421,9 +402,9 @@ given_interprets b c m n =
     Is : Declaration → Type 0
     Is d = IsFunctionFor (given b c m n) d
 
-refused : (b c : Bool) (m n : ℤ) (ls : List Literal) → some_true trees (given b c m n) ls ≡ false → (step : Step) → Gives signature nodes trees [] [] step ls → ⊥
+refused : (b c : Bool) (m n : ℤ) (ls : List Literal) → some_true (map meant trees) (given b c m n) ls ≡ false → (step : Step) → Gives signature nodes trees [] [] step ls → ⊥
 refused b c m n ls e step g =
-    let t : some_true trees (given b c m n) ls ≡ true = alone_true signature nodes trees (given b c m n) (given_interprets b c m n) good step ls g in
+    let t : some_true (map meant trees) (given b c m n) ls ≡ true = alone_true signature nodes trees (given b c m n) (given_interprets b c m n) good step ls g in
     let f : true ≡ false = sym t ∙ e in
     cc
 
@@ -494,7 +475,7 @@ hand_trees = trees_of by_hand.nodes
 abbrev IsOurs : Literal → Type 0
 IsOurs l = IsLiteral (signature_of frames) hand_trees l
 
-here : (b : Bool) (i : ℕ) → nat_lt i 2 ≡ true → tree_sort (signature_of frames) (tree_at hand_trees i) ≡ Some Truths → IsOurs (literal b (Truth i))
+here : (b : Bool) (i : ℕ) → nat_lt i 2 ≡ true → term_sort (signature_of frames) (tree_at hand_trees i) ≡ Some Truths → IsOurs (literal b (Truth i))
 here b i h e = (less i 2 h, e)
 
 ours : (l : Literal) → IsOurs l → All IsOurs (l ∷ [])
