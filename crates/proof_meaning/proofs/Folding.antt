@@ -1,100 +1,29 @@
 -- The linear form of an Int term, folded as it is written, has the value of the tree that the term stands for.
-use Rattle.std.proofs.Common.{◌≡◌, zero, suc, Bool, true, false, ◌⊎◌, inl, inr, List, [], ◌∷◌, length, All, map, Option, Some, None, ap, sym, subst, ◌∙◌, refl, arith}
+use Rattle.std.proofs.Common.{◌≡◌, true, inl, inr, List, [], ◌∷◌, length, All, map, Option, Some, None, ap, sym, subst, ◌∙◌, refl, arith}
 use Rattle.std.specs.Prelude.{ℤ, pos, negsuc, ◌+ℤ◌, ◌-ℤ◌, ◌*ℤ◌, neg_ℤ, IsTrue, if◌then◌else◌}
 use Rattle.std.proofs.lemmas.Int.{ints}
 use Rattle.std.proofs.lemmas.List.Elements.{All-head}
-use Rattle.std.proofs.Math.IntN.{*ℤ_comm}
 use Rattle.smt_meaning.specs.declared.values.Value.{Value}
 use Rattle.smt_meaning.specs.declared.values.Sort.{Sort}
 use Rattle.smt_meaning.specs.declared.values.Sort.TheVariants.{Bool as Truths, Int as Ints, Free}
-use Rattle.smt_meaning.specs.declared.clauses.Summand.{Summand}
 use Rattle.smt_meaning.specs.declared.terms.Operator.{Operator}
 use Rattle.smt_meaning.specs.declared.terms.Operator.TheVariants.{Add, Subtract, Multiply}
 use Rattle.smt_meaning.specs.declared.terms.Head.{Head}
 use Rattle.smt_meaning.specs.declared.terms.Head.TheVariants.{Numeral, Theory, Symbol, Place}
 use Rattle.smt_meaning.specs.Declaration.{Declaration}
 use Rattle.smt_meaning.specs.Term.{Tree, Trees, node, none, more, Interpretation, value, values, number_of, on_numbers, fold_left}
-use Rattle.smt_meaning.specs.TreeShape.{place_of, is_among, is_constant_head, is_constant, are_constant, at_most_one_varies}
-use Rattle.smt_meaning.specs.Clause.{sum_value, value_at}
+use Rattle.smt_meaning.specs.TreeShape.{place_of, is_among, is_constant, are_constant, at_most_one_varies}
+use Rattle.smt_meaning.specs.Clause.{value_at}
 use Rattle.smt_meaning.specs.Signature.{all_of, if_so, cons_sort}
-use Rattle.smt_meaning.specs.Linear.{Form, form_value, sums_added, sum_times, form_times, form_plus, form_minus, form_product, fold_forms, folded, difference_form, leaf_form, linear_form, linear_forms, leaves, leaves_of}
+use Rattle.smt_meaning.specs.Linear.{Form, form_value, form_plus, form_minus, form_product, fold_forms, leaf_form, linear_form, linear_forms, leaves, leaves_of}
 use Rattle.proof_meaning.specs.Proof.{is_written, with_term_sorts, term_sort, term_sorts, is_linear_with, is_linear_term, are_linear_terms, meant, all_meant}
 use Rattle.smt_laws.proofs.Both.{and_left, and_right}
 use Rattle.smt_laws.proofs.Included.{All-included, included_left, included_right}
 use Rattle.smt_laws.proofs.SameTree.{found_again}
-use Rattle.smt_laws.proofs.LinearLaw.{form_times_value, form_plus_value, form_minus_value, minus_one}
+use Rattle.smt_laws.proofs.LinearLaw.{Bare, form_times_value, form_plus_value, form_minus_value, minus_one, product_bare, constant_bare, times_step, split as split_if}
 use Rattle.proof_meaning.proofs.Meant.{meant_value_at, Split, split, Sorted, sorted, written_head, is_so, first_int, other_ints}
 
--- ---- forms without summands, those of constants
-
-abbrev Bare : Form → Type 0
-Bare f = f.sum ≡ []
-
-abbrev AllBare : List Form → Type 0
-AllBare [] = Unit {0}
-AllBare (f ∷ fs) = Bare f × AllBare fs
-
-times_bare : (k : ℤ) (f : Form) → Bare f → Bare (form_times k f)
-times_bare k f a = ap (sum_times k) a ∙ nothing k
-  where
-    nothing : (m : ℤ) → sum_times m [] ≡ []
-    nothing (pos zero) = refl
-    nothing (pos (suc n)) = refl
-    nothing (negsuc n) = refl
-
-plus_bare : (f g : Form) → Bare f → Bare g → Bare (form_plus f g)
-plus_bare f g a b = ap (λ ps. sums_added ps g.sum) a ∙ b
-
-minus_bare : (f g : Form) → Bare f → Bare g → Bare (form_minus f g)
-minus_bare f g a b = plus_bare f (form_times (negsuc 0) g) a (times_bare (negsuc 0) g b)
-
-product_bare : (f g : Form) → Bare f → Bare g → Bare (form_product f g)
-product_bare f g a b =
-    ap (λ (ps : List Summand). sum_of (elim ps [ [] ↦ form_times f.constant g | p ∷ rest ↦ form_times g.constant f ])) a ∙ times_bare f.constant g b
-  where
-    sum_of : Form → List Summand
-    sum_of h = h.sum
-
-fold_bare : (op : Form → Form → Form) → ((f g : Form) → Bare f → Bare g → Bare (op f g)) → (f : Form) (fs : List Form) → Bare f → AllBare fs → Bare (fold_forms op f fs)
-fold_bare op closed f [] a h = a
-fold_bare op closed f (g ∷ gs) a h = fold_bare op closed (op f g) gs (closed f g a h.0) h.1
-
-folded_bare : (op : Form → Form → Form) → ((f g : Form) → Bare f → Bare g → Bare (op f g)) → (fs : List Form) → AllBare fs → Bare (folded op fs)
-folded_bare op closed [] h = refl
-folded_bare op closed (f ∷ fs) h = fold_bare op closed f fs h.0 h.1
-
-difference_bare : (fs : List Form) → AllBare fs → Bare (difference_form fs)
-difference_bare [] h = refl
-difference_bare (f ∷ []) h = times_bare (negsuc 0) f h.0
-difference_bare (f ∷ g ∷ gs) h = folded_bare form_minus minus_bare (f ∷ g ∷ gs) h
-
-head_bare : (ts : List Tree) (h : Head) (us : Trees) → is_constant_head h ≡ true → AllBare (linear_forms ts us) → Bare (linear_form ts (node h us))
-head_bare ts (Numeral n) us e h = refl
-head_bare ts (Theory Add) us e h = folded_bare form_plus plus_bare (linear_forms ts us) h
-head_bare ts (Theory Subtract) us e h = difference_bare (linear_forms ts us) h
-head_bare ts (Theory Multiply) us e h = folded_bare form_product product_bare (linear_forms ts us) h
-head_bare ts (Theory _) us e h = absurd (cc)
-head_bare ts (Symbol f) us e h = absurd (cc)
-head_bare ts (Place k) us e h = absurd (cc)
-
-mutual
-  constant_bare : (ts : List Tree) (t : Tree) → is_constant t ≡ true → Bare (linear_form ts t)
-  constant_bare ts (node h us) e =
-      head_bare ts h us (and_left (is_constant_head h) (are_constant us) e) (constants_bare ts us (and_right (is_constant_head h) (are_constant us) e))
-
-  constants_bare : (ts : List Tree) (us : Trees) → are_constant us ≡ true → AllBare (linear_forms ts us)
-  constants_bare ts none e = tt
-  constants_bare ts (more u us) e =
-      (constant_bare ts u (and_left (is_constant u) (are_constant us) e), constants_bare ts us (and_right (is_constant u) (are_constant us) e))
-
-split_if : {A : Type 0} (b x y : Bool) → (if b then x else y) ≡ true → (b ≡ true → x ≡ true → A) → (y ≡ true → A) → A
-split_if true x y e f g = f refl e
-split_if false x y e f g = g e
-
 -- ---- folding
-
-abbrev OneIsBare : Form → Form → Type 0
-OneIsBare f g = Bare f ⊎ Bare g
 
 module _ (ts : List Tree) (I : Interpretation) where
   -- the value of a form, over the trees that the terms stand for
@@ -127,33 +56,12 @@ module _ (ts : List Tree) (I : Interpretation) where
 
   -- ---- products
 
-  bare_value : (f : Form) → Bare f → form_number f ≡ f.constant
-  bare_value f e = ap (λ ps. sum_value (map meant ts) I ps +ℤ f.constant) e ∙ zero_left f.constant
-    where
-      zero_left : (z : ℤ) → pos 0 +ℤ z ≡ z
-      zero_left z = omega (arith, ints)
-
-  product_first : (f g : Form) → Bare f → form_number (form_times f.constant g) ≡ form_number f *ℤ form_number g
-  product_first f g e = form_times_value (map meant ts) I f.constant g ∙ ap (λ z. z *ℤ form_number g) (sym (bare_value f e))
-
-  product_value : (f g : Form) → OneIsBare f g → form_number (form_product f g) ≡ form_number f *ℤ form_number g
-  product_value f g h = by_sum f.sum refl h
-    where
-      by_sum : (ps : List Summand) → f.sum ≡ ps → OneIsBare f g
-          → form_number (elim ps [ [] ↦ form_times f.constant g | p ∷ rest ↦ form_times g.constant f ]) ≡ form_number f *ℤ form_number g
-      by_sum [] e k = product_first f g e
-      by_sum (p ∷ rest) e (inl a) = absurd (cc)
-      by_sum (p ∷ rest) e (inr b) = product_first g f b ∙ *ℤ_comm (form_number g) (form_number f)
-
-  times_step : (v w : Value) (f g : Form) → number_of v ≡ form_number f → number_of w ≡ form_number g → OneIsBare f g → number_of (on_numbers ◌*ℤ◌ v w) ≡ form_number (form_product f g)
-  times_step v w f g e h b = ap (λ z. z *ℤ number_of w) e ∙ ap (λ z. form_number f *ℤ z) h ∙ sym (product_value f g b)
-
   fold_constant : (us : Trees) (v : Value) (f : Form) → number_of v ≡ form_number f → Lawful us → are_constant us ≡ true
       → number_of (fold_left (on_numbers ◌*ℤ◌) v (values I (all_meant us))) ≡ form_number (fold_forms form_product f (linear_forms ts us))
   fold_constant none v f e h c = e
   fold_constant (more u us) v f e h c =
       fold_constant us (on_numbers ◌*ℤ◌ v (value I (meant u))) (form_product f (linear_form ts u))
-      (times_step v (value I (meant u)) f (linear_form ts u) e h.0 (inr (constant_bare ts u (and_left (is_constant u) (are_constant us) c)))) h.1
+      (times_step (map meant ts) I v (value I (meant u)) f (linear_form ts u) e h.0 (inr (constant_bare ts u (and_left (is_constant u) (are_constant us) c)))) h.1
       (and_right (is_constant u) (are_constant us) c)
 
   fold_one : (us : Trees) (v : Value) (f : Form) → number_of v ≡ form_number f → Lawful us → Bare f → at_most_one_varies us ≡ true
@@ -161,7 +69,7 @@ module _ (ts : List Tree) (I : Interpretation) where
   fold_one none v f e h a m = e
   fold_one (more u us) v f e h a m =
       let step : number_of (on_numbers ◌*ℤ◌ v (value I (meant u))) ≡ form_number (form_product f (linear_form ts u)) =
-      times_step v (value I (meant u)) f (linear_form ts u) e h.0 (inl a) in
+      times_step (map meant ts) I v (value I (meant u)) f (linear_form ts u) e h.0 (inl a) in
       split_if (is_constant u) (at_most_one_varies us) (are_constant us) m
       (λ c k. fold_one us (on_numbers ◌*ℤ◌ v (value I (meant u))) (form_product f (linear_form ts u)) step h.1 (product_bare f (linear_form ts u) a (constant_bare ts u c)) k)
       (λ k. fold_constant us (on_numbers ◌*ℤ◌ v (value I (meant u))) (form_product f (linear_form ts u)) step h.1 k)

@@ -151,7 +151,7 @@ bare_value ts I f e = ap (λ ps. sum_value ts I ps +ℤ f.constant) e ∙ zero_l
     zero_left : (z : ℤ) → pos 0 +ℤ z ≡ z
     zero_left z = omega (arith, ints)
 
-abbrev OneIsBare : Form → Form → Type 0
+abbrev pub OneIsBare : Form → Form → Type 0
 OneIsBare f g = (f.sum ≡ []) ⊎ (g.sum ≡ [])
 
 product_first : (ts : List Tree) (I : Interpretation) (f g : Form) → f.sum ≡ [] → form_value ts I (form_times f.constant g) ≡ form_value ts I f *ℤ form_value ts I g
@@ -171,7 +171,7 @@ product_value ts I f g h = by_sum f.sum refl h
 
 -- ---- constants have forms without summands
 
-abbrev Bare : Form → Type 0
+abbrev pub Bare : Form → Type 0
 Bare f = f.sum ≡ []
 
 abbrev AllBare : List Form → Type 0
@@ -187,7 +187,7 @@ times_bare k f a = ap (sum_times k) a ∙ sum_times-nil k
 minus_bare : (f g : Form) → Bare f → Bare g → Bare (form_minus f g)
 minus_bare f g a b = plus_bare f (form_times (negsuc 0) g) a (times_bare (negsuc 0) g b)
 
-product_bare : (f g : Form) → Bare f → Bare g → Bare (form_product f g)
+pub product_bare : (f g : Form) → Bare f → Bare g → Bare (form_product f g)
 product_bare f g a b =
     ap (λ (ps : List Summand). sum_of (elim ps [ [] ↦ form_times f.constant g | p ∷ rest ↦ form_times g.constant f ])) a ∙ times_bare f.constant g b
   where
@@ -217,7 +217,7 @@ head_bare ts (Symbol f) us e h = absurd (cc)
 head_bare ts (Place k) us e h = absurd (cc)
 
 mutual
-  constant_bare : (ts : List Tree) (t : Tree) → is_constant t ≡ true → Bare (linear_form ts t)
+  pub constant_bare : (ts : List Tree) (t : Tree) → is_constant t ≡ true → Bare (linear_form ts t)
   constant_bare ts (node h us) e =
       head_bare ts h us (and_left (is_constant_head h) (are_constant us) e) (constants_bare ts us (and_right (is_constant_head h) (are_constant us) e))
 
@@ -228,12 +228,12 @@ mutual
 
 -- ---- products of which at most one factor varies
 
-times_step : (ts : List Tree) (I : Interpretation) (v w : Value) (f g : Form) → number_of v ≡ form_value ts I f → number_of w ≡ form_value ts I g → OneIsBare f g
+pub times_step : (ts : List Tree) (I : Interpretation) (v w : Value) (f g : Form) → number_of v ≡ form_value ts I f → number_of w ≡ form_value ts I g → OneIsBare f g
     → number_of (on_numbers ◌*ℤ◌ v w) ≡ form_value ts I (form_product f g)
 times_step ts I v w f g e h b =
     ap (λ z. z *ℤ number_of w) e ∙ ap (λ z. form_value ts I f *ℤ z) h ∙ sym (product_value ts I f g b)
 
-split : {A : Type 0} (b x y : Bool) → (if b then x else y) ≡ true → (b ≡ true → x ≡ true → A) → (y ≡ true → A) → A
+pub split : {A : Type 0} (b x y : Bool) → (if b then x else y) ≡ true → (b ≡ true → x ≡ true → A) → (y ≡ true → A) → A
 split true x y e f g = f refl e
 split false x y e f g = g e
 
