@@ -59,6 +59,14 @@ def session(count, fresh):
             yield f"(push 1)(assert {term})(check-sat)(pop 1)\n"
 
 
+def kept(count, sort):
+    """A constant more before each check, which stays; the check assumes something of it."""
+    yield QUIET
+    for place in range(count):
+        term = f"f{place}" if sort == "Bool" else f"(< 0 f{place})"
+        yield f"(declare-const f{place} {sort})(check-sat-assuming ({term}))\n"
+
+
 def negations(count):
     yield QUIET + "(declare-const p Bool)(assert p)(assert " + "(not " * count + "p" + ")" * count + ")(check-sat)\n"
 
@@ -114,6 +122,10 @@ SCRIPTS = {
     "fresh-4": ("40,000 checks, each with a constant of its own", "30,000 sat, 10,000 unsat", lambda: session(40_000, True)),
     "fresh-10": ("100,000 checks, each with a constant of its own", "75,000 sat, 25,000 unsat", lambda: session(100_000, True)),
     "fresh-100": ("1,000,000 checks, each with a constant of its own", "750,000 sat, 250,000 unsat", lambda: session(1_000_000, True)),
+    "kept-5": ("5,000 checks, each after a constant more that stays", "5,000 sat", lambda: kept(5_000, "Bool")),
+    "kept-20": ("20,000 checks, each after a constant more that stays", "20,000 sat", lambda: kept(20_000, "Bool")),
+    "kept-int-5": ("5,000 checks, each after an integer more that stays", "5,000 sat", lambda: kept(5_000, "Int")),
+    "kept-int-20": ("20,000 checks, each after an integer more that stays", "20,000 sat", lambda: kept(20_000, "Int")),
     "not": ("9,999 nested `not`", "unsat", lambda: negations(9_999)),
     "not-more": ("10,000 nested `not`", "sat, or a limit told", lambda: negations(10_000)),
     "levels": ("65,535 levels", "unsat, sat", lambda: levels(65_535)),
