@@ -57,15 +57,6 @@ one_varies (v ∷ vs) = if v.constant then one_varies vs else all_constant vs
 
 -- ---- divisors
 
--- a numeral other than 0
-abbrev pub is_nonzero : Tree → Bool
-is_nonzero (node (Numeral n) none) = not (int_eq n (pos 0))
-is_nonzero t = false
-
-abbrev pub are_two : List ℕ → ℕ → ℕ → Bool
-are_two (i ∷ j ∷ []) m n = nat_eq i m && nat_eq j n
-are_two is m n = false
-
 -- each but the first is a divisor
 abbrev pub all_but_first_divide : Trees → Bool
 all_but_first_divide none = true

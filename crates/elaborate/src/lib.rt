@@ -45,7 +45,6 @@ mod walk;
 
 use apply::Rules;
 use bodies::typed_body;
-pub use divisors::{is_divisor, is_quotient_of};
 pub use error::JudgeError;
 use look_ahead::ends;
 use naming::judge_named;
