@@ -1,19 +1,10 @@
 -- How many arguments a quotient has, and numbers other than 0.
-use Rattle.std.proofs.Common.{◌≡◌, ◌≢◌, ℕ, zero, suc, ◌<◌, ℤ, pos, negsuc, eq-eqb, ne_eqb, List, [], ◌∷◌, length, ap, sym, subst, ◌∙◌, refl, Bool, true, false, not, ◌&&◌, map, nat_eq, All, slice_index_or, arith}
-use Rattle.std.proofs.lemmas.Bool.{eqb-true}
-use Rattle.std.proofs.lemmas.List.Elements.{All-head, All-tail}
-use Rattle.smt_meaning.specs.declared.terms.Head.{Head}
-use Rattle.smt_meaning.specs.declared.terms.Head.TheVariants.{Numeral, Theory, Symbol, Place}
-use Rattle.smt_meaning.specs.declared.terms.Operator.TheVariants.{Subtract, Divide}
-use Rattle.smt_meaning.specs.Term.{Tree, Trees, node, none, more, tree_at, int_eq}
-use Rattle.smt_meaning.specs.Nodes.{pick}
-use Rattle.smt_meaning.specs.TreeShape.{is_divisor, is_quotient, has_quotient, quotient_tree, head_eq, tree_eq, trees_eq}
+use Rattle.std.proofs.Common.{◌≡◌, ◌≢◌, ℕ, zero, suc, ◌<◌, ℤ, pos, negsuc, ne_eqb, List, [], ◌∷◌, length, refl, false, map, slice_index_or, arith}
+use Rattle.smt_meaning.specs.Term.{Tree, int_eq}
+use Rattle.smt_meaning.specs.TreeShape.{is_quotient, has_quotient}
 use Rattle.smt_meaning.specs.Sorts.{trees_of}
-use Rattle.smt_laws.proofs.SameTree.{tree_eq-true, tree_eq-self}
-use Rattle.term_store.specs.Terms.{AreDifferent}
-use Rattle.term_store.proofs.NodeLemmas.{places_same}
 use Rattle.elaborate.specs.declared.value.Value.{Value}
-use Rattle.elaborate.specs.Values.{typed, IsValue, AreValues, is_nonzero, are_two}
+use Rattle.elaborate.specs.Values.{typed, IsValue, AreValues}
 
 pub no_quotient : (ts : List Tree) (vs : List Value) → length vs ≢ 2 → false ≡ is_quotient (trees_of (map (typed ts) vs))
 no_quotient ts [] h = refl
