@@ -6,3 +6,4 @@ pub mod Atoms
 pub mod Verdict
 pub mod Leaves
 pub mod Shown
+pub mod Seeing

@@ -5,7 +5,8 @@ ghost use Rattle.fraction128.specs.Division.{IsDivision, absolute};
 ghost use Rattle.smt_meaning.specs.declared.values.Value.TheVariants.{Whole};
 ghost use Rattle.smt_meaning.specs.Term.{int_eq, number_of, left_over};
 ghost use Rattle.model_build.specs.declared.given.Given.TheVariants.{InRange as IsGiven};
-ghost use Rattle.exact_model.specs.Exact.{AreListed, IsSeen, exact_at};
+ghost use Rattle.exact_model.specs.Exact.{AreListed, exact_at};
+ghost use Rattle.exact_model.specs.Seeing.{Sees, SeesTerm, SeesArguments};
 ghost use Rattle.exact_model.specs.Sums.{signed, number_of_place};
 ghost use Rattle.exact_model.specs.Operators.{all_exact, HasValueOf};
 
@@ -26,7 +27,7 @@ fn value_in(given: Given) -> Result<Value, Unshown>
 
 /// The value of a term, if it is within the range.
 fn value(seen: &Seen<'_>, place: TermId) -> Result<Value, Unshown>
-    requires { IsSeen seen.now.listed.store.now.trees seen.now.listed.values.now seen.now.given.now place }
+    requires { Sees seen.now place }
     ensures { IfOk result (λ v. exact_at seen.now.listed.store.now.trees seen.now.listed.values.now place ≡ v) }
 {
     let value = value_in(seen.given[place as usize])?;
@@ -111,9 +112,7 @@ pub(crate) fn test_quotient(
     arguments: &[TermId],
     pairs: &mut Vec<(i128, i128)>,
 ) -> Result<(), Unshown>
-    requires listed { AreListed seen.now.listed.store.now.trees seen.now.listed.forms.now seen.now.listed.values.now }
-    requires place { IsSeen seen.now.listed.store.now.trees seen.now.listed.values.now seen.now.given.now place }
-    requires arguments { All (IsSeen seen.now.listed.store.now.trees seen.now.listed.values.now seen.now.given.now) arguments.now }
+    requires { SeesTerm seen.now place arguments.now }
     ensures { OnOk result (HasValueOf seen.now.listed.store.now.trees seen.now.listed.values.now place Operator.Divide arguments.now) }
 {
     if arguments.len() != 2 {
@@ -135,8 +134,7 @@ fn remainder(
     arguments: &[TermId],
     pairs: &mut Vec<(i128, i128)>,
 ) -> Result<Value, Unshown>
-    requires listed { AreListed seen.now.listed.store.now.trees seen.now.listed.forms.now seen.now.listed.values.now }
-    requires arguments { All (IsSeen seen.now.listed.store.now.trees seen.now.listed.values.now seen.now.given.now) arguments.now }
+    requires { SeesArguments seen.now arguments.now }
     ensures { IfOk result (λ r. r ≡ Whole (left_over (all_exact seen.now.listed.store.now.trees seen.now.listed.values.now arguments.now))) }
 {
     if arguments.len() != 3 {
@@ -155,9 +153,7 @@ pub(crate) fn test_remainder(
     arguments: &[TermId],
     pairs: &mut Vec<(i128, i128)>,
 ) -> Result<(), Unshown>
-    requires listed { AreListed seen.now.listed.store.now.trees seen.now.listed.forms.now seen.now.listed.values.now }
-    requires place { IsSeen seen.now.listed.store.now.trees seen.now.listed.values.now seen.now.given.now place }
-    requires arguments { All (IsSeen seen.now.listed.store.now.trees seen.now.listed.values.now seen.now.given.now) arguments.now }
+    requires { SeesTerm seen.now place arguments.now }
     ensures { OnOk result (HasValueOf seen.now.listed.store.now.trees seen.now.listed.values.now place Operator.Modulo arguments.now) }
 {
     let left = remainder(seen, arguments, pairs)?;
@@ -184,8 +180,7 @@ pub(crate) fn divides(
     arguments: &[TermId],
     pairs: &mut Vec<(i128, i128)>,
 ) -> Result<bool, Unshown>
-    requires listed { AreListed seen.now.listed.store.now.trees seen.now.listed.forms.now seen.now.listed.values.now }
-    requires arguments { All (IsSeen seen.now.listed.store.now.trees seen.now.listed.values.now seen.now.given.now) arguments.now }
+    requires { SeesArguments seen.now arguments.now }
     ensures { IfOk result (λ b. b ≡ int_eq (left_over (all_exact seen.now.listed.store.now.trees seen.now.listed.values.now arguments.now)) (pos 0)) }
 {
     let left = remainder(seen, arguments, pairs)?;
@@ -210,8 +205,8 @@ pub(crate) fn test_absolute(
     place: TermId,
     arguments: &[TermId],
 ) -> Result<(), Unshown>
-    requires place { IsSeen seen.now.listed.store.now.trees seen.now.listed.values.now seen.now.given.now place }
-    requires arguments { All (IsSeen seen.now.listed.store.now.trees seen.now.listed.values.now seen.now.given.now) arguments.now }
+    requires place { Sees seen.now place }
+    requires arguments { All (Sees seen.now) arguments.now }
     ensures { OnOk result (HasValueOf seen.now.listed.store.now.trees seen.now.listed.values.now place Operator.Absolute arguments.now) }
 {
     if arguments.len() != 1 {

@@ -6,7 +6,8 @@ ghost use Rattle.smt_meaning.specs.declared.terms.Head.TheVariants.{Theory};
 ghost use Rattle.smt_meaning.specs.TreeShape.{is_linear};
 ghost use Rattle.term_store.specs.Terms.{tree_with};
 ghost use Rattle.model_build.specs.declared.given.Given.TheVariants.{InRange};
-ghost use Rattle.exact_model.specs.Exact.{AreListed, IsSeen, exact_at};
+ghost use Rattle.exact_model.specs.Exact.{AreListed, exact_at};
+ghost use Rattle.exact_model.specs.Seeing.{Sees, SeesTerm, SeesArguments};
 ghost use Rattle.exact_model.specs.Operators.{shown, connective, relation, all_exact, HasArguments, HasValueOf};
 
 use crate::divisions::{divides, test_absolute, test_quotient, test_remainder};
@@ -43,7 +44,7 @@ fn is_truth(given: Given, truth: bool) -> bool
 
 /// The truth of a Bool.
 fn truth(seen: &Seen<'_>, place: TermId) -> bool
-    requires { IsSeen seen.now.listed.store.now.trees seen.now.listed.values.now seen.now.given.now place }
+    requires { Sees seen.now place }
     ensures { result ≡ truth_of (exact_at seen.now.listed.store.now.trees seen.now.listed.values.now place) }
 {
     truth_given(seen.given[place as usize])
@@ -61,7 +62,7 @@ fn connected(operator: Operator, left: bool, right: bool) -> bool
 
 /// The truth of `and`, `or` or `xor`, from the left.
 fn folded(seen: &Seen<'_>, operator: Operator, arguments: &[TermId]) -> bool
-    requires arguments { All (IsSeen seen.now.listed.store.now.trees seen.now.listed.values.now seen.now.given.now) arguments.now }
+    requires arguments { All (Sees seen.now) arguments.now }
     requires several { 2 ≤ length arguments.now }
     ensures { left_assoc (on_truths (connective operator)) (all_exact seen.now.listed.store.now.trees seen.now.listed.values.now arguments.now) ≡ TruthOf result }
 {
@@ -74,7 +75,7 @@ fn folded(seen: &Seen<'_>, operator: Operator, arguments: &[TermId]) -> bool
 
 /// The truth of an implication, from the right.
 fn implied(seen: &Seen<'_>, arguments: &[TermId]) -> bool
-    requires arguments { All (IsSeen seen.now.listed.store.now.trees seen.now.listed.values.now seen.now.given.now) arguments.now }
+    requires arguments { All (Sees seen.now) arguments.now }
     requires several { 2 ≤ length arguments.now }
     ensures { right_assoc (on_truths implies) (all_exact seen.now.listed.store.now.trees seen.now.listed.values.now arguments.now) ≡ TruthOf result }
 {
@@ -112,8 +113,8 @@ fn are_same(
     pairs: &mut Vec<(i128, i128)>,
 ) -> Result<bool, Unshown>
     requires listed { AreListed seen.now.listed.store.now.trees seen.now.listed.forms.now seen.now.listed.values.now }
-    requires left { IsSeen seen.now.listed.store.now.trees seen.now.listed.values.now seen.now.given.now left }
-    requires right { IsSeen seen.now.listed.store.now.trees seen.now.listed.values.now seen.now.given.now right }
+    requires left { Sees seen.now left }
+    requires right { Sees seen.now right }
     ensures { IfOk result (λ b. b ≡ same_value (exact_at seen.now.listed.store.now.trees seen.now.listed.values.now left) (exact_at seen.now.listed.store.now.trees seen.now.listed.values.now right)) }
 {
     let first = seen.given[left as usize];
@@ -138,8 +139,8 @@ fn related(
     pairs: &mut Vec<(i128, i128)>,
 ) -> Result<bool, Unshown>
     requires listed { AreListed seen.now.listed.store.now.trees seen.now.listed.forms.now seen.now.listed.values.now }
-    requires left { IsSeen seen.now.listed.store.now.trees seen.now.listed.values.now seen.now.given.now left }
-    requires right { IsSeen seen.now.listed.store.now.trees seen.now.listed.values.now seen.now.given.now right }
+    requires left { Sees seen.now left }
+    requires right { Sees seen.now right }
     ensures { IfOk result (λ b. b ≡ relation operator (exact_at seen.now.listed.store.now.trees seen.now.listed.values.now left) (exact_at seen.now.listed.store.now.trees seen.now.listed.values.now right)) }
 {
     let listed = &seen.listed;
@@ -171,8 +172,7 @@ fn chained(
     arguments: &[TermId],
     pairs: &mut Vec<(i128, i128)>,
 ) -> Result<bool, Unshown>
-    requires listed { AreListed seen.now.listed.store.now.trees seen.now.listed.forms.now seen.now.listed.values.now }
-    requires arguments { All (IsSeen seen.now.listed.store.now.trees seen.now.listed.values.now seen.now.given.now) arguments.now }
+    requires { SeesArguments seen.now arguments.now }
     ensures { IfOk result (λ b. b ≡ chainable (relation operator) (all_exact seen.now.listed.store.now.trees seen.now.listed.values.now arguments.now)) }
 {
     if arguments.is_empty() {
@@ -197,8 +197,8 @@ fn differs_from_each(
     pairs: &mut Vec<(i128, i128)>,
 ) -> Result<bool, Unshown>
     requires listed { AreListed seen.now.listed.store.now.trees seen.now.listed.forms.now seen.now.listed.values.now }
-    requires place { IsSeen seen.now.listed.store.now.trees seen.now.listed.values.now seen.now.given.now place }
-    requires rest { All (IsSeen seen.now.listed.store.now.trees seen.now.listed.values.now seen.now.given.now) rest.now }
+    requires place { Sees seen.now place }
+    requires rest { All (Sees seen.now) rest.now }
     ensures { IfOk result (λ b. b ≡ with_each differ (exact_at seen.now.listed.store.now.trees seen.now.listed.values.now place) (all_exact seen.now.listed.store.now.trees seen.now.listed.values.now rest.now)) }
 {
     for other in rest {
@@ -216,8 +216,7 @@ fn distinct(
     arguments: &[TermId],
     pairs: &mut Vec<(i128, i128)>,
 ) -> Result<bool, Unshown>
-    requires listed { AreListed seen.now.listed.store.now.trees seen.now.listed.forms.now seen.now.listed.values.now }
-    requires arguments { All (IsSeen seen.now.listed.store.now.trees seen.now.listed.values.now seen.now.given.now) arguments.now }
+    requires { SeesArguments seen.now arguments.now }
     ensures { IfOk result (λ b. b ≡ pairwise differ (all_exact seen.now.listed.store.now.trees seen.now.listed.values.now arguments.now)) }
 {
     for k in 0..arguments.len() {
@@ -236,8 +235,7 @@ fn operated(
     arguments: &[TermId],
     pairs: &mut Vec<(i128, i128)>,
 ) -> Result<bool, Unshown>
-    requires listed { AreListed seen.now.listed.store.now.trees seen.now.listed.forms.now seen.now.listed.values.now }
-    requires arguments { All (IsSeen seen.now.listed.store.now.trees seen.now.listed.values.now seen.now.given.now) arguments.now }
+    requires { SeesArguments seen.now arguments.now }
     ensures { IfOk result (λ b. operate operator (all_exact seen.now.listed.store.now.trees seen.now.listed.values.now arguments.now) ≡ TruthOf b) }
 {
     let several = arguments.len() >= 2;
@@ -268,9 +266,7 @@ fn test_truth(
     arguments: &[TermId],
     pairs: &mut Vec<(i128, i128)>,
 ) -> Result<(), Unshown>
-    requires listed { AreListed seen.now.listed.store.now.trees seen.now.listed.forms.now seen.now.listed.values.now }
-    requires place { IsSeen seen.now.listed.store.now.trees seen.now.listed.values.now seen.now.given.now place }
-    requires arguments { All (IsSeen seen.now.listed.store.now.trees seen.now.listed.values.now seen.now.given.now) arguments.now }
+    requires { SeesTerm seen.now place arguments.now }
     ensures { OnOk result (HasValueOf seen.now.listed.store.now.trees seen.now.listed.values.now place operator arguments.now) }
 {
     let made = operated(seen, operator, arguments, pairs)?;
@@ -288,9 +284,7 @@ fn test_choice(
     arguments: &[TermId],
     pairs: &mut Vec<(i128, i128)>,
 ) -> Result<(), Unshown>
-    requires listed { AreListed seen.now.listed.store.now.trees seen.now.listed.forms.now seen.now.listed.values.now }
-    requires place { IsSeen seen.now.listed.store.now.trees seen.now.listed.values.now seen.now.given.now place }
-    requires arguments { All (IsSeen seen.now.listed.store.now.trees seen.now.listed.values.now seen.now.given.now) arguments.now }
+    requires { SeesTerm seen.now place arguments.now }
     ensures { OnOk result (HasValueOf seen.now.listed.store.now.trees seen.now.listed.values.now place Operator.Ite arguments.now) }
 {
     if arguments.len() != 3 {
@@ -325,9 +319,7 @@ pub(crate) fn test_operator(
     arguments: &[TermId],
     pairs: &mut Vec<(i128, i128)>,
 ) -> Result<(), Unshown>
-    requires listed { AreListed seen.now.listed.store.now.trees seen.now.listed.forms.now seen.now.listed.values.now }
-    requires place { IsSeen seen.now.listed.store.now.trees seen.now.listed.values.now seen.now.given.now place }
-    requires arguments { All (IsSeen seen.now.listed.store.now.trees seen.now.listed.values.now seen.now.given.now) arguments.now }
+    requires sees { SeesTerm seen.now place arguments.now }
     requires tree { tree_at seen.now.listed.store.now.trees place ≡ tree_with seen.now.listed.store.now.trees (Theory operator) arguments.now }
     requires linear { IsTrue (is_linear (tree_at seen.now.listed.store.now.trees place)) }
     ensures { OnOk result (HasValueOf seen.now.listed.store.now.trees seen.now.listed.values.now place operator arguments.now) }

@@ -4,7 +4,8 @@ ghost use Rattle.smt_meaning.specs.Term.{tree_at};
 ghost use Rattle.smt_meaning.specs.TreeShape.{is_linear};
 ghost use Rattle.model_build.specs.Given.{given_at, is_marked};
 ghost use Rattle.model_build.specs.Building.{HasOperatorsValue, AreValues};
-ghost use Rattle.exact_model.specs.Exact.{AreListed, AreGivenExactly, IsSeen, GiveExact, HaveOperatorsValues, exact, is_marked_in};
+ghost use Rattle.exact_model.specs.Exact.{AreListed, AreGivenExactly, GiveExact, HaveOperatorsValues, exact, is_marked_in};
+ghost use Rattle.exact_model.specs.Seeing.{Sees};
 
 use crate::exact_values_sums::{Listed, Unshown};
 use crate::given::give;
@@ -27,7 +28,7 @@ fn test_given(given: Given) -> Result<(), Unshown>
 fn test_seen(seen: &Seen<'_>, places: &[TermId]) -> Result<(), Unshown>
     requires given { GiveExact seen.now.listed.store.now.trees seen.now.listed.values.now seen.now.given.now }
     requires within { All (λ i. i < length seen.now.listed.store.now.trees) places.now }
-    ensures { OnOk result (All (IsSeen seen.now.listed.store.now.trees seen.now.listed.values.now seen.now.given.now) places.now) }
+    ensures { OnOk result (All (Sees seen.now) places.now) }
 {
     for place in places {
         test_given(seen.given[*place as usize])?;
