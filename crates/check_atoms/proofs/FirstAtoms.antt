@@ -20,6 +20,7 @@ use Rattle.smt_meaning.specs.StackCommand.{Stack}
 use Rattle.smt_meaning.specs.CheckAtoms.{IsPartOfStack, ComparesParts, IsFirstAtom}
 use Rattle.smt_meaning.specs.Atoms.{normal_bound, atoms_of, stack_atoms, stack_atoms_are}
 use Rattle.smt_laws.specs.Flat.{flat, FlatSaysTheSame}
+use Rattle.smt_laws.specs.Rows.{place_divisor}
 use Rattle.scope_stack.specs.Shown.{IsLawful}
 use Rattle.check_atoms.specs.Parts.{IsMarked}
 use Rattle.check_atoms.specs.Marks.{AreStackParts}
@@ -30,7 +31,7 @@ use Rattle.bound_clauses.specs.declared.orders.Order.{Order}
 use Rattle.bound_clauses.specs.Orders.{atom_of as order_atom, both_orders, order_atoms}
 use Rattle.bound_clauses.specs.Laws.{OrdersAreComparisons}
 use Rattle.pair_bounds.specs.declared.rows.RowLimit.{RowLimit}
-use Rattle.pair_bounds.specs.Rows.{divisor_at, RowsAreAtoms}
+use Rattle.pair_bounds.specs.Rows.{RowsAreAtoms}
 use Rattle.check_atoms.specs.declared.part.PartAtom.{PartAtom}
 use Rattle.check_atoms.specs.declared.part.PartAtom.TheVariants.{Truth, Same, Bound, Limit}
 use Rattle.check_atoms.specs.PartAtoms.{atom_of, by_sort, alone_by_sort, truth_by_sort, pair, alone, with_branches, compared, compared_by_head, of_part, sort_of}
@@ -143,7 +144,7 @@ module _ (s : Stack) where
   no_bools : (marks : List Bool) (a : Atom) → IsAtomOfPart s marks a → IsOther a
   no_bools marks a o =
       All-contains IsOther (map (atom_of s.trees) (part_atoms s o.place o.head o.arguments)) a
-      (all_other (part_atoms s o.place o.head o.arguments) (part_unlike sort_there (divisor_at s.trees o.arguments) o.place o.head o.arguments)) o.among
+      (all_other (part_atoms s o.place o.head o.arguments) (part_unlike sort_there (place_divisor s.trees o.arguments) o.place o.head o.arguments)) o.among
 
   -- ---- by levels that declare and assert the same
 

@@ -15,13 +15,13 @@ use Rattle.smt_meaning.specs.Term.{Tree}
 use Rattle.smt_meaning.specs.Signature.{is_bool}
 use Rattle.smt_meaning.specs.Stack.{signature_of}
 use Rattle.smt_meaning.specs.StackCommand.{Stack}
+use Rattle.smt_laws.specs.Rows.{place_divisor}
 use Rattle.check_atoms.specs.Parts.{IsMarked}
 use Rattle.bound_clauses.specs.declared.orders.Order.{Order}
 use Rattle.bound_clauses.specs.Orders.{order_atoms, bound_atom}
 use Rattle.bound_clauses.specs.Laws.{orders}
 use Rattle.check_atoms.specs.declared.part.PartAtom.{PartAtom}
 use Rattle.check_atoms.specs.declared.part.PartAtom.TheVariants.{Bound}
-use Rattle.pair_bounds.specs.Rows.{divisor_at}
 use Rattle.check_atoms.specs.PartAtoms.{atom_of, truth_by_sort, of_rows, compared, compared_by_head, sort_of}
 use Rattle.check_atoms.specs.OfStack.{IsNode, AreCheckAtoms}
 use Rattle.check_atoms.specs.Laws.{HasNumbers, PartsHaveNumbers, TruthsHaveNumbers}
@@ -66,23 +66,23 @@ module _ (s : Stack) (marks : List Bool) (atoms : List Atom) (are : AreCheckAtom
   abbrev f : ℕ → Option Sort
   f = sort_of (signature_of s.frames) s.trees
 
-  comparisons : (h : Head) (is : List ℕ) → IsMarked marks p → IsNode s.trees p h is → All (Contains atoms) (map (atom_of s.trees) (compared_by_head f (divisor_at s.trees is) h p is))
-  comparisons h is m n = lasts s.trees atoms (truth_by_sort (f p) p) (compared_by_head f (divisor_at s.trees is) h p is) (are.each p h is m n)
+  comparisons : (h : Head) (is : List ℕ) → IsMarked marks p → IsNode s.trees p h is → All (Contains atoms) (map (atom_of s.trees) (compared_by_head f (place_divisor s.trees is) h p is))
+  comparisons h is m n = lasts s.trees atoms (truth_by_sort (f p) p) (compared_by_head f (place_divisor s.trees is) h p is) (are.each p h is m n)
 
-  of_operator : (o q : Operator) (is : List ℕ) → IsMarked marks p → IsNode s.trees p (Theory o) is → o ≡ q → All (Contains atoms) (map (atom_of s.trees) (compared f (divisor_at s.trees is) q p is))
-  of_operator o q is m n e = subst (λ r. All (Contains atoms) (map (atom_of s.trees) (compared f (divisor_at s.trees is) r p is))) e (comparisons (Theory o) is m n)
+  of_operator : (o q : Operator) (is : List ℕ) → IsMarked marks p → IsNode s.trees p (Theory o) is → o ≡ q → All (Contains atoms) (map (atom_of s.trees) (compared f (place_divisor s.trees is) q p is))
+  of_operator o q is m n e = subst (λ r. All (Contains atoms) (map (atom_of s.trees) (compared f (place_divisor s.trees is) r p is))) e (comparisons (Theory o) is m n)
 
   has_numbers : (o : Operator) (is : List ℕ) → IsMarked marks p → IsNode s.trees p (Theory o) is → HasNumbers s atoms p o is
   has_numbers o is m n = record {
-    comparison = λ h. subst (All (Contains atoms)) (ap (map (atom_of s.trees)) (compared_orders f (divisor_at s.trees is) o p is h) ∙ map_bounds s.trees (order_atoms o is)) (comparisons (Theory o) is m n);
+    comparison = λ h. subst (All (Contains atoms)) (ap (map (atom_of s.trees)) (compared_orders f (place_divisor s.trees is) o p is h) ∙ map_bounds s.trees (order_atoms o is)) (comparisons (Theory o) is m n);
     equality = of_operator o Equal is m n;
     different = of_operator o Distinct is m n;
     choice = of_operator o Ite is m n;
-    division = rows_there s.trees atoms f (divisor_at s.trees is) o p is (comparisons (Theory o) is m n);
+    division = rows_there s.trees atoms f (place_divisor s.trees is) o p is (comparisons (Theory o) is m n);
   }
 
   has_truth : (h : Head) (is : List ℕ) → IsMarked marks p → IsNode s.trees p h is → is_bool (f p) ≡ true → Contains atoms (TruthAtom p)
-  has_truth h is m n b = truth_there s.trees atoms (f p) p b (firsts s.trees atoms (truth_by_sort (f p) p) (compared_by_head f (divisor_at s.trees is) h p is) (are.each p h is m n))
+  has_truth h is m n b = truth_there s.trees atoms (f p) p b (firsts s.trees atoms (truth_by_sort (f p) p) (compared_by_head f (place_divisor s.trees is) h p is) (are.each p h is m n))
 
 pub parts_numbered : PartsHaveNumbers
 parts_numbered s marks atoms are p o is m n = has_numbers s marks atoms are p o is m n

@@ -9,6 +9,7 @@ use Rattle.smt_meaning.specs.Linear.{folding_fits}
 use Rattle.smt_meaning.specs.Ranges.{LeavesInPart}
 use Rattle.smt_meaning.specs.Stack.{signature_of}
 use Rattle.smt_meaning.specs.StackCommand.{Stack}
+use Rattle.smt_laws.specs.Rows.{place_divisor}
 use Rattle.term_store.specs.Terms.{AreDifferent}
 use Rattle.term_store.proofs.PlaceLemmas.{place_of-is}
 use Rattle.scope_stack.specs.Shown.{IsLawful}
@@ -17,7 +18,7 @@ use Rattle.linear_forms.specs.Table.{FoldsOutside, IsOutside}
 use Rattle.check_atoms.specs.declared.refusal.Refusal.TheVariants.{Term, Memory}
 use Rattle.check_atoms.specs.declared.part.PartAtom.TheVariants.{Bound, Limit}
 use Rattle.linear_forms.specs.declared.multiples.Multiple.{Multiple}
-use Rattle.pair_bounds.specs.Rows.{multiples, divisor_at, DivisorIsOutside}
+use Rattle.pair_bounds.specs.Rows.{multiples, DivisorIsOutside}
 use Rattle.check_atoms.specs.PartAtoms.{sort_of}
 use Rattle.check_atoms.specs.Numbering.{RefusesBound, RefusesRows}
 use Rattle.check_atoms.specs.OfStack.{part_atoms, RefusesPart}
@@ -69,7 +70,7 @@ module _ (s : Stack) (lawful : IsLawful s) where
 
     over : All (IsOver (IsBelow r.place)) (part_atoms s r.place r.head r.arguments)
     over =
-        part_over (IsBelow r.place) (sort_of (signature_of s.frames) s.trees) (divisor_at s.trees r.arguments) r.place r.head r.arguments (itself (tree_at s.trees r.place), r.term.within)
+        part_over (IsBelow r.place) (sort_of (signature_of s.frames) s.trees) (place_divisor s.trees r.arguments) r.place r.head r.arguments (itself (tree_at s.trees r.place), r.term.within)
         (all_below r.place r.head r.arguments r.term.tree r.term.arguments)
 
     of_bound : RefusesBound s.trees r.place (part_atoms s r.place r.head r.arguments) (Term part) → LeavesInPart s.trees s.frames part

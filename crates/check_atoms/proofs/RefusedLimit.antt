@@ -15,11 +15,11 @@ use Rattle.smt_meaning.specs.StackCommand.{Stack}
 use Rattle.term_store.proofs.PlaceLemmas.{place_of-is}
 use Rattle.scope_stack.specs.Shown.{IsLawful}
 use Rattle.pair_bounds.specs.declared.rows.RowLimit.{RowLimit}
-use Rattle.linear_forms.specs.Multiples.{form_at}
 use Rattle.linear_forms.proofs.SumLemmas.{fits_in_range}
-use Rattle.pair_bounds.specs.Rows.{divisor_at, DivisorIsLarge, RowsAreAtoms}
+use Rattle.pair_bounds.specs.Rows.{DivisorIsLarge, RowsAreAtoms}
 use Rattle.smt_laws.specs.Numerals.{numerals_fit}
 use Rattle.smt_laws.specs.LinearLaws.{PlacedFormsFit}
+use Rattle.smt_laws.specs.Rows.{place_form, place_divisor}
 use Rattle.check_atoms.specs.declared.refusal.Refusal.TheVariants.{Limit as RefusedLimit, Memory}
 use Rattle.check_atoms.specs.declared.part.PartAtom.{PartAtom}
 use Rattle.check_atoms.specs.declared.part.PartAtom.TheVariants.{Truth, Same, Bound, Limit}
@@ -40,7 +40,7 @@ module _ (s : Stack) (lawful : IsLawful s) (law : RowsAreAtoms) (part : ℕ) (r 
   record IsOfRows (l : RowLimit) : Type 0 where
     operator : Operator
     head : r.head ≡ Theory operator
-    among : Contains (limits_of (divisor_at s.trees r.arguments) operator r.place r.arguments) l
+    among : Contains (limits_of (place_divisor s.trees r.arguments) operator r.place r.arguments) l
 
   abbrev IsOfPart : PartAtom → Type 0
   IsOfPart (Truth p) = Unit {0}
@@ -51,8 +51,8 @@ module _ (s : Stack) (lawful : IsLawful s) (law : RowsAreAtoms) (part : ℕ) (r 
   of_rows : IsOfRows rows.limit
   of_rows =
       All-contains IsOfPart (part_atoms s r.place r.head r.arguments) (Limit rows.limit)
-      (part_any IsOfPart (λ p. tt) (λ i j. tt) (λ o. tt) (sort_of (signature_of s.frames) s.trees) (divisor_at s.trees r.arguments) r.place r.head r.arguments
-      (λ o e k d l. record { operator = o; head = e; among = All-contains_itself (limits_of (divisor_at s.trees r.arguments) o r.place r.arguments) k d l }))
+      (part_any IsOfPart (λ p. tt) (λ i j. tt) (λ o. tt) (sort_of (signature_of s.frames) s.trees) (place_divisor s.trees r.arguments) r.place r.head r.arguments
+      (λ o e k d l. record { operator = o; head = e; among = All-contains_itself (limits_of (place_divisor s.trees r.arguments) o r.place r.arguments) k d l }))
       rows.among
 
   unfit : compared_fits s.trees (signature_of s.frames) (tree_at s.trees r.place) ≡ false
@@ -76,7 +76,7 @@ not_large : (ts : List Tree) (is : List ℕ) → PlacedFormsFit → All (λ (t :
 not_large ts [] fit numerals d = d
 not_large ts (i ∷ []) fit numerals d = d
 not_large ts (i ∷ j ∷ is) fit numerals d =
-    d.1 (fits_in_range (form_at ts j).constant (right_true (sum_fits (form_at ts j).sum) (is_in_range (form_at ts j).constant) (fit ts j numerals d.0)))
+    d.1 (fits_in_range (place_form ts j).constant (right_true (sum_fits (place_form ts j).sum) (is_in_range (place_form ts j).constant) (fit ts j numerals d.0)))
 
 pub lawful_limits : PlacedFormsFit → RowsAreAtoms → LawfulLimitsLeaveRange
 lawful_limits fit law s part lawful numerals (inl m) = absurd (no_memory part m)

@@ -20,6 +20,7 @@ use Rattle.smt_meaning.specs.CheckAtoms.{IsIntPart}
 use Rattle.smt_meaning.specs.Ranges.{LeavesInPart}
 use Rattle.smt_meaning.specs.Stack.{signature_of, assertions_of}
 use Rattle.smt_meaning.specs.StackCommand.{Stack}
+use Rattle.smt_laws.specs.Rows.{place_divisor}
 use Rattle.term_store.proofs.PlaceLemmas.{place_of-is}
 use Rattle.scope_stack.specs.Shown.{IsLawful}
 use Rattle.check_atoms.proofs.Sorting.{HasSort, part_has_sort}
@@ -34,7 +35,6 @@ use Rattle.check_atoms.specs.declared.refusal.Refusal.TheVariants.{Pair, Memory}
 use Rattle.check_atoms.specs.declared.part.PartAtom.{PartAtom}
 use Rattle.check_atoms.specs.declared.part.PartAtom.TheVariants.{Truth, Same, Bound, Limit}
 use Rattle.pair_bounds.specs.declared.rows.RowLimit.{RowLimit}
-use Rattle.pair_bounds.specs.Rows.{divisor_at}
 use Rattle.check_atoms.specs.PartAtoms.{sort_of, by_sort, alone_by_sort, truth_by_sort, alone, compared, compared_by_head, of_part}
 use Rattle.check_atoms.specs.Numbering.{fits_by, RefusesBound}
 use Rattle.check_atoms.specs.OfStack.{part_atoms, RefusesPart}
@@ -170,12 +170,12 @@ module _ (s : Stack) (lawful : IsLawful s) (part : ℕ) (given : Order) (r : Ref
 
   ints : IsIntBound ds s.trees (Bound o)
   ints =
-      All-contains (IsIntBound ds s.trees) (part_atoms s r.place r.head r.arguments) (Bound o) (part_int ds s.trees (divisor_at s.trees r.arguments) r.place r.head r.arguments sort.0 sort.1 r.term.tree) bound.among
+      All-contains (IsIntBound ds s.trees) (part_atoms s r.place r.head r.arguments) (Bound o) (part_int ds s.trees (place_divisor s.trees r.arguments) r.place r.head r.arguments sort.0 sort.1 r.term.tree) bound.among
 
   over : IsOver (IsBelow s lawful r.place) (Bound o)
   over =
       All-contains (IsOver (IsBelow s lawful r.place)) (part_atoms s r.place r.head r.arguments) (Bound o)
-      (part_over (IsBelow s lawful r.place) (sort_of ds s.trees) (divisor_at s.trees r.arguments) r.place r.head r.arguments (itself (tree_at s.trees r.place), r.term.within)
+      (part_over (IsBelow s lawful r.place) (sort_of ds s.trees) (place_divisor s.trees r.arguments) r.place r.head r.arguments (itself (tree_at s.trees r.place), r.term.within)
       (all_below s lawful r.place r.head r.arguments r.term.tree r.term.arguments))
       bound.among
 
@@ -193,7 +193,7 @@ module _ (s : Stack) (lawful : IsLawful s) (part : ℕ) (given : Order) (r : Ref
     place_is = place_of-is (tree_at s.trees r.place) s.trees r.place (different s lawful) r.term.within refl;
     leaves = inr (subst (λ t. compared_fits s.trees ds t ≡ false) (sym r.term.tree)
         (All-contains (Shows s.trees ds (comparison_fits s.trees ds r.head (pick s.trees r.arguments) ≡ false)) (part_atoms s r.place r.head r.arguments) (Bound o)
-        (part_shows s.trees ds (divisor_at s.trees r.arguments) r.place r.head r.arguments) bound.among e f));
+        (part_shows s.trees ds (place_divisor s.trees r.arguments) r.place r.head r.arguments) bound.among e f));
   }
 
   by_sense : (sense : Sense) → o.sense ≡ sense → form_fits (linear_form s.trees (tree_at s.trees o.lesser)) ≡ true

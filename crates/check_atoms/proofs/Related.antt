@@ -12,10 +12,11 @@ use Rattle.smt_meaning.specs.Declaration.{Declaration}
 use Rattle.smt_meaning.specs.Term.{Tree, node, tree_at}
 use Rattle.smt_meaning.specs.Nodes.{pick}
 use Rattle.smt_meaning.specs.Atoms.{pair_atoms, of_neighbours_from, of_first_with, of_pairs, division_atoms, comparison_atoms, truth_atom}
+use Rattle.smt_laws.specs.Rows.{place_divisor}
 use Rattle.bound_clauses.specs.declared.orders.Order.{Order}
 use Rattle.bound_clauses.specs.Orders.{order_atoms, bound_atom}
 use Rattle.bound_clauses.specs.Laws.{OrdersAreComparisons, orders}
-use Rattle.pair_bounds.specs.Rows.{divisor_at, RowsAreAtoms}
+use Rattle.pair_bounds.specs.Rows.{RowsAreAtoms}
 use Rattle.check_atoms.specs.declared.part.PartAtom.{PartAtom}
 use Rattle.check_atoms.specs.declared.part.PartAtom.TheVariants.{Bound}
 use Rattle.check_atoms.specs.PartAtoms.{atom_of, sort_of, truth_by_sort, pair, alone, neighbours_from, first_with, each_two, of_rows, compared, compared_by_head, of_part}
@@ -74,11 +75,11 @@ module _ (ts : List Tree) (ds : List Declaration) (R : List Atom → List Atom �
         subst (λ xs. R xs (comparison_atoms ts ds (Theory o) (pick ts is))) (law ts ds o is h ∙ sym (map_bounds (order_atoms o is))) (k.same (comparison_atoms ts ds (Theory o) (pick ts is)))
 
     rows_related : RowsAreAtoms → (o : Operator) (p : ℕ) (is : List ℕ) → tree_at ts p ≡ node (Theory o) (pick ts is)
-        → R (map (atom_of ts) (of_rows (divisor_at ts is) o p is)) (division_atoms ts (Theory o) (pick ts is))
+        → R (map (atom_of ts) (of_rows (place_divisor ts is) o p is)) (division_atoms ts (Theory o) (pick ts is))
     rows_related law o p is e = subst (λ xs. R xs (division_atoms ts (Theory o) (pick ts is))) (sym (rows_are ts law o p is e)) (k.same (division_atoms ts (Theory o) (pick ts is)))
 
     compared_related : OrdersAreComparisons → RowsAreAtoms → (o : Operator) (p : ℕ) (is : List ℕ) → P p → All P is → tree_at ts p ≡ node (Theory o) (pick ts is)
-        → R (map (atom_of ts) (compared (sort_of ds ts) (divisor_at ts is) o p is)) (comparison_atoms ts ds (Theory o) (pick ts is))
+        → R (map (atom_of ts) (compared (sort_of ds ts) (place_divisor ts is) o p is)) (comparison_atoms ts ds (Theory o) (pick ts is))
     compared_related law rows Equal p [] h g e = k.same []
     compared_related law rows Equal p (i ∷ []) h g e = k.same []
     compared_related law rows Equal p (i ∷ j ∷ []) h g e = single_related i j (All-head P i (j ∷ []) g) (All-head P j [] (All-tail P i (j ∷ []) g))
@@ -104,12 +105,12 @@ module _ (ts : List Tree) (ds : List Declaration) (R : List Atom → List Atom �
     compared_related law rows o p is h g e = k.same []
 
     head_related : OrdersAreComparisons → RowsAreAtoms → (h : Head) (p : ℕ) (is : List ℕ) → P p → All P is → tree_at ts p ≡ node h (pick ts is)
-        → R (map (atom_of ts) (compared_by_head (sort_of ds ts) (divisor_at ts is) h p is)) (comparison_atoms ts ds h (pick ts is))
+        → R (map (atom_of ts) (compared_by_head (sort_of ds ts) (place_divisor ts is) h p is)) (comparison_atoms ts ds h (pick ts is))
     head_related law rows (Theory o) p is h g e = compared_related law rows o p is h g e
     head_related law rows t p is h g e = k.same []
 
     pub part_related : OrdersAreComparisons → RowsAreAtoms → (h : Head) (p : ℕ) (is : List ℕ) → P p → All P is → tree_at ts p ≡ node h (pick ts is)
         → R (map (atom_of ts) (truth_by_sort (sort_of ds ts p) p)) (truth_atom ts ds (tree_at ts p))
-        → R (map (atom_of ts) (of_part (sort_of ds ts) (divisor_at ts is) p h is)) (truth_atom ts ds (tree_at ts p) ++ comparison_atoms ts ds h (pick ts is))
+        → R (map (atom_of ts) (of_part (sort_of ds ts) (place_divisor ts is) p h is)) (truth_atom ts ds (tree_at ts p) ++ comparison_atoms ts ds h (pick ts is))
     part_related law rows h p is m g e truth =
-        both (truth_by_sort (sort_of ds ts p) p) (compared_by_head (sort_of ds ts) (divisor_at ts is) h p is) (truth_atom ts ds (tree_at ts p)) (comparison_atoms ts ds h (pick ts is)) truth (head_related law rows h p is m g e)
+        both (truth_by_sort (sort_of ds ts p) p) (compared_by_head (sort_of ds ts) (place_divisor ts is) h p is) (truth_atom ts ds (tree_at ts p)) (comparison_atoms ts ds h (pick ts is)) truth (head_related law rows h p is m g e)

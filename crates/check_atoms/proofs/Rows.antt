@@ -1,6 +1,6 @@
 -- The limits of the rows of divisions: over which places they are, whether their numbers are in the range, and which atoms they are.
-use Rattle.std.proofs.Common.{◌≡◌, ◌≢◌, ℕ, zero, suc, Bool, true, false, ◌&&◌, List, [], ◌∷◌, ◌++◌, map, flat_map, length, All, Contains, subst, sym, ap, ap₂, ◌∙◌, refl, arith, inl, inr}
-use Rattle.std.specs.Prelude.{ℤ, pos, negsuc, ◌-ℤ◌, neg_ℤ, Option, Some, None}
+use Rattle.std.proofs.Common.{◌≡◌, ◌≢◌, ℕ, zero, suc, Bool, true, false, ◌&&◌, List, [], ◌∷◌, ◌++◌, map, flat_map, All, Contains, subst, sym, ap, ap₂, ◌∙◌, refl, arith, inl, inr}
+use Rattle.std.specs.Prelude.{ℤ, pos, negsuc, ◌-ℤ◌, neg_ℤ, Some, None}
 use Rattle.std.specs.List.{list_all}
 use Rattle.std.proofs.lemmas.List.{map-append}
 use Rattle.std.proofs.lemmas.Int.{ints}
@@ -17,11 +17,11 @@ use Rattle.smt_meaning.specs.Nodes.{pick}
 use Rattle.smt_meaning.specs.Division.{rows_at, rows_fit, limit_fits, row_fits}
 use Rattle.smt_meaning.specs.Atoms.{limit_atom, row_atoms, division_atoms}
 use Rattle.smt_meaning.specs.Comparisons.{comparison_fits}
+use Rattle.smt_laws.specs.Rows.{place_form, place_divisor}
 use Rattle.linear_forms.specs.declared.multiples.Multiple.{Multiple}
-use Rattle.linear_forms.specs.Multiples.{form_at}
 use Rattle.pair_bounds.specs.declared.rows.RowLimit.{RowLimit}
 use Rattle.pair_bounds.specs.declared.rows.Row.{Row}
-use Rattle.pair_bounds.specs.Rows.{multiples, limits, limit_of_row, row_of, placed_rows, divisor_at, RowsAreOf, RowsAreAtoms}
+use Rattle.pair_bounds.specs.Rows.{multiples, limits, limit_of_row, row_of, placed_rows, RowsAreOf, RowsAreAtoms}
 use Rattle.check_atoms.specs.declared.part.PartAtom.TheVariants.{Limit}
 use Rattle.check_atoms.specs.PartAtoms.{atom_of, of_rows}
 
@@ -125,11 +125,11 @@ only_one y x (zero, h, e) = e
 only_one y x (suc k, h, e) = absurd (omega (arith, h))
 
 module _ (ts : List Tree) where
-  limit_atoms : (ls : List RowLimit) → map (atom_of ts) (map Limit ls) ≡ map (limit_atom (form_at ts)) (map limit_of_row ls)
+  limit_atoms : (ls : List RowLimit) → map (atom_of ts) (map Limit ls) ≡ map (limit_atom (place_form ts)) (map limit_of_row ls)
   limit_atoms [] = refl
-  limit_atoms (l ∷ ls) = ap (λ (xs : List Atom). limit_atom (form_at ts) (limit_of_row l) ∷ xs) (limit_atoms ls)
+  limit_atoms (l ∷ ls) = ap (λ (xs : List Atom). limit_atom (place_form ts) (limit_of_row l) ∷ xs) (limit_atoms ls)
 
-  placed_atoms : (rs : List Row) → map (atom_of ts) (map Limit (flat_map limits rs)) ≡ flat_map (row_atoms (form_at ts)) (map row_of rs)
+  placed_atoms : (rs : List Row) → map (atom_of ts) (map Limit (flat_map limits rs)) ≡ flat_map (row_atoms (place_form ts)) (map row_of rs)
   placed_atoms [] = refl
   placed_atoms (r ∷ rs) =
       ap (map (atom_of ts)) (map-append Limit (limits r) (flat_map limits rs)) ∙ map-append (atom_of ts) (map Limit (limits r)) (map Limit (flat_map limits rs))
@@ -137,10 +137,10 @@ module _ (ts : List Tree) where
 
   -- the bounds of a division's rows are its atoms
   pub rows_are : RowsAreAtoms → (o : Operator) (p : ℕ) (is : List ℕ) → tree_at ts p ≡ node (Theory o) (pick ts is)
-      → map (atom_of ts) (of_rows (divisor_at ts is) o p is) ≡ division_atoms ts (Theory o) (pick ts is)
+      → map (atom_of ts) (of_rows (place_divisor ts is) o p is) ≡ division_atoms ts (Theory o) (pick ts is)
   rows_are law o p is e =
       let are : RowsAreOf ts o p is = law ts o p is e in
-      placed_atoms (placed_rows o (divisor_at ts is) p is) ∙ ap (flat_map (row_atoms (form_at ts))) are.rows ∙ sym are.atoms
+      placed_atoms (placed_rows o (place_divisor ts is) p is) ∙ ap (flat_map (row_atoms (place_form ts))) are.rows ∙ sym are.atoms
 
   -- ---- where one of them doesn't fit
 
@@ -148,28 +148,28 @@ module _ (ts : List Tree) where
   right_false true b e = e
   right_false false b e = refl
 
-  one_limit : (ls : List RowLimit) (l : RowLimit) → Contains ls l → limit_fits (form_at ts) (limit_of_row l) ≡ false → list_all (limit_fits (form_at ts)) (map limit_of_row ls) ≡ false
+  one_limit : (ls : List RowLimit) (l : RowLimit) → Contains ls l → limit_fits (place_form ts) (limit_of_row l) ≡ false → list_all (limit_fits (place_form ts)) (map limit_of_row ls) ≡ false
   one_limit [] l c e = absurd (omega (arith, c.1))
   one_limit (k ∷ ls) l c e = elim (Contains-append_cases (k ∷ []) ls l c) [
-    | inl here ↦ ap (λ b. b && list_all (limit_fits (form_at ts)) (map limit_of_row ls)) (subst (λ (x : RowLimit). limit_fits (form_at ts) (limit_of_row x) ≡ false) (sym (only_one k l here)) e)
-    | inr later ↦ right_false (limit_fits (form_at ts) (limit_of_row k)) (list_all (limit_fits (form_at ts)) (map limit_of_row ls)) (one_limit ls l later e)
+    | inl here ↦ ap (λ b. b && list_all (limit_fits (place_form ts)) (map limit_of_row ls)) (subst (λ (x : RowLimit). limit_fits (place_form ts) (limit_of_row x) ≡ false) (sym (only_one k l here)) e)
+    | inr later ↦ right_false (limit_fits (place_form ts) (limit_of_row k)) (list_all (limit_fits (place_form ts)) (map limit_of_row ls)) (one_limit ls l later e)
   ]
 
-  one_row : (rs : List Row) (l : RowLimit) → Contains (flat_map limits rs) l → limit_fits (form_at ts) (limit_of_row l) ≡ false → list_all (row_fits (form_at ts)) (map row_of rs) ≡ false
+  one_row : (rs : List Row) (l : RowLimit) → Contains (flat_map limits rs) l → limit_fits (place_form ts) (limit_of_row l) ≡ false → list_all (row_fits (place_form ts)) (map row_of rs) ≡ false
   one_row [] l c e = absurd (omega (arith, c.1))
   one_row (r ∷ rs) l c e = elim (Contains-append_cases (limits r) (flat_map limits rs) l c) [
-    | inl here ↦ ap (λ b. b && list_all (row_fits (form_at ts)) (map row_of rs)) (one_limit (limits r) l here e)
-    | inr later ↦ right_false (row_fits (form_at ts) (row_of r)) (list_all (row_fits (form_at ts)) (map row_of rs)) (one_row rs l later e)
+    | inl here ↦ ap (λ b. b && list_all (row_fits (place_form ts)) (map row_of rs)) (one_limit (limits r) l here e)
+    | inr later ↦ right_false (row_fits (place_form ts) (row_of r)) (list_all (row_fits (place_form ts)) (map row_of rs)) (one_row rs l later e)
   ]
 
-  module _ (ds : List Declaration) (law : RowsAreAtoms) (p : ℕ) (is : List ℕ) (l : RowLimit) (unfit : limit_fits (form_at ts) (limit_of_row l) ≡ false) where
-    rows_unfit : (o : Operator) → tree_at ts p ≡ node (Theory o) (pick ts is) → Contains (limits_of (divisor_at ts is) o p is) l → rows_fit ts (rows_at ts (Theory o) (pick ts is)) ≡ false
+  module _ (ds : List Declaration) (law : RowsAreAtoms) (p : ℕ) (is : List ℕ) (l : RowLimit) (unfit : limit_fits (place_form ts) (limit_of_row l) ≡ false) where
+    rows_unfit : (o : Operator) → tree_at ts p ≡ node (Theory o) (pick ts is) → Contains (limits_of (place_divisor ts is) o p is) l → rows_fit ts (rows_at ts (Theory o) (pick ts is)) ≡ false
     rows_unfit o e c =
         let are : RowsAreOf ts o p is = law ts o p is e in
-        are.fits ∙ ap (list_all (row_fits (form_at ts))) (sym are.rows) ∙ one_row (placed_rows o (divisor_at ts is) p is) l c unfit
+        are.fits ∙ ap (list_all (row_fits (place_form ts))) (sym are.rows) ∙ one_row (placed_rows o (place_divisor ts is) p is) l c unfit
 
     -- what the term compares doesn't
-    pub comparison_unfit : (o : Operator) → tree_at ts p ≡ node (Theory o) (pick ts is) → Contains (limits_of (divisor_at ts is) o p is) l → comparison_fits ts ds (Theory o) (pick ts is) ≡ false
+    pub comparison_unfit : (o : Operator) → tree_at ts p ≡ node (Theory o) (pick ts is) → Contains (limits_of (place_divisor ts is) o p is) l → comparison_fits ts ds (Theory o) (pick ts is) ≡ false
     comparison_unfit Divide e c = rows_unfit Divide e c
     comparison_unfit Modulo e c = rows_unfit Modulo e c
     comparison_unfit Absolute e c = rows_unfit Absolute e c

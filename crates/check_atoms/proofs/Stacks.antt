@@ -34,8 +34,7 @@ use Rattle.check_atoms.specs.declared.refusal.Refusal.{Refusal}
 use Rattle.check_atoms.specs.declared.part.PartAtom.{PartAtom}
 use Rattle.check_atoms.specs.declared.part.PartAtom.TheVariants.{Truth, Same, Bound, Limit}
 use Rattle.linear_forms.specs.declared.multiples.Multiple.{Multiple}
-use Rattle.linear_forms.specs.Multiples.{form_at}
-use Rattle.pair_bounds.specs.Rows.{divisor_at, multiples, limit_of_row}
+use Rattle.pair_bounds.specs.Rows.{multiples, limit_of_row}
 use Rattle.smt_meaning.specs.Atoms.{limit_atom}
 use Rattle.check_atoms.specs.PartAtoms.{atom_of, of_part, sort_of, sort_in}
 use Rattle.check_atoms.specs.Divisors.{IsDivisorOf}
@@ -45,6 +44,7 @@ use Rattle.check_atoms.specs.Chords.{MayCompare}
 use Rattle.smt_meaning.specs.declared.clauses.Atom.TheVariants.{Truth as TruthAtom, Same as SameAtom, AtMost}
 use Rattle.smt_meaning.specs.Clause.{sum_places}
 use Rattle.smt_meaning.specs.CheckAtoms.{is_leaf, IsLeaf}
+use Rattle.smt_laws.specs.Rows.{place_form, place_divisor}
 use Rattle.bound_clauses.specs.Orders.{bound_atom}
 use Rattle.check_atoms.proofs.Marking.{part_of_part}
 use Rattle.check_atoms.specs.OfStack.{bound_terms}
@@ -170,7 +170,7 @@ module _ (s : Stack) (marks : List Bool) (law : IsLawful s) (parts : AreMarkedFr
   }
   has_places (Bound o) h i = bound_has (bound_atom s.trees o) (bound_places IsLeafPart s.trees ds o i.0 i.1 (leaf_there o.lesser h.0) (leaf_there o.greater h.1))
   has_places (Limit l) h i =
-      bound_has (limit_atom (form_at s.trees) (limit_of_row l))
+      bound_has (limit_atom (place_form s.trees) (limit_of_row l))
       (limit_places IsLeafPart s.trees ds l i (All-weaker (λ (m : Multiple). IsMarked marks m.term) (λ (m : Multiple). HaveLeaves IsLeafPart s.trees ds (tree_at s.trees m.term)) (λ m k. leaf_there m.term k) (multiples l) h))
 
   each_image : (xs : List PartAtom) → All (IsOver (IsMarked marks)) xs → All (IsIntBound ds s.trees) xs → All HasPlaces (map (atom_of s.trees) xs)
@@ -184,8 +184,8 @@ module _ (s : Stack) (marks : List Bool) (law : IsLawful s) (parts : AreMarkedFr
       let sort = its_sort p.place p.marked in
       All-contains HasPlaces (map (atom_of s.trees) (part_atoms s p.place p.head p.arguments)) a
       (each_image (part_atoms s p.place p.head p.arguments)
-      (part_over (IsMarked marks) (sort_of ds s.trees) (divisor_at s.trees p.arguments) p.place p.head p.arguments p.marked (arguments_marked p.place p.head p.arguments p.marked p.term))
-      (part_int ds s.trees (divisor_at s.trees p.arguments) p.place p.head p.arguments sort.0 sort.1 p.term.tree))
+      (part_over (IsMarked marks) (sort_of ds s.trees) (place_divisor s.trees p.arguments) p.place p.head p.arguments p.marked (arguments_marked p.place p.head p.arguments p.marked p.term))
+      (part_int ds s.trees (place_divisor s.trees p.arguments) p.place p.head p.arguments sort.0 sort.1 p.term.tree))
       p.among
 
   module _ (declares : SymbolsAreDeclared) where

@@ -20,8 +20,9 @@ use Rattle.smt_meaning.specs.Clause.{sum_places, atom_places}
 use Rattle.smt_meaning.specs.Linear.{Form, summand, is_zero, unless_zero, placed, with_term, sums_added, each_times, sum_times, form_plus, form_minus, form_product, fold_forms, folded, difference_form, linear_form, linear_forms}
 use Rattle.smt_meaning.specs.Division.{combined}
 use Rattle.smt_meaning.specs.Atoms.{each_divided, normal_bound, difference_of, limit_atom}
+use Rattle.smt_laws.specs.Rows.{place_form}
 use Rattle.linear_forms.specs.declared.multiples.Multiple.{Multiple}
-use Rattle.linear_forms.specs.Multiples.{form_at, multiples_of}
+use Rattle.linear_forms.specs.Multiples.{multiples_of}
 use Rattle.pair_bounds.specs.declared.rows.RowLimit.{RowLimit}
 use Rattle.pair_bounds.specs.Rows.{multiples, limit_of_row}
 use Rattle.bound_clauses.specs.declared.orders.Sense.{Sense}
@@ -161,14 +162,14 @@ module _ (P : ℕ → Type 0) where
     abbrev HasLeaves : Multiple → Type 0
     HasLeaves m = HaveLeaves (tree_at ts m.term)
 
-    multiples_places : (ms : List Multiple) → All HasIntTerm ms → All HasLeaves ms → HasPlaces (combined (form_at ts) (multiples_of ms)).sum
+    multiples_places : (ms : List Multiple) → All HasIntTerm ms → All HasLeaves ms → HasPlaces (combined (place_form ts) (multiples_of ms)).sum
     multiples_places [] i h = tt
     multiples_places (m ∷ ms) i h =
-        both (sum_times m.factor (form_at ts m.term).sum) (combined (form_at ts) (multiples_of ms)).sum
-        (multiple m.factor (form_at ts m.term).sum (form_places (tree_at ts m.term) (All-head HasIntTerm m ms i) (All-head HasLeaves m ms h)))
+        both (sum_times m.factor (place_form ts m.term).sum) (combined (place_form ts) (multiples_of ms)).sum
+        (multiple m.factor (place_form ts m.term).sum (form_places (tree_at ts m.term) (All-head HasIntTerm m ms i) (All-head HasLeaves m ms h)))
         (multiples_places ms (All-tail HasIntTerm m ms i) (All-tail HasLeaves m ms h))
 
     -- so is each of a limit's, where those of the leaves of its terms are
-    pub limit_places : (l : RowLimit) → All HasIntTerm (multiples l) → All HasLeaves (multiples l) → All P (atom_places (limit_atom (form_at ts) (limit_of_row l)))
+    pub limit_places : (l : RowLimit) → All HasIntTerm (multiples l) → All HasLeaves (multiples l) → All P (atom_places (limit_atom (place_form ts) (limit_of_row l)))
     limit_places l i h =
-        normal (combined (form_at ts) (multiples_of (multiples l))).sum (l.most -ℤ (combined (form_at ts) (multiples_of (multiples l))).constant) (multiples_places (multiples l) i h)
+        normal (combined (place_form ts) (multiples_of (multiples l))).sum (l.most -ℤ (combined (place_form ts) (multiples_of (multiples l))).constant) (multiples_places (multiples l) i h)

@@ -17,6 +17,7 @@ use Rattle.smt_meaning.specs.Atoms.{stack_atoms}
 use Rattle.smt_meaning.specs.CheckAtoms.{IsPartOfStack, IsFirstAtom}
 use Rattle.smt_meaning.specs.Ranges.{LeavesInPart, LeavesInPair}
 use Rattle.smt_laws.specs.Flat.{flat}
+use Rattle.smt_laws.specs.Rows.{place_divisor}
 use Rattle.scope_stack.specs.Shown.{IsLawful}
 use Rattle.check_atoms.specs.Parts.{IsMarked}
 use Rattle.check_atoms.specs.Marks.{AreStackParts}
@@ -26,7 +27,6 @@ use Rattle.bound_clauses.specs.declared.orders.Order.{Order}
 use Rattle.check_atoms.specs.declared.refusal.Refusal.TheVariants.{Term, Pair}
 use Rattle.bound_clauses.specs.Orders.{order_atoms, bound_atom}
 use Rattle.bound_clauses.specs.Laws.{orders}
-use Rattle.pair_bounds.specs.Rows.{divisor_at}
 use Rattle.check_atoms.specs.PartAtoms.{atom_of, sort_of, of_equal, of_distinct, with_branches, of_rows}
 use Rattle.check_atoms.specs.OfStack.{IsNode, AreCheckAtoms, IsRefused}
 
@@ -86,7 +86,7 @@ pub record HasNumbers (s : Stack) (atoms : List Atom) (p : ℕ) (o : Operator) (
   pub equality : o ≡ Equal → All (Contains atoms) (map (atom_of s.trees) (of_equal (sort_of (signature_of s.frames) s.trees) is))
   pub different : o ≡ Distinct → All (Contains atoms) (map (atom_of s.trees) (of_distinct (sort_of (signature_of s.frames) s.trees) is))
   pub choice : o ≡ Ite → All (Contains atoms) (map (atom_of s.trees) (with_branches (sort_of (signature_of s.frames) s.trees) p is))
-  pub division : All (Contains atoms) (map (atom_of s.trees) (of_rows (divisor_at s.trees is) o p is))
+  pub division : All (Contains atoms) (map (atom_of s.trees) (of_rows (place_divisor s.trees is) o p is))
 
 abbrev pub PartsHaveNumbers : Type 0
 PartsHaveNumbers =

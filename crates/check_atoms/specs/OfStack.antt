@@ -10,8 +10,8 @@ use Rattle.smt_meaning.specs.CheckAtoms.{IsLeaf}
 use Rattle.smt_meaning.specs.Stack.{signature_of}
 use Rattle.smt_meaning.specs.StackCommand.{Stack}
 use Rattle.smt_meaning.specs.Report.{IsPartOfStack}
+use Rattle.smt_laws.specs.Rows.{place_divisor}
 use Rattle.term_store.specs.Terms.{tree_with}
-use Rattle.pair_bounds.specs.Rows.{divisor_at}
 use Rattle.atom_form.specs.AtomTableNumbers.{AreApart}
 use Rattle.search_port.specs.Valid.{IsOf}
 use Rattle.check_atoms.specs.Parts.{IsMarked}
@@ -29,7 +29,7 @@ pub record IsNode (trees : List Tree) (p : ℕ) (h : Head) (is : List ℕ) : Typ
 
 -- the atoms of the term at a place
 abbrev pub part_atoms : Stack → ℕ → Head → List ℕ → List PartAtom
-part_atoms s p h is = of_part (sort_of (signature_of s.frames) s.trees) (divisor_at s.trees is) p h is
+part_atoms s p h is = of_part (sort_of (signature_of s.frames) s.trees) (place_divisor s.trees is) p h is
 
 -- an atom of a part
 pub record IsAtomOfPart (s : Stack) (marks : List Bool) (a : Atom) : Type 0 where

@@ -12,7 +12,7 @@ use Rattle.smt_meaning.specs.Declaration.{Declaration}
 use Rattle.smt_meaning.specs.Term.{Tree, tree_at}
 use Rattle.smt_meaning.specs.Signature.{tree_sort}
 use Rattle.smt_meaning.specs.Atoms.{limit_atom}
-use Rattle.linear_forms.specs.Multiples.{form_at}
+use Rattle.smt_laws.specs.Rows.{place_form}
 use Rattle.pair_bounds.specs.Rows.{limits, limit_of_row, placed_rows}
 use Rattle.bound_clauses.specs.Orders.{order_atoms, both_orders, bound_atom}
 use Rattle.check_atoms.specs.declared.part.PartAtom.{PartAtom}
@@ -23,7 +23,7 @@ abbrev pub atom_of : List Tree → PartAtom → Atom
 atom_of ts (Truth p) = TruthAtom p
 atom_of ts (Same i j) = SameAtom i j
 atom_of ts (Bound o) = bound_atom ts o
-atom_of ts (Limit l) = limit_atom (form_at ts) (limit_of_row l)
+atom_of ts (Limit l) = limit_atom (place_form ts) (limit_of_row l)
 
 -- ---- of two terms that are compared, by the sort of the first
 

@@ -6,8 +6,8 @@ ghost use Rattle.linear_forms.specs.Table.{AreForms};
 ghost use Rattle.linear_forms.specs.Differences.{KnowsForms, Refuses};
 ghost use Rattle.pair_bounds.specs.Pairs.{IsBound};
 ghost use Rattle.pair_bounds.specs.Rows.{limit_of_row, IsRowLimit, RefusesLimit};
-ghost use Rattle.linear_forms.specs.Multiples.{form_at};
 ghost use Rattle.smt_meaning.specs.Atoms.{limit_atom};
+ghost use Rattle.smt_laws.specs.Rows.{place_form};
 ghost use Rattle.bound_clauses.specs.Orders.{bound_atom};
 ghost use Rattle.check_atoms.specs.declared.refusal.Refusal.TheVariants.{Memory};
 ghost use Rattle.check_atoms.specs.PartAtoms.{atom_of};
@@ -102,7 +102,7 @@ fn number_limit(
 ) -> Result<(), Refusal>
     requires limit { IsRowLimit (length forms.old) limit }
     requires known { KnowsForms forms.old }
-    ensures ok { (trees : List Tree) → AreForms trees forms.old → OnOk result (Adds (length trees) atoms.old.atoms (limit_atom (form_at trees) (limit_of_row limit) ∷ []) atoms.new.atoms) }
+    ensures ok { (trees : List Tree) → AreForms trees forms.old → OnOk result (Adds (length trees) atoms.old.atoms (limit_atom (place_form trees) (limit_of_row limit) ∷ []) atoms.new.atoms) }
     ensures err { (trees : List Tree) → AreForms trees forms.old → IfErr result (λ e. (e ≡ Memory) ⊎ RefusesRow trees part limit e) }
     ensures same { forms.new ≡ forms.old }
 {

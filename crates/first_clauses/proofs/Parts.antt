@@ -15,11 +15,11 @@ use Rattle.smt_meaning.specs.Parts.{IsPart, IsPartOfOne, IsOneOf}
 use Rattle.smt_meaning.specs.Signature.{tree_sort}
 use Rattle.smt_meaning.specs.Stack.{signature_of, assertions_of}
 use Rattle.smt_meaning.specs.StackCommand.{Stack}
+use Rattle.smt_laws.specs.Rows.{place_divisor}
 use Rattle.term_store.specs.Terms.{tree_with}
 use Rattle.scope_stack.specs.Facts.{AreSorts}
 use Rattle.scope_stack.specs.Shown.{IsLawful}
 use Rattle.linear_forms.specs.Table.{Known, AreForms, IsLinked}
-use Rattle.pair_bounds.specs.Rows.{divisor_at}
 use Rattle.bound_clauses.specs.Laws.{IsReadable}
 use Rattle.check_atoms.specs.Parts.{IsMarked}
 use Rattle.check_atoms.specs.Marks.{AreStackParts}
@@ -114,6 +114,6 @@ module _ (s : Stack) (marks : List Bool) (law : IsLawful s) (parts : AreStackPar
         arguments = All-weaker (λ i. i < p) (λ i. i < length s.trees) (λ i l. omega (arith, l, inside)) linked.arguments linked.earlier;
       } in
       let all = atoms.each p linked.head linked.arguments m term in
-      let rest = compared_by_head (sort_of ds s.trees) (divisor_at s.trees linked.arguments) linked.head p linked.arguments in
+      let rest = compared_by_head (sort_of ds s.trees) (place_divisor s.trees linked.arguments) linked.head p linked.arguments in
       let listed : part_atoms s p linked.head linked.arguments ≡ Truth p ∷ rest = ap (λ o. truth_by_sort o p ++ rest) bool in
       All-head (Contains table) (TruthAtom p) (map (atom_of s.trees) rest) (subst (λ xs. All (Contains table) (map (atom_of s.trees) xs)) listed all)

@@ -9,6 +9,7 @@ use Rattle.smt_meaning.specs.declared.clauses.Summand.{Summand}
 use Rattle.smt_meaning.specs.Term.{Tree, tree_at}
 use Rattle.smt_meaning.specs.Linear.{Form, form_times, form_plus, form_fits, folding_fits}
 use Rattle.smt_meaning.specs.Division.{combined, combined_fits}
+use Rattle.smt_laws.specs.Rows.{place_form}
 use Rattle.linear_forms.specs.declared.coefficients.Coefficient.{Coefficient}
 use Rattle.linear_forms.specs.declared.multiples.Multiple.{Multiple}
 use Rattle.linear_forms.specs.Sums.{coefficient_of, IsSum}
@@ -16,7 +17,7 @@ use Rattle.linear_forms.specs.Scratch.{AreRanged, AreZero, AreTouched, HasCoeffi
 use Rattle.linear_forms.specs.Folding.{form_of, Holds}
 use Rattle.linear_forms.specs.Table.{Known, known_at, AreForms, HasForm}
 use Rattle.linear_forms.specs.Differences.{KnowsForms}
-use Rattle.linear_forms.specs.Multiples.{form_at, multiples_of, IsMultiple, AreMultiples, IsCombination, OneIsOutside, LeaveRangeTogether, form_in, AreSumsOf, HasOutsideTerm, AreAddedUp, IsFoldedSum}
+use Rattle.linear_forms.specs.Multiples.{multiples_of, IsMultiple, AreMultiples, IsCombination, OneIsOutside, LeaveRangeTogether, form_in, AreSumsOf, HasOutsideTerm, AreAddedUp, IsFoldedSum}
 use Rattle.linear_forms.proofs.SumLemmas.{plus_comm, sums_added_sum, sums_added_at, sum_times_sum, to_higher}
 use Rattle.linear_forms.proofs.FoldLemmas.{false_if, form_constant, form_coefficient, holds_fits}
 use Rattle.linear_forms.proofs.TableLemmas.{known_form, known_outside}
@@ -198,20 +199,20 @@ module _ (ts : List Tree) (known : List Known) (forms : AreForms ts known) where
   one_form : (m : Multiple) → IsMultiple (length known) m → (known_at known m.term).outside ≡ None → HasForm ts m.term (form_in known m.term)
   one_form m w e = known_form ts (length ts) known forms.forms m.term (let l = w.within in let s = size in omega arith) e
 
-  same_form : (ms : List Multiple) → AreMultiples (length known) ms → AreInside known ms → combined (form_at ts) (multiples_of ms) ≡ combined (form_in known) (multiples_of ms)
+  same_form : (ms : List Multiple) → AreMultiples (length known) ms → AreInside known ms → combined (place_form ts) (multiples_of ms) ≡ combined (form_in known) (multiples_of ms)
   same_form [] w e = refl
   same_form (m ∷ ms) w e =
       let f = one_form m (All-head (IsMultiple (length known)) m ms w) (All-head (λ (m : Multiple). (known_at known m.term).outside ≡ None) m ms e) in
       let rest = same_form ms (All-tail (IsMultiple (length known)) m ms w) (All-tail (λ (m : Multiple). (known_at known m.term).outside ≡ None) m ms e) in
-      ap (λ x. form_plus (form_times m.factor x) (combined (form_at ts) (multiples_of ms))) f.form ∙ ap (form_plus (form_times m.factor (form_in known m.term))) rest
+      ap (λ x. form_plus (form_times m.factor x) (combined (place_form ts) (multiples_of ms))) f.form ∙ ap (form_plus (form_times m.factor (form_in known m.term))) rest
 
-  same_fits : (ms : List Multiple) → AreMultiples (length known) ms → AreInside known ms → combined_fits (form_at ts) (multiples_of ms) ≡ combined_fits (form_in known) (multiples_of ms)
+  same_fits : (ms : List Multiple) → AreMultiples (length known) ms → AreInside known ms → combined_fits (place_form ts) (multiples_of ms) ≡ combined_fits (form_in known) (multiples_of ms)
   same_fits [] w e = refl
   same_fits (m ∷ ms) w e =
       let f = one_form m (All-head (IsMultiple (length known)) m ms w) (All-head (λ (m : Multiple). (known_at known m.term).outside ≡ None) m ms e) in
       let rest = same_fits ms (All-tail (IsMultiple (length known)) m ms w) (All-tail (λ (m : Multiple). (known_at known m.term).outside ≡ None) m ms e) in
-      ap (λ b. b && (form_fits (form_times m.factor (form_at ts m.term)) && form_fits (combined (form_at ts) (multiples_of (m ∷ ms))))) rest
-      ∙ ap (λ x. combined_fits (form_in known) (multiples_of ms) && (form_fits (form_times m.factor x) && form_fits (combined (form_at ts) (multiples_of (m ∷ ms))))) f.form
+      ap (λ b. b && (form_fits (form_times m.factor (place_form ts m.term)) && form_fits (combined (place_form ts) (multiples_of (m ∷ ms))))) rest
+      ∙ ap (λ x. combined_fits (form_in known) (multiples_of ms) && (form_fits (form_times m.factor x) && form_fits (combined (place_form ts) (multiples_of (m ∷ ms))))) f.form
       ∙ ap (λ x. combined_fits (form_in known) (multiples_of ms) && (form_fits (form_times m.factor (form_in known m.term)) && form_fits x)) (same_form (m ∷ ms) w e)
 
   module _ (ms : List Multiple) (w : AreMultiples (length known) ms) (inside : AreInside known ms) where

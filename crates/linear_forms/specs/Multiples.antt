@@ -2,8 +2,9 @@
 use Rattle.std.specs.Prelude.{◌≡◌, ℕ, ◌<◌, true, false, List, map, length, All, Contains, Some, ℤ}
 use Rattle.fraction128.specs.Whole.{InRange}
 use Rattle.smt_meaning.specs.Term.{Tree, tree_at}
-use Rattle.smt_meaning.specs.Linear.{Form, form_fits, folding_fits, linear_form}
+use Rattle.smt_meaning.specs.Linear.{Form, form_fits, folding_fits}
 use Rattle.smt_meaning.specs.Division.{combined, combined_fits}
+use Rattle.smt_laws.specs.Rows.{place_form}
 use Rattle.linear_forms.specs.declared.coefficients.Coefficient.{Coefficient}
 use Rattle.linear_forms.specs.declared.differences.DifferenceError.{DifferenceError}
 use Rattle.linear_forms.specs.declared.differences.DifferenceError.TheVariants.{Term, Pair, Memory}
@@ -11,10 +12,6 @@ use Rattle.linear_forms.specs.declared.multiples.Multiple.{Multiple}
 use Rattle.linear_forms.specs.Sums.{IsSum}
 use Rattle.linear_forms.specs.Folding.{Holds}
 use Rattle.linear_forms.specs.Table.{Known, known_at, IsOutside}
-
--- the form of the term at a place
-abbrev pub form_at : List Tree → ℕ → Form
-form_at ts p = linear_form ts (tree_at ts p)
 
 abbrev pub multiple_of : Multiple → ℤ × ℕ
 multiple_of m = (m.factor, m.term)
@@ -33,8 +30,8 @@ AreMultiples count ms = All (IsMultiple count) ms
 -- folding each of the terms, and then the sum of the multiples, stays in the range and gives this form
 pub record IsCombination (ts : List Tree) (ms : List Multiple) (f : Form) : Type 0 where
   pub terms_fit : All (λ (m : Multiple). folding_fits ts (tree_at ts m.term) ≡ true) ms
-  pub fits : combined_fits (form_at ts) (multiples_of ms) ≡ true
-  pub form : f ≡ combined (form_at ts) (multiples_of ms)
+  pub fits : combined_fits (place_form ts) (multiples_of ms) ≡ true
+  pub form : f ≡ combined (place_form ts) (multiples_of ms)
   pub is_sum : IsSum (length ts) f.sum
   pub ranges : form_fits f ≡ true
 
@@ -47,7 +44,7 @@ pub record OneIsOutside (ts : List Tree) (ms : List Multiple) (part : ℕ) : Typ
 -- folding each of the terms stays in the range, and folding the sum of the multiples doesn't
 pub record LeaveRangeTogether (ts : List Tree) (ms : List Multiple) : Type 0 where
   pub terms_fit : All (λ (m : Multiple). folding_fits ts (tree_at ts m.term) ≡ true) ms
-  pub outside : combined_fits (form_at ts) (multiples_of ms) ≡ false
+  pub outside : combined_fits (place_form ts) (multiples_of ms) ≡ false
 
 -- why the sum of multiples is refused
 abbrev pub RefusesMultiples : List Tree → List Multiple → DifferenceError → Type 0

@@ -1,12 +1,12 @@
 -- What a consistent log that makes the clauses of a division true gives.
-use Rattle.std.proofs.Common.{◌≡◌, ◌≢◌, ◌⊎◌, inl, inr, ℕ, zero, suc, ◌<◌, ◌||◌, Bool, true, false, List, [], ◌∷◌, ◌++◌, map, length, All, Contains, Option, Some, None, refl, sym, ap, subst, ◌∙◌, arith, lit<}
+use Rattle.std.proofs.Common.{◌≡◌, ◌≢◌, ◌⊎◌, inl, inr, ℕ, zero, suc, ◌||◌, Bool, true, false, List, [], ◌∷◌, ◌++◌, map, length, All, Contains, Option, Some, None, refl, sym, ap, subst, ◌∙◌, arith, lit<}
 use Rattle.std.specs.Prelude.{flat_map, IsTrue, ℤ, pos, negsuc, ◌-ℤ◌}
 use Rattle.std.proofs.lemmas.Bool.{eqb-true}
 use Rattle.std.proofs.lemmas.List.Elements.{All-cons, All-nil, All-head, All-tail, All-append, All-map, All-contains}
 use Rattle.literals.specs.Signed.{Signed}
 use Rattle.smt_laws.proofs.Both.{and_both}
 use Rattle.smt_laws.specs.ClauseLaws.{DivisionRowsForce}
-use Rattle.smt_laws.specs.Rows.{limit_holds, one_holds, truth_holds, row_holds, rows_hold}
+use Rattle.smt_laws.specs.Rows.{limit_holds, one_holds, truth_holds, row_holds, rows_hold, place_divisor}
 use Rattle.smt_meaning.specs.declared.values.Value.{Value}
 use Rattle.smt_meaning.specs.declared.values.Value.TheVariants.{Whole}
 use Rattle.smt_meaning.specs.declared.terms.Operator.{Operator}
@@ -18,7 +18,7 @@ use Rattle.smt_meaning.specs.Division.{always, unless, beyond, left_by}
 use Rattle.search_port.specs.State.{IsConsistent, IsMadeTrue}
 use Rattle.pair_bounds.specs.declared.rows.RowLimit.{RowLimit}
 use Rattle.pair_bounds.specs.declared.rows.Row.{Row}
-use Rattle.pair_bounds.specs.Rows.{limits, limit_of_row, row_of, divisor_at, placed_row, placed_rows}
+use Rattle.pair_bounds.specs.Rows.{limits, limit_of_row, row_of, placed_row, placed_rows}
 use Rattle.equality_clauses.specs.Ties.{literal, yes}
 use Rattle.order_clauses.specs.Clauses.{truth_number, limit_number, of_limit, of_other, row_numbers, row_truth, row_clause, row_part, division_part}
 use Rattle.order_clauses.specs.Needed.{limits_of_division}
@@ -176,7 +176,7 @@ module _ (force : DivisionRowsForce ℕ) (v : ℕ → Value) (log : List Signed)
   of_quotient [] s by fits made = none_true _ s
   of_quotient (a ∷ []) s by fits made = none_true _ s
   of_quotient (a ∷ d ∷ []) s by fits made = λ is.
-      let n : ℤ = divisor_at ts (a ∷ d ∷ []) in
+      let n : ℤ = place_divisor ts (a ∷ d ∷ []) in
       let h = all_hold v log consistent ts table p false (placed_rows Divide n p (a ∷ d ∷ [])) (quotient_silent n p (a ∷ d ∷ [])) fits made in
       is ∙ ap Whole (((force (number_at v) false).0 n by.1).quotient_is p a d h ∙ ap (quotient (number_at v a)) (sym by.0))
   of_quotient (a ∷ d ∷ q ∷ is) s by fits made = absurd (let e : suc (suc (suc (length is))) ≡ 2 = eqb-true (suc (suc (suc (length is)))) 2 s in omega (arith, e))
@@ -186,7 +186,7 @@ module _ (force : DivisionRowsForce ℕ) (v : ℕ → Value) (log : List Signed)
   of_remainder (a ∷ []) s by fits made = none_true _ s
   of_remainder (a ∷ d ∷ []) s by fits made = none_true _ s
   of_remainder (a ∷ d ∷ q ∷ []) s by fits made = λ is.
-      let n : ℤ = divisor_at ts (a ∷ d ∷ q ∷ []) in
+      let n : ℤ = place_divisor ts (a ∷ d ∷ q ∷ []) in
       let h = all_hold v log consistent ts table p false (placed_rows Modulo n p (a ∷ d ∷ q ∷ [])) (remainder_silent n p (a ∷ d ∷ q ∷ [])) fits made in
       is ∙ ap Whole ((((force (number_at v) false).0 n by.1).remainder_is p a d q h).1 ∙ ap (remainder (number_at v a)) (sym by.0))
   of_remainder (a ∷ d ∷ q ∷ i ∷ is) s by fits made = absurd (let e : suc (suc (suc (suc (length is)))) ≡ 3 = eqb-true (suc (suc (suc (suc (length is))))) 3 s in omega (arith, e))
@@ -194,7 +194,7 @@ module _ (force : DivisionRowsForce ℕ) (v : ℕ → Value) (log : List Signed)
   of_absolute : (is : List ℕ) → Decides Absolute is
   of_absolute [] s by fits made = none_true _ s
   of_absolute (a ∷ []) s by fits made = λ is.
-      let n : ℤ = divisor_at ts (a ∷ []) in
+      let n : ℤ = place_divisor ts (a ∷ []) in
       let h = all_hold v log consistent ts table p false (placed_rows Absolute n p (a ∷ [])) (absolute_silent n p (a ∷ [])) fits made in
       is ∙ ap Whole ((force (number_at v) false).1.absolute_is n p a h)
   of_absolute (a ∷ d ∷ is) s by fits made = absurd (let e : suc (suc (length is)) ≡ 1 = eqb-true (suc (suc (length is))) 1 s in omega (arith, e))
@@ -204,7 +204,7 @@ module _ (force : DivisionRowsForce ℕ) (v : ℕ → Value) (log : List Signed)
   of_divisibility (a ∷ []) s by fits made = none_true _ s
   of_divisibility (a ∷ d ∷ []) s by fits made = none_true _ s
   of_divisibility (a ∷ d ∷ q ∷ []) s by fits made =
-      let n : ℤ = divisor_at ts (a ∷ d ∷ q ∷ []) in
+      let n : ℤ = place_divisor ts (a ∷ d ∷ q ∷ []) in
       let rs : List Row = placed_rows Divisible n p (a ∷ d ∷ q ∷ []) in
       let all = made_all v log consistent ts table p rs fits made in
       let e : Row = placed_row (always [] (pos 0)) in

@@ -6,7 +6,7 @@ use Rattle.std.proofs.lemmas.List.Elements.{All-cons, All-nil, All-head, All-tai
 use Rattle.literals.specs.Signed.{Signed, sign, some_true}
 use Rattle.smt_laws.proofs.Both.{and_left, and_right}
 use Rattle.smt_laws.specs.ClauseLaws.{LinearFormHasValue, LimitsHaveValues, IsRowOf, RowsAreOfTheTerm, DivisionHoldsByPlaces}
-use Rattle.smt_laws.specs.Rows.{limit_holds, one_holds, truth_holds, row_holds, rows_hold}
+use Rattle.smt_laws.specs.Rows.{limit_holds, one_holds, truth_holds, row_holds, rows_hold, place_form, place_divisor}
 use Rattle.smt_meaning.specs.declared.terms.Operator.{Operator}
 use Rattle.smt_meaning.specs.declared.terms.Head.TheVariants.{Theory}
 use Rattle.smt_meaning.specs.declared.clauses.Atom.{Atom}
@@ -19,10 +19,9 @@ use Rattle.smt_meaning.specs.Linear.{form_value}
 use Rattle.smt_meaning.specs.Division.{Limit, operator_rows}
 use Rattle.search_port.specs.State.{atom_at}
 use Rattle.clause_form.specs.Node.{HasNoAtomTwice}
-use Rattle.linear_forms.specs.Multiples.{form_at}
 use Rattle.pair_bounds.specs.declared.rows.RowLimit.{RowLimit}
 use Rattle.pair_bounds.specs.declared.rows.Row.{Row}
-use Rattle.pair_bounds.specs.Rows.{listed, limits, limit_of_row, row_of, divisor_at, placed_rows, RowsAreAtoms}
+use Rattle.pair_bounds.specs.Rows.{listed, limits, limit_of_row, row_of, placed_rows, RowsAreAtoms}
 use Rattle.equality_clauses.specs.Ties.{literal, yes}
 use Rattle.bound_clauses.specs.Laws.{IsReadable, ConstantIsOver, ConstantHasValue}
 use Rattle.order_clauses.specs.Clauses.{limit_bound, limit_number, of_limit, of_other, unless_same, other_numbers, row_numbers, row_truth, row_clause, row_part, truth_number, division_part}
@@ -175,16 +174,16 @@ module _ (ds : List Declaration) (ts : List Tree) (table : List Atom) (is_over :
 
   module _ (form_value_is : LinearFormHasValue) (limit_value : LimitsHaveValues ℕ) (of_term : RowsAreOfTheTerm ℕ) (holds : DivisionHoldsByPlaces) (atoms_are : RowsAreAtoms)
       (o : Operator) (p : ℕ) (is : List ℕ) (e : tree_at ts p ≡ node (Theory o) (pick ts is)) (readable : All (IsReadable ts) (p ∷ is)) where
-    rows_same : map row_of (placed_rows o (divisor_at ts is) p is) ≡ operator_rows o (divisor_at ts is) p is
+    rows_same : map row_of (placed_rows o (place_divisor ts is) p is) ≡ operator_rows o (place_divisor ts is) p is
     rows_same = (atoms_are ts o p is e).rows
 
     abbrev IsOver : Row → Type 0
     IsOver r = IsRowOf (Contains (p ∷ is)) (row_of r)
 
-    over : All IsOver (placed_rows o (divisor_at ts is) p is)
+    over : All IsOver (placed_rows o (place_divisor ts is) p is)
     over =
-        All-unmap (IsRowOf (Contains (p ∷ is))) row_of (placed_rows o (divisor_at ts is) p is)
-        (subst (All (IsRowOf (Contains (p ∷ is)))) (sym rows_same) (of_term o (divisor_at ts is) p is))
+        All-unmap (IsRowOf (Contains (p ∷ is))) row_of (placed_rows o (place_divisor ts is) p is)
+        (subst (All (IsRowOf (Contains (p ∷ is)))) (sym rows_same) (of_term o (place_divisor ts is) p is))
 
     module _ (I : Interpretation) where
       abbrev value : ℕ → ℤ
@@ -199,20 +198,20 @@ module _ (ds : List Declaration) (ts : List Tree) (table : List Atom) (is_over :
           All-cons (λ (r : Row). IsTrue (row_holds value truth (row_of r))) r rs (and_left (row_holds value truth (row_of r)) (rows_hold value truth (map row_of rs)) h)
           (each_holds rs (and_right (row_holds value truth (row_of r)) (rows_hold value truth (map row_of rs)) h))
 
-      all_hold : All (λ (r : Row). IsTrue (row_holds value truth (row_of r))) (placed_rows o (divisor_at ts is) p is)
+      all_hold : All (λ (r : Row). IsTrue (row_holds value truth (row_of r))) (placed_rows o (place_divisor ts is) p is)
       all_hold =
-          each_holds (placed_rows o (divisor_at ts is) p is)
+          each_holds (placed_rows o (place_divisor ts is) p is)
           (subst (λ rs. IsTrue (rows_hold value truth rs)) (sym rows_same) (holds ts I o p is e (All-head (IsReadable ts) p is readable).linear))
 
-      form_is : (m : ℤ × ℕ) → Contains (p ∷ is) m.1 → form_value ts I (form_at ts m.1) ≡ value m.1
+      form_is : (m : ℤ × ℕ) → Contains (p ∷ is) m.1 → form_value ts I (place_form ts m.1) ≡ value m.1
       form_is m c = let r : IsReadable ts m.1 = All-contains (IsReadable ts) (p ∷ is) m.1 readable c in sym (form_value_is ts I (tree_at ts m.1) r.linear r.leaves_within)
 
       limit_right : (l : RowLimit) → Contains table (limit_bound ts l) → All (λ (m : ℤ × ℕ). Contains (p ∷ is) m.1) (limit_of_row l).multiples
           → atom_true ts I (atom_at table (limit_number ts table l)) ≡ limit_holds value (limit_of_row l)
       limit_right l c terms =
           ap (atom_true ts I) (number_read table (limit_bound ts l) c)
-          ∙ limit_value ts I (form_at ts) value (limit_of_row l)
-          (All-weaker (λ (m : ℤ × ℕ). Contains (p ∷ is) m.1) (λ (m : ℤ × ℕ). form_value ts I (form_at ts m.1) ≡ value m.1) form_is (limit_of_row l).multiples terms)
+          ∙ limit_value ts I (place_form ts) value (limit_of_row l)
+          (All-weaker (λ (m : ℤ × ℕ). Contains (p ∷ is) m.1) (λ (m : ℤ × ℕ). form_value ts I (place_form ts m.1) ≡ value m.1) form_is (limit_of_row l).multiples terms)
 
       limits_right : (ls : List RowLimit) → All (λ l. Contains table (limit_bound ts l)) ls → All (λ (l : Limit ℕ). All (λ (m : ℤ × ℕ). Contains (p ∷ is) m.1) l.multiples) (map limit_of_row ls)
           → All (IsRight ts table (λ n. atom_true ts I (atom_at table n)) value) ls
@@ -227,5 +226,5 @@ module _ (ds : List Declaration) (ts : List Tree) (table : List Atom) (is_over :
 
     pub division_sound : All (Contains table) (atoms_of_division ts o p is) → AreSound ds ts table (division_part ts table o p is)
     division_sound has =
-        All-flat IsGood (IsSound ds ts table) (row_part ts table p) good_sound (placed_rows o (divisor_at ts is) p is)
-        (λ k d h. (All-unflat (Contains table) (atoms_of_row ts p) (placed_rows o (divisor_at ts is) p is) has k d h, over k d h, λ I. all_hold I k d h))
+        All-flat IsGood (IsSound ds ts table) (row_part ts table p) good_sound (placed_rows o (place_divisor ts is) p is)
+        (λ k d h. (All-unflat (Contains table) (atoms_of_row ts p) (placed_rows o (place_divisor ts is) p is) has k d h, over k d h, λ I. all_hold I k d h))

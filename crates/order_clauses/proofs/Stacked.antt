@@ -15,10 +15,10 @@ use Rattle.smt_meaning.specs.TreeShape.{place_of}
 use Rattle.smt_meaning.specs.Signature.{tree_sort, is_int, all_of, sort_eq, if_so, operator_sort}
 use Rattle.smt_meaning.specs.Nodes.{pick}
 use Rattle.smt_meaning.specs.Atoms.{limit_atom, row_atoms, division_atoms, pair_atoms, of_neighbours_from, of_first_with, of_pairs, comparison_atoms}
-use Rattle.linear_forms.specs.Multiples.{form_at}
+use Rattle.smt_laws.specs.Rows.{place_form, place_divisor}
 use Rattle.pair_bounds.specs.declared.rows.RowLimit.{RowLimit}
 use Rattle.pair_bounds.specs.declared.rows.Row.{Row}
-use Rattle.pair_bounds.specs.Rows.{limits, limit_of_row, row_of, divisor_at, placed_rows, RowsAreAtoms}
+use Rattle.pair_bounds.specs.Rows.{limits, limit_of_row, row_of, placed_rows, RowsAreAtoms}
 use Rattle.bound_clauses.specs.Orders.{order_atoms, bound_atom}
 use Rattle.bound_clauses.specs.Laws.{orders, OrdersAreComparisons}
 use Rattle.order_clauses.specs.Pairs.{pair, neighbours, with_each, each_two, pairs_of, orders_of_pair}
@@ -148,27 +148,27 @@ module _ (ts : List Tree) (table : List Atom) (p : ℕ) where
   truths_in None h = All-nil (Contains table)
   truths_in (Some b) h = All-cons (Contains table) (Truth p) [] (h b refl) (All-nil (Contains table))
 
-  bounds_map : (ls : List RowLimit) → All (Contains table) (map (limit_atom (form_at ts)) (map limit_of_row ls)) → All (Contains table) (map (limit_bound ts) ls)
+  bounds_map : (ls : List RowLimit) → All (Contains table) (map (limit_atom (place_form ts)) (map limit_of_row ls)) → All (Contains table) (map (limit_bound ts) ls)
   bounds_map [] h = All-nil (Contains table)
   bounds_map (l ∷ ls) h =
-      All-cons (Contains table) (limit_bound ts l) (map (limit_bound ts) ls) (All-head (Contains table) (limit_bound ts l) (map (limit_atom (form_at ts)) (map limit_of_row ls)) h)
-      (bounds_map ls (All-tail (Contains table) (limit_bound ts l) (map (limit_atom (form_at ts)) (map limit_of_row ls)) h))
+      All-cons (Contains table) (limit_bound ts l) (map (limit_bound ts) ls) (All-head (Contains table) (limit_bound ts l) (map (limit_atom (place_form ts)) (map limit_of_row ls)) h)
+      (bounds_map ls (All-tail (Contains table) (limit_bound ts l) (map (limit_atom (place_form ts)) (map limit_of_row ls)) h))
 
-  rows_in : (rs : List Row) → All KnowsTruth rs → All (Contains table) (flat_map (row_atoms (form_at ts)) (map row_of rs)) → All (Contains table) (flat_map (atoms_of_row ts p) rs)
+  rows_in : (rs : List Row) → All KnowsTruth rs → All (Contains table) (flat_map (row_atoms (place_form ts)) (map row_of rs)) → All (Contains table) (flat_map (atoms_of_row ts p) rs)
   rows_in [] t h = All-nil (Contains table)
   rows_in (r ∷ rs) t h =
-      let own : List Atom = row_atoms (form_at ts) (row_of r) in
-      let others : List Atom = flat_map (row_atoms (form_at ts)) (map row_of rs) in
+      let own : List Atom = row_atoms (place_form ts) (row_of r) in
+      let others : List Atom = flat_map (row_atoms (place_form ts)) (map row_of rs) in
       All-append (Contains table) (atoms_of_row ts p r) (flat_map (atoms_of_row ts p) rs)
       (All-append (Contains table) (row_truth_atoms p r.truth) (map (limit_bound ts) (limits r)) (truths_in r.truth (All-head KnowsTruth r rs t)) (bounds_map (limits r) (All-left (Contains table) own others h)))
       (rows_in rs (All-tail KnowsTruth r rs t) (All-right (Contains table) own others h))
 
-  division_in : RowsAreAtoms → (o : Operator) (is : List ℕ) → tree_at ts p ≡ node (Theory o) (pick ts is) → All KnowsTruth (placed_rows o (divisor_at ts is) p is)
+  division_in : RowsAreAtoms → (o : Operator) (is : List ℕ) → tree_at ts p ≡ node (Theory o) (pick ts is) → All KnowsTruth (placed_rows o (place_divisor ts is) p is)
       → All (Contains table) (division_atoms ts (Theory o) (pick ts is)) → All (Contains table) (atoms_of_division ts o p is)
   division_in atoms_are o is e t h =
       let a = atoms_are ts o p is e in
-      rows_in (placed_rows o (divisor_at ts is) p is) t
-      (subst (λ rs. All (Contains table) (flat_map (row_atoms (form_at ts)) rs)) (sym a.rows) (subst (All (Contains table)) a.atoms h))
+      rows_in (placed_rows o (place_divisor ts is) p is) t
+      (subst (λ rs. All (Contains table) (flat_map (row_atoms (place_form ts)) rs)) (sym a.rows) (subst (All (Contains table)) a.atoms h))
 
   silent_knows : (rs : List Row) → All IsSilent rs → All KnowsTruth rs
   silent_knows rs h = λ k d l b e. absurd (some_none b (sym e ∙ h k d l))
@@ -220,11 +220,11 @@ part_atoms compared rows ds ts sorts table Ite p (c ∷ i ∷ j ∷ []) e sorted
     (of_pair ds ts table true p i place_p place_i int_p (All-left (Contains table) first second both))
     (All-append (Contains table) (atoms_of_pair ts true (pair p j)) [] (of_pair ds ts table true p j place_p place_j int_p (All-right (Contains table) first second both)) (All-nil (Contains table))))
 part_atoms compared rows ds ts sorts table Divide p is e sorted placed truths has =
-    division_in ts table p rows Divide is e (silent_knows ts table p (placed_rows Divide (divisor_at ts is) p is) (quotient_silent (divisor_at ts is) p is)) has
+    division_in ts table p rows Divide is e (silent_knows ts table p (placed_rows Divide (place_divisor ts is) p is) (quotient_silent (place_divisor ts is) p is)) has
 part_atoms compared rows ds ts sorts table Modulo p is e sorted placed truths has =
-    division_in ts table p rows Modulo is e (silent_knows ts table p (placed_rows Modulo (divisor_at ts is) p is) (remainder_silent (divisor_at ts is) p is)) has
+    division_in ts table p rows Modulo is e (silent_knows ts table p (placed_rows Modulo (place_divisor ts is) p is) (remainder_silent (place_divisor ts is) p is)) has
 part_atoms compared rows ds ts sorts table Absolute p is e sorted placed truths has =
-    division_in ts table p rows Absolute is e (silent_knows ts table p (placed_rows Absolute (divisor_at ts is) p is) (absolute_silent (divisor_at ts is) p is)) has
+    division_in ts table p rows Absolute is e (silent_knows ts table p (placed_rows Absolute (place_divisor ts is) p is) (absolute_silent (place_divisor ts is) p is)) has
 part_atoms compared rows ds ts sorts table Divisible p is e sorted placed truths has =
     let truth : Contains table (Truth p) =
     own_truth compared ds ts sorts table p is sorted truths (is_bool_by compared ds ts sorts table Divisible (all_of Ints (map (sort_at sorts) is)) p is e sorted refl) in

@@ -9,10 +9,10 @@ use Rattle.smt_meaning.specs.declared.clauses.Atom.{Atom}
 use Rattle.smt_meaning.specs.declared.clauses.Atom.TheVariants.{Truth, AtMost as BoundAtom}
 use Rattle.smt_meaning.specs.Term.{Tree}
 use Rattle.smt_meaning.specs.Atoms.{limit_atom}
-use Rattle.linear_forms.specs.Multiples.{form_at}
+use Rattle.smt_laws.specs.Rows.{place_form, place_divisor}
 use Rattle.pair_bounds.specs.declared.rows.RowLimit.{RowLimit}
 use Rattle.pair_bounds.specs.declared.rows.Row.{Row}
-use Rattle.pair_bounds.specs.Rows.{limit_of_row, divisor_at, placed_rows}
+use Rattle.pair_bounds.specs.Rows.{limit_of_row, placed_rows}
 use Rattle.equality_clauses.specs.Ties.{literal, yes, comparison_clauses, choice_clauses}
 use Rattle.bound_clauses.specs.declared.orders.Sense.TheVariants.{NotAbove}
 use Rattle.bound_clauses.specs.declared.orders.Order.{Order}
@@ -83,7 +83,7 @@ has_rows Divisible = true
 has_rows o = false
 
 abbrev pub limit_bound : List Tree → RowLimit → Atom
-limit_bound ts l = limit_atom (form_at ts) (limit_of_row l)
+limit_bound ts l = limit_atom (place_form ts) (limit_of_row l)
 
 abbrev pub limit_number : List Tree → List Atom → RowLimit → ℕ
 limit_number ts table l = number_in table (limit_bound ts l)
@@ -120,7 +120,7 @@ row_part ts table p r = (of_limit ts table r.limit ++ of_other ts table r.other)
 
 -- `div`, `mod`, `abs` and divisibility: the clause of each row
 abbrev pub division_part : List Tree → List Atom → Operator → ℕ → List ℕ → List (List Signed)
-division_part ts table o p is = flat_map (row_part ts table p) (placed_rows o (divisor_at ts is) p is)
+division_part ts table o p is = flat_map (row_part ts table p) (placed_rows o (place_divisor ts is) p is)
 
 -- ---- parts
 

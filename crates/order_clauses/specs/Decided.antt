@@ -7,9 +7,9 @@ use Rattle.smt_meaning.specs.declared.terms.Operator.TheVariants.{Ite, Absolute,
 use Rattle.smt_meaning.specs.declared.clauses.Atom.{Atom}
 use Rattle.smt_meaning.specs.Term.{Tree, operate, truth_of, number_of, same_value}
 use Rattle.smt_meaning.specs.Signature.{stands_with}
-use Rattle.smt_laws.specs.Rows.{limit_holds}
+use Rattle.smt_laws.specs.Rows.{limit_holds, place_divisor}
 use Rattle.pair_bounds.specs.declared.rows.RowLimit.{RowLimit}
-use Rattle.pair_bounds.specs.Rows.{limit_of_row, divisor_at}
+use Rattle.pair_bounds.specs.Rows.{limit_of_row}
 use Rattle.search_port.specs.State.{IsConsistent, IsMadeTrue}
 use Rattle.atom_form.specs.AtomTableNumbers.{IsAt}
 use Rattle.equality_clauses.specs.Ties.{literal}
@@ -79,7 +79,7 @@ FitsLimits v log ts table ls = All (λ (l : RowLimit). IsGiven log (limit_number
 -- the second argument has the number of its form as its value, which isn't 0
 abbrev pub DividesBy : (ℕ → Value) → List Tree → Operator → List ℕ → Type 0
 DividesBy v ts Absolute is = Unit {0}
-DividesBy v ts o (a ∷ d ∷ is) = (number_at v d ≡ divisor_at ts (a ∷ d ∷ is)) × (divisor_at ts (a ∷ d ∷ is) ≢ pos 0)
+DividesBy v ts o (a ∷ d ∷ is) = (number_at v d ≡ place_divisor ts (a ∷ d ∷ is)) × (place_divisor ts (a ∷ d ∷ is) ≢ pos 0)
 DividesBy v ts o is = Unit {0}
 
 -- a divisibility has its operator's truth value in the log, and another term its operator's value

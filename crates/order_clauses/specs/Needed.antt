@@ -13,9 +13,10 @@ use Rattle.smt_meaning.specs.TreeShape.{place_of}
 use Rattle.smt_meaning.specs.Signature.{tree_sort}
 use Rattle.smt_meaning.specs.Nodes.{pick}
 use Rattle.smt_meaning.specs.Atoms.{comparison_atoms}
+use Rattle.smt_laws.specs.Rows.{place_divisor}
 use Rattle.pair_bounds.specs.declared.rows.RowLimit.{RowLimit}
 use Rattle.pair_bounds.specs.declared.rows.Row.{Row}
-use Rattle.pair_bounds.specs.Rows.{limits, divisor_at, placed_rows}
+use Rattle.pair_bounds.specs.Rows.{limits, placed_rows}
 use Rattle.bound_clauses.specs.declared.orders.Order.{Order}
 use Rattle.bound_clauses.specs.Orders.{order_atoms, bound_atom}
 use Rattle.order_clauses.specs.declared.pairs.Pair.{Pair}
@@ -47,7 +48,7 @@ orders_of_part sorts o p is = []
 
 -- the limits whose bounds the clauses of a division are over
 abbrev pub limits_of_division : List Tree → Operator → ℕ → List ℕ → List RowLimit
-limits_of_division ts o p is = flat_map limits (placed_rows o (divisor_at ts is) p is)
+limits_of_division ts o p is = flat_map limits (placed_rows o (place_divisor ts is) p is)
 
 -- ---- atoms
 
@@ -79,7 +80,7 @@ abbrev pub atoms_of_row : List Tree → ℕ → Row → List Atom
 atoms_of_row ts p r = row_truth_atoms p r.truth ++ map (limit_bound ts) (limits r)
 
 abbrev pub atoms_of_division : List Tree → Operator → ℕ → List ℕ → List Atom
-atoms_of_division ts o p is = flat_map (atoms_of_row ts p) (placed_rows o (divisor_at ts is) p is)
+atoms_of_division ts o p is = flat_map (atoms_of_row ts p) (placed_rows o (place_divisor ts is) p is)
 
 abbrev pub atoms_of_part : List Sort → List Tree → Operator → ℕ → List ℕ → List Atom
 atoms_of_part sorts ts AtMost p is = atoms_of_order ts AtMost p is

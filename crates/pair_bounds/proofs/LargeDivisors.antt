@@ -13,10 +13,11 @@ use Rattle.smt_meaning.specs.TreeShape.{is_linear, are_linear, is_divisor, quoti
 use Rattle.smt_meaning.specs.Nodes.{pick}
 use Rattle.smt_meaning.specs.Linear.{Form, form_times, form_fits, sum_fits, sum_times, linear_form, leaf_form}
 use Rattle.smt_meaning.specs.Division.{Row, limit, always, beyond, combined, combined_fits, limit_fits, row_fits, rows_fit, rows_at}
+use Rattle.smt_laws.specs.Rows.{place_divisor}
 use Rattle.linear_forms.proofs.SumLemmas.{fits_in_range}
 use Rattle.linear_forms.proofs.FoldLemmas.{false_if}
 use Rattle.linear_forms.proofs.ProductLemmas.{times_each}
-use Rattle.pair_bounds.specs.Rows.{divides, divisor_at, LargeDivisorLeavesRange}
+use Rattle.pair_bounds.specs.Rows.{divides, LargeDivisorLeavesRange}
 
 by_one : (z : ℤ) → z *ℤ pos 1 ≡ z
 by_one (pos n) = ap pos (omega arith)
@@ -62,24 +63,24 @@ abbrev later : List (Row Tree) → List (Row Tree)
 later [] = []
 later (r ∷ rs) = rs
 
-by_shape : (ts : List Tree) (o : Operator) (is : List ℕ) → IsTrue (divides o) → IsTrue (is_linear (node (Theory o) (pick ts is))) → (InRange (divisor_at ts is) → ⊥)
+by_shape : (ts : List Tree) (o : Operator) (is : List ℕ) → IsTrue (divides o) → IsTrue (is_linear (node (Theory o) (pick ts is))) → (InRange (place_divisor ts is) → ⊥)
     → rows_fit ts (rows_at ts (Theory o) (pick ts is)) ≡ true → ⊥
 by_shape ts Divide [] d h out = none_true _ h
 by_shape ts Divide (a ∷ []) d h out = none_true _ h
 by_shape ts Divide (a ∷ n ∷ []) d h out =
-    first_outside ts (divisor_at ts (a ∷ n ∷ [])) out (tree_at ts a) (node (Theory Divide) (pick ts (a ∷ n ∷ []))) (later (rows_at ts (Theory Divide) (pick ts (a ∷ n ∷ [])))) refl
+    first_outside ts (place_divisor ts (a ∷ n ∷ [])) out (tree_at ts a) (node (Theory Divide) (pick ts (a ∷ n ∷ []))) (later (rows_at ts (Theory Divide) (pick ts (a ∷ n ∷ [])))) refl
 by_shape ts Divide (a ∷ n ∷ q ∷ is) d h out = none_true _ h
 by_shape ts Modulo [] d h out = none_true _ h
 by_shape ts Modulo (a ∷ []) d h out = none_true _ h
 by_shape ts Modulo (a ∷ n ∷ []) d h out = none_true _ h
 by_shape ts Modulo (a ∷ n ∷ q ∷ []) d h out =
-    first_outside ts (divisor_at ts (a ∷ n ∷ q ∷ [])) out (tree_at ts a) (tree_at ts q) (later (rows_at ts (Theory Modulo) (pick ts (a ∷ n ∷ q ∷ [])))) (beside ts (tree_at ts a) (tree_at ts n) (tree_at ts q) (pick ts (a ∷ n ∷ q ∷ [])) h)
+    first_outside ts (place_divisor ts (a ∷ n ∷ q ∷ [])) out (tree_at ts a) (tree_at ts q) (later (rows_at ts (Theory Modulo) (pick ts (a ∷ n ∷ q ∷ [])))) (beside ts (tree_at ts a) (tree_at ts n) (tree_at ts q) (pick ts (a ∷ n ∷ q ∷ [])) h)
 by_shape ts Modulo (a ∷ n ∷ q ∷ i ∷ is) d h out = none_true _ h
 by_shape ts Divisible [] d h out = none_true _ h
 by_shape ts Divisible (a ∷ []) d h out = none_true _ h
 by_shape ts Divisible (a ∷ n ∷ []) d h out = none_true _ h
 by_shape ts Divisible (a ∷ n ∷ q ∷ []) d h out =
-    first_outside ts (divisor_at ts (a ∷ n ∷ q ∷ [])) out (tree_at ts a) (tree_at ts q) (later (rows_at ts (Theory Divisible) (pick ts (a ∷ n ∷ q ∷ [])))) (beside ts (tree_at ts a) (tree_at ts n) (tree_at ts q) (pick ts (a ∷ n ∷ q ∷ [])) h)
+    first_outside ts (place_divisor ts (a ∷ n ∷ q ∷ [])) out (tree_at ts a) (tree_at ts q) (later (rows_at ts (Theory Divisible) (pick ts (a ∷ n ∷ q ∷ [])))) (beside ts (tree_at ts a) (tree_at ts n) (tree_at ts q) (pick ts (a ∷ n ∷ q ∷ [])) h)
 by_shape ts Divisible (a ∷ n ∷ q ∷ i ∷ is) d h out = none_true _ h
 by_shape ts o is d h out = none_true _ d
 

@@ -13,8 +13,9 @@ use Rattle.smt_meaning.specs.Term.{Tree}
 use Rattle.smt_meaning.specs.Linear.{Form}
 use Rattle.smt_meaning.specs.Division.{Row, limit, always, beyond, left_by, limit_fits, combined, combined_fits, quotient_rows, remainder_rows, divisible_rows, absolute_rows}
 use Rattle.smt_meaning.specs.Atoms.{normal_bound, most_atom, limit_atom}
+use Rattle.smt_laws.specs.Rows.{place_form}
 use Rattle.linear_forms.specs.Folding.{form_of}
-use Rattle.linear_forms.specs.Multiples.{form_at, multiples_of, IsMultiple, IsCombination}
+use Rattle.linear_forms.specs.Multiples.{multiples_of, IsMultiple, IsCombination}
 use Rattle.linear_forms.proofs.SumLemmas.{in_range_fits, fits_in_range}
 use Rattle.linear_forms.proofs.FoldLemmas.{false_if}
 use Rattle.pair_bounds.specs.declared.rows.RowLimit.{RowLimit}
@@ -144,7 +145,7 @@ all_rows (Err x) o n p is old new r e count l h k = tt
 
 module _ (ts : List Tree) (l : RowLimit) (sum : List Summand) (constant : ℤ) (d : IsCombination ts (multiples l) (form_of sum constant)) where
   abbrev whole : Form
-  whole = combined (form_at ts) (multiples_of (multiples l))
+  whole = combined (place_form ts) (multiples_of (multiples l))
 
   same_most : l.most -ℤ constant ≡ l.most -ℤ whole.constant
   same_most = ap (λ (f : Form). l.most -ℤ f.constant) d.form
@@ -152,15 +153,15 @@ module _ (ts : List Tree) (l : RowLimit) (sum : List Summand) (constant : ℤ) (
   pub is_row_bound : (k : ℤ) (out : List Summand) (m : ℤ) → k ≡ l.most -ℤ constant → InRange k → ((a : _) → normal_bound sum k ≡ a → IsBound ts a out m) → IsRowBound ts l out m
   is_row_bound k out m e r bound = record {
     terms_fit = d.terms_fit;
-    fits = and_both (combined_fits (form_at ts) (multiples_of (multiples l))) (is_in_range (l.most -ℤ whole.constant)) d.fits (in_range_fits (l.most -ℤ whole.constant) (subst InRange (e ∙ same_most) r));
-    bound = bound (limit_atom (form_at ts) (limit_of_row l)) (ap (normal_bound sum) e ∙ ap (λ f. most_atom f l.most) d.form);
+    fits = and_both (combined_fits (place_form ts) (multiples_of (multiples l))) (is_in_range (l.most -ℤ whole.constant)) d.fits (in_range_fits (l.most -ℤ whole.constant) (subst InRange (e ∙ same_most) r));
+    bound = bound (limit_atom (place_form ts) (limit_of_row l)) (ap (normal_bound sum) e ∙ ap (λ f. most_atom f l.most) d.form);
   }
 
   pub most_outside : (InRange (l.most -ℤ constant) → ⊥) → LimitLeavesRange ts l
   most_outside out = record {
     terms_fit = d.terms_fit;
     outside =
-        false_if (limit_fits (form_at ts) (limit_of_row l))
+        false_if (limit_fits (place_form ts) (limit_of_row l))
         (λ h.
-        out (subst InRange (sym same_most) (fits_in_range (l.most -ℤ whole.constant) (and_right (combined_fits (form_at ts) (multiples_of (multiples l))) (is_in_range (l.most -ℤ whole.constant)) h))));
+        out (subst InRange (sym same_most) (fits_in_range (l.most -ℤ whole.constant) (and_right (combined_fits (place_form ts) (multiples_of (multiples l))) (is_in_range (l.most -ℤ whole.constant)) h))));
   }

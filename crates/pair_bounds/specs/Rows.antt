@@ -12,11 +12,12 @@ use Rattle.smt_meaning.specs.Nodes.{pick}
 use Rattle.smt_meaning.specs.Linear.{folding_fits}
 use Rattle.smt_meaning.specs.Division.{Limit, Row, limit, limit_fits, row_fits, rows_fit, rows_at, operator_rows}
 use Rattle.smt_meaning.specs.Atoms.{limit_atom, row_atoms, division_atoms}
+use Rattle.smt_laws.specs.Rows.{place_form, place_divisor, placed_rows as rows_by_places}
 use Rattle.linear_forms.specs.declared.differences.DifferenceError.{DifferenceError}
 use Rattle.linear_forms.specs.declared.differences.DifferenceError.TheVariants.{Term, Pair, Memory}
 use Rattle.linear_forms.specs.declared.multiples.Multiple.{Multiple}
 use Rattle.linear_forms.specs.Table.{IsOutside}
-use Rattle.linear_forms.specs.Multiples.{form_at, multiples_of, AreMultiples, OneIsOutside}
+use Rattle.linear_forms.specs.Multiples.{multiples_of, AreMultiples, OneIsOutside}
 use Rattle.pair_bounds.specs.declared.rows.RowLimit.{RowLimit}
 use Rattle.pair_bounds.specs.declared.rows.Row.{Row as PlacedRow}
 use Rattle.pair_bounds.specs.Pairs.{IsBound}
@@ -73,12 +74,8 @@ IsRow count r = All (IsRowLimit count) (limits r)
 
 -- ---- the divisor
 
-abbrev pub divisor_at : List Tree → List ℕ → ℤ
-divisor_at ts (a ∷ n ∷ is) = (form_at ts n).constant
-divisor_at ts is = pos 0
-
 pub record IsDivisorAt (ts : List Tree) (is : List ℕ) (n : ℤ) : Type 0 where
-  pub divisor : n ≡ divisor_at ts is
+  pub divisor : n ≡ place_divisor ts is
   pub in_range : InRange n
 
 -- folding the second argument leaves the range, at this part
@@ -88,7 +85,7 @@ DivisorIsOutside ts is part = ⊥
 
 -- folding the second argument stays in the range, and its number isn't in it
 abbrev pub DivisorIsLarge : List Tree → List ℕ → Type 0
-DivisorIsLarge ts (a ∷ n ∷ is) = (folding_fits ts (tree_at ts n) ≡ true) × (InRange (form_at ts n).constant → ⊥)
+DivisorIsLarge ts (a ∷ n ∷ is) = (folding_fits ts (tree_at ts n) ≡ true) × (InRange (place_form ts n).constant → ⊥)
 DivisorIsLarge ts is = ⊥
 
 -- why the divisor is refused: folding it leaves the range, or its own number does
@@ -102,13 +99,13 @@ RefusesDivisor ts is Memory = ⊥
 -- folding the limit stays in the range and gives this bound
 pub record IsRowBound (ts : List Tree) (l : RowLimit) (sum : List Summand) (threshold : ℤ) : Type 0 where
   pub terms_fit : All (λ (m : Multiple). folding_fits ts (tree_at ts m.term) ≡ true) (multiples l)
-  pub fits : limit_fits (form_at ts) (limit_of_row l) ≡ true
-  pub bound : IsBound ts (limit_atom (form_at ts) (limit_of_row l)) sum threshold
+  pub fits : limit_fits (place_form ts) (limit_of_row l) ≡ true
+  pub bound : IsBound ts (limit_atom (place_form ts) (limit_of_row l)) sum threshold
 
 -- folding each of its terms stays in the range, and folding the limit doesn't
 pub record LimitLeavesRange (ts : List Tree) (l : RowLimit) : Type 0 where
   pub terms_fit : All (λ (m : Multiple). folding_fits ts (tree_at ts m.term) ≡ true) (multiples l)
-  pub outside : limit_fits (form_at ts) (limit_of_row l) ≡ false
+  pub outside : limit_fits (place_form ts) (limit_of_row l) ≡ false
 
 abbrev pub RefusesLimit : List Tree → RowLimit → DifferenceError → Type 0
 RefusesLimit ts l (Term part) = OneIsOutside ts (multiples l) part
@@ -118,9 +115,9 @@ RefusesLimit ts l Memory = Unit {0}
 -- ---- the rows of a term by places are those of its tree
 
 pub record RowsAreOf (ts : List Tree) (o : Operator) (p : ℕ) (is : List ℕ) : Type 0 where
-  pub rows : map row_of (placed_rows o (divisor_at ts is) p is) ≡ operator_rows o (divisor_at ts is) p is
-  pub atoms : division_atoms ts (Theory o) (pick ts is) ≡ flat_map (row_atoms (form_at ts)) (operator_rows o (divisor_at ts is) p is)
-  pub fits : rows_fit ts (rows_at ts (Theory o) (pick ts is)) ≡ list_all (row_fits (form_at ts)) (operator_rows o (divisor_at ts is) p is)
+  pub rows : map row_of (placed_rows o (place_divisor ts is) p is) ≡ rows_by_places ts o p is
+  pub atoms : division_atoms ts (Theory o) (pick ts is) ≡ flat_map (row_atoms (place_form ts)) (rows_by_places ts o p is)
+  pub fits : rows_fit ts (rows_at ts (Theory o) (pick ts is)) ≡ list_all (row_fits (place_form ts)) (rows_by_places ts o p is)
 
 abbrev pub RowsAreAtoms : Type 0
 RowsAreAtoms = (ts : List Tree) (o : Operator) (p : ℕ) (is : List ℕ) → tree_at ts p ≡ node (Theory o) (pick ts is) → RowsAreOf ts o p is
@@ -137,4 +134,4 @@ divides o = false
 abbrev pub LargeDivisorLeavesRange : Type 0
 LargeDivisorLeavesRange =
     (ts : List Tree) (o : Operator) (p : ℕ) (is : List ℕ) → IsTrue (divides o) → tree_at ts p ≡ node (Theory o) (pick ts is) → IsTrue (is_linear (tree_at ts p))
-    → (InRange (divisor_at ts is) → ⊥) → rows_fit ts (rows_at ts (Theory o) (pick ts is)) ≡ false
+    → (InRange (place_divisor ts is) → ⊥) → rows_fit ts (rows_at ts (Theory o) (pick ts is)) ≡ false

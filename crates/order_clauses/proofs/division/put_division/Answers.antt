@@ -1,11 +1,12 @@
 use Rattle.std.proofs.Common.{rules, ◌≡◌, ◌<◌, length, All, Contains, OnOk, sym, subst}
 use Rattle.std.specs.Prelude.{flat_map, IfErr}
 use Rattle.std.proofs.lemmas.List.Elements.{All-nil}
-use Rattle.pair_bounds.specs.Rows.{limits, IsRow, divisor_at, placed_rows}
+use Rattle.pair_bounds.specs.Rows.{limits, IsRow, placed_rows}
 use Rattle.order_clauses.specs.Needed.{limits_of_division, atoms_of_row, atoms_of_division}
 use Rattle.order_clauses.specs.Errors.{IsLimitCause, IsDivisionCause}
 use Rattle.order_clauses.proofs.DivisionCauses.{all_err, of_rows_cause}
 use Rattle.order_clauses.proofs.division.put_division.Goals as goal
+use Rattle.smt_laws.specs.Rows.{place_divisor}
 
 pub put_rows-requires : goal.put_rows-requires
 put_rows-requires g c =
@@ -17,7 +18,7 @@ put_rows-requires g c =
 
 pub returns-clause-has : goal.returns-clause-has
 returns-clause-has g c =
-    let made : c.deref.result.now ≡ placed_rows c.args.operator (divisor_at g.trees c.args.arguments.now) c.args.place c.args.arguments.now = search rules in
+    let made : c.deref.result.now ≡ placed_rows c.args.operator (place_divisor g.trees c.args.arguments.now) c.args.place c.args.arguments.now = search rules in
     subst (λ rs. OnOk c.put_rows.result (All (Contains c.args.atoms.now.atoms) (flat_map (atoms_of_row g.trees c.args.place) rs))) made c.put_rows.ensures.has
 
 pub returns-clause-cause : goal.returns-clause-cause
@@ -26,7 +27,7 @@ returns-clause-cause g c =
     let o = c.args.operator in
     let p = c.args.place in
     let is = c.args.arguments.now in
-    let made : c.deref.result.now ≡ placed_rows o (divisor_at g.trees is) p is = search rules in
+    let made : c.deref.result.now ≡ placed_rows o (place_divisor g.trees is) p is = search rules in
     all_err c.put_rows.result (λ e. IsLimitCause g.trees table (limits_of_division g.trees o p is) (atoms_of_division g.trees o p is) e) (λ e. IsDivisionCause g.trees table o p is e)
     (λ e h. of_rows_cause g.trees table o p is e h)
     (subst (λ rs. IfErr c.put_rows.result (λ e. IsLimitCause g.trees table (flat_map limits rs) (flat_map (atoms_of_row g.trees p) rs) e)) made c.put_rows.ensures.cause)
