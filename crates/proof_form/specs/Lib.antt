@@ -9,6 +9,7 @@ pub mod TermFacts
 pub mod TermNodes
 pub mod TermRenaming
 pub mod TermTable
+pub mod TermRows
 pub mod ClausesLaid
 pub mod ClausesMerged
 pub mod EqualitiesKept

@@ -29,6 +29,7 @@ mod terms_divisions;
 mod terms_facts;
 mod terms_held;
 mod terms_nodes;
+mod terms_rows;
 mod terms_table;
 mod verdict;
 mod whole;

@@ -25,7 +25,7 @@ pub(crate) fn copy(alloc: Global, terms: &TermStore) -> Result<TermStore, AllocE
 }
 
 /// The place of the term with this head and these arguments, if it is there. The terms stay as they are.
-fn find(
+pub(crate) fn find(
     terms: &mut TermStore,
     head: Head,
     arguments: &[TermId],
