@@ -9,6 +9,7 @@ pub mod TermFiling
 pub mod TermEntering
 pub mod TermDivisions
 pub mod TermBounds
+pub mod TermRowForms
 pub mod ClausesCodes
 pub mod ClausesPlaces
 pub mod ClausesMerging

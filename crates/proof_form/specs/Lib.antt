@@ -18,4 +18,5 @@ pub mod FormValues
 pub mod FormParts
 pub mod FarkasSums
 pub mod BoundCodes
+pub mod EuclidRows
 pub mod FormPairs

@@ -12,6 +12,7 @@ mod clauses;
 mod clauses_laid;
 mod clauses_merge;
 mod equalities;
+mod euclid;
 mod farkas;
 mod farkas_entries;
 mod farkas_sums;
