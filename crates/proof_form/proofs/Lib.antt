@@ -43,3 +43,4 @@ pub mod BoundJoining
 pub mod BoundAmong
 pub mod BoundLeaves
 pub mod BoundJudging
+pub mod EuclidDivisions

@@ -1,13 +1,15 @@
 -- The divisions of a proof: their rows, and what a step on one of them comes to.
-use Rattle.std.specs.Prelude.{◌≡◌, ◌⊎◌, ◌<◌, ℕ, ℤ, pos, Bool, true, false, List, [], ◌∷◌, ◌++◌, length, map, slice_get, Option, Some, None}
+use Rattle.std.specs.Prelude.{◌≡◌, ◌<◌, ◌≤◌, ℕ, ℤ, pos, true, false, List, length, map, slice_get, Option, Some, None}
 use Rattle.smt_meaning.specs.declared.terms.Head.{Head}
 use Rattle.smt_meaning.specs.declared.terms.Head.TheVariants.{Theory}
 use Rattle.smt_meaning.specs.declared.terms.Operator.TheVariants.{Divide}
-use Rattle.smt_meaning.specs.declared.clauses.Literal.{Literal}
 use Rattle.smt_meaning.specs.Term.{Tree, Trees, node, tree_at}
+use Rattle.smt_meaning.specs.Nodes.{pick}
 use Rattle.smt_meaning.specs.TreeShape.{quotient_tree}
 use Rattle.smt_meaning.specs.Linear.{folding_fits, foldings_fit}
 use Rattle.smt_meaning.specs.Division.{Row, quotient_rows, remainder_rows, divisible_rows, absolute_rows}
+use Rattle.pair_bounds.specs.declared.rows.Row.{Row as PlacedRow}
+use Rattle.pair_bounds.specs.Rows.{row_of, IsRow}
 use Rattle.proof_meaning.specs.Rules.{HasRows, divisor_at}
 use Rattle.term_store.specs.Terms.{IsPlace, IsNew}
 use Rattle.proof_form.specs.Range.{row_stays}
@@ -62,7 +64,7 @@ pub record IsDivision (ts : List Tree) (i : ℕ) (h : Head) (is : List ℕ) (d :
   pub has : HasRows ts i h is (rows_here ts d i)
   pub only : (rows : List (Row ℕ)) → HasRows ts i h is rows → map (tree_row ts) rows ≡ map (tree_row ts) (rows_here ts d i)
   pub within : IsWithin (length ts) d
-  pub quotient : HasQuotient ts i d
+  pub quotient : tree_at ts i ≡ node h (pick ts is) → HasQuotient ts i d
 
 abbrev pub HasNoRows : List Tree → ℕ → Head → List ℕ → Type 0
 HasNoRows ts i h is = (rows : List (Row ℕ)) → HasRows ts i h is rows → ⊥
@@ -86,6 +88,15 @@ pub record IsRowAt (ts : List Tree) (i : ℕ) (h : Head) (is : List ℕ) (n : �
 -- there is none
 abbrev pub HasNoRowAt : List Tree → ℕ → Head → List ℕ → ℕ → Type 0
 HasNoRowAt ts i h is n = (rows : List (Row ℕ)) → HasRows ts i h is rows → (row : Row ℕ) → slice_get rows n ≡ Some row → ⊥
+
+abbrev pub IsRowOrNone : List Tree → ℕ → Head → List ℕ → ℕ → Option PlacedRow → Type 0
+IsRowOrNone ts i h is n None = HasNoRowAt ts i h is n
+IsRowOrNone ts i h is n (Some r) = IsRowAt ts i h is n (row_of r) × IsRow (length ts) r
+
+-- of a division
+abbrev pub IsItsRowOrNone : List Tree → ℕ → Division → ℕ → Option PlacedRow → Type 0
+IsItsRowOrNone ts i d n None = length (rows_here ts d i) ≤ n
+IsItsRowOrNone ts i d n (Some r) = (slice_get (rows_here ts d i) n ≡ Some (row_of r)) × IsRow (length ts) r
 
 -- folding it leaves the range
 pub record RowLeaves (ts : List Tree) (i : ℕ) (h : Head) (is : List ℕ) (n : ℕ) : Type 0 where

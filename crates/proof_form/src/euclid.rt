@@ -6,7 +6,7 @@ ghost use Rattle.smt_meaning.specs.declared.terms.Operator.TheVariants.{Divide, 
 ghost use Rattle.smt_meaning.specs.Term.{Tree};
 ghost use Rattle.pair_bounds.specs.Rows.{placed_row, IsRow};
 ghost use Rattle.proof_meaning.specs.Proof.{node_at};
-ghost use Rattle.proof_form.specs.EuclidRows.{division_rows, number_of, IsWithin, NumberLeaves, IsByNumeral, IsDivisionOrNone};
+ghost use Rattle.proof_form.specs.EuclidRows.{division_rows, number_of, IsWithin, NumberLeaves, IsByNumeral, IsDivisionOrNone, IsItsRowOrNone, IsRowOrNone, RowLeaves, rows_here};
 
 use crate::terms::{Stop, Terms};
 use pair_bounds::{Row, add_rows};
@@ -28,7 +28,8 @@ pub(crate) enum Division {
 
 /// A `div` by one divisor, or by the last of several.
 fn quotient(terms: &mut Terms<'_>, arguments: &[TermId]) -> Result<Option<Division>, AllocError>
-    requires { All (λ i. i < length terms.old.nodes) arguments.now }
+    requires arguments { All (λ i. i < length terms.old.nodes) arguments.now }
+    requires count { length terms.old.trees ≡ length terms.old.nodes }
     ensures ok { (i : ℕ) → IfOk result (IsDivisionOrNone terms.old.trees i (Theory Divide) arguments.now) }
     ensures same { terms.new ≡ terms.old }
 {
@@ -49,7 +50,8 @@ fn quotient(terms: &mut Terms<'_>, arguments: &[TermId]) -> Result<Option<Divisi
 
 /// A `mod` with its quotient.
 fn remainder(terms: &mut Terms<'_>, arguments: &[TermId]) -> Result<Option<Division>, AllocError>
-    requires { All (λ i. i < length terms.old.nodes) arguments.now }
+    requires arguments { All (λ i. i < length terms.old.nodes) arguments.now }
+    requires count { length terms.old.trees ≡ length terms.old.nodes }
     ensures ok { (i : ℕ) → IfOk result (IsDivisionOrNone terms.old.trees i (Theory Modulo) arguments.now) }
     ensures same { terms.new ≡ terms.old }
 {
@@ -90,7 +92,8 @@ fn divisibility(
     number: i128,
     arguments: &[TermId],
 ) -> Result<Option<Division>, AllocError>
-    requires { All (λ i. i < length terms.old.nodes) arguments.now }
+    requires arguments { All (λ i. i < length terms.old.nodes) arguments.now }
+    requires count { length terms.old.trees ≡ length terms.old.nodes }
     ensures ok { (i : ℕ) → IfOk result (IsDivisionOrNone terms.old.trees i (Numeral number) arguments.now) }
     ensures same { terms.new ≡ terms.old }
 {
@@ -119,11 +122,11 @@ fn division_with(
     head: Head,
     arguments: &[TermId],
 ) -> Result<Option<Division>, AllocError>
-    requires { All (λ i. i < length terms.old.nodes) arguments.now }
+    requires arguments { All (λ i. i < length terms.old.nodes) arguments.now }
+    requires count { length terms.old.trees ≡ length terms.old.nodes }
     ensures ok { (i : ℕ) → IfOk result (IsDivisionOrNone terms.old.trees i head arguments.now) }
     ensures same { terms.new ≡ terms.old }
 {
-    let _count = terms.len();
     if head == Head::Theory(Operator::Divide) {
         return quotient(terms, arguments);
     }
@@ -151,6 +154,7 @@ fn division_of(
     ensures ok { IfOk result (IsDivisionOrNone terms.old.trees place (node_at terms.old.nodes place).head (node_at terms.old.nodes place).arguments) }
     ensures same { terms.new ≡ terms.old }
 {
+    let _count = terms.len();
     let mut arguments = Vec::new(alloc);
     let node = terms.node(place);
     let head = node.head;
@@ -224,4 +228,49 @@ fn rows_of(
         }
     }
     Ok(rows)
+}
+
+/// The row of this number of the division that a term is.
+fn row_of_division(
+    alloc: Global,
+    terms: &mut Terms<'_>,
+    division: Division,
+    place: TermId,
+    which: u64,
+) -> Result<Option<Row>, Stop>
+    requires place { place < length terms.old.trees }
+    requires within { IsWithin (length terms.old.trees) division }
+    requires count { length terms.old.trees ≡ length terms.old.nodes }
+    ensures ok { IfOk result (IsItsRowOrNone terms.old.trees place division which) }
+    ensures range { result ≡ Err Stop.Range → NumberLeaves terms.old.trees division × (which < length (rows_here terms.old.trees division place)) }
+    ensures same { terms.new ≡ terms.old }
+{
+    if which >= row_count(division) {
+        return Ok(None);
+    }
+    let number = number_of(terms, division)?;
+    match rows_of(alloc, division, number, place) {
+        Ok(rows) => Ok(Some(rows[which as usize])),
+        Err(_) => Err(Stop::Memory),
+    }
+}
+
+/// The row of this number in the table of divisions for a term.
+fn row_at(
+    alloc: Global,
+    terms: &mut Terms<'_>,
+    place: TermId,
+    which: u64,
+) -> Result<Option<Row>, Stop>
+    requires { place < length terms.old.nodes }
+    ensures ok { IfOk result (IsRowOrNone terms.old.trees place (node_at terms.old.nodes place).head (node_at terms.old.nodes place).arguments which) }
+    ensures range { result ≡ Err Stop.Range → RowLeaves terms.old.trees place (node_at terms.old.nodes place).head (node_at terms.old.nodes place).arguments which }
+    ensures same { terms.new ≡ terms.old }
+{
+    let _count = terms.len();
+    match division_of(alloc, terms, place) {
+        Ok(Some(division)) => row_of_division(alloc, terms, division, place, which),
+        Ok(None) => Ok(None),
+        Err(_) => Err(Stop::Memory),
+    }
 }
