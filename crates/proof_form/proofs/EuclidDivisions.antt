@@ -1,25 +1,38 @@
 -- Which rows the table of divisions has for a term, by its head and arguments.
 use Rattle.std.proofs.Common.{◌≡◌, ◌≢◌, ◌⊎◌, inl, inr, ℕ, zero, suc, ◌+◌, ◌<◌, ◌≤◌, Bool, true, false, ◌&&◌, List, [], ◌∷◌, ◌++◌, length, map, All, refl, ap, sym, subst, ◌∙◌, arith}
-use Rattle.std.specs.Prelude.{ℤ, slice_index_or, Option, Some, None, MatchOption}
+use Rattle.std.specs.Prelude.{ℤ, slice_index_or, slice_get, Option, Some, None, Ok, option_map}
+use Rattle.std.proofs.lemmas.Option.{slice_get-map, slice_get_within, get_or_from_slice_get}
 use Rattle.std.proofs.lemmas.Bool.{cases_lt}
 use Rattle.std.proofs.lemmas.List.{get_or_past, length_push}
-use Rattle.std.proofs.lemmas.List.Elements.{All-head, All-tail}
+use Rattle.std.proofs.lemmas.List.Elements.{All-nil, All-get_or, All-from_recursion}
+use Rattle.fraction128.specs.Whole.{InRange}
 use Rattle.smt_meaning.specs.declared.terms.Head.{Head}
 use Rattle.smt_meaning.specs.declared.terms.Head.TheVariants.{Numeral, Theory}
 use Rattle.smt_meaning.specs.declared.terms.Operator.{Operator}
-use Rattle.smt_meaning.specs.declared.terms.Operator.TheVariants.{Divide, Modulo, Absolute}
+use Rattle.smt_meaning.specs.declared.terms.Operator.TheVariants.{Divide, Modulo, Absolute, Divisible}
+use Rattle.smt_meaning.specs.declared.nodes.Node.{Node}
+use Rattle.smt_meaning.specs.Declaration.{Declaration}
 use Rattle.smt_meaning.specs.Term.{Tree, Trees, node, none, more, tree_at}
-use Rattle.smt_meaning.specs.TreeShape.{quotient_tree}
+use Rattle.smt_meaning.specs.TreeShape.{quotient_tree, place_of}
 use Rattle.smt_meaning.specs.Nodes.{pick}
 use Rattle.smt_meaning.specs.Linear.{Form, folding_fits, foldings_fit, linear_form}
 use Rattle.smt_meaning.specs.Division.{Row, quotient_rows, remainder_rows, divisible_rows, absolute_rows}
+use Rattle.smt_laws.proofs.Among.{Among}
+use Rattle.smt_laws.proofs.SameTree.{found_again}
 use Rattle.smt_laws.proofs.Both.{and_left, and_right}
 use Rattle.term_store.specs.Terms.{tree_with, IsPlace, IsNew}
+use Rattle.term_store.proofs.PlaceLemmas.{place_of-within}
+use Rattle.pair_bounds.specs.declared.rows.Row.{Row as PlacedRow}
+use Rattle.pair_bounds.specs.Rows.{placed_row, row_of, IsRow}
+use Rattle.pair_bounds.proofs.RowLemmas.{all_rows}
+use Rattle.proof_meaning.specs.Proof.{AreTerms}
 use Rattle.proof_meaning.specs.Rules.{HasRows, of_quotient, of_last_quotient, of_remainder, of_divisibility, of_absolute, divisor_at}
 use Rattle.proof_form.specs.TermRows.{tree_row}
 use Rattle.proof_form.specs.declared.euclid.Division.{Division}
 use Rattle.proof_form.specs.declared.euclid.Division.TheVariants.{Quotient, Remainder, Divisibility, Magnitude}
-use Rattle.proof_form.specs.EuclidRows.{IsQuotientBy, IsDivision, IsDivisionOrNone, HasNoRows, IsByNumeral}
+use Rattle.proof_form.proofs.TermForms.{EachPart}
+use Rattle.proof_form.proofs.TermBounds.{parts_among}
+use Rattle.proof_form.specs.EuclidRows.{division_rows, number_of, IsWithin, IsItsRowOrNone, IsQuotientBy, IsDivision, IsDivisionOrNone, HasNoRows, IsByNumeral}
 
 -- ---- lists
 
@@ -220,6 +233,16 @@ module _ (ts : List Tree) (i : ℕ) where
     by_numeral_is None h l new = no_divisible new
     by_numeral_is (Some d) h l s = subst (IsDivision ts i (Numeral k) (a ∷ [])) (sym s.1.1) (divisible_division s.0 h l s.1.0)
 
+  -- a numeral that divides a term of the proof is one, too
+  pub no_numeral : (ds : List Declaration) (ns : List Node) → AreTerms ds ns ts → (a : ℕ) (k : ℤ) → IsNew ts (node (Numeral k) none) → HasNoRows ts i (Numeral k) (a ∷ [])
+  no_numeral ds ns terms a k new rows has =
+      let numeral : Tree = node (Numeral k) none in
+      let other = divisible_only (Numeral k) (a ∷ []) rows a k has refl refl in
+      let within : other.0 < length ts = inside other.0 (more (tree_at ts a) (more numeral none)) other.1.0 in
+      let parts : EachPart (λ u. Among u ts) (quotient_tree (tree_at ts a) numeral) = subst (EachPart (λ u. Among u ts)) other.1.0 (parts_among ds ns ts terms other.0 within) in
+      let among : Among numeral ts = parts.1.1.0.0 in
+      new (place_of numeral ts) (place_of-within numeral ts among) (found_again numeral ts among)
+
   pub magnitude_division : (a : ℕ) → a < length ts → IsDivision ts i (Theory Absolute) (a ∷ []) (Magnitude a)
   magnitude_division a h = record {
     has = of_absolute a;
@@ -227,3 +250,34 @@ module _ (ts : List Tree) (i : ℕ) where
     within = h;
     quotient = λ e. tt;
   }
+
+-- ---- the row of a number
+
+-- as it is kept over places, and back
+rows_back : (d : Division) (n : ℤ) (i : ℕ) → map row_of (map placed_row (division_rows d n i)) ≡ division_rows d n i
+rows_back (Quotient a m) n i = refl
+rows_back (Remainder a m q) n i = refl
+rows_back (Divisibility a m q) n i = refl
+rows_back (Magnitude a) n i = refl
+
+abbrev AreBelow : ℕ → List ℕ → Type 0
+AreBelow count js = All (λ j. j < count) js
+
+rows_within : (d : Division) (n : ℤ) (i count : ℕ) → InRange n → i < count → IsWithin count d → All (IsRow count) (map placed_row (division_rows d n i))
+rows_within (Quotient a m) n i count r l h =
+    all_rows {E = Unit {0}} (Ok tt) Divide n i (a ∷ m ∷ []) [] (map placed_row (quotient_rows a n i)) r refl count l (All-from_recursion (λ j. j < count) (a ∷ m ∷ []) (h.0, (h.1, tt))) (All-nil (IsRow count))
+rows_within (Remainder a m q) n i count r l h =
+    all_rows {E = Unit {0}} (Ok tt) Modulo n i (a ∷ m ∷ q ∷ []) [] (map placed_row (remainder_rows a n q i)) r refl count l (All-from_recursion (λ j. j < count) (a ∷ m ∷ q ∷ []) (h.0, (h.1, (h.2, tt)))) (All-nil (IsRow count))
+rows_within (Divisibility a m q) n i count r l h =
+    all_rows {E = Unit {0}} (Ok tt) Divisible n i (a ∷ m ∷ q ∷ []) [] (map placed_row (divisible_rows a n q)) r refl count l (All-from_recursion (λ j. j < count) (a ∷ m ∷ q ∷ []) (h.0, (h.1, (h.2, tt)))) (All-nil (IsRow count))
+rows_within (Magnitude a) n i count r l h =
+    all_rows {E = Unit {0}} (Ok tt) Absolute n i (a ∷ []) [] (map placed_row (absolute_rows a i)) r refl count l (All-from_recursion (λ j. j < count) (a ∷ []) (h, tt)) (All-nil (IsRow count))
+
+pub row_found : (ts : List Tree) (i : ℕ) (d : Division) (w : ℕ) (n : ℤ) (rows : List PlacedRow) (r : PlacedRow) → n ≡ number_of ts d → InRange n → rows ≡ map placed_row (division_rows d n i) → i < length ts
+    → IsWithin (length ts) d → slice_get rows w ≡ Some r → IsItsRowOrNone ts i d w (Some r)
+row_found ts i d w n rows r e range s l within at = (
+  ap (λ z. slice_get (division_rows d z i) w) (sym e) ∙ ap (λ xs. slice_get xs w) (sym (rows_back d n i)) ∙ ap (λ xs. slice_get (map row_of xs) w) (sym s)
+  ∙ slice_get-map row_of rows w ∙ ap (λ o. option_map row_of o) at,
+  subst (IsRow (length ts)) (get_or_from_slice_get rows w r r at)
+  (All-get_or (IsRow (length ts)) rows w r (slice_get_within rows w r at) (subst (All (IsRow (length ts))) (sym s) (rows_within d n i (length ts) range l within))),
+)

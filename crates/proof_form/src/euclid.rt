@@ -1,10 +1,10 @@
 //! The clauses of the table of divisions (SMT-LIB 2.6, theory Ints).
-ghost use Rattle.std.specs.Prelude.{◌≡◌, ◌<◌, ◌++◌, ◌∷◌, [], true, false, length, map, List, ℕ, All, Ok, Err, IfOk, OnOk, Some, None, MatchOption, slice_get};
+ghost use Rattle.std.specs.Prelude.{◌≡◌, ◌<◌, ◌↔◌, length, map, List, ℕ, ℤ, All, Err, IfOk, IsTrue};
 ghost use Rattle.fraction128.specs.Whole.{InRange};
 ghost use Rattle.smt_meaning.specs.declared.terms.Head.TheVariants.{Numeral, Theory};
 ghost use Rattle.smt_meaning.specs.declared.terms.Operator.TheVariants.{Divide, Modulo, Absolute};
 ghost use Rattle.smt_meaning.specs.Term.{Tree};
-ghost use Rattle.pair_bounds.specs.Rows.{placed_row, IsRow};
+ghost use Rattle.pair_bounds.specs.Rows.{placed_row};
 ghost use Rattle.proof_meaning.specs.Proof.{node_at};
 ghost use Rattle.proof_form.specs.EuclidRows.{division_rows, number_of, IsWithin, NumberLeaves, IsByNumeral, IsDivisionOrNone, IsItsRowOrNone, IsRowOrNone, RowLeaves, rows_here};
 
@@ -86,21 +86,22 @@ fn by_numeral(
     }
 }
 
-/// `((_ divisible n) i)` with its quotient.
+/// `((_ divisible n) i)` with its quotient, where the head is a numeral.
 fn divisibility(
     terms: &mut Terms<'_>,
-    number: i128,
+    head: Head,
     arguments: &[TermId],
 ) -> Result<Option<Division>, AllocError>
     requires arguments { All (λ i. i < length terms.old.nodes) arguments.now }
     requires count { length terms.old.trees ≡ length terms.old.nodes }
-    ensures ok { (i : ℕ) → IfOk result (IsDivisionOrNone terms.old.trees i (Numeral number) arguments.now) }
+    ensures ok { (i : ℕ) (n : ℤ) → head ≡ Numeral n → IfOk result (IsDivisionOrNone terms.old.trees i head arguments.now) }
     ensures same { terms.new ≡ terms.old }
 {
+    let _count = terms.len();
     if arguments.len() != 1 {
         return Ok(None);
     }
-    match terms.term_with(Head::Numeral(number), &[])? {
+    match terms.term_with(head, &[])? {
         Some(numeral) => by_numeral(terms, arguments[0], numeral),
         None => Ok(None),
     }
@@ -116,6 +117,12 @@ fn magnitude(arguments: &[TermId]) -> Option<Division>
     }
 }
 
+fn is_operator(head: Head, operator: Operator) -> bool
+    ensures { IsTrue result ↔ (head ≡ Theory operator) }
+{
+    head == Head::Theory(operator)
+}
+
 /// The division that a term with this head and these arguments is, if it has rows.
 fn division_with(
     terms: &mut Terms<'_>,
@@ -127,17 +134,17 @@ fn division_with(
     ensures ok { (i : ℕ) → IfOk result (IsDivisionOrNone terms.old.trees i head arguments.now) }
     ensures same { terms.new ≡ terms.old }
 {
-    if head == Head::Theory(Operator::Divide) {
+    if is_operator(head, Operator::Divide) {
         return quotient(terms, arguments);
     }
-    if head == Head::Theory(Operator::Modulo) {
+    if is_operator(head, Operator::Modulo) {
         return remainder(terms, arguments);
     }
-    if head == Head::Theory(Operator::Absolute) {
+    if is_operator(head, Operator::Absolute) {
         return Ok(magnitude(arguments));
     }
     match head {
-        Head::Numeral(number) => divisibility(terms, number, arguments),
+        Head::Numeral(_) => divisibility(terms, head, arguments),
         Head::Theory(_) => Ok(None),
         Head::Symbol(_) => Ok(None),
         Head::Place(_) => Ok(None),
@@ -197,8 +204,7 @@ fn rows_of(
     place: TermId,
 ) -> Result<Vec<Row>, AllocError>
     requires { InRange number }
-    ensures rows { IfOk result (λ rows. rows.items ≡ map placed_row (division_rows division number place)) }
-    ensures within { (count : ℕ) → place < count → IsWithin count division → IfOk result (λ rows. All (IsRow count) rows.items) }
+    ensures { IfOk result (λ rows. rows.items ≡ map placed_row (division_rows division number place)) }
 {
     let mut rows = Vec::new(alloc);
     match division {
