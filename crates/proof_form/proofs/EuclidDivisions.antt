@@ -3,7 +3,7 @@ use Rattle.std.proofs.Common.{◌≡◌, ◌≢◌, ◌⊎◌, inl, inr, ℕ, ze
 use Rattle.std.specs.Prelude.{ℤ, slice_index_or, slice_get, Option, Some, None, Ok, option_map}
 use Rattle.std.proofs.lemmas.Option.{slice_get-map, slice_get_within, get_or_from_slice_get}
 use Rattle.std.proofs.lemmas.Bool.{cases_lt}
-use Rattle.std.proofs.lemmas.List.{get_or_past, length_push}
+use Rattle.std.proofs.lemmas.List.{get_or_past, length_push, length-map}
 use Rattle.std.proofs.lemmas.List.Elements.{All-nil, All-get_or, All-from_recursion}
 use Rattle.fraction128.specs.Whole.{InRange}
 use Rattle.smt_meaning.specs.declared.terms.Head.{Head}
@@ -32,7 +32,7 @@ use Rattle.proof_form.specs.declared.euclid.Division.{Division}
 use Rattle.proof_form.specs.declared.euclid.Division.TheVariants.{Quotient, Remainder, Divisibility, Magnitude}
 use Rattle.proof_form.proofs.TermForms.{EachPart}
 use Rattle.proof_form.proofs.TermBounds.{parts_among}
-use Rattle.proof_form.specs.EuclidRows.{division_rows, number_of, IsWithin, IsItsRowOrNone, IsQuotientBy, IsDivision, IsDivisionOrNone, HasNoRows, IsByNumeral}
+use Rattle.proof_form.specs.EuclidRows.{division_rows, number_of, rows_here, IsWithin, IsItsRowOrNone, IsRowOrNone, IsQuotientBy, IsDivision, IsDivisionOrNone, HasNoRows, IsByNumeral}
 
 -- ---- lists
 
@@ -281,3 +281,27 @@ row_found ts i d w n rows r e range s l within at = (
   subst (IsRow (length ts)) (get_or_from_slice_get rows w r r at)
   (All-get_or (IsRow (length ts)) rows w r (slice_get_within rows w r at) (subst (All (IsRow (length ts))) (sym s) (rows_within d n i (length ts) range l within))),
 )
+
+-- ---- the rows of a term by those of its division
+
+tree_rows_at : (ts : List Tree) (rows : List (Row ℕ)) (n : ℕ) (row : Row ℕ) → slice_get rows n ≡ Some row → slice_get (map (tree_row ts) rows) n ≡ Some (tree_row ts row)
+tree_rows_at ts rows n row e = slice_get-map (tree_row ts) rows n ∙ ap (λ o. option_map (tree_row ts) o) e
+
+module _ (ts : List Tree) (i : ℕ) (h : Head) (is : List ℕ) (d : Division) (division : IsDivision ts i h is d) (n : ℕ) where
+  pub row_lifted : (o : Option PlacedRow) → IsItsRowOrNone ts i d n o → IsRowOrNone ts i h is n o
+  row_lifted None past = λ rows has row at.
+      (let counts : length rows ≡ length (rows_here ts d i) = sym (length-map rows (tree_row ts)) ∙ ap length (division.only rows has) ∙ length-map (rows_here ts d i) (tree_row ts) in
+      omega (arith, counts, slice_get_within rows n row at))
+  row_lifted (Some r) s = (
+    record {
+      rows = rows_here ts d i;
+      has = division.has;
+      row_is = s.0;
+      only = λ others has other at.
+          (let here : slice_get (map (tree_row ts) (rows_here ts d i)) n ≡ Some (tree_row ts (row_of r)) = tree_rows_at ts (rows_here ts d i) n (row_of r) s.0 in
+          let there : slice_get (map (tree_row ts) others) n ≡ Some (tree_row ts other) = tree_rows_at ts others n other at in
+          let same : Some (tree_row ts other) ≡ Some (tree_row ts (row_of r)) = sym there ∙ ap (λ xs. slice_get xs n) (division.only others has) ∙ here in
+          cc);
+    },
+    s.1,
+  )

@@ -44,3 +44,4 @@ pub mod BoundAmong
 pub mod BoundLeaves
 pub mod BoundJudging
 pub mod EuclidDivisions
+pub mod EuclidRanges
