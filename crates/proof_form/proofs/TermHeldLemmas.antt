@@ -1,7 +1,7 @@
 -- Terms among those of the stack.
-use Rattle.std.proofs.Common.{◌≡◌, ℕ, zero, suc, ◌+◌, ◌<◌, Bool, true, false, List, [], ◌∷◌, ◌++◌, length, get_or, take, All, refl, ap, sym, subst, ◌∙◌, arith}
-use Rattle.std.specs.Prelude.{Option, Some, None, if◌then◌else◌}
-use Rattle.std.proofs.lemmas.List.{get_or-take, length-take-le, take_more}
+use Rattle.std.proofs.Common.{◌≡◌, ℕ, zero, suc, ◌+◌, ◌<◌, Bool, true, false, List, [], ◌∷◌, ◌++◌, length, get_or, take, drop, All, refl, ap, sym, subst, ◌∙◌, arith}
+use Rattle.std.specs.Prelude.{ℤ, Option, Some, None, if◌then◌else◌}
+use Rattle.std.proofs.lemmas.List.{get_or-take, length-take-le, take_more, drop_more}
 use Rattle.smt_meaning.specs.declared.terms.Operator.{Operator}
 use Rattle.smt_meaning.specs.declared.terms.Operator.TheVariants.{Divide, Modulo, Divisible}
 use Rattle.smt_meaning.specs.declared.terms.Head.{Head}
@@ -132,6 +132,13 @@ meant_among hs (Place k) ws i complete at = arguments_among hs (Place k) ws i co
 pub divided_new : (hs : List Tree) (t : Tree) (us : Trees) → AreComplete hs → IsNew hs t → IsNew hs (divided_from t us)
 divided_new hs t us complete new i less e = not_among_new hs t new (divided_among hs t us i complete (less, e)).0
 
+pub divided_nowhere : (hs : List Tree) (t u : Tree) (ds : List ℕ) (i d : ℕ) → AreComplete hs → i < length ds → divided_from t (pick hs ds) ≡ divided_from u (pick hs (drop i ds))
+    → IsNew hs (quotient_tree u (tree_at hs (get_or ds i d))) → IsNew hs (divided_from t (pick hs ds))
+divided_nowhere hs t u ds i d complete inside e new =
+    let next : Trees = pick hs (drop (i + 1) ds) in
+    let shape : divided_from t (pick hs ds) ≡ divided_from (quotient_tree u (tree_at hs (get_or ds i d))) next = e ∙ ap (λ is. divided_from u (pick hs is)) (drop_more ds i d inside) in
+    subst (IsNew hs) (sym shape) (divided_new hs (quotient_tree u (tree_at hs (get_or ds i d))) next complete new)
+
 module _ (hs : List Tree) (o : Operator) (t u : Tree) (complete : AreComplete hs) where
   parts : (i : ℕ) → i < length hs → tree_at hs i ≡ beside_quotient o t u → AllAmong hs (more t (more u (more (quotient_tree t u) none)))
   parts i less e = arguments_among hs (Theory o) (more t (more u (more (quotient_tree t u) none))) i complete (less, e)
@@ -170,3 +177,11 @@ two_picked hs (i ∷ j ∷ k ∷ is) t u e = cc
 
 pub operation_alone : (hs : List Tree) (o : Operator) (is : List ℕ) → (o ≡ Divide → ⊥) → (length is ≡ 2 → ⊥) → node (Theory o) (pick hs is) ≡ operation o (pick hs is)
 operation_alone hs o is other two = not_two o (pick hs is) other (λ t u e. two (two_picked hs is t u e))
+
+pub numeral_alone : (hs : List Tree) (h : Head) (n : ℤ) (is : List ℕ) → h ≡ Numeral n → (length is ≡ 1 → ⊥) → node (Numeral n) (pick hs is) ≡ meant_at h (pick hs is)
+numeral_alone hs h n is e other = by is other ∙ ap (λ k. meant_at k (pick hs is)) (sym e)
+  where
+    by : (js : List ℕ) → (length js ≡ 1 → ⊥) → node (Numeral n) (pick hs js) ≡ meant_at (Numeral n) (pick hs js)
+    by [] k = refl
+    by (j ∷ []) k = absurd (k refl)
+    by (i ∷ j ∷ js) k = refl
