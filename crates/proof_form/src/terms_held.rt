@@ -132,10 +132,7 @@ fn find_divisibility(
 }
 
 /// The place of a division: of the first of the terms at these places by the others.
-fn find_division(
-    terms: &mut TermStore,
-    arguments: &[TermId],
-) -> Result<Option<TermId>, AllocError>
+fn find_division(terms: &mut TermStore, arguments: &[TermId]) -> Result<Option<TermId>, AllocError>
     requires complete { AreComplete terms.old.trees }
     requires arguments { All (λ i. i < length terms.old.trees) arguments.now }
     ensures ok { IfOk result (λ o. IsHeldAt terms.old.trees (operation Divide (pick terms.old.trees arguments.now)) o) }
