@@ -50,9 +50,8 @@ impl<'a> Terms<'a> {
     ghost use Rattle.std.specs.Prelude.{◌≡◌, ◌<◌, ◌≤◌, ◌+◌, ◌^◌, ◌↔◌, [], true, false, length, All, Ok, Err, Some, IfOk, IfErr, OnErr, IsTrue, neg_ℤ};
     ghost use Rattle.smt_meaning.specs.Stack.{signature_of};
     ghost use Rattle.smt_meaning.specs.declared.clauses.Atom.TheVariants.{AtMost};
-    ghost use Rattle.smt_meaning.specs.Signature.{tree_sort};
     ghost use Rattle.smt_meaning.specs.Term.{tree_at};
-    ghost use Rattle.proof_meaning.specs.Proof.{IsTerm, AreTerms, is_leaf, node_at};
+    ghost use Rattle.proof_meaning.specs.Proof.{IsTerm, AreTerms, term_sort, meant, node_at};
     ghost use Rattle.proof_meaning.specs.Rules.{not_above, below, folded_bound};
     ghost use Rattle.proof_form.specs.Range.{not_above_fits, less_fits};
     ghost use Rattle.proof_form.specs.Terms.{with_term, IsBoundOf};
@@ -107,16 +106,16 @@ impl<'a> Terms<'a> {
     /// The sort of a term.
     pub(crate) fn sort(&self, place: TermId) -> Sort
         requires { place < length self.now.nodes }
-        ensures { tree_sort self.now.declared (tree_at self.now.trees place) ≡ Some result }
+        ensures { term_sort self.now.declared (tree_at self.now.trees place) ≡ Some result }
     {
         self.table.fact(place).sort
     }
 
-    /// Whether a term is the term of the stack at this place.
+    /// Whether a term stands for the term of the stack at this place.
     pub(crate) fn is_held(&self, place: TermId, held: TermId) -> bool
         requires place { place < length self.now.nodes }
         requires held { held < length self.now.held }
-        ensures { IsTrue result ↔ (tree_at self.now.trees place ≡ tree_at self.now.held held) }
+        ensures { IsTrue result ↔ (meant (tree_at self.now.trees place) ≡ tree_at self.now.held held) }
     {
         self.table.fact(place).held == Some(held)
     }

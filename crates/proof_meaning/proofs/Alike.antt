@@ -1,18 +1,19 @@
 -- Applications of one head to equal arguments.
-use Rattle.std.proofs.Common.{◌≡◌, ℕ, length, Bool, true, false, not, ◌||◌, List, [], ◌∷◌, ◌++◌, ◌⊎◌, inl, inr, ap, sym, subst, ◌∙◌, refl, arith}
+use Rattle.std.proofs.Common.{◌≡◌, ℕ, length, Bool, true, false, not, ◌||◌, List, [], ◌∷◌, ◌++◌, map, ◌⊎◌, inl, inr, ap, sym, subst, ◌∙◌, refl, arith}
 use Rattle.std.specs.Prelude.{IsTrue, ℤ, pos, negsuc}
 use Rattle.std.proofs.lemmas.Bool.{eqb-true}
 use Rattle.smt_meaning.specs.declared.values.Value.{Value}
 use Rattle.smt_meaning.specs.declared.values.Value.TheVariants.{Truth, Whole, Element}
 use Rattle.smt_meaning.specs.declared.clauses.Literal.{Literal}
-use Rattle.smt_meaning.specs.Term.{Tree, Interpretation, value, values, apply_with, same_value, bool_eq, int_eq}
+use Rattle.smt_meaning.specs.Term.{Tree, Interpretation, values, same_value, bool_eq, int_eq}
 use Rattle.smt_meaning.specs.Nodes.{pick}
 use Rattle.smt_meaning.specs.Clause.{some_true, literal_true, value_at}
 use Rattle.smt_meaning.specs.declared.nodes.Node.{Node}
 use Rattle.smt_meaning.specs.Declaration.{Declaration}
-use Rattle.proof_meaning.specs.Proof.{AreTerms, node_at, are_same}
+use Rattle.proof_meaning.specs.Proof.{meant, AreTerms, node_at, are_same}
 use Rattle.proof_meaning.specs.Rules.{IsCong, differing}
-use Rattle.proof_meaning.proofs.Terms.{Stands, stands}
+use Rattle.proof_meaning.proofs.Meant.{apply_written}
+use Rattle.proof_meaning.proofs.Terms.{standing_value}
 
 same_bool : (a b : Bool) → bool_eq a b ≡ true → a ≡ b
 same_bool true b h = sym h
@@ -67,26 +68,24 @@ arguments ts I (i ∷ is) (j ∷ js) h = by (same_value (value_at ts I i) (value
       | inr later ↦ inr (ap (λ v. v ∷ values I (pick ts is)) (same_is (value_at ts I i) (value_at ts I j) e) ∙ ap (λ vs. value_at ts I j ∷ vs) later)
     ]
 
-pub cong_true : (ds : List Declaration) (ns : List Node) (ts : List Tree) (I : Interpretation) → AreTerms ds ns ts → ((i : ℕ) → IsTrue (some_true ts I (are_same i i ∷ []))) → (i j : ℕ) (ls : List Literal)
-    → IsCong ns i j ls → some_true ts I ls ≡ true
+pub cong_true : (ds : List Declaration) (ns : List Node) (ts : List Tree) (I : Interpretation) → AreTerms ds ns ts → ((i : ℕ) → IsTrue (some_true (map meant ts) I (are_same i i ∷ [])))
+    → (i j : ℕ) (ls : List Literal) → IsCong ns i j ls → some_true (map meant ts) I ls ≡ true
 cong_true ds ns ts I terms same i j ls h =
-    subst (λ ms. some_true ts I ms ≡ true) (sym h.clause) (append ts I (differing left right) (are_same i j ∷ []) ∙ elim (arguments ts I left right h.count) [
-      | inl one ↦ or_left (some_true ts I (differing left right)) (some_true ts I (are_same i j ∷ [])) one
-      | inr equal ↦ or_right (some_true ts I (differing left right)) (some_true ts I (are_same i j ∷ [])) (subst (λ v. (same_value (value_at ts I i) v || false) ≡ true) (one_value equal) (same i))
+    subst (λ ms. some_true trees I ms ≡ true) (sym h.clause) (append trees I (differing left right) (are_same i j ∷ []) ∙ elim (arguments trees I left right h.count) [
+      | inl one ↦ or_left (some_true trees I (differing left right)) (some_true trees I (are_same i j ∷ [])) one
+      | inr equal ↦ or_right (some_true trees I (differing left right)) (some_true trees I (are_same i j ∷ [])) (subst (λ v. (same_value (value_at trees I i) v || false) ≡ true) (one_value equal) (same i))
     ])
   where
+    trees : List Tree
+    trees = map meant ts
+
     left : List ℕ
     left = (node_at ns i).arguments
 
     right : List ℕ
     right = (node_at ns j).arguments
 
-    first : Stands ts (node_at ns i) i
-    first = stands ds ns ts terms i h.left_within
-
-    second : Stands ts (node_at ns j) j
-    second = stands ds ns ts terms j h.right_within
-
-    one_value : values I (pick ts left) ≡ values I (pick ts right) → value_at ts I i ≡ value_at ts I j
+    one_value : values I (pick trees left) ≡ values I (pick trees right) → value_at trees I i ≡ value_at trees I j
     one_value e =
-        ap (value I) first.tree ∙ ap (apply_with I [] (node_at ns i).head) e ∙ ap (λ k. apply_with I [] k (values I (pick ts right))) h.head ∙ sym (ap (value I) second.tree)
+        standing_value ds ns ts I terms i h.left_within ∙ ap (apply_written I (node_at ns i).head) e ∙ ap (λ k. apply_written I k (values I (pick trees right))) h.head
+        ∙ sym (standing_value ds ns ts I terms j h.right_within)

@@ -1,14 +1,13 @@
 -- The clauses of equality and truth.
 use Rattle.std.proofs.Common.{◌≡◌, ℕ, Bool, true, false, not, ◌||◌, List, [], ◌∷◌, ap, subst, sym, ◌∙◌, refl}
-use Rattle.std.specs.Prelude.{pos, negsuc}
+use Rattle.std.specs.Prelude.{pos, negsuc, IsTrue}
 use Rattle.std.proofs.lemmas.Bool.{eq-eqb}
 use Rattle.smt_meaning.specs.declared.values.Value.{Value}
 use Rattle.smt_meaning.specs.declared.values.Value.TheVariants.{Truth, Whole, Element}
 use Rattle.smt_meaning.specs.Term.{Tree, Interpretation, same_value, bool_eq, truth_of}
-use Rattle.smt_meaning.specs.Clause.{value_at}
+use Rattle.smt_meaning.specs.Clause.{some_true, value_at}
 use Rattle.proof_meaning.specs.Proof.{are_same}
 use Rattle.proof_meaning.specs.Rules.{sym_clause, trans_clause, truth_clause, both_clause, neither_clause}
-use Rattle.proof_meaning.specs.Laws.{IsTrueClause}
 use Rattle.proof_meaning.proofs.Facts.{IsTruthAt}
 use Rattle.proof_meaning.proofs.Alike.{same_is}
 
@@ -19,10 +18,10 @@ itself (Whole (pos n)) = eq-eqb n n refl
 itself (Whole (negsuc n)) = eq-eqb n n refl
 itself (Element n) = eq-eqb n n refl
 
-pub same_true : (ts : List Tree) (I : Interpretation) (i : ℕ) → IsTrueClause ts I (are_same i i ∷ [])
+pub same_true : (ts : List Tree) (I : Interpretation) (i : ℕ) → IsTrue (some_true ts I (are_same i i ∷ []))
 same_true ts I i = ap (λ b. b || false) (itself (value_at ts I i))
 
-pub sym_true : (ts : List Tree) (I : Interpretation) (i j : ℕ) → IsTrueClause ts I (sym_clause i j)
+pub sym_true : (ts : List Tree) (I : Interpretation) (i j : ℕ) → IsTrue (some_true ts I (sym_clause i j))
 sym_true ts I i j = by (value_at ts I i) (value_at ts I j) (same_value (value_at ts I i) (value_at ts I j)) refl
   where
     by : (v w : Value) (b : Bool) → same_value v w ≡ b → (not (same_value v w) || (same_value w v || false)) ≡ true
@@ -30,7 +29,7 @@ sym_true ts I i j = by (value_at ts I i) (value_at ts I j) (same_value (value_at
     by v w true e =
         ap (λ x. not x || (same_value w v || false)) e ∙ subst (λ x. (same_value w x || false) ≡ true) (sym (same_is v w e)) (ap (λ b. b || false) (itself w))
 
-pub trans_true : (ts : List Tree) (I : Interpretation) (i j k : ℕ) → IsTrueClause ts I (trans_clause i j k)
+pub trans_true : (ts : List Tree) (I : Interpretation) (i j k : ℕ) → IsTrue (some_true ts I (trans_clause i j k))
 trans_true ts I i j k = by (value_at ts I i) (value_at ts I j) (value_at ts I k) (same_value (value_at ts I i) (value_at ts I j)) refl
   where
     either : (b : Bool) → (not b || (b || false)) ≡ true
@@ -43,7 +42,7 @@ trans_true ts I i j k = by (value_at ts I i) (value_at ts I j) (value_at ts I k)
         ap (λ x. not x || (not (same_value v w) || (same_value u w || false))) e
         ∙ subst (λ x. (not (same_value v w) || (same_value x w || false)) ≡ true) (sym (same_is u v e)) (either (same_value v w))
 
-pub truth_true : (ts : List Tree) (I : Interpretation) (i j : ℕ) → IsTruthAt ts I i → IsTruthAt ts I j → IsTrueClause ts I (truth_clause i j)
+pub truth_true : (ts : List Tree) (I : Interpretation) (i j : ℕ) → IsTruthAt ts I i → IsTruthAt ts I j → IsTrue (some_true ts I (truth_clause i j))
 truth_true ts I i j a b =
     ap (λ v. not (same_value v (value_at ts I j)) || (not (truth_of v) || (truth_of (value_at ts I j) || false))) a.1
     ∙ ap (λ w. not (same_value (Truth a.0) w) || (not a.0 || (truth_of w || false))) b.1
@@ -55,7 +54,7 @@ truth_true ts I i j a b =
     by false true = refl
     by false false = refl
 
-pub both_true : (ts : List Tree) (I : Interpretation) (i j : ℕ) → IsTruthAt ts I i → IsTruthAt ts I j → IsTrueClause ts I (both_clause i j)
+pub both_true : (ts : List Tree) (I : Interpretation) (i j : ℕ) → IsTruthAt ts I i → IsTruthAt ts I j → IsTrue (some_true ts I (both_clause i j))
 both_true ts I i j a b =
     ap (λ v. not (truth_of v) || (not (truth_of (value_at ts I j)) || (same_value v (value_at ts I j) || false))) a.1
     ∙ ap (λ w. not a.0 || (not (truth_of w) || (same_value (Truth a.0) w || false))) b.1
@@ -67,7 +66,7 @@ both_true ts I i j a b =
     by false true = refl
     by false false = refl
 
-pub neither_true : (ts : List Tree) (I : Interpretation) (i j : ℕ) → IsTruthAt ts I i → IsTruthAt ts I j → IsTrueClause ts I (neither_clause i j)
+pub neither_true : (ts : List Tree) (I : Interpretation) (i j : ℕ) → IsTruthAt ts I i → IsTruthAt ts I j → IsTrue (some_true ts I (neither_clause i j))
 neither_true ts I i j a b =
     ap (λ v. truth_of v || (truth_of (value_at ts I j) || (same_value v (value_at ts I j) || false))) a.1
     ∙ ap (λ w. a.0 || (truth_of w || (same_value (Truth a.0) w || false))) b.1

@@ -24,10 +24,10 @@ use Rattle.smt_meaning.specs.Declaration.{Declaration}
 use Rattle.smt_meaning.specs.Interpretation.{Interprets, interprets, IsFunctionFor, has_sort}
 use Rattle.smt_meaning.specs.Term.{Tree, Interpretation, node, none, more, tree_at}
 use Rattle.smt_meaning.specs.Nodes.{trees_of}
-use Rattle.smt_meaning.specs.Signature.{tree_sort, is_bool, is_int}
+use Rattle.smt_meaning.specs.Signature.{is_bool, is_int}
 use Rattle.smt_meaning.specs.Clause.{some_true}
 use Rattle.smt_meaning.specs.Linear.{summand, is_zero}
-use Rattle.proof_meaning.specs.Proof.{AreTerms, IsLiteral, IsSummand, IsBoolAt, IsIntAt, is_leaf, literal, negated, is_true, are_same}
+use Rattle.proof_meaning.specs.Proof.{term_sort, meant, AreTerms, IsLiteral, IsSummand, IsBoolAt, IsIntAt, is_leaf, literal, negated, is_true, are_same}
 use Rattle.proof_meaning.specs.Rules.{Gives, IsForm, of_bools, of_at_most, AreScaled, IsResolution, Runs, no_steps, next_step, IsGood}
 use Rattle.proof_meaning.specs.Reading.{literal_read, step_read, node_read, proof_read, listed, IsYes, IsWrongStep, HasNoEnd}
 use Rattle.proof_meaning.specs.declared.proof.Proof.{Proof}
@@ -110,12 +110,12 @@ is_negation t = false
 
 -- ---- a step that gives a clause, and the tests by which literals are over terms of the right sorts
 
-bool_at : (i : ℕ) → nat_lt i (length trees) ≡ true → is_bool (tree_sort signature (tree_at trees i)) ≡ true → IsBoolAt signature trees i
-bool_at i h k = (less i (length trees) h, bool_sort (tree_sort signature (tree_at trees i)) k)
+bool_at : (i : ℕ) → nat_lt i (length trees) ≡ true → is_bool (term_sort signature (tree_at trees i)) ≡ true → IsBoolAt signature trees i
+bool_at i h k = (less i (length trees) h, bool_sort (term_sort signature (tree_at trees i)) k)
 
-leaf_at : (i : ℕ) (c : ℤ) → nat_lt i (length trees) ≡ true → is_int (tree_sort signature (tree_at trees i)) ≡ true → is_leaf (tree_at trees i) ≡ true → is_zero c ≡ false
+leaf_at : (i : ℕ) (c : ℤ) → nat_lt i (length trees) ≡ true → is_int (term_sort signature (tree_at trees i)) ≡ true → is_leaf (tree_at trees i) ≡ true → is_zero c ≡ false
     → IsSummand signature trees (summand i c)
-leaf_at i c h k leaf e = record { int = (less i (length trees) h, int_sort (tree_sort signature (tree_at trees i)) k); leaf = leaf; not_zero = other_than_zero c e }
+leaf_at i c h k leaf e = record { int = (less i (length trees) h, int_sort (term_sort signature (tree_at trees i)) k); leaf = leaf; not_zero = other_than_zero c e }
 
 abbrev IsLit : Literal → Type 0
 IsLit l = IsLiteral signature trees l
@@ -138,7 +138,7 @@ p_is = bool_at 0 refl refl
 q_is : IsLit q
 q_is = bool_at 1 refl refl
 
-same_is : (i j : ℕ) → nat_lt i (length trees) ≡ true → nat_lt j (length trees) ≡ true → tree_sort signature (tree_at trees i) ≡ tree_sort signature (tree_at trees j) → IsLit (are_same i j)
+same_is : (i j : ℕ) → nat_lt i (length trees) ≡ true → nat_lt j (length trees) ≡ true → term_sort signature (tree_at trees i) ≡ term_sort signature (tree_at trees j) → IsLit (are_same i j)
 same_is i j h k e = (less i (length trees) h, less j (length trees) k, e)
 
 -- ---- assertions: p is the second
@@ -389,10 +389,6 @@ res_keeps g = elim (All-head Only p [] (g.by_rule).gives.only) [
       | inr e ↦ (let f : false ≡ true = ap (λ (l : Literal). l.positive) e in cc)
     ]
 
--- ---- division: no operator of the language has a table
-euclid_of_none : (i n : ℕ) (ls : List Literal) → GivesHere [] (Rule.Euclid i n) ls → ⊥
-euclid_of_none i n ls g = g.by_rule
-
 -- ---- inventions: what some interpretation makes false no step gives where no clause stands before and nothing is asserted
 
 abbrev own : List Value → Value
@@ -421,9 +417,9 @@ given_interprets b c m n =
     Is : Declaration → Type 0
     Is d = IsFunctionFor (given b c m n) d
 
-refused : (b c : Bool) (m n : ℤ) (ls : List Literal) → some_true trees (given b c m n) ls ≡ false → (step : Step) → Gives signature nodes trees [] [] step ls → ⊥
+refused : (b c : Bool) (m n : ℤ) (ls : List Literal) → some_true (map meant trees) (given b c m n) ls ≡ false → (step : Step) → Gives signature nodes trees [] [] step ls → ⊥
 refused b c m n ls e step g =
-    let t : some_true trees (given b c m n) ls ≡ true = alone_true signature nodes trees (given b c m n) (given_interprets b c m n) good step ls g in
+    let t : some_true (map meant trees) (given b c m n) ls ≡ true = alone_true signature nodes trees (given b c m n) (given_interprets b c m n) good step ls g in
     let f : true ≡ false = sym t ∙ e in
     cc
 
@@ -494,7 +490,7 @@ hand_trees = trees_of by_hand.nodes
 abbrev IsOurs : Literal → Type 0
 IsOurs l = IsLiteral (signature_of frames) hand_trees l
 
-here : (b : Bool) (i : ℕ) → nat_lt i 2 ≡ true → tree_sort (signature_of frames) (tree_at hand_trees i) ≡ Some Truths → IsOurs (literal b (Truth i))
+here : (b : Bool) (i : ℕ) → nat_lt i 2 ≡ true → term_sort (signature_of frames) (tree_at hand_trees i) ≡ Some Truths → IsOurs (literal b (Truth i))
 here b i h e = (less i 2 h, e)
 
 ours : (l : Literal) → IsOurs l → All IsOurs (l ∷ [])

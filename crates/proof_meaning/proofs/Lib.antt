@@ -1,3 +1,5 @@
+pub mod Meant
+mod Folding
 pub mod Terms
 mod Facts
 mod Resolving
@@ -7,6 +9,7 @@ mod Alike
 mod Linking
 mod Forms
 mod Equality
+mod Dividing
 mod Running
 mod Tests
 mod Examples

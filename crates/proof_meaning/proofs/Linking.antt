@@ -1,5 +1,5 @@
 -- An equality of Ints and the bounds of its difference.
-use Rattle.std.proofs.Common.{◌≡◌, ℕ, zero, suc, Bool, true, false, not, ◌||◌, ◌&&◌, List, ap, ap₂, sym, subst, ◌∙◌, refl, arith}
+use Rattle.std.proofs.Common.{◌≡◌, ℕ, zero, suc, Bool, true, false, not, ◌||◌, ◌&&◌, List, map, ap, ap₂, sym, subst, ◌∙◌, refl, arith}
 use Rattle.std.specs.Prelude.{IsTrue, ℤ, pos, negsuc, ◌+ℤ◌, ◌-ℤ◌, neg_ℤ, int_le, ◌≤ℤ◌}
 use Rattle.std.proofs.lemmas.Int.{ints}
 use Rattle.std.proofs.lemmas.Bool.Decides.{nat_tests}
@@ -11,7 +11,7 @@ use Rattle.smt_meaning.specs.Term.{Tree, Interpretation, tree_at, number_of, sam
 use Rattle.smt_meaning.specs.Clause.{some_true, atom_true, sum_value, value_at}
 use Rattle.smt_meaning.specs.Atoms.{difference_of}
 use Rattle.smt_meaning.specs.Linear.{Form, form_value, linear_form}
-use Rattle.proof_meaning.specs.Proof.{IsIntAt}
+use Rattle.proof_meaning.specs.Proof.{meant, IsIntAt}
 use Rattle.proof_meaning.specs.Rules.{folded_bound, link_clause, IsLink}
 use Rattle.smt_laws.proofs.LinearLaw.{form_minus_value}
 use Rattle.proof_meaning.proofs.Facts.{Facts}
@@ -39,18 +39,22 @@ eq_orders (pos m) (negsuc n) = refl
 eq_orders (negsuc m) (pos n) = refl
 eq_orders (negsuc m) (negsuc n) = grind (arith, nat_tests)
 
+-- the number of the term at a place
+abbrev pub number_at : List Tree → Interpretation → ℕ → ℤ
+number_at ts I i = number_of (value_at (map meant ts) I i)
+
 pub difference_value : (ds : List Declaration) (ts : List Tree) (I : Interpretation) → Facts ds ts I → (i j : ℕ) → IsIntAt ds ts i → IsIntAt ds ts j
-    → form_value ts I (difference_of ts (tree_at ts i) (tree_at ts j)) ≡ number_of (value_at ts I i) -ℤ number_of (value_at ts I j)
+    → form_value (map meant ts) I (difference_of ts (tree_at ts i) (tree_at ts j)) ≡ number_at ts I i -ℤ number_at ts I j
 difference_value ds ts I f i j hi hj =
-    form_minus_value ts I (linear_form ts (tree_at ts i)) (linear_form ts (tree_at ts j))
-    ∙ ap (λ z. z -ℤ form_value ts I (linear_form ts (tree_at ts j))) (sym (f.number i hi.0))
-    ∙ ap (λ z. number_of (value_at ts I i) -ℤ z) (sym (f.number j hj.0))
+    form_minus_value (map meant ts) I (linear_form ts (tree_at ts i)) (linear_form ts (tree_at ts j))
+    ∙ ap (λ z. z -ℤ form_value (map meant ts) I (linear_form ts (tree_at ts j))) (sym (f.number i hi))
+    ∙ ap (λ z. number_at ts I i -ℤ z) (sym (f.number j hj))
 
 bound_value : (ds : List Declaration) (ts : List Tree) (I : Interpretation) → Facts ds ts I → (i j : ℕ) → IsIntAt ds ts i → IsIntAt ds ts j
-    → atom_true ts I (folded_bound ts i j) ≡ int_le (number_of (value_at ts I i)) (number_of (value_at ts I j))
+    → atom_true (map meant ts) I (folded_bound ts i j) ≡ int_le (number_at ts I i) (number_at ts I j)
 bound_value ds ts I facts i j hi hj =
     let f : Form = difference_of ts (tree_at ts i) (tree_at ts j) in
-    le_moved (sum_value ts I f.sum) f.constant (number_of (value_at ts I i)) (number_of (value_at ts I j)) (difference_value ds ts I facts i j hi hj)
+    le_moved (sum_value (map meant ts) I f.sum) f.constant (number_at ts I i) (number_at ts I j) (difference_value ds ts I facts i j hi hj)
 
 same_orders : (v w : Value) → (m : ℤ) × (v ≡ Whole m) → (n : ℤ) × (w ≡ Whole n) → same_value v w ≡ (int_le (number_of v) (number_of w) && int_le (number_of w) (number_of v))
 same_orders v w hv hw =
@@ -72,18 +76,20 @@ third true true = refl
 third true false = refl
 third false b = refl
 
-clause_true : (ds : List Declaration) (ts : List Tree) (I : Interpretation) → Facts ds ts I → (i j n : ℕ) → IsIntAt ds ts i → IsIntAt ds ts j → IsTrue (some_true ts I (link_clause ts i j n))
+clause_true : (ds : List Declaration) (ts : List Tree) (I : Interpretation) → Facts ds ts I → (i j n : ℕ) → IsIntAt ds ts i → IsIntAt ds ts j
+    → IsTrue (some_true (map meant ts) I (link_clause ts i j n))
 clause_true ds ts I f i j zero hi hj =
-    ap₂ (λ x y. not x || (y || false)) (same_orders (value_at ts I i) (value_at ts I j) (f.int i hi) (f.int j hj)) (bound_value ds ts I f i j hi hj)
-    ∙ first (int_le (number_of (value_at ts I i)) (number_of (value_at ts I j))) (int_le (number_of (value_at ts I j)) (number_of (value_at ts I i)))
+    ap₂ (λ x y. not x || (y || false)) (same_orders (value_at (map meant ts) I i) (value_at (map meant ts) I j) (f.int i hi) (f.int j hj)) (bound_value ds ts I f i j hi hj)
+    ∙ first (int_le (number_at ts I i) (number_at ts I j)) (int_le (number_at ts I j) (number_at ts I i))
 clause_true ds ts I f i j (suc zero) hi hj =
-    ap₂ (λ x y. not x || (y || false)) (same_orders (value_at ts I i) (value_at ts I j) (f.int i hi) (f.int j hj)) (bound_value ds ts I f j i hj hi)
-    ∙ second (int_le (number_of (value_at ts I i)) (number_of (value_at ts I j))) (int_le (number_of (value_at ts I j)) (number_of (value_at ts I i)))
+    ap₂ (λ x y. not x || (y || false)) (same_orders (value_at (map meant ts) I i) (value_at (map meant ts) I j) (f.int i hi) (f.int j hj)) (bound_value ds ts I f j i hj hi)
+    ∙ second (int_le (number_at ts I i) (number_at ts I j)) (int_le (number_at ts I j) (number_at ts I i))
 clause_true ds ts I f i j (suc (suc n)) hi hj =
-    ap₂ (λ y z. not y || (not z || (same_value (value_at ts I i) (value_at ts I j) || false))) (bound_value ds ts I f i j hi hj) (bound_value ds ts I f j i hj hi)
-    ∙ ap (λ x. not (int_le (number_of (value_at ts I i)) (number_of (value_at ts I j))) || (not (int_le (number_of (value_at ts I j)) (number_of (value_at ts I i))) || (x || false)))
-    (same_orders (value_at ts I i) (value_at ts I j) (f.int i hi) (f.int j hj))
-    ∙ third (int_le (number_of (value_at ts I i)) (number_of (value_at ts I j))) (int_le (number_of (value_at ts I j)) (number_of (value_at ts I i)))
+    ap₂ (λ y z. not y || (not z || (same_value (value_at (map meant ts) I i) (value_at (map meant ts) I j) || false))) (bound_value ds ts I f i j hi hj) (bound_value ds ts I f j i hj hi)
+    ∙ ap (λ x. not (int_le (number_at ts I i) (number_at ts I j)) || (not (int_le (number_at ts I j) (number_at ts I i)) || (x || false)))
+    (same_orders (value_at (map meant ts) I i) (value_at (map meant ts) I j) (f.int i hi) (f.int j hj))
+    ∙ third (int_le (number_at ts I i) (number_at ts I j)) (int_le (number_at ts I j) (number_at ts I i))
 
-pub link_true : (ds : List Declaration) (ts : List Tree) (I : Interpretation) → Facts ds ts I → (i j n : ℕ) (ls : List Literal) → IsLink ds ts i j n ls → some_true ts I ls ≡ true
-link_true ds ts I f i j n ls h = subst (λ ms. some_true ts I ms ≡ true) (sym h.clause) (clause_true ds ts I f i j n h.left h.right)
+pub link_true : (ds : List Declaration) (ts : List Tree) (I : Interpretation) → Facts ds ts I → (i j n : ℕ) (ls : List Literal) → IsLink ds ts i j n ls
+    → some_true (map meant ts) I ls ≡ true
+link_true ds ts I f i j n ls h = subst (λ ms. some_true (map meant ts) I ms ≡ true) (sym h.clause) (clause_true ds ts I f i j n h.left h.right)

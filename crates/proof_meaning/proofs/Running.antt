@@ -1,5 +1,5 @@
 -- The steps of a proof, one after the other.
-use Rattle.std.proofs.Common.{◌≡◌, ℕ, ◌<◌, Bool, true, false, ◌||◌, List, [], ◌∷◌, ◌++◌, All, Contains, length, sym, subst, refl, arith}
+use Rattle.std.proofs.Common.{◌≡◌, ℕ, ◌<◌, Bool, true, false, ◌||◌, List, [], ◌∷◌, ◌++◌, All, Contains, length, map, ap, sym, subst, ◌∙◌, refl, arith}
 use Rattle.std.specs.Prelude.{IsTrue}
 use Rattle.std.proofs.lemmas.List.Elements.{All-nil, All-push, All-contains, All-head, All-tail, Contains-append_left, Contains-push}
 use Rattle.smt_meaning.specs.declared.nodes.Node.{Node}
@@ -12,9 +12,10 @@ use Rattle.smt_meaning.specs.Interpretation.{Interprets}
 use Rattle.smt_meaning.specs.Stack.{Frame, Satisfies, HasNoModel, no_model, assertions_of, signature_of}
 use Rattle.smt_meaning.specs.Term.{Tree, Interpretation, tree_at, value, truth_of}
 use Rattle.smt_meaning.specs.Clause.{value_at}
-use Rattle.proof_meaning.specs.Proof.{AreTerms, IsLiteral}
+use Rattle.proof_meaning.specs.Proof.{meant, AreTerms, IsLiteral}
 use Rattle.proof_meaning.specs.Rules.{Runs, no_steps, next_step, IsByRule, Gives, IsGood, clause_at, truth_clause, both_clause, neither_clause}
 use Rattle.proof_meaning.specs.Laws.{IsTrueClause, ProofClausesAreTrue, NamedAssertionsHaveNoModel}
+use Rattle.proof_meaning.proofs.Meant.{meant_value_at}
 use Rattle.proof_meaning.proofs.Facts.{Facts, facts}
 use Rattle.proof_meaning.proofs.Equality.{same_true, sym_true, trans_true, truth_true, both_true, neither_true}
 use Rattle.proof_meaning.proofs.Resolving.{resolvent_true}
@@ -23,6 +24,7 @@ use Rattle.proof_meaning.proofs.Rounding.{round_true}
 use Rattle.proof_meaning.proofs.Alike.{cong_true}
 use Rattle.proof_meaning.proofs.Linking.{link_true}
 use Rattle.proof_meaning.proofs.Forms.{form_true, pick_true}
+use Rattle.proof_meaning.proofs.Dividing.{euclid_true}
 
 first : {ds : List Declaration} {ts : List Tree} {a b c : Literal} → All (IsLiteral ds ts) (a ∷ b ∷ c ∷ []) → IsLiteral ds ts a
 first {ds} {ts} {a} {b} {c} all = All-head (IsLiteral ds ts) a (b ∷ c ∷ []) all
@@ -47,28 +49,29 @@ rule_true : (ds : List Declaration) (ns : List Node) (ts asserted : List Tree) (
     → (step : Step) → ((a i : ℕ) → step ≡ Assert a i → a < length asserted → Satisfies I (tree_at asserted a))
     → (ls : List Literal) → IsByRule ds ns ts asserted before step ls → All (IsLiteral ds ts) ls → IsTrueClause ts I ls
 rule_true ds ns ts asserted I g before all (Assert a i) named ls h literals =
-    subst (IsTrueClause ts I) (sym h.clause) (or_false (truth_of (value_at ts I i)) (subst (λ u. IsTrue (truth_of (value I u))) (sym h.tree_is) (named a i refl h.asserted_within)))
+    subst (IsTrueClause ts I) (sym h.clause) (or_false (truth_of (value_at (map meant ts) I i))
+    (subst (λ v. IsTrue (truth_of v)) (sym (meant_value_at ts I i ∙ ap (value I) h.tree_is)) (named a i refl h.asserted_within)))
 rule_true ds ns ts asserted I g before all (Form i ms) named ls h literals = form_true ds ns ts I g.terms g.facts i ls h.0
-rule_true ds ns ts asserted I g before all (Pick i n) named ls h literals = pick_true ds ns ts I g.terms (same_true ts I) i n ls h
-rule_true ds ns ts asserted I g before all (Euclid i n) named ls h literals = absurd h
-rule_true ds ns ts asserted I g before all (Refl i) named ls h literals = subst (IsTrueClause ts I) (sym h) (same_true ts I i)
-rule_true ds ns ts asserted I g before all (Sym i j) named ls h literals = subst (IsTrueClause ts I) (sym h) (sym_true ts I i j)
-rule_true ds ns ts asserted I g before all (Trans i j k) named ls h literals = subst (IsTrueClause ts I) (sym h) (trans_true ts I i j k)
-rule_true ds ns ts asserted I g before all (Cong i j) named ls h literals = cong_true ds ns ts I g.terms (same_true ts I) i j ls h
+rule_true ds ns ts asserted I g before all (Pick i n) named ls h literals = pick_true ds ns ts I g.terms (same_true (map meant ts) I) i n ls h
+rule_true ds ns ts asserted I g before all (Euclid i n) named ls h literals = euclid_true ds ns ts I g.terms g.facts i n ls h
+rule_true ds ns ts asserted I g before all (Refl i) named ls h literals = subst (IsTrueClause ts I) (sym h) (same_true (map meant ts) I i)
+rule_true ds ns ts asserted I g before all (Sym i j) named ls h literals = subst (IsTrueClause ts I) (sym h) (sym_true (map meant ts) I i j)
+rule_true ds ns ts asserted I g before all (Trans i j k) named ls h literals = subst (IsTrueClause ts I) (sym h) (trans_true (map meant ts) I i j k)
+rule_true ds ns ts asserted I g before all (Cong i j) named ls h literals = cong_true ds ns ts I g.terms (same_true (map meant ts) I) i j ls h
 rule_true ds ns ts asserted I g before all (Truth i j) named ls h literals =
     let own : All (IsLiteral ds ts) (truth_clause i j) = subst (All (IsLiteral ds ts)) h literals in
-    subst (IsTrueClause ts I) (sym h) (truth_true ts I i j ((g.facts).bool i (second own)) ((g.facts).bool j (third own)))
+    subst (IsTrueClause ts I) (sym h) (truth_true (map meant ts) I i j ((g.facts).bool i (second own)) ((g.facts).bool j (third own)))
 rule_true ds ns ts asserted I g before all (Both i j) named ls h literals =
     let own : All (IsLiteral ds ts) (both_clause i j) = subst (All (IsLiteral ds ts)) h literals in
-    subst (IsTrueClause ts I) (sym h) (both_true ts I i j ((g.facts).bool i (first own)) ((g.facts).bool j (second own)))
+    subst (IsTrueClause ts I) (sym h) (both_true (map meant ts) I i j ((g.facts).bool i (first own)) ((g.facts).bool j (second own)))
 rule_true ds ns ts asserted I g before all (Neither i j) named ls h literals =
     let own : All (IsLiteral ds ts) (neither_clause i j) = subst (All (IsLiteral ds ts)) h literals in
-    subst (IsTrueClause ts I) (sym h) (neither_true ts I i j ((g.facts).bool i (first own)) ((g.facts).bool j (second own)))
+    subst (IsTrueClause ts I) (sym h) (neither_true (map meant ts) I i j ((g.facts).bool i (first own)) ((g.facts).bool j (second own)))
 rule_true ds ns ts asserted I g before all (Link i j n) named ls h literals = link_true ds ts I g.facts i j n ls h
-rule_true ds ns ts asserted I g before all (Round l k) named ls h literals = round_true ts I l k ls h
-rule_true ds ns ts asserted I g before all (Farkas ws) named ls h literals = farkas_true ts I ws ls h
+rule_true ds ns ts asserted I g before all (Round l k) named ls h literals = round_true (map meant ts) I l k ls h
+rule_true ds ns ts asserted I g before all (Farkas ws) named ls h literals = farkas_true (map meant ts) I ws ls h
 rule_true ds ns ts asserted I g before all (Res p q l) named ls h literals =
-    resolvent_true ts I (clause_at before p) (clause_at before q) l ls h.gives (all p [] h.left_earlier) (all q [] h.right_earlier)
+    resolvent_true (map meant ts) I (clause_at before p) (clause_at before q) l ls h.gives (all p [] h.left_earlier) (all q [] h.right_earlier)
 
 -- where no clause stands before and nothing is asserted, each clause that a step gives is true
 pub alone_true : (ds : List Declaration) (ns : List Node) (ts : List Tree) (I : Interpretation) → Interprets ds I → AreTerms ds ns ts → (step : Step) (ls : List Literal)

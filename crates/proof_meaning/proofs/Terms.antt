@@ -1,21 +1,24 @@
--- The terms of a proof: each stands in the list of trees, is linear, and has its leaves among the trees.
-use Rattle.std.proofs.Common.{◌≡◌, ℕ, ◌<◌, List, [], ◌∷◌, ◌++◌, length, All, ap, sym, subst, ◌∙◌, refl, arith, inl, inr}
+-- The terms of a proof: each stands in the list of terms, has a sort, is linear, and has its leaves among them.
+use Rattle.std.proofs.Common.{◌≡◌, ℕ, ◌<◌, List, [], ◌∷◌, ◌++◌, length, All, map, Some, ap, sym, subst, ◌∙◌, refl, arith, inl, inr}
 use Rattle.std.specs.Prelude.{IsTrue}
 use Rattle.std.proofs.lemmas.List.{get_or_append_left, length_push}
 use Rattle.std.proofs.lemmas.List.Elements.{All-nil, All-cons, All-head, All-tail, All-append, All-push, All-weaker, All-get_or}
 use Rattle.std.proofs.Math.Seq.{get_or-append_seam}
 use Rattle.std.proofs.lemmas.Bool.{cases_lt}
+use Rattle.smt_meaning.specs.declared.values.Sort.{Sort}
 use Rattle.smt_meaning.specs.declared.nodes.Node.{Node}
 use Rattle.smt_meaning.specs.declared.terms.Head.{Head}
 use Rattle.smt_meaning.specs.declared.terms.Head.TheVariants.{Numeral, Theory, Symbol, Place}
 use Rattle.smt_meaning.specs.declared.terms.Operator.TheVariants.{Add, Subtract, Multiply}
 use Rattle.smt_meaning.specs.Declaration.{Declaration}
-use Rattle.smt_meaning.specs.Term.{Tree, Trees, node, tree_at}
-use Rattle.smt_meaning.specs.TreeShape.{is_linear, is_among}
+use Rattle.smt_meaning.specs.Term.{Tree, Trees, node, tree_at, Interpretation, value, values}
+use Rattle.smt_meaning.specs.TreeShape.{is_among}
+use Rattle.smt_meaning.specs.Clause.{value_at}
 use Rattle.smt_meaning.specs.Linear.{leaves, leaves_of}
 use Rattle.smt_meaning.specs.Nodes.{pick, tree_of}
-use Rattle.proof_meaning.specs.Proof.{AreTerms, no_terms, next_term, IsTerm, node_at}
+use Rattle.proof_meaning.specs.Proof.{term_sort, is_linear_term, meant, all_meant, AreTerms, no_terms, next_term, IsTerm, node_at}
 use Rattle.smt_laws.proofs.Among.{among_append, among_last}
+use Rattle.proof_meaning.proofs.Meant.{meant_value_at, meant_picked, apply_written, written_value}
 
 pub record Stands (ts : List Tree) (n : Node) (i : ℕ) : Type 0 where
   pub tree : tree_at ts i ≡ tree_of ts n
@@ -65,8 +68,12 @@ stands ds _ _ (next_term {ns = ns} {ts = ts} hs n k) i h =
 abbrev AreAmong : List Tree → List Tree → Type 0
 AreAmong ts us = All (λ u. IsTrue (is_among u ts)) us
 
-abbrev pub IsReadable : List Tree → Tree → Type 0
-IsReadable ts t = IsTrue (is_linear t) × All (λ u. IsTrue (is_among u ts)) (leaves t)
+-- what lets a term be read as a linear form
+pub record IsReadable (ds : List Declaration) (ts : List Tree) (t : Tree) : Type 0 where
+  pub sort : Sort
+  pub has_sort : term_sort ds t ≡ Some sort
+  pub linear : IsTrue (is_linear_term t)
+  pub leaves_are : All (λ u. IsTrue (is_among u ts)) (leaves t)
 
 picked_leaves : (ts : List Tree) → All (λ t. AreAmong ts (leaves t)) ts → (is : List ℕ) → All (λ i. i < length ts) is → AreAmong ts (leaves_of (pick ts is))
 picked_leaves ts all [] below = All-nil (λ u. IsTrue (is_among u ts))
@@ -90,14 +97,31 @@ new_leaves ts (Theory o) us all = itself ts (node (Theory o) us)
 new_leaves ts (Symbol f) us all = itself ts (node (Symbol f) us)
 new_leaves ts (Place k) us all = itself ts (node (Place k) us)
 
-pub terms_readable : (ds : List Declaration) (ns : List Node) (ts : List Tree) → AreTerms ds ns ts → All (IsReadable ts) ts
-terms_readable ds _ _ no_terms = All-nil (IsReadable [])
+pub terms_readable : (ds : List Declaration) (ns : List Node) (ts : List Tree) → AreTerms ds ns ts → All (IsReadable ds ts) ts
+terms_readable ds _ _ no_terms = All-nil (IsReadable ds [])
 terms_readable ds _ _ (next_term {ns = ns} {ts = ts} hs n k) =
     let t : Tree = tree_of ts n in
-    let before : All (IsReadable ts) ts = terms_readable ds ns ts hs in
-    All-push (IsReadable (ts ++ t ∷ [])) ts t
-    (All-weaker (IsReadable ts) (IsReadable (ts ++ t ∷ [])) (λ u h. (h.0, more_among ts t (leaves u) h.1)) ts before) (
-      k.linear,
-      new_leaves ts n.head (pick ts n.arguments)
-          (picked_leaves ts (All-weaker (IsReadable ts) (λ u. AreAmong ts (leaves u)) (λ u h. h.1) ts before) n.arguments k.earlier),
-    )
+    let before : All (IsReadable ds ts) ts = terms_readable ds ns ts hs in
+    All-push (IsReadable ds (ts ++ t ∷ [])) ts t
+    (All-weaker (IsReadable ds ts) (IsReadable ds (ts ++ t ∷ []))
+    (λ u h. record { sort = h.sort; has_sort = h.has_sort; linear = h.linear; leaves_are = more_among ts t (leaves u) h.leaves_are }) ts before)
+    (record {
+      sort = k.sort;
+      has_sort = k.has_sort;
+      linear = k.linear;
+      leaves_are = new_leaves ts n.head (pick ts n.arguments)
+          (picked_leaves ts (All-weaker (IsReadable ds ts) (λ u. AreAmong ts (leaves u)) (λ u h. h.leaves_are) ts before) n.arguments k.earlier);
+    })
+
+pub readable_at : (ds : List Declaration) (ns : List Node) (ts : List Tree) → AreTerms ds ns ts → (i : ℕ) → i < length ts → IsReadable ds ts (tree_at ts i)
+readable_at ds ns ts terms i h = All-get_or (IsReadable ds ts) ts i _ h (terms_readable ds ns ts terms)
+
+-- ---- values
+
+-- a term has the value that its head makes of those of its arguments
+pub standing_value : (ds : List Declaration) (ns : List Node) (ts : List Tree) (I : Interpretation) → AreTerms ds ns ts → (i : ℕ) → i < length ns
+    → value_at (map meant ts) I i ≡ apply_written I (node_at ns i).head (values I (pick (map meant ts) (node_at ns i).arguments))
+standing_value ds ns ts I terms i h =
+    let n : Node = node_at ns i in
+    meant_value_at ts I i ∙ ap (λ t. value I (meant t)) (stands ds ns ts terms i h).tree ∙ written_value I n.head (all_meant (pick ts n.arguments))
+    ∙ ap (λ us. apply_written I n.head (values I us)) (sym (meant_picked ts n.arguments))

@@ -7,10 +7,8 @@ use Rattle.smt_meaning.specs.declared.values.Sort.{Sort}
 use Rattle.smt_meaning.specs.declared.nodes.Node.{Node}
 use Rattle.smt_meaning.specs.Declaration.{Declaration}
 use Rattle.smt_meaning.specs.Term.{Tree}
-use Rattle.smt_meaning.specs.TreeShape.{is_linear}
 use Rattle.smt_meaning.specs.Nodes.{tree_of, trees_from, trees_of}
-use Rattle.smt_meaning.specs.Signature.{tree_sort}
-use Rattle.proof_meaning.specs.Proof.{AreTerms, no_terms, next_term, IsTerm}
+use Rattle.proof_meaning.specs.Proof.{term_sort, is_linear_term, AreTerms, no_terms, next_term, IsTerm}
 use Rattle.smt_laws.proofs.Both.{and_left, and_right}
 
 pub less : (i n : ℕ) → nat_lt i n ≡ true → i < n
@@ -33,18 +31,18 @@ some_sort (Some s) h = (s, refl)
 some_sort None h = let e : false ≡ true = h in cc
 
 abbrev pub is_term : List Declaration → List Tree → Node → Bool
-is_term ds ts n = all_below (length ts) n.arguments && (is_some (tree_sort ds (tree_of ts n)) && is_linear (tree_of ts n))
+is_term ds ts n = all_below (length ts) n.arguments && (is_some (term_sort ds (tree_of ts n)) && is_linear_term (tree_of ts n))
 
 one_term : (ds : List Declaration) (ts : List Tree) (n : Node) → is_term ds ts n ≡ true → IsTerm ds ts n
 one_term ds ts n h =
-    let rest : (is_some (tree_sort ds (tree_of ts n)) && is_linear (tree_of ts n)) ≡ true =
-    and_right (all_below (length ts) n.arguments) (is_some (tree_sort ds (tree_of ts n)) && is_linear (tree_of ts n)) h in
-    let sort : (s : Sort) × (tree_sort ds (tree_of ts n) ≡ Some s) = some_sort (tree_sort ds (tree_of ts n)) (and_left (is_some (tree_sort ds (tree_of ts n))) (is_linear (tree_of ts n)) rest) in
+    let rest : (is_some (term_sort ds (tree_of ts n)) && is_linear_term (tree_of ts n)) ≡ true =
+    and_right (all_below (length ts) n.arguments) (is_some (term_sort ds (tree_of ts n)) && is_linear_term (tree_of ts n)) h in
+    let sort : (s : Sort) × (term_sort ds (tree_of ts n) ≡ Some s) = some_sort (term_sort ds (tree_of ts n)) (and_left (is_some (term_sort ds (tree_of ts n))) (is_linear_term (tree_of ts n)) rest) in
     record {
-      earlier = below (length ts) n.arguments (and_left (all_below (length ts) n.arguments) (is_some (tree_sort ds (tree_of ts n)) && is_linear (tree_of ts n)) h);
+      earlier = below (length ts) n.arguments (and_left (all_below (length ts) n.arguments) (is_some (term_sort ds (tree_of ts n)) && is_linear_term (tree_of ts n)) h);
       sort = sort.0;
       has_sort = sort.1;
-      linear = and_right (is_some (tree_sort ds (tree_of ts n))) (is_linear (tree_of ts n)) rest;
+      linear = and_right (is_some (term_sort ds (tree_of ts n))) (is_linear_term (tree_of ts n)) rest;
     }
 
 abbrev pub are_terms : List Declaration → List Tree → List Node → Bool

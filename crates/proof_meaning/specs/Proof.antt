@@ -1,5 +1,5 @@
 -- Proofs that assertions have no model: their terms, and the literals of their clauses. A clause is a list of literals over the numbers of the terms.
-use Rattle.std.specs.Prelude.{◌≡◌, ◌≢◌, ℕ, Bool, true, false, not, ◌&&◌, List, [], ◌∷◌, ◌++◌, length, All, slice_index_or, ◌<◌, ℤ, pos, Option, Some, None, IsTrue, AllPairs, nat_eq, if◌then◌else◌}
+use Rattle.std.specs.Prelude.{◌≡◌, ◌≢◌, ℕ, Bool, true, false, not, ◌&&◌, List, [], ◌∷◌, ◌++◌, length, All, slice_index_or, ◌<◌, pos, Option, Some, None, IsTrue, AllPairs, nat_eq, if◌then◌else◌}
 use Rattle.smt_meaning.specs.declared.values.Sort.{Sort}
 use Rattle.smt_meaning.specs.declared.values.Sort.TheVariants.{Bool as Truths, Int as Ints}
 use Rattle.smt_meaning.specs.declared.terms.Head.{Head}
