@@ -8,7 +8,7 @@ use Rattle.smt_meaning.specs.Linear.{linear_form}
 use Rattle.smt_meaning.specs.Division.{Limit, Row}
 use Rattle.proof_meaning.specs.declared.proof.Step.TheVariants.{Euclid}
 use Rattle.proof_meaning.specs.Proof.{AreTerms, node_at}
-use Rattle.proof_meaning.specs.Rules.{IsEuclid, row_clause}
+use Rattle.proof_meaning.specs.Rules.{row_clause}
 use Rattle.proof_form.specs.Range.{limit_stays, row_stays, EuclidLeaves}
 use Rattle.proof_form.specs.Terms.{ProofTerms}
 use Rattle.proof_form.specs.Kept.{Kept}
@@ -16,7 +16,7 @@ use Rattle.proof_form.specs.Comes.{Comes, Stays}
 use Rattle.proof_form.specs.declared.verdict.Verdict.{Verdict}
 use Rattle.proof_form.specs.declared.verdict.Verdict.TheVariants.{Good, Wrong, Range}
 use Rattle.proof_form.specs.TermRows.{tree_limit, tree_row, tree_limit_stays}
-use Rattle.proof_form.specs.EuclidRows.{IsRowAt, HasNoRowAt, RowLeaves}
+use Rattle.proof_form.specs.EuclidRows.{IsRowAt, RowLeaves}
 use Rattle.proof_form.specs.EuclidCodes.{KeepsRow}
 use Rattle.proof_form.proofs.TermRowForms.{stays_by_trees}
 use Rattle.proof_form.proofs.EuclidLiterals.{row_literals}
@@ -40,16 +40,7 @@ module _ (t : ProofTerms) (asserted : List Tree) (old new : Kept) (i n : ℕ) wh
   stays h (inl e) = let x : true ≡ false = e in cc
   stays h (inr leaves) = h leaves
 
-  pub no_term : (i < length t.nodes → ⊥) → Comes t asserted old new (Euclid i n) Wrong
-  no_term h = (stays (λ leaves. h leaves.within), λ before ls kept literals gives. (let r : IsEuclid t.nodes t.trees i n ls = gives.by_rule in h r.within))
-
-  pub no_row : HasNoRowAt t.trees i head arguments n → Comes t asserted old new (Euclid i n) Wrong
-  no_row h = (
-    stays (λ leaves. h leaves.rows leaves.has leaves.row leaves.row_is),
-    λ before ls kept literals gives. (let r : IsEuclid t.nodes t.trees i n ls = gives.by_rule in h r.rows r.has r.row r.row_is),
-  )
-
-  pub row_range : i < length t.nodes → RowLeaves t.trees i head arguments n → Comes t asserted old new (Euclid i n) Range
+  row_range : i < length t.nodes → RowLeaves t.trees i head arguments n → Comes t asserted old new (Euclid i n) Range
   row_range h l = inr (record { within = h; rows = l.rows; has = l.has; row = l.row; row_is = l.row_is; outside = l.outside })
 
   pub row_comes : AreTerms t.declared t.nodes t.trees → i < length t.nodes → (row : Row ℕ) → IsRowAt t.trees i head arguments n row → (v : Verdict) → KeepsRow old new t.trees i row v → Comes t asserted old new (Euclid i n) v
