@@ -3,7 +3,7 @@ use Rattle.std.proofs.Common.{◌≡◌, ◌≢◌, ◌⊎◌, inl, inr, ℕ, ze
 use Rattle.std.specs.Prelude.{ℤ, pos, negsuc, ◌+ℤ◌, ◌*ℤ◌, AllPairs, IsTrue, if◌then◌else◌}
 use Rattle.std.proofs.lemmas.Int.{ints}
 use Rattle.std.proofs.Math.IntN.{*ℤ-zero}
-use Rattle.std.proofs.lemmas.List.Elements.{All-nil, All-cons, All-head, All-get_or}
+use Rattle.std.proofs.lemmas.List.Elements.{All-nil, All-cons, All-head}
 use Rattle.smt_meaning.specs.declared.values.Sort.{Sort}
 use Rattle.smt_meaning.specs.declared.values.Sort.TheVariants.{Bool as Truths, Int as Ints, Free}
 use Rattle.smt_meaning.specs.declared.terms.Operator.{Operator}
@@ -20,12 +20,15 @@ use Rattle.smt_meaning.specs.Linear.{Form, form_times, form_plus, form_minus, fo
 use Rattle.smt_meaning.specs.Atoms.{difference_of}
 use Rattle.proof_meaning.specs.Proof.{is_written, with_term_sorts, term_sort, term_sorts, AreTerms, IsSummand, IsAtom, IsIntAt, is_leaf}
 use Rattle.proof_meaning.specs.Rules.{folded_bound}
+use Rattle.proof_meaning.proofs.Terms.{readable_at}
 use Rattle.smt_laws.proofs.Both.{and_left, and_right}
 use Rattle.smt_laws.proofs.Included.{All-included, included_left, included_right}
 use Rattle.smt_laws.proofs.SameTree.{found_again}
-use Rattle.proof_form.proofs.BoundAmong.{AreAmong, HasLeaves, leaves_among}
 use Rattle.linear_forms.specs.Sums.{coefficient_of, IsSumWithin, IsSum}
 use Rattle.linear_forms.proofs.SumLemmas.{absent_below, at_first, past_first, sums_added_sum, sums_added_at, sum_times_sum, sum_times_at}
+
+abbrev pub AreAmong : List Tree → List Tree → Type 0
+AreAmong ts us = All (λ (u : Tree). IsTrue (is_among u ts)) us
 
 -- ---- forms over such leaves
 
@@ -219,9 +222,8 @@ all_summands ds ts low (p ∷ ps) h over =
 
 pub folded_atom : (ds : List Declaration) (ns : List Node) (ts : List Tree) → AreTerms ds ns ts → (i j : ℕ) → IsIntAt ds ts i → IsIntAt ds ts j → IsAtom ds ts (folded_bound ts i j)
 folded_atom ds ns ts terms i j hi hj =
-    let among : All (HasLeaves ts) ts = leaves_among ds ns ts terms in
-    let left : IsOver ds ts (linear_form ts (tree_at ts i)) = over_term ds ts (tree_at ts i) (All-get_or (HasLeaves ts) ts i _ hi.0 among) hi.1 in
-    let right : IsOver ds ts (linear_form ts (tree_at ts j)) = over_term ds ts (tree_at ts j) (All-get_or (HasLeaves ts) ts j _ hj.0 among) hj.1 in
+    let left : IsOver ds ts (linear_form ts (tree_at ts i)) = over_term ds ts (tree_at ts i) (readable_at ds ns ts terms i hi.0).leaves_are hi.1 in
+    let right : IsOver ds ts (linear_form ts (tree_at ts j)) = over_term ds ts (tree_at ts j) (readable_at ds ns ts terms j hj.0).leaves_are hj.1 in
     let f : Form = difference_of ts (tree_at ts i) (tree_at ts j) in
     let both : IsOver ds ts f = over_minus ds ts (linear_form ts (tree_at ts i)) (linear_form ts (tree_at ts j)) left right in
     (all_summands ds ts 0 f.sum both.is_sum both.over, pairs_ascend 0 (length ts) f.sum both.is_sum)

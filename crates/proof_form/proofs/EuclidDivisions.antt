@@ -110,8 +110,7 @@ module _ (ts : List Tree) (i : ℕ) where
       → (q : ℕ) × ((tree_at ts q ≡ quotient_tree (tree_at ts a) (tree_at ts n)) × (rows ≡ remainder_rows a (divisor_at ts n) q i))
   remainder_only _ _ _ a n (of_remainder b m q t) e f =
       let x : b ≡ a = cc in
-      let y : m ≡ n = cc in
-      (
+      let y : m ≡ n = cc in (
         q,
         (
           t ∙ ap (λ z. quotient_tree (tree_at ts z) (tree_at ts m)) x ∙ ap (λ z. quotient_tree (tree_at ts a) (tree_at ts z)) y,
@@ -127,8 +126,7 @@ module _ (ts : List Tree) (i : ℕ) where
       → (q : ℕ) × ((tree_at ts q ≡ quotient_tree (tree_at ts a) (node (Numeral k) none)) × (rows ≡ divisible_rows a k q))
   divisible_only _ _ _ a k (of_divisibility b q m t) e f =
       let x : b ≡ a = cc in
-      let y : m ≡ k = cc in
-      (
+      let y : m ≡ k = cc in (
         q,
         (
           t ∙ ap (λ z. quotient_tree (tree_at ts z) (node (Numeral m) none)) x ∙ ap (λ z. quotient_tree (tree_at ts a) (node (Numeral z) none)) y,
@@ -277,9 +275,9 @@ pub row_found : (ts : List Tree) (i : ℕ) (d : Division) (w : ℕ) (n : ℤ) (r
     → IsWithin (length ts) d → slice_get rows w ≡ Some r → IsItsRowOrNone ts i d w (Some r)
 row_found ts i d w n rows r e range s l within at = (
   ap (λ z. slice_get (division_rows d z i) w) (sym e) ∙ ap (λ xs. slice_get xs w) (sym (rows_back d n i)) ∙ ap (λ xs. slice_get (map row_of xs) w) (sym s)
-  ∙ slice_get-map row_of rows w ∙ ap (λ o. option_map row_of o) at,
+      ∙ slice_get-map row_of rows w ∙ ap (λ o. option_map row_of o) at,
   subst (IsRow (length ts)) (get_or_from_slice_get rows w r r at)
-  (All-get_or (IsRow (length ts)) rows w r (slice_get_within rows w r at) (subst (All (IsRow (length ts))) (sym s) (rows_within d n i (length ts) range l within))),
+      (All-get_or (IsRow (length ts)) rows w r (slice_get_within rows w r at) (subst (All (IsRow (length ts))) (sym s) (rows_within d n i (length ts) range l within))),
 )
 
 -- ---- the rows of a term by those of its division

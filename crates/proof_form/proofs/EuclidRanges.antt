@@ -49,11 +49,11 @@ module _ (ts : List Tree) where
   -- a multiple by a number that isn't in the range
   leaf_outside : (n : ℤ) (t : Tree) → (InRange n → ⊥) → form_fits (form_times n (leaf_form ts t)) ≡ false
   leaf_outside n t out = false_if (form_fits (form_times n (leaf_form ts t))) (λ h.
-    (let f : Form = leaf_form ts t in
-    let not_zero : n ≢ pos 0 = λ e. out (subst InRange (sym e) (lit< tt)) in
-    let fits : sum_fits (sum_times n f.sum) ≡ true = and_left (sum_fits (sum_times n f.sum)) (is_in_range (n *ℤ pos 0)) h in
-    let each : (is_in_range (n *ℤ pos 1) && true) ≡ true = ap sum_fits (sym (times_each n f.sum not_zero)) ∙ fits in
-    out (subst InRange (by_one n) (fits_in_range (n *ℤ pos 1) (and_left (is_in_range (n *ℤ pos 1)) true each)))))
+      (let f : Form = leaf_form ts t in
+      let not_zero : n ≢ pos 0 = λ e. out (subst InRange (sym e) (lit< tt)) in
+      let fits : sum_fits (sum_times n f.sum) ≡ true = and_left (sum_fits (sum_times n f.sum)) (is_in_range (n *ℤ pos 0)) h in
+      let each : (is_in_range (n *ℤ pos 1) && true) ≡ true = ap sum_fits (sym (times_each n f.sum not_zero)) ∙ fits in
+      out (subst InRange (by_one n) (fits_in_range (n *ℤ pos 1) (and_left (is_in_range (n *ℤ pos 1)) true each)))))
 
   -- folding one of the terms leaves the range, or the sum of the multiples
   abbrev IsBad : List (ℤ × ℕ) → Type 0

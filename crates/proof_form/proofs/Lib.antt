@@ -40,7 +40,6 @@ pub mod FarkasKeeping
 pub mod FarkasWeighted
 pub mod FarkasJudging
 pub mod BoundJoining
-pub mod BoundAmong
 pub mod BoundLeaves
 pub mod BoundJudging
 pub mod EuclidDivisions

@@ -116,7 +116,7 @@ module _ (r : ℕ → ℕ) (a : Ascends r) (ts us : List Tree) where
       ap (λ b. b && (form_fits (form_times m.0 (linear_form ts m.1)) && form_fits (combined (linear_form ts) (m ∷ ms)))) (combined_fits_renamed ms h.1)
       ∙ ap (λ b. combined_fits (linear_form us) ms && (b && form_fits (combined (linear_form ts) (m ∷ ms)))) (multiple_fits m h.0)
       ∙ ap (λ b. combined_fits (linear_form us) ms && (form_fits (form_times m.0 (linear_form us m.1)) && b))
-          (ap form_fits (combined_renamed (m ∷ ms) h) ∙ form_fits_renamed r a (combined (linear_form us) (m ∷ ms)))
+      (ap form_fits (combined_renamed (m ∷ ms) h) ∙ form_fits_renamed r a (combined (linear_form us) (m ∷ ms)))
 
   trees_fit_renamed : (ms : List (ℤ × Tree)) → AreRenamed ms → trees_fit ts ms ≡ trees_fit us ms
   trees_fit_renamed [] h = refl

@@ -64,11 +64,7 @@ fn remainder(terms: &mut Terms<'_>, arguments: &[TermId]) -> Result<Option<Divis
         return Ok(None);
     }
     match terms.term_with(Head::Theory(Operator::Divide), arguments)? {
-        Some(quotient) => Ok(Some(Division::Remainder(
-            arguments[0],
-            arguments[1],
-            quotient,
-        ))),
+        Some(quotient) => Ok(Some(Division::Remainder(arguments[0], arguments[1], quotient))),
         None => Ok(None),
     }
 }

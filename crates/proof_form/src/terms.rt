@@ -1,10 +1,9 @@
 //! The terms of a proof: their nodes, sorts, linear forms, and which of the stack's terms they are.
 ghost use Rattle.std.specs.Prelude.{◌≡◌};
 
-use crate::terms_bounds;
 use crate::terms_held::copy;
-use crate::terms_rows;
 use crate::terms_table::TermTable;
+use crate::{terms_bounds, terms_rows};
 use pair_bounds::RowLimit;
 use scope_stack::Stack;
 use smt_meaning::{Head, Node, Sort, Summand, TermId};
