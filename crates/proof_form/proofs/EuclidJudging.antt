@@ -1,10 +1,8 @@
 -- What a step on the table of divisions comes to.
-use Rattle.std.proofs.Common.{◌≡◌, inl, inr, ℕ, ◌<◌, true, false, ◌&&◌, List, [], ◌∷◌, ◌++◌, length, map, refl, ap, sym, ◌∙◌}
+use Rattle.std.proofs.Common.{◌≡◌, inl, inr, ℕ, ◌<◌, true, false, ◌&&◌, List, [], ◌∷◌, length, map, refl, ap, sym, ◌∙◌}
 use Rattle.std.specs.List.{list_all}
 use Rattle.smt_meaning.specs.declared.terms.Head.{Head}
-use Rattle.smt_meaning.specs.declared.clauses.Literal.{Literal}
 use Rattle.smt_meaning.specs.Term.{Tree}
-use Rattle.smt_meaning.specs.Linear.{linear_form}
 use Rattle.smt_meaning.specs.Division.{Limit, Row}
 use Rattle.proof_meaning.specs.declared.proof.Step.TheVariants.{Euclid}
 use Rattle.proof_meaning.specs.Proof.{AreTerms, node_at}

@@ -1,12 +1,12 @@
 -- The literals of the clauses of the table of divisions are over the proof's terms, of the right sorts.
-use Rattle.std.proofs.Common.{◌≡◌, ◌⊎◌, inl, inr, ℕ, suc, ◌+◌, ◌<◌, ◌≤◌, Bool, true, false, List, [], ◌∷◌, ◌++◌, length, map, All, refl, ap, sym, subst, ◌∙◌, arith}
-use Rattle.std.specs.Prelude.{ℤ, pos, ◌-ℤ◌, unsigned_abs, AllPairs, Option, Some, None, slice_get, if◌then◌else◌}
+use Rattle.std.proofs.Common.{◌≡◌, ◌⊎◌, inl, inr, ℕ, ◌<◌, ◌≤◌, Bool, true, false, List, [], ◌∷◌, ◌++◌, length, map, All, refl, ap, sym, subst, ◌∙◌, arith}
+use Rattle.std.specs.Prelude.{ℤ, pos, ◌-ℤ◌, unsigned_abs, Option, Some, None, slice_get, if◌then◌else◌}
 use Rattle.std.specs.Int.{IsGcd, ◌∣◌}
 use Rattle.std.proofs.lemmas.Bool.{cases_lt}
 use Rattle.std.proofs.lemmas.Nat.Gcd.{dvd_trans}
 use Rattle.std.proofs.lemmas.Option.{slice_get_within, get_or_from_slice_get}
 use Rattle.std.proofs.lemmas.List.{get_or_append_left, get_or_push, length_push}
-use Rattle.std.proofs.lemmas.List.Elements.{All-nil, All-cons, All-head, All-tail, All-append, All-get_or, All-from_recursion}
+use Rattle.std.proofs.lemmas.List.Elements.{All-nil, All-cons, All-head, All-append, All-get_or, All-from_recursion}
 use Rattle.fraction128.proofs.Divisors.{IsGcd-gcd_of}
 use Rattle.smt_meaning.specs.declared.values.Sort.{Sort}
 use Rattle.smt_meaning.specs.declared.values.Sort.TheVariants.{Bool as Truths, Int as Ints}
@@ -15,21 +15,18 @@ use Rattle.smt_meaning.specs.declared.terms.Head.TheVariants.{Numeral, Theory}
 use Rattle.smt_meaning.specs.declared.terms.Operator.{Operator}
 use Rattle.smt_meaning.specs.declared.terms.Operator.TheVariants.{Divide, Modulo, Absolute}
 use Rattle.smt_meaning.specs.declared.clauses.Summand.{Summand}
-use Rattle.smt_meaning.specs.declared.clauses.Atom.{Atom}
-use Rattle.smt_meaning.specs.declared.clauses.Literal.{Literal}
 use Rattle.smt_meaning.specs.declared.nodes.Node.{Node}
 use Rattle.smt_meaning.specs.Declaration.{Declaration}
 use Rattle.smt_meaning.specs.Signature.{cons_sort, all_of, sort_eq, if_so, operator_sort}
 use Rattle.smt_meaning.specs.Term.{Tree, Trees, node, none, more, tree_at}
-use Rattle.smt_meaning.specs.TreeShape.{quotient_tree}
 use Rattle.smt_meaning.specs.Nodes.{pick, tree_of}
-use Rattle.smt_meaning.specs.Linear.{Form, form_times, number_form}
-use Rattle.smt_meaning.specs.Division.{Limit, Row, limit, combined, quotient_rows, remainder_rows, divisible_rows, absolute_rows}
+use Rattle.smt_meaning.specs.Linear.{Form, form_times}
+use Rattle.smt_meaning.specs.Division.{Limit, Row, combined, quotient_rows, remainder_rows, divisible_rows, absolute_rows}
 use Rattle.smt_meaning.specs.Atoms.{sum_gcd, DividesEach, normal_bound, limit_atom, row_atoms, positive, truth_literals}
 use Rattle.proof_meaning.specs.Proof.{is_written, with_term_sorts, term_sort, term_sorts, AreTerms, no_terms, next_term, node_at, IsSummand, IsAtom, IsLiteral, IsIntAt, IsBoolAt}
 use Rattle.proof_meaning.specs.Rules.{form_at, divisor_at, HasRows, of_quotient, of_last_quotient, of_remainder, of_divisibility, of_absolute, row_clause}
-use Rattle.proof_form.proofs.BoundAmong.{HasLeaves, leaves_among}
-use Rattle.proof_form.proofs.BoundLeaves.{IsOver, over_number, over_times, over_plus, over_term, all_summands, pairs_ascend, AreInts, operator_ints}
+use Rattle.proof_meaning.proofs.Terms.{readable_at}
+use Rattle.proof_form.proofs.BoundLeaves.{IsOver, over_number, over_times, over_plus, over_term, all_summands, pairs_ascend, operator_ints}
 use Rattle.proof_form.proofs.BoundJudging.{Ascend, quotient_summands, quotients_ascend}
 use Rattle.proof_form.proofs.TermBounds.{earlier}
 use Rattle.proof_form.proofs.EuclidDivisions.{inside}
@@ -91,7 +88,7 @@ normal_atom ds ts (p ∷ ps) k all up = (quotient_summands ds ts (sum_gcd (p ∷
 
 module _ (ds : List Declaration) (ns : List Node) (ts : List Tree) (terms : AreTerms ds ns ts) where
   over_at : (a : ℕ) → IsIntAt ds ts a → IsOver ds ts (form_at ts a)
-  over_at a h = over_term ds ts (tree_at ts a) (All-get_or (HasLeaves ts) ts a _ h.0 (leaves_among ds ns ts terms)) h.1
+  over_at a h = over_term ds ts (tree_at ts a) (readable_at ds ns ts terms a h.0).leaves_are h.1
 
   abbrev AreIntsAt : List (ℤ × ℕ) → Type 0
   AreIntsAt [] = Unit {0}
