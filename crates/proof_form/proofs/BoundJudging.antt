@@ -1,5 +1,5 @@
 -- What a link, and a bound that is divided, come to.
-use Rattle.std.proofs.Common.{◌≡◌, ◌≢◌, inl, inr, ℕ, zero, suc, ◌+◌, ◌*◌, ◌/◌, ◌<◌, true, false, ◌&&◌, List, [], ◌∷◌, ◌++◌, length, All, get_or, ap, sym, subst, ◌∙◌, refl, arith}
+use Rattle.std.proofs.Common.{◌≡◌, ◌≢◌, inl, inr, ℕ, zero, suc, ◌*◌, ◌/◌, ◌<◌, true, false, ◌&&◌, List, [], ◌∷◌, ◌++◌, length, All, get_or, ap, sym, subst, ◌∙◌, refl, arith}
 use Rattle.std.specs.Prelude.{ℤ, pos, negsuc, unsigned_abs, AllPairs}
 use Rattle.std.specs.Int.{◌∣◌}
 use Rattle.std.proofs.Math.Nat.{div-mul_cancel}
@@ -40,7 +40,7 @@ quotient_not_zero (pos a) g d h e =
     h (ap pos (sym back ∙ zero_product))
 quotient_not_zero (negsuc a) g d h e = cc
 
-quotient_summands : (ds : List Declaration) (ts : List Tree) (g : ℕ) (ps : List Summand) → DividesEach g ps → All (IsSummand ds ts) ps → All (IsSummand ds ts) (each_divided (pos g) ps)
+pub quotient_summands : (ds : List Declaration) (ts : List Tree) (g : ℕ) (ps : List Summand) → DividesEach g ps → All (IsSummand ds ts) ps → All (IsSummand ds ts) (each_divided (pos g) ps)
 quotient_summands ds ts g [] d all = All-nil (IsSummand ds ts)
 quotient_summands ds ts g (p ∷ ps) d all =
     let here : IsSummand ds ts p = All-head (IsSummand ds ts) p ps all in
@@ -48,7 +48,7 @@ quotient_summands ds ts g (p ∷ ps) d all =
     (record { int = here.int; leaf = here.leaf; not_zero = quotient_not_zero p.coefficient g d.0 here.not_zero })
     (quotient_summands ds ts g ps d.1 (All-tail (IsSummand ds ts) p ps all))
 
-abbrev Ascend : List Summand → Type 0
+abbrev pub Ascend : List Summand → Type 0
 Ascend ps = AllPairs (λ (p q : Summand). p.term < q.term) ps
 
 quotient_term : (g : ℕ) (ps : List Summand) (i : ℕ) (d : Summand) → i < length ps → (get_or (each_divided (pos g) ps) i d).term ≡ (get_or ps i d).term
@@ -60,7 +60,7 @@ quotient_count : (g : ℕ) (ps : List Summand) → length (each_divided (pos g) 
 quotient_count g [] = refl
 quotient_count g (p ∷ ps) = let e = quotient_count g ps in omega (arith, e)
 
-quotients_ascend : (g : ℕ) (ps : List Summand) → Ascend ps → Ascend (each_divided (pos g) ps)
+pub quotients_ascend : (g : ℕ) (ps : List Summand) → Ascend ps → Ascend (each_divided (pos g) ps)
 quotients_ascend g ps h = λ i j d l m.
     (let e = quotient_count g ps in
     let k : (get_or ps i d).term < (get_or ps j d).term = h i j d l (omega arith) in

@@ -3,7 +3,7 @@ use Rattle.std.proofs.Common.{◌≡◌, ◌≢◌, ◌⊎◌, inl, inr, ℕ, ze
 use Rattle.std.specs.Prelude.{ℤ, pos, negsuc, ◌+ℤ◌, ◌*ℤ◌, AllPairs, IsTrue, if◌then◌else◌}
 use Rattle.std.proofs.lemmas.Int.{ints}
 use Rattle.std.proofs.Math.IntN.{*ℤ-zero}
-use Rattle.std.proofs.lemmas.List.Elements.{All-nil, All-cons, All-head, All-get_or}
+use Rattle.std.proofs.lemmas.List.Elements.{All-nil, All-cons, All-head}
 use Rattle.smt_meaning.specs.declared.values.Sort.{Sort}
 use Rattle.smt_meaning.specs.declared.values.Sort.TheVariants.{Bool as Truths, Int as Ints, Free}
 use Rattle.smt_meaning.specs.declared.terms.Operator.{Operator}
@@ -13,28 +13,31 @@ use Rattle.smt_meaning.specs.declared.terms.Head.TheVariants.{Numeral, Theory, S
 use Rattle.smt_meaning.specs.declared.nodes.Node.{Node}
 use Rattle.smt_meaning.specs.declared.clauses.Summand.{Summand}
 use Rattle.smt_meaning.specs.Declaration.{Declaration}
-use Rattle.smt_meaning.specs.Signature.{tree_sort, tree_sorts, cons_sort, with_sorts, all_of, sort_eq, if_so, stands_with, operator_sort}
+use Rattle.smt_meaning.specs.Signature.{cons_sort, all_of, sort_eq, if_so, operator_sort}
 use Rattle.smt_meaning.specs.Term.{Tree, Trees, node, none, more, tree_at}
 use Rattle.smt_meaning.specs.TreeShape.{tree_eq, is_among, place_of}
 use Rattle.smt_meaning.specs.Linear.{Form, form_times, form_plus, form_minus, form_product, fold_forms, folded, difference_form, number_form, leaf_form, linear_form, linear_forms, leaves, leaves_of, sums_added}
 use Rattle.smt_meaning.specs.Atoms.{difference_of}
-use Rattle.proof_meaning.specs.Proof.{AreTerms, IsSummand, IsAtom, IsIntAt, is_leaf}
+use Rattle.proof_meaning.specs.Proof.{is_written, with_term_sorts, term_sort, term_sorts, AreTerms, IsSummand, IsAtom, IsIntAt, is_leaf}
 use Rattle.proof_meaning.specs.Rules.{folded_bound}
+use Rattle.proof_meaning.proofs.Terms.{readable_at}
 use Rattle.smt_laws.proofs.Both.{and_left, and_right}
 use Rattle.smt_laws.proofs.Included.{All-included, included_left, included_right}
 use Rattle.smt_laws.proofs.SameTree.{found_again}
-use Rattle.proof_form.proofs.BoundAmong.{AreAmong, HasLeaves, leaves_among}
 use Rattle.linear_forms.specs.Sums.{coefficient_of, IsSumWithin, IsSum}
 use Rattle.linear_forms.proofs.SumLemmas.{absent_below, at_first, past_first, sums_added_sum, sums_added_at, sum_times_sum, sum_times_at}
 
+abbrev pub AreAmong : List Tree → List Tree → Type 0
+AreAmong ts us = All (λ (u : Tree). IsTrue (is_among u ts)) us
+
 -- ---- forms over such leaves
 
-abbrev IsLeafAt : List Declaration → List Tree → ℕ → Type 0
+abbrev pub IsLeafAt : List Declaration → List Tree → ℕ → Type 0
 IsLeafAt ds ts i = IsIntAt ds ts i × IsTrue (is_leaf (tree_at ts i))
 
-record IsOver (ds : List Declaration) (ts : List Tree) (f : Form) : Type 0 where
-  is_sum : IsSum (length ts) f.sum
-  over : (i : ℕ) → coefficient_of f.sum i ≢ pos 0 → IsLeafAt ds ts i
+pub record IsOver (ds : List Declaration) (ts : List Tree) (f : Form) : Type 0 where
+  pub is_sum : IsSum (length ts) f.sum
+  pub over : (i : ℕ) → coefficient_of f.sum i ≢ pos 0 → IsLeafAt ds ts i
 
 is_zero_or : (z : ℤ) → (z ≡ pos 0) ⊎ (z ≢ pos 0)
 is_zero_or (pos zero) = inl refl
@@ -42,16 +45,16 @@ is_zero_or (pos (suc n)) = inr (λ e. cc)
 is_zero_or (negsuc n) = inr (λ e. cc)
 
 module _ (ds : List Declaration) (ts : List Tree) where
-  over_number : (n : ℤ) → IsOver ds ts (number_form n)
+  pub over_number : (n : ℤ) → IsOver ds ts (number_form n)
   over_number n = record { is_sum = tt; over = λ i h. absurd (h refl) }
 
-  over_times : (k : ℤ) (f : Form) → IsOver ds ts f → IsOver ds ts (form_times k f)
+  pub over_times : (k : ℤ) (f : Form) → IsOver ds ts f → IsOver ds ts (form_times k f)
   over_times k f h = record {
     is_sum = sum_times_sum (length ts) k f.sum h.is_sum;
     over = λ i n. h.over i (λ e. n (sum_times_at k f.sum i ∙ ap (λ z. k *ℤ z) e ∙ *ℤ-zero k));
   }
 
-  over_plus : (f g : Form) → IsOver ds ts f → IsOver ds ts g → IsOver ds ts (form_plus f g)
+  pub over_plus : (f g : Form) → IsOver ds ts f → IsOver ds ts g → IsOver ds ts (form_plus f g)
   over_plus f g hf hg = record {
     is_sum = sums_added_sum (length ts) f.sum g.sum hf.is_sum hg.is_sum;
     over = λ i n. by i n (is_zero_or (coefficient_of f.sum i));
@@ -112,15 +115,15 @@ no_sort None p e = cc
 no_sort (Some b) None e = cc
 no_sort (Some b) (Some rs) e = cc
 
-abbrev AreInts : List Declaration → Trees → Type 0
+abbrev pub AreInts : List Declaration → Trees → Type 0
 AreInts ds none = Unit {0}
-AreInts ds (more u us) = (tree_sort ds u ≡ Some Ints) × AreInts ds us
+AreInts ds (more u us) = (term_sort ds u ≡ Some Ints) × AreInts ds us
 
-arguments_ints : (ds : List Declaration) (us : Trees) (ss : List Sort) → tree_sorts ds us ≡ Some ss → all_of Ints ss ≡ true → AreInts ds us
+arguments_ints : (ds : List Declaration) (us : Trees) (ss : List Sort) → term_sorts ds us ≡ Some ss → all_of Ints ss ≡ true → AreInts ds us
 arguments_ints ds none ss e h = tt
-arguments_ints ds (more u us) [] e h = absurd (no_sort (tree_sort ds u) (tree_sorts ds us) e)
+arguments_ints ds (more u us) [] e h = absurd (no_sort (term_sort ds u) (term_sorts ds us) e)
 arguments_ints ds (more u us) (a ∷ ss) e h =
-    let parts = first_sort (tree_sort ds u) (tree_sorts ds us) a ss e in
+    let parts = first_sort (term_sort ds u) (term_sorts ds us) a ss e in
     (parts.0 ∙ ap Some (ints_eq a (and_left (sort_eq Ints a) (all_of Ints ss) h)), arguments_ints ds us ss parts.1 (and_right (sort_eq Ints a) (all_of Ints ss) h))
 
 so_true : (b : Bool) (s r : Sort) → if_so b s ≡ Some r → b ≡ true
@@ -132,13 +135,13 @@ then_some true o s e = e
 then_some false o s e = absurd (cc)
 
 -- of an operator whose arguments are all Int
-operator_ints : (ds : List Declaration) (o : Operator) (us : Trees) (s : Sort) → ((ss : List Sort) → operator_sort o ss ≡ if_so (all_of Ints ss) Ints) → tree_sort ds (node (Theory o) us) ≡ Some s → AreInts ds us
-operator_ints ds o us s law e = by (tree_sorts ds us) refl e
+pub operator_ints : (ds : List Declaration) (o : Operator) (us : Trees) (s : Sort) → ((ss : List Sort) → operator_sort o ss ≡ if_so (all_of Ints ss) Ints) → term_sort ds (node (Theory o) us) ≡ Some s → AreInts ds us
+operator_ints ds o us s law e = by (term_sorts ds us) refl e
   where
-    by : (p : Option (List Sort)) → tree_sorts ds us ≡ p → with_sorts ds (Theory o) p ≡ Some s → AreInts ds us
+    by : (p : Option (List Sort)) → term_sorts ds us ≡ p → with_term_sorts ds (Theory o) p ≡ Some s → AreInts ds us
     by None f g = absurd (cc)
     by (Some ss) f g =
-        arguments_ints ds us ss f (so_true (all_of Ints ss) Ints s (sym (law ss) ∙ then_some (stands_with o (length ss)) (operator_sort o ss) s g))
+        arguments_ints ds us ss f (so_true (all_of Ints ss) Ints s (sym (law ss) ∙ then_some (is_written o (length ss)) (operator_sort o ss) s g))
 
 -- ---- whole terms
 
@@ -151,12 +154,12 @@ place_below t (u ∷ us) h = by (tree_eq t u) h (λ k. place_below t us k)
     by false k again = let l = again k in omega (arith, l)
 
 module _ (ds : List Declaration) (ts : List Tree) where
-  over_leaf : (t : Tree) → AreAmong ts (t ∷ []) → tree_sort ds t ≡ Some Ints → IsTrue (is_leaf t) → IsOver ds ts (leaf_form ts t)
+  over_leaf : (t : Tree) → AreAmong ts (t ∷ []) → term_sort ds t ≡ Some Ints → IsTrue (is_leaf t) → IsOver ds ts (leaf_form ts t)
   over_leaf t among sort leaf =
       let h : is_among t ts ≡ true = All-head (λ (u : Tree). IsTrue (is_among u ts)) t [] among in
       let below : place_of t ts < length ts = place_below t ts h in
       let same : tree_at ts (place_of t ts) ≡ t = found_again t ts h in
-      let here : IsLeafAt ds ts (place_of t ts) = ((below, ap (tree_sort ds) same ∙ sort), subst (λ (u : Tree). IsTrue (is_leaf u)) (sym same) leaf) in
+      let here : IsLeafAt ds ts (place_of t ts) = ((below, ap (term_sort ds) same ∙ sort), subst (λ (u : Tree). IsTrue (is_leaf u)) (sym same) leaf) in
       record { is_sum = (omega arith, below, λ e. cc, tt); over = λ i n. by here i (order (place_of t ts) i) n }
     where
       order : (p i : ℕ) → (p ≡ i) ⊎ (p ≢ i)
@@ -169,7 +172,7 @@ module _ (ds : List Declaration) (ts : List Tree) where
       by here i (inl e) n = subst (IsLeafAt ds ts) e here
       by here i (inr f) n = absurd (n (past_first (record { coefficient = pos 1; term = place_of t ts }) [] i f))
 
-  over_head : (h : Head) (us : Trees) → AreAmong ts (leaves (node h us)) → tree_sort ds (node h us) ≡ Some Ints → (AreAmong ts (leaves_of us) → AreInts ds us → AreOver ds ts (linear_forms ts us))
+  over_head : (h : Head) (us : Trees) → AreAmong ts (leaves (node h us)) → term_sort ds (node h us) ≡ Some Ints → (AreAmong ts (leaves_of us) → AreInts ds us → AreOver ds ts (linear_forms ts us))
       → IsOver ds ts (linear_form ts (node h us))
   over_head (Numeral n) us a e rest = over_number ds ts n
   over_head (Theory Add) us a e rest = over_folded ds ts form_plus (over_plus ds ts) (linear_forms ts us) (rest a (operator_ints ds Add us Ints (λ ss. refl) e))
@@ -180,7 +183,7 @@ module _ (ds : List Declaration) (ts : List Tree) where
   over_head (Place k) us a e rest = over_leaf (node (Place k) us) a e refl
 
 mutual
-  over_term : (ds : List Declaration) (ts : List Tree) (t : Tree) → AreAmong ts (leaves t) → tree_sort ds t ≡ Some Ints → IsOver ds ts (linear_form ts t)
+  pub over_term : (ds : List Declaration) (ts : List Tree) (t : Tree) → AreAmong ts (leaves t) → term_sort ds t ≡ Some Ints → IsOver ds ts (linear_form ts t)
   over_term ds ts (node h us) a e = over_head ds ts h us a e (λ b f. over_terms ds ts us b f)
 
   over_terms : (ds : List Declaration) (ts : List Tree) (us : Trees) → AreAmong ts (leaves_of us) → AreInts ds us → AreOver ds ts (linear_forms ts us)
@@ -200,7 +203,7 @@ above_all low high (p ∷ ps) h = λ i d l. by i d l (above_all (p.term + 1) hig
     by zero d l rest = h.0
     by (suc i) d l rest = let k = rest i d (omega arith) in let j = h.0 in omega (arith, k, j)
 
-pairs_ascend : (low high : ℕ) (ps : List Summand) → IsSumWithin low high ps → AllPairs (λ (p q : Summand). p.term < q.term) ps
+pub pairs_ascend : (low high : ℕ) (ps : List Summand) → IsSumWithin low high ps → AllPairs (λ (p q : Summand). p.term < q.term) ps
 pairs_ascend low high [] h = λ i j d l m. absurd (omega arith)
 pairs_ascend low high (p ∷ ps) h = λ i j d l m. by i j d l m (above_all (p.term + 1) high ps h.3) (pairs_ascend (p.term + 1) high ps h.3)
   where
@@ -210,7 +213,7 @@ pairs_ascend low high (p ∷ ps) h = λ i j d l m. by i j d l m (above_all (p.te
     by zero (suc j) d l m above rest = let k = above j d (omega arith) in omega (arith, k)
     by (suc i) (suc j) d l m above rest = rest i j d (omega arith) (omega arith)
 
-all_summands : (ds : List Declaration) (ts : List Tree) (low : ℕ) (ps : List Summand) → IsSumWithin low (length ts) ps → ((i : ℕ) → coefficient_of ps i ≢ pos 0 → IsLeafAt ds ts i) → All (IsSummand ds ts) ps
+pub all_summands : (ds : List Declaration) (ts : List Tree) (low : ℕ) (ps : List Summand) → IsSumWithin low (length ts) ps → ((i : ℕ) → coefficient_of ps i ≢ pos 0 → IsLeafAt ds ts i) → All (IsSummand ds ts) ps
 all_summands ds ts low [] h over = All-nil (IsSummand ds ts)
 all_summands ds ts low (p ∷ ps) h over =
     let here : IsLeafAt ds ts p.term = over p.term (λ e. h.2 (sym (at_first p ps p.term refl) ∙ e)) in
@@ -219,9 +222,8 @@ all_summands ds ts low (p ∷ ps) h over =
 
 pub folded_atom : (ds : List Declaration) (ns : List Node) (ts : List Tree) → AreTerms ds ns ts → (i j : ℕ) → IsIntAt ds ts i → IsIntAt ds ts j → IsAtom ds ts (folded_bound ts i j)
 folded_atom ds ns ts terms i j hi hj =
-    let among : All (HasLeaves ts) ts = leaves_among ds ns ts terms in
-    let left : IsOver ds ts (linear_form ts (tree_at ts i)) = over_term ds ts (tree_at ts i) (All-get_or (HasLeaves ts) ts i _ hi.0 among) hi.1 in
-    let right : IsOver ds ts (linear_form ts (tree_at ts j)) = over_term ds ts (tree_at ts j) (All-get_or (HasLeaves ts) ts j _ hj.0 among) hj.1 in
+    let left : IsOver ds ts (linear_form ts (tree_at ts i)) = over_term ds ts (tree_at ts i) (readable_at ds ns ts terms i hi.0).leaves_are hi.1 in
+    let right : IsOver ds ts (linear_form ts (tree_at ts j)) = over_term ds ts (tree_at ts j) (readable_at ds ns ts terms j hj.0).leaves_are hj.1 in
     let f : Form = difference_of ts (tree_at ts i) (tree_at ts j) in
     let both : IsOver ds ts f = over_minus ds ts (linear_form ts (tree_at ts i)) (linear_form ts (tree_at ts j)) left right in
     (all_summands ds ts 0 f.sum both.is_sum both.over, pairs_ascend 0 (length ts) f.sum both.is_sum)

@@ -15,8 +15,8 @@ use Rattle.smt_meaning.specs.declared.clauses.Atom.{Atom}
 use Rattle.smt_meaning.specs.declared.clauses.Atom.TheVariants.{Truth, Same}
 use Rattle.smt_meaning.specs.Declaration.{Declaration}
 use Rattle.smt_meaning.specs.Term.{Tree, tree_at, truth_of, bool_eq, xor, implies, on_truths, fold_left, fold_right, chain_from, same_value, differ, with_each, pairwise, operate}
-use Rattle.smt_meaning.specs.Signature.{tree_sort, if_so, all_of, all_the_same, operator_sort}
-use Rattle.proof_meaning.specs.Proof.{IsBoolAt, IsIntAt}
+use Rattle.smt_meaning.specs.Signature.{if_so, all_of, all_the_same, operator_sort}
+use Rattle.proof_meaning.specs.Proof.{term_sort, IsBoolAt, IsIntAt}
 use Rattle.proof_meaning.specs.Rules.{HasParts, of_bools, of_equal, of_distinct, of_at_most, of_less, of_at_least, of_greater, IsOtherAt, along, not_above, below, turned, pairs, truths, every, no_one}
 use Rattle.proof_form.specs.declared.form_values.Connective.TheVariants as connective
 use Rattle.proof_form.specs.declared.form_parts.Relation.TheVariants as relation
@@ -197,23 +197,23 @@ module _ (ds : List Declaration) (ts : List Tree) where
 
   pub kind_true : (is : List ℕ) (s : Sort) → IsSorted ds ts True is s → IsOfBools ds ts True is connective.And
   kind_true [] s k = record { just = just_bools True [] (All-nil (IsBoolAt ds ts)); gives = λ v. refl; fits = refl }
-  kind_true (i ∷ is) s k = let n : length k.sorts ≡ 0 = eqb-true (length k.sorts) 0 k.stands in absurd (omega (arith, n, count ds ts (i ∷ is) k.sorts k.are))
+  kind_true (i ∷ is) s k = let n : length k.sorts ≡ 0 = eqb-true (length k.sorts) 0 k.written in absurd (omega (arith, n, count ds ts (i ∷ is) k.sorts k.are))
 
   pub kind_false : (is : List ℕ) (s : Sort) → IsSorted ds ts False is s → IsOfBools ds ts False is connective.Or
   kind_false [] s k = record { just = just_bools False [] (All-nil (IsBoolAt ds ts)); gives = λ v. refl; fits = refl }
-  kind_false (i ∷ is) s k = let n : length k.sorts ≡ 0 = eqb-true (length k.sorts) 0 k.stands in absurd (omega (arith, n, count ds ts (i ∷ is) k.sorts k.are))
+  kind_false (i ∷ is) s k = let n : length k.sorts ≡ 0 = eqb-true (length k.sorts) 0 k.written in absurd (omega (arith, n, count ds ts (i ∷ is) k.sorts k.are))
 
   pub kind_not : (is : List ℕ) (s : Sort) → IsSorted ds ts Not is s → IsOfBools ds ts Not is connective.Nor
-  kind_not [] s k = let n : length k.sorts ≡ 1 = eqb-true (length k.sorts) 1 k.stands in absurd (omega (arith, n, count ds ts [] k.sorts k.are))
+  kind_not [] s k = let n : length k.sorts ≡ 1 = eqb-true (length k.sorts) 1 k.written in absurd (omega (arith, n, count ds ts [] k.sorts k.are))
   kind_not (i ∷ []) s k = record {
     just = just_bools Not (i ∷ []) (truths_of Not (i ∷ []) s k (if_so_true (all_of Truths k.sorts) Truths s k.made));
     gives = λ v. ap not (or_false (v (Truth i)));
     fits = refl;
   }
-  kind_not (i ∷ j ∷ is) s k = let n : length k.sorts ≡ 1 = eqb-true (length k.sorts) 1 k.stands in absurd (omega (arith, n, count ds ts (i ∷ j ∷ is) k.sorts k.are))
+  kind_not (i ∷ j ∷ is) s k = let n : length k.sorts ≡ 1 = eqb-true (length k.sorts) 1 k.written in absurd (omega (arith, n, count ds ts (i ∷ j ∷ is) k.sorts k.are))
 
   pub kind_and : (is : List ℕ) (s : Sort) → IsSorted ds ts And is s → IsOfBools ds ts And is connective.And
-  kind_and [] s k = absurd (omega (arith, at_least 1 (length k.sorts) k.stands, count ds ts [] k.sorts k.are))
+  kind_and [] s k = absurd (omega (arith, at_least 1 (length k.sorts) k.written, count ds ts [] k.sorts k.are))
   kind_and (i ∷ is) s k = record {
     just = just_bools And (i ∷ is) (truths_of And (i ∷ is) s k (if_so_true (all_of Truths k.sorts) Truths s k.made));
     gives = λ v. ap truth_of (all_fold v (v (Truth i)) is);
@@ -221,7 +221,7 @@ module _ (ds : List Declaration) (ts : List Tree) where
   }
 
   pub kind_or : (is : List ℕ) (s : Sort) → IsSorted ds ts Or is s → IsOfBools ds ts Or is connective.Or
-  kind_or [] s k = absurd (omega (arith, at_least 1 (length k.sorts) k.stands, count ds ts [] k.sorts k.are))
+  kind_or [] s k = absurd (omega (arith, at_least 1 (length k.sorts) k.written, count ds ts [] k.sorts k.are))
   kind_or (i ∷ is) s k = record {
     just = just_bools Or (i ∷ is) (truths_of Or (i ∷ is) s k (if_so_true (all_of Truths k.sorts) Truths s k.made));
     gives = λ v. ap truth_of (any_fold v (v (Truth i)) is);
@@ -229,7 +229,7 @@ module _ (ds : List Declaration) (ts : List Tree) where
   }
 
   pub kind_xor : (is : List ℕ) (s : Sort) → IsSorted ds ts Xor is s → IsOfBools ds ts Xor is connective.Xor
-  kind_xor [] s k = absurd (omega (arith, at_least 2 (length k.sorts) k.stands, count ds ts [] k.sorts k.are))
+  kind_xor [] s k = absurd (omega (arith, at_least 2 (length k.sorts) k.written, count ds ts [] k.sorts k.are))
   kind_xor (i ∷ is) s k = record {
     just = just_bools Xor (i ∷ is) (truths_of Xor (i ∷ is) s k (if_so_true (all_of Truths k.sorts) Truths s k.made));
     gives = λ v. ap truth_of (odd_fold v (v (Truth i)) is);
@@ -237,7 +237,7 @@ module _ (ds : List Declaration) (ts : List Tree) where
   }
 
   pub kind_implies : (is : List ℕ) (s : Sort) → IsSorted ds ts Implies is s → IsOfBools ds ts Implies is connective.Implies
-  kind_implies [] s k = absurd (omega (arith, at_least 2 (length k.sorts) k.stands, count ds ts [] k.sorts k.are))
+  kind_implies [] s k = absurd (omega (arith, at_least 2 (length k.sorts) k.written, count ds ts [] k.sorts k.are))
   kind_implies (i ∷ is) s k = record {
     just = just_bools Implies (i ∷ is) (truths_of Implies (i ∷ is) s k (if_so_true (all_of Truths k.sorts) Truths s k.made));
     gives = λ v. ap truth_of (implied_fold v (v (Truth i)) is);
@@ -249,7 +249,7 @@ module _ (ds : List Declaration) (ts : List Tree) where
   pub two_or_more : (o : Operator) (is : List ℕ) (s : Sort) (k : IsSorted ds ts o is s) → nat_le 2 (length k.sorts) ≡ true → 2 ≤ length is
   two_or_more o is s k h = omega (arith, at_least 2 (length k.sorts) h, count ds ts is k.sorts k.are)
 
-  first_sort : (is : List ℕ) → HaveSort ds ts is → (s : Sort) → 0 < length is → tree_sort ds (tree_at ts (get_or is 0 0)) ≡ Some s → All (λ j. tree_sort ds (tree_at ts j) ≡ Some s) is
+  first_sort : (is : List ℕ) → HaveSort ds ts is → (s : Sort) → 0 < length is → term_sort ds (tree_at ts (get_or is 0 0)) ≡ Some s → All (λ j. term_sort ds (tree_at ts j) ≡ Some s) is
   first_sort [] h s l e = absurd (omega (arith, l))
   first_sort (i ∷ is) h s l e = same_as_first ds ts (i ∷ is) h i is s refl e
 
@@ -268,19 +268,19 @@ module _ (ds : List Declaration) (ts : List Tree) where
       from i [] = refl
       from i (j ∷ js) = from j js
 
-  pub kind_equal_bools : (is : List ℕ) (s f : Sort) → IsSorted ds ts Equal is s → 0 < length is → tree_sort ds (tree_at ts (get_or is 0 0)) ≡ Some f → f ≡ Truths → IsOfBools ds ts Equal is connective.Equal
+  pub kind_equal_bools : (is : List ℕ) (s f : Sort) → IsSorted ds ts Equal is s → 0 < length is → term_sort ds (tree_at ts (get_or is 0 0)) ≡ Some f → f ≡ Truths → IsOfBools ds ts Equal is connective.Equal
   kind_equal_bools is s f k l e t = record {
     just = just_bools Equal is (all_bools ds ts is k.below (first_sort is (have_sort Equal is s k k.made) Truths l (e ∙ ap Some t)));
     gives = equal_gives is;
     fits = refl;
   }
 
-  pub kind_equal_others : (is : List ℕ) (s f : Sort) → IsSorted ds ts Equal is s → 0 < length is → tree_sort ds (tree_at ts (get_or is 0 0)) ≡ Some f → f ≢ Truths → IsOfNeighbours ds ts Equal is relation.Equal
+  pub kind_equal_others : (is : List ℕ) (s f : Sort) → IsSorted ds ts Equal is s → 0 < length is → term_sort ds (tree_at ts (get_or is 0 0)) ≡ Some f → f ≢ Truths → IsOfNeighbours ds ts Equal is relation.Equal
   kind_equal_others is s f k l e t =
       let all : All (IsOtherAt ds ts) is = all_others ds ts is f t (first_sort is (have_sort Equal is s k k.made) f l e) in
       record { just = record { has = of_equal all; only = λ qs w h. only_equal is qs w h all }; fits = all_fit is }
 
-  pub kind_distinct_others : (is : List ℕ) (s f : Sort) → IsSorted ds ts Distinct is s → 0 < length is → tree_sort ds (tree_at ts (get_or is 0 0)) ≡ Some f → f ≢ Truths → IsOfPairs ds ts Distinct is
+  pub kind_distinct_others : (is : List ℕ) (s f : Sort) → IsSorted ds ts Distinct is s → 0 < length is → term_sort ds (tree_at ts (get_or is 0 0)) ≡ Some f → f ≢ Truths → IsOfPairs ds ts Distinct is
   kind_distinct_others is s f k l e t =
       let all : All (IsOtherAt ds ts) is = all_others ds ts is f t (first_sort is (have_sort Distinct is s k k.made) f l e) in
       record { just = record { has = of_distinct all; only = λ qs w h. only_distinct is qs w h all }; fits = refl }
@@ -299,19 +299,19 @@ module _ (ds : List Declaration) (ts : List Tree) where
       three_differ (v (Truth i)) (v (Truth j)) (v (Truth k)) (with_each differ (IsTruth (v (Truth i))) (truths v is)) (with_each differ (IsTruth (v (Truth j))) (truths v is))
       (pairwise differ (IsTruth (v (Truth k)) ∷ truths v is))
 
-  distinct_bools : (is : List ℕ) (s f : Sort) → IsSorted ds ts Distinct is s → 0 < length is → tree_sort ds (tree_at ts (get_or is 0 0)) ≡ Some f → f ≡ Truths → All (IsBoolAt ds ts) is
+  distinct_bools : (is : List ℕ) (s f : Sort) → IsSorted ds ts Distinct is s → 0 < length is → term_sort ds (tree_at ts (get_or is 0 0)) ≡ Some f → f ≡ Truths → All (IsBoolAt ds ts) is
   distinct_bools is s f k l e t = all_bools ds ts is k.below (first_sort is (have_sort Distinct is s k k.made) Truths l (e ∙ ap Some t))
 
-  pub kind_distinct_two : (is : List ℕ) (s f : Sort) → IsSorted ds ts Distinct is s → length is ≡ 2 → tree_sort ds (tree_at ts (get_or is 0 0)) ≡ Some f → f ≡ Truths → IsOfBools ds ts Distinct is connective.Xor
+  pub kind_distinct_two : (is : List ℕ) (s f : Sort) → IsSorted ds ts Distinct is s → length is ≡ 2 → term_sort ds (tree_at ts (get_or is 0 0)) ≡ Some f → f ≡ Truths → IsOfBools ds ts Distinct is connective.Xor
   kind_distinct_two is s f k l e t = record {
     just = just_bools Distinct is (distinct_bools is s f k (omega (arith, l)) e t);
     gives = distinct_two is l;
     fits = refl;
   }
 
-  pub kind_distinct_more : (is : List ℕ) (s f : Sort) → IsSorted ds ts Distinct is s → length is ≢ 2 → tree_sort ds (tree_at ts (get_or is 0 0)) ≡ Some f → f ≡ Truths → IsOfBools ds ts Distinct is connective.False
+  pub kind_distinct_more : (is : List ℕ) (s f : Sort) → IsSorted ds ts Distinct is s → length is ≢ 2 → term_sort ds (tree_at ts (get_or is 0 0)) ≡ Some f → f ≡ Truths → IsOfBools ds ts Distinct is connective.False
   kind_distinct_more is s f k l e t =
-      let two : 2 ≤ length is = two_or_more Distinct is s k k.stands in
+      let two : 2 ≤ length is = two_or_more Distinct is s k k.written in
       record { just = just_bools Distinct is (distinct_bools is s f k (omega (arith, two)) e t); gives = distinct_more is (omega (arith, two, l)); fits = refl }
 
   -- ---- a choice
@@ -332,10 +332,10 @@ module _ (ds : List Declaration) (ts : List Tree) where
       all : All (IsBoolAt ds ts) is
       all =
           all_bools ds ts is k.below
-          (subst (All (λ j. tree_sort ds (tree_at ts j) ≡ Some Truths)) (sym c.are)
-          (All-cons (λ j. tree_sort ds (tree_at ts j) ≡ Some Truths) c.condition (c.first ∷ c.second ∷ []) c.condition_sort
-          (All-cons (λ j. tree_sort ds (tree_at ts j) ≡ Some Truths) c.first (c.second ∷ []) (c.first_sort ∙ ap Some t)
-          (All-cons (λ j. tree_sort ds (tree_at ts j) ≡ Some Truths) c.second [] (c.second_sort ∙ ap Some t) (All-nil (λ j. tree_sort ds (tree_at ts j) ≡ Some Truths))))))
+          (subst (All (λ j. term_sort ds (tree_at ts j) ≡ Some Truths)) (sym c.are)
+          (All-cons (λ j. term_sort ds (tree_at ts j) ≡ Some Truths) c.condition (c.first ∷ c.second ∷ []) c.condition_sort
+          (All-cons (λ j. term_sort ds (tree_at ts j) ≡ Some Truths) c.first (c.second ∷ []) (c.first_sort ∙ ap Some t)
+          (All-cons (λ j. term_sort ds (tree_at ts j) ≡ Some Truths) c.second [] (c.second_sort ∙ ap Some t) (All-nil (λ j. term_sort ds (tree_at ts j) ≡ Some Truths))))))
 
   no_parts_choice : (is : List ℕ) (qs : List Atom) (w : (Atom → Bool) → Bool) → HasParts ds ts Ite is qs w → (s : Sort) → IsChoice ds ts is s → s ≢ Truths → ⊥
   no_parts_choice _ _ _ (of_bools {is = is} all) s c t =
@@ -387,29 +387,29 @@ module _ (ds : List Declaration) (ts : List Tree) where
   just_two : (n : ℕ) → nat_eq n 2 ≡ true → 0 < n
   just_two n h = omega (arith, eqb-true n 2 h)
 
-  just_three : (n : ℕ) → nat_eq n 3 ≡ true → 0 < n
-  just_three n h = omega (arith, eqb-true n 3 h)
+  two_at_least : (n : ℕ) → nat_le 2 n ≡ true → 0 < n
+  two_at_least n h = omega (arith, at_least 2 n h)
 
   pub kind_add : (is : List ℕ) (s : Sort) → IsSorted ds ts Add is s → HasNoParts ds ts Add is
-  kind_add is s k = kind_of_ints Add is s Ints k refl refl refl (at_least_one (length k.sorts) k.stands)
+  kind_add is s k = kind_of_ints Add is s Ints k refl refl refl (at_least_one (length k.sorts) k.written)
 
   pub kind_subtract : (is : List ℕ) (s : Sort) → IsSorted ds ts Subtract is s → HasNoParts ds ts Subtract is
-  kind_subtract is s k = kind_of_ints Subtract is s Ints k refl refl refl (at_least_one (length k.sorts) k.stands)
+  kind_subtract is s k = kind_of_ints Subtract is s Ints k refl refl refl (at_least_one (length k.sorts) k.written)
 
   pub kind_multiply : (is : List ℕ) (s : Sort) → IsSorted ds ts Multiply is s → HasNoParts ds ts Multiply is
-  kind_multiply is s k = kind_of_ints Multiply is s Ints k refl refl refl (at_least_one (length k.sorts) k.stands)
+  kind_multiply is s k = kind_of_ints Multiply is s Ints k refl refl refl (at_least_one (length k.sorts) k.written)
 
   pub kind_divide : (is : List ℕ) (s : Sort) → IsSorted ds ts Divide is s → HasNoParts ds ts Divide is
-  kind_divide is s k = kind_of_ints Divide is s Ints k refl refl refl (just_two (length k.sorts) k.stands)
+  kind_divide is s k = kind_of_ints Divide is s Ints k refl refl refl (two_at_least (length k.sorts) k.written)
 
   pub kind_modulo : (is : List ℕ) (s : Sort) → IsSorted ds ts Modulo is s → HasNoParts ds ts Modulo is
-  kind_modulo is s k = kind_of_ints Modulo is s Ints k refl refl refl (just_three (length k.sorts) k.stands)
+  kind_modulo is s k = kind_of_ints Modulo is s Ints k refl refl refl (just_two (length k.sorts) k.written)
 
   pub kind_absolute : (is : List ℕ) (s : Sort) → IsSorted ds ts Absolute is s → HasNoParts ds ts Absolute is
-  kind_absolute is s k = kind_of_ints Absolute is s Ints k refl refl refl (just_one (length k.sorts) k.stands)
+  kind_absolute is s k = kind_of_ints Absolute is s Ints k refl refl refl (just_one (length k.sorts) k.written)
 
   pub kind_divisible : (is : List ℕ) (s : Sort) → IsSorted ds ts Divisible is s → HasNoParts ds ts Divisible is
-  kind_divisible is s k = kind_of_ints Divisible is s Truths k refl refl refl (just_three (length k.sorts) k.stands)
+  kind_divisible is s k = let never : false ≡ true = k.written in absurd cc
 
 -- a kind by another operator's name
 pub by_name : (ds : List Declaration) (ts : List Tree) (o p : Operator) (is : List ℕ) (s : Sort) (k : Kind) → p ≡ o → (IsSorted ds ts o is s → IsKind ds ts o is k) → IsSorted ds ts p is s → IsKind ds ts p is k

@@ -9,6 +9,7 @@ pub mod TermFiling
 pub mod TermEntering
 pub mod TermDivisions
 pub mod TermBounds
+pub mod TermRowForms
 pub mod ClausesCodes
 pub mod ClausesPlaces
 pub mod ClausesMerging
@@ -39,6 +40,9 @@ pub mod FarkasKeeping
 pub mod FarkasWeighted
 pub mod FarkasJudging
 pub mod BoundJoining
-pub mod BoundAmong
 pub mod BoundLeaves
 pub mod BoundJudging
+pub mod EuclidDivisions
+pub mod EuclidRanges
+pub mod EuclidLiterals
+pub mod EuclidJudging

@@ -1,6 +1,9 @@
 -- What is read, and numbers of terms and steps that are too large to be any.
 use Rattle.std.proofs.Common.{◌≡◌, ℕ, ◌<◌, ◌≤◌, ◌+◌, ◌^◌, Bool, true, false, ◌&&◌, List, [], ◌∷◌, ◌++◌, length, map, All, Option, Some, nat_lt, refl, sym, ap, ◌∙◌, subst, arith}
+use Rattle.std.specs.Prelude.{slice_get}
 use Rattle.std.proofs.lemmas.List.Elements.{All-head, All-tail, All-contains}
+use Rattle.std.proofs.lemmas.Option.{slice_get_within}
+use Rattle.smt_meaning.specs.declared.terms.Head.{Head}
 use Rattle.smt_meaning.specs.declared.nodes.Node.{Node}
 use Rattle.smt_meaning.specs.declared.clauses.Summand.{Summand}
 use Rattle.smt_meaning.specs.declared.clauses.Atom.{Atom}
@@ -12,8 +15,9 @@ use Rattle.proof_meaning.specs.declared.proof.Step.TheVariants.{Assert, Form as 
 use Rattle.smt_meaning.specs.Declaration.{Declaration}
 use Rattle.smt_meaning.specs.Sexp.{Sexp}
 use Rattle.smt_meaning.specs.Term.{Tree}
-use Rattle.proof_meaning.specs.Proof.{IsTerm, IsSummand, IsLiteral, IsAtom, literal, negated, is_true, are_same}
-use Rattle.proof_meaning.specs.Rules.{Gives, clause_at, sym_clause, trans_clause, truth_clause, both_clause, neither_clause}
+use Rattle.smt_meaning.specs.Division.{Row}
+use Rattle.proof_meaning.specs.Proof.{IsTerm, node_at, IsSummand, IsLiteral, IsAtom, literal, negated, is_true, are_same}
+use Rattle.proof_meaning.specs.Rules.{HasRows, of_quotient, of_last_quotient, of_remainder, of_divisibility, of_absolute, Gives, clause_at, sym_clause, trans_clause, truth_clause, both_clause, neither_clause}
 use Rattle.proof_meaning.specs.Reading.{AreRead}
 use Rattle.proof_form.specs.Range.{RuleLeaves, IsWeighted}
 use Rattle.proof_read.specs.Reads.{is_term_number, is_step_number, leaves_near, atom_near, literals_near, weights_near, numbers_near, places_near}
@@ -82,6 +86,19 @@ literals_of_weights_near ds ts (w ∷ ws) few all =
 
 -- ---- steps
 
+rows_few : (ts : List Tree) (i : ℕ) (h : Head) (is : List ℕ) (rows : List (Row ℕ)) → HasRows ts i h is rows → length rows ≤ 4
+rows_few ts i _ _ _ (of_quotient a n) = omega arith
+rows_few ts i _ _ _ (of_last_quotient a n is two e) = omega arith
+rows_few ts i _ _ _ (of_remainder a n q e) = omega arith
+rows_few ts i _ _ _ (of_divisibility a q n e) = omega arith
+rows_few ts i _ _ _ (of_absolute a) = omega arith
+
+-- the number of a row is small
+row_near : (ts : List Tree) (i : ℕ) (h : Head) (is : List ℕ) (rows : List (Row ℕ)) (n : ℕ) (r : Row ℕ) → HasRows ts i h is rows → slice_get rows n ≡ Some r → is_step_number n ≡ true
+row_near ts i h is rows n r k e =
+    let few : length rows ≤ 4 = rows_few ts i h is rows k in
+    step_near n (length rows) (slice_get_within rows n r e) (omega arith)
+
 -- what leaves the range in a rule names terms that are there
 leaving_is_near : (t : ProofTerms) (s : Step) → length t.trees ≤ 2 ^ 32 → length t.trees ≡ length t.nodes → RuleLeaves t.declared t.nodes t.trees s → places_near s ≡ true
 leaving_is_near t (FormStep i ls) few same h =
@@ -91,7 +108,9 @@ leaving_is_near t (Link i j n) few same h =
 leaving_is_near t (Farkas ws) few same h = all_weights_near t.declared t.trees ws few h.weighted
 leaving_is_near t (Assert a i) few same h = absurd h
 leaving_is_near t (Pick i n) few same h = absurd h
-leaving_is_near t (Euclid i n) few same h = absurd h
+leaving_is_near t (Euclid i n) few same h =
+    both (is_term_number i) (is_step_number n) (near i (length t.trees) (subst (λ m. i < m) (sym same) h.within) few)
+    (row_near t.trees i (node_at t.nodes i).head (node_at t.nodes i).arguments h.rows n h.row h.has h.row_is)
 leaving_is_near t (Refl i) few same h = absurd h
 leaving_is_near t (Sym i j) few same h = absurd h
 leaving_is_near t (Trans i j k) few same h = absurd h
@@ -119,7 +138,10 @@ giving_is_near t asserted before (FormStep i ms) ls few same fa fb lits g =
     (all_literals_near t.declared t.trees ms few (subst (All (IsLiteral t.declared t.trees)) g.by_rule.1 g.literals))
 giving_is_near t asserted before (Pick i n) ls few same fa fb lits g =
     both (is_term_number i) (is_step_number n) (near i (length t.trees) (subst (λ m. i < m) (sym same) g.by_rule.within) few) (step_near n 2 g.by_rule.which_is (omega arith))
-giving_is_near t asserted before (Euclid i n) ls few same fa fb lits g = absurd g.by_rule
+giving_is_near t asserted before (Euclid i n) ls few same fa fb lits g =
+    let r = g.by_rule in
+    both (is_term_number i) (is_step_number n) (near i (length t.trees) (subst (λ m. i < m) (sym same) r.within) few)
+    (row_near t.trees i (node_at t.nodes i).head (node_at t.nodes i).arguments r.rows n r.row r.has r.row_is)
 giving_is_near t asserted before (Refl i) ls few same fa fb lits g =
     let own : All (IsLiteral t.declared t.trees) (are_same i i ∷ []) = subst (All (IsLiteral t.declared t.trees)) g.by_rule g.literals in
     near i (length t.trees) (head_of t.declared t.trees (are_same i i) [] own).0 few

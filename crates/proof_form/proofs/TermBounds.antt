@@ -145,7 +145,7 @@ module _ (ds : List Declaration) (hs : List Tree) (ns : List Node) (places : Lis
       let same : place_of u us ≡ p = place_of-is u us p filed.different at.0 here in
       ap (λ v. place_of v trees) (sym here) ∙ (filed.each p at.0).first ∙ ap (first_at facts) (sym same)
 
-  each_renamed : (i : ℕ) → i < length ns → EachPart (IsRenamed (first_at facts) trees us) (tree_at trees i)
+  pub each_renamed : (i : ℕ) → i < length ns → EachPart (IsRenamed (first_at facts) trees us) (tree_at trees i)
   each_renamed i h =
       parts_weaker (λ u. Among u trees) (IsRenamed (first_at facts) trees us) renamed_at (tree_at trees i) (parts_among ds ns trees filed.terms i (omega (arith, trees_count ds hs ns places us facts filed)))
 

@@ -1,27 +1,27 @@
 -- What is kept of a term follows from what is kept of its arguments, and goes on when terms join.
 use Rattle.std.proofs.Common.{◌≡◌, ◌⊎◌, inl, inr, ℕ, suc, ◌+◌, ◌<◌, ◌≤◌, ◌^◌, Bool, true, false, ◌&&◌, List, [], ◌∷◌, ◌++◌, length, get_or, All, refl, ap, sym, subst, ◌∙◌, arith}
-use Rattle.std.specs.Prelude.{Option, Some, None, MatchOption, if◌then◌else◌, slice_index}
+use Rattle.std.specs.Prelude.{Option, Some, None, if◌then◌else◌, slice_index}
 use Rattle.std.proofs.lemmas.Bool.{cases_lt}
 use Rattle.std.proofs.lemmas.List.{get_or_append_left, length_push, get_or_push, get_or_default}
 use Rattle.std.proofs.lemmas.List.Elements.{All-nil, All-cons, All-head, All-tail}
 use Rattle.smt_meaning.specs.declared.terms.Head.{Head}
 use Rattle.smt_meaning.specs.declared.terms.Head.TheVariants.{Numeral, Theory, Symbol, Place}
-use Rattle.smt_meaning.specs.declared.terms.Operator.TheVariants.{Multiply}
+use Rattle.smt_meaning.specs.declared.terms.Operator.TheVariants.{Multiply, Divide, Modulo, Divisible}
 use Rattle.smt_meaning.specs.declared.nodes.Node.{Node}
 use Rattle.smt_meaning.specs.Declaration.{Declaration}
 use Rattle.smt_meaning.specs.Term.{Tree, Trees, node, none, more, tree_at}
-use Rattle.smt_meaning.specs.TreeShape.{tree_eq, place_of, is_constant_head, is_constant, are_constant, at_most_one_varies, is_linear_at, is_linear, are_linear}
-use Rattle.smt_meaning.specs.Signature.{cons_sort, with_sorts, head_sort, tree_sort, tree_sorts}
+use Rattle.smt_meaning.specs.TreeShape.{tree_eq, place_of, is_constant_head, is_constant, are_constant, at_most_one_varies}
+use Rattle.smt_meaning.specs.Signature.{cons_sort}
 use Rattle.smt_meaning.specs.Nodes.{pick, tree_of, trees_of}
-use Rattle.proof_meaning.specs.Proof.{IsTerm, AreTerms, next_term}
+use Rattle.proof_meaning.specs.Proof.{IsTerm, AreTerms, next_term, written_sort, with_term_sorts, term_sort, term_sorts, is_linear_with, is_linear_term, are_linear_terms, meant, meant_at, all_meant}
 use Rattle.smt_laws.proofs.SameTree.{tree_eq-true, tree_eq-self}
 use Rattle.smt_laws.proofs.Both.{and_both}
 use Rattle.term_store.specs.Terms.{IsPlace, IsNew, AreComplete}
 use Rattle.term_store.proofs.NodeLemmas.{trees_of-push, length-trees_of, AreDifferent-push}
 use Rattle.proof_form.specs.declared.terms_facts.Fact.{Fact}
-use Rattle.proof_form.specs.TermFacts.{fact_past, fact_at, facts_at, places_at, sorts_of, all_constant, one_varies, is_linear_here, divides_at, with_held, held_of, IsFact}
+use Rattle.proof_form.specs.TermFacts.{fact_past, fact_at, facts_at, places_at, sorts_of, all_constant, one_varies, is_linear_here, divides_at, with_held, held_of, IsHeldAt, IsFact}
 use Rattle.proof_form.specs.TermTable.{IsHeldPlace, AreFiled, IsInterned}
-use Rattle.proof_form.proofs.TermHeldLemmas.{AllAmong, arguments_among, not_among_new}
+use Rattle.proof_form.proofs.TermHeldLemmas.{AllAmong, meant_among, not_among_new}
 
 -- ---- of each of some trees a fact is kept
 
@@ -31,11 +31,11 @@ AreFactsOf ds hs ts (more v vs) (f ∷ fs) = IsFact ds hs ts v f × AreFactsOf d
 AreFactsOf ds hs ts _ _ = ⊥
 
 module _ (ds : List Declaration) (hs ts : List Tree) where
-  sorts_are : (vs : Trees) (fs : List Fact) → AreFactsOf ds hs ts vs fs → tree_sorts ds vs ≡ Some (sorts_of fs)
+  sorts_are : (vs : Trees) (fs : List Fact) → AreFactsOf ds hs ts vs fs → term_sorts ds vs ≡ Some (sorts_of fs)
   sorts_are none [] a = refl
   sorts_are none (f ∷ fs) a = absurd a
   sorts_are (more v vs) [] a = absurd a
-  sorts_are (more v vs) (f ∷ fs) a = ap (λ o. cons_sort o (tree_sorts ds vs)) a.0.sort ∙ ap (cons_sort (Some f.sort)) (sorts_are vs fs a.1)
+  sorts_are (more v vs) (f ∷ fs) a = ap (λ o. cons_sort o (term_sorts ds vs)) a.0.sort ∙ ap (cons_sort (Some f.sort)) (sorts_are vs fs a.1)
 
   constant_are : (vs : Trees) (fs : List Fact) → AreFactsOf ds hs ts vs fs → are_constant vs ≡ all_constant fs
   constant_are none [] a = refl
@@ -52,32 +52,39 @@ module _ (ds : List Declaration) (hs ts : List Tree) where
       ∙ ap (λ b. if f.constant then b else are_constant vs) (one_varies_is vs fs a.1)
       ∙ ap (λ b. if f.constant then one_varies fs else b) (constant_are vs fs a.1)
 
-  linear_are : (vs : Trees) (fs : List Fact) → AreFactsOf ds hs ts vs fs → are_linear vs ≡ true
+  linear_are : (vs : Trees) (fs : List Fact) → AreFactsOf ds hs ts vs fs → are_linear_terms vs ≡ true
   linear_are none [] a = refl
   linear_are none (f ∷ fs) a = absurd a
   linear_are (more v vs) [] a = absurd a
-  linear_are (more v vs) (f ∷ fs) a = and_both (is_linear v) (are_linear vs) a.0.linear (linear_are vs fs a.1)
+  linear_are (more v vs) (f ∷ fs) a = and_both (is_linear_term v) (are_linear_terms vs) a.0.linear (linear_are vs fs a.1)
 
   with_true : (b : Bool) → b ≡ (b && true)
   with_true true = refl
   with_true false = refl
 
-  linear_here_is : (h : Head) (vs : Trees) (fs : List Fact) → AreFactsOf ds hs ts vs fs → is_linear_at h vs ≡ (is_linear_here h fs && divides_at h vs)
+  linear_here_is : (h : Head) (vs : Trees) (fs : List Fact) → AreFactsOf ds hs ts vs fs → is_linear_with h vs ≡ (is_linear_here h fs && divides_at h vs)
   linear_here_is (Theory Multiply) vs fs a = one_varies_is vs fs a ∙ with_true (one_varies fs)
+  linear_here_is (Theory Divide) none fs a = refl
+  linear_here_is (Theory Divide) (more v vs) fs a = refl
+  linear_here_is (Theory Modulo) none fs a = refl
+  linear_here_is (Theory Modulo) (more v vs) fs a = refl
+  linear_here_is (Theory Divisible) none fs a = refl
+  linear_here_is (Theory Divisible) (more v vs) fs a = refl
   linear_here_is (Theory o) vs fs a = refl
-  linear_here_is (Numeral n) vs fs a = refl
+  linear_here_is (Numeral n) none fs a = refl
+  linear_here_is (Numeral n) (more v vs) fs a = refl
   linear_here_is (Symbol f) vs fs a = refl
   linear_here_is (Place k) vs fs a = refl
 
-  -- the arguments' places among the stack's terms: one of them has none, or these are the places
+  -- the places among the stack's terms of those for which the arguments stand: one of them has none, or these are the places
   abbrev HaveHeld : Trees → Option (List ℕ) → Type 0
-  HaveHeld vs None = AllAmong hs vs → ⊥
-  HaveHeld vs (Some is) = (pick hs is ≡ vs) × All (λ i. i < length hs) is
+  HaveHeld vs None = AllAmong hs (all_meant vs) → ⊥
+  HaveHeld vs (Some is) = (pick hs is ≡ all_meant vs) × All (λ i. i < length hs) is
 
-  have_held_more : (v : Tree) (vs : Trees) (o : Option ℕ) (os : Option (List ℕ)) → MatchOption o (IsNew hs v) (λ i. IsPlace hs i v) → HaveHeld vs os → HaveHeld (more v vs) (with_held o os)
-  have_held_more v vs None os a b = λ all. not_among_new hs v a all.0
+  have_held_more : (v : Tree) (vs : Trees) (o : Option ℕ) (os : Option (List ℕ)) → IsHeldAt hs (meant v) o → HaveHeld vs os → HaveHeld (more v vs) (with_held o os)
+  have_held_more v vs None os a b = λ all. not_among_new hs (meant v) a all.0
   have_held_more v vs (Some i) None a b = λ all. b all.1
-  have_held_more v vs (Some i) (Some is) a b = (ap (λ t. more t (pick hs is)) a.1 ∙ ap (more v) b.0, All-cons (λ j. j < length hs) i is a.0 b.1)
+  have_held_more v vs (Some i) (Some is) a b = (ap (λ t. more t (pick hs is)) a.1 ∙ ap (more (meant v)) b.0, All-cons (λ j. j < length hs) i is a.0 b.1)
 
   have_held : (vs : Trees) (fs : List Fact) → AreFactsOf ds hs ts vs fs → HaveHeld vs (held_of fs)
   have_held none [] a = (refl, All-nil (λ i. i < length hs))
@@ -86,26 +93,25 @@ module _ (ds : List Declaration) (hs ts : List Tree) where
   have_held (more v vs) (f ∷ fs) a = have_held_more v vs f.held (held_of fs) a.0.held (have_held vs fs a.1)
 
   module _ (h : Head) (vs : Trees) (fs : List Fact) (a : AreFactsOf ds hs ts vs fs) where
-    pub sort_is : tree_sort ds (node h vs) ≡ head_sort ds h (sorts_of fs)
-    sort_is = ap (with_sorts ds h) (sorts_are vs fs a)
+    pub sort_is : term_sort ds (node h vs) ≡ written_sort ds h (sorts_of fs)
+    sort_is = ap (with_term_sorts ds h) (sorts_are vs fs a)
 
     pub constant_is : is_constant (node h vs) ≡ (is_constant_head h && all_constant fs)
     constant_is = ap (λ b. is_constant_head h && b) (constant_are vs fs a)
 
-    pub linear_is : is_linear (node h vs) ≡ (is_linear_here h fs && divides_at h vs)
-    linear_is = ap (λ b. is_linear_at h vs && b) (linear_are vs fs a) ∙ sym (with_true (is_linear_at h vs)) ∙ linear_here_is h vs fs a
+    pub linear_is : is_linear_term (node h vs) ≡ (is_linear_here h fs && divides_at h vs)
+    linear_is = ap (λ b. is_linear_with h vs && b) (linear_are vs fs a) ∙ sym (with_true (is_linear_with h vs)) ∙ linear_here_is h vs fs a
 
     pub held_within : (is : List ℕ) → held_of fs ≡ Some is → All (λ i. i < length hs) is
     held_within is e = (subst (HaveHeld vs) e (have_held vs fs a)).1
 
-    pub held_is : (o : Option ℕ) → AreComplete hs → IsHeldPlace hs h (held_of fs) o → MatchOption o (IsNew hs (node h vs)) (λ i. IsPlace hs i (node h vs))
+    pub held_is : (o : Option ℕ) → AreComplete hs → IsHeldPlace hs h (held_of fs) o → IsHeldAt hs (meant (node h vs)) o
     held_is o complete p = by (held_of fs) (have_held vs fs a) p
       where
-        by : (os : Option (List ℕ)) → HaveHeld vs os → IsHeldPlace hs h os o → MatchOption o (IsNew hs (node h vs)) (λ i. IsPlace hs i (node h vs))
+        by : (os : Option (List ℕ)) → HaveHeld vs os → IsHeldPlace hs h os o → IsHeldAt hs (meant (node h vs)) o
         by None not_all e =
-            subst (λ x. MatchOption x (IsNew hs (node h vs)) (λ i. IsPlace hs i (node h vs))) (sym e)
-            (λ i less at. not_all (arguments_among hs h vs i complete (less, at)))
-        by (Some is) there q = subst (λ us. MatchOption o (IsNew hs (node h us)) (λ i. IsPlace hs i (node h us))) there.0 q
+            subst (IsHeldAt hs (meant (node h vs))) (sym e) (λ i less at. not_all (meant_among hs h (all_meant vs) i complete (less, at)))
+        by (Some is) there q = subst (λ us. IsHeldAt hs (meant_at h us) o) there.0 q
 
 -- ---- places in a list that grows
 
@@ -219,8 +225,8 @@ module _ (ds : List Declaration) (hs : List Tree) (ns : List Node) (places : Lis
       ascending = filed.ascending;
     }
 
-    module _ (f : Fact) (sort : tree_sort ds tree ≡ Some f.sort) (constant : is_constant tree ≡ f.constant) (first : f.first ≡ length ns)
-        (held : MatchOption f.held (IsNew hs tree) (λ i. IsPlace hs i tree)) where
+    module _ (f : Fact) (sort : term_sort ds tree ≡ Some f.sort) (constant : is_constant tree ≡ f.constant) (first : f.first ≡ length ns)
+        (held : IsHeldAt hs (meant tree) f.held) where
       module _ (new : IsNew us tree) where
         not_before : IsNew trees tree
         not_before i less e =

@@ -79,10 +79,10 @@ module _ (r : ℕ → ℕ) (a : Ascends r) where
 
   -- ---- forms
 
-  form_times_renamed : (k : ℤ) (f : Form) → renamed_form r (form_times k f) ≡ form_times k (renamed_form r f)
+  pub form_times_renamed : (k : ℤ) (f : Form) → renamed_form r (form_times k f) ≡ form_times k (renamed_form r f)
   form_times_renamed k f = ap (λ (ps : List Summand). let g : Form = record { sum = ps; constant = k *ℤ f.constant } in g) (times_renamed k f.sum)
 
-  form_plus_renamed : (f g : Form) → renamed_form r (form_plus f g) ≡ form_plus (renamed_form r f) (renamed_form r g)
+  pub form_plus_renamed : (f g : Form) → renamed_form r (form_plus f g) ≡ form_plus (renamed_form r f) (renamed_form r g)
   form_plus_renamed f g = ap (λ (ps : List Summand). let h : Form = record { sum = ps; constant = f.constant +ℤ g.constant } in h) (sums_renamed f.sum g.sum)
 
   form_minus_renamed : (f g : Form) → renamed_form r (form_minus f g) ≡ form_minus (renamed_form r f) (renamed_form r g)
@@ -100,7 +100,7 @@ module _ (r : ℕ → ℕ) (a : Ascends r) where
   fits_renamed [] = refl
   fits_renamed (p ∷ ps) = ap (λ b. is_in_range p.coefficient && b) (fits_renamed ps)
 
-  form_fits_renamed : (f : Form) → form_fits (renamed_form r f) ≡ form_fits f
+  pub form_fits_renamed : (f : Form) → form_fits (renamed_form r f) ≡ form_fits f
   form_fits_renamed f = ap (λ b. b && is_in_range f.constant) (fits_renamed f.sum)
 
   module _ (op : Form → Form → Form) (commutes : (f g : Form) → renamed_form r (op f g) ≡ op (renamed_form r f) (renamed_form r g)) where
@@ -155,7 +155,7 @@ module _ (r : ℕ → ℕ) (a : Ascends r) where
   divided_renamed g [] = refl
   divided_renamed g (p ∷ ps) = ap (λ xs. summand (r p.term) (divided p.coefficient g) ∷ xs) (divided_renamed g ps)
 
-  normal_renamed : (ps : List Summand) (k : ℤ) → normal_bound (renamed r ps) k ≡ renamed_bound r (normal_bound ps k)
+  pub normal_renamed : (ps : List Summand) (k : ℤ) → normal_bound (renamed r ps) k ≡ renamed_bound r (normal_bound ps k)
   normal_renamed [] k = refl
   normal_renamed (p ∷ ps) k =
       ap (λ (n : ℕ). AtMost (each_divided (pos n) (renamed r (p ∷ ps))) (divided k (pos n))) (gcd_renamed (p ∷ ps))
@@ -177,7 +177,7 @@ IsRenamed r ts us t = place_of t ts ≡ r (place_of t us)
 
 module _ (r : ℕ → ℕ) (a : Ascends r) (ts us : List Tree) where
   mutual
-    form_renamed : (t : Tree) → EachPart (IsRenamed r ts us) t → linear_form ts t ≡ renamed_form r (linear_form us t)
+    pub form_renamed : (t : Tree) → EachPart (IsRenamed r ts us) t → linear_form ts t ≡ renamed_form r (linear_form us t)
     form_renamed (node h vs) p =
         ap (λ fs. head_form h fs (leaf_form ts (node h vs))) (forms_renamed vs p.1)
         ∙ ap (λ (i : ℕ). head_form h (renamed_forms r (linear_forms us vs)) (record { sum = summand i (pos 1) ∷ []; constant = pos 0 })) p.0
@@ -189,7 +189,7 @@ module _ (r : ℕ → ℕ) (a : Ascends r) (ts us : List Tree) where
         ap (λ f. f ∷ linear_forms ts vs) (form_renamed v p.0) ∙ ap (λ fs. renamed_form r (linear_form us v) ∷ fs) (forms_renamed vs p.1)
 
   mutual
-    folding_renamed : (t : Tree) → EachPart (IsRenamed r ts us) t → folding_fits ts t ≡ folding_fits us t
+    pub folding_renamed : (t : Tree) → EachPart (IsRenamed r ts us) t → folding_fits ts t ≡ folding_fits us t
     folding_renamed (node h vs) p =
         ap (λ b. b && head_folding_fits h (linear_forms ts vs)) (foldings_renamed vs p.1)
         ∙ ap (λ fs. foldings_fit us vs && head_folding_fits h fs) (forms_renamed vs p.1)

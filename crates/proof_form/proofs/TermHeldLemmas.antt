@@ -1,17 +1,22 @@
 -- Terms among those of the stack.
-use Rattle.std.proofs.Common.{◌≡◌, ℕ, zero, suc, ◌+◌, ◌<◌, Bool, true, false, List, [], ◌∷◌, ◌++◌, length, get_or, take, All, refl, ap, sym, subst, ◌∙◌, arith}
-use Rattle.std.specs.Prelude.{Option, Some, None, if◌then◌else◌}
-use Rattle.std.proofs.lemmas.List.{get_or-take, length-take-le, take_more}
+use Rattle.std.proofs.Common.{◌≡◌, ℕ, zero, suc, ◌+◌, ◌<◌, Bool, true, false, List, [], ◌∷◌, ◌++◌, length, get_or, take, drop, All, refl, ap, sym, subst, ◌∙◌, arith}
+use Rattle.std.specs.Prelude.{ℤ, Option, Some, None, if◌then◌else◌}
+use Rattle.std.proofs.lemmas.List.{get_or-take, length-take-le, take_more, drop_more}
+use Rattle.smt_meaning.specs.declared.terms.Operator.{Operator}
+use Rattle.smt_meaning.specs.declared.terms.Operator.TheVariants.{Divide, Modulo, Divisible}
 use Rattle.smt_meaning.specs.declared.terms.Head.{Head}
+use Rattle.smt_meaning.specs.declared.terms.Head.TheVariants.{Numeral, Theory, Symbol, Place}
 use Rattle.smt_meaning.specs.Term.{Tree, Trees, node, none, more, tree_at}
-use Rattle.smt_meaning.specs.TreeShape.{is_among, with_tree, with_parts, with_all_parts, place_of}
+use Rattle.smt_meaning.specs.TreeShape.{operation, quotient_tree, divided_from, is_among, with_tree, with_parts, with_all_parts, place_of}
+use Rattle.smt_meaning.specs.Nodes.{pick}
+use Rattle.proof_meaning.specs.Proof.{meant_at}
 use Rattle.smt_laws.proofs.Among.{Among, among_append, kept_with_all_parts, among_parts}
 use Rattle.smt_laws.proofs.SameTree.{found_again}
 use Rattle.term_store.specs.Terms.{tree_with, IsPlace, IsNew, AreDifferent, AreComplete}
 use Rattle.term_store.proofs.NodeLemmas.{pick-agree}
 use Rattle.term_store.proofs.PlaceLemmas.{among_at, place_of-within, with_tree_new}
 use Rattle.proof_form.specs.declared.terms_facts.Fact.{Fact}
-use Rattle.proof_form.specs.TermFacts.{with_held, held_of}
+use Rattle.proof_form.specs.TermFacts.{is_division, beside_quotient, with_held, held_of}
 
 -- ---- the places of arguments
 
@@ -86,3 +91,97 @@ not_among_new hs t new a = new (place_of t hs) (place_of-within t hs a) (found_a
 
 pub not_among_is_new : (hs : List Tree) (t : Tree) → is_among t hs ≡ false → IsNew hs t
 not_among_is_new hs t h i less e = let a = among_at t hs i less e in cc
+
+-- ---- the trees from which a tree of the list is made
+
+placed : (hs : List Tree) (t : Tree) → Among t hs → IsPlace hs (place_of t hs) t
+placed hs t a = (place_of-within t hs a, found_again t hs a)
+
+divided_among : (hs : List Tree) (t : Tree) (ts : Trees) (i : ℕ) → AreComplete hs → IsPlace hs i (divided_from t ts) → AllAmong hs (more t ts)
+divided_among hs t none i complete at = (among_at t hs i at.0 at.1, tt)
+divided_among hs t (more u us) i complete at =
+    let rest = divided_among hs (quotient_tree t u) us i complete at in
+    let parts = arguments_among hs (Theory Divide) (more t (more u none)) (place_of (quotient_tree t u) hs) complete (placed hs (quotient_tree t u) rest.0) in
+    (parts.0, (parts.1.0, rest.1))
+
+operation_among : (hs : List Tree) (o : Operator) (ws : Trees) (i : ℕ) → AreComplete hs → IsPlace hs i (operation o ws) → AllAmong hs ws
+operation_among hs Divide none i complete at = tt
+operation_among hs Divide (more t ts) i complete at = divided_among hs t ts i complete at
+operation_among hs Modulo (more t (more u none)) i complete at =
+    let a = arguments_among hs (Theory Modulo) (more t (more u (more (quotient_tree t u) none))) i complete at in
+    (a.0, (a.1.0, tt))
+operation_among hs Divisible (more t (more u none)) i complete at =
+    let a = arguments_among hs (Theory Divisible) (more t (more u (more (quotient_tree t u) none))) i complete at in
+    (a.0, (a.1.0, tt))
+operation_among hs o ws i complete at = arguments_among hs (Theory o) ws i complete at
+
+-- of a tree of the list that a head makes of some, these are in the list
+pub meant_among : (hs : List Tree) (h : Head) (ws : Trees) (i : ℕ) → AreComplete hs → IsPlace hs i (meant_at h ws) → AllAmong hs ws
+meant_among hs (Theory o) ws i complete at = operation_among hs o ws i complete at
+meant_among hs (Numeral n) none i complete at = tt
+meant_among hs (Numeral n) (more t none) i complete at =
+    let u : Tree = node (Numeral n) none in
+    let a = arguments_among hs (Theory Divisible) (more t (more u (more (quotient_tree t u) none))) i complete at in
+    (a.0, tt)
+meant_among hs (Numeral n) (more t (more u us)) i complete at = arguments_among hs (Numeral n) (more t (more u us)) i complete at
+meant_among hs (Symbol f) ws i complete at = arguments_among hs (Symbol f) ws i complete at
+meant_among hs (Place k) ws i complete at = arguments_among hs (Place k) ws i complete at
+
+-- ---- what isn't in the list as something of it isn't
+
+pub divided_new : (hs : List Tree) (t : Tree) (us : Trees) → AreComplete hs → IsNew hs t → IsNew hs (divided_from t us)
+divided_new hs t us complete new i less e = not_among_new hs t new (divided_among hs t us i complete (less, e)).0
+
+pub divided_nowhere : (hs : List Tree) (t u : Tree) (ds : List ℕ) (i d : ℕ) → AreComplete hs → i < length ds → divided_from t (pick hs ds) ≡ divided_from u (pick hs (drop i ds))
+    → IsNew hs (quotient_tree u (tree_at hs (get_or ds i d))) → IsNew hs (divided_from t (pick hs ds))
+divided_nowhere hs t u ds i d complete inside e new =
+    let next : Trees = pick hs (drop (i + 1) ds) in
+    let shape : divided_from t (pick hs ds) ≡ divided_from (quotient_tree u (tree_at hs (get_or ds i d))) next = e ∙ ap (λ is. divided_from u (pick hs is)) (drop_more ds i d inside) in
+    subst (IsNew hs) (sym shape) (divided_new hs (quotient_tree u (tree_at hs (get_or ds i d))) next complete new)
+
+module _ (hs : List Tree) (o : Operator) (t u : Tree) (complete : AreComplete hs) where
+  parts : (i : ℕ) → i < length hs → tree_at hs i ≡ beside_quotient o t u → AllAmong hs (more t (more u (more (quotient_tree t u) none)))
+  parts i less e = arguments_among hs (Theory o) (more t (more u (more (quotient_tree t u) none))) i complete (less, e)
+
+  pub beside_new : IsNew hs (quotient_tree t u) → IsNew hs (beside_quotient o t u)
+  beside_new new i less e = not_among_new hs (quotient_tree t u) new (parts i less e).1.1.0
+
+  pub divisor_new : IsNew hs u → IsNew hs (beside_quotient o t u)
+  divisor_new new i less e = not_among_new hs u new (parts i less e).1.0
+
+-- ---- operators
+
+pub operation_plain : (o : Operator) (us : Trees) → is_division o ≡ false → node (Theory o) us ≡ operation o us
+operation_plain Divide us h = cc
+operation_plain Modulo us h = cc
+operation_plain Divisible us h = cc
+operation_plain o us h = refl
+
+pub operation_beside : (o : Operator) (t u : Tree) → is_division o ≡ true → (o ≡ Divide → ⊥) → beside_quotient o t u ≡ operation o (more t (more u none))
+operation_beside Divide t u h other = absurd (other refl)
+operation_beside Modulo t u h other = refl
+operation_beside Divisible t u h other = refl
+operation_beside o t u h other = cc
+
+not_two : (o : Operator) (us : Trees) → (o ≡ Divide → ⊥) → ((t u : Tree) → us ≡ more t (more u none) → ⊥) → node (Theory o) us ≡ operation o us
+not_two Divide us other two = absurd (other refl)
+not_two Modulo (more t (more u none)) other two = absurd (two t u refl)
+not_two Divisible (more t (more u none)) other two = absurd (two t u refl)
+not_two o us other two = refl
+
+two_picked : (hs : List Tree) (is : List ℕ) (t u : Tree) → pick hs is ≡ more t (more u none) → length is ≡ 2
+two_picked hs [] t u e = cc
+two_picked hs (i ∷ []) t u e = cc
+two_picked hs (i ∷ j ∷ []) t u e = refl
+two_picked hs (i ∷ j ∷ k ∷ is) t u e = cc
+
+pub operation_alone : (hs : List Tree) (o : Operator) (is : List ℕ) → (o ≡ Divide → ⊥) → (length is ≡ 2 → ⊥) → node (Theory o) (pick hs is) ≡ operation o (pick hs is)
+operation_alone hs o is other two = not_two o (pick hs is) other (λ t u e. two (two_picked hs is t u e))
+
+pub numeral_alone : (hs : List Tree) (h : Head) (n : ℤ) (is : List ℕ) → h ≡ Numeral n → (length is ≡ 1 → ⊥) → node (Numeral n) (pick hs is) ≡ meant_at h (pick hs is)
+numeral_alone hs h n is e other = by is other ∙ ap (λ k. meant_at k (pick hs is)) (sym e)
+  where
+    by : (js : List ℕ) → (length js ≡ 1 → ⊥) → node (Numeral n) (pick hs js) ≡ meant_at (Numeral n) (pick hs js)
+    by [] k = refl
+    by (j ∷ []) k = absurd (k refl)
+    by (i ∷ j ∷ js) k = refl

@@ -9,6 +9,7 @@ pub mod TermFacts
 pub mod TermNodes
 pub mod TermRenaming
 pub mod TermTable
+pub mod TermRows
 pub mod ClausesLaid
 pub mod ClausesMerged
 pub mod EqualitiesKept
@@ -17,4 +18,6 @@ pub mod FormValues
 pub mod FormParts
 pub mod FarkasSums
 pub mod BoundCodes
+pub mod EuclidRows
+pub mod EuclidCodes
 pub mod FormPairs

@@ -1,15 +1,16 @@
 -- What is kept of the different trees of a proof's terms.
-use Rattle.std.specs.Prelude.{◌≡◌, ◌<◌, ◌+◌, ◌^◌, ◌&&◌, ℕ, Bool, true, false, not, pos, List, [], ◌∷◌, map, length, slice_index, slice_index_or, if◌then◌else◌, Option, Some, None, MatchOption}
+use Rattle.std.specs.Prelude.{◌≡◌, ◌<◌, ◌+◌, ◌^◌, ◌&&◌, ◌||◌, ℕ, Bool, true, false, not, pos, List, [], ◌∷◌, map, length, slice_index, slice_index_or, if◌then◌else◌, Option, Some, None, MatchOption}
 use Rattle.smt_meaning.specs.declared.values.Sort.{Sort}
-use Rattle.smt_meaning.specs.declared.values.Sort.TheVariants.{Bool as Truths}
+use Rattle.smt_meaning.specs.declared.values.Sort.TheVariants.{Bool as Truths, Int as Ints}
 use Rattle.smt_meaning.specs.declared.terms.Head.{Head}
 use Rattle.smt_meaning.specs.declared.terms.Head.TheVariants.{Numeral, Theory}
+use Rattle.smt_meaning.specs.declared.terms.Operator.{Operator}
 use Rattle.smt_meaning.specs.declared.terms.Operator.TheVariants.{Subtract, Multiply, Divide, Modulo, Divisible}
-use Rattle.smt_meaning.specs.declared.nodes.Node.{Node}
 use Rattle.smt_meaning.specs.Declaration.{Declaration}
+use Rattle.smt_meaning.specs.Signature.{sort_eq, if_so}
 use Rattle.smt_meaning.specs.Term.{Tree, Trees, node, none, more, int_eq}
-use Rattle.smt_meaning.specs.TreeShape.{is_constant, is_linear, is_quotient, has_quotient, place_of}
-use Rattle.smt_meaning.specs.Signature.{tree_sort}
+use Rattle.smt_meaning.specs.TreeShape.{is_constant, are_divisors, quotient_tree, place_of}
+use Rattle.proof_meaning.specs.Proof.{term_sort, is_linear_term, meant}
 use Rattle.term_store.specs.Terms.{IsPlace, IsNew}
 use Rattle.proof_form.specs.declared.terms_facts.Fact.{Fact}
 
@@ -33,6 +34,12 @@ places_at places is = map (λ i. slice_index places i) is
 abbrev pub sorts_of : List Fact → List Sort
 sorts_of fs = map (λ (f : Fact). f.sort) fs
 
+-- the sort of a numeral with arguments of these sorts
+abbrev pub numeral_sort : List Sort → Option Sort
+numeral_sort [] = Some Ints
+numeral_sort (s ∷ []) = if_so (sort_eq s Ints) Truths
+numeral_sort ss = None
+
 -- all arguments are constant
 abbrev pub all_constant : List Fact → Bool
 all_constant [] = true
@@ -48,9 +55,6 @@ abbrev pub is_linear_here : Head → List Fact → Bool
 is_linear_here (Theory Multiply) fs = one_varies fs
 is_linear_here _ fs = true
 
-abbrev pub plain_node : Head → List ℕ → Node
-plain_node h is = record { head = h; arguments = is }
-
 -- a numeral other than 0
 abbrev pub is_nonzero : Tree → Bool
 is_nonzero (node (Numeral n) none) = not (int_eq n (pos 0))
@@ -61,12 +65,30 @@ abbrev pub is_negation : Tree → Bool
 is_negation (node (Theory Subtract) (more t none)) = is_nonzero t
 is_negation t = false
 
--- as a division of these arguments, a term is as in a tree
+-- all but the first divide
+abbrev pub others_divide : Trees → Bool
+others_divide none = true
+others_divide (more t ts) = are_divisors ts
+
+abbrev pub is_division : Operator → Bool
+is_division Divide = true
+is_division Modulo = true
+is_division Divisible = true
+is_division _ = false
+
+-- as a division of these arguments, a term is linear; true of another term
 abbrev pub divides_at : Head → Trees → Bool
-divides_at (Theory Divide) us = is_quotient us
-divides_at (Theory Modulo) us = has_quotient us
-divides_at (Theory Divisible) us = has_quotient us
-divides_at _ us = true
+divides_at (Theory o) us = not (is_division o) || others_divide us
+divides_at (Numeral n) (more u us) = not (int_eq n (pos 0))
+divides_at h us = true
+
+-- an operator applied to two trees, with their quotient beside them
+abbrev pub beside_quotient : Operator → Tree → Tree → Tree
+beside_quotient o t u = node (Theory o) (more t (more u (more (quotient_tree t u) none)))
+
+-- the place of a tree among these, if it is one of them
+abbrev pub IsHeldAt : List Tree → Tree → Option ℕ → Type 0
+IsHeldAt hs t o = MatchOption o (IsNew hs t) (λ i. IsPlace hs i t)
 
 -- one place more, if there are all
 abbrev pub with_held : Option ℕ → Option (List ℕ) → Option (List ℕ)
@@ -79,11 +101,11 @@ abbrev pub held_of : List Fact → Option (List ℕ)
 held_of [] = Some []
 held_of (f ∷ fs) = with_held f.held (held_of fs)
 
--- what is kept of a tree, beside the stack's trees and those of the proof's terms
+-- what is kept of a tree of a term, beside the stack's trees and those of the proof's terms; it stands for a tree of the stack at a place, or for none
 pub record IsFact (ds : List Declaration) (hs ts : List Tree) (t : Tree) (f : Fact) : Type 0 where
-  pub sort : tree_sort ds t ≡ Some f.sort
+  pub sort : term_sort ds t ≡ Some f.sort
   pub constant : is_constant t ≡ f.constant
-  pub linear : is_linear t ≡ true
+  pub linear : is_linear_term t ≡ true
   pub first : place_of t ts ≡ f.first
   pub within : f.first < length ts
-  pub held : MatchOption f.held (IsNew hs t) (λ i. IsPlace hs i t)
+  pub held : IsHeldAt hs (meant t) f.held

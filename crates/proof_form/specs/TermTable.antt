@@ -1,5 +1,5 @@
 -- The terms of a proof as they are kept: the different trees that they have are filed once, in the order of their first terms.
-use Rattle.std.specs.Prelude.{◌≡◌, ◌⊎◌, ◌<◌, ◌+◌, ◌^◌, All, ◌++◌, ◌∷◌, [], ℕ, List, length, take, slice_index, Option, Some, None, MatchOption, true, false, ℤ, Bool}
+use Rattle.std.specs.Prelude.{◌≡◌, ◌⊎◌, ◌<◌, ◌+◌, ◌^◌, All, ◌++◌, ◌∷◌, [], ℕ, List, length, take, slice_index, Option, Some, None, true, false, ℤ, Bool}
 use Rattle.fraction128.specs.Whole.{InRange}
 use Rattle.smt_meaning.specs.declared.terms.Head.{Head}
 use Rattle.smt_meaning.specs.declared.nodes.Node.{Node}
@@ -7,23 +7,22 @@ use Rattle.smt_meaning.specs.declared.clauses.Summand.{Summand}
 use Rattle.smt_meaning.specs.declared.clauses.Atom.{Atom}
 use Rattle.smt_meaning.specs.declared.clauses.Atom.TheVariants.{AtMost}
 use Rattle.smt_meaning.specs.declared.values.Sort.{Sort}
-use Rattle.smt_meaning.specs.Signature.{head_sort}
 use Rattle.smt_meaning.specs.Declaration.{Declaration}
 use Rattle.smt_meaning.specs.Term.{Tree, tree_at}
 use Rattle.smt_meaning.specs.Linear.{sum_fits}
 use Rattle.smt_meaning.specs.Nodes.{pick, trees_of}
-use Rattle.proof_meaning.specs.Proof.{AreTerms}
+use Rattle.proof_meaning.specs.Proof.{AreTerms, written_sort, meant_at}
 use Rattle.term_store.specs.Terms.{tree_with, IsPlace, IsNew, AreDifferent, AreComplete}
 use Rattle.linear_forms.specs.Table.{AreForms}
 use Rattle.proof_form.specs.declared.terms_facts.Fact.{Fact}
 use Rattle.proof_form.specs.declared.terms_table.TermTable.{TermTable}
-use Rattle.proof_form.specs.TermFacts.{fact_at, facts_at, places_at, sorts_of, is_linear_here, divides_at, IsFact}
+use Rattle.proof_form.specs.TermFacts.{fact_at, facts_at, places_at, sorts_of, is_linear_here, divides_at, IsHeldAt, IsFact}
 use Rattle.proof_form.specs.TermRenaming.{first_at, renamed_bound}
 
--- the place of a term among these, if it is one of them, where its arguments have these places, or one of them has none
+-- the place among these of the tree that a term stands for, if it is one of them, where those for which its arguments stand have these places, or one of them has none
 abbrev pub IsHeldPlace : List Tree → Head → Option (List ℕ) → Option ℕ → Type 0
 IsHeldPlace hs h None o = o ≡ None
-IsHeldPlace hs h (Some is) o = MatchOption o (IsNew hs (tree_with hs h is)) (λ i. IsPlace hs i (tree_with hs h is))
+IsHeldPlace hs h (Some is) o = IsHeldAt hs (meant_at h (pick hs is)) o
 
 -- each term is at the place of its tree, and a fact is kept of each tree
 pub record AreFiled (ds : List Declaration) (hs : List Tree) (ns : List Node) (places : List ℕ) (us : List Tree) (facts : List Fact) : Type 0 where
@@ -56,15 +55,15 @@ pub record IsEntered (ns : List Node) (places : List ℕ) (us : List Tree) (fact
   pub nodes : ms ≡ ns ++ record { head = head; arguments = arguments } ∷ []
   pub places_are : more' ≡ places ++ place ∷ []
 
--- a term with this head, and arguments at these places of which this is kept, has this sort, as a product it is linear, and as a division it is as in a tree
+-- a term with this head, and arguments at these places of which this is kept, has this sort, and it is linear, as a product and as a division
 pub record MayBeTerm (ds : List Declaration) (us : List Tree) (head : Head) (places : List ℕ) (facts : List Fact) (sort : Sort) : Type 0 where
-  pub sort_is : head_sort ds head (sorts_of facts) ≡ Some sort
+  pub sort_is : written_sort ds head (sorts_of facts) ≡ Some sort
   pub linear : is_linear_here head facts ≡ true
   pub divides : divides_at head (pick us places) ≡ true
 
 -- it isn't so
 abbrev pub IsNoTerm : List Declaration → List Tree → Head → List ℕ → List Fact → Type 0
-IsNoTerm ds us head places facts = (head_sort ds head (sorts_of facts) ≡ None) ⊎ (is_linear_here head facts ≡ false) ⊎ (divides_at head (pick us places) ≡ false)
+IsNoTerm ds us head places facts = (written_sort ds head (sorts_of facts) ≡ None) ⊎ (is_linear_here head facts ≡ false) ⊎ (divides_at head (pick us places) ≡ false)
 
 -- a term with this head and these arguments may join the terms, by what was gathered of its arguments
 pub record CanEnter (ds : List Declaration) (hs : List Tree) (t : TermTable) (head : Head) (arguments : List ℕ) (sort : Sort) : Type 0 where

@@ -1,11 +1,12 @@
 //! The terms of a proof: their nodes, sorts, linear forms, and which of the stack's terms they are.
 ghost use Rattle.std.specs.Prelude.{◌≡◌};
 
-use crate::terms_bounds;
 use crate::terms_held::copy;
 use crate::terms_table::TermTable;
+use crate::{terms_bounds, terms_rows};
+use pair_bounds::RowLimit;
 use scope_stack::Stack;
-use smt_meaning::{Node, Sort, Summand, TermId};
+use smt_meaning::{Head, Node, Sort, Summand, TermId};
 use std::alloc::{AllocError, Global};
 use std::marker::Model;
 use term_store::Node as NodeView;
@@ -48,9 +49,8 @@ impl<'a> Terms<'a> {
     ghost use Rattle.std.specs.Prelude.{◌≡◌, ◌<◌, ◌≤◌, ◌+◌, ◌^◌, ◌↔◌, [], true, false, length, All, Ok, Err, Some, IfOk, IfErr, OnErr, IsTrue, neg_ℤ};
     ghost use Rattle.smt_meaning.specs.Stack.{signature_of};
     ghost use Rattle.smt_meaning.specs.declared.clauses.Atom.TheVariants.{AtMost};
-    ghost use Rattle.smt_meaning.specs.Signature.{tree_sort};
     ghost use Rattle.smt_meaning.specs.Term.{tree_at};
-    ghost use Rattle.proof_meaning.specs.Proof.{IsTerm, AreTerms, is_leaf, node_at};
+    ghost use Rattle.proof_meaning.specs.Proof.{IsTerm, AreTerms, term_sort, meant, node_at};
     ghost use Rattle.proof_meaning.specs.Rules.{not_above, below, folded_bound};
     ghost use Rattle.proof_form.specs.Range.{not_above_fits, less_fits};
     ghost use Rattle.proof_form.specs.Terms.{with_term, IsBoundOf};
@@ -105,16 +105,16 @@ impl<'a> Terms<'a> {
     /// The sort of a term.
     pub(crate) fn sort(&self, place: TermId) -> Sort
         requires { place < length self.now.nodes }
-        ensures { tree_sort self.now.declared (tree_at self.now.trees place) ≡ Some result }
+        ensures { term_sort self.now.declared (tree_at self.now.trees place) ≡ Some result }
     {
         self.table.fact(place).sort
     }
 
-    /// Whether a term is the term of the stack at this place.
+    /// Whether a term stands for the term of the stack at this place.
     pub(crate) fn is_held(&self, place: TermId, held: TermId) -> bool
         requires place { place < length self.now.nodes }
         requires held { held < length self.now.held }
-        ensures { IsTrue result ↔ (tree_at self.now.trees place ≡ tree_at self.now.held held) }
+        ensures { IsTrue result ↔ (meant (tree_at self.now.trees place) ≡ tree_at self.now.held held) }
     {
         self.table.fact(place).held == Some(held)
     }
@@ -189,5 +189,68 @@ impl<'a> Terms<'a> {
             right,
             sum,
         )
+    }
+}
+
+impl<'a> Terms<'a> {
+    ghost use Rattle.std.specs.Prelude.{◌≡◌, ◌<◌, true, false, length, All, Err, IfOk, MatchOption};
+    ghost use Rattle.smt_meaning.specs.Atoms.{limit_atom};
+    ghost use Rattle.term_store.specs.Terms.{tree_with, IsPlace, IsNew};
+    ghost use Rattle.pair_bounds.specs.Rows.{limit_of_row, IsRowLimit};
+    ghost use Rattle.proof_meaning.specs.Rules.{form_at};
+    ghost use Rattle.proof_form.specs.Range.{limit_stays};
+    ghost use Rattle.proof_form.specs.Terms.{IsBoundOf};
+    ghost use Rattle.proof_form.specs.TermRows.{IsDivisor, DivisorLeaves};
+
+    /// The first term with this head and, as its arguments, the trees of these terms.
+    pub(crate) fn term_with(
+        &mut self,
+        head: Head,
+        arguments: &[TermId],
+    ) -> Result<Option<TermId>, AllocError>
+        requires { All (λ i. i < length self.old.nodes) arguments.now }
+        ensures ok { IfOk result (λ o. MatchOption o (IsNew self.old.trees (tree_with self.old.trees head arguments.now)) (λ i. IsPlace self.old.trees i (tree_with self.old.trees head arguments.now))) }
+        ensures same { self.new ≡ self.old }
+    {
+        terms_rows::term_with(
+            &mut self.table.distinct,
+            &mut self.table.arguments,
+            &self.table.places,
+            head,
+            arguments,
+        )
+    }
+
+    /// The number by which a term is divided, where another is the divisor.
+    pub(crate) fn divisor(&mut self, argument: TermId, divisor: TermId) -> Result<i128, Stop>
+        requires argument { argument < length self.old.nodes }
+        requires divisor { divisor < length self.old.nodes }
+        ensures ok { IfOk result (λ n. IsDivisor self.old.trees divisor n) }
+        ensures range { result ≡ Err Stop.Range → DivisorLeaves self.old.trees divisor }
+        ensures same { self.new ≡ self.old }
+    {
+        let argument = self.table.places[argument as usize];
+        let divisor = self.table.places[divisor as usize];
+        terms_rows::divisor(
+            &mut self.table.forms,
+            &self.table.distinct,
+            argument,
+            divisor,
+        )
+    }
+
+    /// A limit as a bound in normal form. Leaves in the list, whatever it was before, the sum.
+    pub(crate) fn limit_bound(
+        &mut self,
+        limit: RowLimit,
+        sum: &mut Vec<Summand>,
+    ) -> Result<i128, Stop>
+        requires { IsRowLimit (length self.old.nodes) limit }
+        ensures ok { IfOk result (λ k. (limit_stays self.old.trees (limit_of_row limit) ≡ true) × IsBoundOf (limit_atom (form_at self.old.trees) (limit_of_row limit)) sum.new.items k) }
+        ensures range { result ≡ Err Stop.Range → limit_stays self.old.trees (limit_of_row limit) ≡ false }
+        ensures same { self.new ≡ self.old }
+    {
+        let limit = terms_rows::limit_at(&self.table.places, limit);
+        terms_rows::limit_bound(&mut self.table.forms, &self.table.distinct, limit, sum)
     }
 }

@@ -44,7 +44,7 @@ fn rename(facts: &[Fact], sum: &mut [Summand])
 }
 
 /// The same of the sum in a `Vec`.
-fn rename_all(facts: &[Fact], sum: &mut Vec<Summand>)
+pub(crate) fn rename_all(facts: &[Fact], sum: &mut Vec<Summand>)
     requires { IsSum (length facts.now) sum.old.items }
     ensures { sum.new.items ≡ renamed (first_at facts.now) sum.old.items }
 {
@@ -52,7 +52,7 @@ fn rename_all(facts: &[Fact], sum: &mut Vec<Summand>)
 }
 
 /// Why a bound isn't folded: a number leaves the range wherever memory isn't wanting.
-fn stop_of(error: DifferenceError) -> Stop
+pub(crate) fn stop_of(error: DifferenceError) -> Stop
     ensures { result ≡ Stop.Range → error ≢ DifferenceError.Memory }
 {
     match error {

@@ -1,12 +1,11 @@
-//! Whether a division stands as in a tree: by a numeral or the negation of one, and what is left over beside its quotient.
+//! Whether only numerals other than 0, and their negations, divide.
 ghost use Rattle.std.specs.Prelude.{◌≡◌, ◌<◌, ◌↔◌, length, pos, All, IsTrue};
 ghost use Rattle.smt_meaning.specs.declared.terms.Head.TheVariants.{Theory};
-ghost use Rattle.smt_meaning.specs.declared.terms.Operator.TheVariants.{Subtract, Divide};
+ghost use Rattle.smt_meaning.specs.declared.terms.Operator.TheVariants.{Subtract};
 ghost use Rattle.smt_meaning.specs.Term.{tree_at, int_eq};
 ghost use Rattle.smt_meaning.specs.Nodes.{pick};
-ghost use Rattle.smt_meaning.specs.TreeShape.{tree_eq, is_divisor, is_quotient, has_quotient};
-ghost use Rattle.term_store.specs.Terms.{tree_with};
-ghost use Rattle.proof_form.specs.TermFacts.{is_nonzero, is_negation, divides_at, plain_node};
+ghost use Rattle.smt_meaning.specs.TreeShape.{is_divisor, are_divisors};
+ghost use Rattle.proof_form.specs.TermFacts.{is_nonzero, is_negation, is_division, others_divide, divides_at};
 
 use smt_meaning::{Head, Operator, TermId};
 use term_store::TermStore;
@@ -63,58 +62,64 @@ fn is_divisor(store: &TermStore, place: TermId) -> bool
     is_nonzero(store, place) || is_negation(store, place)
 }
 
-/// Whether a node with a head and arguments is the quotient of others.
-fn is_division(head: Head, arguments: &[TermId], others: &[TermId]) -> bool
-    ensures { IsTrue result ↔ (plain_node head arguments.now ≡ plain_node (Theory Divide) others.now) }
+fn are_divisors(store: &TermStore, places: &[TermId]) -> bool
+    requires { All (λ p. p < length store.now.trees) places.now }
+    ensures { result ≡ are_divisors (pick store.now.trees places.now) }
 {
-    head == Head::Theory(Operator::Divide) && arguments == others
+    for place in places {
+        if !is_divisor(store, *place) {
+            return false;
+        }
+    }
+    true
 }
 
-/// Whether a tree is the quotient of others.
-fn is_quotient_of(store: &TermStore, place: TermId, arguments: &[TermId]) -> bool
-    requires place { place < length store.now.trees }
-    requires arguments { All (λ p. p < length store.now.trees) arguments.now }
-    ensures { result ≡ tree_eq (tree_at store.now.trees place) (tree_with store.now.trees (Theory Divide) arguments.now) }
-{
-    let _count = store.len();
-    let node = store.node(place);
-    is_division(node.head, node.arguments, arguments)
-}
-
-fn is_quotient(store: &TermStore, arguments: &[TermId]) -> bool
+/// Whether all but the first are divisors.
+fn others_divide(store: &TermStore, arguments: &[TermId]) -> bool
     requires { All (λ p. p < length store.now.trees) arguments.now }
-    ensures { result ≡ is_quotient (pick store.now.trees arguments.now) }
+    ensures { result ≡ others_divide (pick store.now.trees arguments.now) }
 {
-    if arguments.len() != 2 {
-        return false;
-    }
-    is_divisor(store, arguments[1])
-}
-
-fn has_quotient(store: &TermStore, arguments: &[TermId]) -> bool
-    requires { All (λ p. p < length store.now.trees) arguments.now }
-    ensures { result ≡ has_quotient (pick store.now.trees arguments.now) }
-{
-    if arguments.len() != 3 {
-        return false;
-    }
-    if is_divisor(store, arguments[1]) {
-        is_quotient_of(store, arguments[2], &arguments[..2])
-    } else {
-        false
+    match arguments.split_first() {
+        Some((_, divisors)) => are_divisors(store, divisors),
+        None => true,
     }
 }
 
-/// Whether a term with this head and arguments at these places divides as in a tree; true of a term that is no division.
+pub(crate) fn is_division(operator: Operator) -> bool
+    ensures { result ≡ is_division operator }
+{
+    match operator {
+        Operator::Divide | Operator::Modulo | Operator::Divisible => true,
+        Operator::True
+        | Operator::False
+        | Operator::Not
+        | Operator::And
+        | Operator::Or
+        | Operator::Xor
+        | Operator::Implies
+        | Operator::Equal
+        | Operator::Distinct
+        | Operator::Ite
+        | Operator::Add
+        | Operator::Subtract
+        | Operator::Multiply
+        | Operator::AtMost
+        | Operator::Less
+        | Operator::AtLeast
+        | Operator::Greater
+        | Operator::Absolute => false,
+    }
+}
+
+/// Whether a term with this head and arguments at these places divides by numerals other than 0 and their negations; true of a term that is no division.
 pub(crate) fn divides(store: &TermStore, head: Head, arguments: &[TermId]) -> bool
     requires { All (λ p. p < length store.now.trees) arguments.now }
     ensures { result ≡ divides_at head (pick store.now.trees arguments.now) }
 {
-    if head == Head::Theory(Operator::Divide) {
-        return is_quotient(store, arguments);
+    match head {
+        Head::Numeral(number) => arguments.is_empty() || !is_zero(number),
+        Head::Theory(operator) => !is_division(operator) || others_divide(store, arguments),
+        Head::Symbol(_) => true,
+        Head::Place(_) => true,
     }
-    if head == Head::Theory(Operator::Modulo) || head == Head::Theory(Operator::Divisible) {
-        return has_quotient(store, arguments);
-    }
-    true
 }

@@ -1,9 +1,10 @@
 //! What is kept of each different tree of a proof's terms, and what follows of a term from its arguments.
 ghost use Rattle.std.specs.Prelude.{◌≡◌, ◌⊎◌, ◌&&◌, true, false, map, length, Some, None, IfSome, IfNone};
 ghost use Rattle.smt_meaning.specs.Stack.{signature_of};
-ghost use Rattle.smt_meaning.specs.Signature.{takes, stands_with, sort_eq, sorts_eq, all_of, all_the_same, ite_sort, if_so, operator_sort, symbol_sort, head_sort};
+ghost use Rattle.smt_meaning.specs.Signature.{sort_eq, sorts_eq, all_of, all_the_same, ite_sort, if_so, operator_sort, symbol_sort};
+ghost use Rattle.proof_meaning.specs.Proof.{is_written, written_sort};
 ghost use Rattle.smt_meaning.specs.TreeShape.{is_arithmetic, is_constant_head};
-ghost use Rattle.proof_form.specs.TermFacts.{sorts_of, all_constant, one_varies, is_linear_here};
+ghost use Rattle.proof_form.specs.TermFacts.{sorts_of, numeral_sort, all_constant, one_varies, is_linear_here};
 
 use scope_stack::Stack;
 use smt_meaning::{Declaration, Head, Operator, Sort, TermId};
@@ -79,19 +80,21 @@ fn choice_sort(arguments: &[Fact]) -> Option<Sort>
     sort_where(fits, arguments[1].sort)
 }
 
-/// Whether an operator stands with so many arguments.
-fn stands_with(operator: Operator, count: usize) -> bool
-    ensures { result ≡ stands_with operator count }
+/// Whether an operator is written with so many arguments.
+fn is_written(operator: Operator, count: usize) -> bool
+    ensures { result ≡ is_written operator count }
 {
     match operator {
         Operator::True | Operator::False => count == 0,
         Operator::Not | Operator::Absolute => count == 1,
-        Operator::Divide => count == 2,
         Operator::And | Operator::Or | Operator::Add | Operator::Subtract | Operator::Multiply => {
             count >= 1
         }
-        Operator::Ite | Operator::Modulo | Operator::Divisible => count == 3,
-        Operator::Xor
+        Operator::Modulo => count == 2,
+        Operator::Ite => count == 3,
+        Operator::Divisible => false,
+        Operator::Divide
+        | Operator::Xor
         | Operator::Implies
         | Operator::Equal
         | Operator::Distinct
@@ -157,14 +160,27 @@ fn declared_sort(declaration: &Declaration, arguments: &[Fact]) -> Option<Sort>
     }
 }
 
+/// The sort of a numeral, or, with an argument, of a divisibility by it.
+fn numeral_sort(arguments: &[Fact]) -> Option<Sort>
+    ensures { result ≡ numeral_sort (sorts_of arguments.now) }
+{
+    if arguments.is_empty() {
+        return Some(Sort::Int);
+    }
+    if arguments.len() != 1 {
+        return None;
+    }
+    sort_where(same_sort(arguments[0].sort, Sort::Int), Sort::Bool)
+}
+
 /// The sort of a term with this head and these arguments, if it has one.
-fn head_sort(stack: &Stack, head: Head, arguments: &[Fact]) -> Option<Sort>
-    ensures { result ≡ head_sort (signature_of stack.now.frames) head (sorts_of arguments.now) }
+fn written_sort(stack: &Stack, head: Head, arguments: &[Fact]) -> Option<Sort>
+    ensures { result ≡ written_sort (signature_of stack.now.frames) head (sorts_of arguments.now) }
 {
     match head {
-        Head::Numeral(_) => sort_where(arguments.is_empty(), Sort::Int),
+        Head::Numeral(_) => numeral_sort(arguments),
         Head::Theory(operator) => {
-            if stands_with(operator, arguments.len()) {
+            if is_written(operator, arguments.len()) {
                 operator_sort(operator, arguments)
             } else {
                 None
@@ -258,11 +274,11 @@ fn is_linear_here(head: Head, arguments: &[Fact]) -> bool
 
 /// The sort of a term that an assertion may have: it has one, and as a product it is linear.
 pub(crate) fn judge(stack: &Stack, head: Head, arguments: &[Fact]) -> Option<Sort>
-    ensures some { IfSome result (λ s. (head_sort (signature_of stack.now.frames) head (sorts_of arguments.now) ≡ Some s) × (is_linear_here head arguments.now ≡ true)) }
-    ensures none { IfNone result ((head_sort (signature_of stack.now.frames) head (sorts_of arguments.now) ≡ None) ⊎ (is_linear_here head arguments.now ≡ false)) }
+    ensures some { IfSome result (λ s. (written_sort (signature_of stack.now.frames) head (sorts_of arguments.now) ≡ Some s) × (is_linear_here head arguments.now ≡ true)) }
+    ensures none { IfNone result ((written_sort (signature_of stack.now.frames) head (sorts_of arguments.now) ≡ None) ⊎ (is_linear_here head arguments.now ≡ false)) }
 {
     if is_linear_here(head, arguments) {
-        head_sort(stack, head, arguments)
+        written_sort(stack, head, arguments)
     } else {
         None
     }

@@ -58,7 +58,7 @@ fn are_below(arguments: &[TermId], count: usize) -> bool
 }
 
 /// Notes the places of the trees of these terms, and what is kept of them.
-fn gather(
+pub(crate) fn gather(
     places: &[TermId],
     facts: &[Fact],
     terms: &[TermId],

@@ -1,19 +1,63 @@
 -- The terms that a proof writes.
-use Rattle.std.specs.Prelude.{ℕ, pos, Bool, List, Option, Some, None, if◌then◌else◌}
+use Rattle.std.specs.Prelude.{◌≡◌, ℕ, ℤ, pos, Bool, List, [], ◌∷◌, Option, Some, None}
+use Rattle.std.specs.Borrow.{Bor}
+use Rattle.smt_meaning.specs.declared.tokens.Word.{Word}
+use Rattle.smt_meaning.specs.declared.tokens.Token.{Token}
+use Rattle.smt_meaning.specs.declared.tokens.Token.TheVariants.{Reserved}
 use Rattle.smt_meaning.specs.declared.terms.Head.{Head}
 use Rattle.smt_meaning.specs.declared.terms.Head.TheVariants.{Numeral as Number}
 use Rattle.smt_meaning.specs.declared.nodes.Node.{Node}
+use Rattle.smt_meaning.specs.Sexp.{Sexp, Sexps, word, group, end, ◌▸◌}
+use Rattle.smt_meaning.specs.Sorts.{decimal, head_number}
+use Rattle.smt_meaning.specs.Command.{each}
 use Rattle.smt_meaning.specs.Declaration.{Declaration}
-use Rattle.smt_meaning.specs.Signature.{look_up, operators, find_function}
-use Rattle.smt_meaning.specs.Sorts.{decimal, is_small}
-use Rattle.proof_meaning.specs.Reading.{operator_head, symbol_head}
+use Rattle.proof_meaning.specs.Reading.{with, number, head_read, numeral_read, divisor_read, node_read}
+use Rattle.look_ahead.specs.Ahead.{ahead}
+use Rattle.proof_read.specs.declared.read_parts.Progress.{Progress}
 use Rattle.proof_read.specs.Reads.{numbers_near}
-
-abbrev pub named_head : List Declaration → List ℕ → Option Head
-named_head ds n = operator_head (look_up n operators) (symbol_head (find_function n ds))
-
-abbrev pub number_head : List ℕ → Option Head
-number_head cs = if is_small (decimal cs) then Some (Number (pos (decimal cs))) else None
+use Rattle.proof_read.specs.ReadParts.{Passes, first_by}
 
 abbrev pub node_near : Node → Bool
 node_near n = numbers_near n.arguments
+
+-- ---- what is left of a term's list, by what stands at its head
+
+-- after a numeral
+abbrev pub numeral_only : List ℕ → Sexps → Option Node
+numeral_only cs end = numeral_read cs
+numeral_only cs (x ▸ ss) = None
+
+-- after a name
+abbrev pub application : List Declaration → List ℕ → Sexps → Option Node
+application ds n ss = with (head_read ds n) (λ k. with (each number ss) (λ is. Some (record { head = k; arguments = is })))
+
+-- the head `(_ divisible n)`
+abbrev pub divisor_of : Option ℕ → Option Head
+divisor_of o = with (divisor_read o) (λ n. Some (Number (pos n)))
+
+abbrev pub divisor_head : Sexp → Option Head
+divisor_head (group hs) = divisor_of (head_number hs)
+divisor_head (word t) = None
+
+-- such a head and a place
+abbrev pub divisibility : Sexps → Option Node
+divisibility (h ▸ s ▸ end) = with (divisor_head h) (λ k. with (number s) (λ i. Some (record { head = k; arguments = i ∷ [] })))
+divisibility _ = None
+
+abbrev pub in_term : List Declaration → Sexps → Option Node
+in_term ds ss = node_read ds (group ss)
+
+-- ---- a reserved word
+
+abbrev pub reserved : Sexp → Option Word
+reserved (word (Reserved w)) = Some w
+reserved _ = None
+
+abbrev pub HasReserved : List Token → Progress → Progress → Option Word → Type 0
+HasReserved ts old new None = first_by reserved (ahead ts old.place) ≡ None
+HasReserved ts old new (Some w) = Passes ts old new (Reserved w)
+
+-- the digits of the number of such a head
+abbrev pub HasDivisor : List Token → Progress → Progress → Option (Bor (List ℕ)) → Type 0
+HasDivisor ts old new None = head_number (ahead ts old.place) ≡ None
+HasDivisor ts old new (Some cs) = (head_number (ahead ts old.place) ≡ Some (decimal cs.now)) × (new.fits ≡ old.fits) × (new.near ≡ old.near)

@@ -8,8 +8,8 @@ ghost use Rattle.proof_read.specs.ReadOut.{Sorts};
 
 use crate::read_parts::{Progress, Source};
 use crate::symbols::Symbols;
-use smt_laws::s_expressions_read_back;
 use proof_meaning::Step;
+use smt_laws::s_expressions_read_back;
 use smt_meaning::{Node, SExpr};
 use std::alloc::{AllocError, Global};
 

@@ -1,6 +1,6 @@
 use Rattle.std.proofs.Common.{ℕ, ◌<◌, ◌∙◌, ◌&&◌, List, length, take, All, sym, ap, subst, refl, arith}
 use Rattle.smt_meaning.specs.TreeShape.{is_constant_head}
-use Rattle.term_store.specs.Terms.{Terms}
+use Rattle.term_store.specs.Terms.{Terms, AreComplete}
 use Rattle.linear_forms.specs.Table.{AreForms}
 use Rattle.proof_form.specs.declared.terms_facts.Fact.{Fact}
 use Rattle.proof_form.specs.TermFacts.{all_constant, held_of}
@@ -9,8 +9,11 @@ use Rattle.proof_form.proofs.TermNodeLemmas.{in_two}
 use Rattle.proof_form.proofs.TermEntering.{held_below, seen_below, filed_then, filed_same}
 use Rattle.proof_form.proofs.terms_table.TermTable.enter.Goals as goal
 
-pub held_place-requires : goal.held_place-requires
-held_place-requires c = λ is e.
+pub held_place-requires-clause-complete : goal.held_place-requires-clause-complete
+held_place-requires-clause-complete c = subst AreComplete (sym c.requires.can.table.held) c.requires.can.table.complete
+
+pub held_place-requires-clause-places : goal.held_place-requires-clause-places
+held_place-requires-clause-places c = λ is e.
     held_below c.requires.declared c.requires.held c.args.self.now c.args.head c.args.arguments.now c.args.sort c.requires.can is (ap held_of (sym c.deref.ensures.value) ∙ e)
 
 pub enter-requires-clause-below : goal.enter-requires-clause-below
