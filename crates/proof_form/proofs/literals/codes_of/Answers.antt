@@ -1,4 +1,4 @@
-use Rattle.std.proofs.Common.{subst, arith, rules, ◌∙◌}
+use Rattle.std.proofs.Common.{Ok, ap, subst, arith, ◌∙◌}
 use Rattle.std.proofs.lemmas.List.Elements.{All-more}
 use Rattle.proof_meaning.specs.Proof.{IsLiteral}
 use Rattle.proof_form.proofs.ClausesCodes.{kept_on, go_on_both, codes_more}
@@ -20,7 +20,7 @@ loop-literal-preserved c =
     let ls = c.args.literals.now in
     let k = c.loop-literal.literal-index in
     let l = c.literal-item.result in
-    let good = c.add_code.ensures.literal (search rules) in
+    let good = c.in_ok-add_code.ensures.literal (ap Ok c.if-not-branch.false) in
     record {
       literals = All-more (IsLiteral c.args.terms.now.declared c.args.terms.now.trees) ls k l (omega arith) i.literals (subst (IsLiteral c.args.terms.now.declared c.args.terms.now.trees) c.literal-item.is good.0);
       codes = codes_more c.add_code.new.clauses.atoms c.add_code.new.codes.items ls k l (omega arith) c.literal-item.is (good.1 _ i.codes);
