@@ -6,7 +6,7 @@ use Rattle.smt_meaning.specs.Term.{Tree}
 use Rattle.smt_meaning.specs.Division.{Limit, Row}
 use Rattle.proof_meaning.specs.declared.proof.Step.TheVariants.{Euclid}
 use Rattle.proof_meaning.specs.Proof.{AreTerms, node_at}
-use Rattle.proof_meaning.specs.Rules.{row_clause}
+use Rattle.smt_laws.specs.Rows.{placed_literals}
 use Rattle.proof_form.specs.Range.{limit_stays, row_stays, EuclidLeaves}
 use Rattle.proof_form.specs.Terms.{ProofTerms}
 use Rattle.proof_form.specs.Kept.{Kept}
@@ -46,7 +46,7 @@ module _ (t : ProofTerms) (asserted : List Tree) (old new : Kept) (i n : ℕ) wh
     stays (λ leaves. (let e : row_stays t.trees leaves.row ≡ true = same_stays t.trees leaves.row row (at.only leaves.rows leaves.has leaves.row leaves.row_is) ∙ keeps.0 in let f : row_stays t.trees leaves.row ≡ false = leaves.outside in let x : true ≡ false = sym e ∙ f in cc)),
     λ before kept literals.
         record {
-          clause = row_clause t.trees i row;
+          clause = placed_literals t.trees i row;
           gives = record {
             by_rule = record { within = h; rows = at.rows; has = at.has; row = row; row_is = at.row_is; clause = refl };
             literals = row_literals t.declared t.nodes t.trees terms i n at.rows row h at.has at.row_is;

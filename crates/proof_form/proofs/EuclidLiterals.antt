@@ -24,7 +24,8 @@ use Rattle.smt_meaning.specs.Linear.{Form, form_times}
 use Rattle.smt_meaning.specs.Division.{Limit, Row, combined, quotient_rows, remainder_rows, divisible_rows, absolute_rows}
 use Rattle.smt_meaning.specs.Atoms.{sum_gcd, DividesEach, normal_bound, limit_atom, row_atoms, positive, truth_literals}
 use Rattle.proof_meaning.specs.Proof.{is_written, with_term_sorts, term_sort, term_sorts, AreTerms, no_terms, next_term, node_at, IsSummand, IsAtom, IsLiteral, IsIntAt, IsBoolAt}
-use Rattle.proof_meaning.specs.Rules.{form_at, divisor_at, HasRows, of_quotient, of_last_quotient, of_remainder, of_divisibility, of_absolute, row_clause}
+use Rattle.smt_laws.specs.Rows.{place_form, placed_literals}
+use Rattle.proof_meaning.specs.Rules.{divisor_at, HasRows, of_quotient, of_last_quotient, of_remainder, of_divisibility, of_absolute}
 use Rattle.proof_meaning.proofs.Terms.{readable_at}
 use Rattle.proof_form.proofs.BoundLeaves.{IsOver, over_number, over_times, over_plus, over_term, all_summands, pairs_ascend, operator_ints}
 use Rattle.proof_form.proofs.BoundJudging.{Ascend, quotient_summands, quotients_ascend}
@@ -87,20 +88,20 @@ normal_atom ds ts [] k all up = (all, up)
 normal_atom ds ts (p ∷ ps) k all up = (quotient_summands ds ts (sum_gcd (p ∷ ps)) (p ∷ ps) (divides (p ∷ ps)) all, quotients_ascend (sum_gcd (p ∷ ps)) (p ∷ ps) up)
 
 module _ (ds : List Declaration) (ns : List Node) (ts : List Tree) (terms : AreTerms ds ns ts) where
-  over_at : (a : ℕ) → IsIntAt ds ts a → IsOver ds ts (form_at ts a)
+  over_at : (a : ℕ) → IsIntAt ds ts a → IsOver ds ts (place_form ts a)
   over_at a h = over_term ds ts (tree_at ts a) (readable_at ds ns ts terms a h.0).leaves_are h.1
 
   abbrev AreIntsAt : List (ℤ × ℕ) → Type 0
   AreIntsAt [] = Unit {0}
   AreIntsAt (m ∷ ms) = IsIntAt ds ts m.1 × AreIntsAt ms
 
-  over_combined : (ms : List (ℤ × ℕ)) → AreIntsAt ms → IsOver ds ts (combined (form_at ts) ms)
+  over_combined : (ms : List (ℤ × ℕ)) → AreIntsAt ms → IsOver ds ts (combined (place_form ts) ms)
   over_combined [] h = over_number ds ts (pos 0)
-  over_combined (m ∷ ms) h = over_plus ds ts (form_times m.0 (form_at ts m.1)) (combined (form_at ts) ms) (over_times ds ts m.0 (form_at ts m.1) (over_at m.1 h.0)) (over_combined ms h.1)
+  over_combined (m ∷ ms) h = over_plus ds ts (form_times m.0 (place_form ts m.1)) (combined (place_form ts) ms) (over_times ds ts m.0 (place_form ts m.1) (over_at m.1 h.0)) (over_combined ms h.1)
 
-  limit_is_atom : (l : Limit ℕ) → AreIntsAt l.multiples → IsAtom ds ts (limit_atom (form_at ts) l)
+  limit_is_atom : (l : Limit ℕ) → AreIntsAt l.multiples → IsAtom ds ts (limit_atom (place_form ts) l)
   limit_is_atom l h =
-      let f : Form = combined (form_at ts) l.multiples in
+      let f : Form = combined (place_form ts) l.multiples in
       let over : IsOver ds ts f = over_combined l.multiples h in
       normal_atom ds ts f.sum (l.most -ℤ f.constant) (all_summands ds ts 0 f.sum over.is_sum over.over) (pairs_ascend 0 (length ts) f.sum over.is_sum)
 
@@ -115,17 +116,17 @@ module _ (ds : List Declaration) (ns : List Node) (ts : List Tree) (terms : AreT
   abbrev IsSorted : ℕ → Row ℕ → Type 0
   IsSorted i r = IsTruth i r.truth × AreLimits r.limits
 
-  limit_literals : (ls : List (Limit ℕ)) → AreLimits ls → All (IsLiteral ds ts) (map positive (map (limit_atom (form_at ts)) ls))
+  limit_literals : (ls : List (Limit ℕ)) → AreLimits ls → All (IsLiteral ds ts) (map positive (map (limit_atom (place_form ts)) ls))
   limit_literals [] h = All-nil (IsLiteral ds ts)
   limit_literals (l ∷ ls) h =
-      All-cons (IsLiteral ds ts) (positive (limit_atom (form_at ts) l)) (map positive (map (limit_atom (form_at ts)) ls)) (limit_is_atom l h.0) (limit_literals ls h.1)
+      All-cons (IsLiteral ds ts) (positive (limit_atom (place_form ts) l)) (map positive (map (limit_atom (place_form ts)) ls)) (limit_is_atom l h.0) (limit_literals ls h.1)
 
   truth_is : (i : ℕ) (o : Option Bool) → IsTruth i o → All (IsLiteral ds ts) (truth_literals i o)
   truth_is i None h = All-nil (IsLiteral ds ts)
   truth_is i (Some b) h = All-from_recursion (IsLiteral ds ts) (truth_literals i (Some b)) (h, tt)
 
-  sorted_literals : (i : ℕ) (r : Row ℕ) → IsSorted i r → All (IsLiteral ds ts) (row_clause ts i r)
-  sorted_literals i r h = All-append (IsLiteral ds ts) (truth_literals i r.truth) (map positive (row_atoms (form_at ts) r)) (truth_is i r.truth h.0) (limit_literals r.limits h.1)
+  sorted_literals : (i : ℕ) (r : Row ℕ) → IsSorted i r → All (IsLiteral ds ts) (placed_literals ts i r)
+  sorted_literals i r h = All-append (IsLiteral ds ts) (truth_literals i r.truth) (map positive (row_atoms (place_form ts) r)) (truth_is i r.truth h.0) (limit_literals r.limits h.1)
 
   -- ---- the table
 
@@ -174,7 +175,7 @@ module _ (ds : List Declaration) (ns : List Node) (ts : List Tree) (terms : AreT
   sorted_rows i _ _ _ l below e (of_absolute a) =
       sorted_absolute a i i (argument_at i a Absolute none (λ ss. refl) l (All-head (λ j. j < length ts) a [] below) e) (int_at i Absolute (pick ts (a ∷ [])) (λ ss. refl) l e)
 
-  pub row_literals : (i n : ℕ) (rows : List (Row ℕ)) (row : Row ℕ) → i < length ns → HasRows ts i (node_at ns i).head (node_at ns i).arguments rows → slice_get rows n ≡ Some row → All (IsLiteral ds ts) (row_clause ts i row)
+  pub row_literals : (i n : ℕ) (rows : List (Row ℕ)) (row : Row ℕ) → i < length ns → HasRows ts i (node_at ns i).head (node_at ns i).arguments rows → slice_get rows n ≡ Some row → All (IsLiteral ds ts) (placed_literals ts i row)
   row_literals i n rows row h has at =
       let before = earlier ds ns ts terms in
       let count : length ns ≡ length ts = before.0 in

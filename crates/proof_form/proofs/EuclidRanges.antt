@@ -19,7 +19,8 @@ use Rattle.linear_forms.proofs.SumLemmas.{fits_in_range}
 use Rattle.linear_forms.proofs.FoldLemmas.{false_if}
 use Rattle.linear_forms.proofs.ProductLemmas.{times_each}
 use Rattle.proof_meaning.specs.Proof.{AreTerms, no_terms, next_term, node_at}
-use Rattle.proof_meaning.specs.Rules.{form_at, divisor_at}
+use Rattle.smt_laws.specs.Rows.{place_form}
+use Rattle.proof_meaning.specs.Rules.{divisor_at}
 use Rattle.term_store.proofs.NodeLemmas.{pick-agree}
 use Rattle.proof_form.proofs.TermBounds.{earlier}
 use Rattle.proof_form.specs.Range.{terms_fit, limit_stays, row_stays}
@@ -56,15 +57,15 @@ module _ (ts : List Tree) where
 
   -- folding one of the terms leaves the range, or the sum of the multiples
   abbrev IsBad : List (ℤ × ℕ) → Type 0
-  IsBad ms = (terms_fit ts ms ≡ false) ⊎ (combined_fits (form_at ts) ms ≡ false)
+  IsBad ms = (terms_fit ts ms ≡ false) ⊎ (combined_fits (place_form ts) ms ≡ false)
 
   bad_later : (m : ℤ × ℕ) (ms : List (ℤ × ℕ)) → IsBad ms → IsBad (m ∷ ms)
   bad_later m ms (inl e) = inl (right_false (folding_fits ts (tree_at ts m.1)) (terms_fit ts ms) e)
-  bad_later m ms (inr e) = inr (left_false (combined_fits (form_at ts) ms) (form_fits (form_times m.0 (form_at ts m.1)) && form_fits (combined (form_at ts) (m ∷ ms))) e)
+  bad_later m ms (inr e) = inr (left_false (combined_fits (place_form ts) ms) (form_fits (form_times m.0 (place_form ts m.1)) && form_fits (combined (place_form ts) (m ∷ ms))) e)
 
   bad_limit : (ms : List (ℤ × ℕ)) (k : ℤ) → IsBad ms → limit_stays ts (limit ms k) ≡ false
-  bad_limit ms k (inl e) = left_false (terms_fit ts ms) (limit_fits (form_at ts) (limit ms k)) e
-  bad_limit ms k (inr e) = right_false (terms_fit ts ms) (limit_fits (form_at ts) (limit ms k)) (left_false (combined_fits (form_at ts) ms) (is_in_range (k -ℤ (combined (form_at ts) ms).constant)) e)
+  bad_limit ms k (inl e) = left_false (terms_fit ts ms) (limit_fits (place_form ts) (limit ms k)) e
+  bad_limit ms k (inr e) = right_false (terms_fit ts ms) (limit_fits (place_form ts) (limit ms k)) (left_false (combined_fits (place_form ts) ms) (is_in_range (k -ℤ (combined (place_form ts) ms).constant)) e)
 
   module _ (q n : ℕ) (by : IsQuotientBy ts q n) (leaves : DivisorLeaves ts n) where
     abbrev k : ℤ
@@ -75,7 +76,7 @@ module _ (ts : List Tree) where
         let arguments : foldings_fit ts by.arguments ≡ false = false_if (foldings_fit ts by.arguments) (λ h. (let f = by.divisor h in let x : true ≡ false = sym f ∙ e in cc)) in
         ap (folding_fits ts) by.tree ∙ left_false (foldings_fit ts by.arguments) true arguments
 
-    leaf : form_at ts q ≡ leaf_form ts (tree_at ts q)
+    leaf : place_form ts q ≡ leaf_form ts (tree_at ts q)
     leaf = subst (λ t. linear_form ts t ≡ leaf_form ts t) (sym by.tree) refl
 
     bad_here : (c : ℤ) (ms : List (ℤ × ℕ)) → ((InRange k → ⊥) → InRange c → ⊥) → IsBad ((c, q) ∷ ms)
@@ -84,8 +85,8 @@ module _ (ts : List Tree) where
         from : DivisorLeaves ts n → IsBad ((c, q) ∷ ms)
         from (inl e) = inl (left_false (folding_fits ts (tree_at ts q)) (terms_fit ts ms) (term_unfit e))
         from (inr f) =
-            inr (right_false (combined_fits (form_at ts) ms) (form_fits (form_times c (form_at ts q)) && form_fits (combined (form_at ts) ((c, q) ∷ ms)))
-            (left_false (form_fits (form_times c (form_at ts q))) (form_fits (combined (form_at ts) ((c, q) ∷ ms)))
+            inr (right_false (combined_fits (place_form ts) ms) (form_fits (form_times c (place_form ts q)) && form_fits (combined (place_form ts) ((c, q) ∷ ms)))
+            (left_false (form_fits (form_times c (place_form ts q))) (form_fits (combined (place_form ts) ((c, q) ∷ ms)))
             (ap (λ g. form_fits (form_times c g)) leaf ∙ leaf_outside c (tree_at ts q) (out f))))
 
     bad_beyond : (a : ℕ) → IsBad (beyond a k q)

@@ -57,20 +57,20 @@ added_to_none high ps h =
 
 -- ---- forms
 
-abbrev pub form_at : Bool → Atom → Form
-form_at b a = record { sum = atom_sum b a; constant = atom_constant b a }
+abbrev pub place_form : Bool → Atom → Form
+place_form b a = record { sum = atom_sum b a; constant = atom_constant b a }
 
 turned_constant : (k : ℤ) → (negsuc 0 *ℤ neg_ℤ k) +ℤ pos 1 ≡ k +ℤ pos 1
 turned_constant k = let e : negsuc 0 *ℤ neg_ℤ k ≡ neg_ℤ (neg_ℤ k) = minus_one (neg_ℤ k) in omega (arith, ints)
 
-bound_form : (b : Bool) (high : ℕ) (ps : List Summand) (k : ℤ) → IsSum high ps → false_bound b (AtMost ps k) ≡ Some (form_at b (AtMost ps k))
+bound_form : (b : Bool) (high : ℕ) (ps : List Summand) (k : ℤ) → IsSum high ps → false_bound b (AtMost ps k) ≡ Some (place_form b (AtMost ps k))
 bound_form true high ps k h =
     ap₂ (λ qs z. Some (let f : Form = record { sum = qs; constant = z } in f))
     (added_to_none high (sum_times (negsuc 0) ps) (sum_times_sum high (negsuc 0) ps h) ∙ negated ps) (turned_constant k)
 bound_form false high ps k h = ap (λ qs. Some (let f : Form = record { sum = qs; constant = neg_ℤ k } in f)) (unsigned ps)
 
 abbrev pub weighted_form : Weighted → Form
-weighted_form w = form_at w.literal.positive w.literal.atom
+weighted_form w = place_form w.literal.positive w.literal.atom
 
 -- a form without zero coefficients, that fits the range but for its constant
 pub record HasForm (high : ℕ) (w : Weighted) : Type 0 where
@@ -82,7 +82,7 @@ pub has_form : (high : ℕ) (w : Weighted) → IsMultiple high w → HasForm hig
 has_form high w m =
     let b = w.literal.positive in
     record {
-      form = ap (false_bound b) m.atom ∙ bound_form b high m.sum m.limit m.is_sum ∙ ap (λ a. Some (form_at b a)) (sym m.atom);
+      form = ap (false_bound b) m.atom ∙ bound_form b high m.sum m.limit m.is_sum ∙ ap (λ a. Some (place_form b a)) (sym m.atom);
       is_sum = subst (λ a. IsSum high (atom_sum b a)) (sym m.atom) (signed_within b 0 high m.sum m.is_sum);
       coefficients = ap (λ a. sum_fits (atom_sum b a)) m.atom ∙ signed_fits b m.sum m.coefficients;
     }

@@ -13,7 +13,8 @@ use Rattle.smt_meaning.specs.Linear.{Form, form_plus, form_times, form_fits, fol
 use Rattle.smt_meaning.specs.Division.{Limit, limit, combined, combined_fits, limit_fits}
 use Rattle.smt_meaning.specs.Atoms.{limit_atom, most_atom}
 use Rattle.smt_meaning.specs.Nodes.{trees_of}
-use Rattle.proof_meaning.specs.Rules.{form_at, divisor_at}
+use Rattle.smt_laws.specs.Rows.{place_form}
+use Rattle.proof_meaning.specs.Rules.{divisor_at}
 use Rattle.smt_laws.proofs.SameTree.{tree_eq-true}
 use Rattle.smt_laws.proofs.Both.{and_both}
 use Rattle.term_store.specs.Terms.{tree_with, IsPlace, IsNew}
@@ -51,29 +52,29 @@ stands_there t (u ∷ us) h = by (tree_eq t u) refl h (stands_there t us)
 -- ---- a limit by the trees of its terms
 
 module _ (ts : List Tree) where
-  combined_by_trees : (ms : List (ℤ × ℕ)) → combined (form_at ts) ms ≡ combined (linear_form ts) (tree_multiples ts ms)
+  combined_by_trees : (ms : List (ℤ × ℕ)) → combined (place_form ts) ms ≡ combined (linear_form ts) (tree_multiples ts ms)
   combined_by_trees [] = refl
-  combined_by_trees (m ∷ ms) = ap (form_plus (form_times m.0 (form_at ts m.1))) (combined_by_trees ms)
+  combined_by_trees (m ∷ ms) = ap (form_plus (form_times m.0 (place_form ts m.1))) (combined_by_trees ms)
 
-  fits_by_trees : (ms : List (ℤ × ℕ)) → combined_fits (form_at ts) ms ≡ combined_fits (linear_form ts) (tree_multiples ts ms)
+  fits_by_trees : (ms : List (ℤ × ℕ)) → combined_fits (place_form ts) ms ≡ combined_fits (linear_form ts) (tree_multiples ts ms)
   fits_by_trees [] = refl
   fits_by_trees (m ∷ ms) =
-      ap (λ b. b && (form_fits (form_times m.0 (form_at ts m.1)) && form_fits (combined (form_at ts) (m ∷ ms)))) (fits_by_trees ms)
-      ∙ ap (λ f. combined_fits (linear_form ts) (tree_multiples ts ms) && (form_fits (form_times m.0 (form_at ts m.1)) && form_fits f)) (combined_by_trees (m ∷ ms))
+      ap (λ b. b && (form_fits (form_times m.0 (place_form ts m.1)) && form_fits (combined (place_form ts) (m ∷ ms)))) (fits_by_trees ms)
+      ∙ ap (λ f. combined_fits (linear_form ts) (tree_multiples ts ms) && (form_fits (form_times m.0 (place_form ts m.1)) && form_fits f)) (combined_by_trees (m ∷ ms))
 
   terms_by_trees : (ms : List (ℤ × ℕ)) → terms_fit ts ms ≡ trees_fit ts (tree_multiples ts ms)
   terms_by_trees [] = refl
   terms_by_trees (m ∷ ms) = ap (λ b. folding_fits ts (tree_at ts m.1) && b) (terms_by_trees ms)
 
-  limit_by_trees : (l : Limit ℕ) → limit_fits (form_at ts) l ≡ limit_fits (linear_form ts) (tree_limit ts l)
+  limit_by_trees : (l : Limit ℕ) → limit_fits (place_form ts) l ≡ limit_fits (linear_form ts) (tree_limit ts l)
   limit_by_trees l =
-      ap (λ b. b && is_in_range (l.most -ℤ (combined (form_at ts) l.multiples).constant)) (fits_by_trees l.multiples)
+      ap (λ b. b && is_in_range (l.most -ℤ (combined (place_form ts) l.multiples).constant)) (fits_by_trees l.multiples)
       ∙ ap (λ (f : Form). combined_fits (linear_form ts) (tree_multiples ts l.multiples) && is_in_range (l.most -ℤ f.constant)) (combined_by_trees l.multiples)
 
   pub stays_by_trees : (l : Limit ℕ) → limit_stays ts l ≡ tree_limit_stays ts (tree_limit ts l)
-  stays_by_trees l = ap (λ b. b && limit_fits (form_at ts) l) (terms_by_trees l.multiples) ∙ ap (λ b. trees_fit ts (tree_multiples ts l.multiples) && b) (limit_by_trees l)
+  stays_by_trees l = ap (λ b. b && limit_fits (place_form ts) l) (terms_by_trees l.multiples) ∙ ap (λ b. trees_fit ts (tree_multiples ts l.multiples) && b) (limit_by_trees l)
 
-  pub atom_by_trees : (l : Limit ℕ) → limit_atom (form_at ts) l ≡ limit_atom (linear_form ts) (tree_limit ts l)
+  pub atom_by_trees : (l : Limit ℕ) → limit_atom (place_form ts) l ≡ limit_atom (linear_form ts) (tree_limit ts l)
   atom_by_trees l = ap (λ f. most_atom f l.most) (combined_by_trees l.multiples)
 
   -- ---- what folding comes to
@@ -85,7 +86,7 @@ module _ (ts : List Tree) where
       (all_terms_fit ms (All-tail (λ (n : Multiple). folding_fits ts (tree_at ts n.term) ≡ true) m ms a))
 
   pub bound_stays : (l : RowLimit) (sum : List Summand) (k : ℤ) → IsRowBound ts l sum k → limit_stays ts (limit_of_row l) ≡ true
-  bound_stays l sum k b = and_both (terms_fit ts (multiples_of (multiples l))) (limit_fits (form_at ts) (limit_of_row l)) (all_terms_fit (multiples l) b.terms_fit) b.fits
+  bound_stays l sum k b = and_both (terms_fit ts (multiples_of (multiples l))) (limit_fits (place_form ts) (limit_of_row l)) (all_terms_fit (multiples l) b.terms_fit) b.fits
 
 -- ---- the same limit over other places of its trees
 
@@ -229,12 +230,12 @@ module _ (ds : List Declaration) (hs : List Tree) (ns : List Node) (places : Lis
         ∙ stays_renamed (first_at facts) (ascends ds hs ns places us facts filed) trees us (tree_limit trees here) (are_renamed (multiples l) h.multiples_are)
         ∙ ap (tree_limit_stays us) limit_same ∙ sym (stays_by_trees us there)
 
-    atom_same : limit_atom (form_at trees) here ≡ renamed_bound (first_at facts) (limit_atom (form_at us) there)
+    atom_same : limit_atom (place_form trees) here ≡ renamed_bound (first_at facts) (limit_atom (place_form us) there)
     atom_same =
         atom_by_trees trees here
         ∙ atom_renamed (first_at facts) (ascends ds hs ns places us facts filed) trees us (tree_limit trees here) (are_renamed (multiples l) h.multiples_are)
         ∙ ap (λ x. renamed_bound (first_at facts) (limit_atom (linear_form us) x)) limit_same ∙ ap (renamed_bound (first_at facts)) (sym (atom_by_trees us there))
 
-    pub limit_lifted : (sum : List Summand) (k : ℤ) → IsRenamedBound facts (limit_stays us there) (limit_atom (form_at us) there) sum k
-        → (limit_stays trees here ≡ true) × IsBoundOf (limit_atom (form_at trees) here) sum k
+    pub limit_lifted : (sum : List Summand) (k : ℤ) → IsRenamedBound facts (limit_stays us there) (limit_atom (place_form us) there) sum k
+        → (limit_stays trees here ≡ true) × IsBoundOf (limit_atom (place_form trees) here) sum k
     limit_lifted sum k r = (stays_same ∙ r.fits, record { atom = r.atom ∙ sym atom_same; coefficients = r.coefficients; in_range = r.in_range })

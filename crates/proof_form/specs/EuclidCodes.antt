@@ -3,7 +3,7 @@ use Rattle.std.specs.Prelude.{◌≡◌, ◌++◌, ◌∷◌, [], ℕ, true, fal
 use Rattle.smt_meaning.specs.declared.clauses.Literal.{Literal}
 use Rattle.smt_meaning.specs.Term.{Tree}
 use Rattle.smt_meaning.specs.Division.{Row}
-use Rattle.proof_meaning.specs.Rules.{row_clause}
+use Rattle.smt_laws.specs.Rows.{placed_literals}
 use Rattle.proof_form.specs.Range.{row_stays}
 use Rattle.proof_form.specs.Kept.{Kept, KeepsAll}
 use Rattle.proof_form.specs.declared.verdict.Verdict.{Verdict}
@@ -11,6 +11,6 @@ use Rattle.proof_form.specs.declared.verdict.Verdict.TheVariants.{Good, Wrong, R
 
 -- the clause of a row is kept, or folding it leaves the range
 abbrev pub KeepsRow : Kept → Kept → List Tree → ℕ → Row ℕ → Verdict → Type 0
-KeepsRow old new ts i row Good = (row_stays ts row ≡ true) × ((before : List (List Literal)) → KeepsAll old before → KeepsAll new (before ++ row_clause ts i row ∷ []))
+KeepsRow old new ts i row Good = (row_stays ts row ≡ true) × ((before : List (List Literal)) → KeepsAll old before → KeepsAll new (before ++ placed_literals ts i row ∷ []))
 KeepsRow old new ts i row Wrong = ⊥
 KeepsRow old new ts i row Range = row_stays ts row ≡ false

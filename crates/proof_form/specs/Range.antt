@@ -20,7 +20,8 @@ use Rattle.smt_meaning.specs.Term.{Tree, tree_at}
 use Rattle.smt_meaning.specs.Linear.{Form, folding_fits, form_fits}
 use Rattle.smt_meaning.specs.Division.{Limit, Row, limit_fits}
 use Rattle.proof_meaning.specs.Proof.{node_at, IsIntAt, IsLiteral}
-use Rattle.proof_meaning.specs.Rules.{form_at, HasRows, false_bound}
+use Rattle.smt_laws.specs.Rows.{place_form}
+use Rattle.proof_meaning.specs.Rules.{HasRows, false_bound}
 use Rattle.proof_read.specs.Written.{numbers_fit}
 use Rattle.pair_bounds.specs.Pairs.{at_most_fits, below_fits}
 
@@ -76,7 +77,7 @@ terms_fit ts (m ∷ ms) = folding_fits ts (tree_at ts m.1) && terms_fit ts ms
 
 -- folding the terms of a limit, and its multiples of them, stays in the range
 abbrev pub limit_stays : List Tree → Limit ℕ → Bool
-limit_stays ts l = terms_fit ts l.multiples && limit_fits (form_at ts) l
+limit_stays ts l = terms_fit ts l.multiples && limit_fits (place_form ts) l
 
 abbrev pub row_stays : List Tree → Row ℕ → Bool
 row_stays ts r = list_all (limit_stays ts) r.limits

@@ -5,7 +5,7 @@ ghost use Rattle.smt_meaning.specs.declared.clauses.Atom.TheVariants.{Truth};
 ghost use Rattle.smt_meaning.specs.Atoms.{limit_atom, row_atoms, positive, truth_literals};
 ghost use Rattle.pair_bounds.specs.Rows.{listed, limit_of_row, row_of, IsRowLimit, IsRow};
 ghost use Rattle.proof_meaning.specs.Proof.{literal};
-ghost use Rattle.proof_meaning.specs.Rules.{form_at};
+ghost use Rattle.smt_laws.specs.Rows.{place_form};
 ghost use Rattle.proof_form.specs.Range.{limit_stays, row_stays};
 ghost use Rattle.proof_form.specs.BoundCodes.{HaveJoined};
 ghost use Rattle.proof_form.specs.EuclidCodes.{KeepsRow};
@@ -57,7 +57,7 @@ fn push_limit(
 ) -> Result<bool, AllocError>
     requires { IsRowLimit (length terms.old.nodes) limit }
     ensures fits { result ≡ Ok true → limit_stays terms.old.trees (limit_of_row limit) ≡ true }
-    ensures joined { result ≡ Ok true → HaveJoined clauses.old clauses.new codes.old.items codes.new.items (literal true (limit_atom (form_at terms.old.trees) (limit_of_row limit)) ∷ []) }
+    ensures joined { result ≡ Ok true → HaveJoined clauses.old clauses.new codes.old.items codes.new.items (literal true (limit_atom (place_form terms.old.trees) (limit_of_row limit)) ∷ []) }
     ensures outside { result ≡ Ok false → limit_stays terms.old.trees (limit_of_row limit) ≡ false }
     ensures same { terms.new ≡ terms.old }
 {
@@ -83,7 +83,7 @@ fn push_other(
     requires { All (IsRowLimit (length terms.old.nodes)) (listed other) }
     ensures fits { result ≡ Ok true → list_all (limit_stays terms.old.trees) (map limit_of_row (listed other)) ≡ true }
     ensures joined { result ≡ Ok true
-        → HaveJoined clauses.old clauses.new codes.old.items codes.new.items (map positive (map (limit_atom (form_at terms.old.trees)) (map limit_of_row (listed other)))) }
+        → HaveJoined clauses.old clauses.new codes.old.items codes.new.items (map positive (map (limit_atom (place_form terms.old.trees)) (map limit_of_row (listed other)))) }
     ensures outside { result ≡ Ok false → list_all (limit_stays terms.old.trees) (map limit_of_row (listed other)) ≡ false }
     ensures same { terms.new ≡ terms.old }
 {
@@ -103,7 +103,7 @@ fn push_limits(
 ) -> Result<bool, AllocError>
     requires { IsRow (length terms.old.nodes) row }
     ensures fits { result ≡ Ok true → row_stays terms.old.trees (row_of row) ≡ true }
-    ensures joined { result ≡ Ok true → HaveJoined clauses.old clauses.new codes.old.items codes.new.items (map positive (row_atoms (form_at terms.old.trees) (row_of row))) }
+    ensures joined { result ≡ Ok true → HaveJoined clauses.old clauses.new codes.old.items codes.new.items (map positive (row_atoms (place_form terms.old.trees) (row_of row))) }
     ensures outside { result ≡ Ok false → row_stays terms.old.trees (row_of row) ≡ false }
     ensures same { terms.new ≡ terms.old }
 {

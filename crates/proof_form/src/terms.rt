@@ -197,7 +197,7 @@ impl<'a> Terms<'a> {
     ghost use Rattle.smt_meaning.specs.Atoms.{limit_atom};
     ghost use Rattle.term_store.specs.Terms.{tree_with, IsPlace, IsNew};
     ghost use Rattle.pair_bounds.specs.Rows.{limit_of_row, IsRowLimit};
-    ghost use Rattle.proof_meaning.specs.Rules.{form_at};
+    ghost use Rattle.smt_laws.specs.Rows.{place_form};
     ghost use Rattle.proof_form.specs.Range.{limit_stays};
     ghost use Rattle.proof_form.specs.Terms.{IsBoundOf};
     ghost use Rattle.proof_form.specs.TermRows.{IsDivisor, DivisorLeaves};
@@ -246,7 +246,7 @@ impl<'a> Terms<'a> {
         sum: &mut Vec<Summand>,
     ) -> Result<i128, Stop>
         requires { IsRowLimit (length self.old.nodes) limit }
-        ensures ok { IfOk result (λ k. (limit_stays self.old.trees (limit_of_row limit) ≡ true) × IsBoundOf (limit_atom (form_at self.old.trees) (limit_of_row limit)) sum.new.items k) }
+        ensures ok { IfOk result (λ k. (limit_stays self.old.trees (limit_of_row limit) ≡ true) × IsBoundOf (limit_atom (place_form self.old.trees) (limit_of_row limit)) sum.new.items k) }
         ensures range { result ≡ Err Stop.Range → limit_stays self.old.trees (limit_of_row limit) ≡ false }
         ensures same { self.new ≡ self.old }
     {

@@ -4,7 +4,7 @@ ghost use Rattle.term_store.specs.Terms.{tree_with};
 ghost use Rattle.smt_meaning.specs.Atoms.{limit_atom};
 ghost use Rattle.linear_forms.specs.Table.{AreForms};
 ghost use Rattle.pair_bounds.specs.Rows.{limit_of_row, IsRowLimit};
-ghost use Rattle.proof_meaning.specs.Rules.{form_at};
+ghost use Rattle.smt_laws.specs.Rows.{place_form};
 ghost use Rattle.proof_form.specs.Range.{limit_stays};
 ghost use Rattle.proof_form.specs.TermFacts.{places_at};
 ghost use Rattle.proof_form.specs.TermTable.{IsRenamedBound};
@@ -123,7 +123,7 @@ pub(crate) fn limit_bound(
     requires limit { IsRowLimit (length distinct.now.store.trees) limit }
     requires count { length distinct.now.facts.items ≡ length distinct.now.store.trees }
     ensures forms { AreForms (take (length forms.new) distinct.now.store.trees) forms.new }
-    ensures ok { IfOk result (λ k. IsRenamedBound distinct.now.facts.items (limit_stays distinct.now.store.trees (limit_of_row limit)) (limit_atom (form_at distinct.now.store.trees) (limit_of_row limit)) sum.new.items k) }
+    ensures ok { IfOk result (λ k. IsRenamedBound distinct.now.facts.items (limit_stays distinct.now.store.trees (limit_of_row limit)) (limit_atom (place_form distinct.now.store.trees) (limit_of_row limit)) sum.new.items k) }
     ensures range { result ≡ Err Stop.Range → limit_stays distinct.now.store.trees (limit_of_row limit) ≡ false }
 {
     if forms.cover(&distinct.store).is_err() {

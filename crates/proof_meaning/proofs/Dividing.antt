@@ -23,7 +23,8 @@ use Rattle.smt_meaning.specs.Division.{Limit, Row, quotient_rows}
 use Rattle.smt_meaning.specs.Atoms.{limit_atom, row_atoms, positive, truth_literals}
 use Rattle.smt_meaning.specs.Signature.{all_of, if_so}
 use Rattle.proof_meaning.specs.Proof.{is_written, written_sort, term_sort, term_sorts, is_linear_with, is_linear_term, are_linear_terms, meant, all_meant, AreTerms, node_at, IsIntAt}
-use Rattle.proof_meaning.specs.Rules.{form_at, divisor_at, HasRows, of_quotient, of_last_quotient, of_remainder, of_divisibility, of_absolute, row_clause, IsEuclid}
+use Rattle.smt_laws.specs.Rows.{place_form, placed_literals}
+use Rattle.proof_meaning.specs.Rules.{divisor_at, HasRows, of_quotient, of_last_quotient, of_remainder, of_divisibility, of_absolute, IsEuclid}
 use Rattle.smt_laws.specs.Rows.{limit_holds, one_holds, truth_holds, row_holds, rows_hold}
 use Rattle.smt_laws.specs.ClauseLaws.{IsRowOf}
 use Rattle.smt_laws.proofs.Both.{and_left, and_right}
@@ -42,26 +43,26 @@ both_or a b c d p q = rw (p, q)
 module _ (ts : List Tree) (I : Interpretation) where
   -- the form of the term at a place has the term's number
   abbrev IsRead : ℕ → Type 0
-  IsRead j = form_value (map meant ts) I (form_at ts j) ≡ number_at ts I j
+  IsRead j = form_value (map meant ts) I (place_form ts j) ≡ number_at ts I j
 
   abbrev AreRead : Limit ℕ → Type 0
   AreRead l = All (λ (m : ℤ × ℕ). IsRead m.1) l.multiples
 
-  limits_value : (ls : List (Limit ℕ)) → All AreRead ls → some_true (map meant ts) I (map positive (map (limit_atom (form_at ts)) ls)) ≡ one_holds (number_at ts I) ls
+  limits_value : (ls : List (Limit ℕ)) → All AreRead ls → some_true (map meant ts) I (map positive (map (limit_atom (place_form ts)) ls)) ≡ one_holds (number_at ts I) ls
   limits_value [] h = refl
   limits_value (l ∷ ls) h =
-      both_or (atom_true (map meant ts) I (limit_atom (form_at ts) l)) (some_true (map meant ts) I (map positive (map (limit_atom (form_at ts)) ls)))
+      both_or (atom_true (map meant ts) I (limit_atom (place_form ts) l)) (some_true (map meant ts) I (map positive (map (limit_atom (place_form ts)) ls)))
       (limit_holds (number_at ts I) l) (one_holds (number_at ts I) ls)
-      (limits_valued ℕ (map meant ts) I (form_at ts) (number_at ts I) l (All-head AreRead l ls h)) (limits_value ls (All-tail AreRead l ls h))
+      (limits_valued ℕ (map meant ts) I (place_form ts) (number_at ts I) l (All-head AreRead l ls h)) (limits_value ls (All-tail AreRead l ls h))
 
-  row_value : (i : ℕ) (r : Row ℕ) → IsRowOf IsRead r → some_true (map meant ts) I (row_clause ts i r) ≡ row_holds (number_at ts I) (truth_of (value_at (map meant ts) I i)) r
+  row_value : (i : ℕ) (r : Row ℕ) → IsRowOf IsRead r → some_true (map meant ts) I (placed_literals ts i r) ≡ row_holds (number_at ts I) (truth_of (value_at (map meant ts) I i)) r
   row_value i r h = go r.truth
     where
-      go : (b : Option Bool) → some_true (map meant ts) I (truth_literals i b ++ map positive (row_atoms (form_at ts) r))
+      go : (b : Option Bool) → some_true (map meant ts) I (truth_literals i b ++ map positive (row_atoms (place_form ts) r))
           ≡ (truth_holds (truth_of (value_at (map meant ts) I i)) b || one_holds (number_at ts I) r.limits)
       go None = limits_value r.limits h
       go (Some b) =
-          both_or _ (some_true (map meant ts) I (map positive (row_atoms (form_at ts) r))) _ (one_holds (number_at ts I) r.limits) refl (limits_value r.limits h)
+          both_or _ (some_true (map meant ts) I (map positive (row_atoms (place_form ts) r))) _ (one_holds (number_at ts I) r.limits) refl (limits_value r.limits h)
 
 -- one of the rows
 some_row : (r s : Row ℕ) → Some r ≡ Some s → r ≡ s

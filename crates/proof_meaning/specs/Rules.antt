@@ -20,9 +20,10 @@ use Rattle.smt_meaning.specs.Term.{Tree, node, none, tree_at, operate, truth_of}
 use Rattle.smt_meaning.specs.TreeShape.{quotient_tree}
 use Rattle.smt_meaning.specs.Nodes.{pick}
 use Rattle.smt_meaning.specs.Clause.{signed}
-use Rattle.smt_meaning.specs.Linear.{Form, form_plus, form_times, number_form, linear_form}
+use Rattle.smt_meaning.specs.Linear.{Form, form_plus, form_times, number_form}
+use Rattle.smt_laws.specs.Rows.{place_form, placed_literals}
 use Rattle.smt_meaning.specs.Division.{Row, quotient_rows, remainder_rows, divisible_rows, absolute_rows}
-use Rattle.smt_meaning.specs.Atoms.{divided, each_divided, DividesEach, difference_of, at_most_atom, below_atom, row_atoms, positive, truth_literals}
+use Rattle.smt_meaning.specs.Atoms.{divided, each_divided, DividesEach, difference_of, at_most_atom, below_atom}
 use Rattle.smt_meaning.specs.Stack.{Frame, signature_of, assertions_of}
 use Rattle.proof_meaning.specs.Proof.{AreTerms, node_at, IsBoolAt, IsIntAt, IsLiteral, meant, literal, negated, is_true, are_same}
 
@@ -179,12 +180,9 @@ pub record IsRound (l : Literal) (g : ℕ) (ls : List Literal) : Type 0 where
 
 -- ---- divisions
 
-abbrev pub form_at : List Tree → ℕ → Form
-form_at ts i = linear_form ts (tree_at ts i)
-
 -- the number of a term, by which a division divides
 abbrev pub divisor_at : List Tree → ℕ → ℤ
-divisor_at ts i = (form_at ts i).constant
+divisor_at ts i = (place_form ts i).constant
 
 -- the rows of the table of divisions for a term with this head and these arguments; where they speak of a quotient that isn't the term, it is a term, too
 pub data HasRows (ts : List Tree) (i : ℕ) : Head → List ℕ → List (Row ℕ) → Type 0 where
@@ -198,18 +196,14 @@ pub data HasRows (ts : List Tree) (i : ℕ) : Head → List ℕ → List (Row �
       → HasRows ts i (Numeral n) (a ∷ []) (divisible_rows a n q)
   of_absolute : (a : ℕ) → HasRows ts i (Theory Absolute) (a ∷ []) (absolute_rows a i)
 
--- one of the limits of a row holds, or the term has the truth value of which the row speaks
-abbrev pub row_clause : List Tree → ℕ → Row ℕ → List Literal
-row_clause ts i r = truth_literals i r.truth ++ map positive (row_atoms (form_at ts) r)
-
--- the clause of a row, by its number
+-- the clause of a row, by its number: one of its limits holds, or the term has the truth value of which it speaks
 pub record IsEuclid (ns : List Node) (ts : List Tree) (i n : ℕ) (ls : List Literal) : Type 0 where
   pub within : i < length ns
   pub rows : List (Row ℕ)
   pub has : HasRows ts i (node_at ns i).head (node_at ns i).arguments rows
   pub row : Row ℕ
   pub row_is : slice_get rows n ≡ Some row
-  pub clause : ls ≡ row_clause ts i row
+  pub clause : ls ≡ placed_literals ts i row
 
 -- ---- multiples of bounds
 

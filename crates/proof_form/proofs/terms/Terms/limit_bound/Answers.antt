@@ -1,7 +1,7 @@
 use Rattle.std.proofs.Common.{◌≡◌, ◌∙◌, length, List, ℕ, sym, subst, ap, true, false}
 use Rattle.smt_meaning.specs.Stack.{signature_of}
 use Rattle.smt_meaning.specs.Atoms.{limit_atom}
-use Rattle.proof_meaning.specs.Rules.{form_at}
+use Rattle.smt_laws.specs.Rows.{place_form}
 use Rattle.pair_bounds.specs.declared.rows.RowLimit.{RowLimit}
 use Rattle.pair_bounds.specs.Rows.{limit_of_row, IsRowLimit}
 use Rattle.proof_form.specs.Range.{limit_stays}
@@ -28,9 +28,9 @@ returns-clause-ok c =
     let inside : IsRowLimit (length t.nodes) c.args.limit = subst (λ (s : ProofTerms). IsRowLimit (length s.nodes) c.args.limit) (sym c.self.view_is) c.requires in
     let same = c.limit_at-limit.ensures ∙ ap (λ (ps : List ℕ). limit_at ps c.args.limit) c.deref.ensures.value in
     if_ok c.limit_bound.result _ _ c.limit_bound.ensures.ok (λ k r.
-    subst (λ (s : ProofTerms). (limit_stays s.trees (limit_of_row c.args.limit) ≡ true) × IsBoundOf (limit_atom (form_at s.trees) (limit_of_row c.args.limit)) c.limit_bound.new.sum.items k) c.self.view_is
+    subst (λ (s : ProofTerms). (limit_stays s.trees (limit_of_row c.args.limit) ≡ true) × IsBoundOf (limit_atom (place_form s.trees) (limit_of_row c.args.limit)) c.limit_bound.new.sum.items k) c.self.view_is
     (limit_lifted (signature_of c.self.inside.stack.now.frames) c.self.inside.stack.now.trees t.nodes t.places.items us t.distinct.facts.items c.self.invariant.filed c.args.limit inside c.limit_bound.new.sum.items k
-    (subst (λ (l : RowLimit). IsRenamedBound t.distinct.facts.items (limit_stays us (limit_of_row l)) (limit_atom (form_at us) (limit_of_row l)) c.limit_bound.new.sum.items k) same r)))
+    (subst (λ (l : RowLimit). IsRenamedBound t.distinct.facts.items (limit_stays us (limit_of_row l)) (limit_atom (place_form us) (limit_of_row l)) c.limit_bound.new.sum.items k) same r)))
 
 pub returns-clause-range : goal.returns-clause-range
 returns-clause-range c = λ e.
