@@ -7,7 +7,7 @@ it is positive; a clause is a frozenset of literals.
 from fractions import Fraction
 from math import gcd
 
-from proof_script import ARITHMETIC, COMPARISONS, OPERATORS, is_symbol, is_word, operator_sort, read, small, takes
+from proof_script import ARITHMETIC, COMPARISONS, DIVISIONS, OPERATORS, Forest, divisor_read, is_symbol, is_word, operator_sort, read, small, takes
 
 STATUS = {"yes": 0, "node": 1, "no": 1, "range": 8, "no proof": 7}
 
@@ -37,6 +37,17 @@ def at_most(form, strict=0):
     """form <= 0, or form < 0, as it is folded."""
     total, constant = form
     return (("le", tuple(sorted(total.items())), -constant - strict), True)
+
+
+def normal(atom):
+    """A bound divided by the greatest common divisor of its coefficients."""
+    _, total, most = atom
+    g = gcd(*(c for _, c in total)) if total else 1
+    return ("le", tuple((p, c // g) for p, c in total), most // g)
+
+
+def quotient_rows(a, n, q):
+    return [(None, [([(n, q), (-1, a)], 0)]), (None, [([(1, a), (-n, q)], abs(n) - 1)])]
 
 
 def negated(literal):
@@ -86,12 +97,17 @@ def fold(operator, forms):
 
 class Terms:
     def __init__(self, fold_):
-        self.forest = fold_.forest
+        # what terms stand for, and terms as they are written: there a head `(_ divisible n)` is the numeral with an argument
+        self.forest, self.written = fold_.forest, Forest()
+        self.meant = []
         self.functions = fold_.functions
         self.heads, self.arguments, self.trees, self.sorts, self.forms, self.fit = [], [], [], [], [], []
         self.first = {}
 
     def head(self, sexp):
+        if isinstance(sexp, list):
+            number_ = divisor_read(sexp)
+            return None if number_ is None else ("number", number_)
         if is_word(sexp, "numeral"):
             return ("number", sexp[1]) if small(sexp[1]) else None
         if not is_word(sexp, "symbol"):
@@ -104,7 +120,7 @@ class Terms:
     def sort_of(self, head, sorts):
         kind, what = head
         if kind == "number":
-            return None if sorts else "Int"
+            return "Bool" if sorts == ["Int"] else None if sorts else "Int"
         if kind == "symbol":
             return what.result if sorts == what.arguments else None
         stands = not sorts if what in ("true", "false") else takes(what, len(sorts))
@@ -115,6 +131,9 @@ class Terms:
         head = self.head(sexp[0]) if isinstance(sexp, list) and sexp else None
         if head is None or not all(is_word(s, "numeral") for s in sexp[1:]):
             return False
+        # a numeral stands alone, and `(_ divisible n)` before one place
+        if head[0] == "number" and len(sexp) != (2 if isinstance(sexp[0], list) else 1):
+            return False
         arguments = [s[1] for s in sexp[1:]]
         if not all(i < len(self.trees) for i in arguments):
             return False
@@ -122,17 +141,35 @@ class Terms:
         if sort is None:
             return False
         number = ("symbol", head[1].id) if head[0] == "symbol" else head
-        tree = self.forest.tree(number, [self.trees[i] for i in arguments])
-        if not self.forest.linear[tree]:
+        tree = self.written_tree(number, [self.trees[i] for i in arguments])
+        if tree is None:
             return False
         place = self.first.setdefault(tree, len(self.trees))
         self.heads.append(number)
         self.arguments.append(arguments)
         self.trees.append(tree)
+        self.meant.append(self.tree_meant(number, [self.meant[i] for i in arguments]))
         self.sorts.append(sort)
         self.fit.append(all(self.fit[i] for i in arguments))
         self.forms.append(self.form_at(place) if sort == "Int" else None)
         return True
+
+    def written_tree(self, head, arguments):
+        """None where it isn't linear."""
+        divides = head[0] == "operator" and head[1] in DIVISIONS
+        if divides and not all(map(self.written.is_divisor, arguments[1:])):
+            return None
+        tree = self.written.tree(head, arguments)
+        return tree if self.written.linear[tree] else None
+
+    def tree_meant(self, head, arguments):
+        if head[0] == "number" and arguments:
+            return self.forest.operation("divisible", [*arguments, self.forest.tree(head, [])])
+        return self.forest.operation(head[1], arguments) if head[0] == "operator" else self.forest.tree(head, arguments)
+
+    def place(self, head, arguments):
+        """The first term with this head and the trees of these, None where there is none."""
+        return self.first.get(self.written.numbers.get((head, tuple(arguments))))
 
     def form_at(self, place):
         """The form of the newest term, whose tree stands first at the place."""
@@ -183,9 +220,7 @@ class Terms:
         strict = self.heads[i][1] in ("<", ">")
         atoms = []
         for a, b in self.neighbours(i):
-            _, total, most = at_most(self.difference(a, b), strict)[0]
-            g = gcd(*(c for _, c in total))
-            atoms.append(("le", tuple((p, c // g) for p, c in total), most // g) if total else ("le", total, most))
+            atoms.append(normal(at_most(self.difference(a, b), strict)[0]))
         return atoms
 
     def bounds_fit(self, i):
@@ -383,7 +418,7 @@ class Proof:
         self.clauses.append(frozenset(clause))
 
     def assertion(self, a, i):
-        check(a < len(self.asserted) and i < self.count and self.asserted[a] == self.terms.trees[i])
+        check(a < len(self.asserted) and i < self.count and self.asserted[a] == self.terms.meant[i])
         return [truth(i)]
 
     def form(self, parts):
@@ -424,7 +459,51 @@ class Proof:
         return [truth(c), same(i, second)] if which else [negated(truth(c)), same(i, first)]
 
     def euclid(self, i, n):
-        raise Wrong
+        """A row: a truth value of the term or None, and limits, each of multiples and what their sum is at most."""
+        check(i < self.count)
+        rows = self.rows(i)
+        check(rows is not None and n < len(rows))
+        value, limits = rows[n]
+        bounds = []
+        for multiples, most in limits:
+            check(all(self.terms.fit[j] for _, j in multiples), Leaves)
+            total, fits = ({}, 0), True
+            for k, j in reversed(multiples):
+                part = times(k, self.terms.forms[j])
+                total = plus(part, total)
+                fits = fits and form_fits(part) and form_fits(total)
+            check(fits and small(most - total[1]), Leaves)
+            bounds.append((normal(("le", tuple(sorted(total[0].items())), most - total[1])), True))
+        return ([] if value is None else [(("t", i), value)]) + bounds
+
+    def rows(self, i):
+        """The rows of the table of divisions for a term, None where it has none."""
+        terms, arguments = self.terms, self.terms.arguments[i]
+        kind, what = terms.heads[i]
+        if kind == "number" and arguments:
+            a, divisor = arguments[0], what
+            numeral = terms.written.numbers.get((("number", what), ()))
+            q = terms.place(("operator", "div"), [terms.trees[a], numeral])
+            if q is None:
+                return None
+            return quotient_rows(a, divisor, q) + [(True, [([(divisor, q), (-1, a)], -1)]), (False, [([(1, a), (-divisor, q)], 0)])]
+        if kind != "operator":
+            return None
+        if what == "abs":
+            a = arguments[0]
+            return [(None, [([(1, a), (-1, i)], 0)]), (None, [([(-1, a), (-1, i)], 0)]), (None, [([(1, i), (-1, a)], 0), ([(1, i), (1, a)], 0)])]
+        if what == "mod":
+            a, n = arguments
+            divisor, q = terms.forms[n][1], terms.place(("operator", "div"), [terms.trees[a], terms.trees[n]])
+            if q is None:
+                return None
+            above, below = [(1, i), (divisor, q), (-1, a)], [(-1, i), (1, a), (-divisor, q)]
+            return quotient_rows(a, divisor, q) + [(None, [(above, 0)]), (None, [(below, 0)])]
+        if what == "div":
+            *before, n = arguments
+            a = before[0] if len(before) == 1 else terms.place(("operator", "div"), [terms.trees[j] for j in before])
+            return None if a is None else quotient_rows(a, terms.forms[n][1], i)
+        return None
 
     def refl(self, i):
         return [same(i, i)]

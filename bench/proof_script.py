@@ -119,19 +119,23 @@ def is_symbol(sexp, name):
 
 # ---- sorts and trees; a sort is "Bool", "Int" or the id of a declared one
 
-OPERATORS = ["true", "false", "not", "and", "or", "xor", "=>", "=", "distinct", "ite", "+", "-", "*", "<=", "<", ">=", ">"]
-RESERVED_FUNCTIONS = set(OPERATORS) | {"div", "mod", "abs"}
+OPERATORS = ["true", "false", "not", "and", "or", "xor", "=>", "=", "distinct", "ite", "+", "-", "*", "<=", "<", ">=", ">", "div", "mod", "abs"]
+RESERVED_FUNCTIONS = set(OPERATORS)
 BARE = {"true", "false"}
 ARITHMETIC = {"+", "-", "*"}
 COMPARISONS = {"<=", "<", ">=", ">"}
+# `div` and `mod` divide by all arguments but the first; of `(_ divisible n)` the numeral is the second
+DIVISIONS = {"div", "mod", "divisible"}
 
 
 def takes(operator, count):
     """As the head of a list."""
     if operator in BARE:
         return False
-    if operator == "not":
+    if operator in ("not", "abs"):
         return count == 1
+    if operator == "mod":
+        return count == 2
     if operator == "ite":
         return count == 3
     if operator in ("and", "or", "+", "-", "*"):
@@ -147,15 +151,22 @@ def operator_sort(operator, sorts):
         return "Bool" if len(set(sorts)) <= 1 else None
     if operator == "ite":
         return sorts[1] if len(sorts) == 3 and sorts[0] == "Bool" and sorts[1] == sorts[2] else None
-    if operator in ARITHMETIC:
+    if operator in ARITHMETIC | {"div", "mod", "abs"}:
         return "Int" if set(sorts) <= {"Int"} else None
     if operator in COMPARISONS:
         return "Bool" if set(sorts) <= {"Int"} else None
     return "Bool" if set(sorts) <= {"Bool"} else None
 
 
+def divisor_read(sexp):
+    """The number of the head `(_ divisible n)`."""
+    is_head = isinstance(sexp, list) and len(sexp) == 3 and sexp[:2] == [("reserved", "_"), ("symbol", "divisible")]
+    return sexp[2][1] if is_head and is_word(sexp[2], "numeral") and sexp[2][1] >= 1 and small(sexp[2][1]) else None
+
+
 class Forest:
-    """Trees by numbers. A head is (number, n), (operator, o), (symbol, id) or (place, k)."""
+    """Trees by numbers. A head is (number, n), (operator, o), (symbol, id) or (place, k). The tree of a remainder has its quotient as a third argument, and
+    so has the one of a divisibility, whose second is the numeral."""
 
     def __init__(self):
         self.numbers = {}
@@ -172,8 +183,28 @@ class Forest:
             is_constant_head = head[0] == "number" or (head[0] == "operator" and head[1] in ARITHMETIC)
             self.constant.append(is_constant_head and all(kinds))
             here = head != ("operator", "*") or sum(not k for k in kinds) <= 1
+            if head[0] == "operator" and head[1] in DIVISIONS:
+                here = self.is_divisor(arguments[1])
             self.linear.append(here and all(self.linear[a] for a in arguments))
         return self.numbers[key]
+
+    def is_divisor(self, tree):
+        """A numeral other than 0, or the negation of one."""
+        head, arguments = self.nodes[tree]
+        if head == ("operator", "-") and len(arguments) == 1:
+            head, arguments = self.nodes[arguments[0]]
+        return head[0] == "number" and head[1] != 0 and not arguments
+
+    def operation(self, operator, arguments):
+        """An operator applied."""
+        if operator == "div":
+            tree, *divisors = arguments
+            for d in divisors:
+                tree = self.tree(("operator", "div"), [tree, d])
+            return tree
+        if operator in ("mod", "divisible"):
+            arguments = [*arguments, self.tree(("operator", "div"), arguments)]
+        return self.tree(("operator", operator), arguments)
 
     def parts(self, tree):
         """The different trees in it."""
@@ -449,9 +480,10 @@ class Judge:
         return tree, sort
 
     def operator(self, name, arguments, sort):
-        tree = self.forest.tree(("operator", name), arguments)
+        tree = self.forest.operation(name, arguments)
         varying = [a for a in arguments if not self.forest.constant[a]]
         require(not self.closed or name != "*" or len(varying) <= 1)
+        require(not self.closed or name not in DIVISIONS or all(map(self.forest.is_divisor, arguments[1:])))
         return self.found(tree, sort)
 
     def function(self, declaration, arguments):
@@ -483,7 +515,9 @@ class Judge:
         if is_word(sexp, "numeral"):
             require(small(sexp[1]))
             return self.found(self.forest.tree(("number", sexp[1]), []), "Int")
-        require(isinstance(sexp, list) and sexp and isinstance(sexp[0], tuple))
+        require(isinstance(sexp, list) and sexp)
+        if isinstance(sexp[0], list):
+            return self.divisibility(variables, sexp)
         if sexp[0] == ("reserved", "let"):
             return self.let(variables, sexp)
         if sexp[0] == ("reserved", "!"):
@@ -501,6 +535,13 @@ class Judge:
             return self.operator(name, trees, sort)
         require(trees and sorts == declaration.arguments)
         return self.function(declaration, trees)
+
+    def divisibility(self, variables, sexp):
+        number = divisor_read(sexp[0])
+        require(number is not None)
+        judged = [self.term(variables, s) for s in sexp[1:]]
+        require(len(judged) == 1 and judged[0][1] == "Int")
+        return self.operator("divisible", [judged[0][0], self.forest.tree(("number", number), [])], "Bool")
 
     def let(self, variables, sexp):
         require(len(sexp) == 3 and isinstance(sexp[1], list) and sexp[1])
@@ -539,6 +580,8 @@ def has_free(names, sexp):
         return any(has_free(names, b[1]) for b in sexp[1]) or has_free(names - bound, sexp[2])
     if len(sexp) > 1 and sexp[0] == ("reserved", "!"):
         return has_free(names, sexp[1])
+    if sexp and isinstance(sexp[0], list):
+        return any(has_free(names, s) for s in sexp[1:])
     return any(has_free(names, s) for s in sexp)
 
 

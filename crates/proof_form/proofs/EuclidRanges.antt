@@ -1,7 +1,6 @@
 -- Where the divisor of a division leaves the range, each of its rows does.
-use Rattle.std.proofs.Common.{◌≡◌, ◌≢◌, ◌⊎◌, inl, inr, ℕ, zero, suc, ◌+◌, ◌*◌, ◌<◌, ◌≤◌, Bool, true, false, ◌&&◌, List, [], ◌∷◌, ◌++◌, length, get_or, All, refl, ap, sym, subst, ◌∙◌, lit<, arith}
-use Rattle.std.specs.Prelude.{ℤ, pos, negsuc, neg_ℤ, ◌*ℤ◌, ◌-ℤ◌, Option, Some, None}
-use Rattle.std.specs.List.{list_all}
+use Rattle.std.proofs.Common.{◌≡◌, ◌≢◌, ◌⊎◌, inl, inr, ℕ, zero, suc, ◌*◌, ◌<◌, ◌≤◌, Bool, true, false, ◌&&◌, List, [], ◌∷◌, ◌++◌, length, get_or, All, refl, ap, sym, subst, ◌∙◌, lit<, arith}
+use Rattle.std.specs.Prelude.{ℤ, pos, negsuc, neg_ℤ, ◌*ℤ◌, ◌-ℤ◌}
 use Rattle.std.proofs.lemmas.Bool.{cases_lt}
 use Rattle.std.proofs.lemmas.List.{get_or_append_left, get_or_push, length_push}
 use Rattle.std.proofs.lemmas.List.Elements.{All-get_or, All-from_recursion}
@@ -11,10 +10,10 @@ use Rattle.fraction128.specs.Division.{absolute}
 use Rattle.smt_meaning.specs.declared.terms.Head.{Head}
 use Rattle.smt_meaning.specs.declared.nodes.Node.{Node}
 use Rattle.smt_meaning.specs.Declaration.{Declaration}
-use Rattle.smt_meaning.specs.Term.{Tree, Trees, node, tree_at}
+use Rattle.smt_meaning.specs.Term.{Tree, node, tree_at}
 use Rattle.smt_meaning.specs.Nodes.{pick, tree_of}
 use Rattle.smt_meaning.specs.Linear.{Form, form_times, form_fits, sum_fits, sum_times, linear_form, leaf_form, folding_fits, foldings_fit}
-use Rattle.smt_meaning.specs.Division.{Limit, Row, limit, always, unless, beyond, left_by, combined, combined_fits, limit_fits, quotient_rows, remainder_rows, divisible_rows}
+use Rattle.smt_meaning.specs.Division.{Row, limit, always, beyond, left_by, combined, combined_fits, limit_fits, quotient_rows, remainder_rows, divisible_rows}
 use Rattle.smt_laws.proofs.Both.{and_left}
 use Rattle.linear_forms.proofs.SumLemmas.{fits_in_range}
 use Rattle.linear_forms.proofs.FoldLemmas.{false_if}

@@ -44,3 +44,5 @@ pub mod BoundLeaves
 pub mod BoundJudging
 pub mod EuclidDivisions
 pub mod EuclidRanges
+pub mod EuclidLiterals
+pub mod EuclidJudging

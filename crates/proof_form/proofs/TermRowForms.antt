@@ -1,11 +1,10 @@
 -- The limits of rows, over the terms of a proof and over the places of their trees.
-use Rattle.std.proofs.Common.{◌≡◌, ◌≢◌, ◌⊎◌, inl, inr, ℕ, zero, suc, ◌<◌, Bool, true, false, ◌&&◌, List, [], ◌∷◌, map, length, All, refl, ap, sym, subst, ◌∙◌, arith}
+use Rattle.std.proofs.Common.{◌≡◌, inl, inr, ℕ, suc, ◌<◌, Bool, true, false, ◌&&◌, List, [], ◌∷◌, map, length, All, refl, ap, sym, subst, ◌∙◌, arith}
 use Rattle.std.specs.Prelude.{ℤ, ◌-ℤ◌, slice_index, Option, Some, None, MatchOption, if◌then◌else◌}
 use Rattle.std.proofs.lemmas.List.Elements.{All-nil, All-cons, All-head, All-tail}
 use Rattle.fraction128.specs.Whole.{InRange, is_in_range}
 use Rattle.smt_meaning.specs.declared.terms.Head.{Head}
 use Rattle.smt_meaning.specs.declared.clauses.Summand.{Summand}
-use Rattle.smt_meaning.specs.declared.clauses.Atom.{Atom}
 use Rattle.smt_meaning.specs.declared.nodes.Node.{Node}
 use Rattle.smt_meaning.specs.Declaration.{Declaration}
 use Rattle.smt_meaning.specs.Term.{Tree, node, tree_at}
@@ -18,19 +17,17 @@ use Rattle.proof_meaning.specs.Rules.{form_at, divisor_at}
 use Rattle.smt_laws.proofs.SameTree.{tree_eq-true}
 use Rattle.smt_laws.proofs.Both.{and_both}
 use Rattle.term_store.specs.Terms.{tree_with, IsPlace, IsNew}
-use Rattle.linear_forms.specs.declared.differences.DifferenceError.{DifferenceError}
-use Rattle.linear_forms.specs.declared.differences.DifferenceError.TheVariants.{Term, Pair, Memory}
 use Rattle.linear_forms.specs.declared.multiples.Multiple.{Multiple}
 use Rattle.linear_forms.specs.Multiples.{multiples_of, IsMultiple, AreMultiples}
 use Rattle.pair_bounds.specs.declared.rows.RowLimit.{RowLimit}
-use Rattle.pair_bounds.specs.Rows.{multiples, limit_of_row, IsRowLimit, IsRowBound, RefusesLimit}
+use Rattle.pair_bounds.specs.Rows.{multiples, limit_of_row, IsRowLimit, IsRowBound}
 use Rattle.proof_form.specs.Range.{terms_fit, limit_stays}
 use Rattle.proof_form.specs.Terms.{IsBoundOf}
 use Rattle.proof_form.specs.declared.terms_facts.Fact.{Fact}
 use Rattle.proof_form.specs.TermFacts.{places_at}
-use Rattle.proof_form.specs.TermRenaming.{renamed, renamed_form, renamed_bound, first_at, Ascends}
+use Rattle.proof_form.specs.TermRenaming.{renamed_form, renamed_bound, first_at, Ascends}
 use Rattle.proof_form.specs.TermTable.{AreFiled, IsRenamedBound}
-use Rattle.proof_form.specs.TermRows.{tree_multiples, tree_limit, trees_fit, tree_limit_stays, multiple_at, third_at, limit_at, IsFirst, IsDivisor, DivisorLeaves}
+use Rattle.proof_form.specs.TermRows.{tree_multiples, tree_limit, trees_fit, tree_limit_stays, multiple_at, limit_at, IsFirst, IsDivisor, DivisorLeaves}
 use Rattle.proof_form.proofs.TermForms.{EachPart, IsRenamed, form_renamed, folding_renamed, form_times_renamed, form_plus_renamed, form_fits_renamed, normal_renamed}
 use Rattle.proof_form.proofs.TermBounds.{ascends, each_renamed}
 use Rattle.proof_form.proofs.TermFiling.{trees_count, picked}

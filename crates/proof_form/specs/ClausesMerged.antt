@@ -1,5 +1,5 @@
 -- Two ascending lists as one, each without one of its codes.
-use Rattle.std.specs.Prelude.{◌≡◌, ◌≢◌, ◌⊎◌, ℕ, ◌+◌, ◌<◌, ◌≤◌, List, [], ◌∷◌, ◌++◌, length, Contains, slice_index, slice_index_or}
+use Rattle.std.specs.Prelude.{◌≡◌, ◌≢◌, ◌⊎◌, ℕ, ◌<◌, ◌≤◌, List, [], ◌∷◌, ◌++◌, length, Contains, slice_index, slice_index_or}
 use Rattle.proof_form.specs.Kept.{AreAscending}
 use Rattle.proof_form.specs.declared.clauses_merge.Next.{Next}
 use Rattle.proof_form.specs.declared.clauses_merge.Next.TheVariants.{Left, Right, Both}

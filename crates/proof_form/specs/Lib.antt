@@ -19,4 +19,5 @@ pub mod FormParts
 pub mod FarkasSums
 pub mod BoundCodes
 pub mod EuclidRows
+pub mod EuclidCodes
 pub mod FormPairs

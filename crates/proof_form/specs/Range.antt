@@ -1,7 +1,7 @@
 -- Where the numbers of a step of a proof leave the range from -(2^127 - 1) to 2^127 - 1.
 use Rattle.std.specs.Prelude.{◌≡◌, ◌⊎◌, ◌<◌, ◌/◌, zero, suc, ℕ, ℤ, pos, Bool, true, false, ◌&&◌, List, [], ◌∷◌, ◌++◌, length, All, slice_get, Option, Some, None, nat_eq, if◌then◌else◌}
 use Rattle.std.specs.List.{list_all}
-use Rattle.fraction128.specs.Whole.{is_in_range, first_outside}
+use Rattle.fraction128.specs.Whole.{first_outside}
 use Rattle.fraction128.specs.Gcd.{gcd_of}
 use Rattle.fraction128.specs.declared.ratio.Ratio.{Ratio}
 use Rattle.fraction128.specs.Listed.{sum_of, sum_steps, product_of, product_steps}
@@ -11,12 +11,10 @@ use Rattle.smt_meaning.specs.declared.terms.Operator.{Operator}
 use Rattle.smt_meaning.specs.declared.terms.Operator.TheVariants.{AtMost as IsAtMost, Less, AtLeast, Greater}
 use Rattle.smt_meaning.specs.declared.nodes.Node.{Node}
 use Rattle.smt_meaning.specs.declared.clauses.Summand.{Summand}
-use Rattle.smt_meaning.specs.declared.clauses.Atom.{Atom}
-use Rattle.smt_meaning.specs.declared.clauses.Atom.TheVariants.{AtMost}
 use Rattle.smt_meaning.specs.declared.clauses.Literal.{Literal}
 use Rattle.proof_meaning.specs.declared.proof.Weighted.{Weighted}
 use Rattle.proof_meaning.specs.declared.proof.Step.{Step}
-use Rattle.proof_meaning.specs.declared.proof.Step.TheVariants.{Form as FormStep, Euclid, Link, Round, Farkas, Res}
+use Rattle.proof_meaning.specs.declared.proof.Step.TheVariants.{Form as FormStep, Euclid, Link, Farkas}
 use Rattle.smt_meaning.specs.Declaration.{Declaration}
 use Rattle.smt_meaning.specs.Term.{Tree, tree_at}
 use Rattle.smt_meaning.specs.Linear.{Form, folding_fits, form_fits}

@@ -1,5 +1,5 @@
 -- The terms of a proof as they are kept: the different trees that they have are filed once, in the order of their first terms.
-use Rattle.std.specs.Prelude.{◌≡◌, ◌⊎◌, ◌<◌, ◌+◌, ◌^◌, All, ◌++◌, ◌∷◌, [], ℕ, List, length, take, slice_index, Option, Some, None, MatchOption, true, false, ℤ, Bool}
+use Rattle.std.specs.Prelude.{◌≡◌, ◌⊎◌, ◌<◌, ◌+◌, ◌^◌, All, ◌++◌, ◌∷◌, [], ℕ, List, length, take, slice_index, Option, Some, None, true, false, ℤ, Bool}
 use Rattle.fraction128.specs.Whole.{InRange}
 use Rattle.smt_meaning.specs.declared.terms.Head.{Head}
 use Rattle.smt_meaning.specs.declared.nodes.Node.{Node}

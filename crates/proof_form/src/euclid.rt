@@ -6,9 +6,14 @@ ghost use Rattle.smt_meaning.specs.declared.terms.Operator.TheVariants.{Divide, 
 ghost use Rattle.smt_meaning.specs.Term.{Tree};
 ghost use Rattle.pair_bounds.specs.Rows.{placed_row};
 ghost use Rattle.proof_meaning.specs.Proof.{node_at};
+ghost use Rattle.proof_meaning.specs.declared.proof.Step.TheVariants.{Euclid};
+ghost use Rattle.proof_form.specs.Comes.{Comes};
 ghost use Rattle.proof_form.specs.EuclidRows.{division_rows, number_of, IsWithin, NumberLeaves, IsByNumeral, IsDivisionOrNone, IsItsRowOrNone, IsRowOrNone, RowLeaves, rows_here};
 
+use crate::clauses::Clauses;
+use crate::euclid_codes::keep_row;
 use crate::terms::{Stop, Terms};
+use crate::verdict::Verdict;
 use pair_bounds::{Row, add_rows};
 use smt_meaning::{Head, Operator, TermId};
 use std::alloc::{AllocError, Global};
@@ -274,5 +279,27 @@ fn row_at(
         Ok(Some(division)) => row_of_division(alloc, terms, division, place, which),
         Ok(None) => Ok(None),
         Err(_) => Err(Stop::Memory),
+    }
+}
+
+/// `(euclid place which)`
+pub(crate) fn judge_euclid(
+    alloc: Global,
+    terms: &mut Terms<'_>,
+    clauses: &mut Clauses,
+    place: TermId,
+    which: u64,
+) -> Result<Verdict, AllocError>
+    ensures comes { (asserted : List Tree) → IfOk result (Comes terms.old asserted clauses.old clauses.new (Euclid place which)) }
+    ensures same { terms.new ≡ terms.old }
+{
+    if (place as usize) >= terms.len() {
+        return Ok(Verdict::Wrong);
+    }
+    match row_at(alloc, terms, place, which) {
+        Ok(Some(row)) => keep_row(alloc, terms, clauses, place, row),
+        Ok(None) => Ok(Verdict::Wrong),
+        Err(Stop::Range) => Ok(Verdict::Range),
+        Err(Stop::Memory) => Err(AllocError),
     }
 }

@@ -13,6 +13,7 @@ mod clauses_laid;
 mod clauses_merge;
 mod equalities;
 mod euclid;
+mod euclid_codes;
 mod farkas;
 mod farkas_entries;
 mod farkas_sums;

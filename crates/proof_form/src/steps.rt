@@ -10,6 +10,7 @@ use crate::equalities::{
     judge_assert, judge_both, judge_cong, judge_neither, judge_pick, judge_refl, judge_sym,
     judge_trans, judge_truth,
 };
+use crate::euclid::judge_euclid;
 use crate::farkas::judge_farkas;
 use crate::form::judge_form;
 use crate::resolution::judge_resolution;
@@ -40,7 +41,7 @@ pub(crate) fn judge_step(
             judge_form(alloc, terms, clauses, *place, literals.as_slice())
         }
         Step::Pick(place, which) => judge_pick(alloc, terms, clauses, *place, *which),
-        Step::Euclid(_, _) => Ok(Verdict::Wrong),
+        Step::Euclid(place, which) => judge_euclid(alloc, terms, clauses, *place, *which),
         Step::Refl(place) => judge_refl(alloc, terms, clauses, *place),
         Step::Sym(left, right) => judge_sym(alloc, terms, clauses, *left, *right),
         Step::Trans(first, second, third) => {

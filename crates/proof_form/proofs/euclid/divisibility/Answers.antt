@@ -1,4 +1,4 @@
-use Rattle.std.proofs.Common.{◌<◌, ◌≡◌, ◌∷◌, ◌∙◌, [], length, List, ℕ, All, sym, ap, subst, arith}
+use Rattle.std.proofs.Common.{◌<◌, ◌≡◌, ◌∙◌, [], length, List, ℕ, All, sym, ap, subst, arith}
 use Rattle.std.specs.Prelude.{slice_index_or, MatchOption}
 use Rattle.smt_meaning.specs.declared.terms.Head.{Head}
 use Rattle.smt_meaning.specs.declared.terms.Head.TheVariants.{Numeral}

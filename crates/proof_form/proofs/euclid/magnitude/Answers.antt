@@ -1,4 +1,4 @@
-use Rattle.std.proofs.Common.{◌≡◌, length, List, ℕ, sym, subst, ap, arith}
+use Rattle.std.proofs.Common.{◌≡◌, length, List, ℕ, sym, subst, arith}
 use Rattle.std.specs.Prelude.{slice_index_or}
 use Rattle.smt_meaning.specs.declared.terms.Head.TheVariants.{Theory}
 use Rattle.smt_meaning.specs.declared.terms.Operator.TheVariants.{Absolute}

@@ -1,4 +1,4 @@
-use Rattle.std.proofs.Common.{◌<◌, ◌≤◌, ◌≡◌, ◌∷◌, ◌++◌, ◌∙◌, [], length, List, ℕ, All, sym, subst, ap, refl, arith}
+use Rattle.std.proofs.Common.{◌<◌, ◌≤◌, ◌≡◌, ◌∷◌, ◌++◌, [], length, List, ℕ, All, sym, subst, refl, arith}
 use Rattle.std.specs.Prelude.{slice_index_or, MatchOption}
 use Rattle.std.proofs.lemmas.List.{get_or_push, length_push}
 use Rattle.smt_meaning.specs.declared.terms.Head.TheVariants.{Theory}

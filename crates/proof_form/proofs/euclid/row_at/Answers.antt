@@ -1,6 +1,4 @@
-use Rattle.std.proofs.Common.{◌≡◌, ◌<◌, ℕ, length, subst, arith}
-use Rattle.smt_meaning.specs.Term.{Tree, tree_at}
-use Rattle.smt_meaning.specs.Nodes.{tree_of}
+use Rattle.std.proofs.Common.{◌<◌, length, subst}
 use Rattle.proof_meaning.specs.Proof.{node_at}
 use Rattle.proof_form.specs.Terms.{ProofTerms}
 use Rattle.proof_form.specs.EuclidRows.{IsDivision, IsDivisionOrNone, IsItsRowOrNone, NumberLeaves, rows_here}

@@ -16,6 +16,11 @@ returns-in-Pick-clause-comes c =
     as_step c.args.terms.now (asserted_at c.args.terms.now.held c.args.asserted.now) c.args.clauses.now c.judge_pick.new.clauses _ _ c.judge_pick.result (c.in-Pick.is)
     (c.judge_pick.ensures (asserted_at c.args.terms.now.held c.args.asserted.now))
 
+pub returns-in-Euclid-clause-comes : goal.returns-in-Euclid-clause-comes
+returns-in-Euclid-clause-comes c =
+    as_step c.args.terms.now (asserted_at c.args.terms.now.held c.args.asserted.now) c.args.clauses.now c.judge_euclid.new.clauses _ _ c.judge_euclid.result (c.in-Euclid.is)
+    (c.judge_euclid.ensures.comes (asserted_at c.args.terms.now.held c.args.asserted.now))
+
 pub returns-in-Refl-clause-comes : goal.returns-in-Refl-clause-comes
 returns-in-Refl-clause-comes c =
     as_step c.args.terms.now (asserted_at c.args.terms.now.held c.args.asserted.now) c.args.clauses.now c.judge_refl.new.clauses _ _ c.judge_refl.result (c.in-Refl.is)

@@ -1,4 +1,4 @@
-use Rattle.std.proofs.Common.{◌<◌, ◌∙◌, length, All, List, ℕ, sym, subst}
+use Rattle.std.proofs.Common.{◌<◌, ◌∙◌, length, All, sym, subst}
 use Rattle.proof_form.proofs.TermRowForms.{places_within}
 use Rattle.proof_form.proofs.terms_rows.term_with.Goals as goal
 
