@@ -92,6 +92,35 @@ def value_of(operator, values):
     return all(a != b for a, b in itertools.combinations(values, 2))
 
 
+def divisor(term):
+    return -term[1] if isinstance(term, tuple) else term
+
+
+def divisibility(n, term):
+    """A head is a text."""
+    return (f"(_ divisible {n})", term)
+
+
+def division_rows(term):
+    """The rows of the table of divisions (values of the term, and limits of multiples), and the quotient that they are over."""
+    head, a = term[:2]
+    if head == "abs":
+        return [(None, [([(1, a), (-1, term)], 0)]), (None, [([(-1, a), (-1, term)], 0)]), (None, [([(1, term), (-1, a)], 0), ([(1, term), (1, a)], 0)])], a
+    if head == "div":
+        a, n, q = (term[:-1] if len(term) > 3 else a), divisor(term[-1]), term
+    elif head == "mod":
+        n, q = divisor(term[2]), ("div", *term[1:])
+    else:
+        n = int(head.split()[2][:-1])
+        q = ("div", a, n)
+    rows = [(None, [([(n, q), (-1, a)], 0)]), (None, [([(1, a), (-n, q)], abs(n) - 1)])]
+    if head == "mod":
+        rows += [(None, [([(1, term), (n, q), (-1, a)], 0)]), (None, [([(-1, term), (1, a), (-n, q)], 0)])]
+    elif head != "div":
+        rows += [(True, [([(n, q), (-1, a)], -1)]), (False, [([(1, a), (-n, q)], 0)])]
+    return rows, a if head == "div" else q
+
+
 class Draft:
     def __init__(self, draw):
         self.draw = draw
@@ -202,6 +231,26 @@ class Draft:
         below, above, both = self.le(*self.raw(a, b)), self.le(*self.raw(b, a)), self.s(a, b)
         clause = [[negated(both), below], [negated(both), above], [negated(below), negated(above), both]][which]
         return self.add(["link", self.node(a), self.node(b), which], clause)
+
+    def euclid(self, term, which, has_quotient=True):
+        """A row of the table of divisions. The quotient that goes with it is a term, too; gives the literals."""
+        rows, quotient = division_rows(term)
+        if has_quotient:
+            self.node(quotient)
+        value, limits = rows[which]
+        clause = [] if value is None else [(self.t(term)[0], value)]
+        for parts, most in limits:
+            total, constant = {}, 0
+            for k, t in parts:
+                own, c = linear(t)
+                constant += k * c
+                for leaf, d in own.items():
+                    total[leaf] = total.get(leaf, 0) + k * d
+            total = {t: c for t, c in total.items() if c}
+            g = gcd(*total.values()) if total else 1
+            clause.append(self.le({t: c // g for t, c in total.items()}, (most - constant) // g))
+        self.add(["euclid", self.node(term), which], clause)
+        return clause
 
     def res(self, p, q, literal):
         assert literal in self.clauses[p] and negated(literal) in self.clauses[q]
@@ -716,6 +765,129 @@ def extremes(draw):
     return d.refute()
 
 
+# ---- divisions
+
+
+def drawn_divisor(draw):
+    n = draw.choice([2, 3, 3, 4, 5, 7])
+    return sign(draw.choice([n, n, -n]))
+
+
+def told_bound(d, low, high, strict=0):
+    """low <= high, or low < high, is asserted; gives its bound."""
+    term = ("<" if strict else "<=", low, high) if d.draw.random() < 0.5 else (">" if strict else ">=", high, low)
+    bound = d.normal(low, high, strict)
+    d.tell_part(term, bound)
+    return bound
+
+
+def of_quotient(draw):
+    """A term from n * c on, whose quotient by n is below c; by a divisor below 0 the quotient's negation is."""
+    d = Draft(draw)
+    d.declare("x y", "Int")
+    a = draw.choice(["x", "x", ("+", "x", draw.randrange(1, 5)), ("-", "x", "y")])
+    n, c = draw.choice([drawn_divisor(draw), MOST]), draw.randrange(-3, 4)
+    c = 0 if n == MOST else c
+    m, term = abs(divisor(n)), ("div", a, n)
+    (row,) = d.euclid(term, 1)
+    is_below = divisor(n) < 0
+    low = told_bound(d, sign(1 - c), term) if is_below else told_bound(d, term, sign(c - 1))
+    high = told_bound(d, sign(m * c), a)
+    d.farkas((1, negated(row)), (m, negated(low)), (1, negated(high)))
+    return d.refute()
+
+
+def of_quotients(draw):
+    """A quotient by two divisors after one another: below c, of a term from their product times c on."""
+    d = Draft(draw)
+    d.declare("x", "Int")
+    n, k, c = draw.choice([2, 3, 5]), draw.choice([2, 3, 4]), draw.randrange(-2, 4)
+    inner, term = ("div", "x", n), ("div", "x", n, k)
+    (first,), (second,) = d.euclid(inner, 1), d.euclid(term, 1)
+    low, high = told_bound(d, term, sign(c - 1)), told_bound(d, sign(n * k * c), "x")
+    d.farkas((1, negated(first)), (n, negated(second)), (n * k, negated(low)), (1, negated(high)))
+    return d.refute()
+
+
+def of_remainder(draw):
+    """A remainder isn't below 0, and below the divisor."""
+    d = Draft(draw)
+    d.declare("x", "Int")
+    a, n = draw.choice(["x", "x", ("+", "x", 7)]), drawn_divisor(draw)
+    m, term = abs(divisor(n)), ("mod", a, n)
+    if draw.random() < 0.5:
+        (one,), (other,) = d.euclid(term, 0), d.euclid(term, 3)
+        bound = told_bound(d, term, sign(-draw.randrange(1, 3)))
+    else:
+        (one,), (other,) = d.euclid(term, 1), d.euclid(term, 2)
+        bound = told_bound(d, m + draw.randrange(2), term)
+    d.farkas((1, negated(one)), (1, negated(other)), (1, negated(bound)))
+    return d.refute()
+
+
+def of_divisibility(draw):
+    """A divisible term between two neighbouring multiples, or one that isn't divisible and is a multiple."""
+    d = Draft(draw)
+    d.declare("x", "Int")
+    n, c = draw.choice([2, 3, 4, 7]), draw.randrange(-3, 4)
+    a = draw.choice(["x", "x", ("-", "x", 1)])
+    term, q = divisibility(n, a), ("div", a, n)
+    is_divisible = draw.random() < 0.5
+    d.tell(term, is_divisible)
+    if is_divisible:
+        above, below = told_bound(d, sign(n * c + 1), a), told_bound(d, a, sign(n * c + n - 1))
+        (over,) = d.euclid(term, 0)
+        under = d.euclid(term, 3)[1]
+        # n * q is at most n * c + n - 1 then
+        high = d.normal(q, sign(c))
+    else:
+        above, below = told_bound(d, sign(n * c), a), told_bound(d, a, sign(n * c))
+        (under,) = d.euclid(term, 1)
+        over = d.euclid(term, 2)[1]
+        # n * q is at most n * c - 1 then
+        high = d.normal(q, sign(c - 1))
+    d.farkas((1, negated(over)), (1, negated(below)), (n, high))
+    d.farkas((1, negated(under)), (1, negated(above)), (n, negated(high)))
+    return d.refute()
+
+
+def of_absolute(draw):
+    """An absolute value is at least the term and its negation, and one of them."""
+    d = Draft(draw)
+    d.declare("x", "Int")
+    term, kind = ("abs", "x"), draw.randrange(3)
+    if kind < 2:
+        (row,) = d.euclid(term, kind)
+        bound = told_bound(d, term, "x" if kind == 0 else ("-", "x"), 1)
+        d.farkas((1, negated(row)), (1, negated(bound)))
+        return d.refute()
+    c = draw.randrange(5)
+    one, other = d.euclid(term, 2)
+    high, low, bound = told_bound(d, "x", c), told_bound(d, sign(-c), "x"), told_bound(d, c, term, 1)
+    d.farkas((1, negated(one)), (1, negated(high)), (1, negated(bound)))
+    d.farkas((1, negated(other)), (1, negated(low)), (1, negated(bound)))
+    return d.refute()
+
+
+def of_divisions(draw):
+    """Congruence under a head that divides."""
+    d = Draft(draw)
+    d.declare("x y", "Int")
+    head, *more = draw.choice([("div", 3), ("mod", sign(-2)), ("abs",), ("(_ divisible 5)",)])
+    d.tell_part(("=", "x", "y"), d.s("x", "y"))
+    for n in more:
+        d.refl(n)
+    left, right = (head, "x", *more), (head, "y", *more)
+    d.cong(left, right)
+    if head == "(_ divisible 5)":
+        d.truth(left, right)
+        d.tell(left)
+        d.tell(right, False)
+    else:
+        d.tell_part(("=", left, right), d.s(left, right), False)
+    return d.refute()
+
+
 BOOLEAN = ["not", "and", "or", "xor", "=>", "=", "distinct", "ite", "true", "false"]
 KINDS = (
     [(f"form {o}", lambda draw, o=o: of_bools(draw, o)) for o in BOOLEAN]
@@ -726,4 +898,5 @@ KINDS = (
     + [("pick", picks), ("path", path), ("congruence", congruence), ("truth", predicates), ("round", rounded)]
     + [("farkas", bounds), ("farkas with fractions", lambda draw: bounds(draw, True))]
     + [("clauses", clauses), ("operators", operators), ("mixed", mixed), ("wide", wide), ("ends of the range", extremes)]
+    + [("quotient", of_quotient), ("quotients", of_quotients), ("remainder", of_remainder), ("divisibility", of_divisibility), ("absolute value", of_absolute), ("divisions", of_divisions)]
 )

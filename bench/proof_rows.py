@@ -126,7 +126,7 @@ def text(d, commands, limit, draw=None):
     proof = f"({show(nodes)} {show(steps)})"
     whole = "".join(commands) + "(get-proof)" + proof
     if draw and draw.random() < 0.15 and len(whole) < limit - 20:
-        name = draw.choice([s[0] for s in d.nodes if isinstance(s[0], str)])
+        name = draw.choice([s[0] for s in d.nodes if isinstance(s[0], str) and s[0][0] != "("] or ["p"])
         proof = re.sub(rf"\({re.escape(name)}(?=[ )])", f"(|{name}|", proof, count=1) + draw.choice(["", "(", "\n; end", "(get-proof)", "\x7f", ")"])
         return "".join(commands) + draw.choice(["(get-proof)", "( get-proof;\n)", "(|get-proof|)\n"]) + proof
     return compact(whole, limit)
@@ -190,7 +190,7 @@ def sort_at(d, n):
     head = d.nodes[n][0]
     if head == "ite":
         return sort_at(d, d.nodes[n][2])
-    if isinstance(head, int) or head in ("+", "-", "*"):
+    if isinstance(head, int) or head in ("+", "-", "*", "div", "mod", "abs"):
         return "Int"
     return d.sorts.get(head, "Bool")
 
@@ -298,8 +298,8 @@ def add_bad_node(d, draw):
     """A node that is no term, at the end or before all."""
     last = len(d.nodes)
     b, x = draw.choice(bools(d) or [0]), (ints(d) or [None])[-1]
-    kind = case(d, draw, 9)
-    if kind in (0, 1) and x is None:
+    kind = case(d, draw, 11)
+    if kind in (0, 1, 9, 10) and x is None:
         raise LookupError
     if kind == 0:
         found = [["not", x], ["and", b, x], ["=", b, x], ["ite", x, b, b], ["ite", b, b, x], ["<", b, x], [">=", x, b], ["-", x, b], ["distinct", x, x, b]]
@@ -312,11 +312,20 @@ def add_bad_node(d, draw):
     elif kind == 3:
         found = [["and", last], ["or", b, last], ["not", last + 1], ["and", 2**64], ["xor", b, 2**32], ["distinct", b, last]]
     elif kind == 4:
-        found = [["nothing"], ["nothing", b], ["div", b, b], ["abs", b], ["mod", 0, 0], ["U"], ["Bool"], ["assert", b]]
+        found = [["nothing"], ["nothing", b], ["div", b, b], ["abs", b], ["mod", b, b], ["U"], ["Bool"], ["assert", b]]
     elif kind == 5:
         found = [["let", b], ["!", b], ["_", b], ["1.5"], ['"and"', b], [":and", b], ["#x1"], [("-", 1)], [["and"], b], ["par"]]
     elif kind == 6:
         found = [[MOST + 1], [2**128 - 1], [10**60]]
+    elif kind == 9:
+        found = [["div", x], ["mod", x], ["mod", x, x, x], ["abs", x, x], ["abs"], [3, x], ["(_ divisible 3)"], ["(_ divisible 3)", x, x], ["(_ divisible 3)", b]]
+        found += [[head, x] for head in ("(_ divisible 0)", f"(_ divisible {MOST + 1})", "(_ divisible)", "(_ divisible 3 3)", "(_ divide 3)", "(divisible 3)", "(_ divisible (- 3))", "divisible")]
+    elif kind == 10:
+        # by 0, by a sum, or by a term that isn't constant
+        d.nodes += [[0], [2], ["+", last + 1, last + 1], ["-", last], ["*", last + 1, last + 1], ["-", last + 1], ["-", last + 5]]
+        by = last + draw.choice([0, 2, 3, 4, 6])
+        last = len(d.nodes)
+        found = [["div", x, by], ["mod", x, by], ["div", x, last - 6, by], ["div", x, by, last - 2]]
     elif kind == 7:
         found = ["p", [], 0, [[]], ["and", "p"], ["and", ["not", b]], ["not", sign(-1)], ["not", "0.0"], [["true"]]]
     else:
@@ -325,7 +334,7 @@ def add_bad_node(d, draw):
             is_constant = f"(declare-const {name} " in "".join(d.declared)
             found += [[name, b]] if is_constant else [[name], [name, b, b, b]]
     node, place = chosen(draw, found), draw.choice([last, last, last, 0])
-    if place == 0 and kind in (0, 1, 8):
+    if place == 0 and kind in (0, 1, 8, 9, 10):
         place = last
     # what stood after it is one place later then: only the first fault counts
     d.nodes.insert(place, node)
@@ -427,6 +436,7 @@ def malformed(d, draw):
         d.steps[n] = draw.choice(["res", 0, [], [[]], ["res"]])
     elif kind == 4:
         d.steps[n] = ["euclid", draw.randrange(len(d.nodes)), draw.randrange(3)]
+        return None
     elif kind == 5:
         step[1] = draw.choice(["p", sign(-1), "0.0", "#b0", []])
     elif kind == 6:
@@ -492,6 +502,56 @@ def no_head(d, draw):
     d.style = draw.choice([with_definition, with_names])
     d.nodes.append(["dd" if d.style is with_definition else "nn"])
     return f"node {len(d.nodes) - 1}"
+
+
+# -- divisions
+
+
+def other_row(d, draw):
+    """Another row of the same term."""
+    n = chosen(draw, steps_of(d, "euclid"))
+    d.steps[n][2] = draw.choice([k for k in range(4) if k != d.steps[n][2]])
+
+
+def no_such_row(d, draw):
+    n = chosen(draw, steps_of(d, "euclid"))
+    count = {"div": 2, "abs": 3}.get(d.nodes[d.steps[n][1]][0], 4)
+    d.steps[n][2] = draw.choice([count, count + 1, 2**64, 10**30])
+    return f"no {n}"
+
+
+def no_quotient(d, draw):
+    """The quotient that goes with a division is no term: another stands in its place."""
+    n = chosen(draw, steps_of(d, "euclid"))
+    i = d.steps[n][1]
+    head, *arguments = d.nodes[i]
+    if head in ("div", "abs") and len(arguments) < 3:
+        raise LookupError
+    q = chosen(draw, [m for m, node in enumerate(d.nodes) if node[0] == "div" and m != i])
+    d.nodes[q] = draw.choice([["mod", *d.nodes[q][1:3]], ["abs", d.nodes[q][1]], ["-", *d.nodes[q][1:]]])
+    return f"no {min(m for m in steps_of(d, 'euclid') if d.steps[m][1] == i or d.steps[m][1] == q)}" if not used_before(d, n, q, i) else None
+
+
+def used_before(d, n, q, i):
+    """A step before it may be spoiled, too."""
+    return any(s[0] != "euclid" or s[1] not in (q, i) for s in d.steps[:n]) or any(s[0] == "euclid" and s[1] == q for s in d.steps)
+
+
+def no_division(d, draw):
+    """A row of a term that is no division."""
+    n = chosen(draw, steps_of(d, "euclid"))
+    d.steps[n][1] = chosen(draw, [m for m, node in enumerate(d.nodes) if node[0] not in ("div", "mod", "abs") and not str(node[0]).startswith("(_")] + [len(d.nodes)])
+    return f"no {n}"
+
+
+def large_row(d, draw):
+    """Folding a row leaves the range."""
+    last, n = len(d.nodes), len(d.steps) - 1
+    d.nodes += [[MOST], ["-", last], ["div", last + 1, last], ["+", last, last], ["abs", last + 3], ["mod", last + 3, last], ["div", last + 3, last], ["(_ divisible 3)", last + 3]]
+    d.nodes += [[3], ["div", last + 3, last + 8], ["abs", last]]
+    i, row = draw.choice([(last + 2, 1), (last + 4, 0), (last + 4, 2), (last + 5, 3), (last + 6, 0), (last + 7, 2), (last + 7, 1)])
+    d.steps.insert(n, ["euclid", i, row])
+    return f"range {n}"
 
 
 # -- numbers past the end of the range
@@ -638,10 +698,10 @@ def other_stack(d, draw):
 SPOILERS = [
     leave_literal_out, leave_bound_out, add_literal, turn_sign, turn_round, other_multiplier, other_bound, add_bad_node, other_node, other_head, later_step,
     other_step, turn_steps, other_literal, other_assertion, other_place, no_end, no_such_index, other_index, malformed, ill_sorted, no_leaf, second_place,
-    no_head, large_number, large_sum, inner_sum, no_proof, other_stack,
+    no_head, large_number, large_sum, inner_sum, no_proof, other_stack, other_row, no_such_row, no_quotient, no_division, large_row,
 ]
 # how often each is taken, where not once
-OFTEN = {add_bad_node: 4, malformed: 4, no_proof: 5, large_number: 2, large_sum: 3, other_bound: 2, other_multiplier: 2, ill_sorted: 2, other_node: 2, other_stack: 2}
+OFTEN = {add_bad_node: 6, malformed: 4, no_proof: 5, large_number: 2, large_sum: 3, other_bound: 2, other_multiplier: 2, ill_sorted: 2, other_node: 2, other_stack: 2}
 
 
 # ---- rows
@@ -683,9 +743,13 @@ def spoiled_row(draw, limit, spoiler=None, number=None):
         sure = spoiler(d, draw)
     except LookupError:
         return None
+    count = len(d.steps)
     commands = d.commands or d.style(d, draw)
     if commands is None:
         return None
+    if len(d.steps) > count:
+        # a step joined before the last
+        sure = None
     proof = f"({show(d.nodes)} {show(d.steps)})" if d.tail is None else d.tail
     row = Row(name, spoiler.__name__, compact("".join(commands) + d.ask + proof, limit).encode("latin-1"))
     if len(row.data) >= limit or row.line == "yes":
@@ -694,7 +758,7 @@ def spoiled_row(draw, limit, spoiler=None, number=None):
     return row
 
 
-def table(seed, good=80, spoiled=120, limit=600):
+def table(seed, good=80, spoiled=120, limit=720):
     """Rows, all different: of good proofs of each kind in turn, and of each way to spoil one."""
     rows, seen = [], set()
 

@@ -17,6 +17,12 @@ returns-then-not-branch-clause-other c =
     let i = c.loop-i.i in
     λ e h. c.in_ok-add_same.ensures.other (ap Ok c.if-not-branch.true) (All-contains (IsLiteral t.declared t.trees) (differing xs ys) (differ_at xs ys i) h (differs_at xs ys i (omega arith) c.requires))
 
+pub returns-in_err-add_same-clause-atoms : goal.returns-in_err-add_same-clause-atoms
+returns-in_err-add_same-clause-atoms c = go_on_both c.args.clauses.now.atoms c.loop-i.clauses.atoms c.add_same.new.clauses.atoms c.loop-i.invariant.atoms c.add_same.ensures.atoms
+
+pub returns-then-not-branch-clause-atoms : goal.returns-then-not-branch-clause-atoms
+returns-then-not-branch-clause-atoms c = go_on_both c.args.clauses.now.atoms c.loop-i.clauses.atoms c.add_same.new.clauses.atoms c.loop-i.invariant.atoms c.add_same.ensures.atoms
+
 pub loop-i-preserved : goal.loop-i-preserved
 loop-i-preserved c =
     let t = c.args.terms.now in

@@ -13,3 +13,9 @@ loop-front-preserved c = (
 pub returns-clause-yes : goal.returns-clause-yes
 returns-clause-yes c = λ _.
     all_fronts c.loop-front.clauses.atoms c.args.codes.now c.args.terms.now c.args.backward.now c.args.fronts.now c.args.rears.now c.loop-front.front-index c.loop-front-test.false c.loop-front.invariant.1
+
+pub returns-in_err-has_pairs-clause-more : goal.returns-in_err-has_pairs-clause-more
+returns-in_err-has_pairs-clause-more c = extends_further c.args.clauses.now c.loop-front.clauses c.has_pairs.new.clauses c.loop-front.invariant.0 c.has_pairs.ensures.more
+
+pub returns-then-not-branch-clause-more : goal.returns-then-not-branch-clause-more
+returns-then-not-branch-clause-more c = extends_further c.args.clauses.now c.loop-front.clauses c.has_pairs.new.clauses c.loop-front.invariant.0 c.has_pairs.ensures.more

@@ -13,3 +13,9 @@ loop-rear-preserved c = (
 pub returns-clause-yes : goal.returns-clause-yes
 returns-clause-yes c = λ _.
     all_positive c.loop-rear.clauses.atoms c.args.codes.now c.args.terms.now c.args.backward.now c.args.rears.now c.args.front c.loop-rear.rear-index c.loop-rear-test.false c.loop-rear.invariant.1
+
+pub returns-in_err-has_pair-clause-more : goal.returns-in_err-has_pair-clause-more
+returns-in_err-has_pair-clause-more c = extends_further c.args.clauses.now c.loop-rear.clauses c.has_pair.new.clauses c.loop-rear.invariant.0 c.has_pair.ensures.more
+
+pub returns-then-not-branch-clause-more : goal.returns-then-not-branch-clause-more
+returns-then-not-branch-clause-more c = extends_further c.args.clauses.now c.loop-rear.clauses c.has_pair.new.clauses c.loop-rear.invariant.0 c.has_pair.ensures.more

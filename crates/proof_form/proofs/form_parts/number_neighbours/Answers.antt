@@ -24,3 +24,12 @@ loop-place-preserved c =
           c.in-Some.number c.number_pair.ensures.more (omega arith) c.loop-place-test.true c.loop-place.invariant.2 k.0 c.in_ok-push-in-Some.ensures.items,
       fits_more (relation_fits c.args.terms.now.trees c.args.relation) c.args.arguments.now c.loop-place.place (omega arith) c.loop-place-test.true c.loop-place.invariant.3 k.1,
     )
+
+pub returns-in_err-number-clause-more : goal.returns-in_err-number-clause-more
+returns-in_err-number-clause-more c = extends_further c.args.clauses.now c.loop-place.clauses c.number_pair.new.clauses c.loop-place.invariant.1 c.number_pair.ensures.more
+
+pub returns-in-None-clause-more : goal.returns-in-None-clause-more
+returns-in-None-clause-more c = extends_further c.args.clauses.now c.loop-place.clauses c.number_pair.new.clauses c.loop-place.invariant.1 c.number_pair.ensures.more
+
+pub returns-in_err-push-in-Some-clause-more : goal.returns-in_err-push-in-Some-clause-more
+returns-in_err-push-in-Some-clause-more c = extends_further c.args.clauses.now c.loop-place.clauses c.number_pair.new.clauses c.loop-place.invariant.1 c.number_pair.ensures.more

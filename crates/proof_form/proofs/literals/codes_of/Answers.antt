@@ -1,13 +1,25 @@
 use Rattle.std.proofs.Common.{Ok, ap, subst, arith, ◌∙◌}
 use Rattle.std.proofs.lemmas.List.Elements.{All-more}
 use Rattle.proof_meaning.specs.Proof.{IsLiteral}
-use Rattle.proof_form.proofs.ClausesCodes.{kept_on, go_on_both, codes_more}
+use Rattle.proof_form.proofs.ClausesCodes.{kept_on, go_on_both, code_goes_on, codes_more}
 use Rattle.proof_form.proofs.literals.codes_of.Goals as goal
+
+pub returns-in_err-add_code-clause-atoms : goal.returns-in_err-add_code-clause-atoms
+returns-in_err-add_code-clause-atoms c = go_on_both c.args.clauses.now.atoms c.loop-literal.clauses.atoms c.add_code.new.clauses.atoms c.loop-literal.invariant.atoms c.add_code.ensures.atoms
+
+pub returns-in_err-add_code-clause-codes : goal.returns-in_err-add_code-clause-codes
+returns-in_err-add_code-clause-codes c = λ n l. code_goes_on c.args.clauses.now.atoms c.add_code.new.clauses.atoms n l (go_on_both c.args.clauses.now.atoms c.loop-literal.clauses.atoms c.add_code.new.clauses.atoms c.loop-literal.invariant.atoms c.add_code.ensures.atoms)
 
 pub returns-in_err-add_code-clause-kept : goal.returns-in_err-add_code-clause-kept
 returns-in_err-add_code-clause-kept c =
     let i = c.loop-literal.invariant in
     kept_on c.args.clauses.now c.add_code.new.clauses (go_on_both c.args.clauses.now.atoms c.loop-literal.clauses.atoms c.add_code.new.clauses.atoms i.atoms c.add_code.ensures.atoms) (c.add_code.ensures.clauses ∙ i.clauses)
+
+pub returns-then-not-branch-clause-atoms : goal.returns-then-not-branch-clause-atoms
+returns-then-not-branch-clause-atoms c = go_on_both c.args.clauses.now.atoms c.loop-literal.clauses.atoms c.add_code.new.clauses.atoms c.loop-literal.invariant.atoms c.add_code.ensures.atoms
+
+pub returns-then-not-branch-clause-codes : goal.returns-then-not-branch-clause-codes
+returns-then-not-branch-clause-codes c = λ n l. code_goes_on c.args.clauses.now.atoms c.add_code.new.clauses.atoms n l (go_on_both c.args.clauses.now.atoms c.loop-literal.clauses.atoms c.add_code.new.clauses.atoms c.loop-literal.invariant.atoms c.add_code.ensures.atoms)
 
 pub returns-then-not-branch-clause-kept : goal.returns-then-not-branch-clause-kept
 returns-then-not-branch-clause-kept c =
@@ -30,3 +42,6 @@ loop-literal-preserved c =
 
 pub returns-clause-kept : goal.returns-clause-kept
 returns-clause-kept c = kept_on c.args.clauses.now c.loop-literal.clauses c.loop-literal.invariant.atoms c.loop-literal.invariant.clauses
+
+pub returns-clause-codes : goal.returns-clause-codes
+returns-clause-codes c = λ n l. code_goes_on c.args.clauses.now.atoms c.loop-literal.clauses.atoms n l c.loop-literal.invariant.atoms
