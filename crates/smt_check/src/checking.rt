@@ -16,9 +16,9 @@ use crate::intake::{Halt, Intake};
 use crate::line::{line, status};
 use ports::{Put, Sink, Source};
 use proof_form::{Found, judge};
+use proof_meaning::{good_proof_leaves_no_model, named_assertions_have_no_model};
 use scope_stack::Assertion;
 use session::{LastCheck, Session};
-use proof_meaning::{good_proof_leaves_no_model, named_assertions_have_no_model};
 use smt_meaning::{SExpr, Settings, TermId};
 use std::alloc::{AllocError, Global};
 
