@@ -1,5 +1,5 @@
 -- The terms that a proof writes.
-use Rattle.std.specs.Prelude.{◌≡◌, ℕ, ℤ, pos, Bool, List, [], ◌∷◌, Option, Some, None}
+use Rattle.std.specs.Prelude.{◌≡◌, ℕ, pos, Bool, List, [], ◌∷◌, Option, Some, None}
 use Rattle.std.specs.Borrow.{Bor}
 use Rattle.smt_meaning.specs.declared.tokens.Word.{Word}
 use Rattle.smt_meaning.specs.declared.tokens.Token.{Token}
