@@ -13,6 +13,7 @@ use Rattle.proof_form.specs.declared.form_parts.Relation.{Relation}
 use Rattle.proof_form.specs.declared.form_parts.Relation.TheVariants.{Equal, AtMost as IsAtMost, Less, AtLeast, Greater}
 use Rattle.proof_form.specs.Range.{neighbours_fit, neighbours_fit_from}
 use Rattle.proof_form.specs.Kept.{Kept, GoOn}
+use Rattle.proof_form.proofs.ClausesCodes.{code_goes_on, kept_on}
 use Rattle.proof_form.specs.FormParts.{IsNumberOf, AreNumbersOf, Extends, relation_atom}
 
 -- ---- more atoms
@@ -23,6 +24,10 @@ extends_itself k = record { atoms = ([], nothing_more k.atoms); clauses = refl; 
     nothing_more : (xs : List Atom) → xs ≡ xs ++ []
     nothing_more [] = refl
     nothing_more (x ∷ xs) = ap (λ ys. x ∷ ys) (nothing_more xs)
+
+-- by one atom, or by none
+pub extends_by : (old new : Kept) → GoOn old.atoms new.atoms → new.clauses ≡ old.clauses → Extends old new
+extends_by old new g e = record { atoms = g; clauses = e; codes = λ c l. code_goes_on old.atoms new.atoms c l g; kept = kept_on old new g e }
 
 pub extends_further : (a b c : Kept) → Extends a b → Extends b c → Extends a c
 extends_further a b c f g = record {
