@@ -1,21 +1,20 @@
 -- How a run ends.
-use Rattle.std.proofs.Common.{◌≡◌, ◌∙◌, ℕ, ◌<◌, ◌≤◌, ◌↔◌, ◌⊎◌, Bool, true, false, List, [], length, append-nil, arith, refl, sym, ap, subst, inl, inr, Option, Some, None, Ok, Err}
+use Rattle.std.proofs.Common.{◌≡◌, ◌∙◌, ℕ, ◌<◌, ◌≤◌, ◌↔◌, ◌⊎◌, Bool, List, [], append-nil, arith, refl, sym, subst, inl, inr, Option, Some, None, Ok, Err}
 use Rattle.std.specs.Prelude.{IfSome}
 use Rattle.std.specs.Io.KnownBytes.{Appends}
 use Rattle.smt_meaning.specs.Sexp.{Sexp, sexp}
 use Rattle.smt_meaning.specs.Stack.{Frame}
-use Rattle.smt_meaning.specs.State.{State, checked_frames}
-use Rattle.ports.specs.Flow.{SourceTold, SinkTold, Rose}
+use Rattle.smt_meaning.specs.State.{checked_frames}
+use Rattle.ports.specs.Flow.{SourceTold, SinkTold}
 use Rattle.proof_form.specs.declared.found.Found.{Found}
 use Rattle.proof_form.specs.declared.found.Found.TheVariants.{Yes, Node, No, Range, NoProof}
 use Rattle.proof_form.specs.Found.{IsFound, IsGoodInRange}
 use Rattle.smt_check.specs.declared.checking.CheckEnded.{CheckEnded}
 use Rattle.smt_check.specs.declared.intake.Halt.{Halt}
 use Rattle.smt_check.specs.declared.intake.Halt.TheVariants.{Memory, ReadFault, TooLong}
-use Rattle.smt_check.specs.Folds.{IsOpen}
-use Rattle.smt_check.specs.Lines.{IsStatus, status_of, line_of}
+use Rattle.smt_check.specs.Lines.{IsStatus, status_of}
 use Rattle.smt_check.specs.Checked.{Read, Finds, without, judged, Refutes, IsRefuted, IsChecked, IsWritten, IsTorn, Writes}
-use Rattle.smt_check.specs.Progress.{Comes, CutOff}
+use Rattle.smt_check.specs.Progress.{Comes}
 use Rattle.smt_check.specs.Told.{IsTold, whole, torn, untold, statuses}
 use Rattle.smt_check.proofs.Takings.{RoseBy-none, read_nothing}
 

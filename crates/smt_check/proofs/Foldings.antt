@@ -1,5 +1,5 @@
 -- How commands are folded, and what is found behind them.
-use Rattle.std.proofs.Common.{◌≡◌, ◌∙◌, ℕ, Bool, true, false, List, [], ◌++◌, refl, sym, ap, subst, Option, Some, None, Ok, Err, arith}
+use Rattle.std.proofs.Common.{◌≡◌, ℕ, true, false, List, [], ◌++◌, sym, ap, subst, Some, None, Ok, Err, arith}
 use Rattle.smt_meaning.specs.declared.answers.Reply.{Reply}
 use Rattle.smt_meaning.specs.declared.replies.Kept.{Kept}
 use Rattle.smt_meaning.specs.declared.tokens.Token.{Token}
@@ -16,9 +16,9 @@ use Rattle.session.specs.LastCheck.{is_after_check}
 use Rattle.smt_check.specs.declared.intake.Halt.{Halt}
 use Rattle.smt_check.specs.declared.intake.Intake.{Intake}
 use Rattle.smt_check.specs.Taken.{every_stack}
-use Rattle.smt_check.specs.Folds.{settings, get_proof, no_command, next_command, HasNoProof, unasked, exits, unchecked, unproved, IsOpen, before_question, before_proof}
-use Rattle.smt_check.specs.Checked.{Read, Whatever, without, judged}
-use Rattle.smt_check.specs.Progress.{folded, past, Reached, EndsAt, IsOpenAt, SoFar, CutOff, IsNext, IsAsked, Comes}
+use Rattle.smt_check.specs.Folds.{settings, get_proof, no_command, next_command, unasked, exits, unchecked, unproved, IsOpen, before_question, before_proof}
+use Rattle.smt_check.specs.Checked.{without, judged}
+use Rattle.smt_check.specs.Progress.{folded, past, Reached, IsOpenAt, SoFar, IsNext, IsAsked, Comes}
 use Rattle.smt_check.proofs.Takings.{read_of, cut_as, RoseBy-none, Consumes-still}
 
 -- a run that begins

@@ -1,5 +1,5 @@
 -- What a good proof says.
-use Rattle.std.proofs.Common.{◌≡◌, ◌∙◌, List, [], ◌∷◌, ◌++◌, append-nil, refl, sym, ap, subst, Option, Some, None}
+use Rattle.std.proofs.Common.{◌≡◌, ◌∙◌, List, [], ◌∷◌, append-nil, refl, sym, ap, subst, Option, Some}
 use Rattle.std.specs.Prelude.{unwrap_or}
 use Rattle.smt_meaning.specs.declared.nodes.Node.{Node}
 use Rattle.proof_meaning.specs.declared.proof.Step.{Step}

@@ -1,12 +1,12 @@
 -- A report from each worker.
-use Rattle.std.proofs.Common.{◌≡◌, ◌∙◌, ℕ, ◌+◌, zero, suc, ℤ, List, [], ◌∷◌, ◌++◌, map, refl, sym, ap, subst, arith}
+use Rattle.std.proofs.Common.{◌≡◌, ◌∙◌, ℕ, ◌+◌, zero, suc, ℤ, List, [], ◌∷◌, ◌++◌, map, sym, ap, subst, arith}
 use Rattle.std.specs.List.{range_with_len}
 use Rattle.std.specs.Prelude.{All}
 use Rattle.std.proofs.lemmas.List.{map-append}
 use Rattle.std.proofs.lemmas.List.Elements.{All-append, All-cons, All-nil}
 use Rattle.smt_meaning.specs.declared.reports.Report.{Report}
 use Rattle.smt_meaning.specs.declared.reports.Cause.TheVariants.{Memory}
-use Rattle.smt_meaning.specs.Report.{AreReports, Shows}
+use Rattle.smt_meaning.specs.Report.{Shows}
 use Rattle.smt_meaning.specs.Stack.{Frame}
 use Rattle.smt_meaning.specs.Term.{Tree}
 

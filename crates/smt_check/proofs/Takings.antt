@@ -1,18 +1,18 @@
 -- What was taken from a source, and how a run stands after it.
-use Rattle.std.proofs.Common.{◌≡◌, ◌∙◌, ℕ, ◌+◌, ◌<◌, ◌≤◌, ◌≢◌, Bool, true, false, List, [], ◌++◌, length, length-append, append_assoc, append-nil, add-zero, arith, refl, sym, ap, subst, inl, inr, min, take, Option, Some, None, Ok, Err}
+use Rattle.std.proofs.Common.{◌≡◌, ◌∙◌, ℕ, ◌+◌, ◌<◌, ◌≤◌, ◌≢◌, Bool, true, false, List, [], ◌++◌, length, length-append, append_assoc, add-zero, arith, refl, sym, ap, subst, inl, inr, min, take, Option, Some, None, Ok}
 use Rattle.std.proofs.lemmas.Grind.{common_steps}
 use Rattle.std.specs.Prelude.{IfSome}
 use Rattle.std.specs.Io.KnownBytes.{Consumes, Keeps, IsAtEnd}
 use Rattle.smt_meaning.specs.declared.tokens.Token.{Token}
 use Rattle.smt_meaning.specs.declared.tokens.FaultKind.{FaultKind}
-use Rattle.smt_meaning.specs.Reading.{Unread, Answer, IsSExpr, IsSettled, MayFollow, Takes, ready, fault, end}
+use Rattle.smt_meaning.specs.Reading.{Unread, IsSettled, MayFollow, Takes, ready, fault, end}
 use Rattle.ports.specs.Flow.{SourceTold, Rose, RoseBy, raised_by}
 use Rattle.smt_check.specs.declared.intake.Halt.{Halt}
 use Rattle.smt_check.specs.declared.intake.Halt.TheVariants.{Memory, ReadFault, TooLong}
 use Rattle.smt_check.specs.declared.intake.Intake.{Intake}
 use Rattle.smt_check.specs.Folds.{IsOver}
-use Rattle.smt_check.specs.Checked.{Read, Whatever}
-use Rattle.smt_check.specs.Progress.{Phase, past, Reached, EndsAt, IsOpenAt, NoneSettled, SoFar, CutOff, IsNext, HasRoom, weight}
+use Rattle.smt_check.specs.Checked.{Read}
+use Rattle.smt_check.specs.Progress.{Phase, Reached, IsOpenAt, NoneSettled, SoFar, CutOff, IsNext, HasRoom, weight}
 
 pub not_true : ◌≡◌ {A = Bool} false true → ⊥
 not_true e = cc

@@ -1,5 +1,5 @@
 -- What an input is to the checker of proofs: commands that are folded up to (get-proof), however their checks are answered, and then an s-expression in the place of a proof (SMT-LIB 2.6, section 4.2.7).
-use Rattle.std.specs.Prelude.{◌≡◌, ◌⊎◌, ℕ, Bool, true, false, pos, List, [], ◌∷◌, ◌++◌, codes}
+use Rattle.std.specs.Prelude.{◌≡◌, ◌⊎◌, ℕ, true, false, pos, List, [], ◌∷◌, ◌++◌, codes}
 use Rattle.smt_meaning.specs.declared.settings.Settings.{Settings}
 use Rattle.smt_meaning.specs.declared.tokens.Token.{Token}
 use Rattle.smt_meaning.specs.declared.tokens.Token.TheVariants.{Enter, Leave, Symbol}

@@ -1,5 +1,5 @@
 -- What is told of what was found.
-use Rattle.std.specs.Prelude.{◌≡◌, ◌⊎◌, ℕ, Option, Some, None}
+use Rattle.std.specs.Prelude.{◌≡◌, ℕ, Some, None}
 use Rattle.ports.specs.Flow.{SinkTold, Rose}
 use Rattle.proof_form.specs.declared.found.Found.{Found}
 use Rattle.smt_check.specs.declared.intake.Halt.{Halt}

@@ -1,4 +1,4 @@
-use Rattle.std.proofs.Common.{◌≡◌, ◌∙◌, ◌<◌, ◌++◌, ℕ, List, length, map, All, ap, subst, sym}
+use Rattle.std.proofs.Common.{◌≡◌, ◌∙◌, ◌<◌, ◌++◌, length, map, All, ap, subst, sym}
 use Rattle.smt_meaning.specs.Stack.{assertions_of}
 use Rattle.smt_meaning.specs.State.{checked_frames}
 use Rattle.scope_stack.specs.declared.answers.Assertion.{Assertion}
