@@ -6,6 +6,7 @@ use Rattle.std.proofs.lemmas.List.Elements.{All-contains, Contains-append_right}
 use Rattle.smt_meaning.specs.declared.nodes.Node.{Node}
 use Rattle.smt_meaning.specs.declared.clauses.Literal.{Literal}
 use Rattle.proof_meaning.specs.declared.proof.Step.{Step}
+use Rattle.smt_meaning.specs.Declaration.{Declaration}
 use Rattle.smt_meaning.specs.Sexp.{Sexp, Sexps}
 use Rattle.smt_meaning.specs.Term.{Tree}
 use Rattle.smt_meaning.specs.Stack.{Frame, signature_of, assertions_of}
@@ -28,6 +29,9 @@ lists_same x a b c d h k =
 
 -- ---- terms
 
+term_over : (ds : List Declaration) (ts us : List Tree) (n : Node) → ts ≡ us → IsTerm ds ts n → IsTerm ds us n
+term_over ds ts us n e t = subst (λ v. IsTerm ds v n) e t
+
 -- where terms before it and it are by their rules, it isn't the wrong one
 not_wrong_node : (frames : List Frame) (x : Sexp) (n : ℕ) (w : IsWrongNode frames x n) (terms steps : Sexps) (before after : List Sexp) (nodes : List Node) (trees : List Tree)
     → lists_of x ≡ Some (terms, steps) → listed terms ≡ before ++ after → AreRead (node_read (signature_of frames)) before nodes → AreTerms (signature_of frames) nodes trees
@@ -41,7 +45,7 @@ not_wrong_node frames x n w terms steps before after nodes trees lists split rea
     let t : TermAt (signature_of frames) r.front r.this = term_at (signature_of frames) nodes trees good r.front r.this r.back r.split in
     let front : r.front ≡ w.nodes = read_same (node_read (signature_of frames)) w.before r.front w.nodes r.front_read w.read in
     let same : t.trees ≡ w.trees = terms_same (signature_of frames) r.front w.nodes t.trees w.trees t.terms w.good front in
-    w.wrong r.this r.this_read (subst (λ v. IsTerm (signature_of frames) v r.this) same t.term)
+    w.wrong r.this r.this_read (term_over (signature_of frames) t.trees w.trees r.this same t.term)
 
 node_not_come : (frames : List Frame) (x : Sexp) (n : ℕ) → IsWrongNode frames x n → (before after : List Sexp) (done : List Step) (clauses : List (List Literal))
     → ComesTo frames x before after done clauses → ⊥
