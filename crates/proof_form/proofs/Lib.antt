@@ -46,3 +46,7 @@ pub mod EuclidDivisions
 pub mod EuclidRanges
 pub mod EuclidLiterals
 pub mod EuclidJudging
+pub mod AloneLists
+pub mod AloneRules
+pub mod AloneRuns
+pub mod Alone

@@ -21,3 +21,4 @@ pub mod BoundCodes
 pub mod EuclidRows
 pub mod EuclidCodes
 pub mod FormPairs
+pub mod Alone

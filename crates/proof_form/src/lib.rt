@@ -3,6 +3,8 @@
 //! `judge`: an s-expression in the place of a proof is judged against the assertions of a stack:
 //! what is found of it is exactly what the definition of good proofs says, as long as no number on
 //! the way leaves the range.
+//!
+//! `found_is_one`: the cases of what is found exclude one another.
 #![tactic(auto)]
 
 mod bound_codes;
@@ -22,6 +24,7 @@ mod form_pairs;
 mod form_parts;
 mod form_values;
 mod found;
+mod laws;
 mod literals;
 mod resolution;
 mod steps;
@@ -37,4 +40,5 @@ mod verdict;
 mod whole;
 
 pub use found::Found;
+pub use laws::found_is_one;
 pub use whole::judge;
