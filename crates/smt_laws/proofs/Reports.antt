@@ -1,10 +1,11 @@
 -- What may be shown with an answer by unknown, and what may not.
-use Rattle.std.proofs.Common.{◌≡◌, ℕ, Bool, true, false, List, [], ◌∷◌, refl, sym, ap, ◌∙◌, subst, inl, inr, ◌⊎◌, arith, pos, All, map, None, Some}
+use Rattle.std.proofs.Common.{◌≡◌, ℕ, Bool, true, false, List, [], ◌∷◌, refl, sym, ap, ◌∙◌, subst, inl, inr, ◌⊎◌, arith, ℤ, pos, All, map, None, Some}
 use Rattle.std.proofs.lemmas.List.Elements.{All-nil, All-cons, All-head, Contains-push, Contains-append_left, Contains-append_right, Contains-append_cases, Contains-push_cases}
 use Rattle.std.specs.Prelude.{codes, Contains, length}
 use Rattle.fraction128.specs.declared.Summand.{Summand}
 use Rattle.fraction128.specs.Lines.{AreSums}
-use Rattle.smt_meaning.specs.declared.values.Sort.TheVariants.{Bool as Truths}
+use Rattle.smt_meaning.specs.declared.values.Sort.{Sort}
+use Rattle.smt_meaning.specs.declared.values.Sort.TheVariants.{Bool as Truths, Int as Ints}
 use Rattle.smt_meaning.specs.declared.options.UnknownReason.TheVariants.{Memout, Incomplete}
 use Rattle.smt_meaning.specs.declared.terms.Head.TheVariants.{Symbol as Function}
 use Rattle.smt_meaning.specs.declared.tokens.Token.TheVariants.{Symbol}
@@ -20,8 +21,10 @@ use Rattle.smt_meaning.specs.declared.reports.Report.{Report}
 use Rattle.smt_meaning.specs.declared.replies.Kept.{Kept}
 use Rattle.smt_meaning.specs.declared.replies.Kept.TheVariants.{Reports}
 use Rattle.smt_meaning.specs.Declaration.{Declaration}
-use Rattle.smt_meaning.specs.Term.{Tree, node, none}
-use Rattle.smt_meaning.specs.Atoms.{stack_atoms}
+use Rattle.smt_meaning.specs.Term.{Tree, node, none, more, tree_at}
+use Rattle.smt_meaning.specs.Signature.{tree_sort}
+use Rattle.smt_meaning.specs.Stack.{signature_of}
+use Rattle.smt_meaning.specs.Atoms.{at_most_atom, stack_atoms}
 use Rattle.smt_meaning.specs.Report.{AreUnits, Shows, no_units, one_more_unit}
 use Rattle.smt_meaning.specs.State.{State, effect, start}
 use Rattle.smt_meaning.specs.MayReply.{Decided, MayReply}
@@ -162,36 +165,98 @@ no_equality c = elim (in_cases (Truth 0) p_is_q (Truth 1 ∷ []) c) [
 pub no_sums : (Known : List Summand → Type 0) → AreSums Known []
 no_sums Known = record { apart = λ i j d l m. absurd (omega (arith, m)); filled = All-nil _; known = All-nil _ }
 
--- that p is q is an atom of the check, which wasn't numbered at its start
-one_unit : AreUnits both_asserted.stack.trees both_asserted.stack.frames [] [] (pos 1) 0 (Numbered p_is_q ∷ [])
+-- that two Bools are one is no unit, though it is an atom of the check
+equality_of_bools : (limit : ℤ) (w : ℕ) → AreUnits both_asserted.stack.trees both_asserted.stack.frames [] [] limit w (Numbered p_is_q ∷ []) → ⊥
+equality_of_bools limit w u = int_false ((u [] [] (Numbered p_is_q) refl).of_integers 0 1 Truths refl refl)
+  where
+    int_false : Truths ≡ Ints → ⊥
+    int_false e = cc
+
+-- ---- two integers of which one function is asserted, under a limit of one unit
+
+abbrev integer_constant : ℕ → List ℕ → Declaration
+integer_constant id n = record { id = id; name = n; rank = record { arguments = []; result = Ints }; body = None; is_sort = false; is_name = false }
+
+abbrev x_tree : Tree
+x_tree = node (Function 0) none
+
+abbrev y_tree : Tree
+y_tree = node (Function 1) none
+
+abbrev holds_of : Tree → Tree
+holds_of t = node (Function 2) (more t none)
+
+abbrev holds_of_both : State
+holds_of_both = record both_asserted {
+  stack = record {
+    frames = record {
+      declared = integer_constant 0 (codes "x") ∷ integer_constant 1 (codes "y")
+          ∷ record { id = 2; name = codes "p"; rank = record { arguments = Ints ∷ []; result = Truths }; body = None; is_sort = false; is_name = false } ∷ [];
+      asserted = record { text = Symbol (codes "p") ∷ []; term = holds_of x_tree } ∷ record { text = Symbol (codes "p") ∷ []; term = holds_of y_tree } ∷ [];
+    } ∷ [];
+    given = 3;
+    trees = x_tree ∷ y_tree ∷ holds_of x_tree ∷ holds_of y_tree ∷ [];
+    global = false;
+  };
+}
+
+abbrev x_is_y : Atom
+x_is_y = Same 0 1
+
+abbrev left_of : Atom → ℕ
+left_of (Same i j) = i
+left_of _ = 0
+
+truths_alone : stack_atoms holds_of_both.stack.trees holds_of_both.stack.frames ≡ Truth 2 ∷ Truth 3 ∷ []
+unfolding stack_atoms
+truths_alone = refl
+
+no_equality_of_both : Contains (Truth 2 ∷ Truth 3 ∷ []) x_is_y → ⊥
+no_equality_of_both c = elim (in_cases (Truth 2) x_is_y (Truth 3 ∷ []) c) [
+  | inl e ↦ false_true (ap is_same e)
+  | inr d ↦ elim (in_cases (Truth 3) x_is_y [] d) [ inl e ↦ false_true (ap is_same e) | inr f ↦ none_in x_is_y f ]
+]
+
+-- that x is y is an atom of the check, which wasn't numbered at its start
+one_unit : AreUnits holds_of_both.stack.trees holds_of_both.stack.frames [] [] (pos 1) 0 (Numbered x_is_y ∷ [])
 one_unit =
-    one_more_unit both_asserted.stack.trees both_asserted.stack.frames [] [] (pos 1) 0 [] (Numbered p_is_q) (no_units both_asserted.stack.trees both_asserted.stack.frames [] [] (pos 1) 0)
+    one_more_unit holds_of_both.stack.trees holds_of_both.stack.frames [] [] (pos 1) 0 [] (Numbered x_is_y) (no_units holds_of_both.stack.trees holds_of_both.stack.frames [] [] (pos 1) 0)
     (
     record {
       of_check = inr (inl (
           record {
-            left = p_tree;
-            right = q_tree;
-            left_part = record { assertion = p_tree; asserted = in_head p_tree (q_tree ∷ []); part = inl refl };
-            right_part = record { assertion = q_tree; asserted = Contains-append_right (p_tree ∷ []) (q_tree ∷ []) q_tree (in_head q_tree []); part = inl refl };
+            left = x_tree;
+            right = y_tree;
+            left_part = record { assertion = holds_of x_tree; asserted = in_head (holds_of x_tree) (holds_of y_tree ∷ []); part = inr (inl (inl refl)) };
+            right_part = record { assertion = holds_of y_tree; asserted = Contains-append_right (holds_of x_tree ∷ []) (holds_of y_tree ∷ []) (holds_of y_tree) (in_head (holds_of y_tree) []); part = inr (inl (inl refl)) };
             one_sort = refl;
-            among = in_head p_is_q [];
+            among = in_head x_is_y (at_most_atom holds_of_both.stack.trees x_tree y_tree ∷ at_most_atom holds_of_both.stack.trees y_tree x_tree ∷ []);
           }
           ));
-      not_of_stack = λ c. no_equality (subst (λ xs. Contains xs p_is_q) atoms_are c);
-      new = λ c. none_in (Numbered p_is_q) c;
+      not_of_stack = λ c. no_equality_of_both (subst (λ xs. Contains xs x_is_y) truths_alone c);
+      of_integers = λ i j s e t. integers i j s e t;
+      new = λ c. none_in (Numbered x_is_y) c;
     }
     )
+  where
+    integers : (i j : ℕ) (s : Sort) → x_is_y ≡ Same i j → tree_sort (signature_of holds_of_both.stack.frames) (tree_at holds_of_both.stack.trees i) ≡ Some s → s ≡ Ints
+    integers i j s e t =
+        let first : 0 ≡ i = ap left_of e in
+        let int : Some Ints ≡ Some s = ap (λ n. tree_sort (signature_of holds_of_both.stack.frames) (tree_at holds_of_both.stack.trees n)) first ∙ t in
+        cc
 
-units_may_end : MayReply every both_asserted CheckSat Unknown (Reports (without_units (Numbered p_is_q ∷ []) ∷ [])) (record both_asserted { mode = In.Unknown Incomplete })
+abbrev ShownOfBoth : Report → Type 0
+ShownOfBoth r = Shows holds_of_both.stack.trees holds_of_both.stack.frames (pos 1) r.worker r.branches r.cause
+
+units_may_end : MayReply every holds_of_both CheckSat Unknown (Reports (without_units (Numbered x_is_y ∷ []) ∷ [])) (record holds_of_both { mode = In.Unknown Incomplete })
 unfolding MayReply effect
 units_may_end = (
-  without_units (Numbered p_is_q ∷ []) ∷ [],
+  without_units (Numbered x_is_y ∷ []) ∷ [],
   refl,
   record {
     one_each = refl;
     shown =
-        All-cons ShownHere (without_units (Numbered p_is_q ∷ [])) [] (record { count = refl; sums = []; known = no_sums _; are_branches = tt; units = one_unit }) (All-nil _);
+        All-cons ShownOfBoth (without_units (Numbered x_is_y ∷ [])) [] (record { count = refl; sums = []; known = no_sums _; are_branches = tt; units = one_unit }) (All-nil _);
   },
   refl,
 )

@@ -1,13 +1,15 @@
 -- What a worker shows that ended a check without an answer: the units that it spent, each of which did something new, or where a number left the range.
-use Rattle.std.specs.Prelude.{◌≡◌, ◌≢◌, ◌⊎◌, ℕ, zero, suc, ◌^◌, ◌≤◌, min, Bool, true, false, not, List, [], ◌∷◌, ◌++◌, map, length, ℤ, pos, int_le, unsigned_abs, All, AllPairs, Contains, if◌then◌else◌}
+use Rattle.std.specs.Prelude.{◌≡◌, ◌≢◌, ◌⊎◌, ℕ, zero, suc, ◌^◌, ◌≤◌, min, Bool, true, false, not, List, [], ◌∷◌, ◌++◌, map, length, ℤ, pos, int_le, unsigned_abs, All, AllPairs, Contains, Some, if◌then◌else◌}
 use Rattle.std.specs.List.{list_any, range_with_len}
 use Rattle.std.proofs.Common.{refl, subst, inl, inr}
 use Rattle.smt_meaning.specs.declared.options.UnknownReason.{UnknownReason}
 use Rattle.smt_meaning.specs.declared.options.UnknownReason.TheVariants.{Memout, Incomplete}
+use Rattle.smt_meaning.specs.declared.values.Sort.{Sort}
+use Rattle.smt_meaning.specs.declared.values.Sort.TheVariants.{Int as Ints}
 use Rattle.smt_meaning.specs.declared.terms.Operator.{Operator}
 use Rattle.smt_meaning.specs.declared.terms.Head.TheVariants.{Theory}
 use Rattle.smt_meaning.specs.declared.clauses.Atom.{Atom}
-use Rattle.smt_meaning.specs.declared.clauses.Atom.TheVariants.{Truth}
+use Rattle.smt_meaning.specs.declared.clauses.Atom.TheVariants.{Truth, Same}
 use Rattle.smt_meaning.specs.declared.clauses.Literal.{Literal}
 use Rattle.smt_meaning.specs.declared.clauses.Clause.{Clause}
 use Rattle.fraction128.specs.declared.Line.{Line}
@@ -19,7 +21,8 @@ use Rattle.smt_meaning.specs.declared.reports.Unit.TheVariants.{Learnt, Numbered
 use Rattle.smt_meaning.specs.declared.reports.Cause.{Cause}
 use Rattle.smt_meaning.specs.declared.reports.Cause.TheVariants.{Units, Range, Memory}
 use Rattle.smt_meaning.specs.declared.reports.Report.{Report}
-use Rattle.smt_meaning.specs.Term.{Tree, Trees, node}
+use Rattle.smt_meaning.specs.Term.{Tree, Trees, node, tree_at}
+use Rattle.smt_meaning.specs.Signature.{tree_sort}
 use Rattle.smt_meaning.specs.TreeShape.{place_of}
 use Rattle.smt_meaning.specs.Stack.{Frame, signature_of, assertions_of}
 use Rattle.smt_meaning.specs.Follows.{Follows}
@@ -86,10 +89,11 @@ pub record IsLearnt (ts : List Tree) (frames : List Frame) (branches : List Line
   pub no_two : AllPairs (λ (l m : Literal). l.atom ≢ m.atom) c.literals
   pub unforced : (clauses : List (List Literal)) → All (IsGiven ts frames worker earlier) clauses → Forces negated clauses c.literals → ⊥
 
--- an atom of the check that isn't one of the stack, and wasn't numbered before
+-- an atom of the check that isn't one of the stack, and wasn't numbered before; of equalities one of two Ints alone
 pub record IsNumbered (ts : List Tree) (frames : List Frame) (branches : List Line) (earlier : List Spent) (a : Atom) : Type 0 where
   pub of_check : IsCheckAtom ts frames branches a
   pub not_of_stack : Contains (stack_atoms ts frames) a → ⊥
+  pub of_integers : (i j : ℕ) (s : Sort) → a ≡ Same i j → tree_sort (signature_of frames) (tree_at ts i) ≡ Some s → s ≡ Ints
   pub new : Contains earlier (Numbered a) → ⊥
 
 -- which variables are basic after the pivots among these units

@@ -12,6 +12,8 @@
 //! `is_divisor`, `is_quotient_of`: whether a stored term is a numeral other than 0 or the negation
 //! of one, and whether it is the quotient of one stored term by another.
 //!
+//! `Steps`: how many steps calls over terms took, as clauses can bound it; it has no bytes.
+//!
 //! `terms_join_alike`, `questions_join_alike`, `lacks_room`: a term comes to the same sort and
 //! tree, or the same refusal, whatever terms were judged before, and those that it goes through
 //! join them in order; whether a list of terms lacks the room for others.
@@ -23,6 +25,7 @@ mod divisors;
 mod index;
 mod lookup;
 mod room;
+mod steps;
 mod store;
 mod term_store_hash;
 
@@ -30,6 +33,7 @@ pub use divisors::{is_divisor, is_quotient_of};
 pub use index::HashIndex;
 pub use lookup::{Named, find, hash};
 pub use room::lacks_room;
+pub use steps::Steps;
 pub use store::{InternError, Node, TermStore};
 pub use term_store_hash::mix;
 
