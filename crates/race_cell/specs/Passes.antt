@@ -1,5 +1,5 @@
 -- What callers see of a pass.
-use Rattle.std.specs.Prelude.{◌≡◌, Option}
+use Rattle.std.specs.Prelude.{◌≡◌, Option, false, []}
 use Rattle.atomic_table.specs.Seated.{TableId}
 use Rattle.race_model.specs.declared.shelf.Shelf.{Ghosts}
 use Rattle.race_model.specs.Shelves.{ShelfState}
@@ -16,6 +16,11 @@ module _ {S : Type 0} {G : Ghosts S} where
   -- the shelf as the race began
   abbrev pub base_of : (S → ShelfState) → Pass S G → ShelfState
   base_of state p = base_in state p.seat.me.0.base
+
+  -- the shelf isn't out with the pass
+  pub record HoldsNoSlot (p : Pass S G) : Type 0 where
+    pub none_out : p.seat.me.1 ≡ []
+    pub none_held : p.seat.me.0.holds ≡ false
 
   abbrev pub IsSamePass : Pass S G → Pass S G → Type 0
   IsSamePass p q = (q.seat.table_id ≡ p.seat.table_id) × (q.worker ≡ p.worker) × (q.seat.me.0.base ≡ p.seat.me.0.base)

@@ -1,3 +1,4 @@
+mod hostile;
 mod program;
 mod races;
 mod runs;
