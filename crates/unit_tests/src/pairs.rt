@@ -159,3 +159,33 @@ fn pairs_have_bounds(rt: HostRuntime) -> Result<(), Fail> {
     }
     Ok(())
 }
+
+/// x, and then 127 times the double of the term before.
+fn doubles(rt: &impl Abort, alloc: Global) -> Result<TermStore, InternError> {
+    let mut store = TermStore::new(alloc, 128);
+    let _x = intern(rt, &mut store, Head::Symbol(0), &[])?;
+    for place in 0..127 {
+        let _double = intern(rt, &mut store, Head::Theory(Operator::Add), &[place, place])?;
+    }
+    Ok(store)
+}
+
+#[test]
+fn a_double_leaves_the_range(rt: HostRuntime) -> Result<(), Fail> {
+    let store = doubles(&rt, rt.alloc())?;
+    let forms = forms_of(rt.alloc(), &store)?;
+    assert_eq!(rt; forms.len(), 128);
+    match forms.form(126) {
+        Ok(form) => {
+            assert_eq!(rt; form.constant, 0);
+            assert_eq!(rt; form.sum.len(), 1);
+            assert_eq!(rt; coefficient(form.sum, 0), 1 << 126);
+        }
+        Err(_) => assert!(rt; false),
+    }
+    match forms.form(127) {
+        Ok(_) => assert!(rt; false),
+        Err(part) => assert_eq!(rt; part, 127),
+    }
+    Ok(())
+}
