@@ -1,5 +1,5 @@
 -- What is known of the first terms of a list, where the list grows.
-use Rattle.std.proofs.Common.{◌≡◌, ◌⊎◌, inl, inr, ℕ, ◌<◌, ◌≤◌, List, [], length, take, Some, None, subst, sym, ◌∙◌, refl, arith}
+use Rattle.std.proofs.Common.{◌≡◌, ◌⊎◌, inl, inr, ℕ, ◌<◌, ◌≤◌, List, [], length, max, take, Some, None, subst, sym, ◌∙◌, refl, arith}
 use Rattle.std.specs.Prelude.{MatchOption}
 use Rattle.std.proofs.lemmas.List.{get_or-take, length-take, length-take-le, take_all}
 use Rattle.std.proofs.lemmas.Bool.{cases_lt}
@@ -78,3 +78,10 @@ cut_forms ts known len a = by (cases_lt len (length known))
     by (inr all) =
         let size = a.forms.size in
         subst (λ us. AreForms us (take len known)) (sym (take_all len ts (omega arith))) (subst (AreForms ts) (sym (take_all len known all)) a)
+
+-- where as many are known as there are, all are
+pub covered : (ts : List Tree) (old new : List Known) (count : ℕ) → count ≡ length ts → AreForms (take (length old) ts) old → AreForms (take (length new) ts) new → length new ≡ max (length old) count → AreForms ts new
+covered ts old new count c f g e =
+    let short : length old ≤ length ts = within ts old f in
+    let all : length ts ≤ length new = omega (arith, c, e, short) in
+    subst (λ us. AreForms us new) (take_all (length new) ts all) g

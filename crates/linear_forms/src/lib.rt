@@ -4,6 +4,9 @@
 //! the left: exactly the definition's where no number of the folding leaves the range, else the
 //! place of the part at which it does, whose arguments' foldings stay in the range.
 //!
+//! `LinearForms::cover_counted`: the forms of the first so many terms, with a count of steps, one for
+//! each term that wasn't known.
+//!
 //! Sums are in ascending order of places, without zero coefficients, and name no place past the
 //! term's own; want of memory keeps what was known.
 //!

@@ -1,5 +1,5 @@
 //! The linear forms of the terms of a store, by their places.
-ghost use Rattle.std.specs.Prelude.{◌≡◌, ◌+◌, ◌<◌, ◌≤◌, ◌++◌, [], ◌∷◌, length, take, All, OnOk, OnErr, IfOk, IfErr, IfSome, IfNone, Some, None};
+ghost use Rattle.std.specs.Prelude.{◌≡◌, ◌+◌, ◌<◌, ◌≤◌, ◌++◌, [], ◌∷◌, length, max, take, All, OnOk, OnErr, IfOk, IfErr, IfSome, IfNone, Some, None};
 ghost use Rattle.term_store.specs.Terms.{AreDifferent};
 ghost use Rattle.linear_forms.specs.Folding.{form_of};
 ghost use Rattle.linear_forms.specs.Table.{known_at, AreForms, AreFormsTo, HasFormsTo};
@@ -12,8 +12,9 @@ use crate::multiples::{Multiple, combine};
 use crate::nodes::{Work, fold_node};
 use smt_meaning::{Head, Summand, TermId};
 use std::alloc::{AllocError, Global};
-use std::marker::Model;
-use term_store::TermStore;
+use std::marker::{Brand, Model};
+use std::sync::ledger::{Blank, Ledger};
+use term_store::{Steps, TermStore};
 
 /// The form at a place, or the place of the part whose folding leaves the range.
 pub(crate) fn look<'a>(
@@ -146,46 +147,59 @@ fn add_place(
     }
 }
 
-/// Folds the terms of a list from a place on. An `Err` keeps what was folded before it.
-fn add_all(
+/// Folds the first terms of a list from a place on, each in one step. An `Err` keeps what was folded before it.
+fn add_all<L: Ledger>(
     entries: &mut Vec<Entry>,
     all: &mut Vec<Summand>,
     work: &mut Work,
     store: &TermStore,
+    count: u32,
+    steps: &mut Steps<L>,
 ) -> Result<(), AllocError>
     requires laid { AreLaid (length all.old.items) entries.old.items }
     requires ready { IsReady work.old }
     requires different { AreDifferent store.now.trees }
     requires within { length entries.old.items ≤ length store.now.trees }
+    requires count { count ≤ length store.now.trees }
     requires forms { AreFormsTo store.now.trees (length entries.old.items) (knowns all.old.items entries.old.items) }
     ensures laid { AreLaid (length all.new.items) entries.new.items }
     ensures ready { IsReady work.new }
-    ensures ok { OnOk result (AreFormsTo store.now.trees (length store.now.trees) (knowns all.new.items entries.new.items)) }
+    ensures ok { OnOk result (length entries.new.items ≡ max (length entries.old.items) count) }
     ensures kept { HasFormsTo store.now.trees (length entries.old.items) (knowns all.new.items entries.new.items) }
+    ensures rise { steps.old ≤ steps.new }
+    ensures few { steps.new + length entries.old.items ≤ steps.old + max (length entries.old.items) count }
+    ensures counted { OnOk result (steps.new + length entries.old.items ≡ steps.old + length entries.new.items) }
 {
-    let count = store.len();
+    let _known = store.len();
     for place in entries.len() as u32..count {
+        steps.tick();
         add_place(entries, all, work, store, place)?;
     }
     Ok(())
 }
 
-/// Folds the terms of a store that aren't known yet. An `Err` keeps what was folded before it.
-fn cover(
+/// Folds those of the first terms of a store that aren't known yet, each in one step. An `Err` keeps what was folded before it.
+fn cover<L: Ledger>(
     entries: &mut Vec<Entry>,
     all: &mut Vec<Summand>,
     work: &mut Work,
     store: &TermStore,
+    count: u32,
+    steps: &mut Steps<L>,
 ) -> Result<(), AllocError>
     requires table { IsTable entries.old.items all.old.items work.old }
     requires forms { AreForms (take (length (knowns all.old.items entries.old.items)) store.now.trees) (knowns all.old.items entries.old.items) }
+    requires count { count ≤ length store.now.trees }
     ensures table { IsTable entries.new.items all.new.items work.new }
-    ensures ok { OnOk result (AreForms store.now.trees (knowns all.new.items entries.new.items)) }
+    ensures ok { OnOk result (length (knowns all.new.items entries.new.items) ≡ max (length (knowns all.old.items entries.old.items)) count) }
     ensures kept { AreForms (take (length (knowns all.new.items entries.new.items)) store.now.trees) (knowns all.new.items entries.new.items) }
     ensures more { length (knowns all.old.items entries.old.items) ≤ length (knowns all.new.items entries.new.items) }
+    ensures rise { steps.old ≤ steps.new }
+    ensures few { steps.new + length (knowns all.old.items entries.old.items) ≤ steps.old + max (length (knowns all.old.items entries.old.items)) count }
+    ensures counted { OnOk result (steps.new + length (knowns all.old.items entries.old.items) ≡ steps.old + length (knowns all.new.items entries.new.items)) }
 {
     let _known = store.len();
-    add_all(entries, all, work, store)
+    add_all(entries, all, work, store, count, steps)
 }
 
 /// The linear forms of the first terms of a list, by their places, each folded once.
@@ -219,7 +233,7 @@ fn keep(entries: &mut Vec<Entry>, len: usize)
 }
 
 impl LinearForms {
-    ghost use Rattle.std.specs.Prelude.{◌≡◌, ◌<◌, ◌≤◌, [], length, take, List, OnOk, IfOk, IfErr};
+    ghost use Rattle.std.specs.Prelude.{◌≡◌, ◌+◌, ◌<◌, ◌≤◌, [], length, max, take, List, OnOk, IfOk, IfErr};
     ghost use Rattle.smt_meaning.specs.Term.{Tree};
     ghost use Rattle.linear_forms.specs.Folding.{form_of};
     ghost use Rattle.linear_forms.specs.Table.{AreForms, HasForm, IsOutside};
@@ -245,6 +259,46 @@ impl LinearForms {
         self.entries.len()
     }
 
+    /// Folds those of the first so many terms of a store that aren't known yet, where the known ones are its first: a step for each. So where nothing is known,
+    /// the form of a term is known after one step more than its number. An `Err`, for want of memory, keeps what was known and perhaps more.
+    pub fn cover_counted<L: Ledger>(
+        &mut self,
+        store: &TermStore,
+        count: u32,
+        steps: &mut Steps<L>,
+    ) -> Result<(), AllocError>
+        requires known { AreForms (take (length self.old) store.now.trees) self.old }
+        requires count { count ≤ length store.now.trees }
+        ensures ok { OnOk result (length self.new ≡ max (length self.old) count) }
+        ensures kept { AreForms (take (length self.new) store.now.trees) self.new }
+        ensures more { length self.old ≤ length self.new }
+        ensures rise { steps.old ≤ steps.new }
+        ensures few { steps.new + length self.old ≤ steps.old + max (length self.old) count }
+        ensures counted { OnOk result (steps.new + length self.old ≡ steps.old + length self.new) }
+    {
+        cover(
+            &mut self.entries,
+            &mut self.summands,
+            &mut self.work,
+            store,
+            count,
+            steps,
+        )
+    }
+
+    /// Folds the terms of a store that aren't known yet, its steps counted from 0.
+    fn cover_from<L: Ledger>(&mut self, store: &TermStore, blank: Blank) -> Result<(), AllocError>
+        requires name { blank.name ≡ L.name }
+        requires parts { blank.parts ≡ L.parts }
+        requires some { 0 < blank.parts }
+        requires known { AreForms (take (length self.old) store.now.trees) self.old }
+        ensures ok { OnOk result (AreForms store.now.trees self.new) }
+        ensures kept { AreForms (take (length self.new) store.now.trees) self.new }
+        ensures more { length self.old ≤ length self.new }
+    {
+        self.cover_counted(store, store.len(), &mut Steps::<L>::new(blank))
+    }
+
     /// Folds the terms of a store that aren't known yet, where the known ones are its first. An `Err`, for want of memory, keeps these and perhaps more.
     pub fn cover(&mut self, store: &TermStore) -> Result<(), AllocError>
         requires { AreForms (take (length self.old) store.now.trees) self.old }
@@ -252,7 +306,7 @@ impl LinearForms {
         ensures kept { AreForms (take (length self.new) store.now.trees) self.new }
         ensures more { length self.old ≤ length self.new }
     {
-        cover(&mut self.entries, &mut self.summands, &mut self.work, store)
+        self.cover_from::<Brand>(store, Blank::new(1))
     }
 
     /// Forgets the terms from this place on. It takes no memory.

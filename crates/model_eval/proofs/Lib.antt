@@ -6,3 +6,4 @@ pub mod KeepLemmas
 pub mod TableLemmas
 pub mod AscentLemmas
 pub mod RowLemmas
+pub mod PartLemmas

@@ -1,4 +1,5 @@
 pub mod Unfit
+pub mod Parts
 pub mod Fitted
 pub mod Walk
 pub mod Tables

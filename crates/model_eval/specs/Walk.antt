@@ -1,5 +1,5 @@
 -- How a term's parts are found and evaluated, a place at a time.
-use Rattle.std.specs.Prelude.{◌≡◌, ◌⊎◌, ℕ, ◌<◌, ◌≤◌, Bool, true, false, List, length, All, IsTrue, IsFalse, slice_index, slice_index_or}
+use Rattle.std.specs.Prelude.{◌≡◌, ◌⊎◌, ℕ, zero, suc, ◌<◌, ◌≤◌, Bool, true, false, List, [], ◌∷◌, ◌++◌, length, All, IsTrue, IsFalse, slice_index, slice_index_or}
 use Rattle.smt_meaning.specs.declared.values.Value.{Value}
 use Rattle.smt_meaning.specs.declared.values.Value.TheVariants.{Truth}
 use Rattle.smt_meaning.specs.Term.{Tree, Trees, node, none, more, tree_at, Interpretation, value, fits}
@@ -41,6 +41,16 @@ pub record AreAdded (places : List ℕ) (marks marks' : List Bool) : Type 0 wher
   pub kept : (i : ℕ) → is_marked marks i ≡ true → is_marked marks' i ≡ true
   pub added : All (λ i. is_marked marks' i ≡ true) places
   pub others : (i : ℕ) → is_marked marks' i ≡ true → (is_marked marks i ≡ true) ⊎ ((k : ℕ) × (k < length places) × (slice_index places k ≡ i))
+
+-- the trees so far, and one more where its place is marked
+abbrev pub with_part : Bool → Tree → List Tree → List Tree
+with_part true t parts = parts ++ t ∷ []
+with_part false t parts = parts
+
+-- the trees at the marked places below a bound
+abbrev pub parts_below : List Tree → List Bool → ℕ → List Tree
+parts_below trees marks zero = []
+parts_below trees marks (suc n) = with_part (is_marked marks n) (tree_at trees n) (parts_below trees marks n)
 
 -- ---- values
 

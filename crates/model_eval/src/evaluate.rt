@@ -1,5 +1,5 @@
 //! The values of a term's parts, in the order of their numbers.
-ghost use Rattle.std.specs.Prelude.{◌≡◌, ◌+◌, ◌<◌, [], length, map, slice_index, All, IsTrue, IfOk, IfErr, OnOk};
+ghost use Rattle.std.specs.Prelude.{◌≡◌, ◌+◌, ◌<◌, [], length, map, slice_index, All, IsTrue, IfOk, IfErr, OnOk, if◌then◌else◌};
 ghost use Rattle.smt_meaning.specs.Term.{tree_at, all_in_range};
 ghost use Rattle.smt_meaning.specs.Interpretation.{meaning};
 ghost use Rattle.term_store.specs.Terms.{AreDifferent};
@@ -11,7 +11,8 @@ use crate::operators::apply_head;
 use crate::tables::Tables;
 use smt_meaning::{Head, TermId, Value};
 use std::alloc::{AllocError, Global};
-use term_store::TermStore;
+use std::sync::ledger::Ledger;
+use term_store::{Steps, TermStore};
 
 /// The values of the parts so far: each term has a slot, and the values of those that are parts are kept by slot.
 #[derive(Drop)]
@@ -51,12 +52,13 @@ pub(crate) fn gather(
     Ok(())
 }
 
-/// The value of a node whose arguments have theirs.
-fn node_value(
+/// The value of a node whose arguments have theirs: one step.
+fn node_value<L: Ledger>(
     interp: &Tables<'_>,
     head: Head,
     places: &[TermId],
     found: &mut Found,
+    steps: &mut Steps<L>,
 ) -> Result<Option<Value>, AllocError>
     requires slots { All (λ i. i < length found.old.slots.items) places.now }
     requires values { All (λ i. slice_index found.old.slots.items i < length found.old.values.items) places.now }
@@ -64,18 +66,21 @@ fn node_value(
     ensures value { IfOk result (λ r. r ≡ fitted_head (meaning interp.now) head (map (value_at found.old.slots.items found.old.values.items) places.now)) }
     ensures slots { found.new.slots.items ≡ found.old.slots.items }
     ensures values { found.new.values.items ≡ found.old.values.items }
+    ensures step { steps.new ≡ steps.old + 1 }
 {
+    steps.tick();
     gather(&mut found.arguments, places, &found.slots, &found.values)?;
     Ok(apply_head(interp, head, &found.arguments))
 }
 
 /// Evaluates the next term of the store, where it is a part.
-pub(crate) fn add(
+pub(crate) fn add<L: Ledger>(
     found: &mut Found,
     interp: &Tables<'_>,
     store: &TermStore,
     marks: &[bool],
     id: TermId,
+    steps: &mut Steps<L>,
 ) -> Result<(), EvalError>
     requires term { id < length store.now.trees }
     requires next { length found.old.slots.items ≡ id }
@@ -86,11 +91,12 @@ pub(crate) fn add(
     ensures next { OnOk result (length found.new.slots.items ≡ id + 1) }
     ensures kept { OnOk result (AreKept (meaning interp.now) store.now.trees marks.now found.new.slots.items found.new.values.items) }
     ensures err { IfErr result (IsUnfitAt (meaning interp.now) store.now.trees marks.now id) }
+    ensures step { steps.new ≡ steps.old + (if is_marked marks.now id then 1 else 0) }
 {
     let slot = found.values.len() as u32;
     if marks[id as usize] {
         let node = store.node(id);
-        match node_value(interp, node.head, node.arguments, found)? {
+        match node_value(interp, node.head, node.arguments, found, steps)? {
             Some(value) => found.values.push(value)?,
             None => return Err(EvalError::Range(id)),
         }

@@ -72,6 +72,7 @@ pub(crate) fn parts_of(
     ensures marked { IfOk result (λ marks. AreMarked store.now.trees terms.now (length marks.items) 0 marks.items) }
     ensures below { IfOk result (λ marks. All (λ i. i < length marks.items) terms.now) }
     ensures within { IfOk result (λ marks. length marks.items ≤ length store.now.trees) }
+    ensures least { IfOk result (λ marks. (n : ℕ) → All (λ i. i < n) terms.now → length marks.items ≤ n) }
 {
     let mut marks = Vec::new(alloc);
     marks.resize(top_of(terms), false)?;

@@ -6,20 +6,20 @@ use Rattle.model_eval.proofs.evaluate.add.Goals as goal
 use Rattle.model_eval.proofs.evaluate.add.Goals.{then-marks-id+in_ok-value+in-Some+in_ok-push-in-Some, else-marks-id}
 
 pub node_value-requires-clause-values : goal.node_value-requires-clause-values
-node_value-requires-clause-values c =
+node_value-requires-clause-values g c =
     (node_gathered (meaning c.args.interp.now) c.args.store.now.trees c.args.marks.now c.args.found.now.slots.items c.args.found.now.values.items c.args.id
     c.node-node.result.head c.node-node.result.arguments.now c.requires.kept c.requires.next c.requires.different (c.requires.closed c.if-marks-id.true) c.requires.term
     c.node-node.ensures.tree c.node-node.ensures.earlier).slot
 
 pub node_value-requires-clause-ranges : goal.node_value-requires-clause-ranges
-node_value-requires-clause-ranges c =
+node_value-requires-clause-ranges g c =
     gathered_in_range (meaning c.args.interp.now) c.args.store.now.trees c.args.found.now.slots.items c.args.found.now.values.items c.node-node.result.arguments.now
     (node_gathered (meaning c.args.interp.now) c.args.store.now.trees c.args.marks.now c.args.found.now.slots.items c.args.found.now.values.items c.args.id
     c.node-node.result.head c.node-node.result.arguments.now c.requires.kept c.requires.next c.requires.different (c.requires.closed c.if-marks-id.true) c.requires.term
     c.node-node.ensures.tree c.node-node.ensures.earlier)
 
 pub returns-in-None-clause-err : goal.returns-in-None-clause-err
-returns-in-None-clause-err c = (
+returns-in-None-clause-err g c = (
   refl,
   c.if-marks-id.true,
   node_unfit (meaning c.args.interp.now) c.args.store.now.trees c.args.found.now.slots.items c.args.found.now.values.items c.node-node.result.arguments.now c.node-node.result.head
@@ -31,7 +31,7 @@ returns-in-None-clause-err c = (
 )
 
 pub returns-clause-kept : goal.returns-clause-kept
-returns-clause-kept c =
+returns-clause-kept g c =
     elim c.if-marks-id.branch [
       | then-marks-id+in_ok-value+in-Some+in_ok-push-in-Some w ↦
           rw (c.in_ok-push.ensures.items, w.found-is, w.in_ok-push-in-Some.ensures.items, w.in_ok-value.ensures.slots, w.in_ok-value.ensures.values)

@@ -23,3 +23,11 @@ returns-clause-within c =
     let least = c.top_of.ensures.least (length c.args.store.now.trees) c.requires in
     let marked = c.mark.ensures.size in
     grind (arith, common_steps)
+
+pub returns-clause-least : goal.returns-clause-least
+returns-clause-least c n h =
+    let e : c.resize.new.self.items ≡ replicate c.top_of.result false = grind (arith, common_steps) in
+    let size : length c.deref_mut.result.now ≡ c.top_of.result = ap length (c.deref_mut.ensures.value ∙ e) ∙ length-replicate c.top_of.result false in
+    let least = c.top_of.ensures.least n h in
+    let marked = c.mark.ensures.size in
+    grind (arith, common_steps)
