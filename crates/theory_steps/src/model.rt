@@ -8,7 +8,7 @@ ghost use Rattle.theory_steps.specs.Numbering.{IsWhole};
 ghost use Rattle.theory_steps.specs.Found.{IsFound};
 
 use crate::held::Held;
-use crate::values::values_of;
+use crate::values::{Untied, values_of};
 use atom_form::AtomNumbers;
 use exact_model::{Verdict, tables_make_true};
 use model_build::{Clash, Given, Modelled, PlaceValues, given_values, model_from};
@@ -35,18 +35,45 @@ fn given_by(
     marks: &[bool],
     atoms: &AtomNumbers,
     held: &Held,
+    untied: Untied,
 ) -> Result<Vec<Given>, AllocError>
     requires parts { AreSortedParts (signature_of stack.now.frames) stack.now.trees marks.now }
     requires whole { IsWhole stack.now marks.now atoms.now held.now }
     ensures { IfOk result (λ given. AreGiven (signature_of stack.now.frames) stack.now.trees given.items) }
 {
-    let chosen = values_of(alloc, stack, atoms, held)?;
+    let chosen = values_of(alloc, stack, atoms, held, untied)?;
     let values = PlaceValues {
         truths: &chosen.truths,
         numbers: &chosen.numbers,
         elements: &chosen.elements,
     };
     given_values(alloc, stack, marks, stack.sorts(), &values)
+}
+
+/// Whether a value is past the range.
+fn leaves_range(given: &[Given]) -> bool {
+    given.contains(&Given::PastRange)
+}
+
+/// What the terms are given: Ints that no bound ties differ, unless a value is past the range then. An `Err` is for want of memory.
+fn first_given(
+    alloc: Global,
+    stack: &Stack,
+    marks: &[bool],
+    atoms: &AtomNumbers,
+    held: &Held,
+) -> Result<Vec<Given>, AllocError>
+    requires parts { AreSortedParts (signature_of stack.now.frames) stack.now.trees marks.now }
+    requires whole { IsWhole stack.now marks.now atoms.now held.now }
+    ensures { IfOk result (λ given. AreGiven (signature_of stack.now.frames) stack.now.trees given.items) }
+{
+    let spread = given_by(alloc, stack, marks, atoms, held, Untied::Spread)?;
+    if leaves_range(&spread) {
+        let given = given_by(alloc, stack, marks, atoms, held, Untied::Zero)?;
+        Ok(given)
+    } else {
+        Ok(spread)
+    }
 }
 
 /// Tables that make each literal told true, if these do. An `Err` is for want of memory.
@@ -90,7 +117,7 @@ pub(crate) fn find_model(
     requires whole { IsWhole stack.now marks.now atoms.now held.now }
     ensures { IfOk result (IsFound stack.now atoms.now.atoms held.now.closure.log.items) }
 {
-    let given = given_by(alloc, stack, marks, atoms, held)?;
+    let given = first_given(alloc, stack, marks, atoms, held)?;
     match model_from(alloc, stack, &given)? {
         Modelled::Clash(clash) => Ok(Found::Apart(clash)),
         Modelled::Tables(tables) => evaluate(alloc, stack, marks, atoms, held, tables),

@@ -9,7 +9,7 @@ ghost use Rattle.theory_steps.specs.Steps.{IsStep};
 
 use crate::parts::{Parts, Progress};
 use crate::step::{Step, stop, stop_seeing};
-use crate::values::values_of;
+use crate::values::{Untied, values_of};
 use exact_model::{InModel, Unshown, shown_in_model};
 use model_build::PlaceValues;
 use search_port::Budget;
@@ -43,7 +43,13 @@ fn in_model(parts: &Parts<'_>, progress: &Progress) -> Result<InModel, Unshown>
     if !are_readable(&parts.marks, &parts.readable) {
         return Err(Unshown::Other);
     }
-    let chosen = values_of(parts.alloc, parts.stack, &progress.atoms, &progress.held)?;
+    let chosen = values_of(
+        parts.alloc,
+        parts.stack,
+        &progress.atoms,
+        &progress.held,
+        Untied::Zero,
+    )?;
     let values = PlaceValues {
         truths: &chosen.truths,
         numbers: &chosen.numbers,

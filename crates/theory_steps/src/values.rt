@@ -12,6 +12,15 @@ use scope_stack::Stack;
 use smt_meaning::Summand;
 use std::alloc::{AllocError, Global};
 
+/// What an Int is given that no bound ties.
+#[derive(Clone, Copy, PartialEq, Eq, Drop)]
+pub(crate) enum Untied {
+    /// The number of its class, so that Ints of two classes differ.
+    Spread,
+    /// 0, as its variable has it.
+    Zero,
+}
+
 /// A value for each place, by sort.
 #[derive(Drop)]
 pub(crate) struct Chosen {
@@ -67,26 +76,25 @@ fn bounded(alloc: Global, atoms: &AtomNumbers, count: u32) -> Result<Vec<bool>, 
     Ok(stands)
 }
 
-/// The value of a term's variable where it stands in a bound and the value is whole, and else the number of its class. Where differences lead, the number that their graph has comes first.
-fn number_of(held: &Held, stands: bool, place: u32, class: u32) -> i128 {
+/// The number of an Int that no bound ties.
+fn untied_number(untied: Untied, class: u32) -> i128 {
+    match untied {
+        Untied::Spread => class as i128,
+        Untied::Zero => 0,
+    }
+}
+
+/// The value of a term's variable where it stands in a bound and the value is whole. Where differences lead, it is the number that their graph has.
+fn tied_number(held: &Held, stands: bool, place: u32) -> Option<i128> {
     if leads(held) {
-        return match held.looked.differences.number(place) {
-            Some(number) => number,
-            None => class as i128,
-        };
+        return held.looked.differences.number(place);
     }
     if !stands {
-        return class as i128;
+        return None;
     }
     match held.bounds.value(place) {
-        Some(value) => {
-            if value.is_whole() {
-                value.numerator()
-            } else {
-                class as i128
-            }
-        }
-        None => class as i128,
+        Some(value) if value.is_whole() => Some(value.numerator()),
+        _ => None,
     }
 }
 
@@ -96,6 +104,7 @@ fn numbers(
     held: &Held,
     stands: &[bool],
     elements: &[u32],
+    untied: Untied,
 ) -> Result<Vec<i128>, AllocError>
     requires few { length elements.now < 2 ^ 32 }
     requires each { length stands.now ≡ length elements.now }
@@ -103,7 +112,11 @@ fn numbers(
 {
     let mut numbers = Vec::new(alloc);
     for place in 0..elements.len() {
-        numbers.push(number_of(held, stands[place], place as u32, elements[place]))?;
+        let number = match tied_number(held, stands[place], place as u32) {
+            Some(number) => number,
+            None => untied_number(untied, elements[place]),
+        };
+        numbers.push(number)?;
     }
     Ok(numbers)
 }
@@ -143,6 +156,7 @@ pub(crate) fn values_of(
     stack: &Stack,
     atoms: &AtomNumbers,
     held: &Held,
+    untied: Untied,
 ) -> Result<Chosen, AllocError>
     requires few { length stack.now.trees + 2 < 2 ^ 32 }
     requires held { IsHeld stack.now atoms.now.atoms held.now }
@@ -153,7 +167,7 @@ pub(crate) fn values_of(
     let count = stack.terms().len();
     let elements = classes(alloc, &held.closure.congruence, count)?;
     let stands = bounded(alloc, atoms, count)?;
-    let numbers = numbers(alloc, held, &stands, &elements)?;
+    let numbers = numbers(alloc, held, &stands, &elements, untied)?;
     let truths = truths(alloc, atoms, &held.closure.log, count)?;
     Ok(Chosen {
         truths,

@@ -1,6 +1,6 @@
 -- What the units of a search show.
 use Rattle.std.proofs.Common.{◌≡◌, ◌≢◌, inl, inr, ◌⊎◌, ℕ, ◌+◌, ◌-◌, ◌<◌, ◌≤◌, zero, suc, Bool, true, false, List, [], ◌∷◌, ◌++◌, map, length, All, Contains, get_or, subst, sym, ap, ◌∙◌, arith, refl, append_assoc}
-use Rattle.std.specs.Prelude.{ℤ, AllPairs, nat_lt}
+use Rattle.std.specs.Prelude.{ℤ, AllPairs, Some, nat_lt}
 use Rattle.std.proofs.lemmas.List.{take_all, append-nil, length-map}
 use Rattle.std.proofs.lemmas.List.Kept.{AllPairs-cons}
 use Rattle.std.proofs.lemmas.List.Elements.{All-head, All-tail, All-contains, All-map}
@@ -8,7 +8,9 @@ use Rattle.literals.specs.Signed.{Signed, opposite}
 use Rattle.clause_store.specs.Stored.{Kept, Stored}
 use Rattle.fraction128.specs.declared.Line.{Line}
 use Rattle.smt_meaning.specs.declared.clauses.Atom.{Atom}
-use Rattle.smt_meaning.specs.declared.clauses.Atom.TheVariants.{Truth}
+use Rattle.smt_meaning.specs.declared.values.Sort.{Sort}
+use Rattle.smt_meaning.specs.declared.values.Sort.TheVariants.{Bool as Truths, Int as Ints, Free}
+use Rattle.smt_meaning.specs.declared.clauses.Atom.TheVariants.{Truth, Same}
 use Rattle.smt_meaning.specs.declared.clauses.Literal.{Literal}
 use Rattle.smt_meaning.specs.declared.clauses.Clause.{Clause}
 use Rattle.smt_meaning.specs.declared.reports.Unit.{Unit as ShownUnit}
@@ -18,7 +20,8 @@ use Rattle.smt_meaning.specs.Term.{Tree, tree_at}
 use Rattle.smt_meaning.specs.TreeShape.{place_of}
 use Rattle.smt_meaning.specs.Parts.{AreInOrder}
 use Rattle.smt_meaning.specs.Interpretation.{Interprets}
-use Rattle.smt_meaning.specs.Stack.{Frame, assertions_of, up_to, depth, Satisfies}
+use Rattle.smt_meaning.specs.Signature.{tree_sort}
+use Rattle.smt_meaning.specs.Stack.{Frame, signature_of, assertions_of, up_to, depth, Satisfies}
 use Rattle.smt_meaning.specs.StackCommand.{Stack}
 use Rattle.smt_meaning.specs.Atoms.{stack_atoms}
 use Rattle.smt_meaning.specs.Follows.{Follows, FollowsFrom, follows, follows_from}
@@ -268,6 +271,11 @@ module _ (w : ℕ) (forgets : Bool) (of : IsOfWorker w forgets) (s : Stack) (bra
     not_of_stack : Contains (stack_atoms s.trees s.frames) (atom_at q.table n) → ⊥
     not_of_stack h = elim (of_stack (atom_at q.table n) h) [ inl i ↦ not_of_first i | inr b ↦ other b ]
 
+    of_integers : (i j : ℕ) (sort : Sort) → atom_at q.table n ≡ Same i j → tree_sort (signature_of s.frames) (tree_at s.trees i) ≡ Some sort → sort ≡ Ints
+    of_integers i j (Free k) e f = absurd (other (record { left = i; right = j; sort = Free k; atom = e; has_sort = f; no_int = λ g. cc }))
+    of_integers i j Truths e f = absurd (other (record { left = i; right = j; sort = Truths; atom = e; has_sort = f; no_int = λ g. cc }))
+    of_integers i j Ints e f = refl
+
     not_earlier : (before : List Spent) → ((m : ℕ) → Contains before (Numbered m) → m < n) → (level : ℕ) → Contains (map (unit_of q.table level) before) (Shown.Numbered (atom_at q.table n)) → ⊥
     not_earlier before earlier level h =
         let r : ComesBy (unit_of q.table level) before (Shown.Numbered (atom_at q.table n)) = from_map (unit_of q.table level) before (Shown.Numbered (atom_at q.table n)) h in
@@ -287,4 +295,4 @@ module _ (w : ℕ) (forgets : Bool) (of : IsOfWorker w forgets) (s : Stack) (bra
             omega (arith, below, same)
 
     pub newly_numbered : (before : List Spent) → ((m : ℕ) → Contains before (Numbered m) → m < n) → (level : ℕ) → IsNumbered s.trees s.frames branches (map (unit_of q.table level) before) (atom_at q.table n)
-    newly_numbered before earlier level = record { of_check = last.atoms n (Truth 0) within; not_of_stack = not_of_stack; new = not_earlier before earlier level }
+    newly_numbered before earlier level = record { of_check = last.atoms n (Truth 0) within; not_of_stack = not_of_stack; of_integers = of_integers; new = not_earlier before earlier level }
