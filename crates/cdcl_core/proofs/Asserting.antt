@@ -11,7 +11,8 @@ use Rattle.conflict_learn.specs.Learning.{ComesFrom, IsLearnt, HaveOwnAtoms, IsF
 use Rattle.search_port.specs.Valid.{IsOver}
 use Rattle.search_port.specs.declared.budget.Lemma.{Lemma}
 use Rattle.cdcl_core.specs.Search.{IsAsserting, IsDrawn, IsLearntFrom, IsQuietBelow, IsSearched, IsTrueByLevel, literal_lists}
-use Rattle.cdcl_core.proofs.Depths.{false-from, false-up-to, in_cases, in_head, in_tail, quiet-two}
+use Rattle.cdcl_core.proofs.Depths.{false-from, false-up-to, quiet-two}
+use Rattle.clause_store.proofs.Filters.{in_head, in_tail, in_cases}
 
 sign_differs : (b : Bool) → b ≡ not b → ⊥
 sign_differs true e = cc

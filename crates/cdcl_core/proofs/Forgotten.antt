@@ -9,7 +9,7 @@ use Rattle.cdcl_core.specs.Search.{AreAmong}
 use Rattle.cdcl_core.specs.declared.forget.Forgetting.{Forgetting}
 use Rattle.cdcl_core.specs.Turns.{IsLasting, IsTidied}
 use Rattle.cdcl_core.specs.Forgetting.{AreMarked}
-use Rattle.cdcl_core.proofs.Depths.{kept_by}
+use Rattle.clause_store.proofs.Filters.{kept_by}
 
 not_same : (a b : ℕ) → (a ≡ b → ⊥) → not (a == b) ≡ true
 not_same a b h = by_test (eqb a b) refl

@@ -6,8 +6,9 @@ use Rattle.clause_store.specs.Trail.{Assigns, IsOpen, IsTrueOn, up_to}
 use Rattle.clause_store.specs.Stored.{IsQuiet}
 use Rattle.cdcl_core.specs.declared.quiet.Span.{Span}
 use Rattle.cdcl_core.specs.declared.quiet.Latest.{Latest}
-use Rattle.cdcl_core.specs.Quiet.{HasTrue, HasTwo, IsFrom, IsLatest, Lasts}
+use Rattle.cdcl_core.specs.Quiet.{HasTrue, HasTwo, IsLatest, Lasts}
 use Rattle.cdcl_core.proofs.Depths.{on-all, quiet-two, quiet-true}
+use Rattle.clause_store.specs.From.{IsFrom}
 
 pub open-lasts : (steps : List Step) (l : Signed) (until from : ℕ) → 2 ^ 32 ≤ from + 1 → IsOpen steps l → Lasts steps l (record { until = until; from = from })
 open-lasts steps l until from big o = record {

@@ -7,11 +7,6 @@ use Rattle.clause_store.specs.Stored.{IsFalseOn}
 use Rattle.cdcl_core.specs.declared.quiet.Span.{Span}
 use Rattle.cdcl_core.specs.declared.quiet.Latest.{Latest}
 
--- the literal is on the trail from this depth on
-pub record IsFrom (steps : List Step) (l : Signed) (depth : ℕ) : Type 0 where
-  pub before : (d : ℕ) → d < depth → Assigns (up_to d steps) l → ⊥
-  pub after : (d : ℕ) → depth ≤ d → Assigns (up_to d steps) l
-
 -- it isn't false below this depth
 abbrev pub LastsTo : List Step → Signed → ℕ → Type 0
 LastsTo steps l depth = (d : ℕ) → d < depth → IsFalseOn (up_to d steps) l → ⊥

@@ -4,7 +4,8 @@ ghost use Rattle.literals.specs.Signed.{Signed};
 ghost use Rattle.clause_store.specs.Trail.{Assigns};
 ghost use Rattle.clause_store.specs.declared.trail.Step.{Step};
 ghost use Rattle.cdcl_core.specs.Search.{IsQuietBelow};
-ghost use Rattle.cdcl_core.specs.Quiet.{IsFrom, IsLatest, Lasts};
+ghost use Rattle.clause_store.specs.From.{IsFrom};
+ghost use Rattle.cdcl_core.specs.Quiet.{IsLatest, Lasts};
 
 use clause_store::store::Store;
 use clause_store::trail::Status;

@@ -17,6 +17,7 @@ use Rattle.clause_store.specs.declared.lists.Watch.{Watch}
 use Rattle.clause_store.proofs.Watches.{below_or_at}
 use Rattle.clause_store.proofs.Sweeping.{live_within}
 use Rattle.clause_store.proofs.Adding.{entry_at-old, entry_at-new}
+use Rattle.clause_store.proofs.Filters.{none_in}
 
 pub at_filled : (es : List Entry) (i : ℕ) → entry_at (all_filled es) i ≡ filled (entry_at es i)
 at_filled [] i = refl
@@ -72,9 +73,6 @@ whole [] h = refl
 whole (e ∷ es) h =
     ap (λ (x : Entry). x ∷ all_filled es) (filled_same e (λ live none. h zero (record { live = live; none = none })))
     ∙ ap (λ (xs : List Entry). e ∷ xs) (whole es (λ i x. h (suc i) (record { live = x.live; none = x.none })))
-
-none_in : {X : Type 0} (x : X) → Contains [] x → ⊥
-none_in x h = omega (arith, h.1)
 
 pub none_empty : (atoms : ℕ) (es : List Entry) (lists : List (List Watch)) → IsWatching atoms es lists → (i : ℕ) → IsEmptyAt es i → ⊥
 none_empty atoms es lists w i x = none_in (entry_at es i).first (subst (λ (ls : List Signed). Contains ls (entry_at es i).first) x.none (w.pairs i x.live).first)

@@ -26,6 +26,7 @@ use Rattle.clause_store.proofs.Stores.{known_live}
 use Rattle.clause_store.proofs.Numbers.{apart_fresh}
 use Rattle.clause_store.specs.Empties.{IsEmptyAt, NamesEmpty, filled, all_filled}
 use Rattle.clause_store.proofs.Empties.{at_filled, length_filled, Fewer-filled}
+use Rattle.clause_store.proofs.Filters.{none_in}
 
 false_true : false ≡ true → ⊥
 false_true e = cc
@@ -42,9 +43,6 @@ one_more n i = omega arith
 
 KeptAt-after : (n : ℕ) (e : Entry) (es : List Entry) (c : Kept) → KeptAt (n + 1) es c → KeptAt n (e ∷ es) c
 KeptAt-after n e es c h = record { place = suc h.place; live = h.live; is = h.is ∙ ap (λ m. kept_of m (entry_at es h.place)) (one_more n h.place) }
-
-none_in : {X : Type 0} (x : X) → Contains [] x → ⊥
-none_in x h = omega (arith, h.1)
 
 kept_at-cons : (n : ℕ) (e : Entry) (es : List Entry) (c : Kept) (b : Bool) → e.live ≡ b → (Contains (kept_from (n + 1) es) c → KeptAt (n + 1) es c) → Contains (kept_from n (e ∷ es)) c → KeptAt n (e ∷ es) c
 kept_at-cons n e es c true is rest h =

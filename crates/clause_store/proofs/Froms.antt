@@ -21,16 +21,19 @@ no_step = record { literal = record { atom = 0; positive = true }; depth = 0; re
 abbrev pub step_at : List Step → ℕ → Step
 step_at steps k = get_or steps k no_step
 
-assigns_at : (steps : List Step) (k : ℕ) → k < length steps → Assigns steps (step_at steps k).literal
+-- a step's literal is on the trail
+pub assigns_at : (steps : List Step) (k : ℕ) → k < length steps → Assigns steps (step_at steps k).literal
 assigns_at steps k lt =
     (k, omega (arith, length-map steps (λ (s : Step). s.literal)), get_or-map (λ (s : Step). s.literal) steps k no_step (step_at steps k).literal lt)
 
+-- and each literal on it is a step's
 pub place_at : (steps : List Step) (l : Signed) → Assigns steps l → (k : ℕ) × (k < length steps) × ((step_at steps k).literal ≡ l)
 place_at steps l (k, lt, is) =
     let near : k < length steps = omega (arith, length-map steps (λ (s : Step). s.literal)) in
     (k, near, sym (get_or-map (λ (s : Step). s.literal) steps k no_step l near) ∙ is)
 
-assigns_before : (steps : List Step) (j k : ℕ) → j < k → k < length steps → Assigns (take k steps) (step_at steps j).literal
+-- a step below this place is on the trail before it
+pub assigns_before : (steps : List Step) (j k : ℕ) → j < k → k < length steps → Assigns (take k steps) (step_at steps j).literal
 assigns_before steps j k lt in' =
     subst (λ (s : Step). Assigns (take k steps) s.literal) (get_or-take k steps j no_step lt) (assigns_at (take k steps) j (omega (arith, length-take-le k steps (omega arith))))
 
@@ -38,7 +41,7 @@ before_apart : (steps : List Step) (j k : ℕ) → EachAfter IsFresh steps → j
 before_apart steps j k fresh lt in' e =
     (fresh k no_step in').0 (subst (Assigns (take k steps)) e (assigns_before steps j k lt in'))
 
-by_order : (j k : ℕ) → (j < k) ⊎ ((k < j) ⊎ (j ≡ k))
+pub by_order : (j k : ℕ) → (j < k) ⊎ ((k < j) ⊎ (j ≡ k))
 by_order j k = grind arith
 
 -- a literal has one step
@@ -48,11 +51,11 @@ same_place steps j k fresh lj lk e = elim (by_order j k) [
   | inr o ↦ elim o [ inl gt ↦ absurd (before_apart steps k j fresh gt lj (sym e)) | inr same ↦ same ]
 ]
 
-record IsStepUpTo (steps : List Step) (d : ℕ) (l : Signed) : Type 0 where
-  place : ℕ
-  within : place < length steps
-  literal : (step_at steps place).literal ≡ l
-  shallow : (step_at steps place).depth ≤ d
+pub record IsStepUpTo (steps : List Step) (d : ℕ) (l : Signed) : Type 0 where
+  pub place : ℕ
+  pub within : place < length steps
+  pub literal : (step_at steps place).literal ≡ l
+  pub shallow : (step_at steps place).depth ≤ d
 
 record IsAmong (steps : List Step) (d : ℕ) (s : Step) : Type 0 where
   here : Contains steps s
@@ -65,7 +68,7 @@ all_among steps d =
     λ k x lt. record { here = in' k x lt; shallow = leb-true _ d (le k x lt) }
 
 -- what is on the trail up to a depth is a step of at most that depth
-step_up_to : (steps : List Step) (d : ℕ) (l : Signed) → Assigns (up_to d steps) l → IsStepUpTo steps d l
+pub step_up_to : (steps : List Step) (d : ℕ) (l : Signed) → Assigns (up_to d steps) l → IsStepUpTo steps d l
 step_up_to steps d l on =
     let p = place_at (up_to d steps) l on in
     let a : IsAmong steps d (step_at (up_to d steps) p.0) = all_among steps d p.0 no_step p.1 in
@@ -82,7 +85,7 @@ literal_on : (steps : List Step) (s : Step) → Contains steps s → Assigns ste
 literal_on steps s c = subst (λ (t : Step). Assigns steps t.literal) (get_or_default steps c.0 no_step s c.1 ∙ c.2) (assigns_at steps c.0 c.1)
 
 -- and such a step is on it
-on_up_to : (steps : List Step) (d : ℕ) (s : Step) → Contains steps s → s.depth ≤ d → Assigns (up_to d steps) s.literal
+pub on_up_to : (steps : List Step) (d : ℕ) (s : Step) → Contains steps s → s.depth ≤ d → Assigns (up_to d steps) s.literal
 on_up_to steps d s c le =
     literal_on (up_to d steps) s (kept_by (λ (t : Step). nat_le t.depth d) steps s c (le-leb _ d le))
 

@@ -1,27 +1,28 @@
 -- One round of going through a literal's watches at a lower depth.
 use Rattle.std.proofs.Common.{◌≡◌, ℕ, ◌+◌, ◌*◌, ◌<◌, ◌≤◌, true, false, List, [], ◌∷◌, ◌++◌, All, Contains, length, get_or, set, subst, sym, ap, ◌∙◌, refl, inl, inr, ◌⊎◌, arith}
 use Rattle.std.specs.List.{swap_remove}
-use Rattle.std.proofs.lemmas.List.{length-set, set_comm, get_or-set_same}
-use Rattle.std.proofs.lemmas.List.Elements.{All-set, All-get_or, All-contains, All-weaker}
+use Rattle.std.proofs.lemmas.List.{length-set, get_or-set_same}
+use Rattle.std.proofs.lemmas.List.Elements.{All-get_or, All-contains, All-weaker}
 use Rattle.literals.specs.Signed.{Signed, opposite, packed}
 use Rattle.clause_store.specs.declared.trail.Step.{Step}
 use Rattle.clause_store.specs.Stored.{IsFalseOn}
 use Rattle.clause_store.specs.Entries.{Entry, entry_at, watches_of, IsKnown, IsOther}
 use Rattle.clause_store.specs.Visits.{Parts, Moves}
-use Rattle.clause_store.specs.Watching.{IsPair, IsOwn, IsSound, Grows, SameShape, kept_from, no_watch}
+use Rattle.clause_store.specs.Watching.{IsOwn, Grows, SameShape, kept_from, no_watch}
 use Rattle.clause_store.specs.Sweeps.{State, watching}
 use Rattle.clause_store.specs.Rested.{IsWaiting, Waits}
 use Rattle.clause_store.specs.Late.{IsCovered, IsReady, LateCovers, Pins, Shifts, LatePins, LateMoves, LateGives, LateSweeps, LateMeets}
 use Rattle.clause_store.specs.declared.lists.Watch.{Watch}
 use Rattle.clause_store.specs.declared.waits.Wait.{Wait}
 use Rattle.clause_store.specs.declared.sweep.Visit.TheVariants.{Keep, Gone, False}
-use Rattle.clause_store.proofs.Watches.{packed-injective, IsListed-set, IsListed-next, IsListed-from, IsListed-removed, All-removed}
-use Rattle.clause_store.proofs.Sweeping.{entry_at-same, entry_at-other, live_within, watches_of-other, IsWatched, watched_of, IsWatching-move, watched, SameShape-none, SameShape-trans, SameShape-watched}
-use Rattle.clause_store.proofs.Tidy.{IsTidy-keep, IsTidy-drop, IsTidy-move, own_in}
+use Rattle.clause_store.proofs.Watches.{IsListed-set, IsListed-next, IsListed-from, IsListed-removed}
+use Rattle.clause_store.proofs.Sweeping.{entry_at-other, live_within, watched, SameShape-none, SameShape-trans, SameShape-watched}
+use Rattle.clause_store.proofs.Tidy.{own_in}
 use Rattle.clause_store.proofs.Kept.{Grows-none, Grows-trans, Grows-assigns, kept_from-watched}
-use Rattle.clause_store.proofs.Rounds.{listed_own, sound_own, relist, at_place, with_list, known_at, other_in}
+use Rattle.clause_store.proofs.Rounds.{with_list, known_at, other_in}
 use Rattle.clause_store.proofs.Turning.{code_within}
 use Rattle.clause_store.proofs.LateDepths.{Late-step, pinned-waits, pins-grow, ready-pinned, ready-shaped, keeps-pinned, pinned-covered, moved-covered}
+use Rattle.clause_store.proofs.Relisting.{keep_watch, drop_watch, Moved, move_watch, at_place}
 
 pub Late-none : (atoms depth : ℕ) (f : Signed) (s : State) (ws : List Wait) → watching atoms f s → IsReady s.entries s.steps depth ws → LateSweeps atoms depth f s s ws ws 0
 Late-none atoms depth f s ws w ready = record {
@@ -51,88 +52,6 @@ Late-end atoms depth f old s us ws k le h = record {
 pub own_at : (atoms : ℕ) (f : Signed) (s : State) (k : ℕ) (w : Watch) → packed f < length s.lists → watching atoms f s → k < length s.list → w ≡ get_or s.list k w → ((entry_at s.entries w.row).first ≡ f) ⊎ ((entry_at s.entries w.row).second ≡ f)
 own_at atoms f s k w place h lt is =
     (subst (IsOwn s.entries f) (sym (at_place s.list k w lt is)) (All-get_or (IsOwn s.entries f) s.list k no_watch lt (own_in s.entries s.lists f s.list place h.tidy))).pair
-
--- ---- the lists
-
-keep_watch : (atoms : ℕ) (f : Signed) (es : List Entry) (lists : List (List Watch)) (steps : List Step) (ws : List Watch) (k : ℕ) (w : Watch) (b : Signed) → watching atoms f (record { entries = es; lists = lists; steps = steps; list = ws })
-    → k < length ws → w ≡ get_or ws k w → packed f < length lists → b.atom < atoms → ((entry_at es w.row).live ≡ true → Contains (entry_at es w.row).literals b)
-    → let v : Watch = record { blocker = b; row = w.row } in watching atoms f (record { entries = es; lists = lists; steps = steps; list = set ws k v })
-keep_watch atoms f es lists steps ws k w b h lt is place known contained =
-    let v : Watch = record { blocker = b; row = w.row } in
-    let here : w ≡ get_or ws k no_watch = at_place ws k w lt is in
-    let row_here : v.row ≡ (get_or ws k no_watch).row = ap (λ (x : Watch). x.row) here in
-    let s : State = record { entries = es; lists = lists; steps = steps; list = ws } in
-    let whole : IsWatched atoms es (set lists (packed f) ws) = watched_of atoms es (set lists (packed f) ws) h in
-    let sound_ws : All (IsSound atoms es) ws = sound_own atoms f s place whole in
-    let was : IsSound atoms es w = subst (IsSound atoms es) (sym here) (All-get_or (IsSound atoms es) ws k no_watch lt sound_ws) in
-    let sound_v : IsSound atoms es v = record { within = was.within; known = known; blocker = contained } in
-    relist atoms f es lists ws (set ws k v) place whole (All-set (IsSound atoms es) ws k v sound_v sound_ws)
-    (λ i live is_f. IsListed-set ws k 0 i v lt row_here (listed_own atoms f s i place whole live is_f))
-    (IsTidy-keep es lists f ws k v place lt row_here h.tidy)
-
-drop_watch : (atoms : ℕ) (f : Signed) (es : List Entry) (lists : List (List Watch)) (steps : List Step) (ws : List Watch) (k : ℕ) (w : Watch) → watching atoms f (record { entries = es; lists = lists; steps = steps; list = ws })
-    → k < length ws → w ≡ get_or ws k w → packed f < length lists → (entry_at es w.row).live ≡ false → watching atoms f (record { entries = es; lists = lists; steps = steps; list = swap_remove ws k w })
-drop_watch atoms f es lists steps ws k w h lt is place dead =
-    let here : w ≡ get_or ws k no_watch = at_place ws k w lt is in
-    let s : State = record { entries = es; lists = lists; steps = steps; list = ws } in
-    let whole : IsWatched atoms es (set lists (packed f) ws) = watched_of atoms es (set lists (packed f) ws) h in
-    let sound_ws : All (IsSound atoms es) ws = sound_own atoms f s place whole in
-    let row_is : (get_or ws k no_watch).row ≡ w.row = ap (λ (x : Watch). x.row) (sym here) in
-    relist atoms f es lists ws (swap_remove ws k w) place whole (All-removed (IsSound atoms es) ws k w lt sound_ws)
-    (λ i live is_f. IsListed-removed ws k 0 i w lt (omega arith)
-    (λ e. let same : w.row ≡ i = sym row_is ∙ e in true_false (sym live ∙ (ap (λ n. (entry_at es n).live) (sym same) ∙ dead)))
-    (listed_own atoms f s i place whole live is_f))
-    (IsTidy-drop es lists f ws k w place lt h.tidy)
-  where
-    true_false : true ≡ false → ⊥
-    true_false e = cc
-
-record Moved (atoms : ℕ) (f : Signed) (es : List Entry) (lists : List (List Watch)) (steps : List Step) (ws : List Watch) (k : ℕ) (w : Watch) (kept found : Signed) : Type 0 where
-  watch : let more : Watch = record { blocker = kept; row = w.row } in watching atoms f (record { entries = set es w.row (watched (entry_at es w.row) kept found); lists = set lists (packed found) (watches_of lists found ++ more ∷ []); steps = steps; list = swap_remove ws k w })
-  changed : entry_at (set es w.row (watched (entry_at es w.row) kept found)) w.row ≡ watched (entry_at es w.row) kept found
-  kept_f : kept ≡ f → ⊥
-
-move_watch : (atoms : ℕ) (f : Signed) (es : List Entry) (lists : List (List Watch)) (steps : List Step) (ws : List Watch) (k : ℕ) (w : Watch) (kept found : Signed) → watching atoms f (record { entries = es; lists = lists; steps = steps; list = ws })
-    → k < length ws → w ≡ get_or ws k w → packed f < length lists → (entry_at es w.row).live ≡ true → IsOther (entry_at es w.row) f kept → (found ≡ kept → ⊥) → (found ≡ f → ⊥) → Contains (entry_at es w.row).literals found → packed found < length lists
-    → Moved atoms f es lists steps ws k w kept found
-move_watch atoms f es lists steps ws k w kept found h lt is place live other apart found_f contained place_found =
-    let more : Watch = record { blocker = kept; row = w.row } in
-    let e = entry_at es w.row in
-    let here : w ≡ get_or ws k no_watch = at_place ws k w lt is in
-    let row_is : (get_or ws k no_watch).row ≡ w.row = ap (λ (x : Watch). x.row) (sym here) in
-    let lists' : List (List Watch) = set lists (packed found) (watches_of lists found ++ more ∷ []) in
-    let es' : List Entry = set es w.row (watched e kept found) in
-    let within : w.row < length es = live_within es w.row live in
-    let changed : entry_at es' w.row ≡ watched e kept found = entry_at-same es w.row (watched e kept found) within in
-    let is_kept : (e.first ≡ kept) ⊎ (e.second ≡ kept) = elim other.pair [ inl p ↦ inr p.1 | inr p ↦ inl p.1 ] in
-    let whole : IsWatched atoms es (set lists (packed f) ws) = watched_of atoms es (set lists (packed f) ws) h in
-    let own : watches_of (set lists (packed f) ws) found ≡ watches_of lists found = watches_of-other lists f found ws found_f in
-    let moved : IsWatched atoms es' (set (set lists (packed f) ws) (packed found) (watches_of (set lists (packed f) ws) found ++ more ∷ [])) =
-    IsWatching-move atoms es (set lists (packed f) ws) w.row kept found more whole live is_kept contained apart (omega (arith, length-set lists (packed f) ws)) refl refl in
-    let moved' : IsWatched atoms es' (set (set lists (packed f) ws) (packed found) (watches_of lists found ++ more ∷ [])) =
-    subst (λ xs. IsWatched atoms es' (set (set lists (packed f) ws) (packed found) (xs ++ more ∷ []))) own moved in
-    let swapped : set (set lists (packed f) ws) (packed found) (watches_of lists found ++ more ∷ []) ≡ set lists' (packed f) ws =
-    set_comm lists (packed f) (packed found) ws (watches_of lists found ++ more ∷ []) (λ x. found_f (packed-injective found f (sym x))) in
-    let after_move : IsWatched atoms es' (set lists' (packed f) ws) = subst (IsWatched atoms es') swapped moved' in
-    let place' : packed f < length lists' = omega (arith, length-set lists (packed found) (watches_of lists found ++ more ∷ [])) in
-    let s' : State = record { entries = es'; lists = lists'; steps = steps; list = ws } in
-    let sound_ws : All (IsSound atoms es') ws = sound_own atoms f s' place' after_move in
-    let pair : IsPair e = whole.pairs w.row live in
-    let kept_f : kept ≡ f → ⊥ = λ x.
-    let single : e.first ≡ e.second = elim other.pair [ inl p ↦ p.0 ∙ (sym x ∙ sym p.1) | inr p ↦ p.1 ∙ (x ∙ sym p.0) ] in
-    let first_kept : e.first ≡ kept = elim other.pair [ inl p ↦ p.0 ∙ sym x | inr p ↦ p.1 ] in
-    apart (All-contains (λ m. m ≡ e.first) e.literals found (pair.single single) contained ∙ first_kept) in
-    record {
-      watch = relist atoms f es' lists' ws (swap_remove ws k w) place' after_move (All-removed (IsSound atoms es') ws k w lt sound_ws)
-          (λ i is_live is_f. IsListed-removed ws k 0 i w lt (omega arith)
-          (λ x. let same : w.row ≡ i = sym row_is ∙ x in
-          let of_row : ((entry_at es' w.row).first ≡ f) ⊎ ((entry_at es' w.row).second ≡ f) = subst (λ m. ((entry_at es' m).first ≡ f) ⊎ ((entry_at es' m).second ≡ f)) (sym same) is_f in
-          elim (rw changed at of_row) [ inl a ↦ kept_f a | inr b ↦ found_f b ])
-          (listed_own atoms f s' i place' after_move is_live is_f))
-          (IsTidy-move es lists f ws k w w.row kept found more place place_found lt row_is within other apart found_f contained refl h.tidy);
-      changed = changed;
-      kept_f = kept_f;
-    }
 
 -- ---- rounds
 
@@ -174,7 +93,7 @@ late_dead atoms depth f old p us ws list k w h lt is place dead =
     let here : w ≡ get_or list k no_watch = at_place list k w lt is in
     let row_is : (get_or list k no_watch).row ≡ w.row = ap (λ (x : Watch). x.row) (sym here) in
     record {
-      watch = drop_watch atoms f p.entries p.lists p.steps list k w h.watch lt is place dead;
+      watch = drop_watch atoms f p.entries p.lists p.steps list k w h.watch lt is place (λ live. absurd (true_false (sym live ∙ dead)));
       covers = λ head c.
           Late-step head depth f (kept_from 0 p.entries) p.entries p.entries p.steps p.steps list (swap_remove list k w) k k ws ws w.row (h.covers head c) (Grows-none (kept_from 0 p.entries) depth p.steps) h.ready.deepest h.ready.deepest (λ n d x. x) (λ i ne. refl) refl
           (λ live. absurd (true_false (sym live ∙ dead)))

@@ -18,11 +18,12 @@ use Rattle.clause_store.specs.declared.lists.Watch.{Watch}
 use Rattle.clause_store.proofs.Watches.{packed-injective, below_or_at}
 use Rattle.clause_store.proofs.Sweeping.{equal_or_apart, watches_of-other}
 use Rattle.clause_store.proofs.Tidy.{own_in}
-use Rattle.clause_store.proofs.Rounds.{at_place}
+use Rattle.clause_store.proofs.Relisting.{at_place}
 use Rattle.clause_store.proofs.Turning.{code_within, turn-watching}
 use Rattle.clause_store.proofs.Counting.{AreApart-push}
 use Rattle.clause_store.proofs.Numbers.{at_most_more}
 use Rattle.clause_store.proofs.Adding.{entry_at-old, entry_at-new}
+use Rattle.clause_store.proofs.Filters.{none_in}
 
 -- ---- lists with their rooms
 
@@ -177,9 +178,6 @@ pub places : (es : List Entry) (lists : List (List Watch)) (rs rs' : List ℕ) (
 places es lists rs rs' ls tidy h more = All-weaker (λ (l : Signed). room_of rs l + 1 ≤ room_of rs' l) (HasPlace lists rs') (λ l m. let few : length (watches_of lists l) ≤ room_of rs l = listed_few es lists rs tidy h l in omega arith) ls more
 
 -- ---- one clause more
-
-none_in : {X : Type 0} (x : X) → Contains [] x → ⊥
-none_in x h = omega (arith, h.1)
 
 not_there : (x : Signed) (xs : List Signed) (l : Signed) → (x ≡ l → ⊥) → (Contains xs l → ⊥) → Contains (x ∷ xs) l → ⊥
 not_there x xs l first rest c = elim (Contains-append_cases (x ∷ []) xs l c) [

@@ -9,6 +9,7 @@ use Rattle.clause_store.specs.Looks.{AreApart}
 use Rattle.clause_store.specs.Room.{rows_of}
 use Rattle.clause_store.specs.declared.waits.Wait.{Wait}
 
+-- the literal is on the trail from this depth on
 pub record IsFrom (steps : List Step) (l : Signed) (depth : ℕ) : Type 0 where
   pub before : (d : ℕ) → d < depth → Assigns (up_to d steps) l → ⊥
   pub after : (d : ℕ) → depth ≤ d → Assigns (up_to d steps) l

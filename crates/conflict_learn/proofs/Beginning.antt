@@ -9,10 +9,10 @@ use Rattle.clause_store.specs.Stored.{Kept, HaveOwnIds}
 use Rattle.clause_store.specs.Found.{HasKept}
 use Rattle.clause_store.specs.Each.{EachAfter}
 use Rattle.clause_store.specs.TrailInvariant.{IsFresh}
-use Rattle.conflict_learn.proofs.Trails.{same_place}
 use Rattle.conflict_learn.specs.declared.analysis.Mark.TheVariants.{Unseen}
 use Rattle.conflict_learn.specs.Analysing.{State, is_unseen, is_seen, is_waiting, is_resolved, mark_at, step_at, empty_state, SeenAt, IsSound, IsFalseBelow, IsGreatest, TakesIn, Begins, pending}
 use Rattle.conflict_learn.proofs.Marks.{seen_where_waiting, seen_within, pending-none}
+use Rattle.clause_store.proofs.Froms.{same_place}
 
 unseen_at : (n k : ℕ) → mark_at (replicate n Unseen) k ≡ Unseen
 unseen_at n k = elim (below_or_past k n) [

@@ -1,8 +1,7 @@
 -- The learnt clause is what it is said to be.
-use Rattle.std.proofs.Common.{◌≡◌, ◌≢◌, ℕ, ◌-◌, ◌<◌, ◌≤◌, nat_le, cond, Bool, true, false, not, List, [], ◌∷◌, map, filter, length, take, Contains, All, subst, sym, ap, ◌∙◌, refl, inl, inr, ◌⊎◌, arith}
-use Rattle.std.proofs.lemmas.Bool.{le-leb, leb-true}
-use Rattle.std.proofs.lemmas.List.{get_or_default, take_all}
-use Rattle.std.proofs.lemmas.List.Elements.{All-head, All-tail, All-contains, All-weaker, All-filter, All-contains_itself, filter_passes, Contains-get_or, All-nil, All-cons}
+use Rattle.std.proofs.Common.{◌≡◌, ◌≢◌, ℕ, ◌-◌, ◌<◌, ◌≤◌, Bool, true, false, not, List, [], ◌∷◌, map, length, take, Contains, All, subst, sym, ap, ◌∙◌, refl, inl, inr, ◌⊎◌, arith}
+use Rattle.std.proofs.lemmas.List.{take_all}
+use Rattle.std.proofs.lemmas.List.Elements.{All-head, All-tail, All-contains, All-weaker, Contains-get_or, All-nil, All-cons}
 use Rattle.literals.specs.Signed.{Signed, opposite}
 use Rattle.clause_store.specs.declared.trail.Step.{Step}
 use Rattle.clause_store.specs.Each.{EachAfter}
@@ -12,12 +11,12 @@ use Rattle.clause_store.specs.Stored.{Kept, Stored, IsQuiet, IsFalseOn}
 use Rattle.clause_store.specs.Found.{HasKept}
 use Rattle.conflict_learn.specs.Analysing.{State, no_step, is_seen, is_waiting, is_resolved, mark_at, step_at, falsified, first_depth, AreApart, IsHeaded, IsSound, IsGrounded, IsOnly, IsSplit, IsGreatest, IsFalseBelow, Shrinks, StandsIn}
 use Rattle.conflict_learn.specs.Learning.{ComesFrom, HasPremiseAt, IsDrawn, IsFalseAt, IsFalseUpTo, IsGreatestDepth, HaveOwnAtoms, IsDeepest, IsLearnt}
-use Rattle.conflict_learn.proofs.Trails.{assigns_at, place_at, assigns_before}
 use Rattle.conflict_learn.proofs.Marks.{same_or_apart, seen_where_waiting, not_waiting_and_resolved, seen_within}
-use Rattle.conflict_learn.proofs.Places.{none_in, in_head, in_tail, in_cases}
 use Rattle.conflict_learn.proofs.Taking.{opposite_twice}
 use Rattle.conflict_learn.proofs.NotForced.{IsConsistent, IsDecidable, not_forced}
 use Rattle.conflict_learn.proofs.Truth.{true_wherever}
+use Rattle.clause_store.proofs.Froms.{assigns_before, by_order, step_up_to, on_up_to}
+use Rattle.clause_store.proofs.Filters.{none_in, in_head, in_tail, in_cases}
 
 -- ---- steps up to a depth
 
@@ -43,64 +42,12 @@ before_atoms steps j k fresh lt in' e = elim (two_signs (step_at steps j).litera
   | inr other ↦ (fresh k no_step in').1 (subst (Assigns (take k steps)) other (assigns_before steps j k lt in'))
 ]
 
-order : (j k : ℕ) → (j < k) ⊎ ((k < j) ⊎ (j ≡ k))
-order j k = grind arith
-
 -- an atom has one step
 pub same_atom : (steps : List Step) (j k : ℕ) → EachAfter IsFresh steps → j < length steps → k < length steps → (step_at steps j).literal.atom ≡ (step_at steps k).literal.atom → j ≡ k
-same_atom steps j k fresh lj lk e = elim (order j k) [
+same_atom steps j k fresh lj lk e = elim (by_order j k) [
   | inl lt ↦ absurd (before_atoms steps j k fresh lt lk e)
   | inr o ↦ elim o [ inl gt ↦ absurd (before_atoms steps k j fresh gt lj (sym e)) | inr same ↦ same ]
 ]
-
-record IsStepUpTo (steps : List Step) (d : ℕ) (l : Signed) : Type 0 where
-  place : ℕ
-  within : place < length steps
-  literal : (step_at steps place).literal ≡ l
-  shallow : (step_at steps place).depth ≤ d
-
-record IsAmong (steps : List Step) (d : ℕ) (s : Step) : Type 0 where
-  here : Contains steps s
-  shallow : s.depth ≤ d
-
-all_among : (steps : List Step) (d : ℕ) → All (IsAmong steps d) (up_to d steps)
-all_among steps d =
-    let in' : All (Contains steps) (up_to d steps) = All-filter (λ (s : Step). nat_le s.depth d) (Contains steps) steps (All-contains_itself steps) in
-    let le : All (λ (s : Step). nat_le s.depth d ≡ true) (up_to d steps) = filter_passes (λ (s : Step). nat_le s.depth d) steps in
-    λ k x lt. record { here = in' k x lt; shallow = leb-true _ d (le k x lt) }
-
--- what is on the trail up to a depth is a step of at most that depth
-step_up_to : (steps : List Step) (d : ℕ) (l : Signed) → Assigns (up_to d steps) l → IsStepUpTo steps d l
-step_up_to steps d l on =
-    let p = place_at (up_to d steps) l on in
-    let a : IsAmong steps d (step_at (up_to d steps) p.0) = all_among steps d p.0 no_step p.1 in
-    let c = a.here in
-    let same : step_at steps c.0 ≡ step_at (up_to d steps) p.0 = get_or_default steps c.0 no_step (step_at (up_to d steps) p.0) c.1 ∙ c.2 in
-    record {
-      place = c.0;
-      within = c.1;
-      literal = ap (λ (s : Step). s.literal) same ∙ p.2;
-      shallow = subst (λ (s : Step). s.depth ≤ d) (sym same) a.shallow;
-    }
-
-kept_by : (p : Step → Bool) (steps : List Step) (s : Step) → Contains steps s → p s ≡ true → Contains (filter p steps) s
-kept_by p [] s c on = absurd (none_in s c)
-kept_by p (t ∷ ts) s c on = elim (in_cases t s ts c) [
-  | inl e ↦ let now : p t ≡ true = ap p e ∙ on in rw now (subst (Contains (t ∷ filter p ts)) e (in_head t (filter p ts)))
-  | inr rest ↦ by_test (p t) (kept_by p ts s rest on)
-]
-  where
-    by_test : (b : Bool) → Contains (filter p ts) s → Contains (cond b (t ∷ filter p ts) (filter p ts)) s
-    by_test true h = in_tail t s (filter p ts) h
-    by_test false h = h
-
-literal_on : (steps : List Step) (s : Step) → Contains steps s → Assigns steps s.literal
-literal_on steps s c = subst (λ (t : Step). Assigns steps t.literal) (get_or_default steps c.0 no_step s c.1 ∙ c.2) (assigns_at steps c.0 c.1)
-
--- and such a step is on it
-on_up_to : (steps : List Step) (d k : ℕ) → k < length steps → (step_at steps k).depth ≤ d → Assigns (up_to d steps) (step_at steps k).literal
-on_up_to steps d k lt le =
-    literal_on (up_to d steps) (step_at steps k) (kept_by (λ (s : Step). nat_le s.depth d) steps (step_at steps k) (Contains-get_or steps k no_step lt) (le-leb _ d le))
 
 pub consistent_up_to : (steps : List Step) (d : ℕ) → EachAfter IsFresh steps → IsConsistent (up_to d steps)
 consistent_up_to steps d fresh l a b =
@@ -149,7 +96,7 @@ open_below steps d k fresh lt deep = (
 )
 
 pub false_up_to : (steps : List Step) (d k : ℕ) → k < length steps → (step_at steps k).depth ≤ d → IsFalseOn (up_to d steps) (falsified steps k)
-false_up_to steps d k lt le = subst (Assigns (up_to d steps)) (sym (opposite_twice (step_at steps k).literal)) (on_up_to steps d k lt le)
+false_up_to steps d k lt le = subst (Assigns (up_to d steps)) (sym (opposite_twice (step_at steps k).literal)) (on_up_to steps d (step_at steps k) (Contains-get_or steps k no_step lt) le)
 
 -- ---- literals of steps by their places
 

@@ -12,7 +12,8 @@ use Rattle.conflict_learn.specs.Analysing.{State, is_seen, is_waiting, is_resolv
 use Rattle.conflict_learn.proofs.Descent.{grounded_stays, resolves_stays}
 use Rattle.conflict_learn.proofs.Trails.{shallower}
 use Rattle.conflict_learn.proofs.Marks.{set_cases, unseen_or_seen, seen_where_waiting, seen_where_resolved, seen_within}
-use Rattle.conflict_learn.proofs.Places.{none_in, in_head, in_tail, in_cases, AreApart-push}
+use Rattle.conflict_learn.proofs.Places.{AreApart-push}
+use Rattle.clause_store.proofs.Filters.{none_in, in_head, in_tail, in_cases}
 
 -- ---- one place more
 

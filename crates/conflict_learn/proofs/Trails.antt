@@ -1,51 +1,23 @@
 -- Steps by their places: each literal has one, and a clause found by its id is the one that forced a step.
 use Rattle.std.proofs.Common.{◌≡◌, ℕ, ◌<◌, ◌≤◌, List, length, take, get_or, All, Some, None, subst, sym, ap, ◌∙◌, inl, inr, ◌⊎◌, arith}
-use Rattle.std.proofs.lemmas.List.{get_or-map, length-map, get_or-take, length-take-le}
+use Rattle.std.proofs.lemmas.List.{get_or-take, length-take-le}
 use Rattle.std.proofs.lemmas.List.Elements.{All-weaker}
 use Rattle.std.specs.List.Sorted.{IsNonDecreasingBy}
 use Rattle.literals.specs.Signed.{Signed, opposite}
 use Rattle.clause_store.specs.declared.trail.Step.{Step}
 use Rattle.clause_store.specs.Each.{EachAfter}
-use Rattle.clause_store.specs.TrailInvariant.{IsFresh, IsDecided}
+use Rattle.clause_store.specs.TrailInvariant.{IsDecided}
 use Rattle.clause_store.specs.Trail.{Assigns}
 use Rattle.clause_store.specs.Stored.{Kept, IsForced, IsJustified, IsFalseOn, HaveOwnIds}
 use Rattle.clause_store.specs.Found.{HasKept}
 use Rattle.conflict_learn.specs.Analysing.{no_step, step_at, IsFalseBelow, FollowsAt}
+use Rattle.clause_store.proofs.Froms.{place_at}
 
 pub same_some : {X : Type 0} (x y : X) → Some x ≡ Some y → x ≡ y
 same_some x y e = cc
 
--- a step's literal is on the trail
-pub assigns_at : (steps : List Step) (k : ℕ) → k < length steps → Assigns steps (step_at steps k).literal
-assigns_at steps k lt =
-    (k, omega (arith, length-map steps (λ (s : Step). s.literal)), get_or-map (λ (s : Step). s.literal) steps k no_step (step_at steps k).literal lt)
-
--- and each literal on it is a step's
-pub place_at : (steps : List Step) (l : Signed) → Assigns steps l → (k : ℕ) × (k < length steps) × ((step_at steps k).literal ≡ l)
-place_at steps l (k, lt, is) =
-    let near : k < length steps = omega (arith, length-map steps (λ (s : Step). s.literal)) in
-    (k, near, sym (get_or-map (λ (s : Step). s.literal) steps k no_step l near) ∙ is)
-
 at_take : (steps : List Step) (n k : ℕ) → k < n → step_at (take n steps) k ≡ step_at steps k
 at_take steps n k lt = get_or-take n steps k no_step lt
-
--- a step below this place is on the trail before it
-pub assigns_before : (steps : List Step) (j k : ℕ) → j < k → k < length steps → Assigns (take k steps) (step_at steps j).literal
-assigns_before steps j k lt in' =
-    subst (λ (s : Step). Assigns (take k steps) s.literal) (at_take steps k j lt) (assigns_at (take k steps) j (omega (arith, length-take-le k steps (omega arith))))
-
-before_apart : (steps : List Step) (j k : ℕ) → EachAfter IsFresh steps → j < k → k < length steps → (step_at steps j).literal ≡ (step_at steps k).literal → ⊥
-before_apart steps j k fresh lt in' e =
-    (fresh k no_step in').0 (subst (Assigns (take k steps)) e (assigns_before steps j k lt in'))
-
-order : (j k : ℕ) → (j < k) ⊎ ((k < j) ⊎ (j ≡ k))
-order j k = grind arith
-
-pub same_place : (steps : List Step) (j k : ℕ) → EachAfter IsFresh steps → j < length steps → k < length steps → (step_at steps j).literal ≡ (step_at steps k).literal → j ≡ k
-same_place steps j k fresh lj lk e = elim (order j k) [
-  | inl lt ↦ absurd (before_apart steps j k fresh lt lk e)
-  | inr o ↦ elim o [ inl gt ↦ absurd (before_apart steps k j fresh gt lj (sym e)) | inr same ↦ same ]
-]
 
 -- the steps before a place are no deeper than the step there
 pub shallower : (steps : List Step) (j k : ℕ) → IsNonDecreasingBy (λ (s : Step). s.depth) steps → j ≤ k → k < length steps → (step_at steps j).depth ≤ (step_at steps k).depth

@@ -8,7 +8,7 @@ use Rattle.conflict_learn.specs.declared.analysis.Mark.{Mark}
 use Rattle.conflict_learn.specs.Analysing.{State, is_seen, is_waiting, mark_at, step_at, falsified, SeenAt, IsSound, IsGrounded, IsResolvedAt}
 use Rattle.conflict_learn.specs.Learning.{PremisesTrue}
 use Rattle.conflict_learn.proofs.Marks.{waiting_or_resolved}
-use Rattle.conflict_learn.proofs.Places.{in_cases, in_head, in_tail, none_in}
+use Rattle.clause_store.proofs.Filters.{none_in, in_head, in_tail, in_cases}
 
 opposite_true : (values : ℕ → Bool) (l : Signed) → literal_true values (opposite l) ≡ true → literal_true values l ≡ false
 opposite_true values l h = by_sign l.positive (values l.atom) h

@@ -1,9 +1,9 @@
 use Rattle.std.proofs.Common.{◌≡◌, ℕ, ◌<◌, List, length, get_or, subst, sym, ap, ◌∙◌}
 use Rattle.std.proofs.lemmas.List.{get_or_default}
 use Rattle.clause_store.specs.declared.trail.Step.{Step}
-use Rattle.cdcl_core.specs.Quiet.{IsFrom}
-use Rattle.cdcl_core.proofs.Depths.{is-from, no_step}
 use Rattle.cdcl_core.proofs.quiet.depth_of.Goals as goal
+use Rattle.clause_store.proofs.Froms.{is-from, no_step}
+use Rattle.clause_store.specs.From.{IsFrom}
 
 pub returns : goal.returns
 returns c =

@@ -1,8 +1,8 @@
 use Rattle.std.proofs.Common.{subst, arith}
 use Rattle.literals.specs.Signed.{Signed}
-use Rattle.cdcl_core.specs.Quiet.{IsFrom}
 use Rattle.cdcl_core.proofs.Spans.{open-lasts, true-lasts, false-lasts}
 use Rattle.cdcl_core.proofs.quiet.span_of.Goals as goal
+use Rattle.clause_store.specs.From.{IsFrom}
 
 pub returns-in-Open : goal.returns-in-Open
 returns-in-Open c = open-lasts c.args.store.now.trail.steps c.args.literal 4294967295 4294967295 (omega arith) c.in-Open.ensures

@@ -1,8 +1,9 @@
 use Rattle.std.proofs.Common.{◌≡◌, ◌≤◌, ◌∙◌, sym, subst, arith}
 use Rattle.clause_store.specs.Trail.{Assigns}
 use Rattle.conflict_learn.specs.Analysing.{no_step, step_at}
-use Rattle.conflict_learn.proofs.Trails.{same_place, assigns_at, known_on}
+use Rattle.conflict_learn.proofs.Trails.{known_on}
 use Rattle.conflict_learn.proofs.reasons.place_of.Goals as goal
+use Rattle.clause_store.proofs.Froms.{assigns_at, same_place}
 
 pub place-requires-clause-assigned : goal.place-requires-clause-assigned
 place-requires-clause-assigned c =
