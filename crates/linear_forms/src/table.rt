@@ -168,6 +168,7 @@ fn add_all<L: Ledger>(
     ensures kept { HasFormsTo store.now.trees (length entries.old.items) (knowns all.new.items entries.new.items) }
     ensures rise { steps.old ≤ steps.new }
     ensures few { steps.new + length entries.old.items ≤ steps.old + max (length entries.old.items) count }
+    ensures each { steps.old + length entries.new.items ≤ steps.new + length entries.old.items }
     ensures counted { OnOk result (steps.new + length entries.old.items ≡ steps.old + length entries.new.items) }
 {
     let _known = store.len();
@@ -196,6 +197,7 @@ fn cover<L: Ledger>(
     ensures more { length (knowns all.old.items entries.old.items) ≤ length (knowns all.new.items entries.new.items) }
     ensures rise { steps.old ≤ steps.new }
     ensures few { steps.new + length (knowns all.old.items entries.old.items) ≤ steps.old + max (length (knowns all.old.items entries.old.items)) count }
+    ensures each { steps.old + length (knowns all.new.items entries.new.items) ≤ steps.new + length (knowns all.old.items entries.old.items) }
     ensures counted { OnOk result (steps.new + length (knowns all.old.items entries.old.items) ≡ steps.old + length (knowns all.new.items entries.new.items)) }
 {
     let _known = store.len();
@@ -274,6 +276,7 @@ impl LinearForms {
         ensures more { length self.old ≤ length self.new }
         ensures rise { steps.old ≤ steps.new }
         ensures few { steps.new + length self.old ≤ steps.old + max (length self.old) count }
+        ensures each { steps.old + length self.new ≤ steps.new + length self.old }
         ensures counted { OnOk result (steps.new + length self.old ≡ steps.old + length self.new) }
     {
         cover(

@@ -31,3 +31,10 @@ returns-clause-counted g c =
     let before = length-knowns c.args.all.now.items c.args.entries.now.items in
     let now = length-knowns c.add_all.new.all.items c.add_all.new.entries.items in
     on_ok c.add_all.result _ _ c.add_all.ensures.counted (λ e. omega (arith, before, now, e))
+
+pub returns-clause-each : goal.returns-clause-each
+returns-clause-each g c =
+    let before = length-knowns c.args.all.now.items c.args.entries.now.items in
+    let now = length-knowns c.add_all.new.all.items c.add_all.new.entries.items in
+    let each = c.add_all.ensures.each in
+    omega arith
