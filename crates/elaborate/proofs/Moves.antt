@@ -113,9 +113,6 @@ all_wait None (Annotation p ∷ fs) e h = (refl, h)
 all_wait None (Attributes v p d ∷ fs) e h = absurd (attribute_no awaits_term refl refl d e)
 all_wait None (Naming v p ∷ fs) e h = absurd (cc)
 
-pub all_wait_for : (w : Walk) → awaits_term (kind_of w.answer w.frames) ≡ true → OthersWait w.frames → AllWait w.frames
-all_wait_for w = all_wait w.answer w.frames
-
 -- without the innermost frame each waits
 pub rest_waits : (fs : List Frame) (f : Frame) (rest : List Frame) → fs ≡ f ∷ rest → OthersWait fs → AllWait rest
 rest_waits fs f rest e h = subst OthersWait e h

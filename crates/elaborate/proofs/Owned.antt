@@ -94,12 +94,6 @@ shop_is ds r d vs s a k b h dec can e body =
     let fit : IsFit k d vs s a.parameters = fit_is r d vs s a k can e in
     subst (λ (o : Option Body). IsWorkshopOf o k.workshop) body (dec k (subst (IsOfAny ds) e h.kept) (sym fit.id))
 
-pub has_body : (ds : List Declaration) (r : Rules) (d : Declaration) (vs : List Value) (s : Terms) (a : Apart) (k : Kept) → IsApart ds s.trees a → IsDeclared ds d → CanTake r d vs s a → a.kept ≡ Some k → d.body ≡ None → ⊥
-has_body ds r d vs s a k h dec can e body =
-    let fit : IsFit k d vs s a.parameters = fit_is r d vs s a k can e in
-    let shop : IsWorkshopOf d.body k.workshop = dec k (subst (IsOfAny ds) e h.kept) (sym fit.id) in
-    subst (λ (o : Option Body). IsWorkshopOf o k.workshop) body shop
-
 pub taken_comes : (ds : List Declaration) (r : Rules) (d : Declaration) (vs : List Value) (s : Terms) (a : Apart) (k : Kept) (b : Body) (c : Scope) (v : Value) → IsApart ds s.trees a → IsDeclared ds d → CanTake r d vs s a → a.kept ≡ Some k → d.body ≡ Some b
     → c.trees ≡ s.trees → v.id < length b.terms → tree_at b.terms v.id ≡ b.term → v.sort ≡ d.rank.result → v.constant ≡ k.workshop.constant → v.linear ≡ k.workshop.linear
     → Comes (judge_symbol r d (trees_of (map (typed s.trees) vs))) c k.workshop.store.trees (Ok v)
