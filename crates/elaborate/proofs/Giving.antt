@@ -13,7 +13,7 @@ use Rattle.elaborate.specs.declared.frame.Frame.{Frame}
 use Rattle.elaborate.specs.declared.frame.Frame.TheVariants.{Application, Division, Bound, BoundTo, Body, Done, Annotation, Attributes}
 use Rattle.elaborate.specs.declared.frame.Walk.{Walk}
 use Rattle.elaborate.specs.Values.{typed, IsValue, AreValues}
-use Rattle.elaborate.specs.Frames.{frame_of, outside, frames_of, stack_of, AreBound, AllHold, AnswerHolds}
+use Rattle.elaborate.specs.Frames.{frame_of, outside, frames_of, stack_of, AreBound, AllHold, OthersWait, AnswerHolds}
 use Rattle.elaborate.specs.Steps.{IsGiven, Given}
 use Rattle.elaborate.proofs.Grow.{bound_outside}
 
@@ -56,6 +56,7 @@ give_whole w w' v e f a b g = record {
   stands = λ s h k. record {
     answer = subst (AnswerHolds s) (sym a) k;
     frames = subst (AllHold s) (sym g) tt;
+    others = subst OthersWait (sym g) tt;
     bindings = subst (AreBound s.trees) (sym b) h.bindings;
   };
 }
@@ -77,6 +78,7 @@ give_frame w w' v f g rest e h a b i k = record {
       record {
         answer = subst (AnswerHolds s) (sym a) st.answer;
         frames = subst (AllHold s) (sym i) (k.holds s holds.0 m, holds.1);
+        others = subst OthersWait (sym i) (subst OthersWait h st.others);
         bindings = subst (AreBound s.trees) (sym b) (bound_outside s.trees w.bindings f st.bindings);
       });
 }

@@ -17,7 +17,7 @@ use Rattle.elaborate.specs.declared.frame.Frame.{Frame}
 use Rattle.elaborate.specs.declared.frame.Frame.TheVariants.{Opened, Application, Dividing, Division, LetOpen, Bindings, BindingOpen, Bound, BoundTo, Body, Done, Annotation, Attributes, Naming}
 use Rattle.elaborate.specs.declared.frame.Walk.{Walk}
 use Rattle.elaborate.specs.Values.{typed, IsValue, AreValues, IsLonger}
-use Rattle.elaborate.specs.Frames.{variable_at, is_open_at, frame_of, outside, frames_of, stack_of, walk_of, AreBound, IsHead, Holds, AllHold, AnswerHolds, Stands}
+use Rattle.elaborate.specs.Frames.{variable_at, is_open_at, frame_of, outside, frames_of, stack_of, walk_of, AreBound, IsHead, Holds, AllHold, AllWait, OthersWait, AnswerHolds, Stands}
 
 pub tree_same : (ts us : List Tree) (i : ℕ) → IsLonger ts us → i < length ts → tree_at us i ≡ tree_at ts i
 tree_same ts us i l h = ap (λ xs. tree_at xs i) l.1 ∙ get_or_append_left ts l.0 _ i h
@@ -159,10 +159,15 @@ answer_grows : (s u : Scope) (o : Option Value) → Grown s u → AnswerHolds s 
 answer_grows s u None g h = tt
 answer_grows s u (Some v) g h = value_grows s.trees u.trees v g.trees h
 
+pub others_wait : (fs : List Frame) → AllWait fs → OthersWait fs
+others_wait [] h = tt
+others_wait (f ∷ fs) h = h.1
+
 pub stands_grows : (s u : Scope) (w : Walk) → Grown s u → Stands s w → Stands u w
 stands_grows s u w g h = record {
   answer = answer_grows s u w.answer g h.answer;
   frames = all_hold_grow s u w.frames g h.frames;
+  others = h.others;
   bindings = bound_grows s.trees u.trees w.bindings g.trees h.bindings;
 }
 

@@ -17,8 +17,9 @@ use Rattle.elaborate.specs.declared.frame.Walk.{Walk}
 use Rattle.elaborate.specs.declared.error.JudgeError.{JudgeError}
 use Rattle.elaborate.specs.declared.error.JudgeError.TheVariants.{Refused, Memory}
 use Rattle.elaborate.specs.Values.{typed, IsValue}
-use Rattle.elaborate.specs.Frames.{variable_at, is_open_at, frames_of, walk_of, AreBound, IsDivisor, Holds, AllHold, Stands}
+use Rattle.elaborate.specs.Frames.{variable_at, is_open_at, frames_of, walk_of, AreBound, IsDivisor, Holds, AllHold, OthersWait, Stands}
 use Rattle.elaborate.specs.Steps.{kind_of, attribute_kind, takes_word, Given, StepComes, is_named, is_symbol, out_of_head, IsNoName}
+use Rattle.elaborate.proofs.Grow.{others_wait}
 use Rattle.elaborate.proofs.Moves.{popped, shown_is, error_is, step_memory, replaced_push, no, not_zero}
 
 -- ---- `)`
@@ -55,7 +56,7 @@ leave_bindings r tokens s w w' xs rest k bs (Ok x) e h c b i j st =
           ∙ ap (λ fs. done fs s) (sym (shown_is tokens s made (Body k ∷ rest) e refl))
           ∙ ap (λ z. done (walk_of tokens s z) s) (sym i),
       subst (Stands s) (sym i)
-          (record { answer = st.answer; frames = (tt, holds.1); bindings = subst (AreBound s.trees) (sym b) (bound_both s.trees xs w.bindings holds.0 st.bindings) }),
+          (record { answer = st.answer; frames = (tt, holds.1); others = subst OthersWait h st.others; bindings = subst (AreBound s.trees) (sym b) (bound_both s.trees xs w.bindings holds.0 st.bindings) }),
     )
 leave_bindings r tokens s w w' xs rest k bs (Err x) e h c b i j st = step_memory (on_leave r (walk_of tokens s w)) s tokens s w' x (error_is x j)
 
@@ -66,7 +67,7 @@ pub given_on : (r : Rules) (tokens : List Token) (s : Scope) (w w' : Walk) (f : 
 given_on r tokens s w w' f rest v e h m k g st =
     let holds : AllHold s (f ∷ rest) = subst (AllHold s) h st.frames in (
       ap (λ fs. on_leave r fs s) (shown_is tokens s w (f ∷ rest) e h) ∙ m ∙ ap (λ fs. done (given_all (typed s.trees v) fs) s) (sym (shown_is tokens s (popped w rest) rest e refl)) ∙ ap (λ fs. done fs s) (sym (g.walk tokens s)),
-      g.stands s (record { answer = st.answer; frames = holds.1; bindings = st.bindings }) (k holds.0),
+      g.stands s (record { answer = st.answer; frames = holds.1; others = others_wait rest (subst OthersWait h st.others); bindings = st.bindings }) (k holds.0),
     )
 
 pub leave_done : (r : Rules) (tokens : List Token) (s : Scope) (bs : List Pair) (v : Value) (rest : List Frame) → on_leave r (frames_of tokens s bs (Done v ∷ rest)) s ≡ done (given_all (typed s.trees v) (frames_of tokens s bs rest)) s

@@ -20,9 +20,9 @@ use Rattle.elaborate.specs.declared.frame.Walk.{Walk}
 use Rattle.elaborate.specs.declared.error.JudgeError.{JudgeError}
 use Rattle.elaborate.specs.declared.error.JudgeError.TheVariants.{Refused, Memory}
 use Rattle.elaborate.specs.Values.{typed, AreValues, IsLonger, Comes}
-use Rattle.elaborate.specs.Frames.{variable_at, frame_of, outside, frames_of, stack_of, walk_of, AreBound, IsDivisor, Holds, AllHold, AnswerHolds, Stands}
-use Rattle.elaborate.specs.Steps.{kind_of, attribute_kind, is_answered, is_past, awaits_term, is_argument, is_divided, is_head, takes_list, takes_word, may_end, Given, StepComes, IsFrame, FrameComes, IsDivisorHead}
-use Rattle.elaborate.proofs.Grow.{Grown, walk_same, stands_grows}
+use Rattle.elaborate.specs.Frames.{variable_at, frame_of, outside, frames_of, stack_of, walk_of, AreBound, IsDivisor, Holds, AllHold, AllWait, OthersWait, AnswerHolds, Stands}
+use Rattle.elaborate.specs.Steps.{kind_of, attribute_kind, is_answered, is_past, awaits_term, is_argument, is_divided, is_head, is_name, takes_list, takes_word, may_end, Given, StepComes, IsFrame, FrameComes, IsDivisorHead}
+use Rattle.elaborate.proofs.Grow.{Grown, walk_same, stands_grows, others_wait}
 
 pub vars_of : (tokens : List Token) (s : Scope) (bs : List Pair) (fs : List Frame) → variables (frames_of tokens s bs fs) ≡ map (variable_at s.trees) bs
 vars_of tokens s bs [] = refl
@@ -94,6 +94,37 @@ attribute_yes p a b d e = go (nat_eq d 0) e
     go true h = no (sym h ∙ a)
     go false h = no (sym h ∙ b)
 
+-- where a term may come, each frame waits for one
+pub all_wait : (o : Option Value) (fs : List Frame) → awaits_term (kind_of o fs) ≡ true → OthersWait fs → AllWait fs
+all_wait (Some v) fs e h = absurd (cc)
+all_wait None [] e h = tt
+all_wait None (Opened ∷ fs) e h = absurd (cc)
+all_wait None (Application n q vs ∷ fs) e h = (refl, h)
+all_wait None (Dividing n d ∷ fs) e h = absurd (cc)
+all_wait None (Division n vs ∷ fs) e h = (refl, h)
+all_wait None (LetOpen ∷ fs) e h = absurd (cc)
+all_wait None (Bindings xs ∷ fs) e h = absurd (cc)
+all_wait None (BindingOpen xs ∷ fs) e h = absurd (cc)
+all_wait None (Bound xs n ∷ fs) e h = (refl, h)
+all_wait None (BoundTo xs n v ∷ fs) e h = absurd (cc)
+all_wait None (Body k ∷ fs) e h = (refl, h)
+all_wait None (Done v ∷ fs) e h = absurd (cc)
+all_wait None (Annotation p ∷ fs) e h = (refl, h)
+all_wait None (Attributes v p d ∷ fs) e h = absurd (attribute_no awaits_term refl refl d e)
+all_wait None (Naming v p ∷ fs) e h = absurd (cc)
+
+-- without the innermost frame each waits
+pub rest_waits : (fs : List Frame) (f : Frame) (rest : List Frame) → fs ≡ f ∷ rest → OthersWait fs → AllWait rest
+rest_waits fs f rest e h = subst OthersWait e h
+
+pub none_is_name : (o : Option Value) (fs : List Frame) → is_name (kind_of o fs) ≡ true → o ≡ None
+none_is_name None fs e = refl
+none_is_name (Some v) fs e = absurd (cc)
+
+-- a name of a term comes after its frame alone
+pub name_comes : (w : Walk) (f : Frame) (v : Value) (p : ℕ) (rest : List Frame) → w.answer ≡ None → w.frames ≡ f ∷ rest → f ≡ Naming v p → is_name (kind_of w.answer w.frames) ≡ true
+name_comes w f v p rest e h k = ap (λ o. is_name (kind_of o w.frames)) e ∙ ap (λ fs. is_name (kind_of None fs)) (h ∙ ap (λ g. g ∷ rest) k)
+
 pub grown_trees : (s : Scope) (us : List Tree) → IsLonger s.trees us → Grown s (record s { trees = us })
 grown_trees s us l = record { trees = l; added = []; signature = sym (append-nil s.signature) }
 
@@ -114,10 +145,11 @@ settled m s tokens u w (Err e) P h k f = step_memory m s tokens u w e (error_is 
 pub shown_is : (tokens : List Token) (s : Scope) (w : Walk) (fs : List Frame) → w.answer ≡ None → w.frames ≡ fs → walk_of tokens s w ≡ frames_of tokens s w.bindings fs
 shown_is tokens s w fs e f = ap (λ o. stack_of tokens s o w.bindings w.frames) e ∙ ap (frames_of tokens s w.bindings) f
 
-pub stands_so : (s : Scope) (w w' : Walk) (fs : List Frame) → w.answer ≡ None → w'.answer ≡ w.answer → w'.frames ≡ fs → AllHold s fs → AreBound s.trees w'.bindings → Stands s w'
-stands_so s w w' fs e a f h b = record {
+pub stands_so : (s : Scope) (w w' : Walk) (fs : List Frame) → w.answer ≡ None → w'.answer ≡ w.answer → w'.frames ≡ fs → AllHold s fs → OthersWait fs → AreBound s.trees w'.bindings → Stands s w'
+stands_so s w w' fs e a f h o b = record {
   answer = subst (AnswerHolds s) (sym (a ∙ e)) tt;
   frames = subst (AllHold s) (sym f) h;
+  others = subst OthersWait (sym f) o;
   bindings = b;
 }
 
@@ -251,7 +283,7 @@ pub enter_opened : (ahead : Sexps) (tokens : List Token) (s : Scope) (w w' : Wal
 enter_opened ahead tokens s w w' st k e = (
   enter_term ahead tokens s w.answer w.bindings w.frames k ∙ ap (λ fs. done fs s) (sym (opened_on tokens s w.answer w.bindings w.frames (none_awaits_term w.answer w.frames k)))
       ∙ ap (λ x. done (walk_of tokens s x) s) (sym e),
-  subst (Stands s) (sym e) (record { answer = st.answer; frames = (tt, st.frames); bindings = st.bindings }),
+  subst (Stands s) (sym e) (record { answer = st.answer; frames = (tt, st.frames); others = all_wait w.answer w.frames k st.others; bindings = st.bindings }),
 )
 
 -- one frame in place of another
@@ -262,7 +294,7 @@ replaced move tokens s w w' f g rest e h i m k st =
     let holds : AllHold s (f ∷ rest) = subst (AllHold s) h st.frames in (
       ap (λ fs. move fs s) (shown_is tokens s w (f ∷ rest) e h) ∙ m ∙ ap (λ fs. done fs s) (sym (shown_is tokens s (record { answer = w.answer; frames = g ∷ rest; bindings = w.bindings }) (g ∷ rest) e refl))
           ∙ ap (λ x. done (walk_of tokens s x) s) (sym i),
-      subst (Stands s) (sym i) (record { answer = st.answer; frames = (k holds.0, holds.1); bindings = st.bindings }),
+      subst (Stands s) (sym i) (record { answer = st.answer; frames = (k holds.0, holds.1); others = subst OthersWait h st.others; bindings = st.bindings }),
     )
 
 pub replaced_push : (move : List Meant → Judging (List Meant)) (tokens : List Token) (s : Scope) (w w' : Walk) (f g : Frame) (rest : List Frame) (y : Result (Unit {0}) JudgeError) → w.answer ≡ None → w.frames ≡ f ∷ rest
@@ -377,7 +409,7 @@ division_left r n vs tokens s bs rest x e = ap (λ y. go_on y (λ a. return (giv
 rest_stands : (s : Scope) (w : Walk) (f : Frame) (rest : List Frame) → w.answer ≡ None → w.frames ≡ f ∷ rest → outside w.bindings f ≡ w.bindings → Stands s w → Stands s (popped w rest)
 rest_stands s w f rest e h o st =
     let holds : AllHold s (f ∷ rest) = subst (AllHold s) h st.frames in
-    record { answer = st.answer; frames = holds.1; bindings = st.bindings }
+    record { answer = st.answer; frames = holds.1; others = others_wait rest (subst OthersWait h st.others); bindings = st.bindings }
 
 -- the end of a list whose term is judged so
 abbrev LeavesBy : Rules → List Token → Scope → Walk → Frame → List Frame → Judging Typed → Type 0

@@ -1,6 +1,7 @@
 -- Names that are given to terms.
-use Rattle.std.proofs.Common.{◌≡◌, ℕ, ◌+◌, ◌<◌, ◌≤◌, List, [], ◌∷◌, ◌++◌, map, drop, append-nil, arith, ap, ap₂, sym, subst, ◌∙◌, refl, Bool, true, false, not, ◌&&◌, nat_lt, Option, Some, None}
+use Rattle.std.proofs.Common.{◌≡◌, ℕ, ◌+◌, ◌<◌, ◌≤◌, List, [], ◌∷◌, ◌++◌, length, map, drop, append-nil, arith, ap, ap₂, sym, subst, ◌∙◌, refl, Bool, true, false, not, ◌&&◌, nat_lt, Option, Some, None}
 use Rattle.std.specs.Prelude.{Result, Ok, Err, OnOk, OnErr, IfOk, if◌then◌else◌, bytes_eq, ◌↔◌}
+use Rattle.std.proofs.lemmas.List.{drop_all}
 use Rattle.std.proofs.lemmas.Bool.Decides.{nat_tests}
 use Rattle.smt_meaning.specs.declared.values.Sort.{Sort}
 use Rattle.smt_meaning.specs.declared.tokens.Token.{Token}
@@ -14,7 +15,7 @@ use Rattle.smt_meaning.specs.Sorts.{Scope, Outcome, done, refused, Judging, go_o
 use Rattle.smt_sorts.specs.declared.errors.AddError.{AddError}
 use Rattle.smt_sorts.specs.declared.errors.AddError.TheVariants.{TooManySymbols as TooMany}
 use Rattle.smt_sorts.specs.Names.{Names, signature, named_term, with_declaration}
-use Rattle.smt_laws.specs.Walk.{Frame as Meant, attributes, has_free_first, on_words, step, run, finish}
+use Rattle.smt_laws.specs.Walk.{Frame as Meant, attributes, has_free_first, first_list, on_words, step, run, finish}
 use Rattle.smt_laws.specs.TermWalkLaws.{WalkGivesTheJudgement}
 use Rattle.look_ahead.specs.Ahead.{ahead}
 use Rattle.elaborate.specs.declared.value.Value.{Value}
@@ -26,7 +27,7 @@ use Rattle.elaborate.specs.declared.error.JudgeError.{JudgeError}
 use Rattle.elaborate.specs.declared.error.JudgeError.TheVariants.{Refused, Memory}
 use Rattle.elaborate.specs.Judged.{scope_of, IsCauseOf}
 use Rattle.elaborate.specs.Values.{typed}
-use Rattle.elaborate.specs.Frames.{find_value, variable_at, is_open_at, frames_of, walk_of, AllHold, AnswerHolds, Stands}
+use Rattle.elaborate.specs.Frames.{find_value, variable_at, is_open_at, frames_of, walk_of, AllHold, OthersWait, AnswerHolds, Stands}
 use Rattle.elaborate.specs.Steps.{StepComes, is_symbol, IsNoName}
 use Rattle.elaborate.specs.Naming.{names_bound, why_not_new, IsWhyNotNew, NameComes, TermComes}
 use Rattle.elaborate.proofs.Grow.{Grown, walk_same, stands_grows}
@@ -59,6 +60,10 @@ pub open_is : {E : Type 0} (tokens : List Token) (bs : List Binding) (p : ℕ) (
     → IfOk y (λ b. (vs : List Variable) → variable_names vs ≡ names_bound bs → has_free_first vs (ahead tokens p) ≡ b) → IfOk y (λ b. (ts : List Tree) → is_open_at tokens ts bs p ≡ b)
 open_is tokens bs p (Ok b) h = λ ts. h (map (variable_at ts) bs) (names_same ts bs)
 open_is tokens bs p (Err x) h = tt
+
+-- past all tokens nothing is ahead
+pub nothing_ahead : (tokens : List Token) (ts : List Tree) (bs : List Binding) (p : ℕ) → length tokens ≤ p → is_open_at tokens ts bs p ≡ false
+nothing_ahead tokens ts bs p h = ap (λ xs. has_free_first (map (variable_at ts) bs) (first_list (open_lists_of xs))) (drop_all p tokens h)
 
 -- ---- one definition more
 
@@ -214,7 +219,7 @@ pub name_put : (r : Rules) (tokens : List Token) (s u : Scope) (w w' : Walk) (v 
 name_put r tokens s u w w' v p rest n t ahead (Ok x) o e h k same m st i j =
     let holds : AllHold s (Naming v p ∷ rest) = subst (AllHold s) h st.frames in
     let made : Walk = record { answer = w.answer; frames = Attributes v p 0 ∷ rest; bindings = w.bindings } in
-    let stands : Stands s made = record { answer = st.answer; frames = (holds.0, holds.1); bindings = st.bindings } in
+    let stands : Stands s made = record { answer = st.answer; frames = (holds.0, holds.1); others = subst OthersWait h st.others; bindings = st.bindings } in
     let g : Grown s u = no_longer s u same m.1 in (
       name_move r tokens s w v p rest n t ahead (done tt u) e h k m.0
           ∙ returned tt (frames_of tokens s w.bindings (Attributes v p 0 ∷ rest)) u

@@ -1,5 +1,5 @@
 -- What the frames of the reading of a term stand for.
-use Rattle.std.specs.Prelude.{◌≡◌, ℕ, ◌≤◌, Bool, true, List, [], ◌∷◌, map, take, drop, Option, Some, None, if◌then◌else◌, bytes_eq}
+use Rattle.std.specs.Prelude.{◌≡◌, ℕ, ◌≤◌, Bool, true, false, List, [], ◌∷◌, map, take, drop, Option, Some, None, if◌then◌else◌, bytes_eq}
 use Rattle.smt_meaning.specs.declared.tokens.Token.{Token}
 use Rattle.smt_meaning.specs.declared.terms.Operator.{Operator}
 use Rattle.smt_meaning.specs.Declaration.{Declaration}
@@ -97,6 +97,24 @@ abbrev pub AllHold : Scope → List Frame → Type 0
 AllHold s [] = Unit {0}
 AllHold s (f ∷ fs) = Holds s f × AllHold s fs
 
+-- the frame waits for a term
+abbrev pub waits : Frame → Bool
+waits (Application n o vs) = true
+waits (Division n vs) = true
+waits (Bound xs n) = true
+waits (Body k) = true
+waits (Annotation p) = true
+waits _ = false
+
+abbrev pub AllWait : List Frame → Type 0
+AllWait [] = Unit {0}
+AllWait (f ∷ fs) = (waits f ≡ true) × AllWait fs
+
+-- all but the innermost wait for a term
+abbrev pub OthersWait : List Frame → Type 0
+OthersWait [] = Unit {0}
+OthersWait (f ∷ fs) = AllWait fs
+
 abbrev pub AnswerHolds : Scope → Option Value → Type 0
 AnswerHolds s None = Unit {0}
 AnswerHolds s (Some v) = IsValue s.trees v
@@ -104,4 +122,5 @@ AnswerHolds s (Some v) = IsValue s.trees v
 pub record Stands (s : Scope) (w : Walk) : Type 0 where
   pub answer : AnswerHolds s w.answer
   pub frames : AllHold s w.frames
+  pub others : OthersWait w.frames
   pub bindings : AreBound s.trees w.bindings

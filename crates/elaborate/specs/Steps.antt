@@ -76,6 +76,11 @@ abbrev pub is_head : Kind → Bool
 is_head Head = true
 is_head _ = false
 
+-- the name of a term comes next
+abbrev pub is_name : Kind → Bool
+is_name Name = true
+is_name _ = false
+
 -- a list that is no term may come next
 abbrev pub takes_list : Kind → Bool
 takes_list LetList = true

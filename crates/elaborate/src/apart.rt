@@ -1,5 +1,5 @@
 //! One token of the body of a definition.
-ghost use Rattle.std.specs.Prelude.{◌≡◌, ◌+◌, ◌<◌, ◌∷◌, List, true, drop, length};
+ghost use Rattle.std.specs.Prelude.{◌≡◌, ◌+◌, ◌<◌, ◌∷◌, List, true, false, drop, length};
 ghost use Rattle.smt_meaning.specs.declared.tokens.Token.{Token as TokenValue};
 ghost use Rattle.smt_meaning.specs.Seen.{seen};
 ghost use Rattle.smt_meaning.specs.Sexp.{Sexps, open_lists_of};
@@ -77,7 +77,7 @@ fn leave_apart(
                 Err(error) => Err(error),
             }
         }
-        _ => Err(JudgeError::Memory),
+        _ => unreachable!(),
     }
 }
 
@@ -97,6 +97,7 @@ pub(crate) fn step_apart(
     requires within { place < length term.now }
     requires stands { Stands (scope_of table.now store.old.trees) walk.old }
     requires apart { IsApart (signature table.now) store.old.trees apart.old }
+    requires unnamed { rules.naming ≡ false }
     ensures comes { (t : TokenValue) → drop place term.now ≡ t ∷ drop (place + 1) term.now → StepComes (step (rules_of rules) (walk_of term.now (scope_of table.now store.old.trees) walk.old) t (open_lists_of (drop (place + 1) term.now))) (scope_of table.now store.old.trees) term.now (scope_of table.now store.new.trees) walk.new result }
     ensures longer { HasGrown store.old store.new }
     ensures apart { IsApart (signature table.now) store.new.trees apart.new }

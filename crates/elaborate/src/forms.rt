@@ -1,13 +1,13 @@
 //! The tokens of `let` and of annotations that begin and end no term.
-ghost use Rattle.std.specs.Prelude.{◌≡◌, ◌++◌, ◌∷◌, [], List, None, true, length, IfOk, IfErr};
+ghost use Rattle.std.specs.Prelude.{◌≡◌, ◌++◌, ◌∷◌, [], List, None, true, false, length, IfOk, IfErr};
 ghost use Rattle.smt_meaning.specs.declared.tokens.Token.{Token as TokenValue};
 ghost use Rattle.smt_meaning.specs.Seen.{seen};
 ghost use Rattle.smt_meaning.specs.Sexp.{Sexps};
 ghost use Rattle.smt_meaning.specs.Sorts.{Scope, Rules as RulesValue};
 ghost use Rattle.smt_laws.specs.Walk.{on_leave, on_words};
 ghost use Rattle.elaborate.specs.Judged.{rules_of};
-ghost use Rattle.elaborate.specs.Frames.{walk_of, Stands};
-ghost use Rattle.elaborate.specs.Steps.{kind_of, takes_word, is_named, out_of_head, IsNoName, StepComes};
+ghost use Rattle.elaborate.specs.Frames.{walk_of, OthersWait, Stands};
+ghost use Rattle.elaborate.specs.Steps.{kind_of, takes_word, may_end, is_name, is_named, out_of_head, IsNoName, StepComes};
 
 use crate::apply::Rules;
 use crate::bindings::Bindings;
@@ -56,6 +56,8 @@ fn out_of_head(alloc: Global, number: u128, depth: usize) -> Frame
 /// `)` that ends no application.
 pub(crate) fn leave_form(alloc: Global, walk: &mut Walk) -> Result<(), JudgeError>
     requires none { walk.old.answer ≡ None }
+    requires kind { may_end (kind_of walk.old.answer walk.old.frames) ≡ true }
+    requires waits { OthersWait walk.old.frames }
     ensures { (tokens : List TokenValue) (s : Scope) (r : RulesValue) → Stands s walk.old → StepComes (on_leave r (walk_of tokens s walk.old)) s tokens s walk.new result }
 {
     match walk.frames.pop() {
@@ -79,7 +81,7 @@ pub(crate) fn leave_form(alloc: Global, walk: &mut Walk) -> Result<(), JudgeErro
                 Err(_) => Err(JudgeError::Memory),
             },
         },
-        _ => Err(JudgeError::Memory),
+        _ => unreachable!(),
     }
 }
 
@@ -123,7 +125,7 @@ fn is_named(token: TokenView<'_>) -> bool
     }
 }
 
-/// The name of a binding, or an attribute. Where `:named` is allowed, the name that it gives is read elsewhere.
+/// The name of a binding, an attribute, or a name of a term where none is given.
 pub(crate) fn word_form(
     alloc: Global,
     rules: Rules,
@@ -132,8 +134,10 @@ pub(crate) fn word_form(
 ) -> Result<(), JudgeError>
     requires kind { takes_word (kind_of walk.old.answer walk.old.frames) ≡ true }
     requires none { walk.old.answer ≡ None }
+    requires unnamed { is_name (kind_of walk.old.answer walk.old.frames) ≡ true → rules.naming ≡ false }
     ensures { (tokens : List TokenValue) (s : Scope) (ahead : Sexps) → Stands s walk.old → StepComes (on_words (rules_of rules) (walk_of tokens s walk.old) (seen token.entry) ahead) s tokens s walk.new result }
 {
+    let _ = rules.naming;
     match walk.frames.pop() {
         Some(Frame::BindingOpen(bound)) => match bound_name(alloc, token) {
             Ok(name) => push(walk, Frame::Bound(bound, name)),
@@ -146,13 +150,7 @@ pub(crate) fn word_form(
                 push(walk, Frame::Attributes(value, place, 0))
             }
         }
-        Some(Frame::Naming(_, _)) => {
-            if rules.naming {
-                Err(JudgeError::Memory)
-            } else {
-                Err(JudgeError::Refused(Refusal::WrongArguments))
-            }
-        }
-        _ => Err(JudgeError::Memory),
+        Some(Frame::Naming(_, _)) => Err(JudgeError::Refused(Refusal::WrongArguments)),
+        _ => unreachable!(),
     }
 }

@@ -1,5 +1,5 @@
 //! Terms in which `:named` gives names.
-ghost use Rattle.std.specs.Prelude.{◌≡◌, ◌+◌, ◌<◌, ◌∷◌, [], List, None, drop, length, map, IfOk, IfErr, OnOk};
+ghost use Rattle.std.specs.Prelude.{◌≡◌, ◌+◌, ◌<◌, ◌≤◌, ◌∷◌, [], List, None, true, drop, length, map, IfOk, IfErr, OnOk};
 ghost use Rattle.smt_meaning.specs.declared.tokens.Token.{Token as TokenValue};
 ghost use Rattle.smt_meaning.specs.Seen.{seen};
 ghost use Rattle.smt_meaning.specs.Sexp.{Sexps, open_lists_of, sexp};
@@ -8,11 +8,11 @@ ghost use Rattle.smt_meaning.specs.Signature.{is_one_of, find_function, reserved
 ghost use Rattle.smt_meaning.specs.Sorts.{judge, declare, name_declaration, name_term};
 ghost use Rattle.smt_sorts.specs.Names.{Names, signature, HasGained, IsNewFunction};
 ghost use Rattle.smt_laws.specs.Walk.{step, run, on_words};
-ghost use Rattle.look_ahead.specs.Ahead.{AreEnds};
+ghost use Rattle.look_ahead.specs.Ahead.{ahead, AreEnds};
 ghost use Rattle.elaborate.specs.Judged.{scope_of, rules_of};
 ghost use Rattle.elaborate.specs.Values.{HasGrown, IsValue, typed};
 ghost use Rattle.elaborate.specs.Frames.{walk_of, is_open_at, Stands};
-ghost use Rattle.elaborate.specs.Steps.{StepComes};
+ghost use Rattle.elaborate.specs.Steps.{kind_of, is_name, StepComes};
 ghost use Rattle.elaborate.specs.Naming.{why_not_new, IsWhyNotNew, NameComes, TermComes};
 
 use crate::apply::Rules;
@@ -22,9 +22,9 @@ use crate::forms::bound_name;
 use crate::frame::{Frame, Walk};
 use crate::parts::named_body;
 use crate::stack::Stack;
-use crate::steps::{is_word, step};
+use crate::steps::{Class, class_of, enter, leave, word};
 use crate::value::Value;
-use crate::walk::{awaits_name, push};
+use crate::walk::{is_name, push, what_comes};
 use look_ahead::has_free_first;
 use smt_laws::{nothing_is_free, walk_gives_the_judgement};
 use smt_meaning::{Bytes, Rank, Refusal, SExpr, Seq, TokenView};
@@ -67,7 +67,7 @@ fn is_open(
         return Ok(false);
     }
     if place > term.len() {
-        return Err(AllocError);
+        return Ok(false);
     }
     let names = Bound { bindings };
     has_free_first(alloc, &names, term, ends, place)
@@ -150,7 +150,7 @@ fn give_name(
     Err(JudgeError::Refused(Refusal::WrongArguments))
 }
 
-/// A token that is no parenthesis, after `:named`.
+/// The name of a term.
 fn name_step(
     alloc: Global,
     rules: Rules,
@@ -163,6 +163,7 @@ fn name_step(
 ) -> Result<(), JudgeError>
     requires ends { AreEnds term.now ends.now }
     requires none { walk.old.answer ≡ None }
+    requires kind { is_name (kind_of walk.old.answer walk.old.frames) ≡ true }
     requires stands { Stands (scope_of table.old store.now.trees) walk.old }
     ensures comes { (ahead : Sexps) → StepComes (on_words (rules_of rules) (walk_of term.now (scope_of table.old store.now.trees) walk.old) (seen token.entry) ahead) (scope_of table.old store.now.trees) term.now (scope_of table.new store.now.trees) walk.new result }
     ensures gained { (t : Names) → HasGained t table.old → HasGained t table.new }
@@ -186,8 +187,33 @@ fn name_step(
             },
             Err(error) => Err(error),
         },
-        _ => Err(JudgeError::Memory),
+        _ => unreachable!(),
     }
+}
+
+/// A token that is no parenthesis, before a place.
+fn word_or_name(
+    alloc: Global,
+    rules: Rules,
+    term: &SExpr,
+    ends: &[usize],
+    place: usize,
+    token: TokenView<'_>,
+    walk: &mut Walk,
+    table: &mut Table,
+    store: &mut TermStore,
+) -> Result<(), JudgeError>
+    requires ends { AreEnds term.now ends.now }
+    requires within { place ≤ length term.now }
+    requires stands { Stands (scope_of table.old store.old.trees) walk.old }
+    ensures comes { StepComes (on_words (rules_of rules) (walk_of term.now (scope_of table.old store.old.trees) walk.old) (seen token.entry) (ahead term.now place)) (scope_of table.old store.old.trees) term.now (scope_of table.new store.new.trees) walk.new result }
+    ensures longer { HasGrown store.old store.new }
+    ensures gained { (t : Names) → HasGained t table.old → HasGained t table.new }
+{
+    if is_name(what_comes(walk)) {
+        return name_step(alloc, rules, term, ends, token, walk, table, store);
+    }
+    word(alloc, rules, term, ends, place, token, walk, table, store)
 }
 
 /// The token at a place.
@@ -209,12 +235,12 @@ fn turn(
     ensures gained { (t : Names) → HasGained t table.old → HasGained t table.new }
 {
     let token = term.token(place);
-    if awaits_name(walk) {
-        if is_word(token) {
-            return name_step(alloc, rules, term, ends, token, walk, table, store);
-        }
+    let next = place + 1;
+    match class_of(token) {
+        Class::Opening => enter(alloc, term, ends, next, walk),
+        Class::Closing => leave(alloc, rules, walk, table, store),
+        Class::Word => { word_or_name(alloc, rules, term, ends, next, token, walk, table, store) }
     }
-    step(alloc, rules, term, ends, place, walk, table, store)
 }
 
 /// Reads each token in turn.

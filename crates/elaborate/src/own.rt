@@ -149,10 +149,10 @@ fn take(
 {
     let _ = (table.ids(), rules.closed, arguments.len());
     let Some(kept) = apart.kept.take() else {
-        return Err(JudgeError::Memory);
+        unreachable!()
     };
     let Some(body) = declaration.body() else {
-        return Err(JudgeError::Memory);
+        unreachable!()
     };
     let workshop = kept.workshop;
     let (constant, linear) = (workshop.constant, workshop.linear);

@@ -1,5 +1,5 @@
 //! All tokens of a term.
-ghost use Rattle.std.specs.Prelude.{◌≡◌, map};
+ghost use Rattle.std.specs.Prelude.{◌≡◌, false, map};
 ghost use Rattle.smt_meaning.specs.Sexp.{sexp};
 ghost use Rattle.smt_meaning.specs.Sorts.{judge};
 ghost use Rattle.smt_laws.specs.Walk.{run};
@@ -39,6 +39,7 @@ fn read(
     requires ends { AreEnds term.now ends.now }
     requires stands { Stands (scope_of table.now store.old.trees) walk.old }
     requires apart { IsApart (signature table.now) store.old.trees apart.old }
+    requires unnamed { rules.naming ≡ false }
     ensures comes { StepComes (run (rules_of rules) term.now (walk_of term.now (scope_of table.now store.old.trees) walk.old)) (scope_of table.now store.old.trees) term.now (scope_of table.now store.new.trees) walk.new result }
     ensures longer { HasGrown store.old store.new }
     ensures apart { IsApart (signature table.now) store.new.trees apart.new }
@@ -52,7 +53,7 @@ fn read(
     Ok(())
 }
 
-/// Judges the body of a definition under variables.
+/// Judges the body of a definition under variables, in which no names are given to terms.
 pub(crate) fn judge_term(
     alloc: Global,
     rules: Rules,
@@ -66,6 +67,7 @@ pub(crate) fn judge_term(
     requires ends { AreEnds term.now ends.now }
     requires bound { AreBound store.old.trees bindings }
     requires apart { IsApart (signature table.now) store.old.trees apart.old }
+    requires unnamed { rules.naming ≡ false }
     ensures comes { Comes (judge (rules_of rules) (map (variable_at store.old.trees) bindings) (sexp term.now)) (scope_of table.now store.old.trees) store.new.trees result }
     ensures longer { HasGrown store.old store.new }
     ensures apart { IsApart (signature table.now) store.new.trees apart.new }

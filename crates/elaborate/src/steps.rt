@@ -1,5 +1,5 @@
 //! One token of a term.
-ghost use Rattle.std.specs.Prelude.{◌≡◌, ◌+◌, ◌<◌, ◌≤◌, ◌∷◌, List, None, true, drop, length};
+ghost use Rattle.std.specs.Prelude.{◌≡◌, ◌+◌, ◌<◌, ◌≤◌, ◌∷◌, List, None, true, false, drop, length};
 ghost use Rattle.smt_meaning.specs.declared.tokens.Token.{Token as TokenValue};
 ghost use Rattle.smt_meaning.specs.Seen.{seen};
 ghost use Rattle.smt_meaning.specs.Sexp.{Sexps, open_lists_of};
@@ -10,7 +10,7 @@ ghost use Rattle.smt_laws.specs.Walk.{step, on_words, on_enter, on_leave};
 ghost use Rattle.elaborate.specs.Judged.{scope_of, rules_of};
 ghost use Rattle.elaborate.specs.Values.{HasGrown};
 ghost use Rattle.elaborate.specs.Frames.{walk_of, Stands};
-ghost use Rattle.elaborate.specs.Steps.{class_of, kind_of, awaits_term, is_argument, is_divided, is_head, StepComes};
+ghost use Rattle.elaborate.specs.Steps.{class_of, kind_of, awaits_term, is_argument, is_divided, is_head, is_name, takes_list, StepComes};
 
 use crate::apply::{Rules, apply_divisible, apply_name};
 use crate::error::JudgeError;
@@ -55,17 +55,6 @@ pub(crate) fn class_of(token: TokenView<'_>) -> Class
     }
 }
 
-/// Whether a token is no parenthesis.
-pub(crate) fn is_word(token: TokenView<'_>) -> bool
-    ensures { result ≡ true → class_of (seen token.entry) ≡ Class.Word }
-{
-    match class_of(token) {
-        Class::Word => true,
-        Class::Opening => false,
-        Class::Closing => false,
-    }
-}
-
 /// A token where a term may stand.
 fn word_term(
     alloc: Global,
@@ -91,7 +80,8 @@ fn word_term(
 
 /// `(` that begins neither a term nor a head.
 fn enter_form(alloc: Global, walk: &mut Walk) -> Result<(), JudgeError>
-    requires { walk.old.answer ≡ None }
+    requires none { walk.old.answer ≡ None }
+    requires kind { takes_list (kind_of walk.old.answer walk.old.frames) ≡ true }
     ensures { (tokens : List TokenValue) (s : Scope) (ahead : Sexps) → Stands s walk.old → StepComes (on_enter (walk_of tokens s walk.old) ahead) s tokens s walk.new result }
 {
     match walk.frames.pop() {
@@ -105,7 +95,7 @@ fn enter_form(alloc: Global, walk: &mut Walk) -> Result<(), JudgeError>
             Some(deeper) => push(walk, Frame::Dividing(number, deeper)),
             None => Err(JudgeError::Memory),
         },
-        _ => Err(JudgeError::Memory),
+        _ => unreachable!(),
     }
 }
 
@@ -121,7 +111,7 @@ fn enter_head(term: &SExpr, ends: &[usize], place: usize, walk: &mut Walk) -> Re
             let frame = Frame::Dividing(number, 0);
             match walk.frames.pop() {
                 Some(_) => push(walk, frame),
-                None => Err(JudgeError::Memory),
+                None => unreachable!(),
             }
         }
         Err(why) => Err(JudgeError::Refused(why)),
@@ -129,7 +119,7 @@ fn enter_head(term: &SExpr, ends: &[usize], place: usize, walk: &mut Walk) -> Re
 }
 
 /// `(`, before a place.
-fn enter(
+pub(crate) fn enter(
     alloc: Global,
     term: &SExpr,
     ends: &[usize],
@@ -179,7 +169,7 @@ fn leave_application(
                 Err(error) => Err(error),
             }
         }
-        _ => Err(JudgeError::Memory),
+        _ => unreachable!(),
     }
 }
 
@@ -206,12 +196,12 @@ fn leave_division(
                 Err(error) => Err(error),
             }
         }
-        _ => Err(JudgeError::Memory),
+        _ => unreachable!(),
     }
 }
 
 /// `)`
-fn leave(
+pub(crate) fn leave(
     alloc: Global,
     rules: Rules,
     walk: &mut Walk,
@@ -266,14 +256,14 @@ fn head(
     ) {
         Ok(frame) => match walk.frames.pop() {
             Some(_) => push(walk, frame),
-            None => Err(JudgeError::Memory),
+            None => unreachable!(),
         },
         Err(error) => Err(error),
     }
 }
 
 /// A token that is no parenthesis, before a place.
-fn word(
+pub(crate) fn word(
     alloc: Global,
     rules: Rules,
     term: &SExpr,
@@ -287,6 +277,7 @@ fn word(
     requires ends { AreEnds term.now ends.now }
     requires within { place ≤ length term.now }
     requires stands { Stands (scope_of table.now store.old.trees) walk.old }
+    requires unnamed { is_name (kind_of walk.old.answer walk.old.frames) ≡ true → rules.naming ≡ false }
     ensures comes { StepComes (on_words (rules_of rules) (walk_of term.now (scope_of table.now store.old.trees) walk.old) (seen token.entry) (ahead term.now place)) (scope_of table.now store.old.trees) term.now (scope_of table.now store.new.trees) walk.new result }
     ensures longer { HasGrown store.old store.new }
 {
@@ -306,7 +297,7 @@ fn word(
     Err(JudgeError::Refused(Refusal::WrongArguments))
 }
 
-/// The token at a place.
+/// The token at a place, where no names are given to terms.
 pub(crate) fn step(
     alloc: Global,
     rules: Rules,
@@ -320,6 +311,7 @@ pub(crate) fn step(
     requires ends { AreEnds term.now ends.now }
     requires within { place < length term.now }
     requires stands { Stands (scope_of table.now store.old.trees) walk.old }
+    requires unnamed { rules.naming ≡ false }
     ensures comes { (t : TokenValue) → drop place term.now ≡ t ∷ drop (place + 1) term.now → StepComes (step (rules_of rules) (walk_of term.now (scope_of table.now store.old.trees) walk.old) t (open_lists_of (drop (place + 1) term.now))) (scope_of table.now store.old.trees) term.now (scope_of table.now store.new.trees) walk.new result }
     ensures longer { HasGrown store.old store.new }
 {

@@ -1,8 +1,8 @@
 //! Terms are given to the terms around them.
 ghost use Rattle.std.specs.Prelude.{◌≡◌, ◌∷◌, List, None, true, drop, IfOk, OnOk, OnErr};
 ghost use Rattle.elaborate.specs.declared.frame.Binding.{Binding as BindingValue};
-ghost use Rattle.elaborate.specs.Frames.{outside};
-ghost use Rattle.elaborate.specs.Steps.{kind_of, kind_of_frame, attribute_kind, is_answered, is_past, awaits_term, is_argument, is_divided, is_head, takes_list, takes_word, may_end, IsGiven, Given};
+ghost use Rattle.elaborate.specs.Frames.{outside, waits, AllWait};
+ghost use Rattle.elaborate.specs.Steps.{kind_of, kind_of_frame, attribute_kind, is_answered, is_past, awaits_term, is_argument, is_divided, is_head, is_name, takes_list, takes_word, may_end, IsGiven, Given};
 
 use crate::error::JudgeError;
 use crate::frame::{Frame, Walk};
@@ -108,8 +108,9 @@ fn bound_by(frame: &Frame) -> usize
     }
 }
 
-/// A frame after the term for which it waits. No other frame comes.
+/// A frame after the term for which it waits.
 fn given(frame: Frame, value: Value) -> Result<Frame, AllocError>
+    requires { waits frame ≡ true }
     ensures { IfOk result (λ g. IsGiven frame value g) }
 {
     match frame {
@@ -124,7 +125,7 @@ fn given(frame: Frame, value: Value) -> Result<Frame, AllocError>
         Frame::Bound(bindings, name) => Ok(Frame::BoundTo(bindings, name, value)),
         Frame::Body(_) => Ok(Frame::Done(value)),
         Frame::Annotation(place) => Ok(Frame::Attributes(value, place, 0)),
-        _ => Err(AllocError),
+        _ => unreachable!(),
     }
 }
 
@@ -141,7 +142,8 @@ pub(crate) fn push(walk: &mut Walk, frame: Frame) -> Result<(), JudgeError>
 
 /// A term is given to the innermost open term, or is the whole one.
 pub(crate) fn give(walk: &mut Walk, value: Value) -> Result<(), AllocError>
-    requires { walk.old.answer ≡ None }
+    requires none { walk.old.answer ≡ None }
+    requires waits { AllWait walk.old.frames }
     ensures { OnOk result (Given walk.old value walk.new) }
 {
     match walk.frames.pop() {
@@ -154,19 +156,6 @@ pub(crate) fn give(walk: &mut Walk, value: Value) -> Result<(), AllocError>
         }
     }
     Ok(())
-}
-
-/// The name of a term comes next.
-pub(crate) fn awaits_name(walk: &Walk) -> bool
-    ensures { result ≡ true → walk.now.answer ≡ None }
-{
-    match walk.answer {
-        Some(_) => false,
-        None => match walk.frames.newest() {
-            Some(Frame::Naming(_, _)) => true,
-            _ => false,
-        },
-    }
 }
 
 /// All is read.
@@ -298,6 +287,28 @@ pub(crate) fn is_head(kind: Kind) -> bool
         Kind::Attribute => false,
         Kind::Passed => false,
         Kind::Name => false,
+    }
+}
+
+/// The name of a term comes next.
+pub(crate) fn is_name(kind: Kind) -> bool
+    ensures { result ≡ is_name kind }
+{
+    match kind {
+        Kind::Answered => false,
+        Kind::Whole => false,
+        Kind::Argument => false,
+        Kind::Divided => false,
+        Kind::Term => false,
+        Kind::Head => false,
+        Kind::LetList => false,
+        Kind::Binding => false,
+        Kind::BoundName => false,
+        Kind::BindingEnd => false,
+        Kind::LetEnd => false,
+        Kind::Attribute => false,
+        Kind::Passed => false,
+        Kind::Name => true,
     }
 }
 

@@ -1,12 +1,12 @@
 use Rattle.std.proofs.Common.{refl, sym, subst, None}
 use Rattle.smt_laws.proofs.SExprLaw.{read_back}
 use Rattle.elaborate.specs.Judged.{scope_of, rules_of}
-use Rattle.elaborate.specs.Frames.{AllHold, AreBound}
+use Rattle.elaborate.specs.Frames.{AllHold, OthersWait, AreBound}
 use Rattle.elaborate.proofs.Named.{term_answer, term_unfinished, term_refused}
 use Rattle.elaborate.proofs.naming.judge_named.Goals as goal
 
 pub read_named-requires-clause-stands : goal.read_named-requires-clause-stands
-read_named-requires-clause-stands c = record { answer = tt; frames = subst (AllHold (scope_of c.args.table.now c.args.store.now.trees)) (sym c.new.ensures) tt; bindings = subst (AreBound c.args.store.now.trees) (sym c.new-2.ensures) tt }
+read_named-requires-clause-stands c = record { answer = tt; frames = subst (AllHold (scope_of c.args.table.now c.args.store.now.trees)) (sym c.new.ensures) tt; others = subst OthersWait (sym c.new.ensures) tt; bindings = subst (AreBound c.args.store.now.trees) (sym c.new-2.ensures) tt }
 
 pub returns-in-Some-clause-comes : goal.returns-in-Some-clause-comes
 returns-in-Some-clause-comes c =

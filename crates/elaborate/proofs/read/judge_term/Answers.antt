@@ -1,12 +1,12 @@
 use Rattle.std.proofs.Common.{refl, sym, subst, None}
 use Rattle.smt_laws.proofs.SExprLaw.{read_back}
 use Rattle.elaborate.specs.Judged.{scope_of, rules_of}
-use Rattle.elaborate.specs.Frames.{AllHold}
+use Rattle.elaborate.specs.Frames.{AllHold, OthersWait}
 use Rattle.elaborate.proofs.Runs.{judged_answer, judged_unfinished, judged_refused}
 use Rattle.elaborate.proofs.read.judge_term.Goals as goal
 
 pub read-requires-clause-stands : goal.read-requires-clause-stands
-read-requires-clause-stands c = record { answer = tt; frames = subst (AllHold (scope_of c.args.table.now c.args.store.now.trees)) (sym c.new.ensures) tt; bindings = c.requires.bound }
+read-requires-clause-stands c = record { answer = tt; frames = subst (AllHold (scope_of c.args.table.now c.args.store.now.trees)) (sym c.new.ensures) tt; others = subst OthersWait (sym c.new.ensures) tt; bindings = c.requires.bound }
 
 pub returns-in-Some-clause-comes : goal.returns-in-Some-clause-comes
 returns-in-Some-clause-comes c =

@@ -10,8 +10,11 @@ returns-then-is_answered c = λ s st. (enter_answered (ahead c.args.term.now c.a
 pub returns-then-awaits_term : goal.returns-then-awaits_term
 returns-then-awaits_term c = λ s st. enter_push (ahead c.args.term.now c.args.place) c.args.term.now s c.args.walk.now c.push.new.walk c.push.result st (ap awaits_term (sym c.what_comes-kind.ensures) ∙ sym c.awaits_term.ensures ∙ c.if-awaits_term.true) c.push.ensures.ok c.push.ensures.memory
 
-pub enter_form-requires : goal.enter_form-requires
-enter_form-requires c = none_takes_list c.args.walk.now.answer c.args.walk.now.frames (ap takes_list (sym c.what_comes-kind.ensures) ∙ sym c.takes_list.ensures ∙ c.if-takes_list.true)
+pub enter_form-requires-clause-kind : goal.enter_form-requires-clause-kind
+enter_form-requires-clause-kind c = (ap takes_list (sym c.what_comes-kind.ensures) ∙ sym c.takes_list.ensures ∙ c.if-takes_list.true)
+
+pub enter_form-requires-clause-none : goal.enter_form-requires-clause-none
+enter_form-requires-clause-none c = none_takes_list c.args.walk.now.answer c.args.walk.now.frames (ap takes_list (sym c.what_comes-kind.ensures) ∙ sym c.takes_list.ensures ∙ c.if-takes_list.true)
 
 pub returns : goal.returns
 returns c = λ s st. enter_refused (ahead c.args.term.now c.args.place) c.args.term.now s c.args.walk.now.answer c.args.walk.now.bindings c.args.walk.now.frames (ap is_answered (sym c.what_comes-kind.ensures) ∙ sym c.is_answered.ensures ∙ c.if-is_answered.false) (ap awaits_term (sym c.what_comes-kind.ensures) ∙ sym c.awaits_term.ensures ∙ c.if-awaits_term.false) (ap takes_list (sym c.what_comes-kind.ensures) ∙ sym c.takes_list.ensures ∙ c.if-takes_list.false) (ap is_head (sym c.what_comes-kind.ensures) ∙ sym c.is_head.ensures ∙ c.if-is_head.false)

@@ -16,8 +16,14 @@ leave_division-requires-clause-kind c = (ap is_divided (sym c.what_comes-kind.en
 pub returns-clause-comes : goal.returns-clause-comes
 returns-clause-comes c = λ tokens. leave_refused (rules_of c.args.rules) tokens (scope_of c.args.table.now c.args.store.now.trees) c.args.walk.now.answer c.args.walk.now.bindings c.args.walk.now.frames (ap is_answered (sym c.what_comes-kind.ensures) ∙ sym c.is_answered.ensures ∙ c.if-is_answered.false) (ap is_argument (sym c.what_comes-kind.ensures) ∙ sym c.is_argument.ensures ∙ c.if-is_argument.false) (ap is_divided (sym c.what_comes-kind.ensures) ∙ sym c.is_divided.ensures ∙ c.if-is_divided.false) (ap may_end (sym c.what_comes-kind.ensures) ∙ sym c.may_end.ensures ∙ c.if-may_end.false)
 
-pub leave_form-requires : goal.leave_form-requires
-leave_form-requires c = record { none = none_may_end c.args.walk.now.answer c.args.walk.now.frames (ap may_end (sym c.what_comes-kind.ensures) ∙ sym c.may_end.ensures ∙ c.if-may_end.true) }
+pub leave_form-requires-clause-none : goal.leave_form-requires-clause-none
+leave_form-requires-clause-none c = none_may_end c.args.walk.now.answer c.args.walk.now.frames (ap may_end (sym c.what_comes-kind.ensures) ∙ sym c.may_end.ensures ∙ c.if-may_end.true)
+
+pub leave_form-requires-clause-kind : goal.leave_form-requires-clause-kind
+leave_form-requires-clause-kind c = (ap may_end (sym c.what_comes-kind.ensures) ∙ sym c.may_end.ensures ∙ c.if-may_end.true)
+
+pub leave_form-requires-clause-waits : goal.leave_form-requires-clause-waits
+leave_form-requires-clause-waits c = c.requires.stands.others
 
 pub returns-then-may_end-clause-comes : goal.returns-then-may_end-clause-comes
 returns-then-may_end-clause-comes c = λ tokens. c.leave_form.ensures tokens (scope_of c.args.table.now c.args.store.now.trees) (rules_of c.args.rules) c.requires.stands

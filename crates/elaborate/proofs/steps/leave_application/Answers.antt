@@ -1,6 +1,6 @@
 use Rattle.elaborate.specs.declared.frame.Frame.TheVariants.{Application}
 use Rattle.elaborate.specs.Judged.{scope_of, rules_of}
-use Rattle.elaborate.proofs.Moves.{popped, top_is, top_values, none_is_argument, leave_given, leave_not}
+use Rattle.elaborate.proofs.Moves.{popped, rest_waits, top_is, top_values, none_is_argument, leave_given, leave_not}
 use Rattle.elaborate.proofs.steps.leave_application.Goals as goal
 
 pub apply_name-requires : goal.apply_name-requires
@@ -8,8 +8,11 @@ apply_name-requires c =
     top_values (scope_of c.args.table.now c.args.store.now.trees) c.args.walk.now c.in-Some-Application.name c.in-Some-Application.operator c.in-Some-Application.arguments c.pop.new.self
     (top_is c.args.walk.now c.in-Some-Application.field-0 (Application c.in-Some-Application.name c.in-Some-Application.operator c.in-Some-Application.arguments) c.pop.new.self c.in-Some-Application.ensures.some c.in-Some-Application.field-0-is) c.requires.stands
 
-pub give-requires : goal.give-requires
-give-requires c = none_is_argument c.args.walk.now.answer c.args.walk.now.frames c.requires.kind
+pub give-requires-clause-none : goal.give-requires-clause-none
+give-requires-clause-none c = none_is_argument c.args.walk.now.answer c.args.walk.now.frames c.requires.kind
+
+pub give-requires-clause-waits : goal.give-requires-clause-waits
+give-requires-clause-waits c = rest_waits c.args.walk.now.frames c.in-Some-Application.field-0 c.pop.new.self c.in-Some-Application.ensures.some c.requires.stands.others
 
 pub returns-in-Ok-give-clause-comes : goal.returns-in-Ok-give-clause-comes
 returns-in-Ok-give-clause-comes c = λ tokens.

@@ -4,7 +4,7 @@ use Rattle.smt_meaning.specs.Sorts.{judge_divisible}
 use Rattle.elaborate.specs.declared.frame.Frame.TheVariants.{Division}
 use Rattle.elaborate.specs.Judged.{scope_of, rules_of}
 use Rattle.elaborate.specs.Values.{typed, AreValues, Comes}
-use Rattle.elaborate.proofs.Moves.{popped, top_is, divided_holds, none_is_divided, division_given, division_not}
+use Rattle.elaborate.proofs.Moves.{popped, rest_waits, top_is, divided_holds, none_is_divided, division_given, division_not}
 use Rattle.elaborate.proofs.steps.leave_division.Goals as goal
 
 pub apply_divisible-requires-clause-values : goal.apply_divisible-requires-clause-values
@@ -15,8 +15,11 @@ pub apply_divisible-requires-clause-divisor : goal.apply_divisible-requires-clau
 apply_divisible-requires-clause-divisor c =
     (divided_holds (scope_of c.args.table.now c.args.store.now.trees) c.args.walk.now c.in-Some-Division.number c.in-Some-Division.arguments c.pop.new.self (top_is c.args.walk.now c.in-Some-Division.field-0 (Division c.in-Some-Division.number c.in-Some-Division.arguments) c.pop.new.self c.in-Some-Division.ensures.some c.in-Some-Division.field-0-is) c.requires.stands).0
 
-pub give-requires : goal.give-requires
-give-requires c = none_is_divided c.args.walk.now.answer c.args.walk.now.frames c.requires.kind
+pub give-requires-clause-none : goal.give-requires-clause-none
+give-requires-clause-none c = none_is_divided c.args.walk.now.answer c.args.walk.now.frames c.requires.kind
+
+pub give-requires-clause-waits : goal.give-requires-clause-waits
+give-requires-clause-waits c = rest_waits c.args.walk.now.frames c.in-Some-Division.field-0 c.pop.new.self c.in-Some-Division.ensures.some c.requires.stands.others
 
 pub returns-in-Ok-give-clause-comes : goal.returns-in-Ok-give-clause-comes
 returns-in-Ok-give-clause-comes c = λ tokens.
