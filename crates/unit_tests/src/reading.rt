@@ -150,7 +150,11 @@ static SCRIPTS: [(&'static [u8], &'static [u8], Fault); 45] = [
     (b"(a))", b"(Sa,) ", Some((FaultKind::Closing, 3))),
     (b"a ;)\n)", b"Sa, ", Some((FaultKind::Closing, 5))),
     (b"; a\n;b\r ;c\n )", b"", Some((FaultKind::Closing, 12))),
-    (b";a\n b ;c\n \"", b"Sb, ", Some((FaultKind::Unfinished, 10))),
+    (
+        b";a\n b ;c\n \"",
+        b"Sb, ",
+        Some((FaultKind::Unfinished, 10)),
+    ),
     (b"(a", b"", Some((FaultKind::Unfinished, 0))),
     (b" (a) (b (c)", b"(Sa,) ", Some((FaultKind::Unfinished, 5))),
     (b"a (b ;c)", b"Sa, ", Some((FaultKind::Unfinished, 2))),
