@@ -12,6 +12,7 @@ use Rattle.ports.specs.Flow.{SourceTold}
 use Rattle.proof_form.specs.declared.found.Found.{Found}
 use Rattle.proof_form.specs.declared.found.Found.TheVariants.{NoProof}
 use Rattle.proof_form.specs.Found.{IsFound}
+use Rattle.smt_reader.proofs.Skipping.{skips_none}
 use Rattle.session.specs.LastCheck.{is_after_check}
 use Rattle.smt_check.specs.declared.intake.Halt.{Halt}
 use Rattle.smt_check.specs.declared.intake.Intake.{Intake}
@@ -33,6 +34,8 @@ begins budget source s i is reader calls = record {
   each = λ e. omega (arith, calls);
   but_one = λ e. let f : i.reader.finished ≡ false = ap (λ (u : Unread). u.finished) reader in cc;
   ended = λ e. let f : i.reader.finished ≡ false = ap (λ (u : Unread). u.finished) reader in absurd cc;
+  left = i.reader;
+  skips = skips_none i.reader;
   reached = λ more may.
       subst (λ (u : Unread). Reached (folded s) more (u.bytes ++ more)) (sym reader) (subst (λ t. Reached (folded t) more more) (sym is) no_command);
 }
@@ -59,6 +62,8 @@ module _ (budget : ℕ) (source now : SourceTold) (s : State) where
       each = so.each;
       but_one = so.but_one;
       ended = so.ended;
+      left = so.left;
+      skips = so.skips;
       reached = λ more may.
           let r = so.reached more may in
           next_command r.1 (record { tokens = tokens; sexpr = sexpr; lexes = r.2; no_exit = other; no_question = no_question; reply = reply; kept = kept; replies = replies });
@@ -66,7 +71,7 @@ module _ (budget : ℕ) (source now : SourceTold) (s : State) where
 
     -- an exit ends the fold
     pub exits_now : (new : State) → IsExit tokens → IsAsked budget source now (Ok false) new i
-    exits_now new last = (read_of budget source now (past (folded s) tokens) i so, λ more may. let r = so.reached more may in exits s r.0 (i.reader.bytes ++ more) tokens r.1 sexpr r.2 last)
+    exits_now new last = (read_of budget source now (past (folded s) tokens) i so, λ more may. let r = so.reached more may in exits s r.0 (so.left.bytes ++ more) tokens r.1 sexpr r.2 last)
 
     -- (get-proof) is read
     pub asked_now : tokens ≡ get_proof → IsAsked budget source now (Ok true) s i
@@ -81,7 +86,7 @@ module _ (budget : ℕ) (source now : SourceTold) (s : State) where
 
   -- there was no check
   pub unchecked_now : (i : Intake) → SoFar budget source now (past (folded s) get_proof) i → is_after_check s.mode ≡ false → Comes budget source now (Ok NoProof)
-  unchecked_now i so after = (read_of budget source now (past (folded s) get_proof) i so, without (λ more may. unchecked s (i.reader.bytes ++ more) (so.reached more may) after))
+  unchecked_now i so after = (read_of budget source now (past (folded s) get_proof) i so, without (λ more may. unchecked s (so.left.bytes ++ more) (so.reached more may) after))
 
   module _ (after : is_after_check s.mode ≡ true) where
     pub unproved_now : (i : Intake) → IsNext budget source now (past (folded s) get_proof) (Ok None) i → Comes budget source now (Ok NoProof)
@@ -91,7 +96,7 @@ module _ (budget : ℕ) (source now : SourceTold) (s : State) where
     judged_now i tokens found h is =
         let so = h.1 in (
           read_of budget source now (past (past (folded s) get_proof) tokens) i so,
-          judged s tokens (λ more may. let r = so.reached more may in record { left = r.0; asks = r.1; after_check = after; rest = i.reader.bytes ++ more; sexpr = h.0; lexes = r.2 }) is,
+          judged s tokens (λ more may. let r = so.reached more may in record { left = r.0; asks = r.1; after_check = after; rest = so.left.bytes ++ more; sexpr = h.0; lexes = r.2 }) is,
         )
 
     pub cut_behind : (halt : Halt) (i : Intake) → IsNext budget source now (past (folded s) get_proof) (Err halt) i → Comes budget source now (Err halt)

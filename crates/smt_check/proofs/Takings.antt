@@ -7,6 +7,8 @@ use Rattle.smt_meaning.specs.declared.tokens.Token.{Token}
 use Rattle.smt_meaning.specs.declared.tokens.FaultKind.{FaultKind}
 use Rattle.smt_meaning.specs.Reading.{Unread, IsSettled, MayFollow, Takes, ready, fault, end}
 use Rattle.ports.specs.Flow.{SourceTold, Rose, RoseBy, raised_by}
+use Rattle.smt_reader.specs.Reader.{Skips}
+use Rattle.smt_reader.proofs.Skipping.{skips_none, skips_twice, skips_fed, skips_finished, settled_before, settled_after, takes_before}
 use Rattle.smt_check.specs.declared.intake.Halt.{Halt}
 use Rattle.smt_check.specs.declared.intake.Halt.TheVariants.{Memory, ReadFault, TooLong}
 use Rattle.smt_check.specs.declared.intake.Intake.{Intake}
@@ -117,6 +119,27 @@ module _ (budget : ℕ) (source now : SourceTold) (p : Phase) (old : Intake) (s 
     whole = whole_of source.left now.left old.reader.finished s.input s.bytes s.ended;
   }
 
+  -- what may follow
+  may_left : (more : List ℕ) → MayFollow old.reader.finished more → MayFollow s.left.finished more
+  may_left more may = subst (λ b. MayFollow b more) s.skips.finished may
+
+  -- white space and comments are let go
+  pub skipped : (new : Intake) → Skips old.reader new.reader → new.calls ≡ old.calls → SoFar budget source now p new
+  skipped new skips calls = record {
+    input = s.input;
+    given = s.given;
+    bytes = s.bytes;
+    calls = s.calls;
+    faults = s.faults;
+    many = s.many;
+    each = λ e. let before = s.each (sym skips.finished ∙ e) in omega (arith, calls, before);
+    but_one = λ e. s.but_one (sym skips.finished ∙ e);
+    ended = λ e. s.ended (sym skips.finished ∙ e);
+    left = s.left;
+    skips = skips_twice s.left old.reader new.reader s.skips skips;
+    reached = λ more may. s.reached more (subst (λ b. MayFollow b more) skips.finished may);
+  }
+
   -- the next s-expression is read
   pub read_next : (new : Intake) (tokens : List Token) → IsSettled old.reader (ready tokens) → Takes old.reader tokens new.reader → new.calls ≡ old.calls → IsNext budget source now p (Ok (Some tokens)) new
   read_next new tokens settled takes calls = (
@@ -131,15 +154,20 @@ module _ (budget : ℕ) (source now : SourceTold) (p : Phase) (old : Intake) (s 
       each = λ e. let before = s.each (sym takes.finished ∙ e) in omega (arith, calls, before);
       but_one = λ e. s.but_one (sym takes.finished ∙ e);
       ended = λ e. s.ended (sym takes.finished ∙ e);
-      reached = λ more may. let may' = subst (λ b. MayFollow b more) takes.finished may in (old.reader.bytes ++ more, s.reached more may', takes.lexes more may');
+      left = new.reader;
+      skips = skips_none new.reader;
+      reached = λ more may.
+          let may' = subst (λ b. MayFollow b more) takes.finished may in
+          let takes' = takes_before s.left old.reader s.skips tokens new.reader (settled [] (nothing_follows old.reader.finished)).0 takes in
+          (s.left.bytes ++ more, s.reached more may', takes'.lexes more (may_left more may'));
     },
   )
 
-  over_at_fault : (kind : FaultKind) (at : ℕ) → IsSettled old.reader (fault kind at) → (more : List ℕ) → MayFollow old.reader.finished more → IsOver (old.reader.bytes ++ more)
-  over_at_fault kind at settled more may = let f = settled more may in inl (kind, f.0, f.1)
+  over_at_fault : (kind : FaultKind) (at : ℕ) → IsSettled old.reader (fault kind at) → (more : List ℕ) → MayFollow old.reader.finished more → IsOver (s.left.bytes ++ more)
+  over_at_fault kind at settled more may = let f = settled_before s.left old.reader s.skips (fault kind at) settled more (may_left more may) in inl (kind, f.0, f.1)
 
-  none_by : (new : Intake) → ((more : List ℕ) → MayFollow old.reader.finished more → IsOver (old.reader.bytes ++ more)) → IsNext budget source now p (Ok None) new
-  none_by new over = (read_of, λ more may. (old.reader.bytes ++ more, s.reached more may, over more may))
+  none_by : (new : Intake) → ((more : List ℕ) → MayFollow old.reader.finished more → IsOver (s.left.bytes ++ more)) → IsNext budget source now p (Ok None) new
+  none_by new over = (read_of, λ more may. (s.left.bytes ++ more, s.reached more may, over more may))
 
   -- a fault comes
   pub fault_next : (new : Intake) (kind : FaultKind) (at : ℕ) → IsSettled old.reader (fault kind at) → IsNext budget source now p (Ok None) new
@@ -147,16 +175,20 @@ module _ (budget : ℕ) (source now : SourceTold) (p : Phase) (old : Intake) (s 
 
   -- the end does
   pub end_next : (new : Intake) → IsSettled old.reader end → IsNext budget source now p (Ok None) new
-  end_next new settled = none_by new (λ more may. inr (settled more may))
+  end_next new settled = none_by new (λ more may. inr (settled_before s.left old.reader s.skips end settled more (may_left more may)))
 
   -- ---- more bytes
 
   module _ (going : old.reader.finished ≡ false) where
     open_now : NoneSettled old.reader → IsOpenAt p s.input
     open_now none = (
-      old.reader.bytes,
+      s.left.bytes,
       λ more. s.reached more (subst (λ b. MayFollow b more) (sym going) tt),
-      (old.reader.place, λ a settled. none a (subst (λ b. IsSettled (record { place = old.reader.place; bytes = old.reader.bytes; finished = b }) a) (sym going) settled)),
+      (
+        s.left.place,
+        λ a settled. none a (settled_after s.left old.reader s.skips a
+            (subst (λ b. IsSettled (record { place = s.left.place; bytes = s.left.bytes; finished = b }) a) (sym going ∙ s.skips.finished) settled)),
+      ),
     )
 
     -- no call is left
@@ -217,10 +249,12 @@ module _ (budget : ℕ) (source now : SourceTold) (p : Phase) (old : Intake) (s 
               each = λ e. let before = s.each going in omega (arith, called, before);
               but_one = λ e. absurd (not_true (sym still ∙ e));
               ended = λ e. absurd (not_true (sym still ∙ e));
+              left = record s.left { bytes = s.left.bytes ++ bytes };
+              skips = subst (Skips (record s.left { bytes = s.left.bytes ++ bytes })) (sym is) (skips_fed s.left old.reader s.skips bytes);
               reached = λ more may.
                   let h = s.reached (bytes ++ more) (subst (λ b. MayFollow b (bytes ++ more)) (sym going) tt) in
-                  subst (λ xs. Reached p xs (new.reader.bytes ++ more)) (sym (append_assoc s.input bytes more))
-                  (subst (λ xs. Reached p (s.input ++ (bytes ++ more)) xs) (sym (append_assoc old.reader.bytes bytes more) ∙ ap (λ (u : Unread). u.bytes ++ more) (sym is)) h);
+                  subst (λ xs. Reached p xs ((s.left.bytes ++ bytes) ++ more)) (sym (append_assoc s.input bytes more))
+                  (subst (λ xs. Reached p (s.input ++ (bytes ++ more)) xs) (sym (append_assoc s.left.bytes bytes more)) h);
             }
 
         -- it is at its end
@@ -237,10 +271,11 @@ module _ (budget : ℕ) (source now : SourceTold) (p : Phase) (old : Intake) (s 
               each = λ e. absurd (not_true (sym e ∙ over));
               but_one = λ e. let before = s.each going in omega (arith, called, before);
               ended = λ e. at;
+              left = record s.left { finished = true };
+              skips = subst (Skips (record s.left { finished = true })) (sym is) (skips_finished s.left old.reader s.skips);
               reached = λ more may.
                   let none : more ≡ [] = subst (λ b. MayFollow b more) over may in
-                  let h = s.reached more (subst (λ xs. MayFollow old.reader.finished xs) (sym none) (nothing_follows old.reader.finished)) in
-                  subst (λ xs. Reached p (s.input ++ more) xs) (ap (λ (u : Unread). u.bytes ++ more) (sym is)) h;
+                  s.reached more (subst (λ xs. MayFollow old.reader.finished xs) (sym none) (nothing_follows old.reader.finished));
             }
 
 -- ---- room
@@ -256,6 +291,12 @@ room_closed old new room called is =
     let place : new.reader.place ≡ old.reader.place = ap (λ (u : Unread). u.place) is in
     let size : length new.reader.bytes ≡ length old.reader.bytes = ap (λ (u : Unread). length u.bytes) is in
     (omega (arith, place, size, called, room), omega (arith, called), omega (arith, size, called))
+
+pub room_skipped : (old new : Intake) → HasRoom old → new.calls ≡ old.calls → Skips old.reader new.reader → HasRoom new × (weight new ≤ weight old)
+room_skipped old new room called skips = (omega (arith, called, skips.place, room), omega (arith, called, skips.shorter))
+
+pub none_skipped : (old new : Unread) → Skips old new → NoneSettled old → NoneSettled new
+none_skipped old new skips none a settled = none a (settled_before old new skips a settled)
 
 pub room_read : (old new : Intake) (tokens : List Token) → HasRoom old → new.calls ≡ old.calls → Takes old.reader tokens new.reader → HasRoom new × (weight new < weight old)
 room_read old new tokens room called takes = (omega (arith, called, takes.place, room), omega (arith, called, takes.some))

@@ -4,6 +4,7 @@ use Rattle.std.specs.Io.KnownBytes.{Consumes, IsAtEnd}
 use Rattle.smt_meaning.specs.declared.tokens.Token.{Token}
 use Rattle.smt_meaning.specs.Reading.{Answer, Unread, Lexes, IsSExpr, IsSettled, MayFollow}
 use Rattle.smt_meaning.specs.State.{State, start}
+use Rattle.smt_reader.specs.Reader.{Skips}
 use Rattle.ports.specs.Flow.{SourceTold, Rose, RoseBy}
 use Rattle.proof_form.specs.declared.found.Found.{Found}
 use Rattle.smt_check.specs.declared.intake.Halt.{Halt}
@@ -42,7 +43,7 @@ HasRoom i = i.reader.place + length i.reader.bytes + 65536 * i.calls ≤ 65536 *
 abbrev pub weight : Intake → ℕ
 weight i = 65537 * i.calls + length i.reader.bytes
 
--- a run that goes on: each call of the source gave a byte or more, unless one was the end, and reading has come to what isn't read, whatever follows
+-- a run that goes on: each call of the source gave a byte or more, unless one was the end, and reading has come to what isn't read, whatever follows, of which the reader may have let white space and comments go
 pub record SoFar (budget : ℕ) (source now : SourceTold) (p : Phase) (i : Intake) : Type 0 where
   pub input : List ℕ
   pub given : ℕ
@@ -53,7 +54,9 @@ pub record SoFar (budget : ℕ) (source now : SourceTold) (p : Phase) (i : Intak
   pub each : i.reader.finished ≡ false → given + i.calls ≡ budget
   pub but_one : i.reader.finished ≡ true → given < budget
   pub ended : i.reader.finished ≡ true → IsAtEnd now.left
-  pub reached : (more : List ℕ) → MayFollow i.reader.finished more → Reached p (input ++ more) (i.reader.bytes ++ more)
+  pub left : Unread
+  pub skips : Skips left i.reader
+  pub reached : (more : List ℕ) → MayFollow i.reader.finished more → Reached p (input ++ more) (left.bytes ++ more)
 
 -- why a run was cut off after so many calls, where this is so of its input
 abbrev pub CauseOf : Halt → ℕ → SourceTold → SourceTold → ℕ → List ℕ → (List ℕ → Type 0) → Type 0

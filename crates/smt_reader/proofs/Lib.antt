@@ -12,3 +12,5 @@ mod Scans
 mod Unsettled
 mod Scanned
 mod Unreads
+mod Skipped
+pub mod Skipping

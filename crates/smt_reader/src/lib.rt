@@ -4,10 +4,14 @@
 //! or a fault is given as soon as it is settled, whatever bytes may follow, and is what the bytes
 //! read as.
 //!
-//! `NeedMore` comes exactly where nothing is settled yet; `End` exactly where the input has ended
-//! in white space or comments. Want of memory leaves what is unread as it was.
+//! `NeedMore` comes exactly where nothing is settled yet, and lets white space and comments go;
+//! `End` exactly where the input has ended in white space or comments. Want of memory leaves what
+//! is unread as it was.
 //!
 //! `reads_in_one_way`: an input has at most one first answer, and at most one is settled.
+//!
+//! `skips_nothing_else`: where white space and comments are let go, the same answers are settled,
+//! and each s-expression is taken with the same rest.
 #![tactic(auto)]
 
 mod byte;
@@ -17,7 +21,7 @@ mod part;
 mod reader;
 mod scan;
 
-pub use law::reads_in_one_way;
+pub use law::{reads_in_one_way, skips_nothing_else};
 pub use reader::Reader;
 use smt_meaning::{FaultKind, SExpr};
 

@@ -1,14 +1,15 @@
 //! The reader: bytes are fed in pieces, and s-expressions are given as soon as they are settled.
-//! What was read is forgotten.
+//! What was read is forgotten, and so are white space and comments.
 ghost use Rattle.std.specs.Prelude.{◌≡◌, ◌≤◌, ◌<◌, ◌+◌, ◌^◌, ◌++◌, [], length, drop, vec_len, OnOk, OnErr, IfOk, false, true};
-ghost use Rattle.smt_reader.specs.Reader.{AnswersRightly, Leaves};
+ghost use Rattle.smt_reader.specs.Reader.{AnswersRightly, Leaves, Skips};
 
 use crate::Next;
+use crate::part::Part;
 use crate::scan::{Found, Scan};
 use std::alloc::{AllocError, Global};
 use std::marker::Model;
 
-/// Reads s-expressions (SMT-LIB 2.6, sections 3.1 and 3.2) from bytes that come in pieces. Contracts see it as the bytes that it hasn't read, the place of the first of them, and whether they are all.
+/// Reads s-expressions (SMT-LIB 2.6, sections 3.1 and 3.2) from bytes that come in pieces. Contracts see it as the bytes that it hasn't read, the place of the first of them, and whether they are all. In the place of a comment that may go on it keeps its mark alone.
 ///
 /// A call goes on from the byte at which the one before stopped, and scans none before it again.
 #[derive(Drop)]
@@ -69,7 +70,7 @@ impl Reader {
         self.finished = true;
     }
 
-    /// What comes next. An s-expression that is given has then been read, and nothing else has. An `Err`, for want of memory, changes nothing.
+    /// What comes next. An s-expression that is given has then been read. Where more bytes are needed, white space and comments before an s-expression are let go. An `Err`, for want of memory, changes nothing.
     pub fn next(&mut self, alloc: Global) -> Result<Next, AllocError>
         ensures answer { IfOk result (λ next. AnswersRightly self.old next) }
         ensures left { IfOk result (λ next. Leaves self.old next self.new) }
@@ -86,8 +87,32 @@ impl Reader {
             Found::Fault(kind, place) => {
                 Ok(Next::Fault(kind, self.base + (self.at + place) as u64))
             }
-            Found::NeedMore => Ok(Next::NeedMore),
+            Found::NeedMore => {
+                self.skip();
+                Ok(Next::NeedMore)
+            }
             Found::End => Ok(Next::End),
+        }
+    }
+
+    /// Lets white space and comments go, where no more than these were looked at. Of a comment that may go on, the mark is left.
+    fn skip(&mut self)
+        ensures { Skips self.old self.new }
+    {
+        if self.scan.depth > 0 {
+            return;
+        }
+        match self.scan.part {
+            Part::Blank => {
+                self.at += self.scan.looked;
+                self.scan.resume(0);
+            }
+            Part::Comment if self.scan.looked > 0 => {
+                self.at += self.scan.looked - 1;
+                self.bytes[self.at] = b';';
+                self.scan.resume(1);
+            }
+            _ => {}
         }
     }
 

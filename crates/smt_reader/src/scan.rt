@@ -259,6 +259,14 @@ impl Scan {
         Found::Ready(tokens.into_sexpr(), used)
     }
 
+    /// Goes on from a place, in the same part, of which nothing was read before it.
+    pub fn resume(&mut self, next: usize)
+        ensures { self.new ≡ record self.old { looked = next; start = next } }
+    {
+        self.looked = next;
+        self.start = next;
+    }
+
     /// Goes on from a place, between tokens.
     fn go_on(&mut self, next: usize)
         ensures { self.new ≡ record self.old { looked = next; part = Part.Blank; start = next } }

@@ -6,11 +6,11 @@ use Rattle.smt_meaning.specs.Reading.{Unread}
 use Rattle.smt_meaning.specs.State.{start}
 use Rattle.smt_meaning.specs.MayReply.{Decided}
 use Rattle.smt_meaning.specs.LegalJournal.{beginning, Runs}
-use Rattle.smt_top.specs.Progress.{Run, SoFar, CutOff, HasAnswered, moment}
+use Rattle.smt_top.specs.Progress.{Run, SoFar, CutOff, HasLeft, moment}
 use Rattle.smt_top.specs.Ended.{made_of}
 use Rattle.smt_top.specs.declared.top.Halt.TheVariants.{Memory}
 use Rattle.smt_top.proofs.Written.{Writes-none}
-use Rattle.smt_top.proofs.Turns.{not_true}
+use Rattle.smt_top.proofs.Turns.{not_true, left_now}
 use Rattle.smt_top.proofs.Runs.{made_took, none_so_far}
 
 -- a reader that was fed all of the input
@@ -20,8 +20,8 @@ fed_reader old mid new piece bytes begun fed over is =
     over ∙ ap (λ (u : Unread). record u { finished = true }) (fed ∙ ap₂ (λ (u : Unread) (p : List ℕ). record u { bytes = u.bytes ++ p }) begun is)
 
 module _ (decided : Decided) where
-  begins_whole : (s : Settings) (r : Run) (bytes : List ℕ) → r.reader ≡ record { place = 0; bytes = bytes; finished = true } → r.session ≡ start s → r.journal ≡ [] → HasAnswered decided s bytes r
-  unfolding HasAnswered
+  begins_whole : (s : Settings) (r : Run) (bytes : List ℕ) → r.reader ≡ record { place = 0; bytes = bytes; finished = true } → r.session ≡ start s → r.journal ≡ [] → HasLeft decided s bytes r
+  unfolding HasLeft
   begins_whole s r bytes e f h more may = subst (λ j. Runs decided (beginning s (bytes ++ more)) j (moment r more)) (sym h) (rw (e, f, h) refl)
 
   -- a run that begins with all of its input
@@ -36,7 +36,7 @@ module _ (decided : Decided) where
     but_one = λ _. omega arith;
     few = rw er (omega arith);
     ended = λ _. refl;
-    answered = begins_whole s r bytes er es ej;
+    answered = left_now decided s bytes r (begins_whole s r bytes er es ej);
     numbered = rw (ej, er) (omega arith);
     whole = rw ej (Writes-none sink);
     later = record { read = omega arith; write = omega arith };

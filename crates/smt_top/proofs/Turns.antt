@@ -15,7 +15,9 @@ use Rattle.smt_meaning.specs.declared.errors.Error.TheVariants.{Fault}
 use Rattle.smt_meaning.specs.declared.replies.Kept.{Kept}
 use Rattle.smt_meaning.specs.declared.replies.Kept.TheVariants.{Nothing}
 use Rattle.smt_meaning.specs.declared.tokens.FaultKind.{FaultKind}
-use Rattle.smt_top.specs.Progress.{Run, moment, HasAnswered, IsComplete, IsFront, IsOver, NoneSettled, given, Comes, SoFar, Ends, Stands, at_source, at_sink}
+use Rattle.smt_reader.specs.Reader.{Skips}
+use Rattle.smt_reader.proofs.Skipping.{skips_none, skips_twice, skips_fed, skips_finished, settled_before, settled_after, takes_before}
+use Rattle.smt_top.specs.Progress.{Run, moment, HasLeft, HasAnswered, IsComplete, IsFront, IsOver, NoneSettled, given, Comes, SoFar, Ends, Stands, at_source, at_sink}
 use Rattle.smt_top.specs.declared.serving.Stage.{Stage}
 use Rattle.smt_top.specs.declared.serving.Stage.TheVariants.{Asks, Complete}
 use Rattle.smt_top.specs.Progress.{CutOff, Over, Took, IsDone, WrittenAfter, WriteCause, IsWritten}
@@ -98,9 +100,18 @@ module _ (decided : Decided) where
 
   -- What answers to the front of an input
 
+  left_front : (s : Settings) (input : List ℕ) (old : Run) → HasLeft decided s input old → IsFront decided s input old.reader.finished old.journal
+  unfolding HasLeft IsFront IsLegalSoFar
+  left_front s input old had more may = inl (moment old more, had more may)
+
   pub had_front : (s : Settings) (input : List ℕ) (old : Run) → HasAnswered decided s input old → IsFront decided s input old.reader.finished old.journal
-  unfolding HasAnswered IsFront IsLegalSoFar
-  had_front s input old had more may = inl (moment old more, had more may)
+  unfolding HasAnswered
+  had_front s input old had = subst (λ b. IsFront decided s input b old.journal) (sym had.1.finished) (left_front s input (record old { reader = had.0 }) had.2)
+
+  -- with all that is left of it
+  pub left_now : (s : Settings) (input : List ℕ) (r : Run) → HasLeft decided s input r → HasAnswered decided s input r
+  unfolding HasAnswered
+  left_now s input r had = (r.reader, skips_none r.reader, had)
 
   -- the journal at hand is legal for the bytes so far, and those so far alone
   pub front_now : (s : Settings) (input : List ℕ) (finished : Bool) (journal : List Entry) → IsFront decided s input finished journal → IsLegalSoFar decided s input journal
@@ -130,34 +141,52 @@ module _ (decided : Decided) where
     before : (more : List ℕ) → MayFollow new.reader.finished more → MayFollow old.reader.finished more
     before more may = subst (λ b. MayFollow b more) takes.finished may
 
-    pub goes_on : (IsExit ts → ⊥) → (input : List ℕ) → HasAnswered decided s input old → HasAnswered decided s input new
-    unfolding HasAnswered
+    goes_on : (IsExit ts → ⊥) → (input : List ℕ) → HasLeft decided s input old → HasLeft decided s input new
+    unfolding HasLeft
     goes_on other input had more may =
         subst (λ j. Runs decided (beginning s (input ++ more)) j (moment new more)) (sym pushed)
         (Runs-push (beginning s (input ++ more)) (moment old more) (moment new more) old.journal _ (had more (before more may)) (ts, other, answers more (before more may)))
 
-    pub exits : IsExit ts → (input : List ℕ) → HasAnswered decided s input old → IsComplete decided s input new
-    unfolding HasAnswered IsComplete IsLegal
+    exits : IsExit ts → (input : List ℕ) → HasLeft decided s input old → IsComplete decided s input new
+    unfolding HasLeft IsComplete IsLegal
     exits last input had more may =
         subst (λ j. Answered decided (beginning s (input ++ more)) j) (sym pushed)
         (Runs-Answered (beginning s (input ++ more)) (moment old more) old.journal _ (had more (before more may)) (inl (inl (ts, moment new more, last, answers more (before more may)), refl)))
 
-    stops : IsExit ts → (input : List ℕ) → HasAnswered decided s input old → IsStopped decided s input new.journal
-    unfolding HasAnswered IsStopped
+    stops : IsExit ts → (input : List ℕ) → HasLeft decided s input old → IsStopped decided s input new.journal
+    unfolding HasLeft IsStopped
     stops last input had =
         let may = nothing_follows old.reader.finished in
         let ran : Runs decided (beginning s input) old.journal (moment old []) = subst (λ bytes. Runs decided (beginning s bytes) old.journal (moment old [])) (append-nil input) (had [] may) in
         (old.journal, entry_of old.journal reply kept, moment old [], pushed, ran, inl (ts, moment new [], last, answers [] may))
 
+    next_left : (stop : Bool) → (IsTrue stop ↔ IsExit ts) → (input : List ℕ) → HasLeft decided s input old
+        → MatchOption (then_some stop Complete) (HasAnswered decided s input new) (λ stage. Comes decided s stage input new)
+    next_left true both input had = (exits (both.0 refl) input had, inr (stops (both.0 refl) input had))
+    next_left false both input had = left_now s input new (goes_on (λ last. not_true (both.1 last)) input had)
+
+    front_left : (stop : Bool) → (IsTrue stop ↔ IsExit ts) → (input : List ℕ) → HasLeft decided s input old → IsFront decided s input new.reader.finished new.journal
+    front_left true both input had = legal_front s input new (exits (both.0 refl) input had)
+    front_left false both input had = left_front s input new (goes_on (λ last. not_true (both.1 last)) input had)
+
+  module _ (s : Settings) (old new : Run) (ts : List Token) (reply : Reply) (kept : Kept)
+      (settled : IsSettled old.reader (ready ts)) (takes : Takes old.reader ts new.reader)
+      (replies : Replies decided old.session ts reply kept new.session)
+      (pushed : new.journal ≡ old.journal ++ entry_of old.journal reply kept ∷ []) where
+    takes_left : (left : Unread) → Skips left old.reader → Takes left ts new.reader
+    takes_left left p = takes_before left old.reader p ts new.reader (settled [] (nothing_follows old.reader.finished)).0 takes
+
     -- what stands after the reply, whether it ends the run or not
     pub next : (stop : Bool) → (IsTrue stop ↔ IsExit ts) → (input : List ℕ) → HasAnswered decided s input old
         → MatchOption (then_some stop Complete) (HasAnswered decided s input new) (λ stage. Comes decided s stage input new)
-    next true both input had = (exits (both.0 refl) input had, inr (stops (both.0 refl) input had))
-    next false both input had = goes_on (λ last. not_true (both.1 last)) input had
+    unfolding HasAnswered
+    next stop both input had =
+        next_left s (record old { reader = had.0 }) new ts reply kept (settled_before had.0 old.reader had.1 (ready ts) settled) (takes_left had.0 had.1) replies pushed stop both input had.2
 
     front_by : (stop : Bool) → (IsTrue stop ↔ IsExit ts) → (input : List ℕ) → HasAnswered decided s input old → IsFront decided s input new.reader.finished new.journal
-    front_by true both input had = legal_front s input new (exits (both.0 refl) input had)
-    front_by false both input had = had_front s input new (goes_on (λ last. not_true (both.1 last)) input had)
+    unfolding HasAnswered
+    front_by stop both input had =
+        front_left s (record old { reader = had.0 }) new ts reply kept (settled_before had.0 old.reader had.1 (ready ts) settled) (takes_left had.0 had.1) replies pushed stop both input had.2
 
   -- where the reply's text wasn't taken, or memory was wanting for it
   pub reply_cut : (T : Type 0) (s : Settings) (old new : Run) (ts : List Token) (reply : Reply) (kept : Kept) (stop : Bool) (why : Stop)
@@ -168,33 +197,47 @@ module _ (decided : Decided) where
       let front = had_front s input old had in
       subst (λ j. IsFront decided s input new.reader.finished j) (sym (entry ∙ append-nil old.journal)) (subst (λ b. IsFront decided s input b old.journal) (sym takes.finished) front)
 
-  module _ (s : Settings) (old new : Run) (kind : FaultKind) (at : ℕ) (settled : IsSettled old.reader (fault kind at)) (same : new.reader ≡ old.reader)
+  module _ (s : Settings) (old new : Run) (kind : FaultKind) (at : ℕ) (settled : IsSettled old.reader (fault kind at)) (same : new.reader.finished ≡ old.reader.finished)
       (pushed : new.journal ≡ old.journal ++ entry_of old.journal (Error (Fault kind at)) Nothing ∷ []) where
     last_of : (more : List ℕ) → MayFollow old.reader.finished more → IsLast decided (moment old more) (entry_of old.journal (Error (Fault kind at)) Nothing)
     last_of more may = inr (kind, at, settled more may, refl, refl, refl)
 
-    fault_completes : (input : List ℕ) → HasAnswered decided s input old → IsComplete decided s input new
-    unfolding HasAnswered IsComplete IsLegal
+    fault_completes : (input : List ℕ) → HasLeft decided s input old → IsComplete decided s input new
+    unfolding HasLeft IsComplete IsLegal
     fault_completes input had more may =
-        let may' : MayFollow old.reader.finished more = subst (λ (u : Unread). MayFollow u.finished more) same may in
+        let may' : MayFollow old.reader.finished more = subst (λ b. MayFollow b more) same may in
         subst (λ j. Answered decided (beginning s (input ++ more)) j) (sym pushed)
         (Runs-Answered (beginning s (input ++ more)) (moment old more) old.journal _ (had more may') (inl (last_of more may', refl)))
 
-    fault_stops : (input : List ℕ) → HasAnswered decided s input old → IsStopped decided s input new.journal
-    unfolding HasAnswered IsStopped
+    fault_stops : (input : List ℕ) → HasLeft decided s input old → IsStopped decided s input new.journal
+    unfolding HasLeft IsStopped
     fault_stops input had =
         let may = nothing_follows old.reader.finished in
         let ran : Runs decided (beginning s input) old.journal (moment old []) = subst (λ bytes. Runs decided (beginning s bytes) old.journal (moment old [])) (append-nil input) (had [] may) in
         (old.journal, entry_of old.journal (Error (Fault kind at)) Nothing, moment old [], pushed, ran, last_of [] may)
 
+  module _ (s : Settings) (old new : Run) (kind : FaultKind) (at : ℕ) (settled : IsSettled old.reader (fault kind at)) (same : new.reader ≡ old.reader)
+      (pushed : new.journal ≡ old.journal ++ entry_of old.journal (Error (Fault kind at)) Nothing ∷ []) where
+    still : (left : Unread) → Skips left old.reader → new.reader.finished ≡ left.finished
+    still left p = ap (λ (u : Unread). u.finished) same ∙ p.finished
+
+    fault_complete : (input : List ℕ) → HasAnswered decided s input old → IsComplete decided s input new
+    unfolding HasAnswered
+    fault_complete input had =
+        fault_completes s (record old { reader = had.0 }) new kind at (settled_before had.0 old.reader had.1 (fault kind at) settled) (still had.0 had.1) pushed input had.2
+
     -- a fault ends the run
     pub faults : (input : List ℕ) → HasAnswered decided s input old → IsComplete decided s input new × IsOver decided s input new
-    faults input had = (fault_completes input had, inr (fault_stops input had))
+    unfolding HasAnswered
+    faults input had = (
+      fault_complete input had,
+      inr (fault_stops s (record old { reader = had.0 }) new kind at (settled_before had.0 old.reader had.1 (fault kind at) settled) (still had.0 had.1) pushed input had.2),
+    )
 
   -- where the fault's text wasn't taken, or memory was wanting for it
   pub fault_cut : (T : Type 0) (s : Settings) (old new : Run) (kind : FaultKind) (at : ℕ) (why : Stop) → IsSettled old.reader (fault kind at) → new.reader ≡ old.reader
       → new.journal ≡ old.journal ++ given {T = T} (Err why) (entry_of old.journal (Error (Fault kind at)) Nothing) → (input : List ℕ) → HasAnswered decided s input old → IsFront decided s input new.reader.finished new.journal
-  fault_cut T s old new kind at StopWriteFault settled same entry input had = legal_front s input new (fault_completes s old new kind at settled same entry input had)
+  fault_cut T s old new kind at StopWriteFault settled same entry input had = legal_front s input new (fault_complete s old new kind at settled same entry input had)
   fault_cut T s old new kind at StopMemory settled same entry input had =
       let front = had_front s input old had in
       subst (λ j. IsFront decided s input new.reader.finished j) (sym (entry ∙ append-nil old.journal)) (subst (λ b. IsFront decided s input b old.journal) (sym (ap (λ (u : Unread). u.finished) same)) front)
@@ -205,54 +248,85 @@ module _ (decided : Decided) where
       let front = had_front s input old had in
       subst (λ j. IsFront decided s input new.reader.finished j) (sym kept) (subst (λ b. IsFront decided s input b old.journal) (sym same) front)
 
+  ends_left : (s : Settings) (old new : Run) → IsSettled old.reader end → new.reader.finished ≡ old.reader.finished → new.journal ≡ old.journal → (input : List ℕ) → HasLeft decided s input old → IsComplete decided s input new
+  unfolding HasLeft IsComplete IsLegal
+  ends_left s old new settled same kept input had more may =
+      let may' : MayFollow old.reader.finished more = subst (λ b. MayFollow b more) same may in
+      subst (λ j. Answered decided (beginning s (input ++ more)) j) (append-nil old.journal ∙ sym kept)
+      (Runs-Answered (beginning s (input ++ more)) (moment old more) old.journal [] (had more may') (settled more may'))
+
   -- the end of the input ends the run
   pub ends : (s : Settings) (old new : Run) → IsSettled old.reader end → old.reader.finished ≡ true → new.reader ≡ old.reader → new.journal ≡ old.journal
       → (input : List ℕ) → HasAnswered decided s input old → IsComplete decided s input new × IsOver decided s input new
-  unfolding HasAnswered IsComplete IsLegal
+  unfolding HasAnswered
   ends s old new settled over same kept input had = (
-    (λ more may.
-        let may' : MayFollow old.reader.finished more = subst (λ (u : Unread). MayFollow u.finished more) same may in
-        subst (λ j. Answered decided (beginning s (input ++ more)) j) (append-nil old.journal ∙ sym kept)
-        (Runs-Answered (beginning s (input ++ more)) (moment old more) old.journal [] (had more may') (settled more may'))),
+    ends_left s (record old { reader = had.0 }) new (settled_before had.0 old.reader had.1 end settled) (ap (λ (u : Unread). u.finished) same ∙ had.1.finished) kept input had.2,
     inl (ap (λ (u : Unread). u.finished) same ∙ over),
   )
 
+  left_as : (s : Settings) (old new : Run) → new.reader ≡ old.reader → new.session ≡ old.session → new.journal ≡ old.journal → (input : List ℕ) → HasLeft decided s input old → HasLeft decided s input new
+  unfolding HasLeft
+  left_as s old new same state kept input had more may =
+      let may' : MayFollow old.reader.finished more = subst (λ (u : Unread). MayFollow u.finished more) same may in
+      let is : moment old more ≡ moment new more = rw (same, state, kept) refl in
+      subst (λ m. Runs decided (beginning s (input ++ more)) new.journal m) is (rw kept (had more may'))
+
   -- more is asked for
-  pub asks : (s : Settings) (old new : Run) → new.reader ≡ old.reader → new.session ≡ old.session → new.journal ≡ old.journal → old.reader.finished ≡ false → ((a : Answer) → IsSettled old.reader a → ⊥)
+  pub asks : (s : Settings) (old new : Run) → Skips old.reader new.reader → new.session ≡ old.session → new.journal ≡ old.journal → old.reader.finished ≡ false → ((a : Answer) → IsSettled old.reader a → ⊥)
       → (input : List ℕ) → HasAnswered decided s input old → HasAnswered decided s input new × (new.reader.finished ≡ false) × NoneSettled new.reader
   unfolding HasAnswered
-  asks s old new same state kept going none input had = (
-    (λ more may.
-        let may' : MayFollow old.reader.finished more = subst (λ (u : Unread). MayFollow u.finished more) same may in
-        let is : moment old more ≡ moment new more = rw (same, state, kept) refl in
-        subst (λ m. Runs decided (beginning s (input ++ more)) new.journal m) is (rw kept (had more may'))),
-    ap (λ (u : Unread). u.finished) same ∙ going,
-    (λ a settled. none a (subst (λ (u : Unread). IsSettled u a) same settled)),
+  asks s old new skips state kept going none input had = (
+    (had.0, skips_twice had.0 old.reader new.reader had.1 skips, left_as s (record old { reader = had.0 }) (record new { reader = had.0 }) refl state kept input had.2),
+    skips.finished ∙ going,
+    (λ a settled. none a (settled_before old.reader new.reader skips a settled)),
   )
+
+  begins_left : (s : Settings) (r : Run) → r.reader ≡ record { place = 0; bytes = []; finished = false } → r.session ≡ start s → r.journal ≡ [] → HasLeft decided s [] r
+  unfolding HasLeft
+  begins_left s r e f h more may = subst (λ j. Runs decided (beginning s more) j (moment r more)) (sym h) (rw (e, f, h) refl)
 
   -- a run that has just begun
   pub begins : (s : Settings) (r : Run) → r.reader ≡ record { place = 0; bytes = []; finished = false } → r.session ≡ start s → r.journal ≡ [] → HasAnswered decided s [] r
-  unfolding HasAnswered
-  begins s r e f h more may = subst (λ j. Runs decided (beginning s more) j (moment r more)) (sym h) (rw (e, f, h) refl)
+  begins s r e f h = left_now s [] r (begins_left s r e f h)
+
+  feeds_left : (s : Settings) (old new : Run) (input bytes : List ℕ) → old.reader.finished ≡ false → new.reader ≡ record old.reader { bytes = old.reader.bytes ++ bytes } → new.session ≡ old.session → new.journal ≡ old.journal
+      → HasLeft decided s input old → HasLeft decided s (input ++ bytes) new
+  unfolding HasLeft
+  feeds_left s old new input bytes going e f h had more may =
+      let same : moment old (bytes ++ more) ≡ moment new more = rw (e, f, h, append_assoc) refl in
+      let run = had (bytes ++ more) (subst (λ b. MayFollow b (bytes ++ more)) (sym going) tt) in
+      subst (λ m. Runs decided (beginning s ((input ++ bytes) ++ more)) new.journal m) same (rw (append_assoc, h) run)
 
   -- more input
   pub feeds : (s : Settings) (old new : Run) (input bytes : List ℕ) → old.reader.finished ≡ false → new.reader ≡ record old.reader { bytes = old.reader.bytes ++ bytes } → new.session ≡ old.session → new.journal ≡ old.journal
       → HasAnswered decided s input old → HasAnswered decided s (input ++ bytes) new
   unfolding HasAnswered
-  feeds s old new input bytes going e f h had more may =
-      let same : moment old (bytes ++ more) ≡ moment new more = rw (e, f, h, append_assoc) refl in
-      let run = had (bytes ++ more) (subst (λ b. MayFollow b (bytes ++ more)) (sym going) tt) in
-      subst (λ m. Runs decided (beginning s ((input ++ bytes) ++ more)) new.journal m) same (rw (append_assoc, h) run)
+  feeds s old new input bytes going e f h had =
+      let left : Unread = record had.0 { bytes = had.0.bytes ++ bytes } in (
+        left,
+        subst (Skips left) (sym e) (skips_fed had.0 old.reader had.1 bytes),
+        feeds_left s (record old { reader = had.0 }) (record new { reader = left }) input bytes (sym had.1.finished ∙ going) refl f h had.2,
+      )
+
+  finishes_left : (s : Settings) (old new : Run) (input : List ℕ) → new.reader ≡ record old.reader { finished = true } → new.session ≡ old.session → new.journal ≡ old.journal
+      → HasLeft decided s input old → HasLeft decided s input new
+  unfolding HasLeft
+  finishes_left s old new input e f h had more may =
+      let none : more ≡ [] = subst (λ (u : Unread). MayFollow u.finished more) e may in
+      let same : moment old more ≡ moment new more = rw (e, f, h) refl in
+      let run = had more (subst (λ m. MayFollow old.reader.finished m) (sym none) (nothing_follows old.reader.finished)) in
+      subst (λ m. Runs decided (beginning s (input ++ more)) new.journal m) same (rw h run)
 
   -- no more input
   pub finishes : (s : Settings) (old new : Run) (input : List ℕ) → new.reader ≡ record old.reader { finished = true } → new.session ≡ old.session → new.journal ≡ old.journal
       → HasAnswered decided s input old → HasAnswered decided s input new
   unfolding HasAnswered
-  finishes s old new input e f h had more may =
-      let none : more ≡ [] = subst (λ (u : Unread). MayFollow u.finished more) e may in
-      let same : moment old more ≡ moment new more = rw (e, f, h) refl in
-      let run = had more (subst (λ m. MayFollow old.reader.finished m) (sym none) (nothing_follows old.reader.finished)) in
-      subst (λ m. Runs decided (beginning s (input ++ more)) new.journal m) same (rw h run)
+  finishes s old new input e f h had =
+      let left : Unread = record had.0 { finished = true } in (
+        left,
+        subst (Skips left) (sym e) (skips_finished had.0 old.reader had.1),
+        finishes_left s (record old { reader = had.0 }) (record new { reader = left }) input refl f h had.2,
+      )
 
   -- bytes that were taken but not fed follow the input
   unfed : (s : Settings) (input bytes : List ℕ) (journal : List Entry) → IsFront decided s input false journal → IsFront decided s (input ++ bytes) false journal
@@ -260,15 +334,20 @@ module _ (decided : Decided) where
   unfed s input bytes journal front more may = subst (λ b. IsLegalSoFar decided s b journal) (sym (append_assoc input bytes more)) (front (bytes ++ more) tt)
 
   -- the entries answer all that is settled
-  pub answered_settled : (s : Settings) (input : List ℕ) (r : Run) → HasAnswered decided s input r → r.reader.finished ≡ false → NoneSettled r.reader → AnswersSettled decided s input r.journal
-  unfolding HasAnswered
-  answered_settled s input r had going none = record {
+  settled_left : (s : Settings) (input : List ℕ) (r : Run) → HasLeft decided s input r → r.reader.finished ≡ false → NoneSettled r.reader → AnswersSettled decided s input r.journal
+  unfolding HasLeft
+  settled_left s input r had going none = record {
     place = r.reader.place;
     rest = r.reader.bytes;
     state = r.session;
     runs = λ more. had more (subst (λ b. MayFollow b more) (sym going) tt);
     none_settled = λ a settled. none a (subst (λ b. IsSettled (record { place = r.reader.place; bytes = r.reader.bytes; finished = b }) a) (sym going) settled);
   }
+
+  pub answered_settled : (s : Settings) (input : List ℕ) (r : Run) → HasAnswered decided s input r → r.reader.finished ≡ false → NoneSettled r.reader → AnswersSettled decided s input r.journal
+  unfolding HasAnswered
+  answered_settled s input r had going none =
+      settled_left s input (record r { reader = had.0 }) had.2 (sym had.1.finished ∙ going) (λ a settled. none a (settled_after had.0 r.reader had.1 a settled))
 
   complete_is : (s : Settings) (input : List ℕ) (r : Run) → IsComplete decided s input r → (more : List ℕ) → MayFollow r.reader.finished more → IsLegal decided s (input ++ more) r.journal
   unfolding IsComplete

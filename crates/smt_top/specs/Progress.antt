@@ -2,6 +2,7 @@
 use Rattle.std.specs.Prelude.{◌≡◌, ℕ, ◌+◌, ◌*◌, ◌≤◌, ◌<◌, ◌⊎◌, ◌↔◌, Bool, true, false, IsTrue, List, [], ◌∷◌, ◌++◌, length, take, sum_by, Any, ⊤, Option, IfSome, IfOk, IfErr, Result, Ok, Err}
 use Rattle.std.specs.Io.KnownBytes.{Appends, Consumes, IsAtEnd}
 use Rattle.smt_meaning.specs.Reading.{Unread, Answer, IsSettled, MayFollow}
+use Rattle.smt_reader.specs.Reader.{Skips}
 use Rattle.smt_meaning.specs.State.{State}
 use Rattle.smt_meaning.specs.LegalJournal.{Moment, beginning, Runs, IsLegal, IsLegalSoFar, IsStopped, AnswersSettled, journal_text}
 use Rattle.smt_meaning.specs.MayReply.{Decided}
@@ -49,9 +50,13 @@ pub record Tallies (server : Server) (entries : List Entry) : Type 0 where
 abbrev pub moment : Run → List ℕ → Moment
 moment r more = record { place = r.reader.place; bytes = r.reader.bytes ++ more; state = r.session; number = length r.journal }
 
--- The run has answered the front of the input, whatever follows.
+-- The run has answered the front of the input, and what isn't read is all that is left of it, whatever follows.
+unfoldable pub HasLeft : Decided → Settings → List ℕ → Run → Type 0
+HasLeft decided s input r = (more : List ℕ) → MayFollow r.reader.finished more → Runs decided (beginning s (input ++ more)) r.journal (moment r more)
+
+-- The run has answered the front of the input, whatever follows. Of what is left of it the reader may have let white space and comments go.
 unfoldable pub HasAnswered : Decided → Settings → List ℕ → Run → Type 0
-HasAnswered decided s input r = (more : List ℕ) → MayFollow r.reader.finished more → Runs decided (beginning s (input ++ more)) r.journal (moment r more)
+HasAnswered decided s input r = (left : Unread) × Skips left r.reader × HasLeft decided s input (record r { reader = left })
 
 -- The run has answered the input, whatever follows.
 unfoldable pub IsComplete : Decided → Settings → List ℕ → Run → Type 0

@@ -101,7 +101,7 @@ fn read(
     Ok((text, fault))
 }
 
-static SCRIPTS: [(&'static [u8], &'static [u8], Fault); 43] = [
+static SCRIPTS: [(&'static [u8], &'static [u8], Fault); 45] = [
     (b"", b".", None),
     (b" \t\r\n", b".", None),
     (b"0 5 1234567890", b"N0, N5, N1234567890, .", None),
@@ -149,6 +149,12 @@ static SCRIPTS: [(&'static [u8], &'static [u8], Fault); 43] = [
     (b")", b"", Some((FaultKind::Closing, 0))),
     (b"(a))", b"(Sa,) ", Some((FaultKind::Closing, 3))),
     (b"a ;)\n)", b"Sa, ", Some((FaultKind::Closing, 5))),
+    (b"; a\n;b\r ;c\n )", b"", Some((FaultKind::Closing, 12))),
+    (
+        b";a\n b ;c\n \"",
+        b"Sb, ",
+        Some((FaultKind::Unfinished, 10)),
+    ),
     (b"(a", b"", Some((FaultKind::Unfinished, 0))),
     (b" (a) (b (c)", b"(Sa,) ", Some((FaultKind::Unfinished, 5))),
     (b"a (b ;c)", b"Sa, ", Some((FaultKind::Unfinished, 2))),

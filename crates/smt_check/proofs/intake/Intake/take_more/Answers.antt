@@ -1,7 +1,7 @@
-use Rattle.std.proofs.Common.{◌≡◌, ◌≢◌, ◌+◌, ◌-◌, take, arith}
+use Rattle.std.proofs.Common.{◌≡◌, ◌≢◌, ◌+◌, ◌-◌, take, arith, refl}
 use Rattle.std.proofs.lemmas.Result.{err_from_is_err_and}
 use Rattle.smt_check.specs.declared.intake.Intake.{Intake}
-use Rattle.smt_check.proofs.Takings.{one_call, some_bytes, too_long, read_fault, unfed, fed}
+use Rattle.smt_check.proofs.Takings.{one_call, some_bytes, too_long, read_fault, unfed, fed, closed, Consumes-none}
 use Rattle.smt_check.proofs.intake.Intake.take_more.Goals as goal
 
 pub returns-then-self-eq0-clause-err : goal.returns-then-self-eq0-clause-err
@@ -25,3 +25,17 @@ returns-in_ok-feed-in-Got-clause-ok g c budget first p s =
     let called : c.args.self.now.calls - 1 + 1 ≡ c.args.self.now.calls = omega arith in
     fed budget first _ p c.args.self.now s c.requires.going _ new called c.in-Got.ensures.cause (take c.in-Got.count c.more.new.buf) c.in-Got.ensures.bytes.0
     (one_call c.in-Got.count _ _ c.in-Got.count-test.1 c.in-Got.ensures.given) (some_bytes c.in-Got.count c.more.new.buf c.in-Got.count-test.1 c.in-Got.ensures.bound) c.in_ok-feed-in-Got.ensures.ok
+
+pub returns-in-Got-eq0-clause-ok : goal.returns-in-Got-eq0-clause-ok
+returns-in-Got-eq0-clause-ok g c budget first p s =
+    let new : Intake = record { reader = c.finish.new.self; calls = c.args.self.now.calls - 1 } in
+    let called : c.args.self.now.calls - 1 + 1 ≡ c.args.self.now.calls = omega arith in
+    let gave = rw c.in-Got-eq0.field-0-test at c.in-Got-eq0.ensures.bytes in
+    closed budget first _ p c.args.self.now s c.requires.going _ new called c.in-Got-eq0.ensures.cause (Consumes-none _ _ gave.0) (rw c.in-Got-eq0.field-0-test at c.in-Got-eq0.ensures.given)
+    (gave.1 refl (omega (arith, c.requires.buffer))) c.finish.ensures
+
+pub returns-in-End-clause-ok : goal.returns-in-End-clause-ok
+returns-in-End-clause-ok g c budget first p s =
+    let new : Intake = record { reader = c.finish-in-End.new.self; calls = c.args.self.now.calls - 1 } in
+    let called : c.args.self.now.calls - 1 + 1 ≡ c.args.self.now.calls = omega arith in
+    closed budget first _ p c.args.self.now s c.requires.going _ new called c.in-End.ensures.cause c.in-End.ensures.bytes.0 c.in-End.ensures.given c.in-End.ensures.bytes.1 c.finish-in-End.ensures

@@ -32,6 +32,11 @@ returns-in-NeedMore-clause-served g c =
     served_idle g.D.Decider.decides c.args.self.now new _ _ _ (Next g.D.Decider.decides) refl refl _
     (λ s input entries had. asks g.D.Decider.decides s (run_of c.args.self.now entries) (run_of new entries) left refl refl settled.0 settled.1 input had)
 
+pub returns-in-NeedMore-clause-numbered : goal.returns-in-NeedMore-clause-numbered
+returns-in-NeedMore-clause-numbered g c =
+    let left = rw c.in-NeedMore.is at c.in_ok-sexpr.ensures.left in
+    λ asks. omega (arith, c.requires.numbered, left.place, left.shorter)
+
 pub returns-in-End-clause-served : goal.returns-in-End-clause-served
 returns-in-End-clause-served g c =
     let settled = rw c.in-End.is at c.in_ok-sexpr.ensures.answer in
