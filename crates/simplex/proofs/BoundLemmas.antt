@@ -1,19 +1,16 @@
 -- Bounds that are set and taken back, in columns whose values stay; and what a check makes of the state.
-use Rattle.std.proofs.Common.{◌≡◌, ◌≢◌, ℕ, zero, suc, ◌<◌, ◌≤◌, ◌⊎◌, inl, inr, sym, ap, ap₂, ◌∙◌, subst, refl, arith, List, [], ◌∷◌, ◌++◌, length, take, get_or, get_or-set_other, get_or-set_same, length-append, Bool, true, false, cond, eqb, eqb-true, eq-eqb, Option, Some, None, All}
+use Rattle.std.proofs.Common.{◌≡◌, ◌≢◌, ℕ, zero, suc, ◌<◌, ◌≤◌, ◌⊎◌, inl, inr, sym, ap, ◌∙◌, subst, refl, arith, List, [], ◌∷◌, ◌++◌, length, take, get_or, get_or-set_other, get_or-set_same, length-append, Bool, true, false, cond, eqb, eqb-true, eq-eqb, Option, Some, None, All}
 use Rattle.std.proofs.lemmas.List.{get_or_append_left, get_or_push, length-set, get_or_past}
 use Rattle.std.proofs.lemmas.Bool.{cases_lt}
 use Rattle.std.specs.Prelude.{ℤ, int_lt, IfSome}
-use Rattle.fraction128.specs.declared.ratio.Ratio.{Ratio}
 use Rattle.fraction128.specs.Whole.{InRange}
 use Rattle.fraction128.specs.Ratio.{IsFraction}
-use Rattle.fraction128.specs.Number.{SameNumber, unreduced_sum, unreduced_product}
-use Rattle.fraction128.specs.declared.Entry.{Entry}
+use Rattle.fraction128.specs.Number.{SameNumber}
 use Rattle.fraction128.specs.declared.TableRow.{TableRow}
 use Rattle.fraction128.specs.declared.Column.{Column}
 use Rattle.fraction128.specs.declared.Bound.{Bound}
 use Rattle.fraction128.specs.declared.Side.{Side}
 use Rattle.fraction128.specs.declared.Side.TheVariants.{Lower, Upper}
-use Rattle.fraction128.specs.Grid.{row_value, MeetsRows}
 use Rattle.tableau.specs.Table.{Table, IsTable}
 use Rattle.simplex.specs.declared.trail.Set.{Set}
 use Rattle.simplex.specs.declared.trail.Held.{Held}
@@ -31,6 +28,7 @@ use Rattle.simplex.proofs.Meaning.{runs_keep}
 use Rattle.simplex.specs.declared.state.Verdict.{Verdict}
 use Rattle.simplex.specs.declared.state.Verdict.TheVariants.{Fits, Conflict, Range, UnitsSpent, Memory}
 use Rattle.simplex.specs.State.{IsState, IsCore, HasBounds, FixedAt, AreKnown, SameValues, KeepsValues, refreshed, KnownBounds, IsVerdict, IsConflictOf, Judges, SpendsRoom}
+use Rattle.simplex_steps.proofs.Independent.{rows_same}
 
 -- ---- values that stay
 
@@ -40,27 +38,18 @@ same_values cs = record { count = refl; each = λ i. record { sum = refl; value 
 pub values_through : (cs ds es : List Column) → KeepsValues cs ds → KeepsValues ds es → KeepsValues cs es
 values_through cs ds es p q = record { count = q.count ∙ p.count; each = λ i. record { sum = (q.each i).sum ∙ (p.each i).sum; value = (q.each i).value ∙ (p.each i).value } }
 
-row_same : (v w : ℕ → Ratio) (es : List Entry) → ((i : ℕ) → v i ≡ w i) → row_value v es ≡ row_value w es
-row_same v w [] h = refl
-row_same v w (e ∷ es) h = ap₂ (λ x y. unreduced_sum (unreduced_product e.coefficient x) y) (h e.variable) (row_same v w es h)
-
-rows_met : (rows : List TableRow) (v w : ℕ → Ratio) → ((i : ℕ) → v i ≡ w i) → MeetsRows rows v → MeetsRows rows w
-rows_met rows v w h met k d lt =
-    let r = get_or rows k d in
-    subst (λ x. SameNumber x (row_value w r.entries)) (h r.basic) (subst (SameNumber (v r.basic)) (row_same v w r.entries h) (met k d lt))
-
 pub solution_kept : (t : Table) (cs ds : List Column) → IsSolution t cs → KeepsValues cs ds → IsSolution t ds
 solution_kept t cs ds s keeps =
     record {
       count = keeps.count ∙ s.count;
       fractions = λ i. subst IsFraction (sym (keeps.each i).value) (s.fractions i);
-      meets = rows_met t.rows (values cs) (values ds) (λ i. sym (keeps.each i).value) s.meets;
+      meets = rows_same t.rows (values cs) (values ds) (λ i. sym (keeps.each i).value) s.meets;
     }
 
 pub meant_kept : (rows : List TableRow) (cs ds : List Column) → IsMeant rows cs → KeepsValues cs ds → IsMeant rows ds
 meant_kept rows cs ds h keeps =
     record {
-      solved = λ w fw. rows_met rows (column_values w cs) (column_values w ds) (λ i. ap (sum_value w) (sym (keeps.each i).sum)) (h.solved w fw);
+      solved = λ w fw. rows_same rows (column_values w cs) (column_values w ds) (λ i. ap (sum_value w) (sym (keeps.each i).sum)) (h.solved w fw);
       determined = λ v w fv fw met agree i lt.
           subst (λ ps. SameNumber (v i) (sum_value w ps)) (sym (keeps.each i).sum)
           (h.determined v w fv fw met (λ j term lj e. agree j term (let q = keeps.count in omega (arith, lj, q)) ((keeps.each j).sum ∙ e)) i (let q = keeps.count in omega (arith, lt, q)));

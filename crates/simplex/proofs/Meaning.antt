@@ -21,6 +21,7 @@ use Rattle.fraction128.specs.Lines.{sum_value, IsPositive}
 use Rattle.simplex.specs.Sums.{column_values, AgreeOnLeaves, IsMeant, AreMatched, NoneMean, LeavesKeep, RowsKeep, RunsKeep}
 use Rattle.fraction128.proofs.SumValues.{terms_dot, sum_positive_value, number_sum_value, number_leaf}
 use Rattle.simplex.proofs.WrittenSums.{parts_dot, row_positive, row_dot}
+use Rattle.simplex_steps.proofs.Independent.{rows_same}
 
 -- ---- rows whose variables have the same values
 
@@ -34,15 +35,6 @@ rows_below t v w facts same met k d lt =
     subst (MeetsRow w) (get_or_default t.rows k no_row d lt)
     (subst (λ x. SameNumber x (row_value w r.entries)) (same r.basic (facts.basics k lt))
     (subst (SameNumber (v r.basic)) (row_below v w t.count r.entries (below_all t.count r.entries (λ j le. facts.known j k le lt)) same) (met k no_row lt)))
-
-row_same : (v w : ℕ → Ratio) (es : List Entry) → ((i : ℕ) → v i ≡ w i) → row_value v es ≡ row_value w es
-row_same v w [] h = refl
-row_same v w (e ∷ es) h = ap₂ (λ x y. unreduced_sum (unreduced_product e.coefficient x) y) (h e.variable) (row_same v w es h)
-
-rows_same : (rows : List TableRow) (v w : ℕ → Ratio) → ((i : ℕ) → v i ≡ w i) → MeetsRows rows v → MeetsRows rows w
-rows_same rows v w h met k d lt =
-    let r = get_or rows k d in
-    subst (λ x. SameNumber x (row_value w r.entries)) (h r.basic) (subst (SameNumber (v r.basic)) (row_same v w r.entries h) (met k d lt))
 
 -- ---- one more column
 

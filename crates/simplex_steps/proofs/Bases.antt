@@ -11,7 +11,8 @@ use Rattle.simplex_steps.specs.Law.{row_at, BasesDetermine}
 use Rattle.simplex_steps.proofs.Spans.{span_same, only, span_only, not_same, coefficient_positive}
 use Rattle.simplex_steps.proofs.Pivots.{entry_at, basic_at, Shape, Solves, basic_or_free}
 use Rattle.simplex_steps.proofs.Moments.{IsFree, free_is, is_free, cell_is}
-use Rattle.simplex_steps.proofs.Independent.{sum_positive, shape_of, to_solves, basic_is}
+use Rattle.simplex_steps.proofs.Independent.{sum_positive, to_solves, basic_is}
+use Rattle.simplex_steps.proofs.Short.{shape_of}
 
 -- 1 at j, and 0 elsewhere
 abbrev unit_at : ℕ → ℕ → Ratio

@@ -116,15 +116,15 @@ cant_fall c d fc fd same m h = by_bound (full d.lower d.upper d.value h)
     by_bound f = at_most_through d.value c.value f.0 fd fc f.2 (within_lower c f.0 m (same ∙ f.1))
 
 -- what doesn't help, by sides
-first_false : (m n : Bool) → (m || n) ≡ false → m ≡ false
+pub first_false : (m n : Bool) → (m || n) ≡ false → m ≡ false
 first_false true n h = absurd (cc)
 first_false false n h = refl
 
-second_false : (m n : Bool) → (m || n) ≡ false → n ≡ false
+pub second_false : (m n : Bool) → (m || n) ≡ false → n ≡ false
 second_false true n h = absurd (cc)
 second_false false n h = h
 
-right_false : (m n : Bool) → m ≡ true → (m && n) ≡ false → n ≡ false
+pub right_false : (m n : Bool) → m ≡ true → (m && n) ≡ false → n ≡ false
 right_false true n e h = h
 right_false false n e h = absurd (cc)
 

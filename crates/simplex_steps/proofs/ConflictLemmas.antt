@@ -1,5 +1,5 @@
 -- Where no entry can help, the bounds that stop them are met by no solution of the rows.
-use Rattle.std.proofs.Common.{◌≡◌, ◌≢◌, ℕ, zero, suc, ◌<◌, ℤ, pos, ◌≤ℤ◌, sym, ap, ap₂, ◌∙◌, subst, refl, arith, eq-eqb, unsigned_abs, List, [], ◌∷◌, length, get_or, map, Bool, true, false, cond, Option, Some, None, All, ◌&&◌, ◌||◌}
+use Rattle.std.proofs.Common.{◌≡◌, ◌≢◌, ℕ, zero, suc, ◌<◌, ℤ, pos, ◌≤ℤ◌, sym, ap, ap₂, ◌∙◌, subst, refl, arith, eq-eqb, unsigned_abs, List, [], ◌∷◌, length, get_or, map, Bool, true, false, cond, Option, Some, None, All, ◌&&◌}
 use Rattle.std.specs.Prelude.{int_lt}
 use Rattle.std.proofs.lemmas.Int.{ints}
 use Rattle.std.proofs.lemmas.List.{get_or-map, length-map}
@@ -23,6 +23,7 @@ use Rattle.tableau.proofs.Shape.{nonzero_positive}
 use Rattle.simplex_steps.specs.State.{column_in, values, IsSolution}
 use Rattle.simplex_steps.specs.Conflict.{Stands, MeetsBound, side_bound, stop, stops, same_sign, number_or_none, NoneHelps, KnownEntries, Apart, IsTarget, IsRowConflict, IsCrossing}
 use Rattle.simplex_steps.proofs.Next.{known_entries}
+use Rattle.simplex_steps.proofs.Bland.{first_false, second_false, right_false}
 
 minusq : Rational → Rational → Rational
 minusq p q = rational_sum p (rational_negation q)
@@ -63,18 +64,6 @@ above_is c e = (rise_is c.sum c.lower c.upper c.value e).1
 
 below_is : (c : Column) → can_fall c ≡ false → is_less (whole (number_or_none c.lower)) c.value ≡ false
 below_is c e = (fall_is c.sum c.lower c.upper c.value e).1
-
-first_false : (m n : Bool) → (m || n) ≡ false → m ≡ false
-first_false true n h = absurd (cc)
-first_false false n h = refl
-
-second_false : (m n : Bool) → (m || n) ≡ false → n ≡ false
-second_false true n h = absurd (cc)
-second_false false n h = h
-
-right_false : (m n : Bool) → m ≡ true → (m && n) ≡ false → n ≡ false
-right_false true n e h = h
-right_false false n e h = absurd (cc)
 
 zero_nonpos : (a : Ratio) (p : Rational) → 0 < a.denominator → a.numerator ≡ pos 0 → NonPos (rational_product (number a) p)
 zero_nonpos a p fa z =

@@ -14,31 +14,19 @@ use Rattle.fraction128.specs.declared.Summand.{Summand}
 use Rattle.fraction128.specs.Grid.{take, move, pivot, coefficient, column_at, is_basic, is_some, row_of, row_value, after_pivot, after_move, pivoted_rows, pivoted_value, moved_value, with_values, MeetsRow, MeetsRows}
 use Rattle.fraction128.specs.Lines.{sum_value, IsPositive, AreIndependent, HasBasis, exchanged, pivot_line}
 use Rattle.fraction128.proofs.RowValue as RowValue
-use Rattle.simplex_steps.specs.Law.{row_at, no_row, IsGrid, AreIdentities, ComeFromTerms, SolutionsAreFree, FreeAreSolutions, PivotsKeepFree, MovesKeepFree, PivotsExchange, RunsExchange}
-use Rattle.simplex_steps.proofs.Spans.{span_same, dot_coefficients, coefficient_positive, differs}
+use Rattle.simplex_steps.specs.Law.{row_at, no_row, AreIdentities, ComeFromTerms, SolutionsAreFree, FreeAreSolutions, PivotsKeepFree, MovesKeepFree, PivotsExchange, RunsExchange}
+use Rattle.simplex_steps.proofs.Spans.{span_same, dot_coefficients, differs}
 use Rattle.simplex_steps.proofs.Pivots.{entry_at, basic_at, Shape, Solves, row_is, row_lacks, basic_or_free, length_after, basic_entered, basic_stays, solves_after, solves_before}
 use Rattle.simplex_steps.proofs.NextStep.{col, step_facts}
 use Rattle.simplex_steps.proofs.Moments.{Good, IsFree, free_is, is_free, Turning, turning, good_after, length_with}
 use Rattle.simplex_steps.proofs.Keeping.{good_of, steps_keep}
-use Rattle.simplex_steps.proofs.Short.{positive_row}
-use Rattle.fraction128.proofs.ExactSteps.{none_number}
+use Rattle.simplex_steps.proofs.Short.{shape_of}
 
 -- ---- values and rows
 
 pub sum_positive : (w : ℕ → Ratio) (ps : List Summand) → IsPositive w → 0 < (sum_value w ps).denominator
 sum_positive w [] h = omega arith
 sum_positive w (p ∷ ps) h = pos_times (1 * (w p.term).denominator) (sum_value w ps).denominator (pos_times 1 (w p.term).denominator (omega arith) (h p.term)) (sum_positive w ps h)
-
-pub shape_of : (g : Grid) → IsGrid g → Shape (length g.columns) g.rows
-shape_of g is =
-    record {
-      distinct = is.distinct;
-      basics = is.basics;
-      entries = is.entries;
-      positive = λ k lt. positive_row (row_at g.rows k).entries (is.positive k lt);
-      separate = λ j k lj lk.
-          none_number (coefficient (row_at g.rows k).entries (row_at g.rows j).basic) (coefficient_positive (row_at g.rows k).entries (row_at g.rows j).basic (positive_row (row_at g.rows k).entries (is.positive k lk))) (is.separate j k lj lk);
-    }
 
 -- rows met by values are solved by their numbers, and the other way round
 pub to_solves : (n : ℕ) (rows : List TableRow) (v : ℕ → Ratio) → Shape n rows → IsPositive v → MeetsRows rows v → Solves n rows (λ i. number (v i))
@@ -141,7 +129,7 @@ row_same : (v w : ℕ → Ratio) (es : List Entry) → ((i : ℕ) → v i ≡ w 
 row_same v w [] h = refl
 row_same v w (e ∷ es) h = ap₂ (λ x y. unreduced_sum (unreduced_product e.coefficient x) y) (h e.variable) (row_same v w es h)
 
-rows_same : (rows : List TableRow) (v w : ℕ → Ratio) → ((i : ℕ) → v i ≡ w i) → MeetsRows rows v → MeetsRows rows w
+pub rows_same : (rows : List TableRow) (v w : ℕ → Ratio) → ((i : ℕ) → v i ≡ w i) → MeetsRows rows v → MeetsRows rows w
 rows_same rows v w h met k d lt =
     let r = get_or rows k d in
     subst (λ x. SameNumber x (row_value w r.entries)) (h r.basic) (subst (SameNumber (v r.basic)) (row_same v w r.entries h) (met k d lt))

@@ -139,6 +139,15 @@ pub pivot_leaves : (g : Grid) (b : ℕ) (k : ℤ) (c : ℕ) → pivoted_value g 
 pivot_leaves g b k c =
     ap (λ z. cond z (whole k) (cond (eqb b c) (sum_of (value_at g c) (pivot_distance g b k c)) (cond (is_basic g.rows b) (fused (value_at g b) (cell g.rows b c) (pivot_distance g b k c)) (value_at g b)))) (eq-eqb b b refl)
 
+cell_positive : (n : ℕ) (g : Grid) (j c : ℕ) → Good n g → is_basic g.rows j ≡ true → 0 < (cell g.rows j c).denominator
+cell_positive n g j c good e = by_kind (basic_or_free g.rows j)
+  where
+    by_kind : ((m : ℕ) × (m < length g.rows) × (basic_at g.rows m ≡ j)) ⊎ IsFree g.rows j → 0 < (cell g.rows j c).denominator
+    by_kind (inr h) = absurd (let z : true ≡ false = sym e ∙ free_is g.rows j h in cc)
+    by_kind (inl m) =
+        subst (λ (x : Ratio). 0 < x.denominator) (sym (ap (λ q. cell g.rows q c) (sym m.2) ∙ cell_is n g.rows m.0 c good.shape m.1))
+        (coefficient_positive (row_at g.rows m.0).entries c (good.shape.positive m.0 m.1))
+
 pub good_after : (n : ℕ) (g : Grid) (b : ℕ) (k : ℤ) (c : ℕ) → Good n g → Turning n g b c → Good n (after_pivot g b k c)
 good_after n g b k c good t =
     record {
@@ -241,20 +250,11 @@ good_after n g b k c good t =
     positive_at j (inr le) = subst (λ (d : Column). 0 < d.value.denominator) (sym (past_with (pivoted_value g b k c) 0 g.columns j le)) (omega arith)
     positive_at j (inl lt) = subst (λ (x : Ratio). 0 < x.denominator) (sym (pivot_value g b k c j lt)) (by_tests (eqb j b) (eqb j c) (is_basic g.rows j) refl)
       where
-        cell_positive : is_basic g.rows j ≡ true → 0 < (cell g.rows j c).denominator
-        cell_positive e = by_kind (basic_or_free g.rows j)
-          where
-            by_kind : ((m : ℕ) × (m < length g.rows) × (basic_at g.rows m ≡ j)) ⊎ IsFree g.rows j → 0 < (cell g.rows j c).denominator
-            by_kind (inr h) = absurd (let z : true ≡ false = sym e ∙ free_is g.rows j h in cc)
-            by_kind (inl m) =
-                subst (λ (x : Ratio). 0 < x.denominator) (sym (ap (λ q. cell g.rows q c) (sym m.2) ∙ cell_is n g.rows m.0 c good.shape m.1))
-                (coefficient_positive (row_at g.rows m.0).entries c (good.shape.positive m.0 m.1))
-
         by_tests : (x y z : Bool) → is_basic g.rows j ≡ z
             → 0 < (cond x (whole k) (cond y (sum_of (value_at g c) dist) (cond z (fused (value_at g j) (cell g.rows j c) dist) (value_at g j)))).denominator
         by_tests true y z e = omega arith
         by_tests false true z e = sum_positive (value_at g c) dist (good.positive c) f_dist
-        by_tests false false true e = fused_positive (value_at g j) (cell g.rows j c) dist (good.positive j) (cell_positive e) f_dist
+        by_tests false false true e = fused_positive (value_at g j) (cell g.rows j c) dist (good.positive j) (cell_positive n g j c good e) f_dist
         by_tests false false false e = good.positive j
 
 -- ---- the grid after a move
@@ -316,16 +316,7 @@ good_moved n g i k good f =
     positive_at j (inr le) = subst (λ (d : Column). 0 < d.value.denominator) (sym (past_with (moved_value g i k) 0 g.columns j le)) (omega arith)
     positive_at j (inl lt) = subst (λ (x : Ratio). 0 < x.denominator) (sym (value_is j lt)) (by_tests (eqb j i) (is_basic g.rows j) refl)
       where
-        cell_positive : is_basic g.rows j ≡ true → 0 < (cell g.rows j i).denominator
-        cell_positive e = by_kind (basic_or_free g.rows j)
-          where
-            by_kind : ((m : ℕ) × (m < length g.rows) × (basic_at g.rows m ≡ j)) ⊎ IsFree g.rows j → 0 < (cell g.rows j i).denominator
-            by_kind (inr h) = absurd (let z : true ≡ false = sym e ∙ free_is g.rows j h in cc)
-            by_kind (inl m) =
-                subst (λ (x : Ratio). 0 < x.denominator) (sym (ap (λ q. cell g.rows q i) (sym m.2) ∙ cell_is n g.rows m.0 i good.shape m.1))
-                (coefficient_positive (row_at g.rows m.0).entries i (good.shape.positive m.0 m.1))
-
         by_tests : (x z : Bool) → is_basic g.rows j ≡ z → 0 < (cond x (whole k) (cond z (fused (value_at g j) (cell g.rows j i) dist) (value_at g j))).denominator
         by_tests true z e = omega arith
-        by_tests false true e = fused_positive (value_at g j) (cell g.rows j i) dist (good.positive j) (cell_positive e) f_dist
+        by_tests false true e = fused_positive (value_at g j) (cell g.rows j i) dist (good.positive j) (cell_positive n g j i good e) f_dist
         by_tests false false e = good.positive j

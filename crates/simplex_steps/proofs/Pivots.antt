@@ -305,6 +305,13 @@ shape_after n rows p c s v =
     separate_at j k lj lk (inr x) y =
         ap (entry_at (pivoted_rows n rows b c) k) (basic_stays n rows p c j lj x) ∙ at_variable (basic_at rows j) k (s.basics j lj) lk y (inr (j, lj, refl, x))
 
+pick : (c : ℕ) (U : ℕ → Rational) (j : ℕ) → rational_product (only c j) (U j) ≡ rational_product (only c j) (U c)
+pick c U j = by_test (eqb c j) refl
+  where
+    by_test : (z : Bool) → eqb c j ≡ z → rational_product (cond z rational_one rational_zero) (U j) ≡ rational_product (cond z rational_one rational_zero) (U c)
+    by_test true e = ap (λ i. rational_product rational_one (U i)) (sym (eqb-true c j e))
+    by_test false e = solve rationals (U j ∷ U c ∷ []) (product nothing (var 0)) (product nothing (var 1)) refl
+
 -- the solutions stay solutions
 pub solves_after : (n : ℕ) (rows : List TableRow) (p c : ℕ) (U : ℕ → Rational) → Shape n rows → IsPivot n rows p c → Solves n rows U → Solves n (pivoted_rows n rows (basic_at rows p) c) U
 solves_after n rows p c U s v solves k lk' = by_row (same_or_not (basic_at rows k) b)
@@ -321,13 +328,6 @@ solves_after n rows p c U s v solves k lk' = by_row (same_or_not (basic_at rows 
     zero_form : span 0 n (λ j. rational_product (number (scaled_entry rows b c j)) (U j)) ≡ rational_zero
     zero_form = scaled_solved n rows p c U s v f solves
 
-    pick : (j : ℕ) → rational_product (only c j) (U j) ≡ rational_product (only c j) (U c)
-    pick j = by_test (eqb c j) refl
-      where
-        by_test : (z : Bool) → eqb c j ≡ z → rational_product (cond z rational_one rational_zero) (U j) ≡ rational_product (cond z rational_one rational_zero) (U c)
-        by_test true e = ap (λ i. rational_product rational_one (U i)) (sym (eqb-true c j e))
-        by_test false e = solve rationals (U j ∷ U c ∷ []) (product nothing (var 0)) (product nothing (var 1)) refl
-
     by_row : (basic_at rows k ≡ b) ⊎ (basic_at rows k ≢ b) → U (basic_at (pivoted_rows n rows b c) k) ≡ span 0 n (λ j. rational_product (entry_at (pivoted_rows n rows b c) k j) (U j))
     by_row (inl x) =
         ap U (basic_after n rows b c k lk ∙ ap (λ z. cond z c (basic_at rows k)) (eq-eqb (basic_at rows k) b x))
@@ -335,7 +335,7 @@ solves_after n rows p c U s v solves k lk' = by_row (same_or_not (basic_at rows 
         ∙ ap₂ rational_sum (sym zero_form) (sym (span_only 0 n c (U c) (omega arith) (let q = v.known in omega (arith, q))))
         ∙ sym (span_sum 0 n (λ j. rational_product (number (scaled_entry rows b c j)) (U j)) (λ j. rational_product (only c j) (U c)))
         ∙ span_same 0 n (λ j. rational_sum (rational_product (number (scaled_entry rows b c j)) (U j)) (rational_product (only c j) (U c))) (λ j. rational_product (entry_at (pivoted_rows n rows b c) k j) (U j))
-        (λ j l h. ap (rational_sum (rational_product (number (scaled_entry rows b c j)) (U j))) (sym (pick j))
+        (λ j l h. ap (rational_sum (rational_product (number (scaled_entry rows b c j)) (U j))) (sym (pick c U j))
         ∙ solve rationals (number (scaled_entry rows b c j) ∷ only c j ∷ U j ∷ []) (sum (product (var 0) (var 2)) (product (var 1) (var 2))) (product (sum (var 0) (var 1)) (var 2)) refl
         ∙ ap (λ y. rational_product y (U j)) (sym (entry_after n rows p c k j s f lk (omega (arith, h)) ∙ number_solved n rows p c k j v f x)))
     by_row (inr x) =
@@ -364,13 +364,6 @@ solves_before n rows p c U s v solves k lk = by_row (same_or_not (basic_at rows 
     after : {m : ℕ} → m < length rows → m < length (pivoted_rows n rows b c)
     after {m} h = subst (λ q. m < q) (sym (length_after n rows b c)) h
 
-    pick : (j : ℕ) → rational_product (only c j) (U j) ≡ rational_product (only c j) (U c)
-    pick j = by_test (eqb c j) refl
-      where
-        by_test : (z : Bool) → eqb c j ≡ z → rational_product (cond z rational_one rational_zero) (U j) ≡ rational_product (cond z rational_one rational_zero) (U c)
-        by_test true e = ap (λ i. rational_product rational_one (U i)) (sym (eqb-true c j e))
-        by_test false e = solve rationals (U j ∷ U c ∷ []) (product nothing (var 0)) (product nothing (var 1)) refl
-
     scaled : Rational
     scaled = span 0 n (λ j. rational_product (number (scaled_entry rows b c j)) (U j))
 
@@ -381,7 +374,7 @@ solves_before n rows p c U s v solves k lk = by_row (same_or_not (basic_at rows 
         ∙ span_same 0 n (λ j. rational_product (entry_at (pivoted_rows n rows b c) p j) (U j)) (λ j. rational_sum (rational_product (number (scaled_entry rows b c j)) (U j)) (rational_product (only c j) (U c)))
         (λ j l h. ap (λ y. rational_product y (U j)) (entry_after n rows p c p j s f v.in_rows (omega (arith, h)) ∙ number_solved n rows p c p j v f refl)
         ∙ solve rationals (number (scaled_entry rows b c j) ∷ only c j ∷ U j ∷ []) (product (sum (var 0) (var 1)) (var 2)) (sum (product (var 0) (var 2)) (product (var 1) (var 2))) refl
-        ∙ ap (rational_sum (rational_product (number (scaled_entry rows b c j)) (U j))) (pick j))
+        ∙ ap (rational_sum (rational_product (number (scaled_entry rows b c j)) (U j))) (pick c U j))
         ∙ span_sum 0 n (λ j. rational_product (number (scaled_entry rows b c j)) (U j)) (λ j. rational_product (only c j) (U c))
         ∙ ap (rational_sum scaled) (span_only 0 n c (U c) (omega arith) (let q = v.known in omega (arith, q)))
 

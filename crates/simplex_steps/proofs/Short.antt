@@ -17,7 +17,7 @@ use Rattle.fraction128.proofs.RowValue as RowValue
 use Rattle.simplex_steps.specs.Law.{row_at, no_row, ArePositive, IsGrid, Runs, pivots, RunsAreShort}
 use Rattle.simplex_steps.proofs.Counting.{Turn, AreBelow, AreWithout, AreApart, Names, Alternates, few_turns}
 use Rattle.simplex_steps.proofs.Spans.{span, span_same, span_sum, span_product, span_nonpos, coefficient_positive, dot_coefficients, differs}
-use Rattle.simplex_steps.proofs.Pivots.{Solves, basic_at, basic_or_free, length_after, basic_entered, basic_stays, solves_after}
+use Rattle.simplex_steps.proofs.Pivots.{Solves, basic_at, basic_or_free, length_after, basic_entered, basic_stays, solves_after, Shape}
 use Rattle.simplex_steps.proofs.Bland.{idle_term, coming_term, cant_leave}
 use Rattle.simplex_steps.proofs.NextStep.{col, MoveFacts, PivotFacts, step_facts}
 use Rattle.simplex_steps.proofs.Moments.{Good, IsFree, numbers, free_is, is_free, cell_is, Turning, turning, pivot_column, pivot_value, pivot_stays, pivot_leaves, good_after, good_moved}
@@ -432,19 +432,23 @@ pub positive_row : (es : List Entry) → ArePositive es → RowValue.ArePositive
 positive_row [] h = tt
 positive_row (e ∷ es) h = (h.0, positive_row es h.1)
 
+pub shape_of : (g : Grid) → IsGrid g → Shape (length g.columns) g.rows
+shape_of g is =
+    record {
+      distinct = is.distinct;
+      basics = is.basics;
+      entries = is.entries;
+      positive = λ k lt. positive_row (row_at g.rows k).entries (is.positive k lt);
+      separate = λ j k lj lk.
+          none_number (coefficient (row_at g.rows k).entries (row_at g.rows j).basic) (coefficient_positive (row_at g.rows k).entries (row_at g.rows j).basic (positive_row (row_at g.rows k).entries (is.positive k lk))) (is.separate j k lj lk);
+    }
+
 pub good_grid : (g : Grid) → IsGrid g → g.pending ≡ None → MeetsRows g.rows (value_at g) → any_crossed g.columns ≡ false → Good (length g.columns) g
 good_grid g is pending meets crossed =
     record {
       pending = pending;
       count = refl;
-      shape = record {
-        distinct = is.distinct;
-        basics = is.basics;
-        entries = is.entries;
-        positive = λ k lt. positive_row (row_at g.rows k).entries (is.positive k lt);
-        separate = λ j k lj lk.
-            none_number (coefficient (row_at g.rows k).entries (row_at g.rows j).basic) (coefficient_positive (row_at g.rows k).entries (row_at g.rows j).basic (positive_row (row_at g.rows k).entries (is.positive k lk))) (is.separate j k lj lk);
-      };
+      shape = shape_of g is;
       positive = is.values;
       solves = λ k lt.
           RowValue.meets_to (value_at g) (row_at g.rows k) is.values (positive_row (row_at g.rows k).entries (is.positive k lt)) (meets k no_row lt)
