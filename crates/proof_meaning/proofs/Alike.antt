@@ -14,6 +14,7 @@ use Rattle.proof_meaning.specs.Proof.{meant, AreTerms, node_at, are_same}
 use Rattle.proof_meaning.specs.Rules.{IsCong, differing}
 use Rattle.proof_meaning.proofs.Meant.{apply_written}
 use Rattle.proof_meaning.proofs.Terms.{standing_value}
+use Rattle.proof_meaning.proofs.Resolving.{or_left, or_right}
 
 same_bool : (a b : Bool) → bool_eq a b ≡ true → a ≡ b
 same_bool true b h = sym h
@@ -44,14 +45,6 @@ append ts I (x ∷ xs) ys = rw (append ts I xs ys) (assoc (literal_true ts I x) 
     assoc : (a b c : Bool) → (a || (b || c)) ≡ ((a || b) || c)
     assoc true b c = refl
     assoc false b c = refl
-
-or_left : (a b : Bool) → a ≡ true → (a || b) ≡ true
-or_left true b h = refl
-or_left false b h = let e : false ≡ true = h in cc
-
-or_right : (a b : Bool) → b ≡ true → (a || b) ≡ true
-or_right true b h = refl
-or_right false b h = h
 
 arguments : (ts : List Tree) (I : Interpretation) (is js : List ℕ) → length is ≡ length js
     → (some_true ts I (differing is js) ≡ true) ⊎ (values I (pick ts is) ≡ values I (pick ts js))

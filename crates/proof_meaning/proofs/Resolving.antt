@@ -7,11 +7,11 @@ use Rattle.smt_meaning.specs.Clause.{some_true, literal_true, signed, atom_true}
 use Rattle.proof_meaning.specs.Proof.{negated}
 use Rattle.proof_meaning.specs.Rules.{IsResolution}
 
-or_left : (a b : Bool) → a ≡ true → (a || b) ≡ true
+pub or_left : (a b : Bool) → a ≡ true → (a || b) ≡ true
 or_left true b h = refl
 or_left false b h = let e : false ≡ true = h in cc
 
-or_right : (a b : Bool) → b ≡ true → (a || b) ≡ true
+pub or_right : (a b : Bool) → b ≡ true → (a || b) ≡ true
 or_right true b h = refl
 or_right false b h = h
 
