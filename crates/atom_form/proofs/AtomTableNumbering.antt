@@ -1,15 +1,12 @@
 -- The search for an atom, and an atom more.
-use Rattle.std.proofs.Common.{◌≡◌, ◌≢◌, ℕ, Bool, true, false, ◌-◌, ◌<◌, ◌≤◌, List, [], ◌∷◌, ◌++◌, length, get_or, map, sym, ap, subst, ◌∙◌, inl, inr, arith}
-use Rattle.std.specs.Prelude.{AllPairs, Contains, ◌⊎◌}
-use Rattle.std.proofs.lemmas.Bool.{cases_lt}
+use Rattle.std.proofs.Common.{◌≡◌, ◌≢◌, ℕ, true, false, ◌-◌, ◌<◌, List, [], ◌∷◌, ◌++◌, length, get_or, map, sym, ap, subst, ◌∙◌, arith}
+use Rattle.std.specs.Prelude.{AllPairs, Contains}
 use Rattle.std.proofs.lemmas.List.{get_or_default, get_or-map, length-map, map-append, length_push, get_or_push}
 use Rattle.std.proofs.lemmas.List.Quantifiers.{all_pairs_push}
-use Rattle.term_store.specs.Latest.{last_place}
 use Rattle.atom_form.specs.declared.compact.CompactAtom.{CompactAtom}
 use Rattle.atom_form.specs.declared.compact.CompactAtom.TheVariants.{Truth, Same}
 use Rattle.atom_form.specs.Compact.{atom_of, atom_hash}
 use Rattle.atom_form.specs.AtomTableNumbers.{IsAt, Numbered, IsTable, AreApart}
-use Rattle.atom_form.proofs.Links.{IsLink, Goes, goes, goes_on}
 
 -- one atom, kept in one way
 pub atom_of-apart : (a b : CompactAtom) → atom_of a ≡ atom_of b → a ≡ b
@@ -17,42 +14,6 @@ atom_of-apart (Truth p) (Truth q) e = cc
 atom_of-apart (Truth p) (Same q r) e = cc
 atom_of-apart (Same p q) (Truth r) e = cc
 atom_of-apart (Same p q) (Same r s) e = cc
-
--- the atom isn't at a place from the link on
-pub record Passed (atoms : List CompactAtom) (keys : List ℕ) (a : CompactAtom) (hash link : ℕ) : Type 0 where
-  pub is_link : IsLink keys hash link
-  pub passed : (k : ℕ) (d : CompactAtom) → link ≤ k → k < length atoms → get_or atoms k d ≢ a
-
-module _ (atoms : List CompactAtom) (keys : List ℕ) (a : CompactAtom) (hash : ℕ) (hashed : keys ≡ map atom_hash atoms) (is_hash : hash ≡ atom_hash a) where
-  length-keys : length keys ≡ length atoms
-  length-keys = ap length hashed ∙ length-map atoms atom_hash
-
-  key_at : (k : ℕ) (d : CompactAtom) → k < length atoms → get_or atoms k d ≡ a → get_or keys k 0 ≡ hash
-  key_at k d h e = ap (λ xs. get_or xs k 0) hashed ∙ get_or-map atom_hash atoms k d 0 h ∙ ap atom_hash e ∙ sym is_hash
-
-  pub passed_start : (link : ℕ) → link ≡ last_place keys hash (length keys) → Passed atoms keys a hash link
-  passed_start link e =
-      let g = goes keys hash (length keys) link (omega arith) e in
-      record { is_link = g.is_link; passed = λ k d above less same. g.others k above (omega (arith, length-keys)) (key_at k d less same) }
-
-  pub passed_on : (link next : ℕ) (x : CompactAtom) (b : Bool) → Passed atoms keys a hash link → 0 < link → (get_or atoms (link - 1) x ≡ a → b ≡ true) → b ≡ false
-      → next ≡ last_place keys (get_or keys (link - 1) 0) (link - 1) → Passed atoms keys a hash next × (next < link)
-  passed_on link next x b p some found not_found e =
-      let g = goes_on keys hash link next p.is_link some e in
-      let down = g.down in
-      (record { is_link = g.is_link; passed = λ k d above less same. by g k d above less same (cases_lt k (link - 1)) (cases_lt k link) }, omega arith)
-    where
-      by : Goes keys hash (link - 1) next → (k : ℕ) (d : CompactAtom) → next ≤ k → k < length atoms → get_or atoms k d ≡ a → (k < link - 1) ⊎ (link - 1 ≤ k) → (k < link) ⊎ (link ≤ k) → ⊥
-      by g k d above less same (inl below) u = g.others k above below (key_at k d less same)
-      by g k d above less same (inr from) (inl below) =
-          let here : link - 1 ≡ k = omega arith in
-          let t : b ≡ true = found (ap (λ n. get_or atoms n x) here ∙ get_or_default atoms k x d less ∙ same) in
-          let f : true ≡ false = sym t ∙ not_found in
-          cc
-      by g k d above less same (inr from) (inr beyond) = p.passed k d beyond less same
-
-  pub passed_all : (link : ℕ) → Passed atoms keys a hash link → link ≤ 0 → Contains atoms a → ⊥
-  passed_all link p none (k, h, e) = p.passed k a (omega arith) h e
 
 -- ---- in the words of atoms
 

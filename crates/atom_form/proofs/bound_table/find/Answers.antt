@@ -1,5 +1,5 @@
 use Rattle.atom_form.specs.BoundTableHash.{bound_hash}
-use Rattle.atom_form.proofs.BoundTableNumbering.{passed_start, passed_on, passed_all}
+use Rattle.atom_form.proofs.Links.{passed_start, passed_on, passed_all}
 use Rattle.atom_form.proofs.bound_table.find.Goals as goal
 
 pub loop-link-init : goal.loop-link-init

@@ -1,4 +1,4 @@
-use Rattle.atom_form.proofs.BoundTableNumbering.{Passed}
+use Rattle.atom_form.proofs.Links.{Passed}
 use Rattle.atom_form.proofs.bound_table.find.Given as goal
 
 abbrev pub invariant-loop-link : goal.invariant-loop-link
