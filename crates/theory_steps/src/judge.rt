@@ -81,6 +81,9 @@ fn stop_at_clash(parts: &Parts<'_>, progress: &mut Progress, budget: &Budget, cl
     ensures step { IsStep (state parts.now progress.new) budget.now budget.now result }
 {
     let seen = argument_seen(parts, progress, clash);
+    if seen.is_none() {
+        return stop_unfit(parts, progress, budget);
+    }
     stop_seeing(parts, progress, budget, seen)
 }
 

@@ -7,7 +7,7 @@ ghost use Rattle.model_build.specs.Parts.{AreSortedParts};
 ghost use Rattle.theory_steps.specs.Numbering.{IsWhole};
 ghost use Rattle.theory_steps.specs.Found.{IsFound};
 
-use crate::held::Held;
+use crate::held::{Held, leads};
 use crate::values::{Untied, values_of};
 use atom_form::AtomNumbers;
 use exact_model::{Verdict, tables_make_true};
@@ -105,7 +105,7 @@ fn evaluate(
     }
 }
 
-/// Tables that make each literal told true, if the values give them. An `Err` is for want of memory.
+/// Tables that make each literal told true, if the values give them. Numbers of differences with which a value is past the range give none, so that those of the rows are tried. An `Err` is for want of memory.
 pub(crate) fn find_model(
     alloc: Global,
     stack: &Stack,
@@ -118,6 +118,9 @@ pub(crate) fn find_model(
     ensures { IfOk result (IsFound stack.now atoms.now.atoms held.now.closure.log.items) }
 {
     let given = first_given(alloc, stack, marks, atoms, held)?;
+    if leads(held) && leaves_range(&given) {
+        return Ok(Found::Unfit);
+    }
     match model_from(alloc, stack, &given)? {
         Modelled::Clash(clash) => Ok(Found::Apart(clash)),
         Modelled::Tables(tables) => evaluate(alloc, stack, marks, atoms, held, tables),
