@@ -9,7 +9,7 @@ use Rattle.std.proofs.lemmas.List.Elements.{All-append, All-contains, All-contai
 use Rattle.fraction128.specs.declared.ratio.Ratio.{Ratio}
 use Rattle.fraction128.specs.Number.{whole}
 use Rattle.fraction128.specs.Whole.{InRange}
-use Rattle.fraction128.specs.Lines.{IsPositive, sum_value}
+use Rattle.fraction128.specs.Lines.{sum_value}
 use Rattle.fraction128.specs.declared.Bound.{Bound}
 use Rattle.fraction128.specs.declared.Column.{Column}
 use Rattle.fraction128.specs.declared.Summand.{Summand}
