@@ -277,7 +277,7 @@ impl BoundLog {
         shut_out(&self.bounds, said_of(&self.said, atom), atom)
     }
 
-    /// A clause that the log breaks, where a row shows by its fixed variables that no whole numbers meet all bounds told. `None` promises nothing; an `Err` is for want of memory.
+    /// A clause that the log breaks, where a row shows by its fixed variables, or a split of a sum, that no whole numbers meet all bounds told. `None` promises nothing; an `Err` is for want of memory.
     pub fn whole_conflict(&self, alloc: Global) -> Result<Option<Lemma>, AllocError>
         ensures { IfOk result (λ o. IfSome o (IsClause self.now)) }
     {

@@ -59,7 +59,7 @@ turned_sum f ps = by (is_turned ps) refl
     by false e = rw e refl
 
 -- a whole number meets a literal's bound where the literal is true of it
-bound_holds : (positive turned_ : Bool) (z k : ℤ) → sign positive (int_le z k) ≡ true → MeetsSide (told_side positive turned_) (told_number positive turned_ k) (whole (turned_value turned_ z))
+pub bound_holds : (positive turned_ : Bool) (z k : ℤ) → sign positive (int_le z k) ≡ true → MeetsSide (told_side positive turned_) (told_number positive turned_ k) (whole (turned_value turned_ z))
 bound_holds true false z k h = grind (arith, ints)
 bound_holds true true z k h = grind (arith, ints)
 bound_holds false false z k h = grind (arith, ints)

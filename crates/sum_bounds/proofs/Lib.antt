@@ -13,3 +13,4 @@ pub mod WholeRows
 pub mod Origins
 mod Steps
 pub mod Bases
+pub mod SplitLaws

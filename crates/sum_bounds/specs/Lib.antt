@@ -9,3 +9,4 @@ pub mod Clauses
 pub mod Wholes
 pub mod Origins
 pub mod Progressions
+pub mod Splits

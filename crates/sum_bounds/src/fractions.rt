@@ -18,7 +18,7 @@ pub struct FractionalLeaf {
 }
 
 /// The term that a sum is, where it is one alone.
-fn term_of(sum: &[Summand]) -> Option<u32>
+pub(crate) fn term_of(sum: &[Summand]) -> Option<u32>
     ensures some { IfSome result (λ t. sum.now ≡ leaf t) }
     ensures none { IfNone result ((t : ℕ) → sum.now ≢ leaf t) }
 {

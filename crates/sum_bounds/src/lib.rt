@@ -16,8 +16,11 @@
 //!
 //! `whole_conflict`, `whole_conflicts_are_valid`: such literals of bounds of which, whatever whole
 //! numbers the terms have, not all hold; a clause that is true under every interpretation where
-//! each bound told is what its literal's atom says. It is sought in each row (Griggio, 2012); that
-//! none is given promises nothing.
+//! each bound told is what its literal's atom says. That none is given promises nothing.
+//!
+//! It is sought in each row (Griggio, 2012), then at what fixed sums leave of others by a common
+//! divisor: no numbers meet the bounds with such a sum at most a number, nor with it at least the
+//! next one.
 //!
 //! `first_fraction`, `conflicts_are_valid`, `wholes_meet`: the least variable of a term whose value
 //! isn't whole, with its floor, none exactly where all are whole; where each bound told is what its
@@ -38,6 +41,8 @@ mod laws;
 mod lookup;
 mod progression;
 mod reach;
+mod residues;
+mod splits;
 mod state;
 mod told;
 mod wholes;

@@ -9,7 +9,7 @@ ghost use Rattle.simplex_steps.specs.State.{column_in, grid_of, values};
 ghost use Rattle.simplex_steps.specs.Run.{IsRun, KeepsLines};
 ghost use Rattle.simplex.specs.State.{IsState as IsSimplex, KeepsValues};
 ghost use Rattle.simplex.specs.Sums.{HaveOwnSums};
-ghost use Rattle.sum_bounds.specs.Bounds.{sums, leaf_values, sum_hashes, told_bound, MeetsSide, IsPastEnd, IsSum, StandsFor, with_leaf, with_sum, sum_fits, Judges, SpendsRoom, IsFirstIn, AreWhole, IsState};
+ghost use Rattle.sum_bounds.specs.Bounds.{sums, leaf_values, sum_hashes, told_of, told_bound, MeetsSide, IsPastEnd, IsSum, StandsFor, with_leaf, with_sum, sum_fits, Judges, SpendsRoom, IsFirstIn, AreWhole, IsState};
 ghost use Rattle.sum_bounds.specs.Written.{HasLeaf};
 ghost use Rattle.sum_bounds.specs.Wholes.{IsWholeConflict};
 ghost use Rattle.sum_bounds.specs.Kept.{IsGrownByLeaf, IsGrownBySum};
@@ -20,6 +20,7 @@ use crate::finding::{Checked, Finding, finding_of};
 use crate::fractions::{FractionalLeaf, first_fraction};
 use crate::lookup::{find, hash_of};
 use crate::reach::reach;
+use crate::splits::split_conflict;
 use crate::told::{is_met, number_of, side_of, tag_of};
 use crate::wholes::whole_conflict;
 use crate::writing::{SumVariable, first_is_negative, parts_of, turned_sum};
@@ -186,6 +187,13 @@ impl SumBounds {
         Some(self.simplex.column(variable).value)
     }
 
+    /// The value of a variable.
+    pub(crate) fn value_at(&self, variable: u32) -> Fraction
+        requires { variable < length self.now.columns }
+    {
+        self.simplex.column(variable).value
+    }
+
     /// How many bounds are told.
     pub fn len(&self) -> usize
         ensures { result ≡ length self.now.told }
@@ -263,6 +271,21 @@ impl SumBounds {
         Ok(())
     }
 
+    /// Tells a bound, its tag the literal that says it as one word. Values stay; an `Err`, for want of memory, changes nothing.
+    pub(crate) fn set_bound(&mut self, set: Set) -> Result<(), AllocError>
+        requires known { set.variable < length self.old.columns }
+        requires number { InRange set.number }
+        ensures table { self.new.table ≡ self.old.table }
+        ensures values { KeepsValues self.old.columns self.new.columns }
+        ensures told { OnOk result (self.new.told ≡ self.old.told ++ told_of set ∷ []) }
+        ensures err { OnErr result (self.new ≡ self.old) }
+    {
+        let is_clean = stays_clean(&self.simplex, self.is_clean, set);
+        self.simplex.set_bound(set)?;
+        self.is_clean = is_clean;
+        Ok(())
+    }
+
     /// Takes back all bounds but the first ones, so many as the count says. Values stay, and no memory is taken.
     pub fn undo_to(&mut self, count: usize)
         ensures table { self.new.table ≡ self.old.table }
@@ -334,10 +357,14 @@ impl SumBounds {
         }
     }
 
-    /// A clause of bounds told that no whole numbers meet, where a row of the tableau shows it by its fixed variables: their part isn't a multiple of the greatest common divisor of the other coefficients. `None` promises nothing; an `Err` is for want of memory.
+    /// A clause of bounds told that no whole numbers meet, where a row of the tableau shows it by its fixed variables: their part isn't a multiple of the greatest common divisor of the other coefficients; or else where a split of a sum shows it that fixed ones leave. `None` promises nothing; an `Err` is for want of memory.
     pub fn whole_conflict(&self, alloc: Global) -> Result<Option<Vec<Literal>>, AllocError>
         ensures { IfOk result (λ o. IfSome o (λ ls. IsWholeConflict (sums self.now) self.now.told ls.items)) }
     {
-        whole_conflict(alloc, &self.simplex)
+        let found = whole_conflict(alloc, &self.simplex)?;
+        match found {
+            Some(clause) => Ok(Some(clause)),
+            None => Ok(split_conflict(alloc, &self.simplex, &self.keys, self.count)),
+        }
     }
 }

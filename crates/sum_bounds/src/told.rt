@@ -104,7 +104,7 @@ fn is_among(literals: &[Literal], literal: Literal) -> bool
 }
 
 /// Adds a literal where it isn't there.
-fn put(clause: &mut Vec<Literal>, literal: Literal) -> Result<(), AllocError>
+pub(crate) fn put(clause: &mut Vec<Literal>, literal: Literal) -> Result<(), AllocError>
     ensures { OnOk result (IsPut clause.old.items literal clause.new.items) }
 {
     if !is_among(clause, literal) {

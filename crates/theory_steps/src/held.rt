@@ -171,7 +171,7 @@ pub(crate) fn meet_bounds(
     Meeting { met, lines }
 }
 
-/// A clause that the bounds break over whole numbers, where a row shows one, of values within all bounds. That it fits says nothing more.
+/// A clause that the bounds break over whole numbers, where a row or a split shows one, of values within all bounds. That it fits says nothing more.
 pub(crate) fn meet_wholes(alloc: Global, held: &Held, stack: &Stack, atoms: &AtomNumbers) -> Met
     requires setting { IsSetting stack.now atoms.now.atoms }
     requires held { IsHeld stack.now atoms.now.atoms held.now }
