@@ -1,4 +1,5 @@
-use Rattle.std.proofs.Common.{length, arith}
+use Rattle.std.proofs.Common.{rules, ◌≡◌, [], ◌∷◌, length, arith}
+use Rattle.literals.specs.Signed.{opposite}
 use Rattle.smt_meaning.specs.Stack.{signature_of}
 use Rattle.closure_log.specs.Seen.{state_of}
 use Rattle.closure_log.proofs.Setting.{at_one_level}
@@ -25,6 +26,7 @@ returns c =
     let log = told.log.items in
     let r = c.requires in
     let reasoned = r.told.reasoned in
+    let begun : c.push.new.self.items ≡ opposite c.args.literal ∷ [] = search rules in
     c.lemma_of.ensures.conflict (signature_of s.frames) (state_of s table log) (at_one_level s table r.setting c.flat_says_the_same.ensures told.congruence log told.starts.items r.told)
     (false_clause s table log told.congruence told.starts.items c.args.place c.args.arguments.now c.args.literal c.args.equal c.push.new.self.items c.add_reasons.new.clause.items r.told r.distinct r.literal r.equal
-    c.in_ok-push.ensures.items (c.in_ok-add_reasons.ensures (signature_of s.frames) s.trees table reasoned.read reasoned.justified))
+    begun (c.in_ok-add_reasons.ensures (signature_of s.frames) s.trees table reasoned.read reasoned.justified))
