@@ -19,3 +19,4 @@ pub mod Taking
 mod RefusedPairs
 mod Readable
 mod ReadablePartsPlaces
+mod AssertedTerms

@@ -173,7 +173,7 @@ mapped_in : (f : Assertion → Tree) (xs : List Assertion) → All (λ a. Contai
 mapped_in f xs = λ k d l. (k, subst (λ n. k < n) (sym (length-map xs f)) l, get_or-map f xs k (get_or xs k d) ∙ ap f (get_or_default xs k (get_or xs k d) d l))
 
 -- each is one of the stack's assertions
-are_assertions : (s : Stack) (xs : List Assertion) → AreAsserted s xs → All (λ (a : Assertion). Contains (assertions_of s.frames) (tree_at s.trees a.term)) xs
+pub are_assertions : (s : Stack) (xs : List Assertion) → AreAsserted s xs → All (λ (a : Assertion). Contains (assertions_of s.frames) (tree_at s.trees a.term)) xs
 are_assertions s xs h = subst (λ (ts : List Tree). All (λ (a : Assertion). Contains ts (tree_at s.trees a.term)) xs) h.terms (mapped_in (term_of s.trees) xs)
 
 abbrev place : Assertion → ℕ

@@ -1,5 +1,5 @@
 -- The atoms of a part are over its place and those of its arguments.
-use Rattle.std.proofs.Common.{◌≡◌, ℕ, ◌<◌, List, [], ◌∷◌, ◌++◌, Some, map, get_or, All, ap, ap₂, refl}
+use Rattle.std.proofs.Common.{◌≡◌, ℕ, ◌<◌, Bool, true, false, List, [], ◌∷◌, ◌++◌, Some, map, get_or, All, ap, ap₂, refl}
 use Rattle.std.specs.Prelude.{Option, None, ℤ}
 use Rattle.std.proofs.lemmas.List.Elements.{All-nil, All-cons, All-head, All-tail, All-append, All-map}
 use Rattle.smt_meaning.specs.declared.values.Sort.{Sort}
@@ -16,7 +16,7 @@ use Rattle.bound_clauses.specs.declared.orders.Sense.TheVariants.{NotAbove, Belo
 use Rattle.bound_clauses.specs.Orders.{order, both_orders, rising, falling, order_atoms}
 use Rattle.check_atoms.specs.declared.part.PartAtom.{PartAtom}
 use Rattle.check_atoms.specs.declared.part.PartAtom.TheVariants.{Truth, Same, Bound, Limit}
-use Rattle.check_atoms.specs.PartAtoms.{by_sort, alone_by_sort, truth_by_sort, pair, alone, neighbours_from, first_with, each_two, of_equal, of_distinct, with_branches, of_rows, compared, compared_by_head, of_part}
+use Rattle.check_atoms.specs.PartAtoms.{by_sort, alone_by_sort, truth_by_sort, pair, alone, neighbours_from, first_with, each_two, of_equal, of_distinct, with_branches, of_rows, compared, compared_by_head, of_part, wanted_of}
 use Rattle.check_atoms.specs.Numbering.{IsWithin}
 use Rattle.check_atoms.proofs.Rows.{HasTerms, HasNumbers, limits_of, all_terms, all_numbers}
 
@@ -184,11 +184,21 @@ over_within n (Same i j) h r = tt
 over_within n (Bound o) h r = h
 over_within n (Limit l) h r = record { multiples_are = λ k d m. record { in_range = r.factors k d m; within = h k d m }; in_range = r.most }
 
-pub part_within : (f : ℕ → Option Sort) (d : ℤ) (n p : ℕ) (h : Head) (is : List ℕ) → InRange d → p < n → All (λ i. i < n) is → All (IsWithin n) (of_part f d p h is)
+part_within : (f : ℕ → Option Sort) (d : ℤ) (n p : ℕ) (h : Head) (is : List ℕ) → InRange d → p < n → All (λ i. i < n) is → All (IsWithin n) (of_part f d p h is)
 part_within f d n p h is r l g =
     let over = part_over (λ i. i < n) f d p h is l g in
     let ranged = part_any IsRanged (λ q. tt) (λ i j. tt) (λ o. tt) f d p h is (λ o e. all_numbers d o p is r) in
     λ k x m. over_within n (get_or (of_part f d p h is) k x) (over k x m) (ranged k x m)
+
+truth_within : (r : Option Sort) (n p : ℕ) → All (IsWithin n) (truth_by_sort r p)
+truth_within None n p = All-nil (IsWithin n)
+truth_within (Some Truths) n p = All-cons (IsWithin n) (Truth p) [] tt (All-nil (IsWithin n))
+truth_within (Some Ints) n p = All-nil (IsWithin n)
+truth_within (Some (Free m)) n p = All-nil (IsWithin n)
+
+pub wanted_within : (f : ℕ → Option Sort) (b : Bool) (d : ℤ) (n p : ℕ) (h : Head) (is : List ℕ) → InRange d → p < n → All (λ i. i < n) is → All (IsWithin n) (wanted_of f b d p h is)
+wanted_within f true d n p h is r l g = truth_within (f p) n p
+wanted_within f false d n p h is r l g = part_within f d n p h is r l g
 
 -- ---- only the sorts of these places count
 

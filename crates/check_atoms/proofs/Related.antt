@@ -104,7 +104,7 @@ module _ (ts : List Tree) (ds : List Declaration) (R : List Atom → List Atom �
     compared_related law rows Divisible p is h g e = rows_related rows Divisible p is e
     compared_related law rows o p is h g e = k.same []
 
-    head_related : OrdersAreComparisons → RowsAreAtoms → (h : Head) (p : ℕ) (is : List ℕ) → P p → All P is → tree_at ts p ≡ node h (pick ts is)
+    pub head_related : OrdersAreComparisons → RowsAreAtoms → (h : Head) (p : ℕ) (is : List ℕ) → P p → All P is → tree_at ts p ≡ node h (pick ts is)
         → R (map (atom_of ts) (compared_by_head (sort_of ds ts) (place_divisor ts is) h p is)) (comparison_atoms ts ds h (pick ts is))
     head_related law rows (Theory o) p is h g e = compared_related law rows o p is h g e
     head_related law rows t p is h g e = k.same []

@@ -1,7 +1,7 @@
 -- The numbered atoms are the stack's.
 use Rattle.std.proofs.Common.{◌≡◌, ◌≢◌, ◌⊎◌, inl, inr, ℕ, ◌<◌, Bool, List, [], ◌∷◌, ◌++◌, Some, map, length, get_or, All, Contains, subst, sym, ap, ap₂, ◌∙◌, refl, arith, flat_map}
 use Rattle.std.specs.Prelude.{Option, None, if◌then◌else◌}
-use Rattle.std.proofs.lemmas.List.Elements.{All-nil, All-cons, All-append, All-weaker, All-contains, All-contains_itself, Contains-get_or, Contains-append_left, Contains-append_right, Contains-append_cases, Contains-push_cases}
+use Rattle.std.proofs.lemmas.List.Elements.{All-nil, All-cons, All-head, All-tail, All-append, All-weaker, All-contains, All-contains_itself, Contains-get_or, Contains-append_left, Contains-append_right, Contains-append_cases, Contains-push_cases}
 use Rattle.smt_meaning.specs.declared.values.Sort.{Sort}
 use Rattle.smt_meaning.specs.declared.values.Sort.TheVariants.{Bool as Truths, Int as Ints, Free}
 use Rattle.smt_meaning.specs.declared.terms.Head.{Head}
@@ -16,7 +16,7 @@ use Rattle.smt_meaning.specs.Signature.{tree_sort, is_bool, is_int}
 use Rattle.smt_meaning.specs.Stack.{signature_of, assertions_of}
 use Rattle.smt_meaning.specs.StackCommand.{Stack}
 use Rattle.smt_meaning.specs.Report.{IsPartOfStack}
-use Rattle.smt_meaning.specs.Atoms.{at_most_atom, pair_atoms, comparison_atoms, truth_atom, atoms_of, atoms_of_all, stack_atoms, stack_atoms_are}
+use Rattle.smt_meaning.specs.Atoms.{at_most_atom, pair_atoms, of_first_with, of_pairs, comparison_atoms, truth_atom, atoms_of, atoms_of_all, stack_atoms, stack_atoms_are}
 use Rattle.term_store.specs.Terms.{AreDifferent}
 use Rattle.term_store.proofs.PlaceLemmas.{place_of-is}
 use Rattle.scope_stack.specs.Shown.{IsLawful}
@@ -26,10 +26,12 @@ use Rattle.check_atoms.proofs.Marking.{below}
 use Rattle.check_atoms.proofs.StackAtomsPlaces.{Picked, picked}
 use Rattle.bound_clauses.specs.Laws.{OrdersAreComparisons}
 use Rattle.pair_bounds.specs.Rows.{RowsAreAtoms}
-use Rattle.check_atoms.specs.PartAtoms.{atom_of, by_sort, alone_by_sort, truth_by_sort, sort_of}
+use Rattle.check_atoms.specs.PartAtoms.{atom_of, by_sort, alone_by_sort, truth_by_sort, compared_by_head, sort_of}
+use Rattle.check_atoms.specs.AssertedDistinct.{IsElement, IsAssertedDistinct}
+use Rattle.smt_laws.specs.Rows.{place_divisor}
 use Rattle.check_atoms.specs.OfStack.{IsNode, part_atoms, IsAtomOfPart, AreCheckAtoms}
 use Rattle.check_atoms.specs.Laws.{IsSameOfNoInts, StackAtomsAreNumbered}
-use Rattle.check_atoms.proofs.Related.{IsKept, part_related}
+use Rattle.check_atoms.proofs.Related.{IsKept, head_related, part_related}
 
 -- ---- a part's own atoms, and those of a term
 
@@ -203,13 +205,46 @@ module _ (s : Stack) (marks : List Bool) (atoms : List Atom) (lawful : IsLawful 
     single = λ i j h g. subst (Gives (map (atom_of ts) (alone_by_sort (sort_of ds ts i) i j))) (pair_stated i j h g) (alone_given (sort_of ds ts i) i j refl);
   }
 
+  -- of two elements the definition has an equality alone
+  apart_stated : (i j n : ℕ) → sort_of ds ts i ≡ Some (Free n) → All (IsSameOfNoInts s) (stated (sort_of ds ts i) i j)
+  apart_stated i j n e =
+      subst (λ (r : Option Sort). All (IsSameOfNoInts s) (stated r i j)) (sym e)
+      (All-cons (IsSameOfNoInts s) (SameAtom i j) [] (record { left = i; right = j; sort = Free n; atom = refl; has_sort = e; no_int = no_free n }) (All-nil (IsSameOfNoInts s)))
+
+  first_apart : (i : ℕ) (js : List ℕ) → Inside i → All Inside js → IsElement s i → All (IsSameOfNoInts s) (of_first_with (pair_atoms ts ds) (tree_at ts i) (pick ts js))
+  first_apart i [] h g e = All-nil (IsSameOfNoInts s)
+  first_apart i (j ∷ js) h g e =
+      All-append (IsSameOfNoInts s) (pair_atoms ts ds (tree_at ts i) (tree_at ts j)) (of_first_with (pair_atoms ts ds) (tree_at ts i) (pick ts js))
+      (subst (All (IsSameOfNoInts s)) (pair_stated i j h (All-head Inside j js g)) (apart_stated i j e.sort e.has)) (first_apart i js h (All-tail Inside j js g) e)
+
+  two_apart : (is : List ℕ) → All Inside is → All (IsElement s) is → All (IsSameOfNoInts s) (of_pairs (pair_atoms ts ds) (pick ts is))
+  two_apart [] g es = All-nil (IsSameOfNoInts s)
+  two_apart (i ∷ is) g es =
+      All-append (IsSameOfNoInts s) (of_first_with (pair_atoms ts ds) (tree_at ts i) (pick ts is)) (of_pairs (pair_atoms ts ds) (pick ts is))
+      (first_apart i is (All-head Inside i is g) (All-tail Inside i is g) (All-head (IsElement s) i is es)) (two_apart is (All-tail Inside i is g) (All-tail (IsElement s) i is es))
+
+  distinct_apart : (p : ℕ) (h : Head) (is : List ℕ) → All Inside is → IsAssertedDistinct s p h is → All (IsSameOfNoInts s) (comparison_atoms ts ds h (pick ts is))
+  distinct_apart p h is g alone = subst (λ (k : Head). All (IsSameOfNoInts s) (comparison_atoms ts ds k (pick ts is))) (sym alone.operator) (two_apart is g alone.elements)
+
+  truth_numbered : (p : ℕ) (h : Head) (is : List ℕ) (a : Atom) → IsMarked marks p → IsNode ts p h is → Contains (truth_atom ts ds (node h (pick ts is))) a → Contains atoms a
+  truth_numbered p h is a m n c =
+      let all : All (Contains atoms) (truth_atom ts ds (tree_at ts p)) = subst (All (Contains atoms)) (truths_are p n.within) (are.each p h is m n).truth in
+      All-contains (Contains atoms) (truth_atom ts ds (node h (pick ts is))) a (subst (λ t. All (Contains atoms) (truth_atom ts ds t)) n.tree all) c
+
+  compared_numbered : (p : ℕ) (h : Head) (is : List ℕ) (a : Atom) → IsMarked marks p → IsNode ts p h is → Contains (comparison_atoms ts ds h (pick ts is)) a → Numbered atoms a
+  compared_numbered p h is a m n c = elim (are.each p h is m n).compared [
+    | inl alone ↦ inr (All-contains (IsSameOfNoInts s) (comparison_atoms ts ds h (pick ts is)) a (distinct_apart p h is n.arguments alone) c)
+    | inr all ↦
+        let xs = map (atom_of ts) (compared_by_head (sort_of ds ts) (place_divisor ts is) h p is) in
+        more_numbered xs atoms a (λ b d. All-contains (Contains atoms) xs b all d)
+        (All-contains (Numbered xs) (comparison_atoms ts ds h (pick ts is)) a (head_related ts ds Gives Inside given compares rows h p is n.within n.arguments n.tree) c)
+  ]
+
   node_numbered : (p : ℕ) (h : Head) (is : List ℕ) (a : Atom) → IsMarked marks p → IsNode ts p h is → Contains (own ts ds (node h (pick ts is))) a → Numbered atoms a
-  node_numbered p h is a m n c =
-      let all = part_related ts ds Gives Inside given compares rows h p is n.within n.arguments n.tree
-      (subst (Gives (map (atom_of ts) (truth_by_sort (sort_of ds ts p) p))) (truths_are p n.within) (gives_itself (map (atom_of ts) (truth_by_sort (sort_of ds ts p) p)))) in
-      more_numbered (map (atom_of ts) (part_atoms s p h is)) atoms a (λ b d. All-contains (Contains atoms) (map (atom_of ts) (part_atoms s p h is)) b (are.each p h is m n) d)
-      (All-contains (Numbered (map (atom_of ts) (part_atoms s p h is))) (truth_atom ts ds (tree_at ts p) ++ comparison_atoms ts ds h (pick ts is)) a all
-      (subst (λ xs. Contains xs a) (sym (own_is p h (pick ts is) n.tree)) c))
+  node_numbered p h is a m n c = elim (Contains-append_cases (truth_atom ts ds (node h (pick ts is))) (comparison_atoms ts ds h (pick ts is)) a c) [
+    | inl truth ↦ inl (truth_numbered p h is a m n truth)
+    | inr compared ↦ compared_numbered p h is a m n compared
+  ]
 
   tree_numbered : (u : Tree) (a : Atom) → IsPartOfStack s.frames u → Contains (own ts ds u) a → Numbered atoms a
   tree_numbered (node h us) a part c =

@@ -1,7 +1,8 @@
 -- The atoms of one part more, and of all parts.
 use Rattle.std.proofs.Common.{◌≡◌, inl, inr, ℕ, ◌<◌, ◌≤◌, ◌+◌, ◌^◌, Bool, true, false, List, [], ◌∷◌, ◌++◌, Some, map, length, get_or, All, Contains, subst, sym, ap, ◌∙◌, refl, arith}
 use Rattle.std.specs.Prelude.{slice_index_or, ℤ}
-use Rattle.std.proofs.lemmas.List.Elements.{All-nil, All-cons, All-head, All-tail, All-append, All-push, All-weaker, All-contains, Contains-get_or, Contains-append_left, Contains-push_cases}
+use Rattle.std.proofs.lemmas.List.{map-append}
+use Rattle.std.proofs.lemmas.List.Elements.{All-nil, All-cons, All-head, All-tail, All-append, All-push, All-weaker, All-contains, Contains-get_or, Contains-append_left, Contains-append_right, Contains-push_cases}
 use Rattle.smt_meaning.specs.declared.values.Sort.{Sort}
 use Rattle.smt_meaning.specs.declared.values.Sort.TheVariants.{Bool as Truths}
 use Rattle.smt_meaning.specs.declared.terms.Head.{Head}
@@ -36,10 +37,11 @@ use Rattle.check_atoms.specs.declared.part.PartAtom.TheVariants.{Truth, Same, Bo
 use Rattle.linear_forms.specs.declared.multiples.Multiple.{Multiple}
 use Rattle.pair_bounds.specs.Rows.{multiples, limit_of_row}
 use Rattle.smt_meaning.specs.Atoms.{limit_atom}
-use Rattle.check_atoms.specs.PartAtoms.{atom_of, of_part, sort_of, sort_in}
+use Rattle.check_atoms.specs.PartAtoms.{atom_of, truth_by_sort, compared_by_head, of_part, wanted_of, sort_of, sort_in}
+use Rattle.check_atoms.specs.AssertedDistinct.{IsAssertedDistinct}
 use Rattle.check_atoms.specs.Divisors.{IsDivisorOf}
-use Rattle.check_atoms.specs.Numbering.{IsNormal, Adds, RefusesOne, RefusesDivision}
-use Rattle.check_atoms.specs.OfStack.{IsNode, part_atoms, IsAtomOfPart, ComparesMarked, AreCheckAtoms, AreAtomsBelow, IsRefused}
+use Rattle.check_atoms.specs.Numbering.{IsNormal, Adds, RefusesBound, RefusesRows, RefusesOne, RefusesDivision}
+use Rattle.check_atoms.specs.OfStack.{IsNode, part_atoms, HasAtoms, IsAtomOfPart, ComparesMarked, AreCheckAtoms, AreAtomsBelow, IsRefused}
 use Rattle.check_atoms.specs.Chords.{MayCompare}
 use Rattle.smt_meaning.specs.declared.clauses.Atom.TheVariants.{Truth as TruthAtom, Same as SameAtom, AtMost}
 use Rattle.smt_meaning.specs.Clause.{sum_places}
@@ -58,6 +60,52 @@ head_of h k ts us e = cc
 apart : (b : Bool) → b ≡ true → b ≡ false → ⊥
 apart b p q = cc
 
+-- ---- the truth of a part alone, or all of its atoms
+
+module _ (ts : List Tree) (atoms : List Atom) (xs ys : List PartAtom) (all : All (Contains atoms) (map (atom_of ts) (xs ++ ys))) where
+  among_all : (a : Atom) → Contains (map (atom_of ts) xs ++ map (atom_of ts) ys) a → Contains atoms a
+  among_all a c = All-contains (Contains atoms) (map (atom_of ts) (xs ++ ys)) a all (subst (λ zs. Contains zs a) (sym (map-append (atom_of ts) xs ys)) c)
+
+  firsts : All (Contains atoms) (map (atom_of ts) xs)
+  firsts = λ k d l. among_all (get_or (map (atom_of ts) xs) k d) (Contains-append_left (map (atom_of ts) xs) (map (atom_of ts) ys) (get_or (map (atom_of ts) xs) k d) (Contains-get_or (map (atom_of ts) xs) k d l))
+
+  lasts : All (Contains atoms) (map (atom_of ts) ys)
+  lasts = λ k d l. among_all (get_or (map (atom_of ts) ys) k d) (Contains-append_right (map (atom_of ts) xs) (map (atom_of ts) ys) (get_or (map (atom_of ts) ys) k d) (Contains-get_or (map (atom_of ts) ys) k d l))
+
+pub more_atoms : (s : Stack) (old new : List Atom) (p : ℕ) (h : Head) (is : List ℕ) → ((a : Atom) → Contains old a → Contains new a) → HasAtoms s old p h is → HasAtoms s new p h is
+more_atoms s old new p h is stay has = record {
+  truth = All-weaker (Contains old) (Contains new) stay (map (atom_of s.trees) (truth_by_sort (sort_of (signature_of s.frames) s.trees p) p)) has.truth;
+  compared = elim has.compared [
+    | inl alone ↦ inl alone
+    | inr all ↦
+        inr (All-weaker (Contains old) (Contains new) stay (map (atom_of s.trees) (compared_by_head (sort_of (signature_of s.frames) s.trees) (place_divisor s.trees is) h p is)) all)
+  ];
+}
+
+module _ (s : Stack) (p : ℕ) (h : Head) (is : List ℕ) where
+  -- those that are wanted of the part
+  abbrev pub wanted : Bool → List PartAtom
+  wanted b = wanted_of (sort_of (signature_of s.frames) s.trees) b (place_divisor s.trees is) p h is
+
+  abbrev truths : List PartAtom
+  truths = truth_by_sort (sort_of (signature_of s.frames) s.trees p) p
+
+  abbrev others : List PartAtom
+  others = compared_by_head (sort_of (signature_of s.frames) s.trees) (place_divisor s.trees is) h p is
+
+  wanted_among : (b : Bool) (x : PartAtom) → Contains (wanted b) x → Contains (part_atoms s p h is) x
+  wanted_among true x c = Contains-append_left truths others x c
+  wanted_among false x c = c
+
+  image_among : (b : Bool) (a : Atom) → Contains (map (atom_of s.trees) (wanted b)) a → Contains (map (atom_of s.trees) (part_atoms s p h is)) a
+  image_among true a c =
+      subst (λ (xs : List Atom). Contains xs a) (sym (map-append (atom_of s.trees) truths others)) (Contains-append_left (map (atom_of s.trees) truths) (map (atom_of s.trees) others) a c)
+  image_among false a c = c
+
+  has_wanted : (b : Bool) (atoms : List Atom) → (b ≡ true → IsAssertedDistinct s p h is) → All (Contains atoms) (map (atom_of s.trees) (wanted b)) → HasAtoms s atoms p h is
+  has_wanted true atoms alone all = record { truth = all; compared = inl (alone refl) }
+  has_wanted false atoms alone all = record { truth = firsts s.trees atoms truths others all; compared = inr (lasts s.trees atoms truths others all) }
+
 module _ (s : Stack) (marks : List Bool) (law : IsLawful s) (parts : AreMarkedFrom s 0 marks) where
   abbrev ds : List Declaration
   ds = signature_of s.frames
@@ -71,11 +119,11 @@ module _ (s : Stack) (marks : List Bool) (law : IsLawful s) (parts : AreMarkedFr
       part_has_sort ds (tree_at s.trees p) part.assertion part.part
       (Truths, All-contains (λ (t : Tree). tree_sort ds t ≡ Some Truths) (assertions_of s.frames) part.assertion law.truths part.asserted)
 
-  arguments_marked : (p : ℕ) (h : Head) (is : List ℕ) → IsMarked marks p → IsNode s.trees p h is → All (IsMarked marks) is
+  pub arguments_marked : (p : ℕ) (h : Head) (is : List ℕ) → IsMarked marks p → IsNode s.trees p h is → All (IsMarked marks) is
   arguments_marked p h is m n = parts.closed p h is (omega arith) m n.tree n.arguments
 
   module _ (sorts : List Sort) (sorted : AreSorts ds s.trees (length s.trees) sorts) where
-    sort_there : (p : ℕ) → IsMarked marks p → sort_in sorts p ≡ sort_of ds s.trees p
+    pub sort_there : (p : ℕ) → IsMarked marks p → sort_in sorts p ≡ sort_of ds s.trees p
     sort_there p m = let sort = its_sort p m in ap Some (sorted.each p sort.0 (inside p m) sort.1) ∙ sym sort.1
 
     pub same_atoms : (d : ℤ) (p : ℕ) (h : Head) (is : List ℕ) → IsDivisorOf s.trees h is d → IsMarked marks p → IsNode s.trees p h is → of_part (sort_in sorts) d p h is ≡ part_atoms s p h is
@@ -84,32 +132,35 @@ module _ (s : Stack) (marks : List Bool) (law : IsLawful s) (parts : AreMarkedFr
         (All-weaker (IsMarked marks) (λ i. sort_in sorts i ≡ sort_of ds s.trees i) sort_there is (arguments_marked p h is m n))
         ∙ divisor.same (sort_of ds s.trees) p
 
+    pub same_wanted : (b : Bool) (d : ℤ) (p : ℕ) (h : Head) (is : List ℕ) → IsDivisorOf s.trees h is d → IsMarked marks p → IsNode s.trees p h is → wanted_of (sort_in sorts) b d p h is ≡ wanted s p h is b
+    same_wanted true d p h is divisor m n = ap (λ r. truth_by_sort r p) (sort_there p m)
+    same_wanted false d p h is divisor m n = same_atoms d p h is divisor m n
+
   -- ---- one part more
 
-  one_node : (p : ℕ) (h k : Head) (is js : List ℕ) → IsNode s.trees p h is → IsNode s.trees p k js → part_atoms s p h is ≡ part_atoms s p k js
-  one_node p h k is js a b =
-      ap (λ g. part_atoms s p g is) (head_of h k (pick s.trees is) (pick s.trees js) (sym a.tree ∙ b.tree))
-      ∙ ap (part_atoms s p k) (same_arguments s.trees p h k is js law.in_order a.arguments b.arguments a.tree b.tree)
+  one_node : (p : ℕ) (h k : Head) (is js : List ℕ) (atoms : List Atom) → IsNode s.trees p h is → IsNode s.trees p k js → HasAtoms s atoms p h is → HasAtoms s atoms p k js
+  one_node p h k is js atoms a b has =
+      subst (λ (g : Head). HasAtoms s atoms p g js) (head_of h k (pick s.trees is) (pick s.trees js) (sym a.tree ∙ b.tree))
+      (subst (λ (ls : List ℕ). HasAtoms s atoms p h ls) (same_arguments s.trees p h k is js law.in_order a.arguments b.arguments a.tree b.tree) has)
 
-  pub part_more : (k : ℕ) (h : Head) (is : List ℕ) (old new : List Atom) → IsMarked marks k → IsNode s.trees k h is → AreAtomsBelow s marks k old → Adds (length s.trees) old (map (atom_of s.trees) (part_atoms s k h is)) new
-      → AreAtomsBelow s marks (k + 1) new
-  part_more k h is old new m n b a = record {
+  pub part_more : (b : Bool) (k : ℕ) (h : Head) (is : List ℕ) (old new : List Atom) → (b ≡ true → IsAssertedDistinct s k h is) → IsMarked marks k → IsNode s.trees k h is → AreAtomsBelow s marks k old
+      → Adds (length s.trees) old (map (atom_of s.trees) (wanted s k h is b)) new → AreAtomsBelow s marks (k + 1) new
+  part_more b k h is old new alone m n before a = record {
     bounds = λ i d l. elim (a.only (get_or new i d) (Contains-get_or new i d l)) [
-      | inl before ↦ All-contains (IsNormal (length s.trees)) old (get_or new i d) b.bounds before
-      | inr here ↦ All-contains (IsNormal (length s.trees)) (map (atom_of s.trees) (part_atoms s k h is)) (get_or new i d) a.normal here
+      | inl old_one ↦ All-contains (IsNormal (length s.trees)) old (get_or new i d) before.bounds old_one
+      | inr here ↦ All-contains (IsNormal (length s.trees)) (map (atom_of s.trees) (wanted s k h is b)) (get_or new i d) a.normal here
     ];
-    only = λ x c. elim (a.only x c) [ inl before ↦ b.only x before | inr here ↦ record { place = k; head = h; arguments = is; marked = m; term = n; among = here } ];
+    only = λ x c. elim (a.only x c) [ inl old_one ↦ before.only x old_one | inr here ↦ record { place = k; head = h; arguments = is; marked = m; term = n; among = image_among s k h is b x here } ];
     each = λ p g js l pm pn. elim (last_or_before k p l) [
-      | inl before ↦ All-weaker (Contains old) (Contains new) a.stay (map (atom_of s.trees) (part_atoms s p g js)) (b.each p g js before pm pn)
+      | inl less ↦ more_atoms s old new p g js a.stay (before.each p g js less pm pn)
       | inr last ↦ here p g js last pn
     ];
   }
     where
-      here : (p : ℕ) (g : Head) (js : List ℕ) → k ≡ p → IsNode s.trees p g js → All (Contains new) (map (atom_of s.trees) (part_atoms s p g js))
+      here : (p : ℕ) (g : Head) (js : List ℕ) → k ≡ p → IsNode s.trees p g js → HasAtoms s new p g js
       here p g js e pn =
           let at : IsNode s.trees k g js = subst (λ q. IsNode s.trees q g js) (sym e) pn in
-          subst (λ q. All (Contains new) (map (atom_of s.trees) (part_atoms s q g js))) e
-          (subst (λ xs. All (Contains new) (map (atom_of s.trees) xs)) (one_node k h g is js n at) a.these)
+          subst (λ q. HasAtoms s new q g js) e (one_node k h g is js new n at (has_wanted s k h is b new alone a.these))
 
   pub no_part : (k : ℕ) (atoms : List Atom) → slice_index_or marks k false ≡ false → AreAtomsBelow s marks k atoms → AreAtomsBelow s marks (k + 1) atoms
   no_part k atoms none b = record {
@@ -121,10 +172,14 @@ module _ (s : Stack) (marks : List Bool) (law : IsLawful s) (parts : AreMarkedFr
     ];
   }
 
-  pub part_refused : (k : ℕ) (h : Head) (is : List ℕ) (e : Refusal) → IsMarked marks k → IsNode s.trees k h is → RefusesOne s.trees k (part_atoms s k h is) e → IsRefused s e
-  part_refused k h is e m n (inl memory) = inl memory
-  part_refused k h is e m n (inr (inl r)) = inr (record { place = k; head = h; arguments = is; part = parts.only k m; term = n; atom = inl r })
-  part_refused k h is e m n (inr (inr r)) = inr (record { place = k; head = h; arguments = is; part = parts.only k m; term = n; atom = inr (inl r) })
+  pub part_refused : (b : Bool) (k : ℕ) (h : Head) (is : List ℕ) (e : Refusal) → IsMarked marks k → IsNode s.trees k h is → RefusesOne s.trees k (wanted s k h is b) e → IsRefused s e
+  part_refused b k h is e m n (inl memory) = inl memory
+  part_refused b k h is e m n (inr (inl r)) =
+      let bound : RefusesBound s.trees k (part_atoms s k h is) e = record { order = r.order; among = wanted_among s k h is b (Bound r.order) r.among; refuses = r.refuses } in
+      inr (record { place = k; head = h; arguments = is; part = parts.only k m; term = n; atom = inl bound })
+  part_refused b k h is e m n (inr (inr r)) =
+      let row : RefusesRows s.trees k (part_atoms s k h is) e = record { limit = r.limit; among = wanted_among s k h is b (Limit r.limit) r.among; refuses = r.refuses } in
+      inr (record { place = k; head = h; arguments = is; part = parts.only k m; term = n; atom = inr (inl row) })
 
   pub divisor_refused : (k : ℕ) (h : Head) (is : List ℕ) (e : Refusal) → IsMarked marks k → IsNode s.trees k h is → RefusesDivision s.trees k is e → IsRefused s e
   divisor_refused k h is e m n o = inr (record { place = k; head = h; arguments = is; part = parts.only k m; term = n; atom = inr (inr o) })
@@ -231,8 +286,7 @@ module _ (s : Stack) (marks : List Bool) (law : IsLawful s) (parts : AreMarkedFr
             | inl before ↦ a.only x before
             | inr here ↦ inr (subst (ComparesMarked s marks) here compares)
           ];
-          each = λ p h is m n. All-weaker (Contains old) (Contains new) (λ x c. subst (λ xs. Contains xs x) (sym e) (Contains-append_left old (SameAtom i j ∷ []) x c))
-              (map (atom_of s.trees) (part_atoms s p h is)) (a.each p h is m n);
+          each = λ p h is m n. more_atoms s old new p h is (λ x c. subst (λ xs. Contains xs x) (sym e) (Contains-append_left old (SameAtom i j ∷ []) x c)) (a.each p h is m n);
           bounds = all_of (IsNormal (length s.trees)) a.bounds tt;
           over_parts = all_of (λ (x : Atom). All (IsMarked marks) (atom_places x)) a.over_parts places;
           leaves = all_of (λ (x : Atom). All (IsLeaf s.trees s.frames) (bound_terms x)) a.leaves (All-nil (IsLeaf s.trees s.frames));

@@ -28,6 +28,7 @@ use Rattle.check_atoms.specs.declared.refusal.Refusal.TheVariants.{Term, Pair}
 use Rattle.bound_clauses.specs.Orders.{order_atoms, bound_atom}
 use Rattle.bound_clauses.specs.Laws.{orders}
 use Rattle.check_atoms.specs.PartAtoms.{atom_of, sort_of, of_equal, of_distinct, with_branches, of_rows}
+use Rattle.check_atoms.specs.AssertedDistinct.{IsAssertedDistinct}
 use Rattle.check_atoms.specs.OfStack.{IsNode, AreCheckAtoms, IsRefused}
 
 -- the equality of two Bools
@@ -80,11 +81,11 @@ RefusedPairLeavesRange =
     (s : Stack) (part : ℕ) (o : Order) → IsLawful s → form_fits (linear_form s.trees (tree_at s.trees o.lesser)) ≡ true → IsRefused s (Pair part o)
     → PairLeavesRange s part o.sense o.lesser o.greater
 
--- what is numbered for a part with this operator: the bounds of a comparison, the atoms of the terms that it compares, and the bounds of the rows of a division
+-- what is numbered for a part with this operator: the bounds of a comparison, the atoms of the terms that it compares, unless it is an asserted wide `distinct`, and the bounds of the rows of a division
 pub record HasNumbers (s : Stack) (atoms : List Atom) (p : ℕ) (o : Operator) (is : List ℕ) : Type 0 where
   pub comparison : IsTrue (orders o) → All (Contains atoms) (map (bound_atom s.trees) (order_atoms o is))
   pub equality : o ≡ Equal → All (Contains atoms) (map (atom_of s.trees) (of_equal (sort_of (signature_of s.frames) s.trees) is))
-  pub different : o ≡ Distinct → All (Contains atoms) (map (atom_of s.trees) (of_distinct (sort_of (signature_of s.frames) s.trees) is))
+  pub different : o ≡ Distinct → IsAssertedDistinct s p (Theory o) is ⊎ All (Contains atoms) (map (atom_of s.trees) (of_distinct (sort_of (signature_of s.frames) s.trees) is))
   pub choice : o ≡ Ite → All (Contains atoms) (map (atom_of s.trees) (with_branches (sort_of (signature_of s.frames) s.trees) p is))
   pub division : All (Contains atoms) (map (atom_of s.trees) (of_rows (place_divisor s.trees is) o p is))
 

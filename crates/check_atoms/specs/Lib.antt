@@ -10,3 +10,4 @@ pub mod Marks
 pub mod StackAtomsOfStack
 pub mod PairRangesLaws
 pub mod ReadablePartsLaws
+pub mod AssertedDistinct

@@ -18,7 +18,8 @@ use Rattle.check_atoms.specs.Parts.{IsMarked}
 use Rattle.check_atoms.specs.declared.refusal.Refusal.{Refusal}
 use Rattle.check_atoms.specs.declared.refusal.Refusal.TheVariants.{Memory}
 use Rattle.check_atoms.specs.declared.part.PartAtom.{PartAtom}
-use Rattle.check_atoms.specs.PartAtoms.{atom_of, of_part, sort_of}
+use Rattle.check_atoms.specs.PartAtoms.{atom_of, truth_by_sort, compared_by_head, of_part, sort_of}
+use Rattle.check_atoms.specs.AssertedDistinct.{IsAssertedDistinct}
 use Rattle.check_atoms.specs.Numbering.{IsNormal, RefusesBound, RefusesRows, RefusesDivision}
 
 -- the term at this place has this head, and its arguments are at these places
@@ -30,6 +31,11 @@ pub record IsNode (trees : List Tree) (p : ℕ) (h : Head) (is : List ℕ) : Typ
 -- the atoms of the term at a place
 abbrev pub part_atoms : Stack → ℕ → Head → List ℕ → List PartAtom
 part_atoms s p h is = of_part (sort_of (signature_of s.frames) s.trees) (place_divisor s.trees is) p h is
+
+-- the truth of a term is among these, if it is a Bool, and the atoms that compare its arguments are, unless it is an asserted wide `distinct`
+pub record HasAtoms (s : Stack) (atoms : List Atom) (p : ℕ) (h : Head) (is : List ℕ) : Type 0 where
+  pub truth : All (Contains atoms) (map (atom_of s.trees) (truth_by_sort (sort_of (signature_of s.frames) s.trees p) p))
+  pub compared : IsAssertedDistinct s p h is ⊎ All (Contains atoms) (map (atom_of s.trees) (compared_by_head (sort_of (signature_of s.frames) s.trees) (place_divisor s.trees is) h p is))
 
 -- an atom of a part
 pub record IsAtomOfPart (s : Stack) (marks : List Bool) (a : Atom) : Type 0 where
@@ -57,13 +63,13 @@ bound_terms (Truth p) = []
 bound_terms (Same i j) = []
 bound_terms (AtMost sum k) = sum_places sum
 
--- the atoms of the parts are numbered, and beside them at most equalities of parts of one declared sort, each once; they are over parts and over what the stack declares
+-- the atoms of the parts are numbered, but for the pairs of an asserted wide `distinct`, and beside them at most equalities of parts of one declared sort, each once; they are over parts and over what the stack declares
 pub record AreCheckAtoms (s : Stack) (marks : List Bool) (atoms : List Atom) : Type 0 where
   pub size : length marks ≡ length s.trees
   pub few : length atoms ≤ 2 ^ 31
   pub apart : AreApart atoms
   pub only : (a : Atom) → Contains atoms a → IsAtomOfPart s marks a ⊎ ComparesMarked s marks a
-  pub each : (p : ℕ) (h : Head) (is : List ℕ) → IsMarked marks p → IsNode s.trees p h is → All (Contains atoms) (map (atom_of s.trees) (part_atoms s p h is))
+  pub each : (p : ℕ) (h : Head) (is : List ℕ) → IsMarked marks p → IsNode s.trees p h is → HasAtoms s atoms p h is
   pub bounds : All (IsNormal (length s.trees)) atoms
   pub over_parts : All (λ (a : Atom). All (IsMarked marks) (atom_places a)) atoms
   pub leaves : All (λ (a : Atom). All (IsLeaf s.trees s.frames) (bound_terms a)) atoms
@@ -82,8 +88,8 @@ pub record RefusesPart (s : Stack) (e : Refusal) : Type 0 where
 abbrev pub IsRefused : Stack → Refusal → Type 0
 IsRefused s e = (e ≡ Memory) ⊎ RefusesPart s e
 
--- of the parts below a place exactly the atoms are numbered
+-- of the parts below a place the atoms are numbered, but for such pairs, and no others
 pub record AreAtomsBelow (s : Stack) (marks : List Bool) (k : ℕ) (atoms : List Atom) : Type 0 where
   pub bounds : All (IsNormal (length s.trees)) atoms
   pub only : (a : Atom) → Contains atoms a → IsAtomOfPart s marks a
-  pub each : (p : ℕ) (h : Head) (is : List ℕ) → p < k → IsMarked marks p → IsNode s.trees p h is → All (Contains atoms) (map (atom_of s.trees) (part_atoms s p h is))
+  pub each : (p : ℕ) (h : Head) (is : List ℕ) → p < k → IsMarked marks p → IsNode s.trees p h is → HasAtoms s atoms p h is

@@ -1,5 +1,5 @@
 -- The atoms of a part, by the places of its arguments.
-use Rattle.std.specs.Prelude.{ℕ, List, [], ◌∷◌, ◌++◌, map, flat_map, ℤ, Option, Some, slice_index_or}
+use Rattle.std.specs.Prelude.{ℕ, Bool, true, false, List, [], ◌∷◌, ◌++◌, map, flat_map, ℤ, Option, Some, slice_index_or}
 use Rattle.smt_meaning.specs.declared.values.Sort.{Sort}
 use Rattle.smt_meaning.specs.declared.values.Sort.TheVariants.{Bool as Truths, Int as Ints, Free}
 use Rattle.smt_meaning.specs.declared.terms.Operator.{Operator}
@@ -105,6 +105,11 @@ module _ (sort_at : ℕ → Option Sort) where
   -- and the truth of the term, if it is a Bool
   abbrev pub of_part : ℤ → ℕ → Head → List ℕ → List PartAtom
   of_part n p h is = truth_by_sort (sort_at p) p ++ compared_by_head n h p is
+
+  -- of these the truth alone, or all
+  abbrev pub wanted_of : Bool → ℤ → ℕ → Head → List ℕ → List PartAtom
+  wanted_of true n p h is = truth_by_sort (sort_at p) p
+  wanted_of false n p h is = of_part n p h is
 
 -- the sort of the term at a place
 abbrev pub sort_of : List Declaration → List Tree → ℕ → Option Sort

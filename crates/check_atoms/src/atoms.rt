@@ -8,10 +8,11 @@ ghost use Rattle.check_atoms.specs.Marks.{AreMarkedFrom, AreStackParts};
 ghost use Rattle.check_atoms.specs.declared.part.PartAtom.{PartAtom as PartAtomValue};
 ghost use Rattle.check_atoms.specs.OfStack.{AreCheckAtoms, AreAtomsBelow, IsRefused};
 
+use crate::asserted::is_asserted_distinct;
 use crate::divisor::{divisor_of, refusal_of_divisor};
 use crate::graph::{Triangle, chords};
 use crate::number::number_all;
-use crate::part::{Compared, PartAtom, add_part};
+use crate::part::{Compared, PartAtom, add_wanted};
 use crate::parts::marks;
 use crate::refusal::Refusal;
 use atom_form::AtomNumbers;
@@ -26,8 +27,8 @@ use std::alloc::Global;
 pub struct CheckAtoms {
     /// Which terms are parts of the assertions, by their places.
     pub marks: Vec<bool>,
-    /// The atoms of the parts: the truth of each that is a Bool, and what compares the arguments of comparisons, of equalities and of choices; and the equalities of
-    /// chords.
+    /// The atoms of the parts: the truth of each that is a Bool, and what compares the arguments of comparisons, of equalities and of choices, but for the pairs of a wide
+    /// `distinct` that is an assertion; and the equalities of chords.
     pub atoms: AtomNumbers,
     /// Triangles of equalities, by the numbers of their atoms.
     pub triangles: Vec<Triangle>,
@@ -69,11 +70,14 @@ fn number_part(
         Ok(divisor) => divisor,
         Err(error) => return Err(refusal_of_divisor(error, id)),
     };
+    let sorts = stack.sorts();
+    let truth_alone = is_asserted_distinct(stack, sorts, id, node.head, node.arguments);
     lists.wanted.clear();
-    add_part(
+    add_wanted(
         &mut lists.wanted,
         &mut lists.compared,
-        stack.sorts(),
+        sorts,
+        truth_alone,
         divisor,
         id,
         node.head,

@@ -24,6 +24,7 @@
 ghost use Rattle.check_atoms.specs.PairRangesLaws.{LawfulPairsLeaveRange, RefusedPairsLeaveRange, LawfulLimitsLeaveRange, RefusedLimitsLeaveRange};
 ghost use Rattle.check_atoms.specs.ReadablePartsLaws.{LawfulPartsAreReadable, LawfulPlacesAreReadable, PartsAreReadable, PlacesAreReadable};
 
+mod asserted;
 mod atoms;
 mod chord;
 mod divisor;
@@ -35,6 +36,7 @@ mod parts;
 mod refusal;
 mod stack_atoms;
 
+pub use asserted::{MOST_PAIRED, is_asserted_distinct};
 pub use atoms::{CheckAtoms, numbered};
 pub use graph::Triangle;
 pub use laws::{

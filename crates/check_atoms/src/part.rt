@@ -6,7 +6,7 @@ ghost use Rattle.bound_clauses.specs.declared.orders.Sense.TheVariants.{NotAbove
 ghost use Rattle.bound_clauses.specs.Orders.{order_atoms};
 ghost use Rattle.pair_bounds.specs.Rows.{limits};
 ghost use Rattle.check_atoms.specs.declared.part.PartAtom.TheVariants.{Bound as BoundAtom, Limit as LimitAtom};
-ghost use Rattle.check_atoms.specs.PartAtoms.{sort_in, truth_by_sort, by_sort, pair, alone, neighbours_from, first_with, each_two, of_equal, of_distinct, with_branches, of_rows, compared, of_part};
+ghost use Rattle.check_atoms.specs.PartAtoms.{sort_in, truth_by_sort, by_sort, pair, alone, neighbours_from, first_with, each_two, of_equal, of_distinct, with_branches, of_rows, compared, of_part, wanted_of};
 
 use bound_clauses::{Order, Sense, add_orders};
 use pair_bounds::{Row, RowLimit, add_rows};
@@ -303,7 +303,7 @@ fn add_compared(
 }
 
 /// Adds the atoms of a part: its truth, if it is a Bool, and those that compare its arguments, or the bounds of its rows by this divisor.
-pub(crate) fn add_part(
+fn add_part(
     atoms: &mut Vec<PartAtom>,
     space: &mut Compared,
     sorts: &[Sort],
@@ -324,4 +324,26 @@ pub(crate) fn add_part(
         }
         _ => Ok(()),
     }
+}
+
+/// Adds the truth of a part alone, or all of its atoms.
+pub(crate) fn add_wanted(
+    atoms: &mut Vec<PartAtom>,
+    space: &mut Compared,
+    sorts: &[Sort],
+    truth_alone: bool,
+    divisor: i128,
+    place: TermId,
+    head: Head,
+    arguments: &[TermId],
+) -> Result<(), AllocError>
+    requires divisor { InRange divisor }
+    requires place { place < length sorts.now }
+    requires arguments { All (λ i. i < length sorts.now) arguments.now }
+    ensures { OnOk result (atoms.new.items ≡ atoms.old.items ++ wanted_of (sort_in sorts.now) truth_alone divisor place head arguments.now) }
+{
+    if truth_alone {
+        return add_truth(atoms, sorts, place);
+    }
+    add_part(atoms, space, sorts, divisor, place, head, arguments)
 }

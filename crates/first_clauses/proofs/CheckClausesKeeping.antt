@@ -37,7 +37,7 @@ module _ (old new : List Kept) (stay : (c : Kept) → Contains old c → Contain
       let part : HasPart s sorts table old p o is = h o is m n in
       record {
         of_bools = λ all. truths_stay s.trees table p o is (part.of_bools all);
-        of_others = λ none. all_stay (part_clauses_of sorts s.trees table o p is) (part.of_others none);
+        of_others = λ none. elim (part.of_others none) [ inl alone ↦ inl alone | inr kept ↦ inr (all_stay (part_clauses_of sorts s.trees table o p is) kept) ];
       }
 
 pub on_ok : {E : Type 0} (r : Result ⊤ E) (P Q : Type 0) → OnOk r P → (P → Q) → OnOk r Q

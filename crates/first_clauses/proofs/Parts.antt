@@ -1,6 +1,6 @@
 -- The parts of a stack have their sorts, their arguments are parts, and those that are linear can be read.
 use Rattle.std.proofs.Common.{◌≡◌, inl, inr, ℕ, ◌<◌, Bool, true, List, [], ◌∷◌, ◌++◌, map, length, All, Contains, Some, subst, sym, ap, ◌∙◌, refl, arith}
-use Rattle.std.specs.Prelude.{IsTrue}
+use Rattle.std.specs.Prelude.{Option, IsTrue}
 use Rattle.std.proofs.lemmas.List.Elements.{All-nil, All-cons, All-head, All-weaker, All-contains}
 use Rattle.smt_meaning.specs.declared.values.Sort.{Sort}
 use Rattle.smt_meaning.specs.declared.values.Sort.TheVariants.{Bool as Truths}
@@ -15,7 +15,6 @@ use Rattle.smt_meaning.specs.Parts.{IsPart, IsPartOfOne, IsOneOf}
 use Rattle.smt_meaning.specs.Signature.{tree_sort}
 use Rattle.smt_meaning.specs.Stack.{signature_of, assertions_of}
 use Rattle.smt_meaning.specs.StackCommand.{Stack}
-use Rattle.smt_laws.specs.Rows.{place_divisor}
 use Rattle.term_store.specs.Terms.{tree_with}
 use Rattle.scope_stack.specs.Facts.{AreSorts}
 use Rattle.scope_stack.specs.Shown.{IsLawful}
@@ -25,9 +24,8 @@ use Rattle.check_atoms.specs.Parts.{IsMarked}
 use Rattle.check_atoms.specs.Marks.{AreStackParts}
 use Rattle.check_atoms.proofs.Sorting.{HasSort as HasSomeSort, part_has_sort}
 use Rattle.check_atoms.proofs.Marking.{below, part_of_part}
-use Rattle.check_atoms.specs.declared.part.PartAtom.TheVariants.{Truth}
-use Rattle.check_atoms.specs.PartAtoms.{atom_of, truth_by_sort, compared_by_head, sort_of}
-use Rattle.check_atoms.specs.OfStack.{IsNode, part_atoms, AreCheckAtoms}
+use Rattle.check_atoms.specs.PartAtoms.{atom_of, truth_by_sort}
+use Rattle.check_atoms.specs.OfStack.{IsNode, AreCheckAtoms}
 use Rattle.order_clauses.specs.Clauses.{sort_at}
 use Rattle.order_clauses.specs.Sound.{HasSort}
 use Rattle.first_clauses.proofs.Shaped.{each_leaf, linear_arguments}
@@ -113,7 +111,5 @@ module _ (s : Stack) (marks : List Bool) (law : IsLawful s) (parts : AreStackPar
         tree = linked.tree;
         arguments = All-weaker (λ i. i < p) (λ i. i < length s.trees) (λ i l. omega (arith, l, inside)) linked.arguments linked.earlier;
       } in
-      let all = atoms.each p linked.head linked.arguments m term in
-      let rest = compared_by_head (sort_of ds s.trees) (place_divisor s.trees linked.arguments) linked.head p linked.arguments in
-      let listed : part_atoms s p linked.head linked.arguments ≡ Truth p ∷ rest = ap (λ o. truth_by_sort o p ++ rest) bool in
-      All-head (Contains table) (TruthAtom p) (map (atom_of s.trees) rest) (subst (λ xs. All (Contains table) (map (atom_of s.trees) xs)) listed all)
+      All-head (Contains table) (TruthAtom p) []
+      (subst (λ (o : Option Sort). All (Contains table) (map (atom_of s.trees) (truth_by_sort o p))) bool (atoms.each p linked.head linked.arguments m term).truth)

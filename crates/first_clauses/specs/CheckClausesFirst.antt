@@ -1,5 +1,5 @@
 -- The first clauses of a search over a stack: what each says follows from the stack, the assertions are among them, and they force the clauses of each part.
-use Rattle.std.specs.Prelude.{◌≡◌, ℕ, false, Bool, List, ◌∷◌, map, All}
+use Rattle.std.specs.Prelude.{◌≡◌, ◌⊎◌, ℕ, false, Bool, List, ◌∷◌, map, All}
 use Rattle.clause_store.specs.Stored.{Kept, Stored}
 use Rattle.smt_meaning.specs.declared.values.Sort.{Sort}
 use Rattle.smt_meaning.specs.declared.values.Sort.TheVariants.{Bool as Truths}
@@ -14,6 +14,7 @@ use Rattle.smt_meaning.specs.StackCommand.{Stack}
 use Rattle.search_port.specs.State.{Reading, truth_atoms}
 use Rattle.smt_laws.specs.Flat.{flat}
 use Rattle.check_atoms.specs.Parts.{IsMarked}
+use Rattle.check_atoms.specs.AssertedDistinct.{IsAssertedDistinct}
 use Rattle.check_atoms.specs.OfStack.{IsNode}
 use Rattle.order_clauses.specs.declared.error.PartError.{PartError}
 use Rattle.order_clauses.specs.Clauses.{sort_at, part_clauses_of}
@@ -48,10 +49,10 @@ pub record HasTruths (trees : List Tree) (table : List Atom) (clauses : List Kep
 abbrev pub AreBools : List Sort → List ℕ → Type 0
 AreBools sorts ps = All (λ p. sort_at sorts p ≡ Truths) ps
 
--- the clauses of the term at a place are kept: of a node of Bools those of its operator over their truths, of another those that tie it to what it compares or chooses
+-- the clauses of the term at a place are kept: of a node of Bools those of its operator over their truths, of another those that tie it to what it compares or chooses, unless it is an asserted wide `distinct`
 pub record HasPart (s : Stack) (sorts : List Sort) (table : List Atom) (clauses : List Kept) (place : ℕ) (o : Operator) (is : List ℕ) : Type 0 where
   pub of_bools : AreBools sorts (place ∷ is) → HasTruths s.trees table clauses place o is
-  pub of_others : (AreBools sorts (place ∷ is) → ⊥) → All (HasClause clauses) (part_clauses_of sorts s.trees table o place is)
+  pub of_others : (AreBools sorts (place ∷ is) → ⊥) → IsAssertedDistinct s place (Theory o) is ⊎ All (HasClause clauses) (part_clauses_of sorts s.trees table o place is)
 
 -- so are those of the term at this place, if it is a part with an operator
 abbrev pub HasPartAt : Stack → List Bool → List Sort → List Atom → List Kept → ℕ → Type 0

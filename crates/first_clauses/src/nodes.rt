@@ -24,6 +24,7 @@ use crate::error::FirstError;
 use crate::keep_all;
 use crate::shapes::linear_terms;
 use atom_form::AtomNumbers;
+use check_atoms::is_asserted_distinct;
 use clause_form::Clauses;
 use clause_store::store::Store;
 use linear_forms::LinearForms;
@@ -84,7 +85,7 @@ fn keep_compared(
     Ok(())
 }
 
-/// Keeps the clauses of a marked part with this operator.
+/// Keeps the clauses of a marked part with this operator, but none of a wide `distinct` that is an assertion.
 fn keep_node(
     stack: &Stack,
     marks: &[bool],
@@ -123,6 +124,9 @@ fn keep_node(
             operator,
             arguments,
         )?;
+        return Ok(());
+    }
+    if is_asserted_distinct(stack, sorts, place, Head::Theory(operator), arguments) {
         return Ok(());
     }
     match keep_compared(

@@ -3,3 +3,4 @@ pub mod Odd
 pub mod Reading
 pub mod Telling
 pub mod Wide
+pub mod DistinctClauses

@@ -1,18 +1,23 @@
-//! Parts that are a `xor` of more than three Bools. Clauses of such a part's operator would be 2^n;
-//! so none are among the first clauses.
+//! Parts that have no first clauses: a `xor` of more than three Bools, whose clauses would be 2^n, and
+//! a wide `distinct` that is an assertion, whose pairs would be n^2.
 //!
 //! `pressing`, `Watches`: a part of whose terms all are told but at most one gives its clause, true
 //! under every interpretation: the open term's truth follows, or the clause is false.
 //!
 //! `wide_xors`, `broken`: all such parts of a stack; a conflict where the truths told of one and of
 //! its arguments aren't what `xor` makes of them. Where there is none, each has its operator's value.
+//!
+//! `asserted_distincts`, `broken_distinct`: the assertions that are a wide `distinct`; a conflict
+//! where one is told to be true of which the closure says that two arguments are equal.
 #![tactic(auto)]
 
 mod clause;
+mod distinct;
 mod laws;
 mod list;
 mod read;
 
 pub use clause::{broken, pressing};
+pub use distinct::{asserted_distincts, broken_distinct};
 pub use laws::odd_clause_is_true;
 pub use list::{Watches, wide_xors};

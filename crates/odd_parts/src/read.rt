@@ -23,7 +23,7 @@ pub(crate) enum Said {
 }
 
 /// What a log says of the truth of a term.
-fn said_of(atoms: &AtomNumbers, places: &[usize], log: &[Literal], term: TermId) -> Said
+pub(crate) fn said_of(atoms: &AtomNumbers, places: &[usize], log: &[Literal], term: TermId) -> Said
     requires { IsPlacedLog atoms.now.atoms log.now places.now }
     ensures { IsSaid atoms.now.atoms log.now term result }
 {

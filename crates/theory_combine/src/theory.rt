@@ -5,7 +5,7 @@ ghost use Rattle.atom_form.specs.AtomTableNumbers.{IsAt};
 use atom_form::{AtomNumbers, CompactAtom};
 use check_atoms::CheckAtoms;
 use literals::Literal;
-use odd_parts::wide_xors;
+use odd_parts::{asserted_distincts, wide_xors};
 use scope_stack::Stack;
 use search_port::{Asserted, Budget, Checked, Inferred, Named, Showing, Shown, Theory};
 use smt_meaning::{Atom, Seq, TermId};
@@ -55,6 +55,7 @@ impl<'s> Combined<'s> {
         stack: &'s Stack,
         parts: CheckAtoms,
         wide_xors: Vec<TermId>,
+        wide_distincts: Vec<TermId>,
         begun: Begun,
     ) -> Self
         requires forms { AreForms stack.now.trees parts.forms }
@@ -69,6 +70,7 @@ impl<'s> Combined<'s> {
                 marks: parts.marks,
                 readable: begun.readable,
                 wide_xors,
+                wide_distincts,
                 guide: begun.guide,
             },
             progress: Progress {
@@ -95,8 +97,9 @@ impl<'s> Combined<'s> {
         ensures err { IfErr result (IsErrorSeen stack.now) }
     {
         let wide_xors = wide_xors(alloc, stack, &parts.marks)?;
+        let wide_distincts = asserted_distincts(alloc, stack)?;
         match begin(alloc, stack, &parts.marks, &parts.atoms) {
-            Ok(begun) => Ok(Combined::start(alloc, stack, parts, wide_xors, begun)),
+            Ok(begun) => Ok(Combined::start(alloc, stack, parts, wide_xors, wide_distincts, begun)),
             Err(error) => Err(error),
         }
     }

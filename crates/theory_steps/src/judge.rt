@@ -11,6 +11,7 @@ ghost use Rattle.theory_steps.specs.Steps.{IsStep, StepInfers, StepChecks};
 use crate::argument::argument_seen;
 use crate::branch::branch;
 use crate::cycles::{follow_differences, meet_differences};
+use crate::distincts::judge_distincts;
 use crate::held::{Met, follow, leads, meet_wholes};
 use crate::implied::follow_rows;
 use crate::model::{Found, find_model};
@@ -255,7 +256,28 @@ fn judge_bounds(parts: &Parts<'_>, progress: &mut Progress, budget: &mut Budget)
     }
 }
 
-/// A last check: of the wide `xor`s, and then of the bounds.
+/// A last check of the wide `distinct`s, and then of the bounds.
+fn judge_elements(parts: &Parts<'_>, progress: &mut Progress, budget: &mut Budget) -> Checked
+    requires parts { AreParts parts.now }
+    requires under_way { IsUnderWay parts.now progress.old }
+    ensures went { Went parts.now progress.old progress.new budget.old budget.new }
+    ensures found { CheckedBy (state parts.now progress.new) budget.old budget.new result }
+{
+    stays(parts, progress, budget);
+    let found = judge_distincts(
+        parts.alloc,
+        &progress.held,
+        parts.stack,
+        &progress.atoms,
+        &parts.wide_distincts,
+    );
+    match found {
+        Some(checked) => checked,
+        None => judge_bounds(parts, progress, budget),
+    }
+}
+
+/// A last check: of the wide `xor`s and `distinct`s, and then of the bounds.
 pub(crate) fn judge(parts: &Parts<'_>, progress: &mut Progress, budget: &mut Budget) -> Checked
     requires parts { AreParts parts.now }
     requires under_way { IsUnderWay parts.now progress.old }
@@ -272,7 +294,7 @@ pub(crate) fn judge(parts: &Parts<'_>, progress: &mut Progress, budget: &mut Bud
     );
     match found {
         Some(checked) => checked,
-        None => judge_bounds(parts, progress, budget),
+        None => judge_elements(parts, progress, budget),
     }
 }
 

@@ -28,6 +28,7 @@ mod calls;
 mod constant;
 mod cycles;
 mod differences;
+mod distincts;
 mod errors;
 mod held;
 mod implied;

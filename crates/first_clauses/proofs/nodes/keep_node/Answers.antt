@@ -1,4 +1,4 @@
-use Rattle.std.proofs.Common.{◌≡◌, ◌∷◌, All, refl}
+use Rattle.std.proofs.Common.{◌≡◌, ◌∷◌, inl, All, sym, refl}
 use Rattle.std.proofs.lemmas.List.Elements.{All-cons, All-tail}
 use Rattle.smt_meaning.specs.declared.values.Sort.TheVariants.{Bool as Truths}
 use Rattle.smt_meaning.specs.declared.terms.Head.TheVariants.{Theory}
@@ -47,6 +47,21 @@ keep_compared-requires c =
     let readable : All (IsReadable s.trees) (c.args.place ∷ is) =
     all_readable s marks c.laws.ensures r.parts r.atoms.size c.args.place (Theory c.args.operator) is r.marked r.node.tree r.node.arguments r.linear in
     (refl, (r.atoms.declared, (r.forms, (r.node, (r.sorts.size, (sorted, (readable, r.begun)))))))
+
+pub is_asserted_distinct-requires-clause-sorted : goal.is_asserted_distinct-requires-clause-sorted
+is_asserted_distinct-requires-clause-sorted c =
+    let s = c.args.stack.now in
+    let r = c.requires in
+    let marks = c.args.marks.now in
+    let marked : All (IsMarked marks) c.args.arguments.now =
+    arguments_marked s marks c.laws.ensures r.parts r.atoms.size c.args.place (Theory c.args.operator) c.args.arguments.now r.marked r.node.tree r.node.arguments in
+    λ k d l. sym (has_sort s marks c.laws.ensures r.parts r.atoms.size c.args.sorts.now r.sorts _ (marked k d l))
+
+pub returns-then-is_asserted_distinct-clause-has : goal.returns-then-is_asserted_distinct-clause-has
+returns-then-is_asserted_distinct-clause-has c = record {
+  of_bools = λ all. absurd (c.are_bools.ensures.no c.if-are_bools.false all);
+  of_others = λ none. inl (c.is_asserted_distinct.ensures.yes c.if-is_asserted_distinct.true);
+}
 
 pub returns-then-are_bools-clause-has : goal.returns-then-are_bools-clause-has
 returns-then-are_bools-clause-has c = record {
