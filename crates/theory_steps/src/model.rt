@@ -52,7 +52,12 @@ fn given_by(
 
 /// Whether a value is past the range.
 fn leaves_range(given: &[Given]) -> bool {
-    given.contains(&Given::PastRange)
+    for one in given {
+        if matches!(one, Given::PastRange) {
+            return true;
+        }
+    }
+    false
 }
 
 /// What the terms are given: Ints that no bound ties differ, unless a value is past the range then. An `Err` is for want of memory.
