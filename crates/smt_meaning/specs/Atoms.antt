@@ -1,5 +1,5 @@
 -- Normal bounds, and the atoms of a stack.
-use Rattle.std.specs.Prelude.{◌≡◌, refl, ℕ, Bool, true, Option, Some, None, List, [], ◌∷◌, ◌++◌, map, flat_map, ℤ, pos, ◌-ℤ◌, neg_ℤ, unsigned_abs, if◌then◌else◌}
+use Rattle.std.specs.Prelude.{◌≡◌, refl, ℕ, Bool, true, false, nat_lt, Option, Some, None, List, [], ◌∷◌, ◌++◌, map, flat_map, ℤ, pos, ◌-ℤ◌, neg_ℤ, unsigned_abs, if◌then◌else◌}
 use Rattle.std.specs.Int.{int_div_euclid, ◌∣◌}
 use Rattle.fraction128.specs.Gcd.{gcd_of}
 use Rattle.smt_meaning.specs.declared.terms.Operator.TheVariants.{Equal, Distinct, Ite, AtMost as IsAtMost, Less, AtLeast, Greater, Divide, Modulo, Absolute, Divisible}
@@ -13,6 +13,7 @@ use Rattle.smt_meaning.specs.declared.clauses.Literal.{Literal}
 use Rattle.smt_meaning.specs.Term.{Tree, Trees, node, none, more}
 use Rattle.smt_meaning.specs.TreeShape.{place_of}
 use Rattle.smt_meaning.specs.Signature.{tree_sort, is_int, is_bool}
+use Rattle.smt_meaning.specs.Kinds.{count_trees}
 use Rattle.smt_meaning.specs.Stack.{Frame, signature_of, assertions_of}
 use Rattle.smt_meaning.specs.Linear.{Form, summand, form_minus, linear_form}
 use Rattle.smt_meaning.specs.Division.{Limit, Row, rows_at, rows_of, combined}
@@ -137,13 +138,25 @@ comparison_atoms ts ds (Theory Absolute) us = division_atoms ts (Theory Absolute
 comparison_atoms ts ds (Theory Divisible) us = division_atoms ts (Theory Divisible) us
 comparison_atoms ts ds h us = []
 
+-- of so many arguments of a `distinct` each two are compared by atoms of the stack; of more no two are
+abbrev pub most_compared : ℕ
+most_compared = 200
+
+abbrev pub is_wide : Head → Trees → Bool
+is_wide (Theory Distinct) us = nat_lt most_compared (count_trees us)
+is_wide h us = false
+
+-- those of them with which a check begins: what a wide `distinct` compares gets atoms where it matters
+abbrev pub early_atoms : List Tree → List Declaration → Head → Trees → List Atom
+early_atoms ts ds h us = if is_wide h us then [] else comparison_atoms ts ds h us
+
 abbrev pub truth_atom : List Tree → List Declaration → Tree → List Atom
 truth_atom ts ds t = if is_bool (tree_sort ds t) then Truth (place_of t ts) ∷ [] else []
 
 abbrev mutual
   -- the atoms of a term's sub-terms
   pub atoms_of : List Tree → List Declaration → Tree → List Atom
-  atoms_of ts ds (node h us) = atoms_of_all ts ds us ++ (truth_atom ts ds (node h us) ++ comparison_atoms ts ds h us)
+  atoms_of ts ds (node h us) = atoms_of_all ts ds us ++ (truth_atom ts ds (node h us) ++ early_atoms ts ds h us)
 
   pub atoms_of_all : List Tree → List Declaration → Trees → List Atom
   atoms_of_all ts ds none = []
