@@ -1,5 +1,5 @@
 -- The table as it is made keeps the rule, and the claims at the start.
-use Rattle.std.proofs.Common.{◌≡◌, ℕ, zero, suc, ◌+◌, ◌<◌, ◌≤◌, List, [], ◌∷◌, ◌++◌, length, map, eqb, sym, refl, ap, ◌∙◌, subst, inl, arith, eq-eqb, ne_eqb, append-nil, add-one, ◌-◌}
+use Rattle.std.proofs.Common.{◌≡◌, ℕ, zero, suc, ◌+◌, ◌<◌, ◌≤◌, List, [], ◌∷◌, ◌++◌, length, map, eqb, sym, refl, ap, ◌∙◌, subst, inl, arith, eq-eqb, ne_eqb, add-one, ◌-◌}
 use Rattle.std.proofs.lemmas.List.{map-append}
 use Rattle.atomic_table.specs.Table.{Me, Splits}
 use Rattle.atomic_table.specs.declared.shared.Seat.{Seat}

@@ -14,7 +14,7 @@ use Rattle.race_cell.specs.declared.answer.Sharing.{Sharing}
 use Rattle.race_cell.specs.declared.answer.Sharing.TheVariants as s
 use Rattle.race_cell.specs.declared.answer.Batch.TheVariants as t
 use Rattle.race_cell.specs.Rules.{Saw, claim, base_in, alone, holding, sees, adds, returns}
-use Rattle.race_cell.specs.Calls.{Extends, Returns, ShareTells, BatchTells, mark_of, mark_in, entries_seen}
+use Rattle.race_cell.specs.Calls.{Extends, Returns, ShareTells, BatchTells, mark_of, entries_seen}
 use Rattle.race_cell.proofs.Lists.{entries_after-share, entries_after-batch, mark_after-batch, mark_after-share, mark_after-since}
 
 module _ {S : Type 0} where

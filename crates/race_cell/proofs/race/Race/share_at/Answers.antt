@@ -3,7 +3,6 @@ use Rattle.atomic_table.specs.Table.{Me}
 use Rattle.race_cell.specs.declared.action.Action.{Action}
 use Rattle.race_cell.specs.declared.view.View.{View}
 use Rattle.race_cell.specs.Actions.{worker_of}
-use Rattle.race_cell.specs.Rules.{claim}
 use Rattle.race_cell.specs.Calls.{Ready}
 use Rattle.race_cell.proofs.Told.{share_told, same_worker}
 use Rattle.race_cell.proofs.race.Race.share_at.Goals as goal
