@@ -1,8 +1,11 @@
 -- The levels of terms stay right as terms and declarations come and go.
-use Rattle.std.proofs.Common.{Result, Ok, Err, ◌≡◌, ◌∙◌, ◌⊎◌, inl, inr, sym, refl, ap, subst, ℕ, zero, suc, ◌+◌, ◌-◌, ◌<◌, ◌≤◌, max, Bool, true, false, if◌then◌else◌, filter, List, [], ◌∷◌, ◌++◌, map, take, length, replicate, All, Contains, arith, slice_index}
+use Rattle.std.proofs.Common.{Result, Ok, Err, ◌≡◌, ◌∙◌, ◌⊎◌, inl, inr, sym, refl, ap, subst, ℕ, zero, suc, ◌+◌, ◌-◌, ◌<◌, ◌≤◌, max, Bool, true, false, if◌then◌else◌, filter, List, [], ◌∷◌, ◌++◌, map, take, length, replicate, All, Contains, Option, Some, None, arith, slice_index}
+use Rattle.std.specs.Prelude.{nat_eq}
+use Rattle.std.proofs.lemmas.Bool.{eq-eqb}
 use Rattle.std.proofs.lemmas.List.{map-append, length-take, get_or_append_left, get_or_push, get_or-take, length_push}
-use Rattle.std.proofs.lemmas.List.Elements.{All-nil, All-cons, All-head, All-tail, All-append, All-weaker, All-contains, Contains-append_cases, Contains-append_left, Contains-append_right}
+use Rattle.std.proofs.lemmas.List.Elements.{All-nil, All-cons, All-head, All-tail, All-append, All-weaker, All-contains, Contains-append_cases, Contains-append_left, Contains-append_right, Contains-push_cases}
 use Rattle.smt_meaning.specs.declared.terms.Head.{Head}
+use Rattle.smt_meaning.specs.declared.terms.Head.TheVariants.{Symbol}
 use Rattle.smt_meaning.specs.Declaration.{Declaration}
 use Rattle.smt_meaning.specs.Term.{Tree, tree_at}
 use Rattle.smt_meaning.specs.Nodes.{pick}
@@ -12,6 +15,7 @@ use Rattle.smt_meaning.specs.Sorts.{Judging}
 use Rattle.smt_meaning.specs.Stack.{up_to, stays}
 use Rattle.smt_meaning.specs.StackCommand.{Change}
 use Rattle.smt_sorts.specs.Names.{Names, all_of_levels, signature, on_newest, on_base, gaining, with_declaration, base_of, based, with_levels, without_levels, cleared, ids_up_to, HasGained, IsLevelOf}
+use Rattle.smt_sorts.specs.Listed.{first_that, has_id}
 use Rattle.term_store.specs.Terms.{Terms, tree_with}
 use Rattle.elaborate.specs.Values.{IsLonger}
 use Rattle.scope_stack.specs.declared.answers.Assertion.{Assertion}
@@ -20,7 +24,7 @@ use Rattle.scope_stack.specs.declared.answers.Carried.TheVariants.{Done, Unsuppo
 use Rattle.scope_stack.specs.declared.answers.StackError.{StackError}
 use Rattle.scope_stack.specs.Inside.{frames_by}
 use Rattle.scope_stack.specs.Judged.{Declares}
-use Rattle.scope_stack.specs.Facts.{HasGivenSymbols, IsLeast, AreLevels, greatest_of, IsTermLevel, HaveLevels}
+use Rattle.scope_stack.specs.Facts.{HasGivenSymbols, IsHeadLevel, IsLeast, AreLevels, greatest_of, IsTermLevel, HaveLevels}
 use Rattle.scope_stack.proofs.SortLemmas.{last_or_before}
 use Rattle.scope_stack.proofs.FrameLemmas.{tree_at-longer, signature-frames, frames-taken}
 use Rattle.scope_stack.proofs.FactLemmas.{AreLater, below_left, below_right, same_before}
@@ -43,6 +47,9 @@ in_either ds es f c = Contains-append_cases (ids ds) (ids es) f (subst (λ xs. C
 
 in_none : {A : Type 0} (f : ℕ) → Contains [] f → A
 in_none f c = absurd (omega (arith, c.1))
+
+only : (f g : ℕ) → Contains (g ∷ []) f → g ≡ f
+only f g c = elim (Contains-push_cases [] g f c) [ inl nothing ↦ in_none f nothing | inr e ↦ e ]
 
 -- ---- fewer levels, and more
 
@@ -384,8 +391,9 @@ module _ (t : Names) (trees : List Tree) (count : ℕ) (ls : List ℕ) (is : Lis
   known_by r i d le =
       All-weaker (Contains (known t (slice_index ls i))) (Contains (known t r)) (λ f c. sub_more (slice_index ls i + 1) (r + 1) t.levels f (omega (arith, le)) c) (symbols (tree_at trees i)) d.declared
 
-  pub level_of : (h : Head) (m : ℕ) → IsLeast (known t) (head_symbols h) m → IsTermLevel t (tree_with trees h is) (greatest_of ls is m)
-  level_of h m top declared =
+  pub level_of : (h : Head) (m : ℕ) → IsHeadLevel t h m → IsTermLevel t (tree_with trees h is) (greatest_of ls is m)
+  level_of h m level declared =
+      let top = level (below_left (Contains (known_at_all t)) (head_symbols h) (symbols_of (pick trees is)) declared) in
       let r = greatest_of ls is m in
       let above = greatest_above ls is m in
       let le : m ≤ r = above.0 in
@@ -404,8 +412,30 @@ module _ (t : Names) (trees : List Tree) (count : ℕ) (ls : List ℕ) (is : Lis
 pub no_symbol : (t : Names) → IsLeast (known t) [] 0
 no_symbol t = record { declared = All-nil (Contains (known t 0)); least = λ k all. omega arith }
 
-pub one_symbol : (t : Names) (f l : ℕ) → IsLevelOf t.levels f l → IsLeast (known t) (f ∷ []) l
+one_symbol : (t : Names) (f l : ℕ) → IsLevelOf t.levels f l → IsLeast (known t) (f ∷ []) l
 one_symbol t f l h = record { declared = All-cons (Contains (known t l)) f [] h.declared (All-nil (Contains (known t l))); least = λ k all. h.least k (All-head (Contains (known t k)) f [] all) }
+
+pub declared_head : (t : Names) (f l : ℕ) → IsLevelOf t.levels f l → IsHeadLevel t (Symbol f) l
+declared_head t f l h declared = one_symbol t f l h
+
+-- a symbol of which no declaration is found isn't declared
+not_at : (f : ℕ) (d : Declaration) (ds : List Declaration) (b : Bool) → nat_eq f d.id ≡ b → (if b then Some d else first_that (has_id f) ds) ≡ None
+    → (first_that (has_id f) ds ≡ None → Contains (ids ds) f → ⊥) → Contains (ids (d ∷ ds)) f → ⊥
+not_at f d ds true e none rest c = cc
+not_at f d ds false e none rest c = elim (Contains-append_cases (d.id ∷ []) (ids ds) f c) [
+  | inl one ↦
+      let same : f ≡ d.id = sym (only f d.id one) in
+      let yes_it_is : true ≡ false = sym (eq-eqb f d.id same) ∙ e in
+      cc
+  | inr later ↦ rest none later
+]
+
+not_declared : (f : ℕ) (ds : List Declaration) → first_that (has_id f) ds ≡ None → Contains (ids ds) f → ⊥
+not_declared f [] none c = absurd (omega (arith, c.1))
+not_declared f (d ∷ ds) none c = not_at f d ds (nat_eq f d.id) refl none (not_declared f ds) c
+
+pub other_head : (t : Names) (f : ℕ) → first_that (has_id f) (signature t) ≡ None → IsHeadLevel t (Symbol f) 0
+other_head t f none declared = absurd (not_declared f (signature t) none (All-head (Contains (known_at_all t)) f [] declared))
 
 -- ---- commands
 

@@ -3,11 +3,12 @@ use Rattle.std.specs.Prelude.{◌≡◌, ℕ, ◌<◌, ◌≤◌, max, Bool, Lis
 use Rattle.smt_meaning.specs.declared.values.Sort.{Sort}
 use Rattle.smt_meaning.specs.declared.values.Sort.TheVariants.{Bool as Truths, Int as Ints}
 use Rattle.smt_meaning.specs.declared.terms.Operator.{Operator}
+use Rattle.smt_meaning.specs.declared.terms.Head.{Head}
 use Rattle.smt_meaning.specs.declared.terms.Operator.TheVariants.{Add, Subtract, Multiply, Ite, Divide, Modulo, Absolute}
 use Rattle.smt_meaning.specs.Declaration.{Declaration}
 use Rattle.smt_meaning.specs.Term.{Tree, tree_at}
 use Rattle.smt_meaning.specs.Signature.{function_with_id, symbol_sort, tree_sort}
-use Rattle.smt_meaning.specs.Clause.{symbols}
+use Rattle.smt_meaning.specs.Clause.{symbols, head_symbols}
 use Rattle.smt_meaning.specs.Follows.{declared_ids}
 use Rattle.smt_meaning.specs.Stack.{Frame, up_to}
 use Rattle.smt_sorts.specs.Names.{Names, signature, ids_up_to}
@@ -68,6 +69,10 @@ pub record AreLevels (frames : List Frame) (trees : List Tree) (count : ℕ) (le
 abbrev pub greatest_of : List ℕ → List ℕ → ℕ → ℕ
 greatest_of levels [] l = l
 greatest_of levels (p ∷ ps) l = greatest_of levels ps (max l (slice_index levels p))
+
+-- the least level with a head's symbol, by a table's names, where it is declared
+abbrev pub IsHeadLevel : Names → Head → ℕ → Type 0
+IsHeadLevel t h l = All (Contains (map (λ (d : Declaration). d.id) (signature t))) (head_symbols h) → IsLeast (λ k. ids_up_to k t.levels) (head_symbols h) l
 
 -- the least level with all symbols of a term, by a table's names, where all are declared
 abbrev pub IsTermLevel : Names → Tree → ℕ → Type 0

@@ -2,9 +2,7 @@
 ghost use Rattle.std.specs.Prelude.{◌≡◌, ◌<◌, ◌≤◌, [], ◌∷◌, ◌++◌, length, take, All, OnOk, OnErr, IfSome, slice_index, slice_index_or};
 ghost use Rattle.smt_meaning.specs.declared.values.Sort.TheVariants.{Bool as Truths};
 ghost use Rattle.smt_meaning.specs.Term.{tree_at};
-ghost use Rattle.scope_stack.specs.Facts.{AreFacts, HaveLevels, IsFact, IsLeast, IsResult, IsTermLevel, greatest_of, made_sort as made_by};
-ghost use Rattle.smt_meaning.specs.Clause.{head_symbols};
-ghost use Rattle.smt_sorts.specs.Names.{ids_up_to};
+ghost use Rattle.scope_stack.specs.Facts.{AreFacts, HaveLevels, IsFact, IsHeadLevel, IsResult, IsTermLevel, greatest_of, made_sort as made_by};
 ghost use Rattle.scope_stack.specs.Pieces.{on_last};
 
 use crate::answers::Assertion;
@@ -98,19 +96,19 @@ fn add_sorts(
     Ok(())
 }
 
-/// The level of a head's symbol, 0 where it has none. There is none where the symbol isn't declared.
-fn head_level(table: &Table, head: Head) -> Option<u16>
+/// The level of a head's symbol, 0 where it has none. Of a symbol that isn't declared it is any.
+fn head_level(table: &Table, head: Head) -> u16
     requires { length table.now.levels ≤ 65536 }
-    ensures { IfSome result (IsLeast (λ k. ids_up_to k table.now.levels) (head_symbols head)) }
+    ensures { IsHeadLevel table.now head result }
 {
     match head {
         Head::Symbol(symbol) => match table.level_with_id(symbol) {
-            Some(level) => Some(level as u16),
-            None => None,
+            Some(level) => level as u16,
+            None => 0,
         },
-        Head::Theory(_) => Some(0),
-        Head::Numeral(_) => Some(0),
-        Head::Place(_) => Some(0),
+        Head::Theory(_) => 0,
+        Head::Numeral(_) => 0,
+        Head::Place(_) => 0,
     }
 }
 
@@ -128,18 +126,16 @@ fn greatest(levels: &[u16], places: &[TermId], level: u16) -> u16
     most
 }
 
-/// The level of the term at a place, where those of the terms before it are known. There is none where its symbol isn't declared.
-fn level_at(table: &Table, terms: &TermStore, levels: &[u16], id: TermId) -> Option<u16>
+/// The level of the term at a place, where those of the terms before it are known.
+fn level_at(table: &Table, terms: &TermStore, levels: &[u16], id: TermId) -> u16
     requires within { id < length terms.now.trees }
     requires few { length table.now.levels ≤ 65536 }
     requires levels { HaveLevels table.now terms.now.trees id levels.now }
-    ensures { IfSome result (IsTermLevel table.now (tree_at terms.now.trees id)) }
+    ensures { IsTermLevel table.now (tree_at terms.now.trees id) result }
 {
     let node = terms.node(id);
-    let Some(level) = head_level(table, node.head) else {
-        return None;
-    };
-    Some(greatest(levels, node.arguments, level))
+    let level = head_level(table, node.head);
+    greatest(levels, node.arguments, level)
 }
 
 /// Adds the levels of the terms from a place on. An `Err`, for want of memory, may leave some.
@@ -156,10 +152,7 @@ fn add_levels(
     ensures kept { take from levels.new.items ≡ levels.old.items }
 {
     for id in from..terms.len() {
-        // As for the sorts, there is always a level.
-        let Some(level) = level_at(table, terms, levels, id) else {
-            return Err(AllocError);
-        };
+        let level = level_at(table, terms, levels, id);
         levels.push(level)?;
     }
     Ok(())

@@ -10,8 +10,8 @@ loop-id-preserved c =
     let size : length c.loop-id.levels.items ≡ c.loop-id.id = levels.size in
     let since : c.args.from ≤ c.loop-id.id = c.loop-id.invariant.2 in
     rw c.in_ok-push.ensures.items (
-      levels_more c.args.table.now c.args.terms.now.trees c.loop-id.id c.loop-id.levels.items c.in-Some.level levels c.in-Some.ensures,
-      take-append-le c.args.from c.loop-id.levels.items (c.in-Some.level ∷ []) (omega (arith, size, since)) ∙ c.loop-id.invariant.1,
+      levels_more c.args.table.now c.args.terms.now.trees c.loop-id.id c.loop-id.levels.items c.level_at-level.result levels c.level_at-level.ensures,
+      take-append-le c.args.from c.loop-id.levels.items (c.level_at-level.result ∷ []) (omega (arith, size, since)) ∙ c.loop-id.invariant.1,
       omega (arith, since),
     )
 

@@ -8,5 +8,5 @@ pub returns : goal.returns
 returns c =
     let is = c.node-node.result.arguments.now in
     rw c.greatest.ensures
-    (subst (λ (u : Tree). IsTermLevel c.args.table.now u (greatest_of c.args.levels.now is c.in-Some.level)) (sym c.node-node.ensures.tree)
-    (level_of c.args.table.now c.args.terms.now.trees c.args.id c.args.levels.now is c.requires.levels c.node-node.ensures.earlier c.node-node.result.head c.in-Some.level c.in-Some.ensures))
+    (subst (λ (u : Tree). IsTermLevel c.args.table.now u (greatest_of c.args.levels.now is c.head_level-level.result)) (sym c.node-node.ensures.tree)
+    (level_of c.args.table.now c.args.terms.now.trees c.args.id c.args.levels.now is c.requires.levels c.node-node.ensures.earlier c.node-node.result.head c.head_level-level.result c.head_level-level.ensures))
