@@ -5,7 +5,7 @@ use Rattle.literals.specs.Signed.{Signed, literal_true}
 use Rattle.smt_meaning.specs.declared.values.Table.{Table}
 use Rattle.smt_meaning.specs.Interpretation.{AreTablesFor, meaning}
 use Rattle.smt_meaning.specs.Stack.{signature_of}
-use Rattle.search_port.specs.State.{Reading, TheoryState, IsGrown, truth, AllFalseIn, IsPressing, IsMadeTrue}
+use Rattle.search_port.specs.State.{Reading, TheoryState, IsGrown, ComparesInts, atom_at, truth, AllFalseIn, IsPressing, IsMadeTrue}
 use Rattle.search_port.specs.Valid.{IsTheoryClause}
 use Rattle.search_port.specs.Spending.{Spending}
 use Rattle.search_port.specs.declared.budget.Lemma.{Lemma}
@@ -24,10 +24,10 @@ use Rattle.search_port.specs.declared.theory.Checked.TheVariants.{Fine, Conflict
 
 -- ---- units
 
--- a unit that a theory may spend: an atom that is newly numbered, or a pivot
+-- a unit that a theory may spend: an atom that is newly numbered, of equalities one of Ints alone, or a pivot
 abbrev pub IsTheoryUnit : Reading → Reading → Spent → Type 0
 IsTheoryUnit old new (Learnt c) = ⊥
-IsTheoryUnit old new (Numbered n) = (length old.table ≤ n) × (n < length new.table)
+IsTheoryUnit old new (Numbered n) = (length old.table ≤ n) × (n < length new.table) × ComparesInts new.trees new.frames (atom_at new.table n)
 IsTheoryUnit old new (Pivot l) = Unit {0}
 
 abbrev pub IsNoPivot : Spent → Type 0

@@ -3,10 +3,12 @@ use Rattle.std.specs.Prelude.{◌≡◌, ℕ, ◌++◌, Bool, true, List, [], ma
 use Rattle.literals.specs.Signed.{Signed, opposite}
 use Rattle.fraction128.specs.declared.Summand.{Summand}
 use Rattle.smt_meaning.specs.declared.clauses.Atom.{Atom}
-use Rattle.smt_meaning.specs.declared.clauses.Atom.TheVariants.{Truth}
+use Rattle.smt_meaning.specs.declared.clauses.Atom.TheVariants.{Truth, Same, AtMost}
 use Rattle.smt_meaning.specs.declared.clauses.Literal.{Literal}
-use Rattle.smt_meaning.specs.Term.{Tree, Interpretation}
-use Rattle.smt_meaning.specs.Stack.{Frame}
+use Rattle.smt_meaning.specs.declared.values.Sort.TheVariants.{Int as Ints}
+use Rattle.smt_meaning.specs.Term.{Tree, Interpretation, tree_at}
+use Rattle.smt_meaning.specs.Signature.{tree_sort}
+use Rattle.smt_meaning.specs.Stack.{Frame, signature_of}
 use Rattle.smt_meaning.specs.Clause.{atom_true}
 
 -- by what a numbered literal is read: the list of trees, the levels of the stack, and the atom of each number
@@ -49,6 +51,16 @@ truths_reading trees frames places = record { trees = trees; frames = frames; ta
 -- the atom is the truth of a term
 abbrev pub IsTruth : Atom → Type 0
 IsTruth a = (i : ℕ) × (a ≡ Truth i)
+
+-- the term at this place is an Int
+abbrev pub IsInt : List Tree → List Frame → ℕ → Type 0
+IsInt ts frames i = tree_sort (signature_of frames) (tree_at ts i) ≡ Some Ints
+
+-- if the atom is an equality, both its sides are Ints
+abbrev pub ComparesInts : List Tree → List Frame → Atom → Type 0
+ComparesInts ts frames (Truth i) = Unit {0}
+ComparesInts ts frames (Same i j) = IsInt ts frames i × IsInt ts frames j
+ComparesInts ts frames (AtMost sum k) = Unit {0}
 
 -- the truth of each number's atom under an interpretation
 abbrev pub truth : Reading → Interpretation → ℕ → Bool

@@ -5,9 +5,9 @@
 //! under every interpretation, at the least level of their symbols; a model makes each asserted
 //! literal true; what is taken back.
 //!
-//! The units that a call of a theory spends are each atom newly numbered, once and in order, and,
-//! where lines are kept, pivots by Bland's rule in rows over numbered atoms. `Bare` is the theory
-//! of truths alone, over whoever knows about terms.
+//! The units that a call of a theory spends are each atom newly numbered, once and in order, an
+//! equality only if both its sides are Ints, and, where lines are kept, pivots by Bland's rule in
+//! rows over numbered atoms. `Bare` is the theory of truths alone, over whoever knows about terms.
 //!
 //! `Named`: the atom of each number, written out, and the number of each atom that has one.
 //!
