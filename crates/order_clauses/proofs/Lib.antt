@@ -14,3 +14,4 @@ pub mod DivisionRows
 pub mod DivisionCauses
 pub mod DivisionSoundness
 pub mod DivisionDeciding
+pub mod Counting

@@ -9,3 +9,4 @@ pub mod Links
 pub mod Axioms
 pub mod Gathered
 pub mod Reached
+pub mod Counted

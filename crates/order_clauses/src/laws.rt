@@ -1,5 +1,6 @@
 //! What holds of the clauses, as contracts of functions that do nothing.
 ghost use Rattle.order_clauses.specs.Needed.{PartAtomsAreOfStack};
+ghost use Rattle.order_clauses.specs.Counted.{PairsAreCounted};
 ghost use Rattle.order_clauses.specs.Decided.{NumbersAreFound, OrderPartIsDecided, EqualityPartIsDecided, ChoicePartIsDecided, DivisionPartIsDecided};
 
 use bound_clauses::{equality_is_decided, order_is_decided, orders_are_comparisons};
@@ -46,3 +47,8 @@ pub fn division_part_is_decided()
 {
     division_rows_force();
 }
+
+/// A `distinct` of so many terms compares as many pairs as are counted for it, and of no part more are counted than of its operator and so many arguments.
+pub fn pairs_are_counted()
+    ensures { PairsAreCounted }
+{}

@@ -4,7 +4,9 @@
 //!
 //! `put_part`: exactly the clauses of comparisons, equalities, `distinct`, choices and divisions over
 //! the numbers of a table, true under every interpretation. A log that makes them true, with bounds
-//! that fit the values, gives the operator's value.
+//! that fit the values, gives the operator's value. A step is counted for each pair that a
+//! `distinct` among them compares: never more than a `distinct` of so many terms compares, and where
+//! the clauses come exactly those that they are over.
 //!
 //! The clauses between the bounds of a table that are on one sum or on its negation: each implies
 //! the next, in the order of their thresholds.
@@ -31,6 +33,6 @@ pub use bound_axioms_laws::axioms_reach_all;
 pub use error::PartError;
 pub use laws::{
     choice_part_is_decided, division_part_is_decided, equality_part_is_decided, numbers_are_found,
-    order_part_is_decided, part_atoms_are_of_stack,
+    order_part_is_decided, pairs_are_counted, part_atoms_are_of_stack,
 };
 pub use parts::{Space, put_part};

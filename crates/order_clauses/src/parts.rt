@@ -1,5 +1,5 @@
 //! The clauses of parts.
-ghost use Rattle.std.specs.Prelude.{◌≡◌, ◌<◌, [], ◌∷◌, ◌++◌, List, length, true, flat_map, All, Contains, OnOk, IfErr};
+ghost use Rattle.std.specs.Prelude.{◌≡◌, ◌+◌, ◌<◌, ◌≤◌, [], ◌∷◌, ◌++◌, List, length, true, flat_map, All, Contains, OnOk, IfErr};
 ghost use Rattle.smt_meaning.specs.declared.terms.Head.TheVariants.{Theory};
 ghost use Rattle.smt_meaning.specs.Declaration.{Declaration};
 ghost use Rattle.smt_meaning.specs.Term.{Tree, node, tree_at};
@@ -9,6 +9,7 @@ ghost use Rattle.bound_clauses.specs.Orders.{order_atoms};
 ghost use Rattle.bound_clauses.specs.Laws.{IsReadable};
 ghost use Rattle.order_clauses.specs.Pairs.{pair, pairs_of, orders_of_pair};
 ghost use Rattle.order_clauses.specs.Clauses.{order_part, equality_part, choice_part, equality_clauses_of, choice_clauses_of, part_clauses_of};
+ghost use Rattle.order_clauses.specs.Counted.{distinct_pairs, pairs_of_part};
 ghost use Rattle.order_clauses.specs.Needed.{orders_tied, orders_of_equality, orders_of_choice, atoms_of_order, atoms_of_equality, atoms_of_choice, equality_atoms_of, choice_atoms_of, atoms_of_part};
 ghost use Rattle.order_clauses.specs.Sound.{HasSort, AreSound};
 ghost use Rattle.order_clauses.specs.Errors.{IsCause, IsPartCause};
@@ -37,6 +38,8 @@ use smt_laws::{
 };
 use smt_meaning::{Operator, Sort, Summand, TermId};
 use std::alloc::Global;
+use std::sync::ledger::Ledger;
+use term_store::Steps;
 
 /// Lists that are used again for each part.
 #[derive(Drop)]
@@ -99,7 +102,7 @@ fn put_order_part(
 }
 
 /// Adds the clauses of `=` or `distinct` of terms that are no Bools.
-fn put_equality_part(
+fn put_equality_part<L: Ledger>(
     clauses: &mut Clauses,
     space: &mut Space,
     forms: &mut LinearForms,
@@ -108,6 +111,7 @@ fn put_equality_part(
     place: TermId,
     operator: Operator,
     arguments: &[TermId],
+    steps: &mut Steps<L>,
 ) -> Result<(), PartError>
     ghost trees: { List Tree }
     requires forms { AreForms trees forms.old }
@@ -116,12 +120,15 @@ fn put_equality_part(
     ensures has { OnOk result (All (Contains atoms.now.atoms) (atoms_of_equality trees are_ints operator place arguments.now)) }
     ensures cause { IfErr result (λ e. IsCause trees atoms.now.atoms (flat_map (orders_tied are_ints) (pairs_of operator arguments.now)) (atoms_of_equality trees are_ints operator place arguments.now) e) }
     ensures same { forms.new ≡ forms.old }
+    ensures rise { steps.old ≤ steps.new }
+    ensures few { steps.new ≤ steps.old + distinct_pairs operator (length arguments.now) }
+    ensures counted { OnOk result (steps.new ≡ steps.old + distinct_pairs operator (length arguments.now)) }
 {
     atoms.are_few();
     let number = find_truth(atoms, place)?;
     space.pairs.clear();
     space.numbers.clear();
-    add_pairs(&mut space.pairs, operator, arguments)?;
+    add_pairs(&mut space.pairs, operator, arguments, steps)?;
     put_ties(
         clauses,
         forms,
@@ -172,7 +179,7 @@ fn put_choice_part(
 }
 
 /// Adds the clauses of `=` or `distinct`, unless it is of Bools, or of two terms of a declared sort.
-fn put_equality_of(
+fn put_equality_of<L: Ledger>(
     clauses: &mut Clauses,
     space: &mut Space,
     forms: &mut LinearForms,
@@ -181,6 +188,7 @@ fn put_equality_of(
     place: TermId,
     operator: Operator,
     arguments: &[TermId],
+    steps: &mut Steps<L>,
 ) -> Result<(), PartError>
     ghost trees: { List Tree }
     requires forms { AreForms trees forms.old }
@@ -190,17 +198,20 @@ fn put_equality_of(
     ensures has { OnOk result (All (Contains atoms.now.atoms) (equality_atoms_of sorts.now trees operator place arguments.now)) }
     ensures cause { IfErr result (λ e. IsCause trees atoms.now.atoms (orders_of_equality sorts.now operator arguments.now) (equality_atoms_of sorts.now trees operator place arguments.now) e) }
     ensures same { forms.new ≡ forms.old }
+    ensures rise { steps.old ≤ steps.new }
+    ensures few { steps.new ≤ steps.old + distinct_pairs operator (length arguments.now) }
+    ensures counted { OnOk result (steps.new ≡ steps.old + pairs_of_part sorts.now operator arguments.now) }
 {
     match arguments {
         [] => Ok(()),
         [first, ..] => match sorts[*first as usize] {
             Sort::Bool => Ok(()),
             Sort::Int => put_equality_part(
-                clauses, space, forms, atoms, true, place, operator, arguments,
+                clauses, space, forms, atoms, true, place, operator, arguments, steps,
             ),
             Sort::Free(_) if arguments.len() == 2 => Ok(()),
             Sort::Free(_) => put_equality_part(
-                clauses, space, forms, atoms, false, place, operator, arguments,
+                clauses, space, forms, atoms, false, place, operator, arguments, steps,
             ),
         },
     }
@@ -238,7 +249,7 @@ fn put_choice_of(
 }
 
 /// Adds the clauses of a part.
-fn put(
+fn put<L: Ledger>(
     clauses: &mut Clauses,
     space: &mut Space,
     forms: &mut LinearForms,
@@ -247,6 +258,7 @@ fn put(
     place: TermId,
     operator: Operator,
     arguments: &[TermId],
+    steps: &mut Steps<L>,
 ) -> Result<(), PartError>
     ghost trees: { List Tree }
     requires forms { AreForms trees forms.old }
@@ -257,13 +269,16 @@ fn put(
     ensures has { OnOk result (All (Contains atoms.now.atoms) (atoms_of_part sorts.now trees operator place arguments.now)) }
     ensures cause { IfErr result (λ e. IsPartCause sorts.now trees atoms.now.atoms operator place arguments.now e) }
     ensures same { forms.new ≡ forms.old }
+    ensures rise { steps.old ≤ steps.new }
+    ensures few { steps.new ≤ steps.old + distinct_pairs operator (length arguments.now) }
+    ensures counted { OnOk result (steps.new ≡ steps.old + pairs_of_part sorts.now operator arguments.now) }
 {
     match operator {
         Operator::AtMost | Operator::Less | Operator::AtLeast | Operator::Greater => {
             put_order_part(clauses, space, forms, atoms, place, operator, arguments)
         }
         Operator::Equal | Operator::Distinct => put_equality_of(
-            clauses, space, forms, atoms, sorts, place, operator, arguments,
+            clauses, space, forms, atoms, sorts, place, operator, arguments, steps,
         ),
         Operator::Ite => put_choice_of(clauses, space, forms, atoms, sorts, place, arguments),
         Operator::Divide | Operator::Modulo | Operator::Absolute | Operator::Divisible => {
@@ -286,8 +301,8 @@ fn put(
 /// `distinct` of Ints, and of more than two terms of a declared sort, of `ite` of Ints, and of `div`, `mod`, `abs` and divisibility; of other terms none. They
 /// are over the table's numbers. The forms of the terms are known, and so are their sorts, by place. `Missing` says that an atom that the clauses are over has
 /// no number, `Term` and `Pair` that folding a bound of the part, or its divisor, leaves the range, and `Memory` that memory is wanting. An `Err` says nothing
-/// of the clauses.
-pub fn put_part(
+/// of the clauses. A step is a pair that a `distinct` compares.
+pub fn put_part<L: Ledger>(
     clauses: &mut Clauses,
     space: &mut Space,
     forms: &mut LinearForms,
@@ -296,6 +311,7 @@ pub fn put_part(
     place: TermId,
     operator: Operator,
     arguments: &[TermId],
+    steps: &mut Steps<L>,
 ) -> Result<(), PartError>
     ghost trees: { List Tree }
     requires forms { AreForms trees forms.old }
@@ -310,6 +326,9 @@ pub fn put_part(
         → OnOk result (AreSound ds trees atoms.now.atoms (part_clauses_of sorts.now trees atoms.now.atoms operator place arguments.now)) }
     ensures cause { IfErr result (λ e. IsPartCause sorts.now trees atoms.now.atoms operator place arguments.now e) }
     ensures same { forms.new ≡ forms.old }
+    ensures rise { steps.old ≤ steps.new }
+    ensures few { steps.new ≤ steps.old + distinct_pairs operator (length arguments.now) }
+    ensures counted { OnOk result (steps.new ≡ steps.old + pairs_of_part sorts.now operator arguments.now) }
 {
     value_has_its_sort();
     constant_is_over();
@@ -329,6 +348,6 @@ pub fn put_part(
     limits_have_values();
     divisions_stand_by_places();
     put(
-        clauses, space, forms, atoms, sorts, place, operator, arguments,
+        clauses, space, forms, atoms, sorts, place, operator, arguments, steps,
     )
 }

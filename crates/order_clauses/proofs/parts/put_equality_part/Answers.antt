@@ -22,10 +22,10 @@ returns-in_err-number-clause-cause g c =
 pub put_ties-requires : goal.put_ties-requires
 put_ties-requires g c =
     let listed : c.deref.result.now ≡ pairs_of c.args.operator c.args.arguments.now = search rules in (
-      c.requires.0,
+      c.requires.1.0,
       (
         All-same (λ (q : Pair). (q.left < length g.trees) × (q.right < length g.trees)) c.deref.result.now (pairs_of c.args.operator c.args.arguments.now) listed
-            (pairs_both (λ i. i < length g.trees) c.args.operator c.args.arguments.now c.requires.1),
+            (pairs_both (λ i. i < length g.trees) c.args.operator c.args.arguments.now c.requires.1.1),
         c.clear-2.ensures.items,
       ),
     )

@@ -31,4 +31,4 @@ returns-clause-sound g c = λ ds sorted readable.
     } in
     IfOk-weaker c.put.result (λ _. All (Contains table) (atoms_of_part c.args.sorts.now g.trees c.args.operator c.args.place c.args.arguments.now))
     (λ _. AreSound ds g.trees table (part_clauses_of c.args.sorts.now g.trees table c.args.operator c.args.place c.args.arguments.now))
-    (λ _ has. part_sound laws ds g.trees table c.args.sorts.now c.args.operator c.args.place c.args.arguments.now c.requires.1.0 sorted readable has) c.put.ensures.has
+    (λ _ has. part_sound laws ds g.trees table c.args.sorts.now c.args.operator c.args.place c.args.arguments.now c.requires.1.1.0 sorted readable has) c.put.ensures.has
