@@ -1,22 +1,27 @@
 -- A definition whose terms are taken as they stand.
-use Rattle.std.proofs.Common.{◌≡◌, ℕ, zero, suc, ◌+◌, ◌<◌, ◌≤◌, List, [], ◌∷◌, ◌++◌, length, map, ap, sym, subst, ◌∙◌, arith, append_assoc, append-nil, Bool, true, false, ◌&&◌, ◌||◌, not, Option, Some, None, nat_eq}
+use Rattle.std.proofs.Common.{refl, All, ◌≡◌, ℕ, zero, suc, ◌+◌, ◌<◌, ◌≤◌, List, [], ◌∷◌, ◌++◌, length, map, ap, sym, subst, ◌∙◌, arith, append_assoc, append-nil, Bool, true, false, ◌&&◌, ◌||◌, not, Option, Some, None, nat_eq}
 use Rattle.std.specs.Prelude.{if◌then◌else◌, bytes_eq, Ok}
-use Rattle.std.proofs.lemmas.List.{length-append}
+use Rattle.std.proofs.lemmas.List.{get_or_append_left}
 use Rattle.std.proofs.lemmas.Bool.{and_parts}
+use Rattle.smt_meaning.specs.declared.nodes.Node.{Node}
+use Rattle.smt_meaning.specs.declared.terms.Head.{Head}
 use Rattle.smt_meaning.specs.declared.terms.Head.TheVariants.{Place}
 use Rattle.smt_meaning.specs.Declaration.{Declaration, Body}
+use Rattle.smt_meaning.specs.Nodes.{pick, AreNodes, trees_of as trees_of_nodes}
 use Rattle.smt_meaning.specs.Signature.{find_function}
 use Rattle.smt_meaning.specs.Sorts.{Scope, Rules, done, with_all, trees_of, all_are_linear, judge_symbol}
 use Rattle.smt_meaning.specs.Term.{Tree, Trees, node, none, tree_at}
 use Rattle.smt_meaning.specs.TreeShape.{argument, put, is_constant, is_linear}
-use Rattle.term_store.specs.Terms.{Terms}
+use Rattle.term_store.specs.Terms.{Terms, tree_with, AreDifferent}
+use Rattle.term_store.proofs.NodeLemmas.{pick-agree}
 use Rattle.smt_sorts.specs.declared.workshop.Kept.{Kept}
+use Rattle.smt_sorts.specs.declared.workshop.Workshop.{Workshop}
 use Rattle.smt_sorts.specs.Workshop.{places_from, AreOwn, IsWorkshop, IsWorkshopOf, IsOfAny}
 use Rattle.elaborate.specs.declared.own.Apart.{Apart}
 use Rattle.elaborate.specs.declared.value.Value.{Value}
 use Rattle.elaborate.specs.Values.{typed, IsLonger, HasGrown, Comes}
-use Rattle.elaborate.specs.Own.{IsTaken, IsApart, are_own, IsFit, CanTake, IsDeclared}
-use Rattle.elaborate.proofs.Again.{same_at}
+use Rattle.elaborate.specs.Own.{AreAlike, IsTaken, IsApart, are_own, IsFit, CanTake, IsDeclared}
+use Rattle.elaborate.proofs.Again.{same_at, joins_again}
 use Rattle.elaborate.proofs.Copies.{length-places, place_at}
 use Rattle.elaborate.proofs.Puts.{defined_is, done_here}
 
@@ -40,31 +45,51 @@ declared_is n (x ∷ ds) d e k h i = go (bytes_eq n x.name && not x.is_sort) e (
 
 -- ---- arguments that are the parameters
 
-own_arguments : (vs : List Value) (k n j : ℕ) → are_own k vs ≡ true → k + length vs ≤ n → j < length vs → argument (trees_of (map (typed (places_from 0 n)) vs)) j ≡ node (Place (k + j)) none
-own_arguments [] k n j e h i = absurd (omega arith)
-own_arguments (v ∷ vs) k n zero e h i =
+own_arguments : (vs : List Value) (k n j : ℕ) (ts : List Tree) → IsLonger (places_from 0 n) ts → are_own k vs ≡ true → k + length vs ≤ n → j < length vs → argument (trees_of (map (typed ts) vs)) j ≡ node (Place (k + j)) none
+own_arguments [] k n j ts l e h i = absurd (omega arith)
+own_arguments (v ∷ vs) k n zero ts l e h i =
     let parts = and_parts (nat_eq v.id k) (are_own (k + 1) vs) e in
     let test : nat_eq v.id k ≡ true = parts.0 in
     let id : v.id ≡ k = grind arith in
     let same : 0 + k ≡ k + 0 = omega arith in
-    ap (tree_at (places_from 0 n)) id ∙ place_at 0 n k _ (omega arith) ∙ ap (λ i'. node (Place i') none) same
-own_arguments (v ∷ vs) k n (suc j) e h i =
+    ap (tree_at ts) id
+    ∙ ap (λ us. tree_at us k) l.1
+    ∙ get_or_append_left (places_from 0 n) l.0 _ k (omega (arith, length-places 0 n))
+    ∙ place_at 0 n k _ (omega arith)
+    ∙ ap (λ i'. node (Place i') none) same
+own_arguments (v ∷ vs) k n (suc j) ts l e h i =
     let parts = and_parts (nat_eq v.id k) (are_own (k + 1) vs) e in
     let same : k + 1 + j ≡ k + suc j = omega arith in
-    own_arguments vs (k + 1) n j parts.1 (omega arith) (omega arith) ∙ ap (λ i'. node (Place i') none) same
+    own_arguments vs (k + 1) n j ts l parts.1 (omega arith) (omega arith) ∙ ap (λ i'. node (Place i') none) same
 
-pub arguments_own : (vs : List Value) (n : ℕ) (ts : List Tree) → ts ≡ places_from 0 n → are_own 0 vs ≡ true → length vs ≡ n → AreOwn n (trees_of (map (typed ts) vs))
+pub arguments_own : (vs : List Value) (n : ℕ) (ts : List Tree) → IsLonger (places_from 0 n) ts → are_own 0 vs ≡ true → length vs ≡ n → AreOwn n (trees_of (map (typed ts) vs))
 arguments_own vs n ts e o l k h =
-    ap (λ us. argument (trees_of (map (typed us) vs)) k) e
-    ∙ own_arguments vs 0 n k o (omega (arith, l)) (omega (arith, l))
+    own_arguments vs 0 n k ts e o (omega (arith, l)) (omega (arith, l))
     ∙ (let same : 0 + k ≡ k = omega arith in ap (λ i. node (Place i) none) same)
 
-nothing_more : (n : ℕ) (ts : List Tree) → IsLonger (places_from 0 n) ts → length ts ≡ n → ts ≡ places_from 0 n
-nothing_more n ts l e = go l.0 l.1
+-- ---- lists that are alike
+
+pub alike_node : (k : ℕ) (ts us : List Tree) (h j : Head) (is js : List ℕ) → h ≡ j → is ≡ js → tree_at ts k ≡ tree_with ts h is → tree_at us k ≡ tree_with us j js → All (λ i. i < k) is → AreAlike k ts us → tree_at ts k ≡ tree_at us k
+alike_node k ts us h j is js e f first second below alike =
+    first
+    ∙ ap (node h) (pick-agree us ts is k alike below)
+    ∙ ap (λ g. node g (pick us is)) e
+    ∙ ap (λ ns. node j (pick us ns)) f
+    ∙ sym second
+
+pub alike_next : (k : ℕ) (ts us : List Tree) → AreAlike k ts us → tree_at ts k ≡ tree_at us k → AreAlike (suc k) ts us
+alike_next k ts us h e i l = go (nat_eq i k) refl
   where
-    go : (more' : List Tree) → ts ≡ places_from 0 n ++ more' → ts ≡ places_from 0 n
-    go [] f = f ∙ append-nil (places_from 0 n)
-    go (t ∷ us) f = absurd (omega (arith, e, ap length f, length-append (places_from 0 n) (t ∷ us), length-places 0 n))
+    go : (b : Bool) → nat_eq i k ≡ b → tree_at ts i ≡ tree_at us i
+    go true f = let same : i ≡ k = grind arith in subst (λ j. tree_at ts j ≡ tree_at us j) (sym same) e
+    go false f = h i (let other : (i ≡ k → ⊥) = grind arith in omega (arith, other, l))
+
+pub alike_begins : (ts us : List Tree) → length ts ≤ length us → AreAlike (length ts) ts us → IsLonger ts us
+alike_begins [] us l h = (us, refl)
+alike_begins (t ∷ ts) [] l h = absurd (omega arith)
+alike_begins (t ∷ ts) (u ∷ us) l h =
+    let rest : IsLonger ts us = alike_begins ts us (omega arith) (λ i k. h (suc i) (omega arith)) in
+    (rest.0, ap (λ v. v ∷ us) (sym (h 0 (omega arith))) ∙ ap (λ vs. t ∷ vs) rest.1)
 
 -- ---- the definition
 
@@ -94,26 +119,25 @@ shop_is ds r d vs s a k b h dec can e body =
     let fit : IsFit k d vs s a.parameters = fit_is r d vs s a k can e in
     subst (λ (o : Option Body). IsWorkshopOf o k.workshop) body (dec k (subst (IsOfAny ds) e h.kept) (sym fit.id))
 
-pub taken_comes : (ds : List Declaration) (r : Rules) (d : Declaration) (vs : List Value) (s : Terms) (a : Apart) (k : Kept) (b : Body) (c : Scope) (v : Value) → IsApart ds s.trees a → IsDeclared ds d → CanTake r d vs s a → a.kept ≡ Some k → d.body ≡ Some b
+joined_terms : (b : Body) (w : Workshop) (ns : List Node) (first : List Tree) → IsWorkshop b w → IsLonger first w.store.trees → w.terms ≡ trees_of_nodes ns → AreNodes ns → AreDifferent w.store.trees → with_all first b.terms ≡ b.terms
+joined_terms b w ns first shop l e nodes different =
+    joins_again ns b.terms first l.0 (sym shop.terms ∙ e) (sym shop.store ∙ l.1) nodes (subst AreDifferent shop.store different)
+
+pub taken_comes : (ds : List Declaration) (r : Rules) (d : Declaration) (vs : List Value) (s : Terms) (a : Apart) (k : Kept) (b : Body) (c : Scope) (v : Value) (ns : List Node) → IsApart ds s.trees a → IsDeclared ds d → CanTake r d vs s a → a.kept ≡ Some k → d.body ≡ Some b
     → c.trees ≡ s.trees → v.id < length b.terms → tree_at b.terms v.id ≡ b.term → v.sort ≡ d.rank.result → v.constant ≡ k.workshop.constant → v.linear ≡ k.workshop.linear
-    → Comes (judge_symbol r d (trees_of (map (typed s.trees) vs))) c k.workshop.store.trees (Ok v)
-taken_comes ds r d vs s a k b c v h dec can e body trees within term sort constant linear =
+    → k.workshop.terms ≡ trees_of_nodes ns → AreNodes ns → AreDifferent k.workshop.store.trees → Comes (judge_symbol r d (trees_of (map (typed s.trees) vs))) c k.workshop.store.trees (Ok v)
+taken_comes ds r d vs s a k b c v ns h dec can e body trees within term sort constant linear terms nodes different =
     let fit : IsFit k d vs s a.parameters = fit_is r d vs s a k can e in
     let shop : IsWorkshop b k.workshop = shop_is ds r d vs s a k b h dec can e body in
-    let first : s.trees ≡ places_from 0 a.parameters = nothing_more a.parameters s.trees h.all.first fit.stored in
-    let same : places_from 0 k.workshop.parameters ≡ c.trees = ap (places_from 0) fit.parameters ∙ sym first ∙ sym trees in
-    let own : AreOwn k.workshop.parameters (trees_of (map (typed s.trees) vs)) = subst (λ n. AreOwn n (trees_of (map (typed s.trees) vs))) (sym fit.parameters) (arguments_own vs a.parameters s.trees first fit.own fit.given) in
-    own_symbol r d b (trees_of (map (typed s.trees) vs)) c k.workshop.store.trees v body can.unclosed (shop.own (trees_of (map (typed s.trees) vs)) own) (subst (λ us. with_all us b.terms ≡ b.terms) same shop.again) shop.store within term sort
+    let own : AreOwn k.workshop.parameters (trees_of (map (typed s.trees) vs)) = subst (λ n. AreOwn n (trees_of (map (typed s.trees) vs))) (sym fit.parameters) (arguments_own vs a.parameters s.trees h.all.first fit.own fit.given) in
+    let again : with_all s.trees b.terms ≡ b.terms = joined_terms b k.workshop ns s.trees shop fit.stored terms nodes different in
+    own_symbol r d b (trees_of (map (typed s.trees) vs)) c k.workshop.store.trees v body can.unclosed (shop.own (trees_of (map (typed s.trees) vs)) own) (subst (λ us. with_all us b.terms ≡ b.terms) (sym trees) again) shop.store within term sort
     (constant ∙ shop.constant) (linear ∙ shop.linear)
 
-pub taken_grown : (ds : List Declaration) (r : Rules) (d : Declaration) (vs : List Value) (s : Terms) (a : Apart) (k : Kept) (b : Body) → IsApart ds s.trees a → IsDeclared ds d → CanTake r d vs s a → a.kept ≡ Some k → d.body ≡ Some b → HasGrown s k.workshop.store
-taken_grown ds r d vs s a k b h dec can e body =
+pub taken_grown : (r : Rules) (d : Declaration) (vs : List Value) (s : Terms) (a : Apart) (k : Kept) → CanTake r d vs s a → a.kept ≡ Some k → HasGrown s k.workshop.store
+taken_grown r d vs s a k can e =
     let fit : IsFit k d vs s a.parameters = fit_is r d vs s a k can e in
-    let shop : IsWorkshop b k.workshop = shop_is ds r d vs s a k b h dec can e body in
-    let first : s.trees ≡ places_from 0 a.parameters = nothing_more a.parameters s.trees h.all.first fit.stored in (
-      (shop.rest, shop.store ∙ shop.first ∙ ap (λ us. us ++ shop.rest) (ap (places_from 0) fit.parameters ∙ sym first)),
-      fit.limit,
-    )
+    (fit.stored, fit.limit)
 
 pub taken_apart : (ds : List Declaration) (r : Rules) (d : Declaration) (vs : List Value) (s : Terms) (a : Apart) (k : Kept) (b : Body) (n : ℕ) → IsApart ds s.trees a → IsDeclared ds d → CanTake r d vs s a → a.kept ≡ Some k → d.body ≡ Some b → n ≡ length k.workshop.store.trees
     → IsApart ds k.workshop.store.trees (record { parameters = a.parameters; kept = None; terms = k.workshop.terms; count = n })

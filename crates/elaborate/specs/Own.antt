@@ -1,5 +1,5 @@
--- The terms of an earlier definition in a body that begins with it.
-use Rattle.std.specs.Prelude.{◌≡◌, ℕ, ◌+◌, Bool, true, false, ◌&&◌, nat_eq, nat_lt, nat_le, List, [], ◌∷◌, map, length, Option, Some, None}
+-- The terms of an earlier definition in a body that has no others before it.
+use Rattle.std.specs.Prelude.{◌≡◌, ℕ, ◌+◌, ◌<◌, Bool, true, false, ◌&&◌, nat_eq, nat_lt, nat_le, List, [], ◌∷◌, map, length, Option, Some, None}
 use Rattle.smt_meaning.specs.declared.nodes.Node.{Node}
 use Rattle.smt_meaning.specs.declared.terms.Head.{Head}
 use Rattle.smt_meaning.specs.declared.terms.Head.TheVariants.{Place}
@@ -7,7 +7,7 @@ use Rattle.smt_meaning.specs.declared.terms.Operator.{Operator}
 use Rattle.smt_meaning.specs.Declaration.{Declaration, Body}
 use Rattle.smt_meaning.specs.Signature.{look_up, operators, find_function, sorts_eq}
 use Rattle.smt_meaning.specs.Sorts.{Rules}
-use Rattle.smt_meaning.specs.Term.{Tree, Trees}
+use Rattle.smt_meaning.specs.Term.{Tree, Trees, tree_at}
 use Rattle.smt_meaning.specs.TreeShape.{put}
 use Rattle.term_store.specs.Terms.{Terms}
 use Rattle.smt_sorts.specs.declared.workshop.Workshop.{Workshop}
@@ -35,11 +35,15 @@ abbrev pub are_own : ℕ → List Value → Bool
 are_own k [] = true
 are_own k (v ∷ vs) = nat_eq v.id k && are_own (k + 1) vs
 
--- the terms that are kept are those of this declaration, put in for whose parameters are the parameters, and nothing else is stored
+-- the first so many trees of two lists are the same
+abbrev pub AreAlike : ℕ → List Tree → List Tree → Type 0
+AreAlike k ts us = (i : ℕ) → i < k → tree_at ts i ≡ tree_at us i
+
+-- the terms that are kept are those of this declaration, put in for whose parameters are the parameters, and begin with all that is stored
 pub record IsFit (k : Kept) (d : Declaration) (vs : List Value) (s : Terms) (n : ℕ) : Type 0 where
   pub id : k.id ≡ d.id
   pub parameters : k.workshop.parameters ≡ n
-  pub stored : length s.trees ≡ n
+  pub stored : IsLonger s.trees k.workshop.store.trees
   pub limit : k.workshop.store.limit ≡ s.limit
   pub given : length vs ≡ n
   pub own : are_own 0 vs ≡ true

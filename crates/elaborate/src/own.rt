@@ -1,14 +1,16 @@
-//! A definition that is used first in the body of the next one, with its parameters put in for themselves: its terms are there as they stand.
+//! A definition that is used in the body of the next one, with its parameters put in for themselves: where the terms that are stored so far are its
+//! first ones, all of them are there as they stand.
 ghost use Rattle.std.specs.Prelude.{◌≡◌, ◌<◌, map, length, true, None, Some, IsTrue, IfSome};
 ghost use Rattle.smt_meaning.specs.declared.tokens.Token.{Token};
 ghost use Rattle.smt_meaning.specs.Seen.{seen};
 ghost use Rattle.smt_meaning.specs.Signature.{find_function};
+ghost use Rattle.smt_meaning.specs.Term.{tree_at};
 ghost use Rattle.smt_meaning.specs.Sorts.{judge_token, judge_application, judge_symbol, known_symbol, trees_of};
 ghost use Rattle.smt_sorts.specs.Names.{signature};
 ghost use Rattle.elaborate.specs.Judged.{scope_of, rules_of};
-ghost use Rattle.elaborate.specs.Values.{AreValues, Comes, HasGrown, typed};
+ghost use Rattle.elaborate.specs.Values.{AreValues, Comes, HasGrown, IsLonger, typed};
 ghost use Rattle.elaborate.specs.Frames.{AreBound, variable_at};
-ghost use Rattle.elaborate.specs.Own.{IsApart, IsFit, CanTake, IsDeclared, IsBareOwn, IsAppliedOwn, are_own};
+ghost use Rattle.elaborate.specs.Own.{AreAlike, IsApart, IsFit, CanTake, IsDeclared, IsBareOwn, IsAppliedOwn, are_own};
 
 use crate::apply::{Rules, apply_name, have_sorts, is_count, is_zero};
 use crate::bindings::Bindings;
@@ -16,10 +18,10 @@ use crate::error::JudgeError;
 use crate::operators::operator_named;
 use crate::token::{judge_name, judge_token};
 use crate::value::Value;
-use smt_meaning::{Bytes, Declaration, Operator, Seq, Terms, TokenView};
+use smt_meaning::{Bytes, Declaration, Operator, Seq, TermId, Terms, TokenView};
 use smt_sorts::{Kept, Table, Workshop};
 use std::alloc::Global;
-use term_store::TermStore;
+use term_store::{Node, TermStore};
 
 /// Where a body is judged: how many parameters it has, what is kept of an earlier definition until its terms are taken, and the terms that were
 /// taken, with their number.
@@ -43,7 +45,39 @@ fn are_own(arguments: &[Value]) -> bool
     true
 }
 
-/// Whether the terms that are kept are those of a declaration, with all parameters and nothing else put in where nothing else is stored.
+/// Whether two nodes are the same.
+fn is_same(one: Node<'_>, other: Node<'_>) -> bool
+    ensures head { IsTrue result → one.entry.head ≡ other.entry.head }
+    ensures arguments { IsTrue result → one.entry.arguments.now ≡ other.entry.arguments.now }
+{
+    one.head == other.head && one.arguments == other.arguments
+}
+
+/// Whether the same term stands at a place of two lists that are alike before it.
+fn is_alike(first: &TermStore, second: &TermStore, id: TermId) -> bool
+    requires first { id < length first.now.trees }
+    requires second { id < length second.now.trees }
+    ensures { IsTrue result → AreAlike id first.now.trees second.now.trees → tree_at first.now.trees id ≡ tree_at second.now.trees id }
+{
+    is_same(first.node(id), second.node(id))
+}
+
+/// Whether one list of terms begins with all terms of another.
+fn begins(short: &TermStore, long: &TermStore) -> bool
+    ensures { IsTrue result → IsLonger short.now.trees long.now.trees }
+{
+    if short.len() > long.len() {
+        return false;
+    }
+    for id in 0..short.len() {
+        if !is_alike(short, long, id) {
+            return false;
+        }
+    }
+    true
+}
+
+/// Whether the terms that are kept are those of a declaration, in which all parameters and nothing else are put in, and begin with what is stored.
 fn fits(
     kept: &Kept,
     declaration: &Declaration,
@@ -55,10 +89,10 @@ fn fits(
 {
     kept.id == declaration.id()
         && kept.workshop.parameters == parameters
-        && store.len() == parameters
         && kept.workshop.store.limit() == store.limit()
         && arguments.len() == parameters as usize
         && are_own(arguments)
+        && begins(store, &kept.workshop.store)
 }
 
 /// Whether the terms of a declaration are there to be taken.
@@ -156,6 +190,7 @@ fn take(
     };
     let workshop = kept.workshop;
     let (constant, linear) = (workshop.constant, workshop.linear);
+    let _ = workshop.terms.layers();
     apart.count = workshop.store.len();
     apart.terms = workshop.terms;
     *store = workshop.store;
