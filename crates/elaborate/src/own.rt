@@ -1,5 +1,5 @@
 //! A definition that is used in the body of the next one, with its parameters put in for themselves: where the terms that are stored so far are its
-//! first ones, all of them are there as they stand.
+//! first ones, all of them are there as they stand, and are not put in again where the definition is used once more.
 ghost use Rattle.std.specs.Prelude.{◌≡◌, ◌<◌, map, length, true, None, Some, IsTrue, IfSome};
 ghost use Rattle.smt_meaning.specs.declared.tokens.Token.{Token};
 ghost use Rattle.smt_meaning.specs.Seen.{seen};
@@ -10,7 +10,7 @@ ghost use Rattle.smt_sorts.specs.Names.{signature};
 ghost use Rattle.elaborate.specs.Judged.{scope_of, rules_of};
 ghost use Rattle.elaborate.specs.Values.{AreValues, Comes, HasGrown, IsLonger, typed};
 ghost use Rattle.elaborate.specs.Frames.{AreBound, variable_at};
-ghost use Rattle.elaborate.specs.Own.{AreAlike, IsApart, IsFit, CanTake, IsDeclared, IsBareOwn, IsAppliedOwn, are_own};
+ghost use Rattle.elaborate.specs.Own.{AreAlike, IsApart, IsFit, IsFitAgain, CanTake, WasTaken, IsThere, IsDeclared, IsBareOwn, IsAppliedOwn, are_own};
 
 use crate::apply::{Rules, apply_name, have_sorts, is_count, is_zero};
 use crate::bindings::Bindings;
@@ -18,17 +18,27 @@ use crate::error::JudgeError;
 use crate::operators::operator_named;
 use crate::token::{judge_name, judge_token};
 use crate::value::Value;
-use smt_meaning::{Bytes, Declaration, Operator, Seq, TermId, Terms, TokenView};
+use smt_meaning::{Bytes, Declaration, Operator, Seq, SymId, TermId, Terms, TokenView};
 use smt_sorts::{Kept, Table, Workshop};
 use std::alloc::Global;
 use term_store::{Node, TermStore};
 
-/// Where a body is judged: how many parameters it has, what is kept of an earlier definition until its terms are taken, and the terms that were
-/// taken, with their number.
+/// A definition whose terms were taken: its id, and whether its term is built from numerals, `+`, `-` and `*` alone, and has no product of two
+/// factors that are not.
+#[derive(Clone, Copy, Drop)]
+pub(crate) struct Taken {
+    pub id: SymId,
+    pub constant: bool,
+    pub linear: bool,
+}
+
+/// Where a body is judged: how many parameters it has, what is kept of an earlier definition until its terms are taken, which definition that was,
+/// and the terms that were taken, with their number.
 #[derive(Drop)]
 pub(crate) struct Apart {
     pub parameters: u32,
     pub kept: Option<Kept>,
+    pub taken: Option<Taken>,
     pub terms: Terms,
     pub count: u32,
 }
@@ -95,26 +105,44 @@ fn fits(
         && begins(store, &kept.workshop.store)
 }
 
-/// Whether the terms of a declaration are there to be taken.
-fn can_take(
+/// Whether the terms that were taken are those of a declaration, in which all parameters and nothing else are put in.
+fn fits_again(
+    taken: &Taken,
+    declaration: &Declaration,
+    arguments: &[Value],
+    parameters: u32,
+) -> bool
+    ensures { IsTrue result → IsFitAgain taken.now declaration.now arguments.now parameters }
+{
+    taken.id == declaration.id() && arguments.len() == parameters as usize && are_own(arguments)
+}
+
+/// Whether the terms of a declaration were taken, or can be.
+fn are_there(
     rules: Rules,
     declaration: &Declaration,
     arguments: &[Value],
     store: &TermStore,
     apart: &Apart,
 ) -> bool
-    ensures { IsTrue result → CanTake (rules_of rules) declaration.now arguments.now store.now apart.now }
+    ensures { IsTrue result → IsThere (rules_of rules) declaration.now arguments.now store.now apart.now apart.now.taken }
 {
     if rules.closed {
         return false;
     }
-    match &apart.kept {
-        Some(kept) => fits(kept, declaration, arguments, store, apart.parameters),
-        None => false,
+    match (&apart.taken, &apart.kept) {
+        (Some(taken), _) => fits_again(taken, declaration, arguments, apart.parameters),
+        (None, Some(kept)) => fits(kept, declaration, arguments, store, apart.parameters),
+        (None, None) => false,
     }
 }
 
-/// The definition that a name without arguments stands for, where its terms are there to be taken.
+/// Whether an earlier definition is known whose terms were taken, or may be.
+fn has_any(apart: &Apart) -> bool {
+    apart.taken.is_some() || apart.kept.is_some()
+}
+
+/// The definition that a name without arguments stands for, where its terms were taken, or can be.
 fn bare_own<'a>(
     rules: Rules,
     name: &[u8],
@@ -125,12 +153,12 @@ fn bare_own<'a>(
 ) -> Option<&'a Declaration>
     ensures { IfSome result (λ d. IsBareOwn (rules_of rules) name.now bindings.now (signature table.now) store.now apart.now d.now) }
 {
-    if apart.kept.is_none() || bindings.find(name).is_some() || operator_named(name).is_some() {
+    if !has_any(apart) || bindings.find(name).is_some() || operator_named(name).is_some() {
         return None;
     }
     let declaration = table.lookup(name)?;
     if is_zero(declaration.rank().arguments.len())
-        && can_take(rules, declaration, &[], store, apart)
+        && are_there(rules, declaration, &[], store, apart)
     {
         Some(declaration)
     } else {
@@ -138,7 +166,7 @@ fn bare_own<'a>(
     }
 }
 
-/// The definition that a name with these arguments stands for, where its terms are there to be taken.
+/// The definition that a name with these arguments stands for, where its terms were taken, or can be.
 fn applied_own<'a>(
     rules: Rules,
     name: &[u8],
@@ -150,14 +178,14 @@ fn applied_own<'a>(
 ) -> Option<&'a Declaration>
     ensures { IfSome result (λ d. IsAppliedOwn (rules_of rules) name.now operator arguments.now (signature table.now) store.now apart.now d.now) }
 {
-    if apart.kept.is_none() || operator.is_some() {
+    if !has_any(apart) || operator.is_some() {
         return None;
     }
     let declaration = table.lookup(name)?;
     let sorts = declaration.rank().arguments.as_slice();
     if is_count(arguments.len(), sorts.len())
         && have_sorts(arguments, sorts)
-        && can_take(rules, declaration, arguments, store, apart)
+        && are_there(rules, declaration, arguments, store, apart)
     {
         Some(declaration)
     } else {
@@ -193,6 +221,11 @@ fn take(
     let _ = workshop.terms.layers();
     apart.count = workshop.store.len();
     apart.terms = workshop.terms;
+    apart.taken = Some(Taken {
+        id: kept.id,
+        constant,
+        linear,
+    });
     *store = workshop.store;
     Ok(Value {
         id: body.place(),
@@ -200,6 +233,58 @@ fn take(
         constant,
         linear,
     })
+}
+
+/// The value of a definition whose terms were taken before.
+fn taken_before(
+    rules: Rules,
+    declaration: &Declaration,
+    arguments: &[Value],
+    table: &Table,
+    store: &TermStore,
+    apart: &Apart,
+) -> Value
+    requires apart { IsApart (signature table.now) store.now.trees apart.now }
+    requires declared { IsDeclared (signature table.now) declaration.now }
+    requires was { WasTaken (rules_of rules) declaration.now arguments.now apart.now }
+    ensures { Comes (judge_symbol (rules_of rules) declaration.now (trees_of (map (typed store.now.trees) arguments.now))) (scope_of table.now store.now.trees) store.now.trees (Ok result) }
+{
+    let _ = (table.ids(), rules.closed, arguments.len(), store.len());
+    let Some(taken) = apart.taken else {
+        unreachable!()
+    };
+    let Some(body) = declaration.body() else {
+        unreachable!()
+    };
+    Value {
+        id: body.place(),
+        sort: declaration.rank().result,
+        constant: taken.constant,
+        linear: taken.linear,
+    }
+}
+
+/// The value of a definition whose terms were taken, or can be.
+fn own_value(
+    rules: Rules,
+    declaration: &Declaration,
+    arguments: &[Value],
+    table: &Table,
+    store: &mut TermStore,
+    apart: &mut Apart,
+) -> Result<Value, JudgeError>
+    requires apart { IsApart (signature table.now) store.old.trees apart.old }
+    requires declared { IsDeclared (signature table.now) declaration.now }
+    requires there { IsThere (rules_of rules) declaration.now arguments.now store.old apart.old apart.old.taken }
+    ensures comes { Comes (judge_symbol (rules_of rules) declaration.now (trees_of (map (typed store.old.trees) arguments.now))) (scope_of table.now store.old.trees) store.new.trees result }
+    ensures longer { HasGrown store.old store.new }
+    ensures apart { IsApart (signature table.now) store.new.trees apart.new }
+{
+    if apart.taken.is_some() {
+        Ok(taken_before(rules, declaration, arguments, table, store, apart))
+    } else {
+        take(rules, declaration, arguments, table, store, apart)
+    }
 }
 
 /// The term that a token stands for in a body.
@@ -241,7 +326,7 @@ fn name_apart(
     ensures apart { IsApart (signature table.now) store.new.trees apart.new }
 {
     match bare_own(rules, name, bindings, table, store, apart) {
-        Some(declaration) => take(rules, declaration, &[], table, store, apart),
+        Some(declaration) => own_value(rules, declaration, &[], table, store, apart),
         None => judge_name(alloc, rules, name, bindings, table, store),
     }
 }
@@ -265,7 +350,7 @@ pub(crate) fn apply_apart(
 {
     let given = arguments.as_slice();
     match applied_own(rules, name.as_slice(), operator, given, table, store, apart) {
-        Some(declaration) => take(rules, declaration, given, table, store, apart),
+        Some(declaration) => own_value(rules, declaration, given, table, store, apart),
         None => apply_name(alloc, rules, name, operator, arguments, table, store),
     }
 }

@@ -1,6 +1,6 @@
-use Rattle.std.proofs.Common.{◌≡◌, ◌≤◌, length, subst, arith}
+use Rattle.std.proofs.Common.{◌≡◌, length, subst, arith}
 use Rattle.elaborate.specs.Own.{AreAlike}
-use Rattle.elaborate.proofs.Owned.{alike_next, alike_begins}
+use Rattle.elaborate.proofs.Owned.{alike_begins}
 use Rattle.elaborate.proofs.own.begins.Goals as goal
 
 pub returns : goal.returns
