@@ -78,13 +78,6 @@ alike_node k ts us h j is js e f first second below alike =
     ∙ ap (λ ns. node j (pick us ns)) f
     ∙ sym second
 
-pub alike_next : (k : ℕ) (ts us : List Tree) → AreAlike k ts us → tree_at ts k ≡ tree_at us k → AreAlike (suc k) ts us
-alike_next k ts us h e i l = go (nat_eq i k) refl
-  where
-    go : (b : Bool) → nat_eq i k ≡ b → tree_at ts i ≡ tree_at us i
-    go true f = let same : i ≡ k = grind arith in subst (λ j. tree_at ts j ≡ tree_at us j) (sym same) e
-    go false f = h i (let other : (i ≡ k → ⊥) = grind arith in omega (arith, other, l))
-
 pub alike_begins : (ts us : List Tree) → length ts ≤ length us → AreAlike (length ts) ts us → IsLonger ts us
 alike_begins [] us l h = (us, refl)
 alike_begins (t ∷ ts) [] l h = absurd (omega arith)

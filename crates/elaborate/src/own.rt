@@ -1,6 +1,7 @@
 //! A definition that is used in the body of the next one, with its parameters put in for themselves: where the terms that are stored so far are its
 //! first ones, all of them are there as they stand, and are not put in again where the definition is used once more.
-ghost use Rattle.std.specs.Prelude.{◌≡◌, ◌<◌, map, length, true, None, Some, IsTrue, IfSome};
+ghost use Rattle.std.specs.Option.{is_some};
+ghost use Rattle.std.specs.Prelude.{◌≡◌, ◌<◌, ◌||◌, map, length, true, None, Some, IsTrue, IfSome};
 ghost use Rattle.smt_meaning.specs.declared.tokens.Token.{Token};
 ghost use Rattle.smt_meaning.specs.Seen.{seen};
 ghost use Rattle.smt_meaning.specs.Signature.{find_function};
@@ -138,7 +139,9 @@ fn are_there(
 }
 
 /// Whether an earlier definition is known whose terms were taken, or may be.
-fn has_any(apart: &Apart) -> bool {
+fn has_any(apart: &Apart) -> bool
+    ensures { result ≡ (is_some apart.now.taken || is_some apart.now.kept) }
+{
     apart.taken.is_some() || apart.kept.is_some()
 }
 
