@@ -72,7 +72,7 @@ with_all-append : (ts us vs : List Tree) → with_all ts (us ++ vs) ≡ with_all
 with_all-append ts [] vs = refl
 with_all-append ts (u ∷ us) vs = with_all-append (with_parts ts u) us vs
 
-stays : (c us : List Tree) → ((i : ℕ) → i < length us → with_parts c (tree_at us i) ≡ c) → with_all c us ≡ c
+pub stays : (c us : List Tree) → ((i : ℕ) → i < length us → with_parts c (tree_at us i) ≡ c) → with_all c us ≡ c
 stays c [] h = refl
 stays c (u ∷ us) h = ap (λ ts. with_all ts us) (h 0 (omega arith)) ∙ stays c us (λ i k. h (suc i) (omega arith))
 

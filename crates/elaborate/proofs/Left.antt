@@ -13,12 +13,12 @@ use Rattle.smt_sorts.specs.Workshop.{places_from, AreOwn, IsWorkshop, IsOfAny}
 use Rattle.elaborate.specs.declared.own.Apart.{Apart}
 use Rattle.elaborate.specs.declared.value.Value.{Value}
 use Rattle.elaborate.specs.Values.{IsValue}
-use Rattle.elaborate.specs.Own.{IsTaken, IsApart, IsLeft, are_own_nodes}
+use Rattle.elaborate.specs.Own.{IsTaken, IsTakenOf, IsApart, IsLeft, are_own_nodes}
 use Rattle.elaborate.proofs.Again.{joins_again, own_stays}
 
 -- nothing is taken before a body is judged
-pub apart_begins : (ds : List Declaration) (ts : List Tree) (n : ℕ) (a : Apart) → ts ≡ places_from 0 n → a.parameters ≡ n → a.terms ≡ [] → a.count ≡ 0 → IsOfAny ds a.kept → IsApart ds ts a
-apart_begins ds ts n a e p t z k = record {
+pub apart_begins : (ds : List Declaration) (ts : List Tree) (n : ℕ) (a : Apart) → ts ≡ places_from 0 n → a.parameters ≡ n → a.terms ≡ [] → a.count ≡ 0 → IsOfAny ds a.kept → a.taken ≡ None → IsApart ds ts a
+apart_begins ds ts n a e p t z k u = record {
   all = record {
     first = ([], e ∙ ap (places_from 0) (sym p) ∙ sym (append-nil (places_from 0 a.parameters)));
     taken = (ts, ap (λ us. us ++ ts) (sym t));
@@ -26,6 +26,7 @@ apart_begins ds ts n a e p t z k = record {
     own = λ xs o. subst (λ us. map (put xs) us ≡ us) (sym t) refl;
   };
   kept = k;
+  from = subst (IsTakenOf ds a.terms) (sym u) tt;
 }
 
 pub taken_within : (ts : List Tree) (a : Apart) → IsTaken ts a → a.count ≤ length ts

@@ -1,6 +1,7 @@
 pub mod Again
 mod Laid
 pub mod Owned
+mod OwnExamples
 mod Left
 pub mod Flags
 pub mod Stored

@@ -125,6 +125,7 @@ fn judge_apart(
     requires count { apart.old.count ≡ 0 }
     requires parameters { apart.old.parameters ≡ length parameters.now }
     requires kept { IsOfAny (signature table.now) apart.old.kept }
+    requires untaken { apart.old.taken ≡ None }
     ensures comes { Comes (judge in_body (variables_of parameters.now) (sexp term.now)) (scope_of table.now (places_from 0 (length parameters.now))) store.new.trees result }
     ensures apart { OnOk result (IsApart (signature table.now) store.new.trees apart.new) }
 {
@@ -205,6 +206,7 @@ pub(crate) fn typed_body(
     let mut apart = Apart {
         parameters: count,
         kept,
+        taken: None,
         terms: Terms::new(alloc),
         count: 0,
     };
