@@ -1,4 +1,4 @@
--- The terms of an earlier definition in a body that has no others before it.
+-- The terms of an earlier definition, in a body that stored none before its use but the first of them.
 use Rattle.std.specs.Prelude.{◌≡◌, ℕ, ◌+◌, ◌<◌, Bool, true, false, ◌&&◌, nat_eq, nat_lt, nat_le, List, [], ◌∷◌, map, length, Option, Some, None}
 use Rattle.smt_meaning.specs.declared.nodes.Node.{Node}
 use Rattle.smt_meaning.specs.declared.terms.Head.{Head}
