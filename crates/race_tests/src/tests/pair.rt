@@ -49,8 +49,8 @@ fn start_two(alloc: Global) -> Option<(Race<Pool<Empty>>, Pass<Pool<Empty>>, Pas
     Some((race, first, second))
 }
 
-// Shares the true clause of level 0, again where memory was wanting.
-fn share_one(
+// Shares the true clause of level 0.
+fn share_once(
     alloc: Global,
     race: &Race<Pool<Empty>>,
     pass: &mut Pass<Pool<Empty>>,
@@ -59,10 +59,22 @@ fn share_one(
     ensures { IsReady race.now.table.shared.table_id pass.new }
 {
     let clause = made_again(alloc)?;
-    Ok(match race.share(pass, clause) {
-        Sharing::Memory(clause) => race.share(pass, clause),
-        shared => shared,
-    })
+    Ok(race.share(pass, clause))
+}
+
+// Shares it, again where memory was wanting.
+fn share_one(
+    alloc: Global,
+    race: &Race<Pool<Empty>>,
+    pass: &mut Pass<Pool<Empty>>,
+) -> Result<Sharing, AllocError>
+    requires { IsReady race.now.table.shared.table_id pass.old }
+    ensures { IsReady race.now.table.shared.table_id pass.new }
+{
+    match share_once(alloc, race, pass)? {
+        Sharing::Memory(_) => share_once(alloc, race, pass),
+        shared => Ok(shared),
+    }
 }
 
 /// What a pass tries, and what comes of it.
