@@ -1,6 +1,7 @@
 #!/usr/bin/env python3
 """Runs of the program in which one allocation after the other is refused.
 Use: bench/allocations.py [--after] [PROGRAM [SCRIPT..]], at the top of the repository, after a build; it needs a C compiler and Linux.
+With --test PROGRAM NAME the program is one of tests, and the run is that of the test of this full name: it has to pass whichever call is refused.
 
 A library that is loaded before the C library counts the calls of `malloc` and `realloc`, and refuses the one that it is told (with --after, that
 one and all behind it). So a program that is built once is run once for each call that the plain run makes. After each run one of these has to hold:
@@ -57,6 +58,17 @@ def check(answer, command="(check-sat)"):
 
 
 SCRIPTS = {
+    "a level pushed and popped": [
+        check("unsat", "(set-option :print-success false)(declare-const p Bool)(assert p)(push 1)(assert (not p))(check-sat)"),
+        check("sat", "(pop 1)(check-sat)"),
+    ],
+    "two values of a function": [
+        check(
+            "unsat",
+            "(set-option :print-success false)(declare-fun f (Int) Int)(declare-const x Int)(declare-const y Int)"
+            "(assert (<= 1 x 2))(assert (distinct (f x) (f 1)))(assert (distinct (f x) (f 2)))(check-sat)",
+        ),
+    ],
     "Boolean": [
         reply("(set-option :produce-models true)"),
         reply("(set-logic QF_UFLIA)"),
@@ -164,7 +176,7 @@ def fault(status, out, said, script):
         allowed = otherwise if unknown else decided
         if allowed is not None and line not in allowed:
             return f"{line} is the reply to {command}"
-        if command.startswith("(check-sat"):
+        if "(check-sat" in command:
             unknown = line == "unknown"
     if status == 5:
         return "" if said == "out of memory\n" else f"status 5, and standard error has {said!r}"
@@ -178,8 +190,8 @@ def fault(status, out, said, script):
 
 
 class Runs:
-    def __init__(self, program, after, folder):
-        self.program, self.after = program, after
+    def __init__(self, words, after, folder):
+        self.words, self.after = words, after
         self.library = f"{folder}/counter.so"
         with open(f"{folder}/counter.c", "w") as file:
             file.write(COUNTER)
@@ -195,7 +207,7 @@ class Runs:
         self.numbers[0], self.numbers[1], self.numbers[2] = refused, 2**62 if self.after else refused, 0
         with_it = {"LD_PRELOAD": self.library, "REFUSALS": self.path}
         try:
-            ran = subprocess.run([self.program], input=text.encode("latin-1"), capture_output=True, env=with_it, timeout=60)
+            ran = subprocess.run(self.words, input=text.encode("latin-1"), capture_output=True, env=with_it, timeout=60)
         except subprocess.TimeoutExpired:
             return "none in 60 seconds", "", "", self.numbers[2]
         return ran.returncode, ran.stdout.decode("latin-1"), ran.stderr.decode("latin-1"), self.numbers[2]
@@ -225,8 +237,23 @@ def sweep(runs, name, text, script):
     return faults
 
 
+def sweep_test(program, name):
+    """A line of what came of a test, and one for each call without which it doesn't pass."""
+    with tempfile.TemporaryDirectory() as folder:
+        runs = Runs([program, name], False, folder)
+        calls = runs.run("", 0)[3]
+        ended = [runs.run("", number)[0] for number in range(calls + 1)]
+    faults = [f"call {number}: status {status}" if number else f"without a refusal: status {status}" for number, status in enumerate(ended) if status]
+    print(f"{name}: {calls} allocations, {len(faults)} runs that don't pass")
+    return faults if calls else ["no call was seen: is the program linked without the shared C library?"]
+
+
 def main():
     words = sys.argv[1:]
+    if words[:1] == ["--test"]:
+        faults = sweep_test(os.path.realpath(words[1]), words[2])
+        print(*faults[:200], sep="\n")
+        sys.exit(bool(faults))
     after = "--after" in words
     words = [it for it in words if it != "--after"]
     program = os.path.realpath(words[0] if words else "crates/smt_cli/out/smt_cli")
@@ -239,7 +266,7 @@ def main():
     print("|---|---|---|---|---|---|---|---|---|")
     faults = []
     with tempfile.TemporaryDirectory() as folder:
-        runs = Runs(program, after, folder)
+        runs = Runs([program], after, folder)
         for name, (text, script) in cases.items():
             faults += [f"{name}: {it}" for it in sweep(runs, name, text, script)]
     for it in faults[:200]:

@@ -3,7 +3,7 @@ use Rattle.race_model.specs.Base.{Base}
 use Rattle.race_model.specs.Laws.{IsSound}
 use Rattle.race_tests.specs.Stack.{two_levels}
 use Rattle.race_tests.proofs.Sound.{sound_clause}
-use Rattle.race_tests.proofs.tests.pair.share_one.Goals as goal
+use Rattle.race_tests.proofs.tests.pair.share_once.Goals as goal
 
 pub share-requires-clause-follows : goal.share-requires-clause-follows
 share-requires-clause-follows c =
