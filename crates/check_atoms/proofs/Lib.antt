@@ -6,6 +6,7 @@ mod Integers
 mod Stacks
 mod Related
 mod StackAtoms
+mod WideDistinct
 mod Refused
 mod RefusedPair
 mod RefusedLimit
