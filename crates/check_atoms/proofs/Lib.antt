@@ -7,6 +7,7 @@ mod Stacks
 mod Related
 mod StackAtoms
 mod WideDistinct
+mod WideExamples
 mod Refused
 mod RefusedPair
 mod RefusedLimit

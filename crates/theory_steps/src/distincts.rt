@@ -61,11 +61,7 @@ fn number_of(given: &[Given], place: TermId) -> Option<i128> {
 }
 
 /// The Ints of these terms with their values, in the order of the values. An `Err` is for want of memory.
-fn by_value(
-    alloc: Global,
-    given: &[Given],
-    places: &[TermId],
-) -> Result<Vec<Valued>, AllocError> {
+fn by_value(alloc: Global, given: &[Given], places: &[TermId]) -> Result<Vec<Valued>, AllocError> {
     let mut valued = Vec::new(alloc);
     for place in places {
         if let Some(value) = number_of(given, *place) {
