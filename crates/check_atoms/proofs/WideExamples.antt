@@ -1,5 +1,5 @@
 -- The atoms of a `distinct` with which a check begins: of three terms each two are compared, of two hundred and one no two are.
-use Rattle.std.proofs.Common.{◌≡◌, ℕ, suc, true, false, List, [], ◌∷◌, refl}
+use Rattle.std.proofs.Common.{◌≡◌, ℕ, zero, suc, true, false, List, [], ◌∷◌, refl}
 use Rattle.std.specs.Prelude.{None}
 use Rattle.smt_meaning.specs.declared.values.Sort.TheVariants.{Int as Ints}
 use Rattle.smt_meaning.specs.declared.terms.Operator.TheVariants.{Equal, Distinct}
@@ -13,7 +13,7 @@ x = node (Symbol 0) none
 
 -- so many times the same term
 abbrev times : ℕ → Trees
-times 0 = none
+times zero = none
 times (suc n) = more x (times n)
 
 abbrev signature : List Declaration
