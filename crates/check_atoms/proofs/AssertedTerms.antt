@@ -1,18 +1,19 @@
--- Which terms are assertions, and which are elements by the listed sorts.
-use Rattle.std.proofs.Common.{◌≡◌, ◌≢◌, ℕ, ◌<◌, List, length, get_or, All, Contains, Some, subst, sym, ap, ◌∙◌, refl}
+-- Which terms are assertions, and which are no Bools by the listed sorts.
+use Rattle.std.proofs.Common.{◌≡◌, ◌≢◌, ℕ, ◌<◌, List, length, get_or, All, Contains, Some, slice_index_or, subst, sym, ◌∙◌, refl}
 use Rattle.std.proofs.lemmas.List.Elements.{All-map, All-contains}
 use Rattle.smt_meaning.specs.declared.values.Sort.{Sort}
+use Rattle.smt_meaning.specs.declared.values.Sort.TheVariants.{Bool as Truths}
 use Rattle.smt_meaning.specs.Term.{Tree, tree_at}
 use Rattle.smt_meaning.specs.Stack.{signature_of, assertions_of}
 use Rattle.smt_meaning.specs.StackCommand.{Stack}
 use Rattle.scope_stack.specs.declared.answers.Assertion.{Assertion}
 use Rattle.scope_stack.specs.Shown.{AreAsserted, IsLawful}
 use Rattle.check_atoms.specs.PartAtoms.{sort_of, sort_in}
-use Rattle.check_atoms.specs.AssertedDistinct.{IsElement, IsListedElement}
+use Rattle.check_atoms.specs.AssertedDistinct.{IsNoBool, IsListedNoBool}
 use Rattle.check_atoms.proofs.Marking.{are_assertions}
 
-abbrev pub AreElements : List Sort → List ℕ → Type 0
-AreElements sorts is = All (IsListedElement sorts) is
+abbrev pub AreNoBools : List Sort → List ℕ → Type 0
+AreNoBools sorts is = All (IsListedNoBool sorts) is
 
 module _ (s : Stack) (xs : List Assertion) (p : ℕ) where
   pub asserted_there : AreAsserted s xs → (a : Assertion) → Contains xs a → a.term ≡ p → Contains (assertions_of s.frames) (tree_at s.trees p)
@@ -31,11 +32,11 @@ module _ (s : Stack) (sorts : List Sort) where
   abbrev Agree : ℕ → Type 0
   Agree i = sort_in sorts i ≡ sort_of (signature_of s.frames) s.trees i
 
-  pub are_of_stack : (is : List ℕ) → All Agree is → AreElements sorts is → All (IsElement s) is
-  are_of_stack is agree h = λ k d l. let here = h k d l in record { sort = here.0; has = sym (agree k d l) ∙ ap Some here.1 }
+  pub are_of_stack : (is : List ℕ) → All Agree is → AreNoBools sorts is → All (IsNoBool s) is
+  are_of_stack is agree h = λ k d l. record { sort = slice_index_or sorts (get_or is k d) Truths; has = sym (agree k d l); other = h k d l }
 
-  pub are_listed : (is : List ℕ) → All Agree is → All (IsElement s) is → AreElements sorts is
-  are_listed is agree h = λ k d l. let here = h k d l in (here.sort, one (agree k d l ∙ here.has))
+  pub are_listed : (is : List ℕ) → All Agree is → All (IsNoBool s) is → AreNoBools sorts is
+  are_listed is agree h = λ k d l e. let here = h k d l in here.other (sym (one (agree k d l ∙ here.has)) ∙ e)
     where
       one : {r q : Sort} → Some r ≡ Some q → r ≡ q
       one e = cc

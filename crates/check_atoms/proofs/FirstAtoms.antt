@@ -18,7 +18,7 @@ use Rattle.smt_meaning.specs.Signature.{tree_sort, is_bool}
 use Rattle.smt_meaning.specs.Stack.{Frame, signature_of, assertions_of}
 use Rattle.smt_meaning.specs.StackCommand.{Stack}
 use Rattle.smt_meaning.specs.CheckAtoms.{IsPartOfStack, ComparesParts, IsFirstAtom}
-use Rattle.smt_meaning.specs.Atoms.{normal_bound, atoms_of, stack_atoms, stack_atoms_are}
+use Rattle.smt_meaning.specs.Atoms.{normal_bound, pair_atoms, atoms_of, stack_atoms, stack_atoms_are}
 use Rattle.smt_laws.specs.Flat.{flat, FlatSaysTheSame}
 use Rattle.smt_laws.specs.Rows.{place_divisor}
 use Rattle.scope_stack.specs.Shown.{IsLawful}
@@ -175,9 +175,25 @@ module _ (s : Stack) where
           among = (0, omega arith, is);
         }
 
+    pair_there : (a : Atom) → ComparesParts s.trees s.frames a → ComparesParts s.trees frames a
+    pair_there a o = record {
+      left = o.left;
+      right = o.right;
+      left_part = part_there o.left o.left_part;
+      right_part = part_there o.right o.right_part;
+      one_sort = subst (λ ds. tree_sort ds o.left ≡ tree_sort ds o.right) (sym signature) o.one_sort;
+      among = subst (λ ds. Contains (pair_atoms s.trees ds o.left o.right) a) (sym signature) o.among;
+    }
+
+    own_there : (a : Atom) → IsAtomOfPart s marks a → IsFirstAtom s.trees frames a
+    own_there a own = elim (of_stack s marks atoms lawful parts are compares rows a own) [
+      | inl of_stack_there ↦ inl (subst (λ xs. Contains xs a) (sym same_atoms) of_stack_there)
+      | inr two ↦ inr (inl (pair_there a two))
+    ]
+
     first_there : (a : Atom) → Contains atoms a → IsFirstAtom s.trees frames a
     first_there a c = elim (are.only a c) [
-      | inl own ↦ inl (subst (λ xs. Contains xs a) (sym same_atoms) (of_stack s marks atoms lawful parts are compares rows a own))
+      | inl own ↦ own_there a own
       | inr chord ↦ inr (inl (chord_there a chord))
     ]
 

@@ -6,6 +6,8 @@ mod Integers
 mod Stacks
 mod Related
 mod StackAtoms
+mod WideDistinct
+mod WideExamples
 mod Refused
 mod RefusedPair
 mod RefusedLimit

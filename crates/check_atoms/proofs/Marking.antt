@@ -37,7 +37,7 @@ arguments_are_parts trees (i ∷ is) =
     All-cons (λ j. IsPartOfOne (tree_at trees j) (pick trees (i ∷ is))) i is (inl (part_itself (tree_at trees i)))
     (All-weaker (λ j. IsPartOfOne (tree_at trees j) (pick trees is)) (λ j. IsPartOfOne (tree_at trees j) (pick trees (i ∷ is))) (λ j q. inr q) is (arguments_are_parts trees is))
 
-argument_of_stack : (frames : List Frame) (trees : List Tree) (h : Head) (is : List ℕ) (p : ℕ) → IsPartOfStack frames (tree_with trees h is) → Contains is p → IsPartOfStack frames (tree_at trees p)
+pub argument_of_stack : (frames : List Frame) (trees : List Tree) (h : Head) (is : List ℕ) (p : ℕ) → IsPartOfStack frames (tree_with trees h is) → Contains is p → IsPartOfStack frames (tree_at trees p)
 argument_of_stack frames trees h is p k c = record {
   assertion = k.assertion;
   asserted = k.asserted;

@@ -1,10 +1,12 @@
--- The numbered atoms are the stack's.
-use Rattle.std.proofs.Common.{◌≡◌, ◌≢◌, ◌⊎◌, inl, inr, ℕ, ◌<◌, Bool, List, [], ◌∷◌, ◌++◌, Some, map, length, get_or, All, Contains, subst, sym, ap, ap₂, ◌∙◌, refl, arith, flat_map}
+-- The numbered atoms are the stack's, or compare what a wide `distinct` does.
+use Rattle.std.proofs.Common.{◌≡◌, ◌≢◌, ◌⊎◌, inl, inr, ℕ, ◌<◌, Bool, true, false, List, [], ◌∷◌, ◌++◌, Some, map, length, get_or, All, Contains, subst, sym, ap, ap₂, ◌∙◌, refl, arith, flat_map}
 use Rattle.std.specs.Prelude.{Option, None, if◌then◌else◌}
 use Rattle.std.proofs.lemmas.List.Elements.{All-nil, All-cons, All-head, All-tail, All-append, All-weaker, All-contains, All-contains_itself, Contains-get_or, Contains-append_left, Contains-append_right, Contains-append_cases, Contains-push_cases}
 use Rattle.smt_meaning.specs.declared.values.Sort.{Sort}
 use Rattle.smt_meaning.specs.declared.values.Sort.TheVariants.{Bool as Truths, Int as Ints, Free}
+use Rattle.smt_meaning.specs.declared.terms.Operator.TheVariants.{Distinct}
 use Rattle.smt_meaning.specs.declared.terms.Head.{Head}
+use Rattle.smt_meaning.specs.declared.terms.Head.TheVariants.{Theory}
 use Rattle.smt_meaning.specs.declared.clauses.Atom.{Atom}
 use Rattle.smt_meaning.specs.declared.clauses.Atom.TheVariants.{Truth as TruthAtom, Same as SameAtom}
 use Rattle.smt_meaning.specs.Declaration.{Declaration}
@@ -15,19 +17,21 @@ use Rattle.smt_meaning.specs.Parts.{IsPart, IsPartOfOne, IsArgument}
 use Rattle.smt_meaning.specs.Signature.{tree_sort, is_bool, is_int}
 use Rattle.smt_meaning.specs.Stack.{signature_of, assertions_of}
 use Rattle.smt_meaning.specs.StackCommand.{Stack}
-use Rattle.smt_meaning.specs.Report.{IsPartOfStack}
-use Rattle.smt_meaning.specs.Atoms.{at_most_atom, pair_atoms, of_first_with, of_pairs, comparison_atoms, truth_atom, atoms_of, atoms_of_all, stack_atoms, stack_atoms_are}
-use Rattle.term_store.specs.Terms.{AreDifferent}
+use Rattle.smt_meaning.specs.CheckAtoms.{IsPartOfStack, ComparesParts}
+use Rattle.smt_meaning.specs.Atoms.{at_most_atom, pair_atoms, comparison_atoms, is_wide, early_atoms, truth_atom, atoms_of, atoms_of_all, stack_atoms, stack_atoms_are}
+use Rattle.term_store.specs.Terms.{AreDifferent, tree_with}
 use Rattle.term_store.proofs.PlaceLemmas.{place_of-is}
 use Rattle.scope_stack.specs.Shown.{IsLawful}
 use Rattle.check_atoms.specs.Parts.{IsMarked}
 use Rattle.check_atoms.specs.Marks.{AreStackParts}
-use Rattle.check_atoms.proofs.Marking.{below}
+use Rattle.check_atoms.proofs.Marking.{below, argument_of_stack}
+use Rattle.check_atoms.proofs.Sorting.{distinct_sort}
+use Rattle.check_atoms.proofs.Taking.{its_sort}
+use Rattle.check_atoms.proofs.WideDistinct.{many_are_wide, wide_is_distinct, early_unless_wide, none_if_wide, of_two}
 use Rattle.check_atoms.proofs.StackAtomsPlaces.{Picked, picked}
 use Rattle.bound_clauses.specs.Laws.{OrdersAreComparisons}
 use Rattle.pair_bounds.specs.Rows.{RowsAreAtoms}
 use Rattle.check_atoms.specs.PartAtoms.{atom_of, by_sort, alone_by_sort, truth_by_sort, compared_by_head, sort_of}
-use Rattle.check_atoms.specs.AssertedDistinct.{IsElement, IsAssertedDistinct}
 use Rattle.smt_laws.specs.Rows.{place_divisor}
 use Rattle.check_atoms.specs.OfStack.{IsNode, part_atoms, IsAtomOfPart, AreCheckAtoms}
 use Rattle.check_atoms.specs.Laws.{IsSameOfNoInts, StackAtomsAreNumbered}
@@ -36,7 +40,7 @@ use Rattle.check_atoms.proofs.Related.{IsKept, head_related, part_related}
 -- ---- a part's own atoms, and those of a term
 
 abbrev own : List Tree → List Declaration → Tree → List Atom
-own ts ds (node h us) = truth_atom ts ds (node h us) ++ comparison_atoms ts ds h us
+own ts ds (node h us) = truth_atom ts ds (node h us) ++ early_atoms ts ds h us
 
 module _ (ts : List Tree) (ds : List Declaration) (a : Atom) where
   mutual
@@ -147,17 +151,49 @@ module _ (s : Stack) (marks : List Bool) (atoms : List Atom) (lawful : IsLawful 
     single = λ i j h g. subst (Holds (map (atom_of ts) (alone_by_sort (sort_of ds ts i) i j))) (pair_stated i j h g) (alone_held (sort_of ds ts i) i j);
   }
 
-  own_is : (p : ℕ) (h : Head) (us : Trees) → tree_at ts p ≡ node h us → truth_atom ts ds (tree_at ts p) ++ comparison_atoms ts ds h us ≡ own ts ds (node h us)
-  own_is p h us e = ap (λ t. truth_atom ts ds t ++ comparison_atoms ts ds h us) e
+  -- what a wide `distinct` compares are parts of one sort
+  wide_compares : (p : ℕ) (h : Head) (is : List ℕ) (a : Atom) → IsMarked marks p → IsNode ts p h is → is_wide h (pick ts is) ≡ true → Contains (comparison_atoms ts ds h (pick ts is)) a → ComparesParts ts s.frames a
+  wide_compares p h is a m n wide c =
+      let here : IsPartOfStack s.frames (tree_with ts h is) = subst (IsPartOfStack s.frames) n.tree (parts.only p m) in
+      let is_distinct : h ≡ Theory Distinct = wide_is_distinct h (pick ts is) wide in
+      let its = its_sort s (tree_with ts h is) lawful here in
+      let one = distinct_sort ds ts is its.0 (subst (λ (k : Head). tree_sort ds (tree_with ts k is) ≡ Some its.0) is_distinct its.1) in
+      let two = of_two ts (pair_atoms ts ds) a is (subst (λ (k : Head). Contains (comparison_atoms ts ds k (pick ts is)) a) is_distinct c) in
+      let sort_there : (i : ℕ) → Contains is i → tree_sort ds (tree_at ts i) ≡ Some one.sort = λ i k. All-contains (λ j. tree_sort ds (tree_at ts j) ≡ Some one.sort) is i one.each k in
+      record {
+        left = tree_at ts two.left;
+        right = tree_at ts two.right;
+        left_part = argument_of_stack s.frames ts h is two.left here two.left_in;
+        right_part = argument_of_stack s.frames ts h is two.right here two.right_in;
+        one_sort = sort_there two.left two.left_in ∙ sym (sort_there two.right two.right_in);
+        among = two.among;
+      }
 
-  pub of_stack : (a : Atom) → IsAtomOfPart s marks a → Contains (stack_atoms ts s.frames) a
+  -- the stack has it, or it compares parts
+  abbrev pub IsOwn : Atom → Type 0
+  IsOwn a = Contains (stack_atoms ts s.frames) a ⊎ ComparesParts ts s.frames a
+
+  own_there : (p : ℕ) (h : Head) (is : List ℕ) (a : Atom) → IsMarked marks p → tree_at ts p ≡ node h (pick ts is) → Contains (own ts ds (node h (pick ts is))) a → Contains (stack_atoms ts s.frames) a
+  own_there p h is a m e c = in_stack (node h (pick ts is)) a (subst (IsPartOfStack s.frames) e (parts.only p m)) c
+
+  compared_of_stack : (p : ℕ) (h : Head) (is : List ℕ) (a : Atom) → IsMarked marks p → IsNode ts p h is → (w : Bool) → is_wide h (pick ts is) ≡ w → Contains (comparison_atoms ts ds h (pick ts is)) a → IsOwn a
+  compared_of_stack p h is a m n true e c = inr (wide_compares p h is a m n e c)
+  compared_of_stack p h is a m n false e c =
+      inl (own_there p h is a m n.tree (Contains-append_right (truth_atom ts ds (node h (pick ts is))) (early_atoms ts ds h (pick ts is)) a (subst (λ xs. Contains xs a) (sym (early_unless_wide ts ds h (pick ts is) e)) c)))
+
+  pub of_stack : (a : Atom) → IsAtomOfPart s marks a → IsOwn a
   of_stack a o =
       let us = pick ts o.arguments in
       let tree : tree_at ts o.place ≡ node o.head us = o.term.tree in
       let all = part_related ts ds Holds Inside held compares rows o.head o.place o.arguments o.term.within o.term.arguments tree
       (subst (Holds (map (atom_of ts) (truth_by_sort (sort_of ds ts o.place) o.place))) (truths_are o.place o.term.within) (All-contains_itself (map (atom_of ts) (truth_by_sort (sort_of ds ts o.place) o.place)))) in
       let here = All-contains (Contains (truth_atom ts ds (tree_at ts o.place) ++ comparison_atoms ts ds o.head us)) (map (atom_of ts) (part_atoms s o.place o.head o.arguments)) a all o.among in
-      in_stack (node o.head us) a (subst (IsPartOfStack s.frames) tree (parts.only o.place o.marked)) (subst (λ xs. Contains xs a) (own_is o.place o.head us tree) here)
+      elim (Contains-append_cases (truth_atom ts ds (tree_at ts o.place)) (comparison_atoms ts ds o.head us) a here) [
+        | inl truth ↦
+            inl (own_there o.place o.head o.arguments a o.marked tree
+            (Contains-append_left (truth_atom ts ds (node o.head us)) (early_atoms ts ds o.head us) a (subst (λ t. Contains (truth_atom ts ds t) a) tree truth)))
+        | inr compared ↦ compared_of_stack o.place o.head o.arguments a o.marked o.term (is_wide o.head us) refl compared
+      ]
 
   -- ---- each of the stack's is numbered, but for equalities of terms of a sort that isn't Int
 
@@ -205,45 +241,29 @@ module _ (s : Stack) (marks : List Bool) (atoms : List Atom) (lawful : IsLawful 
     single = λ i j h g. subst (Gives (map (atom_of ts) (alone_by_sort (sort_of ds ts i) i j))) (pair_stated i j h g) (alone_given (sort_of ds ts i) i j refl);
   }
 
-  -- of two elements the definition has an equality alone
-  apart_stated : (i j n : ℕ) → sort_of ds ts i ≡ Some (Free n) → All (IsSameOfNoInts s) (stated (sort_of ds ts i) i j)
-  apart_stated i j n e =
-      subst (λ (r : Option Sort). All (IsSameOfNoInts s) (stated r i j)) (sym e)
-      (All-cons (IsSameOfNoInts s) (SameAtom i j) [] (record { left = i; right = j; sort = Free n; atom = refl; has_sort = e; no_int = no_free n }) (All-nil (IsSameOfNoInts s)))
-
-  first_apart : (i : ℕ) (js : List ℕ) → Inside i → All Inside js → IsElement s i → All (IsSameOfNoInts s) (of_first_with (pair_atoms ts ds) (tree_at ts i) (pick ts js))
-  first_apart i [] h g e = All-nil (IsSameOfNoInts s)
-  first_apart i (j ∷ js) h g e =
-      All-append (IsSameOfNoInts s) (pair_atoms ts ds (tree_at ts i) (tree_at ts j)) (of_first_with (pair_atoms ts ds) (tree_at ts i) (pick ts js))
-      (subst (All (IsSameOfNoInts s)) (pair_stated i j h (All-head Inside j js g)) (apart_stated i j e.sort e.has)) (first_apart i js h (All-tail Inside j js g) e)
-
-  two_apart : (is : List ℕ) → All Inside is → All (IsElement s) is → All (IsSameOfNoInts s) (of_pairs (pair_atoms ts ds) (pick ts is))
-  two_apart [] g es = All-nil (IsSameOfNoInts s)
-  two_apart (i ∷ is) g es =
-      All-append (IsSameOfNoInts s) (of_first_with (pair_atoms ts ds) (tree_at ts i) (pick ts is)) (of_pairs (pair_atoms ts ds) (pick ts is))
-      (first_apart i is (All-head Inside i is g) (All-tail Inside i is g) (All-head (IsElement s) i is es)) (two_apart is (All-tail Inside i is g) (All-tail (IsElement s) i is es))
-
-  distinct_apart : (p : ℕ) (h : Head) (is : List ℕ) → All Inside is → IsAssertedDistinct s p h is → All (IsSameOfNoInts s) (comparison_atoms ts ds h (pick ts is))
-  distinct_apart p h is g alone = subst (λ (k : Head). All (IsSameOfNoInts s) (comparison_atoms ts ds k (pick ts is))) (sym alone.operator) (two_apart is g alone.elements)
-
   truth_numbered : (p : ℕ) (h : Head) (is : List ℕ) (a : Atom) → IsMarked marks p → IsNode ts p h is → Contains (truth_atom ts ds (node h (pick ts is))) a → Contains atoms a
   truth_numbered p h is a m n c =
       let all : All (Contains atoms) (truth_atom ts ds (tree_at ts p)) = subst (All (Contains atoms)) (truths_are p n.within) (are.each p h is m n).truth in
       All-contains (Contains atoms) (truth_atom ts ds (node h (pick ts is))) a (subst (λ t. All (Contains atoms) (truth_atom ts ds t)) n.tree all) c
 
-  compared_numbered : (p : ℕ) (h : Head) (is : List ℕ) (a : Atom) → IsMarked marks p → IsNode ts p h is → Contains (comparison_atoms ts ds h (pick ts is)) a → Numbered atoms a
-  compared_numbered p h is a m n c = elim (are.each p h is m n).compared [
-    | inl alone ↦ inr (All-contains (IsSameOfNoInts s) (comparison_atoms ts ds h (pick ts is)) a (distinct_apart p h is n.arguments alone) c)
+  -- of an asserted wide `distinct` the stack has no such atom
+  compared_numbered : (p : ℕ) (h : Head) (is : List ℕ) (a : Atom) → IsMarked marks p → IsNode ts p h is → is_wide h (pick ts is) ≡ false → Contains (comparison_atoms ts ds h (pick ts is)) a → Numbered atoms a
+  compared_numbered p h is a m n narrow c = elim (are.each p h is m n).compared [
+    | inl alone ↦ absurd (let both : true ≡ false = sym (many_are_wide ts h is alone.operator alone.wide) ∙ narrow in cc)
     | inr all ↦
         let xs = map (atom_of ts) (compared_by_head (sort_of ds ts) (place_divisor ts is) h p is) in
         more_numbered xs atoms a (λ b d. All-contains (Contains atoms) xs b all d)
         (All-contains (Numbered xs) (comparison_atoms ts ds h (pick ts is)) a (head_related ts ds Gives Inside given compares rows h p is n.within n.arguments n.tree) c)
   ]
 
+  early_numbered : (p : ℕ) (h : Head) (is : List ℕ) (a : Atom) → IsMarked marks p → IsNode ts p h is → (w : Bool) → is_wide h (pick ts is) ≡ w → Contains (early_atoms ts ds h (pick ts is)) a → Numbered atoms a
+  early_numbered p h is a m n true e c = absurd (let k : Contains [] a = subst (λ xs. Contains xs a) (none_if_wide ts ds h (pick ts is) e) c in omega (arith, k.1))
+  early_numbered p h is a m n false e c = compared_numbered p h is a m n e (subst (λ xs. Contains xs a) (early_unless_wide ts ds h (pick ts is) e) c)
+
   node_numbered : (p : ℕ) (h : Head) (is : List ℕ) (a : Atom) → IsMarked marks p → IsNode ts p h is → Contains (own ts ds (node h (pick ts is))) a → Numbered atoms a
-  node_numbered p h is a m n c = elim (Contains-append_cases (truth_atom ts ds (node h (pick ts is))) (comparison_atoms ts ds h (pick ts is)) a c) [
+  node_numbered p h is a m n c = elim (Contains-append_cases (truth_atom ts ds (node h (pick ts is))) (early_atoms ts ds h (pick ts is)) a c) [
     | inl truth ↦ inl (truth_numbered p h is a m n truth)
-    | inr compared ↦ compared_numbered p h is a m n compared
+    | inr early ↦ early_numbered p h is a m n (is_wide h (pick ts is)) refl early
   ]
 
   tree_numbered : (u : Tree) (a : Atom) → IsPartOfStack s.frames u → Contains (own ts ds u) a → Numbered atoms a

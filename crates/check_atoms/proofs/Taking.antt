@@ -21,7 +21,7 @@ use Rattle.check_atoms.proofs.StackAtomsPlaces.{stack_parts}
 
 -- ---- the sort of a part
 
-its_sort : (s : Stack) (u : Tree) → IsLawful s → IsPartOfStack s.frames u → HasSort (signature_of s.frames) u
+pub its_sort : (s : Stack) (u : Tree) → IsLawful s → IsPartOfStack s.frames u → HasSort (signature_of s.frames) u
 its_sort s u law p =
     part_has_sort (signature_of s.frames) u p.assertion p.part
     (Truths, All-contains (λ (t : Tree). tree_sort (signature_of s.frames) t ≡ Some Truths) (assertions_of s.frames) p.assertion law.truths p.asserted)

@@ -1,37 +1,37 @@
 //! Which wide `distinct`s are assertions.
-ghost use Rattle.std.specs.Prelude.{◌≡◌, ◌≢◌, ℕ, ◌<◌, length, true, false, All, Contains};
-ghost use Rattle.smt_meaning.specs.declared.values.Sort.TheVariants.{Free};
+ghost use Rattle.std.specs.Prelude.{◌≡◌, ◌≢◌, ◌<◌, length, true, false, All, Contains};
+ghost use Rattle.smt_meaning.specs.declared.values.Sort.TheVariants.{Bool as Truths};
 ghost use Rattle.smt_meaning.specs.Term.{tree_at};
 ghost use Rattle.smt_meaning.specs.Stack.{signature_of, assertions_of};
 ghost use Rattle.scope_stack.specs.declared.answers.Assertion.{Assertion as AssertionOf};
 ghost use Rattle.check_atoms.specs.PartAtoms.{sort_of, sort_in};
-ghost use Rattle.check_atoms.specs.AssertedDistinct.{IsListedElement, IsAssertedDistinct};
+ghost use Rattle.check_atoms.specs.AssertedDistinct.{IsListedNoBool, IsAssertedDistinct};
 
 use scope_stack::{Assertion, Stack};
 use smt_meaning::{Head, Operator, Sort, TermId};
 
-/// Of so many arguments of a `distinct` each two have an atom, wherever it stands.
-pub const MOST_PAIRED: usize = 200;
+/// Of so many arguments of a `distinct` each two are compared by atoms, wherever it stands.
+pub const MOST_COMPARED: usize = 200;
 
-/// Whether a sort is a declared one.
-fn is_free(sort: Sort) -> bool
-    ensures yes { result ≡ true → (n : ℕ) × (sort ≡ Free n) }
-    ensures no { result ≡ false → (n : ℕ) → sort ≢ Free n }
+/// Whether a sort is Bool.
+fn is_bool(sort: Sort) -> bool
+    ensures yes { result ≡ true → sort ≡ Truths }
+    ensures no { result ≡ false → sort ≢ Truths }
 {
     match sort {
-        Sort::Free(_) => true,
-        Sort::Bool | Sort::Int => false,
+        Sort::Bool => true,
+        Sort::Int | Sort::Free(_) => false,
     }
 }
 
-/// Whether the terms at these places are of declared sorts.
-fn are_elements(sorts: &[Sort], places: &[TermId]) -> bool
+/// Whether none of the terms at these places is a Bool.
+fn are_no_bools(sorts: &[Sort], places: &[TermId]) -> bool
     requires { All (λ i. i < length sorts.now) places.now }
-    ensures yes { result ≡ true → All (IsListedElement sorts.now) places.now }
-    ensures no { result ≡ false → All (IsListedElement sorts.now) places.now → ⊥ }
+    ensures yes { result ≡ true → All (IsListedNoBool sorts.now) places.now }
+    ensures no { result ≡ false → All (IsListedNoBool sorts.now) places.now → ⊥ }
 {
     for place in places {
-        if !is_free(sorts[*place as usize]) {
+        if is_bool(sorts[*place as usize]) {
             return false;
         }
     }
@@ -61,7 +61,7 @@ fn is_asserted(stack: &Stack, place: TermId) -> bool
     has_term(stack.assertions(), place)
 }
 
-/// Whether the term at a place, with this head and the arguments at these places, is a wide `distinct` of elements and an assertion. The arguments have the listed sorts.
+/// Whether the term at a place, with this head and the arguments at these places, is a wide `distinct` of terms that are no Bools, and an assertion. The arguments have the listed sorts.
 /// It looks at all assertions where the `distinct` is wide.
 pub fn is_asserted_distinct(
     stack: &Stack,
@@ -79,10 +79,10 @@ pub fn is_asserted_distinct(
     if head != Head::Theory(Operator::Distinct) {
         return false;
     }
-    if arguments.len() <= MOST_PAIRED {
+    if arguments.len() <= MOST_COMPARED {
         return false;
     }
-    if !are_elements(sorts, arguments) {
+    if !are_no_bools(sorts, arguments) {
         return false;
     }
     is_asserted(stack, place)

@@ -36,7 +36,7 @@ mod parts;
 mod refusal;
 mod stack_atoms;
 
-pub use asserted::{MOST_PAIRED, is_asserted_distinct};
+pub use asserted::{MOST_COMPARED, is_asserted_distinct};
 pub use atoms::{CheckAtoms, numbered};
 pub use graph::Triangle;
 pub use laws::{

@@ -1,4 +1,4 @@
-//! Wide `distinct`s of elements that are assertions: no two of their arguments have an atom.
+//! Wide `distinct`s that are assertions: no two of their arguments have an atom.
 ghost use Rattle.std.specs.Prelude.{◌≡◌, ◌+◌, ◌<◌, length, All, IfOk, IfSome};
 ghost use Rattle.search_port.specs.Calls.{IsConflict};
 ghost use Rattle.congruence.specs.Recorded.{IsRecorded};
@@ -9,7 +9,7 @@ ghost use Rattle.odd_parts.specs.Distinct.{IsDistinct, IsToldTrue, AreEqualAmong
 
 use crate::read::{Said, said_of};
 use atom_form::AtomNumbers;
-use check_atoms::MOST_PAIRED;
+use check_atoms::MOST_COMPARED;
 use closure_log::ClosureLog;
 use congruence::{Congruence, Explanation, add_reasons, lemma_of};
 use literals::Literal;
@@ -20,7 +20,7 @@ use smt_meaning::{Head, Operator, TermId};
 use std::alloc::{AllocError, Global};
 
 /// The arguments of a term that is a `distinct`.
-fn distinct_arguments<'s>(stack: &'s Stack, place: TermId) -> Option<&'s [TermId]>
+pub fn distinct_arguments<'s>(stack: &'s Stack, place: TermId) -> Option<&'s [TermId]>
     ensures { IfSome result (λ is. IsDistinct stack.now.trees place is.now) }
 {
     let terms = stack.terms();
@@ -37,7 +37,7 @@ fn distinct_arguments<'s>(stack: &'s Stack, place: TermId) -> Option<&'s [TermId
 /// Whether a term is a `distinct` whose arguments have no atoms for each two where it is an assertion.
 fn is_wide(stack: &Stack, place: TermId) -> bool {
     match distinct_arguments(stack, place) {
-        Some(arguments) => arguments.len() > MOST_PAIRED,
+        Some(arguments) => arguments.len() > MOST_COMPARED,
         None => false,
     }
 }

@@ -7,8 +7,9 @@
 //! `wide_xors`, `broken`: all such parts of a stack; a conflict where the truths told of one and of
 //! its arguments aren't what `xor` makes of them. Where there is none, each has its operator's value.
 //!
-//! `asserted_distincts`, `broken_distinct`: the assertions that are a wide `distinct`; a conflict
-//! where one is told to be true of which the closure says that two arguments are equal.
+//! `asserted_distincts`, `distinct_arguments`, `broken_distinct`: the assertions that are a wide
+//! `distinct`, and what they tell apart; a conflict where one is told to be true of which the closure
+//! says that two arguments are equal.
 #![tactic(auto)]
 
 mod clause;
@@ -18,6 +19,6 @@ mod list;
 mod read;
 
 pub use clause::{broken, pressing};
-pub use distinct::{asserted_distincts, broken_distinct};
+pub use distinct::{asserted_distincts, broken_distinct, distinct_arguments};
 pub use laws::odd_clause_is_true;
 pub use list::{Watches, wide_xors};

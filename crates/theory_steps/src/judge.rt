@@ -16,7 +16,7 @@ use crate::held::{Met, follow, leads, meet_wholes};
 use crate::implied::follow_rows;
 use crate::model::{Found, find_model};
 use crate::pairs::{go_on_with_pair, next_pair};
-use crate::parts::{Parts, Progress};
+use crate::parts::{Pair, Parts, Progress};
 use crate::pivots::meet_within;
 use crate::step::{Step, stays, stop_past, stop_seeing};
 use crate::unfit::stop_unfit;
@@ -128,6 +128,37 @@ fn separate(
     }
 }
 
+/// Goes on with a pair of Ints of one value that a wide `distinct` tells apart.
+fn go_on_apart(parts: &Parts<'_>, progress: &mut Progress, budget: &mut Budget) -> Step
+    requires parts { AreParts parts.now }
+    requires under_way { IsUnderWay parts.now progress.old }
+    ensures went { Went parts.now progress.old progress.new budget.old budget.new }
+    ensures step { IsStep (state parts.now progress.new) budget.old budget.new result }
+{
+    match next_pair(parts, &mut progress.pairs, &progress.atoms) {
+        Some(pair) => go_on_with_pair(parts, progress, budget, pair),
+        None => stop_unfit(parts, progress, budget),
+    }
+}
+
+/// Goes on after Ints that a wide `distinct` tells apart were found to have one value. No pairs are left from before, since each gets its number between decisions.
+fn tell_apart(
+    parts: &Parts<'_>,
+    progress: &mut Progress,
+    budget: &mut Budget,
+    pairs: Vec<Pair>,
+) -> Checked
+    requires parts { AreParts parts.now }
+    requires under_way { IsUnderWay parts.now progress.old }
+    ensures went { Went parts.now progress.old progress.new budget.old budget.new }
+    ensures found { CheckedBy (state parts.now progress.new) budget.old budget.new result }
+{
+    progress.pairs = pairs;
+    stays(parts, progress, budget);
+    let step = go_on_apart(parts, progress, budget);
+    checked(step)
+}
+
 /// Looks for a model, where the values that meet all bounds are whole.
 fn try_model(parts: &Parts<'_>, progress: &mut Progress, budget: &mut Budget) -> Checked
     requires parts { AreParts parts.now }
@@ -142,10 +173,12 @@ fn try_model(parts: &Parts<'_>, progress: &mut Progress, budget: &mut Budget) ->
         &parts.marks,
         &progress.atoms,
         &progress.held,
+        &parts.wide_distincts,
     );
     match found {
         Ok(Found::Fine(tables)) => Checked::Fine(tables),
         Ok(Found::Apart(clash)) => separate(parts, progress, budget, clash),
+        Ok(Found::Equal(pairs)) => tell_apart(parts, progress, budget, pairs),
         Ok(Found::Unfit) => {
             let step = stop_unfit(parts, progress, budget);
             checked(step)
@@ -216,11 +249,13 @@ fn judge_numbers(parts: &Parts<'_>, progress: &mut Progress, budget: &mut Budget
         &parts.marks,
         &progress.atoms,
         &progress.held,
+        &parts.wide_distincts,
     );
     stays(parts, progress, budget);
     match found {
         Ok(Found::Fine(tables)) => Checked::Fine(tables),
         Ok(Found::Apart(clash)) => separate(parts, progress, budget, clash),
+        Ok(Found::Equal(pairs)) => tell_apart(parts, progress, budget, pairs),
         _ => {
             progress.held.looked.differences.give_up();
             stays(parts, progress, budget);

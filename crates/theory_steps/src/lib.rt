@@ -7,8 +7,8 @@
 //! in what was told, as is what a row shows of whole numbers before a branch.
 //!
 //! `look`, `check`: a new atom costs a unit: a bound below a value that isn't whole; the equality
-//! of two Ints that two applications differ by, after both bounds of the difference, to which
-//! clauses tie it. A bound of the empty sum comes with its truth value.
+//! of two Ints that two applications differ by, or that have one value where a wide `distinct` tells
+//! them apart, after both bounds of the difference, to which clauses tie it. A bound of the empty sum comes with its truth value.
 //!
 //! Where the budget keeps lines, a pivot of the simplex method costs a unit too, which shows its
 //! line. No more pivots are made than units may be spent, and a call that needs another ends with

@@ -7,14 +7,16 @@ ghost use Rattle.model_build.specs.Parts.{AreSortedParts};
 ghost use Rattle.theory_steps.specs.Numbering.{IsWhole};
 ghost use Rattle.theory_steps.specs.Found.{IsFound};
 
+use crate::distincts::equal_pairs;
 use crate::held::{Held, leads};
+use crate::parts::Pair;
 use crate::values::{Untied, values_of};
 use atom_form::AtomNumbers;
 use exact_model::{Verdict, tables_make_true};
 use model_build::{Clash, Given, Modelled, PlaceValues, given_values, model_from};
 use scope_stack::Stack;
 use smt_laws::flat_says_the_same;
-use smt_meaning::Interp;
+use smt_meaning::{Interp, TermId};
 use std::alloc::{AllocError, Global};
 
 /// What is found where the values meet all bounds.
@@ -24,6 +26,8 @@ pub(crate) enum Found {
     Fine(Interp),
     /// Two applications that are given different values, while no table can tell their arguments apart.
     Apart(Clash),
+    /// Pairs of Ints that have one value, and that a wide `distinct` tells apart.
+    Equal(Vec<Pair>),
     /// The values make a literal false, or leave the range.
     Unfit,
 }
@@ -110,13 +114,14 @@ fn evaluate(
     }
 }
 
-/// Tables that make each literal told true, if the values give them. Numbers of differences with which a value is past the range give none, so that those of the rows are tried. An `Err` is for want of memory.
+/// Tables that make each literal told true, if the values give them and tell apart what wide `distinct`s do. Numbers of differences with which a value is past the range give none, so that those of the rows are tried. An `Err` is for want of memory.
 pub(crate) fn find_model(
     alloc: Global,
     stack: &Stack,
     marks: &[bool],
     atoms: &AtomNumbers,
     held: &Held,
+    wide_distincts: &[TermId],
 ) -> Result<Found, AllocError>
     requires parts { AreSortedParts (signature_of stack.now.frames) stack.now.trees marks.now }
     requires whole { IsWhole stack.now marks.now atoms.now held.now }
@@ -125,6 +130,10 @@ pub(crate) fn find_model(
     let given = first_given(alloc, stack, marks, atoms, held)?;
     if leads(held) && leaves_range(&given) {
         return Ok(Found::Unfit);
+    }
+    let equal = equal_pairs(alloc, stack, wide_distincts, &given)?;
+    if !equal.is_empty() {
+        return Ok(Found::Equal(equal));
     }
     match model_from(alloc, stack, &given)? {
         Modelled::Clash(clash) => Ok(Found::Apart(clash)),

@@ -19,7 +19,7 @@ pub struct Parts<'s> {
     pub readable: Vec<bool>,
     /// The parts that are wide `xor`s, which have no first clauses.
     pub wide_xors: Vec<TermId>,
-    /// The assertions that are a wide `distinct` of elements, whose arguments have no atoms for each two.
+    /// The assertions that are a wide `distinct`, whose arguments have no atoms for each two.
     pub wide_distincts: Vec<TermId>,
     pub guide: Guide,
 }

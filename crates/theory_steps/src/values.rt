@@ -86,11 +86,11 @@ fn untied_number(untied: Untied, class: u32) -> i128 {
 
 /// The value of a term's variable where it stands in a bound and the value is whole. Where differences lead, it is the number that their graph has.
 fn tied_number(held: &Held, stands: bool, place: u32) -> Option<i128> {
-    if leads(held) {
-        return held.looked.differences.number(place);
-    }
     if !stands {
         return None;
+    }
+    if leads(held) {
+        return held.looked.differences.number(place);
     }
     match held.bounds.value(place) {
         Some(value) if value.is_whole() => Some(value.numerator()),

@@ -19,7 +19,7 @@ use Rattle.smt_meaning.specs.Signature.{tree_sort, tree_sorts, with_sorts, cons_
 use Rattle.smt_meaning.specs.Interpretation.{has_sort, Interprets}
 use Rattle.smt_meaning.specs.Linear.{Form, linear_forms, head_folding_fits, folding_fits, foldings_fit}
 use Rattle.smt_meaning.specs.Comparisons.{pair_fits, same_pair_fits, neighbours_fit_from, neighbours_fit, each_fits_with, pairs_fit, branches_fit, comparison_fits, compared_fits}
-use Rattle.smt_meaning.specs.Atoms.{pair_atoms, at_most_atom, of_neighbours_from, of_neighbours, of_first_with, of_pairs, of_branches, comparison_atoms, truth_atom, atoms_of, atoms_of_all}
+use Rattle.smt_meaning.specs.Atoms.{pair_atoms, at_most_atom, of_neighbours_from, of_neighbours, of_first_with, of_pairs, of_branches, comparison_atoms, is_wide, early_atoms, truth_atom, atoms_of, atoms_of_all}
 use Rattle.smt_meaning.specs.Kinds.{has_no_int, have_no_int}
 use Rattle.smt_laws.specs.TermLaws.{ValueHasItsSort}
 
@@ -294,12 +294,16 @@ module _ (ts : List Tree) (ds : List Declaration) where
   comparison_is h us p q (choice e) =
       subst (λ (x : Head). All IsNoBound (comparison_atoms ts ds x us)) (sym e) (of_branches_is (node (Theory Ite) us) us (subst (λ (x : Head). has_no_int ds (node x us) ≡ true) e p))
 
+  unless : (b : Bool) (xs : List Atom) → All IsNoBound xs → All IsNoBound (if b then [] else xs)
+  unless true xs h = All-nil IsNoBound
+  unless false xs h = h
+
   mutual
     pub atoms_are : (t : Tree) → IsFree ds t → All IsNoBound (atoms_of ts ds t)
     atoms_are (node h us) f =
-        All-append IsNoBound (atoms_of_all ts ds us) (truth_atom ts ds (node h us) ++ comparison_atoms ts ds h us) (all_atoms_are us (arguments ds h us f))
-        (All-append IsNoBound (truth_atom ts ds (node h us)) (comparison_atoms ts ds h us) (truth_is (is_bool (tree_sort ds (node h us))) (place_of (node h us) ts))
-        (comparison_is h us f.free (arguments ds h us f).free (kind_of ds h us f)))
+        All-append IsNoBound (atoms_of_all ts ds us) (truth_atom ts ds (node h us) ++ early_atoms ts ds h us) (all_atoms_are us (arguments ds h us f))
+        (All-append IsNoBound (truth_atom ts ds (node h us)) (early_atoms ts ds h us) (truth_is (is_bool (tree_sort ds (node h us))) (place_of (node h us) ts))
+        (unless (is_wide h us) (comparison_atoms ts ds h us) (comparison_is h us f.free (arguments ds h us f).free (kind_of ds h us f))))
 
     all_atoms_are : (us : Trees) → AreFree ds us → All IsNoBound (atoms_of_all ts ds us)
     all_atoms_are none f = All-nil IsNoBound

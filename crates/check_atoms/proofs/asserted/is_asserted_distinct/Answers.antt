@@ -1,24 +1,24 @@
 use Rattle.std.proofs.Common.{rules, ◌≡◌, ◌<◌, true, false, length}
 use Rattle.smt_meaning.specs.declared.terms.Operator.TheVariants.{Distinct}
 use Rattle.smt_meaning.specs.declared.terms.Head.TheVariants.{Theory}
-use Rattle.check_atoms.specs.AssertedDistinct.{most_paired}
+use Rattle.smt_meaning.specs.Atoms.{most_compared}
 use Rattle.check_atoms.proofs.AssertedTerms.{are_of_stack, are_listed}
 use Rattle.check_atoms.proofs.asserted.is_asserted_distinct.Goals as goal
 
-pub returns-then-not-are_elements-clause-no : goal.returns-then-not-are_elements-clause-no
-returns-then-not-are_elements-clause-no c = λ e h.
-    let none : c.are_elements.result ≡ false = search rules in
-    c.are_elements.ensures.no none (are_listed c.args.stack.now c.args.sorts.now c.args.arguments.now c.requires.sorted h.elements)
+pub returns-then-not-are_no_bools-clause-no : goal.returns-then-not-are_no_bools-clause-no
+returns-then-not-are_no_bools-clause-no c = λ e h.
+    let none : c.are_no_bools.result ≡ false = search rules in
+    c.are_no_bools.ensures.no none (are_listed c.args.stack.now c.args.sorts.now c.args.arguments.now c.requires.sorted h.no_bools)
 
 pub returns-clause-yes : goal.returns-clause-yes
 returns-clause-yes c = λ e.
-    let all : c.are_elements.result ≡ true = search rules in
+    let all : c.are_no_bools.result ≡ true = search rules in
     let distinct : c.args.head ≡ Theory Distinct = search rules in
-    let wide : most_paired < length c.args.arguments.now = search rules in
+    let wide : most_compared < length c.args.arguments.now = search rules in
     record {
       operator = distinct;
       wide = wide;
-      elements = are_of_stack c.args.stack.now c.args.sorts.now c.args.arguments.now c.requires.sorted (c.are_elements.ensures.yes all);
+      no_bools = are_of_stack c.args.stack.now c.args.sorts.now c.args.arguments.now c.requires.sorted (c.are_no_bools.ensures.yes all);
       asserted = c.is_asserted.ensures.yes e;
     }
 
