@@ -1,5 +1,5 @@
 -- One branch more.
-use Rattle.std.proofs.Common.{List, [], ◌∷◌, ◌++◌, ℤ, inl, inr, subst}
+use Rattle.std.proofs.Common.{List, [], ◌∷◌, ◌++◌, inl, inr, subst}
 use Rattle.std.proofs.lemmas.List.{append-nil}
 use Rattle.fraction128.specs.declared.Summand.{Summand as GridSummand}
 use Rattle.fraction128.specs.declared.Line.{Line}

@@ -1,9 +1,9 @@
 -- What is said of a state, with the variables of the bounds.
-use Rattle.std.proofs.Common.{◌≡◌, ◌∙◌, List, [], ◌∷◌, ◌++◌, refl, sym, ap}
+use Rattle.std.proofs.Common.{◌≡◌, ◌∙◌, List, [], ◌∷◌, ◌++◌, ap}
 use Rattle.literals.specs.Signed.{Signed}
 use Rattle.search_port.specs.State.{TheoryState, Variables, IsPressing, IsMadeTrue}
 use Rattle.search_port.specs.Spending.{Spending}
-use Rattle.search_port.specs.Calls.{AreLemmas, AreNews, AssertedBy, CheckedBy, Goes, InferredBy, IsConflict, IsModelOf}
+use Rattle.search_port.specs.Calls.{AreLemmas, AreNews, AssertedBy, CheckedBy, Goes, InferredBy, IsConflict}
 use Rattle.search_port.specs.declared.budget.Lemma.{Lemma}
 use Rattle.search_port.specs.declared.budget.Cause.{Cause}
 use Rattle.search_port.specs.declared.budget.Cause.TheVariants.{Units, Memory, Cancelled}

@@ -21,6 +21,7 @@ use Rattle.smt_meaning.specs.CheckAtoms.{IsPartOfStack, IsIntPart, IsLeaf, Compa
 use Rattle.smt_meaning.specs.Ranges.{LeavesInPart, LeavesInPair}
 use Rattle.term_store.specs.Terms.{AreDifferent}
 use Rattle.term_store.proofs.PlaceLemmas.{place_of-is}
+use Rattle.search_port.specs.State.{IsInt}
 use Rattle.smt_laws.specs.Flat.{flat, SaysTheSame, FlatSaysTheSame}
 use Rattle.check_atoms.proofs.Marking.{part_of_part}
 use Rattle.check_atoms.specs.OfStack.{bound_terms}
@@ -55,10 +56,13 @@ module _ (flat_law : FlatSaysTheSame) (s : Stack) (marks : List Bool) (of_assert
       let of : IsPartOfStack s.frames (tree_at s.trees p) = of_assertions p marked in
       record { assertion = of.assertion; asserted = subst (λ (us : List Tree). Contains us of.assertion) (sym same.assertions) of.asserted; part = of.part }
 
+  int : (p : ℕ) → tree_sort (signature_of s.frames) (tree_at s.trees p) ≡ Some Ints → IsInt s.trees (flat s.frames) p
+  int p is_int = subst (λ (ds : List Declaration). tree_sort ds (tree_at s.trees p) ≡ Some Ints) (sym same.signature) is_int
+
   pub int_part : (p : ℕ) → p < length s.trees → is_marked marks p ≡ true → tree_sort (signature_of s.frames) (tree_at s.trees p) ≡ Some Ints → IsIntPart s.trees (flat s.frames) (tree_at s.trees p) p
-  int_part p within marked int = record {
+  int_part p within marked is_int = record {
     part = part p marked;
-    int = subst (λ (ds : List Declaration). tree_sort ds (tree_at s.trees p) ≡ Some Ints) (sym same.signature) int;
+    int = int p is_int;
     place_is = place_of-is (tree_at s.trees p) s.trees p different within refl;
   }
 
@@ -116,7 +120,7 @@ module _ (flat_law : FlatSaysTheSame) (s : Stack) (marks : List Bool) (of_assert
     same_of_check branches = compares branches (Same i j) (0, omega arith, refl)
 
     pub same_to_show : (branches : List Line) → IsToShow s branches (Same i j)
-    same_to_show branches = record { of_check = same_of_check branches; leaves = All-nil (IsLeaf s.trees (flat s.frames)) }
+    same_to_show branches = record { of_check = same_of_check branches; leaves = All-nil (IsLeaf s.trees (flat s.frames)); ints = (int i left.is_int, int j right.is_int) }
 
     pub low_of_check : (branches : List Line) → IsOfCheck s branches low
     low_of_check branches = compares branches low (1, omega arith, refl)

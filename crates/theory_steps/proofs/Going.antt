@@ -1,7 +1,7 @@
 -- What a call changes that contracts see.
 use Rattle.std.proofs.Common.{◌≡◌, ◌∙◌, ℕ, ◌<◌, ◌≤◌, true, false, List, [], ◌∷◌, ◌++◌, take, length, Contains, None, refl, sym, ap, ap₂, subst, arith}
 use Rattle.std.specs.Prelude.{Option, Some, IfSome}
-use Rattle.std.proofs.lemmas.List.{append-nil, length_push}
+use Rattle.std.proofs.lemmas.List.{append-nil, get_or_push, length_push}
 use Rattle.std.proofs.lemmas.List.Elements.{All-nil, All-cons, All-push, Contains-append_left}
 use Rattle.fraction128.specs.declared.Summand.{Summand as GridSummand}
 use Rattle.fraction128.specs.Lines.{basis_along, first_basis}
@@ -9,10 +9,11 @@ use Rattle.fraction128.specs.declared.Line.{Line}
 use Rattle.smt_meaning.specs.declared.reports.RangeSeen.{RangeSeen}
 use Rattle.literals.specs.Signed.{Signed}
 use Rattle.smt_meaning.specs.declared.clauses.Atom.{Atom}
+use Rattle.smt_meaning.specs.declared.clauses.Atom.TheVariants.{Truth}
 use Rattle.smt_meaning.specs.StackCommand.{Stack}
 use Rattle.smt_meaning.specs.CheckAtoms.{AreBranches, AreCheckSums, IsFirstAtom}
 use Rattle.smt_laws.specs.Flat.{flat}
-use Rattle.search_port.specs.State.{TheoryState, no_variables}
+use Rattle.search_port.specs.State.{TheoryState, ComparesInts, no_variables}
 use Rattle.search_port.specs.Spending.{Spending}
 use Rattle.search_port.specs.Calls.{Goes, IsNoPivot, IsTheoryUnit}
 use Rattle.search_port.specs.Pivots.{pivot_lines, KeepsPivots}
@@ -49,14 +50,14 @@ not_closed : false ≡ true → ⊥
 not_closed e = cc
 
 -- one atom more is numbered, and a unit is spent for it
-pub goes_one : (s : Stack) (table : List Atom) (a : Atom) (log : List Signed) (b c : Spending) (n : ℕ) → n ≡ length table → c ≡ record b { units = b.units ++ Numbered n ∷ [] } → length b.units < b.bound
+pub goes_one : (s : Stack) (table : List Atom) (a : Atom) (log : List Signed) (b c : Spending) (n : ℕ) → n ≡ length table → c ≡ record b { units = b.units ++ Numbered n ∷ [] } → length b.units < b.bound → ComparesInts s.trees (flat s.frames) a
     → Goes (state_of s table log) (state_of s (table ++ a ∷ []) log) b c
-goes_one s table a log b c n count is room = record {
+goes_one s table a log b c n count is room ints = record {
   grown = record { more = a ∷ []; is = refl; none = λ closed. absurd (not_closed closed); stays = λ closed. absurd (not_closed closed) };
   log = refl;
   added = Numbered n ∷ [];
   budget = is;
-  units = All-cons (IsTheoryUnit (state_of s table log).reading (state_of s (table ++ a ∷ []) log).reading) (Numbered n) [] (omega (arith, count), omega (arith, count, length_push table a)) (All-nil (IsTheoryUnit (state_of s table log).reading (state_of s (table ++ a ∷ []) log).reading));
+  units = All-cons (IsTheoryUnit (state_of s table log).reading (state_of s (table ++ a ∷ []) log).reading) (Numbered n) [] (omega (arith, count), omega (arith, count, length_push table a), subst (ComparesInts s.trees (flat s.frames)) (sym (get_or_push table a (Truth 0) n (sym count))) ints) (All-nil (IsTheoryUnit (state_of s table log).reading (state_of s (table ++ a ∷ []) log).reading));
   in_bound = omega arith;
   no_pivots = λ e. All-cons IsNoPivot (Numbered n) [] tt (All-nil IsNoPivot);
   numbered = ap (λ k. k ∷ []) count;
@@ -193,7 +194,7 @@ went_on p w b c n a atoms h u whole added log count spent room here grows to_sho
         subst (λ (o : Option ℕ). AreShown p.stack.now (column_sums h.bounds) w.branches w.seen (table_of o atoms.atoms)) (sym u.2) shown,
       ),
       subst (λ (o : Option ℕ). Goes (state_of p.stack.now (table_of o w.atoms.atoms) w.held.closure.log.items) (state_of p.stack.now (table_of o atoms.atoms) h.closure.log.items) b c) (sym u.2)
-          (subst (λ (t : TheoryState). Goes (state_of p.stack.now w.atoms.atoms w.held.closure.log.items) t b c) same (goes_one p.stack.now w.atoms.atoms a w.held.closure.log.items b c n count spent room)),
+          (subst (λ (t : TheoryState). Goes (state_of p.stack.now w.atoms.atoms w.held.closure.log.items) t b c) same (goes_one p.stack.now w.atoms.atoms a w.held.closure.log.items b c n count spent room to_show.ints)),
       subst (λ (o : Option ℕ). KeepsPivots (full_of p.stack.now o w.atoms.atoms w.held.closure.log.items w.held.bounds) (full_of p.stack.now o atoms.atoms h.closure.log.items h.bounds) b c) (sym u.2)
           (λ e x. let r = pivots_on w.atoms.atoms atoms.atoms front w.held.bounds h.bounds b.units c.units grows lines x.lines x.basis in record { lines = r.0; basis = r.1 }),
     )

@@ -1,6 +1,6 @@
 -- Pivots and bases where variables are added, values are moved, and pivots are made.
 use Rattle.std.specs.List.{range_with_len}
-use Rattle.std.proofs.Common.{◌≡◌, ◌≢◌, ◌∙◌, ℕ, ℤ, zero, suc, ◌+◌, ◌<◌, ◌≤◌, ◌==◌, Bool, true, false, if◌then◌else◌, List, [], ◌∷◌, ◌++◌, map, length, Contains, Option, Some, None, inl, inr, refl, sym, ap, ap₂, subst, arith}
+use Rattle.std.proofs.Common.{◌≡◌, ◌∙◌, ℕ, ℤ, zero, suc, ◌+◌, ◌<◌, ◌≤◌, Bool, true, false, if◌then◌else◌, List, [], ◌∷◌, ◌++◌, map, length, Contains, Option, Some, None, inl, inr, refl, sym, ap, ap₂, subst, arith}
 use Rattle.std.specs.Prelude.{slice_index_or}
 use Rattle.std.proofs.lemmas.Bool.{cases_lt}
 use Rattle.std.proofs.lemmas.List.{append-nil, length-map}
@@ -11,12 +11,10 @@ use Rattle.fraction128.specs.declared.Grid.{Grid}
 use Rattle.fraction128.specs.declared.Line.{Line}
 use Rattle.fraction128.specs.declared.Pending.{Pending}
 use Rattle.fraction128.specs.Grid.{Step, take, pivot, is_basic, any_crossed, next_step, search_step}
-use Rattle.fraction128.specs.Lines.{Bounding, IsPivotIn, HasBasis, first_basis, exchanged, basis_along, pivot_line}
+use Rattle.fraction128.specs.Lines.{Bounding, HasBasis, first_basis, exchanged, basis_along}
 use Rattle.smt_meaning.specs.declared.clauses.Atom.{Atom}
 use Rattle.smt_meaning.specs.CheckAtoms.{IsBoundOf}
-use Rattle.search_port.specs.State.{Reading, TheoryState, Variables}
-use Rattle.search_port.specs.Pivots.{pivot_lines, ArePivotsFrom, AreBasic, ArePivots}
-use Rattle.search_port.specs.declared.budget.Lemma.{Lemma}
+use Rattle.search_port.specs.Pivots.{pivot_lines, ArePivotsFrom, AreBasic}
 use Rattle.search_port.specs.declared.budget.Spent.{Spent}
 use Rattle.search_port.specs.declared.budget.Spent.TheVariants.{Learnt, Numbered, Pivot}
 use Rattle.search_port.proofs.Pivots.{along_at, along_append, bound_by, first_longer, pivots_append, pivots_by}

@@ -1,7 +1,7 @@
 -- Grids whose next step leaves the range, over the atoms of the check.
-use Rattle.std.proofs.Common.{◌≡◌, ◌≢◌, ◌∙◌, ℕ, ◌+◌, ◌<◌, List, [], ◌∷◌, ◌++◌, length, take, drop, ℤ, All, Contains, Some, inl, inr, refl, sym, subst, arith}
+use Rattle.std.proofs.Common.{◌≡◌, ◌≢◌, ℕ, ◌+◌, ◌<◌, List, [], ◌∷◌, ◌++◌, length, take, drop, ℤ, All, Contains, Some, inl, inr, refl, sym, subst, arith}
 use Rattle.std.specs.Prelude.{AllPairs, Bool, Option, None, IfSome}
-use Rattle.std.proofs.lemmas.List.Elements.{All-nil, All-cons, All-weaker, All-contains, Contains-push_cases, Contains-append_left, Contains-append_right}
+use Rattle.std.proofs.lemmas.List.Elements.{All-cons, All-weaker, All-contains, Contains-push_cases, Contains-append_left, Contains-append_right}
 use Rattle.std.proofs.lemmas.List.{take-append-drop}
 use Rattle.std.proofs.lemmas.Grind.{take_at_read}
 use Rattle.fraction128.specs.declared.Summand.{Summand as GridSummand}
@@ -18,7 +18,7 @@ use Rattle.smt_meaning.specs.CheckAtoms.{IsLeaf, told}
 use Rattle.smt_meaning.specs.Ranges.{IsOnAtom, LeavesInStep}
 use Rattle.smt_laws.specs.Flat.{flat}
 use Rattle.search_port.specs.State.{atom_at}
-use Rattle.bound_log.specs.Told.{State, column_sums}
+use Rattle.bound_log.specs.Told.{State}
 use Rattle.bound_log.specs.Columns.{IsColumnOf, AddsColumns}
 use Rattle.theory_steps.specs.declared.errors.BoundError.{BoundError}
 use Rattle.theory_steps.specs.declared.errors.BoundError.TheVariants.{Memory, Range}

@@ -1,5 +1,5 @@
 -- Pivots that are spent, and what follows them in a call.
-use Rattle.std.specs.Prelude.{All, Contains, Option, Some, None}
+use Rattle.std.specs.Prelude.{Contains, Option, Some, None}
 use Rattle.std.specs.List.{range_with_len}
 use Rattle.std.proofs.Common.{◌≡◌, ◌∙◌, ℕ, ◌+◌, ◌≤◌, Bool, true, false, List, [], ◌∷◌, ◌++◌, take, drop, min, length, append_assoc, refl, sym, ap, ap₂, subst, arith}
 use Rattle.std.proofs.lemmas.List.{append-nil, length-append, length-map, length-take, take_at, take-append-drop}

@@ -21,7 +21,7 @@ use Rattle.smt_meaning.specs.CheckAtoms.{IsFirstAtom, IsLeaf, WithBranch, WithBr
 use Rattle.smt_laws.specs.Flat.{flat}
 use Rattle.sum_bounds.specs.Clauses.{plain}
 use Rattle.bound_log.specs.Told.{State, column_sums}
-use Rattle.bound_log.specs.Columns.{IsColumnOf, IsLeafOf, IsSumOf}
+use Rattle.bound_log.specs.Columns.{IsColumnOf}
 use Rattle.theory_steps.specs.Columns.{bound_on, with_leaves, HasKnownColumns}
 use Rattle.theory_steps.specs.Errors.{IsSumIn}
 use Rattle.theory_steps.specs.Shown.{AreShown, IsOfCheck, IsOverLeaves, IsToShow}

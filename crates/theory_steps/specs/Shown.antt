@@ -12,6 +12,7 @@ use Rattle.smt_meaning.specs.StackCommand.{Stack}
 use Rattle.smt_meaning.specs.CheckAtoms.{IsPartOfStack, IsCheckAtom, IsLeaf, AreBranches, AreCheckSums, is_leaf}
 use Rattle.smt_meaning.specs.Ranges.{LeavesRange}
 use Rattle.smt_laws.specs.Flat.{flat}
+use Rattle.search_port.specs.State.{ComparesInts}
 use Rattle.check_atoms.specs.OfStack.{bound_terms}
 use Rattle.model_eval.specs.Walk.{is_marked}
 
@@ -39,10 +40,11 @@ pub record AreShown (s : Stack) (sums : List (List GridSummand)) (rows : List Li
   pub seen : IfSome left (IsLeft s sums rows)
   pub leaves : All (IsOverLeaves s) table
 
--- an atom that may get a number
+-- an atom that may get a number: an equality only if both its sides are Ints
 pub record IsToShow (s : Stack) (rows : List Line) (a : Atom) : Type 0 where
   pub of_check : IsOfCheck s rows a
   pub leaves : IsOverLeaves s a
+  pub ints : ComparesInts s.trees (flat s.frames) a
 
 -- a marked Int that is no numeral, sum, difference or product
 pub record IsMarkedLeaf (s : Stack) (marks : List Bool) (p : ℕ) : Type 0 where

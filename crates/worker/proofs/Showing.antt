@@ -32,7 +32,6 @@ use Rattle.search_port.specs.Pivots.{AreBasic, ArePivots, ArePivotsFrom, pivot_l
 use Rattle.search_port.specs.declared.shown.Showing.{Showing}
 use Rattle.search_port.specs.declared.budget.Spent.{Spent}
 use Rattle.search_port.specs.declared.budget.Spent.TheVariants.{Learnt, Numbered, Pivot}
-use Rattle.search_port.proofs.Forcing.{in_map}
 use Rattle.search_port.proofs.Pivots.{bound_by, pivots_by}
 use Rattle.smt_laws.specs.Flat.{flat, FlatSaysTheSame}
 use Rattle.check_atoms.specs.Laws.{IsSameOfNoInts}
@@ -40,7 +39,7 @@ use Rattle.first_clauses.specs.PartClausesFirst.{ForcesParts, IsAsserted, IsForc
 use Rattle.first_clauses.specs.CheckClausesFirst.{reading_of, IsFirst}
 use Rattle.cdcl_core.specs.Search.{literal_lists}
 use Rattle.cdcl_core.specs.Turns.{AreNew, IsShown, IsOfTheory, Searches}
-use Rattle.worker.specs.Shown.{HasStackAtoms, unit_of, IsOfNumbers, NumbersIntsAlone, ShowsUnits}
+use Rattle.worker.specs.Shown.{HasStackAtoms, unit_of, IsOfNumbers, ShowsUnits}
 use Rattle.worker.proofs.Lists.{Cut, cut, IsAfter, in_order, all_of, at_any, first_or_later, front_in, in_middle}
 use Rattle.worker.proofs.Numbers.{same_front}
 use Rattle.worker.proofs.SameStack.{check_atom_by, branches_by, range_by, sums_by}
@@ -185,7 +184,7 @@ of_numbers before after b c none shown = λ k d lt. one (get_or c.units k d) (al
   where
     one : (y : Spent) → IsShown after y → IsOfNumbers (length after.table) y
     one (Learnt d) h = all_of (λ (l : Signed). l.atom < length after.table) d.literals (λ l k. h.0.1.within l k)
-    one (Numbered n) h = h
+    one (Numbered n) h = h.0
     one (Pivot l) h = tt
 
 -- there is a limit where one of the units is none of those that there are without one
@@ -234,7 +233,7 @@ module _ (w : ℕ) (forgets : Bool) (of : IsOfWorker w forgets) (laws : Laws) (s
   are_pivots : is_unlimited limit ≡ false → ArePivots u c.units
   are_pivots counted = run.turns.pivots (budget.keeps ∙ ap not counted) (subst (λ (us : List Spent). ArePivots t us) (sym budget.units) (record { lines = tt; basis = basis }))
 
-  module _ (x : Showing) (shown : IsShowing (by_levels s u) x) (others : All (NumbersIntsAlone s) (map (unit_of u.reading.table (depth s.frames)) c.units)) where
+  module _ (x : Showing) (shown : IsShowing (by_levels s u) x) where
     last : IsLast s x.branches stored u.reading
     last = record {
       trees = trees_stay s t.reading u.reading begins run.turns.grown;
@@ -254,9 +253,8 @@ module _ (w : ℕ) (forgets : Bool) (of : IsOfWorker w forgets) (laws : Laws) (s
         let here : Contains c.units (Numbered n) = subst (λ us. Contains us (Numbered n)) (sym e) (in_middle before after (Numbered n)) in
         let order : IsAfter (length t.reading.table) n (numbers before) =
         in_order (numbers before) (numbers after) n (length t.reading.table) (length more) (sym (numbers_of_both before (Numbered n ∷ after)) ∙ ap numbers (sym e) ∙ numbers_are) in
-        newly_numbered w forgets of s x.branches stored u.reading last lawful (length t.reading.table) of_stack n order.from (All-contains (IsShown u.reading) c.units (Numbered n) shown_all here)
-        (All-contains (NumbersIntsAlone s) (map (unit_of u.reading.table (depth s.frames)) c.units) (unit_of u.reading.table (depth s.frames) (Numbered n)) others
-        (in_map (unit_of u.reading.table (depth s.frames)) c.units (Numbered n) here)) before
+        let is_shown : IsShown u.reading (Numbered n) = All-contains (IsShown u.reading) c.units (Numbered n) shown_all here in
+        newly_numbered w forgets of s x.branches stored u.reading last lawful (length t.reading.table) of_stack n order.from is_shown.0 laws.flatly is_shown.1 before
         (λ m among. All-contains (λ k. k < n) (numbers before) m order.greater (has_number before m among)) (depth s.frames)
     one_unit before after (Learnt d) e =
         let here : Contains c.units (Learnt d) = subst (λ us. Contains us (Learnt d)) (sym e) (in_middle before after (Learnt d)) in
@@ -285,12 +283,12 @@ module _ (w : ℕ) (forgets : Bool) (of : IsOfWorker w forgets) (laws : Laws) (s
         (subst (IsUnit s.trees s.frames u.variables.sums x.branches limit w (map (unit_of u.reading.table (depth s.frames)) r.front)) r.one_is (one_unit r.front r.back r.one r.is))
 
   pub shows_units : length c.units ≡ c.limit → ShowsUnits s limit w u c.units
-  shows_units spent x h others =
+  shows_units spent x h =
       let shown : IsShowing (by_levels s u) x = shown_by_levels laws.flatly s u x (trees_stay s t.reading u.reading begins run.turns.grown) (frames_stay s t.reading u.reading begins run.turns.grown) h in
       record {
         count = length-map c.units (unit_of u.reading.table (depth s.frames)) ∙ (spent ∙ (run.turns.limit ∙ budget.limit_is));
         sums = u.variables.sums;
         known = shown.sums;
         are_branches = shown.branches;
-        units = are_units x shown others;
+        units = are_units x shown;
       }

@@ -9,7 +9,7 @@ use Rattle.clause_store.specs.Stored.{Kept, Stored}
 use Rattle.fraction128.specs.declared.Line.{Line}
 use Rattle.smt_meaning.specs.declared.clauses.Atom.{Atom}
 use Rattle.smt_meaning.specs.declared.values.Sort.{Sort}
-use Rattle.smt_meaning.specs.declared.values.Sort.TheVariants.{Bool as Truths, Int as Ints, Free}
+use Rattle.smt_meaning.specs.declared.values.Sort.TheVariants.{Int as Ints}
 use Rattle.smt_meaning.specs.declared.clauses.Atom.TheVariants.{Truth, Same}
 use Rattle.smt_meaning.specs.declared.clauses.Literal.{Literal}
 use Rattle.smt_meaning.specs.declared.clauses.Clause.{Clause}
@@ -33,7 +33,7 @@ use Rattle.scope_stack.specs.Shown.{IsLawful}
 use Rattle.term_store.specs.Terms.{AreDifferent}
 use Rattle.term_store.proofs.PlaceLemmas.{place_of-is}
 use Rattle.conflict_learn.specs.Learning.{HaveOwnAtoms}
-use Rattle.search_port.specs.State.{Reading, atom_at, written}
+use Rattle.search_port.specs.State.{Reading, ComparesInts, atom_at, written}
 use Rattle.search_port.specs.Valid.{FollowsAt, FollowsAsWritten, IsOf}
 use Rattle.search_port.specs.Forcing.{numbered, ForcesByNumbers, ForcesInTurn, IsForcedBy}
 use Rattle.search_port.specs.Calls.{numbers}
@@ -261,7 +261,20 @@ module _ (w : ℕ) (forgets : Bool) (of : IsOfWorker w forgets) (s : Stack) (bra
   HasFirstNumber first a = (m : ℕ) × (m < first) × (atom_at q.table m ≡ a)
 
   module _ (first : ℕ) (of_stack : (a : Atom) → Contains (stack_atoms s.trees s.frames) a → HasFirstNumber first a ⊎ IsSameOfNoInts s a) (n : ℕ) (from : first ≤ n) (within : n < length q.table)
-      (other : IsSameOfNoInts s (atom_at q.table n) → ⊥) where
+      (flatly : FlatSaysTheSame) (ints : ComparesInts q.trees q.frames (atom_at q.table n)) where
+    is_int : (i j : ℕ) → atom_at q.table n ≡ Same i j → tree_sort (signature_of s.frames) (tree_at s.trees i) ≡ Some Ints
+    is_int i j e =
+        let by_stack : ComparesInts s.trees (flat s.frames) (atom_at q.table n) =
+        subst (λ (fs : List Frame). ComparesInts s.trees fs (atom_at q.table n)) last.frames (subst (λ (ts : List Tree). ComparesInts ts q.frames (atom_at q.table n)) last.trees ints) in
+        let here : ComparesInts s.trees (flat s.frames) (Same i j) = subst (ComparesInts s.trees (flat s.frames)) e by_stack in
+        subst (λ (ds : List Declaration). tree_sort ds (tree_at s.trees i) ≡ Some Ints) (flatly s.frames).signature here.0
+
+    of_integers : (i j : ℕ) (sort : Sort) → atom_at q.table n ≡ Same i j → tree_sort (signature_of s.frames) (tree_at s.trees i) ≡ Some sort → sort ≡ Ints
+    of_integers i j sort e f = let same : Some sort ≡ Some Ints = sym f ∙ is_int i j e in cc
+
+    other : IsSameOfNoInts s (atom_at q.table n) → ⊥
+    other h = h.no_int (of_integers h.left h.right h.sort h.atom h.has_sort)
+
     not_of_first : HasFirstNumber first (atom_at q.table n) → ⊥
     not_of_first h =
         let below : h.0 < first = h.1 in
@@ -270,11 +283,6 @@ module _ (w : ℕ) (forgets : Bool) (of : IsOfWorker w forgets) (s : Stack) (bra
 
     not_of_stack : Contains (stack_atoms s.trees s.frames) (atom_at q.table n) → ⊥
     not_of_stack h = elim (of_stack (atom_at q.table n) h) [ inl i ↦ not_of_first i | inr b ↦ other b ]
-
-    of_integers : (i j : ℕ) (sort : Sort) → atom_at q.table n ≡ Same i j → tree_sort (signature_of s.frames) (tree_at s.trees i) ≡ Some sort → sort ≡ Ints
-    of_integers i j (Free k) e f = absurd (other (record { left = i; right = j; sort = Free k; atom = e; has_sort = f; no_int = λ g. cc }))
-    of_integers i j Truths e f = absurd (other (record { left = i; right = j; sort = Truths; atom = e; has_sort = f; no_int = λ g. cc }))
-    of_integers i j Ints e f = refl
 
     not_earlier : (before : List Spent) → ((m : ℕ) → Contains before (Numbered m) → m < n) → (level : ℕ) → Contains (map (unit_of q.table level) before) (Shown.Numbered (atom_at q.table n)) → ⊥
     not_earlier before earlier level h =

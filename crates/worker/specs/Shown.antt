@@ -38,13 +38,7 @@ IsOfNumbers n (Learnt c) = All (λ (l : Signed). l.atom < n) c.literals
 IsOfNumbers n (Numbered k) = k < n
 IsOfNumbers n (Pivot l) = Unit {0}
 
--- an equality that the unit numbers is one of Ints
-abbrev pub NumbersIntsAlone : Stack → ShownUnit → Type 0
-NumbersIntsAlone s (Shown.Learnt c) = Unit {0}
-NumbersIntsAlone s (Shown.Numbered a) = IsSameOfNoInts s a → ⊥
-NumbersIntsAlone s (Shown.Pivot l) = Unit {0}
-
--- with what a theory in this state shows, this worker shows that these are all units that it may spend, their clauses at the level of the whole stack, if they number no equality but of Ints
+-- with what a theory in this state shows, this worker shows that these are all units that it may spend, their clauses at the level of the whole stack
 abbrev pub ShowsUnits : Stack → ℤ → ℕ → TheoryState → List Spent → Type 0
 ShowsUnits s limit w t us =
-    (x : Showing) → IsShowing t x → All (NumbersIntsAlone s) (map (unit_of t.reading.table (depth s.frames)) us) → Shows s.trees s.frames limit w x.branches (Units (map (unit_of t.reading.table (depth s.frames)) us))
+    (x : Showing) → IsShowing t x → Shows s.trees s.frames limit w x.branches (Units (map (unit_of t.reading.table (depth s.frames)) us))

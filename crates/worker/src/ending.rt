@@ -5,7 +5,6 @@ ghost use Rattle.smt_laws.specs.Flat.{flat};
 ghost use Rattle.worker.specs.Outcome.{IsReportOf, ReportsMemory};
 ghost use Rattle.worker.specs.Shown.{IsOfNumbers, ShowsUnits};
 
-use crate::equalities::some_numbers_no_ints;
 use crate::limits::has_limit;
 use crate::plain::nothing_leaves_range;
 use crate::report::out_of_memory;
@@ -16,8 +15,7 @@ use smt_laws::flat_says_the_same;
 use smt_meaning::{Cause, Report, Settings};
 use std::alloc::Global;
 
-/// The report where all units are spent: it shows them, and the branches of the theory. A unit that is an equality of terms of a sort that isn't Int may show nothing new, since the stack may have that atom;
-/// a theory of integers spends none of these. Without a limit and without an Int the room for more units is wanting, as it is where they can't be written out.
+/// The report where all units are spent: it shows them, and the branches of the theory. Without a limit and without an Int the room for more units is wanting, as it is where they can't be written out.
 pub(crate) fn all_spent<T: Shown>(
     alloc: Global,
     stack: &Stack,
@@ -42,9 +40,6 @@ pub(crate) fn all_spent<T: Shown>(
         Ok(units) => units,
         Err(_) => return out_of_memory(alloc, stack, settings, worker),
     };
-    if some_numbers_no_ints(stack.sorts(), units.as_slice()) {
-        return stopped(alloc, stack, settings, worker, theory);
-    }
     let shown = theory.show();
     Report {
         worker,

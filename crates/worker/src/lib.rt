@@ -35,7 +35,6 @@
 
 mod decide;
 mod ending;
-mod equalities;
 mod export;
 mod import;
 mod limits;

@@ -3,7 +3,6 @@ use Rattle.std.specs.Prelude.{Option, IfSome}
 use Rattle.fraction128.specs.declared.Summand.{Summand}
 use Rattle.literals.specs.Signed.{Signed}
 use Rattle.smt_meaning.specs.declared.reports.RangeSeen.{RangeSeen}
-use Rattle.search_port.specs.State.{TheoryState, Variables}
 use Rattle.search_port.specs.Calls.{AssertedBy}
 use Rattle.bound_log.specs.Told.{column_sums}
 use Rattle.closure_log.specs.Seen.{state_of}

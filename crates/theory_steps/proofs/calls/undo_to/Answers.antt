@@ -1,4 +1,4 @@
-use Rattle.std.proofs.Common.{◌≡◌, ◌∙◌, ℕ, List, take, sym, ap, subst}
+use Rattle.std.proofs.Common.{◌∙◌, ℕ, List, take, sym, ap, subst}
 use Rattle.std.specs.Prelude.{Option}
 use Rattle.fraction128.specs.declared.Summand.{Summand}
 use Rattle.literals.specs.Signed.{Signed}

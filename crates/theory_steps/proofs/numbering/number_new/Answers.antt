@@ -1,10 +1,7 @@
-use Rattle.std.proofs.Common.{rules, ◌≡◌, ◌++◌, ◌∷◌, [], List, refl, sym, subst, arith}
+use Rattle.std.proofs.Common.{rules, ◌≡◌, ◌++◌, ◌∷◌, [], refl, sym, subst, arith}
 use Rattle.std.specs.Prelude.{Option, IfSome}
 use Rattle.smt_meaning.specs.declared.reports.RangeSeen.{RangeSeen}
-use Rattle.smt_meaning.specs.declared.clauses.Atom.{Atom}
-use Rattle.smt_meaning.specs.StackCommand.{Stack}
-use Rattle.bound_log.specs.Told.{State, column_sums}
-use Rattle.theory_steps.specs.declared.parts.Progress.{Progress}
+use Rattle.bound_log.specs.Told.{column_sums}
 use Rattle.theory_steps.specs.Numbering.{atom_of}
 use Rattle.theory_steps.specs.Shown.{AreShown, IsLeft}
 use Rattle.theory_steps.proofs.Going.{shown_longer, shown_push, shown_seen, went_still, went_lost, went_on}
