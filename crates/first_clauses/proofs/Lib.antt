@@ -11,3 +11,5 @@ pub mod Deciding
 pub mod CheckClausesKeeping
 pub mod Forcing
 mod Sound
+pub mod Counting
+pub mod StepExamples

@@ -6,3 +6,4 @@ pub mod CheckClausesFirst
 pub mod Shapes
 pub mod Laws
 pub mod Kept
+pub mod Counted

@@ -1,5 +1,5 @@
 //! The clauses, in a store.
-ghost use Rattle.std.specs.Prelude.{◌≡◌, ◌<◌, length, All, Contains, IfOk, IfErr, OnOk};
+ghost use Rattle.std.specs.Prelude.{◌≡◌, ℕ, ◌+◌, ◌<◌, ◌≤◌, length, All, Contains, IfOk, IfErr, OnOk};
 ghost use Rattle.clause_store.specs.Stored.{Kept};
 ghost use Rattle.smt_meaning.specs.declared.clauses.Atom.TheVariants.{Truth};
 ghost use Rattle.smt_meaning.specs.Term.{tree_at};
@@ -11,6 +11,7 @@ ghost use Rattle.check_atoms.specs.Marks.{AreStackParts};
 ghost use Rattle.check_atoms.specs.OfStack.{AreCheckAtoms};
 ghost use Rattle.first_clauses.specs.PartClausesFirst.{IsAsserted, IsBegun};
 ghost use Rattle.first_clauses.specs.CheckClausesFirst.{reading_of, IsFirst, IsRefused, HasParts};
+ghost use Rattle.first_clauses.specs.Counted.{parts_below, pairs_below, AreBelow, TakesStepsBelow};
 
 use crate::error::FirstError;
 use crate::keep;
@@ -25,6 +26,9 @@ use scope_stack::{Assertion, Stack};
 use smt_laws::flat_says_the_same;
 use smt_meaning::{Sort, TermId};
 use std::alloc::{AllocError, Global};
+use std::marker::Brand;
+use std::sync::ledger::{Blank, Ledger};
+use term_store::Steps;
 
 /// Keeps the clause that a term is true that is asserted.
 fn keep_assertion(
@@ -70,6 +74,70 @@ fn keep_assertions(
     Ok(())
 }
 
+/// `check_clauses`, with a step for each part of the assertions and one for each pair that a `distinct` among them compares: never more than these, and where the parts
+/// have numbers up to `id`, never more than `id + 1` and the pairs. Where the clauses come, there is exactly one for each part and for each pair that they are over.
+pub fn check_clauses_counted<L: Ledger>(
+    alloc: Global,
+    stack: &Stack,
+    sorts: &[Sort],
+    parts: &mut CheckAtoms,
+    steps: &mut Steps<L>,
+) -> Result<Store, FirstError>
+    requires sorts { AreSorts (signature_of stack.now.frames) stack.now.trees (length stack.now.trees) sorts.now }
+    requires parts { AreStackParts stack.now parts.old.marks.items }
+    requires atoms { AreCheckAtoms stack.now parts.old.marks.items parts.old.atoms.atoms }
+    requires forms { AreForms stack.now.trees parts.old.forms }
+    ensures first { IfOk result (IsFirst stack.now parts.old.atoms.atoms) }
+    ensures parts { IfOk result (λ store. HasParts stack.now parts.old.marks.items sorts.now parts.old.atoms.atoms store.clauses) }
+    ensures refused { IfErr result (IsRefused stack.now parts.old.marks.items sorts.now parts.old.atoms.atoms) }
+    ensures same { parts.new ≡ parts.old }
+    ensures rise { steps.old ≤ steps.new }
+    ensures few { steps.new ≤ steps.old + parts_below parts.old.marks.items (length stack.now.trees) + pairs_below stack.now.trees parts.old.marks.items (length stack.now.trees) }
+    ensures below { (n : ℕ) → AreBelow parts.old.marks.items n → steps.new ≤ steps.old + n + pairs_below stack.now.trees parts.old.marks.items (length stack.now.trees) }
+    ensures counted { OnOk result (TakesStepsBelow stack.now parts.old.marks.items sorts.now (length stack.now.trees) steps.old steps.new) }
+{
+    stack.laws();
+    kept_parts_are_forced();
+    let mut store = Store::new(alloc);
+    store.reserve(parts.atoms.len() as u32)?;
+    keep_triangles(stack, &parts.atoms, &parts.triangles, &mut store)?;
+    keep_parts(
+        alloc,
+        stack,
+        &parts.marks,
+        sorts,
+        &mut parts.forms,
+        &parts.atoms,
+        &mut store,
+        steps,
+    )?;
+    keep_assertions(stack, stack.assertions(), &parts.atoms, &mut store)?;
+    Ok(store)
+}
+
+/// The clauses that a search begins with, their steps counted from 0.
+fn check_clauses_from<L: Ledger>(
+    alloc: Global,
+    stack: &Stack,
+    sorts: &[Sort],
+    parts: &mut CheckAtoms,
+    blank: Blank,
+) -> Result<Store, FirstError>
+    requires name { blank.name ≡ L.name }
+    requires blank_parts { blank.parts ≡ L.parts }
+    requires some { 0 < blank.parts }
+    requires sorts { AreSorts (signature_of stack.now.frames) stack.now.trees (length stack.now.trees) sorts.now }
+    requires parts { AreStackParts stack.now parts.old.marks.items }
+    requires atoms { AreCheckAtoms stack.now parts.old.marks.items parts.old.atoms.atoms }
+    requires forms { AreForms stack.now.trees parts.old.forms }
+    ensures first { IfOk result (IsFirst stack.now parts.old.atoms.atoms) }
+    ensures parts { IfOk result (λ store. HasParts stack.now parts.old.marks.items sorts.now parts.old.atoms.atoms store.clauses) }
+    ensures refused { IfErr result (IsRefused stack.now parts.old.marks.items sorts.now parts.old.atoms.atoms) }
+    ensures same { parts.new ≡ parts.old }
+{
+    check_clauses_counted(alloc, stack, sorts, parts, &mut Steps::<L>::new(blank))
+}
+
 /// The clauses that a search begins with, at level 0: of each part that is a node of Bools those of its operator over their truths, of each other part those that tie
 /// it to what it compares or chooses, but of a wide `distinct` that is an assertion, of terms that are no Bools, none, and for each assertion the clause that it is true. They force the clauses of each part. Of each triangle that is one, two
 /// equalities give the third. An `Err` says that memory is wanting, or which part's clauses can't be put and why. The atoms and the forms stay as they are.
@@ -88,20 +156,5 @@ pub fn check_clauses(
     ensures refused { IfErr result (IsRefused stack.now parts.old.marks.items sorts.now parts.old.atoms.atoms) }
     ensures same { parts.new ≡ parts.old }
 {
-    stack.laws();
-    kept_parts_are_forced();
-    let mut store = Store::new(alloc);
-    store.reserve(parts.atoms.len() as u32)?;
-    keep_triangles(stack, &parts.atoms, &parts.triangles, &mut store)?;
-    keep_parts(
-        alloc,
-        stack,
-        &parts.marks,
-        sorts,
-        &mut parts.forms,
-        &parts.atoms,
-        &mut store,
-    )?;
-    keep_assertions(stack, stack.assertions(), &parts.atoms, &mut store)?;
-    Ok(store)
+    check_clauses_from::<Brand>(alloc, stack, sorts, parts, Blank::new(1))
 }

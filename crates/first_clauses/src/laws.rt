@@ -1,4 +1,5 @@
 //! What the first clauses are for, as contracts of functions that do nothing.
+ghost use Rattle.first_clauses.specs.Counted.{StepsAreCounted};
 ghost use Rattle.first_clauses.specs.Laws.{FirstClausesSayAssertions, SignatureStays, EmptyClauseMeansNoModel, KeptPartsAreForced, MoreForceParts};
 
 use clause_form::{node_clauses_are_renamed, node_clauses_force};
@@ -34,4 +35,9 @@ pub fn kept_parts_are_forced()
 /// Where fewer clauses force those of the parts, more do.
 pub fn more_force_parts()
     ensures { MoreForceParts }
+{}
+
+/// What counts as steps, by examples, and an invention that counts a part as none.
+pub fn steps_are_counted()
+    ensures { StepsAreCounted }
 {}

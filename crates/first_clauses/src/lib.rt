@@ -9,6 +9,10 @@
 //! operator are kept, the longer ones with what negations negate, and together they force every
 //! node clause of every part.
 //!
+//! `check_clauses_counted`: the same, with a count of steps, one for each part and one for each pair
+//! that a `distinct` among them compares: where the clauses come, exactly as many as there are parts
+//! and pairs that they are over.
+//!
 //! `keep_axioms`: the axioms of the bounds of a check stand among its first clauses; what is kept
 //! still follows, what was kept stays, and what forced the clauses of the parts still does.
 //!
@@ -26,12 +30,12 @@ mod storing;
 mod triangles;
 mod turn;
 
-pub use clauses::check_clauses;
+pub use clauses::{check_clauses, check_clauses_counted};
 pub use error::FirstError;
 pub use kept_axioms_keep::keep_axioms;
 pub use laws::{
     empty_clause_means_no_model, first_clauses_say_assertions, kept_parts_are_forced,
-    more_force_parts, signature_stays,
+    more_force_parts, signature_stays, steps_are_counted,
 };
 pub use shapes::linear_terms;
 pub use storing::{keep, keep_all};

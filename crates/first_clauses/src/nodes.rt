@@ -1,7 +1,8 @@
 //! The clauses of the parts.
-ghost use Rattle.std.specs.Prelude.{◌≡◌, ◌<◌, ◌∷◌, true, List, length, All, Contains, OnOk, IfErr};
+ghost use Rattle.std.specs.Prelude.{◌≡◌, ◌+◌, ◌<◌, ◌≤◌, ◌∷◌, true, List, length, All, Contains, OnOk, IfErr};
 ghost use Rattle.clause_store.specs.Stored.{Kept};
 ghost use Rattle.order_clauses.specs.Clauses.{part_clauses_of};
+ghost use Rattle.order_clauses.specs.Counted.{distinct_pairs, pairs_of_part};
 ghost use Rattle.smt_meaning.specs.declared.terms.Head.TheVariants.{Theory};
 ghost use Rattle.smt_meaning.specs.Term.{Tree, tree_at};
 ghost use Rattle.smt_meaning.specs.TreeShape.{is_linear};
@@ -17,6 +18,7 @@ ghost use Rattle.order_clauses.specs.Sound.{HasSort};
 ghost use Rattle.order_clauses.specs.Errors.{IsPartCause};
 ghost use Rattle.first_clauses.specs.PartClausesFirst.{IsBegun, HasClause};
 ghost use Rattle.first_clauses.specs.CheckClausesFirst.{reading_of, IsRefused, HasPart, HasPartAt, HasParts};
+ghost use Rattle.first_clauses.specs.Counted.{pairs_of_tree, if_marked, parts_below, pairs_below, ComparesPairs, TakesSteps, TakesStepsBelow};
 ghost use Rattle.first_clauses.specs.Shapes.{AreFlags};
 
 use crate::bools::{Space as BoolSpace, are_bools, keep_bools};
@@ -33,6 +35,8 @@ use scope_stack::Stack;
 use smt_laws::flat_says_the_same;
 use smt_meaning::{Head, Operator, Sort, TermId};
 use std::alloc::Global;
+use std::sync::ledger::Ledger;
+use term_store::Steps;
 
 /// Lists that are used again for each part.
 #[derive(Drop)]
@@ -42,8 +46,8 @@ struct Space {
     clauses: Clauses,
 }
 
-/// Keeps the clauses of a part that compares Ints or terms of a declared sort, chooses between such terms, or divides.
-fn keep_compared(
+/// Keeps the clauses of a part that compares Ints or terms of a declared sort, chooses between such terms, or divides. A step is a pair that a `distinct` compares.
+fn keep_compared<L: Ledger>(
     stack: &Stack,
     sorts: &[Sort],
     forms: &mut LinearForms,
@@ -53,6 +57,7 @@ fn keep_compared(
     place: TermId,
     operator: Operator,
     arguments: &[TermId],
+    steps: &mut Steps<L>,
 ) -> Result<(), PartError>
     ghost trees: { List Tree }
     requires same_trees { trees ≡ stack.now.trees }
@@ -68,6 +73,9 @@ fn keep_compared(
     ensures has { OnOk result (All (HasClause store.new.clauses) (part_clauses_of sorts.now trees atoms.now.atoms operator place arguments.now)) }
     ensures cause { IfErr result (λ e. IsPartCause sorts.now trees atoms.now.atoms operator place arguments.now e) }
     ensures same { forms.new ≡ forms.old }
+    ensures rise { steps.old ≤ steps.new }
+    ensures few { steps.new ≤ steps.old + distinct_pairs operator (length arguments.now) }
+    ensures counted { OnOk result (steps.new ≡ steps.old + pairs_of_part sorts.now operator arguments.now) }
 {
     flat_says_the_same();
     space.clauses.clear();
@@ -80,13 +88,14 @@ fn keep_compared(
         place,
         operator,
         arguments,
+        steps,
     )?;
     keep_all(store, &space.clauses)?;
     Ok(())
 }
 
 /// Keeps the clauses of a marked part with this operator, but none of a wide `distinct` that is an assertion.
-fn keep_node(
+fn keep_node<L: Ledger>(
     stack: &Stack,
     marks: &[bool],
     sorts: &[Sort],
@@ -97,6 +106,7 @@ fn keep_node(
     place: TermId,
     operator: Operator,
     arguments: &[TermId],
+    steps: &mut Steps<L>,
 ) -> Result<(), FirstError>
     requires parts { AreStackParts stack.now marks.now }
     requires atoms { AreCheckAtoms stack.now marks.now atoms.now.atoms }
@@ -112,6 +122,9 @@ fn keep_node(
     ensures has { OnOk result (HasPart stack.now sorts.now atoms.now.atoms store.new.clauses place operator arguments.now) }
     ensures err { IfErr result (IsRefused stack.now marks.now sorts.now atoms.now.atoms) }
     ensures same { forms.new ≡ forms.old }
+    ensures rise { steps.old ≤ steps.new }
+    ensures few { steps.new ≤ steps.old + distinct_pairs operator (length arguments.now) }
+    ensures counted { OnOk result (ComparesPairs stack.now sorts.now place (Theory operator) arguments.now steps.old steps.new) }
 {
     stack.laws();
     if are_bools(sorts, place, arguments) {
@@ -130,15 +143,15 @@ fn keep_node(
         return Ok(());
     }
     match keep_compared(
-        stack, sorts, forms, atoms, space, store, place, operator, arguments,
+        stack, sorts, forms, atoms, space, store, place, operator, arguments, steps,
     ) {
         Ok(()) => Ok(()),
         Err(error) => Err(FirstError::Part(place, error)),
     }
 }
 
-/// Keeps the clauses of the term at a place, if it is a part.
-fn keep_place(
+/// Keeps the clauses of the term at a place, if it is a part: one step, and one for each pair that a `distinct` compares.
+fn keep_place<L: Ledger>(
     stack: &Stack,
     marks: &[bool],
     sorts: &[Sort],
@@ -148,6 +161,7 @@ fn keep_place(
     space: &mut Space,
     store: &mut Store,
     place: TermId,
+    steps: &mut Steps<L>,
 ) -> Result<(), FirstError>
     requires parts { AreStackParts stack.now marks.now }
     requires atoms { AreCheckAtoms stack.now marks.now atoms.now.atoms }
@@ -161,11 +175,15 @@ fn keep_place(
     ensures has { OnOk result (HasPartAt stack.now marks.now sorts.now atoms.now.atoms store.new.clauses place) }
     ensures err { IfErr result (IsRefused stack.now marks.now sorts.now atoms.now.atoms) }
     ensures same { forms.new ≡ forms.old }
+    ensures rise { steps.old ≤ steps.new }
+    ensures few { steps.new ≤ steps.old + if_marked marks.now place 1 + if_marked marks.now place (pairs_of_tree (tree_at stack.now.trees place)) }
+    ensures counted { OnOk result (TakesSteps stack.now marks.now sorts.now place steps.old steps.new) }
 {
     stack.laws();
     if !marks[place as usize] {
         return Ok(());
     }
+    steps.tick();
     if !linear[place as usize] {
         return Err(FirstError::NotLinear(place));
     }
@@ -182,6 +200,7 @@ fn keep_place(
             place,
             operator,
             node.arguments,
+            steps,
         ),
         Head::Numeral(_) => Ok(()),
         Head::Symbol(_) => Ok(()),
@@ -190,7 +209,7 @@ fn keep_place(
 }
 
 /// Keeps the clauses of all parts.
-pub(crate) fn keep_parts(
+pub(crate) fn keep_parts<L: Ledger>(
     alloc: Global,
     stack: &Stack,
     marks: &[bool],
@@ -198,6 +217,7 @@ pub(crate) fn keep_parts(
     forms: &mut LinearForms,
     atoms: &AtomNumbers,
     store: &mut Store,
+    steps: &mut Steps<L>,
 ) -> Result<(), FirstError>
     requires parts { AreStackParts stack.now marks.now }
     requires atoms { AreCheckAtoms stack.now marks.now atoms.now.atoms }
@@ -208,6 +228,9 @@ pub(crate) fn keep_parts(
     ensures has { OnOk result (HasParts stack.now marks.now sorts.now atoms.now.atoms store.new.clauses) }
     ensures err { IfErr result (IsRefused stack.now marks.now sorts.now atoms.now.atoms) }
     ensures same { forms.new ≡ forms.old }
+    ensures rise { steps.old ≤ steps.new }
+    ensures few { steps.new ≤ steps.old + parts_below marks.now (length stack.now.trees) + pairs_below stack.now.trees marks.now (length stack.now.trees) }
+    ensures counted { OnOk result (TakesStepsBelow stack.now marks.now sorts.now (length stack.now.trees) steps.old steps.new) }
 {
     let linear = linear_terms(alloc, stack.terms())?;
     let mut space = Space {
@@ -217,7 +240,7 @@ pub(crate) fn keep_parts(
     };
     for place in 0..stack.terms().len() {
         keep_place(
-            stack, marks, sorts, &linear, forms, atoms, &mut space, store, place,
+            stack, marks, sorts, &linear, forms, atoms, &mut space, store, place, steps,
         )?;
     }
     Ok(())

@@ -11,8 +11,8 @@ use Rattle.first_clauses.proofs.Following.{put_clauses}
 use Rattle.first_clauses.proofs.nodes.keep_compared.Goals as goal
 
 pub put_part-requires : goal.put_part-requires
-put_part-requires g c =
-    let node = c.requires.1.1.1.0 in (c.requires.1.1.0, (node.tree, (node.within, (node.arguments, c.requires.1.1.1.1.0))))
+put_part-requires g c = λ κs lives.
+    let node = c.requires.1.1.1.1.0 in (lives, (c.requires.1.1.1.0, (node.tree, (node.within, (node.arguments, c.requires.1.1.1.1.1.0)))))
 
 pub keep_all-requires : goal.keep_all-requires
 keep_all-requires g c =
@@ -20,9 +20,9 @@ keep_all-requires g c =
     let table = c.args.atoms.now.atoms in
     let added = part_clauses_of c.args.sorts.now g.trees table c.args.operator c.args.place c.args.arguments.now in
     let clauses : All (IsClause (reading_of s table) 0) c.put_part.new.clauses =
-    put_clauses c.flat_says_the_same.ensures s table c.requires.1.0 c.clear.new.self c.put_part.new.clauses added c.clear.ensures c.in_ok-put_part.ensures.put
-    (subst (λ (ts : List Tree). AreSound (signature_of s.frames) ts table added) c.requires.0 (c.in_ok-put_part.ensures.sound (signature_of s.frames) c.requires.1.1.1.1.1.0 c.requires.1.1.1.1.1.1.0)) in
-    known (reading_of s table) c.args.store.now c.put_part.new.clauses c.requires.1.1.1.1.1.1.1 clauses
+    put_clauses c.flat_says_the_same.ensures s table c.requires.1.1.0 c.clear.new.self c.put_part.new.clauses added c.clear.ensures c.in_ok-put_part.ensures.put
+    (subst (λ (ts : List Tree). AreSound (signature_of s.frames) ts table added) c.requires.1.0 (c.in_ok-put_part.ensures.sound (signature_of s.frames) c.requires.1.1.1.1.1.1.0 c.requires.1.1.1.1.1.1.1.0)) in
+    known (reading_of s table) c.args.store.now c.put_part.new.clauses c.requires.1.1.1.1.1.1.1.1 clauses
 
 pub returns-clause-begun : goal.returns-clause-begun
 returns-clause-begun g c =
@@ -30,9 +30,9 @@ returns-clause-begun g c =
     let table = c.args.atoms.now.atoms in
     let added = part_clauses_of c.args.sorts.now g.trees table c.args.operator c.args.place c.args.arguments.now in
     let clauses : All (IsClause (reading_of s table) 0) c.put_part.new.clauses =
-    put_clauses c.flat_says_the_same.ensures s table c.requires.1.0 c.clear.new.self c.put_part.new.clauses added c.clear.ensures c.in_ok-put_part.ensures.put
-    (subst (λ (ts : List Tree). AreSound (signature_of s.frames) ts table added) c.requires.0 (c.in_ok-put_part.ensures.sound (signature_of s.frames) c.requires.1.1.1.1.1.0 c.requires.1.1.1.1.1.1.0)) in
-    c.in_ok-keep_all.ensures.begun (reading_of s table) c.requires.1.1.1.1.1.1.1 clauses
+    put_clauses c.flat_says_the_same.ensures s table c.requires.1.1.0 c.clear.new.self c.put_part.new.clauses added c.clear.ensures c.in_ok-put_part.ensures.put
+    (subst (λ (ts : List Tree). AreSound (signature_of s.frames) ts table added) c.requires.1.0 (c.in_ok-put_part.ensures.sound (signature_of s.frames) c.requires.1.1.1.1.1.1.0 c.requires.1.1.1.1.1.1.1.0)) in
+    c.in_ok-keep_all.ensures.begun (reading_of s table) c.requires.1.1.1.1.1.1.1.1 clauses
 
 pub returns-clause-has : goal.returns-clause-has
 returns-clause-has g c =

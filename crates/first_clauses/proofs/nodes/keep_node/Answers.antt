@@ -9,10 +9,11 @@ use Rattle.order_clauses.specs.Clauses.{sort_at}
 use Rattle.order_clauses.specs.Sound.{HasSort}
 use Rattle.first_clauses.specs.CheckClausesFirst.{AreBools}
 use Rattle.first_clauses.proofs.Parts.{arguments_marked, has_sort, bool_sort, all_readable, truth_numbered}
+use Rattle.first_clauses.proofs.Counting.{bools_compare}
 use Rattle.first_clauses.proofs.nodes.keep_node.Goals as goal
 
 pub keep_bools-requires-clause-numbered : goal.keep_bools-requires-clause-numbered
-keep_bools-requires-clause-numbered c =
+keep_bools-requires-clause-numbered g c =
     let s = c.args.stack.now in
     let r = c.requires in
     let marks = c.args.marks.now in
@@ -25,7 +26,7 @@ keep_bools-requires-clause-numbered c =
     λ k d l. numbered _ (all k d l) (sort _ (all k d l) (c.are_bools.ensures.yes c.if-are_bools.true k d l))
 
 pub keep_bools-requires-clause-sorted : goal.keep_bools-requires-clause-sorted
-keep_bools-requires-clause-sorted c =
+keep_bools-requires-clause-sorted g c =
     let s = c.args.stack.now in
     let r = c.requires in
     let marks = c.args.marks.now in
@@ -35,7 +36,7 @@ keep_bools-requires-clause-sorted c =
     λ k d l. bool_sort s marks c.laws.ensures r.parts r.atoms.size c.args.sorts.now r.sorts _ (marked k d l) (bools k d l)
 
 pub keep_compared-requires : goal.keep_compared-requires
-keep_compared-requires c =
+keep_compared-requires g c = λ κs lives.
     let s = c.args.stack.now in
     let r = c.requires in
     let marks = c.args.marks.now in
@@ -46,10 +47,10 @@ keep_compared-requires c =
     All-cons (HasSort (signature_of s.frames) s.trees c.args.sorts.now) c.args.place is (sort c.args.place r.marked) (λ k d l. sort _ (marked k d l)) in
     let readable : All (IsReadable s.trees) (c.args.place ∷ is) =
     all_readable s marks c.laws.ensures r.parts r.atoms.size c.args.place (Theory c.args.operator) is r.marked r.node.tree r.node.arguments r.linear in
-    (refl, (r.atoms.declared, (r.forms, (r.node, (r.sorts.size, (sorted, (readable, r.begun)))))))
+    (lives, (refl, (r.atoms.declared, (r.forms, (r.node, (r.sorts.size, (sorted, (readable, r.begun))))))))
 
 pub is_asserted_distinct-requires-clause-sorted : goal.is_asserted_distinct-requires-clause-sorted
-is_asserted_distinct-requires-clause-sorted c =
+is_asserted_distinct-requires-clause-sorted g c =
     let s = c.args.stack.now in
     let r = c.requires in
     let marks = c.args.marks.now in
@@ -58,13 +59,17 @@ is_asserted_distinct-requires-clause-sorted c =
     λ k d l. sym (has_sort s marks c.laws.ensures r.parts r.atoms.size c.args.sorts.now r.sorts _ (marked k d l))
 
 pub returns-then-is_asserted_distinct-clause-has : goal.returns-then-is_asserted_distinct-clause-has
-returns-then-is_asserted_distinct-clause-has c = record {
+returns-then-is_asserted_distinct-clause-has g c = record {
   of_bools = λ all. absurd (c.are_bools.ensures.no c.if-are_bools.false all);
   of_others = λ none. inl (c.is_asserted_distinct.ensures.yes c.if-is_asserted_distinct.true);
 }
 
 pub returns-then-are_bools-clause-has : goal.returns-then-are_bools-clause-has
-returns-then-are_bools-clause-has c = record {
+returns-then-are_bools-clause-has g c = record {
   of_bools = λ all. c.in_ok-keep_bools.ensures.has;
   of_others = λ none. absurd (none (c.are_bools.ensures.yes c.if-are_bools.true));
 }
+
+pub returns-then-are_bools-clause-counted : goal.returns-then-are_bools-clause-counted
+returns-then-are_bools-clause-counted g c =
+    bools_compare c.args.stack.now c.args.marks.now c.args.sorts.now c.args.place c.args.operator c.args.arguments.now c.args.steps.now c.args.steps.now (c.are_bools.ensures.yes c.if-are_bools.true) refl

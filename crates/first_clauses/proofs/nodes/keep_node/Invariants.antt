@@ -1,4 +1,4 @@
 use Rattle.first_clauses.proofs.nodes.keep_node.Given as goal
 
 abbrev pub ghost-keep_compared : goal.ghost-keep_compared
-ghost-keep_compared a = a.stack.now.trees
+ghost-keep_compared g a = a.stack.now.trees
