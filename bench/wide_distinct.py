@@ -1,5 +1,5 @@
 #!/usr/bin/env python3
-"""Drawn scripts with a `distinct` of more than 200 elements or Ints that is an assertion, and equalities and bounds beside it, each answer compared with z3's.
+"""Drawn scripts with a `distinct` of more than 200 elements or Ints that is an assertion, and equalities and bounds beside it, each answer compared with z3's, where it has one.
 Use: bench/wide_distinct.py PROGRAM SEED COUNT [WORD ..], the words for the program, at the top of the repository, after a build; `bench/wide_distinct.py script SEED K` writes the script K."""
 import random
 import subprocess
@@ -28,7 +28,7 @@ def literal(draw, count, sort):
 
 def box(draw, wide):
     """Bounds of the arguments: of some of them, or of all, with room for each and some more."""
-    low = draw.randrange(-50, 50)
+    low = draw.randrange(50)
     if draw.random() < 0.4:
         few = draw.sample(wide, draw.randrange(1, 60))
         return [f"(assert (and (<= {low} c{number}) (<= c{number} {low + 2 * len(few)})))" for number in few]
@@ -62,8 +62,12 @@ def script(seed, place):
 
 
 def answers(words, text):
-    ran = subprocess.run(words, input=text, capture_output=True, text=True, timeout=120, check=False)
-    return [word for word in ran.stdout.split() if word in ("sat", "unsat", "unknown")]
+    """What was answered within a minute."""
+    try:
+        printed = subprocess.run(words, input=text, capture_output=True, text=True, timeout=60, check=False).stdout
+    except subprocess.TimeoutExpired as late:
+        printed = (late.stdout or b"").decode()
+    return printed.split()
 
 
 def main(words):
@@ -77,7 +81,9 @@ def main(words):
         ours, theirs = answers([program, *words[3:]], text), answers(["z3", "-in", "-smt2", "-t:3000"], text)
         for answer in ours:
             kinds[answer] = kinds.get(answer, 0) + 1
-        if any(answer != other for answer, other in zip(ours, theirs) if other != "unknown") or len(ours) != len(theirs):
+        if len(ours) < len(theirs):
+            kinds["late"] = kinds.get("late", 0) + 1
+        if any(answer != other for answer, other in zip(ours, theirs) if other != "unknown"):
             differ += 1
             print(f"script {place}: {ours} and z3 {theirs}")
     print(f"{count} scripts, {differ} differ;", ", ".join(f"{number} {answer}" for answer, number in sorted(kinds.items())))

@@ -1,5 +1,5 @@
 -- What a wide `distinct` compares.
-use Rattle.std.proofs.Common.{◌≡◌, inl, inr, ℕ, ◌<◌, Bool, true, false, nat_lt, List, [], ◌∷◌, length, Contains, subst, sym, ap, ◌∙◌, refl, arith}
+use Rattle.std.proofs.Common.{◌≡◌, inl, inr, ℕ, ◌<◌, true, false, nat_lt, List, [], ◌∷◌, length, Contains, subst, sym, ap, ◌∙◌, refl, arith}
 use Rattle.std.specs.Prelude.{if◌then◌else◌}
 use Rattle.std.proofs.lemmas.Bool.Decides.{nat_tests}
 use Rattle.std.proofs.lemmas.List.Elements.{Contains-append_cases, Contains-append_right}
@@ -8,7 +8,7 @@ use Rattle.smt_meaning.specs.declared.terms.Head.{Head}
 use Rattle.smt_meaning.specs.declared.terms.Head.TheVariants.{Theory}
 use Rattle.smt_meaning.specs.declared.clauses.Atom.{Atom}
 use Rattle.smt_meaning.specs.Declaration.{Declaration}
-use Rattle.smt_meaning.specs.Term.{Tree, Trees, none, more, tree_at}
+use Rattle.smt_meaning.specs.Term.{Tree, Trees, tree_at}
 use Rattle.smt_meaning.specs.Nodes.{pick}
 use Rattle.smt_meaning.specs.Kinds.{count_trees}
 use Rattle.smt_meaning.specs.Atoms.{of_first_with, of_pairs, comparison_atoms, most_compared, is_wide, early_atoms}
