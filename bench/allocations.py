@@ -1,6 +1,7 @@
 #!/usr/bin/env python3
 """Runs of the program in which one allocation after the other is refused.
 Use: bench/allocations.py [--after] [PROGRAM [SCRIPT..]], at the top of the repository, after a build; it needs a C compiler and Linux.
+PROGRAM may have words of its own behind its path, as in "smt_cli --workers 1".
 With --test PROGRAM NAME the program is one of tests, and the run is that of the test of this full name: it has to pass whichever call is refused.
 
 A library that is loaded before the C library counts the calls of `malloc` and `realloc`, and refuses the one that it is told (with --after, that
@@ -16,6 +17,7 @@ tells nothing of itself; in them what comes between an answer `unknown` and the 
 """
 import mmap
 import os
+import shlex
 import subprocess
 import sys
 import tempfile
@@ -152,7 +154,7 @@ class Longer:
 def given(program, path):
     """A script that isn't of this file, and the replies to it without refusals, each of which must fit one line."""
     text = open(path, "rb").read().decode("latin-1")
-    ran = subprocess.run([program], input=text.encode("latin-1"), capture_output=True)
+    ran = subprocess.run(program, input=text.encode("latin-1"), capture_output=True)
     script, unsat = [], False
     for place, line in enumerate(ran.stdout.decode("latin-1").split("\n")[:-1]):
         if line in ("sat", "unsat"):
@@ -256,7 +258,8 @@ def main():
         sys.exit(bool(faults))
     after = "--after" in words
     words = [it for it in words if it != "--after"]
-    program = os.path.realpath(words[0] if words else "crates/smt_cli/out/smt_cli")
+    program = shlex.split(words[0] if words else "crates/smt_cli/out/smt_cli")
+    program[0] = os.path.realpath(program[0])
     cases = {}
     for path in words[1:]:
         cases[path] = given(program, path)
@@ -266,7 +269,7 @@ def main():
     print("|---|---|---|---|---|---|---|---|---|")
     faults = []
     with tempfile.TemporaryDirectory() as folder:
-        runs = Runs([program], after, folder)
+        runs = Runs(program, after, folder)
         for name, (text, script) in cases.items():
             faults += [f"{name}: {it}" for it in sweep(runs, name, text, script)]
     for it in faults[:200]:
