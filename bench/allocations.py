@@ -11,7 +11,7 @@ one and all behind it). So a program that is built once is run once for each cal
 - the status is 0, or 1 where an error is among the replies, and the whole of a right text was written, and nothing on standard error.
 
 In a right text `unknown` may stand for `sat` or `unsat`; then the replies behind it are those of that answer, and its reason is `memout`.
-Replies also may not be lost: with a later refusal no fewer of them are written before status 5.
+Replies also may not be lost: with a later refusal no fewer of them are written before status 5 (by one worker: of more the calls come in another order each time).
 The replies of the scripts below are worked out by hand. Those of scripts that are given are told by a run without refusals, which therefore
 tells nothing of itself; in them what comes between an answer `unknown` and the next check isn't judged, and a core may be longer.
 """
@@ -230,7 +230,8 @@ def sweep(runs, name, text, script):
         unknown += status != 5 and "unknown" in out.split("\n")
         wrong = fault(status, out, said, script)
         if not wrong and status == 5:
-            wrong = f"{out.count(chr(10))} replies, and {most} with an earlier refusal" if out.count("\n") < most else ""
+            fewer = runs.words[1:3] == ["--workers", "1"] and out.count("\n") < most
+            wrong = f"{out.count(chr(10))} replies, and {most} with an earlier refusal" if fewer else ""
             most = max(most, out.count("\n"))
         if wrong:
             faults.append(f"call {number}: {wrong}")
