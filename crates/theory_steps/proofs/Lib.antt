@@ -9,6 +9,7 @@ pub mod Going
 pub mod Growing
 pub mod Holding
 pub mod Leaving
+pub mod Marked
 pub mod Marking
 pub mod Numbers
 pub mod Outside

@@ -1,5 +1,5 @@
 -- The sums of variables as sums of the check.
-use Rattle.std.proofs.Common.{◌≡◌, ◌≢◌, ◌∙◌, ◌⊎◌, ℕ, List, [], ◌∷◌, ◌++◌, map, ℤ, pos, negsuc, neg_ℤ, All, Contains, Some, inl, inr, Bool, true, false, if◌then◌else◌, refl, sym, ap, subst, arith}
+use Rattle.std.proofs.Common.{◌≡◌, ◌≢◌, ◌∙◌, ◌⊎◌, ℕ, ◌<◌, List, length, [], ◌∷◌, ◌++◌, map, ℤ, pos, negsuc, neg_ℤ, All, Contains, Some, inl, inr, Bool, true, false, if◌then◌else◌, refl, sym, ap, subst, arith}
 use Rattle.std.specs.Prelude.{AllPairs, Option}
 use Rattle.std.proofs.lemmas.List.Elements.{All-nil, All-cons, All-head, All-tail, All-weaker, All-contains, All-append, All-map, All-push, Contains-append_cases, Contains-push_cases}
 use Rattle.fraction128.specs.declared.Summand.{Summand as GridSummand}
@@ -19,6 +19,7 @@ use Rattle.smt_meaning.specs.Linear.{summand}
 use Rattle.smt_meaning.specs.Boxes.{term_at_most, negation_at_most}
 use Rattle.smt_meaning.specs.CheckAtoms.{IsFirstAtom, IsLeaf, WithBranch, WithBranches, EachIsBranch, AreBranches, IsCheckAtom, IsKnownSum, AreCheckSums, grid_sum}
 use Rattle.smt_laws.specs.Flat.{flat}
+use Rattle.simplex_steps.specs.State.{no_column, column_in}
 use Rattle.sum_bounds.specs.Clauses.{plain}
 use Rattle.bound_log.specs.Told.{State, column_sums}
 use Rattle.bound_log.specs.Columns.{IsColumnOf}
@@ -107,18 +108,18 @@ term_of P sum p h c = All-contains (λ (q : Summand). P q.term) sum p (from_plac
 terms_same : (ps qs : List Summand) (j k : ℤ) → AtMost ps j ≡ AtMost qs k → ps ≡ qs
 terms_same ps qs j k e = cc
 
+over_both : (s : Stack) (table : List Atom) → All (IsOverLeaves s) table → (own : List ℕ) → All (IsLeaf s.trees (flat s.frames)) own → All (IsOverLeaves s) (with_leaves own table)
+over_both s table over_leaves own leaves =
+    All-append (IsOverLeaves s) (map bound_on own) table
+    (All-map (IsOverLeaves s) bound_on own
+    (All-weaker (IsLeaf s.trees (flat s.frames)) (λ t. IsOverLeaves s (bound_on t)) (λ t h. All-cons (IsLeaf s.trees (flat s.frames)) t [] h (All-nil (IsLeaf s.trees (flat s.frames)))) own leaves))
+    over_leaves
+
 module _ (s : Stack) (sums : List (List GridSummand)) (rows : List Line) (branches : AreBranches s.trees (flat s.frames) sums rows) (table : List Atom) (atoms : All (IsOfCheck s rows) table) (over_leaves : All (IsOverLeaves s) table)
     (own : List ℕ) (leaves : All (IsLeaf s.trees (flat s.frames)) own) where
   -- a bound on a leaf alone, or an atom of the check
   abbrev IsOfEither : Atom → Type 0
   IsOfEither a = ((t : ℕ) × IsLeaf s.trees (flat s.frames) t × (a ≡ bound_on t)) ⊎ IsOfCheck s rows a
-
-  over : All (IsOverLeaves s) (with_leaves own table)
-  over =
-      All-append (IsOverLeaves s) (map bound_on own) table
-      (All-map (IsOverLeaves s) bound_on own
-      (All-weaker (IsLeaf s.trees (flat s.frames)) (λ t. IsOverLeaves s (bound_on t)) (λ t h. All-cons (IsLeaf s.trees (flat s.frames)) t [] h (All-nil (IsLeaf s.trees (flat s.frames)))) own leaves))
-      over_leaves
 
   either : All IsOfEither (with_leaves own table)
   either =
@@ -132,7 +133,7 @@ module _ (s : Stack) (sums : List (List GridSummand)) (rows : List Line) (branch
 
   known : (ps : List GridSummand) → IsSumIn (with_leaves own table) ps → IsKnownSum s.trees (flat s.frames) ps
   known ps (inl h) =
-      IsKnownSum.of_leaf h.part.term (term_of (IsLeaf s.trees (flat s.frames)) h.terms h.part (All-contains (IsOverLeaves s) (with_leaves own table) (AtMost h.terms h.most) over h.atom) h.among) h.sum_is
+      IsKnownSum.of_leaf h.part.term (term_of (IsLeaf s.trees (flat s.frames)) h.terms h.part (All-contains (IsOverLeaves s) (with_leaves own table) (AtMost h.terms h.most) (over_both s table over_leaves own leaves) h.atom) h.among) h.sum_is
   known ps (inr h) = by_atom ps h.terms h.most h.sum_is (All-contains IsOfEither (with_leaves own table) (AtMost h.terms h.most) either h.atom)
 
   filled : (ps : List GridSummand) → IsSumIn (with_leaves own table) ps → ps ≢ []
@@ -156,3 +157,32 @@ pub sums_added : (s : Stack) (sums : List (List GridSummand)) (rows : List Line)
 sums_added s sums rows left table a b shown to_show h apart =
     check_sums s sums rows shown.branches (table ++ a ∷ []) (All-push (IsOfCheck s rows) table a shown.atoms to_show.of_check) (All-push (IsOverLeaves s) table a shown.leaves to_show.leaves) h.own h.leaves (column_sums b) apart
     (sums_in (with_leaves h.own (table ++ a ∷ [])) b h.columns)
+
+-- ---- a variable of a term alone
+
+first_term : (P : ℕ → Type 0) (terms : List Summand) (t : ℕ) → turned (plain terms) ≡ leaf t → All P (sum_places terms) → P t
+first_term P [] t e h = absurd (no_first (record { coefficient = pos 1; term = t }) [] (sym e))
+first_term P (p ∷ ps) t e h = subst P (by_sign (is_turned (plain (p ∷ ps))) e) (All-head P p.term (sum_places ps) h)
+  where
+    by_sign : (z : Bool) → (if z then map (λ (q : GridSummand). record { coefficient = neg_ℤ q.coefficient; term = q.term }) (plain (p ∷ ps)) else plain (p ∷ ps)) ≡ leaf t → p.term ≡ t
+    by_sign true f = ap term_in f
+    by_sign false f = ap term_in f
+
+term_alone : (s : Stack) (table : List Atom) → All (IsOverLeaves s) table → (ps : List GridSummand) (t : ℕ) → IsSumIn table ps → ps ≡ leaf t → IsLeaf s.trees (flat s.frames) t
+term_alone s table over ps t (inl h) e =
+    subst (IsLeaf s.trees (flat s.frames)) (same_term h.part.term t (sym h.sum_is ∙ e))
+    (term_of (IsLeaf s.trees (flat s.frames)) h.terms h.part (All-contains (IsOverLeaves s) table (AtMost h.terms h.most) over h.atom) h.among)
+term_alone s table over ps t (inr h) e =
+    first_term (IsLeaf s.trees (flat s.frames)) h.terms t (sym h.sum_is ∙ e) (All-contains (IsOverLeaves s) table (AtMost h.terms h.most) over h.atom)
+
+-- it is a leaf
+pub column_leaf : (s : Stack) (table : List Atom) (b : State) → All (IsOverLeaves s) table → HasKnownColumns s table b → (i t : ℕ) → i < length b.bounds.columns → (column_in b.bounds.columns i).sum ≡ leaf t
+    → IsLeaf s.trees (flat s.frames) t
+column_leaf s table b over h i t within e =
+    term_alone s (with_leaves h.own table) (over_both s table over h.own h.leaves) (column_in b.bounds.columns i).sum t (h.columns i no_column within) e
+
+-- what holds of a term holds of those of a bound on it alone
+pub sum_alone : (P : ℕ → Type 0) (sum : List Summand) (k : ℤ) (t : ℕ) (n : ℤ) → AtMost sum k ≡ term_at_most t n → P t → All (λ (p : Summand). P p.term) sum
+sum_alone P sum k t n e h =
+    let alone : List Summand = summand t (pos 1) ∷ [] in
+    subst (All (λ (p : Summand). P p.term)) (sym (terms_same sum alone k n e)) (All-cons (λ (p : Summand). P p.term) (summand t (pos 1)) [] h (All-nil (λ (p : Summand). P p.term)))

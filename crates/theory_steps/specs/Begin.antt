@@ -7,6 +7,7 @@ use Rattle.smt_meaning.specs.declared.clauses.Atom.{Atom}
 use Rattle.smt_meaning.specs.declared.clauses.Atom.TheVariants.{Truth as TruthAtom, Same as SameAtom, AtMost}
 use Rattle.smt_meaning.specs.Stack.{signature_of}
 use Rattle.smt_meaning.specs.StackCommand.{Stack}
+use Rattle.check_atoms.specs.Marks.{AreStackParts}
 use Rattle.model_build.specs.Parts.{AreSortedParts}
 use Rattle.atom_form.specs.AtomNumbersAtoms.{Atoms}
 use Rattle.atom_form.specs.declared.atom.NumberedAtom.{NumberedAtom}
@@ -16,7 +17,7 @@ use Rattle.bound_log.specs.Pending.{plain_grid}
 use Rattle.theory_steps.specs.declared.start.Begun.{Begun}
 use Rattle.theory_steps.specs.Numbering.{IsWhole}
 use Rattle.theory_steps.specs.Pairs.{HaveReadable}
-use Rattle.theory_steps.specs.Shown.{AreOfAssertions, AreShown}
+use Rattle.theory_steps.specs.Shown.{AreShown}
 
 abbrev pub IsBoolPlace : List Sort → ℕ → Type 0
 IsBoolPlace sorts p = (p < length sorts) × (slice_index_or sorts p Ints ≡ Truths)
@@ -36,7 +37,7 @@ IsTruthOfBool sorts (AtMost sum k) = Unit {0}
 pub record IsBegun (s : Stack) (marks : List Bool) (atoms : Atoms) (b : Begun) : Type 0 where
   pub parts : AreSortedParts (signature_of s.frames) s.trees marks
   pub readable : HaveReadable s.trees marks b.readable.items
-  pub of_assertions : AreOfAssertions s marks
+  pub of_assertions : AreStackParts s marks
   pub whole : IsWhole s marks atoms b.held
   pub log : b.held.closure.log.items ≡ []
   pub shown : AreShown s (column_sums b.held.bounds) [] None atoms.atoms

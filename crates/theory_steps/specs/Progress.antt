@@ -6,6 +6,7 @@ use Rattle.search_port.specs.Spending.{Spending}
 use Rattle.search_port.specs.Calls.{Goes}
 use Rattle.search_port.specs.Pivots.{KeepsPivots}
 use Rattle.linear_forms.specs.Table.{AreForms}
+use Rattle.check_atoms.specs.Marks.{AreStackParts}
 use Rattle.model_build.specs.Parts.{AreSortedParts}
 use Rattle.closure_log.specs.Seen.{state_of}
 use Rattle.bound_log.specs.Told.{column_sums}
@@ -15,13 +16,13 @@ use Rattle.theory_steps.specs.declared.parts.Progress.{Progress}
 use Rattle.theory_steps.specs.Columns.{variables_of}
 use Rattle.theory_steps.specs.Numbering.{table_of, IsNumbered, IsWhole}
 use Rattle.theory_steps.specs.Pairs.{HaveReadable}
-use Rattle.theory_steps.specs.Shown.{AreOfAssertions, AreShown}
+use Rattle.theory_steps.specs.Shown.{AreShown}
 
 -- the parts of a stack's assertions, which of them bounds can read, and which are wide `xor`s
 abbrev pub AreParts : Parts → Type 0
 AreParts p =
     AreSortedParts (signature_of p.stack.now.frames) p.stack.now.trees p.marks.items × HaveReadable p.stack.now.trees p.marks.items p.readable.items
-    × AreOfAssertions p.stack.now p.marks.items × AreWideXors p.stack.now.trees p.marks.items p.wide_xors.items
+    × AreStackParts p.stack.now p.marks.items × AreWideXors p.stack.now.trees p.marks.items p.wide_xors.items
 
 -- the atoms that are told of, and what was told
 abbrev pub state : Parts → Progress → TheoryState

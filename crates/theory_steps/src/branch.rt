@@ -11,7 +11,6 @@ ghost use Rattle.theory_steps.specs.Progress.{full_state, state, AreParts, IsUnd
 ghost use Rattle.theory_steps.specs.Shown.{IsOfCheck, IsMarkedLeaf};
 ghost use Rattle.theory_steps.specs.Steps.{IsStep};
 
-use crate::leaves::is_leaf;
 use crate::numbering::NewBound;
 use crate::parts::{Parts, Progress};
 use crate::step::{Step, go_on_with_bound, stop};
@@ -92,9 +91,7 @@ pub(crate) fn branch(
     ensures went { Went parts.now progress.old progress.new budget.old budget.new }
     ensures step { IsStep (state parts.now progress.new) budget.old budget.new result }
 {
-    if !is_leaf(parts, leaf.term) {
-        return stop(parts, progress, budget);
-    }
+    flat_says_the_same();
     let Some(bound) = new_side(parts.alloc, &progress.atoms, &leaf) else {
         return stop(parts, progress, budget);
     };

@@ -5,7 +5,7 @@ ghost use Rattle.smt_meaning.specs.declared.clauses.Atom.{Atom};
 ghost use Rattle.smt_meaning.specs.declared.clauses.Atom.TheVariants.{AtMost};
 ghost use Rattle.tableau.specs.Failing.{IsRange};
 ghost use Rattle.bound_log.specs.Atoms.{Knows, KnowsOneMore, SaysNothing};
-ghost use Rattle.bound_log.specs.Told.{column_sums};
+ghost use Rattle.bound_log.specs.Told.{column_sums, said_at, IsPast};
 ghost use Rattle.bound_log.specs.Columns.{AddsColumns};
 ghost use Rattle.bound_log.specs.Growth.{GrowsVariables, IsProper};
 ghost use Rattle.bound_log.specs.Pending.{FailsToTake, FailsToTell};
@@ -103,7 +103,7 @@ pub(crate) fn know_other(bounds: &mut BoundLog) -> Result<(), BoundError>
     Ok(())
 }
 
-/// Why a literal isn't told.
+/// Why a literal isn't told. Only what a bound says can leave the range.
 pub(crate) fn untold(
     alloc: Global,
     bounds: &BoundLog,
@@ -113,12 +113,16 @@ pub(crate) fn untold(
 ) -> BoundError
     requires numbered { literal.atom < length atoms.now.atoms }
     requires knows { Knows atoms.now.atoms bounds.now }
+    requires past { IsRange failure → IsPast (said_at bounds.now.said literal.atom) literal failure }
     requires fails { IsRange failure → FailsToTell bounds.now literal }
     ensures { IsErrorOver (column_sums bounds.now) atoms.now.atoms result }
 {
     let number = literal.atom();
     match atoms.atom(number) {
-        NumberedAtom::Truth(_) | NumberedAtom::Same(_, _) => BoundError::Memory,
+        NumberedAtom::Truth(_) | NumberedAtom::Same(_, _) => match failure {
+            Failure::Memory => BoundError::Memory,
+            Failure::Range(_) => unreachable!(),
+        },
         NumberedAtom::Bound(bound) => error_of(
             alloc,
             bounds,

@@ -1,15 +1,14 @@
 //! What was told, to the closure and to the bounds.
-ghost use Rattle.std.specs.Prelude.{◌≡◌, ◌<◌, List, length, take, IfOk, IfErr, OnErr};
+ghost use Rattle.std.specs.Prelude.{◌≡◌, ◌<◌, List, length, take, IfOk, IfErr, IfSome, OnErr};
 ghost use Rattle.smt_meaning.specs.declared.clauses.Atom.{Atom};
 ghost use Rattle.search_port.specs.State.{IsOpenIn};
-ghost use Rattle.search_port.specs.Calls.{AssertedBy, InferredBy};
+ghost use Rattle.search_port.specs.Calls.{AssertedBy, InferredBy, IsConflict};
 ghost use Rattle.search_port.specs.Spending.{Spending};
 ghost use Rattle.bound_log.specs.Atoms.{Knows};
 ghost use Rattle.bound_log.specs.Told.{column_sums};
 ghost use Rattle.bound_log.specs.Growth.{KeepsVariables};
 ghost use Rattle.bound_log.specs.Reporting.{Judges};
 ghost use Rattle.bound_log.specs.declared.report.Report.TheVariants.{UnitsSpent};
-ghost use Rattle.simplex_steps.specs.Run.{AreWithin};
 ghost use Rattle.closure_log.specs.Seen.{state_of, IsSetting};
 ghost use Rattle.theory_steps.specs.Errors.{IsErrorOver};
 ghost use Rattle.theory_steps.specs.Held.{IsHeld, IsMet, IsMetBy};
@@ -28,7 +27,7 @@ use scope_stack::Stack;
 use search_port::{Asserted, Inferred, Lemma};
 use simplex::PivotLines;
 use smt_laws::flat_says_the_same;
-use std::alloc::Global;
+use std::alloc::{AllocError, Global};
 
 /// The literals told, and what they say of terms and of sums.
 #[derive(Drop)]
@@ -171,21 +170,19 @@ pub(crate) fn meet_bounds(
     Meeting { met, lines }
 }
 
-/// A clause that the bounds break over whole numbers, where a row or a split shows one, of values within all bounds. That it fits says nothing more.
-pub(crate) fn meet_wholes(alloc: Global, held: &Held, stack: &Stack, atoms: &AtomNumbers) -> Met
+/// A clause that the bounds break over whole numbers, where a row or a split shows one. `None` promises nothing; an `Err` is for want of memory.
+pub(crate) fn meet_wholes(
+    alloc: Global,
+    held: &Held,
+    stack: &Stack,
+    atoms: &AtomNumbers,
+) -> Result<Option<Lemma>, AllocError>
     requires setting { IsSetting stack.now atoms.now.atoms }
     requires held { IsHeld stack.now atoms.now.atoms held.now }
-    requires within { AreWithin held.now.bounds.bounds.columns }
-    ensures { IsMet held.now.bounds (state_of stack.now atoms.now.atoms held.now.closure.log.items) result }
+    ensures { IfOk result (λ o. IfSome o (IsConflict (state_of stack.now atoms.now.atoms held.now.closure.log.items))) }
 {
     flat_says_the_same();
-    let Ok(found) = held.bounds.whole_conflict(alloc) else {
-        return Met::Ended;
-    };
-    match found {
-        Some(clause) => Met::Conflict(clause),
-        None => Met::Fits,
-    }
+    held.bounds.whole_conflict(alloc)
 }
 
 /// What follows from the literals told by equality.

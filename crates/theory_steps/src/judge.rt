@@ -60,15 +60,15 @@ fn make_whole(
     ensures went { Went parts.now progress.old progress.new budget.old budget.new }
     ensures found { CheckedBy (state parts.now progress.new) budget.old budget.new result }
 {
-    let met = meet_wholes(parts.alloc, &progress.held, parts.stack, &progress.atoms);
+    let found = meet_wholes(parts.alloc, &progress.held, parts.stack, &progress.atoms);
     stays(parts, progress, budget);
-    match met {
-        Met::Fits => {
+    match found {
+        Ok(Some(clause)) => Checked::Conflict(clause),
+        Ok(None) => {
             let step = branch(parts, progress, budget, leaf);
             checked(step)
         }
-        Met::Conflict(clause) => Checked::Conflict(clause),
-        Met::Past(_) | Met::Spent | Met::Ended => Checked::Ended(Cause::Memory),
+        Err(_) => Checked::Ended(Cause::Memory),
     }
 }
 

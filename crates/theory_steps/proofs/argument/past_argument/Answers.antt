@@ -15,5 +15,5 @@ returns-then-is_past_int c =
     let marked : is_marked marks p ≡ true = search rules in
     let yes : c.is_symbol.result ≡ true = search rules in
     let symbol = c.is_symbol.ensures yes in
-    past_argument c.flat_says_the_same.ensures s marks c.requires.parts.2 c.requires.under_way.0.different c.args.progress.now.held.bounds.bounds p symbol.0 is h c.loop-k.k 0 marked
+    past_argument c.flat_says_the_same.ensures s marks c.requires.parts.2.only c.requires.under_way.0.different c.args.progress.now.held.bounds.bounds p symbol.0 is h c.loop-k.k 0 marked
     (subst (λ (ts : List Tree). tree_at ts p ≡ tree_with ts h is) c.terms.ensures.trees c.node-node.ensures.tree) symbol.1 c.loop-k-test.true (c.is_past_int.ensures c.if-is_past_int.true)

@@ -25,7 +25,7 @@ number_new-requires-clause-of_stack c =
 
 pub number_new-requires-clause-to_show : goal.number_new-requires-clause-to_show
 number_new-requires-clause-to_show c =
-    same_to_show c.flat_says_the_same.ensures c.args.parts.now.stack.now c.args.parts.now.marks.items c.requires.parts.2 c.requires.under_way.0.different c.args.pair.left c.args.pair.right c.requires.wanted.left
+    same_to_show c.flat_says_the_same.ensures c.args.parts.now.stack.now c.args.parts.now.marks.items c.requires.parts.2.only c.requires.under_way.0.different c.args.pair.left c.args.pair.right c.requires.wanted.left
     c.requires.wanted.right c.args.progress.now.branches
 
 pub tie_lemmas-requires-clause-same : goal.tie_lemmas-requires-clause-same

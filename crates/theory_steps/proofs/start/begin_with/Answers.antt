@@ -34,7 +34,7 @@ returns c =
         };
       };
       log = c.in_ok-closure.ensures.log;
-      of_assertions = c.requires.marks.only;
+      of_assertions = c.requires.marks;
       shown =
           begins_shown c.flat_says_the_same.ensures c.atoms_are_first.ensures c.args.stack.now c.args.marks.now c.args.atoms.now.atoms c.laws.ensures c.requires.marks c.requires.atoms (column_sums bounds)
           (begins_known c.flat_says_the_same.ensures c.atoms_are_first.ensures c.args.stack.now c.args.marks.now c.args.atoms.now.atoms c.laws.ensures c.requires.marks c.requires.atoms columns.own columns.leaves

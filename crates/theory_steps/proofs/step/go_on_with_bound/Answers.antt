@@ -35,7 +35,7 @@ pub number_new-requires-clause-to_show : goal.number_new-requires-clause-to_show
 number_new-requires-clause-to_show c = record {
   of_check = c.requires.of_check;
   leaves =
-      over_marked c.flat_says_the_same.ensures c.args.parts.now.stack.now c.args.parts.now.marks.items c.requires.parts.2 c.requires.under_way.0.different c.args.bound.sum.items c.requires.leaves;
+      over_marked c.flat_says_the_same.ensures c.args.parts.now.stack.now c.args.parts.now.marks.items c.requires.parts.2.only c.requires.under_way.0.different c.args.bound.sum.items c.requires.leaves;
   ints = tt;
 }
 

@@ -16,4 +16,4 @@ returns-in-Err c =
     let marks = c.args.parts.now.marks.items in
     let marked : is_marked marks c.args.place ≡ true = search rules in
     let forms = c.requires.under_way.0 in
-    part_left c.flat_says_the_same.ensures s marks c.requires.parts.2 forms.different c.args.place c.in-Err.part (in_list s marks c.args.place c.requires.parts.0 marked) marked (c.in-Err.ensures.err s.trees forms)
+    part_left c.flat_says_the_same.ensures s marks c.requires.parts.2.only forms.different c.args.place c.in-Err.part (in_list s marks c.args.place c.requires.parts.0 marked) marked (c.in-Err.ensures.err s.trees forms)
