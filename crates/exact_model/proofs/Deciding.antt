@@ -19,10 +19,12 @@ use Rattle.smt_meaning.specs.declared.clauses.Atom.TheVariants.{Truth, AtMost, S
 use Rattle.smt_meaning.specs.Term.{Tree, tree_at, value, Interpretation, number_of, truth_of, same_value}
 use Rattle.smt_meaning.specs.Clause.{atom_true, atom_places, sum_places, sum_value}
 use Rattle.smt_meaning.specs.Interpretation.{meaning}
+use Rattle.smt_meaning.specs.Model.{Fits}
+use Rattle.smt_meaning.specs.Stack.{assertions_of}
 use Rattle.atom_form.specs.AtomTableNumbers.{IsAt}
 use Rattle.search_port.specs.State.{atom_at, truth}
 use Rattle.model_eval.specs.Walk.{is_marked}
-use Rattle.exact_model.specs.Places.{value_at, AreValues}
+use Rattle.exact_model.specs.Places.{value_at, AreValues, AllMarkedFit}
 use Rattle.exact_model.specs.Atoms.{sum_by, atom_true_by, truth_by, pair_by, HasPlacesBelow, HasMarkedPlaces}
 use Rattle.exact_model.specs.Verdict.{literal_at, truth_in, AreTrueIn, AreModels, IsFirstFalse, IsVerdict, IsVerdictBy}
 use Rattle.exact_model.specs.declared.log.Verdict.{Verdict}
@@ -77,20 +79,24 @@ module _ (trees : List Tree) (marks : List Bool) (I : Interpretation) (values : 
 
 -- ---- a model of each state with this log
 
-are_models : (trees : List Tree) (atoms : List Atom) (log : List Signed) (tables : List Table) → AreTrueIn trees atoms (meaning tables) log → AreModels trees atoms log tables
-are_models trees atoms log tables h t about for = record {
+are_models : (trees : List Tree) (marks : List Bool) (atoms : List Atom) (log : List Signed) (tables : List Table) → AreTrueIn trees atoms (meaning tables) log → AllMarkedFit trees marks (meaning tables)
+    → AreModels trees marks atoms log tables
+are_models trees marks atoms log tables h fit t about for asserted = record {
   tables_for = for;
   makes_true = subst (λ ls. All (λ l. literal_true (truth t.reading (meaning tables)) l ≡ true) ls) (sym about.log_is)
       (subst (λ table. All (λ l. literal_true (truth_in t.reading.trees table (meaning tables)) l ≡ true) log) (sym about.table_is)
       (subst (λ ts. All (λ l. literal_true (truth_in ts atoms (meaning tables)) l ≡ true) log) (sym about.trees_are) h));
+  fits =
+      All-weaker (λ u. (p : ℕ) × (is_marked marks p ≡ true) × (tree_at trees p ≡ u)) (Fits (meaning tables)) (λ u m. subst (Fits (meaning tables)) m.2 (fit m.0 m.1))
+      (assertions_of t.reading.frames) asserted;
 }
 
 pub verdict_is : (trees : List Tree) (marks : List Bool) (tables : List Table) (values : List Value) (atoms : List Atom) (log : List Signed) (v : Verdict) → AreValues trees marks (meaning tables) values
-    → All (HasMarkedPlaces marks) atoms → All (λ (l : Signed). l.atom < length atoms) log → IsVerdictBy values atoms log v → IsVerdict trees marks atoms log tables v
-verdict_is trees marks tables values atoms log AllTrue are all below h =
-    are_models trees atoms log tables (literals_true trees marks (meaning tables) values are atoms all log below h)
-verdict_is trees marks tables values atoms log (False k) are all below h = first_false trees marks (meaning tables) values are atoms all log k below h
-verdict_is trees marks tables values atoms log (Range i) are all below h = absurd h
+    → AllMarkedFit trees marks (meaning tables) → All (HasMarkedPlaces marks) atoms → All (λ (l : Signed). l.atom < length atoms) log → IsVerdictBy values atoms log v → IsVerdict trees marks atoms log tables v
+verdict_is trees marks tables values atoms log AllTrue are fit all below h =
+    are_models trees marks atoms log tables (literals_true trees marks (meaning tables) values are atoms all log below h) fit
+verdict_is trees marks tables values atoms log (False k) are fit all below h = first_false trees marks (meaning tables) values are atoms all log k below h
+verdict_is trees marks tables values atoms log (Range i) are fit all below h = absurd h
 
 -- ---- the places of atoms
 

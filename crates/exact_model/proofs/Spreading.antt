@@ -1,14 +1,14 @@
 -- Values that are put at the marked places.
 use Rattle.std.proofs.Common.{◌≡◌, ℕ, zero, suc, ◌+◌, ◌<◌, ◌≤◌, Bool, true, false, List, [], ◌∷◌, ◌++◌, length, map, take, set, get_or, All, Contains, refl, sym, ap, subst, ◌∙◌, inl, inr, arith}
-use Rattle.std.specs.Prelude.{◌⊎◌}
+use Rattle.std.specs.Prelude.{◌⊎◌, IsTrue}
 use Rattle.std.proofs.lemmas.Bool.{cases_eq}
 use Rattle.std.proofs.lemmas.List.{take_more, get_or-map, get_or-set_same, get_or-set_other}
 use Rattle.std.proofs.lemmas.List.Elements.{All-nil, All-cons, All-push, All-weaker, All-contains, Contains-append_right}
 use Rattle.smt_meaning.specs.declared.values.Value.{Value}
 use Rattle.smt_meaning.specs.declared.values.Value.TheVariants.{Truth}
-use Rattle.smt_meaning.specs.Term.{Tree, tree_at, Interpretation, value}
+use Rattle.smt_meaning.specs.Term.{Tree, tree_at, Interpretation, value, fits}
 use Rattle.model_eval.specs.Walk.{is_marked}
-use Rattle.exact_model.specs.Places.{value_at, marked_from, marked_places, AreValues}
+use Rattle.exact_model.specs.Places.{value_at, marked_from, marked_places, AreValues, AllMarkedFit}
 
 -- ---- one value more
 
@@ -55,3 +55,6 @@ are_values trees marks I values size all = record {
   size = size;
   each = λ p m. All-contains (λ q. value_at values q ≡ value I (tree_at trees q)) (marked_places marks) p all (subst (Contains (marked_places marks)) (omega arith) (marked_stands 0 marks p m));
 }
+
+pub marked_fit : (trees : List Tree) (marks : List Bool) (I : Interpretation) → All (λ p. IsTrue (fits I (tree_at trees p))) (marked_places marks) → AllMarkedFit trees marks I
+marked_fit trees marks I all p m = All-contains (λ q. IsTrue (fits I (tree_at trees q))) (marked_places marks) p all (subst (Contains (marked_places marks)) (omega arith) (marked_stands 0 marks p m))

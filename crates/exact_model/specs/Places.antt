@@ -1,8 +1,8 @@
 -- Values by the places of terms.
-use Rattle.std.specs.Prelude.{◌≡◌, ℕ, suc, Bool, true, false, List, [], ◌∷◌, length, slice_index_or}
+use Rattle.std.specs.Prelude.{◌≡◌, ℕ, suc, Bool, true, false, List, [], ◌∷◌, length, slice_index_or, All, IsTrue}
 use Rattle.smt_meaning.specs.declared.values.Value.{Value}
 use Rattle.smt_meaning.specs.declared.values.Value.TheVariants.{Truth}
-use Rattle.smt_meaning.specs.Term.{Tree, tree_at, Interpretation, value}
+use Rattle.smt_meaning.specs.Term.{Tree, tree_at, Interpretation, value, fits}
 use Rattle.model_eval.specs.Walk.{is_marked}
 
 abbrev pub value_at : List Value → ℕ → Value
@@ -21,3 +21,11 @@ marked_places marks = marked_from 0 marks
 pub record AreValues (trees : List Tree) (marks : List Bool) (I : Interpretation) (values : List Value) : Type 0 where
   pub size : length values ≡ length trees
   pub each : (p : ℕ) → is_marked marks p ≡ true → value_at values p ≡ value I (tree_at trees p)
+
+-- of each marked term every number on the way is in the range
+abbrev pub AllMarkedFit : List Tree → List Bool → Interpretation → Type 0
+AllMarkedFit trees marks I = (p : ℕ) → is_marked marks p ≡ true → IsTrue (fits I (tree_at trees p))
+
+-- each of these terms stands at a marked place
+abbrev pub AreAtMarks : List Tree → List Bool → List Tree → Type 0
+AreAtMarks trees marks ts = All (λ t. (p : ℕ) × (is_marked marks p ≡ true) × (tree_at trees p ≡ t)) ts

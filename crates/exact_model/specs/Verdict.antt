@@ -7,12 +7,12 @@ use Rattle.smt_meaning.specs.declared.clauses.Atom.{Atom}
 use Rattle.smt_meaning.specs.Term.{Tree, Interpretation}
 use Rattle.smt_meaning.specs.Clause.{atom_true}
 use Rattle.smt_meaning.specs.Interpretation.{AreTablesFor, meaning}
-use Rattle.smt_meaning.specs.Stack.{signature_of}
+use Rattle.smt_meaning.specs.Stack.{signature_of, assertions_of}
 use Rattle.search_port.specs.State.{TheoryState, atom_at}
 use Rattle.search_port.specs.Calls.{IsModelOf}
 use Rattle.model_eval.specs.Unfit.{IsCauseOfAny}
 use Rattle.model_eval.specs.declared.EvalError.TheVariants.{Range as RangeOf}
-use Rattle.exact_model.specs.Places.{marked_places, AreValues}
+use Rattle.exact_model.specs.Places.{marked_places, AreValues, AreAtMarks}
 use Rattle.exact_model.specs.Atoms.{truth_by, HasMarkedPlaces}
 use Rattle.exact_model.specs.declared.log.Verdict.{Verdict}
 use Rattle.exact_model.specs.declared.log.Verdict.TheVariants.{AllTrue, False, Range}
@@ -42,9 +42,10 @@ pub record IsAbout (trees : List Tree) (atoms : List Atom) (log : List Signed) (
   pub table_is : t.reading.table ≡ atoms
   pub log_is : t.log ≡ log
 
--- tables for the declared functions are a model of each state with this log
-abbrev pub AreModels : List Tree → List Atom → List Signed → List Table → Type 0
-AreModels trees atoms log tables = (t : TheoryState) → IsAbout trees atoms log t → AreTablesFor (signature_of t.reading.frames) tables → IsModelOf t tables
+-- tables for the declared functions are a model of each state with this log whose assertions are marked
+abbrev pub AreModels : List Tree → List Bool → List Atom → List Signed → List Table → Type 0
+AreModels trees marks atoms log tables =
+    (t : TheoryState) → IsAbout trees atoms log t → AreTablesFor (signature_of t.reading.frames) tables → AreAtMarks trees marks (assertions_of t.reading.frames) → IsModelOf t tables
 
 -- the first literal that isn't true is false
 pub record IsFirstFalse (truth : ℕ → Bool) (log : List Signed) (k : ℕ) : Type 0 where
@@ -53,7 +54,7 @@ pub record IsFirstFalse (truth : ℕ → Bool) (log : List Signed) (k : ℕ) : T
   pub before : All (λ l. literal_true truth l ≡ true) (take k log)
 
 abbrev pub IsVerdict : List Tree → List Bool → List Atom → List Signed → List Table → Verdict → Type 0
-IsVerdict trees marks atoms log tables AllTrue = AreModels trees atoms log tables
+IsVerdict trees marks atoms log tables AllTrue = AreModels trees marks atoms log tables
 IsVerdict trees marks atoms log tables (False k) = IsFirstFalse (truth_in trees atoms (meaning tables)) log k
 IsVerdict trees marks atoms log tables (Range i) = IsCauseOfAny (meaning tables) trees (marked_places marks) (RangeOf i)
 

@@ -1,9 +1,9 @@
 //! The values of marked terms under tables, by place.
-ghost use Rattle.std.specs.Prelude.{◌≡◌, ℕ, ◌<◌, ◌≤◌, length, map, All, IfOk, IfErr};
+ghost use Rattle.std.specs.Prelude.{◌≡◌, ℕ, ◌<◌, ◌≤◌, length, map, All, OnOk, IfOk, IfErr};
 ghost use Rattle.smt_meaning.specs.declared.values.Value.{Value as ValueOf};
 ghost use Rattle.smt_meaning.specs.Interpretation.{meaning};
 ghost use Rattle.model_eval.specs.Unfit.{IsCauseOfAny};
-ghost use Rattle.exact_model.specs.Places.{value_at, marked_places, AreValues};
+ghost use Rattle.exact_model.specs.Places.{value_at, marked_places, AreValues, AllMarkedFit};
 
 use model_eval::{EvalError, values};
 use smt_meaning::{Interp, Seq, TermId, Value};
@@ -57,6 +57,7 @@ pub fn evaluated(
 ) -> Result<Values, EvalError>
     requires { length marks.now ≡ length store.now.trees }
     ensures values { IfOk result (AreValues store.now.trees marks.now (meaning tables.now)) }
+    ensures fits { OnOk result (AllMarkedFit store.now.trees marks.now (meaning tables.now)) }
     ensures cause { IfErr result (IsCauseOfAny (meaning tables.now) store.now.trees (marked_places marks.now)) }
 {
     let count = store.len() as usize;

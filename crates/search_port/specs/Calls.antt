@@ -4,7 +4,8 @@ use Rattle.std.specs.List.{range_with_len}
 use Rattle.literals.specs.Signed.{Signed, literal_true}
 use Rattle.smt_meaning.specs.declared.values.Table.{Table}
 use Rattle.smt_meaning.specs.Interpretation.{AreTablesFor, meaning}
-use Rattle.smt_meaning.specs.Stack.{signature_of}
+use Rattle.smt_meaning.specs.Model.{Fits}
+use Rattle.smt_meaning.specs.Stack.{signature_of, assertions_of}
 use Rattle.search_port.specs.State.{Reading, TheoryState, IsGrown, ComparesInts, atom_at, truth, AllFalseIn, IsPressing, IsMadeTrue}
 use Rattle.search_port.specs.Valid.{IsTheoryClause}
 use Rattle.search_port.specs.Spending.{Spending}
@@ -107,10 +108,11 @@ InferredBy t b c (InferConflict d) = IsConflict t d
 InferredBy t b c (InferLemmas cs) = AreNews t b c cs (IsPressing t.log)
 InferredBy t b c (InferEnded cause) = EndsBy t c cause
 
--- tables for the declared functions that make each asserted literal true
+-- tables for the declared functions that make each asserted literal true, and under which every number in an assertion is in the range
 pub record IsModelOf (t : TheoryState) (tables : List Table) : Type 0 where
   pub tables_for : AreTablesFor (signature_of t.reading.frames) tables
   pub makes_true : All (λ l. literal_true (truth t.reading (meaning tables)) l ≡ true) t.log
+  pub fits : All (Fits (meaning tables)) (assertions_of t.reading.frames)
 
 -- what a last check finds: a model, a conflict, or lemmas one of which isn't made true
 abbrev pub CheckedBy : TheoryState → Spending → Spending → Checked → Type 0
@@ -119,7 +121,7 @@ CheckedBy t b c (CheckConflict d) = IsConflict t d
 CheckedBy t b c (CheckLemmas cs) = AreNews t b c cs (λ ls. IsMadeTrue t.log ls → ⊥)
 CheckedBy t b c (CheckEnded cause) = EndsBy t c cause
 
--- tables that make each asserted literal true, or a conflict
+-- a model, or a conflict
 abbrev pub JudgedBy : TheoryState → Judged → Type 0
 JudgedBy t (JudgedFine tables) = IsModelOf t tables
 JudgedBy t (JudgedConflict c) = IsConflict t c

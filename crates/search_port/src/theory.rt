@@ -37,7 +37,7 @@ pub enum Inferred {
 /// What a theory finds where every atom has a truth value.
 #[derive(Drop)]
 pub enum Checked {
-    /// Tables that make each asserted literal true.
+    /// Tables that make each asserted literal true, and under which every number in an assertion is in the range.
     Fine(Interp),
     /// A clause that is false.
     Conflict(Lemma),

@@ -1,8 +1,8 @@
 -- The parts of a stack and their atoms, before anything is told.
-use Rattle.std.proofs.Common.{◌∙◌, ℕ, ◌+◌, ◌<◌, ◌^◌, Bool, List, ◌∷◌, [], length, All, ◌≢◌, sym, ap, subst}
+use Rattle.std.proofs.Common.{◌∙◌, ℕ, ◌+◌, ◌<◌, ◌^◌, Bool, List, ◌∷◌, [], length, get_or, All, ◌≢◌, sym, ap, subst, inl, refl}
 use Rattle.std.specs.Prelude.{AllPairs, slice_index_or, None}
 use Rattle.std.proofs.lemmas.List.{get_or_default}
-use Rattle.std.proofs.lemmas.List.Elements.{All-head, All-nil, All-tail, All-weaker}
+use Rattle.std.proofs.lemmas.List.Elements.{All-head, All-nil, All-tail, All-weaker, Contains-get_or}
 use Rattle.fraction128.specs.declared.Summand.{Summand}
 use Rattle.smt_meaning.specs.declared.values.Sort.{Sort}
 use Rattle.smt_meaning.specs.declared.values.Sort.TheVariants.{Bool as Truths, Int as Ints}
@@ -11,7 +11,9 @@ use Rattle.smt_meaning.specs.declared.clauses.Atom.TheVariants.{Truth, Same, AtM
 use Rattle.smt_meaning.specs.Clause.{atom_places}
 use Rattle.smt_meaning.specs.Signature.{is_bool}
 use Rattle.smt_meaning.specs.CheckAtoms.{AreCheckSums, IsLeaf}
-use Rattle.smt_meaning.specs.Stack.{signature_of}
+use Rattle.smt_meaning.specs.Term.{Tree, node}
+use Rattle.smt_meaning.specs.Parts.{IsPart}
+use Rattle.smt_meaning.specs.Stack.{signature_of, assertions_of}
 use Rattle.smt_meaning.specs.StackCommand.{Stack}
 use Rattle.smt_meaning.specs.TreeShape.{is_linear}
 use Rattle.smt_laws.specs.SortLaws.{SymbolsAreDeclared}
@@ -26,6 +28,7 @@ use Rattle.check_atoms.specs.Laws.{AtomsAreFirst}
 use Rattle.first_clauses.specs.Shapes.{AreFlags}
 use Rattle.first_clauses.proofs.Parts as Parts
 use Rattle.model_build.specs.Parts.{AreSortedParts}
+use Rattle.exact_model.specs.Places.{AreAtMarks}
 use Rattle.closure_log.specs.Seen.{IsOfTerms, IsSetting}
 use Rattle.theory_steps.specs.declared.errors.BoundError.{BoundError}
 use Rattle.theory_steps.specs.declared.errors.BoundError.TheVariants.{Memory, Range}
@@ -38,6 +41,15 @@ use Rattle.theory_steps.proofs.Comparing.{over_leaves}
 use Rattle.theory_steps.proofs.Marking.{marked_is_of}
 use Rattle.theory_steps.proofs.Past.{step_left}
 use Rattle.theory_steps.proofs.Sums.{check_sums}
+
+itself : (t : Tree) → IsPart t t
+itself (node h us) = inl refl
+
+-- the assertions are among the parts
+pub asserted_at : (s : Stack) (marks : List Bool) → AreStackParts s marks → AreAtMarks s.trees marks (assertions_of s.frames)
+asserted_at s marks parts = λ k d l.
+    (let t : Tree = get_or (assertions_of s.frames) k d in
+    parts.each t (record { assertion = t; asserted = Contains-get_or (assertions_of s.frames) k d l; part = itself t }))
 
 module _ (s : Stack) (marks : List Bool) (law : IsLawful s) (parts : AreStackParts s marks) (table : List Atom) (atoms : AreCheckAtoms s marks table) (sorts : List Sort) (sorted : AreSorts (signature_of s.frames) s.trees (length s.trees) sorts) where
   pub sorted_parts : AreSortedParts (signature_of s.frames) s.trees marks

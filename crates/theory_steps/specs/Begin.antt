@@ -5,7 +5,7 @@ use Rattle.smt_meaning.specs.declared.values.Sort.{Sort}
 use Rattle.smt_meaning.specs.declared.values.Sort.TheVariants.{Bool as Truths, Int as Ints}
 use Rattle.smt_meaning.specs.declared.clauses.Atom.{Atom}
 use Rattle.smt_meaning.specs.declared.clauses.Atom.TheVariants.{Truth as TruthAtom, Same as SameAtom, AtMost}
-use Rattle.smt_meaning.specs.Stack.{signature_of}
+use Rattle.smt_meaning.specs.Stack.{signature_of, assertions_of}
 use Rattle.smt_meaning.specs.StackCommand.{Stack}
 use Rattle.check_atoms.specs.Marks.{AreStackParts}
 use Rattle.model_build.specs.Parts.{AreSortedParts}
@@ -14,6 +14,7 @@ use Rattle.atom_form.specs.declared.atom.NumberedAtom.{NumberedAtom}
 use Rattle.atom_form.specs.declared.atom.NumberedAtom.TheVariants.{Truth, Same, Bound}
 use Rattle.bound_log.specs.Told.{column_sums}
 use Rattle.bound_log.specs.Pending.{plain_grid}
+use Rattle.exact_model.specs.Places.{AreAtMarks}
 use Rattle.theory_steps.specs.declared.start.Begun.{Begun}
 use Rattle.theory_steps.specs.Numbering.{IsWhole}
 use Rattle.theory_steps.specs.Pairs.{HaveReadable}
@@ -38,6 +39,7 @@ pub record IsBegun (s : Stack) (marks : List Bool) (atoms : Atoms) (b : Begun) :
   pub parts : AreSortedParts (signature_of s.frames) s.trees marks
   pub readable : HaveReadable s.trees marks b.readable.items
   pub of_assertions : AreStackParts s marks
+  pub asserted : AreAtMarks s.trees marks (assertions_of s.frames)
   pub whole : IsWhole s marks atoms b.held
   pub log : b.held.closure.log.items ≡ []
   pub shown : AreShown s (column_sums b.held.bounds) [] None atoms.atoms

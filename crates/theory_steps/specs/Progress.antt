@@ -1,6 +1,6 @@
 -- What a search is about, and how far it has come.
 use Rattle.std.specs.Prelude.{◌≡◌, None}
-use Rattle.smt_meaning.specs.Stack.{signature_of}
+use Rattle.smt_meaning.specs.Stack.{signature_of, assertions_of}
 use Rattle.search_port.specs.State.{TheoryState}
 use Rattle.search_port.specs.Spending.{Spending}
 use Rattle.search_port.specs.Calls.{Goes}
@@ -11,6 +11,7 @@ use Rattle.model_build.specs.Parts.{AreSortedParts}
 use Rattle.closure_log.specs.Seen.{state_of}
 use Rattle.bound_log.specs.Told.{column_sums}
 use Rattle.odd_parts.specs.Parts.{AreWideXors}
+use Rattle.exact_model.specs.Places.{AreAtMarks}
 use Rattle.theory_steps.specs.declared.parts.Parts.{Parts}
 use Rattle.theory_steps.specs.declared.parts.Progress.{Progress}
 use Rattle.theory_steps.specs.Columns.{variables_of}
@@ -18,11 +19,11 @@ use Rattle.theory_steps.specs.Numbering.{table_of, IsNumbered, IsWhole}
 use Rattle.theory_steps.specs.Pairs.{HaveReadable}
 use Rattle.theory_steps.specs.Shown.{AreShown}
 
--- the parts of a stack's assertions, which of them bounds can read, and which are wide `xor`s
+-- the parts of a stack's assertions, which of them bounds can read, which are wide `xor`s, and the assertions among them
 abbrev pub AreParts : Parts → Type 0
 AreParts p =
     AreSortedParts (signature_of p.stack.now.frames) p.stack.now.trees p.marks.items × HaveReadable p.stack.now.trees p.marks.items p.readable.items
-    × AreStackParts p.stack.now p.marks.items × AreWideXors p.stack.now.trees p.marks.items p.wide_xors.items
+    × AreStackParts p.stack.now p.marks.items × AreWideXors p.stack.now.trees p.marks.items p.wide_xors.items × AreAtMarks p.stack.now.trees p.marks.items (assertions_of p.stack.now.frames)
 
 -- the atoms that are told of, and what was told
 abbrev pub state : Parts → Progress → TheoryState

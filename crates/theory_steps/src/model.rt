@@ -1,9 +1,10 @@
 //! A model of what was told, from values, which is evaluated before it is given.
 ghost use Rattle.std.specs.Prelude.{◌≡◌, length, IfOk};
 ghost use Rattle.smt_meaning.specs.Interpretation.{AreTablesFor};
-ghost use Rattle.smt_meaning.specs.Stack.{signature_of};
+ghost use Rattle.smt_meaning.specs.Stack.{signature_of, assertions_of};
 ghost use Rattle.model_build.specs.Building.{AreGiven};
 ghost use Rattle.model_build.specs.Parts.{AreSortedParts};
+ghost use Rattle.exact_model.specs.Places.{AreAtMarks};
 ghost use Rattle.theory_steps.specs.Numbering.{IsWhole};
 ghost use Rattle.theory_steps.specs.Found.{IsFound};
 
@@ -95,6 +96,7 @@ fn evaluate(
     tables: Interp,
 ) -> Result<Found, AllocError>
     requires size { length marks.now ≡ length stack.now.trees }
+    requires asserted { AreAtMarks stack.now.trees marks.now (assertions_of stack.now.frames) }
     requires whole { IsWhole stack.now marks.now atoms.now held.now }
     requires tables { AreTablesFor (signature_of stack.now.frames) tables }
     ensures { IfOk result (IsFound stack.now atoms.now.atoms held.now.closure.log.items) }
@@ -124,6 +126,7 @@ pub(crate) fn find_model(
     wide_distincts: &[TermId],
 ) -> Result<Found, AllocError>
     requires parts { AreSortedParts (signature_of stack.now.frames) stack.now.trees marks.now }
+    requires asserted { AreAtMarks stack.now.trees marks.now (assertions_of stack.now.frames) }
     requires whole { IsWhole stack.now marks.now atoms.now held.now }
     ensures { IfOk result (IsFound stack.now atoms.now.atoms held.now.closure.log.items) }
 {

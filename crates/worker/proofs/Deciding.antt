@@ -1,28 +1,22 @@
 -- How a search begins, and what its outcome says of the assertions.
-use Rattle.std.proofs.Common.{◌≡◌, ℕ, zero, suc, ◌<◌, ◌≤◌, false, List, [], ◌∷◌, map, length, get_or, All, subst, sym, ap, arith, refl}
-use Rattle.std.specs.Prelude.{IsTrue, ℤ, Bool}
-use Rattle.std.proofs.lemmas.List.Elements.{All-weaker, All-same, All-map}
+use Rattle.std.proofs.Common.{◌≡◌, ℕ, ◌≤◌, false, List, [], length, All, subst, sym, ap, arith, refl}
+use Rattle.std.specs.Prelude.{Bool}
+use Rattle.std.proofs.lemmas.List.Elements.{All-weaker}
 use Rattle.clause_store.specs.Stored.{Kept, Stored}
 use Rattle.smt_meaning.specs.declared.values.Table.{Table}
 use Rattle.smt_meaning.specs.declared.clauses.Atom.{Atom}
 use Rattle.smt_meaning.specs.Declaration.{Declaration}
-use Rattle.smt_meaning.specs.Term.{tree_at, Interpretation, fits}
 use Rattle.smt_meaning.specs.Interpretation.{AreTablesFor, meaning}
 use Rattle.smt_meaning.specs.Model.{Fits}
 use Rattle.smt_meaning.specs.Stack.{signature_of, assertions_of, Holds}
 use Rattle.smt_meaning.specs.StackCommand.{Stack}
-use Rattle.scope_stack.specs.declared.answers.Assertion.{Assertion}
-use Rattle.scope_stack.specs.Shown.{AreAsserted}
 use Rattle.search_port.specs.State.{Reading, TheoryState, IsGrown}
 use Rattle.search_port.specs.Valid.{IsOver, FollowsAt}
 use Rattle.cdcl_core.specs.Search.{IsFresh, IsModel, AreAmong}
 use Rattle.search_port.specs.Spending.{Spending}
-use Rattle.search_port.specs.declared.budget.Cause.{Cause as Ending}
-use Rattle.cdcl_core.specs.Turns.{HeardBetween, NoHook}
-use Rattle.worker.specs.declared.decide.Found.{Found}
-use Rattle.worker.specs.declared.decide.Found.TheVariants.{Model, NoModel, Report, Cancelled}
-use Rattle.worker.specs.Endings.{IsFound, IsHeard}
-use Rattle.smt_laws.specs.Flat.{flat}
+use Rattle.cdcl_core.specs.Turns.{HeardBetween}
+use Rattle.worker.specs.Endings.{IsHeard}
+use Rattle.smt_laws.specs.Flat.{flat, FlatSaysTheSame}
 use Rattle.first_clauses.specs.PartClausesFirst.{IsClause}
 use Rattle.first_clauses.specs.CheckClausesFirst.{reading_of, IsFirst}
 use Rattle.first_clauses.specs.Laws.{FirstClausesSayAssertions, SignatureStays}
@@ -64,13 +58,6 @@ heard_from Led k share v w b c e h = record {
   heard = h;
 }
 
--- nothing that no hook stopped was stopped by one
-pub unstopped : (s : Stack) (limit : ℤ) (w : ℕ) (stopped : Ending → Type 0) (f : Found) → IsFound s limit w NoHook f → IsFound s limit w stopped f
-unstopped s limit w stopped (Model i) h = h
-unstopped s limit w stopped NoModel h = h
-unstopped s limit w stopped (Report r) h = h
-unstopped s limit w stopped (Cancelled v) h = absurd h
-
 -- ---- a model
 
 pub tables_for : SignatureStays → (s : Stack) (table : List Atom) (q : Reading) (clauses : List Kept) (tables : List Table) → IsGrown (reading_of s table) q → IsModel q clauses tables
@@ -81,27 +68,7 @@ pub holds : FirstClausesSayAssertions → (s : Stack) (table : List Atom) (first
     → AreAmong first.clauses clauses → IsModel q clauses tables → Holds (meaning tables) s.frames
 holds law s table first q clauses tables f g among m = law s table first q (meaning tables) f g (λ c k. m.makes_true c (among c k))
 
--- ---- the assertions fit
-
-pub places_within : (s : Stack) (xs : List Assertion) (ps : List ℕ) → AreAsserted s xs → ps ≡ map (λ (a : Assertion). a.term) xs → All (λ t. t < length s.trees) ps
-places_within s xs ps h e = All-same (λ t. t < length s.trees) ps (map (λ (a : Assertion). a.term) xs) e (All-map (λ t. t < length s.trees) (λ (a : Assertion). a.term) xs h.within)
-
-from_map : (P : ℕ → Type 0) (xs : List Assertion) → All P (map (λ (a : Assertion). a.term) xs) → All (λ (a : Assertion). P a.term) xs
-from_map P xs h = λ k d l. subst P (at xs k d) (h k d.term (longer xs k l))
-  where
-    at : (ys : List Assertion) (k : ℕ) (d : Assertion) → get_or (map (λ (a : Assertion). a.term) ys) k d.term ≡ (get_or ys k d).term
-    at [] k d = refl
-    at (y ∷ ys) zero d = refl
-    at (y ∷ ys) (suc k) d = at ys k d
-
-    longer : (ys : List Assertion) (k : ℕ) → k < length ys → k < length (map (λ (a : Assertion). a.term) ys)
-    longer [] k l = l
-    longer (y ∷ ys) zero l = omega arith
-    longer (y ∷ ys) (suc k) l = let rest = longer ys k (omega (arith, l)) in omega (arith, rest)
-
-pub all_fit : (s : Stack) (I : Interpretation) (xs : List Assertion) (ps : List ℕ) → AreAsserted s xs → ps ≡ map (λ (a : Assertion). a.term) xs → All (λ t. IsTrue (fits I (tree_at s.trees t))) ps
-    → All (Fits I) (assertions_of s.frames)
-all_fit s I xs ps h e f =
-    All-same (Fits I) (assertions_of s.frames) (map (λ (a : Assertion). tree_at s.trees a.term) xs) (sym h.terms)
-    (All-map (Fits I) (λ (a : Assertion). tree_at s.trees a.term) xs
-    (from_map (λ t. IsTrue (fits I (tree_at s.trees t))) xs (All-same (λ t. IsTrue (fits I (tree_at s.trees t))) (map (λ (a : Assertion). a.term) xs) ps (sym e) f)))
+pub fit : FlatSaysTheSame → (s : Stack) (table : List Atom) (q : Reading) (clauses : List Kept) (tables : List Table) → IsGrown (reading_of s table) q → IsModel q clauses tables
+    → All (Fits (meaning tables)) (assertions_of s.frames)
+fit law s table q clauses tables g m =
+    subst (All (Fits (meaning tables))) (law s.frames).assertions (subst (λ (r : Reading). All (Fits (meaning tables)) (assertions_of r.frames)) g.is m.fits)

@@ -20,7 +20,6 @@ use Rattle.smt_meaning.specs.Declaration.{Declaration}
 use Rattle.smt_meaning.specs.Term.{Tree, fits}
 use Rattle.smt_meaning.specs.Signature.{tree_sort}
 use Rattle.smt_meaning.specs.Interpretation.{meaning, AreTablesFor}
-use Rattle.smt_meaning.specs.Model.{Fits}
 use Rattle.smt_meaning.specs.Stack.{signature_of, assertions_of}
 use Rattle.smt_meaning.specs.StackCommand.{Stack}
 use Rattle.smt_meaning.specs.Atoms.{atoms_of, pair_atoms, stack_atoms, stack_atoms_are}
@@ -138,11 +137,6 @@ module _ (s : Stack) (law : IsLawful s) (free : has_no_integers s.frames ≡ tru
   nothing_leaves interpret sorts sums branches (Argument place g) e none h = no_int_part h.tree place h.argument.int
   nothing_leaves interpret sorts sums branches (StepSeen g) e none h = no_step_leaves sums g branches e none h
   nothing_leaves interpret sorts sums branches (Model tables place g) e none h = both_truths _ (fits_free interpret sorts tables h.tree h.tables h.part) h.outside
-
-  pub all_fit : TablesInterpret → ValueHasItsSort → (tables : List Table) → AreTablesFor ds tables → All (Fits (meaning tables)) (assertions_of s.frames)
-  all_fit interpret sorts tables for_these = λ k d l.
-      (let t : Tree = get_or (assertions_of s.frames) k d in
-      it_fits sorts ds (meaning tables) (interpret ds tables law.no_id_twice for_these) t (assertion_is_free t (Contains-get_or (assertions_of s.frames) k d l)))
 
 pub no_range : TablesInterpret → ValueHasItsSort → NothingLeavesRange
 no_range interpret sorts s branches seen law free past =

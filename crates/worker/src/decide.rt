@@ -1,13 +1,9 @@
 //! The search.
-ghost use Rattle.std.specs.Prelude.{◌≡◌, [], map, IfOk, false};
-ghost use Rattle.scope_stack.specs.declared.answers.Assertion.{Assertion as AssertionOf};
-ghost use Rattle.smt_meaning.specs.Interpretation.{AreTablesFor, meaning};
-ghost use Rattle.smt_meaning.specs.Stack.{signature_of, Holds};
+ghost use Rattle.std.specs.Prelude.{◌≡◌, [], false};
 ghost use Rattle.smt_meaning.specs.Kinds.{has_no_integers};
 ghost use Rattle.fraction128.specs.Lines.{first_basis};
 ghost use Rattle.search_port.specs.Pivots.{AreBasic};
 ghost use Rattle.cdcl_core.specs.Search.{AreAgreed};
-ghost use Rattle.cdcl_core.specs.Turns.{NoHook};
 ghost use Rattle.smt_laws.specs.Flat.{flat};
 ghost use Rattle.first_clauses.specs.CheckClausesFirst.{reading_of, IsFirst};
 ghost use Rattle.worker.specs.Endings.{IsFound, IsHeard, MemoryAloneIsFound};
@@ -15,21 +11,19 @@ ghost use Rattle.worker.specs.Shown.{HasStackAtoms};
 
 use crate::ending::{all_spent, stopped};
 use crate::limits::{has_limit, units_within};
-use crate::report::out_of_memory;
 use cdcl_core::fresh_stands;
 use cdcl_core::hook::Hook;
 use cdcl_core::solve::{Outcome, solve};
 use clause_store::store::Store;
 use first_clauses::{empty_clause_means_no_model, first_clauses_say_assertions, signature_stays};
-use model_eval::values;
-use scope_stack::{Assertion, Stack};
+use scope_stack::Stack;
 use search_order::Order;
 use search_port::{
     Budget, Cause as Ending, Shown, follows_as_written, forces_by_numbers, forces_in_turn,
 };
-use smt_laws::{flat_says_the_same, tables_interpret, value_has_its_sort};
-use smt_meaning::{Interp, Report, Settings, TermId};
-use std::alloc::{AllocError, Global};
+use smt_laws::flat_says_the_same;
+use smt_meaning::{Interp, Report, Settings};
+use std::alloc::Global;
 
 /// What a search comes to.
 #[derive(Drop)]
@@ -41,48 +35,6 @@ pub(crate) enum Found {
     Report(Report),
     /// The hook stopped it: the worker with this number has answered.
     Cancelled(u8),
-}
-
-/// The places of the assertions.
-fn places_of(alloc: Global, assertions: &[Assertion]) -> Result<Vec<TermId>, AllocError>
-    ensures { IfOk result (λ places. places.items ≡ map (λ (a : AssertionOf). a.term) assertions.now) }
-{
-    let mut places = Vec::new(alloc);
-    for assertion in assertions {
-        places.push(assertion.term)?;
-    }
-    Ok(places)
-}
-
-/// Tables that make the assertions true, if each number on the way is in the range. Where no part is an Int there is no number. Tables that can't be evaluated so end in want of memory.
-fn model(
-    alloc: Global,
-    stack: &Stack,
-    settings: &Settings,
-    is_integer_free: bool,
-    worker: u8,
-    tables: Interp,
-) -> Found
-    requires integers { is_integer_free ≡ has_no_integers stack.now.frames }
-    requires tables { AreTablesFor (signature_of stack.now.frames) tables }
-    requires holds { Holds (meaning tables) stack.now.frames }
-    ensures found { IsFound stack.now settings.now.units worker NoHook result }
-    ensures memory { MemoryAloneIsFound stack.now.frames settings.now.units result }
-{
-    if is_integer_free {
-        stack.laws();
-        tables_interpret();
-        value_has_its_sort();
-        return Found::Model(tables);
-    }
-    let places = match places_of(alloc, stack.assertions()) {
-        Ok(places) => places,
-        Err(_) => return Found::Report(out_of_memory(alloc, stack, settings, worker)),
-    };
-    match values(alloc, &tables, stack.terms(), &places) {
-        Ok(_) => Found::Model(tables),
-        Err(_) => Found::Report(out_of_memory(alloc, stack, settings, worker)),
-    }
 }
 
 /// Searches from the first clauses on, with a theory that was told nothing and made no pivot: a model of all of them under which each number is in the range is one of the
@@ -134,7 +86,7 @@ pub(crate) fn search<T: Shown, H: Hook<T>>(
         &mut budget,
         hook,
     ) {
-        Outcome::Full(tables) => model(alloc, stack, settings, is_integer_free, worker, tables),
+        Outcome::Full(tables) => Found::Model(tables),
         Outcome::False(_) => Found::NoModel,
         Outcome::Ended(Ending::Units) => Found::Report(all_spent(
             alloc,

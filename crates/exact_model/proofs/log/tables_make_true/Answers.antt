@@ -12,5 +12,5 @@ returns-in-Ok c =
     subst (AreValues c.args.store.now.trees c.args.marks.now (meaning c.args.tables.now)) (sym c.as_slice.ensures) c.in-Ok.ensures.values in
     IfOk-weaker c.judged.result (IsVerdictBy c.as_slice.result.now c.args.atoms.now.atoms c.args.log.now)
     (IsVerdict c.args.store.now.trees c.args.marks.now c.args.atoms.now.atoms c.args.log.now c.args.tables.now)
-    (λ v h. verdict_is c.args.store.now.trees c.args.marks.now c.args.tables.now c.as_slice.result.now c.args.atoms.now.atoms c.args.log.now v are c.requires.atoms c.requires.log h)
+    (λ v h. verdict_is c.args.store.now.trees c.args.marks.now c.args.tables.now c.as_slice.result.now c.args.atoms.now.atoms c.args.log.now v are c.in-Ok.ensures.fits c.requires.atoms c.requires.log h)
     c.judged.ensures

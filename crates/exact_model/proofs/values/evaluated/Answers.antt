@@ -1,8 +1,9 @@
 use Rattle.std.proofs.Common.{◌≡◌, ◌<◌, ℕ, length, map, All, List, subst, sym, ap, ◌∙◌, arith}
-use Rattle.smt_meaning.specs.Term.{tree_at, value}
+use Rattle.std.specs.Prelude.{IsTrue}
+use Rattle.smt_meaning.specs.Term.{tree_at, value, fits}
 use Rattle.smt_meaning.specs.Interpretation.{meaning}
 use Rattle.exact_model.specs.Places.{value_at, AreValues}
-use Rattle.exact_model.proofs.Spreading.{marked_within, are_values}
+use Rattle.exact_model.proofs.Spreading.{marked_within, are_values, marked_fit}
 use Rattle.exact_model.proofs.values.evaluated.Goals as goal
 
 pub values-requires : goal.values-requires
@@ -26,3 +27,8 @@ returns-clause-values c =
     (are_values c.args.store.now.trees c.args.marks.now (meaning c.args.tables.now) c.in_ok-all.all.items size
     (subst (λ (ps : List ℕ). All (λ p. value_at c.in_ok-all.all.items p ≡ value (meaning c.args.tables.now) (tree_at c.args.store.now.trees p)) ps) (c.deref-2.ensures.value ∙ c.in_ok-places.ensures)
     (c.in_ok-all.ensures.each (λ t. value (meaning c.args.tables.now) (tree_at c.args.store.now.trees t)) found)))
+
+pub returns-clause-fits : goal.returns-clause-fits
+returns-clause-fits c =
+    marked_fit c.args.store.now.trees c.args.marks.now (meaning c.args.tables.now)
+    (subst (λ (ps : List ℕ). All (λ p. IsTrue (fits (meaning c.args.tables.now) (tree_at c.args.store.now.trees p))) ps) (c.deref.ensures.value ∙ c.in_ok-places.ensures) c.in_ok-found.ensures.fits)

@@ -4,7 +4,7 @@ use Rattle.term_store.specs.Terms.{AreDifferent}
 use Rattle.bound_log.specs.Told.{column_sums}
 use Rattle.closure_log.specs.Places.{ArePlaces}
 use Rattle.theory_steps.specs.Columns.{with_leaves}
-use Rattle.theory_steps.proofs.Beginning.{sorted_parts, readable, setting, begins_known, begins_shown}
+use Rattle.theory_steps.proofs.Beginning.{asserted_at, sorted_parts, readable, setting, begins_known, begins_shown}
 use Rattle.theory_steps.proofs.Sums.{sums_in}
 use Rattle.theory_steps.proofs.start.begin_with.Goals as goal
 
@@ -35,6 +35,7 @@ returns c =
       };
       log = c.in_ok-closure.ensures.log;
       of_assertions = c.requires.marks;
+      asserted = asserted_at c.args.stack.now c.args.marks.now c.requires.marks;
       shown =
           begins_shown c.flat_says_the_same.ensures c.atoms_are_first.ensures c.args.stack.now c.args.marks.now c.args.atoms.now.atoms c.laws.ensures c.requires.marks c.requires.atoms (column_sums bounds)
           (begins_known c.flat_says_the_same.ensures c.atoms_are_first.ensures c.args.stack.now c.args.marks.now c.args.atoms.now.atoms c.laws.ensures c.requires.marks c.requires.atoms columns.own columns.leaves

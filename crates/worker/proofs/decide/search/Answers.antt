@@ -7,7 +7,7 @@ use Rattle.smt_laws.specs.Flat.{flat}
 use Rattle.first_clauses.specs.CheckClausesFirst.{reading_of}
 use Rattle.cdcl_core.specs.Search.{IsAddable}
 use Rattle.cdcl_core.specs.Turns.{EndsSearch}
-use Rattle.worker.proofs.Deciding.{fresh, heard, heard_from, tables_for, holds, unstopped}
+use Rattle.worker.proofs.Deciding.{fresh, heard, heard_from, tables_for, holds, fit}
 use Rattle.worker.proofs.Showing.{budget_of, frames_stay, of_numbers, shows_units, trees_stay}
 use Rattle.worker.proofs.Units.{of_worker}
 use Rattle.worker.proofs.decide.search.Goals as goal
@@ -30,24 +30,17 @@ solve-requires-clause-shorts g c =
     let before : Reading = (g.T.Theory.state c.args.theory).reading in
     subst (λ (b : Spending). All (IsAddable before) b.short) (sym c.new-budget.ensures) (All-nil (IsAddable before))
 
-pub model-requires-clause-tables : goal.model-requires-clause-tables
-model-requires-clause-tables g c =
-    let s = c.args.stack.now in
-    let before : Reading = (g.T.Theory.state c.args.theory).reading in
-    let after : Reading = (g.T.Theory.state c.solve.new.theory).reading in
-    let grown : IsGrown (reading_of s before.table) after = subst (λ (r : Reading). IsGrown r after) c.requires.reading c.in-Full.ensures.run.turns.grown in
-    tables_for c.signature_stays.ensures s before.table after c.solve.new.store.clauses c.in-Full.tables grown c.in-Full.ensures.outcome
-
-pub model-requires-clause-holds : goal.model-requires-clause-holds
-model-requires-clause-holds g c =
-    let s = c.args.stack.now in
-    let before : Reading = (g.T.Theory.state c.args.theory).reading in
-    let after : Reading = (g.T.Theory.state c.solve.new.theory).reading in
-    let grown : IsGrown (reading_of s before.table) after = subst (λ (r : Reading). IsGrown r after) c.requires.reading c.in-Full.ensures.run.turns.grown in
-    holds c.first_clauses_say_assertions.ensures s before.table c.args.store after c.solve.new.store.clauses c.in-Full.tables c.requires.first grown c.in-Full.ensures.run.stay c.in-Full.ensures.outcome
-
 pub returns-in-Full-clause-found : goal.returns-in-Full-clause-found
-returns-in-Full-clause-found g c = unstopped c.args.stack.now c.args.settings.now.units c.args.worker (g.H.Hook.stopped c.solve.new.hook) _ c.model.ensures.found
+returns-in-Full-clause-found g c =
+    let s = c.args.stack.now in
+    let before : Reading = (g.T.Theory.state c.args.theory).reading in
+    let after : Reading = (g.T.Theory.state c.solve.new.theory).reading in
+    let grown : IsGrown (reading_of s before.table) after = subst (λ (r : Reading). IsGrown r after) c.requires.reading c.in-Full.ensures.run.turns.grown in
+    record {
+      tables = tables_for c.signature_stays.ensures s before.table after c.solve.new.store.clauses c.in-Full.tables grown c.in-Full.ensures.outcome;
+      holds = holds c.first_clauses_say_assertions.ensures s before.table c.args.store after c.solve.new.store.clauses c.in-Full.tables c.requires.first grown c.in-Full.ensures.run.stay c.in-Full.ensures.outcome;
+      fits = fit c.flat_says_the_same.ensures s before.table after c.solve.new.store.clauses c.in-Full.tables grown c.in-Full.ensures.outcome;
+    }
 
 pub returns-in-False-clause-found : goal.returns-in-False-clause-found
 returns-in-False-clause-found g c =
