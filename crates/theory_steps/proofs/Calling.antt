@@ -50,7 +50,7 @@ inferred_with t v b c (InferLemmas cs) h = news_with t v b c cs (IsPressing t.lo
 inferred_with t v b c (InferEnded cause) h = ends_with t v c cause h
 
 pub checked_with : (t : TheoryState) (v : Variables) (b c : Spending) (i : Checked) → CheckedBy t b c i → CheckedBy (with_variables t v) b c i
-checked_with t v b c (Fine tables) h = record { tables_for = h.tables_for; makes_true = h.makes_true }
+checked_with t v b c (Fine tables) h = record { tables_for = h.tables_for; makes_true = h.makes_true; fits = h.fits }
 checked_with t v b c (CheckConflict d) h = conflict_with t v d h
 checked_with t v b c (CheckLemmas cs) h = news_with t v b c cs (λ ls. IsMadeTrue t.log ls → ⊥) h
 checked_with t v b c (CheckEnded cause) h = ends_with t v c cause h
