@@ -1,26 +1,28 @@
 -- The atoms that a check may have, and the bounds that they put on sums.
-use Rattle.std.specs.Prelude.{◌≡◌, ◌⊎◌, ℕ, Bool, true, false, List, [], ◌∷◌, map, ℤ, pos, ◌-ℤ◌, neg_ℤ, Some, Contains, if◌then◌else◌}
+use Rattle.std.specs.Prelude.{◌≡◌, ◌⊎◌, ℕ, Bool, true, false, List, [], ◌∷◌, map, ℤ, pos, ◌-ℤ◌, ◌*ℤ◌, ◌≤ℤ◌, neg_ℤ, Some, Contains, if◌then◌else◌}
 use Rattle.fraction128.specs.declared.Summand.{Summand as GridSummand}
 use Rattle.fraction128.specs.declared.Pending.{Pending}
 use Rattle.fraction128.specs.declared.Side.{Side}
 use Rattle.fraction128.specs.declared.Side.TheVariants.{Lower, Upper}
 use Rattle.fraction128.specs.declared.Line.{Line}
 use Rattle.fraction128.specs.Grid.{leaf, turned, bound_number, bounds_above}
-use Rattle.fraction128.specs.Lines.{AreSums, IsRowIn, IsBranchLine}
+use Rattle.fraction128.specs.declared.ratio.Ratio.{Ratio}
+use Rattle.fraction128.specs.Number.{SameNumber}
+use Rattle.fraction128.specs.Lines.{AreSums, IsPositive, IsRowIn, IsBranchLine, sum_value}
 use Rattle.smt_meaning.specs.declared.values.Sort.TheVariants.{Int as Ints}
 use Rattle.smt_meaning.specs.declared.terms.Operator.TheVariants.{Add, Subtract, Multiply}
 use Rattle.smt_meaning.specs.declared.terms.Head.{Head}
 use Rattle.smt_meaning.specs.declared.terms.Head.TheVariants.{Numeral, Theory}
 use Rattle.smt_meaning.specs.declared.clauses.Summand.{Summand}
 use Rattle.smt_meaning.specs.declared.clauses.Atom.{Atom}
-use Rattle.smt_meaning.specs.declared.clauses.Atom.TheVariants.{AtMost}
+use Rattle.smt_meaning.specs.declared.clauses.Atom.TheVariants.{Truth, AtMost, Same}
 use Rattle.smt_meaning.specs.Term.{Tree, node}
 use Rattle.smt_meaning.specs.TreeShape.{place_of}
 use Rattle.smt_meaning.specs.Parts.{IsPart}
 use Rattle.smt_meaning.specs.Signature.{tree_sort}
 use Rattle.smt_meaning.specs.Stack.{Frame, signature_of, assertions_of}
-use Rattle.smt_meaning.specs.Atoms.{pair_atoms, stack_atoms}
-use Rattle.smt_meaning.specs.Boxes.{IsInBox, term_at_most, negation_at_most}
+use Rattle.smt_meaning.specs.Atoms.{pair_atoms, stack_atoms, positive, division_clauses}
+use Rattle.smt_meaning.specs.Boxes.{IsInBox, asserted_atoms, term_at_most, negation_at_most}
 
 -- ---- parts of the assertions
 
@@ -95,19 +97,40 @@ pub record IsBoundOf (Is : Atom → Type 0) (sum : List GridSummand) (side : Sid
   pub side_is : side ≡ (if bounds_above (told terms most positive) then Upper else Lower)
   pub number_is : number ≡ bound_number (told terms most positive)
 
+-- ---- what stands whatever is decided
+
+-- one of these atoms is true wherever the assertions are: it is what an assertion, or a conjunct of one, says of neighbours; or they are a clause of a division
+abbrev pub IsStanding : List Tree → List Frame → List Atom → Type 0
+IsStanding ts frames as =
+    ((a : Atom) × Contains (asserted_atoms ts frames) a × (as ≡ a ∷ [])) ⊎ ((t : Tree) × IsPartOfStack frames t × Contains (division_clauses ts t) (map positive as))
+
+-- the values of the terms, which may be fractions, meet the bound; of no other atom they say anything
+abbrev pub Meets : (ℕ → Ratio) → Atom → Type 0
+Meets w (AtMost ps k) = (sum_value w (grid_sum ps)).numerator ≤ℤ (k *ℤ pos (sum_value w (grid_sum ps)).denominator)
+Meets w (Truth i) = Unit {0}
+Meets w (Same i j) = Unit {0}
+
+-- some values that meet what stands give the term this value
+pub record IsReached (ts : List Tree) (frames : List Frame) (term : ℕ) (x : Ratio) : Type 0 where
+  pub values : ℕ → Ratio
+  pub positive : IsPositive values
+  pub meets : (as : List Atom) → IsStanding ts frames as → (a : Atom) × Contains as a × Meets values a
+  pub value : SameNumber (values term) x
+
 -- ---- branches
 
 -- both sides of a branch of a leaf above the number k
 abbrev pub branch_atoms : ℕ → ℤ → List Atom
 branch_atoms t k = term_at_most t k ∷ negation_at_most t (neg_ℤ k -ℤ pos 1) ∷ []
 
--- a line of these variables over these atoms: the row of a leaf whose value isn't whole, where all values lie within their bounds
+-- a line of these variables over these atoms: the row of a leaf whose value isn't whole, where all values lie within their bounds and meet what stands
 pub record IsBranch (ts : List Tree) (frames : List Frame) (sums : List (List GridSummand)) (Is : Atom → Type 0) (l : Line) : Type 0 where
   pub term : ℕ
   pub floor : ℤ
   pub is_leaf : IsLeaf ts frames term
   pub row : IsRowIn sums (IsBoundOf Is) l
   pub branches : IsBranchLine term floor l
+  pub reached : IsReached ts frames term branches.basic.column.value
 
 -- an atom that the branch adds
 pub record IsOfBranch (l : Line) (a : Atom) : Type 0 where
