@@ -101,8 +101,8 @@ pub record IsBoundOf (Is : Atom → Type 0) (sum : List GridSummand) (side : Sid
 
 -- one of these atoms is true wherever the assertions are: it is what an assertion, or a conjunct of one, says of neighbours; or they are a clause of a division
 abbrev pub IsStanding : List Tree → List Frame → List Atom → Type 0
-IsStanding ts frames as =
-    ((a : Atom) × Contains (asserted_atoms ts frames) a × (as ≡ a ∷ [])) ⊎ ((t : Tree) × IsPartOfStack frames t × Contains (division_clauses ts t) (map positive as))
+IsStanding ts frames standing =
+    ((a : Atom) × Contains (asserted_atoms ts frames) a × (standing ≡ a ∷ [])) ⊎ ((t : Tree) × IsPartOfStack frames t × Contains (division_clauses ts t) (map positive standing))
 
 -- the values of the terms, which may be fractions, meet the bound; of no other atom they say anything
 abbrev pub Meets : (ℕ → Ratio) → Atom → Type 0
@@ -114,7 +114,7 @@ Meets w (Same i j) = Unit {0}
 pub record IsReached (ts : List Tree) (frames : List Frame) (term : ℕ) (x : Ratio) : Type 0 where
   pub values : ℕ → Ratio
   pub positive : IsPositive values
-  pub meets : (as : List Atom) → IsStanding ts frames as → (a : Atom) × Contains as a × Meets values a
+  pub meets : (standing : List Atom) → IsStanding ts frames standing → (a : Atom) × Contains standing a × Meets values a
   pub value : SameNumber (values term) x
 
 -- ---- branches
