@@ -1,5 +1,5 @@
 -- What a log that makes the first clauses true says of all that stands.
-use Rattle.std.proofs.Common.{◌≡◌, ◌⊎◌, inl, inr, ℕ, zero, suc, ◌<◌, Bool, true, false, List, [], ◌∷◌, ◌++◌, map, length, All, Contains, Some, None, subst, sym, ap, ◌∙◌, arith, refl, flat_map}
+use Rattle.std.proofs.Common.{◌≡◌, inl, inr, ℕ, zero, suc, ◌<◌, Bool, true, List, [], ◌∷◌, ◌++◌, map, length, All, Contains, Some, None, subst, sym, ap, ◌∙◌, arith, refl, flat_map}
 use Rattle.std.specs.Prelude.{Option}
 use Rattle.std.proofs.lemmas.List.Elements.{All-nil, All-cons, All-head, All-append, All-map, All-weaker, All-contains, Contains-append_cases, Contains-append_left, Contains-append_right, Contains-push}
 use Rattle.literals.specs.Signed.{Signed}
@@ -27,7 +27,7 @@ use Rattle.smt_laws.specs.Rows.{place_form, place_divisor, placed_literals, plac
 use Rattle.term_store.proofs.PlaceLemmas.{place_of-is}
 use Rattle.scope_stack.specs.Facts.{AreSorts}
 use Rattle.scope_stack.specs.Shown.{IsLawful}
-use Rattle.search_port.specs.State.{Reading, IsGrown, IsConsistent, IsMadeTrue, atom_at}
+use Rattle.search_port.specs.State.{Reading, IsGrown, IsConsistent, IsMadeTrue}
 use Rattle.search_port.proofs.Forcing.{ComesBy, from_map, in_map}
 use Rattle.pair_bounds.specs.declared.rows.RowLimit.{RowLimit}
 use Rattle.pair_bounds.specs.declared.rows.Row.{Row}
@@ -42,7 +42,7 @@ use Rattle.check_atoms.specs.PartAtoms.{atom_of}
 use Rattle.check_atoms.specs.declared.part.PartAtom.TheVariants.{Limit}
 use Rattle.check_atoms.specs.OfStack.{IsNode, AreCheckAtoms}
 use Rattle.check_atoms.specs.Laws.{PartsHaveNumbers}
-use Rattle.check_atoms.specs.Standing.{IsAssertedTrue, IsToldTrue, StandingHolds}
+use Rattle.check_atoms.specs.Standing.{IsAssertedTrue, IsToldTrue}
 use Rattle.check_atoms.proofs.StackAtomsPlaces.{Picked}
 use Rattle.order_clauses.specs.Numbers.{number_in}
 use Rattle.order_clauses.specs.Clauses.{sort_at, limit_bound, limit_number, of_limit, of_other, row_numbers, row_truth, row_clause, row_part, division_part, truth_number, part_clauses_of}
@@ -50,7 +50,7 @@ use Rattle.order_clauses.proofs.Numbering.{found}
 use Rattle.order_clauses.proofs.Soundness.{All-unmap, All-right, All-unflat}
 use Rattle.order_clauses.proofs.DivisionSoundness.{numbers_are}
 use Rattle.first_clauses.specs.PartClausesFirst.{IsAsserted}
-use Rattle.first_clauses.specs.CheckClausesFirst.{reading_of, IsFirst, HasParts}
+use Rattle.first_clauses.specs.CheckClausesFirst.{reading_of, HasParts}
 use Rattle.first_clauses.specs.Laws.{FirstClausesSayStanding}
 use Rattle.first_clauses.proofs.NodeForcing.{arguments_at, different_trees}
 use Rattle.first_clauses.proofs.Parts.{within}

@@ -1,5 +1,5 @@
 -- What a log that makes the first clauses true says of assertions, of their conjuncts, and of what these compare.
-use Rattle.std.proofs.Common.{◌≡◌, ◌≢◌, ◌⊎◌, inl, inr, ℕ, ◌<◌, ◌≤◌, ◌&&◌, Bool, true, false, not, List, [], ◌∷◌, ◌++◌, map, length, get_or, All, Contains, Some, subst, sym, ap, ◌∙◌, arith, refl, flat_map}
+use Rattle.std.proofs.Common.{◌≡◌, ◌≢◌, inl, inr, ℕ, ◌<◌, ◌≤◌, Bool, true, false, not, List, [], ◌∷◌, ◌++◌, map, length, get_or, All, Contains, Some, subst, sym, ap, ◌∙◌, arith, refl, flat_map}
 use Rattle.std.specs.Prelude.{Option, IsTrue, if◌then◌else◌}
 use Rattle.std.proofs.lemmas.List.{get_or_default, map-append}
 use Rattle.std.proofs.lemmas.List.Elements.{All-nil, All-cons, All-head, All-tail, All-append, All-map, All-weaker, All-contains, Contains-append_cases, Contains-push_cases}
@@ -9,7 +9,6 @@ use Rattle.smt_meaning.specs.declared.values.Sort.{Sort}
 use Rattle.smt_meaning.specs.declared.values.Sort.TheVariants.{Bool as Truths, Int as Ints, Free}
 use Rattle.smt_meaning.specs.declared.terms.Operator.{Operator}
 use Rattle.smt_meaning.specs.declared.terms.Operator.TheVariants.{And, Equal, Distinct, AtMost as IsAtMost, Less, AtLeast, Greater}
-use Rattle.smt_meaning.specs.declared.terms.Head.{Head}
 use Rattle.smt_meaning.specs.declared.terms.Head.TheVariants.{Theory}
 use Rattle.smt_meaning.specs.declared.clauses.Atom.{Atom}
 use Rattle.smt_meaning.specs.declared.clauses.Atom.TheVariants.{Truth, AtMost, Same}
@@ -21,15 +20,13 @@ use Rattle.smt_meaning.specs.Parts.{IsOneOf}
 use Rattle.smt_meaning.specs.Signature.{tree_sort, is_int, all_of, sort_eq, if_so, operator_sort}
 use Rattle.smt_meaning.specs.Clause.{atom_places}
 use Rattle.smt_meaning.specs.Forced.{Sign}
-use Rattle.smt_meaning.specs.Stack.{signature_of, assertions_of}
+use Rattle.smt_meaning.specs.Stack.{signature_of}
 use Rattle.smt_meaning.specs.StackCommand.{Stack}
 use Rattle.smt_meaning.specs.Atoms.{at_most_atom, pair_atoms, of_neighbours_from, comparison_atoms}
 use Rattle.smt_meaning.specs.Boxes.{conjuncts, conjuncts_of, said_atoms}
-use Rattle.smt_meaning.specs.CheckAtoms.{IsPartOfStack}
-use Rattle.term_store.specs.Terms.{tree_with}
 use Rattle.scope_stack.specs.Facts.{AreSorts}
 use Rattle.scope_stack.specs.Shown.{IsLawful}
-use Rattle.search_port.specs.State.{IsConsistent, IsMadeTrue, truth_atoms, atom_at}
+use Rattle.search_port.specs.State.{IsConsistent, IsMadeTrue, truth_atoms}
 use Rattle.clause_form.specs.Signs.{once as once_signs, clashes, negated, is_sign_in, yes as yes_sign}
 use Rattle.clause_form.specs.NodeClauses.{never, conjunction, all_of as all_signs, node_clauses}
 use Rattle.clause_form.specs.WideClauses.{wide_clauses}
@@ -49,11 +46,11 @@ use Rattle.check_atoms.specs.Marks.{AreStackParts}
 use Rattle.check_atoms.specs.AssertedDistinct.{IsAssertedDistinct}
 use Rattle.check_atoms.specs.PartAtoms.{atom_of, by_sort, alone_by_sort, neighbours_from, of_equal, sort_of}
 use Rattle.check_atoms.specs.OfStack.{IsNode, AreCheckAtoms}
-use Rattle.check_atoms.specs.Laws.{HasNumbers, PartsHaveNumbers}
+use Rattle.check_atoms.specs.Laws.{PartsHaveNumbers}
 use Rattle.check_atoms.proofs.Sorting.{sort_is, left_true, right_true}
 use Rattle.check_atoms.proofs.StackAtomsPlaces.{Picked}
 use Rattle.order_clauses.specs.declared.pairs.Pair.{Pair}
-use Rattle.order_clauses.specs.Pairs.{pair, neighbours, pairs_of, orders_of_pair}
+use Rattle.order_clauses.specs.Pairs.{pair, neighbours, orders_of_pair}
 use Rattle.order_clauses.specs.Numbers.{number_in}
 use Rattle.order_clauses.specs.Clauses.{sort_at, truth_number, same_number, bound_number, of_bound, int_tie, tie, order_part, equality_part, by_sort as clauses_by_sort, part_clauses_of}
 use Rattle.order_clauses.specs.Sound.{HasSort}

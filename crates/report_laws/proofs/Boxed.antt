@@ -1,20 +1,21 @@
 -- A branch stays in its leaf's box, so the units of a worker without a limit are few.
-use Rattle.std.proofs.Common.{◌≡◌, ◌≢◌, ◌⊎◌, inl, inr, ℕ, zero, suc, ◌<◌, ◌≤◌, ◌*◌, ◌^◌, ◌∣◌, ℤ, pos, negsuc, ◌+ℤ◌, ◌-ℤ◌, ◌*ℤ◌, ◌≤ℤ◌, ◌<ℤ◌, neg_ℤ, unsigned_abs, sym, ap, ◌∙◌, subst, refl, arith, List, [], ◌∷◌, ◌++◌, map, length, Contains, Bool, true, false, Option, Some, None}
+use Rattle.std.proofs.Common.{◌≡◌, ◌≢◌, ◌⊎◌, inl, inr, ℕ, zero, suc, ◌<◌, ◌≤◌, ◌*◌, ◌^◌, ℤ, pos, negsuc, ◌+ℤ◌, ◌-ℤ◌, ◌*ℤ◌, ◌≤ℤ◌, ◌<ℤ◌, neg_ℤ, unsigned_abs, sym, ap, ◌∙◌, subst, refl, arith, List, [], ◌∷◌, ◌++◌, map, length, Contains, Bool, true, false, Some, None}
+use Rattle.std.specs.Int.{◌∣◌}
 use Rattle.std.specs.Prelude.{int_lt, min, if◌then◌else◌}
 use Rattle.std.proofs.lemmas.Int.{ints}
+use Rattle.std.proofs.Math.Nat.{le_of_dvd, mul_comm}
 use Rattle.std.proofs.lemmas.List.{get_or_past, length-map}
 use Rattle.std.proofs.lemmas.List.Elements.{Contains-append_left, Contains-append_right, Contains-append_cases}
 use Rattle.fraction128.specs.declared.Summand.{Summand}
 use Rattle.fraction128.specs.declared.Member.{Member}
-use Rattle.fraction128.specs.declared.Grid.{Grid}
 use Rattle.fraction128.specs.declared.Column.{Column}
 use Rattle.fraction128.specs.declared.Line.{Line}
 use Rattle.fraction128.specs.declared.ratio.Ratio.{Ratio}
-use Rattle.fraction128.specs.Grid.{leaf, column_at, value_at}
-use Rattle.fraction128.specs.Number.{whole, SameNumber}
+use Rattle.fraction128.specs.Grid.{leaf, column_at}
+use Rattle.fraction128.specs.Number.{whole}
 use Rattle.fraction128.specs.Ratio.{IsFraction}
-use Rattle.fraction128.specs.Lines.{Bounding, IsFloor, IsBranchLine, IsRowIn, basic_member, line_of, sum_value}
-use Rattle.fraction128.proofs.Divisors.{Apart}
+use Rattle.fraction128.specs.Lines.{IsFloor, basic_member}
+use Rattle.fraction128.proofs.Divisors.{dvd_of_eq}
 use Rattle.fraction128.proofs.Integers.{abs-times}
 use Rattle.fraction128.proofs.LowestTerms.{IsFraction-alone}
 use Rattle.fraction128.proofs.RationalOrder.{mul_mono, mul_strict}
@@ -26,8 +27,8 @@ use Rattle.smt_meaning.specs.declared.reports.Unit.TheVariants.{Numbered, Learnt
 use Rattle.smt_meaning.specs.Term.{Tree}
 use Rattle.smt_meaning.specs.Stack.{Frame}
 use Rattle.smt_meaning.specs.Boxes.{IsInBox, term_at_most, negation_at_most, asserted_atoms}
-use Rattle.smt_meaning.specs.CheckAtoms.{IsFirstAtom, Meets, IsReached, IsBranch, IsOfBranch, IsBoundOf, WithBranch, WithBranches, EachIsBranch, branch_atoms}
-use Rattle.smt_meaning.specs.Report.{is_unlimited, most_units, IsUnit, AreAllSpent}
+use Rattle.smt_meaning.specs.CheckAtoms.{IsFirstAtom, Meets, IsBranch, IsOfBranch, WithBranch, WithBranches, EachIsBranch, branch_atoms}
+use Rattle.smt_meaning.specs.Report.{is_unlimited, IsUnit}
 use Rattle.report_laws.proofs.Listed.{in_cons, in_none}
 use Rattle.report_laws.specs.Boxed.{HasBox, AreBoxed, BranchesStayInBoxes, IsNewAtom, UnitsAreNewAtoms, FewAtomsAreNotSpent, BoxedStacksAreNotSpent}
 
@@ -90,7 +91,11 @@ module _ (x : Ratio) (k : ℤ) (floor : IsFloor k x) where
 not_whole : (x : Ratio) → IsFraction x → x.denominator ≢ 1 → (c : ℤ) → x.numerator ≢ c *ℤ pos x.denominator
 not_whole x f broken c e =
     let size : unsigned_abs x.numerator ≡ unsigned_abs c * x.denominator = ap unsigned_abs e ∙ abs-times c x.denominator in
-    broken (IsFraction-alone x f x.denominator (unsigned_abs c, size) (1, omega arith))
+    let one : x.denominator ∣ 1 =
+    IsFraction-alone x f x.denominator (dvd_of_eq x.denominator (unsigned_abs c) (unsigned_abs x.numerator) (size ∙ mul_comm (unsigned_abs c) x.denominator)) (dvd_of_eq x.denominator 1 x.denominator (omega arith)) in
+    let few : x.denominator ≤ 1 = le_of_dvd (omega arith) one in
+    let some : 0 < x.denominator = f.positive in
+    broken (omega (arith, few, some))
 
 -- ---- what a bound on one term says of values
 
@@ -116,8 +121,13 @@ module _ (n : ℤ) (d : ℕ) (c : ℤ) where
 some_is : {X : Type 0} (x y : X) → Some x ≡ Some y → x ≡ y
 some_is x y e = cc
 
+first_term : List Summand → ℕ
+first_term [] = 0
+first_term (p ∷ ps) = p.term
+
 leaf_is : (s t : ℕ) → leaf s ≡ leaf t → s ≡ t
-leaf_is s t e = cc
+unfolding first_term
+leaf_is s t e = ap first_term e
 
 less_or_not : (i n : ℕ) → (i < n) ⊎ (n ≤ i)
 less_or_not i zero = inr (omega arith)
@@ -202,18 +212,18 @@ module _ (ts : List Tree) (frames : List Frame) (sums : List (List Summand)) (Is
             among = subst (Contains (term_at_most b.term k ∷ negation_at_most b.term (neg_ℤ k) ∷ [])) (sym e) (first_here (term_at_most b.term k) (negation_at_most b.term (neg_ℤ k) ∷ []));
           }))
       | inr later ↦ elim (in_cons (negation_at_most b.term (neg_ℤ k -ℤ pos 1)) a [] later) [
-          | inl e ↦
-              let turned : neg_ℤ (k +ℤ pos 1) ≡ neg_ℤ k -ℤ pos 1 = omega (arith, ints) in
-              inr (inr (record {
-                term = b.term;
-                number = k +ℤ pos 1;
-                leaf = b.is_leaf;
-                in_box = next_in_box box;
-                among = subst (Contains (term_at_most b.term (k +ℤ pos 1) ∷ negation_at_most b.term (neg_ℤ (k +ℤ pos 1)) ∷ [])) (ap (negation_at_most b.term) turned ∙ sym e)
-                    (second_here (term_at_most b.term (k +ℤ pos 1)) (negation_at_most b.term (neg_ℤ (k +ℤ pos 1))));
-              }))
-          | inr none ↦ absurd (in_none a none)
-        ]
+        | inl e ↦
+            let turned : neg_ℤ (k +ℤ pos 1) ≡ neg_ℤ k -ℤ pos 1 = omega (arith, ints) in
+            inr (inr (record {
+              term = b.term;
+              number = k +ℤ pos 1;
+              leaf = b.is_leaf;
+              in_box = next_in_box box;
+              among = subst (Contains (term_at_most b.term (k +ℤ pos 1) ∷ negation_at_most b.term (neg_ℤ (k +ℤ pos 1)) ∷ [])) (ap (negation_at_most b.term) turned ∙ sym e)
+                  (second_here (term_at_most b.term (k +ℤ pos 1)) (negation_at_most b.term (neg_ℤ (k +ℤ pos 1))));
+            }))
+        | inr none ↦ absurd (in_none a none)
+      ]
     ]
 
   of_branch_first : HasBox ts frames b.term → (a : Atom) → IsOfBranch l a → IsFirstAtom ts frames a
@@ -318,12 +328,12 @@ few_not_spent ts frames limit branches us atoms none each few spent =
     let new : (before after : List Spent) (u : Spent) → us ≡ before ++ u ∷ after → IsNewAtom ts frames branches before u = units_are_new ts frames limit branches us none spent in
     let once : AreOnce us = once_by [] us (λ before after u e. (new before after u e).new) in
     let among : (u : Spent) → Contains us u → Contains (map Numbered atoms) u = λ u c. (
-        let s = split_at us u c in
-        let n = new s.front s.back u s.is in
-        subst (Contains (map Numbered atoms)) (sym n.is) (in_list Numbered atoms n.atom (each n.atom n.of_check))
+    let s = split_at us u c in
+    let n = new s.front s.back u s.is in
+    subst (Contains (map Numbered atoms)) (sym n.is) (in_list Numbered atoms n.atom (each n.atom n.of_check))
     ) in
     let short : length us ≤ length (map Numbered atoms) = no_longer us (map Numbered atoms) once among in
-    let size : length (map Numbered atoms) ≡ length atoms = length-map Numbered atoms in
+    let size : length (map Numbered atoms) ≡ length atoms = length-map atoms Numbered in
     let count : length us ≡ 2 ^ 40 = spent.count ∙ most_is limit (is_unlimited limit) none in
     omega (arith, short, size, count, few)
 
