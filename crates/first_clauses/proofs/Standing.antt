@@ -100,9 +100,12 @@ module _ (s : Stack) (marks : List Bool) (sorts : List Sort) (table : List Atom)
         let among : Contains (placed_literals ts p (row_of r)) (positive a) =
         Contains-append_right (truth_literals p r.truth) (map positive (row_atoms (place_form ts) (row_of r))) (positive a)
         (in_map positive (row_atoms (place_form ts) (row_of r)) a (in_map (limit_atom (place_form ts)) (map limit_of_row (limits r)) (limit_of_row l) (in_map limit_of_row (limits r) l c))) in
-        let k : ComesBy positive standing (positive a) = stands (positive a) among in
-        (k.from, k.among, subst Held (sym (positive_is a true k.from k.is))
-        (held s marks sorts table law parts atoms sorted numbers compared clauses has log consistent made a (record { numbered = All-contains (λ (x : RowLimit). Contains table (limit_bound ts x)) (limits r) l known c; told = h })))
+        let k : ComesBy positive standing (positive a) = stands (positive a) among in (
+          k.from,
+          k.among,
+          subst Held (sym (positive_is a true k.from k.is))
+              (held s marks sorts table law parts atoms sorted numbers compared clauses has log consistent made a (record { numbered = All-contains (λ (x : RowLimit). Contains table (limit_bound ts x)) (limits r) l known c; told = h })),
+        )
 
     of_truth : (o : Option Bool) → r.truth ≡ o → All (λ l. Contains log l → Says standing) (row_truth table p o)
     of_truth None e = All-nil (λ l. Contains log l → Says standing)

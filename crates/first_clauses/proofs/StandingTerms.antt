@@ -380,8 +380,7 @@ module _ (s : Stack) (marks : List Bool) (sorts : List Sort) (table : List Atom)
           let above : ℕ = bound_number ts table (order NotAbove q.right q.left) in
           let two : All (λ n. Contains log (yes n)) (below ∷ above ∷ []) =
           joined_told log consistent (same_number table q) (below ∷ above ∷ [])
-          (All-right (IsMadeTrue log) (flat_map (of_bound ts table) (orders_of_pair q)) (equal_clauses (same_number table q) below above) made_tie) same in
-          (
+          (All-right (IsMadeTrue log) (flat_map (of_bound ts table) (orders_of_pair q)) (equal_clauses (same_number table q) below above) made_tie) same in (
             record { numbered = in_table.0; told = All-head (λ n. Contains log (yes n)) below (above ∷ []) two },
             record { numbered = in_table.1; told = All-head (λ n. Contains log (yes n)) above [] (All-tail (λ n. Contains log (yes n)) below (above ∷ []) two) },
           )
