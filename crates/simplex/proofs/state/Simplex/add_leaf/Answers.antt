@@ -15,7 +15,7 @@ invariant_of-self-2 c =
     let column = new_column c.in_ok-sum.sum c.from_whole.result in
     subst (λ u. IsCore u c.push.new.self.items c.add_variable.new.self) (sym c.add_variable-2.ensures.new)
     (subst (λ ds. IsCore (record { count = t.count + 1; rows = t.rows }) ds c.add_variable.new.self) (sym c.in_ok-push.ensures.items)
-    (core_grown t (record { count = t.count + 1; rows = t.rows }) cs c.self.inside.trail c.add_variable.new.self c.in_ok-sum.sum c.from_whole.result c.self.invariant
-    (grown_free t cs column c.facts.ensures c.self.invariant.solution (subst IsFraction (sym c.from_whole.ensures) zero_fraction))
-    (leaves_keep t cs column c.args.term c.facts.ensures c.self.invariant.solution.count c.self.invariant.meant c.in_ok-sum.ensures)
+    (core_grown t (record { count = t.count + 1; rows = t.rows }) cs c.self.inside.trail c.add_variable.new.self c.in_ok-sum.sum c.from_whole.result c.self.invariant.core
+    (grown_free t cs column c.facts.ensures c.self.invariant.core.solution (subst IsFraction (sym c.from_whole.ensures) zero_fraction))
+    (leaves_keep t cs column c.args.term c.facts.ensures c.self.invariant.core.solution.count c.self.invariant.core.meant c.in_ok-sum.ensures)
     (omega (arith, more_)) (ap (λ (r : Trail). r.bounds) c.in_ok-add_variable.ensures.ok)))
