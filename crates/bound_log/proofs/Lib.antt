@@ -13,3 +13,4 @@ pub mod Pivots
 pub mod KeptVariables
 pub mod Lemmas
 pub mod Opening
+pub mod Fractions

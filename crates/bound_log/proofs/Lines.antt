@@ -101,6 +101,15 @@ branches s f l first is = subst (IsBranchLine f.term f.floor) (sym is) (record {
   floor = first.fraction.floor;
 })
 
+-- the value of its row's basic variable
+pub branch_value : (s : State) (f : FractionalLeaf) (l : Line) → IsFirstIn s.bounds.columns f → l ≡ line_of (grid_of s.bounds.table s.bounds.columns) f.variable None → (b : Member) → l.basic ≡ Some b
+    → b.column.value ≡ f.value
+branch_value s f l first is b e =
+    let own = basic_member (grid_of s.bounds.table s.bounds.columns) f.variable in
+    let some : Some own ≡ Some b = sym (ap (λ (m : Line). m.basic) is) ∙ e in
+    let same : own ≡ b = cc in
+    sym (ap (λ (m : Member). m.column.value) same) ∙ sym first.fraction.value
+
 pub row_in : (table : List Atom) (s : State) (b : ℕ) (l : Line) → IsState s → IsOfTold s.bounds → AreResting s.bounds s.said → is_basic s.bounds.table.rows b ≡ true → AreWithin s.bounds.columns
     → l ≡ line_of (plain_grid s) b None → Knows table s → IsRowIn (column_sums s) (IsBoundOf (Contains table)) l
 row_in table s b l state origins rests basic within is knows = record {

@@ -10,3 +10,4 @@ pub mod Implied
 pub mod Pivots
 pub mod Clauses
 pub mod Sides
+pub mod Fractions

@@ -1,6 +1,7 @@
 //! Laws on literals told, as contracts of functions that do nothing.
 ghost use Rattle.bound_log.specs.Told.{SumsAreApart};
 ghost use Rattle.bound_log.specs.Values.{BoundsAreTold, MetAreTrue, WholesHold};
+ghost use Rattle.bound_log.specs.Fractions.{FractionsHold, LeavesHaveValues};
 
 use sum_bounds::wholes_meet;
 
@@ -15,6 +16,12 @@ pub fn wholes_hold()
 {
     wholes_meet();
 }
+
+/// Where the terms' values meet all bounds told, they meet each bound that is told to hold, and the first of them that isn't whole is the one found.
+pub fn fractions_hold()
+    ensures hold { FractionsHold }
+    ensures values { LeavesHaveValues }
+{}
 
 /// Each such literal is true under an interpretation that gives the terms of its sum these numbers.
 pub fn met_are_true()

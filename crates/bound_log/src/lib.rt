@@ -2,8 +2,9 @@
 //! clauses of the theory.
 //!
 //! `BoundLog`: the bounds told are exactly those that the literals say. A conflict is a clause that
-//! is false in the log and true everywhere, as is what `whole_conflict` gives; where values are
-//! whole and meet all bounds, each literal on a bound is true of them.
+//! is false in the log and true everywhere, as is what `whole_conflict` gives; where values meet all
+//! bounds, they meet each bound that is told to hold, and where they are whole too, each literal on
+//! a bound is true of them.
 //!
 //! `branch_line`, `grid`: the row of the least variable of a term whose value isn't whole, or the
 //! whole grid: an identity of the sums that the values meet, where each bound is one that a known
@@ -43,7 +44,7 @@ mod ties;
 mod variables;
 
 pub use branches::branch_lemmas;
-pub use laws::{bounds_are_told, met_are_true, sums_are_apart, wholes_hold};
+pub use laws::{bounds_are_told, fractions_hold, met_are_true, sums_are_apart, wholes_hold};
 pub use log::BoundLog;
 pub use report::{Report, Reported};
 pub use said::Said;

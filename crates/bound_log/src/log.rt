@@ -1,6 +1,7 @@
 //! The log, and the calls on it.
-ghost use Rattle.std.specs.Prelude.{◌≡◌, ◌+◌, ◌<◌, ◌≤◌, ◌^◌, ◌↔◌, IsTrue, false, [], ◌∷◌, ◌++◌, map, take, length, All, Bool, Contains, List, ℤ, OnOk, OnErr, IfOk, IfErr, IfSome, IfNone};
+ghost use Rattle.std.specs.Prelude.{◌≡◌, ◌+◌, ◌<◌, ◌≤◌, ◌^◌, ◌↔◌, IsTrue, false, [], ◌∷◌, ◌++◌, map, take, length, All, Bool, Contains, List, ℤ, Some, OnOk, OnErr, IfOk, IfErr, IfSome, IfNone};
 ghost use Rattle.fraction128.specs.Whole.{InRange};
+ghost use Rattle.fraction128.specs.declared.Member.{Member};
 ghost use Rattle.fraction128.specs.Grid.{turned};
 ghost use Rattle.fraction128.specs.Lines.{IsBranchLine, IsRowIn, IsSoundGrid, NextFails};
 ghost use Rattle.simplex_steps.specs.Law.{KeepsResting};
@@ -310,6 +311,7 @@ impl BoundLog {
         requires first { IsFirstIn self.now.bounds.columns leaf }
         requires within { AreWithin self.now.bounds.columns }
         ensures branches { IfOk result (IsBranchLine leaf.term leaf.floor) }
+        ensures value { IfOk result (λ l. (b : Member) → l.basic ≡ Some b → b.column.value ≡ leaf.value) }
         ensures row { IfOk result (λ l. (table : List Atom) → Knows table self.now → IsRowIn (column_sums self.now) (IsBoundOf (Contains table)) l) }
     {
         self.bounds.facts();

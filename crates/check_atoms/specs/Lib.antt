@@ -11,3 +11,4 @@ pub mod StackAtomsOfStack
 pub mod PairRangesLaws
 pub mod ReadablePartsLaws
 pub mod AssertedDistinct
+pub mod Standing

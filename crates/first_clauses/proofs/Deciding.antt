@@ -18,10 +18,10 @@ use Rattle.first_clauses.specs.Laws.{MakesTrue, FirstClausesSayAssertions, Signa
 
 -- ---- the reading grows
 
-trees_stay : (s : Stack) (table : List Atom) (q : Reading) → IsGrown (reading_of s table) q → q.trees ≡ s.trees
+pub trees_stay : (s : Stack) (table : List Atom) (q : Reading) → IsGrown (reading_of s table) q → q.trees ≡ s.trees
 trees_stay s table q g = ap (λ (r : Reading). r.trees) g.is
 
-frames_stay : (s : Stack) (table : List Atom) (q : Reading) → IsGrown (reading_of s table) q → q.frames ≡ flat s.frames
+pub frames_stay : (s : Stack) (table : List Atom) (q : Reading) → IsGrown (reading_of s table) q → q.frames ≡ flat s.frames
 frames_stay s table q g = ap (λ (r : Reading). r.frames) g.is
 
 before : (xs ys : List Atom) (n : ℕ) → n < length xs → atom_at (xs ++ ys) n ≡ atom_at xs n
@@ -29,7 +29,7 @@ before [] ys n h = absurd (omega (arith, h))
 before (x ∷ xs) ys zero h = refl
 before (x ∷ xs) ys (suc n) h = before xs ys n (omega (arith, h))
 
-atom_stays : (s : Stack) (table : List Atom) (q : Reading) (n : ℕ) → IsGrown (reading_of s table) q → n < length table → atom_at q.table n ≡ atom_at table n
+pub atom_stays : (s : Stack) (table : List Atom) (q : Reading) (n : ℕ) → IsGrown (reading_of s table) q → n < length table → atom_at q.table n ≡ atom_at table n
 atom_stays s table q n g h = ap (λ (r : Reading). atom_at r.table n) g.is ∙ before table g.more n h
 
 pub same_signature : FlatSaysTheSame → SignatureStays

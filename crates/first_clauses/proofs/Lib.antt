@@ -10,6 +10,8 @@ pub mod Asserting
 pub mod Deciding
 pub mod CheckClausesKeeping
 pub mod Forcing
+pub mod StandingTerms
+pub mod Standing
 mod Sound
 pub mod Counting
 pub mod StepExamples

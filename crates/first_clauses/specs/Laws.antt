@@ -7,12 +7,13 @@ use Rattle.smt_meaning.specs.declared.clauses.Atom.{Atom}
 use Rattle.smt_meaning.specs.Term.{Interpretation}
 use Rattle.smt_meaning.specs.Stack.{signature_of, Holds, HasNoModel}
 use Rattle.smt_meaning.specs.StackCommand.{Stack}
-use Rattle.search_port.specs.State.{Reading, IsGrown, truth}
+use Rattle.search_port.specs.State.{Reading, IsGrown, IsConsistent, IsMadeTrue, truth}
 use Rattle.search_port.specs.Valid.{FollowsAt}
 use Rattle.scope_stack.specs.Facts.{AreSorts}
 use Rattle.scope_stack.specs.Shown.{IsLawful}
 use Rattle.check_atoms.specs.Marks.{AreStackParts}
 use Rattle.check_atoms.specs.OfStack.{AreCheckAtoms}
+use Rattle.check_atoms.specs.Standing.{StandingHolds}
 use Rattle.first_clauses.specs.PartClausesFirst.{ForcesParts}
 use Rattle.first_clauses.specs.CheckClausesFirst.{reading_of, IsFirst, HasParts}
 
@@ -42,3 +43,10 @@ KeptPartsAreForced =
 -- where fewer clauses force those of the parts, more do
 abbrev pub MoreForceParts : Type 0
 MoreForceParts = (s : Stack) (table : List Atom) (known more : List (List Signed)) → ((ls : List Signed) → Contains known ls → Contains more ls) → ForcesParts s table known → ForcesParts s table more
+
+-- in a consistent log that makes the first clauses true, whatever atoms came, an atom of each list that stands is true
+abbrev pub FirstClausesSayStanding : Type 0
+FirstClausesSayStanding =
+    (s : Stack) (marks : List Bool) (sorts : List Sort) (table : List Atom) (first : Stored) (q : Reading) (log : List Signed) → IsLawful s → AreStackParts s marks → AreCheckAtoms s marks table
+    → AreSorts (signature_of s.frames) s.trees (length s.trees) sorts → IsFirst s table first → HasParts s marks sorts table first.clauses → IsGrown (reading_of s table) q → IsConsistent log
+    → ((k : Kept) → Contains first.clauses k → IsMadeTrue log k.literals) → StandingHolds q log

@@ -1,9 +1,12 @@
 //! What the first clauses are for, as contracts of functions that do nothing.
 ghost use Rattle.first_clauses.specs.Counted.{StepsAreCounted};
-ghost use Rattle.first_clauses.specs.Laws.{FirstClausesSayAssertions, SignatureStays, EmptyClauseMeansNoModel, KeptPartsAreForced, MoreForceParts};
+ghost use Rattle.first_clauses.specs.Laws.{FirstClausesSayAssertions, SignatureStays, EmptyClauseMeansNoModel, KeptPartsAreForced, MoreForceParts, FirstClausesSayStanding};
 
+use bound_clauses::orders_are_comparisons;
+use check_atoms::parts_have_numbers;
 use clause_form::{node_clauses_are_renamed, node_clauses_force};
-use smt_laws::flat_says_the_same;
+use pair_bounds::rows_are_atoms;
+use smt_laws::{divisions_stand_by_places, flat_says_the_same};
 
 /// What makes the first clauses true makes the assertions true, also where the search has numbered more atoms.
 pub fn first_clauses_say_assertions()
@@ -41,3 +44,14 @@ pub fn more_force_parts()
 pub fn steps_are_counted()
     ensures { StepsAreCounted }
 {}
+
+/// A consistent log that makes the first clauses true has a bound of each list that stands whatever is decided, also where the search has numbered more atoms.
+pub fn first_clauses_say_standing()
+    ensures { FirstClausesSayStanding }
+{
+    flat_says_the_same();
+    parts_have_numbers();
+    orders_are_comparisons();
+    rows_are_atoms();
+    divisions_stand_by_places();
+}

@@ -9,6 +9,9 @@
 //! operator are kept, the longer ones with what negations negate, and together they force every
 //! node clause of every part.
 //!
+//! `first_clauses_say_standing`: what makes them true has a bound of each list that stands whatever is
+//! decided, the bounds that conjuncts of assertions say and the clauses of divisions.
+//!
 //! `check_clauses_counted`: the same, with a count of steps, one for each part and one for each pair
 //! that a `distinct` among them compares: where the clauses come, exactly as many as there are parts
 //! and pairs that they are over.
@@ -34,8 +37,8 @@ pub use clauses::{check_clauses, check_clauses_counted};
 pub use error::FirstError;
 pub use kept_axioms_keep::keep_axioms;
 pub use laws::{
-    empty_clause_means_no_model, first_clauses_say_assertions, kept_parts_are_forced,
-    more_force_parts, signature_stays, steps_are_counted,
+    empty_clause_means_no_model, first_clauses_say_assertions, first_clauses_say_standing,
+    kept_parts_are_forced, more_force_parts, signature_stays, steps_are_counted,
 };
 pub use shapes::linear_terms;
 pub use storing::{keep, keep_all};

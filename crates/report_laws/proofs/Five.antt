@@ -176,7 +176,7 @@ sides_apart t k e = ends (at_most_is minus (record { coefficient = pos 1; term =
         signs v = cc
 
 -- no term has an upper bound, so none has a box
-no_box : (t : ℕ) (k : ℤ) → Contains (asserted_atoms trees frames) (term_at_most t k) → ⊥
+pub no_box : (t : ℕ) (k : ℤ) → Contains (asserted_atoms trees frames) (term_at_most t k) → ⊥
 unfolding gcd_of
 no_box t k c = by (in_cons (AtMost minus (negsuc 4)) (term_at_most t k) [] c)
   where

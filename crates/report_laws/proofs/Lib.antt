@@ -6,3 +6,5 @@ mod Sum
 mod Chain
 mod Cores
 mod Minimum
+mod Boxed
+mod BoxOfFive

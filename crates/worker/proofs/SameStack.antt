@@ -6,6 +6,7 @@ use Rattle.std.proofs.lemmas.List.Elements.{All-weaker}
 use Rattle.fraction128.specs.declared.Summand.{Summand as GridSummand}
 use Rattle.fraction128.specs.declared.Grid.{Grid}
 use Rattle.fraction128.specs.declared.Line.{Line}
+use Rattle.fraction128.specs.declared.ratio.Ratio.{Ratio}
 use Rattle.fraction128.specs.Lines.{IsSoundGrid, IsRowIn}
 use Rattle.smt_meaning.specs.declared.values.Sort.TheVariants.{Int as Ints}
 use Rattle.smt_meaning.specs.declared.values.Table.{Table}
@@ -21,7 +22,7 @@ use Rattle.smt_meaning.specs.Comparisons.{compared_fits}
 use Rattle.smt_meaning.specs.Stack.{Frame, signature_of, assertions_of, Satisfies}
 use Rattle.smt_meaning.specs.Atoms.{pair_atoms, atoms_of, stack_atoms, stack_atoms_are}
 use Rattle.smt_meaning.specs.Boxes.{IsInBox, asserted_atoms, said_atoms, conjuncts, term_at_most, negation_at_most}
-use Rattle.smt_meaning.specs.CheckAtoms.{IsPartOfStack, IsIntPart, IsLeaf, ComparesParts, BoundsInBox, IsFirstAtom, IsBoundOf, IsBranch, WithBranch, WithBranches, EachIsBranch, IsCheckAtom, AreBranches, IsKnownSum, AreCheckSums}
+use Rattle.smt_meaning.specs.CheckAtoms.{IsPartOfStack, IsIntPart, IsLeaf, ComparesParts, BoundsInBox, IsFirstAtom, IsBoundOf, IsStanding, IsReached, IsBranch, WithBranch, WithBranches, EachIsBranch, IsCheckAtom, AreBranches, IsKnownSum, AreCheckSums}
 use Rattle.smt_meaning.specs.Report.{IsPastRange}
 use Rattle.search_port.proofs.Pivots.{grid_by, row_by, bound_by}
 use Rattle.smt_meaning.specs.Ranges.{LeavesInPart, LeavesInPair, IsIntArgument, LeavesInArgument, LeavesInModel, IsOnAtom, LeavesInStep, LeavesRange}
@@ -46,6 +47,20 @@ with_branches_by Is Js more (l ∷ ls) a h = with_branches_by (WithBranch Is l) 
 
 -- ---- parts by other levels
 
+same_bounds : (ts : List Tree) (fs gs : List Frame) → signature_of fs ≡ signature_of gs → assertions_of fs ≡ assertions_of gs → asserted_atoms ts fs ≡ asserted_atoms ts gs
+same_bounds ts fs gs signature assertions =
+    ap (λ (ds : List Declaration). flat_map (said_atoms ts ds) (flat_map conjuncts (assertions_of fs))) signature
+    ∙ ap (λ (us : List Tree). flat_map (said_atoms ts (signature_of gs)) (flat_map conjuncts us)) assertions
+
+standing_by : (ts : List Tree) (fs gs : List Frame) → signature_of fs ≡ signature_of gs → assertions_of fs ≡ assertions_of gs → (standing : List Atom) → IsStanding ts fs standing → IsStanding ts gs standing
+standing_by ts fs gs signature assertions standing (inl (a, asserted, e)) = inl (a, subst (λ (xs : List Atom). Contains xs a) (same_bounds ts fs gs signature assertions) asserted, e)
+standing_by ts fs gs signature assertions standing (inr (t, part, clause)) =
+    inr (t, record { assertion = part.assertion; asserted = subst (λ (us : List Tree). Contains us part.assertion) assertions part.asserted; part = part.part }, clause)
+
+reached_by : (ts : List Tree) (fs gs : List Frame) → signature_of fs ≡ signature_of gs → assertions_of fs ≡ assertions_of gs → (t : ℕ) (x : Ratio) → IsReached ts fs t x → IsReached ts gs t x
+reached_by ts fs gs signature assertions t x h =
+    record { values = h.values; positive = h.positive; meets = λ standing s. h.meets standing (standing_by ts gs fs (sym signature) (sym assertions) standing s); value = h.value }
+
 module _ (ts : List Tree) (fs gs : List Frame) (signature : signature_of fs ≡ signature_of gs) (assertions : assertions_of fs ≡ assertions_of gs) where
   part_by : (t : Tree) → IsPartOfStack fs t → IsPartOfStack gs t
   part_by t h = record { assertion = h.assertion; asserted = subst (λ (us : List Tree). Contains us h.assertion) assertions h.asserted; part = h.part }
@@ -67,9 +82,7 @@ module _ (ts : List Tree) (fs gs : List Frame) (signature : signature_of fs ≡ 
   }
 
   same_asserted : asserted_atoms ts fs ≡ asserted_atoms ts gs
-  same_asserted =
-      ap (λ (ds : List Declaration). flat_map (said_atoms ts ds) (flat_map conjuncts (assertions_of fs))) signature
-      ∙ ap (λ (us : List Tree). flat_map (said_atoms ts (signature_of gs)) (flat_map conjuncts us)) assertions
+  same_asserted = same_bounds ts fs gs signature assertions
 
   box_by : (t : ℕ) (k : ℤ) → IsInBox ts fs t k → IsInBox ts gs t k
   box_by t k h = record {
@@ -114,6 +127,7 @@ module _ (ts : List Tree) (fs gs : List Frame) (signature : signature_of fs ≡ 
       is_leaf = leaf_by h.term h.is_leaf;
       row = row_over Is Js more sums l h.row;
       branches = h.branches;
+      reached = reached_by ts fs gs signature assertions h.term h.branches.basic.column.value h.reached;
     }
 
     each_by : (Is Js : Atom → Type 0) → ((a : Atom) → Is a → Js a) → (ls : List Line) → EachIsBranch ts fs sums Is ls → EachIsBranch ts gs sums Js ls

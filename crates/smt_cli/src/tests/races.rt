@@ -142,7 +142,7 @@ fn forced_answers_are_those_of_all_workers(rt: HostRuntime) -> Result<(), Fail> 
 }
 
 /// Scripts whose replies are forced, whatever the number of workers, and what is written.
-static ROWS: [(&'static [u8], &'static [u8]); 6] = [
+static ROWS: [(&'static [u8], &'static [u8]); 8] = [
     (
         b"(set-option :print-success false)(declare-const p Bool)(assert p)(assert (not p))(check-sat)",
         b"unsat\n",
@@ -164,6 +164,14 @@ static ROWS: [(&'static [u8], &'static [u8]); 6] = [
         b"unknown\n(:reason-unknown incomplete)\n",
     ),
     (
+        b"(set-option :print-success false)(declare-const x Int)(declare-const y Int)(declare-const z Int)(assert (and (<= 0 x 100) (<= 0 y 100) (= z 1)))(assert (= (+ (- (* 2 x) (* 2 y)) z) 0))(check-sat)",
+        b"unsat\n",
+    ),
+    (
+        b"(set-option :print-success false)(set-option :produce-models true)(declare-const x Int)(declare-const y Int)(assert (and (<= 0 x 20) (<= 0 y 20)))(push 1)(assert (= (+ (* 3 x) (* 5 y)) 7))(check-sat)(pop 1)(assert (= (+ (* 3 x) (* 5 y)) 8))(check-sat)(get-value (x y))",
+        b"unsat\nsat\n((x 1) (y 1))\n",
+    ),
+    (
         b"(set-option :print-success false)(declare-const p11 Bool)(declare-const p12 Bool)(declare-const p13 Bool)(declare-const p21 Bool)(declare-const p22 Bool)(declare-const p23 Bool)(declare-const p31 Bool)(declare-const p32 Bool)(declare-const p33 Bool)(declare-const p41 Bool)(declare-const p42 Bool)(declare-const p43 Bool)(assert (or p11 p12 p13))(assert (or p21 p22 p23))(assert (or p31 p32 p33))(assert (or p41 p42 p43))(assert (not (and p11 p21)))(assert (not (and p11 p31)))(assert (not (and p11 p41)))(assert (not (and p21 p31)))(assert (not (and p21 p41)))(assert (not (and p31 p41)))(assert (not (and p12 p22)))(assert (not (and p12 p32)))(assert (not (and p12 p42)))(assert (not (and p22 p32)))(assert (not (and p22 p42)))(assert (not (and p32 p42)))(assert (not (and p13 p23)))(assert (not (and p13 p33)))(assert (not (and p13 p43)))(assert (not (and p23 p33)))(assert (not (and p23 p43)))(assert (not (and p33 p43)))(check-sat)",
         b"unsat\n",
     ),
@@ -172,7 +180,7 @@ static ROWS: [(&'static [u8], &'static [u8]); 6] = [
 #[test]
 fn replies_are_those_of_any_number_of_workers(rt: HostRuntime) -> Result<(), Fail> {
     let alloc = rt.alloc();
-    for workers in ["1", "2", "16"] {
+    for workers in ["1", "2", "4", "16"] {
         for row in ROWS.iter() {
             let (script, want) = *row;
             let words = words_with(alloc, workers, "0")?;

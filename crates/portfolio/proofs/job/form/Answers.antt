@@ -3,6 +3,8 @@ use Rattle.smt_meaning.specs.declared.clauses.Atom.{Atom}
 use Rattle.search_port.specs.State.{Reading}
 use Rattle.check_atoms.specs.declared.atoms.CheckAtoms.{CheckAtoms}
 use Rattle.check_atoms.specs.Laws.{IsSameOfNoInts}
+use Rattle.search_port.specs.State.{IsGrown}
+use Rattle.first_clauses.specs.CheckClausesFirst.{reading_of}
 use Rattle.portfolio.proofs.job.form.Goals as goal
 
 pub run-requires-clause-all : goal.run-requires-clause-all
@@ -12,3 +14,12 @@ run-requires-clause-all g c =
     λ κs order a among.
     subst (λ (table : List Atom). Contains table a ⊎ IsSameOfNoInts s a)
     (sym (ap (λ (r : Reading). r.table) c.in-Ok-new.ensures.reading ∙ ap (λ (p : CheckAtoms). p.atoms.atoms) c.check_clauses.ensures.same)) (first.0.all a among)
+
+pub run-requires-clause-agreed : goal.run-requires-clause-agreed
+run-requires-clause-agreed g c =
+    let s = c.args.stack.now in
+    λ q log grown full consistent made.
+    c.first_clauses_say_standing.ensures s c.in-Ok-numbered.parts.marks.items c.sorts.result.now c.in-Ok-numbered.parts.atoms.atoms c.in-Ok-check_clauses.store q log c.laws.ensures c.in-Ok-numbered.ensures.parts
+    c.in-Ok-numbered.ensures.atoms c.sorts.ensures c.in-Ok-check_clauses.ensures.first c.in-Ok-check_clauses.ensures.parts
+    (subst (λ (r : Reading). IsGrown r q) (c.in-Ok-new.ensures.reading ∙ ap (λ (p : CheckAtoms). reading_of s p.atoms.atoms) c.check_clauses.ensures.same) grown) consistent
+    (λ k among. made k (c.keep_axioms.ensures.stay k among))

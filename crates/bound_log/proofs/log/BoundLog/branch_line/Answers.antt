@@ -1,6 +1,7 @@
-use Rattle.std.proofs.Common.{◌≡◌, List, true, None, sym, subst}
+use Rattle.std.proofs.Common.{◌≡◌, List, true, Some, None, sym, subst}
 use Rattle.std.specs.Prelude.{Contains}
 use Rattle.std.proofs.lemmas.Result.{IfOk-weaker}
+use Rattle.fraction128.specs.declared.Member.{Member}
 use Rattle.fraction128.specs.Grid.{is_basic}
 use Rattle.fraction128.specs.Lines.{line_of, IsRowIn}
 use Rattle.smt_meaning.specs.declared.clauses.Atom.{Atom}
@@ -11,7 +12,7 @@ use Rattle.bound_log.specs.Told.{State, IsState, column_sums}
 use Rattle.bound_log.specs.Atoms.{Knows}
 use Rattle.bound_log.specs.Pending.{plain_grid}
 use Rattle.bound_log.proofs.Telling.{state_is}
-use Rattle.bound_log.proofs.Lines.{broken_basic, row_in}
+use Rattle.bound_log.proofs.Lines.{branch_value, broken_basic, row_in}
 use Rattle.bound_log.proofs.log.BoundLog.branch_line.Goals as goal
 
 pub returns-clause-row : goal.returns-clause-row
@@ -28,3 +29,11 @@ returns-clause-row c =
     subst (λ (o : State). IsRowIn (column_sums o) (IsBoundOf (Contains table)) l) c.self.view_is
     (row_in table now c.args.leaf.variable l state c.origins.ensures c.self.invariant.1 basic within is (subst (Knows table) (sym c.self.view_is) knows)))
     c.line.ensures
+
+pub returns-clause-value : goal.returns-clause-value
+returns-clause-value c =
+    let s = c.self.inside in
+    let now : State = record { bounds = s.bounds; said = s.said.items; log = s.log.items } in
+    let first : IsFirstIn s.bounds.columns c.args.leaf = subst (λ (o : State). IsFirstIn o.bounds.columns c.args.leaf) (sym c.self.view_is) c.requires.first in
+    IfOk-weaker c.line.result (λ l. l ≡ line_of (plain_grid now) c.args.leaf.variable None) (λ l. (b : Member) → l.basic ≡ Some b → b.column.value ≡ c.args.leaf.value)
+    (λ l is. branch_value now c.args.leaf l first is) c.line.ensures
