@@ -20,7 +20,9 @@ ghost use Rattle.simplex.specs.State.{IsState, KeepsValues, HasBounds, FixedAt, 
 use crate::grid::copy_grid;
 use crate::{BoundTrail, Held, Set};
 use fraction128::{Bound, Column, Entry, Fraction, Grid, Line, Range, Seq, Side, Sum, Summand};
-use simplex_steps::{Checked, Moved, Outcome, PivotLines, Suspects, check, line_of_pivot, moved_by};
+use simplex_steps::{
+    Checked, Moved, Outcome, PivotLines, Suspects, check, line_of_pivot, moved_by,
+};
 use std::alloc::{AllocError, Global};
 use std::marker::Model;
 use tableau::{Failure, Part, Tableau, write_parts};

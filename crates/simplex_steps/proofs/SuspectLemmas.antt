@@ -1,5 +1,5 @@
 -- Lists of suspects: what covers columns, as the list changes and as values do; and the least that is chosen of it.
-use Rattle.std.proofs.Common.{◌≡◌, ◌≢◌, ℕ, zero, suc, ◌+◌, ◌-◌, ◌<◌, ◌≤◌, ◌⊎◌, inl, inr, sym, ap, ◌∙◌, subst, refl, arith, List, [], ◌∷◌, ◌++◌, length, get_or, get_or-set_other, get_or-set_same, set, Contains, Bool, true, false, cond, not, IfSome, IfNone, leb, leb-true, leb-false, ◌&&◌, Option, Some, None, ℤ}
+use Rattle.std.proofs.Common.{◌≡◌, ◌≢◌, ℕ, zero, ◌+◌, ◌-◌, ◌<◌, ◌≤◌, ◌⊎◌, inl, inr, sym, ap, ◌∙◌, subst, refl, arith, List, [], ◌∷◌, ◌++◌, length, get_or, get_or-set_other, get_or-set_same, set, Contains, Bool, true, false, cond, not, IfSome, IfNone, leb, leb-true, leb-false, ◌&&◌, Option, Some, None, ℤ}
 use Rattle.std.proofs.lemmas.List.{length-set, get_or_default}
 use Rattle.std.proofs.lemmas.List.Elements.{Contains-append_left, Contains-append_right, Contains-push, Contains-push_cases, Contains-get_or}
 use Rattle.std.proofs.lemmas.Bool.{cases_eq, cases_lt}
@@ -13,7 +13,7 @@ use Rattle.simplex_steps.specs.Moved.{applied, with_value, landed}
 use Rattle.simplex_steps.specs.State.{column_in, no_column, SettledBelow, IsSettled, IsLeastBroken}
 use Rattle.simplex_steps.specs.Suspects.{Listing, IsCalm, Covers, AreFlagged, Adds, Removes, AreListed, lesser}
 use Rattle.simplex_steps.proofs.Columns.{column_other, basic_is, basic_place, free_is}
-use Rattle.simplex_steps.proofs.Next.{none_crossed, one_crossed}
+use Rattle.simplex_steps.proofs.Next.{one_crossed}
 
 -- ---- the list and its flags
 

@@ -85,7 +85,11 @@ pub fn least_outside(tableau: &Tableau, columns: &[Column], suspects: &Suspects)
     let listed = suspects.variables();
     let mut found = None;
     for variable in listed {
-        found = lesser(found, *variable, is_free_outside(tableau, columns, *variable));
+        found = lesser(
+            found,
+            *variable,
+            is_free_outside(tableau, columns, *variable),
+        );
     }
     found
 }

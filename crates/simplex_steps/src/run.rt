@@ -110,7 +110,9 @@ fn advance(
         Err(_) => Progress::Ended(Outcome::Memory),
         Ok(Found::Fits) => Progress::Ended(Outcome::Fits),
         Ok(Found::Conflict(bounds)) => Progress::Ended(Outcome::Conflict(bounds)),
-        Ok(Found::Pivot(turn)) => match record_turn(alloc, tableau, columns, moved, suspects, kept, turn) {
+        Ok(Found::Pivot(turn)) => match record_turn(
+            alloc, tableau, columns, moved, suspects, kept, turn,
+        ) {
             Ok(()) => Progress::Pivoted,
             Err(failure) => Progress::Ended(failed(failure)),
         },

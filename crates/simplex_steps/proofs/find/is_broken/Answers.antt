@@ -1,4 +1,4 @@
-use Rattle.std.proofs.Common.{◌∙◌, ap, sym, not}
+use Rattle.std.proofs.Common.{◌∙◌, ap, sym}
 use Rattle.fraction128.specs.declared.Column.{Column}
 use Rattle.fraction128.specs.Grid.{is_some, missed, is_basic}
 use Rattle.simplex_steps.specs.State.{column_in}

@@ -1,4 +1,4 @@
-use Rattle.std.proofs.Common.{◌∙◌, ap, sym, subst, arith, ◌<◌, length, get_or}
+use Rattle.std.proofs.Common.{◌∙◌, ap, sym, subst, arith, ◌<◌, length}
 use Rattle.std.proofs.lemmas.List.{get_or_default}
 use Rattle.simplex_steps.specs.declared.moves.Moved.{Moved}
 use Rattle.simplex_steps.specs.Suspects.{Listing, Covers}

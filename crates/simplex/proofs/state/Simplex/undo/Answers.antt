@@ -13,9 +13,11 @@ pub invariant_of-self : goal.invariant_of-self
 invariant_of-self c =
     let lt = last_known (length c.self.inside.columns.items) c.self.inside.trail.bounds c.undo.new.self.bounds c.in-Some.set c.self.invariant.core.known c.in-Some.ensures.bounds in
     subst (λ cs. IsWatched c.self.inside.tableau cs c.undo.new.self c.self.inside.suspects) (sym c.refresh.ensures)
-    (record { core = core_undone c.self.inside.tableau c.self.inside.columns.items c.self.inside.trail c.undo.new.self c.in-Some.set c.self.invariant.core c.undo.ensures.count c.in-Some.ensures.bounds lt;
+    (record {
+      core = core_undone c.self.inside.tableau c.self.inside.columns.items c.self.inside.trail c.undo.new.self c.in-Some.set c.self.invariant.core c.undo.ensures.count c.in-Some.ensures.bounds lt;
       covers = covers_undone c.self.inside.suspects c.self.inside.columns.items c.undo.new.self.bounds c.in-Some.set c.self.invariant.covers lt
-          (subst (λ bs. HasBounds bs c.in-Some.set.variable (column_in c.self.inside.columns.items c.in-Some.set.variable)) c.in-Some.ensures.bounds (c.self.invariant.core.bounded c.in-Some.set.variable lt)) })
+          (subst (λ bs. HasBounds bs c.in-Some.set.variable (column_in c.self.inside.columns.items c.in-Some.set.variable)) c.in-Some.ensures.bounds (c.self.invariant.core.bounded c.in-Some.set.variable lt));
+    })
 
 pub invariant_of-self-in_default : goal.invariant_of-self-in_default
 invariant_of-self-in_default c =
