@@ -1,6 +1,7 @@
 -- The variables that may be outside their bounds.
-use Rattle.std.specs.Prelude.{◌≡◌, ℕ, ◌<◌, ◌≤◌, leb, ◌⊎◌, Bool, true, false, List, length, slice_index_or, Contains, Option, Some, None, if◌then◌else◌}
+use Rattle.std.specs.Prelude.{◌≡◌, ℕ, ◌<◌, ◌≤◌, leb, ◌⊎◌, Bool, true, false, pos, List, [], ◌∷◌, length, slice_index_or, Contains, Option, Some, None, if◌then◌else◌}
 use Rattle.fraction128.specs.declared.Column.{Column}
+use Rattle.fraction128.specs.Number.{whole}
 use Rattle.fraction128.specs.Grid.{WithinBounds, is_crossed}
 use Rattle.simplex_steps.specs.declared.moves.Moved.{Moved}
 use Rattle.simplex_steps.specs.State.{column_in}
@@ -52,3 +53,14 @@ abbrev pub lesser : Option ℕ → ℕ → Bool → Option ℕ
 lesser found i false = found
 lesser None i true = Some i
 lesser (Some best) i true = if leb best i then Some best else Some i
+
+-- ---- examples
+
+-- the value 0, for which the lower bound is 1
+abbrev pub too_low : Column
+too_low = record { sum = []; lower = Some (pos 1); upper = None; value = whole (pos 0) }
+
+-- the list with this one variable covers it; the empty list doesn't
+pub record SuspectsAreCovered : Type 0 where
+  pub listed : Covers (record { count = 1; variables = 0 ∷ [] }) (too_low ∷ [])
+  pub unlisted : Covers (record { count = 1; variables = [] }) (too_low ∷ []) → ⊥

@@ -37,6 +37,7 @@
 #![tactic(auto)]
 
 ghost use Rattle.simplex_steps.specs.Law.{RunsAreShort, StepsKeep, MovesSettle, PivotsSettle, LinesArePivots, LinesGoOn, LinesAreRows, RunsRest, SolutionsAreFree, FreeAreSolutions, PivotsKeepFree, MovesKeepFree, PivotsExchange, RunsExchange, BasesDetermine};
+ghost use Rattle.simplex_steps.specs.Suspects.{SuspectsAreCovered};
 ghost use Rattle.simplex_steps.specs.TableRows.{TablesHaveRows};
 
 mod bounds;
@@ -99,4 +100,9 @@ pub fn bases_determine_rows()
 /// A tableau's rows are rows of its grid.
 pub fn tables_have_rows()
     ensures { TablesHaveRows }
+{}
+
+/// A variable outside its bounds is a suspect: an example.
+pub fn suspects_are_covered()
+    ensures { SuspectsAreCovered }
 {}
