@@ -13,14 +13,15 @@ use Rattle.fraction128.specs.Grid.{missed, is_below, is_above, is_crossed}
 use Rattle.fraction128.proofs.RationalOrder.{mul_mono}
 use Rattle.simplex.specs.declared.trail.Set.{Set}
 use Rattle.simplex.specs.declared.trail.Held.{Held}
-use Rattle.simplex.specs.Trail.{tightest, number_of, held_next, tighter, is_on, held_by}
+use Rattle.simplex.specs.Trail.{Trail, tightest, number_of, held_next, tighter, is_on, held_by}
 use Rattle.simplex.proofs.TrailLemmas.{tightest_more}
-use Rattle.simplex_steps.specs.State.{column_in, no_column}
+use Rattle.simplex_steps.specs.State.{column_in, no_column, IsSolution}
 use Rattle.simplex_steps.specs.Suspects.{Listing, IsCalm, Covers}
 use Rattle.simplex_steps.proofs.SuspectLemmas.{covers_set}
 use Rattle.tableau.specs.Table.{Table}
+use Rattle.simplex.specs.Sums.{IsMeant}
 use Rattle.simplex.specs.State.{IsCore, IsWatched, HasBounds, refreshed, new_column}
-use Rattle.simplex.proofs.GrowLemmas.{core_none}
+use Rattle.simplex.proofs.GrowLemmas.{core_none, core_same, core_grown}
 
 -- ---- looser bounds
 
@@ -198,4 +199,35 @@ watched_none =
     record {
       core = core_none;
       covers = record { room = omega arith; known = λ i c. let l = c.1 in absurd (omega (arith, l)); others = λ i l. absurd (omega (arith, l)) };
+    }
+
+-- ---- one more variable
+
+-- room for one more changes nothing
+pub watched_room : (t : Table) (cs : List Column) (old now : Trail) (s r : Listing) → IsWatched t cs old s → old.count ≤ now.count → now.bounds ≡ old.bounds → s.count ≤ r.count → r.variables ≡ s.variables
+    → IsWatched t cs now r
+watched_room t cs old now s r h count bounds room same =
+    record { core = core_same t cs old now h.core count bounds; covers = covers_room s r cs h.covers same room }
+
+-- where the trail refused one more, and where the columns did
+pub watched_refused : (t : Table) (cs : List Column) (old now : Trail) (s r : Listing) → IsWatched t cs old s → now ≡ old → r ≡ record { count = s.count + 1; variables = s.variables } → IsWatched t cs now r
+watched_refused t cs old now s r h is same =
+    let count = ap (λ (o : Trail). o.count) is in
+    let room = ap (λ (l : Listing). l.count) same in
+    watched_room t cs old now s r h (omega (arith, count)) (ap (λ (o : Trail). o.bounds) is) (omega (arith, room)) (ap (λ (l : Listing). l.variables) same)
+
+pub watched_roomy : (t : Table) (cs : List Column) (old now : Trail) (s r : Listing) → IsWatched t cs old s → now ≡ record { count = old.count + 1; bounds = old.bounds } → r ≡ record { count = s.count + 1; variables = s.variables } → IsWatched t cs now r
+watched_roomy t cs old now s r h is same =
+    let count = ap (λ (o : Trail). o.count) is in
+    let room = ap (λ (l : Listing). l.count) same in
+    watched_room t cs old now s r h (omega (arith, count)) (ap (λ (o : Trail). o.bounds) is) (omega (arith, room)) (ap (λ (l : Listing). l.variables) same)
+
+pub watched_grown : (t u : Table) (cs : List Column) (old now : Trail) (s r : Listing) (sum : List Summand) (x : Ratio) → IsWatched t cs old s → IsSolution u (cs ++ new_column sum x ∷ []) → IsMeant u.rows (cs ++ new_column sum x ∷ []) → now ≡ record { count = old.count + 1; bounds = old.bounds } → r ≡ record { count = s.count + 1; variables = s.variables }
+    → IsWatched u (cs ++ new_column sum x ∷ []) now r
+watched_grown t u cs old now s r sum x h solution meant is same =
+    let count = ap (λ (o : Trail). o.count) is in
+    let room = ap (λ (l : Listing). l.count) same in
+    record {
+      core = core_grown t u cs old now sum x h.core solution meant (omega (arith, count)) (ap (λ (o : Trail). o.bounds) is);
+      covers = covers_grown s r cs sum x h.covers (ap (λ (l : Listing). l.variables) same) (omega (arith, room));
     }

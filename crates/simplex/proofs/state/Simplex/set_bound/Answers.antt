@@ -6,8 +6,8 @@ use Rattle.simplex.proofs.WatchLemmas.{covers_set_bound}
 use Rattle.simplex.proofs.BoundLemmas.{core_set}
 use Rattle.simplex.proofs.state.Simplex.set_bound.Goals as goal
 
-pub invariant_of-self-2 : goal.invariant_of-self-2
-invariant_of-self-2 c =
+pub invariant_of-self-in_err-set : goal.invariant_of-self-in_err-set
+invariant_of-self-in_err-set c =
     subst (λ (r : Trail). IsWatched c.self.inside.tableau c.self.inside.columns.items r c.add.new.self) (sym c.in_err-set.ensures.err)
     (record {
       core = c.self.invariant.core;
@@ -19,8 +19,8 @@ add-requires c =
     let lt = subst (λ cs. c.args.set.variable < length cs) (sym (ap (λ (s : State). s.columns) c.self.view_is)) c.requires.known in
     let room = c.self.invariant.covers.room in omega (arith, lt, room)
 
-pub invariant_of-self-3 : goal.invariant_of-self-3
-invariant_of-self-3 c =
+pub invariant_of-self-2 : goal.invariant_of-self-2
+invariant_of-self-2 c =
     let lt = subst (λ cs. c.args.set.variable < length cs) (sym (ap (λ (s : State). s.columns) c.self.view_is)) c.requires.known in
     subst (λ cs. IsWatched c.self.inside.tableau cs c.set.new.self c.add.new.self) (sym c.refresh.ensures)
     (record {
