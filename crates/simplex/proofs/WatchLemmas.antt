@@ -1,9 +1,9 @@
 -- What isn't a suspect stays within its bounds: as bounds are set and taken back, as variables are added, and as a check moves values.
-use Rattle.std.proofs.Common.{◌≡◌, ◌≢◌, ℕ, zero, suc, ◌+◌, ◌<◌, ◌≤◌, ◌⊎◌, inl, inr, sym, ap, ◌∙◌, subst, refl, arith, List, [], ◌∷◌, ◌++◌, length, get_or-set_other, get_or-set_same, length-append, set, Contains, Bool, true, false, cond, Option, Some, None}
+use Rattle.std.proofs.Common.{◌≡◌, ℕ, ◌+◌, ◌<◌, ◌≤◌, ◌⊎◌, inl, inr, sym, ap, ◌∙◌, subst, refl, arith, List, [], ◌∷◌, ◌++◌, length, get_or-set_other, get_or-set_same, length-append, Contains, Bool, true, false, cond, Option, Some, None}
 use Rattle.std.proofs.lemmas.List.{length-set, get_or_append_left, get_or_push}
 use Rattle.std.proofs.lemmas.Bool.{cases_eq, cases_lt}
 use Rattle.std.proofs.lemmas.Int.{ints}
-use Rattle.std.specs.Prelude.{ℤ, pos, int_lt, ◌*ℤ◌, ◌≤ℤ◌}
+use Rattle.std.specs.Prelude.{ℤ, pos, int_lt, ◌≤ℤ◌}
 use Rattle.fraction128.specs.declared.ratio.Ratio.{Ratio}
 use Rattle.fraction128.specs.Number.{whole, is_less}
 use Rattle.fraction128.specs.declared.Summand.{Summand}
@@ -20,7 +20,7 @@ use Rattle.simplex_steps.specs.Suspects.{Listing, IsCalm, Covers}
 use Rattle.simplex_steps.proofs.SuspectLemmas.{covers_set}
 use Rattle.tableau.specs.Table.{Table}
 use Rattle.simplex.specs.Sums.{IsMeant}
-use Rattle.simplex.specs.State.{IsCore, IsWatched, HasBounds, refreshed, new_column}
+use Rattle.simplex.specs.State.{IsWatched, HasBounds, refreshed, new_column}
 use Rattle.simplex.proofs.GrowLemmas.{core_none, core_same, core_grown}
 
 -- ---- looser bounds
