@@ -5,3 +5,4 @@ pub mod WrittenSums
 pub mod Meaning
 pub mod Leaves
 pub mod Free
+pub mod WatchLemmas

@@ -19,6 +19,7 @@ use Rattle.simplex.specs.declared.trail.Held.{Held}
 use Rattle.simplex.specs.Trail.{Trail, tightest, number_of, set_at}
 use Rattle.simplex_steps.specs.State.{grid_of, column_in, values, IsSolution}
 use Rattle.simplex_steps.specs.Conflict.{IsConflict}
+use Rattle.simplex_steps.specs.Suspects.{Listing, Covers}
 use Rattle.simplex_steps.specs.Run.{AreWithin, NextPivotFits}
 use Rattle.simplex_steps.specs.declared.run.Outcome.{Outcome}
 use Rattle.simplex_steps.specs.declared.run.Outcome.TheVariants.{Fits as AllFit, Conflict as Clash, Range as NoFit, UnitsSpent as Spent, Memory as NoMemory}
@@ -123,6 +124,11 @@ pub record IsCore (t : Table) (cs : List Column) (trail : Trail) : Type 0 where
   pub bounded : (i : ℕ) → i < length cs → HasBounds trail.bounds i (column_in cs i)
   pub known : AreKnown (length cs) trail.bounds
   pub meant : IsMeant t.rows cs
+
+-- and what isn't a suspect is within its bounds
+pub record IsWatched (t : Table) (cs : List Column) (trail : Trail) (s : Listing) : Type 0 where
+  pub core : IsCore t cs trail
+  pub covers : Covers s cs
 
 -- the bounds of a conflict are of known variables
 abbrev pub KnownBounds : ℕ → Outcome → Type 0

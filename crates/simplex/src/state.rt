@@ -20,7 +20,9 @@ ghost use Rattle.simplex.specs.State.{IsState, KeepsValues, HasBounds, FixedAt, 
 use crate::grid::copy_grid;
 use crate::{BoundTrail, Held, Set};
 use fraction128::{Bound, Column, Entry, Fraction, Grid, Line, Range, Seq, Side, Sum, Summand};
-use simplex_steps::{Checked, Moved, Outcome, PivotLines, check, line_of_pivot, moved_by};
+use simplex_steps::{
+    Checked, Moved, Outcome, PivotLines, Suspects, check, line_of_pivot, moved_by,
+};
 use std::alloc::{AllocError, Global};
 use std::marker::Model;
 use tableau::{Failure, Part, Tableau, write_parts};
@@ -190,6 +192,7 @@ pub struct Simplex {
     tableau: Tableau,
     columns: Vec<Column>,
     moved: Vec<Moved>,
+    suspects: Suspects,
     trail: BoundTrail,
 }
 
@@ -199,11 +202,11 @@ impl Model for Simplex {
     ghost Value = { State };
 
     ghost use Rattle.std.specs.Prelude.{◌≡◌, length};
-    ghost use Rattle.simplex.specs.State.{IsCore};
+    ghost use Rattle.simplex.specs.State.{IsWatched};
 
     ghost view = { λ s. record { table = s.tableau; columns = s.columns.items; bounds = s.trail.bounds } };
 
-    ghost invariant = { λ s. IsCore s.tableau s.columns.items s.trail };
+    ghost invariant = { λ s. IsWatched s.tableau s.columns.items s.trail s.suspects };
 }
 
 impl Simplex {
@@ -217,6 +220,7 @@ impl Simplex {
             tableau: Tableau::new(alloc),
             columns: Vec::new(alloc),
             moved: Vec::new(alloc),
+            suspects: Suspects::new(alloc),
             trail: BoundTrail::new(alloc),
         }
     }
@@ -232,6 +236,7 @@ impl Simplex {
     {
         self.tableau.facts();
         let sum = sum_of_leaf(alloc, term)?;
+        self.suspects.add_variable()?;
         self.trail.add_variable()?;
         self.columns.push(Column {
             sum,
@@ -258,6 +263,7 @@ impl Simplex {
         self.tableau.facts();
         let entries = write_parts(&self.tableau, alloc, parts)?;
         let value = value_of(&self.columns, &entries)?;
+        self.suspects.add_variable()?;
         self.trail.add_variable()?;
         let column = Column {
             sum,
@@ -352,6 +358,7 @@ impl Simplex {
         ensures bounds { OnOk result (self.new.bounds ≡ self.old.bounds ++ set ∷ []) }
         ensures err { OnErr result (self.new ≡ self.old) }
     {
+        self.suspects.add(set.variable)?;
         self.trail.set(set)?;
         refresh(&mut self.columns, &self.trail, set.variable);
         Ok(())
@@ -395,6 +402,7 @@ impl Simplex {
             &mut self.tableau,
             &mut self.columns,
             &mut self.moved,
+            &mut self.suspects,
             kept,
             room,
         );

@@ -11,7 +11,7 @@ use Rattle.fraction128.specs.declared.TableRow.{TableRow}
 use Rattle.fraction128.specs.declared.Column.{Column}
 use Rattle.fraction128.specs.declared.Grid.{Grid}
 use Rattle.fraction128.specs.declared.Summand.{Summand}
-use Rattle.fraction128.specs.Grid.{take, move, pivot, coefficient, column_at, is_basic, is_some, row_of, row_value, after_pivot, after_move, pivoted_rows, pivoted_value, moved_value, with_values, MeetsRow, MeetsRows}
+use Rattle.fraction128.specs.Grid.{take, move, pivot, column_at, is_basic, is_some, row_of, row_value, after_pivot, after_move, pivoted_rows, pivoted_value, moved_value, with_values, MeetsRow, MeetsRows}
 use Rattle.fraction128.specs.Lines.{sum_value, IsPositive, AreIndependent, HasBasis, exchanged, pivot_line}
 use Rattle.fraction128.proofs.RowValue as RowValue
 use Rattle.simplex_steps.specs.Law.{row_at, no_row, AreIdentities, ComeFromTerms, SolutionsAreFree, FreeAreSolutions, PivotsKeepFree, MovesKeepFree, PivotsExchange, RunsExchange}

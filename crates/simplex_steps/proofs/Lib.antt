@@ -1,5 +1,6 @@
 pub mod Columns
 pub mod Shifts
+pub mod SuspectLemmas
 pub mod Next
 pub mod ConflictLemmas
 pub mod Sound

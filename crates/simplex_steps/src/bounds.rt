@@ -2,7 +2,7 @@
 ghost use Rattle.std.specs.Prelude.{◌≡◌, ◌<◌, ◌^◌, true, false, unsigned_abs};
 ghost use Rattle.fraction128.specs.Whole.{InRange};
 ghost use Rattle.fraction128.specs.Number.{whole, is_less};
-ghost use Rattle.fraction128.specs.Grid.{missed, can_rise, can_fall, is_crossed, helps};
+ghost use Rattle.fraction128.specs.Grid.{is_some, missed, can_rise, can_fall, is_crossed, helps};
 
 use fraction128::{Column, Fraction, laws};
 
@@ -35,6 +35,16 @@ pub fn missed(column: &Column) -> Option<i128>
     match column.upper {
         Some(number) if is_more_than(column.value, number) => column.upper,
         _ => None,
+    }
+}
+
+/// Whether the value is outside a bound.
+pub fn is_outside(column: &Column) -> bool
+    ensures { result ≡ is_some (missed column.now) }
+{
+    match missed(column) {
+        Some(_) => true,
+        None => false,
     }
 }
 

@@ -1,18 +1,20 @@
 //! The next step of the search, by Bland's rule: the least basic variable outside its bounds, and
 //! of its row the least variable that can bring it nearer.
-ghost use Rattle.std.specs.Prelude.{◌≡◌, ◌≢◌, ℕ, ◌+◌, ◌<◌, ◌≤◌, true, false, [], ◌∷◌, length, slice_index_or, IfOk, IfSome, IfNone, Some, None};
+ghost use Rattle.std.specs.Prelude.{◌≡◌, ◌≢◌, ℕ, ◌<◌, ◌≤◌, ◌&&◌, not, true, false, [], ◌∷◌, length, slice_index_or, IfOk, IfSome, IfNone, Some, None};
 ghost use Rattle.fraction128.specs.Whole.{InRange};
 ghost use Rattle.fraction128.specs.Number.{whole, is_less};
 ghost use Rattle.fraction128.specs.declared.Entry.{Entry};
-ghost use Rattle.fraction128.specs.Grid.{missed, is_crossed, any_crossed, helps, entering};
+ghost use Rattle.fraction128.specs.Grid.{is_some, is_basic, missed, is_crossed, any_crossed, helps, entering};
 ghost use Rattle.tableau.specs.Table.{row_at};
 ghost use Rattle.tableau.specs.Staged.{HasEntry};
-ghost use Rattle.simplex_steps.specs.State.{column_in, grid_of, IsSolution, AreRanged, IsRanged, IsSound, IsSettled, IsLeastBroken};
+ghost use Rattle.simplex_steps.specs.State.{column_in, grid_of, IsSolution, AreRanged, IsRanged, IsSound, SettledBelow, IsSettled, IsLeastBroken};
 ghost use Rattle.simplex_steps.specs.Conflict.{NoneHelps, KnownEntries, IsTarget};
 ghost use Rattle.simplex_steps.specs.Run.{IsFound};
+ghost use Rattle.simplex_steps.specs.Suspects.{Covers, lesser};
 
-use crate::bounds::{helps, is_crossed, is_less_than, missed};
+use crate::bounds::{helps, is_crossed, is_less_than, is_outside};
 use crate::conflict::explain_row;
+use crate::suspects::Suspects;
 use fraction128::{Bound, Column, Entry};
 use std::alloc::{AllocError, Global};
 use tableau::Tableau;
@@ -36,53 +38,97 @@ pub enum Found {
     Pivot(Turn),
 }
 
+/// Of two variables the lesser, where the new one is chosen.
+fn lesser(found: Option<u32>, variable: u32, is_chosen: bool) -> Option<u32>
+    ensures { result ≡ lesser found variable is_chosen }
+{
+    match found {
+        _ if !is_chosen => found,
+        Some(best) if best <= variable => found,
+        _ => Some(variable),
+    }
+}
+
 /// The least variable whose bounds cross.
-pub fn first_crossed(tableau: &Tableau, columns: &[Column]) -> Option<u32>
-    requires { length columns.now ≡ tableau.now.count }
+pub fn first_crossed(columns: &[Column], suspects: &Suspects) -> Option<u32>
+    requires { Covers suspects.now columns.now }
     ensures some { IfSome result (λ i. (i < length columns.now) × (is_crossed (column_in columns.now i) ≡ true)) }
     ensures first { IfSome result (λ i. (j : ℕ) → j < i → is_crossed (column_in columns.now j) ≡ false) }
     ensures none { IfNone result (any_crossed columns.now ≡ false) }
 {
-    for variable in 0..tableau.count() {
-        if is_crossed(&columns[variable as usize]) {
-            return Some(variable);
-        }
+    let listed = suspects.variables();
+    let mut found = None;
+    for variable in listed {
+        found = lesser(found, *variable, is_crossed(&columns[*variable as usize]));
     }
-    None
+    found
 }
 
-/// The row found so far, or this one where its basic variable is outside its bounds and less.
-fn consider(
-    tableau: &Tableau,
-    columns: &[Column],
-    found: Option<usize>,
-    place: usize,
-) -> Option<usize>
-    requires count { length columns.now ≡ tableau.now.count }
-    requires place { place < length tableau.now.rows }
-    requires so_far { IsLeastBroken tableau.now.rows columns.now place found }
-    ensures { IsLeastBroken tableau.now.rows columns.now (place + 1) result }
+/// Whether a variable is outside its bounds, and isn't basic.
+fn is_free_outside(tableau: &Tableau, columns: &[Column], variable: u32) -> bool
+    requires { variable < length columns.now }
+    ensures { result ≡ (is_some (missed (column_in columns.now variable)) && not (is_basic tableau.now.rows variable)) }
 {
-    let basic = tableau.basic(place);
-    if missed(&columns[basic as usize]).is_none() {
-        return found;
+    tableau.facts();
+    is_outside(&columns[variable as usize]) && !tableau.is_basic(variable)
+}
+
+/// The least variable that isn't basic and is outside its bounds.
+pub fn least_outside(tableau: &Tableau, columns: &[Column], suspects: &Suspects) -> Option<u32>
+    requires { Covers suspects.now columns.now }
+    ensures known { IfSome result (λ i. i < length columns.now) }
+    ensures outside { IfSome result (λ i. missed (column_in columns.now i) ≢ None) }
+    ensures free { IfSome result (λ i. is_basic tableau.now.rows i ≡ false) }
+    ensures settled { IfSome result (SettledBelow tableau.now columns.now) }
+    ensures none { IfNone result (IsSettled tableau.now columns.now) }
+{
+    let listed = suspects.variables();
+    let mut found = None;
+    for variable in listed {
+        found = lesser(
+            found,
+            *variable,
+            is_free_outside(tableau, columns, *variable),
+        );
     }
-    match found {
-        Some(best) if tableau.basic(best) <= basic => found,
-        _ => Some(place),
+    found
+}
+
+/// Whether a variable is outside its bounds, and basic.
+fn is_broken(tableau: &Tableau, columns: &[Column], variable: u32) -> bool
+    requires { variable < length columns.now }
+    ensures { result ≡ (is_some (missed (column_in columns.now variable)) && is_basic tableau.now.rows variable) }
+{
+    tableau.facts();
+    is_outside(&columns[variable as usize]) && tableau.is_basic(variable)
+}
+
+/// The least basic variable that is outside its bounds.
+fn least_broken(tableau: &Tableau, columns: &[Column], suspects: &Suspects) -> Option<u32>
+    requires { Covers suspects.now columns.now }
+    ensures some { IfSome result (λ i. (is_some (missed (column_in columns.now i)) && is_basic tableau.now.rows i) ≡ true) }
+    ensures first { IfSome result (λ i. (j : ℕ) → j < length columns.now → (is_some (missed (column_in columns.now j)) && is_basic tableau.now.rows j) ≡ true → i ≤ j) }
+    ensures none { IfNone result ((j : ℕ) → j < length columns.now → (is_some (missed (column_in columns.now j)) && is_basic tableau.now.rows j) ≡ false) }
+{
+    let listed = suspects.variables();
+    let mut found = None;
+    for variable in listed {
+        found = lesser(found, *variable, is_broken(tableau, columns, *variable));
     }
+    found
 }
 
 /// The row of the least basic variable that is outside its bounds.
-fn first_broken(tableau: &Tableau, columns: &[Column]) -> Option<usize>
-    requires { length columns.now ≡ tableau.now.count }
+fn first_broken(tableau: &Tableau, columns: &[Column], suspects: &Suspects) -> Option<usize>
+    requires count { length columns.now ≡ tableau.now.count }
+    requires covers { Covers suspects.now columns.now }
     ensures { IsLeastBroken tableau.now.rows columns.now (length tableau.now.rows) result }
 {
-    let mut found = None;
-    for place in 0..tableau.len() {
-        found = consider(tableau, columns, found, place);
+    tableau.facts();
+    match least_broken(tableau, columns, suspects) {
+        Some(variable) => tableau.place_of(variable),
+        None => None,
     }
-    found
 }
 
 /// The first entry of the row whose variable can move so that the basic variable rises, or falls.
@@ -163,13 +209,19 @@ fn find_turn(
 }
 
 /// The next step, where all that isn't basic is within its bounds.
-pub fn find(alloc: Global, tableau: &Tableau, columns: &[Column]) -> Result<Found, AllocError>
+pub fn find(
+    alloc: Global,
+    tableau: &Tableau,
+    columns: &[Column],
+    suspects: &Suspects,
+) -> Result<Found, AllocError>
     requires sound { IsSound tableau.now columns.now }
     requires settled { IsSettled tableau.now columns.now }
+    requires covers { Covers suspects.now columns.now }
     ensures { IfOk result (IsFound tableau.now columns.now) }
 {
     tableau.facts();
-    match first_broken(tableau, columns) {
+    match first_broken(tableau, columns, suspects) {
         None => Ok(Found::Fits),
         Some(place) => find_turn(alloc, tableau, columns, place),
     }

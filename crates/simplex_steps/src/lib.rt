@@ -14,6 +14,9 @@
 //! Where lines are kept, the line of each pivot comes after those before, each by the definition
 //! and of the grid at its step, which fits; each goes on from the basis that the one before it left.
 //!
+//! `Suspects`: the variables among which a check looks; each other one is within its bounds, which
+//! don't cross, before a check and after it, whatever the end.
+//!
 //! `runs_are_short`: every run of next steps of a grid of n variables, with nothing pending, values
 //! that meet the rows and bounds that don't cross, has fewer than 3^n pivots: so the simplex method
 //! ends whatever the numbers.
@@ -34,6 +37,7 @@
 #![tactic(auto)]
 
 ghost use Rattle.simplex_steps.specs.Law.{RunsAreShort, StepsKeep, MovesSettle, PivotsSettle, LinesArePivots, LinesGoOn, LinesAreRows, RunsRest, SolutionsAreFree, FreeAreSolutions, PivotsKeepFree, MovesKeepFree, PivotsExchange, RunsExchange, BasesDetermine};
+ghost use Rattle.simplex_steps.specs.Suspects.{SuspectsAreCovered};
 ghost use Rattle.simplex_steps.specs.TableRows.{TablesHaveRows};
 
 mod bounds;
@@ -42,11 +46,13 @@ mod find;
 mod line;
 mod moves;
 mod run;
+mod suspects;
 mod turn;
 
 pub use line::{PivotLines, copy_column, line_of_pivot};
 pub use moves::{Moved, moved_by};
 pub use run::{Checked, Outcome, check};
+pub use suspects::Suspects;
 
 /// A run of next steps of n variables has fewer than 3^n pivots.
 pub fn runs_are_short()
@@ -94,4 +100,9 @@ pub fn bases_determine_rows()
 /// A tableau's rows are rows of its grid.
 pub fn tables_have_rows()
     ensures { TablesHaveRows }
+{}
+
+/// A variable outside its bounds is a suspect: an example.
+pub fn suspects_are_covered()
+    ensures { SuspectsAreCovered }
 {}

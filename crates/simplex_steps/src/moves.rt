@@ -10,8 +10,10 @@ ghost use Rattle.tableau.specs.Failing.{IsRange};
 ghost use Rattle.tableau.specs.Table.{row_at};
 ghost use Rattle.tableau.specs.Staged.{HasEntry};
 ghost use Rattle.simplex_steps.specs.State.{column_in, values};
+ghost use Rattle.simplex_steps.specs.Suspects.{Covers};
 ghost use Rattle.simplex_steps.specs.Moved.{shift, shifts, AreShifts, shift_fits, applied, landed, moved_to, moved_fits, row_distance, pivoted_to, pivoted_fits, entering_fits};
 
+use crate::suspects::{Suspects, suspect};
 use fraction128::{Column, Fraction, Range};
 use tableau::{Failure, Tableau};
 
@@ -158,9 +160,11 @@ pub fn move_columns(
     tableau: &Tableau,
     columns: &mut [Column],
     moved: &mut Vec<Moved>,
+    suspects: &mut Suspects,
     variable: u32,
     number: i128,
 ) -> Result<(), Failure>
+    requires covers { Covers suspects.old columns.old }
     requires count { length columns.old ≡ tableau.now.count }
     requires number { InRange number }
     requires known { variable < tableau.now.count }
@@ -168,9 +172,11 @@ pub fn move_columns(
     ensures fits { OnOk result (moved_fits tableau.now.rows columns.old variable number ≡ true) }
     ensures range { IfErr result (λ e. IsRange e → moved_fits tableau.now.rows columns.old variable number ≡ false) }
     ensures err { OnErr result (columns.new ≡ columns.old) }
+    ensures covers { Covers suspects.new columns.new }
 {
     tableau.facts();
     list_move(tableau, columns, moved, variable, number)?;
+    suspect(suspects, columns, moved, variable, variable)?;
     land(columns, moved, variable, Fraction::from_whole(number));
     Ok(())
 }
@@ -231,10 +237,12 @@ pub fn pivot_columns(
     tableau: &mut Tableau,
     columns: &mut [Column],
     moved: &mut Vec<Moved>,
+    suspects: &mut Suspects,
     place: usize,
     number: i128,
     entering: u32,
 ) -> Result<(), Failure>
+    requires covers { Covers suspects.old columns.old }
     requires count { length columns.old ≡ tableau.old.count }
     requires number { InRange number }
     requires place { place < length tableau.old.rows }
@@ -247,10 +255,12 @@ pub fn pivot_columns(
     ensures fits { OnOk result ((pivot_fits tableau.old.count tableau.old.rows (row_at tableau.old.rows place).basic entering && pivoted_fits tableau.old.rows columns.old place number entering) ≡ true) }
     ensures range { IfErr result (λ e. IsRange e → (pivot_fits tableau.old.count tableau.old.rows (row_at tableau.old.rows place).basic entering && pivoted_fits tableau.old.rows columns.old place number entering) ≡ false) }
     ensures err { OnErr result ((tableau.new ≡ tableau.old) × (columns.new ≡ columns.old)) }
+    ensures covers { Covers suspects.new columns.new }
 {
     tableau.facts();
     let basic = tableau.basic(place);
     let value = list_pivot(tableau, columns, moved, place, number, entering)?;
+    suspect(suspects, columns, moved, entering, basic)?;
     tableau.pivot(place, entering)?;
     land(columns, moved, entering, value);
     columns[basic as usize].value = Fraction::from_whole(number);

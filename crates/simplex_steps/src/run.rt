@@ -11,6 +11,8 @@
 //! set to the bound that it missed. Where the row has no such variable, each of its variables
 //! stands at the bound in the way: these bounds, with the missed one, are a conflict.
 //!
+//! All of these are sought among suspects (`suspects.rt`): what isn't one is within its bounds.
+//!
 //! Why a conflict is one. The basic variable is the sum of the row's entries, and each of them is
 //! already as far in the useful direction as its bound lets it. So no values that solve the row and
 //! meet these bounds bring the basic variable to the one that it misses.
@@ -35,12 +37,14 @@ ghost use Rattle.fraction128.specs.Grid.{is_crossed};
 ghost use Rattle.simplex_steps.specs.Law.{KeepsResting};
 ghost use Rattle.tableau.specs.Table.{Table};
 ghost use Rattle.simplex_steps.specs.State.{column_in, grid_of, IsSolution, AreRanged, IsSound, IsSettled, KeepsBounds};
+ghost use Rattle.simplex_steps.specs.Suspects.{Covers};
 ghost use Rattle.simplex_steps.specs.Run.{Reaches, SameSolutions, Ends, SpendsRoom, Advances, IsFailed, IsUnspent, IsRun, Records, KeepsLines};
 
 use crate::conflict::explain_crossed;
 use crate::find::{Found, find, first_crossed};
 use crate::line::PivotLines;
 use crate::moves::Moved;
+use crate::suspects::{Suspects, sift};
 use crate::turn::{record_turn, settle, try_turn};
 use fraction128::{Bound, Column, Range};
 use std::alloc::Global;
@@ -91,18 +95,24 @@ fn advance(
     tableau: &mut Tableau,
     columns: &mut [Column],
     moved: &mut Vec<Moved>,
+    suspects: &mut Suspects,
     kept: &mut PivotLines,
 ) -> Progress
     requires sound { IsSound tableau.old columns.old }
     requires settled { IsSettled tableau.old columns.old }
+    requires covers { Covers suspects.old columns.old }
     ensures advances { Advances kept.old.keep tableau.old columns.old kept.old.lines.items tableau.new columns.new kept.new.lines.items result }
     ensures keep { kept.new.keep ≡ kept.old.keep }
+    ensures covers { Covers suspects.new columns.new }
 {
-    match find(alloc, tableau, columns) {
+    sift(suspects, columns);
+    match find(alloc, tableau, columns, suspects) {
         Err(_) => Progress::Ended(Outcome::Memory),
         Ok(Found::Fits) => Progress::Ended(Outcome::Fits),
         Ok(Found::Conflict(bounds)) => Progress::Ended(Outcome::Conflict(bounds)),
-        Ok(Found::Pivot(turn)) => match record_turn(alloc, tableau, columns, moved, kept, turn) {
+        Ok(Found::Pivot(turn)) => match record_turn(
+            alloc, tableau, columns, moved, suspects, kept, turn,
+        ) {
             Ok(()) => Progress::Pivoted,
             Err(failure) => Progress::Ended(failed(failure)),
         },
@@ -115,13 +125,15 @@ fn last_look(
     tableau: &mut Tableau,
     columns: &[Column],
     moved: &mut Vec<Moved>,
+    suspects: &Suspects,
 ) -> Outcome
+    requires covers { Covers suspects.now columns.now }
     requires sound { IsSound tableau.old columns.now }
     requires settled { IsSettled tableau.old columns.now }
     ensures same { tableau.new ≡ tableau.old }
     ensures ends { Ends tableau.old columns.now result }
 {
-    match find(alloc, tableau, columns) {
+    match find(alloc, tableau, columns, suspects) {
         Err(_) => Outcome::Memory,
         Ok(Found::Fits) => Outcome::Fits,
         Ok(Found::Conflict(bounds)) => Outcome::Conflict(bounds),
@@ -138,25 +150,28 @@ fn search(
     tableau: &mut Tableau,
     columns: &mut [Column],
     moved: &mut Vec<Moved>,
+    suspects: &mut Suspects,
     kept: &mut PivotLines,
     room: u64,
 ) -> Checked
     requires sound { IsSound tableau.old columns.old }
     requires settled { IsSettled tableau.old columns.old }
+    requires covers { Covers suspects.old columns.old }
     ensures run { IsRun tableau.old columns.old tableau.new columns.new result.pivots }
     ensures ends { Ends tableau.new columns.new result.outcome }
     ensures lines { Records kept.old.keep result.pivots (grid_of tableau.old columns.old) (grid_of tableau.new columns.new) kept.old.lines.items kept.new.lines.items }
     ensures keep { kept.new.keep ≡ kept.old.keep }
+    ensures covers { Covers suspects.new columns.new }
     ensures room { SpendsRoom room result.pivots result.outcome }
     ensures most { result.pivots ≤ room }
 {
     for pivots in 0..room {
-        match advance(alloc, tableau, columns, moved, kept) {
+        match advance(alloc, tableau, columns, moved, suspects, kept) {
             Progress::Pivoted => (),
             Progress::Ended(outcome) => return Checked { outcome, pivots },
         }
     }
-    let outcome = last_look(alloc, tableau, columns, moved);
+    let outcome = last_look(alloc, tableau, columns, moved, suspects);
     Checked {
         outcome,
         pivots: room,
@@ -169,21 +184,24 @@ fn check_uncrossed(
     tableau: &mut Tableau,
     columns: &mut [Column],
     moved: &mut Vec<Moved>,
+    suspects: &mut Suspects,
     kept: &mut PivotLines,
     room: u64,
 ) -> Checked
     requires sound { IsSound tableau.old columns.old }
+    requires covers { Covers suspects.old columns.old }
     ensures run { IsRun tableau.old columns.old tableau.new columns.new result.pivots }
     ensures ends { Ends tableau.new columns.new result.outcome }
     ensures lines { KeepsLines kept.old.keep result.pivots (grid_of tableau.old columns.old) (grid_of tableau.new columns.new) kept.old.lines.items kept.new.lines.items }
     ensures keep { kept.new.keep ≡ kept.old.keep }
+    ensures covers { Covers suspects.new columns.new }
     ensures rests { KeepsResting (grid_of tableau.old columns.old) (grid_of tableau.new columns.new) }
     ensures room { SpendsRoom room result.pivots result.outcome }
     ensures most { result.pivots ≤ room }
 {
     tableau.facts();
-    match settle(tableau, columns, moved) {
-        Ok(()) => search(alloc, tableau, columns, moved, kept, room),
+    match settle(tableau, columns, moved, suspects) {
+        Ok(()) => search(alloc, tableau, columns, moved, suspects, kept, room),
         Err(failure) => Checked {
             outcome: failed(failure),
             pivots: 0,
@@ -211,24 +229,27 @@ pub fn check(
     tableau: &mut Tableau,
     columns: &mut [Column],
     moved: &mut Vec<Moved>,
+    suspects: &mut Suspects,
     kept: &mut PivotLines,
     room: u64,
 ) -> Checked
     requires solution { IsSolution tableau.old columns.old }
     requires ranged { AreRanged columns.old }
+    requires covers { Covers suspects.old columns.old }
     ensures run { IsRun tableau.old columns.old tableau.new columns.new result.pivots }
     ensures ends { Ends tableau.new columns.new result.outcome }
     ensures lines { KeepsLines kept.old.keep result.pivots (grid_of tableau.old columns.old) (grid_of tableau.new columns.new) kept.old.lines.items kept.new.lines.items }
     ensures keep { kept.new.keep ≡ kept.old.keep }
+    ensures covers { Covers suspects.new columns.new }
     ensures rests { KeepsResting (grid_of tableau.old columns.old) (grid_of tableau.new columns.new) }
     ensures room { SpendsRoom room result.pivots result.outcome }
     ensures most { result.pivots ≤ room }
 {
-    match first_crossed(tableau, columns) {
+    match first_crossed(columns, suspects) {
         Some(variable) => Checked {
             outcome: crossing(alloc, columns, variable),
             pivots: 0,
         },
-        None => check_uncrossed(alloc, tableau, columns, moved, kept, room),
+        None => check_uncrossed(alloc, tableau, columns, moved, suspects, kept, room),
     }
 }

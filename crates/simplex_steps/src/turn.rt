@@ -6,12 +6,14 @@ ghost use Rattle.tableau.specs.Failing.{IsRange};
 ghost use Rattle.tableau.specs.Table.{row_at};
 ghost use Rattle.simplex_steps.specs.State.{column_in, grid_of, IsSound, IsSettled, SettledBelow, KeepsBounds};
 ghost use Rattle.fraction128.specs.Lines.{NextFails};
+ghost use Rattle.simplex_steps.specs.Suspects.{Covers};
 ghost use Rattle.simplex_steps.specs.Run.{Reaches, NextPivotFits, IsTurn, SameSolutions, IsAdvanced, turn_lines};
 
 use crate::bounds::missed;
-use crate::find::Turn;
+use crate::find::{Turn, least_outside};
 use crate::line::{PivotLines, line_of_pivot};
 use crate::moves::{Moved, move_columns, pivot_columns, try_columns};
+use crate::suspects::Suspects;
 use fraction128::{Column, Line};
 use std::alloc::{AllocError, Global};
 use tableau::{Failure, Tableau};
@@ -21,10 +23,13 @@ fn make_turn(
     tableau: &mut Tableau,
     columns: &mut [Column],
     moved: &mut Vec<Moved>,
+    suspects: &mut Suspects,
     turn: Turn,
 ) -> Result<(), Failure>
     requires sound { IsSound tableau.old columns.old }
     requires turn { IsTurn tableau.old columns.old turn }
+    requires covers { Covers suspects.old columns.old }
+    ensures covers { Covers suspects.new columns.new }
     ensures advanced { OnOk result (IsAdvanced tableau.old columns.old tableau.new columns.new) }
     ensures range { IfErr result (λ e. IsRange e → NextFails (grid_of tableau.old columns.old)) }
     ensures err { OnErr result ((tableau.new ≡ tableau.old) × (columns.new ≡ columns.old)) }
@@ -34,6 +39,7 @@ fn make_turn(
         tableau,
         columns,
         moved,
+        suspects,
         turn.place,
         turn.number,
         turn.entering,
@@ -77,11 +83,14 @@ pub fn record_turn(
     tableau: &mut Tableau,
     columns: &mut [Column],
     moved: &mut Vec<Moved>,
+    suspects: &mut Suspects,
     kept: &mut PivotLines,
     turn: Turn,
 ) -> Result<(), Failure>
     requires sound { IsSound tableau.old columns.old }
     requires turn { IsTurn tableau.old columns.old turn }
+    requires covers { Covers suspects.old columns.old }
+    ensures covers { Covers suspects.new columns.new }
     ensures advanced { OnOk result (IsAdvanced tableau.old columns.old tableau.new columns.new) }
     ensures lines { OnOk result (kept.new.lines.items ≡ kept.old.lines.items ++ turn_lines kept.old.keep tableau.old columns.old turn) }
     ensures keep { kept.new.keep ≡ kept.old.keep }
@@ -90,7 +99,7 @@ pub fn record_turn(
 {
     let count = kept.lines.len();
     add_line(alloc, tableau, columns, kept, turn)?;
-    let made = make_turn(tableau, columns, moved, turn);
+    let made = make_turn(tableau, columns, moved, suspects, turn);
     drop_unmade(&mut kept.lines, &made, count);
     made
 }
@@ -124,9 +133,11 @@ fn make_move(
     tableau: &Tableau,
     columns: &mut [Column],
     moved: &mut Vec<Moved>,
+    suspects: &mut Suspects,
     variable: u32,
     number: i128,
 ) -> Result<(), Failure>
+    requires covers { Covers suspects.old columns.old }
     requires sound { IsSound tableau.now columns.old }
     requires known { variable < tableau.now.count }
     requires free { is_basic tableau.now.rows variable ≡ false }
@@ -138,9 +149,10 @@ fn make_move(
     ensures bounds { OnOk result (KeepsBounds columns.old columns.new) }
     ensures range { IfErr result (λ e. IsRange e → NextFails (grid_of tableau.now columns.old)) }
     ensures err { OnErr result (columns.new ≡ columns.old) }
+    ensures covers { Covers suspects.new columns.new }
 {
     tableau.facts();
-    move_columns(tableau, columns, moved, variable, number)
+    move_columns(tableau, columns, moved, suspects, variable, number)
 }
 
 /// Brings a variable that isn't basic within its bounds, where those below it are. An `Err` changes nothing.
@@ -148,8 +160,10 @@ fn settle_one(
     tableau: &Tableau,
     columns: &mut [Column],
     moved: &mut Vec<Moved>,
+    suspects: &mut Suspects,
     variable: u32,
 ) -> Result<(), Failure>
+    requires covers { Covers suspects.old columns.old }
     requires sound { IsSound tableau.now columns.old }
     requires known { variable < tableau.now.count }
     requires settled { SettledBelow tableau.now columns.old variable }
@@ -158,14 +172,67 @@ fn settle_one(
     ensures settled { OnOk result (SettledBelow tableau.now columns.new (variable + 1)) }
     ensures bounds { KeepsBounds columns.old columns.new }
     ensures range { IfErr result (λ e. IsRange e → NextFails (grid_of tableau.now columns.new)) }
+    ensures covers { Covers suspects.new columns.new }
 {
     match missed(&columns[variable as usize]) {
         Some(number) => match tableau.place_of(variable) {
-            None => make_move(tableau, columns, moved, variable, number),
+            None => make_move(tableau, columns, moved, suspects, variable, number),
             Some(_) => Ok(()),
         },
         None => Ok(()),
     }
+}
+
+/// Brings each variable that isn't basic within its bounds, the least first, by looking at all.
+fn settle_all(
+    tableau: &Tableau,
+    columns: &mut [Column],
+    moved: &mut Vec<Moved>,
+    suspects: &mut Suspects,
+) -> Result<(), Failure>
+    requires sound { IsSound tableau.now columns.old }
+    requires covers { Covers suspects.old columns.old }
+    ensures reaches { Reaches 0 (grid_of tableau.now columns.old) (grid_of tableau.now columns.new) }
+    ensures sound { IsSound tableau.now columns.new }
+    ensures settled { OnOk result (IsSettled tableau.now columns.new) }
+    ensures bounds { KeepsBounds columns.old columns.new }
+    ensures range { IfErr result (λ e. IsRange e → NextFails (grid_of tableau.now columns.new)) }
+    ensures covers { Covers suspects.new columns.new }
+{
+    for variable in 0..tableau.count() {
+        settle_one(tableau, columns, moved, suspects, variable)?;
+    }
+    Ok(())
+}
+
+/// Brings each variable that isn't basic within its bounds, the least first, each found among the suspects.
+fn settle_suspects(
+    tableau: &Tableau,
+    columns: &mut [Column],
+    moved: &mut Vec<Moved>,
+    suspects: &mut Suspects,
+) -> Result<(), Failure>
+    requires sound { IsSound tableau.now columns.old }
+    requires covers { Covers suspects.old columns.old }
+    ensures reaches { Reaches 0 (grid_of tableau.now columns.old) (grid_of tableau.now columns.new) }
+    ensures sound { IsSound tableau.now columns.new }
+    ensures settled { OnOk result (IsSettled tableau.now columns.new) }
+    ensures bounds { KeepsBounds columns.old columns.new }
+    ensures range { IfErr result (λ e. IsRange e → NextFails (grid_of tableau.now columns.new)) }
+    ensures covers { Covers suspects.new columns.new }
+{
+    let count = tableau.count();
+    let mut next = 0;
+    while let Some(variable) = least_outside(tableau, columns, suspects) {
+        settle_one(tableau, columns, moved, suspects, variable)?;
+        next = variable + 1;
+    }
+    Ok(())
+}
+
+/// Whether so many suspects are better met by looking at all variables once, in order.
+fn are_many(suspects: usize, variables: u32) -> bool {
+    suspects.saturating_mul(suspects) > variables as usize
 }
 
 /// Brings each variable that isn't basic within its bounds, the least first.
@@ -173,16 +240,20 @@ pub fn settle(
     tableau: &Tableau,
     columns: &mut [Column],
     moved: &mut Vec<Moved>,
+    suspects: &mut Suspects,
 ) -> Result<(), Failure>
     requires sound { IsSound tableau.now columns.old }
+    requires covers { Covers suspects.old columns.old }
     ensures reaches { Reaches 0 (grid_of tableau.now columns.old) (grid_of tableau.now columns.new) }
     ensures sound { IsSound tableau.now columns.new }
     ensures settled { OnOk result (IsSettled tableau.now columns.new) }
     ensures bounds { KeepsBounds columns.old columns.new }
     ensures range { IfErr result (λ e. IsRange e → NextFails (grid_of tableau.now columns.new)) }
+    ensures covers { Covers suspects.new columns.new }
 {
-    for variable in 0..tableau.count() {
-        settle_one(tableau, columns, moved, variable)?;
+    if are_many(suspects.variables().len(), tableau.count()) {
+        settle_all(tableau, columns, moved, suspects)
+    } else {
+        settle_suspects(tableau, columns, moved, suspects)
     }
-    Ok(())
 }

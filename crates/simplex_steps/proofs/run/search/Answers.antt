@@ -13,6 +13,9 @@ advance-requires-clause-sound c = c.loop-pivots.invariant.1
 pub advance-requires-clause-settled : goal.advance-requires-clause-settled
 advance-requires-clause-settled c = c.loop-pivots.invariant.2
 
+pub advance-requires-clause-covers : goal.advance-requires-clause-covers
+advance-requires-clause-covers c = c.loop-pivots.invariant.5
+
 pub returns-in-Ended-clause-ends : goal.returns-in-Ended-clause-ends
 returns-in-Ended-clause-ends c =
     let r = c.in-Ended.ensures.advances in
@@ -33,4 +36,5 @@ loop-pivots-preserved c =
       records_more c.args.kept.now.keep c.loop-pivots.kept.keep c.loop-pivots.pivots (grid_of c.args.tableau.now c.args.columns.now) (grid_of c.loop-pivots.tableau c.loop-pivots.columns) (grid_of c.advance.new.tableau c.advance.new.columns)
           c.args.kept.now.lines.items c.loop-pivots.kept.lines.items c.advance.new.kept.lines.items c.loop-pivots.invariant.4 c.loop-pivots.invariant.3 r.1,
       c.advance.ensures.keep ∙ c.loop-pivots.invariant.4,
+      c.advance.ensures.covers,
     )

@@ -3,7 +3,8 @@ use Rattle.std.proofs.lemmas.List.{take-append-le, take_all}
 use Rattle.fraction128.specs.declared.Column.{Column}
 use Rattle.simplex_steps.specs.State.{AreRanged}
 use Rattle.simplex_steps.specs.Run.{IsRun}
-use Rattle.simplex.specs.State.{IsCore}
+use Rattle.simplex_steps.specs.Suspects.{Covers}
+use Rattle.simplex.specs.State.{IsWatched}
 use Rattle.simplex.proofs.BoundLemmas.{ranged_of, core_run}
 use Rattle.simplex.proofs.state.Simplex.check.Goals as goal
 
@@ -14,10 +15,13 @@ items_back n new old is len =
 
 pub check-outcome-requires-clause-ranged : goal.check-outcome-requires-clause-ranged
 check-outcome-requires-clause-ranged c =
-    subst AreRanged (sym c.deref_mut.ensures.value) (ranged_of c.self.inside.tableau c.self.inside.columns.items c.self.inside.trail c.self.invariant)
+    subst AreRanged (sym c.deref_mut.ensures.value) (ranged_of c.self.inside.tableau c.self.inside.columns.items c.self.inside.trail c.self.invariant.core)
+
+pub check-outcome-requires-clause-covers : goal.check-outcome-requires-clause-covers
+check-outcome-requires-clause-covers c = subst (Covers c.self.inside.suspects) (sym c.deref_mut.ensures.value) c.self.invariant.covers
 
 pub invariant_of-self : goal.invariant_of-self
 invariant_of-self c =
     let run = subst (λ (cs : List Column). IsRun c.self.inside.tableau cs c.check-outcome.new.tableau c.check-outcome.new.columns c.check-outcome.result.pivots) c.deref_mut.ensures.value c.check-outcome.ensures.run in
-    subst (λ (cs : List Column). IsCore c.check-outcome.new.tableau cs c.self.inside.trail) (sym (items_back c.self.inside.columns.len c.check-outcome.new.columns c.self.inside.columns.items c.self.inside.columns.ok.0 run.bounds.count))
-    (core_run c.self.inside.tableau c.self.inside.columns.items c.check-outcome.new.tableau c.check-outcome.new.columns c.check-outcome.result.pivots c.self.inside.trail c.self.invariant run)
+    subst (λ (cs : List Column). IsWatched c.check-outcome.new.tableau cs c.self.inside.trail c.check-outcome.new.suspects) (sym (items_back c.self.inside.columns.len c.check-outcome.new.columns c.self.inside.columns.items c.self.inside.columns.ok.0 run.bounds.count))
+    (record { core = core_run c.self.inside.tableau c.self.inside.columns.items c.check-outcome.new.tableau c.check-outcome.new.columns c.check-outcome.result.pivots c.self.inside.trail c.self.invariant.core run; covers = c.check-outcome.ensures.covers })

@@ -11,4 +11,4 @@ returns-clause-in_range c =
     let known : c.args.variable < length c.self.inside.columns.items = subst (λ (s : State). c.args.variable < length s.columns) (sym c.self.view_is) c.requires in
     let is = c.index.ensures ∙ get_or_default c.self.inside.columns.items c.args.variable c.index.result.now no_column known in
     fixed_ranged c.common.result c.index.result.now c.common.ensures.some
-    (subst (λ (x : Column). IsRanged x.lower) (sym is) (ranged_of c.self.inside.tableau c.self.inside.columns.items c.self.inside.trail c.self.invariant c.args.variable).0)
+    (subst (λ (x : Column). IsRanged x.lower) (sym is) (ranged_of c.self.inside.tableau c.self.inside.columns.items c.self.inside.trail c.self.invariant.core c.args.variable).0)

@@ -1,6 +1,0 @@
-use Rattle.simplex_steps.specs.State.{SettledBelow}
-use Rattle.simplex_steps.proofs.Sound.{IsKept}
-use Rattle.simplex_steps.proofs.turn.settle.Given as goal
-
-abbrev pub invariant-loop-variable : goal.invariant-loop-variable
-invariant-loop-variable l = IsKept l.tableau l.fn.columns l.columns × SettledBelow l.tableau l.columns l.variable
