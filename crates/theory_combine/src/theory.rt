@@ -106,13 +106,14 @@ impl<'s> Combined<'s> {
 }
 
 impl<'s> Theory for Combined<'s> {
+    ghost use Rattle.check_atoms.specs.Standing.{StandingHolds};
     ghost use Rattle.theory_combine.specs.Combined.{TakesAll};
 
     ghost state = { λ s. s };
 
     ghost takes = { λ s. TakesAll };
 
-    ghost agrees = { λ r log. Unit {0} };
+    ghost agrees = { λ r log. StandingHolds r log };
 
     fn atoms(&self) -> u32 {
         match self.progress.lost {
