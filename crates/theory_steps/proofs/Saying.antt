@@ -12,7 +12,6 @@ use Rattle.atom_form.specs.AtomTableNumbers.{IsAt}
 use Rattle.search_port.specs.State.{Reading, atom_at}
 use Rattle.search_port.specs.Valid.{IsOf}
 use Rattle.search_port.specs.Calls.{IsLemma}
-use Rattle.search_port.specs.declared.budget.Lemma.{Lemma}
 use Rattle.equality_clauses.specs.Ties.{literal}
 use Rattle.bound_clauses.specs.Laws.{ConstantHasValue}
 use Rattle.theory_steps.specs.Steps.{AreLemmasOf, constant_clause}
