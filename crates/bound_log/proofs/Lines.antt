@@ -1,10 +1,11 @@
 -- Grids and rows over the atoms of a table.
-use Rattle.std.proofs.Common.{◌≡◌, ℕ, ◌<◌, inl, inr, Bool, true, false, cond, not, List, [], length, ℤ, ◌+ℤ◌, neg_ℤ, pos, None, refl, sym, ap, ◌∙◌, subst, arith}
+use Rattle.std.proofs.Common.{◌≡◌, ℕ, ◌<◌, inl, inr, Bool, true, false, cond, not, List, [], length, ℤ, ◌+ℤ◌, neg_ℤ, pos, None, Some, refl, sym, ap, ◌∙◌, subst, arith}
 use Rattle.std.specs.Prelude.{Contains}
 use Rattle.std.proofs.lemmas.List.{get_or_default, length-map, get_or-map}
 use Rattle.fraction128.specs.declared.ratio.Ratio.{Ratio}
 use Rattle.fraction128.specs.declared.Column.{Column}
 use Rattle.fraction128.specs.declared.Line.{Line}
+use Rattle.fraction128.specs.declared.Member.{Member}
 use Rattle.fraction128.specs.declared.Side.{Side}
 use Rattle.fraction128.specs.declared.Side.TheVariants.{Lower, Upper}
 use Rattle.fraction128.specs.Grid.{WithinBounds, is_basic, is_turned}
@@ -101,13 +102,15 @@ branches s f l first is = subst (IsBranchLine f.term f.floor) (sym is) (record {
   floor = first.fraction.floor;
 })
 
+some_same : (x y : Member) → Some x ≡ Some y → x ≡ y
+some_same x y e = cc
+
 -- the value of its row's basic variable
 pub branch_value : (s : State) (f : FractionalLeaf) (l : Line) → IsFirstIn s.bounds.columns f → l ≡ line_of (grid_of s.bounds.table s.bounds.columns) f.variable None → (b : Member) → l.basic ≡ Some b
     → b.column.value ≡ f.value
 branch_value s f l first is b e =
     let own = basic_member (grid_of s.bounds.table s.bounds.columns) f.variable in
-    let some : Some own ≡ Some b = sym (ap (λ (m : Line). m.basic) is) ∙ e in
-    let same : own ≡ b = cc in
+    let same : own ≡ b = some_same own b (sym (ap (λ (m : Line). m.basic) is) ∙ e) in
     sym (ap (λ (m : Member). m.column.value) same) ∙ sym first.fraction.value
 
 pub row_in : (table : List Atom) (s : State) (b : ℕ) (l : Line) → IsState s → IsOfTold s.bounds → AreResting s.bounds s.said → is_basic s.bounds.table.rows b ≡ true → AreWithin s.bounds.columns

@@ -58,7 +58,7 @@ module _ (sums more : List (List GridSummand)) where
   pub each_longer : (ts : List Tree) (frames : List Frame) (Is : Atom → Type 0) (ls : List Line) → EachIsBranch ts frames sums Is ls → EachIsBranch ts frames (sums ++ more) Is ls
   each_longer ts frames Is [] h = tt
   each_longer ts frames Is (l ∷ ls) h = (
-    record { term = h.0.term; floor = h.0.floor; is_leaf = h.0.is_leaf; row = row_longer (IsBoundOf Is) l h.0.row; branches = h.0.branches },
+    record { term = h.0.term; floor = h.0.floor; is_leaf = h.0.is_leaf; row = row_longer (IsBoundOf Is) l h.0.row; branches = h.0.branches; reached = h.0.reached },
     each_longer ts frames (WithBranch Is l) ls h.1,
   )
 

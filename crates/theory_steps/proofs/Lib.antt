@@ -15,6 +15,7 @@ pub mod Numbers
 pub mod Outside
 pub mod Own
 pub mod Past
+pub mod Reaching
 pub mod Rows
 pub mod Saying
 pub mod Spending

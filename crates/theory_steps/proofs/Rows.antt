@@ -1,6 +1,8 @@
 -- The row of a branch more.
-use Rattle.std.proofs.Common.{ℕ, Bool, ℤ, List, [], ◌∷◌, ◌++◌, Contains, refl, arith}
-use Rattle.std.specs.Prelude.{Option, None}
+use Rattle.std.proofs.Common.{◌≡◌, ℕ, Bool, ℤ, List, [], ◌∷◌, ◌++◌, Contains, refl, sym, subst, arith}
+use Rattle.std.specs.Prelude.{Option, Some, None}
+use Rattle.fraction128.specs.declared.ratio.Ratio.{Ratio}
+use Rattle.fraction128.specs.declared.Member.{Member}
 use Rattle.std.proofs.lemmas.List.Elements.{All-weaker, All-contains}
 use Rattle.fraction128.specs.declared.Summand.{Summand as GridSummand}
 use Rattle.fraction128.specs.declared.Line.{Line}
@@ -9,14 +11,15 @@ use Rattle.smt_meaning.specs.declared.clauses.Atom.{Atom}
 use Rattle.smt_meaning.specs.declared.reports.RangeSeen.{RangeSeen}
 use Rattle.smt_meaning.specs.StackCommand.{Stack}
 use Rattle.smt_meaning.specs.Boxes.{term_at_most}
-use Rattle.smt_meaning.specs.CheckAtoms.{IsFirstAtom, IsBoundOf, IsBranch}
+use Rattle.smt_meaning.specs.CheckAtoms.{IsFirstAtom, IsBoundOf, IsReached, IsBranch}
 use Rattle.term_store.specs.Terms.{AreDifferent}
 use Rattle.smt_laws.specs.Flat.{flat, FlatSaysTheSame}
 use Rattle.theory_steps.specs.Shown.{AreOfAssertions, AreShown, IsMarkedLeaf, IsOfCheck}
 use Rattle.theory_steps.proofs.Branching.{each_more, row_over, with_more, with_newest}
 use Rattle.theory_steps.proofs.Comparing.{leaf_part}
 
-module _ (flat_law : FlatSaysTheSame) (s : Stack) (marks : List Bool) (of_assertions : AreOfAssertions s marks) (different : AreDifferent s.trees) (sums : List (List GridSummand)) (rows : List Line) (left : Option RangeSeen) (table : List Atom) (shown : AreShown s sums rows left table) (term : ℕ) (floor : ℤ) (leaf : IsMarkedLeaf s marks term) (l : Line) (branches : IsBranchLine term floor l) (row : IsRowIn sums (IsBoundOf (Contains table)) l) where
+module _ (flat_law : FlatSaysTheSame) (s : Stack) (marks : List Bool) (of_assertions : AreOfAssertions s marks) (different : AreDifferent s.trees) (sums : List (List GridSummand)) (rows : List Line) (left : Option RangeSeen) (table : List Atom) (shown : AreShown s sums rows left table) (term : ℕ) (floor : ℤ) (leaf : IsMarkedLeaf s marks term) (l : Line) (branches : IsBranchLine term floor l) (row : IsRowIn sums (IsBoundOf (Contains table)) l)
+    (x : Ratio) (value : (b : Member) → l.basic ≡ Some b → b.column.value ≡ x) (reached : IsReached s.trees (flat s.frames) term x) where
   is_branch : IsBranch s.trees (flat s.frames) sums (IsOfCheck s rows) l
   is_branch = record {
     term = term;
@@ -24,6 +27,7 @@ module _ (flat_law : FlatSaysTheSame) (s : Stack) (marks : List Bool) (of_assert
     is_leaf = leaf_part flat_law s marks of_assertions different term leaf;
     row = row_over (Contains table) (IsOfCheck s rows) (λ a c. All-contains (IsOfCheck s rows) table a shown.atoms c) sums l row;
     branches = branches;
+    reached = subst (IsReached s.trees (flat s.frames) term) (sym (value branches.basic branches.is_basic)) reached;
   }
 
   pub shown_more : AreShown s sums (rows ++ l ∷ []) None table

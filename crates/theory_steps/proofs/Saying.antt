@@ -12,10 +12,9 @@ use Rattle.atom_form.specs.AtomTableNumbers.{IsAt}
 use Rattle.search_port.specs.State.{Reading, atom_at}
 use Rattle.search_port.specs.Valid.{IsOf}
 use Rattle.search_port.specs.Calls.{IsLemma}
-use Rattle.search_port.specs.declared.budget.Lemma.{Lemma}
 use Rattle.equality_clauses.specs.Ties.{literal}
 use Rattle.bound_clauses.specs.Laws.{ConstantHasValue}
-use Rattle.theory_steps.specs.Steps.{AreLemmasOf}
+use Rattle.theory_steps.specs.Steps.{AreLemmasOf, constant_clause}
 
 not_own : (b : Bool) → b ≡ not b → ⊥
 not_own true e = cc
@@ -28,11 +27,7 @@ is_only l m c = All-contains (λ (x : Signed). x ≡ l) (l ∷ []) m (All-cons (
 of_none : (r : Reading) (fs : List Frame) (k : ℤ) → IsOf r.trees fs (AtMost [] k)
 of_none r fs k = record { declared = All-nil (Contains (declared_ids fs)); within = All-nil (λ i. i < length r.trees) }
 
--- whether the empty sum is at most so much
-abbrev pub constant_clause : ℕ → ℤ → Lemma
-constant_clause n k = record { literals = literal (int_le (pos 0) k) n ∷ []; level = 0 }
-
-constant_is_lemma : ConstantHasValue → (n : ℕ) (k : ℤ) (r : Reading) → IsAt r.table n (AtMost [] k) → IsLemma r (constant_clause n k)
+pub constant_is_lemma : ConstantHasValue → (n : ℕ) (k : ℤ) (r : Reading) → IsAt r.table n (AtMost [] k) → IsLemma r (constant_clause n k)
 constant_is_lemma law n k r at =
     let l : Signed = literal (int_le (pos 0) k) n in
     record {

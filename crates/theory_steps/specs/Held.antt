@@ -10,6 +10,7 @@ use Rattle.bound_log.specs.Atoms.{Knows}
 use Rattle.simplex_steps.specs.Run.{AreWithin}
 use Rattle.bound_log.specs.Told.{State, column_sums}
 use Rattle.bound_log.specs.Reporting.{IsClause}
+use Rattle.bound_log.specs.Values.{MeetsAll}
 use Rattle.theory_steps.specs.declared.held.Held.{Held}
 use Rattle.theory_steps.specs.declared.held.Met.{Met}
 use Rattle.theory_steps.specs.declared.held.Met.TheVariants.{Fits, Conflict, Past, Spent, Ended}
@@ -25,9 +26,13 @@ pub record IsHeld (s : Stack) (table : List Atom) (h : Held) : Type 0 where
   pub told_at : ArePlaces h.closure.log.items h.scan.places.items
   pub columns : HasKnownColumns s table h.bounds
 
--- where all bounds are met the values are within them, a clause that the bounds break is a conflict, and a grid that is past the range is one of the table
+-- the values lie within the bounds, and those of the terms meet all bounds told
+abbrev pub AllFit : State → Type 0
+AllFit b = AreWithin b.bounds.columns × MeetsAll b
+
+-- where all bounds are met the values fit, a clause that the bounds break is a conflict, and a grid that is past the range is one of the table
 abbrev pub IsMet : State → TheoryState → Met → Type 0
-IsMet b t Fits = AreWithin b.bounds.columns
+IsMet b t Fits = AllFit b
 IsMet b t (Conflict c) = IsConflict t c
 IsMet b t (Past g) = IsPastOver (column_sums b) t.reading.table g
 IsMet b t Spent = Unit {0}
@@ -35,7 +40,7 @@ IsMet b t Ended = Unit {0}
 
 -- the same of what the bounds have, for each table that they know
 abbrev pub IsMetBy : State → List Atom → Met → Type 0
-IsMetBy b table Fits = AreWithin b.bounds.columns
+IsMetBy b table Fits = AllFit b
 IsMetBy b table (Conflict c) = IsClause b c
 IsMetBy b table (Past g) = IsPastOver (column_sums b) table g
 IsMetBy b table Spent = Unit {0}

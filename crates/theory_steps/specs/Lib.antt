@@ -4,6 +4,7 @@ pub mod Columns
 pub mod Errors
 pub mod Found
 pub mod Held
+pub mod Last
 pub mod Numbering
 pub mod Pairs
 pub mod Pivots

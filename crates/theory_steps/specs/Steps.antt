@@ -1,5 +1,5 @@
 -- How a search goes on.
-use Rattle.std.specs.Prelude.{ℕ, ◌<◌, List, length, All}
+use Rattle.std.specs.Prelude.{ℕ, ◌<◌, List, [], ◌∷◌, length, ℤ, pos, int_le, All}
 use Rattle.smt_meaning.specs.declared.clauses.Atom.{Atom}
 use Rattle.atom_form.specs.AtomTableNumbers.{IsAt}
 use Rattle.search_port.specs.State.{Reading, TheoryState}
@@ -8,12 +8,17 @@ use Rattle.search_port.specs.Calls.{IsLemma, EndsBy, InferredBy, CheckedBy}
 use Rattle.search_port.specs.declared.theory.Inferred.{Inferred}
 use Rattle.search_port.specs.declared.theory.Checked.{Checked}
 use Rattle.search_port.specs.Spending.{Spending}
+use Rattle.equality_clauses.specs.Ties.{literal}
 use Rattle.theory_steps.specs.declared.step.Step.{Step}
 use Rattle.theory_steps.specs.declared.step.Step.TheVariants.{Lemmas, Ended}
 
 -- clauses of the theory wherever the atom has this number
 abbrev pub AreLemmasOf : ℕ → Atom → List Lemma → Type 0
 AreLemmasOf n a cs = (r : Reading) → IsAt r.table n a → All (IsLemma r) cs
+
+-- whether the empty sum is at most k, where this is the number of that bound
+abbrev pub constant_clause : ℕ → ℤ → Lemma
+constant_clause n k = record { literals = literal (int_le (pos 0) k) n ∷ []; level = 0 }
 
 -- clauses of the theory after a unit was spent, or why there is no end
 abbrev pub IsStep : TheoryState → Spending → Spending → Step → Type 0

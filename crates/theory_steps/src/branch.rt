@@ -1,12 +1,17 @@
 //! Branches on the value of a term that isn't whole.
-ghost use Rattle.std.specs.Prelude.{◌≡◌, ◌∷◌, [], pos, Contains, All, OnOk, IfOk, IfSome};
+ghost use Rattle.std.specs.Prelude.{◌≡◌, ◌≢◌, ◌∷◌, [], pos, All, OnOk, IfOk};
 ghost use Rattle.fraction128.specs.Whole.{InRange};
+ghost use Rattle.fraction128.specs.Lines.{IsFloor};
 ghost use Rattle.smt_meaning.specs.declared.clauses.Atom.TheVariants.{AtMost};
 ghost use Rattle.smt_meaning.specs.Linear.{summand};
 ghost use Rattle.smt_meaning.specs.Boxes.{term_at_most};
+ghost use Rattle.smt_meaning.specs.CheckAtoms.{IsReached};
+ghost use Rattle.smt_laws.specs.Flat.{flat};
 ghost use Rattle.sum_bounds.specs.Bounds.{IsFirstIn};
 ghost use Rattle.bound_log.specs.Growth.{IsProper};
 ghost use Rattle.simplex_steps.specs.Run.{AreWithin};
+ghost use Rattle.theory_steps.specs.Held.{AllFit};
+ghost use Rattle.theory_steps.specs.Last.{IsLast, HoldsWhereEmpty};
 ghost use Rattle.theory_steps.specs.Progress.{full_state, state, AreParts, IsUnderWay, Went};
 ghost use Rattle.theory_steps.specs.Shown.{IsOfCheck, IsMarkedLeaf};
 ghost use Rattle.theory_steps.specs.Steps.{IsStep};
@@ -14,7 +19,7 @@ ghost use Rattle.theory_steps.specs.Steps.{IsStep};
 use crate::numbering::NewBound;
 use crate::parts::{Parts, Progress};
 use crate::step::{Step, go_on_with_bound, stop};
-use atom_form::AtomNumbers;
+use bound_log::{fractions_hold, sides_are_open};
 use search_port::Budget;
 use smt_laws::flat_says_the_same;
 use smt_meaning::{Summand, TermId};
@@ -34,24 +39,19 @@ fn alone(alloc: Global, term: TermId) -> Result<Vec<Summand>, AllocError>
     Ok(sum)
 }
 
-/// The bound that a term is at most the whole number below its value, unless it has a number or memory is wanting.
-fn new_side(alloc: Global, atoms: &AtomNumbers, leaf: &FractionalLeaf) -> Option<NewBound>
-    ensures new { IfSome result (λ b. Contains atoms.now.atoms (AtMost b.sum.items b.threshold) → ⊥) }
-    ensures proper { IfSome result (λ b. All IsProper b.sum.items) }
-    ensures in_range { IfSome result (λ b. InRange b.threshold) }
-    ensures side { IfSome result (λ b. AtMost b.sum.items b.threshold ≡ term_at_most leaf.now.term leaf.now.floor) }
+/// The bound that a term is at most the whole number below its value. An `Err` is for want of memory.
+fn side_of(alloc: Global, leaf: &FractionalLeaf) -> Result<NewBound, AllocError>
+    requires broken { leaf.now.value.denominator ≢ 1 }
+    requires floor { IsFloor leaf.now.floor leaf.now.value }
+    ensures proper { IfOk result (λ b. All IsProper b.sum.items) }
+    ensures in_range { IfOk result (λ b. InRange b.threshold) }
+    ensures side { IfOk result (λ b. AtMost b.sum.items b.threshold ≡ term_at_most leaf.now.term leaf.now.floor) }
 {
-    let threshold = leaf.floor;
-    if threshold == i128::MIN {
-        return None;
-    }
-    let Ok(sum) = alone(alloc, leaf.term) else {
-        return None;
-    };
-    match atoms.find_bound(&sum, threshold) {
-        Some(_) => None,
-        None => Some(NewBound { sum, threshold }),
-    }
+    let _denominator = leaf.value.denominator();
+    Ok(NewBound {
+        sum: alone(alloc, leaf.term)?,
+        threshold: leaf.floor,
+    })
 }
 
 /// Keeps the row of a branch. An `Err` is for want of memory.
@@ -65,6 +65,7 @@ fn keep_row(
     requires leaf { IsMarkedLeaf parts.now.stack.now parts.now.marks.items leaf.term }
     requires first { IsFirstIn progress.old.held.bounds.bounds.columns leaf }
     requires within { AreWithin progress.old.held.bounds.bounds.columns }
+    requires reached { IsReached parts.now.stack.now.trees (flat parts.now.stack.now.frames) leaf.term leaf.value }
     ensures under_way { IsUnderWay parts.now progress.new }
     ensures atoms { progress.new.atoms ≡ progress.old.atoms }
     ensures same { full_state parts.now progress.new ≡ full_state parts.now progress.old }
@@ -77,7 +78,8 @@ fn keep_row(
     Ok(())
 }
 
-/// Goes on with the bound that a term is at most the whole number below its value. The other side is its negation.
+/// Goes on with the bound that a term is at most the whole number below its value. The other side is its negation. The bound has no number, since every numbered
+/// one is told, and the value would be on a side of it.
 pub(crate) fn branch(
     parts: &Parts<'_>,
     progress: &mut Progress,
@@ -87,12 +89,17 @@ pub(crate) fn branch(
     requires parts { AreParts parts.now }
     requires under_way { IsUnderWay parts.now progress.old }
     requires first { IsFirstIn progress.old.held.bounds.bounds.columns leaf }
-    requires within { AreWithin progress.old.held.bounds.bounds.columns }
+    requires fits { AllFit progress.old.held.bounds }
+    requires last { IsLast (state parts.now progress.old) }
+    requires constants { All (HoldsWhereEmpty progress.old.atoms.atoms) progress.old.held.closure.log.items }
     ensures went { Went parts.now progress.old progress.new budget.old budget.new }
     ensures step { IsStep (state parts.now progress.new) budget.old budget.new result }
 {
     flat_says_the_same();
-    let Some(bound) = new_side(parts.alloc, &progress.atoms, &leaf) else {
+    fractions_hold();
+    sides_are_open(&leaf);
+    progress.held.bounds.facts();
+    let Ok(bound) = side_of(parts.alloc, &leaf) else {
         return stop(parts, progress, budget);
     };
     match keep_row(parts, progress, leaf) {

@@ -1,8 +1,9 @@
 //! The calls of a search. Once an atom was lost nothing more is told.
 ghost use Rattle.std.specs.Prelude.{◌≡◌, ◌<◌, ◌≤◌, length, take};
-ghost use Rattle.search_port.specs.State.{IsOpenIn};
+ghost use Rattle.search_port.specs.State.{IsFull, IsOpenIn};
 ghost use Rattle.search_port.specs.Calls.{AssertedBy, CheckedBy, Goes, InferredBy};
 ghost use Rattle.search_port.specs.Pivots.{KeepsPivots};
+ghost use Rattle.check_atoms.specs.Standing.{StandingHolds};
 ghost use Rattle.theory_steps.specs.Progress.{full_state, state, AreParts, IsProgress};
 
 use crate::errors::seen_of;
@@ -64,6 +65,8 @@ pub fn look(parts: &Parts<'_>, progress: &mut Progress, budget: &mut Budget) -> 
 pub fn check(parts: &Parts<'_>, progress: &mut Progress, budget: &mut Budget) -> Checked
     requires parts { AreParts parts.now }
     requires progress { IsProgress parts.now progress.old }
+    requires full { IsFull (state parts.now progress.old).reading (state parts.now progress.old).log }
+    requires standing { StandingHolds (state parts.now progress.old).reading (state parts.now progress.old).log }
     ensures progress { IsProgress parts.now progress.new }
     ensures goes { Goes (full_state parts.now progress.old) (full_state parts.now progress.new) budget.old budget.new }
     ensures pivots { KeepsPivots (full_state parts.now progress.old) (full_state parts.now progress.new) budget.old budget.new }

@@ -1,5 +1,5 @@
 //! What was told, to the closure and to the bounds.
-ghost use Rattle.std.specs.Prelude.{◌≡◌, ◌<◌, List, length, take, IfOk, IfErr, IfSome, OnErr};
+ghost use Rattle.std.specs.Prelude.{◌≡◌, ◌<◌, List, length, take, All, IfOk, IfErr, IfSome, IfNone, OnErr};
 ghost use Rattle.smt_meaning.specs.declared.clauses.Atom.{Atom};
 ghost use Rattle.search_port.specs.State.{IsOpenIn};
 ghost use Rattle.search_port.specs.Calls.{AssertedBy, InferredBy, IsConflict};
@@ -12,11 +12,13 @@ ghost use Rattle.bound_log.specs.declared.report.Report.TheVariants.{UnitsSpent}
 ghost use Rattle.closure_log.specs.Seen.{state_of, IsSetting};
 ghost use Rattle.theory_steps.specs.Errors.{IsErrorOver};
 ghost use Rattle.theory_steps.specs.Held.{IsHeld, IsMet, IsMetBy};
+ghost use Rattle.theory_steps.specs.Last.{HoldsWhereEmpty};
 ghost use Rattle.theory_steps.specs.Pivots.{ArePivotsOf};
 ghost use Rattle.theory_steps.specs.declared.held.Met.TheVariants.{Spent};
 
 use crate::differences::Differences;
 use crate::errors::{BoundError, untold};
+use crate::untrue::untrue_constant;
 use atom_form::AtomNumbers;
 use bound_log::{BoundLog, Report, Reported};
 use closure_log::{ClosureLog, Guide, Scan, infer};
@@ -170,7 +172,8 @@ pub(crate) fn meet_bounds(
     Meeting { met, lines }
 }
 
-/// A clause that the bounds break over whole numbers, where a row or a split shows one. `None` promises nothing; an `Err` is for want of memory.
+/// A clause that a bound of the empty sum breaks, or that the bounds of variables break over whole numbers, where a row or a split shows one. `None` promises no
+/// more than that those of the empty sum are true; an `Err` is for want of memory.
 pub(crate) fn meet_wholes(
     alloc: Global,
     held: &Held,
@@ -179,10 +182,14 @@ pub(crate) fn meet_wholes(
 ) -> Result<Option<Lemma>, AllocError>
     requires setting { IsSetting stack.now atoms.now.atoms }
     requires held { IsHeld stack.now atoms.now.atoms held.now }
-    ensures { IfOk result (λ o. IfSome o (IsConflict (state_of stack.now atoms.now.atoms held.now.closure.log.items))) }
+    ensures clause { IfOk result (λ o. IfSome o (IsConflict (state_of stack.now atoms.now.atoms held.now.closure.log.items))) }
+    ensures constants { IfOk result (λ o. IfNone o (All (HoldsWhereEmpty atoms.now.atoms) held.now.closure.log.items)) }
 {
     flat_says_the_same();
-    held.bounds.whole_conflict(alloc)
+    match untrue_constant(alloc, held, stack, atoms)? {
+        Some(clause) => Ok(Some(clause)),
+        None => held.bounds.whole_conflict(alloc),
+    }
 }
 
 /// What follows from the literals told by equality.

@@ -1,9 +1,9 @@
 //! What is found between decisions, and where every atom has a truth value.
 ghost use Rattle.std.specs.Prelude.{◌<◌, length};
 ghost use Rattle.search_port.specs.Calls.{CheckedBy, InferredBy};
-ghost use Rattle.simplex_steps.specs.Run.{AreWithin};
 ghost use Rattle.sum_bounds.specs.Bounds.{IsFirstIn};
-ghost use Rattle.theory_steps.specs.Held.{IsMet};
+ghost use Rattle.theory_steps.specs.Held.{AllFit, IsMet};
+ghost use Rattle.theory_steps.specs.Last.{IsLast};
 ghost use Rattle.theory_steps.specs.Pivots.{SpendsAll};
 ghost use Rattle.theory_steps.specs.Progress.{state, AreParts, IsUnderWay, Went};
 ghost use Rattle.theory_steps.specs.Steps.{IsStep, StepInfers, StepChecks};
@@ -56,7 +56,8 @@ fn make_whole(
     requires parts { AreParts parts.now }
     requires under_way { IsUnderWay parts.now progress.old }
     requires first { IsFirstIn progress.old.held.bounds.bounds.columns leaf }
-    requires within { AreWithin progress.old.held.bounds.bounds.columns }
+    requires fits { AllFit progress.old.held.bounds }
+    requires last { IsLast (state parts.now progress.old) }
     ensures went { Went parts.now progress.old progress.new budget.old budget.new }
     ensures found { CheckedBy (state parts.now progress.new) budget.old budget.new result }
 {
@@ -191,7 +192,8 @@ fn try_model(parts: &Parts<'_>, progress: &mut Progress, budget: &mut Budget) ->
 fn judge_values(parts: &Parts<'_>, progress: &mut Progress, budget: &mut Budget) -> Checked
     requires parts { AreParts parts.now }
     requires under_way { IsUnderWay parts.now progress.old }
-    requires within { AreWithin progress.old.held.bounds.bounds.columns }
+    requires fits { AllFit progress.old.held.bounds }
+    requires last { IsLast (state parts.now progress.old) }
     ensures went { Went parts.now progress.old progress.new budget.old budget.new }
     ensures found { CheckedBy (state parts.now progress.new) budget.old budget.new result }
 {
@@ -207,6 +209,7 @@ fn judge_met(parts: &Parts<'_>, progress: &mut Progress, budget: &mut Budget, me
     requires under_way { IsUnderWay parts.now progress.old }
     requires met { IsMet progress.old.held.bounds (state parts.now progress.old) met }
     requires spent { SpendsAll budget.old met }
+    requires last { IsLast (state parts.now progress.old) }
     ensures went { Went parts.now progress.old progress.new budget.old budget.new }
     ensures found { CheckedBy (state parts.now progress.new) budget.old budget.new result }
 {
@@ -227,6 +230,7 @@ fn judge_met(parts: &Parts<'_>, progress: &mut Progress, budget: &mut Budget, me
 fn judge_sums(parts: &Parts<'_>, progress: &mut Progress, budget: &mut Budget) -> Checked
     requires parts { AreParts parts.now }
     requires under_way { IsUnderWay parts.now progress.old }
+    requires last { IsLast (state parts.now progress.old) }
     ensures went { Went parts.now progress.old progress.new budget.old budget.new }
     ensures found { CheckedBy (state parts.now progress.new) budget.old budget.new result }
 {
@@ -240,6 +244,7 @@ fn judge_sums(parts: &Parts<'_>, progress: &mut Progress, budget: &mut Budget) -
 fn judge_numbers(parts: &Parts<'_>, progress: &mut Progress, budget: &mut Budget) -> Checked
     requires parts { AreParts parts.now }
     requires under_way { IsUnderWay parts.now progress.old }
+    requires last { IsLast (state parts.now progress.old) }
     ensures went { Went parts.now progress.old progress.new budget.old budget.new }
     ensures found { CheckedBy (state parts.now progress.new) budget.old budget.new result }
 {
@@ -268,6 +273,7 @@ fn judge_numbers(parts: &Parts<'_>, progress: &mut Progress, budget: &mut Budget
 fn judge_bounds(parts: &Parts<'_>, progress: &mut Progress, budget: &mut Budget) -> Checked
     requires parts { AreParts parts.now }
     requires under_way { IsUnderWay parts.now progress.old }
+    requires last { IsLast (state parts.now progress.old) }
     ensures went { Went parts.now progress.old progress.new budget.old budget.new }
     ensures found { CheckedBy (state parts.now progress.new) budget.old budget.new result }
 {
@@ -295,6 +301,7 @@ fn judge_bounds(parts: &Parts<'_>, progress: &mut Progress, budget: &mut Budget)
 fn judge_elements(parts: &Parts<'_>, progress: &mut Progress, budget: &mut Budget) -> Checked
     requires parts { AreParts parts.now }
     requires under_way { IsUnderWay parts.now progress.old }
+    requires last { IsLast (state parts.now progress.old) }
     ensures went { Went parts.now progress.old progress.new budget.old budget.new }
     ensures found { CheckedBy (state parts.now progress.new) budget.old budget.new result }
 {
@@ -316,6 +323,7 @@ fn judge_elements(parts: &Parts<'_>, progress: &mut Progress, budget: &mut Budge
 pub(crate) fn judge(parts: &Parts<'_>, progress: &mut Progress, budget: &mut Budget) -> Checked
     requires parts { AreParts parts.now }
     requires under_way { IsUnderWay parts.now progress.old }
+    requires last { IsLast (state parts.now progress.old) }
     ensures went { Went parts.now progress.old progress.new budget.old budget.new }
     ensures found { CheckedBy (state parts.now progress.new) budget.old budget.new result }
 {

@@ -14,8 +14,9 @@
 //! line. No more pivots are made than units may be spent, and a call that needs another ends with
 //! all of them spent.
 //!
-//! A model is given only where, evaluated, it makes every literal told true. Of each branch the row
-//! is kept, so that each atom is one of the check with the branches so far.
+//! A model is given only where, evaluated, it makes every literal told true. Of each branch, at a
+//! value that meets all that stands, the row is kept, so that each atom is one of the check with the
+//! branches so far.
 //!
 //! `show`, `written`: where a number left the range, that is shown: in folding the difference of
 //! two Int parts, in a step of the values or a bound that was to be taken in, told or numbered, in
@@ -43,6 +44,7 @@ mod showing;
 mod start;
 mod step;
 mod unfit;
+mod untrue;
 mod values;
 mod wanted;
 mod xors;

@@ -33,3 +33,6 @@ returns-in-None-clause-found c =
     let p = c.args.parts.now in
     let new = c.judge.new.progress in
     checked_with (state p new) (variables_of new.lost new.held.bounds) c.args.budget.now c.judge.new.budget c.judge.result c.judge.ensures.found
+
+pub judge-requires-clause-last : goal.judge-requires-clause-last
+judge-requires-clause-last c = record { full = c.requires.full; standing = c.requires.standing }

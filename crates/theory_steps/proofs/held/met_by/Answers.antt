@@ -12,4 +12,4 @@ returns-in-Ok-clause-met c = λ table knows. record {
 }
 
 pub returns-in-Fits-clause-met : goal.returns-in-Fits-clause-met
-returns-in-Fits-clause-met c = λ table knows. (rw c.in-Fits.is at c.requires).0
+returns-in-Fits-clause-met c = λ table knows. rw c.in-Fits.is at c.requires
