@@ -18,7 +18,7 @@ run-requires-clause-all g c =
 pub run-requires-clause-agreed : goal.run-requires-clause-agreed
 run-requires-clause-agreed g c =
     let s = c.args.stack.now in
-    λ q log grown full consistent made.
+    λ κs order q log grown full consistent made.
     c.first_clauses_say_standing.ensures s c.in-Ok-numbered.parts.marks.items c.sorts.result.now c.in-Ok-numbered.parts.atoms.atoms c.in-Ok-check_clauses.store q log c.laws.ensures c.in-Ok-numbered.ensures.parts
     c.in-Ok-numbered.ensures.atoms c.sorts.ensures c.in-Ok-check_clauses.ensures.first c.in-Ok-check_clauses.ensures.parts
     (subst (λ (r : Reading). IsGrown r q) (c.in-Ok-new.ensures.reading ∙ ap (λ (p : CheckAtoms). reading_of s p.atoms.atoms) c.check_clauses.ensures.same) grown) consistent
