@@ -2,6 +2,7 @@ pub mod Again
 mod Laid
 pub mod Owned
 mod OwnExamples
+mod PartExamples
 mod Left
 pub mod Flags
 pub mod Stored

@@ -1,5 +1,5 @@
 //! The body of a name that `:named` gives (SMT-LIB 2.6, section 5.2): a stored term with its parts, as terms of its own.
-ghost use Rattle.std.specs.Prelude.{◌≡◌, ◌<◌, ◌∷◌, [], List, All, length, map, nat_eq, ℕ, Some, IfOk, OnOk, None};
+ghost use Rattle.std.specs.Prelude.{◌≡◌, ◌<◌, ◌∷◌, [], List, All, length, map, nat_eq, ℕ, Some, IfOk, IsSome, OnOk, None};
 ghost use Rattle.std.specs.HashMap.{get};
 ghost use Rattle.std.specs.Map.{update};
 ghost use Rattle.smt_meaning.specs.Term.{Tree, tree_at};
@@ -7,7 +7,7 @@ ghost use Rattle.smt_meaning.specs.TreeShape.{with_tree, with_parts};
 ghost use Rattle.smt_meaning.specs.Nodes.{tree_of};
 ghost use Rattle.smt_meaning.specs.Sorts.{body_of};
 ghost use Rattle.term_store.specs.Terms.{IsPlace};
-ghost use Rattle.elaborate.specs.Parts.{job_place, outcome, visits_of, AreCopies};
+ghost use Rattle.elaborate.specs.Parts.{job_place, outcome, jobs_left, visits_of, AreCopies, AreInOrder, HasArguments, HaveCopies};
 ghost use Rattle.elaborate.specs.declared.parts.Job.TheVariants as Job;
 
 use crate::stack::Stack;
@@ -42,12 +42,13 @@ fn copied(
     copies: &HashMap<TermId, TermId>,
     terms: &[TermId],
 ) -> Result<Vec<TermId>, AllocError>
+    requires { All (λ i. IsSome (get nat_eq copies.now i)) terms.now }
     ensures { IfOk result (λ v. map Some v.items ≡ map (get nat_eq copies.now) terms.now) }
 {
     let mut places = Vec::new(alloc);
     for term in terms {
         let Some(place) = copy_of(copies, *term) else {
-            return Err(AllocError);
+            unreachable!()
         };
         places.push(place)?;
     }
@@ -73,10 +74,14 @@ fn keep(
     parts: &mut TermStore,
 ) -> Result<(), AllocError>
     requires within { id < length store.now.trees }
+    requires arguments { HasArguments (tree_at store.now.trees id) parts.old.trees }
     requires copies { AreCopies store.now.trees parts.old.trees (get nat_eq copies.old) }
+    requires all { HaveCopies store.now.trees parts.old.trees (get nat_eq copies.old) }
     ensures trees { OnOk result (parts.new.trees ≡ with_tree parts.old.trees (tree_at store.now.trees id)) }
     ensures copies { OnOk result (AreCopies store.now.trees parts.new.trees (get nat_eq copies.new)) }
+    ensures all { OnOk result (HaveCopies store.now.trees parts.new.trees (get nat_eq copies.new)) }
 {
+    let _ = store.len();
     let node = store.node(id);
     let arguments = copied(alloc, copies, node.arguments)?;
     let Ok(place) = parts.intern(node.head, &arguments) else {
@@ -102,6 +107,8 @@ fn visit(store: &TermStore, id: TermId, jobs: &mut Stack<Job>) -> Result<(), All
     requires within { id < length store.now.trees }
     requires inside { All (λ j. job_place j < length store.now.trees) jobs.old }
     ensures same { OnOk result ((out : List Tree) → outcome store.now.trees jobs.new out ≡ outcome store.now.trees (Job.Visit id ∷ jobs.old) out) }
+    ensures order { OnOk result ((out : List Tree) → AreInOrder store.now.trees (Job.Visit id ∷ jobs.old) out → AreInOrder store.now.trees jobs.new out) }
+    ensures fewer { OnOk result (jobs_left store.now.trees jobs.new < jobs_left store.now.trees (Job.Visit id ∷ jobs.old)) }
     ensures inside { OnOk result (All (λ j. job_place j < length store.now.trees) jobs.new) }
 {
     parts_are_visited();
@@ -120,10 +127,15 @@ fn step(
 ) -> Result<(), AllocError>
     requires within { job_place job < length store.now.trees }
     requires inside { All (λ j. job_place j < length store.now.trees) jobs.old }
+    requires order { AreInOrder store.now.trees (job ∷ jobs.old) parts.old.trees }
     requires copies { AreCopies store.now.trees parts.old.trees (get nat_eq copies.old) }
+    requires all { HaveCopies store.now.trees parts.old.trees (get nat_eq copies.old) }
     ensures same { OnOk result (outcome store.now.trees jobs.new parts.new.trees ≡ outcome store.now.trees (job ∷ jobs.old) parts.old.trees) }
     ensures inside { OnOk result (All (λ j. job_place j < length store.now.trees) jobs.new) }
+    ensures order { OnOk result (AreInOrder store.now.trees jobs.new parts.new.trees) }
     ensures copies { OnOk result (AreCopies store.now.trees parts.new.trees (get nat_eq copies.new)) }
+    ensures all { OnOk result (HaveCopies store.now.trees parts.new.trees (get nat_eq copies.new)) }
+    ensures fewer { OnOk result (jobs_left store.now.trees jobs.new < jobs_left store.now.trees (job ∷ jobs.old)) }
 {
     let _ = parts.len();
     match job {
@@ -151,13 +163,13 @@ fn copy_parts(
 {
     let mut jobs = Stack::new(alloc);
     jobs.push(Job::Visit(id))?;
-    for _ in 0..u64::MAX {
-        let Some(job) = jobs.pop() else {
-            return copy_of(copies, id).ok_or(AllocError);
-        };
+    while let Some(job) = jobs.pop() {
         step(alloc, store, job, &mut jobs, copies, parts)?;
     }
-    Err(AllocError)
+    match copy_of(copies, id) {
+        Some(place) => Ok(place),
+        None => unreachable!(),
+    }
 }
 
 /// A node of a term, with arguments of its own.
