@@ -4,3 +4,9 @@ pub mod Saying
 pub mod Scanning
 pub mod Setting
 pub mod Telling
+pub mod Clausing
+pub mod Odd
+pub mod Reading
+pub mod OddPartsTelling
+pub mod Wide
+pub mod DistinctClauses

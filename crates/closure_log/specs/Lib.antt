@@ -3,3 +3,8 @@ pub mod Places
 pub mod Said
 pub mod Seen
 pub mod Told
+pub mod OddPartsLaws
+pub mod Odd
+pub mod Parts
+pub mod Read
+pub mod Distinct

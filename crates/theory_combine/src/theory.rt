@@ -4,8 +4,8 @@ ghost use Rattle.atom_form.specs.AtomTableNumbers.{IsAt};
 
 use atom_form::{AtomNumbers, CompactAtom};
 use check_atoms::CheckAtoms;
+use closure_log::{asserted_distincts, wide_xors};
 use literals::Literal;
-use odd_parts::{asserted_distincts, wide_xors};
 use scope_stack::Stack;
 use search_port::{Asserted, Budget, Checked, Inferred, Named, Showing, Shown, Theory};
 use smt_meaning::{Atom, Seq, TermId};
@@ -44,7 +44,7 @@ impl<'s> Combined<'s> {
     ghost use Rattle.check_atoms.specs.OfStack.{AreCheckAtoms};
     ghost use Rattle.linear_forms.specs.Table.{AreForms};
     ghost use Rattle.closure_log.specs.Seen.{state_of};
-    ghost use Rattle.odd_parts.specs.Parts.{AreWideXors};
+    ghost use Rattle.closure_log.specs.Parts.{AreWideXors};
     ghost use Rattle.theory_steps.specs.Begin.{IsBegun};
     ghost use Rattle.theory_steps.specs.Columns.{variables_of};
     ghost use Rattle.theory_steps.specs.Errors.{IsErrorSeen};

@@ -10,7 +10,7 @@ use Rattle.check_atoms.specs.Marks.{AreStackParts}
 use Rattle.model_build.specs.Parts.{AreSortedParts}
 use Rattle.closure_log.specs.Seen.{state_of}
 use Rattle.bound_log.specs.Told.{column_sums}
-use Rattle.odd_parts.specs.Parts.{AreWideXors}
+use Rattle.closure_log.specs.Parts.{AreWideXors}
 use Rattle.exact_model.specs.Places.{AreAtMarks}
 use Rattle.theory_steps.specs.declared.parts.Parts.{Parts}
 use Rattle.theory_steps.specs.declared.parts.Progress.{Progress}

@@ -3,13 +3,12 @@ ghost use Rattle.std.specs.Prelude.{◌≡◌, IfSome, IfNone};
 ghost use Rattle.search_port.specs.Calls.{CheckedBy, InferredBy};
 ghost use Rattle.search_port.specs.Spending.{Spending};
 ghost use Rattle.closure_log.specs.Seen.{state_of, IsSetting};
-ghost use Rattle.odd_parts.specs.Parts.{KeepsXors};
+ghost use Rattle.closure_log.specs.Parts.{KeepsXors};
 ghost use Rattle.theory_steps.specs.Held.{IsHeld};
 
 use crate::held::Held;
 use atom_form::AtomNumbers;
-use closure_log::inferred;
-use odd_parts::broken;
+use closure_log::{broken, inferred};
 use scope_stack::Stack;
 use search_port::{Cause, Checked, Inferred};
 use smt_meaning::TermId;

@@ -1,6 +1,0 @@
-pub mod Clausing
-pub mod Odd
-pub mod Reading
-pub mod Telling
-pub mod Wide
-pub mod DistinctClauses

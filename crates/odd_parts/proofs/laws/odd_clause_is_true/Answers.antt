@@ -1,5 +1,0 @@
-use Rattle.odd_parts.proofs.Odd.{odd_clause}
-use Rattle.odd_parts.proofs.laws.odd_clause_is_true.Goals as goal
-
-pub returns : goal.returns
-returns c = odd_clause c.value_has_its_sort.ensures
