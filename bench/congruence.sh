@@ -5,13 +5,13 @@
 set -eu
 folder=$(mktemp -d)
 trap 'rm -rf "$folder"' EXIT
-libraries='fraction128 smt_meaning smt_laws term_store equal_points point_closure'
+libraries='fraction128 smt_meaning smt_laws term_store point_closure'
 mkdir -p "$folder/crates/closure_time/src" "$folder/crates/closure_time/specs" "$folder/crates/closure_time/proofs/add_chain" "$folder/crates/closure_time/proofs/add_random" "$folder/crates/closure_time/proofs/merge_random"
 for library in $libraries; do
     cp -a "crates/$library" "$folder/crates/"
     grep "^$library:" crates.txt >> "$folder/crates.txt"
 done
-echo 'closure_time: equal_points point_closure' >> "$folder/crates.txt"
+echo 'closure_time: point_closure' >> "$folder/crates.txt"
 : > "$folder/crates/closure_time/specs/Lib.antt"
 : > "$folder/crates/closure_time/proofs/Lib.antt"
 cat > "$folder/crates/closure_time/src/main.rt" << 'END'
@@ -21,10 +21,9 @@ cat > "$folder/crates/closure_time/src/main.rt" << 'END'
 ghost use Rattle.std.specs.Prelude.{◌≡◌, [], ◌^◌, ◌+◌, ◌<◌, ◌≤◌, length, OnOk};
 ghost use Rattle.point_closure.specs.Whole.{IsWhole};
 
-use equal_points::{Shape, Step};
-use point_closure::Closure;
-use std::alloc::{AllocError, Global};
+use point_closure::{Closure, Shape, Step};
 use std::io;
+use std::alloc::{AllocError, Global};
 use std::time::Instant;
 
 /// The next number that looks random, below a bound.

@@ -9,10 +9,10 @@ use Rattle.smt_meaning.specs.Clause.{atom_true}
 use Rattle.smt_meaning.specs.Stack.{signature_of}
 use Rattle.smt_meaning.specs.StackCommand.{Stack}
 use Rattle.search_port.specs.State.{atom_at}
-use Rattle.equal_points.specs.declared.step.Step.{Step}
+use Rattle.point_closure.specs.declared.step.Step.{Step}
 use Rattle.congruence.specs.declared.congruence.Congruence.{Congruence}
 use Rattle.congruence.specs.Reasons.{reason_at}
-use Rattle.equal_points.specs.Explained.{step_at}
+use Rattle.point_closure.specs.Explained.{step_at}
 use Rattle.congruence.specs.Justified.{IsJustified, AreJustified}
 use Rattle.closure_log.specs.Laws.{StaysTold}
 use Rattle.closure_log.specs.Told.{IsTold}

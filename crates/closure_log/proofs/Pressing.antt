@@ -10,7 +10,7 @@ use Rattle.search_port.specs.Spending.{Spending}
 use Rattle.search_port.specs.Calls.{IsLemma, AreNews}
 use Rattle.search_port.specs.declared.budget.Lemma.{Lemma}
 use Rattle.smt_laws.specs.Flat.{FlatSaysTheSame}
-use Rattle.equal_points.specs.declared.step.Step.{Step}
+use Rattle.point_closure.specs.declared.step.Step.{Step}
 use Rattle.congruence.specs.declared.congruence.Congruence.{Congruence}
 use Rattle.congruence.specs.Implied.{IsPressingLemma, Presses}
 use Rattle.closure_log.specs.Seen.{state_of, IsSetting}

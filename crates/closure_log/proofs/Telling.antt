@@ -10,10 +10,10 @@ use Rattle.smt_meaning.specs.Declaration.{Declaration}
 use Rattle.smt_meaning.specs.Stack.{signature_of}
 use Rattle.smt_meaning.specs.StackCommand.{Stack}
 use Rattle.search_port.specs.State.{IsOpenIn, IsConsistent}
-use Rattle.equal_points.specs.declared.step.Step.{Step}
-use Rattle.equal_points.specs.declared.step.Step.TheVariants.{Differ}
-use Rattle.equal_points.specs.Closure.{Point, AreRead}
-use Rattle.equal_points.specs.Explained.{step_at}
+use Rattle.point_closure.specs.declared.step.Step.{Step}
+use Rattle.point_closure.specs.declared.step.Step.TheVariants.{Differ}
+use Rattle.point_closure.specs.Closure.{Point, AreRead}
+use Rattle.point_closure.specs.Explained.{step_at}
 use Rattle.congruence.specs.declared.congruence.Congruence.{Congruence}
 use Rattle.congruence.specs.Reading.{AreSeen}
 use Rattle.congruence.specs.Reasons.{reason_at}

@@ -6,7 +6,7 @@ use Rattle.smt_meaning.specs.declared.clauses.Atom.TheVariants.{Truth}
 use Rattle.smt_meaning.specs.Declaration.{Declaration}
 use Rattle.smt_meaning.specs.Term.{Tree}
 use Rattle.search_port.specs.State.{atom_at}
-use Rattle.equal_points.specs.declared.step.Step.{Step}
+use Rattle.point_closure.specs.declared.step.Step.{Step}
 use Rattle.point_closure.specs.Whole.{IsWithin}
 use Rattle.check_atoms.specs.Atoms.{is_bool_at}
 use Rattle.congruence.specs.Justified.{IsJustified}

@@ -11,7 +11,7 @@ use Rattle.congruence.specs.Reasons.{NoneTwice}
 use Rattle.congruence.specs.declared.congruence.Congruence.{Congruence}
 use Rattle.congruence.specs.Reading.{AreSeen}
 use Rattle.congruence.specs.Recorded.{IsRecorded}
-use Rattle.equal_points.specs.Closure.{AreRead}
+use Rattle.point_closure.specs.Closure.{AreRead}
 use Rattle.smt_meaning.specs.Term.{Tree}
 use Rattle.congruence.specs.Reasoned.{IsReasoned}
 

@@ -11,8 +11,8 @@ use congruence::{
     add_choice_steps, add_node_steps, add_pair_step, add_truth_step, choice_steps_are_justified,
     node_steps_are_justified, sameness_is_justified, truth_is_justified,
 };
-use equal_points::Step;
 use literals::Literal;
+use point_closure::Step;
 use scope_stack::Stack;
 use smt_meaning::{Sort, TermId};
 use std::alloc::{AllocError, Global};

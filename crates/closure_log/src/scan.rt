@@ -5,8 +5,8 @@ ghost use Rattle.search_port.specs.State.{IsOpenIn};
 ghost use Rattle.closure_log.specs.Places.{ArePlaces};
 
 use congruence::Explanation;
-use equal_points::Step;
 use literals::Literal;
+use point_closure::Step;
 use std::alloc::{AllocError, Global};
 
 /// A scan over all atoms, round and round.

@@ -11,8 +11,8 @@ use Rattle.smt_meaning.specs.Stack.{Frame, signature_of}
 use Rattle.search_port.specs.State.{TheoryState, atom_at, IsFalseIn, AllFalseIn}
 use Rattle.search_port.specs.Valid.{IsOf}
 use Rattle.search_port.specs.Calls.{IsConflict}
-use Rattle.equal_points.specs.declared.step.Step.{Step}
-use Rattle.equal_points.specs.Closure.{Point, AreRead}
+use Rattle.point_closure.specs.declared.step.Step.{Step}
+use Rattle.point_closure.specs.Closure.{Point, AreRead}
 use Rattle.congruence.specs.Reasons.{reason_at, AreReasonsOf}
 use Rattle.congruence.specs.Justified.{truth_by, AreJustified}
 use Rattle.congruence.specs.Clauses.{IsFalseClause, IsToldAtOneLevel, AddsReasons}

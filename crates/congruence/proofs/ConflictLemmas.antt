@@ -1,9 +1,9 @@
 -- A step that keeps equal points apart, found by its watched pair.
 use Rattle.std.proofs.Common.{◌≡◌, ℕ, ◌<◌, List, All, length, ◌∙◌, ap, subst}
-use Rattle.equal_points.specs.declared.step.Step.{Step}
-use Rattle.equal_points.specs.declared.step.Step.TheVariants.{Differ}
-use Rattle.equal_points.specs.Closure.{Point, Equal}
-use Rattle.equal_points.specs.Explained.{merged, step_at}
+use Rattle.point_closure.specs.declared.step.Step.{Step}
+use Rattle.point_closure.specs.declared.step.Step.TheVariants.{Differ}
+use Rattle.point_closure.specs.Closure.{Point, Equal}
+use Rattle.point_closure.specs.Explained.{merged, step_at}
 use Rattle.point_closure.specs.declared.watch.Watch.{Watch}
 use Rattle.point_closure.specs.declared.watch.Watched.TheVariants.{Truths}
 use Rattle.point_closure.specs.State.{AreWatched}

@@ -11,10 +11,10 @@ use Rattle.smt_meaning.specs.Stack.{Frame, signature_of}
 use Rattle.search_port.specs.State.{TheoryState, atom_at, IsFalseIn, AllFalseIn, IsOpenIn, HasOneOpen, IsPressing}
 use Rattle.search_port.specs.Valid.{IsOf}
 use Rattle.search_port.specs.Calls.{IsLemma}
-use Rattle.equal_points.specs.declared.step.Step.{Step}
-use Rattle.equal_points.specs.declared.step.Step.TheVariants.{Merge, Differ}
-use Rattle.equal_points.specs.Explained.{merged}
-use Rattle.equal_points.specs.Laws.{point_value}
+use Rattle.point_closure.specs.declared.step.Step.{Step}
+use Rattle.point_closure.specs.declared.step.Step.TheVariants.{Merge, Differ}
+use Rattle.point_closure.specs.Explained.{merged}
+use Rattle.point_closure.specs.Laws.{point_value}
 use Rattle.congruence.specs.declared.congruence.Congruence.{Congruence}
 use Rattle.congruence.specs.Reasons.{AreReasonsOf, HaveTheSame}
 use Rattle.congruence.specs.declared.implied.Refuted.{Refuted}

@@ -19,7 +19,7 @@ use Rattle.smt_meaning.specs.Clause.{atom_true}
 use Rattle.smt_laws.specs.TermLaws.{ValueHasItsSort}
 use Rattle.term_store.specs.Terms.{tree_with}
 use Rattle.search_port.specs.State.{atom_at}
-use Rattle.equal_points.specs.Laws.{point_value}
+use Rattle.point_closure.specs.Laws.{point_value}
 use Rattle.congruence.specs.Reading.{truth_number}
 use Rattle.congruence.specs.Steps.{equal_terms, pair_step, neighbours_equal, all_equal, pair_steps, equality_steps, node_steps, branch_step, choice_steps}
 use Rattle.congruence.specs.Justified.{StepHolds, truth_by}

@@ -8,9 +8,9 @@ use Rattle.smt_meaning.specs.declared.terms.Head.TheVariants.{Numeral, Theory, S
 use Rattle.smt_meaning.specs.Term.{Tree, node, more, tree_at}
 use Rattle.smt_meaning.specs.Nodes.{pick}
 use Rattle.std.proofs.lemmas.List.Elements.{All-cons}
-use Rattle.equal_points.specs.declared.shape.Shape.{Shape}
-use Rattle.equal_points.specs.declared.shape.Shape.TheVariants.{Leaf, Truth, Application}
-use Rattle.equal_points.specs.Closure.{Point, IsPointOf, AreRead, with_truths}
+use Rattle.point_closure.specs.declared.shape.Shape.{Shape}
+use Rattle.point_closure.specs.declared.shape.Shape.TheVariants.{Leaf, Truth, Application}
+use Rattle.point_closure.specs.Closure.{Point, IsPointOf, AreRead, with_truths}
 use Rattle.term_store.specs.Terms.{tree_with}
 use Rattle.congruence.specs.Reading.{point_number, shape_for, arguments_for, is_applied, IsSeen, AreSeen}
 

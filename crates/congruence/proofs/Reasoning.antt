@@ -9,11 +9,11 @@ use Rattle.smt_meaning.specs.Declaration.{Declaration}
 use Rattle.smt_meaning.specs.Term.{Tree, Interpretation}
 use Rattle.smt_meaning.specs.Interpretation.{Interprets}
 use Rattle.search_port.specs.State.{IsFalseIn, AllFalseIn}
-use Rattle.equal_points.specs.declared.step.Step.{Step}
-use Rattle.equal_points.specs.declared.step.Step.TheVariants.{Merge, Differ}
-use Rattle.equal_points.specs.Closure.{Point, Pair, AreRead}
-use Rattle.equal_points.specs.Laws.{point_value, MakesPairsTrue, EqualPointsHaveOneValue}
-use Rattle.equal_points.specs.Explained.{step_at, step_pairs, named, Explains}
+use Rattle.point_closure.specs.declared.step.Step.{Step}
+use Rattle.point_closure.specs.declared.step.Step.TheVariants.{Merge, Differ}
+use Rattle.point_closure.specs.Closure.{Point, Pair, AreRead}
+use Rattle.point_closure.specs.Laws.{point_value, MakesPairsTrue, EqualPointsHaveOneValue}
+use Rattle.point_closure.specs.Explained.{step_at, step_pairs, named, Explains}
 use Rattle.congruence.specs.Reasons.{reason_at, negation_at, HaveTheSame, IsTruthConflict, IsStepConflict}
 use Rattle.congruence.specs.Justified.{StepHolds, truth_by, IsJustified, AreJustified}
 use Rattle.congruence.specs.Clauses.{IsTrueEverywhere, IsFalseClause}

@@ -7,10 +7,10 @@ use Rattle.literals.specs.Signed.{Signed}
 use Rattle.smt_meaning.specs.declared.clauses.Atom.{Atom}
 use Rattle.smt_meaning.specs.Declaration.{Declaration}
 use Rattle.smt_meaning.specs.Term.{Tree}
-use Rattle.equal_points.specs.declared.step.Step.{Step}
-use Rattle.equal_points.specs.declared.step.Step.TheVariants.{Differ}
-use Rattle.equal_points.specs.Closure.{Point, AreRead}
-use Rattle.equal_points.specs.Explained.{step_at}
+use Rattle.point_closure.specs.declared.step.Step.{Step}
+use Rattle.point_closure.specs.declared.step.Step.TheVariants.{Differ}
+use Rattle.point_closure.specs.Closure.{Point, AreRead}
+use Rattle.point_closure.specs.Explained.{step_at}
 use Rattle.congruence.specs.declared.congruence.Congruence.{Congruence}
 use Rattle.congruence.specs.Reasons.{reason_at}
 use Rattle.congruence.specs.Recorded.{IsRecorded}

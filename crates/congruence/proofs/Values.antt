@@ -8,8 +8,8 @@ use Rattle.smt_meaning.specs.declared.values.Value.{Value}
 use Rattle.smt_meaning.specs.declared.values.Value.TheVariants.{Truth, Whole, Element}
 use Rattle.smt_meaning.specs.Term.{Tree, tree_at, Interpretation, value, truth_of, same_value, int_eq}
 use Rattle.smt_meaning.specs.Interpretation.{has_sort}
-use Rattle.equal_points.specs.Closure.{with_truths}
-use Rattle.equal_points.specs.Laws.{point_value}
+use Rattle.point_closure.specs.Closure.{with_truths}
+use Rattle.point_closure.specs.Laws.{point_value}
 
 -- ---- the same value
 

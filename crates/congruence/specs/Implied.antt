@@ -5,9 +5,9 @@ use Rattle.smt_meaning.specs.Declaration.{Declaration}
 use Rattle.search_port.specs.State.{TheoryState, IsOpenIn, IsPressing}
 use Rattle.search_port.specs.Calls.{IsLemma}
 use Rattle.search_port.specs.declared.budget.Lemma.{Lemma}
-use Rattle.equal_points.specs.declared.step.Step.{Step}
-use Rattle.equal_points.specs.declared.step.Step.TheVariants.{Merge, Differ}
-use Rattle.equal_points.specs.Closure.{Point, Pair, Equal}
+use Rattle.point_closure.specs.declared.step.Step.{Step}
+use Rattle.point_closure.specs.declared.step.Step.TheVariants.{Merge, Differ}
+use Rattle.point_closure.specs.Closure.{Point, Pair, Equal}
 use Rattle.congruence.specs.declared.congruence.Congruence.{Congruence}
 use Rattle.congruence.specs.declared.implied.Refuted.{Refuted}
 use Rattle.congruence.specs.Justified.{IsJustified}

@@ -7,10 +7,10 @@ use Rattle.smt_meaning.specs.Term.{Tree, Interpretation}
 use Rattle.smt_meaning.specs.Interpretation.{Interprets}
 use Rattle.smt_meaning.specs.Clause.{atom_true}
 use Rattle.search_port.specs.State.{atom_at}
-use Rattle.equal_points.specs.declared.step.Step.{Step}
-use Rattle.equal_points.specs.declared.step.Step.TheVariants.{Merge, Differ}
-use Rattle.equal_points.specs.Laws.{point_value}
-use Rattle.equal_points.specs.Explained.{step_at}
+use Rattle.point_closure.specs.declared.step.Step.{Step}
+use Rattle.point_closure.specs.declared.step.Step.TheVariants.{Merge, Differ}
+use Rattle.point_closure.specs.Laws.{point_value}
+use Rattle.point_closure.specs.Explained.{step_at}
 use Rattle.congruence.specs.Reasons.{reason_at}
 
 -- the points have one value, or two

@@ -11,9 +11,9 @@ use Rattle.smt_meaning.specs.Stack.{Frame, signature_of}
 use Rattle.term_store.specs.Terms.{tree_with}
 use Rattle.search_port.specs.State.{atom_at}
 use Rattle.search_port.specs.Valid.{IsOf}
-use Rattle.equal_points.specs.declared.step.Step.{Step}
-use Rattle.equal_points.specs.Closure.{Point, AreRead}
-use Rattle.equal_points.specs.Laws.{point_value}
+use Rattle.point_closure.specs.declared.step.Step.{Step}
+use Rattle.point_closure.specs.Closure.{Point, AreRead}
+use Rattle.point_closure.specs.Laws.{point_value}
 use Rattle.congruence.specs.declared.congruence.Congruence.{Congruence}
 use Rattle.congruence.specs.Reasons.{AreReasonsOf}
 use Rattle.congruence.specs.Recorded.{IsConflict as IsClash}

@@ -6,9 +6,9 @@ use Rattle.smt_meaning.specs.declared.terms.Head.{Head}
 use Rattle.smt_meaning.specs.declared.terms.Head.TheVariants.{Theory, Symbol}
 use Rattle.smt_meaning.specs.Term.{Tree, tree_at}
 use Rattle.term_store.specs.Terms.{tree_with}
-use Rattle.equal_points.specs.declared.shape.Shape.{Shape}
-use Rattle.equal_points.specs.declared.shape.Shape.TheVariants.{Leaf, Truth, Application}
-use Rattle.equal_points.specs.Closure.{Point, point_at}
+use Rattle.point_closure.specs.declared.shape.Shape.{Shape}
+use Rattle.point_closure.specs.declared.shape.Shape.TheVariants.{Leaf, Truth, Application}
+use Rattle.point_closure.specs.Closure.{Point, point_at}
 
 abbrev pub point_number : ℕ → ℕ
 point_number t = t + 2

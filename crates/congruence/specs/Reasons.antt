@@ -1,14 +1,14 @@
 -- The literals for which steps were recorded.
 use Rattle.std.specs.Prelude.{◌≡◌, ◌≢◌, ℕ, ◌<◌, true, List, length, ◌∷◌, map, slice_index_or, Contains}
 use Rattle.literals.specs.Signed.{Signed, opposite}
-use Rattle.equal_points.specs.declared.step.Step.{Step}
-use Rattle.equal_points.specs.declared.step.Step.TheVariants.{Differ}
+use Rattle.point_closure.specs.declared.step.Step.{Step}
+use Rattle.point_closure.specs.declared.step.Step.TheVariants.{Differ}
 use Rattle.point_closure.specs.declared.watch.Watch.{Watch}
 use Rattle.point_closure.specs.declared.watch.Watched.TheVariants.{Step as AtStep}
 use Rattle.point_closure.specs.Rest.{watch_at}
 use Rattle.congruence.specs.declared.differing.Differing.{Differing}
-use Rattle.equal_points.specs.Closure.{Point}
-use Rattle.equal_points.specs.Explained.{step_at, Explains}
+use Rattle.point_closure.specs.Closure.{Point}
+use Rattle.point_closure.specs.Explained.{step_at, Explains}
 
 abbrev pub reason_at : List Signed → ℕ → Signed
 reason_at rs s = slice_index_or rs s (record { atom = 0; positive = true })

@@ -2,10 +2,10 @@
 use Rattle.std.specs.Prelude.{◌≡◌, ℕ, ◌+◌, ◌^◌, ◌<◌, ◌≤◌, ◌⊎◌, List, length}
 use Rattle.smt_meaning.specs.Term.{Tree, tree_at, Interpretation, value}
 use Rattle.literals.specs.Signed.{Signed}
-use Rattle.equal_points.specs.declared.step.Step.{Step}
-use Rattle.equal_points.specs.Closure.{Point, Equal}
-use Rattle.equal_points.specs.Explained.{merged}
-use Rattle.equal_points.specs.Laws.{MakesPairsTrue}
+use Rattle.point_closure.specs.declared.step.Step.{Step}
+use Rattle.point_closure.specs.Closure.{Point, Equal}
+use Rattle.point_closure.specs.Explained.{merged}
+use Rattle.point_closure.specs.Laws.{MakesPairsTrue}
 use Rattle.point_closure.specs.Whole.{IsWhole, AreStepsApart}
 use Rattle.congruence.specs.declared.congruence.Congruence.{Congruence}
 use Rattle.congruence.specs.Reasons.{IsTruthConflict, IsStepConflict}

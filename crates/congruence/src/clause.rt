@@ -6,7 +6,7 @@ ghost use Rattle.smt_meaning.specs.Declaration.{Declaration};
 ghost use Rattle.smt_meaning.specs.Term.{Tree};
 ghost use Rattle.search_port.specs.State.{TheoryState};
 ghost use Rattle.search_port.specs.Calls.{IsConflict};
-ghost use Rattle.equal_points.specs.Closure.{AreRead};
+ghost use Rattle.point_closure.specs.Closure.{AreRead};
 ghost use Rattle.congruence.specs.Recorded.{IsRecorded, AreEqualTerms};
 ghost use Rattle.congruence.specs.Justified.{AreJustified};
 ghost use Rattle.congruence.specs.Reasons.{NoneTwice, AreEachOnce};

@@ -6,9 +6,8 @@ use crate::differing::{Differing, first_differing};
 use crate::explanation::Explanation;
 use crate::reading::{arguments_of, shape_of};
 use crate::reasons::{add_negations, each_once, keep_each_once, put_reasons};
-use equal_points::{Explainer, Shape, Step, equal_points_have_one_value};
 use literals::Literal;
-use point_closure::{Closure, Watch, Watched};
+use point_closure::{Closure, Explainer, Shape, Step, Watch, Watched, equal_points_have_one_value};
 use smt_meaning::TermId;
 use std::alloc::{AllocError, Global};
 use term_store::TermStore;
@@ -31,8 +30,8 @@ fn truth_point(value: bool) -> u32
 
 impl Congruence {
     ghost use Rattle.smt_meaning.specs.Term.{Tree};
-    ghost use Rattle.equal_points.specs.declared.step.Step.TheVariants.{Merge, Differ};
-    ghost use Rattle.equal_points.specs.Closure.{AreRead};
+    ghost use Rattle.point_closure.specs.declared.step.Step.TheVariants.{Merge, Differ};
+    ghost use Rattle.point_closure.specs.Closure.{AreRead};
     ghost use Rattle.point_closure.specs.Whole.{IsWithin};
     ghost use Rattle.congruence.specs.Reasons.{AreReasonsOf, IsTruthConflict, IsStepConflict};
     ghost use Rattle.congruence.specs.Reading.{AreSeen};
@@ -216,9 +215,9 @@ impl Congruence {
 
 impl Congruence {
     ghost use Rattle.smt_meaning.specs.Term.{Tree};
-    ghost use Rattle.equal_points.specs.declared.step.Step.TheVariants.{Differ};
-    ghost use Rattle.equal_points.specs.Closure.{AreRead, Equal};
-    ghost use Rattle.equal_points.specs.Explained.{merged, step_at};
+    ghost use Rattle.point_closure.specs.declared.step.Step.TheVariants.{Differ};
+    ghost use Rattle.point_closure.specs.Closure.{AreRead, Equal};
+    ghost use Rattle.point_closure.specs.Explained.{merged, step_at};
     ghost use Rattle.congruence.specs.Reasons.{AreReasonsOf, IsTruthConflict, IsStepConflict, NoneTwice};
     ghost use Rattle.congruence.specs.Recorded.{IsRecorded, AreEqualTerms, HaveOneValue, IsConsistent, IsConflict};
 

@@ -1,6 +1,6 @@
 //! The reasons for an equality.
-use equal_points::Explainer;
 use literals::Literal;
+use point_closure::Explainer;
 use std::alloc::Global;
 
 /// The lists of an explanation by reasons, which are kept from one to the next.

@@ -1,16 +1,16 @@
 //! Literals that follow from what was told.
 ghost use Rattle.std.specs.Prelude.{◌≡◌, ◌<◌, length, All, IfOk, IfSome};
 ghost use Rattle.point_closure.specs.Whole.{IsWithin};
-ghost use Rattle.equal_points.specs.Closure.{Equal};
-ghost use Rattle.equal_points.specs.Explained.{merged};
+ghost use Rattle.point_closure.specs.Closure.{Equal};
+ghost use Rattle.point_closure.specs.Explained.{merged};
 ghost use Rattle.congruence.specs.Reasons.{NoneTwice};
 ghost use Rattle.congruence.specs.Recorded.{IsRecorded};
 ghost use Rattle.congruence.specs.Implied.{IsRefuted, IsOneRefuted, Presses};
 
 use crate::clause::{add_negations, lemma_of};
 use crate::{Congruence, Explanation, reasons_make_equal};
-use equal_points::Step;
 use literals::Literal;
+use point_closure::Step;
 use search_port::Lemma;
 use std::alloc::{AllocError, Global};
 

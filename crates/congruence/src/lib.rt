@@ -82,14 +82,14 @@ pub fn choice_steps_are_justified()
 pub fn reasons_make_equal()
     ensures { ReasonsMakeEqual }
 {
-    equal_points::equal_points_have_one_value();
+    point_closure::equal_points_have_one_value();
 }
 
 /// The clause that justified steps break is true everywhere, and false where their reasons are told.
 pub fn clash_is_false_clause()
     ensures { ClashIsFalseClause }
 {
-    equal_points::equal_points_have_one_value();
+    point_closure::equal_points_have_one_value();
 }
 
 /// The atoms of the parts of a check are over what the signature declares.

@@ -2,7 +2,7 @@
 ghost use Rattle.std.specs.Prelude.{◌≡◌, ◌+◌, ◌<◌, ◌^◌, ◌++◌, map, All, OnOk};
 ghost use Rattle.congruence.specs.Reading.{point_number, plain_shape as shape_of_plain, applied_shape as shape_of_applied, shape_for, arguments_for};
 
-use equal_points::Shape;
+use point_closure::Shape;
 use smt_meaning::{Head, Operator, TermId};
 use std::alloc::AllocError;
 

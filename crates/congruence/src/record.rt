@@ -10,8 +10,8 @@ ghost use Rattle.congruence.specs.Justified.{IsJustified};
 ghost use Rattle.congruence.specs.Reasoned.{IsReasoned, IsPartly};
 
 use crate::Congruence;
-use equal_points::Step;
 use literals::Literal;
+use point_closure::Step;
 use std::alloc::AllocError;
 
 /// Records these steps, each for this reason. An `Err` records the first of them alone.

@@ -2,7 +2,7 @@
 ghost use Rattle.std.specs.Prelude.{◌≡◌, ◌+◌, ◌<◌, ◌^◌, ◌++◌, ◌∷◌, [], All, OnOk};
 ghost use Rattle.congruence.specs.Steps.{equal_terms, different_terms, truth_step, pair_step, all_equal, pair_steps, equality_steps, node_steps, branch_step, choice_steps};
 
-use equal_points::Step;
+use point_closure::Step;
 use smt_meaning::{Head, Operator, TermId};
 use std::alloc::AllocError;
 

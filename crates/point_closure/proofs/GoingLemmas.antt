@@ -4,16 +4,16 @@ use Rattle.std.specs.Prelude.{IsTrue, Contains}
 use Rattle.std.proofs.lemmas.Bool.{cases_eq, cases_lt}
 use Rattle.std.proofs.lemmas.List.{get_or_append_left, get_or_push, length_push, append_assoc}
 use Rattle.std.proofs.lemmas.List.Elements.{Contains-append_left, Contains-append_right, Contains-append_cases, Contains-push, All-append, All-push}
-use Rattle.equal_points.specs.declared.classes.Union.{Union}
-use Rattle.equal_points.specs.declared.shape.Shape.{Shape}
-use Rattle.equal_points.specs.declared.step.Step.{Step}
-use Rattle.equal_points.specs.declared.step.Step.TheVariants.{Merge, Differ}
-use Rattle.equal_points.specs.Closure.{Point, Pair, point_at, takes_part, AreAlike}
-use Rattle.equal_points.specs.Unions.{root_of, after}
-use Rattle.equal_points.specs.Explained.{merged, step_pairs}
-use Rattle.equal_points.specs.Laws.{AreAtRest}
-use Rattle.equal_points.proofs.UnionLemmas.{root_push, after_other, after_gone}
-use Rattle.equal_points.proofs.ClosureLaws.{point_within}
+use Rattle.point_closure.specs.declared.classes.Union.{Union}
+use Rattle.point_closure.specs.declared.shape.Shape.{Shape}
+use Rattle.point_closure.specs.declared.step.Step.{Step}
+use Rattle.point_closure.specs.declared.step.Step.TheVariants.{Merge, Differ}
+use Rattle.point_closure.specs.Closure.{Point, Pair, point_at, takes_part, AreAlike}
+use Rattle.point_closure.specs.Unions.{root_of, after}
+use Rattle.point_closure.specs.Explained.{merged, step_pairs}
+use Rattle.point_closure.specs.Laws.{AreAtRest}
+use Rattle.point_closure.proofs.UnionLemmas.{root_push, after_other, after_gone}
+use Rattle.point_closure.proofs.ClosureLaws.{point_within}
 use Rattle.point_closure.specs.declared.pending.Pending.{Pending}
 use Rattle.point_closure.specs.declared.watch.Watch.{Watch}
 use Rattle.point_closure.specs.declared.lists.Change.{Change}

@@ -2,9 +2,9 @@
 use Rattle.std.proofs.Common.{◌≡◌, ◌≢◌, ℕ, ◌+◌, ◌<◌, ◌++◌, ◌∷◌, [], length, get_or, ◌∙◌, ap, sym, refl, subst, inl, inr, arith}
 use Rattle.std.proofs.lemmas.Bool.{cases_lt}
 use Rattle.std.proofs.lemmas.List.{length_push, get_or_read}
-use Rattle.equal_points.specs.declared.classes.Union.{Union}
-use Rattle.equal_points.specs.Unions.{root_of, after}
-use Rattle.equal_points.proofs.UnionLemmas.{root_push, after_other, after_gone}
+use Rattle.point_closure.specs.declared.classes.Union.{Union}
+use Rattle.point_closure.specs.Unions.{root_of, after}
+use Rattle.point_closure.proofs.UnionLemmas.{root_push, after_other, after_gone}
 use Rattle.point_closure.specs.declared.pending.Pending.{Pending}
 use Rattle.point_closure.specs.Rest.{Begins}
 use Rattle.point_closure.proofs.RestLemmas.{same_on, begins_get}

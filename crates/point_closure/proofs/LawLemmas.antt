@@ -3,11 +3,11 @@ use Rattle.std.proofs.Common.{◌≡◌, ℕ, ◌+◌, ◌<◌, ◌≤◌, List,
 use Rattle.std.specs.Prelude.{Contains, IsTrue}
 use Rattle.std.proofs.lemmas.Bool.{cases_lt}
 use Rattle.std.proofs.lemmas.List.{get_or_default}
-use Rattle.equal_points.specs.declared.step.Step.{Step}
-use Rattle.equal_points.specs.Closure.{Point, Equal}
-use Rattle.equal_points.specs.Explained.{merged}
-use Rattle.equal_points.specs.Laws.{ClassesAreTheClosure}
-use Rattle.equal_points.specs.Unions.{root_of, AreUnions}
+use Rattle.point_closure.specs.declared.step.Step.{Step}
+use Rattle.point_closure.specs.Closure.{Point, Equal}
+use Rattle.point_closure.specs.Explained.{merged}
+use Rattle.point_closure.specs.Laws.{ClassesAreTheClosure}
+use Rattle.point_closure.specs.Unions.{root_of, AreUnions}
 use Rattle.point_closure.specs.declared.closure.Closure.{Closure}
 use Rattle.point_closure.specs.declared.watch.Watch.{Watch}
 use Rattle.point_closure.specs.Rest.{watch_at, must_differ}

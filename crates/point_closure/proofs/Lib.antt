@@ -10,3 +10,10 @@ pub mod PartsLemmas
 pub mod KeepsLemmas
 pub mod BackLemmas
 pub mod LawLemmas
+pub mod ClosureLaws
+pub mod UnionLemmas
+pub mod GraphLemmas
+pub mod ExplainLemmas
+pub mod GoalLemmas
+pub mod ClassLaws
+pub mod MarkLemmas

@@ -4,7 +4,7 @@ use Rattle.std.specs.Prelude.{Contains}
 use Rattle.std.proofs.lemmas.Bool.{cases_lt}
 use Rattle.std.proofs.lemmas.List.{get_or_default}
 use Rattle.std.proofs.lemmas.List.Elements.{Contains-append_left, Contains-push, Contains-push_cases}
-use Rattle.equal_points.specs.declared.classes.Union.{Union}
+use Rattle.point_closure.specs.declared.classes.Union.{Union}
 use Rattle.point_closure.specs.declared.watch.Watch.{Watch}
 use Rattle.point_closure.specs.Rest.{Meets, MeetsOne, IsAcross, watch_at}
 

@@ -1,9 +1,9 @@
 -- The parts of a closure after each change.
 use Rattle.std.proofs.Common.{◌≡◌, ℕ, List, [], ◌∷◌, ◌++◌, length, All}
 use Rattle.std.proofs.lemmas.List.Elements.{All-push}
-use Rattle.equal_points.specs.declared.classes.Union.{Union}
-use Rattle.equal_points.specs.declared.step.Step.{Step}
-use Rattle.equal_points.specs.Closure.{Point}
+use Rattle.point_closure.specs.declared.classes.Union.{Union}
+use Rattle.point_closure.specs.declared.step.Step.{Step}
+use Rattle.point_closure.specs.Closure.{Point}
 use Rattle.point_closure.specs.declared.pending.Mark.{Mark}
 use Rattle.point_closure.specs.declared.watch.Watch.{Watch}
 use Rattle.point_closure.specs.declared.lists.Change.{Change}

@@ -2,11 +2,11 @@
 use Rattle.std.proofs.Common.{◌≡◌, ◌≢◌, ℕ, zero, suc, ◌<◌, ◌≤◌, ◌⊎◌, List, [], ◌∷◌, ◌++◌, length, take, map, get_or, refl, sym, ap, ◌∙◌, subst, inl, inr, arith}
 use Rattle.std.proofs.lemmas.Bool.{cases_eq, cases_lt}
 use Rattle.std.proofs.lemmas.List.{get_or_push, length_push, take_all, take-take, take-append-le, get_or-take}
-use Rattle.equal_points.specs.declared.classes.Union.{Union}
-use Rattle.equal_points.specs.declared.shape.Shape.{Shape}
-use Rattle.equal_points.specs.Closure.{Point, point_at}
-use Rattle.equal_points.specs.Unions.{root_of, after}
-use Rattle.equal_points.proofs.UnionLemmas.{root_push, after_other}
+use Rattle.point_closure.specs.declared.classes.Union.{Union}
+use Rattle.point_closure.specs.declared.shape.Shape.{Shape}
+use Rattle.point_closure.specs.Closure.{Point, point_at}
+use Rattle.point_closure.specs.Unions.{root_of, after}
+use Rattle.point_closure.proofs.UnionLemmas.{root_push, after_other}
 use Rattle.point_closure.specs.declared.pending.Pending.{Pending}
 use Rattle.point_closure.specs.Signature.{Signature, signature}
 use Rattle.point_closure.specs.Rest.{Begins, Respect, AreTied}

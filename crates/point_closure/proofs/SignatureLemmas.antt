@@ -4,8 +4,8 @@ use Rattle.std.proofs.lemmas.Bool.{cases_eq, cases_lt}
 use Rattle.std.proofs.lemmas.List.{length-map, get_or-map}
 use Rattle.term_store.specs.Latest.{latest, last_place}
 use Rattle.term_store.proofs.LatestLemmas.{latest_le, latest_finds, latest_sent}
-use Rattle.equal_points.specs.declared.classes.Union.{Union}
-use Rattle.equal_points.specs.Closure.{Point}
+use Rattle.point_closure.specs.declared.classes.Union.{Union}
+use Rattle.point_closure.specs.Closure.{Point}
 use Rattle.point_closure.specs.declared.pending.Pending.{Pending}
 use Rattle.point_closure.specs.Signature.{signature, Filed}
 use Rattle.point_closure.specs.Rest.{Begins, AreTied, Pairs, Looks}

@@ -3,17 +3,17 @@ use Rattle.std.proofs.Common.{◌≡◌, ℕ, ◌+◌, ◌<◌, ◌≤◌, List,
 use Rattle.std.specs.Prelude.{IsTrue}
 use Rattle.std.proofs.lemmas.Bool.{cases_lt}
 use Rattle.std.proofs.lemmas.List.{take_all, take-append-le, get_or_append_left, get_or_push, length_push, get_or-take, length-take-le, take-take}
-use Rattle.equal_points.specs.declared.classes.Union.{Union}
-use Rattle.equal_points.specs.declared.shape.Shape.{Shape}
-use Rattle.equal_points.specs.declared.classes.Reason.TheVariants.{Alike, Step as AtStep}
-use Rattle.equal_points.specs.declared.step.Step.{Step}
-use Rattle.equal_points.specs.declared.step.Step.TheVariants.{Merge, Differ}
-use Rattle.equal_points.specs.Closure.{Point, point_at, takes_part, AreAlike}
-use Rattle.equal_points.specs.declared.shape.Shape.TheVariants.{Leaf}
-use Rattle.equal_points.proofs.ClosureLaws.{point_within}
-use Rattle.equal_points.specs.Unions.{after, root_of}
-use Rattle.equal_points.specs.Explained.{IsMerge, AreBefore, AreCongruent, AlikeAreCongruent, StepsAreMerges}
-use Rattle.equal_points.proofs.UnionLemmas.{root_push}
+use Rattle.point_closure.specs.declared.classes.Union.{Union}
+use Rattle.point_closure.specs.declared.shape.Shape.{Shape}
+use Rattle.point_closure.specs.declared.classes.Reason.TheVariants.{Alike, Step as AtStep}
+use Rattle.point_closure.specs.declared.step.Step.{Step}
+use Rattle.point_closure.specs.declared.step.Step.TheVariants.{Merge, Differ}
+use Rattle.point_closure.specs.Closure.{Point, point_at, takes_part, AreAlike}
+use Rattle.point_closure.specs.declared.shape.Shape.TheVariants.{Leaf}
+use Rattle.point_closure.proofs.ClosureLaws.{point_within}
+use Rattle.point_closure.specs.Unions.{after, root_of}
+use Rattle.point_closure.specs.Explained.{IsMerge, AreBefore, AreCongruent, AlikeAreCongruent, StepsAreMerges}
+use Rattle.point_closure.proofs.UnionLemmas.{root_push}
 use Rattle.point_closure.specs.Signature.{Signature, signature}
 use Rattle.point_closure.proofs.SignatureLemmas.{map_at, map_length}
 use Rattle.point_closure.specs.Sound.{IsPending, IsJustified}

@@ -3,10 +3,10 @@ use Rattle.std.proofs.Common.{◌≡◌, ℕ, ◌+◌, ◌<◌, ◌≤◌, List,
 use Rattle.std.proofs.lemmas.Bool.{cases_lt}
 use Rattle.std.proofs.lemmas.List.{get_or_append_left, get_or_push, length_push, length-take-le, take_all, take-take, take-append-le, get_or-take, get_or_default}
 use Rattle.std.proofs.Math.Seq.{take-append_seam}
-use Rattle.equal_points.specs.declared.classes.Union.{Union}
-use Rattle.equal_points.specs.declared.step.Step.{Step}
-use Rattle.equal_points.specs.Closure.{Point}
-use Rattle.equal_points.specs.Explained.{StepsAreMerges}
+use Rattle.point_closure.specs.declared.classes.Union.{Union}
+use Rattle.point_closure.specs.declared.step.Step.{Step}
+use Rattle.point_closure.specs.Closure.{Point}
+use Rattle.point_closure.specs.Explained.{StepsAreMerges}
 use Rattle.point_closure.specs.declared.pending.Mark.{Mark}
 use Rattle.point_closure.specs.declared.watch.Watch.{Watch}
 use Rattle.point_closure.specs.declared.lists.Change.{Change}

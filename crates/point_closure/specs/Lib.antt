@@ -5,3 +5,13 @@ pub mod Sound
 pub mod Rest
 pub mod State
 pub mod Whole
+pub mod Closure
+pub mod Laws
+pub mod Unions
+pub mod Links
+pub mod UnionsCode
+pub mod Kept
+pub mod PointsCode
+pub mod Explained
+pub mod Explaining
+pub mod Marks

@@ -1,8 +1,8 @@
 -- When nothing is left to be joined.
 use Rattle.std.specs.Prelude.{◌≡◌, ◌≢◌, ℕ, ◌<◌, ◌≤◌, ◌⊎◌, Bool, true, false, List, [], ◌∷◌, ◌++◌, length, take, slice_index, slice_index_or, Contains, IsTrue}
-use Rattle.equal_points.specs.declared.classes.Union.{Union}
-use Rattle.equal_points.specs.Closure.{Point, point_at, takes_part}
-use Rattle.equal_points.specs.Unions.{root_of}
+use Rattle.point_closure.specs.declared.classes.Union.{Union}
+use Rattle.point_closure.specs.Closure.{Point, point_at, takes_part}
+use Rattle.point_closure.specs.Unions.{root_of}
 use Rattle.point_closure.specs.declared.pending.Pending.{Pending}
 use Rattle.point_closure.specs.declared.watch.Watch.{Watch}
 use Rattle.point_closure.specs.declared.watch.Watched.{Watched}

@@ -2,11 +2,11 @@
 use Rattle.std.specs.Prelude.{ℕ, ◌/◌, ◌^◌, true, false, List, map, refl}
 use Rattle.std.specs.Coded.{Coded, code_by, coded×, coded_ℕ, coded_list}
 use Rattle.term_store.specs.Hash.{mixed, words_state}
-use Rattle.equal_points.specs.declared.shape.Shape.{Shape}
-use Rattle.equal_points.specs.declared.shape.Shape.TheVariants.{Leaf, Truth, Application}
-use Rattle.equal_points.specs.declared.classes.Union.{Union}
-use Rattle.equal_points.specs.Closure.{Point, point_at}
-use Rattle.equal_points.specs.Unions.{root_of}
+use Rattle.point_closure.specs.declared.shape.Shape.{Shape}
+use Rattle.point_closure.specs.declared.shape.Shape.TheVariants.{Leaf, Truth, Application}
+use Rattle.point_closure.specs.declared.classes.Union.{Union}
+use Rattle.point_closure.specs.Closure.{Point, point_at}
+use Rattle.point_closure.specs.Unions.{root_of}
 
 pub record Signature : Type 0 where
   pub shape : Shape

@@ -1,10 +1,10 @@
 -- Every pair that is pending has its reason, and so has every union.
 use Rattle.std.specs.Prelude.{◌≡◌, ℕ, ◌<◌, List, All, length}
-use Rattle.equal_points.specs.declared.classes.Union.{Union}
-use Rattle.equal_points.specs.declared.classes.Reason.TheVariants.{Alike, Step as AtStep}
-use Rattle.equal_points.specs.declared.step.Step.{Step}
-use Rattle.equal_points.specs.Closure.{Point}
-use Rattle.equal_points.specs.Explained.{IsMerge, AreCongruent}
+use Rattle.point_closure.specs.declared.classes.Union.{Union}
+use Rattle.point_closure.specs.declared.classes.Reason.TheVariants.{Alike, Step as AtStep}
+use Rattle.point_closure.specs.declared.step.Step.{Step}
+use Rattle.point_closure.specs.Closure.{Point}
+use Rattle.point_closure.specs.Explained.{IsMerge, AreCongruent}
 use Rattle.point_closure.specs.declared.pending.Pending.{Pending}
 
 -- two points that are to be in one class, for a reason

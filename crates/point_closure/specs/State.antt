@@ -1,17 +1,17 @@
 -- What stands behind a log of steps, and what is cut from it by an undo.
 use Rattle.std.specs.Prelude.{◌≡◌, ◌≢◌, ℕ, ◌<◌, ◌≤◌, ◌⊎◌, List, [], ◌∷◌, ◌++◌, length, take, slice_index_or, Contains, All}
-use Rattle.equal_points.specs.declared.classes.Union.{Union}
-use Rattle.equal_points.specs.declared.step.Step.{Step}
-use Rattle.equal_points.specs.declared.step.Step.TheVariants.{Differ}
-use Rattle.equal_points.specs.Closure.{Point, Pair}
-use Rattle.equal_points.specs.Explained.{merged, step_at, StepsAreMerges}
+use Rattle.point_closure.specs.declared.classes.Union.{Union}
+use Rattle.point_closure.specs.declared.step.Step.{Step}
+use Rattle.point_closure.specs.declared.step.Step.TheVariants.{Differ}
+use Rattle.point_closure.specs.Closure.{Point, Pair}
+use Rattle.point_closure.specs.Explained.{merged, step_at, StepsAreMerges}
 use Rattle.point_closure.specs.declared.pending.Pending.{Pending}
 use Rattle.point_closure.specs.declared.pending.Mark.{Mark}
 use Rattle.point_closure.specs.declared.watch.Watch.{Watch}
 use Rattle.point_closure.specs.declared.watch.Watched.TheVariants.{Step as AtStep}
 use Rattle.point_closure.specs.declared.lists.Change.{Change}
 use Rattle.point_closure.specs.declared.lists.Change.TheVariants.{Put}
-use Rattle.equal_points.specs.Unions.{root_of}
+use Rattle.point_closure.specs.Unions.{root_of}
 use Rattle.point_closure.specs.Signature.{Filed}
 use Rattle.point_closure.specs.Rest.{Begins, AreTied, AreFiled, UsesAre, WatchesAre, AreMet, PutsBelow, watch_at}
 

@@ -1,10 +1,10 @@
 -- What holds of a closure.
 use Rattle.std.specs.Prelude.{◌≡◌, ◌≢◌, ℕ, ◌+◌, ◌<◌, ◌≤◌, ◌⊎◌, List, All, length, [], ◌∷◌, ◌++◌, Contains, IsTrue, ◌↔◌}
-use Rattle.equal_points.specs.declared.step.Step.{Step}
-use Rattle.equal_points.specs.declared.step.Step.TheVariants.{Merge, Differ}
-use Rattle.equal_points.specs.Closure.{Point, Equal}
-use Rattle.equal_points.specs.Unions.{root_of}
-use Rattle.equal_points.specs.Explained.{AlikeAreCongruent, StepsAreMerges, merged, step_at}
+use Rattle.point_closure.specs.declared.step.Step.{Step}
+use Rattle.point_closure.specs.declared.step.Step.TheVariants.{Merge, Differ}
+use Rattle.point_closure.specs.Closure.{Point, Equal}
+use Rattle.point_closure.specs.Unions.{root_of}
+use Rattle.point_closure.specs.Explained.{AlikeAreCongruent, StepsAreMerges, merged, step_at}
 use Rattle.point_closure.specs.declared.closure.Closure.{Closure}
 use Rattle.point_closure.specs.declared.pending.Mark.{Mark}
 use Rattle.point_closure.specs.declared.watch.Watch.{Watch}

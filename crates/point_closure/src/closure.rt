@@ -43,9 +43,7 @@ use crate::pending::{Mark, Pending};
 use crate::points::add_point;
 use crate::table::Table;
 use crate::watch::{Watch, Watched, first_clash};
-use equal_points::{
-    Classes, Explainer, Graph, Reason, Shape, Step, Union, classes_are_the_closure,
-};
+use crate::{Classes, Explainer, Graph, Reason, Shape, Step, Union, classes_are_the_closure};
 use std::alloc::{AllocError, Global};
 
 /// Points with what was recorded of them.
@@ -69,9 +67,9 @@ pub struct Closure {
 }
 
 impl Closure {
-    ghost use Rattle.equal_points.specs.Closure.{Equal};
-    ghost use Rattle.equal_points.specs.Unions.{IsUnion, root_of};
-    ghost use Rattle.equal_points.specs.Explained.{Explains, merged};
+    ghost use Rattle.point_closure.specs.Closure.{Equal};
+    ghost use Rattle.point_closure.specs.Unions.{IsUnion, root_of};
+    ghost use Rattle.point_closure.specs.Explained.{Explains, merged};
     ghost use Rattle.point_closure.specs.Lists.{list_of};
     ghost use Rattle.point_closure.specs.Sound.{IsJustified, IsPending};
     ghost use Rattle.point_closure.specs.Rest.{Begins, watch_at};
@@ -222,7 +220,7 @@ impl Closure {
 }
 
 impl Closure {
-    ghost use Rattle.equal_points.specs.Unions.{AreUnions};
+    ghost use Rattle.point_closure.specs.Unions.{AreUnions};
     ghost use Rattle.point_closure.specs.Sound.{IsPending};
     ghost use Rattle.point_closure.specs.State.{Stands, IsAtRest, Grows, IsFull, Fits, cut};
     ghost use Rattle.point_closure.specs.Whole.{IsSized, AreParts, IsClosure, IsWhole, Keeps, state_of};
@@ -361,11 +359,11 @@ impl Closure {
 }
 
 impl Closure {
-    ghost use Rattle.equal_points.specs.Closure.{Equal};
-    ghost use Rattle.equal_points.specs.Unions.{root_of};
-    ghost use Rattle.equal_points.specs.Explained.{Explains, merged};
+    ghost use Rattle.point_closure.specs.Closure.{Equal};
+    ghost use Rattle.point_closure.specs.Unions.{root_of};
+    ghost use Rattle.point_closure.specs.Explained.{Explains, merged};
     ghost use Rattle.point_closure.specs.Sound.{IsPending};
-    ghost use Rattle.equal_points.specs.declared.step.Step.TheVariants.{Merge};
+    ghost use Rattle.point_closure.specs.declared.step.Step.TheVariants.{Merge};
     ghost use Rattle.point_closure.specs.State.{IsAtRest, Watches};
     ghost use Rattle.point_closure.specs.Whole.{IsClosure, IsWhole, Keeps, IsLast, IsWithin, IsOther, AreEqualPairs, state_of};
 
@@ -463,11 +461,11 @@ impl Closure {
 }
 
 impl Closure {
-    ghost use Rattle.equal_points.specs.Closure.{Equal};
-    ghost use Rattle.equal_points.specs.Unions.{root_of};
-    ghost use Rattle.equal_points.specs.declared.step.Step.TheVariants.{Differ};
+    ghost use Rattle.point_closure.specs.Closure.{Equal};
+    ghost use Rattle.point_closure.specs.Unions.{root_of};
+    ghost use Rattle.point_closure.specs.declared.step.Step.TheVariants.{Differ};
     ghost use Rattle.point_closure.specs.Rest.{watch_at};
-    ghost use Rattle.equal_points.specs.Explained.{Explains, merged};
+    ghost use Rattle.point_closure.specs.Explained.{Explains, merged};
     ghost use Rattle.point_closure.specs.State.{IsAtRest};
     ghost use Rattle.point_closure.specs.Whole.{IsClosure, IsWhole, Keeps, IsLast, IsWithin, AreEqualPairs, ArePairsApart, AreStepsApart, IsClash, state_of};
 

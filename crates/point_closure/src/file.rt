@@ -1,14 +1,14 @@
 //! Points of one signature are found and paired.
 ghost use Rattle.std.specs.Prelude.{◌≡◌, ◌+◌, ◌<◌, ◌≤◌, ◌↔◌, [], ◌∷◌, ◌++◌, length, map, All, OnOk, OnErr, IfOk, IsTrue};
-ghost use Rattle.equal_points.specs.Closure.{point_at, takes_part as shape_takes_part};
-ghost use Rattle.equal_points.specs.Unions.{root_of};
+ghost use Rattle.point_closure.specs.Closure.{point_at, takes_part as shape_takes_part};
+ghost use Rattle.point_closure.specs.Unions.{root_of};
 ghost use Rattle.point_closure.specs.Signature.{signature, signature_hash as hash_of_signature, shape_state as state_of_shape};
 ghost use Rattle.point_closure.specs.Sound.{KeepsPending};
 ghost use Rattle.point_closure.specs.Rest.{Begins, AreTied, AreFiled, FilesWherePart, FiledGrows, Looks, Pairs, TakesPart};
 
 use crate::pending::Pending;
 use crate::table::Table;
-use equal_points::{Classes, Graph, Reason, Shape};
+use crate::{Classes, Graph, Reason, Shape};
 use std::alloc::AllocError;
 use term_store::mix;
 

@@ -1,6 +1,6 @@
 //! Classes are joined with their lists, and all is taken back to a mark.
 ghost use Rattle.std.specs.Prelude.{◌≡◌, ◌≢◌, ◌+◌, ◌-◌, ◌<◌, ◌≤◌, ℕ, [], ◌∷◌, ◌++◌, length, take, All, OnOk, OnErr, Contains};
-ghost use Rattle.equal_points.specs.Unions.{IsUnion};
+ghost use Rattle.point_closure.specs.Unions.{IsUnion};
 ghost use Rattle.point_closure.specs.declared.watch.Watch.{Watch};
 ghost use Rattle.point_closure.specs.declared.lists.Change.TheVariants.{Join};
 ghost use Rattle.point_closure.specs.Lists.{list_of};
@@ -11,7 +11,7 @@ use crate::meet::meet_pairs;
 use crate::pending::Mark;
 use crate::table::Table;
 use crate::watch::Watch;
-use equal_points::{Classes, Union};
+use crate::{Classes, Union};
 use std::alloc::AllocError;
 
 /// Joins two classes and their lists. An `Err` changes nothing.

@@ -3,9 +3,9 @@ ghost use Rattle.std.specs.Prelude.{◌≡◌, ◌<◌, ◌≤◌, ◌⊎◌, �
 ghost use Rattle.point_closure.specs.declared.watch.Watch.{Watch};
 ghost use Rattle.point_closure.specs.Rest.{Begins, Meets, MeetsOne, IsAcross, IsWatching, PutsBelow, watch_at};
 
+use crate::Classes;
 use crate::lists::{Change, Lists};
 use crate::watch::Watch;
-use equal_points::Classes;
 use std::alloc::AllocError;
 
 /// Whether one point of a watched pair is in the one class, the other in the other.

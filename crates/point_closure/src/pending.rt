@@ -1,5 +1,5 @@
 //! Pairs that wait to be joined, and the marks to which a closure is cut back.
-use equal_points::Reason;
+use crate::Reason;
 
 /// Two points that are to be in one class.
 #[derive(Clone, Copy, Drop)]

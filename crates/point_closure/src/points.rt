@@ -3,7 +3,7 @@ ghost use Rattle.std.specs.Prelude.{◌≡◌, ◌+◌, ◌-◌, ◌<◌, ◌≤
 ghost use Rattle.point_closure.specs.Rest.{Begins, PutsBelow, Puts};
 
 use crate::lists::{Change, Lists};
-use equal_points::{Classes, Graph, Shape};
+use crate::{Classes, Graph, Shape};
 use std::alloc::AllocError;
 
 /// Has a list for this class.

@@ -4,8 +4,8 @@ ghost use Rattle.std.specs.Prelude.{IfOk};
 ghost use Rattle.congruence.specs.Recorded.{IsRecorded};
 
 use congruence::{Congruence, Explanation};
-use equal_points::Step;
 use literals::Literal;
+use point_closure::Step;
 use smt_meaning::{Head, TermId};
 use std::alloc::{AllocError, Global};
 use std::process::Abort;

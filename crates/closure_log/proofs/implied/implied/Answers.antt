@@ -1,7 +1,7 @@
 use Rattle.std.proofs.Common.{List, sym, subst}
 use Rattle.literals.specs.Signed.{Signed, opposite}
 use Rattle.smt_meaning.specs.Stack.{signature_of}
-use Rattle.equal_points.specs.declared.step.Step.{Step}
+use Rattle.point_closure.specs.declared.step.Step.{Step}
 use Rattle.congruence.specs.Implied.{Presses}
 use Rattle.closure_log.specs.Said.{AreSaid}
 use Rattle.closure_log.proofs.Pressing.{presses_here}

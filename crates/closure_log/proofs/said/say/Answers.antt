@@ -4,7 +4,7 @@ use Rattle.smt_meaning.specs.declared.clauses.Atom.TheVariants.{Same}
 use Rattle.smt_meaning.specs.Term.{Tree}
 use Rattle.search_port.specs.State.{atom_at}
 use Rattle.smt_meaning.specs.Stack.{signature_of}
-use Rattle.equal_points.specs.declared.step.Step.{Step}
+use Rattle.point_closure.specs.declared.step.Step.{Step}
 use Rattle.congruence.specs.Steps.{pair_step}
 use Rattle.closure_log.specs.Said.{AreSaid}
 use Rattle.closure_log.proofs.Saying.{same_told}

@@ -1,7 +1,7 @@
 use Rattle.std.proofs.Common.{All, sym, subst}
 use Rattle.std.specs.Prelude.{List}
 use Rattle.smt_meaning.specs.Stack.{signature_of}
-use Rattle.equal_points.specs.declared.step.Step.{Step}
+use Rattle.point_closure.specs.declared.step.Step.{Step}
 use Rattle.congruence.specs.Justified.{IsJustified}
 use Rattle.closure_log.proofs.Telling.{told_recorded}
 use Rattle.closure_log.proofs.told.record.Goals as goal

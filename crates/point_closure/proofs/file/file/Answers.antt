@@ -1,6 +1,6 @@
 use Rattle.std.proofs.Common.{◌≡◌, Bool, false, inl, subst}
 use Rattle.std.specs.Prelude.{IsTrue}
-use Rattle.equal_points.specs.Closure.{point_at, takes_part}
+use Rattle.point_closure.specs.Closure.{point_at, takes_part}
 use Rattle.point_closure.specs.Rest.{Pairs}
 use Rattle.point_closure.proofs.FileLemmas.{file_new}
 use Rattle.point_closure.proofs.file.file.Goals as goal

@@ -1,6 +1,6 @@
 use Rattle.std.proofs.Common.{false, refl, sym, ◌∙◌, arith}
 use Rattle.std.specs.Prelude.{IsTrue}
-use Rattle.equal_points.specs.Unions.{root_of}
+use Rattle.point_closure.specs.Unions.{root_of}
 use Rattle.point_closure.proofs.SignatureLemmas.{map_at, map_from}
 use Rattle.point_closure.proofs.file.in_same_classes.Goals as goal
 

@@ -1,5 +1,5 @@
 use Rattle.std.proofs.Common.{◌≡◌, ◌<◌, ℕ, get_or}
-use Rattle.equal_points.specs.Unions.{root_of}
+use Rattle.point_closure.specs.Unions.{root_of}
 use Rattle.point_closure.proofs.file.in_same_classes.Given as goal
 
 abbrev pub invariant-loop-i : goal.invariant-loop-i

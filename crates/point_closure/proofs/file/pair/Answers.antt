@@ -1,6 +1,6 @@
 use Rattle.std.proofs.Common.{sym, subst}
 use Rattle.std.proofs.lemmas.List.Elements.{All-push}
-use Rattle.equal_points.specs.declared.classes.Reason.TheVariants.{Alike}
+use Rattle.point_closure.specs.declared.classes.Reason.TheVariants.{Alike}
 use Rattle.point_closure.specs.declared.pending.Pending.{Pending}
 use Rattle.point_closure.specs.Sound.{IsPending}
 use Rattle.point_closure.specs.Rest.{AreTied}

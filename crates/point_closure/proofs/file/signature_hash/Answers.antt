@@ -1,8 +1,8 @@
 use Rattle.std.proofs.Common.{◌≡◌, ◌/◌, map, arith, sym, ap, ◌∙◌}
 use Rattle.std.proofs.lemmas.List.{at_drop_all}
 use Rattle.term_store.specs.Hash.{words_state}
-use Rattle.equal_points.specs.Closure.{point_at}
-use Rattle.equal_points.specs.Unions.{root_of}
+use Rattle.point_closure.specs.Closure.{point_at}
+use Rattle.point_closure.specs.Unions.{root_of}
 use Rattle.point_closure.specs.Signature.{signature_hash, shape_state}
 use Rattle.point_closure.proofs.file.signature_hash.Goals as goal
 

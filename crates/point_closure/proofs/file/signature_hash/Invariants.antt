@@ -1,7 +1,7 @@
 use Rattle.std.proofs.Common.{◌≡◌, drop, map}
 use Rattle.term_store.specs.Hash.{words_state}
-use Rattle.equal_points.specs.Closure.{point_at}
-use Rattle.equal_points.specs.Unions.{root_of}
+use Rattle.point_closure.specs.Closure.{point_at}
+use Rattle.point_closure.specs.Unions.{root_of}
 use Rattle.point_closure.specs.Signature.{shape_state}
 use Rattle.point_closure.proofs.file.signature_hash.Given as goal
 

@@ -1,5 +1,5 @@
 use Rattle.std.proofs.Common.{◌≡◌, ◌-◌, [], length}
-use Rattle.equal_points.specs.Closure.{AreRead}
+use Rattle.point_closure.specs.Closure.{AreRead}
 use Rattle.congruence.specs.Reading.{AreSeen}
 use Rattle.congruence.specs.Recorded.{IsRecorded}
 use Rattle.congruence.proofs.congruence.Congruence.read.Given as goal

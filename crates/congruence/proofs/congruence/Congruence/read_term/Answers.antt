@@ -1,5 +1,5 @@
 use Rattle.std.proofs.Common.{◌<◌, ℕ, List, All, length, sym, ◌∙◌, subst}
-use Rattle.equal_points.specs.Closure.{Point, AreRead}
+use Rattle.point_closure.specs.Closure.{Point, AreRead}
 use Rattle.congruence.specs.Reading.{arguments_for, AreSeen}
 use Rattle.congruence.proofs.ReadingLemmas.{arguments_below, read_next, see_next}
 use Rattle.congruence.proofs.congruence.Congruence.read_term.Goals as goal

@@ -1,6 +1,6 @@
 use Rattle.std.proofs.Common.{◌+◌, sym, ap, ◌∙◌}
 use Rattle.smt_meaning.specs.Term.{value}
-use Rattle.equal_points.specs.Explained.{merged}
+use Rattle.point_closure.specs.Explained.{merged}
 use Rattle.congruence.proofs.ReadingLemmas.{skip_truths}
 use Rattle.congruence.proofs.congruence.Congruence.same.Goals as goal
 

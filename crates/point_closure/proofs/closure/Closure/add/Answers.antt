@@ -1,8 +1,8 @@
 use Rattle.std.proofs.Common.{◌≡◌, ◌∷◌, [], List, length, take, sym, ap, ◌∙◌, subst, arith}
 use Rattle.std.proofs.lemmas.List.{take_at, length_push}
-use Rattle.equal_points.specs.declared.classes.Union.{Union}
-use Rattle.equal_points.specs.Closure.{Point}
-use Rattle.equal_points.specs.Unions.{AreUnions}
+use Rattle.point_closure.specs.declared.classes.Union.{Union}
+use Rattle.point_closure.specs.Closure.{Point}
+use Rattle.point_closure.specs.Unions.{AreUnions}
 use Rattle.point_closure.specs.State.{Grows}
 use Rattle.point_closure.specs.Whole.{state_of}
 use Rattle.point_closure.proofs.StateLemmas.{grows_more}

@@ -1,7 +1,7 @@
 use Rattle.std.proofs.Common.{◌+◌, ◌++◌, ◌∷◌, [], List, All, length, refl, sym, ap, ◌∙◌, subst}
 use Rattle.std.proofs.lemmas.List.{length_push}
-use Rattle.equal_points.specs.Closure.{Point}
-use Rattle.equal_points.specs.Unions.{Joined}
+use Rattle.point_closure.specs.Closure.{Point}
+use Rattle.point_closure.specs.Unions.{Joined}
 use Rattle.point_closure.specs.Sound.{IsPending}
 use Rattle.point_closure.specs.State.{State, Stands, IsAtRest, Grows}
 use Rattle.point_closure.specs.Whole.{AreParts, state_of}

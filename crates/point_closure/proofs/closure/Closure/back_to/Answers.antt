@@ -1,7 +1,7 @@
 use Rattle.std.proofs.Common.{◌<◌, List, length, take, refl, sym, ◌∙◌, subst, arith}
-use Rattle.equal_points.specs.declared.step.Step.{Step}
-use Rattle.equal_points.specs.Closure.{Point}
-use Rattle.equal_points.specs.Unions.{AreUnions}
+use Rattle.point_closure.specs.declared.step.Step.{Step}
+use Rattle.point_closure.specs.Closure.{Point}
+use Rattle.point_closure.specs.Unions.{AreUnions}
 use Rattle.point_closure.specs.declared.pending.Mark.{Mark}
 use Rattle.point_closure.specs.State.{IsAtRest, cut}
 use Rattle.point_closure.specs.Whole.{AreParts, state_of}

@@ -1,5 +1,5 @@
 use Rattle.std.proofs.Common.{◌≡◌, ◌<◌, ◌+◌, ◌-◌, ◌*◌, ◌^◌, ℕ, [], length, get_or}
-use Rattle.equal_points.specs.Unions.{root_of}
+use Rattle.point_closure.specs.Unions.{root_of}
 use Rattle.point_closure.specs.declared.pending.Pending.{Pending}
 use Rattle.point_closure.specs.State.{Stands}
 use Rattle.point_closure.specs.Whole.{IsClosure, Keeps, state_of}

@@ -1,6 +1,6 @@
 use Rattle.std.proofs.Common.{ℕ, ◌++◌, ◌∷◌, [], List, All, refl, sym, ap, ◌∙◌, subst, arith}
-use Rattle.equal_points.specs.Unions.{Joined}
-use Rattle.equal_points.specs.declared.classes.Union.{Union}
+use Rattle.point_closure.specs.Unions.{Joined}
+use Rattle.point_closure.specs.declared.classes.Union.{Union}
 use Rattle.point_closure.specs.declared.lists.Change.{Change}
 use Rattle.point_closure.specs.declared.lists.Change.TheVariants.{Join}
 use Rattle.point_closure.specs.declared.closure.Closure.{Closure}

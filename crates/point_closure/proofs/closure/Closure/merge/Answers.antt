@@ -1,4 +1,4 @@
-use Rattle.equal_points.specs.declared.classes.Reason.TheVariants.{Step as AtStep}
+use Rattle.point_closure.specs.declared.classes.Reason.TheVariants.{Step as AtStep}
 use Rattle.point_closure.specs.declared.pending.Pending.{Pending}
 use Rattle.point_closure.specs.Whole.{state_of}
 use Rattle.point_closure.proofs.KeepsLemmas.{keeps_more}

@@ -1,5 +1,5 @@
 use Rattle.std.proofs.Common.{◌++◌, ◌∷◌, [], List, All, sym, subst}
-use Rattle.equal_points.specs.declared.step.Step.{Step}
+use Rattle.point_closure.specs.declared.step.Step.{Step}
 use Rattle.point_closure.specs.declared.pending.Mark.{Mark}
 use Rattle.point_closure.specs.Sound.{IsPending}
 use Rattle.point_closure.specs.State.{IsAtRest}

@@ -1,8 +1,8 @@
 use Rattle.std.proofs.Common.{◌≡◌, List, length, take, sym, ap, ◌∙◌, subst, arith}
 use Rattle.std.proofs.lemmas.List.{length-take-le}
-use Rattle.equal_points.specs.declared.classes.Union.{Union}
-use Rattle.equal_points.specs.Closure.{Point}
-use Rattle.equal_points.specs.Unions.{Joined, AreUnions}
+use Rattle.point_closure.specs.declared.classes.Union.{Union}
+use Rattle.point_closure.specs.Closure.{Point}
+use Rattle.point_closure.specs.Unions.{Joined, AreUnions}
 use Rattle.point_closure.specs.Lists.{Listed}
 use Rattle.point_closure.specs.Signature.{Filed}
 use Rattle.point_closure.specs.Sound.{IsPending}

@@ -1,5 +1,5 @@
 use Rattle.std.proofs.Common.{sym}
-use Rattle.equal_points.specs.declared.classes.Union.{Union}
+use Rattle.point_closure.specs.declared.classes.Union.{Union}
 use Rattle.point_closure.proofs.SoundLemmas.{justified_turned}
 use Rattle.point_closure.proofs.ListsLemmas.{ok_then}
 use Rattle.point_closure.proofs.KeepsLemmas.{united_left, united_right}
