@@ -5,25 +5,25 @@
 set -eu
 folder=$(mktemp -d)
 trap 'rm -rf "$folder"' EXIT
-libraries='fraction128 smt_meaning smt_laws race_model lemma_pool race_cell race_tests'
+libraries='fraction128 smt_meaning smt_laws race_model lemma_pool race_cell unit_tests'
 program="$folder/crates/timed_race"
 mkdir -p "$program/src"
 for library in $libraries; do
     cp -a "crates/$library" "$folder/crates/"
     grep "^$library:" crates.txt >> "$folder/crates.txt"
 done
-echo 'timed_race: smt_meaning race_model lemma_pool race_cell atomic_table race_tests' >> "$folder/crates.txt"
+echo 'timed_race: smt_meaning race_model lemma_pool race_cell atomic_table unit_tests' >> "$folder/crates.txt"
 cat > "$program/src/main.rt" << 'END'
 //! Shares clauses and takes batches in one thread, and writes the nanoseconds of each: of 5,000 rounds the quickest.
 #![tactic(auto)]
-ghost use Rattle.race_tests.specs.Jobs.{IsReady};
+ghost use Rattle.unit_tests.specs.Jobs.{IsReady};
 
 use lemma_pool::Pool;
 use race_cell::{Pass, Race};
-use race_tests::{Empty, pool_of_two, share_one, take_some, true_clause};
-use std::alloc::Global;
 use std::io;
+use std::alloc::Global;
 use std::time::Instant;
+use unit_tests::{Empty, pool_of_two, share_one, take_some, true_clause};
 
 /// Shares, empty batches and clauses a round.
 const COUNT: u32 = 1_000;
@@ -137,7 +137,7 @@ END
 for function in share_many take_many; do
     mkdir -p "$program/proofs/$function"
     cat > "$program/proofs/$function/Invariants.antt" << END
-use Rattle.race_tests.specs.Jobs.{IsReady}
+use Rattle.unit_tests.specs.Jobs.{IsReady}
 use Rattle.timed_race.proofs.$function.Given as goal
 
 abbrev pub invariant-loop : goal.invariant-loop

@@ -1,7 +1,0 @@
-use Rattle.std.proofs.Common.{◌≡◌}
-use Rattle.lemma_pool.specs.Pools.{cut_base}
-use Rattle.race_tests.specs.Stack.{two_levels}
-use Rattle.race_tests.proofs.tests.full.fill.Given as goal
-
-abbrev pub invariant-loop : goal.invariant-loop
-invariant-loop l = cut_base l.pool.levels two_levels ≡ two_levels

@@ -1,8 +1,0 @@
-use Rattle.race_tests.specs.Jobs.{IsReady}
-use Rattle.race_tests.proofs.tests.pair.count_turns.Given as goal
-
-abbrev pub invariant-loop-is_second : goal.invariant-loop-is_second
-invariant-loop-is_second l = record {
-  first : IsReady l.race.table.shared.table_id l.first;
-  second : IsReady l.race.table.shared.table_id l.second;
-}
