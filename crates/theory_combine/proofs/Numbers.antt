@@ -4,7 +4,7 @@ use Rattle.std.specs.Prelude.{Option, Some, None}
 use Rattle.std.proofs.lemmas.List.{length-take, get_or-take}
 use Rattle.smt_meaning.specs.declared.clauses.Atom.{Atom}
 use Rattle.atom_form.specs.AtomTableNumbers.{IsAt, AreApart}
-use Rattle.theory_steps.specs.Numbering.{table_of}
+use Rattle.theory_combine.specs.Numbering.{table_of}
 
 pub beyond : (lost : Option ℕ) (atoms : List Atom) (n : ℕ) (a : Atom) → AreApart atoms → IsAt atoms n a → length (table_of lost atoms) ≤ n → Contains (table_of lost atoms) a → ⊥
 beyond None atoms n a apart at past there = let inside = at.0 in absurd (omega arith)

@@ -1,2 +1,15 @@
 pub mod Combined
 pub mod StateCode
+pub mod Argument
+pub mod Begin
+pub mod Columns
+pub mod Errors
+pub mod Found
+pub mod Held
+pub mod Last
+pub mod Numbering
+pub mod Pairs
+pub mod Pivots
+pub mod Progress
+pub mod Shown
+pub mod Steps

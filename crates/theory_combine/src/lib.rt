@@ -3,9 +3,64 @@
 //! `Combined`: calls of `theory_steps` over what they keep. At the end it shows its branches, with
 //! which each of its atoms is one of the check, and where a number left the range, if that ended
 //! the search.
+//!
+//! What a search over equality and whole numbers does at each call: literals are told to a closure
+//! of congruence and to bounds of sums, atoms get numbers on the way, and a model of both is
+//! evaluated before it is given.
+//!
+//! `begin`, `tell`, `undo_to`: each literal is told to the closure and to the bounds, and taken
+//! back exactly. What either breaks is a clause that is true under every interpretation and false
+//! in what was told, as is what a row shows of whole numbers before a branch.
+//!
+//! `look`, `check`: a new atom costs a unit: a bound below a value that isn't whole; the equality
+//! of two Ints that two applications differ by, or that have one value where a wide `distinct` tells
+//! them apart, after both bounds of the difference, to which clauses tie it. A bound of the empty sum comes with its truth value.
+//!
+//! Where the budget keeps lines, a pivot of the simplex method costs a unit too, which shows its
+//! line. No more pivots are made than units may be spent, and a call that needs another ends with
+//! all of them spent.
+//!
+//! A model is given only where, evaluated, it makes every literal told true. Of each branch, at a
+//! value that meets all that stands, the row is kept, so that each atom is one of the check with the
+//! branches so far.
+//!
+//! `show`, `written`: where a number left the range, that is shown: in folding the difference of
+//! two Int parts, in a step of the values or a bound that was to be taken in, told or numbered, in
+//! an argument of an application at the leaves' values, or in a model whose evaluation leaves it.
 #![tactic(auto)]
 
+mod argument;
+mod branch;
+mod calls;
+mod constant;
+mod cycles;
+mod differences;
+mod distincts;
+mod errors;
+mod held;
+mod implied;
+mod judge;
+mod leaves;
+mod model;
+mod numbering;
+mod pairs;
+mod parts;
+mod pivots;
+mod showing;
+mod start;
+mod step;
 mod theory;
+mod unfit;
+mod untrue;
+mod values;
+mod wanted;
+mod xors;
 
+pub use calls::{check, look, tell, undo_to};
+pub use differences::Differences;
+pub use errors::BoundError;
+pub use held::{Held, Looked};
+pub use parts::{Pair, Parts, Progress};
+pub use showing::{show, written};
+pub use start::{Begun, begin};
 pub use theory::Combined;
-pub use theory_steps::BoundError;

@@ -2,6 +2,7 @@
 ghost use Rattle.std.specs.Prelude.{Contains, IfSome, IfNone};
 ghost use Rattle.atom_form.specs.AtomTableNumbers.{IsAt};
 
+use crate::{Begun, BoundError, Parts, Progress, begin, check, look, show, tell, undo_to, written};
 use atom_form::{AtomNumbers, CompactAtom};
 use check_atoms::CheckAtoms;
 use closure_log::{asserted_distincts, wide_xors};
@@ -11,9 +12,6 @@ use search_port::{Asserted, Budget, Checked, Inferred, Named, Showing, Shown, Th
 use smt_meaning::{Atom, Seq, TermId};
 use std::alloc::{AllocError, Global};
 use std::marker::Model;
-use theory_steps::{
-    Begun, BoundError, Parts, Progress, begin, check, look, show, tell, undo_to, written,
-};
 
 /// The theory of equality and of whole numbers together, for the parts of a stack.
 #[derive(Drop)]
@@ -24,7 +22,7 @@ pub struct Combined<'s> {
 
 impl<'s> Model for Combined<'s> {
     ghost use Rattle.search_port.specs.State.{TheoryState};
-    ghost use Rattle.theory_steps.specs.Progress.{full_state, AreParts, IsProgress};
+    ghost use Rattle.theory_combine.specs.Progress.{full_state, AreParts, IsProgress};
     ghost use Rattle.theory_combine.specs.StateCode.{state_code};
 
     ghost Value = { TheoryState };
@@ -45,9 +43,9 @@ impl<'s> Combined<'s> {
     ghost use Rattle.linear_forms.specs.Table.{AreForms};
     ghost use Rattle.closure_log.specs.Seen.{state_of};
     ghost use Rattle.closure_log.specs.Parts.{AreWideXors};
-    ghost use Rattle.theory_steps.specs.Begin.{IsBegun};
-    ghost use Rattle.theory_steps.specs.Columns.{variables_of};
-    ghost use Rattle.theory_steps.specs.Errors.{IsErrorSeen};
+    ghost use Rattle.theory_combine.specs.Begin.{IsBegun};
+    ghost use Rattle.theory_combine.specs.Columns.{variables_of};
+    ghost use Rattle.theory_combine.specs.Errors.{IsErrorSeen};
 
     /// The theory of what is begun.
     fn start(

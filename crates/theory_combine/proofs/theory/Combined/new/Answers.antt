@@ -3,8 +3,8 @@ use Rattle.std.specs.Prelude.{None}
 use Rattle.fraction128.specs.Lines.{first_basis}
 use Rattle.search_port.specs.State.{TheoryState}
 use Rattle.search_port.specs.Pivots.{AreBasic}
-use Rattle.theory_steps.specs.Columns.{variables_of}
-use Rattle.theory_steps.proofs.Growing.{basis_told}
+use Rattle.theory_combine.specs.Columns.{variables_of}
+use Rattle.theory_combine.proofs.Growing.{basis_told}
 use Rattle.theory_combine.proofs.theory.Combined.new.Goals as goal
 
 pub returns-in-Ok-clause-basis : goal.returns-in-Ok-clause-basis

@@ -1,0 +1,104 @@
+-- The parts of a stack and their atoms, before anything is told.
+use Rattle.std.proofs.Common.{◌∙◌, ℕ, ◌+◌, ◌<◌, ◌^◌, Bool, List, ◌∷◌, [], length, get_or, All, ◌≢◌, sym, ap, subst, inl, refl}
+use Rattle.std.specs.Prelude.{AllPairs, slice_index_or, None}
+use Rattle.std.proofs.lemmas.List.{get_or_default}
+use Rattle.std.proofs.lemmas.List.Elements.{All-head, All-nil, All-tail, All-weaker, Contains-get_or}
+use Rattle.fraction128.specs.declared.Summand.{Summand}
+use Rattle.smt_meaning.specs.declared.values.Sort.{Sort}
+use Rattle.smt_meaning.specs.declared.values.Sort.TheVariants.{Bool as Truths, Int as Ints}
+use Rattle.smt_meaning.specs.declared.clauses.Atom.{Atom}
+use Rattle.smt_meaning.specs.declared.clauses.Atom.TheVariants.{Truth, Same, AtMost}
+use Rattle.smt_meaning.specs.Clause.{atom_places}
+use Rattle.smt_meaning.specs.Signature.{is_bool}
+use Rattle.smt_meaning.specs.CheckAtoms.{AreCheckSums, IsLeaf}
+use Rattle.smt_meaning.specs.Term.{Tree, node}
+use Rattle.smt_meaning.specs.Parts.{IsPart}
+use Rattle.smt_meaning.specs.Stack.{signature_of, assertions_of}
+use Rattle.smt_meaning.specs.StackCommand.{Stack}
+use Rattle.smt_meaning.specs.TreeShape.{is_linear}
+use Rattle.smt_laws.specs.SortLaws.{SymbolsAreDeclared}
+use Rattle.scope_stack.specs.Facts.{AreSorts}
+use Rattle.scope_stack.specs.Shown.{IsLawful}
+use Rattle.search_port.specs.Valid.{IsOf}
+use Rattle.smt_laws.specs.Flat.{flat, FlatSaysTheSame}
+use Rattle.check_atoms.specs.Parts.{IsMarked}
+use Rattle.check_atoms.specs.Marks.{AreStackParts}
+use Rattle.check_atoms.specs.OfStack.{AreCheckAtoms}
+use Rattle.check_atoms.specs.Laws.{AtomsAreFirst}
+use Rattle.first_clauses.specs.Shapes.{AreFlags}
+use Rattle.first_clauses.proofs.Parts as Parts
+use Rattle.model_build.specs.Parts.{AreSortedParts}
+use Rattle.exact_model.specs.Places.{AreAtMarks}
+use Rattle.closure_log.specs.Seen.{IsOfTerms, IsSetting}
+use Rattle.theory_combine.specs.declared.errors.BoundError.{BoundError}
+use Rattle.theory_combine.specs.declared.errors.BoundError.TheVariants.{Memory, Range}
+use Rattle.theory_combine.specs.Begin.{IsTruthOfBool}
+use Rattle.theory_combine.specs.Columns.{with_leaves}
+use Rattle.theory_combine.specs.Errors.{IsErrorIn, IsErrorSeen, IsSumIn}
+use Rattle.theory_combine.specs.Pairs.{HaveReadable}
+use Rattle.theory_combine.specs.Shown.{AreShown}
+use Rattle.theory_combine.proofs.Comparing.{over_leaves}
+use Rattle.theory_combine.proofs.Marking.{marked_is_of}
+use Rattle.theory_combine.proofs.Past.{step_left}
+use Rattle.theory_combine.proofs.Sums.{check_sums}
+
+itself : (t : Tree) → IsPart t t
+itself (node h us) = inl refl
+
+-- the assertions are among the parts
+pub asserted_at : (s : Stack) (marks : List Bool) → AreStackParts s marks → AreAtMarks s.trees marks (assertions_of s.frames)
+asserted_at s marks parts = λ k d l.
+    (let t : Tree = get_or (assertions_of s.frames) k d in
+    parts.each t (record { assertion = t; asserted = Contains-get_or (assertions_of s.frames) k d l; part = itself t }))
+
+module _ (s : Stack) (marks : List Bool) (law : IsLawful s) (parts : AreStackParts s marks) (table : List Atom) (atoms : AreCheckAtoms s marks table) (sorts : List Sort) (sorted : AreSorts (signature_of s.frames) s.trees (length s.trees) sorts) where
+  pub sorted_parts : AreSortedParts (signature_of s.frames) s.trees marks
+  sorted_parts = record {
+    size = atoms.size;
+    sorted = λ p m. (slice_index_or sorts p Truths, Parts.has_sort s marks law parts atoms.size sorts sorted p m);
+    closed = Parts.arguments_marked s marks law parts atoms.size;
+  }
+
+  pub readable : (flags : List Bool) → AreFlags is_linear s.trees (length s.trees) flags → HaveReadable s.trees marks flags
+  readable flags are p m f = Parts.readable s marks law parts atoms.size p m (sym (are.each p (Parts.within s marks law parts atoms.size p m)) ∙ f)
+
+  of_terms_at : (a : Atom) → IsTruthOfBool sorts a → All (IsMarked marks) (atom_places a) → IsOfTerms s a
+  of_terms_at (Truth p) h m =
+      let marked : IsMarked marks p = All-head (IsMarked marks) p [] m in
+      (Parts.within s marks law parts atoms.size p marked, ap is_bool (Parts.bool_sort s marks law parts atoms.size sorts sorted p marked (get_or_default sorts p Truths Ints h.0 ∙ h.1)))
+  of_terms_at (Same i j) h m = (
+    Parts.within s marks law parts atoms.size i (All-head (IsMarked marks) i (j ∷ []) m),
+    Parts.within s marks law parts atoms.size j (All-head (IsMarked marks) j [] (All-tail (IsMarked marks) i (j ∷ []) m)),
+  )
+  of_terms_at (AtMost sum k) h m = tt
+
+  pub setting : SymbolsAreDeclared → FlatSaysTheSame → ((n : ℕ) → n < length table → IsTruthOfBool sorts (slice_index_or table n (Truth 0))) → length s.trees + 2 < 2 ^ 32 → IsSetting s table
+  setting symbols flat_law bools few = record {
+    few = few;
+    of_terms = λ n d less. of_terms_at (slice_index_or table n d) (subst (IsTruthOfBool sorts) (get_or_default table n (Truth 0) d less) (bools n less)) (atoms.over_parts n d less);
+    declared =
+        All-weaker (λ (a : Atom). All (IsMarked marks) (atom_places a)) (IsOf s.trees (flat s.frames)) (λ a m. marked_is_of symbols flat_law s marks sorted_parts a m) table atoms.over_parts;
+  }
+
+module _ (flat_law : FlatSaysTheSame) (first_law : AtomsAreFirst) (s : Stack) (marks : List Bool) (table : List Atom) (lawful : IsLawful s) (parts : AreStackParts s marks) (atoms : AreCheckAtoms s marks table) where
+  -- the sums of leaves and of the first atoms are of the check
+  pub begins_known : (own : List ℕ) → All (IsLeaf s.trees (flat s.frames)) own → (sums : List (List Summand)) → AllPairs (λ (ps qs : List Summand). ps ≢ qs) sums → All (IsSumIn (with_leaves own table)) sums
+      → AreCheckSums s.trees (flat s.frames) sums
+  begins_known own leaves sums apart h =
+      check_sums s [] [] tt table (first_law s marks table lawful parts atoms).1.first (over_leaves flat_law s table atoms.leaves) own leaves sums apart h
+
+  -- nothing is seen, and there is no branch
+  pub begins_shown : (sums : List (List Summand)) → AreCheckSums s.trees (flat s.frames) sums → AreShown s sums [] None table
+  begins_shown sums known = record {
+    sums_known = known;
+    branches = tt;
+    atoms = (first_law s marks table lawful parts atoms).1.first;
+    seen = tt;
+    leaves = over_leaves flat_law s table atoms.leaves;
+  }
+
+  pub error_seen : (e : BoundError) → IsErrorIn table e → IsErrorSeen s e
+  error_seen Memory h = tt
+  error_seen (Range g) h =
+      let known : AreCheckSums s.trees (flat s.frames) h.sums = begins_known [] (All-nil (IsLeaf s.trees (flat s.frames))) h.sums h.apart h.columns in
+      record { sums = h.sums; known = known; are_branches = tt; leaves = step_left s h.sums [] None table (begins_shown h.sums known) g h.past }

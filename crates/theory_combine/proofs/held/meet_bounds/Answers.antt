@@ -1,0 +1,22 @@
+use Rattle.std.proofs.Common.{rules, ◌≡◌, [], List, subst}
+use Rattle.fraction128.specs.declared.Line.{Line}
+use Rattle.bound_log.specs.Pivots.{AddsPivots}
+use Rattle.theory_combine.proofs.Holding.{met}
+use Rattle.theory_combine.proofs.Spending.{are_pivots}
+use Rattle.theory_combine.proofs.held.meet_bounds.Goals as goal
+
+pub returns-clause-met : goal.returns-clause-met
+returns-clause-met c =
+    let table = c.args.atoms.now.atoms in
+    let knows = c.check-report.ensures.stays table c.requires.held.knows in
+    met c.flat_says_the_same.ensures c.args.stack.now table c.args.held.now c.check-report.new.self c.met_by-met.result c.requires.setting c.requires.held knows c.check-report.ensures.log
+    (c.met_by-met.ensures.met table knows)
+
+pub returns-clause-lines : goal.returns-clause-lines
+returns-clause-lines c =
+    let table = c.args.atoms.now.atoms in
+    let checked = c.check-report in
+    let none : c.new.result.items ≡ [] = search rules in
+    let adds = subst (λ (ls : List Line). AddsPivots c.args.held.now.bounds checked.new.self c.args.keep checked.result.pivots ls checked.new.kept.lines.items) none checked.ensures.pivots in
+    are_pivots c.args.held.now.bounds checked.new.self table c.args.keep checked.result.pivots c.args.room checked.result.report (record { met = c.met_by-met.result; lines = checked.new.kept.lines })
+    c.requires.held.knows adds checked.ensures.most checked.ensures.room c.met_by-met.ensures.spent

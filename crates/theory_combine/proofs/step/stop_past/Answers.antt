@@ -1,0 +1,7 @@
+use Rattle.bound_log.specs.Told.{column_sums}
+use Rattle.theory_combine.proofs.Past.{step_left}
+use Rattle.theory_combine.proofs.step.stop_past.Goals as goal
+
+pub stop_seeing-requires-clause-seen : goal.stop_seeing-requires-clause-seen
+stop_seeing-requires-clause-seen c =
+    step_left c.args.parts.now.stack.now (column_sums c.args.progress.now.held.bounds) c.args.progress.now.branches c.args.progress.now.seen c.args.progress.now.atoms.atoms c.requires.under_way.3 c.args.grid c.requires.past

@@ -1,0 +1,12 @@
+use Rattle.std.proofs.Common.{List, All, subst}
+use Rattle.literals.specs.Signed.{Signed}
+use Rattle.congruence.specs.Implied.{IsPressingLemma}
+use Rattle.closure_log.specs.Seen.{state_of}
+use Rattle.theory_combine.proofs.xors.follow_xors.Goals as goal
+
+pub returns-in-Ok-clause-found : goal.returns-in-Ok-clause-found
+returns-in-Ok-clause-found c = λ b d.
+    let s = c.args.stack.now in
+    let atoms = c.args.atoms.now.atoms in
+    c.inferred.ensures (state_of s atoms c.args.held.now.closure.log.items) b d
+    (subst (λ (log : List Signed). All (IsPressingLemma (state_of s atoms log)) c.in-Ok.clauses.items) c.deref-2.ensures.value c.in-Ok.ensures)

@@ -1,0 +1,235 @@
+//! What a search begins with, before anything is told.
+ghost use Rattle.std.specs.Prelude.{◌≡◌, ℕ, ◌<◌, List, [], true, length, All, IfOk, IfErr, OnOk, slice_index_or};
+ghost use Rattle.fraction128.specs.Lines.{HasBasis, first_basis};
+ghost use Rattle.smt_meaning.specs.declared.values.Sort.TheVariants.{Bool as Truths, Int as Ints};
+ghost use Rattle.smt_meaning.specs.declared.clauses.Atom.{Atom};
+ghost use Rattle.smt_meaning.specs.Stack.{signature_of};
+ghost use Rattle.term_store.specs.Terms.{AreDifferent};
+ghost use Rattle.search_port.specs.State.{atom_at};
+ghost use Rattle.check_atoms.specs.Marks.{AreStackParts};
+ghost use Rattle.check_atoms.specs.Numbering.{IsNormal};
+ghost use Rattle.check_atoms.specs.OfStack.{AreCheckAtoms};
+ghost use Rattle.model_build.specs.Parts.{AreSortedParts};
+ghost use Rattle.bound_log.specs.Told.{column_sums};
+ghost use Rattle.bound_log.specs.Atoms.{Knows, KnowsOneMore, KnowsTheSame};
+ghost use Rattle.bound_log.specs.Columns.{AddsColumns, HasColumnsOf};
+ghost use Rattle.bound_log.specs.Growth.{GrowsVariables};
+ghost use Rattle.bound_log.specs.Pending.{plain_grid};
+ghost use Rattle.theory_combine.specs.Begin.{IsOfBool, IsTruthOfBool, IsBegun};
+ghost use Rattle.theory_combine.specs.Columns.{HasKnownColumns};
+ghost use Rattle.theory_combine.specs.Errors.{IsErrorAt, IsErrorIn, IsErrorSeen};
+ghost use Rattle.theory_combine.specs.Shown.{AreOfAssertions};
+
+use crate::differences::Differences;
+use crate::errors::{BoundError, know_bound, know_other};
+use crate::held::{Held, Looked};
+use crate::leaves::is_marked_leaf;
+use atom_form::{AtomNumbers, NumberedAtom};
+use bound_log::{BoundLog, sums_are_apart};
+use check_atoms::atoms_are_first;
+use closure_log::{ClosureLog, Guide, Scan, Watches};
+use first_clauses::linear_terms;
+use scope_stack::Stack;
+use smt_laws::{flat_says_the_same, symbols_are_declared};
+use smt_meaning::Sort;
+use std::alloc::{AllocError, Global};
+
+/// What a search begins with.
+#[derive(Drop)]
+pub struct Begun {
+    /// Which terms are linear, with their leaves among the terms.
+    pub readable: Vec<bool>,
+    pub guide: Guide,
+    pub held: Held,
+}
+
+/// Makes the atom of the next number known to bounds.
+fn learn(
+    alloc: Global,
+    stack: &Stack,
+    atoms: &AtomNumbers,
+    bounds: &mut BoundLog,
+    number: u32,
+) -> Result<(), BoundError>
+    requires numbered { number < length atoms.now.atoms }
+    requires normal { All (IsNormal (length stack.now.trees)) atoms.now.atoms }
+    ensures knows { OnOk result (KnowsOneMore bounds.old (atom_at atoms.now.atoms number) bounds.new) }
+    ensures columns { AddsColumns bounds.old (atom_at atoms.now.atoms number) bounds.new }
+    ensures variables { GrowsVariables bounds.old bounds.new }
+    ensures log { bounds.new.log ≡ bounds.old.log }
+    ensures err { IfErr result (IsErrorAt bounds.old bounds.new (atom_at atoms.now.atoms number)) }
+{
+    let _known = stack.terms();
+    match atoms.atom(number) {
+        NumberedAtom::Truth(_) | NumberedAtom::Same(_, _) => know_other(bounds),
+        NumberedAtom::Bound(bound) => {
+            know_bound(alloc, bounds, atoms.sum(bound.sum), bound.threshold)
+        }
+    }
+}
+
+/// Bounds that know all atoms, and no literal. An `Err` is for want of memory, or where a row leaves the range.
+fn bounds_of(alloc: Global, stack: &Stack, atoms: &AtomNumbers) -> Result<BoundLog, BoundError>
+    requires normal { All (IsNormal (length stack.now.trees)) atoms.now.atoms }
+    ensures knows { IfOk result (λ b. Knows atoms.now.atoms b) }
+    ensures columns { IfOk result (λ b. HasColumnsOf atoms.now.atoms b) }
+    ensures log { IfOk result (λ b. b.log ≡ []) }
+    ensures basis { IfOk result (λ b. HasBasis (first_basis (column_sums b)) (plain_grid b)) }
+    ensures err { IfErr result (IsErrorIn atoms.now.atoms) }
+{
+    sums_are_apart();
+    let mut bounds = BoundLog::new(alloc);
+    for number in 0..atoms.len() {
+        let learnt = learn(alloc, stack, atoms, &mut bounds, number as u32);
+        bounds.facts();
+        learnt?;
+    }
+    Ok(bounds)
+}
+
+/// Gives a term a variable, if it is an Int leaf of the assertions. An `Err` is for want of memory.
+fn add_if_leaf(
+    alloc: Global,
+    stack: &Stack,
+    marks: &[bool],
+    bounds: &mut BoundLog,
+    place: u32,
+) -> Result<(), AllocError>
+    requires parts { AreSortedParts (signature_of stack.now.frames) stack.now.trees marks.now }
+    requires of_assertions { AreOfAssertions stack.now marks.now }
+    requires different { AreDifferent stack.now.trees }
+    ensures knows { KnowsTheSame bounds.old bounds.new }
+    ensures columns { (table : List Atom) → HasKnownColumns stack.now table bounds.old → HasKnownColumns stack.now table bounds.new }
+    ensures basis { HasBasis (first_basis (column_sums bounds.old)) (plain_grid bounds.old) → HasBasis (first_basis (column_sums bounds.new)) (plain_grid bounds.new) }
+    ensures log { bounds.new.log ≡ bounds.old.log }
+{
+    flat_says_the_same();
+    if !is_marked_leaf(stack, marks, place) {
+        return Ok(());
+    }
+    bounds.add_leaf(alloc, place)
+}
+
+/// Gives each Int leaf of the assertions a variable. An `Err` is for want of memory.
+fn add_leaves(
+    alloc: Global,
+    stack: &Stack,
+    marks: &[bool],
+    bounds: &mut BoundLog,
+) -> Result<(), AllocError>
+    requires parts { AreSortedParts (signature_of stack.now.frames) stack.now.trees marks.now }
+    requires of_assertions { AreOfAssertions stack.now marks.now }
+    requires different { AreDifferent stack.now.trees }
+    ensures knows { KnowsTheSame bounds.old bounds.new }
+    ensures columns { (table : List Atom) → HasKnownColumns stack.now table bounds.old → HasKnownColumns stack.now table bounds.new }
+    ensures basis { HasBasis (first_basis (column_sums bounds.old)) (plain_grid bounds.old) → HasBasis (first_basis (column_sums bounds.new)) (plain_grid bounds.new) }
+    ensures log { bounds.new.log ≡ bounds.old.log }
+{
+    for place in 0..stack.terms().len() {
+        add_if_leaf(alloc, stack, marks, bounds, place)?;
+    }
+    Ok(())
+}
+
+/// Whether a sort is that of Bools.
+fn is_bool(sorts: &[Sort], place: u32) -> bool
+    ensures { result ≡ true → (place < length sorts.now) × (slice_index_or sorts.now place Ints ≡ Truths) }
+{
+    if place as usize >= sorts.len() {
+        return false;
+    }
+    sorts[place as usize] == Sort::Bool
+}
+
+/// Whether an atom is no truth, or that of a Bool.
+fn is_of_bool(sorts: &[Sort], atom: NumberedAtom) -> bool
+    ensures { result ≡ true → IsOfBool sorts.now atom }
+{
+    match atom {
+        NumberedAtom::Truth(place) => is_bool(sorts, place),
+        NumberedAtom::Same(_, _) | NumberedAtom::Bound(_) => true,
+    }
+}
+
+/// Whether the truths that have numbers are of Bools.
+fn are_of_bools(sorts: &[Sort], atoms: &AtomNumbers) -> bool
+    ensures { result ≡ true → (n : ℕ) → n < length atoms.now.atoms → IsTruthOfBool sorts.now (atom_at atoms.now.atoms n) }
+{
+    for number in 0..atoms.len() {
+        if !is_of_bool(sorts, atoms.atom(number as u32)) {
+            return false;
+        }
+    }
+    true
+}
+
+/// Nothing is told of the parts of a stack and their atoms, which the bounds know. An `Err` is for want of memory; a stack of 2^32 - 3 terms or more leaves none.
+fn begin_with(
+    alloc: Global,
+    stack: &Stack,
+    marks: &[bool],
+    atoms: &AtomNumbers,
+    mut bounds: BoundLog,
+) -> Result<Begun, AllocError>
+    requires marks { AreStackParts stack.now marks.now }
+    requires atoms { AreCheckAtoms stack.now marks.now atoms.now.atoms }
+    requires knows { Knows atoms.now.atoms bounds }
+    requires columns { HasKnownColumns stack.now atoms.now.atoms bounds }
+    requires log { bounds.log ≡ [] }
+    requires basis { HasBasis (first_basis (column_sums bounds)) (plain_grid bounds) }
+    ensures { IfOk result (IsBegun stack.now marks.now atoms.now) }
+{
+    stack.laws();
+    symbols_are_declared();
+    flat_says_the_same();
+    atoms_are_first();
+    sums_are_apart();
+    if stack.terms().len() >= u32::MAX - 2 {
+        return Err(AllocError);
+    }
+    if !are_of_bools(stack.sorts(), atoms) {
+        return Err(AllocError);
+    }
+    let readable = linear_terms(alloc, stack.terms())?;
+    let guide = Guide::new(alloc, stack)?;
+    let closure = ClosureLog::new(alloc, stack)?;
+    add_leaves(alloc, stack, marks, &mut bounds)?;
+    bounds.facts();
+    let mut scan = Scan::new(alloc);
+    scan.grow(atoms.len())?;
+    Ok(Begun {
+        readable,
+        guide,
+        held: Held {
+            closure,
+            bounds,
+            scan,
+            looked: Looked {
+                next: 0,
+                differences: Differences::new(alloc),
+                watches: Watches::new(alloc),
+            },
+        },
+    })
+}
+
+/// Nothing is told of the parts of a stack and their atoms. An `Err` is for want of memory, of which a stack of 2^32 - 3 terms or more leaves none, or shows that a
+/// row of an atom leaves the range.
+pub fn begin(
+    alloc: Global,
+    stack: &Stack,
+    marks: &[bool],
+    atoms: &AtomNumbers,
+) -> Result<Begun, BoundError>
+    requires marks { AreStackParts stack.now marks.now }
+    requires atoms { AreCheckAtoms stack.now marks.now atoms.now.atoms }
+    ensures begun { IfOk result (IsBegun stack.now marks.now atoms.now) }
+    ensures err { IfErr result (IsErrorSeen stack.now) }
+{
+    stack.laws();
+    flat_says_the_same();
+    atoms_are_first();
+    let bounds = bounds_of(alloc, stack, atoms)?;
+    let begun = begin_with(alloc, stack, marks, atoms, bounds)?;
+    Ok(begun)
+}
