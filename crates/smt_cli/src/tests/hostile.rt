@@ -1,6 +1,6 @@
 //! Scripts that nobody writes by hand: deep, wide, with very many levels, at the range's ends.
 use ports::{MemSink, MemSource, OpenGate};
-use smt_program::run;
+use smt_top::run;
 use std::alloc::{AllocError, Global};
 use std::test::Fail;
 

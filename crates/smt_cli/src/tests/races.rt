@@ -1,6 +1,6 @@
 //! Runs whose checks are races of several workers.
 use ports::{MemSink, MemSource, OpenGate, PairGate};
-use smt_program::{run, run_within};
+use smt_top::{run, run_within};
 use std::alloc::{AllocError, Global};
 use std::test::Fail;
 

@@ -1,6 +1,6 @@
 //! Whole runs: words and a script in, bytes and a status out, over sources and sinks in memory.
 use ports::{CalmSink, CalmSource, MemSink, MemSource, More, OpenGate, Put, Sink, Source};
-use smt_program::{Note, run, run_within};
+use smt_top::{Note, run, run_within};
 use std::alloc::{AllocError, Global};
 use std::cell::Cell;
 use std::test::Fail;

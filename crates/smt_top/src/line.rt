@@ -1,8 +1,8 @@
 //! The line that says on standard error why a run ended.
 ghost use Rattle.std.specs.Prelude.{◌≡◌};
-ghost use Rattle.smt_program.specs.Program.{line_of};
+ghost use Rattle.smt_top.specs.Program.{line_of};
 
-use smt_top::Note;
+use crate::Note;
 
 /// The line on standard error that says why a run ended; none where the replies say all.
 pub(crate) fn line(note: Note) -> &'static str

@@ -1,6 +1,6 @@
 //! The words of the command line, as the system gives them.
 ghost use Rattle.std.specs.Prelude.{◌≡◌};
-ghost use Rattle.smt_program.specs.Words.{AreCollected, AreWords, cause_of};
+ghost use Rattle.smt_top.specs.Words.{AreCollected, AreWords, cause_of};
 
 use smt_words::WordsError;
 use std::alloc::Global;
