@@ -1,5 +1,6 @@
 mod Adding
 mod Sums
+mod BoundLeaves
 mod Rows
 mod PartPlaces
 mod Integers
