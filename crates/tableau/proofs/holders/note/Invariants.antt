@@ -1,4 +1,4 @@
-use Rattle.std.proofs.Common.{ℕ, ◌<◌, ◌⊎◌, Contains}
+use Rattle.std.proofs.Common.{ℕ, ◌<◌, ◌⊎◌, true, Contains}
 use Rattle.tableau.specs.declared.holders.Change.{Change}
 use Rattle.tableau.specs.Rows.{variable_at}
 use Rattle.tableau.specs.Staged.{HasVariable}
