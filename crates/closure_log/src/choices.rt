@@ -1,4 +1,4 @@
-//! Choices by their conditions, and the terms whose truth the closure looks at. Both only guide a search.
+//! Choices by their conditions, the terms whose truth the closure looks at, and what truths say. All only guide a search.
 ghost use Rattle.std.specs.Prelude.{◌≡◌, ◌+◌, ◌<◌, ◌≤◌, ◌^◌, length};
 
 use smt_meaning::{Head, Operator, Sort, TermId};
@@ -96,4 +96,73 @@ pub(crate) fn watched(alloc: Global, store: &TermStore) -> Result<Vec<bool>, All
         watch(&mut watched, store, place);
     }
     Ok(watched)
+}
+
+/// What a truth says to the closure.
+#[derive(Clone, Copy, Drop)]
+pub(crate) enum Voice {
+    /// Nothing.
+    Silent,
+    /// Nothing that the closure shows by itself.
+    Aside,
+    /// That these terms are equal: it is true where they are.
+    Equal(TermId, TermId),
+    /// That these terms are different: it is false where they are equal.
+    Different(TermId, TermId),
+    /// Its own truth, which the closure looks at.
+    Own,
+}
+
+/// What the truth of two compared terms says.
+fn voice_of_two(head: Head, left: TermId, right: TermId) -> Voice {
+    match head {
+        Head::Theory(Operator::Equal) => Voice::Equal(left, right),
+        Head::Theory(Operator::Distinct) => Voice::Different(left, right),
+        _ => Voice::Silent,
+    }
+}
+
+/// What the truth of a node says of its arguments.
+fn voice_of_arguments(sorts: &[Sort], head: Head, arguments: &[TermId]) -> Voice {
+    match arguments {
+        [] => Voice::Silent,
+        [first, ..] if is_bool(sorts, *first) => Voice::Silent,
+        [left, right] => voice_of_two(head, *left, *right),
+        _ => Voice::Aside,
+    }
+}
+
+/// What the truth of the term at a place says.
+fn voice_at(
+    store: &TermStore,
+    sorts: &[Sort],
+    choices: &Choices,
+    watched: &[bool],
+    place: TermId,
+) -> Voice
+    requires { place < length store.now.trees }
+{
+    if (place as usize) < watched.len() && watched[place as usize] {
+        return Voice::Own;
+    }
+    let node = store.node(place);
+    match voice_of_arguments(sorts, node.head, node.arguments) {
+        Voice::Silent if choices.newest(place) > 0 => Voice::Aside,
+        voice => voice,
+    }
+}
+
+/// What the truth of each term says, by place. An `Err` is for want of memory.
+pub(crate) fn voices(
+    alloc: Global,
+    store: &TermStore,
+    sorts: &[Sort],
+    choices: &Choices,
+    watched: &[bool],
+) -> Result<Vec<Voice>, AllocError> {
+    let mut voices = Vec::with_capacity(alloc, store.len() as usize)?;
+    for place in 0..store.len() {
+        voices.push(voice_at(store, sorts, choices, watched, place))?;
+    }
+    Ok(voices)
 }

@@ -1,6 +1,7 @@
 //! Literals that follow from what was told, by few reasons.
 ghost use Rattle.std.specs.Prelude.{◌≡◌, ◌<◌, length, All, OnOk, IfOk, IfSome};
 ghost use Rattle.literals.specs.Signed.{Signed};
+ghost use Rattle.point_closure.specs.Whole.{IsWhole};
 ghost use Rattle.search_port.specs.Calls.{InferredBy};
 ghost use Rattle.search_port.specs.Spending.{Spending};
 ghost use Rattle.search_port.specs.State.{IsOpenIn, TheoryState};
@@ -9,6 +10,7 @@ ghost use Rattle.closure_log.specs.Seen.{state_of, IsSetting};
 ghost use Rattle.closure_log.specs.Told.{IsTold};
 ghost use Rattle.closure_log.specs.Places.{ArePlaces};
 
+use crate::choices::Voice;
 use crate::said::{Extent, Guide, say};
 use crate::scan::{Scan, is_open};
 use crate::told::ClosureLog;
@@ -19,7 +21,7 @@ use point_closure::Step;
 use scope_stack::Stack;
 use search_port::{Cause, Inferred, Lemma};
 use smt_laws::flat_says_the_same;
-use smt_meaning::Seq;
+use smt_meaning::{Seq, TermId};
 use std::alloc::{AllocError, Global};
 
 /// How many atoms are scanned at most in one call.
@@ -105,6 +107,31 @@ fn implied_sign(
     }
 }
 
+/// Whether the closure says that two terms are equal.
+fn are_equal(told: &ClosureLog, left: TermId, right: TermId) -> bool
+    requires { IsWhole told.now.congruence.closure }
+{
+    let (Some(one), Some(other)) = (left.checked_add(2), right.checked_add(2)) else {
+        return false;
+    };
+    let count = told.congruence.closure.len();
+    if one as usize >= count || other as usize >= count {
+        return false;
+    }
+    told.congruence.closure.same(one, other)
+}
+
+/// Whether what an atom says may be shown.
+fn may_follow(told: &ClosureLog, voice: Voice) -> bool
+    requires { IsWhole told.now.congruence.closure }
+{
+    match voice {
+        Voice::Silent | Voice::Aside => false,
+        Voice::Equal(left, right) | Voice::Different(left, right) => are_equal(told, left, right),
+        Voice::Own => true,
+    }
+}
+
 /// The clause by which a literal of an atom follows. None of an atom that isn't open.
 fn scan_atom(
     alloc: Global,
@@ -125,6 +152,9 @@ fn scan_atom(
 {
     let _few = atoms.len();
     if !is_open(&scan.places, &told.log, atom as u32) {
+        return Ok(None);
+    }
+    if !may_follow(told, guide.voice_of(atoms.atom(atom as u32))) {
         return Ok(None);
     }
     let literal = Literal::new(atom as u32, true);
@@ -177,8 +207,9 @@ fn find_implied(
         let Some(atom) = scan.next(atoms.len()) else {
             return Ok(clauses);
         };
-        let found = scan_atom(alloc, told, scan, stack, atoms, guide, atom)?;
-        keep(&mut clauses, found)?;
+        if let Some(clause) = scan_atom(alloc, told, scan, stack, atoms, guide, atom)? {
+            clauses.push(clause)?;
+        }
     }
     Ok(clauses)
 }

@@ -5,7 +5,7 @@ ghost use Rattle.smt_meaning.specs.Stack.{signature_of};
 ghost use Rattle.closure_log.specs.Said.{AreSaidBy, AreSaid};
 ghost use Rattle.closure_log.specs.Seen.{IsSetting};
 
-use crate::choices::{Choices, is_bool, watched};
+use crate::choices::{Choices, Voice, is_bool, voices, watched};
 use atom_form::{AtomNumbers, NumberedAtom};
 use congruence::{
     add_choice_steps, add_node_steps, add_pair_step, add_truth_step, choice_steps_are_justified,
@@ -24,6 +24,7 @@ pub struct Guide {
     sorts: Vec<Sort>,
     watched: Vec<bool>,
     choices: Choices,
+    voices: Vec<Voice>,
 }
 
 impl Guide {
@@ -36,11 +37,31 @@ impl Guide {
         let sorts = stack.sorts().to_vec(alloc)?;
         let choices = Choices::new(alloc, stack.terms(), &sorts)?;
         let watched = watched(alloc, stack.terms())?;
+        let voices = voices(alloc, stack.terms(), &sorts, &choices, &watched)?;
         Ok(Guide {
             sorts,
             watched,
             choices,
+            voices,
         })
+    }
+
+    /// What the truth of a term says. Of one that isn't known, all is looked at.
+    fn voice_of_term(&self, term: TermId) -> Voice {
+        if (term as usize) < self.voices.len() {
+            self.voices[term as usize]
+        } else {
+            Voice::Own
+        }
+    }
+
+    /// What an atom says.
+    pub(crate) fn voice_of(&self, atom: NumberedAtom) -> Voice {
+        match atom {
+            NumberedAtom::Truth(term) => self.voice_of_term(term),
+            NumberedAtom::Same(left, right) => Voice::Equal(left, right),
+            NumberedAtom::Bound(_) => Voice::Silent,
+        }
     }
 }
 
@@ -169,6 +190,9 @@ pub(crate) fn say(
     steps.clear();
     match atoms.atom(literal.atom()) {
         NumberedAtom::Truth(term) => {
+            if let Voice::Silent = guide.voice_of_term(term) {
+                return Ok(());
+            }
             add_truth(
                 steps,
                 stack.terms(),

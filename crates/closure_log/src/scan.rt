@@ -107,7 +107,7 @@ impl Scan {
         if self.passed >= count {
             return None;
         }
-        let atom = self.next % count;
+        let atom = if self.next < count { self.next } else { 0 };
         self.next = atom + 1;
         self.passed += 1;
         Some(atom)

@@ -29,9 +29,9 @@ use Rattle.first_clauses.specs.Numbers.{AreNumbers}
 use Rattle.first_clauses.specs.PartClausesFirst.{unit, IsClause}
 use Rattle.first_clauses.specs.Turned.{Negates, AreTurned}
 use Rattle.first_clauses.proofs.Numbering.{numbers_within}
-use Rattle.first_clauses.specs.Triangles.{IsEquality, Joins}
+use Rattle.first_clauses.specs.Triangles.{IsEquality, Joins, NumberMakesSame}
 use Rattle.first_clauses.proofs.Turning.{some_turned}
-use Rattle.first_clauses.proofs.Triangular.{implies_clause, implies_within, implies_true, no_pair_here}
+use Rattle.first_clauses.proofs.Triangular.{implies_clause, implies_within, implies_true, no_pair_here, gives_clause, gives_within, gives_true, none_twice_here}
 use Rattle.first_clauses.specs.CheckClausesFirst.{reading_of}
 
 module _ (same : FlatSaysTheSame) (s : Stack) (table : List Atom) (declared : All (IsOf s.trees s.frames) table) where
@@ -119,6 +119,14 @@ module _ (same : FlatSaysTheSame) (s : Stack) (table : List Atom) (declared : Al
       record {
         over = over (implies_clause a b c) within (no_pair_here a b c n m);
         follows = record { true_wherever = λ I z holds. implies_true s.trees table a b c i j k l x y p q r joins I; at_level = at_level (implies_clause a b c) within };
+      }
+
+  pub diamond_follows : (a c x y : ℕ) → NumberMakesSame s.trees table a x y → IsEquality s.trees table c x y → (a ≡ c → ⊥) → IsClause (reading_of s table) 0 (gives_clause a c)
+  diamond_follows a c x y p r n =
+      let within : All (λ (z : Signed). z.atom < length table) (gives_clause a c) = gives_within s.trees table a c x y p r in
+      record {
+        over = over (gives_clause a c) within (none_twice_here a c n);
+        follows = record { true_wherever = λ I z holds. gives_true s.trees table a c x y p r I; at_level = at_level (gives_clause a c) within };
       }
 
   module _ (sorted : ValueHasItsSort) where

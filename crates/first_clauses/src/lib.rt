@@ -5,7 +5,8 @@
 //! true is one of them, and together they force the clauses of every part.
 //!
 //! `check_clauses`: in the store that a search begins with each clause follows, also that two
-//! equalities of a triangle give the third. Each assertion is one, of each part the clauses of its
+//! equalities of a triangle give the third, and that a disjunction whose two cases lead from one term
+//! to the same other says that they are equal. Each assertion is one, of each part the clauses of its
 //! operator are kept, the longer ones with what negations negate, and together they force every
 //! node clause of every part.
 //!
@@ -24,6 +25,7 @@
 
 mod bools;
 mod clauses;
+mod diamonds;
 mod error;
 mod kept_axioms_keep;
 mod laws;

@@ -7,6 +7,7 @@ ghost use Rattle.first_clauses.specs.PartClausesFirst.{IsBegun};
 ghost use Rattle.first_clauses.specs.CheckClausesFirst.{reading_of};
 ghost use Rattle.first_clauses.specs.Triangles.{IsEquality, Joins};
 
+use crate::diamonds::keep_diamonds;
 use crate::keep;
 use atom_form::{AtomNumbers, NumberedAtom};
 use check_atoms::Triangle;
@@ -19,13 +20,13 @@ use std::alloc::AllocError;
 
 /// The two terms of an equality.
 #[derive(Clone, Copy, Drop)]
-struct Ends {
-    left: TermId,
-    right: TermId,
+pub(crate) struct Ends {
+    pub(crate) left: TermId,
+    pub(crate) right: TermId,
 }
 
 /// The two terms that an atom says are the same, if it is an equality of two.
-fn compared(stack: &Stack, atoms: &AtomNumbers, number: u32) -> Option<Ends>
+pub(crate) fn compared(stack: &Stack, atoms: &AtomNumbers, number: u32) -> Option<Ends>
     requires { number < length atoms.now.atoms }
     ensures { IfSome result (λ e. IsEquality stack.now.trees atoms.now.atoms number e.left e.right) }
 {
@@ -74,7 +75,7 @@ fn leads(first: TermId, second: TermId, next: Ends, last: Ends) -> bool
 }
 
 /// Whether two equalities give a third.
-fn joins(first: Ends, second: Ends, third: Ends) -> bool
+pub(crate) fn joins(first: Ends, second: Ends, third: Ends) -> bool
     ensures { result ≡ true → Joins first.left first.right second.left second.right third.left third.right }
 {
     if leads(first.left, first.right, second, third) {
@@ -126,7 +127,7 @@ fn keep_implied(
     )
 }
 
-/// Keeps of each triangle that two of its equalities give the third.
+/// Keeps of each triangle that two of its equalities give the third, and of each diamond what it says.
 pub(crate) fn keep_triangles(
     stack: &Stack,
     atoms: &AtomNumbers,
@@ -147,5 +148,8 @@ pub(crate) fn keep_triangles(
         keep_implied(stack, atoms, store, second, third, first)?;
         keep_implied(stack, atoms, store, third, first, second)?;
     }
-    Ok(())
+    if triangles.is_empty() {
+        return Ok(());
+    }
+    keep_diamonds(stack, atoms, store)
 }
