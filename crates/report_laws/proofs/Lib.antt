@@ -1,4 +1,6 @@
 mod Listed
+mod Counted
+mod Limited
 mod OneLeaf
 mod Five
 mod Past
