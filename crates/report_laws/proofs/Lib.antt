@@ -10,3 +10,4 @@ mod Cores
 mod Minimum
 mod Boxed
 mod BoxOfFive
+mod BoxOfOne

@@ -164,17 +164,20 @@ set_of : (atoms : List Atom) (ls : List Literal) → AreDifferent ls → ((l : L
 set_of atoms [] d over = ([], empty_in atoms, (λ l c. c, λ l c. c))
 set_of atoms (l ∷ ls) d over =
     let rest = set_of atoms ls d.1 (λ m c. over m (later_in l m ls c)) in
-    let w = one_more atoms l rest.0 (over l (first_in l ls)) rest.1 (λ m c. d.0 m (rest.2.1 m c)) in
-    (w.set, w.is, (
-      λ m c. elim (in_cons l m ls c) [
-        | inl e ↦ w.same.0 m (subst (Contains (l ∷ rest.0)) (sym e) (first_in l rest.0))
-        | inr later ↦ w.same.0 m (later_in l m rest.0 (rest.2.0 m later))
-      ],
-      λ m c. elim (in_cons l m rest.0 (w.same.1 m c)) [
-        | inl e ↦ subst (Contains (l ∷ ls)) (sym e) (first_in l ls)
-        | inr later ↦ later_in l m ls (rest.2.1 m later)
-      ],
-    ))
+    let w = one_more atoms l rest.0 (over l (first_in l ls)) rest.1 (λ m c. d.0 m (rest.2.1 m c)) in (
+      w.set,
+      w.is,
+      (
+        λ m c. elim (in_cons l m ls c) [
+          | inl e ↦ w.same.0 m (subst (Contains (l ∷ rest.0)) (sym e) (first_in l rest.0))
+          | inr later ↦ w.same.0 m (later_in l m rest.0 (rest.2.0 m later))
+        ],
+        λ m c. elim (in_cons l m rest.0 (w.same.1 m c)) [
+          | inl e ↦ subst (Contains (l ∷ ls)) (sym e) (first_in l ls)
+          | inr later ↦ later_in l m ls (rest.2.1 m later)
+        ],
+      ),
+    )
 
 -- ---- what an equal clause forces
 
