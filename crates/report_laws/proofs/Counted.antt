@@ -47,6 +47,14 @@ in_list f (y ∷ xs) x c = elim (in_cons y x xs c) [
   | inr later ↦ later_in (f y) (f x) (map f xs) (in_list f xs x later)
 ]
 
+-- an item of a list that f gave
+pub from_list : {X Y : Type 0} (f : X → Y) (xs : List X) (y : Y) → Contains (map f xs) y → (x : X) × Contains xs x × (y ≡ f x)
+from_list f [] y c = absurd (in_none y c)
+from_list f (x ∷ xs) y c = elim (in_cons (f x) y (map f xs) c) [
+  | inl e ↦ (x, first_in x xs, e)
+  | inr later ↦ let h = from_list f xs y later in (h.0, later_in x h.0 xs h.1, h.2)
+]
+
 moved : {X : Type 0} (pre xs : List X) (x : X) → (pre ++ x ∷ []) ++ xs ≡ pre ++ x ∷ xs
 moved [] xs x = refl
 moved (y ∷ pre) xs x = ap (λ zs. y ∷ zs) (moved pre xs x)

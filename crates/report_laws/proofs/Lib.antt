@@ -11,3 +11,4 @@ mod Minimum
 mod Boxed
 mod BoxOfFive
 mod BoxOfOne
+mod BoxedAtoms

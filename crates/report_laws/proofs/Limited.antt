@@ -17,7 +17,7 @@ use Rattle.smt_meaning.specs.Forced.{Reaches, Conflicts, Forces}
 use Rattle.smt_meaning.specs.CheckAtoms.{IsCheckAtom}
 use Rattle.smt_meaning.specs.Report.{negated, IsKept, IsGiven, most_units, IsLearnt, IsUnit, AreUnits}
 use Rattle.report_laws.proofs.Listed.{in_cons, in_none}
-use Rattle.report_laws.proofs.Counted.{AreApart, no_longer, apart_by, Split, split_at, first_in, later_in, middle_in, without, with_middle, in_list}
+use Rattle.report_laws.proofs.Counted.{AreApart, no_longer, apart_by, Split, split_at, first_in, later_in, middle_in, without, with_middle, in_list, from_list}
 use Rattle.report_laws.proofs.OneLeaf.{no_branches, no_pivots}
 use Rattle.report_laws.specs.Limited.{HasNoPivots, AllCount, FewUnitsAreNotSpent, OneLeafIsNotSpent}
 
@@ -96,14 +96,6 @@ with_sign a atoms l s e c = by l.positive refl
     by : (b : Bool) → l.positive ≡ b → Contains (sets (a ∷ atoms)) (l ∷ s)
     by true f = let same : l ≡ record { atom = a; positive = true } = ap₂ (λ x p. record { atom = x; positive = p }) e f in subst (λ m. Contains (sets (a ∷ atoms)) (m ∷ s)) (sym same) (with_true a atoms s c)
     by false f = let same : l ≡ record { atom = a; positive = false } = ap₂ (λ x p. record { atom = x; positive = p }) e f in subst (λ m. Contains (sets (a ∷ atoms)) (m ∷ s)) (sym same) (with_false a atoms s c)
-
--- an item of a list that f gave
-from_list : {X Y : Type 0} (f : X → Y) (xs : List X) (y : Y) → Contains (map f xs) y → (x : X) × Contains xs x × (y ≡ f x)
-from_list f [] y c = absurd (in_none y c)
-from_list f (x ∷ xs) y c = elim (in_cons (f x) y (map f xs) c) [
-  | inl e ↦ (x, first_in x xs, e)
-  | inr later ↦ let h = from_list f xs y later in (h.0, later_in x h.0 xs h.1, h.2)
-]
 
 -- a set over a first atom has it not, or with a sign
 first_sign : (a : Atom) (atoms : List Atom) (s : List Literal) → Contains (sets (a ∷ atoms)) s → Contains (sets atoms) s ⊎ ((l : Literal) × (r : List Literal) × (l.atom ≡ a) × Contains (sets atoms) r × (s ≡ l ∷ r))
