@@ -43,6 +43,7 @@ mod progression;
 mod reach;
 mod residues;
 mod splits;
+mod spread;
 mod state;
 mod told;
 mod wholes;

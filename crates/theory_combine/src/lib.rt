@@ -29,6 +29,7 @@
 //! an argument of an application at the leaves' values, or in a model whose evaluation leaves it.
 #![tactic(auto)]
 
+mod apart;
 mod argument;
 mod branch;
 mod calls;
