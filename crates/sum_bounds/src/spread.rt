@@ -13,7 +13,7 @@ use tableau::Tableau;
 const REACH: i128 = 1 << 12;
 
 /// How many places are tried for a variable.
-const TRIES: i128 = 8;
+const TRIES: u32 = 8;
 
 /// How many variables of a row are tried.
 const MOST_OF_ROW: usize = 16;
