@@ -3,6 +3,7 @@ mod Sums
 mod BoundLeaves
 mod Rows
 mod PartPlaces
+mod TruthSorts
 mod Integers
 mod Stacks
 mod Related

@@ -1,7 +1,7 @@
 -- What holds of the numbered atoms, and of a refusal.
 use Rattle.std.specs.Prelude.{◌≡◌, ◌≢◌, ◌⊎◌, ℕ, ◌<◌, Bool, true, Some, List, map, length, All, Contains, IsTrue}
 use Rattle.smt_meaning.specs.declared.values.Sort.{Sort}
-use Rattle.smt_meaning.specs.declared.values.Sort.TheVariants.{Int as Ints}
+use Rattle.smt_meaning.specs.declared.values.Sort.TheVariants.{Bool as Truths, Int as Ints}
 use Rattle.smt_meaning.specs.declared.terms.Operator.{Operator}
 use Rattle.smt_meaning.specs.declared.terms.Operator.TheVariants.{Equal, Distinct, Ite}
 use Rattle.smt_meaning.specs.declared.terms.Head.{Head}
@@ -113,3 +113,9 @@ abbrev pub TruthsHaveNumbers : Type 0
 TruthsHaveNumbers =
     (s : Stack) (marks : List Bool) (atoms : List Atom) → AreCheckAtoms s marks atoms → (p : ℕ) (h : Head) (is : List ℕ) → IsMarked marks p → IsNode s.trees p h is
     → is_bool (sort_of (signature_of s.frames) s.trees p) ≡ true → Contains atoms (Truth p)
+
+-- each numbered truth is that of a part that is a Bool
+abbrev pub TruthsAreOfBools : Type 0
+TruthsAreOfBools =
+    (s : Stack) (marks : List Bool) (atoms : List Atom) → AreCheckAtoms s marks atoms → (p : ℕ) → Contains atoms (Truth p)
+    → IsMarked marks p × (sort_of (signature_of s.frames) s.trees p ≡ Some Truths)
