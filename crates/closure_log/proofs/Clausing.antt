@@ -21,7 +21,7 @@ use Rattle.congruence.proofs.Implying.{press}
 use Rattle.closure_log.specs.Seen.{state_of, IsSetting}
 use Rattle.closure_log.proofs.Setting.{truth_bool}
 use Rattle.closure_log.specs.Odd.{HasAgainst}
-use Rattle.closure_log.specs.OddPartsLaws.{OddClauseIsTrue}
+use Rattle.closure_log.specs.OddLaws.{OddClauseIsTrue}
 use Rattle.closure_log.specs.Parts.{IsWideXor, IsPlacedLog}
 use Rattle.closure_log.specs.Read.{assumed, AreAgainst, HasOpen, IsRead, PressesWhereRead, IsFalseWhereRead}
 

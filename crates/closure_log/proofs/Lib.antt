@@ -7,6 +7,6 @@ pub mod Telling
 pub mod Clausing
 pub mod Odd
 pub mod Reading
-pub mod OddPartsTelling
+pub mod OddTelling
 pub mod Wide
 pub mod DistinctClauses

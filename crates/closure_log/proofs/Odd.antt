@@ -21,7 +21,7 @@ use Rattle.check_atoms.specs.Atoms.{is_bool_at}
 use Rattle.congruence.specs.Justified.{truth_by}
 use Rattle.congruence.proofs.Reasoning.{each_false, true_unless}
 use Rattle.closure_log.specs.Odd.{is_odd, IsXor, IsAgainst, HasAgainst}
-use Rattle.closure_log.specs.OddPartsLaws.{OddClauseIsTrue}
+use Rattle.closure_log.specs.OddLaws.{OddClauseIsTrue}
 
 -- ---- truths
 

@@ -3,7 +3,7 @@ pub mod Places
 pub mod Said
 pub mod Seen
 pub mod Told
-pub mod OddPartsLaws
+pub mod OddLaws
 pub mod Odd
 pub mod Parts
 pub mod Read

@@ -6,7 +6,7 @@ ghost use Rattle.closure_log.specs.Seen.{state_of, IsSetting};
 ghost use Rattle.closure_log.specs.Parts.{IsWideXor, IsPlacedLog, KeepsXorAt, KeepsXors};
 ghost use Rattle.closure_log.specs.Read.{PressesWhereRead, IsFalseWhereRead};
 
-use crate::odd_parts_laws::odd_clause_is_true;
+use crate::odd_laws::odd_clause_is_true;
 use crate::read::{Read, read_part};
 use atom_form::AtomNumbers;
 use congruence::lemma_of;

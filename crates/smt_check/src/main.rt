@@ -24,7 +24,7 @@
 //! 3 and 4 come only where the source's or the sink's count of faults rose, 6 only where as many
 //! calls of the source gave a byte or more as the budget has. At 3 and 6 nothing is settled.
 //!
-//! `words_of`: as that of `smt_program`.
+//! `words_of`: as that of `smt_top`.
 #![tactic(auto)]
 
 mod checking;

@@ -1,12 +1,10 @@
 //! The theory of equality and of whole numbers together, as a search asks it.
 //!
-//! `Combined`: calls of `theory_steps` over what they keep. At the end it shows its branches, with
-//! which each of its atoms is one of the check, and where a number left the range, if that ended
-//! the search.
+//! `Combined`: these calls over what they keep. At the end it shows its branches, with which each of
+//! its atoms is one of the check, and where a number left the range, if that ended the search.
 //!
-//! What a search over equality and whole numbers does at each call: literals are told to a closure
-//! of congruence and to bounds of sums, atoms get numbers on the way, and a model of both is
-//! evaluated before it is given.
+//! What is done at each call: literals are told to a closure of congruence and to bounds of sums,
+//! atoms get numbers on the way, and a model of both is evaluated before it is given.
 //!
 //! `begin`, `tell`, `undo_to`: each literal is told to the closure and to the bounds, and taken
 //! back exactly. What either breaks is a clause that is true under every interpretation and false

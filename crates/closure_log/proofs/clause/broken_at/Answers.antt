@@ -2,7 +2,7 @@ use Rattle.std.proofs.Common.{rules, ◌≡◌, ◌∷◌, ◌⊎◌, inl, inr, 
 use Rattle.closure_log.specs.Read.{LacksOne, IsRead}
 use Rattle.closure_log.specs.Parts.{IsWideXor}
 use Rattle.closure_log.proofs.Reading.{read_same}
-use Rattle.closure_log.proofs.OddPartsTelling.{keeps_lacking, keeps_read}
+use Rattle.closure_log.proofs.OddTelling.{keeps_lacking, keeps_read}
 use Rattle.closure_log.proofs.clause.broken_at.Goals as goal
 use Rattle.closure_log.proofs.clause.broken_at.Goals.{then-is_some-via-then-is_some, then-is_some-via-else-is_some+then-not-read}
 

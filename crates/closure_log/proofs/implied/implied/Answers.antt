@@ -4,7 +4,7 @@ use Rattle.smt_meaning.specs.Stack.{signature_of}
 use Rattle.point_closure.specs.declared.step.Step.{Step}
 use Rattle.congruence.specs.Implied.{Presses}
 use Rattle.closure_log.specs.Said.{AreSaid}
-use Rattle.closure_log.proofs.Pressing.{presses_here}
+use Rattle.closure_log.proofs.PressingLemmas.{presses_here}
 use Rattle.closure_log.proofs.implied.implied.Goals as goal
 
 pub returns-in-Some : goal.returns-in-Some

@@ -2,7 +2,7 @@ use Rattle.std.proofs.Common.{◌<◌, List, length, sym, subst, arith}
 use Rattle.search_port.specs.State.{IsPressing}
 use Rattle.search_port.specs.Calls.{AreNews}
 use Rattle.search_port.specs.declared.budget.Lemma.{Lemma}
-use Rattle.closure_log.proofs.Pressing.{news_of}
+use Rattle.closure_log.proofs.PressingLemmas.{news_of}
 use Rattle.closure_log.proofs.implied.inferred.Goals as goal
 
 pub returns : goal.returns

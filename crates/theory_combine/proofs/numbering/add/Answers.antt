@@ -5,7 +5,7 @@ use Rattle.theory_combine.specs.declared.errors.BoundError.TheVariants.{Memory}
 use Rattle.theory_combine.specs.declared.held.Held.{Held}
 use Rattle.theory_combine.specs.Errors.{IsErrorOver}
 use Rattle.theory_combine.specs.Numbering.{atom_of}
-use Rattle.theory_combine.proofs.TheoryStepsNumbers.{whole_more}
+use Rattle.theory_combine.proofs.NewAtoms.{whole_more}
 use Rattle.theory_combine.proofs.Growing.{grows_none}
 use Rattle.theory_combine.proofs.Telling.{adds_known, known_more}
 use Rattle.theory_combine.proofs.numbering.add.Goals as goal
