@@ -1,5 +1,5 @@
 pub mod Growing
-pub mod Pressing
+pub mod PressingLemmas
 pub mod Saying
 pub mod Scanning
 pub mod Setting
