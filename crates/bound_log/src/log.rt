@@ -298,9 +298,14 @@ impl BoundLog {
         self.bounds.value(term)
     }
 
-    /// Numbers by term, where the values are whole: those of the terms' variables, but moved within all bounds so that wanted terms have numbers of their own, as far as that is found. It promises nothing. An `Err` is for want of memory.
-    pub fn spread(&self, alloc: Global, wanted: &[bool]) -> Result<Option<Vec<i128>>, AllocError> {
-        self.bounds.spread(alloc, wanted)
+    /// Numbers by term, where the values are whole: those of the terms' variables, but moved within all bounds so that wanted terms have numbers of their own, which aren't taken, as far as that is found. It promises nothing. An `Err` is for want of memory.
+    pub fn spread(
+        &self,
+        alloc: Global,
+        wanted: &[bool],
+        taken: &[i128],
+    ) -> Result<Option<Vec<i128>>, AllocError> {
+        self.bounds.spread(alloc, wanted, taken)
     }
 
     /// The least variable of a term whose value isn't whole.

@@ -1,4 +1,4 @@
-//! Values spread apart: where the values of the variables are whole and meet all bounds, variables that aren't basic move by whole steps inside what their columns leave them, so that wanted terms have values that no other wanted one has.
+//! Values spread apart: where the values of the variables are whole and meet all bounds, variables that aren't basic move by whole steps inside what their columns leave them, so that wanted terms have values that no other wanted one has, and that aren't taken.
 //!
 //! It works on numbers of its own, and only guides the search for a model: no contract speaks of what it gives.
 ghost use Rattle.std.specs.Prelude.{◌≡◌, ◌<◌, length};
@@ -42,7 +42,7 @@ struct MovedValues {
     values: Vec<i128>,
     /// By variable: whether it is to have a value of its own.
     wanted: Vec<bool>,
-    /// By remainder how many of the wanted have such a value.
+    /// By remainder how many of the wanted have such a value, and how many of the numbers that are taken.
     counts: Vec<u32>,
     /// What a step of the variable moves that is looked at.
     pulls: Vec<Pull>,
@@ -154,11 +154,25 @@ impl MovedValues {
         }
     }
 
+    /// Counts a value.
+    fn add_value(&mut self, value: i128) {
+        let slot = self.slot(value);
+        if slot < self.counts.len() {
+            self.counts[slot] = self.counts[slot].saturating_add(1);
+        }
+    }
+
+    /// Counts all of these values.
+    fn add_values(&mut self, values: &[i128]) {
+        for value in values {
+            self.add_value(*value);
+        }
+    }
+
     /// Counts a variable's value, where it is wanted.
     fn add(&mut self, variable: u32) {
-        let slot = self.slot(self.value(variable));
-        if self.is_wanted(variable) && slot < self.counts.len() {
-            self.counts[slot] = self.counts[slot].saturating_add(1);
+        if self.is_wanted(variable) {
+            self.add_value(self.value(variable));
         }
     }
 
@@ -375,10 +389,7 @@ impl MovedValues {
         self.values.push(value)?;
         self.wanted.push(is_wanted)?;
         if is_wanted {
-            let slot = self.slot(value);
-            if slot < self.counts.len() {
-                self.counts[slot] = self.counts[slot].saturating_add(1);
-            }
+            self.add_value(value);
         }
         Ok(true)
     }
@@ -425,12 +436,13 @@ impl MovedValues {
     }
 }
 
-/// Numbers by term, as long as the list of the wanted, in which wanted terms have values of their own where that was found. `None` where not all values are whole.
+/// Numbers by term, as long as the list of the wanted, in which wanted terms have values of their own, which aren't taken, where that was found. `None` where not all values are whole.
 pub(crate) fn spread(
     alloc: Global,
     simplex: &Simplex,
     count: u32,
     wanted: &[bool],
+    taken: &[i128],
 ) -> Result<Option<Vec<i128>>, AllocError>
     requires { count ≡ length simplex.now.columns }
 {
@@ -444,6 +456,7 @@ pub(crate) fn spread(
     if !spread.take_all(simplex, count, wanted)? {
         return Ok(None);
     }
+    spread.add_values(taken);
     spread.move_all(simplex, count)?;
     let mut numbers = vec![in alloc; 0; wanted.len()]?;
     spread.write(simplex, count, &mut numbers);

@@ -348,9 +348,14 @@ impl SumBounds {
         first_fraction(&self.simplex, self.count)
     }
 
-    /// Numbers by term, where the values are whole: those of the terms' variables, but moved within all bounds so that wanted terms have numbers of their own, as far as that is found. This only guides a search: it promises nothing. An `Err` is for want of memory.
-    pub fn spread(&self, alloc: Global, wanted: &[bool]) -> Result<Option<Vec<i128>>, AllocError> {
-        spread(alloc, &self.simplex, self.count, wanted)
+    /// Numbers by term, where the values are whole: those of the terms' variables, but moved within all bounds so that wanted terms have numbers of their own, which aren't taken, as far as that is found. This only guides a search: it promises nothing. An `Err` is for want of memory.
+    pub fn spread(
+        &self,
+        alloc: Global,
+        wanted: &[bool],
+        taken: &[i128],
+    ) -> Result<Option<Vec<i128>>, AllocError> {
+        spread(alloc, &self.simplex, self.count, wanted, taken)
     }
 
     /// The most, or the least, that the bounds of the others in its row leave the sum of a variable. This only guides a search: it promises nothing.

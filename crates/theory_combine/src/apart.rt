@@ -77,6 +77,28 @@ fn mark_leaves(wanted: &mut [bool], store: &TermStore)
     }
 }
 
+/// The number of a term that is a numeral.
+fn numeral(store: &TermStore, wanted: &[bool], place: TermId) -> Option<i128> {
+    if place >= store.len() || place as usize >= wanted.len() || !wanted[place as usize] {
+        return None;
+    }
+    match store.node(place).head {
+        Head::Numeral(number) => Some(number),
+        _ => None,
+    }
+}
+
+/// The numbers of the marked numerals.
+fn numerals(alloc: Global, store: &TermStore, wanted: &[bool]) -> Result<Vec<i128>, AllocError> {
+    let mut numbers = Vec::new(alloc);
+    for place in 0..store.len() {
+        if let Some(number) = numeral(store, wanted, place) {
+            numbers.push(number)?;
+        }
+    }
+    Ok(numbers)
+}
+
 /// Numbers by term, where the values of the bounds are whole: moved within all bounds, so that terms have numbers of their own that tell applications or arguments of wide `distinct`s apart, as far as that is found. An `Err` is for want of memory.
 pub(crate) fn moved_numbers(
     alloc: Global,
@@ -93,5 +115,6 @@ pub(crate) fn moved_numbers(
     mark_applications(&mut wanted, store, marks);
     mark_distincts(&mut wanted, stack, wide_distincts);
     mark_leaves(&mut wanted, store);
-    held.bounds.spread(alloc, &wanted)
+    let taken = numerals(alloc, store, &wanted)?;
+    held.bounds.spread(alloc, &wanted, &taken)
 }

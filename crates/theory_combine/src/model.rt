@@ -1,5 +1,5 @@
 //! A model of what was told, from values, which is evaluated before it is given.
-ghost use Rattle.std.specs.Prelude.{◌≡◌, length, IfOk};
+ghost use Rattle.std.specs.Prelude.{◌≡◌, ◌<◌, length, IfOk};
 ghost use Rattle.smt_meaning.specs.Interpretation.{AreTablesFor};
 ghost use Rattle.smt_meaning.specs.Stack.{signature_of, assertions_of};
 ghost use Rattle.model_build.specs.Building.{AreGiven};
