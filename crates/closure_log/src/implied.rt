@@ -207,9 +207,8 @@ fn find_implied(
         let Some(atom) = scan.next(atoms.len()) else {
             return Ok(clauses);
         };
-        if let Some(clause) = scan_atom(alloc, told, scan, stack, atoms, guide, atom)? {
-            clauses.push(clause)?;
-        }
+        let found = scan_atom(alloc, told, scan, stack, atoms, guide, atom)?;
+        keep(&mut clauses, found)?;
     }
     Ok(clauses)
 }

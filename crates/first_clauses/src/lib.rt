@@ -5,10 +5,10 @@
 //! true is one of them, and together they force the clauses of every part.
 //!
 //! `check_clauses`: in the store that a search begins with each clause follows, also that two
-//! equalities of a triangle give the third, and that a disjunction whose two cases lead from one term
-//! to the same other says that they are equal. Each assertion is one, of each part the clauses of its
+//! equalities of a triangle give the third. Each assertion is one, of each part the clauses of its
 //! operator are kept, the longer ones with what negations negate, and together they force every
-//! node clause of every part.
+//! node clause of every part. Where both cases of a disjunction lead from one term to the same other,
+//! there is a clause that it makes them equal.
 //!
 //! `first_clauses_say_standing`: what makes them true has a bound of each list that stands whatever is
 //! decided, the bounds that conjuncts of assertions say and the clauses of divisions.

@@ -1,6 +1,6 @@
 -- What the parts of workers come to, one after the other, and at the end.
 use Rattle.std.proofs.Common.{◌≡◌, ℕ, ◌+◌, ◌<◌, ℤ, List, [], ◌∷◌, ◌++◌, map, length, get_or, sym, refl, ap, ◌∙◌, subst, arith, All}
-use Rattle.std.specs.Prelude.{true, Option, Some, None, IfSome, Contains}
+use Rattle.std.specs.Prelude.{true, Option, Some, None, IfSome, Contains, Result, Ok, Err, IfOk}
 use Rattle.std.specs.List.{range_with_len}
 use Rattle.std.proofs.lemmas.List.{map-append}
 use Rattle.std.proofs.lemmas.List.Elements.{All-nil, All-push, Contains-append_left, Contains-push}
@@ -119,6 +119,10 @@ boxed_ends law n ts frames limit verdict.Unsat h boxed few none = tt
 boxed_ends law n ts frames limit (verdict.Unknown rs) h boxed few none = λ k r lt first us e.
     let s : Report = get_or rs k r in
     law ts frames limit s.branches us few.atoms none boxed few.each few.few (subst (λ c. Shows ts frames limit 0 s.branches c) e (subst (λ w. Shows ts frames limit w s.branches s.cause) first (h.shown k r lt)))
+
+pub boxed_ends_ok : {E : Type 0} → BoxedStacksAreNotSpent → (n : ℕ) (ts : List Tree) (frames : List Frame) (limit : ℤ) (r : Result Verdict E) → IfOk r (IsVerdict n ts frames limit) → IfOk r (BoxedIsNotSpent ts frames limit)
+boxed_ends_ok law n ts frames limit (Ok v) h = boxed_ends law n ts frames limit v h
+boxed_ends_ok law n ts frames limit (Err e) h = tt
 
 -- ---- nothing declared and nothing asserted
 

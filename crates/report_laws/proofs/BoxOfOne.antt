@@ -1,7 +1,6 @@
 -- The atoms of (assert (<= 0 x 1)).
-use Rattle.std.proofs.Common.{◌≡◌, ℕ, zero, suc, ◌+◌, ◌<◌, ◌^◌, ◌⊎◌, inl, inr, ℤ, pos, negsuc, neg_ℤ, ◌≤ℤ◌, sym, ap, ◌∙◌, subst, refl, arith, List, [], ◌∷◌, length, Bool, true, false, Some, Contains}
+use Rattle.std.proofs.Common.{◌≡◌, ℕ, zero, suc, ◌+◌, ◌<◌, ◌^◌, ◌⊎◌, inl, inr, ℤ, pos, negsuc, neg_ℤ, ◌≤ℤ◌, sym, ap, ◌∙◌, subst, refl, arith, List, [], ◌∷◌, length, true, false, Some, Contains}
 use Rattle.std.proofs.lemmas.Int.{ints}
-use Rattle.fraction128.specs.declared.Summand.{Summand as GridSummand}
 use Rattle.fraction128.specs.Gcd.{gcd_of}
 use Rattle.fraction128.specs.Grid.{leaf, turned}
 use Rattle.smt_meaning.specs.declared.values.Sort.TheVariants.{Int as Ints}
@@ -14,7 +13,7 @@ use Rattle.smt_meaning.specs.Signature.{tree_sort}
 use Rattle.smt_meaning.specs.Stack.{signature_of}
 use Rattle.smt_meaning.specs.Atoms.{stack_atoms, pair_atoms}
 use Rattle.smt_meaning.specs.Boxes.{IsInBox, asserted_atoms, term_at_most, negation_at_most}
-use Rattle.smt_meaning.specs.CheckAtoms.{IsPartOfStack, IsLeaf, is_leaf, ComparesParts, BoundsInBox, IsFirstAtom, IsKnownSum, grid_sum}
+use Rattle.smt_meaning.specs.CheckAtoms.{IsPartOfStack, IsLeaf, is_leaf, ComparesParts, BoundsInBox, IsKnownSum, grid_sum}
 use Rattle.smt_meaning.specs.Report.{most_units}
 use Rattle.report_laws.specs.OneLeaf.{IsOverOneLeaf}
 use Rattle.report_laws.specs.Five.{x}
@@ -24,10 +23,10 @@ use Rattle.report_laws.proofs.Limited.{one_leaf}
 
 -- ---- parts
 
-abbrev IsNumber : Tree → Type 0
+abbrev pub IsNumber : Tree → Type 0
 IsNumber t = (t ≡ nought) ⊎ ((t ≡ x) ⊎ (t ≡ one))
 
-part_is : (t : Tree) → IsPartOfStack frames t → (t ≡ chain) ⊎ IsNumber t
+pub part_is : (t : Tree) → IsPartOfStack frames t → (t ≡ chain) ⊎ IsNumber t
 part_is t h = by_assertion h.assertion h.asserted h.part
   where
     by : IsPart t chain → (t ≡ chain) ⊎ IsNumber t

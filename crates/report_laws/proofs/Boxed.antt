@@ -1,11 +1,10 @@
 -- A branch stays in its leaf's box, so the units of a worker without a limit are few.
-use Rattle.std.proofs.Common.{◌≡◌, ◌≢◌, ◌⊎◌, inl, inr, ℕ, zero, suc, ◌<◌, ◌≤◌, ◌*◌, ◌^◌, ℤ, pos, negsuc, ◌+ℤ◌, ◌-ℤ◌, ◌*ℤ◌, ◌≤ℤ◌, ◌<ℤ◌, neg_ℤ, unsigned_abs, sym, ap, ◌∙◌, subst, refl, arith, List, [], ◌∷◌, ◌++◌, map, length, Contains, Bool, true, false, Some, None}
+use Rattle.std.proofs.Common.{◌≡◌, ◌≢◌, ◌⊎◌, inl, inr, ℕ, zero, suc, ◌<◌, ◌≤◌, ◌*◌, ◌^◌, ℤ, pos, negsuc, ◌+ℤ◌, ◌-ℤ◌, ◌*ℤ◌, ◌≤ℤ◌, ◌<ℤ◌, neg_ℤ, unsigned_abs, sym, ap, ◌∙◌, subst, refl, arith, List, [], ◌∷◌, ◌++◌, length, Contains, Bool, true, false, Some, None}
 use Rattle.std.specs.Int.{◌∣◌}
 use Rattle.std.specs.Prelude.{int_lt, min, if◌then◌else◌}
 use Rattle.std.proofs.lemmas.Int.{ints}
 use Rattle.std.proofs.Math.Nat.{le_of_dvd, mul_comm}
-use Rattle.std.proofs.lemmas.List.{get_or_past, length-map}
-use Rattle.std.proofs.lemmas.List.Elements.{Contains-append_left, Contains-append_right, Contains-append_cases}
+use Rattle.std.proofs.lemmas.List.{get_or_past}
 use Rattle.fraction128.specs.declared.Summand.{Summand}
 use Rattle.fraction128.specs.declared.Member.{Member}
 use Rattle.fraction128.specs.declared.Column.{Column}
@@ -109,7 +108,7 @@ module _ (n : ℤ) (d : ℕ) (c : ℤ) where
       let a : (pos 1 *ℤ n) *ℤ pos 1 +ℤ pos 0 *ℤ pos (1 * d) ≡ n = solve wholes (n ∷ pos (1 * d) ∷ []) (sum (product (product unit (var 0)) unit) (product nothing (var 1))) (var 0) refl in
       subst (λ (e : ℕ). n ≤ℤ (c *ℤ pos e)) one_times (subst (λ (z : ℤ). z ≤ℤ (c *ℤ pos ((1 * d) * 1))) a h)
 
-  negation_is : ((negsuc 0 *ℤ n) *ℤ pos 1 +ℤ pos 0 *ℤ pos (1 * d)) ≤ℤ (c *ℤ pos ((1 * d) * 1)) → (neg_ℤ c *ℤ pos d) ≤ℤ n
+  pub negation_is : ((negsuc 0 *ℤ n) *ℤ pos 1 +ℤ pos 0 *ℤ pos (1 * d)) ≤ℤ (c *ℤ pos ((1 * d) * 1)) → (neg_ℤ c *ℤ pos d) ≤ℤ n
   negation_is h =
       let a : (negsuc 0 *ℤ n) *ℤ pos 1 +ℤ pos 0 *ℤ pos (1 * d) ≡ neg_ℤ n =
       solve wholes (n ∷ pos (1 * d) ∷ []) (sum (product (product (minus unit) (var 0)) unit) (product nothing (var 1))) (minus (var 0)) refl in
@@ -126,7 +125,7 @@ first_term : List Summand → ℕ
 first_term [] = 0
 first_term (p ∷ ps) = p.term
 
-leaf_is : (s t : ℕ) → leaf s ≡ leaf t → s ≡ t
+pub leaf_is : (s t : ℕ) → leaf s ≡ leaf t → s ≡ t
 unfolding first_term
 leaf_is s t e = ap first_term e
 

@@ -1,7 +1,7 @@
 -- The list of a check's atoms has each, and is short.
 use Rattle.std.specs.Prelude.{flat_map, ◌&&◌, int_le, nat_eq, if◌then◌else◌}
 use Rattle.std.specs.List.{range_with_len}
-use Rattle.std.proofs.Common.{◌≡◌, ◌⊎◌, inl, inr, ℕ, zero, suc, ◌+◌, ◌*◌, ◌<◌, ◌≤◌, ◌^◌, ℤ, pos, negsuc, ◌+ℤ◌, ◌-ℤ◌, ◌≤ℤ◌, neg_ℤ, sym, ap, ◌∙◌, subst, refl, arith, List, [], ◌∷◌, ◌++◌, map, length, Contains, Bool, true, false, eq-eqb, eqb-true, ap₂}
+use Rattle.std.proofs.Common.{◌≡◌, inl, inr, ℕ, zero, suc, ◌+◌, ◌*◌, ◌<◌, ◌≤◌, ℤ, pos, negsuc, ◌+ℤ◌, ◌-ℤ◌, ◌≤ℤ◌, neg_ℤ, sym, ap, subst, refl, arith, List, [], ◌∷◌, ◌++◌, map, length, Contains, Bool, true, false, eq-eqb, eqb-true, ap₂}
 use Rattle.std.proofs.lemmas.Int.{ints}
 use Rattle.std.proofs.Math.Nat.{mul-suc, mul_assoc}
 use Rattle.std.proofs.lemmas.List.{length-append}
@@ -17,7 +17,7 @@ use Rattle.smt_meaning.specs.Signature.{tree_sort, is_int}
 use Rattle.smt_meaning.specs.Stack.{Frame, signature_of, assertions_of}
 use Rattle.smt_meaning.specs.Atoms.{pair_atoms, stack_atoms, at_most_atom}
 use Rattle.smt_meaning.specs.Boxes.{IsInBox, asserted_atoms, term_at_most, negation_at_most}
-use Rattle.smt_meaning.specs.CheckAtoms.{IsPartOfStack, ComparesParts, BoundsInBox, IsFirstAtom}
+use Rattle.smt_meaning.specs.CheckAtoms.{ComparesParts, BoundsInBox}
 use Rattle.report_laws.proofs.Listed.{in_cons, in_none}
 use Rattle.report_laws.proofs.Counted.{first_in, later_in, in_list, from_list}
 use Rattle.report_laws.proofs.Boxed.{boxed_not_spent}

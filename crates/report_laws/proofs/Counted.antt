@@ -1,5 +1,5 @@
 -- Lists whose items each have one of another list for themselves, so that they aren't longer than it.
-use Rattle.std.proofs.Common.{◌≡◌, ◌⊎◌, inl, inr, ℕ, zero, suc, ◌≤◌, sym, ap, ◌∙◌, subst, refl, arith, List, [], ◌∷◌, ◌++◌, map, length, Contains}
+use Rattle.std.proofs.Common.{◌≡◌, inl, inr, suc, ◌≤◌, sym, ap, ◌∙◌, subst, refl, arith, List, [], ◌∷◌, ◌++◌, map, length, Contains}
 use Rattle.std.proofs.lemmas.List.Elements.{Contains-append_left, Contains-append_right, Contains-append_cases}
 use Rattle.report_laws.proofs.Listed.{in_cons, in_none}
 

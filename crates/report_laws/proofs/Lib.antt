@@ -12,3 +12,5 @@ mod Boxed
 mod BoxOfFive
 mod BoxOfOne
 mod BoxedAtoms
+mod Branch
+mod Repeated

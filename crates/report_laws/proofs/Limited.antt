@@ -1,5 +1,5 @@
 -- Clauses over few atoms are few.
-use Rattle.std.proofs.Common.{◌≡◌, ◌≢◌, ◌⊎◌, inl, inr, ℕ, zero, suc, ◌+◌, ◌*◌, ◌<◌, ◌≤◌, ◌^◌, sym, ap, ap₂, ◌∙◌, subst, refl, arith, List, [], ◌∷◌, ◌++◌, map, length, Contains, Bool, true, false, All, ℤ}
+use Rattle.std.proofs.Common.{◌≡◌, ◌≢◌, ◌⊎◌, inl, inr, ℕ, zero, suc, ◌+◌, ◌*◌, ◌≤◌, ◌^◌, sym, ap, ap₂, ◌∙◌, subst, refl, arith, List, [], ◌∷◌, ◌++◌, map, length, Contains, Bool, true, false, ℤ}
 use Rattle.std.specs.Prelude.{AllPairs}
 use Rattle.std.proofs.Math.Nat.{pow-suc}
 use Rattle.std.proofs.lemmas.List.{length-map, length-append, append_assoc}
@@ -13,13 +13,13 @@ use Rattle.smt_meaning.specs.declared.reports.Unit.{Unit as Spent}
 use Rattle.smt_meaning.specs.declared.reports.Unit.TheVariants.{Numbered, Learnt, Pivot}
 use Rattle.smt_meaning.specs.Term.{Tree}
 use Rattle.smt_meaning.specs.Stack.{Frame}
-use Rattle.smt_meaning.specs.Forced.{Reaches, Conflicts, Forces}
+use Rattle.smt_meaning.specs.Forced.{Reaches, Forces}
 use Rattle.smt_meaning.specs.CheckAtoms.{IsCheckAtom}
 use Rattle.smt_meaning.specs.Report.{negated, IsKept, IsGiven, most_units, IsLearnt, IsUnit, AreUnits}
 use Rattle.report_laws.proofs.Listed.{in_cons, in_none}
-use Rattle.report_laws.proofs.Counted.{AreApart, no_longer, apart_by, Split, split_at, first_in, later_in, middle_in, without, with_middle, in_list, from_list}
+use Rattle.report_laws.proofs.Counted.{AreApart, no_longer, apart_by, split_at, first_in, later_in, middle_in, without, with_middle, in_list, from_list}
 use Rattle.report_laws.proofs.OneLeaf.{no_branches, no_pivots}
-use Rattle.report_laws.specs.Limited.{HasNoPivots, AllCount, FewUnitsAreNotSpent, OneLeafIsNotSpent}
+use Rattle.report_laws.specs.Limited.{AllCount, FewUnitsAreNotSpent, OneLeafIsNotSpent}
 
 -- ---- literals over different atoms
 

@@ -2,7 +2,7 @@
 use Rattle.std.specs.Prelude.{◌≡◌, ℕ, zero, suc, ◌+◌, ◌*◌, ◌<◌, ◌≤◌, ◌^◌, ◌&&◌, true, nat_eq, List, [], ◌∷◌, ◌++◌, map, flat_map, length, Contains, ℤ, pos, negsuc, ◌+ℤ◌, ◌-ℤ◌, neg_ℤ, int_le, if◌then◌else◌}
 use Rattle.std.specs.List.{range_with_len}
 use Rattle.smt_meaning.specs.declared.clauses.Atom.{Atom}
-use Rattle.smt_meaning.specs.declared.clauses.Atom.TheVariants.{Truth, AtMost, Same}
+use Rattle.smt_meaning.specs.declared.clauses.Atom.TheVariants.{AtMost}
 use Rattle.smt_meaning.specs.declared.reports.Unit.{Unit as Spent}
 use Rattle.smt_meaning.specs.Term.{Tree, Trees, node, none, more, int_eq}
 use Rattle.smt_meaning.specs.Stack.{Frame, signature_of, assertions_of}
