@@ -1,10 +1,10 @@
 -- What is kept beside the terms stays right as terms and declarations come and go.
 use Rattle.std.proofs.Common.{◌≡◌, ◌≢◌, ◌∙◌, append_assoc, filter, ◌⊎◌, inl, inr, sym, refl, ap, subst, ℕ, zero, suc, ◌+◌, ◌-◌, ◌<◌, ◌≤◌, List, [], ◌∷◌, ◌++◌, All, take, drop, length, replicate, arith, not, ◌&&◌, Option, Some, None, nat_eq, Result, Ok, Err, Bool, true, false, append-nil, slice_index, slice_index_or}
 use Rattle.std.specs.Prelude.{ℤ, if◌then◌else◌}
-use Rattle.std.proofs.lemmas.Bool.{ne_eqb}
+use Rattle.std.proofs.lemmas.Bool.{ne_eqb, eqb-true}
 use Rattle.std.proofs.lemmas.Grind.{flat_map-append}
 use Rattle.std.proofs.lemmas.List.{take-append-drop, length-take, get_or-take}
-use Rattle.std.proofs.lemmas.List.Elements.{All-nil, All-cons, All-head, All-tail, All-weaker}
+use Rattle.std.proofs.lemmas.List.Elements.{All-nil, All-cons, All-head, All-tail, All-append, All-weaker}
 use Rattle.smt_meaning.specs.declared.values.Sort.{Sort}
 use Rattle.smt_meaning.specs.declared.values.Sort.TheVariants.{Bool as Truths, Int as Ints}
 use Rattle.smt_meaning.specs.declared.terms.Operator.{Operator}
@@ -19,6 +19,7 @@ use Rattle.smt_meaning.specs.Clause.{symbols, symbols_of, head_symbols}
 use Rattle.smt_meaning.specs.StackCommand.{Change}
 use Rattle.smt_meaning.specs.Sorts.{Judging}
 use Rattle.smt_sorts.specs.Names.{Names, all_of_levels, signature, gaining, with_declaration, with_levels, without_levels, cleared, base_of, based, HasGained}
+use Rattle.smt_laws.proofs.Both.{and_left}
 use Rattle.term_store.specs.Terms.{Terms, tree_with}
 use Rattle.elaborate.specs.Values.{IsLonger}
 use Rattle.scope_stack.specs.declared.answers.Assertion.{Assertion}

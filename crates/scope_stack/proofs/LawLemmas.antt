@@ -1,5 +1,5 @@
 -- What is true of each stack that commands give.
-use Rattle.std.proofs.Common.{◌<◌, All, subst}
+use Rattle.std.proofs.Common.{ℕ, ◌<◌, All, subst}
 use Rattle.std.proofs.lemmas.List.Elements.{All-get_or}
 use Rattle.smt_meaning.specs.declared.terms.Operator.TheVariants.{False}
 use Rattle.smt_meaning.specs.declared.terms.Head.TheVariants.{Theory}

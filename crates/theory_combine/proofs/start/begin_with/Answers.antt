@@ -1,4 +1,4 @@
-use Rattle.std.proofs.Common.{rules, ◌∙◌, ◌+◌, ◌<◌, ◌^◌, List, [], length, sym, subst}
+use Rattle.std.proofs.Common.{rules, ◌≡◌, ◌∙◌, ◌+◌, ◌<◌, ◌^◌, true, List, [], length, sym, subst}
 use Rattle.literals.specs.Signed.{Signed}
 use Rattle.term_store.specs.Terms.{AreDifferent}
 use Rattle.bound_log.specs.Told.{column_sums}
