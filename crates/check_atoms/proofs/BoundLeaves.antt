@@ -26,14 +26,14 @@ module _ (s : Stack) (marks : List Bool) (law : IsLawful s) (parts : AreStackPar
   leaf_at p m u q leaf int =
       let whole = parts.only p m in
       let there = parts.each u (record { assertion = whole.assertion; asserted = whole.asserted; part = part_of_part u (tree_at s.trees p) whole.assertion q whole.part }) in
-      let short : there.0 < length marks = below marks there.0 there.1.0 in
+      let short : there.0 < length marks = below marks there.0 there.1 in
       let inside : there.0 < length s.trees = omega (arith, size, short) in
-      subst (IsIntLeaf s marks) (sym (place_of-is u s.trees there.0 different inside there.1.1))
+      subst (IsIntLeaf s marks) (sym (place_of-is u s.trees there.0 different inside there.2))
       (record {
         within = inside;
-        marked = there.1.0;
-        int = subst (λ v. tree_sort (signature_of s.frames) v ≡ Some Ints) (sym there.1.1) int;
-        leaf = subst (λ v. is_leaf v ≡ true) (sym there.1.1) leaf;
+        marked = there.1;
+        int = subst (λ v. tree_sort (signature_of s.frames) v ≡ Some Ints) (sym there.2) int;
+        leaf = subst (λ v. is_leaf v ≡ true) (sym there.2) leaf;
       })
 
 pub bounds_over_leaves : BoundsAreOverLeaves
