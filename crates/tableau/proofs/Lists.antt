@@ -1,9 +1,11 @@
 -- Lists of places, and lists of such lists.
-use Rattle.std.proofs.Common.{◌≡◌, ◌≢◌, ℕ, zero, suc, ◌+◌, ◌<◌, ◌≤◌, ◌⊎◌, inl, inr, List, [], ◌∷◌, ◌++◌, pos, true, length, take, drop, get_or, set, Contains, Vec, refl, sym, ap, ◌∙◌, subst, arith}
+use Rattle.std.proofs.Common.{◌≡◌, ◌≢◌, ℕ, zero, suc, ◌+◌, ◌<◌, ◌≤◌, ◌⊎◌, inl, inr, Bool, List, [], ◌∷◌, ◌++◌, pos, true, nat_eq, eqb-true, length, take, get_or, set, Contains, Vec, refl, sym, ap, ◌∙◌, subst, arith}
 use Rattle.std.proofs.lemmas.Bool.{cases_eq, cases_lt}
-use Rattle.std.proofs.lemmas.List.{take_more, take_all, take-append-drop, get_or_default}
-use Rattle.std.proofs.lemmas.List.Elements.{Contains-append_left, Contains-append_right, Contains-append_cases, Contains-push, Contains-push_cases}
-use Rattle.std.specs.List.{insert, remove}
+use Rattle.std.proofs.lemmas.List.{take_more, take_all, get_or_default}
+use Rattle.std.proofs.lemmas.List.Elements.{Contains-append_left, Contains-push, Contains-push_cases}
+use Rattle.std.specs.List.Sorted.{IsPermutation}
+use Rattle.std.specs.List.{swap_remove as holes}
+use Rattle.std.proofs.lemmas.List.Sorted.{IsPermutation-swap_remove, Contains-permutation}
 use Rattle.fraction128.specs.Number.{whole}
 use Rattle.fraction128.specs.declared.Entry.{Entry}
 use Rattle.tableau.specs.declared.holders.Change.{Change}
@@ -52,29 +54,13 @@ one_more {Q = Q} ks n len lt kept new before k d lk h = by_same (cases_eq (get_o
     by_same (inl e) = subst (λ m. Q m d) e (new (subst (λ m. m < len) (sym e) lk) d)
     by_same (inr ne) = by_case ne (taken ks n (get_or ks n 0) k lt (get_or_default ks n 0 (get_or ks n 0) lt) h)
 
--- the numbers stay where one is put in
-pub insert_keeps : (xs : List ℕ) (i x k : ℕ) → Contains xs k → Contains (insert xs i x) k
-insert_keeps xs i x k h = by_case (Contains-append_cases (take i xs) (drop i xs) k (subst (λ ys. Contains ys k) (sym (take-append-drop i xs)) h))
-  where
-    later : Contains (drop i xs) k → Contains (x ∷ drop i xs) k
-    later (n, l, e) = (suc n, omega (arith, l), e)
-
-    by_case : Contains (take i xs) k ⊎ Contains (drop i xs) k → Contains (insert xs i x) k
-    by_case (inl c) = Contains-append_left (take i xs) (x ∷ drop i xs) k c
-    by_case (inr c) = Contains-append_right (take i xs) (x ∷ drop i xs) k (later c)
-
-pub insert_has : (xs : List ℕ) (i x : ℕ) → Contains (insert xs i x) x
-insert_has xs i x = Contains-append_right (take i xs) (x ∷ drop i xs) x (zero, omega arith, refl)
-
 -- another number stays where one is taken out
-pub stays : (xs : List ℕ) (i x k : ℕ) → i < length xs → x ≡ get_or xs i x → k ≢ x → Contains xs k → Contains (remove xs i) k
-stays [] i x k lt is ne h = absurd (omega (arith, lt))
-stays (y ∷ ys) zero x k lt is ne (zero, l, e) = absurd (ne (sym e ∙ sym is))
-stays (y ∷ ys) zero x k lt is ne (suc n, l, e) = (n, omega (arith, l), e)
-stays (y ∷ ys) (suc i) x k lt is ne (zero, l, e) = (zero, omega arith, e)
-stays (y ∷ ys) (suc i) x k lt is ne (suc n, l, e) =
-    let r = stays ys i x k (omega (arith, lt)) is ne (n, omega (arith, l), e) in
-    (suc r.0, let m = r.1 in omega (arith, m), r.2)
+pub stays : (xs : List ℕ) (i x k : ℕ) → i < length xs → x ≡ get_or xs i x → k ≢ x → Contains xs k → (ys : List ℕ) → ys ≡ holes xs i x → Contains ys k
+stays xs i x k lt is ne h ys e = rest (Contains-permutation xs (x ∷ ys) k (subst (λ zs. IsPermutation xs (x ∷ zs)) (sym e) (IsPermutation-swap_remove xs i x lt is)) h)
+  where
+    rest : Contains (x ∷ ys) k → Contains ys k
+    rest (zero, l, w) = absurd (ne (sym w))
+    rest (suc n, l, w) = (n, omega (arith, l), w)
 
 -- ---- lists in a list
 
@@ -115,20 +101,20 @@ set_same vs i v lt is j = by_case (cases_eq j i)
     by_case (inr ne) = items_set_other vs i j v ne
 
 -- the list of i with more
-pub set_keeps : {Z : Type 0} (vs : List (Vec ℕ Z)) (i : ℕ) (v : Vec ℕ Z) (n x : ℕ) → i < length vs → v.items ≡ insert (items_at vs i) n x → (j k : ℕ) → Contains (items_at vs j) k → Contains (items_at (set vs i v) j) k
-set_keeps vs i v n x lt is j k h = by_case (cases_eq j i)
+pub set_keeps : {Z : Type 0} (vs : List (Vec ℕ Z)) (i : ℕ) (v : Vec ℕ Z) (x : ℕ) → i < length vs → v.items ≡ items_at vs i ++ x ∷ [] → (j k : ℕ) → Contains (items_at vs j) k → Contains (items_at (set vs i v) j) k
+set_keeps vs i v x lt is j k h = by_case (cases_eq j i)
   where
     by_case : (j ≡ i) ⊎ (j ≡ i → ⊥) → Contains (items_at (set vs i v) j) k
     by_case (inl e) =
-        subst (λ m. Contains (items_at (set vs i v) m) k) (sym e)
-        (subst (λ ys. Contains ys k) (sym (items_set vs i v lt ∙ is)) (insert_keeps (items_at vs i) n x k (subst (λ m. Contains (items_at vs m) k) e h)))
+        subst (λ n. Contains (items_at (set vs i v) n) k) (sym e)
+        (subst (λ ys. Contains ys k) (sym (items_set vs i v lt ∙ is)) (Contains-append_left (items_at vs i) (x ∷ []) k (subst (λ n. Contains (items_at vs n) k) e h)))
     by_case (inr ne) = subst (λ ys. Contains ys k) (sym (items_set_other vs i j v ne)) h
 
-pub set_has : {Z : Type 0} (vs : List (Vec ℕ Z)) (i : ℕ) (v : Vec ℕ Z) (n x : ℕ) → i < length vs → v.items ≡ insert (items_at vs i) n x → Contains (items_at (set vs i v) i) x
-set_has vs i v n x lt is = subst (λ ys. Contains ys x) (sym (items_set vs i v lt ∙ is)) (insert_has (items_at vs i) n x)
+pub set_has : {Z : Type 0} (vs : List (Vec ℕ Z)) (i : ℕ) (v : Vec ℕ Z) (x : ℕ) → i < length vs → v.items ≡ items_at vs i ++ x ∷ [] → Contains (items_at (set vs i v) i) x
+set_has vs i v x lt is = subst (λ ys. Contains ys x) (sym (items_set vs i v lt ∙ is)) (Contains-push (items_at vs i) x)
 
 -- the list of a without p
-pub removed : {Z : Type 0} (vs : List (Vec ℕ Z)) (a p n x : ℕ) (w v : Vec ℕ Z) → a < length vs → w.items ≡ items_at vs a → n < length w.items → x ≡ get_or w.items n x → x ≡ p → v.items ≡ remove w.items n
+pub removed : {Z : Type 0} (vs : List (Vec ℕ Z)) (a p n x : ℕ) (w v : Vec ℕ Z) → a < length vs → w.items ≡ items_at vs a → n < length w.items → x ≡ get_or w.items n x → x ≡ p → v.items ≡ holes w.items n x
     → (j k : ℕ) → (j ≢ a) ⊎ (k ≢ p) → Contains (items_at vs j) k → Contains (items_at (set vs a v) j) k
 removed vs a p n x w v la here ln at is e j k apart h = by_case (cases_eq j a) apart
   where
@@ -137,51 +123,53 @@ removed vs a p n x w v la here ln at is e j k apart h = by_case (cases_eq j a) a
     by_case (inl s) (inl ne) = absurd (ne s)
     by_case (inl s) (inr ne) =
         subst (λ ys. Contains ys k) (sym (ap (items_at (set vs a v)) s ∙ items_set vs a v la))
-        (subst (λ ys. Contains ys k) (sym e) (stays w.items n x k ln at (λ y. ne (y ∙ is)) (subst (λ ys. Contains ys k) (ap (items_at vs) s ∙ sym here) h)))
+        (stays w.items n x k ln at (λ y. ne (y ∙ is)) (subst (λ ys. Contains ys k) (ap (items_at vs) s ∙ sym here) h) v.items e)
 
 -- ---- entries
 
 pub item_variable : (es : List Entry) (n : ℕ) (x : Entry) → n < length es → x ≡ get_or es n x → x.variable ≡ variable_at es n
 item_variable es n x lt is = ap (λ (e : Entry). e.variable) (is ∙ get_or_default es n x (entry 0 (whole (pos 0))) lt)
 
-pub is_there : (es : List Entry) (here v : ℕ) (x : Entry) → here < length es → (get_or es here x).variable ≡ v → HasVariable v es
-is_there es here v x lt e = (here, lt, ap (λ (y : Entry). y.variable) (get_or_default es here (entry 0 (whole (pos 0))) x lt) ∙ e)
+pub is_there : (es : List Entry) (here v : ℕ) (x : Entry) → here < length es → nat_eq (get_or es here x).variable v ≡ true → HasVariable v es
+is_there es here v x lt e = (here, lt, ap (λ (y : Entry). y.variable) (get_or_default es here (entry 0 (whole (pos 0))) x lt) ∙ eqb-true (get_or es here x).variable v e)
 
 -- one more entry is among the others, or noted
-pub noted_more : (es others : List Entry) (n place : ℕ) (before now : List Change) (x : Entry) → n < length es → x ≡ get_or es n x
+pub noted_more : (es others : List Entry) (n place : ℕ) (b : Bool) (before now : List Change) (x : Entry) → n < length es → x ≡ get_or es n x
     → ((y : Change) → Contains before y → Contains now y)
-    → HasVariable x.variable others ⊎ Contains now (let y : Change = record { variable = x.variable; place = place; gained = true } in y)
-    → ((i : ℕ) → i < n → HasVariable (variable_at es i) others ⊎ Contains before (let y : Change = record { variable = variable_at es i; place = place; gained = true } in y))
-    → (i : ℕ) → i < n + 1 → HasVariable (variable_at es i) others ⊎ Contains now (let y : Change = record { variable = variable_at es i; place = place; gained = true } in y)
-noted_more es others n place before now x lt is kept new so_far i li = by_order (cases_lt i n)
+    → HasVariable x.variable others ⊎ Contains now (let y : Change = record { variable = x.variable; place = place; gained = b } in y)
+    → ((i : ℕ) → i < n → HasVariable (variable_at es i) others ⊎ Contains before (let y : Change = record { variable = variable_at es i; place = place; gained = b } in y))
+    → (i : ℕ) → i < n + 1 → HasVariable (variable_at es i) others ⊎ Contains now (let y : Change = record { variable = variable_at es i; place = place; gained = b } in y)
+noted_more es others n place b before now x lt is kept new so_far i li = by_order (cases_lt i n)
   where
-    later : (v : ℕ) → HasVariable v others ⊎ Contains before (let y : Change = record { variable = v; place = place; gained = true } in y)
-        → HasVariable v others ⊎ Contains now (let y : Change = record { variable = v; place = place; gained = true } in y)
+    later : (v : ℕ) → HasVariable v others ⊎ Contains before (let y : Change = record { variable = v; place = place; gained = b } in y)
+        → HasVariable v others ⊎ Contains now (let y : Change = record { variable = v; place = place; gained = b } in y)
     later v (inl h) = inl h
-    later v (inr h) = inr (kept (record { variable = v; place = place; gained = true }) h)
+    later v (inr h) = inr (kept (record { variable = v; place = place; gained = b }) h)
 
-    by_order : (i < n) ⊎ (n ≤ i) → HasVariable (variable_at es i) others ⊎ Contains now (let y : Change = record { variable = variable_at es i; place = place; gained = true } in y)
+    by_order : (i < n) ⊎ (n ≤ i) → HasVariable (variable_at es i) others ⊎ Contains now (let y : Change = record { variable = variable_at es i; place = place; gained = b } in y)
     by_order (inl l) = later (variable_at es i) (so_far i l)
     by_order (inr ge) =
         let same : n ≡ i = omega (arith, li, ge) in
-        subst (λ m. HasVariable (variable_at es m) others ⊎ Contains now (let y : Change = record { variable = variable_at es m; place = place; gained = true } in y)) same
-        (subst (λ v. HasVariable v others ⊎ Contains now (let y : Change = record { variable = v; place = place; gained = true } in y)) (item_variable es n x lt is) new)
+        subst (λ m. HasVariable (variable_at es m) others ⊎ Contains now (let y : Change = record { variable = variable_at es m; place = place; gained = b } in y)) same
+        (subst (λ v. HasVariable v others ⊎ Contains now (let y : Change = record { variable = v; place = place; gained = b } in y)) (item_variable es n x lt is) new)
 
 -- all entries are among the others, or noted
-pub noted_all : (next entries xs ys : List Entry) (k : ℕ) (changes : List Change) → xs ≡ next → ys ≡ entries
-    → ((i : ℕ) → i < length xs → HasVariable (variable_at xs i) ys ⊎ Contains changes (let y : Change = record { variable = variable_at xs i; place = k; gained = true } in y))
-    → (i : ℕ) → i < length next → HasVariable (variable_at next i) entries ⊎ Contains changes (let y : Change = record { variable = variable_at next i; place = k; gained = true } in y)
-noted_all next entries xs ys k changes next_is entries_is noted i li =
-    subst (λ es. HasVariable (variable_at next i) es ⊎ Contains changes (let y : Change = record { variable = variable_at next i; place = k; gained = true } in y)) entries_is
-    (subst (λ (zs : List Entry). (n : ℕ) → n < length zs → HasVariable (variable_at zs n) ys ⊎ Contains changes (let y : Change = record { variable = variable_at zs n; place = k; gained = true } in y)) next_is noted i li)
+pub noted_all : (next entries xs ys : List Entry) (k : ℕ) (before now : List Change) → xs ≡ next → ys ≡ entries
+    → ((i : ℕ) → i < length xs → HasVariable (variable_at xs i) ys ⊎ Contains before (let y : Change = record { variable = variable_at xs i; place = k; gained = true } in y))
+    → ((y : Change) → Contains before y → Contains now y)
+    → (i : ℕ) → i < length next → HasVariable (variable_at next i) entries ⊎ Contains now (let y : Change = record { variable = variable_at next i; place = k; gained = true } in y)
+noted_all next entries xs ys k before now next_is entries_is noted kept i li =
+    later (variable_at next i)
+    (subst (λ es. HasVariable (variable_at next i) es ⊎ Contains before (let y : Change = record { variable = variable_at next i; place = k; gained = true } in y)) entries_is
+    (subst (λ (zs : List Entry). (n : ℕ) → n < length zs → HasVariable (variable_at zs n) ys ⊎ Contains before (let y : Change = record { variable = variable_at zs n; place = k; gained = true } in y)) next_is noted i li))
+  where
+    later : (v : ℕ) → HasVariable v entries ⊎ Contains before (let y : Change = record { variable = v; place = k; gained = true } in y)
+        → HasVariable v entries ⊎ Contains now (let y : Change = record { variable = v; place = k; gained = true } in y)
+    later v (inl h) = inl h
+    later v (inr h) = inr (kept (record { variable = v; place = k; gained = true }) h)
 
 pub noted_later : (r : Row) (k : ℕ) (before now : List Change) → ((y : Change) → Contains before y → Contains now y) → IsNoted before k r → IsNoted now k r
-noted_later r k before now kept noted changes i li = later (noted changes i li)
-  where
-    later : HasVariable (variable_at r.next.items i) r.entries.items ⊎ Contains before (let y : Change = record { variable = variable_at r.next.items i; place = k; gained = true } in y)
-        → HasVariable (variable_at r.next.items i) r.entries.items ⊎ Contains now (let y : Change = record { variable = variable_at r.next.items i; place = k; gained = true } in y)
-    later (inl h) = inl h
-    later (inr h) = inr (kept (record { variable = variable_at r.next.items i; place = k; gained = true }) h)
+noted_later r k before now kept noted changes = noted_all r.next.items r.entries.items r.next.items r.entries.items k before now refl refl (noted changes) kept
 
 -- one more change is filed
 pub filed_more : {Z : Type 0} (changes : List Change) (n : ℕ) (none : Change) (c size : ℕ) (now : List (Vec ℕ Z)) → n < length changes

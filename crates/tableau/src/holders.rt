@@ -34,23 +34,6 @@ fn fill_lists(holders: &mut Vec<Vec<usize>>, count: u32) -> Result<(), Failure>
     Ok(())
 }
 
-/// How many places of a list, in ascending order, are below this one.
-fn places_below(list: &[usize], place: usize) -> usize
-    ensures { result ≤ length list.now }
-{
-    let mut low = 0;
-    let mut high = list.len();
-    while low < high {
-        let middle = low + (high - low) / 2;
-        if list[middle] < place {
-            low = middle + 1;
-        } else {
-            high = middle;
-        }
-    }
-    low
-}
-
 /// Adds a place to the list of a variable, where it has a list. An `Err`, for want of memory, adds none.
 fn add_place(holders: &mut Vec<Vec<usize>>, variable: u32, place: usize) -> Result<(), Failure>
     ensures count { length holders.new.items ≡ length holders.old.items }
@@ -60,8 +43,7 @@ fn add_place(holders: &mut Vec<Vec<usize>>, variable: u32, place: usize) -> Resu
     ensures memory { IfErr result (λ e. e ≡ Memory) }
 {
     if (variable as usize) < holders.len() {
-        let below = places_below(&holders[variable as usize], place);
-        holders[variable as usize].insert(below, place)?;
+        holders[variable as usize].push(place)?;
     }
     Ok(())
 }
@@ -96,70 +78,57 @@ pub fn index_row(
     list_row(holders, place, entries)
 }
 
-/// Notes that a row loses the variables below this one, from the entry at a place on. The place of the first entry that isn't of one.
-fn note_lost(
-    changes: &mut Vec<Change>,
-    place: usize,
-    entries: &[Entry],
-    from: usize,
-    variable: u32,
-) -> Result<usize, Failure>
-    ensures keeps { (x : Change) → Contains changes.old.items x → Contains changes.new.items x }
-    ensures memory { IfErr result (λ e. e ≡ Memory) }
-{
-    let mut here = from;
-    while here < entries.len() && entries[here].variable < variable {
-        changes.push(Change {
-            variable: entries[here].variable,
-            place,
-            gained: false,
-        })?;
-        here += 1;
-    }
-    Ok(here)
-}
-
-/// Passes over the entry at a place if it is of this variable, else notes that the row gains the variable. The place of the next entry.
-fn note_gained(
-    changes: &mut Vec<Change>,
-    place: usize,
-    entries: &[Entry],
-    here: usize,
-    variable: u32,
-) -> Result<usize, Failure>
-    ensures keeps { (x : Change) → Contains changes.old.items x → Contains changes.new.items x }
-    ensures ok { OnOk result (HasVariable variable entries.now ⊎ Contains changes.new.items (record { variable = variable; place = place; gained = true })) }
-    ensures memory { IfErr result (λ e. e ≡ Memory) }
-{
-    if here < entries.len() && entries[here].variable == variable {
-        return Ok(here + 1);
-    }
-    changes.push(Change {
-        variable,
-        place,
-        gained: true,
-    })?;
-    Ok(here)
-}
-
-/// Notes the variables that a row gains whose entries become others, and those that it loses. An `Err`, for want of memory, notes fewer.
+/// Notes each variable that has an entry among the first and none among the others. An `Err`, for want of memory, notes fewer.
 fn note(
     changes: &mut Vec<Change>,
     place: usize,
     entries: &[Entry],
-    next: &[Entry],
+    others: &[Entry],
+    gained: bool,
 ) -> Result<(), Failure>
     ensures keeps { (x : Change) → Contains changes.old.items x → Contains changes.new.items x }
-    ensures ok { OnOk result ((i : ℕ) → i < length next.now → HasVariable (variable_at next.now i) entries.now ⊎ Contains changes.new.items (record { variable = variable_at next.now i; place = place; gained = true })) }
+    ensures ok { OnOk result ((i : ℕ) → i < length entries.now → HasVariable (variable_at entries.now i) others.now ⊎ Contains changes.new.items (record { variable = variable_at entries.now i; place = place; gained = gained })) }
     ensures memory { IfErr result (λ e. e ≡ Memory) }
 {
     let mut here = 0;
-    for entry in next {
-        here = note_lost(changes, place, entries, here, entry.variable)?;
-        here = note_gained(changes, place, entries, here, entry.variable)?;
+    for entry in entries {
+        here = skip(others, here, entry.variable);
+        let change = Change {
+            variable: entry.variable,
+            place,
+            gained,
+        };
+        note_unless(changes, change, is_at(others, here, entry.variable))?;
     }
-    note_lost(changes, place, entries, here, u32::MAX)?;
     Ok(())
+}
+
+/// Whether the entry at a place, if one is there, is of this variable.
+fn is_at(entries: &[Entry], here: usize, variable: u32) -> bool
+    ensures { result ≡ true → HasVariable variable entries.now }
+{
+    here < entries.len() && entries[here].variable == variable
+}
+
+/// Notes a change, unless it is none.
+fn note_unless(changes: &mut Vec<Change>, change: Change, none: bool) -> Result<(), Failure>
+    ensures keeps { (x : Change) → Contains changes.old.items x → Contains changes.new.items x }
+    ensures ok { OnOk result ((none ≡ true) ⊎ Contains changes.new.items change) }
+    ensures memory { IfErr result (λ e. e ≡ Memory) }
+{
+    if !none {
+        changes.push(change)?;
+    }
+    Ok(())
+}
+
+/// Goes past the entries from a place on that are of variables below this one.
+fn skip(entries: &[Entry], from: usize, variable: u32) -> usize {
+    let mut here = from;
+    while here < entries.len() && entries[here].variable < variable {
+        here += 1;
+    }
+    here
 }
 
 /// Notes the variables that a row gains and loses by what the pivot that is being tried makes of it.
@@ -169,7 +138,8 @@ fn note_row(changes: &mut Vec<Change>, place: usize, row: &Row) -> Result<(), Fa
     ensures memory { IfErr result (λ e. e ≡ Memory) }
 {
     if row.changes {
-        note(changes, place, &row.entries, &row.next)?;
+        note(changes, place, &row.next, &row.entries, true)?;
+        note(changes, place, &row.entries, &row.next, false)?;
     }
     Ok(())
 }
@@ -217,17 +187,17 @@ pub fn file(holders: &mut Vec<Vec<usize>>, changes: &[Change], entering: u32) ->
     Ok(())
 }
 
-/// Where a place stands in a list, in ascending order.
+/// Where a place stands in a list.
 fn find(list: &[usize], place: usize) -> Option<usize>
     ensures within { IfSome result (λ i. i < length list.now) }
     ensures is { IfSome result (λ i. (d : ℕ) → slice_index_or list.now i d ≡ place) }
 {
-    let below = places_below(list, place);
-    if below < list.len() && list[below] == place {
-        Some(below)
-    } else {
-        None
+    for (i, other) in list.iter().enumerate() {
+        if *other == place {
+            return Some(i);
+        }
     }
+    None
 }
 
 /// Takes a place from the list of a variable.
@@ -237,7 +207,7 @@ fn remove_place(holders: &mut Vec<Vec<usize>>, variable: u32, place: usize)
 {
     if (variable as usize) < holders.len() {
         if let Some(i) = find(&holders[variable as usize], place) {
-            holders[variable as usize].remove(i);
+            holders[variable as usize].swap_remove(i);
         }
     }
 }
