@@ -1,4 +1,4 @@
-use Rattle.std.proofs.Common.{◌≡◌, ◌<◌, ◌∙◌, length, take, ap, refl, arith}
+use Rattle.std.proofs.Common.{◌≡◌, ◌<◌, ◌∙◌, Err, length, take, ap, arith}
 use Rattle.std.proofs.lemmas.List.{length-take-le}
 use Rattle.term_store.specs.Terms.{Terms}
 use Rattle.proof_form.proofs.TermHeldLemmas.{copied_more}
@@ -21,6 +21,6 @@ unreachable-requires c =
     let inside : c.loop-place.place < length c.args.terms.now.trees = omega (arith, c.len-place-end.ensures.value) in
     let copied : length c.loop-place.copy.trees ≡ length (take c.loop-place.place c.args.terms.now.trees) = ap length c.loop-place.invariant.trees in
     let many : length (take c.loop-place.place c.args.terms.now.trees) ≡ c.loop-place.place = length-take-le c.loop-place.place c.args.terms.now.trees (omega (arith, inside)) in
-    let full : length c.loop-place.copy.trees ≡ c.loop-place.copy.limit = (c.in-Full.ensures.full.0 refl).0 in
+    let full : length c.loop-place.copy.trees ≡ c.loop-place.copy.limit = (c.in-Err-Full.ensures.full.0 (ap Err c.in-Err-Full.field-0-is)).0 in
     let limit : c.loop-place.copy.limit ≡ c.args.terms.now.limit = c.loop-place.invariant.limit in
     omega (arith, inside, copied, many, full, limit, c.len-place-end.ensures.within)
