@@ -4,7 +4,7 @@ Use: bench/proofs.py table SEED             prints 200 rows
      bench/proofs.py judge FILE             judges the script with a proof in a file
      bench/proofs.py against PROGRAM SEED COUNT   runs the program on drawn rows, and says where it differs
      bench/proofs.py speed N [chain|wide|distinct|deep]   prints a script with a proof of about N steps
-     bench/proofs.py rust SEED [GOOD SPOILED]   prints so many rows as tables of tests
+     bench/proofs.py rust SEED [GOOD SPOILED]   prints so many rows as the text of a test
      bench/proofs.py itself COUNT           tries the judge's search for truth values against plain enumeration
 The judge reads the rules after the definitions, over Python's whole numbers, and shares no code with the program."""
 import collections
@@ -152,40 +152,66 @@ def itself(count):
     print(f"{count} alike")
 
 
-# ---- the rows as a table of tests
+# ---- the rows as the text of a test
 
 
 def literal(data):
-    """Bytes as a constant."""
+    """Bytes as they stand in a constant, each line on a line of its own."""
     text = data.decode("latin-1")
-    escapes = {"\\": "\\\\", '"': '\\"', "\n": "\\n", "\t": "\\t", "\r": "\\r"}
-    return 'b"' + "".join(escapes.get(c, c if " " <= c <= "~" else f"\\x{ord(c):02x}") for c in text) + '"'
+    escapes = {"\\": "\\\\", '"': '\\"', "\t": "\\t", "\r": "\\r"}
+    return "".join(escapes.get(c, c if " " <= c <= "~" or c == "\n" else f"\\x{ord(c):02x}") for c in text)
 
 
-# a test's proof has its whole table before it
-ROWS_OF_A_TEST = 20
-NUMBERS = ["ONE", "TWO", "THREE", "FOUR", "FIVE", "SIX", "SEVEN", "EIGHT", "NINE", "TEN"]
-
-HEAD = """//! Proofs that are good, and proofs that are spoiled in one place, with what is found of each: drawn by
+# (a table in place of the text makes the test three times as dear to prove)
+TEST = """//! Proofs that are good, and proofs that are spoiled in one place, with what is found of each: drawn by
 //! `bench/proofs.py rust {seed}`, which judges them too.
 use super::{{calm, outcome}};
-use proof_form::Found;
-use std::alloc::Global;
+use std::alloc::{{AllocError, Global}};
 use std::process::Abort;
 use std::test::Fail;
 
-/// A script, what is found, the line, and the status.
-type Row = (&'static [u8], Found, &'static [u8], u8);
+/// How many scripts there are.
+const COUNT: usize = {count};
 
-/// Compares what is found of scripts.
-fn check_rows(rt: &impl Abort, alloc: Global, rows: &[Row]) -> Result<(), Fail> {{
-    for row in rows.iter() {{
-        let (script, found, line, status) = *row;
-        let (ended, written) = outcome(alloc, "smt_check", script, 1 << 20, calm(4096))?;
-        assert_eq!(rt; ended.found, Some(found));
-        assert_eq!(rt; ended.status, status);
-        assert_eq!(rt; written.as_slice(), line);
+/// Scripts, {good} with good proofs first. Behind each stands a line with what is found, the status, and the line that is written.
+static ROWS: &[u8] = b"{rows}";
+
+/// What is found of a script, the status, and what is written.
+fn told(alloc: Global, script: &[u8]) -> Result<Vec<u8>, AllocError> {{
+    let (ended, written) = outcome(alloc, "smt_check", script, 1 << 20, calm(4096))?;
+    let text = match ended.found {{
+        Some(found) => format!(in alloc; "{{found:?}} {{}} ", ended.status)?,
+        None => String::new(alloc),
+    }};
+    let mut told = text.as_bytes().to_vec(alloc)?;
+    told.extend_from_slice(&written)?;
+    Ok(told)
+}}
+
+/// Compares what is found of each script with the line behind it, and says how many there are.
+fn check_rows(rt: &impl Abort, alloc: Global, rows: &[u8]) -> Result<usize, Fail> {{
+    let mut script = Vec::new(alloc);
+    let mut count: usize = 0;
+    for line in rows.split(|byte| *byte == b'\\n') {{
+        if line.len() < 3 || &line[..3] != b"== ".as_slice() {{
+            script.extend_from_slice(line)?;
+            script.push(b'\\n')?;
+            continue;
+        }}
+        // the end of the line before it is none of the script's
+        let _ = script.pop();
+        let mut wanted = line[3..].to_vec(alloc)?;
+        wanted.push(b'\\n')?;
+        assert_eq!(rt; told(alloc, &script)?.as_slice(), wanted.as_slice());
+        script.clear();
+        count = count.saturating_add(1);
     }}
+    Ok(count)
+}}
+
+#[test]
+fn judges_rows(rt: HostRuntime) -> Result<(), Fail> {{
+    assert_eq!(rt; check_rows(&rt, rt.alloc(), ROWS)?, COUNT);
     Ok(())
 }}"""
 
@@ -193,26 +219,19 @@ fn check_rows(rt: &impl Abort, alloc: Global, rows: &[Row]) -> Result<(), Fail> 
 def found_text(line):
     """What the line says, as the program's type has it."""
     if line == "no proof":
-        return "Found::NoProof"
+        return "NoProof"
     name, *number = line.split()
-    return f"Found::{name.capitalize()}" + "".join(f"({n})" for n in number)
+    return name.capitalize() + "".join(f"({n})" for n in number)
 
 
 def rust(seed, good=80, spoiled=120):
     """So many rows, with no blank that needn't be."""
-    rows = proof_rows.table(seed, good, spoiled)
-    print(HEAD.format(seed=seed))
-    for start, number in zip(range(0, len(rows), ROWS_OF_A_TEST), NUMBERS):
-        part = rows[start : start + ROWS_OF_A_TEST]
-        kind = "Good proofs" if start + len(part) <= good else "Spoiled proofs" if start >= good else "Proofs"
-        print(f"\n/// {kind}.\nstatic {number}: [Row; {len(part)}] = [")
-        for row in part:
-            data, line = proof_rows.compact(row.data.decode("latin-1"), 0).encode("latin-1"), row.line.encode() + b"\n"
-            assert proof_judge.judge(data) == (row.line, row.status)
-            print(f"    (\n        {literal(data)},\n        {found_text(row.line)},\n        {literal(line)},\n        {row.status},\n    ),")
-        print("];")
-        test = f"judges_rows_{number.lower()}(rt: HostRuntime) -> Result<(), Fail>"
-        print(f"\n#[test]\nfn {test} {{\n    check_rows(&rt, rt.alloc(), &{number})\n}}")
+    rows, texts = proof_rows.table(seed, good, spoiled), []
+    for row in rows:
+        data = proof_rows.compact(row.data.decode("latin-1"), 0).encode("latin-1")
+        assert proof_judge.judge(data) == (row.line, row.status) and b"\n== " not in b"\n" + data
+        texts.append(f"{literal(data)}\n== {found_text(row.line)} {row.status} {row.line}")
+    print(TEST.format(seed=seed, count=len(rows), good=good, rows="\n".join(texts)))
 
 
 def main(words):

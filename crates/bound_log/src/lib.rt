@@ -23,6 +23,8 @@
 //! interpretation, whose literals are false in the log but at most one, which is open; what is told
 //! stays.
 //!
+//! `spread`: numbers by term, moved as `sum_bounds` says. It promises nothing.
+//!
 //! Lemmas on whole numbers: the two clauses of a branch, and those that tie the equality of two
 //! Ints to both bounds of their difference.
 //!

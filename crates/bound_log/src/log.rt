@@ -298,6 +298,16 @@ impl BoundLog {
         self.bounds.value(term)
     }
 
+    /// Numbers by term, where the values are whole: those of the terms' variables, but moved within all bounds so that wanted terms have numbers of their own, which aren't taken, as far as that is found. It promises nothing. An `Err` is for want of memory.
+    pub fn spread(
+        &self,
+        alloc: Global,
+        wanted: &[bool],
+        taken: &[i128],
+    ) -> Result<Option<Vec<i128>>, AllocError> {
+        self.bounds.spread(alloc, wanted, taken)
+    }
+
     /// The least variable of a term whose value isn't whole.
     pub fn first_fraction(&self) -> Option<FractionalLeaf>
         ensures some { IfSome result (IsFirstIn self.now.bounds.columns) }

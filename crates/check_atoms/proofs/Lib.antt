@@ -1,7 +1,9 @@
 mod Adding
 mod Sums
+mod BoundLeaves
 mod Rows
 mod PartPlaces
+mod TruthSorts
 mod Integers
 mod Stacks
 mod Related

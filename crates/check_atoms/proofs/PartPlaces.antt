@@ -121,9 +121,9 @@ module _ (P : ℕ → Type 0) where
     pub part_over : (n : ℤ) (p : ℕ) (h : Head) (is : List ℕ) → P p → All P is → All IsOver (of_part f n p h is)
     part_over n p h is k g = All-append IsOver (truth_by_sort (f p) p) (compared_by_head f n h p is) (truth_over (f p) p k) (by_head_over n h p is k g)
 
--- ---- what holds of each truth, equality and order holds of all atoms where it holds of the limits
+-- ---- what holds of each equality and order holds of all atoms where it holds of the limits, and of the truth of a Bool
 
-module _ (Q : PartAtom → Type 0) (truths : (p : ℕ) → Q (Truth p)) (sames : (i j : ℕ) → Q (Same i j)) (bounds : (o : Order) → Q (Bound o)) where
+module _ (Q : PartAtom → Type 0) (sames : (i j : ℕ) → Q (Same i j)) (bounds : (o : Order) → Q (Bound o)) where
   bounds_any : (os : List Order) → All Q (map Bound os)
   bounds_any os = All-map Q Bound os (λ k d l. bounds (get_or os k d))
 
@@ -139,11 +139,11 @@ module _ (Q : PartAtom → Type 0) (truths : (p : ℕ) → Q (Truth p)) (sames :
   alone_any (Some Ints) i j = by_sort_any (Some Ints) i j
   alone_any (Some (Free n)) i j = All-nil Q
 
-  truth_any : (s : Option Sort) (p : ℕ) → All Q (truth_by_sort s p)
-  truth_any None p = All-nil Q
-  truth_any (Some Truths) p = All-cons Q (Truth p) [] (truths p) (All-nil Q)
-  truth_any (Some Ints) p = All-nil Q
-  truth_any (Some (Free n)) p = All-nil Q
+  truth_any : (s : Option Sort) (p : ℕ) → (s ≡ Some Truths → Q (Truth p)) → All Q (truth_by_sort s p)
+  truth_any None p truth = All-nil Q
+  truth_any (Some Truths) p truth = All-cons Q (Truth p) [] (truth refl) (All-nil Q)
+  truth_any (Some Ints) p truth = All-nil Q
+  truth_any (Some (Free n)) p truth = All-nil Q
 
   module _ (f : ℕ → Option Sort) (n : ℤ) (p : ℕ) where
     abbrev pub OfLimits : Operator → List ℕ → Type 0
@@ -167,8 +167,8 @@ module _ (Q : PartAtom → Type 0) (truths : (p : ℕ) → Q (Truth p)) (sames :
     by_head_any (Theory o) is r = compared_any o is (r o refl)
     by_head_any h is r = All-nil Q
 
-    pub part_any : (h : Head) (is : List ℕ) → ((o : Operator) → h ≡ Theory o → OfLimits o is) → All Q (of_part f n p h is)
-    part_any h is r = All-append Q (truth_by_sort (f p) p) (compared_by_head f n h p is) (truth_any (f p) p) (by_head_any h is r)
+    pub part_any : (f p ≡ Some Truths → Q (Truth p)) → (h : Head) (is : List ℕ) → ((o : Operator) → h ≡ Theory o → OfLimits o is) → All Q (of_part f n p h is)
+    part_any truth h is r = All-append Q (truth_by_sort (f p) p) (compared_by_head f n h p is) (truth_any (f p) p truth) (by_head_any h is r)
 
 -- ---- they are among the first terms, with numbers in the range
 
@@ -187,7 +187,7 @@ over_within n (Limit l) h r = record { multiples_are = λ k d m. record { in_ran
 part_within : (f : ℕ → Option Sort) (d : ℤ) (n p : ℕ) (h : Head) (is : List ℕ) → InRange d → p < n → All (λ i. i < n) is → All (IsWithin n) (of_part f d p h is)
 part_within f d n p h is r l g =
     let over = part_over (λ i. i < n) f d p h is l g in
-    let ranged = part_any IsRanged (λ q. tt) (λ i j. tt) (λ o. tt) f d p h is (λ o e. all_numbers d o p is r) in
+    let ranged = part_any IsRanged (λ i j. tt) (λ o. tt) f d p (λ e. tt) h is (λ o e. all_numbers d o p is r) in
     λ k x m. over_within n (get_or (of_part f d p h is) k x) (over k x m) (ranged k x m)
 
 truth_within : (r : Option Sort) (n p : ℕ) → All (IsWithin n) (truth_by_sort r p)

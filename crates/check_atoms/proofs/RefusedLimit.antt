@@ -51,7 +51,7 @@ module _ (s : Stack) (lawful : IsLawful s) (law : RowsAreAtoms) (part : ℕ) (r 
   of_rows : IsOfRows rows.limit
   of_rows =
       All-contains IsOfPart (part_atoms s r.place r.head r.arguments) (Limit rows.limit)
-      (part_any IsOfPart (λ p. tt) (λ i j. tt) (λ o. tt) (sort_of (signature_of s.frames) s.trees) (place_divisor s.trees r.arguments) r.place r.head r.arguments
+      (part_any IsOfPart (λ i j. tt) (λ o. tt) (sort_of (signature_of s.frames) s.trees) (place_divisor s.trees r.arguments) r.place (λ e. tt) r.head r.arguments
       (λ o e k d l. record { operator = o; head = e; among = All-contains_itself (limits_of (place_divisor s.trees r.arguments) o r.place r.arguments) k d l }))
       rows.among
 

@@ -28,8 +28,8 @@ lawful_pairs fit leaves s part o lawful numerals refused = leaves s part o lawfu
 
 pub refused_pairs : LawfulPairsLeaveRange → NumeralsAreInRange → NoIdTwice → AssertionsAreTruths → TreesAreInOrder → PartsAreAmongTheTrees → RefusedPairsLeaveRange
 refused_pairs leave numerals ids truths order parts cs part o refused =
-    leave (after_all start cs) part o (record { no_id_twice = ids cs; truths = truths cs; in_order = order cs; parts = parts cs }) (numerals cs) refused
+    leave (after_all start cs) part o (record { no_id_twice = ids cs; truths = truths cs; in_order = order cs; parts = parts cs; numerals = numerals cs }) (numerals cs) refused
 
 pub refused_limits : LawfulLimitsLeaveRange → NumeralsAreInRange → NoIdTwice → AssertionsAreTruths → TreesAreInOrder → PartsAreAmongTheTrees → RefusedLimitsLeaveRange
 refused_limits leaves numerals ids truths order parts cs part refused =
-    leaves (after_all start cs) part (record { no_id_twice = ids cs; truths = truths cs; in_order = order cs; parts = parts cs }) (numerals cs) refused
+    leaves (after_all start cs) part (record { no_id_twice = ids cs; truths = truths cs; in_order = order cs; parts = parts cs; numerals = numerals cs }) (numerals cs) refused

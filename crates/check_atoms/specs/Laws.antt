@@ -1,7 +1,7 @@
 -- What holds of the numbered atoms, and of a refusal.
-use Rattle.std.specs.Prelude.{◌≡◌, ◌≢◌, ◌⊎◌, ℕ, Bool, true, Some, List, map, All, Contains, IsTrue}
+use Rattle.std.specs.Prelude.{◌≡◌, ◌≢◌, ◌⊎◌, ℕ, ◌<◌, Bool, true, Some, List, map, length, All, Contains, IsTrue}
 use Rattle.smt_meaning.specs.declared.values.Sort.{Sort}
-use Rattle.smt_meaning.specs.declared.values.Sort.TheVariants.{Int as Ints}
+use Rattle.smt_meaning.specs.declared.values.Sort.TheVariants.{Bool as Truths, Int as Ints}
 use Rattle.smt_meaning.specs.declared.terms.Operator.{Operator}
 use Rattle.smt_meaning.specs.declared.terms.Operator.TheVariants.{Equal, Distinct, Ite}
 use Rattle.smt_meaning.specs.declared.terms.Head.{Head}
@@ -13,8 +13,9 @@ use Rattle.smt_meaning.specs.Signature.{tree_sort, is_bool}
 use Rattle.smt_meaning.specs.Stack.{Frame, signature_of}
 use Rattle.smt_meaning.specs.StackCommand.{Stack}
 use Rattle.smt_meaning.specs.Linear.{linear_form, form_fits}
-use Rattle.smt_meaning.specs.Atoms.{stack_atoms}
-use Rattle.smt_meaning.specs.CheckAtoms.{IsPartOfStack, IsFirstAtom}
+use Rattle.smt_meaning.specs.Clause.{atom_places}
+use Rattle.smt_meaning.specs.Atoms.{at_most_atom, stack_atoms}
+use Rattle.smt_meaning.specs.CheckAtoms.{IsPartOfStack, IsFirstAtom, is_leaf}
 use Rattle.smt_meaning.specs.Ranges.{LeavesInPart, LeavesInPair}
 use Rattle.smt_laws.specs.Flat.{flat}
 use Rattle.smt_laws.specs.Rows.{place_divisor}
@@ -66,6 +67,20 @@ abbrev pub AtomsAreFirst : Type 0
 AtomsAreFirst =
     (s : Stack) (marks : List Bool) (atoms : List Atom) → IsLawful s → AreStackParts s marks → AreCheckAtoms s marks atoms → AreFirstAtoms s s.frames marks atoms × AreFirstAtoms s (flat s.frames) marks atoms
 
+-- an Int at a marked place that is no numeral, sum, difference or product
+pub record IsIntLeaf (s : Stack) (marks : List Bool) (p : ℕ) : Type 0 where
+  pub within : p < length s.trees
+  pub marked : IsMarked marks p
+  pub int : tree_sort (signature_of s.frames) (tree_at s.trees p) ≡ Some Ints
+  pub leaf : is_leaf (tree_at s.trees p) ≡ true
+
+-- the sum of the bound of two Ints among the parts of a stack is over such leaves
+abbrev pub BoundsAreOverLeaves : Type 0
+BoundsAreOverLeaves =
+    (s : Stack) (marks : List Bool) (left right : ℕ) → IsLawful s → AreStackParts s marks → length marks ≡ length s.trees → IsMarked marks left → IsMarked marks right
+    → tree_sort (signature_of s.frames) (tree_at s.trees left) ≡ Some Ints → tree_sort (signature_of s.frames) (tree_at s.trees right) ≡ Some Ints
+    → All (IsIntLeaf s marks) (atom_places (at_most_atom s.trees (tree_at s.trees left) (tree_at s.trees right)))
+
 -- a term whose folding is refused is a part whose folding leaves the range
 abbrev pub RefusedTermLeavesRange : Type 0
 RefusedTermLeavesRange = (s : Stack) (part : ℕ) → IsLawful s → IsRefused s (Term part) → LeavesInPart s.trees s.frames part
@@ -98,3 +113,9 @@ abbrev pub TruthsHaveNumbers : Type 0
 TruthsHaveNumbers =
     (s : Stack) (marks : List Bool) (atoms : List Atom) → AreCheckAtoms s marks atoms → (p : ℕ) (h : Head) (is : List ℕ) → IsMarked marks p → IsNode s.trees p h is
     → is_bool (sort_of (signature_of s.frames) s.trees p) ≡ true → Contains atoms (Truth p)
+
+-- each numbered truth is that of a part that is a Bool
+abbrev pub TruthsAreOfBools : Type 0
+TruthsAreOfBools =
+    (s : Stack) (marks : List Bool) (atoms : List Atom) → AreCheckAtoms s marks atoms → (p : ℕ) → Contains atoms (Truth p)
+    → IsMarked marks p × (sort_of (signature_of s.frames) s.trees p ≡ Some Truths)

@@ -1,5 +1,5 @@
 //! What holds of the numbered atoms and of a refusal, as contracts of functions that do nothing.
-ghost use Rattle.check_atoms.specs.Laws.{StackAtomsAreNumbered, AtomsAreFirst, PartsHaveNumbers, TruthsHaveNumbers, RefusedTermLeavesRange, RefusedPairLeavesRange};
+ghost use Rattle.check_atoms.specs.Laws.{StackAtomsAreNumbered, AtomsAreFirst, BoundsAreOverLeaves, PartsHaveNumbers, TruthsAreOfBools, TruthsHaveNumbers, RefusedTermLeavesRange, RefusedPairLeavesRange};
 
 use bound_clauses::orders_are_comparisons;
 use pair_bounds::rows_are_atoms;
@@ -30,6 +30,16 @@ pub fn parts_have_numbers()
 /// The truth of each part that is a Bool is numbered.
 pub fn truths_have_numbers()
     ensures { TruthsHaveNumbers }
+{}
+
+/// Each numbered truth is that of a part that is a Bool.
+pub fn truths_are_of_bools()
+    ensures { TruthsAreOfBools }
+{}
+
+/// The sum of the bound of two Ints among a stack's parts is over leaves among them.
+pub fn bounds_are_over_leaves()
+    ensures { BoundsAreOverLeaves }
 {}
 
 /// A term whose folding is refused is a part whose folding leaves the range.

@@ -13,7 +13,8 @@
 //!
 //! Laws, each as the contract of a function that does nothing: whatever commands come, the
 //! difference of a refused pair leaves the range, or for a strict bound or a limit of a division what
-//! the part compares does;
+//! the part compares does; the sum of a bound of two Ints among the parts is over leaves among them;
+//! each numbered truth is that of a part that is a Bool;
 //! the bounds of a stack's parts can be read at the places at which the parts of its assertions
 //! stand, and so have the values of what they compare.
 //!
@@ -40,8 +41,8 @@ pub use asserted::{MOST_COMPARED, is_asserted_distinct};
 pub use atoms::{CheckAtoms, numbered};
 pub use graph::Triangle;
 pub use laws::{
-    atoms_are_first, parts_have_numbers, refused_pair_leaves_range, refused_term_leaves_range,
-    stack_atoms_are_numbered, truths_have_numbers,
+    atoms_are_first, bounds_are_over_leaves, parts_have_numbers, refused_pair_leaves_range,
+    refused_term_leaves_range, stack_atoms_are_numbered, truths_are_of_bools, truths_have_numbers,
 };
 use pair_bounds::rows_are_atoms;
 pub use part::PartAtom;

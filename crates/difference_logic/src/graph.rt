@@ -14,6 +14,15 @@ const GIVEN: usize = 8;
 /// How many steps that searches for paths may take are saved up at most.
 const SAVED: u64 = 65_536;
 
+/// How many edges may be walked for a candidate that is given.
+const WORTH: u64 = 1024;
+
+/// How many steps are allowed at once where searches for paths give less than that.
+const FEW: u64 = 64;
+
+/// How many candidates count as given from the start.
+const TRUSTED: u64 = 64;
+
 /// What becomes of an edge.
 #[derive(Drop)]
 pub enum Asserted {
@@ -48,6 +57,8 @@ pub struct DifferenceGraph {
     open: Vec<Edge>,
     /// How many edges all searches for paths may walk.
     allowed: u64,
+    /// How many candidates they gave, and those that count as given.
+    given: u64,
 }
 
 impl Model for DifferenceGraph {
@@ -102,6 +113,7 @@ impl DifferenceGraph {
             against: Reach::new(alloc, Way::Against),
             open: Vec::new(alloc),
             allowed: 0,
+            given: TRUSTED,
         }
     }
 
@@ -346,10 +358,16 @@ impl DifferenceGraph {
         self.along.walked.saturating_add(self.against.walked)
     }
 
-    /// Lets searches for paths walk so many edges more.
+    /// Whether searches for paths have given enough for the edges that they walked.
+    fn pays(&self) -> bool {
+        self.walked() <= self.given.saturating_mul(WORTH)
+    }
+
+    /// Lets searches for paths walk so many edges more, or a few where they have given little.
     pub fn allow(&mut self, steps: u64)
         ensures { self.new ≡ self.old }
     {
+        let steps = if self.pays() { steps } else { steps.min(FEW) };
         let most = self.walked().saturating_add(SAVED);
         self.allowed = self.allowed.saturating_add(steps).min(most);
     }
@@ -367,6 +385,8 @@ impl DifferenceGraph {
             return Ok(Vec::new(alloc));
         };
         self.look_round(edge)?;
-        self.shown(alloc, place, edge)
+        let found = self.shown(alloc, place, edge)?;
+        self.given = self.given.saturating_add(found.len() as u64);
+        Ok(found)
     }
 }

@@ -1,6 +1,6 @@
 -- What the parts of workers come to, one after the other, and at the end.
 use Rattle.std.proofs.Common.{◌≡◌, ℕ, ◌+◌, ◌<◌, ℤ, List, [], ◌∷◌, ◌++◌, map, length, get_or, sym, refl, ap, ◌∙◌, subst, arith, All}
-use Rattle.std.specs.Prelude.{true, Option, Some, None, IfSome, Contains}
+use Rattle.std.specs.Prelude.{true, Option, Some, None, IfSome, Contains, Result, Ok, Err, IfOk}
 use Rattle.std.specs.List.{range_with_len}
 use Rattle.std.proofs.lemmas.List.{map-append}
 use Rattle.std.proofs.lemmas.List.Elements.{All-nil, All-push, Contains-append_left, Contains-push}
@@ -8,6 +8,7 @@ use Rattle.smt_meaning.specs.declared.reports.Report.{Report}
 use Rattle.smt_meaning.specs.declared.values.Table.{Table}
 use Rattle.smt_meaning.specs.Interpretation.{meaning, AreTablesFor}
 use Rattle.smt_meaning.specs.Stack.{Frame, Satisfies, signature_of, assertions_of}
+use Rattle.smt_meaning.specs.Term.{Tree}
 use Rattle.smt_meaning.specs.StackCommand.{Stack}
 use Rattle.smt_meaning.specs.Kinds.{has_no_integers}
 use Rattle.smt_meaning.specs.Report.{Shows, AreReports, is_unlimited}
@@ -17,11 +18,16 @@ use Rattle.race_cell.specs.declared.action.Action.TheVariants.{Win}
 use Rattle.race_cell.specs.declared.view.Claim.{Claim}
 use Rattle.race_cell.specs.Rules.{Ended}
 use Rattle.race_cell.specs.Laws.{WinnerHasWon}
+use Rattle.report_laws.specs.Boxed.{BoxedStacksAreNotSpent}
+use Rattle.theory_port.specs.Verdicts.{IsVerdict}
+use Rattle.theory_port.specs.declared.decider.Verdict.{Verdict}
+use Rattle.theory_port.specs.declared.decider.Verdict.TheVariants as verdict
 use Rattle.worker.specs.declared.outcome.Answer.{Answer}
 use Rattle.worker.specs.declared.outcome.Answer.TheVariants.{Sat, Unsat}
 use Rattle.worker.specs.declared.outcome.Outcome.TheVariants as part
 use Rattle.worker.specs.Outcome.{HasWon, IsOutcome, MemoryAloneIsReported}
 use Rattle.portfolio.specs.declared.tally.Tally.{Tally}
+use Rattle.portfolio.specs.Ends.{BoxedIsNotSpent}
 use Rattle.portfolio.specs.Tallies.{Tallied, IsAnswer, IsShown, IsOfMemory, HasNotWon, IsFound}
 use Rattle.portfolio.proofs.Orders.{claim_worker, in_order}
 
@@ -104,6 +110,19 @@ module _ (s : Stack) (limit : ℤ) where
   pub all_reports : (n : ℕ) (cs : List Claim) (t : Tally) → map claim_worker cs ≡ range_with_len 0 n → Tallied s limit cs t → t.answer ≡ None → t.winner ≡ None
       → AreReports n s.trees s.frames limit t.reports.items
   all_reports n cs t e h none nobody = record { one_each = h.complete none nobody ∙ e; shown = h.shown }
+
+-- ---- boxes
+
+pub boxed_ends : BoxedStacksAreNotSpent → (n : ℕ) (ts : List Tree) (frames : List Frame) (limit : ℤ) (v : Verdict) → IsVerdict n ts frames limit v → BoxedIsNotSpent ts frames limit v
+boxed_ends law n ts frames limit (verdict.Sat i) h boxed few none = tt
+boxed_ends law n ts frames limit verdict.Unsat h boxed few none = tt
+boxed_ends law n ts frames limit (verdict.Unknown rs) h boxed few none = λ k r lt first us e.
+    let s : Report = get_or rs k r in
+    law ts frames limit s.branches us few.atoms none boxed few.each few.few (subst (λ c. Shows ts frames limit 0 s.branches c) e (subst (λ w. Shows ts frames limit w s.branches s.cause) first (h.shown k r lt)))
+
+pub boxed_ends_ok : {E : Type 0} → BoxedStacksAreNotSpent → (n : ℕ) (ts : List Tree) (frames : List Frame) (limit : ℤ) (r : Result Verdict E) → IfOk r (IsVerdict n ts frames limit) → IfOk r (BoxedIsNotSpent ts frames limit)
+boxed_ends_ok law n ts frames limit (Ok v) h = boxed_ends law n ts frames limit v h
+boxed_ends_ok law n ts frames limit (Err e) h = tt
 
 -- ---- nothing declared and nothing asserted
 

@@ -1,10 +1,15 @@
 -- How checks end without a limit.
-use Rattle.std.specs.Prelude.{◌≡◌, true, List, ℤ, All}
-use Rattle.smt_meaning.specs.declared.reports.Cause.TheVariants.{Memory}
+use Rattle.std.specs.Prelude.{◌≡◌, ◌<◌, ◌^◌, true, List, length, ℤ, All, Contains}
+use Rattle.smt_meaning.specs.declared.clauses.Atom.{Atom}
+use Rattle.smt_meaning.specs.declared.reports.Unit.{Unit as Spent}
+use Rattle.smt_meaning.specs.declared.reports.Cause.TheVariants.{Memory, Units}
 use Rattle.smt_meaning.specs.declared.reports.Report.{Report}
+use Rattle.smt_meaning.specs.Term.{Tree}
 use Rattle.smt_meaning.specs.Stack.{Frame}
+use Rattle.smt_meaning.specs.CheckAtoms.{IsFirstAtom}
 use Rattle.smt_meaning.specs.Kinds.{has_no_integers, is_propositional}
 use Rattle.smt_meaning.specs.Report.{is_unlimited}
+use Rattle.report_laws.specs.Boxed.{AreBoxed}
 use Rattle.theory_port.specs.declared.decider.Verdict.{Verdict}
 use Rattle.theory_port.specs.declared.decider.Verdict.TheVariants.{Sat, Unsat, Unknown}
 
@@ -21,3 +26,25 @@ MemoryAloneEnds frames limit v = has_no_integers frames ≡ true → is_unlimite
 -- so where all assertions are propositional
 abbrev pub MemoryAloneEndsBoolean : List Frame → ℤ → Verdict → Type 0
 MemoryAloneEndsBoolean frames limit v = is_propositional frames ≡ true → is_unlimited limit ≡ true → EndsByMemory v
+
+-- ---- boxes
+
+-- a list of fewer than 2^40 atoms has each of the check's
+pub record HasFewAtoms (ts : List Tree) (frames : List Frame) : Type 0 where
+  pub atoms : List Atom
+  pub each : (a : Atom) → IsFirstAtom ts frames a → Contains atoms a
+  pub few : length atoms < 2 ^ 40
+
+-- it isn't one of the first worker that shows spent units
+abbrev pub IsNotSpentByFirst : Report → Type 0
+IsNotSpentByFirst r = r.worker ≡ 0 → (us : List Spent) → r.cause ≡ Units us → ⊥
+
+-- a model, or none, or the first worker shows a number that left the range, or want of memory
+abbrev pub EndsByRangeOrMemory : Verdict → Type 0
+EndsByRangeOrMemory (Sat i) = Unit {0}
+EndsByRangeOrMemory Unsat = Unit {0}
+EndsByRangeOrMemory (Unknown rs) = All IsNotSpentByFirst rs
+
+-- so without a limit, where each Int leaf has a box and a check has few atoms
+abbrev pub BoxedIsNotSpent : List Tree → List Frame → ℤ → Verdict → Type 0
+BoxedIsNotSpent ts frames limit v = AreBoxed ts frames → HasFewAtoms ts frames → is_unlimited limit ≡ true → EndsByRangeOrMemory v

@@ -11,8 +11,11 @@
 //! were numbered, or the row of a first atom did, what the search shows where it ended, or that
 //! memory is wanting.
 //!
-//! Without a limit of units and without an Int it is want of memory alone. No worker is stopped by
-//! another one where there is no answer. Nothing races where nothing is declared or asserted.
+//! Without a limit of units and without an Int it is want of memory alone. Without a limit, where
+//! each Int leaf has a box and the atoms are fewer than 2^40, the first worker doesn't show spent units.
+//!
+//! No worker is stopped by another one where there is no answer. Nothing races where nothing is
+//! declared or asserted.
 //!
 //! `By`: the decider whose checks a closure makes, since only that can know of threads and the gate.
 #![tactic(auto)]

@@ -7,7 +7,7 @@ ghost use Rattle.smt_meaning.specs.StackCommand.{Stack as StackValue};
 ghost use Rattle.smt_meaning.specs.Model.{IsModel};
 ghost use Rattle.race_cell.specs.Passes.{claim_of, IsPassOf};
 ghost use Rattle.theory_port.specs.Verdicts.{IsVerdict};
-ghost use Rattle.portfolio.specs.Ends.{MemoryAloneEnds, MemoryAloneEndsBoolean};
+ghost use Rattle.portfolio.specs.Ends.{MemoryAloneEnds, MemoryAloneEndsBoolean, BoxedIsNotSpent};
 ghost use Rattle.portfolio.specs.Jobs.{IsFreshPass, IsReady, IsDone, worker_of, job_worker};
 ghost use Rattle.portfolio.specs.Tallies.{Tallied};
 
@@ -18,6 +18,7 @@ use lemma_pool::{Pool, follows_from_nothing};
 use ports::Gate;
 use race_cell::{Pass, Race, winner_has_won};
 use race_model::Shelf;
+use report_laws::boxed_stacks_are_not_spent;
 use scope_stack::Stack;
 use smt_laws::propositional_has_no_integers;
 use smt_meaning::{Interp, Seq, Settings};
@@ -167,8 +168,10 @@ pub fn check<R: Threads + Sync, G: Gate>(
     ensures verdict { IfOk result (IsVerdict settings.now.workers stack.now.trees stack.now.frames settings.now.units) }
     ensures memory { IfOk result (MemoryAloneEnds stack.now.frames settings.now.units) }
     ensures boolean { IfOk result (MemoryAloneEndsBoolean stack.now.frames settings.now.units) }
+    ensures boxed { IfOk result (BoxedIsNotSpent stack.now.trees stack.now.frames settings.now.units) }
 {
     propositional_has_no_integers();
+    boxed_stacks_are_not_spent();
     if is_bare(stack) {
         return Ok(Verdict::Sat(no_tables(alloc, stack)));
     }

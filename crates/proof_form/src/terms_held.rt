@@ -24,8 +24,10 @@ pub(crate) fn copy(alloc: Global, terms: &TermStore) -> Result<TermStore, AllocE
     let mut copy = TermStore::new(alloc, terms.limit());
     for place in 0..terms.len() {
         let node = terms.node(place);
-        if copy.intern(node.head, node.arguments).is_err() {
-            return Err(AllocError);
+        match copy.intern(node.head, node.arguments) {
+            Ok(_) => {}
+            Err(InternError::Full) => unreachable!(),
+            Err(InternError::Memory) => return Err(AllocError),
         }
     }
     Ok(copy)

@@ -1,11 +1,10 @@
 -- A branch stays in its leaf's box, so the units of a worker without a limit are few.
-use Rattle.std.proofs.Common.{◌≡◌, ◌≢◌, ◌⊎◌, inl, inr, ℕ, zero, suc, ◌<◌, ◌≤◌, ◌*◌, ◌^◌, ℤ, pos, negsuc, ◌+ℤ◌, ◌-ℤ◌, ◌*ℤ◌, ◌≤ℤ◌, ◌<ℤ◌, neg_ℤ, unsigned_abs, sym, ap, ◌∙◌, subst, refl, arith, List, [], ◌∷◌, ◌++◌, map, length, Contains, Bool, true, false, Some, None}
+use Rattle.std.proofs.Common.{◌≡◌, ◌≢◌, ◌⊎◌, inl, inr, ℕ, zero, suc, ◌<◌, ◌≤◌, ◌*◌, ◌^◌, ℤ, pos, negsuc, ◌+ℤ◌, ◌-ℤ◌, ◌*ℤ◌, ◌≤ℤ◌, ◌<ℤ◌, neg_ℤ, unsigned_abs, sym, ap, ◌∙◌, subst, refl, arith, List, [], ◌∷◌, ◌++◌, length, Contains, Bool, true, false, Some, None}
 use Rattle.std.specs.Int.{◌∣◌}
 use Rattle.std.specs.Prelude.{int_lt, min, if◌then◌else◌}
 use Rattle.std.proofs.lemmas.Int.{ints}
 use Rattle.std.proofs.Math.Nat.{le_of_dvd, mul_comm}
-use Rattle.std.proofs.lemmas.List.{get_or_past, length-map}
-use Rattle.std.proofs.lemmas.List.Elements.{Contains-append_left, Contains-append_right, Contains-append_cases}
+use Rattle.std.proofs.lemmas.List.{get_or_past}
 use Rattle.fraction128.specs.declared.Summand.{Summand}
 use Rattle.fraction128.specs.declared.Member.{Member}
 use Rattle.fraction128.specs.declared.Column.{Column}
@@ -30,6 +29,7 @@ use Rattle.smt_meaning.specs.Boxes.{IsInBox, term_at_most, negation_at_most, ass
 use Rattle.smt_meaning.specs.CheckAtoms.{IsFirstAtom, Meets, IsBranch, IsOfBranch, WithBranch, WithBranches, EachIsBranch, branch_atoms}
 use Rattle.smt_meaning.specs.Report.{is_unlimited, IsUnit}
 use Rattle.report_laws.proofs.Listed.{in_cons, in_none}
+use Rattle.report_laws.proofs.Counted.{AreApart, no_longer, apart_by, split_at}
 use Rattle.report_laws.specs.Boxed.{HasBox, AreBoxed, BranchesStayInBoxes, IsNewAtom, UnitsAreNewAtoms, FewAtomsAreNotSpent, BoxedStacksAreNotSpent}
 
 -- ---- whole numbers on both sides of a number
@@ -108,7 +108,7 @@ module _ (n : ℤ) (d : ℕ) (c : ℤ) where
       let a : (pos 1 *ℤ n) *ℤ pos 1 +ℤ pos 0 *ℤ pos (1 * d) ≡ n = solve wholes (n ∷ pos (1 * d) ∷ []) (sum (product (product unit (var 0)) unit) (product nothing (var 1))) (var 0) refl in
       subst (λ (e : ℕ). n ≤ℤ (c *ℤ pos e)) one_times (subst (λ (z : ℤ). z ≤ℤ (c *ℤ pos ((1 * d) * 1))) a h)
 
-  negation_is : ((negsuc 0 *ℤ n) *ℤ pos 1 +ℤ pos 0 *ℤ pos (1 * d)) ≤ℤ (c *ℤ pos ((1 * d) * 1)) → (neg_ℤ c *ℤ pos d) ≤ℤ n
+  pub negation_is : ((negsuc 0 *ℤ n) *ℤ pos 1 +ℤ pos 0 *ℤ pos (1 * d)) ≤ℤ (c *ℤ pos ((1 * d) * 1)) → (neg_ℤ c *ℤ pos d) ≤ℤ n
   negation_is h =
       let a : (negsuc 0 *ℤ n) *ℤ pos 1 +ℤ pos 0 *ℤ pos (1 * d) ≡ neg_ℤ n =
       solve wholes (n ∷ pos (1 * d) ∷ []) (sum (product (product (minus unit) (var 0)) unit) (product nothing (var 1))) (minus (var 0)) refl in
@@ -125,7 +125,7 @@ first_term : List Summand → ℕ
 first_term [] = 0
 first_term (p ∷ ps) = p.term
 
-leaf_is : (s t : ℕ) → leaf s ≡ leaf t → s ≡ t
+pub leaf_is : (s t : ℕ) → leaf s ≡ leaf t → s ≡ t
 unfolding first_term
 leaf_is s t e = ap first_term e
 
@@ -255,87 +255,21 @@ new_atom ts frames sums branches limit before (Numbered a) none h = record { ato
 pub units_are_new : UnitsAreNewAtoms
 units_are_new ts frames limit branches us none spent before after u e = new_atom ts frames spent.sums branches limit before u none (spent.units before after u e)
 
--- ---- lists without repetition
-
-abbrev AreOnce : {X : Type 0} → List X → Type 0
-AreOnce [] = Unit {0}
-AreOnce (x ∷ xs) = (Contains xs x → ⊥) × AreOnce xs
-
-record Split {X : Type 0} (xs : List X) (x : X) : Type 0 where
-  front : List X
-  back : List X
-  is : xs ≡ front ++ x ∷ back
-
-split_at : {X : Type 0} (xs : List X) (x : X) → Contains xs x → Split xs x
-split_at [] x c = absurd (in_none x c)
-split_at (y ∷ xs) x c = elim (in_cons y x xs c) [
-  | inl e ↦ record { front = []; back = xs; is = ap (λ z. z ∷ xs) (sym e) }
-  | inr later ↦ let s : Split xs x = split_at xs x later in record { front = y ∷ s.front; back = s.back; is = ap (λ zs. y ∷ zs) s.is }
-]
-
-longer_by_one : {X : Type 0} (front back : List X) (x : X) → length (front ++ x ∷ back) ≡ suc (length (front ++ back))
-longer_by_one [] back x = refl
-longer_by_one (y ∷ front) back x = ap suc (longer_by_one front back x)
-
-without : {X : Type 0} (front back : List X) (x y : X) → (y ≡ x → ⊥) → Contains (front ++ x ∷ back) y → Contains (front ++ back) y
-without front back x y other c = elim (Contains-append_cases front (x ∷ back) y c) [
-  | inl early ↦ Contains-append_left front back y early
-  | inr late ↦ elim (in_cons x y back late) [ inl e ↦ absurd (other e) | inr later ↦ Contains-append_right front back y later ]
-]
-
--- a list without repetition, each of whose items another has, isn't longer than it
-no_longer : {X : Type 0} (xs ys : List X) → AreOnce xs → ((x : X) → Contains xs x → Contains ys x) → length xs ≤ length ys
-no_longer [] ys once among = omega arith
-no_longer (x ∷ xs) ys once among =
-    let s : Split ys x = split_at ys x (among x (0, omega arith, refl)) in
-    let rest : length xs ≤ length (s.front ++ s.back) =
-    no_longer xs (s.front ++ s.back) once.1
-    (λ y c. without s.front s.back x y (λ e. once.0 (subst (Contains xs) e c)) (subst (λ zs. Contains zs y) s.is (among y (Contains-append_right (x ∷ []) xs y c)))) in
-    let size : length ys ≡ suc (length (s.front ++ s.back)) = ap length s.is ∙ longer_by_one s.front s.back x in
-    omega (arith, rest, size)
-
-moved : {X : Type 0} (pre xs : List X) (x : X) → (pre ++ x ∷ []) ++ xs ≡ pre ++ x ∷ xs
-moved [] xs x = refl
-moved (y ∷ pre) xs x = ap (λ zs. y ∷ zs) (moved pre xs x)
-
-inner : {X : Type 0} (pre front back : List X) (x : X) → pre ++ x ∷ (front ++ x ∷ back) ≡ (pre ++ x ∷ front) ++ x ∷ back
-inner [] front back x = refl
-inner (y ∷ pre) front back x = ap (λ zs. y ∷ zs) (inner pre front back x)
-
--- where none stands among those before it
-once_by : {X : Type 0} (pre xs : List X) → ((before after : List X) (x : X) → pre ++ xs ≡ before ++ x ∷ after → Contains before x → ⊥) → AreOnce xs
-once_by pre [] new = tt
-once_by pre (x ∷ xs) new = (
-  λ c.
-      let s = split_at xs x c in
-      new (pre ++ x ∷ s.front) s.back x (ap (λ zs. pre ++ x ∷ zs) s.is ∙ inner pre s.front s.back x) (Contains-append_right pre (x ∷ s.front) x (0, omega arith, refl)),
-  once_by (pre ++ x ∷ []) xs (λ before after y e k. new before after y (sym (moved pre xs x) ∙ e) k),
-)
-
-in_list : {X Y : Type 0} (f : X → Y) (xs : List X) (x : X) → Contains xs x → Contains (map f xs) (f x)
-in_list f [] x c = absurd (in_none x c)
-in_list f (y ∷ xs) x c = elim (in_cons y x xs c) [
-  | inl e ↦ (0, omega arith, ap f (sym e))
-  | inr later ↦ Contains-append_right (f y ∷ []) (map f xs) (f x) (in_list f xs x later)
-]
-
 most_is : (limit : ℤ) (b : Bool) → b ≡ true → (if b then 2 ^ 40 else min (unsigned_abs limit) (2 ^ 40)) ≡ 2 ^ 40
 most_is limit true e = refl
 most_is limit false e = absurd (true_or_false (sym e))
 
+-- the unit is a numbering of the atom
+abbrev Numbers : Spent → Atom → Type 0
+Numbers u a = u ≡ Numbered a
+
 pub few_not_spent : FewAtomsAreNotSpent
 few_not_spent ts frames limit branches us atoms none each few spent =
     let new : (before after : List Spent) (u : Spent) → us ≡ before ++ u ∷ after → IsNewAtom ts frames branches before u = units_are_new ts frames limit branches us none spent in
-    let once : AreOnce us = once_by [] us (λ before after u e. (new before after u e).new) in
-    let among : (u : Spent) → Contains us u → Contains (map Numbered atoms) u = λ u c. (
-    let s = split_at us u c in
-    let n = new s.front s.back u s.is in
-    subst (Contains (map Numbered atoms)) (sym n.is) (in_list Numbered atoms n.atom (each n.atom n.of_check))
-    ) in
-    let short : length us ≤ length (map Numbered atoms) = no_longer us (map Numbered atoms) once among in
-    let size : length (map Numbered atoms) ≡ length atoms = length-map atoms Numbered in
+    let apart : AreApart Numbers us = apart_by Numbers us (λ before after u e z c a n m. (new before after u e).new (subst (Contains before) (n ∙ sym m) c)) in
+    let short : length us ≤ length atoms = no_longer Numbers us atoms apart (λ u c. (let s = split_at us u c in let n = new s.front s.back u s.is in (n.atom, each n.atom n.of_check, n.is))) in
     let count : length us ≡ 2 ^ 40 = spent.count ∙ most_is limit (is_unlimited limit) none in
-    omega (arith, short, size, count, few)
+    omega (arith, short, count, few)
 
 pub boxed_not_spent : BoxedStacksAreNotSpent
 boxed_not_spent ts frames limit branches us atoms none boxed each few spent =

@@ -1,4 +1,6 @@
 mod Listed
+mod Counted
+mod Limited
 mod OneLeaf
 mod Five
 mod Past
@@ -8,3 +10,7 @@ mod Cores
 mod Minimum
 mod Boxed
 mod BoxOfFive
+mod BoxOfOne
+mod BoxedAtoms
+mod Branch
+mod Repeated

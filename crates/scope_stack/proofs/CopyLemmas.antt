@@ -1,11 +1,13 @@
 -- Copies of terms, and assertions that are made of them.
-use Rattle.std.proofs.Common.{◌≡◌, ◌∙◌, refl, ap, ap₂, sym, subst, ℕ, zero, suc, ◌+◌, ◌-◌, ◌<◌, Bool, true, false, List, [], ◌∷◌, ◌++◌, map, take, drop, length, slice_index, ◌⊎◌, arith, All, inl, inr, IsTrue, Some}
+use Rattle.std.proofs.Common.{◌≡◌, ◌∙◌, refl, ap, ap₂, sym, subst, ℕ, zero, suc, ◌+◌, ◌-◌, ◌<◌, ◌≤◌, Bool, true, false, List, [], ◌∷◌, ◌++◌, map, take, drop, length, slice_index, ◌⊎◌, arith, All, inl, inr, IsTrue, Some}
 use Rattle.std.specs.Prelude.{if◌then◌else◌}
 use Rattle.std.proofs.lemmas.List.{take-map, length_push, get_or_push, map-append}
-use Rattle.std.proofs.lemmas.List.Elements.{All-head, All-tail, All-nil, All-cons}
+use Rattle.std.proofs.lemmas.List.Elements.{All-head, All-tail, All-nil, All-cons, All-get_or, All-from_get_or}
 use Rattle.smt_meaning.specs.declared.values.Sort.{Sort}
 use Rattle.smt_meaning.specs.declared.values.Sort.TheVariants.{Bool as Truths}
+use Rattle.smt_meaning.specs.declared.terms.Operator.TheVariants.{False}
 use Rattle.smt_meaning.specs.declared.terms.Head.{Head}
+use Rattle.smt_meaning.specs.declared.terms.Head.TheVariants.{Theory}
 use Rattle.smt_meaning.specs.Declaration.{Declaration}
 use Rattle.smt_meaning.specs.Term.{Tree, Trees, node, none, more, tree_at}
 use Rattle.smt_meaning.specs.Nodes.{pick}
@@ -14,15 +16,16 @@ use Rattle.smt_meaning.specs.Parts.{IsPart, IsPartOfOne, IsOneOf, IsArgument, St
 use Rattle.smt_meaning.specs.Signature.{tree_sort, HasNoIdTwice}
 use Rattle.smt_meaning.specs.Stack.{Assertion as Asserted, Frame, signature_of, assertions_of}
 use Rattle.smt_sorts.specs.Names.{Names}
+use Rattle.smt_laws.specs.Numerals.{numerals_fit}
 use Rattle.term_store.specs.Terms.{Terms, tree_with, AreDifferent, IsPlace}
 use Rattle.term_store.proofs.NodeLemmas.{places_same}
 use Rattle.term_store.proofs.PlaceLemmas.{among_at}
 use Rattle.scope_stack.specs.declared.answers.Assertion.{Assertion}
 use Rattle.scope_stack.specs.Pieces.{pieces, all_of}
 use Rattle.scope_stack.specs.Inside.{asserted_by, frames_by, stack_by, IsWithin}
-use Rattle.scope_stack.specs.Facts.{IsKept}
+use Rattle.scope_stack.specs.Facts.{HasGivenSymbols, HaveGivenSymbols, IsKept}
 use Rattle.scope_stack.specs.Shown.{IsLawful}
-use Rattle.scope_stack.specs.Seen.{AreAssertions, IsSeen, IsFew, names_of, IsPartOf, AreCopies, AreMoved}
+use Rattle.scope_stack.specs.Seen.{AreAssertions, IsSeen, IsFew, names_of, IsPartOf, AreAllAmong, AreCopies, AreMoved}
 use Rattle.scope_stack.proofs.FrameLemmas.{tree_at-longer, shown_terms}
 use Rattle.scope_stack.proofs.SeenLemmas.{names_back}
 use Rattle.scope_stack.proofs.PieceLemmas.{all-pieces, length-pieces}
@@ -75,6 +78,22 @@ pub pick_copies : (ts us : List Tree) (places js : List ℕ) → AreCopies ts us
 pick_copies ts us places [] c among = refl
 pick_copies ts us places (j ∷ js) c among =
     ap₂ more (c.copies j (All-head (λ k. k < length us) j js among)) (pick_copies ts us places js c (All-tail (λ k. k < length us) j js among))
+
+-- ---- what all terms have
+
+pub copies_among : (ts us : List Tree) (places : List ℕ) → AreCopies ts us places → All (λ i. i < length ts) places → AreAllAmong us ts
+copies_among ts us places c within i lt =
+    let few : length us ≤ length places = c.few in
+    (slice_index places i, (All-get_or (λ j. j < length ts) places i 0 (omega (arith, lt, few)) within, c.copies i lt))
+
+pub among_given : (n : ℕ) (ts us : List Tree) → AreAllAmong us ts → HaveGivenSymbols n ts → HaveGivenSymbols n us
+among_given n ts us among given i lt = let a = among i lt in subst (HasGivenSymbols n) (sym a.1.1) (given a.0 a.1.0)
+
+among_fits : (ts us : List Tree) → AreAllAmong us ts → All (λ (t : Tree). IsTrue (numerals_fit t)) ts → All (λ (t : Tree). IsTrue (numerals_fit t)) us
+among_fits ts us among fit =
+    All-from_get_or (λ (t : Tree). IsTrue (numerals_fit t)) us (node (Theory False) none)
+    (λ i lt. let a = among i lt in
+    subst (λ (t : Tree). IsTrue (numerals_fit t)) (sym a.1.1) (All-get_or (λ (t : Tree). IsTrue (numerals_fit t)) ts a.0 (node (Theory False) none) a.1.0 fit))
 
 -- ---- one copy more
 
@@ -178,6 +197,7 @@ module _ {global : Bool} where
           no_id_twice = subst (λ (fs : List Frame). HasNoIdTwice (signature_of fs)) (sym same) lawful.no_id_twice;
           truths = subst (λ (fs : List Frame). All (λ (u : Tree). tree_sort (signature_of fs) u ≡ Some Truths) (assertions_of fs)) (sym same) lawful.truths;
           in_order = f.in_order;
+          numerals = among_fits store.trees few.trees f.among lawful.numerals;
           parts = subst (All (λ (u : Tree). (v : Tree) → IsPart v u → IsTrue (is_among v few.trees))) (shown_terms few.trees t.levels yss many) (all_parts few.trees (all_of yss) f.in_order f.moved.within);
         };
         facts = f.facts;

@@ -95,18 +95,6 @@ module _ (n : ℕ) (us ds : List Declaration) (same : (f : ℕ) → f < n → fu
         ap (λ o. cons_sort o (tree_sorts us ts)) (same_sort t (below_left (λ f. f < n) (symbols t) (symbols_of ts) a))
         ∙ ap (cons_sort (tree_sort ds t)) (same_sorts ts (below_right (λ f. f < n) (symbols t) (symbols_of ts) a))
 
--- a function that is found has an id that was given
-found_given : (f n : ℕ) (ds : List Declaration) (d : Declaration) → function_with_id f ds ≡ Some d → All (λ (e : Declaration). e.id < n) ds → f < n
-found_given f n [] d e h = absurd cc
-found_given f n (x ∷ ds) d e h = go (λ q. found_given f n ds d q (All-tail (λ (e : Declaration). e.id < n) x ds h)) (nat_eq f x.id && not x.is_sort) refl e
-  where
-    go : (function_with_id f ds ≡ Some d → f < n) → (b : Bool) → (nat_eq f x.id && not x.is_sort) ≡ b → (if b then Some x else function_with_id f ds) ≡ Some d → f < n
-    go later true p q =
-        let same : f ≡ x.id = eqb-true f x.id (and_left (nat_eq f x.id) (not x.is_sort) p) in
-        let first : x.id < n = All-head (λ (e : Declaration). e.id < n) x ds h in
-        omega (arith, same, first)
-    go later false p q = later q
-
 found_sort : (o : Option Declaration) (d : Declaration) (ss : List Sort) (s : Sort) → o ≡ Some d → symbol_sort o ss ≡ Some s → d.rank.result ≡ s
 found_sort o d ss s e h = by_test (is_symbol d && sorts_eq ss d.rank.arguments) (subst (λ p. symbol_sort p ss ≡ Some s) e h)
   where
@@ -114,28 +102,19 @@ found_sort o d ss s e h = by_test (is_symbol d && sorts_eq ss d.rank.arguments) 
     by_test true k = the_some d.rank.result s k
     by_test false k = absurd cc
 
-pub found_result : (t : Names) (f : ℕ) (d : Declaration) → function_with_id f (signature t) ≡ Some d → All (λ (e : Declaration). e.id < t.given) (signature t) → IsResult t f d.rank.result
-found_result t f d e h = record {
-  given = found_given f t.given (signature t) d e h;
-  sort = λ ss s k. found_sort (function_with_id f (signature t)) d ss s e k;
-}
+pub found_result : (t : Names) (f : ℕ) (d : Declaration) → function_with_id f (signature t) ≡ Some d → IsResult t f d.rank.result
+found_result t f d e = record { sort = λ ss s k. found_sort (function_with_id f (signature t)) d ss s e k }
+
+-- what isn't declared has no results
+pub unfound_result : (t : Names) (f : ℕ) (r : Sort) → function_with_id f (signature t) ≡ None → IsResult t f r
+unfound_result t f r e = record { sort = λ ss s k. let none : symbol_sort None ss ≡ Some s = subst (λ o. symbol_sort o ss ≡ Some s) e k in absurd cc }
 
 -- ---- one term more
 
-given_arguments : (n count : ℕ) (trees : List Tree) (is : List ℕ) → ((p : ℕ) → p < count → HasGivenSymbols n (tree_at trees p)) → All (λ i. i < count) is → All (λ f. f < n) (symbols_of (pick trees is))
-given_arguments n count trees [] h w = All-nil (λ f. f < n)
-given_arguments n count trees (i ∷ is) h w =
-    All-append (λ f. f < n) (symbols (tree_at trees i)) (symbols_of (pick trees is)) (h i (All-head (λ j. j < count) i is w)) (given_arguments n count trees is h (All-tail (λ j. j < count) i is w))
-
 -- the fact of a term by its node
-fact_of : (t : Names) (trees : List Tree) (count : ℕ) (rs : List Sort) (u : Tree) (h : Head) (is : List ℕ) (r : Sort) → AreFacts t trees count rs → All (λ i. i < count) is → u ≡ tree_with trees h is
-    → All (λ f. f < t.given) (head_symbols h) → ((s : Sort) → tree_sort (signature t) (tree_with trees h is) ≡ Some s → r ≡ s) → IsFact t u r
-fact_of t trees count rs u h is r a w e g k =
-    subst (λ v. IsFact t v r) (sym e)
-    (record {
-      given = All-append (λ f. f < t.given) (head_symbols h) (symbols_of (pick trees is)) g (given_arguments t.given count trees is a.given w);
-      sort = k;
-    })
+fact_of : (t : Names) (trees : List Tree) (u : Tree) (h : Head) (is : List ℕ) (r : Sort) → HasGivenSymbols t.given u → u ≡ tree_with trees h is
+    → ((s : Sort) → tree_sort (signature t) (tree_with trees h is) ≡ Some s → r ≡ s) → IsFact t u r
+fact_of t trees u h is r g e k = record { given = g; sort = λ s q. k s (subst (λ v. tree_sort (signature t) v ≡ Some s) e q) }
 
 numeral_sort : (ds : List Declaration) (n : ℤ) (us : Trees) (s : Sort) → tree_sort ds (node (Numeral n) us) ≡ Some s → Ints ≡ s
 numeral_sort ds n us s e = let a : HasArguments ds (Numeral n) us s = arguments_of ds (Numeral n) us s e in by_sorts a.sorts a.made
@@ -150,21 +129,21 @@ place_sort ds k us s e =
     let made : None ≡ Some s = a.made in
     absurd cc
 
-module _ (t : Names) (trees : List Tree) (count : ℕ) (rs : List Sort) (u : Tree) (is : List ℕ) (a : AreFacts t trees count rs) (w : All (λ i. i < count) is) where
-  pub theory_fact : (o : Operator) (branch : Sort) → u ≡ tree_with trees (Theory o) is → (1 < length is → branch ≡ slice_index_or rs (slice_index is 1) Truths) → IsFact t u (made_sort o branch)
-  theory_fact o branch e b =
-      fact_of t trees count rs u (Theory o) is (made_sort o branch) a w e (All-nil (λ f. f < t.given)) (λ s k. theory_sort (signature t) trees count rs o is s branch a.sorts w b k)
+module _ (t : Names) (trees : List Tree) (u : Tree) (is : List ℕ) (g : HasGivenSymbols t.given u) where
+  pub theory_fact : (count : ℕ) (rs : List Sort) → AreFacts t trees count rs → All (λ i. i < count) is → (o : Operator) (branch : Sort) → u ≡ tree_with trees (Theory o) is
+      → (1 < length is → branch ≡ slice_index_or rs (slice_index is 1) Truths) → IsFact t u (made_sort o branch)
+  theory_fact count rs a w o branch e b = fact_of t trees u (Theory o) is (made_sort o branch) g e (λ s k. theory_sort (signature t) trees count rs o is s branch a.sorts w b k)
 
   pub symbol_fact : (f : ℕ) (r : Sort) → u ≡ tree_with trees (Symbol f) is → IsResult t f r → IsFact t u r
   symbol_fact f r e h =
-      fact_of t trees count rs u (Symbol f) is r a w e (All-cons (λ g. g < t.given) f [] h.given (All-nil (λ g. g < t.given)))
+      fact_of t trees u (Symbol f) is r g e
       (λ s k. let b : HasArguments (signature t) (Symbol f) (pick trees is) s = arguments_of (signature t) (Symbol f) (pick trees is) s k in h.sort b.sorts s b.made)
 
   pub numeral_fact : (n : ℤ) → u ≡ tree_with trees (Numeral n) is → IsFact t u Ints
-  numeral_fact n e = fact_of t trees count rs u (Numeral n) is Ints a w e (All-nil (λ f. f < t.given)) (λ s k. numeral_sort (signature t) n (pick trees is) s k)
+  numeral_fact n e = fact_of t trees u (Numeral n) is Ints g e (λ s k. numeral_sort (signature t) n (pick trees is) s k)
 
   pub place_fact : (k : ℕ) → u ≡ tree_with trees (Place k) is → IsFact t u Ints
-  place_fact k e = fact_of t trees count rs u (Place k) is Ints a w e (All-nil (λ f. f < t.given)) (λ s q. place_sort (signature t) k (pick trees is) s q)
+  place_fact k e = fact_of t trees u (Place k) is Ints g e (λ s q. place_sort (signature t) k (pick trees is) s q)
 
 pub no_facts : (t : Names) (trees : List Tree) → AreFacts t trees 0 []
 no_facts t trees = record { given = λ p lt. absurd (omega arith); sorts = record { size = refl; each = λ p s lt e. absurd (omega arith) } }

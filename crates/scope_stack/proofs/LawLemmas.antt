@@ -1,11 +1,26 @@
 -- What is true of each stack that commands give.
-use Rattle.std.proofs.Common.{subst}
-use Rattle.smt_meaning.specs.StackCommand.{Stack}
+use Rattle.std.proofs.Common.{ℕ, ◌<◌, All, subst}
+use Rattle.std.proofs.lemmas.List.Elements.{All-get_or}
+use Rattle.smt_meaning.specs.declared.terms.Operator.TheVariants.{False}
+use Rattle.smt_meaning.specs.declared.terms.Head.TheVariants.{Theory}
+use Rattle.smt_meaning.specs.Clause.{symbols}
+use Rattle.smt_meaning.specs.Term.{Tree, node, none}
+use Rattle.smt_meaning.specs.StackCommand.{Stack, start, after_all}
 use Rattle.smt_laws.specs.TermLaws.{NoIdTwice}
 use Rattle.smt_laws.specs.SortLaws.{AssertionsAreTruths, TreesAreInOrder, PartsAreAmongTheTrees}
+use Rattle.smt_laws.specs.LinearLaws.{NumeralsAreInRange, SymbolsAreGiven}
+use Rattle.scope_stack.specs.Facts.{HaveGivenSymbols}
 use Rattle.scope_stack.specs.Inside.{IsReached}
 use Rattle.scope_stack.specs.Shown.{IsLawful}
 
-pub reached_lawful : (s : Stack) → IsReached s → NoIdTwice → AssertionsAreTruths → TreesAreInOrder → PartsAreAmongTheTrees → IsLawful s
+pub reached_lawful : (s : Stack) → IsReached s → NoIdTwice → AssertionsAreTruths → TreesAreInOrder → PartsAreAmongTheTrees → NumeralsAreInRange → IsLawful s
 unfolding IsReached
-reached_lawful s h ids truths order parts = subst IsLawful h.1 (record { no_id_twice = ids h.0; truths = truths h.0; in_order = order h.0; parts = parts h.0 })
+reached_lawful s h ids truths order parts numerals =
+    subst IsLawful h.1 (record { no_id_twice = ids h.0; truths = truths h.0; in_order = order h.0; parts = parts h.0; numerals = numerals h.0 })
+
+-- the symbols of its terms were given
+pub reached_given : (s : Stack) → IsReached s → SymbolsAreGiven → HaveGivenSymbols s.given s.trees
+unfolding IsReached
+reached_given s h law =
+    subst (λ (t : Stack). HaveGivenSymbols t.given t.trees) h.1
+    (λ p lt. let t = after_all start h.0 in All-get_or (λ (u : Tree). All (λ f. f < t.given) (symbols u)) t.trees p (node (Theory False) none) lt (law h.0))

@@ -9,6 +9,7 @@ use Rattle.smt_sorts.specs.Names.{Names}
 use Rattle.term_store.specs.Terms.{Terms}
 use Rattle.smt_laws.specs.TermLaws.{NoIdTwice}
 use Rattle.smt_laws.specs.SortLaws.{AssertionsAreTruths, TreesAreInOrder, PartsAreAmongTheTrees}
+use Rattle.smt_laws.specs.LinearLaws.{NumeralsAreInRange}
 use Rattle.scope_stack.specs.declared.answers.Assertion.{Assertion}
 use Rattle.scope_stack.specs.Inside.{frames_by, stack_by, IsStack}
 use Rattle.scope_stack.specs.Facts.{IsKept}
@@ -19,11 +20,11 @@ pub assertions_of_kept : {global : Bool} (t : Names) (store : Terms) (xss : List
 assertions_of_kept t store xss h = record { limit = h.limit; as_many = h.as_many; some = h.some; few = h.few; within = h.within }
 
 pub seen_of_kept : {global : Bool} (t : Names) (store : Terms) (xss : List (List Assertion)) (rs : List Sort) (ls : List ℕ) → IsKept global t store xss rs ls
-    → NoIdTwice → AssertionsAreTruths → TreesAreInOrder → PartsAreAmongTheTrees → IsSeen global t store xss rs ls
-seen_of_kept {global = global} t store xss rs ls h ids truths order parts =
+    → NoIdTwice → AssertionsAreTruths → TreesAreInOrder → PartsAreAmongTheTrees → NumeralsAreInRange → IsSeen global t store xss rs ls
+seen_of_kept {global = global} t store xss rs ls h ids truths order parts numerals =
     record {
       stack = assertions_of_kept t store xss h.stack;
-      lawful = reached_lawful (stack_by global t store.trees xss) h.stack.reached ids truths order parts;
+      lawful = reached_lawful (stack_by global t store.trees xss) h.stack.reached ids truths order parts numerals;
       facts = h.facts;
       levels = h.levels;
     }

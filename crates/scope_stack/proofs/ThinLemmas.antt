@@ -15,6 +15,7 @@ use Rattle.smt_meaning.specs.Stack.{Assertion as Asserted, Frame, signature_of, 
 use Rattle.smt_meaning.specs.StackCommand.{Stack}
 use Rattle.smt_sorts.specs.Names.{Names}
 use Rattle.term_store.specs.Terms.{Terms}
+use Rattle.smt_laws.specs.Numerals.{numerals_fit}
 use Rattle.scope_stack.specs.declared.answers.Assertion.{Assertion}
 use Rattle.scope_stack.specs.Pieces.{pieces, AreCuts, all_of}
 use Rattle.scope_stack.specs.Inside.{asserted_by, frames_by, stack_by, IsWithin}
@@ -246,6 +247,7 @@ lawful_kept keeps s u h e t =
           (subst (λ (fs : List Frame). All (λ (v : Tree). tree_sort (signature_of s.frames) v ≡ Some Truths) (assertions_of fs)) (sym e)
           (assertions_keeping (λ (v : Tree). tree_sort (signature_of s.frames) v ≡ Some Truths) keeps 0 s.frames h.truths));
       in_order = subst AreInOrder (sym t) h.in_order;
+      numerals = subst (All (λ (v : Tree). IsTrue (numerals_fit v))) (sym t) h.numerals;
       parts = subst (λ (ts : List Tree). All (λ (v : Tree). (w : Tree) → IsPart w v → IsTrue (is_among w ts)) (assertions_of u.frames)) (sym t)
           (subst (λ (fs : List Frame). All (λ (v : Tree). (w : Tree) → IsPart w v → IsTrue (is_among w s.trees)) (assertions_of fs)) (sym e)
           (assertions_keeping (λ (v : Tree). (w : Tree) → IsPart w v → IsTrue (is_among w s.trees)) keeps 0 s.frames h.parts));

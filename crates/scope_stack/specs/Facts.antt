@@ -38,9 +38,12 @@ made_sort _ branch = Truths
 abbrev pub HasGivenSymbols : ℕ → Tree → Type 0
 HasGivenSymbols given t = All (λ f. f < given) (symbols t)
 
--- the symbol was given, and its results have this sort
+-- those in all of the terms
+abbrev pub HaveGivenSymbols : ℕ → List Tree → Type 0
+HaveGivenSymbols given trees = (p : ℕ) → p < length trees → HasGivenSymbols given (tree_at trees p)
+
+-- where the symbol is declared, its results have this sort
 pub record IsResult (t : Names) (f : ℕ) (r : Sort) : Type 0 where
-  pub given : f < t.given
   pub sort : (arguments : List Sort) (s : Sort) → symbol_sort (function_with_id f (signature t)) arguments ≡ Some s → r ≡ s
 
 -- the sort of a term, where it has one

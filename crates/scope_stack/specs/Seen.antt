@@ -40,6 +40,10 @@ pub record IsPartOf (s : Stack) (store : Terms) (xss : List (List Assertion)) (r
 
 -- ---- copies
 
+-- each of these terms is one of those
+abbrev pub AreAllAmong : List Tree → List Tree → Type 0
+AreAllAmong us ts = (i : ℕ) → i < length us → (p : ℕ) × ((p < length ts) × (tree_at us i ≡ tree_at ts p))
+
 -- copies of the terms at the first of these places, in order
 pub record AreCopies (ts us : List Tree) (places : List ℕ) : Type 0 where
   pub few : length us ≤ length places
@@ -56,6 +60,7 @@ pub record AreMoved (ts us : List Tree) (xss yss : List (List Assertion)) : Type
 pub record IsFew (t : Names) (ts : List Tree) (xss : List (List Assertion)) (store : Terms) (yss : List (List Assertion)) (rs : List Sort) (ls : List ℕ) : Type 0 where
   pub limit : store.limit ≡ most_terms
   pub in_order : AreInOrder store.trees
+  pub among : AreAllAmong store.trees ts
   pub moved : AreMoved ts store.trees xss yss
   pub facts : AreFacts t store.trees (length store.trees) rs
   pub levels : HaveLevels t store.trees (length store.trees) ls

@@ -8,6 +8,7 @@ use Rattle.smt_meaning.specs.Signature.{tree_sort, HasNoIdTwice}
 use Rattle.smt_meaning.specs.Stack.{signature_of, assertions_of}
 use Rattle.smt_meaning.specs.State.{texts_of}
 use Rattle.smt_meaning.specs.StackCommand.{Stack}
+use Rattle.smt_laws.specs.Numerals.{numerals_fit}
 use Rattle.scope_stack.specs.declared.answers.Assertion.{Assertion}
 
 -- these are the stack's assertions, in order
@@ -22,3 +23,4 @@ pub record IsLawful (s : Stack) : Type 0 where
   pub truths : All (λ (t : Tree). tree_sort (signature_of s.frames) t ≡ Some Truths) (assertions_of s.frames)
   pub in_order : AreInOrder s.trees
   pub parts : All (λ (t : Tree). (u : Tree) → IsPart u t → IsTrue (is_among u s.trees)) (assertions_of s.frames)
+  pub numerals : All (λ (t : Tree). IsTrue (numerals_fit t)) s.trees

@@ -1,7 +1,7 @@
 //! Copies of the terms that assertions need.
 ghost use Rattle.std.specs.Prelude.{◌≡◌, ◌<◌, [], true, length, map, All, IfOk, IfSome, slice_index};
 ghost use Rattle.scope_stack.specs.Inside.{IsWithin};
-ghost use Rattle.scope_stack.specs.Seen.{AreCopies};
+ghost use Rattle.scope_stack.specs.Seen.{AreAllAmong, AreCopies};
 
 use crate::answers::Assertion;
 use crate::term_set::TermSet;
@@ -141,6 +141,7 @@ pub(crate) fn copy_terms(
     requires members { All (λ i. i < length terms.now.trees) needed.now.members.items }
     ensures limit { IfOk result (λ found. IfSome found (λ c. c.limit ≡ 4294967295)) }
     ensures copies { IfOk result (λ found. IfSome found (λ c. AreCopies terms.now.trees c.trees needed.now.members.items)) }
+    ensures among { IfOk result (λ found. IfSome found (λ c. AreAllAmong c.trees terms.now.trees)) }
 {
     let mut copies = TermStore::new(alloc, u32::MAX);
     let mut buffer = Vec::new(alloc);

@@ -1,8 +1,8 @@
 //! What is kept beside the terms, by their places.
-ghost use Rattle.std.specs.Prelude.{◌≡◌, ◌<◌, ◌≤◌, [], ◌∷◌, ◌++◌, length, take, All, OnOk, OnErr, IfSome, slice_index, slice_index_or};
+ghost use Rattle.std.specs.Prelude.{◌≡◌, ◌<◌, ◌≤◌, [], ◌∷◌, ◌++◌, length, take, All, OnOk, OnErr, slice_index, slice_index_or};
 ghost use Rattle.smt_meaning.specs.declared.values.Sort.TheVariants.{Bool as Truths};
 ghost use Rattle.smt_meaning.specs.Term.{tree_at};
-ghost use Rattle.scope_stack.specs.Facts.{AreFacts, HaveLevels, IsFact, IsHeadLevel, IsResult, IsTermLevel, greatest_of, made_sort as made_by};
+ghost use Rattle.scope_stack.specs.Facts.{AreFacts, HasGivenSymbols, HaveGivenSymbols, HaveLevels, IsFact, IsHeadLevel, IsResult, IsTermLevel, greatest_of, made_sort as made_by};
 ghost use Rattle.scope_stack.specs.Pieces.{on_last};
 
 use crate::answers::Assertion;
@@ -48,29 +48,29 @@ fn branch_sort(sorts: &[Sort], places: &[TermId]) -> Sort
     sorts[places[1] as usize]
 }
 
-/// The sort of a symbol's result, where the symbol is declared.
-fn result_sort(table: &Table, symbol: SymId) -> Option<Sort>
-    ensures { IfSome result (IsResult table.now symbol) }
+/// The sort of a symbol's result. Of a symbol that isn't declared it is any.
+fn result_sort(table: &Table, symbol: SymId) -> Sort
+    ensures { IsResult table.now symbol result }
 {
-    let _ = table.ids();
     match table.function_with_id(symbol) {
-        Some(found) => Some(found.rank().result),
-        None => None,
+        Some(found) => found.rank().result,
+        None => Sort::Bool,
     }
 }
 
-/// The sort of the term at a place, where those of the terms before it are known. There is none where its symbol isn't declared.
-fn sort_at(table: &Table, terms: &TermStore, sorts: &[Sort], id: TermId) -> Option<Sort>
+/// The sort of the term at a place, where those of the terms before it are known.
+fn sort_at(table: &Table, terms: &TermStore, sorts: &[Sort], id: TermId) -> Sort
     requires within { id < length terms.now.trees }
+    requires given { HasGivenSymbols table.now.given (tree_at terms.now.trees id) }
     requires facts { AreFacts table.now terms.now.trees id sorts.now }
-    ensures { IfSome result (IsFact table.now (tree_at terms.now.trees id)) }
+    ensures { IsFact table.now (tree_at terms.now.trees id) result }
 {
     let node = terms.node(id);
     match node.head {
-        Head::Theory(operator) => Some(made_sort(operator, branch_sort(sorts, node.arguments))),
+        Head::Theory(operator) => made_sort(operator, branch_sort(sorts, node.arguments)),
         Head::Symbol(symbol) => result_sort(table, symbol),
-        Head::Numeral(_) => Some(Sort::Int),
-        Head::Place(_) => Some(Sort::Int),
+        Head::Numeral(_) => Sort::Int,
+        Head::Place(_) => Sort::Int,
     }
 }
 
@@ -82,15 +82,13 @@ fn add_sorts(
     sorts: &mut Vec<Sort>,
 ) -> Result<(), AllocError>
     requires within { from ≤ length terms.now.trees }
+    requires given { HaveGivenSymbols table.now.given terms.now.trees }
     requires facts { AreFacts table.now terms.now.trees from sorts.old.items }
     ensures facts { OnOk result (AreFacts table.now terms.now.trees (length terms.now.trees) sorts.new.items) }
     ensures kept { take from sorts.new.items ≡ sorts.old.items }
 {
     for id in from..terms.len() {
-        // The symbols of a term are declared when it is judged, so there is always a sort.
-        let Some(sort) = sort_at(table, terms, sorts, id) else {
-            return Err(AllocError);
-        };
+        let sort = sort_at(table, terms, sorts, id);
         sorts.push(sort)?;
     }
     Ok(())
@@ -160,7 +158,7 @@ fn add_levels(
 
 impl TermFacts {
     ghost use Rattle.std.specs.Prelude.{◌≡◌, ◌≤◌, length, take, [], OnOk};
-    ghost use Rattle.scope_stack.specs.Facts.{AreFacts, HaveLevels};
+    ghost use Rattle.scope_stack.specs.Facts.{AreFacts, HaveGivenSymbols, HaveLevels};
 
     /// Of no term. It takes no memory.
     pub fn new(alloc: Global) -> Self
@@ -182,6 +180,7 @@ impl TermFacts {
     ) -> Result<(), AllocError>
         requires within { from ≤ length terms.now.trees }
         requires few { length table.now.levels ≤ 65536 }
+        requires given { HaveGivenSymbols table.now.given terms.now.trees }
         requires facts { AreFacts table.now terms.now.trees from self.old.sorts.items }
         requires levels { HaveLevels table.now terms.now.trees from self.old.levels.items }
         ensures facts { OnOk result (AreFacts table.now terms.now.trees (length terms.now.trees) self.new.sorts.items) }
@@ -214,6 +213,7 @@ pub(crate) fn add_level(
 ) -> Result<(), AllocError>
     requires within { from ≤ length terms.now.trees }
     requires few { length table.now.levels ≤ 65536 }
+    requires given { HaveGivenSymbols table.now.given terms.now.trees }
     requires facts { AreFacts table.now terms.now.trees from facts.old.sorts.items }
     requires levels { HaveLevels table.now terms.now.trees from facts.old.levels.items }
     ensures ok { OnOk result (asserted.new ≡ asserted.old ++ assertions.items ∷ []) }
@@ -238,6 +238,7 @@ pub(crate) fn add_assertion(
 ) -> Result<(), AllocError>
     requires within { from ≤ length terms.now.trees }
     requires few { length table.now.levels ≤ 65536 }
+    requires given { HaveGivenSymbols table.now.given terms.now.trees }
     requires facts { AreFacts table.now terms.now.trees from facts.old.sorts.items }
     requires levels { HaveLevels table.now terms.now.trees from facts.old.levels.items }
     ensures ok { OnOk result (asserted.new ≡ on_last (assertion ∷ []) asserted.old) }

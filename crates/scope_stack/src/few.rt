@@ -1,5 +1,6 @@
 //! The terms of a stack's assertions alone.
 ghost use Rattle.std.specs.Prelude.{◌≡◌, ◌+◌, ◌≤◌, ◌<◌, length, IfOk, IfSome};
+ghost use Rattle.scope_stack.specs.Facts.{HaveGivenSymbols};
 ghost use Rattle.scope_stack.specs.Seen.{AreAssertions, IsFew};
 
 use crate::asserted::Asserted;
@@ -26,7 +27,8 @@ pub(crate) fn few_terms(
     asserted: &Asserted,
     needed: &mut TermSet,
 ) -> Result<Option<Few>, AllocError>
-    requires { AreAssertions table.now terms.now asserted.now }
+    requires assertions { AreAssertions table.now terms.now asserted.now }
+    requires given { HaveGivenSymbols table.now.given terms.now.trees }
     ensures { IfOk result (λ found. IfSome found (λ f. IsFew table.now terms.now.trees asserted.now f.terms f.asserted f.facts.sorts.items f.facts.levels.items)) }
 {
     let most = terms.len() as usize / 2;

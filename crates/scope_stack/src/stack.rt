@@ -9,8 +9,8 @@ use crate::few::{Few, few_terms};
 use crate::term::{judge_assertion, judge_assumptions, judge_questions};
 use crate::term_set::TermSet;
 use smt_laws::{
-    assertions_are_truths, assumptions_are_commands, no_id_twice, parts_are_among_the_trees,
-    tree_equality_decides, trees_are_in_order,
+    assertions_are_truths, assumptions_are_commands, no_id_twice, numerals_are_in_range,
+    parts_are_among_the_trees, symbols_are_given, tree_equality_decides, trees_are_in_order,
 };
 use smt_meaning::language::{Parameter, WrittenSort};
 use smt_meaning::{Bytes, Declaration, Refusal, SExpr, Seq, Sort, SymId};
@@ -192,6 +192,7 @@ impl ScopeStack {
     pub fn assert_term(&mut self, alloc: Global, term: &SExpr) -> Result<Carried, StackError>
         ensures { Carries (λ level. assert_term term.now) self.old result self.new }
     {
+        symbols_are_given();
         let text = term.copy(alloc)?;
         let ids = self.table.ids();
         let count = self.terms.len();
@@ -219,6 +220,7 @@ impl ScopeStack {
     pub fn ask(&mut self, alloc: Global, terms: &[SExpr]) -> Result<Seq<Asked>, StackError>
         ensures { Answers terms.now self.old result self.new }
     {
+        symbols_are_given();
         let count = self.terms.len();
         let asked = judge_questions(alloc, terms, &mut self.table, &mut self.terms)?;
         match self.facts.extend(&self.table, &self.terms, count) {
@@ -251,6 +253,7 @@ impl ScopeStack {
         assertions_are_truths();
         trees_are_in_order();
         parts_are_among_the_trees();
+        numerals_are_in_range();
         let _ = self.terms.len();
     }
 
@@ -259,6 +262,7 @@ impl ScopeStack {
         ensures { Assumes terms.now self.old result self.new }
     {
         assumptions_are_commands();
+        symbols_are_given();
         let count = self.terms.len();
         let depth = self.depth();
         let assumed = judge_assumptions(alloc, terms, depth, &mut self.table, &mut self.terms)?;
@@ -381,6 +385,7 @@ impl ScopeStack {
         assertions_are_truths();
         trees_are_in_order();
         parts_are_among_the_trees();
+        numerals_are_in_range();
         let ScopeStack {
             table,
             terms,
@@ -431,6 +436,7 @@ impl ScopeStack {
         assertions_are_truths();
         trees_are_in_order();
         parts_are_among_the_trees();
+        numerals_are_in_range();
         let ScopeStack {
             table,
             terms,

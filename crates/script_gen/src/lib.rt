@@ -7,8 +7,6 @@ ghost use Rattle.script_gen.specs.Script.{script};
 mod draws;
 mod examples;
 mod round;
-#[cfg(test)]
-mod tests;
 
 use draws::draw;
 pub use examples::{draws_of_seed_one, smallest_script};

@@ -219,6 +219,3 @@ fits_done cs i t rows ks n end listed fx ft fits = every_all rows (shift_fits cs
     by_list : (k : ℕ) → k < length rows → Contains ks k ⊎ (Contains ks k → ⊥) → shift_fits cs i t (row_at rows k) ≡ true
     by_list k lt (inl is) = fits k lt (taken_all ks n k end is)
     by_list k lt (inr none) = lacking_fits rows cs k i t (fx k lt) ft (unlisted rows ks i k listed lt none)
-
-pub basic_values : (t : Table) (cs : List Column) → IsTable t → length cs ≡ t.count → ((i : ℕ) (d : Column) → i < length cs → IsFraction (get_or cs i d).value) → (k : ℕ) → k < length t.rows → IsFraction (values cs (row_at t.rows k).basic)
-basic_values t cs facts count h k lt = h (row_at t.rows k).basic no_column (let b = facts.basics k lt in omega (arith, b, count))

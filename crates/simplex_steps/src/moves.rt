@@ -70,15 +70,6 @@ fn list_shift(
     }
 }
 
-/// Tells that each value is a fraction in lowest terms, as each `Fraction` is.
-fn check_values(columns: &[Column])
-    ensures { (i : ℕ) (d : Column) → i < length columns.now → IsFraction (slice_index_or columns.now i d).value }
-{
-    for column in columns {
-        let _value = column.value.ratio();
-    }
-}
-
 /// Lists what the basic variables become when a variable moves by a distance, each of them at least once.
 fn list_shifts(
     moved: &mut Vec<Moved>,
@@ -87,13 +78,13 @@ fn list_shifts(
     variable: u32,
     distance: Fraction,
 ) -> Result<(), Failure>
-    requires { length columns.now ≡ tableau.now.count }
+    requires count { length columns.now ≡ tableau.now.count }
+    requires fractions { (i : ℕ) → IsFraction (values columns.now i) }
     ensures ok { OnOk result (AreShifts columns.now variable distance tableau.now.rows moved.new.items) }
     ensures fits { OnOk result (every_row tableau.now.rows (shift_fits columns.now variable distance) ≡ true) }
     ensures range { IfErr result (λ e. IsRange e → every_row tableau.now.rows (shift_fits columns.now variable distance) ≡ false) }
 {
     tableau.facts();
-    check_values(columns);
     let _distance = distance.ratio();
     moved.clear();
     let places = tableau.holders(variable);
@@ -145,6 +136,7 @@ fn list_move(
     number: i128,
 ) -> Result<(), Failure>
     requires count { length columns.now ≡ tableau.now.count }
+    requires fractions { (i : ℕ) → IsFraction (values columns.now i) }
     requires number { InRange number }
     requires known { variable < tableau.now.count }
     ensures ok { OnOk result (AreShifts columns.now variable (distance number (values columns.now variable)) tableau.now.rows moved.new.items) }
@@ -166,6 +158,7 @@ pub fn move_columns(
 ) -> Result<(), Failure>
     requires covers { Covers suspects.old columns.old }
     requires count { length columns.old ≡ tableau.now.count }
+    requires fractions { (i : ℕ) → IsFraction (values columns.old i) }
     requires number { InRange number }
     requires known { variable < tableau.now.count }
     ensures ok { OnOk result (columns.new ≡ moved_to tableau.now.rows columns.old variable number) }
@@ -211,6 +204,7 @@ fn list_pivot(
     entering: u32,
 ) -> Result<Fraction, Failure>
     requires count { length columns.now ≡ tableau.now.count }
+    requires fractions { (i : ℕ) → IsFraction (values columns.now i) }
     requires number { InRange number }
     requires place { place < length tableau.now.rows }
     requires known { entering < tableau.now.count }
@@ -244,6 +238,7 @@ pub fn pivot_columns(
 ) -> Result<(), Failure>
     requires covers { Covers suspects.old columns.old }
     requires count { length columns.old ≡ tableau.old.count }
+    requires fractions { (i : ℕ) → IsFraction (values columns.old i) }
     requires number { InRange number }
     requires place { place < length tableau.old.rows }
     requires known { entering < tableau.old.count }
@@ -277,6 +272,7 @@ pub fn try_columns(
     entering: u32,
 ) -> Result<(), Failure>
     requires count { length columns.now ≡ tableau.old.count }
+    requires fractions { (i : ℕ) → IsFraction (values columns.now i) }
     requires number { InRange number }
     requires place { place < length tableau.old.rows }
     requires known { entering < tableau.old.count }

@@ -1,139 +1,170 @@
 -- What holds after each step of a judgement, where it isn't refused.
-use Rattle.std.proofs.Common.{◌≡◌, ℕ, List, [], ◌∷◌, ◌++◌, refl, Bool, true, false, Option, Some, None, nat_lt}
+use Rattle.std.proofs.Common.{◌≡◌, ◌∙◌, ℕ, ◌+◌, ◌<◌, ◌≤◌, List, [], ◌∷◌, ◌++◌, refl, Bool, true, false, Option, Some, None, nat_lt, arith}
 use Rattle.smt_meaning.specs.declared.values.Sort.{Sort}
 use Rattle.smt_meaning.specs.Declaration.{Declaration, Body}
 use Rattle.smt_meaning.specs.declared.refusals.Refusal.{Refusal}
 use Rattle.smt_meaning.specs.Term.{Tree}
-use Rattle.smt_meaning.specs.Sorts.{Scope, Outcome, done, refused, Judging, go_on, ◌>>=◌, ◌>>◌, return, refuse, require, required, the_scope, note, found, declare, declare_in, most_symbols, Typed}
+use Rattle.smt_meaning.specs.Sorts.{Scope, Outcome, done, refused, Judging, go_on, ◌>>=◌, ◌>>◌, return, refuse, require, required, the_scope, note, found, declare, declare_in, most_symbols, Typed, Rules}
 use Rattle.smt_laws.proofs.Among.{Among, kept_with_all, among_with_all}
 use Rattle.smt_laws.proofs.Each.{Each, each_with_all}
-use Rattle.smt_laws.proofs.Shapes.{Linear, linear_down, Small, small_down}
+use Rattle.smt_laws.proofs.Shapes.{Linear, linear_down, Sound, sound_down, each_sound_more}
 
 -- ---- what a scope keeps
 
--- the body of a definition is one of its trees, whose numerals are in the range
-abbrev pub Stands : Option Body → Type 0
-Stands None = Unit {0}
-Stands (Some b) = Among b.term b.terms × Each Small b.terms
+-- the body of a definition is one of its trees, whose numerals are in the range, and whose symbols are among the first n
+abbrev pub BodyStands : ℕ → Option Body → Type 0
+BodyStands n None = Unit {0}
+BodyStands n (Some b) = Among b.term b.terms × Each (Sound n) b.terms
 
-abbrev pub AllStand : List Declaration → Type 0
-AllStand [] = Unit {0}
-AllStand (d ∷ ds) = Stands d.body × AllStand ds
+-- so is the symbol itself
+abbrev pub Stands : ℕ → Declaration → Type 0
+Stands n d = (d.id < n) × BodyStands n d.body
 
-pub all_stand_append : (ds es : List Declaration) → AllStand ds → AllStand es → AllStand (ds ++ es)
-all_stand_append [] es h k = k
-all_stand_append (d ∷ ds) es h k = (h.0, all_stand_append ds es h.1 k)
+abbrev pub AllStand : ℕ → List Declaration → Type 0
+AllStand n [] = Unit {0}
+AllStand n (d ∷ ds) = Stands n d × AllStand n ds
+
+pub body_more : (n m : ℕ) (o : Option Body) → n ≤ m → BodyStands n o → BodyStands m o
+body_more n m None le h = tt
+body_more n m (Some b) le h = (h.0, each_sound_more n m b.terms le h.1)
+
+pub stands_more : (n m : ℕ) (d : Declaration) → n ≤ m → Stands n d → Stands m d
+stands_more n m d le h = let lt : d.id < n = h.0 in (omega (arith, lt, le), body_more n m d.body le h.1)
+
+pub all_stand_more : (n m : ℕ) (ds : List Declaration) → n ≤ m → AllStand n ds → AllStand m ds
+all_stand_more n m [] le h = tt
+all_stand_more n m (d ∷ ds) le h = (stands_more n m d le h.0, all_stand_more n m ds le h.1)
+
+pub all_stand_append : (n : ℕ) (ds es : List Declaration) → AllStand n ds → AllStand n es → AllStand n (ds ++ es)
+all_stand_append n [] es h k = k
+all_stand_append n (d ∷ ds) es h k = (h.0, all_stand_append n ds es h.1 k)
 
 -- the trees are linear where products are judged
 pub record Good (closed : Bool) (s : Scope) : Type 0 where
-  pub bodies : AllStand s.signature
-  pub small : Each Small s.trees
+  pub bodies : AllStand s.given s.signature
+  pub sound : Each (Sound s.given) s.trees
   pub linear : closed ≡ true → Each Linear s.trees
 
--- the trees stay
-pub record After (s t : Scope) : Type 0 where
+-- the trees stay, and ids are given only where terms may be named
+pub record After (naming : Bool) (s t : Scope) : Type 0 where
   pub kept : (u : Tree) → Among u s.trees → Among u t.trees
+  pub given : s.given ≤ t.given
+  pub none_given : naming ≡ false → t.given ≡ s.given
 
-pub after_self : (s : Scope) → After s s
-after_self s = record { kept = λ u h. h }
+pub after_self : (b : Bool) (s : Scope) → After b s s
+after_self b s = record { kept = λ u h. h; given = omega arith; none_given = λ e. refl }
 
-pub after_still : (s t u : Scope) → After s t → After t u → After s u
-after_still s t u h k = record { kept = λ x m. k.kept x (h.kept x m) }
+pub after_still : (b : Bool) (s t u : Scope) → After b s t → After b t u → After b s u
+after_still b s t u h k =
+    let first : s.given ≤ t.given = h.given in
+    let second : t.given ≤ u.given = k.given in
+    record { kept = λ x m. k.kept x (h.kept x m); given = omega (arith, first, second); none_given = λ e. k.none_given e ∙ h.none_given e }
 
-abbrev pub Ends : {A : Type 0} → Bool → Scope → (A → Scope → Type 0) → Outcome A → Type 0
-Ends c s P (done a t) = (Good c t × After s t) × P a t
-Ends c s P (refused r) = Unit {0}
+abbrev pub Ends : {A : Type 0} → Rules → Scope → (A → Scope → Type 0) → Outcome A → Type 0
+Ends r s P (done a t) = (Good r.closed t × After r.naming s t) × P a t
+Ends r s P (refused w) = Unit {0}
 
-pub record Gives {A : Type 0} (c : Bool) (s : Scope) (m : Judging A) (P : A → Scope → Type 0) : Type 0 where
-  pub gives : Good c s → Ends c s P (m s)
+pub record Gives {A : Type 0} (r : Rules) (s : Scope) (m : Judging A) (P : A → Scope → Type 0) : Type 0 where
+  pub gives : Good r.closed s → Ends r s P (m s)
 
 abbrev pub Nothing : {A : Type 0} → A → Scope → Type 0
 Nothing a t = Unit {0}
 
 -- ---- steps
 
-further : {B : Type 0} (c : Bool) (s t : Scope) (Q : B → Scope → Type 0) → After s t → (y : Outcome B) → Ends c t Q y → Ends c s Q y
-further c s t Q e (done a u) w = ((w.0.0, after_still s t u e w.0.1), w.1)
-further c s t Q e (refused r) w = tt
+further : {B : Type 0} (r : Rules) (s t : Scope) (Q : B → Scope → Type 0) → After r.naming s t → (y : Outcome B) → Ends r t Q y → Ends r s Q y
+further r s t Q e (done a u) w = ((w.0.0, after_still r.naming s t u e w.0.1), w.1)
+further r s t Q e (refused x) w = tt
 
-after_go_on : {A B : Type 0} (c : Bool) (s : Scope) (P : A → Scope → Type 0) (Q : B → Scope → Type 0) (x : Outcome A) (k : A → Judging B) → Ends c s P x
-    → ((a : A) (t : Scope) → Good c t → After s t → P a t → Gives c t (k a) Q) → Ends c s Q (go_on x k)
-after_go_on c s P Q (done a t) k h g = further c s t Q h.0.1 (k a t) ((g a t h.0.0 h.0.1 h.1).gives h.0.0)
-after_go_on c s P Q (refused r) k h g = tt
+after_go_on : {A B : Type 0} (r : Rules) (s : Scope) (P : A → Scope → Type 0) (Q : B → Scope → Type 0) (x : Outcome A) (k : A → Judging B) → Ends r s P x
+    → ((a : A) (t : Scope) → Good r.closed t → After r.naming s t → P a t → Gives r t (k a) Q) → Ends r s Q (go_on x k)
+after_go_on r s P Q (done a t) k h g = further r s t Q h.0.1 (k a t) ((g a t h.0.0 h.0.1 h.1).gives h.0.0)
+after_go_on r s P Q (refused w) k h g = tt
 
-pub bind_gives : {A B : Type 0} (c : Bool) (s : Scope) (m : Judging A) (k : A → Judging B) (P : A → Scope → Type 0) (Q : B → Scope → Type 0)
-    → Gives c s m P → ((a : A) (t : Scope) → Good c t → After s t → P a t → Gives c t (k a) Q) → Gives c s (m >>= k) Q
+pub bind_gives : {A B : Type 0} (r : Rules) (s : Scope) (m : Judging A) (k : A → Judging B) (P : A → Scope → Type 0) (Q : B → Scope → Type 0)
+    → Gives r s m P → ((a : A) (t : Scope) → Good r.closed t → After r.naming s t → P a t → Gives r t (k a) Q) → Gives r s (m >>= k) Q
 unfolding ◌>>=◌
-bind_gives c s m k P Q h g = record { gives = λ f. after_go_on c s P Q (m s) k (h.gives f) g }
+bind_gives r s m k P Q h g = record { gives = λ f. after_go_on r s P Q (m s) k (h.gives f) g }
 
-pub next_gives : {A B : Type 0} (c : Bool) (s : Scope) (m : Judging A) (n : Judging B) (P : A → Scope → Type 0) (Q : B → Scope → Type 0)
-    → Gives c s m P → ((a : A) (t : Scope) → Good c t → After s t → P a t → Gives c t n Q) → Gives c s (m >> n) Q
+pub next_gives : {A B : Type 0} (r : Rules) (s : Scope) (m : Judging A) (n : Judging B) (P : A → Scope → Type 0) (Q : B → Scope → Type 0)
+    → Gives r s m P → ((a : A) (t : Scope) → Good r.closed t → After r.naming s t → P a t → Gives r t n Q) → Gives r s (m >> n) Q
 unfolding ◌>>◌
-next_gives c s m n P Q h g = record { gives = λ f. after_go_on c s P Q (m s) (λ a. n) (h.gives f) g }
+next_gives r s m n P Q h g = record { gives = λ f. after_go_on r s P Q (m s) (λ a. n) (h.gives f) g }
 
-pub return_gives : {A : Type 0} (c : Bool) (s : Scope) (a : A) (P : A → Scope → Type 0) → P a s → Gives c s (return a) P
+pub return_gives : {A : Type 0} (r : Rules) (s : Scope) (a : A) (P : A → Scope → Type 0) → P a s → Gives r s (return a) P
 unfolding return
-return_gives c s a P h = record { gives = λ f. ((f, after_self s), h) }
+return_gives r s a P h = record { gives = λ f. ((f, after_self r.naming s), h) }
 
-pub refuse_gives : {A : Type 0} (c : Bool) (s : Scope) (r : Refusal) (P : A → Scope → Type 0) → Gives c s (refuse r) P
+pub refuse_gives : {A : Type 0} (r : Rules) (s : Scope) (w : Refusal) (P : A → Scope → Type 0) → Gives r s (refuse w) P
 unfolding refuse
-refuse_gives c s r P = record { gives = λ f. tt }
+refuse_gives r s w P = record { gives = λ f. tt }
 
-pub require_gives : (c : Bool) (s : Scope) (b : Bool) (r : Refusal) → Gives c s (require b r) (λ a t. b ≡ true)
+pub require_gives : (r : Rules) (s : Scope) (b : Bool) (w : Refusal) → Gives r s (require b w) (λ a t. b ≡ true)
 unfolding require return refuse
-require_gives c s b r = by_cases b
+require_gives r s b w = by_cases b
   where
-    by_cases : (d : Bool) → Gives c s (require d r) (λ a t. d ≡ true)
-    by_cases true = record { gives = λ f. ((f, after_self s), refl) }
+    by_cases : (d : Bool) → Gives r s (require d w) (λ a t. d ≡ true)
+    by_cases true = record { gives = λ f. ((f, after_self r.naming s), refl) }
     by_cases false = record { gives = λ f. tt }
 
-pub required_gives : {A : Type 0} (c : Bool) (s : Scope) (o : Option A) (r : Refusal) → Gives c s (required o r) Nothing
+pub required_gives : {A : Type 0} (r : Rules) (s : Scope) (o : Option A) (w : Refusal) → Gives r s (required o w) Nothing
 unfolding required return refuse
-required_gives c s None r = record { gives = λ f. tt }
-required_gives c s (Some a) r = record { gives = λ f. ((f, after_self s), tt) }
+required_gives r s None w = record { gives = λ f. tt }
+required_gives r s (Some a) w = record { gives = λ f. ((f, after_self r.naming s), tt) }
 
-pub scope_then : {A : Type 0} (c : Bool) (s : Scope) (k : Scope → Judging A) (P : A → Scope → Type 0) → Gives c s (k s) P → Gives c s (the_scope >>= k) P
+pub scope_then : {A : Type 0} (r : Rules) (s : Scope) (k : Scope → Judging A) (P : A → Scope → Type 0) → Gives r s (k s) P → Gives r s (the_scope >>= k) P
 unfolding ◌>>=◌ the_scope
-scope_then c s k P h = record { gives = h.gives }
+scope_then r s k P h = record { gives = h.gives }
 
 -- a term's tree stands among the trees
 abbrev pub Fine : Typed → Scope → Type 0
 Fine a t = Among a.tree t.trees
 
-pub note_found : (c : Bool) (s : Scope) (us : List Tree) (u : Tree) (x : Sort) → Each Small us → (c ≡ true → Each Linear us) → Among u us → Gives c s (note us >> found u x) Fine
+pub note_found : (r : Rules) (s : Scope) (us : List Tree) (u : Tree) (x : Sort) → Each (Sound s.given) us → (r.closed ≡ true → Each Linear us) → Among u us → Gives r s (note us >> found u x) Fine
 unfolding ◌>>◌ note found
-note_found c s us u x small linear m = record {
+note_found r s us u x sound linear m = record {
   gives = λ f. (
     (
       record {
         bodies = f.bodies;
-        small = each_with_all Small small_down s.trees us f.small small;
+        sound = each_with_all (Sound s.given) (sound_down s.given) s.trees us f.sound sound;
         linear = λ e. each_with_all Linear linear_down s.trees us (f.linear e) (linear e);
       },
-      record { kept = λ y k. kept_with_all y s.trees us k },
+      record { kept = λ y k. kept_with_all y s.trees us k; given = omega arith; none_given = λ e. refl },
     ),
     among_with_all u s.trees us m,
   );
 }
 
-pub declare_gives : (c : Bool) (s : Scope) (d : ℕ → Declaration) → ((n : ℕ) → Stands (d n).body) → Gives c s (declare d) Nothing
+pub declare_gives : (r : Rules) (s : Scope) (d : ℕ → Declaration) → r.naming ≡ true → Stands (s.given + 1) (d s.given) → Gives r s (declare d) Nothing
 unfolding declare
-declare_gives c s d stands = record { gives = λ f. go f (nat_lt s.given most_symbols) }
+declare_gives r s d naming stands = record { gives = λ f. go f (nat_lt s.given most_symbols) }
   where
-    go : Good c s → (b : Bool) → Ends c s Nothing (declare_in (d s.given) b s)
+    named : r.naming ≡ false → s.given + 1 ≡ s.given
+    named e = absurd cc
+
+    go : Good r.closed s → (b : Bool) → Ends r s Nothing (declare_in (d s.given) b s)
     go f true = (
       (
-        record { bodies = all_stand_append s.signature (d s.given ∷ []) f.bodies (stands s.given, tt); small = f.small; linear = f.linear },
-        record { kept = λ y k. k },
+        record {
+          bodies = all_stand_append (s.given + 1) s.signature (d s.given ∷ []) (all_stand_more s.given (s.given + 1) s.signature (omega arith) f.bodies) (stands, tt);
+          sound = each_sound_more s.given (s.given + 1) s.trees (omega arith) f.sound;
+          linear = f.linear;
+        },
+        record { kept = λ y k. k; given = omega arith; none_given = named },
       ),
       tt,
     )
     go f false = tt
 
--- forgets what is known of a value
-pub forget : {A : Type 0} (c : Bool) (s : Scope) (m : Judging A) (P : A → Scope → Type 0) → Gives c s m P → Gives c s m Nothing
-forget {A} c s m P h = record { gives = λ g. go (m s) (h.gives g) }
+-- less is known of the value
+pub weaken : {A : Type 0} (r : Rules) (s : Scope) (m : Judging A) (P Q : A → Scope → Type 0) → ((a : A) (t : Scope) → P a t → Q a t) → Gives r s m P → Gives r s m Q
+weaken {A} r s m P Q w h = record { gives = λ g. go (m s) (h.gives g) }
   where
-    go : (x : Outcome A) → Ends c s P x → Ends c s Nothing x
-    go (done a t) k = (k.0, tt)
-    go (refused r) k = tt
+    go : (x : Outcome A) → Ends r s P x → Ends r s Q x
+    go (done a t) k = (k.0, w a t k.1)
+    go (refused x) k = tt
+
+-- forgets what is known of a value
+pub forget : {A : Type 0} (r : Rules) (s : Scope) (m : Judging A) (P : A → Scope → Type 0) → Gives r s m P → Gives r s m Nothing
+forget r s m P h = weaken r s m P Nothing (λ a t k. tt) h

@@ -1,5 +1,5 @@
--- A judged term is among the trees, each of which is linear where products are judged, and whose numerals are in the range.
-use Rattle.std.proofs.Common.{◌≡◌, ℕ, List, [], ◌∷◌, ◌++◌, map, refl, Bool, true, false, ◌&&◌, not, Option, Some, None}
+-- A judged term is among the trees, each of which is linear where products are judged, and whose numerals are in the range and symbols were given.
+use Rattle.std.proofs.Common.{◌≡◌, ℕ, ◌+◌, arith, List, [], ◌∷◌, ◌++◌, map, refl, Bool, true, false, ◌&&◌, not, Option, Some, None}
 use Rattle.std.specs.Prelude.{codes, bytes_eq, pos, if◌then◌else◌}
 use Rattle.smt_meaning.specs.declared.values.Sort.{Sort}
 use Rattle.smt_meaning.specs.declared.values.Sort.TheVariants.{Bool as Truths, Int as Ints}
@@ -11,14 +11,15 @@ use Rattle.smt_meaning.specs.declared.tokens.Token.TheVariants.{Numeral, Symbol,
 use Rattle.smt_meaning.specs.declared.tokens.Word.TheVariants.{Exclamation, Let}
 use Rattle.smt_meaning.specs.Declaration.{Declaration, Body}
 use Rattle.smt_meaning.specs.Term.{Tree, Trees, node, none, more}
-use Rattle.smt_meaning.specs.TreeShape.{is_linear_operation, operation, put}
+use Rattle.smt_meaning.specs.TreeShape.{is_linear_operation, operation, put, with_parts}
 use Rattle.smt_meaning.specs.Sexp.{Sexp, Sexps, word, group, end, ◌▸◌}
 use Rattle.smt_meaning.specs.Signature.{look_up, find_function, operators}
 use Rattle.smt_meaning.specs.Sorts.{Scope, Judging, Typed, Variable, Rules, trees_of, Known, variable, operator, function, unknown, known, find_variable, known_name, known_symbol, applied, applied_trees, all_are_linear, judge_symbol, judge_operator, can_be_applied, judge_application, judge_bare, judge_numeral, decimal, judge_token, is_small, head_number, judge_head, judge_divisible, check_bindings, none_twice, bound_names, name_by, judge_attributes, either, judge, judge_all, judge_bindings, has_free, variable_names}
 use Rattle.smt_laws.proofs.Among.{Among, among_one, among_map, among_parts}
 use Rattle.smt_laws.proofs.Each.{Each, EachOf, of_among, each_among, each_parts}
-use Rattle.smt_laws.proofs.Shapes.{Linear, linear_up, linear_each, operation_linear, left_over_linear, operation_small, tested, Small, small_down, small_up, put_each_small}
-use Rattle.smt_laws.proofs.LinearLawsJudgements.{Stands, AllStand, Good, After, Gives, Nothing, bind_gives, next_gives, return_gives, refuse_gives, require_gives, required_gives, scope_then, Fine, note_found, declare_gives}
+use Rattle.smt_laws.proofs.Both.{and_left}
+use Rattle.smt_laws.proofs.Shapes.{Linear, linear_up, linear_each, operation_linear, left_over_linear, operation_sound, tested, Sound, sound_down, sound_up, sound_more, each_sound_more, put_each_sound}
+use Rattle.smt_laws.proofs.LinearLawsJudgements.{BodyStands, Stands, AllStand, stands_more, Good, After, Gives, Nothing, bind_gives, next_gives, return_gives, refuse_gives, require_gives, required_gives, scope_then, Fine, note_found, declare_gives}
 
 -- ---- lists of terms and of variables
 
@@ -33,10 +34,10 @@ VariablesFine (v ∷ vs) t = Fine v.term t × VariablesFine vs t
 abbrev AreAmong : Trees → Scope → Type 0
 AreAmong us t = EachOf (λ u. Among u t.trees) us
 
-fine_after : (a : Typed) (s t : Scope) → After s t → Fine a s → Fine a t
+fine_after : {b : Bool} (a : Typed) (s t : Scope) → After b s t → Fine a s → Fine a t
 fine_after a s t e h = e.kept a.tree h
 
-variables_after : (vs : List Variable) (s t : Scope) → After s t → VariablesFine vs s → VariablesFine vs t
+variables_after : {b : Bool} (vs : List Variable) (s t : Scope) → After b s t → VariablesFine vs s → VariablesFine vs t
 variables_after [] s t e h = tt
 variables_after (v ∷ vs) s t e h = (fine_after v.term s t e h.0, variables_after vs s t e h.1)
 
@@ -44,7 +45,7 @@ variables_append : (xs vs : List Variable) (t : Scope) → VariablesFine xs t �
 variables_append [] vs t h k = k
 variables_append (x ∷ xs) vs t h k = (h.0, variables_append xs vs t h.1 k)
 
-all_after : (ts : List Typed) (s t : Scope) → After s t → AllFine ts s → AllFine ts t
+all_after : {b : Bool} (ts : List Typed) (s t : Scope) → After b s t → AllFine ts s → AllFine ts t
 all_after [] s t e h = tt
 all_after (a ∷ ts) s t e h = (fine_after a s t e h.0, all_after ts s t e h.1)
 
@@ -56,13 +57,13 @@ are_among (a ∷ ts) t h = (h.0, are_among ts t h.1)
 
 abbrev KnownFine : Known → Scope → Type 0
 KnownFine (variable a) t = Fine a t
-KnownFine (function d) t = Stands d.body
+KnownFine (function d) t = Stands t.given d
 KnownFine (operator o) t = Unit {0}
 KnownFine unknown t = Unit {0}
 
-known_after : (k : Known) (s t : Scope) → After s t → KnownFine k s → KnownFine k t
+known_after : {b : Bool} (k : Known) (s t : Scope) → After b s t → KnownFine k s → KnownFine k t
 known_after (variable a) s t e h = fine_after a s t e h
-known_after (function d) s t e h = h
+known_after (function d) s t e h = stands_more s.given t.given d e.given h
 known_after (operator o) s t e h = tt
 known_after unknown s t e h = tt
 
@@ -74,19 +75,19 @@ variable_known : (n : List ℕ) (vs : List Variable) (k : Known) (t : Scope) →
 variable_known n [] k t h g = g
 variable_known n (v ∷ vs) k t h g = variable_step v.term (find_variable n vs) k t (bytes_eq n v.name) h.0 (variable_known n vs k t h.1 g)
 
-abbrev FoundStands : Option Declaration → Type 0
-FoundStands None = Unit {0}
-FoundStands (Some d) = Stands d.body
+abbrev FoundStands : ℕ → Option Declaration → Type 0
+FoundStands k None = Unit {0}
+FoundStands k (Some d) = Stands k d
 
-found_step : (d : Declaration) (o : Option Declaration) (b : Bool) → Stands d.body → FoundStands o → FoundStands (if b then Some d else o)
-found_step d o true h k = h
-found_step d o false h k = k
+found_step : (k : ℕ) (d : Declaration) (o : Option Declaration) (b : Bool) → Stands k d → FoundStands k o → FoundStands k (if b then Some d else o)
+found_step k d o true h g = h
+found_step k d o false h g = g
 
-found_stands : (n : List ℕ) (ds : List Declaration) → AllStand ds → FoundStands (find_function n ds)
-found_stands n [] h = tt
-found_stands n (d ∷ ds) h = found_step d (find_function n ds) (bytes_eq n d.name && not d.is_sort) h.0 (found_stands n ds h.1)
+found_stands : (k : ℕ) (n : List ℕ) (ds : List Declaration) → AllStand k ds → FoundStands k (find_function n ds)
+found_stands k n [] h = tt
+found_stands k n (d ∷ ds) h = found_step k d (find_function n ds) (bytes_eq n d.name && not d.is_sort) h.0 (found_stands k n ds h.1)
 
-symbol_known : (o : Option Operator) (d : Option Declaration) (t : Scope) → FoundStands d → KnownFine (known_symbol o d) t
+symbol_known : (o : Option Operator) (d : Option Declaration) (t : Scope) → FoundStands t.given d → KnownFine (known_symbol o d) t
 symbol_known (Some o) d t h = tt
 symbol_known None None t h = tt
 symbol_known None (Some d) t h = h
@@ -94,171 +95,174 @@ symbol_known None (Some d) t h = h
 known_fine : (c : Bool) (n : List ℕ) (vs : List Variable) (t : Scope) → Good c t → VariablesFine vs t → KnownFine (known vs n t) t
 known_fine c n vs t g h =
     variable_known n vs (known_symbol (look_up n operators) (find_function n t.signature)) t h
-    (symbol_known (look_up n operators) (find_function n t.signature) t (found_stands n t.signature g.bodies))
+    (symbol_known (look_up n operators) (find_function n t.signature) t (found_stands t.given n t.signature g.bodies))
 
 -- ---- applications and bare symbols
 
-applied_small : (d : Declaration) (ts : Trees) → Stands d.body → EachOf Small ts → Each Small (applied_trees d ts)
-applied_small d ts h k = go d.body h
+applied_sound : (n : ℕ) (d : Declaration) (ts : Trees) → Stands n d → EachOf (Sound n) ts → Each (Sound n) (applied_trees d ts)
+applied_sound n d ts h k = go d.body h.1
   where
-    go : (o : Option Body) → Stands o → Each Small (elim o [ None ↦ node (Function d.id) ts ∷ [] | Some b ↦ map (put ts) b.terms ])
-    go None w = (small_up (Function d.id) ts refl k, tt)
-    go (Some b) w = put_each_small ts b.terms k w.1
+    go : (o : Option Body) → BodyStands n o → Each (Sound n) (elim o [ None ↦ node (Function d.id) ts ∷ [] | Some b ↦ map (put ts) b.terms ])
+    go None w = (sound_up n (Function d.id) ts h.0 k, tt)
+    go (Some b) w = put_each_sound n ts b.terms k w.1
 
-applied_among : (d : Declaration) (ts : Trees) → Stands d.body → Among (applied d ts) (applied_trees d ts)
-applied_among d ts h = go d.body h
+applied_among : (n : ℕ) (d : Declaration) (ts : Trees) → Stands n d → Among (applied d ts) (applied_trees d ts)
+applied_among n d ts h = go d.body h.1
   where
-    go : (o : Option Body) → Stands o
+    go : (o : Option Body) → BodyStands n o
         → Among (elim o [ None ↦ node (Function d.id) ts | Some b ↦ put ts b.term ]) (elim o [ None ↦ node (Function d.id) ts ∷ [] | Some b ↦ map (put ts) b.terms ])
     go None w = among_one (node (Function d.id) ts)
     go (Some b) w = among_map (put ts) b.term b.terms w.0
 
-symbol_gives : (s : Scope) (r : Rules) (d : Declaration) (ts : Trees) → Good r.closed s → Stands d.body → AreAmong ts s → Gives r.closed s (judge_symbol r d ts) Fine
+symbol_gives : (s : Scope) (r : Rules) (d : Declaration) (ts : Trees) → Good r.closed s → Stands s.given d → AreAmong ts s → Gives r s (judge_symbol r d ts) Fine
 symbol_gives s r d ts g h w =
-    let small : EachOf Small ts = of_among Small ts s.trees g.small w in
-    next_gives r.closed s _ _ _ Fine (require_gives r.closed s _ _)
-    (λ a t f e k. note_found r.closed t (applied_trees d ts) (applied d ts) d.rank.result (applied_small d ts h small)
-    (λ closed. linear_each (applied_trees d ts) (tested r.closed (all_are_linear (applied_trees d ts)) k closed)) (applied_among d ts h))
+    let sound : EachOf (Sound s.given) ts = of_among (Sound s.given) ts s.trees g.sound w in
+    next_gives r s _ _ _ Fine (require_gives r s _ _)
+    (λ a t f e k. note_found r t (applied_trees d ts) (applied d ts) d.rank.result (each_sound_more s.given t.given (applied_trees d ts) e.given (applied_sound s.given d ts h sound))
+    (λ closed. linear_each (applied_trees d ts) (tested r.closed (all_are_linear (applied_trees d ts)) k closed)) (applied_among s.given d ts h))
 
-operation_gives : (s : Scope) (r : Rules) (o : Operator) (ts : Trees) (x : Sort) → EachOf Small ts → (r.closed ≡ true → is_linear_operation o ts ≡ true → Linear (operation o ts))
-    → Gives r.closed s (judge_operator r o ts x) Fine
-operation_gives s r o ts x small up =
-    next_gives r.closed s _ _ _ Fine (require_gives r.closed s _ _)
-    (λ a t f e k. note_found r.closed t (operation o ts ∷ []) (operation o ts) x (operation_small o ts small, tt)
+operation_gives : (s : Scope) (r : Rules) (o : Operator) (ts : Trees) (x : Sort) → EachOf (Sound s.given) ts → (r.closed ≡ true → is_linear_operation o ts ≡ true → Linear (operation o ts))
+    → Gives r s (judge_operator r o ts x) Fine
+operation_gives s r o ts x sound up =
+    next_gives r s _ _ _ Fine (require_gives r s _ _)
+    (λ a t f e k. note_found r t (operation o ts ∷ []) (operation o ts) x (sound_more s.given t.given (operation o ts) e.given (operation_sound s.given o ts sound), tt)
     (λ closed. (up closed (tested r.closed (is_linear_operation o ts) k closed), tt)) (among_one (operation o ts)))
 
 -- of terms that were judged
 operator_gives : (s : Scope) (r : Rules) (o : Operator) (ts : Trees) (x : Sort) → (is_linear_operation o ts ≡ true → EachOf Linear ts → Linear (operation o ts)) → Good r.closed s → AreAmong ts s
-    → Gives r.closed s (judge_operator r o ts x) Fine
-operator_gives s r o ts x up g w = operation_gives s r o ts x (of_among Small ts s.trees g.small w) (λ closed l. up l (of_among Linear ts s.trees (g.linear closed) w))
+    → Gives r s (judge_operator r o ts x) Fine
+operator_gives s r o ts x up g w = operation_gives s r o ts x (of_among (Sound s.given) ts s.trees g.sound w) (λ closed l. up l (of_among Linear ts s.trees (g.linear closed) w))
 
-bare_gives : (s : Scope) (r : Rules) (n : List ℕ) (k : Known) → Good r.closed s → KnownFine k s → Gives r.closed s (judge_bare r n k) Fine
-bare_gives s r n (variable a) g h = return_gives r.closed s a Fine h
-bare_gives s r n unknown g h = refuse_gives r.closed s _ _
+bare_gives : (s : Scope) (r : Rules) (n : List ℕ) (k : Known) → Good r.closed s → KnownFine k s → Gives r s (judge_bare r n k) Fine
+bare_gives s r n (variable a) g h = return_gives r s a Fine h
+bare_gives s r n unknown g h = refuse_gives r s _ _
 bare_gives s r n (operator True) g h = operator_gives s r True none Truths (λ l e. linear_up (Theory True) none refl e) g tt
 bare_gives s r n (operator False) g h = operator_gives s r False none Truths (λ l e. linear_up (Theory False) none refl e) g tt
-bare_gives s r n (operator _) g h = refuse_gives r.closed s _ _
-bare_gives s r n (function d) g h = next_gives r.closed s _ _ _ Fine (require_gives r.closed s _ _) (λ a t f e k. symbol_gives t r d none f h tt)
+bare_gives s r n (operator _) g h = refuse_gives r s _ _
+bare_gives s r n (function d) g h = next_gives r s _ _ _ Fine (require_gives r s _ _) (λ a t f e k. symbol_gives t r d none f (stands_more s.given t.given d e.given h) tt)
 
-application_gives : (s : Scope) (r : Rules) (n : List ℕ) (k : Known) (ts : List Typed) → KnownFine k s → AllFine ts s → Gives r.closed s (judge_application r n k ts) Fine
-application_gives s r n (variable a) ts h w = refuse_gives r.closed s _ _
-application_gives s r n unknown ts h w = refuse_gives r.closed s _ _
+application_gives : (s : Scope) (r : Rules) (n : List ℕ) (k : Known) (ts : List Typed) → KnownFine k s → AllFine ts s → Gives r s (judge_application r n k ts) Fine
+application_gives s r n (variable a) ts h w = refuse_gives r s _ _
+application_gives s r n unknown ts h w = refuse_gives r s _ _
 application_gives s r n (operator o) ts h w =
-    next_gives r.closed s _ _ _ Fine (require_gives r.closed s _ _)
-    (λ a t g e k. bind_gives r.closed t _ _ Nothing Fine (required_gives r.closed t _ _)
+    next_gives r s _ _ _ Fine (require_gives r s _ _)
+    (λ a t g e k. bind_gives r t _ _ Nothing Fine (required_gives r t _ _)
     (λ x u f m l. operator_gives u r o (trees_of ts) x (operation_linear o ts k) f (are_among ts u (all_after ts t u m (all_after ts s t e w)))))
 application_gives s r n (function d) ts h w =
-    next_gives r.closed s _ _ _ Fine (require_gives r.closed s _ _)
-    (λ a t g e k. next_gives r.closed t _ _ _ Fine (require_gives r.closed t _ _)
-    (λ x u f m l. symbol_gives u r d (trees_of ts) f h (are_among ts u (all_after ts t u m (all_after ts s t e w)))))
+    next_gives r s _ _ _ Fine (require_gives r s _ _)
+    (λ a t g e k. next_gives r t _ _ _ Fine (require_gives r t _ _)
+    (λ x u f m l. symbol_gives u r d (trees_of ts) f (stands_more t.given u.given d m.given (stands_more s.given t.given d e.given h)) (are_among ts u (all_after ts t u m (all_after ts s t e w)))))
 
-can_be_applied_gives : (c : Bool) (s : Scope) (n : List ℕ) (k : Known) → Gives c s (can_be_applied n k) Nothing
-can_be_applied_gives c s n (variable a) = refuse_gives c s _ _
-can_be_applied_gives c s n unknown = refuse_gives c s _ _
-can_be_applied_gives c s n _ = return_gives c s tt Nothing tt
+can_be_applied_gives : (r : Rules) (s : Scope) (n : List ℕ) (k : Known) → Gives r s (can_be_applied n k) Nothing
+can_be_applied_gives r s n (variable a) = refuse_gives r s _ _
+can_be_applied_gives r s n unknown = refuse_gives r s _ _
+can_be_applied_gives r s n _ = return_gives r s tt Nothing tt
 
-none_twice_gives : (c : Bool) (s : Scope) (before ns : List (List ℕ)) → Gives c s (none_twice before ns) Nothing
-none_twice_gives c s before [] = return_gives c s tt Nothing tt
-none_twice_gives c s before (n ∷ ns) = next_gives c s _ _ _ Nothing (require_gives c s _ _) (λ a t g e k. none_twice_gives c t (n ∷ before) ns)
+none_twice_gives : (r : Rules) (s : Scope) (before ns : List (List ℕ)) → Gives r s (none_twice before ns) Nothing
+none_twice_gives r s before [] = return_gives r s tt Nothing tt
+none_twice_gives r s before (n ∷ ns) = next_gives r s _ _ _ Nothing (require_gives r s _ _) (λ a t g e k. none_twice_gives r t (n ∷ before) ns)
 
-bindings_gives : (c : Bool) (s : Scope) (o : Option (List (List ℕ))) → Gives c s (check_bindings o) Nothing
-bindings_gives c s None = refuse_gives c s _ _
-bindings_gives c s (Some []) = refuse_gives c s _ _
-bindings_gives c s (Some (n ∷ ns)) = none_twice_gives c s [] (n ∷ ns)
+bindings_gives : (r : Rules) (s : Scope) (o : Option (List (List ℕ))) → Gives r s (check_bindings o) Nothing
+bindings_gives r s None = refuse_gives r s _ _
+bindings_gives r s (Some []) = refuse_gives r s _ _
+bindings_gives r s (Some (n ∷ ns)) = none_twice_gives r s [] (n ∷ ns)
 
 -- ---- names
 
-name_gives : (c : Bool) (r : Rules) (s : Scope) (open_term : Bool) (a : Typed) (ss : Sexps) → Fine a s → Gives c s (name_by r open_term a ss) Nothing
-name_gives c r s open_term a (word (Symbol n) ▸ rest) h =
-    scope_then c s _ Nothing
-    (next_gives c s _ _ _ Nothing (require_gives c s _ _)
-    (λ x t g e k. next_gives c t _ _ _ Nothing (require_gives c t _ _)
-    (λ y u f m l. next_gives c u _ _ _ Nothing (require_gives c u _ _)
-    (λ z v i p q. declare_gives c v _
-    (λ id. (
-      among_parts a.tree [],
-      each_parts Small small_down [] a.tree tt (each_among Small a.tree v.trees i.small (fine_after a u v p (fine_after a t u m (fine_after a s t e h)))),
-    ))))))
-name_gives c r s open_term a _ h = refuse_gives c s _ _
+name_gives : (r : Rules) (s : Scope) (open_term : Bool) (a : Typed) (ss : Sexps) → Fine a s → Gives r s (name_by r open_term a ss) Nothing
+name_gives r s open_term a (word (Symbol n) ▸ rest) h =
+    scope_then r s _ Nothing
+    (next_gives r s _ _ _ Nothing (require_gives r s _ _)
+    (λ x t g e k. next_gives r t _ _ _ Nothing (require_gives r t _ _)
+    (λ y u f m l. next_gives r u _ _ _ Nothing (require_gives r u _ _)
+    (λ z v i p q. declare_gives r v _ (and_left r.naming (not open_term) k) (
+      omega arith,
+      (
+        among_parts a.tree [],
+        each_sound_more v.given (v.given + 1) (with_parts [] a.tree) (omega arith)
+            (each_parts (Sound v.given) (sound_down v.given) [] a.tree tt (each_among (Sound v.given) a.tree v.trees i.sound (fine_after a u v p (fine_after a t u m (fine_after a s t e h))))),
+      ),
+    )))))
+name_gives r s open_term a _ h = refuse_gives r s _ _
 
-either_gives : {A : Type 0} (c : Bool) (s : Scope) (b : Bool) (m n : Judging A) (P : A → Scope → Type 0) → Gives c s m P → Gives c s n P → Gives c s (either b m n) P
-either_gives c s true m n P h g = h
-either_gives c s false m n P h g = g
+either_gives : {A : Type 0} (r : Rules) (s : Scope) (b : Bool) (m n : Judging A) (P : A → Scope → Type 0) → Gives r s m P → Gives r s n P → Gives r s (either b m n) P
+either_gives r s true m n P h g = h
+either_gives r s false m n P h g = g
 
-attributes_give : (c : Bool) (r : Rules) (s : Scope) (open_term : Bool) (a : Typed) (ss : Sexps) → Fine a s → Gives c s (judge_attributes r open_term a ss) Nothing
-attributes_give c r s open_term a end h = return_gives c s tt Nothing tt
-attributes_give c r s open_term a (word (Keyword k) ▸ rest) h =
-    either_gives c s (bytes_eq k (codes "named")) _ _ Nothing
-    (next_gives c s _ _ _ Nothing (name_gives c r s open_term a rest h) (λ x t g e w. attributes_give c r t open_term a rest (fine_after a s t e h))) (attributes_give c r s open_term a rest h)
-attributes_give c r s open_term a (_ ▸ rest) h = attributes_give c r s open_term a rest h
+attributes_give : (r : Rules) (s : Scope) (open_term : Bool) (a : Typed) (ss : Sexps) → Fine a s → Gives r s (judge_attributes r open_term a ss) Nothing
+attributes_give r s open_term a end h = return_gives r s tt Nothing tt
+attributes_give r s open_term a (word (Keyword k) ▸ rest) h =
+    either_gives r s (bytes_eq k (codes "named")) _ _ Nothing
+    (next_gives r s _ _ _ Nothing (name_gives r s open_term a rest h) (λ x t g e w. attributes_give r t open_term a rest (fine_after a s t e h))) (attributes_give r s open_term a rest h)
+attributes_give r s open_term a (_ ▸ rest) h = attributes_give r s open_term a rest h
 
 -- ---- terms
 
-numeral_gives : (c : Bool) (s : Scope) (n : ℕ) → Gives c s (judge_numeral n) Fine
-numeral_gives c s n =
-    next_gives c s _ _ _ Fine (require_gives c s _ _)
-    (λ a t g e k. note_found c t (node (Number (pos n)) none ∷ []) (node (Number (pos n)) none) Ints (small_up (Number (pos n)) none k tt, tt) (λ closed. (refl, tt))
+numeral_gives : (r : Rules) (s : Scope) (n : ℕ) → Gives r s (judge_numeral n) Fine
+numeral_gives r s n =
+    next_gives r s _ _ _ Fine (require_gives r s _ _)
+    (λ a t g e k. note_found r t (node (Number (pos n)) none ∷ []) (node (Number (pos n)) none) Ints (sound_up t.given (Number (pos n)) none k tt, tt) (λ closed. (refl, tt))
     (among_one (node (Number (pos n)) none)))
 
-token_gives : (s : Scope) (r : Rules) (vs : List Variable) (t : Token) → Good r.closed s → VariablesFine vs s → Gives r.closed s (judge_token r vs t) Fine
-token_gives s r vs (Symbol n) g h = scope_then r.closed s (λ u. judge_bare r n (known vs n u)) Fine (bare_gives s r n (known vs n s) g (known_fine r.closed n vs s g h))
-token_gives s r vs (Numeral cs) g h = numeral_gives r.closed s (decimal cs)
-token_gives s r vs _ g h = refuse_gives r.closed s _ _
+token_gives : (s : Scope) (r : Rules) (vs : List Variable) (t : Token) → Good r.closed s → VariablesFine vs s → Gives r s (judge_token r vs t) Fine
+token_gives s r vs (Symbol n) g h = scope_then r s (λ u. judge_bare r n (known vs n u)) Fine (bare_gives s r n (known vs n s) g (known_fine r.closed n vs s g h))
+token_gives s r vs (Numeral cs) g h = numeral_gives r s (decimal cs)
+token_gives s r vs _ g h = refuse_gives r s _ _
 
 -- ---- (_ divisible n)
 
-head_gives : (c : Bool) (s : Scope) (o : Option ℕ) → Gives c s (judge_head o) (λ n t. is_small n ≡ true)
-head_gives c s None = refuse_gives c s _ _
-head_gives c s (Some n) =
-    next_gives c s _ _ _ (λ m t. is_small m ≡ true) (require_gives c s _ _)
-    (λ a t g e k. next_gives c t _ _ _ (λ m u. is_small m ≡ true) (require_gives c t _ _) (λ b u f d small. return_gives c u n (λ m v. is_small m ≡ true) small))
+head_gives : (r : Rules) (s : Scope) (o : Option ℕ) → Gives r s (judge_head o) (λ n t. is_small n ≡ true)
+head_gives r s None = refuse_gives r s _ _
+head_gives r s (Some n) =
+    next_gives r s _ _ _ (λ m t. is_small m ≡ true) (require_gives r s _ _)
+    (λ a t g e k. next_gives r t _ _ _ (λ m u. is_small m ≡ true) (require_gives r t _ _) (λ b u f d small. return_gives r u n (λ m v. is_small m ≡ true) small))
 
-divisible_gives : (s : Scope) (r : Rules) (n : ℕ) (ts : List Typed) → is_small n ≡ true → Good r.closed s → AllFine ts s → Gives r.closed s (judge_divisible r n ts) Fine
-divisible_gives s r n [] small g w = refuse_gives r.closed s _ _
+divisible_gives : (s : Scope) (r : Rules) (n : ℕ) (ts : List Typed) → is_small n ≡ true → Good r.closed s → AllFine ts s → Gives r s (judge_divisible r n ts) Fine
+divisible_gives s r n [] small g w = refuse_gives r s _ _
 divisible_gives s r n (a ∷ []) small g w =
     let number : Tree = node (Number (pos n)) none in
-    next_gives r.closed s _ _ _ Fine (require_gives r.closed s _ _)
+    next_gives r s _ _ _ Fine (require_gives r s _ _)
     (λ b t f e k. operation_gives t r Divisible (more a.tree (more number none)) Truths
-    ((of_among Small (trees_of (a ∷ [])) s.trees g.small (are_among (a ∷ []) s w)).0, (small_up (Number (pos n)) none small tt, tt))
+    (sound_more s.given t.given a.tree e.given (of_among (Sound s.given) (trees_of (a ∷ [])) s.trees g.sound (are_among (a ∷ []) s w)).0, (sound_up t.given (Number (pos n)) none small tt, tt))
     (λ closed l. left_over_linear Divisible a.tree number (λ q. q) l (of_among Linear (trees_of (a ∷ [])) s.trees (g.linear closed) (are_among (a ∷ []) s w)).0 refl))
-divisible_gives s r n (a ∷ b ∷ ts) small g w = refuse_gives r.closed s _ _
+divisible_gives s r n (a ∷ b ∷ ts) small g w = refuse_gives r s _ _
 
 mutual
-  pub judge_gives : (r : Rules) (vs : List Variable) (x : Sexp) (s : Scope) → Good r.closed s → VariablesFine vs s → Gives r.closed s (judge r vs x) Fine
+  pub judge_gives : (r : Rules) (vs : List Variable) (x : Sexp) (s : Scope) → Good r.closed s → VariablesFine vs s → Gives r s (judge r vs x) Fine
   judge_gives r vs (word t) s g h = token_gives s r vs t g h
   judge_gives r vs (group (word (Reserved Let) ▸ group bs ▸ b ▸ end)) s g h =
-      next_gives r.closed s _ _ _ Fine (bindings_gives r.closed s (bound_names bs))
-      (λ y t f e k. bind_gives r.closed t _ _ VariablesFine Fine (bindings_give r vs bs t f (variables_after vs s t e h))
+      next_gives r s _ _ _ Fine (bindings_gives r s (bound_names bs))
+      (λ y t f e k. bind_gives r t _ _ VariablesFine Fine (bindings_give r vs bs t f (variables_after vs s t e h))
       (λ xs u d m l. judge_gives r (xs ++ vs) b u d (variables_append xs vs u l (variables_after vs t u m (variables_after vs s t e h)))))
-  judge_gives r vs (group (word (Reserved Let) ▸ _)) s g h = refuse_gives r.closed s _ _
+  judge_gives r vs (group (word (Reserved Let) ▸ _)) s g h = refuse_gives r s _ _
   judge_gives r vs (group (word (Reserved Exclamation) ▸ x ▸ rest)) s g h =
-      next_gives r.closed s _ _ _ Fine (require_gives r.closed s _ _)
-      (λ y t f e k. bind_gives r.closed t _ _ Fine Fine (judge_gives r vs x t f (variables_after vs s t e h))
-      (λ a u d m l. next_gives r.closed u _ _ _ Fine (attributes_give r.closed r u (has_free (variable_names vs) x) a rest l)
-      (λ z v i p q. return_gives r.closed v a Fine (fine_after a u v p l))))
-  judge_gives r vs (group (word (Reserved Exclamation) ▸ end)) s g h = refuse_gives r.closed s _ _
-  judge_gives r vs (group (word (Reserved w) ▸ _)) s g h = refuse_gives r.closed s _ _
+      next_gives r s _ _ _ Fine (require_gives r s _ _)
+      (λ y t f e k. bind_gives r t _ _ Fine Fine (judge_gives r vs x t f (variables_after vs s t e h))
+      (λ a u d m l. next_gives r u _ _ _ Fine (attributes_give r u (has_free (variable_names vs) x) a rest l)
+      (λ z v i p q. return_gives r v a Fine (fine_after a u v p l))))
+  judge_gives r vs (group (word (Reserved Exclamation) ▸ end)) s g h = refuse_gives r s _ _
+  judge_gives r vs (group (word (Reserved w) ▸ _)) s g h = refuse_gives r s _ _
   judge_gives r vs (group (word (Symbol n) ▸ xs)) s g h =
-      scope_then r.closed s _ Fine
-      (next_gives r.closed s _ _ _ Fine (can_be_applied_gives r.closed s n (known vs n s))
-      (λ y t f e k. bind_gives r.closed t _ _ AllFine Fine (all_give r vs xs t f (variables_after vs s t e h))
+      scope_then r s _ Fine
+      (next_gives r s _ _ _ Fine (can_be_applied_gives r s n (known vs n s))
+      (λ y t f e k. bind_gives r t _ _ AllFine Fine (all_give r vs xs t f (variables_after vs s t e h))
       (λ ts u d m l. application_gives u r n (known vs n s) ts (known_after (known vs n s) t u m (known_after (known vs n s) s t e (known_fine r.closed n vs s g h))) l)))
   judge_gives r vs (group (group hs ▸ xs)) s g h =
-      bind_gives r.closed s _ _ _ Fine (head_gives r.closed s (head_number hs))
-      (λ n t f e small. bind_gives r.closed t _ _ AllFine Fine (all_give r vs xs t f (variables_after vs s t e h)) (λ ts u d m l. divisible_gives u r n ts small d l))
-  judge_gives r vs (group _) s g h = refuse_gives r.closed s _ _
+      bind_gives r s _ _ _ Fine (head_gives r s (head_number hs))
+      (λ n t f e small. bind_gives r t _ _ AllFine Fine (all_give r vs xs t f (variables_after vs s t e h)) (λ ts u d m l. divisible_gives u r n ts small d l))
+  judge_gives r vs (group _) s g h = refuse_gives r s _ _
 
-  pub all_give : (r : Rules) (vs : List Variable) (xs : Sexps) (s : Scope) → Good r.closed s → VariablesFine vs s → Gives r.closed s (judge_all r vs xs) AllFine
-  all_give r vs end s g h = return_gives r.closed s [] AllFine tt
+  pub all_give : (r : Rules) (vs : List Variable) (xs : Sexps) (s : Scope) → Good r.closed s → VariablesFine vs s → Gives r s (judge_all r vs xs) AllFine
+  all_give r vs end s g h = return_gives r s [] AllFine tt
   all_give r vs (x ▸ xs) s g h =
-      bind_gives r.closed s _ _ Fine AllFine (judge_gives r vs x s g h)
-      (λ a t f e k. bind_gives r.closed t _ _ AllFine AllFine (all_give r vs xs t f (variables_after vs s t e h))
-      (λ ts u d m l. return_gives r.closed u (a ∷ ts) AllFine (fine_after a t u m k, l)))
+      bind_gives r s _ _ Fine AllFine (judge_gives r vs x s g h)
+      (λ a t f e k. bind_gives r t _ _ AllFine AllFine (all_give r vs xs t f (variables_after vs s t e h))
+      (λ ts u d m l. return_gives r u (a ∷ ts) AllFine (fine_after a t u m k, l)))
 
-  bindings_give : (r : Rules) (vs : List Variable) (bs : Sexps) (s : Scope) → Good r.closed s → VariablesFine vs s → Gives r.closed s (judge_bindings r vs bs) VariablesFine
-  bindings_give r vs end s g h = return_gives r.closed s [] VariablesFine tt
+  bindings_give : (r : Rules) (vs : List Variable) (bs : Sexps) (s : Scope) → Good r.closed s → VariablesFine vs s → Gives r s (judge_bindings r vs bs) VariablesFine
+  bindings_give r vs end s g h = return_gives r s [] VariablesFine tt
   bindings_give r vs (group (word (Symbol n) ▸ x ▸ end) ▸ rest) s g h =
-      bind_gives r.closed s _ _ Fine VariablesFine (judge_gives r vs x s g h)
-      (λ a t f e k. bind_gives r.closed t _ _ VariablesFine VariablesFine (bindings_give r vs rest t f (variables_after vs s t e h))
-      (λ xs u d m l. return_gives r.closed u _ VariablesFine (fine_after a t u m k, l)))
-  bindings_give r vs (_ ▸ rest) s g h = refuse_gives r.closed s _ _
+      bind_gives r s _ _ Fine VariablesFine (judge_gives r vs x s g h)
+      (λ a t f e k. bind_gives r t _ _ VariablesFine VariablesFine (bindings_give r vs rest t f (variables_after vs s t e h))
+      (λ xs u d m l. return_gives r u _ VariablesFine (fine_after a t u m k, l)))
+  bindings_give r vs (_ ▸ rest) s g h = refuse_gives r s _ _

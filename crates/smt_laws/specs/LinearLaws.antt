@@ -1,9 +1,10 @@
--- Laws of what the judgement of terms lets through: linear terms alone, and numerals of the range.
-use Rattle.std.specs.Prelude.{ℕ, List, All, IsTrue}
+-- Laws of what the judgement of terms lets through: linear terms alone, numerals of the range, and symbols that were given.
+use Rattle.std.specs.Prelude.{ℕ, ◌<◌, List, All, IsTrue}
 use Rattle.smt_meaning.specs.declared.commands.Command.{Command}
 use Rattle.smt_meaning.specs.Term.{Tree, tree_at}
 use Rattle.smt_meaning.specs.TreeShape.{is_among, is_linear}
 use Rattle.smt_meaning.specs.Parts.{IsPart}
+use Rattle.smt_meaning.specs.Clause.{symbols}
 use Rattle.smt_meaning.specs.Linear.{leaves, linear_form, form_fits, folding_fits}
 use Rattle.smt_meaning.specs.Stack.{assertions_of}
 use Rattle.smt_meaning.specs.StackCommand.{start, after_all}
@@ -30,6 +31,10 @@ LeavesAreAmongTheTrees =
 -- whatever commands come, the numerals of each of the stack's trees are in the range
 abbrev pub NumeralsAreInRange : Type 0
 NumeralsAreInRange = (cs : List Command) → All (λ (t : Tree). IsTrue (numerals_fit t)) (after_all start cs).trees
+
+-- whatever commands come, the id of each symbol in the stack's trees was given
+abbrev pub SymbolsAreGiven : Type 0
+SymbolsAreGiven = (cs : List Command) → All (λ (t : Tree). All (λ f. f < (after_all start cs).given) (symbols t)) (after_all start cs).trees
 
 -- a term whose numerals are in the range, and whose folding stays there, has a form in the range
 abbrev pub FoldedFormsFit : Type 0

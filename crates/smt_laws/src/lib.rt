@@ -35,7 +35,7 @@
 //! Of kinds: where each assertion is propositional, no part of one is an Int.
 //!
 //! Of linear terms: whatever commands came, the terms on a stack are linear, with their leaves
-//! among its terms and numerals in the range. A linear term has the value of its linear form, which
+//! among its terms, numerals in the range, and symbols whose ids were given. A linear term has the value of its linear form, which
 //! is in the range where its numerals are and its folding stays there; a normal bound has the value
 //! of the bound over whole numbers.
 //!
@@ -75,7 +75,7 @@ pub use language::{
 };
 pub use linear::{
     assertions_are_linear, folded_forms_fit, leaves_are_among_the_trees, leaves_are_parts,
-    numerals_are_in_range, placed_forms_fit, trees_are_linear,
+    numerals_are_in_range, placed_forms_fit, symbols_are_given, trees_are_linear,
 };
 pub use sorts::{
     accepted_term_has_its_sort, assertions_are_truths, assertions_are_truths_at_their_levels,

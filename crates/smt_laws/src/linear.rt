@@ -1,5 +1,5 @@
 //! Laws of what the judgement of terms lets through, each as the contract of a function that does nothing.
-ghost use Rattle.smt_laws.specs.LinearLaws.{AssertionsAreLinear, FoldedFormsFit, LeavesAreAmongTheTrees, LeavesAreParts, NumeralsAreInRange, PlacedFormsFit, TreesAreLinear};
+ghost use Rattle.smt_laws.specs.LinearLaws.{AssertionsAreLinear, FoldedFormsFit, LeavesAreAmongTheTrees, LeavesAreParts, NumeralsAreInRange, PlacedFormsFit, SymbolsAreGiven, TreesAreLinear};
 
 use crate::parts_are_among_the_trees;
 
@@ -30,6 +30,11 @@ pub fn leaves_are_among_the_trees()
 /// The numerals of each term that a stack keeps are in the range, whatever commands came.
 pub fn numerals_are_in_range()
     ensures { NumeralsAreInRange }
+{}
+
+/// The id of each symbol in the terms that a stack keeps was given, whatever commands came.
+pub fn symbols_are_given()
+    ensures { SymbolsAreGiven }
 {}
 
 /// The form of a term is in the range, where its numerals are and its folding stays there.

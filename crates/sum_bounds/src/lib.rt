@@ -30,6 +30,9 @@
 //! `line`, `grid`, `origins`: the row of a basic variable with the columns of its variables; all
 //! rows and columns as they are; each bound of a variable is one that was told.
 //!
+//! `spread`: numbers by term, moved within all bounds so that wanted terms have numbers of their own
+//! where that is found. It promises nothing.
+//!
 //! `Progression`: numbers of which so many times is a start plus a multiple of a step. A part more
 //! (a coefficient times a number, or times any whole number) leaves no sum out; `lacks_zero` says
 //! yes only where 0 isn't among them.
@@ -43,6 +46,7 @@ mod progression;
 mod reach;
 mod residues;
 mod splits;
+mod spread;
 mod state;
 mod told;
 mod wholes;

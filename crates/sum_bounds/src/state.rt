@@ -21,6 +21,7 @@ use crate::fractions::{FractionalLeaf, first_fraction};
 use crate::lookup::{find, hash_of};
 use crate::reach::reach;
 use crate::splits::split_conflict;
+use crate::spread::spread;
 use crate::told::{is_met, number_of, side_of, tag_of};
 use crate::wholes::whole_conflict;
 use crate::writing::{SumVariable, first_is_negative, parts_of, turned_sum};
@@ -345,6 +346,16 @@ impl SumBounds {
         ensures none { IfNone result (AreWhole self.now) }
     {
         first_fraction(&self.simplex, self.count)
+    }
+
+    /// Numbers by term, where the values are whole: those of the terms' variables, but moved within all bounds so that wanted terms have numbers of their own, which aren't taken, as far as that is found. This only guides a search: it promises nothing. An `Err` is for want of memory.
+    pub fn spread(
+        &self,
+        alloc: Global,
+        wanted: &[bool],
+        taken: &[i128],
+    ) -> Result<Option<Vec<i128>>, AllocError> {
+        spread(alloc, &self.simplex, self.count, wanted, taken)
     }
 
     /// The most, or the least, that the bounds of the others in its row leave the sum of a variable. This only guides a search: it promises nothing.

@@ -1,11 +1,10 @@
 -- The parts of a stack and their atoms, before anything is told.
-use Rattle.std.proofs.Common.{◌∙◌, ℕ, ◌+◌, ◌<◌, ◌^◌, Bool, List, ◌∷◌, [], length, get_or, All, ◌≢◌, sym, ap, subst, inl, refl}
+use Rattle.std.proofs.Common.{◌∙◌, ℕ, ◌+◌, ◌<◌, ◌^◌, Bool, List, ◌∷◌, [], length, get_or, All, Contains, ◌≢◌, sym, ap, subst, inl, refl}
 use Rattle.std.specs.Prelude.{AllPairs, slice_index_or, None}
-use Rattle.std.proofs.lemmas.List.{get_or_default}
 use Rattle.std.proofs.lemmas.List.Elements.{All-head, All-nil, All-tail, All-weaker, Contains-get_or}
 use Rattle.fraction128.specs.declared.Summand.{Summand}
 use Rattle.smt_meaning.specs.declared.values.Sort.{Sort}
-use Rattle.smt_meaning.specs.declared.values.Sort.TheVariants.{Bool as Truths, Int as Ints}
+use Rattle.smt_meaning.specs.declared.values.Sort.TheVariants.{Bool as Truths}
 use Rattle.smt_meaning.specs.declared.clauses.Atom.{Atom}
 use Rattle.smt_meaning.specs.declared.clauses.Atom.TheVariants.{Truth, Same, AtMost}
 use Rattle.smt_meaning.specs.Clause.{atom_places}
@@ -24,7 +23,7 @@ use Rattle.smt_laws.specs.Flat.{flat, FlatSaysTheSame}
 use Rattle.check_atoms.specs.Parts.{IsMarked}
 use Rattle.check_atoms.specs.Marks.{AreStackParts}
 use Rattle.check_atoms.specs.OfStack.{AreCheckAtoms}
-use Rattle.check_atoms.specs.Laws.{AtomsAreFirst}
+use Rattle.check_atoms.specs.Laws.{AtomsAreFirst, TruthsAreOfBools}
 use Rattle.first_clauses.specs.Shapes.{AreFlags}
 use Rattle.first_clauses.proofs.Parts as Parts
 use Rattle.model_build.specs.Parts.{AreSortedParts}
@@ -32,7 +31,6 @@ use Rattle.exact_model.specs.Places.{AreAtMarks}
 use Rattle.closure_log.specs.Seen.{IsOfTerms, IsSetting}
 use Rattle.theory_combine.specs.declared.errors.BoundError.{BoundError}
 use Rattle.theory_combine.specs.declared.errors.BoundError.TheVariants.{Memory, Range}
-use Rattle.theory_combine.specs.Begin.{IsTruthOfBool}
 use Rattle.theory_combine.specs.Columns.{with_leaves}
 use Rattle.theory_combine.specs.Errors.{IsErrorIn, IsErrorSeen, IsSumIn}
 use Rattle.theory_combine.specs.Pairs.{HaveReadable}
@@ -62,20 +60,18 @@ module _ (s : Stack) (marks : List Bool) (law : IsLawful s) (parts : AreStackPar
   pub readable : (flags : List Bool) → AreFlags is_linear s.trees (length s.trees) flags → HaveReadable s.trees marks flags
   readable flags are p m f = Parts.readable s marks law parts atoms.size p m (sym (are.each p (Parts.within s marks law parts atoms.size p m)) ∙ f)
 
-  of_terms_at : (a : Atom) → IsTruthOfBool sorts a → All (IsMarked marks) (atom_places a) → IsOfTerms s a
-  of_terms_at (Truth p) h m =
-      let marked : IsMarked marks p = All-head (IsMarked marks) p [] m in
-      (Parts.within s marks law parts atoms.size p marked, ap is_bool (Parts.bool_sort s marks law parts atoms.size sorts sorted p marked (get_or_default sorts p Truths Ints h.0 ∙ h.1)))
-  of_terms_at (Same i j) h m = (
+  of_terms_at : TruthsAreOfBools → (a : Atom) → Contains table a → All (IsMarked marks) (atom_places a) → IsOfTerms s a
+  of_terms_at truths (Truth p) h m = (Parts.within s marks law parts atoms.size p (All-head (IsMarked marks) p [] m), ap is_bool (truths s marks table atoms p h).1)
+  of_terms_at truths (Same i j) h m = (
     Parts.within s marks law parts atoms.size i (All-head (IsMarked marks) i (j ∷ []) m),
     Parts.within s marks law parts atoms.size j (All-head (IsMarked marks) j [] (All-tail (IsMarked marks) i (j ∷ []) m)),
   )
-  of_terms_at (AtMost sum k) h m = tt
+  of_terms_at truths (AtMost sum k) h m = tt
 
-  pub setting : SymbolsAreDeclared → FlatSaysTheSame → ((n : ℕ) → n < length table → IsTruthOfBool sorts (slice_index_or table n (Truth 0))) → length s.trees + 2 < 2 ^ 32 → IsSetting s table
-  setting symbols flat_law bools few = record {
+  pub setting : TruthsAreOfBools → SymbolsAreDeclared → FlatSaysTheSame → length s.trees + 2 < 2 ^ 32 → IsSetting s table
+  setting truths symbols flat_law few = record {
     few = few;
-    of_terms = λ n d less. of_terms_at (slice_index_or table n d) (subst (IsTruthOfBool sorts) (get_or_default table n (Truth 0) d less) (bools n less)) (atoms.over_parts n d less);
+    of_terms = λ n d less. of_terms_at truths (slice_index_or table n d) (Contains-get_or table n d less) (atoms.over_parts n d less);
     declared =
         All-weaker (λ (a : Atom). All (IsMarked marks) (atom_places a)) (IsOf s.trees (flat s.frames)) (λ a m. marked_is_of symbols flat_law s marks sorted_parts a m) table atoms.over_parts;
   }

@@ -1,17 +1,11 @@
--- What a search begins with: truths are of Bools, by the sorts that are kept, nothing is told, and there is no branch.
-use Rattle.std.specs.Prelude.{◌≡◌, ℕ, ◌<◌, Bool, List, [], length, slice_index_or, None}
+-- What a search begins with: nothing is told, and there is no branch.
+use Rattle.std.specs.Prelude.{◌≡◌, Bool, List, [], None}
 use Rattle.fraction128.specs.Lines.{HasBasis, first_basis}
-use Rattle.smt_meaning.specs.declared.values.Sort.{Sort}
-use Rattle.smt_meaning.specs.declared.values.Sort.TheVariants.{Bool as Truths, Int as Ints}
-use Rattle.smt_meaning.specs.declared.clauses.Atom.{Atom}
-use Rattle.smt_meaning.specs.declared.clauses.Atom.TheVariants.{Truth as TruthAtom, Same as SameAtom, AtMost}
 use Rattle.smt_meaning.specs.Stack.{signature_of, assertions_of}
 use Rattle.smt_meaning.specs.StackCommand.{Stack}
 use Rattle.check_atoms.specs.Marks.{AreStackParts}
 use Rattle.model_build.specs.Parts.{AreSortedParts}
 use Rattle.atom_form.specs.AtomNumbersAtoms.{Atoms}
-use Rattle.atom_form.specs.declared.atom.NumberedAtom.{NumberedAtom}
-use Rattle.atom_form.specs.declared.atom.NumberedAtom.TheVariants.{Truth, Same, Bound}
 use Rattle.bound_log.specs.Told.{column_sums}
 use Rattle.bound_log.specs.Pending.{plain_grid}
 use Rattle.exact_model.specs.Places.{AreAtMarks}
@@ -19,20 +13,6 @@ use Rattle.theory_combine.specs.declared.start.Begun.{Begun}
 use Rattle.theory_combine.specs.Numbering.{IsWhole}
 use Rattle.theory_combine.specs.Pairs.{HaveReadable}
 use Rattle.theory_combine.specs.Shown.{AreShown}
-
-abbrev pub IsBoolPlace : List Sort → ℕ → Type 0
-IsBoolPlace sorts p = (p < length sorts) × (slice_index_or sorts p Ints ≡ Truths)
-
--- no truth, or that of a Bool
-abbrev pub IsOfBool : List Sort → NumberedAtom → Type 0
-IsOfBool sorts (Truth p) = IsBoolPlace sorts p
-IsOfBool sorts (Same p q) = Unit {0}
-IsOfBool sorts (Bound b) = Unit {0}
-
-abbrev pub IsTruthOfBool : List Sort → Atom → Type 0
-IsTruthOfBool sorts (TruthAtom p) = IsBoolPlace sorts p
-IsTruthOfBool sorts (SameAtom p q) = Unit {0}
-IsTruthOfBool sorts (AtMost sum k) = Unit {0}
 
 -- nothing is told of the parts of a stack and their atoms, and no pivot was made
 pub record IsBegun (s : Stack) (marks : List Bool) (atoms : Atoms) (b : Begun) : Type 0 where

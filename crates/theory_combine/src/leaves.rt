@@ -1,16 +1,14 @@
 //! Int leaves of the assertions.
-ghost use Rattle.std.specs.Prelude.{◌≡◌, true, All, slice_index_or};
+ghost use Rattle.std.specs.Prelude.{◌≡◌, true, slice_index_or};
 ghost use Rattle.smt_meaning.specs.declared.values.Sort.TheVariants.{Bool as Truths, Int as Ints};
 ghost use Rattle.smt_meaning.specs.CheckAtoms.{is_leaf_head};
 ghost use Rattle.smt_meaning.specs.Stack.{signature_of};
 ghost use Rattle.model_eval.specs.Walk.{is_marked};
 ghost use Rattle.model_build.specs.Parts.{AreSortedParts};
-ghost use Rattle.theory_combine.specs.Progress.{AreParts};
 ghost use Rattle.theory_combine.specs.Shown.{IsMarkedLeaf};
 
-use crate::parts::Parts;
 use scope_stack::Stack;
-use smt_meaning::{Head, Operator, Sort, Summand, TermId};
+use smt_meaning::{Head, Operator, Sort, TermId};
 
 pub(crate) fn is_marked_place(marks: &[bool], place: u32) -> bool
     ensures { result ≡ is_marked marks.now place }
@@ -56,25 +54,4 @@ pub(crate) fn is_marked_leaf(stack: &Stack, marks: &[bool], place: TermId) -> bo
         return false;
     }
     is_leaf_head(stack.terms().node(place).head)
-}
-
-/// Whether a term is a leaf of the Int parts.
-pub(crate) fn is_leaf(parts: &Parts<'_>, place: TermId) -> bool
-    requires { AreParts parts.now }
-    ensures { result ≡ true → IsMarkedLeaf parts.now.stack.now parts.now.marks.items place }
-{
-    is_marked_leaf(parts.stack, &parts.marks, place)
-}
-
-/// Whether a sum is over leaves of the Int parts.
-pub(crate) fn are_leaves(parts: &Parts<'_>, sum: &[Summand]) -> bool
-    requires { AreParts parts.now }
-    ensures { result ≡ true → All (λ (p : _). IsMarkedLeaf parts.now.stack.now parts.now.marks.items p.term) sum.now }
-{
-    for k in 0..sum.len() {
-        if !is_leaf(parts, sum[k].term) {
-            return false;
-        }
-    }
-    true
 }

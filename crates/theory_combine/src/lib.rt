@@ -18,6 +18,7 @@
 //! line. No more pivots are made than units may be spent, and a call that needs another ends with
 //! all of them spent.
 //!
+//! Where two applications clash, the values are moved apart within all bounds, and tried once more.
 //! A model is given only where, evaluated, it makes every literal told true. Of each branch, at a
 //! value that meets all that stands, the row is kept, so that each atom is one of the check with the
 //! branches so far.
@@ -27,6 +28,7 @@
 //! an argument of an application at the leaves' values, or in a model whose evaluation leaves it.
 #![tactic(auto)]
 
+mod apart;
 mod argument;
 mod branch;
 mod calls;

@@ -1,9 +1,8 @@
 //! Equalities of Ints that get numbers, after both bounds of the difference.
 ghost use Rattle.std.specs.Prelude.{◌≡◌, ℕ, ◌<◌, List, length, true, false, All, Contains, IfSome};
-ghost use Rattle.fraction128.specs.Whole.{InRange, is_in_range};
+ghost use Rattle.fraction128.specs.Whole.{InRange};
 ghost use Rattle.smt_meaning.specs.declared.clauses.Atom.TheVariants.{AtMost, Same};
 ghost use Rattle.smt_meaning.specs.Term.{Tree, tree_at};
-ghost use Rattle.smt_meaning.specs.Linear.{form_fits, linear_form};
 ghost use Rattle.smt_meaning.specs.Atoms.{at_most_atom};
 ghost use Rattle.atom_form.specs.AtomTableNumbers.{IsAt};
 ghost use Rattle.linear_forms.specs.Table.{AreForms};
@@ -13,19 +12,20 @@ ghost use Rattle.bound_log.specs.Told.{column_sums};
 ghost use Rattle.bound_log.specs.Growth.{IsProper};
 ghost use Rattle.theory_combine.specs.Pairs.{IsFit, IsRefused, IsSought, IsWanted};
 ghost use Rattle.theory_combine.specs.Progress.{state, AreParts, IsUnderWay, Went};
-ghost use Rattle.theory_combine.specs.Shown.{IsLeft, IsOfCheck};
+ghost use Rattle.theory_combine.specs.Shown.{IsLeft};
 ghost use Rattle.theory_combine.specs.Steps.{IsStep};
 
-use crate::leaves::{are_leaves, is_int, is_marked_place};
+use crate::leaves::{is_int, is_marked_place};
 use crate::numbering::{NewAtom, NewBound, number_new};
 use crate::parts::{Pair, Parts, Progress};
-use crate::step::{Step, go_on_with_bound, stop, stop_seeing};
+use crate::step::{Step, go_on_with_bound, stop_seeing};
 use atom_form::{AtomNumbers, CompactAtom};
 use bound_log::tie_lemmas;
+use check_atoms::bounds_are_over_leaves;
 use linear_forms::{DifferenceError, LinearForms};
 use pair_bounds::at_most;
 use search_port::{Budget, Cause};
-use smt_laws::{flat_says_the_same, symbols_are_declared, value_has_its_sort};
+use smt_laws::{flat_says_the_same, placed_forms_fit, symbols_are_declared, value_has_its_sort};
 use smt_meaning::{RangeSeen, Summand, TermId};
 
 /// The bound that one term is at most another.
@@ -48,12 +48,6 @@ fn other_way(pair: Pair) -> Pair
         left: pair.right,
         right: pair.left,
     }
-}
-
-fn is_in_range(number: i128) -> bool
-    ensures { result ≡ is_in_range number }
-{
-    number.unsigned_abs() < 1 << 127
 }
 
 /// Whether the equality of two terms has a number, in one order or the other.
@@ -192,18 +186,7 @@ pub(crate) fn next_pair(
     None
 }
 
-/// Whether the constant of a term's form is in the range.
-fn has_form_in_range(forms: &LinearForms, place: TermId) -> bool
-    requires { place < length forms.now }
-    ensures { result ≡ true → (trees : List Tree) → AreForms trees forms.now → form_fits (linear_form trees (tree_at trees place)) ≡ true }
-{
-    match forms.form(place) {
-        Ok(form) => is_in_range(form.constant),
-        Err(_) => false,
-    }
-}
-
-/// What folding the bound of two Int parts shows, where it is refused. Of a part with a constant past the range, which no commands make, it shows nothing.
+/// What folding the bound of two Int parts shows, where it is refused: nothing only for want of memory.
 fn seen_of(
     parts: &Parts<'_>,
     progress: &Progress,
@@ -218,14 +201,11 @@ fn seen_of(
     ensures { IfSome result (IsLeft parts.now.stack.now (column_sums progress.now.held.bounds) progress.now.branches) }
 {
     flat_says_the_same();
+    placed_forms_fit();
+    parts.stack.laws();
     match error {
         DifferenceError::Term(part) => Some(RangeSeen::Coefficient(part)),
-        DifferenceError::Pair => {
-            if !has_form_in_range(&progress.forms, pair.left) {
-                return None;
-            }
-            Some(RangeSeen::Pair(pair.left, pair.right))
-        }
+        DifferenceError::Pair => Some(RangeSeen::Pair(pair.left, pair.right)),
         DifferenceError::Memory => None,
     }
 }
@@ -250,28 +230,6 @@ fn stop_at_pair(
     stop_seeing(parts, progress, budget, seen)
 }
 
-/// Goes on with a bound of a pair more.
-fn go_on_with_side(
-    parts: &Parts<'_>,
-    progress: &mut Progress,
-    budget: &mut Budget,
-    bound: NewBound,
-) -> Step
-    requires parts { AreParts parts.now }
-    requires under_way { IsUnderWay parts.now progress.old }
-    requires new { Contains progress.old.atoms.atoms (AtMost bound.sum.items bound.threshold) → ⊥ }
-    requires proper { All IsProper bound.sum.items }
-    requires in_range { InRange bound.threshold }
-    requires of_check { IsOfCheck parts.now.stack.now progress.old.branches (AtMost bound.sum.items bound.threshold) }
-    ensures went { Went parts.now progress.old progress.new budget.old budget.new }
-    ensures step { IsStep (state parts.now progress.new) budget.old budget.new result }
-{
-    if !are_leaves(parts, &bound.sum) {
-        return stop(parts, progress, budget);
-    }
-    go_on_with_bound(parts, progress, budget, bound)
-}
-
 /// Goes on with a pair whose first bound has a number.
 fn go_on_above(
     parts: &Parts<'_>,
@@ -288,6 +246,8 @@ fn go_on_above(
     ensures step { IsStep (state parts.now progress.new) budget.old budget.new result }
 {
     flat_says_the_same();
+    bounds_are_over_leaves();
+    parts.stack.laws();
     let sought = seek(
         parts,
         &mut progress.forms,
@@ -297,7 +257,7 @@ fn go_on_above(
     );
     match sought {
         Sought::Number(high) => tie(parts, progress, budget, pair, low, high),
-        Sought::New(bound) => go_on_with_side(parts, progress, budget, bound),
+        Sought::New(bound) => go_on_with_bound(parts, progress, budget, bound),
         Sought::Outside(error) => stop_at_pair(parts, progress, budget, other_way(pair), error),
     }
 }
@@ -316,6 +276,8 @@ pub(crate) fn go_on_with_pair(
     ensures step { IsStep (state parts.now progress.new) budget.old budget.new result }
 {
     flat_says_the_same();
+    bounds_are_over_leaves();
+    parts.stack.laws();
     let sought = seek(
         parts,
         &mut progress.forms,
@@ -325,7 +287,7 @@ pub(crate) fn go_on_with_pair(
     );
     match sought {
         Sought::Number(low) => go_on_above(parts, progress, budget, pair, low),
-        Sought::New(bound) => go_on_with_side(parts, progress, budget, bound),
+        Sought::New(bound) => go_on_with_bound(parts, progress, budget, bound),
         Sought::Outside(error) => stop_at_pair(parts, progress, budget, pair, error),
     }
 }

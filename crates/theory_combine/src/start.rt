@@ -1,7 +1,6 @@
 //! What a search begins with, before anything is told.
-ghost use Rattle.std.specs.Prelude.{◌≡◌, ℕ, ◌<◌, List, [], true, length, All, IfOk, IfErr, OnOk, slice_index_or};
+ghost use Rattle.std.specs.Prelude.{◌≡◌, ◌<◌, List, [], length, All, IfOk, IfErr, OnOk};
 ghost use Rattle.fraction128.specs.Lines.{HasBasis, first_basis};
-ghost use Rattle.smt_meaning.specs.declared.values.Sort.TheVariants.{Bool as Truths, Int as Ints};
 ghost use Rattle.smt_meaning.specs.declared.clauses.Atom.{Atom};
 ghost use Rattle.smt_meaning.specs.Stack.{signature_of};
 ghost use Rattle.term_store.specs.Terms.{AreDifferent};
@@ -15,7 +14,7 @@ ghost use Rattle.bound_log.specs.Atoms.{Knows, KnowsOneMore, KnowsTheSame};
 ghost use Rattle.bound_log.specs.Columns.{AddsColumns, HasColumnsOf};
 ghost use Rattle.bound_log.specs.Growth.{GrowsVariables};
 ghost use Rattle.bound_log.specs.Pending.{plain_grid};
-ghost use Rattle.theory_combine.specs.Begin.{IsOfBool, IsTruthOfBool, IsBegun};
+ghost use Rattle.theory_combine.specs.Begin.{IsBegun};
 ghost use Rattle.theory_combine.specs.Columns.{HasKnownColumns};
 ghost use Rattle.theory_combine.specs.Errors.{IsErrorAt, IsErrorIn, IsErrorSeen};
 ghost use Rattle.theory_combine.specs.Shown.{AreOfAssertions};
@@ -26,12 +25,11 @@ use crate::held::{Held, Looked};
 use crate::leaves::is_marked_leaf;
 use atom_form::{AtomNumbers, NumberedAtom};
 use bound_log::{BoundLog, sums_are_apart};
-use check_atoms::atoms_are_first;
+use check_atoms::{atoms_are_first, truths_are_of_bools};
 use closure_log::{ClosureLog, Guide, Scan, Watches};
 use first_clauses::linear_terms;
 use scope_stack::Stack;
 use smt_laws::{flat_says_the_same, symbols_are_declared};
-use smt_meaning::Sort;
 use std::alloc::{AllocError, Global};
 
 /// What a search begins with.
@@ -131,38 +129,6 @@ fn add_leaves(
     Ok(())
 }
 
-/// Whether a sort is that of Bools.
-fn is_bool(sorts: &[Sort], place: u32) -> bool
-    ensures { result ≡ true → (place < length sorts.now) × (slice_index_or sorts.now place Ints ≡ Truths) }
-{
-    if place as usize >= sorts.len() {
-        return false;
-    }
-    sorts[place as usize] == Sort::Bool
-}
-
-/// Whether an atom is no truth, or that of a Bool.
-fn is_of_bool(sorts: &[Sort], atom: NumberedAtom) -> bool
-    ensures { result ≡ true → IsOfBool sorts.now atom }
-{
-    match atom {
-        NumberedAtom::Truth(place) => is_bool(sorts, place),
-        NumberedAtom::Same(_, _) | NumberedAtom::Bound(_) => true,
-    }
-}
-
-/// Whether the truths that have numbers are of Bools.
-fn are_of_bools(sorts: &[Sort], atoms: &AtomNumbers) -> bool
-    ensures { result ≡ true → (n : ℕ) → n < length atoms.now.atoms → IsTruthOfBool sorts.now (atom_at atoms.now.atoms n) }
-{
-    for number in 0..atoms.len() {
-        if !is_of_bool(sorts, atoms.atom(number as u32)) {
-            return false;
-        }
-    }
-    true
-}
-
 /// Nothing is told of the parts of a stack and their atoms, which the bounds know. An `Err` is for want of memory; a stack of 2^32 - 3 terms or more leaves none.
 fn begin_with(
     alloc: Global,
@@ -183,13 +149,12 @@ fn begin_with(
     symbols_are_declared();
     flat_says_the_same();
     atoms_are_first();
+    truths_are_of_bools();
     sums_are_apart();
     if stack.terms().len() >= u32::MAX - 2 {
         return Err(AllocError);
     }
-    if !are_of_bools(stack.sorts(), atoms) {
-        return Err(AllocError);
-    }
+    let _ = stack.sorts();
     let readable = linear_terms(alloc, stack.terms())?;
     let guide = Guide::new(alloc, stack)?;
     let closure = ClosureLog::new(alloc, stack)?;

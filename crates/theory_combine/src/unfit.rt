@@ -52,6 +52,7 @@ fn in_model(parts: &Parts<'_>, progress: &Progress) -> Result<InModel, Unshown>
         &progress.atoms,
         &progress.held,
         Untied::Zero,
+        &[],
     )?;
     let values = PlaceValues {
         truths: &chosen.truths,

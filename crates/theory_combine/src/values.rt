@@ -84,10 +84,13 @@ fn untied_number(untied: Untied, class: u32) -> i128 {
     }
 }
 
-/// The value of a term's variable where it stands in a bound and the value is whole. Where differences lead, it is the number that their graph has.
-fn tied_number(held: &Held, stands: bool, place: u32) -> Option<i128> {
+/// The value of a term's variable where it stands in a bound and the value is whole, or the number to which it was moved. Where differences lead, it is the number that their graph has.
+fn tied_number(held: &Held, moved: &[i128], stands: bool, place: u32) -> Option<i128> {
     if !stands {
         return None;
+    }
+    if (place as usize) < moved.len() {
+        return Some(moved[place as usize]);
     }
     if leads(held) {
         return held.looked.differences.number(place);
@@ -105,6 +108,7 @@ fn numbers(
     stands: &[bool],
     elements: &[u32],
     untied: Untied,
+    moved: &[i128],
 ) -> Result<Vec<i128>, AllocError>
     requires few { length elements.now < 2 ^ 32 }
     requires each { length stands.now ≡ length elements.now }
@@ -112,7 +116,7 @@ fn numbers(
 {
     let mut numbers = Vec::new(alloc);
     for place in 0..elements.len() {
-        let number = match tied_number(held, stands[place], place as u32) {
+        let number = match tied_number(held, moved, stands[place], place as u32) {
             Some(number) => number,
             None => untied_number(untied, elements[place]),
         };
@@ -150,13 +154,14 @@ fn truths(
     Ok(truths)
 }
 
-/// A value for each term. An `Err` is for want of memory.
+/// A value for each term; that of an Int whose place is among those moved is the number there. An `Err` is for want of memory.
 pub(crate) fn values_of(
     alloc: Global,
     stack: &Stack,
     atoms: &AtomNumbers,
     held: &Held,
     untied: Untied,
+    moved: &[i128],
 ) -> Result<Chosen, AllocError>
     requires few { length stack.now.trees + 2 < 2 ^ 32 }
     requires held { IsHeld stack.now atoms.now.atoms held.now }
@@ -167,7 +172,7 @@ pub(crate) fn values_of(
     let count = stack.terms().len();
     let elements = classes(alloc, &held.closure.congruence, count)?;
     let stands = bounded(alloc, atoms, count)?;
-    let numbers = numbers(alloc, held, &stands, &elements, untied)?;
+    let numbers = numbers(alloc, held, &stands, &elements, untied, moved)?;
     let truths = truths(alloc, atoms, &held.closure.log, count)?;
     Ok(Chosen {
         truths,

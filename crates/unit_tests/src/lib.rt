@@ -33,6 +33,8 @@ mod room;
 #[cfg(test)]
 mod rows;
 #[cfg(test)]
+mod scripts;
+#[cfg(test)]
 mod stack;
 #[cfg(test)]
 mod terms;

@@ -3,7 +3,8 @@ use Rattle.tableau.specs.Failing.{IsRange}
 use Rattle.tableau.proofs.RowLemmas.{err_then}
 use Rattle.simplex_steps.specs.Moved.{shift_fits}
 use Rattle.simplex_steps.proofs.Columns.{row_false}
-use Rattle.simplex_steps.proofs.Shifts.{only_more, each_more, each_past, fits_more, fits_past, shifts_done, fits_done, basic_values}
+use Rattle.simplex_steps.proofs.Shifts.{only_more, each_more, each_past, fits_more, fits_past, shifts_done, fits_done}
+use Rattle.tableau.specs.Table.{row_at}
 use Rattle.simplex_steps.proofs.moves.list_shifts.Goals as goal
 
 pub returns-in_err-list_shift-clause-range : goal.returns-in_err-list_shift-clause-range
@@ -37,4 +38,4 @@ returns-clause-ok c =
 pub returns-clause-fits : goal.returns-clause-fits
 returns-clause-fits c =
     fits_done c.args.columns.now c.args.variable c.args.distance c.args.tableau.now.rows c.holders-places.result.now c.loop-place.place-index (omega arith) c.holders-places.ensures
-    (basic_values c.args.tableau.now c.args.columns.now c.facts.ensures c.requires c.check_values.ensures) c.ratio-distance.ensures.lowest c.loop-place.invariant.fits
+    (λ k lt. c.requires.fractions (row_at c.args.tableau.now.rows k).basic) c.ratio-distance.ensures.lowest c.loop-place.invariant.fits

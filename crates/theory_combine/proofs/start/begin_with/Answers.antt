@@ -10,7 +10,6 @@ use Rattle.theory_combine.proofs.start.begin_with.Goals as goal
 
 pub returns : goal.returns
 returns c =
-    let yes : c.are_of_bools.result ≡ true = search rules in
     let bounds = c.add_leaves.new.bounds in
     let columns = c.add_leaves.ensures.columns c.args.atoms.now.atoms c.requires.columns in
     let few : length c.args.stack.now.trees + 2 < 2 ^ 32 = search rules in
@@ -21,8 +20,8 @@ returns c =
           (rw c.terms-2.ensures.trees at c.in_ok-readable.ensures);
       whole = record {
         setting =
-            setting c.args.stack.now c.args.marks.now c.laws.ensures c.requires.marks c.args.atoms.now.atoms c.requires.atoms c.sorts.result.now c.sorts.ensures c.symbols_are_declared.ensures
-            c.flat_says_the_same.ensures (c.are_of_bools.ensures yes) few;
+            setting c.args.stack.now c.args.marks.now c.laws.ensures c.requires.marks c.args.atoms.now.atoms c.requires.atoms c.sorts.result.now c.sorts.ensures c.truths_are_of_bools.ensures
+            c.symbols_are_declared.ensures c.flat_says_the_same.ensures few;
         marked = c.requires.atoms.over_parts;
         held = record {
           told = c.in_ok-closure.ensures.told c.args.atoms.now.atoms;

@@ -3,6 +3,7 @@ use Rattle.std.proofs.lemmas.Result.{err_from_is_err_and}
 use Rattle.smt_sorts.specs.Names.{Names}
 use Rattle.scope_stack.proofs.GainLemmas.{failed_answers, asked_keeps, asked_answers}
 use Rattle.scope_stack.proofs.FactLemmas.{asked_before}
+use Rattle.scope_stack.proofs.LawLemmas.{reached_given}
 use Rattle.scope_stack.proofs.LevelSteps.{asked_levels}
 use Rattle.scope_stack.proofs.stack.ScopeStack.ask.Goals as goal
 
@@ -22,6 +23,13 @@ pub extend-requires-clause-levels : goal.extend-requires-clause-levels
 extend-requires-clause-levels c =
     asked_levels c.self.inside.table c.judge_questions.new.table c.self.inside.terms c.judge_questions.new.terms c.len-count.result c.self.inside.facts.levels.items c.len-count.ensures.value
     c.in_ok-asked.ensures.table c.in_ok-asked.ensures.longer c.self.invariant.levels
+
+pub extend-requires-clause-given : goal.extend-requires-clause-given
+extend-requires-clause-given c =
+    let after =
+    asked_keeps c.self.inside.global c.args.terms.now c.self.inside.table c.judge_questions.new.table c.self.inside.terms c.judge_questions.new.terms c.self.inside.asserted c.in_ok-asked.asked c.self.invariant.stack
+    c.in_ok-asked.ensures.gives c.in_ok-asked.ensures.table c.in_ok-asked.ensures.longer c.in_ok-asked.ensures.limit in
+    reached_given _ after.reached c.symbols_are_given.ensures
 
 pub extend-requires-clause-few : goal.extend-requires-clause-few
 extend-requires-clause-few c = subst (λ (t : Names). length t.levels ≤ 65536) (sym c.in_ok-asked.ensures.table) c.self.invariant.stack.few

@@ -3,6 +3,7 @@ use Rattle.std.proofs.lemmas.Result.{err_from_is_err_and}
 use Rattle.smt_meaning.specs.StackCommand.{assert_term}
 use Rattle.scope_stack.proofs.GainLemmas.{few_still, failed_carries, asserted_keeps, asserted_is}
 use Rattle.scope_stack.proofs.FactLemmas.{facts_before, kept_again}
+use Rattle.scope_stack.proofs.LawLemmas.{reached_given}
 use Rattle.scope_stack.proofs.LevelSteps.{levels_before}
 use Rattle.scope_stack.proofs.TermSteps.{cut_back}
 use Rattle.scope_stack.proofs.stack.ScopeStack.assert_term.Goals as goal
@@ -24,6 +25,13 @@ invariant_of-self-in-Ok c =
       facts = c.in-Ok.ensures.facts;
       levels = c.in-Ok.ensures.levels;
     })
+
+pub add_assertion-requires-clause-given : goal.add_assertion-requires-clause-given
+add_assertion-requires-clause-given c =
+    let after =
+    asserted_keeps c.self.inside.global c.self.inside.table c.judge_assertion.new.table c.self.inside.terms c.judge_assertion.new.terms (record { text = c.args.term.now; term = c.in_ok-term.term }) c.self.inside.asserted
+    c.self.invariant.stack c.in_ok-term.ensures.gained c.in_ok-term.ensures.longer c.in_ok-term.ensures.limit c.in_ok-term.ensures.place c.in_ok-term.ensures.gives in
+    reached_given _ after.reached c.symbols_are_given.ensures
 
 pub add_assertion-requires-clause-few : goal.add_assertion-requires-clause-few
 add_assertion-requires-clause-few c = few_still c.self.inside.table c.judge_assertion.new.table c.in_ok-term.ensures.gained c.self.invariant.stack.few

@@ -3,10 +3,11 @@ use Rattle.std.proofs.lemmas.Result.{err_from_is_err_and}
 use Rattle.smt_meaning.specs.Stack.{depth}
 use Rattle.smt_meaning.specs.StackCommand.{Stack}
 use Rattle.smt_sorts.specs.Names.{Names}
-use Rattle.scope_stack.specs.Facts.{AreFacts, HaveLevels}
+use Rattle.scope_stack.specs.Facts.{AreFacts, HaveGivenSymbols, HaveLevels}
 use Rattle.scope_stack.specs.Inside.{asserted_by, frames_by}
 use Rattle.scope_stack.proofs.AssumeLemmas.{assumed_is, assumed_keeps, failed_assumes}
 use Rattle.scope_stack.proofs.FactLemmas.{asked_before, facts_pushed}
+use Rattle.scope_stack.proofs.LawLemmas.{reached_given}
 use Rattle.scope_stack.proofs.LevelSteps.{asked_levels, levels_pushed}
 use Rattle.scope_stack.proofs.stack.ScopeStack.assume.Goals as goal
 
@@ -27,6 +28,15 @@ pub add_level-requires-clause-levels : goal.add_level-requires-clause-levels
 add_level-requires-clause-levels c =
     asked_levels c.self.inside.table c.judge_assumptions.new.table c.self.inside.terms c.judge_assumptions.new.terms c.len-count.result c.self.inside.facts.levels.items c.len-count.ensures.value
     c.in_ok-assumed.ensures.table c.in_ok-assumed.ensures.longer c.self.invariant.levels
+
+pub add_level-requires-clause-given : goal.add_level-requires-clause-given
+add_level-requires-clause-given c =
+    let d : c.depth-depth.result ≡ depth (frames_by c.self.inside.terms.trees c.self.inside.table.levels c.self.inside.asserted) = c.depth-depth.ensures ∙ ap (λ (s : Stack). depth s.frames) (sym c.self.view_is) in
+    let after =
+    assumed_keeps c.self.inside.global c.depth-depth.result c.args.terms.now c.self.inside.table c.in_ok-assumed.ensures.gives.0 c.self.inside.terms c.judge_assumptions.new.terms
+    c.in_ok-assumed.assumed.items c.self.inside.asserted c.self.invariant.stack c.in_ok-assumed.ensures.gives.1 d c.in_ok-assumed.ensures.longer c.assumptions_are_commands.ensures
+    c.in_ok-assumed.ensures.limit in
+    subst (λ (t : Names). HaveGivenSymbols t.given c.judge_assumptions.new.terms.trees) (sym c.in_ok-assumed.ensures.table) (reached_given _ after.reached c.symbols_are_given.ensures)
 
 pub add_level-requires-clause-few : goal.add_level-requires-clause-few
 add_level-requires-clause-few c = subst (λ (t : Names). length t.levels ≤ 65536) (sym c.in_ok-assumed.ensures.table) c.self.invariant.stack.few

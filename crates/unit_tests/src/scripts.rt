@@ -1,4 +1,6 @@
-use crate::script;
+//! Scripts that another program makes too.
+use script_gen::script;
+use std::alloc::{AllocError, Global};
 use std::test::Fail;
 
 /// The 64-bit FNV-1a hash.
@@ -8,6 +10,15 @@ fn hash(text: &[u8]) -> u64 {
         hash = (hash ^ u64::from(*byte)).wrapping_mul(0x100000001b3);
     }
     hash
+}
+
+/// The length and the hash of the script of a seed and a size, if scripts have this size.
+fn made(alloc: Global, seed: u64, size: u32) -> Result<Option<(usize, u64)>, AllocError> {
+    if size < 1 || size > 2000 {
+        return Ok(None);
+    }
+    let text = script(alloc, seed, size)?;
+    Ok(Some((text.len(), hash(text.as_bytes()))))
 }
 
 /// Seeds and sizes, with the length and the hash of the script that `bench/generated.py` makes of them.
@@ -24,9 +35,7 @@ static SCRIPTS: [(u64, u32, usize, u64); 6] = [
 fn makes_what_another_program_makes(rt: HostRuntime) -> Result<(), Fail> {
     for row in SCRIPTS.iter() {
         let (seed, size, len, sum) = *row;
-        let made = script(rt.alloc(), seed, size)?;
-        assert_eq!(rt; made.len(), len);
-        assert_eq!(rt; hash(made.as_bytes()), sum);
+        assert_eq!(rt; made(rt.alloc(), seed, size)?, Some((len, sum)));
     }
     Ok(())
 }

@@ -1,0 +1,435 @@
+-- A row of x at a half and at minus a half.
+use Rattle.std.proofs.Common.{◌≡◌, ◌≢◌, inl, inr, ℕ, zero, suc, ◌<◌, ◌*◌, ℤ, pos, negsuc, ◌*ℤ◌, ◌≤ℤ◌, neg_ℤ, sym, ap, ap₂, ◌∙◌, subst, refl, arith, List, [], ◌∷◌, map, length, true, false, Option, Some, None, Contains, All}
+use Rattle.std.specs.Prelude.{slice_index_or}
+use Rattle.std.proofs.lemmas.Int.{ints}
+use Rattle.std.proofs.lemmas.List.Elements.{All-nil, All-cons}
+use Rattle.fraction128.proofs.RingEquations as Ring
+use Rattle.fraction128.proofs.RingEquations.{var, product, minus, nothing, unit, solve}
+use Rattle.fraction128.proofs.RationalRing.{Rational, number, number_back, number_eq, number_neg, number_plus, number_times, rational_sum, rational_product, rational_zero, rational_negation, rational_one, rational_one-is, rationals}
+use Rattle.fraction128.proofs.LowestTerms.{pos_times}
+use Rattle.fraction128.proofs.RowValue.{ArePositive, row_value_positive, number_row_value}
+use Rattle.fraction128.proofs.SumValues.{sum_positive_value, number_sum_value, number_leaf}
+use Rattle.fraction128.specs.declared.ratio.Ratio.{Ratio}
+use Rattle.fraction128.specs.declared.Summand.{Summand}
+use Rattle.fraction128.specs.declared.Grid.{Grid}
+use Rattle.fraction128.specs.declared.Member.{Member}
+use Rattle.fraction128.specs.declared.Side.TheVariants.{Lower, Upper}
+use Rattle.fraction128.specs.Number.{whole, SameNumber, unreduced_sum, unreduced_product}
+use Rattle.fraction128.specs.Ratio.{IsFraction}
+use Rattle.fraction128.specs.Gcd.{gcd_of}
+use Rattle.fraction128.specs.Grid.{leaf, column_at, is_basic, value_at, row_value, MeetsRow, WithinBounds}
+use Rattle.fraction128.specs.Lines.{Bounding, AreSums, HasSum, IsBoundedBy, IsResting, IsEntry, IsRow, AreRows, IsSoundGrid, IsRowIn, IsBranchLine, sum_value, IsPositive, basic_member}
+use Rattle.smt_meaning.specs.declared.clauses.Summand as Terms
+use Rattle.smt_meaning.specs.declared.clauses.Atom.{Atom}
+use Rattle.smt_meaning.specs.declared.clauses.Atom.TheVariants.{AtMost}
+use Rattle.smt_meaning.specs.Term.{Tree}
+use Rattle.smt_meaning.specs.Parts.{IsPart}
+use Rattle.smt_meaning.specs.Division.{rows_of}
+use Rattle.smt_meaning.specs.Atoms.{positive, row_literals, division_clauses}
+use Rattle.smt_meaning.specs.TreeShape.{place_of}
+use Rattle.smt_meaning.specs.Boxes.{asserted_atoms, negation_at_most}
+use Rattle.smt_meaning.specs.CheckAtoms.{IsPartOfStack, IsLeaf, IsFirstAtom, IsKnownSum, IsBoundOf, IsStanding, Meets, IsReached, IsBranch}
+use Rattle.report_laws.specs.Sum.{x, y}
+use Rattle.report_laws.specs.Branch.{nought, one, sum, low, least, trees, frames, both, sums, halved, row, grid_at, at_half, at_minus_half, HalfIsABranch, MinusHalfIsNone}
+use Rattle.report_laws.proofs.Listed.{in_cons, in_none}
+use Rattle.report_laws.proofs.Boxed.{negation_is, leaf_is}
+
+abbrev Is : Atom → Type 0
+Is a = IsFirstAtom trees frames a
+
+-- ---- the table
+
+x_part : IsPartOfStack frames x
+x_part = record { assertion = least; asserted = (1, omega arith, refl); part = inr (inr (inl (inl refl))) }
+
+y_part : IsPartOfStack frames y
+y_part = record { assertion = low; asserted = (0, omega arith, refl); part = inr (inr (inl (inr (inr (inr (inl (inl refl))))))) }
+
+one_part : IsPartOfStack frames one
+one_part = record { assertion = low; asserted = (0, omega arith, refl); part = inr (inl (inl refl)) }
+
+nought_part : IsPartOfStack frames nought
+nought_part = record { assertion = least; asserted = (1, omega arith, refl); part = inr (inl (inl refl)) }
+
+sum_part : IsPartOfStack frames sum
+sum_part = record { assertion = low; asserted = (0, omega arith, refl); part = inr (inr (inl (inl refl))) }
+
+x_leaf : IsLeaf trees frames 0
+x_leaf = record { leaf = x; part = record { part = x_part; int = refl; place_is = refl }; is = refl }
+
+y_leaf : IsLeaf trees frames 1
+y_leaf = record { leaf = y; part = record { part = y_part; int = refl; place_is = refl }; is = refl }
+
+abbrev minus_both : List Terms.Summand
+minus_both = record { coefficient = negsuc 1; term = 0 } ∷ record { coefficient = negsuc 0; term = 1 } ∷ []
+
+-- 1 is at most 2x + y, and so is 0
+one_atom : IsFirstAtom trees frames (AtMost minus_both (negsuc 0))
+unfolding gcd_of
+one_atom = inr (inl (record { left = one; right = sum; left_part = one_part; right_part = sum_part; one_sort = refl; among = (1, omega arith, refl) }))
+
+nought_atom : IsFirstAtom trees frames (AtMost minus_both (pos 0))
+unfolding gcd_of
+nought_atom = inr (inl (record { left = nought; right = sum; left_part = nought_part; right_part = sum_part; one_sort = refl; among = (1, omega arith, refl) }))
+
+abbrev term_of : List Summand → ℕ
+term_of [] = 7
+term_of (p ∷ ps) = p.term
+
+leaves_apart : leaf 0 ≡ leaf 1 → ⊥
+leaves_apart e = let z : zero ≡ suc zero = ap term_of e in omega (arith, z)
+
+longer : (t : ℕ) → leaf t ≡ both → ⊥
+longer t e = omega (arith, ap length e)
+
+apart : (i j : ℕ) (d : List Summand) → i < j → j < 3 → slice_index_or sums i d ≢ slice_index_or sums j d
+apart zero (suc zero) d lt lj e = leaves_apart e
+apart zero (suc (suc zero)) d lt lj e = longer 0 e
+apart (suc zero) (suc (suc zero)) d lt lj e = longer 1 e
+apart zero zero d lt lj e = omega (arith, lt)
+apart (suc i) zero d lt lj e = omega (arith, lt)
+apart (suc i) (suc zero) d lt lj e = omega (arith, lt)
+apart (suc (suc i)) (suc (suc zero)) d lt lj e = omega (arith, lt)
+apart i (suc (suc (suc j))) d lt lj e = omega (arith, lj)
+
+filled : (p : Summand) (ps : List Summand) → p ∷ ps ≢ []
+filled p ps e = cc
+
+table : AreSums (IsKnownSum trees frames) sums
+table = record {
+  apart = λ i j d lt lj. apart i j d lt lj;
+  filled = All-cons (λ (ps : List Summand). ps ≢ []) (leaf 0) (leaf 1 ∷ both ∷ []) (filled _ _)
+      (All-cons (λ (ps : List Summand). ps ≢ []) (leaf 1) (both ∷ []) (filled _ _) (All-cons (λ (ps : List Summand). ps ≢ []) both [] (filled _ _) (All-nil _)));
+  known = All-cons (IsKnownSum trees frames) (leaf 0) (leaf 1 ∷ both ∷ []) (IsKnownSum.of_leaf 0 x_leaf refl)
+      (All-cons (IsKnownSum trees frames) (leaf 1) (both ∷ []) (IsKnownSum.of_leaf 1 y_leaf refl)
+      (All-cons (IsKnownSum trees frames) both [] (IsKnownSum.of_atom minus_both (negsuc 0) one_atom refl) (All-nil _)));
+}
+
+-- ---- halves
+
+zero_fraction : IsFraction (whole (pos 0))
+unfolding gcd_of
+zero_fraction = record { positive = omega arith; lowest = refl; numerator_in = omega arith; denominator_in = omega arith }
+
+one_fraction : IsFraction (whole (pos 1))
+unfolding gcd_of
+one_fraction = record { positive = omega arith; lowest = refl; numerator_in = omega arith; denominator_in = omega arith }
+
+minus_fraction : IsFraction (whole (negsuc 0))
+unfolding gcd_of
+minus_fraction = record { positive = omega arith; lowest = refl; numerator_in = omega arith; denominator_in = omega arith }
+
+half_fraction : IsFraction (halved (pos 1))
+unfolding gcd_of
+half_fraction = record { positive = omega arith; lowest = refl; numerator_in = omega arith; denominator_in = omega arith }
+
+minus_half_fraction : IsFraction (halved (negsuc 0))
+unfolding gcd_of
+minus_half_fraction = record { positive = omega arith; lowest = refl; numerator_in = omega arith; denominator_in = omega arith }
+
+abbrev half : Rational
+half = number (halved (pos 1))
+
+minus_half_is : number (halved (negsuc 0)) ≡ rational_negation half
+minus_half_is = number_neg (halved (pos 1)) (omega arith)
+
+two_is : number (whole (pos 2)) ≡ rational_sum rational_one rational_one
+two_is = number_eq (whole (pos 2)) (unreduced_sum (whole (pos 1)) (whole (pos 1))) (omega arith) (omega arith) refl ∙ number_plus (whole (pos 1)) (whole (pos 1)) (omega arith) (omega arith) ∙ ap (λ o. rational_sum o o) (sym rational_one-is)
+
+two_halves : rational_sum half half ≡ rational_one
+two_halves = sym (number_plus (halved (pos 1)) (halved (pos 1)) (omega arith) (omega arith)) ∙ number_eq (unreduced_sum (halved (pos 1)) (halved (pos 1))) (whole (pos 1)) (omega arith) (omega arith) refl ∙ sym rational_one-is
+
+leaf_value : (w : ℕ → Ratio) (t : ℕ) → IsPositive w → SameNumber (sum_value w (leaf t)) (w t)
+leaf_value w t p = number_back (sum_value w (leaf t)) (w t) (sum_positive_value w (leaf t) p) (p t) (number_leaf w t p)
+
+-- ---- the row
+
+abbrev sums_at : (ℕ → Ratio) → ℕ → Ratio
+sums_at f i = sum_value f (slice_index_or sums i [])
+
+-- X = - h Y + h (2 X + Y)
+back_again : (X Y : Rational) → rational_sum (rational_product (rational_negation half) Y) (rational_sum (rational_product half (rational_sum (rational_product (rational_sum rational_one rational_one) X) (rational_sum (rational_product rational_one Y) rational_zero))) rational_zero) ≡ X
+back_again X Y =
+    solve rationals (X ∷ Y ∷ half ∷ []) (Ring.sum (product (minus (var 2)) (var 1)) (Ring.sum (product (var 2) (Ring.sum (product (Ring.sum unit unit) (var 0)) (Ring.sum (product unit (var 1)) nothing))) nothing)) (product (Ring.sum (var 2) (var 2)) (var 0)) refl
+    ∙ ap (λ h. rational_product h X) two_halves ∙ solve rationals (X ∷ []) (product unit (var 0)) (var 0) refl
+
+both_value : (f : ℕ → Ratio) → IsPositive f → number (sum_value f both) ≡ rational_sum (rational_product (rational_sum rational_one rational_one) (number (f 0))) (rational_sum (rational_product rational_one (number (f 1))) rational_zero)
+both_value f p =
+    number_sum_value f both p
+    ∙ ap₂ (λ t o. rational_sum (rational_product t (number (f 0))) (rational_sum (rational_product o (number (f 1))) rational_zero)) two_is (sym rational_one-is)
+
+-- values of x and y at which y and 2x + y have these
+abbrev lifted : (ℕ → Ratio) → ℕ → Ratio
+lifted v zero = unreduced_product (halved (pos 1)) (unreduced_sum (v 2) (unreduced_product (whole (negsuc 0)) (v 1)))
+lifted v (suc t) = v 1
+
+module _ (v : ℕ → Ratio) (p : IsPositive v) where
+  less_positive : 0 < (unreduced_product (whole (negsuc 0)) (v 1)).denominator
+  less_positive = pos_times 1 (v 1).denominator (omega arith) (p 1)
+
+  difference_positive : 0 < (unreduced_sum (v 2) (unreduced_product (whole (negsuc 0)) (v 1))).denominator
+  difference_positive = pos_times (v 2).denominator (1 * (v 1).denominator) (p 2) less_positive
+
+  lifted_positive : IsPositive (lifted v)
+  lifted_positive zero = pos_times 2 (unreduced_sum (v 2) (unreduced_product (whole (negsuc 0)) (v 1))).denominator (omega arith) difference_positive
+  lifted_positive (suc t) = p 1
+
+  minus_one_is : number (whole (negsuc 0)) ≡ rational_negation rational_one
+  minus_one_is = number_neg (whole (pos 1)) (omega arith) ∙ ap rational_negation (sym rational_one-is)
+
+  lifted_first : number (lifted v 0) ≡ rational_product half (rational_sum (number (v 2)) (rational_product (rational_negation rational_one) (number (v 1))))
+  lifted_first =
+      number_times (halved (pos 1)) (unreduced_sum (v 2) (unreduced_product (whole (negsuc 0)) (v 1))) (omega arith) difference_positive
+      ∙ ap (rational_product half) (number_plus (v 2) (unreduced_product (whole (negsuc 0)) (v 1)) (p 2) less_positive
+      ∙ ap (rational_sum (number (v 2))) (number_times (whole (negsuc 0)) (v 1) (omega arith) (p 1) ∙ ap (λ m. rational_product m (number (v 1))) minus_one_is))
+
+  -- 2 h (S - Y) + Y = S
+  ahead_again : (S Y : Rational) → rational_sum (rational_product (rational_sum rational_one rational_one) (rational_product half (rational_sum S (rational_product (rational_negation rational_one) Y)))) (rational_sum (rational_product rational_one Y) rational_zero) ≡ S
+  ahead_again S Y =
+      solve rationals (S ∷ Y ∷ half ∷ []) (Ring.sum (product (Ring.sum unit unit) (product (var 2) (Ring.sum (var 0) (product (minus unit) (var 1))))) (Ring.sum (product unit (var 1)) nothing))
+      (Ring.sum (product (Ring.sum (var 2) (var 2)) (Ring.sum (var 0) (minus (var 1)))) (var 1)) refl
+      ∙ ap (λ h. rational_sum (rational_product h (rational_sum S (rational_negation Y))) Y) two_halves
+      ∙ solve rationals (S ∷ Y ∷ []) (Ring.sum (product unit (Ring.sum (var 0) (minus (var 1)))) (var 1)) (var 0) refl
+
+  lifted_both : SameNumber (sum_value (lifted v) both) (v 2)
+  lifted_both =
+      number_back (sum_value (lifted v) both) (v 2) (sum_positive_value (lifted v) both lifted_positive) (p 2)
+      (both_value (lifted v) lifted_positive
+      ∙ ap (λ z. rational_sum (rational_product (rational_sum rational_one rational_one) z) (rational_sum (rational_product rational_one (number (v 1))) rational_zero)) lifted_first
+      ∙ ahead_again (number (v 2)) (number (v 1)))
+
+module _ (lower upper : Option ℤ) (k : ℤ) where
+  abbrev g : Grid
+  g = grid_at lower upper k
+
+  row_is : IsRow g row
+  row_is = record {
+    known = omega arith;
+    ascending = (omega arith, (omega arith, tt));
+    entries = All-cons (IsEntry g) (record { variable = 1; coefficient = halved (negsuc 0) }) (record { variable = 2; coefficient = halved (pos 1) } ∷ [])
+        (record { fraction = minus_half_fraction; nonzero = minus_not_none; known = omega arith; free = refl })
+        (All-cons (IsEntry g) (record { variable = 2; coefficient = halved (pos 1) }) [] (record { fraction = half_fraction; nonzero = not_none; known = omega arith; free = refl }) (All-nil _));
+  }
+    where
+      not_none : pos 1 ≢ pos 0
+      not_none e = cc
+
+      minus_not_none : negsuc 0 ≢ pos 0
+      minus_not_none e = cc
+
+  rows_are : AreRows g
+  rows_are = record { each = All-cons (IsRow g) row [] row_is (All-nil _); apart = λ i j d lt lj e. omega (arith, lt, lj) }
+
+  columns_are : (i : ℕ) → i < 3 → HasSum sums i (column_at g i)
+  columns_are zero lt = (omega arith, refl)
+  columns_are (suc zero) lt = (omega arith, refl)
+  columns_are (suc (suc zero)) lt = (omega arith, refl)
+  columns_are (suc (suc (suc i))) lt = absurd (omega (arith, lt))
+
+  identity : (f : ℕ → Ratio) → IsPositive f → MeetsRow (λ i. sum_value f (column_at g i).sum) row
+  identity f p =
+      let z : ℕ → Ratio = λ i. sum_value f (column_at g i).sum in
+      let fz : IsPositive z = λ i. sum_positive_value f (column_at g i).sum p in
+      let ones : ArePositive row.entries = (omega arith, (omega arith, tt)) in
+      number_back (sum_value f (leaf 0)) (row_value z row.entries) (sum_positive_value f (leaf 0) p) (row_value_positive z row.entries fz ones)
+      (number_leaf f 0 p ∙ sym (back_again (number (f 0)) (number (f 1)))
+      ∙ ap (λ m. rational_sum (rational_product m (number (f 1))) (rational_sum (rational_product half (rational_sum (rational_product (rational_sum rational_one rational_one) (number (f 0))) (rational_sum (rational_product rational_one (number (f 1))) rational_zero))) rational_zero)) (sym minus_half_is)
+      ∙ ap₂ (λ s t. rational_sum (rational_product (number (halved (negsuc 0))) s) (rational_sum (rational_product half t) rational_zero)) (sym (number_leaf f 1 p)) (sym (both_value f p))
+      ∙ sym (number_row_value z row.entries fz ones))
+
+  independent : (v : ℕ → Ratio) (p : IsPositive v) (i : ℕ) → i < 3 → is_basic g.rows i ≡ false → SameNumber (sum_value (lifted v) (column_at g i).sum) (v i)
+  independent v p zero lt free = let z : true ≡ false = free in absurd (cc)
+  independent v p (suc zero) lt free = leaf_value (lifted v) 1 (lifted_positive v p)
+  independent v p (suc (suc zero)) lt free = lifted_both v p
+  independent v p (suc (suc (suc i))) lt free = absurd (omega (arith, lt))
+
+  module _ (B : Bounding) (fk : IsFraction (whole k)) (fh : IsFraction (halved k)) (met : MeetsRow (value_at g) row)
+      (bl : (j : ℤ) → lower ≡ Some j → B both Lower j) (bu : (j : ℤ) → upper ≡ Some j → B both Upper j) (rests : IsResting B (column_at g 2)) where
+    fractions : (i : ℕ) → i < 3 → IsFraction (value_at g i)
+    fractions zero lt = fh
+    fractions (suc zero) lt = zero_fraction
+    fractions (suc (suc zero)) lt = fk
+    fractions (suc (suc (suc i))) lt = absurd (omega (arith, lt))
+
+    bounded : (i : ℕ) → i < 3 → IsBoundedBy B (column_at g i)
+    bounded zero lt = record { lower = λ j e. absurd (cc); upper = λ j e. absurd (cc) }
+    bounded (suc zero) lt = record { lower = λ j e. absurd (cc); upper = λ j e. absurd (cc) }
+    bounded (suc (suc zero)) lt = record { lower = bl; upper = bu }
+    bounded (suc (suc (suc i))) lt = absurd (omega (arith, lt))
+
+    resting : (i : ℕ) → i < 3 → is_basic g.rows i ≡ false → IsResting B (column_at g i)
+    resting zero lt free = let z : true ≡ false = free in absurd (cc)
+    resting (suc zero) lt free = inl refl
+    resting (suc (suc zero)) lt free = rests
+    resting (suc (suc (suc i))) lt free = absurd (omega (arith, lt))
+
+    sound : IsSoundGrid sums B g
+    sound = record {
+      columns = columns_are;
+      rows = rows_are;
+      identities = λ f p. All-cons (MeetsRow (λ i. sum_value f (column_at g i).sum)) row [] (identity f p) (All-nil _);
+      independent = λ v p. (lifted v, lifted_positive v p, independent v p);
+      fractions = fractions;
+      meets = All-cons (MeetsRow (value_at g)) row [] met (All-nil _);
+      bounded = bounded;
+      resting = resting;
+    }
+
+all_within : (lower upper : Option ℤ) (k : ℤ) → WithinBounds (column_at (grid_at lower upper k) 2) → All WithinBounds (grid_at lower upper k).columns
+all_within lower upper k h zero d lt = refl
+all_within lower upper k h (suc zero) d lt = refl
+all_within lower upper k h (suc (suc zero)) d lt = h
+all_within lower upper k h (suc (suc (suc i))) d lt = absurd (omega (arith, lt))
+
+-- ---- bounds
+
+some_is : (j k : ℤ) → Some j ≡ Some k → j ≡ k
+some_is j k e = cc
+
+none_is : {X : Type 0} (k : ℤ) → None ≡ Some k → X
+none_is k e = cc
+
+above_one : IsBoundOf Is both Lower (pos 1)
+above_one = record { terms = minus_both; most = negsuc 0; positive = true; atom = one_atom; sum_is = refl; side_is = refl; number_is = refl }
+
+-- not at least 0
+below_none : IsBoundOf Is both Upper (negsuc 0)
+below_none = record { terms = minus_both; most = pos 0; positive = false; atom = nought_atom; sum_is = refl; side_is = refl; number_is = refl }
+
+above_row : IsRowIn sums (IsBoundOf Is) at_half
+unfolding gcd_of
+above_row = record {
+  grid = grid_at (Some (pos 1)) None (pos 1);
+  sound = sound (Some (pos 1)) None (pos 1) (IsBoundOf Is) one_fraction half_fraction refl (λ j e. subst (IsBoundOf Is both Lower) (some_is (pos 1) j e) above_one) (λ j e. none_is j e) (inr (Lower, pos 1, refl, above_one));
+  within = all_within (Some (pos 1)) None (pos 1) refl;
+  variable = 0;
+  basic = refl;
+  line = refl;
+}
+
+below_row : IsRowIn sums (IsBoundOf Is) at_minus_half
+unfolding gcd_of
+below_row = record {
+  grid = grid_at None (Some (negsuc 0)) (negsuc 0);
+  sound = sound None (Some (negsuc 0)) (negsuc 0) (IsBoundOf Is) minus_fraction minus_half_fraction refl (λ j e. none_is j e) (λ j e. subst (IsBoundOf Is both Upper) (some_is (negsuc 0) j e) below_none) (inr (Upper, negsuc 0, refl, below_none));
+  within = all_within None (Some (negsuc 0)) (negsuc 0) refl;
+  variable = 0;
+  basic = refl;
+  line = refl;
+}
+
+two_not_one : ◌≢◌ {A = ℕ} 2 1
+two_not_one e = omega (arith, e)
+
+half_line : IsBranchLine 0 (pos 0) at_half
+half_line = record { basic = basic_member (grid_at (Some (pos 1)) None (pos 1)) 0; is_basic = refl; is_term = refl; broken = two_not_one; floor = (omega (arith, ints), omega (arith, ints)) }
+
+minus_half_line : IsBranchLine 0 (negsuc 0) at_minus_half
+minus_half_line = record { basic = basic_member (grid_at None (Some (negsuc 0)) (negsuc 0)) 0; is_basic = refl; is_term = refl; broken = two_not_one; floor = (omega (arith, ints), omega (arith, ints)) }
+
+-- ---- what stands
+
+-- no part has rows
+abbrev IsPlain : Tree → Type 0
+IsPlain t = rows_of trees t ≡ []
+
+plain_part : (t : Tree) → IsPartOfStack frames t → IsPlain t
+plain_part t h = by_assertion h.assertion h.asserted h.part
+  where
+    of_low : IsPart t low → IsPlain t
+    of_low (inl e) = ap (rows_of trees) e
+    of_low (inr (inl (inl e))) = ap (rows_of trees) e
+    of_low (inr (inl (inr w))) = absurd w
+    of_low (inr (inr (inl (inl e)))) = ap (rows_of trees) e
+    of_low (inr (inr (inl (inr (inl (inl e)))))) = ap (rows_of trees) e
+    of_low (inr (inr (inl (inr (inl (inr w)))))) = absurd w
+    of_low (inr (inr (inl (inr (inr (inl (inl e))))))) = ap (rows_of trees) e
+    of_low (inr (inr (inl (inr (inr (inl (inr w))))))) = absurd w
+    of_low (inr (inr (inl (inr (inr (inr (inl (inl e)))))))) = ap (rows_of trees) e
+    of_low (inr (inr (inl (inr (inr (inr (inl (inr w)))))))) = absurd w
+    of_low (inr (inr (inl (inr (inr (inr (inr w))))))) = absurd w
+    of_low (inr (inr (inr w))) = absurd w
+
+    of_least : IsPart t least → IsPlain t
+    of_least (inl e) = ap (rows_of trees) e
+    of_least (inr (inl (inl e))) = ap (rows_of trees) e
+    of_least (inr (inl (inr w))) = absurd w
+    of_least (inr (inr (inl (inl e)))) = ap (rows_of trees) e
+    of_least (inr (inr (inl (inr w)))) = absurd w
+    of_least (inr (inr (inr w))) = absurd w
+
+    by_assertion : (a : Tree) → Contains (low ∷ least ∷ []) a → IsPart t a → IsPlain t
+    by_assertion a c part = elim (in_cons low a (least ∷ []) c) [
+      | inl e ↦ of_low (subst (IsPart t) e part)
+      | inr later ↦ elim (in_cons least a [] later) [ inl e ↦ of_least (subst (IsPart t) e part) | inr past ↦ absurd (in_none a past) ]
+    ]
+
+no_rows : (t : Tree) (standing : List Atom) → IsPartOfStack frames t → Contains (division_clauses trees t) (map positive standing) → ⊥
+no_rows t standing part c = in_none (map positive standing) (subst (λ rs. Contains (map (row_literals trees (place_of t trees)) rs) (map positive standing)) (plain_part t part) c)
+
+-- x is a half and y is 0
+abbrev chosen : ℕ → Ratio
+chosen zero = halved (pos 1)
+chosen (suc t) = whole (pos 0)
+
+chosen_positive : IsPositive chosen
+chosen_positive zero = omega arith
+chosen_positive (suc t) = omega arith
+
+met_low : Meets chosen (AtMost minus_both (negsuc 0))
+met_low = omega (arith, ints)
+
+met_least : Meets chosen (negation_at_most 0 (pos 0))
+met_least = omega (arith, ints)
+
+asserted : (a : Atom) → Contains (asserted_atoms trees frames) a → Meets chosen a
+unfolding gcd_of
+asserted a c = elim (in_cons (AtMost minus_both (negsuc 0)) a (negation_at_most 0 (pos 0) ∷ []) c) [
+  | inl e ↦ subst (Meets chosen) (sym e) met_low
+  | inr later ↦ elim (in_cons (negation_at_most 0 (pos 0)) a [] later) [ inl e ↦ subst (Meets chosen) (sym e) met_least | inr past ↦ absurd (in_none a past) ]
+]
+
+reached : IsReached trees frames 0 (halved (pos 1))
+reached = record { values = chosen; positive = chosen_positive; meets = meets; value = refl }
+  where
+    meets : (standing : List Atom) → IsStanding trees frames standing → (a : Atom) × Contains standing a × Meets chosen a
+    meets standing (inl (a, c, e)) = (a, subst (λ s. Contains s a) (sym e) (0, omega arith, refl), asserted a c)
+    meets standing (inr (t, part, c)) = absurd (no_rows t standing part c)
+
+pub half_is_a_branch : HalfIsABranch
+unfolding half_line
+half_is_a_branch = (table, (record { term = 0; floor = pos 0; is_leaf = x_leaf; row = above_row; branches = half_line; reached = reached }, tt))
+
+-- ---- minus a half
+
+below_x : Contains (asserted_atoms trees frames) (negation_at_most 0 (pos 0))
+unfolding gcd_of
+below_x = (1, omega arith, refl)
+
+no_minus_half : (q : Ratio) → 0 < q.denominator → SameNumber q (halved (negsuc 0)) → (neg_ℤ (pos 0) *ℤ pos q.denominator) ≤ℤ q.numerator → ⊥
+no_minus_half q positive same above_none = omega (arith, ints, positive, same, above_none)
+
+member_is : (b c : Member) → Some b ≡ Some c → b ≡ c
+member_is b c e = cc
+
+pub minus_half_is_none : MinusHalfIsNone
+minus_half_is_none = (record { row = below_row; floor = minus_half_line }, λ are. none are.0)
+  where
+    none : IsBranch trees frames sums (IsFirstAtom trees frames) at_minus_half → ⊥
+    none b = no_minus_half (b.reached.values 0) (b.reached.positive 0) same low_end
+      where
+        value_is : b.branches.basic.column.value ≡ halved (negsuc 0)
+        value_is = ap (λ (m : Member). m.column.value) (member_is b.branches.basic (basic_member (grid_at None (Some (negsuc 0)) (negsuc 0)) 0) (sym b.branches.is_basic))
+
+        term_is : b.term ≡ 0
+        term_is = leaf_is b.term 0 (sym b.branches.is_term ∙ ap (λ (m : Member). m.column.sum) (member_is b.branches.basic (basic_member (grid_at None (Some (negsuc 0)) (negsuc 0)) 0) (sym b.branches.is_basic)))
+
+        same : SameNumber (b.reached.values 0) (halved (negsuc 0))
+        same = subst (λ t. SameNumber (b.reached.values t) (halved (negsuc 0))) term_is (subst (SameNumber (b.reached.values b.term)) value_is b.reached.value)
+
+        met : Meets b.reached.values (negation_at_most 0 (pos 0))
+        met = let m = b.reached.meets (negation_at_most 0 (pos 0) ∷ []) (inl (negation_at_most 0 (pos 0), below_x, refl)) in
+            elim (in_cons (negation_at_most 0 (pos 0)) m.0 [] m.1) [ inl e ↦ subst (Meets b.reached.values) e m.2 | inr past ↦ absurd (in_none m.0 past) ]
+
+        low_end : (neg_ℤ (pos 0) *ℤ pos (b.reached.values 0).denominator) ≤ℤ (b.reached.values 0).numerator
+        low_end = negation_is (b.reached.values 0).numerator (b.reached.values 0).denominator (pos 0) met
