@@ -70,10 +70,8 @@ fn mark_applications(wanted: &mut [bool], store: &TermStore, marks: &[bool])
 fn mark_leaves(wanted: &mut [bool], store: &TermStore)
     ensures { length wanted.new ≡ length wanted.old }
 {
-    let mut left = store.len();
-    while left > 0 {
-        left -= 1;
-        mark_summands(wanted, store, left);
+    for place in (0..store.len()).rev() {
+        mark_summands(wanted, store, place);
     }
 }
 
