@@ -9,7 +9,7 @@ use Rattle.smt_meaning.specs.declared.clauses.Summand.{Summand}
 use Rattle.atom_form.specs.declared.sum_table.Span.{Span}
 use Rattle.atom_form.specs.SumTableHash.{sum_hash}
 use Rattle.atom_form.specs.Sums.{IsAt, Numbered, IsTable, AreApart, AreLaid, sum_in, sums_in}
-use Rattle.atom_form.proofs.Links.{IsLink, Goes, goes, goes_on}
+use Rattle.term_store.proofs.Links.{IsLink, Goes, goes, goes_on}
 
 -- the sum isn't at a place from the link on
 pub record Passed (sums : List (List Summand)) (keys : List ℕ) (s : List Summand) (hash link : ℕ) : Type 0 where

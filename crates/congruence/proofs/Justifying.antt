@@ -24,7 +24,8 @@ use Rattle.congruence.specs.Reading.{truth_number}
 use Rattle.congruence.specs.Steps.{equal_terms, pair_step, neighbours_equal, all_equal, pair_steps, equality_steps, node_steps, branch_step, choice_steps}
 use Rattle.congruence.specs.Justified.{StepHolds, truth_by}
 use Rattle.congruence.specs.Laws.{TruthIsJustified, SamenessIsJustified, NodeStepsAreJustified, ChoiceStepsAreJustified}
-use Rattle.congruence.proofs.Values.{same_value-true, same_value-false, sign-true, truth_value, point_of_term}
+use Rattle.smt_laws.proofs.SameValue.{same_value-true}
+use Rattle.congruence.proofs.Values.{same_value-false, sign-true, truth_value, point_of_term}
 
 -- ---- a truth value
 

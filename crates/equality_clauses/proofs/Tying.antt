@@ -1,16 +1,17 @@
 -- The clauses are true exactly where the signs fit.
-use Rattle.std.proofs.Common.{◌≡◌, ℕ, Bool, true, false, not, nat_eq, ◌||◌, List, [], ◌∷◌, ◌++◌, map, refl, sym, ap, ◌∙◌, arith, eq-eqb}
-use Rattle.std.specs.Prelude.{◌&&◌, if◌then◌else◌, ℤ, pos, negsuc}
+use Rattle.std.proofs.Common.{◌≡◌, ℕ, Bool, true, false, not, nat_eq, ◌||◌, List, [], ◌∷◌, ◌++◌, map, refl, sym, ap, ◌∙◌, arith}
+use Rattle.std.specs.Prelude.{◌&&◌, if◌then◌else◌}
 use Rattle.std.proofs.lemmas.Bool.{eqb-true}
 use Rattle.std.proofs.lemmas.List.{map-append}
 use Rattle.std.proofs.lemmas.List.Elements.{All-cons, All-nil, All-head, All-tail}
 use Rattle.literals.specs.Signed.{Signed, sign, some_true}
 use Rattle.smt_meaning.specs.declared.values.Value.{Value}
-use Rattle.smt_meaning.specs.declared.values.Value.TheVariants.{Truth, Whole, Element}
+use Rattle.smt_meaning.specs.declared.values.Value.TheVariants.{Truth}
 use Rattle.smt_meaning.specs.declared.terms.Operator.{Operator}
 use Rattle.smt_meaning.specs.declared.terms.Operator.TheVariants.{True, False, Not, And, Or, Xor, Implies, Equal, Distinct, Ite, Add, Subtract, Multiply, AtMost, Less, AtLeast, Greater, Divide, Modulo, Absolute, Divisible}
-use Rattle.smt_meaning.specs.Term.{Tree, Interpretation, operate, truth_of, same_value, int_eq, bool_eq, chain_from, with_each, pairwise, differ}
+use Rattle.smt_meaning.specs.Term.{Tree, Interpretation, operate, truth_of, same_value, bool_eq, chain_from, with_each, pairwise, differ}
 use Rattle.smt_meaning.specs.Clause.{value_at, atom_true}
+use Rattle.smt_laws.proofs.SameValue.{same_value-true, same_value-self}
 use Rattle.equality_clauses.specs.Once.{is_in, taken, taken_all, once}
 use Rattle.equality_clauses.specs.Ties.{literal, yes, no, joined, parity, choice_clauses}
 use Rattle.equality_clauses.specs.Laws.{of_neighbours, of_first, of_pairs, compared, pair_same, AgreeOnPairs, AllTrue, ComparisonIsTied, ChoiceIsTied, SamenessIsTied, InterpretationAgrees}
@@ -198,36 +199,6 @@ comparison_tied Absolute v a t pairs is h agree = absurd (let x : false ≡ true
 comparison_tied Divisible v a t pairs is h agree = absurd (let x : false ≡ true = h in cc)
 
 -- ---- `ite`
-
-int_eq-true : (m n : ℤ) → int_eq m n ≡ true → m ≡ n
-int_eq-true (pos m) (pos n) h = ap pos (eqb-true m n h)
-int_eq-true (negsuc m) (negsuc n) h = ap negsuc (eqb-true m n h)
-int_eq-true (pos m) (negsuc n) h = cc
-int_eq-true (negsuc m) (pos n) h = cc
-
-int_eq-self : (n : ℤ) → int_eq n n ≡ true
-int_eq-self (pos n) = eq-eqb n n refl
-int_eq-self (negsuc n) = eq-eqb n n refl
-
-same_value-true : (v w : Value) → same_value v w ≡ true → v ≡ w
-same_value-true (Truth true) (Truth true) h = refl
-same_value-true (Truth false) (Truth false) h = refl
-same_value-true (Truth true) (Truth false) h = cc
-same_value-true (Truth false) (Truth true) h = cc
-same_value-true (Truth a) (Whole n) h = cc
-same_value-true (Truth a) (Element j) h = cc
-same_value-true (Whole m) (Truth b) h = cc
-same_value-true (Whole m) (Whole n) h = ap Whole (int_eq-true m n h)
-same_value-true (Whole m) (Element j) h = cc
-same_value-true (Element i) (Truth b) h = cc
-same_value-true (Element i) (Whole n) h = cc
-same_value-true (Element i) (Element j) h = ap Element (eqb-true i j h)
-
-same_value-self : (v : Value) → same_value v v ≡ true
-same_value-self (Truth true) = refl
-same_value-self (Truth false) = refl
-same_value-self (Whole n) = int_eq-self n
-same_value-self (Element i) = eq-eqb i i refl
 
 equal_same : (v w : Value) → v ≡ w → same_value v w ≡ true
 equal_same v w e = ap (λ x. same_value v x) (sym e) ∙ same_value-self v

@@ -8,16 +8,16 @@ use Rattle.smt_meaning.specs.declared.values.Value.{Value}
 use Rattle.smt_meaning.specs.declared.values.Value.TheVariants.{Whole}
 use Rattle.smt_meaning.specs.declared.clauses.Summand.{Summand}
 use Rattle.smt_meaning.specs.declared.terms.Operator.TheVariants.{Add, Subtract, Multiply}
-use Rattle.smt_meaning.specs.declared.terms.Head.{Head}
 use Rattle.smt_meaning.specs.declared.terms.Head.TheVariants.{Numeral, Theory, Symbol, Place}
 use Rattle.smt_meaning.specs.Term.{Tree, Trees, node, none, more, tree_at, number_of, on_numbers, fold_left, operate}
 use Rattle.smt_meaning.specs.Nodes.{pick}
 use Rattle.term_store.specs.Terms.{tree_with}
-use Rattle.smt_meaning.specs.TreeShape.{place_of, is_constant_head, is_constant, are_constant, at_most_one_varies}
-use Rattle.smt_meaning.specs.Linear.{Form, unless_zero, placed, with_term, sums_added, each_times, sum_times, form_times, form_plus, form_minus, form_product, fold_forms, folded, difference_form, leaf_form, linear_form, linear_forms}
+use Rattle.smt_meaning.specs.TreeShape.{place_of, is_constant, are_constant, at_most_one_varies}
+use Rattle.smt_meaning.specs.Linear.{Form, unless_zero, placed, with_term, sums_added, each_times, sum_times, form_times, form_plus, form_minus, form_product, fold_forms, folded, leaf_form, linear_form, linear_forms}
 use Rattle.smt_meaning.specs.Ranges.{sum_at, form_at}
 use Rattle.fraction128.proofs.Ring.{sum-times, times-sum, times_assoc}
 use Rattle.smt_laws.proofs.SameTree.{and_left, and_right}
+use Rattle.smt_laws.proofs.LinearLaw.{Bare, product_bare, constant_bare}
 use Rattle.model_build.specs.Building.{each}
 use Rattle.exact_model.specs.Exact.{exact, listed, number_at}
 
@@ -115,68 +115,6 @@ module _ (w : ℕ → ℤ) where
       by_sum [] e k = product_first f g e
       by_sum (p ∷ rest) e (inl a) = absurd (cc)
       by_sum (p ∷ rest) e (inr b) = product_second f g b
-
--- ---- constants have forms without summands
-
-abbrev Bare : Form → Type 0
-Bare f = f.sum ≡ []
-
-abbrev AllBare : List Form → Type 0
-AllBare [] = Unit {0}
-AllBare (f ∷ fs) = Bare f × AllBare fs
-
-sum_times-nil : (k : ℤ) → sum_times k [] ≡ []
-sum_times-nil (pos zero) = refl
-sum_times-nil (pos (suc n)) = refl
-sum_times-nil (negsuc n) = refl
-
-plus_bare : (f g : Form) → Bare f → Bare g → Bare (form_plus f g)
-plus_bare f g a b = ap (λ ps. sums_added ps g.sum) a ∙ b
-
-times_bare : (k : ℤ) (f : Form) → Bare f → Bare (form_times k f)
-times_bare k f a = ap (sum_times k) a ∙ sum_times-nil k
-
-minus_bare : (f g : Form) → Bare f → Bare g → Bare (form_minus f g)
-minus_bare f g a b = plus_bare f (form_times (negsuc 0) g) a (times_bare (negsuc 0) g b)
-
-product_bare : (f g : Form) → Bare f → Bare g → Bare (form_product f g)
-product_bare f g a b =
-    ap (λ (ps : List Summand). sum_of (elim ps [ [] ↦ form_times f.constant g | p ∷ rest ↦ form_times g.constant f ])) a ∙ times_bare f.constant g b
-  where
-    sum_of : Form → List Summand
-    sum_of h = h.sum
-
-fold_bare : (op : Form → Form → Form) → ((f g : Form) → Bare f → Bare g → Bare (op f g)) → (f : Form) (fs : List Form) → Bare f → AllBare fs → Bare (fold_forms op f fs)
-fold_bare op closed f [] a h = a
-fold_bare op closed f (g ∷ gs) a h = fold_bare op closed (op f g) gs (closed f g a h.0) h.1
-
-folded_bare : (op : Form → Form → Form) → ((f g : Form) → Bare f → Bare g → Bare (op f g)) → (fs : List Form) → AllBare fs → Bare (folded op fs)
-folded_bare op closed [] h = refl
-folded_bare op closed (f ∷ fs) h = fold_bare op closed f fs h.0 h.1
-
-difference_bare : (fs : List Form) → AllBare fs → Bare (difference_form fs)
-difference_bare [] h = refl
-difference_bare (f ∷ []) h = times_bare (negsuc 0) f h.0
-difference_bare (f ∷ g ∷ gs) h = folded_bare form_minus minus_bare (f ∷ g ∷ gs) h
-
-head_bare : (ts : List Tree) (h : Head) (us : Trees) → is_constant_head h ≡ true → AllBare (linear_forms ts us) → Bare (linear_form ts (node h us))
-head_bare ts (Numeral n) us e h = refl
-head_bare ts (Theory Add) us e h = folded_bare form_plus plus_bare (linear_forms ts us) h
-head_bare ts (Theory Subtract) us e h = difference_bare (linear_forms ts us) h
-head_bare ts (Theory Multiply) us e h = folded_bare form_product product_bare (linear_forms ts us) h
-head_bare ts (Theory _) us e h = absurd (cc)
-head_bare ts (Symbol f) us e h = absurd (cc)
-head_bare ts (Place k) us e h = absurd (cc)
-
-mutual
-  constant_bare : (ts : List Tree) (t : Tree) → is_constant t ≡ true → Bare (linear_form ts t)
-  constant_bare ts (node h us) e =
-      head_bare ts h us (and_left (is_constant_head h) (are_constant us) e) (constants_bare ts us (and_right (is_constant_head h) (are_constant us) e))
-
-  constants_bare : (ts : List Tree) (us : Trees) → are_constant us ≡ true → AllBare (linear_forms ts us)
-  constants_bare ts none e = tt
-  constants_bare ts (more u us) e =
-      (constant_bare ts u (and_left (is_constant u) (are_constant us) e), constants_bare ts us (and_right (is_constant u) (are_constant us) e))
 
 -- ---- the number of a term is the value of its form
 

@@ -1,5 +1,5 @@
 -- What a level that asks for a value adds to the levels below it.
-use Rattle.std.proofs.Common.{◌≡◌, ◌∙◌, refl, ap, sym, subst, ℕ, ◌+◌, Bool, true, false, ◌&&◌, List, [], ◌∷◌, ◌++◌, map, append-nil, arith, eq-eqb, All, ℤ, pos, negsuc, neg_ℤ}
+use Rattle.std.proofs.Common.{◌≡◌, ◌∙◌, refl, ap, sym, subst, ℕ, ◌+◌, Bool, true, false, ◌&&◌, List, [], ◌∷◌, ◌++◌, map, append-nil, arith, All, ℤ, pos, negsuc, neg_ℤ}
 use Rattle.std.specs.Prelude.{IsTrue, int_le, int_lt, ◌≤ℤ◌, ◌<ℤ◌}
 use Rattle.std.proofs.lemmas.Grind.{flat_map-append}
 use Rattle.std.proofs.lemmas.Int.{ints}
@@ -16,7 +16,8 @@ use Rattle.smt_meaning.specs.Least.{IsModelFor, asking, value_in}
 use Rattle.smt_meaning.specs.Model.{Fits, IsModel}
 use Rattle.smt_meaning.specs.Stack.{Assertion, Frame, HasNoModel, Holds, Satisfies, assertions_of, signature_of, terms_of, no_model, no_model_is}
 use Rattle.smt_meaning.specs.State.{frame_of}
-use Rattle.smt_meaning.specs.Term.{Tree, Interpretation, value, number_of, same_value, int_eq, fits, in_range, all_fit, head_fits, apply, values, node, all_in_range, partials}
+use Rattle.smt_meaning.specs.Term.{Tree, Interpretation, value, number_of, same_value, fits, in_range, all_fit, head_fits, apply, values, node, all_in_range, partials}
+use Rattle.smt_laws.proofs.SameValue.{same_value-self}
 use Rattle.goal_search.specs.declared.text.Ask.{Ask}
 use Rattle.goal_search.specs.declared.text.Ask.TheVariants.{Itself, AtMost, BelowLeast}
 use Rattle.goal_search.specs.Asks.{asked}
@@ -42,16 +43,6 @@ asserted_more frames xs =
     flat_map-append terms_of frames (frame_of xs ∷ []) ∙ ap (λ ts. assertions_of frames ++ ts) (append-nil (terms_of (frame_of xs)))
 
 -- ---- truths
-
-int_eq-self : (n : ℤ) → int_eq n n ≡ true
-int_eq-self (pos n) = eq-eqb n n refl
-int_eq-self (negsuc n) = eq-eqb n n refl
-
-same_value-self : (v : Value) → same_value v v ≡ true
-same_value-self (Truth true) = refl
-same_value-self (Truth false) = refl
-same_value-self (Whole n) = int_eq-self n
-same_value-self (Element i) = eq-eqb i i refl
 
 number_is : (J : Interpretation) (k : ℤ) → value J (number_tree k) ≡ Whole k
 number_is J (pos n) = refl

@@ -16,7 +16,7 @@ use Rattle.model_build.specs.Given.{given_at, arguments_given}
 use Rattle.model_build.specs.Keys.{symbol_at}
 use Rattle.model_build.specs.Filling.{value_of, has_row, row_at, with_place, filled, table_of, tables_of}
 use Rattle.term_store.specs.Latest.{last_place}
-use Rattle.model_build.proofs.Links.{IsLink, Goes, goes, goes_on, hash_there}
+use Rattle.term_store.proofs.Links.{IsLink, Goes, goes, goes_on, hash_there}
 
 -- ---- tests
 

@@ -11,7 +11,7 @@ use Rattle.model_build.specs.declared.given.Given.{Given}
 use Rattle.model_build.specs.Given.{given_at, arguments_given, IsApplication, AreAlike, IsClash, HasNoClash}
 use Rattle.model_build.specs.Keys.{symbol_of, symbol_at, hash_at, key_hash, IsApplicationOf, HasKey, HaveOneKey, IsKeptFor, AreFirst}
 use Rattle.model_build.proofs.Alike.{alike_back, alike_along, alike_self, alike_hash}
-use Rattle.model_build.proofs.Links.{IsLink, Goes, goes, goes_on}
+use Rattle.term_store.proofs.Links.{IsLink, Goes, goes, goes_on}
 
 pub symbol_is : (ts : List Tree) (gs : List Given) (f p : ℕ) → IsApplication ts gs f p → symbol_at ts p ≡ f
 symbol_is ts gs f p a = ap symbol_of a.symbol

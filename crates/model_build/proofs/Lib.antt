@@ -1,6 +1,5 @@
 pub mod Reading
 pub mod Alike
-pub mod Links
 pub mod Kept
 pub mod Looking
 pub mod Sorting

@@ -1,13 +1,12 @@
 -- What is found in a table's rows, and the values that places are given.
-use Rattle.std.proofs.Common.{◌≡◌, ◌≢◌, Bool, true, false, List, [], ◌∷◌, map, All, refl, sym, ap, ◌∙◌, inl, inr, arith, eq-eqb}
-use Rattle.std.specs.Prelude.{◌&&◌, ◌||◌, ◌⊎◌, ℤ, pos, negsuc, not, Contains, if◌then◌else◌}
-use Rattle.std.proofs.lemmas.Bool.{eqb-true}
+use Rattle.std.proofs.Common.{◌≡◌, ◌≢◌, Bool, true, false, List, [], ◌∷◌, map, All, refl, sym, ap, ◌∙◌, inl, inr, arith}
+use Rattle.std.specs.Prelude.{◌&&◌, ◌||◌, ◌⊎◌, not, Contains, if◌then◌else◌}
 use Rattle.std.proofs.lemmas.List.Elements.{All-head, All-tail}
 use Rattle.smt_meaning.specs.declared.values.Value.{Value}
-use Rattle.smt_meaning.specs.declared.values.Value.TheVariants.{Truth, Whole, Element}
 use Rattle.smt_meaning.specs.declared.values.Row.{Row}
-use Rattle.smt_meaning.specs.Term.{same_value, int_eq}
+use Rattle.smt_meaning.specs.Term.{same_value}
 use Rattle.smt_meaning.specs.Interpretation.{same_values, look}
+use Rattle.smt_laws.proofs.SameValue.{same_value-true, same_value-self}
 use Rattle.model_build.specs.declared.given.Given.{Given}
 use Rattle.model_build.specs.declared.given.Given.TheVariants.{Unmarked, InRange, PastRange}
 use Rattle.model_build.specs.Given.{is_marked, is_past, has_past}
@@ -15,36 +14,6 @@ use Rattle.model_build.specs.Filling.{value_of, has_row}
 use Rattle.model_build.proofs.Fills.{member_cases, passed}
 
 -- ---- equal values
-
-int_eq-true : (m n : ℤ) → int_eq m n ≡ true → m ≡ n
-int_eq-true (pos m) (pos n) h = ap pos (eqb-true m n h)
-int_eq-true (negsuc m) (negsuc n) h = ap negsuc (eqb-true m n h)
-int_eq-true (pos m) (negsuc n) h = cc
-int_eq-true (negsuc m) (pos n) h = cc
-
-int_eq-self : (n : ℤ) → int_eq n n ≡ true
-int_eq-self (pos n) = eq-eqb n n refl
-int_eq-self (negsuc n) = eq-eqb n n refl
-
-same_value-true : (v w : Value) → same_value v w ≡ true → v ≡ w
-same_value-true (Truth true) (Truth true) h = refl
-same_value-true (Truth false) (Truth false) h = refl
-same_value-true (Truth true) (Truth false) h = cc
-same_value-true (Truth false) (Truth true) h = cc
-same_value-true (Truth a) (Whole n) h = cc
-same_value-true (Truth a) (Element j) h = cc
-same_value-true (Whole m) (Truth b) h = cc
-same_value-true (Whole m) (Whole n) h = ap Whole (int_eq-true m n h)
-same_value-true (Whole m) (Element j) h = cc
-same_value-true (Element i) (Truth b) h = cc
-same_value-true (Element i) (Whole n) h = cc
-same_value-true (Element i) (Element j) h = ap Element (eqb-true i j h)
-
-same_value-self : (v : Value) → same_value v v ≡ true
-same_value-self (Truth true) = refl
-same_value-self (Truth false) = refl
-same_value-self (Whole n) = int_eq-self n
-same_value-self (Element i) = eq-eqb i i refl
 
 pub left_true : (a b : Bool) → a && b ≡ true → a ≡ true
 left_true true b h = refl

@@ -1,38 +1,18 @@
 -- A row that is found by the hash of its arguments.
-use Rattle.std.proofs.Common.{◌≡◌, ◌≢◌, ℕ, zero, suc, ◌-◌, ◌<◌, ◌≤◌, ℤ, pos, negsuc, Bool, true, false, List, [], ◌∷◌, ◌++◌, length, drop, get_or, refl, sym, ap, subst, ◌∙◌, inl, inr, arith}
+use Rattle.std.proofs.Common.{◌≡◌, ◌≢◌, ℕ, zero, suc, ◌-◌, ◌<◌, ◌≤◌, Bool, true, false, List, [], ◌∷◌, ◌++◌, length, drop, get_or, refl, sym, ap, subst, ◌∙◌, inl, inr, arith}
 use Rattle.std.specs.Prelude.{◌&&◌, slice_get, IfSome}
-use Rattle.std.proofs.lemmas.Bool.{cases_eq, cases_lt, eqb-true}
+use Rattle.std.proofs.lemmas.Bool.{cases_eq, cases_lt}
 use Rattle.std.proofs.lemmas.List.{get_or_append_left, get_or_push, length_push}
 use Rattle.smt_meaning.specs.declared.values.Row.{Row}
 use Rattle.smt_meaning.specs.declared.values.Value.{Value}
-use Rattle.smt_meaning.specs.declared.values.Value.TheVariants.{Truth, Whole, Element}
-use Rattle.smt_meaning.specs.Term.{same_value, int_eq}
+use Rattle.smt_meaning.specs.Term.{same_value}
 use Rattle.smt_meaning.specs.Interpretation.{same_values, look}
+use Rattle.smt_laws.proofs.SameValue.{same_value-true}
 use Rattle.term_store.specs.Latest.{latest, last_place}
 use Rattle.term_store.proofs.LatestLemmas.{latest_here, latest_skips, latest_le, latest_sent, latest_again}
 use Rattle.model_eval.specs.Rows.{values_hash, row_hashes}
 
 -- ---- equal values
-
-int_eq-true : (m n : ℤ) → int_eq m n ≡ true → m ≡ n
-int_eq-true (pos m) (pos n) h = ap pos (eqb-true m n h)
-int_eq-true (negsuc m) (negsuc n) h = ap negsuc (eqb-true m n h)
-int_eq-true (pos m) (negsuc n) h = cc
-int_eq-true (negsuc m) (pos n) h = cc
-
-same_value-true : (v w : Value) → same_value v w ≡ true → v ≡ w
-same_value-true (Truth true) (Truth true) h = refl
-same_value-true (Truth false) (Truth false) h = refl
-same_value-true (Truth true) (Truth false) h = cc
-same_value-true (Truth false) (Truth true) h = cc
-same_value-true (Truth a) (Whole n) h = cc
-same_value-true (Truth a) (Element j) h = cc
-same_value-true (Whole m) (Truth b) h = cc
-same_value-true (Whole m) (Whole n) h = ap Whole (int_eq-true m n h)
-same_value-true (Whole m) (Element j) h = cc
-same_value-true (Element i) (Truth b) h = cc
-same_value-true (Element i) (Whole n) h = cc
-same_value-true (Element i) (Element j) h = ap Element (eqb-true i j h)
 
 both : (a b : Bool) → a && b ≡ true → (a ≡ true) × (b ≡ true)
 both true true h = (refl, refl)

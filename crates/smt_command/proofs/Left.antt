@@ -8,10 +8,10 @@ use Rattle.smt_meaning.specs.declared.tokens.TokenView.TheVariants.{Enter as Ent
 use Rattle.smt_meaning.specs.Seen.{seen}
 use Rattle.smt_meaning.specs.Reading.{IsSExpr}
 use Rattle.smt_meaning.specs.Sexp.{Sexps, word, group, end, ◌▸◌, before, open_lists_of, sexp, is_parenthesis}
-use Rattle.smt_laws.proofs.SExprLaw.{read_back}
+use Rattle.smt_laws.proofs.SExprLaw.{IsSome, read_back}
 use Rattle.smt_command.specs.declared.arguments.Arguments.{Arguments}
 use Rattle.smt_command.specs.Arguments.{left, innermost, open_lists, is_end, rest_of, first_by, parts, token_in}
-use Rattle.smt_command.proofs.OpenLists.{IsSome, fine_at, before_word, before_leave, before_enter}
+use Rattle.smt_command.proofs.OpenLists.{fine_at, before_word, before_leave, before_enter}
 
 -- behind the next token
 abbrev pub next : Arguments → Arguments

@@ -5,14 +5,10 @@ use Rattle.smt_meaning.specs.declared.tokens.Token.TheVariants.{Enter, Leave, Nu
 use Rattle.smt_meaning.specs.Reading.{IsSExpr, most_open}
 use Rattle.smt_meaning.specs.Sexp.{Sexps, word, group, end, ◌▸◌, before, open_lists_of, sexp, is_parenthesis, is_proper, are_proper, deepest}
 use Rattle.smt_laws.proofs.Both.{and_left, and_right, and_both}
-use Rattle.smt_laws.proofs.SExprLaw.{read_back}
+use Rattle.smt_laws.proofs.SExprLaw.{IsSome, some_before, read_back}
 use Rattle.smt_command.specs.Arguments.{innermost, depth_behind}
 
 -- ---- each open list may stand in an s-expression
-
-abbrev pub IsSome : List Sexps → Type 0
-IsSome [] = ⊥
-IsSome (x ∷ rest) = Unit {0}
 
 abbrev pub AllFine : List Sexps → Type 0
 AllFine [] = Unit {0}
@@ -21,10 +17,6 @@ AllFine (x ∷ rest) = (are_proper x ≡ true) × (deepest x + length rest ≤ m
 pub record Fine (lists : List Sexps) : Type 0 where
   pub some : IsSome lists
   pub all : AllFine lists
-
-pub some_before : (t : Token) (lists : List Sexps) → IsSome (before t lists) → IsSome lists
-some_before t [] h = h
-some_before t (x ∷ rest) h = tt
 
 word_fine : (t : Token) (x : Sexps) (rest : List Sexps) → AllFine ((word t ▸ x) ∷ rest) → AllFine (x ∷ rest)
 word_fine t x rest h = (and_right (not (is_parenthesis t)) (are_proper x) h.0, omega (arith, h.1), h.2)

@@ -1,50 +1,18 @@
 -- The tokens of the next s-expression.
-use Rattle.std.proofs.Common.{◌≡◌, ⊎_elim, ℕ, ◌-◌, ◌≤◌, ◌<◌, List, [], ◌∷◌, ◌++◌, drop, take, length, length-append, length-drop, sym, ap, subst, ◌∙◌, refl, arith, true, false, Some, append_assoc, append-nil}
+use Rattle.std.proofs.Common.{◌≡◌, ⊎_elim, ℕ, ◌-◌, ◌≤◌, ◌<◌, List, [], ◌∷◌, ◌++◌, drop, take, length, length-append, length-drop, sym, ap, subst, ◌∙◌, refl, arith, true, false, Some, append-nil}
 use Rattle.std.proofs.lemmas.Bool.{cases_lt}
 use Rattle.std.proofs.Math.Seq.{take-append_seam}
 use Rattle.std.specs.List.{slice_range}
 use Rattle.smt_meaning.specs.declared.tokens.Token.{Token}
-use Rattle.smt_meaning.specs.declared.tokens.Token.TheVariants.{Enter, Leave, Numeral, Decimal, Hex, Binary, Text, Symbol, Reserved, Keyword}
+use Rattle.smt_meaning.specs.declared.tokens.Token.TheVariants.{Enter, Leave}
 use Rattle.smt_meaning.specs.Reading.{IsSExpr, IsInner, most_open}
-use Rattle.smt_meaning.specs.Sexp.{Sexp, Sexps, word, group, end, ◌▸◌, tokens, tokens_of, before, open_lists_of, is_proper, are_proper, nested}
+use Rattle.smt_meaning.specs.Sexp.{Sexp, Sexps, group, end, ◌▸◌, tokens, before, open_lists_of, is_proper, are_proper, nested}
 use Rattle.smt_laws.proofs.Both.{and_left, and_both}
-use Rattle.smt_laws.proofs.SExprLaw.{are_sexprs}
+use Rattle.smt_laws.proofs.SExprLaw.{written, written_more, written_back, are_sexprs}
 use Rattle.smt_command.specs.declared.arguments.Arguments.{Arguments}
 use Rattle.smt_command.specs.Arguments.{left, innermost, open_lists, IsInList, is_end, rest_of, first_by, term}
-use Rattle.smt_command.proofs.OpenLists.{Fine, IsSome, fine_at, some_before}
+use Rattle.smt_command.proofs.OpenLists.{Fine, fine_at}
 use Rattle.smt_command.proofs.Left.{IsBehind, left_past, left_lists}
-
--- ---- the tokens that open lists stand for
-
-abbrev written : List Sexps → List Token
-written [] = []
-written (x ∷ []) = tokens_of x
-written (x ∷ y ∷ rest) = tokens_of x ++ Leave ∷ written (y ∷ rest)
-
-written_more : (s : Sexp) (x : Sexps) (rest : List Sexps) → written ((s ▸ x) ∷ rest) ≡ tokens s ++ written (x ∷ rest)
-written_more s x [] = refl
-written_more s x (y ∷ rest) = append_assoc (tokens s) (tokens_of x) (Leave ∷ written (y ∷ rest))
-
-written_group : (x y : Sexps) (rest : List Sexps) → written ((group x ▸ y) ∷ rest) ≡ Enter ∷ written (x ∷ y ∷ rest)
-written_group x y rest = written_more (group x) y rest ∙ ap (λ ts. Enter ∷ ts) (append_assoc (tokens_of x) (Leave ∷ []) (written (y ∷ rest)))
-
-written_before : (t : Token) (lists : List Sexps) → IsSome (before t lists) → written (before t lists) ≡ t ∷ written lists
-written_before t [] h = absurd h
-written_before Leave (x ∷ rest) h = refl
-written_before Enter (x ∷ []) h = absurd h
-written_before Enter (x ∷ y ∷ rest) h = written_group x y rest
-written_before (Numeral cs) (x ∷ rest) h = written_more (word (Numeral cs)) x rest
-written_before (Decimal cs) (x ∷ rest) h = written_more (word (Decimal cs)) x rest
-written_before (Hex cs) (x ∷ rest) h = written_more (word (Hex cs)) x rest
-written_before (Binary cs) (x ∷ rest) h = written_more (word (Binary cs)) x rest
-written_before (Text cs) (x ∷ rest) h = written_more (word (Text cs)) x rest
-written_before (Symbol n) (x ∷ rest) h = written_more (word (Symbol n)) x rest
-written_before (Reserved w) (x ∷ rest) h = written_more (word (Reserved w)) x rest
-written_before (Keyword k) (x ∷ rest) h = written_more (word (Keyword k)) x rest
-
-written_back : (ts : List Token) → IsSome (open_lists_of ts) → written (open_lists_of ts) ≡ ts
-written_back [] h = refl
-written_back (t ∷ ts) h = written_before t (open_lists_of ts) h ∙ ap (λ us. t ∷ us) (written_back ts (some_before t (open_lists_of ts) h))
 
 -- an s-expression that may stand in a list
 inner_of : (s : Sexp) → is_proper s ≡ true → nested s < most_open → IsInner (tokens s)

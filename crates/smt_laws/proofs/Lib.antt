@@ -4,6 +4,7 @@ pub mod Tables
 pub mod ValueLaw
 pub mod SexpLaw
 pub mod SExprLaw
+pub mod SameValue
 pub mod SameTree
 pub mod JudgeLaw
 pub mod BodyLaw

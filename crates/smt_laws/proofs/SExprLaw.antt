@@ -10,16 +10,16 @@ use Rattle.smt_laws.specs.TermLaws.{SExprsReadBack, SexpsAreSExprs}
 
 -- ---- the tokens that open lists stand for, the innermost list first
 
-abbrev written : List Sexps → List Token
+abbrev pub written : List Sexps → List Token
 written [] = []
 written (x ∷ []) = tokens_of x
 written (x ∷ y ∷ rest) = tokens_of x ++ Leave ∷ written (y ∷ rest)
 
-abbrev IsSome : List Sexps → Type 0
+abbrev pub IsSome : List Sexps → Type 0
 IsSome [] = ⊥
 IsSome (x ∷ rest) = Unit {0}
 
-written_more : (s : Sexp) (x : Sexps) (rest : List Sexps) → written ((s ▸ x) ∷ rest) ≡ tokens s ++ written (x ∷ rest)
+pub written_more : (s : Sexp) (x : Sexps) (rest : List Sexps) → written ((s ▸ x) ∷ rest) ≡ tokens s ++ written (x ∷ rest)
 written_more s x [] = refl
 written_more s x (y ∷ rest) = append_assoc (tokens s) (tokens_of x) (Leave ∷ written (y ∷ rest))
 
@@ -40,11 +40,11 @@ written_before (Symbol n) (x ∷ rest) h = written_more (word (Symbol n)) x rest
 written_before (Reserved w) (x ∷ rest) h = written_more (word (Reserved w)) x rest
 written_before (Keyword k) (x ∷ rest) h = written_more (word (Keyword k)) x rest
 
-some_before : (t : Token) (lists : List Sexps) → IsSome (before t lists) → IsSome lists
+pub some_before : (t : Token) (lists : List Sexps) → IsSome (before t lists) → IsSome lists
 some_before t [] h = h
 some_before t (x ∷ rest) h = tt
 
-written_back : (ts : List Token) → IsSome (open_lists_of ts) → written (open_lists_of ts) ≡ ts
+pub written_back : (ts : List Token) → IsSome (open_lists_of ts) → written (open_lists_of ts) ≡ ts
 written_back [] h = refl
 written_back (t ∷ ts) h = written_before t (open_lists_of ts) h ∙ ap (λ us. t ∷ us) (written_back ts (some_before t (open_lists_of ts) h))
 

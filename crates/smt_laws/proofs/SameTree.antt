@@ -1,13 +1,14 @@
 -- The test for equal trees, and the place where a tree is found again.
 use Rattle.std.proofs.Common.{◌≡◌, suc, eq-eqb, List, [], ◌∷◌, ap, sym, subst, ◌∙◌, refl, Bool, true, false, ◌&&◌, ◌||◌, nat_eq}
-use Rattle.std.specs.Prelude.{ℤ, pos, negsuc, if◌then◌else◌}
+use Rattle.std.specs.Prelude.{if◌then◌else◌}
 use Rattle.std.proofs.lemmas.Bool.{eqb-true}
 use Rattle.smt_meaning.specs.declared.terms.Operator.{Operator}
 use Rattle.smt_meaning.specs.declared.terms.Head.{Head}
 use Rattle.smt_meaning.specs.declared.terms.Head.TheVariants.{Numeral, Theory, Symbol, Place}
-use Rattle.smt_meaning.specs.Term.{Tree, Trees, node, none, more, int_eq, tree_at}
+use Rattle.smt_meaning.specs.Term.{Tree, Trees, node, none, more, tree_at}
 use Rattle.smt_meaning.specs.TreeCode.{operator_at, operator_back}
 use Rattle.smt_meaning.specs.TreeShape.{operator_number, head_eq, tree_eq, trees_eq, is_among, place_of}
+use Rattle.smt_laws.proofs.SameValue.{int_eq-true, int_eq-self}
 use Rattle.smt_laws.specs.TermLaws.{TreeEqualityDecides}
 
 pub and_left : (a b : Bool) → (a && b) ≡ true → a ≡ true
@@ -17,12 +18,6 @@ and_left false b h = h
 pub and_right : (a b : Bool) → (a && b) ≡ true → b ≡ true
 and_right true b h = h
 and_right false b h = cc
-
-int_eq-true : (m n : ℤ) → int_eq m n ≡ true → m ≡ n
-int_eq-true (pos m) (pos n) h = ap pos (eqb-true m n h)
-int_eq-true (negsuc m) (negsuc n) h = ap negsuc (eqb-true m n h)
-int_eq-true (pos m) (negsuc n) h = cc
-int_eq-true (negsuc m) (pos n) h = cc
 
 operator-true : (o p : Operator) → nat_eq (operator_number o) (operator_number p) ≡ true → o ≡ p
 operator-true o p h = sym (operator_back o) ∙ ap operator_at (eqb-true (operator_number o) (operator_number p) h) ∙ operator_back p
@@ -66,10 +61,6 @@ at_first t u us false e rest k = rest k
 pub found_again : (t : Tree) (ts : List Tree) → is_among t ts ≡ true → tree_at ts (place_of t ts) ≡ t
 found_again t [] h = cc
 found_again t (u ∷ us) h = at_first t u us (tree_eq t u) refl (found_again t us) h
-
-int_eq-self : (n : ℤ) → int_eq n n ≡ true
-int_eq-self (pos n) = eq-eqb n n refl
-int_eq-self (negsuc n) = eq-eqb n n refl
 
 head_eq-self : (h : Head) → head_eq h h ≡ true
 head_eq-self (Numeral n) = int_eq-self n

@@ -5,7 +5,7 @@ use Rattle.std.proofs.lemmas.List.{get_or-map, length-map}
 use Rattle.fraction128.specs.declared.Summand.{Summand}
 use Rattle.fraction128.specs.declared.Column.{Column}
 use Rattle.term_store.specs.Latest.{last_place}
-use Rattle.atom_form.proofs.Links.{IsLink, Goes, goes, goes_on}
+use Rattle.term_store.proofs.Links.{IsLink, Goes, goes, goes_on}
 use Rattle.simplex_steps.specs.State.{column_in, no_column}
 use Rattle.sum_bounds.specs.Hash.{sum_hash}
 use Rattle.sum_bounds.specs.Bounds.{sum_hashes}

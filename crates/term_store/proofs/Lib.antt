@@ -1,4 +1,5 @@
 pub mod LatestLemmas
+pub mod Links
 pub mod IndexLemmas
 pub mod NodeLemmas
 pub mod StoreLemmas
