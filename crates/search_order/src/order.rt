@@ -26,6 +26,8 @@ pub struct Order {
     uses: Uses,
     choices: Choices,
     draws: Pcg32,
+    // to which depth decisions that were taken back for a clause had been looked at
+    looked: u32,
 }
 
 impl Order {
@@ -43,6 +45,7 @@ impl Order {
             uses: Uses::new(alloc),
             choices,
             draws: Pcg32::new(seed.wrapping_add(stream), stream),
+            looked: 0,
         }
     }
 
@@ -129,6 +132,25 @@ impl Order {
     /// A clause that a conflict comes from, or a new one.
     pub fn note_use(&mut self, id: u64) -> Result<(), AllocError> {
         self.uses.note(id)
+    }
+
+    /// Some decisions above others are taken back for a clause; up to this depth they were looked at. Most of them are made again at once.
+    pub fn go_back(&mut self, depth: u32) {
+        self.looked = self.looked.max(depth);
+    }
+
+    /// Whether a look at so many decisions is worth while. It isn't as long as decisions are made again that were looked at before (compare trail saving: Hickey and Bacchus, SAT 2020).
+    pub fn looks(&mut self, depth: u32) -> bool {
+        if depth < self.looked {
+            return false;
+        }
+        self.looked = 0;
+        true
+    }
+
+    /// The next decisions are others, so each is worth a look.
+    pub fn look_again(&mut self) {
+        self.looked = 0;
     }
 
     /// A conflict begins.
