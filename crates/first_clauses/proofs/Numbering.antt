@@ -1,5 +1,5 @@
 -- The numbers of atoms.
-use Rattle.std.proofs.Common.{◌≡◌, ◌⊎◌, inl, inr, ℕ, zero, suc, ◌<◌, ◌+◌, Bool, true, false, List, [], ◌∷◌, ◌++◌, map, length, take, get_or, All, Contains, slice_index, subst, sym, ap, ◌∙◌, arith, refl, nat_eq, eq-eqb}
+use Rattle.std.proofs.Common.{◌≡◌, inl, inr, ℕ, zero, suc, ◌<◌, ◌+◌, Bool, true, false, List, [], ◌∷◌, ◌++◌, map, length, take, get_or, All, Contains, slice_index, subst, sym, ap, ◌∙◌, arith, refl, nat_eq, eq-eqb}
 use Rattle.std.specs.Prelude.{if◌then◌else◌}
 use Rattle.std.proofs.lemmas.Bool.{eqb-true}
 use Rattle.std.proofs.lemmas.List.{take_more, map-append}
@@ -8,6 +8,7 @@ use Rattle.smt_meaning.specs.declared.clauses.Atom.{Atom}
 use Rattle.smt_meaning.specs.declared.clauses.Atom.TheVariants.{Truth, AtMost, Same}
 use Rattle.search_port.specs.State.{truth_atoms}
 use Rattle.atom_form.specs.AtomTableNumbers.{IsAt, AreApart}
+use Rattle.order_clauses.proofs.Numbering.{before_or_not}
 use Rattle.first_clauses.specs.Numbers.{AreNumbers}
 
 -- ---- one number more
@@ -88,12 +89,6 @@ found_at (a ∷ atoms) p (suc k) h e = found_by a atoms p (truth_eq p a) refl (�
 
 pub found : (table : List Atom) (p : ℕ) → Contains table (Truth p) → IsAt table (number_of table p) (Truth p)
 found table p c = found_at table p c.0 c.1 c.2
-
-before_or_not : (m n : ℕ) → (m < n) ⊎ (m ≡ n) ⊎ (n < m)
-before_or_not zero zero = inr (inl refl)
-before_or_not zero (suc n) = inl (omega arith)
-before_or_not (suc m) zero = inr (inr (omega arith))
-before_or_not (suc m) (suc n) = elim (before_or_not m n) [ inl l ↦ inl (omega arith) | inr r ↦ elim r [ inl e ↦ inr (inl (ap suc e)) | inr g ↦ inr (inr (omega arith)) ] ]
 
 pub one_place : (table : List Atom) (m n : ℕ) (a : Atom) → AreApart table → IsAt table m a → IsAt table n a → m ≡ n
 one_place table m n a apart x y = elim (before_or_not m n) [

@@ -1,9 +1,8 @@
 -- One clause more in a store.
-use Rattle.std.proofs.Common.{◌≡◌, ℕ, ◌+◌, ◌<◌, ◌≤◌, List, [], ◌∷◌, ◌++◌, map, length, take, get_or, All, Contains, slice_index_or, subst, sym, ap, ◌∙◌}
+use Rattle.std.proofs.Common.{◌≡◌, ℕ, ◌+◌, ◌<◌, ◌≤◌, List, [], ◌∷◌, ◌++◌, map, length, take, get_or, All, Contains, slice_index_or, subst, sym}
 use Rattle.std.specs.Prelude.{Result, Ok, Err, OnOk, ⊤}
 use Rattle.std.specs.declared.alloc.AllocError.{AllocError}
-use Rattle.std.proofs.Math.ListN.{get_or-map}
-use Rattle.std.proofs.lemmas.List.{length-map, get_or_default, take_all}
+use Rattle.std.proofs.lemmas.List.{take_all}
 use Rattle.std.proofs.lemmas.List.Elements.{All-push, All-more, All-weaker, All-same, All-map, Contains-append_left, Contains-push, Contains-get_or}
 use Rattle.literals.specs.Signed.{Signed}
 use Rattle.clause_store.specs.Stored.{Kept, Stored}
@@ -56,12 +55,6 @@ asserted_stays trees table old new t h a = record {
 
 abbrev term_of : List Tree → Assertion → Tree
 term_of trees a = tree_at trees a.term
-
-mapped_in : (f : Assertion → Tree) (xs : List Assertion) → All (λ a. Contains (map f xs) (f a)) xs
-mapped_in f xs = λ k d l. (k, subst (λ n. k < n) (sym (length-map xs f)) l, get_or-map f xs k (get_or xs k d) ∙ ap f (get_or_default xs k (get_or xs k d) d l))
-
-pub are_assertions : (s : Stack) (xs : List Assertion) → AreAsserted s xs → All (λ (a : Assertion). Contains (assertions_of s.frames) (tree_at s.trees a.term)) xs
-are_assertions s xs h = subst (λ (ts : List Tree). All (λ (a : Assertion). Contains ts (tree_at s.trees a.term)) xs) h.terms (mapped_in (term_of s.trees) xs)
 
 pub all_asserted : (s : Stack) (xs : List Assertion) (table : List Atom) (clauses : List Kept) → AreAsserted s xs → All (λ (a : Assertion). IsAsserted s.trees table clauses (tree_at s.trees a.term)) xs
     → All (IsAsserted s.trees table clauses) (assertions_of s.frames)

@@ -1,5 +1,5 @@
 -- What is forced by clauses with what negations negate.
-use Rattle.std.proofs.Common.{◌≡◌, inl, inr, ℕ, zero, suc, ◌<◌, ◌≤◌, Bool, true, false, not, ◌||◌, List, [], ◌∷◌, ◌++◌, map, length, All, Contains, slice_index_or, subst, sym, ap, ◌∙◌, arith, refl}
+use Rattle.std.proofs.Common.{◌≡◌, inl, inr, ℕ, ◌≤◌, Bool, true, false, not, ◌||◌, List, [], ◌∷◌, ◌++◌, map, length, All, Contains, subst, sym, ap, ◌∙◌, arith, refl}
 use Rattle.std.proofs.lemmas.List.Elements.{All-contains, Contains-append_left, Contains-append_right, Contains-append_cases, Contains-push, Contains-push_cases}
 use Rattle.literals.specs.Signed.{Signed, opposite, sign, literal_true, some_true}
 use Rattle.clause_store.specs.Stored.{Kept}
@@ -9,7 +9,7 @@ use Rattle.smt_meaning.specs.declared.clauses.Atom.TheVariants.{Truth}
 use Rattle.smt_meaning.specs.Term.{Tree}
 use Rattle.smt_meaning.specs.Forced.{Reaches, Conflicts, Forces}
 use Rattle.smt_meaning.specs.Forced.Reaches.{start, unit}
-use Rattle.clause_form.specs.Node.{HasNoAtomTwice, literals_of_node}
+use Rattle.clause_form.specs.Node.{literals_of_node}
 use Rattle.search_port.specs.State.{truth_atoms}
 use Rattle.atom_form.specs.AtomTableNumbers.{IsAt, AreApart}
 use Rattle.first_clauses.specs.PartClausesFirst.{HasClause}
@@ -221,16 +221,3 @@ module _ (trees : List Tree) (table : List Atom) (clauses : List Kept) (negation
     | inl r ↦ inl (reached cs held (map opposite (before ++ after)) r)
     | inr c ↦ inr (conflicts cs held (map opposite (before ++ after)) c)
   ]
-
--- ---- no atom has both signs
-
-not_opposite : (b : Bool) → b ≡ not b → ⊥
-not_opposite true h = cc
-not_opposite false h = cc
-
-pub no_pair_at : (ls : List Signed) → HasNoAtomTwice ls → (l : Signed) (j k : ℕ) → j < length ls → k < length ls → slice_index_or ls j l ≡ l → slice_index_or ls k (opposite l) ≡ opposite l → ⊥
-no_pair_at [] h l j k a b p q = absurd (omega arith)
-no_pair_at (m ∷ ls) h l zero zero a b p q = not_opposite l.positive (ap (λ (x : Signed). x.positive) (sym p ∙ q))
-no_pair_at (m ∷ ls) h l zero (suc k) a b p q = h.0 k (opposite l) (omega arith) (ap (λ (x : Signed). x.atom) p ∙ sym (ap (λ (x : Signed). x.atom) q))
-no_pair_at (m ∷ ls) h l (suc j) zero a b p q = h.0 j l (omega arith) (ap (λ (x : Signed). x.atom) q ∙ sym (ap (λ (x : Signed). x.atom) p))
-no_pair_at (m ∷ ls) h l (suc j) (suc k) a b p q = no_pair_at ls h.1 l j k (omega arith) (omega arith) p q

@@ -4,6 +4,8 @@ use Rattle.std.specs.Prelude.{flat_map}
 use Rattle.std.proofs.lemmas.List.Elements.{All-contains, All-cons, All-nil, All-tail, Contains-append_left, Contains-append_right}
 use Rattle.smt_meaning.specs.declared.clauses.Atom.{Atom}
 use Rattle.smt_meaning.specs.Term.{Tree}
+use Rattle.linear_forms.specs.declared.differences.DifferenceError.{DifferenceError}
+use Rattle.linear_forms.specs.declared.differences.DifferenceError.TheVariants.{Term as DifferenceTerm, Pair as DifferencePair}
 use Rattle.bound_clauses.specs.declared.orders.Order.{Order}
 use Rattle.bound_clauses.specs.Orders.{bound_atom}
 use Rattle.order_clauses.specs.declared.error.PartError.{PartError}
@@ -11,15 +13,20 @@ use Rattle.order_clauses.specs.declared.error.PartError.TheVariants.{Missing, Te
 use Rattle.order_clauses.specs.declared.pairs.Pair.{Pair}
 use Rattle.order_clauses.specs.Pairs.{same_atom, orders_of_pair}
 use Rattle.order_clauses.specs.Needed.{orders_tied, atoms_of_pair}
-use Rattle.order_clauses.specs.Errors.{IsCause}
+use Rattle.order_clauses.specs.Errors.{IsCauseBy, IsRefused, IsCause}
+
+-- for more atoms and more that is refused
+pub wider_by : (table atoms atoms' : List Atom) (Refused Refused' : DifferenceError → Type 0) (e : PartError) → ((d : DifferenceError) → Refused d → Refused' d) → (All (Contains table) atoms' → All (Contains table) atoms)
+    → IsCauseBy table Refused atoms e → IsCauseBy table Refused' atoms' e
+wider_by table atoms atoms' Refused Refused' Missing more fewer h = λ all. h (fewer all)
+wider_by table atoms atoms' Refused Refused' (Term part) more fewer h = more (DifferenceTerm part) h
+wider_by table atoms atoms' Refused Refused' PairError more fewer h = more DifferencePair h
+wider_by table atoms atoms' Refused Refused' Memory more fewer h = tt
 
 -- for more orders and more atoms
 pub wider : (ts : List Tree) (table : List Atom) (os os' : List Order) (atoms atoms' : List Atom) (e : PartError) → ((o : Order) → Contains os o → Contains os' o)
     → (All (Contains table) atoms' → All (Contains table) atoms) → IsCause ts table os atoms e → IsCause ts table os' atoms' e
-wider ts table os os' atoms atoms' Missing more fewer h = λ all. h (fewer all)
-wider ts table os os' atoms atoms' (Term part) more fewer h = record { order = h.order; among = more h.order h.among; refuses = h.refuses }
-wider ts table os os' atoms atoms' PairError more fewer h = record { order = h.order; among = more h.order h.among; refuses = h.refuses }
-wider ts table os os' atoms atoms' Memory more fewer h = tt
+wider ts table os os' atoms atoms' e more fewer = wider_by table atoms atoms' (IsRefused ts os) (IsRefused ts os') e (λ d h. record { order = h.order; among = more h.order h.among; refuses = h.refuses }) fewer
 
 pub by_memory : (ts : List Tree) (table : List Atom) (os : List Order) (atoms : List Atom) (e : PartError) → e ≡ Memory → IsCause ts table os atoms e
 by_memory ts table os atoms e h = subst (IsCause ts table os atoms) (sym h) tt

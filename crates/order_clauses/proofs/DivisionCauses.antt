@@ -10,19 +10,16 @@ use Rattle.pair_bounds.specs.declared.rows.RowLimit.{RowLimit}
 use Rattle.pair_bounds.specs.declared.rows.Row.{Row}
 use Rattle.pair_bounds.specs.Rows.{listed, limits}
 use Rattle.order_clauses.specs.declared.error.PartError.{PartError}
-use Rattle.order_clauses.specs.declared.error.PartError.TheVariants.{Missing, Term, Pair, Memory}
+use Rattle.order_clauses.specs.declared.error.PartError.TheVariants.{Missing}
 use Rattle.order_clauses.specs.Clauses.{has_rows, limit_bound, limit_number, other_numbers}
 use Rattle.order_clauses.specs.Needed.{orders_of_part, limits_of_division, row_truth_atoms, atoms_of_row, atoms_of_division, atoms_of_part}
-use Rattle.order_clauses.specs.Errors.{IsCause, IsLimitCause, IsDivisionCause, IsPartCause}
-use Rattle.order_clauses.proofs.Causes.{here, Contains-flat_map, narrower}
+use Rattle.order_clauses.specs.Errors.{IsRefused, IsLimitRefused, RefusesDivision, RefusesOfPart, IsCause, IsLimitCause, IsDivisionCause, IsPartCause}
+use Rattle.order_clauses.proofs.Causes.{wider_by, here, Contains-flat_map, narrower}
 use Rattle.order_clauses.proofs.Soundness.{All-left, All-right, number_within}
 
 pub wider_limits : (ts : List Tree) (table : List Atom) (ls ls' : List RowLimit) (atoms atoms' : List Atom) (e : PartError) → ((l : RowLimit) → Contains ls l → Contains ls' l)
     → (All (Contains table) atoms' → All (Contains table) atoms) → IsLimitCause ts table ls atoms e → IsLimitCause ts table ls' atoms' e
-wider_limits ts table ls ls' atoms atoms' Missing more fewer h = λ all. h (fewer all)
-wider_limits ts table ls ls' atoms atoms' (Term part) more fewer h = record { limit = h.limit; among = more h.limit h.among; refuses = h.refuses }
-wider_limits ts table ls ls' atoms atoms' Pair more fewer h = record { limit = h.limit; among = more h.limit h.among; refuses = h.refuses }
-wider_limits ts table ls ls' atoms atoms' Memory more fewer h = tt
+wider_limits ts table ls ls' atoms atoms' e more fewer = wider_by table atoms atoms' (IsLimitRefused ts ls) (IsLimitRefused ts ls') e (λ d h. record { limit = h.limit; among = more h.limit h.among; refuses = h.refuses }) fewer
 
 pub missing_limits : (ts : List Tree) (table : List Atom) (ls : List RowLimit) (atoms : List Atom) (e : PartError) → e ≡ Missing → (All (Contains table) atoms → ⊥) → IsLimitCause ts table ls atoms e
 missing_limits ts table ls atoms e h none = subst (IsLimitCause ts table ls atoms) (sym h) none
@@ -73,20 +70,18 @@ all_err (Ok x) P Q f h = tt
 all_err (Err e) P Q f h = f e h
 
 pub of_rows_cause : (ts : List Tree) (table : List Atom) (o : Operator) (p : ℕ) (is : List ℕ) (e : PartError) → IsLimitCause ts table (limits_of_division ts o p is) (atoms_of_division ts o p is) e → IsDivisionCause ts table o p is e
-of_rows_cause ts table o p is Missing h = h
-of_rows_cause ts table o p is (Term part) h = inr h
-of_rows_cause ts table o p is Pair h = inr h
-of_rows_cause ts table o p is Memory h = tt
+of_rows_cause ts table o p is e =
+    let ls : List RowLimit = limits_of_division ts o p is in
+    let atoms : List Atom = atoms_of_division ts o p is in
+    wider_by table atoms atoms (IsLimitRefused ts ls) (RefusesDivision ts is ls) e (λ d h. inr h) (λ all. all)
 
 module _ (sorts : List Sort) (ts : List Tree) (table : List Atom) (o : Operator) (p : ℕ) (is : List ℕ) where
   pub of_orders : (e : PartError) → IsCause ts table (orders_of_part sorts o p is) (atoms_of_part sorts ts o p is) e → IsPartCause sorts ts table o p is e
-  of_orders Missing h = h
-  of_orders (Term part) h = inl h
-  of_orders Pair h = inl h
-  of_orders Memory h = tt
+  of_orders e =
+      let atoms : List Atom = atoms_of_part sorts ts o p is in
+      wider_by table atoms atoms (IsRefused ts (orders_of_part sorts o p is)) (RefusesOfPart sorts ts o p is) e (λ d h. inl h) (λ all. all)
 
   pub of_division : IsTrue (has_rows o) → atoms_of_part sorts ts o p is ≡ atoms_of_division ts o p is → (e : PartError) → IsDivisionCause ts table o p is e → IsPartCause sorts ts table o p is e
-  of_division t same Missing h = λ all. h (subst (All (Contains table)) same all)
-  of_division t same (Term part) h = inr (t, h)
-  of_division t same Pair h = inr (t, h)
-  of_division t same Memory h = tt
+  of_division t same e =
+      wider_by table (atoms_of_division ts o p is) (atoms_of_part sorts ts o p is) (RefusesDivision ts is (limits_of_division ts o p is)) (RefusesOfPart sorts ts o p is) e (λ d h. inr (t, h))
+      (λ all. subst (All (Contains table)) same all)

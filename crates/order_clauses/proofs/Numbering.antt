@@ -1,37 +1,21 @@
 -- The number of an atom is where it stands.
 use Rattle.std.proofs.Common.{◌≡◌, inl, inr, ℕ, zero, suc, ◌<◌, ◌&&◌, Bool, true, false, List, [], ◌∷◌, length, get_or, Contains, sym, ap, ◌∙◌, arith, refl, nat_eq, eq-eqb}
-use Rattle.std.specs.Prelude.{◌⊎◌, if◌then◌else◌, ℤ, pos, negsuc}
+use Rattle.std.specs.Prelude.{◌⊎◌, if◌then◌else◌}
 use Rattle.std.proofs.lemmas.Bool.{eqb-true}
 use Rattle.smt_meaning.specs.declared.clauses.Summand.{Summand}
 use Rattle.smt_meaning.specs.declared.clauses.Atom.{Atom}
 use Rattle.smt_meaning.specs.declared.clauses.Atom.TheVariants.{Truth, AtMost, Same}
 use Rattle.smt_meaning.specs.Term.{int_eq}
+use Rattle.smt_laws.proofs.SameTree.{and_left, and_right}
+use Rattle.smt_laws.proofs.SameValue.{int_eq-true, int_eq-self}
 use Rattle.atom_form.specs.AtomTableNumbers.{IsAt, AreApart}
 use Rattle.order_clauses.specs.Numbers.{sum_eq, atom_eq, number_in}
 
 -- ---- equal atoms
 
-left : (a b : Bool) → (a && b) ≡ true → a ≡ true
-left true b h = refl
-left false b h = cc
-
-right : (a b : Bool) → (a && b) ≡ true → b ≡ true
-right true b h = h
-right false b h = cc
-
 both : (a b : Bool) → a ≡ true → b ≡ true → (a && b) ≡ true
 both true b h k = k
 both false b h k = cc
-
-int_is : (m n : ℤ) → int_eq m n ≡ true → m ≡ n
-int_is (pos m) (pos n) h = ap pos (eqb-true m n h)
-int_is (negsuc m) (negsuc n) h = ap negsuc (eqb-true m n h)
-int_is (pos m) (negsuc n) h = absurd (let x : false ≡ true = h in cc)
-int_is (negsuc m) (pos n) h = absurd (let x : false ≡ true = h in cc)
-
-int_own : (n : ℤ) → int_eq n n ≡ true
-int_own (pos n) = eq-eqb n n refl
-int_own (negsuc n) = eq-eqb n n refl
 
 summand_of : (p q : Summand) → p.coefficient ≡ q.coefficient → p.term ≡ q.term → p ≡ q
 summand_of p q c t = ap (λ z. record { coefficient = z; term = p.term }) c ∙ ap (λ n. record { coefficient = q.coefficient; term = n }) t
@@ -41,24 +25,24 @@ sum_is [] [] h = refl
 sum_is [] (q ∷ qs) h = absurd (let x : false ≡ true = h in cc)
 sum_is (p ∷ ps) [] h = absurd (let x : false ≡ true = h in cc)
 sum_is (p ∷ ps) (q ∷ qs) h =
-    let head : (int_eq p.coefficient q.coefficient && nat_eq p.term q.term) ≡ true = left (int_eq p.coefficient q.coefficient && nat_eq p.term q.term) (sum_eq ps qs) h in
+    let head : (int_eq p.coefficient q.coefficient && nat_eq p.term q.term) ≡ true = and_left (int_eq p.coefficient q.coefficient && nat_eq p.term q.term) (sum_eq ps qs) h in
     ap (λ s. s ∷ ps)
-    (summand_of p q (int_is p.coefficient q.coefficient (left (int_eq p.coefficient q.coefficient) (nat_eq p.term q.term) head))
-    (eqb-true p.term q.term (right (int_eq p.coefficient q.coefficient) (nat_eq p.term q.term) head)))
-    ∙ ap (λ ss. q ∷ ss) (sum_is ps qs (right (int_eq p.coefficient q.coefficient && nat_eq p.term q.term) (sum_eq ps qs) h))
+    (summand_of p q (int_eq-true p.coefficient q.coefficient (and_left (int_eq p.coefficient q.coefficient) (nat_eq p.term q.term) head))
+    (eqb-true p.term q.term (and_right (int_eq p.coefficient q.coefficient) (nat_eq p.term q.term) head)))
+    ∙ ap (λ ss. q ∷ ss) (sum_is ps qs (and_right (int_eq p.coefficient q.coefficient && nat_eq p.term q.term) (sum_eq ps qs) h))
 
 sum_own : (ps : List Summand) → sum_eq ps ps ≡ true
 sum_own [] = refl
 sum_own (p ∷ ps) =
     both (int_eq p.coefficient p.coefficient && nat_eq p.term p.term) (sum_eq ps ps)
-    (both (int_eq p.coefficient p.coefficient) (nat_eq p.term p.term) (int_own p.coefficient) (eq-eqb p.term p.term refl)) (sum_own ps)
+    (both (int_eq p.coefficient p.coefficient) (nat_eq p.term p.term) (int_eq-self p.coefficient) (eq-eqb p.term p.term refl)) (sum_own ps)
 
 atom_is : (a b : Atom) → atom_eq a b ≡ true → a ≡ b
 atom_is (Truth p) (Truth q) h = ap Truth (eqb-true p q h)
 atom_is (AtMost sum k) (AtMost sum' k') h =
-    ap (λ s. AtMost s k) (sum_is sum sum' (left (sum_eq sum sum') (int_eq k k') h)) ∙ ap (AtMost sum') (int_is k k' (right (sum_eq sum sum') (int_eq k k') h))
+    ap (λ s. AtMost s k) (sum_is sum sum' (and_left (sum_eq sum sum') (int_eq k k') h)) ∙ ap (AtMost sum') (int_eq-true k k' (and_right (sum_eq sum sum') (int_eq k k') h))
 atom_is (Same i j) (Same i' j') h =
-    ap (λ p. Same p j) (eqb-true i i' (left (nat_eq i i') (nat_eq j j') h)) ∙ ap (Same i') (eqb-true j j' (right (nat_eq i i') (nat_eq j j') h))
+    ap (λ p. Same p j) (eqb-true i i' (and_left (nat_eq i i') (nat_eq j j') h)) ∙ ap (Same i') (eqb-true j j' (and_right (nat_eq i i') (nat_eq j j') h))
 atom_is (Truth p) (AtMost sum k) h = absurd (let x : false ≡ true = h in cc)
 atom_is (Truth p) (Same i j) h = absurd (let x : false ≡ true = h in cc)
 atom_is (AtMost sum k) (Truth p) h = absurd (let x : false ≡ true = h in cc)
@@ -68,7 +52,7 @@ atom_is (Same i j) (AtMost sum k) h = absurd (let x : false ≡ true = h in cc)
 
 atom_own : (a : Atom) → atom_eq a a ≡ true
 atom_own (Truth p) = eq-eqb p p refl
-atom_own (AtMost sum k) = both (sum_eq sum sum) (int_eq k k) (sum_own sum) (int_own k)
+atom_own (AtMost sum k) = both (sum_eq sum sum) (int_eq k k) (sum_own sum) (int_eq-self k)
 atom_own (Same i j) = both (nat_eq i i) (nat_eq j j) (eq-eqb i i refl) (eq-eqb j j refl)
 
 -- ---- where it stands
@@ -93,7 +77,7 @@ found_at (b ∷ bs) a (suc k) h e = found_by b bs a (atom_eq a b) refl (λ n. fo
 pub found : (table : List Atom) (a : Atom) → Contains table a → IsAt table (number_in table a) a
 found table a c = found_at table a c.0 c.1 c.2
 
-before_or_not : (m n : ℕ) → (m < n) ⊎ (m ≡ n) ⊎ (n < m)
+pub before_or_not : (m n : ℕ) → (m < n) ⊎ (m ≡ n) ⊎ (n < m)
 before_or_not zero zero = inr (inl refl)
 before_or_not zero (suc n) = inl (omega arith)
 before_or_not (suc m) zero = inr (inr (omega arith))

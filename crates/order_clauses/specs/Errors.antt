@@ -38,12 +38,16 @@ pub record IsRefused (ts : List Tree) (os : List Order) (e : DifferenceError) : 
   pub among : Contains os order
   pub refuses : RefusesOrder ts order e
 
+-- why clauses over these atoms can't be put, where what they need is refused so
+abbrev pub IsCauseBy : List Atom → (DifferenceError → Type 0) → List Atom → PartError → Type 0
+IsCauseBy table Refused atoms Missing = All (Contains table) atoms → ⊥
+IsCauseBy table Refused atoms (Term part) = Refused (DifferenceTerm part)
+IsCauseBy table Refused atoms Pair = Refused DifferencePair
+IsCauseBy table Refused atoms Memory = Unit {0}
+
 -- why clauses over these atoms, among them the bounds of these orders, can't be put
 abbrev pub IsCause : List Tree → List Atom → List Order → List Atom → PartError → Type 0
-IsCause ts table os atoms Missing = All (Contains table) atoms → ⊥
-IsCause ts table os atoms (Term part) = IsRefused ts os (DifferenceTerm part)
-IsCause ts table os atoms Pair = IsRefused ts os DifferencePair
-IsCause ts table os atoms Memory = Unit {0}
+IsCause ts table os = IsCauseBy table (IsRefused ts os)
 
 -- ---- of divisions
 
@@ -55,20 +59,14 @@ pub record IsLimitRefused (ts : List Tree) (ls : List RowLimit) (e : DifferenceE
 
 -- why clauses over these atoms, among them the bounds of these limits, can't be put
 abbrev pub IsLimitCause : List Tree → List Atom → List RowLimit → List Atom → PartError → Type 0
-IsLimitCause ts table ls atoms Missing = All (Contains table) atoms → ⊥
-IsLimitCause ts table ls atoms (Term part) = IsLimitRefused ts ls (DifferenceTerm part)
-IsLimitCause ts table ls atoms Pair = IsLimitRefused ts ls DifferencePair
-IsLimitCause ts table ls atoms Memory = Unit {0}
+IsLimitCause ts table ls = IsCauseBy table (IsLimitRefused ts ls)
 
 -- folding the divisor of the terms at these places is refused, or one of these bounds
 abbrev pub RefusesDivision : List Tree → List ℕ → List RowLimit → DifferenceError → Type 0
 RefusesDivision ts is ls e = RefusesDivisor ts is e ⊎ IsLimitRefused ts ls e
 
 abbrev pub IsDivisionCause : List Tree → List Atom → Operator → ℕ → List ℕ → PartError → Type 0
-IsDivisionCause ts table o p is Missing = All (Contains table) (atoms_of_division ts o p is) → ⊥
-IsDivisionCause ts table o p is (Term part) = RefusesDivision ts is (limits_of_division ts o p is) (DifferenceTerm part)
-IsDivisionCause ts table o p is Pair = RefusesDivision ts is (limits_of_division ts o p is) DifferencePair
-IsDivisionCause ts table o p is Memory = Unit {0}
+IsDivisionCause ts table o p is = IsCauseBy table (RefusesDivision ts is (limits_of_division ts o p is)) (atoms_of_division ts o p is)
 
 -- ---- of parts
 
@@ -78,7 +76,4 @@ RefusesOfPart sorts ts o p is e = IsRefused ts (orders_of_part sorts o p is) e �
 
 -- why the clauses of the term at a place can't be put
 abbrev pub IsPartCause : List Sort → List Tree → List Atom → Operator → ℕ → List ℕ → PartError → Type 0
-IsPartCause sorts ts table o p is Missing = All (Contains table) (atoms_of_part sorts ts o p is) → ⊥
-IsPartCause sorts ts table o p is (Term part) = RefusesOfPart sorts ts o p is (DifferenceTerm part)
-IsPartCause sorts ts table o p is Pair = RefusesOfPart sorts ts o p is DifferencePair
-IsPartCause sorts ts table o p is Memory = Unit {0}
+IsPartCause sorts ts table o p is = IsCauseBy table (RefusesOfPart sorts ts o p is) (atoms_of_part sorts ts o p is)

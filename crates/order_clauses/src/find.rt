@@ -1,6 +1,7 @@
 //! The numbers of atoms.
 ghost use Rattle.std.specs.Prelude.{◌≡◌, ◌<◌, ◌^◌, Contains, IfOk, IfErr, OnOk};
 ghost use Rattle.smt_meaning.specs.declared.clauses.Atom.TheVariants.{Truth, AtMost};
+ghost use Rattle.atom_form.specs.Compact.{atom_of};
 ghost use Rattle.order_clauses.specs.Pairs.{same_atom};
 ghost use Rattle.order_clauses.specs.Numbers.{number_in};
 ghost use Rattle.order_clauses.specs.Clauses.{truth_number, same_number};
@@ -10,6 +11,21 @@ use crate::pairs::Pair;
 use atom_form::{AtomNumbers, CompactAtom};
 use smt_meaning::{Summand, TermId};
 
+/// The number of an atom that is no bound, or `Missing`.
+fn find(atoms: &AtomNumbers, atom: CompactAtom) -> Result<u32, PartError>
+    ensures number { IfOk result (λ n. n ≡ number_in atoms.now.atoms (atom_of atom)) }
+    ensures few { IfOk result (λ n. n < 2 ^ 31) }
+    ensures has { OnOk result (Contains atoms.now.atoms (atom_of atom)) }
+    ensures err { IfErr result (λ e. (e ≡ PartError.Missing) × (Contains atoms.now.atoms (atom_of atom) → ⊥)) }
+{
+    atoms.are_few();
+    atoms.are_apart();
+    match atoms.find(atom) {
+        Some(number) => Ok(number),
+        None => Err(PartError::Missing),
+    }
+}
+
 /// The number of the truth of a term, or `Missing`.
 pub(crate) fn find_truth(atoms: &AtomNumbers, place: TermId) -> Result<u32, PartError>
     ensures number { IfOk result (λ n. n ≡ truth_number atoms.now.atoms place) }
@@ -17,12 +33,7 @@ pub(crate) fn find_truth(atoms: &AtomNumbers, place: TermId) -> Result<u32, Part
     ensures has { OnOk result (Contains atoms.now.atoms (Truth place)) }
     ensures err { IfErr result (λ e. (e ≡ PartError.Missing) × (Contains atoms.now.atoms (Truth place) → ⊥)) }
 {
-    atoms.are_few();
-    atoms.are_apart();
-    match atoms.find(CompactAtom::Truth(place)) {
-        Some(number) => Ok(number),
-        None => Err(PartError::Missing),
-    }
+    find(atoms, CompactAtom::Truth(place))
 }
 
 /// The number of the equality of two terms, or `Missing`.
@@ -32,12 +43,7 @@ pub(crate) fn find_same(atoms: &AtomNumbers, pair: Pair) -> Result<u32, PartErro
     ensures has { OnOk result (Contains atoms.now.atoms (same_atom pair)) }
     ensures err { IfErr result (λ e. (e ≡ PartError.Missing) × (Contains atoms.now.atoms (same_atom pair) → ⊥)) }
 {
-    atoms.are_few();
-    atoms.are_apart();
-    match atoms.find(CompactAtom::Same(pair.left, pair.right)) {
-        Some(number) => Ok(number),
-        None => Err(PartError::Missing),
-    }
+    find(atoms, CompactAtom::Same(pair.left, pair.right))
 }
 
 /// The number of the bound that a sum is at most a threshold, or `Missing`.

@@ -5,6 +5,7 @@ use Rattle.std.specs.List.{list_all, list_any}
 use Rattle.std.proofs.lemmas.Bool.{false≢true, eqb-true}
 use Rattle.std.proofs.lemmas.List.Elements.{All-nil, All-cons, All-contains}
 use Rattle.smt_meaning.specs.Term.{xor}
+use Rattle.smt_laws.proofs.Both.{and_left, and_right}
 use Rattle.proof_form.specs.declared.form_values.Connective.{Connective}
 use Rattle.proof_form.specs.declared.form_values.Connective.TheVariants.{And, Or, Nor, Xor, Implies, Equal, Ite, False}
 use Rattle.proof_form.specs.Kept.{sign_code}
@@ -14,19 +15,11 @@ use Rattle.proof_form.proofs.FormChosen.{free_or_given, chosen_given, chosen_fre
 
 -- ---- tests of all and of some
 
-and_left : (a b : Bool) → (a && b) ≡ true → a ≡ true
-and_left true b h = refl
-and_left false b h = h
-
-and_right : (a b : Bool) → (a && b) ≡ true → b ≡ true
-and_right true b h = h
-and_right false b h = absurd (false≢true h)
-
-or_left : (a b : Bool) → (a || b) ≡ false → a ≡ false
+pub or_left : (a b : Bool) → (a || b) ≡ false → a ≡ false
 or_left false b h = refl
 or_left true b h = h
 
-or_right : (a b : Bool) → (a || b) ≡ false → b ≡ false
+pub or_right : (a b : Bool) → (a || b) ≡ false → b ≡ false
 or_right false b h = h
 or_right true b h = absurd (false≢true (sym h))
 
@@ -76,13 +69,13 @@ some_true f (p ∷ ps) h = by (f p) refl (some_true f ps)
     by false e rest = later f p ps true (rest (sym (ap (λ b. b || list_any itself (map f ps)) e) ∙ h))
     by true e rest = record { part = p; inside = (0, omega arith, refl); value = e }
 
-is_so : (b c : Bool) → (b ≡ not c → ⊥) → b ≡ c
+pub is_so : (b c : Bool) → (b ≡ not c → ⊥) → b ≡ c
 is_so true true h = refl
 is_so false false h = refl
 is_so true false h = absurd (h refl)
 is_so false true h = absurd (h refl)
 
-clash : {b : Bool} → b ≡ true → b ≡ false → ⊥
+pub clash : {b : Bool} → b ≡ true → b ≡ false → ⊥
 clash e f = false≢true (sym f ∙ e)
 
 all_at : (f : ℕ → Bool) (ps : List ℕ) (x : ℕ) → Contains ps x → f x ≡ false → list_all itself (map f ps) ≡ false

@@ -18,10 +18,12 @@ use Rattle.smt_meaning.specs.Term.{Tree, tree_at, truth_of, bool_eq, xor, implie
 use Rattle.smt_meaning.specs.Signature.{if_so, all_of, all_the_same, operator_sort}
 use Rattle.proof_meaning.specs.Proof.{term_sort, IsBoolAt, IsIntAt}
 use Rattle.proof_meaning.specs.Rules.{HasParts, of_bools, of_equal, of_distinct, of_at_most, of_less, of_at_least, of_greater, IsOtherAt, along, not_above, below, turned, pairs, truths, every, no_one}
+use Rattle.proof_form.specs.declared.form_values.Connective.{Connective}
 use Rattle.proof_form.specs.declared.form_values.Connective.TheVariants as connective
+use Rattle.proof_form.specs.declared.form_parts.Relation.{Relation}
 use Rattle.proof_form.specs.declared.form_parts.Relation.TheVariants as relation
 use Rattle.proof_form.specs.FormValues.{itself, is_odd, implied_from, choice_of, connective_value}
-use Rattle.proof_form.specs.FormParts.{HasJust, IsOfBools, IsOfNeighbours, IsOfPairs, HasNoParts, IsKind}
+use Rattle.proof_form.specs.FormParts.{relation_atom, relation_fits, HasJust, IsOfBools, IsOfNeighbours, IsOfPairs, HasNoParts, IsKind}
 use Rattle.proof_form.specs.declared.form_parts.Kind.{Kind}
 use Rattle.proof_form.specs.Range.{neighbours_fit, neighbours_fit_from, bounds_fit}
 use Rattle.proof_form.proofs.FormLists.{xor_assoc, xor_false}
@@ -212,37 +214,24 @@ module _ (ds : List Declaration) (ts : List Tree) where
   }
   kind_not (i ∷ j ∷ is) s k = let n : length k.sorts ≡ 1 = eqb-true (length k.sorts) 1 k.written in absurd (omega (arith, n, count ds ts (i ∷ j ∷ is) k.sorts k.are))
 
+  -- of an operator that folds the truth values of so many arguments
+  kind_folded : (o : Operator) (c : Connective) (least : ℕ) (is : List ℕ) (s : Sort) (k : IsSorted ds ts o is s) → 0 < least → nat_le least (length k.sorts) ≡ true → if_so (all_of Truths k.sorts) Truths ≡ Some s
+      → ((v : Atom → Bool) (i : ℕ) (js : List ℕ) → truth_of (operate o (truths v (i ∷ js))) ≡ connective_value c (values_at v (i ∷ js))) → bounds_fit ts o is ≡ true → IsOfBools ds ts o is c
+  kind_folded o c least [] s k some written made gives fit = absurd (omega (arith, some, at_least least (length k.sorts) written, count ds ts [] k.sorts k.are))
+  kind_folded o c least (i ∷ is) s k some written made gives fit =
+      record { just = just_bools o (i ∷ is) (truths_of o (i ∷ is) s k (if_so_true (all_of Truths k.sorts) Truths s made)); gives = λ v. gives v i is; fits = fit }
+
   pub kind_and : (is : List ℕ) (s : Sort) → IsSorted ds ts And is s → IsOfBools ds ts And is connective.And
-  kind_and [] s k = absurd (omega (arith, at_least 1 (length k.sorts) k.written, count ds ts [] k.sorts k.are))
-  kind_and (i ∷ is) s k = record {
-    just = just_bools And (i ∷ is) (truths_of And (i ∷ is) s k (if_so_true (all_of Truths k.sorts) Truths s k.made));
-    gives = λ v. ap truth_of (all_fold v (v (Truth i)) is);
-    fits = refl;
-  }
+  kind_and is s k = kind_folded And connective.And 1 is s k (omega arith) k.written k.made (λ v i js. ap truth_of (all_fold v (v (Truth i)) js)) refl
 
   pub kind_or : (is : List ℕ) (s : Sort) → IsSorted ds ts Or is s → IsOfBools ds ts Or is connective.Or
-  kind_or [] s k = absurd (omega (arith, at_least 1 (length k.sorts) k.written, count ds ts [] k.sorts k.are))
-  kind_or (i ∷ is) s k = record {
-    just = just_bools Or (i ∷ is) (truths_of Or (i ∷ is) s k (if_so_true (all_of Truths k.sorts) Truths s k.made));
-    gives = λ v. ap truth_of (any_fold v (v (Truth i)) is);
-    fits = refl;
-  }
+  kind_or is s k = kind_folded Or connective.Or 1 is s k (omega arith) k.written k.made (λ v i js. ap truth_of (any_fold v (v (Truth i)) js)) refl
 
   pub kind_xor : (is : List ℕ) (s : Sort) → IsSorted ds ts Xor is s → IsOfBools ds ts Xor is connective.Xor
-  kind_xor [] s k = absurd (omega (arith, at_least 2 (length k.sorts) k.written, count ds ts [] k.sorts k.are))
-  kind_xor (i ∷ is) s k = record {
-    just = just_bools Xor (i ∷ is) (truths_of Xor (i ∷ is) s k (if_so_true (all_of Truths k.sorts) Truths s k.made));
-    gives = λ v. ap truth_of (odd_fold v (v (Truth i)) is);
-    fits = refl;
-  }
+  kind_xor is s k = kind_folded Xor connective.Xor 2 is s k (omega arith) k.written k.made (λ v i js. ap truth_of (odd_fold v (v (Truth i)) js)) refl
 
   pub kind_implies : (is : List ℕ) (s : Sort) → IsSorted ds ts Implies is s → IsOfBools ds ts Implies is connective.Implies
-  kind_implies [] s k = absurd (omega (arith, at_least 2 (length k.sorts) k.written, count ds ts [] k.sorts k.are))
-  kind_implies (i ∷ is) s k = record {
-    just = just_bools Implies (i ∷ is) (truths_of Implies (i ∷ is) s k (if_so_true (all_of Truths k.sorts) Truths s k.made));
-    gives = λ v. ap truth_of (implied_fold v (v (Truth i)) is);
-    fits = refl;
-  }
+  kind_implies is s k = kind_folded Implies connective.Implies 2 is s k (omega arith) k.written k.made (λ v i js. ap truth_of (implied_fold v (v (Truth i)) js)) refl
 
   -- ---- equality and difference
 
@@ -349,25 +338,22 @@ module _ (ds : List Declaration) (ts : List Tree) where
 
   -- ---- comparisons, and numbers
 
+  -- of an operator that compares neighbours
+  kind_compared : (o : Operator) (r : Relation) (is : List ℕ) (s : Sort) (k : IsSorted ds ts o is s) → if_so (all_of Ints k.sorts) Truths ≡ Some s → (All (IsIntAt ds ts) is → HasJust ds ts o is (along (relation_atom ts r) is) (λ v. every v (along (relation_atom ts r) is)))
+      → bounds_fit ts o is ≡ neighbours_fit (relation_fits ts r) is → IsOfNeighbours ds ts o is r
+  kind_compared o r is s k made just fit = record { just = just (ints_of o is s k (if_so_true (all_of Ints k.sorts) Truths s made)); fits = fit }
+
   pub kind_at_most : (is : List ℕ) (s : Sort) → IsSorted ds ts AtMost is s → IsOfNeighbours ds ts AtMost is relation.AtMost
-  kind_at_most is s k =
-      let all : All (IsIntAt ds ts) is = ints_of AtMost is s k (if_so_true (all_of Ints k.sorts) Truths s k.made) in
-      record { just = record { has = of_at_most all; only = λ qs w h. only_at_most is qs w h all }; fits = refl }
+  kind_at_most is s k = kind_compared AtMost relation.AtMost is s k k.made (λ all. record { has = of_at_most all; only = λ qs w h. only_at_most is qs w h all }) refl
 
   pub kind_less : (is : List ℕ) (s : Sort) → IsSorted ds ts Less is s → IsOfNeighbours ds ts Less is relation.Less
-  kind_less is s k =
-      let all : All (IsIntAt ds ts) is = ints_of Less is s k (if_so_true (all_of Ints k.sorts) Truths s k.made) in
-      record { just = record { has = of_less all; only = λ qs w h. only_less is qs w h all }; fits = refl }
+  kind_less is s k = kind_compared Less relation.Less is s k k.made (λ all. record { has = of_less all; only = λ qs w h. only_less is qs w h all }) refl
 
   pub kind_at_least : (is : List ℕ) (s : Sort) → IsSorted ds ts AtLeast is s → IsOfNeighbours ds ts AtLeast is relation.AtLeast
-  kind_at_least is s k =
-      let all : All (IsIntAt ds ts) is = ints_of AtLeast is s k (if_so_true (all_of Ints k.sorts) Truths s k.made) in
-      record { just = record { has = of_at_least all; only = λ qs w h. only_at_least is qs w h all }; fits = refl }
+  kind_at_least is s k = kind_compared AtLeast relation.AtLeast is s k k.made (λ all. record { has = of_at_least all; only = λ qs w h. only_at_least is qs w h all }) refl
 
   pub kind_greater : (is : List ℕ) (s : Sort) → IsSorted ds ts Greater is s → IsOfNeighbours ds ts Greater is relation.Greater
-  kind_greater is s k =
-      let all : All (IsIntAt ds ts) is = ints_of Greater is s k (if_so_true (all_of Ints k.sorts) Truths s k.made) in
-      record { just = record { has = of_greater all; only = λ qs w h. only_greater is qs w h all }; fits = refl }
+  kind_greater is s k = kind_compared Greater relation.Greater is s k k.made (λ all. record { has = of_greater all; only = λ qs w h. only_greater is qs w h all }) refl
 
   -- of an operator on numbers that isn't a comparison, where it takes one argument or more
   kind_of_ints : (o : Operator) (is : List ℕ) (s r : Sort) (k : IsSorted ds ts o is s) → is_of_numbers o ≡ true → bounds_fit ts o is ≡ true → operator_sort o k.sorts ≡ if_so (all_of Ints k.sorts) r → 0 < length k.sorts

@@ -12,26 +12,19 @@ use Rattle.smt_meaning.specs.declared.clauses.Atom.TheVariants.{Truth, AtMost, S
 use Rattle.smt_meaning.specs.declared.clauses.Literal.{Literal}
 use Rattle.smt_meaning.specs.Term.{int_eq}
 use Rattle.smt_meaning.specs.Clause.{signed}
+use Rattle.smt_laws.proofs.Both.{and_left, and_right}
+use Rattle.smt_laws.proofs.SameValue.{int_eq-true, int_eq-self}
 use Rattle.proof_meaning.specs.Rules.{some_by}
 use Rattle.proof_form.specs.declared.form_values.Connective.{Connective}
 use Rattle.proof_form.specs.Kept.{Kept, sign_code, IsCodeOf, AreCodesOf, AreApart}
 use Rattle.proof_form.specs.FormValues.{connective_value, AreFalse, IsAmong, IsAlways, IsSometimesFalse}
+use Rattle.proof_form.proofs.FormForcing.{or_left, or_right}
 use Rattle.proof_form.specs.FormParts.{IsNumberOf, AreNumbersOf, AreOnParts, AreTrueBy, by_connective, Extends, IsTrueClause}
 
 -- ---- which atom it is
 
 nat_itself : (n : ℕ) → nat_eq n n ≡ true
 nat_itself n = grind (arith, nat_tests)
-
-int_itself : (a : ℤ) → int_eq a a ≡ true
-int_itself (pos n) = nat_itself n
-int_itself (negsuc n) = nat_itself n
-
-int_same : (a b : ℤ) → int_eq a b ≡ true → a ≡ b
-int_same (pos m) (pos n) h = ap pos (eqb-true m n h)
-int_same (negsuc m) (negsuc n) h = ap negsuc (eqb-true m n h)
-int_same (pos m) (negsuc n) h = absurd (false≢true h)
-int_same (negsuc m) (pos n) h = absurd (false≢true h)
 
 abbrev same_sum : List Summand → List Summand → Bool
 same_sum [] [] = true
@@ -44,14 +37,6 @@ same_atom (Same i j) (Same k l) = nat_eq i k && nat_eq j l
 same_atom (AtMost ps k) (AtMost qs l) = same_sum ps qs && int_eq k l
 same_atom _ _ = false
 
-and_left : (a b : Bool) → (a && b) ≡ true → a ≡ true
-and_left true b h = refl
-and_left false b h = h
-
-and_right : (a b : Bool) → (a && b) ≡ true → b ≡ true
-and_right true b h = h
-and_right false b h = absurd (false≢true h)
-
 and_both : (a b : Bool) → a ≡ true → b ≡ true → (a && b) ≡ true
 and_both a b h g = ap (λ c. c && b) h ∙ g
 
@@ -59,12 +44,12 @@ sum_itself : (ps : List Summand) → same_sum ps ps ≡ true
 sum_itself [] = refl
 sum_itself (p ∷ ps) =
     and_both (int_eq p.coefficient p.coefficient && nat_eq p.term p.term) (same_sum ps ps)
-    (and_both (int_eq p.coefficient p.coefficient) (nat_eq p.term p.term) (int_itself p.coefficient) (nat_itself p.term)) (sum_itself ps)
+    (and_both (int_eq p.coefficient p.coefficient) (nat_eq p.term p.term) (int_eq-self p.coefficient) (nat_itself p.term)) (sum_itself ps)
 
 atom_itself : (a : Atom) → same_atom a a ≡ true
 atom_itself (Truth i) = nat_itself i
 atom_itself (Same i j) = and_both (nat_eq i i) (nat_eq j j) (nat_itself i) (nat_itself j)
-atom_itself (AtMost ps k) = and_both (same_sum ps ps) (int_eq k k) (sum_itself ps) (int_itself k)
+atom_itself (AtMost ps k) = and_both (same_sum ps ps) (int_eq k k) (sum_itself ps) (int_eq-self k)
 
 sum_same : (ps qs : List Summand) → same_sum ps qs ≡ true → ps ≡ qs
 sum_same [] [] h = refl
@@ -72,7 +57,7 @@ sum_same [] (q ∷ qs) h = absurd (false≢true h)
 sum_same (p ∷ ps) [] h = absurd (false≢true h)
 sum_same (p ∷ ps) (q ∷ qs) h =
     let first : (int_eq p.coefficient q.coefficient && nat_eq p.term q.term) ≡ true = and_left (int_eq p.coefficient q.coefficient && nat_eq p.term q.term) (same_sum ps qs) h in
-    let c : p.coefficient ≡ q.coefficient = int_same p.coefficient q.coefficient (and_left (int_eq p.coefficient q.coefficient) (nat_eq p.term q.term) first) in
+    let c : p.coefficient ≡ q.coefficient = int_eq-true p.coefficient q.coefficient (and_left (int_eq p.coefficient q.coefficient) (nat_eq p.term q.term) first) in
     let t : p.term ≡ q.term = eqb-true p.term q.term (and_right (int_eq p.coefficient q.coefficient) (nat_eq p.term q.term) first) in
     let rest : ps ≡ qs = sum_same ps qs (and_right (int_eq p.coefficient q.coefficient && nat_eq p.term q.term) (same_sum ps qs) h) in
     ap (λ x. let s : Summand = record { coefficient = x; term = p.term } in s ∷ ps) c ∙ ap (λ x. let s : Summand = record { coefficient = q.coefficient; term = x } in s ∷ ps) t ∙ ap (λ xs. q ∷ xs) rest
@@ -81,7 +66,7 @@ atom_same : (a b : Atom) → same_atom a b ≡ true → a ≡ b
 atom_same (Truth i) (Truth j) h = ap Truth (eqb-true i j h)
 atom_same (Same i j) (Same k l) h = ap (λ x. Same x j) (eqb-true i k (and_left (nat_eq i k) (nat_eq j l) h)) ∙ ap (Same k) (eqb-true j l (and_right (nat_eq i k) (nat_eq j l) h))
 atom_same (AtMost ps k) (AtMost qs l) h =
-    ap (λ xs. AtMost xs k) (sum_same ps qs (and_left (same_sum ps qs) (int_eq k l) h)) ∙ ap (AtMost qs) (int_same k l (and_right (same_sum ps qs) (int_eq k l) h))
+    ap (λ xs. AtMost xs k) (sum_same ps qs (and_left (same_sum ps qs) (int_eq k l) h)) ∙ ap (AtMost qs) (int_eq-true k l (and_right (same_sum ps qs) (int_eq k l) h))
 atom_same (Truth i) (Same k l) h = absurd (false≢true h)
 atom_same (Truth i) (AtMost qs l) h = absurd (false≢true h)
 atom_same (Same i j) (Truth k) h = absurd (false≢true h)
@@ -151,14 +136,6 @@ literal_false false false h = sym h
 false_literal : (b x : Bool) → x ≡ not b → signed b x ≡ false
 false_literal true x h = h
 false_literal false x h = ap not h
-
-or_left : (a b : Bool) → (a || b) ≡ false → a ≡ false
-or_left false b h = refl
-or_left true b h = h
-
-or_right : (a b : Bool) → (a || b) ≡ false → b ≡ false
-or_right false b h = h
-or_right true b h = absurd (false≢true (sym h))
 
 abbrev pub IsFalseBy : (Atom → Bool) → Literal → Type 0
 IsFalseBy v l = v l.atom ≡ not l.positive

@@ -5,6 +5,7 @@ use Rattle.std.proofs.lemmas.List.Elements.{All-head, All-tail, All-weaker, All-
 use Rattle.smt_meaning.specs.declared.clauses.Atom.{Atom}
 use Rattle.smt_meaning.specs.declared.clauses.Atom.TheVariants.{Truth, Same, AtMost}
 use Rattle.smt_meaning.specs.declared.clauses.Literal.{Literal}
+use Rattle.smt_laws.proofs.Both.{and_left, and_right}
 use Rattle.proof_meaning.specs.Rules.{pairs, no_one}
 use Rattle.proof_meaning.specs.Proof.{literal}
 use Rattle.proof_form.specs.Kept.{sign_code, IsCodeOf, AreCodesOf, AreApart}
@@ -12,6 +13,7 @@ use Rattle.proof_form.specs.FormValues.{chosen, AreFalse, HasNoClash, IsFree, Is
 use Rattle.proof_form.specs.FormParts.{IsNumberOf, AreOnParts, AreTrueBy}
 use Rattle.proof_form.specs.FormPairs.{AreFirstPlaces, IsBackward, IsPositive, HasPairs, AreTruePairs, by_clash, by_pairs, by_negative, AreFalsePairs, lacking, no_negative, without, IsOnPair}
 use Rattle.proof_form.proofs.FormChosen.{free_or_given, chosen_free, chosen_given, chosen_makes_false}
+use Rattle.proof_form.proofs.FormForcing.{is_so, clash}
 use Rattle.proof_form.proofs.FormAlways.{always_clash, with_own, at_own, elsewhere}
 use Rattle.proof_form.proofs.FormLifting.{number_of, number_at, atom_of_number, IsFalseBy, true_by, not_true_by, all_codes_false, all_literals_false, IsHalved, halved}
 use Rattle.proof_form.proofs.FormPlaces.{IsPairAt, IsPair, pair_of, has_pair_at, from_places, to_places, IsListedPair, listed_pair}
@@ -19,14 +21,6 @@ use Rattle.proof_form.proofs.FormPlaces.{IsPairAt, IsPair, pair_of, has_pair_at,
 no_one_from : (v : Atom → Bool) (ps : List Atom) → All (λ a. v a ≡ false) ps → no_one v ps ≡ true
 no_one_from v [] h = refl
 no_one_from v (p ∷ ps) h = ap (λ b. not b && no_one v ps) (All-head (λ a. v a ≡ false) p ps h) ∙ no_one_from v ps (All-tail (λ a. v a ≡ false) p ps h)
-
-and_left : (a b : Bool) → (a && b) ≡ true → a ≡ true
-and_left true b h = refl
-and_left false b h = h
-
-and_right : (a b : Bool) → (a && b) ≡ true → b ≡ true
-and_right true b h = h
-and_right false b h = absurd (false≢true h)
 
 not_true : (b : Bool) → not b ≡ true → b ≡ false
 not_true true h = absurd (false≢true h)
@@ -39,15 +33,6 @@ none_is v (p ∷ ps) h a k = by k.0 k.1 k.2 (none_is v ps (and_right (not (v p))
     by : (i : ℕ) → i < length (p ∷ ps) → get_or (p ∷ ps) i a ≡ a → (Contains ps a → v a ≡ false) → v a ≡ false
     by zero l e rest = sym (ap v e) ∙ not_true (v p) (and_left (not (v p)) (no_one v ps) h)
     by (suc i) l e rest = rest (i, omega (arith, l), e)
-
-is_so : (b c : Bool) → (b ≡ not c → ⊥) → b ≡ c
-is_so true true h = refl
-is_so false false h = refl
-is_so true false h = absurd (h refl)
-is_so false true h = absurd (h refl)
-
-clash : {b : Bool} → b ≡ true → b ≡ false → ⊥
-clash e f = false≢true (sym f ∙ e)
 
 some_one : (v : Atom → Bool) (ps : List Atom) (a : Atom) → Contains ps a → v a ≡ true → no_one v ps ≡ false
 some_one v ps a k h = is_so (no_one v ps) false (λ e. clash h (none_is v ps e a k))

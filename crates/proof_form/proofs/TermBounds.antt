@@ -29,6 +29,9 @@ use Rattle.linear_forms.specs.declared.differences.DifferenceError.{DifferenceEr
 use Rattle.linear_forms.specs.declared.differences.DifferenceError.TheVariants.{Term, Pair, Memory}
 use Rattle.pair_bounds.specs.Pairs.{below_fits, threshold_below, IsBound}
 use Rattle.proof_form.specs.Range.{not_above_fits, less_fits}
+use Rattle.proof_form.specs.Comparing.{compared, compared_fits}
+use Rattle.proof_form.specs.declared.terms_bounds.Comparison.{Comparison}
+use Rattle.proof_form.specs.declared.terms_bounds.Comparison.TheVariants.{Undivided, NotAbove, Below}
 use Rattle.proof_form.specs.Terms.{IsBoundOf}
 use Rattle.proof_form.specs.declared.terms_facts.Fact.{Fact}
 use Rattle.proof_form.specs.TermFacts.{fact_past}
@@ -195,38 +198,24 @@ module _ (ds : List Declaration) (hs : List Tree) (ns : List Node) (places : Lis
         → (fit ≡ true) × IsBoundOf a sum limit
     lifted fit seen a b sum limit e f r = (e ∙ r.fits, record { atom = r.atom ∙ sym f; coefficients = r.coefficients; in_range = r.in_range })
 
-    pub difference_lifted : (sum : List Summand) (limit : ℤ) → IsRenamedBound facts (not_above_fits us p q) (folded_bound us p q) sum limit → (not_above_fits trees i j ≡ true) × IsBoundOf (folded_bound trees i j) sum limit
-    difference_lifted sum limit r = lifted (not_above_fits trees i j) (not_above_fits us p q) (folded_bound trees i j) (folded_bound us p q) sum limit fits_same folded_same r
+    compared_fits_same : (c : Comparison) → compared_fits c trees i j ≡ compared_fits c us p q
+    compared_fits_same Undivided = fits_same
+    compared_fits_same NotAbove = fits_same
+    compared_fits_same Below = less_fits_same
 
-    pub at_most_lifted : (sum : List Summand) (limit : ℤ) → IsRenamedBound facts (not_above_fits us p q) (not_above us p q) sum limit → (not_above_fits trees i j ≡ true) × IsBoundOf (not_above trees i j) sum limit
-    at_most_lifted sum limit r = lifted (not_above_fits trees i j) (not_above_fits us p q) (not_above trees i j) (not_above us p q) sum limit fits_same not_above_same r
+    compared_same : (c : Comparison) → compared c trees i j ≡ renamed_bound (first_at facts) (compared c us p q)
+    compared_same Undivided = folded_same
+    compared_same NotAbove = not_above_same
+    compared_same Below = below_same
 
-    pub below_lifted : (sum : List Summand) (limit : ℤ) → IsRenamedBound facts (less_fits us p q) (below us p q) sum limit → (less_fits trees i j ≡ true) × IsBoundOf (below trees i j) sum limit
-    below_lifted sum limit r = lifted (less_fits trees i j) (less_fits us p q) (below trees i j) (below us p q) sum limit less_fits_same below_same r
+    pub compared_lifted : (c : Comparison) (a b : ℕ) (sum : List Summand) (limit : ℤ) → a ≡ slice_index places i → b ≡ slice_index places j → IsRenamedBound facts (compared_fits c us a b) (compared c us a b) sum limit
+        → (compared_fits c trees i j ≡ true) × IsBoundOf (compared c trees i j) sum limit
+    compared_lifted c a b sum limit e f r =
+        lifted (compared_fits c trees i j) (compared_fits c us p q) (compared c trees i j) (compared c us p q) sum limit (compared_fits_same c) (compared_same c)
+        (subst (λ x. IsRenamedBound facts (compared_fits c us x q) (compared c us x q) sum limit) e (subst (λ y. IsRenamedBound facts (compared_fits c us a y) (compared c us a y) sum limit) f r))
 
-    pub difference_lifted_at : (a b : ℕ) (sum : List Summand) (limit : ℤ) → a ≡ slice_index places i → b ≡ slice_index places j → IsRenamedBound facts (not_above_fits us a b) (folded_bound us a b) sum limit
-        → (not_above_fits trees i j ≡ true) × IsBoundOf (folded_bound trees i j) sum limit
-    difference_lifted_at a b sum limit e f r =
-        difference_lifted sum limit
-        (subst (λ x. IsRenamedBound facts (not_above_fits us x q) (folded_bound us x q) sum limit) e (subst (λ y. IsRenamedBound facts (not_above_fits us a y) (folded_bound us a y) sum limit) f r))
-
-    pub at_most_lifted_at : (a b : ℕ) (sum : List Summand) (limit : ℤ) → a ≡ slice_index places i → b ≡ slice_index places j → IsRenamedBound facts (not_above_fits us a b) (not_above us a b) sum limit
-        → (not_above_fits trees i j ≡ true) × IsBoundOf (not_above trees i j) sum limit
-    at_most_lifted_at a b sum limit e f r =
-        at_most_lifted sum limit
-        (subst (λ x. IsRenamedBound facts (not_above_fits us x q) (not_above us x q) sum limit) e (subst (λ y. IsRenamedBound facts (not_above_fits us a y) (not_above us a y) sum limit) f r))
-
-    pub below_lifted_at : (a b : ℕ) (sum : List Summand) (limit : ℤ) → a ≡ slice_index places i → b ≡ slice_index places j → IsRenamedBound facts (less_fits us a b) (below us a b) sum limit
-        → (less_fits trees i j ≡ true) × IsBoundOf (below trees i j) sum limit
-    below_lifted_at a b sum limit e f r =
-        below_lifted sum limit
-        (subst (λ x. IsRenamedBound facts (less_fits us x q) (below us x q) sum limit) e (subst (λ y. IsRenamedBound facts (less_fits us a y) (below us a y) sum limit) f r))
-
-    pub unfit_at : (a b : ℕ) → a ≡ slice_index places i → b ≡ slice_index places j → not_above_fits us a b ≡ false → not_above_fits trees i j ≡ false
-    unfit_at a b e f h = fits_same ∙ ap (λ x. not_above_fits us x q) (sym e) ∙ ap (λ y. not_above_fits us a y) (sym f) ∙ h
-
-    pub less_unfit_at : (a b : ℕ) → a ≡ slice_index places i → b ≡ slice_index places j → less_fits us a b ≡ false → less_fits trees i j ≡ false
-    less_unfit_at a b e f h = less_fits_same ∙ ap (λ x. less_fits us x q) (sym e) ∙ ap (λ y. less_fits us a y) (sym f) ∙ h
+    pub compared_unfit : (c : Comparison) (a b : ℕ) → a ≡ slice_index places i → b ≡ slice_index places j → compared_fits c us a b ≡ false → compared_fits c trees i j ≡ false
+    compared_unfit c a b e f h = compared_fits_same c ∙ ap (λ x. compared_fits c us x q) (sym e) ∙ ap (λ y. compared_fits c us a y) (sym f) ∙ h
 
 -- ---- bounds that are renamed
 

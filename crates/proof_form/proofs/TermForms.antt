@@ -22,21 +22,20 @@ abbrev renamed_forms : (ℕ → ℕ) → List Form → List Form
 renamed_forms r fs = map (renamed_form r) fs
 
 module _ (r : ℕ → ℕ) (a : Ascends r) where
-  less_same : (i j : ℕ) → nat_lt (r i) (r j) ≡ nat_lt i j
-  less_same i j = by (cases_lt i j) (cases_lt j i)
+  -- two places and what they are named by stand in the same order
+  in_order : {A : Type 0} (i j : ℕ) → (i < j → r i < r j → A) → (j < i → r j < r i → A) → (i ≡ j → r i ≡ r j → A) → A
+  in_order {A = A} i j before behind same = by (cases_lt i j) (cases_lt j i)
     where
-      by : (i < j) ⊎ (j ≤ i) → (j < i) ⊎ (i ≤ j) → nat_lt (r i) (r j) ≡ nat_lt i j
-      by (inl less) other = let b = a.at i j less in grind (arith, nat_tests)
-      by (inr from) (inl more') = let b = a.at j i more' in grind (arith, nat_tests)
-      by (inr from) (inr to) = let e : i ≡ j = omega arith in let f = ap r e in grind (arith, nat_tests)
+      by : (i < j) ⊎ (j ≤ i) → (j < i) ⊎ (i ≤ j) → A
+      by (inl less) other = before less (a.at i j less)
+      by (inr from) (inl more') = behind more' (a.at j i more')
+      by (inr from) (inr to) = let e : i ≡ j = omega arith in same e (ap r e)
+
+  less_same : (i j : ℕ) → nat_lt (r i) (r j) ≡ nat_lt i j
+  less_same i j = in_order i j (λ l b. grind (arith, nat_tests)) (λ l b. grind (arith, nat_tests)) (λ e f. grind (arith, nat_tests))
 
   same_same : (i j : ℕ) → nat_eq (r i) (r j) ≡ nat_eq i j
-  same_same i j = by (cases_lt i j) (cases_lt j i)
-    where
-      by : (i < j) ⊎ (j ≤ i) → (j < i) ⊎ (i ≤ j) → nat_eq (r i) (r j) ≡ nat_eq i j
-      by (inl less) other = let b = a.at i j less in grind (arith, nat_tests)
-      by (inr from) (inl more') = let b = a.at j i more' in grind (arith, nat_tests)
-      by (inr from) (inr to) = let e : i ≡ j = omega arith in let f = ap r e in grind (arith, nat_tests)
+  same_same i j = in_order i j (λ l b. grind (arith, nat_tests)) (λ l b. grind (arith, nat_tests)) (λ e f. grind (arith, nat_tests))
 
   -- ---- sums
 

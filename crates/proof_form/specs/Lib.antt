@@ -1,4 +1,5 @@
 pub mod Range
+pub mod Comparing
 pub mod Found
 pub mod Terms
 pub mod Kept

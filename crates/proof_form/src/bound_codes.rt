@@ -8,6 +8,7 @@ ghost use Rattle.proof_form.specs.BoundCodes.{HaveJoined};
 
 use crate::clauses::Clauses;
 use crate::terms::{Stop, Terms};
+use crate::terms_bounds::Comparison;
 use smt_meaning::{Summand, TermId};
 use std::alloc::{AllocError, Global};
 
@@ -60,7 +61,7 @@ pub(crate) fn push_difference(
     ensures same { terms.new ≡ terms.old }
 {
     let mut sum = Vec::new(alloc);
-    match terms.difference(left, right, &mut sum) {
+    match terms.compared(Comparison::Undivided, left, right, &mut sum) {
         Ok(limit) => {
             push_bound(clauses, codes, positive, sum.as_slice(), limit)?;
             Ok(true)

@@ -5,13 +5,15 @@ ghost use Rattle.smt_meaning.specs.declared.terms.Operator.TheVariants.{Equal as
 ghost use Rattle.smt_meaning.specs.declared.values.Sort.TheVariants.{Bool as Truths};
 ghost use Rattle.smt_meaning.specs.declared.clauses.Atom.TheVariants.{Truth, Same, AtMost};
 ghost use Rattle.proof_meaning.specs.Proof.{AreTerms, node_at};
-ghost use Rattle.proof_meaning.specs.Rules.{along, not_above, below};
-ghost use Rattle.proof_form.specs.Range.{neighbours_fit, not_above_fits, less_fits};
+ghost use Rattle.proof_meaning.specs.Rules.{along};
+ghost use Rattle.proof_form.specs.Range.{neighbours_fit};
+ghost use Rattle.proof_form.specs.Comparing.{compared, compared_fits};
 ghost use Rattle.proof_form.specs.FormParts.{relation_atom, relation_fits, IsKind, IsNumberOf, AreNumbersOf, IsNumbered, Extends};
 
 use crate::clauses::Clauses;
 use crate::form_values::Connective;
 use crate::terms::{Stop, Terms};
+use crate::terms_bounds::Comparison;
 use smt_meaning::{Operator, Sort, Summand, TermId};
 use std::alloc::AllocError;
 
@@ -182,45 +184,22 @@ fn number_bound(clauses: &mut Clauses, sum: &[Summand], limit: i128) -> Result<u
     Ok(code / 2)
 }
 
-/// Numbers the bound that the first term is at most the second, unless folding it leaves the range.
-fn number_at_most(
+/// Numbers the bound by which two terms compare, unless folding it leaves the range.
+fn number_compared(
     terms: &mut Terms<'_>,
     clauses: &mut Clauses,
+    comparison: Comparison,
     left: TermId,
     right: TermId,
     sum: &mut Vec<Summand>,
 ) -> Result<Option<u32>, AllocError>
     requires left { left < length terms.old.nodes }
     requires right { right < length terms.old.nodes }
-    ensures number { IfOk result (IsNumbered clauses.new.atoms (not_above terms.old.trees left right) (not_above_fits terms.old.trees left right)) }
+    ensures number { IfOk result (IsNumbered clauses.new.atoms (compared comparison terms.old.trees left right) (compared_fits comparison terms.old.trees left right)) }
     ensures more { Extends clauses.old clauses.new }
     ensures same { terms.new ≡ terms.old }
 {
-    match terms.at_most(left, right, sum) {
-        Ok(limit) => {
-            let number = number_bound(clauses, sum, limit)?;
-            Ok(Some(number))
-        }
-        Err(Stop::Range) => Ok(None),
-        Err(Stop::Memory) => Err(AllocError),
-    }
-}
-
-/// Numbers the bound that the first term is below the second, unless folding it leaves the range.
-fn number_below(
-    terms: &mut Terms<'_>,
-    clauses: &mut Clauses,
-    left: TermId,
-    right: TermId,
-    sum: &mut Vec<Summand>,
-) -> Result<Option<u32>, AllocError>
-    requires left { left < length terms.old.nodes }
-    requires right { right < length terms.old.nodes }
-    ensures number { IfOk result (IsNumbered clauses.new.atoms (below terms.old.trees left right) (less_fits terms.old.trees left right)) }
-    ensures more { Extends clauses.old clauses.new }
-    ensures same { terms.new ≡ terms.old }
-{
-    match terms.below(left, right, sum) {
+    match terms.compared(comparison, left, right, sum) {
         Ok(limit) => {
             let number = number_bound(clauses, sum, limit)?;
             Ok(Some(number))
@@ -250,10 +229,17 @@ fn number_pair(
             let number = number_same(clauses, left, right)?;
             Ok(Some(number))
         }
-        Relation::AtMost => number_at_most(terms, clauses, left, right, sum),
-        Relation::Less => number_below(terms, clauses, left, right, sum),
-        Relation::AtLeast => number_at_most(terms, clauses, right, left, sum),
-        Relation::Greater => number_below(terms, clauses, right, left, sum),
+        Relation::AtMost => number_compared(terms, clauses, Comparison::NotAbove, left, right, sum),
+        Relation::Less => number_compared(terms, clauses, Comparison::Below, left, right, sum),
+        Relation::AtLeast => number_compared(
+            terms,
+            clauses,
+            Comparison::NotAbove,
+            right,
+            left,
+            sum,
+        ),
+        Relation::Greater => number_compared(terms, clauses, Comparison::Below, right, left, sum),
     }
 }
 

@@ -1,6 +1,7 @@
 //! The terms of a proof: their nodes, sorts, linear forms, and which of the stack's terms they are.
 ghost use Rattle.std.specs.Prelude.{◌≡◌};
 
+use crate::terms_bounds::Comparison;
 use crate::terms_held::copy;
 use crate::terms_table::TermTable;
 use crate::{terms_bounds, terms_rows};
@@ -51,8 +52,7 @@ impl<'a> Terms<'a> {
     ghost use Rattle.smt_meaning.specs.declared.clauses.Atom.TheVariants.{AtMost};
     ghost use Rattle.smt_meaning.specs.Term.{tree_at};
     ghost use Rattle.proof_meaning.specs.Proof.{IsTerm, AreTerms, term_sort, meant, node_at};
-    ghost use Rattle.proof_meaning.specs.Rules.{not_above, below, folded_bound};
-    ghost use Rattle.proof_form.specs.Range.{not_above_fits, less_fits};
+    ghost use Rattle.proof_form.specs.Comparing.{compared, compared_fits};
     ghost use Rattle.proof_form.specs.Terms.{with_term, IsBoundOf};
 
     /// No term, beside a stack.
@@ -119,72 +119,26 @@ impl<'a> Terms<'a> {
         self.table.fact(place).held == Some(held)
     }
 
-    /// The difference of two terms as a bound, folded and not divided: that the first is at most the second. Leaves in the list, whatever it was before, the sum.
-    pub(crate) fn difference(
+    /// A bound by which two terms compare: in normal form, or folded and not divided. Leaves in the list, whatever it was before, the sum.
+    pub(crate) fn compared(
         &mut self,
+        comparison: Comparison,
         left: TermId,
         right: TermId,
         sum: &mut Vec<Summand>,
     ) -> Result<i128, Stop>
         requires left { left < length self.old.nodes }
         requires right { right < length self.old.nodes }
-        ensures ok { IfOk result (λ k. (not_above_fits self.old.trees left right ≡ true) × IsBoundOf (folded_bound self.old.trees left right) sum.new.items k) }
-        ensures range { result ≡ Err Stop.Range → not_above_fits self.old.trees left right ≡ false }
+        ensures ok { IfOk result (λ k. (compared_fits comparison self.old.trees left right ≡ true) × IsBoundOf (compared comparison self.old.trees left right) sum.new.items k) }
+        ensures range { result ≡ Err Stop.Range → compared_fits comparison self.old.trees left right ≡ false }
         ensures same { self.new ≡ self.old }
     {
         let left = self.table.places[left as usize];
         let right = self.table.places[right as usize];
-        terms_bounds::difference(
+        terms_bounds::compared(
             &mut self.table.forms,
             &self.table.distinct,
-            left,
-            right,
-            sum,
-        )
-    }
-
-    /// That the first term is at most the second, as a bound in normal form.
-    pub(crate) fn at_most(
-        &mut self,
-        left: TermId,
-        right: TermId,
-        sum: &mut Vec<Summand>,
-    ) -> Result<i128, Stop>
-        requires left { left < length self.old.nodes }
-        requires right { right < length self.old.nodes }
-        ensures ok { IfOk result (λ k. (not_above_fits self.old.trees left right ≡ true) × IsBoundOf (not_above self.old.trees left right) sum.new.items k) }
-        ensures range { result ≡ Err Stop.Range → not_above_fits self.old.trees left right ≡ false }
-        ensures same { self.new ≡ self.old }
-    {
-        let left = self.table.places[left as usize];
-        let right = self.table.places[right as usize];
-        terms_bounds::at_most(
-            &mut self.table.forms,
-            &self.table.distinct,
-            left,
-            right,
-            sum,
-        )
-    }
-
-    /// That the first term is below the second, as a bound in normal form.
-    pub(crate) fn below(
-        &mut self,
-        left: TermId,
-        right: TermId,
-        sum: &mut Vec<Summand>,
-    ) -> Result<i128, Stop>
-        requires left { left < length self.old.nodes }
-        requires right { right < length self.old.nodes }
-        ensures ok { IfOk result (λ k. (less_fits self.old.trees left right ≡ true) × IsBoundOf (below self.old.trees left right) sum.new.items k) }
-        ensures range { result ≡ Err Stop.Range → less_fits self.old.trees left right ≡ false }
-        ensures same { self.new ≡ self.old }
-    {
-        let left = self.table.places[left as usize];
-        let right = self.table.places[right as usize];
-        terms_bounds::below(
-            &mut self.table.forms,
-            &self.table.distinct,
+            comparison,
             left,
             right,
             sum,

@@ -8,12 +8,24 @@ ghost use Rattle.proof_form.specs.TermFacts.{fact_at};
 ghost use Rattle.proof_form.specs.TermRenaming.{renamed, first_at};
 ghost use Rattle.proof_form.specs.TermTable.{IsRenamedBound};
 ghost use Rattle.proof_form.specs.Range.{not_above_fits, less_fits};
+ghost use Rattle.proof_form.specs.Comparing.{compared, compared_fits};
 
 use crate::terms::Stop;
 use crate::terms_facts::Fact;
 use crate::terms_table::Distinct;
 use linear_forms::{DifferenceError, LinearForms};
 use smt_meaning::{Summand, TermId};
+
+/// The bound by which two terms compare.
+#[derive(Clone, Copy, PartialEq, Eq, Drop)]
+pub(crate) enum Comparison {
+    /// The first is at most the second, folded and not divided.
+    Undivided,
+    /// The first is at most the second.
+    NotAbove,
+    /// The first is below the second.
+    Below,
+}
 
 /// The first term with the tree at a place.
 fn first_at(facts: &[Fact], place: TermId) -> TermId
@@ -63,7 +75,7 @@ pub(crate) fn stop_of(error: DifferenceError) -> Stop
 }
 
 /// The difference of the trees at two places as a bound, folded and not divided, over the first terms with its leaves.
-pub(crate) fn difference(
+fn difference(
     forms: &mut LinearForms,
     distinct: &Distinct,
     left: TermId,
@@ -91,7 +103,7 @@ pub(crate) fn difference(
 }
 
 /// That the tree at one place is at most the one at another, as a bound in normal form over the first terms with its leaves.
-pub(crate) fn at_most(
+fn at_most(
     forms: &mut LinearForms,
     distinct: &Distinct,
     left: TermId,
@@ -119,7 +131,7 @@ pub(crate) fn at_most(
 }
 
 /// That the tree at one place is below the one at another, in the same way.
-pub(crate) fn below(
+fn below(
     forms: &mut LinearForms,
     distinct: &Distinct,
     left: TermId,
@@ -143,5 +155,29 @@ pub(crate) fn below(
             Ok(limit)
         }
         Err(error) => Err(stop_of(error)),
+    }
+}
+
+/// A bound by which the trees at two places compare, over the first terms with its leaves.
+pub(crate) fn compared(
+    forms: &mut LinearForms,
+    distinct: &Distinct,
+    comparison: Comparison,
+    left: TermId,
+    right: TermId,
+    sum: &mut Vec<Summand>,
+) -> Result<i128, Stop>
+    requires forms { AreForms (take (length forms.old) distinct.now.store.trees) forms.old }
+    requires left { left < length distinct.now.store.trees }
+    requires right { right < length distinct.now.store.trees }
+    requires count { length distinct.now.facts.items ≡ length distinct.now.store.trees }
+    ensures forms { AreForms (take (length forms.new) distinct.now.store.trees) forms.new }
+    ensures ok { IfOk result (λ k. IsRenamedBound distinct.now.facts.items (compared_fits comparison distinct.now.store.trees left right) (compared comparison distinct.now.store.trees left right) sum.new.items k) }
+    ensures range { result ≡ Err Stop.Range → compared_fits comparison distinct.now.store.trees left right ≡ false }
+{
+    match comparison {
+        Comparison::Undivided => difference(forms, distinct, left, right, sum),
+        Comparison::NotAbove => at_most(forms, distinct, left, right, sum),
+        Comparison::Below => below(forms, distinct, left, right, sum),
     }
 }

@@ -12,17 +12,24 @@ use Rattle.proof_read.specs.ReadSums.{stands_in, are_apart, are_above, are_risin
 abbrev one : ℕ → ℕ → ℕ
 one t n = if nat_eq t n then 1 else 0
 
+-- what the items of a list come to
+abbrev pub total : {A : Type 0} → (A → ℕ) → List A → ℕ
+total f [] = 0
+total f (x ∷ xs) = f x + total f xs
+
+total_is : {A : Type 0} (f : A → ℕ) (xs : List A) → total f xs ≡ sum_by f xs
+total_is {A = A} f [] = refl
+total_is {A = A} f (x ∷ xs) = ap (λ k. f x + k) (total_is f xs) ∙ sym (sum_by-cons f x xs)
+
+pub totals_alike : {A : Type 0} (f : A → ℕ) (xs ys : List A) → IsPermutation xs ys → total f xs ≡ total f ys
+totals_alike {A = A} f xs ys h = total_is f xs ∙ sym (sum_by-IsPermutation f xs ys h) ∙ sym (total_is f ys)
+
 -- how often a number stands in a list
 abbrev count : ℕ → List ℕ → ℕ
-count t [] = 0
-count t (n ∷ ns) = one t n + count t ns
-
-count_is : (t : ℕ) (ns : List ℕ) → count t ns ≡ sum_by (one t) ns
-count_is t [] = refl
-count_is t (n ∷ ns) = ap (λ k. one t n + k) (count_is t ns) ∙ sym (sum_by-cons (one t) n ns)
+count t = total (one t)
 
 counts_alike : (ns ms : List ℕ) → IsPermutation ns ms → (t : ℕ) → count t ns ≡ count t ms
-counts_alike ns ms h t = count_is t ns ∙ sym (sum_by-IsPermutation (one t) ns ms h) ∙ sym (count_is t ms)
+counts_alike ns ms h t = totals_alike (one t) ns ms h
 
 stands_counts : (t : ℕ) (ns : List ℕ) → stands_in t ns ≡ true → 1 ≤ count t ns
 stands_counts t [] h = absurd (cc)

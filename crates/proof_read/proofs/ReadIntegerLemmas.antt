@@ -1,5 +1,5 @@
 -- Integers that are read.
-use Rattle.std.proofs.Common.{◌≡◌, ℕ, ℤ, zero, suc, pos, negsuc, ◌+◌, ◌-ℤ◌, ◌^◌, ◌<◌, ◌≤◌, false, Some, ap, sym, ◌∙◌, refl, arith, List, length}
+use Rattle.std.proofs.Common.{◌≡◌, ℕ, ℤ, zero, suc, pos, negsuc, ◌-ℤ◌, ◌^◌, ◌<◌, ◌≤◌, false, Some, ap, sym, ◌∙◌, refl, arith, List}
 use mir.Syntax.{w128}
 use mir.Val.{to_z, of_z}
 use Rattle.std.proofs.lemmas.Int.{ints}
@@ -7,12 +7,11 @@ use Rattle.std.proofs.lemmas.Bool.{le-ltb, lt-ltb}
 use Rattle.fraction128.specs.Whole.{is_in_range}
 use Rattle.smt_meaning.specs.declared.tokens.Token.{Token}
 use Rattle.smt_meaning.specs.declared.tokens.Token.TheVariants.{Numeral}
-use Rattle.smt_meaning.specs.Sexp.{word, ◌▸◌}
 use Rattle.smt_meaning.specs.Sorts.{decimal}
 use Rattle.proof_meaning.specs.Reading.{below_zero, integer}
-use Rattle.look_ahead.specs.Ahead.{ahead}
 use Rattle.proof_read.specs.declared.read_parts.Progress.{Progress}
 use Rattle.proof_read.specs.ReadParts.{Notes, Takes, Passes, any}
+use Rattle.proof_read.proofs.ReadNumberLemmas.{takes_numeral}
 use Rattle.proof_read.proofs.ReadLemmas.{notes_exact, notes_large, notes_moved}
 
 negated_is : (m : ℕ) → suc m < 2 ^ 127 → to_z w128 (of_z w128 (pos 0 -ℤ to_z w128 (suc m))) ≡ negsuc m
@@ -38,13 +37,5 @@ below_zero_large (suc m) p v h =
 pub takes_integer : (ts : List Token) (old mid new : Progress) (cs : List ℕ) (v : ℤ) → Passes ts old mid (Numeral cs) → new.place ≡ mid.place → Notes is_in_range any mid v new (pos (decimal cs))
     → Takes ts integer is_in_range any old v new
 takes_integer ts old mid new cs v h e k =
-    let next : new.place ≡ old.place + 1 = e ∙ ap (λ (p : Progress). p.place) h.stepped_is in
-    let inside : old.place < length ts = h.within in record {
-      order = omega arith;
-      within = omega arith;
-      part = word (Numeral cs);
-      is = h.is ∙ ap (λ i. word (Numeral cs) ▸ ahead ts i) (sym next);
-      written = pos (decimal cs);
-      read = refl;
-      notes = notes_moved is_in_range any mid old new new v (pos (decimal cs)) (sym (ap (λ (p : Progress). p.fits) h.stepped_is)) (sym (ap (λ (p : Progress). p.near) h.stepped_is)) refl refl k;
-    }
+    takes_numeral ts integer is_in_range any old mid new cs v (pos (decimal cs)) h e refl
+    (notes_moved is_in_range any mid old new new v (pos (decimal cs)) (sym (ap (λ (p : Progress). p.fits) h.stepped_is)) (sym (ap (λ (p : Progress). p.near) h.stepped_is)) refl refl k)

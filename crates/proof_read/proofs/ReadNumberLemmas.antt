@@ -1,10 +1,10 @@
 -- The numbers that digits write.
-use Rattle.std.proofs.Common.{◌≡◌, ℕ, ◌+◌, ◌-◌, ◌*◌, ◌<◌, ◌≤◌, suc, List, [], ◌∷◌, get_or, drop, length, sym, ap, ◌∙◌, arith, Bool, true, false, subst, refl, nat_lt}
+use Rattle.std.proofs.Common.{Option, Some, ◌≡◌, ℕ, ◌+◌, ◌-◌, ◌*◌, ◌<◌, ◌≤◌, suc, List, [], ◌∷◌, get_or, drop, length, sym, ap, ◌∙◌, arith, Bool, true, false, subst, refl, nat_lt}
 use Rattle.std.proofs.Math.Seq.{drop-cons}
 use Rattle.std.proofs.lemmas.Bool.{le-ltb, lt-ltb}
 use Rattle.smt_meaning.specs.declared.tokens.Token.{Token}
 use Rattle.smt_meaning.specs.declared.tokens.Token.TheVariants.{Numeral}
-use Rattle.smt_meaning.specs.Sexp.{word, ◌▸◌}
+use Rattle.smt_meaning.specs.Sexp.{Sexp, word, ◌▸◌}
 use Rattle.smt_meaning.specs.Sorts.{decimal, decimal_from}
 use Rattle.proof_meaning.specs.Reading.{number}
 use Rattle.look_ahead.specs.Ahead.{ahead}
@@ -29,19 +29,24 @@ stays_above most cs i n h e k =
 
 -- ---- numbers that are read
 
-takes_number : (ts : List Token) (fits near : ℕ → Bool) (old mid new : Progress) (cs : List ℕ) (v : ℕ) → Passes ts old mid (Numeral cs) → new.place ≡ mid.place
-    → Notes fits near old v new (decimal cs) → Takes ts number fits near old v new
-takes_number ts fits near old mid new cs v h e k =
+-- what the digits of a numeral are read as
+pub takes_numeral : {A : Type 0} (ts : List Token) (f : Sexp → Option A) (fits near : A → Bool) (old mid new : Progress) (cs : List ℕ) (v w : A) → Passes ts old mid (Numeral cs) → new.place ≡ mid.place
+    → f (word (Numeral cs)) ≡ Some w → Notes fits near old v new w → Takes ts f fits near old v new
+takes_numeral {A = A} ts f fits near old mid new cs v w h e r k =
     let next : new.place ≡ old.place + 1 = e ∙ ap (λ (p : Progress). p.place) h.stepped_is in
     let inside : old.place < length ts = h.within in record {
       order = omega arith;
       within = omega arith;
       part = word (Numeral cs);
       is = h.is ∙ ap (λ i. word (Numeral cs) ▸ ahead ts i) (sym next);
-      written = decimal cs;
-      read = refl;
+      written = w;
+      read = r;
       notes = k;
     }
+
+takes_number : (ts : List Token) (fits near : ℕ → Bool) (old mid new : Progress) (cs : List ℕ) (v : ℕ) → Passes ts old mid (Numeral cs) → new.place ≡ mid.place
+    → Notes fits near old v new (decimal cs) → Takes ts number fits near old v new
+takes_number ts fits near old mid new cs v h e k = takes_numeral ts number fits near old mid new cs v (decimal cs) h e refl k
 
 -- a number below the bound
 pub takes_below : (ts : List Token) (fits near : ℕ → Bool) (old mid : Progress) (cs : List ℕ) (v : ℕ) → Passes ts old mid (Numeral cs) → fits (decimal cs) ≡ true → near (decimal cs) ≡ true

@@ -1,14 +1,12 @@
 -- The sum of summands, none of whose leaves stands twice, has them in the order of their leaves.
 use Rattle.std.proofs.Common.{◌≡◌, ℕ, ℤ, pos, negsuc, ◌+◌, ◌*◌, ◌<◌, ◌≤◌, List, [], ◌∷◌, ap, sym, subst, ◌∙◌, refl, arith, Bool, true, false, not, ◌&&◌, ◌||◌, nat_eq, nat_lt}
 use Rattle.std.specs.Prelude.{if◌then◌else◌}
-use Rattle.std.specs.List.{sum_by}
 use Rattle.std.specs.List.Sorted.{IsPermutation}
-use Rattle.std.proofs.lemmas.List.Sums.{sum_by-cons}
-use Rattle.std.proofs.lemmas.List.Sorted.{sum_by-IsPermutation}
 use Rattle.std.proofs.lemmas.Bool.Decides.{nat_tests}
 use Rattle.smt_meaning.specs.declared.clauses.Summand.{Summand}
 use Rattle.smt_meaning.specs.Linear.{is_zero, summand, unless_zero, placed, with_term, sums_added}
 use Rattle.proof_read.specs.ReadParts.{every}
+use Rattle.proof_read.proofs.ReadApartLemmas.{total, totals_alike}
 use Rattle.proof_read.specs.ReadSums.{stands_in, are_apart, are_above, are_rising, no_zero, terms_of}
 
 -- ---- one more summand
@@ -77,15 +75,10 @@ abbrev part : ℕ → Summand → ℕ
 part t p = if nat_eq t p.term then code p.coefficient else 0
 
 abbrev weight : ℕ → List Summand → ℕ
-weight t [] = 0
-weight t (p ∷ ps) = part t p + weight t ps
-
-weight_is : (t : ℕ) (ps : List Summand) → weight t ps ≡ sum_by (part t) ps
-weight_is t [] = refl
-weight_is t (p ∷ ps) = ap (λ k. part t p + k) (weight_is t ps) ∙ sym (sum_by-cons (part t) p ps)
+weight t = total (part t)
 
 weights_alike : (ps qs : List Summand) → IsPermutation ps qs → (t : ℕ) → weight t ps ≡ weight t qs
-weights_alike ps qs h t = weight_is t ps ∙ sym (sum_by-IsPermutation (part t) ps qs h) ∙ sym (weight_is t qs)
+weights_alike ps qs h t = totals_alike (part t) ps qs h
 
 weight_with : (t i : ℕ) (c : ℤ) (qs : List Summand) → is_zero c ≡ false → stands_in i (terms_of qs) ≡ false → weight t (with_term i c qs) ≡ part t (summand i c) + weight t qs
 weight_with t i c [] z h = ap (weight t) (kept i c [] z)

@@ -1,24 +1,22 @@
 -- A row of x at a half and at minus a half.
-use Rattle.std.proofs.Common.{◌≡◌, ◌≢◌, inl, inr, ℕ, zero, suc, ◌<◌, ◌*◌, ℤ, pos, negsuc, ◌*ℤ◌, ◌≤ℤ◌, neg_ℤ, sym, ap, ap₂, ◌∙◌, subst, refl, arith, List, [], ◌∷◌, map, length, true, false, Option, Some, None, Contains, All}
-use Rattle.std.specs.Prelude.{slice_index_or}
+use Rattle.std.proofs.Common.{◌≡◌, ◌≢◌, inl, inr, ℕ, zero, suc, ◌<◌, ◌*◌, ℤ, pos, negsuc, ◌*ℤ◌, ◌≤ℤ◌, neg_ℤ, sym, ap, ap₂, ◌∙◌, subst, refl, arith, List, [], ◌∷◌, map, true, false, Option, Some, None, Contains, All}
 use Rattle.std.proofs.lemmas.Int.{ints}
 use Rattle.std.proofs.lemmas.List.Elements.{All-nil, All-cons}
 use Rattle.fraction128.proofs.RingEquations as Ring
 use Rattle.fraction128.proofs.RingEquations.{var, product, minus, nothing, unit, solve}
 use Rattle.fraction128.proofs.RationalRing.{Rational, number, number_back, number_eq, number_neg, number_plus, number_times, rational_sum, rational_product, rational_zero, rational_negation, rational_one, rational_one-is, rationals}
 use Rattle.fraction128.proofs.LowestTerms.{pos_times}
-use Rattle.fraction128.proofs.RowValue.{ArePositive, row_value_positive, number_row_value}
+use Rattle.fraction128.proofs.RowValue.{dot}
 use Rattle.fraction128.proofs.SumValues.{sum_positive_value, number_sum_value, number_leaf}
 use Rattle.fraction128.specs.declared.ratio.Ratio.{Ratio}
-use Rattle.fraction128.specs.declared.Summand.{Summand}
 use Rattle.fraction128.specs.declared.Grid.{Grid}
 use Rattle.fraction128.specs.declared.Member.{Member}
 use Rattle.fraction128.specs.declared.Side.TheVariants.{Lower, Upper}
 use Rattle.fraction128.specs.Number.{whole, SameNumber, unreduced_sum, unreduced_product}
 use Rattle.fraction128.specs.Ratio.{IsFraction}
 use Rattle.fraction128.specs.Gcd.{gcd_of}
-use Rattle.fraction128.specs.Grid.{leaf, column_at, is_basic, value_at, row_value, MeetsRow, WithinBounds}
-use Rattle.fraction128.specs.Lines.{Bounding, AreSums, HasSum, IsBoundedBy, IsResting, IsEntry, IsRow, AreRows, IsSoundGrid, IsRowIn, IsBranchLine, sum_value, IsPositive, basic_member}
+use Rattle.fraction128.specs.Grid.{leaf, column_at, is_basic, value_at, MeetsRow, WithinBounds}
+use Rattle.fraction128.specs.Lines.{Bounding, AreSums, HasSum, IsBoundedBy, IsResting, IsEntry, IsRow, IsSoundGrid, IsRowIn, IsBranchLine, sum_value, IsPositive, basic_member}
 use Rattle.smt_meaning.specs.declared.clauses.Summand as Terms
 use Rattle.smt_meaning.specs.declared.clauses.Atom.{Atom}
 use Rattle.smt_meaning.specs.declared.clauses.Atom.TheVariants.{AtMost}
@@ -31,6 +29,7 @@ use Rattle.smt_meaning.specs.Boxes.{asserted_atoms, negation_at_most}
 use Rattle.smt_meaning.specs.CheckAtoms.{IsPartOfStack, IsLeaf, IsFirstAtom, IsKnownSum, IsBoundOf, IsStanding, Meets, IsReached, IsBranch}
 use Rattle.report_laws.specs.Sum.{x, y}
 use Rattle.report_laws.specs.Branch.{nought, one, sum, low, least, trees, frames, both, sums, halved, row, grid_at, at_half, at_minus_half, HalfIsABranch, MinusHalfIsNone}
+use Rattle.report_laws.proofs.TwoLeaves.{below_three, table_of, zero_fraction, one_fraction, minus_fraction, minus_one_is, one_not_none, minus_not_none, leaf_value, some_is, none_is, basic_is, sound_grid}
 use Rattle.report_laws.proofs.Listed.{in_cons, in_none}
 use Rattle.report_laws.proofs.Boxed.{negation_is, leaf_is}
 
@@ -72,52 +71,10 @@ nought_atom : IsFirstAtom trees frames (AtMost minus_both (pos 0))
 unfolding gcd_of
 nought_atom = inr (inl (record { left = nought; right = sum; left_part = nought_part; right_part = sum_part; one_sort = refl; among = (1, omega arith, refl) }))
 
-abbrev term_of : List Summand → ℕ
-term_of [] = 7
-term_of (p ∷ ps) = p.term
-
-leaves_apart : leaf 0 ≡ leaf 1 → ⊥
-leaves_apart e = let z : zero ≡ suc zero = ap term_of e in omega (arith, z)
-
-longer : (t : ℕ) → leaf t ≡ both → ⊥
-longer t e = omega (arith, ap length e)
-
-apart : (i j : ℕ) (d : List Summand) → i < j → j < 3 → slice_index_or sums i d ≢ slice_index_or sums j d
-apart zero (suc zero) d lt lj e = leaves_apart e
-apart zero (suc (suc zero)) d lt lj e = longer 0 e
-apart (suc zero) (suc (suc zero)) d lt lj e = longer 1 e
-apart zero zero d lt lj e = omega (arith, lt)
-apart (suc i) zero d lt lj e = omega (arith, lt)
-apart (suc i) (suc zero) d lt lj e = omega (arith, lt)
-apart (suc (suc i)) (suc (suc zero)) d lt lj e = omega (arith, lt)
-apart i (suc (suc (suc j))) d lt lj e = omega (arith, lj)
-
-filled : (p : Summand) (ps : List Summand) → p ∷ ps ≢ []
-filled p ps e = cc
-
 table : AreSums (IsKnownSum trees frames) sums
-table = record {
-  apart = λ i j d lt lj. apart i j d lt lj;
-  filled = All-cons (λ (ps : List Summand). ps ≢ []) (leaf 0) (leaf 1 ∷ both ∷ []) (filled _ _)
-      (All-cons (λ (ps : List Summand). ps ≢ []) (leaf 1) (both ∷ []) (filled _ _) (All-cons (λ (ps : List Summand). ps ≢ []) both [] (filled _ _) (All-nil _)));
-  known = All-cons (IsKnownSum trees frames) (leaf 0) (leaf 1 ∷ both ∷ []) (IsKnownSum.of_leaf 0 x_leaf refl)
-      (All-cons (IsKnownSum trees frames) (leaf 1) (both ∷ []) (IsKnownSum.of_leaf 1 y_leaf refl)
-      (All-cons (IsKnownSum trees frames) both [] (IsKnownSum.of_atom minus_both (negsuc 0) one_atom refl) (All-nil _)));
-}
+table = table_of both refl (IsKnownSum trees frames) (IsKnownSum.of_leaf 0 x_leaf refl) (IsKnownSum.of_leaf 1 y_leaf refl) (IsKnownSum.of_atom minus_both (negsuc 0) one_atom refl)
 
 -- ---- halves
-
-zero_fraction : IsFraction (whole (pos 0))
-unfolding gcd_of
-zero_fraction = record { positive = omega arith; lowest = refl; numerator_in = omega arith; denominator_in = omega arith }
-
-one_fraction : IsFraction (whole (pos 1))
-unfolding gcd_of
-one_fraction = record { positive = omega arith; lowest = refl; numerator_in = omega arith; denominator_in = omega arith }
-
-minus_fraction : IsFraction (whole (negsuc 0))
-unfolding gcd_of
-minus_fraction = record { positive = omega arith; lowest = refl; numerator_in = omega arith; denominator_in = omega arith }
 
 half_fraction : IsFraction (halved (pos 1))
 unfolding gcd_of
@@ -139,13 +96,7 @@ two_is = number_eq (whole (pos 2)) (unreduced_sum (whole (pos 1)) (whole (pos 1)
 two_halves : rational_sum half half ≡ rational_one
 two_halves = sym (number_plus (halved (pos 1)) (halved (pos 1)) (omega arith) (omega arith)) ∙ number_eq (unreduced_sum (halved (pos 1)) (halved (pos 1))) (whole (pos 1)) (omega arith) (omega arith) refl ∙ sym rational_one-is
 
-leaf_value : (w : ℕ → Ratio) (t : ℕ) → IsPositive w → SameNumber (sum_value w (leaf t)) (w t)
-leaf_value w t p = number_back (sum_value w (leaf t)) (w t) (sum_positive_value w (leaf t) p) (p t) (number_leaf w t p)
-
 -- ---- the row
-
-abbrev sums_at : (ℕ → Ratio) → ℕ → Ratio
-sums_at f i = sum_value f (slice_index_or sums i [])
 
 -- X = - h Y + h (2 X + Y)
 back_again : (X Y : Rational) → rational_sum (rational_product (rational_negation half) Y) (rational_sum (rational_product half (rational_sum (rational_product (rational_sum rational_one rational_one) X) (rational_sum (rational_product rational_one Y) rational_zero))) rational_zero) ≡ X
@@ -173,9 +124,6 @@ module _ (v : ℕ → Ratio) (p : IsPositive v) where
   lifted_positive : IsPositive (lifted v)
   lifted_positive zero = pos_times 2 (unreduced_sum (v 2) (unreduced_product (whole (negsuc 0)) (v 1))).denominator (omega arith) difference_positive
   lifted_positive (suc t) = p 1
-
-  minus_one_is : number (whole (negsuc 0)) ≡ rational_negation rational_one
-  minus_one_is = number_neg (whole (pos 1)) (omega arith) ∙ ap rational_negation (sym rational_one-is)
 
   lifted_first : number (lifted v 0) ≡ rational_product half (rational_sum (number (v 2)) (rational_product (rational_negation rational_one) (number (v 1))))
   lifted_first =
@@ -208,72 +156,24 @@ module _ (lower upper : Option ℤ) (k : ℤ) where
     ascending = (omega arith, (omega arith, tt));
     entries = All-cons (IsEntry g) (record { variable = 1; coefficient = halved (negsuc 0) }) (record { variable = 2; coefficient = halved (pos 1) } ∷ [])
         (record { fraction = minus_half_fraction; nonzero = minus_not_none; known = omega arith; free = refl })
-        (All-cons (IsEntry g) (record { variable = 2; coefficient = halved (pos 1) }) [] (record { fraction = half_fraction; nonzero = not_none; known = omega arith; free = refl }) (All-nil _));
+        (All-cons (IsEntry g) (record { variable = 2; coefficient = halved (pos 1) }) [] (record { fraction = half_fraction; nonzero = one_not_none; known = omega arith; free = refl }) (All-nil _));
   }
-    where
-      not_none : pos 1 ≢ pos 0
-      not_none e = cc
 
-      minus_not_none : negsuc 0 ≢ pos 0
-      minus_not_none e = cc
-
-  rows_are : AreRows g
-  rows_are = record { each = All-cons (IsRow g) row [] row_is (All-nil _); apart = λ i j d lt lj e. omega (arith, lt, lj) }
-
-  columns_are : (i : ℕ) → i < 3 → HasSum sums i (column_at g i)
-  columns_are zero lt = (omega arith, refl)
-  columns_are (suc zero) lt = (omega arith, refl)
-  columns_are (suc (suc zero)) lt = (omega arith, refl)
-  columns_are (suc (suc (suc i))) lt = absurd (omega (arith, lt))
-
-  identity : (f : ℕ → Ratio) → IsPositive f → MeetsRow (λ i. sum_value f (column_at g i).sum) row
+  identity : (f : ℕ → Ratio) → IsPositive f → number (sum_value f (leaf 0)) ≡ dot (λ i. number (sum_value f (column_at g i).sum)) row.entries
   identity f p =
-      let z : ℕ → Ratio = λ i. sum_value f (column_at g i).sum in
-      let fz : IsPositive z = λ i. sum_positive_value f (column_at g i).sum p in
-      let ones : ArePositive row.entries = (omega arith, (omega arith, tt)) in
-      number_back (sum_value f (leaf 0)) (row_value z row.entries) (sum_positive_value f (leaf 0) p) (row_value_positive z row.entries fz ones)
-      (number_leaf f 0 p ∙ sym (back_again (number (f 0)) (number (f 1)))
+      number_leaf f 0 p ∙ sym (back_again (number (f 0)) (number (f 1)))
       ∙ ap (λ m. rational_sum (rational_product m (number (f 1))) (rational_sum (rational_product half (rational_sum (rational_product (rational_sum rational_one rational_one) (number (f 0))) (rational_sum (rational_product rational_one (number (f 1))) rational_zero))) rational_zero)) (sym minus_half_is)
       ∙ ap₂ (λ s t. rational_sum (rational_product (number (halved (negsuc 0))) s) (rational_sum (rational_product half t) rational_zero)) (sym (number_leaf f 1 p)) (sym (both_value f p))
-      ∙ sym (number_row_value z row.entries fz ones))
-
-  independent : (v : ℕ → Ratio) (p : IsPositive v) (i : ℕ) → i < 3 → is_basic g.rows i ≡ false → SameNumber (sum_value (lifted v) (column_at g i).sum) (v i)
-  independent v p zero lt free = let z : true ≡ false = free in absurd (cc)
-  independent v p (suc zero) lt free = leaf_value (lifted v) 1 (lifted_positive v p)
-  independent v p (suc (suc zero)) lt free = lifted_both v p
-  independent v p (suc (suc (suc i))) lt free = absurd (omega (arith, lt))
 
   module _ (B : Bounding) (fk : IsFraction (whole k)) (fh : IsFraction (halved k)) (met : MeetsRow (value_at g) row)
       (bl : (j : ℤ) → lower ≡ Some j → B both Lower j) (bu : (j : ℤ) → upper ≡ Some j → B both Upper j) (rests : IsResting B (column_at g 2)) where
-    fractions : (i : ℕ) → i < 3 → IsFraction (value_at g i)
-    fractions zero lt = fh
-    fractions (suc zero) lt = zero_fraction
-    fractions (suc (suc zero)) lt = fk
-    fractions (suc (suc (suc i))) lt = absurd (omega (arith, lt))
-
-    bounded : (i : ℕ) → i < 3 → IsBoundedBy B (column_at g i)
-    bounded zero lt = record { lower = λ j e. absurd (cc); upper = λ j e. absurd (cc) }
-    bounded (suc zero) lt = record { lower = λ j e. absurd (cc); upper = λ j e. absurd (cc) }
-    bounded (suc (suc zero)) lt = record { lower = bl; upper = bu }
-    bounded (suc (suc (suc i))) lt = absurd (omega (arith, lt))
-
-    resting : (i : ℕ) → i < 3 → is_basic g.rows i ≡ false → IsResting B (column_at g i)
-    resting zero lt free = let z : true ≡ false = free in absurd (cc)
-    resting (suc zero) lt free = inl refl
-    resting (suc (suc zero)) lt free = rests
-    resting (suc (suc (suc i))) lt free = absurd (omega (arith, lt))
-
     sound : IsSoundGrid sums B g
-    sound = record {
-      columns = columns_are;
-      rows = rows_are;
-      identities = λ f p. All-cons (MeetsRow (λ i. sum_value f (column_at g i).sum)) row [] (identity f p) (All-nil _);
-      independent = λ v p. (lifted v, lifted_positive v p, independent v p);
-      fractions = fractions;
-      meets = All-cons (MeetsRow (value_at g)) row [] met (All-nil _);
-      bounded = bounded;
-      resting = resting;
-    }
+    sound = sound_grid (column_at g 0) (column_at g 1) (column_at g 2) row sums B row_is (omega arith, (omega arith, tt)) met identity lifted lifted_positive
+        (λ v p. below_three (λ i. is_basic g.rows i ≡ false → SameNumber (sum_value (lifted v) (column_at g i).sum) (v i)) basic_is (λ free. leaf_value (lifted v) 1 (lifted_positive v p)) (λ free. lifted_both v p))
+        (below_three (λ i. HasSum sums i (column_at g i)) (omega arith, refl) (omega arith, refl) (omega arith, refl))
+        (below_three (λ i. IsFraction (value_at g i)) fh zero_fraction fk)
+        (below_three (λ i. IsBoundedBy B (column_at g i)) (record { lower = λ j e. none_is j e; upper = λ j e. none_is j e }) (record { lower = λ j e. none_is j e; upper = λ j e. none_is j e }) (record { lower = bl; upper = bu }))
+        (below_three (λ i. is_basic g.rows i ≡ false → IsResting B (column_at g i)) basic_is (λ free. inl refl) (λ free. rests))
 
 all_within : (lower upper : Option ℤ) (k : ℤ) → WithinBounds (column_at (grid_at lower upper k) 2) → All WithinBounds (grid_at lower upper k).columns
 all_within lower upper k h zero d lt = refl
@@ -282,12 +182,6 @@ all_within lower upper k h (suc (suc zero)) d lt = h
 all_within lower upper k h (suc (suc (suc i))) d lt = absurd (omega (arith, lt))
 
 -- ---- bounds
-
-some_is : (j k : ℤ) → Some j ≡ Some k → j ≡ k
-some_is j k e = cc
-
-none_is : {X : Type 0} (k : ℤ) → None ≡ Some k → X
-none_is k e = cc
 
 above_one : IsBoundOf Is both Lower (pos 1)
 above_one = record { terms = minus_both; most = negsuc 0; positive = true; atom = one_atom; sum_is = refl; side_is = refl; number_is = refl }

@@ -4,6 +4,7 @@ mod Limited
 mod OneLeaf
 mod Five
 mod Past
+mod TwoLeaves
 mod Sum
 mod Chain
 mod Cores

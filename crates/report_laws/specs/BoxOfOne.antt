@@ -1,5 +1,5 @@
 -- The stack of (assert (<= 0 x 1)).
-use Rattle.std.specs.Prelude.{◌<◌, ◌^◌, ℤ, pos, negsuc, List, [], ◌∷◌, Contains}
+use Rattle.std.specs.Prelude.{◌<◌, ℤ, pos, negsuc, List, [], ◌∷◌, Contains}
 use Rattle.fraction128.specs.declared.Line.{Line}
 use Rattle.smt_meaning.specs.declared.terms.Operator.TheVariants.{AtMost as IsAtMost}
 use Rattle.smt_meaning.specs.declared.terms.Head.TheVariants.{Numeral, Theory}

@@ -4,7 +4,8 @@ use Rattle.search_port.proofs.Forcing.{in_map}
 use Rattle.first_clauses.specs.CheckClausesFirst.{HasPartAt, HasParts}
 use Rattle.first_clauses.proofs.CheckClausesKeeping.{part_stays}
 use Rattle.first_clauses.proofs.Asserting.{all_numbered}
-use Rattle.first_clauses.proofs.PartClausesKeeping.{are_assertions, all_asserted}
+use Rattle.check_atoms.proofs.Marking.{are_assertions}
+use Rattle.first_clauses.proofs.PartClausesKeeping.{all_asserted}
 use Rattle.first_clauses.proofs.Counting.{copied_within}
 use Rattle.first_clauses.proofs.clauses.check_clauses_counted.Goals as goal
 

@@ -7,7 +7,8 @@ use Rattle.first_clauses.specs.PartClausesFirst.{HasClause, IsBegun, IsClause}
 use Rattle.first_clauses.specs.Turned.{AreTurned, IsKeptTurned}
 use Rattle.first_clauses.proofs.PartClausesKeeping.{known_clause, on_ok}
 use Rattle.first_clauses.proofs.Following.{turned_is}
-use Rattle.first_clauses.proofs.Turning.{kept_so, no_pair_at}
+use Rattle.order_clauses.proofs.Soundness.{no_pair_at}
+use Rattle.first_clauses.proofs.Turning.{kept_so}
 use Rattle.first_clauses.specs.CheckClausesFirst.{reading_of}
 use Rattle.first_clauses.proofs.turn.keep_turned.Goals as goal
 

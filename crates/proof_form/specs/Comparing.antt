@@ -1,0 +1,19 @@
+-- The bounds by which two terms compare.
+use Rattle.std.specs.Prelude.{ℕ, Bool, List}
+use Rattle.smt_meaning.specs.declared.clauses.Atom.{Atom}
+use Rattle.smt_meaning.specs.Term.{Tree}
+use Rattle.proof_meaning.specs.Rules.{not_above, below, folded_bound}
+use Rattle.proof_form.specs.Range.{not_above_fits, less_fits}
+use Rattle.proof_form.specs.declared.terms_bounds.Comparison.{Comparison}
+use Rattle.proof_form.specs.declared.terms_bounds.Comparison.TheVariants.{Undivided, NotAbove, Below}
+
+abbrev pub compared : Comparison → List Tree → ℕ → ℕ → Atom
+compared Undivided ts = folded_bound ts
+compared NotAbove ts = not_above ts
+compared Below ts = below ts
+
+-- folding it stays in the range
+abbrev pub compared_fits : Comparison → List Tree → ℕ → ℕ → Bool
+compared_fits Undivided ts = not_above_fits ts
+compared_fits NotAbove ts = not_above_fits ts
+compared_fits Below ts = less_fits ts
