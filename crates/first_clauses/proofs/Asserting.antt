@@ -13,9 +13,8 @@ use Rattle.scope_stack.specs.Shown.{AreAsserted, IsLawful}
 use Rattle.linear_forms.specs.Table.{Known, AreForms}
 use Rattle.check_atoms.specs.Parts.{IsMarked}
 use Rattle.check_atoms.specs.Marks.{AreStackParts}
-use Rattle.check_atoms.proofs.Marking.{assertion_of_stack}
+use Rattle.check_atoms.proofs.Marking.{assertion_of_stack, are_assertions}
 use Rattle.check_atoms.specs.OfStack.{AreCheckAtoms}
-use Rattle.first_clauses.proofs.PartClausesKeeping.{are_assertions}
 use Rattle.first_clauses.proofs.Parts.{within, truth_numbered}
 
 module _ (s : Stack) (marks : List Bool) (law : IsLawful s) (parts : AreStackParts s marks) (table : List Atom) (known : List Known) (atoms : AreCheckAtoms s marks table) (forms : AreForms s.trees known) where
