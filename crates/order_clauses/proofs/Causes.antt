@@ -4,23 +4,22 @@ use Rattle.std.specs.Prelude.{flat_map}
 use Rattle.std.proofs.lemmas.List.Elements.{All-contains, All-cons, All-nil, All-tail, Contains-append_left, Contains-append_right}
 use Rattle.smt_meaning.specs.declared.clauses.Atom.{Atom}
 use Rattle.smt_meaning.specs.Term.{Tree}
-use Rattle.linear_forms.specs.declared.differences.DifferenceError.{DifferenceError}
-use Rattle.linear_forms.specs.declared.differences.DifferenceError.TheVariants.{Term as DifferenceTerm, Pair as DifferencePair}
 use Rattle.bound_clauses.specs.declared.orders.Order.{Order}
 use Rattle.bound_clauses.specs.Orders.{bound_atom}
 use Rattle.order_clauses.specs.declared.error.PartError.{PartError}
-use Rattle.order_clauses.specs.declared.error.PartError.TheVariants.{Missing, Term, Pair as PairError, Memory}
+use Rattle.order_clauses.specs.declared.error.PartError.TheVariants.{Missing, Term, Pair as PairError, Limit, Memory}
 use Rattle.order_clauses.specs.declared.pairs.Pair.{Pair}
 use Rattle.order_clauses.specs.Pairs.{same_atom, orders_of_pair}
 use Rattle.order_clauses.specs.Needed.{orders_tied, atoms_of_pair}
 use Rattle.order_clauses.specs.Errors.{IsCauseBy, IsRefused, IsCause}
 
 -- for more atoms and more that is refused
-pub wider_by : (table atoms atoms' : List Atom) (Refused Refused' : DifferenceError → Type 0) (e : PartError) → ((d : DifferenceError) → Refused d → Refused' d) → (All (Contains table) atoms' → All (Contains table) atoms)
+pub wider_by : (table atoms atoms' : List Atom) (Refused Refused' : PartError → Type 0) (e : PartError) → ((d : PartError) → Refused d → Refused' d) → (All (Contains table) atoms' → All (Contains table) atoms)
     → IsCauseBy table Refused atoms e → IsCauseBy table Refused' atoms' e
 wider_by table atoms atoms' Refused Refused' Missing more fewer h = λ all. h (fewer all)
-wider_by table atoms atoms' Refused Refused' (Term part) more fewer h = more (DifferenceTerm part) h
-wider_by table atoms atoms' Refused Refused' PairError more fewer h = more DifferencePair h
+wider_by table atoms atoms' Refused Refused' (Term part) more fewer h = more (Term part) h
+wider_by table atoms atoms' Refused Refused' (PairError o) more fewer h = more (PairError o) h
+wider_by table atoms atoms' Refused Refused' Limit more fewer h = more Limit h
 wider_by table atoms atoms' Refused Refused' Memory more fewer h = tt
 
 -- for more orders and more atoms

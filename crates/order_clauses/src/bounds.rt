@@ -6,7 +6,8 @@ ghost use Rattle.linear_forms.specs.Table.{AreForms};
 ghost use Rattle.bound_clauses.specs.Orders.{bound_atom};
 ghost use Rattle.bound_clauses.specs.declared.orders.Order.{Order as OrderValue};
 ghost use Rattle.order_clauses.specs.Clauses.{bound_number, constant_of, of_bound};
-ghost use Rattle.order_clauses.specs.Errors.{RefusesOrder, IsCause};
+ghost use Rattle.smt_meaning.specs.declared.clauses.Atom.{Atom};
+ghost use Rattle.order_clauses.specs.Errors.{RefusesFolding, IsCause};
 
 use crate::error::PartError;
 use crate::find::find_bound;
@@ -29,12 +30,23 @@ fn threshold_of(
     requires lesser { order.lesser < length trees }
     requires greater { order.greater < length trees }
     ensures bound { IfOk result (λ k. BoundAtom sum.new.items k ≡ bound_atom trees order) }
-    ensures refused { IfErr result (λ e. RefusesOrder trees order e) }
+    ensures refused { IfErr result (λ e. RefusesFolding trees order e) }
     ensures same { forms.new ≡ forms.old }
 {
     match order.sense {
         Sense::NotAbove => at_most(forms, order.lesser, order.greater, sum),
         Sense::Below => below(forms, order.lesser, order.greater, sum),
+    }
+}
+
+/// Why the bound of an order has no number, where folding it is refused.
+fn cause_of(error: DifferenceError, order: Order) -> PartError
+    ensures { (trees : List Tree) → (table : List Atom) → (atoms : List Atom) → RefusesFolding trees order error → IsCause trees table (order ∷ []) atoms result }
+{
+    match error {
+        DifferenceError::Term(part) => PartError::Term(part),
+        DifferenceError::Pair => PartError::Pair(order),
+        DifferenceError::Memory => PartError::Memory,
     }
 }
 
@@ -73,7 +85,10 @@ pub(crate) fn put_bound(
     ensures cause { IfErr result (λ e. IsCause trees atoms.now.atoms (order ∷ []) (bound_atom trees order ∷ []) e) }
     ensures same { forms.new ≡ forms.old }
 {
-    let threshold = threshold_of(forms, sum, order)?;
+    let threshold = match threshold_of(forms, sum, order) {
+        Ok(threshold) => threshold,
+        Err(error) => return Err(cause_of(error, order)),
+    };
     let number = find_bound(atoms, sum, threshold)?;
     put_if_constant(clauses, number, sum, threshold)?;
     Ok(number)

@@ -1,4 +1,5 @@
 //! Why clauses can't be put.
+use bound_clauses::Order;
 use linear_forms::DifferenceError;
 use smt_meaning::TermId;
 use std::alloc::{AllocError, AllocFailed};
@@ -10,8 +11,10 @@ pub enum PartError {
     Missing,
     /// Folding one of two terms that are compared, or of the terms of a division, leaves the range, and it does so at the part at this place.
     Term(TermId),
-    /// Folding the bound of two terms leaves the range, and folding each of the two doesn't; or so does a bound of a division, or its divisor by itself.
-    Pair,
+    /// Folding the bound that says this order leaves the range, and folding each of its two terms doesn't.
+    Pair(Order),
+    /// Folding a limit of the rows of a division leaves the range, and folding its terms doesn't; or its divisor isn't in the range.
+    Limit,
     /// Memory is wanting.
     Memory,
 }
@@ -47,7 +50,7 @@ impl From<DifferenceError> for PartError {
     fn from(error: DifferenceError) -> PartError {
         match error {
             DifferenceError::Term(part) => PartError::Term(part),
-            DifferenceError::Pair => PartError::Pair,
+            DifferenceError::Pair => PartError::Limit,
             DifferenceError::Memory => PartError::Memory,
         }
     }

@@ -300,7 +300,7 @@ fn put<L: Ledger>(
 /// Adds the clauses of the term at a place, which has this operator and the terms at these places as its arguments: of a comparison of Ints, of `=` and
 /// `distinct` of Ints, and of more than two terms of a declared sort, of `ite` of Ints, and of `div`, `mod`, `abs` and divisibility; of other terms none. They
 /// are over the table's numbers. The forms of the terms are known, and so are their sorts, by place. `Missing` says that an atom that the clauses are over has
-/// no number, `Term` and `Pair` that folding a bound of the part, or its divisor, leaves the range, and `Memory` that memory is wanting. An `Err` says nothing
+/// no number, `Term`, `Pair` and `Limit` that folding a bound of the part, or its divisor, leaves the range, and `Memory` that memory is wanting. An `Err` says nothing
 /// of the clauses. A step is a pair that a `distinct` compares.
 pub fn put_part<L: Ledger>(
     clauses: &mut Clauses,

@@ -9,8 +9,11 @@ use Rattle.order_clauses.proofs.bounds.put_bound.Goals as goal
 
 pub returns-in_err-number-clause-cause : goal.returns-in_err-number-clause-cause
 returns-in_err-number-clause-cause g c =
-    let same : AtMost c.deref.result.now (to_z w128 (of_z w128 c.in_ok-threshold.threshold)) ≡ bound_atom g.trees c.args.order = search rules in
-    let p = err_from_is_err_and c.from_residual-in_err-number.result c.from_residual-in_err-number.ensures.1 in
+    let same : AtMost c.deref.result.now (to_z w128 (of_z w128 c.in-Ok.threshold)) ≡ bound_atom g.trees c.args.order = search rules in
+    let p = err_from_is_err_and c.from_residual.result c.from_residual.ensures.1 in
     rw (p.1, p.2)
     (by_missing g.trees c.args.atoms.now.atoms (c.args.order ∷ []) (bound_atom g.trees c.args.order ∷ []) c.in_err-number.field-0.0 c.in_err-number.ensures.err.0
     (λ all. c.in_err-number.ensures.err.1 (subst (Contains c.args.atoms.now.atoms) (sym same) (All-head (Contains c.args.atoms.now.atoms) (bound_atom g.trees c.args.order) [] all))))
+
+pub returns-in-Err-clause-cause : goal.returns-in-Err-clause-cause
+returns-in-Err-clause-cause g c = c.cause_of.ensures g.trees c.args.atoms.now.atoms (bound_atom g.trees c.args.order ∷ []) c.in-Err.ensures.refused
