@@ -6,6 +6,8 @@ pub mod Triangular
 pub mod Following
 pub mod Shaped
 pub mod Parts
+pub mod Numbered
+pub mod Refusing
 pub mod Asserting
 pub mod Deciding
 pub mod CheckClausesKeeping

@@ -15,17 +15,19 @@ use Rattle.search_port.specs.State.{Reading, truth_atoms}
 use Rattle.smt_laws.specs.Flat.{flat}
 use Rattle.check_atoms.specs.Parts.{IsMarked}
 use Rattle.check_atoms.specs.AssertedDistinct.{IsAssertedDistinct}
-use Rattle.check_atoms.specs.OfStack.{IsNode}
+use Rattle.check_atoms.specs.OfStack.{IsNode, IsRefused as IsAtomRefused}
+use Rattle.check_atoms.specs.declared.refusal.Refusal.{Refusal}
+use Rattle.check_atoms.specs.declared.refusal.Refusal.TheVariants.{Term, Pair, Limit, Memory}
 use Rattle.order_clauses.specs.declared.error.PartError.{PartError}
+use Rattle.order_clauses.specs.declared.error.PartError.TheVariants.{Missing, Term as PartTerm, Pair as PartPair, Limit as PartLimit, Memory as PartMemory}
 use Rattle.order_clauses.specs.Clauses.{sort_at, part_clauses_of}
-use Rattle.order_clauses.specs.Errors.{IsPartCause}
 use Rattle.clause_form.specs.Node.{literals_of_node}
 use Rattle.atom_form.specs.AtomTableNumbers.{IsAt}
 use Rattle.first_clauses.specs.Numbers.{AreNumbers}
 use Rattle.first_clauses.specs.Turned.{IsKeptTurned}
 use Rattle.first_clauses.specs.PartClausesFirst.{IsBegun, IsAsserted, HasClause, ForcesParts}
 use Rattle.first_clauses.specs.declared.error.FirstError.{FirstError}
-use Rattle.first_clauses.specs.declared.error.FirstError.TheVariants.{Part, NotLinear, Memory}
+use Rattle.first_clauses.specs.declared.error.FirstError.TheVariants.{Refused, NotLinear}
 
 -- by what the clauses are read: the atom of each number, to which more may come, and all levels of the stack as one
 abbrev pub reading_of : Stack → List Atom → Reading
@@ -62,20 +64,20 @@ HasPartAt s marks sorts table clauses p = (o : Operator) (is : List ℕ) → IsM
 abbrev pub HasParts : Stack → List Bool → List Sort → List Atom → List Kept → Type 0
 HasParts s marks sorts table clauses = (p : ℕ) → HasPartAt s marks sorts table clauses p
 
--- why the clauses of the part at this place can't be put
-pub record RefusesPart (s : Stack) (marks : List Bool) (sorts : List Sort) (table : List Atom) (place : ℕ) (e : PartError) : Type 0 where
-  pub marked : IsMarked marks place
-  pub operator : Operator
-  pub arguments : List ℕ
-  pub term : IsNode s.trees place (Theory operator) arguments
-  pub cause : IsPartCause sorts s.trees table operator place arguments e
+-- what it comes to that the clauses of the part at a place can't be put
+abbrev pub IsRefusalOf : ℕ → PartError → Refusal → Type 0
+IsRefusalOf place Missing r = ⊥
+IsRefusalOf place (PartTerm part) r = r ≡ Term part
+IsRefusalOf place (PartPair o) r = r ≡ Pair place o
+IsRefusalOf place PartLimit r = r ≡ Limit place
+IsRefusalOf place PartMemory r = r ≡ Memory
 
 -- the part at this place isn't linear
 pub record IsNotLinear (s : Stack) (marks : List Bool) (place : ℕ) : Type 0 where
   pub marked : IsMarked marks place
   pub unlike : is_linear (tree_at s.trees place) ≡ false
 
-abbrev pub IsRefused : Stack → List Bool → List Sort → List Atom → FirstError → Type 0
-IsRefused s marks sorts table (Part place e) = RefusesPart s marks sorts table place e
-IsRefused s marks sorts table (NotLinear place) = IsNotLinear s marks place
-IsRefused s marks sorts table Memory = Unit {0}
+-- memory is wanting, or folding a bound or the divisor of a part leaves the range; or a part isn't linear
+abbrev pub IsRefused : Stack → List Bool → FirstError → Type 0
+IsRefused s marks (Refused r) = IsAtomRefused s r
+IsRefused s marks (NotLinear place) = IsNotLinear s marks place

@@ -89,7 +89,7 @@ pub fn check_clauses_counted<L: Ledger>(
     requires forms { AreForms stack.now.trees parts.old.forms }
     ensures first { IfOk result (IsFirst stack.now parts.old.atoms.atoms) }
     ensures parts { IfOk result (λ store. HasParts stack.now parts.old.marks.items sorts.now parts.old.atoms.atoms store.clauses) }
-    ensures refused { IfErr result (IsRefused stack.now parts.old.marks.items sorts.now parts.old.atoms.atoms) }
+    ensures refused { IfErr result (IsRefused stack.now parts.old.marks.items) }
     ensures same { parts.new ≡ parts.old }
     ensures rise { steps.old ≤ steps.new }
     ensures few { steps.new ≤ steps.old + parts_below parts.old.marks.items (length stack.now.trees) + pairs_below stack.now.trees parts.old.marks.items (length stack.now.trees) }
@@ -132,7 +132,7 @@ fn check_clauses_from<L: Ledger>(
     requires forms { AreForms stack.now.trees parts.old.forms }
     ensures first { IfOk result (IsFirst stack.now parts.old.atoms.atoms) }
     ensures parts { IfOk result (λ store. HasParts stack.now parts.old.marks.items sorts.now parts.old.atoms.atoms store.clauses) }
-    ensures refused { IfErr result (IsRefused stack.now parts.old.marks.items sorts.now parts.old.atoms.atoms) }
+    ensures refused { IfErr result (IsRefused stack.now parts.old.marks.items) }
     ensures same { parts.new ≡ parts.old }
 {
     check_clauses_counted(alloc, stack, sorts, parts, &mut Steps::<L>::new(blank))
@@ -140,7 +140,7 @@ fn check_clauses_from<L: Ledger>(
 
 /// The clauses that a search begins with, at level 0: of each part that is a node of Bools those of its operator over their truths, of each other part those that tie
 /// it to what it compares or chooses, but of a wide `distinct` that is an assertion, of terms that are no Bools, none, and for each assertion the clause that it is true. They force the clauses of each part. Of each triangle that is one, two
-/// equalities give the third, and of each diamond what it says. An `Err` says that memory is wanting, or which part's clauses can't be put and why. The atoms and the forms stay as they are.
+/// equalities give the third, and of each diamond what it says. An `Err` says that memory is wanting, of which part folding a bound or the divisor leaves the range, or which part isn't linear. The atoms and the forms stay as they are.
 pub fn check_clauses(
     alloc: Global,
     stack: &Stack,
@@ -153,7 +153,7 @@ pub fn check_clauses(
     requires forms { AreForms stack.now.trees parts.old.forms }
     ensures first { IfOk result (IsFirst stack.now parts.old.atoms.atoms) }
     ensures parts { IfOk result (λ store. HasParts stack.now parts.old.marks.items sorts.now parts.old.atoms.atoms store.clauses) }
-    ensures refused { IfErr result (IsRefused stack.now parts.old.marks.items sorts.now parts.old.atoms.atoms) }
+    ensures refused { IfErr result (IsRefused stack.now parts.old.marks.items) }
     ensures same { parts.new ≡ parts.old }
 {
     check_clauses_from::<Brand>(alloc, stack, sorts, parts, Blank::new(1))

@@ -22,7 +22,7 @@ ghost use Rattle.first_clauses.specs.Counted.{pairs_of_tree, if_marked, parts_be
 ghost use Rattle.first_clauses.specs.Shapes.{AreFlags};
 
 use crate::bools::{Space as BoolSpace, are_bools, keep_bools};
-use crate::error::FirstError;
+use crate::error::{FirstError, refusal_of};
 use crate::keep_all;
 use crate::shapes::linear_terms;
 use atom_form::AtomNumbers;
@@ -120,7 +120,7 @@ fn keep_node<L: Ledger>(
     ensures begun { OnOk result (IsBegun (reading_of stack.now atoms.now.atoms) store.new) }
     ensures stay { (c : Kept) → Contains store.old.clauses c → Contains store.new.clauses c }
     ensures has { OnOk result (HasPart stack.now sorts.now atoms.now.atoms store.new.clauses place operator arguments.now) }
-    ensures err { IfErr result (IsRefused stack.now marks.now sorts.now atoms.now.atoms) }
+    ensures err { IfErr result (IsRefused stack.now marks.now) }
     ensures same { forms.new ≡ forms.old }
     ensures rise { steps.old ≤ steps.new }
     ensures few { steps.new ≤ steps.old + distinct_pairs operator (length arguments.now) }
@@ -146,7 +146,7 @@ fn keep_node<L: Ledger>(
         stack, sorts, forms, atoms, space, store, place, operator, arguments, steps,
     ) {
         Ok(()) => Ok(()),
-        Err(error) => Err(FirstError::Part(place, error)),
+        Err(error) => Err(FirstError::Refused(refusal_of(place, error))),
     }
 }
 
@@ -173,7 +173,7 @@ fn keep_place<L: Ledger>(
     ensures begun { OnOk result (IsBegun (reading_of stack.now atoms.now.atoms) store.new) }
     ensures stay { (c : Kept) → Contains store.old.clauses c → Contains store.new.clauses c }
     ensures has { OnOk result (HasPartAt stack.now marks.now sorts.now atoms.now.atoms store.new.clauses place) }
-    ensures err { IfErr result (IsRefused stack.now marks.now sorts.now atoms.now.atoms) }
+    ensures err { IfErr result (IsRefused stack.now marks.now) }
     ensures same { forms.new ≡ forms.old }
     ensures rise { steps.old ≤ steps.new }
     ensures few { steps.new ≤ steps.old + if_marked marks.now place 1 + if_marked marks.now place (pairs_of_tree (tree_at stack.now.trees place)) }
@@ -226,7 +226,7 @@ pub(crate) fn keep_parts<L: Ledger>(
     requires begun { IsBegun (reading_of stack.now atoms.now.atoms) store.old }
     ensures begun { OnOk result (IsBegun (reading_of stack.now atoms.now.atoms) store.new) }
     ensures has { OnOk result (HasParts stack.now marks.now sorts.now atoms.now.atoms store.new.clauses) }
-    ensures err { IfErr result (IsRefused stack.now marks.now sorts.now atoms.now.atoms) }
+    ensures err { IfErr result (IsRefused stack.now marks.now) }
     ensures same { forms.new ≡ forms.old }
     ensures rise { steps.old ≤ steps.new }
     ensures few { steps.new ≤ steps.old + parts_below marks.now (length stack.now.trees) + pairs_below stack.now.trees marks.now (length stack.now.trees) }

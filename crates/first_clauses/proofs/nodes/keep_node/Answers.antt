@@ -10,6 +10,7 @@ use Rattle.order_clauses.specs.Sound.{HasSort}
 use Rattle.first_clauses.specs.CheckClausesFirst.{AreBools}
 use Rattle.first_clauses.proofs.Parts.{arguments_marked, has_sort, bool_sort, all_readable, truth_numbered}
 use Rattle.first_clauses.proofs.Counting.{bools_compare}
+use Rattle.first_clauses.proofs.Refusing.{never_missing, part_refused}
 use Rattle.first_clauses.proofs.nodes.keep_node.Goals as goal
 
 pub keep_bools-requires-clause-numbered : goal.keep_bools-requires-clause-numbered
@@ -73,3 +74,15 @@ returns-then-are_bools-clause-has g c = record {
 pub returns-then-are_bools-clause-counted : goal.returns-then-are_bools-clause-counted
 returns-then-are_bools-clause-counted g c =
     bools_compare c.args.stack.now c.args.marks.now c.args.sorts.now c.args.place c.args.operator c.args.arguments.now c.args.steps.now c.args.steps.now (c.are_bools.ensures.yes c.if-are_bools.true) refl
+
+pub refusal_of-requires : goal.refusal_of-requires
+refusal_of-requires g c =
+    let r = c.requires in
+    never_missing c.args.stack.now c.args.marks.now c.laws.ensures r.parts c.args.sorts.now r.sorts c.args.atoms.now.atoms r.atoms c.args.operator c.args.place c.args.arguments.now r.marked r.node c.args.forms.now r.forms
+    (c.is_asserted_distinct.ensures.no c.if-is_asserted_distinct.false) c.in-Err.error c.in-Err.ensures.cause
+
+pub returns-in-Err-clause-err : goal.returns-in-Err-clause-err
+returns-in-Err-clause-err g c =
+    let r = c.requires in
+    part_refused c.args.stack.now c.args.marks.now c.laws.ensures r.parts c.args.sorts.now r.sorts c.args.atoms.now.atoms r.atoms c.args.operator c.args.place c.args.arguments.now r.marked r.node c.in-Err.error
+    c.refusal_of.result c.in-Err.ensures.cause c.refusal_of.ensures
