@@ -191,7 +191,7 @@ module _ (ds : List Declaration) (ts : List Tree) (table : List Atom) where
 
 -- ---- of a part
 
-module _ (ds : List Declaration) (ts : List Tree) (sorts : List Sort) (table : List Atom) where
+module _ (ds : List Declaration) (ts : List Tree) (sorts : List Sort) where
   -- where all listed sorts of these are one, so are those that they have
   pub same_sorts : (r : Sort) (is : List ℕ) → All (HasSort ds ts sorts) is → all_of r (map (sort_at sorts) is) ≡ true → All (λ k. sort_of ds ts k ≡ Some r) is
   same_sorts r [] s h = All-nil (λ k. sort_of ds ts k ≡ Some r)
@@ -200,6 +200,7 @@ module _ (ds : List Declaration) (ts : List Tree) (sorts : List Sort) (table : L
       (All-head (HasSort ds ts sorts) i is s ∙ ap Some (sym (sort_is r (sort_at sorts i) (left_true (sort_eq r (sort_at sorts i)) (all_of r (map (sort_at sorts) is)) h))))
       (same_sorts r is (All-tail (HasSort ds ts sorts) i is s) (right_true (sort_eq r (sort_at sorts i)) (all_of r (map (sort_at sorts) is)) h))
 
+module _ (ds : List Declaration) (ts : List Tree) (sorts : List Sort) (table : List Atom) where
   module _ (p : ℕ) (is : List ℕ) (sorted : All (HasSort ds ts sorts) (p ∷ is)) (truths : HaveTruths ds ts table (p ∷ is)) where
     abbrev own : HasSort ds ts sorts p
     own = All-head (HasSort ds ts sorts) p is sorted
@@ -231,14 +232,14 @@ module _ (ds : List Declaration) (ts : List Tree) (sorts : List Sort) (table : L
       let others : All (HasSort ds ts sorts) (i ∷ is) = All-tail (HasSort ds ts sorts) p (i ∷ is) s in
       equal_in ds ts table (sort_at sorts i) p i is (own_truth p (i ∷ is) s t says.1)
       (All-cons (λ k. sort_of ds ts k ≡ Some (sort_at sorts i)) i is (All-head (HasSort ds ts sorts) i is others)
-      (same_sorts (sort_at sorts i) is (All-tail (HasSort ds ts sorts) i is others) says.0)) h
+      (same_sorts ds ts sorts (sort_at sorts i) is (All-tail (HasSort ds ts sorts) i is others) says.0)) h
   part_numbered Distinct p [] e s t h = All-nil (Contains table)
   part_numbered Distinct p (i ∷ is) e s t h =
       let says = asks p (i ∷ is) s t Distinct (all_of (sort_at sorts i) (map (sort_at sorts) is)) e refl in
       let others : All (HasSort ds ts sorts) (i ∷ is) = All-tail (HasSort ds ts sorts) p (i ∷ is) s in
       distinct_in ds ts table (sort_at sorts i) p i is (own_truth p (i ∷ is) s t says.1)
       (All-cons (λ k. sort_of ds ts k ≡ Some (sort_at sorts i)) i is (All-head (HasSort ds ts sorts) i is others)
-      (same_sorts (sort_at sorts i) is (All-tail (HasSort ds ts sorts) i is others) says.0)) h
+      (same_sorts ds ts sorts (sort_at sorts i) is (All-tail (HasSort ds ts sorts) i is others) says.0)) h
   part_numbered Ite p (c ∷ i ∷ j ∷ []) e s t h =
       let own : HasSort ds ts sorts p = All-head (HasSort ds ts sorts) p (c ∷ i ∷ j ∷ []) s in
       let others : All (HasSort ds ts sorts) (c ∷ i ∷ j ∷ []) = All-tail (HasSort ds ts sorts) p (c ∷ i ∷ j ∷ []) s in

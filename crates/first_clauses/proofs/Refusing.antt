@@ -1,5 +1,5 @@
 -- Where the clauses of a part can't be put though its atoms have numbers, numbering its atoms would be refused.
-use Rattle.std.proofs.Common.{◌≡◌, inl, inr, ℕ, Bool, true, false, ◌&&◌, List, [], ◌∷◌, ◌++◌, length, map, All, Contains, refl, sym, ap, subst, ◌∙◌}
+use Rattle.std.proofs.Common.{◌≡◌, ◌⊎◌, inl, inr, ℕ, Bool, true, false, ◌&&◌, List, [], ◌∷◌, ◌++◌, length, map, All, Contains, refl, sym, ap, subst, ◌∙◌}
 use Rattle.std.specs.Prelude.{flat_map, IsTrue, Option, Some, nat_eq, if◌then◌else◌}
 use Rattle.std.proofs.lemmas.List.Elements.{All-cons, All-nil, All-head, All-tail, All-append, All-contains, All-weaker, Contains-append_right}
 use Rattle.smt_meaning.specs.declared.values.Sort.{Sort}
@@ -228,7 +228,7 @@ module _ (s : Stack) (sorts : List Sort) (table : List Atom) (o : Operator) (p :
       (refused_part (RefusedTerm q) (inl (record { order = h.order; among = order_among h.order h.among; refuses = folding h.order _ h.refuses })))
   by_order (PartPair x) r h i =
       subst (IsAtomRefused s) (sym i)
-      (refused_part (RefusedPair p x) (inl (record { order = h.order; among = order_among h.order h.among; refuses = (refl, (h.refuses.0, folding h.order _ h.refuses.1)) })))
+      (refused_part (RefusedPair p x) (inl (record { order = h.order; among = order_among h.order h.among; refuses = (refl, h.refuses.0, folding h.order _ h.refuses.1) })))
   by_order PartLimit r h i = absurd h.refuses
   by_order PartMemory r h i = absurd h.refuses
 
