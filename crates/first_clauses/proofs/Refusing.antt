@@ -18,6 +18,7 @@ use Rattle.smt_meaning.specs.Report.{IsPartOfStack}
 use Rattle.smt_meaning.specs.Nodes.{pick}
 use Rattle.smt_laws.specs.Rows.{place_divisor}
 use Rattle.linear_forms.specs.declared.differences.DifferenceError.{DifferenceError}
+use Rattle.linear_forms.specs.declared.differences.DifferenceError.TheVariants.{Term as FoldedTerm, Pair as FoldedPair}
 use Rattle.linear_forms.specs.Differences.{Refuses}
 use Rattle.linear_forms.specs.Table.{Known, AreForms}
 use Rattle.scope_stack.specs.Facts.{AreSorts}
@@ -225,10 +226,10 @@ module _ (s : Stack) (sorts : List Sort) (table : List Atom) (o : Operator) (p :
   by_order Missing r h i = absurd i
   by_order (PartTerm q) r h i =
       subst (IsAtomRefused s) (sym i)
-      (refused_part (RefusedTerm q) (inl (record { order = h.order; among = order_among h.order h.among; refuses = folding h.order _ h.refuses })))
+      (refused_part (RefusedTerm q) (inl (record { order = h.order; among = order_among h.order h.among; refuses = folding h.order (FoldedTerm q) h.refuses })))
   by_order (PartPair x) r h i =
       subst (IsAtomRefused s) (sym i)
-      (refused_part (RefusedPair p x) (inl (record { order = h.order; among = order_among h.order h.among; refuses = (refl, h.refuses.0, folding h.order _ h.refuses.1) })))
+      (refused_part (RefusedPair p x) (inl (record { order = h.order; among = order_among h.order h.among; refuses = (refl, h.refuses.0, folding h.order FoldedPair h.refuses.1) })))
   by_order PartLimit r h i = absurd h.refuses
   by_order PartMemory r h i = absurd h.refuses
 
