@@ -4,6 +4,8 @@
 Use: bench/families.py write FOLDER SEED                            writes the scripts, drawn anew by the seed
      bench/families.py run FOLDER SECONDS NAME=PROGRAM [NAME=..]    runs each program on each script (z3 and cvc5 by these names, another one as smt_cli with its words),
                                                                     and keeps what was measured in FOLDER/NAME.json; what is kept isn't run again
+     bench/families.py clock FOLDER SECONDS NAME=PROGRAM [NAME=..]  the same by the clock, as for a program with several workers, over the families in which forgetting decides: random clauses, parities,
+                                                                    quasigroups, pigeons. They need processors of their own
      bench/families.py table FOLDER NAME [NAME ..]                  of each family how many scripts are answered whole in time, and the geometric mean of the seconds, a script that
                                                                     isn't counting as the limit; then each answer that differs from the first name's
 """
@@ -14,6 +16,7 @@ import random
 import resource
 import subprocess
 import sys
+import time
 
 sys.path.insert(0, os.path.dirname(os.path.abspath(__file__)))
 import generated
@@ -171,6 +174,9 @@ FAMILIES = {
     rounds: ((2000, "Bool", False), (5000, "Bool", False), (20000, "Bool", False), (5000, "Int", False), (20000, "Int", False), (2000, "Bool", True), (5000, "Bool", True), (5000, "Int", True)),
 }
 
+# those in which forgetting learnt clauses decides
+FORGETTING = ("drawn", "parity", "quasigroup", "pigeons")
+
 
 def scripts():
     return [(make.__name__, f"{make.__name__}-{at}") for make, sizes in FAMILIES.items() for at in range(len(sizes))]
@@ -189,32 +195,34 @@ def command(name, program):
     return [program, "-in"] if name.startswith("z3") else program.split()
 
 
-def measured(words, script, seconds):
-    """The answers, the seconds of processor time and the MB at most, and whether all came."""
+def measured(words, script, seconds, by_clock):
+    """The answers, the seconds of processor time, or of the clock, and the MB at most, and whether all came."""
 
     def limited():
-        resource.setrlimit(resource.RLIMIT_CPU, (seconds, seconds + 1))
+        resource.setrlimit(resource.RLIMIT_CPU, (64 * seconds if by_clock else seconds, 64 * seconds + 1))
         resource.setrlimit(resource.RLIMIT_AS, (4 << 30, 4 << 30))
 
     with open(script) as text:
         wanted = text.read().count("(check-sat")
+    words = ["timeout", str(seconds), *words] if by_clock else words
+    began = time.monotonic()
     with open(script) as given, subprocess.Popen(words, stdin=given, stdout=subprocess.PIPE, stderr=subprocess.DEVNULL, preexec_fn=limited) as ran:
         said = ran.stdout.read().decode(errors="replace")
         _, _, used = os.wait4(ran.pid, 0)
         ran.returncode = 0
     answers = [line for line in said.split("\n") if line in ("sat", "unsat", "unknown")]
-    spent = used.ru_utime + used.ru_stime
+    spent = time.monotonic() - began if by_clock else used.ru_utime + used.ru_stime
     return {"answers": answers, "seconds": round(spent, 3), "mb": used.ru_maxrss // 1024, "whole": len(answers) == wanted and "unknown" not in answers and spent < seconds}
 
 
-def run(folder, seconds, programs):
+def run(folder, seconds, programs, by_clock=False):
     for given in programs:
         name, program = given.split("=", 1)
         file = f"{folder}/{name}.json"
         kept = json.load(open(file)) if os.path.exists(file) else {}
-        for _, script in scripts():
-            if script not in kept:
-                kept[script] = measured(command(name, program), f"{folder}/{script}.smt2", seconds)
+        for family, script in scripts():
+            if script not in kept and (not by_clock or family in FORGETTING):
+                kept[script] = measured(command(name, program), f"{folder}/{script}.smt2", seconds, by_clock)
                 with open(file, "w") as out:
                     json.dump(kept, out)
         print(name, sum(it["whole"] for it in kept.values()), "of", len(kept))
@@ -242,7 +250,7 @@ def table(folder, names):
 if __name__ == "__main__":
     if sys.argv[1] == "write":
         write_all(sys.argv[2], sys.argv[3])
-    elif sys.argv[1] == "run":
-        run(sys.argv[2], int(sys.argv[3]), sys.argv[4:])
+    elif sys.argv[1] in ("run", "clock"):
+        run(sys.argv[2], int(sys.argv[3]), sys.argv[4:], sys.argv[1] == "clock")
     else:
         table(sys.argv[2], sys.argv[3:])
