@@ -1,5 +1,5 @@
 -- A leaf with a box, and one without.
-use Rattle.std.proofs.Common.{◌≡◌, ℕ, ◌⊎◌, inl, inr, pos, sym, ap, ◌∙◌, subst, refl, arith, [], ◌∷◌, Bool, true, false, Some, Contains}
+use Rattle.std.proofs.Common.{◌≡◌, ℕ, ◌⊎◌, inl, inr, pos, sym, ap, ◌∙◌, subst, refl, arith, [], ◌∷◌, true, false, Some, Contains}
 use Rattle.fraction128.specs.Gcd.{gcd_of}
 use Rattle.smt_meaning.specs.declared.values.Sort.TheVariants.{Int as Ints}
 use Rattle.smt_meaning.specs.Term.{Tree}

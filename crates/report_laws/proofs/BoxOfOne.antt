@@ -1,8 +1,14 @@
 -- The atoms of (assert (<= 0 x 1)).
-use Rattle.std.proofs.Common.{◌≡◌, ℕ, zero, suc, ◌+◌, ◌<◌, ◌^◌, ◌⊎◌, inl, inr, ℤ, pos, negsuc, neg_ℤ, ◌≤ℤ◌, sym, ap, ◌∙◌, subst, refl, arith, List, [], ◌∷◌, length, true, false, Some, Contains}
+use Rattle.std.specs.Prelude.{◌&&◌}
+use Rattle.std.proofs.Common.{◌≡◌, ℕ, zero, suc, ◌+◌, ◌<◌, ◌^◌, ◌⊎◌, inl, inr, ℤ, pos, negsuc, neg_ℤ, ◌≤ℤ◌, sym, ap, ◌∙◌, subst, refl, arith, List, [], ◌∷◌, length, Bool, true, false, Some, Contains}
 use Rattle.std.proofs.lemmas.Int.{ints}
 use Rattle.fraction128.specs.Gcd.{gcd_of}
-use Rattle.fraction128.specs.Grid.{leaf, turned}
+use Rattle.fraction128.specs.Number.{whole}
+use Rattle.fraction128.specs.Listed.{sum_over, reduced_by, sum_steps}
+use Rattle.fraction128.specs.Whole.{is_in_range}
+use Rattle.fraction128.specs.declared.Summand.{Summand}
+use Rattle.fraction128.specs.declared.Side.{Side}
+use Rattle.fraction128.specs.Grid.{leaf, turned, bound_number, number_fits, distance_fits}
 use Rattle.smt_meaning.specs.declared.values.Sort.TheVariants.{Int as Ints}
 use Rattle.smt_meaning.specs.declared.clauses.Atom.{Atom}
 use Rattle.smt_meaning.specs.declared.clauses.Atom.TheVariants.{Truth, AtMost, Same}
@@ -13,13 +19,14 @@ use Rattle.smt_meaning.specs.Signature.{tree_sort}
 use Rattle.smt_meaning.specs.Stack.{signature_of}
 use Rattle.smt_meaning.specs.Atoms.{stack_atoms, pair_atoms}
 use Rattle.smt_meaning.specs.Boxes.{IsInBox, asserted_atoms, term_at_most, negation_at_most}
-use Rattle.smt_meaning.specs.CheckAtoms.{IsPartOfStack, IsLeaf, is_leaf, ComparesParts, BoundsInBox, IsKnownSum, grid_sum}
+use Rattle.smt_meaning.specs.CheckAtoms.{IsPartOfStack, IsLeaf, is_leaf, ComparesParts, BoundsInBox, IsFirstAtom, IsBoundOf, IsKnownSum, grid_sum, told}
 use Rattle.smt_meaning.specs.Report.{most_units}
 use Rattle.report_laws.specs.OneLeaf.{IsOverOneLeaf}
 use Rattle.report_laws.specs.Five.{x}
-use Rattle.report_laws.specs.BoxOfOne.{nought, one, chain, trees, frames, plus, minus, atoms, AtomsAreThese, SmallBoxIsNotSpent}
-use Rattle.report_laws.proofs.Listed.{in_cons, in_none}
+use Rattle.report_laws.specs.BoxOfOne.{nought, one, chain, trees, frames, plus, minus, atoms, AtomsAreThese, SmallBoxIsNotSpent, SmallBoxIsInRange}
+use Rattle.report_laws.proofs.Listed.{in_cons, in_none, AllOf, one_of}
 use Rattle.report_laws.proofs.Limited.{one_leaf}
+use Rattle.report_laws.proofs.Near.{HasNear, HasParts, nothing_leaves}
 
 -- ---- parts
 
@@ -52,14 +59,6 @@ leaf_is t h = by h.leaf (part_is h.leaf h.part.part) h.part.int h.is h.part.plac
     by l (inr (inr (inr e))) int is place = absurd (let z : false ≡ true = subst (λ u. is_leaf u ≡ true) e is in cc)
 
 -- ---- atoms
-
-abbrev AllOf : (Atom → Type 0) → List Atom → Type 0
-AllOf P [] = Unit {0}
-AllOf P (a ∷ rest) = P a × AllOf P rest
-
-one_of : (P : Atom → Type 0) (rest : List Atom) → AllOf P rest → (a : Atom) → Contains rest a → P a
-one_of P [] all a c = absurd (in_none a c)
-one_of P (b ∷ rest) all a c = elim (in_cons b a rest c) [ inl e ↦ subst P (sym e) all.0 | inr later ↦ one_of P rest all.1 a later ]
 
 abbrev IsHere : Atom → Type 0
 IsHere a = Contains atoms a
@@ -194,3 +193,137 @@ enough n h = h
 
 pub small_box : SmallBoxIsNotSpent
 small_box limit branches us many spent = one_leaf trees frames 1 over_x limit 0 branches us atoms atoms_are_these (inl refl) (enough (most_units limit) many) spent
+
+-- ---- range
+
+abbrev numbers : List ℤ
+numbers = negsuc 0 ∷ pos 0 ∷ pos 1 ∷ pos 2 ∷ []
+
+abbrev IsNear : ℤ → Type 0
+IsNear k = Contains numbers k
+
+both : (P : Bool → Type 0) → P true → P false → (b : Bool) → P b
+both P h k true = h
+both P h k false = k
+
+no_leaf : {X : Type 0} → leaf 1 ≡ [] → X
+no_leaf e = cc
+
+abbrev HasNearBounds : Atom → Type 0
+HasNearBounds (AtMost qs k) = leaf 1 ≡ turned (grid_sum qs) → (b : Bool) → IsNear (bound_number (told qs k b))
+HasNearBounds (Truth i) = Unit {0}
+HasNearBounds (Same i j) = Unit {0}
+
+all_near : AllOf HasNearBounds atoms
+all_near = (
+  tt,
+  (
+    λ s. both (λ b. IsNear (bound_number (told minus (pos 0) b))) (1, omega arith, refl) (0, omega arith, refl),
+    (
+      λ s. both (λ b. IsNear (bound_number (told plus (pos 1) b))) (2, omega arith, refl) (3, omega arith, refl),
+      (
+        λ s. both (λ b. IsNear (bound_number (told plus (pos 0) b))) (1, omega arith, refl) (2, omega arith, refl),
+        (
+          λ s. both (λ b. IsNear (bound_number (told minus (negsuc 0) b))) (2, omega arith, refl) (1, omega arith, refl),
+          (λ s. no_leaf s, (λ s. no_leaf s, (λ s. no_leaf s, (tt, (tt, (tt, (tt, (tt, (tt, (tt, (tt, (tt, (tt, tt))))))))))))),
+        ),
+      ),
+    ),
+  ),
+)
+
+bound_near : (side : Side) (k : ℤ) → IsBoundOf (IsFirstAtom trees frames) (leaf 1) side k → IsNear k
+bound_near side k h = subst IsNear (sym h.number_is) (one_of HasNearBounds atoms all_near (AtMost h.terms h.most) (atoms_are_these (AtMost h.terms h.most) h.atom) h.sum_is h.positive)
+
+abbrev Waits : Atom → Type 0
+Waits (AtMost qs k) = (ps : List Summand) (b : Bool) → number_fits (record { sum = ps; number = k; holds = b }) ≡ true
+Waits (Truth i) = Unit {0}
+Waits (Same i j) = Unit {0}
+
+waits : (k : ℤ) → ((ps : List Summand) → number_fits (record { sum = ps; number = k; holds = false }) ≡ true) → (ps : List Summand) (b : Bool) → number_fits (record { sum = ps; number = k; holds = b }) ≡ true
+waits k h ps true = refl
+waits k h ps false = h ps
+
+all_wait : AllOf Waits atoms
+all_wait = (
+  tt,
+  (
+    waits (pos 0) (λ ps. refl),
+    (
+      waits (pos 1) (λ ps. refl),
+      (
+        waits (pos 0) (λ ps. refl),
+        (
+          waits (negsuc 0) (λ ps. refl),
+          (
+            waits (pos 0) (λ ps. refl),
+            (
+              waits (pos 1) (λ ps. refl),
+              (
+                waits (negsuc 0) (λ ps. refl),
+                (tt, (tt, (tt, (tt, (tt, (tt, (tt, (tt, (tt, (tt, tt)))))))))),
+              ),
+            ),
+          ),
+        ),
+      ),
+    ),
+  ),
+)
+
+abbrev Resting : ℤ → Type 0
+Resting j = (j ≡ pos 0) ⊎ IsNear j
+
+among_rests : (j : ℤ) → Resting j → Contains (pos 0 ∷ numbers) j
+among_rests j (inl e) = (0, omega arith, sym e)
+among_rests j (inr (i, lt, e)) = (suc i, omega (arith, lt), e)
+
+abbrev Reaches : ℤ → ℤ → Type 0
+Reaches k j = distance_fits k (whole j) ≡ true
+
+all_reach : AllOf (λ (k : ℤ). AllOf (Reaches k) (pos 0 ∷ numbers)) numbers
+unfolding gcd_of sum_over reduced_by sum_steps
+all_reach = (
+  (refl, (refl, (refl, (refl, (refl, tt))))),
+  (
+    (refl, (refl, (refl, (refl, (refl, tt))))),
+    (
+      (refl, (refl, (refl, (refl, (refl, tt))))),
+      ((refl, (refl, (refl, (refl, (refl, tt))))), tt),
+    ),
+  ),
+)
+
+has_near : HasNear trees frames IsNear
+has_near = record {
+  over = over_x;
+  bounds = bound_near;
+  distances = λ k j near rests. one_of (Reaches k) (pos 0 ∷ numbers) (one_of (λ (i : ℤ). AllOf (Reaches i) (pos 0 ∷ numbers)) numbers all_reach k near) j (among_rests j rests);
+  waiting = λ q p h. one_of Waits atoms all_wait (AtMost q p.number) (atoms_are_these (AtMost q p.number) h) p.sum p.holds;
+  values = λ j rests. one_of (λ (i : ℤ). is_in_range i ≡ true) (pos 0 ∷ numbers) (refl, (refl, (refl, (refl, (refl, tt))))) j (among_rests j rests);
+}
+
+abbrev parts : List Tree
+parts = chain ∷ nought ∷ x ∷ one ∷ []
+
+among_parts : (t : Tree) → (t ≡ chain) ⊎ IsNumber t → Contains parts t
+among_parts t (inl e) = (0, omega arith, sym e)
+among_parts t (inr (inl e)) = (1, omega arith, sym e)
+among_parts t (inr (inr (inl e))) = (2, omega arith, sym e)
+among_parts t (inr (inr (inr e))) = (3, omega arith, sym e)
+
+has_parts : HasParts trees frames parts
+has_parts = record {
+  each = λ t h. among_parts t (part_is t h);
+  folding = (refl, (refl, (refl, (refl, tt))));
+  comparing = (refl, (refl, (refl, (refl, tt))));
+  pairs = ((refl, (refl, (refl, (refl, tt)))), ((refl, (refl, (refl, (refl, tt)))), ((refl, (refl, (refl, (refl, tt)))), ((refl, (refl, (refl, (refl, tt)))), tt))));
+  bare = (tt, (tt, (tt, (tt, tt))));
+  evaluating = λ I h. (ap (λ b. (true && ((b && true) && (true && true))) && true) h, (refl, (ap (λ b. b && true) h, (refl, tt))));
+  leaf = record { assertion = chain; asserted = (0, omega arith, refl); part = inr (inr (inl (inl refl))) };
+  int = refl;
+  place = refl;
+}
+
+pub small_box_range : SmallBoxIsInRange
+small_box_range = nothing_leaves trees frames IsNear has_near parts has_parts

@@ -2,6 +2,7 @@ mod Listed
 mod Counted
 mod Limited
 mod OneLeaf
+mod Near
 mod Five
 mod Past
 mod TwoLeaves

@@ -12,6 +12,7 @@ use Rattle.smt_meaning.specs.Term.{Tree, node, none, more}
 use Rattle.smt_meaning.specs.Stack.{Frame}
 use Rattle.smt_meaning.specs.CheckAtoms.{IsFirstAtom}
 use Rattle.smt_meaning.specs.Report.{most_units, Shows}
+use Rattle.report_laws.specs.OneLeaf.{NothingLeaves}
 use Rattle.report_laws.specs.Five.{x, constant_x}
 
 abbrev pub nought : Tree
@@ -50,3 +51,7 @@ AtomsAreThese = (a : Atom) → IsFirstAtom trees frames a → Contains atoms a
 -- so under a limit above 18 + 3^18, or without one, the worker 0 doesn't show spent units
 abbrev pub SmallBoxIsNotSpent : Type 0
 SmallBoxIsNotSpent = (limit : ℤ) (branches : List Line) (us : List Spent) → 387420507 < most_units limit → Shows trees frames limit 0 branches (Units us) → ⊥
+
+-- and no worker shows that a number left the range
+abbrev pub SmallBoxIsInRange : Type 0
+SmallBoxIsInRange = NothingLeaves trees frames

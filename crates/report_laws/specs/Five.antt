@@ -6,12 +6,12 @@ use Rattle.smt_meaning.specs.declared.terms.Operator.TheVariants.{AtMost as IsAt
 use Rattle.smt_meaning.specs.declared.terms.Head.TheVariants.{Numeral, Theory, Symbol as Function}
 use Rattle.smt_meaning.specs.declared.reports.Unit.{Unit as Spent}
 use Rattle.smt_meaning.specs.declared.reports.Unit.TheVariants.{Pivot}
-use Rattle.smt_meaning.specs.declared.reports.RangeSeen.{RangeSeen}
-use Rattle.smt_meaning.specs.declared.reports.Cause.TheVariants.{Units, Range}
+use Rattle.smt_meaning.specs.declared.reports.Cause.TheVariants.{Units}
 use Rattle.smt_meaning.specs.Declaration.{Declaration}
 use Rattle.smt_meaning.specs.Term.{Tree, node, none, more}
 use Rattle.smt_meaning.specs.Stack.{Frame}
 use Rattle.smt_meaning.specs.Report.{Shows}
+use Rattle.report_laws.specs.OneLeaf.{NothingLeaves}
 
 abbrev pub x : Tree
 x = node (Function 0) none
@@ -31,9 +31,8 @@ constant_x = record { id = 0; name = codes "x"; rank = record { arguments = []; 
 abbrev pub frames : List Frame
 frames = record { declared = constant_x ∷ []; asserted = record { text = []; term = low } ∷ [] } ∷ []
 
--- no worker shows that a number left the range, by whatever cause, under any limit and with any branches
 abbrev pub NoneLeaves : Type 0
-NoneLeaves = (limit : ℤ) (worker : ℕ) (branches : List Line) (seen : RangeSeen) → Shows trees frames limit worker branches (Range seen) → ⊥
+NoneLeaves = NothingLeaves trees frames
 
 -- no unit is a pivot, and there are no branches
 abbrev pub NoUnits : Type 0

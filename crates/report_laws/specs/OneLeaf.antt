@@ -4,6 +4,7 @@ use Rattle.fraction128.specs.declared.Summand.{Summand}
 use Rattle.fraction128.specs.declared.Line.{Line}
 use Rattle.fraction128.specs.declared.Grid.{Grid}
 use Rattle.fraction128.specs.Grid.{leaf, column_at}
+use Rattle.smt_meaning.specs.declared.reports.RangeSeen.{RangeSeen}
 use Rattle.smt_meaning.specs.declared.reports.RangeSeen.TheVariants.{Step}
 use Rattle.smt_meaning.specs.declared.reports.Cause.TheVariants.{Range}
 use Rattle.smt_meaning.specs.declared.reports.Unit.{Unit as Spent}
@@ -16,6 +17,10 @@ use Rattle.smt_meaning.specs.Report.{AreAllSpent, Shows}
 -- each sum that a variable may have is empty or the term alone
 abbrev pub IsOverOneLeaf : List Tree → List Frame → ℕ → Type 0
 IsOverOneLeaf ts frames t = (ps : List Summand) → IsKnownSum ts frames ps → (ps ≡ []) ⊎ (ps ≡ leaf t)
+
+-- no worker shows that a number left the range, by whatever cause, under any limit and with any branches
+abbrev pub NothingLeaves : List Tree → List Frame → Type 0
+NothingLeaves ts frames = (limit : ℤ) (worker : ℕ) (branches : List Line) (seen : RangeSeen) → Shows ts frames limit worker branches (Range seen) → ⊥
 
 abbrev pub NoBranches : Type 0
 NoBranches =
