@@ -1,5 +1,5 @@
 -- What is said of the watches of a literal as one of them is kept, goes, or moves.
-use Rattle.std.proofs.Common.{◌≡◌, ℕ, ◌+◌, ◌<◌, true, List, [], ◌∷◌, ◌++◌, All, Contains, length, get_or, set, subst, sym, ap, ◌∙◌, refl, inl, inr, ◌⊎◌, arith}
+use Rattle.std.proofs.Common.{◌≡◌, ℕ, ◌<◌, true, List, [], ◌∷◌, ◌++◌, All, Contains, length, get_or, set, subst, sym, ap, ◌∙◌, refl, inl, inr, ◌⊎◌, arith}
 use Rattle.std.specs.List.{swap_remove}
 use Rattle.std.proofs.lemmas.List.{length-set, set-set, set_comm, get_or_default}
 use Rattle.std.proofs.lemmas.List.Elements.{All-set, All-get_or, All-contains}

@@ -5,7 +5,9 @@ use Rattle.clause_store.specs.Trail.{Assigns, up_to}
 use Rattle.clause_store.specs.declared.trail.Step.{Step}
 use Rattle.clause_store.specs.Stored.{Kept, AllFalse, IsFalseOn}
 use Rattle.clause_store.specs.Looks.{LooksBy}
-use Rattle.clause_store.specs.Entries.{Entry, entry_at, watches_of, IsOther}
+use Rattle.clause_store.specs.Assigned.{Assigned}
+use Rattle.clause_store.specs.Entries.{Entry, Held, Listing, bare, entry_at, rooms, watches_of, IsOther}
+use Rattle.clause_store.specs.Room.{HasRoomToMove, HasRoomToWait}
 use Rattle.clause_store.specs.Visits.{Parts, Moves}
 use Rattle.clause_store.specs.Watching.{IsSettled, IsWatching, IsListed, Grows, kept_from, SameShape}
 use Rattle.clause_store.specs.Sweeps.{State, watching}
@@ -136,6 +138,12 @@ pub record LateHolds (atoms depth : ℕ) (p : Parts) (ws : List Wait) (head : �
   pub covered : AreCovered p.entries p.steps ws head
   pub ready : IsReady p.entries p.steps depth ws
   pub within : head ≤ length p.steps
+
+-- steps of lower depths may be gone through from this one on, and nothing that this moves takes memory
+pub record MayCatchUp (rows : Held) (lists : List Listing) (trail : Assigned) (ws : List Wait) (capacity head : ℕ) : Type 0 where
+  pub holds : LateHolds trail.atoms trail.depth (record { entries = rows.entries; lists = bare lists; steps = trail.steps }) ws head
+  pub move_room : HasRoomToMove rows.entries (rooms lists)
+  pub room : HasRoomToWait rows.entries ws capacity
 
 abbrev pub LateTurnGives : ℕ → ℕ → ℕ → Parts → Parts → List Wait → Swept → Type 0
 LateTurnGives atoms depth head old new ws' Whole = LateHolds atoms depth new ws' (head + 1) × SameShape old.entries new.entries

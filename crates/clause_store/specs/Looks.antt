@@ -1,8 +1,9 @@
 -- How often a store looks at its clauses.
-use Rattle.std.specs.Prelude.{◌≡◌, ℕ, ◌+◌, ◌<◌, ◌≤◌, true, List, All, Contains, length, slice_index_or}
+use Rattle.std.specs.Prelude.{◌≡◌, ℕ, ◌+◌, ◌<◌, ◌≤◌, true, List, [], ◌∷◌, ◌++◌, All, Contains, length, drop, slice_index_or, Result, IfOk, OnErr}
+use Rattle.std.specs.declared.alloc.AllocError.{AllocError}
 use Rattle.literals.specs.Signed.{Signed}
-use Rattle.clause_store.specs.Stored.{Kept, Stored, IsFalseOn}
-use Rattle.clause_store.specs.Found.{HasKept}
+use Rattle.clause_store.specs.Stored.{Kept, Propagated, Stored, IsFalseOn}
+use Rattle.clause_store.specs.Found.{HasKept, Outcomes}
 use Rattle.clause_store.specs.declared.trail.Step.{Step}
 use Rattle.clause_store.specs.declared.store.Outcome.{Outcome}
 use Rattle.clause_store.specs.declared.store.Outcome.TheVariants.{Fixpoint, False as Conflict}
@@ -53,3 +54,18 @@ pub record LooksBy (steps : List Step) (clauses : List Kept) (old new : ℕ) : T
   pub having : All (λ (p : Pair). HasKept clauses p.id (λ ls. Contains ls p.literal)) pairs
   pub are_false : All (λ (p : Pair). IsFalseOn steps p.literal) pairs
   pub bound : new ≤ old + length pairs
+
+-- propagation, with the looks that it takes, and what it ends with
+pub record PropagatesTo (old new : Counted) (result : Outcome) : Type 0 where
+  pub reached : Propagated old.stored new.stored
+  pub looks : old.looks ≤ new.looks
+  pub settled : SettlesAll new result
+  pub bounded : LooksBy (drop old.settled new.stored.trail.steps) old.stored.clauses old.looks new.looks
+  pub outcome : Outcomes new.stored.trail.steps new.stored.clauses result
+
+-- a clause is kept after the others, under the id that is answered, or none
+pub record AddsClause (old new : Counted) (literals : List Signed) (level : ℕ) (result : Result ℕ AllocError) : Type 0 where
+  pub added : IfOk result (λ id. let kept : Kept = record { id = id; literals = literals; level = level } in new.stored ≡ record old.stored { clauses = old.stored.clauses ++ kept ∷ [] })
+  pub same : OnErr result (new.stored ≡ old.stored)
+  pub settled : new.settled ≡ old.settled
+  pub looks : new.looks ≡ old.looks

@@ -4,8 +4,9 @@ use Rattle.literals.specs.Signed.{Signed, opposite}
 use Rattle.clause_store.specs.Trail.{Assigns}
 use Rattle.clause_store.specs.declared.trail.Step.{Step}
 use Rattle.clause_store.specs.Stored.{AllFalse}
-use Rattle.clause_store.specs.Entries.{Entry, entry_at, watches_of}
-use Rattle.clause_store.specs.Watching.{IsSettled, IsWatching, View, Frame, Covers, SameShape}
+use Rattle.clause_store.specs.Assigned.{Assigned}
+use Rattle.clause_store.specs.Entries.{Entry, Held, Listing, entry_at, rooms, watches_of}
+use Rattle.clause_store.specs.Watching.{IsSettled, IsWatching, View, Frame, Covers, Grows, SameShape, kept_from}
 use Rattle.clause_store.specs.Visits.{Parts}
 use Rattle.clause_store.specs.declared.run.Reached.{Reached}
 use Rattle.clause_store.specs.declared.run.Reached.TheVariants.{Fixpoint, False}
@@ -50,3 +51,14 @@ pub record Runs (atoms : ℕ) (old new : Parts) (start head : ℕ) : Type 0 wher
 abbrev pub RunGives : ℕ → Parts → Parts → ℕ → ℕ → Reached → Type 0
 RunGives atoms old new start head Fixpoint = Runs atoms old new start head × (head ≡ length new.steps) × IsConsistent new.steps
 RunGives atoms old new start head (False row) = Runs atoms old new start head × IsFalseAt new row × (head ≤ length new.steps)
+
+-- what propagation keeps: the clauses by their places and the room in the lists; the trail only grows, by what the clauses force at the depth that stays
+pub record KeepsStore (rows rows' : Held) (lists lists' : List Listing) (trail trail' : Assigned) : Type 0 where
+  pub rises : rows.looks ≤ rows'.looks
+  pub grows : Grows (kept_from 0 rows.entries) trail.depth trail.steps trail'.steps
+  pub clauses : kept_from 0 rows'.entries ≡ kept_from 0 rows.entries
+  pub count : length rows'.entries ≡ length rows.entries
+  pub shape : SameShape rows.entries rows'.entries
+  pub rooms : rooms lists' ≡ rooms lists
+  pub atoms : trail'.atoms ≡ trail.atoms
+  pub depth : trail'.depth ≡ trail.depth

@@ -6,10 +6,10 @@ ghost use Rattle.clause_store.specs.Trail.{Assigns, IsOpen, StatusOf, up_to};
 ghost use Rattle.clause_store.specs.Each.{EachAfter};
 ghost use Rattle.clause_store.specs.TrailInvariant.{IsFresh, IsDecided};
 ghost use Rattle.literals.specs.Signed.{Signed, opposite};
-ghost use Rattle.clause_store.specs.Stored.{Kept, HaveOwnIds, IsJustified, Propagated, without, up_to_level};
-ghost use Rattle.clause_store.specs.Found.{HasKept, HasLevel, Outcomes};
+ghost use Rattle.clause_store.specs.Stored.{Kept, HaveOwnIds, IsJustified, without, up_to_level};
+ghost use Rattle.clause_store.specs.Found.{HasKept, HasLevel};
 ghost use Rattle.clause_store.specs.Entries.{risen};
-ghost use Rattle.clause_store.specs.Looks.{LooksBy, SettlesAll};
+ghost use Rattle.clause_store.specs.Looks.{AddsClause, PropagatesTo};
 
 use crate::choose::{keep_up, make_room};
 use crate::cut::{cut_to, wait_singles};
@@ -61,11 +61,7 @@ impl CountedStore {
     // Propagates by watches, where each clause has literals.
     fn by_watches(&mut self) -> Outcome
         requires { (id : ℕ) → HasKept self.old.stored.clauses id (λ ls. ls ≡ []) → ⊥ }
-        ensures reached { Propagated self.old.stored self.new.stored }
-        ensures looks { self.old.looks ≤ self.new.looks }
-        ensures settled { SettlesAll self.new result }
-        ensures bounded { LooksBy (drop self.old.settled self.new.stored.trail.steps) self.old.stored.clauses self.old.looks self.new.looks }
-        ensures outcome { Outcomes self.new.stored.trail.steps self.new.stored.clauses result }
+        ensures { PropagatesTo self.old self.new result }
     {
         let (reached, head) = drive(
             &mut self.rows,
@@ -86,11 +82,7 @@ impl CountedStore {
     }
 
     pub fn propagate(&mut self) -> Outcome
-        ensures reached { Propagated self.old.stored self.new.stored }
-        ensures looks { self.old.looks ≤ self.new.looks }
-        ensures settled { SettlesAll self.new result }
-        ensures bounded { LooksBy (drop self.old.settled self.new.stored.trail.steps) self.old.stored.clauses self.old.looks self.new.looks }
-        ensures outcome { Outcomes self.new.stored.trail.steps self.new.stored.clauses result }
+        ensures { PropagatesTo self.old self.new result }
     {
         match self.empty {
             Some(row) => Outcome::False(row as u64),
@@ -128,10 +120,7 @@ impl CountedStore {
     // Adds a clause without literals.
     fn add_empty(&mut self, literals: &[Literal], level: u16) -> Result<u64, AllocError>
         requires none { literals.now ≡ [] }
-        ensures added { IfOk result (λ id. let kept : Kept = record { id = id; literals = literals.now; level = level } in self.new.stored ≡ record self.old.stored { clauses = self.old.stored.clauses ++ kept ∷ [] }) }
-        ensures same { OnErr result (self.new.stored ≡ self.old.stored) }
-        ensures settled { self.new.settled ≡ self.old.settled }
-        ensures looks { self.new.looks ≡ self.old.looks }
+        ensures { AddsClause self.old self.new literals.now level result }
     {
         let row = self.rows.len();
         if row + 1 >= 1 << 32 {
@@ -153,10 +142,7 @@ impl CountedStore {
     fn add_watched(&mut self, literals: &[Literal], level: u16) -> Result<u64, AllocError>
         requires some { 0 < length literals.now }
         requires known { All (λ (l : Signed). l.atom < self.old.stored.trail.atoms) literals.now }
-        ensures added { IfOk result (λ id. let kept : Kept = record { id = id; literals = literals.now; level = level } in self.new.stored ≡ record self.old.stored { clauses = self.old.stored.clauses ++ kept ∷ [] }) }
-        ensures same { OnErr result (self.new.stored ≡ self.old.stored) }
-        ensures settled { self.new.settled ≡ self.old.settled }
-        ensures looks { self.new.looks ≡ self.old.looks }
+        ensures { AddsClause self.old self.new literals.now level result }
     {
         let row = self.rows.len();
         if row + 1 >= 1 << 32 {
@@ -182,10 +168,7 @@ impl CountedStore {
 
     pub fn add(&mut self, literals: &[Literal], level: u16) -> Result<u64, AllocError>
         requires known { All (λ (l : Signed). l.atom < self.old.stored.trail.atoms) literals.now }
-        ensures added { IfOk result (λ id. let kept : Kept = record { id = id; literals = literals.now; level = level } in self.new.stored ≡ record self.old.stored { clauses = self.old.stored.clauses ++ kept ∷ [] }) }
-        ensures same { OnErr result (self.new.stored ≡ self.old.stored) }
-        ensures settled { self.new.settled ≡ self.old.settled }
-        ensures looks { self.new.looks ≡ self.old.looks }
+        ensures { AddsClause self.old self.new literals.now level result }
     {
         if literals.is_empty() {
             return self.add_empty(literals, level);

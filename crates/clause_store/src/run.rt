@@ -44,15 +44,15 @@
 //! `CountedStore`. Nothing here takes memory: `add` made room in the list of each literal for each
 //! clause that has it, and for each clause to wait once.
 ghost use Rattle.std.specs.Prelude.{◌≡◌, ℕ, true, false, ◌<◌, ◌≤◌, List, [], All, drop, length, vec_capacity};
-ghost use Rattle.clause_store.specs.Watching.{IsWatching, SameShape, Grows, kept_from};
+ghost use Rattle.clause_store.specs.Watching.{IsWatching, kept_from};
 ghost use Rattle.clause_store.specs.Entries.{watches_of, bare, rooms};
 ghost use Rattle.clause_store.specs.Rested.{Rested};
 ghost use Rattle.clause_store.specs.Driving.{DriveGives};
 ghost use Rattle.clause_store.specs.From.{AreLast};
-ghost use Rattle.clause_store.specs.Late.{CatchGives, CatchLooks, IsReady, LateCovers, LateHolds, LateTurnGives};
+ghost use Rattle.clause_store.specs.Late.{CatchGives, CatchLooks, IsReady, LateCovers, LateTurnGives, MayCatchUp};
 ghost use Rattle.clause_store.specs.Looks.{LooksAt, LooksBy};
 ghost use Rattle.clause_store.specs.Room.{HasRoomToWait, HasRoomToMove};
-ghost use Rattle.clause_store.specs.Runs.{RunGives, TurnGives};
+ghost use Rattle.clause_store.specs.Runs.{KeepsStore, RunGives, TurnGives};
 ghost use Rattle.clause_store.specs.Stored.{IsFalseOn};
 
 use crate::late::sweep_late;
@@ -82,15 +82,9 @@ fn turn(
     requires move_room { HasRoomToMove rows.old.entries (rooms lists.old) }
     requires is_false { IsFalseOn trail.old.steps f }
     requires known { f.atom < trail.old.atoms }
-    ensures rises { rows.old.looks ≤ rows.new.looks }
+    ensures keeps { KeepsStore rows.old rows.new lists.old lists.new trail.old trail.new }
     ensures looks { LooksAt f rows.old.entries rows.old.looks rows.new.looks }
     ensures gives { TurnGives trail.old.atoms f (record { entries = rows.old.entries; lists = bare lists.old; steps = trail.old.steps }) (record { entries = rows.new.entries; lists = bare lists.new; steps = trail.new.steps }) result }
-    ensures grows { Grows (kept_from 0 rows.old.entries) trail.old.depth trail.old.steps trail.new.steps }
-    ensures clauses { kept_from 0 rows.new.entries ≡ kept_from 0 rows.old.entries }
-    ensures count { length rows.new.entries ≡ length rows.old.entries }
-    ensures shape { SameShape rows.old.entries rows.new.entries }
-    ensures rooms { rooms lists.new ≡ rooms lists.old }
-    ensures same { (trail.new.atoms ≡ trail.old.atoms) × (trail.new.depth ≡ trail.old.depth) }
 {
     let code = f.code();
     mem::swap(&mut lists[code], spare);
@@ -110,15 +104,9 @@ pub fn run(
     requires watching { IsWatching trail.old.atoms rows.old.entries (bare lists.old) }
     requires move_room { HasRoomToMove rows.old.entries (rooms lists.old) }
     requires start { start ≤ length trail.old.steps }
-    ensures rises { rows.old.looks ≤ rows.new.looks }
+    ensures keeps { KeepsStore rows.old rows.new lists.old lists.new trail.old trail.new }
     ensures looks { LooksBy (drop start trail.new.steps) (kept_from 0 rows.old.entries) rows.old.looks rows.new.looks }
     ensures gives { RunGives trail.old.atoms (record { entries = rows.old.entries; lists = bare lists.old; steps = trail.old.steps }) (record { entries = rows.new.entries; lists = bare lists.new; steps = trail.new.steps }) start result.1 result.0 }
-    ensures grows { Grows (kept_from 0 rows.old.entries) trail.old.depth trail.old.steps trail.new.steps }
-    ensures clauses { kept_from 0 rows.new.entries ≡ kept_from 0 rows.old.entries }
-    ensures count { length rows.new.entries ≡ length rows.old.entries }
-    ensures shape { SameShape rows.old.entries rows.new.entries }
-    ensures rooms { rooms lists.new ≡ rooms lists.old }
-    ensures same { (trail.new.atoms ≡ trail.old.atoms) × (trail.new.depth ≡ trail.old.depth) }
 {
     let mut head = start;
     'steps: while head < trail.steps().len() {
@@ -146,16 +134,10 @@ fn turn_late(
     requires known { f.atom < trail.old.atoms }
     requires ready { IsReady rows.old.entries trail.old.steps trail.old.depth waiting.old.items }
     requires room { HasRoomToWait rows.old.entries waiting.old.items (vec_capacity waiting.old) }
-    ensures rises { rows.old.looks ≤ rows.new.looks }
+    ensures keeps { KeepsStore rows.old rows.new lists.old lists.new trail.old trail.new }
     ensures looks { LooksAt f rows.old.entries rows.old.looks rows.new.looks }
     ensures gives { (head : ℕ) → LateCovers head f rows.old.entries trail.old.steps (watches_of (bare lists.old) f) 0 waiting.old.items → LateTurnGives trail.old.atoms trail.old.depth head (record { entries = rows.old.entries; lists = bare lists.old; steps = trail.old.steps }) (record { entries = rows.new.entries; lists = bare lists.new; steps = trail.new.steps }) waiting.new.items result }
-    ensures grows { Grows (kept_from 0 rows.old.entries) trail.old.depth trail.old.steps trail.new.steps }
-    ensures clauses { kept_from 0 rows.new.entries ≡ kept_from 0 rows.old.entries }
-    ensures count { length rows.new.entries ≡ length rows.old.entries }
-    ensures shape { SameShape rows.old.entries rows.new.entries }
-    ensures rooms { rooms lists.new ≡ rooms lists.old }
     ensures room { HasRoomToWait rows.new.entries waiting.new.items (vec_capacity waiting.new) }
-    ensures same { (trail.new.atoms ≡ trail.old.atoms) × (trail.new.depth ≡ trail.old.depth) }
 {
     let code = f.code();
     mem::swap(&mut lists[code], spare);
@@ -186,19 +168,11 @@ fn catch_up(
     waiting: &mut Vec<Wait>,
     start: usize,
 ) -> (Reached, usize)
-    requires holds { LateHolds trail.old.atoms trail.old.depth (record { entries = rows.old.entries; lists = bare lists.old; steps = trail.old.steps }) waiting.old.items start }
-    requires move_room { HasRoomToMove rows.old.entries (rooms lists.old) }
-    requires room { HasRoomToWait rows.old.entries waiting.old.items (vec_capacity waiting.old) }
-    ensures rises { rows.old.looks ≤ rows.new.looks }
+    requires { MayCatchUp rows.old lists.old trail.old waiting.old.items (vec_capacity waiting.old) start }
+    ensures keeps { KeepsStore rows.old rows.new lists.old lists.new trail.old trail.new }
     ensures looks { CatchLooks start result.1 trail.new.steps (kept_from 0 rows.old.entries) rows.old.looks rows.new.looks result.0 }
     ensures gives { CatchGives trail.old.atoms trail.old.depth result.1 (record { entries = rows.new.entries; lists = bare lists.new; steps = trail.new.steps }) waiting.new.items result.0 }
-    ensures grows { Grows (kept_from 0 rows.old.entries) trail.old.depth trail.old.steps trail.new.steps }
-    ensures clauses { kept_from 0 rows.new.entries ≡ kept_from 0 rows.old.entries }
-    ensures count { length rows.new.entries ≡ length rows.old.entries }
-    ensures shape { SameShape rows.old.entries rows.new.entries }
-    ensures rooms { rooms lists.new ≡ rooms lists.old }
     ensures room { HasRoomToWait rows.new.entries waiting.new.items (vec_capacity waiting.new) }
-    ensures same { (trail.new.atoms ≡ trail.old.atoms) × (trail.new.depth ≡ trail.old.depth) }
 {
     let mut head = start;
     'steps: while is_late(trail, head) {
@@ -220,19 +194,11 @@ fn go_through(
     waiting: &mut Vec<Wait>,
     start: usize,
 ) -> (Reached, usize)
-    requires holds { LateHolds trail.old.atoms trail.old.depth (record { entries = rows.old.entries; lists = bare lists.old; steps = trail.old.steps }) waiting.old.items start }
-    requires move_room { HasRoomToMove rows.old.entries (rooms lists.old) }
-    requires room { HasRoomToWait rows.old.entries waiting.old.items (vec_capacity waiting.old) }
-    ensures rises { rows.old.looks ≤ rows.new.looks }
+    requires { MayCatchUp rows.old lists.old trail.old waiting.old.items (vec_capacity waiting.old) start }
+    ensures keeps { KeepsStore rows.old rows.new lists.old lists.new trail.old trail.new }
     ensures looks { LooksBy (drop start trail.new.steps) (kept_from 0 rows.old.entries) rows.old.looks rows.new.looks }
     ensures gives { DriveGives trail.old.atoms trail.old.depth (record { entries = rows.new.entries; lists = bare lists.new; steps = trail.new.steps }) result.1 waiting.new.items result.0 }
-    ensures grows { Grows (kept_from 0 rows.old.entries) trail.old.depth trail.old.steps trail.new.steps }
-    ensures clauses { kept_from 0 rows.new.entries ≡ kept_from 0 rows.old.entries }
-    ensures count { length rows.new.entries ≡ length rows.old.entries }
-    ensures shape { SameShape rows.old.entries rows.new.entries }
-    ensures rooms { rooms lists.new ≡ rooms lists.old }
     ensures room { HasRoomToWait rows.new.entries waiting.new.items (vec_capacity waiting.new) }
-    ensures same { (trail.new.atoms ≡ trail.old.atoms) × (trail.new.depth ≡ trail.old.depth) }
 {
     let (caught, head) = catch_up(rows, lists, spare, trail, waiting, start);
     match caught {
@@ -258,16 +224,10 @@ pub fn drive(
     requires move_room { HasRoomToMove rows.old.entries (rooms lists.old) }
     requires rested { Rested rows.old.entries trail.old.steps trail.old.depth start start waiting.old.items }
     requires room { HasRoomToWait rows.old.entries waiting.old.items (vec_capacity waiting.old) }
-    ensures rises { rows.old.looks ≤ rows.new.looks }
+    ensures keeps { KeepsStore rows.old rows.new lists.old lists.new trail.old trail.new }
     ensures looks { LooksBy (drop start trail.new.steps) (kept_from 0 rows.old.entries) rows.old.looks rows.new.looks }
     ensures gives { DriveGives trail.old.atoms trail.old.depth (record { entries = rows.new.entries; lists = bare lists.new; steps = trail.new.steps }) result.1 waiting.new.items result.0 }
-    ensures grows { Grows (kept_from 0 rows.old.entries) trail.old.depth trail.old.steps trail.new.steps }
-    ensures clauses { kept_from 0 rows.new.entries ≡ kept_from 0 rows.old.entries }
-    ensures count { length rows.new.entries ≡ length rows.old.entries }
-    ensures shape { SameShape rows.old.entries rows.new.entries }
-    ensures rooms { rooms lists.new ≡ rooms lists.old }
     ensures room { HasRoomToWait rows.new.entries waiting.new.items (vec_capacity waiting.new) }
-    ensures same { (trail.new.atoms ≡ trail.old.atoms) × (trail.new.depth ≡ trail.old.depth) }
 {
     match force_all(waiting, trail) {
         Some(wait) => (Reached::False(wait.row), start),

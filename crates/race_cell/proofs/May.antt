@@ -72,46 +72,41 @@ module _ {S : Type 0} (state : S → ShelfState) where
   nothing_else : (m : Me S (View S)) (h : Held state m) → rest m.1 ≡ []
   nothing_else m h = ap (λ (z : Me S (View S)). rest z.1) h.1
 
+  -- and it is as it was seen
+  seen_at : (m : Me S (View S)) (h : Held state m) (y : S) → m.1 ≡ (0, y) ∷ rest m.1 → IsAt state (base_in state m.0.base) (claim m.0).seen y
+  seen_at m h y is = subst (IsAt state (base_in state m.0.base) (claim m.0).seen) (same_shelf m h y is) h.2
+
+  -- another lies in the slot
+  in_slot : (m : Me S (View S)) (h : Held state m) (t : S) → ◌≡◌ {A = Me S (View S)} (m.0, (0, t) ∷ rest m.1) (holding m.0.base (claim m.0), (0, t) ∷ [])
+  in_slot m h t = let v = ap (λ (z : Me S (View S)). z.0) h.1 in λ i. (v i, (0, t) ∷ nothing_else m h i)
+
   still_held : (m : Me S (View S)) (h : Held state m) (y t : S) → m.1 ≡ (0, y) ∷ rest m.1 → IsSame (state y) (state t) → Held state (m.0, (0, t) ∷ rest m.1)
   still_held m h y t is e =
-      let v = ap (λ (z : Me S (View S)). z.0) h.1 in
-      let same : state h.0 ≡ state y = ap state (same_shelf m h y is) in
-      let more = ap (λ (z : ShelfState). z.room) same in
-      let a = h.2.room in
-      let b = e.room in (
-        t,
-        (λ i. (v i, (0, t) ∷ nothing_else m h i)),
-        record {
-          held = e.entries ∙ (ap (λ (z : ShelfState). z.entries) (sym same) ∙ h.2.held);
-          based = e.base ∙ (ap (λ (z : ShelfState). z.base) (sym same) ∙ h.2.based);
-          ended = e.ended ∙ (ap (λ (z : ShelfState). z.ended) (sym same) ∙ h.2.ended);
-          global = e.global ∙ (ap (λ (z : ShelfState). z.global) (sym same) ∙ h.2.global);
-          room = omega arith;
-        },
-      )
+      let at = seen_at m h y is in
+      let a = at.room in
+      let b = e.room in
+      (t, in_slot m h t, record { held = e.entries ∙ at.held; based = e.base ∙ at.based; ended = e.ended ∙ at.ended; global = e.global ∙ at.global; room = omega arith })
 
   before : (m : Me S (View S)) (h : Held state m) (y : S) → m.1 ≡ (0, y) ∷ rest m.1 → (state y).entries ≡ entries_seen state m.0
-  before m h y is = ap (λ (z : S). (state z).entries) (sym (same_shelf m h y is)) ∙ h.2.held
+  before m h y is = (seen_at m h y is).held
 
   pub same_base : (m : Me S (View S)) (h : Held state m) (y : S) → m.1 ≡ (0, y) ∷ rest m.1 → (state y).base ≡ (base_in state m.0.base).base
-  same_base m h y is = ap (λ (z : S). (state z).base) (sym (same_shelf m h y is)) ∙ h.2.based
+  same_base m h y is = (seen_at m h y is).based
 
   -- the clause stands at the end
   now_shared : (worker : ℕ) (clause : Clause) (m : Me S (View S)) (h : Held state m) (y t : S) → m.1 ≡ (0, y) ∷ rest m.1 → Adds (record { clause = clause; worker = worker }) (state y) (state t)
       → length (entries_seen state m.0) < most_entries → IsSound (base_in state m.0.base).base clause → Ready state (Share worker clause) (m.0, (0, t) ∷ rest m.1)
   now_shared worker clause m h y t is a few sound =
-      let v = ap (λ (z : Me S (View S)). z.0) h.1 in
-      let same : state h.0 ≡ state y = ap state (same_shelf m h y is) in
-      let more = ap (λ (z : ShelfState). z.room) same in
-      let p = h.2.room in
+      let at = seen_at m h y is in
+      let p = at.room in
       let q = a.room in (
         t,
-        (λ i. (v i, (0, t) ∷ nothing_else m h i)),
+        in_slot m h t,
         record {
-          held = a.entries ∙ (ap (λ l. l ++ record { clause = clause; worker = worker } ∷ []) (before m h y is) ∙ sym (entries_after-share (base_in state m.0.base).entries (claim m.0).seen worker clause));
-          based = a.base ∙ same_base m h y is;
-          ended = a.ended ∙ (ap (λ (z : ShelfState). z.ended) (sym same) ∙ h.2.ended);
-          global = a.global ∙ (ap (λ (z : ShelfState). z.global) (sym same) ∙ h.2.global);
+          held = a.entries ∙ (ap (λ l. l ++ record { clause = clause; worker = worker } ∷ []) at.held ∙ sym (entries_after-share (base_in state m.0.base).entries (claim m.0).seen worker clause));
+          based = a.base ∙ at.based;
+          ended = a.ended ∙ at.ended;
+          global = a.global ∙ at.global;
           room = omega arith;
         },
         (few, sound),
@@ -134,21 +129,12 @@ module _ {S : Type 0} (state : S → ShelfState) where
       → Draws state mark m (Ok (v, count)) (m.0, (0, y) ∷ rest m.1)
   draws mark m h y is v count got counted sound =
       let here = before m h y is in
-      let v' = ap (λ (z : Me S (View S)). z.0) h.1 in
-      let same : state h.0 ≡ state y = ap state (same_shelf m h y is) in
-      let more = ap (λ (z : ShelfState). z.room) same in
-      let p = h.2.room in (
+      let at = seen_at m h y is in (
         refl,
         (
           y,
-          (λ i. (v' i, (0, y) ∷ nothing_else m h i)),
-          record {
-            held = here ∙ sym (entries_after-batch (base_in state m.0.base).entries (claim m.0).seen (claim m.0).worker);
-            based = same_base m h y is;
-            ended = ap (λ (z : ShelfState). z.ended) (sym same) ∙ h.2.ended;
-            global = ap (λ (z : ShelfState). z.global) (sym same) ∙ h.2.global;
-            room = omega arith;
-          },
+          in_slot m h y,
+          record { held = here ∙ sym (entries_after-batch (base_in state m.0.base).entries (claim m.0).seen (claim m.0).worker); based = at.based; ended = at.ended; global = at.global; room = at.room },
           tt,
         ),
         got ∙ ap (drop mark) here,
@@ -158,7 +144,4 @@ module _ {S : Type 0} (state : S → ShelfState) where
 
   pub draws_nothing : (mark : ℕ) (m : Me S (View S)) → Held state m → (y : S) (failed : AllocError) → m.1 ≡ (0, y) ∷ rest m.1 → Draws state mark m (Err failed) (m.0, (0, y) ∷ rest m.1)
   draws_nothing mark m h y failed is =
-      let v = ap (λ (z : Me S (View S)). z.0) h.1 in (
-        refl,
-        (y, (λ i. (v i, (0, y) ∷ nothing_else m h i)), subst (IsAt state (base_in state m.0.base) (claim m.0).seen) (same_shelf m h y is) h.2),
-      )
+      (refl, (y, in_slot m h y, seen_at m h y is))

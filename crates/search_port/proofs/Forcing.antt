@@ -9,7 +9,7 @@ use Rattle.search_port.specs.Forcing.{negation, numbered, ForcesByNumbers, IsFor
 
 -- ---- lists
 
-all_of : {X : Type 0} (P : X → Type 0) (xs : List X) → ((x : X) → Contains xs x → P x) → All P xs
+pub all_of : {X : Type 0} (P : X → Type 0) (xs : List X) → ((x : X) → Contains xs x → P x) → All P xs
 all_of P xs h k d lt = h (get_or xs k d) (Contains-get_or xs k d lt)
 
 All-unmap : {X Y : Type 0} (P : Y → Type 0) (f : X → Y) (xs : List X) → All P (map f xs) → All (λ x. P (f x)) xs
@@ -30,27 +30,28 @@ pub from_map : {X Y : Type 0} (f : X → Y) (xs : List X) (y : Y) → Contains (
 from_map f xs y h =
     All-contains (ComesBy f xs) (map f xs) y (All-map (ComesBy f xs) f xs (all_of (λ x. ComesBy f xs (f x)) xs (λ x c. record { from = x; among = c; is = refl }))) h
 
-here_is : {X : Type 0} (x y : X) (xs ys : List X) → x ∷ xs ≡ y ∷ ys → x ≡ y
+pub here_is : {X : Type 0} (x y : X) (xs ys : List X) → x ∷ xs ≡ y ∷ ys → x ≡ y
 here_is x y xs ys e = cc
 
-after_is : {X : Type 0} (x y : X) (xs ys : List X) → x ∷ xs ≡ y ∷ ys → xs ≡ ys
+pub after_is : {X : Type 0} (x y : X) (xs ys : List X) → x ∷ xs ≡ y ∷ ys → xs ≡ ys
 after_is x y xs ys e = cc
 
-none_is : {X : Type 0} (x : X) (xs : List X) → [] ≡ x ∷ xs → ⊥
+pub none_is : {X : Type 0} (x : X) (xs : List X) → [] ≡ x ∷ xs → ⊥
 none_is x xs e = cc
 
 -- ---- other names
 
-record Split {L M : Type 0} (f : L → M) (c : List L) (before after : List M) (l : M) : Type 0 where
-  front : List L
-  one : L
-  back : List L
-  is : c ≡ front ++ one ∷ back
-  front_is : map f front ≡ before
-  one_is : f one ≡ l
-  back_is : map f back ≡ after
+-- where a mapped list is cut, the list is cut too
+pub record Split {L M : Type 0} (f : L → M) (c : List L) (before after : List M) (l : M) : Type 0 where
+  pub front : List L
+  pub one : L
+  pub back : List L
+  pub is : c ≡ front ++ one ∷ back
+  pub front_is : map f front ≡ before
+  pub one_is : f one ≡ l
+  pub back_is : map f back ≡ after
 
-split : {L M : Type 0} (f : L → M) (c : List L) (before after : List M) (l : M) → map f c ≡ before ++ l ∷ after → Split f c before after l
+pub split : {L M : Type 0} (f : L → M) (c : List L) (before after : List M) (l : M) → map f c ≡ before ++ l ∷ after → Split f c before after l
 split f [] [] after l e = absurd (none_is l after e)
 split f [] (b ∷ bs) after l e = absurd (none_is b (bs ++ l ∷ after) e)
 split f (x ∷ c) [] after l e = record { front = []; one = x; back = c; is = refl; front_is = refl; one_is = here_is (f x) l (map f c) after e; back_is = after_is (f x) l (map f c) after e }

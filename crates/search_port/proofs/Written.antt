@@ -1,6 +1,6 @@
 -- A clause over numbers follows where the clause with its atoms written out does, and the other way round.
-use Rattle.std.proofs.Common.{◌≡◌, ℕ, ◌<◌, Bool, true, false, ◌||◌, List, [], ◌∷◌, ◌++◌, length, All, Contains, ap, sym, ◌∙◌, refl}
-use Rattle.std.proofs.lemmas.List.Elements.{All-append, All-cons, All-head, All-tail, All-nil}
+use Rattle.std.proofs.Common.{◌≡◌, ℕ, ◌<◌, Bool, true, false, ◌||◌, List, [], ◌∷◌, ◌++◌, length, get_or, All, Contains, ap, sym, ◌∙◌, refl}
+use Rattle.std.proofs.lemmas.List.Elements.{All-append, All-cons, All-contains, All-head, All-tail, All-nil, Contains-append_left, Contains-append_right, Contains-get_or}
 use Rattle.literals.specs.Signed.{Signed, sign, literal_true, some_true}
 use Rattle.smt_meaning.specs.Term.{Tree, Interpretation, tree_at}
 use Rattle.smt_meaning.specs.Stack.{Frame, up_to}
@@ -20,12 +20,10 @@ same_truth r I (l ∷ ls) =
     ap (λ b. b || some_written r.trees I (written r ls)) (same_sign l.positive (truth r I l.atom)) ∙ ap (λ b. literal_true (truth r I) l || b) (same_truth r I ls)
 
 append_left : {X : Type 0} (P : X → Type 0) (xs ys : List X) → All P (xs ++ ys) → All P xs
-append_left P [] ys h = All-nil P
-append_left P (x ∷ xs) ys h = All-cons P x xs (All-head P x (xs ++ ys) h) (append_left P xs ys (All-tail P x (xs ++ ys) h))
+append_left P xs ys h k d lt = All-contains P (xs ++ ys) (get_or xs k d) h (Contains-append_left xs ys (get_or xs k d) (Contains-get_or xs k d lt))
 
 append_right : {X : Type 0} (P : X → Type 0) (xs ys : List X) → All P (xs ++ ys) → All P ys
-append_right P [] ys h = h
-append_right P (x ∷ xs) ys h = append_right P xs ys (All-tail P x (xs ++ ys) h)
+append_right P xs ys h k d lt = All-contains P (xs ++ ys) (get_or ys k d) h (Contains-append_right xs ys (get_or ys k d) (Contains-get_or ys k d lt))
 
 symbols-append : (ts : List Tree) (is js : List ℕ) (P : ℕ → Type 0) → All P (symbols_at ts is) → All P (symbols_at ts js) → All P (symbols_at ts (is ++ js))
 symbols-append ts [] js P h k = k

@@ -4,14 +4,14 @@ use Rattle.std.specs.Prelude.{◌==◌, Option, Some, IfSome}
 use Rattle.std.proofs.lemmas.List.{take_all, length-map}
 use Rattle.std.proofs.lemmas.List.Elements.{All-contains, All-push, Contains-get_or}
 use Rattle.std.proofs.lemmas.Bool.Decides.{nat_tests}
-use Rattle.literals.specs.Signed.{Signed, opposite, packed}
+use Rattle.literals.specs.Signed.{Signed, packed}
 use Rattle.smt_meaning.specs.declared.clauses.Atom.{Atom}
 use Rattle.smt_meaning.specs.declared.clauses.Literal.{Literal}
 use Rattle.smt_meaning.specs.declared.clauses.Clause.{Clause}
 use Rattle.smt_meaning.specs.Declaration.{Declaration}
-use Rattle.smt_meaning.specs.Term.{Tree, tree_at, Interpretation}
+use Rattle.smt_meaning.specs.Term.{Tree, tree_at}
 use Rattle.smt_meaning.specs.Interpretation.{Interprets}
-use Rattle.smt_meaning.specs.Stack.{Frame, Holds, Satisfies, assertions_of, depth, signature_of, up_to}
+use Rattle.smt_meaning.specs.Stack.{Frame, Satisfies, assertions_of, depth, up_to}
 use Rattle.smt_meaning.specs.StackCommand.{Stack}
 use Rattle.smt_meaning.specs.Follows.{Follows, FollowsFrom, follows, follows_from}
 use Rattle.smt_meaning.specs.Clause.{clause_symbols}

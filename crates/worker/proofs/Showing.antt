@@ -40,7 +40,8 @@ use Rattle.first_clauses.specs.CheckClausesFirst.{reading_of, IsFirst}
 use Rattle.cdcl_core.specs.Search.{literal_lists}
 use Rattle.cdcl_core.specs.Turns.{AreNew, IsShown, IsOfTheory, Searches}
 use Rattle.worker.specs.Shown.{HasStackAtoms, unit_of, IsOfNumbers, ShowsUnits}
-use Rattle.worker.proofs.Lists.{Cut, cut, IsAfter, in_order, all_of, at_any, first_or_later, front_in, in_middle}
+use Rattle.search_port.proofs.Forcing.{Split, all_of, split}
+use Rattle.worker.proofs.Lists.{IsAfter, in_order, at_any, first_or_later, front_in, in_middle}
 use Rattle.worker.proofs.Numbers.{same_front}
 use Rattle.worker.proofs.SameStack.{check_atom_by, branches_by, range_by, sums_by}
 use Rattle.worker.proofs.Units.{IsLast, IsOfWorker, learnt, newly_numbered, new_at, new_front, numbers_of_both}
@@ -278,7 +279,7 @@ module _ (w : ℕ) (forgets : Bool) (of : IsOfWorker w forgets) (laws : Laws) (s
 
     are_units : AreUnits s.trees s.frames u.variables.sums x.branches limit w (map (unit_of u.reading.table (depth s.frames)) c.units)
     are_units before after y e =
-        let r : Cut (unit_of u.reading.table (depth s.frames)) c.units before after y = cut (unit_of u.reading.table (depth s.frames)) c.units before after y e in
+        let r : Split (unit_of u.reading.table (depth s.frames)) c.units before after y = split (unit_of u.reading.table (depth s.frames)) c.units before after y e in
         subst (λ (us : List ShownUnit). IsUnit s.trees s.frames u.variables.sums x.branches limit w us y) r.front_is
         (subst (IsUnit s.trees s.frames u.variables.sums x.branches limit w (map (unit_of u.reading.table (depth s.frames)) r.front)) r.one_is (one_unit r.front r.back r.one r.is))
 

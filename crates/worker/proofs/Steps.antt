@@ -1,14 +1,13 @@
 -- What a pass's calls add to its claim.
-use Rattle.std.proofs.Common.{Bor, ◌≡◌, inl, inr, ℕ, ◌+◌, List, [], ◌∷◌, ◌++◌, All, Contains, subst, sym, ap, ◌∙◌, arith, refl, append_assoc}
+use Rattle.std.proofs.Common.{Bor, ◌≡◌, inl, inr, ℕ, ◌+◌, List, [], ◌∷◌, ◌++◌, All, subst, sym, ap, ◌∙◌, arith, refl, append_assoc}
 use Rattle.std.specs.Prelude.{Option, Some, None}
 use Rattle.std.proofs.lemmas.List.{append-nil}
 use Rattle.std.proofs.lemmas.List.Elements.{All-append, All-cons, All-nil}
-use Rattle.smt_meaning.specs.declared.clauses.Clause.{Clause}
 use Rattle.search_port.specs.Spending.{Spending}
 use Rattle.search_port.specs.declared.budget.Lemma.{Lemma}
 use Rattle.race_model.specs.declared.shelf.Shelf.{Ghosts}
 use Rattle.race_cell.specs.declared.action.Action.{Action}
-use Rattle.race_cell.specs.declared.action.Action.TheVariants.{Share, TakeBatch, Win}
+use Rattle.race_cell.specs.declared.action.Action.TheVariants.{TakeBatch, Win}
 use Rattle.race_cell.specs.declared.race.Pass.{Pass}
 use Rattle.race_cell.specs.declared.view.Claim.{Claim}
 use Rattle.race_cell.specs.Rules.{busier, looks_at, wins}

@@ -40,7 +40,7 @@ use Rattle.search_port.specs.Calls.{numbers}
 use Rattle.search_port.specs.declared.budget.Lemma.{Lemma}
 use Rattle.search_port.specs.declared.budget.Spent.{Spent}
 use Rattle.search_port.specs.declared.budget.Spent.TheVariants.{Learnt, Numbered, Pivot}
-use Rattle.search_port.proofs.Forcing.{ComesBy, from_map, in_map}
+use Rattle.search_port.proofs.Forcing.{ComesBy, all_of, from_map, in_map}
 use Rattle.clause_form.proofs.More.{forces_more}
 use Rattle.smt_laws.specs.Flat.{flat, FlatSaysTheSame, SaysTheSame}
 use Rattle.check_atoms.specs.Laws.{IsSameOfNoInts}
@@ -48,7 +48,7 @@ use Rattle.first_clauses.specs.PartClausesFirst.{ForcesParts, IsAsserted, IsForc
 use Rattle.cdcl_core.specs.Search.{literal_lists}
 use Rattle.cdcl_core.specs.Turns.{AreNew, IsLasting, IsNewUnit, IsUnforced, IsShown}
 use Rattle.worker.specs.Shown.{clause_of, unit_of}
-use Rattle.worker.proofs.Lists.{all_of, first_or_later}
+use Rattle.worker.proofs.Lists.{first_or_later}
 use Rattle.worker.proofs.Numbers.{IsApart, number_in, number_again}
 
 -- ---- the numbers among units

@@ -1,5 +1,5 @@
 -- What the turns of a worker in a race add to what its pass knows.
-use Rattle.std.specs.Prelude.{◌≡◌, ◌≢◌, ◌⊎◌, ℕ, ◌+◌, ◌<◌, List, [], ◌∷◌, ◌++◌, false, length, slice_index_or, All}
+use Rattle.std.specs.Prelude.{◌≡◌, ◌⊎◌, ℕ, ◌+◌, ◌<◌, List, [], ◌∷◌, ◌++◌, false, length, slice_index_or}
 use Rattle.std.proofs.Common.{subst, refl}
 use Rattle.smt_meaning.specs.declared.clauses.Atom.{Atom}
 use Rattle.smt_meaning.specs.StackCommand.{Stack}

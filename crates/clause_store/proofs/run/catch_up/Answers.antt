@@ -1,4 +1,4 @@
-use Rattle.std.proofs.Common.{◌≡◌, ◌+◌, ◌<◌, ◌≤◌, length, take, get_or, subst, sym, ◌∙◌, arith}
+use Rattle.std.proofs.Common.{◌≡◌, ◌+◌, ◌<◌, ◌≤◌, length, take, get_or, subst, sym, arith}
 use Rattle.literals.specs.Signed.{Signed, opposite}
 use Rattle.clause_store.specs.declared.trail.Step.{Step}
 use Rattle.clause_store.specs.Watching.{Grows, kept_from}
@@ -11,8 +11,7 @@ use Rattle.clause_store.specs.Looks.{LooksAt}
 use Rattle.clause_store.specs.Late.{LateCovers, LateTurnGives}
 use Rattle.clause_store.specs.declared.sweep.Swept.TheVariants.{Whole, False as FalseClause}
 use Rattle.clause_store.proofs.Pairs.{Looked, Looked-turn, Looked-by, Looked-front}
-use Rattle.clause_store.proofs.Kept.{Grows-trans}
-use Rattle.clause_store.proofs.Sweeping.{SameShape-trans}
+use Rattle.clause_store.proofs.Keeps.{grows-on, keeps-both}
 use Rattle.clause_store.proofs.LateDepths.{Late-start}
 use Rattle.clause_store.proofs.run.catch_up.Goals as goal
 
@@ -21,8 +20,7 @@ steps-preserved c =
     let s : Step = c.index-steps-head.result in
     let is : s ≡ get_or c.steps.trail.steps c.steps.head s = rw c.steps-in-steps.ensures.steps at c.index-steps-head.is in
     let lt : c.steps.head < length c.steps.trail.steps = c.is_late.ensures.yes c.steps-test.true in
-    let grows : Grows (kept_from 0 c.steps.rows.entries) c.args.trail.now.depth c.steps.trail.steps c.turn_late.new.trail.steps =
-    subst (λ d. Grows (kept_from 0 c.steps.rows.entries) d c.steps.trail.steps c.turn_late.new.trail.steps) c.steps.invariant.depth c.in-Whole.ensures.grows in
+    let grows : Grows (kept_from 0 c.steps.rows.entries) c.args.trail.now.depth c.steps.trail.steps c.turn_late.new.trail.steps = grows-on _ _ _ _ _ _ _ _ _ c.steps.invariant.keeps c.in-Whole.ensures.keeps in
     let p : Parts = record { entries = c.steps.rows.entries; lists = bare c.steps.lists; steps = c.steps.trail.steps } in
     let p' : Parts = record { entries = c.turn_late.new.rows.entries; lists = bare c.turn_late.new.lists; steps = c.turn_late.new.trail.steps } in
     let covers : LateCovers c.steps.head (opposite s.literal) p.entries p.steps (watches_of p.lists (opposite s.literal)) 0 c.steps.waiting.items =
@@ -30,25 +28,18 @@ steps-preserved c =
     let covers' : LateCovers c.steps.head c.negated.result p.entries p.steps (watches_of p.lists c.negated.result) 0 c.steps.waiting.items =
     subst (λ (x : Signed). LateCovers c.steps.head x p.entries p.steps (watches_of p.lists x) 0 c.steps.waiting.items) (sym c.negated.ensures) covers in
     let turned : LateTurnGives c.args.trail.now.atoms c.args.trail.now.depth c.steps.head p p' c.turn_late.new.waiting.items Whole =
-    subst (λ a. LateTurnGives a c.args.trail.now.depth c.steps.head p p' c.turn_late.new.waiting.items Whole) c.steps.invariant.atoms
-    (subst (λ d. LateTurnGives c.steps.trail.atoms d c.steps.head p p' c.turn_late.new.waiting.items Whole) c.steps.invariant.depth (c.in-Whole.ensures.gives c.steps.head covers')) in
+    subst (λ a. LateTurnGives a c.args.trail.now.depth c.steps.head p p' c.turn_late.new.waiting.items Whole) c.steps.invariant.keeps.atoms
+    (subst (λ d. LateTurnGives c.steps.trail.atoms d c.steps.head p p' c.turn_late.new.waiting.items Whole) c.steps.invariant.keeps.depth (c.in-Whole.ensures.gives c.steps.head covers')) in
     let fresh : Assigns (take c.steps.head c.steps.trail.steps) s.literal → ⊥ = subst (λ (x : Step). Assigns (take c.steps.head c.steps.trail.steps) x.literal → ⊥) (sym is) (c.steps-in-steps.ensures.fresh c.steps.head s lt).0 in
     let at : LooksAt (opposite s.literal) c.steps.rows.entries c.steps.rows.looks c.turn_late.new.rows.looks =
     subst (λ f. LooksAt f c.steps.rows.entries c.steps.rows.looks c.turn_late.new.rows.looks) c.negated.ensures c.in-Whole.ensures.looks in
     let looked : Looked c.args.rows.now.entries c.turn_late.new.trail.steps c.args.start (c.steps.head + 1) c.args.rows.now.looks c.turn_late.new.rows.looks =
     Looked-turn (kept_from 0 c.steps.rows.entries) c.args.trail.now.depth c.args.rows.now.entries c.steps.rows.entries c.steps.trail.steps c.turn_late.new.trail.steps c.args.start c.steps.head c.args.rows.now.looks c.steps.rows.looks c.turn_late.new.rows.looks s
-    c.steps.invariant.from lt is fresh c.steps.invariant.shape grows at c.steps.invariant.looked in
+    c.steps.invariant.from lt is fresh c.steps.invariant.keeps.shape grows at c.steps.invariant.looked in
     record {
       holds = turned.0;
-      shape = SameShape-trans c.args.rows.now.entries c.steps.rows.entries c.turn_late.new.rows.entries c.steps.invariant.shape turned.1;
-      grows = Grows-trans _ _ _ _ _ _ c.steps.invariant.clauses c.steps.invariant.grows grows;
-      clauses = c.in-Whole.ensures.clauses ∙ c.steps.invariant.clauses;
-      count = c.in-Whole.ensures.count ∙ c.steps.invariant.count;
-      atoms = c.in-Whole.ensures.same.0 ∙ c.steps.invariant.atoms;
-      depth = c.in-Whole.ensures.same.1 ∙ c.steps.invariant.depth;
-      looks = omega (arith, c.steps.invariant.looks, c.in-Whole.ensures.rises);
+      keeps = keeps-both _ _ _ _ _ _ _ _ _ c.steps.invariant.keeps c.in-Whole.ensures.keeps;
       room = c.in-Whole.ensures.room;
-      rooms = c.in-Whole.ensures.rooms ∙ c.steps.invariant.rooms;
       from = (let le : c.args.start ≤ c.steps.head = c.steps.invariant.from in omega arith);
       looked = looked;
     }
@@ -58,8 +49,7 @@ returns-in-False-clause-gives c =
     let s : Step = c.index-steps-head.result in
     let is : s ≡ get_or c.steps.trail.steps c.steps.head s = rw c.steps-in-steps.ensures.steps at c.index-steps-head.is in
     let lt : c.steps.head < length c.steps.trail.steps = c.is_late.ensures.yes c.steps-test.true in
-    let grows : Grows (kept_from 0 c.steps.rows.entries) c.args.trail.now.depth c.steps.trail.steps c.turn_late.new.trail.steps =
-    subst (λ d. Grows (kept_from 0 c.steps.rows.entries) d c.steps.trail.steps c.turn_late.new.trail.steps) c.steps.invariant.depth c.in-False.ensures.grows in
+    let grows : Grows (kept_from 0 c.steps.rows.entries) c.args.trail.now.depth c.steps.trail.steps c.turn_late.new.trail.steps = grows-on _ _ _ _ _ _ _ _ _ c.steps.invariant.keeps c.in-False.ensures.keeps in
     let p : Parts = record { entries = c.steps.rows.entries; lists = bare c.steps.lists; steps = c.steps.trail.steps } in
     let p' : Parts = record { entries = c.turn_late.new.rows.entries; lists = bare c.turn_late.new.lists; steps = c.turn_late.new.trail.steps } in
     let covers : LateCovers c.steps.head (opposite s.literal) p.entries p.steps (watches_of p.lists (opposite s.literal)) 0 c.steps.waiting.items =
@@ -67,27 +57,22 @@ returns-in-False-clause-gives c =
     let covers' : LateCovers c.steps.head c.negated.result p.entries p.steps (watches_of p.lists c.negated.result) 0 c.steps.waiting.items =
     subst (λ (x : Signed). LateCovers c.steps.head x p.entries p.steps (watches_of p.lists x) 0 c.steps.waiting.items) (sym c.negated.ensures) covers in
     let turned : LateTurnGives c.args.trail.now.atoms c.args.trail.now.depth c.steps.head p p' c.turn_late.new.waiting.items (FalseClause c.in-False.row) =
-    subst (λ a. LateTurnGives a c.args.trail.now.depth c.steps.head p p' c.turn_late.new.waiting.items (FalseClause c.in-False.row)) c.steps.invariant.atoms
-    (subst (λ d. LateTurnGives c.steps.trail.atoms d c.steps.head p p' c.turn_late.new.waiting.items (FalseClause c.in-False.row)) c.steps.invariant.depth (c.in-False.ensures.gives c.steps.head covers')) in
+    subst (λ a. LateTurnGives a c.args.trail.now.depth c.steps.head p p' c.turn_late.new.waiting.items (FalseClause c.in-False.row)) c.steps.invariant.keeps.atoms
+    (subst (λ d. LateTurnGives c.steps.trail.atoms d c.steps.head p p' c.turn_late.new.waiting.items (FalseClause c.in-False.row)) c.steps.invariant.keeps.depth (c.in-False.ensures.gives c.steps.head covers')) in
     turned
-
-pub returns-in-False-clause-grows : goal.returns-in-False-clause-grows
-returns-in-False-clause-grows c =
-    Grows-trans _ _ _ _ _ _ c.steps.invariant.clauses c.steps.invariant.grows (subst (λ d. Grows (kept_from 0 c.steps.rows.entries) d c.steps.trail.steps c.turn_late.new.trail.steps) c.steps.invariant.depth c.in-False.ensures.grows)
 
 pub returns-in-False-clause-looks : goal.returns-in-False-clause-looks
 returns-in-False-clause-looks c =
     let s : Step = c.index-steps-head.result in
     let is : s ≡ get_or c.steps.trail.steps c.steps.head s = rw c.steps-in-steps.ensures.steps at c.index-steps-head.is in
     let lt : c.steps.head < length c.steps.trail.steps = c.is_late.ensures.yes c.steps-test.true in
-    let grows : Grows (kept_from 0 c.steps.rows.entries) c.args.trail.now.depth c.steps.trail.steps c.turn_late.new.trail.steps =
-    subst (λ d. Grows (kept_from 0 c.steps.rows.entries) d c.steps.trail.steps c.turn_late.new.trail.steps) c.steps.invariant.depth c.in-False.ensures.grows in
+    let grows : Grows (kept_from 0 c.steps.rows.entries) c.args.trail.now.depth c.steps.trail.steps c.turn_late.new.trail.steps = grows-on _ _ _ _ _ _ _ _ _ c.steps.invariant.keeps c.in-False.ensures.keeps in
     let fresh : Assigns (take c.steps.head c.steps.trail.steps) s.literal → ⊥ = subst (λ (x : Step). Assigns (take c.steps.head c.steps.trail.steps) x.literal → ⊥) (sym is) (c.steps-in-steps.ensures.fresh c.steps.head s lt).0 in
     let at : LooksAt (opposite s.literal) c.steps.rows.entries c.steps.rows.looks c.turn_late.new.rows.looks =
     subst (λ f. LooksAt f c.steps.rows.entries c.steps.rows.looks c.turn_late.new.rows.looks) c.negated.ensures c.in-False.ensures.looks in
     let looked : Looked c.args.rows.now.entries c.turn_late.new.trail.steps c.args.start (c.steps.head + 1) c.args.rows.now.looks c.turn_late.new.rows.looks =
     Looked-turn (kept_from 0 c.steps.rows.entries) c.args.trail.now.depth c.args.rows.now.entries c.steps.rows.entries c.steps.trail.steps c.turn_late.new.trail.steps c.args.start c.steps.head c.args.rows.now.looks c.steps.rows.looks c.turn_late.new.rows.looks s
-    c.steps.invariant.from lt is fresh c.steps.invariant.shape grows at c.steps.invariant.looked in
+    c.steps.invariant.from lt is fresh c.steps.invariant.keeps.shape grows at c.steps.invariant.looked in
     Looked-by c.args.rows.now.entries c.turn_late.new.trail.steps c.args.start (c.steps.head + 1) c.args.rows.now.looks c.turn_late.new.rows.looks looked
 
 pub returns-clause-looks : goal.returns-clause-looks
@@ -95,10 +80,7 @@ returns-clause-looks c = (c.steps.invariant.from, Looked-front c.args.rows.now.e
 
 pub turn_late-requires-clause-move_room : goal.turn_late-requires-clause-move_room
 turn_late-requires-clause-move_room c =
-    subst (HasRoomToMove c.steps.rows.entries) (sym c.steps.invariant.rooms) (moves_shaped c.args.rows.now.entries c.steps.rows.entries (rooms c.args.lists.now) c.steps.invariant.shape c.requires.move_room)
+    subst (HasRoomToMove c.steps.rows.entries) (sym c.steps.invariant.keeps.rooms) (moves_shaped c.args.rows.now.entries c.steps.rows.entries (rooms c.args.lists.now) c.steps.invariant.keeps.shape c.requires.move_room)
 
-pub returns-in-False-clause-shape : goal.returns-in-False-clause-shape
-returns-in-False-clause-shape c = SameShape-trans c.args.rows.now.entries c.steps.rows.entries c.turn_late.new.rows.entries c.steps.invariant.shape c.in-False.ensures.shape
-
-pub returns-in-False-clause-rooms : goal.returns-in-False-clause-rooms
-returns-in-False-clause-rooms c = c.in-False.ensures.rooms ∙ c.steps.invariant.rooms
+pub returns-in-False-clause-keeps : goal.returns-in-False-clause-keeps
+returns-in-False-clause-keeps c = keeps-both _ _ _ _ _ _ _ _ _ c.steps.invariant.keeps c.in-False.ensures.keeps

@@ -1,10 +1,10 @@
-use Rattle.std.proofs.Common.{subst, refl}
+use Rattle.std.proofs.Common.{subst}
 use Rattle.clause_store.specs.Entries.{bare}
 use Rattle.clause_store.specs.Watching.{Grows, IsWatching, kept_from}
 use Rattle.clause_store.specs.Visits.{Parts}
 use Rattle.clause_store.specs.Rested.{Rested}
 use Rattle.clause_store.specs.Driving.{DriveGives}
-use Rattle.clause_store.proofs.Kept.{Grows-trans}
+use Rattle.clause_store.proofs.Keeps.{forced-keeps, keeps-both}
 use Rattle.clause_store.proofs.Depths.{Rested-grown}
 use Rattle.clause_store.proofs.Driving.{drive-false, holds-rested}
 use Rattle.clause_store.proofs.run.drive.Goals as goal
@@ -31,7 +31,8 @@ returns-in-None-clause-gives c =
     subst (λ a. DriveGives a c.args.trail.now.depth p c.go_through.result.1 n.waiting.items c.go_through.result.0) c.force_all.ensures.same.0
     (subst (λ d. DriveGives c.force_all.new.trail.atoms d p c.go_through.result.1 n.waiting.items c.go_through.result.0) c.force_all.ensures.same.1 c.go_through.ensures.gives)
 
-pub returns-in-None-clause-grows : goal.returns-in-None-clause-grows
-returns-in-None-clause-grows c =
-    Grows-trans _ _ _ _ _ _ refl (c.force_all.ensures.grows c.args.rows.now.entries (rw c.deref.ensures.value c.requires.rested.waiting))
-    (subst (λ d. Grows (kept_from 0 c.args.rows.now.entries) d c.force_all.new.trail.steps c.go_through.new.trail.steps) c.force_all.ensures.same.1 c.go_through.ensures.grows)
+pub returns-in-None-clause-keeps : goal.returns-in-None-clause-keeps
+returns-in-None-clause-keeps c = keeps-both _ _ _ _ _ _ _ _ _ (forced-keeps c.args.rows.now c.args.lists.now c.args.trail.now c.force_all.new.trail (c.force_all.ensures.grows c.args.rows.now.entries (rw c.deref.ensures.value c.requires.rested.waiting)) c.force_all.ensures.same) c.go_through.ensures.keeps
+
+pub returns-in-Some-clause-keeps : goal.returns-in-Some-clause-keeps
+returns-in-Some-clause-keeps c = forced-keeps c.args.rows.now c.args.lists.now c.args.trail.now c.force_all.new.trail (c.force_all.ensures.grows c.args.rows.now.entries (rw c.deref.ensures.value c.requires.rested.waiting)) c.force_all.ensures.same

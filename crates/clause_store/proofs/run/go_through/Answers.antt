@@ -2,7 +2,6 @@ use Rattle.std.proofs.Common.{◌≡◌, ◌≤◌, length, take, drop, ap, subs
 use Rattle.clause_store.specs.Entries.{bare, rooms}
 use Rattle.clause_store.specs.Room.{HasRoomToMove}
 use Rattle.clause_store.proofs.Rooms.{moves_shaped}
-use Rattle.clause_store.proofs.Sweeping.{SameShape-trans}
 use Rattle.std.proofs.lemmas.List.{take-append-le}
 use Rattle.clause_store.specs.Watching.{Grows, kept_from}
 use Rattle.clause_store.specs.Visits.{Parts}
@@ -10,7 +9,7 @@ use Rattle.clause_store.specs.Looks.{LooksBy}
 use Rattle.clause_store.specs.Runs.{RunGives}
 use Rattle.clause_store.specs.Late.{CatchLooks, CatchGives}
 use Rattle.clause_store.specs.declared.run.Reached.TheVariants.{Fixpoint, False as FalseReached}
-use Rattle.clause_store.proofs.Kept.{Grows-trans}
+use Rattle.clause_store.proofs.Keeps.{grows-on, keeps-both}
 use Rattle.clause_store.proofs.Driving.{drive-run, drives-holds}
 use Rattle.clause_store.proofs.Pairs.{LooksBy-join}
 use Rattle.clause_store.proofs.run.go_through.Goals as goal
@@ -21,16 +20,10 @@ returns-in-Fixpoint-clause-gives c =
     let n = c.run-reached.new in
     let p : Parts = record { entries = m.rows.entries; lists = bare m.lists; steps = m.trail.steps } in
     let p' : Parts = record { entries = n.rows.entries; lists = bare n.lists; steps = n.trail.steps } in
-    let grows : Grows (kept_from 0 m.rows.entries) c.args.trail.now.depth m.trail.steps n.trail.steps = subst (λ d. Grows (kept_from 0 m.rows.entries) d m.trail.steps n.trail.steps) c.catch_up-caught.ensures.same.1 c.run-reached.ensures.grows in
-    let gives : RunGives c.args.trail.now.atoms p p' c.catch_up-caught.result.1 c.run-reached.result.1 c.run-reached.result.0 = subst (λ a. RunGives a p p' c.catch_up-caught.result.1 c.run-reached.result.1 c.run-reached.result.0) c.catch_up-caught.ensures.same.0 c.run-reached.ensures.gives in
+    let grows : Grows (kept_from 0 m.rows.entries) c.args.trail.now.depth m.trail.steps n.trail.steps = grows-on _ _ _ _ _ _ _ _ _ c.catch_up-caught.ensures.keeps c.run-reached.ensures.keeps in
+    let gives : RunGives c.args.trail.now.atoms p p' c.catch_up-caught.result.1 c.run-reached.result.1 c.run-reached.result.0 = subst (λ a. RunGives a p p' c.catch_up-caught.result.1 c.run-reached.result.1 c.run-reached.result.0) c.catch_up-caught.ensures.keeps.atoms c.run-reached.ensures.gives in
     let caught : CatchGives c.args.trail.now.atoms c.args.trail.now.depth c.catch_up-caught.result.1 p m.waiting.items Fixpoint = subst (CatchGives c.args.trail.now.atoms c.args.trail.now.depth c.catch_up-caught.result.1 p m.waiting.items) c.in-Fixpoint.is c.catch_up-caught.ensures.gives in
     drive-run c.args.trail.now.atoms c.args.trail.now.depth p p' m.waiting.items c.catch_up-caught.result.1 c.run-reached.result.1 c.run-reached.result.0 grows caught.0 caught.1 gives
-
-pub returns-in-Fixpoint-clause-grows : goal.returns-in-Fixpoint-clause-grows
-returns-in-Fixpoint-clause-grows c =
-    let m = c.catch_up-caught.new in
-    let n = c.run-reached.new in
-    Grows-trans _ _ _ _ _ _ c.catch_up-caught.ensures.clauses c.catch_up-caught.ensures.grows (subst (λ d. Grows (kept_from 0 m.rows.entries) d m.trail.steps n.trail.steps) c.catch_up-caught.ensures.same.1 c.run-reached.ensures.grows)
 
 pub returns-in-Fixpoint-clause-looks : goal.returns-in-Fixpoint-clause-looks
 returns-in-Fixpoint-clause-looks c =
@@ -41,11 +34,11 @@ returns-in-Fixpoint-clause-looks c =
     let caught : CatchGives c.args.trail.now.atoms c.args.trail.now.depth head p m.waiting.items Fixpoint = subst (CatchGives c.args.trail.now.atoms c.args.trail.now.depth head p m.waiting.items) c.in-Fixpoint.is c.catch_up-caught.ensures.gives in
     let looks : CatchLooks c.args.start head m.trail.steps (kept_from 0 c.args.rows.now.entries) c.args.rows.now.looks m.rows.looks Fixpoint = subst (CatchLooks c.args.start head m.trail.steps (kept_from 0 c.args.rows.now.entries) c.args.rows.now.looks m.rows.looks) c.in-Fixpoint.is c.catch_up-caught.ensures.looks in
     let within : head ≤ length m.trail.steps = caught.0.within in
-    let g = c.run-reached.ensures.grows in
+    let g = c.run-reached.ensures.keeps.grows in
     let front : take head n.trail.steps ≡ take head m.trail.steps = ap (λ xs. take head xs) g.gains ∙ take-append-le head m.trail.steps g.added within in
     LooksBy-join (kept_from 0 c.args.rows.now.entries) n.trail.steps c.args.start head c.args.rows.now.looks m.rows.looks n.rows.looks c.steps-steps.ensures.fresh looks.0
     (subst (λ xs. LooksBy (drop c.args.start xs) (kept_from 0 c.args.rows.now.entries) c.args.rows.now.looks m.rows.looks) (sym front) looks.1)
-    (subst (λ cs. LooksBy (drop head n.trail.steps) cs m.rows.looks n.rows.looks) c.catch_up-caught.ensures.clauses c.run-reached.ensures.looks)
+    (subst (λ cs. LooksBy (drop head n.trail.steps) cs m.rows.looks n.rows.looks) c.catch_up-caught.ensures.keeps.clauses c.run-reached.ensures.looks)
 
 pub returns-in-False-clause-gives : goal.returns-in-False-clause-gives
 returns-in-False-clause-gives c =
@@ -57,13 +50,10 @@ returns-in-False-clause-gives c =
 
 pub run-reached-requires-clause-move_room : goal.run-reached-requires-clause-move_room
 run-reached-requires-clause-move_room c =
-    subst (HasRoomToMove c.catch_up-caught.new.rows.entries) (sym c.catch_up-caught.ensures.rooms) (moves_shaped c.args.rows.now.entries c.catch_up-caught.new.rows.entries (rooms c.args.lists.now) c.catch_up-caught.ensures.shape c.requires.move_room)
-
-pub returns-in-Fixpoint-clause-shape : goal.returns-in-Fixpoint-clause-shape
-returns-in-Fixpoint-clause-shape c = SameShape-trans c.args.rows.now.entries c.catch_up-caught.new.rows.entries c.run-reached.new.rows.entries c.catch_up-caught.ensures.shape c.run-reached.ensures.shape
-
-pub returns-in-Fixpoint-clause-rooms : goal.returns-in-Fixpoint-clause-rooms
-returns-in-Fixpoint-clause-rooms c = c.run-reached.ensures.rooms ∙ c.catch_up-caught.ensures.rooms
+    subst (HasRoomToMove c.catch_up-caught.new.rows.entries) (sym c.catch_up-caught.ensures.keeps.rooms) (moves_shaped c.args.rows.now.entries c.catch_up-caught.new.rows.entries (rooms c.args.lists.now) c.catch_up-caught.ensures.keeps.shape c.requires.move_room)
 
 pub returns-in-Fixpoint-clause-room : goal.returns-in-Fixpoint-clause-room
-returns-in-Fixpoint-clause-room c = record { apart = c.catch_up-caught.ensures.room.apart; room = omega (arith, c.catch_up-caught.ensures.room.room, c.run-reached.ensures.count) }
+returns-in-Fixpoint-clause-room c = record { apart = c.catch_up-caught.ensures.room.apart; room = omega (arith, c.catch_up-caught.ensures.room.room, c.run-reached.ensures.keeps.count) }
+
+pub returns-in-Fixpoint-clause-keeps : goal.returns-in-Fixpoint-clause-keeps
+returns-in-Fixpoint-clause-keeps c = keeps-both _ _ _ _ _ _ _ _ _ c.catch_up-caught.ensures.keeps c.run-reached.ensures.keeps

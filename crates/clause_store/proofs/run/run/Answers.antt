@@ -1,4 +1,4 @@
-use Rattle.std.proofs.Common.{◌≡◌, ◌+◌, ◌<◌, ◌≤◌, length, take, get_or, subst, sym, ◌∙◌, arith}
+use Rattle.std.proofs.Common.{◌≡◌, ◌+◌, ◌<◌, ◌≤◌, length, take, get_or, subst, sym, arith}
 use Rattle.literals.specs.Signed.{opposite}
 use Rattle.clause_store.specs.declared.trail.Step.{Step}
 use Rattle.clause_store.specs.Watching.{Grows, kept_from}
@@ -7,11 +7,10 @@ use Rattle.clause_store.specs.Runs.{Turns, TurnsTo}
 use Rattle.clause_store.specs.Entries.{watches_of, bare, rooms}
 use Rattle.clause_store.specs.Room.{HasRoomToMove}
 use Rattle.clause_store.proofs.Rooms.{moves_shaped}
-use Rattle.clause_store.proofs.Sweeping.{SameShape-trans}
 use Rattle.clause_store.specs.Trail.{Assigns}
 use Rattle.clause_store.specs.Looks.{LooksAt}
 use Rattle.clause_store.proofs.Pairs.{Looked, Looked-turn, Looked-by}
-use Rattle.clause_store.proofs.Kept.{Grows-trans}
+use Rattle.clause_store.proofs.Keeps.{grows-on, keeps-both}
 use Rattle.clause_store.proofs.Turning.{Runs-turn, Runs-meets, Grows-longer}
 use Rattle.clause_store.proofs.run.run.Goals as goal
 
@@ -23,11 +22,10 @@ steps-preserved c =
     let s : Step = c.index-steps-head.result in
     let is : s ≡ get_or c.steps.trail.steps c.steps.head s = rw c.steps-in-steps-2.ensures.steps at c.index-steps-head.is in
     let lt : c.steps.head < length c.steps.trail.steps = rw c.steps-in-steps.ensures.steps at c.steps-test.true in
-    let grows : Grows (kept_from 0 c.steps.rows.entries) c.args.trail.now.depth c.steps.trail.steps c.turn.new.trail.steps =
-    subst (λ d. Grows (kept_from 0 c.steps.rows.entries) d c.steps.trail.steps c.turn.new.trail.steps) c.steps.invariant.depth c.in-Whole.ensures.grows in
+    let grows : Grows (kept_from 0 c.steps.rows.entries) c.args.trail.now.depth c.steps.trail.steps c.turn.new.trail.steps = grows-on _ _ _ _ _ _ _ _ _ c.steps.invariant.keeps c.in-Whole.ensures.keeps in
     let turns : Turns c.args.trail.now.atoms (opposite s.literal) p p' (length (watches_of p'.lists (opposite s.literal))) =
     subst (λ f. Turns c.args.trail.now.atoms f p p' (length (watches_of p'.lists f))) c.negated.ensures
-    (subst (λ n. Turns n c.negated.result p p' (length (watches_of p'.lists c.negated.result))) c.steps.invariant.atoms c.in-Whole.ensures.gives) in
+    (subst (λ n. Turns n c.negated.result p p' (length (watches_of p'.lists c.negated.result))) c.steps.invariant.keeps.atoms c.in-Whole.ensures.gives) in
     let longer : length c.steps.trail.steps ≤ length c.turn.new.trail.steps = Grows-longer _ _ _ _ grows in
     let fresh : Assigns (take c.steps.head c.steps.trail.steps) s.literal → ⊥ = subst (λ (x : Step). Assigns (take c.steps.head c.steps.trail.steps) x.literal → ⊥) (sym is) (c.steps-in-steps.ensures.fresh c.steps.head s lt).0 in
     let at : LooksAt (opposite s.literal) c.steps.rows.entries c.steps.rows.looks c.turn.new.rows.looks =
@@ -37,14 +35,8 @@ steps-preserved c =
     c.steps.invariant.from lt is fresh c.steps.invariant.runs.shape grows at c.steps.invariant.looked in
     record {
       runs = Runs-turn c.args.trail.now.atoms c.args.trail.now.depth first p p' c.args.start c.steps.head s lt is grows c.steps.invariant.runs turns;
-      grows = Grows-trans _ _ _ _ _ _ c.steps.invariant.clauses c.steps.invariant.grows grows;
-      clauses = c.in-Whole.ensures.clauses ∙ c.steps.invariant.clauses;
-      count = c.in-Whole.ensures.count ∙ c.steps.invariant.count;
-      atoms = c.in-Whole.ensures.same.0 ∙ c.steps.invariant.atoms;
-      depth = c.in-Whole.ensures.same.1 ∙ c.steps.invariant.depth;
+      keeps = keeps-both _ _ _ _ _ _ _ _ _ c.steps.invariant.keeps c.in-Whole.ensures.keeps;
       within = omega arith;
-      rooms = c.in-Whole.ensures.rooms ∙ c.steps.invariant.rooms;
-      looks = omega (arith, c.steps.invariant.looks, c.in-Whole.ensures.rises);
       from = (let le : c.args.start ≤ c.steps.head = c.steps.invariant.from in omega arith);
       looked = looked;
     }
@@ -57,25 +49,19 @@ returns-in-False-clause-gives c =
     let s : Step = c.index-steps-head.result in
     let is : s ≡ get_or c.steps.trail.steps c.steps.head s = rw c.steps-in-steps-2.ensures.steps at c.index-steps-head.is in
     let lt : c.steps.head < length c.steps.trail.steps = rw c.steps-in-steps.ensures.steps at c.steps-test.true in
-    let grows : Grows (kept_from 0 c.steps.rows.entries) c.args.trail.now.depth c.steps.trail.steps c.turn.new.trail.steps =
-    subst (λ d. Grows (kept_from 0 c.steps.rows.entries) d c.steps.trail.steps c.turn.new.trail.steps) c.steps.invariant.depth c.in-False.ensures.grows in
+    let grows : Grows (kept_from 0 c.steps.rows.entries) c.args.trail.now.depth c.steps.trail.steps c.turn.new.trail.steps = grows-on _ _ _ _ _ _ _ _ _ c.steps.invariant.keeps c.in-False.ensures.keeps in
     let turns : TurnsTo c.args.trail.now.atoms (opposite s.literal) p p' c.in-False.row =
     subst (λ f. TurnsTo c.args.trail.now.atoms f p p' c.in-False.row) c.negated.ensures
-    (subst (λ n. TurnsTo n c.negated.result p p' c.in-False.row) c.steps.invariant.atoms c.in-False.ensures.gives) in
+    (subst (λ n. TurnsTo n c.negated.result p p' c.in-False.row) c.steps.invariant.keeps.atoms c.in-False.ensures.gives) in
     let longer : length c.steps.trail.steps ≤ length c.turn.new.trail.steps = Grows-longer _ _ _ _ grows in
     (Runs-meets c.args.trail.now.atoms c.args.trail.now.depth first p p' c.args.start c.steps.head c.in-False.row s lt is grows c.steps.invariant.runs turns, turns.is_false, omega arith)
-
-pub returns-in-False-clause-grows : goal.returns-in-False-clause-grows
-returns-in-False-clause-grows c =
-    Grows-trans _ _ _ _ _ _ c.steps.invariant.clauses c.steps.invariant.grows (subst (λ d. Grows (kept_from 0 c.steps.rows.entries) d c.steps.trail.steps c.turn.new.trail.steps) c.steps.invariant.depth c.in-False.ensures.grows)
 
 pub returns-in-False-clause-looks : goal.returns-in-False-clause-looks
 returns-in-False-clause-looks c =
     let s : Step = c.index-steps-head.result in
     let is : s ≡ get_or c.steps.trail.steps c.steps.head s = rw c.steps-in-steps-2.ensures.steps at c.index-steps-head.is in
     let lt : c.steps.head < length c.steps.trail.steps = rw c.steps-in-steps.ensures.steps at c.steps-test.true in
-    let grows : Grows (kept_from 0 c.steps.rows.entries) c.args.trail.now.depth c.steps.trail.steps c.turn.new.trail.steps =
-    subst (λ d. Grows (kept_from 0 c.steps.rows.entries) d c.steps.trail.steps c.turn.new.trail.steps) c.steps.invariant.depth c.in-False.ensures.grows in
+    let grows : Grows (kept_from 0 c.steps.rows.entries) c.args.trail.now.depth c.steps.trail.steps c.turn.new.trail.steps = grows-on _ _ _ _ _ _ _ _ _ c.steps.invariant.keeps c.in-False.ensures.keeps in
     let fresh : Assigns (take c.steps.head c.steps.trail.steps) s.literal → ⊥ = subst (λ (x : Step). Assigns (take c.steps.head c.steps.trail.steps) x.literal → ⊥) (sym is) (c.steps-in-steps.ensures.fresh c.steps.head s lt).0 in
     let at : LooksAt (opposite s.literal) c.steps.rows.entries c.steps.rows.looks c.turn.new.rows.looks =
     subst (λ f. LooksAt f c.steps.rows.entries c.steps.rows.looks c.turn.new.rows.looks) c.negated.ensures c.in-False.ensures.looks in
@@ -89,16 +75,10 @@ returns-clause-looks c = Looked-by c.args.rows.now.entries c.steps.trail.steps c
 
 pub turn-requires-clause-move_room : goal.turn-requires-clause-move_room
 turn-requires-clause-move_room c =
-    subst (HasRoomToMove c.steps.rows.entries) (sym c.steps.invariant.rooms) (moves_shaped c.args.rows.now.entries c.steps.rows.entries (rooms c.args.lists.now) c.steps.invariant.runs.shape c.requires.move_room)
+    subst (HasRoomToMove c.steps.rows.entries) (sym c.steps.invariant.keeps.rooms) (moves_shaped c.args.rows.now.entries c.steps.rows.entries (rooms c.args.lists.now) c.steps.invariant.runs.shape c.requires.move_room)
 
-pub returns-in-False-clause-shape : goal.returns-in-False-clause-shape
-returns-in-False-clause-shape c = SameShape-trans c.args.rows.now.entries c.steps.rows.entries c.turn.new.rows.entries c.steps.invariant.runs.shape c.in-False.ensures.shape
+pub returns-in-False-clause-keeps : goal.returns-in-False-clause-keeps
+returns-in-False-clause-keeps c = keeps-both _ _ _ _ _ _ _ _ _ c.steps.invariant.keeps c.in-False.ensures.keeps
 
-pub returns-in-False-clause-rooms : goal.returns-in-False-clause-rooms
-returns-in-False-clause-rooms c = c.in-False.ensures.rooms ∙ c.steps.invariant.rooms
-
-pub returns-clause-shape : goal.returns-clause-shape
-returns-clause-shape c = c.steps.invariant.runs.shape
-
-pub returns-clause-rooms : goal.returns-clause-rooms
-returns-clause-rooms c = c.steps.invariant.rooms
+pub returns-clause-keeps : goal.returns-clause-keeps
+returns-clause-keeps c = c.steps.invariant.keeps

@@ -1,7 +1,6 @@
-use Rattle.std.proofs.Common.{◌≡◌, ◌-◌, ◌≤◌, length}
-use Rattle.clause_store.specs.Watching.{Grows, kept_from}
-use Rattle.clause_store.specs.Entries.{bare, rooms}
-use Rattle.clause_store.specs.Runs.{Runs}
+use Rattle.std.proofs.Common.{◌-◌, ◌≤◌, length}
+use Rattle.clause_store.specs.Entries.{bare}
+use Rattle.clause_store.specs.Runs.{KeepsStore, Runs}
 use Rattle.clause_store.specs.Visits.{Parts}
 use Rattle.clause_store.proofs.Pairs.{Looked}
 use Rattle.clause_store.proofs.run.run.Given as goal
@@ -12,14 +11,8 @@ invariant-steps l =
     let now : Parts = record { entries = l.rows.entries; lists = bare l.lists; steps = l.trail.steps } in
     record {
       runs : Runs l.initial.trail.atoms first now l.start l.head;
-      grows : Grows (kept_from 0 l.initial.rows.entries) l.initial.trail.depth l.initial.trail.steps l.trail.steps;
-      clauses : kept_from 0 l.rows.entries ≡ kept_from 0 l.initial.rows.entries;
-      count : length l.rows.entries ≡ length l.initial.rows.entries;
-      atoms : l.trail.atoms ≡ l.initial.trail.atoms;
-      depth : l.trail.depth ≡ l.initial.trail.depth;
+      keeps : KeepsStore l.initial.rows l.rows l.initial.lists l.lists l.initial.trail l.trail;
       within : l.head ≤ length l.trail.steps;
-      rooms : rooms l.lists ≡ rooms l.initial.lists;
-      looks : l.initial.rows.looks ≤ l.rows.looks;
       from : l.start ≤ l.head;
       looked : Looked l.initial.rows.entries l.trail.steps l.start l.head l.initial.rows.looks l.rows.looks;
     }

@@ -24,11 +24,16 @@ returns-clause-gives c =
     (turn-gives c.args.trail.now.atoms c.args.trail.now.depth c.args.f c.args.rows.now.entries (bare lists) c.args.trail.now.steps c.swap.new.x.watches c.swap.new.y.watches c.index-lists-code.result.watches c.code-code.result s c.sweep-swept.result
     c.code-code.ensures (turn_list c.args.trail.now.atoms c.args.f c.args.rows.now.entries lists c.swap.new.y c.index-lists-code.result c.code-code.result c.code-code.ensures c.swap.ensures.y_after c.requires.known c.requires.watching) c.requires.known c.requires.watching gives)
 
-pub returns-clause-shape : goal.returns-clause-shape
-returns-clause-shape c =
-    swept_shape c.args.trail.now.atoms c.args.trail.now.depth c.args.f _ _ c.sweep-swept.result c.sweep-swept.ensures.gives
-
-pub returns-clause-rooms : goal.returns-clause-rooms
-returns-clause-rooms c =
-    turn_back c.args.trail.now.atoms c.args.f c.args.rows.now.entries c.args.lists.now c.sweep-swept.new.lists c.swap.new.x c.swap.new.y c.index-lists-code.result c.sweep-swept.new.list c.swap-2.new.x c.code-code.result c.code-code.ensures c.swap.ensures.y_after c.requires.known c.requires.watching
-    c.sweep-swept.ensures.rooms.0 c.sweep-swept.ensures.rooms.1 c.swap-2.ensures.x_after
+pub returns-clause-keeps : goal.returns-clause-keeps
+returns-clause-keeps c = record {
+  rises = c.sweep-swept.ensures.rises;
+  grows = c.sweep-swept.ensures.grows;
+  clauses = c.sweep-swept.ensures.clauses;
+  count = c.sweep-swept.ensures.count;
+  shape = swept_shape c.args.trail.now.atoms c.args.trail.now.depth c.args.f _ _ c.sweep-swept.result c.sweep-swept.ensures.gives;
+  rooms =
+      turn_back c.args.trail.now.atoms c.args.f c.args.rows.now.entries c.args.lists.now c.sweep-swept.new.lists c.swap.new.x c.swap.new.y c.index-lists-code.result c.sweep-swept.new.list c.swap-2.new.x c.code-code.result c.code-code.ensures c.swap.ensures.y_after c.requires.known c.requires.watching
+      c.sweep-swept.ensures.rooms.0 c.sweep-swept.ensures.rooms.1 c.swap-2.ensures.x_after;
+  atoms = c.sweep-swept.ensures.same.0;
+  depth = c.sweep-swept.ensures.same.1;
+}

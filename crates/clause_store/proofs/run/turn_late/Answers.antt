@@ -25,11 +25,16 @@ returns-clause-gives c = λ head covers.
     (late-turn c.args.trail.now.atoms c.args.trail.now.depth c.args.f c.args.rows.now.entries (bare lists) c.args.trail.now.steps c.swap.new.x.watches c.swap.new.y.watches c.index-lists-code.result.watches c.code-code.result s c.sweep_late-swept.result
     c.args.waiting.now.items c.sweep_late-swept.new.waiting.items head c.code-code.ensures (turn_list c.args.trail.now.atoms c.args.f c.args.rows.now.entries lists c.swap.new.y c.index-lists-code.result c.code-code.result c.code-code.ensures c.swap.ensures.y_after c.requires.known c.requires.watching) c.requires.known c.requires.watching gives covers)
 
-pub returns-clause-shape : goal.returns-clause-shape
-returns-clause-shape c =
-    late_shape c.args.trail.now.atoms c.args.trail.now.depth c.args.f _ _ c.args.waiting.now.items c.sweep_late-swept.new.waiting.items c.sweep_late-swept.result c.sweep_late-swept.ensures.gives
-
-pub returns-clause-rooms : goal.returns-clause-rooms
-returns-clause-rooms c =
-    turn_back c.args.trail.now.atoms c.args.f c.args.rows.now.entries c.args.lists.now c.sweep_late-swept.new.lists c.swap.new.x c.swap.new.y c.index-lists-code.result c.sweep_late-swept.new.list c.swap-2.new.x c.code-code.result c.code-code.ensures c.swap.ensures.y_after c.requires.known c.requires.watching
-    c.sweep_late-swept.ensures.rooms.0 c.sweep_late-swept.ensures.rooms.1 c.swap-2.ensures.x_after
+pub returns-clause-keeps : goal.returns-clause-keeps
+returns-clause-keeps c = record {
+  rises = c.sweep_late-swept.ensures.rises;
+  grows = c.sweep_late-swept.ensures.grows;
+  clauses = c.sweep_late-swept.ensures.clauses;
+  count = c.sweep_late-swept.ensures.count;
+  shape = late_shape c.args.trail.now.atoms c.args.trail.now.depth c.args.f _ _ c.args.waiting.now.items c.sweep_late-swept.new.waiting.items c.sweep_late-swept.result c.sweep_late-swept.ensures.gives;
+  rooms =
+      turn_back c.args.trail.now.atoms c.args.f c.args.rows.now.entries c.args.lists.now c.sweep_late-swept.new.lists c.swap.new.x c.swap.new.y c.index-lists-code.result c.sweep_late-swept.new.list c.swap-2.new.x c.code-code.result c.code-code.ensures c.swap.ensures.y_after c.requires.known c.requires.watching
+      c.sweep_late-swept.ensures.rooms.0 c.sweep_late-swept.ensures.rooms.1 c.swap-2.ensures.x_after;
+  atoms = c.sweep_late-swept.ensures.same.0;
+  depth = c.sweep_late-swept.ensures.same.1;
+}

@@ -1,4 +1,4 @@
-use Rattle.std.proofs.Common.{◌<◌, ◌++◌, ◌∷◌, [], true, All, Some, subst, sym, refl, arith}
+use Rattle.std.proofs.Common.{rules, ◌<◌, ◌++◌, ◌∷◌, [], true, All, Some, subst, sym, refl, arith}
 use Rattle.std.proofs.lemmas.List.{length_push}
 use Rattle.literals.specs.Signed.{Signed}
 use Rattle.clause_store.specs.Entries.{Entry, bare, rooms}
@@ -22,8 +22,13 @@ invariant_of-self-in-Ok c =
       moves = moves_empty i.rows.entries e (rooms i.lists.items) c.requires.none c.self.invariant.moves;
     })
 
-pub returns-in-Ok-clause-added : goal.returns-in-Ok-clause-added
-returns-in-Ok-clause-added c =
-    let i = c.self.inside in
-    let e : Entry = record { literals = c.args.literals.now; first = c.new-zero.result; second = c.new-zero.result; level = c.args.level; live = true } in
-    rw (c.in-Ok.ensures.added, ← c.self.view_is, c.len-row.ensures) (stored_more i.rows.entries (i.rows.entries ++ e ∷ []) c.args.literals.now c.args.level i.trail (gains_new i.rows.entries e refl))
+pub returns-in-Ok : goal.returns-in-Ok
+returns-in-Ok c = record {
+  added =
+      (let i = c.self.inside in
+      let e : Entry = record { literals = c.args.literals.now; first = c.new-zero.result; second = c.new-zero.result; level = c.args.level; live = true } in
+      rw (c.in-Ok.ensures.added, ← c.self.view_is, c.len-row.ensures) (stored_more i.rows.entries (i.rows.entries ++ e ∷ []) c.args.literals.now c.args.level i.trail (gains_new i.rows.entries e refl)));
+  same = search rules;
+  settled = search rules;
+  looks = search rules;
+}

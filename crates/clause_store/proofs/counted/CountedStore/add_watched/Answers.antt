@@ -1,4 +1,4 @@
-use Rattle.std.proofs.Common.{◌≡◌, ◌<◌, ◌≤◌, ◌+◌, List, All, length, vec_capacity, ◌∙◌, ap, subst, sym, refl, arith}
+use Rattle.std.proofs.Common.{rules, ◌≡◌, ◌<◌, ◌≤◌, ◌+◌, List, All, length, vec_capacity, ◌∙◌, ap, subst, sym, refl, arith}
 use Rattle.literals.specs.Signed.{Signed}
 use Rattle.clause_store.specs.Entries.{Listing, bare, rooms, room_of}
 use Rattle.clause_store.specs.Looks.{AreApart}
@@ -33,11 +33,6 @@ invariant_of-self-2 c =
       moves = subst (HasRoomToMove k.new.rows.entries) (sym (k.ensures.rooms ∙ ap rooms lists))
           (moves_gains i.rows.entries k.new.rows.entries c.args.literals.now c.args.level (rooms i.lists.items) (rooms m) c.in_ok-keep_up.ensures.gains grows more c.self.invariant.moves);
     })
-
-pub returns-clause-added : goal.returns-clause-added
-returns-clause-added c =
-    let i = c.self.inside in
-    rw (← c.self.view_is, c.len-row.ensures) (stored_more i.rows.entries c.keep_up.new.rows.entries c.args.literals.now c.args.level i.trail c.in_ok-keep_up.ensures.gains)
 
 pub keep_up-requires-clause-within : goal.keep_up-requires-clause-within
 keep_up-requires-clause-within c =
@@ -84,3 +79,13 @@ invariant_of-self-in_err-keep_up c =
     (roomy_same i.rows.entries k.new.rows.entries i.lists.items k.new.lists i.trail i.head i.waiting.items k.new.waiting.items (vec_capacity i.waiting) (vec_capacity k.new.waiting) i.empty c.in_err-keep_up.ensures.same.0
     (c.in_err-keep_up.ensures.same.1 ∙ (ap bare lists ∙ (c.make_room.ensures.watches ∙ ap bare c.deref_mut.ensures.value)))
     (subst (λ rs. (l : Signed) → room_of (rooms i.lists.items) l ≤ room_of rs l) (sym (k.ensures.rooms ∙ ap rooms lists)) grows) (c.in_err-keep_up.ensures.same.2 ∙ c.make_room_to_wait.ensures.items) k.ensures.waiting c.self.invariant)
+
+pub returns : goal.returns
+returns c = record {
+  added =
+      (let i = c.self.inside in
+      rw (← c.self.view_is, c.len-row.ensures) (stored_more i.rows.entries c.keep_up.new.rows.entries c.args.literals.now c.args.level i.trail c.in_ok-keep_up.ensures.gains));
+  same = search rules;
+  settled = search rules;
+  looks = search rules;
+}
