@@ -29,8 +29,10 @@ use Rattle.first_clauses.proofs.Parts as Parts
 use Rattle.model_build.specs.Parts.{AreSortedParts}
 use Rattle.exact_model.specs.Places.{AreAtMarks}
 use Rattle.closure_log.specs.Seen.{IsOfTerms, IsSetting}
+use Rattle.bound_log.specs.Told.{State}
 use Rattle.theory_combine.specs.declared.errors.BoundError.{BoundError}
 use Rattle.theory_combine.specs.declared.errors.BoundError.TheVariants.{Memory, Range}
+use Rattle.theory_combine.specs.Begin.{AddsLeaves}
 use Rattle.theory_combine.specs.Columns.{with_leaves}
 use Rattle.theory_combine.specs.Errors.{IsErrorIn, IsErrorSeen, IsSumIn}
 use Rattle.theory_combine.specs.Pairs.{HaveReadable}
@@ -98,3 +100,16 @@ module _ (flat_law : FlatSaysTheSame) (first_law : AtomsAreFirst) (s : Stack) (m
   error_seen (Range g) h =
       let known : AreCheckSums s.trees (flat s.frames) h.sums = begins_known [] (All-nil (IsLeaf s.trees (flat s.frames))) h.sums h.apart h.columns in
       record { sums = h.sums; known = known; are_branches = tt; leaves = step_left s h.sums [] None table (begins_shown h.sums known) g h.past }
+
+-- ---- leaves that get variables
+
+pub leaves_none : (s : Stack) (b : State) → AddsLeaves s b b
+leaves_none s b = record { knows = λ table k. k; columns = λ table h. h; basis = λ h. h; log = refl }
+
+pub leaves_then : (s : Stack) (b c d : State) → AddsLeaves s b c → AddsLeaves s c d → AddsLeaves s b d
+leaves_then s b c d h k = record {
+  knows = λ table known. k.knows table (h.knows table known);
+  columns = λ table has. k.columns table (h.columns table has);
+  basis = λ has. k.basis (h.basis has);
+  log = k.log ∙ h.log;
+}

@@ -6,10 +6,12 @@ pub mod Columns
 pub mod Errors
 pub mod Found
 pub mod Held
+pub mod Kept
 pub mod Last
 pub mod Numbering
 pub mod Pairs
 pub mod Pivots
 pub mod Progress
+pub mod Ready
 pub mod Shown
 pub mod Steps

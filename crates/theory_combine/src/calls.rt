@@ -1,10 +1,10 @@
 //! The calls of a search. Once an atom was lost nothing more is told.
 ghost use Rattle.std.specs.Prelude.{◌≡◌, ◌<◌, ◌≤◌, length, take};
 ghost use Rattle.search_port.specs.State.{IsFull, IsOpenIn};
-ghost use Rattle.search_port.specs.Calls.{AssertedBy, CheckedBy, Goes, InferredBy};
-ghost use Rattle.search_port.specs.Pivots.{KeepsPivots};
+ghost use Rattle.search_port.specs.Calls.{AssertedBy, CheckedBy, InferredBy};
 ghost use Rattle.check_atoms.specs.Standing.{StandingHolds};
 ghost use Rattle.theory_combine.specs.Progress.{full_state, state, AreParts, IsProgress};
+ghost use Rattle.theory_combine.specs.Ready.{WentOn};
 
 use crate::errors::seen_of;
 use crate::held::{tell_both, undo_both};
@@ -48,9 +48,7 @@ pub fn tell(parts: &Parts<'_>, progress: &mut Progress, literal: Literal) -> Ass
 pub fn look(parts: &Parts<'_>, progress: &mut Progress, budget: &mut Budget) -> Inferred
     requires parts { AreParts parts.now }
     requires progress { IsProgress parts.now progress.old }
-    ensures progress { IsProgress parts.now progress.new }
-    ensures goes { Goes (full_state parts.now progress.old) (full_state parts.now progress.new) budget.old budget.new }
-    ensures pivots { KeepsPivots (full_state parts.now progress.old) (full_state parts.now progress.new) budget.old budget.new }
+    ensures went { WentOn parts.now progress.old progress.new budget.old budget.new }
     ensures found { InferredBy (full_state parts.now progress.new) budget.old budget.new result }
 {
     let _spent = budget.room();
@@ -67,9 +65,7 @@ pub fn check(parts: &Parts<'_>, progress: &mut Progress, budget: &mut Budget) ->
     requires progress { IsProgress parts.now progress.old }
     requires full { IsFull (state parts.now progress.old).reading (state parts.now progress.old).log }
     requires standing { StandingHolds (state parts.now progress.old).reading (state parts.now progress.old).log }
-    ensures progress { IsProgress parts.now progress.new }
-    ensures goes { Goes (full_state parts.now progress.old) (full_state parts.now progress.new) budget.old budget.new }
-    ensures pivots { KeepsPivots (full_state parts.now progress.old) (full_state parts.now progress.new) budget.old budget.new }
+    ensures went { WentOn parts.now progress.old progress.new budget.old budget.new }
     ensures found { CheckedBy (full_state parts.now progress.new) budget.old budget.new result }
 {
     let _spent = budget.room();

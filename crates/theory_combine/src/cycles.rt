@@ -5,6 +5,7 @@ ghost use Rattle.search_port.specs.Spending.{Spending};
 ghost use Rattle.congruence.specs.Implied.{IsPressingLemma};
 ghost use Rattle.closure_log.specs.Seen.{state_of, IsSetting};
 ghost use Rattle.theory_combine.specs.Held.{IsHeld};
+ghost use Rattle.theory_combine.specs.Kept.{IsHeldOf, KeepsHeld};
 
 use crate::differences::literal_of;
 use crate::held::Held;
@@ -120,11 +121,8 @@ fn follow_paths(
     stack: &Stack,
     atoms: &AtomNumbers,
 ) -> Result<Vec<Lemma>, AllocError>
-    requires setting { IsSetting stack.now atoms.now.atoms }
-    requires held { IsHeld stack.now atoms.now.atoms held.old }
-    ensures held { IsHeld stack.now atoms.now.atoms held.new }
-    ensures log { held.new.closure.log.items ≡ held.old.closure.log.items }
-    ensures bounds { held.new.bounds ≡ held.old.bounds }
+    requires { IsHeldOf stack.now atoms.now.atoms held.old }
+    ensures keeps { KeepsHeld stack.now atoms.now.atoms held.old held.new }
     ensures found { IfOk result (λ cs. All (IsPressingLemma (state_of stack.now atoms.now.atoms held.new.closure.log.items)) cs.items) }
 {
     let mut clauses = Vec::new(alloc);
@@ -147,11 +145,8 @@ fn follow_known(
     stack: &Stack,
     atoms: &AtomNumbers,
 ) -> Result<Option<Inferred>, AllocError>
-    requires setting { IsSetting stack.now atoms.now.atoms }
-    requires held { IsHeld stack.now atoms.now.atoms held.old }
-    ensures held { IsHeld stack.now atoms.now.atoms held.new }
-    ensures log { held.new.closure.log.items ≡ held.old.closure.log.items }
-    ensures bounds { held.new.bounds ≡ held.old.bounds }
+    requires { IsHeldOf stack.now atoms.now.atoms held.old }
+    ensures keeps { KeepsHeld stack.now atoms.now.atoms held.old held.new }
     ensures found { IfOk result (λ o. (b c : Spending) → IfSome o (InferredBy (state_of stack.now atoms.now.atoms held.new.closure.log.items) b c)) }
 {
     if let Some(clause) = meet_differences(alloc, held, stack, atoms)? {

@@ -4,7 +4,6 @@ ghost use Rattle.fraction128.specs.Whole.{InRange};
 ghost use Rattle.smt_meaning.specs.declared.clauses.Atom.TheVariants.{AtMost, Same};
 ghost use Rattle.smt_meaning.specs.Term.{Tree, tree_at};
 ghost use Rattle.smt_meaning.specs.Atoms.{at_most_atom};
-ghost use Rattle.atom_form.specs.AtomTableNumbers.{IsAt};
 ghost use Rattle.linear_forms.specs.Table.{AreForms};
 ghost use Rattle.linear_forms.specs.Differences.{Refuses};
 ghost use Rattle.pair_bounds.specs.Pairs.{at_most_fits};
@@ -12,6 +11,7 @@ ghost use Rattle.bound_log.specs.Told.{column_sums};
 ghost use Rattle.bound_log.specs.Growth.{IsProper};
 ghost use Rattle.theory_combine.specs.Pairs.{IsFit, IsRefused, IsSought, IsWanted};
 ghost use Rattle.theory_combine.specs.Progress.{state, AreParts, IsUnderWay, Went};
+ghost use Rattle.theory_combine.specs.Ready.{HasLow, IsAtMostAt};
 ghost use Rattle.theory_combine.specs.Shown.{IsLeft};
 ghost use Rattle.theory_combine.specs.Steps.{IsStep};
 
@@ -127,9 +127,8 @@ fn tie(
 ) -> Step
     requires parts { AreParts parts.now }
     requires under_way { IsUnderWay parts.now progress.old }
-    requires wanted { IsWanted parts.now.stack.now parts.now.marks.items progress.old.atoms.atoms pair }
-    requires low { IsAt progress.old.atoms.atoms low (at_most_atom parts.now.stack.now.trees (tree_at parts.now.stack.now.trees pair.left) (tree_at parts.now.stack.now.trees pair.right)) }
-    requires high { IsAt progress.old.atoms.atoms high (at_most_atom parts.now.stack.now.trees (tree_at parts.now.stack.now.trees pair.right) (tree_at parts.now.stack.now.trees pair.left)) }
+    requires low { HasLow parts.now.stack.now parts.now.marks.items progress.old.atoms.atoms pair low }
+    requires high { IsAtMostAt parts.now.stack.now.trees progress.old.atoms.atoms pair.right pair.left high }
     ensures went { Went parts.now progress.old progress.new budget.old budget.new }
     ensures step { IsStep (state parts.now progress.new) budget.old budget.new result }
 {
@@ -240,8 +239,7 @@ fn go_on_above(
 ) -> Step
     requires parts { AreParts parts.now }
     requires under_way { IsUnderWay parts.now progress.old }
-    requires wanted { IsWanted parts.now.stack.now parts.now.marks.items progress.old.atoms.atoms pair }
-    requires low { IsAt progress.old.atoms.atoms low (at_most_atom parts.now.stack.now.trees (tree_at parts.now.stack.now.trees pair.left) (tree_at parts.now.stack.now.trees pair.right)) }
+    requires low { HasLow parts.now.stack.now parts.now.marks.items progress.old.atoms.atoms pair low }
     ensures went { Went parts.now progress.old progress.new budget.old budget.new }
     ensures step { IsStep (state parts.now progress.new) budget.old budget.new result }
 {

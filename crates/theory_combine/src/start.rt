@@ -1,23 +1,18 @@
 //! What a search begins with, before anything is told.
-ghost use Rattle.std.specs.Prelude.{◌≡◌, ◌<◌, List, [], length, All, IfOk, IfErr, OnOk};
+ghost use Rattle.std.specs.Prelude.{◌≡◌, ◌<◌, [], length, All, IfOk, IfErr, OnOk};
 ghost use Rattle.fraction128.specs.Lines.{HasBasis, first_basis};
-ghost use Rattle.smt_meaning.specs.declared.clauses.Atom.{Atom};
-ghost use Rattle.smt_meaning.specs.Stack.{signature_of};
-ghost use Rattle.term_store.specs.Terms.{AreDifferent};
 ghost use Rattle.search_port.specs.State.{atom_at};
 ghost use Rattle.check_atoms.specs.Marks.{AreStackParts};
 ghost use Rattle.check_atoms.specs.Numbering.{IsNormal};
 ghost use Rattle.check_atoms.specs.OfStack.{AreCheckAtoms};
-ghost use Rattle.model_build.specs.Parts.{AreSortedParts};
 ghost use Rattle.bound_log.specs.Told.{column_sums};
-ghost use Rattle.bound_log.specs.Atoms.{Knows, KnowsOneMore, KnowsTheSame};
+ghost use Rattle.bound_log.specs.Atoms.{Knows, KnowsOneMore};
 ghost use Rattle.bound_log.specs.Columns.{AddsColumns, HasColumnsOf};
 ghost use Rattle.bound_log.specs.Growth.{GrowsVariables};
 ghost use Rattle.bound_log.specs.Pending.{plain_grid};
-ghost use Rattle.theory_combine.specs.Begin.{IsBegun};
+ghost use Rattle.theory_combine.specs.Begin.{AddsLeaves, AreMarkedParts, IsBegun};
 ghost use Rattle.theory_combine.specs.Columns.{HasKnownColumns};
 ghost use Rattle.theory_combine.specs.Errors.{IsErrorAt, IsErrorIn, IsErrorSeen};
-ghost use Rattle.theory_combine.specs.Shown.{AreOfAssertions};
 
 use crate::differences::Differences;
 use crate::errors::{BoundError, know_bound, know_other};
@@ -93,13 +88,8 @@ fn add_if_leaf(
     bounds: &mut BoundLog,
     place: u32,
 ) -> Result<(), AllocError>
-    requires parts { AreSortedParts (signature_of stack.now.frames) stack.now.trees marks.now }
-    requires of_assertions { AreOfAssertions stack.now marks.now }
-    requires different { AreDifferent stack.now.trees }
-    ensures knows { KnowsTheSame bounds.old bounds.new }
-    ensures columns { (table : List Atom) → HasKnownColumns stack.now table bounds.old → HasKnownColumns stack.now table bounds.new }
-    ensures basis { HasBasis (first_basis (column_sums bounds.old)) (plain_grid bounds.old) → HasBasis (first_basis (column_sums bounds.new)) (plain_grid bounds.new) }
-    ensures log { bounds.new.log ≡ bounds.old.log }
+    requires { AreMarkedParts stack.now marks.now }
+    ensures { AddsLeaves stack.now bounds.old bounds.new }
 {
     flat_says_the_same();
     if !is_marked_leaf(stack, marks, place) {
@@ -115,13 +105,8 @@ fn add_leaves(
     marks: &[bool],
     bounds: &mut BoundLog,
 ) -> Result<(), AllocError>
-    requires parts { AreSortedParts (signature_of stack.now.frames) stack.now.trees marks.now }
-    requires of_assertions { AreOfAssertions stack.now marks.now }
-    requires different { AreDifferent stack.now.trees }
-    ensures knows { KnowsTheSame bounds.old bounds.new }
-    ensures columns { (table : List Atom) → HasKnownColumns stack.now table bounds.old → HasKnownColumns stack.now table bounds.new }
-    ensures basis { HasBasis (first_basis (column_sums bounds.old)) (plain_grid bounds.old) → HasBasis (first_basis (column_sums bounds.new)) (plain_grid bounds.new) }
-    ensures log { bounds.new.log ≡ bounds.old.log }
+    requires { AreMarkedParts stack.now marks.now }
+    ensures { AddsLeaves stack.now bounds.old bounds.new }
 {
     for place in 0..stack.terms().len() {
         add_if_leaf(alloc, stack, marks, bounds, place)?;

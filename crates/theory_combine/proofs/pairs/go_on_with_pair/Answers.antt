@@ -16,3 +16,6 @@ pub go_on_with_bound-requires-clause-leaves : goal.go_on_with_bound-requires-cla
 go_on_with_bound-requires-clause-leaves c =
     bound_leaves c.bounds_are_over_leaves.ensures c.args.parts.now.stack.now c.args.parts.now.marks.items c.args.pair.left c.args.pair.right c.in-New.bound.sum.items c.in-New.bound.threshold c.laws.ensures
     c.requires.parts.2 c.requires.parts.0.size c.requires.wanted.left c.requires.wanted.right c.in-New.ensures.sought.3
+
+pub go_on_above-requires-clause-low : goal.go_on_above-requires-clause-low
+go_on_above-requires-clause-low c = record { wanted = c.requires.wanted; at = rw c.in-Number.is at c.seek-sought.ensures.sought }

@@ -1,10 +1,8 @@
-use Rattle.std.proofs.Common.{◌∙◌}
+use Rattle.theory_combine.proofs.Beginning.{leaves_none, leaves_then}
 use Rattle.theory_combine.proofs.start.add_leaves.Goals as goal
 
+pub loop-place-init : goal.loop-place-init
+loop-place-init c = leaves_none c.args.stack.now c.args.bounds.now
+
 pub loop-place-preserved : goal.loop-place-preserved
-loop-place-preserved c = record {
-  knows = λ table k. c.add_if_leaf.ensures.knows table (c.loop-place.invariant.knows table k);
-  columns = λ table h. c.add_if_leaf.ensures.columns table (c.loop-place.invariant.columns table h);
-  basis = λ h. c.add_if_leaf.ensures.basis (c.loop-place.invariant.basis h);
-  log = c.add_if_leaf.ensures.log ∙ c.loop-place.invariant.log;
-}
+loop-place-preserved c = leaves_then c.args.stack.now c.args.bounds.now c.loop-place.bounds c.add_if_leaf.new.bounds c.loop-place.invariant c.add_if_leaf.ensures

@@ -42,9 +42,9 @@ returns c =
       basis = c.add_leaves.ensures.basis c.requires.basis;
     }
 
-pub add_leaves-requires-clause-parts : goal.add_leaves-requires-clause-parts
-add_leaves-requires-clause-parts c =
-    sorted_parts c.args.stack.now c.args.marks.now c.laws.ensures c.requires.marks c.args.atoms.now.atoms c.requires.atoms c.sorts.result.now c.sorts.ensures
-
-pub add_leaves-requires-clause-different : goal.add_leaves-requires-clause-different
-add_leaves-requires-clause-different c = subst AreDifferent c.terms.ensures.trees c.len.ensures.different
+pub add_leaves-requires : goal.add_leaves-requires
+add_leaves-requires c = record {
+  parts = sorted_parts c.args.stack.now c.args.marks.now c.laws.ensures c.requires.marks c.args.atoms.now.atoms c.requires.atoms c.sorts.result.now c.sorts.ensures;
+  of_assertions = c.requires.marks.only;
+  different = subst AreDifferent c.terms.ensures.trees c.len.ensures.different;
+}
