@@ -7,12 +7,13 @@ use Rattle.fraction128.specs.Number.{unreduced_sum, unreduced_product, whole}
 use Rattle.fraction128.proofs.RingEquations.{var, sum, product, minus, solve}
 use Rattle.fraction128.proofs.WholeNumbers.{wholes}
 use Rattle.fraction128.specs.declared.Summand.{Summand}
-use Rattle.fraction128.specs.Grid.{is_turned, turned, variable_of}
+use Rattle.fraction128.specs.Grid.{turned, variable_of}
 use Rattle.fraction128.specs.Lines.{sum_value}
 use Rattle.simplex.proofs.Leaves.{leaf_found}
 use Rattle.simplex_steps.specs.State.{values}
 use Rattle.sum_bounds.specs.Bounds.{told_bound, told_side, told_number, MeetsSide, Meets, sums, leaf_values}
 use Rattle.sum_bounds.specs.Clauses.{plain}
+use Rattle.sum_bounds.proofs.ClauseLaws.{turned_by, value_turned}
 use Rattle.bound_log.specs.Fractions.{FractionsHold, LeavesHaveValues}
 use Rattle.bound_log.proofs.Wholes.{bounds_told}
 
@@ -37,15 +38,7 @@ negated_value w (p ∷ ps) =
     ap (λ (y : Ratio). unreduced_sum (unreduced_product (whole (neg_ℤ p.coefficient)) (w p.term)) y) (negated_value w ps) ∙ negated_plus p.coefficient (w p.term) (sum_value w ps)
 
 abbrev turned_value : Bool → Ratio → Ratio
-turned_value true x = negation x
-turned_value false x = x
-
-value_turned : (w : ℕ → Ratio) (ps : List Summand) → sum_value w (turned ps) ≡ turned_value (is_turned ps) (sum_value w ps)
-value_turned w ps = by (is_turned ps) refl
-  where
-    by : (b : Bool) → is_turned ps ≡ b → sum_value w (turned ps) ≡ turned_value (is_turned ps) (sum_value w ps)
-    by true e = rw e (negated_value w ps)
-    by false e = rw e refl
+turned_value = turned_by negation
 
 -- ---- bounds
 
@@ -68,7 +61,7 @@ fractions_hold table s state knows met l sum_ k among positive is some =
     All-contains (Meets (sums s.bounds) w) s.bounds.told (told_bound l v.variable v.turned k) met o.told
     in
     let value : sum_value w (sums s.bounds v.variable) ≡ turned_value v.turned (sum_value w (plain sum_)) =
-    ap (sum_value w) o.stands.sum ∙ value_turned w (plain sum_) ∙ ap (λ (b : Bool). turned_value b (sum_value w (plain sum_))) (sym o.stands.sign)
+    ap (sum_value w) o.stands.sum ∙ value_turned (sum_value w) negation (plain sum_) (negated_value w (plain sum_)) ∙ ap (λ (b : Bool). turned_value b (sum_value w (plain sum_))) (sym o.stands.sign)
     in
     at_most v.turned k (sum_value w (plain sum_))
     (subst (λ (b : Bool). MeetsSide (told_side b v.turned) (told_number b v.turned k) (turned_value v.turned (sum_value w (plain sum_)))) positive

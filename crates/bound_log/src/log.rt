@@ -28,12 +28,12 @@ ghost use Rattle.bound_log.specs.declared.said.Said.TheVariants.{Nothing};
 use crate::plain::plain_sum;
 use crate::report::{Reported, report_of};
 use crate::room::shut_out;
-use crate::said::{Said, assert, push, said_of, start_of};
+use crate::said::{Said, assert, said_of};
 use crate::variables::{add_leaf, variable_of};
 use congruence::lemma_with;
 use fraction128::{Fraction, Grid, Line, Pending, Seq};
 use literals::Literal;
-use search_port::Lemma;
+use search_port::{Lemma, push_told, start_of};
 use simplex::PivotLines;
 use smt_meaning::Summand;
 use std::alloc::{AllocError, Global};
@@ -77,7 +77,7 @@ fn tell_said(
     ensures err_starts { OnErr result (starts.new.items ≡ starts.old.items) }
 {
     let start = bounds.len();
-    push(log, starts, literal, start)?;
+    push_told(log, starts, literal, start)?;
     match assert(bounds, said, literal) {
         Ok(()) => Ok(()),
         Err(failure) => {

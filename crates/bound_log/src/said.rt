@@ -1,11 +1,10 @@
 //! What atoms say of sums, and literals told as bounds.
-ghost use Rattle.std.specs.Prelude.{◌≡◌, ◌<◌, ◌≤◌, ◌^◌, ◌++◌, ◌∷◌, [], length, slice_index_or, OnOk, OnErr, IfErr};
+ghost use Rattle.std.specs.Prelude.{◌≡◌, ◌<◌, ◌≤◌, ◌^◌, ◌++◌, length, OnOk, OnErr, IfErr};
 ghost use Rattle.tableau.specs.Failing.{IsRange};
 ghost use Rattle.simplex.specs.State.{KeepsValues};
 ghost use Rattle.bound_log.specs.Told.{said_at, told_by, IsKnown, IsPast};
 
 use literals::Literal;
-use std::alloc::AllocError;
 use sum_bounds::{SumBounds, SumVariable};
 use tableau::Failure;
 
@@ -40,30 +39,4 @@ pub(crate) fn assert(bounds: &mut SumBounds, said: Said, literal: Literal) -> Re
         Said::Nothing => Ok(()),
         Said::Bound { of, threshold } => bounds.assert(literal, of, threshold),
     }
-}
-
-/// Adds a literal, with the count of bounds told before it. An `Err`, for want of memory, changes nothing.
-pub(crate) fn push(
-    log: &mut Vec<Literal>,
-    starts: &mut Vec<usize>,
-    literal: Literal,
-    start: usize,
-) -> Result<(), AllocError>
-    ensures ok { OnOk result ((log.new.items ≡ log.old.items ++ literal ∷ []) × (starts.new.items ≡ starts.old.items ++ start ∷ [])) }
-    ensures err { OnErr result ((log.new.items ≡ log.old.items) × (starts.new.items ≡ starts.old.items)) }
-{
-    starts.push(start)?;
-    if log.push(literal).is_err() {
-        let _ = starts.pop();
-        return Err(AllocError);
-    }
-    Ok(())
-}
-
-/// How many bounds were told before a literal.
-pub(crate) fn start_of(starts: &[usize], count: usize) -> usize
-    requires { count < length starts.now }
-    ensures { result ≡ slice_index_or starts.now count 0 }
-{
-    starts[count]
 }

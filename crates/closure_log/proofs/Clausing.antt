@@ -1,5 +1,5 @@
 -- Clauses of a part that was read.
-use Rattle.std.proofs.Common.{◌≡◌, ℕ, ◌<◌, ◌≤◌, inl, inr, Bool, true, false, not, List, [], ◌∷◌, ◌++◌, length, All, Contains, Option, Some, None, append-nil, subst, sym, ap, ◌∙◌, refl, arith}
+use Rattle.std.proofs.Common.{◌≡◌, ℕ, ◌≤◌, inl, inr, Bool, true, false, not, List, [], ◌∷◌, ◌++◌, All, Contains, Some, None, append-nil, subst, sym, refl, arith}
 use Rattle.std.specs.List.{AllZip}
 use Rattle.std.proofs.lemmas.List.Elements.{All-nil, All-cons, Contains-append_left, Contains-append_right, Contains-append_cases}
 use Rattle.literals.specs.Signed.{Signed}
@@ -23,7 +23,7 @@ use Rattle.closure_log.proofs.Setting.{truth_bool}
 use Rattle.closure_log.specs.Odd.{HasAgainst}
 use Rattle.closure_log.specs.OddLaws.{OddClauseIsTrue}
 use Rattle.closure_log.specs.Parts.{IsWideXor, IsPlacedLog}
-use Rattle.closure_log.specs.Read.{assumed, AreAgainst, HasOpen, IsRead, PressesWhereRead, IsFalseWhereRead}
+use Rattle.closure_log.specs.Read.{AreAgainst, IsRead, PressesWhereRead, IsFalseWhereRead}
 
 at_one_level : FlatSaysTheSame → (s : Stack) (table : List Atom) (log : List Signed) (places : List ℕ) → IsSetting s table → IsPlacedLog table log places → IsToldAtOneLevel (signature_of s.frames) (state_of s table log)
 at_one_level flat_law s table log places setting placed =

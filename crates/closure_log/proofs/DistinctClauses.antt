@@ -6,10 +6,7 @@ use Rattle.literals.specs.Signed.{Signed, opposite, literal_true, some_true}
 use Rattle.smt_meaning.specs.declared.clauses.Atom.{Atom}
 use Rattle.smt_meaning.specs.declared.clauses.Atom.TheVariants.{Truth as TruthAtom}
 use Rattle.smt_meaning.specs.declared.values.Value.{Value}
-use Rattle.smt_meaning.specs.declared.terms.Operator.TheVariants.{Distinct}
-use Rattle.smt_meaning.specs.declared.terms.Head.TheVariants.{Theory}
 use Rattle.smt_meaning.specs.Clause.{atom_true}
-use Rattle.smt_meaning.specs.Interpretation.{Interprets}
 use Rattle.smt_meaning.specs.Nodes.{pick}
 use Rattle.smt_meaning.specs.Stack.{signature_of}
 use Rattle.smt_meaning.specs.StackCommand.{Stack}
@@ -17,7 +14,7 @@ use Rattle.smt_meaning.specs.Term.{Tree, tree_at, Interpretation, value, values,
 use Rattle.search_port.specs.State.{atom_at, IsFalseIn, AllFalseIn}
 use Rattle.congruence.specs.declared.congruence.Congruence.{Congruence}
 use Rattle.congruence.specs.Justified.{truth_by}
-use Rattle.congruence.specs.Clauses.{IsTrueEverywhere, IsFalseClause, AddsReasons}
+use Rattle.congruence.specs.Clauses.{IsFalseClause, AddsReasons}
 use Rattle.congruence.proofs.Reasoning.{each_false, true_unless, true_where, twice}
 use Rattle.congruence.proofs.Values.{same_value-false, sign-true}
 use Rattle.closure_log.specs.Told.{IsTold}

@@ -1,5 +1,5 @@
 -- A clause against truths that a `xor` doesn't give.
-use Rattle.std.proofs.Common.{◌≡◌, ℕ, Bool, true, false, not, List, [], ◌∷◌, map, All, Contains, Option, Some, None, subst, sym, ap, ◌∙◌, refl}
+use Rattle.std.proofs.Common.{◌≡◌, ℕ, Bool, true, false, not, List, [], ◌∷◌, map, All, Option, Some, None, subst, sym, ap, ◌∙◌, refl}
 use Rattle.std.specs.List.{AllZip}
 use Rattle.std.proofs.lemmas.List.Elements.{All-head, All-tail, All-contains}
 use Rattle.literals.specs.Signed.{Signed, sign, literal_true, some_true}
@@ -20,7 +20,7 @@ use Rattle.smt_laws.specs.TermLaws.{ValueHasItsSort}
 use Rattle.check_atoms.specs.Atoms.{is_bool_at}
 use Rattle.congruence.specs.Justified.{truth_by}
 use Rattle.congruence.proofs.Reasoning.{each_false, true_unless}
-use Rattle.closure_log.specs.Odd.{is_odd, IsXor, IsAgainst, HasAgainst}
+use Rattle.closure_log.specs.Odd.{is_odd, IsXor, HasAgainst}
 use Rattle.closure_log.specs.OddLaws.{OddClauseIsTrue}
 
 -- ---- truths

@@ -1,5 +1,5 @@
 -- Parts whose truths all are told.
-use Rattle.std.proofs.Common.{◌≡◌, ℕ, zero, suc, ◌<◌, ◌⊎◌, inl, inr, Bool, true, false, not, List, [], ◌∷◌, ◌++◌, length, All, Contains, Option, Some, None, is_some, append-nil, subst, sym, ap, ◌∙◌, refl, arith}
+use Rattle.std.proofs.Common.{◌≡◌, ℕ, zero, suc, ◌⊎◌, inl, inr, Bool, true, false, not, List, [], ◌∷◌, ◌++◌, Contains, Option, Some, None, is_some, append-nil, subst, sym, ap, ◌∙◌, refl, arith}
 use Rattle.std.specs.List.{AllZip}
 use Rattle.std.proofs.lemmas.List.Elements.{All-contains, Contains-append_cases}
 use Rattle.literals.specs.Signed.{Signed, opposite}
@@ -12,6 +12,7 @@ use Rattle.closure_log.specs.Odd.{is_odd, HasAgainst}
 use Rattle.closure_log.specs.Parts.{IsWideXor, TellsTruth, KeepsXorAt}
 use Rattle.closure_log.specs.Read.{IsUntold, LacksOne, HasOpen, IsRead}
 use Rattle.closure_log.proofs.Reading.{one_place, open_untold}
+use Rattle.closure_log.proofs.Scanning.{same_or_not, same_signed}
 
 -- ---- one that isn't told
 
@@ -38,15 +39,6 @@ pub keeps_open : (ts : List Tree) (table : List Atom) (log : List Signed) (p : �
 keeps_open ts table log p args l apart one h = keeps_lacking ts table log p args one (h.place, h.among, open_untold table log h.place l apart h.is)
 
 -- ---- all told
-
-same_or_not : (b d : Bool) → (b ≡ d) ⊎ (b ≡ not d)
-same_or_not true true = inl refl
-same_or_not true false = inr refl
-same_or_not false true = inr refl
-same_or_not false false = inl refl
-
-same_signed : (l m : Signed) → l.atom ≡ m.atom → l.positive ≡ m.positive → l ≡ m
-same_signed l m e f = ap (λ n. let x : Signed = record { atom = n; positive = l.positive } in x) e ∙ ap (λ (b : Bool). let x : Signed = record { atom = m.atom; positive = b } in x) f
 
 twice_not : (b : Bool) → not (not b) ≡ b
 twice_not true = refl

@@ -1,21 +1,20 @@
 -- Terms of a part read one after another.
-use Rattle.std.proofs.Common.{◌≡◌, ℕ, zero, suc, ◌<◌, ◌⊎◌, inl, inr, Bool, true, false, not, List, [], ◌∷◌, ◌++◌, ◌+◌, take, length, All, Contains, Option, Some, None, is_some, subst, sym, ap, ◌∙◌, refl, arith, slice_index_or}
+use Rattle.std.proofs.Common.{◌≡◌, ℕ, ◌<◌, inl, inr, Bool, true, false, not, List, [], ◌∷◌, ◌++◌, ◌+◌, take, length, Contains, Option, Some, None, subst, sym, ap, ◌∙◌, refl, arith, slice_index_or}
 use Rattle.std.specs.Prelude.{IfSome}
 use Rattle.std.specs.List.{AllZip}
 use Rattle.std.proofs.lemmas.Bool.{cases_lt}
 use Rattle.std.proofs.lemmas.List.{take_more, take_all}
-use Rattle.std.proofs.lemmas.List.Elements.{All-nil, All-push, AllZip-push, Contains-append_left, Contains-append_right, Contains-append_cases, Contains-push}
+use Rattle.std.proofs.lemmas.List.Elements.{All-nil, All-push, Contains-append_left, Contains-append_right, Contains-append_cases, Contains-push}
 use Rattle.literals.specs.Signed.{Signed, opposite}
 use Rattle.smt_meaning.specs.declared.clauses.Atom.{Atom}
 use Rattle.smt_meaning.specs.declared.clauses.Atom.TheVariants.{Truth}
 use Rattle.smt_meaning.specs.Term.{xor}
 use Rattle.atom_form.specs.AtomTableNumbers.{IsAt, AreApart}
-use Rattle.search_port.specs.State.{IsFalseIn, AllFalseIn, IsOpenIn}
+use Rattle.search_port.specs.State.{IsFalseIn, IsOpenIn}
 use Rattle.congruence.proofs.Reasoning.{twice}
 use Rattle.closure_log.specs.Odd.{is_odd, HasAgainst}
-use Rattle.closure_log.specs.Parts.{TellsTruth}
 use Rattle.closure_log.specs.Read.{IsUntold, IsOpenTruth, IsToldTruth, assumed, counted, AreAgainst, HasOpen, IsRead}
-use Rattle.closure_log.proofs.Odd.{xor_twice, with_false}
+use Rattle.closure_log.proofs.Odd.{xor_twice}
 
 -- ---- untold terms
 

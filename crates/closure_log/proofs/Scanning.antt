@@ -34,13 +34,13 @@ open_other log places a p o h at less is other l e =
 
 -- ---- logs that change
 
-same_or_not : (b d : Bool) → (b ≡ d) ⊎ (b ≡ not d)
+pub same_or_not : (b d : Bool) → (b ≡ d) ⊎ (b ≡ not d)
 same_or_not true true = inl refl
 same_or_not true false = inr refl
 same_or_not false true = inr refl
 same_or_not false false = inl refl
 
-same_signed : (l m : Signed) → l.atom ≡ m.atom → l.positive ≡ m.positive → l ≡ m
+pub same_signed : (l m : Signed) → l.atom ≡ m.atom → l.positive ≡ m.positive → l ≡ m
 same_signed l m e f = ap (λ n. let x : Signed = record { atom = n; positive = l.positive } in x) e ∙ ap (λ (b : Bool). let x : Signed = record { atom = m.atom; positive = b } in x) f
 
 -- what stands in the log has another atom than what is open

@@ -4,7 +4,8 @@ use Rattle.literals.specs.Signed.{Signed}
 use Rattle.smt_meaning.specs.declared.clauses.Atom.{Atom}
 use Rattle.smt_meaning.specs.Stack.{signature_of}
 use Rattle.smt_meaning.specs.StackCommand.{Stack}
-use Rattle.search_port.specs.State.{IsConsistent}
+use Rattle.search_port.specs.State.{IsConsistent, IsOpenIn}
+use Rattle.closure_log.specs.Seen.{IsSetting}
 use Rattle.search_port.specs.declared.theory.Asserted.{Asserted}
 use Rattle.search_port.specs.declared.theory.Asserted.TheVariants.{Taken, Conflict, Ended}
 use Rattle.congruence.specs.Reasons.{NoneTwice}
@@ -29,6 +30,13 @@ pub record IsTold (s : Stack) (table : List Atom) (c : Congruence) (log : List S
   pub as_many : length starts ≡ length log
   pub ascending : (j k : ℕ) → j ≤ k → k < length starts → slice_index_or starts j 0 ≤ slice_index_or starts k 0
   pub marks : (k : ℕ) → k < length starts → IsMark log c.reasons.items k (slice_index_or starts k 0)
+
+-- the literal is on a numbered atom and open in what was told
+pub record CanTell (s : Stack) (table : List Atom) (c : Congruence) (log : List Signed) (starts : List ℕ) (l : Signed) : Type 0 where
+  pub setting : IsSetting s table
+  pub told : IsTold s table c log starts
+  pub numbered : l.atom < length table
+  pub is_open : IsOpenIn log l
 
 -- the terms are read, and no step is recorded
 pub record IsReady (ts : List Tree) (c : Congruence) : Type 0 where

@@ -6,7 +6,7 @@ ghost use Rattle.search_port.specs.Spending.{Spending};
 ghost use Rattle.search_port.specs.State.{IsOpenIn, TheoryState};
 ghost use Rattle.congruence.specs.Implied.{IsPressingLemma};
 ghost use Rattle.closure_log.specs.Seen.{state_of, IsSetting};
-ghost use Rattle.closure_log.specs.Told.{IsTold};
+ghost use Rattle.closure_log.specs.Told.{IsTold, CanTell};
 ghost use Rattle.closure_log.specs.Places.{ArePlaces};
 
 use crate::said::{Extent, Guide, say};
@@ -42,10 +42,7 @@ fn implied(
     guide: &Guide,
     literal: Literal,
 ) -> Result<Option<Lemma>, AllocError>
-    requires setting { IsSetting stack.now atoms.now.atoms }
-    requires told { IsTold stack.now atoms.now.atoms told.now.congruence told.now.log.items told.now.starts.items }
-    requires numbered { literal.atom < length atoms.now.atoms }
-    requires open { IsOpenIn told.now.log.items literal }
+    requires { CanTell stack.now atoms.now.atoms told.now.congruence told.now.log.items told.now.starts.items literal }
     ensures { IfOk result (λ found. IfSome found (IsPressingLemma (state_of stack.now atoms.now.atoms told.now.log.items))) }
 {
     flat_says_the_same();

@@ -1,11 +1,10 @@
 //! The literals that were told, and what the closure was told of them.
 ghost use Rattle.std.specs.Prelude.{◌≡◌, ◌+◌, ◌^◌, ◌<◌, ◌≤◌, ◌++◌, ◌∷◌, [], List, length, take, slice_index_or, Contains, OnOk, OnErr, IfOk, IfSome};
 ghost use Rattle.literals.specs.Signed.{Signed};
-ghost use Rattle.search_port.specs.State.{IsOpenIn};
 ghost use Rattle.search_port.specs.Calls.{IsConflict, AssertedBy};
 ghost use Rattle.closure_log.specs.Seen.{state_of, IsSetting};
 ghost use Rattle.congruence.specs.Reasons.{NoneTwice};
-ghost use Rattle.closure_log.specs.Told.{IsTold, IsReady, HasNoneTwice};
+ghost use Rattle.closure_log.specs.Told.{IsTold, CanTell, IsReady, HasNoneTwice};
 
 use crate::said::{Extent, Guide, say};
 use atom_form::AtomNumbers;
@@ -13,7 +12,7 @@ use congruence::{Congruence, Explanation, clash_is_false_clause, lemma_with, rec
 use literals::Literal;
 use point_closure::Step;
 use scope_stack::Stack;
-use search_port::{Asserted, Cause, Lemma};
+use search_port::{Asserted, Cause, Lemma, push_told, start_of};
 use smt_laws::flat_says_the_same;
 use std::alloc::{AllocError, Global};
 use term_store::TermStore;
@@ -36,24 +35,6 @@ fn closure_of(alloc: Global, store: &TermStore) -> Result<Congruence, AllocError
     let mut congruence = Congruence::new(alloc)?;
     congruence.read(store)?;
     Ok(congruence)
-}
-
-/// Adds a literal with the count of steps before it. An `Err` changes nothing.
-fn push(
-    log: &mut Vec<Literal>,
-    starts: &mut Vec<usize>,
-    literal: Literal,
-    start: usize,
-) -> Result<(), AllocError>
-    ensures ok { OnOk result ((log.new.items ≡ log.old.items ++ literal ∷ []) × (starts.new.items ≡ starts.old.items ++ start ∷ [])) }
-    ensures err { OnErr result ((log.new.items ≡ log.old.items) × (starts.new.items ≡ starts.old.items)) }
-{
-    starts.push(start)?;
-    if log.push(literal).is_err() {
-        let _ = starts.pop();
-        return Err(AllocError);
-    }
-    Ok(())
 }
 
 /// Records the steps of a literal of the log. An `Err` records a part of them.
@@ -83,16 +64,13 @@ fn add(
     guide: &Guide,
     literal: Literal,
 ) -> Result<(), AllocError>
-    requires setting { IsSetting stack.now atoms.now.atoms }
-    requires told { IsTold stack.now atoms.now.atoms told.old.congruence told.old.log.items told.old.starts.items }
-    requires numbered { literal.atom < length atoms.now.atoms }
-    requires open { IsOpenIn told.old.log.items literal }
+    requires { CanTell stack.now atoms.now.atoms told.old.congruence told.old.log.items told.old.starts.items literal }
     ensures told { IsTold stack.now atoms.now.atoms told.new.congruence told.new.log.items told.new.starts.items }
     ensures ok { OnOk result (told.new.log.items ≡ told.old.log.items ++ literal ∷ []) }
     ensures before { take (length told.old.log.items) told.new.log.items ≡ told.old.log.items }
 {
     let start = told.congruence.reasons.len();
-    push(&mut told.log, &mut told.starts, literal, start)?;
+    push_told(&mut told.log, &mut told.starts, literal, start)?;
     record(told, stack, atoms, guide, literal)?;
     Ok(())
 }
@@ -119,14 +97,6 @@ fn conflict(
     }
 }
 
-/// How many steps were recorded before a literal.
-fn start_of(starts: &[usize], count: usize) -> usize
-    requires { count < length starts.now }
-    ensures { result ≡ slice_index_or starts.now count 0 }
-{
-    starts[count]
-}
-
 /// Keeps so many of the literals, and the steps that were recorded before the others.
 fn cut_to(told: &mut ClosureLog, stack: &Stack, atoms: &AtomNumbers, count: usize)
     requires told { IsTold stack.now atoms.now.atoms told.old.congruence told.old.log.items told.old.starts.items }
@@ -150,10 +120,7 @@ fn tell_and_ask(
     guide: &Guide,
     literal: Literal,
 ) -> Result<Option<Lemma>, AllocError>
-    requires setting { IsSetting stack.now atoms.now.atoms }
-    requires told { IsTold stack.now atoms.now.atoms told.old.congruence told.old.log.items told.old.starts.items }
-    requires numbered { literal.atom < length atoms.now.atoms }
-    requires open { IsOpenIn told.old.log.items literal }
+    requires { CanTell stack.now atoms.now.atoms told.old.congruence told.old.log.items told.old.starts.items literal }
     ensures told { IsTold stack.now atoms.now.atoms told.new.congruence told.new.log.items told.new.starts.items }
     ensures ok { OnOk result (told.new.log.items ≡ told.old.log.items ++ literal ∷ []) }
     ensures before { take (length told.old.log.items) told.new.log.items ≡ told.old.log.items }
@@ -173,10 +140,7 @@ fn tell(
     guide: &Guide,
     literal: Literal,
 ) -> Asserted
-    requires setting { IsSetting stack.now atoms.now.atoms }
-    requires told { IsTold stack.now atoms.now.atoms told.old.congruence told.old.log.items told.old.starts.items }
-    requires numbered { literal.atom < length atoms.now.atoms }
-    requires open { IsOpenIn told.old.log.items literal }
+    requires { CanTell stack.now atoms.now.atoms told.old.congruence told.old.log.items told.old.starts.items literal }
     ensures told { IsTold stack.now atoms.now.atoms told.new.congruence told.new.log.items told.new.starts.items }
     ensures answer { AssertedBy (state_of stack.now atoms.now.atoms told.old.log.items) (state_of stack.now atoms.now.atoms told.new.log.items) literal result }
     ensures once { HasNoneTwice result }

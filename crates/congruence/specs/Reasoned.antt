@@ -1,5 +1,5 @@
 -- A closure whose steps have reasons that a log tells.
-use Rattle.std.specs.Prelude.{◌≡◌, ℕ, ◌+◌, ◌≤◌, ◌++◌, List, length, take, replicate, All, Contains}
+use Rattle.std.specs.Prelude.{◌≡◌, ℕ, ◌+◌, ◌≤◌, ◌++◌, List, length, take, replicate, All, Contains, Result, OnOk}
 use Rattle.literals.specs.Signed.{Signed}
 use Rattle.smt_meaning.specs.declared.clauses.Atom.{Atom}
 use Rattle.smt_meaning.specs.Declaration.{Declaration}
@@ -24,3 +24,11 @@ pub record IsPartly (old new : Congruence) (more : List Step) (reason : Signed) 
   pub within : count ≤ length more
   pub steps : new.closure.steps.items ≡ old.closure.steps.items ++ take count more
   pub reasons : new.reasons.items ≡ old.reasons.items ++ replicate count reason
+
+-- these steps are recorded, each for this reason, or the first of them alone
+pub record AddsSteps {T E : Type 0} (old new : Congruence) (more : List Step) (reason : Signed) (r : Result T E) : Type 0 where
+  pub recorded : IsRecorded new
+  pub graph : new.closure.graph ≡ old.closure.graph
+  pub partly : IsPartly old new more reason
+  pub ok : OnOk r (new.closure.steps.items ≡ old.closure.steps.items ++ more)
+  pub reasons : OnOk r (new.reasons.items ≡ old.reasons.items ++ replicate (length more) reason)

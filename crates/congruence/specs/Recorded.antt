@@ -1,5 +1,5 @@
 -- What holds of recorded steps and their reasons, over the terms of a list.
-use Rattle.std.specs.Prelude.{◌≡◌, ℕ, ◌+◌, ◌^◌, ◌<◌, ◌≤◌, ◌⊎◌, List, length}
+use Rattle.std.specs.Prelude.{◌≡◌, ℕ, ◌+◌, ◌^◌, ◌<◌, ◌≤◌, ◌⊎◌, List, [], ◌∷◌, ◌++◌, length, Result, OnOk, OnErr}
 use Rattle.smt_meaning.specs.Term.{Tree, tree_at, Interpretation, value}
 use Rattle.literals.specs.Signed.{Signed}
 use Rattle.point_closure.specs.declared.step.Step.{Step}
@@ -16,6 +16,15 @@ pub record IsRecorded (c : Congruence) : Type 0 where
   pub reasons : length c.reasons.items ≡ length c.closure.steps.items
   pub truths : 2 ≤ length c.closure.graph
   pub few : length c.closure.graph < 2 ^ 32
+
+-- one step more is recorded for this reason, or all is as before
+pub record AddsStep {T E : Type 0} (old new : Congruence) (step : Step) (reason : Signed) (r : Result T E) : Type 0 where
+  pub recorded : IsRecorded new
+  pub graph : new.closure.graph ≡ old.closure.graph
+  pub ok : OnOk r (new.closure.steps.items ≡ old.closure.steps.items ++ step ∷ [])
+  pub reasons : OnOk r (new.reasons.items ≡ old.reasons.items ++ reason ∷ [])
+  pub err : OnErr r (new.closure.steps.items ≡ old.closure.steps.items)
+  pub same : OnErr r (new.reasons.items ≡ old.reasons.items)
 
 -- the merges give the equality of two terms
 abbrev pub AreEqualTerms : Congruence → ℕ → ℕ → Type 0

@@ -35,7 +35,7 @@ impl Congruence {
     ghost use Rattle.point_closure.specs.Whole.{IsWithin};
     ghost use Rattle.congruence.specs.Reasons.{AreReasonsOf, IsTruthConflict, IsStepConflict};
     ghost use Rattle.congruence.specs.Reading.{AreSeen};
-    ghost use Rattle.congruence.specs.Recorded.{IsRecorded, AreEqualTerms, HaveOneValue, IsConsistent, IsConflict};
+    ghost use Rattle.congruence.specs.Recorded.{IsRecorded, AddsStep, AreEqualTerms, HaveOneValue, IsConsistent, IsConflict};
 
     /// Nothing is read, nothing recorded.
     pub fn new(alloc: Global) -> Result<Self, AllocError>
@@ -102,12 +102,7 @@ impl Congruence {
     pub fn record(&mut self, step: Step, reason: Literal) -> Result<(), AllocError>
         requires recorded { IsRecorded self.old }
         requires within { IsWithin (length self.old.closure.graph) step }
-        ensures recorded { IsRecorded self.new }
-        ensures graph { self.new.closure.graph ≡ self.old.closure.graph }
-        ensures ok { OnOk result (self.new.closure.steps.items ≡ self.old.closure.steps.items ++ step ∷ []) }
-        ensures reasons { OnOk result (self.new.reasons.items ≡ self.old.reasons.items ++ reason ∷ []) }
-        ensures err { OnErr result (self.new.closure.steps.items ≡ self.old.closure.steps.items) }
-        ensures same { OnErr result (self.new.reasons.items ≡ self.old.reasons.items) }
+        ensures { AddsStep self.old self.new step reason result }
     {
         self.reasons.push(reason)?;
         if self.closure.record(step).is_err() {
@@ -120,14 +115,8 @@ impl Congruence {
     /// Records that two terms are equal. An `Err` changes nothing.
     pub fn merge(&mut self, left: TermId, right: TermId, reason: Literal) -> Result<(), AllocError>
         requires recorded { IsRecorded self.old }
-        requires left { left + 2 < length self.old.closure.graph }
-        requires right { right + 2 < length self.old.closure.graph }
-        ensures recorded { IsRecorded self.new }
-        ensures graph { self.new.closure.graph ≡ self.old.closure.graph }
-        ensures ok { OnOk result (self.new.closure.steps.items ≡ self.old.closure.steps.items ++ Merge (left + 2) (right + 2) ∷ []) }
-        ensures reasons { OnOk result (self.new.reasons.items ≡ self.old.reasons.items ++ reason ∷ []) }
-        ensures err { OnErr result (self.new.closure.steps.items ≡ self.old.closure.steps.items) }
-        ensures same { OnErr result (self.new.reasons.items ≡ self.old.reasons.items) }
+        requires within { IsWithin (length self.old.closure.graph) (Merge (left + 2) (right + 2)) }
+        ensures { AddsStep self.old self.new (Merge (left + 2) (right + 2)) reason result }
     {
         self.record(Step::Merge(left + 2, right + 2), reason)
     }
@@ -136,12 +125,7 @@ impl Congruence {
     pub fn truth(&mut self, term: TermId, value: bool, reason: Literal) -> Result<(), AllocError>
         requires recorded { IsRecorded self.old }
         requires within { term + 2 < length self.old.closure.graph }
-        ensures recorded { IsRecorded self.new }
-        ensures graph { self.new.closure.graph ≡ self.old.closure.graph }
-        ensures ok { OnOk result (self.new.closure.steps.items ≡ self.old.closure.steps.items ++ Merge (term + 2) (truth_number value) ∷ []) }
-        ensures reasons { OnOk result (self.new.reasons.items ≡ self.old.reasons.items ++ reason ∷ []) }
-        ensures err { OnErr result (self.new.closure.steps.items ≡ self.old.closure.steps.items) }
-        ensures same { OnErr result (self.new.reasons.items ≡ self.old.reasons.items) }
+        ensures { AddsStep self.old self.new (Merge (term + 2) (truth_number value)) reason result }
     {
         self.record(Step::Merge(term + 2, truth_point(value)), reason)
     }
@@ -149,14 +133,8 @@ impl Congruence {
     /// Records that two terms differ. An `Err` changes nothing.
     pub fn differ(&mut self, left: TermId, right: TermId, reason: Literal) -> Result<(), AllocError>
         requires recorded { IsRecorded self.old }
-        requires left { left + 2 < length self.old.closure.graph }
-        requires right { right + 2 < length self.old.closure.graph }
-        ensures recorded { IsRecorded self.new }
-        ensures graph { self.new.closure.graph ≡ self.old.closure.graph }
-        ensures ok { OnOk result (self.new.closure.steps.items ≡ self.old.closure.steps.items ++ Differ (left + 2) (right + 2) ∷ []) }
-        ensures reasons { OnOk result (self.new.reasons.items ≡ self.old.reasons.items ++ reason ∷ []) }
-        ensures err { OnErr result (self.new.closure.steps.items ≡ self.old.closure.steps.items) }
-        ensures same { OnErr result (self.new.reasons.items ≡ self.old.reasons.items) }
+        requires within { IsWithin (length self.old.closure.graph) (Differ (left + 2) (right + 2)) }
+        ensures { AddsStep self.old self.new (Differ (left + 2) (right + 2)) reason result }
     {
         self.record(Step::Differ(left + 2, right + 2), reason)
     }

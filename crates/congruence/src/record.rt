@@ -1,5 +1,5 @@
 //! Steps with one reason.
-ghost use Rattle.std.specs.Prelude.{◌≡◌, ◌++◌, List, length, replicate, All, Contains, OnOk};
+ghost use Rattle.std.specs.Prelude.{List, length, All, Contains};
 ghost use Rattle.literals.specs.Signed.{Signed};
 ghost use Rattle.smt_meaning.specs.declared.clauses.Atom.{Atom};
 ghost use Rattle.smt_meaning.specs.Declaration.{Declaration};
@@ -7,7 +7,7 @@ ghost use Rattle.smt_meaning.specs.Term.{Tree};
 ghost use Rattle.point_closure.specs.Whole.{IsWithin};
 ghost use Rattle.congruence.specs.Recorded.{IsRecorded};
 ghost use Rattle.congruence.specs.Justified.{IsJustified};
-ghost use Rattle.congruence.specs.Reasoned.{IsReasoned, IsPartly};
+ghost use Rattle.congruence.specs.Reasoned.{IsReasoned, AddsSteps};
 
 use crate::Congruence;
 use literals::Literal;
@@ -22,11 +22,7 @@ fn record_each(
 ) -> Result<(), AllocError>
     requires recorded { IsRecorded congruence.old }
     requires within { All (IsWithin (length congruence.old.closure.graph)) steps.now }
-    ensures recorded { IsRecorded congruence.new }
-    ensures graph { congruence.new.closure.graph ≡ congruence.old.closure.graph }
-    ensures partly { IsPartly congruence.old congruence.new steps.now reason }
-    ensures ok { OnOk result (congruence.new.closure.steps.items ≡ congruence.old.closure.steps.items ++ steps.now) }
-    ensures reasons { OnOk result (congruence.new.reasons.items ≡ congruence.old.reasons.items ++ replicate (length steps.now) reason) }
+    ensures { AddsSteps congruence.old congruence.new steps.now reason result }
 {
     for i in 0..steps.len() {
         congruence.record(steps[i], reason)?;
@@ -42,11 +38,7 @@ pub fn record_all(
 ) -> Result<(), AllocError>
     requires recorded { IsRecorded congruence.old }
     requires within { All (IsWithin (length congruence.old.closure.graph)) steps.now }
-    ensures recorded { IsRecorded congruence.new }
-    ensures graph { congruence.new.closure.graph ≡ congruence.old.closure.graph }
-    ensures partly { IsPartly congruence.old congruence.new steps.now reason }
-    ensures ok { OnOk result (congruence.new.closure.steps.items ≡ congruence.old.closure.steps.items ++ steps.now) }
-    ensures reasons { OnOk result (congruence.new.reasons.items ≡ congruence.old.reasons.items ++ replicate (length steps.now) reason) }
+    ensures records { AddsSteps congruence.old congruence.new steps.now reason result }
 
     // What is justified and told stays so, on an `Err` too.
     ensures reasoned { (ds : List Declaration) (ts : List Tree) (table : List Atom) (log : List Signed) → IsReasoned ds ts table log congruence.old → Contains log reason → All (IsJustified ds ts table reason) steps.now → IsReasoned ds ts table log congruence.new }

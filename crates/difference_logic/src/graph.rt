@@ -247,32 +247,17 @@ impl DifferenceGraph {
         reduced.checked_add(end.checked_sub(start)?)
     }
 
-    /// The edges from a node to where the way against the edges began.
-    fn way_before(&self, alloc: Global, node: u32) -> Result<Vec<u32>, AllocError> {
+    /// The edges by which a search reached a node, the last first.
+    fn way_to(&self, alloc: Global, reach: &Reach, node: u32) -> Result<Vec<u32>, AllocError> {
         let mut places = Vec::new(alloc);
         let mut node = node;
         for _ in 0..self.edges.len() {
-            let place = self.against.via(node);
+            let place = reach.via(node);
             let Some(edge) = edge_at(&self.edges, place) else {
                 break;
             };
             places.push(place)?;
-            node = edge.to;
-        }
-        Ok(places)
-    }
-
-    /// The edges from where the way along the edges began to a node, the last first.
-    fn way_after(&self, alloc: Global, node: u32) -> Result<Vec<u32>, AllocError> {
-        let mut places = Vec::new(alloc);
-        let mut node = node;
-        for _ in 0..self.edges.len() {
-            let place = self.along.via(node);
-            let Some(edge) = edge_at(&self.edges, place) else {
-                break;
-            };
-            places.push(place)?;
-            node = edge.from;
+            node = reach.start_of(edge);
         }
         Ok(places)
     }
@@ -284,9 +269,9 @@ impl DifferenceGraph {
         place: usize,
         candidate: Edge,
     ) -> Result<Vec<u32>, AllocError> {
-        let mut places = self.way_before(alloc, candidate.from)?;
+        let mut places = self.way_to(alloc, &self.against, candidate.from)?;
         places.push(short(place))?;
-        let after = self.way_after(alloc, candidate.to)?;
+        let after = self.way_to(alloc, &self.along, candidate.to)?;
         for place in after.iter().rev() {
             places.push(*place)?;
         }

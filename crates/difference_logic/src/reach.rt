@@ -91,6 +91,11 @@ impl Reach {
         reached_at(&self.by_node, node).via
     }
 
+    /// The node that an edge comes from, the way of the search.
+    pub(crate) fn start_of(&self, edge: Edge) -> u32 {
+        self.way.start_of(edge)
+    }
+
     /// Takes a path to a node, where it is shorter than what is known.
     fn offer(&mut self, node: u32, length: i64, via: u32) -> Result<(), AllocError> {
         let reached = reached_at(&self.by_node, node);

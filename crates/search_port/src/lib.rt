@@ -14,6 +14,9 @@
 //! `Shown`: what a theory shows at the end of a search: its branches, over which its atoms are
 //! atoms of the check, no two the same, and where a number left the range, if that ended it.
 //!
+//! `push_told`, `start_of`: the literals that a theory was told, each with a count of what was there
+//! before it.
+//!
 //! `Budget`: how many units there are, of which kind, and how many may be spent. A unit and a
 //! clause to be shared are put down together or not at all.
 //!
@@ -29,11 +32,13 @@ mod bare;
 mod budget;
 mod shown;
 mod theory;
+mod told;
 
 pub use bare::{About, Bare, Judged};
 pub use budget::{Budget, Cause, Lemma, Spent};
 pub use shown::{Named, Showing, Shown};
 pub use theory::{Asserted, Checked, Inferred, Theory};
+pub use told::{push_told, start_of};
 
 /// A clause over numbers follows exactly where the clause with its atoms written out does.
 pub fn follows_as_written()

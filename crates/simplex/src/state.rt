@@ -11,10 +11,9 @@ ghost use Rattle.tableau.specs.Failing.{IsRange};
 ghost use Rattle.tableau.specs.Table.{IsOpenRow, row_at};
 ghost use Rattle.tableau.specs.Written.{AreParts, parts_row};
 ghost use Rattle.simplex.specs.Sums.{AreMatched};
-ghost use Rattle.simplex_steps.specs.Law.{KeepsResting};
 ghost use Rattle.simplex_steps.specs.State.{column_in, values, grid_of};
 ghost use Rattle.simplex_steps.specs.Conflict.{KnownEntries};
-ghost use Rattle.simplex_steps.specs.Run.{IsRun, KeepsLines};
+ghost use Rattle.simplex_steps.specs.Run.{IsSearch};
 ghost use Rattle.simplex.specs.State.{IsState, KeepsValues, HasBounds, FixedAt, Judges, SpendsRoom, tag_in, tag_or, refreshed, KnownBounds, IsVerdict, new_column, with_row, row_value_of, row_fits};
 
 use crate::grid::copy_grid;
@@ -388,14 +387,10 @@ impl Simplex {
 
     /// Moves values until all variables are within their bounds, or bounds are found that no solution of the rows meets, or the next step doesn't fit, or is a pivot past the room. The steps are the next ones of the grid; the bounds and the solutions of the rows stay. Where lines are kept, that of each pivot is added.
     pub fn check(&mut self, alloc: Global, kept: &mut PivotLines, room: u64) -> Answer
-        ensures run { IsRun self.old.table self.old.columns self.new.table self.new.columns result.pivots }
+        ensures search { IsSearch room self.old.table self.old.columns kept.old self.new.table self.new.columns kept.new result.pivots }
         ensures bounds { self.new.bounds ≡ self.old.bounds }
         ensures judges { Judges self.new result.verdict }
         ensures room { SpendsRoom room result.pivots result.verdict }
-        ensures most { result.pivots ≤ room }
-        ensures lines { KeepsLines kept.old.keep result.pivots (grid_of self.old.table self.old.columns) (grid_of self.new.table self.new.columns) kept.old.lines.items kept.new.lines.items }
-        ensures keep { kept.new.keep ≡ kept.old.keep }
-        ensures rests { KeepsResting (grid_of self.old.table self.old.columns) (grid_of self.new.table self.new.columns) }
     {
         let Checked { outcome, pivots } = check(
             alloc,

@@ -16,9 +16,9 @@ use Rattle.fraction128.specs.Lines.{sum_value, IsPositive, AreIndependent, HasBa
 use Rattle.fraction128.proofs.RowValue as RowValue
 use Rattle.simplex_steps.specs.Law.{row_at, no_row, AreIdentities, ComeFromTerms, SolutionsAreFree, FreeAreSolutions, PivotsKeepFree, MovesKeepFree, PivotsExchange, RunsExchange}
 use Rattle.simplex_steps.proofs.Spans.{span_same, dot_coefficients, differs}
-use Rattle.simplex_steps.proofs.Pivots.{entry_at, basic_at, Shape, Solves, row_is, row_lacks, basic_or_free, length_after, basic_entered, basic_stays, solves_after, solves_before}
+use Rattle.simplex_steps.proofs.Pivots.{entry_at, basic_at, Shape, Solves, row_is, row_lacks, basic_or_free, length_after, solves_after, solves_before}
 use Rattle.simplex_steps.proofs.NextStep.{col, step_facts}
-use Rattle.simplex_steps.proofs.Moments.{Good, IsFree, free_is, is_free, Turning, turning, good_after, length_with}
+use Rattle.simplex_steps.proofs.Moments.{Good, IsFree, free_is, is_free, Turning, entered_at, others_stay, free_after, turning, good_after, length_with}
 use Rattle.simplex_steps.proofs.Keeping.{good_of, steps_keep}
 use Rattle.simplex_steps.proofs.Short.{shape_of}
 
@@ -220,50 +220,21 @@ pivots_exchange g b k c is law next has i lt = by_entering (eqb i c) refl
     place : t.place < length (pivoted_rows n g.rows b c)
     place = subst (λ m. t.place < m) (sym (length_after n g.rows b c)) t.pivot.in_rows
 
-    entered : basic_at (pivoted_rows n g.rows b c) t.place ≡ c
-    entered = subst (λ j. basic_at (pivoted_rows n g.rows j c) t.place ≡ c) t.is_place (basic_entered n g.rows t.place c t.pivot.in_rows)
-
-    stays : (m : ℕ) → m < length g.rows → basic_at g.rows m ≢ b → basic_at (pivoted_rows n g.rows b c) m ≡ basic_at g.rows m
-    stays m lm ne =
-        subst (λ j. basic_at (pivoted_rows n g.rows j c) m ≡ basic_at g.rows m) t.is_place
-        (basic_stays n g.rows t.place c m lm (λ e. ne (e ∙ t.is_place)))
-
     by_leaving : (z : Bool) → eqb i b ≡ z → i ≢ c → is_basic (pivoted_rows n g.rows b c) i ≡ cond z false (is i)
-    by_leaving true e other = free_is (pivoted_rows n g.rows b c) i (λ m lm' w. at m (subst (λ q. m < q) (length_after n g.rows b c) lm') w)
-      where
-        is_b : i ≡ b
-        is_b = eqb-true i b e
-
-        at : (m : ℕ) → m < length g.rows → basic_at (pivoted_rows n g.rows b c) m ≡ i → ⊥
-        at m lm w = by (eqb (basic_at g.rows m) b) refl
-          where
-            by : (z : Bool) → eqb (basic_at g.rows m) b ≡ z → ⊥
-            by true q =
-                let same : m ≡ t.place = good.shape.distinct m t.place lm t.pivot.in_rows (eqb-true (basic_at g.rows m) b q ∙ sym t.is_place) in
-                other (sym w ∙ ap (basic_at (pivoted_rows n g.rows b c)) same ∙ entered)
-            by false q = differs (basic_at g.rows m) b q (sym (stays m lm (differs (basic_at g.rows m) b q)) ∙ w ∙ is_b)
+    by_leaving true e other = free_is (pivoted_rows n g.rows b c) i (free_after n g b c i good t other (λ m lm ne w. ne (w ∙ eqb-true i b e)))
     by_leaving false e other = by (basic_or_free g.rows i) ∙ has i inside
       where
         by : ((m : ℕ) × (m < length g.rows) × (basic_at g.rows m ≡ i)) ⊎ IsFree g.rows i → is_basic (pivoted_rows n g.rows b c) i ≡ is_basic g.rows i
         by (inl m) =
             let ne : basic_at g.rows m.0 ≢ b = λ q. differs i b e (sym m.2 ∙ q) in
-            ap (is_basic (pivoted_rows n g.rows b c)) (sym (stays m.0 m.1 ne ∙ m.2))
+            ap (is_basic (pivoted_rows n g.rows b c)) (sym (others_stay n g b c t m.0 m.1 ne ∙ m.2))
             ∙ basic_is n (pivoted_rows n g.rows b c) m.0 later.shape (subst (λ q. m.0 < q) (sym (length_after n g.rows b c)) m.1)
             ∙ sym (ap (is_basic g.rows) (sym m.2) ∙ basic_is n g.rows m.0 good.shape m.1)
-        by (inr free) = free_is (pivoted_rows n g.rows b c) i (λ m lm' w. at m (subst (λ q. m < q) (length_after n g.rows b c) lm') w) ∙ sym (free_is g.rows i free)
-          where
-            at : (m : ℕ) → m < length g.rows → basic_at (pivoted_rows n g.rows b c) m ≡ i → ⊥
-            at m lm w = by_b (eqb (basic_at g.rows m) b) refl
-              where
-                by_b : (z : Bool) → eqb (basic_at g.rows m) b ≡ z → ⊥
-                by_b true q =
-                    let same : m ≡ t.place = good.shape.distinct m t.place lm t.pivot.in_rows (eqb-true (basic_at g.rows m) b q ∙ sym t.is_place) in
-                    other (sym w ∙ ap (basic_at (pivoted_rows n g.rows b c)) same ∙ entered)
-                by_b false q = free m lm (sym (stays m lm (differs (basic_at g.rows m) b q)) ∙ w)
+        by (inr free) = free_is (pivoted_rows n g.rows b c) i (free_after n g b c i good t other (λ m lm ne. free m lm)) ∙ sym (free_is g.rows i free)
 
     by_entering : (z : Bool) → eqb i c ≡ z → is_basic (pivoted_rows n g.rows b c) i ≡ cond (eqb i c) true (cond (eqb i b) false (is i))
     by_entering true e =
-        ap (is_basic (pivoted_rows n g.rows b c)) (eqb-true i c e ∙ sym entered) ∙ basic_is n (pivoted_rows n g.rows b c) t.place later.shape place
+        ap (is_basic (pivoted_rows n g.rows b c)) (eqb-true i c e ∙ sym (entered_at n g b c t)) ∙ basic_is n (pivoted_rows n g.rows b c) t.place later.shape place
         ∙ ap (λ z. cond z true (cond (eqb i b) false (is i))) (sym e)
     by_entering false e = by_leaving (eqb i b) refl (differs i c e) ∙ ap (λ z. cond z true (cond (eqb i b) false (is i))) (sym e)
 

@@ -12,11 +12,11 @@ use Rattle.fraction128.specs.declared.Line.{Line}
 use Rattle.fraction128.specs.Grid.{take, move, pivot, coefficient, column_at, value_at, cell, is_basic, entries_of, row_of, row_value, helps, next_step, after, after_pivot, pivoted_rows, is_above, is_below, MeetsRows}
 use Rattle.fraction128.specs.Lines.{sum_value, member_of, basic_member, line_of, pivot_line, members_value, IsIdentity, IsOutside, Helps, IsLeastHelping, IsPivotLine, HaveOthers, IsSeries}
 use Rattle.simplex_steps.specs.Law.{row_at, no_row, AreFrom, IsLawful, lines_of, LinesArePivots, LinesGoOn, LinesAreRows, IsNonzeroEntry, IsFreeMember}
-use Rattle.simplex_steps.proofs.Spans.{not_same, differs}
+use Rattle.simplex_steps.proofs.Spans.{not_same}
 use Rattle.simplex_steps.proofs.Bland.{missed_cases, less_is_most, zero_back}
-use Rattle.simplex_steps.proofs.Pivots.{basic_at, basic_or_free, row_is, length_after, basic_entered, basic_stays}
+use Rattle.simplex_steps.proofs.Pivots.{basic_at, basic_or_free, row_is}
 use Rattle.simplex_steps.proofs.NextStep.{PivotFacts, step_facts}
-use Rattle.simplex_steps.proofs.Moments.{Good, IsFree, free_is, cell_is, Turning, turning}
+use Rattle.simplex_steps.proofs.Moments.{Good, IsFree, free_is, cell_is, Turning, turning, left_after}
 use Rattle.simplex_steps.proofs.Keeping.{good_of, steps_keep}
 use Rattle.simplex_steps.proofs.Spans.{coefficient_positive}
 
@@ -142,31 +142,13 @@ one_more rows rows' (m ∷ o ∷ ls) l b e was isnt h = (h.0, one_more rows rows
 
 -- what leaves isn't basic afterwards
 left : (g : Grid) (b : ℕ) (k : ℤ) (c : ℕ) → IsLawful g → next_step g ≡ Some (pivot b k c) → is_basic (after_pivot g b k c).rows b ≡ false
-left g b k c law next = free_is (pivoted_rows (length g.columns) g.rows b c) b (subst (λ i. IsFree (pivoted_rows (length g.columns) g.rows i c) i) t.is_place at_place)
+left g b k c law next = free_is (pivoted_rows (length g.columns) g.rows b c) b (left_after (length g.columns) g b c good (turning (length g.columns) g b k c good f))
   where
     good : Good (length g.columns) g
     good = good_of g law
 
     f : PivotFacts g b k c
     f = step_facts g (pivot b k c) law.pending law.uncrossed next
-
-    t : Turning (length g.columns) g b c
-    t = turning (length g.columns) g b k c good f
-
-    at_place : IsFree (pivoted_rows (length g.columns) g.rows (basic_at g.rows t.place) c) (basic_at g.rows t.place)
-    at_place m lm' e = by_place (eqb (basic_at g.rows m) (basic_at g.rows t.place)) refl
-      where
-        lm : m < length g.rows
-        lm = subst (λ q. m < q) (length_after (length g.columns) g.rows (basic_at g.rows t.place) c) lm'
-
-        by_place : (z : Bool) → eqb (basic_at g.rows m) (basic_at g.rows t.place) ≡ z → ⊥
-        by_place true w =
-            let same : m ≡ t.place = good.shape.distinct m t.place lm t.pivot.in_rows (eqb-true (basic_at g.rows m) (basic_at g.rows t.place) w) in
-            t.pivot.free t.place t.pivot.in_rows
-            (sym e ∙ ap (basic_at (pivoted_rows (length g.columns) g.rows (basic_at g.rows t.place) c)) same ∙ basic_entered (length g.columns) g.rows t.place c t.pivot.in_rows)
-        by_place false w =
-            differs (basic_at g.rows m) (basic_at g.rows t.place) w
-            (sym (basic_stays (length g.columns) g.rows t.place c m lm (differs (basic_at g.rows m) (basic_at g.rows t.place) w)) ∙ e)
 
 pub lines_go_on : LinesGoOn
 lines_go_on g h [] ls law runs series = subst (IsSeries h.rows) (sym (nothing_after ls)) (subst (λ (x : Grid). IsSeries x.rows ls) runs series)

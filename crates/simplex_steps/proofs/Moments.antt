@@ -13,8 +13,8 @@ use Rattle.fraction128.specs.declared.TableRow.{TableRow}
 use Rattle.fraction128.specs.declared.Grid.{Grid}
 use Rattle.fraction128.specs.Grid.{is_some, entries_of, coefficient, cell, is_basic, value_at, is_crossed, any_crossed, can_rise, can_fall, helps, distance, moved_value, pivot_distance, pivoted_value, pivoted_rows, with_values, after_move, after_pivot}
 use Rattle.simplex_steps.specs.Law.{row_at}
-use Rattle.simplex_steps.proofs.Spans.{not_same, coefficient_positive}
-use Rattle.simplex_steps.proofs.Pivots.{Shape, Solves, IsPivot, entry_at, basic_at, row_is, row_lacks, basic_or_free, shape_after, solves_after, solves_shifted}
+use Rattle.simplex_steps.proofs.Spans.{not_same, differs, coefficient_positive}
+use Rattle.simplex_steps.proofs.Pivots.{Shape, Solves, IsPivot, entry_at, basic_at, row_is, row_lacks, basic_or_free, length_after, basic_entered, basic_stays, shape_after, solves_after, solves_shifted}
 use Rattle.simplex_steps.proofs.Bland.{zero_back}
 use Rattle.simplex_steps.proofs.NextStep.{no_col, col, MoveFacts, PivotFacts}
 
@@ -84,6 +84,35 @@ pub record Turning (n : ℕ) (g : Grid) (b c : ℕ) : Type 0 where
   pub place : ℕ
   pub is_place : basic_at g.rows place ≡ b
   pub pivot : IsPivot n g.rows place c
+
+-- the entering variable is basic in the pivot's row
+pub entered_at : (n : ℕ) (g : Grid) (b c : ℕ) → (t : Turning n g b c) → basic_at (pivoted_rows n g.rows b c) t.place ≡ c
+entered_at n g b c t = subst (λ i. basic_at (pivoted_rows n g.rows i c) t.place ≡ c) t.is_place (basic_entered n g.rows t.place c t.pivot.in_rows)
+
+-- the other rows keep theirs
+pub others_stay : (n : ℕ) (g : Grid) (b c : ℕ) → Turning n g b c → (m : ℕ) → m < length g.rows → basic_at g.rows m ≢ b → basic_at (pivoted_rows n g.rows b c) m ≡ basic_at g.rows m
+others_stay n g b c t m lm ne =
+    subst (λ i. basic_at (pivoted_rows n g.rows i c) m ≡ basic_at g.rows m) t.is_place
+    (basic_stays n g.rows t.place c m lm (λ e. ne (e ∙ t.is_place)))
+
+-- a variable other than the entering one is free after the pivot, where no other row had it as basic
+pub free_after : (n : ℕ) (g : Grid) (b c j : ℕ) → Good n g → Turning n g b c → j ≢ c → ((m : ℕ) → m < length g.rows → basic_at g.rows m ≢ b → basic_at g.rows m ≢ j) → IsFree (pivoted_rows n g.rows b c) j
+free_after n g b c j good t other rest m lm' e = by_leaving (eqb (basic_at g.rows m) b) refl
+  where
+    lm : m < length g.rows
+    lm = subst (λ q. m < q) (length_after n g.rows b c) lm'
+
+    by_leaving : (z : Bool) → eqb (basic_at g.rows m) b ≡ z → ⊥
+    by_leaving true w =
+        let same : m ≡ t.place = good.shape.distinct m t.place lm t.pivot.in_rows (eqb-true (basic_at g.rows m) b w ∙ sym t.is_place) in
+        other (sym e ∙ ap (basic_at (pivoted_rows n g.rows b c)) same ∙ entered_at n g b c t)
+    by_leaving false w =
+        let ne = differs (basic_at g.rows m) b w in
+        rest m lm ne (sym (others_stay n g b c t m lm ne) ∙ e)
+
+-- so is the leaving one
+pub left_after : (n : ℕ) (g : Grid) (b c : ℕ) → Good n g → Turning n g b c → IsFree (pivoted_rows n g.rows b c) b
+left_after n g b c good t = free_after n g b c b good t (λ w. t.pivot.free t.place t.pivot.in_rows (t.is_place ∙ w)) (λ m lm ne. ne)
 
 willing_some : (rises : Bool) (a : Ratio) (d : Column) → helps rises a d ≡ true → a.numerator ≢ pos 0
 willing_some rises a d h z =

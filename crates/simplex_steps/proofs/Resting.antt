@@ -10,9 +10,9 @@ use Rattle.fraction128.specs.Grid.{Step, take, move, pivot, cell, is_basic, colu
 use Rattle.simplex_steps.specs.Law.{IsLawful, Runs, IsAtBound, KeepsResting, RunsRest}
 use Rattle.simplex_steps.proofs.Spans.{differs}
 use Rattle.simplex_steps.proofs.Bland.{missed_cases}
-use Rattle.simplex_steps.proofs.Pivots.{Shape, basic_at, length_after, basic_entered}
+use Rattle.simplex_steps.proofs.Pivots.{length_after}
 use Rattle.simplex_steps.proofs.NextStep.{col, MoveFacts, PivotFacts, step_facts}
-use Rattle.simplex_steps.proofs.Moments.{Good, Turning, turning, good_after, length_with, col_with, pivot_value, pivot_stays, pivot_leaves, is_free, free_is, basic_is}
+use Rattle.simplex_steps.proofs.Moments.{Good, Turning, entered_at, turning, good_after, length_with, col_with, pivot_value, pivot_stays, pivot_leaves, is_free, free_is, basic_is}
 use Rattle.simplex_steps.proofs.Short.{free_before}
 use Rattle.simplex_steps.proofs.Keeping.{good_of, steps_keep}
 
@@ -100,11 +100,9 @@ pivot_rests g b k c law next j lt' free = by_leaving (eqb j b) refl (eqb j c) re
 
     entered : is_basic (after_pivot g b k c).rows c ≡ true
     entered =
-        subst (λ i. is_basic (pivoted_rows (length g.columns) g.rows i c) c ≡ true) t.is_place
-        (ap (is_basic (pivoted_rows (length g.columns) g.rows (basic_at g.rows t.place) c)) (sym (basic_entered (length g.columns) g.rows t.place c t.pivot.in_rows))
-        ∙ basic_is (length g.columns) (pivoted_rows (length g.columns) g.rows (basic_at g.rows t.place) c) t.place
-        (subst (λ i. Shape (length g.columns) (pivoted_rows (length g.columns) g.rows i c)) (sym t.is_place) later.shape)
-        (subst (λ m. t.place < m) (sym (length_after (length g.columns) g.rows (basic_at g.rows t.place) c)) t.pivot.in_rows))
+        ap (is_basic (pivoted_rows (length g.columns) g.rows b c)) (sym (entered_at (length g.columns) g b c t))
+        ∙ basic_is (length g.columns) (pivoted_rows (length g.columns) g.rows b c) t.place later.shape
+        (subst (λ m. t.place < m) (sym (length_after (length g.columns) g.rows b c)) t.pivot.in_rows)
 
     by_leaving : (z : Bool) → eqb j b ≡ z → (y : Bool) → eqb j c ≡ y → IsAtBound (column_at (after_pivot g b k c) j) ⊎ ((is_basic g.rows j ≡ false) × (value_at (after_pivot g b k c) j ≡ value_at g j))
     by_leaving true e y w =

@@ -20,7 +20,7 @@ use Rattle.simplex_steps.proofs.Spans.{span, span_same, span_sum, span_product, 
 use Rattle.simplex_steps.proofs.Pivots.{Solves, basic_at, basic_or_free, length_after, basic_entered, basic_stays, solves_after, Shape}
 use Rattle.simplex_steps.proofs.Bland.{idle_term, coming_term, cant_leave}
 use Rattle.simplex_steps.proofs.NextStep.{col, MoveFacts, PivotFacts, step_facts}
-use Rattle.simplex_steps.proofs.Moments.{Good, IsFree, numbers, free_is, is_free, cell_is, Turning, turning, pivot_column, pivot_value, pivot_stays, pivot_leaves, good_after, good_moved}
+use Rattle.simplex_steps.proofs.Moments.{Good, IsFree, numbers, free_is, is_free, cell_is, Turning, free_after, left_after, turning, pivot_column, pivot_value, pivot_stays, pivot_leaves, good_after, good_moved}
 
 -- ---- runs of pivots
 
@@ -41,19 +41,7 @@ rows_are n g b k c good t = ap₂ (λ m i. pivoted_rows m g.rows i c) good.count
 -- a variable that is basic after the pivot entered, or was basic and didn't leave
 basic_before : (n : ℕ) (g : Grid) (b : ℕ) (k : ℤ) (c j : ℕ) → Good n g → Turning n g b c → j ≢ b → j ≢ c → IsFree g.rows j → IsFree (after_pivot g b k c).rows j
 basic_before n g b k c j good t nb nc free =
-    subst (λ rows. IsFree rows j) (sym (rows_are n g b k c good t)) at_place
-  where
-    at_place : IsFree (pivoted_rows n g.rows (basic_at g.rows t.place) c) j
-    at_place m lm' e = by_leaving (eqb (basic_at g.rows m) (basic_at g.rows t.place)) refl
-      where
-        lm : m < length g.rows
-        lm = subst (λ q. m < q) (length_after n g.rows (basic_at g.rows t.place) c) lm'
-
-        by_leaving : (z : Bool) → eqb (basic_at g.rows m) (basic_at g.rows t.place) ≡ z → ⊥
-        by_leaving true w =
-            let same : m ≡ t.place = good.shape.distinct m t.place lm t.pivot.in_rows (eqb-true (basic_at g.rows m) (basic_at g.rows t.place) w) in
-            nc (sym e ∙ ap (basic_at (pivoted_rows n g.rows (basic_at g.rows t.place) c)) same ∙ basic_entered n g.rows t.place c t.pivot.in_rows)
-        by_leaving false w = free m lm (sym (basic_stays n g.rows t.place c m lm (differs (basic_at g.rows m) (basic_at g.rows t.place) w)) ∙ e)
+    subst (λ m. IsFree (pivoted_rows m g.rows b c) j) (sym good.count) (free_after n g b c j good t nc (λ m lm ne. free m lm))
 
 -- and the other way
 pub free_before : (n : ℕ) (g : Grid) (b : ℕ) (k : ℤ) (c j : ℕ) → Good n g → Turning n g b c → j ≢ b → IsFree (after_pivot g b k c).rows j → IsFree g.rows j
@@ -65,20 +53,7 @@ free_before n g b k c j good t nb free m lm e = free' m (subst (λ q. m < q) (sy
 -- the leaving variable is free after the pivot
 left_free : (n : ℕ) (g : Grid) (b : ℕ) (k : ℤ) (c : ℕ) → Good n g → Turning n g b c → IsFree (after_pivot g b k c).rows b
 left_free n g b k c good t =
-    subst (λ rows. IsFree rows b) (sym (rows_are n g b k c good t)) at_place
-  where
-    at_place : IsFree (pivoted_rows n g.rows (basic_at g.rows t.place) c) b
-    at_place m lm' e = by_leaving (eqb (basic_at g.rows m) (basic_at g.rows t.place)) refl
-      where
-        lm : m < length g.rows
-        lm = subst (λ q. m < q) (length_after n g.rows (basic_at g.rows t.place) c) lm'
-
-        by_leaving : (z : Bool) → eqb (basic_at g.rows m) (basic_at g.rows t.place) ≡ z → ⊥
-        by_leaving true w =
-            let same : m ≡ t.place = good.shape.distinct m t.place lm t.pivot.in_rows (eqb-true (basic_at g.rows m) (basic_at g.rows t.place) w) in
-            t.pivot.free t.place t.pivot.in_rows (t.is_place ∙ sym e ∙ ap (basic_at (pivoted_rows n g.rows (basic_at g.rows t.place) c)) same ∙ basic_entered n g.rows t.place c t.pivot.in_rows)
-        by_leaving false w =
-            differs (basic_at g.rows m) (basic_at g.rows t.place) w (sym (basic_stays n g.rows t.place c m lm (differs (basic_at g.rows m) (basic_at g.rows t.place) w)) ∙ e ∙ sym t.is_place)
+    subst (λ m. IsFree (pivoted_rows m g.rows b c) b) (sym good.count) (left_after n g b c good t)
 
 -- the entering variable is basic after it
 entered_basic : (n : ℕ) (g : Grid) (b : ℕ) (k : ℤ) (c : ℕ) → Good n g → Turning n g b c → (IsFree (after_pivot g b k c).rows c → ⊥)

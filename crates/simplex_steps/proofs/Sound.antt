@@ -1,5 +1,5 @@
 -- Sound rows and columns are lawful grids, and steps keep them so.
-use Rattle.std.proofs.Common.{◌≡◌, ℕ, ℤ, ◌+◌, ◌<◌, ◌≤◌, ◌⊎◌, inl, inr, ◌↔◌, sym, ap, ap₂, ◌∙◌, subst, refl, arith, List, [], ◌∷◌, ◌++◌, length, Bool, true, false, Some, None, ◌&&◌, Result, Ok, Err, OnOk, OnErr, IfErr}
+use Rattle.std.proofs.Common.{◌≡◌, ℕ, ℤ, ◌+◌, ◌<◌, ◌≤◌, ◌⊎◌, inl, inr, ◌↔◌, sym, ap, ap₂, ◌∙◌, subst, refl, arith, List, [], ◌∷◌, ◌++◌, length, Bool, true, false, Some, None, ◌&&◌, Result, Ok, Err, OnOk, OnErr, IfErr, IsErrAnd}
 use Rattle.fraction128.specs.declared.ratio.Ratio.{Ratio}
 use Rattle.fraction128.specs.Number.{is_zero}
 use Rattle.fraction128.specs.Ratio.{IsFraction}
@@ -25,10 +25,10 @@ use Rattle.tableau.specs.Failing.{IsRange}
 use Rattle.simplex_steps.specs.declared.run.Outcome.{Outcome}
 use Rattle.simplex_steps.specs.declared.run.Outcome.TheVariants.{Fits as AllFit, Conflict as Clash, Range, UnitsSpent, Memory}
 use Rattle.simplex_steps.specs.declared.find.Turn.{Turn}
-use Rattle.simplex_steps.specs.Moved.{shift_fits, moved_to, moved_fits, pivoted_to, pivoted_fits}
+use Rattle.simplex_steps.specs.Moved.{CanPivot, shift_fits, moved_to, moved_fits, pivoted_to, pivoted_fits}
 use Rattle.simplex_steps.specs.State.{grid_of, column_in, no_column, values, KeepsBounds, IsRanged, AreRanged, IsSolution, IsSound, SettledBelow}
 use Rattle.fraction128.specs.Lines.{NextFails}
-use Rattle.simplex_steps.specs.Run.{Reaches, NextPivotFits, IsTurn, step_of, IsRun, IsAdvanced, IsFailed, IsUnspent, SpendsRoom, Ends}
+use Rattle.simplex_steps.specs.Run.{Reaches, NextPivotFits, IsTurn, step_of, IsKept, IsMoved, Settles, IsRun, IsAdvanced, IsFailed, IsUnspent, SpendsRoom, Ends}
 use Rattle.simplex_steps.proofs.Columns.{cell_is, keeps_none, keeps_through, moved_exact, moved_keeps, pivoted_exact, pivoted_keeps}
 use Rattle.simplex_steps.proofs.Next.{next_move, missed_ranged}
 use Rattle.simplex_steps.proofs.Moments.{length_with, col_with}
@@ -111,12 +111,6 @@ reaches_through m n g h k p q =
 
 -- ---- a move
 
-pub record IsMoved (t : Table) (cs ds : List Column) (n : ℕ) : Type 0 where
-  pub reaches : Reaches 0 (grid_of t cs) (grid_of t ds)
-  pub sound : IsSound t ds
-  pub settled : SettledBelow t ds n
-  pub bounds : KeepsBounds cs ds
-
 pub move_made : (t : Table) (cs ds : List Column) (i : ℕ) (k : ℤ) → IsTable t → IsSound t cs → i < t.count → is_basic t.rows i ≡ false → missed (column_in cs i) ≡ Some k → SettledBelow t cs i
     → ds ≡ moved_to t.rows cs i k → moved_fits t.rows cs i k ≡ true → IsMoved t cs ds (i + 1)
 move_made t cs ds i k facts s lt free out settled e fit_all =
@@ -130,11 +124,13 @@ move_made t cs ds i k facts s lt free out settled e fit_all =
     let fractions : (j : ℕ) → j < length cs → IsFraction (moved_value (grid_of t cs) i k j) =
     moved_fraction (grid_of t cs) law (tables_have_rows t cs facts s.solution.count) (λ j lj. s.solution.fractions j) i k next fit_all number in
     record {
-      reaches = record { steps = move i k ∷ []; runs = (next, after_is); fits = (fit_all, tt); count = refl };
-      sound = sound_back t ds cs (subst IsLawful after_is (steps_keep (grid_of t cs) (move i k) law next)) (keeps.count ∙ s.solution.count)
-          (listed_fraction (moved_value (grid_of t cs) i k) cs ds is fractions) keeps s.ranged;
+      kept = record {
+        reaches = record { steps = move i k ∷ []; runs = (next, after_is); fits = (fit_all, tt); count = refl };
+        sound = sound_back t ds cs (subst IsLawful after_is (steps_keep (grid_of t cs) (move i k) law next)) (keeps.count ∙ s.solution.count)
+            (listed_fraction (moved_value (grid_of t cs) i k) cs ds is fractions) keeps s.ranged;
+        bounds = keeps;
+      };
       settled = λ j lj fj. by_known next law after_is j lj fj (cases_lt j (length ds));
-      bounds = keeps;
     }
   where
     by_known : next_step (grid_of t cs) ≡ Some (move i k) → IsLawful (grid_of t cs) → after_move (grid_of t cs) i k ≡ grid_of t ds
@@ -173,6 +169,10 @@ same_fits t cs place k c facts s lt =
         && fit (product_steps (distance k (values cs b)) (reciprocal_of a))
         && fit (sum_steps (values cs c) (product_of (distance k (values cs b)) (reciprocal_of a)))
         && every_row t.rows (shift_fits cs c (product_of (distance k (values cs b)) (reciprocal_of a)))
+
+-- the next pivot can be tried
+pub can_pivot : (t : Table) (cs : List Column) (turn : Turn) → IsSolution t cs → IsTurn t cs turn → CanPivot t cs turn.place turn.number turn.entering
+can_pivot t cs turn s h = record { count = s.count; fractions = s.fractions; in_range = h.in_range; in_rows = h.in_rows; known = h.known; entry = h.entry }
 
 pub pivot_made : (t u : Table) (cs ds : List Column) (turn : Turn) → IsTable t → IsSound t cs → IsTurn t cs turn
     → ds ≡ pivoted_to t.rows cs turn.place turn.number turn.entering → u.rows ≡ pivoted_rows t.count t.rows (row_at t.rows turn.place).basic turn.entering → u.count ≡ t.count
@@ -296,17 +296,31 @@ settled_within t cs i h within j lt free = by_order (cases_lt j i)
     by_order (inl l) = h j l free
     by_order (inr le) = let same : j ≡ i = omega (arith, lt, le) in ap (λ n. missed (column_in cs n)) same ∙ within
 
--- what bringing variables within their bounds keeps
-pub record IsKept (t : Table) (cs ds : List Column) : Type 0 where
-  pub reaches : Reaches 0 (grid_of t cs) (grid_of t ds)
-  pub sound : IsSound t ds
-  pub bounds : KeepsBounds cs ds
+-- ---- bringing variables within their bounds
 
 pub kept_none : (t : Table) (cs : List Column) → IsSound t cs → IsKept t cs cs
 kept_none t cs s = record { reaches = reaches_none (grid_of t cs); sound = s; bounds = keeps_none cs }
 
-pub kept_through : (t : Table) (cs ds es : List Column) → IsKept t cs ds → Reaches 0 (grid_of t ds) (grid_of t es) → IsSound t es → KeepsBounds ds es → IsKept t cs es
-kept_through t cs ds es h r s b = record { reaches = reaches_through 0 0 (grid_of t cs) (grid_of t ds) (grid_of t es) h.reaches r; sound = s; bounds = keeps_through cs ds es h.bounds b }
+pub kept_through : (t : Table) (cs ds es : List Column) → IsKept t cs ds → IsKept t ds es → IsKept t cs es
+kept_through t cs ds es h k =
+    record { reaches = reaches_through 0 0 (grid_of t cs) (grid_of t ds) (grid_of t es) h.reaches k.reaches; sound = k.sound; bounds = keeps_through cs ds es h.bounds k.bounds }
 
-pub kept_run : (t : Table) (cs ds : List Column) → Reaches 0 (grid_of t cs) (grid_of t ds) → IsSound t ds → KeepsBounds cs ds → IsRun t cs t ds 0
-kept_run t cs ds r s b = record { reaches = r; keeps = λ v p. (λ m. m, λ m. m); solution = s.solution; bounds = b }
+pub kept_run : (t : Table) (cs ds : List Column) → IsKept t cs ds → IsRun t cs t ds 0
+kept_run t cs ds h = record { reaches = h.reaches; keeps = λ v p. (λ m. m, λ m. m); solution = h.sound.solution; bounds = h.bounds }
+
+-- nothing had to move
+pub settles_none : {T : Type 0} (t : Table) (cs : List Column) (n : ℕ) (x : T) → IsSound t cs → SettledBelow t cs n → Settles t cs cs n (Ok x)
+settles_none t cs n x s settled = record { kept = kept_none t cs s; settled = settled; range = tt }
+
+-- one variable had to
+pub settles_moved : {T : Type 0} (t : Table) (cs ds : List Column) (n : ℕ) (r : Result T Failure) → IsSound t cs → OnOk r (IsMoved t cs ds n) → IfErr r (λ e. IsRange e → NextFails (grid_of t cs)) → OnErr r (ds ≡ cs)
+    → Settles t cs ds n r
+settles_moved t cs ds n (Ok x) s moved range same = record { kept = moved.kept; settled = moved.settled; range = tt }
+settles_moved t cs ds n (Err e) s moved range same =
+    record { kept = subst (IsKept t cs) (sym same) (kept_none t cs s); settled = tt; range = λ w. subst (λ (es : List Column). NextFails (grid_of t es)) (sym same) (range w) }
+
+-- after others, one failed
+pub settles_failed : {T U : Type 0} (t : Table) (cs ds es : List Column) (m n : ℕ) (e : Failure) (q : Result T Failure) (r : Result U Failure) → IsKept t cs ds → q ≡ Err e → Settles t ds es m q → IsErrAnd r (λ f. f ≡ e) → Settles t cs es n r
+settles_failed t cs ds es m n e q (Ok x) h was s failed = absurd failed
+settles_failed t cs ds es m n e q (Err f) h was s failed =
+    record { kept = kept_through t cs ds es h s.kept; settled = tt; range = subst (λ g. IfErr g (λ d. IsRange d → NextFails (grid_of t es))) (was ∙ sym (ap Err failed)) s.range }

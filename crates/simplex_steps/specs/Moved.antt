@@ -1,12 +1,15 @@
 -- The values that variables get in a step.
-use Rattle.std.specs.Prelude.{ℕ, ℤ, Bool, List, [], ◌∷◌, Contains, flat_map, slice_set, if◌then◌else◌, ◌&&◌}
+use Rattle.std.specs.Prelude.{◌≡◌, ℕ, ℤ, ◌<◌, Bool, List, [], ◌∷◌, length, Contains, flat_map, slice_set, if◌then◌else◌, ◌&&◌}
 use Rattle.fraction128.specs.declared.ratio.Ratio.{Ratio}
+use Rattle.fraction128.specs.Whole.{InRange}
+use Rattle.fraction128.specs.Ratio.{IsFraction}
 use Rattle.fraction128.specs.Listed.{sum_of, sum_steps, product_of, product_steps, reciprocal_of, fused}
 use Rattle.fraction128.specs.Number.{whole, is_zero}
 use Rattle.fraction128.specs.declared.TableRow.{TableRow}
 use Rattle.fraction128.specs.declared.Column.{Column}
 use Rattle.fraction128.specs.Grid.{coefficient, distance, distance_fits, fit, fused_fits, every_row}
-use Rattle.tableau.specs.Table.{row_at}
+use Rattle.tableau.specs.Table.{Table, row_at}
+use Rattle.tableau.specs.Staged.{HasEntry}
 use Rattle.simplex_steps.specs.declared.moves.Moved.{Moved}
 use Rattle.simplex_steps.specs.State.{column_in, values}
 
@@ -67,3 +70,12 @@ pivoted_fits rows cs place k c =
     && fit (product_steps (distance k (values cs (row_at rows place).basic)) (reciprocal_of (coefficient (row_at rows place).entries c)))
     && fit (sum_steps (values cs c) (row_distance rows cs place k c))
     && every_row rows (shift_fits cs c (row_distance rows cs place k c))
+
+-- a pivot of the row at a place with a variable, which gives the row's basic variable the value k, can be tried
+pub record CanPivot (t : Table) (cs : List Column) (place : ℕ) (k : ℤ) (c : ℕ) : Type 0 where
+  pub count : length cs ≡ t.count
+  pub fractions : (i : ℕ) → IsFraction (values cs i)
+  pub in_range : InRange k
+  pub in_rows : place < length t.rows
+  pub known : c < t.count
+  pub entry : HasEntry c (row_at t.rows place).entries

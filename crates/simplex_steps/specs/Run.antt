@@ -1,5 +1,5 @@
 -- Runs of steps, and how they end.
-use Rattle.std.specs.Prelude.{◌≡◌, ℕ, ℤ, ◌<◌, ◌↔◌, Bool, true, List, [], ◌∷◌, ◌++◌, length, Some, None, if◌then◌else◌}
+use Rattle.std.specs.Prelude.{◌≡◌, ℕ, ℤ, ◌<◌, ◌≤◌, ◌↔◌, Bool, true, List, [], ◌∷◌, ◌++◌, length, Some, None, Result, OnOk, IfErr, if◌then◌else◌}
 use Rattle.fraction128.specs.declared.ratio.Ratio.{Ratio}
 use Rattle.fraction128.specs.Whole.{InRange}
 use Rattle.fraction128.specs.declared.Column.{Column}
@@ -7,19 +7,22 @@ use Rattle.fraction128.specs.declared.Grid.{Grid}
 use Rattle.fraction128.specs.Grid.{Step, pivot, next_step, step_fits, WithinBounds, MeetsRows}
 use Rattle.fraction128.specs.declared.Line.{Line}
 use Rattle.fraction128.specs.Lines.{NextFails, HasBasis, basis_along, pivot_line}
-use Rattle.simplex_steps.specs.Law.{Runs, RunsFit, pivots, lines_of}
+use Rattle.simplex_steps.specs.Law.{Runs, RunsFit, pivots, lines_of, KeepsResting}
 use Rattle.tableau.specs.Table.{Table, row_at}
 use Rattle.tableau.specs.Staged.{HasEntry}
 use Rattle.simplex_steps.specs.declared.find.Turn.{Turn}
 use Rattle.simplex_steps.specs.declared.find.Found.{Found}
 use Rattle.simplex_steps.specs.declared.find.Found.TheVariants.{Fits, Conflict, Pivot}
+use Rattle.simplex_steps.specs.declared.line.PivotLines.{PivotLines}
+use Rattle.simplex_steps.specs.declared.run.Checked.{Checked}
 use Rattle.simplex_steps.specs.declared.run.Outcome.{Outcome}
 use Rattle.simplex_steps.specs.declared.run.Outcome.TheVariants.{Fits as AllFit, Conflict as Clash, Range, UnitsSpent, Memory}
 use Rattle.simplex_steps.specs.declared.run.Progress.{Progress}
 use Rattle.simplex_steps.specs.declared.run.Progress.TheVariants.{Pivoted, Ended}
 use Rattle.tableau.specs.declared.failure.Failure.{Failure}
 use Rattle.tableau.specs.declared.failure.Failure.TheVariants.{Range as NoFit, Memory as NoMemory}
-use Rattle.simplex_steps.specs.State.{grid_of, column_in, IsSolution, IsSound, IsSettled, KeepsBounds}
+use Rattle.tableau.specs.Failing.{IsRange}
+use Rattle.simplex_steps.specs.State.{grid_of, column_in, IsSolution, IsSound, IsSettled, SettledBelow, KeepsBounds}
 use Rattle.simplex_steps.specs.Conflict.{IsRowConflict, IsConflict}
 
 -- all variables are within their bounds
@@ -92,6 +95,23 @@ abbrev pub IsFailed : Failure → Outcome → Type 0
 IsFailed (NoFit r) o = o ≡ Range r
 IsFailed NoMemory o = o ≡ Memory
 
+-- next steps, none of them a pivot, led from columns to others: the bounds stay, and all is sound
+pub record IsKept (t : Table) (cs ds : List Column) : Type 0 where
+  pub reaches : Reaches 0 (grid_of t cs) (grid_of t ds)
+  pub sound : IsSound t ds
+  pub bounds : KeepsBounds cs ds
+
+-- such steps, after which the variables below n that aren't basic are within their bounds
+pub record IsMoved (t : Table) (cs ds : List Column) (n : ℕ) : Type 0 where
+  pub kept : IsKept t cs ds
+  pub settled : SettledBelow t ds n
+
+-- the try to bring the variables below n that aren't basic within their bounds: where it fails for a number, the next step does
+pub record Settles (t : Table) (cs ds : List Column) (n : ℕ) {T : Type 0} (r : Result T Failure) : Type 0 where
+  pub kept : IsKept t cs ds
+  pub settled : OnOk r (SettledBelow t ds n)
+  pub range : IfErr r (λ e. IsRange e → NextFails (grid_of t ds))
+
 -- next steps, so many of them pivots, led from rows and columns to others: the solutions and the bounds stay
 pub record IsRun (t : Table) (cs : List Column) (u : Table) (ds : List Column) (pivots : ℕ) : Type 0 where
   pub reaches : Reaches pivots (grid_of t cs) (grid_of u ds)
@@ -119,6 +139,20 @@ pub record KeepsLines (keep : Bool) (n : ℕ) (g h : Grid) (before now : List Li
   pub count : pivots steps ≡ n
   pub kept : now ≡ before ++ kept_lines keep g steps
   pub basis : (is : ℕ → Bool) → HasBasis is g → HasBasis (basis_along is (lines_of g steps)) h
+
+-- a search by next steps, n of them pivots: their lines are kept where lines are, and what isn't basic at the end stands at a bound or as before
+pub record IsSearch (room : ℕ) (t : Table) (cs : List Column) (before : PivotLines) (u : Table) (ds : List Column) (now : PivotLines) (n : ℕ) : Type 0 where
+  pub run : IsRun t cs u ds n
+  pub lines : KeepsLines before.keep n (grid_of t cs) (grid_of u ds) before.lines.items now.lines.items
+  pub keep : now.keep ≡ before.keep
+  pub rests : KeepsResting (grid_of t cs) (grid_of u ds)
+  pub most : n ≤ room
+
+-- such a search, and what its outcome says
+pub record IsChecked (room : ℕ) (t : Table) (cs : List Column) (before : PivotLines) (u : Table) (ds : List Column) (now : PivotLines) (r : Checked) : Type 0 where
+  pub search : IsSearch room t cs before u ds now r.pivots
+  pub ends : Ends u ds r.outcome
+  pub spent : SpendsRoom room r.pivots r.outcome
 
 -- the line of a turn, where lines are kept
 abbrev pub turn_lines : Bool → Table → List Column → Turn → List Line

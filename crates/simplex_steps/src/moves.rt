@@ -8,10 +8,9 @@ ghost use Rattle.fraction128.specs.Listed.{sum_of, product_of, reciprocal_of, fu
 ghost use Rattle.fraction128.specs.Grid.{coefficient, distance, distance_fits, fused_fits, every_row, MeetsRows, pivoted_rows, pivot_fits};
 ghost use Rattle.tableau.specs.Failing.{IsRange};
 ghost use Rattle.tableau.specs.Table.{row_at};
-ghost use Rattle.tableau.specs.Staged.{HasEntry};
 ghost use Rattle.simplex_steps.specs.State.{column_in, values};
 ghost use Rattle.simplex_steps.specs.Suspects.{Covers};
-ghost use Rattle.simplex_steps.specs.Moved.{shift, shifts, AreShifts, shift_fits, applied, landed, moved_to, moved_fits, row_distance, pivoted_to, pivoted_fits, entering_fits};
+ghost use Rattle.simplex_steps.specs.Moved.{CanPivot, shift, shifts, AreShifts, shift_fits, applied, landed, moved_to, moved_fits, row_distance, pivoted_to, pivoted_fits, entering_fits};
 
 use crate::suspects::{Suspects, suspect};
 use fraction128::{Column, Fraction, Range};
@@ -237,12 +236,7 @@ pub fn pivot_columns(
     entering: u32,
 ) -> Result<(), Failure>
     requires covers { Covers suspects.old columns.old }
-    requires count { length columns.old ≡ tableau.old.count }
-    requires fractions { (i : ℕ) → IsFraction (values columns.old i) }
-    requires number { InRange number }
-    requires place { place < length tableau.old.rows }
-    requires known { entering < tableau.old.count }
-    requires entry { HasEntry entering (row_at tableau.old.rows place).entries }
+    requires pivot { CanPivot tableau.old columns.old place number entering }
     ensures columns { OnOk result (columns.new ≡ pivoted_to tableau.old.rows columns.old place number entering) }
     ensures rows { OnOk result (tableau.new.rows ≡ pivoted_rows tableau.old.count tableau.old.rows (row_at tableau.old.rows place).basic entering) }
     ensures count { tableau.new.count ≡ tableau.old.count }
@@ -271,12 +265,7 @@ pub fn try_columns(
     number: i128,
     entering: u32,
 ) -> Result<(), Failure>
-    requires count { length columns.now ≡ tableau.old.count }
-    requires fractions { (i : ℕ) → IsFraction (values columns.now i) }
-    requires number { InRange number }
-    requires place { place < length tableau.old.rows }
-    requires known { entering < tableau.old.count }
-    requires entry { HasEntry entering (row_at tableau.old.rows place).entries }
+    requires pivot { CanPivot tableau.old columns.now place number entering }
     ensures same { tableau.new ≡ tableau.old }
     ensures fits { OnOk result ((pivot_fits tableau.old.count tableau.old.rows (row_at tableau.old.rows place).basic entering && pivoted_fits tableau.old.rows columns.now place number entering) ≡ true) }
     ensures range { IfErr result (λ e. IsRange e → (pivot_fits tableau.old.count tableau.old.rows (row_at tableau.old.rows place).basic entering && pivoted_fits tableau.old.rows columns.now place number entering) ≡ false) }

@@ -38,7 +38,7 @@ ghost use Rattle.simplex_steps.specs.Law.{KeepsResting};
 ghost use Rattle.tableau.specs.Table.{Table};
 ghost use Rattle.simplex_steps.specs.State.{column_in, grid_of, IsSolution, AreRanged, IsSound, IsSettled, KeepsBounds};
 ghost use Rattle.simplex_steps.specs.Suspects.{Covers};
-ghost use Rattle.simplex_steps.specs.Run.{Reaches, SameSolutions, Ends, SpendsRoom, Advances, IsFailed, IsUnspent, IsRun, Records, KeepsLines};
+ghost use Rattle.simplex_steps.specs.Run.{Ends, SpendsRoom, Advances, IsFailed, IsUnspent, IsRun, Records, IsChecked};
 
 use crate::conflict::explain_crossed;
 use crate::find::{Found, find, first_crossed};
@@ -190,14 +190,8 @@ fn check_uncrossed(
 ) -> Checked
     requires sound { IsSound tableau.old columns.old }
     requires covers { Covers suspects.old columns.old }
-    ensures run { IsRun tableau.old columns.old tableau.new columns.new result.pivots }
-    ensures ends { Ends tableau.new columns.new result.outcome }
-    ensures lines { KeepsLines kept.old.keep result.pivots (grid_of tableau.old columns.old) (grid_of tableau.new columns.new) kept.old.lines.items kept.new.lines.items }
-    ensures keep { kept.new.keep ≡ kept.old.keep }
+    ensures checked { IsChecked room tableau.old columns.old kept.old tableau.new columns.new kept.new result }
     ensures covers { Covers suspects.new columns.new }
-    ensures rests { KeepsResting (grid_of tableau.old columns.old) (grid_of tableau.new columns.new) }
-    ensures room { SpendsRoom room result.pivots result.outcome }
-    ensures most { result.pivots ≤ room }
 {
     tableau.facts();
     match settle(tableau, columns, moved, suspects) {
@@ -236,14 +230,8 @@ pub fn check(
     requires solution { IsSolution tableau.old columns.old }
     requires ranged { AreRanged columns.old }
     requires covers { Covers suspects.old columns.old }
-    ensures run { IsRun tableau.old columns.old tableau.new columns.new result.pivots }
-    ensures ends { Ends tableau.new columns.new result.outcome }
-    ensures lines { KeepsLines kept.old.keep result.pivots (grid_of tableau.old columns.old) (grid_of tableau.new columns.new) kept.old.lines.items kept.new.lines.items }
-    ensures keep { kept.new.keep ≡ kept.old.keep }
+    ensures checked { IsChecked room tableau.old columns.old kept.old tableau.new columns.new kept.new result }
     ensures covers { Covers suspects.new columns.new }
-    ensures rests { KeepsResting (grid_of tableau.old columns.old) (grid_of tableau.new columns.new) }
-    ensures room { SpendsRoom room result.pivots result.outcome }
-    ensures most { result.pivots ≤ room }
 {
     match first_crossed(columns, suspects) {
         Some(variable) => Checked {

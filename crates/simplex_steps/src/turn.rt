@@ -4,10 +4,10 @@ ghost use Rattle.fraction128.specs.declared.ratio.Ratio.{Ratio};
 ghost use Rattle.fraction128.specs.Grid.{missed, is_basic, step_fits, after, MeetsRows};
 ghost use Rattle.tableau.specs.Failing.{IsRange};
 ghost use Rattle.tableau.specs.Table.{row_at};
-ghost use Rattle.simplex_steps.specs.State.{column_in, grid_of, IsSound, IsSettled, SettledBelow, KeepsBounds};
+ghost use Rattle.simplex_steps.specs.State.{column_in, grid_of, IsSound, SettledBelow};
 ghost use Rattle.fraction128.specs.Lines.{NextFails};
 ghost use Rattle.simplex_steps.specs.Suspects.{Covers};
-ghost use Rattle.simplex_steps.specs.Run.{Reaches, NextPivotFits, IsTurn, SameSolutions, IsAdvanced, turn_lines};
+ghost use Rattle.simplex_steps.specs.Run.{NextPivotFits, IsTurn, IsAdvanced, IsMoved, Settles, turn_lines};
 
 use crate::bounds::missed;
 use crate::find::{Turn, least_outside};
@@ -143,10 +143,7 @@ fn make_move(
     requires free { is_basic tableau.now.rows variable ≡ false }
     requires outside { missed (column_in columns.old variable) ≡ Some number }
     requires settled { SettledBelow tableau.now columns.old variable }
-    ensures reaches { OnOk result (Reaches 0 (grid_of tableau.now columns.old) (grid_of tableau.now columns.new)) }
-    ensures sound { OnOk result (IsSound tableau.now columns.new) }
-    ensures settled { OnOk result (SettledBelow tableau.now columns.new (variable + 1)) }
-    ensures bounds { OnOk result (KeepsBounds columns.old columns.new) }
+    ensures moved { OnOk result (IsMoved tableau.now columns.old columns.new (variable + 1)) }
     ensures range { IfErr result (λ e. IsRange e → NextFails (grid_of tableau.now columns.old)) }
     ensures err { OnErr result (columns.new ≡ columns.old) }
     ensures covers { Covers suspects.new columns.new }
@@ -167,11 +164,7 @@ fn settle_one(
     requires sound { IsSound tableau.now columns.old }
     requires known { variable < tableau.now.count }
     requires settled { SettledBelow tableau.now columns.old variable }
-    ensures reaches { Reaches 0 (grid_of tableau.now columns.old) (grid_of tableau.now columns.new) }
-    ensures sound { IsSound tableau.now columns.new }
-    ensures settled { OnOk result (SettledBelow tableau.now columns.new (variable + 1)) }
-    ensures bounds { KeepsBounds columns.old columns.new }
-    ensures range { IfErr result (λ e. IsRange e → NextFails (grid_of tableau.now columns.new)) }
+    ensures settles { Settles tableau.now columns.old columns.new (variable + 1) result }
     ensures covers { Covers suspects.new columns.new }
 {
     match missed(&columns[variable as usize]) {
@@ -192,11 +185,7 @@ fn settle_all(
 ) -> Result<(), Failure>
     requires sound { IsSound tableau.now columns.old }
     requires covers { Covers suspects.old columns.old }
-    ensures reaches { Reaches 0 (grid_of tableau.now columns.old) (grid_of tableau.now columns.new) }
-    ensures sound { IsSound tableau.now columns.new }
-    ensures settled { OnOk result (IsSettled tableau.now columns.new) }
-    ensures bounds { KeepsBounds columns.old columns.new }
-    ensures range { IfErr result (λ e. IsRange e → NextFails (grid_of tableau.now columns.new)) }
+    ensures settles { Settles tableau.now columns.old columns.new (length columns.new) result }
     ensures covers { Covers suspects.new columns.new }
 {
     for variable in 0..tableau.count() {
@@ -214,11 +203,7 @@ fn settle_suspects(
 ) -> Result<(), Failure>
     requires sound { IsSound tableau.now columns.old }
     requires covers { Covers suspects.old columns.old }
-    ensures reaches { Reaches 0 (grid_of tableau.now columns.old) (grid_of tableau.now columns.new) }
-    ensures sound { IsSound tableau.now columns.new }
-    ensures settled { OnOk result (IsSettled tableau.now columns.new) }
-    ensures bounds { KeepsBounds columns.old columns.new }
-    ensures range { IfErr result (λ e. IsRange e → NextFails (grid_of tableau.now columns.new)) }
+    ensures settles { Settles tableau.now columns.old columns.new (length columns.new) result }
     ensures covers { Covers suspects.new columns.new }
 {
     let count = tableau.count();
@@ -244,11 +229,7 @@ pub fn settle(
 ) -> Result<(), Failure>
     requires sound { IsSound tableau.now columns.old }
     requires covers { Covers suspects.old columns.old }
-    ensures reaches { Reaches 0 (grid_of tableau.now columns.old) (grid_of tableau.now columns.new) }
-    ensures sound { IsSound tableau.now columns.new }
-    ensures settled { OnOk result (IsSettled tableau.now columns.new) }
-    ensures bounds { KeepsBounds columns.old columns.new }
-    ensures range { IfErr result (λ e. IsRange e → NextFails (grid_of tableau.now columns.new)) }
+    ensures settles { Settles tableau.now columns.old columns.new (length columns.new) result }
     ensures covers { Covers suspects.new columns.new }
 {
     if are_many(suspects.variables().len(), tableau.count()) {

@@ -47,16 +47,25 @@ negated_sum f (p ∷ ps) =
     ap (λ x. neg_ℤ p.coefficient *ℤ f p.term +ℤ x) (negated_sum f ps)
     ∙ solve wholes (p.coefficient ∷ f p.term ∷ whole_sum f ps ∷ []) (sum (product (minus (var 0)) (var 1)) (minus (var 2))) (minus (sum (product (var 0) (var 1)) (var 2))) refl
 
+-- a value, or its negation where the sum that it belongs to is turned
+abbrev pub turned_by : {A : Type 0} → (A → A) → Bool → A → A
+turned_by negation true x = negation x
+turned_by negation false x = x
+
+-- what a sum's negation negates is turned with the sum
+pub value_turned : {A : Type 0} (value : List Summand → A) (negation : A → A) (ps : List Summand)
+    → value (map (λ (p : Summand). record { coefficient = neg_ℤ p.coefficient; term = p.term }) ps) ≡ negation (value ps) → value (turned ps) ≡ turned_by negation (is_turned ps) (value ps)
+value_turned value negation ps negated = by (is_turned ps) refl
+  where
+    by : (b : Bool) → is_turned ps ≡ b → value (turned ps) ≡ turned_by negation (is_turned ps) (value ps)
+    by true e = rw e negated
+    by false e = rw e refl
+
 abbrev turned_value : Bool → ℤ → ℤ
-turned_value true z = neg_ℤ z
-turned_value false z = z
+turned_value = turned_by neg_ℤ
 
 turned_sum : (f : ℕ → ℤ) (ps : List Summand) → whole_sum f (turned ps) ≡ turned_value (is_turned ps) (whole_sum f ps)
-turned_sum f ps = by (is_turned ps) refl
-  where
-    by : (b : Bool) → is_turned ps ≡ b → whole_sum f (turned ps) ≡ turned_value (is_turned ps) (whole_sum f ps)
-    by true e = rw e (negated_sum f ps)
-    by false e = rw e refl
+turned_sum f ps = value_turned (whole_sum f) neg_ℤ ps (negated_sum f ps)
 
 -- a whole number meets a literal's bound where the literal is true of it
 pub bound_holds : (positive turned_ : Bool) (z k : ℤ) → sign positive (int_le z k) ≡ true → MeetsSide (told_side positive turned_) (told_number positive turned_ k) (whole (turned_value turned_ z))

@@ -80,14 +80,22 @@ MeetsSide Upper k x = is_less (whole k) x ≡ false
 abbrev pub Meets : (ℕ → List Summand) → (ℕ → Ratio) → Told → Type 0
 Meets sum w t = MeetsSide t.side t.number (sum_value w (sum t.variable))
 
--- the literals are complements of those of bounds that were told, none twice, and whatever values the terms have, not all of these bounds hold
-pub record IsConflict (sum : ℕ → List Summand) (told : List Told) (ls : List Signed) : Type 0 where
+-- the literals are complements of those of bounds that were told, none twice, and these bounds are apart in a sense
+pub record AreComplements (Apart : List Told → Type 0) (told : List Told) (ls : List Signed) : Type 0 where
   pub bounds : List Told
   pub stand : All (Contains told) bounds
   pub each : All (λ (t : Told). Contains ls (opposite t.literal)) bounds
   pub only : All (λ l. (t : Told) × Contains bounds t × (l ≡ opposite t.literal)) ls
   pub once : AllPairs (λ (a b : Signed). a ≢ b) ls
-  pub apart : (w : ℕ → Ratio) → IsPositive w → All (Meets sum w) bounds → ⊥
+  pub apart : Apart bounds
+
+-- whatever values the terms have, not all of these bounds hold
+abbrev pub NoneMeet : (ℕ → List Summand) → List Told → Type 0
+NoneMeet sum bounds = (w : ℕ → Ratio) → IsPositive w → All (Meets sum w) bounds → ⊥
+
+-- the literals say that some bounds that were told, which no values meet, don't all hold
+abbrev pub IsConflict : (ℕ → List Summand) → List Told → List Signed → Type 0
+IsConflict sum = AreComplements (NoneMeet sum)
 
 -- what a check finds
 abbrev pub Judges : State → Finding → Type 0

@@ -1,5 +1,5 @@
 -- Bounds that no whole numbers meet.
-use Rattle.std.specs.Prelude.{◌≡◌, ◌≢◌, ℕ, List, ℤ, negsuc, All, AllPairs, Contains}
+use Rattle.std.specs.Prelude.{◌≡◌, ℕ, List, ℤ, negsuc, All, Contains}
 use Rattle.fraction128.specs.declared.ratio.Ratio.{Ratio}
 use Rattle.fraction128.specs.Number.{whole, unreduced_sum, unreduced_product}
 use Rattle.fraction128.specs.declared.Summand.{Summand}
@@ -10,27 +10,22 @@ use Rattle.fraction128.specs.declared.Bound.{Bound}
 use Rattle.fraction128.specs.declared.Side.TheVariants.{Lower, Upper}
 use Rattle.fraction128.specs.Grid.{MeetsRow, row_value}
 use Rattle.sum_bounds.specs.Progressions.{State as Progression, Has}
-use Rattle.literals.specs.Signed.{Signed, opposite}
+use Rattle.literals.specs.Signed.{Signed}
 use Rattle.search_port.specs.State.{Reading}
 use Rattle.search_port.specs.Valid.{IsValid}
 use Rattle.simplex_steps.specs.State.{column_in}
 use Rattle.simplex_steps.specs.Conflict.{Stands}
 use Rattle.simplex.specs.State.{FixedAt}
-use Rattle.sum_bounds.specs.Bounds.{Told, Meets}
+use Rattle.sum_bounds.specs.Bounds.{Told, Meets, AreComplements}
 use Rattle.sum_bounds.specs.Clauses.{IsSaid}
 
 -- whatever whole numbers the terms have, not all of these bounds hold
 abbrev pub NoneWhole : (ℕ → List Summand) → List Told → Type 0
 NoneWhole sum bounds = (f : ℕ → ℤ) → All (Meets sum (λ term. whole (f term))) bounds → ⊥
 
--- the literals are complements of those of bounds that were told, none twice, and no whole numbers meet all of these bounds
-pub record IsWholeConflict (sum : ℕ → List Summand) (told : List Told) (ls : List Signed) : Type 0 where
-  pub bounds : List Told
-  pub stand : All (Contains told) bounds
-  pub each : All (λ (t : Told). Contains ls (opposite t.literal)) bounds
-  pub only : All (λ l. (t : Told) × Contains bounds t × (l ≡ opposite t.literal)) ls
-  pub once : AllPairs (λ (a b : Signed). a ≢ b) ls
-  pub apart : NoneWhole sum bounds
+-- the literals say that some bounds that were told, which no whole numbers meet, don't all hold
+abbrev pub IsWholeConflict : (ℕ → List Summand) → List Told → List Signed → Type 0
+IsWholeConflict sum = AreComplements (NoneWhole sum)
 
 -- where the bounds told are what their literals say, each such clause is true under every interpretation
 abbrev pub WholeConflictsAreValid : Type 0

@@ -145,20 +145,27 @@ fn tell(alloc: Global, copy: &mut SumBounds, simplex: &Simplex, bound: Bound) ->
     }
 }
 
-/// Tells the copy the lower bound of a variable, where it has one.
-fn tell_lower(alloc: Global, copy: &mut SumBounds, simplex: &Simplex, variable: u32) -> Option<()>
-    requires known { variable < length simplex.now.columns }
+/// Tells the copy the bound of a variable on a side, where it has one.
+fn tell_side(
+    alloc: Global,
+    copy: &mut SumBounds,
+    simplex: &Simplex,
+    variable: u32,
+    side: Side,
+    number: Option<i128>,
+) -> Option<()>
+    requires stands { IfSome number (λ k. Stands simplex.now.columns (record { variable = variable; side = side; number = k })) }
     requires copy { IsCopy simplex.now.columns (map told_of simplex.now.bounds) copy.old }
     ensures { OnSome result (IsCopy simplex.now.columns (map told_of simplex.now.bounds) copy.new) }
 {
-    match simplex.column(variable).lower {
+    match number {
         Some(number) => tell(
             alloc,
             copy,
             simplex,
             Bound {
                 variable,
-                side: Side::Lower,
+                side,
                 number,
             },
         ),
@@ -166,25 +173,15 @@ fn tell_lower(alloc: Global, copy: &mut SumBounds, simplex: &Simplex, variable: 
     }
 }
 
-/// Tells the copy the upper bound of a variable, where it has one.
-fn tell_upper(alloc: Global, copy: &mut SumBounds, simplex: &Simplex, variable: u32) -> Option<()>
+/// Tells the copy the bounds of a variable.
+fn tell_both(alloc: Global, copy: &mut SumBounds, simplex: &Simplex, variable: u32) -> Option<()>
     requires known { variable < length simplex.now.columns }
     requires copy { IsCopy simplex.now.columns (map told_of simplex.now.bounds) copy.old }
     ensures { OnSome result (IsCopy simplex.now.columns (map told_of simplex.now.bounds) copy.new) }
 {
-    match simplex.column(variable).upper {
-        Some(number) => tell(
-            alloc,
-            copy,
-            simplex,
-            Bound {
-                variable,
-                side: Side::Upper,
-                number,
-            },
-        ),
-        None => Some(()),
-    }
+    let column = simplex.column(variable);
+    tell_side(alloc, copy, simplex, variable, Side::Lower, column.lower)?;
+    tell_side(alloc, copy, simplex, variable, Side::Upper, column.upper)
 }
 
 /// The same variables with the bounds that stand, each with its literal.
@@ -194,8 +191,7 @@ fn copied(alloc: Global, simplex: &Simplex, count: u32) -> Option<SumBounds>
 {
     let mut copy = copied_sums(alloc, simplex, count)?;
     for variable in 0..count {
-        tell_lower(alloc, &mut copy, simplex, variable)?;
-        tell_upper(alloc, &mut copy, simplex, variable)?;
+        tell_both(alloc, &mut copy, simplex, variable)?;
     }
     Some(copy)
 }

@@ -3,10 +3,9 @@ ghost use Rattle.std.specs.Prelude.{◌≡◌, ℕ, ◌+◌, ◌-◌, ◌^◌, �
 ghost use Rattle.fraction128.specs.Whole.{InRange};
 ghost use Rattle.fraction128.specs.Grid.{column_of, is_basic, leaf, turned};
 ghost use Rattle.fraction128.specs.Lines.{line_of};
-ghost use Rattle.simplex_steps.specs.Law.{KeepsResting};
 ghost use Rattle.tableau.specs.Failing.{IsRange};
 ghost use Rattle.simplex_steps.specs.State.{column_in, grid_of, values};
-ghost use Rattle.simplex_steps.specs.Run.{IsRun, KeepsLines};
+ghost use Rattle.simplex_steps.specs.Run.{IsSearch};
 ghost use Rattle.simplex.specs.State.{IsState as IsSimplex, KeepsValues};
 ghost use Rattle.simplex.specs.Sums.{HaveOwnSums};
 ghost use Rattle.sum_bounds.specs.Bounds.{sums, leaf_values, sum_hashes, told_of, told_bound, MeetsSide, IsPastEnd, IsSum, StandsFor, with_leaf, with_sum, sum_fits, Judges, SpendsRoom, IsFirstIn, AreWhole, IsState};
@@ -298,14 +297,10 @@ impl SumBounds {
 
     /// Moves values until the terms' values meet all bounds told, or finds bounds that no values meet, or a step that doesn't fit or is a pivot past the room. It does nothing where the last check found that all bounds are met, and those told since are met by the values too.
     pub fn check(&mut self, alloc: Global, kept: &mut PivotLines, room: u64) -> Checked
-        ensures run { IsRun self.old.table self.old.columns self.new.table self.new.columns result.pivots }
+        ensures search { IsSearch room self.old.table self.old.columns kept.old self.new.table self.new.columns kept.new result.pivots }
         ensures told { self.new.told ≡ self.old.told }
         ensures judges { Judges self.new result.finding }
         ensures room { SpendsRoom room result.pivots result.finding }
-        ensures most { result.pivots ≤ room }
-        ensures lines { KeepsLines kept.old.keep result.pivots (grid_of self.old.table self.old.columns) (grid_of self.new.table self.new.columns) kept.old.lines.items kept.new.lines.items }
-        ensures keep { kept.new.keep ≡ kept.old.keep }
-        ensures rests { KeepsResting (grid_of self.old.table self.old.columns) (grid_of self.new.table self.new.columns) }
     {
         self.simplex.facts();
         if self.is_clean {

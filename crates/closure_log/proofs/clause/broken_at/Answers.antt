@@ -1,6 +1,5 @@
-use Rattle.std.proofs.Common.{rules, ◌≡◌, ◌∷◌, ◌⊎◌, inl, inr, Option, Some, None, is_some, Bool, true, false, List, ℕ, refl, sym, subst, ◌∙◌}
+use Rattle.std.proofs.Common.{rules, ◌≡◌, ◌∷◌, ◌⊎◌, inl, inr, None, is_some, true, false, refl, sym, ◌∙◌}
 use Rattle.closure_log.specs.Read.{LacksOne, IsRead}
-use Rattle.closure_log.specs.Parts.{IsWideXor}
 use Rattle.closure_log.proofs.Reading.{read_same}
 use Rattle.closure_log.proofs.OddTelling.{keeps_lacking, keeps_read}
 use Rattle.closure_log.proofs.clause.broken_at.Goals as goal

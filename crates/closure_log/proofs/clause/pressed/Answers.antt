@@ -1,4 +1,4 @@
-use Rattle.std.proofs.Common.{Option, Some, None, Bool, true, sym, subst}
+use Rattle.std.proofs.Common.{Option, None, Bool, sym, subst}
 use Rattle.literals.specs.Signed.{Signed}
 use Rattle.closure_log.specs.Read.{PressesWhereRead}
 use Rattle.closure_log.proofs.Clausing.{presses_open, presses_where_false, false_where_read}

@@ -1,10 +1,9 @@
-use Rattle.std.proofs.Common.{rules, ◌≡◌, ℕ, ◌<◌, ◌≤◌, length, List, All, arith, sym, subst}
+use Rattle.std.proofs.Common.{rules, ◌≡◌, ℕ, ◌<◌, ◌≤◌, length, List, subst}
 use Rattle.smt_meaning.specs.declared.terms.Operator.TheVariants.{Xor}
-use Rattle.smt_meaning.specs.declared.terms.Head.{Head}
 use Rattle.smt_meaning.specs.declared.terms.Head.TheVariants.{Theory}
 use Rattle.smt_meaning.specs.Term.{Tree, tree_at}
 use Rattle.term_store.specs.Terms.{tree_with, AreDifferent}
-use Rattle.closure_log.proofs.Wide.{within, its_head, its_arguments}
+use Rattle.closure_log.proofs.Wide.{its_head, its_arguments}
 use Rattle.closure_log.proofs.clause.wide_arguments.Goals as goal
 use Rattle.closure_log.proofs.clause.wide_arguments.Goals.{else-eq-via-then-eq+else-node-ge-FEWEST, else-eq-via-else-eq}
 

@@ -14,4 +14,4 @@ returns-in-Some c =
     subst (λ (ss : List Step). AreSaid (signature_of c.args.stack.now.frames) c.args.stack.now.trees c.args.atoms.now.atoms (opposite c.args.literal) ss) (sym c.deref.ensures.value)
     (subst (λ (l : Signed). AreSaid (signature_of c.args.stack.now.frames) c.args.stack.now.trees c.args.atoms.now.atoms l c.say.new.steps.items) c.negated-negation.ensures c.in_ok-say.ensures) in
     presses_here c.flat_says_the_same.ensures c.args.stack.now c.args.atoms.now.atoms c.requires.setting c.args.told.now.congruence c.args.told.now.log.items
-    c.args.told.now.starts.items c.args.literal c.deref.result.now c.in-Some.clause c.requires.told c.requires.numbered c.requires.open said presses
+    c.args.told.now.starts.items c.args.literal c.deref.result.now c.in-Some.clause c.requires.told c.requires.numbered c.requires.is_open said presses

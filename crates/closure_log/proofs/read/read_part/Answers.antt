@@ -1,4 +1,4 @@
-use Rattle.std.proofs.Common.{rules, ◌≡◌, ◌<◌, ℕ, ◌∷◌, ◌+◌, [], None, false, List, Contains, take, length, slice_index_or, arith, refl, sym, subst, ap}
+use Rattle.std.proofs.Common.{rules, ◌≡◌, ◌<◌, ℕ, ◌∷◌, [], None, false, List, take, length, slice_index_or, arith, refl, sym, subst}
 use Rattle.std.proofs.lemmas.List.Elements.{Contains-get_or}
 use Rattle.closure_log.specs.Read.{IsRead}
 use Rattle.closure_log.proofs.Reading.{none_read, read_same, one_more, whole_read, later}

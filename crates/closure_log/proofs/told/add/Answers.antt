@@ -8,7 +8,7 @@ use Rattle.closure_log.proofs.told.add.Goals as goal
 pub record-requires-clause-told : goal.record-requires-clause-told
 record-requires-clause-told c =
     let start : c.len-start.result ≡ length c.args.told.now.congruence.reasons.items = search rules in
-    subst (λ (ls : List Signed). IsTold c.args.stack.now c.args.atoms.now.atoms c.args.told.now.congruence ls c.push.new.starts.items) (sym c.in_ok-push.ensures.ok.0)
-    (subst (λ (ns : List ℕ). IsTold c.args.stack.now c.args.atoms.now.atoms c.args.told.now.congruence (c.args.told.now.log.items ++ c.args.literal ∷ []) ns) (sym c.in_ok-push.ensures.ok.1)
+    subst (λ (ls : List Signed). IsTold c.args.stack.now c.args.atoms.now.atoms c.args.told.now.congruence ls c.push_told.new.starts.items) (sym c.in_ok-push_told.ensures.ok.0)
+    (subst (λ (ns : List ℕ). IsTold c.args.stack.now c.args.atoms.now.atoms c.args.told.now.congruence (c.args.told.now.log.items ++ c.args.literal ∷ []) ns) (sym c.in_ok-push_told.ensures.ok.1)
     (told_push c.args.stack.now c.args.atoms.now.atoms c.args.told.now.congruence c.args.told.now.log.items c.args.told.now.starts.items c.args.literal c.len-start.result c.requires.told c.requires.numbered
-    c.requires.open start))
+    c.requires.is_open start))

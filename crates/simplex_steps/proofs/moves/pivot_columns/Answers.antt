@@ -15,12 +15,12 @@ use Rattle.simplex_steps.proofs.SuspectLemmas.{covers_set, covers_landed}
 use Rattle.simplex_steps.proofs.moves.pivot_columns.Goals as goal
 
 pub list_pivot-requires-clause-nonzero : goal.list_pivot-requires-clause-nonzero
-list_pivot-requires-clause-nonzero c = entry_not_zero c.args.entering _ (c.facts.ensures.ascending c.args.place c.requires.place) c.requires.entry
+list_pivot-requires-clause-nonzero c = entry_not_zero c.args.entering _ (c.facts.ensures.ascending c.args.place c.requires.pivot.in_rows) c.requires.pivot.entry
 
 pub suspect-requires-clause-moved : goal.suspect-requires-clause-moved
 suspect-requires-clause-moved c =
     let dist = row_distance c.args.tableau.now.rows c.args.columns.now c.args.place c.args.number c.args.entering in
-    moves_known c.args.tableau.now c.args.columns.now c.args.entering dist c.deref.result.now c.facts.ensures c.requires.count
+    moves_known c.args.tableau.now c.args.columns.now c.args.entering dist c.deref.result.now c.facts.ensures c.requires.pivot.count
     (subst (AreShifts c.args.columns.now c.args.entering dist c.args.tableau.now.rows) (sym c.deref.ensures.value)
     (subst (λ n. AreShifts c.args.columns.now c.args.entering (row_distance c.args.tableau.now.rows c.args.columns.now c.args.place n c.args.entering) c.args.tableau.now.rows c.list_pivot.new.moved.items) (to_z-of_z w128 c.args.number c.ranges.number)
     c.in_ok-value.ensures.moved))
@@ -28,7 +28,7 @@ suspect-requires-clause-moved c =
 pub land-requires-clause-moved : goal.land-requires-clause-moved
 land-requires-clause-moved c =
     let dist = row_distance c.args.tableau.now.rows c.args.columns.now c.args.place c.args.number c.args.entering in
-    moves_known c.args.tableau.now c.args.columns.now c.args.entering dist c.deref-2.result.now c.facts.ensures c.requires.count
+    moves_known c.args.tableau.now c.args.columns.now c.args.entering dist c.deref-2.result.now c.facts.ensures c.requires.pivot.count
     (subst (AreShifts c.args.columns.now c.args.entering dist c.args.tableau.now.rows) (sym c.deref-2.ensures.value)
     (subst (λ n. AreShifts c.args.columns.now c.args.entering (row_distance c.args.tableau.now.rows c.args.columns.now c.args.place n c.args.entering) c.args.tableau.now.rows c.list_pivot.new.moved.items) (to_z-of_z w128 c.args.number c.ranges.number)
     c.in_ok-value.ensures.moved))
@@ -47,7 +47,7 @@ returns-clause-columns c =
     c.in_ok-value.ensures.moved))
     ∙ ap (λ (x : Ratio). landed (shifts cs c.args.entering dist c.args.tableau.now.rows) cs c.args.entering x)
     (subst (λ n. c.in_ok-value.value ≡ sum_of (values cs c.args.entering) (row_distance c.args.tableau.now.rows cs c.args.place n c.args.entering)) (to_z-of_z w128 c.args.number c.ranges.number) c.in_ok-value.ensures.value))
-    c.basic-basic.ensures.value (omega (arith, c.basic-basic.ensures.known, c.requires.count, c.land.auto.columns)) number
+    c.basic-basic.ensures.value (omega (arith, c.basic-basic.ensures.known, c.requires.pivot.count, c.land.auto.columns)) number
 
 pub returns-clause-covers : goal.returns-clause-covers
 returns-clause-covers c =

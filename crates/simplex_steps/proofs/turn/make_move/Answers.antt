@@ -1,5 +1,4 @@
 use Rattle.std.proofs.Common.{◌≡◌, false, sym, subst}
-use Rattle.std.proofs.lemmas.Result.{on_ok_weaker}
 use Rattle.fraction128.specs.Whole.{InRange}
 use Rattle.fraction128.proofs.Integers.{same_bits}
 use Rattle.tableau.proofs.RowLemmas.{if_err_then}
@@ -15,37 +14,12 @@ move_columns-requires-clause-number c =
     let q : InRange c.args.number = missed_ranged (column_in c.args.columns.now c.args.variable) c.args.number r.0 r.1 c.requires.outside in
     subst InRange (sym (same_bits c.args.number q)) q
 
-pub returns-clause-reaches : goal.returns-clause-reaches
-returns-clause-reaches c =
+pub returns-clause-moved : goal.returns-clause-moved
+returns-clause-moved c =
     let r = c.requires.sound.ranged c.args.variable in
     let same = same_bits c.args.number (missed_ranged (column_in c.args.columns.now c.args.variable) c.args.number r.0 r.1 c.requires.outside) in
-    on_ok_weaker c.move_columns.result (λ m. m.reaches)
-    (move_done c.move_columns.result c.args.tableau.now c.args.columns.now c.move_columns.new.columns c.args.variable c.args.number _ c.facts.ensures c.requires.sound c.requires.known c.requires.free c.requires.outside
-    c.requires.settled same c.move_columns.ensures.ok c.move_columns.ensures.fits)
-
-pub returns-clause-sound : goal.returns-clause-sound
-returns-clause-sound c =
-    let r = c.requires.sound.ranged c.args.variable in
-    let same = same_bits c.args.number (missed_ranged (column_in c.args.columns.now c.args.variable) c.args.number r.0 r.1 c.requires.outside) in
-    on_ok_weaker c.move_columns.result (λ m. m.sound)
-    (move_done c.move_columns.result c.args.tableau.now c.args.columns.now c.move_columns.new.columns c.args.variable c.args.number _ c.facts.ensures c.requires.sound c.requires.known c.requires.free c.requires.outside
-    c.requires.settled same c.move_columns.ensures.ok c.move_columns.ensures.fits)
-
-pub returns-clause-settled : goal.returns-clause-settled
-returns-clause-settled c =
-    let r = c.requires.sound.ranged c.args.variable in
-    let same = same_bits c.args.number (missed_ranged (column_in c.args.columns.now c.args.variable) c.args.number r.0 r.1 c.requires.outside) in
-    on_ok_weaker c.move_columns.result (λ m. m.settled)
-    (move_done c.move_columns.result c.args.tableau.now c.args.columns.now c.move_columns.new.columns c.args.variable c.args.number _ c.facts.ensures c.requires.sound c.requires.known c.requires.free c.requires.outside
-    c.requires.settled same c.move_columns.ensures.ok c.move_columns.ensures.fits)
-
-pub returns-clause-bounds : goal.returns-clause-bounds
-returns-clause-bounds c =
-    let r = c.requires.sound.ranged c.args.variable in
-    let same = same_bits c.args.number (missed_ranged (column_in c.args.columns.now c.args.variable) c.args.number r.0 r.1 c.requires.outside) in
-    on_ok_weaker c.move_columns.result (λ m. m.bounds)
-    (move_done c.move_columns.result c.args.tableau.now c.args.columns.now c.move_columns.new.columns c.args.variable c.args.number _ c.facts.ensures c.requires.sound c.requires.known c.requires.free c.requires.outside
-    c.requires.settled same c.move_columns.ensures.ok c.move_columns.ensures.fits)
+    move_done c.move_columns.result c.args.tableau.now c.args.columns.now c.move_columns.new.columns c.args.variable c.args.number _ c.facts.ensures c.requires.sound c.requires.known c.requires.free c.requires.outside
+    c.requires.settled same c.move_columns.ensures.ok c.move_columns.ensures.fits
 
 pub returns-clause-range : goal.returns-clause-range
 returns-clause-range c =

@@ -1,11 +1,16 @@
-use Rattle.std.proofs.Common.{◌≡◌, false, subst, ◌&&◌}
+use Rattle.std.proofs.Common.{◌≡◌, false, sym, subst, ◌&&◌}
 use Rattle.fraction128.proofs.Integers.{same_bits}
 use Rattle.fraction128.specs.Grid.{pivot_fits}
 use Rattle.tableau.specs.Table.{row_at}
 use Rattle.tableau.proofs.RowLemmas.{if_err_then}
-use Rattle.simplex_steps.specs.Moved.{pivoted_fits}
-use Rattle.simplex_steps.proofs.Sound.{pivot_done, pivot_fails}
+use Rattle.simplex_steps.specs.Moved.{CanPivot, pivoted_fits}
+use Rattle.simplex_steps.proofs.Sound.{can_pivot, pivot_done, pivot_fails}
 use Rattle.simplex_steps.proofs.turn.make_turn.Goals as goal
+
+pub pivot_columns-requires-clause-pivot : goal.pivot_columns-requires-clause-pivot
+pivot_columns-requires-clause-pivot c =
+    subst (λ n. CanPivot c.args.tableau.now c.args.columns.now c.args.turn.place n c.args.turn.entering) (sym (same_bits c.args.turn.number c.requires.turn.in_range))
+    (can_pivot c.args.tableau.now c.args.columns.now c.args.turn c.requires.sound.solution c.requires.turn)
 
 pub returns-clause-advanced : goal.returns-clause-advanced
 returns-clause-advanced c =

@@ -1,4 +1,5 @@
-use Rattle.simplex_steps.proofs.Sound.{kept_through}
+use Rattle.std.proofs.Common.{◌+◌, length}
+use Rattle.simplex_steps.proofs.Sound.{kept_through, settles_failed}
 use Rattle.simplex_steps.proofs.turn.settle_all.Goals as goal
 
 pub settle_one-requires-clause-sound : goal.settle_one-requires-clause-sound
@@ -10,13 +11,14 @@ settle_one-requires-clause-settled c = c.loop-variable.invariant.1
 pub settle_one-requires-clause-covers : goal.settle_one-requires-clause-covers
 settle_one-requires-clause-covers c = c.loop-variable.invariant.2
 
-pub returns-in_err-settle_one-clause-reaches : goal.returns-in_err-settle_one-clause-reaches
-returns-in_err-settle_one-clause-reaches c =
-    (kept_through c.args.tableau.now c.args.columns.now c.loop-variable.columns c.settle_one.new.columns c.loop-variable.invariant.0 c.settle_one.ensures.reaches c.settle_one.ensures.sound c.settle_one.ensures.bounds).reaches
+pub returns-in_err-settle_one-clause-settles : goal.returns-in_err-settle_one-clause-settles
+returns-in_err-settle_one-clause-settles c =
+    settles_failed c.args.tableau.now c.args.columns.now c.loop-variable.columns c.settle_one.new.columns (c.loop-variable.variable + 1) (length c.settle_one.new.columns) c.in_err-settle_one.field-0.0 c.settle_one.result c.from_residual.result
+    c.loop-variable.invariant.0 c.in_err-settle_one.was c.settle_one.ensures.settles c.from_residual.ensures.1
 
 pub loop-variable-preserved : goal.loop-variable-preserved
 loop-variable-preserved c = (
-  kept_through c.args.tableau.now c.args.columns.now c.loop-variable.columns c.settle_one.new.columns c.loop-variable.invariant.0 c.settle_one.ensures.reaches c.settle_one.ensures.sound c.settle_one.ensures.bounds,
-  c.in_ok-settle_one.ensures.settled,
+  kept_through c.args.tableau.now c.args.columns.now c.loop-variable.columns c.settle_one.new.columns c.loop-variable.invariant.0 c.settle_one.ensures.settles.kept,
+  c.in_ok-settle_one.ensures.settles.settled,
   c.settle_one.ensures.covers,
 )

@@ -1,7 +1,7 @@
 use Rattle.std.proofs.Common.{◌≤◌, ◌-◌}
 use Rattle.simplex_steps.specs.State.{SettledBelow}
 use Rattle.simplex_steps.specs.Suspects.{Covers}
-use Rattle.simplex_steps.proofs.Sound.{IsKept}
+use Rattle.simplex_steps.specs.Run.{IsKept}
 use Rattle.simplex_steps.proofs.turn.settle_suspects.Given as goal
 
 abbrev pub invariant-loop-variable : goal.invariant-loop-variable

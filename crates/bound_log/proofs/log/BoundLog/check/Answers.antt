@@ -14,7 +14,7 @@ pub returns-clause-judges : goal.returns-clause-judges
 returns-clause-judges c =
     let s = c.self.inside in
     let b = c.check-finding.new.self in
-    let as_many : length s.bounds.columns ≤ length b.columns = omega (arith, c.check-finding.ensures.run.bounds.count) in
+    let as_many : length s.bounds.columns ≤ length b.columns = omega (arith, c.check-finding.ensures.search.run.bounds.count) in
     let core = core_kept s.bounds b s.said.items s.log.items s.starts.items c.self.invariant.0 as_many c.check-finding.ensures.told in
     let new : State = record { bounds = b; said = s.said.items; log = s.log.items } in
     judged c.conflicts_are_valid.ensures new c.check-finding.result.finding c.report_of.result (state_is b s.said.items s.log.items s.starts.items c.facts-2.ensures core)
@@ -25,24 +25,24 @@ invariant_of-self c =
     let s = c.self.inside in
     let b = c.check-finding.new.self in
     let checked = c.check-finding.ensures in
-    let as_many : length s.bounds.columns ≤ length b.columns = omega (arith, checked.run.bounds.count) in
+    let as_many : length s.bounds.columns ≤ length b.columns = omega (arith, checked.search.run.bounds.count) in
     let core = core_kept s.bounds b s.said.items s.log.items s.starts.items c.self.invariant.0 as_many checked.told in
     let new : State = record { bounds = b; said = s.said.items; log = s.log.items } in
-    (core, resting_run s.bounds new (state_is b s.said.items s.log.items s.starts.items c.facts-2.ensures core) c.origins-2.ensures checked.rests checked.run.bounds.count c.self.invariant.1)
+    (core, resting_run s.bounds new (state_is b s.said.items s.log.items s.starts.items c.facts-2.ensures core) c.origins-2.ensures checked.search.rests checked.search.run.bounds.count c.self.invariant.1)
 
 pub returns-clause-columns : goal.returns-clause-columns
 returns-clause-columns c =
     let s = c.self.inside in
     let old : State = record { bounds = s.bounds; said = s.said.items; log = s.log.items } in
     let new : State = record { bounds = c.check-finding.new.self; said = s.said.items; log = s.log.items } in
-    subst (λ (o : State). KeepsColumns o new) c.self.view_is (columns_by_bounds old new c.check-finding.ensures.run.bounds)
+    subst (λ (o : State). KeepsColumns o new) c.self.view_is (columns_by_bounds old new c.check-finding.ensures.search.run.bounds)
 
 pub returns-clause-sums : goal.returns-clause-sums
 returns-clause-sums c =
     let s = c.self.inside in
     let old : State = record { bounds = s.bounds; said = s.said.items; log = s.log.items } in
     let new : State = record { bounds = c.check-finding.new.self; said = s.said.items; log = s.log.items } in
-    subst (λ (o : State). column_sums new ≡ column_sums o) c.self.view_is (sums_by_bounds old new c.check-finding.ensures.run.bounds)
+    subst (λ (o : State). column_sums new ≡ column_sums o) c.self.view_is (sums_by_bounds old new c.check-finding.ensures.search.run.bounds)
 
 pub returns-clause-pivots : goal.returns-clause-pivots
 returns-clause-pivots c =
@@ -53,4 +53,4 @@ returns-clause-pivots c =
     let new : State = record { bounds = checked.new.self; said = s.said.items; log = s.log.items } in
     let state : IsState old = state_is s.bounds s.said.items s.log.items s.starts.items c.facts.ensures c.self.invariant.0 in
     subst (λ (o : State). AddsPivots o new kept.keep checked.result.pivots kept.lines.items checked.new.kept.lines.items) c.self.view_is
-    (adds_pivots old new kept.keep checked.result.pivots kept.lines.items checked.new.kept.lines.items state c.origins.ensures c.self.invariant.1 checked.ensures.lines)
+    (adds_pivots old new kept.keep checked.result.pivots kept.lines.items checked.new.kept.lines.items state c.origins.ensures c.self.invariant.1 checked.ensures.search.lines)

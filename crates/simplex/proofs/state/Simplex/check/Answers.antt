@@ -22,6 +22,6 @@ check-outcome-requires-clause-covers c = subst (Covers c.self.inside.suspects) (
 
 pub invariant_of-self : goal.invariant_of-self
 invariant_of-self c =
-    let run = subst (λ (cs : List Column). IsRun c.self.inside.tableau cs c.check-outcome.new.tableau c.check-outcome.new.columns c.check-outcome.result.pivots) c.deref_mut.ensures.value c.check-outcome.ensures.run in
+    let run = subst (λ (cs : List Column). IsRun c.self.inside.tableau cs c.check-outcome.new.tableau c.check-outcome.new.columns c.check-outcome.result.pivots) c.deref_mut.ensures.value c.check-outcome.ensures.checked.search.run in
     subst (λ (cs : List Column). IsWatched c.check-outcome.new.tableau cs c.self.inside.trail c.check-outcome.new.suspects) (sym (items_back c.self.inside.columns.len c.check-outcome.new.columns c.self.inside.columns.items c.self.inside.columns.ok.0 run.bounds.count))
     (record { core = core_run c.self.inside.tableau c.self.inside.columns.items c.check-outcome.new.tableau c.check-outcome.new.columns c.check-outcome.result.pivots c.self.inside.trail c.self.invariant.core run; covers = c.check-outcome.ensures.covers })

@@ -15,10 +15,10 @@ invariant_of-self c =
     elim c.match-matches.branch [ in-Fits w ↦ w.in-Fits.is | in_default w ↦ absurd (let z : true ≡ false = sym e ∙ w.self-is in cc) ]
     in
     (checked c.self.inside.simplex c.check-answer.new.self c.self.inside.keys c.self.inside.count c.self.inside.is_clean c.match-matches.self c.check-answer.result.verdict c.finding_of-finding.result
-    c.self.invariant c.facts-2.ensures c.check-answer.ensures.run.bounds c.check-answer.ensures.judges c.finding_of-finding.ensures fits).1
+    c.self.invariant c.facts-2.ensures c.check-answer.ensures.search.run.bounds c.check-answer.ensures.judges c.finding_of-finding.ensures fits).1
 
 pub returns-clause-judges : goal.returns-clause-judges
 returns-clause-judges c =
     let fits : false ≡ true → c.finding_of-finding.result ≡ Fits = λ e. absurd (cc) in
     (checked c.self.inside.simplex c.check-answer.new.self c.self.inside.keys c.self.inside.count c.self.inside.is_clean false c.check-answer.result.verdict c.finding_of-finding.result
-    c.self.invariant c.facts-2.ensures c.check-answer.ensures.run.bounds c.check-answer.ensures.judges c.finding_of-finding.ensures fits).0
+    c.self.invariant c.facts-2.ensures c.check-answer.ensures.search.run.bounds c.check-answer.ensures.judges c.finding_of-finding.ensures fits).0
