@@ -16,7 +16,7 @@ use Rattle.smt_meaning.specs.TreeShape.{place_of, is_constant, are_constant, at_
 use Rattle.smt_meaning.specs.Linear.{Form, unless_zero, placed, with_term, sums_added, each_times, sum_times, form_times, form_plus, form_minus, form_product, fold_forms, folded, leaf_form, linear_form, linear_forms}
 use Rattle.smt_meaning.specs.Ranges.{sum_at, form_at}
 use Rattle.fraction128.proofs.Ring.{sum-times, times-sum, times_assoc}
-use Rattle.smt_laws.proofs.Both.{and_left, and_right}
+use Rattle.smt_laws.proofs.SameTree.{and_left, and_right}
 use Rattle.smt_laws.proofs.LinearLaw.{Bare, product_bare, constant_bare}
 use Rattle.model_build.specs.Building.{each}
 use Rattle.exact_model.specs.Exact.{exact, listed, number_at}

@@ -17,7 +17,7 @@ use Rattle.smt_meaning.specs.Linear.{linear_form}
 use Rattle.smt_meaning.specs.Ranges.{form_at}
 use Rattle.smt_meaning.specs.CheckAtoms.{is_leaf, is_leaf_head}
 use Rattle.smt_meaning.specs.Nodes.{pick}
-use Rattle.smt_laws.proofs.Both.{and_left}
+use Rattle.smt_laws.proofs.SameTree.{and_left}
 use Rattle.term_store.specs.Terms.{tree_with, AreDifferent}
 use Rattle.term_store.proofs.PlaceLemmas.{place_of-is}
 use Rattle.model_build.specs.declared.given.Given.{Given}

@@ -9,7 +9,7 @@ use Rattle.smt_meaning.specs.Term.{Tree, Trees, node, none, more, tree_at}
 use Rattle.smt_meaning.specs.TreeCode.{operator_at, operator_back}
 use Rattle.smt_meaning.specs.TreeShape.{operator_number, head_eq, tree_eq, trees_eq, is_among, place_of}
 use Rattle.smt_laws.proofs.SameValue.{int_eq-true, int_eq-self}
-use Rattle.smt_laws.proofs.Both.{and_left, and_right}
+pub use Rattle.smt_laws.proofs.Both.{and_left, and_right}
 use Rattle.smt_laws.specs.TermLaws.{TreeEqualityDecides}
 
 operator-true : (o p : Operator) → nat_eq (operator_number o) (operator_number p) ≡ true → o ≡ p

@@ -22,8 +22,17 @@ use Rattle.smt_meaning.specs.Comparisons.{pair_fits, same_pair_fits, neighbours_
 use Rattle.smt_meaning.specs.Atoms.{pair_atoms, at_most_atom, of_neighbours_from, of_neighbours, of_first_with, of_pairs, of_branches, comparison_atoms, is_wide, early_atoms, truth_atom, atoms_of, atoms_of_all}
 use Rattle.smt_meaning.specs.Kinds.{has_no_int, have_no_int}
 use Rattle.smt_laws.specs.TermLaws.{ValueHasItsSort}
-use Rattle.smt_laws.proofs.Both.{and_both as both_true}
-pub use Rattle.smt_laws.proofs.Both.{and_left as left_true, and_right as right_true}
+
+pub left_true : (a b : Bool) → (a && b) ≡ true → a ≡ true
+left_true true b h = refl
+left_true false b h = h
+
+pub right_true : (a b : Bool) → (a && b) ≡ true → b ≡ true
+right_true true b h = h
+right_true false b h = absurd cc
+
+both_true : (a b : Bool) → a ≡ true → b ≡ true → (a && b) ≡ true
+both_true a b p q = rw (p, q)
 
 is_false : (b : Bool) → not b ≡ true → b ≡ false
 is_false true h = absurd cc
