@@ -39,7 +39,7 @@ pub use room::lacks_room;
 pub use rows::Rows;
 pub use steps::Steps;
 pub use store::{InternError, Node, TermStore};
-pub use term_store_hash::mix;
+pub use term_store_hash::{mix, mix_value};
 
 /// A term has the same sort and tree, or the same refusal, whatever terms were judged before, and what is judged on the way joins them in order.
 pub fn terms_join_alike()
