@@ -14,7 +14,7 @@ use Rattle.bound_clauses.proofs.Whole.{true_le, le_true, false_le}
 use Rattle.bound_clauses.proofs.Pairs.{NotAfter, All-of_chain, All-unmap, Pairwise-unmap, chain_ascending, All-of_append}
 use Rattle.bound_clauses.proofs.Implied.{IsRight, opposite_true, links_right}
 
-abbrev From : List (List Signed) → List Signed → Signed → Type 0
+abbrev pub From : List (List Signed) → List Signed → Signed → Type 0
 From cs given l = Reaches opposite cs given l
 
 -- ---- from link to link
@@ -28,7 +28,7 @@ not_not : (b : Bool) → not (not b) ≡ b
 not_not true = refl
 not_not false = refl
 
-twice_opposite : (l : Signed) → opposite (opposite l) ≡ l
+pub twice_opposite : (l : Signed) → opposite (opposite l) ≡ l
 twice_opposite l = ap (λ b. record { atom = l.atom; positive = b }) (not_not l.positive)
 
 leads_self : (cs : List (List Signed)) (x : Link) → Leads cs x x

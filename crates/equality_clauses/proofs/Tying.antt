@@ -148,11 +148,11 @@ module _ (v : ℕ → Value) where
       ap (λ x. x && pairwise differ (map v is)) (first_every i is) ∙ ap (λ x. every false (map (pair_same v) (of_first i is)) && x) (pairs_every is)
       ∙ sym (every-append false (map (pair_same v) (of_first i is)) (map (pair_same v) (of_pairs is))) ∙ ap (every false) (sym (map-append (pair_same v) (of_first i is) (of_pairs is)))
 
-  equal_every : (is : List ℕ) → operate Equal (map v is) ≡ Truth (every true (map (pair_same v) (compared Equal is)))
+  pub equal_every : (is : List ℕ) → operate Equal (map v is) ≡ Truth (every true (map (pair_same v) (compared Equal is)))
   equal_every [] = refl
   equal_every (i ∷ is) = ap Truth (chain_every i is)
 
-  distinct_every : (is : List ℕ) → operate Distinct (map v is) ≡ Truth (every false (map (pair_same v) (compared Distinct is)))
+  pub distinct_every : (is : List ℕ) → operate Distinct (map v is) ≡ Truth (every false (map (pair_same v) (compared Distinct is)))
   distinct_every is = ap Truth (pairs_every is)
 
   -- with the signs

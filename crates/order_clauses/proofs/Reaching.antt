@@ -10,21 +10,12 @@ use Rattle.std.proofs.lemmas.Int.{ints}
 use Rattle.std.proofs.lemmas.List.Elements.{All-cons, All-nil, All-contains, Contains-append_left, Contains-append_right}
 use Rattle.literals.specs.Signed.{Signed, opposite}
 use Rattle.smt_meaning.specs.Forced.{Reaches, unit}
+use Rattle.bound_clauses.proofs.Reached.{From, twice_opposite}
 use Rattle.order_clauses.specs.declared.links.Link.{Link}
 use Rattle.order_clauses.specs.Links.{literal_of, link_cmp, implication, implied, between, between_neighbours, between_links}
 use Rattle.order_clauses.specs.Reached.{Leads, AxiomsReachAll}
 
 -- ---- from link to link
-
-abbrev From : List (List Signed) → List Signed → Signed → Type 0
-From cs given l = Reaches opposite cs given l
-
-not_not : (b : Bool) → not (not b) ≡ b
-not_not true = refl
-not_not false = refl
-
-twice_opposite : (l : Signed) → opposite (opposite l) ≡ l
-twice_opposite l = ap (λ b. record { atom = l.atom; positive = b }) (not_not l.positive)
 
 leads_self : (cs : List (List Signed)) (x : Link) → Leads cs x x
 leads_self cs x = record { on = λ given h. h; back = λ given h. h }
