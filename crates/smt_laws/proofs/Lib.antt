@@ -1,5 +1,5 @@
 pub mod Both
-mod FrontAndBack
+pub mod FrontAndBack
 mod Constants
 mod NamesRefused
 mod VariableTrees
