@@ -1,5 +1,5 @@
 -- Points as they are kept: one more, and fewer.
-use Rattle.std.proofs.Common.{◌≡◌, ℕ, ◌<◌, ◌≤◌, List, [], ◌∷◌, ◌++◌, length, get_or, take, All, inl, inr, subst, sym, ap, ◌∙◌, arith}
+use Rattle.std.proofs.Common.{◌≡◌, ℕ, ◌<◌, List, [], ◌∷◌, ◌++◌, length, get_or, take, All, inl, inr, subst, sym, ap, ◌∙◌, arith}
 use Rattle.std.proofs.lemmas.List.{map-append, length-map, take-map, take_all}
 use Rattle.std.proofs.lemmas.Bool.{cases_lt}
 use Rattle.term_store.proofs.RowLemmas.{map_at, earlier_push, earlier_take}

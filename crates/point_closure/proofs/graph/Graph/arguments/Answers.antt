@@ -1,4 +1,4 @@
-use Rattle.std.proofs.Common.{◌≡◌, ◌<◌, [], length, All, arith, sym, ap, ◌∙◌, subst}
+use Rattle.std.proofs.Common.{◌<◌, [], length, All, arith, sym, ap, subst}
 use Rattle.point_closure.specs.declared.shape.Shape.TheVariants.{Leaf}
 use Rattle.point_closure.specs.Closure.{Point}
 use Rattle.point_closure.proofs.GraphLemmas.{length-points, arguments_row}
