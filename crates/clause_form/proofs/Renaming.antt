@@ -91,14 +91,14 @@ one_of_two_renamed f n out x y a h k =
 
 -- the first of three tests that holds chooses
 abbrev first_of : Bool → Bool → Bool → List (List Sign) → List (List Sign) → List (List Sign) → List (List Sign) → List (List Sign)
-first_of p q r as bs cs ds = if p then as else if q then bs else if r then cs else ds
+first_of p q r ks ls ms ns = if p then ks else if q then ls else if r then ms else ns
 
-first_renamed : (f : ℕ → ℕ) (p q r : Bool) (as bs cs ds : List (List Sign))
-    → first_of p q r (renamed_all f as) (renamed_all f bs) (renamed_all f cs) (renamed_all f ds) ≡ renamed_all f (first_of p q r as bs cs ds)
-first_renamed f true q r as bs cs ds = refl
-first_renamed f false true r as bs cs ds = refl
-first_renamed f false false true as bs cs ds = refl
-first_renamed f false false false as bs cs ds = refl
+first_renamed : (f : ℕ → ℕ) (p q r : Bool) (ks ls ms ns : List (List Sign))
+    → first_of p q r (renamed_all f ks) (renamed_all f ls) (renamed_all f ms) (renamed_all f ns) ≡ renamed_all f (first_of p q r ks ls ms ns)
+first_renamed f true q r ks ls ms ns = refl
+first_renamed f false true r ks ls ms ns = refl
+first_renamed f false false true ks ls ms ns = refl
+first_renamed f false false false ks ls ms ns = refl
 
 chosen_renamed : (f : ℕ → ℕ) (n t c x y : ℕ) → Apart f n → c < n → x < n → y < n → chosen (f t) (f c) (f x) (f y) ≡ renamed_all f (chosen t c x y)
 chosen_renamed f n t c x y a hc hx hy =

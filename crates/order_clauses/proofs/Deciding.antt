@@ -1,17 +1,16 @@
 -- What a consistent log that makes the clauses true gives.
-use Rattle.std.proofs.Common.{◌≡◌, ℕ, zero, ◌&&◌, Bool, true, false, not, List, [], ◌∷◌, ◌++◌, map, All, Contains, refl, sym, ap, ◌∙◌, arith}
+use Rattle.std.proofs.Common.{◌≡◌, ℕ, zero, Bool, true, false, not, List, [], ◌∷◌, map, All, Contains, refl, sym, ap, ◌∙◌, arith}
 use Rattle.std.specs.Prelude.{flat_map, IsTrue, pos, negsuc, if◌then◌else◌}
 use Rattle.std.specs.List.{AllZip}
 use Rattle.std.proofs.lemmas.Bool.{eqb-true}
-use Rattle.std.proofs.lemmas.List.{map-append}
 use Rattle.std.proofs.lemmas.List.Elements.{All-cons, All-nil, All-head, All-tail, All-contains, Contains-append_right}
-use Rattle.literals.specs.Signed.{Signed, sign}
+use Rattle.literals.specs.Signed.{Signed}
 use Rattle.smt_meaning.specs.declared.values.Value.{Value}
 use Rattle.smt_meaning.specs.declared.values.Value.TheVariants.{Truth, Whole, Element}
 use Rattle.smt_meaning.specs.declared.terms.Operator.{Operator}
 use Rattle.smt_meaning.specs.declared.terms.Operator.TheVariants.{Equal, Distinct}
 use Rattle.smt_meaning.specs.declared.clauses.Atom.{Atom}
-use Rattle.smt_meaning.specs.Term.{Tree, operate, truth_of, same_value, chain_from, with_each as with_each_value, pairwise, differ}
+use Rattle.smt_meaning.specs.Term.{Tree, operate, truth_of, same_value}
 use Rattle.search_port.specs.State.{IsConsistent, IsMadeTrue}
 use Rattle.equality_clauses.specs.Once.{once}
 use Rattle.equality_clauses.specs.Ties.{literal, yes, no, joined, comparison_clauses, choice_clauses}
@@ -38,7 +37,7 @@ same_pairs v [] = refl
 same_pairs v (q ∷ qs) = ap (λ bs. same_in v q ∷ bs) (same_pairs v qs)
 
 by_pairs : (v : ℕ → Value) (s : Bool) (o : Operator) (is : List ℕ) → every s (map (pair_same v) (compared o is)) ≡ every s (map (same_in v) (pairs_of o is))
-by_pairs v s o is = ap (λ as. every s (map (pair_same v) as)) (sym (pairs_atoms o is)) ∙ ap (every s) (same_pairs v (pairs_of o is))
+by_pairs v s o is = ap (λ (cs : List Atom). every s (map (pair_same v) cs)) (sym (pairs_atoms o is)) ∙ ap (every s) (same_pairs v (pairs_of o is))
 
 equal_pairs : (v : ℕ → Value) (is : List ℕ) → truth_of (operate Equal (map v is)) ≡ every true (map (same_in v) (pairs_of Equal is))
 equal_pairs v is = ap truth_of (equal_every v is) ∙ by_pairs v true Equal is

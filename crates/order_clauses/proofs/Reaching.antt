@@ -1,15 +1,14 @@
 -- What propagation over the axioms reaches.
 use Rattle.std.proofs.Common.{◌≡◌, ℕ, zero, suc, ◌+◌, ◌<◌, ◌≤◌, ◌&&◌, Bool, true, false, nat_eq, List, [], ◌∷◌, length, get_or, Contains, refl, sym, ap, subst, ◌∙◌, arith, eq-eqb}
-use Rattle.std.specs.Prelude.{not, nat_lt, cond, if◌then◌else◌, ℤ, int_le, ◌≤ℤ◌}
+use Rattle.std.specs.Prelude.{nat_lt, cond, if◌then◌else◌, ℤ, int_le, ◌≤ℤ◌}
 use Rattle.std.specs.List.Sorted.{IsSorted}
 use Rattle.std.specs.declared.cmp.Ordering.{Ordering}
 use Rattle.std.specs.declared.cmp.Ordering.TheVariants.{Less}
 use Rattle.std.specs.Ordering.{is_lt, ordering_then, nat_cmp, int_cmp}
 use Rattle.std.proofs.lemmas.Bool.Decides.{nat_tests}
 use Rattle.std.proofs.lemmas.Int.{ints}
-use Rattle.std.proofs.lemmas.List.Elements.{All-cons, All-nil, All-contains, Contains-append_left, Contains-append_right}
-use Rattle.literals.specs.Signed.{Signed, opposite}
-use Rattle.smt_meaning.specs.Forced.{Reaches, unit}
+use Rattle.std.proofs.lemmas.List.Elements.{Contains-append_left, Contains-append_right}
+use Rattle.literals.specs.Signed.{Signed}
 use Rattle.bound_clauses.proofs.Reached.{reached_on, refuted_back}
 use Rattle.order_clauses.specs.declared.links.Link.{Link}
 use Rattle.order_clauses.specs.Links.{literal_of, link_cmp, implication, implied, between, between_neighbours, between_links}

@@ -1,5 +1,5 @@
 -- The clauses are sound.
-use Rattle.std.proofs.Common.{◌≡◌, ◌≢◌, ℕ, zero, suc, ◌<◌, Bool, true, false, not, List, [], ◌∷◌, ◌++◌, map, length, All, Contains, refl, sym, ap, ◌∙◌, arith}
+use Rattle.std.proofs.Common.{◌≡◌, ◌≢◌, ℕ, zero, suc, ◌<◌, Bool, true, false, not, List, [], ◌∷◌, map, length, All, Contains, refl, sym, ap, ◌∙◌, arith}
 use Rattle.std.specs.Prelude.{flat_map, slice_index_or, IsTrue, ℤ, pos, int_le, Some}
 use Rattle.std.proofs.lemmas.List.Elements.{All-cons, All-nil, All-head, All-tail, All-append, All-map, All-weaker, All-contains}
 use Rattle.literals.specs.Signed.{Signed, opposite}
