@@ -60,6 +60,14 @@ by_first ds u us ss (Some s) (Some rest) e f p = record { first = s; rest = rest
 first_of : (ds : List Declaration) (u : Tree) (us : Trees) (ss : List Sort) → term_sorts ds (more u us) ≡ Some ss → HasFirst ds u us ss
 first_of ds u us ss e = by_first ds u us ss (term_sort ds u) (term_sorts ds us) refl refl e
 
+pub and_left : (a b : Bool) → (a && b) ≡ true → a ≡ true
+and_left true b h = refl
+and_left false b h = h
+
+pub and_right : (a b : Bool) → (a && b) ≡ true → b ≡ true
+and_right true b h = h
+and_right false b h = absurd cc
+
 pub sort_is : (a b : Sort) → sort_eq a b ≡ true → a ≡ b
 sort_is Truths Truths h = refl
 sort_is Truths Ints h = absurd cc
