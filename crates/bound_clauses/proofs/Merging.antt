@@ -2,9 +2,10 @@
 use Rattle.std.proofs.Common.{◌≡◌, ℕ, ◌+◌, ◌-◌, ◌<◌, ◌≤◌, ◌⊎◌, inl, inr, Bool, true, false, List, [], ◌∷◌, ◌++◌, take, drop, length, get_or, refl, sym, ap, ◌∙◌, arith, drop-cons, add-one, append_assoc, append-nil, ℤ, SFits, to_z, of_z}
 use Rattle.std.specs.Int.{w128}
 use Rattle.std.proofs.lemmas.Int.{to_z-of_z}
-use Rattle.std.specs.Prelude.{int_lt, if◌then◌else◌}
+use Rattle.std.specs.Prelude.{int_lt}
 use Rattle.std.proofs.lemmas.Bool.{cases_lt}
 use Rattle.std.proofs.lemmas.List.{take_more, drop_all}
+use Rattle.equality_clauses.proofs.OnceLemmas.{chosen, passed}
 use Rattle.bound_clauses.specs.declared.axioms.Bound.{Bound}
 use Rattle.bound_clauses.specs.declared.axioms.Link.{Link}
 use Rattle.bound_clauses.specs.Chain.{of_sum, of_sums, of_negation, of_negations, merged}
@@ -22,14 +23,6 @@ of_sums-drop bs i d h = rw (add-one, drop-cons bs i d h) refl
 pub merged-nil : (xs : List Link) → merged xs [] ≡ xs
 merged-nil [] = refl
 merged-nil (x ∷ xs) = ap (λ ls. x ∷ ls) (merged-nil xs)
-
-chosen : {A : Type 0} (b : Bool) (x y : A) → b ≡ true → (if b then x else y) ≡ x
-chosen true x y h = refl
-chosen false x y h = cc
-
-passed : {A : Type 0} (b : Bool) (x y : A) → b ≡ false → (if b then x else y) ≡ y
-passed true x y h = cc
-passed false x y h = refl
 
 pub merged-second : (x y : Link) (xs ys : List Link) → int_lt y.threshold x.threshold ≡ true → merged (x ∷ xs) (y ∷ ys) ≡ y ∷ merged (x ∷ xs) ys
 merged-second x y xs ys h = chosen (int_lt y.threshold x.threshold) (y ∷ merged (x ∷ xs) ys) (x ∷ merged xs (y ∷ ys)) h

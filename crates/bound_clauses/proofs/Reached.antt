@@ -14,7 +14,7 @@ use Rattle.bound_clauses.proofs.Whole.{true_le, le_true, false_le}
 use Rattle.bound_clauses.proofs.Pairs.{NotAfter, All-of_chain, All-unmap, Pairwise-unmap, chain_ascending, All-of_append}
 use Rattle.bound_clauses.proofs.Implied.{IsRight, opposite_true, links_right}
 
-abbrev From : List (List Signed) → List Signed → Signed → Type 0
+abbrev pub From : List (List Signed) → List Signed → Signed → Type 0
 From cs given l = Reaches opposite cs given l
 
 -- ---- from link to link
@@ -31,6 +31,19 @@ not_not false = refl
 twice_opposite : (l : Signed) → opposite (opposite l) ≡ l
 twice_opposite l = ap (λ b. record { atom = l.atom; positive = b }) (not_not l.positive)
 
+-- by a clause of two literals the second is reached from the first, and the first refuted from the second
+pub reached_on : (cs : List (List Signed)) (l m : Signed) → Contains cs (opposite l ∷ m ∷ []) → (given : List Signed) → From cs given l → From cs given m
+reached_on cs l m c given r =
+    unit (opposite l ∷ []) [] c
+    (λ k. All-contains (λ k. From cs given (opposite k)) (opposite l ∷ []) k
+    (All-cons (λ k. From cs given (opposite k)) (opposite l) [] (subst (From cs given) (sym (twice_opposite l)) r) (All-nil (λ k. From cs given (opposite k)))))
+
+pub refuted_back : (cs : List (List Signed)) (l m : Signed) → Contains cs (opposite l ∷ m ∷ []) → (given : List Signed) → From cs given (opposite m) → From cs given (opposite l)
+refuted_back cs l m c given r =
+    unit [] (m ∷ []) c
+    (λ k. All-contains (λ k. From cs given (opposite k)) (m ∷ []) k
+    (All-cons (λ k. From cs given (opposite k)) m [] r (All-nil (λ k. From cs given (opposite k)))))
+
 leads_self : (cs : List (List Signed)) (x : Link) → Leads cs x x
 leads_self cs x = record { on = λ given h. h; back = λ given h. h }
 
@@ -38,16 +51,7 @@ leads_on : (cs : List (List Signed)) (x y z : Link) → Leads cs x y → Leads c
 leads_on cs x y z h k = record { on = λ given r. k.on given (h.on given r); back = λ given r. h.back given (k.back given r) }
 
 leads_by : (cs : List (List Signed)) (x y : Link) → Contains cs (implication x y) → Leads cs x y
-leads_by cs x y c = record {
-  on = λ given r.
-      unit (opposite x.literal ∷ []) [] c
-      (λ m. All-contains (λ m. From cs given (opposite m)) (opposite x.literal ∷ []) m
-      (All-cons (λ m. From cs given (opposite m)) (opposite x.literal) [] (subst (From cs given) (sym (twice_opposite x.literal)) r) (All-nil (λ m. From cs given (opposite m)))));
-  back = λ given r.
-      unit [] (y.literal ∷ []) c
-      (λ m. All-contains (λ m. From cs given (opposite m)) (y.literal ∷ []) m
-      (All-cons (λ m. From cs given (opposite m)) y.literal [] r (All-nil (λ m. From cs given (opposite m)))));
-}
+leads_by cs x y c = record { on = reached_on cs x.literal y.literal c; back = refuted_back cs x.literal y.literal c }
 
 -- ---- along a chain
 

@@ -89,47 +89,26 @@ one_of_two_renamed f n out x y a h k =
     at true = refl
     at false = refl
 
-abbrev chosen_by : (ℕ → ℕ) → ℕ → ℕ → ℕ → ℕ → Bool → Bool → Bool → List (List Sign)
-chosen_by f t c x y p q r =
-    if p then conjunction (yes (f t)) (yes (f x) ∷ [])
-    else if q then conjunction (no (f t)) (no (f c) ∷ no (f y) ∷ [])
-    else if r then conjunction (yes (f t)) (yes (f c) ∷ yes (f x) ∷ [])
-    else choices (f t) (f c) (f x) (f y)
+-- the first of three tests that holds chooses
+abbrev first_of : Bool → Bool → Bool → List (List Sign) → List (List Sign) → List (List Sign) → List (List Sign) → List (List Sign)
+first_of p q r ks ls ms ns = if p then ks else if q then ls else if r then ms else ns
+
+first_renamed : (f : ℕ → ℕ) (p q r : Bool) (ks ls ms ns : List (List Sign))
+    → first_of p q r (renamed_all f ks) (renamed_all f ls) (renamed_all f ms) (renamed_all f ns) ≡ renamed_all f (first_of p q r ks ls ms ns)
+first_renamed f true q r ks ls ms ns = refl
+first_renamed f false true r ks ls ms ns = refl
+first_renamed f false false true ks ls ms ns = refl
+first_renamed f false false false ks ls ms ns = refl
 
 chosen_renamed : (f : ℕ → ℕ) (n t c x y : ℕ) → Apart f n → c < n → x < n → y < n → chosen (f t) (f c) (f x) (f y) ≡ renamed_all f (chosen t c x y)
 chosen_renamed f n t c x y a hc hx hy =
-    ap (λ b. chosen_by f t c x y b (nat_eq (f c) (f x)) (nat_eq (f c) (f y))) (same_name f n x y a hx hy)
-    ∙ ap (λ b. chosen_by f t c x y (nat_eq x y) b (nat_eq (f c) (f y))) (same_name f n c x a hc hx)
-    ∙ ap (chosen_by f t c x y (nat_eq x y) (nat_eq c x)) (same_name f n c y a hc hy)
-    ∙ at (nat_eq x y) (nat_eq c x) (nat_eq c y)
-  where
-    at : (p q r : Bool) → chosen_by f t c x y p q r ≡ renamed_all f
-        (if p then conjunction (yes t) (yes x ∷ []) else (if q then conjunction (no t) (no c ∷ no y ∷ []) else (if r then conjunction (yes t) (yes c ∷ yes x ∷ []) else choices t c x y)))
-    at true q r = refl
-    at false true r = refl
-    at false false true = refl
-    at false false false = refl
-
-abbrev odd_by : (ℕ → ℕ) → ℕ → ℕ → ℕ → ℕ → Bool → Bool → Bool → List (List Sign)
-odd_by f t x y z p q r =
-    if p then conjunction (yes (f t)) (yes (f z) ∷ [])
-    else if q then conjunction (yes (f t)) (yes (f y) ∷ [])
-    else if r then conjunction (yes (f t)) (yes (f x) ∷ [])
-    else parity_of_three (f t) (f x) (f y) (f z)
+    rw (same_name f n x y a hx hy, same_name f n c x a hc hx, same_name f n c y a hc hy)
+    (first_renamed f (nat_eq x y) (nat_eq c x) (nat_eq c y) (conjunction (yes t) (yes x ∷ [])) (conjunction (no t) (no c ∷ no y ∷ [])) (conjunction (yes t) (yes c ∷ yes x ∷ [])) (choices t c x y))
 
 odd_renamed : (f : ℕ → ℕ) (n t x y z : ℕ) → Apart f n → x < n → y < n → z < n → odd_of_three (f t) (f x) (f y) (f z) ≡ renamed_all f (odd_of_three t x y z)
 odd_renamed f n t x y z a hx hy hz =
-    ap (λ b. odd_by f t x y z b (nat_eq (f x) (f z)) (nat_eq (f y) (f z))) (same_name f n x y a hx hy)
-    ∙ ap (λ b. odd_by f t x y z (nat_eq x y) b (nat_eq (f y) (f z))) (same_name f n x z a hx hz)
-    ∙ ap (odd_by f t x y z (nat_eq x y) (nat_eq x z)) (same_name f n y z a hy hz)
-    ∙ at (nat_eq x y) (nat_eq x z) (nat_eq y z)
-  where
-    at : (p q r : Bool) → odd_by f t x y z p q r ≡ renamed_all f
-        (if p then conjunction (yes t) (yes z ∷ []) else (if q then conjunction (yes t) (yes y ∷ []) else (if r then conjunction (yes t) (yes x ∷ []) else parity_of_three t x y z)))
-    at true q r = refl
-    at false true r = refl
-    at false false true = refl
-    at false false false = refl
+    rw (same_name f n x y a hx hy, same_name f n x z a hx hz, same_name f n y z a hy hz)
+    (first_renamed f (nat_eq x y) (nat_eq x z) (nat_eq y z) (conjunction (yes t) (yes z ∷ [])) (conjunction (yes t) (yes y ∷ [])) (conjunction (yes t) (yes x ∷ [])) (parity_of_three t x y z))
 
 round_renamed : (f : ℕ → ℕ) (out first s : Sign) (us : List Sign) → round (renamed f out) (renamed f first) (renamed f s) (map (renamed f) us) ≡ renamed_all f (round out first s us)
 round_renamed f out first s [] = refl

@@ -107,41 +107,33 @@ parity_complete out x y ss nc xy xo yo holds =
     xor_back' false true = refl
     xor_back' false false = refl
 
+    agrees : (d : ℕ → Bool) (b c : Bool) → assigned ss d x ≡ b → assigned ss d y ≡ c → sign_true (assigned ss d) out ≡ xor b c → Hits (parity out x y) ss
+    agrees d b c p q r = counter ss d nc (holds (assigned ss d) (r ∙ ap (λ e. xor e c) (sym p) ∙ ap (xor (assigned ss d x)) (sym q)))
+
     -- the value that the clause's other places give x, or y
     x_open : is_sign_in (yes x) ss ≡ false → is_sign_in (no x) ss ≡ false → (is_sign_in out ss ≡ true) ⊎ (is_sign_in (negated out) ss ≡ true) → Hits (parity out x y) ss
     x_open h k o =
         let value = out_value blank o in
         let w : Bool = xor value.0 (assigned ss blank y) in
         let d : ℕ → Bool = set_at x w in
-        counter ss d nc
-        (holds (assigned ss d)
-        (value.1 d ∙ xor_back value.0 (assigned ss blank y)
-        ∙ ap (λ b. xor b (assigned ss blank y)) (sym (value_free ss d x h k ∙ set_here x w))
-        ∙ ap (xor (assigned ss d x)) (sym (same_given ss d blank y (set_other x y w (flipped x y xy))))))
+        agrees d w (assigned ss blank y) (value_free ss d x h k ∙ set_here x w) (same_given ss d blank y (set_other x y w (flipped x y xy))) (value.1 d ∙ xor_back value.0 (assigned ss blank y))
 
     y_open : is_sign_in (yes y) ss ≡ false → is_sign_in (no y) ss ≡ false → (is_sign_in out ss ≡ true) ⊎ (is_sign_in (negated out) ss ≡ true) → Hits (parity out x y) ss
     y_open h k o =
         let value = out_value blank o in
         let w : Bool = xor value.0 (assigned ss blank x) in
         let d : ℕ → Bool = set_at y w in
-        counter ss d nc
-        (holds (assigned ss d)
-        (value.1 d ∙ xor_back' value.0 (assigned ss blank x)
-        ∙ ap (λ b. xor b (xor value.0 (assigned ss blank x))) (sym (same_given ss d blank x (set_other y x w xy)))
-        ∙ ap (xor (assigned ss d x)) (sym (value_free ss d y h k ∙ set_here y w))))
-
-    agrees : (b c : Bool) → assigned ss blank x ≡ b → assigned ss blank y ≡ c → sign_true (assigned ss blank) out ≡ xor b c → Hits (parity out x y) ss
-    agrees b c p q r = counter ss blank nc (holds (assigned ss blank) (r ∙ ap (λ e. xor e c) (sym p) ∙ ap (xor (assigned ss blank x)) (sym q)))
+        agrees d (assigned ss blank x) w (same_given ss d blank x (set_other y x w xy)) (value_free ss d y h k ∙ set_here y w) (value.1 d ∙ xor_back' value.0 (assigned ss blank x))
 
     on_y : (b : Bool) → Stands ss y → (is_sign_in (yes x) ss ≡ true) ⊎ (is_sign_in (no x) ss ≡ true) → (is_sign_in out ss ≡ true) ⊎ (is_sign_in (negated out) ss ≡ true) → Hits (parity out x y) ss
     on_y b (open' h k) f o = y_open h k o
-    on_y b (as_yes h) (inl f) (inl o) = agrees false false (value_yes ss blank x nc f) (value_yes ss blank y nc h) (inside_false ss blank out nc o)
+    on_y b (as_yes h) (inl f) (inl o) = agrees blank false false (value_yes ss blank x nc f) (value_yes ss blank y nc h) (inside_false ss blank out nc o)
     on_y b (as_yes h) (inl f) (inr o) = three_hit (parity out x y) ss (negated out) (yes x) (yes y) (0, omega arith, refl) o f h apart_x apart_y xy
     on_y b (as_yes h) (inr f) (inl o) = three_hit (parity out x y) ss out (no x) (yes y) (2, omega arith, refl) o f h apart_x apart_y xy
-    on_y b (as_yes h) (inr f) (inr o) = agrees true false (value_no ss blank x f) (value_yes ss blank y nc h) (opposite_true ss blank out nc o)
+    on_y b (as_yes h) (inr f) (inr o) = agrees blank true false (value_no ss blank x f) (value_yes ss blank y nc h) (opposite_true ss blank out nc o)
     on_y b (as_no h) (inl f) (inl o) = three_hit (parity out x y) ss out (yes x) (no y) (3, omega arith, refl) o f h apart_x apart_y xy
-    on_y b (as_no h) (inl f) (inr o) = agrees false true (value_yes ss blank x nc f) (value_no ss blank y h) (opposite_true ss blank out nc o)
-    on_y b (as_no h) (inr f) (inl o) = agrees true true (value_no ss blank x f) (value_no ss blank y h) (inside_false ss blank out nc o)
+    on_y b (as_no h) (inl f) (inr o) = agrees blank false true (value_yes ss blank x nc f) (value_no ss blank y h) (opposite_true ss blank out nc o)
+    on_y b (as_no h) (inr f) (inl o) = agrees blank true true (value_no ss blank x f) (value_no ss blank y h) (inside_false ss blank out nc o)
     on_y b (as_no h) (inr f) (inr o) = three_hit (parity out x y) ss (negated out) (no x) (no y) (1, omega arith, refl) o f h apart_x apart_y xy
 
     on_x : (b : Bool) → Stands ss x → (is_sign_in out ss ≡ true) ⊎ (is_sign_in (negated out) ss ≡ true) → Hits (parity out x y) ss

@@ -11,6 +11,7 @@ use Rattle.smt_meaning.specs.declared.terms.Operator.{Operator}
 use Rattle.smt_meaning.specs.declared.terms.Operator.TheVariants.{True, False, Not, And, Or, Xor, Implies, Equal, Distinct, Ite, Add, Subtract, Multiply, AtMost, Less, AtLeast, Greater, Divide, Modulo, Absolute, Divisible}
 use Rattle.smt_meaning.specs.Term.{Tree, Interpretation, operate, truth_of, same_value, bool_eq, chain_from, with_each, pairwise, differ}
 use Rattle.smt_meaning.specs.Clause.{value_at, atom_true}
+use Rattle.smt_laws.proofs.Both.{and_left, and_right, and_both}
 use Rattle.smt_laws.proofs.SameValue.{same_value-true, same_value-self}
 use Rattle.equality_clauses.specs.Once.{is_in, taken, taken_all, once}
 use Rattle.equality_clauses.specs.Ties.{literal, yes, no, joined, parity, choice_clauses}
@@ -26,18 +27,6 @@ and_assoc false b c = refl
 and_true : (a : Bool) → (a && true) ≡ a
 and_true true = refl
 and_true false = refl
-
-both : (a b : Bool) → a ≡ true → b ≡ true → (a && b) ≡ true
-both true b h k = k
-both false b h k = cc
-
-left : (a b : Bool) → (a && b) ≡ true → a ≡ true
-left true b h = refl
-left false b h = cc
-
-right : (a b : Bool) → (a && b) ≡ true → b ≡ true
-right true b h = h
-right false b h = cc
 
 absorbed : (a b : Bool) → (a ≡ true → b ≡ true) → a ≡ (a && b)
 absorbed true b h = sym (h refl)
@@ -63,10 +52,10 @@ module _ (a : ℕ → Bool) (s : Bool) where
 
   signed_in : (ns : List ℕ) (n : ℕ) → is_in n ns ≡ true → every s (map a ns) ≡ true → sign s (a n) ≡ true
   signed_in [] n h all = cc
-  signed_in (m ∷ ms) n h all = by (nat_eq n m) refl h (λ k. signed_in ms n k (right (sign s (a m)) (every s (map a ms)) all))
+  signed_in (m ∷ ms) n h all = by (nat_eq n m) refl h (λ k. signed_in ms n k (and_right (sign s (a m)) (every s (map a ms)) all))
     where
       by : (b : Bool) → nat_eq n m ≡ b → (b || is_in n ms) ≡ true → (is_in n ms ≡ true → sign s (a n) ≡ true) → sign s (a n) ≡ true
-      by true e h next = ap (λ k. sign s (a k)) (eqb-true n m e) ∙ left (sign s (a m)) (every s (map a ms)) all
+      by true e h next = ap (λ k. sign s (a k)) (eqb-true n m e) ∙ and_left (sign s (a m)) (every s (map a ms)) all
       by false e h next = next h
 
   every-taken : (kept : List ℕ) (n : ℕ) → every s (map a (taken kept n)) ≡ (every s (map a kept) && sign s (a n))
@@ -105,8 +94,8 @@ module _ (a : ℕ → Bool) (s : Bool) where
   each_true : (t : ℕ) (ns : List ℕ) → (a t ≡ true → every s (map a ns) ≡ true) → AllTrue a (map (λ n. no t ∷ literal s n ∷ []) ns)
   each_true t [] h = All-nil (λ ls. some_true a ls ≡ true)
   each_true t (n ∷ ns) h =
-      All-cons (λ ls. some_true a ls ≡ true) (no t ∷ literal s n ∷ []) (map (λ m. no t ∷ literal s m ∷ []) ns) (one (a t) (λ e. left (sign s (a n)) (every s (map a ns)) (h e)))
-      (each_true t ns (λ e. right (sign s (a n)) (every s (map a ns)) (h e)))
+      All-cons (λ ls. some_true a ls ≡ true) (no t ∷ literal s n ∷ []) (map (λ m. no t ∷ literal s m ∷ []) ns) (one (a t) (λ e. and_left (sign s (a n)) (every s (map a ns)) (h e)))
+      (each_true t ns (λ e. and_right (sign s (a n)) (every s (map a ns)) (h e)))
     where
       one : (b : Bool) → (b ≡ true → sign s (a n) ≡ true) → (not b || (sign s (a n) || false)) ≡ true
       one true h = or_false (sign s (a n)) ∙ h refl
@@ -124,7 +113,7 @@ module _ (a : ℕ → Bool) (s : Bool) where
   each_signed : (t : ℕ) (ns : List ℕ) → a t ≡ true → AllTrue a (map (λ n. no t ∷ literal s n ∷ []) ns) → every s (map a ns) ≡ true
   each_signed t [] e all = refl
   each_signed t (n ∷ ns) e all =
-      both (sign s (a n)) (every s (map a ns))
+      and_both (sign s (a n)) (every s (map a ns))
       (sym (or_false (sign s (a n))) ∙ ap (λ b. not b || (sign s (a n) || false)) (sym e)
       ∙ All-head (λ ls. some_true a ls ≡ true) (no t ∷ literal s n ∷ []) (map (λ m. no t ∷ literal s m ∷ []) ns) all)
       (each_signed t ns e (All-tail (λ ls. some_true a ls ≡ true) (no t ∷ literal s n ∷ []) (map (λ m. no t ∷ literal s m ∷ []) ns) all))
@@ -159,11 +148,11 @@ module _ (v : ℕ → Value) where
       ap (λ x. x && pairwise differ (map v is)) (first_every i is) ∙ ap (λ x. every false (map (pair_same v) (of_first i is)) && x) (pairs_every is)
       ∙ sym (every-append false (map (pair_same v) (of_first i is)) (map (pair_same v) (of_pairs is))) ∙ ap (every false) (sym (map-append (pair_same v) (of_first i is) (of_pairs is)))
 
-  equal_every : (is : List ℕ) → operate Equal (map v is) ≡ Truth (every true (map (pair_same v) (compared Equal is)))
+  pub equal_every : (is : List ℕ) → operate Equal (map v is) ≡ Truth (every true (map (pair_same v) (compared Equal is)))
   equal_every [] = refl
   equal_every (i ∷ is) = ap Truth (chain_every i is)
 
-  distinct_every : (is : List ℕ) → operate Distinct (map v is) ≡ Truth (every false (map (pair_same v) (compared Distinct is)))
+  pub distinct_every : (is : List ℕ) → operate Distinct (map v is) ≡ Truth (every false (map (pair_same v) (compared Distinct is)))
   distinct_every is = ap Truth (pairs_every is)
 
   -- with the signs

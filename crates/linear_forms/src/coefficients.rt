@@ -56,7 +56,8 @@ fn plus(a: i128, b: i128) -> Option<i128>
     }
 }
 
-fn minus(a: i128, b: i128) -> Option<i128>
+/// The difference of two numbers, where it is in the range.
+pub fn minus(a: i128, b: i128) -> Option<i128>
     ensures some { IfSome result (λ n. (n ≡ a -ℤ b) × InRange n) }
     ensures none { IfNone result (InRange (a -ℤ b) → ⊥) }
 {

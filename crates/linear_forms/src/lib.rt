@@ -13,6 +13,7 @@
 //! `LinearForms::difference`: the form of the difference of two terms, exactly the definition's
 //! where no number of the folding leaves the range; else the part at which one of the two leaves
 //! it, or that the pair does. `LinearForms::combine`: the same of a sum of multiples of terms.
+//! `minus`: the difference of two numbers, where it is in the range.
 #![tactic(auto)]
 
 mod coefficients;
@@ -24,6 +25,7 @@ mod products;
 mod sums;
 mod table;
 
+pub use coefficients::minus;
 pub use differences::DifferenceError;
 pub use entries::LinearForm;
 pub use multiples::Multiple;

@@ -1,5 +1,5 @@
 -- Values that are kept: those of a node's arguments, one more, and the first that isn't in the range.
-use Rattle.std.proofs.Common.{◌≡◌, ℕ, zero, suc, ◌<◌, ◌≤◌, List, [], ◌∷◌, ◌++◌, length, map, get_or, All, Bool, true, false, ◌&&◌, Some, None, inl, inr, subst, sym, ap, ◌∙◌, arith, refl}
+use Rattle.std.proofs.Common.{◌≡◌, ℕ, zero, suc, ◌<◌, ◌≤◌, List, [], ◌∷◌, ◌++◌, length, map, get_or, All, Bool, true, false, Some, None, inl, inr, subst, sym, ap, ◌∙◌, arith, refl}
 use Rattle.std.proofs.lemmas.Bool.{cases_lt}
 use Rattle.std.proofs.lemmas.List.{length-append, length_push, get_or_append_left, get_or_push}
 use Rattle.std.proofs.lemmas.List.Elements.{All-head, All-tail}
@@ -8,6 +8,7 @@ use Rattle.smt_meaning.specs.declared.values.Value.TheVariants.{Truth}
 use Rattle.smt_meaning.specs.declared.terms.Head.{Head}
 use Rattle.smt_meaning.specs.Term.{Tree, Trees, node, none, more, tree_at, Interpretation, value, values, fits, all_fit, in_range, all_in_range, head_fits, apply}
 use Rattle.smt_meaning.specs.Nodes.{pick}
+use Rattle.smt_laws.proofs.Both.{and_left, and_right, and_both}
 use Rattle.term_store.specs.Terms.{tree_with, AreDifferent}
 use Rattle.model_eval.specs.Fitted.{some_if, fitted_head}
 use Rattle.model_eval.specs.Unfit.{IsPart, IsPartOfOne, fits_alone, IsFirstUnfitOfAny, IsCause, IsCauseOfAny}
@@ -15,18 +16,6 @@ use Rattle.model_eval.specs.Walk.{is_marked, HasMarkedArguments, AreMarked, valu
 use Rattle.model_eval.specs.declared.EvalError.{EvalError}
 use Rattle.model_eval.specs.declared.EvalError.TheVariants.{Range, Memory}
 use Rattle.model_eval.proofs.MarkLemmas.{part_is_marked, arguments_marked}
-
-and_both : (a b : Bool) → a ≡ true → b ≡ true → (a && b) ≡ true
-and_both true b p q = q
-and_both false b p q = p
-
-and_left : (a b : Bool) → (a && b) ≡ true → a ≡ true
-and_left true b h = refl
-and_left false b h = h
-
-and_right : (a b : Bool) → (a && b) ≡ true → b ≡ true
-and_right true b h = h
-and_right false b h = cc
 
 -- ---- a tree that fits
 

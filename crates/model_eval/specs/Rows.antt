@@ -1,21 +1,8 @@
 -- How a row of a table is found by a hash of its arguments. No public contract speaks of it.
-use Rattle.std.specs.Prelude.{ℕ, ℤ, pos, ◌/◌, ◌%◌, ◌^◌, ◌||◌, Bool, List, [], ◌∷◌, ◌++◌, nat_lt, int_lt, unsigned_abs, if◌then◌else◌}
+use Rattle.std.specs.Prelude.{ℕ, ◌/◌, ◌^◌, ◌||◌, Bool, List, [], ◌∷◌, ◌++◌, nat_lt}
 use Rattle.smt_meaning.specs.declared.values.Value.{Value}
-use Rattle.smt_meaning.specs.declared.values.Value.TheVariants.{Truth, Whole, Element}
 use Rattle.smt_meaning.specs.declared.values.Row.{Row}
-use Rattle.term_store.specs.Hash.{mixed}
-
-abbrev pub truth_word : Bool → ℕ
-truth_word p = if p then 1 else 0
-
-abbrev pub number_state : ℕ → ℤ → ℕ
-number_state state n = mixed (mixed (mixed state (truth_word (int_lt n (pos 0)))) (unsigned_abs n % 2 ^ 64)) (unsigned_abs n / 2 ^ 64)
-
--- the state of a hash after one more value
-abbrev pub value_state : ℕ → Value → ℕ
-value_state state (Truth p) = mixed state (truth_word p)
-value_state state (Whole n) = number_state state n
-value_state state (Element e) = mixed state e
+use Rattle.term_store.specs.Hash.{value_state}
 
 abbrev pub values_state : ℕ → List Value → ℕ
 values_state state [] = state

@@ -1,12 +1,12 @@
 //! The rows of a table, found by a hash of their arguments.
 ghost use Rattle.std.specs.Prelude.{◌≡◌, ◌+◌, ◌<◌, ◌^◌, length, slice_get, IfOk, IfSome};
 ghost use Rattle.smt_meaning.specs.Interpretation.{same_values, look};
-ghost use Rattle.model_eval.specs.Rows.{truth_word, number_state, value_state, values_state, values_hash, row_hashes, is_scanned};
+ghost use Rattle.model_eval.specs.Rows.{values_state, values_hash, row_hashes, is_scanned};
 
 use crate::operators::same;
 use smt_meaning::{Row, Table, Value};
 use std::alloc::{AllocError, Global};
-use term_store::{HashIndex, mix};
+use term_store::{HashIndex, mix_value};
 
 fn same_list(a: &[Value], b: &[Value]) -> bool
     ensures { result ≡ same_values a.now b.now }
@@ -22,37 +22,12 @@ fn same_list(a: &[Value], b: &[Value]) -> bool
     true
 }
 
-fn word_of(truth: bool) -> u64
-    ensures { result ≡ truth_word truth }
-{
-    if truth { 1 } else { 0 }
-}
-
-fn with_number(state: u64, number: i128) -> u64
-    ensures { result ≡ number_state state number }
-{
-    let size = number.unsigned_abs();
-    let low = (size % (1 << 64)) as u64;
-    let high = (size / (1 << 64)) as u64;
-    mix(mix(mix(state, word_of(number < 0)), low), high)
-}
-
-fn with_value(state: u64, value: Value) -> u64
-    ensures { result ≡ value_state state value }
-{
-    match value {
-        Value::Truth(truth) => mix(state, word_of(truth)),
-        Value::Whole(number) => with_number(state, number),
-        Value::Element(element) => mix(state, element),
-    }
-}
-
 fn with_values(start: u64, values: &[Value]) -> u64
     ensures { result ≡ values_state start values.now }
 {
     let mut state = start;
     for value in values {
-        state = with_value(state, *value);
+        state = mix_value(state, *value);
     }
     state
 }

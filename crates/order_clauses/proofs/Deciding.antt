@@ -1,22 +1,22 @@
 -- What a consistent log that makes the clauses true gives.
-use Rattle.std.proofs.Common.{◌≡◌, ℕ, zero, ◌&&◌, Bool, true, false, not, List, [], ◌∷◌, ◌++◌, map, All, Contains, refl, sym, ap, ◌∙◌, arith}
+use Rattle.std.proofs.Common.{◌≡◌, ℕ, zero, Bool, true, false, not, List, [], ◌∷◌, map, All, Contains, refl, sym, ap, ◌∙◌, arith}
 use Rattle.std.specs.Prelude.{flat_map, IsTrue, pos, negsuc, if◌then◌else◌}
 use Rattle.std.specs.List.{AllZip}
 use Rattle.std.proofs.lemmas.Bool.{eqb-true}
-use Rattle.std.proofs.lemmas.List.{map-append}
 use Rattle.std.proofs.lemmas.List.Elements.{All-cons, All-nil, All-head, All-tail, All-contains, Contains-append_right}
-use Rattle.literals.specs.Signed.{Signed, sign}
+use Rattle.literals.specs.Signed.{Signed}
 use Rattle.smt_meaning.specs.declared.values.Value.{Value}
 use Rattle.smt_meaning.specs.declared.values.Value.TheVariants.{Truth, Whole, Element}
 use Rattle.smt_meaning.specs.declared.terms.Operator.{Operator}
 use Rattle.smt_meaning.specs.declared.terms.Operator.TheVariants.{Equal, Distinct}
 use Rattle.smt_meaning.specs.declared.clauses.Atom.{Atom}
-use Rattle.smt_meaning.specs.Term.{Tree, operate, truth_of, same_value, chain_from, with_each as with_each_value, pairwise, differ}
+use Rattle.smt_meaning.specs.Term.{Tree, operate, truth_of, same_value}
 use Rattle.search_port.specs.State.{IsConsistent, IsMadeTrue}
 use Rattle.equality_clauses.specs.Once.{once}
 use Rattle.equality_clauses.specs.Ties.{literal, yes, no, joined, comparison_clauses, choice_clauses}
-use Rattle.equality_clauses.specs.Laws.{compares}
+use Rattle.equality_clauses.specs.Laws.{compares, compared, pair_same}
 use Rattle.equality_clauses.proofs.OnceLemmas.{All-once}
+use Rattle.equality_clauses.proofs.Tying.{every, equal_every, distinct_every}
 use Rattle.bound_clauses.specs.declared.orders.Sense.TheVariants.{NotAbove}
 use Rattle.bound_clauses.specs.declared.orders.Order.{Order}
 use Rattle.bound_clauses.specs.Orders.{order, order_atoms, order_holds}
@@ -24,43 +24,26 @@ use Rattle.bound_clauses.specs.Ties.{order_clauses, equal_clauses}
 use Rattle.bound_clauses.specs.Laws.{IsNumber, OrderIsDecided, EqualityIsDecided}
 use Rattle.bound_clauses.proofs.Comparing.{All-of_once}
 use Rattle.order_clauses.specs.declared.pairs.Pair.{Pair}
-use Rattle.order_clauses.specs.Pairs.{pair, neighbours, with_each, each_two, pairs_of, orders_of_pair}
+use Rattle.order_clauses.specs.Pairs.{pair, pairs_of, same_atom, orders_of_pair}
+use Rattle.order_clauses.proofs.Pairing.{pairs_atoms}
 use Rattle.order_clauses.specs.Clauses.{truth_number, same_number, bound_number, of_bound, int_tie, tie}
 use Rattle.order_clauses.specs.Decided.{IsGiven, FitsOrders, same_in, FitsPairs, AreNumbers, FitsTerms, OrderPartIsDecided, EqualityPartIsDecided, ChoicePartIsDecided}
 use Rattle.order_clauses.proofs.Soundness.{All-unmap, All-left, All-right}
 
 -- ---- each has the sign
 
-abbrev every : Bool → List Bool → Bool
-every s [] = true
-every s (b ∷ bs) = sign s b && every s bs
+same_pairs : (v : ℕ → Value) (qs : List Pair) → map (pair_same v) (map same_atom qs) ≡ map (same_in v) qs
+same_pairs v [] = refl
+same_pairs v (q ∷ qs) = ap (λ bs. same_in v q ∷ bs) (same_pairs v qs)
 
-every-append : (s : Bool) (bs cs : List Bool) → every s (bs ++ cs) ≡ (every s bs && every s cs)
-every-append s [] cs = refl
-every-append s (b ∷ bs) cs = ap (λ x. sign s b && x) (every-append s bs cs) ∙ sym (assoc (sign s b) (every s bs) (every s cs))
-  where
-    assoc : (a b c : Bool) → ((a && b) && c) ≡ (a && (b && c))
-    assoc true b c = refl
-    assoc false b c = refl
+by_pairs : (v : ℕ → Value) (s : Bool) (o : Operator) (is : List ℕ) → every s (map (pair_same v) (compared o is)) ≡ every s (map (same_in v) (pairs_of o is))
+by_pairs v s o is = ap (λ (cs : List Atom). every s (map (pair_same v) cs)) (sym (pairs_atoms o is)) ∙ ap (every s) (same_pairs v (pairs_of o is))
 
-module _ (v : ℕ → Value) where
-  chain_every : (i : ℕ) (js : List ℕ) → chain_from same_value (v i) (map v js) ≡ every true (map (same_in v) (neighbours i js))
-  chain_every i [] = refl
-  chain_every i (j ∷ js) = ap (λ x. same_value (v i) (v j) && x) (chain_every j js)
+equal_pairs : (v : ℕ → Value) (is : List ℕ) → truth_of (operate Equal (map v is)) ≡ every true (map (same_in v) (pairs_of Equal is))
+equal_pairs v is = ap truth_of (equal_every v is) ∙ by_pairs v true Equal is
 
-  first_every : (i : ℕ) (js : List ℕ) → with_each_value differ (v i) (map v js) ≡ every false (map (same_in v) (with_each i js))
-  first_every i [] = refl
-  first_every i (j ∷ js) = ap (λ x. differ (v i) (v j) && x) (first_every i js)
-
-  pairs_every : (is : List ℕ) → pairwise differ (map v is) ≡ every false (map (same_in v) (each_two is))
-  pairs_every [] = refl
-  pairs_every (i ∷ is) =
-      ap (λ x. x && pairwise differ (map v is)) (first_every i is) ∙ ap (λ x. every false (map (same_in v) (with_each i is)) && x) (pairs_every is)
-      ∙ sym (every-append false (map (same_in v) (with_each i is)) (map (same_in v) (each_two is))) ∙ ap (every false) (sym (map-append (same_in v) (with_each i is) (each_two is)))
-
-  equal_every : (is : List ℕ) → truth_of (operate Equal (map v is)) ≡ every true (map (same_in v) (pairs_of Equal is))
-  equal_every [] = refl
-  equal_every (i ∷ is) = chain_every i is
+distinct_pairs : (v : ℕ → Value) (is : List ℕ) → truth_of (operate Distinct (map v is)) ≡ every false (map (same_in v) (pairs_of Distinct is))
+distinct_pairs v is = ap truth_of (distinct_every v is) ∙ by_pairs v false Distinct is
 
 -- ---- clauses that join
 
@@ -169,10 +152,10 @@ module _ (decided : EqualityIsDecided) (v : ℕ → Value) (log : List Signed) (
       → All (IsMadeTrue log) (comparison_clauses o (truth_number table p) (map (same_number table) (pairs_of o is))) → IsGiven log (truth_number table p) (truth_of (operate o (map v is)))
   by_operator Equal p is h given made =
       joined_decided log consistent true (truth_number table p) (map (same_number table) (pairs_of Equal is)) made (map (same_in v) (pairs_of Equal is))
-      (zipped log (same_number table) (same_in v) (pairs_of Equal is) given) (truth_of (operate Equal (map v is))) (sym (equal_every v is))
+      (zipped log (same_number table) (same_in v) (pairs_of Equal is) given) (truth_of (operate Equal (map v is))) (sym (equal_pairs v is))
   by_operator Distinct p is h given made =
       joined_decided log consistent false (truth_number table p) (map (same_number table) (pairs_of Distinct is)) made (map (same_in v) (pairs_of Distinct is))
-      (zipped log (same_number table) (same_in v) (pairs_of Distinct is) given) (truth_of (operate Distinct (map v is))) (sym (pairs_every v is))
+      (zipped log (same_number table) (same_in v) (pairs_of Distinct is) given) (truth_of (operate Distinct (map v is))) (sym (distinct_pairs v is))
   by_operator o p is h given made = absurd (let x : false ≡ true = h in cc)
 
   -- ---- choices

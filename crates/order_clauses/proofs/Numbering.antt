@@ -6,7 +6,7 @@ use Rattle.smt_meaning.specs.declared.clauses.Summand.{Summand}
 use Rattle.smt_meaning.specs.declared.clauses.Atom.{Atom}
 use Rattle.smt_meaning.specs.declared.clauses.Atom.TheVariants.{Truth, AtMost, Same}
 use Rattle.smt_meaning.specs.Term.{int_eq}
-use Rattle.smt_laws.proofs.SameTree.{and_left, and_right}
+use Rattle.smt_laws.proofs.Both.{and_left, and_right}
 use Rattle.smt_laws.proofs.SameValue.{int_eq-true, int_eq-self}
 use Rattle.atom_form.specs.AtomTableNumbers.{IsAt, AreApart}
 use Rattle.order_clauses.specs.Numbers.{sum_eq, atom_eq, number_in}

@@ -1,30 +1,20 @@
 -- What propagation over the axioms reaches.
 use Rattle.std.proofs.Common.{◌≡◌, ℕ, zero, suc, ◌+◌, ◌<◌, ◌≤◌, ◌&&◌, Bool, true, false, nat_eq, List, [], ◌∷◌, length, get_or, Contains, refl, sym, ap, subst, ◌∙◌, arith, eq-eqb}
-use Rattle.std.specs.Prelude.{not, nat_lt, cond, if◌then◌else◌, ℤ, int_le, ◌≤ℤ◌}
+use Rattle.std.specs.Prelude.{nat_lt, cond, if◌then◌else◌, ℤ, int_le, ◌≤ℤ◌}
 use Rattle.std.specs.List.Sorted.{IsSorted}
 use Rattle.std.specs.declared.cmp.Ordering.{Ordering}
 use Rattle.std.specs.declared.cmp.Ordering.TheVariants.{Less}
 use Rattle.std.specs.Ordering.{is_lt, ordering_then, nat_cmp, int_cmp}
 use Rattle.std.proofs.lemmas.Bool.Decides.{nat_tests}
 use Rattle.std.proofs.lemmas.Int.{ints}
-use Rattle.std.proofs.lemmas.List.Elements.{All-cons, All-nil, All-contains, Contains-append_left, Contains-append_right}
-use Rattle.literals.specs.Signed.{Signed, opposite}
-use Rattle.smt_meaning.specs.Forced.{Reaches, unit}
+use Rattle.std.proofs.lemmas.List.Elements.{Contains-append_left, Contains-append_right}
+use Rattle.literals.specs.Signed.{Signed}
+use Rattle.bound_clauses.proofs.Reached.{reached_on, refuted_back}
 use Rattle.order_clauses.specs.declared.links.Link.{Link}
 use Rattle.order_clauses.specs.Links.{literal_of, link_cmp, implication, implied, between, between_neighbours, between_links}
 use Rattle.order_clauses.specs.Reached.{Leads, AxiomsReachAll}
 
 -- ---- from link to link
-
-abbrev From : List (List Signed) → List Signed → Signed → Type 0
-From cs given l = Reaches opposite cs given l
-
-not_not : (b : Bool) → not (not b) ≡ b
-not_not true = refl
-not_not false = refl
-
-twice_opposite : (l : Signed) → opposite (opposite l) ≡ l
-twice_opposite l = ap (λ b. record { atom = l.atom; positive = b }) (not_not l.positive)
 
 leads_self : (cs : List (List Signed)) (x : Link) → Leads cs x x
 leads_self cs x = record { on = λ given h. h; back = λ given h. h }
@@ -33,16 +23,7 @@ leads_on : (cs : List (List Signed)) (x y z : Link) → Leads cs x y → Leads c
 leads_on cs x y z h k = record { on = λ given r. k.on given (h.on given r); back = λ given r. h.back given (k.back given r) }
 
 leads_by : (cs : List (List Signed)) (x y : Link) → Contains cs (implication x y) → Leads cs x y
-leads_by cs x y c = record {
-  on = λ given r.
-      unit (opposite (literal_of x) ∷ []) [] c
-      (λ m. All-contains (λ m. From cs given (opposite m)) (opposite (literal_of x) ∷ []) m
-      (All-cons (λ m. From cs given (opposite m)) (opposite (literal_of x)) [] (subst (From cs given) (sym (twice_opposite (literal_of x))) r) (All-nil (λ m. From cs given (opposite m)))));
-  back = λ given r.
-      unit [] (literal_of y ∷ []) c
-      (λ m. All-contains (λ m. From cs given (opposite m)) (literal_of y ∷ []) m
-      (All-cons (λ m. From cs given (opposite m)) (literal_of y) [] r (All-nil (λ m. From cs given (opposite m)))));
-}
+leads_by cs x y c = record { on = reached_on cs (literal_of x) (literal_of y) c; back = refuted_back cs (literal_of x) (literal_of y) c }
 
 -- ---- links in order
 

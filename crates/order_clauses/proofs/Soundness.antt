@@ -1,5 +1,5 @@
 -- The clauses are sound.
-use Rattle.std.proofs.Common.{◌≡◌, ◌≢◌, ℕ, zero, suc, ◌<◌, Bool, true, false, not, List, [], ◌∷◌, ◌++◌, map, length, All, Contains, refl, sym, ap, ◌∙◌, arith}
+use Rattle.std.proofs.Common.{◌≡◌, ◌≢◌, ℕ, zero, suc, ◌<◌, Bool, true, false, not, List, [], ◌∷◌, map, length, All, Contains, refl, sym, ap, ◌∙◌, arith}
 use Rattle.std.specs.Prelude.{flat_map, slice_index_or, IsTrue, ℤ, pos, int_le, Some}
 use Rattle.std.proofs.lemmas.List.Elements.{All-cons, All-nil, All-head, All-tail, All-append, All-map, All-weaker, All-contains}
 use Rattle.literals.specs.Signed.{Signed, opposite}
@@ -30,6 +30,7 @@ use Rattle.bound_clauses.specs.declared.orders.Order.{Order}
 use Rattle.bound_clauses.specs.Orders.{order, order_atoms, bound_atom}
 use Rattle.bound_clauses.specs.Ties.{order_clauses, equal_clauses, constant_clauses}
 use Rattle.bound_clauses.specs.Laws.{orders, IsReadable, IsNumber, OrderIsOver, EqualityIsOver, ConstantIsOver, OrderClausesAreTrue, EqualityClausesAreTrue, ConstantHasValue}
+pub use Rattle.smt_laws.proofs.FrontAndBack.{all_front as All-left, all_back as All-right}
 use Rattle.order_clauses.specs.declared.pairs.Pair.{Pair}
 use Rattle.order_clauses.specs.Pairs.{pair, pairs_of, same_atom, orders_of_pair}
 use Rattle.order_clauses.specs.Numbers.{number_in}
@@ -44,14 +45,6 @@ use Rattle.order_clauses.proofs.Pairing.{pairs_atoms, pairs_both}
 pub All-unmap : {A B : Type 0} (P : B → Type 0) (f : A → B) (xs : List A) → All P (map f xs) → All (λ x. P (f x)) xs
 All-unmap P f [] h = All-nil (λ x. P (f x))
 All-unmap P f (x ∷ xs) h = All-cons (λ y. P (f y)) x xs (All-head P (f x) (map f xs) h) (All-unmap P f xs (All-tail P (f x) (map f xs) h))
-
-pub All-left : {A : Type 0} (P : A → Type 0) (xs ys : List A) → All P (xs ++ ys) → All P xs
-All-left P [] ys h = All-nil P
-All-left P (x ∷ xs) ys h = All-cons P x xs (All-head P x (xs ++ ys) h) (All-left P xs ys (All-tail P x (xs ++ ys) h))
-
-pub All-right : {A : Type 0} (P : A → Type 0) (xs ys : List A) → All P (xs ++ ys) → All P ys
-All-right P [] ys h = h
-All-right P (x ∷ xs) ys h = All-right P xs ys (All-tail P x (xs ++ ys) h)
 
 pub All-flat : {A B : Type 0} (P : A → Type 0) (Q : B → Type 0) (f : A → List B) → ((x : A) → P x → All Q (f x)) → (xs : List A) → All P xs → All Q (flat_map f xs)
 All-flat P Q f h [] all = All-nil Q

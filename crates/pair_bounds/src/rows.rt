@@ -10,7 +10,7 @@ ghost use Rattle.linear_forms.specs.Multiples.{IsCombination, RefusesMultiples};
 ghost use Rattle.pair_bounds.specs.Rows.{multiples as multiples_of_limit, placed, placed_row, placed_rows, IsDivisorAt, RefusesDivisor, IsRow, IsRowLimit, IsRowBound, RefusesLimit, RowsAreAtoms, LargeDivisorLeavesRange};
 
 use crate::normal::normalize;
-use linear_forms::{DifferenceError, LinearForms, Multiple};
+use linear_forms::{DifferenceError, LinearForms, Multiple, minus};
 use smt_laws::divisions_stand_by_places;
 use smt_meaning::{Operator, Summand, TermId};
 use std::alloc::AllocError;
@@ -243,17 +243,6 @@ pub fn add_rows(
     ensures within { (count : _) → place < count → All (λ i. i < count) arguments.now → All (IsRow count) rows.old.items → OnOk result (All (IsRow count) rows.new.items) }
 {
     add_of_term(rows, operator, divisor, place, arguments)
-}
-
-/// The difference of two numbers, where it is in the range.
-fn minus(a: i128, b: i128) -> Option<i128>
-    ensures some { IfSome result (λ n. (n ≡ a -ℤ b) × InRange n) }
-    ensures none { IfNone result (InRange (a -ℤ b) → ⊥) }
-{
-    match a.checked_sub(b) {
-        Some(difference) if difference != i128::MIN => Some(difference),
-        _ => None,
-    }
 }
 
 /// The sum of the multiples of a limit: its constant, with its sum left in the list.

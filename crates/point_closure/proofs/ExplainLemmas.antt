@@ -222,38 +222,37 @@ given_on ps us i j count goal gs gs' told told' ss ss' log unions alike merges i
 
 -- ---- what a call of `tell` does
 
+tells_with : (ps : List Point) (us : List Union) (goal : Goal) (gs gs' : List Goal) (told told' : List Bool) (ss ss' : List ℕ) (at : ℕ) (union : Union) (ends : Goal) (more' : List Goal)
+    → at < length us → get_or us at union ≡ union → gs' ≡ ((gs ++ goal_of ends.left union.from ∷ []) ++ goal_of ends.right union.to ∷ []) ++ more' → IsTold ps union at told told' ss ss' more'
+    → ((ends.left ≡ goal.left) × (ends.right ≡ goal.right)) ⊎ ((ends.left ≡ goal.right) × (ends.right ≡ goal.left))
+    → root_of (take at us) ends.left ≡ union.gone → root_of (take at us) ends.right ≡ union.kept → Tells ps us goal gs gs' told told' ss ss'
+tells_with ps us goal gs gs' told told' ss ss' at union ends more' within is g t sides one other = record {
+  at = at;
+  union = union;
+  within = within;
+  is_at = is;
+  one = ends.left;
+  other = ends.right;
+  sides = sides;
+  one_root = one;
+  other_root = other;
+  more' = more';
+  goals = g ∙ append_assoc (gs ++ goal_of ends.left union.from ∷ []) (goal_of ends.right union.to ∷ []) more';
+  is_told = t;
+}
+
 pub tells_by : (ps : List Point) (us : List Union) (goal : Goal) (gs gs' : List Goal) (told told' : List Bool) (ss ss' : List ℕ) (at : ℕ) (turned' : Bool) (union : Union) (ends : Goal) (more' : List Goal)
     → IsNewest us goal.left goal.right (record { union = at; turned = turned' }) → union ≡ get_or us at union → ends ≡ (if turned' then goal_of goal.right goal.left else goal)
     → gs' ≡ ((gs ++ goal_of ends.left union.from ∷ []) ++ goal_of ends.right union.to ∷ []) ++ more'
     → IsTold ps union at told told' ss ss' more' → Tells ps us goal gs gs' told told' ss ss'
-tells_by ps us goal gs gs' told told' ss ss' at false union ends more' n is e g t = record {
-  at = at;
-  union = union;
-  within = n.within;
-  is_at = sym is;
-  one = ends.left;
-  other = ends.right;
-  sides = inl (ap (λ (x : Goal). x.left) e, ap (λ (x : Goal). x.right) e);
-  one_root = ap (λ (x : Goal). root_of (take at us) x.left) e ∙ n.left_root union ∙ ap (λ (u : Union). u.gone) (sym is);
-  other_root = ap (λ (x : Goal). root_of (take at us) x.right) e ∙ n.right_root union ∙ ap (λ (u : Union). u.kept) (sym is);
-  more' = more';
-  goals = g ∙ append_assoc (gs ++ goal_of ends.left union.from ∷ []) (goal_of ends.right union.to ∷ []) more';
-  is_told = t;
-}
-tells_by ps us goal gs gs' told told' ss ss' at true union ends more' n is e g t = record {
-  at = at;
-  union = union;
-  within = n.within;
-  is_at = sym is;
-  one = ends.left;
-  other = ends.right;
-  sides = inr (ap (λ (x : Goal). x.left) e, ap (λ (x : Goal). x.right) e);
-  one_root = ap (λ (x : Goal). root_of (take at us) x.left) e ∙ n.right_root union ∙ ap (λ (u : Union). u.gone) (sym is);
-  other_root = ap (λ (x : Goal). root_of (take at us) x.right) e ∙ n.left_root union ∙ ap (λ (u : Union). u.kept) (sym is);
-  more' = more';
-  goals = g ∙ append_assoc (gs ++ goal_of ends.left union.from ∷ []) (goal_of ends.right union.to ∷ []) more';
-  is_told = t;
-}
+tells_by ps us goal gs gs' told told' ss ss' at false union ends more' n is e g t =
+    tells_with ps us goal gs gs' told told' ss ss' at union ends more' n.within (sym is) g t (inl (ap (λ (x : Goal). x.left) e, ap (λ (x : Goal). x.right) e))
+    (ap (λ (x : Goal). root_of (take at us) x.left) e ∙ n.left_root union ∙ ap (λ (u : Union). u.gone) (sym is))
+    (ap (λ (x : Goal). root_of (take at us) x.right) e ∙ n.right_root union ∙ ap (λ (u : Union). u.kept) (sym is))
+tells_by ps us goal gs gs' told told' ss ss' at true union ends more' n is e g t =
+    tells_with ps us goal gs gs' told told' ss ss' at union ends more' n.within (sym is) g t (inr (ap (λ (x : Goal). x.left) e, ap (λ (x : Goal). x.right) e))
+    (ap (λ (x : Goal). root_of (take at us) x.left) e ∙ n.right_root union ∙ ap (λ (u : Union). u.gone) (sym is))
+    (ap (λ (x : Goal). root_of (take at us) x.right) e ∙ n.left_root union ∙ ap (λ (u : Union). u.kept) (sym is))
 
 pub whole_before : (us : List Union) (i j : ℕ) → AreBefore us (length us) i j → root_of us i ≡ root_of us j
 whole_before us i j e = ap (λ vs. root_of vs i) (sym (take_all (length us) us (omega arith))) ∙ e ∙ ap (λ vs. root_of vs j) (take_all (length us) us (omega arith))

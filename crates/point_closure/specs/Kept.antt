@@ -1,20 +1,10 @@
--- How points are kept: a list of entries, with all arguments in one list.
-use Rattle.std.specs.Prelude.{ℕ, ◌<◌, ◌≤◌, List, length, map, slice_index_or, slice_range}
-use Rattle.point_closure.specs.declared.graph.Entry.{Entry}
-use Rattle.point_closure.specs.Closure.{Point, ArePoints}
+-- How points are kept: as rows, each point's shape at the head.
+use Rattle.std.specs.Prelude.{ℕ, List, map}
+use Rattle.point_closure.specs.declared.shape.Shape.{Shape}
+use Rattle.point_closure.specs.Closure.{Point}
 
-abbrev pub point_of : List ℕ → Entry → Point
-point_of arguments e = record { shape = e.shape; arguments = slice_range arguments e.start e.end }
+abbrev pub point_of : Shape → List ℕ → Point
+point_of shape arguments = record { shape = shape; arguments = arguments }
 
-abbrev pub points_of : List ℕ → List Entry → List Point
-points_of arguments es = map (point_of arguments) es
-
--- each point's arguments are a part of the list, and the parts are in order
-pub record AreLaid (size : ℕ) (es : List Entry) : Type 0 where
-  pub starts : (k : ℕ) (d : Entry) → k < length es → (slice_index_or es k d).start ≤ (slice_index_or es k d).end
-  pub ends : (k : ℕ) (d : Entry) → k < length es → (slice_index_or es k d).end ≤ size
-  pub order : (j k : ℕ) (d : Entry) → j < k → k < length es → (slice_index_or es j d).end ≤ (slice_index_or es k d).start
-
-pub record IsGraph (es : List Entry) (arguments : List ℕ) : Type 0 where
-  pub laid : AreLaid (length arguments) es
-  pub earlier : ArePoints (points_of arguments es)
+abbrev pub points_of : List (Shape × List ℕ) → List Point
+points_of rows = map (λ r. point_of r.0 r.1) rows

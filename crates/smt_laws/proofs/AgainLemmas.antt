@@ -1,5 +1,5 @@
 -- Trees that were noted before are not noted again.
-use Rattle.std.proofs.Common.{◌≡◌, List, [], ◌∷◌, ◌++◌, Bool, true, false, ◌||◌, ap, sym, subst, ◌∙◌, refl, map}
+use Rattle.std.proofs.Common.{◌≡◌, List, [], ◌∷◌, ◌++◌, Bool, true, false, ap, sym, subst, ◌∙◌, refl, map}
 use Rattle.std.specs.Prelude.{if◌then◌else◌}
 use Rattle.smt_meaning.specs.declared.terms.Head.{Head}
 use Rattle.smt_meaning.specs.declared.terms.Head.TheVariants.{Place, Numeral, Theory, Symbol}
@@ -7,78 +7,12 @@ use Rattle.smt_meaning.specs.Term.{Tree, Trees, node, none, more}
 use Rattle.smt_meaning.specs.TreeShape.{tree_eq, is_among, with_tree, with_parts, with_all_parts, put, put_at, put_all, argument}
 use Rattle.smt_meaning.specs.Sorts.{with_all}
 use Rattle.smt_laws.specs.Again.{HasNoPlace, HaveNoPlace, NotedOnce, PutLeaves, Stored, AllStored, IsReady, AreReady, EachReady, RootsNoteAll}
-use Rattle.smt_laws.proofs.Among.{Among, among_append, among_parts, kept_with_parts}
+use Rattle.smt_laws.proofs.Among.{Among}
+use Rattle.smt_laws.proofs.StoredTrees.{either_way, EachStored, parts_again, all_parts_again, all_stored_after, stored_with_all, each_stored_after, each_longer, each_again}
 use Rattle.smt_laws.proofs.SameTree.{tree_eq-true}
 
-either_way : (b c : Bool) (P : Type 0) → (b ≡ true → P) → (c ≡ true → P) → (b || c) ≡ true → P
-either_way true c P f g e = f refl
-either_way false c P f g e = g e
-
-mutual
-  parts_again : (ts : List Tree) (u : Tree) → Stored u ts → with_parts ts u ≡ ts
-  parts_again ts (node h us) w = ap (λ xs. with_tree xs (node h us)) (all_parts_again ts us w.1) ∙ ap (λ b. if b then ts else (ts ++ node h us ∷ [])) w.0
-
-  all_parts_again : (ts : List Tree) (us : Trees) → AllStored us ts → with_all_parts ts us ≡ ts
-  all_parts_again ts none w = refl
-  all_parts_again ts (more u us) w = ap (λ xs. with_all_parts xs us) (parts_again ts u w.0) ∙ all_parts_again ts us w.1
-
-mutual
-  whole_longer : (u : Tree) (ts more' : List Tree) → Stored u ts → Stored u (ts ++ more')
-  whole_longer (node h us) ts more' w = (among_append (node h us) ts more' w.0, all_whole_longer us ts more' w.1)
-
-  all_whole_longer : (us : Trees) (ts more' : List Tree) → AllStored us ts → AllStored us (ts ++ more')
-  all_whole_longer none ts more' w = tt
-  all_whole_longer (more u us) ts more' w = (whole_longer u ts more' w.0, all_whole_longer us ts more' w.1)
-
-mutual
-  whole_still : (u v : Tree) (ts : List Tree) → Stored u ts → Stored u (with_parts ts v)
-  whole_still (node h us) v ts w = (kept_with_parts (node h us) ts v w.0, all_whole_still us v ts w.1)
-
-  all_whole_still : (us : Trees) (v : Tree) (ts : List Tree) → AllStored us ts → AllStored us (with_parts ts v)
-  all_whole_still none v ts w = tt
-  all_whole_still (more u us) v ts w = (whole_still u v ts w.0, all_whole_still us v ts w.1)
-
-whole_all_still : (u : Tree) (vs : Trees) (ts : List Tree) → Stored u ts → Stored u (with_all_parts ts vs)
-whole_all_still u none ts w = w
-whole_all_still u (more v vs) ts w = whole_all_still u vs (with_parts ts v) (whole_still u v ts w)
-
-all_whole_kept : (us : Trees) (t : Tree) (ts : List Tree) → AllStored us ts → AllStored us (with_tree ts t)
-all_whole_kept us t ts w = go (is_among t ts)
-  where
-    go : (b : Bool) → AllStored us (if b then ts else (ts ++ t ∷ []))
-    go true = w
-    go false = all_whole_longer us ts (t ∷ []) w
-
-mutual
-  whole_after : (ts : List Tree) (u : Tree) → Stored u (with_parts ts u)
-  whole_after ts (node h us) = (among_parts (node h us) ts, all_whole_kept us (node h us) (with_all_parts ts us) (all_whole_after ts us))
-
-  all_whole_after : (ts : List Tree) (us : Trees) → AllStored us (with_all_parts ts us)
-  all_whole_after ts none = tt
-  all_whole_after ts (more u us) = (whole_all_still u us (with_parts ts u) (whole_after ts u), all_whole_after (with_parts ts u) us)
-
-abbrev EachWhole : List Tree → List Tree → Type 0
-EachWhole [] ts = Unit {0}
-EachWhole (u ∷ us) ts = Stored u ts × EachWhole us ts
-
-whole_with_all : (u : Tree) (vs ts : List Tree) → Stored u ts → Stored u (with_all ts vs)
-whole_with_all u [] ts w = w
-whole_with_all u (v ∷ vs) ts w = whole_with_all u vs (with_parts ts v) (whole_still u v ts w)
-
-each_after : (ts us : List Tree) → EachWhole us (with_all ts us)
-each_after ts [] = tt
-each_after ts (u ∷ us) = (whole_with_all u us (with_parts ts u) (whole_after ts u), each_after (with_parts ts u) us)
-
-each_longer : (us ts more' : List Tree) → EachWhole us ts → EachWhole us (ts ++ more')
-each_longer [] ts more' w = tt
-each_longer (u ∷ us) ts more' w = (whole_longer u ts more' w.0, each_longer us ts more' w.1)
-
-each_again : (ts us : List Tree) → EachWhole us ts → with_all ts us ≡ ts
-each_again ts [] w = refl
-each_again ts (u ∷ us) w = ap (λ xs. with_all xs us) (parts_again ts u w.0) ∙ each_again ts us w.1
-
 pub noted_once : NotedOnce
-noted_once ts more' us = each_again (with_all ts us ++ more') us (each_longer us (with_all ts us) more' (each_after ts us))
+noted_once ts more' us = each_again (with_all ts us ++ more') us (each_longer us (with_all ts us) more' (each_stored_after ts us))
 
 mutual
   put_same : (xs : Trees) (t : Tree) → HasNoPlace t → put xs t ≡ t
@@ -100,7 +34,7 @@ noted_more : (xs : Trees) (ts l : List Tree) (r : Tree) → with_all ts (map (pu
 noted_more xs ts [] r = refl
 noted_more xs ts (u ∷ l) r = noted_more xs (with_parts ts (put xs u)) l r
 
-member : (xs : Trees) (ts l : List Tree) (r : Tree) → EachWhole (map (put xs) l) ts → Among r l → Stored (put xs r) ts
+member : (xs : Trees) (ts l : List Tree) (r : Tree) → EachStored (map (put xs) l) ts → Among r l → Stored (put xs r) ts
 member xs ts [] r w h = absurd (cc)
 member xs ts (u ∷ l) r w h =
     either_way (tree_eq r u) (is_among r l) _ (λ p. subst (λ y. Stored (put xs y) ts) (sym (tree_eq-true r u p)) w.0) (λ k. member xs ts l r w.1 k) h
@@ -110,7 +44,7 @@ root_last : (xs : Trees) (ts l : List Tree) (r : Tree) (all : List Tree) → all
 root_last xs ts l r all e again = go (is_among r l) refl
   where
     stored : Among r l → Stored (put xs r) all
-    stored m = subst (Stored (put xs r)) (sym e) (member xs (with_all ts (map (put xs) l)) l r (each_after ts (map (put xs) l)) m)
+    stored m = subst (Stored (put xs r)) (sym e) (member xs (with_all ts (map (put xs) l)) l r (each_stored_after ts (map (put xs) l)) m)
 
     go : (b : Bool) → is_among r l ≡ b → with_all ts (map (put xs) (if b then l else (l ++ r ∷ []))) ≡ with_tree all (put xs r)
     go true m = sym e ∙ sym (parts_again all (put xs r) (stored m)) ∙ again
@@ -127,7 +61,7 @@ node_same : (xs : Trees) (ts l : List Tree) (h : Head) (us : Trees) → ((vs : T
     → with_all ts (map (put xs) (with_parts l (node h us))) ≡ with_parts (with_all ts (map (put xs) l)) (put xs (node h us))
 node_same xs ts l h us plain e =
     let all : List Tree = with_all_parts (with_all ts (map (put xs) l)) (put_all xs us) in
-    let kept : AllStored (put_all xs us) all = all_whole_after (with_all ts (map (put xs) l)) (put_all xs us) in
+    let kept : AllStored (put_all xs us) all = all_stored_after (with_all ts (map (put xs) l)) (put_all xs us) in
     let again : with_parts all (put xs (node h us)) ≡ with_tree all (put xs (node h us)) =
     ap (with_parts all) (plain (put_all xs us)) ∙ again_node all h (put_all xs us) kept ∙ ap (with_tree all) (sym (plain (put_all xs us))) in
     root_last xs ts (with_all_parts l us) (node h us) all (sym e) again
@@ -136,7 +70,7 @@ node_same xs ts l h us plain e =
 mutual
   root_same : (xs : Trees) (ts l : List Tree) (r : Tree) → IsReady xs ts r → with_all ts (map (put xs) (with_parts l r)) ≡ with_parts (with_all ts (map (put xs) l)) (put xs r)
   root_same xs ts l (node (Place k) none) d =
-      let w : Stored (argument xs k) (with_all ts (map (put xs) l)) = whole_with_all (argument xs k) (map (put xs) l) ts d.1 in
+      let w : Stored (argument xs k) (with_all ts (map (put xs) l)) = stored_with_all (argument xs k) (map (put xs) l) ts d.1 in
       let again : with_parts (with_all ts (map (put xs) l)) (argument xs k) ≡ with_tree (with_all ts (map (put xs) l)) (argument xs k) =
       parts_again (with_all ts (map (put xs) l)) (argument xs k) w ∙ sym (stored_then (with_all ts (map (put xs) l)) (argument xs k) w) in
       root_last xs ts l (node (Place k) none) (with_all ts (map (put xs) l)) refl again ∙ sym again

@@ -1,12 +1,11 @@
 -- A check under assumptions: of the stack and one level above it, which is gone after the answer.
-use Rattle.std.proofs.Common.{◌≡◌, ℕ, Bool, true, false, not, ◌||◌, List, [], ◌∷◌, refl, subst, sym, Some, None, suc, ◌-◌, take, length, ◌++◌, ap, ◌∙◌, arith}
+use Rattle.std.proofs.Common.{◌≡◌, ℕ, Bool, true, false, not, ◌||◌, List, [], ◌∷◌, refl, subst, sym, Some, suc, ◌-◌, take, length, ◌++◌, ap, ◌∙◌, arith}
 use Rattle.std.proofs.lemmas.List.Elements.{All-nil, All-cons, All-head, All-tail}
 use Rattle.std.specs.Prelude.{codes, MatchBool}
 use Rattle.smt_meaning.specs.declared.values.Value.TheVariants.{Truth}
-use Rattle.smt_meaning.specs.declared.values.Sort.TheVariants.{Bool as Truths}
 use Rattle.smt_meaning.specs.declared.values.Table.{Table}
 use Rattle.smt_meaning.specs.declared.terms.Operator.TheVariants.{Not, Or}
-use Rattle.smt_meaning.specs.declared.terms.Head.TheVariants.{Symbol as Function, Theory}
+use Rattle.smt_meaning.specs.declared.terms.Head.TheVariants.{Theory}
 use Rattle.smt_meaning.specs.declared.tokens.Token.{Token}
 use Rattle.smt_meaning.specs.declared.tokens.Token.TheVariants.{Enter, Leave, Symbol}
 use Rattle.smt_meaning.specs.declared.refusals.Refusal.TheVariants.{TooManyLevels}
@@ -17,7 +16,6 @@ use Rattle.smt_meaning.specs.declared.answers.Reply.TheVariants.{Unsupported, Sa
 use Rattle.smt_meaning.specs.declared.answers.Reply.TheVariants as Given
 use Rattle.smt_meaning.specs.declared.replies.Kept.{Kept}
 use Rattle.smt_meaning.specs.declared.replies.Kept.TheVariants.{Nothing}
-use Rattle.smt_meaning.specs.Declaration.{Declaration}
 use Rattle.smt_meaning.specs.Term.{Tree, node, none, more, truth_of}
 use Rattle.smt_meaning.specs.Reading.{text_rest, mark_rest, quoted_rest, lexeme, comment_rest, is_word_byte, is_symbol_byte, is_printable, word_token}
 use Rattle.smt_meaning.specs.Interpretation.{meaning, Interprets, IsFunctionFor}
@@ -29,25 +27,14 @@ use Rattle.smt_meaning.specs.State.{State, checked_frames, assuming, frame_of, e
 use Rattle.smt_meaning.specs.Text.{symbol_text, text}
 use Rattle.smt_meaning.specs.MayReply.{Decided, IsExactly, MayCome, MayDecide, MayReply}
 use Rattle.smt_laws.specs.LanguageLaws.{AssumptionsGo, AssumptionsAreALevel}
+use Rattle.smt_laws.proofs.Constants.{every, truth_constant, first_tree, second_tree}
 use Rattle.smt_laws.proofs.Told.{false_true}
 use Rattle.smt_laws.proofs.Script.{runs, script, settings}
 
 -- ---- (or p q) is asserted, and that neither holds is assumed
 
-abbrev every : Decided
-every frames = true
-
-abbrev truth_constant : ℕ → List ℕ → Declaration
-truth_constant id n = record { id = id; name = n; rank = record { arguments = []; result = Truths }; body = None; is_sort = false; is_name = false }
-
-abbrev p_tree : Tree
-p_tree = node (Function 0) none
-
-abbrev q_tree : Tree
-q_tree = node (Function 1) none
-
 abbrev either_tree : Tree
-either_tree = node (Theory Or) (more p_tree (more q_tree none))
+either_tree = node (Theory Or) (more first_tree (more second_tree none))
 
 abbrev no_tree : Tree → Tree
 no_tree t = node (Theory Not) (more t none)
@@ -69,14 +56,14 @@ level_0 = record { declared = truth_constant 0 (codes "p") ∷ truth_constant 1 
 
 -- the assumptions' level
 abbrev above : Frame
-above = record { declared = []; asserted = record { text = not_text (codes "p"); term = no_tree p_tree } ∷ record { text = not_text (codes "q"); term = no_tree q_tree } ∷ [] }
+above = record { declared = []; asserted = record { text = not_text (codes "p"); term = no_tree first_tree } ∷ record { text = not_text (codes "q"); term = no_tree second_tree } ∷ [] }
 
 abbrev either_asserted : State
 either_asserted =
     record (start settings) {
       logic = Some (codes "QF_UFLIA");
       mode = In.Assert;
-      stack = record { frames = level_0 ∷ []; given = 2; trees = p_tree ∷ q_tree ∷ either_tree ∷ []; global = false };
+      stack = record { frames = level_0 ∷ []; given = 2; trees = first_tree ∷ second_tree ∷ either_tree ∷ []; global = false };
     }
 
 abbrev after_script : List ℕ → State
@@ -89,7 +76,7 @@ script_asserts = refl
 -- the check's state: the terms of the assumptions were judged, and the levels of the stack are the same
 abbrev neither_checked : State
 neither_checked = record either_asserted {
-  stack = record { frames = level_0 ∷ []; given = 2; trees = p_tree ∷ q_tree ∷ either_tree ∷ no_tree p_tree ∷ no_tree q_tree ∷ []; global = false };
+  stack = record { frames = level_0 ∷ []; given = 2; trees = first_tree ∷ second_tree ∷ either_tree ∷ no_tree first_tree ∷ no_tree second_tree ∷ []; global = false };
   above = above ∷ [];
 }
 
@@ -101,10 +88,10 @@ one_is false false h f g = false_true h
 neither_has_no_model : HasNoModel (level_0 ∷ above ∷ [])
 unfolding HasNoModel
 neither_has_no_model I i h =
-    let rest = All-tail (Satisfies I) either_tree (no_tree p_tree ∷ no_tree q_tree ∷ []) h in
-    one_is (truth_of (I 0 [])) (truth_of (I 1 [])) (All-head (Satisfies I) either_tree (no_tree p_tree ∷ no_tree q_tree ∷ []) h)
-    (All-head (Satisfies I) (no_tree p_tree) (no_tree q_tree ∷ []) rest)
-    (All-head (Satisfies I) (no_tree q_tree) [] (All-tail (Satisfies I) (no_tree p_tree) (no_tree q_tree ∷ []) rest))
+    let rest = All-tail (Satisfies I) either_tree (no_tree first_tree ∷ no_tree second_tree ∷ []) h in
+    one_is (truth_of (I 0 [])) (truth_of (I 1 [])) (All-head (Satisfies I) either_tree (no_tree first_tree ∷ no_tree second_tree ∷ []) h)
+    (All-head (Satisfies I) (no_tree first_tree) (no_tree second_tree ∷ []) rest)
+    (All-head (Satisfies I) (no_tree second_tree) [] (All-tail (Satisfies I) (no_tree first_tree) (no_tree second_tree ∷ []) rest))
 
 unsat_may_come : MayReply every either_asserted (CheckSatAssuming assumed) Unsat Nothing (record neither_checked { mode = In.Unsat })
 unfolding MayReply effect ◌>>=◌ ◌>>◌ return refuse require required the_scope note found declare judged

@@ -13,6 +13,7 @@ use Rattle.smt_meaning.specs.Term.{Tree, Trees, node, none, more}
 use Rattle.smt_meaning.specs.Signature.{function_with_id, symbol_sort, head_sort, cons_sort, with_sorts, tree_sort, tree_sorts, HasNoIdTwice}
 use Rattle.smt_meaning.specs.Clause.{symbols, symbols_of, head_symbols}
 use Rattle.smt_meaning.specs.Stack.{Frame, signature_of, up_to}
+use Rattle.smt_laws.proofs.FrontAndBack.{all_front, all_back}
 use Rattle.smt_laws.proofs.Both.{and_left}
 use Rattle.smt_laws.specs.SortLaws.{SortsAreTheSameBelow, SymbolsAreDeclared}
 
@@ -27,10 +28,6 @@ other f (d ∷ ds) h = go (other f ds (All-tail (λ (x : Declaration). f ≢ x.i
     go : function_with_id f ds ≡ None → (b : Bool) → nat_eq f d.id ≡ b → (if b && not d.is_sort then Some d else function_with_id f ds) ≡ None
     go k true e = absurd (All-head (λ (x : Declaration). f ≢ x.id) d ds h (eqb-true f d.id e))
     go k false e = k
-
-front : (P : Declaration → Type 0) (ds es : List Declaration) → All P (ds ++ es) → All P ds
-front P [] es h = All-nil P
-front P (d ∷ ds) es h = All-cons P d ds (All-head P d (ds ++ es) h) (front P ds es (All-tail P d (ds ++ es) h))
 
 -- it is the first, or one of the others
 not_first : (f g : ℕ) (gs : List ℕ) → nat_eq f g ≡ false → Contains (g ∷ gs) f → Contains gs f
@@ -52,7 +49,7 @@ kept_below f (d ∷ ds) es h c = go (λ k. kept_below f ds es h.1 k) (nat_eq f d
     at_own true e = refl
     at_own false e =
         let none_above : All (λ (x : Declaration). f ≢ x.id) (ds ++ es) = subst (λ g. All (λ (x : Declaration). g ≢ x.id) (ds ++ es)) (sym e) h.0 in
-        other f (ds ++ es) none_above ∙ sym (other f ds (front (λ (x : Declaration). f ≢ x.id) ds es none_above))
+        other f (ds ++ es) none_above ∙ sym (other f ds (all_front (λ (x : Declaration). f ≢ x.id) ds es none_above))
 
     go : (Contains (ids ds) f → function_with_id f (ds ++ es) ≡ function_with_id f ds)
         → (b : Bool) → nat_eq f d.id ≡ b → (if b && not d.is_sort then Some d else function_with_id f (ds ++ es)) ≡ (if b && not d.is_sort then Some d else function_with_id f ds)
@@ -60,14 +57,6 @@ kept_below f (d ∷ ds) es h c = go (λ k. kept_below f ds es h.1 k) (nat_eq f d
     go k false e = k (not_first f d.id (ids ds) e c)
 
 -- ---- terms
-
-all_left : (P : ℕ → Type 0) (xs ys : List ℕ) → All P (xs ++ ys) → All P xs
-all_left P [] ys h = All-nil P
-all_left P (x ∷ xs) ys h = All-cons P x xs (All-head P x (xs ++ ys) h) (all_left P xs ys (All-tail P x (xs ++ ys) h))
-
-all_right : (P : ℕ → Type 0) (xs ys : List ℕ) → All P (xs ++ ys) → All P ys
-all_right P [] ys h = h
-all_right P (x ∷ xs) ys h = all_right P xs ys (All-tail P x (xs ++ ys) h)
 
 same_head : (ds es : List Declaration) (h : Head) (o : Option (List Sort)) → HasNoIdTwice (ds ++ es) → All (Contains (ids ds)) (head_symbols h) → with_sorts ds h o ≡ with_sorts (ds ++ es) h o
 same_head ds es h None u a = refl
@@ -80,14 +69,14 @@ same_head ds es (Place k) (Some ss) u a = refl
 mutual
   same_below : (ds es : List Declaration) (t : Tree) → HasNoIdTwice (ds ++ es) → All (Contains (ids ds)) (symbols t) → tree_sort ds t ≡ tree_sort (ds ++ es) t
   same_below ds es (node h us) u a =
-      ap (with_sorts ds h) (all_same_below ds es us u (all_right (Contains (ids ds)) (head_symbols h) (symbols_of us) a))
-      ∙ same_head ds es h (tree_sorts (ds ++ es) us) u (all_left (Contains (ids ds)) (head_symbols h) (symbols_of us) a)
+      ap (with_sorts ds h) (all_same_below ds es us u (all_back (Contains (ids ds)) (head_symbols h) (symbols_of us) a))
+      ∙ same_head ds es h (tree_sorts (ds ++ es) us) u (all_front (Contains (ids ds)) (head_symbols h) (symbols_of us) a)
 
   all_same_below : (ds es : List Declaration) (us : Trees) → HasNoIdTwice (ds ++ es) → All (Contains (ids ds)) (symbols_of us) → tree_sorts ds us ≡ tree_sorts (ds ++ es) us
   all_same_below ds es none u a = refl
   all_same_below ds es (more t us) u a =
-      ap (λ o. cons_sort o (tree_sorts ds us)) (same_below ds es t u (all_left (Contains (ids ds)) (symbols t) (symbols_of us) a))
-      ∙ ap (cons_sort (tree_sort (ds ++ es) t)) (all_same_below ds es us u (all_right (Contains (ids ds)) (symbols t) (symbols_of us) a))
+      ap (λ o. cons_sort o (tree_sorts ds us)) (same_below ds es t u (all_front (Contains (ids ds)) (symbols t) (symbols_of us) a))
+      ∙ ap (cons_sort (tree_sort (ds ++ es) t)) (all_same_below ds es us u (all_back (Contains (ids ds)) (symbols t) (symbols_of us) a))
 
 levels_apart : (k : ℕ) (frames : List Frame) → signature_of frames ≡ signature_of (take k frames) ++ signature_of (drop k frames)
 levels_apart k frames = ap signature_of (sym (take-append-drop k frames)) ∙ flat_map-append (λ (f : Frame). f.declared) (take k frames) (drop k frames)

@@ -1,6 +1,6 @@
 -- A term that was judged where no name is given is judged alike again, and notes no tree.
 use Rattle.std.proofs.Common.{◌≡◌, ◌∙◌, ℕ, List, [], ◌∷◌, ◌++◌, refl, ap, sym, subst, Bool, true, false, Option, Some, None, append_assoc, append-nil}
-use Rattle.std.specs.Prelude.{pos, codes, bytes_eq, if◌then◌else◌}
+use Rattle.std.specs.Prelude.{pos, codes, bytes_eq}
 use Rattle.smt_meaning.specs.declared.refusals.Refusal.{Refusal}
 use Rattle.smt_meaning.specs.declared.values.Sort.{Sort}
 use Rattle.smt_meaning.specs.declared.values.Sort.TheVariants.{Bool as Truths}
@@ -12,44 +12,14 @@ use Rattle.smt_meaning.specs.declared.tokens.Token.TheVariants.{Numeral, Symbol,
 use Rattle.smt_meaning.specs.declared.tokens.Word.TheVariants.{Exclamation, Let}
 use Rattle.smt_meaning.specs.Declaration.{Declaration}
 use Rattle.smt_meaning.specs.Term.{Tree, Trees, node, none, more}
-use Rattle.smt_meaning.specs.TreeShape.{is_among, with_tree, with_parts, with_all_parts}
 use Rattle.smt_meaning.specs.Sexp.{Sexp, Sexps, word, group, end, ◌▸◌}
 use Rattle.smt_meaning.specs.Signature.{look_up, find_function, operators}
-use Rattle.smt_meaning.specs.Sorts.{Scope, Outcome, done, refused, Judging, go_on, ◌>>=◌, ◌>>◌, return, refuse, require, required, either, the_scope, note, with_all, found, Typed, Variable, Rules, Known, variable, operator, function, unknown, known, known_name, known_symbol, find_variable, can_be_applied, judge_application, judge_operator, judge_symbol, judge_bare, judge_token, head_number, judge_head, judge_divisible, judge_attributes, name_by, has_free, variable_names, bound_names, check_bindings, none_twice, judge, judge_all, judge_bindings}
+use Rattle.smt_meaning.specs.Sorts.{Scope, Outcome, done, refused, Judging, go_on, ◌>>=◌, ◌>>◌, return, refuse, require, required, either, the_scope, note, found, Typed, Variable, Rules, Known, variable, operator, function, unknown, known, known_name, known_symbol, find_variable, can_be_applied, judge_application, judge_operator, judge_symbol, judge_bare, judge_token, head_number, judge_head, judge_divisible, judge_attributes, name_by, has_free, variable_names, bound_names, check_bindings, none_twice, judge, judge_all, judge_bindings}
 use Rattle.smt_meaning.specs.StackCommand.{in_question}
+use Rattle.smt_laws.proofs.GrownTrees.{all_grown}
+use Rattle.smt_laws.proofs.NamesRefused.{IsRefused, first_refused, name_refused}
 use Rattle.smt_laws.specs.TermLaws.{JudgedAgain}
 use Rattle.smt_laws.proofs.AgainLemmas.{noted_once}
-
--- ---- lists of trees grow at their end
-
-record Grown (ts us : List Tree) : Type 0 where
-  joined : List Tree
-  is : us ≡ ts ++ joined
-
-unchanged : (ts : List Tree) → Grown ts ts
-unchanged ts = record { joined = []; is = sym (append-nil ts) }
-
-both_grown : (ts us vs : List Tree) → Grown ts us → Grown us vs → Grown ts vs
-both_grown ts us vs g h = record { joined = g.joined ++ h.joined; is = h.is ∙ ap (λ xs. xs ++ h.joined) g.is ∙ append_assoc ts g.joined h.joined }
-
-tree_grown : (ts : List Tree) (t : Tree) → Grown ts (with_tree ts t)
-tree_grown ts t = go (is_among t ts)
-  where
-    go : (b : Bool) → Grown ts (if b then ts else ts ++ t ∷ [])
-    go true = unchanged ts
-    go false = record { joined = t ∷ []; is = refl }
-
-mutual
-  parts_grown : (ts : List Tree) (t : Tree) → Grown ts (with_parts ts t)
-  parts_grown ts (node h us) = both_grown ts (with_all_parts ts us) (with_tree (with_all_parts ts us) (node h us)) (all_parts_grown ts us) (tree_grown (with_all_parts ts us) (node h us))
-
-  all_parts_grown : (ts : List Tree) (us : Trees) → Grown ts (with_all_parts ts us)
-  all_parts_grown ts none = unchanged ts
-  all_parts_grown ts (more u us) = both_grown ts (with_parts ts u) (with_all_parts (with_parts ts u) us) (parts_grown ts u) (all_parts_grown (with_parts ts u) us)
-
-all_grown : (ts us : List Tree) → Grown ts (with_all ts us)
-all_grown ts [] = unchanged ts
-all_grown ts (u ∷ us) = both_grown ts (with_parts ts u) (with_all (with_parts ts u) us) (parts_grown ts u) (all_grown (with_parts ts u) us)
 
 -- ---- judging that comes to the same again
 
@@ -148,23 +118,9 @@ either_steady false h g = g
 
 -- ---- names: a question gives none
 
-abbrev IsRefused : {A : Type 0} → Outcome A → Type 0
-IsRefused (done a t) = ⊥
-IsRefused (refused r) = Unit {0}
-
 never : {A : Type 0} (m : Judging A) (s : Scope) (x : Outcome A) → IsRefused x → Ending m s x
 never m s (done a t) h = absurd h
 never m s (refused r) h = tt
-
-first_refused : {A B : Type 0} (x : Outcome A) (k : A → Judging B) → IsRefused x → IsRefused (go_on x k)
-first_refused (done a t) k h = absurd h
-first_refused (refused r) k h = tt
-
-name_refused : (o : Bool) (t : Typed) (ss : Sexps) (s : Scope) → IsRefused (name_by in_question o t ss s)
-unfolding ◌>>=◌ ◌>>◌ return refuse require the_scope
-name_refused o t end s = tt
-name_refused o t (word (Symbol n) ▸ rest) s = tt
-name_refused o t (_ ▸ rest) s = tt
 
 named_steady : {B : Type 0} (o : Bool) (t : Typed) (ss : Sexps) (k : Judging B) → Steady (name_by in_question o t ss >> k)
 unfolding ◌>>◌

@@ -1,4 +1,10 @@
 pub mod Both
+pub mod FrontAndBack
+mod Constants
+mod NamesRefused
+mod VariableTrees
+pub mod GrownTrees
+pub mod StoredTrees
 pub mod SortLaw
 pub mod Tables
 pub mod ValueLaw

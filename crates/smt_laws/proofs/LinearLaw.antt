@@ -16,7 +16,8 @@ use Rattle.smt_meaning.specs.Clause.{sum_value, value_at}
 use Rattle.smt_meaning.specs.Linear.{Form, form_value, unless_zero, placed, with_term, sums_added, each_times, sum_times, form_times, form_plus, form_minus, form_product, fold_forms, folded, difference_form, leaf_form, linear_form, linear_forms, leaves, leaves_of}
 use Rattle.fraction128.proofs.Ring.{sum-times, times-sum, times_assoc}
 use Rattle.smt_laws.proofs.Included.{All-included, included_left, included_right}
-use Rattle.smt_laws.proofs.SameTree.{found_again, and_left, and_right}
+use Rattle.smt_laws.proofs.Both.{and_left, and_right}
+use Rattle.smt_laws.proofs.SameTree.{found_again}
 
 abbrev at : List Tree → Interpretation → ℕ → ℤ
 at ts I i = number_of (value_at ts I i)

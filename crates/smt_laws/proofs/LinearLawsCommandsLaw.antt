@@ -4,7 +4,7 @@ use Rattle.std.specs.Prelude.{ℤ, codes, if◌then◌else◌}
 use Rattle.smt_meaning.specs.declared.terms.Head.TheVariants.{Place}
 use Rattle.smt_meaning.specs.declared.tokens.Token.{Token}
 use Rattle.smt_meaning.specs.Declaration.{Declaration}
-use Rattle.smt_meaning.specs.Term.{Tree, node, none}
+use Rattle.smt_meaning.specs.Term.{node, none}
 use Rattle.smt_meaning.specs.Sexp.{sexp}
 use Rattle.smt_meaning.specs.Sorts.{Scope, Outcome, done, refused, Judging, ◌>>◌, return, declare, Typed, Variable, Rules, judge}
 use Rattle.smt_meaning.specs.Goal.{pair_text}
@@ -14,7 +14,7 @@ use Rattle.smt_meaning.specs.declared.commands.WrittenSort.TheVariants.{Name, Ap
 use Rattle.smt_meaning.specs.declared.commands.Parameter.{Parameter}
 use Rattle.smt_meaning.specs.declared.commands.Command.{Command}
 use Rattle.smt_meaning.specs.declared.commands.Command.TheVariants.{SetOption, DeclareSort, DefineSort, DeclareConst, DeclareFun, DefineFun, Assert, CheckSatAssuming, Push, Pop, GetValue, ResetAssertions, Reset, Minimize}
-use Rattle.smt_laws.proofs.Among.{Among, among_first, among_rest}
+use Rattle.smt_laws.proofs.VariableTrees.{tree_of, among_them, with_trees}
 use Rattle.smt_laws.proofs.Each.{Each}
 use Rattle.smt_laws.proofs.Shapes.{Sound}
 use Rattle.smt_laws.proofs.LinearLawsJudgements.{BodyStands, Stands, body_more, Good, After, after_self, Ends, Gives, Nothing, bind_gives, next_gives, return_gives, refuse_gives, require_gives, required_gives, scope_then, Fine, declare_gives, weaken, forget}
@@ -103,16 +103,6 @@ parameters_give k before (p ∷ ps) s =
     next_gives in_assert s _ _ _ _ (require_gives in_assert s _ _)
     (λ a t f e h. bind_gives in_assert t _ _ Nothing _ (sort_gives p.sort t)
     (λ x u d m l. bind_gives in_assert u _ _ _ _ (parameters_give (k + 1) (p.name ∷ before) ps u) (λ vs w g i q. return_gives in_assert w _ _ ((k, refl), q))))
-
-abbrev tree_of : Variable → Tree
-tree_of v = v.term.tree
-
-among_them : (us vs : List Variable) (v : Variable) → Among v.term.tree (map tree_of (us ++ v ∷ vs))
-among_them [] vs v = among_first v.term.tree (map tree_of vs)
-among_them (u ∷ us) vs v = among_rest v.term.tree u.term.tree (map tree_of (us ++ v ∷ vs)) (among_them us vs v)
-
-abbrev with_trees : Scope → List Variable → Scope
-with_trees s vs = record s { trees = map tree_of vs }
 
 places_fine : (s : Scope) (us vs : List Variable) → VariablesFine vs (with_trees s (us ++ vs))
 places_fine s us [] = tt

@@ -6,8 +6,9 @@ use Rattle.smt_meaning.specs.declared.tokens.Token.{Token}
 use Rattle.smt_meaning.specs.declared.tokens.Token.TheVariants.{Numeral, Symbol, Reserved, Keyword}
 use Rattle.smt_meaning.specs.declared.tokens.Word.TheVariants.{Exclamation, Let}
 use Rattle.smt_meaning.specs.Sexp.{Sexp, Sexps, word, group, end, ◌▸◌}
-use Rattle.smt_meaning.specs.Sorts.{Scope, Outcome, done, refused, Judging, go_on, ◌>>=◌, ◌>>◌, return, refuse, require, the_scope, Typed, Variable, Known, variable, operator, function, unknown, known, can_be_applied, judge_application, judge_bare, judge_token, head_number, judge_head, judge_divisible, check_bindings, bound_names, has_free, variable_names, name_by, judge_attributes, either, judge, judge_all, judge_bindings}
+use Rattle.smt_meaning.specs.Sorts.{Scope, Outcome, done, refused, Judging, go_on, ◌>>=◌, ◌>>◌, return, the_scope, Typed, Variable, Known, variable, operator, function, unknown, known, can_be_applied, judge_application, judge_bare, judge_token, head_number, judge_head, judge_divisible, check_bindings, bound_names, has_free, variable_names, name_by, judge_attributes, either, judge, judge_all, judge_bindings}
 use Rattle.smt_meaning.specs.StackCommand.{in_assert, in_question}
+use Rattle.smt_laws.proofs.NamesRefused.{IsRefused, first_refused, name_refused}
 use Rattle.smt_laws.specs.TermLaws.{QuestionsAreAssertions}
 
 -- what the one comes to, where it isn't refused, the other does
@@ -39,23 +40,9 @@ next_same {m = m} {n = n} {k = k} {l = l} h g = record { same = λ s. after_both
 
 -- ---- names: a question gives none
 
-abbrev IsRefused : {A : Type 0} → Outcome A → Type 0
-IsRefused (done a t) = ⊥
-IsRefused (refused r) = Unit {0}
-
 never : {A : Type 0} (x y : Outcome A) → IsRefused x → Follows x y
 never (done a t) y h = absurd h
 never (refused r) y h = tt
-
-first_refused : {A B : Type 0} (x : Outcome A) (k : A → Judging B) → IsRefused x → IsRefused (go_on x k)
-first_refused (done a t) k h = absurd h
-first_refused (refused r) k h = tt
-
-name_refused : (o : Bool) (t : Typed) (ss : Sexps) (s : Scope) → IsRefused (name_by in_question o t ss s)
-unfolding ◌>>=◌ ◌>>◌ return refuse require the_scope
-name_refused o t end s = tt
-name_refused o t (word (Symbol n) ▸ rest) s = tt
-name_refused o t (_ ▸ rest) s = tt
 
 named_same : {B : Type 0} (o : Bool) (t : Typed) (ss : Sexps) (k : Judging B) (n : Judging B) → Same (name_by in_question o t ss >> k) n
 unfolding ◌>>◌

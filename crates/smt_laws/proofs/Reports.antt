@@ -20,30 +20,18 @@ use Rattle.smt_meaning.specs.declared.reports.Cause.TheVariants.{Units, Memory}
 use Rattle.smt_meaning.specs.declared.reports.Report.{Report}
 use Rattle.smt_meaning.specs.declared.replies.Kept.{Kept}
 use Rattle.smt_meaning.specs.declared.replies.Kept.TheVariants.{Reports}
-use Rattle.smt_meaning.specs.Declaration.{Declaration}
 use Rattle.smt_meaning.specs.Term.{Tree, node, none, more, tree_at}
 use Rattle.smt_meaning.specs.Signature.{tree_sort}
 use Rattle.smt_meaning.specs.Stack.{signature_of}
 use Rattle.smt_meaning.specs.Atoms.{at_most_atom, stack_atoms}
 use Rattle.smt_meaning.specs.Report.{AreUnits, Shows, no_units, one_more_unit}
 use Rattle.smt_meaning.specs.State.{State, effect, start}
-use Rattle.smt_meaning.specs.MayReply.{Decided, MayReply}
+use Rattle.smt_meaning.specs.MayReply.{MayReply}
+use Rattle.smt_laws.proofs.Constants.{every, constant, truth_constant, first_tree, second_tree}
 use Rattle.smt_laws.proofs.Told.{false_true}
 use Rattle.smt_laws.proofs.Script.{settings}
 
-abbrev every : Decided
-every frames = true
-
 -- ---- two constants that are asserted, under a limit of one unit
-
-abbrev truth_constant : ℕ → List ℕ → Declaration
-truth_constant id n = record { id = id; name = n; rank = record { arguments = []; result = Truths }; body = None; is_sort = false; is_name = false }
-
-abbrev p_tree : Tree
-p_tree = node (Function 0) none
-
-abbrev q_tree : Tree
-q_tree = node (Function 1) none
 
 -- with so many workers
 abbrev both_asserted_by : ℕ → State
@@ -55,10 +43,10 @@ both_asserted_by workers =
       stack = record {
         frames = record {
           declared = truth_constant 0 (codes "p") ∷ truth_constant 1 (codes "q") ∷ [];
-          asserted = record { text = Symbol (codes "p") ∷ []; term = p_tree } ∷ record { text = Symbol (codes "q") ∷ []; term = q_tree } ∷ [];
+          asserted = record { text = Symbol (codes "p") ∷ []; term = first_tree } ∷ record { text = Symbol (codes "q") ∷ []; term = second_tree } ∷ [];
         } ∷ [];
         given = 2;
-        trees = p_tree ∷ q_tree ∷ [];
+        trees = first_tree ∷ second_tree ∷ [];
         global = false;
       };
     }
@@ -174,15 +162,6 @@ equality_of_bools limit w u = int_false ((u [] [] (Numbered p_is_q) refl).of_int
 
 -- ---- two integers of which one function is asserted, under a limit of one unit
 
-abbrev integer_constant : ℕ → List ℕ → Declaration
-integer_constant id n = record { id = id; name = n; rank = record { arguments = []; result = Ints }; body = None; is_sort = false; is_name = false }
-
-abbrev x_tree : Tree
-x_tree = node (Function 0) none
-
-abbrev y_tree : Tree
-y_tree = node (Function 1) none
-
 abbrev holds_of : Tree → Tree
 holds_of t = node (Function 2) (more t none)
 
@@ -190,12 +169,12 @@ abbrev holds_of_both : State
 holds_of_both = record both_asserted {
   stack = record {
     frames = record {
-      declared = integer_constant 0 (codes "x") ∷ integer_constant 1 (codes "y")
+      declared = constant Ints 0 (codes "x") ∷ constant Ints 1 (codes "y")
           ∷ record { id = 2; name = codes "p"; rank = record { arguments = Ints ∷ []; result = Truths }; body = None; is_sort = false; is_name = false } ∷ [];
-      asserted = record { text = Symbol (codes "p") ∷ []; term = holds_of x_tree } ∷ record { text = Symbol (codes "p") ∷ []; term = holds_of y_tree } ∷ [];
+      asserted = record { text = Symbol (codes "p") ∷ []; term = holds_of first_tree } ∷ record { text = Symbol (codes "p") ∷ []; term = holds_of second_tree } ∷ [];
     } ∷ [];
     given = 3;
-    trees = x_tree ∷ y_tree ∷ holds_of x_tree ∷ holds_of y_tree ∷ [];
+    trees = first_tree ∷ second_tree ∷ holds_of first_tree ∷ holds_of second_tree ∷ [];
     global = false;
   };
 }
@@ -225,12 +204,12 @@ one_unit =
     record {
       of_check = inr (inl (
           record {
-            left = x_tree;
-            right = y_tree;
-            left_part = record { assertion = holds_of x_tree; asserted = in_head (holds_of x_tree) (holds_of y_tree ∷ []); part = inr (inl (inl refl)) };
-            right_part = record { assertion = holds_of y_tree; asserted = Contains-append_right (holds_of x_tree ∷ []) (holds_of y_tree ∷ []) (holds_of y_tree) (in_head (holds_of y_tree) []); part = inr (inl (inl refl)) };
+            left = first_tree;
+            right = second_tree;
+            left_part = record { assertion = holds_of first_tree; asserted = in_head (holds_of first_tree) (holds_of second_tree ∷ []); part = inr (inl (inl refl)) };
+            right_part = record { assertion = holds_of second_tree; asserted = Contains-append_right (holds_of first_tree ∷ []) (holds_of second_tree ∷ []) (holds_of second_tree) (in_head (holds_of second_tree) []); part = inr (inl (inl refl)) };
             one_sort = refl;
-            among = in_head x_is_y (at_most_atom holds_of_both.stack.trees x_tree y_tree ∷ at_most_atom holds_of_both.stack.trees y_tree x_tree ∷ []);
+            among = in_head x_is_y (at_most_atom holds_of_both.stack.trees first_tree second_tree ∷ at_most_atom holds_of_both.stack.trees second_tree first_tree ∷ []);
           }
           ));
       not_of_stack = λ c. no_equality_of_both (subst (λ xs. Contains xs x_is_y) truths_alone c);

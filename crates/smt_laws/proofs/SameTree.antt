@@ -9,15 +9,8 @@ use Rattle.smt_meaning.specs.Term.{Tree, Trees, node, none, more, tree_at}
 use Rattle.smt_meaning.specs.TreeCode.{operator_at, operator_back}
 use Rattle.smt_meaning.specs.TreeShape.{operator_number, head_eq, tree_eq, trees_eq, is_among, place_of}
 use Rattle.smt_laws.proofs.SameValue.{int_eq-true, int_eq-self}
+pub use Rattle.smt_laws.proofs.Both.{and_left, and_right}
 use Rattle.smt_laws.specs.TermLaws.{TreeEqualityDecides}
-
-pub and_left : (a b : Bool) → (a && b) ≡ true → a ≡ true
-and_left true b h = refl
-and_left false b h = h
-
-pub and_right : (a b : Bool) → (a && b) ≡ true → b ≡ true
-and_right true b h = h
-and_right false b h = cc
 
 operator-true : (o p : Operator) → nat_eq (operator_number o) (operator_number p) ≡ true → o ≡ p
 operator-true o p h = sym (operator_back o) ∙ ap operator_at (eqb-true (operator_number o) (operator_number p) h) ∙ operator_back p

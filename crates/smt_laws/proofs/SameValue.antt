@@ -1,5 +1,5 @@
 -- The tests for equal numbers and equal values.
-use Rattle.std.proofs.Common.{◌≡◌, eq-eqb, ap, refl, Bool, true, false}
+use Rattle.std.proofs.Common.{◌≡◌, eq-eqb, ap, refl, true, false}
 use Rattle.std.specs.Prelude.{ℤ, pos, negsuc}
 use Rattle.std.proofs.lemmas.Bool.{eqb-true}
 use Rattle.smt_meaning.specs.declared.values.Value.{Value}

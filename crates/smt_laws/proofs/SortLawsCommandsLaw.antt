@@ -1,5 +1,5 @@
 -- Commands keep the signature's functions usable, and assert terms of the sort Bool.
-use Rattle.std.proofs.Common.{◌≡◌, ℕ, ◌+◌, ◌<◌, List, [], ◌∷◌, ◌++◌, All, map, length, sym, subst, ◌∙◌, refl, Bool, true, false, Option, Some, None, append_assoc}
+use Rattle.std.proofs.Common.{◌≡◌, ℕ, ◌+◌, ◌<◌, List, [], ◌∷◌, ◌++◌, All, length, sym, subst, ◌∙◌, refl, Bool, true, false, Option, Some, None, append_assoc}
 use Rattle.std.specs.Prelude.{ℤ, codes, if◌then◌else◌}
 use Rattle.std.proofs.lemmas.List.{length-append}
 use Rattle.smt_meaning.specs.declared.values.Sort.{Sort}
@@ -7,7 +7,7 @@ use Rattle.smt_meaning.specs.declared.values.Sort.TheVariants.{Bool as Truths, F
 use Rattle.smt_meaning.specs.declared.terms.Head.TheVariants.{Place}
 use Rattle.smt_meaning.specs.declared.tokens.Token.{Token}
 use Rattle.smt_meaning.specs.Declaration.{Declaration}
-use Rattle.smt_meaning.specs.Term.{Tree, node, none}
+use Rattle.smt_meaning.specs.Term.{node, none}
 use Rattle.smt_meaning.specs.Sexp.{sexp}
 use Rattle.smt_meaning.specs.Signature.{is_symbol}
 use Rattle.smt_meaning.specs.Sorts.{Scope, Outcome, done, refused, Judging, ◌>>◌, return, declare, Typed, Variable, judge}
@@ -18,7 +18,8 @@ use Rattle.smt_meaning.specs.declared.commands.WrittenSort.TheVariants.{Name, Ap
 use Rattle.smt_meaning.specs.declared.commands.Parameter.{Parameter}
 use Rattle.smt_meaning.specs.declared.commands.Command.{Command}
 use Rattle.smt_meaning.specs.declared.commands.Command.TheVariants.{SetOption, DeclareSort, DefineSort, DeclareConst, DeclareFun, DefineFun, Assert, CheckSatAssuming, Push, Pop, GetValue, ResetAssertions, Reset, Minimize}
-use Rattle.smt_laws.proofs.Among.{Among, among_first, among_rest}
+use Rattle.smt_laws.proofs.Among.{Among}
+use Rattle.smt_laws.proofs.VariableTrees.{among_them, with_trees}
 use Rattle.smt_laws.proofs.PlacesLaw.{place_sort, HasSort, sort_later}
 use Rattle.smt_laws.proofs.Signatures.{sort_eq-sound, Usable, Good, symbol_usable, defined_usable}
 use Rattle.smt_laws.proofs.SortLawsJudgements.{Naming, After, after_self, nothing_more, Ends, Gives, Nothing, bind_gives, next_gives, return_gives, refuse_gives, require_gives, required_gives, scope_then, Fine, declare_gives, weaken}
@@ -118,16 +119,6 @@ parameters_give k before (p ∷ ps) s =
 place_at : (us vs : List Variable) (v : Variable) → place_sort (sorts_of_variables (us ++ v ∷ vs)) (length us) ≡ Some v.term.sort
 place_at [] vs v = refl
 place_at (u ∷ us) vs v = place_at us vs v
-
-abbrev tree_of : Variable → Tree
-tree_of v = v.term.tree
-
-among_them : (us vs : List Variable) (v : Variable) → Among v.term.tree (map tree_of (us ++ v ∷ vs))
-among_them [] vs v = among_first v.term.tree (map tree_of vs)
-among_them (u ∷ us) vs v = among_rest v.term.tree u.term.tree (map tree_of (us ++ v ∷ vs)) (among_them us vs v)
-
-abbrev with_trees : Scope → List Variable → Scope
-with_trees s vs = record s { trees = map tree_of vs }
 
 places_fine : (s : Scope) (us vs : List Variable) → ArePlaces (length us) vs → VariablesFine (sorts_of_variables (us ++ vs)) vs (with_trees s (us ++ vs))
 places_fine s us [] h = tt

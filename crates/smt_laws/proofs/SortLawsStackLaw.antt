@@ -15,6 +15,7 @@ use Rattle.smt_meaning.specs.Stack.{Frame, Assertion, signature_of, assertions_o
 use Rattle.smt_meaning.specs.StackCommand.{Stack, start, Change, declares, asserts, asks, assumes, sets, pushes, pops, clears, begins_again, is_unsupported, set_global, stack_command, scope_of, judged, new_declarations, changed, after_outcome, after_command, after, after_all}
 use Rattle.smt_meaning.specs.declared.commands.Command.{Command}
 use Rattle.smt_laws.specs.SortLaws.{AcceptedTermHasItsSort, AssertionsAreTruths, AssertionsAreTruthsAtTheirLevels, PartsAreAmongTheTrees}
+use Rattle.smt_laws.proofs.FrontAndBack.{all_front, all_back}
 use Rattle.smt_laws.proofs.PlacesLaw.{HasSort, closed_sort, LaterThan, later_self, later_still, later_front, later_more, sort_later}
 use Rattle.smt_laws.proofs.Signatures.{AllUsable, all_usable_later, usable_append, usable_back, Good}
 use Rattle.smt_meaning.specs.TreeShape.{is_among}
@@ -24,14 +25,6 @@ use Rattle.smt_laws.proofs.OrderLaw.{Ordered, part_among, all_ordered}
 use Rattle.smt_laws.proofs.SortLawsJudgements.{Naming, After, Ends, Fine}
 use Rattle.smt_laws.proofs.SortLawsTermsLaw.{judge_gives}
 use Rattle.smt_laws.proofs.SortLawsCommandsLaw.{Declaring, Does, KeepsIfSome, command_keeps}
-
-all_front : (P : Declaration → Type 0) (ds es : List Declaration) → All P (ds ++ es) → All P ds
-all_front P [] es h = All-nil P
-all_front P (d ∷ ds) es h = All-cons P d ds (All-head P d (ds ++ es) h) (all_front P ds es (All-tail P d (ds ++ es) h))
-
-all_back : (P : Declaration → Type 0) (ds es : List Declaration) → All P (ds ++ es) → All P es
-all_back P [] es h = h
-all_back P (d ∷ ds) es h = all_back P ds es (All-tail P d (ds ++ es) h)
 
 -- ---- declarations behind which others stand, and between which others stand
 

@@ -1,4 +1,5 @@
 -- Facts of the elements of a list and of its pairs, where an element is put in or some are taken out.
+pub use Rattle.smt_laws.proofs.FrontAndBack.{all_front as All-first, all_back as All-last}
 use Rattle.std.proofs.Common.{◌≡◌, ℕ, suc, ◌+◌, ◌≤◌, List, [], ◌∷◌, ◌++◌, length, take, drop, All, sym, ap, ◌∙◌, subst, arith, append_assoc, length-append}
 use Rattle.std.specs.Prelude.{AllPairs, insert}
 use Rattle.std.proofs.lemmas.List.{length-take, length-drop, length_push, take-append-drop, take-append-le, take-take, take_all, drop_at, drop-take}
@@ -21,14 +22,6 @@ AllPairs-append R [] ys left right across = right
 AllPairs-append R (x ∷ xs) ys left right across =
     AllPairs-cons R x (xs ++ ys) (All-append (R x) xs ys (AllPairs-head R x xs left) (All-head (λ z. All (R z) ys) x xs across))
     (AllPairs-append R xs ys (AllPairs-tail R x xs left) right (All-tail (λ z. All (R z) ys) x xs across))
-
-pub All-first : {X : Type 0} (P : X → Type 0) (xs ys : List X) → All P (xs ++ ys) → All P xs
-All-first P [] ys h = All-nil P
-All-first P (x ∷ xs) ys h = All-cons P x xs (All-head P x (xs ++ ys) h) (All-first P xs ys (All-tail P x (xs ++ ys) h))
-
-pub All-last : {X : Type 0} (P : X → Type 0) (xs ys : List X) → All P (xs ++ ys) → All P ys
-All-last P [] ys h = h
-All-last P (x ∷ xs) ys h = All-last P xs ys (All-tail P x (xs ++ ys) h)
 
 AllPairs-left : {X : Type 0} (R : X → X → Type 0) (xs ys : List X) → AllPairs R (xs ++ ys) → AllPairs R xs
 AllPairs-left R [] ys h = AllPairs-nil R

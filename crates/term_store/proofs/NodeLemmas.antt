@@ -12,6 +12,7 @@ use Rattle.term_store.specs.Terms.{tree_with, IsPlace, IsNew, AreDifferent}
 use Rattle.term_store.specs.Nodes.{HasNode, HasNoNode}
 use Rattle.smt_meaning.specs.Nodes.{trees_from, trees_of, AreNodes}
 use Rattle.smt_meaning.specs.declared.nodes.Node.{Node}
+use Rattle.term_store.proofs.RowLemmas.{earlier_push, earlier_take}
 
 pub length-trees_from : (ts : List Tree) (ns : List Node) → length (trees_from ts ns) ≡ length ts + length ns
 length-trees_from ts [] = omega arith
@@ -84,18 +85,10 @@ tree_at-nodes ns k d nodes h =
     (tree_at-from [] ns k d h (subst (λ j. All (λ i. i < j) (get_or ns k d).arguments) (sym zero_k) (nodes k d h)))
 
 pub AreNodes-push : (ns : List Node) (n : Node) → AreNodes ns → All (λ i. i < length ns) n.arguments → AreNodes (ns ++ n ∷ [])
-AreNodes-push ns n nodes args k d h =
-    elim (cases_lt k (length ns)) [
-      | inl below ↦ rw (get_or_append_left ns (n ∷ []) d k below) (nodes k d below)
-      | inr above ↦
-          let at_end : length ns ≡ k = omega (arith, length_push ns n) in
-          subst (λ j. All (λ i. i < j) (get_or (ns ++ n ∷ []) j d).arguments) at_end (rw (get_or-append_seam ns n [] d) args)
-    ]
+AreNodes-push = earlier_push (λ n. n.arguments)
 
 pub AreNodes-take : (ns : List Node) (m : ℕ) → m ≤ length ns → AreNodes ns → AreNodes (take m ns)
-AreNodes-take ns m short nodes k d h =
-    let size : length (take m ns) ≡ m = length-take-le m ns short in
-    rw (get_or-take m ns k d (omega arith)) (nodes k d (omega arith))
+AreNodes-take = earlier_take (λ n. n.arguments)
 
 -- ---- different trees
 

@@ -1,61 +1,33 @@
 -- Terms that are put behind others, and how many there are then.
 use Rattle.std.proofs.Common.{◌≡◌, ◌⊎◌, inl, inr, ℕ, zero, suc, ◌+◌, ◌<◌, ◌≤◌, Bool, true, false, List, [], ◌∷◌, ◌++◌, length, map, take, drop, All, slice_index, ap, ap₂, sym, subst, ◌∙◌, refl, arith}
 use Rattle.std.specs.Prelude.{IsFalse, if◌then◌else◌}
-use Rattle.std.proofs.Common.{append_assoc, append-nil}
 use Rattle.std.proofs.lemmas.List.{length-append, get_or_append_left, get_or_push, length_push, take_at, take-append-drop}
 use Rattle.std.proofs.lemmas.List.Elements.{All-nil, All-cons, All-head, All-tail}
 use Rattle.smt_meaning.specs.declared.terms.Head.{Head}
-use Rattle.smt_meaning.specs.Term.{Tree, Trees, node, none, more, tree_at}
+use Rattle.smt_meaning.specs.Term.{Tree, node, more, tree_at}
 use Rattle.smt_meaning.specs.TreeShape.{is_among, with_tree, with_parts, with_all_parts}
 use Rattle.smt_meaning.specs.Nodes.{pick}
 use Rattle.smt_meaning.specs.Sorts.{with_all}
 use Rattle.term_store.specs.Terms.{Terms, tree_with, IsPlace, IsFullFor, AreComplete}
 use Rattle.term_store.specs.Room.{ArePlaces}
+use Rattle.smt_laws.proofs.GrownTrees.{Grown, all_grown}
 use Rattle.term_store.proofs.Joining.{with_all-push, with_all-append}
 
 -- ---- longer lists
 
-abbrev pub Longer : List Tree → List Tree → Type 0
-Longer ts us = (vs : List Tree) × (us ≡ ts ++ vs)
-
-same_longer : (ts : List Tree) → Longer ts ts
-same_longer ts = ([], sym (append-nil ts))
-
-still_longer : (ts us vs : List Tree) → Longer ts us → Longer us vs → Longer ts vs
-still_longer ts us vs h g = (h.0 ++ g.0, g.1 ∙ ap (λ xs. xs ++ g.0) h.1 ∙ append_assoc ts h.0 g.0)
-
-longer_tree : (ts : List Tree) (t : Tree) → Longer ts (with_tree ts t)
-longer_tree ts t = go (is_among t ts)
-  where
-    go : (b : Bool) → Longer ts (if b then ts else ts ++ t ∷ [])
-    go true = same_longer ts
-    go false = (t ∷ [], refl)
-
-mutual
-  pub longer_parts : (ts : List Tree) (t : Tree) → Longer ts (with_parts ts t)
-  longer_parts ts (node h us) = still_longer ts (with_all_parts ts us) (with_parts ts (node h us)) (longer_all_parts ts us) (longer_tree (with_all_parts ts us) (node h us))
-
-  longer_all_parts : (ts : List Tree) (us : Trees) → Longer ts (with_all_parts ts us)
-  longer_all_parts ts none = same_longer ts
-  longer_all_parts ts (more u us) = still_longer ts (with_parts ts u) (with_all_parts (with_parts ts u) us) (longer_parts ts u) (longer_all_parts (with_parts ts u) us)
-
-longer_all : (ts us : List Tree) → Longer ts (with_all ts us)
-longer_all ts [] = same_longer ts
-longer_all ts (u ∷ us) = still_longer ts (with_parts ts u) (with_all (with_parts ts u) us) (longer_parts ts u) (longer_all (with_parts ts u) us)
-
-at_least : (ts us : List Tree) → Longer ts us → length ts ≤ length us
-at_least ts us h = let e : length us ≡ length ts + length h.0 = ap length h.1 ∙ length-append ts h.0 in omega (arith, e)
+at_least : (ts us : List Tree) → Grown ts us → length ts ≤ length us
+at_least ts us h = let e : length us ≡ length ts + length h.joined = ap length h.is ∙ length-append ts h.joined in omega (arith, e)
 
 -- the list of before stands first
 pub stands_first : (ts us : List Tree) → take (length ts) (with_all ts us) ≡ ts
-stands_first ts us = let h : Longer ts (with_all ts us) = longer_all ts us in ap (take (length ts)) h.1 ∙ take_at ts h.0 (length ts) refl
+stands_first ts us = let h : Grown ts (with_all ts us) = all_grown ts us in ap (take (length ts)) h.is ∙ take_at ts h.joined (length ts) refl
 
 -- ---- places
 
-place_longer : (ts us : List Tree) (i : ℕ) (t : Tree) → Longer ts us → IsPlace ts i t → IsPlace us i t
+place_longer : (ts us : List Tree) (i : ℕ) (t : Tree) → Grown ts us → IsPlace ts i t → IsPlace us i t
 place_longer ts us i t h p =
     let e : length ts ≤ length us = at_least ts us h in
-    (omega (arith, p.0, e), ap (λ xs. tree_at xs i) h.1 ∙ get_or_append_left ts h.0 _ i p.0 ∙ p.1)
+    (omega (arith, p.0, e), ap (λ xs. tree_at xs i) h.is ∙ get_or_append_left ts h.joined _ i p.0 ∙ p.1)
 
 last_or_before : (n k : ℕ) → k < n + 1 → (k < n) ⊎ (n ≡ k)
 last_or_before zero zero h = inr refl
@@ -63,7 +35,7 @@ last_or_before zero (suc k) h = absurd (omega arith)
 last_or_before (suc n) zero h = inl (omega arith)
 last_or_before (suc n) (suc k) h = elim (last_or_before n k (omega arith)) [ inl l ↦ inl (omega arith) | inr e ↦ inr (ap suc e) ]
 
-pub places_more : (others : List Tree) (places now : List ℕ) (ts us : List Tree) (id p : ℕ) → length places ≡ id → now ≡ places ++ p ∷ [] → ArePlaces others places ts → Longer ts us → IsPlace us p (tree_at others id) → ArePlaces others now us
+pub places_more : (others : List Tree) (places now : List ℕ) (ts us : List Tree) (id p : ℕ) → length places ≡ id → now ≡ places ++ p ∷ [] → ArePlaces others places ts → Grown ts us → IsPlace us p (tree_at others id) → ArePlaces others now us
 places_more others places now ts us id p n e a l h = subst (λ ps. ArePlaces others ps us) (sym e) each
   where
     each : ArePlaces others (places ++ p ∷ []) us
@@ -135,7 +107,7 @@ pub all_too_many : (ts us : List Tree) (i limit : ℕ) → i < length us → lim
 all_too_many ts us i limit h lt =
     let so : with_parts (with_all ts (take i us)) (tree_at us i) ≡ with_all ts (take (i + 1) us) = next_put ts us (with_parts (with_all ts (take i us)) (tree_at us i)) i h refl in
     let le : length (with_all ts (take (i + 1) us)) ≤ length (with_all (with_all ts (take (i + 1) us)) (drop (i + 1) us)) =
-    at_least (with_all ts (take (i + 1) us)) (with_all (with_all ts (take (i + 1) us)) (drop (i + 1) us)) (longer_all (with_all ts (take (i + 1) us)) (drop (i + 1) us)) in
+    at_least (with_all ts (take (i + 1) us)) (with_all (with_all ts (take (i + 1) us)) (drop (i + 1) us)) (all_grown (with_all ts (take (i + 1) us)) (drop (i + 1) us)) in
     let all : with_all (with_all ts (take (i + 1) us)) (drop (i + 1) us) ≡ with_all ts us =
     sym (with_all-append ts (take (i + 1) us) (drop (i + 1) us)) ∙ ap (with_all ts) (take-append-drop (i + 1) us) in
     let m : length (with_parts (with_all ts (take i us)) (tree_at us i)) ≡ length (with_all ts (take (i + 1) us)) = ap length so in

@@ -5,4 +5,5 @@ pub mod Latest
 pub mod Newest
 pub mod Alike
 pub mod Room
+pub mod Rows
 pub mod Divisors

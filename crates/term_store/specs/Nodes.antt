@@ -1,33 +1,26 @@
--- How a store keeps its trees: a list of nodes, each of which names earlier ones as its arguments, with all arguments in one list.
-use Rattle.std.specs.Prelude.{◌≡◌, ◌≢◌, ℕ, ◌<◌, ◌≤◌, ◌^◌, List, length, map, slice_index_or, slice_range}
+-- How a store keeps its trees: a list of nodes, each of which names earlier ones as its arguments, as rows.
+use Rattle.std.specs.Prelude.{◌≡◌, ◌≢◌, ℕ, ◌<◌, ◌≤◌, ◌^◌, List, length, map, slice_index_or}
+use Rattle.smt_meaning.specs.declared.terms.Head.{Head}
 use Rattle.smt_meaning.specs.declared.nodes.Node.{Node}
 use Rattle.smt_meaning.specs.Nodes.{trees_of, AreNodes}
-use Rattle.term_store.specs.declared.store.Entry.{Entry}
 use Rattle.term_store.specs.Terms.{AreDifferent}
 use Rattle.term_store.specs.Hash.{node_hash}
 
-abbrev pub plain : List ℕ → Entry → Node
-plain arguments e = record { head = e.head; arguments = slice_range arguments e.start e.end }
+abbrev pub plain : Head → List ℕ → Node
+plain head arguments = record { head = head; arguments = arguments }
 
-abbrev pub nodes_of : List ℕ → List Entry → List Node
-nodes_of arguments es = map (plain arguments) es
-
--- each node's arguments are a part of the list, and the parts are in order
-pub record AreLaid (size : ℕ) (es : List Entry) : Type 0 where
-  pub starts : (k : ℕ) (d : Entry) → k < length es → (slice_index_or es k d).start ≤ (slice_index_or es k d).end
-  pub ends : (k : ℕ) (d : Entry) → k < length es → (slice_index_or es k d).end ≤ size
-  pub order : (j k : ℕ) (d : Entry) → j < k → k < length es → (slice_index_or es j d).end ≤ (slice_index_or es k d).start
+abbrev pub nodes_of : List (Head × List ℕ) → List Node
+nodes_of rows = map (λ r. plain r.0 r.1) rows
 
 abbrev pub plain_hash : Node → ℕ
 plain_hash n = node_hash n.head n.arguments
 
-pub record IsStore (limit : ℕ) (es : List Entry) (arguments hashes : List ℕ) : Type 0 where
-  pub within : length es ≤ limit
+pub record IsStore (limit : ℕ) (rows : List (Head × List ℕ)) (hashes : List ℕ) : Type 0 where
+  pub within : length rows ≤ limit
   pub bounded : limit < 2 ^ 32
-  pub laid : AreLaid (length arguments) es
-  pub earlier : AreNodes (nodes_of arguments es)
-  pub different : AreDifferent (trees_of (nodes_of arguments es))
-  pub hashed : hashes ≡ map plain_hash (nodes_of arguments es)
+  pub earlier : AreNodes (nodes_of rows)
+  pub different : AreDifferent (trees_of (nodes_of rows))
+  pub hashed : hashes ≡ map plain_hash (nodes_of rows)
 
 -- the node is at this place
 pub record HasNode (ns : List Node) (i : ℕ) (n : Node) : Type 0 where

@@ -6,6 +6,8 @@
 //! term. `Full` exactly where the limit is reached and the term isn't there; after want of memory
 //! the store is as before.
 //!
+//! `Rows`: a list of rows, each a head and a list of numbers, with all the numbers in one list.
+//!
 //! `find`, `hash`, `Named`: of items whose names' hashes are filed in order, the place of the last
 //! one of a name, or that none has it; equal names have one hash.
 //!
@@ -25,6 +27,7 @@ mod divisors;
 mod index;
 mod lookup;
 mod room;
+mod rows;
 mod steps;
 mod store;
 mod term_store_hash;
@@ -33,9 +36,10 @@ pub use divisors::{is_divisor, is_quotient_of};
 pub use index::HashIndex;
 pub use lookup::{Named, find, hash};
 pub use room::lacks_room;
+pub use rows::Rows;
 pub use steps::Steps;
 pub use store::{InternError, Node, TermStore};
-pub use term_store_hash::mix;
+pub use term_store_hash::{mix, mix_value};
 
 /// A term has the same sort and tree, or the same refusal, whatever terms were judged before, and what is judged on the way joins them in order.
 pub fn terms_join_alike()

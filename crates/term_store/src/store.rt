@@ -1,9 +1,11 @@
 //! Terms by number.
-ghost use Rattle.std.specs.Prelude.{◌≡◌, ◌<◌, ◌≤◌, ◌↔◌, [], ◌∷◌, ◌++◌, length, take, map, slice_range, OnOk, OnErr, IfOk, IfSome, IfNone, All, IsTrue};
+ghost use Rattle.std.specs.Prelude.{◌≡◌, ◌<◌, ◌≤◌, ◌↔◌, ℕ, List, [], ◌∷◌, ◌++◌, length, take, map, slice_index_or, OnOk, OnErr, IfOk, IfSome, IfNone, All, IsTrue};
 ghost use Rattle.term_store.specs.Hash.{node_hash};
-ghost use Rattle.term_store.specs.Nodes.{plain, nodes_of, plain_hash, AreLaid, HasNode, HasNoNode};
+ghost use Rattle.smt_meaning.specs.declared.nodes.Node.{Node as NodeOf};
+ghost use Rattle.term_store.specs.Nodes.{plain, nodes_of, plain_hash, HasNode, HasNoNode};
 
 use crate::index::HashIndex;
+use crate::rows::Rows;
 use crate::term_store_hash;
 use smt_meaning::{Head, TermId};
 use std::alloc::{AllocError, Global};
@@ -36,19 +38,10 @@ impl From<AllocError> for InternError {
     }
 }
 
-/// What is kept of a node: its head, and where its arguments begin and end in the list of all arguments.
-#[derive(Clone, Copy, Drop)]
-struct Entry {
-    head: Head,
-    start: usize,
-    end: usize,
-}
-
 /// A list of different terms, of at most so many. Each term's arguments stand before it, and its number is its place.
 #[derive(Drop)]
 pub struct TermStore {
-    entries: Vec<Entry>,
-    arguments: Vec<TermId>,
+    rows: Rows<Head>,
     index: HashIndex,
     limit: u32,
 }
@@ -60,77 +53,49 @@ impl Model for TermStore {
 
     ghost coded = { terms_code };
 
-    ghost use Rattle.term_store.specs.Nodes.{nodes_of, IsStore};
+    ghost use Rattle.smt_meaning.specs.declared.nodes.Node.{Node as NodeOf};
+    ghost use Rattle.term_store.specs.Nodes.{plain, nodes_of, IsStore};
     ghost use Rattle.smt_meaning.specs.Nodes.{trees_of};
 
-    ghost view = { λ a. record { limit = a.limit; trees = trees_of (nodes_of a.arguments.items a.entries.items) } };
+    ghost view = { λ a. record { limit = a.limit; trees = trees_of (nodes_of a.rows) } };
 
-    ghost invariant = { λ a. IsStore a.limit a.entries.items a.arguments.items a.index };
+    ghost invariant = { λ a. IsStore a.limit a.rows a.index };
 }
 
-/// The arguments from one place to another.
-fn part(all: &[TermId], start: usize, end: usize) -> &[TermId]
-    requires order { start ≤ end }
-    requires within { end ≤ length all.now }
-    ensures { result.now ≡ slice_range all.now start end }
+/// Whether two nodes have the same head and the same arguments.
+fn is_same(left: Node<'_>, right: Node<'_>) -> bool
+    ensures { IsTrue result ↔ (plain left.entry.head left.entry.arguments.now ≡ plain right.entry.head right.entry.arguments.now) }
 {
-    &all[start..end]
+    left.head == right.head && left.arguments == right.arguments
 }
 
-/// Whether a node has this head and these arguments.
-fn is_node(entry: &Entry, all: &[TermId], head: Head, arguments: &[TermId]) -> bool
-    requires order { entry.now.start ≤ entry.now.end }
-    requires within { entry.now.end ≤ length all.now }
-    ensures { IsTrue result ↔ (plain all.now entry.now ≡ record { head = head; arguments = arguments.now }) }
+/// A row as a node.
+fn node_at<'a>(rows: &'a Rows<Head>, place: usize) -> Node<'a>
+    requires { place < length rows.now }
+    ensures { (d : NodeOf) → slice_index_or (nodes_of rows.now) place d ≡ plain result.head result.arguments.now }
 {
-    entry.head == head && part(all, entry.start, entry.end) == arguments
+    Node {
+        head: rows.head(place),
+        arguments: rows.numbers(place),
+    }
 }
 
 /// The place of the node with this head, these arguments and their hash.
-fn find(
-    entries: &[Entry],
-    all: &[TermId],
-    index: &HashIndex,
-    hash: u32,
-    head: Head,
-    arguments: &[TermId],
-) -> Option<TermId>
-    requires laid { AreLaid (length all.now) entries.now }
-    requires hashed { index.now ≡ map plain_hash (nodes_of all.now entries.now) }
-    requires hash { hash ≡ node_hash head arguments.now }
-    ensures some { IfSome result (λ i. HasNode (nodes_of all.now entries.now) i (record { head = head; arguments = arguments.now })) }
-    ensures none { IfNone result (HasNoNode (nodes_of all.now entries.now) (record { head = head; arguments = arguments.now })) }
+fn find(rows: &Rows<Head>, index: &HashIndex, hash: u32, node: Node<'_>) -> Option<TermId>
+    requires hashed { index.now ≡ map plain_hash (nodes_of rows.now) }
+    requires hash { hash ≡ node_hash node.head node.arguments.now }
+    ensures some { IfSome result (λ i. HasNode (nodes_of rows.now) i (plain node.entry.head node.entry.arguments.now)) }
+    ensures none { IfNone result (HasNoNode (nodes_of rows.now) (plain node.entry.head node.entry.arguments.now)) }
 {
     let mut link = index.last(hash);
     while link > 0 {
         let place = (link - 1) as usize;
-        if is_node(&entries[place], all, head, arguments) {
+        if is_same(node_at(rows, place), node) {
             return Some(link - 1);
         }
         link = index.before(place);
     }
     None
-}
-
-/// Adds a node at the end. An `Err` changes nothing.
-fn append(
-    entries: &mut Vec<Entry>,
-    all: &mut Vec<TermId>,
-    head: Head,
-    arguments: &[TermId],
-) -> Result<(), AllocError>
-    ensures entries { OnOk result (entries.new.items ≡ entries.old.items ++ record { head = head; start = length all.old.items; end = length all.new.items } ∷ []) }
-    ensures arguments { OnOk result (all.new.items ≡ all.old.items ++ arguments.now) }
-    ensures err { OnErr result ((entries.new.items ≡ entries.old.items) × (all.new.items ≡ all.old.items)) }
-{
-    let start = all.len();
-    all.extend_from_slice(arguments)?;
-    let end = all.len();
-    if entries.push(Entry { head, start, end }).is_err() {
-        all.truncate(start);
-        return Err(AllocError);
-    }
-    Ok(())
 }
 
 impl TermStore {
@@ -143,8 +108,7 @@ impl TermStore {
         ensures { result ≡ record { limit = limit; trees = [] } }
     {
         TermStore {
-            entries: Vec::new(alloc),
-            arguments: Vec::new(alloc),
+            rows: Rows::new(alloc),
             index: HashIndex::new(alloc),
             limit,
         }
@@ -164,7 +128,7 @@ impl TermStore {
         ensures different { AreDifferent self.now.trees }
         ensures parts { AreComplete self.now.trees }
     {
-        self.entries.len() as u32
+        self.rows.len() as u32
     }
 
     /// The node of a term.
@@ -173,11 +137,7 @@ impl TermStore {
         ensures tree { tree_at self.now.trees id ≡ tree_with self.now.trees result.head result.arguments.now }
         ensures earlier { All (λ i. i < id) result.arguments.now }
     {
-        let entry = &self.entries[id as usize];
-        Node {
-            head: entry.head,
-            arguments: part(&self.arguments, entry.start, entry.end),
-        }
+        node_at(&self.rows, id as usize)
     }
 
     /// The place of a term, by its node's hash.
@@ -188,14 +148,7 @@ impl TermStore {
         ensures none { IfNone result (IsNew self.now.trees (tree_with self.now.trees head arguments.now)) }
         ensures different { AreDifferent self.now.trees }
     {
-        find(
-            &self.entries,
-            &self.arguments,
-            &self.index,
-            hash,
-            head,
-            arguments,
-        )
+        find(&self.rows, &self.index, hash, Node { head, arguments })
     }
 
     /// Adds a term at the end. An `Err`, for want of memory, changes nothing.
@@ -207,13 +160,13 @@ impl TermStore {
         ensures ok { OnOk result (self.new ≡ record { limit = self.old.limit; trees = self.old.trees ++ tree_with self.old.trees head arguments.now ∷ [] }) }
         ensures err { OnErr result (self.new ≡ self.old) }
     {
-        let count = self.entries.len();
+        let count = self.rows.len();
         self.index.push(hash)?;
-        let appended = append(&mut self.entries, &mut self.arguments, head, arguments);
-        if appended.is_err() {
+        let added = self.rows.push(head, arguments);
+        if added.is_err() {
             self.index.truncate(count);
         }
-        appended
+        added
     }
 
     /// The number of the term with this head and these arguments. It is stored unless it was before. `Full` comes exactly where as many terms as
@@ -244,11 +197,7 @@ impl TermStore {
         ensures { self.new ≡ record { limit = self.old.limit; trees = take len self.old.trees } }
     {
         let count = len as usize;
-        if count < self.entries.len() {
-            let start = self.entries[count].start;
-            self.entries.truncate(count);
-            self.arguments.truncate(start);
-            self.index.truncate(count);
-        }
+        self.rows.truncate(count);
+        self.index.truncate(count);
     }
 }

@@ -7,7 +7,8 @@ use Rattle.term_store.specs.Terms.{tree_with, IsPlace}
 use Rattle.term_store.specs.declared.store.InternError.{InternError}
 use Rattle.term_store.specs.declared.store.InternError.TheVariants.{Full}
 use Rattle.term_store.specs.Room.{ArePlaces}
-use Rattle.term_store.proofs.RoomLemmas.{Longer, all_placed, same_tree, places_more, longer_parts, one_too_many}
+use Rattle.term_store.proofs.RoomLemmas.{all_placed, same_tree, places_more, one_too_many}
+use Rattle.smt_laws.proofs.GrownTrees.{Grown, parts_grown}
 use Rattle.term_store.proofs.room.put.Goals as goal
 
 chosen_are : (places deref chosen is got : List ℕ) → deref ≡ places → got ≡ chosen → chosen ≡ map (slice_index deref) is → got ≡ map (slice_index places) is
@@ -55,5 +56,5 @@ returns-in-Ok-clause-places c =
     same c.args.others.now.trees c.args.places.now.items c.args.store.now.trees c.node-node.result.head c.node-node.result.arguments.now c.deref-2.result.now c.args.id c.requires.places c.requires.size c.node-node.ensures.earlier c.node-node.ensures.tree got in
     places_more c.args.others.now.trees c.args.places.now.items c.push_reserved.new.self.items c.args.store.now.trees c.intern.new.self.trees c.args.id c.in-Ok.place c.requires.size
     (c.push_reserved.ensures.items ∙ ap (λ ps. ps ++ c.in-Ok.place ∷ []) c.reserve.ensures.items) c.requires.places
-    (subst (Longer c.args.store.now.trees) (sym c.in-Ok.ensures.parts) (longer_parts c.args.store.now.trees (tree_with c.args.store.now.trees c.node-node.result.head c.deref-2.result.now)))
+    (subst (Grown c.args.store.now.trees) (sym c.in-Ok.ensures.parts) (parts_grown c.args.store.now.trees (tree_with c.args.store.now.trees c.node-node.result.head c.deref-2.result.now)))
     (subst (IsPlace c.intern.new.self.trees c.in-Ok.place) tree c.in-Ok.ensures.place)

@@ -1,7 +1,7 @@
 use Rattle.std.proofs.Common.{rules, List, sym, ◌∙◌, subst}
 use Rattle.point_closure.specs.declared.classes.Union.{Union}
 use Rattle.point_closure.specs.Unions.{AreUnions}
-use Rattle.point_closure.proofs.GraphLemmas.{at_ok}
+use Rattle.term_store.proofs.StoreLemmas.{at_ok}
 use Rattle.point_closure.specs.Whole.{state_of}
 use Rattle.point_closure.proofs.BackLemmas.{parts_back, rest_back, unions_back, same_points, watch_rest}
 use Rattle.point_closure.proofs.closure.Closure.watch.Goals as goal

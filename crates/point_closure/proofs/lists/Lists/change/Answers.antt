@@ -1,5 +1,5 @@
 use Rattle.std.proofs.Common.{rules, sym, subst}
-use Rattle.point_closure.proofs.GraphLemmas.{at_ok}
+use Rattle.term_store.proofs.StoreLemmas.{at_ok}
 use Rattle.point_closure.specs.Lists.{Listed, IsChangeOf}
 use Rattle.point_closure.proofs.ListsLemmas.{lists_change}
 use Rattle.point_closure.proofs.lists.Lists.change.Goals as goal

@@ -9,14 +9,12 @@ use Rattle.term_store.proofs.store.TermStore.place.Goals as goal
 pub returns-clause-some : goal.returns-clause-some
 returns-clause-some c =
     let n : Node = record { head = c.args.head; arguments = c.args.arguments.now } in
-    let found = rw (c.deref.ensures.value, c.deref-2.ensures.value) at c.find.ensures.some in
     rw (← c.self.view_is)
-    (some_with c.find.result _ _ (λ i has. IsPlace-nodes (nodes_of c.self.inside.arguments.items c.self.inside.entries.items) i n c.self.invariant.earlier has) found)
+    (some_with c.find.result _ _ (λ i has. IsPlace-nodes (nodes_of c.self.inside.rows) i n c.self.invariant.earlier has) c.find.ensures.some)
 
 pub returns-clause-none : goal.returns-clause-none
 returns-clause-none c =
     let n : Node = record { head = c.args.head; arguments = c.args.arguments.now } in
-    let absent = rw (c.deref.ensures.value, c.deref-2.ensures.value) at c.find.ensures.none in
     let below = subst (λ (s : Terms). All (λ i. i < length s.trees) c.args.arguments.now) (sym c.self.view_is) c.requires.below in
     rw (← c.self.view_is)
-    (none_with c.find.result _ _ (λ no'. IsNew-nodes (nodes_of c.self.inside.arguments.items c.self.inside.entries.items) n c.self.invariant.earlier c.self.invariant.different below no') absent)
+    (none_with c.find.result _ _ (λ no'. IsNew-nodes (nodes_of c.self.inside.rows) n c.self.invariant.earlier c.self.invariant.different below no') c.find.ensures.none)
