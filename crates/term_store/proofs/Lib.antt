@@ -2,6 +2,7 @@ pub mod LatestLemmas
 pub mod Links
 pub mod IndexLemmas
 pub mod NodeLemmas
+pub mod Layers
 pub mod StoreLemmas
 pub mod PlaceLemmas
 pub mod PartLemmas
