@@ -1,5 +1,5 @@
 //! Terms of one list are put behind those of another.
-ghost use Rattle.std.specs.Prelude.{◌≡◌, ◌+◌, ◌≤◌, ◌<◌, All, IfOk, OnOk, OnErr, true, false, length, map, slice_index, take};
+ghost use Rattle.std.specs.Prelude.{◌≡◌, ◌+◌, ◌≤◌, ◌<◌, OnOk, OnErr, true, false, length, take};
 ghost use Rattle.smt_meaning.specs.Sorts.{with_all};
 ghost use Rattle.smt_meaning.specs.Term.{tree_at};
 ghost use Rattle.smt_meaning.specs.TreeShape.{with_parts};
