@@ -9,7 +9,7 @@ use Rattle.smt_meaning.specs.declared.terms.Head.TheVariants.{Place}
 use Rattle.smt_meaning.specs.declared.nodes.Node.{Node}
 use Rattle.smt_meaning.specs.Term.{Tree, node, none, tree_at}
 use Rattle.smt_meaning.specs.TreeShape.{is_among, is_constant, is_linear, with_parts}
-use Rattle.smt_meaning.specs.Nodes.{pick, tree_of, trees_from, trees_of, AreNodes, AreNodesAfter}
+use Rattle.smt_meaning.specs.Nodes.{pick, tree_of, trees_from, AreNodesAfter}
 use Rattle.smt_meaning.specs.Sorts.{Variable}
 use Rattle.elaborate.specs.declared.Parameter.{Parameter}
 use Rattle.elaborate.specs.Judged.{parameters_from}
@@ -91,36 +91,6 @@ take_push : (m : ℕ) (ts : List Tree) (d : Tree) → m < length ts → take (su
 take_push m [] d h = absurd (omega arith)
 take_push zero (t ∷ ts) d h = refl
 take_push (suc m) (t ∷ ts) d h = ap (λ us. t ∷ us) (take_push m ts d (omega arith))
-
--- so many nodes are the first trees
-pub record AreFirst (ts : List Tree) (m : ℕ) (ns : List Node) : Type 0 where
-  pub trees : trees_of ns ≡ take m ts
-  pub count : length ns ≡ m
-  pub earlier : AreNodes ns
-
-nodes_push : (ns : List Node) (n : Node) → AreNodes ns → All (λ i. i < length ns) n.arguments → AreNodes (ns ++ n ∷ [])
-nodes_push ns n nodes args k d h =
-    elim (cases_lt k (length ns)) [
-      | inl below ↦ rw (get_or_append_left ns (n ∷ []) d k below) (nodes k d below)
-      | inr above ↦
-          let at_end : length ns ≡ k = omega (arith, length_push ns n) in
-          subst (λ j. All (λ i. i < j) (get_or (ns ++ n ∷ []) j d).arguments) at_end (rw (get_or-append_seam ns n [] d) args)
-    ]
-
-pub none_first : (ts : List Tree) → AreFirst ts 0 []
-none_first ts = record { trees = refl; count = refl; earlier = λ k d h. absurd (omega arith) }
-
-pub one_more : (ts : List Tree) (m : ℕ) (ns ms : List Node) (n : Node) → AreFirst ts m ns → m < length ts → ms ≡ ns ++ n ∷ [] → tree_at ts m ≡ tree_of ts n → All (λ i. i < m) n.arguments → AreFirst ts (suc m) ms
-one_more ts m ns ms n f h e here all =
-    subst (AreFirst ts (suc m)) (sym e) (record {
-      trees =
-          trees_from-append [] ns (n ∷ []) ∙ ap (λ us. us ++ tree_of us n ∷ []) f.trees
-          ∙ ap (λ us. take m ts ++ node n.head us ∷ []) (pick_first ts n.arguments m (omega arith) all)
-          ∙ ap (λ t. take m ts ++ t ∷ []) (sym here)
-          ∙ sym (take_push m ts _ h);
-      count = omega (arith, length_push ns n, f.count);
-      earlier = nodes_push ns n f.earlier (subst (λ j. All (λ i. i < j) n.arguments) (sym f.count) all);
-    })
 
 -- ---- nodes from a place on
 

@@ -2,8 +2,12 @@
 use Rattle.std.proofs.Common.{◌≡◌, ℕ, List, [], drop, map, ap, sym, subst, ◌∙◌, refl, Some, None}
 use Rattle.std.specs.Prelude.{Result, Ok, Err, IfOk, OnErr}
 use Rattle.smt_meaning.specs.declared.tokens.Token.{Token}
-use Rattle.smt_meaning.specs.declared.tokens.Token.TheVariants.{Enter, Leave, Numeral, Decimal, Hex, Binary, Text, Symbol, Reserved, Keyword}
-use Rattle.smt_meaning.specs.declared.tokens.Word.TheVariants.{Exclamation, Underscore, As, Let, Exists, Forall, Match, Par}
+use Rattle.smt_meaning.specs.declared.tokens.Token.TheVariants.{Symbol, Reserved}
+use Rattle.smt_meaning.specs.declared.tokens.TokenView.{TokenView}
+use Rattle.smt_meaning.specs.declared.tokens.TokenView.TheVariants.{Symbol as SymbolSeen, Reserved as ReservedSeen}
+use Rattle.smt_meaning.specs.declared.tokens.Word.{Word}
+use Rattle.smt_meaning.specs.declared.tokens.Word.TheVariants.{Exclamation, Let}
+use Rattle.smt_meaning.specs.Seen.{seen}
 use Rattle.smt_meaning.specs.declared.terms.Operator.{Operator}
 use Rattle.smt_meaning.specs.declared.refusals.Refusal.{Refusal}
 use Rattle.smt_meaning.specs.declared.refusals.Refusal.TheVariants.{ArgumentCount, UnknownSymbol, WrongArguments}
@@ -134,61 +138,19 @@ head_annotation r t tokens p s bs e h =
 pub head_annotation_refused : (r : Rules) (vs : List Variable) (t : Token) (ahead : Sexps) (s : Scope) (why : Refusal) → t ≡ Reserved Exclamation → check_annotation ahead s ≡ refused why → on_head r vs t ahead s ≡ refused why
 head_annotation_refused r vs t ahead s why e h = subst (λ x. on_head r vs x ahead s ≡ refused why) (sym e) (annotation_head r vs ahead s (refused why) h)
 
-pub head_underscore : (r : Rules) (vs : List Variable) (t : Token) (ahead : Sexps) (s : Scope) → t ≡ Reserved Underscore → on_head r vs t ahead s ≡ refused (UnknownSymbol t)
+-- a reserved word that begins no term
+pub head_reserved : (r : Rules) (vs : List Variable) (w : Word) (ahead : Sexps) (s : Scope) → (w ≡ Let → ⊥) → (w ≡ Exclamation → ⊥) → on_head r vs (Reserved w) ahead s ≡ refused (UnknownSymbol (Reserved w))
 unfolding refuse
-head_underscore r vs t ahead s e = subst (λ x. on_head r vs x ahead s ≡ refused (UnknownSymbol x)) (sym e) refl
+head_reserved r vs Let ahead s h k = absurd (h refl)
+head_reserved r vs Exclamation ahead s h k = absurd (k refl)
+head_reserved r vs _ ahead s h k = refl
 
-pub head_as : (r : Rules) (vs : List Variable) (t : Token) (ahead : Sexps) (s : Scope) → t ≡ Reserved As → on_head r vs t ahead s ≡ refused (UnknownSymbol t)
+-- a token that is no word
+pub head_wrong : (r : Rules) (vs : List Variable) (t : TokenView) (ahead : Sexps) (s : Scope) → ((n : _) → t ≡ SymbolSeen n → ⊥) → ((w : Word) → t ≡ ReservedSeen w → ⊥) → on_head r vs (seen t) ahead s ≡ refused WrongArguments
 unfolding refuse
-head_as r vs t ahead s e = subst (λ x. on_head r vs x ahead s ≡ refused (UnknownSymbol x)) (sym e) refl
-
-pub head_exists : (r : Rules) (vs : List Variable) (t : Token) (ahead : Sexps) (s : Scope) → t ≡ Reserved Exists → on_head r vs t ahead s ≡ refused (UnknownSymbol t)
-unfolding refuse
-head_exists r vs t ahead s e = subst (λ x. on_head r vs x ahead s ≡ refused (UnknownSymbol x)) (sym e) refl
-
-pub head_forall : (r : Rules) (vs : List Variable) (t : Token) (ahead : Sexps) (s : Scope) → t ≡ Reserved Forall → on_head r vs t ahead s ≡ refused (UnknownSymbol t)
-unfolding refuse
-head_forall r vs t ahead s e = subst (λ x. on_head r vs x ahead s ≡ refused (UnknownSymbol x)) (sym e) refl
-
-pub head_match : (r : Rules) (vs : List Variable) (t : Token) (ahead : Sexps) (s : Scope) → t ≡ Reserved Match → on_head r vs t ahead s ≡ refused (UnknownSymbol t)
-unfolding refuse
-head_match r vs t ahead s e = subst (λ x. on_head r vs x ahead s ≡ refused (UnknownSymbol x)) (sym e) refl
-
-pub head_par : (r : Rules) (vs : List Variable) (t : Token) (ahead : Sexps) (s : Scope) → t ≡ Reserved Par → on_head r vs t ahead s ≡ refused (UnknownSymbol t)
-unfolding refuse
-head_par r vs t ahead s e = subst (λ x. on_head r vs x ahead s ≡ refused (UnknownSymbol x)) (sym e) refl
-
-pub head_enter : (r : Rules) (vs : List Variable) (t : Token) (ahead : Sexps) (s : Scope) → t ≡ Enter → on_head r vs t ahead s ≡ refused WrongArguments
-unfolding refuse
-head_enter r vs t ahead s e = subst (λ x. on_head r vs x ahead s ≡ refused WrongArguments) (sym e) refl
-
-pub head_leave : (r : Rules) (vs : List Variable) (t : Token) (ahead : Sexps) (s : Scope) → t ≡ Leave → on_head r vs t ahead s ≡ refused WrongArguments
-unfolding refuse
-head_leave r vs t ahead s e = subst (λ x. on_head r vs x ahead s ≡ refused WrongArguments) (sym e) refl
-
-pub head_numeral : (r : Rules) (vs : List Variable) (t : Token) (ahead : Sexps) (s : Scope) (cs : List ℕ) → t ≡ Numeral cs → on_head r vs t ahead s ≡ refused WrongArguments
-unfolding refuse
-head_numeral r vs t ahead s cs e = subst (λ x. on_head r vs x ahead s ≡ refused WrongArguments) (sym e) refl
-
-pub head_decimal : (r : Rules) (vs : List Variable) (t : Token) (ahead : Sexps) (s : Scope) (cs : List ℕ) → t ≡ Decimal cs → on_head r vs t ahead s ≡ refused WrongArguments
-unfolding refuse
-head_decimal r vs t ahead s cs e = subst (λ x. on_head r vs x ahead s ≡ refused WrongArguments) (sym e) refl
-
-pub head_hex : (r : Rules) (vs : List Variable) (t : Token) (ahead : Sexps) (s : Scope) (cs : List ℕ) → t ≡ Hex cs → on_head r vs t ahead s ≡ refused WrongArguments
-unfolding refuse
-head_hex r vs t ahead s cs e = subst (λ x. on_head r vs x ahead s ≡ refused WrongArguments) (sym e) refl
-
-pub head_binary : (r : Rules) (vs : List Variable) (t : Token) (ahead : Sexps) (s : Scope) (cs : List ℕ) → t ≡ Binary cs → on_head r vs t ahead s ≡ refused WrongArguments
-unfolding refuse
-head_binary r vs t ahead s cs e = subst (λ x. on_head r vs x ahead s ≡ refused WrongArguments) (sym e) refl
-
-pub head_text : (r : Rules) (vs : List Variable) (t : Token) (ahead : Sexps) (s : Scope) (cs : List ℕ) → t ≡ Text cs → on_head r vs t ahead s ≡ refused WrongArguments
-unfolding refuse
-head_text r vs t ahead s cs e = subst (λ x. on_head r vs x ahead s ≡ refused WrongArguments) (sym e) refl
-
-pub head_keyword : (r : Rules) (vs : List Variable) (t : Token) (ahead : Sexps) (s : Scope) (cs : List ℕ) → t ≡ Keyword cs → on_head r vs t ahead s ≡ refused WrongArguments
-unfolding refuse
-head_keyword r vs t ahead s cs e = subst (λ x. on_head r vs x ahead s ≡ refused WrongArguments) (sym e) refl
+head_wrong r vs (SymbolSeen n) ahead s h k = absurd (h n refl)
+head_wrong r vs (ReservedSeen w) ahead s h k = absurd (k w refl)
+head_wrong r vs _ ahead s h k = refl
 
 pub let_comes : (r : Rules) (t : Token) (ahead : Sexps) (s : Scope) (tokens : List Token) (bs : List Binding) (y : Result Frame JudgeError) → t ≡ Reserved Let → IsLetHead ahead y → FrameComes (on_head r (map (variable_at s.trees) bs) t ahead) s tokens bs y
 let_comes r t ahead s tokens bs (Ok g) e h = subst (IsFrame (on_head r (map (variable_at s.trees) bs) t ahead) s tokens bs) (sym h.0) (head_let r (map (variable_at s.trees) bs) t ahead s tokens bs e (h.1 s))

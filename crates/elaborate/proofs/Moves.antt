@@ -1,5 +1,5 @@
 -- What a token does, by what may come next.
-use Rattle.std.proofs.Common.{◌≡◌, ℕ, zero, suc, List, [], ◌∷◌, ◌++◌, take, drop, map, append-nil, arith, ap, sym, subst, ◌∙◌, refl, Bool, true, false, Option, Some, None}
+use Rattle.std.proofs.Common.{◌≡◌, ℕ, suc, List, [], ◌∷◌, ◌++◌, take, drop, map, append-nil, arith, ap, sym, subst, ◌∙◌, refl, Bool, true, false, Option, Some, None}
 use Rattle.std.specs.Prelude.{Result, Ok, Err, OnOk, OnErr, nat_eq, if◌then◌else◌}
 use Rattle.std.proofs.lemmas.Bool.Decides.{nat_tests}
 use Rattle.std.proofs.lemmas.List.{map-append, take-append-drop}
@@ -17,6 +17,8 @@ use Rattle.elaborate.specs.declared.frame.Binding.{Binding as Pair}
 use Rattle.elaborate.specs.declared.frame.Frame.{Frame}
 use Rattle.elaborate.specs.declared.frame.Frame.TheVariants.{Opened, Application, Dividing, Division, LetOpen, Bindings, BindingOpen, Bound, BoundTo, Body, Done, Annotation, Attributes, Naming}
 use Rattle.elaborate.specs.declared.frame.Walk.{Walk}
+use Rattle.elaborate.specs.declared.walk.Kind.{Kind}
+use Rattle.elaborate.specs.declared.walk.Kind.TheVariants.{Answered, Attribute, Passed}
 use Rattle.elaborate.specs.declared.error.JudgeError.{JudgeError}
 use Rattle.elaborate.specs.declared.error.JudgeError.TheVariants.{Refused, Memory}
 use Rattle.elaborate.specs.Values.{typed, AreValues, IsLonger, Comes}
@@ -42,55 +44,30 @@ vars_of tokens s bs (Annotation p ∷ fs) = vars_of tokens s bs fs
 vars_of tokens s bs (Attributes v p d ∷ fs) = vars_of tokens s bs fs
 vars_of tokens s bs (Naming v p ∷ fs) = vars_of tokens s bs fs
 
-pub none_awaits_term : (o : Option Value) (fs : List Frame) → awaits_term (kind_of o fs) ≡ true → o ≡ None
-none_awaits_term None fs e = refl
-none_awaits_term (Some v) fs e = absurd (cc)
+pub no : false ≡ true → ⊥
+no e = cc
 
-pub none_is_argument : (o : Option Value) (fs : List Frame) → is_argument (kind_of o fs) ≡ true → o ≡ None
-none_is_argument None fs e = refl
-none_is_argument (Some v) fs e = absurd (cc)
-
-pub none_is_divided : (o : Option Value) (fs : List Frame) → is_divided (kind_of o fs) ≡ true → o ≡ None
-none_is_divided None fs e = refl
-none_is_divided (Some v) fs e = absurd (cc)
-
-pub none_is_head : (o : Option Value) (fs : List Frame) → is_head (kind_of o fs) ≡ true → o ≡ None
-none_is_head None fs e = refl
-none_is_head (Some v) fs e = absurd (cc)
-
-pub none_takes_list : (o : Option Value) (fs : List Frame) → takes_list (kind_of o fs) ≡ true → o ≡ None
-none_takes_list None fs e = refl
-none_takes_list (Some v) fs e = absurd (cc)
-
-pub none_takes_word : (o : Option Value) (fs : List Frame) → takes_word (kind_of o fs) ≡ true → o ≡ None
-none_takes_word None fs e = refl
-none_takes_word (Some v) fs e = absurd (cc)
-
-pub none_may_end : (o : Option Value) (fs : List Frame) → may_end (kind_of o fs) ≡ true → o ≡ None
-none_may_end None fs e = refl
-none_may_end (Some v) fs e = absurd (cc)
+-- no answer has come where what comes is of a kind that isn't an answer's
+pub none_so : (is : Kind → Bool) → is Answered ≡ false → (o : Option Value) (fs : List Frame) → is (kind_of o fs) ≡ true → o ≡ None
+none_so is other None fs e = refl
+none_so is other (Some v) fs e = absurd (no (sym other ∙ e))
 
 pub not_zero : (d : ℕ) → nat_eq (suc d) 0 ≡ false
 not_zero d = grind (arith, nat_tests)
 
-pub no : false ≡ true → ⊥
-no e = cc
-
 -- an attribute's kind is none of these
-attribute_no : (p : Rattle.elaborate.specs.declared.walk.Kind.Kind → Bool) → p Rattle.elaborate.specs.declared.walk.Kind.TheVariants.Attribute ≡ false → p Rattle.elaborate.specs.declared.walk.Kind.TheVariants.Passed ≡ false
-    → (d : ℕ) → p (attribute_kind d) ≡ true → ⊥
+attribute_no : (p : Kind → Bool) → p Attribute ≡ false → p Passed ≡ false → (d : ℕ) → p (attribute_kind d) ≡ true → ⊥
 attribute_no p a b d e = go (nat_eq d 0) e
   where
-    go : (c : Bool) → p (if c then Rattle.elaborate.specs.declared.walk.Kind.TheVariants.Attribute else Rattle.elaborate.specs.declared.walk.Kind.TheVariants.Passed) ≡ true → ⊥
+    go : (c : Bool) → p (if c then Attribute else Passed) ≡ true → ⊥
     go true h = no (sym a ∙ h)
     go false h = no (sym b ∙ h)
 
 -- an attribute's kind is one of these
-attribute_yes : (p : Rattle.elaborate.specs.declared.walk.Kind.Kind → Bool) → p Rattle.elaborate.specs.declared.walk.Kind.TheVariants.Attribute ≡ true → p Rattle.elaborate.specs.declared.walk.Kind.TheVariants.Passed ≡ true
-    → (d : ℕ) → p (attribute_kind d) ≡ false → ⊥
+attribute_yes : (p : Kind → Bool) → p Attribute ≡ true → p Passed ≡ true → (d : ℕ) → p (attribute_kind d) ≡ false → ⊥
 attribute_yes p a b d e = go (nat_eq d 0) e
   where
-    go : (c : Bool) → p (if c then Rattle.elaborate.specs.declared.walk.Kind.TheVariants.Attribute else Rattle.elaborate.specs.declared.walk.Kind.TheVariants.Passed) ≡ false → ⊥
+    go : (c : Bool) → p (if c then Attribute else Passed) ≡ false → ⊥
     go true h = no (sym h ∙ a)
     go false h = no (sym h ∙ b)
 
@@ -98,28 +75,17 @@ attribute_yes p a b d e = go (nat_eq d 0) e
 pub all_wait : (o : Option Value) (fs : List Frame) → awaits_term (kind_of o fs) ≡ true → OthersWait fs → AllWait fs
 all_wait (Some v) fs e h = absurd (cc)
 all_wait None [] e h = tt
-all_wait None (Opened ∷ fs) e h = absurd (cc)
 all_wait None (Application n q vs ∷ fs) e h = (refl, h)
-all_wait None (Dividing n d ∷ fs) e h = absurd (cc)
 all_wait None (Division n vs ∷ fs) e h = (refl, h)
-all_wait None (LetOpen ∷ fs) e h = absurd (cc)
-all_wait None (Bindings xs ∷ fs) e h = absurd (cc)
-all_wait None (BindingOpen xs ∷ fs) e h = absurd (cc)
 all_wait None (Bound xs n ∷ fs) e h = (refl, h)
-all_wait None (BoundTo xs n v ∷ fs) e h = absurd (cc)
 all_wait None (Body k ∷ fs) e h = (refl, h)
-all_wait None (Done v ∷ fs) e h = absurd (cc)
 all_wait None (Annotation p ∷ fs) e h = (refl, h)
 all_wait None (Attributes v p d ∷ fs) e h = absurd (attribute_no awaits_term refl refl d e)
-all_wait None (Naming v p ∷ fs) e h = absurd (cc)
+all_wait None _ e h = absurd (cc)
 
 -- without the innermost frame each waits
 pub rest_waits : (fs : List Frame) (f : Frame) (rest : List Frame) → fs ≡ f ∷ rest → OthersWait fs → AllWait rest
 rest_waits fs f rest e h = subst OthersWait e h
-
-pub none_is_name : (o : Option Value) (fs : List Frame) → is_name (kind_of o fs) ≡ true → o ≡ None
-none_is_name None fs e = refl
-none_is_name (Some v) fs e = absurd (cc)
 
 -- a name of a term comes after its frame alone
 pub name_comes : (w : Walk) (f : Frame) (v : Value) (p : ℕ) (rest : List Frame) → w.answer ≡ None → w.frames ≡ f ∷ rest → f ≡ Naming v p → is_name (kind_of w.answer w.frames) ≡ true
@@ -165,30 +131,23 @@ pub term_word : (r : Rules) (tokens : List Token) (s : Scope) (o : Option Value)
 unfolding ◌>>=◌
 term_word r tokens s (Some v) bs fs t ahead e = absurd (cc)
 term_word r tokens s None bs [] t ahead e = term_shown (whole (map (variable_at s.trees) bs)) [] (judge_token r (map (variable_at s.trees) bs) t s)
-term_word r tokens s None bs (Opened ∷ fs) t ahead e = absurd (cc)
 term_word r tokens s None bs (Application n q vs ∷ fs) t ahead e =
     term_shown (frame_of tokens s bs (Application n q vs)) (frames_of tokens s (outside bs (Application n q vs)) fs) (judge_token r (variables (frames_of tokens s bs (Application n q vs ∷ fs))) t s)
     ∙ ap (λ ys. go_on (judge_token r ys t s) (λ a. return (given_to (frame_of tokens s bs (Application n q vs)) a ∷ frames_of tokens s (outside bs (Application n q vs)) fs))) (vars_of tokens s bs (Application n q vs ∷ fs))
-term_word r tokens s None bs (Dividing n d ∷ fs) t ahead e = absurd (cc)
 term_word r tokens s None bs (Division n vs ∷ fs) t ahead e =
     term_shown (frame_of tokens s bs (Division n vs)) (frames_of tokens s (outside bs (Division n vs)) fs) (judge_token r (variables (frames_of tokens s bs (Division n vs ∷ fs))) t s)
     ∙ ap (λ ys. go_on (judge_token r ys t s) (λ a. return (given_to (frame_of tokens s bs (Division n vs)) a ∷ frames_of tokens s (outside bs (Division n vs)) fs))) (vars_of tokens s bs (Division n vs ∷ fs))
-term_word r tokens s None bs (LetOpen ∷ fs) t ahead e = absurd (cc)
-term_word r tokens s None bs (Bindings xs ∷ fs) t ahead e = absurd (cc)
-term_word r tokens s None bs (BindingOpen xs ∷ fs) t ahead e = absurd (cc)
 term_word r tokens s None bs (Bound xs n ∷ fs) t ahead e =
     term_shown (frame_of tokens s bs (Bound xs n)) (frames_of tokens s (outside bs (Bound xs n)) fs) (judge_token r (variables (frames_of tokens s bs (Bound xs n ∷ fs))) t s)
     ∙ ap (λ ys. go_on (judge_token r ys t s) (λ a. return (given_to (frame_of tokens s bs (Bound xs n)) a ∷ frames_of tokens s (outside bs (Bound xs n)) fs))) (vars_of tokens s bs (Bound xs n ∷ fs))
-term_word r tokens s None bs (BoundTo xs n v ∷ fs) t ahead e = absurd (cc)
 term_word r tokens s None bs (Body k ∷ fs) t ahead e =
     term_shown (frame_of tokens s bs (Body k)) (frames_of tokens s (outside bs (Body k)) fs) (judge_token r (variables (frames_of tokens s bs (Body k ∷ fs))) t s)
     ∙ ap (λ ys. go_on (judge_token r ys t s) (λ a. return (given_to (frame_of tokens s bs (Body k)) a ∷ frames_of tokens s (outside bs (Body k)) fs))) (vars_of tokens s bs (Body k ∷ fs))
-term_word r tokens s None bs (Done v ∷ fs) t ahead e = absurd (cc)
 term_word r tokens s None bs (Annotation p ∷ fs) t ahead e =
     term_shown (frame_of tokens s bs (Annotation p)) (frames_of tokens s (outside bs (Annotation p)) fs) (judge_token r (variables (frames_of tokens s bs (Annotation p ∷ fs))) t s)
     ∙ ap (λ ys. go_on (judge_token r ys t s) (λ a. return (given_to (frame_of tokens s bs (Annotation p)) a ∷ frames_of tokens s (outside bs (Annotation p)) fs))) (vars_of tokens s bs (Annotation p ∷ fs))
 term_word r tokens s None bs (Attributes v p d ∷ fs) t ahead e = absurd (attribute_no awaits_term refl refl d e)
-term_word r tokens s None bs (Naming v p ∷ fs) t ahead e = absurd (cc)
+term_word r tokens s None bs _ t ahead e = absurd (cc)
 
 word_stays : (r : Rules) (tokens : List Token) (w w' : Walk) (v : Value) (t : Token) (ahead : Sexps) (s u : Scope) → Grown s u → Stands s w → awaits_term (kind_of w.answer w.frames) ≡ true
     → judge_token r (map (variable_at s.trees) w.bindings) t s ≡ done (typed u.trees v) u → Given w v w' → on_words r (walk_of tokens s w) t ahead s ≡ done (walk_of tokens u w') u
@@ -213,65 +172,49 @@ word_refused r tokens w w' t ahead s us u (Refused x) k h =
     term_word r tokens s w.answer w.bindings w.frames t ahead k ∙ ap (λ y. go_on y (λ a. return (given_all a (walk_of tokens s w)))) h
 word_refused r tokens w w' t ahead s us u Memory k h = tt
 
+-- ---- where the answer has come
+
+has_answer : (o : Option Value) (fs : List Frame) → is_answered (kind_of o fs) ≡ true → (v : Value) × (o ≡ Some v)
+has_answer (Some v) fs e = (v, refl)
+has_answer None [] e = absurd (cc)
+has_answer None (Attributes v p d ∷ fs) e = absurd (attribute_no is_answered refl refl d e)
+has_answer None _ e = absurd (cc)
+
+answered_stays : (move : List Meant → Judging (List Meant)) (tokens : List Token) (s : Scope) (o : Option Value) (bs : List Pair) (fs : List Frame) → ((v : Value) → move (stack_of tokens s (Some v) bs fs) s ≡ done (stack_of tokens s (Some v) bs fs) s) → is_answered (kind_of o fs) ≡ true
+    → move (stack_of tokens s o bs fs) s ≡ done (stack_of tokens s o bs fs) s
+answered_stays move tokens s o bs fs stays e =
+    let k : (v : Value) × (o ≡ Some v) = has_answer o fs e in
+    subst (λ q. move (stack_of tokens s q bs fs) s ≡ done (stack_of tokens s q bs fs) s) (sym k.1) (stays k.0)
+
 -- ---- `(`
 
 pub enter_answered : (ahead : Sexps) (tokens : List Token) (s : Scope) (o : Option Value) (bs : List Pair) (fs : List Frame) → is_answered (kind_of o fs) ≡ true → on_enter (stack_of tokens s o bs fs) ahead s ≡ done (stack_of tokens s o bs fs) s
 unfolding return
-enter_answered ahead tokens s (Some v) bs fs e = refl
-enter_answered ahead tokens s None bs [] e = absurd (cc)
-enter_answered ahead tokens s None bs (Opened ∷ fs) e = absurd (cc)
-enter_answered ahead tokens s None bs (Application n q vs ∷ fs) e = absurd (cc)
-enter_answered ahead tokens s None bs (Dividing n d ∷ fs) e = absurd (cc)
-enter_answered ahead tokens s None bs (Division n vs ∷ fs) e = absurd (cc)
-enter_answered ahead tokens s None bs (LetOpen ∷ fs) e = absurd (cc)
-enter_answered ahead tokens s None bs (Bindings xs ∷ fs) e = absurd (cc)
-enter_answered ahead tokens s None bs (BindingOpen xs ∷ fs) e = absurd (cc)
-enter_answered ahead tokens s None bs (Bound xs n ∷ fs) e = absurd (cc)
-enter_answered ahead tokens s None bs (BoundTo xs n v ∷ fs) e = absurd (cc)
-enter_answered ahead tokens s None bs (Body k ∷ fs) e = absurd (cc)
-enter_answered ahead tokens s None bs (Done v ∷ fs) e = absurd (cc)
-enter_answered ahead tokens s None bs (Annotation p ∷ fs) e = absurd (cc)
-enter_answered ahead tokens s None bs (Attributes v p d ∷ fs) e = absurd (attribute_no is_answered refl refl d e)
-enter_answered ahead tokens s None bs (Naming v p ∷ fs) e = absurd (cc)
+enter_answered ahead tokens s o bs fs e = answered_stays (λ gs. on_enter gs ahead) tokens s o bs fs (λ v. refl) e
 
 enter_term : (ahead : Sexps) (tokens : List Token) (s : Scope) (o : Option Value) (bs : List Pair) (fs : List Frame) → awaits_term (kind_of o fs) ≡ true → on_enter (stack_of tokens s o bs fs) ahead s ≡ done (opened ∷ stack_of tokens s o bs fs) s
 unfolding return
 enter_term ahead tokens s (Some v) bs fs e = absurd (cc)
 enter_term ahead tokens s None bs [] e = refl
-enter_term ahead tokens s None bs (Opened ∷ fs) e = absurd (cc)
 enter_term ahead tokens s None bs (Application n q vs ∷ fs) e = refl
-enter_term ahead tokens s None bs (Dividing n d ∷ fs) e = absurd (cc)
 enter_term ahead tokens s None bs (Division n vs ∷ fs) e = refl
-enter_term ahead tokens s None bs (LetOpen ∷ fs) e = absurd (cc)
-enter_term ahead tokens s None bs (Bindings xs ∷ fs) e = absurd (cc)
-enter_term ahead tokens s None bs (BindingOpen xs ∷ fs) e = absurd (cc)
 enter_term ahead tokens s None bs (Bound xs n ∷ fs) e = refl
-enter_term ahead tokens s None bs (BoundTo xs n v ∷ fs) e = absurd (cc)
 enter_term ahead tokens s None bs (Body k ∷ fs) e = refl
-enter_term ahead tokens s None bs (Done v ∷ fs) e = absurd (cc)
 enter_term ahead tokens s None bs (Annotation p ∷ fs) e = refl
 enter_term ahead tokens s None bs (Attributes v p d ∷ fs) e = absurd (attribute_no awaits_term refl refl d e)
-enter_term ahead tokens s None bs (Naming v p ∷ fs) e = absurd (cc)
+enter_term ahead tokens s None bs _ e = absurd (cc)
 
 pub enter_refused : (ahead : Sexps) (tokens : List Token) (s : Scope) (o : Option Value) (bs : List Pair) (fs : List Frame) → is_answered (kind_of o fs) ≡ false → awaits_term (kind_of o fs) ≡ false → takes_list (kind_of o fs) ≡ false → is_head (kind_of o fs) ≡ false
     → on_enter (stack_of tokens s o bs fs) ahead s ≡ refused WrongArguments
 unfolding refuse
 enter_refused ahead tokens s (Some v) bs fs e f g h = absurd (cc)
 enter_refused ahead tokens s None bs [] e f g h = absurd (cc)
-enter_refused ahead tokens s None bs (Opened ∷ fs) e f g h = absurd (cc)
-enter_refused ahead tokens s None bs (Application n q vs ∷ fs) e f g h = absurd (cc)
-enter_refused ahead tokens s None bs (Dividing n d ∷ fs) e f g h = absurd (cc)
-enter_refused ahead tokens s None bs (Division n vs ∷ fs) e f g h = absurd (cc)
-enter_refused ahead tokens s None bs (LetOpen ∷ fs) e f g h = absurd (cc)
-enter_refused ahead tokens s None bs (Bindings xs ∷ fs) e f g h = absurd (cc)
 enter_refused ahead tokens s None bs (BindingOpen xs ∷ fs) e f g h = refl
-enter_refused ahead tokens s None bs (Bound xs n ∷ fs) e f g h = absurd (cc)
 enter_refused ahead tokens s None bs (BoundTo xs n v ∷ fs) e f g h = refl
-enter_refused ahead tokens s None bs (Body k ∷ fs) e f g h = absurd (cc)
 enter_refused ahead tokens s None bs (Done v ∷ fs) e f g h = refl
-enter_refused ahead tokens s None bs (Annotation p ∷ fs) e f g h = absurd (cc)
 enter_refused ahead tokens s None bs (Attributes v p d ∷ fs) e f g h = absurd (attribute_yes takes_list refl refl d g)
 enter_refused ahead tokens s None bs (Naming v p ∷ fs) e f g h = refl
+enter_refused ahead tokens s None bs _ e f g h = absurd (cc)
 
 -- a frame more
 opened_on : (tokens : List Token) (s : Scope) (o : Option Value) (bs : List Pair) (fs : List Frame) → o ≡ None → stack_of tokens s o bs (Opened ∷ fs) ≡ opened ∷ stack_of tokens s o bs fs
@@ -281,7 +224,7 @@ opened_on tokens s (Some v) bs fs e = absurd (cc)
 pub enter_opened : (ahead : Sexps) (tokens : List Token) (s : Scope) (w w' : Walk) → Stands s w → awaits_term (kind_of w.answer w.frames) ≡ true → w' ≡ record { answer = w.answer; frames = Opened ∷ w.frames; bindings = w.bindings }
     → (on_enter (walk_of tokens s w) ahead s ≡ done (walk_of tokens s w') s) × Stands s w'
 enter_opened ahead tokens s w w' st k e = (
-  enter_term ahead tokens s w.answer w.bindings w.frames k ∙ ap (λ fs. done fs s) (sym (opened_on tokens s w.answer w.bindings w.frames (none_awaits_term w.answer w.frames k)))
+  enter_term ahead tokens s w.answer w.bindings w.frames k ∙ ap (λ fs. done fs s) (sym (opened_on tokens s w.answer w.bindings w.frames (none_so awaits_term refl w.answer w.frames k)))
       ∙ ap (λ x. done (walk_of tokens s x) s) (sym e),
   subst (Stands s) (sym e) (record { answer = st.answer; frames = (tt, st.frames); others = all_wait w.answer w.frames k st.others; bindings = st.bindings }),
 )
@@ -354,22 +297,7 @@ enter_not ahead tokens s w w' rest x e h k = ap (λ fs. on_enter fs ahead s) (sh
 
 pub leave_answered : (r : Rules) (tokens : List Token) (s : Scope) (o : Option Value) (bs : List Pair) (fs : List Frame) → is_answered (kind_of o fs) ≡ true → on_leave r (stack_of tokens s o bs fs) s ≡ done (stack_of tokens s o bs fs) s
 unfolding return
-leave_answered r tokens s (Some v) bs fs e = refl
-leave_answered r tokens s None bs [] e = absurd (cc)
-leave_answered r tokens s None bs (Opened ∷ fs) e = absurd (cc)
-leave_answered r tokens s None bs (Application n q vs ∷ fs) e = absurd (cc)
-leave_answered r tokens s None bs (Dividing n d ∷ fs) e = absurd (cc)
-leave_answered r tokens s None bs (Division n vs ∷ fs) e = absurd (cc)
-leave_answered r tokens s None bs (LetOpen ∷ fs) e = absurd (cc)
-leave_answered r tokens s None bs (Bindings xs ∷ fs) e = absurd (cc)
-leave_answered r tokens s None bs (BindingOpen xs ∷ fs) e = absurd (cc)
-leave_answered r tokens s None bs (Bound xs n ∷ fs) e = absurd (cc)
-leave_answered r tokens s None bs (BoundTo xs n v ∷ fs) e = absurd (cc)
-leave_answered r tokens s None bs (Body k ∷ fs) e = absurd (cc)
-leave_answered r tokens s None bs (Done v ∷ fs) e = absurd (cc)
-leave_answered r tokens s None bs (Annotation p ∷ fs) e = absurd (cc)
-leave_answered r tokens s None bs (Attributes v p d ∷ fs) e = absurd (attribute_no is_answered refl refl d e)
-leave_answered r tokens s None bs (Naming v p ∷ fs) e = absurd (cc)
+leave_answered r tokens s o bs fs e = answered_stays (on_leave r) tokens s o bs fs (λ v. refl) e
 
 pub leave_refused : (r : Rules) (tokens : List Token) (s : Scope) (o : Option Value) (bs : List Pair) (fs : List Frame) → is_answered (kind_of o fs) ≡ false → is_argument (kind_of o fs) ≡ false → is_divided (kind_of o fs) ≡ false → may_end (kind_of o fs) ≡ false
     → on_leave r (stack_of tokens s o bs fs) s ≡ refused WrongArguments
@@ -377,19 +305,14 @@ unfolding refuse
 leave_refused r tokens s (Some v) bs fs e f g h = absurd (cc)
 leave_refused r tokens s None bs [] e f g h = refl
 leave_refused r tokens s None bs (Opened ∷ fs) e f g h = refl
-leave_refused r tokens s None bs (Application n q vs ∷ fs) e f g h = absurd (cc)
-leave_refused r tokens s None bs (Dividing n d ∷ fs) e f g h = absurd (cc)
-leave_refused r tokens s None bs (Division n vs ∷ fs) e f g h = absurd (cc)
 leave_refused r tokens s None bs (LetOpen ∷ fs) e f g h = refl
-leave_refused r tokens s None bs (Bindings xs ∷ fs) e f g h = absurd (cc)
 leave_refused r tokens s None bs (BindingOpen xs ∷ fs) e f g h = refl
 leave_refused r tokens s None bs (Bound xs n ∷ fs) e f g h = refl
-leave_refused r tokens s None bs (BoundTo xs n v ∷ fs) e f g h = absurd (cc)
 leave_refused r tokens s None bs (Body k ∷ fs) e f g h = refl
-leave_refused r tokens s None bs (Done v ∷ fs) e f g h = absurd (cc)
 leave_refused r tokens s None bs (Annotation p ∷ fs) e f g h = refl
 leave_refused r tokens s None bs (Attributes v p d ∷ fs) e f g h = absurd (attribute_yes may_end refl refl d h)
 leave_refused r tokens s None bs (Naming v p ∷ fs) e f g h = refl
+leave_refused r tokens s None bs _ e f g h = absurd (cc)
 
 -- without its innermost frame
 abbrev pub popped : Walk → List Frame → Walk
@@ -463,43 +386,22 @@ pub word_past : (r : Rules) (tokens : List Token) (s : Scope) (o : Option Value)
 unfolding ◌>>=◌ return
 word_past r tokens s (Some v) bs fs t ahead e = refl
 word_past r tokens s None bs [] t ahead e = absurd (cc)
-word_past r tokens s None bs (Opened ∷ fs) t ahead e = absurd (cc)
-word_past r tokens s None bs (Application n q vs ∷ fs) t ahead e = absurd (cc)
 word_past r tokens s None bs (Dividing n d ∷ fs) t ahead e = refl
-word_past r tokens s None bs (Division n vs ∷ fs) t ahead e = absurd (cc)
-word_past r tokens s None bs (LetOpen ∷ fs) t ahead e = absurd (cc)
-word_past r tokens s None bs (Bindings xs ∷ fs) t ahead e = absurd (cc)
-word_past r tokens s None bs (BindingOpen xs ∷ fs) t ahead e = absurd (cc)
-word_past r tokens s None bs (Bound xs n ∷ fs) t ahead e = absurd (cc)
-word_past r tokens s None bs (BoundTo xs n v ∷ fs) t ahead e = absurd (cc)
-word_past r tokens s None bs (Body k ∷ fs) t ahead e = absurd (cc)
-word_past r tokens s None bs (Done v ∷ fs) t ahead e = absurd (cc)
-word_past r tokens s None bs (Annotation p ∷ fs) t ahead e = absurd (cc)
-word_past r tokens s None bs (Attributes v p zero ∷ fs) t ahead e = absurd (cc)
 word_past r tokens s None bs (Attributes v p (suc d) ∷ fs) t ahead e = refl
-word_past r tokens s None bs (Naming v p ∷ fs) t ahead e = absurd (cc)
+word_past r tokens s None bs _ t ahead e = absurd (cc)
 
 pub word_wrong : (r : Rules) (tokens : List Token) (s : Scope) (o : Option Value) (bs : List Pair) (fs : List Frame) (t : Token) (ahead : Sexps) → is_past (kind_of o fs) ≡ false → awaits_term (kind_of o fs) ≡ false → is_head (kind_of o fs) ≡ false
     → takes_word (kind_of o fs) ≡ false → on_words r (stack_of tokens s o bs fs) t ahead s ≡ refused WrongArguments
 unfolding ◌>>=◌ refuse
 word_wrong r tokens s (Some v) bs fs t ahead e f g h = absurd (cc)
 word_wrong r tokens s None bs [] t ahead e f g h = absurd (cc)
-word_wrong r tokens s None bs (Opened ∷ fs) t ahead e f g h = absurd (cc)
-word_wrong r tokens s None bs (Application n q vs ∷ fs) t ahead e f g h = absurd (cc)
-word_wrong r tokens s None bs (Dividing n d ∷ fs) t ahead e f g h = absurd (cc)
-word_wrong r tokens s None bs (Division n vs ∷ fs) t ahead e f g h = absurd (cc)
 word_wrong r tokens s None bs (LetOpen ∷ fs) t ahead e f g h = refl
 word_wrong r tokens s None bs (Bindings xs ∷ fs) t ahead e f g h = refl
-word_wrong r tokens s None bs (BindingOpen xs ∷ fs) t ahead e f g h = absurd (cc)
-word_wrong r tokens s None bs (Bound xs n ∷ fs) t ahead e f g h = absurd (cc)
 word_wrong r tokens s None bs (BoundTo xs n v ∷ fs) t ahead e f g h = refl
-word_wrong r tokens s None bs (Body k ∷ fs) t ahead e f g h = absurd (cc)
 word_wrong r tokens s None bs (Done v ∷ fs) t ahead e f g h = refl
-word_wrong r tokens s None bs (Annotation p ∷ fs) t ahead e f g h = absurd (cc)
-word_wrong r tokens s None bs (Attributes v p zero ∷ fs) t ahead e f g h = absurd (cc)
 word_wrong r tokens s None bs (Attributes v p (suc d) ∷ fs) t ahead e f g h =
-    absurd (no (sym e ∙ ap (λ b. is_past (if b then Rattle.elaborate.specs.declared.walk.Kind.TheVariants.Attribute else Rattle.elaborate.specs.declared.walk.Kind.TheVariants.Passed)) (not_zero d)))
-word_wrong r tokens s None bs (Naming v p ∷ fs) t ahead e f g h = absurd (cc)
+    absurd (no (sym e ∙ ap (λ b. is_past (if b then Attribute else Passed)) (not_zero d)))
+word_wrong r tokens s None bs _ t ahead e f g h = absurd (cc)
 
 -- ---- the head of a list
 
@@ -510,19 +412,8 @@ head_rest w e = go w.answer w.frames e
     go (Some v) fs e = absurd (cc)
     go None [] e = absurd (cc)
     go None (Opened ∷ fs) e = (fs, refl)
-    go None (Application n q vs ∷ fs) e = absurd (cc)
-    go None (Dividing n d ∷ fs) e = absurd (cc)
-    go None (Division n vs ∷ fs) e = absurd (cc)
-    go None (LetOpen ∷ fs) e = absurd (cc)
-    go None (Bindings xs ∷ fs) e = absurd (cc)
-    go None (BindingOpen xs ∷ fs) e = absurd (cc)
-    go None (Bound xs n ∷ fs) e = absurd (cc)
-    go None (BoundTo xs n v ∷ fs) e = absurd (cc)
-    go None (Body k ∷ fs) e = absurd (cc)
-    go None (Done v ∷ fs) e = absurd (cc)
-    go None (Annotation p ∷ fs) e = absurd (cc)
     go None (Attributes v p d ∷ fs) e = absurd (attribute_no is_head refl refl d e)
-    go None (Naming v p ∷ fs) e = absurd (cc)
+    go None _ e = absurd (cc)
 
 pub opened_top : (w : Walk) (f : Frame) (rest : List Frame) → is_head (kind_of w.answer w.frames) ≡ true → w.frames ≡ f ∷ rest → w.frames ≡ Opened ∷ rest
 opened_top w f rest e h =

@@ -2,8 +2,10 @@
 use Rattle.std.proofs.Common.{◌≡◌, ℕ, List, [], ◌∷◌, map, ap, sym, subst, ◌∙◌, refl, Bool, true, false, Option, Some, None}
 use Rattle.std.specs.Prelude.{if◌then◌else◌, bytes_eq, pos, Result, Ok, Err, IfOk, OnErr}
 use Rattle.smt_meaning.specs.declared.tokens.Token.{Token}
-use Rattle.smt_meaning.specs.declared.tokens.Token.TheVariants.{Enter, Leave, Symbol, Decimal, Hex, Binary, Text, Reserved, Keyword}
-use Rattle.smt_meaning.specs.declared.tokens.Word.{Word}
+use Rattle.smt_meaning.specs.declared.tokens.Token.TheVariants.{Symbol, Decimal, Hex, Binary, Text}
+use Rattle.smt_meaning.specs.declared.tokens.TokenView.{TokenView}
+use Rattle.smt_meaning.specs.declared.tokens.TokenView.TheVariants.{Symbol as SymbolSeen, Numeral as NumeralSeen, Decimal as DecimalSeen, Hex as HexSeen, Binary as BinarySeen, Text as TextSeen}
+use Rattle.smt_meaning.specs.Seen.{seen}
 use Rattle.smt_meaning.specs.declared.terms.Operator.{Operator}
 use Rattle.smt_meaning.specs.declared.terms.Head.{Head}
 use Rattle.smt_meaning.specs.declared.terms.Head.TheVariants.{Numeral as Number}
@@ -123,40 +125,35 @@ free_comes r n bs s us y e h = known_comes r n bs (known_symbol (look_up n opera
 
 -- ---- tokens that are refused
 
-pub left_out : (r : Rules) (vs : List Variable) (t : Token) (s : Scope) (us : List Tree) (e : JudgeError) → judge_token r vs t s ≡ refused (UnknownSymbol t) → IsErrorOf (UnknownSymbol t) e → Comes (judge_token r vs t) s us (Err e)
-left_out r vs t s us e h k = comes_err (judge_token r vs t) s us (UnknownSymbol t) e h k
+-- a token of a theory that is left out
+abbrev pub is_left_out : Token → Bool
+is_left_out (Decimal cs) = true
+is_left_out (Hex cs) = true
+is_left_out (Binary cs) = true
+is_left_out (Text cs) = true
+is_left_out _ = false
 
-pub out_decimal : (r : Rules) (vs : List Variable) (t : Token) (s : Scope) (cs : List ℕ) → t ≡ Decimal cs → judge_token r vs t s ≡ refused (UnknownSymbol t)
+left_out_is : (r : Rules) (vs : List Variable) (t : Token) (s : Scope) → is_left_out t ≡ true → judge_token r vs t s ≡ refused (UnknownSymbol t)
 unfolding refuse
-out_decimal r vs t s cs e = subst (λ x. judge_token r vs x s ≡ refused (UnknownSymbol x)) (sym e) refl
+left_out_is r vs (Decimal cs) s h = refl
+left_out_is r vs (Hex cs) s h = refl
+left_out_is r vs (Binary cs) s h = refl
+left_out_is r vs (Text cs) s h = refl
+left_out_is r vs _ s h = absurd (cc)
 
-pub out_hex : (r : Rules) (vs : List Variable) (t : Token) (s : Scope) (cs : List ℕ) → t ≡ Hex cs → judge_token r vs t s ≡ refused (UnknownSymbol t)
-unfolding refuse
-out_hex r vs t s cs e = subst (λ x. judge_token r vs x s ≡ refused (UnknownSymbol x)) (sym e) refl
+pub left_out : (r : Rules) (vs : List Variable) (t : Token) (s : Scope) (us : List Tree) (e : JudgeError) → is_left_out t ≡ true → IsErrorOf (UnknownSymbol t) e → Comes (judge_token r vs t) s us (Err e)
+left_out r vs t s us e h k = comes_err (judge_token r vs t) s us (UnknownSymbol t) e (left_out_is r vs t s h) k
 
-pub out_binary : (r : Rules) (vs : List Variable) (t : Token) (s : Scope) (cs : List ℕ) → t ≡ Binary cs → judge_token r vs t s ≡ refused (UnknownSymbol t)
+pub stands_for_none : (r : Rules) (vs : List Variable) (t : TokenView) (s : Scope) → ((n : _) → t ≡ SymbolSeen n → ⊥) → ((n : _) → t ≡ NumeralSeen n → ⊥) → ((n : _) → t ≡ DecimalSeen n → ⊥) → ((n : _) → t ≡ HexSeen n → ⊥) → ((n : _) → t ≡ BinarySeen n → ⊥) → ((n : _) → t ≡ TextSeen n → ⊥)
+    → judge_token r vs (seen t) s ≡ refused WrongArguments
 unfolding refuse
-out_binary r vs t s cs e = subst (λ x. judge_token r vs x s ≡ refused (UnknownSymbol x)) (sym e) refl
-
-pub out_text : (r : Rules) (vs : List Variable) (t : Token) (s : Scope) (cs : List ℕ) → t ≡ Text cs → judge_token r vs t s ≡ refused (UnknownSymbol t)
-unfolding refuse
-out_text r vs t s cs e = subst (λ x. judge_token r vs x s ≡ refused (UnknownSymbol x)) (sym e) refl
-
-pub no_enter : (r : Rules) (vs : List Variable) (t : Token) (s : Scope) → t ≡ Enter → judge_token r vs t s ≡ refused WrongArguments
-unfolding refuse
-no_enter r vs t s e = subst (λ x. judge_token r vs x s ≡ refused WrongArguments) (sym e) refl
-
-pub no_leave : (r : Rules) (vs : List Variable) (t : Token) (s : Scope) → t ≡ Leave → judge_token r vs t s ≡ refused WrongArguments
-unfolding refuse
-no_leave r vs t s e = subst (λ x. judge_token r vs x s ≡ refused WrongArguments) (sym e) refl
-
-pub no_reserved : (r : Rules) (vs : List Variable) (t : Token) (s : Scope) (w : Word) → t ≡ Reserved w → judge_token r vs t s ≡ refused WrongArguments
-unfolding refuse
-no_reserved r vs t s w e = subst (λ x. judge_token r vs x s ≡ refused WrongArguments) (sym e) refl
-
-pub no_keyword : (r : Rules) (vs : List Variable) (t : Token) (s : Scope) (w : List ℕ) → t ≡ Keyword w → judge_token r vs t s ≡ refused WrongArguments
-unfolding refuse
-no_keyword r vs t s w e = subst (λ x. judge_token r vs x s ≡ refused WrongArguments) (sym e) refl
+stands_for_none r vs (SymbolSeen n) s a b c d e f = absurd (a n refl)
+stands_for_none r vs (NumeralSeen n) s a b c d e f = absurd (b n refl)
+stands_for_none r vs (DecimalSeen n) s a b c d e f = absurd (c n refl)
+stands_for_none r vs (HexSeen n) s a b c d e f = absurd (d n refl)
+stands_for_none r vs (BinarySeen n) s a b c d e f = absurd (e n refl)
+stands_for_none r vs (TextSeen n) s a b c d e f = absurd (f n refl)
+stands_for_none r vs _ s a b c d e f = refl
 
 -- ---- applications of names
 

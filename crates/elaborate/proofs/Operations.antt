@@ -1,5 +1,5 @@
 -- The term of an operator with its arguments, stored after its quotients.
-use Rattle.std.proofs.Common.{◌≡◌, ◌≢◌, ℕ, ◌<◌, ◌+◌, List, [], ◌∷◌, length, drop, ap, sym, subst, ◌∙◌, refl, map, add-one, slice_index_or}
+use Rattle.std.proofs.Common.{◌≡◌, ◌≢◌, ◌⊎◌, inl, inr, ℕ, ◌<◌, ◌+◌, List, [], ◌∷◌, length, drop, ap, sym, subst, ◌∙◌, refl, map, add-one, slice_index_or}
 use Rattle.std.proofs.Math.Seq.{drop-cons}
 use Rattle.std.specs.Prelude.{Result, Ok, Err, IfOk}
 use Rattle.smt_meaning.specs.declared.values.Sort.{Sort}
@@ -81,7 +81,12 @@ divisible_is (more t none) = refl
 divisible_is (more t (more u none)) = refl
 divisible_is (more t (more u (more v us))) = refl
 
-pub not_two_result : {E : Type 0} (o : Operator) (s : Sort) (vs : List Value) (ts us : List Tree) (r : Result Value E) → length vs ≢ 2 → IfOk r (λ v. IsNode (Theory o) s vs ts us v)
-    → IfOk r (λ v. IsTerm (with_quotient o (trees_of (map (typed ts) vs))) s ts us v)
-not_two_result o s vs ts us (Ok v) n h = subst (λ t. IsTerm t s ts us v) (not_two_quotient o ts vs n) (node_term o s vs ts us v h)
-not_two_result o s vs ts us (Err e) n h = tt
+left_over_is : (o : Operator) (us : Trees) → (o ≡ Modulo) ⊎ (o ≡ Divisible) → with_quotient o us ≡ operation o us
+left_over_is o us (inl e) = subst (λ x. with_quotient x us ≡ operation x us) (sym e) (modulo_is us)
+left_over_is o us (inr e) = subst (λ x. with_quotient x us ≡ operation x us) (sym e) (divisible_is us)
+
+pub not_two_result : {E : Type 0} (o : Operator) (s : Sort) (vs : List Value) (ts us : List Tree) (r : Result Value E) → (o ≡ Modulo) ⊎ (o ≡ Divisible) → length vs ≢ 2 → IfOk r (λ v. IsNode (Theory o) s vs ts us v)
+    → IfOk r (λ v. IsTerm (operation o (trees_of (map (typed ts) vs))) s ts us v)
+not_two_result o s vs ts us (Ok v) is n h =
+    subst (λ t. IsTerm t s ts us v) (not_two_quotient o ts vs n ∙ left_over_is o (trees_of (map (typed ts) vs)) is) (node_term o s vs ts us v h)
+not_two_result o s vs ts us (Err e) is n h = tt

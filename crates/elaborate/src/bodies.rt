@@ -74,7 +74,11 @@ fn copy_node(alloc: Global, store: &TermStore, id: TermId) -> Result<Node, Alloc
 }
 
 /// The nodes of a store from this one on.
-fn nodes_from(alloc: Global, store: &TermStore, count: u32) -> Result<Vec<Node>, AllocError>
+pub(crate) fn nodes_from(
+    alloc: Global,
+    store: &TermStore,
+    count: u32,
+) -> Result<Vec<Node>, AllocError>
     requires { count ≤ length store.now.trees }
     ensures trees { IfOk result (λ v. trees_from (take count store.now.trees) v.items ≡ store.now.trees) }
     ensures earlier { IfOk result (λ v. AreNodesAfter count v.items) }
@@ -186,8 +190,9 @@ fn left(own: bool, workshop: Workshop) -> Option<Workshop>
     if own { Some(workshop) } else { None }
 }
 
-/// Judges the body of a definition with these parameters.
-pub(crate) fn typed_body(
+/// Judges the body of a definition with these parameters, apart from the terms of the stack: its different terms, and its sort, or the one
+/// refusal. Where it begins with the definition of which something is kept, its terms are taken from there.
+pub fn body(
     alloc: Global,
     parameters: &[Parameter],
     term: &SExpr,

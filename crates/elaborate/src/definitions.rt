@@ -12,22 +12,10 @@ ghost use Rattle.elaborate.specs.Putting.{value_at, IsPut, ArePut};
 use crate::apply::{Rules, may_stand};
 use crate::error::JudgeError;
 use crate::value::{Value, are_linear, stored};
-use smt_meaning::{Body, Declaration, Head, Layer, Node, Operator, Refusal, Sort, TermId};
+use smt_meaning::{Body, Declaration, Head, Layer, Node, Operator, Refusal, Sort};
 use smt_sorts::Table;
-use std::alloc::{AllocError, Global};
-use term_store::TermStore;
-
-/// The values at these places.
-fn chosen(alloc: Global, values: &[Value], places: &[TermId]) -> Result<Vec<Value>, AllocError>
-    requires { All (λ i. i < length values.now) places.now }
-    ensures { IfOk result (λ v. v.items ≡ map (value_at values.now) places.now) }
-{
-    let mut found = Vec::new(alloc);
-    for place in places {
-        found.push(values[*place as usize])?;
-    }
-    Ok(found)
-}
+use std::alloc::Global;
+use term_store::{TermStore, chosen};
 
 /// The argument that is put in for a parameter.
 fn put_parameter(

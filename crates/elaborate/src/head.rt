@@ -101,12 +101,7 @@ fn word_head(
     match word {
         Word::Let => let_head(alloc, term, ends, place),
         Word::Exclamation => annotation_head(term, ends, place),
-        Word::Underscore => Err(unknown(alloc, TokenView::Reserved(word))),
-        Word::As => Err(unknown(alloc, TokenView::Reserved(word))),
-        Word::Exists => Err(unknown(alloc, TokenView::Reserved(word))),
-        Word::Forall => Err(unknown(alloc, TokenView::Reserved(word))),
-        Word::Match => Err(unknown(alloc, TokenView::Reserved(word))),
-        Word::Par => Err(unknown(alloc, TokenView::Reserved(word))),
+        _ => Err(unknown(alloc, TokenView::Reserved(word))),
     }
 }
 
@@ -130,14 +125,7 @@ pub(crate) fn list_head(
         TokenView::Reserved(word) => {
             word_head(alloc, rules, term, ends, place, word, bindings, table)
         }
-        TokenView::Enter => Err(JudgeError::Refused(Refusal::WrongArguments)),
-        TokenView::Leave => Err(JudgeError::Refused(Refusal::WrongArguments)),
-        TokenView::Numeral(_) => Err(JudgeError::Refused(Refusal::WrongArguments)),
-        TokenView::Decimal(_) => Err(JudgeError::Refused(Refusal::WrongArguments)),
-        TokenView::Hex(_) => Err(JudgeError::Refused(Refusal::WrongArguments)),
-        TokenView::Binary(_) => Err(JudgeError::Refused(Refusal::WrongArguments)),
-        TokenView::Text(_) => Err(JudgeError::Refused(Refusal::WrongArguments)),
-        TokenView::Keyword(_) => Err(JudgeError::Refused(Refusal::WrongArguments)),
+        _ => Err(JudgeError::Refused(Refusal::WrongArguments)),
     }
 }
 

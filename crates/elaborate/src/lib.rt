@@ -8,17 +8,13 @@
 //! two others.
 #![tactic(auto)]
 
-ghost use Rattle.std.specs.Prelude.{◌≡◌, ◌<◌, [], List, length, IfOk, IfErr, OnOk, OnErr};
+ghost use Rattle.std.specs.Prelude.{◌≡◌, ◌<◌, [], length, IfOk, IfErr, OnErr};
 ghost use Rattle.smt_meaning.specs.Sexp.{sexp};
-ghost use Rattle.smt_meaning.specs.Term.{Tree};
 ghost use Rattle.smt_meaning.specs.Sorts.{judge, done};
-ghost use Rattle.smt_meaning.specs.StackCommand.{judge_body};
-ghost use Rattle.smt_sorts.specs.Names.{Names, HasGained, signature};
-ghost use Rattle.smt_sorts.specs.Workshop.{IsOfAny};
-ghost use Rattle.elaborate.specs.Judged.{scope_of, rules_of, term_rules, typed_term, IsCauseOf, variables_of, bodied_of};
+ghost use Rattle.smt_sorts.specs.Names.{Names, HasGained};
+ghost use Rattle.elaborate.specs.Judged.{scope_of, rules_of, term_rules, typed_term, IsCauseOf};
 ghost use Rattle.elaborate.specs.Values.{IsLonger, HasGrown};
 ghost use Rattle.elaborate.specs.Naming.{TermComes};
-ghost use Rattle.elaborate.specs.Own.{IsLeft};
 
 mod apart;
 mod apply;
@@ -44,18 +40,18 @@ mod value;
 mod walk;
 
 use apply::Rules;
-use bodies::typed_body;
+pub use bodies::body;
 pub use error::JudgeError;
 use look_ahead::ends;
 use naming::judge_named;
 use smt_meaning::{Body, Bytes, SExpr, Sort, TermId};
-use smt_sorts::{Kept, Table, Workshop};
+use smt_sorts::{Table, Workshop};
 use std::alloc::Global;
 use term_store::{Named, TermStore};
 use value::Value;
 
 /// A term that was judged: its place in the list of terms, and its sort.
-#[derive(Clone, Copy, PartialEq, Eq, Drop)]
+#[derive(Clone, Copy, Drop)]
 pub struct TypedTerm {
     pub id: TermId,
     pub sort: Sort,
@@ -136,21 +132,4 @@ fn judged(
         Ok(ends) => judge_named(alloc, rules, term, &ends, table, store),
         Err(_) => Err(JudgeError::Memory),
     }
-}
-
-/// Judges the body of a definition with these parameters, apart from the terms of the stack: its different terms, and its sort, or the one
-/// refusal. Where it begins with the definition of which something is kept, its terms are taken from there.
-pub fn body(
-    alloc: Global,
-    parameters: &[Parameter],
-    term: &SExpr,
-    table: &Table,
-    kept: Option<Kept>,
-) -> Result<TypedBody, JudgeError>
-    requires { IsOfAny (signature table.now) kept }
-    ensures workshop { IfOk result (λ b. IsLeft b.body b.workshop) }
-    ensures ok { IfOk result (λ b. (ts : List Tree) → judge_body (variables_of parameters.now) term.now (scope_of table.now ts) ≡ done (bodied_of b) (scope_of table.now ts)) }
-    ensures refused { IfErr result (λ e. (ts : List Tree) → IsCauseOf e (judge_body (variables_of parameters.now) term.now (scope_of table.now ts))) }
-{
-    typed_body(alloc, parameters, term, table, kept)
 }

@@ -78,25 +78,6 @@ fn left_by(
     stored(alloc, head, sort, &[number, divisor, quotient], store)
 }
 
-/// A remainder or a divisibility.
-fn left_over(
-    alloc: Global,
-    operator: Operator,
-    sort: Sort,
-    arguments: &[Value],
-    store: &mut TermStore,
-) -> Result<Value, JudgeError>
-    requires { AreValues store.old.trees arguments.now }
-    ensures ok { IfOk result (λ v. IsTerm (with_quotient operator (trees_of (map (typed store.old.trees) arguments.now))) sort store.old.trees store.new.trees v) }
-    ensures memory { OnErr result (result ≡ Err JudgeError.Memory) }
-    ensures longer { HasGrown store.old store.new }
-{
-    if arguments.len() != 2 {
-        return stored(alloc, Head::Theory(operator), sort, arguments, store);
-    }
-    left_by(alloc, operator, sort, arguments[0], arguments[1], store)
-}
-
 /// A `div`: a quotient for each divisor.
 fn divided_by_all(
     alloc: Global,
@@ -163,7 +144,10 @@ pub(crate) fn operated(
     match operator {
         Operator::Divide => divided_by_all(alloc, sort, arguments, store),
         Operator::Modulo | Operator::Divisible => {
-            left_over(alloc, operator, sort, arguments, store)
+            if arguments.len() == 2 {
+                return left_by(alloc, operator, sort, arguments[0], arguments[1], store);
+            }
+            stored(alloc, Head::Theory(operator), sort, arguments, store)
         }
         _ => stored(alloc, Head::Theory(operator), sort, arguments, store),
     }

@@ -4,15 +4,15 @@ ghost use Rattle.std.specs.HashMap.{get};
 ghost use Rattle.std.specs.Map.{update};
 ghost use Rattle.smt_meaning.specs.Term.{Tree, tree_at};
 ghost use Rattle.smt_meaning.specs.TreeShape.{with_tree, with_parts};
-ghost use Rattle.smt_meaning.specs.Nodes.{tree_of};
 ghost use Rattle.smt_meaning.specs.Sorts.{body_of};
 ghost use Rattle.term_store.specs.Terms.{IsPlace};
 ghost use Rattle.elaborate.specs.Parts.{job_place, outcome, jobs_left, visits_of, AreCopies, AreInOrder, HasArguments, HaveCopies};
 ghost use Rattle.elaborate.specs.declared.parts.Job.TheVariants as Job;
 
+use crate::bodies::nodes_from;
 use crate::stack::Stack;
 use smt_laws::parts_are_visited;
-use smt_meaning::{Body, Node, Seq, TermId, Terms};
+use smt_meaning::{Body, TermId, Terms};
 use std::alloc::{AllocError, Global};
 use std::collections::HashMap;
 use term_store::TermStore;
@@ -172,29 +172,11 @@ fn copy_parts(
     }
 }
 
-/// A node of a term, with arguments of its own.
-fn node(alloc: Global, store: &TermStore, id: TermId) -> Result<Node, AllocError>
-    requires { id < length store.now.trees }
-    ensures tree { IfOk result (λ n. tree_at store.now.trees id ≡ tree_of store.now.trees n) }
-    ensures earlier { IfOk result (λ n. All (λ i. i < id) n.arguments) }
-{
-    let node = store.node(id);
-    let arguments = node.arguments.to_vec(alloc)?;
-    Ok(Node {
-        head: node.head,
-        arguments: Seq::from_vec(arguments),
-    })
-}
-
 /// The terms of a store.
 fn terms(alloc: Global, store: &TermStore) -> Result<Terms, AllocError>
     ensures { IfOk result (λ ts. ts ≡ store.now.trees) }
 {
-    let mut nodes = Vec::new(alloc);
-    for id in 0..store.len() {
-        let node = node(alloc, store, id)?;
-        nodes.push(node)?;
-    }
+    let nodes = nodes_from(alloc, store, 0)?;
     Terms::from_nodes(alloc, nodes)
 }
 

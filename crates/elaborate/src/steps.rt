@@ -28,7 +28,7 @@ use std::alloc::Global;
 use term_store::TermStore;
 
 /// What kind of token one is.
-#[derive(Clone, Copy, PartialEq, Eq, Drop)]
+#[derive(Clone, Copy, Drop)]
 pub(crate) enum Class {
     /// `(`
     Opening,

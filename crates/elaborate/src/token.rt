@@ -92,13 +92,8 @@ pub(crate) fn judge_token(
     match token {
         TokenView::Symbol(name) => judge_name(alloc, rules, name, bindings, table, store),
         TokenView::Numeral(digits) => judge_numeral(alloc, digits, table, store),
-        TokenView::Decimal(_) => Err(unknown(alloc, token)),
-        TokenView::Hex(_) => Err(unknown(alloc, token)),
-        TokenView::Binary(_) => Err(unknown(alloc, token)),
-        TokenView::Text(_) => Err(unknown(alloc, token)),
-        TokenView::Enter => Err(JudgeError::Refused(Refusal::WrongArguments)),
-        TokenView::Leave => Err(JudgeError::Refused(Refusal::WrongArguments)),
-        TokenView::Reserved(_) => Err(JudgeError::Refused(Refusal::WrongArguments)),
-        TokenView::Keyword(_) => Err(JudgeError::Refused(Refusal::WrongArguments)),
+        TokenView::Decimal(_) | TokenView::Hex(_) | TokenView::Binary(_) | TokenView::Text(_) =>
+            Err(unknown(alloc, token)),
+        _ => Err(JudgeError::Refused(Refusal::WrongArguments)),
     }
 }

@@ -10,7 +10,7 @@ use crate::value::Value;
 use std::alloc::AllocError;
 
 /// What may come next.
-#[derive(Clone, Copy, PartialEq, Eq, Drop)]
+#[derive(Clone, Copy, Drop)]
 pub(crate) enum Kind {
     /// All is read.
     Answered,

@@ -233,43 +233,32 @@ module _ (back : TokensReadBack) (read : SExprsReadBack) (judged_again : JudgedA
   few : (ts : List Tree) (n : ℕ) → n ≤ 4 → Grown n s.trees ts → length ts ≤ most_terms
   few ts n le g = omega (arith, ap length g.is ∙ length-append s.trees g.joined, g.few, goal.room)
 
-  two_asked : (o : List ℕ) (op : Operator) (k : ℤ) → judge in_question [] (sexp (pair_text o text (number_text k))) (joined_by (pair_tree Equal tree tree) (scope_of s))
-      ≡ done (truth (pair_tree op tree (number_tree k))) (record (scope_of s) { trees = with_parts (with_parts s.trees (pair_tree Equal tree tree)) (pair_tree op tree (number_tree k)) })
+  two_asked : (o : List ℕ) (op : Operator) (k : ℤ) → IsSmall k → known [] o (joined_by (pair_tree Equal tree tree) (scope_of s)) ≡ operator op
+      → ((u : Scope) → judge_application in_question o (operator op) (integer tree ∷ integer (number_tree k) ∷ []) u ≡ done (truth (pair_tree op tree (number_tree k))) (joined_by (pair_tree op tree (number_tree k)) u))
       → assume_terms (depth s.frames) (pair_text (codes "=") text text ∷ pair_text o text (number_text k) ∷ []) (scope_of s)
       ≡ done (assumes (record { text = pair_text (codes "=") text text; term = pair_tree Equal tree tree } ∷ record { text = pair_text o text (number_text k); term = pair_tree op tree (number_tree k) } ∷ []))
       (record (scope_of s) { trees = with_parts (with_parts s.trees (pair_tree Equal tree tree)) (pair_tree op tree (number_tree k)) })
-  two_asked o op k e =
+  two_asked o op k small_k is comes =
       terms_assumed (depth s.frames) (pair_text (codes "=") text text ∷ pair_text o text (number_text k) ∷ []) (truth (pair_tree Equal tree tree) ∷ truth (pair_tree op tree (number_tree k)) ∷ []) (scope_of s)
       (record (scope_of s) { trees = with_parts (with_parts s.trees (pair_tree Equal tree tree)) (pair_tree op tree (number_tree k)) })
       (two_terms (pair_text (codes "=") text text) (pair_text o text (number_text k)) (truth (pair_tree Equal tree tree)) (truth (pair_tree op tree (number_tree k))) (scope_of s)
-      (joined_by (pair_tree Equal tree tree) (scope_of s)) (record (scope_of s) { trees = with_parts (with_parts s.trees (pair_tree Equal tree tree)) (pair_tree op tree (number_tree k)) }) itself_judged e)
+      (joined_by (pair_tree Equal tree tree) (scope_of s)) (record (scope_of s) { trees = with_parts (with_parts s.trees (pair_tree Equal tree tree)) (pair_tree op tree (number_tree k)) }) itself_judged
+      (ap (λ y. judge in_question [] y (joined_by (pair_tree Equal tree tree) (scope_of s))) (compared_reads o k)
+      ∙ compared_judged noted judged_again (scope_of s) tree (sexp text) goal.is_judged complete k op o small_k is comes))
       refl
       (few (with_parts (with_parts s.trees (pair_tree Equal tree tree)) (pair_tree op tree (number_tree k))) 4 (omega arith)
       (compared_grown noted judged_again (scope_of s) tree (sexp text) goal.is_judged complete k op)) goal.level
 
-  at_most_judged : (k : ℤ) → IsSmall k → judge in_question [] (sexp (pair_text (codes "<=") text (number_text k))) (joined_by (pair_tree Equal tree tree) (scope_of s))
-      ≡ done (truth (pair_tree AtMost tree (number_tree k))) (record (scope_of s) { trees = with_parts (with_parts s.trees (pair_tree Equal tree tree)) (pair_tree AtMost tree (number_tree k)) })
-  unfolding ◌>>=◌ ◌>>◌ return refuse require required note found
-  at_most_judged k h =
-      ap (λ y. judge in_question [] y (joined_by (pair_tree Equal tree tree) (scope_of s))) (compared_reads (codes "<=") k)
-      ∙ compared_judged noted judged_again (scope_of s) tree (sexp text) goal.is_judged complete k AtMost (codes "<=") h refl (λ u. refl)
-
-  below_judged : (k : ℤ) → IsSmall k → judge in_question [] (sexp (pair_text (codes "<") text (number_text k))) (joined_by (pair_tree Equal tree tree) (scope_of s))
-      ≡ done (truth (pair_tree Less tree (number_tree k))) (record (scope_of s) { trees = with_parts (with_parts s.trees (pair_tree Equal tree tree)) (pair_tree Less tree (number_tree k)) })
-  unfolding ◌>>=◌ ◌>>◌ return refuse require required note found
-  below_judged k h =
-      ap (λ y. judge in_question [] y (joined_by (pair_tree Equal tree tree) (scope_of s))) (compared_reads (codes "<") k)
-      ∙ compared_judged noted judged_again (scope_of s) tree (sexp text) goal.is_judged complete k Less (codes "<") h refl (λ u. refl)
-
   asked_is : (ask : Ask) → IsInRange ask
       → assume_terms (depth s.frames) (asked_texts text ask) (scope_of s)
       ≡ done (assumes (asked text tree ask)) (record (scope_of s) { trees = with_all s.trees (terms_asked (asked text tree ask)) })
+  unfolding ◌>>=◌ ◌>>◌ return refuse require required note found
   asked_is Itself h =
       terms_assumed (depth s.frames) (pair_text (codes "=") text text ∷ []) (truth (pair_tree Equal tree tree) ∷ []) (scope_of s) (joined_by (pair_tree Equal tree tree) (scope_of s))
       (one_term (pair_text (codes "=") text text) (truth (pair_tree Equal tree tree)) (scope_of s) (joined_by (pair_tree Equal tree tree) (scope_of s)) itself_judged) refl
       (few (with_parts s.trees (pair_tree Equal tree tree)) 1 (omega arith) (itself_grown noted judged_again (scope_of s) tree (sexp text) goal.is_judged complete)) goal.level
-  asked_is (IsAtMost k) h = two_asked (codes "<=") AtMost k (at_most_judged k (small k h.0 h.1))
-  asked_is BelowLeast h = two_asked (codes "<") Less least_number (below_judged least_number (omega arith))
+  asked_is (IsAtMost k) h = two_asked (codes "<=") AtMost k (small k h.0 h.1) refl (λ u. refl)
+  asked_is BelowLeast h = two_asked (codes "<") Less least_number (omega arith) refl (λ u. refl)
 
 pub asks_are_assumed : TokensReadBack → SExprsReadBack → JudgedAgain → NotedOnce → AsksAreAssumed
 unfolding judged

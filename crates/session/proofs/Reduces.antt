@@ -8,6 +8,7 @@ use Rattle.std.proofs.lemmas.List.Elements.{All-cons, All-head, All-nil, All-tai
 use Rattle.smt_meaning.specs.declared.answers.Mode.{Mode}
 use Rattle.smt_meaning.specs.declared.answers.Mode.TheVariants.{Start, Assert, Sat, Unknown, Unsat}
 use Rattle.smt_meaning.specs.declared.answers.Reply.TheVariants.{UnsatCore, UnsatAssumptions}
+use Rattle.smt_meaning.specs.declared.options.OptionName.TheVariants as Named
 use Rattle.smt_meaning.specs.declared.replies.Kept.TheVariants.{Core}
 use Rattle.smt_meaning.specs.declared.replies.Held.{Held}
 use Rattle.smt_meaning.specs.declared.tokens.Token.{Token}
@@ -15,7 +16,7 @@ use Rattle.smt_meaning.specs.Core.{IsReduced, checked_texts, checked_trees, name
 use Rattle.smt_meaning.specs.Sexp.{sexp}
 use Rattle.smt_meaning.specs.Stack.{Assertion as Asserted, Frame, assertions_of, terms_of}
 use Rattle.smt_meaning.specs.StackCommand.{Stack}
-use Rattle.smt_meaning.specs.State.{State, checked_frames, get_unsat_assumptions, get_unsat_core, is_unsat, texts_of}
+use Rattle.smt_meaning.specs.State.{State, assumed, checked_frames, get_unsat_assumptions, get_unsat_core, is_unsat, named, texts_of}
 use Rattle.smt_meaning.specs.MayReply.{Decided, MayCome}
 use Rattle.smt_meaning.specs.Term.{Tree}
 use Rattle.scope_stack.specs.declared.answers.Assertion.{Assertion}
@@ -24,7 +25,7 @@ use Rattle.goal_search.specs.Tries.{AreCandidates}
 use Rattle.session.specs.Reduced.{IsHeldAmong}
 use Rattle.session.specs.Refuted.{WhereUnsat}
 use Rattle.session.proofs.CoreCandidates.{from_first, held_within, names_are_candidates, ranges_are_candidates}
-use Rattle.session.proofs.Replies.{assumptions_given, core_given}
+use Rattle.session.proofs.Replies.{core_given}
 
 pub when_unsat : (m : Mode) (P : Type 0) → m ≡ Unsat → WhereUnsat m P → P
 when_unsat m P e h = subst (λ (n : Mode). WhereUnsat n P) e h
@@ -127,7 +128,7 @@ pub core_answered : (decided : Decided) (old mid : State) (xs ys : List Assertio
 core_answered decided old mid xs ys ps hs names unsat on e h k p r n =
     let ys_of : AreAsserted old.stack ys = subst (λ (t : State). AreAsserted t.stack ys) e k in
     let places_are : ps ≡ named_places 0 (stack_texts old) = p ∙ ap (named_places 0) h.texts in
-    core_given decided old hs (UnsatCore names) (Core hs) mid unsat on e
+    core_given decided named Named.ProduceUnsatCores old.options.produce_unsat_cores old hs (UnsatCore names) (Core hs) mid unsat on e
     (subst (λ qs. IsReduced old.settings.workers (checked_trees old) (checked_frames old) old.options.reproducible_resource_limit qs hs) places_are r)
     (ap UnsatCore (n ∙ same_names old (map text ys) hs ys_of.texts
     (subst (λ m. All (λ (x : Held). x.place < m) hs) (sym (length-map ys text)) (held_named old.stack xs ys ps (checked_trees old) (checked_frames old) old.settings.workers old.options.reproducible_resource_limit hs h ys_of p r))))
@@ -139,7 +140,7 @@ pub assumptions_answered : (decided : Decided) (old mid : State) (xs : List Asse
     → MayCome decided old (get_unsat_assumptions old) (UnsatAssumptions found) (Core hs) mid
 assumptions_answered decided old mid xs below texts found ps hs unsat on e h b t p r n =
     let count : below ≡ length (stack_texts old) = b ∙ sym (length-map xs text) ∙ ap length h.texts in
-    assumptions_given decided old hs (UnsatAssumptions found) (Core hs) mid unsat on e
+    core_given decided assumed Named.ProduceUnsatAssumptions old.options.produce_unsat_assumptions old hs (UnsatAssumptions found) (Core hs) mid unsat on e
     (subst (λ qs. IsReduced old.settings.workers (checked_trees old) (checked_frames old) old.options.reproducible_resource_limit qs hs)
     (p ∙ ap (λ m. range_with_len m (length texts)) count ∙ ap (λ ws. range_with_len (length (stack_texts old)) (length ws)) t) r)
     (ap UnsatAssumptions (n ∙ same_texts old below texts hs t count (held_within below (below + length texts) (checked_trees old) (checked_frames old) old.settings.workers old.options.reproducible_resource_limit ps hs (assumed_inside below texts ps p) r)))

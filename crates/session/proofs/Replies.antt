@@ -5,7 +5,7 @@ use Rattle.smt_meaning.specs.declared.answers.Reply.{Reply}
 use Rattle.smt_meaning.specs.declared.replies.Kept.TheVariants.{Nothing, Core}
 use Rattle.smt_meaning.specs.declared.commands.Command.{Command}
 use Rattle.smt_meaning.specs.declared.commands.Command.TheVariants.{CheckSat, CheckSatAssuming, GetUnsatCore, GetUnsatAssumptions, Minimize}
-use Rattle.smt_meaning.specs.State.{State, Effect, denied, left_out, accepted, answered, checked, minimizes, reduces, effect, with_logic, in_logic, checks, assuming, check_assuming, minimizing, minimize, checked_frames, frame_of, get_value, kept_model, valued, provided, named, assumed, is_unsat, get_unsat_core, get_unsat_assumptions}
+use Rattle.smt_meaning.specs.State.{State, Effect, denied, left_out, accepted, answered, checked, minimizes, reduces, effect, with_logic, in_logic, checks, assuming, check_assuming, minimizing, minimize, checked_frames, frame_of, get_value, kept_model, valued, provided, Candidates, is_unsat, get_unsat_core, get_unsat_assumptions}
 use Rattle.smt_meaning.specs.MayReply.{Decided, MayCome, MayDecide, MayMinimize, MayReply}
 use Rattle.smt_meaning.specs.Core.{IsCore, core_reply}
 use Rattle.smt_meaning.specs.declared.replies.Held.{Held}
@@ -26,6 +26,7 @@ use Rattle.session.specs.declared.answer.Answer.{Answer}
 use Rattle.session.specs.declared.assuming.Assumed.{Assumed}
 use Rattle.smt_meaning.specs.declared.values.Table.{Table}
 use Rattle.smt_meaning.specs.declared.answers.Mode.TheVariants as In
+use Rattle.smt_meaning.specs.declared.options.OptionName.{OptionName}
 use Rattle.smt_meaning.specs.declared.options.OptionName.TheVariants as Named
 use Rattle.theory_port.specs.Found.{IsFound}
 use Rattle.session.proofs.Aboves.{above_stays}
@@ -225,40 +226,22 @@ assumptions_reply_so decided old c reply kept new is h = subst (λ d. MayReply d
 
 -- ---- cores
 
-pub core_not_unsat : (decided : Decided) (old : State) (new : State) → is_unsat old.mode ≡ false → new ≡ old → MayCome decided old (get_unsat_core old) (Given.Error NotUnsat) Nothing new
-core_not_unsat decided old new m e = rw m (record { reply_is = refl; kept_is = refl; new_is = e })
+-- what asks for a core of these candidates comes to, where this option has this value
+abbrev pub asks_core : Candidates → OptionName → Bool → State → Effect
+asks_core among option on s = provided (is_unsat s.mode) NotUnsat (provided on (OptionIsOff option) (reduces among))
 
-core_effect : (old : State) (b : Bool) → is_unsat old.mode ≡ true → old.options.produce_unsat_cores ≡ b → get_unsat_core old ≡ provided b (OptionIsOff Named.ProduceUnsatCores) (reduces named)
-core_effect old b m o =
-    ap (λ a. provided a NotUnsat (provided old.options.produce_unsat_cores (OptionIsOff Named.ProduceUnsatCores) (reduces named))) m
-    ∙ ap (λ a. provided a (OptionIsOff Named.ProduceUnsatCores) (reduces named)) o
+pub core_not_unsat : (decided : Decided) (among : Candidates) (option : OptionName) (on : Bool) (old : State) (new : State) → is_unsat old.mode ≡ false → new ≡ old → MayCome decided old (asks_core among option on old) (Given.Error NotUnsat) Nothing new
+core_not_unsat decided among option on old new m e = rw m (record { reply_is = refl; kept_is = refl; new_is = e })
 
-pub core_off : (decided : Decided) (old : State) (new : State) → is_unsat old.mode ≡ true → old.options.produce_unsat_cores ≡ false → new ≡ old
-    → MayCome decided old (get_unsat_core old) (Given.Error (OptionIsOff Named.ProduceUnsatCores)) Nothing new
-core_off decided old new m o e =
-    comes_of decided old (get_unsat_core old) (denied (OptionIsOff Named.ProduceUnsatCores)) (Given.Error (OptionIsOff Named.ProduceUnsatCores)) Nothing new (core_effect old false m o)
-    (record { reply_is = refl; kept_is = refl; new_is = e })
+core_effect : (among : Candidates) (option : OptionName) (on : Bool) (old : State) (b : Bool) → is_unsat old.mode ≡ true → on ≡ b → asks_core among option on old ≡ provided b (OptionIsOff option) (reduces among)
+core_effect among option on old b m o = ap (λ a. provided a NotUnsat (provided on (OptionIsOff option) (reduces among))) m ∙ ap (λ a. provided a (OptionIsOff option) (reduces among)) o
 
-pub core_given : (decided : Decided) (old : State) (hs : List Held) (reply : Reply) (kept : Kept) (new : State) → is_unsat old.mode ≡ true → old.options.produce_unsat_cores ≡ true → new ≡ old
-    → IsCore named old hs → reply ≡ core_reply named old hs → kept ≡ Core hs → MayCome decided old (get_unsat_core old) reply kept new
-core_given decided old hs reply kept new m o e core r k = comes_of decided old (get_unsat_core old) (reduces named) reply kept new (core_effect old true m o) (hs, k, core, r, e)
+pub core_off : (decided : Decided) (among : Candidates) (option : OptionName) (on : Bool) (old : State) (new : State) → is_unsat old.mode ≡ true → on ≡ false → new ≡ old
+    → MayCome decided old (asks_core among option on old) (Given.Error (OptionIsOff option)) Nothing new
+core_off decided among option on old new m o e =
+    comes_of decided old (asks_core among option on old) (denied (OptionIsOff option)) (Given.Error (OptionIsOff option)) Nothing new (core_effect among option on old false m o) (record { reply_is = refl; kept_is = refl; new_is = e })
 
-pub assumptions_not_unsat : (decided : Decided) (old : State) (new : State) → is_unsat old.mode ≡ false → new ≡ old → MayCome decided old (get_unsat_assumptions old) (Given.Error NotUnsat) Nothing new
-assumptions_not_unsat decided old new m e = rw m (record { reply_is = refl; kept_is = refl; new_is = e })
-
-assumptions_effect : (old : State) (b : Bool) → is_unsat old.mode ≡ true → old.options.produce_unsat_assumptions ≡ b
-    → get_unsat_assumptions old ≡ provided b (OptionIsOff Named.ProduceUnsatAssumptions) (reduces assumed)
-assumptions_effect old b m o =
-    ap (λ a. provided a NotUnsat (provided old.options.produce_unsat_assumptions (OptionIsOff Named.ProduceUnsatAssumptions) (reduces assumed))) m
-    ∙ ap (λ a. provided a (OptionIsOff Named.ProduceUnsatAssumptions) (reduces assumed)) o
-
-pub assumptions_off : (decided : Decided) (old : State) (new : State) → is_unsat old.mode ≡ true → old.options.produce_unsat_assumptions ≡ false → new ≡ old
-    → MayCome decided old (get_unsat_assumptions old) (Given.Error (OptionIsOff Named.ProduceUnsatAssumptions)) Nothing new
-assumptions_off decided old new m o e =
-    comes_of decided old (get_unsat_assumptions old) (denied (OptionIsOff Named.ProduceUnsatAssumptions)) (Given.Error (OptionIsOff Named.ProduceUnsatAssumptions)) Nothing new
-    (assumptions_effect old false m o) (record { reply_is = refl; kept_is = refl; new_is = e })
-
-pub assumptions_given : (decided : Decided) (old : State) (hs : List Held) (reply : Reply) (kept : Kept) (new : State) → is_unsat old.mode ≡ true → old.options.produce_unsat_assumptions ≡ true → new ≡ old
-    → IsCore assumed old hs → reply ≡ core_reply assumed old hs → kept ≡ Core hs → MayCome decided old (get_unsat_assumptions old) reply kept new
-assumptions_given decided old hs reply kept new m o e core r k =
-    comes_of decided old (get_unsat_assumptions old) (reduces assumed) reply kept new (assumptions_effect old true m o) (hs, k, core, r, e)
+pub core_given : (decided : Decided) (among : Candidates) (option : OptionName) (on : Bool) (old : State) (hs : List Held) (reply : Reply) (kept : Kept) (new : State) → is_unsat old.mode ≡ true → on ≡ true → new ≡ old
+    → IsCore among old hs → reply ≡ core_reply among old hs → kept ≡ Core hs → MayCome decided old (asks_core among option on old) reply kept new
+core_given decided among option on old hs reply kept new m o e core r k =
+    comes_of decided old (asks_core among option on old) (reduces among) reply kept new (core_effect among option on old true m o) (hs, k, core, r, e)

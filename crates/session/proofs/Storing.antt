@@ -1,13 +1,15 @@
 -- Terms of a body that are stored one after another.
-use Rattle.std.proofs.Common.{◌≡◌, ℕ, zero, suc, ◌+◌, ◌<◌, Bool, true, false, List, [], ◌∷◌, ◌++◌, length, take, drop, map, ap, sym, subst, ◌∙◌, refl, arith, All, slice_index, get_or, append_assoc, append-nil}
+use Rattle.std.proofs.Common.{◌≡◌, ℕ, zero, suc, ◌+◌, ◌<◌, Bool, true, false, List, [], ◌∷◌, ◌++◌, length, take, map, ap, sym, subst, ◌∙◌, refl, arith, All, slice_index}
 use Rattle.std.specs.Prelude.{if◌then◌else◌}
-use Rattle.std.proofs.lemmas.List.{get_or_append_left, get_or-append-add, length-append, length-map, length_push, map-append, take-append-drop}
+use Rattle.std.proofs.lemmas.List.{get_or_append_left, length-append, length-map, length_push, map-append}
 use Rattle.std.proofs.lemmas.List.Elements.{All-head, All-tail, All-nil, All-cons}
 use Rattle.smt_meaning.specs.declared.nodes.Node.{Node}
 use Rattle.smt_meaning.specs.Term.{Tree, node, more, tree_at}
 use Rattle.smt_meaning.specs.TreeShape.{is_among, with_tree}
 use Rattle.smt_meaning.specs.Nodes.{pick, tree_of, trees_from, trees_of, joined, AreNodes, AreNodesAfter}
 use Rattle.term_store.specs.Terms.{tree_with, IsPlace}
+use Rattle.term_store.proofs.NodeLemmas.{length-trees_of, trees_from-append}
+use Rattle.term_store.proofs.Layers.{joined_next, next_part}
 use Rattle.session.specs.Stored.{AreStored}
 
 -- ---- one term
@@ -88,17 +90,6 @@ pub trees_push : (ns : List Node) (ts : List Tree) (n : Node) → trees_from ts 
 trees_push [] ts n = refl
 trees_push (m ∷ ns) ts n = trees_push ns (ts ++ tree_of ts m ∷ []) n
 
-trees_append : (ns ms : List Node) (ts : List Tree) → trees_from ts (ns ++ ms) ≡ trees_from (trees_from ts ns) ms
-trees_append [] ms ts = refl
-trees_append (n ∷ ns) ms ts = trees_append ns ms (ts ++ tree_of ts n ∷ [])
-
-length-trees_from : (ns : List Node) (ts : List Tree) → length (trees_from ts ns) ≡ length ts + length ns
-length-trees_from [] ts = omega arith
-length-trees_from (n ∷ ns) ts =
-    let rest : length (trees_from (ts ++ tree_of ts n ∷ []) ns) ≡ length (ts ++ tree_of ts n ∷ []) + length ns = length-trees_from ns (ts ++ tree_of ts n ∷ []) in
-    let long : length (ts ++ tree_of ts n ∷ []) ≡ length ts + 1 = length_push ts (tree_of ts n) in
-    omega (arith, rest, long)
-
 -- after one more node
 pub next_stored : (ts us : List Tree) (places places2 : List ℕ) (before all : List Node) (n : Node) (start : List Tree) → AreStored (trees_from start before) ts places
     → all ≡ before ++ n ∷ [] → AreStored (map (tree_at ts) places ++ tree_of (map (tree_at ts) places) n ∷ []) us places2 → AreStored (trees_from start all) us places2
@@ -115,38 +106,17 @@ one_more ts us places places2 t k =
 
 -- ---- parts of a list
 
-joined-append : (ps qs : List (List Node)) → joined (ps ++ qs) ≡ joined ps ++ joined qs
-joined-append [] qs = refl
-joined-append (p ∷ ps) qs = ap (λ ns. p ++ ns) (joined-append ps qs) ∙ sym (append_assoc p (joined ps) (joined qs))
-
-joined_push : (ps : List (List Node)) (p : List Node) → joined (ps ++ p ∷ []) ≡ joined ps ++ p
-joined_push ps p = joined-append ps (p ∷ []) ∙ ap (λ ns. joined ps ++ ns) (append-nil p)
-
-middle : (before ns rest : List Node) → AreNodes ((before ++ ns) ++ rest) → AreNodesAfter (length before) ns
-middle before ns rest a k d h =
-    let size : length ((before ++ ns) ++ rest) ≡ length (before ++ ns) + length rest = length-append (before ++ ns) rest in
-    let two : length (before ++ ns) ≡ length before + length ns = length-append before ns in
-    let here : get_or ((before ++ ns) ++ rest) (length before + k) d ≡ get_or ns k d =
-    get_or_append_left (before ++ ns) rest d (length before + k) (omega arith) ∙ get_or-append-add before ns k d in
-    subst (λ (n : Node). All (λ i. i < length before + k) n.arguments) here (a (length before + k) d (omega arith))
-
 -- the next part comes after what is stored of those before
 pub part_nodes : (ps : List (List Node)) (i : ℕ) (p ns : List Node) (ts : List Tree) (places : List ℕ) → take (i + 1) ps ≡ take i ps ++ p ∷ [] → ns ≡ p → AreNodes (joined ps)
     → AreStored (trees_of (joined (take i ps))) ts places → AreNodesAfter (length places) ns
-part_nodes ps i p ns ts places t e a h =
-    let split : joined ps ≡ (joined (take i ps) ++ p) ++ joined (drop (i + 1) ps) =
-    ap joined (sym (take-append-drop (i + 1) ps)) ∙ joined-append (take (i + 1) ps) (drop (i + 1) ps) ∙ ap (λ ms. ms ++ joined (drop (i + 1) ps)) (ap joined t ∙ joined_push (take i ps) p) in
-    let all : length (trees_of (joined (take i ps))) ≡ length {A = Tree} [] + length (joined (take i ps)) = length-trees_from (joined (take i ps)) [] in
-    let stored : length places ≡ length (trees_of (joined (take i ps))) = count_stored (trees_of (joined (take i ps))) ts places h in
-    let size : length (joined (take i ps)) ≡ length places = omega (arith, all, stored) in
-    subst (λ ms. AreNodesAfter (length places) ms) (sym e) (subst (λ m. AreNodesAfter m p) size (middle (joined (take i ps)) p (joined (drop (i + 1) ps)) (subst AreNodes split a)))
+part_nodes ps i p ns ts places t e a h = next_part ps i (length places) p ns t e a (sym (length-trees_of (joined (take i ps))) ∙ sym (count_stored (trees_of (joined (take i ps))) ts places h))
 
 -- after one more part
 pub part_stored : (ps : List (List Node)) (i : ℕ) (p ns : List Node) (ts us : List Tree) (places places2 : List ℕ) → take (i + 1) ps ≡ take i ps ++ p ∷ [] → ns ≡ p
     → AreStored (trees_of (joined (take i ps))) ts places → AreStored (trees_from (map (tree_at ts) places) ns) us places2 → AreStored (trees_of (joined (take (i + 1) ps))) us places2
 part_stored ps i p ns ts us places places2 t e h k =
     let all : trees_of (joined (take (i + 1) ps)) ≡ trees_from (trees_of (joined (take i ps))) p =
-    ap trees_of (ap joined t ∙ joined_push (take i ps) p) ∙ trees_append (joined (take i ps)) p [] in
+    ap trees_of (joined_next ps i p t) ∙ trees_from-append [] (joined (take i ps)) p in
     subst (λ xs. AreStored xs us places2) (sym all) (subst (λ xs. AreStored (trees_from xs p) us places2) h.trees (subst (λ ms. AreStored (trees_from (map (tree_at ts) places) ms) us places2) e k))
 
 -- ---- what is stored

@@ -1,5 +1,5 @@
 //! The truth values of names under a kept model (SMT-LIB 2.6, section 4.2.6).
-ghost use Rattle.std.specs.Prelude.{◌≡◌, ◌<◌, ◌++◌, ◌∷◌, [], true, length, map, All, IfOk, IfErr, OnOk, slice_index, IsTrue};
+ghost use Rattle.std.specs.Prelude.{◌≡◌, ◌<◌, ◌++◌, ◌∷◌, [], true, length, map, All, IfOk, IfErr, OnOk};
 ghost use Rattle.smt_meaning.specs.Term.{tree_at, value as value_of, fits, truth_of};
 ghost use Rattle.smt_meaning.specs.Interpretation.{meaning};
 ghost use Rattle.smt_meaning.specs.Nodes.{tree_of, trees_from, trees_of, joined, AreNodes, AreNodesAfter};
@@ -11,25 +11,13 @@ use model_eval::{EvalError, value};
 use smt_meaning::language::NamedTruth;
 use smt_meaning::{Body, Bytes, Declaration, Interp, Layer, Node, Seq, Sort, TermId, Value};
 use std::alloc::{AllocError, Global};
-use term_store::TermStore;
+use term_store::{TermStore, chosen};
 
 /// Terms in a store of their own, and the place of each there.
 #[derive(Drop)]
 pub struct StoredTerms {
     store: TermStore,
     places: Vec<TermId>,
-}
-
-/// The places at these places.
-fn picked(alloc: Global, places: &[TermId], arguments: &[TermId]) -> Result<Vec<TermId>, AllocError>
-    requires { All (λ i. i < length places.now) arguments.now }
-    ensures { IfOk result (λ v. v.items ≡ map (slice_index places.now) arguments.now) }
-{
-    let mut out = Vec::new(alloc);
-    for argument in arguments {
-        out.push(places[*argument as usize])?;
-    }
-    Ok(out)
 }
 
 /// Stores one more term, whose arguments are earlier ones.
@@ -43,7 +31,7 @@ fn store_node(
     requires arguments { All (λ i. i < length places.old.items) node.now.arguments }
     ensures { OnOk result (AreStored (map (tree_at store.old.trees) places.old.items ++ tree_of (map (tree_at store.old.trees) places.old.items) node.now ∷ []) store.new.trees places.new.items) }
 {
-    let arguments = picked(alloc, places, node.arguments.as_slice())?;
+    let arguments = chosen(alloc, places, node.arguments.as_slice())?;
     let Ok(place) = store.intern(node.head, &arguments) else {
         return Err(AllocError);
     };

@@ -1,9 +1,9 @@
 //! Cores of the last check (SMT-LIB 2.6, section 4.2.7).
 ghost use Rattle.std.specs.Prelude.{◌≡◌, ◌+◌, ◌-◌, ◌^◌, ◌++◌, ◌<◌, List, length, map, flat_map, All, IfOk};
 ghost use Rattle.std.specs.List.{range_with_len};
-ghost use Rattle.smt_meaning.specs.Core.{IsReduced, name_of, name_or_none, named_places as places_of_names, text_at};
+ghost use Rattle.smt_meaning.specs.Core.{name_of, name_or_none, named_places as places_of_names, text_at};
 ghost use Rattle.smt_meaning.specs.Sexp.{sexp};
-ghost use Rattle.smt_meaning.specs.Stack.{HasNoModel, assertions_of};
+ghost use Rattle.smt_meaning.specs.Stack.{assertions_of};
 ghost use Rattle.smt_meaning.specs.State.{texts_of as texts_of_level};
 ghost use Rattle.smt_meaning.specs.Term.{Tree};
 ghost use Rattle.goal_search.specs.Tries.{AreCandidates};
@@ -92,28 +92,6 @@ pub(crate) fn texts_held(
     Ok(found)
 }
 
-/// A core of a stack, which stays as it is. An `Err` is for want of memory.
-fn core_alone<D: Decider>(
-    alloc: Global,
-    decider: &mut D,
-    settings: &Settings,
-    stack: &mut ScopeStack,
-    candidates: &[u64],
-) -> Result<Seq<Held>, AllocError>
-    requires may { D.may decider.old }
-    requires workers { 0 < settings.now.workers }
-    requires candidates { AreCandidates 0 (length (assertions_of stack.old.frames)) candidates.now }
-    requires none { HasNoModel stack.old.frames }
-    ensures still { D.may decider.new }
-    ensures stays { stack.new ≡ stack.old }
-    ensures core { IfOk result (IsReduced settings.now.workers stack.old.trees stack.old.frames settings.now.units candidates.now) }
-{
-    let mut seen = mem::replace(stack, ScopeStack::new(alloc)).into_stack();
-    let held = core(alloc, &mut seen, candidates, settings, decider);
-    *stack = ScopeStack::of(seen);
-    held
-}
-
 /// A core of a stack with a level of assumptions above it. The stack stays as it is. An `Err` is for want of memory.
 fn core_under<D: Decider>(
     alloc: Global,
@@ -161,7 +139,12 @@ pub(crate) fn core_of<D: Decider>(
     ensures core { IfOk result (IsReducedUnder stack.old above.now settings.now.workers settings.now.units candidates.now) }
 {
     match above {
-        Above::Nothing => core_alone(alloc, decider, settings, stack, candidates),
+        Above::Nothing => {
+            let mut seen = mem::replace(stack, ScopeStack::new(alloc)).into_stack();
+            let held = core(alloc, &mut seen, candidates, settings, decider);
+            *stack = ScopeStack::of(seen);
+            held
+        }
         Above::Assumed(assumptions) => {
             core_under(alloc, decider, settings, stack, assumptions, candidates)
         }

@@ -445,7 +445,7 @@ impl Session {
     }
 
     /// `(get-unsat-assumptions)`
-    #[tactic(auto, using(crate::proofs::Replies::assumptions_not_unsat, crate::proofs::Replies::assumptions_off))]
+    #[tactic(auto, using(crate::proofs::Replies::core_not_unsat, crate::proofs::Replies::core_off))]
     fn get_unsat_assumptions<D: Decider>(
         &mut self,
         alloc: Global,

@@ -3,6 +3,7 @@ pub mod Links
 pub mod IndexLemmas
 pub mod NodeLemmas
 pub mod RowLemmas
+pub mod Layers
 pub mod StoreLemmas
 pub mod PlaceLemmas
 pub mod PartLemmas

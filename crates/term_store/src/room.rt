@@ -1,25 +1,13 @@
 //! Terms of one list are put behind those of another.
-ghost use Rattle.std.specs.Prelude.{◌≡◌, ◌+◌, ◌≤◌, ◌<◌, All, IfOk, OnOk, OnErr, true, false, length, map, slice_index, take};
+ghost use Rattle.std.specs.Prelude.{◌≡◌, ◌+◌, ◌≤◌, ◌<◌, OnOk, OnErr, true, false, length, take};
 ghost use Rattle.smt_meaning.specs.Sorts.{with_all};
 ghost use Rattle.smt_meaning.specs.Term.{tree_at};
 ghost use Rattle.smt_meaning.specs.TreeShape.{with_parts};
 ghost use Rattle.term_store.specs.Room.{ArePlaces};
 
-use crate::{InternError, TermStore};
+use crate::{InternError, TermStore, chosen};
 use smt_meaning::TermId;
 use std::alloc::{AllocError, Global};
-
-/// What stands at these places.
-fn chosen(alloc: Global, places: &[TermId], terms: &[TermId]) -> Result<Vec<TermId>, AllocError>
-    requires { All (λ i. i < length places.now) terms.now }
-    ensures { IfOk result (λ v. v.items ≡ map (slice_index places.now) terms.now) }
-{
-    let mut found = Vec::new(alloc);
-    for term in terms {
-        found.push(places[*term as usize])?;
-    }
-    Ok(found)
-}
 
 /// Puts the next term behind others, where those before it have their places. An `Err` changes nothing.
 fn put(

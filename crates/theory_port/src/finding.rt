@@ -68,25 +68,6 @@ fn find_by_part<D: Decider>(
     }
 }
 
-/// What is found of the whole stack. `None` where the decider doesn't take it; an `Err` is for want of memory.
-fn find_by_whole<D: Decider>(
-    alloc: Global,
-    decider: &mut D,
-    settings: &Settings,
-    stack: &mut ScopeStack,
-) -> Result<Option<Verdict>, AllocError>
-    requires may { D.may decider.old }
-    requires workers { 0 < settings.now.workers }
-    ensures still { D.may decider.new }
-    ensures stays { stack.new ≡ stack.old }
-    ensures found { IfOk result (IsFound settings.now.workers D.decides stack.old.trees stack.old.frames settings.now.units) }
-{
-    let seen = mem::replace(stack, ScopeStack::new(alloc)).into_stack();
-    let found = find(alloc, decider, settings, &seen);
-    *stack = ScopeStack::of(seen);
-    found
-}
-
 /// What is found of a stack, which stays as it is. `None` where the decider doesn't take it; an `Err` is for want of memory.
 pub fn found<D: Decider>(
     alloc: Global,
@@ -100,8 +81,11 @@ pub fn found<D: Decider>(
     ensures stays { stack.new ≡ stack.old }
     ensures found { IfOk result (IsFound settings.now.workers D.decides stack.old.trees stack.old.frames settings.now.units) }
 {
-    match find_by_part(alloc, decider, settings, stack)? {
-        Some(verdict) => Ok(Some(verdict)),
-        None => find_by_whole(alloc, decider, settings, stack),
+    if let Some(verdict) = find_by_part(alloc, decider, settings, stack)? {
+        return Ok(Some(verdict));
     }
+    let seen = mem::replace(stack, ScopeStack::new(alloc)).into_stack();
+    let found = find(alloc, decider, settings, &seen);
+    *stack = ScopeStack::of(seen);
+    found
 }

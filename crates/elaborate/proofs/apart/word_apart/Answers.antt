@@ -1,10 +1,12 @@
+use Rattle.std.proofs.Common.{refl}
 use Rattle.smt_meaning.specs.Seen.{seen}
 use Rattle.elaborate.specs.Judged.{scope_of, rules_of}
-use Rattle.elaborate.proofs.Moves.{word_given, word_refused, none_awaits_term, all_wait}
+use Rattle.elaborate.specs.Steps.{awaits_term}
+use Rattle.elaborate.proofs.Moves.{word_given, word_refused, none_so, all_wait}
 use Rattle.elaborate.proofs.apart.word_apart.Goals as goal
 
 pub give-requires-clause-none : goal.give-requires-clause-none
-give-requires-clause-none c = none_awaits_term c.args.walk.now.answer c.args.walk.now.frames c.requires.kind
+give-requires-clause-none c = none_so awaits_term refl c.args.walk.now.answer c.args.walk.now.frames c.requires.kind
 
 pub give-requires-clause-waits : goal.give-requires-clause-waits
 give-requires-clause-waits c = all_wait c.args.walk.now.answer c.args.walk.now.frames c.requires.kind c.requires.stands.others

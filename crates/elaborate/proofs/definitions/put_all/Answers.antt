@@ -6,7 +6,8 @@ use Rattle.elaborate.specs.Values.{typed}
 use Rattle.elaborate.specs.Putting.{ArePut}
 use Rattle.elaborate.proofs.Grow.{values_grow, typeds_same}
 use Rattle.elaborate.proofs.Puts.{longer_both}
-use Rattle.elaborate.proofs.Laid.{joined_push, layer_nodes}
+use Rattle.term_store.proofs.Layers.{joined_next}
+use Rattle.elaborate.proofs.Laid.{layer_nodes}
 use Rattle.std.proofs.lemmas.List.{take_more}
 use Rattle.elaborate.proofs.definitions.put_all.Goals as goal
 
@@ -33,7 +34,7 @@ loop-layer-preserved c =
     let same : trees_of (map (typed ts0) c.args.arguments.now) ≡ trees_of (map (typed ts) c.args.arguments.now) =
     sym (ap trees_of (typeds_same ts0 ts c.args.arguments.now c.loop-layer.invariant.grown.0 c.requires.arguments)) in
     let all : joined (take i c.args.layers.now) ++ c.nodes.result.now ≡ joined (take (i + 1) c.args.layers.now) =
-    ap (λ (ns : List Node). joined (take i c.args.layers.now) ++ ns) c.nodes.ensures ∙ sym (joined_push (take i c.args.layers.now) p) ∙ ap joined (sym taken) in
+    ap (λ (ns : List Node). joined (take i c.args.layers.now) ++ ns) c.nodes.ensures ∙ sym (joined_next c.args.layers.now i p taken) in
     record {
       put = subst (λ (ns : List Node). ArePut (trees_of (map (typed ts0) c.args.arguments.now)) ts0 (terms_of ns) c.put_layer.new.values.items us) all
           (c.in_ok-put_layer.ensures.ok (joined (take i c.args.layers.now)) ts0 (trees_of (map (typed ts0) c.args.arguments.now)) same c.loop-layer.invariant.put);

@@ -1,7 +1,7 @@
-use Rattle.std.proofs.Common.{ap, sym, ◌∙◌}
+use Rattle.std.proofs.Common.{ap, sym, ◌∙◌, refl}
 use Rattle.look_ahead.specs.Ahead.{ahead}
 use Rattle.elaborate.specs.Steps.{is_answered, awaits_term, takes_list, is_head}
-use Rattle.elaborate.proofs.Moves.{enter_answered, enter_push, enter_refused, none_takes_list}
+use Rattle.elaborate.proofs.Moves.{enter_answered, enter_push, enter_refused, none_so}
 use Rattle.elaborate.proofs.steps.enter.Goals as goal
 
 pub returns-then-is_answered : goal.returns-then-is_answered
@@ -14,7 +14,7 @@ pub enter_form-requires-clause-kind : goal.enter_form-requires-clause-kind
 enter_form-requires-clause-kind c = (ap takes_list (sym c.what_comes-kind.ensures) ∙ sym c.takes_list.ensures ∙ c.if-takes_list.true)
 
 pub enter_form-requires-clause-none : goal.enter_form-requires-clause-none
-enter_form-requires-clause-none c = none_takes_list c.args.walk.now.answer c.args.walk.now.frames (ap takes_list (sym c.what_comes-kind.ensures) ∙ sym c.takes_list.ensures ∙ c.if-takes_list.true)
+enter_form-requires-clause-none c = none_so takes_list refl c.args.walk.now.answer c.args.walk.now.frames (ap takes_list (sym c.what_comes-kind.ensures) ∙ sym c.takes_list.ensures ∙ c.if-takes_list.true)
 
 pub returns : goal.returns
 returns c = λ s st. enter_refused (ahead c.args.term.now c.args.place) c.args.term.now s c.args.walk.now.answer c.args.walk.now.bindings c.args.walk.now.frames (ap is_answered (sym c.what_comes-kind.ensures) ∙ sym c.is_answered.ensures ∙ c.if-is_answered.false) (ap awaits_term (sym c.what_comes-kind.ensures) ∙ sym c.awaits_term.ensures ∙ c.if-awaits_term.false) (ap takes_list (sym c.what_comes-kind.ensures) ∙ sym c.takes_list.ensures ∙ c.if-takes_list.false) (ap is_head (sym c.what_comes-kind.ensures) ∙ sym c.is_head.ensures ∙ c.if-is_head.false)

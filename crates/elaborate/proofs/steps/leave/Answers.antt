@@ -1,7 +1,7 @@
-use Rattle.std.proofs.Common.{ap, sym, ◌∙◌}
+use Rattle.std.proofs.Common.{ap, sym, ◌∙◌, refl}
 use Rattle.elaborate.specs.Judged.{scope_of, rules_of}
 use Rattle.elaborate.specs.Steps.{is_answered, is_argument, is_divided, may_end}
-use Rattle.elaborate.proofs.Moves.{none_may_end, leave_answered, leave_refused}
+use Rattle.elaborate.proofs.Moves.{none_so, leave_answered, leave_refused}
 use Rattle.elaborate.proofs.steps.leave.Goals as goal
 
 pub returns-then-is_answered-clause-comes : goal.returns-then-is_answered-clause-comes
@@ -17,7 +17,7 @@ pub returns-clause-comes : goal.returns-clause-comes
 returns-clause-comes c = λ tokens. leave_refused (rules_of c.args.rules) tokens (scope_of c.args.table.now c.args.store.now.trees) c.args.walk.now.answer c.args.walk.now.bindings c.args.walk.now.frames (ap is_answered (sym c.what_comes-kind.ensures) ∙ sym c.is_answered.ensures ∙ c.if-is_answered.false) (ap is_argument (sym c.what_comes-kind.ensures) ∙ sym c.is_argument.ensures ∙ c.if-is_argument.false) (ap is_divided (sym c.what_comes-kind.ensures) ∙ sym c.is_divided.ensures ∙ c.if-is_divided.false) (ap may_end (sym c.what_comes-kind.ensures) ∙ sym c.may_end.ensures ∙ c.if-may_end.false)
 
 pub leave_form-requires-clause-none : goal.leave_form-requires-clause-none
-leave_form-requires-clause-none c = none_may_end c.args.walk.now.answer c.args.walk.now.frames (ap may_end (sym c.what_comes-kind.ensures) ∙ sym c.may_end.ensures ∙ c.if-may_end.true)
+leave_form-requires-clause-none c = none_so may_end refl c.args.walk.now.answer c.args.walk.now.frames (ap may_end (sym c.what_comes-kind.ensures) ∙ sym c.may_end.ensures ∙ c.if-may_end.true)
 
 pub leave_form-requires-clause-kind : goal.leave_form-requires-clause-kind
 leave_form-requires-clause-kind c = (ap may_end (sym c.what_comes-kind.ensures) ∙ sym c.may_end.ensures ∙ c.if-may_end.true)

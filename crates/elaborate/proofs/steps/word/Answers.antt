@@ -1,9 +1,9 @@
-use Rattle.std.proofs.Common.{ap, sym, ◌∙◌}
+use Rattle.std.proofs.Common.{ap, sym, ◌∙◌, refl}
 use Rattle.smt_meaning.specs.Seen.{seen}
 use Rattle.look_ahead.specs.Ahead.{ahead}
 use Rattle.elaborate.specs.Judged.{scope_of, rules_of}
 use Rattle.elaborate.specs.Steps.{is_past, awaits_term, is_head, takes_word}
-use Rattle.elaborate.proofs.Moves.{none_takes_word, word_past, word_wrong}
+use Rattle.elaborate.proofs.Moves.{none_so, word_past, word_wrong}
 use Rattle.elaborate.proofs.steps.word.Goals as goal
 
 pub returns-then-is_past-clause-comes : goal.returns-then-is_past-clause-comes
@@ -29,7 +29,7 @@ pub word_form-requires-clause-kind : goal.word_form-requires-clause-kind
 word_form-requires-clause-kind c = (ap takes_word (sym c.what_comes-kind.ensures) ∙ sym c.takes_word.ensures ∙ c.if-takes_word.true)
 
 pub word_form-requires-clause-none : goal.word_form-requires-clause-none
-word_form-requires-clause-none c = none_takes_word c.args.walk.now.answer c.args.walk.now.frames (ap takes_word (sym c.what_comes-kind.ensures) ∙ sym c.takes_word.ensures ∙ c.if-takes_word.true)
+word_form-requires-clause-none c = none_so takes_word refl c.args.walk.now.answer c.args.walk.now.frames (ap takes_word (sym c.what_comes-kind.ensures) ∙ sym c.takes_word.ensures ∙ c.if-takes_word.true)
 
 pub returns-then-takes_word-clause-comes : goal.returns-then-takes_word-clause-comes
 returns-then-takes_word-clause-comes c = c.word_form.ensures c.args.term.now (scope_of c.args.table.now c.args.store.now.trees) (ahead c.args.term.now c.args.place) c.requires.stands

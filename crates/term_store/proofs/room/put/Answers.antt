@@ -27,13 +27,13 @@ full_error x e = let s : x ≡ Full = cc in ap (λ z. Err z) s
 pub intern-requires : goal.intern-requires
 intern-requires c =
     let got : c.deref-2.result.now ≡ map (slice_index c.args.places.now.items) c.node-node.result.arguments.now =
-    chosen_are c.args.places.now.items c.deref.result.now c.in_ok-arguments.arguments.items c.node-node.result.arguments.now c.deref-2.result.now c.deref.ensures.value c.deref-2.ensures.value c.in_ok-arguments.ensures in
+    chosen_are c.args.places.now.items c.deref.result.now c.in_ok-arguments.arguments.items c.node-node.result.arguments.now c.deref-2.result.now c.deref.ensures.value c.deref-2.ensures.value (c.in_ok-arguments.ensures 0) in
     below c.args.others.now.trees c.args.places.now.items c.args.store.now.trees c.node-node.result.arguments.now c.deref-2.result.now c.args.id c.requires.places c.requires.size c.node-node.ensures.earlier got
 
 pub returns-clause-full : goal.returns-clause-full
 returns-clause-full c e =
     let got : c.deref-2.result.now ≡ map (slice_index c.args.places.now.items) c.node-node.result.arguments.now =
-    chosen_are c.args.places.now.items c.deref.result.now c.in_ok-arguments.arguments.items c.node-node.result.arguments.now c.deref-2.result.now c.deref.ensures.value c.deref-2.ensures.value c.in_ok-arguments.ensures in
+    chosen_are c.args.places.now.items c.deref.result.now c.in_ok-arguments.arguments.items c.node-node.result.arguments.now c.deref-2.result.now c.deref.ensures.value c.deref-2.ensures.value (c.in_ok-arguments.ensures 0) in
     subst (λ t. c.args.store.now.limit < length (with_parts c.args.store.now.trees t))
     (same c.args.others.now.trees c.args.places.now.items c.args.store.now.trees c.node-node.result.head c.node-node.result.arguments.now c.deref-2.result.now c.args.id c.requires.places c.requires.size c.node-node.ensures.earlier c.node-node.ensures.tree got)
     (one_too_many c.args.store.now c.node-node.result.head c.deref-2.result.now c.len-complete.ensures.parts
@@ -43,7 +43,7 @@ returns-clause-full c e =
 pub returns-in-Ok-clause-trees : goal.returns-in-Ok-clause-trees
 returns-in-Ok-clause-trees c =
     let got : c.deref-2.result.now ≡ map (slice_index c.args.places.now.items) c.node-node.result.arguments.now =
-    chosen_are c.args.places.now.items c.deref.result.now c.in_ok-arguments.arguments.items c.node-node.result.arguments.now c.deref-2.result.now c.deref.ensures.value c.deref-2.ensures.value c.in_ok-arguments.ensures in
+    chosen_are c.args.places.now.items c.deref.result.now c.in_ok-arguments.arguments.items c.node-node.result.arguments.now c.deref-2.result.now c.deref.ensures.value c.deref-2.ensures.value (c.in_ok-arguments.ensures 0) in
     c.in-Ok.ensures.parts
     ∙ ap (with_parts c.args.store.now.trees)
     (same c.args.others.now.trees c.args.places.now.items c.args.store.now.trees c.node-node.result.head c.node-node.result.arguments.now c.deref-2.result.now c.args.id c.requires.places c.requires.size c.node-node.ensures.earlier c.node-node.ensures.tree got)
@@ -51,7 +51,7 @@ returns-in-Ok-clause-trees c =
 pub returns-in-Ok-clause-places : goal.returns-in-Ok-clause-places
 returns-in-Ok-clause-places c =
     let got : c.deref-2.result.now ≡ map (slice_index c.args.places.now.items) c.node-node.result.arguments.now =
-    chosen_are c.args.places.now.items c.deref.result.now c.in_ok-arguments.arguments.items c.node-node.result.arguments.now c.deref-2.result.now c.deref.ensures.value c.deref-2.ensures.value c.in_ok-arguments.ensures in
+    chosen_are c.args.places.now.items c.deref.result.now c.in_ok-arguments.arguments.items c.node-node.result.arguments.now c.deref-2.result.now c.deref.ensures.value c.deref-2.ensures.value (c.in_ok-arguments.ensures 0) in
     let tree : tree_with c.args.store.now.trees c.node-node.result.head c.deref-2.result.now ≡ tree_at c.args.others.now.trees c.args.id =
     same c.args.others.now.trees c.args.places.now.items c.args.store.now.trees c.node-node.result.head c.node-node.result.arguments.now c.deref-2.result.now c.args.id c.requires.places c.requires.size c.node-node.ensures.earlier c.node-node.ensures.tree got in
     places_more c.args.others.now.trees c.args.places.now.items c.push_reserved.new.self.items c.args.store.now.trees c.intern.new.self.trees c.args.id c.in-Ok.place c.requires.size

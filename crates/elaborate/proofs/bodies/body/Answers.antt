@@ -3,7 +3,7 @@ use Rattle.smt_meaning.specs.declared.values.Sort.{Sort}
 use Rattle.smt_meaning.specs.Sorts.{done}
 use Rattle.elaborate.specs.Judged.{scope_of}
 use Rattle.elaborate.proofs.Bodied.{body_done, body_refused}
-use Rattle.elaborate.proofs.bodies.typed_body.Goals as goal
+use Rattle.elaborate.proofs.bodies.body.Goals as goal
 
 pub returns-in-Ok-judged_body-clause-ok : goal.returns-in-Ok-judged_body-clause-ok
 returns-in-Ok-judged_body-clause-ok c = λ ts.

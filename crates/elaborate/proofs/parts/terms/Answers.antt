@@ -1,9 +1,0 @@
-use Rattle.std.proofs.Common.{◌≡◌, ◌+◌, suc, subst, arith}
-use Rattle.elaborate.proofs.Copies.{AreFirst, one_more}
-use Rattle.elaborate.proofs.parts.terms.Goals as goal
-
-pub loop-id-preserved : goal.loop-id-preserved
-loop-id-preserved c =
-    let e : suc c.loop-id.id ≡ c.loop-id.id + 1 = omega arith in
-    subst (λ n. AreFirst c.args.store.now.trees n c.push.new.self.items) e
-    (one_more c.args.store.now.trees c.loop-id.id c.loop-id.nodes.items c.push.new.self.items c.in_ok-node.node c.loop-id.invariant (omega (arith, c.len-id-end.ensures.value, c.loop-id-test.true)) c.in_ok-push.ensures.items c.in_ok-node.ensures.tree c.in_ok-node.ensures.earlier)

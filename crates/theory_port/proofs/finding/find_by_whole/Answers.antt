@@ -1,8 +1,0 @@
-use Rattle.std.proofs.Common.{◌∙◌, subst, IfOk}
-use Rattle.smt_meaning.specs.StackCommand.{Stack}
-use Rattle.theory_port.specs.Found.{IsFound}
-use Rattle.theory_port.proofs.finding.find_by_whole.Goals as goal
-
-pub returns-clause-found : goal.returns-clause-found
-returns-clause-found g c =
-    subst (λ (s : Stack). IfOk c.find-found.result (IsFound c.args.settings.now.workers g.D.Decider.decides s.trees s.frames c.args.settings.now.units)) (c.into_stack-seen.ensures.same ∙ c.replace.ensures.value) c.find-found.ensures.found
