@@ -6,7 +6,7 @@ use Rattle.std.specs.List.{slice_range}
 use Rattle.smt_meaning.specs.declared.tokens.Token.{Token}
 use Rattle.smt_meaning.specs.declared.tokens.Token.TheVariants.{Enter, Leave}
 use Rattle.smt_meaning.specs.Reading.{IsSExpr, IsInner, most_open}
-use Rattle.smt_meaning.specs.Sexp.{Sexp, Sexps, group, end, ◌▸◌, tokens, before, open_lists_of, is_proper, are_proper, nested}
+use Rattle.smt_meaning.specs.Sexp.{Sexp, Sexps, group, end, ◌▸◌, tokens, open_lists_of, is_proper, are_proper, nested}
 use Rattle.smt_laws.proofs.Both.{and_left, and_both}
 use Rattle.smt_laws.proofs.SExprLaw.{written, written_more, written_back, are_sexprs}
 use Rattle.smt_command.specs.declared.arguments.Arguments.{Arguments}

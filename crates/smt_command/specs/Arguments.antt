@@ -3,7 +3,10 @@ use Rattle.std.specs.Prelude.{ℕ, ◌+◌, ◌-◌, ◌≤◌, List, [], ◌∷
 use Rattle.smt_meaning.specs.declared.tokens.Token.{Token}
 use Rattle.smt_meaning.specs.declared.tokens.Token.TheVariants.{Enter, Leave, Numeral, Text, Keyword}
 use Rattle.smt_meaning.specs.Sexp.{Sexp, Sexps, word, group, end, ◌▸◌, open_lists_of, tokens}
+use Rattle.smt_meaning.specs.Command.{symbol}
 use Rattle.smt_command.specs.declared.arguments.Arguments.{Arguments}
+use Rattle.smt_command.specs.declared.arguments.Kind.{Kind}
+use Rattle.smt_command.specs.declared.arguments.Kind.TheVariants as Of
 
 -- the lists that are open at the place, the innermost first
 unfoldable pub open_lists : Arguments → List Sexps
@@ -57,6 +60,18 @@ numeral _ = None
 abbrev pub text : Sexp → Option (List ℕ)
 text (word (Text t)) = Some t
 text _ = None
+
+-- the bytes of a token of this kind
+abbrev pub bytes_as : Kind → Sexp → Option (List ℕ)
+bytes_as Of.Symbol = symbol
+bytes_as Of.Keyword = keyword
+bytes_as Of.Numeral = numeral
+bytes_as Of.Text = text
+
+-- the same of a token, where there is one
+abbrev pub bytes_in : Kind → Option Token → Option (List ℕ)
+bytes_in k None = None
+bytes_in k (Some t) = bytes_as k (word t)
 
 abbrev pub parts : Sexp → Option Sexps
 parts (word t) = None

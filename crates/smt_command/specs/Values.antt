@@ -6,10 +6,12 @@ use Rattle.smt_meaning.specs.declared.refusals.Refusal.{Refusal}
 use Rattle.smt_meaning.specs.declared.refusals.Refusal.TheVariants.{NumeralTooLarge, WrongArguments}
 use Rattle.smt_meaning.specs.declared.commands.Parameter.{Parameter}
 use Rattle.smt_meaning.specs.declared.commands.Command.{Command}
-use Rattle.smt_meaning.specs.Command.{written_sort, define_fun_of}
+use Rattle.smt_meaning.specs.declared.commands.WrittenSort.{WrittenSort}
+use Rattle.smt_meaning.specs.Command.{each, written_sort, define_fun_of}
 use Rattle.smt_meaning.specs.Sexp.{Sexp, Sexps, word, group, end, ◌▸◌}
 use Rattle.smt_meaning.specs.Sorts.{decimal, is_small}
 use Rattle.smt_command.specs.Arguments.{token_in}
+use Rattle.smt_command.specs.declared.forms.NameListSort.{NameListSort}
 
 -- the number that digits write, where it is at most 2^127 - 1
 unfoldable pub small_number : List ℕ → Result ℤ Refusal
@@ -45,3 +47,13 @@ level_count _ = Err WrongArguments
 abbrev pub with_body : List ℕ → List Parameter → Sexps → Result Command Refusal
 with_body n ps (s ▸ t ▸ end) = define_fun_of n (Some ps) (written_sort s) t
 with_body n ps _ = Err WrongArguments
+
+-- a name, a list and a sort, where the list and the sort could be read
+abbrev pub name_list_sort_of : {A : Type 0} → List ℕ → Option (List A) → Option WrittenSort → Option (NameListSort A)
+name_list_sort_of n (Some xs) (Some s) = Some (record { name = n; items = xs; sort = s })
+name_list_sort_of n _ _ = None
+
+-- symbol, (item ..), sort
+abbrev pub name_list_sort : {A : Type 0} → (Sexp → Option A) → Sexps → Option (NameListSort A)
+name_list_sort f (word (Symbol n) ▸ group xs ▸ s ▸ end) = name_list_sort_of n (each f xs) (written_sort s)
+name_list_sort f _ = None

@@ -4,12 +4,21 @@ ghost use Rattle.std.specs.Option.{option_map, option_copied};
 ghost use Rattle.smt_meaning.specs.Reading.{IsSExpr, IsInner};
 ghost use Rattle.smt_meaning.specs.Seen.{seen};
 ghost use Rattle.smt_meaning.specs.Sexp.{end, ◌▸◌, sexp, open_lists_of};
-ghost use Rattle.smt_meaning.specs.Command.{symbol, written_sort, parameter};
-ghost use Rattle.smt_command.specs.Arguments.{open_lists, IsInList, left, is_end, rest_of, depth_behind, first_by, token_in, keyword, numeral, text, parts, term};
+ghost use Rattle.smt_meaning.specs.Command.{written_sort, parameter};
+ghost use Rattle.smt_command.specs.Arguments.{open_lists, IsInList, left, is_end, rest_of, depth_behind, first_by, bytes_as, bytes_in, token_in, parts, term};
 
 use smt_meaning::language::{Parameter, WrittenSort};
 use smt_meaning::{Inner, SExpr, Seq, TokenView};
 use std::alloc::{AllocError, Global};
+
+/// Tokens that hold bytes: the name of a symbol or of a keyword, the digits of a numeral, what a string literal says.
+#[derive(Clone, Copy, Drop)]
+pub enum Kind {
+    Symbol,
+    Keyword,
+    Numeral,
+    Text,
+}
 
 /// What is left to read of a list: the s-expressions from a place on, to the list's end. Past the end there is nothing.
 #[derive(Clone, Copy, Drop)]
@@ -91,62 +100,19 @@ impl<'a> Arguments<'a> {
 }
 
 impl<'a> Arguments<'a> {
-    /// The name of a symbol, which is read where it is next.
-    pub fn symbol(&mut self) -> Option<&'a [u8]>
-        ensures name { option_copied result ≡ first_by symbol (left self.old) }
+    /// The bytes of a token of this kind, which is read where it is next.
+    #[tactic(auto, using(crate::proofs::TokenBytes::first_bytes))]
+    pub fn word(&mut self, kind: Kind) -> Option<&'a [u8]>
+        ensures bytes { option_copied result ≡ first_by (bytes_as kind) (left self.old) }
         ensures read { OnSome result (left self.new ≡ rest_of (left self.old)) }
         ensures kept { IfNone result (left self.new ≡ left self.old) }
         ensures inside { IsInList self.old → IsInList self.new }
     {
-        match self.peek() {
-            Some(TokenView::Symbol(name)) => {
-                self.skip();
-                Some(name)
-            }
-            _ => None,
-        }
-    }
-
-    /// A keyword, which is read where it is next.
-    pub fn keyword(&mut self) -> Option<&'a [u8]>
-        ensures name { option_copied result ≡ first_by keyword (left self.old) }
-        ensures read { OnSome result (left self.new ≡ rest_of (left self.old)) }
-    {
-        match self.peek() {
-            Some(TokenView::Keyword(name)) => {
-                self.skip();
-                Some(name)
-            }
-            _ => None,
-        }
-    }
-
-    /// The digits of a numeral, which is read where it is next.
-    pub fn numeral(&mut self) -> Option<&'a [u8]>
-        ensures digits { option_copied result ≡ first_by numeral (left self.old) }
-        ensures read { OnSome result (left self.new ≡ rest_of (left self.old)) }
-    {
-        match self.peek() {
-            Some(TokenView::Numeral(digits)) => {
-                self.skip();
-                Some(digits)
-            }
-            _ => None,
-        }
-    }
-
-    /// The bytes of a string literal, which is read where it is next.
-    pub fn text(&mut self) -> Option<&'a [u8]>
-        ensures bytes { option_copied result ≡ first_by text (left self.old) }
-        ensures read { OnSome result (left self.new ≡ rest_of (left self.old)) }
-    {
-        match self.peek() {
-            Some(TokenView::Text(bytes)) => {
-                self.skip();
-                Some(bytes)
-            }
-            _ => None,
-        }
+        let Some(bytes) = bytes_in(self.peek(), kind) else {
+            return None;
+        };
+        self.skip();
+        Some(bytes)
     }
 
     /// What stands in a list, which is read where it is next.
@@ -193,13 +159,13 @@ impl<'a> Arguments<'a> {
         ensures sort { IfOk result (λ r. r ≡ first_by written_sort (left self.old)) }
         ensures read { IfOk result (λ r. OnSome r (left self.new ≡ rest_of (left self.old))) }
     {
-        if let Some(name) = self.symbol() {
+        if let Some(name) = self.word(Kind::Symbol) {
             return Ok(Some(WrittenSort::Name(Seq::copy(alloc, name)?)));
         }
         let Some(mut inside) = self.list() else {
             return Ok(None);
         };
-        let Some(name) = inside.symbol() else {
+        let Some(name) = inside.word(Kind::Symbol) else {
             return Ok(None);
         };
         Ok(Some(WrittenSort::Applied(Seq::copy(alloc, name)?)))
@@ -213,7 +179,7 @@ impl<'a> Arguments<'a> {
         let Some(mut inside) = self.list() else {
             return Ok(None);
         };
-        let Some(name) = inside.symbol() else {
+        let Some(name) = inside.word(Kind::Symbol) else {
             return Ok(None);
         };
         let Some(sort) = inside.sort(alloc)? else {
@@ -224,6 +190,19 @@ impl<'a> Arguments<'a> {
         }
         let name = Seq::copy(alloc, name)?;
         Ok(Some(Parameter { name, sort }))
+    }
+}
+
+/// The bytes that a token holds, where it is of this kind.
+fn bytes_in<'a>(token: Option<TokenView<'a>>, kind: Kind) -> Option<&'a [u8]>
+    ensures { option_copied result ≡ bytes_in kind (option_map seen token.entry) }
+{
+    match (kind, token) {
+        (Kind::Symbol, Some(TokenView::Symbol(name))) => Some(name),
+        (Kind::Keyword, Some(TokenView::Keyword(name))) => Some(name),
+        (Kind::Numeral, Some(TokenView::Numeral(digits))) => Some(digits),
+        (Kind::Text, Some(TokenView::Text(bytes))) => Some(bytes),
+        _ => None,
     }
 }
 

@@ -3,12 +3,12 @@ ghost use Rattle.std.specs.Prelude.{◌≡◌, IfOk};
 ghost use Rattle.smt_meaning.specs.declared.commands.Command.TheVariants.{DeclareSort, Push, Pop};
 ghost use Rattle.smt_meaning.specs.Command.{bare, levels, with_numeral, set_logic, echo, declare_sort, define_sort, declare_const, declare_fun, define_fun, assert_form, get_value, check_sat_assuming, minimize};
 ghost use Rattle.smt_command.specs.Arguments.{left, IsInList};
-ghost use Rattle.smt_command.specs.Values.{level_count, with_body};
+ghost use Rattle.smt_command.specs.Values.{level_count, name_list_sort, with_body};
 
-use crate::arguments::Arguments;
-use crate::lists;
+use crate::arguments::{Arguments, Kind};
+use crate::lists::{self, Listed};
 use crate::number::number;
-use smt_meaning::language::{Command, Parameter};
+use smt_meaning::language::{Command, Parameter, WrittenSort};
 use smt_meaning::{Bytes, Inner, Refusal, Seq};
 use std::alloc::{AllocError, Global};
 
@@ -30,7 +30,7 @@ fn level_count(mut arguments: Arguments<'_>) -> Result<i128, Refusal>
     if arguments.is_end() {
         return Ok(1);
     }
-    let Some(digits) = arguments.numeral() else {
+    let Some(digits) = arguments.word(Kind::Numeral) else {
         return Err(Refusal::WrongArguments);
     };
     if !arguments.is_end() {
@@ -62,7 +62,7 @@ pub fn set_logic(
 ) -> Result<Result<Command, Refusal>, AllocError>
     ensures { IfOk result (λ r. r ≡ set_logic (left arguments.entry)) }
 {
-    let Some(name) = arguments.symbol() else {
+    let Some(name) = arguments.word(Kind::Symbol) else {
         return Ok(Err(Refusal::WrongArguments));
     };
     if !arguments.is_end() {
@@ -78,7 +78,7 @@ pub fn echo(
 ) -> Result<Result<Command, Refusal>, AllocError>
     ensures { IfOk result (λ r. r ≡ echo (left arguments.entry)) }
 {
-    let Some(text) = arguments.text() else {
+    let Some(text) = arguments.word(Kind::Text) else {
         return Ok(Err(Refusal::WrongArguments));
     };
     if !arguments.is_end() {
@@ -94,10 +94,10 @@ pub fn declare_sort(
 ) -> Result<Result<Command, Refusal>, AllocError>
     ensures { IfOk result (λ r. r ≡ declare_sort (left arguments.entry)) }
 {
-    let Some(name) = arguments.symbol() else {
+    let Some(name) = arguments.word(Kind::Symbol) else {
         return Ok(Err(Refusal::WrongArguments));
     };
-    let Some(digits) = arguments.numeral() else {
+    let Some(digits) = arguments.word(Kind::Numeral) else {
         return Ok(Err(Refusal::WrongArguments));
     };
     let declared = sort_declaration(Seq::copy(alloc, name)?, digits);
@@ -118,28 +118,51 @@ fn sort_declaration(name: Bytes, digits: &[u8]) -> Result<Command, Refusal>
 }
 
 /// The command `define-sort` with these arguments: a symbol, a list of symbols and a sort.
+#[tactic(auto, using(crate::proofs::SortForms::sort_read))]
 pub fn define_sort(
     alloc: Global,
-    mut arguments: Arguments<'_>,
+    arguments: Arguments<'_>,
 ) -> Result<Result<Command, Refusal>, AllocError>
     ensures { IfOk result (λ r. r ≡ define_sort (left arguments.entry)) }
 {
-    let Some(name) = arguments.symbol() else {
+    let Some(read) = name_list_sort(alloc, arguments)? else {
         return Ok(Err(Refusal::WrongArguments));
+    };
+    Ok(Ok(Command::DefineSort(read.name, read.items, read.sort)))
+}
+
+/// A symbol, a list and a sort, as which arguments were read.
+#[derive(Drop)]
+struct NameListSort<T> {
+    name: Bytes,
+    items: Seq<T>,
+    sort: WrittenSort,
+}
+
+/// These arguments as a symbol, a list and a sort.
+fn name_list_sort<T: Listed + Drop>(
+    alloc: Global,
+    mut arguments: Arguments<'_>,
+) -> Result<Option<NameListSort<T>>, AllocError>
+    ensures { IfOk result (λ r. r ≡ name_list_sort T.read_as (left arguments.entry)) }
+{
+    let Some(name) = arguments.word(Kind::Symbol) else {
+        return Ok(None);
     };
     let Some(inside) = arguments.list() else {
-        return Ok(Err(Refusal::WrongArguments));
+        return Ok(None);
     };
-    let Some(parameters) = lists::symbols(alloc, inside)? else {
-        return Ok(Err(Refusal::WrongArguments));
+    let Some(items) = lists::all(alloc, inside)? else {
+        return Ok(None);
     };
     let Some(sort) = arguments.sort(alloc)? else {
-        return Ok(Err(Refusal::WrongArguments));
+        return Ok(None);
     };
     if !arguments.is_end() {
-        return Ok(Err(Refusal::WrongArguments));
+        return Ok(None);
     }
-    Ok(Ok(Command::DefineSort(Seq::copy(alloc, name)?, parameters, sort)))
+    let name = Seq::copy(alloc, name)?;
+    Ok(Some(NameListSort { name, items, sort }))
 }
 
 /// The command `declare-const` with these arguments: a symbol and a sort.
@@ -149,7 +172,7 @@ pub fn declare_const(
 ) -> Result<Result<Command, Refusal>, AllocError>
     ensures { IfOk result (λ r. r ≡ declare_const (left arguments.entry)) }
 {
-    let Some(name) = arguments.symbol() else {
+    let Some(name) = arguments.word(Kind::Symbol) else {
         return Ok(Err(Refusal::WrongArguments));
     };
     let Some(sort) = arguments.sort(alloc)? else {
@@ -162,28 +185,17 @@ pub fn declare_const(
 }
 
 /// The command `declare-fun` with these arguments: a symbol, a list of sorts and a sort.
+#[tactic(auto, using(crate::proofs::SortForms::function_read))]
 pub fn declare_fun(
     alloc: Global,
-    mut arguments: Arguments<'_>,
+    arguments: Arguments<'_>,
 ) -> Result<Result<Command, Refusal>, AllocError>
     ensures { IfOk result (λ r. r ≡ declare_fun (left arguments.entry)) }
 {
-    let Some(name) = arguments.symbol() else {
+    let Some(read) = name_list_sort(alloc, arguments)? else {
         return Ok(Err(Refusal::WrongArguments));
     };
-    let Some(inside) = arguments.list() else {
-        return Ok(Err(Refusal::WrongArguments));
-    };
-    let Some(parameters) = lists::sorts(alloc, inside)? else {
-        return Ok(Err(Refusal::WrongArguments));
-    };
-    let Some(sort) = arguments.sort(alloc)? else {
-        return Ok(Err(Refusal::WrongArguments));
-    };
-    if !arguments.is_end() {
-        return Ok(Err(Refusal::WrongArguments));
-    }
-    Ok(Ok(Command::DeclareFun(Seq::copy(alloc, name)?, parameters, sort)))
+    Ok(Ok(Command::DeclareFun(read.name, read.items, read.sort)))
 }
 
 /// The command `define-fun` with these arguments: a symbol, a list of symbols with their sorts, a sort and a term.
@@ -193,13 +205,13 @@ pub fn define_fun(
 ) -> Result<Result<Command, Refusal>, AllocError>
     ensures { IfOk result (λ r. r ≡ define_fun (left arguments.entry)) }
 {
-    let Some(name) = arguments.symbol() else {
+    let Some(name) = arguments.word(Kind::Symbol) else {
         return Ok(Err(Refusal::WrongArguments));
     };
     let Some(inside) = arguments.list() else {
         return Ok(Err(Refusal::WrongArguments));
     };
-    let Some(parameters) = lists::parameters(alloc, inside)? else {
+    let Some(parameters) = lists::all(alloc, inside)? else {
         return Ok(Err(Refusal::WrongArguments));
     };
     definition(alloc, name, parameters, arguments)

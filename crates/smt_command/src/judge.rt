@@ -5,7 +5,7 @@ ghost use Rattle.smt_meaning.specs.Sexp.{sexp};
 ghost use Rattle.smt_command.specs.Arguments.{left, IsInList};
 ghost use Rattle.smt_command.specs.FormOf.{form_of};
 
-use crate::arguments::Arguments;
+use crate::arguments::{Arguments, Kind};
 use crate::names::{CommandName, command_name};
 use crate::{forms, settings};
 use smt_meaning::language::{Command, Error};
@@ -19,7 +19,7 @@ pub fn command(alloc: Global, sexpr: &SExpr) -> Result<Result<Command, Error>, A
     let Some(mut arguments) = Arguments::whole(sexpr).enter() else {
         return Ok(Err(Error::NotCommand));
     };
-    let Some(name) = arguments.symbol() else {
+    let Some(name) = arguments.word(Kind::Symbol) else {
         return Ok(Err(Error::NotCommand));
     };
     let Some(known) = command_name(name) else {

@@ -6,7 +6,7 @@ ghost use Rattle.smt_meaning.specs.Core.{first_named as first_name_among, name_o
 ghost use Rattle.smt_command.specs.Arguments.{left, is_end, first_by};
 ghost use Rattle.smt_command.specs.Namings.{annotated as annotated_in, count};
 
-use crate::arguments::Arguments;
+use crate::arguments::{Arguments, Kind};
 use smt_meaning::{SExpr, TokenView, Word};
 
 /// The annotated term and its attributes, where the next s-expression is an annotation.
@@ -36,7 +36,7 @@ fn next_name<'a>(attributes: &mut Arguments<'a>) -> Option<&'a [u8]>
     let Some(TokenView::Keyword(keyword)) = first else {
         return None;
     };
-    let Some(name) = attributes.symbol() else {
+    let Some(name) = attributes.word(Kind::Symbol) else {
         return None;
     };
     if keyword == b"named".as_slice() {

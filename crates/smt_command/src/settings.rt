@@ -7,7 +7,7 @@ ghost use Rattle.smt_meaning.specs.Command.{set_option, get_option, set_info, ge
 ghost use Rattle.smt_command.specs.Arguments.{left};
 ghost use Rattle.smt_command.specs.Values.{only_value, value_sexp, truth_in, number_in};
 
-use crate::arguments::Arguments;
+use crate::arguments::{Arguments, Kind};
 use crate::names::{info_name, option_name};
 use crate::number::number;
 use smt_meaning::language::{Channel, Command, OptionName, OptionSetting};
@@ -17,7 +17,7 @@ use smt_meaning::{Refusal, TokenView};
 pub fn set_option(mut arguments: Arguments<'_>) -> Result<Command, Refusal>
     ensures { result ≡ set_option (left arguments.entry) }
 {
-    let Some(keyword) = arguments.keyword() else {
+    let Some(keyword) = arguments.word(Kind::Keyword) else {
         return Err(Refusal::WrongArguments);
     };
     let Some(value) = only_value(arguments) else {
@@ -33,7 +33,7 @@ pub fn set_option(mut arguments: Arguments<'_>) -> Result<Command, Refusal>
 pub fn get_option(mut arguments: Arguments<'_>) -> Result<Command, Refusal>
     ensures { result ≡ get_option (left arguments.entry) }
 {
-    let Some(keyword) = arguments.keyword() else {
+    let Some(keyword) = arguments.word(Kind::Keyword) else {
         return Err(Refusal::WrongArguments);
     };
     if !arguments.is_end() {
@@ -49,7 +49,7 @@ pub fn get_option(mut arguments: Arguments<'_>) -> Result<Command, Refusal>
 pub fn set_info(mut arguments: Arguments<'_>) -> Result<Command, Refusal>
     ensures { result ≡ set_info (left arguments.entry) }
 {
-    if arguments.keyword().is_none() {
+    if arguments.word(Kind::Keyword).is_none() {
         return Err(Refusal::WrongArguments);
     }
     if !arguments.is_end() && only_value(arguments).is_none() {
@@ -62,7 +62,7 @@ pub fn set_info(mut arguments: Arguments<'_>) -> Result<Command, Refusal>
 pub fn get_info(mut arguments: Arguments<'_>) -> Result<Command, Refusal>
     ensures { result ≡ get_info (left arguments.entry) }
 {
-    let Some(keyword) = arguments.keyword() else {
+    let Some(keyword) = arguments.word(Kind::Keyword) else {
         return Err(Refusal::WrongArguments);
     };
     if !arguments.is_end() {

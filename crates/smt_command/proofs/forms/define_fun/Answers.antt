@@ -12,6 +12,6 @@ returns c =
     let ps = c.in-Some-2.parameters in
     let read = c.in-Some.ensures.read in
     let e =
-    with_name ss n xs ps c.in-Some.ensures.name (c.in-Some-list.ensures.parts ∙ ap (first_by parts) read) (sym c.in-Some-2.is ∙ c.in_ok-parameters.ensures)
+    with_name ss n xs ps c.in-Some.ensures.bytes (c.in-Some-list.ensures.parts ∙ ap (first_by parts) read) (sym c.in-Some-2.is ∙ c.in_ok-parameters.ensures)
     ∙ ap (with_body n ps) (sym (c.in-Some-list.ensures.read ∙ ap rest_of read)) in
     subst (λ x. IfOk c.definition.result (λ r. r ≡ x)) (sym e) c.definition.ensures
