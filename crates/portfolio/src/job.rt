@@ -5,7 +5,7 @@ ghost use Rattle.worker.specs.Outcome.{IsOutcome, IsReportOf, MemoryAloneIsRepor
 ghost use Rattle.portfolio.specs.Jobs.{IsReady, IsDone, job_worker};
 
 use check_atoms::{atoms_are_first, numbered, takes};
-use first_clauses::{FirstError, check_clauses, first_clauses_say_standing, keep_axioms};
+use first_clauses::{check_clauses, first_clauses_say_standing, keep_axioms};
 use ports::Gate;
 use race_cell::{Pass, Race};
 use race_model::Shelf;
@@ -76,13 +76,8 @@ fn form<S: Shelf, G: Gate>(
     };
     let mut store = match check_clauses(alloc, stack, stack.sorts(), &mut parts) {
         Ok(store) => store,
-        Err(FirstError::Refused(cause)) => {
+        Err(cause) => {
             let report = refused(alloc, stack, settings, worker, cause);
-            return reported(stack, settings, pass, report);
-        }
-        // The stack's type doesn't say that its terms are linear, as those are that commands make.
-        Err(FirstError::NotLinear(_)) => {
-            let report = out_of_memory(alloc, stack, settings, worker);
             return reported(stack, settings, pass, report);
         }
     };
