@@ -31,8 +31,8 @@ linear_at (t ∷ ts) zero h = All-head IsLinear t ts h
 linear_at (t ∷ ts) (suc p) h = linear_at ts p (All-tail IsLinear t ts h)
 
 pub lawful_readable : LeavesAreParts → LawfulPartsAreReadable
-lawful_readable parts s p lawful linear k = record {
-  linear = linear_at s.trees p linear;
+lawful_readable parts s p lawful k = record {
+  linear = linear_at s.trees p lawful.linear;
   leaves_within =
       let within : (u : Tree) → IsPart u k.assertion → IsAmong s.trees u =
       All-contains (λ (t : Tree). (u : Tree) → IsPart u t → IsAmong s.trees u) (assertions_of s.frames) k.assertion lawful.parts k.asserted

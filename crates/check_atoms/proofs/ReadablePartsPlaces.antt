@@ -50,4 +50,4 @@ pub places_readable : LeavesAreParts → TreesAreInOrder → TreesAreLinear → 
 places_readable parts order linear cs p within = readable (after_all start cs).trees p parts (order cs) (linear cs) within
 
 pub lawful_places : LeavesAreParts → LawfulPlacesAreReadable
-lawful_places parts s p lawful linear within = readable s.trees p parts lawful.in_order linear within
+lawful_places parts s p lawful within = readable s.trees p parts lawful.in_order lawful.linear within

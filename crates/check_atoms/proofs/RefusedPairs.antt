@@ -1,12 +1,14 @@
 -- The form of the first term of a refused pair is in the range, so the pair leaves it; and the refused limits of whole stacks.
-use Rattle.std.proofs.Common.{◌≡◌, ℕ, subst, sym, true, inl, inr}
+use Rattle.std.proofs.Common.{◌≡◌, ℕ, List, subst, sym, true, inl, inr}
+use Rattle.smt_meaning.specs.declared.commands.Command.{Command}
 use Rattle.smt_meaning.specs.Term.{tree_at}
 use Rattle.smt_meaning.specs.Linear.{folding_fits}
 use Rattle.smt_meaning.specs.StackCommand.{Stack, start, after_all}
 use Rattle.smt_laws.specs.TermLaws.{NoIdTwice}
 use Rattle.smt_laws.specs.SortLaws.{AssertionsAreTruths, TreesAreInOrder, PartsAreAmongTheTrees}
-use Rattle.smt_laws.specs.LinearLaws.{NumeralsAreInRange, PlacedFormsFit}
+use Rattle.smt_laws.specs.LinearLaws.{NumeralsAreInRange, PlacedFormsFit, TreesAreLinear}
 use Rattle.bound_clauses.specs.declared.orders.Order.{Order}
+use Rattle.scope_stack.specs.Shown.{IsLawful}
 use Rattle.check_atoms.specs.declared.refusal.Refusal.TheVariants.{Pair, Memory}
 use Rattle.check_atoms.specs.OfStack.{IsRefused}
 use Rattle.check_atoms.specs.Laws.{RefusedPairLeavesRange}
@@ -26,10 +28,12 @@ first_folds s part o (inr r) = elim r.atom [
 pub lawful_pairs : PlacedFormsFit → RefusedPairLeavesRange → LawfulPairsLeaveRange
 lawful_pairs fit leaves s part o lawful numerals refused = leaves s part o lawful (fit s.trees o.lesser numerals (first_folds s part o refused)) refused
 
-pub refused_pairs : LawfulPairsLeaveRange → NumeralsAreInRange → NoIdTwice → AssertionsAreTruths → TreesAreInOrder → PartsAreAmongTheTrees → RefusedPairsLeaveRange
-refused_pairs leave numerals ids truths order parts cs part o refused =
-    leave (after_all start cs) part o (record { no_id_twice = ids cs; truths = truths cs; in_order = order cs; parts = parts cs; numerals = numerals cs }) (numerals cs) refused
+-- the stack that commands give is lawful
+given_lawful : NumeralsAreInRange → NoIdTwice → AssertionsAreTruths → TreesAreInOrder → PartsAreAmongTheTrees → TreesAreLinear → (cs : List Command) → IsLawful (after_all start cs)
+given_lawful numerals ids truths order parts linear cs = record { no_id_twice = ids cs; truths = truths cs; in_order = order cs; parts = parts cs; numerals = numerals cs; linear = linear cs }
 
-pub refused_limits : LawfulLimitsLeaveRange → NumeralsAreInRange → NoIdTwice → AssertionsAreTruths → TreesAreInOrder → PartsAreAmongTheTrees → RefusedLimitsLeaveRange
-refused_limits leaves numerals ids truths order parts cs part refused =
-    leaves (after_all start cs) part (record { no_id_twice = ids cs; truths = truths cs; in_order = order cs; parts = parts cs; numerals = numerals cs }) (numerals cs) refused
+pub refused_pairs : LawfulPairsLeaveRange → NumeralsAreInRange → NoIdTwice → AssertionsAreTruths → TreesAreInOrder → PartsAreAmongTheTrees → TreesAreLinear → RefusedPairsLeaveRange
+refused_pairs leave numerals ids truths order parts linear cs part o refused = leave (after_all start cs) part o (given_lawful numerals ids truths order parts linear cs) (numerals cs) refused
+
+pub refused_limits : LawfulLimitsLeaveRange → NumeralsAreInRange → NoIdTwice → AssertionsAreTruths → TreesAreInOrder → PartsAreAmongTheTrees → TreesAreLinear → RefusedLimitsLeaveRange
+refused_limits leaves numerals ids truths order parts linear cs part refused = leaves (after_all start cs) part (given_lawful numerals ids truths order parts linear cs) (numerals cs) refused

@@ -1,8 +1,7 @@
 -- Laws of the places at which parts of the assertions stand.
-use Rattle.std.specs.Prelude.{ℕ, ◌<◌, List, length, All, IsTrue}
+use Rattle.std.specs.Prelude.{ℕ, ◌<◌, List, length}
 use Rattle.smt_meaning.specs.declared.commands.Command.{Command}
-use Rattle.smt_meaning.specs.Term.{Tree, tree_at}
-use Rattle.smt_meaning.specs.TreeShape.{is_linear}
+use Rattle.smt_meaning.specs.Term.{tree_at}
 use Rattle.smt_meaning.specs.CheckAtoms.{IsPartOfStack}
 use Rattle.smt_meaning.specs.StackCommand.{Stack, start, after_all}
 use Rattle.scope_stack.specs.Shown.{IsLawful}
@@ -13,15 +12,14 @@ abbrev pub PartsAreReadable : Type 0
 PartsAreReadable =
     (cs : List Command) (p : ℕ) → IsPartOfStack (after_all start cs).frames (tree_at (after_all start cs).trees p) → IsReadable (after_all start cs).trees p
 
--- so it is on each lawful stack whose trees are linear
+-- so it is on each lawful stack
 abbrev pub LawfulPartsAreReadable : Type 0
-LawfulPartsAreReadable =
-    (s : Stack) (p : ℕ) → IsLawful s → All (λ (t : Tree). IsTrue (is_linear t)) s.trees → IsPartOfStack s.frames (tree_at s.trees p) → IsReadable s.trees p
+LawfulPartsAreReadable = (s : Stack) (p : ℕ) → IsLawful s → IsPartOfStack s.frames (tree_at s.trees p) → IsReadable s.trees p
 
 -- whatever commands come, each place of the list of trees has a linear tree whose leaves are among the trees
 abbrev pub PlacesAreReadable : Type 0
 PlacesAreReadable = (cs : List Command) (p : ℕ) → p < length (after_all start cs).trees → IsReadable (after_all start cs).trees p
 
--- so it is on each lawful stack whose trees are linear
+-- so it is on each lawful stack
 abbrev pub LawfulPlacesAreReadable : Type 0
-LawfulPlacesAreReadable = (s : Stack) (p : ℕ) → IsLawful s → All (λ (t : Tree). IsTrue (is_linear t)) s.trees → p < length s.trees → IsReadable s.trees p
+LawfulPlacesAreReadable = (s : Stack) (p : ℕ) → IsLawful s → p < length s.trees → IsReadable s.trees p

@@ -64,6 +64,7 @@ pub fn refused_pairs_leave_range()
     assertions_are_truths();
     trees_are_in_order();
     parts_are_among_the_trees();
+    trees_are_linear();
 }
 
 /// The same of each lawful stack whose numerals are in the range.
@@ -84,6 +85,7 @@ pub fn refused_limits_leave_range()
     assertions_are_truths();
     trees_are_in_order();
     parts_are_among_the_trees();
+    trees_are_linear();
 }
 
 /// The same of each lawful stack whose numerals are in the range.
@@ -102,7 +104,7 @@ pub fn parts_are_readable()
     leaves_are_among_the_trees();
 }
 
-/// The same of each lawful stack whose trees are linear.
+/// The same of each lawful stack.
 pub fn lawful_parts_are_readable()
     ensures { LawfulPartsAreReadable }
 {
@@ -118,7 +120,7 @@ pub fn places_are_readable()
     trees_are_linear();
 }
 
-/// The same of each lawful stack whose trees are linear.
+/// The same of each lawful stack.
 pub fn lawful_places_are_readable()
     ensures { LawfulPlacesAreReadable }
 {

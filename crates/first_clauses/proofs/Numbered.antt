@@ -22,14 +22,14 @@ use Rattle.bound_clauses.specs.Orders.{order_atoms, bound_atom}
 use Rattle.check_atoms.specs.declared.part.PartAtom.{PartAtom}
 use Rattle.check_atoms.specs.declared.part.PartAtom.TheVariants.{Bound, Limit}
 use Rattle.check_atoms.specs.PartAtoms.{atom_of, by_sort as part_by_sort, alone_by_sort, pair as part_pair, alone, neighbours_from, first_with, each_two as each_two_atoms, of_equal, of_distinct, compared, sort_of}
-use Rattle.check_atoms.proofs.Sorting.{sort_is, left_true, right_true}
+use Rattle.check_atoms.proofs.Sorting.{sort_is}
 use Rattle.order_clauses.specs.declared.pairs.Pair.{Pair}
-use Rattle.order_clauses.specs.Pairs.{pair, neighbours, with_each, each_two}
+use Rattle.order_clauses.specs.Pairs.{pair, neighbours, with_each, each_two, pairs_of}
 use Rattle.order_clauses.specs.Clauses.{limit_bound, sort_at, by_sort, of_ints}
 use Rattle.order_clauses.specs.Needed.{row_truth_atoms, atoms_of_row, atoms_of_pair, atoms_of_equality, atoms_of_choice, atoms_of_part, HaveTruths}
 use Rattle.order_clauses.specs.Sound.{HasSort}
 use Rattle.order_clauses.proofs.DivisionRows.{IsSilent, quotient_silent, remainder_silent, absolute_silent}
-use Rattle.order_clauses.proofs.Sorting.{asked, if_so_true, and_left}
+use Rattle.order_clauses.proofs.Sorting.{asked, if_so_true, one_sort, and_left}
 
 module _ (ds : List Declaration) (ts : List Tree) (table : List Atom) where
   abbrev AreIn : List PartAtom → Type 0
@@ -109,38 +109,38 @@ module _ (ds : List Declaration) (ts : List Tree) (table : List Atom) where
         (first_in i is (All-head IsOfSort i is s) (left_in (first_with sort i is) (each_two_atoms sort is) h))
         (two_in is (All-tail IsOfSort i is s) (right_in (first_with sort i is) (each_two_atoms sort is) h))
 
-  equal_in : (r : Sort) (p i : ℕ) (is : List ℕ) → Contains table (Truth p) → All (λ k. sort k ≡ Some r) (i ∷ is) → AreIn (of_equal sort (i ∷ is))
-      → All (Contains table) (by_sort r (length (i ∷ is)) (λ int. atoms_of_equality ts int Equal p (i ∷ is)))
-  equal_in Truths p i is t s h = All-nil (Contains table)
-  equal_in Ints p i [] t s h = All-cons (Contains table) (Truth p) [] t (All-nil (Contains table))
-  equal_in Ints p i (j ∷ []) t s h =
-      All-cons (Contains table) (Truth p) (atoms_of_pair ts true (pair i j) ++ []) t (single_in i j (All-head (λ k. sort k ≡ Some Ints) i (j ∷ []) s) h)
-  equal_in Ints p i (j ∷ k ∷ ls) t s h =
-      All-cons (Contains table) (Truth p) (flat_map (atoms_of_pair ts true) (neighbours i (j ∷ k ∷ ls))) t (neighbours_in Ints true tt i (j ∷ k ∷ ls) s h)
-  equal_in (Free n) p i [] t s h = All-cons (Contains table) (Truth p) [] t (All-nil (Contains table))
-  equal_in (Free n) p i (j ∷ []) t s h = All-nil (Contains table)
-  equal_in (Free n) p i (j ∷ k ∷ ls) t s h = by (nat_eq (length (i ∷ j ∷ k ∷ ls)) 2)
+  -- what an operator compares of more than two, or of Ints, is known by the pairs that it compares; one that compares two elements has no clauses
+  compared_in : (r : Sort) (o : Operator) (p : ℕ) (is : List ℕ) → Contains table (Truth p)
+      → ((int : Bool) → Compares r int → (int ≡ false → nat_eq (length is) 2 ≡ false) → All (Contains table) (flat_map (atoms_of_pair ts int) (pairs_of o is)))
+      → All (Contains table) (by_sort r (length is) (λ int. atoms_of_equality ts int o p is))
+  compared_in Truths o p is t f = All-nil (Contains table)
+  compared_in Ints o p is t f = All-cons (Contains table) (Truth p) (flat_map (atoms_of_pair ts true) (pairs_of o is)) t (f true tt (λ e. absurd cc))
+  compared_in (Free n) o p is t f = by (nat_eq (length is) 2) refl
     where
-      by : (b : Bool) → All (Contains table) (if b then [] else atoms_of_equality ts false Equal p (i ∷ j ∷ k ∷ ls))
-      by true = All-nil (Contains table)
-      by false =
-          All-cons (Contains table) (Truth p) (flat_map (atoms_of_pair ts false) (neighbours i (j ∷ k ∷ ls))) t (neighbours_in (Free n) false tt i (j ∷ k ∷ ls) s h)
+      by : (b : Bool) → nat_eq (length is) 2 ≡ b → All (Contains table) (if b then [] else atoms_of_equality ts false o p is)
+      by true e = All-nil (Contains table)
+      by false e = All-cons (Contains table) (Truth p) (flat_map (atoms_of_pair ts false) (pairs_of o is)) t (f false tt (λ _. e))
 
-  distinct_in : (r : Sort) (p i : ℕ) (is : List ℕ) → Contains table (Truth p) → All (λ k. sort k ≡ Some r) (i ∷ is) → AreIn (of_distinct sort (i ∷ is))
-      → All (Contains table) (by_sort r (length (i ∷ is)) (λ int. atoms_of_equality ts int Distinct p (i ∷ is)))
-  distinct_in Truths p i is t s h = All-nil (Contains table)
-  distinct_in Ints p i [] t s h = All-cons (Contains table) (Truth p) [] t (All-nil (Contains table))
-  distinct_in Ints p i (j ∷ []) t s h =
-      All-cons (Contains table) (Truth p) (atoms_of_pair ts true (pair i j) ++ []) t (single_in i j (All-head (λ k. sort k ≡ Some Ints) i (j ∷ []) s) h)
-  distinct_in Ints p i (j ∷ k ∷ ls) t s h =
-      All-cons (Contains table) (Truth p) (flat_map (atoms_of_pair ts true) (each_two (i ∷ j ∷ k ∷ ls))) t (two_in Ints true tt (i ∷ j ∷ k ∷ ls) s h)
-  distinct_in (Free n) p i [] t s h = All-cons (Contains table) (Truth p) [] t (All-nil (Contains table))
-  distinct_in (Free n) p i (j ∷ []) t s h = All-nil (Contains table)
-  distinct_in (Free n) p i (j ∷ k ∷ ls) t s h = by (nat_eq (length (i ∷ j ∷ k ∷ ls)) 2)
-    where
-      by : (b : Bool) → All (Contains table) (if b then [] else atoms_of_equality ts false Distinct p (i ∷ j ∷ k ∷ ls))
-      by true = All-nil (Contains table)
-      by false = All-cons (Contains table) (Truth p) (flat_map (atoms_of_pair ts false) (each_two (i ∷ j ∷ k ∷ ls))) t (two_in (Free n) false tt (i ∷ j ∷ k ∷ ls) s h)
+  two_told : (r : Sort) (int : Bool) (i j : ℕ) → Compares r int → (int ≡ false → true ≡ false) → sort i ≡ Some r → AreIn (alone sort i j) → All (Contains table) (atoms_of_pair ts int (pair i j) ++ [])
+  two_told Truths int i j c more s h = absurd c
+  two_told Ints true i j c more s h = single_in i j s h
+  two_told Ints false i j c more s h = absurd c
+  two_told (Free n) true i j c more s h = absurd c
+  two_told (Free n) false i j c more s h = absurd (let x : true ≡ false = more refl in cc)
+
+  equal_told : (r : Sort) (int : Bool) (is : List ℕ) → Compares r int → (int ≡ false → nat_eq (length is) 2 ≡ false) → All (λ k. sort k ≡ Some r) is → AreIn (of_equal sort is)
+      → All (Contains table) (flat_map (atoms_of_pair ts int) (pairs_of Equal is))
+  equal_told r int [] c more s h = All-nil (Contains table)
+  equal_told r int (i ∷ []) c more s h = All-nil (Contains table)
+  equal_told r int (i ∷ j ∷ []) c more s h = two_told r int i j c more (All-head (λ k. sort k ≡ Some r) i (j ∷ []) s) h
+  equal_told r int (i ∷ j ∷ k ∷ ls) c more s h = neighbours_in r int c i (j ∷ k ∷ ls) s h
+
+  distinct_told : (r : Sort) (int : Bool) (is : List ℕ) → Compares r int → (int ≡ false → nat_eq (length is) 2 ≡ false) → All (λ k. sort k ≡ Some r) is → AreIn (of_distinct sort is)
+      → All (Contains table) (flat_map (atoms_of_pair ts int) (pairs_of Distinct is))
+  distinct_told r int (i ∷ j ∷ []) c more s h = two_told r int i j c more (All-head (λ k. sort k ≡ Some r) i (j ∷ []) s) h
+  distinct_told r int [] c more s h = two_in r int c [] s h
+  distinct_told r int (i ∷ []) c more s h = two_in r int c (i ∷ []) s h
+  distinct_told r int (i ∷ j ∷ k ∷ ls) c more s h = two_in r int c (i ∷ j ∷ k ∷ ls) s h
 
   choice_in : (r : Sort) (p c i j : ℕ) → sort p ≡ Some r → Contains table (Truth c) → AreIn (alone sort p i ++ alone sort p j) → All (Contains table) (of_ints r (atoms_of_choice ts p c i j))
   choice_in Truths p c i j e t h = All-nil (Contains table)
@@ -191,15 +191,6 @@ module _ (ds : List Declaration) (ts : List Tree) (table : List Atom) where
 
 -- ---- of a part
 
-module _ (ds : List Declaration) (ts : List Tree) (sorts : List Sort) where
-  -- where all listed sorts of these are one, so are those that they have
-  pub same_sorts : (r : Sort) (is : List ℕ) → All (HasSort ds ts sorts) is → all_of r (map (sort_at sorts) is) ≡ true → All (λ k. sort_of ds ts k ≡ Some r) is
-  same_sorts r [] s h = All-nil (λ k. sort_of ds ts k ≡ Some r)
-  same_sorts r (i ∷ is) s h =
-      All-cons (λ k. sort_of ds ts k ≡ Some r) i is
-      (All-head (HasSort ds ts sorts) i is s ∙ ap Some (sym (sort_is r (sort_at sorts i) (left_true (sort_eq r (sort_at sorts i)) (all_of r (map (sort_at sorts) is)) h))))
-      (same_sorts r is (All-tail (HasSort ds ts sorts) i is s) (right_true (sort_eq r (sort_at sorts i)) (all_of r (map (sort_at sorts) is)) h))
-
 module _ (ds : List Declaration) (ts : List Tree) (sorts : List Sort) (table : List Atom) where
   module _ (p : ℕ) (is : List ℕ) (sorted : All (HasSort ds ts sorts) (p ∷ is)) (truths : HaveTruths ds ts table (p ∷ is)) where
     abbrev own : HasSort ds ts sorts p
@@ -228,18 +219,12 @@ module _ (ds : List Declaration) (ts : List Tree) (sorts : List Sort) (table : L
   part_numbered Greater p is e s t h = order_in p is s t Greater e refl h
   part_numbered Equal p [] e s t h = All-nil (Contains table)
   part_numbered Equal p (i ∷ is) e s t h =
-      let says = asks p (i ∷ is) s t Equal (all_of (sort_at sorts i) (map (sort_at sorts) is)) e refl in
-      let others : All (HasSort ds ts sorts) (i ∷ is) = All-tail (HasSort ds ts sorts) p (i ∷ is) s in
-      equal_in ds ts table (sort_at sorts i) p i is (own_truth p (i ∷ is) s t says.1)
-      (All-cons (λ k. sort_of ds ts k ≡ Some (sort_at sorts i)) i is (All-head (HasSort ds ts sorts) i is others)
-      (same_sorts ds ts sorts (sort_at sorts i) is (All-tail (HasSort ds ts sorts) i is others) says.0)) h
+      let one = one_sort ds ts sorts Equal p i is refl e s in
+      compared_in ds ts table (sort_at sorts i) Equal p (i ∷ is) (own_truth p (i ∷ is) s t one.bool) (λ int c more. equal_told ds ts table (sort_at sorts i) int (i ∷ is) c more one.same h)
   part_numbered Distinct p [] e s t h = All-nil (Contains table)
   part_numbered Distinct p (i ∷ is) e s t h =
-      let says = asks p (i ∷ is) s t Distinct (all_of (sort_at sorts i) (map (sort_at sorts) is)) e refl in
-      let others : All (HasSort ds ts sorts) (i ∷ is) = All-tail (HasSort ds ts sorts) p (i ∷ is) s in
-      distinct_in ds ts table (sort_at sorts i) p i is (own_truth p (i ∷ is) s t says.1)
-      (All-cons (λ k. sort_of ds ts k ≡ Some (sort_at sorts i)) i is (All-head (HasSort ds ts sorts) i is others)
-      (same_sorts ds ts sorts (sort_at sorts i) is (All-tail (HasSort ds ts sorts) i is others) says.0)) h
+      let one = one_sort ds ts sorts Distinct p i is refl e s in
+      compared_in ds ts table (sort_at sorts i) Distinct p (i ∷ is) (own_truth p (i ∷ is) s t one.bool) (λ int c more. distinct_told ds ts table (sort_at sorts i) int (i ∷ is) c more one.same h)
   part_numbered Ite p (c ∷ i ∷ j ∷ []) e s t h =
       let own : HasSort ds ts sorts p = All-head (HasSort ds ts sorts) p (c ∷ i ∷ j ∷ []) s in
       let others : All (HasSort ds ts sorts) (c ∷ i ∷ j ∷ []) = All-tail (HasSort ds ts sorts) p (c ∷ i ∷ j ∷ []) s in

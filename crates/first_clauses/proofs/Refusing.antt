@@ -47,9 +47,10 @@ use Rattle.order_clauses.specs.Needed.{orders_tied, orders_of_part, limits_of_di
 use Rattle.order_clauses.specs.Errors.{order_fits, IsRefused as IsOrderRefused, RefusesDivision, IsPartCause}
 use Rattle.order_clauses.specs.Sound.{HasSort}
 use Rattle.order_clauses.proofs.Causes.{Contains-map, All-from_contains}
-use Rattle.order_clauses.proofs.Sorting.{asked, if_so_true}
+use Rattle.order_clauses.proofs.Soundness.{All-left, All-right}
+use Rattle.order_clauses.proofs.Sorting.{one_sort}
 use Rattle.first_clauses.specs.CheckClausesFirst.{IsRefusalOf}
-use Rattle.first_clauses.proofs.Numbered.{same_sorts, part_numbered}
+use Rattle.first_clauses.proofs.Numbered.{part_numbered}
 use Rattle.first_clauses.proofs.Parts.{arguments_marked, has_sort, truth_numbered}
 
 -- ---- the orders of a part are among what is numbered for it
@@ -60,14 +61,6 @@ module _ (ds : List Declaration) (ts : List Tree) (P : PartAtom → Type 0) wher
 
   abbrev sort : ℕ → Option Sort
   sort = sort_of ds ts
-
-  left : (xs ys : List PartAtom) → All P (xs ++ ys) → All P xs
-  left [] ys h = All-nil P
-  left (x ∷ xs) ys h = All-cons P x xs (All-head P x (xs ++ ys) h) (left xs ys (All-tail P x (xs ++ ys) h))
-
-  right : (xs ys : List PartAtom) → All P (xs ++ ys) → All P ys
-  right [] ys h = h
-  right (x ∷ xs) ys h = right xs ys (All-tail P x (xs ++ ys) h)
 
   unmap : (os : List Order) → All P (map Bound os) → All Q os
   unmap [] h = All-nil Q
@@ -83,7 +76,7 @@ module _ (ds : List Declaration) (ts : List Tree) (P : PartAtom → Type 0) wher
 
   pair_by : (r : Sort) (int : Bool) (i j : ℕ) → Compares r int → All P (part_by_sort (Some r) i j) → All Q (orders_tied int (pair i j))
   pair_by Truths int i j c h = absurd c
-  pair_by Ints true i j c h = unmap (orders_tied true (pair i j)) (right (part_by_sort (Some (Free 0)) i j) (map Bound (orders_tied true (pair i j))) h)
+  pair_by Ints true i j c h = unmap (orders_tied true (pair i j)) (All-right P (part_by_sort (Some (Free 0)) i j) (map Bound (orders_tied true (pair i j))) h)
   pair_by Ints false i j c h = absurd c
   pair_by (Free n) true i j c h = absurd c
   pair_by (Free n) false i j c h = All-nil Q
@@ -112,21 +105,21 @@ module _ (ds : List Declaration) (ts : List Tree) (P : PartAtom → Type 0) wher
     neighbours_in i [] s h = All-nil Q
     neighbours_in i (j ∷ js) s h =
         All-append Q (orders_tied int (pair i j)) (flat_map (orders_tied int) (neighbours j js))
-        (pair_in r int i j c (All-head IsOfSort i (j ∷ js) s) (left (part_pair sort i j) (neighbours_from sort j js) h))
-        (neighbours_in j js (All-tail IsOfSort i (j ∷ js) s) (right (part_pair sort i j) (neighbours_from sort j js) h))
+        (pair_in r int i j c (All-head IsOfSort i (j ∷ js) s) (All-left P (part_pair sort i j) (neighbours_from sort j js) h))
+        (neighbours_in j js (All-tail IsOfSort i (j ∷ js) s) (All-right P (part_pair sort i j) (neighbours_from sort j js) h))
 
     first_in : (i : ℕ) (js : List ℕ) → IsOfSort i → All P (first_with sort i js) → All Q (flat_map (orders_tied int) (with_each i js))
     first_in i [] s h = All-nil Q
     first_in i (j ∷ js) s h =
         All-append Q (orders_tied int (pair i j)) (flat_map (orders_tied int) (with_each i js))
-        (pair_in r int i j c s (left (part_pair sort i j) (first_with sort i js) h)) (first_in i js s (right (part_pair sort i j) (first_with sort i js) h))
+        (pair_in r int i j c s (All-left P (part_pair sort i j) (first_with sort i js) h)) (first_in i js s (All-right P (part_pair sort i j) (first_with sort i js) h))
 
     two_in : (is : List ℕ) → All IsOfSort is → All P (each_two_atoms sort is) → All Q (flat_map (orders_tied int) (each_two is))
     two_in [] s h = All-nil Q
     two_in (i ∷ is) s h =
         flat_append (orders_tied int) (with_each i is) (each_two is)
-        (first_in i is (All-head IsOfSort i is s) (left (first_with sort i is) (each_two_atoms sort is) h))
-        (two_in is (All-tail IsOfSort i is s) (right (first_with sort i is) (each_two_atoms sort is) h))
+        (first_in i is (All-head IsOfSort i is s) (All-left P (first_with sort i is) (each_two_atoms sort is) h))
+        (two_in is (All-tail IsOfSort i is s) (All-right P (first_with sort i is) (each_two_atoms sort is) h))
 
   -- elements have no orders
   none_tied : (qs : List Pair) → All Q (flat_map (orders_tied false) qs)
@@ -154,8 +147,8 @@ module _ (ds : List Declaration) (ts : List Tree) (P : PartAtom → Type 0) wher
   choice_in : (r : Sort) (p i j : ℕ) → sort p ≡ Some r → All P (alone sort p i ++ alone sort p j) → All Q (of_ints r (orders_tied true (pair p i) ++ (orders_tied true (pair p j) ++ [])))
   choice_in Truths p i j e h = All-nil Q
   choice_in Ints p i j e h =
-      All-append Q (orders_tied true (pair p i)) (orders_tied true (pair p j) ++ []) (alone_in p i e (left (alone sort p i) (alone sort p j) h))
-      (All-append Q (orders_tied true (pair p j)) [] (alone_in p j e (right (alone sort p i) (alone sort p j) h)) (All-nil Q))
+      All-append Q (orders_tied true (pair p i)) (orders_tied true (pair p j) ++ []) (alone_in p i e (All-left P (alone sort p i) (alone sort p j) h))
+      (All-append Q (orders_tied true (pair p j)) [] (alone_in p j e (All-right P (alone sort p i) (alone sort p j) h)) (All-nil Q))
   choice_in (Free n) p i j e h = All-nil Q
 
 module _ (ds : List Declaration) (ts : List Tree) (sorts : List Sort) (P : PartAtom → Type 0) where
@@ -166,21 +159,9 @@ module _ (ds : List Declaration) (ts : List Tree) (sorts : List Sort) (P : PartA
   orders_told AtLeast p is e s h = unmap ds ts P (order_atoms AtLeast is) h
   orders_told Greater p is e s h = unmap ds ts P (order_atoms Greater is) h
   orders_told Equal p [] e s h = All-nil (λ x. P (Bound x))
-  orders_told Equal p (i ∷ is) e s h =
-      let own : HasSort ds ts sorts p = All-head (HasSort ds ts sorts) p (i ∷ is) s in
-      let others : All (HasSort ds ts sorts) (i ∷ is) = All-tail (HasSort ds ts sorts) p (i ∷ is) s in
-      let says = if_so_true (all_of (sort_at sorts i) (map (sort_at sorts) is)) Truths (sort_at sorts p) (asked ds ts sorts Equal p (i ∷ is) e own others) in
-      equal_in ds ts P (sort_at sorts i) i is
-      (All-cons (λ k. sort_of ds ts k ≡ Some (sort_at sorts i)) i is (All-head (HasSort ds ts sorts) i is others)
-      (same_sorts ds ts sorts (sort_at sorts i) is (All-tail (HasSort ds ts sorts) i is others) says.0)) h
+  orders_told Equal p (i ∷ is) e s h = equal_in ds ts P (sort_at sorts i) i is (one_sort ds ts sorts Equal p i is refl e s).same h
   orders_told Distinct p [] e s h = All-nil (λ x. P (Bound x))
-  orders_told Distinct p (i ∷ is) e s h =
-      let own : HasSort ds ts sorts p = All-head (HasSort ds ts sorts) p (i ∷ is) s in
-      let others : All (HasSort ds ts sorts) (i ∷ is) = All-tail (HasSort ds ts sorts) p (i ∷ is) s in
-      let says = if_so_true (all_of (sort_at sorts i) (map (sort_at sorts) is)) Truths (sort_at sorts p) (asked ds ts sorts Distinct p (i ∷ is) e own others) in
-      distinct_in ds ts P (sort_at sorts i) i is
-      (All-cons (λ k. sort_of ds ts k ≡ Some (sort_at sorts i)) i is (All-head (HasSort ds ts sorts) i is others)
-      (same_sorts ds ts sorts (sort_at sorts i) is (All-tail (HasSort ds ts sorts) i is others) says.0)) h
+  orders_told Distinct p (i ∷ is) e s h = distinct_in ds ts P (sort_at sorts i) i is (one_sort ds ts sorts Distinct p i is refl e s).same h
   orders_told Ite p (c ∷ i ∷ j ∷ []) e s h = choice_in ds ts P (sort_at sorts p) p i j (All-head (HasSort ds ts sorts) p (c ∷ i ∷ j ∷ []) s) h
   orders_told o p is e s h = All-nil (λ x. P (Bound x))
 

@@ -1,5 +1,5 @@
 -- The first clauses of a search over a stack: what each says follows from the stack, the assertions are among them, and they force the clauses of each part.
-use Rattle.std.specs.Prelude.{◌≡◌, ◌⊎◌, ℕ, false, Bool, List, ◌∷◌, map, All}
+use Rattle.std.specs.Prelude.{◌≡◌, ◌⊎◌, ℕ, false, Bool, List, ◌∷◌, map, length, All, Result, IfOk, IfErr}
 use Rattle.clause_store.specs.Stored.{Kept, Stored}
 use Rattle.smt_meaning.specs.declared.values.Sort.{Sort}
 use Rattle.smt_meaning.specs.declared.values.Sort.TheVariants.{Bool as Truths}
@@ -7,15 +7,18 @@ use Rattle.smt_meaning.specs.declared.terms.Operator.{Operator}
 use Rattle.smt_meaning.specs.declared.terms.Head.TheVariants.{Theory}
 use Rattle.smt_meaning.specs.declared.clauses.Atom.{Atom}
 use Rattle.smt_meaning.specs.declared.clauses.Atom.TheVariants.{Truth}
-use Rattle.smt_meaning.specs.Term.{Tree, tree_at}
-use Rattle.smt_meaning.specs.TreeShape.{is_linear}
-use Rattle.smt_meaning.specs.Stack.{assertions_of}
+use Rattle.smt_meaning.specs.Term.{Tree}
+use Rattle.smt_meaning.specs.Stack.{signature_of, assertions_of}
 use Rattle.smt_meaning.specs.StackCommand.{Stack}
 use Rattle.search_port.specs.State.{Reading, truth_atoms}
 use Rattle.smt_laws.specs.Flat.{flat}
+use Rattle.scope_stack.specs.Facts.{AreSorts}
+use Rattle.linear_forms.specs.Table.{Known, AreForms}
 use Rattle.check_atoms.specs.Parts.{IsMarked}
+use Rattle.check_atoms.specs.Marks.{AreStackParts}
 use Rattle.check_atoms.specs.AssertedDistinct.{IsAssertedDistinct}
-use Rattle.check_atoms.specs.OfStack.{IsNode, IsRefused as IsAtomRefused}
+use Rattle.check_atoms.specs.OfStack.{IsNode, AreCheckAtoms, IsRefused as IsAtomRefused}
+use Rattle.check_atoms.specs.declared.atoms.CheckAtoms.{CheckAtoms}
 use Rattle.check_atoms.specs.declared.refusal.Refusal.{Refusal}
 use Rattle.check_atoms.specs.declared.refusal.Refusal.TheVariants.{Term, Pair, Limit, Memory}
 use Rattle.order_clauses.specs.declared.error.PartError.{PartError}
@@ -26,8 +29,6 @@ use Rattle.atom_form.specs.AtomTableNumbers.{IsAt}
 use Rattle.first_clauses.specs.Numbers.{AreNumbers}
 use Rattle.first_clauses.specs.Turned.{IsKeptTurned}
 use Rattle.first_clauses.specs.PartClausesFirst.{IsBegun, IsAsserted, HasClause, ForcesParts}
-use Rattle.first_clauses.specs.declared.error.FirstError.{FirstError}
-use Rattle.first_clauses.specs.declared.error.FirstError.TheVariants.{Refused, NotLinear}
 
 -- by what the clauses are read: the atom of each number, to which more may come, and all levels of the stack as one
 abbrev pub reading_of : Stack → List Atom → Reading
@@ -72,12 +73,16 @@ IsRefusalOf place (PartPair o) r = r ≡ Pair place o
 IsRefusalOf place PartLimit r = r ≡ Limit place
 IsRefusalOf place PartMemory r = r ≡ Memory
 
--- the part at this place isn't linear
-pub record IsNotLinear (s : Stack) (marks : List Bool) (place : ℕ) : Type 0 where
-  pub marked : IsMarked marks place
-  pub unlike : is_linear (tree_at s.trees place) ≡ false
+-- what the clauses of a stack's parts are made from: the parts with their atoms, and the forms and the sorts of the terms
+pub record AreReady (s : Stack) (marks : List Bool) (sorts : List Sort) (table : List Atom) (known : List Known) : Type 0 where
+  pub parts : AreStackParts s marks
+  pub atoms : AreCheckAtoms s marks table
+  pub forms : AreForms s.trees known
+  pub sorted : AreSorts (signature_of s.frames) s.trees (length s.trees) sorts
 
--- memory is wanting, or folding a bound or the divisor of a part leaves the range; or a part isn't linear
-abbrev pub IsRefused : Stack → List Bool → FirstError → Type 0
-IsRefused s marks (Refused r) = IsAtomRefused s r
-IsRefused s marks (NotLinear place) = IsNotLinear s marks place
+-- what comes of it: the first clauses, or why numbering the atoms would be refused; the parts stay as they are
+pub record GivesFirst (s : Stack) (sorts : List Sort) (old new : CheckAtoms) (r : Result Stored Refusal) : Type 0 where
+  pub first : IfOk r (IsFirst s old.atoms.atoms)
+  pub parts : IfOk r (λ stored. HasParts s old.marks.items sorts old.atoms.atoms stored.clauses)
+  pub refused : IfErr r (IsAtomRefused s)
+  pub same : new ≡ old

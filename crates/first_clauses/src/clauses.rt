@@ -3,23 +3,18 @@ ghost use Rattle.std.specs.Prelude.{◌≡◌, ℕ, ◌+◌, ◌<◌, ◌≤◌,
 ghost use Rattle.clause_store.specs.Stored.{Kept};
 ghost use Rattle.smt_meaning.specs.declared.clauses.Atom.TheVariants.{Truth};
 ghost use Rattle.smt_meaning.specs.Term.{tree_at};
-ghost use Rattle.smt_meaning.specs.Stack.{signature_of, assertions_of};
+ghost use Rattle.smt_meaning.specs.Stack.{assertions_of};
 ghost use Rattle.search_port.specs.Valid.{IsOf};
-ghost use Rattle.scope_stack.specs.Facts.{AreSorts};
-ghost use Rattle.linear_forms.specs.Table.{AreForms};
-ghost use Rattle.check_atoms.specs.Marks.{AreStackParts};
-ghost use Rattle.check_atoms.specs.OfStack.{AreCheckAtoms};
 ghost use Rattle.first_clauses.specs.PartClausesFirst.{IsAsserted, IsBegun};
-ghost use Rattle.first_clauses.specs.CheckClausesFirst.{reading_of, IsFirst, IsRefused, HasParts};
+ghost use Rattle.first_clauses.specs.CheckClausesFirst.{reading_of, AreReady, GivesFirst};
 ghost use Rattle.first_clauses.specs.Counted.{parts_below, pairs_below, AreBelow, TakesStepsBelow};
 
-use crate::error::FirstError;
 use crate::keep;
 use crate::laws::kept_parts_are_forced;
 use crate::nodes::keep_parts;
 use crate::triangles::keep_triangles;
 use atom_form::{AtomNumbers, CompactAtom};
-use check_atoms::CheckAtoms;
+use check_atoms::{CheckAtoms, Refusal};
 use clause_store::store::Store;
 use literals::Literal;
 use scope_stack::{Assertion, Stack};
@@ -82,15 +77,9 @@ pub fn check_clauses_counted<L: Ledger>(
     sorts: &[Sort],
     parts: &mut CheckAtoms,
     steps: &mut Steps<L>,
-) -> Result<Store, FirstError>
-    requires sorts { AreSorts (signature_of stack.now.frames) stack.now.trees (length stack.now.trees) sorts.now }
-    requires parts { AreStackParts stack.now parts.old.marks.items }
-    requires atoms { AreCheckAtoms stack.now parts.old.marks.items parts.old.atoms.atoms }
-    requires forms { AreForms stack.now.trees parts.old.forms }
-    ensures first { IfOk result (IsFirst stack.now parts.old.atoms.atoms) }
-    ensures parts { IfOk result (λ store. HasParts stack.now parts.old.marks.items sorts.now parts.old.atoms.atoms store.clauses) }
-    ensures refused { IfErr result (IsRefused stack.now parts.old.marks.items) }
-    ensures same { parts.new ≡ parts.old }
+) -> Result<Store, Refusal>
+    requires { AreReady stack.now parts.old.marks.items sorts.now parts.old.atoms.atoms parts.old.forms }
+    ensures gives { GivesFirst stack.now sorts.now parts.old parts.new result }
     ensures rise { steps.old ≤ steps.new }
     ensures few { steps.new ≤ steps.old + parts_below parts.old.marks.items (length stack.now.trees) + pairs_below stack.now.trees parts.old.marks.items (length stack.now.trees) }
     ensures below { (n : ℕ) → AreBelow parts.old.marks.items n → steps.new ≤ steps.old + n + pairs_below stack.now.trees parts.old.marks.items (length stack.now.trees) }
@@ -122,39 +111,27 @@ fn check_clauses_from<L: Ledger>(
     sorts: &[Sort],
     parts: &mut CheckAtoms,
     blank: Blank,
-) -> Result<Store, FirstError>
+) -> Result<Store, Refusal>
     requires name { blank.name ≡ L.name }
     requires blank_parts { blank.parts ≡ L.parts }
     requires some { 0 < blank.parts }
-    requires sorts { AreSorts (signature_of stack.now.frames) stack.now.trees (length stack.now.trees) sorts.now }
-    requires parts { AreStackParts stack.now parts.old.marks.items }
-    requires atoms { AreCheckAtoms stack.now parts.old.marks.items parts.old.atoms.atoms }
-    requires forms { AreForms stack.now.trees parts.old.forms }
-    ensures first { IfOk result (IsFirst stack.now parts.old.atoms.atoms) }
-    ensures parts { IfOk result (λ store. HasParts stack.now parts.old.marks.items sorts.now parts.old.atoms.atoms store.clauses) }
-    ensures refused { IfErr result (IsRefused stack.now parts.old.marks.items) }
-    ensures same { parts.new ≡ parts.old }
+    requires ready { AreReady stack.now parts.old.marks.items sorts.now parts.old.atoms.atoms parts.old.forms }
+    ensures { GivesFirst stack.now sorts.now parts.old parts.new result }
 {
     check_clauses_counted(alloc, stack, sorts, parts, &mut Steps::<L>::new(blank))
 }
 
 /// The clauses that a search begins with, at level 0: of each part that is a node of Bools those of its operator over their truths, of each other part those that tie
 /// it to what it compares or chooses, but of a wide `distinct` that is an assertion, of terms that are no Bools, none, and for each assertion the clause that it is true. They force the clauses of each part. Of each triangle that is one, two
-/// equalities give the third, and of each diamond what it says. An `Err` says that memory is wanting, of which part folding a bound or the divisor leaves the range, or which part isn't linear. The atoms and the forms stay as they are.
+/// equalities give the third, and of each diamond what it says. An `Err` says that memory is wanting, or of which part folding a bound or the divisor leaves the range. The atoms and the forms stay as they are.
 pub fn check_clauses(
     alloc: Global,
     stack: &Stack,
     sorts: &[Sort],
     parts: &mut CheckAtoms,
-) -> Result<Store, FirstError>
-    requires sorts { AreSorts (signature_of stack.now.frames) stack.now.trees (length stack.now.trees) sorts.now }
-    requires parts { AreStackParts stack.now parts.old.marks.items }
-    requires atoms { AreCheckAtoms stack.now parts.old.marks.items parts.old.atoms.atoms }
-    requires forms { AreForms stack.now.trees parts.old.forms }
-    ensures first { IfOk result (IsFirst stack.now parts.old.atoms.atoms) }
-    ensures parts { IfOk result (λ store. HasParts stack.now parts.old.marks.items sorts.now parts.old.atoms.atoms store.clauses) }
-    ensures refused { IfErr result (IsRefused stack.now parts.old.marks.items) }
-    ensures same { parts.new ≡ parts.old }
+) -> Result<Store, Refusal>
+    requires { AreReady stack.now parts.old.marks.items sorts.now parts.old.atoms.atoms parts.old.forms }
+    ensures { GivesFirst stack.now sorts.now parts.old parts.new result }
 {
     check_clauses_from::<Brand>(alloc, stack, sorts, parts, Blank::new(1))
 }

@@ -36,7 +36,6 @@ mod triangles;
 mod turn;
 
 pub use clauses::{check_clauses, check_clauses_counted};
-pub use error::FirstError;
 pub use kept_axioms_keep::keep_axioms;
 pub use laws::{
     empty_clause_means_no_model, first_clauses_say_assertions, first_clauses_say_standing,

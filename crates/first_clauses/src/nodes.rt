@@ -5,28 +5,23 @@ ghost use Rattle.order_clauses.specs.Clauses.{part_clauses_of};
 ghost use Rattle.order_clauses.specs.Counted.{distinct_pairs, pairs_of_part};
 ghost use Rattle.smt_meaning.specs.declared.terms.Head.TheVariants.{Theory};
 ghost use Rattle.smt_meaning.specs.Term.{Tree, tree_at};
-ghost use Rattle.smt_meaning.specs.TreeShape.{is_linear};
 ghost use Rattle.smt_meaning.specs.Stack.{signature_of};
 ghost use Rattle.search_port.specs.Valid.{IsOf};
-ghost use Rattle.scope_stack.specs.Facts.{AreSorts};
 ghost use Rattle.linear_forms.specs.Table.{AreForms};
 ghost use Rattle.bound_clauses.specs.Laws.{IsReadable};
 ghost use Rattle.check_atoms.specs.Parts.{IsMarked};
-ghost use Rattle.check_atoms.specs.Marks.{AreStackParts};
-ghost use Rattle.check_atoms.specs.OfStack.{IsNode, AreCheckAtoms};
+ghost use Rattle.check_atoms.specs.OfStack.{IsNode, IsRefused};
 ghost use Rattle.order_clauses.specs.Sound.{HasSort};
 ghost use Rattle.order_clauses.specs.Errors.{IsPartCause};
 ghost use Rattle.first_clauses.specs.PartClausesFirst.{IsBegun, HasClause};
-ghost use Rattle.first_clauses.specs.CheckClausesFirst.{reading_of, IsRefused, HasPart, HasPartAt, HasParts};
+ghost use Rattle.first_clauses.specs.CheckClausesFirst.{reading_of, AreReady, HasPart, HasPartAt, HasParts};
 ghost use Rattle.first_clauses.specs.Counted.{pairs_of_tree, if_marked, parts_below, pairs_below, ComparesPairs, TakesSteps, TakesStepsBelow};
-ghost use Rattle.first_clauses.specs.Shapes.{AreFlags};
 
 use crate::bools::{Space as BoolSpace, are_bools, keep_bools};
-use crate::error::{FirstError, refusal_of};
+use crate::error::refusal_of;
 use crate::keep_all;
-use crate::shapes::linear_terms;
 use atom_form::AtomNumbers;
-use check_atoms::is_asserted_distinct;
+use check_atoms::{Refusal, is_asserted_distinct, lawful_parts_are_readable};
 use clause_form::Clauses;
 use clause_store::store::Store;
 use linear_forms::LinearForms;
@@ -107,26 +102,23 @@ fn keep_node<L: Ledger>(
     operator: Operator,
     arguments: &[TermId],
     steps: &mut Steps<L>,
-) -> Result<(), FirstError>
-    requires parts { AreStackParts stack.now marks.now }
-    requires atoms { AreCheckAtoms stack.now marks.now atoms.now.atoms }
-    requires sorts { AreSorts (signature_of stack.now.frames) stack.now.trees (length stack.now.trees) sorts.now }
-    requires forms { AreForms stack.now.trees forms.old }
+) -> Result<(), Refusal>
+    requires ready { AreReady stack.now marks.now sorts.now atoms.now.atoms forms.old }
     requires marked { IsMarked marks.now place }
-    requires linear { is_linear (tree_at stack.now.trees place) ≡ true }
     requires node { IsNode stack.now.trees place (Theory operator) arguments.now }
     requires earlier { All (λ i. i < place) arguments.now }
     requires begun { IsBegun (reading_of stack.now atoms.now.atoms) store.old }
     ensures begun { OnOk result (IsBegun (reading_of stack.now atoms.now.atoms) store.new) }
     ensures stay { (c : Kept) → Contains store.old.clauses c → Contains store.new.clauses c }
     ensures has { OnOk result (HasPart stack.now sorts.now atoms.now.atoms store.new.clauses place operator arguments.now) }
-    ensures err { IfErr result (IsRefused stack.now marks.now) }
+    ensures err { IfErr result (IsRefused stack.now) }
     ensures same { forms.new ≡ forms.old }
     ensures rise { steps.old ≤ steps.new }
     ensures few { steps.new ≤ steps.old + distinct_pairs operator (length arguments.now) }
     ensures counted { OnOk result (ComparesPairs stack.now sorts.now place (Theory operator) arguments.now steps.old steps.new) }
 {
     stack.laws();
+    lawful_parts_are_readable();
     if are_bools(sorts, place, arguments) {
         keep_bools(
             stack,
@@ -146,7 +138,7 @@ fn keep_node<L: Ledger>(
         stack, sorts, forms, atoms, space, store, place, operator, arguments, steps,
     ) {
         Ok(()) => Ok(()),
-        Err(error) => Err(FirstError::Refused(refusal_of(place, error))),
+        Err(error) => Err(refusal_of(place, error)),
     }
 }
 
@@ -155,25 +147,20 @@ fn keep_place<L: Ledger>(
     stack: &Stack,
     marks: &[bool],
     sorts: &[Sort],
-    linear: &[bool],
     forms: &mut LinearForms,
     atoms: &AtomNumbers,
     space: &mut Space,
     store: &mut Store,
     place: TermId,
     steps: &mut Steps<L>,
-) -> Result<(), FirstError>
-    requires parts { AreStackParts stack.now marks.now }
-    requires atoms { AreCheckAtoms stack.now marks.now atoms.now.atoms }
-    requires sorts { AreSorts (signature_of stack.now.frames) stack.now.trees (length stack.now.trees) sorts.now }
-    requires linear { AreFlags is_linear stack.now.trees (length stack.now.trees) linear.now }
-    requires forms { AreForms stack.now.trees forms.old }
+) -> Result<(), Refusal>
+    requires ready { AreReady stack.now marks.now sorts.now atoms.now.atoms forms.old }
     requires within { place < length stack.now.trees }
     requires begun { IsBegun (reading_of stack.now atoms.now.atoms) store.old }
     ensures begun { OnOk result (IsBegun (reading_of stack.now atoms.now.atoms) store.new) }
     ensures stay { (c : Kept) → Contains store.old.clauses c → Contains store.new.clauses c }
     ensures has { OnOk result (HasPartAt stack.now marks.now sorts.now atoms.now.atoms store.new.clauses place) }
-    ensures err { IfErr result (IsRefused stack.now marks.now) }
+    ensures err { IfErr result (IsRefused stack.now) }
     ensures same { forms.new ≡ forms.old }
     ensures rise { steps.old ≤ steps.new }
     ensures few { steps.new ≤ steps.old + if_marked marks.now place 1 + if_marked marks.now place (pairs_of_tree (tree_at stack.now.trees place)) }
@@ -184,9 +171,6 @@ fn keep_place<L: Ledger>(
         return Ok(());
     }
     steps.tick();
-    if !linear[place as usize] {
-        return Err(FirstError::NotLinear(place));
-    }
     let node = stack.terms().node(place);
     match node.head {
         Head::Theory(operator) => keep_node(
@@ -218,21 +202,17 @@ pub(crate) fn keep_parts<L: Ledger>(
     atoms: &AtomNumbers,
     store: &mut Store,
     steps: &mut Steps<L>,
-) -> Result<(), FirstError>
-    requires parts { AreStackParts stack.now marks.now }
-    requires atoms { AreCheckAtoms stack.now marks.now atoms.now.atoms }
-    requires sorts { AreSorts (signature_of stack.now.frames) stack.now.trees (length stack.now.trees) sorts.now }
-    requires forms { AreForms stack.now.trees forms.old }
+) -> Result<(), Refusal>
+    requires ready { AreReady stack.now marks.now sorts.now atoms.now.atoms forms.old }
     requires begun { IsBegun (reading_of stack.now atoms.now.atoms) store.old }
     ensures begun { OnOk result (IsBegun (reading_of stack.now atoms.now.atoms) store.new) }
     ensures has { OnOk result (HasParts stack.now marks.now sorts.now atoms.now.atoms store.new.clauses) }
-    ensures err { IfErr result (IsRefused stack.now marks.now) }
+    ensures err { IfErr result (IsRefused stack.now) }
     ensures same { forms.new ≡ forms.old }
     ensures rise { steps.old ≤ steps.new }
     ensures few { steps.new ≤ steps.old + parts_below marks.now (length stack.now.trees) + pairs_below stack.now.trees marks.now (length stack.now.trees) }
     ensures counted { OnOk result (TakesStepsBelow stack.now marks.now sorts.now (length stack.now.trees) steps.old steps.new) }
 {
-    let linear = linear_terms(alloc, stack.terms())?;
     let mut space = Space {
         bools: BoolSpace::new(alloc),
         parts: PartSpace::new(alloc),
@@ -240,7 +220,7 @@ pub(crate) fn keep_parts<L: Ledger>(
     };
     for place in 0..stack.terms().len() {
         keep_place(
-            stack, marks, sorts, &linear, forms, atoms, &mut space, store, place, steps,
+            stack, marks, sorts, forms, atoms, &mut space, store, place, steps,
         )?;
     }
     Ok(())

@@ -1,5 +1,5 @@
 -- The number of an atom is where it stands.
-use Rattle.std.proofs.Common.{◌≡◌, inl, inr, ℕ, zero, suc, ◌<◌, ◌&&◌, Bool, true, false, List, [], ◌∷◌, length, get_or, Contains, sym, ap, ◌∙◌, arith, refl, nat_eq, eq-eqb}
+use Rattle.std.proofs.Common.{◌≡◌, inl, inr, ℕ, zero, suc, ◌<◌, ◌≤◌, ◌^◌, ◌&&◌, Bool, true, false, List, [], ◌∷◌, length, get_or, Contains, sym, ap, ◌∙◌, arith, refl, nat_eq, eq-eqb}
 use Rattle.std.specs.Prelude.{◌⊎◌, if◌then◌else◌}
 use Rattle.std.proofs.lemmas.Bool.{eqb-true}
 use Rattle.smt_meaning.specs.declared.clauses.Summand.{Summand}
@@ -9,7 +9,7 @@ use Rattle.smt_meaning.specs.Term.{int_eq}
 use Rattle.smt_laws.proofs.Both.{and_left, and_right}
 use Rattle.smt_laws.proofs.SameValue.{int_eq-true, int_eq-self}
 use Rattle.atom_form.specs.AtomTableNumbers.{IsAt, AreApart}
-use Rattle.order_clauses.specs.Numbers.{sum_eq, atom_eq, number_in}
+use Rattle.order_clauses.specs.Numbers.{sum_eq, atom_eq, number_in, IsNumberOf}
 
 -- ---- equal atoms
 
@@ -95,3 +95,11 @@ contained table n a h = (n, h.0, h.1 a)
 -- where no atom stands twice, it is this number
 pub number_is : (table : List Atom) (n : ℕ) (a : Atom) → AreApart table → IsAt table n a → n ≡ number_in table a
 number_is table n a apart h = one_place table n (number_in table a) a apart h (found table a (contained table n a h))
+
+-- one among so few
+pub number_of : (table : List Atom) (n : ℕ) (a : Atom) → AreApart table → length table ≤ 2 ^ 31 → IsAt table n a → IsNumberOf table a n
+number_of table n a apart few h = record {
+  number = number_is table n a apart h;
+  few = (let less : n < length table = h.0 in omega arith);
+  has = contained table n a h;
+}

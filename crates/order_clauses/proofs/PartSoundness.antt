@@ -20,7 +20,7 @@ use Rattle.bound_clauses.specs.Laws.{IsReadable, OrderIsOver, EqualityIsOver, Co
 use Rattle.order_clauses.specs.Clauses.{sort_at, by_sort, of_ints, equality_part, choice_part, division_part, part_clauses_of}
 use Rattle.order_clauses.specs.Needed.{atoms_of_equality, atoms_of_choice, atoms_of_division, atoms_of_part}
 use Rattle.order_clauses.specs.Sound.{HasSort, IsSound, AreSound}
-use Rattle.order_clauses.proofs.Sorting.{equal_ints, distinct_ints, choice_ints}
+use Rattle.order_clauses.proofs.Sorting.{one_sort, all_ints, choice_ints}
 use Rattle.order_clauses.proofs.Soundness.{order_sound, equality_sound, choice_sound}
 use Rattle.order_clauses.proofs.DivisionSoundness.{division_sound}
 
@@ -86,11 +86,11 @@ module _ (laws : Laws) (ds : List Declaration) (ts : List Tree) (table : List At
   part_sound Equal p [] e sorted readable has = All-nil (IsSound ds ts table)
   part_sound Equal p (i ∷ is) e sorted readable has =
       of_equality Equal p (i ∷ is) (sort_at sorts i) refl (All-tail (IsReadable ts) p (i ∷ is) readable)
-      (λ int. equal_ints ds ts sorts p i is e (All-head (HasSort ds ts sorts) p (i ∷ is) sorted) (All-tail (HasSort ds ts sorts) p (i ∷ is) sorted) int) e has
+      (all_ints ds ts sorts p i is (one_sort ds ts sorts Equal p i is refl e sorted)) e has
   part_sound Distinct p [] e sorted readable has = All-nil (IsSound ds ts table)
   part_sound Distinct p (i ∷ is) e sorted readable has =
       of_equality Distinct p (i ∷ is) (sort_at sorts i) refl (All-tail (IsReadable ts) p (i ∷ is) readable)
-      (λ int. distinct_ints ds ts sorts p i is e (All-head (HasSort ds ts sorts) p (i ∷ is) sorted) (All-tail (HasSort ds ts sorts) p (i ∷ is) sorted) int) e has
+      (all_ints ds ts sorts p i is (one_sort ds ts sorts Distinct p i is refl e sorted)) e has
   part_sound Ite p (c ∷ i ∷ j ∷ []) e sorted readable has =
       let own : IsReadable ts p = All-head (IsReadable ts) p (c ∷ i ∷ j ∷ []) readable in
       let branches : All (IsReadable ts) (i ∷ j ∷ []) = All-tail (IsReadable ts) c (i ∷ j ∷ []) (All-tail (IsReadable ts) p (c ∷ i ∷ j ∷ []) readable) in

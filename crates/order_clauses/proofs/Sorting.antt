@@ -1,11 +1,12 @@
 -- The sorts of what a part compares.
 use Rattle.std.proofs.Common.{◌≡◌, ℕ, Bool, true, false, ◌&&◌, List, [], ◌∷◌, map, length, All, refl, sym, ap, ◌∙◌}
 use Rattle.std.specs.Prelude.{Option, Some, None, if◌then◌else◌}
-use Rattle.std.proofs.lemmas.List.Elements.{All-cons, All-nil, All-head, All-tail}
+use Rattle.std.proofs.lemmas.Bool.{eqb-true}
+use Rattle.std.proofs.lemmas.List.Elements.{All-cons, All-nil, All-head, All-tail, All-weaker}
 use Rattle.smt_meaning.specs.declared.values.Sort.{Sort}
 use Rattle.smt_meaning.specs.declared.values.Sort.TheVariants.{Bool as Truths, Int as Ints, Free}
 use Rattle.smt_meaning.specs.declared.terms.Operator.{Operator}
-use Rattle.smt_meaning.specs.declared.terms.Operator.TheVariants.{Equal, Distinct, Ite}
+use Rattle.smt_meaning.specs.declared.terms.Operator.TheVariants.{Ite}
 use Rattle.smt_meaning.specs.declared.terms.Head.TheVariants.{Theory}
 use Rattle.smt_meaning.specs.Declaration.{Declaration}
 use Rattle.smt_meaning.specs.Term.{Tree, node, tree_at}
@@ -22,10 +23,16 @@ pub if_so_true : (b : Bool) (t s : Sort) → if_so b t ≡ Some s → (b ≡ tru
 if_so_true true t s h = (refl, cc)
 if_so_true false t s h = absurd (let x : None ≡ Some s = h in cc)
 
-int_is : (s : Sort) → sort_eq Ints s ≡ true → s ≡ Ints
-int_is Truths h = absurd (let x : false ≡ true = h in cc)
-int_is Ints h = refl
-int_is (Free a) h = absurd (let x : false ≡ true = h in cc)
+sort_is : (r s : Sort) → sort_eq r s ≡ true → s ≡ r
+sort_is Truths Truths h = refl
+sort_is Truths Ints h = absurd (let x : false ≡ true = h in cc)
+sort_is Truths (Free a) h = absurd (let x : false ≡ true = h in cc)
+sort_is Ints Truths h = absurd (let x : false ≡ true = h in cc)
+sort_is Ints Ints h = refl
+sort_is Ints (Free a) h = absurd (let x : false ≡ true = h in cc)
+sort_is (Free a) Truths h = absurd (let x : false ≡ true = h in cc)
+sort_is (Free a) Ints h = absurd (let x : false ≡ true = h in cc)
+sort_is (Free a) (Free b) h = ap Free (sym (eqb-true a b h))
 
 pub and_left : (a b : Bool) → (a && b) ≡ true → a ≡ true
 and_left true b h = refl
@@ -49,27 +56,34 @@ module _ (ds : List Declaration) (ts : List Tree) (sorts : List Sort) where
       if_some (stands_with o (length (map (sort_at sorts) is))) (operator_sort o (map (sort_at sorts) is)) (sort_at sorts p)
       (sym (ap (λ ss. with_sorts ds (Theory o) ss) (listed is hs)) ∙ sym (ap (tree_sort ds) e) ∙ h)
 
-  each_int : (is : List ℕ) → All (HasSort ds ts sorts) is → all_of Ints (map (sort_at sorts) is) ≡ true → All (λ i. tree_sort ds (tree_at ts i) ≡ Some Ints) is
-  each_int [] hs h = All-nil (λ i. tree_sort ds (tree_at ts i) ≡ Some Ints)
-  each_int (i ∷ is) hs h =
-      All-cons (λ j. tree_sort ds (tree_at ts j) ≡ Some Ints) i is
-      ((All-head (HasSort ds ts sorts) i is hs) ∙ ap Some (int_is (sort_at sorts i) (and_left (sort_eq Ints (sort_at sorts i)) (all_of Ints (map (sort_at sorts) is)) h)))
-      (each_int is (All-tail (HasSort ds ts sorts) i is hs) (right (sort_eq Ints (sort_at sorts i)) (all_of Ints (map (sort_at sorts) is)) h))
+  -- where all listed sorts of these are one, so are those that they have
+  same_sorts : (r : Sort) (is : List ℕ) → All (HasSort ds ts sorts) is → all_of r (map (sort_at sorts) is) ≡ true → All (λ k. tree_sort ds (tree_at ts k) ≡ Some r) is
+  same_sorts r [] hs h = All-nil (λ k. tree_sort ds (tree_at ts k) ≡ Some r)
+  same_sorts r (i ∷ is) hs h =
+      All-cons (λ k. tree_sort ds (tree_at ts k) ≡ Some r) i is
+      (All-head (HasSort ds ts sorts) i is hs ∙ ap Some (sort_is r (sort_at sorts i) (and_left (sort_eq r (sort_at sorts i)) (all_of r (map (sort_at sorts) is)) h)))
+      (same_sorts r is (All-tail (HasSort ds ts sorts) i is hs) (right (sort_eq r (sort_at sorts i)) (all_of r (map (sort_at sorts) is)) h))
 
-  by_first : (i : ℕ) (is : List ℕ) → All (HasSort ds ts sorts) (i ∷ is) → sort_at sorts i ≡ Ints → all_of (sort_at sorts i) (map (sort_at sorts) is) ≡ true
-      → All (λ j. tree_sort ds (tree_at ts j) ≡ Some Ints) (i ∷ is)
-  by_first i is hs e h =
-      All-cons (λ j. tree_sort ds (tree_at ts j) ≡ Some Ints) i is ((All-head (HasSort ds ts sorts) i is hs) ∙ ap Some e)
-      (each_int is (All-tail (HasSort ds ts sorts) i is hs) (sym (ap (λ s. all_of s (map (sort_at sorts) is)) e) ∙ h))
+  -- a Bool, and all that it compares are of one sort
+  pub record ComparesOneSort (p i : ℕ) (is : List ℕ) : Type 0 where
+    pub same : All (λ k. tree_sort ds (tree_at ts k) ≡ Some (sort_at sorts i)) (i ∷ is)
+    pub bool : Truths ≡ sort_at sorts p
 
-  -- where the first argument of `=` is an Int, all are
-  pub equal_ints : (p i : ℕ) (is : List ℕ) → tree_at ts p ≡ node (Theory Equal) (pick ts (i ∷ is)) → HasSort ds ts sorts p → All (HasSort ds ts sorts) (i ∷ is) → sort_at sorts i ≡ Ints
-      → All (λ j. tree_sort ds (tree_at ts j) ≡ Some Ints) (i ∷ is)
-  equal_ints p i is e h hs int = by_first i is hs int (if_so_true (all_of (sort_at sorts i) (map (sort_at sorts) is)) Truths (sort_at sorts p) (asked Equal p (i ∷ is) e h hs)).0
+  -- so is `=`, and so is `distinct`
+  pub one_sort : (o : Operator) (p i : ℕ) (is : List ℕ) → operator_sort o (map (sort_at sorts) (i ∷ is)) ≡ if_so (all_of (sort_at sorts i) (map (sort_at sorts) is)) Truths
+      → tree_at ts p ≡ node (Theory o) (pick ts (i ∷ is)) → All (HasSort ds ts sorts) (p ∷ i ∷ is) → ComparesOneSort p i is
+  one_sort o p i is says e hs =
+      let others : All (HasSort ds ts sorts) (i ∷ is) = All-tail (HasSort ds ts sorts) p (i ∷ is) hs in
+      let so = if_so_true (all_of (sort_at sorts i) (map (sort_at sorts) is)) Truths (sort_at sorts p) (sym says ∙ asked o p (i ∷ is) e (All-head (HasSort ds ts sorts) p (i ∷ is) hs) others) in
+      record {
+        same = All-cons (λ k. tree_sort ds (tree_at ts k) ≡ Some (sort_at sorts i)) i is (All-head (HasSort ds ts sorts) i is others)
+            (same_sorts (sort_at sorts i) is (All-tail (HasSort ds ts sorts) i is others) so.0);
+        bool = so.1;
+      }
 
-  pub distinct_ints : (p i : ℕ) (is : List ℕ) → tree_at ts p ≡ node (Theory Distinct) (pick ts (i ∷ is)) → HasSort ds ts sorts p → All (HasSort ds ts sorts) (i ∷ is) → sort_at sorts i ≡ Ints
-      → All (λ j. tree_sort ds (tree_at ts j) ≡ Some Ints) (i ∷ is)
-  distinct_ints p i is e h hs int = by_first i is hs int (if_so_true (all_of (sort_at sorts i) (map (sort_at sorts) is)) Truths (sort_at sorts p) (asked Distinct p (i ∷ is) e h hs)).0
+  -- where the first is an Int, all are
+  pub all_ints : (p i : ℕ) (is : List ℕ) → ComparesOneSort p i is → sort_at sorts i ≡ Ints → All (λ k. tree_sort ds (tree_at ts k) ≡ Some Ints) (i ∷ is)
+  all_ints p i is one int = All-weaker (λ k. tree_sort ds (tree_at ts k) ≡ Some (sort_at sorts i)) (λ k. tree_sort ds (tree_at ts k) ≡ Some Ints) (λ k e. e ∙ ap Some int) (i ∷ is) one.same
 
   -- where an `ite` is an Int, both branches are
   pub choice_ints : (p c i j : ℕ) → tree_at ts p ≡ node (Theory Ite) (pick ts (c ∷ i ∷ j ∷ [])) → HasSort ds ts sorts p → All (HasSort ds ts sorts) (c ∷ i ∷ j ∷ []) → sort_at sorts p ≡ Ints
@@ -80,7 +94,7 @@ module _ (ds : List Declaration) (ts : List Tree) (sorts : List Sort) where
       if_so_true (sort_eq (sort_at sorts c) Truths && sort_eq (sort_at sorts i) (sort_at sorts j)) (sort_at sorts i) (sort_at sorts p) (asked Ite p (c ∷ i ∷ j ∷ []) e h hs) in
       let same : sort_eq (sort_at sorts i) (sort_at sorts j) ≡ true = right (sort_eq (sort_at sorts c) Truths) (sort_eq (sort_at sorts i) (sort_at sorts j)) says.0 in
       let first : sort_at sorts i ≡ Ints = says.1 ∙ int in
-      let second : sort_at sorts j ≡ Ints = int_is (sort_at sorts j) (sym (ap (λ s. sort_eq s (sort_at sorts j)) first) ∙ same) in
+      let second : sort_at sorts j ≡ Ints = sort_is Ints (sort_at sorts j) (sym (ap (λ s. sort_eq s (sort_at sorts j)) first) ∙ same) in
       All-cons (λ k. tree_sort ds (tree_at ts k) ≡ Some Ints) p (i ∷ j ∷ []) (h ∙ ap Some int)
       (All-cons (λ k. tree_sort ds (tree_at ts k) ≡ Some Ints) i (j ∷ []) ((All-head (HasSort ds ts sorts) i (j ∷ []) branches) ∙ ap Some first)
       (All-cons (λ k. tree_sort ds (tree_at ts k) ≡ Some Ints) j []

@@ -27,7 +27,7 @@ use Rattle.order_clauses.specs.Needed.{row_truth_atoms, atoms_of_row, atoms_of_d
 use Rattle.order_clauses.specs.Sound.{HasSort}
 use Rattle.order_clauses.proofs.Soundness.{All-left, All-right}
 use Rattle.order_clauses.proofs.DivisionRows.{IsSilent, quotient_silent, remainder_silent, absolute_silent}
-use Rattle.order_clauses.proofs.Sorting.{asked, if_so_true, equal_ints, distinct_ints, and_left}
+use Rattle.order_clauses.proofs.Sorting.{asked, if_so_true, one_sort, all_ints, and_left}
 
 module _ (ds : List Declaration) (ts : List Tree) (table : List Atom) where
   abbrev IsPlaced : ℕ → Type 0
@@ -137,6 +137,15 @@ module _ (compared : OrdersAreComparisons) (ds : List Declaration) (ts : List Tr
       → All (Contains table) (comparison_atoms ts ds (Theory o) (pick ts is)) → All (Contains table) (atoms_of_order ts o p is)
   at_order o p is h says e sorted truths has = of_order o p is h (own_truth p is sorted truths (is_bool_by o (all_of Ints (map (sort_at sorts) is)) p is e sorted says)) has
 
+  -- of `=` and `distinct`, whose arguments are of one sort
+  at_equality : (o : Operator) (p i : ℕ) (is : List ℕ) → operator_sort o (map (sort_at sorts) (i ∷ is)) ≡ if_so (all_of (sort_at sorts i) (map (sort_at sorts) is)) Truths
+      → tree_at ts p ≡ node (Theory o) (pick ts (i ∷ is)) → All (HasSort ds ts sorts) (p ∷ i ∷ is) → HaveTruths ds ts table (p ∷ i ∷ is)
+      → ((int : Bool) → (int ≡ true → All (λ j. tree_sort ds (tree_at ts j) ≡ Some Ints) (i ∷ is)) → All (Contains table) (flat_map (atoms_of_pair ts int) (pairs_of o (i ∷ is))))
+      → All (Contains table) (by_sort (sort_at sorts i) (length (i ∷ is)) (λ int. atoms_of_equality ts int o p (i ∷ is)))
+  at_equality o p i is says e sorted truths pairs =
+      let one = one_sort ds ts sorts o p i is says e sorted in
+      of_sort (sort_at sorts i) o p (i ∷ is) (own_truth p (i ∷ is) sorted truths one.bool) (λ int h. pairs int (λ x. all_ints ds ts sorts p i is one (h x)))
+
 -- ---- of divisions
 
 module _ (ts : List Tree) (table : List Atom) (p : ℕ) where
@@ -183,20 +192,12 @@ part_atoms compared rows ds ts sorts table AtLeast p is e sorted placed truths h
 part_atoms compared rows ds ts sorts table Greater p is e sorted placed truths has = at_order compared ds ts sorts table Greater p is refl refl e sorted truths has
 part_atoms compared rows ds ts sorts table Equal p [] e sorted placed truths has = All-nil (Contains table)
 part_atoms compared rows ds ts sorts table Equal p (i ∷ is) e sorted placed truths has =
-    let own : HasSort ds ts sorts p = All-head (HasSort ds ts sorts) p (i ∷ is) sorted in
-    let rest : All (HasSort ds ts sorts) (i ∷ is) = All-tail (HasSort ds ts sorts) p (i ∷ is) sorted in
-    of_sort compared ds ts sorts table (sort_at sorts i) Equal p (i ∷ is)
-    (own_truth compared ds ts sorts table p (i ∷ is) sorted truths
-    (is_bool_by compared ds ts sorts table Equal (all_of (sort_at sorts i) (map (sort_at sorts) is)) p (i ∷ is) e sorted refl))
-    (λ int h. of_neighbours ds ts table int i is (All-tail (IsPlaced ds ts table) p (i ∷ is) placed) (λ x. equal_ints ds ts sorts p i is e own rest (h x)) has)
+    at_equality compared ds ts sorts table Equal p i is refl e sorted truths
+    (λ int ints. of_neighbours ds ts table int i is (All-tail (IsPlaced ds ts table) p (i ∷ is) placed) ints has)
 part_atoms compared rows ds ts sorts table Distinct p [] e sorted placed truths has = All-nil (Contains table)
 part_atoms compared rows ds ts sorts table Distinct p (i ∷ is) e sorted placed truths has =
-    let own : HasSort ds ts sorts p = All-head (HasSort ds ts sorts) p (i ∷ is) sorted in
-    let rest : All (HasSort ds ts sorts) (i ∷ is) = All-tail (HasSort ds ts sorts) p (i ∷ is) sorted in
-    of_sort compared ds ts sorts table (sort_at sorts i) Distinct p (i ∷ is)
-    (own_truth compared ds ts sorts table p (i ∷ is) sorted truths
-    (is_bool_by compared ds ts sorts table Distinct (all_of (sort_at sorts i) (map (sort_at sorts) is)) p (i ∷ is) e sorted refl))
-    (λ int h. of_each_two ds ts table int (i ∷ is) (All-tail (IsPlaced ds ts table) p (i ∷ is) placed) (λ x. distinct_ints ds ts sorts p i is e own rest (h x)) has)
+    at_equality compared ds ts sorts table Distinct p i is refl e sorted truths
+    (λ int ints. of_each_two ds ts table int (i ∷ is) (All-tail (IsPlaced ds ts table) p (i ∷ is) placed) ints has)
 part_atoms compared rows ds ts sorts table Ite p (c ∷ i ∷ j ∷ []) e sorted placed truths has =
     let own : HasSort ds ts sorts p = All-head (HasSort ds ts sorts) p (c ∷ i ∷ j ∷ []) sorted in
     let rest : All (HasSort ds ts sorts) (c ∷ i ∷ j ∷ []) = All-tail (HasSort ds ts sorts) p (c ∷ i ∷ j ∷ []) sorted in

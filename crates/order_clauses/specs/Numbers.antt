@@ -1,5 +1,5 @@
 -- The number of an atom in a table.
-use Rattle.std.specs.Prelude.{ℕ, suc, ◌&&◌, Bool, true, false, nat_eq, List, [], ◌∷◌, if◌then◌else◌}
+use Rattle.std.specs.Prelude.{◌≡◌, ℕ, suc, ◌<◌, ◌^◌, Contains, ◌&&◌, Bool, true, false, nat_eq, List, [], ◌∷◌, if◌then◌else◌}
 use Rattle.smt_meaning.specs.declared.clauses.Summand.{Summand}
 use Rattle.smt_meaning.specs.declared.clauses.Atom.{Atom}
 use Rattle.smt_meaning.specs.declared.clauses.Atom.TheVariants.{Truth, AtMost, Same}
@@ -22,3 +22,9 @@ atom_eq a b = false
 unfoldable pub number_in : List Atom → Atom → ℕ
 number_in [] a = 0
 number_in (b ∷ bs) a = if atom_eq a b then 0 else suc (number_in bs a)
+
+-- the number of an atom that has one
+pub record IsNumberOf (table : List Atom) (a : Atom) (n : ℕ) : Type 0 where
+  pub number : n ≡ number_in table a
+  pub few : n < 2 ^ 31
+  pub has : Contains table a

@@ -5,6 +5,7 @@ ghost use Rattle.smt_meaning.specs.Term.{Tree};
 ghost use Rattle.linear_forms.specs.Table.{AreForms};
 ghost use Rattle.bound_clauses.specs.Orders.{bound_atom};
 ghost use Rattle.bound_clauses.specs.declared.orders.Order.{Order as OrderValue};
+ghost use Rattle.order_clauses.specs.Numbers.{IsNumberOf};
 ghost use Rattle.order_clauses.specs.Clauses.{bound_number, constant_of, of_bound};
 ghost use Rattle.smt_meaning.specs.declared.clauses.Atom.{Atom};
 ghost use Rattle.order_clauses.specs.Errors.{RefusesFolding, IsCause};
@@ -78,9 +79,7 @@ pub(crate) fn put_bound(
     requires forms { AreForms trees forms.old }
     requires lesser { order.lesser < length trees }
     requires greater { order.greater < length trees }
-    ensures number { IfOk result (λ n. n ≡ bound_number trees atoms.now.atoms order) }
-    ensures few { IfOk result (λ n. n < 2 ^ 31) }
-    ensures has { OnOk result (Contains atoms.now.atoms (bound_atom trees order)) }
+    ensures found { IfOk result (IsNumberOf atoms.now.atoms (bound_atom trees order)) }
     ensures put { OnOk result (clauses.new ≡ clauses.old ++ of_bound trees atoms.now.atoms order) }
     ensures cause { IfErr result (λ e. IsCause trees atoms.now.atoms (order ∷ []) (bound_atom trees order ∷ []) e) }
     ensures same { forms.new ≡ forms.old }

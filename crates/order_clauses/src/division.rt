@@ -5,7 +5,8 @@ ghost use Rattle.smt_meaning.specs.Term.{Tree};
 ghost use Rattle.linear_forms.specs.Table.{AreForms};
 ghost use Rattle.pair_bounds.specs.Rows.{listed, limits, IsRowLimit, IsRow, RefusesLimit};
 ghost use Rattle.equality_clauses.specs.Ties.{yes};
-ghost use Rattle.order_clauses.specs.Clauses.{limit_bound, limit_number, of_limit, of_other, unless_same, other_numbers, row_truth, row_part, division_part};
+ghost use Rattle.order_clauses.specs.Numbers.{IsNumberOf};
+ghost use Rattle.order_clauses.specs.Clauses.{limit_bound, of_limit, of_other, unless_same, other_numbers, row_truth, row_part, division_part};
 ghost use Rattle.order_clauses.specs.Needed.{row_truth_atoms, atoms_of_row, atoms_of_division};
 ghost use Rattle.order_clauses.specs.Errors.{IsLimitCause, IsDivisionCause};
 
@@ -47,9 +48,7 @@ fn put_limit(
     ghost trees: { List Tree }
     requires forms { AreForms trees forms.old }
     requires limit { IsRowLimit (length forms.old) limit }
-    ensures number { IfOk result (λ n. n ≡ limit_number trees atoms.now.atoms limit) }
-    ensures few { IfOk result (λ n. n < 2 ^ 31) }
-    ensures has { OnOk result (Contains atoms.now.atoms (limit_bound trees limit)) }
+    ensures found { IfOk result (IsNumberOf atoms.now.atoms (limit_bound trees limit)) }
     ensures put { OnOk result (clauses.new ≡ clauses.old ++ of_limit trees atoms.now.atoms limit) }
     ensures cause { IfErr result (λ e. IsLimitCause trees atoms.now.atoms (limit ∷ []) (limit_bound trees limit ∷ []) e) }
     ensures same { forms.new ≡ forms.old }

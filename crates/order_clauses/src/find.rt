@@ -1,10 +1,9 @@
 //! The numbers of atoms.
-ghost use Rattle.std.specs.Prelude.{◌≡◌, ◌<◌, ◌^◌, Contains, IfOk, IfErr, OnOk};
+ghost use Rattle.std.specs.Prelude.{◌≡◌, Contains, IfOk, IfErr};
 ghost use Rattle.smt_meaning.specs.declared.clauses.Atom.TheVariants.{Truth, AtMost};
 ghost use Rattle.atom_form.specs.Compact.{atom_of};
 ghost use Rattle.order_clauses.specs.Pairs.{same_atom};
-ghost use Rattle.order_clauses.specs.Numbers.{number_in};
-ghost use Rattle.order_clauses.specs.Clauses.{truth_number, same_number};
+ghost use Rattle.order_clauses.specs.Numbers.{IsNumberOf};
 
 use crate::error::PartError;
 use crate::pairs::Pair;
@@ -13,9 +12,7 @@ use smt_meaning::{Summand, TermId};
 
 /// The number of an atom that is no bound, or `Missing`.
 fn find(atoms: &AtomNumbers, atom: CompactAtom) -> Result<u32, PartError>
-    ensures number { IfOk result (λ n. n ≡ number_in atoms.now.atoms (atom_of atom)) }
-    ensures few { IfOk result (λ n. n < 2 ^ 31) }
-    ensures has { OnOk result (Contains atoms.now.atoms (atom_of atom)) }
+    ensures found { IfOk result (IsNumberOf atoms.now.atoms (atom_of atom)) }
     ensures err { IfErr result (λ e. (e ≡ PartError.Missing) × (Contains atoms.now.atoms (atom_of atom) → ⊥)) }
 {
     atoms.are_few();
@@ -28,9 +25,7 @@ fn find(atoms: &AtomNumbers, atom: CompactAtom) -> Result<u32, PartError>
 
 /// The number of the truth of a term, or `Missing`.
 pub(crate) fn find_truth(atoms: &AtomNumbers, place: TermId) -> Result<u32, PartError>
-    ensures number { IfOk result (λ n. n ≡ truth_number atoms.now.atoms place) }
-    ensures few { IfOk result (λ n. n < 2 ^ 31) }
-    ensures has { OnOk result (Contains atoms.now.atoms (Truth place)) }
+    ensures found { IfOk result (IsNumberOf atoms.now.atoms (Truth place)) }
     ensures err { IfErr result (λ e. (e ≡ PartError.Missing) × (Contains atoms.now.atoms (Truth place) → ⊥)) }
 {
     find(atoms, CompactAtom::Truth(place))
@@ -38,9 +33,7 @@ pub(crate) fn find_truth(atoms: &AtomNumbers, place: TermId) -> Result<u32, Part
 
 /// The number of the equality of two terms, or `Missing`.
 pub(crate) fn find_same(atoms: &AtomNumbers, pair: Pair) -> Result<u32, PartError>
-    ensures number { IfOk result (λ n. n ≡ same_number atoms.now.atoms pair) }
-    ensures few { IfOk result (λ n. n < 2 ^ 31) }
-    ensures has { OnOk result (Contains atoms.now.atoms (same_atom pair)) }
+    ensures found { IfOk result (IsNumberOf atoms.now.atoms (same_atom pair)) }
     ensures err { IfErr result (λ e. (e ≡ PartError.Missing) × (Contains atoms.now.atoms (same_atom pair) → ⊥)) }
 {
     find(atoms, CompactAtom::Same(pair.left, pair.right))
@@ -52,9 +45,7 @@ pub(crate) fn find_bound(
     sum: &[Summand],
     threshold: i128,
 ) -> Result<u32, PartError>
-    ensures number { IfOk result (λ n. n ≡ number_in atoms.now.atoms (AtMost sum.now threshold)) }
-    ensures few { IfOk result (λ n. n < 2 ^ 31) }
-    ensures has { OnOk result (Contains atoms.now.atoms (AtMost sum.now threshold)) }
+    ensures found { IfOk result (IsNumberOf atoms.now.atoms (AtMost sum.now threshold)) }
     ensures err { IfErr result (λ e. (e ≡ PartError.Missing) × (Contains atoms.now.atoms (AtMost sum.now threshold) → ⊥)) }
 {
     atoms.are_few();

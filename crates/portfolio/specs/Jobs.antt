@@ -4,7 +4,7 @@ use Rattle.atomic_table.specs.Seated.{TableId}
 use Rattle.smt_meaning.specs.StackCommand.{Stack}
 use Rattle.race_model.specs.declared.shelf.Shelf.{Ghosts}
 use Rattle.race_cell.specs.declared.race.Pass.{Pass}
-use Rattle.race_cell.specs.Passes.{base_of, claim_of}
+use Rattle.race_cell.specs.Passes.{base_of, claim_of, IsSamePass}
 use Rattle.worker.specs.declared.outcome.Outcome.{Outcome}
 use Rattle.worker.specs.Outcome.{IsOutcome, MemoryAloneIsReported}
 use Rattle.portfolio.specs.declared.job.Job.{Job}
@@ -15,6 +15,13 @@ module _ {S : Type 0} {G : Ghosts S} where
     pub race : p.seat.table_id ≡ z
     pub base : (base_of G.state p).base ≡ record { trees = s.trees; frames = s.frames }
     pub unstarted : (claim_of p).own ≡ []
+
+  -- the pass of the same worker again, and what its part of a race came to
+  pub record HasTaken (s : Stack) (limit : ℤ) (old new : Pass S G) (o : Outcome) : Type 0 where
+    pub same : IsSamePass old new
+    pub worker : (claim_of new).worker ≡ (claim_of old).worker
+    pub outcome : IsOutcome s limit (claim_of new) o
+    pub memory : MemoryAloneIsReported s.frames limit o
 
   -- a pass of the race, and what its worker's part came to
   pub record HasEnded (z : TableId) (s : Stack) (limit : ℤ) (p : Pass S G) (o : Outcome) : Type 0 where

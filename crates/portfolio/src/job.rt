@@ -1,11 +1,11 @@
 //! A worker's part in a race, as a job.
-ghost use Rattle.std.specs.Prelude.{◌≡◌, [], IsSomeAnd};
-ghost use Rattle.race_cell.specs.Passes.{base_of, claim_of, IsSamePass};
-ghost use Rattle.worker.specs.Outcome.{IsOutcome, IsReportOf, MemoryAloneIsReported, ReportsMemory};
-ghost use Rattle.portfolio.specs.Jobs.{IsReady, IsDone, job_worker};
+ghost use Rattle.std.specs.Prelude.{◌≡◌, []};
+ghost use Rattle.race_cell.specs.Passes.{claim_of};
+ghost use Rattle.worker.specs.Outcome.{IsReportOf, ReportsMemory};
+ghost use Rattle.portfolio.specs.Jobs.{IsFreshPass, IsReady, IsDone, HasTaken, job_worker};
 
 use check_atoms::{atoms_are_first, numbered, takes};
-use first_clauses::{FirstError, check_clauses, first_clauses_say_standing, keep_axioms};
+use first_clauses::{check_clauses, first_clauses_say_standing, keep_axioms};
 use ports::Gate;
 use race_cell::{Pass, Race};
 use race_model::Shelf;
@@ -32,10 +32,7 @@ fn reported<S: Shelf>(
     requires unstarted { (claim_of pass).own ≡ [] }
     requires report { IsReportOf stack.now settings.now.units (claim_of pass).worker report }
     requires memory { ReportsMemory stack.now.frames settings.now.units report }
-    ensures same { IsSamePass pass result.0 }
-    ensures worker { (claim_of result.0).worker ≡ (claim_of pass).worker }
-    ensures outcome { IsOutcome stack.now settings.now.units (claim_of result.0) result.1 }
-    ensures memory { MemoryAloneIsReported stack.now.frames settings.now.units result.1 }
+    ensures { HasTaken stack.now settings.now.units pass result.0 result.1 }
 {
     let _ = stack;
     let _ = settings;
@@ -51,13 +48,8 @@ fn form<S: Shelf, G: Gate>(
     gate: &G,
     pass: Pass<S>,
 ) -> (Pass<S>, Outcome)
-    requires race { pass.seat.table_id ≡ race.now.table.shared.table_id }
-    requires base { (base_of S.state pass).base ≡ record { trees = stack.now.trees; frames = stack.now.frames } }
-    requires unstarted { (claim_of pass).own ≡ [] }
-    ensures same { IsSamePass pass result.0 }
-    ensures worker { (claim_of result.0).worker ≡ (claim_of pass).worker }
-    ensures outcome { IsOutcome stack.now settings.now.units (claim_of result.0) result.1 }
-    ensures memory { MemoryAloneIsReported stack.now.frames settings.now.units result.1 }
+    requires { IsFreshPass race.now.table.shared.table_id stack.now pass }
+    ensures { HasTaken stack.now settings.now.units pass result.0 result.1 }
 {
     stack.laws();
     atoms_are_first();
@@ -76,13 +68,8 @@ fn form<S: Shelf, G: Gate>(
     };
     let mut store = match check_clauses(alloc, stack, stack.sorts(), &mut parts) {
         Ok(store) => store,
-        Err(FirstError::Refused(cause)) => {
+        Err(cause) => {
             let report = refused(alloc, stack, settings, worker, cause);
-            return reported(stack, settings, pass, report);
-        }
-        // The stack's type doesn't say that its terms are linear, as those are that commands make.
-        Err(FirstError::NotLinear(_)) => {
-            let report = out_of_memory(alloc, stack, settings, worker);
             return reported(stack, settings, pass, report);
         }
     };
@@ -123,13 +110,8 @@ fn take_part<S: Shelf, G: Gate>(
     gate: &G,
     mut pass: Pass<S>,
 ) -> (Pass<S>, Outcome)
-    requires race { pass.seat.table_id ≡ race.now.table.shared.table_id }
-    requires base { (base_of S.state pass).base ≡ record { trees = stack.now.trees; frames = stack.now.frames } }
-    requires unstarted { (claim_of pass).own ≡ [] }
-    ensures same { IsSamePass pass result.0 }
-    ensures worker { (claim_of result.0).worker ≡ (claim_of pass).worker }
-    ensures outcome { IsOutcome stack.now settings.now.units (claim_of result.0) result.1 }
-    ensures memory { MemoryAloneIsReported stack.now.frames settings.now.units result.1 }
+    requires { IsFreshPass race.now.table.shared.table_id stack.now pass }
+    ensures { HasTaken stack.now settings.now.units pass result.0 result.1 }
 {
     match first_turn(race, gate, &mut pass) {
         Some(winner) => (pass, Outcome::Cancelled(winner)),

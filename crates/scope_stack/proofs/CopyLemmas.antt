@@ -11,7 +11,7 @@ use Rattle.smt_meaning.specs.declared.terms.Head.TheVariants.{Theory}
 use Rattle.smt_meaning.specs.Declaration.{Declaration}
 use Rattle.smt_meaning.specs.Term.{Tree, Trees, node, none, more, tree_at}
 use Rattle.smt_meaning.specs.Nodes.{pick}
-use Rattle.smt_meaning.specs.TreeShape.{is_among, with_tree}
+use Rattle.smt_meaning.specs.TreeShape.{is_among, with_tree, is_linear}
 use Rattle.smt_meaning.specs.Parts.{IsPart, IsPartOfOne, IsOneOf, IsArgument, StandsBelow, AreInOrder}
 use Rattle.smt_meaning.specs.Signature.{tree_sort, HasNoIdTwice}
 use Rattle.smt_meaning.specs.Stack.{Assertion as Asserted, Frame, signature_of, assertions_of}
@@ -89,11 +89,10 @@ copies_among ts us places c within i lt =
 pub among_given : (n : ℕ) (ts us : List Tree) → AreAllAmong us ts → HaveGivenSymbols n ts → HaveGivenSymbols n us
 among_given n ts us among given i lt = let a = among i lt in subst (HasGivenSymbols n) (sym a.1.1) (given a.0 a.1.0)
 
-among_fits : (ts us : List Tree) → AreAllAmong us ts → All (λ (t : Tree). IsTrue (numerals_fit t)) ts → All (λ (t : Tree). IsTrue (numerals_fit t)) us
-among_fits ts us among fit =
-    All-from_get_or (λ (t : Tree). IsTrue (numerals_fit t)) us (node (Theory False) none)
-    (λ i lt. let a = among i lt in
-    subst (λ (t : Tree). IsTrue (numerals_fit t)) (sym a.1.1) (All-get_or (λ (t : Tree). IsTrue (numerals_fit t)) ts a.0 (node (Theory False) none) a.1.0 fit))
+all_among : (P : Tree → Type 0) (ts us : List Tree) → AreAllAmong us ts → All P ts → All P us
+all_among P ts us among all =
+    All-from_get_or P us (node (Theory False) none)
+    (λ i lt. let a = among i lt in subst P (sym a.1.1) (All-get_or P ts a.0 (node (Theory False) none) a.1.0 all))
 
 -- ---- one copy more
 
@@ -197,7 +196,8 @@ module _ {global : Bool} where
           no_id_twice = subst (λ (fs : List Frame). HasNoIdTwice (signature_of fs)) (sym same) lawful.no_id_twice;
           truths = subst (λ (fs : List Frame). All (λ (u : Tree). tree_sort (signature_of fs) u ≡ Some Truths) (assertions_of fs)) (sym same) lawful.truths;
           in_order = f.in_order;
-          numerals = among_fits store.trees few.trees f.among lawful.numerals;
+          numerals = all_among (λ (u : Tree). IsTrue (numerals_fit u)) store.trees few.trees f.among lawful.numerals;
+          linear = all_among (λ (u : Tree). IsTrue (is_linear u)) store.trees few.trees f.among lawful.linear;
           parts = subst (All (λ (u : Tree). (v : Tree) → IsPart v u → IsTrue (is_among v few.trees))) (shown_terms few.trees t.levels yss many) (all_parts few.trees (all_of yss) f.in_order f.moved.within);
         };
         facts = f.facts;

@@ -1,10 +1,10 @@
 -- What is kept beside the terms stays right as terms and declarations come and go.
 use Rattle.std.proofs.Common.{◌≡◌, ◌≢◌, ◌∙◌, append_assoc, filter, ◌⊎◌, inl, inr, sym, refl, ap, subst, ℕ, zero, suc, ◌+◌, ◌-◌, ◌<◌, ◌≤◌, List, [], ◌∷◌, ◌++◌, All, take, drop, length, replicate, arith, not, ◌&&◌, Option, Some, None, nat_eq, Result, Ok, Err, Bool, true, false, append-nil, slice_index, slice_index_or}
 use Rattle.std.specs.Prelude.{ℤ, if◌then◌else◌}
-use Rattle.std.proofs.lemmas.Bool.{ne_eqb, eqb-true}
+use Rattle.std.proofs.lemmas.Bool.{ne_eqb}
 use Rattle.std.proofs.lemmas.Grind.{flat_map-append}
 use Rattle.std.proofs.lemmas.List.{take-append-drop, length-take, get_or-take}
-use Rattle.std.proofs.lemmas.List.Elements.{All-nil, All-cons, All-head, All-tail, All-append, All-weaker}
+use Rattle.std.proofs.lemmas.List.Elements.{All-head, All-tail, All-weaker}
 use Rattle.smt_meaning.specs.declared.values.Sort.{Sort}
 use Rattle.smt_meaning.specs.declared.values.Sort.TheVariants.{Bool as Truths, Int as Ints}
 use Rattle.smt_meaning.specs.declared.terms.Operator.{Operator}
@@ -19,7 +19,6 @@ use Rattle.smt_meaning.specs.Clause.{symbols, symbols_of, head_symbols}
 use Rattle.smt_meaning.specs.StackCommand.{Change}
 use Rattle.smt_meaning.specs.Sorts.{Judging}
 use Rattle.smt_sorts.specs.Names.{Names, all_of_levels, signature, gaining, with_declaration, with_levels, without_levels, cleared, base_of, based, HasGained}
-use Rattle.smt_laws.proofs.Both.{and_left}
 use Rattle.term_store.specs.Terms.{Terms, tree_with}
 use Rattle.elaborate.specs.Values.{IsLonger}
 use Rattle.scope_stack.specs.declared.answers.Assertion.{Assertion}
@@ -28,6 +27,7 @@ use Rattle.scope_stack.specs.declared.answers.Carried.TheVariants.{Done, Unsuppo
 use Rattle.scope_stack.specs.declared.answers.StackError.{StackError}
 use Rattle.scope_stack.specs.Judged.{Declares}
 use Rattle.scope_stack.specs.Facts.{HasGivenSymbols, IsResult, IsFact, AreFacts, IsKept, made_sort}
+use Rattle.scope_stack.proofs.PieceLemmas.{All-left, All-right}
 use Rattle.scope_stack.proofs.FrameLemmas.{tree_at-longer}
 use Rattle.scope_stack.proofs.SortLemmas.{HasArguments, arguments_of, the_some, theory_sort, last_or_before, sorts_more, sort_still, StillFound, found_longer, found_filtered}
 
@@ -66,14 +66,6 @@ same_gaining f n false d (ds ∷ []) h lt = same_joined f n d ds [] h lt
 same_gaining f n false d (ds ∷ es ∷ dss) h lt =
     same_behind f ds (all_of_levels (gaining false (d ∷ []) (es ∷ dss))) (all_of_levels (es ∷ dss)) (same_gaining f n false d (es ∷ dss) h lt)
 
-pub below_left : (P : ℕ → Type 0) (xs ys : List ℕ) → All P (xs ++ ys) → All P xs
-below_left P [] ys h = All-nil P
-below_left P (x ∷ xs) ys h = All-cons P x xs (All-head P x (xs ++ ys) h) (below_left P xs ys (All-tail P x (xs ++ ys) h))
-
-pub below_right : (P : ℕ → Type 0) (xs ys : List ℕ) → All P (xs ++ ys) → All P ys
-below_right P [] ys h = h
-below_right P (x ∷ xs) ys h = below_right P xs ys (All-tail P x (xs ++ ys) h)
-
 module _ (n : ℕ) (us ds : List Declaration) (same : (f : ℕ) → f < n → function_with_id f us ≡ function_with_id f ds) where
   same_head : (h : Head) (o : Option (List Sort)) → All (λ f. f < n) (head_symbols h) → with_sorts us h o ≡ with_sorts ds h o
   same_head h None a = refl
@@ -86,14 +78,14 @@ module _ (n : ℕ) (us ds : List Declaration) (same : (f : ℕ) → f < n → fu
   mutual
     same_sort : (t : Tree) → HasGivenSymbols n t → tree_sort us t ≡ tree_sort ds t
     same_sort (node h ts) a =
-        ap (with_sorts us h) (same_sorts ts (below_right (λ f. f < n) (head_symbols h) (symbols_of ts) a))
-        ∙ same_head h (tree_sorts ds ts) (below_left (λ f. f < n) (head_symbols h) (symbols_of ts) a)
+        ap (with_sorts us h) (same_sorts ts (All-right (λ f. f < n) (head_symbols h) (symbols_of ts) a))
+        ∙ same_head h (tree_sorts ds ts) (All-left (λ f. f < n) (head_symbols h) (symbols_of ts) a)
 
     same_sorts : (ts : Trees) → All (λ f. f < n) (symbols_of ts) → tree_sorts us ts ≡ tree_sorts ds ts
     same_sorts none a = refl
     same_sorts (more t ts) a =
-        ap (λ o. cons_sort o (tree_sorts us ts)) (same_sort t (below_left (λ f. f < n) (symbols t) (symbols_of ts) a))
-        ∙ ap (cons_sort (tree_sort ds t)) (same_sorts ts (below_right (λ f. f < n) (symbols t) (symbols_of ts) a))
+        ap (λ o. cons_sort o (tree_sorts us ts)) (same_sort t (All-left (λ f. f < n) (symbols t) (symbols_of ts) a))
+        ∙ ap (cons_sort (tree_sort ds t)) (same_sorts ts (All-right (λ f. f < n) (symbols t) (symbols_of ts) a))
 
 found_sort : (o : Option Declaration) (d : Declaration) (ss : List Sort) (s : Sort) → o ≡ Some d → symbol_sort o ss ≡ Some s → d.rank.result ≡ s
 found_sort o d ss s e h = by_test (is_symbol d && sorts_eq ss d.rank.arguments) (subst (λ p. symbol_sort p ss ≡ Some s) e h)
@@ -238,11 +230,7 @@ facts_cleared t ts n rs h = facts_fewer t (cleared t) (signature t) ts n rs refl
 
 no_id_before : (ds es : List Declaration) → HasNoIdTwice (ds ++ es) → HasNoIdTwice ds
 no_id_before [] es h = tt
-no_id_before (d ∷ ds) es h = (all_first (λ (e : Declaration). d.id ≢ e.id) ds es h.0, no_id_before ds es h.1)
-  where
-    all_first : (P : Declaration → Type 0) (xs ys : List Declaration) → All P (xs ++ ys) → All P xs
-    all_first P [] ys a = All-nil P
-    all_first P (x ∷ xs) ys a = All-cons P x xs (All-head P x (xs ++ ys) a) (all_first P xs ys (All-tail P x (xs ++ ys) a))
+no_id_before (d ∷ ds) es h = (All-left (λ (e : Declaration). d.id ≢ e.id) ds es h.0, no_id_before ds es h.1)
 
 found_at_base : (dss : List (List Declaration)) → HasNoIdTwice (all_of_levels dss) → StillFound (all_of_levels (base_of dss)) (all_of_levels dss)
 found_at_base [] h f ss s e = e
@@ -261,20 +249,22 @@ declared_facts c global t u (Ok Done) ts n rs d h = subst (λ v. AreFacts v ts n
 declared_facts c global t u (Ok Unsupported) ts n rs d h = subst (λ v. AreFacts v ts n rs) (sym d.same) h
 declared_facts c global t u (Err e) ts n rs d h = subst (λ v. AreFacts v ts n rs) (sym d.same) h
 
--- what is kept of the terms before, where terms and declarations joined
+-- what is kept of the terms before, where terms joined
+pub joined_before : {X : Type 0} (P : Names → List Tree → ℕ → List X → Type 0) (t u : Names) (old now : Terms) (n : ℕ) (xs : List X) → n ≡ length old.trees → (l : IsLonger old.trees now.trees) → u ≡ t
+    → P t (old.trees ++ l.0) (length old.trees) xs → P u now.trees n xs
+joined_before P t u old now n xs e l g h =
+    subst (λ ws. P u ws n xs) (sym l.1) (subst (λ k. P u (old.trees ++ l.0) k xs) (sym e) (subst (λ v. P v (old.trees ++ l.0) (length old.trees) xs) (sym g) h))
+
+-- declarations too
 pub facts_before : (t u : Names) (old now : Terms) (n : ℕ) (rs : List Sort) → n ≡ length old.trees → HasGained t u → IsLonger old.trees now.trees → AreFacts t old.trees (length old.trees) rs
     → AreFacts u now.trees n rs
 facts_before t u old now n rs e g l h =
-    subst (λ ws. AreFacts u ws n rs) (sym l.1)
-    (subst (λ k. AreFacts u (old.trees ++ l.0) k rs) (sym e) (facts_longer u old.trees l.0 (length old.trees) rs (omega arith) (facts_gained t u old.trees (length old.trees) rs g h)))
+    joined_before AreFacts u u old now n rs e l refl (facts_longer u old.trees l.0 (length old.trees) rs (omega arith) (facts_gained t u old.trees (length old.trees) rs g h))
 
--- where terms alone joined
+-- terms alone
 pub asked_before : (t u : Names) (old now : Terms) (n : ℕ) (rs : List Sort) → n ≡ length old.trees → u ≡ t → IsLonger old.trees now.trees → AreFacts t old.trees (length old.trees) rs
     → AreFacts u now.trees n rs
-asked_before t u old now n rs e g l h =
-    subst (λ ws. AreFacts u ws n rs) (sym l.1)
-    (subst (λ k. AreFacts u (old.trees ++ l.0) k rs) (sym e)
-    (subst (λ v. AreFacts v (old.trees ++ l.0) (length old.trees) rs) (sym g) (facts_longer t old.trees l.0 (length old.trees) rs (omega arith) h)))
+asked_before t u old now n rs e g l h = joined_before AreFacts t u old now n rs e l g (facts_longer t old.trees l.0 (length old.trees) rs (omega arith) h)
 
 -- what a command that failed leaves is as before
 pub kept_again : {b : Bool} (t u : Names) (old now : Terms) (xss yss : List (List Assertion)) (rs ss : List Sort) (ls ks : List ℕ) → IsKept b t old xss rs ls → u ≡ t → now ≡ old → yss ≡ xss → ss ≡ rs → ks ≡ ls

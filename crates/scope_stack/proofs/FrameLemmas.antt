@@ -1,7 +1,7 @@
 -- What becomes of the frames as their parts change.
 use Rattle.std.proofs.Common.{◌≡◌, ◌∙◌, sym, refl, ap, ap₂, append_assoc, ℕ, zero, suc, ◌+◌, ◌<◌, Bool, true, false, List, [], ◌∷◌, ◌++◌, map, take, length, replicate, flat_map, arith, All}
 use Rattle.std.proofs.lemmas.List.{append-nil, map-append, length-append}
-use Rattle.std.proofs.lemmas.List.Elements.{All-nil, All-cons, All-head, All-tail, All-append, All-weaker}
+use Rattle.std.proofs.lemmas.List.Elements.{All-nil, All-head, All-tail, All-append, All-weaker}
 use Rattle.smt_meaning.specs.declared.tokens.Token.{Token}
 use Rattle.smt_meaning.specs.Declaration.{Declaration}
 use Rattle.smt_meaning.specs.Term.{Tree, tree_at}
@@ -11,6 +11,7 @@ use Rattle.smt_sorts.specs.Names.{all_of_levels, on_newest, gaining, base_of as 
 use Rattle.scope_stack.specs.declared.answers.Assertion.{Assertion}
 use Rattle.scope_stack.specs.Pieces.{all_of, on_last}
 use Rattle.scope_stack.specs.Inside.{asserted_by, frame_by, frames_by, IsWithin}
+use Rattle.scope_stack.proofs.PieceLemmas.{All-left, All-right}
 
 pub signature-frames : (ts : List Tree) (dss : List (List Declaration)) (xss : List (List Assertion)) → signature_of (frames_by ts dss xss) ≡ all_of_levels dss
 signature-frames ts [] xss = refl
@@ -91,20 +92,12 @@ asserted-longer ts us [] h = refl
 asserted-longer ts us (x ∷ xs) h =
     ap₂ (λ (t : Tree) r. record { text = x.text; term = t } ∷ r) (tree_at-longer ts us x.term (All-head (IsWithin ts) x xs h)) (asserted-longer ts us xs (All-tail (IsWithin ts) x xs h))
 
-all_left : (P : Assertion → Type 0) (xs ys : List Assertion) → All P (xs ++ ys) → All P xs
-all_left P [] ys h = All-nil P
-all_left P (x ∷ xs) ys h = All-cons P x xs (All-head P x (xs ++ ys) h) (all_left P xs ys (All-tail P x (xs ++ ys) h))
-
-all_right : (P : Assertion → Type 0) (xs ys : List Assertion) → All P (xs ++ ys) → All P ys
-all_right P [] ys h = h
-all_right P (x ∷ xs) ys h = all_right P xs ys (All-tail P x (xs ++ ys) h)
-
 pub frames-longer : (ts us : List Tree) (dss : List (List Declaration)) (xss : List (List Assertion)) → All (IsWithin ts) (all_of xss)
     → frames_by (ts ++ us) dss xss ≡ frames_by ts dss xss
 frames-longer ts us [] xss h = refl
 frames-longer ts us (ds ∷ dss) [] h = ap (λ r. frame_by ts ds [] ∷ r) (frames-longer ts us dss [] h)
 frames-longer ts us (ds ∷ dss) (xs ∷ xss) h =
-    ap₂ (λ zs r. record { declared = ds; asserted = zs } ∷ r) (asserted-longer ts us xs (all_left (IsWithin ts) xs (all_of xss) h)) (frames-longer ts us dss xss (all_right (IsWithin ts) xs (all_of xss) h))
+    ap₂ (λ zs r. record { declared = ds; asserted = zs } ∷ r) (asserted-longer ts us xs (All-left (IsWithin ts) xs (all_of xss) h)) (frames-longer ts us dss xss (All-right (IsWithin ts) xs (all_of xss) h))
 
 pub within-longer : (ts us : List Tree) (xs : List Assertion) → All (IsWithin ts) xs → All (IsWithin (ts ++ us)) xs
 within-longer ts us xs h = All-weaker (IsWithin ts) (IsWithin (ts ++ us)) (λ x lt. longer x lt) xs h
@@ -114,26 +107,26 @@ within-longer ts us xs h = All-weaker (IsWithin ts) (IsWithin (ts ++ us)) (λ x 
 
 pub within-last : (ts : List Tree) (ys : List Assertion) (xss : List (List Assertion)) → All (IsWithin ts) (all_of xss) → All (IsWithin ts) ys → All (IsWithin ts) (all_of (on_last ys xss))
 within-last ts ys [] h g = h
-within-last ts ys (xs ∷ []) h g = All-append (IsWithin ts) (xs ++ ys) [] (All-append (IsWithin ts) xs ys (all_left (IsWithin ts) xs [] h) g) (All-nil (IsWithin ts))
+within-last ts ys (xs ∷ []) h g = All-append (IsWithin ts) (xs ++ ys) [] (All-append (IsWithin ts) xs ys (All-left (IsWithin ts) xs [] h) g) (All-nil (IsWithin ts))
 within-last ts ys (xs ∷ zs ∷ rest) h g =
-    All-append (IsWithin ts) xs (all_of (on_last ys (zs ∷ rest))) (all_left (IsWithin ts) xs (all_of (zs ∷ rest)) h) (within-last ts ys (zs ∷ rest) (all_right (IsWithin ts) xs (all_of (zs ∷ rest)) h) g)
+    All-append (IsWithin ts) xs (all_of (on_last ys (zs ∷ rest))) (All-left (IsWithin ts) xs (all_of (zs ∷ rest)) h) (within-last ts ys (zs ∷ rest) (All-right (IsWithin ts) xs (all_of (zs ∷ rest)) h) g)
 
 pub within-above : (ts : List Tree) (ys : List Assertion) (xss : List (List Assertion)) → All (IsWithin ts) (all_of xss) → All (IsWithin ts) ys → All (IsWithin ts) (all_of (xss ++ ys ∷ []))
 within-above ts ys [] h g = All-append (IsWithin ts) ys [] g (All-nil (IsWithin ts))
 within-above ts ys (xs ∷ xss) h g =
-    All-append (IsWithin ts) xs (all_of (xss ++ ys ∷ [])) (all_left (IsWithin ts) xs (all_of xss) h) (within-above ts ys xss (all_right (IsWithin ts) xs (all_of xss) h) g)
+    All-append (IsWithin ts) xs (all_of (xss ++ ys ∷ [])) (All-left (IsWithin ts) xs (all_of xss) h) (within-above ts ys xss (All-right (IsWithin ts) xs (all_of xss) h) g)
 
 pub within-pushed : (ts : List Tree) (n : ℕ) (xss : List (List Assertion)) → All (IsWithin ts) (all_of xss) → All (IsWithin ts) (all_of (xss ++ replicate n []))
 within-pushed ts zero [] h = h
 within-pushed ts (suc n) [] h = within-pushed ts n [] h
 within-pushed ts n (xs ∷ xss) h =
-    All-append (IsWithin ts) xs (all_of (xss ++ replicate n [])) (all_left (IsWithin ts) xs (all_of xss) h) (within-pushed ts n xss (all_right (IsWithin ts) xs (all_of xss) h))
+    All-append (IsWithin ts) xs (all_of (xss ++ replicate n [])) (All-left (IsWithin ts) xs (all_of xss) h) (within-pushed ts n xss (All-right (IsWithin ts) xs (all_of xss) h))
 
 pub within-taken : (ts : List Tree) (n : ℕ) (xss : List (List Assertion)) → All (IsWithin ts) (all_of xss) → All (IsWithin ts) (all_of (take n xss))
 within-taken ts zero xss h = All-nil (IsWithin ts)
 within-taken ts (suc n) [] h = h
 within-taken ts (suc n) (xs ∷ xss) h =
-    All-append (IsWithin ts) xs (all_of (take n xss)) (all_left (IsWithin ts) xs (all_of xss) h) (within-taken ts n xss (all_right (IsWithin ts) xs (all_of xss) h))
+    All-append (IsWithin ts) xs (all_of (take n xss)) (All-left (IsWithin ts) xs (all_of xss) h) (within-taken ts n xss (All-right (IsWithin ts) xs (all_of xss) h))
 
 -- ---- what is shown
 

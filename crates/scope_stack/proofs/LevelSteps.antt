@@ -1,5 +1,5 @@
 -- The levels of terms stay right as terms and declarations come and go.
-use Rattle.std.proofs.Common.{Result, Ok, Err, ◌≡◌, ◌∙◌, ◌⊎◌, inl, inr, sym, refl, ap, subst, ℕ, zero, suc, ◌+◌, ◌-◌, ◌<◌, ◌≤◌, max, Bool, true, false, if◌then◌else◌, filter, List, [], ◌∷◌, ◌++◌, map, take, length, replicate, All, Contains, Option, Some, None, arith, slice_index}
+use Rattle.std.proofs.Common.{Result, Ok, Err, ◌≡◌, ◌∙◌, ◌⊎◌, inl, inr, sym, refl, ap, subst, ℕ, zero, suc, ◌+◌, ◌-◌, ◌<◌, ◌≤◌, max, Bool, true, false, if◌then◌else◌, filter, List, [], ◌∷◌, ◌++◌, map, take, length, replicate, All, Contains, Some, None, arith, slice_index}
 use Rattle.std.specs.Prelude.{nat_eq}
 use Rattle.std.proofs.lemmas.Bool.{eq-eqb}
 use Rattle.std.proofs.lemmas.List.{map-append, length-take, get_or_append_left, get_or_push, get_or-take, length_push}
@@ -26,8 +26,9 @@ use Rattle.scope_stack.specs.Inside.{frames_by}
 use Rattle.scope_stack.specs.Judged.{Declares}
 use Rattle.scope_stack.specs.Facts.{HasGivenSymbols, IsHeadLevel, IsLeast, AreLevels, greatest_of, IsTermLevel, HaveLevels}
 use Rattle.scope_stack.proofs.SortLemmas.{last_or_before}
+use Rattle.scope_stack.proofs.PieceLemmas.{All-left, All-right}
 use Rattle.scope_stack.proofs.FrameLemmas.{tree_at-longer, signature-frames, frames-taken}
-use Rattle.scope_stack.proofs.FactLemmas.{AreLater, below_left, below_right, same_before}
+use Rattle.scope_stack.proofs.FactLemmas.{AreLater, same_before, joined_before}
 
 abbrev ids : List Declaration → List ℕ
 ids ds = map (λ (d : Declaration). d.id) ds
@@ -355,8 +356,8 @@ levels_based t ts n ls h = record { size = h.size; each = λ p lt. level_based t
 levels_at : (P : ℕ → Type 0) (trees : List Tree) (is : List ℕ) → All P (symbols_of (pick trees is)) → All (λ i. All P (symbols (tree_at trees i))) is
 levels_at P trees [] h = All-nil (λ i. All P (symbols (tree_at trees i)))
 levels_at P trees (i ∷ is) h =
-    All-cons (λ j. All P (symbols (tree_at trees j))) i is (below_left P (symbols (tree_at trees i)) (symbols_of (pick trees is)) h)
-    (levels_at P trees is (below_right P (symbols (tree_at trees i)) (symbols_of (pick trees is)) h))
+    All-cons (λ j. All P (symbols (tree_at trees j))) i is (All-left P (symbols (tree_at trees i)) (symbols_of (pick trees is)) h)
+    (levels_at P trees is (All-right P (symbols (tree_at trees i)) (symbols_of (pick trees is)) h))
 
 at_levels : (P : ℕ → Type 0) (trees : List Tree) (is : List ℕ) → All (λ i. All P (symbols (tree_at trees i))) is → All P (symbols_of (pick trees is))
 at_levels P trees [] h = All-nil P
@@ -393,20 +394,20 @@ module _ (t : Names) (trees : List Tree) (count : ℕ) (ls : List ℕ) (is : Lis
 
   pub level_of : (h : Head) (m : ℕ) → IsHeadLevel t h m → IsTermLevel t (tree_with trees h is) (greatest_of ls is m)
   level_of h m level declared =
-      let top = level (below_left (Contains (known_at_all t)) (head_symbols h) (symbols_of (pick trees is)) declared) in
+      let top = level (All-left (Contains (known_at_all t)) (head_symbols h) (symbols_of (pick trees is)) declared) in
       let r = greatest_of ls is m in
       let above = greatest_above ls is m in
       let le : m ≤ r = above.0 in
-      let each : All HasLevel is = each_level (below_right (Contains (known_at_all t)) (head_symbols h) (symbols_of (pick trees is)) declared) in
+      let each : All HasLevel is = each_level (All-right (Contains (known_at_all t)) (head_symbols h) (symbols_of (pick trees is)) declared) in
       record {
         declared =
             All-append (Contains (known t r)) (head_symbols h) (symbols_of (pick trees is))
             (All-weaker (Contains (known t m)) (Contains (known t r)) (λ f c. sub_more (m + 1) (r + 1) t.levels f (omega (arith, le)) c) (head_symbols h) top.declared)
             (at_levels (Contains (known t r)) trees is (all_with HasLevel (λ i. slice_index ls i ≤ r) (IsKnownAt r) is (λ i d l. known_by r i d l) each above.1));
         least = λ k all.
-            greatest_within ls is m k (top.least k (below_left (Contains (known t k)) (head_symbols h) (symbols_of (pick trees is)) all))
+            greatest_within ls is m k (top.least k (All-left (Contains (known t k)) (head_symbols h) (symbols_of (pick trees is)) all))
             (all_with HasLevel (IsKnownAt k) (λ i. slice_index ls i ≤ k) is (λ i d c. d.least k c) each
-            (levels_at (Contains (known t k)) trees is (below_right (Contains (known t k)) (head_symbols h) (symbols_of (pick trees is)) all)));
+            (levels_at (Contains (known t k)) trees is (All-right (Contains (known t k)) (head_symbols h) (symbols_of (pick trees is)) all)));
       }
 
 pub no_symbol : (t : Names) → IsLeast (known t) [] 0
@@ -448,16 +449,11 @@ declared_levels c global t u (Err e) ts n ls d given h = subst (λ v. HaveLevels
 pub levels_before : (t u : Names) (old now : Terms) (n : ℕ) (ls : List ℕ) → n ≡ length old.trees → HasGained t u → IsLonger old.trees now.trees
     → ((p : ℕ) → p < length old.trees → HasGivenSymbols t.given (tree_at old.trees p)) → HaveLevels t old.trees (length old.trees) ls → HaveLevels u now.trees n ls
 levels_before t u old now n ls e g l given h =
-    subst (λ ws. HaveLevels u ws n ls) (sym l.1)
-    (subst (λ k. HaveLevels u (old.trees ++ l.0) k ls) (sym e)
-    (levels_longer u old.trees l.0 (length old.trees) ls (omega arith) (levels_gained t u old.trees (length old.trees) ls g given h)))
+    joined_before HaveLevels u u old now n ls e l refl (levels_longer u old.trees l.0 (length old.trees) ls (omega arith) (levels_gained t u old.trees (length old.trees) ls g given h))
 
 pub asked_levels : (t u : Names) (old now : Terms) (n : ℕ) (ls : List ℕ) → n ≡ length old.trees → u ≡ t → IsLonger old.trees now.trees → HaveLevels t old.trees (length old.trees) ls
     → HaveLevels u now.trees n ls
-asked_levels t u old now n ls e g l h =
-    subst (λ ws. HaveLevels u ws n ls) (sym l.1)
-    (subst (λ k. HaveLevels u (old.trees ++ l.0) k ls) (sym e)
-    (subst (λ v. HaveLevels v (old.trees ++ l.0) (length old.trees) ls) (sym g) (levels_longer t old.trees l.0 (length old.trees) ls (omega arith) h)))
+asked_levels t u old now n ls e g l h = joined_before HaveLevels t u old now n ls e l g (levels_longer t old.trees l.0 (length old.trees) ls (omega arith) h)
 
 -- ---- as a stack shows them
 

@@ -21,3 +21,4 @@ pub mod SeenLemmas
 pub mod CopyLemmas
 pub mod ThinLemmas
 pub mod RaiseLemmas
+mod LawExamples

@@ -21,7 +21,7 @@ use Rattle.smt_sorts.specs.Names.{Names}
 use Rattle.scope_stack.specs.declared.answers.StackError.{StackError}
 use Rattle.scope_stack.specs.declared.answers.StackError.TheVariants.{Refused, Memory}
 use Rattle.scope_stack.specs.Judged.{scope_by, IsError, Gives, Causes, Adds, names_onto, names_before, parameter_name, IsParameter, one_parameter, Continues, body_of_sort, IsBody, sort_of}
-use Rattle.scope_stack.proofs.Steps.{bind_done, next_done, next_refused, return_done, require_done, require_refused, bind_cause, next_cause, bind_then, next_then}
+use Rattle.scope_stack.proofs.Steps.{bind_done, next_done, next_refused, return_done, require_done, require_refused, bind_cause, next_cause, bind_then, next_then, bind_is, none_judged, one_judged}
 use Rattle.scope_stack.proofs.SortSteps.{error_cause}
 
 -- ---- names before
@@ -78,22 +78,8 @@ variables-push k (q ∷ ps) p =
     let e : (k + 1) + length ps ≡ k + length (q ∷ ps) = omega arith in
     ap (λ vs. variable_at k q ∷ vs) (variables-push (k + 1) ps p ∙ ap (λ n. parameters_from (k + 1) ps ++ variable_at n p ∷ []) e)
 
-whole : {A : Type 0} (o : Outcome (List A)) → o ≡ go_on o (λ more'. return ([] ++ more'))
-unfolding return
-whole (done xs s) = refl
-whole (refused r) = refl
-
 pub continues_first : (ps : List WrittenParameter) (t : Names) → Continues t ps [] ps
-continues_first ps t ts = whole (judge_parameters 0 [] ps (scope_by t ts))
-
-one_more : {A : Type 0} (r : A) (rs : List A) (o : Outcome (List A)) → go_on (go_on o (λ xs. return (r ∷ xs))) (λ more'. return (rs ++ more')) ≡ go_on o (λ more'. return ((rs ++ r ∷ []) ++ more'))
-unfolding return
-one_more r rs (done xs s) = ap (λ ys. done ys s) (sym (append_assoc rs (r ∷ []) xs))
-one_more r rs (refused why) = refl
-
-bind_is : {A B : Type 0} (m : Judging A) (k : A → Judging B) (s : Scope) → (m >>= k) s ≡ go_on (m s) k
-unfolding ◌>>=◌
-bind_is m k s = refl
+continues_first ps t ts = none_judged (judge_parameters 0 [] ps (scope_by t ts))
 
 first_parameter : (k : ℕ) (before : List (List ℕ)) (p : WrittenParameter) (ps : List WrittenParameter) (s : Scope) (r : Sort) → not_before before p.name s ≡ done tt s → judge_sort p.sort s ≡ done r s
     → judge_parameters k before (p ∷ ps) s ≡ go_on (judge_parameters (k + 1) (p.name ∷ before) ps s) (λ vs. return (record { name = p.name; term = record { tree = node (Place k) none; sort = r } } ∷ vs))
@@ -114,7 +100,7 @@ pub continues_next : (all ps : List WrittenParameter) (p : WrittenParameter) (t 
 continues_next all ps p t qs q h g ts =
     h ts
     ∙ ap (λ o. go_on o (λ more'. return (variables_of qs ++ more'))) (first_parameter (length qs) (names_before qs) p ps (scope_by t ts) q.sort (g.apart ts) (g.sort ts))
-    ∙ one_more (written_variable (length qs) p.name q.sort) (variables_of qs) (judge_parameters (length qs + 1) (p.name ∷ names_before qs) ps (scope_by t ts))
+    ∙ one_judged (written_variable (length qs) p.name q.sort) (variables_of qs) (judge_parameters (length qs + 1) (p.name ∷ names_before qs) ps (scope_by t ts))
     ∙ ap (λ vs. go_on (judge_parameters (length qs + 1) (p.name ∷ names_before qs) ps (scope_by t ts)) (λ more'. return (vs ++ more'))) (sym (variables_same qs q p.name g.name))
     ∙ ap₂ (λ k before. go_on (judge_parameters k before ps (scope_by t ts)) (λ more'. return (variables_of (qs ++ q ∷ []) ++ more'))) (sym (length_push qs q)) (sym (names_same qs q p.name g.name))
 

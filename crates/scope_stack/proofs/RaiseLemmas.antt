@@ -1,19 +1,18 @@
 -- A level of assertions above a stack, as it comes and goes.
-use Rattle.std.proofs.Common.{◌≡◌, ◌∙◌, sym, ap, ap₂, subst, ℕ, ◌+◌, ◌-◌, ◌<◌, Bool, List, [], ◌∷◌, ◌++◌, map, length, replicate, take, All, arith}
+use Rattle.std.proofs.Common.{◌≡◌, ◌∙◌, sym, ap, ap₂, subst, ℕ, ◌+◌, ◌-◌, ◌<◌, Bool, List, [], ◌∷◌, ◌++◌, map, length, replicate, take, arith}
 use Rattle.std.proofs.lemmas.List.{length-append, length-take-le}
 use Rattle.smt_meaning.specs.declared.values.Sort.{Sort}
 use Rattle.smt_meaning.specs.Stack.{Assertion as Asserted, Frame, depth}
 use Rattle.smt_meaning.specs.State.{frame_of}
-use Rattle.smt_meaning.specs.StackCommand.{Stack, most_levels}
+use Rattle.smt_meaning.specs.StackCommand.{Stack}
 use Rattle.smt_meaning.specs.Term.{Tree}
 use Rattle.smt_sorts.specs.Names.{Names, with_levels, without_levels}
 use Rattle.term_store.specs.Terms.{Terms}
 use Rattle.scope_stack.specs.declared.answers.Assertion.{Assertion}
-use Rattle.scope_stack.specs.Pieces.{all_of}
-use Rattle.scope_stack.specs.Inside.{asserted_by, frames_by, stack_by, IsWithin}
+use Rattle.scope_stack.specs.Inside.{asserted_by, frames_by, stack_by}
 use Rattle.scope_stack.specs.Carries.{under}
 use Rattle.scope_stack.specs.Raised.{MayAssertAbove, StandsAbove}
-use Rattle.scope_stack.specs.Seen.{AreAssertions, IsSeen}
+use Rattle.scope_stack.specs.Seen.{IsSeen}
 use Rattle.scope_stack.specs.Shown.{IsLawful}
 use Rattle.scope_stack.proofs.BackLemmas.{without_last}
 use Rattle.scope_stack.proofs.FactLemmas.{facts_popped, facts_pushed}

@@ -7,24 +7,20 @@ use Rattle.smt_meaning.specs.Stack.{Frame}
 use Rattle.smt_meaning.specs.StackCommand.{Stack}
 use Rattle.smt_sorts.specs.Names.{Names}
 use Rattle.term_store.specs.Terms.{Terms}
-use Rattle.smt_laws.specs.TermLaws.{NoIdTwice}
-use Rattle.smt_laws.specs.SortLaws.{AssertionsAreTruths, TreesAreInOrder, PartsAreAmongTheTrees}
-use Rattle.smt_laws.specs.LinearLaws.{NumeralsAreInRange}
 use Rattle.scope_stack.specs.declared.answers.Assertion.{Assertion}
 use Rattle.scope_stack.specs.Inside.{frames_by, stack_by, IsStack}
 use Rattle.scope_stack.specs.Facts.{IsKept}
 use Rattle.scope_stack.specs.Seen.{AreAssertions, IsSeen, names_of, IsPartOf}
-use Rattle.scope_stack.proofs.LawLemmas.{reached_lawful}
+use Rattle.scope_stack.specs.Shown.{ReachedStacksAreLawful}
 
 pub assertions_of_kept : {global : Bool} (t : Names) (store : Terms) (xss : List (List Assertion)) → IsStack global t store xss → AreAssertions t store xss
 assertions_of_kept t store xss h = record { limit = h.limit; as_many = h.as_many; some = h.some; few = h.few; within = h.within }
 
-pub seen_of_kept : {global : Bool} (t : Names) (store : Terms) (xss : List (List Assertion)) (rs : List Sort) (ls : List ℕ) → IsKept global t store xss rs ls
-    → NoIdTwice → AssertionsAreTruths → TreesAreInOrder → PartsAreAmongTheTrees → NumeralsAreInRange → IsSeen global t store xss rs ls
-seen_of_kept {global = global} t store xss rs ls h ids truths order parts numerals =
+pub seen_of_kept : ReachedStacksAreLawful → {global : Bool} (t : Names) (store : Terms) (xss : List (List Assertion)) (rs : List Sort) (ls : List ℕ) → IsKept global t store xss rs ls → IsSeen global t store xss rs ls
+seen_of_kept law {global = global} t store xss rs ls h =
     record {
       stack = assertions_of_kept t store xss h.stack;
-      lawful = reached_lawful (stack_by global t store.trees xss) h.stack.reached ids truths order parts numerals;
+      lawful = law (stack_by global t store.trees xss) h.stack.reached;
       facts = h.facts;
       levels = h.levels;
     }

@@ -1,17 +1,16 @@
 -- Judging names and sorts.
 use Rattle.std.proofs.Common.{◌≡◌, ◌∙◌, sym, refl, ap, ℕ, Bool, false, not, Option, Some, None, List, [], ◌∷◌, ◌++◌, length, arith}
 use Rattle.std.proofs.lemmas.List.{append-nil}
-use Rattle.std.proofs.Common.{append_assoc}
 use Rattle.smt_meaning.specs.declared.values.Sort.{Sort}
 use Rattle.smt_meaning.specs.declared.tokens.Token.TheVariants.{Symbol}
 use Rattle.smt_meaning.specs.declared.refusals.Refusal.{Refusal}
-use Rattle.smt_meaning.specs.declared.refusals.Refusal.TheVariants.{UnknownSymbol}
+use Rattle.smt_meaning.specs.declared.refusals.Refusal.TheVariants.{UnknownSymbol, ReservedName, AlreadyDeclared as DeclaredBefore}
 use Rattle.smt_meaning.specs.declared.commands.WrittenSort.{WrittenSort}
 use Rattle.smt_meaning.specs.declared.commands.WrittenSort.TheVariants.{Name, Applied}
 use Rattle.smt_meaning.specs.Declaration.{Declaration}
 use Rattle.smt_meaning.specs.Term.{Tree}
 use Rattle.smt_meaning.specs.Signature.{is_one_of, is_some, find_function, find_sort, reserved_functions, reserved_sorts}
-use Rattle.smt_meaning.specs.Sorts.{Scope, Outcome, done, refused, go_on, ◌>>=◌, return}
+use Rattle.smt_meaning.specs.Sorts.{Scope, Outcome, done, refused, Judging, go_on, ◌>>=◌, ◌>>◌, return, require, the_scope}
 use Rattle.smt_meaning.specs.StackCommand.{sort_named, judge_sort, judge_sorts, new_sort_name, new_function_name}
 use Rattle.smt_sorts.specs.declared.errors.NameError.{NameError}
 use Rattle.smt_sorts.specs.declared.errors.NameError.TheVariants.{Reserved, AlreadyDeclared}
@@ -20,44 +19,47 @@ use Rattle.smt_sorts.specs.Names as names
 use Rattle.scope_stack.specs.declared.answers.StackError.{StackError}
 use Rattle.scope_stack.specs.declared.answers.StackError.TheVariants.{Refused, Memory}
 use Rattle.scope_stack.specs.Judged.{scope_by, IsCause, IsError, Gives, Causes, Resumes, name_refusal}
-use Rattle.scope_stack.proofs.Steps.{bind_refused, next_done, next_refused, scope_done, return_done, refuse_refused, require_done, require_refused, required_done, required_refused}
+use Rattle.scope_stack.proofs.Steps.{bind_refused, next_done, next_refused, scope_done, return_done, refuse_refused, require_done, require_refused, required_done, required_refused, none_judged, one_judged}
 
 -- ---- names
-
-pub new_sort_gives : (n : List ℕ) (t : Names) → IsNewSort n (signature t) → Gives (new_sort_name n) t tt
-new_sort_gives n t h ts =
-    next_done _ _ (scope_by t ts) (scope_by t ts) tt (require_done (not (is_one_of n reserved_sorts)) _ (scope_by t ts) (ap not h.unreserved))
-    ∙ scope_done _ (scope_by t ts)
-    ∙ require_done (not (is_some (find_sort n (signature t)))) _ (scope_by t ts) (ap (λ o. not (is_some o)) h.undeclared)
-
-pub new_function_gives : (n : List ℕ) (t : Names) → IsNewFunction n (signature t) → Gives (new_function_name n) t tt
-new_function_gives n t h ts =
-    next_done _ _ (scope_by t ts) (scope_by t ts) tt (require_done (not (is_one_of n reserved_functions)) _ (scope_by t ts) (ap not h.unreserved))
-    ∙ scope_done _ (scope_by t ts)
-    ∙ require_done (not (is_some (find_function n (signature t)))) _ (scope_by t ts) (ap (λ o. not (is_some o)) h.undeclared)
 
 -- a name that isn't reserved is known
 known : (b : Bool) (o : Option Declaration) → names.IsCause AlreadyDeclared b o → (b ≡ false) × (not (is_some o) ≡ false)
 known b None h = absurd h
 known b (Some d) h = (h, refl)
 
+-- a name is new that is none of these, and that isn't found
+module _ (n : List ℕ) (reserved : List (List ℕ)) (find : List Declaration → Option Declaration) where
+  abbrev new_name : Judging (Unit {0})
+  new_name = require (not (is_one_of n reserved)) (ReservedName n) >> (the_scope >>= λ (s : Scope). require (not (is_some (find s.signature))) (DeclaredBefore n))
+
+  name_gives : (t : Names) → is_one_of n reserved ≡ false → find (signature t) ≡ None → Gives new_name t tt
+  name_gives t unreserved undeclared ts =
+      next_done _ _ (scope_by t ts) (scope_by t ts) tt (require_done (not (is_one_of n reserved)) _ (scope_by t ts) (ap not unreserved))
+      ∙ scope_done _ (scope_by t ts)
+      ∙ require_done (not (is_some (find (signature t)))) _ (scope_by t ts) (ap (λ o. not (is_some o)) undeclared)
+
+  name_refused : (e : NameError) (t : Names) (ts : List Tree) → names.IsCause e (is_one_of n reserved) (find (signature t)) → new_name (scope_by t ts) ≡ refused (name_refusal e n)
+  name_refused Reserved t ts h = next_refused _ _ (scope_by t ts) _ (require_refused (not (is_one_of n reserved)) _ (scope_by t ts) (ap not h))
+  name_refused AlreadyDeclared t ts h =
+      let k = known (is_one_of n reserved) (find (signature t)) h in
+      next_done _ _ (scope_by t ts) (scope_by t ts) tt (require_done (not (is_one_of n reserved)) _ (scope_by t ts) (ap not k.0))
+      ∙ scope_done _ (scope_by t ts)
+      ∙ require_refused (not (is_some (find (signature t)))) _ (scope_by t ts) k.1
+
+pub new_sort_gives : (n : List ℕ) (t : Names) → IsNewSort n (signature t) → Gives (new_sort_name n) t tt
+new_sort_gives n t h = name_gives n reserved_sorts (find_sort n) t h.unreserved h.undeclared
+
+pub new_function_gives : (n : List ℕ) (t : Names) → IsNewFunction n (signature t) → Gives (new_function_name n) t tt
+new_function_gives n t h = name_gives n reserved_functions (find_function n) t h.unreserved h.undeclared
+
 pub new_sort_refused : (e : NameError) (n : List ℕ) (t : Names) (ts : List Tree) → names.IsCause e (is_one_of n reserved_sorts) (find_sort n (signature t))
     → new_sort_name n (scope_by t ts) ≡ refused (name_refusal e n)
-new_sort_refused Reserved n t ts h = next_refused _ _ (scope_by t ts) _ (require_refused (not (is_one_of n reserved_sorts)) _ (scope_by t ts) (ap not h))
-new_sort_refused AlreadyDeclared n t ts h =
-    let k = known (is_one_of n reserved_sorts) (find_sort n (signature t)) h in
-    next_done _ _ (scope_by t ts) (scope_by t ts) tt (require_done (not (is_one_of n reserved_sorts)) _ (scope_by t ts) (ap not k.0))
-    ∙ scope_done _ (scope_by t ts)
-    ∙ require_refused (not (is_some (find_sort n (signature t)))) _ (scope_by t ts) k.1
+new_sort_refused e n = name_refused n reserved_sorts (find_sort n) e
 
 pub new_function_refused : (e : NameError) (n : List ℕ) (t : Names) (ts : List Tree) → names.IsCause e (is_one_of n reserved_functions) (find_function n (signature t))
     → new_function_name n (scope_by t ts) ≡ refused (name_refusal e n)
-new_function_refused Reserved n t ts h = next_refused _ _ (scope_by t ts) _ (require_refused (not (is_one_of n reserved_functions)) _ (scope_by t ts) (ap not h))
-new_function_refused AlreadyDeclared n t ts h =
-    let k = known (is_one_of n reserved_functions) (find_function n (signature t)) h in
-    next_done _ _ (scope_by t ts) (scope_by t ts) tt (require_done (not (is_one_of n reserved_functions)) _ (scope_by t ts) (ap not k.0))
-    ∙ scope_done _ (scope_by t ts)
-    ∙ require_refused (not (is_some (find_function n (signature t)))) _ (scope_by t ts) k.1
+new_function_refused e n = name_refused n reserved_functions (find_function n) e
 
 -- ---- sorts
 
@@ -80,18 +82,8 @@ error_cause o why Memory h g = tt
 
 -- ---- lists of sorts, from the left
 
-whole : {A : Type 0} (o : Outcome (List A)) → o ≡ go_on o (λ more'. return ([] ++ more'))
-unfolding return
-whole (done xs s) = refl
-whole (refused r) = refl
-
 pub resumes_first : (xs : List WrittenSort) (t : Names) → Resumes t xs [] xs
-resumes_first xs t ts = whole (judge_sorts xs (scope_by t ts))
-
-one_more : {A : Type 0} (r : A) (rs : List A) (o : Outcome (List A)) → go_on (go_on o (λ xs. return (r ∷ xs))) (λ more'. return (rs ++ more')) ≡ go_on o (λ more'. return ((rs ++ r ∷ []) ++ more'))
-unfolding return
-one_more r rs (done xs s) = ap (λ ys. done ys s) (sym (append_assoc rs (r ∷ []) xs))
-one_more r rs (refused why) = refl
+resumes_first xs t ts = none_judged (judge_sorts xs (scope_by t ts))
 
 pub sorts_first : (x : WrittenSort) (xs : List WrittenSort) (s : Scope) (r : Sort) → judge_sort x s ≡ done r s → judge_sorts (x ∷ xs) s ≡ go_on (judge_sorts xs s) (λ rs. return (r ∷ rs))
 unfolding ◌>>=◌
@@ -99,7 +91,7 @@ sorts_first x xs s r e = ap (λ o. go_on o (λ a. judge_sorts xs >>= λ rs. retu
 
 pub resumes_next : (all xs : List WrittenSort) (x : WrittenSort) (t : Names) (rs : List Sort) (r : Sort) → Resumes t all rs (x ∷ xs) → Gives (judge_sort x) t r → Resumes t all (rs ++ r ∷ []) xs
 resumes_next all xs x t rs r h g ts =
-    h ts ∙ ap (λ o. go_on o (λ more'. return (rs ++ more'))) (sorts_first x xs (scope_by t ts) r (g ts)) ∙ one_more r rs (judge_sorts xs (scope_by t ts))
+    h ts ∙ ap (λ o. go_on o (λ more'. return (rs ++ more'))) (sorts_first x xs (scope_by t ts) r (g ts)) ∙ one_judged r rs (judge_sorts xs (scope_by t ts))
 
 pub resumes_last : (all : List WrittenSort) (t : Names) (rs : List Sort) → Resumes t all rs [] → Gives (judge_sorts all) t rs
 unfolding return

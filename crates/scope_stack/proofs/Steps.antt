@@ -1,7 +1,7 @@
 -- Judging, one step after another.
-use Rattle.std.proofs.Common.{◌≡◌, ◌∙◌, refl, ap, Bool, true, false, Option, Some, None}
+use Rattle.std.proofs.Common.{◌≡◌, ◌∙◌, sym, refl, ap, append_assoc, Bool, true, false, Option, Some, None, List, [], ◌∷◌, ◌++◌}
 use Rattle.smt_meaning.specs.declared.refusals.Refusal.{Refusal}
-use Rattle.smt_meaning.specs.Sorts.{Scope, done, refused, Judging, go_on, ◌>>=◌, ◌>>◌, return, refuse, require, required, the_scope}
+use Rattle.smt_meaning.specs.Sorts.{Scope, Outcome, done, refused, Judging, go_on, ◌>>=◌, ◌>>◌, return, refuse, require, required, the_scope}
 use Rattle.scope_stack.specs.declared.answers.StackError.{StackError}
 use Rattle.scope_stack.specs.declared.answers.StackError.TheVariants.{Refused, Memory}
 use Rattle.scope_stack.specs.Judged.{IsCause}
@@ -66,3 +66,19 @@ required_done o r s a e = rw e refl
 pub required_refused : {A : Type 0} (o : Option A) (r : Refusal) (s : Scope) → o ≡ None → required o r s ≡ refused r
 unfolding required refuse
 required_refused o r s e = rw e refl
+
+-- ---- lists of what is judged, from the left
+
+pub bind_is : {A B : Type 0} (m : Judging A) (k : A → Judging B) (s : Scope) → (m >>= k) s ≡ go_on (m s) k
+unfolding ◌>>=◌
+bind_is m k s = refl
+
+pub none_judged : {A : Type 0} (o : Outcome (List A)) → o ≡ go_on o (λ more'. return ([] ++ more'))
+unfolding return
+none_judged (done xs s) = refl
+none_judged (refused r) = refl
+
+pub one_judged : {A : Type 0} (r : A) (rs : List A) (o : Outcome (List A)) → go_on (go_on o (λ xs. return (r ∷ xs))) (λ more'. return (rs ++ more')) ≡ go_on o (λ more'. return ((rs ++ r ∷ []) ++ more'))
+unfolding return
+one_judged r rs (done xs s) = ap (λ ys. done ys s) (sym (append_assoc rs (r ∷ []) xs))
+one_judged r rs (refused why) = refl

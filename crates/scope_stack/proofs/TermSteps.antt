@@ -12,7 +12,7 @@ use Rattle.smt_meaning.specs.declared.values.Sort.TheVariants.{Bool as Truths}
 use Rattle.smt_meaning.specs.declared.refusals.Refusal.TheVariants.{NotBool}
 use Rattle.smt_meaning.specs.Sexp.{sexp}
 use Rattle.smt_meaning.specs.Signature.{sort_eq}
-use Rattle.smt_meaning.specs.Sorts.{Scope, Outcome, done, refused, Judging, go_on, return, Typed, judge, ◌>>=◌}
+use Rattle.smt_meaning.specs.Sorts.{Scope, Outcome, done, refused, go_on, return, Typed, judge}
 use Rattle.smt_meaning.specs.StackCommand.{asserts, asks, in_assert, in_question, assert_term, ask_terms, judge_terms, most_terms, require_room}
 use Rattle.smt_meaning.specs.Term.{Tree, tree_at}
 use Rattle.smt_sorts.specs.Names.{Names, HasGained}
@@ -23,7 +23,7 @@ use Rattle.scope_stack.specs.declared.answers.StackError.TheVariants.{Refused, M
 use Rattle.scope_stack.specs.Carries.{typed_by}
 use Rattle.scope_stack.specs.Judged.{scope_by, IsCause, IsSameError, IsAsking}
 use Rattle.scope_stack.proofs.FrameLemmas.{tree_at-longer}
-use Rattle.scope_stack.proofs.Steps.{bind_cause, bind_done, bind_refused, next_done, next_refused, return_done, require_done, require_refused, scope_done}
+use Rattle.scope_stack.proofs.Steps.{bind_cause, bind_done, bind_refused, next_done, next_refused, return_done, require_done, require_refused, scope_done, bind_is, none_judged, one_judged}
 
 pub room_done : (s : Scope) → length s.trees ≤ most_terms → require_room s ≡ done tt s
 room_done s le = scope_done _ s ∙ require_done (nat_le (length s.trees) most_terms) _ s (le-leb (length s.trees) most_terms le)
@@ -48,25 +48,15 @@ pub cut_back : (old now : Terms) (count : ℕ) → now.limit ≡ old.limit → I
 cut_back old now count l g e =
     ap₂ (λ (n : ℕ) ts. record { limit = n; trees = ts }) l (ap (λ ts. take count ts) g.1 ∙ take_at old.trees g.0 count (sym e))
 
+-- as many terms as there were are within a store that grew
+pub still_within : (old now : Terms) (count : ℕ) → IsLonger old.trees now.trees → count ≡ length old.trees → count ≤ length now.trees
+still_within old now count g e = let grown : length now.trees ≡ length old.trees + length g.0 = ap length g.1 ∙ length-append old.trees g.0 in omega (arith, grown, e)
+
 -- ---- questions, from the left
-
-whole : {A : Type 0} (o : Outcome (List A)) → o ≡ go_on o (λ more'. return ([] ++ more'))
-unfolding return
-whole (done xs s) = refl
-whole (refused r) = refl
-
-one_more : {A : Type 0} (r : A) (rs : List A) (o : Outcome (List A)) → go_on (go_on o (λ xs. return (r ∷ xs))) (λ more'. return (rs ++ more')) ≡ go_on o (λ more'. return ((rs ++ r ∷ []) ++ more'))
-unfolding return
-one_more r rs (done xs s) = ap (λ ys. done ys s) (sym (append_assoc rs (r ∷ []) xs))
-one_more r rs (refused why) = refl
-
-bind_is : {A B : Type 0} (m : Judging A) (k : A → Judging B) (s : Scope) → (m >>= k) s ≡ go_on (m s) k
-unfolding ◌>>=◌
-bind_is m k s = refl
 
 pub asking_first : (t : Names) (ts : List Tree) (all : List (List Token)) → ((v : Names) → HasGained v t → HasGained v t) → IsAsking t ts all [] all t ts
 asking_first t ts all g =
-    record { continues = whole (judge_terms all (scope_by t ts)); within = All-nil (λ (a : Asked). a.term < length ts); gained = g; longer = ([], sym (append-nil ts)) }
+    record { continues = none_judged (judge_terms all (scope_by t ts)); within = All-nil (λ (a : Asked). a.term < length ts); gained = g; longer = ([], sym (append-nil ts)) }
 
 typed-longer : (ts us : List Tree) (as' : List Asked) → All (λ (a : Asked). a.term < length ts) as' → typed_by (ts ++ us) as' ≡ typed_by ts as'
 typed-longer ts us [] h = refl
@@ -90,7 +80,7 @@ asking_next t ts all as' x xs u v us vs a h j lt g l =
       continues =
           h.continues
           ∙ ap (λ o. go_on o (λ more'. return (typed_by us as' ++ more'))) (first_question x xs (scope_by u us) (scope_by v vs) (record { tree = tree_at vs a.term; sort = a.sort }) j)
-          ∙ one_more (record { tree = tree_at vs a.term; sort = a.sort }) (typed_by us as') (judge_terms xs (scope_by v vs))
+          ∙ one_judged (record { tree = tree_at vs a.term; sort = a.sort }) (typed_by us as') (judge_terms xs (scope_by v vs))
           ∙ ap (λ zs. go_on (judge_terms xs (scope_by v vs)) (λ more'. return ((zs ++ record { tree = tree_at vs a.term; sort = a.sort } ∷ []) ++ more'))) (sym old)
           ∙ ap (λ zs. go_on (judge_terms xs (scope_by v vs)) (λ more'. return (zs ++ more'))) (sym (typed-push vs as' a));
       within =

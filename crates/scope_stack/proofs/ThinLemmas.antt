@@ -1,17 +1,17 @@
 -- What becomes of assertions by levels, of their frames and of a lawful stack where some assertions are left out.
 use Rattle.std.proofs.Common.{◌≡◌, ◌∙◌, ◌⊎◌, inl, inr, refl, ap, ap₂, sym, subst, ℕ, zero, suc, ◌+◌, ◌-◌, ◌<◌, ◌≤◌, Bool, true, false, List, [], ◌∷◌, ◌++◌, map, take, drop, length, get_or, replicate, slice_index, arith, All, IsTrue, Some}
-use Rattle.std.specs.Prelude.{if◌then◌else◌, slice_index_or}
-use Rattle.std.proofs.lemmas.List.{take-append-drop, take_at, drop_at, length-take-le, length-drop, length-map, length-append, length_push, get_or_push, length-replicate, append-nil, take_more}
+use Rattle.std.specs.Prelude.{if◌then◌else◌}
+use Rattle.std.proofs.lemmas.List.{take-append-drop, take_at, drop_at, length-take-le, length-drop, length-map, length_push, get_or_push, length-replicate, append-nil, take_more}
 use Rattle.std.proofs.lemmas.List.Elements.{All-nil, All-cons, All-head, All-tail, All-append}
 use Rattle.smt_meaning.specs.declared.values.Sort.{Sort}
 use Rattle.smt_meaning.specs.declared.values.Sort.TheVariants.{Bool as Truths}
 use Rattle.smt_meaning.specs.Declaration.{Declaration}
 use Rattle.smt_meaning.specs.Term.{Tree}
-use Rattle.smt_meaning.specs.TreeShape.{is_among}
+use Rattle.smt_meaning.specs.TreeShape.{is_among, is_linear}
 use Rattle.smt_meaning.specs.Parts.{IsPart, AreInOrder}
 use Rattle.smt_meaning.specs.Signature.{tree_sort, HasNoIdTwice}
 use Rattle.smt_meaning.specs.Keeping.{kept_from, keeping_from, keeping}
-use Rattle.smt_meaning.specs.Stack.{Assertion as Asserted, Frame, signature_of, assertions_of, terms_of}
+use Rattle.smt_meaning.specs.Stack.{Assertion as Asserted, Frame, signature_of, assertions_of}
 use Rattle.smt_meaning.specs.StackCommand.{Stack}
 use Rattle.smt_sorts.specs.Names.{Names}
 use Rattle.term_store.specs.Terms.{Terms}
@@ -19,11 +19,10 @@ use Rattle.smt_laws.specs.Numerals.{numerals_fit}
 use Rattle.scope_stack.specs.declared.answers.Assertion.{Assertion}
 use Rattle.scope_stack.specs.Pieces.{pieces, AreCuts, all_of}
 use Rattle.scope_stack.specs.Inside.{asserted_by, frames_by, stack_by, IsWithin}
-use Rattle.scope_stack.specs.Facts.{AreFacts, HaveLevels}
-use Rattle.scope_stack.specs.Seen.{AreAssertions, IsSeen, names_of}
+use Rattle.scope_stack.specs.Seen.{IsSeen, names_of}
 use Rattle.scope_stack.specs.Shown.{IsLawful, AreAsserted}
-use Rattle.scope_stack.specs.Trials.{Trial, marks, counted, AreCounts, kept_levels, IsThinned}
-use Rattle.scope_stack.proofs.PieceLemmas.{end_after}
+use Rattle.scope_stack.specs.Trials.{marks, counted, AreCounts, kept_levels, IsThinned}
+use Rattle.scope_stack.proofs.PieceLemmas.{All-left, All-right, end_after}
 use Rattle.scope_stack.proofs.FrameLemmas.{length-frames, shown_terms}
 use Rattle.scope_stack.proofs.SeenLemmas.{names_back, names_again}
 
@@ -157,14 +156,6 @@ module _ {A : Type 0} (keeps : ℕ → Bool) where
 
   -- what is true of all items stays true
   module _ (P : A → Type 0) where
-    all_left : (xs ys : List A) → All P (xs ++ ys) → All P xs
-    all_left [] ys h = All-nil P
-    all_left (x ∷ xs) ys h = All-cons P x xs (All-head P x (xs ++ ys) h) (all_left xs ys (All-tail P x (xs ++ ys) h))
-
-    all_right : (xs ys : List A) → All P (xs ++ ys) → All P ys
-    all_right [] ys h = h
-    all_right (x ∷ xs) ys h = all_right xs ys (All-tail P x (xs ++ ys) h)
-
     one_if_kept : (b : Bool) (x : A) (us : List A) → P x → All P us → All P (if b then x ∷ us else us)
     one_if_kept true x us p h = All-cons P x us p h
     one_if_kept false x us p h = h
@@ -176,7 +167,7 @@ module _ {A : Type 0} (keeps : ℕ → Bool) where
     pub all_in_levels : (at : ℕ) (xss : List (List A)) → All P (all_of xss) → All P (all_of (kept_levels keeps at xss))
     all_in_levels at [] h = h
     all_in_levels at (xs ∷ xss) h =
-        All-append P (kept_from keeps at xs) (all_of (kept_levels keeps (at + length xs) xss)) (all_kept at xs (all_left xs (all_of xss) h)) (all_in_levels (at + length xs) xss (all_right xs (all_of xss) h))
+        All-append P (kept_from keeps at xs) (all_of (kept_levels keeps (at + length xs) xss)) (all_kept at xs (All-left P xs (all_of xss) h)) (all_in_levels (at + length xs) xss (All-right P xs (all_of xss) h))
 
 -- where the levels start
 pub cuts_kept : (keeps : ℕ → Bool) (at end : ℕ) (ss : List ℕ) → AreCuts at end ss → AreCuts (counted keeps at) (counted keeps end) (map (counted keeps) ss)
@@ -233,8 +224,8 @@ assertions_keeping P keeps at [] h = h
 assertions_keeping P keeps at (f ∷ frames) h =
     let term : Asserted → Tree = λ a. a.term in
     All-append P (map term (kept_from keeps at f.asserted)) (assertions_of (keeping_from keeps (at + length f.asserted) frames))
-    (subst (All P) (sym (map-kept term keeps at f.asserted)) (all_kept {A = Tree} keeps P at (map term f.asserted) (all_left {A = Tree} keeps P (map term f.asserted) (assertions_of frames) h)))
-    (assertions_keeping P keeps (at + length f.asserted) frames (all_right {A = Tree} keeps P (map term f.asserted) (assertions_of frames) h))
+    (subst (All P) (sym (map-kept term keeps at f.asserted)) (all_kept {A = Tree} keeps P at (map term f.asserted) (All-left P (map term f.asserted) (assertions_of frames) h)))
+    (assertions_keeping P keeps (at + length f.asserted) frames (All-right P (map term f.asserted) (assertions_of frames) h))
 
 -- ---- lawful stacks
 
@@ -248,6 +239,7 @@ lawful_kept keeps s u h e t =
           (assertions_keeping (λ (v : Tree). tree_sort (signature_of s.frames) v ≡ Some Truths) keeps 0 s.frames h.truths));
       in_order = subst AreInOrder (sym t) h.in_order;
       numerals = subst (All (λ (v : Tree). IsTrue (numerals_fit v))) (sym t) h.numerals;
+      linear = subst (All (λ (v : Tree). IsTrue (is_linear v))) (sym t) h.linear;
       parts = subst (λ (ts : List Tree). All (λ (v : Tree). (w : Tree) → IsPart w v → IsTrue (is_among w ts)) (assertions_of u.frames)) (sym t)
           (subst (λ (fs : List Frame). All (λ (v : Tree). (w : Tree) → IsPart w v → IsTrue (is_among w s.trees)) (assertions_of fs)) (sym e)
           (assertions_keeping (λ (v : Tree). (w : Tree) → IsPart w v → IsTrue (is_among w s.trees)) keeps 0 s.frames h.parts));

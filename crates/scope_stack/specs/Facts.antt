@@ -1,5 +1,5 @@
 -- What is kept beside the terms of a stack, by their places.
-use Rattle.std.specs.Prelude.{◌≡◌, ℕ, ◌<◌, ◌≤◌, max, Bool, List, [], ◌∷◌, map, length, All, Contains, Some, slice_index, slice_index_or}
+use Rattle.std.specs.Prelude.{◌≡◌, ℕ, ◌<◌, ◌≤◌, max, Bool, List, [], ◌∷◌, map, take, length, All, Contains, Some, slice_index, slice_index_or}
 use Rattle.smt_meaning.specs.declared.values.Sort.{Sort}
 use Rattle.smt_meaning.specs.declared.values.Sort.TheVariants.{Bool as Truths, Int as Ints}
 use Rattle.smt_meaning.specs.declared.terms.Operator.{Operator}
@@ -85,6 +85,24 @@ IsTermLevel t u l = All (Contains (map (λ (d : Declaration). d.id) (signature t
 pub record HaveLevels (t : Names) (trees : List Tree) (count : ℕ) (levels : List ℕ) : Type 0 where
   pub size : length levels ≡ count
   pub each : (p : ℕ) → p < count → IsTermLevel t (tree_at trees p) (slice_index levels p)
+
+-- what is kept beside the first terms, by names of few levels, where the symbols of all terms were given
+pub record MayExtend (t : Names) (trees : List Tree) (from : ℕ) (rs : List Sort) (ls : List ℕ) : Type 0 where
+  pub within : from ≤ length trees
+  pub few : length t.levels ≤ 65536
+  pub given : HaveGivenSymbols t.given trees
+  pub facts : AreFacts t trees from rs
+  pub levels : HaveLevels t trees from ls
+
+-- what is kept beside all terms
+pub record AreExtended (t : Names) (trees : List Tree) (rs : List Sort) (ls : List ℕ) : Type 0 where
+  pub facts : AreFacts t trees (length trees) rs
+  pub levels : HaveLevels t trees (length trees) ls
+
+-- what was kept beside the first terms is still there
+pub record KeepFirst (from : ℕ) (rs rs' : List Sort) (ls ls' : List ℕ) : Type 0 where
+  pub sorts : take from rs' ≡ rs
+  pub levels : take from ls' ≡ ls
 
 -- ---- beside a stack
 

@@ -1,5 +1,5 @@
 -- What judging comes to in code: a value, or an error that is the refusal.
-use Rattle.std.specs.Prelude.{◌≡◌, ℕ, ◌<◌, List, [], ◌∷◌, ◌++◌, map, length, All, Bool, true, false, Result, Ok, Err}
+use Rattle.std.specs.Prelude.{◌≡◌, ℕ, ◌<◌, List, [], ◌∷◌, ◌++◌, map, length, All, Bool, true, false, Option, None, Result, Ok, Err, OnOk, IfErr}
 use Rattle.elaborate.specs.declared.error.JudgeError.{JudgeError}
 use Rattle.elaborate.specs.declared.error.JudgeError.TheVariants.{Refused as TermRefused, Memory as NoRoom}
 use Rattle.elaborate.specs.declared.Parameter.{Parameter}
@@ -61,6 +61,12 @@ Gives m t a = (ts : List Tree) → m (scope_by t ts) ≡ done a (scope_by t ts)
 
 abbrev pub Causes : {A : Type 0} → Judging A → Names → StackError → Type 0
 Causes m t e = (ts : List Tree) → IsCause e (m (scope_by t ts))
+
+-- whether a name may be given, where this is found under it
+pub record IsNewOr (m : Judging (Unit {0})) (found : Option Declaration) (t : Names) (r : Result (Unit {0}) StackError) : Type 0 where
+  pub gives : OnOk r (Gives m t tt)
+  pub new : OnOk r (found ≡ None)
+  pub causes : IfErr r (Causes m t)
 
 -- ---- declarations
 

@@ -2,7 +2,7 @@
 use Rattle.std.specs.Prelude.{◌≡◌, ◌<◌, List, map, flat_map, length, All, IsTrue, Some}
 use Rattle.smt_meaning.specs.declared.values.Sort.TheVariants.{Bool as Truths}
 use Rattle.smt_meaning.specs.Term.{Tree, tree_at}
-use Rattle.smt_meaning.specs.TreeShape.{is_among}
+use Rattle.smt_meaning.specs.TreeShape.{is_among, is_linear}
 use Rattle.smt_meaning.specs.Parts.{IsPart, AreInOrder}
 use Rattle.smt_meaning.specs.Signature.{tree_sort, HasNoIdTwice}
 use Rattle.smt_meaning.specs.Stack.{signature_of, assertions_of}
@@ -10,6 +10,7 @@ use Rattle.smt_meaning.specs.State.{texts_of}
 use Rattle.smt_meaning.specs.StackCommand.{Stack}
 use Rattle.smt_laws.specs.Numerals.{numerals_fit}
 use Rattle.scope_stack.specs.declared.answers.Assertion.{Assertion}
+use Rattle.scope_stack.specs.Inside.{IsReached}
 
 -- these are the stack's assertions, in order
 pub record AreAsserted (s : Stack) (xs : List Assertion) : Type 0 where
@@ -24,3 +25,8 @@ pub record IsLawful (s : Stack) : Type 0 where
   pub in_order : AreInOrder s.trees
   pub parts : All (λ (t : Tree). (u : Tree) → IsPart u t → IsTrue (is_among u s.trees)) (assertions_of s.frames)
   pub numerals : All (λ (t : Tree). IsTrue (numerals_fit t)) s.trees
+  pub linear : All (λ (t : Tree). IsTrue (is_linear t)) s.trees
+
+-- so it is of each that commands give
+abbrev pub ReachedStacksAreLawful : Type 0
+ReachedStacksAreLawful = (s : Stack) → IsReached s → IsLawful s

@@ -2,7 +2,7 @@
 ghost use Rattle.std.specs.Prelude.{◌≡◌, ◌<◌, ◌≤◌, [], ◌∷◌, ◌++◌, length, take, All, OnOk, OnErr, slice_index, slice_index_or};
 ghost use Rattle.smt_meaning.specs.declared.values.Sort.TheVariants.{Bool as Truths};
 ghost use Rattle.smt_meaning.specs.Term.{tree_at};
-ghost use Rattle.scope_stack.specs.Facts.{AreFacts, HasGivenSymbols, HaveGivenSymbols, HaveLevels, IsFact, IsHeadLevel, IsResult, IsTermLevel, greatest_of, made_sort as made_by};
+ghost use Rattle.scope_stack.specs.Facts.{AreExtended, AreFacts, HasGivenSymbols, HaveGivenSymbols, HaveLevels, KeepFirst, MayExtend, IsFact, IsHeadLevel, IsResult, IsTermLevel, greatest_of, made_sort as made_by};
 ghost use Rattle.scope_stack.specs.Pieces.{on_last};
 
 use crate::answers::Assertion;
@@ -157,8 +157,8 @@ fn add_levels(
 }
 
 impl TermFacts {
-    ghost use Rattle.std.specs.Prelude.{◌≡◌, ◌≤◌, length, take, [], OnOk};
-    ghost use Rattle.scope_stack.specs.Facts.{AreFacts, HaveGivenSymbols, HaveLevels};
+    ghost use Rattle.std.specs.Prelude.{◌≡◌, take, [], OnOk};
+    ghost use Rattle.scope_stack.specs.Facts.{AreExtended, KeepFirst, MayExtend};
 
     /// Of no term. It takes no memory.
     pub fn new(alloc: Global) -> Self
@@ -178,15 +178,9 @@ impl TermFacts {
         terms: &TermStore,
         from: TermId,
     ) -> Result<(), AllocError>
-        requires within { from ≤ length terms.now.trees }
-        requires few { length table.now.levels ≤ 65536 }
-        requires given { HaveGivenSymbols table.now.given terms.now.trees }
-        requires facts { AreFacts table.now terms.now.trees from self.old.sorts.items }
-        requires levels { HaveLevels table.now terms.now.trees from self.old.levels.items }
-        ensures facts { OnOk result (AreFacts table.now terms.now.trees (length terms.now.trees) self.new.sorts.items) }
-        ensures levels { OnOk result (HaveLevels table.now terms.now.trees (length terms.now.trees) self.new.levels.items) }
-        ensures kept { take from self.new.sorts.items ≡ self.old.sorts.items }
-        ensures levels_kept { take from self.new.levels.items ≡ self.old.levels.items }
+        requires { MayExtend table.now terms.now.trees from self.old.sorts.items self.old.levels.items }
+        ensures extended { OnOk result (AreExtended table.now terms.now.trees self.new.sorts.items self.new.levels.items) }
+        ensures kept { KeepFirst from self.old.sorts.items self.new.sorts.items self.old.levels.items self.new.levels.items }
     {
         add_sorts(table, terms, from, &mut self.sorts)?;
         add_levels(table, terms, from, &mut self.levels)
@@ -211,17 +205,11 @@ pub(crate) fn add_level(
     asserted: &mut Asserted,
     assertions: Vec<Assertion>,
 ) -> Result<(), AllocError>
-    requires within { from ≤ length terms.now.trees }
-    requires few { length table.now.levels ≤ 65536 }
-    requires given { HaveGivenSymbols table.now.given terms.now.trees }
-    requires facts { AreFacts table.now terms.now.trees from facts.old.sorts.items }
-    requires levels { HaveLevels table.now terms.now.trees from facts.old.levels.items }
+    requires { MayExtend table.now terms.now.trees from facts.old.sorts.items facts.old.levels.items }
     ensures ok { OnOk result (asserted.new ≡ asserted.old ++ assertions.items ∷ []) }
     ensures err { OnErr result (asserted.new ≡ asserted.old) }
-    ensures facts { OnOk result (AreFacts table.now terms.now.trees (length terms.now.trees) facts.new.sorts.items) }
-    ensures levels { OnOk result (HaveLevels table.now terms.now.trees (length terms.now.trees) facts.new.levels.items) }
-    ensures kept { take from facts.new.sorts.items ≡ facts.old.sorts.items }
-    ensures levels_kept { take from facts.new.levels.items ≡ facts.old.levels.items }
+    ensures extended { OnOk result (AreExtended table.now terms.now.trees facts.new.sorts.items facts.new.levels.items) }
+    ensures kept { KeepFirst from facts.old.sorts.items facts.new.sorts.items facts.old.levels.items facts.new.levels.items }
 {
     facts.extend(table, terms, from)?;
     asserted.add_level(assertions)
@@ -236,17 +224,11 @@ pub(crate) fn add_assertion(
     asserted: &mut Asserted,
     assertion: Assertion,
 ) -> Result<(), AllocError>
-    requires within { from ≤ length terms.now.trees }
-    requires few { length table.now.levels ≤ 65536 }
-    requires given { HaveGivenSymbols table.now.given terms.now.trees }
-    requires facts { AreFacts table.now terms.now.trees from facts.old.sorts.items }
-    requires levels { HaveLevels table.now terms.now.trees from facts.old.levels.items }
+    requires { MayExtend table.now terms.now.trees from facts.old.sorts.items facts.old.levels.items }
     ensures ok { OnOk result (asserted.new ≡ on_last (assertion ∷ []) asserted.old) }
     ensures err { OnErr result (asserted.new ≡ asserted.old) }
-    ensures facts { OnOk result (AreFacts table.now terms.now.trees (length terms.now.trees) facts.new.sorts.items) }
-    ensures levels { OnOk result (HaveLevels table.now terms.now.trees (length terms.now.trees) facts.new.levels.items) }
-    ensures kept { take from facts.new.sorts.items ≡ facts.old.sorts.items }
-    ensures levels_kept { take from facts.new.levels.items ≡ facts.old.levels.items }
+    ensures extended { OnOk result (AreExtended table.now terms.now.trees facts.new.sorts.items facts.new.levels.items) }
+    ensures kept { KeepFirst from facts.old.sorts.items facts.new.sorts.items facts.old.levels.items facts.new.levels.items }
 {
     facts.extend(table, terms, from)?;
     asserted.add(assertion)

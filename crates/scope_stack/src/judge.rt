@@ -6,7 +6,7 @@ ghost use Rattle.smt_meaning.specs.StackCommand.{judge_parameters, judge_sort, j
 ghost use Rattle.smt_sorts.specs.Names.{signature};
 ghost use Rattle.smt_sorts.specs.Workshop.{IsOfAny};
 ghost use Rattle.elaborate.specs.Own.{IsLeft};
-ghost use Rattle.scope_stack.specs.Judged.{Gives, Causes, IsBody, IsError, IsParameter, body_of_sort, name_refusal, names_before, one_parameter, parameter_name, sort_of};
+ghost use Rattle.scope_stack.specs.Judged.{Gives, Causes, IsNewOr, IsBody, IsError, IsParameter, body_of_sort, name_refusal, names_before, one_parameter, parameter_name, sort_of};
 ghost use Rattle.term_store.specs.Newest.{hashes_of};
 
 use crate::answers::StackError;
@@ -32,9 +32,7 @@ fn name_error(alloc: Global, error: NameError, name: &[u8]) -> StackError
 
 /// Whether a sort of this name may be declared.
 pub(crate) fn new_sort_name(alloc: Global, name: &[u8], table: &Table) -> Result<(), StackError>
-    ensures gives { OnOk result (Gives (new_sort_name name.now) table.now tt) }
-    ensures new { OnOk result (find_sort name.now (signature table.now) ≡ None) }
-    ensures causes { IfErr result (Causes (new_sort_name name.now) table.now) }
+    ensures { IsNewOr (new_sort_name name.now) (find_sort name.now (signature table.now)) table.now result }
 {
     match table.check_new_sort(name) {
         Ok(()) => Ok(()),
@@ -44,9 +42,7 @@ pub(crate) fn new_sort_name(alloc: Global, name: &[u8], table: &Table) -> Result
 
 /// Whether a function of this name may be declared.
 pub(crate) fn new_function_name(alloc: Global, name: &[u8], table: &Table) -> Result<(), StackError>
-    ensures gives { OnOk result (Gives (new_function_name name.now) table.now tt) }
-    ensures new { OnOk result (find_function name.now (signature table.now) ≡ None) }
-    ensures causes { IfErr result (Causes (new_function_name name.now) table.now) }
+    ensures { IsNewOr (new_function_name name.now) (find_function name.now (signature table.now)) table.now result }
 {
     match table.check_new_function(name) {
         Ok(()) => Ok(()),

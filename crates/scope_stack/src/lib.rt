@@ -33,6 +33,7 @@ mod facts;
 mod few;
 mod framed;
 mod judge;
+mod lawful;
 mod room;
 mod stack;
 mod term;

@@ -6,11 +6,12 @@ use crate::asserted::Asserted;
 use crate::declare;
 use crate::facts::{TermFacts, add_assertion, add_level};
 use crate::few::{Few, few_terms};
+use crate::lawful::reached_stacks_are_lawful;
 use crate::term::{judge_assertion, judge_assumptions, judge_questions};
 use crate::term_set::TermSet;
 use smt_laws::{
-    assertions_are_truths, assumptions_are_commands, no_id_twice, numerals_are_in_range,
-    parts_are_among_the_trees, symbols_are_given, tree_equality_decides, trees_are_in_order,
+    assumptions_are_commands, parts_are_among_the_trees, symbols_are_given, tree_equality_decides,
+    trees_are_in_order,
 };
 use smt_meaning::language::{Parameter, WrittenSort};
 use smt_meaning::{Bytes, Declaration, Refusal, SExpr, Seq, Sort, SymId};
@@ -249,11 +250,7 @@ impl ScopeStack {
     pub fn laws(&self)
         ensures { IsLawful self.now }
     {
-        no_id_twice();
-        assertions_are_truths();
-        trees_are_in_order();
-        parts_are_among_the_trees();
-        numerals_are_in_range();
+        reached_stacks_are_lawful();
         let _ = self.terms.len();
     }
 
@@ -381,11 +378,7 @@ impl ScopeStack {
         ensures same { result ≡ self }
         ensures reached { IsReached result }
     {
-        no_id_twice();
-        assertions_are_truths();
-        trees_are_in_order();
-        parts_are_among_the_trees();
-        numerals_are_in_range();
+        reached_stacks_are_lawful();
         let ScopeStack {
             table,
             terms,
@@ -432,11 +425,7 @@ impl ScopeStack {
         ensures ok { IfOk result (λ p. p ≡ self) }
         ensures err { IfErr result (λ s. s ≡ self) }
     {
-        no_id_twice();
-        assertions_are_truths();
-        trees_are_in_order();
-        parts_are_among_the_trees();
-        numerals_are_in_range();
+        reached_stacks_are_lawful();
         let ScopeStack {
             table,
             terms,

@@ -1,7 +1,12 @@
-use Rattle.std.proofs.Common.{rules, ◌+◌, ◌<◌, length, ◌∙◌, arith}
+use Rattle.std.proofs.Common.{rules, ◌+◌, ◌<◌, length, ◌∙◌, sym, subst, arith}
+use Rattle.first_clauses.specs.CheckClausesFirst.{AreReady}
 use Rattle.first_clauses.proofs.CheckClausesKeeping.{parts_more}
 use Rattle.first_clauses.proofs.Counting.{most_next, most_there, next_takes}
 use Rattle.first_clauses.proofs.nodes.keep_parts.Goals as goal
+
+pub keep_place-requires-clause-ready : goal.keep_place-requires-clause-ready
+keep_place-requires-clause-ready g c =
+    subst (AreReady c.args.stack.now c.args.marks.now c.args.sorts.now c.args.atoms.now.atoms) (sym c.loop-place.invariant.same) c.requires.ready
 
 pub loop-place-preserved : goal.loop-place-preserved
 loop-place-preserved g c = record {

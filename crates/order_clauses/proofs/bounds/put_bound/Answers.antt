@@ -4,6 +4,7 @@ use Rattle.std.proofs.lemmas.List.Elements.{All-head}
 use Rattle.std.proofs.lemmas.Result.{err_from_is_err_and}
 use Rattle.smt_meaning.specs.declared.clauses.Atom.TheVariants.{AtMost}
 use Rattle.bound_clauses.specs.Orders.{bound_atom}
+use Rattle.order_clauses.specs.Numbers.{IsNumberOf}
 use Rattle.order_clauses.proofs.Causes.{by_missing}
 use Rattle.order_clauses.proofs.bounds.put_bound.Goals as goal
 
@@ -17,3 +18,8 @@ returns-in_err-number-clause-cause g c =
 
 pub returns-in-Err-clause-cause : goal.returns-in-Err-clause-cause
 returns-in-Err-clause-cause g c = c.cause_of.ensures g.trees c.args.atoms.now.atoms (bound_atom g.trees c.args.order ∷ []) c.in-Err.ensures.refused
+
+pub returns-clause-found : goal.returns-clause-found
+returns-clause-found g c =
+    let same : AtMost c.deref.result.now (to_z w128 (of_z w128 c.in-Ok.threshold)) ≡ bound_atom g.trees c.args.order = search rules in
+    subst (λ a. IsNumberOf c.args.atoms.now.atoms a c.in_ok-number.number) same c.in_ok-number.ensures.found

@@ -21,8 +21,8 @@ loop-order-preserved g c =
     let k = c.loop-order.order-index in
     let pushed : c.push.new.self.items ≡ c.loop-order.numbers.items ++ c.in_ok-number.number ∷ [] = search rules in (
       c.put_bound.ensures.same ∙ c.loop-order.invariant.0,
-      map_step orders k _ c.loop-order-test.true (bound_number g.trees table) c.loop-order.numbers.items c.push.new.self.items c.in_ok-number.number c.loop-order.invariant.1 pushed c.in_ok-number.ensures.number,
-      All-more (λ o. Contains table (bound_atom g.trees o)) orders k _ c.loop-order-test.true c.loop-order.invariant.2 c.in_ok-number.ensures.has,
+      map_step orders k _ c.loop-order-test.true (bound_number g.trees table) c.loop-order.numbers.items c.push.new.self.items c.in_ok-number.number c.loop-order.invariant.1 pushed c.in_ok-number.ensures.found.number,
+      All-more (λ o. Contains table (bound_atom g.trees o)) orders k _ c.loop-order-test.true c.loop-order.invariant.2 c.in_ok-number.ensures.found.has,
       flat_step orders k _ c.loop-order-test.true (of_bound g.trees table) c.args.clauses.now c.loop-order.clauses c.put_bound.new.clauses c.loop-order.invariant.3 c.in_ok-number.ensures.put,
     )
 

@@ -39,4 +39,4 @@ pub returns-clause-has : goal.returns-clause-has
 returns-clause-has g c =
     let known = Contains c.args.atoms.now.atoms in
     All-append known (row_truth_atoms c.args.place c.args.row.truth) (map (limit_bound g.trees) (limits c.args.row)) c.in_ok-truth.ensures.has
-    (All-cons known (limit_bound g.trees c.args.row.limit) (map (limit_bound g.trees) (listed c.args.row.other)) c.in_ok-first.ensures.has c.in_ok-second.ensures.has)
+    (All-cons known (limit_bound g.trees c.args.row.limit) (map (limit_bound g.trees) (listed c.args.row.other)) c.in_ok-first.ensures.found.has c.in_ok-second.ensures.has)

@@ -36,5 +36,5 @@ returns-clause-has g c =
     let known = Contains c.args.atoms.now.atoms in
     let first = atoms_of_pair g.trees true (pair c.args.place c.args.first) in
     let second = atoms_of_pair g.trees true (pair c.args.place c.args.second) in
-    All-cons known (Truth c.args.condition) (first ++ (second ++ [])) c.in_ok-number.ensures.has
+    All-cons known (Truth c.args.condition) (first ++ (second ++ [])) c.in_ok-number.ensures.found.has
     (All-append known first (second ++ []) c.in_ok-first.ensures.has (All-append known second [] c.in_ok-second.ensures.has (All-nil known)))

@@ -51,5 +51,5 @@ pub returns-clause-has : goal.returns-clause-has
 returns-clause-has g c =
     let known = Contains c.args.atoms.now.atoms in
     let listed : c.deref.result.now ≡ pairs_of c.args.operator c.args.arguments.now = search rules in
-    All-cons known (Truth c.args.place) (flat_map (atoms_of_pair g.trees c.args.are_ints) (pairs_of c.args.operator c.args.arguments.now)) c.in_ok-number.ensures.has
+    All-cons known (Truth c.args.place) (flat_map (atoms_of_pair g.trees c.args.are_ints) (pairs_of c.args.operator c.args.arguments.now)) c.in_ok-number.ensures.found.has
     (subst (λ qs. All known (flat_map (atoms_of_pair g.trees c.args.are_ints) qs)) listed c.in_ok-put_ties.ensures.has)

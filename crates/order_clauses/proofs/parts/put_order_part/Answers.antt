@@ -50,5 +50,5 @@ pub returns-clause-has : goal.returns-clause-has
 returns-clause-has g c =
     let known = Contains c.args.atoms.now.atoms in
     let listed : c.deref.result.now ≡ order_atoms c.args.operator c.args.arguments.now = search rules in
-    All-cons known (Truth c.args.place) (map (bound_atom g.trees) (order_atoms c.args.operator c.args.arguments.now)) c.in_ok-number.ensures.has
+    All-cons known (Truth c.args.place) (map (bound_atom g.trees) (order_atoms c.args.operator c.args.arguments.now)) c.in_ok-number.ensures.found.has
     (All-map known (bound_atom g.trees) (order_atoms c.args.operator c.args.arguments.now) (subst (All (λ o. known (bound_atom g.trees o))) listed c.in_ok-put_bounds.ensures.has))

@@ -27,5 +27,5 @@ returns-clause-has g c =
     let known = Contains c.args.atoms.now.atoms in
     let below = order NotAbove c.args.pair.left c.args.pair.right in
     let above = order NotAbove c.args.pair.right c.args.pair.left in
-    All-cons known (bound_atom g.trees below) (bound_atom g.trees above ∷ []) (subst (λ o. known (bound_atom g.trees o)) c.not_above.ensures c.in_ok-below.ensures.has)
-    (All-cons known (bound_atom g.trees above) [] (subst (λ o. known (bound_atom g.trees o)) c.not_above-2.ensures c.in_ok-above.ensures.has) (All-nil known))
+    All-cons known (bound_atom g.trees below) (bound_atom g.trees above ∷ []) (subst (λ o. known (bound_atom g.trees o)) c.not_above.ensures c.in_ok-below.ensures.found.has)
+    (All-cons known (bound_atom g.trees above) [] (subst (λ o. known (bound_atom g.trees o)) c.not_above-2.ensures c.in_ok-above.ensures.found.has) (All-nil known))

@@ -24,4 +24,4 @@ returns-in_err-put_int_tie-clause-cause g c =
 pub returns-clause-has : goal.returns-clause-has
 returns-clause-has g c =
     let int : c.args.are_ints ≡ true = search rules in
-    tied_has g.trees c.args.atoms.now.atoms c.args.are_ints c.args.pair int c.in_ok-same.ensures.has c.in_ok-put_int_tie.ensures.has
+    tied_has g.trees c.args.atoms.now.atoms c.args.are_ints c.args.pair int c.in_ok-same.ensures.found.has c.in_ok-put_int_tie.ensures.has

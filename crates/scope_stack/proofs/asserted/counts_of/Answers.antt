@@ -1,4 +1,4 @@
-use Rattle.std.proofs.Common.{◌≡◌, ◌≤◌, ◌+◌, false, ap, arith}
+use Rattle.std.proofs.Common.{◌≤◌, ◌+◌, false, ap, arith}
 use Rattle.std.specs.Prelude.{slice_index_or}
 use Rattle.scope_stack.proofs.ThinLemmas.{one_count_more, one_at_most, so_far_small}
 use Rattle.scope_stack.proofs.asserted.counts_of.Goals as goal

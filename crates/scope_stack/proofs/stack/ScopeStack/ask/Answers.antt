@@ -5,6 +5,7 @@ use Rattle.scope_stack.proofs.GainLemmas.{failed_answers, asked_keeps, asked_ans
 use Rattle.scope_stack.proofs.FactLemmas.{asked_before}
 use Rattle.scope_stack.proofs.LawLemmas.{reached_given}
 use Rattle.scope_stack.proofs.LevelSteps.{asked_levels}
+use Rattle.scope_stack.proofs.TermSteps.{still_within}
 use Rattle.scope_stack.proofs.stack.ScopeStack.ask.Goals as goal
 
 pub returns-in_err-asked : goal.returns-in_err-asked
@@ -14,31 +15,28 @@ returns-in_err-asked c =
     (failed_answers c.self.inside.global c.args.terms.now c.self.inside.table c.judge_questions.new.table c.self.inside.terms c.judge_questions.new.terms c.self.inside.asserted _ c.in_err-asked.ensures.causes
     c.in_err-asked.ensures.table c.in_err-asked.ensures.err)
 
-pub extend-requires-clause-facts : goal.extend-requires-clause-facts
-extend-requires-clause-facts c =
-    asked_before c.self.inside.table c.judge_questions.new.table c.self.inside.terms c.judge_questions.new.terms c.len-count.result c.self.inside.facts.sorts.items c.len-count.ensures.value
-    c.in_ok-asked.ensures.table c.in_ok-asked.ensures.longer c.self.invariant.facts
-
-pub extend-requires-clause-levels : goal.extend-requires-clause-levels
-extend-requires-clause-levels c =
-    asked_levels c.self.inside.table c.judge_questions.new.table c.self.inside.terms c.judge_questions.new.terms c.len-count.result c.self.inside.facts.levels.items c.len-count.ensures.value
-    c.in_ok-asked.ensures.table c.in_ok-asked.ensures.longer c.self.invariant.levels
-
-pub extend-requires-clause-given : goal.extend-requires-clause-given
-extend-requires-clause-given c =
-    let after =
-    asked_keeps c.self.inside.global c.args.terms.now c.self.inside.table c.judge_questions.new.table c.self.inside.terms c.judge_questions.new.terms c.self.inside.asserted c.in_ok-asked.asked c.self.invariant.stack
-    c.in_ok-asked.ensures.gives c.in_ok-asked.ensures.table c.in_ok-asked.ensures.longer c.in_ok-asked.ensures.limit in
-    reached_given _ after.reached c.symbols_are_given.ensures
-
-pub extend-requires-clause-few : goal.extend-requires-clause-few
-extend-requires-clause-few c = subst (λ (t : Names). length t.levels ≤ 65536) (sym c.in_ok-asked.ensures.table) c.self.invariant.stack.few
+pub extend-requires : goal.extend-requires
+extend-requires c = record {
+  within = still_within c.self.inside.terms c.judge_questions.new.terms c.len-count.result c.in_ok-asked.ensures.longer c.len-count.ensures.value;
+  few = subst (λ (t : Names). length t.levels ≤ 65536) (sym c.in_ok-asked.ensures.table) c.self.invariant.stack.few;
+  given =
+      let after =
+      asked_keeps c.self.inside.global c.args.terms.now c.self.inside.table c.judge_questions.new.table c.self.inside.terms c.judge_questions.new.terms c.self.inside.asserted c.in_ok-asked.asked c.self.invariant.stack
+      c.in_ok-asked.ensures.gives c.in_ok-asked.ensures.table c.in_ok-asked.ensures.longer c.in_ok-asked.ensures.limit in
+      reached_given _ after.reached c.symbols_are_given.ensures;
+  facts =
+      asked_before c.self.inside.table c.judge_questions.new.table c.self.inside.terms c.judge_questions.new.terms c.len-count.result c.self.inside.facts.sorts.items c.len-count.ensures.value
+      c.in_ok-asked.ensures.table c.in_ok-asked.ensures.longer c.self.invariant.facts;
+  levels =
+      asked_levels c.self.inside.table c.judge_questions.new.table c.self.inside.terms c.judge_questions.new.terms c.len-count.result c.self.inside.facts.levels.items c.len-count.ensures.value
+      c.in_ok-asked.ensures.table c.in_ok-asked.ensures.longer c.self.invariant.levels;
+}
 
 pub invariant_of-self-in-Ok : goal.invariant_of-self-in-Ok
 invariant_of-self-in-Ok c =
     record {
-      facts = c.in-Ok.ensures.facts;
-      levels = c.in-Ok.ensures.levels;
+      facts = c.in-Ok.ensures.extended.facts;
+      levels = c.in-Ok.ensures.extended.levels;
       stack =
           asked_keeps c.self.inside.global c.args.terms.now c.self.inside.table c.judge_questions.new.table c.self.inside.terms c.judge_questions.new.terms c.self.inside.asserted c.in_ok-asked.asked c.self.invariant.stack
           c.in_ok-asked.ensures.gives c.in_ok-asked.ensures.table c.in_ok-asked.ensures.longer c.in_ok-asked.ensures.limit;

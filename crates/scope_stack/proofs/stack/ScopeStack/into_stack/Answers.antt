@@ -3,5 +3,4 @@ use Rattle.scope_stack.proofs.stack.ScopeStack.into_stack.Goals as goal
 
 pub invariant_of-result : goal.invariant_of-result
 invariant_of-result c =
-    seen_of_kept c.self.inside.table c.self.inside.terms c.self.inside.asserted c.self.inside.facts.sorts.items c.self.inside.facts.levels.items c.self.invariant c.no_id_twice.ensures c.assertions_are_truths.ensures
-    c.trees_are_in_order.ensures c.parts_are_among_the_trees.ensures c.numerals_are_in_range.ensures
+    seen_of_kept c.reached_stacks_are_lawful.ensures c.self.inside.table c.self.inside.terms c.self.inside.asserted c.self.inside.facts.sorts.items c.self.inside.facts.levels.items c.self.invariant
