@@ -4,7 +4,6 @@ pub mod Turning
 pub mod NodeForcing
 pub mod Triangular
 pub mod Following
-pub mod Shaped
 pub mod Parts
 pub mod Numbered
 pub mod Refusing

@@ -28,7 +28,6 @@ use Rattle.check_atoms.specs.PartAtoms.{atom_of, truth_by_sort}
 use Rattle.check_atoms.specs.OfStack.{IsNode, AreCheckAtoms}
 use Rattle.order_clauses.specs.Clauses.{sort_at}
 use Rattle.order_clauses.specs.Sound.{HasSort}
-use Rattle.first_clauses.proofs.Shaped.{each_leaf, linear_arguments}
 
 itself : (t : Tree) → IsPart t t
 itself (node h us) = inl refl
@@ -81,23 +80,6 @@ module _ (s : Stack) (marks : List Bool) (law : IsLawful s) (parts : AreStackPar
 
     pub bool_sort : (p : ℕ) → IsMarked marks p → sort_at sorts p ≡ Truths → tree_sort ds (tree_at s.trees p) ≡ Some Truths
     bool_sort p m e = has_sort p m ∙ ap Some e
-
-  -- ---- reading
-
-  pub readable : (p : ℕ) → IsMarked marks p → is_linear (tree_at s.trees p) ≡ true → IsReadable s.trees p
-  readable p m l =
-      let part = parts.only p m in
-      let among = All-contains (λ (t : Tree). (u : Tree) → IsPart u t → IsTrue (is_among u s.trees)) (assertions_of s.frames) part.assertion law.parts part.asserted in
-      record {
-        linear = l;
-        leaves_within = each_leaf (λ u. IsTrue (is_among u s.trees)) (tree_at s.trees p) (λ u q. among u (part_of_part u (tree_at s.trees p) part.assertion q part.part));
-      }
-
-  pub all_readable : (p : ℕ) (h : Head) (is : List ℕ) → IsMarked marks p → tree_at s.trees p ≡ tree_with s.trees h is → All (λ i. i < length s.trees) is → is_linear (tree_at s.trees p) ≡ true
-      → All (IsReadable s.trees) (p ∷ is)
-  all_readable p h is m e l linear =
-      All-cons (IsReadable s.trees) p is (readable p m linear)
-      (λ k d j. readable _ (arguments_marked p h is m e l k d j) (linear_arguments s.trees p h is e linear k d j))
 
   -- ---- truths are numbered
 

@@ -3,7 +3,6 @@ pub mod Turned
 pub mod Numbers
 pub mod Triangles
 pub mod CheckClausesFirst
-pub mod Shapes
 pub mod Laws
 pub mod Kept
 pub mod Counted

@@ -30,7 +30,6 @@ mod error;
 mod kept_axioms_keep;
 mod laws;
 mod nodes;
-mod shapes;
 mod storing;
 mod triangles;
 mod turn;
@@ -41,5 +40,4 @@ pub use laws::{
     empty_clause_means_no_model, first_clauses_say_assertions, first_clauses_say_standing,
     kept_parts_are_forced, more_force_parts, signature_stays, steps_are_counted,
 };
-pub use shapes::linear_terms;
 pub use storing::{keep, keep_all};

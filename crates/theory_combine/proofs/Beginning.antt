@@ -24,7 +24,6 @@ use Rattle.check_atoms.specs.Parts.{IsMarked}
 use Rattle.check_atoms.specs.Marks.{AreStackParts}
 use Rattle.check_atoms.specs.OfStack.{AreCheckAtoms}
 use Rattle.check_atoms.specs.Laws.{AtomsAreFirst, TruthsAreOfBools}
-use Rattle.first_clauses.specs.Shapes.{AreFlags}
 use Rattle.first_clauses.proofs.Parts as Parts
 use Rattle.model_build.specs.Parts.{AreSortedParts}
 use Rattle.exact_model.specs.Places.{AreAtMarks}
@@ -58,9 +57,6 @@ module _ (s : Stack) (marks : List Bool) (law : IsLawful s) (parts : AreStackPar
     sorted = λ p m. (slice_index_or sorts p Truths, Parts.has_sort s marks law parts atoms.size sorts sorted p m);
     closed = Parts.arguments_marked s marks law parts atoms.size;
   }
-
-  pub readable : (flags : List Bool) → AreFlags is_linear s.trees (length s.trees) flags → HaveReadable s.trees marks flags
-  readable flags are p m f = Parts.readable s marks law parts atoms.size p m (sym (are.each p (Parts.within s marks law parts atoms.size p m)) ∙ f)
 
   of_terms_at : TruthsAreOfBools → (a : Atom) → Contains table a → All (IsMarked marks) (atom_places a) → IsOfTerms s a
   of_terms_at truths (Truth p) h m = (Parts.within s marks law parts atoms.size p (All-head (IsMarked marks) p [] m), ap is_bool (truths s marks table atoms p h).1)

@@ -18,16 +18,16 @@ use Rattle.linear_forms.specs.Sums.{IsSumWithin}
 use Rattle.bound_log.specs.Growth.{IsProper}
 use Rattle.model_eval.specs.Walk.{is_marked}
 use Rattle.model_build.specs.Parts.{AreSortedParts}
-use Rattle.theory_combine.specs.Pairs.{HaveReadable, IsFit}
+use Rattle.theory_combine.specs.Pairs.{AreReadable, IsFit}
 use Rattle.theory_combine.specs.Shown.{IsMarkedLeaf}
 use Rattle.theory_combine.proofs.Marking.{marked_within}
 
 pub in_list : (s : Stack) (marks : List Bool) (p : ℕ) → AreSortedParts (signature_of s.frames) s.trees marks → is_marked marks p ≡ true → p < length s.trees
 in_list s marks p parts marked = subst (λ n. p < n) parts.size (marked_within marks p marked)
 
-pub fit : (s : Stack) (marks readable : List Bool) (sorts : List Sort) (p : ℕ) → AreSortedParts (signature_of s.frames) s.trees marks → HaveReadable s.trees marks readable
-    → AreSorts (signature_of s.frames) s.trees (length s.trees) sorts → is_marked marks p ≡ true → is_marked readable p ≡ true → slice_index_or sorts p Truths ≡ Ints → IsFit s marks p
-fit s marks readable sorts p parts reads are marked is_readable int =
+pub fit : (s : Stack) (marks : List Bool) (sorts : List Sort) (p : ℕ) → AreSortedParts (signature_of s.frames) s.trees marks → AreReadable s.trees marks
+    → AreSorts (signature_of s.frames) s.trees (length s.trees) sorts → is_marked marks p ≡ true → slice_index_or sorts p Truths ≡ Ints → IsFit s marks p
+fit s marks sorts p parts reads are marked int =
     let within : p < length s.trees = subst (λ n. p < n) parts.size (marked_within marks p marked) in
     let has = parts.sorted p marked in
     let sort : has.0 ≡ Ints = sym (are.each p has.0 within has.1) ∙ int in
@@ -35,7 +35,7 @@ fit s marks readable sorts p parts reads are marked is_readable int =
       within = within;
       marked = marked;
       is_int = has.1 ∙ ap (λ (t : Sort). Some t) sort;
-      readable = reads p marked is_readable;
+      readable = reads p marked;
     }
 
 -- a marked place whose listed sort is Int

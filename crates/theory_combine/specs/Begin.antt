@@ -15,7 +15,7 @@ use Rattle.exact_model.specs.Places.{AreAtMarks}
 use Rattle.theory_combine.specs.declared.start.Begun.{Begun}
 use Rattle.theory_combine.specs.Columns.{HasKnownColumns}
 use Rattle.theory_combine.specs.Numbering.{IsWhole}
-use Rattle.theory_combine.specs.Pairs.{HaveReadable}
+use Rattle.theory_combine.specs.Pairs.{AreReadable}
 use Rattle.theory_combine.specs.Shown.{AreOfAssertions, AreShown}
 
 -- the marked terms are parts of the assertions, in order and without a second place
@@ -34,7 +34,7 @@ pub record AddsLeaves (s : Stack) (old new : State) : Type 0 where
 -- nothing is told of the parts of a stack and their atoms, and no pivot was made
 pub record IsBegun (s : Stack) (marks : List Bool) (atoms : Atoms) (b : Begun) : Type 0 where
   pub parts : AreSortedParts (signature_of s.frames) s.trees marks
-  pub readable : HaveReadable s.trees marks b.readable.items
+  pub readable : AreReadable s.trees marks
   pub of_assertions : AreStackParts s marks
   pub asserted : AreAtMarks s.trees marks (assertions_of s.frames)
   pub whole : IsWhole s marks atoms b.held

@@ -18,9 +18,9 @@ use Rattle.theory_combine.specs.declared.parts.Pair.{Pair}
 use Rattle.theory_combine.specs.declared.pairs.Sought.{Sought}
 use Rattle.theory_combine.specs.declared.pairs.Sought.TheVariants.{Number, New, Outside}
 
--- of the marked places those that are listed as readable are of terms whose bounds have their values
-abbrev pub HaveReadable : List Tree → List Bool → List Bool → Type 0
-HaveReadable trees marks readable = (p : ℕ) → is_marked marks p ≡ true → is_marked readable p ≡ true → IsReadable trees p
+-- the marked places are of terms whose bounds have their values
+abbrev pub AreReadable : List Tree → List Bool → Type 0
+AreReadable trees marks = (p : ℕ) → is_marked marks p ≡ true → IsReadable trees p
 
 -- a marked Int whose bounds have its value
 pub record IsFit (s : Stack) (marks : List Bool) (p : ℕ) : Type 0 where

@@ -16,13 +16,13 @@ use Rattle.theory_combine.specs.declared.parts.Parts.{Parts}
 use Rattle.theory_combine.specs.declared.parts.Progress.{Progress}
 use Rattle.theory_combine.specs.Columns.{variables_of}
 use Rattle.theory_combine.specs.Numbering.{table_of, IsNumbered, IsWhole}
-use Rattle.theory_combine.specs.Pairs.{HaveReadable}
+use Rattle.theory_combine.specs.Pairs.{AreReadable}
 use Rattle.theory_combine.specs.Shown.{AreShown}
 
--- the parts of a stack's assertions, which of them bounds can read, which are wide `xor`s, and the assertions among them
+-- the parts of a stack's assertions, which bounds can read, which are wide `xor`s, and the assertions among them
 abbrev pub AreParts : Parts → Type 0
 AreParts p =
-    AreSortedParts (signature_of p.stack.now.frames) p.stack.now.trees p.marks.items × HaveReadable p.stack.now.trees p.marks.items p.readable.items
+    AreSortedParts (signature_of p.stack.now.frames) p.stack.now.trees p.marks.items × AreReadable p.stack.now.trees p.marks.items
     × AreStackParts p.stack.now p.marks.items × AreWideXors p.stack.now.trees p.marks.items p.wide_xors.items × AreAtMarks p.stack.now.trees p.marks.items (assertions_of p.stack.now.frames)
 
 -- the atoms that are told of, and what was told

@@ -74,9 +74,6 @@ fn is_fit(parts: &Parts<'_>, place: TermId) -> bool
     if !is_marked_place(&parts.marks, place) {
         return false;
     }
-    if !is_marked_place(&parts.readable, place) {
-        return false;
-    }
     is_int(sorts, place)
 }
 

@@ -15,8 +15,6 @@ pub struct Parts<'s> {
     pub stack: &'s Stack,
     /// Which terms are parts of the assertions, by their places.
     pub marks: Vec<bool>,
-    /// Which terms are linear, with their leaves among the terms.
-    pub readable: Vec<bool>,
     /// The parts that are wide `xor`s, which have no first clauses.
     pub wide_xors: Vec<TermId>,
     /// The assertions that are a wide `distinct`, whose arguments have no atoms for each two.

@@ -20,9 +20,8 @@ use crate::held::{Held, Looked};
 use crate::leaves::is_marked_leaf;
 use atom_form::{AtomNumbers, NumberedAtom};
 use bound_log::{BoundLog, sums_are_apart};
-use check_atoms::{atoms_are_first, truths_are_of_bools};
+use check_atoms::{atoms_are_first, lawful_parts_are_readable, truths_are_of_bools};
 use closure_log::{ClosureLog, Guide, Scan, Watches};
-use first_clauses::linear_terms;
 use scope_stack::Stack;
 use smt_laws::{flat_says_the_same, symbols_are_declared};
 use std::alloc::{AllocError, Global};
@@ -30,8 +29,6 @@ use std::alloc::{AllocError, Global};
 /// What a search begins with.
 #[derive(Drop)]
 pub struct Begun {
-    /// Which terms are linear, with their leaves among the terms.
-    pub readable: Vec<bool>,
     pub guide: Guide,
     pub held: Held,
 }
@@ -135,12 +132,12 @@ fn begin_with(
     flat_says_the_same();
     atoms_are_first();
     truths_are_of_bools();
+    lawful_parts_are_readable();
     sums_are_apart();
     if stack.terms().len() >= u32::MAX - 2 {
         return Err(AllocError);
     }
     let _ = stack.sorts();
-    let readable = linear_terms(alloc, stack.terms())?;
     let guide = Guide::new(alloc, stack)?;
     let closure = ClosureLog::new(alloc, stack)?;
     add_leaves(alloc, stack, marks, &mut bounds)?;
@@ -148,7 +145,6 @@ fn begin_with(
     let mut scan = Scan::new(alloc);
     scan.grow(atoms.len())?;
     Ok(Begun {
-        readable,
         guide,
         held: Held {
             closure,

@@ -66,7 +66,6 @@ impl<'s> Combined<'s> {
                 alloc,
                 stack,
                 marks: parts.marks,
-                readable: begun.readable,
                 wide_xors,
                 wide_distincts,
                 guide: begun.guide,

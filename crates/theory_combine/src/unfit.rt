@@ -18,34 +18,12 @@ use search_port::Budget;
 use smt_laws::flat_says_the_same;
 use smt_meaning::{RangeSeen, TermId};
 
-/// Whether a place is marked.
-fn is_marked_at(marks: &[bool], place: usize) -> bool
-    ensures { result ≡ is_marked marks.now place }
-{
-    place < marks.len() && marks[place]
-}
-
-/// Whether bounds can read each marked place.
-fn are_readable(marks: &[bool], readable: &[bool]) -> bool
-    ensures { result ≡ true → (p : ℕ) → is_marked marks.now p ≡ true → is_marked readable.now p ≡ true }
-{
-    for place in 0..marks.len() {
-        if marks[place] && !is_marked_at(readable, place) {
-            return false;
-        }
-    }
-    true
-}
-
 /// A model in which a number leaves the range, with the leaves' values as the bounds have them, if it can be shown.
 fn in_model(parts: &Parts<'_>, progress: &Progress) -> Result<InModel, Unshown>
     requires parts { AreParts parts.now }
     requires under_way { IsUnderWay parts.now progress.now }
     ensures { IfOk result (λ m. LeavesInModel parts.now.stack.now.trees (flat parts.now.stack.now.frames) (column_sums progress.now.held.bounds) (Contains progress.now.atoms.atoms) m.tables m.place m.grid) }
 {
-    if !are_readable(&parts.marks, &parts.readable) {
-        return Err(Unshown::Other);
-    }
     let chosen = values_of(
         parts.alloc,
         parts.stack,

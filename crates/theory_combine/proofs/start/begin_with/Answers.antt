@@ -4,7 +4,7 @@ use Rattle.term_store.specs.Terms.{AreDifferent}
 use Rattle.bound_log.specs.Told.{column_sums}
 use Rattle.closure_log.specs.Places.{ArePlaces}
 use Rattle.theory_combine.specs.Columns.{with_leaves}
-use Rattle.theory_combine.proofs.Beginning.{asserted_at, sorted_parts, readable, setting, begins_known, begins_shown}
+use Rattle.theory_combine.proofs.Beginning.{asserted_at, sorted_parts, setting, begins_known, begins_shown}
 use Rattle.theory_combine.proofs.Sums.{sums_in}
 use Rattle.theory_combine.proofs.start.begin_with.Goals as goal
 
@@ -15,9 +15,7 @@ returns c =
     let few : length c.args.stack.now.trees + 2 < 2 ^ 32 = search rules in
     record {
       parts = sorted_parts c.args.stack.now c.args.marks.now c.laws.ensures c.requires.marks c.args.atoms.now.atoms c.requires.atoms c.sorts.result.now c.sorts.ensures;
-      readable =
-          readable c.args.stack.now c.args.marks.now c.laws.ensures c.requires.marks c.args.atoms.now.atoms c.requires.atoms c.sorts.result.now c.sorts.ensures c.in_ok-readable.readable.items
-          (rw c.terms-2.ensures.trees at c.in_ok-readable.ensures);
+      readable = λ p m. c.lawful_parts_are_readable.ensures c.args.stack.now p c.laws.ensures (c.requires.marks.only p m);
       whole = record {
         setting =
             setting c.args.stack.now c.args.marks.now c.laws.ensures c.requires.marks c.args.atoms.now.atoms c.requires.atoms c.sorts.result.now c.sorts.ensures c.truths_are_of_bools.ensures
