@@ -1,4 +1,4 @@
-mod PartLemmas
+pub mod PartLemmas
 mod MarkLemmas
 mod LetLemmas
 mod FreeLemmas

@@ -14,7 +14,7 @@ use Rattle.smt_laws.proofs.Both.{and_left, and_right, and_both}
 use Rattle.smt_meaning.specs.declared.clauses.Summand.{Summand}
 use Rattle.smt_meaning.specs.declared.clauses.Atom.TheVariants.{AtMost}
 use Rattle.smt_meaning.specs.Linear.{summand, sum_fits}
-use Rattle.smt_meaning.specs.Atoms.{sum_gcd, divided, each_divided, normal_bound}
+use Rattle.smt_meaning.specs.Atoms.{sum_gcd, divided, each_divided, normal_bound, DividesEach}
 use Rattle.linear_forms.specs.Sums.{IsSumWithin}
 use Rattle.linear_forms.proofs.SumLemmas.{fits_in_range, in_range_fits}
 use Rattle.pair_bounds.specs.Sums.{HaveNoZero}
@@ -34,7 +34,7 @@ by_one (pos a) = ap pos (div-one a)
 by_one (negsuc a) = ap negsuc (div-one a)
 
 -- the quotient by a divisor of a number that isn't 0 isn't 0
-quotient_not_zero : (z : ℤ) (g : ℕ) → g ∣ unsigned_abs z → z ≢ pos 0 → divided z (pos g) ≢ pos 0
+pub quotient_not_zero : (z : ℤ) (g : ℕ) → g ∣ unsigned_abs z → z ≢ pos 0 → divided z (pos g) ≢ pos 0
 quotient_not_zero (pos a) g d h e =
     let none : a / g ≡ 0 = cc in
     let back : a / g * g ≡ a = div-mul_cancel g d in
@@ -44,15 +44,12 @@ quotient_not_zero (negsuc a) g d h e = cc
 
 -- ---- the divisor
 
-abbrev DividesEach : ℕ → List Summand → Type 0
-DividesEach g [] = Unit {0}
-DividesEach g (p ∷ ps) = (g ∣ unsigned_abs p.coefficient) × DividesEach g ps
-
 weaker : (g h : ℕ) (ps : List Summand) → g ∣ h → DividesEach h ps → DividesEach g ps
 weaker g h [] d e = tt
 weaker g h (p ∷ ps) d e = (dvd_trans g d e.0, weaker g h ps d e.1)
 
-divides : (ps : List Summand) → DividesEach (sum_gcd ps) ps
+-- it divides each coefficient
+pub divides : (ps : List Summand) → DividesEach (sum_gcd ps) ps
 divides [] = tt
 divides (p ∷ ps) =
     let both : IsGcd (unsigned_abs p.coefficient) (sum_gcd ps) (sum_gcd (p ∷ ps)) = IsGcd-gcd_of (unsigned_abs p.coefficient) (sum_gcd ps) in

@@ -2,7 +2,6 @@
 use Rattle.std.proofs.Common.{◌≡◌, ◌≢◌, inl, inr, ℕ, zero, suc, ◌*◌, ◌/◌, ◌<◌, true, false, ◌&&◌, List, [], ◌∷◌, ◌++◌, length, All, get_or, ap, sym, subst, ◌∙◌, refl, arith}
 use Rattle.std.specs.Prelude.{ℤ, pos, negsuc, unsigned_abs, AllPairs}
 use Rattle.std.specs.Int.{◌∣◌}
-use Rattle.std.proofs.Math.Nat.{div-mul_cancel}
 use Rattle.std.proofs.lemmas.List.Elements.{All-nil, All-cons, All-head, All-tail}
 use Rattle.smt_meaning.specs.declared.nodes.Node.{Node}
 use Rattle.smt_meaning.specs.declared.clauses.Summand.{Summand}
@@ -27,18 +26,10 @@ use Rattle.proof_read.specs.Written.{numbers_fit, atom_fits, is_small}
 use Rattle.proof_form.specs.Range.{link_fits, LinkLeaves}
 use Rattle.proof_form.specs.Terms.{ProofTerms}
 use Rattle.proof_form.specs.BoundCodes.{LinksInts, IsDivided, round_clause}
+use Rattle.pair_bounds.proofs.NormalLemmas.{quotient_not_zero}
 use Rattle.proof_form.proofs.BoundLeaves.{folded_atom}
 
 -- ---- bounds divided
-
--- the quotient by a divisor of a number that isn't 0 isn't 0
-quotient_not_zero : (z : ℤ) (g : ℕ) → g ∣ unsigned_abs z → z ≢ pos 0 → divided z (pos g) ≢ pos 0
-quotient_not_zero (pos a) g d h e =
-    let none : a / g ≡ 0 = cc in
-    let back : a / g * g ≡ a = div-mul_cancel g d in
-    let zero_product : a / g * g ≡ 0 = ap (λ n. n * g) none ∙ omega arith in
-    h (ap pos (sym back ∙ zero_product))
-quotient_not_zero (negsuc a) g d h e = cc
 
 pub quotient_summands : (ds : List Declaration) (ts : List Tree) (g : ℕ) (ps : List Summand) → DividesEach g ps → All (IsSummand ds ts) ps → All (IsSummand ds ts) (each_divided (pos g) ps)
 quotient_summands ds ts g [] d all = All-nil (IsSummand ds ts)

@@ -1,13 +1,10 @@
 -- The literals of the clauses of the table of divisions are over the proof's terms, of the right sorts.
 use Rattle.std.proofs.Common.{◌≡◌, ◌⊎◌, inl, inr, ℕ, ◌<◌, ◌≤◌, Bool, true, false, List, [], ◌∷◌, ◌++◌, length, map, All, refl, ap, sym, subst, ◌∙◌, arith}
-use Rattle.std.specs.Prelude.{ℤ, pos, ◌-ℤ◌, unsigned_abs, Option, Some, None, slice_get, if◌then◌else◌}
-use Rattle.std.specs.Int.{IsGcd, ◌∣◌}
+use Rattle.std.specs.Prelude.{ℤ, pos, ◌-ℤ◌, Option, Some, None, slice_get, if◌then◌else◌}
 use Rattle.std.proofs.lemmas.Bool.{cases_lt}
-use Rattle.std.proofs.lemmas.Nat.Gcd.{dvd_trans}
 use Rattle.std.proofs.lemmas.Option.{slice_get_within, get_or_from_slice_get}
 use Rattle.std.proofs.lemmas.List.{get_or_append_left, get_or_push, length_push}
 use Rattle.std.proofs.lemmas.List.Elements.{All-nil, All-cons, All-head, All-append, All-get_or, All-from_recursion}
-use Rattle.fraction128.proofs.Divisors.{IsGcd-gcd_of}
 use Rattle.smt_meaning.specs.declared.values.Sort.{Sort}
 use Rattle.smt_meaning.specs.declared.values.Sort.TheVariants.{Bool as Truths, Int as Ints}
 use Rattle.smt_meaning.specs.declared.terms.Head.{Head}
@@ -22,11 +19,12 @@ use Rattle.smt_meaning.specs.Term.{Tree, Trees, node, none, more, tree_at}
 use Rattle.smt_meaning.specs.Nodes.{pick, tree_of}
 use Rattle.smt_meaning.specs.Linear.{Form, form_times}
 use Rattle.smt_meaning.specs.Division.{Limit, Row, combined, quotient_rows, remainder_rows, divisible_rows, absolute_rows}
-use Rattle.smt_meaning.specs.Atoms.{sum_gcd, DividesEach, normal_bound, limit_atom, row_atoms, positive, truth_literals}
+use Rattle.smt_meaning.specs.Atoms.{sum_gcd, normal_bound, limit_atom, row_atoms, positive, truth_literals}
 use Rattle.proof_meaning.specs.Proof.{is_written, with_term_sorts, term_sort, term_sorts, AreTerms, no_terms, next_term, node_at, IsSummand, IsAtom, IsLiteral, IsIntAt, IsBoolAt}
 use Rattle.smt_laws.specs.Rows.{place_form, placed_literals}
 use Rattle.proof_meaning.specs.Rules.{divisor_at, HasRows, of_quotient, of_last_quotient, of_remainder, of_divisibility, of_absolute}
 use Rattle.proof_meaning.proofs.Terms.{readable_at}
+use Rattle.pair_bounds.proofs.NormalLemmas.{divides}
 use Rattle.proof_form.proofs.BoundLeaves.{IsOver, over_number, over_times, over_plus, over_term, all_summands, pairs_ascend, operator_ints}
 use Rattle.proof_form.proofs.BoundJudging.{Ascend, quotient_summands, quotients_ascend}
 use Rattle.proof_form.proofs.TermBounds.{earlier}
@@ -72,16 +70,6 @@ divisibility_sorts ds n t s e = by (term_sort ds t) e
     by (Some a) f = let both = divided_int a Truths s f in (ap Some both.0, both.1)
 
 -- ---- normal bounds
-
-weaker : (g h : ℕ) (ps : List Summand) → g ∣ h → DividesEach h ps → DividesEach g ps
-weaker g h [] d e = tt
-weaker g h (p ∷ ps) d e = (dvd_trans g d e.0, weaker g h ps d e.1)
-
-divides : (ps : List Summand) → DividesEach (sum_gcd ps) ps
-divides [] = tt
-divides (p ∷ ps) =
-    let both : IsGcd (unsigned_abs p.coefficient) (sum_gcd ps) (sum_gcd (p ∷ ps)) = IsGcd-gcd_of (unsigned_abs p.coefficient) (sum_gcd ps) in
-    (both.0, weaker (sum_gcd (p ∷ ps)) (sum_gcd ps) ps both.1 (divides ps))
 
 normal_atom : (ds : List Declaration) (ts : List Tree) (ps : List Summand) (k : ℤ) → All (IsSummand ds ts) ps → Ascend ps → IsAtom ds ts (normal_bound ps k)
 normal_atom ds ts [] k all up = (all, up)

@@ -12,6 +12,7 @@ use Rattle.smt_meaning.specs.Declaration.{Declaration}
 use Rattle.smt_meaning.specs.Term.{Tree, Trees, none, more, tree_at}
 use Rattle.smt_meaning.specs.Nodes.{pick, tree_of}
 use Rattle.smt_meaning.specs.Signature.{cons_sort, operator_sort, ite_sort, if_so, all_of, all_the_same, sort_eq}
+use Rattle.smt_laws.proofs.Both.{and_left, and_right}
 use Rattle.proof_meaning.specs.Proof.{AreTerms, is_written, term_sort, term_sorts, with_term_sorts, node_at, IsBoolAt, IsIntAt}
 use Rattle.proof_meaning.specs.Rules.{IsOtherAt}
 use Rattle.proof_meaning.proofs.Terms.{Stands, stands}
@@ -59,14 +60,6 @@ by_first ds u us ss (Some s) (Some rest) e f p = record { first = s; rest = rest
 
 first_of : (ds : List Declaration) (u : Tree) (us : Trees) (ss : List Sort) → term_sorts ds (more u us) ≡ Some ss → HasFirst ds u us ss
 first_of ds u us ss e = by_first ds u us ss (term_sort ds u) (term_sorts ds us) refl refl e
-
-pub and_left : (a b : Bool) → (a && b) ≡ true → a ≡ true
-and_left true b h = refl
-and_left false b h = h
-
-pub and_right : (a b : Bool) → (a && b) ≡ true → b ≡ true
-and_right true b h = h
-and_right false b h = absurd cc
 
 pub sort_is : (a b : Sort) → sort_eq a b ≡ true → a ≡ b
 sort_is Truths Truths h = refl

@@ -1,6 +1,6 @@
 -- Bounds over the terms of a proof from those over their different trees.
 use Rattle.std.proofs.Common.{◌≡◌, ◌≢◌, ◌⊎◌, inl, inr, ℕ, zero, suc, ◌+◌, ◌<◌, ◌≤◌, ◌^◌, Bool, true, false, ◌&&◌, List, [], ◌∷◌, ◌++◌, length, All, refl, ap, sym, subst, ◌∙◌, arith}
-use Rattle.std.specs.Prelude.{ℤ, pos, negsuc, neg_ℤ, slice_index, Result, Ok, Err, IfOk}
+use Rattle.std.specs.Prelude.{ℤ, pos, negsuc, neg_ℤ, slice_index, Result, Ok, Err, IfOk, IfErr}
 use Rattle.std.proofs.lemmas.Bool.{cases_lt}
 use Rattle.std.proofs.lemmas.List.{get_or_append_left, length_push, get_or_push, get_or_past}
 use Rattle.std.proofs.lemmas.List.Elements.{All-head, All-tail}
@@ -29,7 +29,7 @@ use Rattle.linear_forms.specs.declared.differences.DifferenceError.{DifferenceEr
 use Rattle.linear_forms.specs.declared.differences.DifferenceError.TheVariants.{Term, Pair, Memory}
 use Rattle.pair_bounds.specs.Pairs.{below_fits, threshold_below, IsBound}
 use Rattle.proof_form.specs.Range.{not_above_fits, less_fits}
-use Rattle.proof_form.specs.Comparing.{compared, compared_fits}
+use Rattle.proof_form.specs.Comparing.{compared, compared_fits, IsComparison}
 use Rattle.proof_form.specs.declared.terms_bounds.Comparison.{Comparison}
 use Rattle.proof_form.specs.declared.terms_bounds.Comparison.TheVariants.{Undivided, NotAbove, Below}
 use Rattle.proof_form.specs.Terms.{IsBoundOf}
@@ -239,13 +239,16 @@ bound_renamed facts seen us fit a sum new k m s e f g b =
       in_range = subst InRange (sym f) b.in_range;
     }
 
-pub folded_is_bound : (us : List Tree) (left right : ℕ) (sum : List Summand) (n : ℤ) → IsDifference us left right (form_of sum n) → IsBound us (folded_bound us left right) sum (neg_ℤ n)
+folded_is_bound : (us : List Tree) (left right : ℕ) (sum : List Summand) (n : ℤ) → IsDifference us left right (form_of sum n) → IsBound us (folded_bound us left right) sum (neg_ℤ n)
 folded_is_bound us left right sum n d = record {
   atom = ap (λ (f : Form). AtMost f.sum (neg_ℤ f.constant)) d.form;
   is_sum = d.is_sum;
   coefficients = and_left (sum_fits sum) (is_in_range n) d.ranges;
   in_range = neg_in_range n (form_constant (form_of sum n) d.ranges);
 }
+
+pub comparison_folded : (us : List Tree) (left right : ℕ) (sum : List Summand) (n m : ℤ) → m ≡ neg_ℤ n → IsDifference us left right (form_of sum n) → IsComparison us Undivided left right sum m
+comparison_folded us left right sum n m e d = subst (IsComparison us Undivided left right sum) (sym e) (record { fits = d.fits; bound = folded_is_bound us left right sum n d })
 
 pub sum_within : (us : List Tree) (facts seen : List Fact) (sum : List Summand) → length facts ≡ length us → seen ≡ facts → IsSum (length us) sum → IsSum (length seen) sum
 sum_within us facts seen sum e f s = subst (λ (fs : List Fact). IsSum (length fs) sum) (sym f) (subst (λ n. IsSum n sum) (sym e) s)
@@ -255,3 +258,7 @@ sum_within us facts seen sum e f s = subst (λ (fs : List Fact). IsSum (length f
 pub if_ok : {T E : Type 0} (r : Result T E) (P Q : T → Type 0) → IfOk r P → ((x : T) → P x → Q x) → IfOk r Q
 if_ok (Ok x) P Q p f = f x p
 if_ok (Err e) P Q p f = tt
+
+pub if_err : {T E : Type 0} (r : Result T E) (P Q : E → Type 0) → IfErr r P → ((e : E) → P e → Q e) → IfErr r Q
+if_err (Ok x) P Q p f = tt
+if_err (Err e) P Q p f = f e p

@@ -69,18 +69,6 @@ module _ (all is : List ℕ) (es : List Entry) (laid : AreLaid (length all) es) 
 
 -- ---- after a call that may want memory
 
-pub of_two : {T E : Type 0} (r : Result T E) (A B C : Type 0) → OnOk r A → OnOk r B → (A → B → C) → OnOk r C
-of_two (Ok x) A B C a b f = f a b
-of_two (Err e) A B C a b f = tt
-
-pub either_way : {T E : Type 0} (r : Result T E) (A B C D : Type 0) → OnOk r A → OnOk r B → OnErr r C → (A → B → D) → (C → D) → D
-either_way (Ok x) A B C D a b c f g = f a b
-either_way (Err e) A B C D a b c f g = g c
-
-pub on_err : {T E : Type 0} (r : Result T E) (A B : Type 0) → OnErr r A → (A → B) → OnErr r B
-on_err (Ok x) A B a f = tt
-on_err (Err e) A B a f = f a
-
 pub at_err : {T E : Type 0} (r : Result T E) (P : Type 0) → is_err r ≡ true → OnErr r P → P
 at_err (Ok x) P e h = cc
 at_err (Err y) P e h = h

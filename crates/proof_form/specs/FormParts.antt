@@ -1,5 +1,6 @@
 -- The parts of a term, and numbers of their atoms.
 use Rattle.std.specs.Prelude.{◌≡◌, ◌<◌, ◌⊎◌, ◌++◌, ◌∷◌, [], ℕ, Bool, true, false, IsTrue, List, length, map, All, Contains, Option, Some, None, slice_index_or}
+use Rattle.smt_meaning.specs.declared.terms.Head.TheVariants.{Theory}
 use Rattle.smt_meaning.specs.declared.terms.Operator.{Operator}
 use Rattle.smt_meaning.specs.declared.nodes.Node.{Node}
 use Rattle.smt_meaning.specs.declared.clauses.Atom.{Atom}
@@ -7,6 +8,7 @@ use Rattle.smt_meaning.specs.declared.clauses.Atom.TheVariants.{Truth, Same}
 use Rattle.smt_meaning.specs.declared.clauses.Literal.{Literal}
 use Rattle.smt_meaning.specs.Declaration.{Declaration}
 use Rattle.smt_meaning.specs.Term.{Tree, operate, truth_of}
+use Rattle.proof_meaning.specs.Proof.{AreTerms, node_at}
 use Rattle.proof_meaning.specs.Rules.{HasParts, IsForm, along, not_above, below, turned, pairs, truths, every, no_one, some_by}
 use Rattle.proof_form.specs.declared.verdict.Verdict.{Verdict}
 use Rattle.proof_form.specs.declared.verdict.Verdict.TheVariants.{Good, Wrong, Range}
@@ -15,9 +17,17 @@ use Rattle.proof_form.specs.declared.form_parts.Relation.{Relation}
 use Rattle.proof_form.specs.declared.form_parts.Relation.TheVariants.{Equal, AtMost, Less, AtLeast, Greater}
 use Rattle.proof_form.specs.declared.form_parts.Kind.{Kind}
 use Rattle.proof_form.specs.declared.form_parts.Kind.TheVariants.{Bools, Neighbours, Pairs, NoParts}
+use Rattle.proof_form.specs.Terms.{ProofTerms}
 use Rattle.proof_form.specs.Range.{neighbours_fit, not_above_fits, less_fits, bounds_fit}
 use Rattle.proof_form.specs.Kept.{Kept, IsCodeOf, AreCodesOf, KeepsAll, GoOn}
 use Rattle.proof_form.specs.FormValues.{connective_value}
+
+-- the term at this place has this operator and these arguments, which are earlier
+pub record IsOperation (t : ProofTerms) (i : ℕ) (o : Operator) (is : List ℕ) : Type 0 where
+  pub within : i < length t.nodes
+  pub terms : AreTerms t.declared t.nodes t.trees
+  pub node : node_at t.nodes i ≡ record { head = Theory o; arguments = is }
+  pub earlier : All (λ j. j < i) is
 
 -- ---- what an operator makes of its arguments
 

@@ -1,5 +1,5 @@
 -- What is kept of the different trees of a proof's terms.
-use Rattle.std.specs.Prelude.{◌≡◌, ◌<◌, ◌+◌, ◌^◌, ◌&&◌, ◌||◌, ℕ, Bool, true, false, not, pos, List, [], ◌∷◌, map, length, slice_index, slice_index_or, if◌then◌else◌, Option, Some, None, MatchOption}
+use Rattle.std.specs.Prelude.{◌≡◌, ◌<◌, ◌+◌, ◌^◌, ◌&&◌, ◌||◌, ℕ, Bool, true, false, not, pos, List, [], ◌∷◌, map, length, All, slice_index, slice_index_or, if◌then◌else◌, Option, Some, None, MatchOption}
 use Rattle.smt_meaning.specs.declared.values.Sort.{Sort}
 use Rattle.smt_meaning.specs.declared.values.Sort.TheVariants.{Bool as Truths, Int as Ints}
 use Rattle.smt_meaning.specs.declared.terms.Head.{Head}
@@ -11,7 +11,7 @@ use Rattle.smt_meaning.specs.Signature.{sort_eq, if_so}
 use Rattle.smt_meaning.specs.Term.{Tree, Trees, node, none, more, int_eq}
 use Rattle.smt_meaning.specs.TreeShape.{is_constant, are_divisors, quotient_tree, place_of}
 use Rattle.proof_meaning.specs.Proof.{term_sort, is_linear_term, meant}
-use Rattle.term_store.specs.Terms.{IsPlace, IsNew}
+use Rattle.term_store.specs.Terms.{IsPlace, IsNew, AreComplete}
 use Rattle.proof_form.specs.declared.terms_facts.Fact.{Fact}
 
 -- past the last one, places go on to ascend
@@ -89,6 +89,11 @@ beside_quotient o t u = node (Theory o) (more t (more u (more (quotient_tree t u
 -- the place of a tree among these, if it is one of them
 abbrev pub IsHeldAt : List Tree → Tree → Option ℕ → Type 0
 IsHeldAt hs t o = MatchOption o (IsNew hs t) (λ i. IsPlace hs i t)
+
+-- these are places of terms, among terms with all their parts
+pub record AreAmong (hs : List Tree) (is : List ℕ) : Type 0 where
+  pub complete : AreComplete hs
+  pub arguments : All (λ i. i < length hs) is
 
 -- one place more, if there are all
 abbrev pub with_held : Option ℕ → Option (List ℕ) → Option (List ℕ)

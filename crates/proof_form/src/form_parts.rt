@@ -1,14 +1,12 @@
 //! The parts of a term, and numbers for their atoms.
 ghost use Rattle.std.specs.Prelude.{◌≡◌, ◌≢◌, ◌<◌, true, false, map, length, All, Ok, OnOk, IfOk};
-ghost use Rattle.smt_meaning.specs.declared.terms.Head.TheVariants.{Theory};
 ghost use Rattle.smt_meaning.specs.declared.terms.Operator.TheVariants.{Equal as IsEqual, Distinct as IsDistinct, Ite as IsIte};
 ghost use Rattle.smt_meaning.specs.declared.values.Sort.TheVariants.{Bool as Truths};
 ghost use Rattle.smt_meaning.specs.declared.clauses.Atom.TheVariants.{Truth, Same, AtMost};
-ghost use Rattle.proof_meaning.specs.Proof.{AreTerms, node_at};
 ghost use Rattle.proof_meaning.specs.Rules.{along};
 ghost use Rattle.proof_form.specs.Range.{neighbours_fit};
 ghost use Rattle.proof_form.specs.Comparing.{compared, compared_fits};
-ghost use Rattle.proof_form.specs.FormParts.{relation_atom, relation_fits, IsKind, IsNumberOf, AreNumbersOf, IsNumbered, Extends};
+ghost use Rattle.proof_form.specs.FormParts.{relation_atom, relation_fits, IsOperation, IsKind, IsNumberOf, AreNumbersOf, IsNumbered, Extends};
 
 use crate::clauses::Clauses;
 use crate::form_values::Connective;
@@ -54,10 +52,7 @@ fn is_bool(sort: Sort) -> bool
 
 /// The kind of an equality.
 fn equality_kind(terms: &Terms<'_>, place: TermId, arguments: &[TermId]) -> Kind
-    requires within { place < length terms.now.nodes }
-    requires terms { AreTerms terms.now.declared terms.now.nodes terms.now.trees }
-    requires node { node_at terms.now.nodes place ≡ record { head = Theory IsEqual; arguments = arguments.now } }
-    requires earlier { All (λ i. i < place) arguments.now }
+    requires { IsOperation terms.now place IsEqual arguments.now }
     ensures { IsKind terms.now.declared terms.now.trees IsEqual arguments.now result }
 {
     let _sort = terms.sort(place);
@@ -70,10 +65,7 @@ fn equality_kind(terms: &Terms<'_>, place: TermId, arguments: &[TermId]) -> Kind
 
 /// The kind of a term that says that its arguments differ. Three truth values never do.
 fn distinct_kind(terms: &Terms<'_>, place: TermId, arguments: &[TermId]) -> Kind
-    requires within { place < length terms.now.nodes }
-    requires terms { AreTerms terms.now.declared terms.now.nodes terms.now.trees }
-    requires node { node_at terms.now.nodes place ≡ record { head = Theory IsDistinct; arguments = arguments.now } }
-    requires earlier { All (λ i. i < place) arguments.now }
+    requires { IsOperation terms.now place IsDistinct arguments.now }
     ensures { IsKind terms.now.declared terms.now.trees IsDistinct arguments.now result }
 {
     let _sort = terms.sort(place);
@@ -89,9 +81,7 @@ fn distinct_kind(terms: &Terms<'_>, place: TermId, arguments: &[TermId]) -> Kind
 
 /// The kind of an `ite`.
 fn choice_kind(terms: &Terms<'_>, place: TermId, arguments: &[TermId]) -> Kind
-    requires within { place < length terms.now.nodes }
-    requires terms { AreTerms terms.now.declared terms.now.nodes terms.now.trees }
-    requires node { node_at terms.now.nodes place ≡ record { head = Theory IsIte; arguments = arguments.now } }
+    requires { IsOperation terms.now place IsIte arguments.now }
     ensures { IsKind terms.now.declared terms.now.trees IsIte arguments.now result }
 {
     if is_bool(terms.sort(place)) {
@@ -108,10 +98,7 @@ pub(crate) fn kind_of(
     operator: Operator,
     arguments: &[TermId],
 ) -> Kind
-    requires within { place < length terms.now.nodes }
-    requires terms { AreTerms terms.now.declared terms.now.nodes terms.now.trees }
-    requires node { node_at terms.now.nodes place ≡ record { head = Theory operator; arguments = arguments.now } }
-    requires earlier { All (λ i. i < place) arguments.now }
+    requires { IsOperation terms.now place operator arguments.now }
     ensures { IsKind terms.now.declared terms.now.trees operator arguments.now result }
 {
     let _sort = terms.sort(place);

@@ -1,14 +1,14 @@
 //! Sums over the places of trees as sums over the first terms that have them.
-ghost use Rattle.std.specs.Prelude.{◌≡◌, ◌≢◌, ◌<◌, length, take, false, IfOk, Err};
+ghost use Rattle.std.specs.Prelude.{◌≡◌, ◌≢◌, ◌<◌, List, length, take, false, IfOk, IfErr, Err};
+ghost use Rattle.smt_meaning.specs.Term.{Tree};
 ghost use Rattle.smt_meaning.specs.Linear.{summand as summand_of};
-ghost use Rattle.proof_meaning.specs.Rules.{not_above, below, folded_bound};
 ghost use Rattle.linear_forms.specs.Sums.{IsSum};
 ghost use Rattle.linear_forms.specs.Table.{AreForms};
+ghost use Rattle.linear_forms.specs.Differences.{KnowsForms, Refuses, difference_fits};
 ghost use Rattle.proof_form.specs.TermFacts.{fact_at};
 ghost use Rattle.proof_form.specs.TermRenaming.{renamed, first_at};
 ghost use Rattle.proof_form.specs.TermTable.{IsRenamedBound};
-ghost use Rattle.proof_form.specs.Range.{not_above_fits, less_fits};
-ghost use Rattle.proof_form.specs.Comparing.{compared, compared_fits};
+ghost use Rattle.proof_form.specs.Comparing.{compared, compared_fits, IsComparison};
 
 use crate::terms::Stop;
 use crate::terms_facts::Fact;
@@ -74,87 +74,43 @@ pub(crate) fn stop_of(error: DifferenceError) -> Stop
     }
 }
 
-/// The difference of the trees at two places as a bound, folded and not divided, over the first terms with its leaves.
-fn difference(
+/// The difference of the trees at two places as a bound, folded and not divided.
+fn undivided(
     forms: &mut LinearForms,
-    distinct: &Distinct,
     left: TermId,
     right: TermId,
     sum: &mut Vec<Summand>,
-) -> Result<i128, Stop>
-    requires forms { AreForms (take (length forms.old) distinct.now.store.trees) forms.old }
-    requires left { left < length distinct.now.store.trees }
-    requires right { right < length distinct.now.store.trees }
-    requires count { length distinct.now.facts.items ≡ length distinct.now.store.trees }
-    ensures forms { AreForms (take (length forms.new) distinct.now.store.trees) forms.new }
-    ensures ok { IfOk result (λ k. IsRenamedBound distinct.now.facts.items (not_above_fits distinct.now.store.trees left right) (folded_bound distinct.now.store.trees left right) sum.new.items k) }
-    ensures range { result ≡ Err Stop.Range → not_above_fits distinct.now.store.trees left right ≡ false }
+) -> Result<i128, DifferenceError>
+    requires left { left < length forms.old }
+    requires right { right < length forms.old }
+    requires known { KnowsForms forms.old }
+    ensures ok { (trees : List Tree) → AreForms trees forms.old → IfOk result (λ k. IsComparison trees Comparison.Undivided left right sum.new.items k) }
+    ensures err { (trees : List Tree) → AreForms trees forms.old → IfErr result (λ e. Refuses trees (difference_fits trees) left right e) }
+    ensures same { forms.new ≡ forms.old }
 {
-    if forms.cover(&distinct.store).is_err() {
-        return Err(Stop::Memory);
-    }
-    match forms.difference(left, right, sum) {
-        Ok(constant) => {
-            rename_all(&distinct.facts, sum);
-            Ok(-constant)
-        }
-        Err(error) => Err(stop_of(error)),
-    }
+    let constant = forms.difference(left, right, sum)?;
+    Ok(-constant)
 }
 
-/// That the tree at one place is at most the one at another, as a bound in normal form over the first terms with its leaves.
-fn at_most(
+/// The bound by which the trees at two places compare, over the places of its leaves.
+fn bound(
     forms: &mut LinearForms,
-    distinct: &Distinct,
+    comparison: Comparison,
     left: TermId,
     right: TermId,
     sum: &mut Vec<Summand>,
-) -> Result<i128, Stop>
-    requires forms { AreForms (take (length forms.old) distinct.now.store.trees) forms.old }
-    requires left { left < length distinct.now.store.trees }
-    requires right { right < length distinct.now.store.trees }
-    requires count { length distinct.now.facts.items ≡ length distinct.now.store.trees }
-    ensures forms { AreForms (take (length forms.new) distinct.now.store.trees) forms.new }
-    ensures ok { IfOk result (λ k. IsRenamedBound distinct.now.facts.items (not_above_fits distinct.now.store.trees left right) (not_above distinct.now.store.trees left right) sum.new.items k) }
-    ensures range { result ≡ Err Stop.Range → not_above_fits distinct.now.store.trees left right ≡ false }
+) -> Result<i128, DifferenceError>
+    requires left { left < length forms.old }
+    requires right { right < length forms.old }
+    requires known { KnowsForms forms.old }
+    ensures ok { (trees : List Tree) → AreForms trees forms.old → IfOk result (λ k. IsComparison trees comparison left right sum.new.items k) }
+    ensures err { (trees : List Tree) → AreForms trees forms.old → IfErr result (λ e. e ≢ DifferenceError.Memory → compared_fits comparison trees left right ≡ false) }
+    ensures same { forms.new ≡ forms.old }
 {
-    if forms.cover(&distinct.store).is_err() {
-        return Err(Stop::Memory);
-    }
-    match pair_bounds::at_most(forms, left, right, sum) {
-        Ok(limit) => {
-            rename_all(&distinct.facts, sum);
-            Ok(limit)
-        }
-        Err(error) => Err(stop_of(error)),
-    }
-}
-
-/// That the tree at one place is below the one at another, in the same way.
-fn below(
-    forms: &mut LinearForms,
-    distinct: &Distinct,
-    left: TermId,
-    right: TermId,
-    sum: &mut Vec<Summand>,
-) -> Result<i128, Stop>
-    requires forms { AreForms (take (length forms.old) distinct.now.store.trees) forms.old }
-    requires left { left < length distinct.now.store.trees }
-    requires right { right < length distinct.now.store.trees }
-    requires count { length distinct.now.facts.items ≡ length distinct.now.store.trees }
-    ensures forms { AreForms (take (length forms.new) distinct.now.store.trees) forms.new }
-    ensures ok { IfOk result (λ k. IsRenamedBound distinct.now.facts.items (less_fits distinct.now.store.trees left right) (below distinct.now.store.trees left right) sum.new.items k) }
-    ensures range { result ≡ Err Stop.Range → less_fits distinct.now.store.trees left right ≡ false }
-{
-    if forms.cover(&distinct.store).is_err() {
-        return Err(Stop::Memory);
-    }
-    match pair_bounds::below(forms, left, right, sum) {
-        Ok(limit) => {
-            rename_all(&distinct.facts, sum);
-            Ok(limit)
-        }
-        Err(error) => Err(stop_of(error)),
+    match comparison {
+        Comparison::Undivided => undivided(forms, left, right, sum),
+        Comparison::NotAbove => pair_bounds::at_most(forms, left, right, sum),
+        Comparison::Below => pair_bounds::below(forms, left, right, sum),
     }
 }
 
@@ -175,9 +131,14 @@ pub(crate) fn compared(
     ensures ok { IfOk result (λ k. IsRenamedBound distinct.now.facts.items (compared_fits comparison distinct.now.store.trees left right) (compared comparison distinct.now.store.trees left right) sum.new.items k) }
     ensures range { result ≡ Err Stop.Range → compared_fits comparison distinct.now.store.trees left right ≡ false }
 {
-    match comparison {
-        Comparison::Undivided => difference(forms, distinct, left, right, sum),
-        Comparison::NotAbove => at_most(forms, distinct, left, right, sum),
-        Comparison::Below => below(forms, distinct, left, right, sum),
+    if forms.cover(&distinct.store).is_err() {
+        return Err(Stop::Memory);
+    }
+    match bound(forms, comparison, left, right, sum) {
+        Ok(limit) => {
+            rename_all(&distinct.facts, sum);
+            Ok(limit)
+        }
+        Err(error) => Err(stop_of(error)),
     }
 }

@@ -7,7 +7,7 @@ ghost use Rattle.smt_meaning.specs.TreeShape.{operation, quotient_tree, divided_
 ghost use Rattle.smt_meaning.specs.Nodes.{pick};
 ghost use Rattle.proof_meaning.specs.Proof.{meant_at};
 ghost use Rattle.term_store.specs.Terms.{tree_with, AreComplete};
-ghost use Rattle.proof_form.specs.TermFacts.{held_of, is_division, beside_quotient, IsHeldAt};
+ghost use Rattle.proof_form.specs.TermFacts.{held_of, is_division, beside_quotient, IsHeldAt, AreAmong};
 ghost use Rattle.proof_form.specs.TermTable.{IsHeldPlace};
 
 use crate::terms_divisions::is_division;
@@ -135,8 +135,7 @@ fn find_divisibility(
 
 /// The place of a division: of the first of the terms at these places by the others.
 fn find_division(terms: &mut TermStore, arguments: &[TermId]) -> Result<Option<TermId>, AllocError>
-    requires complete { AreComplete terms.old.trees }
-    requires arguments { All (λ i. i < length terms.old.trees) arguments.now }
+    requires { AreAmong terms.old.trees arguments.now }
     ensures ok { IfOk result (λ o. IsHeldAt terms.old.trees (operation Divide (pick terms.old.trees arguments.now)) o) }
     ensures same { terms.new ≡ terms.old }
 {
@@ -152,8 +151,7 @@ fn find_left_over(
     operator: Operator,
     arguments: &[TermId],
 ) -> Result<Option<TermId>, AllocError>
-    requires complete { AreComplete terms.old.trees }
-    requires arguments { All (λ i. i < length terms.old.trees) arguments.now }
+    requires held { AreAmong terms.old.trees arguments.now }
     requires operator { is_division operator ≡ true }
     requires other { operator ≢ Divide }
     ensures ok { IfOk result (λ o. IsHeldAt terms.old.trees (operation operator (pick terms.old.trees arguments.now)) o) }
@@ -172,8 +170,7 @@ fn find_operation(
     operator: Operator,
     arguments: &[TermId],
 ) -> Result<Option<TermId>, AllocError>
-    requires complete { AreComplete terms.old.trees }
-    requires arguments { All (λ i. i < length terms.old.trees) arguments.now }
+    requires { AreAmong terms.old.trees arguments.now }
     ensures ok { IfOk result (λ o. IsHeldAt terms.old.trees (operation operator (pick terms.old.trees arguments.now)) o) }
     ensures same { terms.new ≡ terms.old }
 {
@@ -192,8 +189,7 @@ fn find_meant(
     head: Head,
     arguments: &[TermId],
 ) -> Result<Option<TermId>, AllocError>
-    requires complete { AreComplete terms.old.trees }
-    requires arguments { All (λ i. i < length terms.old.trees) arguments.now }
+    requires { AreAmong terms.old.trees arguments.now }
     ensures ok { IfOk result (λ o. IsHeldAt terms.old.trees (meant_at head (pick terms.old.trees arguments.now)) o) }
     ensures same { terms.new ≡ terms.old }
 {

@@ -42,11 +42,12 @@ trans_true ts I i j k = by (value_at ts I i) (value_at ts I j) (value_at ts I k)
         ap (λ x. not x || (not (same_value v w) || (same_value u w || false))) e
         ∙ subst (λ x. (not (same_value v w) || (same_value x w || false)) ≡ true) (sym (same_is u v e)) (either (same_value v w))
 
+-- what holds of any two truth values holds of the values of two Bools
+of_truths : (ts : List Tree) (I : Interpretation) (i j : ℕ) → IsTruthAt ts I i → IsTruthAt ts I j → (f : Value → Value → Bool) → ((a b : Bool) → f (Truth a) (Truth b) ≡ true) → f (value_at ts I i) (value_at ts I j) ≡ true
+of_truths ts I i j a b f h = ap (λ v. f v (value_at ts I j)) a.1 ∙ ap (f (Truth a.0)) b.1 ∙ h a.0 b.0
+
 pub truth_true : (ts : List Tree) (I : Interpretation) (i j : ℕ) → IsTruthAt ts I i → IsTruthAt ts I j → IsTrue (some_true ts I (truth_clause i j))
-truth_true ts I i j a b =
-    ap (λ v. not (same_value v (value_at ts I j)) || (not (truth_of v) || (truth_of (value_at ts I j) || false))) a.1
-    ∙ ap (λ w. not (same_value (Truth a.0) w) || (not a.0 || (truth_of w || false))) b.1
-    ∙ by a.0 b.0
+truth_true ts I i j a b = of_truths ts I i j a b (λ v w. not (same_value v w) || (not (truth_of v) || (truth_of w || false))) by
   where
     by : (a b : Bool) → (not (bool_eq a b) || (not a || (b || false))) ≡ true
     by true true = refl
@@ -55,10 +56,7 @@ truth_true ts I i j a b =
     by false false = refl
 
 pub both_true : (ts : List Tree) (I : Interpretation) (i j : ℕ) → IsTruthAt ts I i → IsTruthAt ts I j → IsTrue (some_true ts I (both_clause i j))
-both_true ts I i j a b =
-    ap (λ v. not (truth_of v) || (not (truth_of (value_at ts I j)) || (same_value v (value_at ts I j) || false))) a.1
-    ∙ ap (λ w. not a.0 || (not (truth_of w) || (same_value (Truth a.0) w || false))) b.1
-    ∙ by a.0 b.0
+both_true ts I i j a b = of_truths ts I i j a b (λ v w. not (truth_of v) || (not (truth_of w) || (same_value v w || false))) by
   where
     by : (a b : Bool) → (not a || (not b || (bool_eq a b || false))) ≡ true
     by true true = refl
@@ -67,10 +65,7 @@ both_true ts I i j a b =
     by false false = refl
 
 pub neither_true : (ts : List Tree) (I : Interpretation) (i j : ℕ) → IsTruthAt ts I i → IsTruthAt ts I j → IsTrue (some_true ts I (neither_clause i j))
-neither_true ts I i j a b =
-    ap (λ v. truth_of v || (truth_of (value_at ts I j) || (same_value v (value_at ts I j) || false))) a.1
-    ∙ ap (λ w. a.0 || (truth_of w || (same_value (Truth a.0) w || false))) b.1
-    ∙ by a.0 b.0
+neither_true ts I i j a b = of_truths ts I i j a b (λ v w. truth_of v || (truth_of w || (same_value v w || false))) by
   where
     by : (a b : Bool) → (a || (b || (bool_eq a b || false))) ≡ true
     by true true = refl

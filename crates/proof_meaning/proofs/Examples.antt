@@ -211,21 +211,25 @@ and_given = record {
     by_both false b true e = sym e
     by_both false b false e = refl
 
+-- a sum over the two numbers
+abbrev over_both : ℤ → ℤ → List Summand
+over_both m n = summand 4 m ∷ summand 5 n ∷ []
+
+over_both_is : (m n : ℤ) → is_zero m ≡ false → is_zero n ≡ false → (b : Bool) (k : ℤ) → IsLit (literal b (AtMost (over_both m n) k))
+over_both_is m n e f b k = (
+  All-cons (IsSummand signature trees) (summand 4 m) (summand 5 n ∷ []) (leaf_at 4 m refl refl refl e)
+      (All-cons (IsSummand signature trees) (summand 5 n) [] (leaf_at 5 n refl refl refl f) (All-nil (IsSummand signature trees))),
+  AllPairs-cons Ascend (summand 4 m) (summand 5 n ∷ [])
+      (All-cons (Ascend (summand 4 m)) (summand 5 n) [] (omega arith) (All-nil (Ascend (summand 4 m))))
+      (AllPairs-cons Ascend (summand 5 n) [] (All-nil (Ascend (summand 5 n))) (λ j l d h k. absurd (omega (arith, k)))),
+)
+
 -- the comparison 12 is the bound 2 * x - y <= 0
 abbrev compared : List Summand
-compared = summand 4 (pos 2) ∷ summand 5 (negsuc 0) ∷ []
+compared = over_both (pos 2) (negsuc 0)
 
 abbrev OnBound : Literal → Type 0
 OnBound l = (l.atom ≡ Truth 12) ⊎ Contains (AtMost compared (pos 0) ∷ []) l.atom
-
-compared_is : (b : Bool) (k : ℤ) → IsLit (literal b (AtMost compared k))
-compared_is b k = (
-  All-cons (IsSummand signature trees) (summand 4 (pos 2)) (summand 5 (negsuc 0) ∷ []) (leaf_at 4 (pos 2) refl refl refl refl)
-      (All-cons (IsSummand signature trees) (summand 5 (negsuc 0)) [] (leaf_at 5 (negsuc 0) refl refl refl refl) (All-nil (IsSummand signature trees))),
-  AllPairs-cons Ascend (summand 4 (pos 2)) (summand 5 (negsuc 0) ∷ [])
-      (All-cons (Ascend (summand 4 (pos 2))) (summand 5 (negsuc 0)) [] (omega arith) (All-nil (Ascend (summand 4 (pos 2)))))
-      (AllPairs-cons Ascend (summand 5 (negsuc 0)) [] (All-nil (Ascend (summand 5 (negsuc 0)))) (λ j l d h k. absurd (omega (arith, k)))),
-)
 
 compared_given : GivesHere [] (Rule.Form 12 (is_true 12 ∷ literal false (AtMost compared (pos 0)) ∷ [])) (is_true 12 ∷ literal false (AtMost compared (pos 0)) ∷ [])
 unfolding gcd_of
@@ -244,7 +248,7 @@ compared_given = record {
     },
     refl,
   );
-  literals = two (is_true 12) (literal false (AtMost compared (pos 0))) (bool_at 12 refl refl) (compared_is false (pos 0));
+  literals = two (is_true 12) (literal false (AtMost compared (pos 0))) (bool_at 12 refl refl) (over_both_is (pos 2) (negsuc 0) refl refl false (pos 0));
 }
   where
     by_bound : (a c : Bool) → c ≡ (a && true) → IsTrue (c || (not a || false))
@@ -267,22 +271,13 @@ pick_third ls g = absurd (omega (arith, (g.by_rule).which_is))
 -- ---- bounds
 
 abbrev x_minus_y : List Summand
-x_minus_y = summand 4 (pos 1) ∷ summand 5 (negsuc 0) ∷ []
-
-difference_is : (b : Bool) (k : ℤ) → IsLit (literal b (AtMost x_minus_y k))
-difference_is b k = (
-  All-cons (IsSummand signature trees) (summand 4 (pos 1)) (summand 5 (negsuc 0) ∷ []) (leaf_at 4 (pos 1) refl refl refl refl)
-      (All-cons (IsSummand signature trees) (summand 5 (negsuc 0)) [] (leaf_at 5 (negsuc 0) refl refl refl refl) (All-nil (IsSummand signature trees))),
-  AllPairs-cons Ascend (summand 4 (pos 1)) (summand 5 (negsuc 0) ∷ [])
-      (All-cons (Ascend (summand 4 (pos 1))) (summand 5 (negsuc 0)) [] (omega arith) (All-nil (Ascend (summand 4 (pos 1)))))
-      (AllPairs-cons Ascend (summand 5 (negsuc 0)) [] (All-nil (Ascend (summand 5 (negsuc 0)))) (λ j l d h k. absurd (omega (arith, k)))),
-)
+x_minus_y = over_both (pos 1) (negsuc 0)
 
 -- x = y gives x - y <= 0
 link_given : GivesHere [] (Rule.Link 4 5 0) (negated (are_same 4 5) ∷ at_most x_minus_y (pos 0) ∷ [])
 link_given = record {
   by_rule = record { which_is = omega arith; left = (omega arith, refl); right = (omega arith, refl); clause = refl };
-  literals = two (negated (are_same 4 5)) (at_most x_minus_y (pos 0)) (same_is 4 5 refl refl refl) (difference_is true (pos 0));
+  literals = two (negated (are_same 4 5)) (at_most x_minus_y (pos 0)) (same_is 4 5 refl refl refl) (over_both_is (pos 1) (negsuc 0) refl refl true (pos 0));
 }
 
 -- Bools have no difference

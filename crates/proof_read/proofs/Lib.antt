@@ -10,6 +10,7 @@ pub mod ReadArrange
 pub mod ReadLeafLemmas
 pub mod ReadCompareLemmas
 pub mod ReadNamedForms
+pub mod ReadPlaceForms
 pub mod ReadAtomForms
 pub mod ReadStepForms
 pub mod SymbolLemmas

@@ -16,30 +16,38 @@ use Rattle.look_ahead.specs.Ahead.{ahead, IsList}
 use Rattle.proof_read.specs.declared.read_parts.Progress.{Progress}
 use Rattle.proof_read.specs.Written.{atom_fits, literals_fit}
 use Rattle.proof_read.specs.Reads.{is_term_number, atom_near, leaves_near, literals_near}
-use Rattle.proof_read.specs.ReadParts.{Takes, Fills, any, every, stepped, is_end}
+use Rattle.proof_read.specs.ReadParts.{Takes, Fills, ReadsRest, any, every, stepped, is_end, alone}
 use Rattle.proof_read.specs.ReadSums.{summand_in, sum_in, stands_in, are_apart, no_zero, terms_of}
+use Rattle.proof_read.specs.ReadSteps.{one_in, two_in}
 use Rattle.proof_read.specs.ReadAtoms.{atom_after, literal_after, negation_in, literal_fits, literal_near}
 use Rattle.proof_read.proofs.ReadLemmas.{notes_one, notes_two, notes_moved, and_true}
 use Rattle.proof_read.proofs.ReadForms.{at_end}
+use Rattle.proof_read.proofs.ReadPlaceForms.{pair, reads_one, reads_two}
 
 -- ---- truths and equalities
 
-pub fills_truth : (ts : List Token) (old new : Progress) (v : ℕ) → (h : Takes ts number any is_term_number old v new) → is_end (ahead ts new.place) ≡ true → Fills ts truth_read atom_fits atom_near old (Truth v) new
-fills_truth ts old new v h e = record {
-  written = Truth h.written;
-  read = ap truth_read (h.is ∙ ap (λ ss. h.part ▸ ss) (at_end (ahead ts new.place) e)) ∙ ap (λ o. with o (λ a. Some (Truth a))) h.read;
-  notes = notes_one any is_term_number atom_fits atom_near Truth old new v h.written h.notes refl refl;
-}
+truth_is : (ss : Sexps) → truth_read ss ≡ with (one_in ss) (λ x. Some (Truth x))
+truth_is end = refl
+truth_is (x ▸ end) = refl
+truth_is (x ▸ y ▸ ss) = refl
 
-pub fills_same : (ts : List Token) (old mid new : Progress) (v w : ℕ) → (h : Takes ts number any is_term_number old v mid) → (k : Takes ts number any is_term_number mid w new) → is_end (ahead ts new.place) ≡ true
-    → Fills ts same_read atom_fits atom_near old (Same v w) new
-fills_same ts old mid new v w h k e = record {
-  written = Same h.written k.written;
-  read =
-      ap same_read (h.is ∙ ap (λ ss. h.part ▸ ss) (k.is ∙ ap (λ ss. k.part ▸ ss) (at_end (ahead ts new.place) e)))
-      ∙ ap (λ o. with o (λ a. with (number k.part) (λ b. Some (Same a b)))) h.read ∙ ap (λ o. with o (λ b. Some (Same h.written b))) k.read;
-  notes = notes_two any is_term_number any is_term_number atom_fits atom_near Same old mid new v h.written w k.written h.notes k.notes refl refl;
-}
+same_is : (ss : Sexps) → same_read ss ≡ with (two_in ss) (λ x. Some (Same x.0 x.1))
+same_is end = refl
+same_is (x ▸ end) = refl
+same_is (x ▸ y ▸ end) = go (number x) (number y)
+  where
+    go : (o p : Option ℕ) → with o (λ a. with p (λ b. Some (Same a b))) ≡ with (with o (λ a. with p (λ b. Some (pair a b)))) (λ q. Some (Same q.0 q.1))
+    go None p = refl
+    go (Some a) None = refl
+    go (Some a) (Some b) = refl
+same_is (x ▸ y ▸ z ▸ ss) = refl
+
+pub reads_truth : (ts : List Token) (old new : Progress) (v : ℕ) (o : Option Atom) → Takes ts number any is_term_number old v new → o ≡ alone (ahead ts new.place) (Truth v) → ReadsRest ts truth_read atom_fits atom_near old new o
+reads_truth ts old new v o = reads_one ts atom_fits atom_near truth_read is_term_number Truth old new v o truth_is (λ x. refl) (λ x. refl)
+
+pub reads_same : (ts : List Token) (old mid new : Progress) (v w : ℕ) (o : Option Atom) → Takes ts number any is_term_number old v mid → Takes ts number any is_term_number mid w new
+    → o ≡ alone (ahead ts new.place) (Same v w) → ReadsRest ts same_read atom_fits atom_near old new o
+reads_same ts old mid new v w o = reads_two ts atom_fits atom_near same_read is_term_number is_term_number Same old mid new v w o same_is (λ x. refl) (λ x. refl)
 
 -- ---- bounds
 

@@ -156,25 +156,24 @@ drop_digits ds zero h = h
 drop_digits [] (suc i) h = h
 drop_digits (d ∷ ds) (suc i) h = drop_digits ds i (λ k. h (suc k))
 
+-- what is 24 ahead stays ahead
+stays_ahead : (count : ℕ) (ds es : List ℕ) (i x y : ℕ) → length ds ≤ count → length es ≤ count → ((k : ℕ) → get_or es k 0 < 256) → y + 24 ≤ x
+    → value_from y (drop (i + 1) (padded count es)) < value_from x (drop (i + 1) (padded count ds))
+stays_ahead count ds es i x y h k d w =
+    let a = length_padded count ds h in
+    let b = length_padded count es k in
+    far (drop (i + 1) (padded count ds)) (drop (i + 1) (padded count es)) x y (length_drop (padded count ds) (i + 1) count a ∙ sym (length_drop (padded count es) (i + 1) count b))
+    (drop_digits (padded count es) (i + 1) (padded_digits count es d)) w
+
 pub left_wins : (count : ℕ) (ls rs : List ℕ) (i l r : ℕ) (lead next : Lead) → length ls ≤ count → length rs ≤ count → i < count → Compares count ls rs i lead → l ≡ get_or (padded count ls) i 0 → r ≡ get_or (padded count rs) i 0
     → Leads (10 * lead.left + l) (10 * lead.right + r) next → ((k : ℕ) → get_or rs k 0 < 256) → 24 ≤ next.left → Greater ≡ nat_cmp (decimal ls) (decimal rs)
 left_wins count ls rs i l r lead next h k lt c e f g d w =
-    let a = length_padded count ls h in
-    let b = length_padded count rs k in
-    let more =
-    far (drop (i + 1) (padded count ls)) (drop (i + 1) (padded count rs)) next.left next.right
-    (length_drop (padded count ls) (i + 1) count a ∙ sym (length_drop (padded count rs) (i + 1) count b)) (drop_digits (padded count rs) (i + 1) (padded_digits count rs d)) (omega (arith, g.left_is, g.right_is, w)) in
-    nat_cmp_is _ _ Greater more ∙ sym (after_digits count ls rs i l r lead next h k lt c e f g)
+    nat_cmp_is _ _ Greater (stays_ahead count ls rs i next.left next.right h k d (omega (arith, g.left_is, g.right_is, w))) ∙ sym (after_digits count ls rs i l r lead next h k lt c e f g)
 
 pub right_wins : (count : ℕ) (ls rs : List ℕ) (i l r : ℕ) (lead next : Lead) → length ls ≤ count → length rs ≤ count → i < count → Compares count ls rs i lead → l ≡ get_or (padded count ls) i 0
     → r ≡ get_or (padded count rs) i 0 → Leads (10 * lead.left + l) (10 * lead.right + r) next → ((k : ℕ) → get_or ls k 0 < 256) → 24 ≤ next.right → Less ≡ nat_cmp (decimal ls) (decimal rs)
 right_wins count ls rs i l r lead next h k lt c e f g d w =
-    let a = length_padded count ls h in
-    let b = length_padded count rs k in
-    let more =
-    far (drop (i + 1) (padded count rs)) (drop (i + 1) (padded count ls)) next.right next.left
-    (length_drop (padded count rs) (i + 1) count b ∙ sym (length_drop (padded count ls) (i + 1) count a)) (drop_digits (padded count ls) (i + 1) (padded_digits count ls d)) (omega (arith, g.left_is, g.right_is, w)) in
-    nat_cmp_is _ _ Less more ∙ sym (after_digits count ls rs i l r lead next h k lt c e f g)
+    nat_cmp_is _ _ Less (stays_ahead count rs ls i next.right next.left k h d (omega (arith, g.left_is, g.right_is, w))) ∙ sym (after_digits count ls rs i l r lead next h k lt c e f g)
 
 pub compares_last : (count : ℕ) (ls rs : List ℕ) (i : ℕ) (lead : Lead) → length ls ≤ count → length rs ≤ count → count ≤ i → Compares count ls rs i lead → nat_cmp lead.left lead.right ≡ nat_cmp (decimal ls) (decimal rs)
 compares_last count ls rs i lead h k l c =

@@ -1,12 +1,12 @@
 -- How what is read of parts makes what is read of the whole.
-use Rattle.std.proofs.Common.{◌≡◌, ℕ, ◌+◌, ◌<◌, ◌≤◌, List, [], ◌∷◌, ◌++◌, ap, sym, ◌∙◌, refl, length, arith, Bool, true, ◌&&◌, Option, Some, None, append_assoc, append-nil, subst}
+use Rattle.std.proofs.Common.{◌≡◌, ℕ, ◌+◌, ◌<◌, ◌≤◌, List, [], ◌∷◌, ◌++◌, ap, sym, ◌∙◌, refl, length, arith, Bool, true, false, ◌&&◌, Option, Some, None, append_assoc, append-nil, subst}
 use Rattle.smt_meaning.specs.declared.tokens.Token.{Token}
 use Rattle.smt_meaning.specs.Sexp.{Sexp, Sexps, group, end, ◌▸◌}
 use Rattle.smt_meaning.specs.Command.{each, cons_some}
 use Rattle.proof_meaning.specs.Reading.{with}
 use Rattle.look_ahead.specs.Ahead.{ahead, IsList}
 use Rattle.proof_read.specs.declared.read_parts.Progress.{Progress}
-use Rattle.proof_read.specs.ReadParts.{Notes, Takes, Fills, every, stepped, first_by, is_end}
+use Rattle.proof_read.specs.ReadParts.{Notes, Takes, Fills, ReadsRest, every, stepped, first_by, is_end, alone}
 use Rattle.proof_read.proofs.ReadLemmas.{notes_moved, notes_two, and_true, and_and}
 
 pub with_none : {A B : Type 0} (o : Option A) (n : Option B) → n ≡ None → with o (λ (a : A). n) ≡ None
@@ -16,6 +16,15 @@ with_none {A = A} {B = B} (Some a) n e = e
 pub at_end : (ss : Sexps) → is_end ss ≡ true → ss ≡ end
 at_end end h = refl
 at_end (x ▸ ss) h = absurd (cc)
+
+-- what is read where nothing is left is all; where something is, it is none
+pub reads_alone : {A : Type 0} (ts : List Token) (d : Sexps → Option A) (fits near : A → Bool) (old new : Progress) (v : A) (o : Option A) → o ≡ alone (ahead ts new.place) v
+    → (is_end (ahead ts new.place) ≡ true → Fills ts d fits near old v new) → (is_end (ahead ts new.place) ≡ false → d (ahead ts old.place) ≡ None) → ReadsRest ts d fits near old new o
+reads_alone {A = A} ts d fits near old new v o = go (ahead ts new.place)
+  where
+    go : (ss : Sexps) → o ≡ alone ss v → (is_end ss ≡ true → Fills ts d fits near old v new) → (is_end ss ≡ false → d (ahead ts old.place) ≡ None) → ReadsRest ts d fits near old new o
+    go end e k m = subst (λ x. ReadsRest ts d fits near old new x) (sym e) (k refl)
+    go (y ▸ ss) e k m = subst (λ x. ReadsRest ts d fits near old new x) (sym e) (m refl)
 
 -- ---- lists
 

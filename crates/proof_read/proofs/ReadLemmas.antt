@@ -1,25 +1,8 @@
--- What stands at a place.
-use Rattle.std.proofs.Common.{◌≡◌, ℕ, ◌+◌, List, [], ◌∷◌, ap, sym, ◌∙◌, refl, drop, Bool, true, false, ◌&&◌}
-use Rattle.smt_meaning.specs.declared.tokens.Token.{Token}
-use Rattle.smt_meaning.specs.declared.tokens.TokenView.{TokenView}
-use Rattle.smt_meaning.specs.declared.tokens.TokenView.TheVariants.{Enter as EnterSeen, Leave as LeaveSeen}
-use Rattle.smt_meaning.specs.Sexp.{Sexps, word, ◌▸◌, before, open_lists_of}
-use Rattle.smt_meaning.specs.Seen.{seen}
-use Rattle.smt_laws.specs.Walk.{first_list}
-use Rattle.look_ahead.specs.Ahead.{ahead, IsInside}
+-- What is noted of what is read.
+use Rattle.std.proofs.Common.{◌≡◌, ap, sym, ◌∙◌, refl, Bool, true, false, ◌&&◌}
+use Rattle.smt_laws.proofs.Both.{and_left}
 use Rattle.proof_read.specs.declared.read_parts.Progress.{Progress}
 use Rattle.proof_read.specs.ReadParts.{Notes}
-
-word_before : (v : TokenView) (lists : List Sexps) (inner : Sexps) (outer : List Sexps) → (v ≡ EnterSeen → ⊥) → (v ≡ LeaveSeen → ⊥) → lists ≡ inner ∷ outer
-    → first_list (before (seen v) lists) ≡ word (seen v) ▸ first_list lists
-word_before EnterSeen lists inner outer h k e = absurd (h refl)
-word_before LeaveSeen lists inner outer h k e = absurd (k refl)
-word_before v [] inner outer h k e = absurd (cc)
-word_before _ (l ∷ lists) inner outer h k e = refl
-
-pub word_here : (ts : List Token) (i : ℕ) (v : TokenView) → drop i ts ≡ seen v ∷ drop (i + 1) ts → IsInside ts (i + 1) → (v ≡ EnterSeen → ⊥) → (v ≡ LeaveSeen → ⊥)
-    → ahead ts i ≡ word (seen v) ▸ ahead ts (i + 1)
-word_here ts i v e w h k = ap (λ x. first_list (open_lists_of x)) e ∙ word_before v (open_lists_of (drop (i + 1) ts)) w.0 w.1 h k w.2
 
 -- ---- flags
 
@@ -34,10 +17,6 @@ and_false false = refl
 pub and_and : (a b c : Bool) → ((a && b) && c) ≡ (a && (b && c))
 and_and true b c = refl
 and_and false b c = refl
-
-pub and_left : (a b : Bool) → (a && b) ≡ true → a ≡ true
-and_left true b h = refl
-and_left false b h = h
 
 -- the value is noted as it is
 pub notes_exact : {A : Type 0} (fits near : A → Bool) (old new : Progress) (v w : A) → new.fits ≡ old.fits → new.near ≡ old.near → fits w ≡ true → near w ≡ true → v ≡ w

@@ -1,6 +1,7 @@
 -- Terms that are read.
-use Rattle.std.proofs.Common.{◌≡◌, ℕ, List, [], ◌∷◌, ap, sym, ◌∙◌, refl, Bool, true, false, pos, ◌&&◌, Option, Some, None}
+use Rattle.std.proofs.Common.{◌≡◌, ℕ, List, [], ◌∷◌, ap, sym, subst, ◌∙◌, refl, Bool, true, false, pos, ◌&&◌, Option, Some, None}
 use Rattle.std.specs.Prelude.{codes, if◌then◌else◌}
+use Rattle.std.specs.Borrow.{Bor}
 use Rattle.smt_meaning.specs.declared.tokens.Word.{Word}
 use Rattle.smt_meaning.specs.declared.tokens.Word.TheVariants.{Underscore}
 use Rattle.smt_meaning.specs.declared.tokens.Token.{Token}
@@ -16,8 +17,8 @@ use Rattle.proof_meaning.specs.Reading.{with, number, head_read, numeral_read}
 use Rattle.look_ahead.specs.Ahead.{ahead}
 use Rattle.proof_read.specs.declared.read_parts.Progress.{Progress}
 use Rattle.proof_read.specs.Reads.{is_term_number, numbers_near}
-use Rattle.proof_read.specs.ReadParts.{Passes, Takes, Fills, ReadsRest, any, every, stepped, is_end}
-use Rattle.proof_read.specs.ReadNodes.{node_near, numeral_only, application, divisor_head, divisibility}
+use Rattle.proof_read.specs.ReadParts.{Passes, Takes, Fills, ReadsRest, any, every, stepped, is_end, alone}
+use Rattle.proof_read.specs.ReadNodes.{node_near, numeral_only, application, divisor_head, divisibility, HasDivisor, IsDivided, HasDivided}
 use Rattle.proof_read.proofs.ReadLemmas.{notes_exact, notes_two, notes_moved, and_true}
 use Rattle.proof_read.proofs.ReadForms.{at_end}
 
@@ -77,16 +78,17 @@ divisibility_is x y k i e f =
     ap (λ o. with o (λ (h : Head). with (number y) (λ j. let m : Node = record { head = h; arguments = j ∷ [] } in Some m))) e
     ∙ ap (λ o. with o (λ j. let m : Node = record { head = k; arguments = j ∷ [] } in Some m)) f
 
-pub fills_divisibility : (ts : List Token) (old mid new : Progress) (k : Head) (i : ℕ) (n : Node) → Takes ts divisor_head any any old k mid → Takes ts number any is_term_number mid i new → is_end (ahead ts new.place) ≡ true
-    → n ≡ record { head = k; arguments = i ∷ [] } → Fills ts divisibility any node_near old n new
-fills_divisibility ts old mid new k i n h g e s =
-    let shape : ahead ts old.place ≡ h.part ▸ g.part ▸ end = h.is ∙ ap (λ ss. h.part ▸ ss) (g.is ∙ ap (λ ss. g.part ▸ ss) (at_end (ahead ts new.place) e)) in
+pub fills_divisibility : (ts : List Token) (old new : Progress) (k : Head) (i : ℕ) (n : Node) → IsDivided ts old new k i → n ≡ record { head = k; arguments = i ∷ [] } → Fills ts divisibility any node_near old n new
+fills_divisibility ts old new k i n d s =
+    let h = d.head in
+    let g = d.argument in
+    let shape : ahead ts old.place ≡ h.part ▸ g.part ▸ end = h.is ∙ ap (λ ss. h.part ▸ ss) (g.is ∙ ap (λ ss. g.part ▸ ss) d.last) in
     rw s
     (record {
       written = record { head = h.written; arguments = g.written ∷ [] };
       read = ap divisibility shape ∙ divisibility_is h.part g.part h.written g.written h.read g.read;
       notes =
-          notes_two any any any is_term_number any node_near (λ (x : Head) j. record { head = x; arguments = j ∷ [] }) old mid new k h.written i g.written h.notes g.notes refl (sym (and_true (is_term_number g.written)));
+          notes_two any any any is_term_number any node_near (λ (x : Head) j. record { head = x; arguments = j ∷ [] }) old d.middle new k h.written i g.written h.notes g.notes refl (sym (and_true (is_term_number g.written)));
     })
 
 divisor_shape : (ts : List Token) (old a b c : Progress) (w : Word) (n cs : List ℕ) → Passes ts old a (Reserved w) → Passes ts a b (Symbol n) → Passes ts b c (Numeral cs)
@@ -102,11 +104,11 @@ more_is_none Underscore n cs (x ▸ ss) h = refl
 more_is_none w n cs (x ▸ ss) h = refl
 
 -- something follows the number
-pub no_divisor : (ts : List Token) (old a b c : Progress) (w : Word) (n cs : List ℕ) → Passes ts old a (Reserved w) → Passes ts a b (Symbol n) → Passes ts b c (Numeral cs) → is_end (ahead ts c.place) ≡ false
+no_divisor : (ts : List Token) (old a b c : Progress) (w : Word) (n cs : List ℕ) → Passes ts old a (Reserved w) → Passes ts a b (Symbol n) → Passes ts b c (Numeral cs) → is_end (ahead ts c.place) ≡ false
     → head_number (ahead ts old.place) ≡ None
 no_divisor ts old a b c w n cs h k g e = ap head_number (divisor_shape ts old a b c w n cs h k g) ∙ more_is_none w n cs (ahead ts c.place) e
 
-pub has_divisor : (ts : List Token) (old a b c : Progress) (w : Word) (n cs : List ℕ) → Passes ts old a (Reserved w) → Passes ts a b (Symbol n) → Passes ts b c (Numeral cs) → is_end (ahead ts c.place) ≡ true
+has_divisor : (ts : List Token) (old a b c : Progress) (w : Word) (n cs : List ℕ) → Passes ts old a (Reserved w) → Passes ts a b (Symbol n) → Passes ts b c (Numeral cs) → is_end (ahead ts c.place) ≡ true
     → w ≡ Underscore → n ≡ codes "divisible" → (head_number (ahead ts old.place) ≡ Some (decimal cs)) × (c.fits ≡ old.fits) × (c.near ≡ old.near)
 has_divisor ts old a b c w n cs h k g e u d = (
   ap head_number (divisor_shape ts old a b c w n cs h k g) ∙ ap (λ ss. head_number (word (Reserved w) ▸ word (Symbol n) ▸ word (Numeral cs) ▸ ss)) (at_end (ahead ts c.place) e)
@@ -114,3 +116,22 @@ has_divisor ts old a b c w n cs h k g e u d = (
   ap (λ (p : Progress). p.fits) (g.stepped_is ∙ ap stepped (k.stepped_is ∙ ap stepped h.stepped_is)),
   ap (λ (p : Progress). p.near) (g.stepped_is ∙ ap stepped (k.stepped_is ∙ ap stepped h.stepped_is)),
 )
+
+pub divisor_alone : (ts : List Token) (old a b c : Progress) (w : Word) (n : List ℕ) (cs : Bor (List ℕ)) (o : Option (Bor (List ℕ))) → Passes ts old a (Reserved w) → Passes ts a b (Symbol n) → Passes ts b c (Numeral cs.now) → w ≡ Underscore
+    → n ≡ codes "divisible" → o ≡ alone (ahead ts c.place) cs → HasDivisor ts old c o
+divisor_alone ts old a b c w n cs o h k g u d = go (ahead ts c.place) refl
+  where
+    go : (ss : Sexps) → ahead ts c.place ≡ ss → o ≡ alone ss cs → HasDivisor ts old c o
+    go end e f = subst (HasDivisor ts old c) (sym f) (has_divisor ts old a b c w n cs.now h k g (ap is_end e) u d)
+    go (x ▸ ss) e f = subst (HasDivisor ts old c) (sym f) (no_divisor ts old a b c w n cs.now h k g (ap is_end e))
+
+more_divided : (x y : Sexp) (ss : Sexps) → is_end ss ≡ false → divisibility (x ▸ y ▸ ss) ≡ None
+more_divided x y end e = absurd (cc)
+more_divided x y (t ▸ ss) e = refl
+
+pub divided_alone : (ts : List Token) (old mid new : Progress) (k : Head) (i : ℕ) (o : Option (Head × ℕ)) → Takes ts divisor_head any any old k mid → Takes ts number any is_term_number mid i new → o ≡ alone (ahead ts new.place) (k, i) → HasDivided ts old new o
+divided_alone ts old mid new k i o h g = go (ahead ts new.place) refl
+  where
+    go : (ss : Sexps) → ahead ts new.place ≡ ss → o ≡ alone ss (k, i) → HasDivided ts old new o
+    go end e f = subst (HasDivided ts old new) (sym f) (record { middle = mid; head = h; argument = g; last = e })
+    go (x ▸ ss) e f = subst (HasDivided ts old new) (sym f) (ap divisibility (h.is ∙ ap (λ rest. h.part ▸ rest) g.is) ∙ more_divided h.part g.part (ahead ts new.place) (ap is_end e))

@@ -19,108 +19,49 @@ use Rattle.proof_read.specs.declared.read_names.StepName.TheVariants.{Assert, Fo
 use Rattle.proof_read.specs.declared.read_steps.Multiplier.{Multiplier}
 use Rattle.proof_read.specs.Written.{is_small, numbers_fit, literals_fit, weights_fit, atom_fits}
 use Rattle.proof_read.specs.Reads.{is_term_number, is_step_number, places_near, literals_near, weights_near, atom_near}
-use Rattle.proof_read.specs.ReadParts.{Takes, Fills, ReadsRest, Passes, any, every, stepped, first_by, is_end}
+use Rattle.proof_read.specs.ReadParts.{Takes, Fills, ReadsRest, IsNamedList, Passes, any, every, stepped, first_by, is_end, alone}
 use Rattle.proof_read.specs.ReadNames.{step_names, step_form}
 use Rattle.proof_read.specs.ReadAtoms.{literal_fits, literal_near}
-use Rattle.proof_read.specs.ReadSteps.{one_in, two_in, three_in, both, all_three, pair_named, pair_form, plain_form, quotient_in, multiplier_in, multiplier_fits, weighted_fits, weighted_near}
+use Rattle.proof_read.specs.ReadSteps.{one_in, two_in, three_in, two_first, TakesBoth, both, pair_named, pair_form, plain_form, quotient_in, multiplier_in, multiplier_fits, weighted_fits, weighted_near}
 use Rattle.proof_read.proofs.ReadLemmas.{notes_one, notes_two, notes_moved, and_true, and_and}
-use Rattle.proof_read.proofs.ReadForms.{at_end, with_none, into_list}
+use Rattle.proof_read.proofs.ReadForms.{at_end, reads_alone, with_none, into_list}
+use Rattle.proof_read.proofs.ReadPlaceForms.{pair, triple, reads_two}
 use Rattle.proof_read.proofs.ReadNamedForms.{step_named}
 
--- ---- numbers, and no more
-
-abbrev pair : ℕ → ℕ → ℕ × ℕ
-pair a b = (a, b)
-
-abbrev triple : ℕ → ℕ → ℕ → ℕ × ℕ × ℕ
-triple a b c = (a, b, c)
-
-pub fills_one : (ts : List Token) (near : ℕ → Bool) (old new : Progress) (v : ℕ) → (h : Takes ts number any near old v new) → is_end (ahead ts new.place) ≡ true → Fills ts one_in any near old v new
-fills_one ts near old new v h e = record {
-  written = h.written;
-  read = ap one_in (h.is ∙ ap (λ ss. h.part ▸ ss) (at_end (ahead ts new.place) e)) ∙ h.read;
-  notes = h.notes;
-}
-
-pub fills_two : (ts : List Token) (n1 n2 : ℕ → Bool) (old mid new : Progress) (v w : ℕ) → (h : Takes ts number any n1 old v mid) → (k : Takes ts number any n2 mid w new) → is_end (ahead ts new.place) ≡ true
-    → Fills ts two_in any (both n1 n2) old (v, w) new
-fills_two ts n1 n2 old mid new v w h k e = record {
-  written = (h.written, k.written);
-  read =
-      ap two_in (h.is ∙ ap (λ ss. h.part ▸ ss) (k.is ∙ ap (λ ss. k.part ▸ ss) (at_end (ahead ts new.place) e))) ∙ ap (λ o. with o (λ a. with (number k.part) (λ b. Some (pair a b)))) h.read
-      ∙ ap (λ o. with o (λ b. Some (pair h.written b))) k.read;
-  notes = notes_two any n1 any n2 any (both n1 n2) pair old mid new v h.written w k.written h.notes k.notes refl refl;
-}
-
-three_is : (x : Sexp) (ss : Sexps) → three_in (x ▸ ss) ≡ with (number x) (λ a. with (two_in ss) (λ p. Some (triple a p.0 p.1)))
-three_is x end = sym (with_none (number x) None refl)
-three_is x (y ▸ end) = sym (with_none (number x) None refl)
-three_is x (y ▸ z ▸ end) = go (number x) (number y) (number z)
-  where
-    go : (o p q : Option ℕ) → with o (λ a. with p (λ b. with q (λ c. Some (triple a b c)))) ≡ with o (λ a. with (with p (λ b. with q (λ c. Some (pair b c)))) (λ r. Some (triple a r.0 r.1)))
-    go None p q = refl
-    go (Some a) None q = refl
-    go (Some a) (Some b) None = refl
-    go (Some a) (Some b) (Some c) = refl
-three_is x (y ▸ z ▸ w ▸ ss) = sym (with_none (number x) None refl)
-
-pub fills_three : (ts : List Token) (n1 n2 n3 : ℕ → Bool) (old mid new : Progress) (v a b : ℕ) → (h : Takes ts number any n1 old v mid) → (k : Fills ts two_in any (both n2 n3) mid (a, b) new)
-    → Fills ts three_in any (all_three n1 n2 n3) old (v, a, b) new
-fills_three ts n1 n2 n3 old mid new v a b h k = record {
-  written = (h.written, k.written.0, k.written.1);
-  read =
-      ap three_in h.is ∙ three_is h.part (ahead ts mid.place) ∙ ap (λ o. with o (λ x. with (two_in (ahead ts mid.place)) (λ p. Some (triple x p.0 p.1)))) h.read
-      ∙ ap (λ o. with o (λ p. Some (triple h.written p.0 p.1))) k.read;
-  notes = notes_two any n1 any (both n2 n3) any (all_three n1 n2 n3) (λ x (p : ℕ × ℕ). triple x p.0 p.1) old mid new v h.written (a, b) k.written h.notes k.notes refl refl;
-}
-
--- what is made of numbers
-pub fills_made : {A : Type 0} (ts : List Token) (d : Sexps → Option A) (e : Sexps → Option Step) (near : A → Bool) (g : A → Step) (old new : Progress) (v : A) → ((ss : Sexps) → e ss ≡ with (d ss) (λ x. Some (g x)))
-    → ((x : A) → numbers_fit (g x) ≡ true) → ((x : A) → places_near (g x) ≡ near x) → Fills ts d any near old v new → Fills ts e numbers_fit places_near old (g v) new
-fills_made {A = A} ts d e near g old new v same fit nigh h = record {
-  written = g h.written;
-  read = same (ahead ts old.place) ∙ ap (λ o. with o (λ x. Some (g x))) h.read;
-  notes = notes_one any near numbers_fit places_near g old new v h.written h.notes (fit h.written) (nigh h.written);
-}
-
 -- a step of two terms by its name
-pub reads_pair : (ts : List Token) (name : StepName) (old new : Progress) (i j : ℕ) (o : Option Step) → o ≡ pair_named name i j → Fills ts two_in any (both is_term_number is_term_number) old (i, j) new
-    → ReadsRest ts (pair_form name) numbers_fit places_near old new o
-reads_pair ts Sym old new i j (Some s) e h = subst (λ x. Fills ts (pair_form Sym) numbers_fit places_near old x new) (let f : Rule.Sym i j ≡ s = cc in f)
-    (fills_made ts two_in (pair_form Sym) (both is_term_number is_term_number) (λ p. Rule.Sym p.0 p.1) old new (i, j) (λ ss. refl) (λ p. refl) (λ p. refl) h)
-reads_pair ts Cong old new i j (Some s) e h = subst (λ x. Fills ts (pair_form Cong) numbers_fit places_near old x new) (let f : Rule.Cong i j ≡ s = cc in f)
-    (fills_made ts two_in (pair_form Cong) (both is_term_number is_term_number) (λ p. Rule.Cong p.0 p.1) old new (i, j) (λ ss. refl) (λ p. refl) (λ p. refl) h)
-reads_pair ts Truth old new i j (Some s) e h = subst (λ x. Fills ts (pair_form Truth) numbers_fit places_near old x new) (let f : Rule.Truth i j ≡ s = cc in f)
-    (fills_made ts two_in (pair_form Truth) (both is_term_number is_term_number) (λ p. Rule.Truth p.0 p.1) old new (i, j) (λ ss. refl) (λ p. refl) (λ p. refl) h)
-reads_pair ts Both old new i j (Some s) e h = subst (λ x. Fills ts (pair_form Both) numbers_fit places_near old x new) (let f : Rule.Both i j ≡ s = cc in f)
-    (fills_made ts two_in (pair_form Both) (both is_term_number is_term_number) (λ p. Rule.Both p.0 p.1) old new (i, j) (λ ss. refl) (λ p. refl) (λ p. refl) h)
-reads_pair ts Neither old new i j (Some s) e h = subst (λ x. Fills ts (pair_form Neither) numbers_fit places_near old x new) (let f : Rule.Neither i j ≡ s = cc in f)
-    (fills_made ts two_in (pair_form Neither) (both is_term_number is_term_number) (λ p. Rule.Neither p.0 p.1) old new (i, j) (λ ss. refl) (λ p. refl) (λ p. refl) h)
-reads_pair ts Sym old new i j None e h = absurd (cc)
-reads_pair ts Cong old new i j None e h = absurd (cc)
-reads_pair ts Truth old new i j None e h = absurd (cc)
-reads_pair ts Both old new i j None e h = absurd (cc)
-reads_pair ts Neither old new i j None e h = absurd (cc)
-reads_pair ts Assert old new i j None e h = with_none (two_in (ahead ts old.place)) None refl
-reads_pair ts Assert old new i j (Some s) e h = absurd (cc)
-reads_pair ts Form old new i j None e h = with_none (two_in (ahead ts old.place)) None refl
-reads_pair ts Form old new i j (Some s) e h = absurd (cc)
-reads_pair ts Pick old new i j None e h = with_none (two_in (ahead ts old.place)) None refl
-reads_pair ts Pick old new i j (Some s) e h = absurd (cc)
-reads_pair ts Euclid old new i j None e h = with_none (two_in (ahead ts old.place)) None refl
-reads_pair ts Euclid old new i j (Some s) e h = absurd (cc)
-reads_pair ts Refl old new i j None e h = with_none (two_in (ahead ts old.place)) None refl
-reads_pair ts Refl old new i j (Some s) e h = absurd (cc)
-reads_pair ts Trans old new i j None e h = with_none (two_in (ahead ts old.place)) None refl
-reads_pair ts Trans old new i j (Some s) e h = absurd (cc)
-reads_pair ts Link old new i j None e h = with_none (two_in (ahead ts old.place)) None refl
-reads_pair ts Link old new i j (Some s) e h = absurd (cc)
-reads_pair ts Round old new i j None e h = with_none (two_in (ahead ts old.place)) None refl
-reads_pair ts Round old new i j (Some s) e h = absurd (cc)
-reads_pair ts Farkas old new i j None e h = with_none (two_in (ahead ts old.place)) None refl
-reads_pair ts Farkas old new i j (Some s) e h = absurd (cc)
-reads_pair ts Res old new i j None e h = with_none (two_in (ahead ts old.place)) None refl
-reads_pair ts Res old new i j (Some s) e h = absurd (cc)
+pub reads_pair : (ts : List Token) (name : StepName) (old mid new : Progress) (i j : ℕ) (s : Step) (o : Option Step) → Some s ≡ pair_named name i j → Takes ts number any is_term_number old i mid → Takes ts number any is_term_number mid j new
+    → o ≡ alone (ahead ts new.place) s → ReadsRest ts (pair_form name) numbers_fit places_near old new o
+reads_pair ts name old mid new i j s o e h k is = go name e
+  where
+    two : (n : StepName) (g : ℕ → ℕ → Step) → s ≡ g i j → ((ss : Sexps) → pair_form n ss ≡ with (two_in ss) (λ x. Some (g x.0 x.1))) → ((x : ℕ × ℕ) → numbers_fit (g x.0 x.1) ≡ true)
+        → ((x : ℕ × ℕ) → places_near (g x.0 x.1) ≡ both is_term_number is_term_number x) → ReadsRest ts (pair_form n) numbers_fit places_near old new o
+    two n g f same fit nigh = reads_two ts numbers_fit places_near (pair_form n) is_term_number is_term_number g old mid new i j o same fit nigh h k (is ∙ ap (alone (ahead ts new.place)) f)
+
+    go : (n : StepName) → Some s ≡ pair_named n i j → ReadsRest ts (pair_form n) numbers_fit places_near old new o
+    go Sym f = two Sym Rule.Sym (let q : s ≡ Rule.Sym i j = cc in q) (λ ss. refl) (λ x. refl) (λ x. refl)
+    go Cong f = two Cong Rule.Cong (let q : s ≡ Rule.Cong i j = cc in q) (λ ss. refl) (λ x. refl) (λ x. refl)
+    go Truth f = two Truth Rule.Truth (let q : s ≡ Rule.Truth i j = cc in q) (λ ss. refl) (λ x. refl) (λ x. refl)
+    go Both f = two Both Rule.Both (let q : s ≡ Rule.Both i j = cc in q) (λ ss. refl) (λ x. refl) (λ x. refl)
+    go Neither f = two Neither Rule.Neither (let q : s ≡ Rule.Neither i j = cc in q) (λ ss. refl) (λ x. refl) (λ x. refl)
+    go _ f = absurd (cc)
+
+-- no other name has a step of two terms
+pub no_pair : (name : StepName) (i j : ℕ) (ss : Sexps) → None ≡ pair_named name i j → pair_form name ss ≡ None
+no_pair Sym i j ss e = absurd (cc)
+no_pair Cong i j ss e = absurd (cc)
+no_pair Truth i j ss e = absurd (cc)
+no_pair Both i j ss e = absurd (cc)
+no_pair Neither i j ss e = absurd (cc)
+no_pair Assert i j ss e = with_none (two_in ss) None refl
+no_pair Form i j ss e = with_none (two_in ss) None refl
+no_pair Pick i j ss e = with_none (two_in ss) None refl
+no_pair Euclid i j ss e = with_none (two_in ss) None refl
+no_pair Refl i j ss e = with_none (two_in ss) None refl
+no_pair Trans i j ss e = with_none (two_in ss) None refl
+no_pair Link i j ss e = with_none (two_in ss) None refl
+no_pair Round i j ss e = with_none (two_in ss) None refl
+no_pair Farkas i j ss e = with_none (two_in ss) None refl
+no_pair Res i j ss e = with_none (two_in ss) None refl
 
 -- other names are those of pairs
 other_plain : (n : StepName) → (n ≡ Assert → ⊥) → (n ≡ Pick → ⊥) → (n ≡ Euclid → ⊥) → (n ≡ Refl → ⊥) → (n ≡ Trans → ⊥) → (n ≡ Link → ⊥) → plain_form n ≡ pair_form n
@@ -199,7 +140,7 @@ fills_form ts old mid new v ls h k = record {
   notes = notes_two any is_term_number literals_fit literals_near numbers_fit places_near Rule.Form old mid new v h.written ls k.written h.notes k.notes refl refl;
 }
 
-pub fills_round : (ts : List Token) (old mid new : Progress) (l : Literal) (g : ℕ) → (h : Takes ts literal_read literal_fits literal_near old l mid) → (k : Takes ts number is_small any mid g new)
+fills_round : (ts : List Token) (old mid new : Progress) (l : Literal) (g : ℕ) → (h : Takes ts literal_read literal_fits literal_near old l mid) → (k : Takes ts number is_small any mid g new)
     → is_end (ahead ts new.place) ≡ true → Fills ts round_read numbers_fit places_near old (Rule.Round l g) new
 fills_round ts old mid new l g h k e = record {
   written = Rule.Round h.written k.written;
@@ -209,7 +150,7 @@ fills_round ts old mid new l g h k e = record {
   notes = notes_two literal_fits literal_near is_small any numbers_fit places_near Rule.Round old mid new l h.written g k.written h.notes k.notes refl (and_true (literal_near h.written));
 }
 
-pub fills_res : (ts : List Token) (old mid next new : Progress) (p q : ℕ) (l : Literal) → (h : Takes ts number any is_step_number old p mid) → (k : Takes ts number any is_step_number mid q next)
+fills_res : (ts : List Token) (old mid next new : Progress) (p q : ℕ) (l : Literal) → (h : Takes ts number any is_step_number old p mid) → (k : Takes ts number any is_step_number mid q next)
     → (m : Takes ts literal_read literal_fits literal_near next l new) → is_end (ahead ts new.place) ≡ true → Fills ts res_read numbers_fit places_near old (Rule.Res p q l) new
 fills_res ts old mid next new p q l h k m e = record {
   written = Rule.Res h.written k.written m.written;
@@ -227,18 +168,40 @@ more_res : (x y z : Sexp) (ss : Sexps) → is_end ss ≡ false → res_read (x �
 more_res x y z end e = absurd (cc)
 more_res x y z (t ▸ ss) e = refl
 
-pub unread_res : (ts : List Token) (old mid next new : Progress) (p q : ℕ) (l : Literal) → (h : Takes ts number any is_step_number old p mid) → (k : Takes ts number any is_step_number mid q next)
+unread_res : (ts : List Token) (old mid next new : Progress) (p q : ℕ) (l : Literal) → (h : Takes ts number any is_step_number old p mid) → (k : Takes ts number any is_step_number mid q next)
     → (m : Takes ts literal_read literal_fits literal_near next l new) → is_end (ahead ts new.place) ≡ false → res_read (ahead ts old.place) ≡ None
 unread_res ts old mid next new p q l h k m e =
     ap res_read (h.is ∙ ap (λ ss. h.part ▸ ss) (k.is ∙ ap (λ ss. k.part ▸ ss) m.is)) ∙ more_res h.part k.part m.part (ahead ts new.place) e
+
+pub reads_res : (ts : List Token) (old next new : Progress) (p q : ℕ) (l : Literal) (o : Option Step) → (h : TakesBoth ts old p q next) → (m : Takes ts literal_read literal_fits literal_near next l new)
+    → o ≡ alone (ahead ts new.place) (Rule.Res p q l) → ReadsRest ts res_read numbers_fit places_near old new o
+reads_res ts old next new p q l o h m is =
+    reads_alone ts res_read numbers_fit places_near old new (Rule.Res p q l) o is (λ e. fills_res ts old h.middle next new p q l h.first h.second m e) (λ e. unread_res ts old h.middle next new p q l h.first h.second m e)
+
+pub none_of_two : (ss : Sexps) → two_first ss ≡ None → res_read ss ≡ None
+none_of_two end e = refl
+none_of_two (x ▸ end) e = refl
+none_of_two (x ▸ y ▸ end) e = refl
+none_of_two (x ▸ y ▸ l ▸ end) e = go (number x) (number y) e
+  where
+    go : (a b : Option ℕ) → with a (λ i. with b (λ j. Some (pair i j))) ≡ None → with a (λ i. with b (λ j. with (literal_read l) (λ m. Some (Rule.Res i j m)))) ≡ None
+    go None b f = refl
+    go (Some i) None f = refl
+    go (Some i) (Some j) f = absurd (cc)
+none_of_two (x ▸ y ▸ l ▸ z ▸ ss) e = refl
 
 more_round : (x y : Sexp) (ss : Sexps) → is_end ss ≡ false → round_read (x ▸ y ▸ ss) ≡ None
 more_round x y end e = absurd (cc)
 more_round x y (t ▸ ss) e = refl
 
-pub unread_round : (ts : List Token) (old mid new : Progress) (l : Literal) (g : ℕ) → (h : Takes ts literal_read literal_fits literal_near old l mid) → (k : Takes ts number is_small any mid g new)
+unread_round : (ts : List Token) (old mid new : Progress) (l : Literal) (g : ℕ) → (h : Takes ts literal_read literal_fits literal_near old l mid) → (k : Takes ts number is_small any mid g new)
     → is_end (ahead ts new.place) ≡ false → round_read (ahead ts old.place) ≡ None
 unread_round ts old mid new l g h k e = ap round_read (h.is ∙ ap (λ ss. h.part ▸ ss) k.is) ∙ more_round h.part k.part (ahead ts new.place) e
+
+pub reads_round : (ts : List Token) (old mid new : Progress) (l : Literal) (g : ℕ) (o : Option Step) → Takes ts literal_read literal_fits literal_near old l mid → Takes ts number is_small any mid g new
+    → o ≡ alone (ahead ts new.place) (Rule.Round l g) → ReadsRest ts round_read numbers_fit places_near old new o
+reads_round ts old mid new l g o h k is =
+    reads_alone ts round_read numbers_fit places_near old new (Rule.Round l g) o is (λ e. fills_round ts old mid new l g h k e) (λ e. unread_round ts old mid new l g h k e)
 
 pub fills_farkas : (ts : List Token) (old new : Progress) (ws : List Weighted) → (h : Fills ts (each weighted_read) weights_fit weights_near old ws new) → Fills ts farkas_read numbers_fit places_near old (Rule.Farkas ws) new
 fills_farkas ts old new ws h = record {
@@ -316,7 +279,7 @@ pub takes_quotient : (ts : List Token) (old mid last : Progress) (close : ℕ) (
     → Takes ts multiplier_in multiplier_fits any old m (record last { place = close + 1 })
 takes_quotient ts old mid last close m l s h = into_list ts multiplier_in multiplier_fits any old mid last close m h.written l s h.read h.notes
 
-pub fills_quotient : (ts : List Token) (old mid next new : Progress) (n : List ℕ) (p q : ℕ) → Passes ts old mid (Symbol n) → bytes_eq n (codes "/") ≡ true → (h : Takes ts number is_small any mid p next)
+fills_quotient : (ts : List Token) (old mid next new : Progress) (n : List ℕ) (p q : ℕ) → Passes ts old mid (Symbol n) → bytes_eq n (codes "/") ≡ true → (h : Takes ts number is_small any mid p next)
     → (k : Takes ts number is_small any next q new) → is_end (ahead ts new.place) ≡ true → Fills ts quotient_in multiplier_fits any old (record { numerator = p; denominator = q }) new
 fills_quotient ts old mid next new n p q s b h k e = record {
   written = record { numerator = h.written; denominator = k.written };
@@ -334,27 +297,35 @@ fills_quotient ts old mid next new n p q s b h k e = record {
       (notes_two is_small any is_small any multiplier_fits any (λ x y. let m : Multiplier = record { numerator = x; denominator = y } in m) mid next new p h.written q k.written h.notes k.notes refl refl);
 }
 
+more_quotient : (n : List ℕ) (x y : Sexp) (ss : Sexps) → is_end ss ≡ false → quotient_in (word (Symbol n) ▸ x ▸ y ▸ ss) ≡ None
+more_quotient n x y end e = absurd (cc)
+more_quotient n x y (t ▸ ss) e = refl
+
+pub reads_quotient : (ts : List Token) (old mid next new : Progress) (n : List ℕ) (p q : ℕ) (o : Option Multiplier) → Passes ts old mid (Symbol n) → bytes_eq n (codes "/") ≡ true → Takes ts number is_small any mid p next
+    → Takes ts number is_small any next q new → o ≡ alone (ahead ts new.place) (record { numerator = p; denominator = q }) → ReadsRest ts quotient_in multiplier_fits any old new o
+reads_quotient ts old mid next new n p q o s b h k is =
+    reads_alone ts quotient_in multiplier_fits any old new (record { numerator = p; denominator = q }) o is (λ e. fills_quotient ts old mid next new n p q s b h k e)
+    (λ e. ap quotient_in (s.is ∙ ap (λ ss. word (Symbol n) ▸ ss) (ap (λ (x : Progress). ahead ts x.place) (sym s.stepped_is) ∙ h.is ∙ ap (λ ss. h.part ▸ ss) k.is)) ∙ more_quotient n h.part k.part (ahead ts new.place) e)
+
 -- a number is read where no list is entered
 pub takes_whole_after : (ts : List Token) (old mid new : Progress) (n : ℕ) → mid ≡ old → Takes ts number is_small any mid n new → Takes ts multiplier_in multiplier_fits any old (record { numerator = n; denominator = 1 }) new
 takes_whole_after ts old mid new n e h = subst (λ p. Takes ts multiplier_in multiplier_fits any p (record { numerator = n; denominator = 1 }) new) e (takes_whole ts mid new n h)
 
 -- ---- a step by its name
 
-step_at : (ts : List Token) (old mid next : Progress) (close : ℕ) (n : List ℕ) (k : StepName) → IsList ts old.place close → mid ≡ stepped old → Passes ts mid next (Symbol n) → Some k ≡ look_up n step_names
-    → first_by step_read (ahead ts old.place) ≡ step_form k (ahead ts next.place)
-step_at ts old mid next close n k l s p e =
-    ap (first_by step_read) l.is ∙ ap (λ (q : Progress). step_read (group (ahead ts q.place))) (sym s) ∙ ap (λ ss. step_read (group ss)) p.is ∙ sym (step_named n k (ahead ts (mid.place + 1)) e)
-    ∙ ap (λ (q : Progress). step_form k (ahead ts q.place)) (sym p.stepped_is)
+step_at : (ts : List Token) (old next : Progress) (close : ℕ) (n : List ℕ) (k : StepName) (h : IsNamedList ts old next close n) → Some k ≡ look_up n step_names → first_by step_read (ahead ts old.place) ≡ step_form k (ahead ts next.place)
+step_at ts old next close n k h e =
+    ap (first_by step_read) h.list.is ∙ ap (λ (q : Progress). step_read (group (ahead ts q.place))) (sym h.inside) ∙ ap (λ ss. step_read (group ss)) h.named.is
+    ∙ sym (step_named n k (ahead ts (h.middle.place + 1)) e) ∙ ap (λ (q : Progress). step_form k (ahead ts q.place)) (sym h.named.stepped_is)
 
-pub reads_step : {E : Type 0} (ts : List Token) (old mid next new : Progress) (close : ℕ) (n : List ℕ) (k : StepName) (r : Result (Option Step) E) → IsList ts old.place close → mid ≡ stepped old
-    → Passes ts mid next (Symbol n) → Some k ≡ look_up n step_names → IfOk r (ReadsRest ts (step_form k) numbers_fit places_near next new)
-    → IfOk r (ReadsRest ts (first_by step_read) numbers_fit places_near old new)
-reads_step {E = E} ts old mid next new close n k (Err x) l s p e h = tt
-reads_step {E = E} ts old mid next new close n k (Ok None) l s p e h = step_at ts old mid next close n k l s p e ∙ h
-reads_step {E = E} ts old mid next new close n k (Ok (Some v)) l s p e h = record {
+pub reads_step : {E : Type 0} (ts : List Token) (old next new : Progress) (close : ℕ) (n : List ℕ) (k : StepName) (r : Result (Option Step) E) → IsNamedList ts old next close n → Some k ≡ look_up n step_names
+    → IfOk r (ReadsRest ts (step_form k) numbers_fit places_near next new) → IfOk r (ReadsRest ts (first_by step_read) numbers_fit places_near old new)
+reads_step {E = E} ts old next new close n k (Err x) l e h = tt
+reads_step {E = E} ts old next new close n k (Ok None) l e h = step_at ts old next close n k l e ∙ h
+reads_step {E = E} ts old next new close n k (Ok (Some v)) l e h = record {
   written = h.written;
-  read = step_at ts old mid next close n k l s p e ∙ h.read;
+  read = step_at ts old next close n k l e ∙ h.read;
   notes =
-      notes_moved numbers_fit places_near next old new new v h.written (sym (ap (λ (q : Progress). q.fits) p.stepped_is ∙ ap (λ (q : Progress). q.fits) s))
-      (sym (ap (λ (q : Progress). q.near) p.stepped_is ∙ ap (λ (q : Progress). q.near) s)) refl refl h.notes;
+      notes_moved numbers_fit places_near next old new new v h.written (sym (ap (λ (q : Progress). q.fits) l.named.stepped_is ∙ ap (λ (q : Progress). q.fits) l.inside))
+      (sym (ap (λ (q : Progress). q.near) l.named.stepped_is ∙ ap (λ (q : Progress). q.near) l.inside)) refl refl h.notes;
 }

@@ -14,8 +14,8 @@ use Rattle.smt_meaning.specs.Declaration.{Declaration}
 use Rattle.proof_meaning.specs.Reading.{with, number, head_read, numeral_read, divisor_read, node_read}
 use Rattle.look_ahead.specs.Ahead.{ahead}
 use Rattle.proof_read.specs.declared.read_parts.Progress.{Progress}
-use Rattle.proof_read.specs.Reads.{numbers_near}
-use Rattle.proof_read.specs.ReadParts.{Passes, first_by}
+use Rattle.proof_read.specs.Reads.{is_term_number, numbers_near}
+use Rattle.proof_read.specs.ReadParts.{Passes, Takes, any, first_by}
 
 abbrev pub node_near : Node → Bool
 node_near n = numbers_near n.arguments
@@ -61,3 +61,14 @@ HasReserved ts old new (Some w) = Passes ts old new (Reserved w)
 abbrev pub HasDivisor : List Token → Progress → Progress → Option (Bor (List ℕ)) → Type 0
 HasDivisor ts old new None = head_number (ahead ts old.place) ≡ None
 HasDivisor ts old new (Some cs) = (head_number (ahead ts old.place) ≡ Some (decimal cs.now)) × (new.fits ≡ old.fits) × (new.near ≡ old.near)
+
+-- such a head and a place, and no more
+pub record IsDivided (ts : List Token) (old new : Progress) (k : Head) (i : ℕ) : Type 0 where
+  pub middle : Progress
+  pub head : Takes ts divisor_head any any old k middle
+  pub argument : Takes ts number any is_term_number middle i new
+  pub last : ahead ts new.place ≡ end
+
+abbrev pub HasDivided : List Token → Progress → Progress → Option (Head × ℕ) → Type 0
+HasDivided ts old new None = divisibility (ahead ts old.place) ≡ None
+HasDivided ts old new (Some p) = IsDivided ts old new p.0 p.1

@@ -1,5 +1,5 @@
 -- The numbers that a proof writes.
-use Rattle.std.specs.Prelude.{◌≡◌, ℕ, ℤ, ◌<◌, ◌≤◌, List, Option, Some, None, bytes_eq, codes, if◌then◌else◌}
+use Rattle.std.specs.Prelude.{◌≡◌, ℕ, ℤ, ◌+◌, ◌<◌, ◌≤◌, Bool, List, Option, Some, None, nat_lt, bytes_eq, codes, if◌then◌else◌}
 use Rattle.fraction128.specs.Whole.{is_in_range}
 use Rattle.smt_meaning.specs.declared.tokens.Token.TheVariants.{Numeral, Symbol}
 use Rattle.smt_meaning.specs.Sexp.{Sexp, word, group, end, ◌▸◌}
@@ -12,6 +12,10 @@ use Rattle.proof_read.specs.ReadParts.{Notes, any}
 abbrev pub WrittenBelow : ℕ → List ℕ → Option ℕ → Type 0
 WrittenBelow most cs None = most ≤ decimal cs
 WrittenBelow most cs (Some n) = (n ≡ decimal cs) × (n < most)
+
+-- a number of what there is at most so much of
+abbrev pub is_up_to : ℕ → ℕ → Bool
+is_up_to most n = nat_lt n (most + 1)
 
 -- (- n)
 abbrev pub integer_in_list : Sexp → Option ℤ

@@ -3,6 +3,7 @@ use Rattle.std.specs.Prelude.{◌≡◌, ℕ, ◌+◌, ◌<◌, ◌≤◌, Bool,
 use Rattle.std.specs.Borrow.{Bor}
 use Rattle.smt_meaning.specs.declared.tokens.Token.{Token}
 use Rattle.smt_meaning.specs.declared.tokens.Token.TheVariants.{Numeral, Symbol}
+use Rattle.smt_meaning.specs.declared.tokens.TokenView.{TokenView}
 use Rattle.smt_meaning.specs.Sexp.{Sexp, Sexps, word, group, end, ◌▸◌}
 use Rattle.smt_meaning.specs.Seen.{seen}
 use Rattle.look_ahead.specs.Ahead.{ahead, IsList}
@@ -54,13 +55,41 @@ pub record Passes (ts : List Token) (old new : Progress) (token : Token) : Type 
   pub is : ahead ts old.place ≡ word token ▸ ahead ts (old.place + 1)
   pub stepped_is : new ≡ stepped old
 
+abbrev pub one_word : Sexp → Option Token
+one_word (word t) = Some t
+one_word (group ss) = None
+
+abbrev pub HasWord : List Token → Progress → Progress → Option TokenView → Type 0
+HasWord ts old new None = first_by one_word (ahead ts old.place) ≡ None
+HasWord ts old new (Some t) = Passes ts old new (seen t)
+
 abbrev pub HasDigits : List Token → Progress → Progress → Option (Bor (List ℕ)) → Type 0
-HasDigits ts old new None = (first_by numeral (ahead ts old.place) ≡ None) × (new ≡ old)
+HasDigits ts old new None = first_by numeral (ahead ts old.place) ≡ None
 HasDigits ts old new (Some cs) = Passes ts old new (Numeral cs.now)
 
 abbrev pub HasName : List Token → Progress → Progress → Option (Bor (List ℕ)) → Type 0
 HasName ts old new None = first_by name (ahead ts old.place) ≡ None
 HasName ts old new (Some n) = Passes ts old new (Symbol n.now)
+
+-- inside a list that ends at a place, past its first word
+abbrev pub head_name : Sexp → Option (List ℕ)
+head_name (group (word (Symbol n) ▸ ss)) = Some n
+head_name _ = None
+
+pub record IsNamedList (ts : List Token) (old new : Progress) (close : ℕ) (n : List ℕ) : Type 0 where
+  pub middle : Progress
+  pub list : IsList ts old.place close
+  pub inside : middle ≡ stepped old
+  pub named : Passes ts middle new (Symbol n)
+
+abbrev pub EntersNamed : List Token → Progress → Progress → Option (ℕ × Bor (List ℕ)) → Type 0
+EntersNamed ts old new None = first_by head_name (ahead ts old.place) ≡ None
+EntersNamed ts old new (Some p) = IsNamedList ts old new p.0 p.1.now
+
+-- what is read where nothing is left
+abbrev pub alone : {A : Type 0} → Sexps → A → Option A
+alone end a = Some a
+alone (x ▸ ss) a = None
 
 -- ---- values
 

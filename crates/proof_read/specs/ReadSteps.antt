@@ -1,5 +1,6 @@
 -- The steps that a proof writes.
-use Rattle.std.specs.Prelude.{ℕ, Bool, ◌&&◌, Option, Some, None, bytes_eq, codes, if◌then◌else◌}
+use Rattle.std.specs.Prelude.{◌≡◌, ℕ, Bool, List, ◌&&◌, Option, Some, None, bytes_eq, codes, if◌then◌else◌}
+use Rattle.smt_meaning.specs.declared.tokens.Token.{Token}
 use Rattle.smt_meaning.specs.declared.tokens.Token.TheVariants.{Numeral, Symbol}
 use Rattle.proof_meaning.specs.declared.proof.Weighted.{Weighted}
 use Rattle.proof_meaning.specs.declared.proof.Step.{Step}
@@ -8,7 +9,10 @@ use Rattle.smt_meaning.specs.Sexp.{Sexp, Sexps, word, group, end, ◌▸◌}
 use Rattle.smt_meaning.specs.Sorts.{decimal}
 use Rattle.proof_meaning.specs.Reading.{with, number}
 use Rattle.proof_read.specs.Written.{is_small, atom_fits}
-use Rattle.proof_read.specs.Reads.{atom_near}
+use Rattle.look_ahead.specs.Ahead.{ahead}
+use Rattle.proof_read.specs.declared.read_parts.Progress.{Progress}
+use Rattle.proof_read.specs.Reads.{is_step_number, atom_near}
+use Rattle.proof_read.specs.ReadParts.{Takes, any}
 use Rattle.proof_read.specs.declared.read_names.StepName.{StepName}
 use Rattle.proof_read.specs.declared.read_names.StepName.TheVariants.{Assert, Pick, Euclid, Refl, Sym, Trans, Cong, Truth, Both, Neither, Link}
 use Rattle.proof_read.specs.declared.read_steps.Multiplier.{Multiplier}
@@ -32,6 +36,20 @@ both p q x = p x.0 && q x.1
 
 abbrev pub all_three : (ℕ → Bool) → (ℕ → Bool) → (ℕ → Bool) → ℕ × ℕ × ℕ → Bool
 all_three p q r x = p x.0 && (q x.1 && r x.2)
+
+-- the numbers of two steps, whatever follows them
+abbrev pub two_first : Sexps → Option (ℕ × ℕ)
+two_first (i ▸ j ▸ ss) = with (number i) (λ a. with (number j) (λ b. Some (a, b)))
+two_first _ = None
+
+pub record TakesBoth (ts : List Token) (old : Progress) (a b : ℕ) (new : Progress) : Type 0 where
+  pub middle : Progress
+  pub first : Takes ts number any is_step_number old a middle
+  pub second : Takes ts number any is_step_number middle b new
+
+abbrev pub TakesTwo : List Token → Progress → Progress → Option (ℕ × ℕ) → Type 0
+TakesTwo ts old new None = two_first (ahead ts old.place) ≡ None
+TakesTwo ts old new (Some p) = TakesBoth ts old p.0 p.1 new
 
 -- ---- steps that write numbers of terms and clauses alone
 

@@ -21,10 +21,7 @@ impl Source<'_> {
         ensures { ReadsRest self.now.proof.now truth_read atom_fits atom_near at.old at.new result }
     {
         let term = self.term(at)?;
-        if !self.is_end(at.place) {
-            return None;
-        }
-        Some(Atom::Truth(term))
+        self.alone(at, Atom::Truth(term))
     }
 
     /// The equality of two terms, from behind its name.
@@ -34,10 +31,7 @@ impl Source<'_> {
     {
         let left = self.term(at)?;
         let right = self.term(at)?;
-        if !self.is_end(at.place) {
-            return None;
-        }
-        Some(Atom::Same(left, right))
+        self.alone(at, Atom::Same(left, right))
     }
 
     /// A bound, from behind its name.
@@ -99,10 +93,7 @@ impl Source<'_> {
         requires { AreEnds self.now.proof.now self.now.ends.now }
         ensures { IfOk result (Reads self.now.proof.now atom_read atom_fits atom_near at.old at.new) }
     {
-        let Some(close) = self.enter(at) else {
-            return Ok(None);
-        };
-        let Some(name) = self.symbol(at) else {
+        let Some((close, name)) = self.enter_named(at) else {
             return Ok(None);
         };
         let Some(atom) = self.atom_after(alloc, name, at)? else {
@@ -162,10 +153,7 @@ impl Source<'_> {
         requires { AreEnds self.now.proof.now self.now.ends.now }
         ensures { IfOk result (Reads self.now.proof.now literal_read literal_fits literal_near at.old at.new) }
     {
-        let Some(close) = self.enter(at) else {
-            return Ok(None);
-        };
-        let Some(name) = self.symbol(at) else {
+        let Some((close, name)) = self.enter_named(at) else {
             return Ok(None);
         };
         let Some(literal) = self.literal_after(alloc, name, at)? else {

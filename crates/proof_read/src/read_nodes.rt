@@ -6,7 +6,7 @@ ghost use Rattle.proof_meaning.specs.Reading.{number, head_read, numeral_read, n
 ghost use Rattle.look_ahead.specs.Ahead.{AreEnds};
 ghost use Rattle.proof_read.specs.Reads.{numbers_near};
 ghost use Rattle.proof_read.specs.ReadParts.{Reads, ReadsRest, any, first_by};
-ghost use Rattle.proof_read.specs.ReadNodes.{node_near, numeral_only, application, divisor_of, divisor_head, divisibility, in_term, HasReserved, HasDivisor};
+ghost use Rattle.proof_read.specs.ReadNodes.{node_near, numeral_only, application, divisor_of, divisor_head, divisibility, in_term, HasReserved, HasDivisor, HasDivided};
 
 use crate::read_names::operator_named;
 use crate::read_numbers::decimal;
@@ -64,16 +64,13 @@ fn with_one(alloc: Global, head: Head, argument: TermId) -> Result<Node, AllocEr
 }
 
 impl Source<'_> {
-    /// A reserved word, which is read where it is next.
+    /// A reserved word, where it is next.
     fn reserved(&self, at: &mut Progress) -> Option<Word>
         requires { AreEnds self.now.proof.now self.now.ends.now }
         ensures { HasReserved self.now.proof.now at.old at.new result }
     {
-        match self.part_at(at.place) {
-            Part::Word(TokenView::Reserved(word)) => {
-                at.place += 1;
-                Some(word)
-            }
+        match self.word(at)? {
+            TokenView::Reserved(word) => Some(word),
             _ => None,
         }
     }
@@ -92,10 +89,7 @@ impl Source<'_> {
             return None;
         }
         let digits = self.digits(at)?;
-        if !self.is_end(at.place) {
-            return None;
-        }
-        Some(digits)
+        self.alone(at, digits)
     }
 
     /// The head `(_ divisible n)`.
@@ -157,20 +151,24 @@ impl Source<'_> {
         Ok(Some(Node { head, arguments }))
     }
 
-    /// A head that divides, and a term.
+    /// A head that divides and a term, and no more.
+    fn divided(&self, at: &mut Progress) -> Option<(Head, TermId)>
+        requires { AreEnds self.now.proof.now self.now.ends.now }
+        ensures { HasDivided self.now.proof.now at.old at.new result }
+    {
+        let head = self.divisor(at)?;
+        let argument = self.term(at)?;
+        self.alone(at, (head, argument))
+    }
+
+    /// What a head that divides is applied to.
     fn divisibility(&self, alloc: Global, at: &mut Progress) -> Result<Option<Node>, AllocError>
         requires { AreEnds self.now.proof.now self.now.ends.now }
         ensures { IfOk result (ReadsRest self.now.proof.now divisibility any node_near at.old at.new) }
     {
-        let Some(head) = self.divisor(at) else {
+        let Some((head, argument)) = self.divided(at) else {
             return Ok(None);
         };
-        let Some(argument) = self.term(at) else {
-            return Ok(None);
-        };
-        if !self.is_end(at.place) {
-            return Ok(None);
-        }
         Ok(Some(with_one(alloc, head, argument)?))
     }
 

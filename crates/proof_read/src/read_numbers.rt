@@ -7,9 +7,9 @@ ghost use Rattle.look_ahead.specs.Ahead.{ahead, AreEnds};
 ghost use Rattle.proof_read.specs.Written.{is_small};
 ghost use Rattle.proof_read.specs.Reads.{is_term_number, is_step_number};
 ghost use Rattle.proof_read.specs.ReadParts.{Reads, Notes, any, first_by};
-ghost use Rattle.proof_read.specs.ReadNumbers.{WrittenBelow, NotesNegative, integer_in_list};
+ghost use Rattle.proof_read.specs.ReadNumbers.{WrittenBelow, NotesNegative, integer_in_list, is_up_to};
 
-use crate::read_parts::{Progress, Source};
+use crate::read_parts::{Part, Progress, Source};
 use proof_meaning::StepId;
 use smt_meaning::TermId;
 
@@ -70,12 +70,12 @@ fn long_with_digit(number: u128, digit: u8) -> Option<u128>
     Some(larger)
 }
 
-/// The number of a term, where it is one that a term may have.
-fn term_number(digits: &[u8]) -> Option<TermId>
-    ensures { WrittenBelow (2 ^ 32) digits.now result }
+/// The number that digits write, where it is at most this one.
+fn decimal_up_to(most: u64, digits: &[u8]) -> Option<u64>
+    ensures { WrittenBelow (most + 1) digits.now result }
 {
     match short_decimal(digits) {
-        Some(number) if number <= u64::from(u32::MAX) => Some(number as u32),
+        Some(number) if number <= most => Some(number),
         Some(_) => None,
         None => None,
     }
@@ -117,13 +117,14 @@ fn negative(at: &mut Progress, digits: &[u8]) -> Option<i128>
 }
 
 impl Source<'_> {
-    /// The number of a term.
-    pub(crate) fn term(&self, at: &mut Progress) -> Option<TermId>
+    /// The number of what a proof names, of which there are at most so many.
+    fn place(&self, most: u64, at: &mut Progress) -> Option<u64>
         requires { AreEnds self.now.proof.now self.now.ends.now }
-        ensures { Reads self.now.proof.now number any is_term_number at.old at.new result }
+        ensures reads { Reads self.now.proof.now number any (is_up_to most) at.old at.new result }
+        ensures most { IfSome result (λ n. n ≤ most) }
     {
         let digits = self.digits(at)?;
-        match term_number(digits) {
+        match decimal_up_to(most, digits) {
             Some(number) => Some(number),
             None => {
                 at.near = false;
@@ -132,19 +133,21 @@ impl Source<'_> {
         }
     }
 
+    /// The number of a term.
+    pub(crate) fn term(&self, at: &mut Progress) -> Option<TermId>
+        requires { AreEnds self.now.proof.now self.now.ends.now }
+        ensures { Reads self.now.proof.now number any is_term_number at.old at.new result }
+    {
+        let number = self.place(u64::from(TermId::MAX), at)?;
+        Some(number as TermId)
+    }
+
     /// The number of a step, or of anything else that there can't be more of.
     pub(crate) fn count(&self, at: &mut Progress) -> Option<StepId>
         requires { AreEnds self.now.proof.now self.now.ends.now }
         ensures { Reads self.now.proof.now number any is_step_number at.old at.new result }
     {
-        let digits = self.digits(at)?;
-        match short_decimal(digits) {
-            Some(number) => Some(number),
-            None => {
-                at.near = false;
-                Some(0)
-            }
-        }
+        self.place(StepId::MAX, at)
     }
 
     /// A number that a rule counts with.
@@ -168,9 +171,13 @@ impl Source<'_> {
         ensures reads { Reads self.now.proof.now integer is_in_range any at.old at.new result }
         ensures zero { IfSome result (λ n. (n ≡ pos 0) ↔ (first_by integer (ahead self.now.proof.now at.old.place) ≡ Some (pos 0))) }
     {
-        match self.digits(at) {
-            Some(digits) => Some(not_negative(at, digits)),
-            None => self.negated(at),
+        match self.part_at(at.place) {
+            Part::List(_) => self.negated(at),
+            Part::Word(_) => {
+                let digits = self.digits(at)?;
+                Some(not_negative(at, digits))
+            }
+            Part::End => None,
         }
     }
 

@@ -1,7 +1,7 @@
 //! What stands at a place among the tokens of a proof, and how far reading has come.
 ghost use Rattle.std.specs.Prelude.{◌≡◌, ◌&&◌, true};
 ghost use Rattle.look_ahead.specs.Ahead.{ahead, AreEnds, Skips};
-ghost use Rattle.proof_read.specs.ReadParts.{IsPart, Enters, HasDigits, HasName, is_end};
+ghost use Rattle.proof_read.specs.ReadParts.{IsPart, Enters, EntersNamed, HasWord, HasDigits, HasName, is_end, alone};
 
 use smt_meaning::{SExpr, TokenView};
 
@@ -110,31 +110,61 @@ impl<'a> Source<'a> {
         }
     }
 
-    /// The digits of a numeral, which is read where it is next.
-    pub(crate) fn digits(&self, at: &mut Progress) -> Option<&'a [u8]>
+    /// A token that is no parenthesis, which is read where it is next.
+    pub(crate) fn word(&self, at: &mut Progress) -> Option<TokenView<'a>>
         requires { AreEnds self.now.proof.now self.now.ends.now }
-        ensures { HasDigits self.now.proof.now at.old at.new result }
+        ensures { HasWord self.now.proof.now at.old at.new result }
     {
         match self.part_at(at.place) {
-            Part::Word(TokenView::Numeral(digits)) => {
+            Part::Word(token) => {
                 at.place += 1;
-                Some(digits)
+                Some(token)
             }
             _ => None,
         }
     }
 
-    /// The name of a symbol, which is read where it is next.
+    /// The digits of a numeral, where it is next.
+    pub(crate) fn digits(&self, at: &mut Progress) -> Option<&'a [u8]>
+        requires { AreEnds self.now.proof.now self.now.ends.now }
+        ensures { HasDigits self.now.proof.now at.old at.new result }
+    {
+        match self.word(at)? {
+            TokenView::Numeral(digits) => Some(digits),
+            _ => None,
+        }
+    }
+
+    /// The name of a symbol, where it is next.
     pub(crate) fn symbol(&self, at: &mut Progress) -> Option<&'a [u8]>
         requires { AreEnds self.now.proof.now self.now.ends.now }
         ensures { HasName self.now.proof.now at.old at.new result }
     {
-        match self.part_at(at.place) {
-            Part::Word(TokenView::Symbol(name)) => {
-                at.place += 1;
-                Some(name)
-            }
+        match self.word(at)? {
+            TokenView::Symbol(name) => Some(name),
             _ => None,
+        }
+    }
+
+    /// Enters the list that is next and begins with a name: the place of its `)`, and the name.
+    pub(crate) fn enter_named(&self, at: &mut Progress) -> Option<(usize, &'a [u8])>
+        requires { AreEnds self.now.proof.now self.now.ends.now }
+        ensures { EntersNamed self.now.proof.now at.old at.new result }
+    {
+        let close = self.enter(at)?;
+        let name = self.symbol(at)?;
+        Some((close, name))
+    }
+
+    /// What is read up to here, where nothing is left of the list.
+    pub(crate) fn alone<A: Drop>(&self, at: &Progress, read: A) -> Option<A>
+        requires { AreEnds self.now.proof.now self.now.ends.now }
+        ensures { result ≡ alone (ahead self.now.proof.now at.now.place) read }
+    {
+        if self.is_end(at.place) {
+            Some(read)
+        } else {
+            None
         }
     }
 }

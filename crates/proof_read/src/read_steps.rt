@@ -7,7 +7,7 @@ ghost use Rattle.proof_read.specs.Written.{numbers_fit, weights_fit};
 ghost use Rattle.proof_read.specs.Reads.{is_term_number, is_step_number, places_near, weights_near};
 ghost use Rattle.proof_read.specs.ReadParts.{Reads, ReadsRest, any, first_by};
 ghost use Rattle.proof_read.specs.ReadNames.{step_form};
-ghost use Rattle.proof_read.specs.ReadSteps.{one_in, two_in, three_in, both, all_three, plain_form, pair_form, pair_named, multiplier_in, quotient_in, multiplier_fits, weighted_fits, weighted_near};
+ghost use Rattle.proof_read.specs.ReadSteps.{TakesTwo, plain_form, pair_form, pair_named, multiplier_in, quotient_in, multiplier_fits, weighted_fits, weighted_near};
 
 use crate::read_names::{StepName, step_name};
 use crate::read_parts::{Progress, Source};
@@ -23,77 +23,6 @@ pub(crate) struct Multiplier {
 }
 
 impl Source<'_> {
-    /// A term, and no more.
-    fn one_term(&self, at: &mut Progress) -> Option<TermId>
-        requires { AreEnds self.now.proof.now self.now.ends.now }
-        ensures { ReadsRest self.now.proof.now one_in any is_term_number at.old at.new result }
-    {
-        let term = self.term(at)?;
-        if !self.is_end(at.place) {
-            return None;
-        }
-        Some(term)
-    }
-
-    /// Two terms, and no more.
-    fn two_terms(&self, at: &mut Progress) -> Option<(TermId, TermId)>
-        requires { AreEnds self.now.proof.now self.now.ends.now }
-        ensures { ReadsRest self.now.proof.now two_in any (both is_term_number is_term_number) at.old at.new result }
-    {
-        let left = self.term(at)?;
-        let right = self.term(at)?;
-        if !self.is_end(at.place) {
-            return None;
-        }
-        Some((left, right))
-    }
-
-    /// The number of an assertion and a term, and no more.
-    fn count_and_term(&self, at: &mut Progress) -> Option<(u64, TermId)>
-        requires { AreEnds self.now.proof.now self.now.ends.now }
-        ensures { ReadsRest self.now.proof.now two_in any (both is_step_number is_term_number) at.old at.new result }
-    {
-        let count = self.count(at)?;
-        let term = self.term(at)?;
-        if !self.is_end(at.place) {
-            return None;
-        }
-        Some((count, term))
-    }
-
-    /// A term and the number of one of its clauses, and no more.
-    fn term_and_count(&self, at: &mut Progress) -> Option<(TermId, u64)>
-        requires { AreEnds self.now.proof.now self.now.ends.now }
-        ensures { ReadsRest self.now.proof.now two_in any (both is_term_number is_step_number) at.old at.new result }
-    {
-        let term = self.term(at)?;
-        let count = self.count(at)?;
-        if !self.is_end(at.place) {
-            return None;
-        }
-        Some((term, count))
-    }
-
-    /// Three terms, and no more.
-    fn three_terms(&self, at: &mut Progress) -> Option<(TermId, TermId, TermId)>
-        requires { AreEnds self.now.proof.now self.now.ends.now }
-        ensures { ReadsRest self.now.proof.now three_in any (all_three is_term_number is_term_number is_term_number) at.old at.new result }
-    {
-        let first = self.term(at)?;
-        let (second, third) = self.two_terms(at)?;
-        Some((first, second, third))
-    }
-
-    /// Two terms and the number of one of their clauses, and no more.
-    fn two_terms_and_count(&self, at: &mut Progress) -> Option<(TermId, TermId, u64)>
-        requires { AreEnds self.now.proof.now self.now.ends.now }
-        ensures { ReadsRest self.now.proof.now three_in any (all_three is_term_number is_term_number is_step_number) at.old at.new result }
-    {
-        let left = self.term(at)?;
-        let (right, count) = self.term_and_count(at)?;
-        Some((left, right, count))
-    }
-
     /// A step that writes numbers of terms and clauses alone, from behind its name.
     fn plain_step(&self, name: StepName, at: &mut Progress) -> Option<Step>
         requires { AreEnds self.now.proof.now self.now.ends.now }
@@ -101,40 +30,50 @@ impl Source<'_> {
     {
         match name {
             StepName::Assert => {
-                let (assertion, term) = self.count_and_term(at)?;
-                Some(Step::Assert(assertion, term))
+                let assertion = self.count(at)?;
+                let term = self.term(at)?;
+                self.alone(at, Step::Assert(assertion, term))
             }
             StepName::Pick => {
-                let (term, which) = self.term_and_count(at)?;
-                Some(Step::Pick(term, which))
+                let term = self.term(at)?;
+                let which = self.count(at)?;
+                self.alone(at, Step::Pick(term, which))
             }
             StepName::Euclid => {
-                let (term, which) = self.term_and_count(at)?;
-                Some(Step::Euclid(term, which))
+                let term = self.term(at)?;
+                let which = self.count(at)?;
+                self.alone(at, Step::Euclid(term, which))
             }
             StepName::Refl => {
-                let term = self.one_term(at)?;
-                Some(Step::Refl(term))
+                let term = self.term(at)?;
+                self.alone(at, Step::Refl(term))
             }
             StepName::Trans => {
-                let (first, second, third) = self.three_terms(at)?;
-                Some(Step::Trans(first, second, third))
+                let first = self.term(at)?;
+                let second = self.term(at)?;
+                let third = self.term(at)?;
+                self.alone(at, Step::Trans(first, second, third))
             }
             StepName::Link => {
-                let (left, right, which) = self.two_terms_and_count(at)?;
-                Some(Step::Link(left, right, which))
+                let left = self.term(at)?;
+                let right = self.term(at)?;
+                let which = self.count(at)?;
+                self.alone(at, Step::Link(left, right, which))
             }
             _ => self.pair_step(name, at),
         }
     }
 
     /// A step that writes the numbers of two terms, from behind its name.
+    #[tactic(auto, using(crate::proofs::ReadStepForms::no_pair))]
     fn pair_step(&self, name: StepName, at: &mut Progress) -> Option<Step>
         requires { AreEnds self.now.proof.now self.now.ends.now }
         ensures { ReadsRest self.now.proof.now (pair_form name) numbers_fit places_near at.old at.new result }
     {
-        let (left, right) = self.two_terms(at)?;
-        pair_of(name, left, right)
+        let left = self.term(at)?;
+        let right = self.term(at)?;
+        let pair = pair_of(name, left, right)?;
+        self.alone(at, pair)
     }
 
     /// A step, from behind its name.
@@ -164,10 +103,10 @@ impl Source<'_> {
         let Some(term) = self.term(at) else {
             return Ok(None);
         };
-        let Some(literals) = self.literals(alloc, at)? else {
-            return Ok(None);
-        };
-        Ok(Some(Step::Form(term, literals)))
+        match self.literals(alloc, at)? {
+            Some(literals) => Ok(Some(Step::Form(term, literals))),
+            None => Ok(None),
+        }
     }
 
     /// A literal and a divisor, from behind the name.
@@ -181,30 +120,32 @@ impl Source<'_> {
         let Some(divisor) = self.number(at) else {
             return Ok(None);
         };
-        if !self.is_end(at.place) {
-            return Ok(None);
-        }
-        Ok(Some(Step::Round(literal, divisor)))
+        Ok(self.alone(at, Step::Round(literal, divisor)))
+    }
+
+    /// The numbers of two steps.
+    fn two_counts(&self, at: &mut Progress) -> Option<(StepId, StepId)>
+        requires { AreEnds self.now.proof.now self.now.ends.now }
+        ensures { TakesTwo self.now.proof.now at.old at.new result }
+    {
+        let left = self.count(at)?;
+        let right = self.count(at)?;
+        Some((left, right))
     }
 
     /// Two steps and a literal, from behind the name.
+    #[tactic(auto, using(crate::proofs::ReadStepForms::none_of_two))]
     fn resolution(&self, alloc: Global, at: &mut Progress) -> Result<Option<Step>, AllocError>
         requires { AreEnds self.now.proof.now self.now.ends.now }
         ensures { IfOk result (ReadsRest self.now.proof.now res_read numbers_fit places_near at.old at.new) }
     {
-        let Some(left) = self.count(at) else {
-            return Ok(None);
-        };
-        let Some(right) = self.count(at) else {
+        let Some((left, right)) = self.two_counts(at) else {
             return Ok(None);
         };
         let Some(literal) = self.literal(alloc, at)? else {
             return Ok(None);
         };
-        if !self.is_end(at.place) {
-            return Ok(None);
-        }
-        Ok(Some(Step::Res(left, right, literal)))
+        Ok(self.alone(at, Step::Res(left, right, literal)))
     }
 
     /// Multiples of bounds, from behind the name.
@@ -290,13 +231,13 @@ impl Source<'_> {
         }
         let numerator = self.number(at)?;
         let denominator = self.number(at)?;
-        if !self.is_end(at.place) {
-            return None;
-        }
-        Some(Multiplier {
-            numerator,
-            denominator,
-        })
+        self.alone(
+            at,
+            Multiplier {
+                numerator,
+                denominator,
+            },
+        )
     }
 
     /// A step.
@@ -304,10 +245,7 @@ impl Source<'_> {
         requires { AreEnds self.now.proof.now self.now.ends.now }
         ensures { IfOk result (ReadsRest self.now.proof.now (first_by step_read) numbers_fit places_near at.old at.new) }
     {
-        let Some(_) = self.enter(at) else {
-            return Ok(None);
-        };
-        let Some(name) = self.symbol(at) else {
+        let Some((_, name)) = self.enter_named(at) else {
             return Ok(None);
         };
         match step_name(name) {

@@ -10,6 +10,9 @@ use Rattle.proof_form.proofs.FormLifting.{own_apart, small_numbers}
 use Rattle.proof_form.proofs.FormLaw.{judged_bools, judged_neighbours, judged_pairs}
 use Rattle.proof_form.proofs.form.judge_theory.Goals as goal
 
+pub kind_of-requires : goal.kind_of-requires
+kind_of-requires c = record { within = c.requires.within; terms = c.requires.terms; node = c.requires.node; earlier = c.requires.earlier }
+
 pub conclude-requires-clause-other : goal.conclude-requires-clause-other
 conclude-requires-clause-other c =
     let ps = map Truth c.args.arguments.now in

@@ -1,10 +1,21 @@
+use Rattle.std.proofs.Common.{subst}
 use Rattle.smt_meaning.specs.declared.terms.Operator.TheVariants as operator
 use Rattle.proof_form.specs.declared.form_values.Connective.TheVariants as connective
 use Rattle.proof_form.specs.declared.form_parts.Relation.TheVariants as relation
 use Rattle.proof_form.specs.declared.form_parts.Kind.TheVariants.{Bools, Neighbours, NoParts}
+use Rattle.proof_form.specs.FormParts.{IsOperation}
 use Rattle.proof_form.proofs.FormTerms.{sorted}
 use Rattle.proof_form.proofs.FormKinds.{by_name, kind_true, kind_false, kind_not, kind_and, kind_or, kind_xor, kind_implies, kind_at_most, kind_less, kind_at_least, kind_greater, kind_add, kind_subtract, kind_multiply, kind_divide, kind_modulo, kind_absolute, kind_divisible}
 use Rattle.proof_form.proofs.form_parts.kind_of.Goals as goal
+
+pub equality_kind-requires : goal.equality_kind-requires
+equality_kind-requires c = subst (λ o. IsOperation c.args.terms.now c.args.place o c.args.arguments.now) c.in-Equal.is c.requires
+
+pub distinct_kind-requires : goal.distinct_kind-requires
+distinct_kind-requires c = subst (λ o. IsOperation c.args.terms.now c.args.place o c.args.arguments.now) c.in-Distinct.is c.requires
+
+pub choice_kind-requires : goal.choice_kind-requires
+choice_kind-requires c = subst (λ o. IsOperation c.args.terms.now c.args.place o c.args.arguments.now) c.in-Ite.is c.requires
 
 pub returns-in-True : goal.returns-in-True
 returns-in-True c =

@@ -1,7 +1,8 @@
 use Rattle.std.proofs.Common.{List, ◌∷◌, [], ◌++◌, length, sym, ap, ◌∙◌, subst}
 use Rattle.smt_meaning.specs.declared.nodes.Node.{Node}
 use Rattle.proof_form.specs.TermNodes.{written, AreLaid}
-use Rattle.proof_form.proofs.TermNodeLemmas.{written_push, laid_push, of_two, either_way, on_err}
+use Rattle.linear_forms.proofs.TableLemmas.{of_two, either_way, on_err}
+use Rattle.proof_form.proofs.TermNodeLemmas.{written_push, laid_push}
 use Rattle.proof_form.proofs.terms_nodes.WrittenNodes.push.Goals as goal
 
 pub invariant_of-self : goal.invariant_of-self

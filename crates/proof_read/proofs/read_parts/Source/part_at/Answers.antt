@@ -1,5 +1,5 @@
 use Rattle.std.proofs.Common.{◌+◌, arith}
-use Rattle.proof_read.proofs.ReadLemmas.{word_here}
+use Rattle.look_ahead.proofs.PartLemmas.{word_here}
 use Rattle.proof_read.proofs.read_parts.Source.part_at.Goals as goal
 
 pub returns-in_default : goal.returns-in_default

@@ -1,34 +1,36 @@
-use Rattle.std.proofs.Common.{refl, ℕ}
+use Rattle.std.proofs.Common.{refl}
 use Rattle.proof_meaning.specs.declared.proof.Step.TheVariants as Rule
 use Rattle.proof_read.specs.declared.read_names.StepName.TheVariants.{Assert, Pick, Euclid, Refl, Trans, Link}
-use Rattle.proof_read.specs.Reads.{is_term_number, is_step_number}
-use Rattle.proof_read.specs.ReadSteps.{one_in, two_in, three_in, both, all_three, plain_form}
-use Rattle.proof_read.proofs.ReadStepForms.{fills_made, reads_other}
+use Rattle.proof_read.specs.Written.{numbers_fit}
+use Rattle.proof_read.specs.Reads.{is_term_number, is_step_number, places_near}
+use Rattle.proof_read.specs.ReadSteps.{plain_form}
+use Rattle.proof_read.proofs.ReadPlaceForms.{reads_one, reads_two, reads_three}
+use Rattle.proof_read.proofs.ReadStepForms.{reads_other}
 use Rattle.proof_read.proofs.read_parts.Source.plain_step.Goals as goal
 
-pub returns-in_ok-assertion-in-Assert : goal.returns-in_ok-assertion-in-Assert
-returns-in_ok-assertion-in-Assert c =
-    rw c.in-Assert.is (fills_made _ two_in (plain_form Assert) (both is_step_number is_term_number) (λ (p : ℕ × ℕ). Rule.Assert p.0 p.1) _ _ _ (λ ss. refl) (λ p. refl) (λ p. refl) c.in_ok-assertion-in-Assert.ensures)
+pub returns-in_ok-term-in-Assert : goal.returns-in_ok-term-in-Assert
+returns-in_ok-term-in-Assert c =
+    rw c.in-Assert.is (reads_two _ numbers_fit places_near (plain_form Assert) is_step_number is_term_number Rule.Assert _ _ _ _ _ _ (λ ss. refl) (λ p. refl) (λ p. refl) c.in_ok-assertion-in-Assert.ensures c.in_ok-term-in-Assert.ensures c.alone.ensures)
 
-pub returns-in_ok-term-in-Pick : goal.returns-in_ok-term-in-Pick
-returns-in_ok-term-in-Pick c =
-    rw c.in-Pick.is (fills_made _ two_in (plain_form Pick) (both is_term_number is_step_number) (λ (p : ℕ × ℕ). Rule.Pick p.0 p.1) _ _ _ (λ ss. refl) (λ p. refl) (λ p. refl) c.in_ok-term-in-Pick.ensures)
+pub returns-in_ok-which-in-Pick : goal.returns-in_ok-which-in-Pick
+returns-in_ok-which-in-Pick c =
+    rw c.in-Pick.is (reads_two _ numbers_fit places_near (plain_form Pick) is_term_number is_step_number Rule.Pick _ _ _ _ _ _ (λ ss. refl) (λ p. refl) (λ p. refl) c.in_ok-term-in-Pick.ensures c.in_ok-which-in-Pick.ensures c.alone-in-Pick.ensures)
 
-pub returns-in_ok-term-in-Euclid : goal.returns-in_ok-term-in-Euclid
-returns-in_ok-term-in-Euclid c =
-    rw c.in-Euclid.is (fills_made _ two_in (plain_form Euclid) (both is_term_number is_step_number) (λ (p : ℕ × ℕ). Rule.Euclid p.0 p.1) _ _ _ (λ ss. refl) (λ p. refl) (λ p. refl) c.in_ok-term-in-Euclid.ensures)
+pub returns-in_ok-which-in-Euclid : goal.returns-in_ok-which-in-Euclid
+returns-in_ok-which-in-Euclid c =
+    rw c.in-Euclid.is (reads_two _ numbers_fit places_near (plain_form Euclid) is_term_number is_step_number Rule.Euclid _ _ _ _ _ _ (λ ss. refl) (λ p. refl) (λ p. refl) c.in_ok-term-in-Euclid.ensures c.in_ok-which-in-Euclid.ensures c.alone-in-Euclid.ensures)
 
 pub returns-in_ok-term-in-Refl : goal.returns-in_ok-term-in-Refl
 returns-in_ok-term-in-Refl c =
-    rw c.in-Refl.is (fills_made _ one_in (plain_form Refl) is_term_number (λ (p : ℕ). Rule.Refl p) _ _ _ (λ ss. refl) (λ p. refl) (λ p. refl) c.in_ok-term-in-Refl.ensures)
+    rw c.in-Refl.is (reads_one _ numbers_fit places_near (plain_form Refl) is_term_number Rule.Refl _ _ _ _ (λ ss. refl) (λ p. refl) (λ p. refl) c.in_ok-term-in-Refl.ensures c.alone-in-Refl.ensures)
 
-pub returns-in_ok-first-in-Trans : goal.returns-in_ok-first-in-Trans
-returns-in_ok-first-in-Trans c =
-    rw c.in-Trans.is (fills_made _ three_in (plain_form Trans) (all_three is_term_number is_term_number is_term_number) (λ (p : ℕ × ℕ × ℕ). Rule.Trans p.0 p.1 p.2) _ _ _ (λ ss. refl) (λ p. refl) (λ p. refl) c.in_ok-first-in-Trans.ensures)
+pub returns-in_ok-third-in-Trans : goal.returns-in_ok-third-in-Trans
+returns-in_ok-third-in-Trans c =
+    rw c.in-Trans.is (reads_three _ numbers_fit places_near (plain_form Trans) is_term_number is_term_number is_term_number Rule.Trans _ _ _ _ _ _ _ _ (λ ss. refl) (λ p. refl) (λ p. refl) c.in_ok-first-in-Trans.ensures c.in_ok-second-in-Trans.ensures c.in_ok-third-in-Trans.ensures c.alone-in-Trans.ensures)
 
-pub returns-in_ok-left-in-Link : goal.returns-in_ok-left-in-Link
-returns-in_ok-left-in-Link c =
-    rw c.in-Link.is (fills_made _ three_in (plain_form Link) (all_three is_term_number is_term_number is_step_number) (λ (p : ℕ × ℕ × ℕ). Rule.Link p.0 p.1 p.2) _ _ _ (λ ss. refl) (λ p. refl) (λ p. refl) c.in_ok-left-in-Link.ensures)
+pub returns-in_ok-which-in-Link : goal.returns-in_ok-which-in-Link
+returns-in_ok-which-in-Link c =
+    rw c.in-Link.is (reads_three _ numbers_fit places_near (plain_form Link) is_term_number is_term_number is_step_number Rule.Link _ _ _ _ _ _ _ _ (λ ss. refl) (λ p. refl) (λ p. refl) c.in_ok-left-in-Link.ensures c.in_ok-right-in-Link.ensures c.in_ok-which-in-Link.ensures c.alone-in-Link.ensures)
 
 pub returns-in_default : goal.returns-in_default
 returns-in_default c =

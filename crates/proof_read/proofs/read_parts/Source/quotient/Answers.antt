@@ -1,7 +1,6 @@
-use Rattle.std.proofs.Common.{rules, sym}
-use Rattle.proof_read.proofs.ReadStepForms.{fills_quotient}
+use Rattle.std.proofs.Common.{rules}
+use Rattle.proof_read.proofs.ReadStepForms.{reads_quotient}
 use Rattle.proof_read.proofs.read_parts.Source.quotient.Goals as goal
 
 pub returns : goal.returns
-returns c =
-    fills_quotient _ _ _ _ _ c.in_ok-name.name.now _ _ c.in_ok-name.ensures (search rules) c.in_ok-numerator.ensures c.in_ok-denominator.ensures (sym c.if-not-is_end.ensures)
+returns c = reads_quotient _ _ _ _ _ c.in_ok-name.name.now _ _ _ c.in_ok-name.ensures (search rules) c.in_ok-numerator.ensures c.in_ok-denominator.ensures c.alone.ensures

@@ -3,4 +3,4 @@ use Rattle.proof_read.proofs.read_parts.Source.step.Goals as goal
 
 pub returns-in-Some-step_name : goal.returns-in-Some-step_name
 returns-in-Some-step_name c =
-    reads_step c.args.self.now.proof.now c.args.at.now c.enter.new.at c.symbol.new.at c.step_rest.new.at _ c.in-Some-symbol.name.now c.in-Some-step_name.rule c.step_rest.result c.in-Some.ensures.0 c.in-Some.ensures.1 c.in-Some-symbol.ensures c.in-Some-step_name.ensures c.step_rest.ensures
+    reads_step c.args.self.now.proof.now c.args.at.now c.enter_named.new.at c.step_rest.new.at _ _ c.in-Some-step_name.rule c.step_rest.result c.in-Some.ensures c.in-Some-step_name.ensures c.step_rest.ensures

@@ -1,12 +1,11 @@
 use Rattle.std.proofs.Common.{◌≡◌, ◌∙◌, is_err, false, sym}
 use Rattle.fraction128.proofs.Integers.{same_bits}
-use Rattle.proof_meaning.specs.Rules.{below}
 use Rattle.term_store.proofs.StoreLemmas.{at_ok}
 use Rattle.linear_forms.specs.Table.{AreForms}
-use Rattle.proof_form.specs.Range.{less_fits}
+use Rattle.proof_form.specs.Comparing.{compared, compared_fits}
 use Rattle.proof_form.proofs.TermBounds.{bound_renamed}
-use Rattle.proof_form.proofs.terms_bounds.below.Goals as goal
-use Rattle.proof_form.proofs.terms_bounds.below.Goals.{In-Ok}
+use Rattle.proof_form.proofs.terms_bounds.compared.Goals as goal
+use Rattle.proof_form.proofs.terms_bounds.compared.Goals.{In-Ok}
 
 covered : (c : In-Ok) → AreForms c.args.distinct.now.store.trees c.cover.new.self
 covered c =
@@ -17,5 +16,5 @@ pub returns-in-Ok-clause-ok : goal.returns-in-Ok-clause-ok
 returns-in-Ok-clause-ok c =
     let us = c.args.distinct.now.store.trees in
     let b = c.in-Ok.ensures.ok us (covered (goal.at.returns-in-Ok-clause-ok c).In-Ok) in
-    bound_renamed c.args.distinct.now.facts.items c.deref.result.now us (less_fits us c.args.left c.args.right) (below us c.args.left c.args.right) c.below.new.sum.items _ c.in-Ok.limit _ c.deref.ensures.value c.rename_all.ensures
-    (same_bits c.in-Ok.limit b.bound.in_range) b.fits b.bound
+    bound_renamed c.args.distinct.now.facts.items c.deref.result.now us (compared_fits c.args.comparison us c.args.left c.args.right) (compared c.args.comparison us c.args.left c.args.right) c.bound.new.sum.items _ c.in-Ok.limit _
+    c.deref.ensures.value c.rename_all.ensures (same_bits c.in-Ok.limit b.bound.in_range) b.fits b.bound

@@ -1,6 +1,0 @@
-use Rattle.std.proofs.Common.{sym}
-use Rattle.proof_read.proofs.ReadStepForms.{fills_two}
-use Rattle.proof_read.proofs.read_parts.Source.two_terms.Goals as goal
-
-pub returns : goal.returns
-returns c = fills_two _ _ _ _ _ _ _ _ c.in_ok-left.ensures c.in_ok-right.ensures (sym c.if-not-is_end.ensures)
