@@ -12,8 +12,15 @@ use Rattle.smt_meaning.specs.Nodes.{pick}
 use Rattle.smt_meaning.specs.Parts.{IsPart, IsPartOfOne}
 use Rattle.smt_meaning.specs.Signature.{tree_sort, tree_sorts, operator_sort, if_so, all_of, all_the_same, sort_eq, stands_with}
 use Rattle.term_store.specs.Terms.{tree_with}
-pub use Rattle.smt_laws.proofs.Both.{and_left as left_true, and_right as right_true}
 use Rattle.scope_stack.proofs.SortLemmas.{HasArguments, arguments_of, HasFirst, first_of, stands_so}
+
+pub left_true : (a b : Bool) → (a && b) ≡ true → a ≡ true
+left_true true b h = refl
+left_true false b h = h
+
+pub right_true : (a b : Bool) → (a && b) ≡ true → b ≡ true
+right_true true b h = h
+right_true false b h = absurd cc
 
 -- ---- parts
 

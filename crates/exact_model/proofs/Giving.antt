@@ -24,9 +24,21 @@ use Rattle.model_build.proofs.Reading.{givens-pick}
 use Rattle.check_atoms.specs.Parts.{IsMarked}
 use Rattle.scope_stack.specs.Facts.{AreSorts}
 use Rattle.model_build.specs.Parts.{AreSortedParts}
-use Rattle.model_build.proofs.Placing.{marked_given, mark_within, marked_unless, arguments_picked}
+use Rattle.model_build.proofs.Placing.{arguments_picked}
 use Rattle.exact_model.specs.Exact.{exact, exact_at, given_of, AreGivenExactly}
 use Rattle.exact_model.specs.Shown.{GiveExactValues}
+
+pub mark_within : (marks : List Bool) (p : ℕ) → IsMarked marks p → p < length marks
+mark_within marks p m = by (cases_lt p (length marks))
+  where
+    by : (p < length marks) ⊎ (length marks ≤ p) → p < length marks
+    by (inl h) = h
+    by (inr h) = let e : slice_index_or marks p false ≡ false = get_or_past marks p false h in absurd cc
+
+marked_given : (g : Given) (s : Sort) → is_given_of g s ≡ true → is_marked g ≡ true
+marked_given Unmarked s h = absurd cc
+marked_given (InRange v) s h = refl
+marked_given PastRange s h = refl
 
 pub different_of : (trees : List Tree) → AreInOrder trees → AreDifferent trees
 different_of trees order j k l h e = let same : j ≡ k = order.different j k (omega arith) h e in omega arith
@@ -37,9 +49,12 @@ module _ (ds : List Declaration) (trees : List Tree) (marks : List Bool) (sorts 
   within p m = subst (λ n. p < n) parts.size (mark_within marks p m)
 
   mark_of : (p : ℕ) → p < length trees → is_marked (given_at gs p) ≡ true → IsMarked marks p
-  mark_of p less m =
-      marked_unless marks p
-      (λ h. (let none : is_marked (given_at gs p) ≡ false = ap is_marked ((a.each p less).exact ∙ ap (λ (b : Bool). if b then given_of (exact_at trees vs p) else Unmarked) h) in cc))
+  mark_of p less m = by (slice_index_or marks p false) refl
+    where
+      by : (b : Bool) → slice_index_or marks p false ≡ b → IsMarked marks p
+      by true h = h
+      by false h =
+          let none : is_marked (given_at gs p) ≡ false = ap is_marked ((a.each p less).exact ∙ ap (λ (b : Bool). if b then given_of (exact_at trees vs p) else Unmarked) h) in absurd cc
 
   marked : (p : ℕ) → IsMarked marks p → is_marked (given_at gs p) ≡ true
   marked p m = marked_given (given_at gs p) (slice_index_or sorts p Truths) ((a.each p (within p m)).sorted m)

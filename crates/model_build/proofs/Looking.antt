@@ -1,7 +1,6 @@
 -- What is found in a table's rows, and the values that places are given.
 use Rattle.std.proofs.Common.{◌≡◌, ◌≢◌, Bool, true, false, List, [], ◌∷◌, map, All, refl, sym, ap, ◌∙◌, inl, inr, arith}
 use Rattle.std.specs.Prelude.{◌&&◌, ◌||◌, ◌⊎◌, not, Contains, if◌then◌else◌}
-use Rattle.std.proofs.lemmas.Bool.{or_parts}
 use Rattle.std.proofs.lemmas.List.Elements.{All-head, All-tail}
 use Rattle.smt_meaning.specs.declared.values.Value.{Value}
 use Rattle.smt_meaning.specs.declared.values.Row.{Row}
@@ -66,10 +65,12 @@ look_none (x ∷ rs) default vs all =
 -- ---- values that are given
 
 pub or_left : (a b : Bool) → (a || b) ≡ false → a ≡ false
-or_left a b h = (or_parts a b h).0
+or_left true b h = cc
+or_left false b h = refl
 
 pub or_right : (a b : Bool) → (a || b) ≡ false → b ≡ false
-or_right a b h = (or_parts a b h).1
+or_right true b h = cc
+or_right false b h = h
 
 pub in_range_is : (g : Given) → is_marked g ≡ true → is_past g ≡ false → g ≡ InRange (value_of g)
 in_range_is Unmarked m p = cc

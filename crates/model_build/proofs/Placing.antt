@@ -24,24 +24,17 @@ use Rattle.model_build.specs.Parts.{AreSortedParts}
 use Rattle.model_build.specs.WorkedOut.{is_worked_out, worked_out, IsWorkedOut, AreWorkedOut}
 use Rattle.model_build.specs.Values.{GiveNoOthers, chosen, AllWorkedOut, IsNextWorkedOut, GiveChosen, IsPlaceGiven, AllGiven}
 
-pub marked_given : (g : Given) (s : Sort) → is_given_of g s ≡ true → is_marked g ≡ true
+marked_given : (g : Given) (s : Sort) → is_given_of g s ≡ true → is_marked g ≡ true
 marked_given Unmarked s h = absurd cc
 marked_given (InRange v) s h = refl
 marked_given PastRange s h = refl
 
-pub mark_within : (marks : List Bool) (p : ℕ) → IsMarked marks p → p < length marks
+mark_within : (marks : List Bool) (p : ℕ) → IsMarked marks p → p < length marks
 mark_within marks p m = by (cases_lt p (length marks))
   where
     by : (p < length marks) ⊎ (length marks ≤ p) → p < length marks
     by (inl h) = h
     by (inr h) = let e : slice_index_or marks p false ≡ false = get_or_past marks p false h in absurd cc
-
-pub marked_unless : (marks : List Bool) (p : ℕ) → (slice_index_or marks p false ≡ false → ⊥) → IsMarked marks p
-marked_unless marks p h = by (slice_index_or marks p false) refl
-  where
-    by : (b : Bool) → slice_index_or marks p false ≡ b → IsMarked marks p
-    by true e = e
-    by false e = absurd (h e)
 
 -- the arguments of a tree that stands in a list in order, by their places
 pub arguments_picked : (trees : List Tree) (order : AreInOrder trees) (p : ℕ) (h : Head) (us : Trees) → p < length trees → tree_at trees p ≡ node h us → Picked trees us
@@ -68,7 +61,11 @@ module _ (ds : List Declaration) (trees : List Tree) (marks : List Bool) (sorts 
     within p m = subst (λ n. p < n) parts.size (mark_within marks p m)
 
     mark_of : (p : ℕ) → p < length trees → is_marked (given_at gs p) ≡ true → IsMarked marks p
-    mark_of p less m = marked_unless marks p (λ h. (let k : is_marked (given_at gs p) ≡ false = ap is_marked ((each p less).unmarked h) in cc))
+    mark_of p less m = by (slice_index_or marks p false) refl
+      where
+        by : (b : Bool) → slice_index_or marks p false ≡ b → IsMarked marks p
+        by true h = h
+        by false h = let k : is_marked (given_at gs p) ≡ false = ap is_marked ((each p less).unmarked h) in absurd cc
 
     marked : (p : ℕ) → IsMarked marks p → is_marked (given_at gs p) ≡ true
     marked p m = marked_given (given_at gs p) (slice_index_or sorts p Truths) ((each p (within p m)).sorted m)
