@@ -2,7 +2,7 @@ pub mod Reading
 pub mod Going
 pub mod Finding
 pub mod Placing
-pub mod OutcomeLemmas
+pub mod TermNodeLemmas
 pub mod TermForms
 pub mod TermHeldLemmas
 pub mod TermFiling

@@ -7,6 +7,7 @@ pub mod Comes
 pub mod Asserted
 pub mod Whole
 pub mod TermFacts
+pub mod TermNodes
 pub mod TermRenaming
 pub mod TermTable
 pub mod TermRows

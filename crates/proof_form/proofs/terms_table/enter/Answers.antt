@@ -1,6 +1,6 @@
 use Rattle.std.proofs.Common.{◌≡◌, ◌∙◌, is_err, true, sym, ap}
 use Rattle.term_store.specs.Terms.{Terms, tree_with}
-use Rattle.proof_form.proofs.OutcomeLemmas.{at_err}
+use Rattle.proof_form.proofs.TermNodeLemmas.{at_err}
 use Rattle.proof_form.proofs.TermEntering.{forgotten}
 use Rattle.proof_form.proofs.terms_table.enter.Goals as goal
 

@@ -5,7 +5,7 @@ use Rattle.linear_forms.specs.Table.{AreForms}
 use Rattle.proof_form.specs.declared.terms_facts.Fact.{Fact}
 use Rattle.proof_form.specs.TermFacts.{all_constant, held_of}
 use Rattle.proof_form.specs.TermTable.{IsHeldPlace, AreFiled, IsEntered}
-use Rattle.proof_form.proofs.OutcomeLemmas.{in_two}
+use Rattle.proof_form.proofs.TermNodeLemmas.{in_two}
 use Rattle.proof_form.proofs.TermEntering.{held_below, seen_below, filed_then, filed_same}
 use Rattle.proof_form.proofs.terms_table.TermTable.enter.Goals as goal
 
