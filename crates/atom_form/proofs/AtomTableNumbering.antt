@@ -1,12 +1,12 @@
--- The search for an atom, and an atom more.
-use Rattle.std.proofs.Common.{◌≡◌, ◌≢◌, ℕ, true, false, ◌-◌, ◌<◌, List, [], ◌∷◌, ◌++◌, length, get_or, map, sym, ap, subst, ◌∙◌, arith}
+-- What a table of kept atoms says of the atoms.
+use Rattle.std.proofs.Common.{◌≡◌, ◌≢◌, ℕ, true, false, ◌<◌, List, [], ◌∷◌, ◌++◌, length, get_or, map, sym, ap, subst, ◌∙◌, arith}
 use Rattle.std.specs.Prelude.{AllPairs, Contains}
 use Rattle.std.proofs.lemmas.List.{get_or_default, get_or-map, length-map, map-append, length_push, get_or_push}
-use Rattle.std.proofs.lemmas.List.Quantifiers.{all_pairs_push}
 use Rattle.atom_form.specs.declared.compact.CompactAtom.{CompactAtom}
 use Rattle.atom_form.specs.declared.compact.CompactAtom.TheVariants.{Truth, Same}
 use Rattle.atom_form.specs.Compact.{atom_of, atom_hash}
-use Rattle.atom_form.specs.AtomTableNumbers.{IsAt, Numbered, IsTable, AreApart}
+use Rattle.atom_form.specs.AtomTableNumbers.{IsAt, AreApart}
+use Rattle.atom_form.specs.Numbering.{Numbered, IsTable}
 
 -- one atom, kept in one way
 pub atom_of-apart : (a b : CompactAtom) → atom_of a ≡ atom_of b → a ≡ b
@@ -28,14 +28,7 @@ is_at atoms k a h e = (omega (arith, length-map atoms atom_of), λ d. get_or-map
 pub read_at : (atoms : List CompactAtom) (k : ℕ) (a : CompactAtom) → k < length atoms → a ≡ get_or atoms k a → IsAt (map atom_of atoms) k (atom_of a)
 read_at atoms k a h e = is_at atoms k a h (λ d. get_or_default atoms k d a h ∙ sym e)
 
-pub table_push : (atoms : List CompactAtom) (keys : List ℕ) (a : CompactAtom) (hash : ℕ) → IsTable atoms keys → hash ≡ atom_hash a → (Contains atoms a → ⊥)
-    → IsTable (atoms ++ a ∷ []) (keys ++ hash ∷ [])
-table_push atoms keys a hash t e new = record {
-  hashed = ap (λ xs. xs ++ hash ∷ []) t.hashed ∙ ap (λ h. map atom_hash atoms ++ h ∷ []) e ∙ sym (map-append atom_hash atoms (a ∷ []));
-  apart = all_pairs_push (λ (x y : CompactAtom). x ≢ y) atoms a t.apart (λ k d h same. new (k, h, get_or_default atoms k a d h ∙ same));
-}
-
-pub table_apart : (atoms : List CompactAtom) (keys : List ℕ) → IsTable atoms keys → AreApart (map atom_of atoms)
+pub table_apart : (atoms : List CompactAtom) (keys : List ℕ) → IsTable atom_hash atoms keys → AreApart (map atom_of atoms)
 table_apart atoms keys t i j d h g same =
     let short : j < length atoms = omega (arith, length-map atoms atom_of) in
     apart_at atoms t.apart i j h short (λ x. get_or-map atom_of atoms i x d (omega arith)) (λ x. get_or-map atom_of atoms j x d short) same

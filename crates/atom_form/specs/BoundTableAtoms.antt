@@ -5,7 +5,7 @@ use Rattle.smt_meaning.specs.declared.clauses.Atom.{Atom}
 use Rattle.smt_meaning.specs.declared.clauses.Atom.TheVariants.{AtMost}
 use Rattle.atom_form.specs.Sums.{AreApart as AreApartSums}
 use Rattle.atom_form.specs.declared.bound.SumBound.{SumBound}
-use Rattle.atom_form.specs.BoundTableNumbers.{AreApart}
+use Rattle.atom_form.specs.Numbering.{AreApart}
 
 abbrev pub atom_of : List (List Summand) → SumBound → Atom
 atom_of sums b = AtMost (slice_index_or sums b.sum []) b.threshold

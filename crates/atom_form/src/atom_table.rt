@@ -2,11 +2,13 @@
 ghost use Rattle.std.specs.Prelude.{◌≡◌, ℕ, ◌+◌, ◌<◌, ◌^◌, [], ◌∷◌, ◌++◌, length, map, take, Contains, OnOk, OnErr, IfOk, IfSome, IfNone, slice_index_or, HoldsAt};
 ghost use Rattle.smt_meaning.specs.declared.clauses.Atom.{Atom};
 ghost use Rattle.atom_form.specs.Compact.{atom_of, atom_hash};
-ghost use Rattle.atom_form.specs.AtomTableNumbers.{IsAt, Numbered, IsTable, AreApart};
+ghost use Rattle.atom_form.specs.AtomTableNumbers.{IsAt, AreApart};
+ghost use Rattle.atom_form.specs.Numbering.{Numbered, IsTable};
 ghost use Rattle.atom_form.specs.declared.compact.CompactAtom.{CompactAtom as Kept};
 
 use crate::CompactAtom;
 use crate::compact::{hash_of, is_same};
+use crate::table::append;
 use std::alloc::{AllocError, Global};
 use std::marker::Model;
 use term_store::HashIndex;
@@ -24,12 +26,12 @@ impl Model for AtomTable {
 
     ghost Value = { List Atom };
 
-    ghost use Rattle.atom_form.specs.Compact.{atom_of};
-    ghost use Rattle.atom_form.specs.AtomTableNumbers.{IsTable};
+    ghost use Rattle.atom_form.specs.Compact.{atom_of, atom_hash};
+    ghost use Rattle.atom_form.specs.Numbering.{IsTable};
 
     ghost view = { λ t. map atom_of t.atoms.items };
 
-    ghost invariant = { λ t. IsTable t.atoms.items t.keys };
+    ghost invariant = { λ t. IsTable atom_hash t.atoms.items t.keys };
 }
 
 /// The number of an atom, if it has one.
@@ -50,39 +52,15 @@ fn find(atoms: &[CompactAtom], keys: &HashIndex, atom: CompactAtom, hash: u32) -
     None
 }
 
-/// Adds an atom. An `Err` changes nothing.
-fn append(
-    atoms: &mut Vec<CompactAtom>,
-    keys: &mut HashIndex,
-    atom: CompactAtom,
-    hash: u32,
-) -> Result<(), AllocError>
-    requires table { IsTable atoms.old.items keys.old }
-    requires hash { hash ≡ atom_hash atom }
-    requires few { length atoms.old.items + 1 < 2 ^ 32 }
-    requires new { Contains atoms.old.items atom → ⊥ }
-    ensures table { IsTable atoms.new.items keys.new }
-    ensures ok { OnOk result (atoms.new.items ≡ atoms.old.items ++ atom ∷ []) }
-    ensures err { OnErr result (atoms.new.items ≡ atoms.old.items) }
-{
-    let count = atoms.len();
-    keys.push(hash)?;
-    if atoms.push(atom).is_err() {
-        keys.truncate(count);
-        return Err(AllocError);
-    }
-    Ok(())
-}
-
 /// The number of an atom, and whether it is new. An `Err` changes nothing.
 fn number(
     atoms: &mut Vec<CompactAtom>,
     keys: &mut HashIndex,
     atom: CompactAtom,
 ) -> Result<(u32, bool), AllocError>
-    requires table { IsTable atoms.old.items keys.old }
+    requires table { IsTable atom_hash atoms.old.items keys.old }
     requires few { length atoms.old.items < 2 ^ 31 }
-    ensures table { IsTable atoms.new.items keys.new }
+    ensures table { IsTable atom_hash atoms.new.items keys.new }
     ensures ok { IfOk result (λ r. Numbered (map atom_of atoms.old.items) (map atom_of atoms.new.items) (atom_of atom) r.0 r.1) }
     ensures err { OnErr result (atoms.new.items ≡ atoms.old.items) }
 {
@@ -107,13 +85,13 @@ fn atom_at(atoms: &[CompactAtom], number: u32) -> CompactAtom
 
 /// No atom has two numbers.
 fn are_apart(atoms: &[CompactAtom], keys: &HashIndex)
-    requires { IsTable atoms.now keys.now }
+    requires { IsTable atom_hash atoms.now keys.now }
     ensures { AreApart (map atom_of atoms.now) }
 {}
 
 /// The number of an atom, if it has one.
 fn find_number(atoms: &[CompactAtom], keys: &HashIndex, atom: CompactAtom) -> Option<u32>
-    requires { IsTable atoms.now keys.now }
+    requires { IsTable atom_hash atoms.now keys.now }
     ensures some { IfSome result (λ k. IsAt (map atom_of atoms.now) k (atom_of atom)) }
     ensures none { IfNone result (Contains (map atom_of atoms.now) (atom_of atom) → ⊥) }
 {
@@ -123,7 +101,8 @@ fn find_number(atoms: &[CompactAtom], keys: &HashIndex, atom: CompactAtom) -> Op
 impl AtomTable {
     ghost use Rattle.std.specs.Prelude.{◌≡◌, ◌<◌, ◌^◌, [], length, Contains, OnErr, IfOk, IfSome, IfNone};
     ghost use Rattle.atom_form.specs.Compact.{atom_of};
-    ghost use Rattle.atom_form.specs.AtomTableNumbers.{IsAt, Numbered, AreApart};
+    ghost use Rattle.atom_form.specs.AtomTableNumbers.{IsAt, AreApart};
+    ghost use Rattle.atom_form.specs.Numbering.{Numbered};
 
     /// No atom. It takes no memory.
     pub fn new(alloc: Global) -> Self

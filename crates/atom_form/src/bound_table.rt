@@ -1,9 +1,10 @@
 //! Bounds by number, each once.
 ghost use Rattle.std.specs.Prelude.{◌≡◌, ◌+◌, ◌<◌, ◌^◌, [], ◌∷◌, ◌++◌, length, map, take, Contains, OnOk, OnErr, IfOk, IfSome, IfNone};
 ghost use Rattle.atom_form.specs.BoundTableHash.{bound_hash};
-ghost use Rattle.atom_form.specs.BoundTableNumbers.{IsAt, Numbered, IsTable, AreApart};
+ghost use Rattle.atom_form.specs.Numbering.{IsAt, Numbered, IsTable, AreApart};
 
 use crate::bound::{SumBound, hash_of, is_same};
+use crate::table::append;
 use std::alloc::{AllocError, Global};
 use std::marker::Model;
 use term_store::HashIndex;
@@ -21,11 +22,12 @@ impl Model for BoundTable {
 
     ghost Value = { List BoundValue };
 
-    ghost use Rattle.atom_form.specs.BoundTableNumbers.{IsTable};
+    ghost use Rattle.atom_form.specs.BoundTableHash.{bound_hash};
+    ghost use Rattle.atom_form.specs.Numbering.{IsTable};
 
     ghost view = { λ t. t.bounds.items };
 
-    ghost invariant = { λ t. IsTable t.bounds.items t.keys };
+    ghost invariant = { λ t. IsTable bound_hash t.bounds.items t.keys };
 }
 
 /// The number of a bound, if it has one.
@@ -46,39 +48,15 @@ fn find(bounds: &[SumBound], keys: &HashIndex, bound: SumBound, hash: u32) -> Op
     None
 }
 
-/// Adds a bound. An `Err` changes nothing.
-fn append(
-    bounds: &mut Vec<SumBound>,
-    keys: &mut HashIndex,
-    bound: SumBound,
-    hash: u32,
-) -> Result<(), AllocError>
-    requires table { IsTable bounds.old.items keys.old }
-    requires hash { hash ≡ bound_hash bound }
-    requires few { length bounds.old.items + 1 < 2 ^ 32 }
-    requires new { Contains bounds.old.items bound → ⊥ }
-    ensures table { IsTable bounds.new.items keys.new }
-    ensures ok { OnOk result (bounds.new.items ≡ bounds.old.items ++ bound ∷ []) }
-    ensures err { OnErr result (bounds.new.items ≡ bounds.old.items) }
-{
-    let count = bounds.len();
-    keys.push(hash)?;
-    if bounds.push(bound).is_err() {
-        keys.truncate(count);
-        return Err(AllocError);
-    }
-    Ok(())
-}
-
 /// The number of a bound, and whether it is new. An `Err` changes nothing.
 fn number(
     bounds: &mut Vec<SumBound>,
     keys: &mut HashIndex,
     bound: SumBound,
 ) -> Result<(u32, bool), AllocError>
-    requires table { IsTable bounds.old.items keys.old }
+    requires table { IsTable bound_hash bounds.old.items keys.old }
     requires few { length bounds.old.items < 2 ^ 31 }
-    ensures table { IsTable bounds.new.items keys.new }
+    ensures table { IsTable bound_hash bounds.new.items keys.new }
     ensures ok { IfOk result (λ r. Numbered bounds.old.items bounds.new.items bound r.0 r.1) }
     ensures err { OnErr result (bounds.new.items ≡ bounds.old.items) }
 {
@@ -103,8 +81,8 @@ fn bound_at(bounds: &[SumBound], number: u32) -> SumBound
 
 /// Forgets the bounds from a number on.
 fn keep(bounds: &mut Vec<SumBound>, keys: &mut HashIndex, len: usize)
-    requires { IsTable bounds.old.items keys.old }
-    ensures table { IsTable bounds.new.items keys.new }
+    requires { IsTable bound_hash bounds.old.items keys.old }
+    ensures table { IsTable bound_hash bounds.new.items keys.new }
     ensures first { bounds.new.items ≡ take len bounds.old.items }
 {
     bounds.truncate(len);
@@ -113,13 +91,13 @@ fn keep(bounds: &mut Vec<SumBound>, keys: &mut HashIndex, len: usize)
 
 /// No bound has two numbers.
 fn are_apart(bounds: &[SumBound], keys: &HashIndex)
-    requires { IsTable bounds.now keys.now }
+    requires { IsTable bound_hash bounds.now keys.now }
     ensures { AreApart bounds.now }
 {}
 
 impl BoundTable {
     ghost use Rattle.std.specs.Prelude.{◌≡◌, ◌<◌, ◌^◌, [], length, take, Contains, OnErr, IfOk, IfSome, IfNone};
-    ghost use Rattle.atom_form.specs.BoundTableNumbers.{IsAt, Numbered, AreApart};
+    ghost use Rattle.atom_form.specs.Numbering.{IsAt, Numbered, AreApart};
 
     /// No bound. It takes no memory.
     pub fn new(alloc: Global) -> Self

@@ -155,6 +155,23 @@ one_of_two_complete out x y ss nc xo yo holds = at (nat_eq x y) refl
 
 -- ---- choices
 
+-- where the clause has the sign s, which leaves the choice t to be what z is
+module _ (ds : List (List Sign)) (ss : List Sign) (nc : NoClash ss) (t z : ℕ) (s : Sign) (st : nat_eq s.place t ≡ false) (sz : nat_eq s.place z ≡ false) (zt : nat_eq z t ≡ false)
+    (to_true : Contains ds (s ∷ no z ∷ yes t ∷ [])) (to_false : Contains ds (s ∷ yes z ∷ no t ∷ [])) (inside : is_sign_in s ss ≡ true)
+    (met : (d : ℕ → Bool) → assigned ss d t ≡ assigned ss d z → Hits ds ss) where
+  branch_fixed : Fixed ss t → Fixed ss z → Hits ds ss
+  branch_fixed (inl p) (inl q) = met blank (value_yes ss blank t nc p ∙ sym (value_yes ss blank z nc q))
+  branch_fixed (inr p) (inr q) = met blank (value_no ss blank t p ∙ sym (value_no ss blank z q))
+  branch_fixed (inl p) (inr q) = three_hit ds ss s (no z) (yes t) to_true inside q p sz st zt
+  branch_fixed (inr p) (inl q) = three_hit ds ss s (yes z) (no t) to_false inside q p sz st zt
+
+  branch : Fixed ss t → Stands ss z → Hits ds ss
+  branch f (as_yes q) = branch_fixed f (inl q)
+  branch f (as_no q) = branch_fixed f (inr q)
+  branch f (open' q r) =
+      let d : ℕ → Bool = set_at z (fixed_value ss t f) in
+      met d (fixed_is ss t d nc f ∙ sym (value_free ss d z q r ∙ set_here z (fixed_value ss t f)))
+
 -- the clause gives each of two values of the condition, where it leaves the condition open
 choices_complete : (t c x y : ℕ) (ss : List Sign) → NoClash ss → nat_eq x y ≡ false → nat_eq c x ≡ false → nat_eq c y ≡ false
     → nat_eq c t ≡ false → nat_eq x t ≡ false → nat_eq y t ≡ false → ((a : ℕ → Bool) → a t ≡ (if a c then a x else a y) → IsMet a ss) → Hits (choices t c x y) ss
@@ -177,32 +194,12 @@ choices_complete t c x y ss nc xy cx cy ct xt yt holds = on_t (stands ss t)
         ∙ ap (λ b. if assigned ss d c then b else assigned ss blank y) (sym (same_given ss d blank x (set_other t x w xt)))
         ∙ ap (λ b. if assigned ss d c then assigned ss d x else b) (sym (same_given ss d blank y (set_other t y w yt)))))
 
-    -- c is true, and x as the clause has it
-    then_fixed : is_sign_in (no c) ss ≡ true → Fixed ss t → Fixed ss x → Hits (choices t c x y) ss
-    then_fixed h (inl p) (inl q) = met_then blank (value_no ss blank c h) (value_yes ss blank t nc p ∙ sym (value_yes ss blank x nc q))
-    then_fixed h (inr p) (inr q) = met_then blank (value_no ss blank c h) (value_no ss blank t p ∙ sym (value_no ss blank x q))
-    then_fixed h (inl p) (inr q) = three_hit (choices t c x y) ss (no c) (no x) (yes t) (0, omega arith, refl) h q p cx ct xt
-    then_fixed h (inr p) (inl q) = three_hit (choices t c x y) ss (no c) (yes x) (no t) (1, omega arith, refl) h q p cx ct xt
-
+    -- c is true, or false
     then_open : is_sign_in (no c) ss ≡ true → Fixed ss t → Stands ss x → Hits (choices t c x y) ss
-    then_open h f (as_yes q) = then_fixed h f (inl q)
-    then_open h f (as_no q) = then_fixed h f (inr q)
-    then_open h f (open' q r) =
-        let d : ℕ → Bool = set_at x (fixed_value ss t f) in
-        met_then d (value_no ss d c h) (fixed_is ss t d nc f ∙ sym (value_free ss d x q r ∙ set_here x (fixed_value ss t f)))
-
-    else_fixed : is_sign_in (yes c) ss ≡ true → Fixed ss t → Fixed ss y → Hits (choices t c x y) ss
-    else_fixed h (inl p) (inl q) = met_else blank (value_yes ss blank c nc h) (value_yes ss blank t nc p ∙ sym (value_yes ss blank y nc q))
-    else_fixed h (inr p) (inr q) = met_else blank (value_yes ss blank c nc h) (value_no ss blank t p ∙ sym (value_no ss blank y q))
-    else_fixed h (inl p) (inr q) = three_hit (choices t c x y) ss (yes c) (no y) (yes t) (2, omega arith, refl) h q p cy ct yt
-    else_fixed h (inr p) (inl q) = three_hit (choices t c x y) ss (yes c) (yes y) (no t) (3, omega arith, refl) h q p cy ct yt
+    then_open h = branch (choices t c x y) ss nc t x (no c) ct cx xt (0, omega arith, refl) (1, omega arith, refl) h (λ d. met_then d (value_no ss d c h))
 
     else_open : is_sign_in (yes c) ss ≡ true → Fixed ss t → Stands ss y → Hits (choices t c x y) ss
-    else_open h f (as_yes q) = else_fixed h f (inl q)
-    else_open h f (as_no q) = else_fixed h f (inr q)
-    else_open h f (open' q r) =
-        let d : ℕ → Bool = set_at y (fixed_value ss t f) in
-        met_else d (value_yes ss d c nc h) (fixed_is ss t d nc f ∙ sym (value_free ss d y q r ∙ set_here y (fixed_value ss t f)))
+    else_open h = branch (choices t c x y) ss nc t y (yes c) ct cy yt (2, omega arith, refl) (3, omega arith, refl) h (λ d. met_else d (value_yes ss d c nc h))
 
     -- c is open
     open_fixed : is_sign_in (yes c) ss ≡ false → is_sign_in (no c) ss ≡ false → Fixed ss t → Fixed ss x → Fixed ss y → Hits (choices t c x y) ss
