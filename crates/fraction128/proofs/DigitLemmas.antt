@@ -1,7 +1,7 @@
 -- Products of digits, and numbers read from their digits.
-use Rattle.std.proofs.Common.{Bool, true, false, cond, ◌&&◌, List, [], ◌∷◌, Option, Some, None, refl, neg_ℤ, negsuc, ◌+◌, ◌≡◌, ℕ, ◌*◌, ◌^◌, ◌<◌, ◌≤◌, ℤ, pos, ◌+ℤ◌, ◌*ℤ◌, ◌<ℤ◌, ◌≤ℤ◌, unsigned_abs, sym, ap, ap₂, ◌∙◌, subst, arith, to_z, of_z}
+use Rattle.std.proofs.Common.{Bool, true, false, cond, ◌&&◌, List, [], ◌∷◌, Option, Some, None, refl, neg_ℤ, ◌+◌, ◌≡◌, ℕ, ◌*◌, ◌^◌, ◌<◌, ◌≤◌, ℤ, pos, ◌+ℤ◌, ◌*ℤ◌, ◌<ℤ◌, ◌≤ℤ◌, unsigned_abs, sym, ap, ap₂, ◌∙◌, subst, arith, to_z, of_z}
 use Rattle.std.specs.Prelude.{int_lt, int_le, length, drop, get_or}
-use Rattle.std.proofs.Common.{drop-cons, add-one, suc}
+use Rattle.std.proofs.Common.{drop-cons, add-one}
 use Rattle.std.proofs.lemmas.List.{drop_all}
 use Rattle.fraction128.specs.Dot.{dot_of}
 use Rattle.std.specs.Int.{w128}

@@ -1,5 +1,5 @@
 -- Whole numbers in digits of 32 bits.
-use Rattle.std.specs.Prelude.{ℕ, ◌*◌, ◌<◌, ◌≤◌, ◌^◌, ℤ, pos, ◌+ℤ◌, ◌*ℤ◌, ◌<ℤ◌, ◌≤ℤ◌, neg_ℤ, unsigned_abs, int_lt, int_le, ◌&&◌, ◌≡◌, Option, Some, None, IfSome, IfNone, if◌then◌else◌}
+use Rattle.std.specs.Prelude.{◌≤◌, ◌^◌, ℤ, pos, ◌+ℤ◌, ◌*ℤ◌, ◌<ℤ◌, ◌≤ℤ◌, neg_ℤ, unsigned_abs, int_lt, int_le, ◌&&◌, ◌≡◌, Option, Some, None, IfSome, IfNone, if◌then◌else◌}
 use Rattle.fraction128.specs.Whole.{InRange}
 use Rattle.fraction128.specs.declared.exact_sum.Four.{Four}
 use Rattle.fraction128.specs.declared.exact_sum.Wide.{Wide}
