@@ -1,7 +1,7 @@
 -- Products of digits, and numbers read from their digits.
-use Rattle.std.proofs.Common.{Bool, true, false, cond, ◌&&◌, List, [], ◌∷◌, Option, Some, None, refl, neg_ℤ, negsuc, ◌+◌, ◌≡◌, ℕ, ◌*◌, ◌^◌, ◌<◌, ◌≤◌, ℤ, pos, ◌+ℤ◌, ◌*ℤ◌, ◌<ℤ◌, ◌≤ℤ◌, unsigned_abs, sym, ap, ap₂, ◌∙◌, subst, arith, to_z, of_z}
+use Rattle.std.proofs.Common.{Bool, true, false, cond, ◌&&◌, List, [], ◌∷◌, Option, Some, None, refl, neg_ℤ, ◌+◌, ◌≡◌, ℕ, ◌*◌, ◌^◌, ◌<◌, ◌≤◌, ℤ, pos, ◌+ℤ◌, ◌*ℤ◌, ◌<ℤ◌, ◌≤ℤ◌, unsigned_abs, sym, ap, ap₂, ◌∙◌, subst, arith, to_z, of_z}
 use Rattle.std.specs.Prelude.{int_lt, int_le, length, drop, get_or}
-use Rattle.std.proofs.Common.{drop-cons, add-one, suc}
+use Rattle.std.proofs.Common.{drop-cons, add-one}
 use Rattle.std.proofs.lemmas.List.{drop_all}
 use Rattle.fraction128.specs.Dot.{dot_of}
 use Rattle.std.specs.Int.{w128}
@@ -9,11 +9,11 @@ use Rattle.std.proofs.lemmas.Nat.{mul-le}
 use Rattle.std.proofs.lemmas.Int.{ints, unsigned_abs-mul}
 use Rattle.fraction128.specs.Whole.{InRange}
 use Rattle.fraction128.proofs.Integers.{same_bits}
-use Rattle.fraction128.proofs.RingEquations.{Term, var, sum, product, solve}
+use Rattle.fraction128.proofs.RingEquations.{var, sum, product, solve}
 use Rattle.fraction128.proofs.WholeNumbers.{wholes}
-use Rattle.fraction128.specs.declared.exact_sum.Four.{Four}
-use Rattle.fraction128.specs.declared.exact_sum.Wide.{Wide}
-use Rattle.fraction128.specs.Digits.{base, AreDigits, IsDigit, IsSettled, held, next, four_value, wide_value}
+use Rattle.fraction128.specs.declared.wide.Seven.{Seven}
+use Rattle.fraction128.specs.Wide.{base, seven_value}
+use Rattle.fraction128.specs.Digits.{IsDigit, IsSettled, held, next}
 
 -- what the machine's product of two bounded numbers is
 pub times_is : (a b : ℤ) (m n : ℕ) → unsigned_abs a ≤ m → unsigned_abs b ≤ n → m * n < 2 ^ 127 → m < 2 ^ 127 → n < 2 ^ 127
@@ -32,9 +32,9 @@ carried_past d c p q b e =
     ∙ ap (λ z. z +ℤ base *ℤ q) e
     ∙ solve wholes (p ∷ b ∷ base ∷ q ∷ []) (sum (sum (var 0) (var 1)) (product (var 2) (var 3))) (sum (sum (var 0) (product (var 2) (var 3))) (var 1)) refl
 
-pub settled_value : (w : Wide) (d0 d1 d2 d3 d4 d5 c0 c1 c2 c3 c4 c5 : ℤ) → d0 +ℤ base *ℤ c0 ≡ w.d0 +ℤ pos 0 → d1 +ℤ base *ℤ c1 ≡ w.d1 +ℤ c0 → d2 +ℤ base *ℤ c2 ≡ w.d2 +ℤ c1
+pub settled_value : (w : Seven) (d0 d1 d2 d3 d4 d5 c0 c1 c2 c3 c4 c5 : ℤ) → d0 +ℤ base *ℤ c0 ≡ w.d0 +ℤ pos 0 → d1 +ℤ base *ℤ c1 ≡ w.d1 +ℤ c0 → d2 +ℤ base *ℤ c2 ≡ w.d2 +ℤ c1
     → d3 +ℤ base *ℤ c3 ≡ w.d3 +ℤ c2 → d4 +ℤ base *ℤ c4 ≡ w.d4 +ℤ c3 → d5 +ℤ base *ℤ c5 ≡ w.d5 +ℤ c4
-    → (let r : Wide = record { d0 = d0; d1 = d1; d2 = d2; d3 = d3; d4 = d4; d5 = d5; d6 = w.d6 +ℤ c5 } in wide_value r ≡ wide_value w)
+    → (let r : Seven = record { d0 = d0; d1 = d1; d2 = d2; d3 = d3; d4 = d4; d5 = d5; d6 = w.d6 +ℤ c5 } in seven_value r ≡ seven_value w)
 settled_value w d0 d1 d2 d3 d4 d5 c0 c1 c2 c3 c4 c5 e0 e1 e2 e3 e4 e5 =
     let q6 = w.d6 in
     let q5 = w.d5 +ℤ base *ℤ q6 in
@@ -52,48 +52,6 @@ settled_value w d0 d1 d2 d3 d4 d5 c0 c1 c2 c3 c4 c5 e0 e1 e2 e3 e4 e5 =
   where
     add_none : (z : ℤ) → z +ℤ pos 0 ≡ z
     add_none z = omega (arith, ints)
-
--- ---- products
-
-abbrev w_ : ℕ → Term
-w_ i = var i
-
-abbrev x_ : ℕ → Term
-x_ i = var (7 + i)
-
-abbrev y_ : ℕ → Term
-y_ i = var (11 + i)
-
-abbrev xy : ℕ → ℕ → Term
-xy i j = product (x_ i) (y_ j)
-
-abbrev up : Term → Term → Term
-up a b = sum a (product (var 15) b)
-
-pub multiplied_value : (w : Wide) (x y : Four) →
-    (let r : Wide = record {
-      d0 = w.d0 +ℤ x.d0 *ℤ y.d0;
-      d1 = w.d1 +ℤ x.d0 *ℤ y.d1 +ℤ x.d1 *ℤ y.d0;
-      d2 = w.d2 +ℤ x.d0 *ℤ y.d2 +ℤ x.d1 *ℤ y.d1 +ℤ x.d2 *ℤ y.d0;
-      d3 = w.d3 +ℤ x.d0 *ℤ y.d3 +ℤ x.d1 *ℤ y.d2 +ℤ x.d2 *ℤ y.d1 +ℤ x.d3 *ℤ y.d0;
-      d4 = w.d4 +ℤ x.d1 *ℤ y.d3 +ℤ x.d2 *ℤ y.d2 +ℤ x.d3 *ℤ y.d1;
-      d5 = w.d5 +ℤ x.d2 *ℤ y.d3 +ℤ x.d3 *ℤ y.d2;
-      d6 = w.d6 +ℤ x.d3 *ℤ y.d3;
-    } in wide_value r ≡ wide_value w +ℤ four_value x *ℤ four_value y)
-multiplied_value w x y =
-    solve wholes
-    (w.d0 ∷ w.d1 ∷ w.d2 ∷ w.d3 ∷ w.d4 ∷ w.d5 ∷ w.d6 ∷ x.d0 ∷ x.d1 ∷ x.d2 ∷ x.d3 ∷ y.d0 ∷ y.d1 ∷ y.d2 ∷ y.d3 ∷ base ∷ [])
-    (up (sum (w_ 0) (xy 0 0)) (up (sum (sum (w_ 1) (xy 0 1)) (xy 1 0)) (up (sum (sum (sum (w_ 2) (xy 0 2)) (xy 1 1)) (xy 2 0))
-    (up (sum (sum (sum (sum (w_ 3) (xy 0 3)) (xy 1 2)) (xy 2 1)) (xy 3 0)) (up (sum (sum (sum (w_ 4) (xy 1 3)) (xy 2 2)) (xy 3 1))
-    (up (sum (sum (w_ 5) (xy 2 3)) (xy 3 2)) (sum (w_ 6) (xy 3 3))))))))
-    (sum (up (w_ 0) (up (w_ 1) (up (w_ 2) (up (w_ 3) (up (w_ 4) (up (w_ 5) (w_ 6)))))))
-    (product (up (x_ 0) (up (x_ 1) (up (x_ 2) (x_ 3)))) (up (y_ 0) (up (y_ 1) (up (y_ 2) (y_ 3)))))) refl
-
-pub multiplied_is : (w : Wide) (x y : Four) (r0 r1 r2 r3 r4 r5 r6 : ℤ) → r0 ≡ w.d0 +ℤ x.d0 *ℤ y.d0 → r1 ≡ w.d1 +ℤ x.d0 *ℤ y.d1 +ℤ x.d1 *ℤ y.d0
-    → r2 ≡ w.d2 +ℤ x.d0 *ℤ y.d2 +ℤ x.d1 *ℤ y.d1 +ℤ x.d2 *ℤ y.d0 → r3 ≡ w.d3 +ℤ x.d0 *ℤ y.d3 +ℤ x.d1 *ℤ y.d2 +ℤ x.d2 *ℤ y.d1 +ℤ x.d3 *ℤ y.d0
-    → r4 ≡ w.d4 +ℤ x.d1 *ℤ y.d3 +ℤ x.d2 *ℤ y.d2 +ℤ x.d3 *ℤ y.d1 → r5 ≡ w.d5 +ℤ x.d2 *ℤ y.d3 +ℤ x.d3 *ℤ y.d2 → r6 ≡ w.d6 +ℤ x.d3 *ℤ y.d3
-    → (let r : Wide = record { d0 = r0; d1 = r1; d2 = r2; d3 = r3; d4 = r4; d5 = r5; d6 = r6 } in wide_value r ≡ wide_value w +ℤ four_value x *ℤ four_value y)
-multiplied_is w x y r0 r1 r2 r3 r4 r5 r6 e0 e1 e2 e3 e4 e5 e6 = rw (e0, e1, e2, e3, e4, e5, e6) (multiplied_value w x y)
 
 -- ---- reading
 
@@ -132,21 +90,10 @@ next_held n d h = by_tests (int_le (neg_ℤ (pos (2 ^ 127))) n) (int_lt n (pos (
 pub digit_back : (d : ℤ) → IsDigit d → to_z w128 (of_z w128 d) ≡ d
 digit_back d h = same_bits d (omega (arith, ints, h.0, h.1))
 
-pub near_back : (d : ℤ) → unsigned_abs d ≤ 2 ^ 67 → to_z w128 (of_z w128 d) ≡ d
-near_back d h = same_bits d (omega (arith, h))
-
-both_back : (d e : ℤ) → unsigned_abs d + unsigned_abs e < 2 ^ 127 → to_z w128 (of_z w128 (to_z w128 (of_z w128 d) +ℤ to_z w128 (of_z w128 e))) ≡ d +ℤ e
+-- a sum of two numbers with room
+pub both_back : (d e : ℤ) → unsigned_abs d + unsigned_abs e < 2 ^ 127 → to_z w128 (of_z w128 (to_z w128 (of_z w128 d) +ℤ to_z w128 (of_z w128 e))) ≡ d +ℤ e
 both_back d e h =
     ap (λ z. to_z w128 (of_z w128 z)) (ap₂ ◌+ℤ◌ (same_bits d (omega (arith, h))) (same_bits e (omega (arith, h)))) ∙ same_bits (d +ℤ e) (omega (arith, ints, h))
-
-pub carry_back : (d c : ℤ) → unsigned_abs d + 2 ^ 36 < 2 ^ 127 → unsigned_abs c ≤ 2 ^ 36 → to_z w128 (of_z w128 (to_z w128 (of_z w128 d) +ℤ to_z w128 (of_z w128 c))) ≡ d +ℤ c
-carry_back d c h k = both_back d c (omega (arith, h, k))
-
-pub highest_back : (d c : ℤ) → unsigned_abs d + 2 ^ 62 < 2 ^ 127 → unsigned_abs c ≤ 2 ^ 62 → to_z w128 (of_z w128 (to_z w128 (of_z w128 d) +ℤ to_z w128 (of_z w128 c))) ≡ d +ℤ c
-highest_back d c h k = both_back d c (omega (arith, h, k))
-
-pub sum_is : (d p q : ℤ) → unsigned_abs d ≤ 2 ^ 66 → unsigned_abs p ≤ 2 ^ 64 → p ≡ q → to_z w128 (of_z w128 (to_z w128 (of_z w128 d) +ℤ to_z w128 (of_z w128 p))) ≡ d +ℤ q
-sum_is d p q h k e = both_back d p (omega (arith, h, k)) ∙ ap (λ z. d +ℤ z) e
 
 -- ---- the sum of all pairs
 
@@ -173,40 +120,14 @@ dot_all v all ps i h e = ap (dot_of v) (sym (drop_end ps i h)) ∙ e
 
 -- ---- facts that are stated on the machine's words
 
--- a digit's size
-pub digit_size : (d : ℤ) → IsDigit d → unsigned_abs d ≤ 2 ^ 32
-digit_size d h = omega (arith, ints, h.0, h.1)
-
 pub product_back : (r a b : ℤ) → unsigned_abs a ≤ 2 ^ 32 → unsigned_abs b ≤ 2 ^ 32 → r ≡ to_z w128 (of_z w128 a) *ℤ to_z w128 (of_z w128 b) → r ≡ a *ℤ b
 product_back r a b ha hb e = e ∙ ap₂ ◌*ℤ◌ (same_bits a (omega (arith, ha))) (same_bits b (omega (arith, hb)))
 
-pub fused_back : (r s a b : ℤ) → unsigned_abs s ≤ 2 ^ 67 → unsigned_abs a ≤ 2 ^ 32 → unsigned_abs b ≤ 2 ^ 32
-    → r ≡ to_z w128 (of_z w128 s) +ℤ to_z w128 (of_z w128 a) *ℤ to_z w128 (of_z w128 b) → r ≡ s +ℤ a *ℤ b
-fused_back r s a b hs ha hb e = e ∙ ap₂ ◌+ℤ◌ (same_bits s (omega (arith, hs))) (ap₂ ◌*ℤ◌ (same_bits a (omega (arith, ha))) (same_bits b (omega (arith, hb))))
-
-pub fused_bound : (r s : ℤ) → unsigned_abs s ≤ 2 ^ 67 → unsigned_abs r ≤ unsigned_abs (to_z w128 (of_z w128 s)) + 2 ^ 64 → unsigned_abs r ≤ unsigned_abs s + 2 ^ 64
-fused_bound r s hs h = subst (λ z. unsigned_abs r ≤ unsigned_abs z + 2 ^ 64) (same_bits s (omega (arith, hs))) h
-
-pub carried_first : (d c p : ℤ) → unsigned_abs p ≤ 2 ^ 67 → d +ℤ base *ℤ c ≡ to_z w128 (of_z w128 p) +ℤ pos 0 → d +ℤ base *ℤ c ≡ p +ℤ pos 0
+pub carried_first : (d c p : ℤ) → unsigned_abs p ≤ 2 ^ 125 → d +ℤ base *ℤ c ≡ to_z w128 (of_z w128 p) +ℤ pos 0 → d +ℤ base *ℤ c ≡ p +ℤ pos 0
 carried_first d c p hp e = e ∙ ap (λ z. z +ℤ pos 0) (same_bits p (omega (arith, hp)))
 
-pub carried_back : (d c p q : ℤ) → unsigned_abs p ≤ 2 ^ 67 → unsigned_abs q ≤ 2 ^ 36 → d +ℤ base *ℤ c ≡ to_z w128 (of_z w128 p) +ℤ to_z w128 (of_z w128 q) → d +ℤ base *ℤ c ≡ p +ℤ q
+pub carried_back : (d c p q : ℤ) → unsigned_abs p ≤ 2 ^ 125 → unsigned_abs q ≤ 2 ^ 94 → d +ℤ base *ℤ c ≡ to_z w128 (of_z w128 p) +ℤ to_z w128 (of_z w128 q) → d +ℤ base *ℤ c ≡ p +ℤ q
 carried_back d c p q hp hq e = e ∙ ap₂ ◌+ℤ◌ (same_bits p (omega (arith, hp))) (same_bits q (omega (arith, hq)))
-
-pub highest_size : (d : ℤ) → unsigned_abs d ≤ 2 ^ 31 → unsigned_abs d ≤ 2 ^ 32
-highest_size d h = omega (arith, h)
-
-pub size_back : (d : ℤ) (m : ℕ) → m < 2 ^ 127 → unsigned_abs d ≤ m → unsigned_abs (to_z w128 (of_z w128 d)) ≤ m
-size_back d m hm h = subst (λ z. unsigned_abs z ≤ m) (sym (same_bits d (omega (arith, hm, h)))) h
-
-pub places_value : (x : Four) → AreDigits x →
-    (let r : Wide = record { d0 = to_z w128 (of_z w128 x.d0); d1 = to_z w128 (of_z w128 x.d1); d2 = to_z w128 (of_z w128 x.d2); d3 = to_z w128 (of_z w128 x.d3); d4 = pos 0; d5 = pos 0; d6 = pos 0 } in wide_value r ≡ four_value x)
-places_value x h =
-    rw (digit_back x.d0 h.first, digit_back x.d1 h.second, digit_back x.d2 h.third, near_back x.d3 (omega (arith, h.fourth)))
-    (ap (λ z. x.d0 +ℤ base *ℤ (x.d1 +ℤ base *ℤ (x.d2 +ℤ base *ℤ z))) (add_none x.d3))
-  where
-    add_none : (z : ℤ) → z +ℤ pos 0 ≡ z
-    add_none z = omega (arith, ints)
 
 -- a number that is held is in the range unless it is the least
 pub held_some : (n m : ℤ) → Some m ≡ held n → m ≡ n
@@ -222,23 +143,20 @@ held_none n e r = by_tests (let p : Some n ≡ held n = sym (held_itself n (omeg
     by_tests : Some n ≡ None → ⊥
     by_tests p = absurd (cc)
 
-pub word_is : (w : Wide) (o5 o4 o3 o2 o1 r : Option ℤ) → IsSettled w → unsigned_abs w.d6 < 2 ^ 127 → o5 ≡ next (Some (to_z w128 (of_z w128 w.d6))) (to_z w128 (of_z w128 w.d5))
+pub word_is : (w : Seven) (o5 o4 o3 o2 o1 r : Option ℤ) → IsSettled w → o5 ≡ next (Some (to_z w128 (of_z w128 w.d6))) (to_z w128 (of_z w128 w.d5))
     → o4 ≡ next o5 (to_z w128 (of_z w128 w.d4)) → o3 ≡ next o4 (to_z w128 (of_z w128 w.d3)) → o2 ≡ next o3 (to_z w128 (of_z w128 w.d2))
-    → o1 ≡ next o2 (to_z w128 (of_z w128 w.d1)) → r ≡ next o1 (to_z w128 (of_z w128 w.d0)) → r ≡ held (wide_value w)
-word_is w o5 o4 o3 o2 o1 r s top e5 e4 e3 e2 e1 e0 =
+    → o1 ≡ next o2 (to_z w128 (of_z w128 w.d1)) → r ≡ next o1 (to_z w128 (of_z w128 w.d0)) → r ≡ held (seven_value w)
+word_is w o5 o4 o3 o2 o1 r s e5 e4 e3 e2 e1 e0 =
     let p6 = w.d6 in
     let p5 = w.d5 +ℤ base *ℤ p6 in
     let p4 = w.d4 +ℤ base *ℤ p5 in
     let p3 = w.d3 +ℤ base *ℤ p4 in
     let p2 = w.d2 +ℤ base *ℤ p3 in
     let p1 = w.d1 +ℤ base *ℤ p2 in
-    let itself : Some p6 ≡ held p6 = sym (held_itself p6 (omega (arith, ints)) (omega (arith, ints))) in
-    let h5 : o5 ≡ held p5 = e5 ∙ ap₂ (λ a b. next (Some a) b) (same_bits w.d6 top) (digit_back w.d5 s.sixth) ∙ ap (λ o. next o w.d5) itself ∙ next_held p6 w.d5 s.sixth in
+    let itself : Some p6 ≡ held p6 = sym (held_itself p6 (omega (arith, ints, s.seventh)) (omega (arith, ints, s.seventh))) in
+    let h5 : o5 ≡ held p5 = e5 ∙ ap₂ (λ a b. next (Some a) b) (same_bits w.d6 s.seventh) (digit_back w.d5 s.sixth) ∙ ap (λ o. next o w.d5) itself ∙ next_held p6 w.d5 s.sixth in
     let h4 : o4 ≡ held p4 = e4 ∙ ap (next o5) (digit_back w.d4 s.fifth) ∙ ap (λ o. next o w.d4) h5 ∙ next_held p5 w.d4 s.fifth in
     let h3 : o3 ≡ held p3 = e3 ∙ ap (next o4) (digit_back w.d3 s.fourth) ∙ ap (λ o. next o w.d3) h4 ∙ next_held p4 w.d3 s.fourth in
     let h2 : o2 ≡ held p2 = e2 ∙ ap (next o3) (digit_back w.d2 s.third) ∙ ap (λ o. next o w.d2) h3 ∙ next_held p3 w.d2 s.third in
     let h1 : o1 ≡ held p1 = e1 ∙ ap (next o2) (digit_back w.d1 s.second) ∙ ap (λ o. next o w.d1) h2 ∙ next_held p2 w.d1 s.second in
     e0 ∙ ap (next o1) (digit_back w.d0 s.first) ∙ ap (λ o. next o w.d0) h1 ∙ next_held p1 w.d0 s.first
-
-pub highest_product : (r a b : ℤ) → unsigned_abs a ≤ 2 ^ 31 → unsigned_abs b ≤ 2 ^ 31 → r ≡ to_z w128 (of_z w128 a) *ℤ to_z w128 (of_z w128 b) → r ≡ a *ℤ b
-highest_product r a b ha hb e = product_back r a b (omega (arith, ha)) (omega (arith, hb)) e

@@ -1,5 +1,5 @@
 -- Sums, products and reciprocals by the listed steps name the sum, the product and the reciprocal, without bound.
-use Rattle.std.proofs.Common.{◌≡◌, ◌≢◌, ℕ, zero, suc, ◌*◌, ◌/◌, ◌<◌, ℤ, pos, negsuc, ◌+ℤ◌, ◌*ℤ◌, neg_ℤ, unsigned_abs, sym, ap, ap₂, ◌∙◌, subst, arith, refl, [], ◌∷◌, true, eqb-true}
+use Rattle.std.proofs.Common.{◌≡◌, ◌≢◌, ℕ, zero, suc, ◌*◌, ◌/◌, ◌<◌, ℤ, pos, negsuc, ◌+ℤ◌, ◌*ℤ◌, unsigned_abs, sym, ap, ap₂, ◌∙◌, subst, arith, refl, [], ◌∷◌, true, eqb-true}
 use Rattle.std.specs.Int.{◌∣◌}
 use Rattle.std.specs.Int.RustNames.{int_div}
 use Rattle.std.proofs.Math.Nat.{mul-div_cancel'}
@@ -12,7 +12,8 @@ use Rattle.fraction128.proofs.Integers.{quot-times}
 use Rattle.fraction128.proofs.LowestTerms.{pos_times}
 use Rattle.fraction128.specs.Number.{whole, SameNumber, unreduced_sum, unreduced_product, is_zero}
 use Rattle.fraction128.specs.Listed.{fused, reciprocal_of}
-use Rattle.fraction128.proofs.RingEquations.{var, sum, product, minus, nothing, unit, solve}
+use Rattle.fraction128.proofs.FieldEquations.{product_with_reciprocal}
+use Rattle.fraction128.proofs.RingEquations.{var, sum, product, nothing, unit, solve}
 use Rattle.fraction128.proofs.WholeNumbers.{wholes}
 use Rattle.fraction128.proofs.RationalRing.{number, number_eq, number_plus, number_times, rational_sum, rational_product, rational_zero, rational_one, rational_zero-is, rational_one-is}
 
@@ -129,14 +130,5 @@ pub number_reciprocal : (x : Ratio) → 0 < x.denominator → x.numerator ≢ po
 number_reciprocal x fx h =
     sym (number_times x (reciprocal_of x) fx (reciprocal_positive x h))
     ∙ number_eq (unreduced_product x (reciprocal_of x)) (whole (pos 1)) (pos_times x.denominator (reciprocal_of x).denominator fx (reciprocal_positive x h)) (omega arith)
-    (by_sign x.numerator x.denominator)
+    (product_with_reciprocal x)
     ∙ sym rational_one-is
-  where
-    by_sign : (n : ℤ) (d : ℕ) → SameNumber (unreduced_product (record { numerator = n; denominator = d }) (reciprocal_of (record { numerator = n; denominator = d }))) (whole (pos 1))
-    by_sign (pos n) d = solve wholes (pos n ∷ pos d ∷ []) (product (product (var 0) (var 1)) unit) (product unit (product (var 1) (var 0))) refl
-    by_sign (negsuc n) d =
-        ap (λ z. z *ℤ neg_ℤ (pos d) *ℤ pos 1) minus_is
-        ∙ solve wholes (pos (suc n) ∷ pos d ∷ []) (product (product (minus (var 0)) (minus (var 1))) unit) (product unit (product (var 1) (var 0))) refl
-      where
-        minus_is : negsuc n ≡ neg_ℤ (pos (suc n))
-        minus_is = refl

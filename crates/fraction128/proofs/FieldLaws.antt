@@ -1,102 +1,14 @@
--- The rational numbers as an ordered field, on unreduced fractions: each law up to being one number.
-use Rattle.std.proofs.Common.{◌≡◌, ◌⊎◌, inl, inr, ℕ, suc, ◌+◌, ◌*◌, ◌<◌, ℤ, pos, negsuc, ◌+ℤ◌, ◌*ℤ◌, ◌≤ℤ◌, ◌<ℤ◌, neg_ℤ, sym, ap, ap₂, ◌∙◌, arith, refl, List, [], ◌∷◌, Bool, true, false}
+-- The order of the rational numbers, on unreduced fractions: it respects which numbers are named, sums, and products with positive ones.
+use Rattle.std.proofs.Common.{◌≡◌, ◌⊎◌, inl, inr, ℕ, ◌*◌, ◌<◌, ℤ, pos, negsuc, ◌+ℤ◌, ◌*ℤ◌, ◌≤ℤ◌, ◌<ℤ◌, sym, ap, ap₂, ◌∙◌, arith, refl, List, [], ◌∷◌, Bool, true, false}
 use Rattle.std.specs.Prelude.{int_lt, IsTrue}
 use Rattle.std.proofs.lemmas.Int.{ints}
 use Rattle.fraction128.specs.declared.ratio.Ratio.{Ratio}
-use Rattle.fraction128.specs.Listed.{negation_of, reciprocal_of}
-use Rattle.fraction128.specs.Number.{whole, SameNumber, unreduced_sum, unreduced_product, is_less, is_positive}
+use Rattle.fraction128.specs.Number.{SameNumber, unreduced_sum, unreduced_product, is_less, is_positive}
 use Rattle.fraction128.proofs.LowestTerms.{pos_times}
-use Rattle.fraction128.proofs.RingEquations.{Term, var, sum, product, minus, nothing, unit, solve}
+use Rattle.fraction128.proofs.RingEquations.{var, sum, product, solve}
 use Rattle.fraction128.proofs.WholeNumbers.{wholes}
+use Rattle.fraction128.proofs.FieldEquations.{vars}
 use Rattle.fraction128.proofs.RationalOrder.{mul_mono, mul_strict}
-
--- the numerator and the denominator of a fraction, and of a sum and a product, as terms
-abbrev Parts : Type 0
-Parts = Term × Term
-
-abbrev at_place : ℕ → Parts
-at_place i = (var (2 * i), var (2 * i + 1))
-
-abbrev added : Parts → Parts → Parts
-added a b = (sum (product a.0 b.1) (product b.0 a.1), product a.1 b.1)
-
-abbrev multiplied : Parts → Parts → Parts
-multiplied a b = (product a.0 b.0, product a.1 b.1)
-
-abbrev turned : Parts → Parts
-turned a = (minus a.0, a.1)
-
-abbrev none_parts : Parts
-none_parts = (nothing, unit)
-
-abbrev one_parts : Parts
-one_parts = (unit, unit)
-
-abbrev over : Parts → Parts → Term
-over a b = product a.0 b.1
-
-abbrev vars : List Ratio → List ℤ
-vars [] = []
-vars (x ∷ xs) = x.numerator ∷ pos x.denominator ∷ vars xs
-
-pub sum_commutes : (x y : Ratio) → SameNumber (unreduced_sum x y) (unreduced_sum y x)
-sum_commutes x y =
-    let l = added (at_place 0) (at_place 1) in
-    let r = added (at_place 1) (at_place 0) in
-    solve wholes (vars (x ∷ y ∷ [])) (over l r) (over r l) refl
-
-pub sum_regroups : (x y z : Ratio) → SameNumber (unreduced_sum (unreduced_sum x y) z) (unreduced_sum x (unreduced_sum y z))
-sum_regroups x y z =
-    let l = added (added (at_place 0) (at_place 1)) (at_place 2) in
-    let r = added (at_place 0) (added (at_place 1) (at_place 2)) in
-    solve wholes (vars (x ∷ y ∷ z ∷ [])) (over l r) (over r l) refl
-
-pub sum_with_zero : (x : Ratio) → SameNumber (unreduced_sum x (whole (pos 0))) x
-sum_with_zero x =
-    let l = added (at_place 0) none_parts in
-    solve wholes (vars (x ∷ [])) (over l (at_place 0)) (over (at_place 0) l) refl
-
-pub sum_with_negation : (x : Ratio) → SameNumber (unreduced_sum x (negation_of x)) (whole (pos 0))
-sum_with_negation x =
-    let l = added (at_place 0) (turned (at_place 0)) in
-    solve wholes (vars (x ∷ [])) (over l none_parts) (over none_parts l) refl
-
-pub product_commutes : (x y : Ratio) → SameNumber (unreduced_product x y) (unreduced_product y x)
-product_commutes x y =
-    let l = multiplied (at_place 0) (at_place 1) in
-    let r = multiplied (at_place 1) (at_place 0) in
-    solve wholes (vars (x ∷ y ∷ [])) (over l r) (over r l) refl
-
-pub product_regroups : (x y z : Ratio) → SameNumber (unreduced_product (unreduced_product x y) z) (unreduced_product x (unreduced_product y z))
-product_regroups x y z =
-    let l = multiplied (multiplied (at_place 0) (at_place 1)) (at_place 2) in
-    let r = multiplied (at_place 0) (multiplied (at_place 1) (at_place 2)) in
-    solve wholes (vars (x ∷ y ∷ z ∷ [])) (over l r) (over r l) refl
-
-pub product_with_one : (x : Ratio) → SameNumber (unreduced_product x (whole (pos 1))) x
-product_with_one x =
-    let l = multiplied (at_place 0) one_parts in
-    solve wholes (vars (x ∷ [])) (over l (at_place 0)) (over (at_place 0) l) refl
-
-pub product_over_sum : (x y z : Ratio) → SameNumber (unreduced_product x (unreduced_sum y z)) (unreduced_sum (unreduced_product x y) (unreduced_product x z))
-product_over_sum x y z =
-    let l = multiplied (at_place 0) (added (at_place 1) (at_place 2)) in
-    let r = added (multiplied (at_place 0) (at_place 1)) (multiplied (at_place 0) (at_place 2)) in
-    solve wholes (vars (x ∷ y ∷ z ∷ [])) (over l r) (over r l) refl
-
-pub product_with_reciprocal : (x : Ratio) → SameNumber (unreduced_product x (reciprocal_of x)) (whole (pos 1))
-product_with_reciprocal x = by_sign x.numerator x.denominator
-  where
-    by_sign : (n : ℤ) (d : ℕ) → SameNumber (unreduced_product (record { numerator = n; denominator = d }) (reciprocal_of (record { numerator = n; denominator = d }))) (whole (pos 1))
-    by_sign (pos n) d = solve wholes (pos n ∷ pos d ∷ []) (product (product (var 0) (var 1)) unit) (product unit (product (var 1) (var 0))) refl
-    by_sign (negsuc n) d =
-        ap (λ z. z *ℤ neg_ℤ (pos d) *ℤ pos 1) minus_is
-        ∙ solve wholes (pos (suc n) ∷ pos d ∷ []) (product (product (minus (var 0)) (minus (var 1))) unit) (product unit (product (var 1) (var 0))) refl
-      where
-        minus_is : negsuc n ≡ neg_ℤ (pos (suc n))
-        minus_is = refl
-
--- ---- the order
 
 lt_of : (a b : ℤ) → IsTrue (int_lt a b) → a <ℤ b
 lt_of a b h = grind (arith, ints)

@@ -14,6 +14,7 @@ pub mod RationalRing
 pub mod RationalOrder
 pub mod ListedAnswers
 pub mod ExactSteps
+pub mod FieldEquations
 pub mod FieldLaws
 pub mod Divisions
 mod NumberMeaningExamples

@@ -25,10 +25,6 @@ held_is z n few h = same_bits z (omega (arith, few, h))
 
 -- ---- one place
 
-pub sum_held : (d p : ℤ) → unsigned_abs d ≤ 2 ^ 126 → unsigned_abs p ≤ 2 ^ 64 → held (held d +ℤ held p) ≡ d +ℤ p
-sum_held d p h k =
-    ap held (ap₂ ◌+ℤ◌ (held_is d (2 ^ 126) (omega arith) h) (held_is p (2 ^ 64) (omega arith) k)) ∙ same_bits (d +ℤ p) (omega (arith, ints, h, k))
-
 pub place_is : (r s a b : ℤ) → unsigned_abs s ≤ 2 ^ 126 → unsigned_abs a ≤ 2 ^ 32 → unsigned_abs b ≤ 2 ^ 32 → r ≡ held s +ℤ held a *ℤ held b → unsigned_abs r ≤ unsigned_abs (held s) + 2 ^ 64
     → held r ≡ s +ℤ a *ℤ b
 place_is r s a b hs ha hb e h =
@@ -128,10 +124,16 @@ product_is p a b c d y x ea eb ec ed =
     ∙ ap (λ z. z +ℤ u1) ea
     ∙ gathered p y x
 
--- ---- the sign
-
 none_more : (z : ℤ) → z +ℤ pos 0 ≡ z
 none_more z = omega (arith, ints)
+
+-- four places, with none above them
+pub places_value : (x : Four) → AreFourWithin x (2 ^ 32) → seven_value (sevens (held x.d0) (held x.d1) (held x.d2) (held x.d3) (pos 0) (pos 0) (pos 0)) ≡ four_value x
+places_value x h =
+    rw (held_is x.d0 (2 ^ 32) (omega arith) h.first, held_is x.d1 (2 ^ 32) (omega arith) h.second, held_is x.d2 (2 ^ 32) (omega arith) h.third, held_is x.d3 (2 ^ 32) (omega arith) h.fourth)
+    (ap (λ z. x.d0 +ℤ base *ℤ (x.d1 +ℤ base *ℤ (x.d2 +ℤ base *ℤ z))) (none_more x.d3))
+
+-- ---- the sign
 
 -- what carrying keeps
 abbrev pub KeepsSign : ℤ → ℤ → ℤ → Type 0

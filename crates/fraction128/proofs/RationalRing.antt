@@ -15,7 +15,8 @@ use Rattle.fraction128.proofs.LowestTerms.{pos_times}
 use Rattle.fraction128.proofs.Comparisons.{times_cancel}
 use Rattle.fraction128.specs.Ratio.{IsFraction, Equals}
 use Rattle.fraction128.specs.Number.{whole, SameNumber, unreduced_sum, unreduced_product}
-use Rattle.fraction128.proofs.RingEquations.{Ring, var, sum, product, minus, nothing, unit, solve}
+use Rattle.fraction128.proofs.FieldEquations.{Commutes, Regroups, IsNeutral, sum_commutes, sum_regroups, sum_with_zero, sum_with_negation, product_commutes, product_regroups, product_with_one, product_over_sum}
+use Rattle.fraction128.proofs.RingEquations.{Ring, var, sum, product, minus, solve}
 use Rattle.fraction128.proofs.WholeNumbers.{wholes}
 
 abbrev pub IsLowest : Ratio → Type 0
@@ -155,6 +156,66 @@ times_same x x' y y' e f =
     vars : List ℤ
     vars = x.numerator ∷ pos x.denominator ∷ y.numerator ∷ pos y.denominator ∷ x'.numerator ∷ pos x'.denominator ∷ y'.numerator ∷ pos y'.denominator ∷ []
 
+-- an operation on fractions that respects which numbers they name, commutes and may be regrouped
+record Operation : Type 0 where
+  of : Ratio → Ratio → Ratio
+  above : (x y : Ratio) → 0 < x.denominator → 0 < y.denominator → 0 < (of x y).denominator
+  respects : (x x' y y' : Ratio) → SameNumber x x' → SameNumber y y' → SameNumber (of x y) (of x' y')
+  commutes : Commutes of
+  regroups : Regroups of
+
+abbrev sums : Operation
+sums =
+    record {
+      of = unreduced_sum;
+      above = λ x y. pos_times x.denominator y.denominator;
+      respects = plus_same;
+      commutes = sum_commutes;
+      regroups = sum_regroups;
+    }
+
+abbrev products : Operation
+products =
+    record {
+      of = unreduced_product;
+      above = λ x y. pos_times x.denominator y.denominator;
+      respects = times_same;
+      commutes = product_commutes;
+      regroups = product_regroups;
+    }
+
+-- the operation on the numbers
+abbrev on : Operation → Rational → Rational → Rational
+on o p q = number (o.of p.0 q.0)
+
+on_numbers : (o : Operation) (x y : Ratio) → 0 < x.denominator → 0 < y.denominator → number (o.of x y) ≡ on o (number x) (number y)
+on_numbers o x y fx fy =
+    number_eq (o.of x y) (o.of (number x).0 (number y).0) (o.above x y fx fy) (o.above (number x).0 (number y).0 (number x).1.0 (number y).1.0)
+    (o.respects x (number x).0 y (number y).0 (same_sym (number x).0 x (number_same x fx)) (same_sym (number y).0 y (number_same y fy)))
+
+on_left : (o : Operation) (x : Ratio) (q : Rational) → 0 < x.denominator → on o (number x) q ≡ number (o.of x q.0)
+on_left o x q fx = ap (on o (number x)) (sym (number_of q)) ∙ sym (on_numbers o x q.0 fx q.1.0)
+
+on_right : (o : Operation) (p : Rational) (y : Ratio) → 0 < y.denominator → on o p (number y) ≡ number (o.of p.0 y)
+on_right o p y fy = ap (λ z. on o z (number y)) (sym (number_of p)) ∙ sym (on_numbers o p.0 y p.1.0 fy)
+
+above_both : (o : Operation) (p q : Rational) → 0 < (o.of p.0 q.0).denominator
+above_both o p q = o.above p.0 q.0 p.1.0 q.1.0
+
+on_commutes : (o : Operation) (p q : Rational) → on o p q ≡ on o q p
+on_commutes o p q = number_eq (o.of p.0 q.0) (o.of q.0 p.0) (above_both o p q) (above_both o q p) (o.commutes p.0 q.0)
+
+on_regroups : (o : Operation) (p q r : Rational) → on o (on o p q) r ≡ on o p (on o q r)
+on_regroups o p q r =
+    on_left o (o.of p.0 q.0) r (above_both o p q)
+    ∙ number_eq (o.of (o.of p.0 q.0) r.0) (o.of p.0 (o.of q.0 r.0)) (o.above (o.of p.0 q.0) r.0 (above_both o p q) r.1.0) (o.above p.0 (o.of q.0 r.0) p.1.0 (above_both o q r))
+    (o.regroups p.0 q.0 r.0)
+    ∙ sym (on_right o p (o.of q.0 r.0) (above_both o q r))
+
+-- with a number that changes none
+on_neutral : (o : Operation) (n : Ratio) → 0 < n.denominator → IsNeutral o.of n → (p : Rational) → on o p (number n) ≡ p
+on_neutral o n fn same p = on_right o p n fn ∙ number_eq (o.of p.0 n) p.0 (o.above p.0 n p.1.0 fn) p.1.0 (same p.0) ∙ number_of p
+
 pub rational_sum : Rational → Rational → Rational
 rational_sum p q = number (unreduced_sum p.0 q.0)
 
@@ -166,17 +227,11 @@ rational_negation p = number (negation_of p.0)
 
 pub number_plus : (x y : Ratio) → 0 < x.denominator → 0 < y.denominator → number (unreduced_sum x y) ≡ rational_sum (number x) (number y)
 unfolding rational_sum
-number_plus x y fx fy =
-    number_eq (unreduced_sum x y) (unreduced_sum (number x).0 (number y).0) (pos_times x.denominator y.denominator fx fy)
-    (pos_times (number x).0.denominator (number y).0.denominator (number x).1.0 (number y).1.0)
-    (plus_same x (number x).0 y (number y).0 (same_sym (number x).0 x (number_same x fx)) (same_sym (number y).0 y (number_same y fy)))
+number_plus x y fx fy = on_numbers sums x y fx fy
 
 pub number_times : (x y : Ratio) → 0 < x.denominator → 0 < y.denominator → number (unreduced_product x y) ≡ rational_product (number x) (number y)
 unfolding rational_product
-number_times x y fx fy =
-    number_eq (unreduced_product x y) (unreduced_product (number x).0 (number y).0) (pos_times x.denominator y.denominator fx fy)
-    (pos_times (number x).0.denominator (number y).0.denominator (number x).1.0 (number y).1.0)
-    (times_same x (number x).0 y (number y).0 (same_sym (number x).0 x (number_same x fx)) (same_sym (number y).0 y (number_same y fy)))
+number_times x y fx fy = on_numbers products x y fx fy
 
 neg_same : (x y : Ratio) → SameNumber x y → SameNumber (negation_of x) (negation_of y)
 neg_same x y e =
@@ -193,36 +248,6 @@ rational_zero = number (whole (pos 0))
 
 pub rational_one : Rational
 rational_one = number (whole (pos 1))
-
--- ---- the laws, each by an equation of whole numbers
-
-pub rational_sum-comm : (p q : Rational) → rational_sum p q ≡ rational_sum q p
-unfolding rational_sum
-rational_sum-comm p q =
-    number_eq (unreduced_sum p.0 q.0) (unreduced_sum q.0 p.0) (pos_times p.0.denominator q.0.denominator p.1.0 q.1.0) (pos_times q.0.denominator p.0.denominator q.1.0 p.1.0)
-    (solve wholes (p.0.numerator ∷ pos p.0.denominator ∷ q.0.numerator ∷ pos q.0.denominator ∷ [])
-    (product (sum (product (var 0) (var 3)) (product (var 2) (var 1))) (product (var 3) (var 1)))
-    (product (sum (product (var 2) (var 1)) (product (var 0) (var 3))) (product (var 1) (var 3))) refl)
-
-pub rational_product-comm : (p q : Rational) → rational_product p q ≡ rational_product q p
-unfolding rational_product
-rational_product-comm p q =
-    number_eq (unreduced_product p.0 q.0) (unreduced_product q.0 p.0) (pos_times p.0.denominator q.0.denominator p.1.0 q.1.0) (pos_times q.0.denominator p.0.denominator q.1.0 p.1.0)
-    (solve wholes (p.0.numerator ∷ pos p.0.denominator ∷ q.0.numerator ∷ pos q.0.denominator ∷ [])
-    (product (product (var 0) (var 2)) (product (var 3) (var 1)))
-    (product (product (var 2) (var 0)) (product (var 1) (var 3))) refl)
-
-rational_sum-left : (x : Ratio) (q : Rational) → 0 < x.denominator → rational_sum (number x) q ≡ number (unreduced_sum x q.0)
-rational_sum-left x q fx = ap (rational_sum (number x)) (sym (number_of q)) ∙ sym (number_plus x q.0 fx q.1.0)
-
-rational_sum-right : (p : Rational) (y : Ratio) → 0 < y.denominator → rational_sum p (number y) ≡ number (unreduced_sum p.0 y)
-rational_sum-right p y fy = ap (λ z. rational_sum z (number y)) (sym (number_of p)) ∙ sym (number_plus p.0 y p.1.0 fy)
-
-rational_product-left : (x : Ratio) (q : Rational) → 0 < x.denominator → rational_product (number x) q ≡ number (unreduced_product x q.0)
-rational_product-left x q fx = ap (rational_product (number x)) (sym (number_of q)) ∙ sym (number_times x q.0 fx q.1.0)
-
-rational_product-right : (p : Rational) (y : Ratio) → 0 < y.denominator → rational_product p (number y) ≡ number (unreduced_product p.0 y)
-rational_product-right p y fy = ap (λ z. rational_product z (number y)) (sym (number_of p)) ∙ sym (number_times p.0 y p.1.0 fy)
 
 pub rational_sum-is : (p q : Rational) → rational_sum p q ≡ number (unreduced_sum p.0 q.0)
 unfolding rational_sum
@@ -244,68 +269,47 @@ pub rational_one-is : rational_one ≡ number (whole (pos 1))
 unfolding rational_one
 rational_one-is = refl
 
-above_two : (p q : Rational) → 0 < p.0.denominator * q.0.denominator
-above_two p q = pos_times p.0.denominator q.0.denominator p.1.0 q.1.0
+-- ---- the laws, each by an equation of unreduced fractions
+
+pub rational_sum-comm : (p q : Rational) → rational_sum p q ≡ rational_sum q p
+unfolding rational_sum
+rational_sum-comm p q = on_commutes sums p q
+
+pub rational_product-comm : (p q : Rational) → rational_product p q ≡ rational_product q p
+unfolding rational_product
+rational_product-comm p q = on_commutes products p q
 
 pub rational_sum-assoc : (p q r : Rational) → rational_sum (rational_sum p q) r ≡ rational_sum p (rational_sum q r)
-rational_sum-assoc p q r =
-    ap (λ z. rational_sum z r) (rational_sum-is p q) ∙ rational_sum-left (unreduced_sum p.0 q.0) r (above_two p q)
-    ∙ number_eq (unreduced_sum (unreduced_sum p.0 q.0) r.0) (unreduced_sum p.0 (unreduced_sum q.0 r.0))
-    (pos_times (p.0.denominator * q.0.denominator) r.0.denominator (above_two p q) r.1.0)
-    (pos_times p.0.denominator (q.0.denominator * r.0.denominator) p.1.0 (above_two q r))
-    (solve wholes (p.0.numerator ∷ pos p.0.denominator ∷ q.0.numerator ∷ pos q.0.denominator ∷ r.0.numerator ∷ pos r.0.denominator ∷ [])
-    (product (sum (product (sum (product (var 0) (var 3)) (product (var 2) (var 1))) (var 5)) (product (var 4) (product (var 1) (var 3)))) (product (var 1) (product (var 3) (var 5))))
-    (product (sum (product (var 0) (product (var 3) (var 5))) (product (sum (product (var 2) (var 5)) (product (var 4) (var 3))) (var 1))) (product (product (var 1) (var 3)) (var 5))) refl)
-    ∙ sym (rational_sum-right p (unreduced_sum q.0 r.0) (above_two q r))
-    ∙ ap (rational_sum p) (sym (rational_sum-is q r))
+unfolding rational_sum
+rational_sum-assoc p q r = on_regroups sums p q r
 
 pub rational_product-assoc : (p q r : Rational) → rational_product (rational_product p q) r ≡ rational_product p (rational_product q r)
-rational_product-assoc p q r =
-    ap (λ z. rational_product z r) (rational_product-is p q) ∙ rational_product-left (unreduced_product p.0 q.0) r (above_two p q)
-    ∙ number_eq (unreduced_product (unreduced_product p.0 q.0) r.0) (unreduced_product p.0 (unreduced_product q.0 r.0))
-    (pos_times (p.0.denominator * q.0.denominator) r.0.denominator (above_two p q) r.1.0)
-    (pos_times p.0.denominator (q.0.denominator * r.0.denominator) p.1.0 (above_two q r))
-    (solve wholes (p.0.numerator ∷ pos p.0.denominator ∷ q.0.numerator ∷ pos q.0.denominator ∷ r.0.numerator ∷ pos r.0.denominator ∷ [])
-    (product (product (product (var 0) (var 2)) (var 4)) (product (var 1) (product (var 3) (var 5))))
-    (product (product (var 0) (product (var 2) (var 4))) (product (product (var 1) (var 3)) (var 5))) refl)
-    ∙ sym (rational_product-right p (unreduced_product q.0 r.0) (above_two q r))
-    ∙ ap (rational_product p) (sym (rational_product-is q r))
+unfolding rational_product
+rational_product-assoc p q r = on_regroups products p q r
 
 pub rational_sum-none : (p : Rational) → rational_sum p rational_zero ≡ p
-rational_sum-none p =
-    ap (rational_sum p) rational_zero-is ∙ rational_sum-right p (whole (pos 0)) (omega arith)
-    ∙ number_eq (unreduced_sum p.0 (whole (pos 0))) p.0 (pos_times p.0.denominator 1 p.1.0 (omega arith)) p.1.0
-    (solve wholes (p.0.numerator ∷ pos p.0.denominator ∷ [])
-    (product (sum (product (var 0) unit) (product nothing (var 1))) (var 1)) (product (var 0) (product (var 1) unit)) refl)
-    ∙ number_of p
+unfolding rational_sum rational_zero
+rational_sum-none p = on_neutral sums (whole (pos 0)) (omega arith) sum_with_zero p
 
 pub rational_product-one : (p : Rational) → rational_product p rational_one ≡ p
-rational_product-one p =
-    ap (rational_product p) rational_one-is ∙ rational_product-right p (whole (pos 1)) (omega arith)
-    ∙ number_eq (unreduced_product p.0 (whole (pos 1))) p.0 (pos_times p.0.denominator 1 p.1.0 (omega arith)) p.1.0
-    (solve wholes (p.0.numerator ∷ pos p.0.denominator ∷ [])
-    (product (product (var 0) unit) (var 1)) (product (var 0) (product (var 1) unit)) refl)
-    ∙ number_of p
+unfolding rational_product rational_one
+rational_product-one p = on_neutral products (whole (pos 1)) (omega arith) product_with_one p
 
 pub rational_sum-neg : (p : Rational) → rational_sum p (rational_negation p) ≡ rational_zero
+unfolding rational_sum rational_negation rational_zero
 rational_sum-neg p =
-    ap (rational_sum p) (rational_negation-is p) ∙ rational_sum-right p (negation_of p.0) p.1.0
-    ∙ number_eq (unreduced_sum p.0 (negation_of p.0)) (whole (pos 0)) (above_two p p) (omega arith)
-    (solve wholes (p.0.numerator ∷ pos p.0.denominator ∷ [])
-    (product (sum (product (var 0) (var 1)) (product (minus (var 0)) (var 1))) unit) (product nothing (product (var 1) (var 1))) refl)
-    ∙ sym rational_zero-is
+    on_right sums p (negation_of p.0) p.1.0
+    ∙ number_eq (unreduced_sum p.0 (negation_of p.0)) (whole (pos 0)) (above_both sums p p) (omega arith) (sum_with_negation p.0)
 
 pub rational_product-plus : (p q r : Rational) → rational_product p (rational_sum q r) ≡ rational_sum (rational_product p q) (rational_product p r)
+unfolding rational_sum rational_product
 rational_product-plus p q r =
-    ap (rational_product p) (rational_sum-is q r) ∙ rational_product-right p (unreduced_sum q.0 r.0) (above_two q r)
+    on_right products p (unreduced_sum q.0 r.0) (above_both sums q r)
     ∙ number_eq (unreduced_product p.0 (unreduced_sum q.0 r.0)) (unreduced_sum (unreduced_product p.0 q.0) (unreduced_product p.0 r.0))
-    (pos_times p.0.denominator (q.0.denominator * r.0.denominator) p.1.0 (above_two q r))
-    (pos_times (p.0.denominator * q.0.denominator) (p.0.denominator * r.0.denominator) (above_two p q) (above_two p r))
-    (solve wholes (p.0.numerator ∷ pos p.0.denominator ∷ q.0.numerator ∷ pos q.0.denominator ∷ r.0.numerator ∷ pos r.0.denominator ∷ [])
-    (product (product (var 0) (sum (product (var 2) (var 5)) (product (var 4) (var 3)))) (product (product (var 1) (var 3)) (product (var 1) (var 5))))
-    (product (sum (product (product (var 0) (var 2)) (product (var 1) (var 5))) (product (product (var 0) (var 4)) (product (var 1) (var 3)))) (product (var 1) (product (var 3) (var 5)))) refl)
-    ∙ number_plus (unreduced_product p.0 q.0) (unreduced_product p.0 r.0) (above_two p q) (above_two p r)
-    ∙ ap₂ rational_sum (sym (rational_product-is p q)) (sym (rational_product-is p r))
+    (pos_times p.0.denominator (q.0.denominator * r.0.denominator) p.1.0 (above_both sums q r))
+    (pos_times (p.0.denominator * q.0.denominator) (p.0.denominator * r.0.denominator) (above_both products p q) (above_both products p r))
+    (product_over_sum p.0 q.0 r.0)
+    ∙ on_numbers sums (unreduced_product p.0 q.0) (unreduced_product p.0 r.0) (above_both products p q) (above_both products p r)
 
 abbrev pub rationals : Ring Rational
 rationals =

@@ -1,13 +1,20 @@
 -- Of a sum and of a product: the first step that leaves the range, and the answer where none does.
-use Rattle.std.proofs.Common.{◌≡◌, ℕ, ◌*◌, ◌/◌, ◌^◌, ◌<◌, ℤ, pos, ◌+ℤ◌, ◌-ℤ◌, ◌*ℤ◌, neg_ℤ, unsigned_abs, sym, ap, ap₂, ◌∙◌, subst, [], ◌∷◌, None, Some}
+use Rattle.std.proofs.Common.{◌≡◌, ℕ, ◌*◌, ◌/◌, ◌^◌, ◌<◌, ℤ, pos, ◌+ℤ◌, ◌-ℤ◌, ◌*ℤ◌, neg_ℤ, unsigned_abs, sym, ap, ap₂, ◌∙◌, subst, [], ◌∷◌, List, Ok, Err, None, Some}
 use Rattle.std.specs.Int.RustNames.{int_div}
 use Rattle.fraction128.specs.declared.range.Range.{Range}
 use Rattle.fraction128.specs.Whole.{InRange, value_of, first_outside}
 use Rattle.fraction128.specs.Gcd.{gcd_of}
+use Rattle.fraction128.specs.Answer.{IsFound, IsAnswer}
 use Rattle.fraction128.specs.Ratio.{IsFraction, IsSum, IsDifference, IsProduct}
 use Rattle.fraction128.specs.declared.ratio.Ratio.{Ratio}
 use Rattle.fraction128.specs.Listed.{times, plus, negation_of, sum_over, reduced_by, sum_of, sum_steps, product_of, product_steps}
 use Rattle.fraction128.proofs.LowestTerms.{inside_next, outside_here, sum-is, product-is, neg-times}
+
+pub found : (IsMeant : Ratio → Type 0) (steps : List Range) (r : Ratio) → IsFound IsMeant steps r → IsAnswer IsMeant steps (Ok r)
+found IsMeant steps r h = record { ok = h; range = tt }
+
+pub outside : (IsMeant : Ratio → Type 0) (steps : List Range) (e : Range) → first_outside steps ≡ Some e → IsAnswer IsMeant steps (Err e)
+outside IsMeant steps e h = record { ok = tt; range = h }
 
 abbrev one : Ratio → Ratio → Range
 one x y = times x.numerator (pos (y.denominator / gcd_of x.denominator y.denominator))
@@ -137,19 +144,19 @@ product-inside x y u v a c n d eu ev ea ec en ed =
     )
 
 pub sum-found : (x y r : Ratio) → IsFraction x → IsFraction y → (r ≡ sum_of x y) × (first_outside (sum_steps x y) ≡ None)
-    → IsSum x y r × IsFraction r × (first_outside (sum_steps x y) ≡ None)
+    → IsFound (IsSum x y) (sum_steps x y) r
 sum-found x y r fx fy h =
     let found = sum-is x y fx fy h.1 in
     (subst (IsSum x y) (sym h.0) found.1, subst IsFraction (sym h.0) found.0, h.1)
 
 pub product-found : (x y r : Ratio) → IsFraction x → IsFraction y → (r ≡ product_of x y) × (first_outside (product_steps x y) ≡ None)
-    → IsProduct x y r × IsFraction r × (first_outside (product_steps x y) ≡ None)
+    → IsFound (IsProduct x y) (product_steps x y) r
 product-found x y r fx fy h =
     let found = product-is x y fx fy h.1 in
     (subst (IsProduct x y) (sym h.0) found.1, subst IsFraction (sym h.0) found.0, h.1)
 
-pub difference-found : (x y z r : Ratio) → z ≡ negation_of y → IsSum x z r × IsFraction r × (first_outside (sum_steps x z) ≡ None)
-    → IsDifference x y r × IsFraction r × (first_outside (sum_steps x (negation_of y)) ≡ None)
+pub difference-found : (x y z r : Ratio) → z ≡ negation_of y → IsFound (IsSum x z) (sum_steps x z) r
+    → IsFound (IsDifference x y) (sum_steps x (negation_of y)) r
 difference-found x y z r e h =
     let sum : IsSum x (negation_of y) r = subst (λ w. IsSum x w r) e h.0 in
     let minus : x.numerator *ℤ pos y.denominator +ℤ neg_ℤ y.numerator *ℤ pos x.denominator ≡ x.numerator *ℤ pos y.denominator -ℤ y.numerator *ℤ pos x.denominator =

@@ -1,4 +1,4 @@
-//! The sign of an exact sum of products, in digits of 32 bits.
+//! An exact sum of products, in digits of 32 bits, and its sign.
 ghost use Rattle.std.specs.Prelude.{◌≡◌, ℕ, ℤ, ◌+◌, ◌*◌, ◌<◌, ◌≤◌, ◌^◌, length, pos, ◌+ℤ◌, ◌*ℤ◌, int_lt, unsigned_abs};
 ghost use Rattle.fraction128.specs.Dot.{dot_of};
 ghost use Rattle.fraction128.specs.Wide.{base, four_value, seven_value, AreSmall, AreFourWithin, HasGrown, AreSevenWithin};
@@ -16,14 +16,14 @@ struct Four {
 
 /// A whole number in seven places of 32 bits, lowest first.
 #[derive(Clone, Copy)]
-struct Seven {
-    d0: i128,
-    d1: i128,
-    d2: i128,
-    d3: i128,
-    d4: i128,
-    d5: i128,
-    d6: i128,
+pub struct Seven {
+    pub d0: i128,
+    pub d1: i128,
+    pub d2: i128,
+    pub d3: i128,
+    pub d4: i128,
+    pub d5: i128,
+    pub d6: i128,
 }
 
 fn digits_of(n: i128) -> Four
@@ -136,23 +136,40 @@ fn number_at(place: &i128) -> i128
     *place
 }
 
-/// Whether the exact sum of the products of pairs is less than 0.
-pub fn is_sum_negative(pairs: &[(i128, i128)]) -> bool
-    ensures { result ≡ int_lt (dot_of (pos 0) pairs.now) (pos 0) }
+/// A whole number in seven places.
+fn places_of(n: i128) -> Seven
+    ensures value { seven_value result ≡ n }
+    ensures within { AreSevenWithin result (2 ^ 32) }
 {
-    let mut sum = Seven {
-        d0: 0,
-        d1: 0,
-        d2: 0,
-        d3: 0,
+    let parts = digits_of(n);
+    Seven {
+        d0: parts.d0,
+        d1: parts.d1,
+        d2: parts.d2,
+        d3: parts.d3,
         d4: 0,
         d5: 0,
         d6: 0,
-    };
+    }
+}
+
+/// The sum of a number and the products of pairs, in places that may be past a digit.
+pub fn sum_of_products(constant: i128, pairs: &[(i128, i128)]) -> Seven
+    ensures value { seven_value result ≡ dot_of constant pairs.now }
+    ensures within { AreSevenWithin result (2 ^ 125) }
+{
+    let mut sum = places_of(constant);
     for pair in pairs {
         let left = digits_of(number_at(&pair.0));
         let right = digits_of(number_at(&pair.1));
         sum = with_product(sum, left, right);
     }
-    is_negative(sum)
+    sum
+}
+
+/// Whether the exact sum of the products of pairs is less than 0.
+pub fn is_sum_negative(pairs: &[(i128, i128)]) -> bool
+    ensures { result ≡ int_lt (dot_of (pos 0) pairs.now) (pos 0) }
+{
+    is_negative(sum_of_products(0, pairs))
 }

@@ -1,4 +1,4 @@
-use Rattle.fraction128.proofs.FieldLaws.{sum_commutes, sum_regroups, sum_with_zero, sum_with_negation, product_commutes, product_regroups, product_with_one, product_with_reciprocal, product_over_sum}
+use Rattle.fraction128.proofs.FieldEquations.{sum_commutes, sum_regroups, sum_with_zero, sum_with_negation, product_commutes, product_regroups, product_with_one, product_with_reciprocal, product_over_sum}
 use Rattle.fraction128.proofs.laws.field.Goals as goal
 
 pub returns-clause-sum_commutes : goal.returns-clause-sum_commutes
