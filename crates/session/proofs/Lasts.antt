@@ -1,14 +1,12 @@
 -- The levels of the last check, by the stack and what stood above it.
 use Rattle.std.proofs.Common.{◌≡◌, ◌∙◌, List, [], ◌∷◌, ◌++◌, true, map, ap, subst, sym, refl, All}
-use Rattle.std.specs.Prelude.{flat_map}
 use Rattle.std.proofs.lemmas.Grind.{flat_map-append}
 use Rattle.std.proofs.lemmas.List.{append-nil}
 use Rattle.std.proofs.lemmas.List.Elements.{All-nil}
-use Rattle.smt_meaning.specs.Declaration.{Declaration}
 use Rattle.smt_meaning.specs.Term.{Tree, tree_at}
 use Rattle.smt_meaning.specs.Stack.{Assertion as Asserted, Frame, signature_of, assertions_of, terms_of}
 use Rattle.smt_meaning.specs.StackCommand.{Stack}
-use Rattle.smt_meaning.specs.State.{State, checked_frames}
+use Rattle.smt_meaning.specs.State.{State}
 use Rattle.scope_stack.specs.declared.answers.Assertion.{Assertion}
 use Rattle.scope_stack.specs.Inside.{asserted_by, IsWithin}
 use Rattle.session.specs.declared.above.Above.{Above}

@@ -1,6 +1,10 @@
-use Rattle.std.proofs.Common.{◌≡◌, ◌+◌, suc, subst, arith}
-use Rattle.elaborate.proofs.Copies.{AreFrom, one_from}
+use Rattle.std.proofs.Common.{◌≡◌, ◌+◌, suc, subst, sym, arith}
+use Rattle.elaborate.proofs.Copies.{AreFrom, none_from, one_from}
 use Rattle.elaborate.proofs.bodies.nodes_from.Goals as goal
+
+pub loop-id-init : goal.loop-id-init
+loop-id-init c =
+    subst (AreFrom c.args.store.now.trees c.args.count c.args.count) (sym c.new-nodes.ensures.items) (none_from c.args.store.now.trees c.args.count)
 
 pub loop-id-preserved : goal.loop-id-preserved
 loop-id-preserved c =

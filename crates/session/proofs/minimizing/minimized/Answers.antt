@@ -1,9 +1,13 @@
 use Rattle.smt_meaning.specs.StackCommand.{Stack}
 use Rattle.smt_meaning.specs.Term.{tree_at}
-use Rattle.std.proofs.Common.{subst}
+use Rattle.std.proofs.Common.{subst, sym}
+use Rattle.goal_search.specs.Goals.{IsGoal}
 use Rattle.session.specs.Minimized.{IsItselfAbove}
 use Rattle.session.proofs.Itself.{minimized_so}
 use Rattle.session.proofs.minimizing.minimized.Goals as goal
+
+pub itself_above-requires : goal.itself_above-requires
+itself_above-requires g c = subst (λ (s : Stack). IsGoal s c.args.text.now c.args.term) (sym c.least.ensures.stays) c.requires.goal
 
 pub returns-clause-ok : goal.returns-clause-ok
 returns-clause-ok g c =

@@ -1,6 +1,5 @@
-use Rattle.std.proofs.Common.{ap, subst, sym, ◌∙◌, refl}
+use Rattle.std.proofs.Common.{subst, sym, ◌∙◌, refl}
 use Rattle.smt_meaning.specs.State.{State}
-use Rattle.scope_stack.specs.declared.answers.Assertion.{Assertion}
 use Rattle.session.specs.Logics.{named}
 use Rattle.session.specs.Above.{above_by}
 use Rattle.session.specs.LastCheck.{IsOfLastCheck, is_after_check}
