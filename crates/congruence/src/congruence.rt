@@ -1,6 +1,5 @@
 //! Terms that are equal or differ, each for a reason.
 ghost use Rattle.std.specs.Prelude.{◌≡◌, ◌+◌, ◌<◌, ◌≤◌, ◌^◌, [], ◌∷◌, ◌++◌, length, take, List, OnOk, OnErr, IfOk, IfSome, IfNone, IsTrue, ◌↔◌};
-ghost use Rattle.congruence.specs.Reading.{truth_number};
 
 use crate::differing::{Differing, first_differing};
 use crate::explanation::Explanation;
@@ -21,16 +20,8 @@ pub struct Congruence {
     scratch: Vec<u32>,
 }
 
-/// The point of a truth value.
-fn truth_point(value: bool) -> u32
-    ensures { result ≡ truth_number value }
-{
-    if value { 0 } else { 1 }
-}
-
 impl Congruence {
     ghost use Rattle.smt_meaning.specs.Term.{Tree};
-    ghost use Rattle.point_closure.specs.declared.step.Step.TheVariants.{Merge, Differ};
     ghost use Rattle.point_closure.specs.Closure.{AreRead};
     ghost use Rattle.point_closure.specs.Whole.{IsWithin};
     ghost use Rattle.congruence.specs.Reasons.{AreReasonsOf, IsTruthConflict, IsStepConflict};
@@ -110,33 +101,6 @@ impl Congruence {
             return Err(AllocError);
         }
         Ok(())
-    }
-
-    /// Records that two terms are equal. An `Err` changes nothing.
-    pub fn merge(&mut self, left: TermId, right: TermId, reason: Literal) -> Result<(), AllocError>
-        requires recorded { IsRecorded self.old }
-        requires within { IsWithin (length self.old.closure.graph) (Merge (left + 2) (right + 2)) }
-        ensures { AddsStep self.old self.new (Merge (left + 2) (right + 2)) reason result }
-    {
-        self.record(Step::Merge(left + 2, right + 2), reason)
-    }
-
-    /// Records that a term has a truth value. An `Err` changes nothing.
-    pub fn truth(&mut self, term: TermId, value: bool, reason: Literal) -> Result<(), AllocError>
-        requires recorded { IsRecorded self.old }
-        requires within { term + 2 < length self.old.closure.graph }
-        ensures { AddsStep self.old self.new (Merge (term + 2) (truth_number value)) reason result }
-    {
-        self.record(Step::Merge(term + 2, truth_point(value)), reason)
-    }
-
-    /// Records that two terms differ. An `Err` changes nothing.
-    pub fn differ(&mut self, left: TermId, right: TermId, reason: Literal) -> Result<(), AllocError>
-        requires recorded { IsRecorded self.old }
-        requires within { IsWithin (length self.old.closure.graph) (Differ (left + 2) (right + 2)) }
-        ensures { AddsStep self.old self.new (Differ (left + 2) (right + 2)) reason result }
-    {
-        self.record(Step::Differ(left + 2, right + 2), reason)
     }
 
     /// Watches two points, for the literal with a code, until the steps of now are taken back. An `Err` changes nothing that contracts see.

@@ -1,9 +1,9 @@
 //! Terms that are equal or differ, each for a reason, and what follows from that (Nieuwenhuis and
 //! Oliveras, 2007).
 //!
-//! `Congruence::read`, `merge`, `truth`, `differ`, `undo_to`: terms of a store as points. A step is
-//! recorded with its reason, or after want of memory all is as before; an undo leaves exactly the
-//! first steps and reasons.
+//! `Congruence::read`, `record`, `undo_to`: terms of a store as points. A step is recorded with its
+//! reason, or after want of memory all is as before; an undo leaves exactly the first steps and
+//! reasons.
 //!
 //! `same`, `explain`, `explain_points`: `same` is true exactly where the merges give the equality,
 //! and then whoever makes the merged pairs true gives both terms one value; the reasons of merges

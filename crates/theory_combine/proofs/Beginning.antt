@@ -34,7 +34,6 @@ use Rattle.theory_combine.specs.declared.errors.BoundError.TheVariants.{Memory, 
 use Rattle.theory_combine.specs.Begin.{AddsLeaves}
 use Rattle.theory_combine.specs.Columns.{with_leaves}
 use Rattle.theory_combine.specs.Errors.{IsErrorIn, IsErrorSeen, IsSumIn}
-use Rattle.theory_combine.specs.Pairs.{HaveReadable}
 use Rattle.theory_combine.specs.Shown.{AreShown}
 use Rattle.theory_combine.proofs.Comparing.{over_leaves}
 use Rattle.theory_combine.proofs.Marking.{marked_is_of}
