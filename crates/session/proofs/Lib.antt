@@ -16,3 +16,4 @@ pub mod GoalSteps
 pub mod LeastSteps
 pub mod Itself
 pub mod Lasts
+pub mod Answering

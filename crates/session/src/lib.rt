@@ -4,6 +4,9 @@
 //! leaves this state, by the definition of replies. It stops exactly on an accepted `exit`; want of
 //! memory changes nothing.
 //!
+//! `Session::reply_to`: the same of an s-expression, which is a command or is answered by the error
+//! for which it is none.
+//!
 //! `Session::into_last_check`: in the modes after a check, and in no other, the stack and the
 //! assumptions of the last check.
 #![tactic(auto)]
@@ -21,6 +24,7 @@ mod minimizing;
 mod negated;
 mod options;
 mod printed;
+mod replying;
 mod state;
 
 pub use state::{Done, LastCheck, Session};

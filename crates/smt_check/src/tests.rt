@@ -3,8 +3,8 @@ mod faults;
 mod lines;
 mod proofs;
 
-use crate::checking::{CheckEnded, check_within};
 use ports::{MemSink, MemSource};
+use proof_check::{CheckEnded, check_within};
 use std::alloc::{AllocError, Global};
 
 /// How a source and a sink in memory behave: how many bytes a call of the source gives, which call of each fails (none has the number 0), and how many

@@ -3,6 +3,9 @@
 //!
 //! `settings`: exactly what `clap` reads of the words as words of the program's command, with its
 //! ranges and defaults; refused only where `clap` refuses them.
+//!
+//! `words_of`: from what the system gives of the command line, all words, in order; refused exactly
+//! where the system says that a word isn't UTF-8.
 #![tactic(auto)]
 
 ghost use Rattle.std.specs.Prelude.{◌≡◌, ◌≤◌, ◌<◌, ◌^◌, ◌≤ℤ◌, ◌<ℤ◌, true, pos, map};
@@ -12,9 +15,11 @@ ghost use Rattle.smt_words.specs.Causes.{IsCause};
 
 mod command;
 mod error;
+mod given;
 
 use command::command;
 pub use error::WordsError;
+pub use given::words_of;
 use smt_meaning::Settings;
 use std::alloc::Global;
 

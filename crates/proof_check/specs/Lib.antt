@@ -1,0 +1,6 @@
+pub mod Taken
+pub mod Folds
+pub mod Lines
+pub mod Checked
+pub mod Progress
+pub mod Told

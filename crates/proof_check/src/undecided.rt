@@ -1,0 +1,54 @@
+//! The decider of a fold: the frames of a check are known without its answer.
+ghost use Rattle.std.specs.Prelude.{ℕ, ℤ, List, IfOk};
+ghost use Rattle.smt_meaning.specs.Report.{AreReports};
+ghost use Rattle.smt_meaning.specs.Stack.{Frame};
+ghost use Rattle.smt_meaning.specs.Term.{Tree};
+
+use scope_stack::Stack;
+use smt_meaning::{Cause, Report, Seq, Settings};
+use std::alloc::{AllocError, Global};
+use theory_port::{Decider, Verdict};
+
+/// Answers each check by `unknown`, with a report from each worker that memory is wanting.
+#[derive(Clone, Copy, Drop)]
+pub struct Undecided;
+
+impl Decider for Undecided {
+    ghost use Rattle.proof_check.specs.Taken.{every_stack};
+
+    ghost decides = { every_stack };
+
+    ghost may = { λ _. Unit {0} };
+
+    fn takes(&self, _alloc: Global, _stack: &Stack) -> Result<bool, AllocError> {
+        Ok(true)
+    }
+
+    fn decide(
+        &mut self,
+        alloc: Global,
+        _stack: &Stack,
+        settings: &Settings,
+    ) -> Result<Verdict, AllocError> {
+        Ok(Verdict::Unknown(reports(alloc, settings.workers)?))
+    }
+
+    fn takes_all(&self) {}
+
+    fn cut_to(&mut self, _level: i32) {}
+}
+
+/// A report of each worker that memory is wanting.
+fn reports(alloc: Global, workers: u8) -> Result<Seq<Report>, AllocError>
+    ensures { IfOk result (λ rs. (ts : List Tree) (frames : List Frame) (limit : ℤ) → AreReports workers ts frames limit rs) }
+{
+    let mut reports = Seq::new(alloc);
+    for worker in 0..workers {
+        reports.push(Report {
+            worker,
+            cause: Cause::Memory,
+            branches: Seq::new(alloc),
+        })?;
+    }
+    Ok(reports)
+}

@@ -1,7 +1,0 @@
-pub mod Taken
-pub mod Folds
-pub mod Lines
-pub mod Checked
-pub mod Progress
-pub mod Told
-pub mod Words
