@@ -1,5 +1,5 @@
 -- The parts of a stack and their atoms, before anything is told.
-use Rattle.std.proofs.Common.{◌∙◌, ℕ, ◌+◌, ◌<◌, ◌^◌, Bool, List, ◌∷◌, [], length, get_or, All, Contains, ◌≢◌, sym, ap, subst, inl, refl}
+use Rattle.std.proofs.Common.{◌∙◌, ℕ, ◌+◌, ◌<◌, ◌^◌, Bool, List, ◌∷◌, [], length, get_or, All, Contains, ◌≢◌, sym, ap, inl, refl}
 use Rattle.std.specs.Prelude.{AllPairs, slice_index_or, None}
 use Rattle.std.proofs.lemmas.List.Elements.{All-head, All-nil, All-tail, All-weaker, Contains-get_or}
 use Rattle.fraction128.specs.declared.Summand.{Summand}

@@ -1,6 +1,6 @@
 -- Clauses of differences, as conflicts of what is held, and as clauses by which a literal follows.
 use Rattle.std.proofs.Common.{◌<◌, List, length, refl}
-use Rattle.std.specs.Prelude.{All, Contains, Option, Some, None, Result, Ok, Err, IfOk, IfSome, IfNone}
+use Rattle.std.specs.Prelude.{All, Contains, Option, Some, None, Result, Ok, Err, IfOk, IfSome, MatchOption}
 use Rattle.literals.specs.Signed.{Signed}
 use Rattle.smt_meaning.specs.declared.clauses.Atom.{Atom}
 use Rattle.smt_meaning.specs.Stack.{signature_of}
@@ -24,13 +24,13 @@ pub ok_some : {A E : Type 0} {P Q : A → Type 0} (r : Result (Option A) E) → 
 ok_some (Ok o) f h = some_of o f h
 ok_some (Err e) f h = tt
 
-none_of : {A : Type 0} {X : Type 0} (o : Option A) → X → IfNone o X
-none_of None h = h
-none_of (Some a) h = tt
+match_of : {A : Type 0} {X : Type 0} {P Q : A → Type 0} (o : Option A) → X → ((a : A) → P a → Q a) → IfSome o P → MatchOption o X Q
+match_of None x f h = x
+match_of (Some a) x f h = f a h
 
-pub ok_none : {A E : Type 0} {X : Type 0} (r : Result (Option A) E) → X → IfOk r (λ o. IfNone o X)
-ok_none (Ok o) h = none_of o h
-ok_none (Err e) h = tt
+pub ok_match : {A E : Type 0} {X : Type 0} {P Q : A → Type 0} (r : Result (Option A) E) → X → ((a : A) → P a → Q a) → IfOk r (λ o. IfSome o P) → IfOk r (λ o. MatchOption o X Q)
+ok_match (Ok o) x f h = match_of o x f h
+ok_match (Err e) x f h = tt
 
 pub broken_met : FlatSaysTheSame → (s : Stack) (table : List Atom) (h : Held) (ls : List Signed) (c : Lemma) → IsSetting s table → IsHeld s table h → All (Contains h.closure.log.items) ls → IsBroken table ls c
     → IsConflict (state_of s table h.closure.log.items) c

@@ -20,7 +20,7 @@ use Rattle.search_port.specs.Pivots.{pivot_lines, KeepsPivots}
 use Rattle.search_port.specs.declared.budget.Spent.TheVariants.{Numbered}
 use Rattle.atom_form.specs.AtomNumbersAtoms.{Atoms}
 use Rattle.bound_log.specs.Told.{State, column_sums}
-use Rattle.bound_log.specs.Growth.{GrowsVariables, KeepsVariables}
+use Rattle.bound_log.specs.Growth.{GrowsVariables}
 use Rattle.closure_log.specs.Seen.{state_of}
 use Rattle.theory_combine.specs.declared.held.Held.{Held}
 use Rattle.theory_combine.specs.declared.parts.Parts.{Parts}
@@ -31,7 +31,7 @@ use Rattle.theory_combine.specs.Numbering.{table_of, IsNumbered, IsWhole}
 use Rattle.theory_combine.specs.Progress.{full_state, state, IsProgress, IsUnderWay, Went}
 use Rattle.theory_combine.specs.Shown.{AreShown, IsLeft, IsOfCheck, IsOverLeaves, IsToShow}
 use Rattle.theory_combine.proofs.Branching.{each_longer, range_longer}
-use Rattle.theory_combine.proofs.Growing.{lines_grown, lines_numbered, none_told, pivots_kept, pivots_on}
+use Rattle.theory_combine.proofs.Growing.{lines_grown, lines_numbered, none_told, pivots_on}
 
 pub goes_still : (t : TheoryState) (b : Spending) → length b.units ≤ b.bound → Goes t t b b
 goes_still t b within = record {
@@ -132,15 +132,6 @@ held_under_way p w h u held sums =
 goes_held : (p : Parts) (w : Progress) (h : Held) (b : Spending) → h.closure.log.items ≡ w.held.closure.log.items → length b.units ≤ b.bound → Goes (state p w) (state p (record w { held = h })) b b
 goes_held p w h b log within =
     subst (λ (ls : List Signed). Goes (state p w) (state_of p.stack.now (table_of w.lost w.atoms.atoms) ls) b b) (sym log) (goes_still (state p w) b within)
-
-pub went_held : (p : Parts) (w : Progress) (h : Held) (b : Spending) → IsUnderWay p w → IsHeld p.stack.now w.atoms.atoms h → h.closure.log.items ≡ w.held.closure.log.items → KeepsVariables w.held.bounds h.bounds
-    → length b.units ≤ b.bound → Went p w (record w { held = h }) b b
-went_held p w h b u held log keeps within = (
-  to_progress p (record w { held = h }) (held_under_way p w h u held keeps.sums),
-  goes_held p w h b log within,
-  subst (λ (o : Option ℕ). KeepsPivots (full_of p.stack.now o w.atoms.atoms w.held.closure.log.items w.held.bounds) (full_of p.stack.now o w.atoms.atoms h.closure.log.items h.bounds) b b) (sym u.2)
-      (λ e x. let r = pivots_kept w.atoms.atoms w.held.bounds h.bounds (pivot_lines b.units) keeps x.lines x.basis in record { lines = r.0; basis = r.1 }),
-)
 
 not_kept : true ≡ false → ⊥
 not_kept e = cc

@@ -150,16 +150,6 @@ pivots_on t u f old new us vs grows e lines basis = (
       (basis_grown old new (IsBoundOf (Contains t)) (pivot_lines us) grows lines (told_basis (basis_along (first_basis (column_sums old)) (pivot_lines us)) old basis))),
 )
 
--- values were moved
-pub pivots_kept : (t : List Atom) (old new : State) (ls : List Line) → KeepsVariables old new
-    → ArePivotsFrom (column_sums old) (IsBoundOf (Contains t)) (first_basis (column_sums old)) ls → AreBasic (basis_along (first_basis (column_sums old)) ls) (variables_of None old)
-    → ArePivotsFrom (column_sums new) (IsBoundOf (Contains t)) (first_basis (column_sums new)) ls × AreBasic (basis_along (first_basis (column_sums new)) ls) (variables_of None new)
-pivots_kept t old new ls keeps lines basis = (
-  subst (λ xs. ArePivotsFrom xs (IsBoundOf (Contains t)) (first_basis xs) ls) (sym keeps.sums) lines,
-  subst (λ xs. AreBasic (basis_along (first_basis xs) ls) (variables_of None new)) (sym keeps.sums)
-      (basis_told (basis_along (first_basis (column_sums old)) ls) new (keeps.basis (basis_along (first_basis (column_sums old)) ls) (told_basis (basis_along (first_basis (column_sums old)) ls) old basis))),
-)
-
 -- these pivots were made
 pub pivots_made : (t : List Atom) (old new : State) (ls made : List Line) → column_sums new ≡ column_sums old
     → ((is : ℕ → Bool) → HasBasis is (plain_grid old) → ArePivotsFrom (column_sums old) (IsBoundOf (Contains t)) is made) → ((is : ℕ → Bool) → HasBasis is (plain_grid old) → HasBasis (basis_along is made) (plain_grid new))
@@ -178,9 +168,6 @@ pivots_made t old new ls made e pivots after lines basis =
 
 pub keeps_both : (b c d : State) → KeepsVariables b c → KeepsVariables c d → KeepsVariables b d
 keeps_both b c d h k = record { sums = k.sums ∙ h.sums; basis = λ is has. k.basis is (h.basis is has) }
-
-pub keeps_same : (b d : State) → d ≡ b → KeepsVariables b d
-keeps_same b d e = record { sums = ap column_sums e; basis = λ is has. subst (λ (x : State). HasBasis is (plain_grid x)) (sym e) has }
 
 pub grows_none : (b : State) → GrowsVariables b b
 grows_none b = record { more = []; sums = sym (append-nil (column_sums b)); stay = λ i lt. refl; added = λ i past lt. absurd (omega (arith, past, lt)) }

@@ -1,5 +1,5 @@
 -- The sum of a bound of two Ints among the parts is over leaves.
-use Rattle.std.proofs.Common.{◌≡◌, ℕ, Bool, true, List, [], ◌∷◌, length, All, Some, sym, subst}
+use Rattle.std.proofs.Common.{◌≡◌, ℕ, Bool, List, [], ◌∷◌, length, All, sym, subst}
 use Rattle.std.proofs.lemmas.List.Elements.{All-nil, All-cons, All-head, All-tail}
 use Rattle.std.specs.Prelude.{ℤ}
 use Rattle.smt_meaning.specs.declared.clauses.Summand.{Summand}

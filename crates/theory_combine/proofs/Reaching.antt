@@ -57,10 +57,6 @@ floor_in_range (negsuc m) n d p low high nin =
 pub last_whole : (s : Stack) (lost : Option ℕ) (table : List Atom) (log : List Signed) → lost ≡ None → IsLast (state_of s (table_of lost table) log) → IsLast (state_of s table log)
 last_whole s lost table log e last = subst (λ (o : Option ℕ). IsLast (state_of s (table_of o table) log)) e last
 
--- the log is the same
-pub last_same : (s : Stack) (table : List Atom) (old new : List Signed) → new ≡ old → IsLast (state_of s table old) → IsLast (state_of s table new)
-last_same s table old new e last = subst (λ (log : List Signed). IsLast (state_of s table log)) (sym e) last
-
 module _ (s : Stack) (table : List Atom) (h : Held) (held : IsHeld s table h) (bounds : IsState h.bounds) (fits : AllFit h.bounds) (last : IsLast (state_of s table h.closure.log.items)) where
   met : FractionsHold → All (HoldsWhereEmpty table) h.closure.log.items → (a : Atom) → IsToldTrue (state_of s table h.closure.log.items).reading h.closure.log.items a
       → Meets (leaf_values h.bounds.bounds) a

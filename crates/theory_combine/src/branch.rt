@@ -11,10 +11,10 @@ ghost use Rattle.sum_bounds.specs.Bounds.{IsFirstIn};
 ghost use Rattle.bound_log.specs.Growth.{IsProper};
 ghost use Rattle.simplex_steps.specs.Run.{AreWithin};
 ghost use Rattle.theory_combine.specs.Held.{AllFit};
-ghost use Rattle.theory_combine.specs.Last.{IsLast, HoldsWhereEmpty};
-ghost use Rattle.theory_combine.specs.Progress.{full_state, state, AreParts, IsUnderWay, Went};
+ghost use Rattle.theory_combine.specs.Last.{HoldsWhereEmpty};
+ghost use Rattle.theory_combine.specs.Progress.{full_state};
 ghost use Rattle.theory_combine.specs.Shown.{IsOfCheck, IsMarkedLeaf};
-ghost use Rattle.theory_combine.specs.Steps.{IsStep};
+ghost use Rattle.theory_combine.specs.Ready.{IsAtLast, IsReady, Steps};
 
 use crate::numbering::NewBound;
 use crate::parts::{Parts, Progress};
@@ -60,13 +60,12 @@ fn keep_row(
     progress: &mut Progress,
     leaf: FractionalLeaf,
 ) -> Result<(), AllocError>
-    requires under_way { IsUnderWay parts.now progress.old }
-    requires parts { AreParts parts.now }
+    requires ready { IsReady parts.now progress.old }
     requires leaf { IsMarkedLeaf parts.now.stack.now parts.now.marks.items leaf.term }
     requires first { IsFirstIn progress.old.held.bounds.bounds.columns leaf }
     requires within { AreWithin progress.old.held.bounds.bounds.columns }
     requires reached { IsReached parts.now.stack.now.trees (flat parts.now.stack.now.frames) leaf.term leaf.value }
-    ensures under_way { IsUnderWay parts.now progress.new }
+    ensures ready { IsReady parts.now progress.new }
     ensures atoms { progress.new.atoms ≡ progress.old.atoms }
     ensures same { full_state parts.now progress.new ≡ full_state parts.now progress.old }
     ensures of_check { OnOk result (IsOfCheck parts.now.stack.now progress.new.branches (term_at_most leaf.term leaf.floor)) }
@@ -86,14 +85,11 @@ pub(crate) fn branch(
     budget: &mut Budget,
     leaf: FractionalLeaf,
 ) -> Step
-    requires parts { AreParts parts.now }
-    requires under_way { IsUnderWay parts.now progress.old }
+    requires at_last { IsAtLast parts.now progress.old }
     requires first { IsFirstIn progress.old.held.bounds.bounds.columns leaf }
     requires fits { AllFit progress.old.held.bounds }
-    requires last { IsLast (state parts.now progress.old) }
     requires constants { All (HoldsWhereEmpty progress.old.atoms.atoms) progress.old.held.closure.log.items }
-    ensures went { Went parts.now progress.old progress.new budget.old budget.new }
-    ensures step { IsStep (state parts.now progress.new) budget.old budget.new result }
+    ensures { Steps parts.now progress.old progress.new budget.old budget.new result }
 {
     flat_says_the_same();
     fractions_hold();

@@ -1,10 +1,9 @@
 //! What differences told show: a cycle that no numbers meet, or bounds that follow by a path.
-ghost use Rattle.std.specs.Prelude.{◌≡◌, All, OnOk, IfOk, IfSome};
+ghost use Rattle.std.specs.Prelude.{All, OnOk, IfOk, IfSome};
 ghost use Rattle.search_port.specs.Calls.{IsConflict, InferredBy};
 ghost use Rattle.search_port.specs.Spending.{Spending};
 ghost use Rattle.congruence.specs.Implied.{IsPressingLemma};
-ghost use Rattle.closure_log.specs.Seen.{state_of, IsSetting};
-ghost use Rattle.theory_combine.specs.Held.{IsHeld};
+ghost use Rattle.closure_log.specs.Seen.{state_of};
 ghost use Rattle.theory_combine.specs.Kept.{IsHeldOf, KeepsHeld};
 
 use crate::differences::literal_of;
@@ -31,8 +30,7 @@ fn clause_of(
     atoms: &AtomNumbers,
     tags: &[u32],
 ) -> Result<Option<Lemma>, AllocError>
-    requires setting { IsSetting stack.now atoms.now.atoms }
-    requires held { IsHeld stack.now atoms.now.atoms held.now }
+    requires { IsHeldOf stack.now atoms.now.atoms held.now }
     ensures { IfOk result (λ o. IfSome o (IsConflict (state_of stack.now atoms.now.atoms held.now.closure.log.items))) }
 {
     flat_says_the_same();
@@ -49,11 +47,8 @@ pub(crate) fn meet_differences(
     stack: &Stack,
     atoms: &AtomNumbers,
 ) -> Result<Option<Lemma>, AllocError>
-    requires setting { IsSetting stack.now atoms.now.atoms }
-    requires held { IsHeld stack.now atoms.now.atoms held.old }
-    ensures held { IsHeld stack.now atoms.now.atoms held.new }
-    ensures log { held.new.closure.log.items ≡ held.old.closure.log.items }
-    ensures bounds { held.new.bounds ≡ held.old.bounds }
+    requires { IsHeldOf stack.now atoms.now.atoms held.old }
+    ensures keeps { KeepsHeld stack.now atoms.now.atoms held.old held.new }
     ensures clause { IfOk result (λ o. IfSome o (IsConflict (state_of stack.now atoms.now.atoms held.new.closure.log.items))) }
 {
     match held
@@ -74,8 +69,7 @@ fn shown(
     atoms: &AtomNumbers,
     found: &ImpliedEdge,
 ) -> Result<Option<Lemma>, AllocError>
-    requires setting { IsSetting stack.now atoms.now.atoms }
-    requires held { IsHeld stack.now atoms.now.atoms held.now }
+    requires { IsHeldOf stack.now atoms.now.atoms held.now }
     ensures { IfOk result (λ o. IfSome o (IsPressingLemma (state_of stack.now atoms.now.atoms held.now.closure.log.items))) }
 {
     flat_says_the_same();
@@ -103,8 +97,7 @@ fn add_shown(
     atoms: &AtomNumbers,
     all: &[ImpliedEdge],
 ) -> Result<(), AllocError>
-    requires setting { IsSetting stack.now atoms.now.atoms }
-    requires held { IsHeld stack.now atoms.now.atoms held.now }
+    requires { IsHeldOf stack.now atoms.now.atoms held.now }
     ensures { OnOk result (All (IsPressingLemma (state_of stack.now atoms.now.atoms held.now.closure.log.items)) clauses.old.items → All (IsPressingLemma (state_of stack.now atoms.now.atoms held.now.closure.log.items)) clauses.new.items) }
 {
     for found in all {
@@ -166,11 +159,8 @@ pub(crate) fn follow_differences(
     stack: &Stack,
     atoms: &AtomNumbers,
 ) -> Option<Inferred>
-    requires setting { IsSetting stack.now atoms.now.atoms }
-    requires held { IsHeld stack.now atoms.now.atoms held.old }
-    ensures held { IsHeld stack.now atoms.now.atoms held.new }
-    ensures log { held.new.closure.log.items ≡ held.old.closure.log.items }
-    ensures bounds { held.new.bounds ≡ held.old.bounds }
+    requires { IsHeldOf stack.now atoms.now.atoms held.old }
+    ensures keeps { KeepsHeld stack.now atoms.now.atoms held.old held.new }
     ensures found { (b c : Spending) → IfSome result (InferredBy (state_of stack.now atoms.now.atoms held.new.closure.log.items) b c) }
 {
     match follow_known(alloc, held, stack, atoms) {

@@ -1,9 +1,8 @@
 //! Wide `distinct`s that are assertions, in a last check: two of their arguments are equal, or Ints of one value.
-ghost use Rattle.std.specs.Prelude.{IfSome};
-ghost use Rattle.search_port.specs.Calls.{CheckedBy};
-ghost use Rattle.search_port.specs.Spending.{Spending};
-ghost use Rattle.closure_log.specs.Seen.{state_of, IsSetting};
-ghost use Rattle.theory_combine.specs.Held.{IsHeld};
+ghost use Rattle.std.specs.Prelude.{IfOk, IfSome};
+ghost use Rattle.search_port.specs.Calls.{IsConflict};
+ghost use Rattle.closure_log.specs.Seen.{state_of};
+ghost use Rattle.theory_combine.specs.Kept.{IsHeldOf};
 
 use crate::held::Held;
 use crate::parts::Pair;
@@ -11,34 +10,29 @@ use atom_form::AtomNumbers;
 use closure_log::{broken_distinct, distinct_arguments};
 use model_build::Given;
 use scope_stack::Stack;
-use search_port::{Cause, Checked};
+use search_port::Lemma;
 use smt_meaning::{TermId, Value};
 use std::alloc::{AllocError, Global};
 
-/// What of wide `distinct`s ends a last check: the clause of one of which two arguments are equal.
-pub(crate) fn judge_distincts(
+/// The clause of a wide `distinct` of which two arguments are equal. An `Err` is for want of memory.
+pub(crate) fn equal_arguments(
     alloc: Global,
     held: &Held,
     stack: &Stack,
     atoms: &AtomNumbers,
     wide_distincts: &[TermId],
-) -> Option<Checked>
-    requires setting { IsSetting stack.now atoms.now.atoms }
-    requires held { IsHeld stack.now atoms.now.atoms held.now }
-    ensures { (b c : Spending) → IfSome result (CheckedBy (state_of stack.now atoms.now.atoms held.now.closure.log.items) b c) }
+) -> Result<Option<Lemma>, AllocError>
+    requires { IsHeldOf stack.now atoms.now.atoms held.now }
+    ensures { IfOk result (λ o. IfSome o (IsConflict (state_of stack.now atoms.now.atoms held.now.closure.log.items))) }
 {
-    match broken_distinct(
+    broken_distinct(
         alloc,
         &held.closure,
         stack,
         atoms,
         &held.scan.places,
         wide_distincts,
-    ) {
-        Ok(None) => None,
-        Ok(Some(clause)) => Some(Checked::Conflict(clause)),
-        Err(_) => Some(Checked::Ended(Cause::Memory)),
-    }
+    )
 }
 
 /// An Int, and the value that it is given.

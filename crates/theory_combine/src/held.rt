@@ -1,5 +1,5 @@
 //! What was told, to the closure and to the bounds.
-ghost use Rattle.std.specs.Prelude.{◌≡◌, ◌<◌, List, length, take, All, IfOk, IfErr, IfSome, IfNone, OnErr};
+ghost use Rattle.std.specs.Prelude.{◌≡◌, ◌<◌, List, length, take, All, IfOk, IfErr, MatchOption, OnErr};
 ghost use Rattle.smt_meaning.specs.declared.clauses.Atom.{Atom};
 ghost use Rattle.search_port.specs.State.{IsOpenIn};
 ghost use Rattle.search_port.specs.Calls.{AssertedBy, InferredBy, IsConflict};
@@ -9,9 +9,10 @@ ghost use Rattle.bound_log.specs.Told.{column_sums};
 ghost use Rattle.bound_log.specs.Growth.{KeepsVariables};
 ghost use Rattle.bound_log.specs.Reporting.{Judges};
 ghost use Rattle.bound_log.specs.declared.report.Report.TheVariants.{UnitsSpent};
-ghost use Rattle.closure_log.specs.Seen.{state_of, IsSetting};
+ghost use Rattle.closure_log.specs.Seen.{state_of};
 ghost use Rattle.theory_combine.specs.Errors.{IsErrorOver};
 ghost use Rattle.theory_combine.specs.Held.{IsHeld, IsMet, IsMetBy};
+ghost use Rattle.theory_combine.specs.Kept.{IsHeldOf, KeepsHeld};
 ghost use Rattle.theory_combine.specs.Last.{HoldsWhereEmpty};
 ghost use Rattle.theory_combine.specs.Pivots.{ArePivotsOf};
 ghost use Rattle.theory_combine.specs.declared.held.Met.TheVariants.{Spent};
@@ -79,8 +80,7 @@ pub(crate) fn tell_both(
     guide: &Guide,
     literal: Literal,
 ) -> Result<Asserted, BoundError>
-    requires setting { IsSetting stack.now atoms.now.atoms }
-    requires held { IsHeld stack.now atoms.now.atoms held.old }
+    requires held { IsHeldOf stack.now atoms.now.atoms held.old }
     requires numbered { literal.atom < length atoms.now.atoms }
     requires open { IsOpenIn held.old.closure.log.items literal }
     ensures held { IsHeld stack.now atoms.now.atoms held.new }
@@ -152,8 +152,7 @@ pub(crate) fn meet_bounds(
     keep: bool,
     room: u64,
 ) -> Meeting
-    requires setting { IsSetting stack.now atoms.now.atoms }
-    requires held { IsHeld stack.now atoms.now.atoms held.old }
+    requires { IsHeldOf stack.now atoms.now.atoms held.old }
     ensures held { IsHeld stack.now atoms.now.atoms held.new }
     ensures log { held.new.closure.log.items ≡ held.old.closure.log.items }
     ensures sums { column_sums held.new.bounds ≡ column_sums held.old.bounds }
@@ -179,10 +178,8 @@ pub(crate) fn meet_wholes(
     stack: &Stack,
     atoms: &AtomNumbers,
 ) -> Result<Option<Lemma>, AllocError>
-    requires setting { IsSetting stack.now atoms.now.atoms }
-    requires held { IsHeld stack.now atoms.now.atoms held.now }
-    ensures clause { IfOk result (λ o. IfSome o (IsConflict (state_of stack.now atoms.now.atoms held.now.closure.log.items))) }
-    ensures constants { IfOk result (λ o. IfNone o (All (HoldsWhereEmpty atoms.now.atoms) held.now.closure.log.items)) }
+    requires { IsHeldOf stack.now atoms.now.atoms held.now }
+    ensures { IfOk result (λ o. MatchOption o (All (HoldsWhereEmpty atoms.now.atoms) held.now.closure.log.items) (IsConflict (state_of stack.now atoms.now.atoms held.now.closure.log.items))) }
 {
     flat_says_the_same();
     match untrue_constant(alloc, held, stack, atoms)? {
@@ -199,11 +196,8 @@ pub(crate) fn follow(
     atoms: &AtomNumbers,
     guide: &Guide,
 ) -> Inferred
-    requires setting { IsSetting stack.now atoms.now.atoms }
-    requires held { IsHeld stack.now atoms.now.atoms held.old }
-    ensures held { IsHeld stack.now atoms.now.atoms held.new }
-    ensures log { held.new.closure.log.items ≡ held.old.closure.log.items }
-    ensures bounds { held.new.bounds ≡ held.old.bounds }
+    requires { IsHeldOf stack.now atoms.now.atoms held.old }
+    ensures keeps { KeepsHeld stack.now atoms.now.atoms held.old held.new }
     ensures found { (b c : Spending) → InferredBy (state_of stack.now atoms.now.atoms held.new.closure.log.items) b c result }
 {
     infer(alloc, &held.closure, &mut held.scan, stack, atoms, guide)

@@ -5,8 +5,9 @@ ghost use Rattle.search_port.specs.Spending.{Spending};
 ghost use Rattle.search_port.specs.State.{TheoryState};
 ghost use Rattle.congruence.specs.Implied.{IsPressingLemma};
 ghost use Rattle.bound_log.specs.Growth.{KeepsVariables};
-ghost use Rattle.closure_log.specs.Seen.{state_of, IsSetting};
+ghost use Rattle.closure_log.specs.Seen.{state_of};
 ghost use Rattle.theory_combine.specs.Held.{IsHeld};
+ghost use Rattle.theory_combine.specs.Kept.{IsHeldOf};
 
 use crate::held::Held;
 use atom_form::AtomNumbers;
@@ -49,8 +50,7 @@ fn look_at(
     atoms: &AtomNumbers,
     atom: u32,
 ) -> Option<Lemma>
-    requires setting { IsSetting stack.now atoms.now.atoms }
-    requires held { IsHeld stack.now atoms.now.atoms held.old }
+    requires held { IsHeldOf stack.now atoms.now.atoms held.old }
     requires numbered { atom < length atoms.now.atoms }
     ensures held { IsHeld stack.now atoms.now.atoms held.new }
     ensures log { held.new.closure.log.items ≡ held.old.closure.log.items }
@@ -83,8 +83,7 @@ pub(crate) fn follow_rows(
     stack: &Stack,
     atoms: &AtomNumbers,
 ) -> Inferred
-    requires setting { IsSetting stack.now atoms.now.atoms }
-    requires held { IsHeld stack.now atoms.now.atoms held.old }
+    requires { IsHeldOf stack.now atoms.now.atoms held.old }
     ensures held { IsHeld stack.now atoms.now.atoms held.new }
     ensures log { held.new.closure.log.items ≡ held.old.closure.log.items }
     ensures variables { KeepsVariables held.old.bounds held.new.bounds }

@@ -1,18 +1,22 @@
 //! What is found between decisions, and where every atom has a truth value.
-ghost use Rattle.std.specs.Prelude.{◌<◌, length};
-ghost use Rattle.search_port.specs.Calls.{CheckedBy, InferredBy};
+ghost use Rattle.std.specs.Prelude.{IfOk, IfSome, IfNone};
+ghost use Rattle.search_port.specs.Calls.{IsConflict, InferredBy};
+ghost use Rattle.search_port.specs.Spending.{Spending};
 ghost use Rattle.sum_bounds.specs.Bounds.{IsFirstIn};
-ghost use Rattle.theory_combine.specs.Held.{AllFit, IsMet};
-ghost use Rattle.theory_combine.specs.Last.{IsLast};
-ghost use Rattle.theory_combine.specs.Pivots.{SpendsAll};
-ghost use Rattle.theory_combine.specs.Progress.{state, AreParts, IsUnderWay, Went};
-ghost use Rattle.theory_combine.specs.Steps.{IsStep, StepInfers, StepChecks};
+ghost use Rattle.closure_log.specs.Seen.{state_of};
+ghost use Rattle.theory_combine.specs.declared.held.Met.TheVariants.{Fits};
+ghost use Rattle.theory_combine.specs.Found.{IsFound};
+ghost use Rattle.theory_combine.specs.Held.{AllFit};
+ghost use Rattle.theory_combine.specs.Progress.{state, Went};
+ghost use Rattle.theory_combine.specs.Steps.{IsStep, StepChecks, StepInfers};
+ghost use Rattle.theory_combine.specs.Kept.{IsHeldOf, KeepsHeld};
+ghost use Rattle.theory_combine.specs.Ready.{Checks, HasMet, Infers, IsAtLast, IsClashIn, IsReady, Steps};
 
 use crate::argument::argument_seen;
 use crate::branch::branch;
 use crate::cycles::{follow_differences, meet_differences};
-use crate::distincts::judge_distincts;
-use crate::held::{Met, follow, leads, meet_wholes};
+use crate::distincts::equal_arguments;
+use crate::held::{Held, Met, follow, leads, meet_wholes};
 use crate::implied::follow_rows;
 use crate::model::{Found, find_model};
 use crate::pairs::{go_on_with_pair, next_pair};
@@ -21,9 +25,11 @@ use crate::pivots::meet_within;
 use crate::step::{Step, stays, stop_past, stop_seeing};
 use crate::unfit::stop_unfit;
 use crate::wanted::want;
-use crate::xors::{follow_xors, judge_xors};
+use crate::xors::{broken_xor, follow_xors};
+use atom_form::AtomNumbers;
 use model_build::Clash;
-use search_port::{Budget, Cause, Checked, Inferred};
+use search_port::{Budget, Cause, Checked, Inferred, Lemma};
+use std::alloc::AllocError;
 use sum_bounds::FractionalLeaf;
 
 /// What a step comes to between decisions.
@@ -32,6 +38,7 @@ fn inferred(step: Step) -> Inferred
 {
     match step {
         Step::Lemmas(lemmas) => Inferred::Lemmas(lemmas),
+        Step::Conflict(clause) => Inferred::Conflict(clause),
         Step::Ended(cause) => Inferred::Ended(cause),
     }
 }
@@ -42,6 +49,7 @@ fn checked(step: Step) -> Checked
 {
     match step {
         Step::Lemmas(lemmas) => Checked::Lemmas(lemmas),
+        Step::Conflict(clause) => Checked::Conflict(clause),
         Step::Ended(cause) => Checked::Ended(cause),
     }
 }
@@ -52,35 +60,26 @@ fn make_whole(
     progress: &mut Progress,
     budget: &mut Budget,
     leaf: FractionalLeaf,
-) -> Checked
-    requires parts { AreParts parts.now }
-    requires under_way { IsUnderWay parts.now progress.old }
+) -> Step
+    requires at_last { IsAtLast parts.now progress.old }
     requires first { IsFirstIn progress.old.held.bounds.bounds.columns leaf }
     requires fits { AllFit progress.old.held.bounds }
-    requires last { IsLast (state parts.now progress.old) }
-    ensures went { Went parts.now progress.old progress.new budget.old budget.new }
-    ensures found { CheckedBy (state parts.now progress.new) budget.old budget.new result }
+    ensures { Steps parts.now progress.old progress.new budget.old budget.new result }
 {
     let found = meet_wholes(parts.alloc, &progress.held, parts.stack, &progress.atoms);
     stays(parts, progress, budget);
     match found {
-        Ok(Some(clause)) => Checked::Conflict(clause),
-        Ok(None) => {
-            let step = branch(parts, progress, budget, leaf);
-            checked(step)
-        }
-        Err(_) => Checked::Ended(Cause::Memory),
+        Ok(Some(clause)) => Step::Conflict(clause),
+        Ok(None) => branch(parts, progress, budget, leaf),
+        Err(_) => Step::Ended(Cause::Memory),
     }
 }
 
 /// Doesn't go on where two applications clash, and shows an argument whose value left the range, if one did.
 fn stop_at_clash(parts: &Parts<'_>, progress: &mut Progress, budget: &Budget, clash: Clash) -> Step
-    requires parts { AreParts parts.now }
-    requires under_way { IsUnderWay parts.now progress.old }
-    requires first { clash.first < length parts.now.stack.now.trees }
-    requires second { clash.second < length parts.now.stack.now.trees }
-    ensures went { Went parts.now progress.old progress.new budget.now budget.now }
-    ensures step { IsStep (state parts.now progress.new) budget.now budget.now result }
+    requires ready { IsReady parts.now progress.old }
+    requires clash { IsClashIn parts.now.stack.now clash }
+    ensures { Steps parts.now progress.old progress.new budget.now budget.now result }
 {
     let seen = argument_seen(parts, progress, clash);
     if seen.is_none() {
@@ -89,56 +88,20 @@ fn stop_at_clash(parts: &Parts<'_>, progress: &mut Progress, budget: &Budget, cl
     stop_seeing(parts, progress, budget, seen)
 }
 
-/// Goes on with the newest pair whose equality is to get a number.
-fn go_on(parts: &Parts<'_>, progress: &mut Progress, budget: &mut Budget, clash: Clash) -> Step
-    requires parts { AreParts parts.now }
-    requires under_way { IsUnderWay parts.now progress.old }
-    requires first { clash.first < length parts.now.stack.now.trees }
-    requires second { clash.second < length parts.now.stack.now.trees }
-    ensures went { Went parts.now progress.old progress.new budget.old budget.new }
-    ensures step { IsStep (state parts.now progress.new) budget.old budget.new result }
-{
-    match next_pair(parts, &mut progress.pairs, &progress.atoms) {
-        Some(pair) => go_on_with_pair(parts, progress, budget, pair),
-        None => stop_at_clash(parts, progress, budget, clash),
-    }
-}
-
-/// Goes on after two applications were found to clash.
-fn separate(
-    parts: &Parts<'_>,
-    progress: &mut Progress,
-    budget: &mut Budget,
-    clash: Clash,
-) -> Checked
-    requires parts { AreParts parts.now }
-    requires under_way { IsUnderWay parts.now progress.old }
-    requires first { clash.first < length parts.now.stack.now.trees }
-    requires second { clash.second < length parts.now.stack.now.trees }
-    ensures went { Went parts.now progress.old progress.new budget.old budget.new }
-    ensures found { CheckedBy (state parts.now progress.new) budget.old budget.new result }
+/// Goes on after two applications were found to clash, with the newest pair whose equality is to get a number.
+fn separate(parts: &Parts<'_>, progress: &mut Progress, budget: &mut Budget, clash: Clash) -> Step
+    requires ready { IsReady parts.now progress.old }
+    requires clash { IsClashIn parts.now.stack.now clash }
+    ensures { Steps parts.now progress.old progress.new budget.old budget.new result }
 {
     let wanted = want(&mut progress.pairs, parts.stack, clash);
     stays(parts, progress, budget);
-    match wanted {
-        Ok(()) => {
-            let step = go_on(parts, progress, budget, clash);
-            checked(step)
-        }
-        Err(_) => Checked::Ended(Cause::Memory),
+    if wanted.is_err() {
+        return Step::Ended(Cause::Memory);
     }
-}
-
-/// Goes on with a pair of Ints of one value that a wide `distinct` tells apart.
-fn go_on_apart(parts: &Parts<'_>, progress: &mut Progress, budget: &mut Budget) -> Step
-    requires parts { AreParts parts.now }
-    requires under_way { IsUnderWay parts.now progress.old }
-    ensures went { Went parts.now progress.old progress.new budget.old budget.new }
-    ensures step { IsStep (state parts.now progress.new) budget.old budget.new result }
-{
     match next_pair(parts, &mut progress.pairs, &progress.atoms) {
         Some(pair) => go_on_with_pair(parts, progress, budget, pair),
-        None => stop_unfit(parts, progress, budget),
+        None => stop_at_clash(parts, progress, budget, clash),
     }
 }
 
@@ -148,143 +111,138 @@ fn tell_apart(
     progress: &mut Progress,
     budget: &mut Budget,
     pairs: Vec<Pair>,
-) -> Checked
-    requires parts { AreParts parts.now }
-    requires under_way { IsUnderWay parts.now progress.old }
-    ensures went { Went parts.now progress.old progress.new budget.old budget.new }
-    ensures found { CheckedBy (state parts.now progress.new) budget.old budget.new result }
+) -> Step
+    requires { IsReady parts.now progress.old }
+    ensures { Steps parts.now progress.old progress.new budget.old budget.new result }
 {
     progress.pairs = pairs;
-    stays(parts, progress, budget);
-    let step = go_on_apart(parts, progress, budget);
-    checked(step)
+    match next_pair(parts, &mut progress.pairs, &progress.atoms) {
+        Some(pair) => go_on_with_pair(parts, progress, budget, pair),
+        None => stop_unfit(parts, progress, budget),
+    }
 }
 
-/// Looks for a model, where the values that meet all bounds are whole.
-fn try_model(parts: &Parts<'_>, progress: &mut Progress, budget: &mut Budget) -> Checked
-    requires parts { AreParts parts.now }
-    requires under_way { IsUnderWay parts.now progress.old }
-    ensures went { Went parts.now progress.old progress.new budget.old budget.new }
-    ensures found { CheckedBy (state parts.now progress.new) budget.old budget.new result }
+/// Looks for a model with the values that there are.
+fn model_of(parts: &Parts<'_>, progress: &Progress) -> Result<Found, AllocError>
+    requires { IsReady parts.now progress.now }
+    ensures { IfOk result (IsFound parts.now.stack.now progress.now.atoms.atoms progress.now.held.closure.log.items) }
 {
-    stays(parts, progress, budget);
-    let found = find_model(
+    find_model(
         parts.alloc,
         parts.stack,
         &parts.marks,
         &progress.atoms,
         &progress.held,
         &parts.wide_distincts,
-    );
+    )
+}
+
+/// A last check, from what was found with the values that there are.
+fn judge_found(
+    parts: &Parts<'_>,
+    progress: &mut Progress,
+    budget: &mut Budget,
+    found: Found,
+) -> Checked
+    requires ready { IsReady parts.now progress.old }
+    requires found { IsFound parts.now.stack.now progress.old.atoms.atoms progress.old.held.closure.log.items found }
+    ensures { Checks parts.now progress.old progress.new budget.old budget.new result }
+{
+    stays(parts, progress, budget);
     match found {
-        Ok(Found::Fine(tables)) => Checked::Fine(tables),
-        Ok(Found::Apart(clash)) => separate(parts, progress, budget, clash),
-        Ok(Found::Equal(pairs)) => tell_apart(parts, progress, budget, pairs),
-        Ok(Found::Unfit) => {
-            let step = stop_unfit(parts, progress, budget);
-            checked(step)
-        }
-        Err(_) => Checked::Ended(Cause::Memory),
+        Found::Fine(tables) => Checked::Fine(tables),
+        Found::Apart(clash) => checked(separate(parts, progress, budget, clash)),
+        Found::Equal(pairs) => checked(tell_apart(parts, progress, budget, pairs)),
+        Found::Unfit => checked(stop_unfit(parts, progress, budget)),
     }
 }
 
 /// A last check where the values meet all bounds.
 fn judge_values(parts: &Parts<'_>, progress: &mut Progress, budget: &mut Budget) -> Checked
-    requires parts { AreParts parts.now }
-    requires under_way { IsUnderWay parts.now progress.old }
+    requires at_last { IsAtLast parts.now progress.old }
     requires fits { AllFit progress.old.held.bounds }
-    requires last { IsLast (state parts.now progress.old) }
-    ensures went { Went parts.now progress.old progress.new budget.old budget.new }
-    ensures found { CheckedBy (state parts.now progress.new) budget.old budget.new result }
+    ensures { Checks parts.now progress.old progress.new budget.old budget.new result }
 {
-    match progress.held.bounds.first_fraction() {
-        Some(leaf) => make_whole(parts, progress, budget, leaf),
-        None => try_model(parts, progress, budget),
+    stays(parts, progress, budget);
+    if let Some(leaf) = progress.held.bounds.first_fraction() {
+        return checked(make_whole(parts, progress, budget, leaf));
+    }
+    match model_of(parts, progress) {
+        Ok(found) => judge_found(parts, progress, budget, found),
+        Err(_) => Checked::Ended(Cause::Memory),
     }
 }
 
-/// A last check by the rows of sums, from what was met of the bounds.
-fn judge_met(parts: &Parts<'_>, progress: &mut Progress, budget: &mut Budget, met: Met) -> Checked
-    requires parts { AreParts parts.now }
-    requires under_way { IsUnderWay parts.now progress.old }
-    requires met { IsMet progress.old.held.bounds (state parts.now progress.old) met }
-    requires spent { SpendsAll budget.old met }
-    requires last { IsLast (state parts.now progress.old) }
+/// Meets the bounds by the rows of sums. `None` where the values do.
+fn meet_sums(parts: &Parts<'_>, progress: &mut Progress, budget: &mut Budget) -> Option<Step>
+    requires { IsReady parts.now progress.old }
     ensures went { Went parts.now progress.old progress.new budget.old budget.new }
-    ensures found { CheckedBy (state parts.now progress.new) budget.old budget.new result }
+    ensures some { IfSome result (IsStep (state parts.now progress.new) budget.old budget.new) }
+    ensures none { IfNone result (HasMet parts.now progress.old progress.new budget.new Fits) }
 {
-    stays(parts, progress, budget);
-    match met {
-        Met::Fits => judge_values(parts, progress, budget),
-        Met::Conflict(clause) => Checked::Conflict(clause),
-        Met::Past(grid) => {
-            let step = stop_past(parts, progress, budget, grid);
-            checked(step)
-        }
-        Met::Spent => Checked::Ended(Cause::Units),
-        Met::Ended => Checked::Ended(Cause::Memory),
+    match meet_within(parts, progress, budget) {
+        Ok(Met::Fits) => None,
+        Ok(Met::Conflict(clause)) => Some(Step::Conflict(clause)),
+        Ok(Met::Past(grid)) => Some(stop_past(parts, progress, budget, grid)),
+        Ok(Met::Spent) => Some(Step::Ended(Cause::Units)),
+        Ok(Met::Ended) => Some(Step::Ended(Cause::Memory)),
+        Err(_) => Some(Step::Ended(Cause::Memory)),
     }
 }
 
 /// A last check by the rows of sums: the bounds are to be met first.
 fn judge_sums(parts: &Parts<'_>, progress: &mut Progress, budget: &mut Budget) -> Checked
-    requires parts { AreParts parts.now }
-    requires under_way { IsUnderWay parts.now progress.old }
-    requires last { IsLast (state parts.now progress.old) }
-    ensures went { Went parts.now progress.old progress.new budget.old budget.new }
-    ensures found { CheckedBy (state parts.now progress.new) budget.old budget.new result }
+    requires { IsAtLast parts.now progress.old }
+    ensures { Checks parts.now progress.old progress.new budget.old budget.new result }
 {
-    match meet_within(parts, progress, budget) {
-        Ok(met) => judge_met(parts, progress, budget, met),
-        Err(_) => Checked::Ended(Cause::Memory),
+    match meet_sums(parts, progress, budget) {
+        Some(step) => checked(step),
+        None => judge_values(parts, progress, budget),
     }
 }
 
 /// A last check where the numbers of a graph meet all bounds, which are differences: they may be those of a model, or else the rows of sums are looked at.
 fn judge_numbers(parts: &Parts<'_>, progress: &mut Progress, budget: &mut Budget) -> Checked
-    requires parts { AreParts parts.now }
-    requires under_way { IsUnderWay parts.now progress.old }
-    requires last { IsLast (state parts.now progress.old) }
-    ensures went { Went parts.now progress.old progress.new budget.old budget.new }
-    ensures found { CheckedBy (state parts.now progress.new) budget.old budget.new result }
+    requires { IsAtLast parts.now progress.old }
+    ensures { Checks parts.now progress.old progress.new budget.old budget.new result }
 {
-    let found = find_model(
-        parts.alloc,
-        parts.stack,
-        &parts.marks,
-        &progress.atoms,
-        &progress.held,
-        &parts.wide_distincts,
-    );
-    stays(parts, progress, budget);
-    match found {
-        Ok(Found::Fine(tables)) => Checked::Fine(tables),
-        Ok(Found::Apart(clash)) => separate(parts, progress, budget, clash),
-        Ok(Found::Equal(pairs)) => tell_apart(parts, progress, budget, pairs),
-        _ => {
+    match model_of(parts, progress) {
+        Err(_) | Ok(Found::Unfit) => {
             progress.held.looked.differences.give_up();
-            stays(parts, progress, budget);
             judge_sums(parts, progress, budget)
         }
+        Ok(found) => judge_found(parts, progress, budget, found),
     }
 }
 
-/// A last check of the bounds: by differences alone, where all of them are that, or else by the rows of sums.
-fn judge_bounds(parts: &Parts<'_>, progress: &mut Progress, budget: &mut Budget) -> Checked
-    requires parts { AreParts parts.now }
-    requires under_way { IsUnderWay parts.now progress.old }
-    requires last { IsLast (state parts.now progress.old) }
-    ensures went { Went parts.now progress.old progress.new budget.old budget.new }
-    ensures found { CheckedBy (state parts.now progress.new) budget.old budget.new result }
+/// A clause that is false under what was told: of a wide `xor`, of a wide `distinct`, or of a cycle of differences.
+fn broken_clause(
+    parts: &Parts<'_>,
+    held: &mut Held,
+    atoms: &AtomNumbers,
+) -> Result<Option<Lemma>, AllocError>
+    requires { IsHeldOf parts.now.stack.now atoms.now.atoms held.old }
+    ensures keeps { KeepsHeld parts.now.stack.now atoms.now.atoms held.old held.new }
+    ensures clause { IfOk result (λ o. IfSome o (IsConflict (state_of parts.now.stack.now atoms.now.atoms held.new.closure.log.items))) }
 {
-    let met = meet_differences(
-        parts.alloc,
-        &mut progress.held,
-        parts.stack,
-        &progress.atoms,
-    );
+    if let Some(clause) = broken_xor(parts.alloc, held, parts.stack, atoms, &parts.wide_xors)? {
+        return Ok(Some(clause));
+    }
+    let wide = &parts.wide_distincts;
+    if let Some(clause) = equal_arguments(parts.alloc, held, parts.stack, atoms, wide)? {
+        return Ok(Some(clause));
+    }
+    meet_differences(parts.alloc, held, parts.stack, atoms)
+}
+
+/// A last check: of the wide `xor`s and `distinct`s, and of the bounds, by differences alone, where all of them are that, or else by the rows of sums.
+pub(crate) fn judge(parts: &Parts<'_>, progress: &mut Progress, budget: &mut Budget) -> Checked
+    requires { IsAtLast parts.now progress.old }
+    ensures { Checks parts.now progress.old progress.new budget.old budget.new result }
+{
+    let broken = broken_clause(parts, &mut progress.held, &progress.atoms);
     stays(parts, progress, budget);
-    match met {
+    match broken {
         Err(_) => Checked::Ended(Cause::Memory),
         Ok(Some(clause)) => Checked::Conflict(clause),
         Ok(None) => {
@@ -297,162 +255,37 @@ fn judge_bounds(parts: &Parts<'_>, progress: &mut Progress, budget: &mut Budget)
     }
 }
 
-/// A last check of the wide `distinct`s, and then of the bounds.
-fn judge_elements(parts: &Parts<'_>, progress: &mut Progress, budget: &mut Budget) -> Checked
-    requires parts { AreParts parts.now }
-    requires under_way { IsUnderWay parts.now progress.old }
-    requires last { IsLast (state parts.now progress.old) }
-    ensures went { Went parts.now progress.old progress.new budget.old budget.new }
-    ensures found { CheckedBy (state parts.now progress.new) budget.old budget.new result }
-{
-    stays(parts, progress, budget);
-    let found = judge_distincts(
-        parts.alloc,
-        &progress.held,
-        parts.stack,
-        &progress.atoms,
-        &parts.wide_distincts,
-    );
-    match found {
-        Some(checked) => checked,
-        None => judge_bounds(parts, progress, budget),
-    }
-}
-
-/// A last check: of the wide `xor`s and `distinct`s, and then of the bounds.
-pub(crate) fn judge(parts: &Parts<'_>, progress: &mut Progress, budget: &mut Budget) -> Checked
-    requires parts { AreParts parts.now }
-    requires under_way { IsUnderWay parts.now progress.old }
-    requires last { IsLast (state parts.now progress.old) }
-    ensures went { Went parts.now progress.old progress.new budget.old budget.new }
-    ensures found { CheckedBy (state parts.now progress.new) budget.old budget.new result }
-{
-    stays(parts, progress, budget);
-    let found = judge_xors(
-        parts.alloc,
-        &progress.held,
-        parts.stack,
-        &progress.atoms,
-        &parts.wide_xors,
-    );
-    match found {
-        Some(checked) => checked,
-        None => judge_elements(parts, progress, budget),
-    }
-}
-
-/// Bounds that follow by rows, where the values meet all bounds.
-fn look_at_rows(parts: &Parts<'_>, progress: &mut Progress, budget: &Budget) -> Inferred
-    requires parts { AreParts parts.now }
-    requires under_way { IsUnderWay parts.now progress.old }
-    ensures went { Went parts.now progress.old progress.new budget.now budget.now }
-    ensures found { InferredBy (state parts.now progress.new) budget.now budget.now result }
-{
-    let found = follow_rows(
-        parts.alloc,
-        &mut progress.held,
-        parts.stack,
-        &progress.atoms,
-    );
-    stays(parts, progress, budget);
-    found
-}
-
-/// What sums show between decisions, from what was met of the bounds.
-fn look_at_met(parts: &Parts<'_>, progress: &mut Progress, budget: &Budget, met: Met) -> Inferred
-    requires parts { AreParts parts.now }
-    requires under_way { IsUnderWay parts.now progress.old }
-    requires met { IsMet progress.old.held.bounds (state parts.now progress.old) met }
-    requires spent { SpendsAll budget.now met }
-    ensures went { Went parts.now progress.old progress.new budget.now budget.now }
-    ensures found { InferredBy (state parts.now progress.new) budget.now budget.now result }
-{
-    stays(parts, progress, budget);
-    match met {
-        Met::Fits => look_at_rows(parts, progress, budget),
-        Met::Conflict(clause) => Inferred::Conflict(clause),
-        Met::Past(grid) => {
-            let step = stop_past(parts, progress, budget, grid);
-            inferred(step)
-        }
-        Met::Spent => Inferred::Ended(Cause::Units),
-        Met::Ended => Inferred::Ended(Cause::Memory),
-    }
-}
-
-/// What sums show between decisions.
+/// What sums show between decisions: bounds that follow by rows, where the values meet all bounds.
 fn look_at_sums(parts: &Parts<'_>, progress: &mut Progress, budget: &mut Budget) -> Inferred
-    requires parts { AreParts parts.now }
-    requires under_way { IsUnderWay parts.now progress.old }
-    ensures went { Went parts.now progress.old progress.new budget.old budget.new }
-    ensures found { InferredBy (state parts.now progress.new) budget.old budget.new result }
+    requires { IsReady parts.now progress.old }
+    ensures { Infers parts.now progress.old progress.new budget.old budget.new result }
 {
-    match meet_within(parts, progress, budget) {
-        Ok(met) => look_at_met(parts, progress, budget, met),
-        Err(_) => Inferred::Ended(Cause::Memory),
+    match meet_sums(parts, progress, budget) {
+        Some(step) => inferred(step),
+        None => {
+            let held = &mut progress.held;
+            let found = follow_rows(parts.alloc, held, parts.stack, &progress.atoms);
+            stays(parts, progress, budget);
+            found
+        }
     }
 }
 
-/// What the bounds show between decisions: differences alone, where all of them are that.
-fn look_at_bounds(parts: &Parts<'_>, progress: &mut Progress, budget: &mut Budget) -> Inferred
-    requires parts { AreParts parts.now }
-    requires under_way { IsUnderWay parts.now progress.old }
-    ensures went { Went parts.now progress.old progress.new budget.old budget.new }
-    ensures found { InferredBy (state parts.now progress.new) budget.old budget.new result }
+/// Clauses that follow between decisions by equality, of wide `xor`s, or by differences. `None` where the rows of sums are to be looked at.
+fn follow_told(parts: &Parts<'_>, held: &mut Held, atoms: &AtomNumbers) -> Option<Inferred>
+    requires { IsHeldOf parts.now.stack.now atoms.now.atoms held.old }
+    ensures keeps { KeepsHeld parts.now.stack.now atoms.now.atoms held.old held.new }
+    ensures found { (b c : Spending) → IfSome result (InferredBy (state_of parts.now.stack.now atoms.now.atoms held.new.closure.log.items) b c) }
 {
-    let found = follow_differences(
-        parts.alloc,
-        &mut progress.held,
-        parts.stack,
-        &progress.atoms,
-    );
-    stays(parts, progress, budget);
-    match found {
-        Some(inferred) => inferred,
-        None => look_at_sums(parts, progress, budget),
+    let found = follow(parts.alloc, held, parts.stack, atoms, &parts.guide);
+    if !matches!(found, Inferred::Quiet) {
+        return Some(found);
     }
-}
-
-/// Clauses that follow between decisions: of wide `xor`s, or else by bounds.
-fn look_at_xors(parts: &Parts<'_>, progress: &mut Progress, budget: &mut Budget) -> Inferred
-    requires parts { AreParts parts.now }
-    requires under_way { IsUnderWay parts.now progress.old }
-    ensures went { Went parts.now progress.old progress.new budget.old budget.new }
-    ensures found { InferredBy (state parts.now progress.new) budget.old budget.new result }
-{
-    let found = follow_xors(
-        parts.alloc,
-        &mut progress.held,
-        parts.stack,
-        &progress.atoms,
-        &parts.wide_xors,
-    );
-    stays(parts, progress, budget);
-    match found {
-        Inferred::Quiet => look_at_bounds(parts, progress, budget),
-        other => other,
+    let found = follow_xors(parts.alloc, held, parts.stack, atoms, &parts.wide_xors);
+    if !matches!(found, Inferred::Quiet) {
+        return Some(found);
     }
-}
-
-/// Clauses that follow between decisions: by equality, of wide `xor`s, or else by bounds.
-fn follow_all(parts: &Parts<'_>, progress: &mut Progress, budget: &mut Budget) -> Inferred
-    requires parts { AreParts parts.now }
-    requires under_way { IsUnderWay parts.now progress.old }
-    ensures went { Went parts.now progress.old progress.new budget.old budget.new }
-    ensures found { InferredBy (state parts.now progress.new) budget.old budget.new result }
-{
-    let found = follow(
-        parts.alloc,
-        &mut progress.held,
-        parts.stack,
-        &progress.atoms,
-        &parts.guide,
-    );
-    stays(parts, progress, budget);
-    match found {
-        Inferred::Quiet => look_at_xors(parts, progress, budget),
-        other => other,
-    }
+    follow_differences(parts.alloc, held, parts.stack, atoms)
 }
 
 /// Clauses that follow between decisions, or an atom more that was wanted.
@@ -461,16 +294,16 @@ pub(crate) fn infer_more(
     progress: &mut Progress,
     budget: &mut Budget,
 ) -> Inferred
-    requires parts { AreParts parts.now }
-    requires under_way { IsUnderWay parts.now progress.old }
-    ensures went { Went parts.now progress.old progress.new budget.old budget.new }
-    ensures found { InferredBy (state parts.now progress.new) budget.old budget.new result }
+    requires { IsReady parts.now progress.old }
+    ensures { Infers parts.now progress.old progress.new budget.old budget.new result }
 {
-    match next_pair(parts, &mut progress.pairs, &progress.atoms) {
-        Some(pair) => {
-            let step = go_on_with_pair(parts, progress, budget, pair);
-            inferred(step)
-        }
-        None => follow_all(parts, progress, budget),
+    if let Some(pair) = next_pair(parts, &mut progress.pairs, &progress.atoms) {
+        return inferred(go_on_with_pair(parts, progress, budget, pair));
+    }
+    let found = follow_told(parts, &mut progress.held, &progress.atoms);
+    stays(parts, progress, budget);
+    match found {
+        Some(found) => found,
+        None => look_at_sums(parts, progress, budget),
     }
 }

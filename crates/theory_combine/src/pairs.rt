@@ -10,10 +10,9 @@ ghost use Rattle.pair_bounds.specs.Pairs.{at_most_fits};
 ghost use Rattle.bound_log.specs.Told.{column_sums};
 ghost use Rattle.bound_log.specs.Growth.{IsProper};
 ghost use Rattle.theory_combine.specs.Pairs.{IsFit, IsRefused, IsSought, IsWanted};
-ghost use Rattle.theory_combine.specs.Progress.{state, AreParts, IsUnderWay, Went};
-ghost use Rattle.theory_combine.specs.Ready.{HasLow, IsAtMostAt};
+ghost use Rattle.theory_combine.specs.Progress.{AreParts};
 ghost use Rattle.theory_combine.specs.Shown.{IsLeft};
-ghost use Rattle.theory_combine.specs.Steps.{IsStep};
+ghost use Rattle.theory_combine.specs.Ready.{HasLow, IsAtMostAt, IsReady, Steps};
 
 use crate::leaves::{is_int, is_marked_place};
 use crate::numbering::{NewAtom, NewBound, number_new};
@@ -122,12 +121,10 @@ fn tie(
     low: u32,
     high: u32,
 ) -> Step
-    requires parts { AreParts parts.now }
-    requires under_way { IsUnderWay parts.now progress.old }
+    requires ready { IsReady parts.now progress.old }
     requires low { HasLow parts.now.stack.now parts.now.marks.items progress.old.atoms.atoms pair low }
     requires high { IsAtMostAt parts.now.stack.now.trees progress.old.atoms.atoms pair.right pair.left high }
-    ensures went { Went parts.now progress.old progress.new budget.old budget.new }
-    ensures step { IsStep (state parts.now progress.new) budget.old budget.new result }
+    ensures { Steps parts.now progress.old progress.new budget.old budget.new result }
 {
     symbols_are_declared();
     flat_says_the_same();
@@ -214,13 +211,11 @@ fn stop_at_pair(
     pair: Pair,
     error: DifferenceError,
 ) -> Step
-    requires parts { AreParts parts.now }
-    requires under_way { IsUnderWay parts.now progress.old }
+    requires ready { IsReady parts.now progress.old }
     requires left { IsFit parts.now.stack.now parts.now.marks.items pair.left }
     requires right { IsFit parts.now.stack.now parts.now.marks.items pair.right }
     requires refused { Refuses parts.now.stack.now.trees (at_most_fits parts.now.stack.now.trees) pair.left pair.right error }
-    ensures went { Went parts.now progress.old progress.new budget.now budget.now }
-    ensures step { IsStep (state parts.now progress.new) budget.now budget.now result }
+    ensures { Steps parts.now progress.old progress.new budget.now budget.now result }
 {
     let seen = seen_of(parts, progress, pair, error);
     stop_seeing(parts, progress, budget, seen)
@@ -234,11 +229,9 @@ fn go_on_above(
     pair: Pair,
     low: u32,
 ) -> Step
-    requires parts { AreParts parts.now }
-    requires under_way { IsUnderWay parts.now progress.old }
+    requires ready { IsReady parts.now progress.old }
     requires low { HasLow parts.now.stack.now parts.now.marks.items progress.old.atoms.atoms pair low }
-    ensures went { Went parts.now progress.old progress.new budget.old budget.new }
-    ensures step { IsStep (state parts.now progress.new) budget.old budget.new result }
+    ensures { Steps parts.now progress.old progress.new budget.old budget.new result }
 {
     flat_says_the_same();
     bounds_are_over_leaves();
@@ -264,11 +257,9 @@ pub(crate) fn go_on_with_pair(
     budget: &mut Budget,
     pair: Pair,
 ) -> Step
-    requires parts { AreParts parts.now }
-    requires under_way { IsUnderWay parts.now progress.old }
+    requires ready { IsReady parts.now progress.old }
     requires wanted { IsWanted parts.now.stack.now parts.now.marks.items progress.old.atoms.atoms pair }
-    ensures went { Went parts.now progress.old progress.new budget.old budget.new }
-    ensures step { IsStep (state parts.now progress.new) budget.old budget.new result }
+    ensures { Steps parts.now progress.old progress.new budget.old budget.new result }
 {
     flat_says_the_same();
     bounds_are_over_leaves();

@@ -1,8 +1,8 @@
 //! Pivots as units: where the budget keeps lines, bounds are met by no more pivots than may be spent, and each is spent.
 ghost use Rattle.std.specs.Prelude.{◌≡◌, ◌+◌, ◌≤◌, ◌++◌, true, false, length, OnOk, IfOk};
-ghost use Rattle.theory_combine.specs.Held.{IsMet};
-ghost use Rattle.theory_combine.specs.Pivots.{pivot_units, SpendsAll, SpendsPivots};
-ghost use Rattle.theory_combine.specs.Progress.{state, AreParts, IsUnderWay, Went};
+ghost use Rattle.theory_combine.specs.Pivots.{pivot_units, SpendsPivots};
+ghost use Rattle.theory_combine.specs.Progress.{Went};
+ghost use Rattle.theory_combine.specs.Ready.{HasMet, IsReady};
 
 use crate::held::{Meeting, Met, meet_bounds};
 use crate::parts::{Parts, Progress};
@@ -25,14 +25,10 @@ fn spend_pivots(budget: &mut Budget, lines: Vec<Line>) -> Result<(), AllocError>
 
 /// Meets the bounds by as many pivots as it takes, none of which is a unit.
 fn meet_freely(parts: &Parts<'_>, progress: &mut Progress, budget: &Budget) -> Met
-    requires parts { AreParts parts.now }
-    requires under_way { IsUnderWay parts.now progress.old }
+    requires ready { IsReady parts.now progress.old }
     requires keeps { budget.now.keeps_lines ≡ false }
     ensures went { Went parts.now progress.old progress.new budget.now budget.now }
-    ensures same { state parts.now progress.new ≡ state parts.now progress.old }
-    ensures under_way { IsUnderWay parts.now progress.new }
-    ensures met { IsMet progress.new.held.bounds (state parts.now progress.new) result }
-    ensures spent { SpendsAll budget.now result }
+    ensures met { HasMet parts.now progress.old progress.new budget.now result }
 {
     let _spent = budget.room();
     let Meeting { met, lines: _ } = meet_bounds(
@@ -55,14 +51,10 @@ fn meet_by_units(
     progress: &mut Progress,
     budget: &mut Budget,
 ) -> Result<Met, AllocError>
-    requires parts { AreParts parts.now }
-    requires under_way { IsUnderWay parts.now progress.old }
+    requires ready { IsReady parts.now progress.old }
     requires keeps { budget.old.keeps_lines ≡ true }
     ensures went { Went parts.now progress.old progress.new budget.old budget.new }
-    ensures same { OnOk result (state parts.now progress.new ≡ state parts.now progress.old) }
-    ensures under_way { OnOk result (IsUnderWay parts.now progress.new) }
-    ensures met { IfOk result (IsMet progress.new.held.bounds (state parts.now progress.new)) }
-    ensures spent { IfOk result (SpendsAll budget.new) }
+    ensures met { IfOk result (HasMet parts.now progress.old progress.new budget.new) }
 {
     let room = budget.room();
     let Meeting { met, lines } = meet_bounds(
@@ -89,13 +81,9 @@ pub(crate) fn meet_within(
     progress: &mut Progress,
     budget: &mut Budget,
 ) -> Result<Met, AllocError>
-    requires parts { AreParts parts.now }
-    requires under_way { IsUnderWay parts.now progress.old }
+    requires { IsReady parts.now progress.old }
     ensures went { Went parts.now progress.old progress.new budget.old budget.new }
-    ensures same { OnOk result (state parts.now progress.new ≡ state parts.now progress.old) }
-    ensures under_way { OnOk result (IsUnderWay parts.now progress.new) }
-    ensures met { IfOk result (IsMet progress.new.held.bounds (state parts.now progress.new)) }
-    ensures spent { IfOk result (SpendsAll budget.new) }
+    ensures met { IfOk result (HasMet parts.now progress.old progress.new budget.new) }
 {
     if budget.keeps_lines() {
         meet_by_units(parts, progress, budget)

@@ -1,5 +1,5 @@
 //! What a search begins with, before anything is told.
-ghost use Rattle.std.specs.Prelude.{◌≡◌, ◌<◌, [], length, All, IfOk, IfErr, OnOk};
+ghost use Rattle.std.specs.Prelude.{◌≡◌, ◌<◌, ◌+◌, ◌^◌, [], length, All, IfOk, IfErr, OnOk};
 ghost use Rattle.fraction128.specs.Lines.{HasBasis, first_basis};
 ghost use Rattle.search_port.specs.State.{atom_at};
 ghost use Rattle.check_atoms.specs.Marks.{AreStackParts};
@@ -13,6 +13,7 @@ ghost use Rattle.bound_log.specs.Pending.{plain_grid};
 ghost use Rattle.theory_combine.specs.Begin.{AddsLeaves, AreMarkedParts, IsBegun};
 ghost use Rattle.theory_combine.specs.Columns.{HasKnownColumns};
 ghost use Rattle.theory_combine.specs.Errors.{IsErrorAt, IsErrorIn, IsErrorSeen};
+ghost use Rattle.theory_combine.specs.Held.{IsHeld};
 
 use crate::differences::Differences;
 use crate::errors::{BoundError, know_bound, know_other};
@@ -111,6 +112,36 @@ fn add_leaves(
     Ok(())
 }
 
+/// What is held where nothing is told, of atoms that the bounds know. An `Err` is for want of memory.
+fn hold_nothing(
+    alloc: Global,
+    stack: &Stack,
+    atoms: &AtomNumbers,
+    bounds: BoundLog,
+) -> Result<Held, AllocError>
+    requires few { length stack.now.trees + 2 < 2 ^ 32 }
+    requires knows { Knows atoms.now.atoms bounds }
+    requires columns { HasKnownColumns stack.now atoms.now.atoms bounds }
+    requires log { bounds.log ≡ [] }
+    ensures held { IfOk result (IsHeld stack.now atoms.now.atoms) }
+    ensures log { IfOk result (λ h. h.closure.log.items ≡ []) }
+    ensures bounds { IfOk result (λ h. h.bounds ≡ bounds) }
+{
+    let closure = ClosureLog::new(alloc, stack)?;
+    let mut scan = Scan::new(alloc);
+    scan.grow(atoms.len())?;
+    Ok(Held {
+        closure,
+        bounds,
+        scan,
+        looked: Looked {
+            next: 0,
+            differences: Differences::new(alloc),
+            watches: Watches::new(alloc),
+        },
+    })
+}
+
 /// Nothing is told of the parts of a stack and their atoms, which the bounds know. An `Err` is for want of memory; a stack of 2^32 - 3 terms or more leaves none.
 fn begin_with(
     alloc: Global,
@@ -139,23 +170,12 @@ fn begin_with(
     }
     let _ = stack.sorts();
     let guide = Guide::new(alloc, stack)?;
-    let closure = ClosureLog::new(alloc, stack)?;
     add_leaves(alloc, stack, marks, &mut bounds)?;
     bounds.facts();
-    let mut scan = Scan::new(alloc);
-    scan.grow(atoms.len())?;
+    let held = hold_nothing(alloc, stack, atoms, bounds)?;
     Ok(Begun {
         guide,
-        held: Held {
-            closure,
-            bounds,
-            scan,
-            looked: Looked {
-                next: 0,
-                differences: Differences::new(alloc),
-                watches: Watches::new(alloc),
-            },
-        },
+        held,
     })
 }
 

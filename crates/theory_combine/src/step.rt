@@ -5,9 +5,9 @@ ghost use Rattle.smt_meaning.specs.declared.clauses.Atom.TheVariants.{AtMost};
 ghost use Rattle.bound_log.specs.Growth.{IsProper};
 ghost use Rattle.bound_log.specs.Told.{column_sums};
 ghost use Rattle.theory_combine.specs.Errors.{IsPastOver};
-ghost use Rattle.theory_combine.specs.Progress.{state, AreParts, IsUnderWay, Went};
+ghost use Rattle.theory_combine.specs.Progress.{IsUnderWay, Went};
 ghost use Rattle.theory_combine.specs.Shown.{IsOfCheck, IsLeft, IsMarkedLeaf};
-ghost use Rattle.theory_combine.specs.Steps.{IsStep};
+ghost use Rattle.theory_combine.specs.Ready.{IsReady, Steps};
 
 use crate::constant::said_of;
 use crate::numbering::{NewAtom, NewBound, number_new};
@@ -22,6 +22,8 @@ use smt_meaning::{RangeSeen, Seq};
 pub(crate) enum Step {
     /// With an atom more, and these clauses.
     Lemmas(Seq<Lemma>),
+    /// It doesn't: this clause is false.
+    Conflict(Lemma),
     /// It doesn't.
     Ended(Cause),
 }
@@ -33,15 +35,13 @@ pub(crate) fn go_on_with_bound(
     budget: &mut Budget,
     bound: NewBound,
 ) -> Step
-    requires parts { AreParts parts.now }
-    requires under_way { IsUnderWay parts.now progress.old }
+    requires ready { IsReady parts.now progress.old }
     requires new { Contains progress.old.atoms.atoms (AtMost bound.sum.items bound.threshold) → ⊥ }
     requires proper { All IsProper bound.sum.items }
     requires in_range { InRange bound.threshold }
     requires of_check { IsOfCheck parts.now.stack.now progress.old.branches (AtMost bound.sum.items bound.threshold) }
     requires leaves { All (λ (p : _). IsMarkedLeaf parts.now.stack.now parts.now.marks.items p.term) bound.sum.items }
-    ensures went { Went parts.now progress.old progress.new budget.old budget.new }
-    ensures step { IsStep (state parts.now progress.new) budget.old budget.new result }
+    ensures { Steps parts.now progress.old progress.new budget.old budget.new result }
 {
     symbols_are_declared();
     flat_says_the_same();
@@ -76,8 +76,7 @@ pub(crate) fn stop_seeing(
 ) -> Step
     requires under_way { IsUnderWay parts.now progress.old }
     requires seen { IfSome seen (IsLeft parts.now.stack.now (column_sums progress.old.held.bounds) progress.old.branches) }
-    ensures went { Went parts.now progress.old progress.new budget.now budget.now }
-    ensures step { IsStep (state parts.now progress.new) budget.now budget.now result }
+    ensures { Steps parts.now progress.old progress.new budget.now budget.now result }
 {
     progress.seen = seen;
     stays(parts, progress, budget);
@@ -93,8 +92,7 @@ pub(crate) fn stop_past(
 ) -> Step
     requires under_way { IsUnderWay parts.now progress.old }
     requires past { IsPastOver (column_sums progress.old.held.bounds) progress.old.atoms.atoms grid }
-    ensures went { Went parts.now progress.old progress.new budget.now budget.now }
-    ensures step { IsStep (state parts.now progress.new) budget.now budget.now result }
+    ensures { Steps parts.now progress.old progress.new budget.now budget.now result }
 {
     stop_seeing(parts, progress, budget, Some(RangeSeen::Step(grid)))
 }
@@ -102,8 +100,7 @@ pub(crate) fn stop_past(
 /// Doesn't go on.
 pub(crate) fn stop(parts: &Parts<'_>, progress: &Progress, budget: &Budget) -> Step
     requires { IsUnderWay parts.now progress.now }
-    ensures went { Went parts.now progress.now progress.now budget.now budget.now }
-    ensures step { IsStep (state parts.now progress.now) budget.now budget.now result }
+    ensures { Steps parts.now progress.now progress.now budget.now budget.now result }
 {
     stays(parts, progress, budget);
     Step::Ended(Cause::Memory)

@@ -4,9 +4,8 @@ ghost use Rattle.smt_meaning.specs.Ranges.{LeavesInModel};
 ghost use Rattle.smt_laws.specs.Flat.{flat};
 ghost use Rattle.bound_log.specs.Told.{column_sums};
 ghost use Rattle.model_eval.specs.Walk.{is_marked};
-ghost use Rattle.theory_combine.specs.Progress.{state, AreParts, IsUnderWay, Went};
 ghost use Rattle.theory_combine.specs.Shown.{IsLeft};
-ghost use Rattle.theory_combine.specs.Steps.{IsStep};
+ghost use Rattle.theory_combine.specs.Ready.{IsReady, Steps};
 
 use crate::leaves::is_marked_place;
 use crate::parts::{Parts, Progress};
@@ -20,8 +19,7 @@ use smt_meaning::{RangeSeen, TermId};
 
 /// A model in which a number leaves the range, with the leaves' values as the bounds have them, if it can be shown.
 fn in_model(parts: &Parts<'_>, progress: &Progress) -> Result<InModel, Unshown>
-    requires parts { AreParts parts.now }
-    requires under_way { IsUnderWay parts.now progress.now }
+    requires { IsReady parts.now progress.now }
     ensures { IfOk result (λ m. LeavesInModel parts.now.stack.now.trees (flat parts.now.stack.now.frames) (column_sums progress.now.held.bounds) (Contains progress.now.atoms.atoms) m.tables m.place m.grid) }
 {
     let chosen = values_of(
@@ -50,8 +48,7 @@ fn in_model(parts: &Parts<'_>, progress: &Progress) -> Result<InModel, Unshown>
 
 /// What the folding of a marked term shows, where it leaves the range.
 fn unfolded_at(parts: &Parts<'_>, progress: &Progress, place: TermId) -> Option<RangeSeen>
-    requires parts { AreParts parts.now }
-    requires under_way { IsUnderWay parts.now progress.now }
+    requires { IsReady parts.now progress.now }
     ensures { IfSome result (IsLeft parts.now.stack.now (column_sums progress.now.held.bounds) progress.now.branches) }
 {
     flat_says_the_same();
@@ -66,8 +63,7 @@ fn unfolded_at(parts: &Parts<'_>, progress: &Progress, place: TermId) -> Option<
 
 /// A part whose folding leaves the range, if one's does.
 fn unfolded_seen(parts: &Parts<'_>, progress: &Progress) -> Option<RangeSeen>
-    requires parts { AreParts parts.now }
-    requires under_way { IsUnderWay parts.now progress.now }
+    requires { IsReady parts.now progress.now }
     ensures { IfSome result (IsLeft parts.now.stack.now (column_sums progress.now.held.bounds) progress.now.branches) }
 {
     for place in 0..parts.stack.terms().len() {
@@ -81,10 +77,8 @@ fn unfolded_seen(parts: &Parts<'_>, progress: &Progress) -> Option<RangeSeen>
 
 /// Doesn't go on, and shows a part whose folding leaves the range, if one's does.
 fn stop_unfolded(parts: &Parts<'_>, progress: &mut Progress, budget: &Budget) -> Step
-    requires parts { AreParts parts.now }
-    requires under_way { IsUnderWay parts.now progress.old }
-    ensures went { Went parts.now progress.old progress.new budget.now budget.now }
-    ensures step { IsStep (state parts.now progress.new) budget.now budget.now result }
+    requires { IsReady parts.now progress.old }
+    ensures { Steps parts.now progress.old progress.new budget.now budget.now result }
 {
     let seen = unfolded_seen(parts, progress);
     stop_seeing(parts, progress, budget, seen)
@@ -92,10 +86,8 @@ fn stop_unfolded(parts: &Parts<'_>, progress: &mut Progress, budget: &Budget) ->
 
 /// Doesn't go on from values that make no model within the range, and shows where a number leaves it, if it can.
 pub(crate) fn stop_unfit(parts: &Parts<'_>, progress: &mut Progress, budget: &Budget) -> Step
-    requires parts { AreParts parts.now }
-    requires under_way { IsUnderWay parts.now progress.old }
-    ensures went { Went parts.now progress.old progress.new budget.now budget.now }
-    ensures step { IsStep (state parts.now progress.new) budget.now budget.now result }
+    requires { IsReady parts.now progress.old }
+    ensures { Steps parts.now progress.old progress.new budget.now budget.now result }
 {
     match in_model(parts, progress) {
         Ok(found) => {

@@ -1,9 +1,9 @@
 //! Bounds of the empty sum that are told to be true and aren't: no bound of a variable says it.
-ghost use Rattle.std.specs.Prelude.{◌≡◌, ◌<◌, true, length, All, IfOk, IfSome, IfNone};
+ghost use Rattle.std.specs.Prelude.{◌≡◌, ◌<◌, true, length, All, IfOk, IfSome, IfNone, MatchOption};
 ghost use Rattle.literals.specs.Signed.{Signed};
 ghost use Rattle.search_port.specs.Calls.{IsConflict};
-ghost use Rattle.closure_log.specs.Seen.{state_of, IsSetting};
-ghost use Rattle.theory_combine.specs.Held.{IsHeld};
+ghost use Rattle.closure_log.specs.Seen.{state_of};
+ghost use Rattle.theory_combine.specs.Kept.{IsHeldOf};
 ghost use Rattle.theory_combine.specs.Last.{HoldsWhereEmpty, IsUntrueAt, IsUntrueIn};
 
 use crate::constant::constant_lemma;
@@ -82,10 +82,8 @@ pub(crate) fn untrue_constant(
     stack: &Stack,
     atoms: &AtomNumbers,
 ) -> Result<Option<Lemma>, AllocError>
-    requires setting { IsSetting stack.now atoms.now.atoms }
-    requires held { IsHeld stack.now atoms.now.atoms held.now }
-    ensures clause { IfOk result (λ o. IfSome o (IsConflict (state_of stack.now atoms.now.atoms held.now.closure.log.items))) }
-    ensures none { IfOk result (λ o. IfNone o (All (HoldsWhereEmpty atoms.now.atoms) held.now.closure.log.items)) }
+    requires { IsHeldOf stack.now atoms.now.atoms held.now }
+    ensures { IfOk result (λ o. MatchOption o (All (HoldsWhereEmpty atoms.now.atoms) held.now.closure.log.items) (IsConflict (state_of stack.now atoms.now.atoms held.now.closure.log.items))) }
 {
     constant_has_value();
     atoms.are_few();

@@ -1,18 +1,18 @@
 //! Wide `xor`s, between decisions and in a last check.
-ghost use Rattle.std.specs.Prelude.{◌≡◌, IfSome, IfNone};
-ghost use Rattle.search_port.specs.Calls.{CheckedBy, InferredBy};
+ghost use Rattle.std.specs.Prelude.{IfOk, MatchOption};
+ghost use Rattle.search_port.specs.Calls.{IsConflict, InferredBy};
 ghost use Rattle.search_port.specs.Spending.{Spending};
-ghost use Rattle.closure_log.specs.Seen.{state_of, IsSetting};
+ghost use Rattle.closure_log.specs.Seen.{state_of};
 ghost use Rattle.closure_log.specs.Parts.{KeepsXors};
-ghost use Rattle.theory_combine.specs.Held.{IsHeld};
+ghost use Rattle.theory_combine.specs.Kept.{IsHeldOf, KeepsHeld};
 
 use crate::held::Held;
 use atom_form::AtomNumbers;
 use closure_log::{broken, inferred};
 use scope_stack::Stack;
-use search_port::{Cause, Checked, Inferred};
+use search_port::{Cause, Inferred, Lemma};
 use smt_meaning::TermId;
-use std::alloc::Global;
+use std::alloc::{AllocError, Global};
 
 /// Clauses of wide `xor`s by which their terms follow, or that are false.
 pub(crate) fn follow_xors(
@@ -22,11 +22,8 @@ pub(crate) fn follow_xors(
     atoms: &AtomNumbers,
     wide_xors: &[TermId],
 ) -> Inferred
-    requires setting { IsSetting stack.now atoms.now.atoms }
-    requires held { IsHeld stack.now atoms.now.atoms held.old }
-    ensures held { IsHeld stack.now atoms.now.atoms held.new }
-    ensures log { held.new.closure.log.items ≡ held.old.closure.log.items }
-    ensures bounds { held.new.bounds ≡ held.old.bounds }
+    requires { IsHeldOf stack.now atoms.now.atoms held.old }
+    ensures keeps { KeepsHeld stack.now atoms.now.atoms held.old held.new }
     ensures found { (b c : Spending) → InferredBy (state_of stack.now atoms.now.atoms held.new.closure.log.items) b c result }
 {
     let found = held.looked.watches.follow(
@@ -43,29 +40,23 @@ pub(crate) fn follow_xors(
     }
 }
 
-/// What of wide `xor`s ends a last check: the clause of one that is broken. None where each has the truth that its operator makes.
-pub(crate) fn judge_xors(
+/// The clause of a wide `xor` that is broken. None where each has the truth that its operator makes. An `Err` is for want of memory.
+pub(crate) fn broken_xor(
     alloc: Global,
     held: &Held,
     stack: &Stack,
     atoms: &AtomNumbers,
     wide_xors: &[TermId],
-) -> Option<Checked>
-    requires setting { IsSetting stack.now atoms.now.atoms }
-    requires held { IsHeld stack.now atoms.now.atoms held.now }
-    ensures some { (b c : Spending) → IfSome result (CheckedBy (state_of stack.now atoms.now.atoms held.now.closure.log.items) b c) }
-    ensures none { IfNone result (KeepsXors stack.now.trees atoms.now.atoms held.now.closure.log.items wide_xors.now) }
+) -> Result<Option<Lemma>, AllocError>
+    requires { IsHeldOf stack.now atoms.now.atoms held.now }
+    ensures { IfOk result (λ o. MatchOption o (KeepsXors stack.now.trees atoms.now.atoms held.now.closure.log.items wide_xors.now) (IsConflict (state_of stack.now atoms.now.atoms held.now.closure.log.items))) }
 {
-    match broken(
+    broken(
         alloc,
         stack,
         atoms,
         &held.scan.places,
         &held.closure.log,
         wide_xors,
-    ) {
-        Ok(None) => None,
-        Ok(Some(clause)) => Some(Checked::Conflict(clause)),
-        Err(_) => Some(Checked::Ended(Cause::Memory)),
-    }
+    )
 }

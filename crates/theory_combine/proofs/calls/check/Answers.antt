@@ -1,7 +1,7 @@
 use Rattle.std.proofs.Common.{arith}
 use Rattle.theory_combine.specs.Columns.{variables_of}
 use Rattle.theory_combine.specs.Progress.{state}
-use Rattle.theory_combine.proofs.Answering.{went_full}
+use Rattle.theory_combine.proofs.Answering.{to_ready, went_full}
 use Rattle.theory_combine.proofs.Calling.{checked_with}
 use Rattle.theory_combine.proofs.Going.{went_same}
 use Rattle.theory_combine.proofs.calls.check.Goals as goal
@@ -22,5 +22,8 @@ returns-in-None-clause-found c =
     let new = c.judge.new.progress in
     checked_with (state p new) (variables_of new.lost new.held.bounds) c.args.budget.now c.judge.new.budget c.judge.result c.judge.ensures.found
 
-pub judge-requires-clause-last : goal.judge-requires-clause-last
-judge-requires-clause-last c = record { full = c.requires.full; standing = c.requires.standing }
+pub judge-requires : goal.judge-requires
+judge-requires c = record {
+  ready = to_ready c.args.parts.now c.args.progress.now c.requires.parts c.requires.progress c.in-None.is;
+  last = record { full = c.requires.full; standing = c.requires.standing };
+}

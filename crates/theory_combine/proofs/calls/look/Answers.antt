@@ -1,7 +1,7 @@
 use Rattle.std.proofs.Common.{arith}
 use Rattle.theory_combine.specs.Columns.{variables_of}
 use Rattle.theory_combine.specs.Progress.{state}
-use Rattle.theory_combine.proofs.Answering.{went_full}
+use Rattle.theory_combine.proofs.Answering.{to_ready, went_full}
 use Rattle.theory_combine.proofs.Calling.{inferred_with}
 use Rattle.theory_combine.proofs.Going.{went_same}
 use Rattle.theory_combine.proofs.calls.look.Goals as goal
@@ -21,3 +21,6 @@ returns-in-None-clause-found c =
     let p = c.args.parts.now in
     let new = c.infer_more.new.progress in
     inferred_with (state p new) (variables_of new.lost new.held.bounds) c.args.budget.now c.infer_more.new.budget c.infer_more.result c.infer_more.ensures.found
+
+pub infer_more-requires : goal.infer_more-requires
+infer_more-requires c = to_ready c.args.parts.now c.args.progress.now c.requires.parts c.requires.progress c.in-None.is

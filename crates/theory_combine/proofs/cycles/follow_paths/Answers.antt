@@ -1,4 +1,4 @@
-use Rattle.theory_combine.proofs.Answering.{kept_looked, kept_none, kept_then}
+use Rattle.theory_combine.proofs.Answering.{kept_looked}
 use Rattle.theory_combine.proofs.cycles.follow_paths.Goals as goal
 
 pub add_shown-requires : goal.add_shown-requires

@@ -20,14 +20,14 @@ returns-in-Ended-clause-held c =
     let place : c.len-place.result ≡ length c.args.held.now.closure.log.items = search rules in
     record {
       told = c.tell-answer.ensures.told;
-      knows = c.undo_to.ensures.stays c.args.atoms.now.atoms (c.tell.ensures.stays c.args.atoms.now.atoms c.requires.held.knows);
+      knows = c.undo_to.ensures.stays c.args.atoms.now.atoms (c.tell.ensures.stays c.args.atoms.now.atoms c.requires.held.held.knows);
       same =
           c.undo_to.ensures.undone.log ∙ ap (take c.len-place.result) c.in-Ok.ensures.ok.log
-          ∙ front_of c.args.held.now.bounds.log c.args.literal c.len-place.result (place ∙ ap length (sym c.requires.held.same)) ∙ c.requires.held.same ∙ sym log;
-      size = c.note.ensures.size ∙ c.requires.held.size;
+          ∙ front_of c.args.held.now.bounds.log c.args.literal c.len-place.result (place ∙ ap length (sym c.requires.held.held.same)) ∙ c.requires.held.held.same ∙ sym log;
+      size = c.note.ensures.size ∙ c.requires.held.held.size;
       columns = keeps_known c.args.stack.now c.args.atoms.now.atoms c.tell.new.self c.undo_to.new.self c.undo_to.ensures.columns
-          (keeps_known c.args.stack.now c.args.atoms.now.atoms c.args.held.now.bounds c.tell.new.self c.tell.ensures.columns c.requires.held.columns);
-      told_at = subst (λ (ls : List Signed). ArePlaces ls c.note.new.self.places.items) (sym log) (c.note.ensures.same c.args.held.now.closure.log.items c.requires.held.told_at c.requires.open);
+          (keeps_known c.args.stack.now c.args.atoms.now.atoms c.args.held.now.bounds c.tell.new.self c.tell.ensures.columns c.requires.held.held.columns);
+      told_at = subst (λ (ls : List Signed). ArePlaces ls c.note.new.self.places.items) (sym log) (c.note.ensures.same c.args.held.now.closure.log.items c.requires.held.held.told_at c.requires.open);
     }
 
 pub returns-in-Taken-clause-held : goal.returns-in-Taken-clause-held
@@ -36,8 +36,8 @@ returns-in-Taken-clause-held c =
     let old = c.args.held.now in
     let place : c.len-place.result ≡ length old.closure.log.items = search rules in
     let new : Held = record { closure = c.tell-answer.new.self; bounds = c.tell.new.self; scan = c.note.new.self; looked = old.looked } in
-    told_more c.args.stack.now table old new c.args.literal c.requires.held c.tell-answer.ensures.told (c.tell.ensures.stays table c.requires.held.knows) (keeps_known c.args.stack.now table old.bounds c.tell.new.self c.tell.ensures.columns c.requires.held.columns)
-    c.in-Ok.ensures.ok.log (ap (λ (t : TheoryState). t.log) c.in-Taken.ensures.answer) c.note.ensures.size (c.note.ensures.joined old.closure.log.items c.requires.held.told_at c.requires.open place)
+    told_more c.args.stack.now table old new c.args.literal c.requires.held.held c.tell-answer.ensures.told (c.tell.ensures.stays table c.requires.held.held.knows) (keeps_known c.args.stack.now table old.bounds c.tell.new.self c.tell.ensures.columns c.requires.held.held.columns)
+    c.in-Ok.ensures.ok.log (ap (λ (t : TheoryState). t.log) c.in-Taken.ensures.answer) c.note.ensures.size (c.note.ensures.joined old.closure.log.items c.requires.held.held.told_at c.requires.open place)
 
 pub returns-in-Conflict-clause-held : goal.returns-in-Conflict-clause-held
 returns-in-Conflict-clause-held c =
@@ -45,19 +45,19 @@ returns-in-Conflict-clause-held c =
     let old = c.args.held.now in
     let place : c.len-place.result ≡ length old.closure.log.items = search rules in
     let new : Held = record { closure = c.tell-answer.new.self; bounds = c.tell.new.self; scan = c.note.new.self; looked = old.looked } in
-    told_more c.args.stack.now table old new c.args.literal c.requires.held c.tell-answer.ensures.told (c.tell.ensures.stays table c.requires.held.knows) (keeps_known c.args.stack.now table old.bounds c.tell.new.self c.tell.ensures.columns c.requires.held.columns)
-    c.in-Ok.ensures.ok.log (ap (λ (t : TheoryState). t.log) c.in-Conflict.ensures.answer.0) c.note.ensures.size (c.note.ensures.joined old.closure.log.items c.requires.held.told_at c.requires.open place)
+    told_more c.args.stack.now table old new c.args.literal c.requires.held.held c.tell-answer.ensures.told (c.tell.ensures.stays table c.requires.held.held.knows) (keeps_known c.args.stack.now table old.bounds c.tell.new.self c.tell.ensures.columns c.requires.held.held.columns)
+    c.in-Ok.ensures.ok.log (ap (λ (t : TheoryState). t.log) c.in-Conflict.ensures.answer.0) c.note.ensures.size (c.note.ensures.joined old.closure.log.items c.requires.held.held.told_at c.requires.open place)
 
 pub untold-requires-clause-fails : goal.untold-requires-clause-fails
 untold-requires-clause-fails c = λ r. subst (λ (b : State). FailsToTell b c.args.literal) (sym c.in-Err.ensures.err) (c.in-Err.ensures.fails r)
 
 pub untold-requires-clause-knows : goal.untold-requires-clause-knows
-untold-requires-clause-knows c = c.tell.ensures.stays c.args.atoms.now.atoms c.requires.held.knows
+untold-requires-clause-knows c = c.tell.ensures.stays c.args.atoms.now.atoms c.requires.held.held.knows
 
 pub returns-in-Err-clause-held : goal.returns-in-Err-clause-held
 returns-in-Err-clause-held c =
     let old = c.args.held.now in
-    subst (λ (b : State). IsHeld c.args.stack.now c.args.atoms.now.atoms (record old { bounds = b })) (sym c.in-Err.ensures.err) c.requires.held
+    subst (λ (b : State). IsHeld c.args.stack.now c.args.atoms.now.atoms (record old { bounds = b })) (sym c.in-Err.ensures.err) c.requires.held.held
 
 pub returns-in-Err-clause-err : goal.returns-in-Err-clause-err
 returns-in-Err-clause-err c = c.untold.ensures

@@ -6,10 +6,10 @@ use Rattle.theory_combine.proofs.implied.look_at.Goals as goal
 
 pub implied-requires-clause-open : goal.implied-requires-clause-open
 implied-requires-clause-open c = λ l same.
-    subst (λ (ls : List Signed). IsOpenIn ls l) (c.deref-2.ensures.value ∙ sym c.requires.held.same) (c.is_open.ensures c.if-not-is_open.false l same)
+    subst (λ (ls : List Signed). IsOpenIn ls l) (c.deref-2.ensures.value ∙ sym c.requires.held.held.same) (c.is_open.ensures c.if-not-is_open.false l same)
 
 pub returns-clause-found : goal.returns-clause-found
 returns-clause-found c =
     if_some c.implied.result
-    (λ d i. implied_met c.flat_says_the_same.ensures c.args.stack.now c.args.atoms.now.atoms c.args.held.now d c.requires.setting c.requires.held i)
+    (λ d i. implied_met c.flat_says_the_same.ensures c.args.stack.now c.args.atoms.now.atoms c.args.held.now d c.requires.held.setting c.requires.held.held i)
     c.implied.ensures.clause

@@ -1,15 +1,34 @@
+use Rattle.search_port.specs.Calls.{InferredBy}
+use Rattle.search_port.specs.declared.theory.Inferred.{Inferred}
 use Rattle.theory_combine.specs.Progress.{state}
-use Rattle.theory_combine.proofs.Spending.{went_then, units_rise, inferred_before}
+use Rattle.theory_combine.specs.Ready.{Infers}
+use Rattle.theory_combine.proofs.Answering.{held_of, left_now, left_then, ready_held, same_held}
+use Rattle.theory_combine.proofs.Spending.{inferred_before}
 use Rattle.theory_combine.proofs.judge.look_at_sums.Goals as goal
 
-pub returns-in-Ok-clause-went : goal.returns-in-Ok-clause-went
-returns-in-Ok-clause-went c =
-    let met = c.meet_within in
-    went_then c.args.parts.now c.args.progress.now met.new.progress c.look_at_met.new.progress c.args.budget.now met.new.budget met.new.budget c.in-Ok.ensures.same met.ensures.went c.look_at_met.ensures.went
+pub returns-in-Some : goal.returns-in-Some
+returns-in-Some c = record {
+  went = c.meet_sums.ensures.went;
+  found = c.inferred.ensures (state c.args.parts.now c.meet_sums.new.progress) c.args.budget.now c.meet_sums.new.budget c.in-Some.ensures.some;
+}
 
-pub returns-in-Ok-clause-found : goal.returns-in-Ok-clause-found
-returns-in-Ok-clause-found c =
+pub follow_rows-found-requires : goal.follow_rows-found-requires
+follow_rows-found-requires c = held_of c.args.parts.now c.meet_sums.new.progress c.in-None.ensures.none.ready
+
+pub stays-requires : goal.stays-requires
+stays-requires c =
+    let rows = c.follow_rows-found in
+    let here = ready_held c.args.parts.now c.meet_sums.new.progress rows.new.held c.in-None.ensures.none.ready rows.ensures.held rows.ensures.variables.sums in here.under_way
+
+pub returns-in-None : goal.returns-in-None
+returns-in-None c =
     let p = c.args.parts.now in
-    let met = c.meet_within in
-    inferred_before (state p c.look_at_met.new.progress) c.args.budget.now met.new.budget met.new.budget c.look_at_met.result
-    (units_rise (state p c.args.progress.now) (state p met.new.progress) c.args.budget.now met.new.budget met.ensures.went.1) c.look_at_met.ensures.found
+    let sums = c.meet_sums in
+    let middle = sums.new.progress in
+    let rows = c.follow_rows-found in
+    let none = c.in-None.ensures.none in
+    let new = record middle { held = rows.new.held } in
+    let b = sums.new.budget in
+    let here : Infers p middle new b b rows.result =
+    left_now Inferred InferredBy p middle new b rows.result (same_held p middle rows.new.held rows.ensures.log rows.ensures.variables) none.ready.under_way.2 c.stays.ensures (rows.ensures.found b b) in
+    left_then Inferred InferredBy p inferred_before c.args.progress.now middle new c.args.budget.now b b rows.result none.same sums.ensures.went here

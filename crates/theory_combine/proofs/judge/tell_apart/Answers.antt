@@ -1,5 +1,13 @@
-use Rattle.theory_combine.specs.Progress.{state}
 use Rattle.theory_combine.proofs.judge.tell_apart.Goals as goal
 
-pub returns-clause-found : goal.returns-clause-found
-returns-clause-found c = c.checked.ensures (state c.args.parts.now c.go_on_apart-step.new.progress) c.args.budget.now c.go_on_apart-step.new.budget c.go_on_apart-step.ensures.step
+pub go_on_with_pair-requires-clause-ready : goal.go_on_with_pair-requires-clause-ready
+go_on_with_pair-requires-clause-ready c = record { parts = c.requires.parts; under_way = c.requires.under_way }
+
+pub returns-in-Some : goal.returns-in-Some
+returns-in-Some c = record { went = c.go_on_with_pair.ensures.went; found = c.go_on_with_pair.ensures.found }
+
+pub stop_unfit-requires : goal.stop_unfit-requires
+stop_unfit-requires c = record { parts = c.requires.parts; under_way = c.requires.under_way }
+
+pub returns-in-None : goal.returns-in-None
+returns-in-None c = record { went = c.stop_unfit.ensures.went; found = c.stop_unfit.ensures.found }

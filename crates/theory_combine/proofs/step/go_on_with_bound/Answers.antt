@@ -26,7 +26,7 @@ number_new-requires-clause-of_stack c =
     let marked : HasMarkedPlaces marks (AtMost sum c.args.bound.threshold) = at_places (λ p. is_marked marks p ≡ true) sum all in
     record {
       terms = tt;
-      declared = marked_is_of c.symbols_are_declared.ensures c.flat_says_the_same.ensures s marks c.requires.parts.0 (AtMost sum c.args.bound.threshold) marked;
+      declared = marked_is_of c.symbols_are_declared.ensures c.flat_says_the_same.ensures s marks c.requires.ready.parts.0 (AtMost sum c.args.bound.threshold) marked;
       marked = marked;
       proper = (c.requires.proper, c.requires.in_range);
     }
@@ -35,7 +35,7 @@ pub number_new-requires-clause-to_show : goal.number_new-requires-clause-to_show
 number_new-requires-clause-to_show c = record {
   of_check = c.requires.of_check;
   leaves =
-      over_marked c.flat_says_the_same.ensures c.args.parts.now.stack.now c.args.parts.now.marks.items c.requires.parts.2.only c.requires.under_way.0.different c.args.bound.sum.items c.requires.leaves;
+      over_marked c.flat_says_the_same.ensures c.args.parts.now.stack.now c.args.parts.now.marks.items c.requires.ready.parts.2.only c.requires.ready.under_way.0.different c.args.bound.sum.items c.requires.leaves;
   ints = tt;
 }
 
@@ -44,12 +44,22 @@ said_of-requires c =
     let size : length c.number_new.new.progress.atoms.atoms ≡ length (c.args.progress.now.atoms.atoms ++ AtMost c.args.bound.sum.items c.args.bound.threshold ∷ []) = ap (λ (table : List Atom). length table) c.in-Ok.ensures.added in
     omega (arith, size, length_push c.args.progress.now.atoms.atoms (AtMost c.args.bound.sum.items c.args.bound.threshold), c.len-number.ensures.count, c.len-few.ensures.count, c.len-few.ensures.few)
 
-pub returns-in-Ok-said_of-clause-step : goal.returns-in-Ok-said_of-clause-step
-returns-in-Ok-said_of-clause-step c =
+pub returns-in-Ok-said_of : goal.returns-in-Ok-said_of
+returns-in-Ok-said_of c =
     let s = c.args.parts.now.stack.now in
     let new = c.number_new.new.progress in
-    let a : Atom = AtMost c.args.bound.sum.items c.args.bound.threshold in (
-      subst (λ (o : Option ℕ). All (IsLemma (state_of s (table_of o new.atoms.atoms) new.held.closure.log.items).reading) c.in-Ok-said_of.lemmas) (sym c.in-Ok.ensures.kept)
-          (c.in-Ok-said_of.ensures (state_of s new.atoms.atoms new.held.closure.log.items).reading (pushed_at c.args.progress.now.atoms.atoms new.atoms.atoms a c.len-number.result c.in-Ok.ensures.added c.len-number.ensures.count)),
-      omega (arith, c.in-Ok.ensures.spent),
-    )
+    let a : Atom = AtMost c.args.bound.sum.items c.args.bound.threshold in
+    record {
+      went = c.number_new.ensures.went;
+      found = (
+        subst (λ (o : Option ℕ). All (IsLemma (state_of s (table_of o new.atoms.atoms) new.held.closure.log.items).reading) c.in-Ok-said_of.lemmas) (sym c.in-Ok.ensures.kept)
+            (c.in-Ok-said_of.ensures (state_of s new.atoms.atoms new.held.closure.log.items).reading (pushed_at c.args.progress.now.atoms.atoms new.atoms.atoms a c.len-number.result c.in-Ok.ensures.added c.len-number.ensures.count)),
+        omega (arith, c.in-Ok.ensures.spent),
+      );
+    }
+
+pub returns-in-Err : goal.returns-in-Err
+returns-in-Err c = record { went = c.number_new.ensures.went; found = c.in-Err.ensures.ended }
+
+pub returns : goal.returns
+returns c = record { went = c.number_new.ensures.went; found = tt }

@@ -1,0 +1,4 @@
+use Rattle.theory_combine.proofs.step.stop_seeing.Goals as goal
+
+pub returns : goal.returns
+returns c = record { went = c.stays.ensures; found = tt }
