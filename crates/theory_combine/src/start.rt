@@ -173,10 +173,7 @@ fn begin_with(
     add_leaves(alloc, stack, marks, &mut bounds)?;
     bounds.facts();
     let held = hold_nothing(alloc, stack, atoms, bounds)?;
-    Ok(Begun {
-        guide,
-        held,
-    })
+    Ok(Begun { guide, held })
 }
 
 /// Nothing is told of the parts of a stack and their atoms. An `Err` is for want of memory, of which a stack of 2^32 - 3 terms or more leaves none, or shows that a
