@@ -1,7 +1,8 @@
 -- What a theory is about, and what it was told.
-use Rattle.std.specs.Prelude.{◌≡◌, ℕ, ◌++◌, Bool, true, List, [], map, slice_index_or, Contains, All, ◌⊎◌, ◌<◌, length, Option, Some}
+use Rattle.std.specs.Prelude.{◌≡◌, ℕ, ◌++◌, Bool, true, List, [], map, slice_index_or, Contains, All, ◌⊎◌, ◌<◌, length, Option, Some, None}
 use Rattle.literals.specs.Signed.{Signed, opposite}
 use Rattle.fraction128.specs.declared.Summand.{Summand}
+use Rattle.fraction128.specs.declared.Grid.{Grid}
 use Rattle.smt_meaning.specs.declared.clauses.Atom.{Atom}
 use Rattle.smt_meaning.specs.declared.clauses.Atom.TheVariants.{Truth, Same, AtMost}
 use Rattle.smt_meaning.specs.declared.clauses.Literal.{Literal}
@@ -25,10 +26,12 @@ pub record Variables : Type 0 where
   pub sums : List (List Summand)
   -- whether each is basic; nothing where the theory has stopped for want of memory
   pub basic : Option (List Bool)
+  -- the grid without its bounds; nothing where the theory has stopped for want of memory
+  pub grid : Option Grid
 
 -- where there is no grid
 abbrev pub no_variables : Variables
-no_variables = record { sums = []; basic = Some [] }
+no_variables = record { sums = []; basic = Some []; grid = Some (record { columns = []; rows = []; pending = None }) }
 
 pub record TheoryState : Type 0 where
   pub reading : Reading

@@ -1,5 +1,5 @@
 -- What a worker shows that ended a check without an answer: the units that it spent, each of which did something new, or where a number left the range.
-use Rattle.std.specs.Prelude.{◌≡◌, ◌≢◌, ◌⊎◌, ℕ, zero, suc, ◌^◌, ◌≤◌, min, Bool, true, false, not, List, [], ◌∷◌, ◌++◌, map, length, ℤ, pos, int_le, unsigned_abs, All, AllPairs, Contains, Some, if◌then◌else◌}
+use Rattle.std.specs.Prelude.{◌≡◌, ◌≢◌, ◌⊎◌, ℕ, zero, suc, ◌^◌, ◌≤◌, min, Bool, true, false, not, List, [], ◌∷◌, ◌++◌, map, length, ℤ, pos, int_le, unsigned_abs, All, AllPairs, Contains, Option, Some, None, if◌then◌else◌}
 use Rattle.std.specs.List.{list_any, range_with_len}
 use Rattle.std.proofs.Common.{refl, subst, inl, inr}
 use Rattle.smt_meaning.specs.declared.options.UnknownReason.{UnknownReason}
@@ -13,7 +13,9 @@ use Rattle.smt_meaning.specs.declared.clauses.Atom.TheVariants.{Truth, Same}
 use Rattle.smt_meaning.specs.declared.clauses.Literal.{Literal}
 use Rattle.smt_meaning.specs.declared.clauses.Clause.{Clause}
 use Rattle.fraction128.specs.declared.Line.{Line}
-use Rattle.fraction128.specs.Lines.{IsPivotIn, first_basis, exchanged}
+use Rattle.fraction128.specs.declared.Grid.{Grid}
+use Rattle.fraction128.specs.Lines.{Bounding, IsPivotIn, first_basis, exchanged}
+use Rattle.fraction128.specs.Chain.{GoesOn, left_by}
 use Rattle.fraction128.specs.declared.Summand.{Summand as GridSummand}
 use Rattle.smt_meaning.specs.declared.reports.RangeSeen.{RangeSeen}
 use Rattle.smt_meaning.specs.declared.reports.Unit.{Unit as Spent}
@@ -96,27 +98,26 @@ pub record IsNumbered (ts : List Tree) (frames : List Frame) (branches : List Li
   pub of_integers : (i j : ℕ) (s : Sort) → a ≡ Same i j → tree_sort (signature_of frames) (tree_at ts i) ≡ Some s → s ≡ Ints
   pub new : Contains earlier (Numbered a) → ⊥
 
--- which variables are basic after the pivots among these units
-abbrev pub basis_after : (ℕ → Bool) → List Spent → ℕ → Bool
-basis_after is [] = is
-basis_after is (Pivot l ∷ us) = basis_after (exchanged l is) us
-basis_after is (Learnt c ∷ us) = basis_after is us
-basis_after is (Numbered a ∷ us) = basis_after is us
+-- without a limit a pivot is no unit
+abbrev pub PivotCosts : ℤ → Type 0
+PivotCosts limit = is_unlimited limit ≡ false
 
--- a pivot by Bland's rule, over atoms of the check, from the basis that those before it left; without a limit it is no unit
-pub record IsPivot (ts : List Tree) (frames : List Frame) (sums : List (List GridSummand)) (branches : List Line) (limit : ℤ) (earlier : List Spent) (l : Line) : Type 0 where
-  pub costs : is_unlimited limit ≡ false
-  pub pivots : IsPivotIn sums (IsBoundOf (IsCheckAtom ts frames branches)) (basis_after (first_basis sums) earlier) l
+-- the pivots are by Bland's rule, each from the basis that those before it left; and where no other unit is between, from the grid that the one before it left, which is `here`, by what is taken in and moved
+abbrev pub AreChained : List (List GridSummand) → Bounding → (ℕ → Bool) → Option Grid → List Spent → Type 0
+AreChained sums B is here [] = Unit {0}
+AreChained sums B is here (Learnt c ∷ us) = AreChained sums B is None us
+AreChained sums B is here (Numbered a ∷ us) = AreChained sums B is None us
+AreChained sums B is here (Pivot l ∷ us) = (p : IsPivotIn sums B is l) × GoesOn here (Some p.grid) × AreChained sums B (exchanged l is) (Some (left_by p)) us
 
-abbrev pub IsUnit : List Tree → List Frame → List (List GridSummand) → List Line → ℤ → ℕ → List Spent → Spent → Type 0
-IsUnit ts frames sums branches limit worker earlier (Learnt c) = IsLearnt ts frames branches limit worker earlier c
-IsUnit ts frames sums branches limit worker earlier (Numbered a) = IsNumbered ts frames branches earlier a
-IsUnit ts frames sums branches limit worker earlier (Pivot l) = IsPivot ts frames sums branches limit earlier l
+abbrev pub IsUnit : List Tree → List Frame → List Line → ℤ → ℕ → List Spent → Spent → Type 0
+IsUnit ts frames branches limit worker earlier (Learnt c) = IsLearnt ts frames branches limit worker earlier c
+IsUnit ts frames branches limit worker earlier (Numbered a) = IsNumbered ts frames branches earlier a
+IsUnit ts frames branches limit worker earlier (Pivot l) = PivotCosts limit
 
 -- each unit is one after those before it
-abbrev pub AreUnits : List Tree → List Frame → List (List GridSummand) → List Line → ℤ → ℕ → List Spent → Type 0
-AreUnits ts frames sums branches limit worker us =
-    (before after : List Spent) (u : Spent) → us ≡ before ++ u ∷ after → IsUnit ts frames sums branches limit worker before u
+abbrev pub AreUnits : List Tree → List Frame → List Line → ℤ → ℕ → List Spent → Type 0
+AreUnits ts frames branches limit worker us =
+    (before after : List Spent) (u : Spent) → us ≡ before ++ u ∷ after → IsUnit ts frames branches limit worker before u
 
 -- a list that ends in one more, cut before one of its items: at the last one, or before it
 last_or_before : {X : Type 0} (us before after : List X) (u v : X) → us ++ u ∷ [] ≡ before ++ v ∷ after
@@ -129,15 +130,15 @@ last_or_before (x ∷ us) (b ∷ before) after u v e =
     let first : x ≡ b = cc in let rest : us ++ u ∷ [] ≡ before ++ v ∷ after = cc in
     elim (last_or_before us before after u v rest) [ inl (same, last) ↦ inl (cc, last) | inr (more, same) ↦ inr (more, cc) ]
 
-pub no_units : (ts : List Tree) (frames : List Frame) (sums : List (List GridSummand)) (branches : List Line) (limit : ℤ) (worker : ℕ) → AreUnits ts frames sums branches limit worker []
-no_units ts frames sums branches limit worker [] after u e = cc
-no_units ts frames sums branches limit worker (b ∷ before) after u e = cc
+pub no_units : (ts : List Tree) (frames : List Frame) (branches : List Line) (limit : ℤ) (worker : ℕ) → AreUnits ts frames branches limit worker []
+no_units ts frames branches limit worker [] after u e = cc
+no_units ts frames branches limit worker (b ∷ before) after u e = cc
 
-pub one_more_unit : (ts : List Tree) (frames : List Frame) (sums : List (List GridSummand)) (branches : List Line) (limit : ℤ) (worker : ℕ) (us : List Spent) (u : Spent)
-    → AreUnits ts frames sums branches limit worker us → IsUnit ts frames sums branches limit worker us u → AreUnits ts frames sums branches limit worker (us ++ u ∷ [])
-one_more_unit ts frames sums branches limit worker us u each one before after v e =
+pub one_more_unit : (ts : List Tree) (frames : List Frame) (branches : List Line) (limit : ℤ) (worker : ℕ) (us : List Spent) (u : Spent)
+    → AreUnits ts frames branches limit worker us → IsUnit ts frames branches limit worker us u → AreUnits ts frames branches limit worker (us ++ u ∷ [])
+one_more_unit ts frames branches limit worker us u each one before after v e =
     elim (last_or_before us before after u v e) [
-      | inl (same, last) ↦ subst (λ x. IsUnit ts frames sums branches limit worker before x) last (subst (λ xs. IsUnit ts frames sums branches limit worker xs u) same one)
+      | inl (same, last) ↦ subst (λ x. IsUnit ts frames branches limit worker before x) last (subst (λ xs. IsUnit ts frames branches limit worker xs u) same one)
       | inr (rest, same) ↦ each before rest v same
     ]
 
@@ -149,7 +150,8 @@ pub record AreAllSpent (ts : List Tree) (frames : List Frame) (limit : ℤ) (wor
   pub sums : List (List GridSummand)
   pub known : AreCheckSums ts frames sums
   pub are_branches : AreBranches ts frames sums branches
-  pub units : AreUnits ts frames sums branches limit worker us
+  pub units : AreUnits ts frames branches limit worker us
+  pub chained : AreChained sums (IsBoundOf (IsCheckAtom ts frames branches)) (first_basis sums) None us
 
 -- so are these branches and what leaves the range
 pub record IsPastRange (ts : List Tree) (frames : List Frame) (branches : List Line) (seen : RangeSeen) : Type 0 where
