@@ -1,8 +1,7 @@
 -- What adding clauses keeps, and what a turn that adds them leaves.
 use Rattle.std.specs.Prelude.{nat_le, MatchBool, Result, Ok, Err, OnOk, OnErr, ⊤}
-use Rattle.std.proofs.Common.{◌≡◌, ℕ, ◌+◌, ◌<◌, ◌≤◌, Bool, true, false, List, [], ◌∷◌, ◌++◌, All, Contains, length, ap, sym, subst, ◌∙◌, refl, inl, inr, ◌⊎◌, arith}
+use Rattle.std.proofs.Common.{◌≡◌, ℕ, ◌+◌, ◌<◌, ◌≤◌, Bool, true, false, List, [], ◌∷◌, ◌++◌, length, ap, sym, subst, ◌∙◌, refl, inl, inr, arith}
 use Rattle.std.proofs.lemmas.List.{length-append}
-use Rattle.std.proofs.lemmas.List.Elements.{All-contains}
 use Rattle.literals.specs.Signed.{Signed, opposite}
 use Rattle.smt_meaning.specs.Forced.{Forces}
 use Rattle.clause_store.specs.Stored.{Kept, Stored}
@@ -24,9 +23,9 @@ use Rattle.cdcl_core.specs.declared.hook.Between.TheVariants.{Stop}
 use Rattle.cdcl_core.specs.declared.solve.Outcome.{Outcome}
 use Rattle.cdcl_core.specs.declared.solve.Outcome.TheVariants.{Full as OutcomeFull, False as OutcomeFalse, Ended as OutcomeEnded}
 use Rattle.cdcl_core.specs.Search.{AreAmong, GainsClause, HasClause, HasSame, HasSameLiterals, IsAddable, IsNewTo, Stands, literal_lists}
-use Rattle.cdcl_core.specs.Turns.{Adds, ChainsPivots, EndsEarly, EndsPut, EndsSearch, GivenBy, GainsBy, GainsOne, HaltedBy, HaltsBy, HasLeapt, IsAccounted, IsDistinct, IsPartly, PaidBy, PaidLeaves, PausedBy, PivotsAdded, PivotsAtEnd, PivotsBy, PivotsHeard, PutsDown, PutsOne, TurnBy, TurnLeaves, Turns, most_units}
+use Rattle.cdcl_core.specs.Turns.{Adds, ChainsPivots, EndsEarly, EndsPut, EndsSearch, GivenBy, GainsBy, GainsOne, HaltedBy, HaltsBy, HasLeapt, IsAccounted, IsDistinct, IsPartly, PaidLeaves, PausedBy, PivotsAdded, PivotsAtEnd, PivotsBy, PivotsHeard, PutsDown, PutsOne, TurnBy, TurnLeaves, Turns, most_units}
 use Rattle.cdcl_core.specs.Work.{units_left}
-use Rattle.cdcl_core.proofs.Gains.{among-both, gains-among}
+use Rattle.cdcl_core.proofs.Gains.{among-both}
 use Rattle.cdcl_core.proofs.Moves.{Called, by-after, inserted, known-atoms, leaps, paid-by, partly, put-turn, turns-both}
 use Rattle.cdcl_core.proofs.Pivots.{chains-both, chains-same, ends-learnt, pivots-after, units-learnt}
 

@@ -1,7 +1,7 @@
 -- Clauses without repeats.
-use Rattle.std.proofs.Common.{◌≡◌, ◌≢◌, ℕ, ◌+◌, ◌<◌, Bool, true, false, not, ◌||◌, List, [], ◌∷◌, ◌++◌, take, drop, length, get_or, All, Contains, refl, inl, inr, ◌⊎◌, sym, subst, ap, ◌∙◌, arith}
+use Rattle.std.proofs.Common.{◌≡◌, ◌≢◌, ℕ, ◌+◌, ◌<◌, Bool, true, false, not, ◌||◌, List, [], ◌∷◌, ◌++◌, take, drop, length, get_or, Contains, refl, inl, inr, ◌⊎◌, sym, subst, ap, ◌∙◌, arith}
 use Rattle.std.proofs.lemmas.List.{take_more, take-append-drop}
-use Rattle.std.proofs.lemmas.List.Elements.{All-contains, All-head, All-nil, All-push, All-tail, Contains-append_left, Contains-get_or, Contains-push, Contains-push_cases}
+use Rattle.std.proofs.lemmas.List.Elements.{All-contains, All-nil, All-push, Contains-append_left, Contains-get_or, Contains-push, Contains-push_cases}
 use Rattle.literals.specs.Signed.{Signed, opposite, some_true, literal_true}
 use Rattle.smt_meaning.specs.Stack.{up_to as levels_to}
 use Rattle.search_port.specs.State.{Reading, atom_at, truth}
@@ -12,7 +12,6 @@ use Rattle.conflict_learn.specs.Learning.{HaveOwnAtoms}
 use Rattle.clause_store.proofs.Filters.{in_head, in_tail, in_cases}
 use Rattle.cdcl_core.specs.Search.{HasSameLiterals}
 use Rattle.cdcl_core.specs.Turns.{GainsNew, IsDistinct}
-use Rattle.cdcl_core.proofs.New.{all_of}
 
 signs : (l m : Signed) → m.atom ≡ l.atom → (m ≡ l) ⊎ (m ≡ opposite l)
 signs l m e = by_sign m.positive l.positive refl refl

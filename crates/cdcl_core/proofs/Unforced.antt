@@ -1,5 +1,5 @@
 -- A clause whose literals are false but one, which isn't true, where the kept clauses are quiet.
-use Rattle.std.proofs.Common.{◌≡◌, ◌≢◌, ℕ, ◌+◌, ◌<◌, List, [], ◌∷◌, ◌++◌, map, All, Contains, subst, sym, ap, ◌∙◌, refl, inl, inr, ◌⊎◌, arith}
+use Rattle.std.proofs.Common.{◌≡◌, ◌≢◌, ℕ, ◌<◌, List, [], ◌∷◌, ◌++◌, map, All, Contains, subst, sym, ap, refl, inl, inr, ◌⊎◌, arith}
 use Rattle.std.proofs.lemmas.List.Elements.{All-contains, All-map, Contains-append_left, Contains-append_right, Contains-append_cases}
 use Rattle.literals.specs.Signed.{Signed, opposite}
 use Rattle.clause_store.specs.declared.trail.Step.{Step}
@@ -8,7 +8,7 @@ use Rattle.clause_store.specs.Stored.{Kept, Stored, IsFalseOn, IsQuiet}
 use Rattle.clause_store.proofs.Filters.{in_head, in_tail, in_cases}
 use Rattle.smt_meaning.specs.Forced.{Forces}
 use Rattle.conflict_learn.specs.Learning.{HaveOwnAtoms}
-use Rattle.conflict_learn.proofs.NotForced.{IsConsistent, IsDecidable, all_of, reached_on}
+use Rattle.conflict_learn.proofs.NotForced.{IsConsistent, all_of, reached_on}
 use Rattle.conflict_learn.proofs.Concluding.{decidable}
 use Rattle.cdcl_core.specs.Search.{IsNarrow, IsNewTo, IsSearched, literal_lists}
 use Rattle.cdcl_core.proofs.New.{AllQuiet, new-false, new-unit}

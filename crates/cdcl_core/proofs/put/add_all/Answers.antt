@@ -1,5 +1,5 @@
 use Rattle.std.specs.Prelude.{Err}
-use Rattle.std.proofs.Common.{◌≡◌, ◌∙◌, refl, arith}
+use Rattle.std.proofs.Common.{◌∙◌, refl, arith}
 use Rattle.search_port.specs.State.{TheoryState}
 use Rattle.cdcl_core.proofs.Adding.{added-after, adds-both, adds-none}
 use Rattle.cdcl_core.proofs.Gains.{kept-push}

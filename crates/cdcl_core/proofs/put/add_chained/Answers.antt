@@ -1,9 +1,5 @@
-use Rattle.std.proofs.Common.{◌≡◌, ◌∙◌, sym, subst, length}
-use Rattle.literals.specs.Signed.{Signed}
-use Rattle.clause_store.specs.Stored.{Stored}
+use Rattle.std.proofs.Common.{length}
 use Rattle.search_port.specs.State.{TheoryState}
-use Rattle.search_port.specs.Valid.{FollowsAt}
-use Rattle.search_port.specs.declared.budget.Lemma.{Lemma}
 use Rattle.cdcl_core.specs.Search.{HasClause, HasSame}
 use Rattle.cdcl_core.specs.Turns.{IsDistinct}
 use Rattle.cdcl_core.proofs.Adding.{adds-both, adds-known, has-distinct, ok-map, over-same}

@@ -4,9 +4,7 @@ use Rattle.literals.specs.Signed.{Signed, opposite}
 use Rattle.smt_meaning.specs.Forced.{Forces}
 use Rattle.clause_store.specs.Stored.{Stored}
 use Rattle.clause_store.specs.Trail.{up_to}
-use Rattle.search_port.specs.State.{TheoryState}
 use Rattle.search_port.specs.Valid.{FollowsAt, IsOver}
-use Rattle.search_port.specs.Spending.{Spending}
 use Rattle.cdcl_core.specs.Search.{IsNarrow, IsQuietBelow, literal_lists}
 use Rattle.cdcl_core.proofs.Adding.{adds-ended, adds-inserted, adds-none, adds-put, put-halts, put-pivots}
 use Rattle.cdcl_core.proofs.Gains.{among-same, gains-among, gains-has}

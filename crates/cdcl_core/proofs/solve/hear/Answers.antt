@@ -1,5 +1,4 @@
-use Rattle.std.proofs.Common.{◌≡◌, ◌+◌, ◌<◌, ◌≤◌, List, [], ◌∷◌, length, inl, inr, arith}
-use Rattle.search_port.specs.State.{Reading, TheoryState}
+use Rattle.std.proofs.Common.{◌≡◌, ◌<◌, ◌≤◌, List, [], ◌∷◌, length, inl, inr, arith}
 use Rattle.search_port.specs.Spending.{Spending}
 use Rattle.cdcl_core.specs.Search.{AreAmong}
 use Rattle.cdcl_core.specs.Turns.{Adds, HearsAll, HearsSome, IsPartly, PutsDown}

@@ -1,5 +1,5 @@
 use Rattle.std.proofs.Common.{refl}
-use Rattle.cdcl_core.proofs.Adding.{adds-none, paid-halted, paid-leaves, partly-same}
+use Rattle.cdcl_core.proofs.Adding.{paid-halted, paid-leaves, partly-same}
 use Rattle.cdcl_core.proofs.Moves.{known-atoms}
 use Rattle.cdcl_core.proofs.turn.insert_paid_one.Goals as goal
 
