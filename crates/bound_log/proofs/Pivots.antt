@@ -22,8 +22,8 @@ use Rattle.simplex_steps.specs.Run.{KeepsLines, kept_lines}
 use Rattle.simplex_steps.proofs.Sound.{lawful}
 use Rattle.simplex_steps.proofs.LineLemmas.{no_lines}
 use Rattle.sum_bounds.specs.Bounds as Bounds
-use Rattle.sum_bounds.specs.Bounds.{Told}
-use Rattle.sum_bounds.specs.Origins.{bound_on, IsOfTold}
+use Rattle.sum_bounds.specs.Bounds.{Told, bound_on}
+use Rattle.sum_bounds.specs.Origins.{IsOfTold}
 use Rattle.bound_log.specs.Told.{State, IsState, column_sums}
 use Rattle.bound_log.specs.Pending.{plain_grid}
 use Rattle.bound_log.specs.Atoms.{Knows}

@@ -7,8 +7,8 @@ use Rattle.fraction128.specs.declared.Side.TheVariants.{Lower, Upper}
 use Rattle.simplex_steps.specs.State.{column_in}
 use Rattle.simplex_steps.specs.Conflict.{Stands}
 use Rattle.simplex.specs.State as Simplex
-use Rattle.sum_bounds.specs.Bounds.{told_of}
-use Rattle.sum_bounds.specs.Origins.{bound_on, IsToldOn, IsOfTold}
+use Rattle.sum_bounds.specs.Bounds.{told_of, bound_on, IsToldOn}
+use Rattle.sum_bounds.specs.Origins.{IsOfTold}
 use Rattle.sum_bounds.proofs.Conflicts.{told_in, state_of, stood}
 
 stands : (cs : List Column) (i : ℕ) (side : Side) (k : ℤ) → i < length cs → bound_on (column_in cs i) side ≡ Some k → Stands cs (record { variable = i; side = side; number = k })
