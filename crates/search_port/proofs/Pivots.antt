@@ -9,12 +9,16 @@ use Rattle.fraction128.specs.declared.Line.{Line}
 use Rattle.fraction128.specs.declared.Grid.{Grid}
 use Rattle.fraction128.specs.declared.Side.{Side}
 use Rattle.fraction128.specs.declared.Side.TheVariants.{Lower, Upper}
-use Rattle.fraction128.specs.Grid.{column_at}
+use Rattle.fraction128.specs.Grid.{column_at, next_step, move, after}
 use Rattle.fraction128.specs.Lines.{Bounding, IsBoundedBy, IsResting, IsSoundGrid, IsRowIn, IsPivotIn, first_basis, exchanged, basis_along, is_leaf_sum}
 use Rattle.smt_meaning.specs.declared.clauses.Atom.{Atom}
 use Rattle.smt_meaning.specs.declared.clauses.Atom.TheVariants.{AtMost}
 use Rattle.smt_meaning.specs.CheckAtoms.{IsBoundOf}
-use Rattle.search_port.specs.Pivots.{ArePivotsFrom}
+use Rattle.fraction128.specs.Chain.{TakesIn, ComesFrom, begins, taken, moved, GoesOn, left_by, PivotsLead}
+use Rattle.search_port.specs.declared.budget.Lemma.{Lemma}
+use Rattle.search_port.specs.declared.budget.Spent.{Spent}
+use Rattle.search_port.specs.declared.budget.Spent.TheVariants.{Learnt, Numbered, Pivot}
+use Rattle.search_port.specs.Pivots.{pivot_lines, pivots_of, EndsOtherwise, AreChained}
 
 -- ---- bases after a line
 
@@ -35,9 +39,73 @@ pub along_append : (ls ms : List Line) (is : ℕ → Bool) → basis_along is (l
 along_append [] ms is = refl
 along_append (l ∷ ls) ms is = along_append ls ms (exchanged l is)
 
-pub pivots_append : (sums : List (List GridSummand)) (B : Bounding) (is : ℕ → Bool) (ls ms : List Line) → ArePivotsFrom sums B is ls → ArePivotsFrom sums B (basis_along is ls) ms → ArePivotsFrom sums B is (ls ++ ms)
-pivots_append sums B is [] ms g h = h
-pivots_append sums B is (l ∷ ls) ms g h = (g.0, pivots_append sums B (exchanged l is) ls ms g.1 h)
+-- ---- from grid to grid
+
+pub comes_both : (f g h : Grid) → ComesFrom f g → ComesFrom g h → ComesFrom f h
+comes_both f g h p begins = p
+comes_both f g h p (taken m k q t) = taken m k (comes_both f g m p q) t
+comes_both f g h p (moved m i k q n) = moved m i k (comes_both f g m p q) n
+
+pub goes_both : (a b : Option Grid) (g : Grid) → GoesOn a (Some g) → GoesOn (Some g) b → GoesOn a b
+goes_both None b g p q = tt
+goes_both (Some f) None g p q = tt
+goes_both (Some f) (Some h) g p q = comes_both f g h p q
+
+pub goes_nowhere : (a : Option Grid) → GoesOn a None
+goes_nowhere None = tt
+goes_nowhere (Some f) = tt
+
+-- ---- one list after another
+
+pub lead_after : (sums : List (List GridSummand)) (B : Bounding) (is : ℕ → Bool) (here there : Option Grid) (g : Grid) (ls : List Line) → GoesOn here (Some g) → PivotsLead sums B is (Some g) ls there
+    → PivotsLead sums B is here ls there
+lead_after sums B is here there g [] p q = goes_both here there g p q
+lead_after sums B is here there g (l ∷ ls) p q = (q.0, goes_both here (Some q.0.grid) g p q.1, q.2)
+
+pub leads_both : (sums : List (List GridSummand)) (B : Bounding) (is : ℕ → Bool) (here there : Option Grid) (g : Grid) (ls ms : List Line) → PivotsLead sums B is here ls (Some g)
+    → PivotsLead sums B (basis_along is ls) (Some g) ms there → PivotsLead sums B is here (ls ++ ms) there
+leads_both sums B is here there g [] ms p q = lead_after sums B is here there g ms p q
+leads_both sums B is here there g (l ∷ ls) ms p q = (p.0, p.1, leads_both sums B (exchanged l is) (Some (left_by p.0)) there g ls ms p.2 q)
+
+lead_chained : (sums : List (List GridSummand)) (B : Bounding) (is : ℕ → Bool) (here there : Option Grid) (ls : List Line) → PivotsLead sums B is here ls there → AreChained sums B is here (pivots_of ls) there
+lead_chained sums B is here there [] p = p
+lead_chained sums B is here there (l ∷ ls) p = (p.0, p.1, lead_chained sums B (exchanged l is) (Some (left_by p.0)) there ls p.2)
+
+-- pivots that go on from where the units led
+pub chained_pivots : (sums : List (List GridSummand)) (B : Bounding) (is : ℕ → Bool) (here there : Option Grid) (g : Grid) (us : List Spent) (ls : List Line) → AreChained sums B is here us (Some g)
+    → PivotsLead sums B (basis_along is (pivot_lines us)) (Some g) ls there → AreChained sums B is here (us ++ pivots_of ls) there
+chained_pivots sums B is here there g [] ls p q = lead_chained sums B is here there ls (lead_after sums B is here there g ls p q)
+chained_pivots sums B is here there g (Learnt c ∷ us) ls p q = chained_pivots sums B is None there g us ls p q
+chained_pivots sums B is here there g (Numbered n ∷ us) ls p q = chained_pivots sums B is None there g us ls p q
+chained_pivots sums B is here there g (Pivot l ∷ us) ls p q = (p.0, p.1, chained_pivots sums B (exchanged l is) (Some (left_by p.0)) there g us ls p.2 q)
+
+-- what is taken in and moved after the last unit
+pub chained_on : (sums : List (List GridSummand)) (B : Bounding) (is : ℕ → Bool) (here : Option Grid) (g h : Grid) (us : List Spent) → AreChained sums B is here us (Some g) → ComesFrom g h → AreChained sums B is here us (Some h)
+chained_on sums B is here g h [] p q = goes_both here (Some h) g p q
+chained_on sums B is here g h (Learnt c ∷ us) p q = chained_on sums B is None g h us p q
+chained_on sums B is here g h (Numbered n ∷ us) p q = chained_on sums B is None g h us p q
+chained_on sums B is here g h (Pivot l ∷ us) p q = (p.0, p.1, chained_on sums B (exchanged l is) (Some (left_by p.0)) g h us p.2 q)
+
+-- where they led may be forgotten
+pub chained_from : (sums : List (List GridSummand)) (B : Bounding) (is : ℕ → Bool) (here there : Option Grid) (us : List Spent) → AreChained sums B is here us there → AreChained sums B is here us None
+chained_from sums B is here there [] p = goes_nowhere here
+chained_from sums B is here there (Learnt c ∷ us) p = chained_from sums B is None there us p
+chained_from sums B is here there (Numbered n ∷ us) p = chained_from sums B is None there us p
+chained_from sums B is here there (Pivot l ∷ us) p = (p.0, p.1, chained_from sums B (exchanged l is) (Some (left_by p.0)) there us p.2)
+
+-- after another unit the grid is free
+chained_later : (sums : List (List GridSummand)) (B : Bounding) (is : ℕ → Bool) (here there other : Option Grid) (u : Spent) (us : List Spent) → EndsOtherwise (u ∷ us) → AreChained sums B is here (u ∷ us) there
+    → AreChained sums B is here (u ∷ us) other
+chained_later sums B is here there other (Learnt c) [] e p = tt
+chained_later sums B is here there other (Numbered n) [] e p = tt
+chained_later sums B is here there other (Pivot l) [] e p = absurd e
+chained_later sums B is here there other (Learnt c) (v ∷ us) e p = chained_later sums B is None there other v us e p
+chained_later sums B is here there other (Numbered n) (v ∷ us) e p = chained_later sums B is None there other v us e p
+chained_later sums B is here there other (Pivot l) (v ∷ us) e p = (p.0, p.1, chained_later sums B (exchanged l is) (Some (left_by p.0)) there other v us e p.2)
+
+pub chained_anew : (sums : List (List GridSummand)) (B : Bounding) (is : ℕ → Bool) (there other : Option Grid) (us : List Spent) → EndsOtherwise us → AreChained sums B is None us there → AreChained sums B is None us other
+chained_anew sums B is there other [] e p = tt
+chained_anew sums B is there other (u ∷ us) e p = chained_later sums B is None there other u us e p
 
 -- before any pivot the first variables are basic as without those that come later
 pub first_longer : (sums later : List (List GridSummand)) (i : ℕ) → i < length sums → first_basis sums i ≡ first_basis (sums ++ later) i
@@ -72,7 +140,7 @@ module _ (B C : Bounding) (more : (sum : List GridSummand) (side : Side) (k : �
   abbrev Agree : (ℕ → Bool) → (ℕ → Bool) → Type 0
   Agree is js = (i : ℕ) → i < length sums → is i ≡ js i
 
-  pivot_by : (is js : ℕ → Bool) → Agree is js → (l : Line) → IsPivotIn sums B is l → IsPivotIn (sums ++ later) C js l
+  abbrev pub pivot_by : (is js : ℕ → Bool) → Agree is js → (l : Line) → IsPivotIn sums B is l → IsPivotIn (sums ++ later) C js l
   pivot_by is js agree l h = record {
     grid = h.grid;
     sound = grid_by h.grid h.sound;
@@ -84,9 +152,17 @@ module _ (B C : Bounding) (more : (sum : List GridSummand) (side : Side) (k : �
     line = h.line;
   }
 
-  pub pivots_by : (ls : List Line) (is js : ℕ → Bool) → Agree is js → ArePivotsFrom sums B is ls → ArePivotsFrom (sums ++ later) C js ls
-  pivots_by [] is js agree h = tt
-  pivots_by (l ∷ ls) is js agree h = (pivot_by is js agree l h.0, pivots_by ls (exchanged l is) (exchanged l js) (λ i lt. exchanged_at l is js i (agree i lt)) h.1)
+  pub lead_by : (here there : Option Grid) (ls : List Line) (is js : ℕ → Bool) → Agree is js → PivotsLead sums B is here ls there → PivotsLead (sums ++ later) C js here ls there
+  lead_by here there [] is js agree h = h
+  lead_by here there (l ∷ ls) is js agree h =
+      (pivot_by is js agree l h.0, h.1, lead_by (Some (left_by h.0)) there ls (exchanged l is) (exchanged l js) (λ i lt. exchanged_at l is js i (agree i lt)) h.2)
+
+  pub chained_by : (here there : Option Grid) (us : List Spent) (is js : ℕ → Bool) → Agree is js → AreChained sums B is here us there → AreChained (sums ++ later) C js here us there
+  chained_by here there [] is js agree h = h
+  chained_by here there (Learnt c ∷ us) is js agree h = chained_by None there us is js agree h
+  chained_by here there (Numbered n ∷ us) is js agree h = chained_by None there us is js agree h
+  chained_by here there (Pivot l ∷ us) is js agree h =
+      (pivot_by is js agree l h.0, h.1, chained_by (Some (left_by h.0)) there us (exchanged l is) (exchanged l js) (λ i lt. exchanged_at l is js i (agree i lt)) h.2)
 
 -- ---- over more atoms
 

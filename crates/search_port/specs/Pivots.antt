@@ -1,5 +1,5 @@
 -- The pivots among the units of a check, each from the basis that those before it left, and from the grid that the one right before it left.
-use Rattle.std.specs.Prelude.{◌≡◌, ℕ, ◌<◌, Bool, true, false, List, [], ◌∷◌, length, slice_index_or, Contains, Option, Some, None, IfSome, if◌then◌else◌}
+use Rattle.std.specs.Prelude.{◌≡◌, ℕ, ◌<◌, Bool, true, false, List, [], ◌∷◌, length, slice_index_or, Contains, ℤ, Option, Some, None, IfSome, if◌then◌else◌}
 use Rattle.fraction128.specs.declared.Summand.{Summand}
 use Rattle.fraction128.specs.declared.Side.{Side}
 use Rattle.fraction128.specs.declared.Side.TheVariants.{Lower, Upper}
@@ -25,6 +25,19 @@ pivot_lines [] = []
 pivot_lines (Learnt c ∷ us) = pivot_lines us
 pivot_lines (Numbered n ∷ us) = pivot_lines us
 pivot_lines (Pivot l ∷ us) = l ∷ pivot_lines us
+
+-- pivots of these lines, in order, as units
+abbrev pub pivots_of : List Line → List Spent
+pivots_of [] = []
+pivots_of (l ∷ ls) = Pivot l ∷ pivots_of ls
+
+-- the last unit, if there is one, isn't a pivot
+abbrev pub EndsOtherwise : List Spent → Type 0
+EndsOtherwise [] = Unit {0}
+EndsOtherwise (Learnt c ∷ []) = Unit {0}
+EndsOtherwise (Numbered n ∷ []) = Unit {0}
+EndsOtherwise (Pivot l ∷ []) = ⊥
+EndsOtherwise (u ∷ v ∷ us) = EndsOtherwise (v ∷ us)
 
 -- each pivot is by Bland's rule, from the basis that those before it left, and where no other unit is between from the grid that the one before it left, which is `here`; the last one, if it is the last unit, led on to `there`
 abbrev pub AreChained : List (List Summand) → Bounding → (ℕ → Bool) → Option Grid → List Spent → Option Grid → Type 0
