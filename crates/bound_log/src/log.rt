@@ -241,7 +241,7 @@ impl BoundLog {
         }
     }
 
-    /// Moves values until the terms' values meet all bounds told, or finds a clause that the log breaks, or a step that doesn't fit or is a pivot past the room. Where lines are kept, that of each pivot is added: it is by Bland's rule, in a grid over known atoms, and from the basis that those before it leave.
+    /// Moves values until the terms' values meet all bounds told, or finds a clause that the log breaks, or a step that doesn't fit or is a pivot past the room. Where lines are kept, that of each pivot is added: it is by Bland's rule, in a grid over known atoms, and from the basis that those before it leave; they lead from the grid before to the grid after.
     pub fn check(&mut self, alloc: Global, kept: &mut PivotLines, room: u64) -> Reported
         ensures run { IsRun self.old.bounds.table self.old.bounds.columns self.new.bounds.table self.new.bounds.columns result.pivots }
         ensures log { self.new.log ≡ self.old.log }
