@@ -269,6 +269,17 @@ impl BoundLog {
         }
     }
 
+    /// What a check finds that takes no step, so that nothing changes. `None` where the next step is to move the value of a variable that isn't basic.
+    pub fn look(&mut self, alloc: Global) -> Option<Report>
+        ensures same { self.new ≡ self.old }
+        ensures judges { IfSome result (Judges self.old) }
+    {
+        conflicts_are_valid();
+        self.bounds.facts();
+        let finding = self.bounds.look(alloc)?;
+        Some(report_of(finding))
+    }
+
     /// The literal on an atom that a row leaves no room for, if one is seen. It promises nothing of the row.
     pub(crate) fn shut_out(&self, atom: u32) -> Option<Literal>
         requires numbered { atom < length self.now.said }

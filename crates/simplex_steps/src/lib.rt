@@ -51,7 +51,7 @@ mod turn;
 
 pub use line::{PivotLines, copy_column, line_of_pivot};
 pub use moves::{Moved, moved_by};
-pub use run::{Checked, Outcome, check};
+pub use run::{Checked, Outcome, check, look};
 pub use suspects::Suspects;
 
 /// A run of next steps of n variables has fewer than 3^n pivots.
