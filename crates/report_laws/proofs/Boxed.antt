@@ -246,14 +246,14 @@ stay_in_boxes ts frames sums branches boxed are a h = each_first ts frames sums 
 
 -- ---- units
 
-new_atom : (ts : List Tree) (frames : List Frame) (sums : List (List Summand)) (branches : List Line) (limit : ℤ) (before : List Spent) (u : Spent) → is_unlimited limit ≡ true
-    → IsUnit ts frames sums branches limit 0 before u → IsNewAtom ts frames branches before u
-new_atom ts frames sums branches limit before (Learnt c) none h = true_or_false (sym none ∙ h.costs refl)
-new_atom ts frames sums branches limit before (Pivot l) none h = true_or_false (sym none ∙ h.costs)
-new_atom ts frames sums branches limit before (Numbered a) none h = record { atom = a; is = refl; of_check = h.of_check; not_of_stack = h.not_of_stack; new = h.new }
+new_atom : (ts : List Tree) (frames : List Frame) (branches : List Line) (limit : ℤ) (before : List Spent) (u : Spent) → is_unlimited limit ≡ true
+    → IsUnit ts frames branches limit 0 before u → IsNewAtom ts frames branches before u
+new_atom ts frames branches limit before (Learnt c) none h = true_or_false (sym none ∙ h.costs refl)
+new_atom ts frames branches limit before (Pivot l) none h = true_or_false (sym none ∙ h)
+new_atom ts frames branches limit before (Numbered a) none h = record { atom = a; is = refl; of_check = h.of_check; not_of_stack = h.not_of_stack; new = h.new }
 
 pub units_are_new : UnitsAreNewAtoms
-units_are_new ts frames limit branches us none spent before after u e = new_atom ts frames spent.sums branches limit before u none (spent.units before after u e)
+units_are_new ts frames limit branches us none spent before after u e = new_atom ts frames branches limit before u none (spent.units before after u e)
 
 most_is : (limit : ℤ) (b : Bool) → b ≡ true → (if b then 2 ^ 40 else min (unsigned_abs limit) (2 ^ 40)) ≡ 2 ^ 40
 most_is limit true e = refl

@@ -7,7 +7,8 @@ mod Five
 mod Past
 mod TwoLeaves
 mod Sum
-mod Chain
+mod Chained
+mod ToAndFro
 mod Cores
 mod Minimum
 mod Boxed

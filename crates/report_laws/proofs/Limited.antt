@@ -4,7 +4,6 @@ use Rattle.std.specs.Prelude.{AllPairs}
 use Rattle.std.proofs.Math.Nat.{pow-suc}
 use Rattle.std.proofs.lemmas.List.{length-map, length-append, append_assoc}
 use Rattle.std.proofs.lemmas.List.Elements.{All-nil, All-cons, Contains-append_left, Contains-append_right, Contains-append_cases}
-use Rattle.fraction128.specs.declared.Summand.{Summand as GridSummand}
 use Rattle.fraction128.specs.declared.Line.{Line}
 use Rattle.smt_meaning.specs.declared.clauses.Atom.{Atom}
 use Rattle.smt_meaning.specs.declared.clauses.Literal.{Literal}
@@ -221,14 +220,14 @@ standing_count atoms =
     let power : length (sets atoms) ≡ 3 ^ length atoms = set_count atoms in
     omega (arith, both, one, two, power)
 
-module _ (ts : List Tree) (frames : List Frame) (sums : List (List GridSummand)) (branches : List Line) (limit : ℤ) (worker : ℕ) (atoms : List Atom) (each : (a : Atom) → IsCheckAtom ts frames branches a → Contains atoms a) (counted : AllCount worker (length atoms)) where
+module _ (ts : List Tree) (frames : List Frame) (branches : List Line) (limit : ℤ) (worker : ℕ) (atoms : List Atom) (each : (a : Atom) → IsCheckAtom ts frames branches a → Contains atoms a) (counted : AllCount worker (length atoms)) where
   over_atoms : (before : List Spent) (c : Clause) → IsLearnt ts frames branches limit worker before c → (l : Literal) → Contains c.literals l → Contains atoms l.atom
   over_atoms before c h l k = each l.atom (subst (λ (m : Literal). IsCheckAtom ts frames branches m.atom) k.2 (h.of_check k.0 l k.1))
 
   all_different : (before : List Spent) (c : Clause) → IsLearnt ts frames branches limit worker before c → AreDifferent c.literals
   all_different before c h = different c.literals h.no_two
 
-  has_standing : (before : List Spent) (u : Spent) → ((l : Line) → u ≡ Pivot l → ⊥) → IsUnit ts frames sums branches limit worker before u → (y : Atom ⊎ List Literal) × Contains (standing atoms) y × StandsFor u y
+  has_standing : (before : List Spent) (u : Spent) → ((l : Line) → u ≡ Pivot l → ⊥) → IsUnit ts frames branches limit worker before u → (y : Atom ⊎ List Literal) × Contains (standing atoms) y × StandsFor u y
   has_standing before (Numbered a) no_pivot h =
       (inl a, Contains-append_left (map (λ b. inl b) atoms) (map (λ s. inr s) (sets atoms)) (inl a) (in_list (λ b. inl b) atoms a (each a h.of_check)), refl)
   has_standing before (Learnt c) no_pivot h =
@@ -254,7 +253,7 @@ module _ (ts : List Tree) (frames : List Frame) (sums : List (List GridSummand))
         unit.unforced (d.literals ∷ []) (All-cons (IsGiven ts frames worker before) d.literals [] given (All-nil (IsGiven ts frames worker before)))
         (forces_same c.literals d.literals apart (λ l m. k.1 l (h.0 l m)) (λ l m. h.1 l (k.0 l m)))
 
-  stands_once : (us : List Spent) → AreUnits ts frames sums branches limit worker us → (before after : List Spent) (u : Spent) → us ≡ before ++ u ∷ after
+  stands_once : (us : List Spent) → AreUnits ts frames branches limit worker us → (before after : List Spent) (u : Spent) → us ≡ before ++ u ∷ after
       → (z : Spent) → Contains before z → (y : Atom ⊎ List Literal) → StandsFor z y → StandsFor u y → ⊥
   stands_once us units before after u e z c y k h = by z u c (units before after u e) y k h
     where
@@ -263,7 +262,7 @@ module _ (ts : List Tree) (frames : List Frame) (sums : List (List GridSummand))
           let s = split_at before (Learnt d) i in
           (s.front, units s.front (s.back ++ u ∷ after) (Learnt d) (e ∙ (ap (λ xs. xs ++ u ∷ after) s.is ∙ append_assoc s.front (Learnt d ∷ s.back) (u ∷ after))))
 
-      by : (z u : Spent) → Contains before z → IsUnit ts frames sums branches limit worker before u → (y : Atom ⊎ List Literal) → StandsFor z y → StandsFor u y → ⊥
+      by : (z u : Spent) → Contains before z → IsUnit ts frames branches limit worker before u → (y : Atom ⊎ List Literal) → StandsFor z y → StandsFor u y → ⊥
       by (Numbered a) (Numbered b) i unit (inl x) k h = unit.new (subst (λ w. Contains before (Numbered w)) (k ∙ sym h) i)
       by (Numbered a) (Numbered b) i unit (inr s) k h = k
       by (Learnt d) (Learnt c) i unit (inl x) k h = k
@@ -280,10 +279,10 @@ module _ (ts : List Tree) (frames : List Frame) (sums : List (List GridSummand))
 
 pub few_units : FewUnitsAreNotSpent
 few_units ts frames limit worker branches us atoms each counted few unpivoted spent =
-    let apart : AreApart StandsFor us = apart_by StandsFor us (stands_once ts frames spent.sums branches limit worker atoms each counted us spent.units) in
+    let apart : AreApart StandsFor us = apart_by StandsFor us (stands_once ts frames branches limit worker atoms each counted us spent.units) in
     let short : length us ≤ length (standing atoms) = no_longer StandsFor us (standing atoms) apart (λ u c. (
     let s = split_at us u c in
-    has_standing ts frames spent.sums branches limit worker atoms each counted s.front u (λ l e. unpivoted s.front s.back l (s.is ∙ ap (λ v. s.front ++ v ∷ s.back) e)) (spent.units s.front s.back u s.is)
+    has_standing ts frames branches limit worker atoms each counted s.front u (λ l e. unpivoted s.front s.back l (s.is ∙ ap (λ v. s.front ++ v ∷ s.back) e)) (spent.units s.front s.back u s.is)
     )) in
     let size : length (standing atoms) ≡ length atoms + 3 ^ length atoms = standing_count atoms in
     let count : length us ≡ most_units limit = spent.count in

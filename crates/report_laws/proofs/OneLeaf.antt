@@ -8,10 +8,11 @@ use Rattle.fraction128.specs.declared.TableRow.{TableRow}
 use Rattle.fraction128.specs.declared.Pending.{Pending}
 use Rattle.fraction128.specs.declared.Grid.{Grid}
 use Rattle.fraction128.specs.Grid.{Step, leaf, take, pivot, any_crossed, is_basic, is_some, row_of, column_at, row_value, next_step, MeetsRow}
-use Rattle.fraction128.specs.Lines.{Bounding, AreSums, IsEntry, IsRow, IsSoundGrid, sum_of_variable, sum_value}
+use Rattle.fraction128.specs.Lines.{Bounding, AreSums, IsEntry, IsRow, IsSoundGrid, first_basis, sum_of_variable, sum_value}
 use Rattle.simplex_steps.proofs.NextStep.{step_facts}
-use Rattle.smt_meaning.specs.declared.reports.Unit.TheVariants.{Pivot}
-use Rattle.smt_meaning.specs.CheckAtoms.{IsKnownSum}
+use Rattle.smt_meaning.specs.CheckAtoms.{IsBoundOf, IsCheckAtom, IsKnownSum}
+use Rattle.smt_meaning.specs.Report.{AreChained}
+use Rattle.report_laws.proofs.Chained.{pivot_in}
 use Rattle.report_laws.specs.OneLeaf.{NoEmptySums, NoSumTwice, NoBranches, NoPivots}
 
 -- ---- tables of one sum
@@ -102,7 +103,8 @@ no_branches ts frames t over sums (l ∷ ls) table are =
 
 pub no_pivots : NoPivots
 no_pivots ts frames t over limit worker branches us spent before after l e =
-    let p = (spent.units before after (Pivot l) e).pivots in
+    let chained = subst (AreChained spent.sums (IsBoundOf (IsCheckAtom ts frames branches)) (first_basis spent.sums) None) e spent.chained in
+    let p = (pivot_in spent.sums (IsBoundOf (IsCheckAtom ts frames branches)) (first_basis spent.sums) None before after l chained).pivot in
     true_false (sym (leaves_basic p.grid p.leaves p.number p.enters p.next) ∙ none_basic (IsKnownSum ts frames) t over spent.sums spent.known _ p.grid p.sound p.leaves)
 
 pub no_empty_sums : NoEmptySums

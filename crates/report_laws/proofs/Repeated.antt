@@ -1,8 +1,9 @@
 -- A clause of nine literals that a worker but the first may learn again and again.
-use Rattle.std.proofs.Common.{◌≡◌, ◌≢◌, ◌⊎◌, inl, inr, ℕ, zero, suc, ◌+◌, ◌*◌, ◌<◌, ◌≤◌, ℤ, sym, ap, ◌∙◌, subst, refl, arith, List, [], ◌∷◌, ◌++◌, map, length, true, false, not, All, Contains}
+use Rattle.std.proofs.Common.{◌≡◌, ◌≢◌, ◌⊎◌, inl, inr, ℕ, zero, suc, ◌+◌, ◌*◌, ◌<◌, ◌≤◌, ℤ, sym, ap, ◌∙◌, subst, refl, arith, List, [], ◌∷◌, ◌++◌, map, length, true, false, not, None, All, Contains}
 use Rattle.std.specs.Prelude.{AllPairs, slice_index_or, IsTrue}
 use Rattle.std.proofs.lemmas.List.{length-append}
 use Rattle.std.proofs.lemmas.List.Elements.{All-nil, All-from_recursion, Contains-append_cases}
+use Rattle.fraction128.specs.Lines.{first_basis}
 use Rattle.smt_meaning.specs.declared.terms.Head.TheVariants.{Numeral, Theory, Symbol as Function, Place}
 use Rattle.smt_meaning.specs.declared.clauses.Atom.{Atom}
 use Rattle.smt_meaning.specs.declared.clauses.Atom.TheVariants.{Truth, AtMost, Same}
@@ -15,12 +16,13 @@ use Rattle.smt_meaning.specs.Clause.{places, clause_symbols}
 use Rattle.smt_meaning.specs.Stack.{signature_of}
 use Rattle.smt_meaning.specs.Follows.{declared_ids, Follows, follows}
 use Rattle.smt_meaning.specs.Forced.{Reaches, Forces, has_node_clauses}
-use Rattle.smt_meaning.specs.CheckAtoms.{IsPartOfStack, IsCheckAtom, IsKnownSum}
-use Rattle.smt_meaning.specs.Report.{negated, most_units, IsGiven, IsLearnt, AreUnits, no_units, one_more_unit}
+use Rattle.smt_meaning.specs.CheckAtoms.{IsPartOfStack, IsBoundOf, IsCheckAtom, IsKnownSum}
+use Rattle.smt_meaning.specs.Report.{negated, most_units, IsGiven, IsLearnt, AreUnits, AreChained, no_units, one_more_unit}
 use Rattle.report_laws.specs.Five.{x}
 use Rattle.report_laws.specs.BoxOfOne.{nought, one, chain, trees, frames}
 use Rattle.report_laws.specs.Repeated.{same, long, repeated, LongClausesRepeat}
 use Rattle.report_laws.proofs.Listed.{in_cons, in_none}
+use Rattle.report_laws.proofs.Chained.{learnt_after}
 use Rattle.report_laws.proofs.Counted.{first_in, from_list}
 use Rattle.report_laws.proofs.BoxOfOne.{IsNumber, part_is}
 
@@ -234,9 +236,13 @@ count : (n : ℕ) → length (repeated n) ≡ n
 count zero = refl
 count (suc n) = let e : length (repeated n) ≡ n = count n in let size : length (repeated n ++ Learnt long ∷ []) ≡ length (repeated n) + 1 = length-append (repeated n) (Learnt long ∷ []) in omega (arith, e, size)
 
-units : (limit : ℤ) (worker n : ℕ) → AreUnits trees frames [] [] limit (suc worker) (repeated n)
-units limit worker zero = no_units trees frames [] [] limit (suc worker)
-units limit worker (suc n) = one_more_unit trees frames [] [] limit (suc worker) (repeated n) (Learnt long) (units limit worker n) (is_learnt limit worker n)
+units : (limit : ℤ) (worker n : ℕ) → AreUnits trees frames [] limit (suc worker) (repeated n)
+units limit worker zero = no_units trees frames [] limit (suc worker)
+units limit worker (suc n) = one_more_unit trees frames [] limit (suc worker) (repeated n) (Learnt long) (units limit worker n) (is_learnt limit worker n)
+
+chained : (n : ℕ) → AreChained [] (IsBoundOf (IsCheckAtom trees frames [])) (first_basis []) None (repeated n)
+chained zero = tt
+chained (suc n) = learnt_after [] (IsBoundOf (IsCheckAtom trees frames [])) (first_basis []) None (repeated n) long (chained n)
 
 pub long_clauses_repeat : LongClausesRepeat
 long_clauses_repeat limit worker = record {
@@ -245,4 +251,5 @@ long_clauses_repeat limit worker = record {
   known = record { apart = λ i j d less lt. absurd (omega (arith, lt)); filled = All-nil _; known = All-nil (IsKnownSum trees frames) };
   are_branches = tt;
   units = units limit worker (most_units limit);
+  chained = chained (most_units limit);
 }

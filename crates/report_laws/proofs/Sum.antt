@@ -3,14 +3,8 @@ use Rattle.fraction128.proofs.RingEquations as Ring
 use Rattle.fraction128.proofs.RingEquations.{var, product, minus, nothing, unit, solve}
 use Rattle.fraction128.specs.Number.{unreduced_sum, unreduced_product}
 use Rattle.fraction128.proofs.LowestTerms.{pos_times}
-use Rattle.smt_meaning.specs.Report.{basis_after}
-use Rattle.fraction128.specs.Lines.{exchanged}
-use Rattle.fraction128.specs.declared.Line.{Line}
-use Rattle.smt_meaning.specs.declared.reports.Unit.{Unit as Spent}
-use Rattle.smt_meaning.specs.declared.reports.Unit.TheVariants.{Learnt, Numbered}
 use Rattle.fraction128.proofs.RationalRing.{Rational, number_plus, number_times, rational_one, rational_one-is, rationals}
-use Rattle.std.proofs.Common.{Bool, not, eqb, ◌*◌, ◌++◌}
-use Rattle.std.proofs.Common.{◌≡◌, ℕ, ℤ, zero, suc, not, ◌*◌, ◌++◌, ◌<◌, inl, inr, pos, negsuc, sym, ap, ap₂, ◌∙◌, subst, refl, arith, List, [], ◌∷◌, true, false, Option, Some, None}
+use Rattle.std.proofs.Common.{◌≡◌, ℕ, ℤ, zero, suc, ◌*◌, ◌<◌, inl, inr, pos, negsuc, sym, ap, ap₂, ◌∙◌, subst, refl, arith, [], ◌∷◌, true, false, Option, Some, None}
 use Rattle.std.proofs.lemmas.List.Elements.{All-nil, All-cons}
 use Rattle.fraction128.specs.declared.ratio.Ratio.{Ratio}
 use Rattle.fraction128.specs.Number.{whole, SameNumber}
@@ -29,13 +23,11 @@ use Rattle.fraction128.proofs.SumValues.{sum_positive_value, number_sum_value, n
 use Rattle.smt_meaning.specs.declared.clauses.Summand as Terms
 use Rattle.smt_meaning.specs.declared.clauses.Atom.{Atom}
 use Rattle.smt_meaning.specs.declared.clauses.Atom.TheVariants.{AtMost}
-use Rattle.fraction128.specs.declared.Line.{Line}
-use Rattle.smt_meaning.specs.declared.reports.Unit.{Unit as Spent}
-use Rattle.smt_meaning.specs.declared.reports.Unit.TheVariants.{Learnt, Numbered, Pivot}
+use Rattle.smt_meaning.specs.declared.reports.Unit.TheVariants.{Pivot}
 use Rattle.smt_meaning.specs.CheckAtoms.{IsPartOfStack, IsLeaf, IsFirstAtom, IsKnownSum, IsCheckAtom, IsBoundOf}
 use Rattle.smt_meaning.specs.Ranges.{IsOnAtom}
 use Rattle.smt_meaning.specs.Report.{no_units, one_more_unit}
-use Rattle.report_laws.specs.Sum.{greatest, x, y, end, sum, low, trees, frames, both, entry, row, grid_of, moving, pivoting, minus_entry, back_row, least, back, to_and_fro, is_even, pivots, sums, SumIsPast, OnePivot, EndlessPivots}
+use Rattle.report_laws.specs.Sum.{greatest, x, y, end, sum, low, trees, frames, both, entry, row, grid_of, moving, pivoting, minus_entry, back_row, least, back, to_and_fro, sums, SumIsPast, OnePivot, EachIsAPivot}
 
 abbrev Is : Atom → Type 0
 Is a = IsCheckAtom trees frames [] a
@@ -162,14 +154,17 @@ pivoting_sound =
 basis : (i : ℕ) → i < 3 → is_basic pivoting.rows i ≡ first_basis sums i
 basis = below_three (λ i. is_basic pivoting.rows i ≡ first_basis sums i) refl refl refl
 
+pivoting_is : IsPivotIn sums (IsBoundOf Is) (first_basis sums) (pivot_line pivoting 2 0)
+pivoting_is = record { grid = pivoting; sound = pivoting_sound; basis = basis; leaves = 2; number = greatest; enters = 0; next = refl; line = refl }
+
 pub one_pivot : OnePivot
 one_pivot worker = record {
   count = refl;
   sums = sums;
   known = table;
   are_branches = tt;
-  units = one_more_unit trees frames sums [] (pos 1) worker [] (Pivot (pivot_line pivoting 2 0)) (no_units trees frames sums [] (pos 1) worker)
-      (record { costs = refl; pivots = record { grid = pivoting; sound = pivoting_sound; basis = basis; leaves = 2; number = greatest; enters = 0; next = refl; line = refl } });
+  units = one_more_unit trees frames [] (pos 1) worker [] (Pivot (pivot_line pivoting 2 0)) (no_units trees frames [] (pos 1) worker) refl;
+  chained = (pivoting_is, tt, tt);
 }
 
 -- ---- to and fro
@@ -226,41 +221,8 @@ back_sound = sound_grid (column_at back 0) (column_at back 1) (column_at back 2)
     (record { lower = λ k e. subst (IsBoundOf Is (leaf 1) Lower) (some_is greatest k e) y_bound; upper = λ k e. none_is k e }) (record { lower = λ k e. none_is k e; upper = λ k e. none_is k e }))
     (below_three (λ i. is_basic back.rows i ≡ false → IsResting (IsBoundOf Is) (column_at back i)) basic_is (λ free. inr (Lower, greatest, refl, y_bound)) (λ free. inl refl))
 
--- which variables are basic after n of them
-abbrev basis_is : Bool → ℕ → Bool
-basis_is true i = eqb i 2
-basis_is false i = eqb i 0
-
-basis_pushed : (is : ℕ → Bool) (us : List Spent) (l : Line) (i : ℕ) → basis_after is (us ++ Pivot l ∷ []) i ≡ exchanged l (basis_after is us) i
-basis_pushed is [] l i = refl
-basis_pushed is (Learnt c ∷ us) l i = basis_pushed is us l i
-basis_pushed is (Numbered a ∷ us) l i = basis_pushed is us l i
-basis_pushed is (Pivot m ∷ us) l i = basis_pushed (exchanged m is) us l i
-
-basis_turns : (b : Bool) (is : ℕ → Bool) → ((i : ℕ) → i < 3 → is i ≡ basis_is b i) → (i : ℕ) → i < 3 → exchanged (to_and_fro b) is i ≡ basis_is (not b) i
-basis_turns true is h = below_three (λ i. exchanged (to_and_fro true) is i ≡ basis_is false i) refl (h 1 (omega arith)) refl
-basis_turns false is h = below_three (λ i. exchanged (to_and_fro false) is i ≡ basis_is true i) refl (h 1 (omega arith)) refl
-
-basis_of : (n i : ℕ) → i < 3 → basis_after (first_basis sums) (pivots n) i ≡ basis_is (is_even n) i
-basis_of zero i lt = below_three (λ i. basis_after (first_basis sums) (pivots 0) i ≡ basis_is true i) refl refl refl i lt
-basis_of (suc n) i lt =
-    basis_pushed (first_basis sums) (pivots n) (to_and_fro (is_even n)) i
-    ∙ basis_turns (is_even n) (basis_after (first_basis sums) (pivots n)) (λ j lj. basis_of n j lj) i lt
-
-grid_basis : (b : Bool) (is : ℕ → Bool) → ((i : ℕ) → i < 3 → is i ≡ basis_is b i) → IsPivotIn sums (IsBoundOf Is) is (to_and_fro b)
-grid_basis true is h = record { grid = pivoting; sound = pivoting_sound; basis = λ i lt. same i lt ∙ sym (h i lt); leaves = 2; number = greatest; enters = 0; next = refl; line = refl }
-  where
-    same : (i : ℕ) → i < 3 → is_basic pivoting.rows i ≡ basis_is true i
-    same = below_three (λ i. is_basic pivoting.rows i ≡ basis_is true i) refl refl refl
-grid_basis false is h = record { grid = back; sound = back_sound; basis = λ i lt. same i lt ∙ sym (h i lt); leaves = 0; number = greatest; enters = 2; next = refl; line = refl }
-  where
-    same : (i : ℕ) → i < 3 → is_basic back.rows i ≡ basis_is false i
-    same = below_three (λ i. is_basic back.rows i ≡ basis_is false i) refl refl refl
-
-pub endless_pivots : EndlessPivots
-endless_pivots limit worker limited zero = (table, no_units trees frames sums [] limit worker)
-endless_pivots limit worker limited (suc n) = (
-  table,
-  one_more_unit trees frames sums [] limit worker (pivots n) (Pivot (to_and_fro (is_even n))) (endless_pivots limit worker limited n).1
-      (record { costs = limited; pivots = grid_basis (is_even n) (basis_after (first_basis sums) (pivots n)) (λ i lt. basis_of n i lt) }),
+pub each_is_a_pivot : EachIsAPivot
+each_is_a_pivot = (
+  pivoting_is,
+  record { grid = back; sound = back_sound; basis = below_three (λ i. is_basic back.rows i ≡ exchanged (to_and_fro true) (first_basis sums) i) refl refl refl; leaves = 0; number = greatest; enters = 2; next = refl; line = refl },
 )

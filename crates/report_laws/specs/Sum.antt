@@ -1,8 +1,6 @@
 -- The stack of (assert (<= MAX (+ x y))), where MAX is the range's end.
-use Rattle.report_laws.specs.Chain.{AreChained}
 use Rattle.smt_meaning.specs.CheckAtoms.{IsBoundOf, IsCheckAtom}
-use Rattle.fraction128.specs.Lines.{first_basis}
-use Rattle.std.specs.Prelude.{◌≡◌, ℕ, zero, suc, ℤ, pos, negsuc, Bool, true, false, not, List, [], ◌∷◌, ◌++◌, Option, Some, None, codes}
+use Rattle.std.specs.Prelude.{ℕ, ℤ, pos, negsuc, Bool, true, false, List, [], ◌∷◌, ◌++◌, Option, Some, None, codes}
 use Rattle.fraction128.specs.Number.{whole}
 use Rattle.fraction128.specs.declared.Summand.{Summand}
 use Rattle.fraction128.specs.declared.Entry.{Entry}
@@ -11,7 +9,7 @@ use Rattle.fraction128.specs.declared.Column.{Column}
 use Rattle.fraction128.specs.declared.Grid.{Grid}
 use Rattle.fraction128.specs.Grid.{leaf}
 use Rattle.fraction128.specs.declared.Line.{Line}
-use Rattle.fraction128.specs.Lines.{pivot_line}
+use Rattle.fraction128.specs.Lines.{IsPivotIn, first_basis, exchanged, pivot_line}
 use Rattle.smt_meaning.specs.declared.values.Sort.TheVariants.{Int as Ints}
 use Rattle.smt_meaning.specs.declared.terms.Operator.TheVariants.{AtMost as IsAtMost, Add}
 use Rattle.smt_meaning.specs.declared.terms.Head.TheVariants.{Numeral, Theory, Symbol as Function}
@@ -22,8 +20,7 @@ use Rattle.smt_meaning.specs.Declaration.{Declaration}
 use Rattle.smt_meaning.specs.Term.{Tree, node, none, more}
 use Rattle.smt_meaning.specs.Stack.{Frame}
 use Rattle.smt_meaning.specs.declared.reports.Unit.{Unit as Spent}
-use Rattle.smt_meaning.specs.CheckAtoms.{AreCheckSums}
-use Rattle.smt_meaning.specs.Report.{Shows, AreUnits, is_unlimited}
+use Rattle.smt_meaning.specs.Report.{Shows, AreAllSpent}
 
 abbrev pub greatest : ℤ
 greatest = pos 170141183460469231731687303715884105727
@@ -85,7 +82,7 @@ SumIsPast = (limit : ℤ) (worker : ℕ) → Shows trees frames limit worker [] 
 abbrev pub OnePivot : Type 0
 OnePivot = (worker : ℕ) → Shows trees frames (pos 1) worker [] (Units (Pivot (pivot_line pivoting 2 0) ∷ []))
 
--- ---- what is still lawful, until the grids of neighbouring pivots hang together
+-- ---- to and fro
 
 abbrev pub minus_entry : ℕ → Entry
 minus_entry i = record { variable = i; coefficient = whole (negsuc 0) }
@@ -104,23 +101,17 @@ abbrev pub to_and_fro : Bool → Line
 to_and_fro true = pivot_line pivoting 2 0
 to_and_fro false = pivot_line back 0 2
 
-abbrev pub is_even : ℕ → Bool
-is_even zero = true
-is_even (suc n) = not (is_even n)
-
--- x + y and x change places n times
-abbrev pub pivots : ℕ → List Spent
-pivots zero = []
-pivots (suc n) = pivots n ++ Pivot (to_and_fro (is_even n)) ∷ []
-
 abbrev pub sums : List (List Summand)
 sums = leaf 0 ∷ leaf 1 ∷ both ∷ []
 
--- any number of pivots are units under any limit
-abbrev pub EndlessPivots : Type 0
-EndlessPivots =
-    (limit : ℤ) (worker : ℕ) → is_unlimited limit ≡ false → (n : ℕ) → AreCheckSums trees frames sums × AreUnits trees frames sums [] limit worker (pivots n)
+-- the first is a pivot at the start, and the second one from the basis that the first leaves
+abbrev pub EachIsAPivot : Type 0
+EachIsAPivot =
+    IsPivotIn sums (IsBoundOf (IsCheckAtom trees frames [])) (first_basis sums) (to_and_fro true)
+    × IsPivotIn sums (IsBoundOf (IsCheckAtom trees frames [])) (exchanged (to_and_fro true) (first_basis sums)) (to_and_fro false)
 
--- where the grids of neighbouring pivots hang together, two of them are none
-abbrev pub ChainRefuses : Type 0
-ChainRefuses = (gs : List Grid) → AreChained sums (IsBoundOf (IsCheckAtom trees frames [])) (first_basis sums) (pivots 2) gs → ⊥
+-- but no report has them as neighbours
+abbrev pub ToAndFroIsRefused : Type 0
+ToAndFroIsRefused =
+    (limit : ℤ) (worker : ℕ) (branches : List Line) (before after : List Spent)
+    → AreAllSpent trees frames limit worker branches (before ++ Pivot (to_and_fro true) ∷ Pivot (to_and_fro false) ∷ after) → ⊥

@@ -154,7 +154,7 @@ pub no_sums : (Known : List Summand → Type 0) → AreSums Known []
 no_sums Known = record { apart = λ i j d l m. absurd (omega (arith, m)); filled = All-nil _; known = All-nil _ }
 
 -- that two Bools are one is no unit, though it is an atom of the check
-equality_of_bools : (limit : ℤ) (w : ℕ) → AreUnits both_asserted.stack.trees both_asserted.stack.frames [] [] limit w (Numbered p_is_q ∷ []) → ⊥
+equality_of_bools : (limit : ℤ) (w : ℕ) → AreUnits both_asserted.stack.trees both_asserted.stack.frames [] limit w (Numbered p_is_q ∷ []) → ⊥
 equality_of_bools limit w u = int_false ((u [] [] (Numbered p_is_q) refl).of_integers 0 1 Truths refl refl)
   where
     int_false : Truths ≡ Ints → ⊥
@@ -197,9 +197,9 @@ no_equality_of_both c = elim (in_cases (Truth 2) x_is_y (Truth 3 ∷ []) c) [
 ]
 
 -- that x is y is an atom of the check, which wasn't numbered at its start
-one_unit : AreUnits holds_of_both.stack.trees holds_of_both.stack.frames [] [] (pos 1) 0 (Numbered x_is_y ∷ [])
+one_unit : AreUnits holds_of_both.stack.trees holds_of_both.stack.frames [] (pos 1) 0 (Numbered x_is_y ∷ [])
 one_unit =
-    one_more_unit holds_of_both.stack.trees holds_of_both.stack.frames [] [] (pos 1) 0 [] (Numbered x_is_y) (no_units holds_of_both.stack.trees holds_of_both.stack.frames [] [] (pos 1) 0)
+    one_more_unit holds_of_both.stack.trees holds_of_both.stack.frames [] (pos 1) 0 [] (Numbered x_is_y) (no_units holds_of_both.stack.trees holds_of_both.stack.frames [] (pos 1) 0)
     (
     record {
       of_check = inr (inl (
@@ -235,7 +235,7 @@ units_may_end = (
   record {
     one_each = refl;
     shown =
-        All-cons ShownOfBoth (without_units (Numbered x_is_y ∷ [])) [] (record { count = refl; sums = []; known = no_sums _; are_branches = tt; units = one_unit }) (All-nil _);
+        All-cons ShownOfBoth (without_units (Numbered x_is_y ∷ [])) [] (record { count = refl; sums = []; known = no_sums _; are_branches = tt; units = one_unit; chained = tt }) (All-nil _);
   },
   refl,
 )
