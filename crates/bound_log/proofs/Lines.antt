@@ -30,13 +30,13 @@ use Rattle.bound_log.proofs.Resting.{said_on}
 
 -- ---- bounds of a table's atoms
 
-side_is : (positive turned : Bool) → told_side positive turned ≡ cond (cond positive (not turned) turned) Upper Lower
+pub side_is : (positive turned : Bool) → told_side positive turned ≡ cond (cond positive (not turned) turned) Upper Lower
 side_is true true = refl
 side_is true false = refl
 side_is false true = refl
 side_is false false = refl
 
-number_is : (positive turned : Bool) (k : ℤ) → told_number positive turned k ≡ cond turned (neg_ℤ (cond positive k (k +ℤ pos 1))) (cond positive k (k +ℤ pos 1))
+pub number_is : (positive turned : Bool) (k : ℤ) → told_number positive turned k ≡ cond turned (neg_ℤ (cond positive k (k +ℤ pos 1))) (cond positive k (k +ℤ pos 1))
 number_is positive turned k = refl
 
 pub bound_of : (table : List Atom) (s : State) (i : ℕ) (side : Side) (k : ℤ) → Knows table s → IsSaidOn s.said i side k → IsBoundOf (Contains table) (sums s.bounds i) side k
