@@ -6,6 +6,7 @@ ghost use Rattle.bound_log.specs.Atoms.{KnowsTheSame};
 ghost use Rattle.bound_log.specs.Columns.{KeepsColumns};
 ghost use Rattle.bound_log.specs.Growth.{KeepsVariables};
 ghost use Rattle.bound_log.specs.Implied.{IsTried, IsImplied};
+ghost use Rattle.bound_log.specs.Reporting.{IsClause};
 ghost use Rattle.simplex.specs.State.{KeepsValues};
 
 use crate::log::BoundLog;
@@ -24,6 +25,15 @@ fn clause_of(report: Report) -> Option<Lemma>
     }
 }
 
+/// A clause that the log breaks, where the bounds show one without a step.
+fn broken(bounds: &mut BoundLog, alloc: Global) -> Option<Lemma>
+    ensures same { bounds.new ≡ bounds.old }
+    ensures clause { IfSome result (IsClause bounds.old) }
+{
+    let report = bounds.look(alloc)?;
+    clause_of(report)
+}
+
 /// What the bounds break at once, without a step, where a literal is told, which is then taken back.
 fn try_literal(bounds: &mut BoundLog, alloc: Global, literal: Literal) -> Option<Lemma>
     requires numbered { literal.atom < length bounds.old.said }
@@ -40,9 +50,9 @@ fn try_literal(bounds: &mut BoundLog, alloc: Global, literal: Literal) -> Option
     let Ok(()) = bounds.tell(literal) else {
         return None;
     };
-    let report = bounds.look(alloc);
+    let found = broken(bounds, alloc);
     bounds.undo_to(count);
-    clause_of(report?)
+    found
 }
 
 impl BoundLog {

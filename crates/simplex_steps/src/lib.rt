@@ -14,6 +14,8 @@
 //! Where lines are kept, the line of each pivot comes after those before, each by the definition
 //! and of the grid at its step, which fits; each goes on from the basis that the one before it left.
 //!
+//! `look`: such an end where no step is taken; none where the next step is a move.
+//!
 //! `Suspects`: the variables among which a check looks; each other one is within its bounds, which
 //! don't cross, before a check and after it, whatever the end.
 //!

@@ -21,9 +21,7 @@ use crate::differences::Differences;
 use crate::errors::{BoundError, untold};
 use crate::untrue::untrue_constant;
 use atom_form::AtomNumbers;
-use bound_log::{
-    BoundLog, Report, Reported, bounds_are_of_log, log_is_taken_in, values_stay,
-};
+use bound_log::{BoundLog, Report, Reported, bounds_are_of_log, log_is_taken_in, values_stay};
 use closure_log::{ClosureLog, Guide, Scan, Watches, infer};
 use fraction128::{Grid, Line};
 use literals::Literal;
