@@ -26,7 +26,7 @@ ghost use Rattle.bound_log.specs.Reporting.{Judges, SpendsRoom, IsClause};
 ghost use Rattle.bound_log.specs.declared.said.Said.TheVariants.{Nothing};
 
 use crate::plain::plain_sum;
-use crate::report::{Reported, report_of};
+use crate::report::{Report, Reported, report_of};
 use crate::room::shut_out;
 use crate::said::{Said, assert, said_of};
 use crate::variables::{add_leaf, variable_of};
