@@ -1,6 +1,6 @@
 -- Bounds that a log says, and those that stand.
-use Rattle.std.proofs.Common.{◌≡◌, ◌≢◌, ◌∙◌, ℕ, ◌<◌, inl, inr, ◌⊎◌, Bool, true, false, not, List, [], ◌∷◌, length, map, ℤ, pos, neg_ℤ, Option, Some, None, refl, sym, ap, subst, arith}
-use Rattle.std.specs.Prelude.{All, Contains, if◌then◌else◌}
+use Rattle.std.proofs.Common.{◌≡◌, ◌≢◌, ◌∙◌, ℕ, ◌<◌, inl, inr, Bool, true, false, List, [], ◌∷◌, length, map, ℤ, pos, neg_ℤ, Option, Some, None, refl, sym, ap, subst, arith}
+use Rattle.std.specs.Prelude.{if◌then◌else◌}
 use Rattle.std.proofs.lemmas.List.{length-map}
 use Rattle.std.proofs.lemmas.List.Elements.{All-contains}
 use Rattle.fraction128.specs.declared.Summand.{Summand as GridSummand}
@@ -9,7 +9,6 @@ use Rattle.fraction128.specs.declared.Grid.{Grid}
 use Rattle.fraction128.specs.declared.Side.{Side}
 use Rattle.fraction128.specs.declared.Side.TheVariants.{Lower, Upper}
 use Rattle.fraction128.specs.Grid.{column_at, is_turned, turned}
-use Rattle.fraction128.specs.Lines.{IsBoundedBy}
 use Rattle.fraction128.specs.Chain.{StaysOrRises, StaysOrFalls, IsTightened, unbounded_column, unbounded}
 use Rattle.literals.specs.Signed.{Signed}
 use Rattle.smt_meaning.specs.declared.clauses.Summand.{Summand}
@@ -28,7 +27,7 @@ use Rattle.bound_log.specs.Chained.{BoundsAreOfLog, LogIsTakenIn}
 use Rattle.bound_log.proofs.Telling.{no_more}
 use Rattle.bound_log.proofs.Breaking.{of_log}
 use Rattle.bound_log.proofs.Wholes.{bounds_told}
-use Rattle.bound_log.proofs.Lines.{side_is, number_is}
+use Rattle.bound_log.proofs.Lines.{side_is}
 use Rattle.bound_log.proofs.Taken.{unbounded_at}
 
 -- ---- bounds that stand
@@ -110,9 +109,6 @@ log_is_taken table other s g state knows columns same said = record {
   pending = sym (ap (λ (h : Grid). h.pending) same);
 }
   where
-    cs : List Column
-    cs = s.bounds.columns
-
     columns_same : map unbounded_column g.columns ≡ map unbounded_column s.bounds.columns
     columns_same = ap (λ (h : Grid). h.columns) same
 

@@ -36,7 +36,7 @@ side_is true false = refl
 side_is false true = refl
 side_is false false = refl
 
-pub number_is : (positive turned : Bool) (k : ℤ) → told_number positive turned k ≡ cond turned (neg_ℤ (cond positive k (k +ℤ pos 1))) (cond positive k (k +ℤ pos 1))
+number_is : (positive turned : Bool) (k : ℤ) → told_number positive turned k ≡ cond turned (neg_ℤ (cond positive k (k +ℤ pos 1))) (cond positive k (k +ℤ pos 1))
 number_is positive turned k = refl
 
 pub bound_of : (table : List Atom) (s : State) (i : ℕ) (side : Side) (k : ℤ) → Knows table s → IsSaidOn s.said i side k → IsBoundOf (Contains table) (sums s.bounds i) side k

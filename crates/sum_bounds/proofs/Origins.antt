@@ -15,7 +15,7 @@ use Rattle.simplex.specs.State as Simplex
 use Rattle.simplex.specs.State.{HasBounds}
 use Rattle.sum_bounds.specs.Bounds.{told_of, bound_on, IsToldOn, HoldsOn, IsTakenIn}
 use Rattle.sum_bounds.specs.Origins.{IsOfTold}
-use Rattle.sum_bounds.proofs.Tightest.{AtLeast, tightest_least}
+use Rattle.sum_bounds.proofs.Tightest.{AtLeast, tightest_least, holds_on}
 use Rattle.sum_bounds.proofs.Conflicts.{told_in, state_of, stood}
 
 stands : (cs : List Column) (i : ℕ) (side : Side) (k : ℤ) → i < length cs → bound_on (column_in cs i) side ≡ Some k → Stands cs (record { variable = i; side = side; number = k })
@@ -34,9 +34,8 @@ of_told s state = record { table = state.table; told = told_on s state }
 -- ---- the tightest
 
 held_on : (bs : List Set) (i : ℕ) (side : Side) (k : ℤ) (h : Held) (c : Column) → HasBounds bs i c → tightest bs i side ≡ Some h → AtLeast side h.number k → HoldsOn side k (bound_on c side)
-unfolding AtLeast
-held_on bs i Lower k h c has is tight = subst (HoldsOn Lower k) (sym (has.lower ∙ ap number_of is)) tight
-held_on bs i Upper k h c has is tight = subst (HoldsOn Upper k) (sym (has.upper ∙ ap number_of is)) tight
+held_on bs i Lower k h c has is tight = subst (HoldsOn Lower k) (sym (has.lower ∙ ap number_of is)) (holds_on Lower h.number k tight)
+held_on bs i Upper k h c has is tight = subst (HoldsOn Upper k) (sym (has.upper ∙ ap number_of is)) (holds_on Upper h.number k tight)
 
 pub all_taken : (s : Simplex.State) → Simplex.IsState s → All (IsTakenIn s.columns) (map told_of s.bounds)
 all_taken s state k d lt =
