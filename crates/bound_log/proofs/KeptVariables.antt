@@ -1,5 +1,5 @@
 -- The variables of a grid, from state to state.
-use Rattle.std.proofs.Common.{◌≡◌, ℕ, ◌<◌, not, List, [], map, length, get_or, sym, ap, ◌∙◌, subst, arith}
+use Rattle.std.proofs.Common.{◌≡◌, ℕ, ◌<◌, not, List, [], map, length, get_or, refl, sym, ap, ◌∙◌, subst, arith}
 use Rattle.std.proofs.lemmas.List.{length-map, get_or-map, map-append}
 use Rattle.fraction128.specs.declared.Summand.{Summand}
 use Rattle.fraction128.specs.declared.Column.{Column}
@@ -77,3 +77,11 @@ grows_self s u e = record {
   added = λ i le lt. let n = ap (λ (b : Bounds.State). length b.columns) e in absurd (omega (arith, le, lt, n));
   taken = taken_where_same s u e;
 }
+
+-- ---- values
+
+pub values_kept : (cs ds : List Column) → ds ≡ cs → KeepsValues cs ds
+values_kept cs ds e = subst (KeepsValues cs) (sym e) (record { count = refl; each = λ i. record { sum = refl; value = refl } })
+
+pub values_through : (cs ds es : List Column) → KeepsValues cs ds → KeepsValues ds es → KeepsValues cs es
+values_through cs ds es h k = record { count = k.count ∙ h.count; each = λ i. record { sum = (k.each i).sum ∙ (h.each i).sum; value = (k.each i).value ∙ (h.each i).value } }

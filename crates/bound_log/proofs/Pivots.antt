@@ -20,7 +20,6 @@ use Rattle.tableau.specs.Table.{Table}
 use Rattle.simplex_steps.specs.State.{grid_of, column_in, no_column, IsRanged, AreRanged}
 use Rattle.simplex_steps.specs.Run.{KeepsLines, kept_lines}
 use Rattle.simplex_steps.proofs.Sound.{lawful}
-use Rattle.simplex_steps.proofs.LineLemmas.{no_lines}
 use Rattle.sum_bounds.specs.Bounds as Bounds
 use Rattle.sum_bounds.specs.Bounds.{Told, bound_on}
 use Rattle.sum_bounds.specs.Origins.{IsOfTold}
@@ -87,7 +86,3 @@ adds_pivots s u keep made before now state origins rests lines =
           (pivots_over table s (plain_grid u) lines.steps is state origins rests knows lines.runs lines.fits basis);
       basis = λ e is basis. subst (λ ls. HasBasis (basis_along is ls) (plain_grid u)) (sym (lines_kept keep g lines.steps e)) (lines.basis is basis);
     }
-
--- where there is no pivot the basis stays
-pub basis_stays : (keep : Bool) (made : ℕ) (g h : Grid) (before now : List Line) (is : ℕ → Bool) → KeepsLines keep made g h before now → made ≡ 0 → HasBasis is g → HasBasis is h
-basis_stays keep made g h before now is lines none basis = subst (λ ls. HasBasis (basis_along is ls) h) (no_lines g lines.steps (lines.count ∙ none)) (lines.basis is basis)

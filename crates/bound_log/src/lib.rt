@@ -23,9 +23,11 @@
 //! literal told says; what these say stands, or a tighter bound does; telling and taking back change
 //! nothing of the grid but its bounds.
 //!
+//! `look`: what such a check finds that takes no step, so that nothing changes.
+//!
 //! `implied`: of an open atom, where it gives one, a clause that is true under every
-//! interpretation, whose literals are false in the log but at most one, which is open; what is told
-//! stays.
+//! interpretation, whose literals are false in the log but at most one, which is open; what is told,
+//! the values and the rows stay.
 //!
 //! `spread`: numbers by term, moved as `sum_bounds` says. It promises nothing.
 //!

@@ -26,7 +26,7 @@ ghost use Rattle.bound_log.specs.Reporting.{Judges, SpendsRoom, IsClause};
 ghost use Rattle.bound_log.specs.declared.said.Said.TheVariants.{Nothing};
 
 use crate::plain::plain_sum;
-use crate::report::{Reported, report_of};
+use crate::report::{Report, Reported, report_of};
 use crate::room::shut_out;
 use crate::said::{Said, assert, said_of};
 use crate::variables::{add_leaf, variable_of};
@@ -267,6 +267,17 @@ impl BoundLog {
             report: report_of(finding),
             pivots,
         }
+    }
+
+    /// What a check finds that takes no step, so that nothing changes. `None` where the next step is to move the value of a variable that isn't basic.
+    pub fn look(&mut self, alloc: Global) -> Option<Report>
+        ensures same { self.new ≡ self.old }
+        ensures judges { IfSome result (Judges self.old) }
+    {
+        conflicts_are_valid();
+        self.bounds.facts();
+        let finding = self.bounds.look(alloc)?;
+        Some(report_of(finding))
     }
 
     /// The literal on an atom that a row leaves no room for, if one is seen. It promises nothing of the row.
