@@ -9,6 +9,7 @@ mod TwoLeaves
 mod Sum
 mod Chained
 mod ToAndFro
+mod UnderBounds
 mod Cores
 mod Minimum
 mod Boxed
