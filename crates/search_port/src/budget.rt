@@ -1,6 +1,7 @@
 //! Units of work, and how many of them a check may spend.
-ghost use Rattle.std.specs.Prelude.{◌≡◌, ℕ, ◌+◌, ◌<◌, ◌≤◌, min, List, [], ◌∷◌, ◌++◌, length, IfOk, OnOk, OnErr};
+ghost use Rattle.std.specs.Prelude.{◌≡◌, ℕ, ◌+◌, ◌<◌, ◌≤◌, min, true, false, List, [], ◌∷◌, ◌++◌, length, IfOk, OnOk, OnErr};
 ghost use Rattle.search_port.specs.Spending.{Spending};
+ghost use Rattle.search_port.specs.Pivots.{EndsOtherwise};
 
 use fraction128::Line;
 use literals::Literal;
@@ -152,6 +153,21 @@ impl Budget {
         ensures { result ≡ self.now.counts_learnt }
     {
         self.counts_learnt
+    }
+
+    /// Whether the unit spent last is a pivot.
+    pub fn ends_with_pivot(&self) -> bool
+        ensures yes { result ≡ true → EndsOtherwise self.now.units → ⊥ }
+        ensures no { result ≡ false → EndsOtherwise self.now.units }
+    {
+        let count = self.units.len();
+        if count == 0 {
+            return false;
+        }
+        match &self.units[count - 1] {
+            Spent::Pivot(_) => true,
+            _ => false,
+        }
     }
 
     /// The most literals of a learnt clause that is shared.
